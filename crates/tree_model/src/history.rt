@@ -1,0 +1,122 @@
+// The history that is read off the lines said.
+ghost use Rattle.std.specs.Prelude.{◌≡◌, ◌++◌, IfOk, OnOk};
+ghost use Rattle.std.specs.Option.{option_copied};
+ghost use Rattle.tree_definitions.specs.History.{item_of, item_of_line, line_of, live};
+
+use frang_base::{Line, NoMemory, OpNo, Reply, Said, Script, ServerId, What};
+use tree_definitions::{Entry, Item};
+use std::alloc::Global;
+use std::marker::Model;
+
+#[derive(Debug, Drop)]
+pub struct History {
+    items: Vec<Item>,
+}
+
+impl Model for History {
+    ghost use Rattle.std.specs.Prelude.{List};
+    ghost use Rattle.tree_definitions.specs.declared.history.Item.{Item};
+
+    ghost Value = { List Item };
+
+    ghost view = { λ h. h.items.items };
+}
+
+fn line_of(script: &[Line], number: u32) -> Option<&Line>
+    ensures { option_copied result ≡ line_of script.now number }
+{
+    script.iter().find(|line| line.number == number)
+}
+
+fn push_answer(
+    alloc: Global,
+    line: Option<&Line>,
+    run: u32,
+    server: ServerId,
+    number: u32,
+    reply: &Reply,
+    items: &mut Vec<Item>,
+) -> Result<(), NoMemory>
+    ensures { OnOk result (items.new.items ≡ items.old.items ++ item_of_line run server reply.now number (option_copied line.entry)) }
+{
+    let Some(line) = line else {
+        return Ok(());
+    };
+    match &line.what {
+        What::Server(op) => {
+            let number = OpNo(u64::from(run) * 4294967296 + u64::from(number));
+            items.push(Item::Did(Entry {
+                server,
+                number,
+                op: op.try_copy(alloc)?,
+                reply: reply.try_copy(alloc)?,
+            }))?;
+            Ok(())
+        }
+        What::Host(_) => Ok(()),
+    }
+}
+
+fn push_item(
+    alloc: Global,
+    script: &[Line],
+    run: u32,
+    said: &Said,
+    items: &mut Vec<Item>,
+) -> Result<(), NoMemory>
+    ensures { OnOk result (items.new.items ≡ items.old.items ++ item_of script.now run said.now) }
+{
+    match said {
+        Said::Answer {
+            server,
+            line,
+            reply,
+        } => push_answer(
+            alloc,
+            line_of(script, *line),
+            run,
+            *server,
+            *line,
+            reply,
+            items,
+        ),
+        Said::Recovered { server, keeps } => {
+            items.push(Item::Recovered {
+                server: *server,
+                keeps: *keeps,
+            })?;
+            Ok(())
+        }
+        Said::Dead { .. }
+        | Said::Recovering { .. }
+        | Said::Node { .. }
+        | Said::Redo { .. }
+        | Said::Shown(_)
+        | Said::End => Ok(()),
+    }
+}
+
+impl History {
+    /// The history of what was said of a script.
+    pub fn live(
+        alloc: Global,
+        script: &Script,
+        run: u32,
+        said: &[Said],
+    ) -> Result<History, NoMemory>
+        ensures { IfOk result (λ history. history ≡ live script.now run said.now) }
+    {
+        let mut items = Vec::new(alloc);
+        let lines = script.as_slice();
+        for one in said {
+            push_item(alloc, lines, run, one, &mut items)?;
+        }
+        Ok(History { items })
+    }
+
+    pub fn as_slice(&self) -> &[Item]
+        ensures { result.now ≡ self.now }
+    {
+        &self.items
+    }
+}
