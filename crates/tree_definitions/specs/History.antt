@@ -1,34 +1,34 @@
--- A history: what was answered, and which trees it runs through.
-use Rattle.std.specs.Prelude.{ℕ, ◌+◌, ◌-◌, ◌*◌, ◌^◌, Bool, true, false, not, ◌&&◌, ◌||◌, ◌==◌, if◌then◌else◌, nat_eq, nat_le, Option, Some, None, List, [], ◌∷◌, ◌++◌, length, map, take, drop, find}
-use Rattle.std.specs.List.{flat_map, list_any}
+-- A history: what was asked and answered, when an entry fits, and the trees that it runs through.
+use Rattle.std.specs.Prelude.{ℕ, ◌+◌, ◌-◌, Bool, true, false, ◌&&◌, ◌||◌, ◌==◌, if◌then◌else◌, nat_eq, nat_le, Option, Some, None, List, [], ◌∷◌, ◌++◌, map, take, drop}
 use Rattle.std.specs.Cmp.Lexicographic.{pointwise}
 use Rattle.frang_base.specs.declared.op.Op.{Op}
 use Rattle.frang_base.specs.declared.op.Op.TheVariants as op
-use Rattle.frang_base.specs.declared.op.What.{What}
-use Rattle.frang_base.specs.declared.op.What.TheVariants.{Server, Host}
 use Rattle.frang_base.specs.declared.reply.Reply.{Reply}
 use Rattle.frang_base.specs.declared.reply.Reply.TheVariants as reply
-use Rattle.frang_base.specs.declared.reply.Said.{Said}
-use Rattle.frang_base.specs.declared.reply.Said.TheVariants as said
-use Rattle.frang_base.specs.declared.script.Line.{Line}
-use Rattle.frang_base.specs.declared.sector.ServerId.{ServerId}
-use Rattle.frang_base.specs.declared.sector.OpNo.{OpNo}
 use Rattle.tree_definitions.specs.declared.cells.Cell.{Cell}
-use Rattle.tree_definitions.specs.declared.cells.Cell.TheVariants.{Byte, Doubt}
+use Rattle.tree_definitions.specs.declared.cells.Cell.TheVariants.{Byte, Doubtful}
 use Rattle.tree_definitions.specs.declared.history.Entry.{Entry}
-use Rattle.tree_definitions.specs.declared.history.Item.{Item}
-use Rattle.tree_definitions.specs.declared.history.Item.TheVariants.{Did, Recovered}
 use Rattle.tree_definitions.specs.declared.node.Node.{Node}
 use Rattle.tree_definitions.specs.declared.node.Node.TheVariants.{Dir, File, Link}
-use Rattle.tree_definitions.specs.Tree.{Tree, node_at, with_node, count_of, dir_blocks}
+use Rattle.tree_definitions.specs.Tree.{FileTree, fresh, node_at, with_node, count_of, dir_blocks}
 use Rattle.tree_definitions.specs.Place.{Place, Root, Taken, Free, Nowhere, place}
 use Rattle.tree_definitions.specs.Apply.{Answer, Plain, Shows, Applied, apply, is_path_op, overwritten}
-use Rattle.tree_definitions.specs.Said.{reply_text}
+use Rattle.tree_definitions.specs.SaidLines.{reply_text}
+
+-- where a run begins: its tree, the number of small blocks that are or were a directory's, and its number
+pub record Opening : Type 0 where
+  pub tree : FileTree
+  pub dir_blocks : ℕ
+  pub run : ℕ
+
+-- the opening on a fresh disk
+abbrev pub fresh_opening : ℕ → Opening
+fresh_opening segments = record { tree = fresh segments; dir_blocks = 0; run = 1 }
 
 -- a cell shows its byte, and in doubt any
 abbrev pub cell_shows : Cell → ℕ → Bool
 cell_shows (Byte a) b = a == b
-cell_shows Doubt b = true
+cell_shows Doubtful b = true
 
 abbrev pub cells_show : List Cell → List ℕ → Bool
 cells_show [] [] = true
@@ -40,6 +40,7 @@ cells_show (cell ∷ cells) [] = false
 abbrev pub same_reply : Reply → Reply → Bool
 same_reply a b = pointwise nat_eq (reply_text a) (reply_text b)
 
+-- a reply shows cells
 abbrev pub shows : List Cell → Reply → Bool
 shows cells (reply.Shown bytes) = cells_show cells bytes
 shows cells _ = false
@@ -49,22 +50,33 @@ abbrev pub agrees : Answer → Reply → Bool
 agrees (Plain r) reply = same_reply r reply
 agrees (Shows cells) reply = shows cells reply
 
--- the number of blocks that were a directory's: the one said, else those of the tree
-abbrev pub told_blocks : Tree → Reply → ℕ
+-- the number of blocks that are or were a directory's: the one said, else those of the tree
+abbrev pub told_blocks : FileTree → Reply → ℕ
 told_blocks tree (reply.NoBlock m) = m
 told_blocks tree _ = count_of dir_blocks tree
 
--- that number is at most what was ever grown, and at least what the tree has
-abbrev pub can_tell : Tree → ℕ → Reply → Bool
-can_tell tree ever (reply.NoBlock m) = nat_le (count_of dir_blocks tree) m && nat_le m ever
-can_tell tree ever _ = true
+-- a number that is said is at least what the tree has, and at most what was ever a directory's
+abbrev pub may_tell : FileTree → ℕ → Reply → Bool
+may_tell tree ever (reply.NoBlock m) = nat_le (count_of dir_blocks tree) m && nat_le m ever
+may_tell tree ever _ = true
 
-abbrev pub applied : Tree → Entry → Applied
+-- an entry's operation, applied where the entry stands
+abbrev pub applied : FileTree → Entry → Applied
 applied tree e = apply tree e.op e.number.0 (told_blocks tree e.reply)
 
--- the entry is what its operation answers
-abbrev pub is_answer : Tree → Entry → Bool
+-- the entry's reply is its operation's answer
+abbrev pub is_answer : FileTree → Entry → Bool
 is_answer tree e = is_path_op e.op && agrees (applied tree e).answer e.reply
+
+-- a line without a path that may be answered `ok`
+abbrev pub may_be_ok : Op → Bool
+may_be_ok op.Sync = true
+may_be_ok op.Unmount = true
+may_be_ok op.Crash = true
+may_be_ok (op.CrashAt k) = true
+may_be_ok (op.CutAt k) = true
+may_be_ok op.Stall = true
+may_be_ok _ = false
 
 -- a reply that leaves the tree: one that isn't the operation's own, or `ok` to a line without a path
 abbrev pub leaves_tree : Op → Reply → Bool
@@ -73,94 +85,87 @@ leaves_tree op reply.Expired = true
 leaves_tree op reply.Io = true
 leaves_tree op reply.Already = true
 leaves_tree op reply.Mounted = true
-leaves_tree op.Mount reply.Ok = false
-leaves_tree op reply.Ok = not (is_path_op op)
+leaves_tree op reply.Ok = may_be_ok op
 leaves_tree op _ = false
 
 -- the entry may stand at this tree, where so many blocks were ever a directory's
-abbrev pub fits : Tree → ℕ → Entry → Bool
-fits tree ever e = (is_answer tree e && can_tell tree ever e.reply) || leaves_tree e.op e.reply
+abbrev pub fits : FileTree → ℕ → Entry → Bool
+fits tree ever e = (is_answer tree e && may_tell tree ever e.reply) || leaves_tree e.op e.reply
 
--- a read turns the cells that it showed into the bytes shown
-abbrev pub cells_at : Tree → Place → Option (ℕ × (List Cell × ℕ))
-cells_at tree (Taken dir entries blocks name birth) = file_cells birth (node_at tree birth)
-  where
-    file_cells : ℕ → Option Node → Option (ℕ × (List Cell × ℕ))
-    file_cells b (Some (File cells links)) = Some (b, (cells, links))
-    file_cells b _ = None
-cells_at tree _ = None
+-- the birth, the cells and the links of a file
+abbrev pub file_of : ℕ → Option Node → Option (ℕ × (List Cell × ℕ))
+file_of birth (Some (File cells links)) = Some (birth, (cells, links))
+file_of birth (Some (Dir entries blocks)) = None
+file_of birth (Some (Link target links)) = None
+file_of birth None = None
 
-abbrev pub with_shown : Tree → Option (ℕ × (List Cell × ℕ)) → ℕ → List ℕ → Tree
+-- the file at a place
+abbrev pub file_at : FileTree → Place → Option (ℕ × (List Cell × ℕ))
+file_at tree Root = None
+file_at tree (Taken dir entries blocks name birth) = file_of birth (node_at tree birth)
+file_at tree (Free dir entries blocks name) = None
+file_at tree (Nowhere r) = None
+
+-- cells that were shown become the bytes shown
+abbrev pub with_shown : FileTree → Option (ℕ × (List Cell × ℕ)) → ℕ → List ℕ → FileTree
 with_shown tree None off bytes = tree
 with_shown tree (Some file) off bytes = with_node tree file.0 (File (overwritten file.1.0 off (map Byte bytes)) file.1.1)
 
-abbrev pub after_read : Tree → Op → Reply → Tree
-after_read tree (op.Read path off len) (reply.Shown bytes) = with_shown tree (cells_at tree (place tree path)) off bytes
+-- a read turns the cells that it showed into the bytes shown
+abbrev pub after_read : FileTree → Op → Reply → FileTree
+after_read tree (op.Read path off len) (reply.Shown bytes) = with_shown tree (file_at tree (place tree path)) off bytes
 after_read tree op reply = tree
 
 -- the tree after an entry; one that doesn't fit leaves it
-abbrev pub tree_after : Tree → Entry → Tree
+abbrev pub tree_after : FileTree → Entry → FileTree
 tree_after tree e =
     if leaves_tree e.op e.reply then tree
     else (if is_answer tree e then after_read (applied tree e).tree e.op e.reply else tree)
 
--- what is left of a history once its recoveries have acted: entries, and sectors of files (birth, number) that came into doubt
+-- some cells of a file, from an offset on
+pub record CellRun : Type 0 where
+  pub birth : ℕ
+  pub from : ℕ
+  pub count : ℕ
+
+-- what is left of a history once its recoveries have acted: entries, and cells that came into doubt
 pub data Settled : Type 0 where
   Stays : (entry : Entry) → Settled
-  InDoubt : (sectors : List (ℕ × ℕ)) → Settled
+  InDoubt : (runs : List CellRun) → Settled
 
--- a sector of a file comes into doubt
-abbrev pub doubt_from : ℕ → List Cell → List Cell
-doubt_from sector cells = take (512 * sector) cells ++ map (λ c. Doubt) (take 512 (drop (512 * sector) cells)) ++ drop (512 * (sector + 1)) cells
+-- cells come into doubt; those that aren't there are passed over
+abbrev pub doubted_cells : List Cell → ℕ → ℕ → List Cell
+doubted_cells cells from count = take from cells ++ map (λ c. Doubtful) (take count (drop from cells)) ++ drop (from + count) cells
 
-abbrev pub in_doubt : Tree → ℕ → ℕ → Option Node → Tree
-in_doubt tree birth sector (Some (File cells links)) = with_node tree birth (File (doubt_from sector cells) links)
-in_doubt tree birth sector _ = tree
+-- the cells of one file come into doubt
+abbrev pub doubted_file : FileTree → Option (ℕ × (List Cell × ℕ)) → ℕ → ℕ → FileTree
+doubted_file tree None from count = tree
+doubted_file tree (Some file) from count = with_node tree file.0 (File (doubted_cells file.1.0 from count) file.1.1)
 
-abbrev pub doubted : Tree → List (ℕ × ℕ) → Tree
+abbrev pub doubted : FileTree → List CellRun → FileTree
 doubted tree [] = tree
-doubted tree (s ∷ sectors) = doubted (in_doubt tree s.0 s.1 (node_at tree s.0)) sectors
+doubted tree (run ∷ runs) = doubted (doubted_file tree (file_of run.birth (node_at tree run.birth)) run.from run.count) runs
 
 -- one step of a settled list
-abbrev pub after : Tree → Settled → Tree
+abbrev pub after : FileTree → Settled → FileTree
 after tree (Stays e) = tree_after tree e
-after tree (InDoubt sectors) = doubted tree sectors
+after tree (InDoubt runs) = doubted tree runs
 
-abbrev pub after_all : Tree → List Settled → Tree
+-- the tree at the end of a settled list
+abbrev pub after_all : FileTree → List Settled → FileTree
 after_all tree [] = tree
 after_all tree (s ∷ ss) = after_all (after tree s) ss
 
--- blocks of directories that an entry grows
-abbrev pub grows : Tree → Settled → ℕ
+-- the blocks of directories that a step grows
+abbrev pub grows : FileTree → Settled → ℕ
 grows tree s = count_of dir_blocks (after tree s) - count_of dir_blocks tree
 
-abbrev pub may_stand : Tree → ℕ → Settled → Bool
+-- a step may stand at this tree
+abbrev pub may_stand : FileTree → ℕ → Settled → Bool
 may_stand tree ever (Stays e) = fits tree ever e
-may_stand tree ever (InDoubt sectors) = true
+may_stand tree ever (InDoubt runs) = true
 
--- each entry fits where it stands
-abbrev pub is_legal : Tree → ℕ → List Settled → Bool
-is_legal tree ever [] = true
-is_legal tree ever (s ∷ ss) = may_stand tree ever s && is_legal (after tree s) (ever + grows tree s) ss
-
--- the line of a script with this number
-abbrev pub line_of : List Line → ℕ → Option Line
-line_of script number = find (λ l. l.number == number) script
-
-abbrev pub item_of_what : ℕ → ServerId → Reply → ℕ → What → List Item
-item_of_what run server r number (Server o) = Did (record { server = server; number = record { 0 = run * 2 ^ 32 + number }; op = o; reply = r }) ∷ []
-item_of_what run server r number (Host h) = []
-
-abbrev pub item_of_line : ℕ → ServerId → Reply → ℕ → Option Line → List Item
-item_of_line run server r number None = []
-item_of_line run server r number (Some l) = item_of_what run server r number l.what
-
--- what a line that was said adds to the history
-abbrev pub item_of : List Line → ℕ → Said → List Item
-item_of script run (said.Answer server line r) = item_of_line run server r line (line_of script line)
-item_of script run (said.Recovered server keeps) = Recovered server keeps ∷ []
-item_of script run _ = []
-
--- the history that is read off the lines said
-abbrev pub live : List Line → ℕ → List Said → List Item
-live script run saids = flat_map (item_of script run) saids
+-- each entry fits where it stands, from a tree and a number of blocks that were ever a directory's
+abbrev pub legal_from : FileTree → ℕ → List Settled → Bool
+legal_from tree ever [] = true
+legal_from tree ever (s ∷ ss) = may_stand tree ever s && legal_from (after tree s) (ever + grows tree s) ss

@@ -1,16 +1,17 @@
 // The bytes of a file, of which some may be in doubt.
-ghost use Rattle.std.specs.Prelude.{◌≡◌, ◌≤◌, [], length, IfOk};
+ghost use Rattle.std.specs.Prelude.{◌≡◌, ◌≤◌, [], length};
 
-use frang_base::NoMemory;
-use std::alloc::Global;
+use std::alloc::{AllocError, Global};
 use std::marker::Model;
 
+/// A byte, or one in doubt: a recovery has left it open, until a read shows it.
 #[derive(Clone, Copy, Debug, PartialEq, Eq)]
 pub enum Cell {
     Byte(u8),
-    Doubt,
+    Doubtful,
 }
 
+/// The contents of a file, seen as the list of its cells: at most 1,114,112.
 #[derive(Debug, Drop)]
 pub struct Cells {
     cells: Vec<Cell>,
@@ -28,6 +29,7 @@ impl Model for Cells {
 }
 
 impl Cells {
+    /// An empty file. It takes no memory.
     pub fn new(alloc: Global) -> Self
         ensures { result ≡ [] }
     {
@@ -36,7 +38,7 @@ impl Cells {
         }
     }
 
-    /// At most the bytes of 16 small blocks and a large one.
+    /// The number of cells: at most those of 16 small blocks and a large one.
     pub fn len(&self) -> usize
         ensures len { result ≡ length self.now }
         ensures small { result ≤ 1114112 }
@@ -44,9 +46,18 @@ impl Cells {
         self.cells.len()
     }
 
-    pub fn try_copy(&self) -> Result<Self, NoMemory>
-        ensures { IfOk result (λ copy. copy ≡ self.now) }
+    /// All cells, in order.
+    pub fn as_slice(&self) -> &[Cell]
+        ensures { result.now ≡ self.now }
     {
+        &self.cells
+    }
+}
+
+impl Clone for Cells {
+    ghost is_clone = { λ a b. a ≡ b };
+
+    fn clone(&self) -> Result<Cells, AllocError> {
         Ok(Cells {
             cells: self.cells.clone()?,
         })

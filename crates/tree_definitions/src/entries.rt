@@ -1,12 +1,14 @@
-// The entries of a directory: names with the births of their nodes, in order of the names' bytes.
-ghost use Rattle.std.specs.Prelude.{◌≡◌, ◌≤◌, ◌<◌, [], length, OnOk, OnErr, IfOk};
+// The entries of a directory.
+ghost use Rattle.std.specs.Prelude.{◌≡◌, ◌≤◌, ◌<◌, [], length, OnOk, OnErr};
 ghost use Rattle.tree_definitions.specs.Entries.{entry_at, with_entry};
 
 use frang_base::{Name, NoMemory};
-use std::alloc::Global;
+use std::alloc::{AllocError, Global};
 use std::collections::BTreeMap;
 use std::marker::Model;
 
+/// The entries of a directory, seen as the list of its names with the births of their nodes, in order of the names' bytes: at most
+/// 896, each name once.
 #[derive(Debug, Drop)]
 pub struct Entries {
     map: BTreeMap<Name, u64>,
@@ -23,6 +25,7 @@ impl Model for Entries {
 }
 
 impl Entries {
+    /// No entries. It takes no memory.
     pub fn new(alloc: Global) -> Self
         ensures { result ≡ [] }
     {
@@ -31,6 +34,7 @@ impl Entries {
         }
     }
 
+    /// The number of entries, at most 896.
     pub fn len(&self) -> usize
         ensures len { result ≡ length self.now }
         ensures small { result ≤ 896 }
@@ -38,20 +42,14 @@ impl Entries {
         self.map.len()
     }
 
+    /// The birth of the node of a name. `None` exactly where the name isn't there.
     pub fn get(&self, name: &Name) -> Option<u64>
         ensures { result ≡ entry_at self.now name.now }
     {
         self.map.get(name).copied()
     }
 
-    pub fn try_copy(&self) -> Result<Self, NoMemory>
-        ensures { IfOk result (λ copy. copy ≡ self.now) }
-    {
-        Ok(Entries {
-            map: self.map.clone()?,
-        })
-    }
-
+    /// Gives a name a node. After `NoMemory` the entries are as before.
     pub fn insert(&mut self, name: Name, birth: u64) -> Result<(), NoMemory>
         requires { length self.old < 896 }
         ensures ok { OnOk result (self.new ≡ with_entry self.old name birth) }
@@ -61,9 +59,20 @@ impl Entries {
         Ok(())
     }
 
+    /// The entries as a map from names to births.
     pub fn as_map(&self) -> &BTreeMap<Name, u64>
         ensures { result.now.entries ≡ self.now }
     {
         &self.map
+    }
+}
+
+impl Clone for Entries {
+    ghost is_clone = { λ a b. a ≡ b };
+
+    fn clone(&self) -> Result<Entries, AllocError> {
+        Ok(Entries {
+            map: self.map.clone()?,
+        })
     }
 }
