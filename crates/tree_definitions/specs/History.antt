@@ -13,7 +13,7 @@ use Rattle.tree_definitions.specs.declared.node.Node.TheVariants.{Dir, File, Lin
 use Rattle.tree_definitions.specs.Tree.{FileTree, fresh, node_at, with_node, count_of, dir_blocks}
 use Rattle.tree_definitions.specs.Place.{Place, Root, Taken, Free, Nowhere, place}
 use Rattle.tree_definitions.specs.Apply.{Answer, Plain, Shows, Applied, apply, is_path_op, overwritten}
-use Rattle.tree_definitions.specs.SaidLines.{reply_text}
+use Rattle.tree_definitions.specs.SaidLines.{reply_word}
 
 -- where a run begins: its tree, the number of small blocks that are or were a directory's, and its number
 pub record Opening : Type 0 where
@@ -36,9 +36,53 @@ cells_show (cell ∷ cells) (b ∷ bytes) = cell_shows cell b && cells_show cell
 cells_show [] (b ∷ bytes) = false
 cells_show (cell ∷ cells) [] = false
 
--- two replies are the same where they are said alike
+-- a reply that has the same contents as one of its kind
+abbrev pub shown_is : List ℕ → Reply → Bool
+shown_is bytes (reply.Shown others) = pointwise nat_eq bytes others
+shown_is bytes _ = false
+
+abbrev pub file_is : ℕ → ℕ → Reply → Bool
+file_is size links (reply.File s l) = size == s && links == l
+file_is size links _ = false
+
+abbrev pub dir_is : ℕ → Reply → Bool
+dir_is entries (reply.Dir n) = entries == n
+dir_is entries _ = false
+
+abbrev pub link_is : ℕ → Reply → Bool
+link_is len (reply.Symlink n) = len == n
+link_is len _ = false
+
+abbrev pub names_are : List (List ℕ) → Reply → Bool
+names_are names (reply.Names others) = pointwise (pointwise nat_eq) names others
+names_are names _ = false
+
+abbrev pub target_is : List ℕ → Reply → Bool
+target_is target (reply.Target other) = pointwise nat_eq target other
+target_is target _ = false
+
+abbrev pub time_is : ℕ → ℕ → Reply → Bool
+time_is run tick (reply.Time r t) = run == r && tick == t
+time_is run tick _ = false
+
+abbrev pub no_block_is : ℕ → Reply → Bool
+no_block_is m (reply.NoBlock n) = m == n
+no_block_is m _ = false
+
+abbrev pub contents_are : Reply → Reply → Bool
+contents_are (reply.Shown bytes) r = shown_is bytes r
+contents_are (reply.File size links) r = file_is size links r
+contents_are (reply.Dir entries) r = dir_is entries r
+contents_are (reply.Symlink len) r = link_is len r
+contents_are (reply.Names names) r = names_are names r
+contents_are (reply.Target target) r = target_is target r
+contents_are (reply.Time run tick) r = time_is run tick r
+contents_are (reply.NoBlock m) r = no_block_is m r
+contents_are _ r = true
+
+-- equal replies: of the same word, with the same contents
 abbrev pub same_reply : Reply → Reply → Bool
-same_reply a b = pointwise nat_eq (reply_text a) (reply_text b)
+same_reply a b = pointwise nat_eq (reply_word a) (reply_word b) && contents_are a b
 
 -- a reply shows cells
 abbrev pub shows : List Cell → Reply → Bool

@@ -1,0 +1,226 @@
+-- Legal histories, what is seen and synced, what a recovery removes, and what it leaves in doubt.
+use Rattle.std.proofs.Common.{◌≡◌, ℕ, ◌+◌, Bool, true, false, Option, Some, None, List, [], ◌∷◌, ◌++◌, refl}
+use Rattle.frang_base.specs.declared.op.Op.{Op}
+use Rattle.frang_base.specs.declared.op.Op.TheVariants as op
+use Rattle.frang_base.specs.declared.reply.Reply.{Reply}
+use Rattle.frang_base.specs.declared.reply.Reply.TheVariants as reply
+use Rattle.tree_definitions.specs.declared.cells.Cell.{Cell}
+use Rattle.tree_definitions.specs.declared.cells.Cell.TheVariants.{Byte, Doubtful}
+use Rattle.tree_definitions.specs.declared.history.Item.{Item}
+use Rattle.tree_definitions.specs.declared.node.Node.{Node}
+use Rattle.tree_definitions.specs.declared.node.Node.TheVariants.{Dir, File, Link}
+use Rattle.tree_definitions.specs.Tree.{FileTree, fresh, node_at}
+use Rattle.tree_definitions.specs.History.{Opening, fresh_opening, Settled}
+use Rattle.tree_definitions.specs.Touched.{is_seen, is_synced}
+use Rattle.tree_definitions.specs.Removal.{settled, is_legal, keeps, tree_of}
+use Rattle.tree_definitions.proofs.Sketch.{root, a, b, d, l, da, de, ax, some, by, recovery, line}
+
+abbrev opening : Opening
+opening = fresh_opening 16
+
+abbrev IsLegal : List Item → Type 0
+IsLegal history = is_legal opening history ≡ true
+
+abbrev IsNotLegal : List Item → Type 0
+IsNotLegal history = is_legal opening history ≡ false
+
+abbrev Keeps : List Item → Type 0
+Keeps history = keeps opening history ≡ true
+
+abbrev KeepsNot : List Item → Type 0
+KeepsNot history = keeps opening history ≡ false
+
+-- the node of a birth at the end
+abbrev Ends : List Item → ℕ → Option Node → Type 0
+Ends history birth node = node_at (tree_of opening history) birth ≡ node
+
+-- the server 0 is mounted and makes /a; a second server is mounted
+abbrev made : List Item
+made = by 0 1 op.Mount reply.Mounted ∷ by 0 2 (op.Create a) reply.Ok ∷ []
+
+abbrev both : List Item
+both = made ++ by 1 3 op.Mount reply.Mounted ∷ []
+
+-- legal: the answers of one tree
+made_twice : IsNotLegal (made ++ by 0 3 (op.Create a) reply.Ok ∷ [])
+made_twice = refl
+
+refused_the_second_time : IsLegal (made ++ by 0 3 (op.Create a) reply.Exist ∷ [])
+refused_the_second_time = refl
+
+seen_by_all : IsLegal (both ++ by 1 4 (op.Stat a) (reply.File 0 1) ∷ [])
+seen_by_all = refl
+
+not_seen : IsNotLegal (both ++ by 1 4 (op.Stat a) reply.NoEnt ∷ [])
+not_seen = refl
+
+down_leaves_the_tree : IsLegal (by 0 1 (op.Create a) reply.Down ∷ by 0 2 op.Mount reply.Mounted ∷ by 0 3 (op.Stat a) reply.NoEnt ∷ [])
+down_leaves_the_tree = refl
+
+io_leaves_the_tree : Ends (made ++ by 0 3 (op.Unlink a) reply.Io ∷ []) (line 2) (Some (File [] 1))
+io_leaves_the_tree = refl
+
+sync_is_ok : IsLegal (made ++ by 0 3 op.Sync reply.Ok ∷ by 0 4 (op.CrashAt 2) reply.Ok ∷ by 0 5 op.Unmount reply.Ok ∷ [])
+sync_is_ok = refl
+
+sync_has_no_other_answer : IsNotLegal (made ++ by 0 3 op.Sync reply.Exist ∷ [])
+sync_has_no_other_answer = refl
+
+mount_is_never_ok : IsNotLegal (by 0 1 op.Mount reply.Ok ∷ [])
+mount_is_never_ok = refl
+
+-- `nospace data`: the number said is at most what was ever a directory's, and at least what the tree has
+abbrev full : Opening
+full = record { tree = some; dir_blocks = 16384; run = 1 }
+
+full_of_directories : is_legal full (by 0 9 (op.Fill a 0 1 65) (reply.NoBlock 16384) ∷ []) ≡ true
+full_of_directories = refl
+
+more_than_ever : is_legal full (by 0 9 (op.Fill a 0 1 65) (reply.NoBlock 16385) ∷ []) ≡ false
+more_than_ever = refl
+
+less_than_the_tree_has : is_legal (record { tree = record { segments = 0; nodes = some.nodes }; dir_blocks = 9; run = 1 }) (by 0 9 (op.Fill a 0 1 65) (reply.NoBlock 1) ∷ []) ≡ false
+less_than_the_tree_has = refl
+
+not_that_full : is_legal full (by 0 9 (op.Fill a 0 1 65) (reply.NoBlock 16383) ∷ []) ≡ false
+not_that_full = refl
+
+-- seen: a later entry of another server touches what was changed
+looked_at : KeepsNot (both ++ by 1 4 (op.Stat a) (reply.File 0 1) ∷ recovery 0 0 ∷ [])
+looked_at = refl
+
+looked_in : KeepsNot (both ++ by 1 4 (op.Stat b) reply.NoEnt ∷ recovery 0 0 ∷ [])
+looked_in = refl
+
+looked_at_by_itself : Keeps (made ++ by 0 3 (op.Stat a) (reply.File 0 1) ∷ recovery 0 0 ∷ [])
+looked_at_by_itself = refl
+
+not_looked_at : Keeps (both ++ by 1 4 op.Sync reply.Ok ∷ recovery 0 0 ∷ [])
+not_looked_at = refl
+
+a_refused_server_saw_nothing : Keeps (made ++ by 1 3 (op.Stat a) reply.Down ∷ recovery 0 0 ∷ [])
+a_refused_server_saw_nothing = refl
+
+-- in two directories: /d of the server 0, /b with the file /b/f of the server 1
+abbrev bf : List (List ℕ)
+bf = (98 ∷ []) ∷ (102 ∷ []) ∷ []
+
+abbrev apart : List Item
+apart = by 0 1 op.Mount reply.Mounted ∷ by 0 2 (op.Mkdir d) reply.Ok ∷ by 0 3 op.Sync reply.Ok
+    ∷ by 1 4 op.Mount reply.Mounted ∷ by 1 5 (op.Mkdir b) reply.Ok ∷ by 1 6 (op.Create bf) reply.Ok ∷ by 0 7 (op.Create da) reply.Ok ∷ []
+
+apart_is_not_seen : Keeps (apart ++ by 1 8 (op.Fill bf 1 1 65) reply.BadOffset ∷ recovery 0 (line 2) ∷ [])
+apart_is_not_seen = refl
+
+nospace_saw_what_was_made : KeepsNot (apart ++ by 1 8 (op.Fill bf 0 1 65) (reply.NoBlock 3) ∷ recovery 0 (line 2) ∷ [])
+nospace_saw_what_was_made = refl
+
+own_nospace_saw_nothing : Keeps (apart ++ by 0 8 (op.Fill da 0 1 65) (reply.NoBlock 3) ∷ recovery 0 (line 2) ∷ [])
+own_nospace_saw_nothing = refl
+
+-- a directory on the way is touched, and the node that a refused link or rename went by
+walked_through : KeepsNot (both ++ by 1 4 (op.Create ax) reply.NotDir ∷ recovery 0 0 ∷ [])
+walked_through = refl
+
+-- synced: a later sync or unmount of the server, answered `ok`, before its next mount
+a_sync_keeps : KeepsNot (made ++ by 0 3 op.Sync reply.Ok ∷ recovery 0 0 ∷ [])
+a_sync_keeps = refl
+
+a_sync_of_another : Keeps (both ++ by 1 4 op.Sync reply.Ok ∷ recovery 0 0 ∷ [])
+a_sync_of_another = refl
+
+a_sync_that_is_refused : Keeps (made ++ by 0 3 op.Sync reply.Down ∷ recovery 0 0 ∷ [])
+a_sync_that_is_refused = refl
+
+an_unmount_keeps : KeepsNot (made ++ by 0 3 op.Unmount reply.Ok ∷ recovery 0 0 ∷ [])
+an_unmount_keeps = refl
+
+an_unmount_after_a_stall : Keeps (made ++ by 0 3 op.Stall reply.Ok ∷ by 0 4 op.Unmount reply.Ok ∷ recovery 0 0 ∷ [])
+an_unmount_after_a_stall = refl
+
+a_stall_of_an_earlier_mount : KeepsNot (by 0 1 op.Mount reply.Mounted ∷ by 0 2 op.Stall reply.Ok ∷ by 0 3 op.Mount reply.Mounted ∷ by 0 4 (op.Create a) reply.Ok ∷ by 0 5 op.Unmount reply.Ok ∷ recovery 0 0 ∷ [])
+a_stall_of_an_earlier_mount = refl
+
+-- removal: the first change of the shape above the greatest number, and all later entries of the server
+abbrev crashed : List Item
+crashed = made ++ by 0 3 op.Sync reply.Ok ∷ by 0 4 (op.Create b) reply.Ok ∷ by 0 5 op.Crash reply.Ok ∷ recovery 0 (line 2) ∷ []
+
+crashed_is_legal : IsLegal crashed
+crashed_is_legal = refl
+
+crashed_keeps : Keeps crashed
+crashed_keeps = refl
+
+the_synced_one_stays : Ends crashed (line 2) (Some (File [] 1))
+the_synced_one_stays = refl
+
+the_unsynced_one_goes : Ends crashed (line 4) None
+the_unsynced_one_goes = refl
+
+-- what the log kept stays, though it wasn't synced
+the_log_kept_both : Ends (made ++ by 0 3 (op.Create b) reply.Ok ∷ recovery 0 (line 3) ∷ []) (line 3) (Some (File [] 1))
+the_log_kept_both = refl
+
+-- another server's entries stay
+others_stay : Ends (apart ++ recovery 0 (line 2) ∷ []) (line 6) (Some (File [] 1))
+others_stay = refl
+
+own_go : Ends (apart ++ recovery 0 (line 2) ∷ []) (line 7) None
+own_go = refl
+
+-- entries before the last mount stay
+mounted_again : Ends (made ++ by 0 3 op.Unmount reply.Ok ∷ by 0 4 op.Mount reply.Mounted ∷ by 0 5 (op.Create b) reply.Ok ∷ recovery 0 0 ∷ []) (line 2) (Some (File [] 1))
+mounted_again = refl
+
+mounted_again_loses : Ends (made ++ by 0 3 op.Unmount reply.Ok ∷ by 0 4 op.Mount reply.Mounted ∷ by 0 5 (op.Create b) reply.Ok ∷ recovery 0 0 ∷ []) (line 5) None
+mounted_again_loses = refl
+
+-- a look that saw what is lost goes too: the history without it is legal
+a_look_goes_too : IsLegal (made ++ by 0 3 (op.Stat a) (reply.File 0 1) ∷ recovery 0 0 ∷ by 0 5 op.Mount reply.Mounted ∷ by 0 6 (op.Stat a) reply.NoEnt ∷ [])
+a_look_goes_too = refl
+
+-- a write into bytes that are there changes no shape: it isn't removed
+abbrev written : List Item
+written = made ++ by 0 3 (op.Write a 0 (1 ∷ 2 ∷ [])) reply.Ok ∷ by 0 4 op.Sync reply.Ok ∷ by 0 5 (op.Write a 0 (7 ∷ [])) reply.Ok ∷ []
+
+a_write_stays_in_doubt : Ends (written ++ recovery 0 (line 3) ∷ []) (line 2) (Some (File (Doubtful ∷ Doubtful ∷ []) 1))
+a_write_stays_in_doubt = refl
+
+-- doubt: the last write that meets a sector is the dead server's, not synced, and nobody else touched the file since
+a_synced_write_is_sure : Ends (written ++ by 0 6 op.Sync reply.Ok ∷ recovery 0 (line 3) ∷ []) (line 2) (Some (File (Byte 7 ∷ Byte 2 ∷ []) 1))
+a_synced_write_is_sure = refl
+
+a_touched_file_is_sure : Ends (written ++ by 1 6 op.Mount reply.Mounted ∷ by 1 7 (op.Stat a) (reply.File 2 1) ∷ recovery 0 (line 3) ∷ []) (line 2) (Some (File (Byte 7 ∷ Byte 2 ∷ []) 1))
+a_touched_file_is_sure = refl
+
+a_look_elsewhere_leaves_doubt : Ends (written ++ by 1 6 op.Mount reply.Mounted ∷ by 1 7 (op.Stat b) reply.NoEnt ∷ recovery 0 (line 3) ∷ []) (line 2) (Some (File (Doubtful ∷ Doubtful ∷ []) 1))
+a_look_elsewhere_leaves_doubt = refl
+
+the_last_writer_counts : Ends (written ++ by 1 6 op.Mount reply.Mounted ∷ by 1 7 (op.Write a 1 (9 ∷ [])) reply.Ok ∷ recovery 0 (line 3) ∷ []) (line 2) (Some (File (Byte 7 ∷ Byte 9 ∷ []) 1))
+the_last_writer_counts = refl
+
+a_truncate_writes_to_the_old_end : Ends (made ++ by 0 3 (op.Write a 0 (1 ∷ 2 ∷ [])) reply.Ok ∷ by 0 4 op.Sync reply.Ok ∷ by 0 5 (op.Truncate a 1) reply.Ok ∷ recovery 0 (line 5) ∷ []) (line 2) (Some (File (Doubtful ∷ []) 1))
+a_truncate_writes_to_the_old_end = refl
+
+-- any bytes may then be read, and afterwards the same
+abbrev reads : List ℕ → List ℕ → List Item
+reads one two = written ++ recovery 0 (line 3) ∷ by 0 7 op.Mount reply.Mounted ∷ by 0 8 (op.Read a 0 2) (reply.Shown one) ∷ by 0 9 (op.Read a 0 2) (reply.Shown two) ∷ []
+
+reads_any : IsLegal (reads (1 ∷ 2 ∷ []) (1 ∷ 2 ∷ []))
+reads_any = refl
+
+reads_the_same : IsNotLegal (reads (1 ∷ 2 ∷ []) (3 ∷ 2 ∷ []))
+reads_the_same = refl
+
+reads_what_is_sure : IsNotLegal (made ++ by 0 3 (op.Write a 0 (1 ∷ 2 ∷ [])) reply.Ok ∷ by 0 4 (op.Read a 0 2) (reply.Shown (1 ∷ 3 ∷ [])) ∷ [])
+reads_what_is_sure = refl
+
+reads_no_more_than_there_is : IsNotLegal (reads (1 ∷ []) (1 ∷ []))
+reads_no_more_than_there_is = refl
+
+-- the recovery is judged in the settled list: two recoveries from the left
+twice_recovered : Ends (made ++ recovery 0 0 ∷ by 0 4 op.Mount reply.Mounted ∷ by 0 5 (op.Create a) reply.Ok ∷ by 0 6 op.Sync reply.Ok ∷ recovery 0 (line 5) ∷ []) (line 5) (Some (File [] 1))
+twice_recovered = refl
+
+twice_recovered_is_legal : IsLegal (made ++ recovery 0 0 ∷ by 0 4 op.Mount reply.Mounted ∷ by 0 5 (op.Create a) reply.Ok ∷ by 0 6 op.Sync reply.Ok ∷ recovery 0 (line 5) ∷ [])
+twice_recovered_is_legal = refl

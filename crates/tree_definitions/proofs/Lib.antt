@@ -1,0 +1,5 @@
+pub mod Sketch
+pub mod AppliedExamples
+pub mod HistoryExamples
+pub mod TranscriptExamples
+pub mod SaidExamples

@@ -1,0 +1,275 @@
+-- Which lines may be said after which: each rule of a well-formed transcript.
+use Rattle.std.proofs.Common.{◌≡◌, ℕ, ◌+◌, Bool, true, false, List, [], ◌∷◌, ◌++◌, refl, codes, nat_le, nat_eq, ◌&&◌}
+use Rattle.frang_base.specs.declared.op.Op.{Op}
+use Rattle.frang_base.specs.declared.op.Op.TheVariants as op
+use Rattle.frang_base.specs.declared.op.HostOp.{HostOp}
+use Rattle.frang_base.specs.declared.op.HostOp.TheVariants as host
+use Rattle.frang_base.specs.declared.op.What.TheVariants.{Server, Host}
+use Rattle.frang_base.specs.declared.reply.Reply.{Reply}
+use Rattle.frang_base.specs.declared.reply.Reply.TheVariants as reply
+use Rattle.frang_base.specs.declared.said.Said.{Said}
+use Rattle.frang_base.specs.declared.said.Said.TheVariants as said
+use Rattle.frang_base.specs.declared.script.Line.{Line}
+use Rattle.tree_definitions.specs.declared.history.Item.{Item}
+use Rattle.tree_definitions.specs.History.{Opening, fresh_opening}
+use Rattle.tree_definitions.specs.Live.{live_history}
+use Rattle.tree_definitions.specs.Transcript.{Faults, no_faults, MaySay, IsTranscript, left_history}
+use Rattle.tree_definitions.proofs.Sketch.{a, b, by, recovery, line}
+
+abbrev asks : ℕ → ℕ → Op → Line
+asks number server o = record { number = number; who = record { 0 = server }; what = Server o }
+
+abbrev host_asks : ℕ → HostOp → Line
+host_asks number h = record { number = number; who = record { 0 = 255 }; what = Host h }
+
+abbrev answer : ℕ → ℕ → Reply → Said
+answer number server r = said.Answer (record { 0 = server }) number r
+
+abbrev host_ok : ℕ → Said
+host_ok number = answer number 255 reply.Ok
+
+abbrev dead : ℕ → Said
+dead server = said.Dead (record { 0 = server })
+
+abbrev recovering : ℕ → ℕ → Said
+recovering server by = said.Recovering (record { 0 = server }) (record { 0 = by })
+
+abbrev recovered : ℕ → ℕ → Said
+recovered server kept = said.Recovered (record { 0 = server }) (record { 0 = kept })
+
+abbrev opening : Opening
+opening = fresh_opening 16
+
+-- a line may be said after these, or not
+abbrev May : List Line → List Said → Said → Type 0
+May script before s = MaySay script opening no_faults before s
+
+abbrev MayNot : List Line → List Said → Said → Type 0
+MayNot script before s = MaySay script opening no_faults before s → ⊥
+
+-- where the count of the server 0 has risen from a place on
+abbrev faults_from : ℕ → Faults
+faults_from first place server = nat_le first place && nat_eq server 0
+
+-- the root and /a
+abbrev tree : List Said
+tree = said.Node (codes "/") 2 1 0 ∷ said.Node (codes "/a") 1 0 1 ∷ []
+
+-- a file is made
+abbrev first : List Line
+first = asks 1 0 op.Mount ∷ asks 2 0 (op.Create a) ∷ asks 3 0 op.Sync ∷ []
+
+abbrev first_said : List Said
+first_said = answer 1 0 reply.Mounted ∷ answer 2 0 reply.Ok ∷ answer 3 0 reply.Ok ∷ []
+
+a_file_is_made : IsTranscript first opening no_faults (first_said ++ tree ++ said.End ∷ [])
+a_file_is_made = (refl, (refl, (refl, ((refl, refl), ((refl, refl), ((refl, refl), tt))))))
+
+the_empty_script : IsTranscript [] opening no_faults (said.Node (codes "/") 2 0 0 ∷ said.End ∷ [])
+the_empty_script = ((refl, refl), ((refl, refl), tt))
+
+-- answers: in order, none left out, none twice
+not_before_the_first : MayNot first [] (answer 2 0 reply.Ok)
+not_before_the_first = λ h. cc
+
+not_twice : MayNot first (answer 1 0 reply.Mounted ∷ []) (answer 1 0 reply.Already)
+not_twice = λ h. cc
+
+not_by_another : MayNot first [] (answer 1 1 reply.Mounted)
+not_by_another = λ h. cc
+
+-- off: `mounted` to a mount, `down` to the rest; up: `already`, and its own answer
+down_while_off : May (asks 1 0 (op.Create a) ∷ []) [] (answer 1 0 reply.Down)
+down_while_off = refl
+
+not_ok_while_off : MayNot (asks 1 0 (op.Create a) ∷ []) [] (answer 1 0 reply.Ok)
+not_ok_while_off = λ h. cc
+
+not_down_while_up : MayNot first (answer 1 0 reply.Mounted ∷ []) (answer 2 0 reply.Down)
+not_down_while_up = λ h. cc
+
+mounted_twice : May (asks 1 0 op.Mount ∷ asks 2 0 op.Mount ∷ []) (answer 1 0 reply.Mounted ∷ []) (answer 2 0 reply.Already)
+mounted_twice = refl
+
+not_mounted_twice : MayNot (asks 1 0 op.Mount ∷ asks 2 0 op.Mount ∷ []) (answer 1 0 reply.Mounted ∷ []) (answer 2 0 reply.Mounted)
+not_mounted_twice = λ h. cc
+
+no_io_without_a_fault : MayNot (asks 1 0 op.Mount ∷ []) [] (answer 1 0 reply.Io)
+no_io_without_a_fault = λ h. cc
+
+io_with_a_fault : MaySay (asks 1 0 op.Mount ∷ []) opening (faults_from 0) [] (answer 1 0 reply.Io)
+io_with_a_fault = refl
+
+down_after_an_unmount : May (asks 1 0 op.Mount ∷ asks 2 0 op.Unmount ∷ asks 3 0 op.Sync ∷ []) (answer 1 0 reply.Mounted ∷ answer 2 0 reply.Ok ∷ []) (answer 3 0 reply.Down)
+down_after_an_unmount = refl
+
+-- the host's lines part the script
+abbrev parted : List Line
+parted = asks 1 0 op.Mount ∷ host_asks 2 host.Barrier ∷ asks 3 1 op.Mount ∷ []
+
+not_past_the_host : MayNot parted (answer 1 0 reply.Mounted ∷ []) (answer 3 1 reply.Mounted)
+not_past_the_host = λ h. cc
+
+not_before_an_earlier_line : MayNot parted [] (host_ok 2)
+not_before_an_earlier_line = λ h. cc
+
+host_after_all : May parted (answer 1 0 reply.Mounted ∷ []) (host_ok 2)
+host_after_all = refl
+
+after_the_host : May parted (answer 1 0 reply.Mounted ∷ host_ok 2 ∷ []) (answer 3 1 reply.Mounted)
+after_the_host = refl
+
+host_is_answered_ok : MayNot parted (answer 1 0 reply.Mounted ∷ []) (answer 2 255 reply.Down)
+host_is_answered_ok = λ h. cc
+
+-- a crash: the death is said first, and then the line is answered `ok` or a later one `down`
+abbrev crash : List Line
+crash = asks 1 0 op.Mount ∷ asks 2 0 op.Crash ∷ asks 3 0 op.Sync ∷ asks 4 0 op.Crash ∷ []
+
+no_ok_before_the_death : MayNot crash (answer 1 0 reply.Mounted ∷ []) (answer 2 0 reply.Ok)
+no_ok_before_the_death = λ h. cc
+
+a_crash_kills : May crash (answer 1 0 reply.Mounted ∷ []) (dead 0)
+a_crash_kills = refl
+
+a_crash_is_ok : May crash (answer 1 0 reply.Mounted ∷ dead 0 ∷ []) (answer 2 0 reply.Ok)
+a_crash_is_ok = refl
+
+down_after_a_crash : May crash (answer 1 0 reply.Mounted ∷ dead 0 ∷ answer 2 0 reply.Ok ∷ []) (answer 3 0 reply.Down)
+down_after_a_crash = refl
+
+only_the_first_answer : MayNot crash (answer 1 0 reply.Mounted ∷ dead 0 ∷ answer 2 0 reply.Ok ∷ answer 3 0 reply.Down ∷ []) (answer 4 0 reply.Ok)
+only_the_first_answer = λ h. cc
+
+no_death_at_will : MayNot first (answer 1 0 reply.Mounted ∷ []) (dead 0)
+no_death_at_will = λ h. cc
+
+a_fault_kills : MaySay first opening (faults_from 1) (answer 1 0 reply.Mounted ∷ []) (dead 0)
+a_fault_kills = refl
+
+a_later_fault_does_not : MaySay first opening (faults_from 2) (answer 1 0 reply.Mounted ∷ []) (dead 0) → ⊥
+a_later_fault_does_not = λ h. cc
+
+no_death_while_off : MaySay first opening (faults_from 0) [] (dead 0) → ⊥
+no_death_while_off = λ h. cc
+
+-- a death that was called for
+abbrev armed : List Line
+armed = asks 1 0 op.Mount ∷ asks 2 0 (op.CutAt 2) ∷ asks 3 0 op.Sync ∷ asks 4 0 op.Mount ∷ asks 5 0 op.Sync ∷ []
+
+an_armed_server_dies : May armed (answer 1 0 reply.Mounted ∷ answer 2 0 reply.Ok ∷ []) (dead 0)
+an_armed_server_dies = refl
+
+down_as_its_first_answer : May armed (answer 1 0 reply.Mounted ∷ answer 2 0 reply.Ok ∷ dead 0 ∷ []) (answer 3 0 reply.Down)
+down_as_its_first_answer = refl
+
+the_arming_ends_with_the_mount : MayNot armed (answer 1 0 reply.Mounted ∷ answer 2 0 reply.Ok ∷ dead 0 ∷ answer 3 0 reply.Down ∷ recovering 0 255 ∷ recovered 0 0 ∷ answer 4 0 reply.Mounted ∷ []) (dead 0)
+the_arming_ends_with_the_mount = λ h. cc
+
+already_as_its_first_answer : May (asks 1 0 op.Mount ∷ asks 2 0 (op.CrashAt 1) ∷ asks 3 0 op.Mount ∷ []) (answer 1 0 reply.Mounted ∷ answer 2 0 reply.Ok ∷ dead 0 ∷ []) (answer 3 0 reply.Already)
+already_as_its_first_answer = refl
+
+-- recoveries: of a dead server, by one that is up or the host, and done only where begun
+the_host_recovers : May crash (answer 1 0 reply.Mounted ∷ dead 0 ∷ []) (recovering 0 255)
+the_host_recovers = refl
+
+no_recovery_of_a_live_server : MayNot crash (answer 1 0 reply.Mounted ∷ []) (recovering 0 255)
+no_recovery_of_a_live_server = λ h. cc
+
+no_recovery_by_an_unmounted_server : MayNot crash (answer 1 0 reply.Mounted ∷ dead 0 ∷ []) (recovering 0 1)
+no_recovery_by_an_unmounted_server = λ h. cc
+
+a_recovery_begins_first : MayNot crash (answer 1 0 reply.Mounted ∷ dead 0 ∷ []) (recovered 0 0)
+a_recovery_begins_first = λ h. cc
+
+no_mount_before_the_recovery : MayNot armed (answer 1 0 reply.Mounted ∷ answer 2 0 reply.Ok ∷ dead 0 ∷ answer 3 0 reply.Down ∷ []) (answer 4 0 reply.Mounted)
+no_mount_before_the_recovery = λ h. cc
+
+mounted_after_the_recovery : May armed (answer 1 0 reply.Mounted ∷ answer 2 0 reply.Ok ∷ dead 0 ∷ answer 3 0 reply.Down ∷ recovering 0 255 ∷ recovered 0 0 ∷ []) (answer 4 0 reply.Mounted)
+mounted_after_the_recovery = refl
+
+-- a stalled server answers nothing; its death leaves it owing `expired` until an unmount
+abbrev stall : List Line
+stall = asks 1 0 op.Mount ∷ asks 2 0 op.Stall ∷ asks 3 0 (op.Stat a) ∷ asks 4 0 op.Unmount ∷ asks 5 0 op.Sync ∷ []
+
+abbrev stalled : List Said
+stalled = answer 1 0 reply.Mounted ∷ answer 2 0 reply.Ok ∷ []
+
+stalled_says_nothing : MayNot stall stalled (answer 3 0 reply.NoEnt)
+stalled_says_nothing = λ h. cc
+
+expired_after_a_stall : May stall (stalled ++ dead 0 ∷ []) (answer 3 0 reply.Expired)
+expired_after_a_stall = refl
+
+not_down_where_it_owes : MayNot stall (stalled ++ dead 0 ∷ []) (answer 3 0 reply.Down)
+not_down_where_it_owes = λ h. cc
+
+owing_ends_with_an_unmount : May stall (stalled ++ dead 0 ∷ answer 3 0 reply.Expired ∷ []) (answer 4 0 reply.Ok)
+owing_ends_with_an_unmount = refl
+
+then_it_is_down : May stall (stalled ++ dead 0 ∷ answer 3 0 reply.Expired ∷ answer 4 0 reply.Ok ∷ []) (answer 5 0 reply.Down)
+then_it_is_down = refl
+
+it_owes_after_the_recovery_too : May stall (stalled ++ dead 0 ∷ recovering 0 255 ∷ recovered 0 0 ∷ []) (answer 3 0 reply.Expired)
+it_owes_after_the_recovery_too = refl
+
+no_expired_without_a_stall : MayNot armed (answer 1 0 reply.Mounted ∷ answer 2 0 reply.Ok ∷ dead 0 ∷ []) (answer 3 0 reply.Expired)
+no_expired_without_a_stall = λ h. cc
+
+-- where a fault may have ended the stalled mount, it owes or not, and stays with what it said
+may_owe : MaySay stall opening (faults_from 2) (stalled ++ dead 0 ∷ []) (answer 3 0 reply.Expired)
+may_owe = refl
+
+may_not_owe : MaySay stall opening (faults_from 2) (stalled ++ dead 0 ∷ []) (answer 3 0 reply.Io)
+may_not_owe = refl
+
+who_did_not_owe_is_down : MaySay stall opening (faults_from 2) (stalled ++ dead 0 ∷ answer 3 0 reply.Io ∷ []) (answer 4 0 reply.Ok) → ⊥
+who_did_not_owe_is_down = λ h. cc
+
+who_owed_owes : MaySay stall opening (faults_from 2) (stalled ++ dead 0 ∷ answer 3 0 reply.Expired ∷ []) (answer 4 0 reply.Down) → ⊥
+who_owed_owes = λ h. cc
+
+-- the tree: after every answer, while nobody is stalled or dead, from its first line on and whole before the end
+no_tree_before_all_answers : MayNot first (answer 1 0 reply.Mounted ∷ []) (said.Node (codes "/") 2 0 0)
+no_tree_before_all_answers = λ (h, e). cc
+
+no_tree_while_a_server_is_dead : MayNot (asks 1 0 op.Mount ∷ asks 2 0 op.Crash ∷ []) (answer 1 0 reply.Mounted ∷ dead 0 ∷ answer 2 0 reply.Ok ∷ []) (said.Node (codes "/") 2 0 0)
+no_tree_while_a_server_is_dead = λ (h, e). cc
+
+the_root_first : MayNot first first_said (said.Node (codes "/a") 1 0 1)
+the_root_first = λ (h, e). cc
+
+no_end_before_the_tree : MayNot first (first_said ++ said.Node (codes "/") 2 1 0 ∷ []) said.End
+no_end_before_the_tree = λ (h, e). cc
+
+nothing_after_the_end : MayNot first (first_said ++ tree ++ said.End ∷ []) said.End
+nothing_after_the_end = λ (h, e). cc
+
+no_death_in_the_tree : MaySay first opening (faults_from 0) (first_said ++ said.Node (codes "/") 2 1 0 ∷ []) (dead 0) → ⊥
+no_death_in_the_tree = λ h. cc
+
+-- after a halt nothing is said
+abbrev halted : List Line
+halted = asks 1 0 op.Mount ∷ host_asks 2 host.Halt ∷ []
+
+a_halt_is_answered : May halted (answer 1 0 reply.Mounted ∷ []) (host_ok 2)
+a_halt_is_answered = refl
+
+no_tree_after_a_halt : MayNot halted (answer 1 0 reply.Mounted ∷ host_ok 2 ∷ []) (said.Node (codes "/") 2 0 0)
+no_tree_after_a_halt = λ (h, e). cc
+
+-- no other line stands in a transcript
+no_report_line : MayNot first [] (said.Shown (codes "x"))
+no_report_line = λ h. h
+
+-- the live history has the servers' answers and the recoveries
+it_is_read_off : live_history parted 1 (answer 1 0 reply.Mounted ∷ host_ok 2 ∷ recovering 1 0 ∷ recovered 1 7 ∷ []) ≡ by 0 1 op.Mount reply.Mounted ∷ recovery 1 7 ∷ []
+it_is_read_off = refl
+
+-- a stop leaves a recovery more of each server that is up, stalled or dead
+a_stop_recovers_all : left_history parted 1 (answer 1 0 reply.Mounted ∷ host_ok 2 ∷ answer 3 1 reply.Mounted ∷ []) (λ server. server + 5)
+    ≡ by 0 1 op.Mount reply.Mounted ∷ by 1 3 op.Mount reply.Mounted ∷ recovery 0 5 ∷ recovery 1 6 ∷ []
+a_stop_recovers_all = refl
+
+a_stop_in_the_tree_recovers_none : left_history (asks 1 0 op.Mount ∷ []) 1 (answer 1 0 reply.Mounted ∷ said.Node (codes "/") 2 0 0 ∷ []) (λ server. 5) ≡ by 0 1 op.Mount reply.Mounted ∷ []
+a_stop_in_the_tree_recovers_none = refl
