@@ -140,9 +140,13 @@ is_legal opening history = legal_from opening.tree opening.dir_blocks (settled o
 abbrev pub IsLegal : Opening → List Item → Type 0
 IsLegal opening history = IsTrue (is_legal opening history)
 
+-- the tree that a history leaves of a tree
+abbrev pub tree_from : FileTree → List Item → FileTree
+tree_from tree history = after_all tree (settled tree history)
+
 -- the tree of a history
 abbrev pub tree_of : Opening → List Item → FileTree
-tree_of opening history = after_all opening.tree (settled opening.tree history)
+tree_of opening history = tree_from opening.tree history
 
 -- the shape that a history leaves
 abbrev pub shape_after : Opening → List Item → FileTree

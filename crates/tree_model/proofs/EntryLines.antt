@@ -1,19 +1,19 @@
 -- The lines of a directory: its own, and then those of its entries.
 use Rattle.std.proofs.Common.{◌≡◌, ℕ, zero, suc, ◌-◌, ◌<◌, Option, Some, None, List, [], ◌∷◌, ◌++◌, length, refl, sym, ◌∙◌, ap, arith, append_assoc}
 use Rattle.std.specs.List.{flat_map}
-use Rattle.frang_base.specs.declared.reply.Said.{Said}
-use Rattle.frang_base.specs.declared.reply.Said.TheVariants as said
+use Rattle.frang_base.specs.declared.said.Said.{Said}
+use Rattle.frang_base.specs.declared.said.Said.TheVariants as said
 use Rattle.tree_definitions.specs.declared.node.Node.{Node}
 use Rattle.tree_definitions.specs.declared.node.Node.TheVariants.{Dir, File, Link}
 use Rattle.tree_definitions.specs.Entries.{Entries}
-use Rattle.tree_definitions.specs.Tree.{Tree, node_at}
+use Rattle.tree_definitions.specs.Tree.{FileTree, node_at}
 use Rattle.tree_definitions.specs.TreeLines.{path_text, name_below, lines_with, lines_from}
 
-pub deeper : (n : ℕ) (tree : Tree) (text : List ℕ) (birth : ℕ) → 0 < n → lines_from n tree text birth ≡ lines_with text (node_at tree birth) (λ e. lines_from (n - 1) tree (name_below text e.0) e.1)
+pub deeper : (n : ℕ) (tree : FileTree) (text : List ℕ) (birth : ℕ) → 0 < n → lines_from n tree text birth ≡ lines_with text (node_at tree birth) (λ e. lines_from (n - 1) tree (name_below text e.0) e.1)
 deeper zero tree text birth some = absurd (omega arith)
 deeper (suc n) tree text birth some = ap (λ k. lines_with text (node_at tree birth) (λ e. lines_from k tree (name_below text e.0) e.1)) (let e : n ≡ suc n - 1 = omega arith in e)
 
-pub first_entry : (n : ℕ) (tree : Tree) (text : List ℕ) (birth : ℕ) (entries : Entries) (blocks : ℕ) (lines pushed : List Said) → 0 < n → node_at tree birth ≡ Some (Dir entries blocks)
+pub first_entry : (n : ℕ) (tree : FileTree) (text : List ℕ) (birth : ℕ) (entries : Entries) (blocks : ℕ) (lines pushed : List Said) → 0 < n → node_at tree birth ≡ Some (Dir entries blocks)
     → pushed ≡ lines ++ said.Node (path_text text) 2 (length entries) 0 ∷ []
     → pushed ++ flat_map (λ e. lines_from (n - 1) tree (name_below text e.0) e.1) entries ≡ lines ++ lines_from n tree text birth
 first_entry n tree text birth entries blocks lines pushed some found e =

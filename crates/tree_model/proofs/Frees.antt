@@ -5,7 +5,7 @@ use Rattle.frang_base.specs.declared.reply.Reply.TheVariants.{NoEnt, NotDir}
 use Rattle.tree_definitions.specs.declared.node.Node.{Node}
 use Rattle.tree_definitions.specs.declared.node.Node.TheVariants.{Dir, File, Link}
 use Rattle.tree_definitions.specs.Entries.{Entries, entry_at}
-use Rattle.tree_definitions.specs.Tree.{Tree, node_at}
+use Rattle.tree_definitions.specs.Tree.{FileTree, node_at}
 use Rattle.tree_definitions.specs.Place.{Place, Root, Taken, Free, Nowhere, place_by, place_in, below, place_from}
 
 -- a key that a map had is there after an insertion
@@ -24,7 +24,7 @@ module _ (dir : ℕ) (es : Entries) (n : ℕ) (name : List ℕ) where
   within (Some (Link target links)) d nm e = cc
   within None d nm e = cc
 
-  pub free_is_dir : (tree : Tree) (b : ℕ) (path : List (List ℕ)) → place_from tree b path ≡ Free dir es n name → node_at tree dir ≡ Some (Dir es n)
+  pub free_is_dir : (tree : FileTree) (b : ℕ) (path : List (List ℕ)) → place_from tree b path ≡ Free dir es n name → node_at tree dir ≡ Some (Dir es n)
   free_is_dir tree b [] e = cc
   free_is_dir tree b (nm ∷ []) e = let h = within (node_at tree b) b nm e in ap (node_at tree) (sym h.0) ∙ h.1
   free_is_dir tree b (nm ∷ next ∷ names) e = go (place_in (node_at tree b) b nm) (λ c. free_is_dir tree c (next ∷ names)) e

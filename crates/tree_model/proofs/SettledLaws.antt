@@ -3,13 +3,13 @@ use Rattle.std.proofs.Common.{◌≡◌, ℕ, List, [], ◌∷◌, ◌++◌, ref
 use Rattle.tree_definitions.specs.declared.history.Entry.{Entry}
 use Rattle.tree_definitions.specs.declared.history.Item.{Item}
 use Rattle.tree_definitions.specs.declared.history.Item.TheVariants.{Did, Recovered}
-use Rattle.tree_definitions.specs.Tree.{Tree}
+use Rattle.tree_definitions.specs.Tree.{FileTree}
 use Rattle.tree_definitions.specs.History.{Settled, Stays, InDoubt, after_all, tree_after}
-use Rattle.tree_definitions.specs.Drop.{settled, settled_from, tree_of}
+use Rattle.tree_definitions.specs.Removal.{settled, settled_from, tree_from}
 use Rattle.tree_model.specs.Did.{IsDid, AllDid}
 
 -- the tree after entries, as long as there is no recovery
-abbrev pub run_items : Tree → List Item → Tree
+abbrev pub run_items : FileTree → List Item → FileTree
 run_items tree [] = tree
 run_items tree (Did e ∷ items) = run_items (tree_after tree e) items
 run_items tree (Recovered server keeps ∷ items) = run_items tree items
@@ -19,15 +19,15 @@ stays [] = []
 stays (Did e ∷ items) = Stays e ∷ stays items
 stays (Recovered server keeps ∷ items) = stays items
 
-settled-stays : (opening : Tree) (list : List Settled) (items : List Item) → AllDid items → settled_from opening list items ≡ list ++ stays items
+settled-stays : (opening : FileTree) (list : List Settled) (items : List Item) → AllDid items → settled_from opening list items ≡ list ++ stays items
 settled-stays opening list [] all = sym (append-nil list)
 settled-stays opening list (Did e ∷ items) all = settled-stays opening (list ++ Stays e ∷ []) items all.1 ∙ append_assoc list (Stays e ∷ []) (stays items)
 settled-stays opening list (Recovered s k ∷ items) all = absurd all.0
 
-after-stays : (tree : Tree) (items : List Item) → after_all tree (stays items) ≡ run_items tree items
+after-stays : (tree : FileTree) (items : List Item) → after_all tree (stays items) ≡ run_items tree items
 after-stays tree [] = refl
 after-stays tree (Did e ∷ items) = after-stays (tree_after tree e) items
 after-stays tree (Recovered s k ∷ items) = after-stays tree items
 
-pub tree_of_did : (opening : Tree) (items : List Item) → AllDid items → run_items opening items ≡ tree_of opening items
+pub tree_of_did : (opening : FileTree) (items : List Item) → AllDid items → run_items opening items ≡ tree_from opening items
 tree_of_did opening items all = sym (after-stays opening items) ∙ ap (after_all opening) (sym (settled-stays opening [] items all))

@@ -17,10 +17,12 @@ IsSimple (op.CutAt k) = Unit {0}
 IsSimple op.Stall = Unit {0}
 IsSimple _ = ⊥
 
+-- an entry of such an operation
 abbrev pub IsDid : Item → Type 0
 IsDid (Did e) = IsSimple e.op
 IsDid (Recovered server keeps) = ⊥
 
+-- a history of them
 abbrev pub AllDid : List Item → Type 0
 AllDid [] = Unit {0}
 AllDid (item ∷ items) = IsDid item × AllDid items

@@ -1,13 +1,14 @@
 // The history that is read off the lines said.
 ghost use Rattle.std.specs.Prelude.{◌≡◌, ◌++◌, IfOk, OnOk};
 ghost use Rattle.std.specs.Option.{option_copied};
-ghost use Rattle.tree_definitions.specs.History.{item_of, item_of_line, line_of, live};
+ghost use Rattle.tree_definitions.specs.Live.{item_of, item_of_line, line_of, live_history};
 
 use frang_base::{Line, NoMemory, OpNo, Reply, Said, Script, ServerId, What};
-use tree_definitions::{Entry, Item};
 use std::alloc::Global;
 use std::marker::Model;
+use tree_definitions::{Entry, Item};
 
+/// What was asked and answered, seen as the list of its items, the oldest first.
 #[derive(Debug, Drop)]
 pub struct History {
     items: Vec<Item>,
@@ -28,8 +29,11 @@ fn line_of(script: &[Line], number: u32) -> Option<&Line>
     script.iter().find(|line| line.number == number)
 }
 
+// An operation is numbered by its run times this, plus its line.
+const LINES_OF_A_RUN: u64 = 1 << 32;
+
+// Adds what an answer tells, where it is to a line of a server.
 fn push_answer(
-    alloc: Global,
     line: Option<&Line>,
     run: u32,
     server: ServerId,
@@ -44,12 +48,12 @@ fn push_answer(
     };
     match &line.what {
         What::Server(op) => {
-            let number = OpNo(u64::from(run) * 4294967296 + u64::from(number));
+            let number = OpNo(u64::from(run) * LINES_OF_A_RUN + u64::from(number));
             items.push(Item::Did(Entry {
                 server,
                 number,
-                op: op.try_copy(alloc)?,
-                reply: reply.try_copy(alloc)?,
+                op: op.try_copy()?,
+                reply: reply.try_copy()?,
             }))?;
             Ok(())
         }
@@ -57,13 +61,8 @@ fn push_answer(
     }
 }
 
-fn push_item(
-    alloc: Global,
-    script: &[Line],
-    run: u32,
-    said: &Said,
-    items: &mut Vec<Item>,
-) -> Result<(), NoMemory>
+// Adds what a said line tells.
+fn push_item(script: &[Line], run: u32, said: &Said, items: &mut Vec<Item>) -> Result<(), NoMemory>
     ensures { OnOk result (items.new.items ≡ items.old.items ++ item_of script.now run said.now) }
 {
     match said {
@@ -71,15 +70,7 @@ fn push_item(
             server,
             line,
             reply,
-        } => push_answer(
-            alloc,
-            line_of(script, *line),
-            run,
-            *server,
-            *line,
-            reply,
-            items,
-        ),
+        } => push_answer(line_of(script, *line), run, *server, *line, reply, items),
         Said::Recovered { server, keeps } => {
             items.push(Item::Recovered {
                 server: *server,
@@ -89,31 +80,35 @@ fn push_item(
         }
         Said::Dead { .. }
         | Said::Recovering { .. }
+        | Said::Renewed { .. }
         | Said::Node { .. }
         | Said::Redo { .. }
+        | Said::Backup { .. }
+        | Said::Locks { .. }
         | Said::Shown(_)
         | Said::End => Ok(()),
     }
 }
 
 impl History {
-    /// The history of what was said of a script.
+    /// The history that is read off the lines said of a script, in a run of this number.
     pub fn live(
         alloc: Global,
         script: &Script,
         run: u32,
         said: &[Said],
     ) -> Result<History, NoMemory>
-        ensures { IfOk result (λ history. history ≡ live script.now run said.now) }
+        ensures { IfOk result (λ history. history ≡ live_history script.now run said.now) }
     {
         let mut items = Vec::new(alloc);
         let lines = script.as_slice();
         for one in said {
-            push_item(alloc, lines, run, one, &mut items)?;
+            push_item(lines, run, one, &mut items)?;
         }
         Ok(History { items })
     }
 
+    /// All items, the oldest first.
     pub fn as_slice(&self) -> &[Item]
         ensures { result.now ≡ self.now }
     {

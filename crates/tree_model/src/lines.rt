@@ -3,9 +3,9 @@ ghost use Rattle.std.specs.Prelude.{◌≡◌, ◌++◌, ◌∷◌, ◌<◌, ℕ
 ghost use Rattle.tree_definitions.specs.TreeLines.{path_text, name_below, lines_from};
 
 use frang_base::{Name, NoMemory, Said, Text};
-use tree_definitions::Node;
 use std::alloc::Global;
 use std::collections::BTreeMap;
+use tree_definitions::Node;
 
 fn path_text(alloc: Global, text: &Text) -> Result<Text, NoMemory>
     ensures { IfOk result (λ shown. shown ≡ path_text text.now) }
@@ -50,13 +50,10 @@ pub fn lines_from(
             })?;
         }
         Some(Node::Link { target, .. }) => {
-            let Ok(size) = u32::try_from(target.len()) else {
-                return Err(NoMemory);
-            };
             lines.push(Said::Node {
                 path: path_text(alloc, text)?,
                 kind: 3,
-                size,
+                size: target.len() as u32,
                 links: 0,
             })?;
         }

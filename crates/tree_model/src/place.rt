@@ -3,12 +3,12 @@ ghost use Rattle.std.specs.Prelude.{◌≡◌, ℕ, length};
 ghost use Rattle.std.specs.Ordering.{nat_cmp};
 ghost use Rattle.std.specs.BTreeMap.{get};
 ghost use Rattle.tree_definitions.specs.Place.{place_in, place_from};
-ghost use Rattle.tree_definitions.specs.Tree.{Tree};
+ghost use Rattle.tree_definitions.specs.Tree.{FileTree};
 ghost use Rattle.tree_model.specs.Places.{spot_of};
 
 use frang_base::{Name, Reply};
-use tree_definitions::{Entries, Node};
 use std::collections::BTreeMap;
+use tree_definitions::{Entries, Node};
 
 /// The root, a name that its directory has, one that it hasn't, or no directory for it.
 #[derive(Drop)]

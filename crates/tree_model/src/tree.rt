@@ -6,15 +6,19 @@ ghost use Rattle.tree_definitions.specs.Apply.{apply, made, Plain};
 ghost use Rattle.tree_definitions.specs.TreeLines.{tree_lines};
 ghost use Rattle.tree_model.specs.Built.{IsCreate};
 
-use crate::counts::blocks_full;
+use crate::counts::{DIR_ENTRIES_MAX, INODES_A_SEGMENT, lacks_block, must_grow};
 use crate::lines::lines_from;
 use crate::place::{Place, place_from};
 use frang_base::{Name, NoMemory, Op, OpNo, Reply, Said, Text};
-use tree_definitions::{Cells, Entries, Node};
 use std::alloc::Global;
 use std::collections::BTreeMap;
 use std::marker::Model;
+use tree_definitions::{Cells, Entries, Node};
 
+// The birth of the root.
+const ROOT: u64 = 0;
+
+/// A file tree, seen as its number of segments and its nodes by birth. The root's birth is 0.
 #[derive(Debug, Drop)]
 pub struct Tree {
     alloc: Global,
@@ -23,7 +27,7 @@ pub struct Tree {
 }
 
 impl Model for Tree {
-    ghost use Rattle.tree_definitions.specs.Tree.{Tree as FileTree};
+    ghost use Rattle.tree_definitions.specs.Tree.{FileTree};
 
     ghost Value = { FileTree };
 
@@ -31,7 +35,7 @@ impl Model for Tree {
 }
 
 impl Tree {
-    /// The root alone.
+    /// The root alone, on a disk of so many segments.
     pub fn fresh(alloc: Global, segments: u32) -> Result<Tree, NoMemory>
         ensures { IfOk result (λ t. t ≡ fresh segments) }
     {
@@ -40,7 +44,7 @@ impl Tree {
             entries: Entries::new(alloc),
             blocks: 0,
         };
-        nodes.insert(0, root)?;
+        nodes.insert(ROOT, root)?;
         Ok(Tree {
             alloc,
             segments,
@@ -48,12 +52,14 @@ impl Tree {
         })
     }
 
-    /// Does an operation. A node that it makes gets this birth, which no node has.
-    pub fn apply(&mut self, op: &Op, birth: OpNo, _m: u32) -> Result<Reply, NoMemory>
+    /// Does an operation, and answers it. A node that it makes gets this birth, which no node has; `m` is the number of small blocks
+    /// that are or were a directory's. So far only a create is built. After `NoMemory` the tree is as before.
+    pub fn apply(&mut self, op: &Op, birth: OpNo, m: u32) -> Result<Reply, NoMemory>
         requires { IsCreate op.now }
-        ensures ok { IfOk result (λ reply. apply self.old op.now birth.0 _m ≡ record { answer = Plain reply; tree = self.new }) }
+        ensures ok { IfOk result (λ reply. apply self.old op.now birth.0 m ≡ record { answer = Plain reply; tree = self.new }) }
         ensures err { OnErr result (self.new ≡ self.old) }
     {
+        let _ = m;
         match op {
             Op::Create { path } => {
                 let file = Node::File {
@@ -71,7 +77,7 @@ impl Tree {
         ensures ok { IfOk result (λ reply. made self.old birth node (place self.old path.now) ≡ record { answer = Plain reply; tree = self.new }) }
         ensures err { OnErr result (self.new ≡ self.old) }
     {
-        match place_from(&self.nodes, 0, path) {
+        match place_from(&self.nodes, ROOT, path) {
             Place::Root | Place::Taken { .. } => Ok(Reply::Exist),
             Place::Nowhere(reply) => Ok(reply),
             Place::Free {
@@ -80,19 +86,23 @@ impl Tree {
                 blocks,
                 name,
             } => {
-                if entries.len() >= 896 {
+                if entries.len() >= DIR_ENTRIES_MAX {
                     return Ok(Reply::DirFull);
                 }
-                if self.nodes.len() as u64 >= 64 * u64::from(self.segments) {
+                if self.nodes.len() as u64 >= INODES_A_SEGMENT * u64::from(self.segments) {
                     return Ok(Reply::NoInode);
                 }
-                let grows = entries.len() as u64 >= 56 * u64::from(blocks);
-                if grows && blocks_full(&self.nodes, self.segments) {
+                if lacks_block(&self.nodes, self.segments, entries, blocks) {
                     return Ok(Reply::NoDirBlock);
                 }
-                let mut entries = entries.try_copy()?;
+                let blocks = if must_grow(entries, blocks) {
+                    blocks + 1
+                } else {
+                    blocks
+                };
+                // The changed directory is made first: its insertion, where it was, takes no memory and comes last.
+                let mut entries = entries.clone()?;
                 entries.insert(name.copy(), birth)?;
-                let blocks = if grows { blocks + 1 } else { blocks };
                 self.nodes.insert(birth, node)?;
                 self.nodes.insert(dir, Node::Dir { entries, blocks })?;
                 Ok(Reply::Ok)
@@ -100,7 +110,7 @@ impl Tree {
         }
     }
 
-    /// The lines of the tree, in its order.
+    /// The lines of the tree, from the root: each directory before its entries, entries in order of their bytes.
     pub fn lines(&self) -> Result<Vec<Said>, NoMemory>
         ensures { IfOk result (λ lines. lines.items ≡ tree_lines self.now) }
     {
@@ -111,12 +121,13 @@ impl Tree {
             &self.nodes,
             self.nodes.len(),
             &root,
-            0,
+            ROOT,
             &mut lines,
         )?;
         Ok(lines)
     }
 
+    /// Another tree, the same.
     pub fn try_copy(&self) -> Result<Tree, NoMemory>
         ensures { IfOk result (λ copy. copy ≡ self.now) }
     {

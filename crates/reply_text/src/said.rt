@@ -1,0 +1,140 @@
+// Said lines as bytes.
+ghost use Rattle.std.specs.Prelude.{◌≡◌, ◌++◌, ◌∷◌, [], OnOk, OnErr};
+ghost use Rattle.tree_definitions.specs.SaidLines.{keeps_text, who_text, run_line, node_text, said_text, said_line};
+
+use crate::number::{write_count, write_number, write_numbered, write_point, write_words};
+use crate::reply::write_reply;
+use frang_base::{NoMemory, OpNo, Reply, Said, ServerId};
+use std::alloc::Global;
+
+// An operation number is its run times this, plus its line.
+const LINES_OF_A_RUN: u64 = 1 << 32;
+
+// A server's number, or `-` for the host.
+fn write_who(alloc: Global, server: ServerId, to: &mut Vec<u8>) -> Result<(), NoMemory>
+    ensures { OnOk result (to.new.items ≡ to.old.items ++ who_text server.0) }
+{
+    if server.0 == ServerId::HOST.0 {
+        write_words(b"-", to)
+    } else {
+        write_number(alloc, u64::from(server.0), to)
+    }
+}
+
+fn write_run_line(alloc: Global, op: OpNo, to: &mut Vec<u8>) -> Result<(), NoMemory>
+    ensures { OnOk result (to.new.items ≡ to.old.items ++ run_line op.0) }
+{
+    write_point(alloc, op.0 / LINES_OF_A_RUN, op.0 % LINES_OF_A_RUN, to)
+}
+
+#[tactic(auto, unfolding(tree_definitions::specs::SaidLines::keeps_text))]
+fn write_keeps(alloc: Global, keeps: OpNo, to: &mut Vec<u8>) -> Result<(), NoMemory>
+    ensures { OnOk result (to.new.items ≡ to.old.items ++ keeps_text keeps.0) }
+{
+    write_words(b" keeps ", to)?;
+    write_run_line(alloc, keeps, to)
+}
+
+fn write_node(
+    alloc: Global,
+    kind: u8,
+    size: u32,
+    links: u32,
+    to: &mut Vec<u8>,
+) -> Result<(), NoMemory>
+    ensures { OnOk result (to.new.items ≡ to.old.items ++ node_text kind size links) }
+{
+    if kind == 1 {
+        write_words(b"file", to)?;
+        write_count(alloc, size, to)?;
+        write_count(alloc, links, to)
+    } else if kind == 2 {
+        write_words(b"dir", to)?;
+        write_count(alloc, size, to)
+    } else {
+        write_words(b"link", to)?;
+        write_count(alloc, size, to)
+    }
+}
+
+fn write_answer(
+    alloc: Global,
+    line: u32,
+    server: ServerId,
+    reply: &Reply,
+    to: &mut Vec<u8>,
+) -> Result<(), NoMemory>
+    ensures { OnOk result (to.new.items ≡ to.old.items ++ said_text (Said.Answer server line reply.now)) }
+{
+    write_number(alloc, u64::from(line), to)?;
+    to.push(b' ')?;
+    write_who(alloc, server, to)?;
+    to.push(b' ')?;
+    write_reply(alloc, reply, to)
+}
+
+fn write_recovered(
+    alloc: Global,
+    server: ServerId,
+    keeps: OpNo,
+    to: &mut Vec<u8>,
+) -> Result<(), NoMemory>
+    ensures { OnOk result (to.new.items ≡ to.old.items ++ said_text (Said.Recovered server keeps)) }
+{
+    write_words(b"! recovered ", to)?;
+    write_number(alloc, u64::from(server.0), to)?;
+    write_keeps(alloc, keeps, to)
+}
+
+fn write_text(alloc: Global, said: &Said, to: &mut Vec<u8>) -> Result<(), NoMemory>
+    ensures { OnOk result (to.new.items ≡ to.old.items ++ said_text said.now) }
+{
+    match said {
+        Said::Answer {
+            server,
+            line,
+            reply,
+        } => write_answer(alloc, *line, *server, reply, to),
+        Said::Dead { server } => write_numbered(alloc, b"! dead ", u32::from(server.0), to),
+        Said::Recovering { server, by } => {
+            write_numbered(alloc, b"! recovering ", u32::from(server.0), to)?;
+            write_words(b" by ", to)?;
+            write_who(alloc, *by, to)
+        }
+        Said::Recovered { server, keeps } => write_recovered(alloc, *server, *keeps, to),
+        Said::Renewed { server } => {
+            write_numbered(alloc, b"! renewed ", u32::from(server.0), to)
+        }
+        Said::Node {
+            path,
+            kind,
+            size,
+            links,
+        } => {
+            write_words(b"= ", to)?;
+            write_words(path.as_slice(), to)?;
+            to.push(b' ')?;
+            write_node(alloc, *kind, *size, *links, to)
+        }
+        Said::Redo { op } => {
+            write_words(b"# ", to)?;
+            write_run_line(alloc, *op, to)
+        }
+        Said::Backup { line } => write_numbered(alloc, b"! backup ", *line, to),
+        Said::Locks { line } => write_numbered(alloc, b"! locks ", *line, to),
+        Said::Shown(text) => write_words(text.as_slice(), to),
+        Said::End => write_words(b"! end", to),
+    }
+}
+
+/// Adds a line, with its line feed, at the end of `to`. After `NoMemory` nothing was added.
+pub fn write_line(alloc: Global, said: &Said, to: &mut Vec<u8>) -> Result<(), NoMemory>
+    ensures ok { OnOk result (to.new.items ≡ to.old.items ++ said_line said.now) }
+    ensures err { OnErr result (to.new.items ≡ to.old.items) }
+{
+    let mut line = Vec::new(alloc);
+    write_text(alloc, said, &mut line)?;
+    line.push(b'\n')?;
+    to.extend_from_slice(&line)?;
+    Ok(())
+}
