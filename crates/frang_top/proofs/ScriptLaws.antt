@@ -3,8 +3,8 @@ use Rattle.std.proofs.Common.{◌≡◌, ℕ, zero, suc, ◌+◌, ◌<◌, Bool,
 use Rattle.std.proofs.lemmas.Bool.{ne_eqb}
 use Rattle.std.specs.List.{slice_get, find, filter}
 use Rattle.frang_base.specs.declared.script.Line.{Line}
-use Rattle.tree_definitions.specs.History.{line_of}
-use Rattle.tree_definitions.specs.Lines.{lines_for}
+use Rattle.tree_definitions.specs.Live.{line_of}
+use Rattle.tree_definitions.specs.Transcript.{lines_for}
 use Rattle.frang_top.specs.Reading.{IsBuiltLine, AreBuilt, is_built}
 
 pub built_at : (n : ℕ) (script : List Line) (i : ℕ) (line : Line) → AreBuilt n script → slice_get script i ≡ Some line → IsBuiltLine (n + i) line
@@ -39,3 +39,9 @@ lines_for-all n [] all = refl
 lines_for-all n (l ∷ ls) all =
     let own : nat_eq l.who.0 0 ≡ true = eq-eqb l.who.0 0 all.0.who in
     ap (λ b. cond b (l ∷ lines_for 0 ls) (lines_for 0 ls)) own ∙ ap (λ rest. l ∷ rest) (lines_for-all (n + 1) ls all.1)
+
+pub lines_for-none : (n : ℕ) (script : List Line) → AreBuilt n script → lines_for 255 script ≡ []
+lines_for-none n [] all = refl
+lines_for-none n (l ∷ ls) all =
+    let other : nat_eq l.who.0 255 ≡ false = ap (λ w. nat_eq w 255) all.0.who in
+    ap (λ b. cond b (l ∷ lines_for 255 ls) (lines_for 255 ls)) other ∙ lines_for-none (n + 1) ls all.1

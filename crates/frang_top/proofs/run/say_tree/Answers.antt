@@ -1,9 +1,11 @@
 use Rattle.std.proofs.Common.{◌≡◌, ◌+◌, Some, List, length, sym, ◌∙◌, subst, arith, rules}
 use Rattle.std.specs.List.{slice_get}
-use Rattle.frang_base.specs.declared.reply.Said.TheVariants.{End}
+use Rattle.frang_base.specs.declared.said.Said.TheVariants.{End}
 use Rattle.tree_definitions.specs.TreeLines.{tree_lines}
 use Rattle.frang_top.specs.Run.{AlwaysSaysRun, said_act}
-use Rattle.frang_top.proofs.Telling.{IsTelling, at_index, always_says, refused, stops, fell-trans, begun, told_node, told_end}
+use Rattle.frang_top.specs.Telling.{IsTelling}
+use Rattle.frang_top.proofs.Prefixes.{at_index, always_says, refused, stops, fell-trans}
+use Rattle.frang_top.proofs.TreeTelling.{begun, told_node, told_end}
 use Rattle.frang_top.proofs.run.say_tree.Goals as goal
 
 pub returns-in_err-lines-clause-always : goal.returns-in_err-lines-clause-always

@@ -1,0 +1,81 @@
+-- The first lines said, and the record of the lines said.
+use Rattle.std.proofs.Common.{◌≡◌, ◌⊎◌, inl, inr, ℕ, zero, suc, ◌+◌, ◌-◌, ◌^◌, min, ◌<◌, ◌≤◌, true, false, Option, Some, None, List, [], ◌∷◌, ◌++◌, length, map, take, refl, sym, ◌∙◌, ap, subst, arith, length-append, append_assoc, append-nil, get_or}
+use Rattle.std.specs.Prelude.{Result, Ok, Err}
+use Rattle.std.specs.List.{slice_get}
+use Rattle.std.proofs.lemmas.List.{take_all, take-append-le, take-map, map-append, length-map}
+use Rattle.frang_base.specs.declared.said.Said.{Said}
+use Rattle.frang_base.specs.declared.script.Line.{Line}
+use Rattle.frang_outside.specs.declared.act.Act.{Act}
+use Rattle.frang_outside.specs.Outside.{State, Rose, NoneFell, told_more}
+use Rattle.tree_definitions.specs.History.{Opening}
+use Rattle.tree_definitions.specs.Transcript.{Faults, MaySay, MaySayAll}
+use Rattle.frang_top.specs.declared.run.RunFault.{RunFault}
+use Rattle.frang_top.specs.declared.run.RunFault.TheVariants.{NoMemory, Mute}
+use Rattle.frang_top.specs.Run.{IsRun, SaysRun, AlwaysSaysRun, AreSays, said_act}
+use Rattle.frang_top.specs.RunFaults.{SaysOne, StopsBy, IsMute}
+use Rattle.frang_top.specs.Running.{Always, Told}
+
+pub may_all-push : (script : List Line) (o : Opening) (faults : Faults) (before saids : List Said) (x : Said) → MaySayAll script o faults before saids → MaySay script o faults (before ++ saids) x → MaySayAll script o faults before (saids ++ x ∷ [])
+may_all-push script o faults before [] x all may = (subst (λ b. MaySay script o faults b x) (append-nil before) may, tt)
+may_all-push script o faults before (s ∷ saids) x all may =
+    (all.0, may_all-push script o faults (before ++ s ∷ []) saids x all.1 (subst (λ b. MaySay script o faults b x) (sym (append_assoc before (s ∷ []) saids)) may))
+
+pub told-push : (told after : Option (List Act)) (saids : List Said) (x : Said) → Told told saids → after ≡ told_more told (said_act x) → Told after (saids ++ x ∷ [])
+told-push None after saids x before e acts is = cc
+told-push (Some old) after saids x before e acts is =
+    let now : acts ≡ old ++ said_act x ∷ [] = cc in
+    now ∙ ap (λ o. o ++ said_act x ∷ []) (before old refl) ∙ sym (map-append said_act saids (x ∷ []))
+
+either : (k n : ℕ) → (k ≤ n) ⊎ (n < k)
+either zero n = inl (omega arith)
+either (suc k) zero = inr (omega arith)
+either (suc k) (suc n) = go (either k n)
+  where
+    go : (k ≤ n) ⊎ (n < k) → (suc k ≤ suc n) ⊎ (suc n < suc k)
+    go (inl low) = inl (omega arith)
+    go (inr high) = inr (omega arith)
+
+pub always-push : (script : List Line) (saids : List Said) (x : Said) → Always script saids → IsRun script (saids ++ x ∷ []) → Always script (saids ++ x ∷ [])
+always-push script saids x always run k = go (either k (length saids))
+  where
+    go : (k ≤ length saids) ⊎ (length saids < k) → IsRun script (take k (saids ++ x ∷ []))
+    go (inl low) = subst (IsRun script) (sym (take-append-le k saids (x ∷ []) low)) (always k)
+    go (inr high) = subst (IsRun script) (sym (take_all k (saids ++ x ∷ []) (let e : length (saids ++ x ∷ []) ≤ k = omega (arith, length-append saids (x ∷ [])) in e))) run
+
+-- what is told says a run at each moment
+pub always_says : (script : List Line) (told : Option (List Act)) (saids : List Said) → Told told saids → Always script saids → AlwaysSaysRun script told
+always_says script told saids acts_are always acts is k = record {
+  saids = take k saids;
+  says = ap (take k) (acts_are acts is) ∙ take-map said_act k saids;
+  run = always k;
+}
+
+pub acts_count : (told : Option (List Act)) (saids : List Said) → Told told saids → (acts : List Act) → told ≡ Some acts → length acts ≡ length saids
+acts_count told saids acts_are acts is = ap length (acts_are acts is) ∙ mapped saids
+  where
+    mapped : (s : List Said) → length (map said_act s) ≡ length s
+    mapped [] = refl
+    mapped (x ∷ s) = ap suc (mapped s)
+
+pub at_index : {A : Type 0} (xs : List A) (i : ℕ) (x : A) → i < length xs → x ≡ get_or xs i x → slice_get xs i ≡ Some x
+at_index [] i x in_range is = absurd (omega arith)
+at_index (y ∷ ys) zero x in_range is = ap Some (sym is)
+at_index (y ∷ ys) (suc i) x in_range is = at_index ys i x (omega arith) is
+
+-- a say that was refused
+pub refused : (old new : State) (act : Act) (n : ℕ) (fault : RunFault) → SaysOne old new act n (Err fault) → new.acts ≡ old.acts
+refused old new act n NoMemory says = says
+refused old new act n (Mute m) says = says.0
+
+pub stops : (old mid new : State) (act : Act) (n : ℕ) (fault : RunFault) (saids : List Said) → Told mid.acts saids → length saids ≡ n → NoneFell old mid → SaysOne mid new act n (Err fault) → StopsBy old new (Err fault)
+stops old mid new act n NoMemory saids acts_are count fell says = tt
+stops old mid new act n (Mute m) saids acts_are count fell says = record {
+  rose = (let before : old.say_faults ≤ mid.say_faults = fell.says in let now : Rose mid.say_faults new.say_faults = says.2 in let r : Rose old.say_faults new.say_faults = omega arith in r);
+  after = λ acts is. acts_count mid.acts saids acts_are acts (sym says.0 ∙ is) ∙ count ∙ sym says.1;
+}
+
+pub fell-trans : (old mid new : State) → NoneFell old mid → NoneFell mid new → NoneFell old new
+fell-trans old mid new a b = record {
+  faults = λ party. (let one : old.faults party ≤ mid.faults party = a.faults party in let two : mid.faults party ≤ new.faults party = b.faults party in let r : old.faults party ≤ new.faults party = omega arith in r);
+  says = (let one : old.say_faults ≤ mid.say_faults = a.says in let two : mid.say_faults ≤ new.say_faults = b.says in let r : old.say_faults ≤ new.say_faults = omega arith in r);
+}
