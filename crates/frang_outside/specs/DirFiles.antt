@@ -11,6 +11,7 @@ pub record FileFaults : Type 0 where
   pub reads : ℕ
   pub writes : ℕ
 
+-- what the files of the system mean
 abbrev pub real_files_state : FileFaults → State
 real_files_state faults = record { holds = None; read_faults = faults.reads; write_faults = faults.writes }
 

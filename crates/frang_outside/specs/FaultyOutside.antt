@@ -41,9 +41,11 @@ with_call calls = record calls { made = one_more calls.made }
 abbrev pub with_fault : List ℕ → ℕ → List ℕ
 with_fault faults party = slice_set faults party (one_more (slice_index faults party))
 
+-- what an outside that fails at listed calls means
 abbrev pub faulty_state : Faulty → State
 faulty_state f = record { sectors = disk_after f.acts; acts = Some f.acts; faults = λ party. slice_index f.faults party; say_faults = f.say_faults }
 
+-- its record accounts for its sectors
 pub faulty_accounts : (f : Faulty) → Accounts (faulty_state f)
 faulty_accounts f = memory_accounts f.acts
 

@@ -14,9 +14,11 @@ use Rattle.frang_outside.specs.declared.outside.SayFault.TheVariants.{Failed as 
 use Rattle.frang_outside.specs.Disk.{disk_after}
 use Rattle.frang_outside.specs.Outside.{State, Accounts}
 
+-- what an outside in memory means by its record
 abbrev pub memory_state : List Act → State
 memory_state acts = record { sectors = disk_after acts; acts = Some acts; faults = λ party. 0; say_faults = 0 }
 
+-- that record accounts for the sectors
 pub memory_accounts : (acts : List Act) → Accounts (memory_state acts)
 memory_accounts acts told e s = ap (λ r. disk_after (unwrap_or r told) s) e
 

@@ -8,8 +8,10 @@ pub record Standard : Type 0 where
   pub blocks : List (ℕ × List ℕ)
   pub say_faults : ℕ
 
+-- what the outside of the program means
 abbrev pub standard_state : Standard → State
 standard_state o = record { sectors = block_at o.blocks; acts = None; faults = λ party. 0; say_faults = o.say_faults }
 
+-- it tells no record that could fail to account for the sectors
 pub standard_accounts : (o : Standard) → Accounts (standard_state o)
 standard_accounts o acts told = cc

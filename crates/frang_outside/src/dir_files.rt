@@ -6,19 +6,19 @@ use crate::{FileFault, Files};
 use std::alloc::Global;
 use std::io::{ErrorKind, Read};
 use std::marker::Model;
-use std::rt::Files as Disk;
+use std::rt::Files as SystemFiles;
 use std::{fs, io};
 
 /// The files of the system, by their paths. They tell no contents. What the system does with them is trusted.
 #[derive(Drop)]
-pub struct DirFiles<R: Disk + Drop> {
+pub struct DirFiles<R: SystemFiles + Drop> {
     rt: R,
     // How many reads, and how many writes, have failed. Each stands still at its type's end.
     read_faults: u64,
     write_faults: u64,
 }
 
-impl<R: Disk + Drop> Model for DirFiles<R> {
+impl<R: SystemFiles + Drop> Model for DirFiles<R> {
     ghost use Rattle.frang_outside.specs.DirFiles.{FileFaults};
 
     ghost Value = { FileFaults };
@@ -26,7 +26,7 @@ impl<R: Disk + Drop> Model for DirFiles<R> {
     ghost view = { λ f. record { reads = f.read_faults; writes = f.write_faults } };
 }
 
-impl<R: Disk + Drop> DirFiles<R> {
+impl<R: SystemFiles + Drop> DirFiles<R> {
     /// Nothing has failed.
     pub fn new(rt: R) -> Self
         ensures reads { result.reads ≡ 0 }
@@ -40,7 +40,7 @@ impl<R: Disk + Drop> DirFiles<R> {
     }
 }
 
-impl<R: Disk + Drop> Files for DirFiles<R> {
+impl<R: SystemFiles + Drop> Files for DirFiles<R> {
     ghost use Rattle.frang_outside.specs.DirFiles.{real_files_state};
 
     ghost state = { real_files_state };

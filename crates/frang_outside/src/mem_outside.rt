@@ -72,6 +72,8 @@ impl Outside for MemOutside {
     fn put(&mut self, put: &Put) -> Result<Taken, PutFault>
         ensures counts { NoneFell (memory_state self.old) (memory_state self.new) }
         ensures outcome { PutOutcome (memory_state self.old) (memory_state self.new) put.entry.now result }
+
+        // It never fails.
         ensures answer { MemoryPut self.old self.new put.entry.now result }
     {
         self.acts.reserve(1)?;
@@ -90,6 +92,8 @@ impl Outside for MemOutside {
         ensures sectors { SameSectors (memory_state self.old).sectors (memory_state self.new).sectors }
         ensures counts { NoneFell (memory_state self.old) (memory_state self.new) }
         ensures outcome { SayOutcome (memory_state self.old) (memory_state self.new) line.now result }
+
+        // It never fails.
         ensures answer { MemorySay self.old self.new line.now result }
     {
         let text = Text::of(self.alloc, line)?;

@@ -1,7 +1,7 @@
 // What no clause says: that each call succeeds while there is memory, and what the trusted edge does.
 use crate::{
-    Act, DirFiles, Failed, FaultyOutside, FileFault, Files, MemFiles, MemOutside, Outside, Put,
-    PutFault, SayFault, StdOutside, Taken,
+    DirFiles, Failed, FaultyOutside, FileFault, Files, Gate, MemFiles, MemOutside, NoGate, Outside,
+    Put, PutFault, SayFault, StdOutside, Taken,
 };
 use frang_base::{Sector, ServerId};
 use std::alloc::Global;
@@ -34,7 +34,11 @@ fn try_puts<O: Outside>(rt: &impl Abort, out: &mut O, cases: &[PutCase]) {
     assert_eq!(rt; out.get(WRITER, Sector(8)), Ok([0; 512]));
 }
 
-// Threads pass outsides on.
+// Workers share the gate, and pass the outside on.
+fn enters<G: Gate + Sync>(gate: &G) {
+    gate.enter(WRITER, 1);
+}
+
 fn passes<O: Outside + Send>(out: O) -> O {
     out
 }
@@ -46,6 +50,7 @@ fn outsides_in_memory_take_puts_in_time(rt: HostRuntime) -> Result<(), Fail> {
         (5, 5, 2, Ok(Taken::Written), 2),
         (5, 6, 3, Ok(Taken::Late), 2),
     ];
+    enters(&NoGate);
     let mut out = passes(MemOutside::new(rt.alloc()));
     try_puts(&rt, &mut out, &cases);
     assert_eq!(rt; out.say(b"1 0 ok\n"), Ok(()));
