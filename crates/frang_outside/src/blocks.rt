@@ -8,8 +8,8 @@ use std::alloc::Global;
 use std::collections::BTreeMap;
 use std::marker::Model;
 
-/// The sectors that were written, seen as the list of their addresses and bytes. All others are zero. A look-up takes time
-/// logarithmic in their number.
+/// The sectors that were written, seen as the list of their addresses and bytes. All others are
+/// zero. A look-up takes time logarithmic in their number.
 #[derive(Debug, Drop)]
 pub(crate) struct Blocks {
     blocks: BTreeMap<u64, Block>,
@@ -45,7 +45,8 @@ impl Blocks {
 
     /// Writes a sector. After `NoMemory` all are as before.
     pub(crate) fn set(&mut self, sector: Sector, bytes: Block) -> Result<(), NoMemory>
-        ensures ok { OnOk result (SameSectors (written (block_at self.old) sector.0 bytes) (block_at self.new)) }
+        ensures ok { OnOk result
+            (SameSectors (written (block_at self.old) sector.0 bytes) (block_at self.new)) }
         ensures err { OnErr result (self.new ≡ self.old) }
     {
         self.blocks.insert(sector.0, bytes)?;

@@ -9,7 +9,8 @@ use std::marker::Model;
 use std::rt::Files as SystemFiles;
 use std::{fs, io};
 
-/// The files of the system, by their paths. They tell no contents. What the system does with them is trusted.
+/// The files of the system, by their paths. They tell no contents. What the system does with them
+/// is trusted.
 #[derive(Drop)]
 pub struct DirFiles<R: SystemFiles + Drop> {
     rt: R,
@@ -60,7 +61,8 @@ impl<R: SystemFiles + Drop> Files for DirFiles<R> {
     }
 }
 
-// All bytes that a reader has left, where these are at most `limit`. It reads no more than one byte past them.
+// All bytes that a reader has left, where these are at most `limit`. It reads no more than one byte
+// past them.
 fn read_whole<I: Read + Drop>(
     alloc: Global,
     input: I,

@@ -9,16 +9,18 @@ use frang_base::{Block, Sector, ServerId};
 use std::alloc::Global;
 use std::marker::Model;
 
-/// An outside in memory that fails at the listed ordinals of its gets, of its puts and of its says, each kind counted from 1,
-/// and at no others. A late put doesn't fail, and a failed put leaves the old sector. A call that wants memory isn't counted:
-/// nothing has changed. Else it is as `MemOutside`.
+/// An outside in memory that fails at the listed ordinals of its gets, of its puts and of its says,
+/// each kind counted from 1, and at no others. A late put doesn't fail, and a failed put leaves the
+/// old sector. A call that wants memory isn't counted: nothing has changed. Else it is as
+/// `MemOutside`.
 #[derive(Debug, Drop)]
 pub struct FaultyOutside {
     inner: MemOutside,
     gets: FaultPlan,
     puts: FaultPlan,
     says: FaultPlan,
-    // How many gets and puts have failed that named a party, at its number. Each stands still at its type's end.
+    // How many gets and puts have failed that named a party, at its number. Each stands still at
+    // its type's end.
     faults: [u64; 256],
     // How many says have failed. It stands still at its type's end.
     say_faults: u64,
@@ -40,7 +42,8 @@ impl Model for FaultyOutside {
 }
 
 impl FaultyOutside {
-    /// All sectors are zero, the record is empty, no call was made, and nothing has failed. It takes no memory.
+    /// All sectors are zero, the record is empty, no call was made, and nothing has failed. It
+    /// takes no memory.
     pub fn new(alloc: Global, gets: Vec<u64>, puts: Vec<u64>, says: Vec<u64>) -> Self
         ensures acts { result.acts ≡ [] }
         ensures gets { result.gets ≡ record { listed = gets.items; made = 0 } }
@@ -75,10 +78,12 @@ impl Outside for FaultyOutside {
     ghost accounts = { faulty_accounts };
 
     fn get(&mut self, server: ServerId, sector: Sector) -> Result<Block, Failed>
-        ensures sectors { SameSectors (faulty_state self.old).sectors (faulty_state self.new).sectors }
+        ensures sectors { SameSectors (faulty_state self.old).sectors
+            (faulty_state self.new).sectors }
         ensures acts { (faulty_state self.new).acts ≡ (faulty_state self.old).acts }
         ensures counts { NoneFell (faulty_state self.old) (faulty_state self.new) }
-        ensures outcome { GetOutcome (faulty_state self.old) (faulty_state self.new) server.0 sector.0 result }
+        ensures outcome { GetOutcome (faulty_state self.old) (faulty_state self.new)
+            server.0 sector.0 result }
 
         // It fails exactly where its ordinal is listed.
         ensures answer { FaultyGet self.old self.new server.0 sector.0 result }
@@ -94,7 +99,8 @@ impl Outside for FaultyOutside {
 
     fn put(&mut self, put: &Put) -> Result<Taken, PutFault>
         ensures counts { NoneFell (faulty_state self.old) (faulty_state self.new) }
-        ensures outcome { PutOutcome (faulty_state self.old) (faulty_state self.new) put.entry.now result }
+        ensures outcome { PutOutcome (faulty_state self.old) (faulty_state self.new)
+            put.entry.now result }
 
         // It fails exactly where it isn't late and its ordinal is listed.
         ensures answer { FaultyPut self.old self.new put.entry.now result }
@@ -110,9 +116,11 @@ impl Outside for FaultyOutside {
     }
 
     fn say(&mut self, line: &[u8]) -> Result<(), SayFault>
-        ensures sectors { SameSectors (faulty_state self.old).sectors (faulty_state self.new).sectors }
+        ensures sectors { SameSectors (faulty_state self.old).sectors
+            (faulty_state self.new).sectors }
         ensures counts { NoneFell (faulty_state self.old) (faulty_state self.new) }
-        ensures outcome { SayOutcome (faulty_state self.old) (faulty_state self.new) line.now result }
+        ensures outcome { SayOutcome (faulty_state self.old) (faulty_state self.new)
+            line.now result }
 
         // It fails exactly where its ordinal is listed.
         ensures answer { FaultySay self.old self.new line.now result }
@@ -137,7 +145,8 @@ fn no_faults() -> [u64; 256]
 fn count_fault(faults: &mut [u64; 256], party: ServerId)
     ensures counted { faults.new ≡ with_fault faults.old party.0 }
     ensures rose { Rose (slice_index faults.old party.0) (slice_index faults.new party.0) }
-    ensures others { (other : ℕ) → (other ≡ party.0 → ⊥) → slice_index faults.new other ≡ slice_index faults.old other }
+    ensures others { (other : ℕ) → (other ≡ party.0 → ⊥)
+        → slice_index faults.new other ≡ slice_index faults.old other }
 {
     let party = party.0 as usize;
     faults[party] = faults[party].saturating_add(1);

@@ -9,7 +9,8 @@ use std::alloc::Global;
 use std::collections::BTreeMap;
 use std::marker::Model;
 
-/// Files in memory, told by their names. A read fails exactly where its name isn't there; a write never fails.
+/// Files in memory, told by their names. A read fails exactly where its name isn't there; a write
+/// never fails.
 #[derive(Debug, Drop)]
 pub struct MemFiles {
     alloc: Global,
@@ -39,7 +40,8 @@ impl MemFiles {
         }
     }
 
-    /// Puts a file in the place of the one with this name, if there is one. After `NoMemory` all are as before.
+    /// Puts a file in the place of the one with this name, if there is one. After `NoMemory` all
+    /// are as before.
     pub fn put_file(&mut self, name: &str, bytes: &[u8]) -> Result<(), NoMemory>
         ensures ok { OnOk result (PutsFile self.old self.new name.now bytes.now) }
         ensures err { OnErr result (self.new ≡ self.old) }

@@ -10,8 +10,9 @@ use frang_base::{Block, Sector, ServerId, Text};
 use std::alloc::Global;
 use std::marker::Model;
 
-/// An outside in memory, seen as its record: the acts so far, in their order. Its sectors are those that the record leaves,
-/// and its counts of faults are 0. A call fails only for want of memory, and then nothing has changed.
+/// An outside in memory, seen as its record: the acts so far, in their order. Its sectors are those
+/// that the record leaves, and its counts of faults are 0. A call fails only for want of memory,
+/// and then nothing has changed.
 #[derive(Debug, Drop)]
 pub struct MemOutside {
     alloc: Global,
@@ -71,7 +72,8 @@ impl Outside for MemOutside {
     /// Writes a sector. Refused only for want of memory.
     fn put(&mut self, put: &Put) -> Result<Taken, PutFault>
         ensures counts { NoneFell (memory_state self.old) (memory_state self.new) }
-        ensures outcome { PutOutcome (memory_state self.old) (memory_state self.new) put.entry.now result }
+        ensures outcome { PutOutcome (memory_state self.old) (memory_state self.new)
+            put.entry.now result }
 
         // It never fails.
         ensures answer { MemoryPut self.old self.new put.entry.now result }
@@ -89,9 +91,11 @@ impl Outside for MemOutside {
 
     /// Adds the line to the record. Refused only for want of memory.
     fn say(&mut self, line: &[u8]) -> Result<(), SayFault>
-        ensures sectors { SameSectors (memory_state self.old).sectors (memory_state self.new).sectors }
+        ensures sectors { SameSectors (memory_state self.old).sectors
+            (memory_state self.new).sectors }
         ensures counts { NoneFell (memory_state self.old) (memory_state self.new) }
-        ensures outcome { SayOutcome (memory_state self.old) (memory_state self.new) line.now result }
+        ensures outcome { SayOutcome (memory_state self.old) (memory_state self.new)
+            line.now result }
 
         // It never fails.
         ensures answer { MemorySay self.old self.new line.now result }

@@ -7,8 +7,9 @@ use frang_base::{Block, Sector, ServerId};
 use std::alloc::Global;
 use std::marker::Model;
 
-/// The outside of the program. Its sectors are in memory, and it says to standard output. It tells no record, so a line
-/// isn't kept. Gets and puts don't fail; the count of failed says stands still at its type's end.
+/// The outside of the program. Its sectors are in memory, and it says to standard output. It tells
+/// no record, so a line isn't kept. Gets and puts don't fail; the count of failed says stands still
+/// at its type's end.
 #[derive(Drop)]
 pub struct StdOutside<R: Print + Drop> {
     rt: R,

@@ -1,4 +1,5 @@
-// What no clause says: that each call succeeds while there is memory, and what the trusted edge does.
+// What no clause says: that each call succeeds while there is memory, and what the trusted edge
+// does.
 use crate::{
     DirFiles, Failed, FaultyOutside, FileFault, Files, Gate, MemFiles, MemOutside, NoGate, Outside,
     Put, PutFault, SayFault, StdOutside, Taken,
@@ -15,7 +16,8 @@ const WRITER: ServerId = ServerId(1);
 
 const SECTOR: Sector = Sector(7);
 
-// A put by its stamp, its now and the byte that it writes, what is answered, and the byte that the sector has then.
+// A put by its stamp, its now and the byte that it writes, what is answered, and the byte that the
+// sector has then.
 type PutCase = (u64, u64, u8, Result<Taken, PutFault>, u8);
 
 fn try_puts<O: Outside>(rt: &impl Abort, out: &mut O, cases: &[PutCase]) {

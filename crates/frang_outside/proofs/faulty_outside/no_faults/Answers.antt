@@ -1,3 +1,4 @@
+-- No party has a fault.
 use Rattle.frang_outside.proofs.Zeros.{slice_index_zeros}
 use Rattle.frang_outside.proofs.faulty_outside.no_faults.Goals as goal
 
