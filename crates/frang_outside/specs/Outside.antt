@@ -1,5 +1,5 @@
 -- What an outside means, and what its calls answer and change.
-use Rattle.std.specs.Prelude.{◌≡◌, ◌↔◌, ◌⊎◌, ℕ, ◌+◌, ◌-◌, ◌^◌, ◌<◌, ◌≤◌, min, List, [], ◌∷◌, ◌++◌, Option, Some, None, Result, Ok, Err}
+use Rattle.std.specs.Prelude.{◌≡◌, ◌⊎◌, ℕ, nat_lt, if◌then◌else◌, ◌+◌, ◌-◌, ◌^◌, ◌<◌, ◌≤◌, min, List, [], ◌∷◌, ◌++◌, Option, Some, None, Result, Ok, Err}
 use Rattle.frang_outside.specs.declared.act.Act.{Act}
 use Rattle.frang_outside.specs.declared.act.Act.TheVariants.{Put as Acted, Said}
 use Rattle.frang_outside.specs.declared.act.Put.{Put}
@@ -10,7 +10,7 @@ use Rattle.frang_outside.specs.declared.outside.PutFault.{PutFault}
 use Rattle.frang_outside.specs.declared.outside.PutFault.TheVariants.{Failed as PutFailed, NoMemory as PutNoMemory}
 use Rattle.frang_outside.specs.declared.outside.SayFault.{SayFault}
 use Rattle.frang_outside.specs.declared.outside.SayFault.TheVariants.{Failed as SayFailed, NoMemory as SayNoMemory}
-use Rattle.frang_outside.specs.Disk.{Sectors, SameSectors, written, disk}
+use Rattle.frang_outside.specs.Disk.{Sectors, SameSectors, written, disk_after}
 
 -- the bytes of each sector; the acts so far, where they are told; how many gets and puts have failed that named a party, and how many says
 pub record State : Type 0 where
@@ -22,6 +22,10 @@ pub record State : Type 0 where
 -- a count of faults rose, or stands at its last value
 abbrev pub Rose : ℕ → ℕ → Type 0
 Rose before now = min (before + 1) (2 ^ 64 - 1) ≤ now
+
+-- a count of faults with one more, which stands still at its type's end
+abbrev pub one_more : ℕ → ℕ
+one_more count = if nat_lt count (2 ^ 64 - 1) then count + 1 else count
 
 -- no count fell
 pub record NoneFell (old new : State) : Type 0 where
@@ -51,7 +55,7 @@ told_more (Some acts) act = Some (acts ++ act ∷ [])
 
 -- a record that is told accounts for the sectors
 abbrev pub Accounts : State → Type 0
-Accounts s = (acts : List Act) → s.acts ≡ Some acts → SameSectors (disk acts) s.sectors
+Accounts s = (acts : List Act) → s.acts ≡ Some acts → SameSectors (disk_after acts) s.sectors
 
 -- an answered get gives the sector's bytes; a failed one is counted for the server
 abbrev pub GetOutcome : State → State → ℕ → ℕ → Result (List ℕ) Failed → Type 0
