@@ -80,6 +80,8 @@ fn a_history_leaves_a_tree(rt: HostRuntime) -> Result<(), Fail> {
     ];
     let history = History::live(alloc, &script, 1, &said)?;
     assert_eq!(rt; history.as_slice().len(), 3);
+    let is_simple = history.is_simple();
+    assert!(rt; is_simple);
     let tree = history.tree(&Tree::fresh(alloc, 16)?)?;
     let mut text = Vec::new(alloc);
     for line in &tree.lines()? {

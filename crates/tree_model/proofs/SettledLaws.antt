@@ -1,12 +1,12 @@
 -- A history without recoveries settles to its entries.
-use Rattle.std.proofs.Common.{◌≡◌, ℕ, List, [], ◌∷◌, ◌++◌, refl, sym, ◌∙◌, ap, append_assoc, append-nil}
+use Rattle.std.proofs.Common.{◌≡◌, ℕ, Bool, true, false, ◌&&◌, List, [], ◌∷◌, ◌++◌, refl, sym, ◌∙◌, ap, append_assoc, append-nil}
 use Rattle.tree_definitions.specs.declared.history.Entry.{Entry}
 use Rattle.tree_definitions.specs.declared.history.Item.{Item}
 use Rattle.tree_definitions.specs.declared.history.Item.TheVariants.{Did, Recovered}
 use Rattle.tree_definitions.specs.Tree.{FileTree}
 use Rattle.tree_definitions.specs.History.{Settled, Stays, InDoubt, after_all, tree_after}
 use Rattle.tree_definitions.specs.Removal.{settled, settled_from, tree_from}
-use Rattle.tree_model.specs.Did.{IsDid, AllDid}
+use Rattle.tree_model.specs.Did.{is_did, all_did}
 
 -- the tree after entries, as long as there is no recovery
 abbrev pub run_items : FileTree → List Item → FileTree
@@ -19,15 +19,29 @@ stays [] = []
 stays (Did e ∷ items) = Stays e ∷ stays items
 stays (Recovered server keeps ∷ items) = stays items
 
-settled-stays : (opening : FileTree) (list : List Settled) (items : List Item) → AllDid items → settled_from opening list items ≡ list ++ stays items
+first_of_two : (a b : Bool) → a && b ≡ true → a ≡ true
+first_of_two true b e = refl
+first_of_two false b e = cc
+
+second_of_two : (a b : Bool) → a && b ≡ true → b ≡ true
+second_of_two true b e = e
+second_of_two false b e = cc
+
+pub did_first : (item : Item) (items : List Item) → all_did (item ∷ items) ≡ true → is_did item ≡ true
+did_first item items all = first_of_two _ _ all
+
+pub did_rest : (item : Item) (items : List Item) → all_did (item ∷ items) ≡ true → all_did items ≡ true
+did_rest item items all = second_of_two (is_did item) _ all
+
+settled-stays : (opening : FileTree) (list : List Settled) (items : List Item) → all_did items ≡ true → settled_from opening list items ≡ list ++ stays items
 settled-stays opening list [] all = sym (append-nil list)
-settled-stays opening list (Did e ∷ items) all = settled-stays opening (list ++ Stays e ∷ []) items all.1 ∙ append_assoc list (Stays e ∷ []) (stays items)
-settled-stays opening list (Recovered s k ∷ items) all = absurd all.0
+settled-stays opening list (Did e ∷ items) all = settled-stays opening (list ++ Stays e ∷ []) items (did_rest (Did e) items all) ∙ append_assoc list (Stays e ∷ []) (stays items)
+settled-stays opening list (Recovered s k ∷ items) all = cc
 
 after-stays : (tree : FileTree) (items : List Item) → after_all tree (stays items) ≡ run_items tree items
 after-stays tree [] = refl
 after-stays tree (Did e ∷ items) = after-stays (tree_after tree e) items
 after-stays tree (Recovered s k ∷ items) = after-stays tree items
 
-pub tree_of_did : (opening : FileTree) (items : List Item) → AllDid items → run_items opening items ≡ tree_from opening items
+pub tree_of_did : (opening : FileTree) (items : List Item) → all_did items ≡ true → run_items opening items ≡ tree_from opening items
 tree_of_did opening items all = sym (after-stays opening items) ∙ ap (after_all opening) (sym (settled-stays opening [] items all))

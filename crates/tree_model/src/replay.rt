@@ -1,8 +1,8 @@
 // The tree after an entry, and after a history.
-ghost use Rattle.std.specs.Prelude.{◌≡◌, IfOk};
+ghost use Rattle.std.specs.Prelude.{◌≡◌, IfOk, IsTrue};
 ghost use Rattle.tree_definitions.specs.Removal.{tree_from};
 ghost use Rattle.tree_definitions.specs.History.{may_be_ok, leaves_tree, tree_after};
-ghost use Rattle.tree_model.specs.Did.{IsSimple, AllDid};
+ghost use Rattle.tree_model.specs.Did.{is_simple, is_did, all_did};
 
 use crate::agree::same_reply;
 use crate::{History, Tree};
@@ -31,7 +31,7 @@ fn leaves_tree(op: &Op, reply: &Reply) -> bool
 
 // The tree after an entry. One that doesn't fit leaves it.
 fn tree_after(tree: &Tree, entry: &Entry) -> Result<Tree, NoMemory>
-    requires { IsSimple entry.now.op }
+    requires { IsTrue (is_simple entry.now.op) }
     ensures { IfOk result (λ after. after ≡ tree_after tree.now entry.now) }
 {
     if leaves_tree(&entry.op, &entry.reply) {
@@ -51,11 +51,44 @@ fn tree_after(tree: &Tree, entry: &Entry) -> Result<Tree, NoMemory>
     }
 }
 
+// A create, or an operation without a path.
+fn is_simple(op: &Op) -> bool
+    ensures { result ≡ is_simple op.now }
+{
+    matches!(
+        op,
+        Op::Create { .. }
+            | Op::Sync
+            | Op::Mount
+            | Op::Unmount
+            | Op::Crash
+            | Op::CrashAt { .. }
+            | Op::CutAt { .. }
+            | Op::Stall
+    )
+}
+
+fn is_did(item: &Item) -> bool
+    ensures { result ≡ is_did item.now }
+{
+    match item {
+        Item::Did(entry) => is_simple(&entry.op),
+        Item::Recovered { .. } => false,
+    }
+}
+
 impl History {
-    /// The tree that a history leaves of its opening's tree. It has no recoveries, and of the operations with a path only creates.
+    /// Whether the tree can be computed so far: the history has no recoveries, and of the operations with a path only creates.
+    pub fn is_simple(&self) -> bool
+        ensures { result ≡ all_did self.now }
+    {
+        self.as_slice().iter().all(|item| is_did(item))
+    }
+
+    /// The tree that a history leaves of its opening's tree, where `is_simple`.
     #[tactic(auto, using(crate::proofs::SettledLaws::tree_of_did))]
     pub fn tree(&self, opening: &Tree) -> Result<Tree, NoMemory>
-        requires { AllDid self.now }
+        requires { IsTrue (all_did self.now) }
         ensures { IfOk result (λ tree. tree ≡ tree_from opening.now self.now) }
     {
         let mut tree = opening.try_copy()?;
