@@ -1,14 +1,19 @@
 // The calls that may want memory, each with ample memory: its answer is the value, and not the refusal.
+ghost use Rattle.std.specs.Prelude.{IfOk};
+ghost use Rattle.tree_model.specs.Built.{IsCreate};
+
 use frang_base::{
-    Line, Name, NameList, Op, OpNo, Patch, Patches, Path, Reply, Said, Script, ServerId, Text, What,
+    Line, Name, NameList, NoMemory, Op, OpNo, Patch, Patches, Path, Reply, Said, Script, ServerId,
+    Text, What,
 };
 use reply_text::write_line;
 use std::alloc::Global;
-use std::process::Abort;
 use std::test::Fail;
 use tree_model::{History, Tree};
 
-fn create_a(alloc: Global) -> Result<Op, Fail> {
+fn create_a(alloc: Global) -> Result<Op, NoMemory>
+    ensures { IfOk result IsCreate }
+{
     let mut path = Path::new(alloc);
     if let Some(name) = Name::of(b"a") {
         path.push(name)?;
@@ -24,40 +29,53 @@ fn answer(line: u32, reply: Reply) -> Said {
     }
 }
 
-#[test]
-fn lists_are_copied(rt: HostRuntime) -> Result<(), Fail> {
-    let alloc = rt.alloc();
+fn text_is_copied(alloc: Global) -> Result<bool, NoMemory> {
     let mut text = Text::of(alloc, b"ab")?;
     text.push(b'c')?;
     text.append(b"de")?;
-    let text = text.try_copy()?;
-    assert_eq!(rt; text.as_slice(), b"abcde".as_slice());
-    assert_eq!(rt; text.get(2), Some(&b'c'));
-    assert_eq!(rt; text.get(5), None);
+    let copy = text.try_copy()?;
+    Ok(copy.as_slice() == b"abcde".as_slice())
+}
 
-    let Op::Create { path } = create_a(alloc)?.try_copy()? else {
-        return Ok(());
-    };
-    let path = path.try_copy()?;
-    assert_eq!(rt; path.len(), 1);
+fn path_is_copied(alloc: Global) -> Result<bool, NoMemory> {
+    let op = create_a(alloc)?.try_copy()?;
+    match op {
+        Op::Create { path } => Ok(path.try_copy()?.len() == 1),
+        _ => Ok(false),
+    }
+}
 
+fn names_are_copied(alloc: Global) -> Result<bool, NoMemory> {
     let mut names = NameList::new(alloc);
-    for name in path.as_slice() {
-        names.push(name.copy())?;
+    if let Some(name) = Name::of(b"a") {
+        names.push(name)?;
     }
     let reply = Reply::Names(names.try_copy()?).try_copy()?;
-    let is_copied = matches!(&reply, Reply::Names(names) if names.len() == 1);
-    assert!(rt; is_copied);
+    Ok(matches!(&reply, Reply::Names(names) if names.len() == 1))
+}
 
+fn patches_are_copied(alloc: Global) -> Result<bool, NoMemory> {
     let mut patches = Patches::new(alloc);
-    patches.push(Patch { at: 8, bytes: text })?;
-    let patches = patches.try_copy()?;
-    let is_there = matches!(patches.get(0), Some(patch) if patch.at == 8);
-    assert!(rt; is_there);
+    patches.push(Patch {
+        at: 8,
+        bytes: Text::of(alloc, b"ab")?,
+    })?;
+    let copy = patches.try_copy()?;
+    Ok(matches!(copy.get(0), Some(patch) if patch.at == 8))
+}
+
+#[test]
+fn lists_are_copied(rt: HostRuntime) -> Result<(), Fail> {
+    let alloc = rt.alloc();
+    let texts = text_is_copied(alloc)?;
+    let paths = path_is_copied(alloc)?;
+    let names = names_are_copied(alloc)?;
+    let patches = patches_are_copied(alloc)?;
+    assert_eq!(rt; (texts, paths, names, patches), (true, true, true, true));
     Ok(())
 }
 
-fn script(alloc: Global) -> Result<Script, Fail> {
+fn script(alloc: Global) -> Result<Script, NoMemory> {
     let mut script = Script::new(alloc);
     for (number, op) in [(1, Op::Mount), (2, create_a(alloc)?), (3, create_a(alloc)?)] {
         script.push(Line {
@@ -66,7 +84,19 @@ fn script(alloc: Global) -> Result<Script, Fail> {
             what: What::Server(op),
         })?;
     }
-    Ok(script.try_copy()?)
+    script.try_copy()
+}
+
+// What a history leaves of a fresh tree, as it is said.
+fn left_tree(alloc: Global, history: &History) -> Result<Vec<u8>, NoMemory> {
+    let mut text = Vec::new(alloc);
+    if history.is_simple() {
+        let tree = history.tree(&Tree::fresh(alloc, 16)?)?;
+        for line in &tree.lines()? {
+            write_line(alloc, line, &mut text)?;
+        }
+    }
+    Ok(text)
 }
 
 #[test]
@@ -80,18 +110,19 @@ fn a_history_leaves_a_tree(rt: HostRuntime) -> Result<(), Fail> {
     ];
     let history = History::live(alloc, &script, 1, &said)?;
     assert_eq!(rt; history.as_slice().len(), 3);
-    let is_simple = history.is_simple();
-    assert!(rt; is_simple);
-    let tree = history.tree(&Tree::fresh(alloc, 16)?)?;
-    let mut text = Vec::new(alloc);
-    for line in &tree.lines()? {
-        write_line(alloc, line, &mut text)?;
-    }
+    let text = left_tree(alloc, &history)?;
     assert_eq!(rt; text.as_slice(), b"= / dir 1\n= /a file 0 1\n".as_slice());
+    Ok(())
+}
 
-    let mut tree = tree.try_copy()?;
-    let reply = tree.apply(&create_a(alloc)?, OpNo(9), 0)?;
-    let is_refused = matches!(reply, Reply::Exist);
-    assert!(rt; is_refused);
+#[test]
+fn a_tree_is_changed(rt: HostRuntime) -> Result<(), Fail> {
+    let alloc = rt.alloc();
+    let mut tree = Tree::fresh(alloc, 16)?.try_copy()?;
+    let create = create_a(alloc)?;
+    let first = tree.apply(&create, OpNo(1), 0)?;
+    let second = tree.apply(&create, OpNo(2), 0)?;
+    let are_answered = matches!((&first, &second), (Reply::Ok, Reply::Exist));
+    assert!(rt; are_answered);
     Ok(())
 }
