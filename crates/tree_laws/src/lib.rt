@@ -1,0 +1,34 @@
+//! Laws of the file tree and of histories: what their definitions must mean, in the subject's own words. Each is the contract of a
+//! public function with an empty body. They hold for all trees, entries and histories; the layers above rest on them, and cite the lemmas
+//! of `proofs/` that say the same over plain variables.
+#![tactic(auto)]
+
+ghost use Rattle.tree_laws.specs.Histories.{EntrySettles, RecoverySettles, EntryActs, EntryIsLegal, EntryKeeps, RecoveryKeeps, StepsFollow, LegalByParts};
+ghost use Rattle.tree_laws.specs.Prefixes.{PrefixesAreTranscripts, EachMayBeSaid, GoesOnByALine, LineAdds};
+ghost use Rattle.tree_laws.specs.Refusals.{RefusalsLeaveTheTree, LooksLeaveTheTree};
+
+/// An answer other than `ok` leaves the tree, and a look leaves it whatever it is answered.
+pub fn a_refusal_leaves_the_tree()
+    ensures refusals { RefusalsLeaveTheTree }
+    ensures looks { LooksLeaveTheTree }
+{}
+
+/// Settling, the tree, legality and what must be kept go along a history from the left, one item at a time.
+pub fn histories_go_from_the_left()
+    ensures entry { EntrySettles }
+    ensures recovery { RecoverySettles }
+    ensures tree { EntryActs }
+    ensures legal { EntryIsLegal }
+    ensures keeps { EntryKeeps }
+    ensures recovery_keeps { RecoveryKeeps }
+    ensures steps { StepsFollow }
+    ensures parts { LegalByParts }
+{}
+
+/// What begins a transcript is one, and each line adds to the live history what it says.
+pub fn transcripts_are_closed_under_prefixes()
+    ensures prefix { PrefixesAreTranscripts }
+    ensures each { EachMayBeSaid }
+    ensures longer { GoesOnByALine }
+    ensures adds { LineAdds }
+{}
