@@ -1,3 +1,4 @@
+pub mod Pairs
 pub mod Refusals
 pub mod HistoryLaws
 pub mod TranscriptLaws
