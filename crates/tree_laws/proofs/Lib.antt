@@ -1,4 +1,6 @@
 pub mod Pairs
+pub mod Nodes
+pub mod Places
 pub mod Refusals
 pub mod HistoryLaws
 pub mod TranscriptLaws

@@ -1,3 +1,5 @@
 pub mod Refusals
 pub mod Histories
 pub mod Prefixes
+pub mod WellFormed
+pub mod Touching
