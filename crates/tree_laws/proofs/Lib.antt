@@ -3,6 +3,8 @@ pub mod Nodes
 pub mod Sameness
 pub mod Replies
 pub mod Places
+pub mod Joint
+pub mod Acting
 pub mod Refusals
 pub mod HistoryLaws
 pub mod TranscriptLaws
