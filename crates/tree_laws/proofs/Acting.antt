@@ -79,7 +79,7 @@ by_kind None b k s t = cc
 by_kind (Some x) None k s t = cc
 
 module _ (one two : FileTree) where
-  made_matches : (birth : ℕ) (node : Node) → IsNew one birth → IsNew two birth → (p : Place) → Stands one p → Stands two p → Matches one two (made one birth node p) (made two birth node p)
+  pub made_matches : (birth : ℕ) (node : Node) → IsNew one birth → IsNew two birth → (p : Place) → Stands one p → Stands two p → Matches one two (made one birth node p) (made two birth node p)
   made_matches birth node new_one new_two Root s t = both_say one two reply.Exist
   made_matches birth node new_one new_two (Nowhere r) s t = both_say one two r
   made_matches birth node new_one new_two (Taken dir es n name b) s t = both_say one two reply.Exist
@@ -147,17 +147,17 @@ module _ (one two : FileTree) where
     same_dir b s t = by_kind (node_at one b) (node_at two b) (kinds b) s t
 
     module _ (dir : ℕ) (es : Entries) (n : ℕ) (name : List ℕ) (b : ℕ) (s : Stands one (Taken dir es n name b)) (t : Stands two (Taken dir es n name b)) where
-      some_one : is_some (node_at one b) ≡ true
+      pub some_one : is_some (node_at one b) ≡ true
       some_one = alive_one dir es n name b s.0 s.1
 
-      some_two : is_some (node_at two b) ≡ true
+      pub some_two : is_some (node_at two b) ≡ true
       some_two = alive_two dir es n name b t.0 t.1
 
-      dir_alike : is_dir (node_at one b) ≡ is_dir (node_at two b)
+      pub dir_alike : is_dir (node_at one b) ≡ is_dir (node_at two b)
       dir_alike = same_dir b some_one some_two
 
       -- link, from a name that is there
-      link_taken : (q p : Place) → Stands one q → Stands two p → (is_dir (node_at one b) ≡ false → p ≡ q)
+      pub link_taken : (q p : Place) → Stands one q → Stands two p → (is_dir (node_at one b) ≡ false → p ≡ q)
           → ((linked one (Taken dir es n name b) q).answer ≡ Plain reply.MLink → is_dir (node_at one b) ≡ false → node_at one b ≡ node_at two b)
           → ((linked one (Taken dir es n name b) q).answer ≡ Plain reply.DirFull → is_dir (node_at one b) ≡ false → node_at one b ≡ node_at two b)
           → ((node_at one b ≡ node_at two b) ⊎ (node_at (linked one (Taken dir es n name b) q).tree b ≡ node_at one b))
@@ -190,17 +190,11 @@ module _ (one two : FileTree) where
       fewer_same u births (Some x) i some (inl e) = e
       fewer_same u births (Some x) i some (inr e) = absurd (fewer_differs u b x births (e ∙ i))
 
-      unlink_taken : BirthsAscend one → BirthsAscend two
+      pub unlink_taken : BirthsAscend one → BirthsAscend two
           → ((node_at one b ≡ node_at two b) ⊎ (node_at (unlinked one (Taken dir es n name b)).tree b ≡ node_at one b))
           → Matches one two (unlinked one (Taken dir es n name b)) (unlinked two (Taken dir es n name b))
       unlink_taken births_one births_two l = go (is_dir (node_at one b)) refl l
         where
-          u : FileTree
-          u = one_link_fewer (with_node one dir (Dir (without_entry es name) n)) b (node_at one b)
-
-          v : FileTree
-          v = one_link_fewer (with_node two dir (Dir (without_entry es name) n)) b (node_at two b)
-
           go : (c : Bool) → is_dir (node_at one b) ≡ c → ((node_at one b ≡ node_at two b) ⊎ (node_at (cond {A = Applied} c (says one reply.IsDir) (says (one_link_fewer (with_node one dir (Dir (without_entry es name) n)) b (node_at one b)) reply.Ok)).tree b ≡ node_at one b))
               → Matches one two (cond {A = Applied} c (says one reply.IsDir) (says (one_link_fewer (with_node one dir (Dir (without_entry es name) n)) b (node_at one b)) reply.Ok)) (cond {A = Applied} (is_dir (node_at two b)) (says two reply.IsDir) (says (one_link_fewer (with_node two dir (Dir (without_entry es name) n)) b (node_at two b)) reply.Ok))
           go true i l = subst (λ d. Matches one two (says one reply.IsDir) (cond {A = Applied} d (says two reply.IsDir) (says (one_link_fewer (with_node two dir (Dir (without_entry es name) n)) b (node_at two b)) reply.Ok))) (sym i ∙ dir_alike) (both_say one two reply.IsDir)
@@ -208,7 +202,7 @@ module _ (one two : FileTree) where
               (fewer_matches births_one births_two (fewer_same (with_node one dir (Dir (without_entry es name) n)) (ascend_with one dir (Dir (without_entry es name) n) births_one) (node_at one b) refl some_one l) (node_at one b) refl)
 
       -- rmdir, where the name is there
-      rmdir_taken : BirthsAscend one → BirthsAscend two → (is_dir (node_at one b) ≡ true → node_at one b ≡ node_at two b)
+      pub rmdir_taken : BirthsAscend one → BirthsAscend two → (is_dir (node_at one b) ≡ true → node_at one b ≡ node_at two b)
           → Matches one two (dir_removed one (Taken dir es n name b)) (dir_removed two (Taken dir es n name b))
       rmdir_taken births_one births_two same = go (is_dir (node_at one b)) refl
         where

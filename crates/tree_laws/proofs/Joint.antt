@@ -102,6 +102,10 @@ module _ (one two : FileTree) where
   both_if true x y p q m n = m
   both_if false x y p q m n = n
 
+  pub if_known : (b : Bool) (x y p q : Applied) → (b ≡ true → Matches x p) → (b ≡ false → Matches y q) → Matches (cond b x y) (cond b p q)
+  if_known true x y p q m n = m refl
+  if_known false x y p q m n = n refl
+
   pub if_room : (b c : Bool) (r s : Reply) (x y : Applied) → is_nospace r ≡ true → is_nospace s ≡ true → Matches x y → Matches (cond b (says one r) x) (cond c (says two s) y)
   if_room true c r s x y h g m = record { alike = λ e f. absurd (cc) }
   if_room false true r s x y h g m = record { alike = λ e f. absurd (cc) }

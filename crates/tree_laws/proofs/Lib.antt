@@ -5,6 +5,7 @@ pub mod Replies
 pub mod Places
 pub mod Joint
 pub mod Acting
+pub mod Renaming
 pub mod Refusals
 pub mod HistoryLaws
 pub mod TranscriptLaws
