@@ -6,6 +6,7 @@ pub mod Places
 pub mod Joint
 pub mod Acting
 pub mod Renaming
+pub mod Asking
 pub mod Refusals
 pub mod HistoryLaws
 pub mod TranscriptLaws

@@ -56,6 +56,10 @@ tail_is_in b c bs h = go (nat_eq c b)
     go true = refl
     go false = h
 
+pub dir_is_some : (o : Option Node) → is_dir o ≡ true → is_some o ≡ true
+dir_is_some (Some x) d = refl
+dir_is_some None d = cc
+
 -- a walk from a node on, in both trees
 pub record SameWalk (one two : FileTree) (b : ℕ) (path : List (List ℕ)) : Type 0 where
   pub place : place_from two b path ≡ place_from one b path
@@ -98,10 +102,6 @@ module _ (one two : FileTree) (kinds : SameKinds one two) (alive_one : EntriesNa
   same_walk_from (name ∷ next ∷ names) b s t same =
       let r = first_name (next ∷ names) (same_walk_from (next ∷ names)) b name (node_at one b) (node_at two b) refl refl s t same in
       record { place = r.2; walked = r.1 }
-
-  pub dir_is_some : (o : Option Node) → is_dir o ≡ true → is_some o ≡ true
-  dir_is_some (Some x) d = refl
-  dir_is_some None d = cc
 
   pub same_walk : IsRooted one → IsRooted two → (path : List (List ℕ)) → ((d : ℕ) → is_in d (walked one path) ≡ true → node_at one d ≡ node_at two d) → SameWalk one two 0 path
   same_walk root_one root_two path same = same_walk_from path 0 (dir_is_some (node_at one 0) root_one) (dir_is_some (node_at two 0) root_two) same
