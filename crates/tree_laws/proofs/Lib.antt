@@ -7,6 +7,7 @@ pub mod Joint
 pub mod Acting
 pub mod Renaming
 pub mod Asking
+pub mod Applying
 pub mod Refusals
 pub mod HistoryLaws
 pub mod TranscriptLaws
