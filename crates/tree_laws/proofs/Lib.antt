@@ -8,6 +8,7 @@ pub mod Acting
 pub mod Renaming
 pub mod Asking
 pub mod Applying
+pub mod Untouched
 pub mod Refusals
 pub mod HistoryLaws
 pub mod TranscriptLaws

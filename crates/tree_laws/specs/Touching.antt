@@ -10,7 +10,7 @@ use Rattle.tree_definitions.specs.Tree.{FileTree, node_at}
 use Rattle.tree_definitions.specs.Apply.{Answer, Plain, Shows, apply}
 use Rattle.tree_definitions.specs.History.{applied, is_answer, tree_after, Settled, Stays, InDoubt, after_all}
 use Rattle.tree_definitions.specs.Touched.{touches, changes, is_nospace}
-use Rattle.tree_laws.specs.WellFormed.{IsWellFormed, IsNew}
+use Rattle.tree_laws.specs.WellFormed.{IsWalkable, IsNew}
 
 -- the kind of a node, which an entry of a directory shows
 pub data Kind : Type 0 where
@@ -52,7 +52,7 @@ pub record DoesAlike (one two : FileTree) (e : Entry) : Type 0 where
 
 -- an entry that is answered in one tree does the same in another that agrees with it on what it touches, unless there is want of room
 abbrev pub GoesByWhatItTouches : Type 0
-GoesByWhatItTouches = (one two : FileTree) (e : Entry) → IsWellFormed one → IsWellFormed two → SameKinds one two → IsNew one e.number.0 → IsNew two e.number.0
+GoesByWhatItTouches = (one two : FileTree) (e : Entry) → IsWalkable one → IsWalkable two → SameKinds one two → IsNew one e.number.0 → IsNew two e.number.0
     → is_answer one e ≡ true → wants_room (applied one e).answer ≡ false → wants_room (applied two e).answer ≡ false → AgreeWhereTouched one two e → DoesAlike one two e
 
 -- what an entry doesn't touch stays

@@ -58,6 +58,12 @@ pub record IsWellFormed (tree : FileTree) : Type 0 where
 abbrev pub EntriesNameNodes : FileTree → Type 0
 EntriesNameNodes tree = (dir : ℕ) (entries : Entries) (blocks : ℕ) (name : List ℕ) (birth : ℕ) → node_at tree dir ≡ Some (Dir entries blocks) → entry_at entries name ≡ Some birth → is_some (node_at tree birth) ≡ true
 
+-- what a walk needs of a tree: births ascend, the root is a directory, and entries name nodes
+pub record IsWalkable (tree : FileTree) : Type 0 where
+  pub births : BirthsAscend tree
+  pub rooted : IsRooted tree
+  pub entries : EntriesNameNodes tree
+
 -- no node has this birth
 abbrev pub IsNew : FileTree → ℕ → Type 0
 IsNew tree birth = node_at tree birth ≡ None
@@ -93,6 +99,6 @@ ApplyKeepsWellFormed = (tree : FileTree) (op : Op) (birth m : ℕ) → IsWellFor
 abbrev pub StepsKeepWellFormed : Type 0
 StepsKeepWellFormed = (tree : FileTree) (list : List Settled) → IsWellFormed tree → AreNew tree list → IsWellFormed (after_all tree list)
 
--- in a well-formed tree each entry names a node
-abbrev pub WellFormedNamesNodes : Type 0
-WellFormedNamesNodes = (tree : FileTree) → IsWellFormed tree → EntriesNameNodes tree
+-- a well-formed tree has what a walk needs
+abbrev pub WellFormedIsWalkable : Type 0
+WellFormedIsWalkable = (tree : FileTree) → IsWellFormed tree → IsWalkable tree
