@@ -83,7 +83,7 @@ pub record AgreeOn (one two : FileTree) (o : Op) (r : Reply) (a : Applied) : Typ
 
 module _ (one two : FileTree) (g : Grounds one two) where
   -- the walks of one path are the same
-  walks : (path : List (List ℕ)) → ((b : ℕ) → is_in b (walked one path) ≡ true → node_at one b ≡ node_at two b) → SameWalk one two 0 path
+  pub walks : (path : List (List ℕ)) → ((b : ℕ) → is_in b (walked one path) ≡ true → node_at one b ≡ node_at two b) → SameWalk one two 0 path
   walks path same = same_walk one two g.kinds g.alive_one g.alive_two g.root_one g.root_two path same
 
   -- what is done at a place is done at that of the second tree

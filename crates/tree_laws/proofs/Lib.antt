@@ -9,6 +9,7 @@ pub mod Renaming
 pub mod Asking
 pub mod Applying
 pub mod Untouched
+pub mod Looking
 pub mod Refusals
 pub mod HistoryLaws
 pub mod TranscriptLaws
