@@ -40,7 +40,7 @@ in_right b [] ys h = h
 in_right b (x ∷ xs) ys h = or_second (x == b) (is_in b (xs ++ ys)) (in_right b xs ys h)
 
 -- a second walk is made
-then_after_any : (tree : FileTree) (c : ℕ) (o : Option Node) (to : List (List ℕ)) → is_some o ≡ true → then_walked tree (reached_if any_node c o) to ≡ walked tree to
+pub then_after_any : (tree : FileTree) (c : ℕ) (o : Option Node) (to : List (List ℕ)) → is_some o ≡ true → then_walked tree (reached_if any_node c o) to ≡ walked tree to
 then_after_any tree c (Some x) to s = refl
 then_after_any tree c None to s = cc
 

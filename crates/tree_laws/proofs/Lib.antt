@@ -10,6 +10,8 @@ pub mod Asking
 pub mod Applying
 pub mod Untouched
 pub mod Looking
+pub mod Alike
+pub mod Balance
 pub mod Refusals
 pub mod HistoryLaws
 pub mod TranscriptLaws

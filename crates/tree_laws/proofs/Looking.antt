@@ -15,7 +15,7 @@ use Rattle.tree_definitions.specs.Touched.{looked_in, further, reached, reached_
 use Rattle.tree_laws.specs.Touching.{Kind, OfDirectory, OfFile, OfLink, kind_of}
 use Rattle.tree_laws.proofs.Places.{Stands, place_stands, dir_is_some, is_in}
 use Rattle.tree_laws.proofs.Asking.{Grounds}
-use Rattle.tree_laws.proofs.Applying.{AgreeOn, walks, in_left, in_right}
+use Rattle.tree_laws.proofs.Applying.{AgreeOn, walks, in_left, in_right, then_after_any}
 
 -- tests that go by the kind alone
 abbrev any_kind : Kind → Bool
@@ -145,3 +145,60 @@ module _ (one two : FileTree) (g : Grounds one two) where
     looked_same (op.CrashAt k) h = refl
     looked_same (op.CutAt k) h = refl
     looked_same op.Stall h = refl
+
+  -- a rename that is answered `notempty` has walked both its paths
+  module _ (n : List ℕ) (ns : List (List ℕ)) (m : List ℕ) (ms : List (List ℕ)) where
+    second_walk : (h : AgreeOn one two (op.Rename (n ∷ ns) (m ∷ ms)) reply.NotEmpty (renamed_from one (place one (n ∷ ns)) (m ∷ ms))) → (p : Place) → Stands one p → refused_well p ≡ true → p ≡ place one (n ∷ ns)
+        → (b : ℕ) → is_in b (walked one (m ∷ ms)) ≡ true → node_at one b ≡ node_at two b
+    second_walk h Root s w e b i = absurd (let z : agrees (renamed_from one Root (m ∷ ms)).answer reply.NotEmpty ≡ true = subst (λ p. agrees (renamed_from one p (m ∷ ms)).answer reply.NotEmpty ≡ true) (sym e) h.told in cc)
+    second_walk h (Free dir es k name) s w e b i = absurd (let z : agrees (renamed_from one (Free dir es k name) (m ∷ ms)).answer reply.NotEmpty ≡ true = subst (λ p. agrees (renamed_from one p (m ∷ ms)).answer reply.NotEmpty ≡ true) (sym e) h.told in cc)
+    second_walk h (Nowhere q) s w e b i = absurd (not_told q w (subst (λ p. agrees (renamed_from one p (m ∷ ms)).answer reply.NotEmpty ≡ true) (sym e) h.told))
+      where
+        not_told : (q : Reply) → is_walk_reply q ≡ true → agrees (Plain q) reply.NotEmpty ≡ true → ⊥
+        not_told reply.NoEnt w z = cc
+        not_told reply.NotDir w z = cc
+        not_told _ w z = cc
+    second_walk h (Taken dir es k name c) s w e b i =
+        h.looked b (in_right b (walked one (n ∷ ns)) (then_walked one (reached one any_node (place one (n ∷ ns))) (m ∷ ms))
+          (subst (λ p. is_in b (then_walked one (reached one any_node p) (m ∷ ms)) ≡ true) e
+            (subst (λ l. is_in b l ≡ true) (sym (then_after_any one c (node_at one c) (m ∷ ms) (g.alive_one dir es k name c s.0 s.1))) i)))
+
+  rename_further : (path to : List (List ℕ)) (birth k : ℕ) → AgreeOn one two (op.Rename path to) reply.NotEmpty (apply one (op.Rename path to) birth k) → reached two dir_node (place two to) ≡ reached one dir_node (place one to)
+  rename_further [] to birth k h = absurd (let z = h.told in cc)
+  rename_further (n ∷ ns) [] birth k h = absurd (let z = h.told in cc)
+  rename_further (n ∷ ns) (m ∷ ms) birth k h = reached_same (m ∷ ms) (second_walk n ns m ms h (place one (n ∷ ns)) (place_stands one (n ∷ ns)) (well_refused one 0 (n ∷ ns)) refl) dir_node dir_kind dir_by
+
+  link_further : (path to : List (List ℕ)) (r : Reply) → ((b : ℕ) → is_in b (walked one path) ≡ true → node_at one b ≡ node_at two b) → further two (op.Link path to) r ≡ further one (op.Link path to) r
+  link_further path to reply.MLink same = reached_same path same any_node any_kind (λ x. refl)
+  link_further path to reply.DirFull same = reached_same path same any_node any_kind (λ x. refl)
+  link_further path to reply.NoDirBlock same = reached_same path same any_node any_kind (λ x. refl)
+  link_further path to _ same = refl
+
+  rename_further_by : (path to : List (List ℕ)) (r : Reply) (birth k : ℕ) → AgreeOn one two (op.Rename path to) r (apply one (op.Rename path to) birth k) → further two (op.Rename path to) r ≡ further one (op.Rename path to) r
+  rename_further_by path to reply.NotEmpty birth k h = rename_further path to birth k h
+  rename_further_by path to _ birth k h = refl
+
+  pub further_same : (o : Op) (r : Reply) (birth k : ℕ) → AgreeOn one two o r (apply one o birth k) → further two o r ≡ further one o r
+  further_same (op.Create path) r birth k h = refl
+  further_same (op.Mkdir path) r birth k h = refl
+  further_same (op.Symlink path target) r birth k h = refl
+  further_same (op.Link path to) r birth k h = link_further path to r (λ b i. h.looked b (in_left b (walked one path) (then_walked one (reached one (λ n. not (dir_node n)) (place one path)) to) i))
+  further_same (op.Unlink path) r birth k h = refl
+  further_same (op.Rmdir []) r birth k h = refl
+  further_same (op.Rmdir (n ∷ ns)) r birth k h = reached_same (n ∷ ns) h.looked dir_node dir_kind dir_by
+  further_same (op.Rename path to) r birth k h = rename_further_by path to r birth k h
+  further_same (op.Write path off bytes) r birth k h = reached_same path h.looked file_node file_kind file_by
+  further_same (op.Fill path off len byte) r birth k h = reached_same path h.looked file_node file_kind file_by
+  further_same (op.Truncate path len) r birth k h = reached_same path h.looked file_node file_kind file_by
+  further_same (op.Read path off len) r birth k h = reached_same path h.looked file_node file_kind file_by
+  further_same (op.Stat path) r birth k h = reached_same path h.looked any_node any_kind (λ x. refl)
+  further_same (op.List path) r birth k h = reached_same path h.looked dir_node dir_kind dir_by
+  further_same (op.Readlink path) r birth k h = reached_same path h.looked link_node link_kind link_by
+  further_same (op.Time path) r birth k h = reached_same path h.looked any_node any_kind (λ x. refl)
+  further_same op.Sync r birth k h = refl
+  further_same op.Mount r birth k h = refl
+  further_same op.Unmount r birth k h = refl
+  further_same op.Crash r birth k h = refl
+  further_same (op.CrashAt n) r birth k h = refl
+  further_same (op.CutAt n) r birth k h = refl
+  further_same op.Stall r birth k h = refl

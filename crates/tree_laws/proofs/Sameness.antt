@@ -63,7 +63,7 @@ where_sound (Some a) None h = cc
 where_sound None (Some b) h = cc
 where_sound None None h = refl
 
-where_same : (a : Option Node) → same_where a a ≡ true
+pub where_same : (a : Option Node) → same_where a a ≡ true
 where_same (Some a) = node_same a
 where_same None = refl
 

@@ -5,12 +5,21 @@
 
 ghost use Rattle.tree_laws.specs.Histories.{EntrySettles, RecoverySettles, EntryActs, EntryIsLegal, EntryKeeps, RecoveryKeeps, StepsFollow, LegalByParts};
 ghost use Rattle.tree_laws.specs.Prefixes.{PrefixesAreTranscripts, EachMayBeSaid, GoesOnByALine, LineAdds};
+ghost use Rattle.tree_laws.specs.Touching.{GoesByWhatItTouches, UntouchedStays};
 ghost use Rattle.tree_laws.specs.Refusals.{RefusalsLeaveTheTree, LooksLeaveTheTree};
 
 /// An answer other than `ok` leaves the tree, and a look leaves it whatever it is answered.
 pub fn a_refusal_leaves_the_tree()
     ensures refusals { RefusalsLeaveTheTree }
     ensures looks { LooksLeaveTheTree }
+{}
+
+/// An entry that is answered in one tree is answered alike in another, touches and changes the same nodes there and makes the same of
+/// them, where both can be walked, nodes of one birth are of one kind, its number is no node's, the trees agree on what it touches in the
+/// first, and neither answer is for want of room. What it doesn't touch stays.
+pub fn apply_goes_by_what_it_touches()
+    ensures alike { GoesByWhatItTouches }
+    ensures untouched { UntouchedStays }
 {}
 
 /// Settling, the tree, legality and what must be kept go along a history from the left, one item at a time.

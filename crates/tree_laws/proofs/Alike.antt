@@ -1,0 +1,134 @@
+-- An entry does the same in two trees that agree on what it touches.
+use Rattle.std.proofs.Common.{ℕ, ◌≡◌, ◌==◌, Bool, true, false, ◌&&◌, ◌||◌, not, Option, Some, None, List, [], ◌∷◌, ◌++◌, map, cond, refl, sym, ◌∙◌, ap, ap₂, subst, inl, inr, ◌⊎◌, ⊎_elim, is_some}
+use Rattle.std.proofs.lemmas.Bool.{and_parts}
+use Rattle.frang_base.specs.declared.op.Op.{Op}
+use Rattle.frang_base.specs.declared.op.Op.TheVariants as op
+use Rattle.frang_base.specs.declared.reply.Reply.{Reply}
+use Rattle.frang_base.specs.declared.reply.Reply.TheVariants as reply
+use Rattle.tree_definitions.specs.declared.cells.Cell.{Cell}
+use Rattle.tree_definitions.specs.declared.cells.Cell.TheVariants.{Byte}
+use Rattle.tree_definitions.specs.declared.history.Entry.{Entry}
+use Rattle.tree_definitions.specs.declared.node.Node.{Node}
+use Rattle.tree_definitions.specs.declared.node.Node.TheVariants.{Dir, File, Link}
+use Rattle.tree_definitions.specs.Tree.{FileTree, node_at, with_node}
+use Rattle.tree_definitions.specs.Place.{Place, Root, Taken, Free, Nowhere, place}
+use Rattle.tree_definitions.specs.Apply.{Applied, apply, overwritten, is_path_op}
+use Rattle.tree_definitions.specs.History.{applied, is_answer, agrees, told_blocks, leaves_tree, tree_after, after_read, with_shown, file_at, file_of}
+use Rattle.tree_definitions.specs.Touched.{touches, changes, differs, same_where, looked_in, further, reached, file_node}
+use Rattle.tree_laws.specs.Refusals.{is_look}
+use Rattle.tree_laws.specs.WellFormed.{IsNew, IsWalkable}
+use Rattle.tree_laws.specs.Touching.{SameKinds, wants_room, AgreeWhereTouched, DoesAlike, Kind, OfDirectory, OfFile, OfLink}
+use Rattle.tree_laws.proofs.Sameness.{differs_or_not, where_same}
+use Rattle.tree_laws.proofs.Places.{is_in, Stands, place_stands, dir_is_some}
+use Rattle.tree_laws.proofs.Refusals.{looks_leave}
+use Rattle.tree_laws.proofs.Joint.{Both, Joint, Alike, Matches, joint_none, joint_with, joint_same}
+use Rattle.tree_laws.proofs.Asking.{Grounds}
+use Rattle.tree_laws.proofs.Applying.{AgreeOn, walks, in_left, in_right, apply_matches}
+use Rattle.tree_laws.proofs.Looking.{looked_same, further_same}
+use Rattle.tree_laws.proofs.Untouched.{looked_is_touched, changed_is_touched, file_at_reached, untouched_stays}
+
+-- one node in two trees differs alike
+differs_alike : (a b c d : Option Node) → Both a b c d → (same_where a a ≡ true) → (same_where b b ≡ true) → not (same_where a c) ≡ not (same_where b d)
+differs_alike a b c d (inl p) s t = ap₂ (λ x y. not (same_where x y)) p.0 p.1
+differs_alike a b c d (inr p) s t = ap (λ x. not (same_where a x)) p.0 ∙ ap not s ∙ sym (ap (λ x. not (same_where b x)) p.1 ∙ ap not t)
+
+module _ (one two : FileTree) (e : Entry) (walk_one : IsWalkable one) (walk_two : IsWalkable two) (kinds : SameKinds one two) (new_one : IsNew one e.number.0) (new_two : IsNew two e.number.0)
+    (answered : is_answer one e ≡ true) (room_one : wants_room (applied one e).answer ≡ false) (room_two : wants_room (applied two e).answer ≡ false) (agree : AgreeWhereTouched one two e) where
+  grounds : Grounds one two
+  grounds = record { births_one = walk_one.births; births_two = walk_two.births; alive_one = walk_one.entries; alive_two = walk_two.entries; root_one = walk_one.rooted; root_two = walk_two.rooted; kinds = kinds }
+
+  looked_agrees : (b : ℕ) → is_in b (looked_in one e.op) ≡ true → node_at one b ≡ node_at two b
+  looked_agrees b i = agree b (looked_is_touched one e b answered (in_left b (looked_in one e.op) (further one e.op e.reply) i))
+
+  further_agrees : (b : ℕ) → is_in b (further one e.op e.reply) ≡ true → node_at one b ≡ node_at two b
+  further_agrees b i = agree b (looked_is_touched one e b answered (in_right b (looked_in one e.op) (further one e.op e.reply) i))
+
+  left_or_same : (b : ℕ) → (node_at one b ≡ node_at two b) ⊎ (node_at (applied one e).tree b ≡ node_at one b)
+  left_or_same b = ⊎_elim (λ d. inl (agree b (changed_is_touched one e b answered d))) (λ s. inr (sym s)) (differs_or_not one (applied one e).tree b)
+
+  agree_on : AgreeOn one two e.op e.reply (applied one e)
+  agree_on = record { looked = looked_agrees; further = further_agrees; left = left_or_same; told = (and_parts (is_path_op e.op) (agrees (applied one e).answer e.reply) answered).1 }
+
+  alike : Alike one two (applied one e) (applied two e)
+  alike = (apply_matches one two grounds e.number.0 new_one new_two (told_blocks one e.reply) (told_blocks two e.reply) e.reply e.op agree_on).alike room_one room_two
+
+  answered_two : is_answer two e ≡ true
+  answered_two = ap (λ a. is_path_op e.op && agrees a e.reply) (sym alike.answer) ∙ answered
+
+  differs_same : (b : ℕ) → differs one (applied one e).tree b ≡ differs two (applied two e).tree b
+  differs_same b = differs_alike (node_at one b) (node_at two b) (node_at (applied one e).tree b) (node_at (applied two e).tree b) (alike.nodes.each b) (where_same (node_at one b)) (where_same (node_at two b))
+
+  changed_same : (b : ℕ) → changes one e b ≡ changes two e b
+  changed_same b = ap₂ (λ x y. x && y) (answered ∙ sym answered_two) (differs_same b)
+
+  touched_same : (b : ℕ) → touches one e b ≡ touches two e b
+  touched_same b = ap₂ (λ x y. x && y) (answered ∙ sym answered_two)
+      (ap₂ (λ c l. c || is_in b l) (changed_same b) (ap₂ (λ w v. w ++ v) (sym (looked_same one two grounds e.reply (applied one e) e.op agree_on)) (sym (further_same one two grounds e.op e.reply e.number.0 (told_blocks one e.reply) agree_on))))
+
+  -- the file that a read showed
+  file_of_same : (b : ℕ) (o q : Option Node) → node_at one b ≡ o → node_at two b ≡ q → is_some o ≡ true → is_some q ≡ true → ((f : ℕ × (List Cell × ℕ)) → file_of b o ≡ Some f → node_at one b ≡ node_at two b) → file_of b q ≡ file_of b o
+  file_of_same b (Some (File cells links)) q i j s t same = ap (file_of b) (sym (sym i ∙ same (b, (cells, links)) refl ∙ j))
+  file_of_same b (Some (Dir es n)) (Some (Dir fs m)) i j s t same = refl
+  file_of_same b (Some (Dir es n)) (Some (File fs m)) i j s t same = absurd (let k : OfDirectory ≡ OfFile = kinds b (Dir es n) (File fs m) i j in cc)
+  file_of_same b (Some (Dir es n)) (Some (Link fs m)) i j s t same = refl
+  file_of_same b (Some (Link es n)) (Some (Dir fs m)) i j s t same = refl
+  file_of_same b (Some (Link es n)) (Some (File fs m)) i j s t same = absurd (let k : OfLink ≡ OfFile = kinds b (Link es n) (File fs m) i j in cc)
+  file_of_same b (Some (Link es n)) (Some (Link fs m)) i j s t same = refl
+  file_of_same b None q i j s t same = absurd (cc)
+  file_of_same b (Some (Dir es n)) None i j s t same = absurd (cc)
+  file_of_same b (Some (Link es n)) None i j s t same = absurd (cc)
+
+  file_at_same : (p : Place) → Stands one p → Stands two p → ((b : ℕ) → is_in b (reached one file_node p) ≡ true → node_at one b ≡ node_at two b) → file_at two p ≡ file_at one p
+  file_at_same Root s t same = refl
+  file_at_same (Taken dir es n name b) s t same = file_of_same b (node_at one b) (node_at two b) refl refl (walk_one.entries dir es n name b s.0 s.1) (walk_two.entries dir es n name b t.0 t.1)
+      (λ f i. let r = file_at_reached one (Taken dir es n name b) f i in let z : f.0 ≡ b = birth_of b (node_at one b) f i in same b (subst (λ c. is_in c (reached one file_node (Taken dir es n name b)) ≡ true) z r))
+    where
+      birth_of : (b : ℕ) (o : Option Node) (f : ℕ × (List Cell × ℕ)) → file_of b o ≡ Some f → f.0 ≡ b
+      birth_of b (Some (File cells links)) f h = sym (ap (λ o. elim o as (λ x. ℕ) [ None ↦ b | Some g ↦ g.0 ]) h)
+      birth_of b (Some (Dir es n)) f h = cc
+      birth_of b (Some (Link target links)) f h = cc
+      birth_of b None f h = cc
+  file_at_same (Free dir es n name) s t same = refl
+  file_at_same (Nowhere r) s t same = refl
+
+  with_shown_joint : (o : Option (ℕ × (List Cell × ℕ))) (off : ℕ) (bytes : List ℕ) → ((f : ℕ × (List Cell × ℕ)) → o ≡ Some f → node_at one f.0 ≡ node_at two f.0) → Joint one two (with_shown one o off bytes) (with_shown two o off bytes)
+  with_shown_joint None off bytes same = joint_none one two
+  with_shown_joint (Some f) off bytes same = joint_with one two one two (joint_none one two) f.0 (File (overwritten f.1.0 off (map Byte bytes)) f.1.1) (same f refl)
+
+  read_joint : (o : Op) (r : Reply) → e.op ≡ o → e.reply ≡ r → Joint one two (applied one e).tree (applied two e).tree → Joint one two (after_read (applied one e).tree o r) (after_read (applied two e).tree o r)
+  read_joint (op.Read path off len) (reply.Shown bytes) i j h =
+      let look_one : (applied one e).tree ≡ one = looks_leave one e.op e.number.0 (told_blocks one e.reply) (ap is_look i) in
+      let look_two : (applied two e).tree ≡ two = looks_leave two e.op e.number.0 (told_blocks two e.reply) (ap is_look i) in
+      let looked = subst (λ o. (b : ℕ) → is_in b (looked_in one o) ≡ true → node_at one b ≡ node_at two b) i looked_agrees in
+      let found = subst (λ o. (b : ℕ) → is_in b (further one o e.reply) ≡ true → node_at one b ≡ node_at two b) i further_agrees in
+      let walk = walks one two grounds path looked in
+      let file : file_at two (place two path) ≡ file_at one (place one path) = ap (file_at two) walk.place ∙ file_at_same (place one path) (place_stands one path) (subst (Stands two) walk.place (place_stands two path)) found in
+      subst (λ t. Joint one two (with_shown t (file_at t (place t path)) off bytes) (after_read (applied two e).tree (op.Read path off len) (reply.Shown bytes))) (sym look_one)
+      (subst (λ t. Joint one two (with_shown one (file_at one (place one path)) off bytes) (with_shown t (file_at t (place t path)) off bytes)) (sym look_two)
+      (subst (λ f. Joint one two (with_shown one (file_at one (place one path)) off bytes) (with_shown two f off bytes)) (sym file)
+        (with_shown_joint (file_at one (place one path)) off bytes (λ f k. found f.0 (file_at_reached one (place one path) f k)))))
+  read_joint (op.Read path off len) _ i j h = h
+  read_joint _ r i j h = h
+
+  after_joint : Joint one two (tree_after one e) (tree_after two e)
+  after_joint = go (leaves_tree e.op e.reply) (is_answer one e) (is_answer two e) answered answered_two
+    where
+      go : (l a c : Bool) → a ≡ true → c ≡ true → Joint one two (cond l one (cond a (after_read (applied one e).tree e.op e.reply) one)) (cond l two (cond c (after_read (applied two e).tree e.op e.reply) two))
+      go true a c i j = joint_none one two
+      go false true true i j = read_joint e.op e.reply refl refl alike.nodes
+      go false true false i j = absurd (cc)
+      go false false c i j = absurd (cc)
+
+  stays_by : (b : ℕ) → Both (node_at one b) (node_at two b) (node_at (tree_after one e) b) (node_at (tree_after two e) b) → node_at (tree_after one e) b ≡ node_at one b → node_at (tree_after two e) b ≡ node_at two b
+  stays_by b (inl p) s = sym p.1 ∙ s ∙ p.0
+  stays_by b (inr p) s = p.1
+
+  pub does_alike : DoesAlike one two e
+  does_alike = record {
+    answer = alike.answer;
+    touched = touched_same;
+    changed = changed_same;
+    there = λ b t. joint_same one two (tree_after one e) (tree_after two e) after_joint b (agree b t);
+    stays_in_one = λ b f. untouched_stays one e b f;
+    stays_in_two = λ b f. stays_by b (after_joint.each b) (untouched_stays one e b f);
+  }
