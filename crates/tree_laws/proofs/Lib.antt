@@ -12,6 +12,8 @@ pub mod Untouched
 pub mod Looking
 pub mod Alike
 pub mod Balance
+pub mod Keeping
+pub mod WellFormedLaws
 pub mod Refusals
 pub mod HistoryLaws
 pub mod TranscriptLaws
