@@ -14,6 +14,7 @@ pub mod Alike
 pub mod Balance
 pub mod Keeping
 pub mod WellFormedLaws
+pub mod StepsLaws
 pub mod Refusals
 pub mod HistoryLaws
 pub mod TranscriptLaws
