@@ -15,6 +15,9 @@ pub mod Balance
 pub mod Keeping
 pub mod WellFormedLaws
 pub mod StepsLaws
+pub mod KindsLaws
+pub mod FreshLaws
 pub mod Refusals
 pub mod HistoryLaws
 pub mod TranscriptLaws
+pub mod SettlingLaws

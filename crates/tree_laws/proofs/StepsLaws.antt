@@ -137,6 +137,3 @@ pub after_all_keeps : (t : FileTree) (list : List Settled) → IsWellFormed t �
 after_all_keeps t [] w n = w
 after_all_keeps t (s ∷ list) w n = after_all_keeps (after t s) list (after_keeps t s list w n) (are_new_after t s list w n)
 
--- kinds that are told
-abbrev told : (ℕ → Kind) → ℕ → Kind → Type 0
-told kinds b k = k ≡ kinds b

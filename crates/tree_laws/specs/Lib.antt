@@ -3,3 +3,5 @@ pub mod Histories
 pub mod Prefixes
 pub mod WellFormed
 pub mod Touching
+pub mod Kinds
+pub mod Settling

@@ -1,17 +1,18 @@
 -- What holds of every tree: births and names ascend, the root is a directory, and each node has as many names as links.
-use Rattle.std.specs.Prelude.{◌≡◌, ℕ, ◌+◌, Bool, true, ◌==◌, if◌then◌else◌, Option, Some, None, List, [], ◌∷◌, ◌++◌, sum_by, is_some, nat_eq}
+use Rattle.std.specs.Prelude.{◌≡◌, ◌≢◌, ℕ, ◌+◌, Bool, true, ◌==◌, if◌then◌else◌, Option, Some, None, List, [], ◌∷◌, ◌++◌, sum_by, is_some, nat_eq}
 use Rattle.std.specs.List.{AllByRecursion, IsDistinct}
 use Rattle.std.specs.List.Sorted.{IsStrictlySortedBy}
 use Rattle.std.specs.Map.{keys_of, values_of}
 use Rattle.std.specs.Ordering.{nat_cmp}
 use Rattle.std.specs.Cmp.Lexicographic.{slice_cmp}
 use Rattle.frang_base.specs.declared.op.Op.{Op}
+use Rattle.tree_definitions.specs.declared.history.Entry.{Entry}
 use Rattle.tree_definitions.specs.declared.node.Node.{Node}
 use Rattle.tree_definitions.specs.declared.node.Node.TheVariants.{Dir, File, Link}
 use Rattle.tree_definitions.specs.Entries.{Entries, entry_at}
 use Rattle.tree_definitions.specs.Tree.{FileTree, fresh, node_at, with_node, without_node, count_of}
 use Rattle.tree_definitions.specs.Apply.{apply, is_dir, links_of}
-use Rattle.tree_definitions.specs.History.{Settled, Stays, InDoubt, after, after_all}
+use Rattle.tree_definitions.specs.History.{Settled, Stays, InDoubt, after, after_all, tree_after}
 
 -- at this birth this node, or none, and elsewhere the nodes as they are
 abbrev pub put : (ℕ → Option Node) → ℕ → Option Node → ℕ → Option Node
@@ -98,6 +99,18 @@ ApplyKeepsWellFormed = (tree : FileTree) (op : Op) (birth m : ℕ) → IsWellFor
 -- the steps of a list with new numbers leave a well-formed tree so
 abbrev pub StepsKeepWellFormed : Type 0
 StepsKeepWellFormed = (tree : FileTree) (list : List Settled) → IsWellFormed tree → AreNew tree list → IsWellFormed (after_all tree list)
+
+-- an entry with a new number leaves a well-formed tree so, and so does doubt
+abbrev pub StepKeepsWellFormed : Type 0
+StepKeepsWellFormed = (tree : FileTree) (s : Settled) (rest : List Settled) → IsWellFormed tree → AreNew tree (s ∷ rest) → IsWellFormed (after tree s)
+
+-- after a step the numbers of the later entries are new still
+abbrev pub LaterNumbersStayNew : Type 0
+LaterNumbersStayNew = (tree : FileTree) (s : Settled) (rest : List Settled) → IsWellFormed tree → AreNew tree (s ∷ rest) → AreNew (after tree s) rest
+
+-- an entry makes a node at its own number alone
+abbrev pub NodesComeByNumbers : Type 0
+NodesComeByNumbers = (tree : FileTree) (e : Entry) (birth : ℕ) → IsWellFormed tree → IsNew tree e.number.0 → IsNew tree birth → birth ≢ e.number.0 → IsNew (tree_after tree e) birth
 
 -- a well-formed tree has what a walk needs
 abbrev pub WellFormedIsWalkable : Type 0

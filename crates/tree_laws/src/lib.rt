@@ -5,6 +5,9 @@
 
 ghost use Rattle.tree_laws.specs.Histories.{EntrySettles, RecoverySettles, EntryActs, EntryIsLegal, EntryKeeps, RecoveryKeeps, StepsFollow, LegalByParts};
 ghost use Rattle.tree_laws.specs.Prefixes.{PrefixesAreTranscripts, EachMayBeSaid, GoesOnByALine, LineAdds};
+ghost use Rattle.tree_laws.specs.Kinds.{ToldKindsAgree, ApplyKeepsKinds, StepsKeepKinds, KindsCanBeTold};
+ghost use Rattle.tree_laws.specs.WellFormed.{FindsWhatWasPut, MissesWhatWasTaken, FreshIsWellFormed, ApplyKeepsWellFormed, StepKeepsWellFormed, StepsKeepWellFormed, LaterNumbersStayNew, NodesComeByNumbers, WellFormedIsWalkable};
+ghost use Rattle.tree_laws.specs.Settling.{SettledIsOfHistory, SettlesToItself, RecoveryRemovesASuffix, LostIsOfTheServer};
 ghost use Rattle.tree_laws.specs.Touching.{GoesByWhatItTouches, UntouchedStays};
 ghost use Rattle.tree_laws.specs.Refusals.{RefusalsLeaveTheTree, LooksLeaveTheTree};
 
@@ -12,6 +15,29 @@ ghost use Rattle.tree_laws.specs.Refusals.{RefusalsLeaveTheTree, LooksLeaveTheTr
 pub fn a_refusal_leaves_the_tree()
     ensures refusals { RefusalsLeaveTheTree }
     ensures looks { LooksLeaveTheTree }
+{}
+
+/// Births ascend in every tree that grows from the fresh one by entries of new numbers, and so do the names of each directory; the root
+/// stays a directory, and each node has as many names as links. A well-formed tree can be walked: its entries name nodes.
+pub fn trees_stay_well_formed()
+    ensures put { FindsWhatWasPut }
+    ensures taken { MissesWhatWasTaken }
+    ensures fresh { FreshIsWellFormed }
+    ensures apply { ApplyKeepsWellFormed }
+    ensures step { StepKeepsWellFormed }
+    ensures steps { StepsKeepWellFormed }
+    ensures numbers { LaterNumbersStayNew }
+    ensures nodes { NodesComeByNumbers }
+    ensures walkable { WellFormedIsWalkable }
+{}
+
+/// A birth tells the kind of its node: the kind that the entry with this number makes, in every tree of a history and of what a recovery
+/// leaves of it.
+pub fn a_birth_tells_the_kind()
+    ensures agree { ToldKindsAgree }
+    ensures apply { ApplyKeepsKinds }
+    ensures steps { StepsKeepKinds }
+    ensures told { KindsCanBeTold }
 {}
 
 /// An entry that is answered in one tree is answered alike in another, touches and changes the same nodes there and makes the same of
@@ -32,6 +58,15 @@ pub fn histories_go_from_the_left()
     ensures recovery_keeps { RecoveryKeeps }
     ensures steps { StepsFollow }
     ensures parts { LegalByParts }
+{}
+
+/// What settles of a history are entries of it, in their order: without recoveries all of them. A recovery removes nothing, or the first
+/// lost entry after its server's last mount with all later ones of that server, and no others.
+pub fn what_is_settled_is_of_the_history()
+    ensures entries { SettledIsOfHistory }
+    ensures whole { SettlesToItself }
+    ensures removed { RecoveryRemovesASuffix }
+    ensures lost { LostIsOfTheServer }
 {}
 
 /// What begins a transcript is one, and each line adds to the live history what it says.
