@@ -21,3 +21,4 @@ pub mod Refusals
 pub mod HistoryLaws
 pub mod TranscriptLaws
 pub mod SettlingLaws
+pub mod CountLaws

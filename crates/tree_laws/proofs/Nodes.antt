@@ -5,7 +5,7 @@ use Rattle.std.specs.Ordering.{nat_cmp}
 use Rattle.tree_definitions.specs.declared.node.Node.{Node}
 use Rattle.tree_definitions.specs.Tree.{FileTree, node_at, with_node, without_node}
 use Rattle.tree_laws.specs.WellFormed.{put, BirthsAscend}
-use Rattle.tree_laws.proofs.Pairs.{by_test, birth_exact, found_put, found_other, found_left, found_removed, sorted_put, sorted_removed, length_put, length_removed}
+use Rattle.tree_laws.proofs.Pairs.{by_test, birth_exact, found_put, found_other, found_left, found_removed, sorted_put, sorted_removed, length_put, length_kept, length_removed}
 
 pub put_same : (f : ℕ → Option Node) (b : ℕ) (v : Option Node) → put f b v b ≡ v
 put_same f b v = rw (eq-eqb b b refl) refl
@@ -54,3 +54,6 @@ count_with tree b x new = length_put nat_cmp birth_exact tree.nodes b x new
 
 pub count_without : (tree : FileTree) (b : ℕ) (x : Node) → node_at tree b ≡ Some x → length tree.nodes ≡ length (without_node tree b).nodes + 1
 count_without tree b x old = length_removed nat_cmp birth_exact tree.nodes b x old
+
+pub count_kept : (tree : FileTree) (b : ℕ) (x y : Node) → BirthsAscend tree → node_at tree b ≡ Some y → length (with_node tree b x).nodes ≡ length tree.nodes
+count_kept tree b x y births old = length_kept nat_cmp birth_exact tree.nodes b x y births old

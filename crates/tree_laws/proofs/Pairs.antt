@@ -112,6 +112,17 @@ module _ {K X : Type 0} (cmp : K → K → Ordering) (exact : IsExact cmp) where
       go f Equal i = absurd (let z : is_at (cmp k) e.0 ≡ true = ap is_eq i in let y : lookup (is_at (cmp k)) (e ∷ es) ≡ Some e.1 = rw z refl in cc)
       go f Greater i = let z : is_at (cmp k) e.0 ≡ false = ap is_eq i in let y : lookup (is_at (cmp k)) (e ∷ es) ≡ lookup (is_at (cmp k)) es = rw z refl in let r : length (insert_entry cmp es k v) ≡ length es + 1 = f (sym y ∙ h) in omega arith
 
+  -- a key that is there takes the new value, and nothing moves
+  pub length_kept : (es : List (K × X)) (k : K) (v w : X) → IsStrictlySortedBy cmp (keys_of es) → lookup (is_at (cmp k)) es ≡ Some w → length (insert_entry cmp es k v) ≡ length es
+  unfolding IsStrictlySortedBy
+  length_kept [] k v w s h = cc
+  length_kept (e ∷ es) k v w s h = go (λ i. length_kept es k v w s.1 i) (cmp k e.0) refl
+    where
+      go : (lookup (is_at (cmp k)) es ≡ Some w → length (insert_entry cmp es k v) ≡ length es) → (o : Ordering) → cmp k e.0 ≡ o → length (match_ordering o ((k, v) ∷ e ∷ es) ((e.0, v) ∷ es) (e ∷ insert_entry cmp es k v)) ≡ length (e ∷ es)
+      go f Less i = absurd (let z : lookup (is_at (cmp k)) (e ∷ es) ≡ None = none_below (e ∷ es) k (i, below_all cmp exact k e.0 (keys_of es) i s.0) in cc)
+      go f Equal i = refl
+      go f Greater i = let z : is_at (cmp k) e.0 ≡ false = ap is_eq i in let y : lookup (is_at (cmp k)) (e ∷ es) ≡ lookup (is_at (cmp k)) es = rw z refl in let r : length (insert_entry cmp es k v) ≡ length es = f (sym y ∙ h) in omega arith
+
   pub length_removed : (es : List (K × X)) (k : K) (v : X) → lookup (is_at (cmp k)) es ≡ Some v → length es ≡ length (remove_entry (is_at (cmp k)) es) + 1
   length_removed [] k v h = absurd (cc)
   length_removed (e ∷ es) k v h = by_test (λ x. is_at (cmp k) e.0 ≡ is_at (cmp k) e.0 → length (e ∷ es) ≡ length x + 1) es (e ∷ remove_entry (is_at (cmp k)) es) (is_at (cmp k) e.0)

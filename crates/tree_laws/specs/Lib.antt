@@ -5,3 +5,4 @@ pub mod WellFormed
 pub mod Touching
 pub mod Kinds
 pub mod Settling
+pub mod Counts
