@@ -55,12 +55,12 @@ link_by (File cells links) = refl
 link_by (Link target links) = refl
 
 -- a walk is refused as `noent` or `notdir`
-abbrev is_walk_reply : Reply → Bool
+abbrev pub is_walk_reply : Reply → Bool
 is_walk_reply reply.NoEnt = true
 is_walk_reply reply.NotDir = true
 is_walk_reply _ = false
 
-abbrev refused_well : Place → Bool
+abbrev pub refused_well : Place → Bool
 refused_well (Nowhere r) = is_walk_reply r
 refused_well _ = true
 
