@@ -43,17 +43,28 @@ count_put es n k name v b sorted = sum_by-insert_entry (one_at b) nat_list_cmp_t
 pub count_removed : (es : Entries) (n k : ℕ) (name : List ℕ) (b : ℕ) → names_in b (Dir (without_entry es name) k) + at_name b (entry_at es name) ≡ names_in b (Dir es n)
 count_removed es n k name b = sum_by-remove_entry (one_at b) (is_at (slice_cmp nat_cmp name)) es
 
--- each node has a birth and a kind that are allowed
-abbrev pub AreAllowed : (ℕ → Kind → Type 0) → FileTree → Type 0
-AreAllowed A t = (b : ℕ) (z : Node) → node_at t b ≡ Some z → A b (kind_of z)
+-- which births may have nodes of which kinds, and how many blocks a directory has at least
+pub record Limits : Type 1 where
+  pub allowed : ℕ → Kind → Type 0
+  pub least : ℕ → ℕ
+
+-- a node is within these limits
+abbrev pub Within : Limits → ℕ → Node → Type 0
+Within A b (Dir es n) = A.allowed b OfDirectory × (A.least b ≤ n)
+Within A b (File cells links) = A.allowed b OfFile
+Within A b (Link target links) = A.allowed b OfLink
+
+-- each node is
+abbrev pub AreAllowed : Limits → FileTree → Type 0
+AreAllowed A t = (b : ℕ) (z : Node) → node_at t b ≡ Some z → Within A b z
 
 -- a well-formed tree of allowed nodes
-pub record Well (A : ℕ → Kind → Type 0) (t : FileTree) : Type 0 where
+pub record Well (A : Limits) (t : FileTree) : Type 0 where
   pub well : IsWellFormed t
   pub allowed : AreAllowed A t
 
 -- a tree that is well formed but for names and links that are owed: x names, and y links
-pub record Owing (A : ℕ → Kind → Type 0) (t : FileTree) (x y : ℕ → ℕ) : Type 0 where
+pub record Owing (A : Limits) (t : FileTree) (x y : ℕ → ℕ) : Type 0 where
   pub allowed : AreAllowed A t
   pub births : BirthsAscend t
   pub names : NamesAscend t
@@ -63,19 +74,19 @@ pub record Owing (A : ℕ → Kind → Type 0) (t : FileTree) (x y : ℕ → ℕ
 abbrev pub none_owed : ℕ → ℕ
 none_owed b = 0
 
-pub owing_none : (A : ℕ → Kind → Type 0) (t : FileTree) → Well A t → Owing A t none_owed none_owed
+pub owing_none : (A : Limits) (t : FileTree) → Well A t → Owing A t none_owed none_owed
 owing_none A t w = record { allowed = w.allowed; births = w.well.births; names = w.well.names; rooted = w.well.rooted; balance = λ b. (let e : names_of t b + one_at 0 b ≡ links_of (node_at t b) = w.well.links b in omega arith) }
 
-pub paid : (A : ℕ → Kind → Type 0) (t : FileTree) (x y : ℕ → ℕ) → Owing A t x y → ((b : ℕ) → x b ≡ y b) → Well A t
+pub paid : (A : Limits) (t : FileTree) (x y : ℕ → ℕ) → Owing A t x y → ((b : ℕ) → x b ≡ y b) → Well A t
 paid A t x y o e = record {
   well = record { births = o.births; names = o.names; rooted = o.rooted; links = λ b. (let h : names_of t b + one_at 0 b + x b ≡ links_of (node_at t b) + y b = o.balance b in let k : x b ≡ y b = e b in omega arith) };
   allowed = o.allowed;
 }
 
 -- nodes stay allowed
-allowed_with : (A : ℕ → Kind → Type 0) (t : FileTree) (d : ℕ) (x : Node) → AreAllowed A t → A d (kind_of x) → AreAllowed A (with_node t d x)
-allowed_with A t d x all mine = λ b z is. each_but (λ c. node_at (with_node t d x) c ≡ Some z → A c (kind_of z)) d
-    (λ is. (let e : Some x ≡ Some z = sym (with_same t d x) ∙ is in let f : x ≡ z = cc in subst (λ v. A d (kind_of v)) f mine))
+allowed_with : (A : Limits) (t : FileTree) (d : ℕ) (x : Node) → AreAllowed A t → Within A d x → AreAllowed A (with_node t d x)
+allowed_with A t d x all mine = λ b z is. each_but (λ c. node_at (with_node t d x) c ≡ Some z → Within A c z) d
+    (λ is. (let e : Some x ≡ Some z = sym (with_same t d x) ∙ is in let f : x ≡ z = cc in subst (Within A d) f mine))
     (λ c far is. all c z (sym (with_other t d x c far) ∙ is)) b is
 
 -- only a directory has entries
@@ -84,9 +95,9 @@ dirs_alone t d x names mine = λ dir es n at. each_but (λ c. node_at (with_node
     (λ at. mine es n (let e : Some x ≡ Some (Dir es n) = sym (with_same t d x) ∙ at in cc))
     (λ c far at. names c es n (sym (with_other t d x c far) ∙ at)) dir at
 
-module _ (A : ℕ → Kind → Type 0) (t : FileTree) (x y : ℕ → ℕ) (o : Owing A t x y) where
+module _ (A : Limits) (t : FileTree) (x y : ℕ → ℕ) (o : Owing A t x y) where
   -- a directory gets other entries, in order
-  module _ (d : ℕ) (es : Entries) (n : ℕ) (is : node_at t d ≡ Some (Dir es n)) (fs : Entries) (m : ℕ) (sorted : IsStrictlySortedBy (slice_cmp nat_cmp) (keys_of fs)) where
+  module _ (d : ℕ) (es : Entries) (n : ℕ) (is : node_at t d ≡ Some (Dir es n)) (fs : Entries) (m : ℕ) (more : n ≤ m) (sorted : IsStrictlySortedBy (slice_cmp nat_cmp) (keys_of fs)) where
     dir_links : (b : ℕ) → links_of (node_at (with_node t d (Dir fs m)) b) ≡ links_of (node_at t b)
     dir_links = each_but (λ b. links_of (node_at (with_node t d (Dir fs m)) b) ≡ links_of (node_at t b)) d
         (ap links_of (with_same t d (Dir fs m)) ∙ ap links_of (sym is)) (λ c far. ap links_of (with_other t d (Dir fs m) c far))
@@ -97,7 +108,7 @@ module _ (A : ℕ → Kind → Type 0) (t : FileTree) (x y : ℕ → ℕ) (o : O
 
     pub other_entries : (p q : ℕ → ℕ) → ((b : ℕ) → names_in b (Dir fs m) + p b ≡ names_in b (Dir es n) + q b) → Owing A (with_node t d (Dir fs m)) (λ b. x b + p b) (λ b. y b + q b)
     other_entries p q count = record {
-      allowed = allowed_with A t d (Dir fs m) o.allowed (o.allowed d (Dir es n) is);
+      allowed = allowed_with A t d (Dir fs m) o.allowed (let i = o.allowed d (Dir es n) is in (i.0, (let j : A.least d ≤ n = i.1 in let k : A.least d ≤ m = omega arith in k)));
       births = ascend_with t d (Dir fs m) o.births;
       names = dirs_alone t d (Dir fs m) o.names (λ gs k e. (let i : fs ≡ gs = cc in subst (λ l. IsStrictlySortedBy (slice_cmp nat_cmp) (keys_of l)) i sorted));
       rooted = dir_rooted;
@@ -113,7 +124,7 @@ module _ (A : ℕ → Kind → Type 0) (t : FileTree) (x y : ℕ → ℕ) (o : O
         owed new old before after p q r x y k l a c h e = omega arith
 
   -- a node without entries takes the place of one without entries, or of none
-  module _ (d : ℕ) (z : Node) (before : (b : ℕ) → names_at b (node_at t d) ≡ 0) (now : (b : ℕ) → names_in b z ≡ 0) (plain : (es : Entries) (n : ℕ) → z ≡ Dir es n → IsStrictlySortedBy (slice_cmp nat_cmp) (keys_of es)) (away : d ≢ 0) (fine : A d (kind_of z)) where
+  module _ (d : ℕ) (z : Node) (before : (b : ℕ) → names_at b (node_at t d) ≡ 0) (now : (b : ℕ) → names_in b z ≡ 0) (plain : (es : Entries) (n : ℕ) → z ≡ Dir es n → IsStrictlySortedBy (slice_cmp nat_cmp) (keys_of es)) (away : d ≢ 0) (fine : Within A d z) where
     plain_rooted : IsRooted (with_node t d z)
     plain_rooted = ap is_dir (with_other t d z 0 (λ e. away (sym e))) ∙ o.rooted
 
@@ -143,7 +154,7 @@ module _ (A : ℕ → Kind → Type 0) (t : FileTree) (x y : ℕ → ℕ) (o : O
 
     pub node_gone : links_of (node_at t d) ≡ 1 → Owing A (without_node t d) x (λ b. y b + one_at d b)
     node_gone e = record {
-      allowed = λ b z is. each_but (λ c. node_at (without_node t d) c ≡ Some z → A c (kind_of z)) d
+      allowed = λ b z is. each_but (λ c. node_at (without_node t d) c ≡ Some z → Within A c z) d
           (λ is. absurd (let e : None ≡ Some z = sym (without_same t d o.births) ∙ is in cc)) (λ c far is. o.allowed c z (sym (without_other t d c far) ∙ is)) b is;
       births = ascend_without t d o.births;
       names = λ dir es n at. each_but (λ c. node_at (without_node t d) c ≡ Some (Dir es n) → IsStrictlySortedBy (slice_cmp nat_cmp) (keys_of es)) d

@@ -1,5 +1,5 @@
 -- Each operation leaves a well-formed tree so.
-use Rattle.std.proofs.Common.{ℕ, ◌≡◌, ◌≢◌, ◌<◌, ◌≤◌, ◌+◌, ◌-◌, ◌==◌, Bool, true, false, not, ◌&&◌, Option, Some, None, List, [], ◌∷◌, length, cond, refl, sym, ◌∙◌, ap, subst, nat_eq, nat_lt, arith, eq-eqb, ne_eqb, is_some, unwrap_or}
+use Rattle.std.proofs.Common.{ℕ, ◌≡◌, ◌≢◌, ◌<◌, ◌≤◌, ◌+◌, ◌-◌, ◌==◌, Bool, true, false, not, ◌&&◌, Option, Some, None, List, [], ◌∷◌, length, cond, refl, sym, ◌∙◌, ap, subst, nat_eq, nat_lt, arith, le_refl, eq-eqb, ne_eqb, is_some, unwrap_or}
 use Rattle.std.proofs.lemmas.Bool.{ltb-true, ltb-false}
 use Rattle.std.specs.List.Sorted.{IsStrictlySortedBy}
 use Rattle.std.specs.Map.{keys_of, values_of}
@@ -15,7 +15,7 @@ use Rattle.tree_laws.specs.WellFormed.{BirthsAscend, NamesAscend, IsRooted, one_
 use Rattle.tree_laws.specs.Touching.{Kind, OfDirectory, OfFile, OfLink, kind_of}
 use Rattle.tree_laws.proofs.Pairs.{name_exact, sorted_put, sorted_removed, found_other, found_left}
 use Rattle.tree_laws.proofs.Nodes.{each_but, with_same, with_other, without_same, without_other}
-use Rattle.tree_laws.proofs.Balance.{names_at, at_name, one_own, one_other, names_without, count_put, count_removed, Owing, none_owed, owing_none, paid, other_entries, other_links, node_gone}
+use Rattle.tree_laws.proofs.Balance.{names_at, at_name, Limits, Within, one_own, one_other, names_without, count_put, count_removed, Owing, none_owed, owing_none, paid, other_entries, other_links, node_gone}
 
 pub one_sym : (b c : ℕ) → one_at b c ≡ one_at c b
 one_sym b c = each_but (λ b. one_at b c ≡ one_at c b) c refl (λ b far. one_other b c (λ e. far (sym e)) ∙ sym (one_other c b far)) b
@@ -64,30 +64,30 @@ module _ (t : FileTree) (w : IsWellFormed t) where
   root_is_old b new e = let r : is_dir (node_at t 0) ≡ true = w.rooted in let n : is_dir (node_at t 0) ≡ false = ap is_dir (ap (node_at t) (sym e) ∙ new) in cc
 
 -- what is owed, said otherwise
-pub restated : (A : ℕ → Kind → Type 0) (t : FileTree) (x y p q : ℕ → ℕ) → Owing A t x y → ((b : ℕ) → x b ≡ p b) → ((b : ℕ) → y b ≡ q b) → Owing A t p q
+pub restated : (A : Limits) (t : FileTree) (x y p q : ℕ → ℕ) → Owing A t x y → ((b : ℕ) → x b ≡ p b) → ((b : ℕ) → y b ≡ q b) → Owing A t p q
 restated A t x y p q o e f = record { allowed = o.allowed; births = o.births; names = o.names; rooted = o.rooted; balance = λ b. (let h : names_of t b + one_at 0 b + x b ≡ links_of (node_at t b) + y b = o.balance b in let i : x b ≡ p b = e b in let j : y b ≡ q b = f b in omega arith) }
 
 both_zero : (t : Bool) → cond {A = ℕ} t 0 0 ≡ 0
 both_zero true = refl
 both_zero false = refl
 
-module _ (A : ℕ → Kind → Type 0) (t : FileTree) (x y : ℕ → ℕ) (o : Owing A t x y) where
+module _ (A : Limits) (t : FileTree) (x y : ℕ → ℕ) (o : Owing A t x y) where
   -- a directory gets a name that it hasn't, or has for another node
-  pub entry_put : (d : ℕ) (es : Entries) (n m : ℕ) (name : List ℕ) (v : ℕ) → node_at t d ≡ Some (Dir es n) → Owing A (with_node t d (Dir (with_entry es name v) m)) (λ b. x b + at_name b (entry_at es name)) (λ b. y b + one_at b v)
-  entry_put d es n m name v is = other_entries A t x y o d es n is (with_entry es name v) m (sorted_put (slice_cmp nat_cmp) name_exact es name v (o.names d es n is)) (λ b. at_name b (entry_at es name)) (λ b. one_at b v)
+  pub entry_put : (d : ℕ) (es : Entries) (n m : ℕ) (name : List ℕ) (v : ℕ) → node_at t d ≡ Some (Dir es n) → n ≤ m → Owing A (with_node t d (Dir (with_entry es name v) m)) (λ b. x b + at_name b (entry_at es name)) (λ b. y b + one_at b v)
+  entry_put d es n m name v is more = other_entries A t x y o d es n is (with_entry es name v) m more (sorted_put (slice_cmp nat_cmp) name_exact es name v (o.names d es n is)) (λ b. at_name b (entry_at es name)) (λ b. one_at b v)
       (λ b. count_put es n m name v b (o.names d es n is))
 
   -- a directory loses a name
   pub entry_gone : (d : ℕ) (es : Entries) (n : ℕ) (name : List ℕ) (v : ℕ) → node_at t d ≡ Some (Dir es n) → entry_at es name ≡ Some v → Owing A (with_node t d (Dir (without_entry es name) n)) (λ b. x b + one_at b v) (λ b. y b + 0)
-  entry_gone d es n name v is at = other_entries A t x y o d es n is (without_entry es name) n (sorted_removed (slice_cmp nat_cmp) name_exact es name (o.names d es n is)) (λ b. one_at b v) (λ b. 0)
+  entry_gone d es n name v is at = other_entries A t x y o d es n is (without_entry es name) n (le_refl n) (sorted_removed (slice_cmp nat_cmp) name_exact es name (o.names d es n is)) (λ b. one_at b v) (λ b. 0)
       (λ b. (let c : names_in b (Dir (without_entry es name) n) + one_at b v ≡ names_in b (Dir es n) = subst (λ z. names_in b (Dir (without_entry es name) n) + at_name b z ≡ names_in b (Dir es n)) at (count_removed es n n name b) in omega arith))
 
   -- a directory has other blocks
-  pub room_kept : (d : ℕ) (es : Entries) (n m : ℕ) → node_at t d ≡ Some (Dir es n) → Owing A (with_node t d (Dir es m)) (λ b. x b + 0) (λ b. y b + 0)
-  room_kept d es n m is = other_entries A t x y o d es n is es m (o.names d es n is) (λ b. 0) (λ b. 0) (λ b. refl)
+  pub room_kept : (d : ℕ) (es : Entries) (n m : ℕ) → node_at t d ≡ Some (Dir es n) → n ≤ m → Owing A (with_node t d (Dir es m)) (λ b. x b + 0) (λ b. y b + 0)
+  room_kept d es n m is more = other_entries A t x y o d es n is es m more (o.names d es n is) (λ b. 0) (λ b. 0) (λ b. refl)
 
   -- a new node, without entries and with one link
-  pub node_made : (d : ℕ) (z : Node) → node_at t d ≡ None → d ≢ 0 → ((b : ℕ) → names_in b z ≡ 0) → ((es : Entries) (n : ℕ) → z ≡ Dir es n → IsStrictlySortedBy (slice_cmp nat_cmp) (keys_of es)) → links_of (Some z) ≡ 1 → A d (kind_of z) → Owing A (with_node t d z) (λ b. x b + one_at d b) (λ b. y b + 0)
+  pub node_made : (d : ℕ) (z : Node) → node_at t d ≡ None → d ≢ 0 → ((b : ℕ) → names_in b z ≡ 0) → ((es : Entries) (n : ℕ) → z ≡ Dir es n → IsStrictlySortedBy (slice_cmp nat_cmp) (keys_of es)) → links_of (Some z) ≡ 1 → Within A d z → Owing A (with_node t d z) (λ b. x b + one_at d b) (λ b. y b + 0)
   node_made d z new away plain sorted one fine = other_links A t x y o d z (λ b. ap (names_at b) new) plain sorted away fine (λ b. 0) (λ b. one_at d b)
       (each_but (λ b. links_of (node_at (with_node t d z) b) + 0 ≡ links_of (node_at t b) + one_at d b) d
         (let a : links_of (node_at (with_node t d z) d) ≡ 1 = ap links_of (with_same t d z) ∙ one in let c : links_of (node_at t d) ≡ 0 = ap links_of new in let u : one_at d d ≡ 1 = one_own d in omega arith)
@@ -95,11 +95,20 @@ module _ (A : ℕ → Kind → Type 0) (t : FileTree) (x y : ℕ → ℕ) (o : O
 
   -- a node that is no directory has other links
   pub links_put : (d : ℕ) (z u : Node) → node_at t d ≡ Some z → is_dir (Some z) ≡ false → is_dir (Some u) ≡ false → kind_of z ≡ kind_of u → d ≢ 0 → (p q : ℕ) → links_of (Some u) + p ≡ links_of (Some z) + q → Owing A (with_node t d u) (λ b. x b + cond (b == d) q 0) (λ b. y b + cond (b == d) p 0)
-  links_put d z u is plain_z plain_u kind away p q count = other_links A t x y o d u (λ b. ap (names_at b) is ∙ no_names b z plain_z) (λ b. no_names b u plain_u) (λ es n e. absurd (let k : is_dir (Some u) ≡ true = ap (λ v. is_dir (Some v)) e in cc)) away (subst (A d) kind (o.allowed d z is)) (λ b. cond (b == d) p 0) (λ b. cond (b == d) q 0)
+  links_put d z u is plain_z plain_u kind away p q count = other_links A t x y o d u (λ b. ap (names_at b) is ∙ no_names b z plain_z) (λ b. no_names b u plain_u) (λ es n e. absurd (let k : is_dir (Some u) ≡ true = ap (λ v. is_dir (Some v)) e in cc)) away (same_within z u plain_z plain_u kind (o.allowed d z is)) (λ b. cond (b == d) p 0) (λ b. cond (b == d) q 0)
       (each_but (λ b. links_of (node_at (with_node t d u) b) + cond (b == d) p 0 ≡ links_of (node_at t b) + cond (b == d) q 0) d
         (rw (eq-eqb d d refl) (let a : links_of (node_at (with_node t d u) d) ≡ links_of (Some u) = ap links_of (with_same t d u) in let c : links_of (node_at t d) ≡ links_of (Some z) = ap links_of is in rw (a, c) count))
         (λ c far. rw (ne_eqb c d far) (ap (λ l. l + 0) (ap links_of (with_other t d u c far)))))
     where
+      same_within : (z u : Node) → is_dir (Some z) ≡ false → is_dir (Some u) ≡ false → kind_of z ≡ kind_of u → Within A d z → Within A d u
+      same_within (File cells links) (File others more) f g k i = i
+      same_within (Link target links) (Link others more) f g k i = i
+      same_within (File cells links) (Link others more) f g k i = absurd (cc)
+      same_within (Link target links) (File others more) f g k i = absurd (cc)
+      same_within (Dir es n) u f g k i = absurd (cc)
+      same_within (File cells links) (Dir es n) f g k i = absurd (cc)
+      same_within (Link cells links) (Dir es n) f g k i = absurd (cc)
+
       no_names : (b : ℕ) (v : Node) → is_dir (Some v) ≡ false → names_in b v ≡ 0
       no_names b (File cells links) f = refl
       no_names b (Link target links) f = refl

@@ -1,27 +1,38 @@
 -- A birth tells the kind of its node, throughout a history.
-use Rattle.std.proofs.Common.{ℕ, ◌≡◌, ◌≢◌, ◌==◌, Bool, true, false, Option, Some, None, List, [], ◌∷◌, cond, refl, sym, ◌∙◌, ap, subst, nat_eq, eq-eqb}
+use Rattle.std.proofs.Common.{ℕ, ◌≡◌, ◌≢◌, ◌≤◌, arith, le_refl, ◌==◌, Bool, true, false, Option, Some, None, List, [], ◌∷◌, cond, refl, sym, ◌∙◌, ap, subst, nat_eq, eq-eqb}
 use Rattle.std.specs.List.{AllByRecursion, IsDistinct}
 use Rattle.std.proofs.lemmas.Map.Keys.{IsDistinct-head, IsDistinct-tail}
 use Rattle.frang_base.specs.declared.op.Op.{Op}
 use Rattle.frang_base.specs.declared.op.Op.TheVariants as op
 use Rattle.tree_definitions.specs.declared.node.Node.{Node}
+use Rattle.tree_definitions.specs.declared.node.Node.TheVariants.{Dir, File, Link}
 use Rattle.tree_definitions.specs.Tree.{FileTree, node_at}
 use Rattle.tree_definitions.specs.Apply.{apply}
-use Rattle.tree_definitions.specs.History.{Settled, Stays, InDoubt, after, after_all}
+use Rattle.tree_definitions.specs.History.{Settled, Stays, InDoubt, after, after_all, tree_after, doubted}
 use Rattle.tree_laws.specs.WellFormed.{IsWellFormed, IsNew, AreNew, numbers_of}
 use Rattle.tree_laws.specs.Touching.{Kind, OfDirectory, OfFile, OfLink, kind_of, HasKinds, SameKinds}
 use Rattle.tree_laws.specs.Kinds.{MakesToldKind, MakeToldKinds, kind_made, kind_by, kind_or, kinds_along}
-use Rattle.tree_laws.proofs.Balance.{Well, AreAllowed}
+use Rattle.tree_laws.proofs.Balance.{Limits, Well, AreAllowed}
 use Rattle.tree_laws.proofs.WellFormedLaws.{Makes, apply_well}
 use Rattle.tree_laws.proofs.StepsLaws.{tree_after_well, doubted_well, after_keeps, are_new_after}
 
 -- kinds that are told
-abbrev told : (ℕ → Kind) → ℕ → Kind → Type 0
-told kinds b k = k ≡ kinds b
+abbrev told : (ℕ → Kind) → Limits
+told kinds = record { allowed = λ b k. k ≡ kinds b; least = λ b. 0 }
+
+told_within : (kinds : ℕ → Kind) (t : FileTree) → HasKinds kinds t → AreAllowed (told kinds) t
+told_within kinds t h b (Dir es n) is = (h b (Dir es n) is, (omega arith))
+told_within kinds t h b (File cells links) is = h b (File cells links) is
+told_within kinds t h b (Link target links) is = h b (Link target links) is
+
+within_told : (kinds : ℕ → Kind) (t : FileTree) → AreAllowed (told kinds) t → HasKinds kinds t
+within_told kinds t h b (Dir es n) is = (h b (Dir es n) is).0
+within_told kinds t h b (File cells links) is = h b (File cells links) is
+within_told kinds t h b (Link target links) is = h b (Link target links) is
 
 makes_told : (kinds : ℕ → Kind) (o : Op) (b : ℕ) → MakesToldKind kinds o b → Makes (told kinds) o b
 makes_told kinds (op.Create path) b h = h
-makes_told kinds (op.Mkdir path) b h = h
+makes_told kinds (op.Mkdir path) b h = (h, le_refl 0)
 makes_told kinds (op.Symlink path target) b h = h
 makes_told kinds _ b h = tt
 
@@ -29,11 +40,11 @@ pub kinds_agree : (kinds : ℕ → Kind) (one two : FileTree) → HasKinds kinds
 kinds_agree kinds one two h g b x y i j = h b x i ∙ sym (g b y j)
 
 pub apply_keeps_kinds : (kinds : ℕ → Kind) (t : FileTree) (o : Op) (b m : ℕ) → IsWellFormed t → IsNew t b → HasKinds kinds t → MakesToldKind kinds o b → HasKinds kinds (apply t o b m).tree
-apply_keeps_kinds kinds t o b m w new h may = (apply_well (told kinds) t (record { well = w; allowed = h }) o b m new (makes_told kinds o b may)).allowed
+apply_keeps_kinds kinds t o b m w new h may = within_told kinds (apply t o b m).tree (apply_well (told kinds) t (record { well = w; allowed = told_within kinds t h }) o b m new (makes_told kinds o b may)).allowed
 
 pub after_keeps_kinds : (kinds : ℕ → Kind) (t : FileTree) (s : Settled) (list : List Settled) → IsWellFormed t → AreNew t (s ∷ list) → HasKinds kinds t → MakeToldKinds kinds (s ∷ list) → HasKinds kinds (after t s)
-after_keeps_kinds kinds t (Stays e) list w n h may = (tree_after_well (told kinds) t e (record { well = w; allowed = h }) n.absent.0 (makes_told kinds e.op e.number.0 may.0)).allowed
-after_keeps_kinds kinds t (InDoubt runs) list w n h may = (doubted_well (told kinds) t runs (record { well = w; allowed = h })).allowed
+after_keeps_kinds kinds t (Stays e) list w n h may = within_told kinds (tree_after t e) (tree_after_well (told kinds) t e (record { well = w; allowed = told_within kinds t h }) n.absent.0 (makes_told kinds e.op e.number.0 may.0)).allowed
+after_keeps_kinds kinds t (InDoubt runs) list w n h may = within_told kinds (doubted t runs) (doubted_well (told kinds) t runs (record { well = w; allowed = told_within kinds t h })).allowed
 
 later_told : (kinds : ℕ → Kind) (s : Settled) (list : List Settled) → MakeToldKinds kinds (s ∷ list) → MakeToldKinds kinds list
 later_told kinds (Stays e) list h = h.1

@@ -1,5 +1,5 @@
 -- An operation at a new birth leaves a well-formed tree so.
-use Rattle.std.proofs.Common.{ℕ, ◌≡◌, ◌≢◌, ◌<◌, ◌≤◌, ◌+◌, ◌-◌, ◌*◌, ◌==◌, Bool, true, false, not, ◌&&◌, Option, Some, None, List, [], ◌∷◌, ◌++◌, length, map, replicate, take, drop, max, cond, refl, sym, ◌∙◌, ap, subst, nat_eq, nat_lt, nat_le, arith, eqb-true, eq-eqb, lt-ltb, is_some}
+use Rattle.std.proofs.Common.{ℕ, ◌≡◌, ◌≢◌, ◌<◌, ◌≤◌, ◌+◌, ◌-◌, ◌*◌, ◌==◌, Bool, true, false, not, ◌&&◌, Option, Some, None, List, [], ◌∷◌, ◌++◌, length, map, replicate, take, drop, max, cond, refl, sym, ◌∙◌, ap, subst, nat_eq, nat_lt, nat_le, arith, le_refl, eqb-true, eq-eqb, lt-ltb, is_some}
 use Rattle.std.proofs.lemmas.Bool.{eqb-false}
 use Rattle.std.specs.List.Sorted.{IsStrictlySortedBy}
 use Rattle.std.specs.Map.{keys_of}
@@ -14,7 +14,7 @@ use Rattle.tree_definitions.specs.declared.cells.Cell.TheVariants.{Byte}
 use Rattle.tree_definitions.specs.declared.node.Node.{Node}
 use Rattle.tree_definitions.specs.declared.node.Node.TheVariants.{Dir, File, Link}
 use Rattle.tree_definitions.specs.Entries.{Entries, entry_at, with_entry, without_entry}
-use Rattle.tree_definitions.specs.Tree.{FileTree, node_at, with_node, without_node, grown, large_blocks_of, small_blocks_of, larges_full, count_of, file_blocks, inodes_full, lacks_block, entries_full}
+use Rattle.tree_definitions.specs.Tree.{FileTree, node_at, with_node, without_node, grown, must_grow, large_blocks_of, small_blocks_of, larges_full, count_of, file_blocks, inodes_full, lacks_block, entries_full}
 use Rattle.tree_definitions.specs.Place.{Place, Root, Taken, Free, Nowhere, place}
 use Rattle.tree_definitions.specs.Apply.{Applied, says, named, made, is_dir, links_of, has_entries, one_link_more, one_link_fewer, linked_to, linked, unlinked, dir_removed, name_gone, name_set, moved, room_made, moved_onto, moved_to, goes_through, renamed_to, renamed_from, renamed, at_node, if_file, at_file, overwritten, written, truncated, apply}
 use Rattle.tree_laws.specs.Refusals.{is_look}
@@ -24,27 +24,35 @@ use Rattle.tree_laws.proofs.Pairs.{name_exact, found_left}
 use Rattle.tree_laws.proofs.Nodes.{each_but, with_same, with_other, without_same, without_other}
 use Rattle.tree_laws.proofs.Places.{Stands, place_stands}
 use Rattle.tree_laws.proofs.Refusals.{looks_leave}
-use Rattle.tree_laws.proofs.Balance.{at_name, AreAllowed, Well, Owing, none_owed, owing_none, paid, node_gone}
+use Rattle.tree_laws.proofs.Balance.{at_name, AreAllowed, Limits, Within, Well, Owing, none_owed, owing_none, paid, node_gone}
 use Rattle.tree_laws.proofs.Keeping.{one_sym, never_root, has_links, names_nodes, root_is_old, restated, entry_put, entry_gone, room_kept, node_made, links_put, link_more, link_fewer}
 
 none_sorted : IsStrictlySortedBy (slice_cmp nat_cmp) (keys_of {K = List ℕ} {X = ℕ} [])
 unfolding IsStrictlySortedBy
 none_sorted = tt
 
+-- the blocks of a directory that grows don't become fewer
+grows : (es : Entries) (n : ℕ) → n ≤ grown es n
+grows es n = go (must_grow es n)
+  where
+    go : (b : Bool) → n ≤ cond b (n + 1) n
+    go true = omega arith
+    go false = le_refl n
+
 -- the node that an operation may make is allowed
-abbrev pub Makes : (ℕ → Kind → Type 0) → Op → ℕ → Type 0
-Makes A (op.Create path) b = A b OfFile
-Makes A (op.Mkdir path) b = A b OfDirectory
-Makes A (op.Symlink path target) b = A b OfLink
+abbrev pub Makes : Limits → Op → ℕ → Type 0
+Makes A (op.Create path) b = A.allowed b OfFile
+Makes A (op.Mkdir path) b = A.allowed b OfDirectory × (A.least b ≤ 0)
+Makes A (op.Symlink path target) b = A.allowed b OfLink
 Makes A _ b = Unit {0}
 
 -- a choice of trees that are well formed
-if_well : (A : ℕ → Kind → Type 0) (b : Bool) (x y : Applied) → (b ≡ true → Well A x.tree) → (b ≡ false → Well A y.tree) → Well A (cond b x y).tree
+if_well : (A : Limits) (b : Bool) (x y : Applied) → (b ≡ true → Well A x.tree) → (b ≡ false → Well A y.tree) → Well A (cond b x y).tree
 if_well A true x y f g = f refl
 if_well A false x y f g = g refl
 
 -- a name moves: what is owed then
-module _ (A : ℕ → Kind → Type 0) (u : FileTree) (x y : ℕ → ℕ) (o : Owing A u x y) (from : ℕ) (es : Entries) (n : ℕ) (name : List ℕ) (b : ℕ) (is : node_at u from ≡ Some (Dir es n)) (at : entry_at es name ≡ Some b) where
+module _ (A : Limits) (u : FileTree) (x y : ℕ → ℕ) (o : Owing A u x y) (from : ℕ) (es : Entries) (n : ℕ) (name : List ℕ) (b : ℕ) (is : node_at u from ≡ Some (Dir es n)) (at : entry_at es name ≡ Some b) where
   abbrev without : FileTree
   without = with_node u from (Dir (without_entry es name) n)
 
@@ -65,7 +73,7 @@ module _ (A : ℕ → Kind → Type 0) (u : FileTree) (x y : ℕ → ℕ) (o : O
     moved_owing q found =
         let d = second_dir (to == from) refl in
         let g = entry_gone A u x y o from es n name b is at in
-        let h = entry_put A without (λ c. x c + one_at c b) (λ c. y c + 0) g to d.0 d.1 d.1 new b d.2 in
+        let h = entry_put A without (λ c. x c + one_at c b) (λ c. y c + 0) g to d.0 d.1 d.1 new b d.2 (le_refl d.1) in
         subst (λ t. Owing A (name_set t to new b (node_at t to)) (λ c. x c + one_at c b + at_name c q) (λ c. y c + 0 + one_at c b)) (sym without_is)
           (subst (λ v. Owing A (name_set without to new b v) (λ c. x c + one_at c b + at_name c q) (λ c. y c + 0 + one_at c b)) (sym d.2)
             (subst (λ v. Owing A (with_node without to (Dir (with_entry d.0 new b) d.1)) (λ c. x c + one_at c b + at_name c v) (λ c. y c + 0 + one_at c b)) (d.3 ∙ found) h))
@@ -78,7 +86,7 @@ module _ (A : ℕ → Kind → Type 0) (u : FileTree) (x y : ℕ → ℕ) (o : O
           (subst (λ v. node_at (name_set without to new b v) c ≡ node_at u c) (sym d.2)
             (with_other without to (Dir (with_entry d.0 new b) d.1) c g ∙ with_other u from (Dir (without_entry es name) n) c f))
 
-module _ (A : ℕ → Kind → Type 0) (t : FileTree) (w : Well A t) where
+module _ (A : Limits) (t : FileTree) (w : Well A t) where
   start : Owing A t none_owed none_owed
   start = owing_none A t w
 
@@ -94,10 +102,10 @@ module _ (A : ℕ → Kind → Type 0) (t : FileTree) (w : Well A t) where
   -- a name for a node that has one link too many
   name_given : (u : FileTree) (b : ℕ) → Owing A u (λ c. none_owed c + one_at b c) (λ c. none_owed c + 0) → (dir : ℕ) (es : Entries) (n : ℕ) (name : List ℕ) → node_at u dir ≡ Some (Dir es n) → entry_at es name ≡ None → Well A (named u dir es n name b)
   name_given u b o dir es n name is at =
-      let h = entry_put A u (λ c. none_owed c + one_at b c) (λ c. none_owed c + 0) o dir es n (grown es n) name b is in
+      let h = entry_put A u (λ c. none_owed c + one_at b c) (λ c. none_owed c + 0) o dir es n (grown es n) name b is (grows es n) in
       paid A (named u dir es n name b) _ _ h (λ c. (let z : at_name c (entry_at es name) ≡ 0 = ap (at_name c) at in let s : one_at c b ≡ one_at b c = one_sym c b in omega arith))
 
-  made_well : (b : ℕ) (z : Node) → IsNew t b → ((c : ℕ) → names_in c z ≡ 0) → ((es : Entries) (n : ℕ) → z ≡ Dir es n → IsStrictlySortedBy (slice_cmp nat_cmp) (keys_of es)) → links_of (Some z) ≡ 1 → A b (kind_of z) → (p : Place) → Stands t p → Well A (made t b z p).tree
+  made_well : (b : ℕ) (z : Node) → IsNew t b → ((c : ℕ) → names_in c z ≡ 0) → ((es : Entries) (n : ℕ) → z ≡ Dir es n → IsStrictlySortedBy (slice_cmp nat_cmp) (keys_of es)) → links_of (Some z) ≡ 1 → Within A b z → (p : Place) → Stands t p → Well A (made t b z p).tree
   made_well b z new plain sorted one fine Root s = w
   made_well b z new plain sorted one fine (Nowhere r) s = w
   made_well b z new plain sorted one fine (Taken dir es n name c) s = w
@@ -196,7 +204,7 @@ module _ (A : ℕ → Kind → Type 0) (t : FileTree) (w : Well A t) where
       moved_to_well = if_well A (dir == to) (says (moved t dir name to new b) reply.Ok) _ (λ e. free_well t m start s.0 q.0)
           (λ e. if_well A (entries_full fs) (says t reply.DirFull) _ (λ f. w) (λ f. if_well A (lacks_block t fs m) (says t reply.NoDirBlock) _ (λ f. w) (λ f.
             free_well (with_node t to (Dir fs (grown fs m))) (grown fs m)
-              (restated A (with_node t to (Dir fs (grown fs m))) _ _ none_owed none_owed (room_kept A t none_owed none_owed start to fs m (grown fs m) q.0) (λ c. refl) (λ c. refl))
+              (restated A (with_node t to (Dir fs (grown fs m))) _ _ none_owed none_owed (room_kept A t none_owed none_owed start to fs m (grown fs m) q.0 (grows fs m)) (λ c. refl) (λ c. refl))
               (with_other t to (Dir fs (grown fs m)) dir (eqb-false dir to e) ∙ s.0) (with_same t to (Dir fs (grown fs m))))))
 
     renamed_to_well : (path : List (List ℕ)) (p : Place) → Stands t p → Well A (renamed_to t dir name b path p).tree
