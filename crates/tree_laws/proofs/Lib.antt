@@ -22,3 +22,4 @@ pub mod HistoryLaws
 pub mod TranscriptLaws
 pub mod SettlingLaws
 pub mod CountLaws
+pub mod ShapeLaws

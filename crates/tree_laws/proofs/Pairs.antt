@@ -1,5 +1,5 @@
 -- Lists of pairs in ascending order of their keys: what is found after an insertion or a removal, and that the order stays.
-use Rattle.std.proofs.Common.{ℕ, ◌≡◌, ◌≢◌, ◌+◌, Bool, true, false, List, [], ◌∷◌, length, Option, Some, None, cond, refl, sym, ◌∙◌, ap, arith}
+use Rattle.std.proofs.Common.{ℕ, ◌≡◌, ◌≢◌, ◌+◌, Bool, true, false, List, [], ◌∷◌, map, length, Option, Some, None, cond, refl, sym, ◌∙◌, ap, arith}
 use Rattle.std.specs.Ordering.{is_eq, match_ordering, ordering_reverse, nat_cmp}
 use Rattle.std.specs.declared.cmp.Ordering.{Ordering}
 use Rattle.std.specs.declared.cmp.Ordering.TheVariants.{Less, Equal, Greater}
@@ -122,6 +122,17 @@ module _ {K X : Type 0} (cmp : K → K → Ordering) (exact : IsExact cmp) where
       go f Less i = absurd (let z : lookup (is_at (cmp k)) (e ∷ es) ≡ None = none_below (e ∷ es) k (i, below_all cmp exact k e.0 (keys_of es) i s.0) in cc)
       go f Equal i = refl
       go f Greater i = let z : is_at (cmp k) e.0 ≡ false = ap is_eq i in let y : lookup (is_at (cmp k)) (e ∷ es) ≡ lookup (is_at (cmp k)) es = rw z refl in let r : length (insert_entry cmp es k v) ≡ length es = f (sym y ∙ h) in omega arith
+
+  -- a key that is there takes a value that is seen as the old one
+  pub seen_kept : {Y : Type 0} (g : X → Y) (es : List (K × X)) (k : K) (v w : X) → IsStrictlySortedBy cmp (keys_of es) → lookup (is_at (cmp k)) es ≡ Some w → g v ≡ g w → map {A = K × X} {B = K × Y} (λ e. (e.0, g e.1)) (insert_entry cmp es k v) ≡ map {A = K × X} {B = K × Y} (λ e. (e.0, g e.1)) es
+  unfolding IsStrictlySortedBy
+  seen_kept {Y} g [] k v w s h i = cc
+  seen_kept {Y} g (e ∷ es) k v w s h i = go (λ h. seen_kept g es k v w s.1 h i) (cmp k e.0) refl
+    where
+      go : (lookup (is_at (cmp k)) es ≡ Some w → map {A = K × X} {B = K × Y} (λ e. (e.0, g e.1)) (insert_entry cmp es k v) ≡ map {A = K × X} {B = K × Y} (λ e. (e.0, g e.1)) es) → (o : Ordering) → cmp k e.0 ≡ o → map {A = K × X} {B = K × Y} (λ e. (e.0, g e.1)) (match_ordering o ((k, v) ∷ e ∷ es) ((e.0, v) ∷ es) (e ∷ insert_entry cmp es k v)) ≡ map {A = K × X} {B = K × Y} (λ e. (e.0, g e.1)) (e ∷ es)
+      go f Less j = absurd (let z : lookup (is_at (cmp k)) (e ∷ es) ≡ None = none_below (e ∷ es) k (j, below_all cmp exact k e.0 (keys_of es) j s.0) in cc)
+      go f Equal j = let z : is_at (cmp k) e.0 ≡ true = ap is_eq j in let y : lookup (is_at (cmp k)) (e ∷ es) ≡ Some e.1 = rw z refl in let q : e.1 ≡ w = (let r : Some e.1 ≡ Some w = sym y ∙ h in cc) in ap (λ a. (e.0, a) ∷ map {A = K × X} {B = K × Y} (λ e. (e.0, g e.1)) es) (i ∙ ap g (sym q))
+      go f Greater j = let z : is_at (cmp k) e.0 ≡ false = ap is_eq j in let y : lookup (is_at (cmp k)) (e ∷ es) ≡ lookup (is_at (cmp k)) es = rw z refl in ap (λ l. (e.0, g e.1) ∷ l) (f (sym y ∙ h))
 
   pub length_removed : (es : List (K × X)) (k : K) (v : X) → lookup (is_at (cmp k)) es ≡ Some v → length es ≡ length (remove_entry (is_at (cmp k)) es) + 1
   length_removed [] k v h = absurd (cc)

@@ -8,6 +8,7 @@ ghost use Rattle.tree_laws.specs.Prefixes.{PrefixesAreTranscripts, EachMayBeSaid
 ghost use Rattle.tree_laws.specs.Kinds.{ToldKindsAgree, ApplyKeepsKinds, StepsKeepKinds, KindsCanBeTold};
 ghost use Rattle.tree_laws.specs.WellFormed.{FindsWhatWasPut, MissesWhatWasTaken, FreshIsWellFormed, ApplyKeepsWellFormed, StepKeepsWellFormed, StepsKeepWellFormed, LaterNumbersStayNew, NodesComeByNumbers, WellFormedIsWalkable};
 ghost use Rattle.tree_laws.specs.Settling.{SettledIsOfHistory, SettlesToItself, RecoveryRemovesASuffix, LostIsOfTheServer};
+ghost use Rattle.tree_laws.specs.Counts.{MakesOneNode, FreesAtMostOneNode, KeepsTheNodes, BlocksNeverFall, LooksChangeNothing, LooksLeaveTheShape, NoPathTouchesNothing};
 ghost use Rattle.tree_laws.specs.Touching.{GoesByWhatItTouches, UntouchedStays};
 ghost use Rattle.tree_laws.specs.Refusals.{RefusalsLeaveTheTree, LooksLeaveTheTree};
 
@@ -46,6 +47,23 @@ pub fn a_birth_tells_the_kind()
 pub fn apply_goes_by_what_it_touches()
     ensures alike { GoesByWhatItTouches }
     ensures untouched { UntouchedStays }
+{}
+
+/// What makes a node and is answered `ok` makes one, what may free a node frees at most one, and nothing else changes their number. A
+/// directory never has fewer blocks than before while it lives.
+pub fn nodes_come_and_go_one_at_a_time()
+    ensures made { MakesOneNode }
+    ensures freed { FreesAtMostOneNode }
+    ensures kept { KeepsTheNodes }
+    ensures blocks { BlocksNeverFall }
+{}
+
+/// A look changes no node and leaves the shape, also where a read turns doubtful cells into bytes. An operation without a path touches
+/// nothing.
+pub fn a_look_changes_nothing()
+    ensures changes { LooksChangeNothing }
+    ensures shape { LooksLeaveTheShape }
+    ensures pathless { NoPathTouchesNothing }
 {}
 
 /// Settling, the tree, legality and what must be kept go along a history from the left, one item at a time.
