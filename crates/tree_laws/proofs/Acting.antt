@@ -14,9 +14,10 @@ use Rattle.tree_definitions.specs.Apply.{Answer, Plain, Shows, Applied, says, na
 use Rattle.tree_definitions.specs.Touched.{dir_node}
 use Rattle.tree_laws.specs.WellFormed.{BirthsAscend, EntriesNameNodes, IsNew}
 use Rattle.tree_laws.specs.Touching.{wants_room, SameKinds, kind_of, Kind, OfDirectory, OfFile, OfLink}
+use Rattle.tree_laws.proofs.Likeness.{Likeness, Like, Near, like_same, like_equal, like_dir, like_links}
 use Rattle.tree_laws.proofs.Nodes.{with_same, with_other, without_same, without_other, ascend_with, ascend_without}
 use Rattle.tree_laws.proofs.Places.{Stands, is_in}
-use Rattle.tree_laws.proofs.Joint.{Joint, Matches, Alike, joint_none, joint_with, joint_without, joint_same, joint_more, joint_fewer, joint_moved, both_do, both_say, both_if, if_room}
+use Rattle.tree_laws.proofs.Joint.{Joint, Matches, Alike, joint_none, joint_with, joint_without, joint_more, joint_fewer, joint_moved, both_do, both_say, both_if, if_room}
 
 -- births stay in order
 gone_ascends : (t : FileTree) (d : ℕ) (name : List ℕ) (o : Option Node) → BirthsAscend t → BirthsAscend (name_gone t d name o)
@@ -78,18 +79,18 @@ by_kind (Some (Link es n)) (Some (Link fs m)) k s t = refl
 by_kind None b k s t = cc
 by_kind (Some x) None k s t = cc
 
-module _ (one two : FileTree) where
-  pub made_matches : (birth : ℕ) (node : Node) → IsNew one birth → IsNew two birth → (p : Place) → Stands one p → Stands two p → Matches one two (made one birth node p) (made two birth node p)
-  made_matches birth node new_one new_two Root s t = both_say one two reply.Exist
-  made_matches birth node new_one new_two (Nowhere r) s t = both_say one two r
-  made_matches birth node new_one new_two (Taken dir es n name b) s t = both_say one two reply.Exist
+module _ (L : Likeness) (one two : FileTree) where
+  pub made_matches : (birth : ℕ) (node : Node) → IsNew one birth → IsNew two birth → (p : Place) → Stands one p → Stands two p → Matches L one two (made one birth node p) (made two birth node p)
+  made_matches birth node new_one new_two Root s t = both_say L one two reply.Exist
+  made_matches birth node new_one new_two (Nowhere r) s t = both_say L one two r
+  made_matches birth node new_one new_two (Taken dir es n name b) s t = both_say L one two reply.Exist
   made_matches birth node new_one new_two (Free dir es n name) s t =
-      let first = joint_with one two one two (joint_none one two) birth node (new_one ∙ sym new_two) in
-      let j = joint_with one two (with_node one birth node) (with_node two birth node) first dir (Dir (with_entry es name birth) (grown es n)) (s.0 ∙ sym t.0) in
-      both_if one two (entries_full es) (says one reply.DirFull) _ (says two reply.DirFull) _ (both_say one two reply.DirFull)
-        (if_room one two (inodes_full one) (inodes_full two) reply.NoInode reply.NoInode _ _ refl refl
-          (if_room one two (lacks_block one es n) (lacks_block two es n) reply.NoDirBlock reply.NoDirBlock _ _ refl refl
-            (both_do one two (named (with_node one birth node) dir es n name birth) (named (with_node two birth node) dir es n name birth) reply.Ok j)))
+      let first = joint_with L one two one two (joint_none L one two) birth node (like_equal L (node_at one birth) (node_at two birth) (new_one ∙ sym new_two)) in
+      let j = joint_with L one two (with_node one birth node) (with_node two birth node) first dir (Dir (with_entry es name birth) (grown es n)) (like_equal L (node_at one dir) (node_at two dir) (s.0 ∙ sym t.0)) in
+      both_if L one two (entries_full es) (says one reply.DirFull) _ (says two reply.DirFull) _ (both_say L one two reply.DirFull)
+        (if_room L one two (inodes_full one) (inodes_full two) reply.NoInode reply.NoInode _ _ refl refl
+          (if_room L one two (lacks_block one es n) (lacks_block two es n) reply.NoDirBlock reply.NoDirBlock _ _ refl refl
+            (both_do L one two (named (with_node one birth node) dir es n name birth) (named (with_node two birth node) dir es n name birth) reply.Ok j)))
 
 -- a node with a link more isn't the same
 more_differs : (t : FileTree) (d : ℕ) (x : Node) → is_dir (Some x) ≡ false → node_at (one_link_more t d (Some x)) d ≢ Some x
@@ -116,30 +117,31 @@ by_link S one u b false false true w m f l d = absurd (cc)
 by_link S one u b false false false w m f (inl s) d = s
 by_link S one u b false false false w m f (inr e) d = absurd (d e)
 
-module _ (one two : FileTree) where
+module _ (L : Likeness) (one two : FileTree) where
   module _ (b : ℕ) (there : is_some (node_at one b) ≡ true) (plain : is_dir (node_at one b) ≡ false) where
     -- onto a free name, where the trees agree on the node
-    free_matches : node_at one b ≡ node_at two b → (dir : ℕ) (es : Entries) (n : ℕ) (name : List ℕ) → node_at one dir ≡ node_at two dir → Matches one two (linked_to one b (Free dir es n name)) (linked_to two b (Free dir es n name))
+    free_matches : Near L one two b → (dir : ℕ) (es : Entries) (n : ℕ) (name : List ℕ) → Near L one two dir → Matches L one two (linked_to one b (Free dir es n name)) (linked_to two b (Free dir es n name))
     free_matches same dir es n name at =
         let o = node_at one b in
-        let j = joint_with one two (one_link_more one b o) (one_link_more two b o) (joint_more one two one two (joint_none one two) b o same) dir (Dir (with_entry es name b) (grown es n)) at in
-        subst (λ q. Matches one two (linked_to one b (Free dir es n name)) (cond (nat_le 1000 (links_of q)) (says two reply.MLink) (cond (entries_full es) (says two reply.DirFull) (cond (lacks_block two es n) (says two reply.NoDirBlock) (says (named (one_link_more two b q) dir es n name b) reply.Ok))))) same
-          (both_if one two (nat_le 1000 (links_of o)) (says one reply.MLink) _ (says two reply.MLink) _ (both_say one two reply.MLink)
-            (both_if one two (entries_full es) (says one reply.DirFull) _ (says two reply.DirFull) _ (both_say one two reply.DirFull)
-              (if_room one two (lacks_block one es n) (lacks_block two es n) reply.NoDirBlock reply.NoDirBlock _ _ refl refl
-                (both_do one two (named (one_link_more one b o) dir es n name b) (named (one_link_more two b o) dir es n name b) reply.Ok j))))
+        let q = node_at two b in
+        let j = joint_with L one two (one_link_more one b o) (one_link_more two b q) (joint_more L one two one two (joint_none L one two) b o q same same) dir (Dir (with_entry es name b) (grown es n)) at in
+        subst (λ k. Matches L one two (linked_to one b (Free dir es n name)) (cond (nat_le 1000 k) (says two reply.MLink) (cond (entries_full es) (says two reply.DirFull) (cond (lacks_block two es n) (says two reply.NoDirBlock) (says (named (one_link_more two b q) dir es n name b) reply.Ok))))) (like_links L o q same)
+          (both_if L one two (nat_le 1000 (links_of o)) (says one reply.MLink) _ (says two reply.MLink) _ (both_say L one two reply.MLink)
+            (both_if L one two (entries_full es) (says one reply.DirFull) _ (says two reply.DirFull) _ (both_say L one two reply.DirFull)
+              (if_room L one two (lacks_block one es n) (lacks_block two es n) reply.NoDirBlock reply.NoDirBlock _ _ refl refl
+                (both_do L one two (named (one_link_more one b o) dir es n name b) (named (one_link_more two b q) dir es n name b) reply.Ok j))))
 
     linked_to_matches : (q : Place) → Stands one q → Stands two q
-        → ((linked_to one b q).answer ≡ Plain reply.MLink → node_at one b ≡ node_at two b) → ((linked_to one b q).answer ≡ Plain reply.DirFull → node_at one b ≡ node_at two b)
-        → ((node_at one b ≡ node_at two b) ⊎ (node_at (linked_to one b q).tree b ≡ node_at one b)) → Matches one two (linked_to one b q) (linked_to two b q)
-    linked_to_matches Root s t m f l = both_say one two reply.Exist
-    linked_to_matches (Nowhere r) s t m f l = both_say one two r
-    linked_to_matches (Taken dir es n name c) s t m f l = both_say one two reply.Exist
+        → ((linked_to one b q).answer ≡ Plain reply.MLink → Near L one two b) → ((linked_to one b q).answer ≡ Plain reply.DirFull → Near L one two b)
+        → ((Near L one two b) ⊎ (node_at (linked_to one b q).tree b ≡ node_at one b)) → Matches L one two (linked_to one b q) (linked_to two b q)
+    linked_to_matches Root s t m f l = both_say L one two reply.Exist
+    linked_to_matches (Nowhere r) s t m f l = both_say L one two r
+    linked_to_matches (Taken dir es n name c) s t m f l = both_say L one two reply.Exist
     linked_to_matches (Free dir es n name) s t m f l = record {
       alike = λ v w. (free_matches
-          (by_link (node_at one b ≡ node_at two b) one (named (one_link_more one b (node_at one b)) dir es n name b) b (nat_le 1000 (links_of (node_at one b))) (entries_full es) (lacks_block one es n) v m f l
+          (by_link (Near L one two b) one (named (one_link_more one b (node_at one b)) dir es n name b) b (nat_le 1000 (links_of (node_at one b))) (entries_full es) (lacks_block one es n) v m f l
             (linked_differs one b (node_at one b) refl there plain dir es n name s.0))
-          dir es n name (s.0 ∙ sym t.0)).alike v w;
+          dir es n name (like_equal L (node_at one dir) (node_at two dir) (s.0 ∙ sym t.0))).alike v w;
     }
 
   module _ (kinds : SameKinds one two) (alive_one : EntriesNameNodes one) (alive_two : EntriesNameNodes two) where
@@ -158,52 +160,52 @@ module _ (one two : FileTree) where
 
       -- link, from a name that is there
       pub link_taken : (q p : Place) → Stands one q → Stands two p → (is_dir (node_at one b) ≡ false → p ≡ q)
-          → ((linked one (Taken dir es n name b) q).answer ≡ Plain reply.MLink → is_dir (node_at one b) ≡ false → node_at one b ≡ node_at two b)
-          → ((linked one (Taken dir es n name b) q).answer ≡ Plain reply.DirFull → is_dir (node_at one b) ≡ false → node_at one b ≡ node_at two b)
-          → ((node_at one b ≡ node_at two b) ⊎ (node_at (linked one (Taken dir es n name b) q).tree b ≡ node_at one b))
-          → Matches one two (linked one (Taken dir es n name b) q) (linked two (Taken dir es n name b) p)
+          → ((linked one (Taken dir es n name b) q).answer ≡ Plain reply.MLink → is_dir (node_at one b) ≡ false → Near L one two b)
+          → ((linked one (Taken dir es n name b) q).answer ≡ Plain reply.DirFull → is_dir (node_at one b) ≡ false → Near L one two b)
+          → ((Near L one two b) ⊎ (node_at (linked one (Taken dir es n name b) q).tree b ≡ node_at one b))
+          → Matches L one two (linked one (Taken dir es n name b) q) (linked two (Taken dir es n name b) p)
       link_taken q p sq tp same m f l = go (is_dir (node_at one b)) refl m f l
         where
           go : (c : Bool) → is_dir (node_at one b) ≡ c
-              → ((cond {A = Applied} c (says one reply.IsDir) (linked_to one b q)).answer ≡ Plain reply.MLink → is_dir (node_at one b) ≡ false → node_at one b ≡ node_at two b)
-              → ((cond {A = Applied} c (says one reply.IsDir) (linked_to one b q)).answer ≡ Plain reply.DirFull → is_dir (node_at one b) ≡ false → node_at one b ≡ node_at two b)
-              → ((node_at one b ≡ node_at two b) ⊎ (node_at (cond {A = Applied} c (says one reply.IsDir) (linked_to one b q)).tree b ≡ node_at one b))
-              → Matches one two (cond {A = Applied} c (says one reply.IsDir) (linked_to one b q)) (cond {A = Applied} (is_dir (node_at two b)) (says two reply.IsDir) (linked_to two b p))
-          go true i m f l = subst (λ d. Matches one two (says one reply.IsDir) (cond {A = Applied} d (says two reply.IsDir) (linked_to two b p))) (sym i ∙ dir_alike) (both_say one two reply.IsDir)
+              → ((cond {A = Applied} c (says one reply.IsDir) (linked_to one b q)).answer ≡ Plain reply.MLink → is_dir (node_at one b) ≡ false → Near L one two b)
+              → ((cond {A = Applied} c (says one reply.IsDir) (linked_to one b q)).answer ≡ Plain reply.DirFull → is_dir (node_at one b) ≡ false → Near L one two b)
+              → ((Near L one two b) ⊎ (node_at (cond {A = Applied} c (says one reply.IsDir) (linked_to one b q)).tree b ≡ node_at one b))
+              → Matches L one two (cond {A = Applied} c (says one reply.IsDir) (linked_to one b q)) (cond {A = Applied} (is_dir (node_at two b)) (says two reply.IsDir) (linked_to two b p))
+          go true i m f l = subst (λ d. Matches L one two (says one reply.IsDir) (cond {A = Applied} d (says two reply.IsDir) (linked_to two b p))) (sym i ∙ dir_alike) (both_say L one two reply.IsDir)
           go false i m f l =
-              subst (λ d. Matches one two (linked_to one b q) (cond {A = Applied} d (says two reply.IsDir) (linked_to two b p))) (sym i ∙ dir_alike)
-                (subst (λ z. Matches one two (linked_to one b q) (linked_to two b z)) (sym (same i))
+              subst (λ d. Matches L one two (linked_to one b q) (cond {A = Applied} d (says two reply.IsDir) (linked_to two b p))) (sym i ∙ dir_alike)
+                (subst (λ z. Matches L one two (linked_to one b q) (linked_to two b z)) (sym (same i))
                   (linked_to_matches b some_one i q sq (subst (Stands two) (same i) tp) (λ e. m e i) (λ e. f e i) l))
 
       -- unlink, where the name is there
-      fewer_matches : BirthsAscend one → BirthsAscend two → node_at one b ≡ node_at two b → (o : Option Node) → node_at one b ≡ o → Matches one two (says (one_link_fewer (with_node one dir (Dir (without_entry es name) n)) b o) reply.Ok) (says (one_link_fewer (with_node two dir (Dir (without_entry es name) n)) b (node_at two b)) reply.Ok)
-      fewer_matches births_one births_two same o i =
+      fewer_matches : BirthsAscend one → BirthsAscend two → Near L one two b → Matches L one two (says (one_link_fewer (with_node one dir (Dir (without_entry es name) n)) b (node_at one b)) reply.Ok) (says (one_link_fewer (with_node two dir (Dir (without_entry es name) n)) b (node_at two b)) reply.Ok)
+      fewer_matches births_one births_two same =
           let u = with_node one dir (Dir (without_entry es name) n) in
           let v = with_node two dir (Dir (without_entry es name) n) in
-          let j = joint_with one two one two (joint_none one two) dir (Dir (without_entry es name) n) (s.0 ∙ sym t.0) in
-          subst (λ q. Matches one two (says (one_link_fewer u b o) reply.Ok) (says (one_link_fewer v b q) reply.Ok)) (sym i ∙ same)
-            (both_do one two (one_link_fewer u b o) (one_link_fewer v b o) reply.Ok (joint_fewer one two u v j (ascend_with one dir (Dir (without_entry es name) n) births_one) (ascend_with two dir (Dir (without_entry es name) n) births_two) b o same))
+          let j = joint_with L one two one two (joint_none L one two) dir (Dir (without_entry es name) n) (like_equal L (node_at one dir) (node_at two dir) (s.0 ∙ sym t.0)) in
+          both_do L one two (one_link_fewer u b (node_at one b)) (one_link_fewer v b (node_at two b)) reply.Ok
+            (joint_fewer L one two u v j (ascend_with one dir (Dir (without_entry es name) n) births_one) (ascend_with two dir (Dir (without_entry es name) n) births_two) b (node_at one b) (node_at two b) same same)
 
       -- a node with a link fewer is touched
-      fewer_same : (u : FileTree) → BirthsAscend u → (o : Option Node) → node_at one b ≡ o → is_some o ≡ true → ((node_at one b ≡ node_at two b) ⊎ (node_at (one_link_fewer u b o) b ≡ node_at one b)) → node_at one b ≡ node_at two b
+      fewer_same : (u : FileTree) → BirthsAscend u → (o : Option Node) → node_at one b ≡ o → is_some o ≡ true → ((Near L one two b) ⊎ (node_at (one_link_fewer u b o) b ≡ node_at one b)) → Near L one two b
       fewer_same u births None i some l = absurd (cc)
       fewer_same u births (Some x) i some (inl e) = e
       fewer_same u births (Some x) i some (inr e) = absurd (fewer_differs u b x births (e ∙ i))
 
       pub unlink_taken : BirthsAscend one → BirthsAscend two
-          → ((node_at one b ≡ node_at two b) ⊎ (node_at (unlinked one (Taken dir es n name b)).tree b ≡ node_at one b))
-          → Matches one two (unlinked one (Taken dir es n name b)) (unlinked two (Taken dir es n name b))
+          → ((Near L one two b) ⊎ (node_at (unlinked one (Taken dir es n name b)).tree b ≡ node_at one b))
+          → Matches L one two (unlinked one (Taken dir es n name b)) (unlinked two (Taken dir es n name b))
       unlink_taken births_one births_two l = go (is_dir (node_at one b)) refl l
         where
-          go : (c : Bool) → is_dir (node_at one b) ≡ c → ((node_at one b ≡ node_at two b) ⊎ (node_at (cond {A = Applied} c (says one reply.IsDir) (says (one_link_fewer (with_node one dir (Dir (without_entry es name) n)) b (node_at one b)) reply.Ok)).tree b ≡ node_at one b))
-              → Matches one two (cond {A = Applied} c (says one reply.IsDir) (says (one_link_fewer (with_node one dir (Dir (without_entry es name) n)) b (node_at one b)) reply.Ok)) (cond {A = Applied} (is_dir (node_at two b)) (says two reply.IsDir) (says (one_link_fewer (with_node two dir (Dir (without_entry es name) n)) b (node_at two b)) reply.Ok))
-          go true i l = subst (λ d. Matches one two (says one reply.IsDir) (cond {A = Applied} d (says two reply.IsDir) (says (one_link_fewer (with_node two dir (Dir (without_entry es name) n)) b (node_at two b)) reply.Ok))) (sym i ∙ dir_alike) (both_say one two reply.IsDir)
-          go false i l = subst (λ d. Matches one two (says (one_link_fewer (with_node one dir (Dir (without_entry es name) n)) b (node_at one b)) reply.Ok) (cond {A = Applied} d (says two reply.IsDir) (says (one_link_fewer (with_node two dir (Dir (without_entry es name) n)) b (node_at two b)) reply.Ok))) (sym i ∙ dir_alike)
-              (fewer_matches births_one births_two (fewer_same (with_node one dir (Dir (without_entry es name) n)) (ascend_with one dir (Dir (without_entry es name) n) births_one) (node_at one b) refl some_one l) (node_at one b) refl)
+          go : (c : Bool) → is_dir (node_at one b) ≡ c → ((Near L one two b) ⊎ (node_at (cond {A = Applied} c (says one reply.IsDir) (says (one_link_fewer (with_node one dir (Dir (without_entry es name) n)) b (node_at one b)) reply.Ok)).tree b ≡ node_at one b))
+              → Matches L one two (cond {A = Applied} c (says one reply.IsDir) (says (one_link_fewer (with_node one dir (Dir (without_entry es name) n)) b (node_at one b)) reply.Ok)) (cond {A = Applied} (is_dir (node_at two b)) (says two reply.IsDir) (says (one_link_fewer (with_node two dir (Dir (without_entry es name) n)) b (node_at two b)) reply.Ok))
+          go true i l = subst (λ d. Matches L one two (says one reply.IsDir) (cond {A = Applied} d (says two reply.IsDir) (says (one_link_fewer (with_node two dir (Dir (without_entry es name) n)) b (node_at two b)) reply.Ok))) (sym i ∙ dir_alike) (both_say L one two reply.IsDir)
+          go false i l = subst (λ d. Matches L one two (says (one_link_fewer (with_node one dir (Dir (without_entry es name) n)) b (node_at one b)) reply.Ok) (cond {A = Applied} d (says two reply.IsDir) (says (one_link_fewer (with_node two dir (Dir (without_entry es name) n)) b (node_at two b)) reply.Ok))) (sym i ∙ dir_alike)
+              (fewer_matches births_one births_two (fewer_same (with_node one dir (Dir (without_entry es name) n)) (ascend_with one dir (Dir (without_entry es name) n) births_one) (node_at one b) refl some_one l))
 
       -- rmdir, where the name is there
-      pub rmdir_taken : BirthsAscend one → BirthsAscend two → (is_dir (node_at one b) ≡ true → node_at one b ≡ node_at two b)
-          → Matches one two (dir_removed one (Taken dir es n name b)) (dir_removed two (Taken dir es n name b))
+      pub rmdir_taken : BirthsAscend one → BirthsAscend two → (is_dir (node_at one b) ≡ true → Near L one two b)
+          → Matches L one two (dir_removed one (Taken dir es n name b)) (dir_removed two (Taken dir es n name b))
       rmdir_taken births_one births_two same = go (is_dir (node_at one b)) refl
         where
           u : FileTree
@@ -213,12 +215,12 @@ module _ (one two : FileTree) where
           v = with_node two dir (Dir (without_entry es name) n)
 
           go : (c : Bool) → is_dir (node_at one b) ≡ c
-              → Matches one two (cond {A = Applied} (not c) (says one reply.NotDir) (cond {A = Applied} (has_entries (node_at one b)) (says one reply.NotEmpty) (says (without_node u b) reply.Ok)))
+              → Matches L one two (cond {A = Applied} (not c) (says one reply.NotDir) (cond {A = Applied} (has_entries (node_at one b)) (says one reply.NotEmpty) (says (without_node u b) reply.Ok)))
                   (cond {A = Applied} (not (is_dir (node_at two b))) (says two reply.NotDir) (cond {A = Applied} (has_entries (node_at two b)) (says two reply.NotEmpty) (says (without_node v b) reply.Ok)))
-          go false i = subst (λ d. Matches one two (says one reply.NotDir) (cond {A = Applied} (not d) (says two reply.NotDir) (cond {A = Applied} (has_entries (node_at two b)) (says two reply.NotEmpty) (says (without_node v b) reply.Ok)))) (sym i ∙ dir_alike) (both_say one two reply.NotDir)
+          go false i = subst (λ d. Matches L one two (says one reply.NotDir) (cond {A = Applied} (not d) (says two reply.NotDir) (cond {A = Applied} (has_entries (node_at two b)) (says two reply.NotEmpty) (says (without_node v b) reply.Ok)))) (sym i ∙ dir_alike) (both_say L one two reply.NotDir)
           go true i =
-              let j = joint_with one two one two (joint_none one two) dir (Dir (without_entry es name) n) (s.0 ∙ sym t.0) in
-              subst (λ q. Matches one two (cond {A = Applied} (has_entries (node_at one b)) (says one reply.NotEmpty) (says (without_node u b) reply.Ok)) (cond {A = Applied} (not (is_dir q)) (says two reply.NotDir) (cond {A = Applied} (has_entries q) (says two reply.NotEmpty) (says (without_node v b) reply.Ok)))) (same i)
-              (subst (λ d. Matches one two (cond {A = Applied} (has_entries (node_at one b)) (says one reply.NotEmpty) (says (without_node u b) reply.Ok)) (cond {A = Applied} (not d) (says two reply.NotDir) (cond {A = Applied} (has_entries (node_at one b)) (says two reply.NotEmpty) (says (without_node v b) reply.Ok)))) (sym i)
-                (both_if one two (has_entries (node_at one b)) (says one reply.NotEmpty) _ (says two reply.NotEmpty) _ (both_say one two reply.NotEmpty)
-                  (both_do one two (without_node u b) (without_node v b) reply.Ok (joint_without one two u v j (ascend_with one dir (Dir (without_entry es name) n) births_one) (ascend_with two dir (Dir (without_entry es name) n) births_two) b (same i)))))
+              let j = joint_with L one two one two (joint_none L one two) dir (Dir (without_entry es name) n) (like_equal L (node_at one dir) (node_at two dir) (s.0 ∙ sym t.0)) in
+              subst (λ q. Matches L one two (cond {A = Applied} (has_entries (node_at one b)) (says one reply.NotEmpty) (says (without_node u b) reply.Ok)) (cond {A = Applied} (not (is_dir q)) (says two reply.NotDir) (cond {A = Applied} (has_entries q) (says two reply.NotEmpty) (says (without_node v b) reply.Ok)))) (like_dir L (node_at one b) (node_at two b) i (same i))
+              (subst (λ d. Matches L one two (cond {A = Applied} (has_entries (node_at one b)) (says one reply.NotEmpty) (says (without_node u b) reply.Ok)) (cond {A = Applied} (not d) (says two reply.NotDir) (cond {A = Applied} (has_entries (node_at one b)) (says two reply.NotEmpty) (says (without_node v b) reply.Ok)))) (sym i)
+                (both_if L one two (has_entries (node_at one b)) (says one reply.NotEmpty) _ (says two reply.NotEmpty) _ (both_say L one two reply.NotEmpty)
+                  (both_do L one two (without_node u b) (without_node v b) reply.Ok (joint_without L one two u v j (ascend_with one dir (Dir (without_entry es name) n) births_one) (ascend_with two dir (Dir (without_entry es name) n) births_two) b (same i)))))

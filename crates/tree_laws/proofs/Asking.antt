@@ -13,7 +13,8 @@ use Rattle.tree_definitions.specs.Touched.{dir_node, file_node, link_node, any_n
 use Rattle.tree_laws.specs.WellFormed.{BirthsAscend, EntriesNameNodes, IsRooted}
 use Rattle.tree_laws.specs.Touching.{SameKinds, Kind, OfDirectory, OfFile, OfLink, kind_of}
 use Rattle.tree_laws.proofs.Places.{Stands, is_in, head_is_in, dir_is_some}
-use Rattle.tree_laws.proofs.Joint.{Joint, Matches, Alike, joint_none, joint_with, both_do, both_say, both_if, if_room}
+use Rattle.tree_laws.proofs.Likeness.{Likeness, Like, Near, like_same, like_equal}
+use Rattle.tree_laws.proofs.Joint.{Joint, Matches, Alike, joint_none, joint_with, joint_put, both_do, both_say, both_if, if_room}
 
 -- what is known of the two trees
 pub record Grounds (one two : FileTree) : Type 0 where
@@ -41,98 +42,116 @@ reached_is_in tree wanted (Taken dir es n name c) b x r e w = subst (λ a. is_in
 reached_is_in tree wanted (Free dir es n name) b x r e w = absurd r
 reached_is_in tree wanted (Nowhere t) b x r e w = absurd r
 
-module _ (one two : FileTree) (g : Grounds one two) where
+module _ (L : Likeness) (one two : FileTree) (g : Grounds one two) where
   node_matches : (first second : ℕ → Option Node → Applied) (p : Place) → Stands one p → Stands two p
-      → ((b : ℕ) → Reaches p b → is_some (node_at one b) ≡ true → is_some (node_at two b) ≡ true → Matches one two (first b (node_at one b)) (second b (node_at two b)))
-      → Matches one two (at_node one p first) (at_node two p second)
+      → ((b : ℕ) → Reaches p b → is_some (node_at one b) ≡ true → is_some (node_at two b) ≡ true → Matches L one two (first b (node_at one b)) (second b (node_at two b)))
+      → Matches L one two (at_node one p first) (at_node two p second)
   node_matches first second Root s t each = each 0 refl (dir_is_some (node_at one 0) g.root_one) (dir_is_some (node_at two 0) g.root_two)
   node_matches first second (Taken dir es n name b) s t each = each b refl (g.alive_one dir es n name b s.0 s.1) (g.alive_two dir es n name b t.0 t.1)
-  node_matches first second (Free dir es n name) s t each = both_say one two reply.NoEnt
-  node_matches first second (Nowhere r) s t each = both_say one two r
+  node_matches first second (Free dir es n name) s t each = both_say L one two reply.NoEnt
+  node_matches first second (Nowhere r) s t each = both_say L one two r
 
   -- of a file
-  module _ (first second : ℕ → List Cell → ℕ → Applied) (each : (b : ℕ) (cells : List Cell) (links : ℕ) → node_at one b ≡ node_at two b → Matches one two (first b cells links) (second b cells links)) where
-    file_matches : (b : ℕ) (o q : Option Node) → node_at one b ≡ o → node_at two b ≡ q → is_some o ≡ true → is_some q ≡ true → ((x : Node) → o ≡ Some x → file_node x ≡ true → node_at one b ≡ node_at two b) → Matches one two (if_file one first b o) (if_file two second b q)
+  module _ (first second : ℕ → List Cell → ℕ → Applied) (each : (b : ℕ) (cells others : List Cell) (links : ℕ) → Near L one two b → L.like cells others → Matches L one two (first b cells links) (second b others links)) where
+    file_matches : (b : ℕ) (o q : Option Node) → node_at one b ≡ o → node_at two b ≡ q → is_some o ≡ true → is_some q ≡ true → ((x : Node) → o ≡ Some x → file_node x ≡ true → Near L one two b) → Matches L one two (if_file one first b o) (if_file two second b q)
     file_matches b (Some (File cells links)) q i j s t same =
         let e = same (File cells links) refl refl in
-        subst (λ z. Matches one two (first b cells links) (if_file two second b z)) (sym i ∙ e ∙ j) (each b cells links e)
-    file_matches b (Some (Dir es n)) (Some (Dir fs m)) i j s t same = both_say one two reply.IsDir
+        let l = subst (λ z. Like L (Some (File cells links)) z) j (subst (λ z. Like L z (node_at two b)) i e) in
+        subst (λ z. Matches L one two (first b cells links) (if_file two second b z)) (sym l.1) (each b cells l.0 links e l.2)
+    file_matches b (Some (Dir es n)) (Some (Dir fs m)) i j s t same = both_say L one two reply.IsDir
     file_matches b (Some (Dir es n)) (Some (File fs m)) i j s t same = absurd (let k : OfDirectory ≡ OfFile = g.kinds b (Dir es n) (File fs m) i j in cc)
     file_matches b (Some (Dir es n)) (Some (Link fs m)) i j s t same = absurd (let k : OfDirectory ≡ OfLink = g.kinds b (Dir es n) (Link fs m) i j in cc)
     file_matches b (Some (Link es n)) (Some (Dir fs m)) i j s t same = absurd (let k : OfLink ≡ OfDirectory = g.kinds b (Link es n) (Dir fs m) i j in cc)
     file_matches b (Some (Link es n)) (Some (File fs m)) i j s t same = absurd (let k : OfLink ≡ OfFile = g.kinds b (Link es n) (File fs m) i j in cc)
-    file_matches b (Some (Link es n)) (Some (Link fs m)) i j s t same = both_say one two reply.Inval
+    file_matches b (Some (Link es n)) (Some (Link fs m)) i j s t same = both_say L one two reply.Inval
     file_matches b None q i j s t same = absurd (cc)
     file_matches b (Some (Dir es n)) None i j s t same = absurd (cc)
     file_matches b (Some (Link es n)) None i j s t same = absurd (cc)
 
-    pub at_file_matches : (p : Place) → Stands one p → Stands two p → ((b : ℕ) → is_in b (reached one file_node p) ≡ true → node_at one b ≡ node_at two b) → Matches one two (at_file one p first) (at_file two p second)
+    pub at_file_matches : (p : Place) → Stands one p → Stands two p → ((b : ℕ) → is_in b (reached one file_node p) ≡ true → Near L one two b) → Matches L one two (at_file one p first) (at_file two p second)
     at_file_matches p s t same = node_matches (λ b o. if_file one first b o) (λ b o. if_file two second b o) p s t
         (λ b r some_one some_two. file_matches b (node_at one b) (node_at two b) refl refl some_one some_two (λ x e w. same b (reached_is_in one file_node p b x r e w)))
 
-  pub written_matches : (m k b : ℕ) (cells : List Cell) (links off len : ℕ) (put : List Cell → List Cell) → node_at one b ≡ node_at two b → Matches one two (written one m b cells links off len put) (written two k b cells links off len put)
-  written_matches m k b cells links off len put same =
-      let size = max (length cells) (off + len) in
-      both_if one two (nat_lt (length cells) off) (says one reply.BadOffset) _ (says two reply.BadOffset) _ (both_say one two reply.BadOffset)
-        (both_if one two (nat_lt 1114112 (off + len)) (says one reply.TooBig) _ (says two reply.TooBig) _ (both_say one two reply.TooBig)
-          (if_room one two (nat_lt (large_blocks_of (length cells)) (large_blocks_of size) && larges_full one) (nat_lt (large_blocks_of (length cells)) (large_blocks_of size) && larges_full two) reply.NoLarge reply.NoLarge _ _ refl refl
-            (if_room one two (nat_lt (1024 * one.segments - m) (count_of file_blocks one + (small_blocks_of size - small_blocks_of (length cells)))) (nat_lt (1024 * two.segments - k) (count_of file_blocks two + (small_blocks_of size - small_blocks_of (length cells)))) (reply.NoBlock m) (reply.NoBlock k) _ _ refl refl
-              (both_do one two (with_node one b (File (put cells) links)) (with_node two b (File (put cells) links)) reply.Ok (joint_with one two one two (joint_none one two) b (File (put cells) links) same)))))
+  -- what a write answers, by the length of the file
+  abbrev writing : FileTree → ℕ → ℕ → ℕ → ℕ → FileTree → Applied
+  writing t m n off len u =
+      let size = max n (off + len) in
+      cond (nat_lt n off) (says t reply.BadOffset)
+        (cond (nat_lt 1114112 (off + len)) (says t reply.TooBig)
+          (cond (nat_lt (large_blocks_of n) (large_blocks_of size) && larges_full t) (says t reply.NoLarge)
+            (cond (nat_lt (1024 * t.segments - m) (count_of file_blocks t + (small_blocks_of size - small_blocks_of n))) (says t (reply.NoBlock m)) (says u reply.Ok))))
 
-  pub truncated_matches : (b : ℕ) (cells : List Cell) (links len : ℕ) → node_at one b ≡ node_at two b → Matches one two (truncated one b cells links len) (truncated two b cells links len)
-  truncated_matches b cells links len same =
-      both_if one two (nat_lt (length cells) len) (says one reply.BadOffset) _ (says two reply.BadOffset) _ (both_say one two reply.BadOffset)
-        (both_do one two (with_node one b (File (take len cells) links)) (with_node two b (File (take len cells) links)) reply.Ok (joint_with one two one two (joint_none one two) b (File (take len cells) links) same))
+  pub written_matches : (m k b : ℕ) (cells others : List Cell) (links off len : ℕ) (put : List Cell → List Cell) → Near L one two b → L.like cells others → L.like (put cells) (put others) → Matches L one two (written one m b cells links off len put) (written two k b others links off len put)
+  written_matches m k b cells others links off len put same l p =
+      let n = length cells in
+      let size = max n (off + len) in
+      let u = with_node one b (File (put cells) links) in
+      let v = with_node two b (File (put others) links) in
+      subst (λ i. Matches L one two (written one m b cells links off len put) (writing two k i off len v)) (L.long cells others l)
+        (both_if L one two (nat_lt n off) (says one reply.BadOffset) _ (says two reply.BadOffset) _ (both_say L one two reply.BadOffset)
+          (both_if L one two (nat_lt 1114112 (off + len)) (says one reply.TooBig) _ (says two reply.TooBig) _ (both_say L one two reply.TooBig)
+            (if_room L one two (nat_lt (large_blocks_of n) (large_blocks_of size) && larges_full one) (nat_lt (large_blocks_of n) (large_blocks_of size) && larges_full two) reply.NoLarge reply.NoLarge _ _ refl refl
+              (if_room L one two (nat_lt (1024 * one.segments - m) (count_of file_blocks one + (small_blocks_of size - small_blocks_of n))) (nat_lt (1024 * two.segments - k) (count_of file_blocks two + (small_blocks_of size - small_blocks_of n))) (reply.NoBlock m) (reply.NoBlock k) _ _ refl refl
+                (both_do L one two u v reply.Ok (joint_put L one two one two (joint_none L one two) b (File (put cells) links) (File (put others) links) same (put others, refl, p)))))))
 
-  pub shown_matches : (cells : List Cell) (off len : ℕ) → Matches one two (shown one cells off len) (shown two cells off len)
-  shown_matches cells off len =
-      both_if one two (nat_lt (length cells) off) (says one reply.BadOffset) _ (says two reply.BadOffset) _ (both_say one two reply.BadOffset)
-        (record { alike = λ _ _. record { answer = refl; nodes = joint_none one two } })
+  pub truncated_matches : (b : ℕ) (cells others : List Cell) (links len : ℕ) → Near L one two b → L.like cells others → Matches L one two (truncated one b cells links len) (truncated two b others links len)
+  truncated_matches b cells others links len same l =
+      let v = with_node two b (File (take len others) links) in
+      subst (λ i. Matches L one two (truncated one b cells links len) (cond (nat_lt i len) (says two reply.BadOffset) (says v reply.Ok))) (L.long cells others l)
+        (both_if L one two (nat_lt (length cells) len) (says one reply.BadOffset) _ (says two reply.BadOffset) _ (both_say L one two reply.BadOffset)
+          (both_do L one two (with_node one b (File (take len cells) links)) v reply.Ok (joint_put L one two one two (joint_none L one two) b (File (take len cells) links) (File (take len others) links) same (take len others, refl, L.taken len cells others l))))
+
+  pub shown_matches : (cells others : List Cell) (off len : ℕ) → L.like cells others → Matches L one two (shown one cells off len) (shown two others off len)
+  shown_matches cells others off len l =
+      subst (λ i. Matches L one two (shown one cells off len) (cond (nat_lt i off) (says two reply.BadOffset) (record { answer = Shows (take len (drop off others)); tree = two }))) (L.long cells others l)
+        (both_if L one two (nat_lt (length cells) off) (says one reply.BadOffset) _ (says two reply.BadOffset) _ (both_say L one two reply.BadOffset)
+          (record { alike = λ _ _. record { answer = (take len (drop off others), refl, L.taken len (drop off cells) (drop off others) (L.dropped off cells others l)); nodes = joint_none L one two } }))
 
   -- of any node
-  described_matches : (o : Option Node) → Matches one two (described one o) (described two o)
-  described_matches (Some (File cells links)) = both_say one two (reply.File (length cells) links)
-  described_matches (Some (Dir es n)) = both_say one two (reply.Dir (length es))
-  described_matches (Some (Link target links)) = both_say one two (reply.Symlink (length target))
-  described_matches None = both_say one two reply.NoEnt
+  described_matches : (o q : Option Node) → Like L o q → Matches L one two (described one o) (described two q)
+  described_matches (Some (File cells links)) q l = subst (λ z. Matches L one two (described one (Some (File cells links))) (described two z)) (sym l.1)
+      (subst (λ n. Matches L one two (described one (Some (File cells links))) (says two (reply.File n links))) (L.long cells l.0 l.2) (both_say L one two (reply.File (length cells) links)))
+  described_matches (Some (Dir es n)) q l = subst (λ z. Matches L one two (described one (Some (Dir es n))) (described two z)) (sym l) (both_say L one two (reply.Dir (length es)))
+  described_matches (Some (Link target links)) q l = subst (λ z. Matches L one two (described one (Some (Link target links))) (described two z)) (sym l) (both_say L one two (reply.Symlink (length target)))
+  described_matches None q l = subst (λ z. Matches L one two (described one None) (described two z)) (sym l) (both_say L one two reply.NoEnt)
 
-  pub stat_matches : (p : Place) → Stands one p → Stands two p → ((b : ℕ) → is_in b (reached one any_node p) ≡ true → node_at one b ≡ node_at two b) → Matches one two (at_node one p (λ b o. described one o)) (at_node two p (λ b o. described two o))
+  pub stat_matches : (p : Place) → Stands one p → Stands two p → ((b : ℕ) → is_in b (reached one any_node p) ≡ true → Near L one two b) → Matches L one two (at_node one p (λ b o. described one o)) (at_node two p (λ b o. described two o))
   stat_matches p s t same = node_matches (λ b o. described one o) (λ b o. described two o) p s t (λ b r some_one some_two. go b r (node_at one b) refl some_one)
     where
-      go : (b : ℕ) → Reaches p b → (o : Option Node) → node_at one b ≡ o → is_some o ≡ true → Matches one two (described one (node_at one b)) (described two (node_at two b))
-      go b r (Some x) e some = subst (λ z. Matches one two (described one (node_at one b)) (described two z)) (same b (reached_is_in one any_node p b x r e refl)) (described_matches (node_at one b))
+      go : (b : ℕ) → Reaches p b → (o : Option Node) → node_at one b ≡ o → is_some o ≡ true → Matches L one two (described one (node_at one b)) (described two (node_at two b))
+      go b r (Some x) e some = described_matches (node_at one b) (node_at two b) (same b (reached_is_in one any_node p b x r e refl))
       go b r None e some = absurd (cc)
 
   -- of a directory
-  listed_matches : (b : ℕ) (o q : Option Node) → node_at one b ≡ o → node_at two b ≡ q → is_some o ≡ true → is_some q ≡ true → ((x : Node) → o ≡ Some x → dir_node x ≡ true → node_at one b ≡ node_at two b) → Matches one two (listed one o) (listed two q)
-  listed_matches b (Some (Dir es n)) q i j s t same = subst (λ z. Matches one two (listed one (Some (Dir es n))) (listed two z)) (sym i ∙ same (Dir es n) refl refl ∙ j) (both_say one two _)
+  listed_matches : (b : ℕ) (o q : Option Node) → node_at one b ≡ o → node_at two b ≡ q → is_some o ≡ true → is_some q ≡ true → ((x : Node) → o ≡ Some x → dir_node x ≡ true → Near L one two b) → Matches L one two (listed one o) (listed two q)
+  listed_matches b (Some (Dir es n)) q i j s t same = subst (λ z. Matches L one two (listed one (Some (Dir es n))) (listed two z)) (sym (subst (λ z. Like L (Some (Dir es n)) z) j (subst (λ z. Like L z (node_at two b)) i (same (Dir es n) refl refl)))) (both_say L one two _)
   listed_matches b (Some (File es n)) (Some (Dir fs m)) i j s t same = absurd (let k : OfFile ≡ OfDirectory = g.kinds b (File es n) (Dir fs m) i j in cc)
-  listed_matches b (Some (File es n)) (Some (File fs m)) i j s t same = both_say one two reply.NotDir
-  listed_matches b (Some (File es n)) (Some (Link fs m)) i j s t same = both_say one two reply.NotDir
+  listed_matches b (Some (File es n)) (Some (File fs m)) i j s t same = both_say L one two reply.NotDir
+  listed_matches b (Some (File es n)) (Some (Link fs m)) i j s t same = both_say L one two reply.NotDir
   listed_matches b (Some (Link es n)) (Some (Dir fs m)) i j s t same = absurd (let k : OfLink ≡ OfDirectory = g.kinds b (Link es n) (Dir fs m) i j in cc)
-  listed_matches b (Some (Link es n)) (Some (File fs m)) i j s t same = both_say one two reply.NotDir
-  listed_matches b (Some (Link es n)) (Some (Link fs m)) i j s t same = both_say one two reply.NotDir
+  listed_matches b (Some (Link es n)) (Some (File fs m)) i j s t same = both_say L one two reply.NotDir
+  listed_matches b (Some (Link es n)) (Some (Link fs m)) i j s t same = both_say L one two reply.NotDir
   listed_matches b None q i j s t same = absurd (cc)
   listed_matches b (Some (File es n)) None i j s t same = absurd (cc)
   listed_matches b (Some (Link es n)) None i j s t same = absurd (cc)
 
-  pub list_matches : (p : Place) → Stands one p → Stands two p → ((b : ℕ) → is_in b (reached one dir_node p) ≡ true → node_at one b ≡ node_at two b) → Matches one two (at_node one p (λ b o. listed one o)) (at_node two p (λ b o. listed two o))
+  pub list_matches : (p : Place) → Stands one p → Stands two p → ((b : ℕ) → is_in b (reached one dir_node p) ≡ true → Near L one two b) → Matches L one two (at_node one p (λ b o. listed one o)) (at_node two p (λ b o. listed two o))
   list_matches p s t same = node_matches (λ b o. listed one o) (λ b o. listed two o) p s t
       (λ b r some_one some_two. listed_matches b (node_at one b) (node_at two b) refl refl some_one some_two (λ x e w. same b (reached_is_in one dir_node p b x r e w)))
 
   -- of a link
-  target_matches : (b : ℕ) (o q : Option Node) → node_at one b ≡ o → node_at two b ≡ q → is_some o ≡ true → is_some q ≡ true → ((x : Node) → o ≡ Some x → link_node x ≡ true → node_at one b ≡ node_at two b) → Matches one two (target_of one o) (target_of two q)
-  target_matches b (Some (Link es n)) q i j s t same = subst (λ z. Matches one two (target_of one (Some (Link es n))) (target_of two z)) (sym i ∙ same (Link es n) refl refl ∙ j) (both_say one two _)
+  target_matches : (b : ℕ) (o q : Option Node) → node_at one b ≡ o → node_at two b ≡ q → is_some o ≡ true → is_some q ≡ true → ((x : Node) → o ≡ Some x → link_node x ≡ true → Near L one two b) → Matches L one two (target_of one o) (target_of two q)
+  target_matches b (Some (Link es n)) q i j s t same = subst (λ z. Matches L one two (target_of one (Some (Link es n))) (target_of two z)) (sym (subst (λ z. Like L (Some (Link es n)) z) j (subst (λ z. Like L z (node_at two b)) i (same (Link es n) refl refl)))) (both_say L one two _)
   target_matches b (Some (File es n)) (Some (Link fs m)) i j s t same = absurd (let k : OfFile ≡ OfLink = g.kinds b (File es n) (Link fs m) i j in cc)
-  target_matches b (Some (File es n)) (Some (File fs m)) i j s t same = both_say one two reply.Inval
-  target_matches b (Some (File es n)) (Some (Dir fs m)) i j s t same = both_say one two reply.Inval
+  target_matches b (Some (File es n)) (Some (File fs m)) i j s t same = both_say L one two reply.Inval
+  target_matches b (Some (File es n)) (Some (Dir fs m)) i j s t same = both_say L one two reply.Inval
   target_matches b (Some (Dir es n)) (Some (Link fs m)) i j s t same = absurd (let k : OfDirectory ≡ OfLink = g.kinds b (Dir es n) (Link fs m) i j in cc)
-  target_matches b (Some (Dir es n)) (Some (File fs m)) i j s t same = both_say one two reply.Inval
-  target_matches b (Some (Dir es n)) (Some (Dir fs m)) i j s t same = both_say one two reply.Inval
+  target_matches b (Some (Dir es n)) (Some (File fs m)) i j s t same = both_say L one two reply.Inval
+  target_matches b (Some (Dir es n)) (Some (Dir fs m)) i j s t same = both_say L one two reply.Inval
   target_matches b None q i j s t same = absurd (cc)
   target_matches b (Some (File es n)) None i j s t same = absurd (cc)
   target_matches b (Some (Dir es n)) None i j s t same = absurd (cc)
 
-  pub readlink_matches : (p : Place) → Stands one p → Stands two p → ((b : ℕ) → is_in b (reached one link_node p) ≡ true → node_at one b ≡ node_at two b) → Matches one two (at_node one p (λ b o. target_of one o)) (at_node two p (λ b o. target_of two o))
+  pub readlink_matches : (p : Place) → Stands one p → Stands two p → ((b : ℕ) → is_in b (reached one link_node p) ≡ true → Near L one two b) → Matches L one two (at_node one p (λ b o. target_of one o)) (at_node two p (λ b o. target_of two o))
   readlink_matches p s t same = node_matches (λ b o. target_of one o) (λ b o. target_of two o) p s t
       (λ b r some_one some_two. target_matches b (node_at one b) (node_at two b) refl refl some_one some_two (λ x e w. same b (reached_is_in one link_node p b x r e w)))

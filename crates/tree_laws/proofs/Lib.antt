@@ -2,6 +2,7 @@ pub mod Pairs
 pub mod Nodes
 pub mod Sameness
 pub mod Replies
+pub mod Likeness
 pub mod Places
 pub mod Joint
 pub mod Acting

@@ -13,6 +13,7 @@ use Rattle.tree_definitions.specs.Apply.{Answer, Plain, Applied, apply, renamed_
 use Rattle.tree_definitions.specs.History.{agrees}
 use Rattle.tree_definitions.specs.Touched.{looked_in, further, reached, reached_if, then_walked, any_node, dir_node, file_node, link_node}
 use Rattle.tree_laws.specs.Touching.{Kind, OfDirectory, OfFile, OfLink, kind_of}
+use Rattle.tree_laws.proofs.Likeness.{Likeness, Near}
 use Rattle.tree_laws.proofs.Places.{Stands, place_stands, dir_is_some, is_in}
 use Rattle.tree_laws.proofs.Asking.{Grounds}
 use Rattle.tree_laws.proofs.Applying.{AgreeOn, walks, in_left, in_right, then_after_any}
@@ -85,7 +86,7 @@ well_refused tree b [] = refl
 well_refused tree b (name ∷ []) = well_in (node_at tree b) b name
 well_refused tree b (name ∷ next ∷ names) = well_below (place_in (node_at tree b) b name) (λ c. place_from tree c (next ∷ names)) (well_in (node_at tree b) b name) (λ c. well_refused tree c (next ∷ names))
 
-module _ (one two : FileTree) (g : Grounds one two) where
+module _ (L : Likeness) (one two : FileTree) (g : Grounds one two) where
   reached_alike : (wanted : Node → Bool) (test : Kind → Bool) → ((x : Node) → wanted x ≡ test (kind_of x)) → (b : ℕ) (o q : Option Node) → node_at one b ≡ o → node_at two b ≡ q → is_some o ≡ true → is_some q ≡ true → reached_if wanted b q ≡ reached_if wanted b o
   reached_alike wanted test by b (Some x) (Some y) i j s t = ap (λ c. cond c (b ∷ []) []) (by y ∙ ap test (sym (g.kinds b x y i j)) ∙ sym (by x))
   reached_alike wanted test by b None q i j s t = absurd (cc)
@@ -97,22 +98,22 @@ module _ (one two : FileTree) (g : Grounds one two) where
   reached_at wanted test by (Free dir es n name) s t = refl
   reached_at wanted test by (Nowhere r) s t = refl
 
-  module _ (path : List (List ℕ)) (same : (b : ℕ) → is_in b (walked one path) ≡ true → node_at one b ≡ node_at two b) where
+  module _ (path : List (List ℕ)) (same : (b : ℕ) → is_in b (walked one path) ≡ true → Near L one two b) where
     walked_same : walked two path ≡ walked one path
-    walked_same = (walks one two g path same).walked
+    walked_same = (walks L one two g path same).walked
 
     reached_same : (wanted : Node → Bool) (test : Kind → Bool) → ((x : Node) → wanted x ≡ test (kind_of x)) → reached two wanted (place two path) ≡ reached one wanted (place one path)
     reached_same wanted test by =
-        let e = (walks one two g path same).place in
+        let e = (walks L one two g path same).place in
         ap (reached two wanted) e ∙ reached_at wanted test by (place one path) (place_stands one path) (subst (Stands two) e (place_stands two path))
 
   -- what is walked after what was reached
-  then_same : (bs : List ℕ) (to : List (List ℕ)) → ((b : ℕ) → is_in b (then_walked one bs to) ≡ true → node_at one b ≡ node_at two b) → then_walked two bs to ≡ then_walked one bs to
+  then_same : (bs : List ℕ) (to : List (List ℕ)) → ((b : ℕ) → is_in b (then_walked one bs to) ≡ true → Near L one two b) → then_walked two bs to ≡ then_walked one bs to
   then_same [] to same = refl
   then_same (b ∷ bs) to same = walked_same to same
 
   module _ (r : Reply) (a : Applied) where
-    pub looked_same : (o : Op) → AgreeOn one two o r a → looked_in two o ≡ looked_in one o
+    pub looked_same : (o : Op) → AgreeOn L one two o r a → looked_in two o ≡ looked_in one o
     looked_same (op.Create path) h = walked_same path h.looked
     looked_same (op.Mkdir path) h = walked_same path h.looked
     looked_same (op.Symlink path target) h = walked_same path h.looked
@@ -148,8 +149,8 @@ module _ (one two : FileTree) (g : Grounds one two) where
 
   -- a rename that is answered `notempty` has walked both its paths
   module _ (n : List ℕ) (ns : List (List ℕ)) (m : List ℕ) (ms : List (List ℕ)) where
-    second_walk : (h : AgreeOn one two (op.Rename (n ∷ ns) (m ∷ ms)) reply.NotEmpty (renamed_from one (place one (n ∷ ns)) (m ∷ ms))) → (p : Place) → Stands one p → refused_well p ≡ true → p ≡ place one (n ∷ ns)
-        → (b : ℕ) → is_in b (walked one (m ∷ ms)) ≡ true → node_at one b ≡ node_at two b
+    second_walk : (h : AgreeOn L one two (op.Rename (n ∷ ns) (m ∷ ms)) reply.NotEmpty (renamed_from one (place one (n ∷ ns)) (m ∷ ms))) → (p : Place) → Stands one p → refused_well p ≡ true → p ≡ place one (n ∷ ns)
+        → (b : ℕ) → is_in b (walked one (m ∷ ms)) ≡ true → Near L one two b
     second_walk h Root s w e b i = absurd (let z : agrees (renamed_from one Root (m ∷ ms)).answer reply.NotEmpty ≡ true = subst (λ p. agrees (renamed_from one p (m ∷ ms)).answer reply.NotEmpty ≡ true) (sym e) h.told in cc)
     second_walk h (Free dir es k name) s w e b i = absurd (let z : agrees (renamed_from one (Free dir es k name) (m ∷ ms)).answer reply.NotEmpty ≡ true = subst (λ p. agrees (renamed_from one p (m ∷ ms)).answer reply.NotEmpty ≡ true) (sym e) h.told in cc)
     second_walk h (Nowhere q) s w e b i = absurd (not_told q w (subst (λ p. agrees (renamed_from one p (m ∷ ms)).answer reply.NotEmpty ≡ true) (sym e) h.told))
@@ -163,22 +164,22 @@ module _ (one two : FileTree) (g : Grounds one two) where
           (subst (λ p. is_in b (then_walked one (reached one any_node p) (m ∷ ms)) ≡ true) e
             (subst (λ l. is_in b l ≡ true) (sym (then_after_any one c (node_at one c) (m ∷ ms) (g.alive_one dir es k name c s.0 s.1))) i)))
 
-  rename_further : (path to : List (List ℕ)) (birth k : ℕ) → AgreeOn one two (op.Rename path to) reply.NotEmpty (apply one (op.Rename path to) birth k) → reached two dir_node (place two to) ≡ reached one dir_node (place one to)
+  rename_further : (path to : List (List ℕ)) (birth k : ℕ) → AgreeOn L one two (op.Rename path to) reply.NotEmpty (apply one (op.Rename path to) birth k) → reached two dir_node (place two to) ≡ reached one dir_node (place one to)
   rename_further [] to birth k h = absurd (let z = h.told in cc)
   rename_further (n ∷ ns) [] birth k h = absurd (let z = h.told in cc)
   rename_further (n ∷ ns) (m ∷ ms) birth k h = reached_same (m ∷ ms) (second_walk n ns m ms h (place one (n ∷ ns)) (place_stands one (n ∷ ns)) (well_refused one 0 (n ∷ ns)) refl) dir_node dir_kind dir_by
 
-  link_further : (path to : List (List ℕ)) (r : Reply) → ((b : ℕ) → is_in b (walked one path) ≡ true → node_at one b ≡ node_at two b) → further two (op.Link path to) r ≡ further one (op.Link path to) r
+  link_further : (path to : List (List ℕ)) (r : Reply) → ((b : ℕ) → is_in b (walked one path) ≡ true → Near L one two b) → further two (op.Link path to) r ≡ further one (op.Link path to) r
   link_further path to reply.MLink same = reached_same path same any_node any_kind (λ x. refl)
   link_further path to reply.DirFull same = reached_same path same any_node any_kind (λ x. refl)
   link_further path to reply.NoDirBlock same = reached_same path same any_node any_kind (λ x. refl)
   link_further path to _ same = refl
 
-  rename_further_by : (path to : List (List ℕ)) (r : Reply) (birth k : ℕ) → AgreeOn one two (op.Rename path to) r (apply one (op.Rename path to) birth k) → further two (op.Rename path to) r ≡ further one (op.Rename path to) r
+  rename_further_by : (path to : List (List ℕ)) (r : Reply) (birth k : ℕ) → AgreeOn L one two (op.Rename path to) r (apply one (op.Rename path to) birth k) → further two (op.Rename path to) r ≡ further one (op.Rename path to) r
   rename_further_by path to reply.NotEmpty birth k h = rename_further path to birth k h
   rename_further_by path to _ birth k h = refl
 
-  pub further_same : (o : Op) (r : Reply) (birth k : ℕ) → AgreeOn one two o r (apply one o birth k) → further two o r ≡ further one o r
+  pub further_same : (o : Op) (r : Reply) (birth k : ℕ) → AgreeOn L one two o r (apply one o birth k) → further two o r ≡ further one o r
   further_same (op.Create path) r birth k h = refl
   further_same (op.Mkdir path) r birth k h = refl
   further_same (op.Symlink path target) r birth k h = refl

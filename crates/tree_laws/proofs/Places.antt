@@ -8,6 +8,7 @@ use Rattle.tree_definitions.specs.Tree.{FileTree, node_at}
 use Rattle.tree_definitions.specs.Place.{Place, Root, Taken, Free, Nowhere, place_by, place_in, below, place_from, place, walked_by, walked_from, walked}
 use Rattle.tree_definitions.specs.Apply.{is_dir}
 use Rattle.tree_laws.specs.WellFormed.{EntriesNameNodes, IsRooted}
+use Rattle.tree_laws.proofs.Likeness.{Likeness, Like, Near}
 use Rattle.tree_laws.specs.Touching.{Kind, OfDirectory, OfFile, OfLink, kind_of, SameKinds}
 
 -- what a place says of the tree
@@ -65,23 +66,23 @@ pub record SameWalk (one two : FileTree) (b : ℕ) (path : List (List ℕ)) : Ty
   pub place : place_from two b path ≡ place_from one b path
   pub walked : walked_from two b path ≡ walked_from one b path
 
-module _ (one two : FileTree) (kinds : SameKinds one two) (alive_one : EntriesNameNodes one) (alive_two : EntriesNameNodes two) where
+module _ (L : Likeness) (one two : FileTree) (kinds : SameKinds one two) (alive_one : EntriesNameNodes one) (alive_two : EntriesNameNodes two) where
   -- the first name, with what follows it
-  first_name : (path : List (List ℕ)) → ((c : ℕ) → is_some (node_at one c) ≡ true → is_some (node_at two c) ≡ true → ((d : ℕ) → is_in d (walked_from one c path) ≡ true → node_at one d ≡ node_at two d) → SameWalk one two c path)
+  first_name : (path : List (List ℕ)) → ((c : ℕ) → is_some (node_at one c) ≡ true → is_some (node_at two c) ≡ true → ((d : ℕ) → is_in d (walked_from one c path) ≡ true → Near L one two d) → SameWalk one two c path)
       → (b : ℕ) (name : List ℕ) (o q : Option Node) → node_at one b ≡ o → node_at two b ≡ q → is_some o ≡ true → is_some q ≡ true
-      → ((d : ℕ) → is_in d (walked_by (place_in o b name) b (λ c. walked_from one c path)) ≡ true → node_at one d ≡ node_at two d)
+      → ((d : ℕ) → is_in d (walked_by (place_in o b name) b (λ c. walked_from one c path)) ≡ true → Near L one two d)
       → (place_in q b name ≡ place_in o b name) × (walked_by (place_in q b name) b (λ c. walked_from two c path) ≡ walked_by (place_in o b name) b (λ c. walked_from one c path))
         × (below (place_in q b name) (λ c. place_from two c path) ≡ below (place_in o b name) (λ c. place_from one c path))
   first_name path on b name (Some (Dir es n)) q i j s t same = go (entry_at es name) refl same
     where
-      go : (a : Option ℕ) → entry_at es name ≡ a → ((d : ℕ) → is_in d (walked_by (place_by b es n name a) b (λ c. walked_from one c path)) ≡ true → node_at one d ≡ node_at two d)
+      go : (a : Option ℕ) → entry_at es name ≡ a → ((d : ℕ) → is_in d (walked_by (place_by b es n name a) b (λ c. walked_from one c path)) ≡ true → Near L one two d)
           → (place_in q b name ≡ place_by b es n name a) × (walked_by (place_in q b name) b (λ c. walked_from two c path) ≡ walked_by (place_by b es n name a) b (λ c. walked_from one c path))
             × (below (place_in q b name) (λ c. place_from two c path) ≡ below (place_by b es n name a) (λ c. place_from one c path))
       go None at same =
-          let is : q ≡ Some (Dir es n) = sym j ∙ sym (same b (head_is_in b [])) ∙ i in
+          let is : q ≡ Some (Dir es n) = sym j ∙ subst (λ o. Like L o (node_at two b)) i (same b (head_is_in b [])) in
           rw (is, at) (refl, refl, refl)
       go (Some c) at same =
-          let is : q ≡ Some (Dir es n) = sym j ∙ sym (same b (head_is_in b (walked_from one c path))) ∙ i in
+          let is : q ≡ Some (Dir es n) = sym j ∙ subst (λ o. Like L o (node_at two b)) i (same b (head_is_in b (walked_from one c path))) in
           let rest = on c (alive_one b es n name c i at) (alive_two b es n name c (j ∙ is) at) (λ d h. same d (tail_is_in d b (walked_from one c path) h)) in
           rw (is, at) (refl, ap (λ l. b ∷ l) rest.walked, rest.place)
   first_name path on b name (Some (File cells links)) (Some (Dir es n)) i j s t same = absurd (let k : OfFile ≡ OfDirectory = kinds b (File cells links) (Dir es n) i j in cc)
@@ -94,7 +95,7 @@ module _ (one two : FileTree) (kinds : SameKinds one two) (alive_one : EntriesNa
   first_name path on b name (Some (Link cells links)) None i j s t same = absurd (cc)
   first_name path on b name None q i j s t same = absurd (cc)
 
-  pub same_walk_from : (path : List (List ℕ)) (b : ℕ) → is_some (node_at one b) ≡ true → is_some (node_at two b) ≡ true → ((d : ℕ) → is_in d (walked_from one b path) ≡ true → node_at one d ≡ node_at two d) → SameWalk one two b path
+  pub same_walk_from : (path : List (List ℕ)) (b : ℕ) → is_some (node_at one b) ≡ true → is_some (node_at two b) ≡ true → ((d : ℕ) → is_in d (walked_from one b path) ≡ true → Near L one two d) → SameWalk one two b path
   same_walk_from [] b s t same = record { place = refl; walked = refl }
   same_walk_from (name ∷ []) b s t same =
       let r = first_name [] (same_walk_from []) b name (node_at one b) (node_at two b) refl refl s t same in
@@ -103,5 +104,5 @@ module _ (one two : FileTree) (kinds : SameKinds one two) (alive_one : EntriesNa
       let r = first_name (next ∷ names) (same_walk_from (next ∷ names)) b name (node_at one b) (node_at two b) refl refl s t same in
       record { place = r.2; walked = r.1 }
 
-  pub same_walk : IsRooted one → IsRooted two → (path : List (List ℕ)) → ((d : ℕ) → is_in d (walked one path) ≡ true → node_at one d ≡ node_at two d) → SameWalk one two 0 path
+  pub same_walk : IsRooted one → IsRooted two → (path : List (List ℕ)) → ((d : ℕ) → is_in d (walked one path) ≡ true → Near L one two d) → SameWalk one two 0 path
   same_walk root_one root_two path same = same_walk_from path 0 (dir_is_some (node_at one 0) root_one) (dir_is_some (node_at two 0) root_two) same

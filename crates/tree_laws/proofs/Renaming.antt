@@ -12,6 +12,7 @@ use Rattle.tree_definitions.specs.Apply.{Answer, Plain, Applied, says, is_dir, h
 use Rattle.tree_laws.specs.WellFormed.{BirthsAscend, EntriesNameNodes}
 use Rattle.tree_laws.specs.Touching.{SameKinds}
 use Rattle.tree_laws.proofs.Places.{Stands}
+use Rattle.tree_laws.proofs.Likeness.{Likeness, Like, Near, like_same, like_equal, like_entries}
 use Rattle.tree_laws.proofs.Joint.{Joint, Matches, joint_none, joint_with, joint_fewer, joint_moved, both_do, both_say, both_if, if_known, if_room}
 use Rattle.tree_laws.proofs.Acting.{moved_ascends, fewer_differs, some_one, some_two, dir_alike}
 
@@ -28,54 +29,56 @@ entries_are_a_dir (Some (File cells links)) h = cc
 entries_are_a_dir (Some (Link target links)) h = cc
 entries_are_a_dir None h = cc
 
-module _ (one two : FileTree) (births_one : BirthsAscend one) (births_two : BirthsAscend two) (kinds : SameKinds one two) (alive_one : EntriesNameNodes one) (alive_two : EntriesNameNodes two) where
+module _ (L : Likeness) (one two : FileTree) (births_one : BirthsAscend one) (births_two : BirthsAscend two) (kinds : SameKinds one two) (alive_one : EntriesNameNodes one) (alive_two : EntriesNameNodes two) where
   module _ (from : ℕ) (es : Entries) (n : ℕ) (name : List ℕ) (b : ℕ) (s : Stands one (Taken from es n name b)) (t : Stands two (Taken from es n name b)) where
-    from_same : node_at one from ≡ node_at two from
-    from_same = s.0 ∙ sym t.0
+    from_same : Near L one two from
+    from_same = like_equal L (node_at one from) (node_at two from) (s.0 ∙ sym t.0)
 
     b_dir : is_dir (node_at one b) ≡ is_dir (node_at two b)
-    b_dir = dir_alike one two kinds alive_one alive_two from es n name b s t
+    b_dir = dir_alike L one two kinds alive_one alive_two from es n name b s t
 
     module _ (to : ℕ) (fs : Entries) (m : ℕ) (new : List ℕ) (old : ℕ) (sq : Stands one (Taken to fs m new old)) (tq : Stands two (Taken to fs m new old)) where
-      to_same : node_at one to ≡ node_at two to
-      to_same = sq.0 ∙ sym tq.0
+      to_same : Near L one two to
+      to_same = like_equal L (node_at one to) (node_at two to) (sq.0 ∙ sym tq.0)
 
       old_dir : is_dir (node_at one old) ≡ is_dir (node_at two old)
-      old_dir = dir_alike one two kinds alive_one alive_two to fs m new old sq tq
+      old_dir = dir_alike L one two kinds alive_one alive_two to fs m new old sq tq
 
       abbrev last : FileTree → Option Node → Applied
       last tree o = cond (has_entries o) (says tree reply.NotEmpty) (says (one_link_fewer (moved tree from name to new b) old o) reply.Ok)
 
       -- the node that gave way is touched
       old_same : (o : Option Node) → node_at one old ≡ o → is_some o ≡ true → (h : Bool) → has_entries o ≡ h
-          → ((cond {A = Applied} h (says one reply.NotEmpty) (says (one_link_fewer (moved one from name to new b) old o) reply.Ok)).answer ≡ Plain reply.NotEmpty → is_dir (node_at one old) ≡ true → node_at one old ≡ node_at two old)
-          → ((node_at one old ≡ node_at two old) ⊎ (node_at (cond {A = Applied} h (says one reply.NotEmpty) (says (one_link_fewer (moved one from name to new b) old o) reply.Ok)).tree old ≡ node_at one old))
-          → node_at one old ≡ node_at two old
+          → ((cond {A = Applied} h (says one reply.NotEmpty) (says (one_link_fewer (moved one from name to new b) old o) reply.Ok)).answer ≡ Plain reply.NotEmpty → is_dir (node_at one old) ≡ true → Near L one two old)
+          → ((Near L one two old) ⊎ (node_at (cond {A = Applied} h (says one reply.NotEmpty) (says (one_link_fewer (moved one from name to new b) old o) reply.Ok)).tree old ≡ node_at one old))
+          → Near L one two old
       old_same None i some h e ne l = absurd (cc)
       old_same (Some x) i some true e ne l = ne refl (entries_are_a_dir (node_at one old) (ap has_entries i ∙ e))
       old_same (Some x) i some false e ne (inl z) = z
       old_same (Some x) i some false e ne (inr z) = absurd (fewer_differs (moved one from name to new b) old x (moved_ascends one from name to new b births_one) (z ∙ i))
 
-      last_matches : node_at one old ≡ node_at two old → Matches one two (last one (node_at one old)) (last two (node_at two old))
+      last_matches : Near L one two old → Matches L one two (last one (node_at one old)) (last two (node_at two old))
       last_matches same =
-          let j = joint_moved one two one two (joint_none one two) from name to new b from_same to_same in
-          let k = joint_fewer one two (moved one from name to new b) (moved two from name to new b) j (moved_ascends one from name to new b births_one) (moved_ascends two from name to new b births_two) old (node_at one old) same in
-          subst (λ o. Matches one two (last one (node_at one old)) (last two o)) same
-            (both_if one two (has_entries (node_at one old)) (says one reply.NotEmpty) _ (says two reply.NotEmpty) _ (both_say one two reply.NotEmpty)
-              (both_do one two (one_link_fewer (moved one from name to new b) old (node_at one old)) (one_link_fewer (moved two from name to new b) old (node_at one old)) reply.Ok k))
+          let j = joint_moved L one two one two (joint_none L one two) from name to new b from_same to_same in
+          let u = moved one from name to new b in
+          let v = moved two from name to new b in
+          let k = joint_fewer L one two u v j (moved_ascends one from name to new b births_one) (moved_ascends two from name to new b births_two) old (node_at one old) (node_at two old) same same in
+          subst (λ h. Matches L one two (last one (node_at one old)) (cond h (says two reply.NotEmpty) (says (one_link_fewer v old (node_at two old)) reply.Ok))) (like_entries L (node_at one old) (node_at two old) same)
+            (both_if L one two (has_entries (node_at one old)) (says one reply.NotEmpty) _ (says two reply.NotEmpty) _ (both_say L one two reply.NotEmpty)
+              (both_do L one two (one_link_fewer u old (node_at one old)) (one_link_fewer v old (node_at two old)) reply.Ok k))
 
-      onto_matches : ((moved_onto one from name b to new old).answer ≡ Plain reply.NotEmpty → is_dir (node_at one old) ≡ true → node_at one old ≡ node_at two old)
-          → ((node_at one old ≡ node_at two old) ⊎ (node_at (moved_onto one from name b to new old).tree old ≡ node_at one old))
-          → Matches one two (moved_onto one from name b to new old) (moved_onto two from name b to new old)
+      onto_matches : ((moved_onto one from name b to new old).answer ≡ Plain reply.NotEmpty → is_dir (node_at one old) ≡ true → Near L one two old)
+          → ((Near L one two old) ⊎ (node_at (moved_onto one from name b to new old).tree old ≡ node_at one old))
+          → Matches L one two (moved_onto one from name b to new old) (moved_onto two from name b to new old)
       onto_matches ne l =
-          subst (λ d. Matches one two (moved_onto one from name b to new old) (cond (old == b) (says two reply.Ok) (cond (d && not (is_dir (node_at two old))) (says two reply.NotDir) (cond (is_dir (node_at two old) && not d) (says two reply.IsDir) (last two (node_at two old)))))) b_dir
-          (subst (λ d. Matches one two (moved_onto one from name b to new old) (cond (old == b) (says two reply.Ok) (cond (is_dir (node_at one b) && not d) (says two reply.NotDir) (cond (d && not (is_dir (node_at one b))) (says two reply.IsDir) (last two (node_at two old)))))) old_dir
-            (if_known one two p (says one reply.Ok) _ (says two reply.Ok) _ (λ i. both_say one two reply.Ok) (λ i.
-              if_known one two q (says one reply.NotDir) _ (says two reply.NotDir) _ (λ j. both_say one two reply.NotDir) (λ j.
-              if_known one two r (says one reply.IsDir) _ (says two reply.IsDir) _ (λ k. both_say one two reply.IsDir) (λ k.
+          subst (λ d. Matches L one two (moved_onto one from name b to new old) (cond (old == b) (says two reply.Ok) (cond (d && not (is_dir (node_at two old))) (says two reply.NotDir) (cond (is_dir (node_at two old) && not d) (says two reply.IsDir) (last two (node_at two old)))))) b_dir
+          (subst (λ d. Matches L one two (moved_onto one from name b to new old) (cond (old == b) (says two reply.Ok) (cond (is_dir (node_at one b) && not d) (says two reply.NotDir) (cond (d && not (is_dir (node_at one b))) (says two reply.IsDir) (last two (node_at two old)))))) old_dir
+            (if_known L one two p (says one reply.Ok) _ (says two reply.Ok) _ (λ i. both_say L one two reply.Ok) (λ i.
+              if_known L one two q (says one reply.NotDir) _ (says two reply.NotDir) _ (λ j. both_say L one two reply.NotDir) (λ j.
+              if_known L one two r (says one reply.IsDir) _ (says two reply.IsDir) _ (λ k. both_say L one two reply.IsDir) (λ k.
               let w = third p q r (says one reply.Ok) (says one reply.NotDir) (says one reply.IsDir) (last one (node_at one old)) i j k in
-              last_matches (old_same (node_at one old) refl (some_one one two kinds alive_one alive_two to fs m new old sq tq) (has_entries (node_at one old)) refl
-                (λ e. ne (ap (λ a. a.answer) w ∙ e)) (subst (λ a. (node_at one old ≡ node_at two old) ⊎ (node_at a.tree old ≡ node_at one old)) w l)))))))
+              last_matches (old_same (node_at one old) refl (some_one L one two kinds alive_one alive_two to fs m new old sq tq) (has_entries (node_at one old)) refl
+                (λ e. ne (ap (λ a. a.answer) w ∙ e)) (subst (λ a. (Near L one two old) ⊎ (node_at a.tree old ≡ node_at one old)) w l)))))))
         where
           p : Bool
           p = old == b
@@ -87,33 +90,33 @@ module _ (one two : FileTree) (births_one : BirthsAscend one) (births_two : Birt
           r = is_dir (node_at one old) && not (is_dir (node_at one b))
 
     -- to a name that isn't there
-    moved_to_matches : (to : ℕ) (fs : Entries) (m : ℕ) (new : List ℕ) → node_at one to ≡ node_at two to → Matches one two (moved_to one from name b to fs m new) (moved_to two from name b to fs m new)
+    moved_to_matches : (to : ℕ) (fs : Entries) (m : ℕ) (new : List ℕ) → Near L one two to → Matches L one two (moved_to one from name b to fs m new) (moved_to two from name b to fs m new)
     moved_to_matches to fs m new at =
-        let j = joint_moved one two one two (joint_none one two) from name to new b from_same at in
-        let room = joint_with one two one two (joint_none one two) to (Dir fs (grown fs m)) at in
-        let k = joint_moved one two (room_made one to fs m) (room_made two to fs m) room from name to new b from_same at in
-        both_if one two (from == to) (says (moved one from name to new b) reply.Ok) _ (says (moved two from name to new b) reply.Ok) _ (both_do one two (moved one from name to new b) (moved two from name to new b) reply.Ok j)
-          (both_if one two (entries_full fs) (says one reply.DirFull) _ (says two reply.DirFull) _ (both_say one two reply.DirFull)
-            (if_room one two (lacks_block one fs m) (lacks_block two fs m) reply.NoDirBlock reply.NoDirBlock _ _ refl refl
-              (both_do one two (moved (room_made one to fs m) from name to new b) (moved (room_made two to fs m) from name to new b) reply.Ok k)))
+        let j = joint_moved L one two one two (joint_none L one two) from name to new b from_same at in
+        let room = joint_with L one two one two (joint_none L one two) to (Dir fs (grown fs m)) at in
+        let k = joint_moved L one two (room_made one to fs m) (room_made two to fs m) room from name to new b from_same at in
+        both_if L one two (from == to) (says (moved one from name to new b) reply.Ok) _ (says (moved two from name to new b) reply.Ok) _ (both_do L one two (moved one from name to new b) (moved two from name to new b) reply.Ok j)
+          (both_if L one two (entries_full fs) (says one reply.DirFull) _ (says two reply.DirFull) _ (both_say L one two reply.DirFull)
+            (if_room L one two (lacks_block one fs m) (lacks_block two fs m) reply.NoDirBlock reply.NoDirBlock _ _ refl refl
+              (both_do L one two (moved (room_made one to fs m) from name to new b) (moved (room_made two to fs m) from name to new b) reply.Ok k)))
 
     through_same : (path : List (List ℕ)) → walked two path ≡ walked one path → goes_through one path b ≡ goes_through two path b
     through_same path w = ap₂ (λ d l. d && list_any (λ c. c == b) l) b_dir (sym w)
 
     pub renamed_to_matches : (path : List (List ℕ)) → walked two path ≡ walked one path → (q : Place) → Stands one q → Stands two q
-        → ((to : ℕ) (fs : Entries) (m : ℕ) (new : List ℕ) (old : ℕ) → q ≡ Taken to fs m new old → (renamed_to one from name b path q).answer ≡ Plain reply.NotEmpty → is_dir (node_at one old) ≡ true → node_at one old ≡ node_at two old)
-        → ((c : ℕ) → (node_at one c ≡ node_at two c) ⊎ (node_at (renamed_to one from name b path q).tree c ≡ node_at one c))
-        → Matches one two (renamed_to one from name b path q) (renamed_to two from name b path q)
-    renamed_to_matches path w Root sq tq ne l = both_say one two reply.Inval
-    renamed_to_matches path w (Nowhere r) sq tq ne l = both_say one two r
+        → ((to : ℕ) (fs : Entries) (m : ℕ) (new : List ℕ) (old : ℕ) → q ≡ Taken to fs m new old → (renamed_to one from name b path q).answer ≡ Plain reply.NotEmpty → is_dir (node_at one old) ≡ true → Near L one two old)
+        → ((c : ℕ) → (Near L one two c) ⊎ (node_at (renamed_to one from name b path q).tree c ≡ node_at one c))
+        → Matches L one two (renamed_to one from name b path q) (renamed_to two from name b path q)
+    renamed_to_matches path w Root sq tq ne l = both_say L one two reply.Inval
+    renamed_to_matches path w (Nowhere r) sq tq ne l = both_say L one two r
     renamed_to_matches path w (Free to fs m new) sq tq ne l =
-        subst (λ g. Matches one two (renamed_to one from name b path (Free to fs m new)) (cond g (says two reply.Inval) (moved_to two from name b to fs m new))) (through_same path w)
-          (both_if one two (goes_through one path b) (says one reply.Inval) _ (says two reply.Inval) _ (both_say one two reply.Inval) (moved_to_matches to fs m new (sq.0 ∙ sym tq.0)))
+        subst (λ g. Matches L one two (renamed_to one from name b path (Free to fs m new)) (cond g (says two reply.Inval) (moved_to two from name b to fs m new))) (through_same path w)
+          (both_if L one two (goes_through one path b) (says one reply.Inval) _ (says two reply.Inval) _ (both_say L one two reply.Inval) (moved_to_matches to fs m new (like_equal L (node_at one to) (node_at two to) (sq.0 ∙ sym tq.0))))
     renamed_to_matches path w (Taken to fs m new old) sq tq ne l =
-        subst (λ g. Matches one two (renamed_to one from name b path (Taken to fs m new old)) (cond g (says two reply.Inval) (moved_onto two from name b to new old))) (through_same path w)
-          (if_known one two (goes_through one path b) (says one reply.Inval) _ (says two reply.Inval) _ (λ i. both_say one two reply.Inval)
+        subst (λ g. Matches L one two (renamed_to one from name b path (Taken to fs m new old)) (cond g (says two reply.Inval) (moved_onto two from name b to new old))) (through_same path w)
+          (if_known L one two (goes_through one path b) (says one reply.Inval) _ (says two reply.Inval) _ (λ i. both_say L one two reply.Inval)
             (λ i. let e = second (goes_through one path b) (says one reply.Inval) (moved_onto one from name b to new old) i in
-              onto_matches to fs m new old sq tq (λ z. ne to fs m new old refl (ap (λ a. a.answer) e ∙ z)) (subst (λ a. (node_at one old ≡ node_at two old) ⊎ (node_at a.tree old ≡ node_at one old)) e (l old))))
+              onto_matches to fs m new old sq tq (λ z. ne to fs m new old refl (ap (λ a. a.answer) e ∙ z)) (subst (λ a. (Near L one two old) ⊎ (node_at a.tree old ≡ node_at one old)) e (l old))))
       where
         second : (g : Bool) (x y : Applied) → g ≡ false → cond g x y ≡ y
         second false x y i = refl
