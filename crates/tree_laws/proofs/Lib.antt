@@ -24,3 +24,5 @@ pub mod TranscriptLaws
 pub mod SettlingLaws
 pub mod CountLaws
 pub mod ShapeLaws
+pub mod Vagueness
+pub mod RemovingLaws

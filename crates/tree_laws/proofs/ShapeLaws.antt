@@ -66,13 +66,13 @@ pub no_path_touches_nothing : (t : FileTree) (e : Entry) (b : ℕ) → is_path_o
 no_path_touches_nothing t e b h = ap (λ a. a && agrees (applied t e).answer e.reply && (changes t e b || list_any (λ c. c == b) (looked_in t e.op ++ further t e.op e.reply))) h
 
 -- ---- the shape
-doubt_alike : (xs ys : List Cell) → length xs ≡ length ys → map (λ c. Doubtful) xs ≡ map (λ c. Doubtful) ys
+pub doubt_alike : (xs ys : List Cell) → length xs ≡ length ys → map (λ c. Doubtful) xs ≡ map (λ c. Doubtful) ys
 doubt_alike [] [] h = refl
 doubt_alike [] (y ∷ ys) h = absurd (omega arith)
 doubt_alike (x ∷ xs) [] h = absurd (omega arith)
 doubt_alike (x ∷ xs) (y ∷ ys) h = ap (λ l. Doubtful ∷ l) (doubt_alike xs ys (omega arith))
 
-shown_long : (cells : List Cell) (bytes : List ℕ) → cells_show cells bytes ≡ true → length bytes ≡ length cells
+pub shown_long : (cells : List Cell) (bytes : List ℕ) → cells_show cells bytes ≡ true → length bytes ≡ length cells
 shown_long [] [] h = refl
 shown_long [] (b ∷ bytes) h = cc
 shown_long (c ∷ cells) [] h = cc

@@ -6,3 +6,4 @@ pub mod Touching
 pub mod Kinds
 pub mod Settling
 pub mod Counts
+pub mod Removing

@@ -1,0 +1,337 @@
+-- What nobody saw can go.
+use Rattle.std.proofs.Common.{ℕ, ◌≡◌, ◌≢◌, ◌+◌, ◌==◌, Bool, true, false, not, ◌&&◌, ◌||◌, Option, Some, None, List, [], ◌∷◌, ◌++◌, length, map, filter, take, drop, cond, refl, sym, ◌∙◌, ap, ap₂, subst, inl, inr, ◌⊎◌, ⊎_elim, nat_eq, eqb-true, eq-eqb, nat_lt}
+use Rattle.std.specs.List.{list_any}
+use Rattle.std.specs.Map.{lookup}
+use Rattle.std.specs.BTreeMap.{is_at}
+use Rattle.std.specs.Ordering.{nat_cmp}
+use Rattle.tree_laws.proofs.Pairs.{tie, birth_exact}
+use Rattle.std.proofs.lemmas.Bool.{and_parts, and_from, or_parts, not-true, eqb-false}
+use Rattle.std.proofs.lemmas.Map.Keys.{IsDistinct-tail}
+use Rattle.frang_base.specs.declared.op.Op.{Op}
+use Rattle.frang_base.specs.declared.op.Op.TheVariants as op
+use Rattle.frang_base.specs.declared.reply.Reply.{Reply}
+use Rattle.frang_base.specs.declared.reply.Reply.TheVariants as reply
+use Rattle.tree_definitions.specs.declared.cells.Cell.{Cell}
+use Rattle.tree_definitions.specs.declared.cells.Cell.TheVariants.{Byte}
+use Rattle.tree_definitions.specs.declared.history.Entry.{Entry}
+use Rattle.tree_definitions.specs.declared.node.Node.{Node}
+use Rattle.tree_definitions.specs.declared.node.Node.TheVariants.{Dir, File, Link}
+use Rattle.tree_definitions.specs.Tree.{FileTree, node_at, with_node}
+use Rattle.tree_definitions.specs.Place.{Place, Root, Taken, Free, Nowhere, place}
+use Rattle.tree_definitions.specs.Apply.{Answer, Plain, Shows, Applied, says, apply, at_file, if_file, shown, overwritten, is_path_op}
+use Rattle.tree_definitions.specs.History.{applied, is_answer, agrees, cells_show, told_blocks, may_tell, leaves_tree, fits, tree_after, after_read, with_shown, file_at, file_of, Settled, Stays, InDoubt, CellRun, doubted, after, grows, may_stand, legal_from}
+use Rattle.tree_definitions.specs.Touched.{touches, changes, changed, births, differs, is_nospace, touched_later, refused_later, changes_room, is_seen}
+use Rattle.tree_definitions.specs.Removal.{is_of, begins_removal, left, keeps_known, none_known, recovered, doubtful}
+use Rattle.tree_laws.specs.WellFormed.{IsWellFormed, IsNew, IsWalkable, AreNew, numbers_of}
+use Rattle.tree_laws.specs.Touching.{Kind, HasKinds, SameKinds, wants_room}
+use Rattle.tree_laws.specs.Kinds.{MakeToldKinds, kinds_along}
+use Rattle.tree_laws.specs.Removing.{without, none_seen, has_room, room_left}
+use Rattle.tree_laws.proofs.Nodes.{each_but, with_same, with_other}
+use Rattle.tree_laws.proofs.Places.{is_in, head_is_in, tail_is_in}
+use Rattle.tree_laws.proofs.Likeness.{Likeness, Like, Near, like_same, like_equal}
+use Rattle.tree_laws.proofs.Vagueness.{Vaguer, vague, vague_nodes_trans, shown_is_sharper, doubted_near}
+use Rattle.tree_laws.proofs.Sameness.{alike_at, no_difference}
+use Rattle.tree_laws.proofs.Replies.{wants_alike}
+use Rattle.tree_laws.proofs.Refusals.{looks_leave}
+use Rattle.tree_laws.proofs.Joint.{Joint, joint_near}
+use Rattle.tree_laws.proofs.Applying.{in_left, in_right}
+use Rattle.tree_laws.proofs.Alike.{answered_two, after_joint}
+use Rattle.tree_laws.proofs.FreshLaws.{walkable}
+use Rattle.tree_laws.proofs.StepsLaws.{file_at_is, after_keeps, are_new_after}
+use Rattle.tree_laws.proofs.KindsLaws.{kinds_agree, after_keeps_kinds, kinds_can_be_told}
+use Rattle.tree_laws.proofs.HistoryLaws.{legal-push, and-true}
+
+-- ---- what an entry changes is in its list of changed births
+found_in : (ns : List (ℕ × Node)) (b : ℕ) (x : Node) → lookup (is_at (nat_cmp b)) ns ≡ Some x → is_in b (map (λ n. n.0) ns) ≡ true
+found_in [] b x h = cc
+found_in (n ∷ ns) b x h = go (is_at (nat_cmp b) n.0) refl h (λ i. found_in ns b x i)
+  where
+    more : (t v : Bool) → v ≡ true → t || v ≡ true
+    more true v e = refl
+    more false v e = e
+
+    go : (t : Bool) → is_at (nat_cmp b) n.0 ≡ t → cond t (Some n.1) (lookup (is_at (nat_cmp b)) ns) ≡ Some x → (lookup (is_at (nat_cmp b)) ns ≡ Some x → is_in b (map (λ n. n.0) ns) ≡ true) → is_in b (n.0 ∷ map (λ n. n.0) ns) ≡ true
+    go true e h later = ap (λ t. t || is_in b (map (λ n. n.0) ns)) (eq-eqb n.0 b (sym (tie nat_cmp birth_exact b n.0 e)))
+    go false e h later = more (n.0 == b) (is_in b (map (λ n. n.0) ns)) (later h)
+
+differs_in : (old new : FileTree) (b : ℕ) → differs old new b ≡ true → is_in b (births old new) ≡ true
+differs_in old new b d = go (node_at old b) (node_at new b) refl refl
+  where
+    go : (o q : Option Node) → node_at old b ≡ o → node_at new b ≡ q → is_in b (births old new) ≡ true
+    go (Some x) q i j = in_left b (map (λ n. n.0) old.nodes) (map (λ n. n.0) new.nodes) (found_in old.nodes b x i)
+    go None (Some y) i j = in_right b (map (λ n. n.0) old.nodes) (map (λ n. n.0) new.nodes) (found_in new.nodes b y j)
+    go None None i j = absurd (let e : differs old new b ≡ false = no_difference old new b (i ∙ sym j) in cc)
+
+in_filtered : (test : ℕ → Bool) (b : ℕ) (bs : List ℕ) → is_in b bs ≡ true → test b ≡ true → is_in b (filter test bs) ≡ true
+in_filtered test b [] h t = cc
+in_filtered test b (c ∷ bs) h t = go (nat_eq c b) refl h (λ i. in_filtered test b bs i t)
+  where
+    keep : (k : Bool) → is_in b (filter test bs) ≡ true → is_in b (cond k (c ∷ filter test bs) (filter test bs)) ≡ true
+    keep true i = tail_is_in b c (filter test bs) i
+    keep false i = i
+
+    go : (q : Bool) → nat_eq c b ≡ q → q || is_in b bs ≡ true → (is_in b bs ≡ true → is_in b (filter test bs) ≡ true) → is_in b (cond (test c) (c ∷ filter test bs) (filter test bs)) ≡ true
+    go true e h later = let same : c ≡ b = eqb-true c b e in subst (λ k. is_in b (cond k (c ∷ filter test bs) (filter test bs)) ≡ true) (sym (ap test same ∙ t)) (ap (λ q. q || is_in b (filter test bs)) e)
+    go false e h later = keep (test c) (later h)
+
+changed_in : (t : FileTree) (e : Entry) (b : ℕ) → changes t e b ≡ true → is_in b (changed t e) ≡ true
+changed_in t e b h = in_filtered (changes t e) b (births t (applied t e).tree) (differs_in t (applied t e).tree b (and_parts (is_answer t e) (differs t (applied t e).tree b) h).1) h
+
+by_contrast : (t u : Bool) → (t ≡ true → u ≡ true) → u ≡ false → t ≡ false
+by_contrast true u f h = sym (f refl) ∙ h
+by_contrast false u f h = refl
+
+any_in : (test : ℕ → Bool) (b : ℕ) (bs : List ℕ) → is_in b bs ≡ true → test b ≡ true → list_any test bs ≡ true
+any_in test b [] h t = cc
+any_in test b (c ∷ bs) h t = go (nat_eq c b) refl h (λ i. any_in test b bs i t)
+  where
+    more : (k v : Bool) → v ≡ true → k || v ≡ true
+    more true v e = refl
+    more false v e = e
+
+    go : (q : Bool) → nat_eq c b ≡ q → q || is_in b bs ≡ true → (is_in b bs ≡ true → list_any test bs ≡ true) → test c || list_any test bs ≡ true
+    go true e h later = ap (λ k. k || list_any test bs) (ap test (eqb-true c b e) ∙ t)
+    go false e h later = more (test c) (list_any test bs) (later h)
+
+-- ---- an entry that is removed: what it doesn't change is sharper at most
+within_file : (t : FileTree) (cells : List Cell) (off len : ℕ) (bytes : List ℕ) → agrees (shown t cells off len).answer (reply.Shown bytes) ≡ true → Vaguer (overwritten cells off (map Byte bytes)) cells
+within_file t cells off len bytes h = go (nat_lt (length cells) off) h
+  where
+    not_shown : (bytes : List ℕ) → agrees (Plain reply.BadOffset) (reply.Shown bytes) ≡ true → ⊥
+    not_shown [] h = cc
+    not_shown (b ∷ bytes) h = cc
+
+    go : (b : Bool) → agrees (cond {A = Applied} b (says t reply.BadOffset) (record { answer = Shows (take len (drop off cells)); tree = t })).answer (reply.Shown bytes) ≡ true → Vaguer (overwritten cells off (map Byte bytes)) cells
+    go true h = absurd (not_shown bytes h)
+    go false h = shown_is_sharper cells off len bytes h
+
+file_sharper : (t : FileTree) (b : ℕ) (o : Option Node) (off len : ℕ) (bytes : List ℕ) (f : ℕ × (List Cell × ℕ)) → file_of b o ≡ Some f → agrees (if_file t (λ b cells links. shown t cells off len) b o).answer (reply.Shown bytes) ≡ true → Vaguer (overwritten f.1.0 off (map Byte bytes)) f.1.0
+file_sharper t b (Some (File cells links)) off len bytes f e h = subst (λ c. Vaguer (overwritten c off (map Byte bytes)) c) (ap (λ o. elim o as (λ x. List Cell) [ None ↦ cells | Some g ↦ g.1.0 ]) e) (within_file t cells off len bytes h)
+file_sharper t b (Some (Dir es n)) off len bytes f e h = cc
+file_sharper t b (Some (Link target links)) off len bytes f e h = cc
+file_sharper t b None off len bytes f e h = cc
+
+place_sharper : (t : FileTree) (p : Place) (off len : ℕ) (bytes : List ℕ) (f : ℕ × (List Cell × ℕ)) → file_at t p ≡ Some f → agrees (at_file t p (λ b cells links. shown t cells off len)).answer (reply.Shown bytes) ≡ true → Vaguer (overwritten f.1.0 off (map Byte bytes)) f.1.0
+place_sharper t Root off len bytes f e h = cc
+place_sharper t (Taken d es n name b) off len bytes f e h = file_sharper t b (node_at t b) off len bytes f e h
+place_sharper t (Free d es n name) off len bytes f e h = cc
+place_sharper t (Nowhere r) off len bytes f e h = cc
+
+shown_sharper : (t : FileTree) (o : Option (ℕ × (List Cell × ℕ))) (off : ℕ) (bytes : List ℕ) → ((f : ℕ × (List Cell × ℕ)) → o ≡ Some f → (node_at t f.0 ≡ Some (File f.1.0 f.1.1)) × Vaguer (overwritten f.1.0 off (map Byte bytes)) f.1.0) → (b : ℕ) → Like vague (node_at (with_shown t o off bytes) b) (node_at t b)
+shown_sharper t None off bytes h b = like_same vague (node_at t b)
+shown_sharper t (Some f) off bytes h b =
+    let new = File (overwritten f.1.0 off (map Byte bytes)) f.1.1 in
+    let g = h f refl in
+    each_but (λ c. Like vague (node_at (with_node t f.0 new) c) (node_at t c)) f.0
+      (subst (λ z. Like vague z (node_at t f.0)) (sym (with_same t f.0 new)) (f.1.0, g.0, g.1))
+      (λ c far. like_equal vague (node_at (with_node t f.0 new) c) (node_at t c) (with_other t f.0 new c far)) b
+
+read_sharper : (t : FileTree) (o : Op) (r : Reply) (n m b : ℕ) → agrees (apply t o n m).answer r ≡ true → Like vague (node_at (after_read (apply t o n m).tree o r) b) (node_at (apply t o n m).tree b)
+read_sharper t (op.Read path off len) (reply.Shown bytes) n m b told =
+    subst (λ u. Like vague (node_at (with_shown u (file_at u (place u path)) off bytes) b) (node_at u b)) (sym (looks_leave t (op.Read path off len) n m refl))
+      (shown_sharper t (file_at t (place t path)) off bytes (λ f e. (file_at_is t (place t path) f e, place_sharper t (place t path) off len bytes f e told)) b)
+read_sharper t (op.Read path off len) _ n m b told = like_same vague (node_at (apply t (op.Read path off len) n m).tree b)
+read_sharper t o r n m b told = like_same vague (node_at (apply t o n m).tree b)
+
+sharper_after : (t : FileTree) (e : Entry) (b : ℕ) → changes t e b ≡ false → Like vague (node_at (tree_after t e) b) (node_at t b)
+sharper_after t e b h = go (leaves_tree e.op e.reply) (is_answer t e) refl
+  where
+    unchanged : (a d : Bool) → a ≡ true → a && d ≡ false → d ≡ false
+    unchanged true d i h = h
+    unchanged false d i h = absurd (cc)
+
+    go : (l a : Bool) → is_answer t e ≡ a → Like vague (node_at (cond l t (cond a (after_read (applied t e).tree e.op e.reply) t)) b) (node_at t b)
+    go true a i = like_same vague (node_at t b)
+    go false false i = like_same vague (node_at t b)
+    go false true i =
+        let same : node_at t b ≡ node_at (applied t e).tree b = alike_at t (applied t e).tree b (unchanged (is_answer t e) (differs t (applied t e).tree b) i h) in
+        subst (Like vague (node_at (after_read (applied t e).tree e.op e.reply) b)) (sym same)
+          (read_sharper t e.op e.reply e.number.0 (told_blocks t e.reply) b (and_parts (is_path_op e.op) (agrees (applied t e).answer e.reply) i).1)
+
+-- ---- tests along a list
+not_in_left : (b : ℕ) (xs ys : List ℕ) → is_in b (xs ++ ys) ≡ false → is_in b xs ≡ false
+not_in_left b xs ys h = by_contrast (is_in b xs) (is_in b (xs ++ ys)) (in_left b xs ys) h
+
+not_in_right : (b : ℕ) (xs ys : List ℕ) → is_in b (xs ++ ys) ≡ false → is_in b ys ≡ false
+not_in_right b xs ys h = by_contrast (is_in b ys) (is_in b (xs ++ ys)) (in_right b xs ys) h
+
+any_append : (test : ℕ → Bool) (xs ys : List ℕ) → list_any test xs ≡ false → list_any test ys ≡ false → list_any test (xs ++ ys) ≡ false
+any_append test [] ys h g = g
+any_append test (x ∷ xs) ys h g = let p = or_parts (test x) (list_any test xs) h in or_false (test x) (list_any test (xs ++ ys)) p.0 (any_append test xs ys p.1 g)
+  where
+    or_false : (a b : Bool) → a ≡ false → b ≡ false → a || b ≡ false
+    or_false true b i j = i
+    or_false false b i j = j
+
+or_false : (a b : Bool) → a ≡ false → b ≡ false → a || b ≡ false
+or_false true b i j = i
+or_false false b i j = j
+
+touched_append : (server : ℕ) (xs ys : List ℕ) (t : FileTree) (list : List Settled) → touched_later server xs t list ≡ false → touched_later server ys t list ≡ false → touched_later server (xs ++ ys) t list ≡ false
+touched_append server xs ys t [] h g = refl
+touched_append server xs ys t (InDoubt runs ∷ rest) h g = touched_append server xs ys (after t (InDoubt runs)) rest h g
+touched_append server xs ys t (Stays e ∷ rest) h g =
+    let p = or_parts (not (e.server.0 == server) && list_any (touches t e) xs) (touched_later server xs (after t (Stays e)) rest) h in
+    let q = or_parts (not (e.server.0 == server) && list_any (touches t e) ys) (touched_later server ys (after t (Stays e)) rest) g in
+    or_false (not (e.server.0 == server) && list_any (touches t e) (xs ++ ys)) (touched_later server (xs ++ ys) (after t (Stays e)) rest)
+      (go (not (e.server.0 == server)) p.0 q.0) (touched_append server xs ys (after t (Stays e)) rest p.1 q.1)
+  where
+    go : (c : Bool) → c && list_any (touches t e) xs ≡ false → c && list_any (touches t e) ys ≡ false → c && list_any (touches t e) (xs ++ ys) ≡ false
+    go true h g = any_append (touches t e) xs ys h g
+    go false h g = refl
+
+tells_room : (t : FileTree) (n : ℕ) (r : Reply) → is_nospace r ≡ false → may_tell t n r ≡ true
+tells_room t n (reply.NoBlock m) h = cc
+tells_room t n _ h = refl
+
+-- ---- the induction
+module _ (server : ℕ) (kinds : ℕ → Kind) where
+  -- the list that is left, where the trees are alike off the nodes that were changed
+  record Apart (t u : FileTree) (nodes : List ℕ) (list : List Settled) : Type 0 where
+    pub well_t : IsWellFormed t
+    pub well_u : IsWellFormed u
+    pub new_t : AreNew t list
+    pub new_u : AreNew u list
+    pub kinds_t : HasKinds kinds t
+    pub kinds_u : HasKinds kinds u
+    pub told : MakeToldKinds kinds list
+    pub near : (b : ℕ) → is_in b nodes ≡ false → Near vague t u b
+    pub untouched : touched_later server nodes t list ≡ false
+
+  doubt_apart : (t u : FileTree) (nodes : List ℕ) (runs : List CellRun) (rest : List Settled) → Apart t u nodes (InDoubt runs ∷ rest) → Apart (doubted t runs) (doubted u runs) nodes rest
+  doubt_apart t u nodes runs rest a = record {
+    well_t = after_keeps t (InDoubt runs) rest a.well_t a.new_t;
+    well_u = after_keeps u (InDoubt runs) rest a.well_u a.new_u;
+    new_t = are_new_after t (InDoubt runs) rest a.well_t a.new_t;
+    new_u = are_new_after u (InDoubt runs) rest a.well_u a.new_u;
+    kinds_t = after_keeps_kinds kinds t (InDoubt runs) rest a.well_t a.new_t a.kinds_t a.told;
+    kinds_u = after_keeps_kinds kinds u (InDoubt runs) rest a.well_u a.new_u a.kinds_u a.told;
+    told = a.told;
+    near = λ b h. doubted_near t u runs b (a.near b h);
+    untouched = a.untouched;
+  }
+
+  module _ (t u : FileTree) (nodes : List ℕ) (e : Entry) (rest : List Settled) (a : Apart t u nodes (Stays e ∷ rest)) where
+    -- the entry goes
+    removed_apart : e.server.0 == server ≡ true → is_seen t e rest ≡ false → Apart (tree_after t e) u (nodes ++ changed t e) rest
+    removed_apart own unseen = record {
+      well_t = after_keeps t (Stays e) rest a.well_t a.new_t;
+      well_u = a.well_u;
+      new_t = are_new_after t (Stays e) rest a.well_t a.new_t;
+      new_u = record { absent = a.new_u.absent.1; distinct = IsDistinct-tail nat_eq e.number.0 (numbers_of rest) a.new_u.distinct };
+      kinds_t = after_keeps_kinds kinds t (Stays e) rest a.well_t a.new_t a.kinds_t a.told;
+      kinds_u = a.kinds_u;
+      told = a.told.1;
+      near = λ b h. vague_nodes_trans (node_at (tree_after t e) b) (node_at t b) (node_at u b)
+          (sharper_after t e b (by_contrast (changes t e b) (is_in b (changed t e)) (changed_in t e b) (not_in_right b nodes (changed t e) h))) (a.near b (not_in_left b nodes (changed t e) h));
+      untouched = touched_append server nodes (changed t e) (tree_after t e) rest
+          (or_parts (not (e.server.0 == server) && list_any (touches t e) nodes) (touched_later server nodes (after t (Stays e)) rest) a.untouched).1
+          (subst (λ s. touched_later s (changed t e) (tree_after t e) rest ≡ false) (eqb-true e.server.0 server own)
+            (or_parts (touched_later e.server.0 (changed t e) (after t (Stays e)) rest) (changes_room t e && refused_later e.server.0 rest) unseen).0);
+    }
+
+    -- the entry stays, and acts
+    module _ (other : e.server.0 == server ≡ false) (answered : is_answer t e ≡ true) (room : is_nospace e.reply ≡ false) (fitting : wants_room (applied u e).answer ≡ false) where
+      near_touched : (b : ℕ) → touches t e b ≡ true → Near vague t u b
+      near_touched b h = a.near b (by_contrast (is_in b nodes) (list_any (touches t e) nodes) (λ i. any_in (touches t e) b nodes i h) none)
+        where
+          first : (c d : Bool) → c ≡ false → not c && d ≡ false → d ≡ false
+          first true d i h = absurd (cc)
+          first false d i h = h
+
+          none : list_any (touches t e) nodes ≡ false
+          none = first (e.server.0 == server) (list_any (touches t e) nodes) other (or_parts (not (e.server.0 == server) && list_any (touches t e) nodes) (touched_later server nodes (after t (Stays e)) rest) a.untouched).0
+
+      told_room : wants_room (applied t e).answer ≡ false
+      told_room = wants_alike (applied t e).answer e.reply (and_parts (is_path_op e.op) (agrees (applied t e).answer e.reply) answered).1 ∙ room
+
+      stays_answered : is_answer u e ≡ true
+      stays_answered = answered_two vague t u e (walkable t a.well_t) (walkable u a.well_u) (kinds_agree kinds t u a.kinds_t a.kinds_u) a.new_t.absent.0 a.new_u.absent.0 answered told_room fitting near_touched
+
+      stays_joint : Joint vague t u (tree_after t e) (tree_after u e)
+      stays_joint = after_joint vague t u e (walkable t a.well_t) (walkable u a.well_u) (kinds_agree kinds t u a.kinds_t a.kinds_u) a.new_t.absent.0 a.new_u.absent.0 answered told_room fitting near_touched
+
+    -- the trees after an entry that stays
+    kept_apart : ((b : ℕ) → is_in b nodes ≡ false → Near vague (tree_after t e) (tree_after u e) b) → Apart (tree_after t e) (tree_after u e) nodes rest
+    kept_apart near = record {
+      well_t = after_keeps t (Stays e) rest a.well_t a.new_t;
+      well_u = after_keeps u (Stays e) rest a.well_u a.new_u;
+      new_t = are_new_after t (Stays e) rest a.well_t a.new_t;
+      new_u = are_new_after u (Stays e) rest a.well_u a.new_u;
+      kinds_t = after_keeps_kinds kinds t (Stays e) rest a.well_t a.new_t a.kinds_t a.told;
+      kinds_u = after_keeps_kinds kinds u (Stays e) rest a.well_u a.new_u a.kinds_u a.told;
+      told = a.told.1;
+      near = near;
+      untouched = (or_parts (not (e.server.0 == server) && list_any (touches t e) nodes) (touched_later server nodes (after t (Stays e)) rest) a.untouched).1;
+    }
+
+    -- an entry that stays fits, and the trees stay alike
+    kept_fits : (ever more : ℕ) → e.server.0 == server ≡ false → fits t ever e ≡ true → is_nospace e.reply ≡ false → leaves_tree e.op e.reply || not (wants_room (applied u e).answer) ≡ true
+        → (fits u more e ≡ true) × ((b : ℕ) → is_in b nodes ≡ false → Near vague (tree_after t e) (tree_after u e) b)
+    kept_fits ever more other fit room fitting = go (leaves_tree e.op e.reply) refl fit fitting
+      where
+        in_first : (x y : Bool) → x ≡ true → y ≡ true → (x && y) || false ≡ true
+        in_first true y i j = ap (λ z. z || false) j
+        in_first false y i j = cc
+
+        only : (x : Bool) → x || false ≡ true → x ≡ true
+        only true h = refl
+        only false h = h
+
+        true_last : (x : Bool) → x || true ≡ true
+        true_last true = refl
+        true_last false = refl
+
+        not_so : (x : Bool) → not x ≡ true → x ≡ false
+        not_so true h = cc
+        not_so false h = refl
+
+        go : (l : Bool) → leaves_tree e.op e.reply ≡ l → (is_answer t e && may_tell t ever e.reply) || l ≡ true → l || not (wants_room (applied u e).answer) ≡ true
+            → ((is_answer u e && may_tell u more e.reply) || leaves_tree e.op e.reply ≡ true) × ((b : ℕ) → is_in b nodes ≡ false → Near vague (tree_after t e) (tree_after u e) b)
+        go true i fit fitting =
+            (ap (λ l. (is_answer u e && may_tell u more e.reply) || l) i ∙ true_last (is_answer u e && may_tell u more e.reply),
+             λ b h. subst (λ l. Like vague (node_at (cond l t (cond (is_answer t e) (after_read (applied t e).tree e.op e.reply) t)) b) (node_at (cond l u (cond (is_answer u e) (after_read (applied u e).tree e.op e.reply) u)) b)) (sym i) (a.near b h))
+        go false i fit fitting =
+            let answered = (and_parts (is_answer t e) (may_tell t ever e.reply) (only (is_answer t e && may_tell t ever e.reply) fit)).0 in
+            let f = not_so (wants_room (applied u e).answer) fitting in
+            (ap (λ l. (is_answer u e && may_tell u more e.reply) || l) i ∙ in_first (is_answer u e) (may_tell u more e.reply) (stays_answered other answered room f) (tells_room u more e.reply room),
+             λ b h. joint_near vague t u (tree_after t e) (tree_after u e) (stays_joint other answered room f) b (a.near b h))
+
+  keeps_legal : (list : List Settled) (t u : FileTree) (nodes : List ℕ) (ever more : ℕ) → Apart t u nodes list → legal_from t ever list ≡ true → none_seen server t list ≡ true → refused_later server list ≡ false → has_room u (without server list) ≡ true → legal_from u more (without server list) ≡ true
+  keeps_legal [] t u nodes ever more a legal unseen refused room = refl
+  keeps_legal (InDoubt runs ∷ rest) t u nodes ever more a legal unseen refused room =
+      keeps_legal rest (doubted t runs) (doubted u runs) nodes (ever + grows t (InDoubt runs)) (more + grows u (InDoubt runs)) (doubt_apart t u nodes runs rest a) legal unseen refused room
+  keeps_legal (Stays e ∷ rest) t u nodes ever more a legal unseen refused room =
+      let l = and_parts (fits t ever e) (legal_from (tree_after t e) (ever + grows t (Stays e)) rest) legal in
+      let s = and_parts (not (e.server.0 == server) || not (is_seen t e rest)) (none_seen server (tree_after t e) rest) unseen in
+      let r = or_parts (not (e.server.0 == server) && is_nospace e.reply) (refused_later server rest) refused in
+      go (e.server.0 == server) refl l.0 s.0 r.0 room
+        (λ b more. keeps_legal rest (tree_after t e) u (nodes ++ changed t e) (ever + grows t (Stays e)) more b l.1 s.1 r.1)
+        (λ b more. keeps_legal rest (tree_after t e) (tree_after u e) nodes (ever + grows t (Stays e)) more b l.1 s.1 r.1)
+    where
+      go : (c : Bool) → e.server.0 == server ≡ c → fits t ever e ≡ true → not c || not (is_seen t e rest) ≡ true → not c && is_nospace e.reply ≡ false
+          → has_room u (cond (not c) (Stays e ∷ without server rest) (without server rest)) ≡ true
+          → (Apart (tree_after t e) u (nodes ++ changed t e) rest → (more : ℕ) → has_room u (without server rest) ≡ true → legal_from u more (without server rest) ≡ true)
+          → (Apart (tree_after t e) (tree_after u e) nodes rest → (more : ℕ) → has_room (tree_after u e) (without server rest) ≡ true → legal_from (tree_after u e) more (without server rest) ≡ true)
+          → legal_from u more (cond (not c) (Stays e ∷ without server rest) (without server rest)) ≡ true
+      go true i fit seen refused room gone stays = gone (removed_apart t u nodes e rest a i (not-true (is_seen t e rest) seen)) more room
+      go false i fit seen refused room gone stays =
+          let p = and_parts (leaves_tree e.op e.reply || not (wants_room (applied u e).answer)) (has_room (tree_after u e) (without server rest)) room in
+          let k = kept_fits t u nodes e rest a ever more i fit refused p.0 in
+          and_from (fits u more e) (legal_from (tree_after u e) (more + grows u (Stays e)) (without server rest)) k.0 (stays (kept_apart t u nodes e rest a k.1) (more + grows u (Stays e)) p.1)
+
+nothing_touches : (server : ℕ) (t : FileTree) (list : List Settled) → touched_later server [] t list ≡ false
+nothing_touches server t [] = refl
+nothing_touches server t (InDoubt runs ∷ rest) = nothing_touches server (after t (InDoubt runs)) rest
+nothing_touches server t (Stays e ∷ rest) = or_false (not (e.server.0 == server) && false) (touched_later server [] (after t (Stays e)) rest) (no_use (not (e.server.0 == server))) (nothing_touches server (after t (Stays e)) rest)
+  where
+    no_use : (c : Bool) → c && false ≡ false
+    no_use true = refl
+    no_use false = refl
+
+pub unseen_can_go : (server : ℕ) (t : FileTree) (ever more : ℕ) (list : List Settled) → IsWellFormed t → AreNew t list → legal_from t ever list ≡ true → none_seen server t list ≡ true → refused_later server list ≡ false → has_room t (without server list) ≡ true → legal_from t more (without server list) ≡ true
+unseen_can_go server t ever more list w new legal unseen refused room =
+    let k = kinds_can_be_told t list new in
+    keeps_legal server (kinds_along t list) list t t [] ever more
+      (record { well_t = w; well_u = w; new_t = new; new_u = new; kinds_t = k.0; kinds_u = k.0; told = k.1; near = λ b h. like_same vague (node_at t b); untouched = nothing_touches server t list })
+      legal unseen refused room
