@@ -20,8 +20,8 @@ use Rattle.tree_definitions.specs.Tree.{FileTree, node_at, with_node}
 use Rattle.tree_definitions.specs.Place.{Place, Root, Taken, Free, Nowhere, place}
 use Rattle.tree_definitions.specs.Apply.{Answer, Plain, Shows, Applied, says, apply, at_file, if_file, shown, overwritten, is_path_op}
 use Rattle.tree_definitions.specs.History.{applied, is_answer, agrees, cells_show, told_blocks, may_tell, leaves_tree, fits, tree_after, after_read, with_shown, file_at, file_of, Settled, Stays, InDoubt, CellRun, doubted, after, grows, may_stand, legal_from}
-use Rattle.tree_definitions.specs.Touched.{touches, changes, changed, births, differs, is_nospace, touched_later, refused_later, changes_room, is_seen}
-use Rattle.tree_definitions.specs.Removal.{is_of, begins_removal, left, keeps_known, none_known, recovered, doubtful}
+use Rattle.tree_definitions.specs.Touched.{touches, changes, changed, births, differs, is_nospace, touched_later, refused_later, changes_room, is_seen, is_synced, stalled_after}
+use Rattle.tree_definitions.specs.Removal.{is_of, begins_removal, left, keeps_known, none_known, recovered, doubtful, is_lost, mounts}
 use Rattle.tree_laws.specs.WellFormed.{IsWellFormed, IsNew, IsWalkable, AreNew, numbers_of}
 use Rattle.tree_laws.specs.Touching.{Kind, HasKinds, SameKinds, wants_room}
 use Rattle.tree_laws.specs.Kinds.{MakeToldKinds, kinds_along}
@@ -39,6 +39,7 @@ use Rattle.tree_laws.proofs.Alike.{answered_two, after_joint}
 use Rattle.tree_laws.proofs.FreshLaws.{walkable}
 use Rattle.tree_laws.proofs.StepsLaws.{file_at_is, after_keeps, are_new_after}
 use Rattle.tree_laws.proofs.KindsLaws.{kinds_agree, after_keeps_kinds, kinds_can_be_told}
+use Rattle.tree_laws.proofs.SettlingLaws.{lost_is_of}
 use Rattle.tree_laws.proofs.HistoryLaws.{legal-push, and-true}
 
 -- ---- what an entry changes is in its list of changed births
@@ -335,3 +336,47 @@ unseen_can_go server t ever more list w new legal unseen refused room =
     keeps_legal server (kinds_along t list) list t t [] ever more
       (record { well_t = w; well_u = w; new_t = new; new_u = new; kinds_t = k.0; kinds_u = k.0; told = k.1; near = λ b h. like_same vague (node_at t b); untouched = nothing_touches server t list })
       legal unseen refused room
+
+-- ---- a recovery
+unseen_if_unknown : (server : ℕ) (stalled : Bool) (t : FileTree) (list : List Settled) → none_known server stalled t list ≡ true → none_seen server t list ≡ true
+unseen_if_unknown server stalled t [] h = refl
+unseen_if_unknown server stalled t (InDoubt runs ∷ rest) h = unseen_if_unknown server stalled (after t (InDoubt runs)) rest h
+unseen_if_unknown server stalled t (Stays e ∷ rest) h =
+    let now = stalled_after server stalled (Stays e) in
+    let p = and_parts (not (e.server.0 == server) || (not (is_seen t e rest) && not (is_synced server now rest))) (none_known server now (after t (Stays e)) rest) h in
+    and_from (not (e.server.0 == server) || not (is_seen t e rest)) (none_seen server (after t (Stays e)) rest)
+      (weaker (not (e.server.0 == server)) (not (is_seen t e rest)) (not (is_synced server now rest)) p.0) (unseen_if_unknown server now (after t (Stays e)) rest p.1)
+  where
+    weaker : (a b c : Bool) → a || (b && c) ≡ true → a || b ≡ true
+    weaker true b c h = refl
+    weaker false true c h = refl
+    weaker false false c h = h
+
+recovery_legal : (server keeps : ℕ) (stalled : Bool) (t : FileTree) (ever : ℕ) (list : List Settled) → IsWellFormed t → AreNew t list → legal_from t ever list ≡ true → keeps_known server keeps stalled t list ≡ true → room_left server keeps t list ≡ true → legal_from t ever (left server keeps t list) ≡ true
+recovery_legal server keeps stalled t ever [] w new legal known room = refl
+recovery_legal server keeps stalled t ever (s ∷ rest) w new legal known room =
+    let l = and_parts (may_stand t ever s) (legal_from (after t s) (ever + grows t s) rest) legal in
+    go (begins_removal server keeps t s rest) refl known room l.0
+      (λ k r. recovery_legal server keeps (stalled_after server stalled s) (after t s) (ever + grows t s) rest (after_keeps t s rest w new) (are_new_after t s rest w new) l.1 k r)
+  where
+    not_so : (x : Bool) → not x ≡ true → x ≡ false
+    not_so true h = cc
+    not_so false h = refl
+
+    own : begins_removal server keeps t s rest ≡ true → without server (s ∷ rest) ≡ without server rest
+    own e = ap (λ b. cond (not b) (s ∷ without server rest) (without server rest)) (lost_is_of server keeps t s (and_parts (is_lost server keeps t s) (not (list_any (mounts server) rest)) e).0)
+
+    go : (b : Bool) → begins_removal server keeps t s rest ≡ b → cond b (none_known server stalled t (s ∷ rest)) (keeps_known server keeps (stalled_after server stalled s) (after t s) rest) ≡ true
+        → cond b (not (refused_later server (s ∷ rest)) && has_room t (without server (s ∷ rest))) (room_left server keeps (after t s) rest) ≡ true → may_stand t ever s ≡ true
+        → (keeps_known server keeps (stalled_after server stalled s) (after t s) rest ≡ true → room_left server keeps (after t s) rest ≡ true → legal_from (after t s) (ever + grows t s) (left server keeps (after t s) rest) ≡ true)
+        → legal_from t ever (cond b (without server rest) (s ∷ left server keeps (after t s) rest)) ≡ true
+    go true e known room stands later =
+        let r = and_parts (not (refused_later server (s ∷ rest))) (has_room t (without server (s ∷ rest))) room in
+        subst (λ l. legal_from t ever l ≡ true) (own e)
+          (unseen_can_go server t ever ever (s ∷ rest) w new legal (unseen_if_unknown server stalled t (s ∷ rest) known) (not_so (refused_later server (s ∷ rest)) r.0) r.1)
+    go false e known room stands later = and_from (may_stand t ever s) (legal_from (after t s) (ever + grows t s) (left server keeps (after t s) rest)) stands (later known room)
+
+pub recovery_leaves_legal : (server keeps : ℕ) (opening : FileTree) (ever : ℕ) (list : List Settled) → IsWellFormed opening → AreNew opening list → legal_from opening ever list ≡ true → keeps_known server keeps false opening list ≡ true → room_left server keeps opening list ≡ true → legal_from opening ever (recovered opening server keeps list) ≡ true
+recovery_leaves_legal server keeps opening ever list w new legal known room =
+    let rest = left server keeps opening list in
+    legal-push opening ever rest (InDoubt (doubtful server opening rest)) ∙ and-true (legal_from opening ever rest) ∙ recovery_legal server keeps false opening ever list w new legal known room

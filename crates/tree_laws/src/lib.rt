@@ -9,6 +9,7 @@ ghost use Rattle.tree_laws.specs.Kinds.{ToldKindsAgree, ApplyKeepsKinds, StepsKe
 ghost use Rattle.tree_laws.specs.WellFormed.{FindsWhatWasPut, MissesWhatWasTaken, FreshIsWellFormed, ApplyKeepsWellFormed, StepKeepsWellFormed, StepsKeepWellFormed, LaterNumbersStayNew, NodesComeByNumbers, WellFormedIsWalkable};
 ghost use Rattle.tree_laws.specs.Settling.{SettledIsOfHistory, SettlesToItself, RecoveryRemovesASuffix, LostIsOfTheServer};
 ghost use Rattle.tree_laws.specs.Counts.{MakesOneNode, FreesAtMostOneNode, KeepsTheNodes, BlocksNeverFall, LooksChangeNothing, LooksLeaveTheShape, NoPathTouchesNothing};
+ghost use Rattle.tree_laws.specs.Removing.{UnseenCanGo, RecoveryLeavesLegal};
 ghost use Rattle.tree_laws.specs.Touching.{GoesByWhatItTouches, UntouchedStays};
 ghost use Rattle.tree_laws.specs.Refusals.{RefusalsLeaveTheTree, LooksLeaveTheTree};
 
@@ -93,4 +94,12 @@ pub fn transcripts_are_closed_under_prefixes()
     ensures each { EachMayBeSaid }
     ensures longer { GoesOnByALine }
     ensures adds { LineAdds }
+{}
+
+/// What nobody saw can go: a legal list without the entries of a server, none of which another server has seen, is legal with the same
+/// replies, and so a recovery that removes nothing known leaves a legal list legal. No later entry of another server may have been
+/// answered for want of room, nor find it now.
+pub fn what_nobody_saw_can_go()
+    ensures unseen { UnseenCanGo }
+    ensures recovery { RecoveryLeavesLegal }
 {}
