@@ -26,3 +26,4 @@ pub mod CountLaws
 pub mod ShapeLaws
 pub mod Vagueness
 pub mod RemovingLaws
+pub mod WholeLaws

@@ -7,3 +7,4 @@ pub mod Kinds
 pub mod Settling
 pub mod Counts
 pub mod Removing
+pub mod Whole

@@ -10,6 +10,7 @@ ghost use Rattle.tree_laws.specs.WellFormed.{FindsWhatWasPut, MissesWhatWasTaken
 ghost use Rattle.tree_laws.specs.Settling.{SettledIsOfHistory, SettlesToItself, RecoveryRemovesASuffix, LostIsOfTheServer};
 ghost use Rattle.tree_laws.specs.Counts.{MakesOneNode, FreesAtMostOneNode, KeepsTheNodes, BlocksNeverFall, LooksChangeNothing, LooksLeaveTheShape, NoPathTouchesNothing};
 ghost use Rattle.tree_laws.specs.Removing.{UnseenCanGo, RecoveryLeavesLegal};
+ghost use Rattle.tree_laws.specs.Whole.{SettledNumbersAreNew, HistoriesStayWellFormed, RecoveryIsLegal, LegalIsOfWhatIsLeft};
 ghost use Rattle.tree_laws.specs.Touching.{GoesByWhatItTouches, UntouchedStays};
 ghost use Rattle.tree_laws.specs.Refusals.{RefusalsLeaveTheTree, LooksLeaveTheTree};
 
@@ -102,4 +103,13 @@ pub fn transcripts_are_closed_under_prefixes()
 pub fn what_nobody_saw_can_go()
     ensures unseen { UnseenCanGo }
     ensures recovery { RecoveryLeavesLegal }
+{}
+
+/// Of whole histories, with their recoveries: the tree of one with new numbers is well formed, and a legal one stays legal by a recovery
+/// more that keeps what must be kept and leaves room. Where no cell came into doubt, legal are the entries that are left, by themselves.
+pub fn recoveries_leave_a_history_legal()
+    ensures numbers { SettledNumbersAreNew }
+    ensures trees { HistoriesStayWellFormed }
+    ensures recovery { RecoveryIsLegal }
+    ensures left { LegalIsOfWhatIsLeft }
 {}
