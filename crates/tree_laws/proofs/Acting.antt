@@ -1,23 +1,19 @@
 -- Each operation on two trees that agree where it touches.
-use Rattle.std.proofs.Common.{ℕ, ◌≡◌, ◌≢◌, ◌<◌, ◌+◌, ◌-◌, ◌==◌, Bool, true, false, ◌&&◌, ◌||◌, not, Option, Some, None, List, [], ◌∷◌, ◌++◌, length, map, take, drop, replicate, cond, refl, sym, ◌∙◌, ap, ap₂, subst, inl, inr, ◌⊎◌, is_some, nat_lt, nat_le, nat_eq, arith}
-use Rattle.std.specs.List.{list_any}
+use Rattle.std.proofs.Common.{ℕ, ◌≡◌, ◌≢◌, ◌<◌, ◌+◌, ◌-◌, Bool, true, false, not, Option, Some, None, List, cond, refl, sym, ◌∙◌, ap, subst, inl, inr, ◌⊎◌, is_some, nat_lt, nat_le, arith}
 use Rattle.std.proofs.lemmas.Bool.{ltb-true}
-use Rattle.frang_base.specs.declared.reply.Reply.{Reply}
 use Rattle.frang_base.specs.declared.reply.Reply.TheVariants as reply
-use Rattle.tree_definitions.specs.declared.cells.Cell.{Cell}
 use Rattle.tree_definitions.specs.declared.node.Node.{Node}
 use Rattle.tree_definitions.specs.declared.node.Node.TheVariants.{Dir, File, Link}
 use Rattle.tree_definitions.specs.Entries.{Entries, with_entry, without_entry}
-use Rattle.tree_definitions.specs.Tree.{FileTree, node_at, with_node, without_node, inodes_full, entries_full, lacks_block, grown, larges_full, large_blocks_of}
-use Rattle.tree_definitions.specs.Place.{Place, Root, Taken, Free, Nowhere, place, walked}
-use Rattle.tree_definitions.specs.Apply.{Answer, Plain, Shows, Applied, says, named, made, is_dir, has_entries, links_of, one_link_more, one_link_fewer, linked_to, linked, unlinked, dir_removed, moved, moved_onto, moved_to, room_made, goes_through, renamed_to, renamed_from, renamed, name_gone, name_set, at_node, if_file, at_file, written, truncated, shown, described, listed, target_of}
-use Rattle.tree_definitions.specs.Touched.{dir_node}
+use Rattle.tree_definitions.specs.Tree.{FileTree, node_at, with_node, without_node, inodes_full, entries_full, lacks_block, grown}
+use Rattle.tree_definitions.specs.Place.{Place, Root, Taken, Free, Nowhere}
+use Rattle.tree_definitions.specs.Apply.{Plain, Applied, says, named, made, is_dir, has_entries, links_of, one_link_more, one_link_fewer, linked_to, linked, unlinked, dir_removed, moved, name_gone, name_set}
 use Rattle.tree_laws.specs.WellFormed.{BirthsAscend, EntriesNameNodes, IsNew}
-use Rattle.tree_laws.specs.Touching.{wants_room, SameKinds, kind_of, Kind, OfDirectory, OfFile, OfLink}
-use Rattle.tree_laws.proofs.Likeness.{Likeness, Like, Near, like_same, like_equal, like_dir, like_links}
-use Rattle.tree_laws.proofs.Nodes.{with_same, with_other, without_same, without_other, ascend_with, ascend_without}
-use Rattle.tree_laws.proofs.Places.{Stands, is_in}
-use Rattle.tree_laws.proofs.Joint.{Joint, Matches, Alike, joint_none, joint_with, joint_without, joint_more, joint_fewer, joint_moved, both_do, both_say, both_if, if_room}
+use Rattle.tree_laws.specs.Touching.{wants_room, SameKinds, kind_of, OfDirectory, OfFile, OfLink}
+use Rattle.tree_laws.proofs.Likeness.{Likeness, Near, like_equal, like_dir, like_links}
+use Rattle.tree_laws.proofs.Nodes.{with_same, with_other, without_same, ascend_with, ascend_without}
+use Rattle.tree_laws.proofs.Places.{Stands}
+use Rattle.tree_laws.proofs.Joint.{Matches, joint_none, joint_with, joint_without, joint_more, joint_fewer, both_do, both_say, both_if, if_room}
 
 -- births stay in order
 gone_ascends : (t : FileTree) (d : ℕ) (name : List ℕ) (o : Option Node) → BirthsAscend t → BirthsAscend (name_gone t d name o)
@@ -88,9 +84,9 @@ module _ (L : Likeness) (one two : FileTree) where
       let first = joint_with L one two one two (joint_none L one two) birth node (like_equal L (node_at one birth) (node_at two birth) (new_one ∙ sym new_two)) in
       let j = joint_with L one two (with_node one birth node) (with_node two birth node) first dir (Dir (with_entry es name birth) (grown es n)) (like_equal L (node_at one dir) (node_at two dir) (s.0 ∙ sym t.0)) in
       both_if L one two (entries_full es) (says one reply.DirFull) _ (says two reply.DirFull) _ (both_say L one two reply.DirFull)
-        (if_room L one two (inodes_full one) (inodes_full two) reply.NoInode reply.NoInode _ _ refl refl
-          (if_room L one two (lacks_block one es n) (lacks_block two es n) reply.NoDirBlock reply.NoDirBlock _ _ refl refl
-            (both_do L one two (named (with_node one birth node) dir es n name birth) (named (with_node two birth node) dir es n name birth) reply.Ok j)))
+      (if_room L one two (inodes_full one) (inodes_full two) reply.NoInode reply.NoInode _ _ refl refl
+      (if_room L one two (lacks_block one es n) (lacks_block two es n) reply.NoDirBlock reply.NoDirBlock _ _ refl refl
+      (both_do L one two (named (with_node one birth node) dir es n name birth) (named (with_node two birth node) dir es n name birth) reply.Ok j)))
 
 -- a node with a link more isn't the same
 more_differs : (t : FileTree) (d : ℕ) (x : Node) → is_dir (Some x) ≡ false → node_at (one_link_more t d (Some x)) d ≢ Some x
@@ -126,10 +122,10 @@ module _ (L : Likeness) (one two : FileTree) where
         let q = node_at two b in
         let j = joint_with L one two (one_link_more one b o) (one_link_more two b q) (joint_more L one two one two (joint_none L one two) b o q same same) dir (Dir (with_entry es name b) (grown es n)) at in
         subst (λ k. Matches L one two (linked_to one b (Free dir es n name)) (cond (nat_le 1000 k) (says two reply.MLink) (cond (entries_full es) (says two reply.DirFull) (cond (lacks_block two es n) (says two reply.NoDirBlock) (says (named (one_link_more two b q) dir es n name b) reply.Ok))))) (like_links L o q same)
-          (both_if L one two (nat_le 1000 (links_of o)) (says one reply.MLink) _ (says two reply.MLink) _ (both_say L one two reply.MLink)
-            (both_if L one two (entries_full es) (says one reply.DirFull) _ (says two reply.DirFull) _ (both_say L one two reply.DirFull)
-              (if_room L one two (lacks_block one es n) (lacks_block two es n) reply.NoDirBlock reply.NoDirBlock _ _ refl refl
-                (both_do L one two (named (one_link_more one b o) dir es n name b) (named (one_link_more two b q) dir es n name b) reply.Ok j))))
+        (both_if L one two (nat_le 1000 (links_of o)) (says one reply.MLink) _ (says two reply.MLink) _ (both_say L one two reply.MLink)
+        (both_if L one two (entries_full es) (says one reply.DirFull) _ (says two reply.DirFull) _ (both_say L one two reply.DirFull)
+        (if_room L one two (lacks_block one es n) (lacks_block two es n) reply.NoDirBlock reply.NoDirBlock _ _ refl refl
+        (both_do L one two (named (one_link_more one b o) dir es n name b) (named (one_link_more two b q) dir es n name b) reply.Ok j))))
 
     linked_to_matches : (q : Place) → Stands one q → Stands two q
         → ((linked_to one b q).answer ≡ Plain reply.MLink → Near L one two b) → ((linked_to one b q).answer ≡ Plain reply.DirFull → Near L one two b)
@@ -140,7 +136,7 @@ module _ (L : Likeness) (one two : FileTree) where
     linked_to_matches (Free dir es n name) s t m f l = record {
       alike = λ v w. (free_matches
           (by_link (Near L one two b) one (named (one_link_more one b (node_at one b)) dir es n name b) b (nat_le 1000 (links_of (node_at one b))) (entries_full es) (lacks_block one es n) v m f l
-            (linked_differs one b (node_at one b) refl there plain dir es n name s.0))
+          (linked_differs one b (node_at one b) refl there plain dir es n name s.0))
           dir es n name (like_equal L (node_at one dir) (node_at two dir) (s.0 ∙ sym t.0))).alike v w;
     }
 
@@ -174,8 +170,8 @@ module _ (L : Likeness) (one two : FileTree) where
           go true i m f l = subst (λ d. Matches L one two (says one reply.IsDir) (cond {A = Applied} d (says two reply.IsDir) (linked_to two b p))) (sym i ∙ dir_alike) (both_say L one two reply.IsDir)
           go false i m f l =
               subst (λ d. Matches L one two (linked_to one b q) (cond {A = Applied} d (says two reply.IsDir) (linked_to two b p))) (sym i ∙ dir_alike)
-                (subst (λ z. Matches L one two (linked_to one b q) (linked_to two b z)) (sym (same i))
-                  (linked_to_matches b some_one i q sq (subst (Stands two) (same i) tp) (λ e. m e i) (λ e. f e i) l))
+              (subst (λ z. Matches L one two (linked_to one b q) (linked_to two b z)) (sym (same i))
+              (linked_to_matches b some_one i q sq (subst (Stands two) (same i) tp) (λ e. m e i) (λ e. f e i) l))
 
       -- unlink, where the name is there
       fewer_matches : BirthsAscend one → BirthsAscend two → Near L one two b → Matches L one two (says (one_link_fewer (with_node one dir (Dir (without_entry es name) n)) b (node_at one b)) reply.Ok) (says (one_link_fewer (with_node two dir (Dir (without_entry es name) n)) b (node_at two b)) reply.Ok)
@@ -184,7 +180,7 @@ module _ (L : Likeness) (one two : FileTree) where
           let v = with_node two dir (Dir (without_entry es name) n) in
           let j = joint_with L one two one two (joint_none L one two) dir (Dir (without_entry es name) n) (like_equal L (node_at one dir) (node_at two dir) (s.0 ∙ sym t.0)) in
           both_do L one two (one_link_fewer u b (node_at one b)) (one_link_fewer v b (node_at two b)) reply.Ok
-            (joint_fewer L one two u v j (ascend_with one dir (Dir (without_entry es name) n) births_one) (ascend_with two dir (Dir (without_entry es name) n) births_two) b (node_at one b) (node_at two b) same same)
+          (joint_fewer L one two u v j (ascend_with one dir (Dir (without_entry es name) n) births_one) (ascend_with two dir (Dir (without_entry es name) n) births_two) b (node_at one b) (node_at two b) same same)
 
       -- a node with a link fewer is touched
       fewer_same : (u : FileTree) → BirthsAscend u → (o : Option Node) → node_at one b ≡ o → is_some o ≡ true → ((Near L one two b) ⊎ (node_at (one_link_fewer u b o) b ≡ node_at one b)) → Near L one two b
@@ -216,11 +212,11 @@ module _ (L : Likeness) (one two : FileTree) where
 
           go : (c : Bool) → is_dir (node_at one b) ≡ c
               → Matches L one two (cond {A = Applied} (not c) (says one reply.NotDir) (cond {A = Applied} (has_entries (node_at one b)) (says one reply.NotEmpty) (says (without_node u b) reply.Ok)))
-                  (cond {A = Applied} (not (is_dir (node_at two b))) (says two reply.NotDir) (cond {A = Applied} (has_entries (node_at two b)) (says two reply.NotEmpty) (says (without_node v b) reply.Ok)))
+              (cond {A = Applied} (not (is_dir (node_at two b))) (says two reply.NotDir) (cond {A = Applied} (has_entries (node_at two b)) (says two reply.NotEmpty) (says (without_node v b) reply.Ok)))
           go false i = subst (λ d. Matches L one two (says one reply.NotDir) (cond {A = Applied} (not d) (says two reply.NotDir) (cond {A = Applied} (has_entries (node_at two b)) (says two reply.NotEmpty) (says (without_node v b) reply.Ok)))) (sym i ∙ dir_alike) (both_say L one two reply.NotDir)
           go true i =
               let j = joint_with L one two one two (joint_none L one two) dir (Dir (without_entry es name) n) (like_equal L (node_at one dir) (node_at two dir) (s.0 ∙ sym t.0)) in
               subst (λ q. Matches L one two (cond {A = Applied} (has_entries (node_at one b)) (says one reply.NotEmpty) (says (without_node u b) reply.Ok)) (cond {A = Applied} (not (is_dir q)) (says two reply.NotDir) (cond {A = Applied} (has_entries q) (says two reply.NotEmpty) (says (without_node v b) reply.Ok)))) (like_dir L (node_at one b) (node_at two b) i (same i))
               (subst (λ d. Matches L one two (cond {A = Applied} (has_entries (node_at one b)) (says one reply.NotEmpty) (says (without_node u b) reply.Ok)) (cond {A = Applied} (not d) (says two reply.NotDir) (cond {A = Applied} (has_entries (node_at one b)) (says two reply.NotEmpty) (says (without_node v b) reply.Ok)))) (sym i)
-                (both_if L one two (has_entries (node_at one b)) (says one reply.NotEmpty) _ (says two reply.NotEmpty) _ (both_say L one two reply.NotEmpty)
-                  (both_do L one two (without_node u b) (without_node v b) reply.Ok (joint_without L one two u v j (ascend_with one dir (Dir (without_entry es name) n) births_one) (ascend_with two dir (Dir (without_entry es name) n) births_two) b (same i)))))
+              (both_if L one two (has_entries (node_at one b)) (says one reply.NotEmpty) _ (says two reply.NotEmpty) _ (both_say L one two reply.NotEmpty)
+              (both_do L one two (without_node u b) (without_node v b) reply.Ok (joint_without L one two u v j (ascend_with one dir (Dir (without_entry es name) n) births_one) (ascend_with two dir (Dir (without_entry es name) n) births_two) b (same i)))))

@@ -1,5 +1,5 @@
 -- An entry in two trees that are alike where it touches.
-use Rattle.std.proofs.Common.{ℕ, ◌≡◌, ◌==◌, Bool, true, false, ◌&&◌, ◌||◌, not, Option, Some, None, List, [], ◌∷◌, ◌++◌, map, cond, refl, sym, ◌∙◌, ap, ap₂, subst, inl, inr, ◌⊎◌, ⊎_elim, is_some}
+use Rattle.std.proofs.Common.{ℕ, ◌≡◌, Bool, true, false, ◌&&◌, ◌||◌, not, Option, Some, None, List, ◌++◌, map, cond, refl, sym, ◌∙◌, ap, ap₂, subst, inl, inr, ◌⊎◌, ⊎_elim, is_some}
 use Rattle.std.proofs.lemmas.Bool.{and_parts, and_from}
 use Rattle.frang_base.specs.declared.op.Op.{Op}
 use Rattle.frang_base.specs.declared.op.Op.TheVariants as op
@@ -10,19 +10,19 @@ use Rattle.tree_definitions.specs.declared.cells.Cell.TheVariants.{Byte}
 use Rattle.tree_definitions.specs.declared.history.Entry.{Entry}
 use Rattle.tree_definitions.specs.declared.node.Node.{Node}
 use Rattle.tree_definitions.specs.declared.node.Node.TheVariants.{Dir, File, Link}
-use Rattle.tree_definitions.specs.Tree.{FileTree, node_at, with_node}
+use Rattle.tree_definitions.specs.Tree.{FileTree, node_at}
 use Rattle.tree_definitions.specs.Place.{Place, Root, Taken, Free, Nowhere, place}
-use Rattle.tree_definitions.specs.Apply.{Applied, apply, overwritten, is_path_op}
+use Rattle.tree_definitions.specs.Apply.{overwritten, is_path_op}
 use Rattle.tree_definitions.specs.History.{applied, is_answer, agrees, told_blocks, leaves_tree, tree_after, after_read, with_shown, file_at, file_of}
-use Rattle.tree_definitions.specs.Touched.{touches, changes, differs, same_where, looked_in, further, reached, file_node}
+use Rattle.tree_definitions.specs.Touched.{touches, changes, same_where, looked_in, further, reached, file_node}
 use Rattle.tree_laws.specs.Refusals.{is_look}
 use Rattle.tree_laws.specs.WellFormed.{IsNew, IsWalkable}
-use Rattle.tree_laws.specs.Touching.{SameKinds, wants_room, AgreeWhereTouched, DoesAlike, Kind, OfDirectory, OfFile, OfLink}
+use Rattle.tree_laws.specs.Touching.{SameKinds, wants_room, AgreeWhereTouched, DoesAlike, OfDirectory, OfFile, OfLink}
 use Rattle.tree_laws.proofs.Sameness.{differs_or_not, where_same}
-use Rattle.tree_laws.proofs.Places.{is_in, Stands, place_stands, dir_is_some}
+use Rattle.tree_laws.proofs.Places.{is_in, Stands, place_stands}
 use Rattle.tree_laws.proofs.Refusals.{looks_leave}
 use Rattle.tree_laws.proofs.Likeness.{Likeness, Like, Near, like_equal, overwritten_like, agrees_like, equal, equal_nodes, equal_answers}
-use Rattle.tree_laws.proofs.Joint.{Both, Joint, Alike, Matches, joint_none, joint_put, joint_near}
+use Rattle.tree_laws.proofs.Joint.{Both, Joint, Alike, joint_none, joint_put, joint_near}
 use Rattle.tree_laws.proofs.Asking.{Grounds}
 use Rattle.tree_laws.proofs.Applying.{AgreeOn, walks, in_left, in_right, apply_matches}
 use Rattle.tree_laws.proofs.Looking.{looked_same, further_same}
@@ -88,7 +88,7 @@ module _ (L : Likeness) (one two : FileTree) (e : Entry) (walk_one : IsWalkable 
   with_shown_joint (Some f) q off bytes l same =
       let new = map Byte bytes in
       subst (λ z. Joint L one two (with_shown one (Some f) off bytes) (with_shown two z off bytes)) (sym l.1)
-        (joint_put L one two one two (joint_none L one two) f.0 (File (overwritten f.1.0 off new) f.1.1) (File (overwritten l.0 off new) f.1.1) (same f refl) (overwritten l.0 off new, refl, overwritten_like L f.1.0 l.0 off new l.2))
+      (joint_put L one two one two (joint_none L one two) f.0 (File (overwritten f.1.0 off new) f.1.1) (File (overwritten l.0 off new) f.1.1) (same f refl) (overwritten l.0 off new, refl, overwritten_like L f.1.0 l.0 off new l.2))
 
   read_joint : (o : Op) (r : Reply) → e.op ≡ o → e.reply ≡ r → Joint L one two (applied one e).tree (applied two e).tree → Joint L one two (after_read (applied one e).tree o r) (after_read (applied two e).tree o r)
   read_joint (op.Read path off len) (reply.Shown bytes) i j h =
@@ -100,7 +100,7 @@ module _ (L : Likeness) (one two : FileTree) (e : Entry) (walk_one : IsWalkable 
       let file : LikeFile (file_at one (place one path)) (file_at two (place two path)) = subst (λ p. LikeFile (file_at one (place one path)) (file_at two p)) (sym walk.place) (file_at_like (place one path) (place_stands one path) (subst (Stands two) walk.place (place_stands two path)) found) in
       subst (λ t. Joint L one two (with_shown t (file_at t (place t path)) off bytes) (after_read (applied two e).tree (op.Read path off len) (reply.Shown bytes))) (sym look_one)
       (subst (λ t. Joint L one two (with_shown one (file_at one (place one path)) off bytes) (with_shown t (file_at t (place t path)) off bytes)) (sym look_two)
-        (with_shown_joint (file_at one (place one path)) (file_at two (place two path)) off bytes file (λ f k. found f.0 (file_at_reached one (place one path) f k))))
+      (with_shown_joint (file_at one (place one path)) (file_at two (place two path)) off bytes file (λ f k. found f.0 (file_at_reached one (place one path) f k))))
   read_joint (op.Read path off len) _ i j h = h
   read_joint _ r i j h = h
 

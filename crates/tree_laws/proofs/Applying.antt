@@ -1,6 +1,5 @@
 -- An operation goes by the nodes that it touches.
-use Rattle.std.proofs.Common.{ℕ, ◌≡◌, ◌==◌, Bool, true, false, ◌&&◌, ◌||◌, not, Option, Some, None, List, [], ◌∷◌, ◌++◌, length, map, replicate, take, drop, cond, refl, sym, ◌∙◌, ap, subst, inl, inr, ◌⊎◌, is_some}
-use Rattle.std.specs.List.{list_any}
+use Rattle.std.proofs.Common.{ℕ, ◌≡◌, ◌==◌, Bool, true, false, ◌||◌, not, Option, Some, None, List, [], ◌∷◌, ◌++◌, length, map, replicate, refl, sym, ◌∙◌, ap, subst, ◌⊎◌, is_some}
 use Rattle.frang_base.specs.declared.op.Op.{Op}
 use Rattle.frang_base.specs.declared.op.Op.TheVariants as op
 use Rattle.frang_base.specs.declared.reply.Reply.{Reply}
@@ -9,15 +8,14 @@ use Rattle.tree_definitions.specs.declared.cells.Cell.{Cell}
 use Rattle.tree_definitions.specs.declared.cells.Cell.TheVariants.{Byte}
 use Rattle.tree_definitions.specs.declared.node.Node.{Node}
 use Rattle.tree_definitions.specs.declared.node.Node.TheVariants.{Dir, File, Link}
-use Rattle.tree_definitions.specs.Entries.{Entries}
 use Rattle.tree_definitions.specs.Tree.{FileTree, node_at}
 use Rattle.tree_definitions.specs.Place.{Place, Root, Taken, Free, Nowhere, place, walked}
 use Rattle.tree_definitions.specs.Apply.{Answer, Plain, Applied, apply, says, is_dir, linked, unlinked, dir_removed, renamed, renamed_from, renamed_to, overwritten, written, truncated, shown, made, at_file, at_node, described, listed, target_of}
 use Rattle.tree_definitions.specs.History.{agrees}
 use Rattle.tree_definitions.specs.Touched.{looked_in, further, reached, reached_if, then_walked, any_node, dir_node, file_node, link_node}
 use Rattle.tree_laws.specs.WellFormed.{IsNew}
-use Rattle.tree_laws.proofs.Likeness.{Likeness, Like, Near, overwritten_like}
-use Rattle.tree_laws.proofs.Places.{Stands, SameWalk, same_walk, place_stands, is_in, head_is_in}
+use Rattle.tree_laws.proofs.Likeness.{Likeness, Near, overwritten_like}
+use Rattle.tree_laws.proofs.Places.{Stands, SameWalk, same_walk, place_stands, is_in}
 use Rattle.tree_laws.proofs.Replies.{told_mlink, told_dirfull, told_notempty}
 use Rattle.tree_laws.proofs.Joint.{Matches, both_say}
 use Rattle.tree_laws.proofs.Acting.{made_matches, link_taken, unlink_taken, rmdir_taken, some_one}
@@ -107,11 +105,11 @@ module _ (L : Likeness) (one two : FileTree) (g : Grounds one two) where
             let told_by = λ (w : Answer) (z : (linked one (Taken dir es n name b) (place one to)).answer ≡ w). subst (λ v. agrees v r ≡ true) (ap (λ p. (linked one p (place one to)).answer) (sym e) ∙ z) h.told in
             let reached_b : is_in b (reached one any_node (place one path)) ≡ true = subst (λ p. is_in b (reached one any_node p) ≡ true) e (any_is_in one (Taken dir es n name b) b (node_at one b) refl there refl) in
             link_taken L one two g.kinds g.alive_one g.alive_two dir es n name b s t (place one to) (place two to) (place_stands one to) (place_stands two to)
-              (λ f. (walks to (λ d i. h.looked d (in_right d (walked one path) (then_walked one (reached one (λ n. not (dir_node n)) (place one path)) to)
-                  (subst (λ p. is_in d (then_walked one (reached one (λ n. not (dir_node n)) p) to) ≡ true) e (subst (λ l. is_in d l ≡ true) (sym (then_after_plain one b (node_at one b) to there f)) i))))).place)
-              (λ z f. h.further b (subst (λ q. is_in b (further one (op.Link path to) q) ≡ true) (sym (told_mlink r (told_by (Plain reply.MLink) z))) reached_b))
-              (λ z f. h.further b (subst (λ q. is_in b (further one (op.Link path to) q) ≡ true) (sym (told_dirfull r (told_by (Plain reply.DirFull) z))) reached_b))
-              (subst (λ p. (Near L one two b) ⊎ (node_at (linked one p (place one to)).tree b ≡ node_at one b)) (sym e) (h.left b))
+            (λ f. (walks to (λ d i. h.looked d (in_right d (walked one path) (then_walked one (reached one (λ n. not (dir_node n)) (place one path)) to)
+            (subst (λ p. is_in d (then_walked one (reached one (λ n. not (dir_node n)) p) to) ≡ true) e (subst (λ l. is_in d l ≡ true) (sym (then_after_plain one b (node_at one b) to there f)) i))))).place)
+            (λ z f. h.further b (subst (λ q. is_in b (further one (op.Link path to) q) ≡ true) (sym (told_mlink r (told_by (Plain reply.MLink) z))) reached_b))
+            (λ z f. h.further b (subst (λ q. is_in b (further one (op.Link path to) q) ≡ true) (sym (told_dirfull r (told_by (Plain reply.DirFull) z))) reached_b))
+            (subst (λ p. (Near L one two b) ⊎ (node_at (linked one p (place one to)).tree b ≡ node_at one b)) (sym e) (h.left b))
 
     unlink_matches : (path : List (List ℕ)) → AgreeOn L one two (op.Unlink path) r (apply one (op.Unlink path) birth m) → Matches L one two (unlinked one (place one path)) (unlinked two (place two path))
     unlink_matches path h = at_place (unlinked one) (unlinked two) path h.looked go
@@ -147,13 +145,13 @@ module _ (L : Likeness) (one two : FileTree) (g : Grounds one two) where
         go (Taken dir es n name b) s t e =
             let there = some_one L one two g.kinds g.alive_one g.alive_two dir es n name b s t in
             let walk = walks (q ∷ qs) (λ d i. h.looked d (in_right d (walked one (p ∷ ps)) (then_walked one (reached one any_node (place one (p ∷ ps))) (q ∷ qs))
-                (subst (λ z. is_in d (then_walked one (reached one any_node z) (q ∷ qs)) ≡ true) e (subst (λ l. is_in d l ≡ true) (sym (then_after_any one b (node_at one b) (q ∷ qs) there)) i)))) in
+            (subst (λ z. is_in d (then_walked one (reached one any_node z) (q ∷ qs)) ≡ true) e (subst (λ l. is_in d l ≡ true) (sym (then_after_any one b (node_at one b) (q ∷ qs) there)) i)))) in
             let outcome : renamed one (p ∷ ps) (q ∷ qs) ≡ renamed_to one dir name b (q ∷ qs) (place one (q ∷ qs)) = ap (λ z. renamed_from one z (q ∷ qs)) (sym e) in
             subst (λ z. Matches L one two (renamed_to one dir name b (q ∷ qs) (place one (q ∷ qs))) (renamed_to two dir name b (q ∷ qs) z)) (sym walk.place)
-              (renamed_to_matches L one two g.births_one g.births_two g.kinds g.alive_one g.alive_two dir es n name b s t (q ∷ qs) walk.walked (place one (q ∷ qs)) (place_stands one (q ∷ qs)) (subst (Stands two) walk.place (place_stands two (q ∷ qs)))
-                (λ to fs m new old at z d. h.further old (subst (λ w. is_in old (further one (op.Rename (p ∷ ps) (q ∷ qs)) w) ≡ true) (sym (told_notempty r (subst (λ v. agrees v r ≡ true) (ap (λ a. a.answer) outcome ∙ z) h.told)))
-                    (dir_is_in one (place one (q ∷ qs)) old (node_at one old) refl d (subst (λ w. Reaches w old) (sym at) refl))))
-                (λ c. subst (λ a. (Near L one two c) ⊎ (node_at a.tree c ≡ node_at one c)) outcome (h.left c)))
+            (renamed_to_matches L one two g.births_one g.births_two g.kinds g.alive_one g.alive_two dir es n name b s t (q ∷ qs) walk.walked (place one (q ∷ qs)) (place_stands one (q ∷ qs)) (subst (Stands two) walk.place (place_stands two (q ∷ qs)))
+            (λ to fs m new old at z d. h.further old (subst (λ w. is_in old (further one (op.Rename (p ∷ ps) (q ∷ qs)) w) ≡ true) (sym (told_notempty r (subst (λ v. agrees v r ≡ true) (ap (λ a. a.answer) outcome ∙ z) h.told)))
+            (dir_is_in one (place one (q ∷ qs)) old (node_at one old) refl d (subst (λ w. Reaches w old) (sym at) refl))))
+            (λ c. subst (λ a. (Near L one two c) ⊎ (node_at a.tree c ≡ node_at one c)) outcome (h.left c)))
 
     pub apply_matches : (o : Op) → AgreeOn L one two o r (apply one o birth m) → Matches L one two (apply one o birth m) (apply two o birth k)
     apply_matches (op.Create path) h = at_place (made one birth (File [] 1)) (made two birth (File [] 1)) path h.looked (λ p s t e. made_matches L one two birth (File [] 1) new_one new_two p s t)
@@ -166,21 +164,21 @@ module _ (L : Likeness) (one two : FileTree) (g : Grounds one two) where
     apply_matches (op.Write path off bytes) h =
         let f = λ (t : FileTree) (i : ℕ) (b : ℕ) (cells : List Cell) (links : ℕ). written t i b cells links off (length bytes) (λ old. overwritten old off (map Byte bytes)) in
         at_place (λ p. at_file one p (f one m)) (λ p. at_file two p (f two k)) path h.looked
-          (λ p s t e. at_file_matches L one two g (f one m) (f two k) (λ b cells others links same l. written_matches L one two g m k b cells others links off (length bytes) (λ old. overwritten old off (map Byte bytes)) same l (overwritten_like L cells others off (map Byte bytes) l)) p s t
-            (λ b i. h.further b (subst (λ p. is_in b (reached one file_node p) ≡ true) e i)))
+        (λ p s t e. at_file_matches L one two g (f one m) (f two k) (λ b cells others links same l. written_matches L one two g m k b cells others links off (length bytes) (λ old. overwritten old off (map Byte bytes)) same l (overwritten_like L cells others off (map Byte bytes) l)) p s t
+        (λ b i. h.further b (subst (λ p. is_in b (reached one file_node p) ≡ true) e i)))
     apply_matches (op.Fill path off len byte) h =
         let f = λ (t : FileTree) (i : ℕ) (b : ℕ) (cells : List Cell) (links : ℕ). written t i b cells links off len (λ old. overwritten old off (replicate len (Byte byte))) in
         at_place (λ p. at_file one p (f one m)) (λ p. at_file two p (f two k)) path h.looked
-          (λ p s t e. at_file_matches L one two g (f one m) (f two k) (λ b cells others links same l. written_matches L one two g m k b cells others links off len (λ old. overwritten old off (replicate len (Byte byte))) same l (overwritten_like L cells others off (replicate len (Byte byte)) l)) p s t
-            (λ b i. h.further b (subst (λ p. is_in b (reached one file_node p) ≡ true) e i)))
+        (λ p s t e. at_file_matches L one two g (f one m) (f two k) (λ b cells others links same l. written_matches L one two g m k b cells others links off len (λ old. overwritten old off (replicate len (Byte byte))) same l (overwritten_like L cells others off (replicate len (Byte byte)) l)) p s t
+        (λ b i. h.further b (subst (λ p. is_in b (reached one file_node p) ≡ true) e i)))
     apply_matches (op.Truncate path len) h =
         at_place (λ p. at_file one p (λ b cells links. truncated one b cells links len)) (λ p. at_file two p (λ b cells links. truncated two b cells links len)) path h.looked
-          (λ p s t e. at_file_matches L one two g (λ b cells links. truncated one b cells links len) (λ b cells links. truncated two b cells links len) (λ b cells others links same l. truncated_matches L one two g b cells others links len same l) p s t
-            (λ b i. h.further b (subst (λ p. is_in b (reached one file_node p) ≡ true) e i)))
+        (λ p s t e. at_file_matches L one two g (λ b cells links. truncated one b cells links len) (λ b cells links. truncated two b cells links len) (λ b cells others links same l. truncated_matches L one two g b cells others links len same l) p s t
+        (λ b i. h.further b (subst (λ p. is_in b (reached one file_node p) ≡ true) e i)))
     apply_matches (op.Read path off len) h =
         at_place (λ p. at_file one p (λ b cells links. shown one cells off len)) (λ p. at_file two p (λ b cells links. shown two cells off len)) path h.looked
-          (λ p s t e. at_file_matches L one two g (λ b cells links. shown one cells off len) (λ b cells links. shown two cells off len) (λ b cells others links same l. shown_matches L one two g cells others off len l) p s t
-            (λ b i. h.further b (subst (λ p. is_in b (reached one file_node p) ≡ true) e i)))
+        (λ p s t e. at_file_matches L one two g (λ b cells links. shown one cells off len) (λ b cells links. shown two cells off len) (λ b cells others links same l. shown_matches L one two g cells others off len l) p s t
+        (λ b i. h.further b (subst (λ p. is_in b (reached one file_node p) ≡ true) e i)))
     apply_matches (op.Stat path) h = at_place (λ p. at_node one p (λ b o. described one o)) (λ p. at_node two p (λ b o. described two o)) path h.looked
         (λ p s t e. stat_matches L one two g p s t (λ b i. h.further b (subst (λ p. is_in b (reached one any_node p) ≡ true) e i)))
     apply_matches (op.List path) h = at_place (λ p. at_node one p (λ b o. listed one o)) (λ p. at_node two p (λ b o. listed two o)) path h.looked
@@ -189,8 +187,8 @@ module _ (L : Likeness) (one two : FileTree) (g : Grounds one two) where
         (λ p s t e. readlink_matches L one two g p s t (λ b i. h.further b (subst (λ p. is_in b (reached one link_node p) ≡ true) e i)))
     apply_matches (op.Time path) h =
         at_place (λ p. at_file one p (λ b cells links. says one (reply.Time 0 0))) (λ p. at_file two p (λ b cells links. says two (reply.Time 0 0))) path h.looked
-          (λ p s t e. at_file_matches L one two g (λ b cells links. says one (reply.Time 0 0)) (λ b cells links. says two (reply.Time 0 0)) (λ b cells others links same l. both_say L one two (reply.Time 0 0)) p s t
-            (λ b i. h.further b (subst (λ p. is_in b (reached one any_node p) ≡ true) e (file_is_any one p b i))))
+        (λ p s t e. at_file_matches L one two g (λ b cells links. says one (reply.Time 0 0)) (λ b cells links. says two (reply.Time 0 0)) (λ b cells others links same l. both_say L one two (reply.Time 0 0)) p s t
+        (λ b i. h.further b (subst (λ p. is_in b (reached one any_node p) ≡ true) e (file_is_any one p b i))))
     apply_matches op.Sync h = both_say L one two reply.Ok
     apply_matches op.Mount h = both_say L one two reply.Ok
     apply_matches op.Unmount h = both_say L one two reply.Ok

@@ -1,20 +1,18 @@
 -- What is asked of one node, in two trees that agree where it touches.
-use Rattle.std.proofs.Common.{ℕ, ◌≡◌, ◌+◌, ◌-◌, ◌*◌, ◌==◌, Bool, true, false, ◌&&◌, ◌||◌, not, Option, Some, None, List, [], ◌∷◌, ◌++◌, length, take, drop, max, cond, refl, sym, ◌∙◌, ap, subst, is_some, nat_lt}
-use Rattle.std.specs.List.{list_any}
-use Rattle.frang_base.specs.declared.reply.Reply.{Reply}
+use Rattle.std.proofs.Common.{ℕ, ◌≡◌, ◌+◌, ◌-◌, ◌*◌, Bool, true, ◌&&◌, Option, Some, None, List, [], length, take, drop, max, cond, refl, sym, ◌∙◌, ap, subst, is_some, nat_lt}
 use Rattle.frang_base.specs.declared.reply.Reply.TheVariants as reply
 use Rattle.tree_definitions.specs.declared.cells.Cell.{Cell}
 use Rattle.tree_definitions.specs.declared.node.Node.{Node}
 use Rattle.tree_definitions.specs.declared.node.Node.TheVariants.{Dir, File, Link}
 use Rattle.tree_definitions.specs.Tree.{FileTree, node_at, with_node, larges_full, large_blocks_of, small_blocks_of, count_of, file_blocks}
 use Rattle.tree_definitions.specs.Place.{Place, Root, Taken, Free, Nowhere}
-use Rattle.tree_definitions.specs.Apply.{Answer, Plain, Shows, Applied, says, at_node, if_file, at_file, written, truncated, shown, described, listed, target_of}
+use Rattle.tree_definitions.specs.Apply.{Shows, Applied, says, at_node, if_file, at_file, written, truncated, shown, described, listed, target_of}
 use Rattle.tree_definitions.specs.Touched.{dir_node, file_node, link_node, any_node, reached, reached_if}
 use Rattle.tree_laws.specs.WellFormed.{BirthsAscend, EntriesNameNodes, IsRooted}
-use Rattle.tree_laws.specs.Touching.{SameKinds, Kind, OfDirectory, OfFile, OfLink, kind_of}
+use Rattle.tree_laws.specs.Touching.{SameKinds, OfDirectory, OfFile, OfLink}
 use Rattle.tree_laws.proofs.Places.{Stands, is_in, head_is_in, dir_is_some}
-use Rattle.tree_laws.proofs.Likeness.{Likeness, Like, Near, like_same, like_equal}
-use Rattle.tree_laws.proofs.Joint.{Joint, Matches, Alike, joint_none, joint_with, joint_put, both_do, both_say, both_if, if_room}
+use Rattle.tree_laws.proofs.Likeness.{Likeness, Like, Near}
+use Rattle.tree_laws.proofs.Joint.{Matches, joint_none, joint_put, both_do, both_say, both_if, if_room}
 
 -- what is known of the two trees
 pub record Grounds (one two : FileTree) : Type 0 where
@@ -77,9 +75,9 @@ module _ (L : Likeness) (one two : FileTree) (g : Grounds one two) where
   writing t m n off len u =
       let size = max n (off + len) in
       cond (nat_lt n off) (says t reply.BadOffset)
-        (cond (nat_lt 1114112 (off + len)) (says t reply.TooBig)
-          (cond (nat_lt (large_blocks_of n) (large_blocks_of size) && larges_full t) (says t reply.NoLarge)
-            (cond (nat_lt (1024 * t.segments - m) (count_of file_blocks t + (small_blocks_of size - small_blocks_of n))) (says t (reply.NoBlock m)) (says u reply.Ok))))
+      (cond (nat_lt 1114112 (off + len)) (says t reply.TooBig)
+      (cond (nat_lt (large_blocks_of n) (large_blocks_of size) && larges_full t) (says t reply.NoLarge)
+      (cond (nat_lt (1024 * t.segments - m) (count_of file_blocks t + (small_blocks_of size - small_blocks_of n))) (says t (reply.NoBlock m)) (says u reply.Ok))))
 
   pub written_matches : (m k b : ℕ) (cells others : List Cell) (links off len : ℕ) (put : List Cell → List Cell) → Near L one two b → L.like cells others → L.like (put cells) (put others) → Matches L one two (written one m b cells links off len put) (written two k b others links off len put)
   written_matches m k b cells others links off len put same l p =
@@ -88,24 +86,24 @@ module _ (L : Likeness) (one two : FileTree) (g : Grounds one two) where
       let u = with_node one b (File (put cells) links) in
       let v = with_node two b (File (put others) links) in
       subst (λ i. Matches L one two (written one m b cells links off len put) (writing two k i off len v)) (L.long cells others l)
-        (both_if L one two (nat_lt n off) (says one reply.BadOffset) _ (says two reply.BadOffset) _ (both_say L one two reply.BadOffset)
-          (both_if L one two (nat_lt 1114112 (off + len)) (says one reply.TooBig) _ (says two reply.TooBig) _ (both_say L one two reply.TooBig)
-            (if_room L one two (nat_lt (large_blocks_of n) (large_blocks_of size) && larges_full one) (nat_lt (large_blocks_of n) (large_blocks_of size) && larges_full two) reply.NoLarge reply.NoLarge _ _ refl refl
-              (if_room L one two (nat_lt (1024 * one.segments - m) (count_of file_blocks one + (small_blocks_of size - small_blocks_of n))) (nat_lt (1024 * two.segments - k) (count_of file_blocks two + (small_blocks_of size - small_blocks_of n))) (reply.NoBlock m) (reply.NoBlock k) _ _ refl refl
-                (both_do L one two u v reply.Ok (joint_put L one two one two (joint_none L one two) b (File (put cells) links) (File (put others) links) same (put others, refl, p)))))))
+      (both_if L one two (nat_lt n off) (says one reply.BadOffset) _ (says two reply.BadOffset) _ (both_say L one two reply.BadOffset)
+      (both_if L one two (nat_lt 1114112 (off + len)) (says one reply.TooBig) _ (says two reply.TooBig) _ (both_say L one two reply.TooBig)
+      (if_room L one two (nat_lt (large_blocks_of n) (large_blocks_of size) && larges_full one) (nat_lt (large_blocks_of n) (large_blocks_of size) && larges_full two) reply.NoLarge reply.NoLarge _ _ refl refl
+      (if_room L one two (nat_lt (1024 * one.segments - m) (count_of file_blocks one + (small_blocks_of size - small_blocks_of n))) (nat_lt (1024 * two.segments - k) (count_of file_blocks two + (small_blocks_of size - small_blocks_of n))) (reply.NoBlock m) (reply.NoBlock k) _ _ refl refl
+      (both_do L one two u v reply.Ok (joint_put L one two one two (joint_none L one two) b (File (put cells) links) (File (put others) links) same (put others, refl, p)))))))
 
   pub truncated_matches : (b : ℕ) (cells others : List Cell) (links len : ℕ) → Near L one two b → L.like cells others → Matches L one two (truncated one b cells links len) (truncated two b others links len)
   truncated_matches b cells others links len same l =
       let v = with_node two b (File (take len others) links) in
       subst (λ i. Matches L one two (truncated one b cells links len) (cond (nat_lt i len) (says two reply.BadOffset) (says v reply.Ok))) (L.long cells others l)
-        (both_if L one two (nat_lt (length cells) len) (says one reply.BadOffset) _ (says two reply.BadOffset) _ (both_say L one two reply.BadOffset)
-          (both_do L one two (with_node one b (File (take len cells) links)) v reply.Ok (joint_put L one two one two (joint_none L one two) b (File (take len cells) links) (File (take len others) links) same (take len others, refl, L.taken len cells others l))))
+      (both_if L one two (nat_lt (length cells) len) (says one reply.BadOffset) _ (says two reply.BadOffset) _ (both_say L one two reply.BadOffset)
+      (both_do L one two (with_node one b (File (take len cells) links)) v reply.Ok (joint_put L one two one two (joint_none L one two) b (File (take len cells) links) (File (take len others) links) same (take len others, refl, L.taken len cells others l))))
 
   pub shown_matches : (cells others : List Cell) (off len : ℕ) → L.like cells others → Matches L one two (shown one cells off len) (shown two others off len)
   shown_matches cells others off len l =
       subst (λ i. Matches L one two (shown one cells off len) (cond (nat_lt i off) (says two reply.BadOffset) (record { answer = Shows (take len (drop off others)); tree = two }))) (L.long cells others l)
-        (both_if L one two (nat_lt (length cells) off) (says one reply.BadOffset) _ (says two reply.BadOffset) _ (both_say L one two reply.BadOffset)
-          (record { alike = λ _ _. record { answer = (take len (drop off others), refl, L.taken len (drop off cells) (drop off others) (L.dropped off cells others l)); nodes = joint_none L one two } }))
+      (both_if L one two (nat_lt (length cells) off) (says one reply.BadOffset) _ (says two reply.BadOffset) _ (both_say L one two reply.BadOffset)
+      (record { alike = λ _ _. record { answer = (take len (drop off others), refl, L.taken len (drop off cells) (drop off others) (L.dropped off cells others l)); nodes = joint_none L one two } }))
 
   -- of any node
   described_matches : (o q : Option Node) → Like L o q → Matches L one two (described one o) (described two q)

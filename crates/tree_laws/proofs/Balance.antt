@@ -1,9 +1,9 @@
 -- What changes of a tree do to its order, to its root, and to the balance of names and links.
-use Rattle.std.proofs.Common.{ℕ, ◌≡◌, ◌≢◌, ◌<◌, ◌≤◌, ◌+◌, ◌-◌, ◌==◌, Bool, true, false, Option, Some, None, List, [], ◌∷◌, length, cond, refl, sym, ◌∙◌, ap, subst, nat_eq, nat_lt, arith, eq-eqb, ne_eqb, is_some, unwrap_or}
+use Rattle.std.proofs.Common.{ℕ, ◌≡◌, ◌≢◌, ◌≤◌, ◌+◌, ◌==◌, true, Option, Some, None, List, cond, refl, sym, ◌∙◌, ap, subst, arith, eq-eqb, ne_eqb, unwrap_or}
 use Rattle.std.specs.Option.{option_map}
 use Rattle.std.specs.List.Sorted.{IsStrictlySortedBy}
-use Rattle.std.specs.Map.{keys_of, values_of, lookup, remove_entry}
-use Rattle.std.specs.BTreeMap.{is_at, insert_entry}
+use Rattle.std.specs.Map.{keys_of}
+use Rattle.std.specs.BTreeMap.{is_at}
 use Rattle.std.specs.Ordering.{nat_cmp}
 use Rattle.std.specs.Cmp.{nat_cmp_total}
 use Rattle.std.specs.Cmp.Lexicographic.{slice_cmp, nat_list_cmp_total}
@@ -14,7 +14,7 @@ use Rattle.tree_definitions.specs.Entries.{Entries, entry_at, with_entry, withou
 use Rattle.tree_definitions.specs.Tree.{FileTree, node_at, with_node, without_node}
 use Rattle.tree_definitions.specs.Apply.{is_dir, links_of}
 use Rattle.tree_laws.specs.WellFormed.{BirthsAscend, NamesAscend, IsRooted, one_at, names_in, names_of, IsWellFormed}
-use Rattle.tree_laws.specs.Touching.{Kind, OfDirectory, OfFile, OfLink, kind_of}
+use Rattle.tree_laws.specs.Touching.{Kind, OfDirectory, OfFile, OfLink}
 use Rattle.tree_laws.proofs.Nodes.{each_but, with_same, with_other, without_same, without_other, ascend_with, ascend_without}
 
 -- a count of a node that may not be there
@@ -113,11 +113,11 @@ module _ (A : Limits) (t : FileTree) (x y : ℕ → ℕ) (o : Owing A t x y) whe
       names = dirs_alone t d (Dir fs m) o.names (λ gs k e. (let i : fs ≡ gs = cc in subst (λ l. IsStrictlySortedBy (slice_cmp nat_cmp) (keys_of l)) i sorted));
       rooted = dir_rooted;
       balance = λ b. (
-        let a : names_of (with_node t d (Dir fs m)) b + names_in b (Dir es n) ≡ names_of t b + names_in b (Dir fs m) = subst (λ z. names_of (with_node t d (Dir fs m)) b + names_at b z ≡ names_of t b + names_in b (Dir fs m)) is (names_with t d (Dir fs m) b o.births) in
-        let c : names_in b (Dir fs m) + p b ≡ names_in b (Dir es n) + q b = count b in
-        let h : names_of t b + one_at 0 b + x b ≡ links_of (node_at t b) + y b = o.balance b in
-        let l : links_of (node_at (with_node t d (Dir fs m)) b) ≡ links_of (node_at t b) = dir_links b in
-        owed (names_of (with_node t d (Dir fs m)) b) (names_of t b) (names_in b (Dir es n)) (names_in b (Dir fs m)) (p b) (q b) (one_at 0 b) (x b) (y b) (links_of (node_at (with_node t d (Dir fs m)) b)) (links_of (node_at t b)) a c h l);
+          let a : names_of (with_node t d (Dir fs m)) b + names_in b (Dir es n) ≡ names_of t b + names_in b (Dir fs m) = subst (λ z. names_of (with_node t d (Dir fs m)) b + names_at b z ≡ names_of t b + names_in b (Dir fs m)) is (names_with t d (Dir fs m) b o.births) in
+          let c : names_in b (Dir fs m) + p b ≡ names_in b (Dir es n) + q b = count b in
+          let h : names_of t b + one_at 0 b + x b ≡ links_of (node_at t b) + y b = o.balance b in
+          let l : links_of (node_at (with_node t d (Dir fs m)) b) ≡ links_of (node_at t b) = dir_links b in
+          owed (names_of (with_node t d (Dir fs m)) b) (names_of t b) (names_in b (Dir es n)) (names_in b (Dir fs m)) (p b) (q b) (one_at 0 b) (x b) (y b) (links_of (node_at (with_node t d (Dir fs m)) b)) (links_of (node_at t b)) a c h l);
     }
       where
         owed : (new old before after p q r x y k l : ℕ) → new + before ≡ old + after → after + p ≡ before + q → old + r + x ≡ l + y → k ≡ l → new + r + (x + p) ≡ k + (y + q)

@@ -1,8 +1,7 @@
 -- The number of nodes after an operation.
-use Rattle.std.proofs.Common.{ℕ, ◌≡◌, ◌≢◌, ◌⊎◌, inl, inr, ⊎_elim, ◌+◌, ◌-◌, ◌*◌, ◌==◌, Bool, true, false, not, ◌&&◌, Option, Some, None, List, [], ◌∷◌, ◌++◌, length, map, replicate, take, max, cond, refl, sym, ◌∙◌, ap, subst, nat_eq, nat_lt, nat_le, arith, is_some}
+use Rattle.std.proofs.Common.{ℕ, ◌≡◌, ◌≢◌, ◌⊎◌, inl, inr, ◌+◌, ◌-◌, ◌*◌, ◌==◌, Bool, true, false, not, ◌&&◌, Option, Some, None, List, [], ◌∷◌, length, map, replicate, take, max, cond, refl, sym, ◌∙◌, ap, nat_lt, nat_le, is_some}
 use Rattle.frang_base.specs.declared.op.Op.{Op}
 use Rattle.frang_base.specs.declared.op.Op.TheVariants as op
-use Rattle.frang_base.specs.declared.reply.Reply.{Reply}
 use Rattle.frang_base.specs.declared.reply.Reply.TheVariants as reply
 use Rattle.tree_definitions.specs.declared.cells.Cell.{Cell}
 use Rattle.tree_definitions.specs.declared.cells.Cell.TheVariants.{Byte}
@@ -11,7 +10,7 @@ use Rattle.tree_definitions.specs.declared.node.Node.TheVariants.{Dir, File, Lin
 use Rattle.tree_definitions.specs.Entries.{Entries, with_entry, without_entry}
 use Rattle.tree_definitions.specs.Tree.{FileTree, node_at, with_node, without_node, grown, entries_full, inodes_full, lacks_block, large_blocks_of, small_blocks_of, larges_full, count_of, file_blocks}
 use Rattle.tree_definitions.specs.Place.{Place, Root, Taken, Free, Nowhere, place}
-use Rattle.tree_definitions.specs.Apply.{Answer, Plain, Applied, says, named, made, is_dir, has_entries, links_of, one_link_more, one_link_fewer, linked_to, linked, unlinked, dir_removed, name_gone, name_set, moved, room_made, moved_onto, moved_to, goes_through, renamed_to, renamed_from, renamed, if_file, at_file, written, truncated, overwritten, apply}
+use Rattle.tree_definitions.specs.Apply.{Plain, Applied, says, named, made, is_dir, has_entries, links_of, one_link_more, one_link_fewer, linked_to, linked, unlinked, dir_removed, name_gone, name_set, moved, room_made, goes_through, renamed_to, renamed_from, renamed, if_file, at_file, written, truncated, overwritten, apply}
 use Rattle.tree_laws.specs.Refusals.{is_look}
 use Rattle.tree_laws.specs.WellFormed.{BirthsAscend, IsWellFormed, IsNew}
 use Rattle.tree_laws.specs.Counts.{makes_node, may_free}
@@ -140,7 +139,7 @@ module _ (t : FileTree) (w : IsWellFormed t) where
   unlinked_less (Taken d es n name b) s =
       let u = with_node t d (Dir (without_entry es name) n) in
       if_each Less (is_dir (node_at t b)) (says t reply.IsDir) (says (one_link_fewer u b (node_at t b)) reply.Ok) (inl refl)
-        (fewer_less t u (holds_with t t whole d (Dir (without_entry es name) n) (dir_there d es n s.0)) b (node_at t b) (names_nodes t w d es n name b s.0 s.1))
+      (fewer_less t u (holds_with t t whole d (Dir (without_entry es name) n) (dir_there d es n s.0)) b (node_at t b) (names_nodes t w d es n name b s.0 s.1))
 
   removed_less : (p : Place) → Stands t p → Less (dir_removed t p)
   removed_less Root s = inl refl
@@ -149,7 +148,7 @@ module _ (t : FileTree) (w : IsWellFormed t) where
   removed_less (Taken d es n name b) s =
       let u = with_node t d (Dir (without_entry es name) n) in
       if_each Less (not (is_dir (node_at t b))) (says t reply.NotDir) _ (inl refl) (if_each Less (has_entries (node_at t b)) (says t reply.NotEmpty) (says (without_node u b) reply.Ok) (inl refl)
-        (inr (fewer_count t u (holds_with t t whole d (Dir (without_entry es name) n) (dir_there d es n s.0)) b (Dir es n) (names_nodes t w d es n name b s.0 s.1)).0))
+      (inr (fewer_count t u (holds_with t t whole d (Dir (without_entry es name) n) (dir_there d es n s.0)) b (Dir es n) (names_nodes t w d es n name b s.0 s.1)).0))
 
   renamed_less : (d : ℕ) (es : Entries) (n : ℕ) (name : List ℕ) (b : ℕ) → node_at t d ≡ Some (Dir es n) → (path : List (List ℕ)) (p : Place) → Stands t p → Less (renamed_to t d name b path p)
   renamed_less d es n name b is path Root s = inl refl
@@ -157,14 +156,14 @@ module _ (t : FileTree) (w : IsWellFormed t) where
   renamed_less d es n name b is path (Taken to fs m new old) s =
       let u = moved t d name to new b in
       if_each Less (goes_through t path b) (says t reply.Inval) _ (inl refl) (if_each Less (old == b) (says t reply.Ok) _ (inl refl)
-        (if_each Less (is_dir (node_at t b) && not (is_dir (node_at t old))) (says t reply.NotDir) _ (inl refl) (if_each Less (is_dir (node_at t old) && not (is_dir (node_at t b))) (says t reply.IsDir) _ (inl refl)
-          (if_each Less (has_entries (node_at t old)) (says t reply.NotEmpty) (says (one_link_fewer u old (node_at t old)) reply.Ok) (inl refl)
-            (fewer_less t u (holds_moved t t whole d name to new b (dir_there d es n is) (dir_there to fs m s.0)) old (node_at t old) (names_nodes t w to fs m new old s.0 s.1))))))
+      (if_each Less (is_dir (node_at t b) && not (is_dir (node_at t old))) (says t reply.NotDir) _ (inl refl) (if_each Less (is_dir (node_at t old) && not (is_dir (node_at t b))) (says t reply.IsDir) _ (inl refl)
+      (if_each Less (has_entries (node_at t old)) (says t reply.NotEmpty) (says (one_link_fewer u old (node_at t old)) reply.Ok) (inl refl)
+      (fewer_less t u (holds_moved t t whole d name to new b (dir_there d es n is) (dir_there to fs m s.0)) old (node_at t old) (names_nodes t w to fs m new old s.0 s.1))))))
   renamed_less d es n name b is path (Free to fs m new) s =
       let room = holds_with t t whole to (Dir fs (grown fs m)) (dir_there to fs m s.0) in
       if_each Less (goes_through t path b) (says t reply.Inval) _ (inl refl) (if_each Less (d == to) (says (moved t d name to new b) reply.Ok) _ (inl (holds_moved t t whole d name to new b (dir_there d es n is) (dir_there to fs m s.0)).count)
-        (if_each Less (entries_full fs) (says t reply.DirFull) _ (inl refl) (if_each Less (lacks_block t fs m) (says t reply.NoDirBlock) (says (moved (room_made t to fs m) d name to new b) reply.Ok) (inl refl)
-          (inl (holds_moved t (room_made t to fs m) room d name to new b (dir_there d es n is) (dir_there to fs m s.0)).count))))
+      (if_each Less (entries_full fs) (says t reply.DirFull) _ (inl refl) (if_each Less (lacks_block t fs m) (says t reply.NoDirBlock) (says (moved (room_made t to fs m) d name to new b) reply.Ok) (inl refl)
+      (inl (holds_moved t (room_made t to fs m) room d name to new b (dir_there d es n is) (dir_there to fs m s.0)).count))))
 
   renamed_from_less : (p : Place) (to : List (List ℕ)) → Stands t p → Less (renamed_from t p to)
   renamed_from_less Root to s = inl refl
@@ -198,7 +197,7 @@ module _ (t : FileTree) (w : IsWellFormed t) where
           let u = one_link_more t b (node_at t b) in
           let h = holds_more t t whole b (node_at t b) (names_nodes t w d es n name b s.0 s.1) in
           if_each Same (nat_le 1000 (links_of (node_at t b))) (says t reply.MLink) _ refl (if_each Same (entries_full fs) (says t reply.DirFull) _ refl (if_each Same (lacks_block t fs m) (says t reply.NoDirBlock) (says (named u e fs m new b) reply.Ok) refl
-            (holds_with t u h e (Dir (with_entry fs new b) (grown fs m)) (dir_there e fs m q.0)).count))
+          (holds_with t u h e (Dir (with_entry fs new b) (grown fs m)) (dir_there e fs m q.0)).count))
 
   file_same : (f : ℕ → List Cell → ℕ → Applied) → ((b : ℕ) (cells : List Cell) (links : ℕ) → node_at t b ≡ Some (File cells links) → Same (f b cells links)) → (b : ℕ) (o : Option Node) → node_at t b ≡ o → Same (if_file t f b o)
   file_same f each b (Some (File cells links)) is = each b cells links is
@@ -216,9 +215,9 @@ module _ (t : FileTree) (w : IsWellFormed t) where
   written_same m b cells links off len put is =
       let size = max (length cells) (off + len) in
       if_each Same (nat_lt (length cells) off) (says t reply.BadOffset) _ refl (if_each Same (nat_lt 1114112 (off + len)) (says t reply.TooBig) _ refl
-        (if_each Same (nat_lt (large_blocks_of (length cells)) (large_blocks_of size) && larges_full t) (says t reply.NoLarge) _ refl
-          (if_each Same (nat_lt (1024 * t.segments - m) (count_of file_blocks t + (small_blocks_of size - small_blocks_of (length cells)))) (says t (reply.NoBlock m)) (says (with_node t b (File (put cells) links)) reply.Ok) refl
-            (count_kept t b (File (put cells) links) (File cells links) w.births is))))
+      (if_each Same (nat_lt (large_blocks_of (length cells)) (large_blocks_of size) && larges_full t) (says t reply.NoLarge) _ refl
+      (if_each Same (nat_lt (1024 * t.segments - m) (count_of file_blocks t + (small_blocks_of size - small_blocks_of (length cells)))) (says t (reply.NoBlock m)) (says (with_node t b (File (put cells) links)) reply.Ok) refl
+      (count_kept t b (File (put cells) links) (File cells links) w.births is))))
 
   truncated_same : (b : ℕ) (cells : List Cell) (links len : ℕ) → node_at t b ≡ Some (File cells links) → Same (truncated t b cells links len)
   truncated_same b cells links len is = if_each Same (nat_lt (length cells) len) (says t reply.BadOffset) (says (with_node t b (File (take len cells) links)) reply.Ok) refl (count_kept t b (File (take len cells) links) (File cells links) w.births is)

@@ -1,16 +1,14 @@
 -- The fresh tree is well formed, and a well-formed tree can be walked.
-use Rattle.std.proofs.Common.{ℕ, ◌≡◌, ◌≢◌, ◌+◌, ◌==◌, Bool, true, false, Option, Some, None, List, [], ◌∷◌, cond, refl, sym, ◌∙◌, ap, subst, nat_eq, nat_lt, eq-eqb, ne_eqb, arith}
+use Rattle.std.proofs.Common.{ℕ, ◌≡◌, ◌≢◌, ◌+◌, Some, None, List, [], cond, refl, sym, ◌∙◌, ap, subst, ne_eqb, arith}
 use Rattle.std.specs.List.Sorted.{IsStrictlySortedBy}
 use Rattle.std.specs.Map.{keys_of}
 use Rattle.std.specs.Ordering.{nat_cmp}
 use Rattle.std.specs.Cmp.Lexicographic.{slice_cmp}
-use Rattle.tree_definitions.specs.declared.node.Node.{Node}
-use Rattle.tree_definitions.specs.declared.node.Node.TheVariants.{Dir, File, Link}
-use Rattle.tree_definitions.specs.Entries.{Entries}
+use Rattle.tree_definitions.specs.declared.node.Node.TheVariants.{Dir}
 use Rattle.tree_definitions.specs.Tree.{FileTree, fresh, node_at}
 use Rattle.tree_definitions.specs.Apply.{links_of}
-use Rattle.tree_laws.specs.WellFormed.{IsWellFormed, IsWalkable, BirthsAscend, NamesAscend, IsRooted, LinksAreNames, names_of, one_at}
-use Rattle.tree_laws.proofs.Nodes.{each_but, with_same, with_other}
+use Rattle.tree_laws.specs.WellFormed.{IsWellFormed, IsWalkable, BirthsAscend, NamesAscend, LinksAreNames, names_of, one_at}
+use Rattle.tree_laws.proofs.Nodes.{each_but, with_other}
 use Rattle.tree_laws.proofs.Keeping.{names_nodes}
 
 fresh_births : (segments : ℕ) → BirthsAscend (fresh segments)

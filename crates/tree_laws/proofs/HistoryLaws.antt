@@ -1,13 +1,13 @@
 -- One item more at the end of a history, and lists of steps one after another.
-use Rattle.std.proofs.Common.{◌≡◌, ℕ, ◌+◌, Bool, true, false, ◌&&◌, List, [], ◌∷◌, ◌++◌, refl, sym, ◌∙◌, ap}
+use Rattle.std.proofs.Common.{◌≡◌, ℕ, ◌+◌, Bool, true, false, ◌&&◌, List, [], ◌∷◌, ◌++◌, refl, ◌∙◌, ap}
 use Rattle.frang_base.specs.declared.sector.OpNo.{OpNo}
 use Rattle.frang_base.specs.declared.sector.ServerId.{ServerId}
 use Rattle.tree_definitions.specs.declared.history.Entry.{Entry}
 use Rattle.tree_definitions.specs.declared.history.Item.{Item}
 use Rattle.tree_definitions.specs.declared.history.Item.TheVariants.{Did, Recovered}
 use Rattle.tree_definitions.specs.Tree.{FileTree}
-use Rattle.tree_definitions.specs.History.{Opening, Settled, Stays, InDoubt, after, after_all, grows, may_stand, legal_from, tree_after}
-use Rattle.tree_definitions.specs.Removal.{settled, settled_from, recovered, keeps_known, kept_from, keeps, is_legal, tree_of}
+use Rattle.tree_definitions.specs.History.{Opening, Settled, Stays, after, after_all, grows, may_stand, legal_from, tree_after}
+use Rattle.tree_definitions.specs.Removal.{settled, settled_from, recovered, keeps_known, kept_from, is_legal, tree_of}
 use Rattle.tree_laws.specs.Histories.{ever_after}
 
 pub and-assoc : (a b c : Bool) → a && (b && c) ≡ (a && b) && c

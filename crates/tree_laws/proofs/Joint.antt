@@ -1,16 +1,16 @@
 -- The same changes made in two trees, at births where they agree.
-use Rattle.std.proofs.Common.{ℕ, ◌≡◌, ◌≢◌, ◌+◌, ◌-◌, Bool, true, false, ◌&&◌, ◌||◌, not, Option, Some, None, List, [], ◌∷◌, ◌++◌, cond, refl, sym, ◌∙◌, ap, subst, inl, inr, ◌⊎◌, ⊎_elim, is_some, nat_lt}
+use Rattle.std.proofs.Common.{ℕ, ◌≡◌, ◌+◌, ◌-◌, Bool, true, false, Option, Some, None, List, cond, refl, sym, ◌∙◌, subst, inl, inr, ◌⊎◌, nat_lt}
 use Rattle.frang_base.specs.declared.reply.Reply.{Reply}
 use Rattle.tree_definitions.specs.declared.node.Node.{Node}
 use Rattle.tree_definitions.specs.declared.node.Node.TheVariants.{Dir, File, Link}
-use Rattle.tree_definitions.specs.Entries.{Entries, with_entry, without_entry}
+use Rattle.tree_definitions.specs.Entries.{with_entry, without_entry}
 use Rattle.tree_definitions.specs.Tree.{FileTree, node_at, with_node, without_node}
-use Rattle.tree_definitions.specs.Apply.{Answer, Plain, Shows, Applied, says, one_link_more, one_link_fewer, name_gone, name_set, moved, room_made}
+use Rattle.tree_definitions.specs.Apply.{Applied, says, one_link_more, one_link_fewer, name_gone, name_set, moved}
 use Rattle.tree_definitions.specs.Touched.{is_nospace}
 use Rattle.tree_laws.specs.WellFormed.{BirthsAscend}
 use Rattle.tree_laws.specs.Touching.{wants_room}
 use Rattle.tree_laws.proofs.Likeness.{Likeness, Like, Near, LikeAnswer, like_same, like_equal}
-use Rattle.tree_laws.proofs.Nodes.{each_but, with_same, with_other, without_same, without_other, ascend_with, ascend_without}
+use Rattle.tree_laws.proofs.Nodes.{each_but, with_same, with_other, without_same, without_other}
 
 -- one node in two trees, before and after: alike before and alike after, or left in both
 abbrev pub Both : Likeness → Option Node → Option Node → Option Node → Option Node → Type 0
@@ -36,8 +36,8 @@ module _ (L : Likeness) (one two : FileTree) where
     pub joint_put : (d : ℕ) (x y : Node) → Near L one two d → Like L (Some x) (Some y) → Joint L one two (with_node u d x) (with_node v d y)
     joint_put d x y e l = record {
       each = each_but (λ b. Both L (node_at one b) (node_at two b) (node_at (with_node u d x) b) (node_at (with_node v d y) b)) d
-        (inl (e, subst (λ o. Like L o (node_at (with_node v d y) d)) (sym (with_same u d x)) (subst (Like L (Some x)) (sym (with_same v d y)) l)))
-        (λ c n. subst (λ o. Both L (node_at one c) (node_at two c) o (node_at (with_node v d y) c)) (sym (with_other u d x c n)) (subst (λ o. Both L (node_at one c) (node_at two c) (node_at u c) o) (sym (with_other v d y c n)) (j.each c)));
+          (inl (e, subst (λ o. Like L o (node_at (with_node v d y) d)) (sym (with_same u d x)) (subst (Like L (Some x)) (sym (with_same v d y)) l)))
+          (λ c n. subst (λ o. Both L (node_at one c) (node_at two c) o (node_at (with_node v d y) c)) (sym (with_other u d x c n)) (subst (λ o. Both L (node_at one c) (node_at two c) (node_at u c) o) (sym (with_other v d y c n)) (j.each c)));
     }
 
     pub joint_with : (d : ℕ) (x : Node) → Near L one two d → Joint L one two (with_node u d x) (with_node v d x)
@@ -47,8 +47,8 @@ module _ (L : Likeness) (one two : FileTree) where
       pub joint_without : (d : ℕ) → Near L one two d → Joint L one two (without_node u d) (without_node v d)
       joint_without d e = record {
         each = each_but (λ b. Both L (node_at one b) (node_at two b) (node_at (without_node u d) b) (node_at (without_node v d) b)) d
-          (inl (e, like_equal L (node_at (without_node u d) d) (node_at (without_node v d) d) (without_same u d bu ∙ sym (without_same v d bv))))
-          (λ c n. subst (λ o. Both L (node_at one c) (node_at two c) o (node_at (without_node v d) c)) (sym (without_other u d c n)) (subst (λ o. Both L (node_at one c) (node_at two c) (node_at u c) o) (sym (without_other v d c n)) (j.each c)));
+            (inl (e, like_equal L (node_at (without_node u d) d) (node_at (without_node v d) d) (without_same u d bu ∙ sym (without_same v d bv))))
+            (λ c n. subst (λ o. Both L (node_at one c) (node_at two c) o (node_at (without_node v d) c)) (sym (without_other u d c n)) (subst (λ o. Both L (node_at one c) (node_at two c) (node_at u c) o) (sym (without_other v d c n)) (j.each c)));
       }
 
       joint_if : (d : ℕ) (x y : Node) (t : Bool) → Near L one two d → Like L (Some x) (Some y) → Joint L one two (cond t (with_node u d x) (without_node u d)) (cond t (with_node v d y) (without_node v d))

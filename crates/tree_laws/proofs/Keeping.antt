@@ -1,21 +1,20 @@
 -- Each operation leaves a well-formed tree so.
-use Rattle.std.proofs.Common.{ℕ, ◌≡◌, ◌≢◌, ◌<◌, ◌≤◌, ◌+◌, ◌-◌, ◌==◌, Bool, true, false, not, ◌&&◌, Option, Some, None, List, [], ◌∷◌, length, cond, refl, sym, ◌∙◌, ap, subst, nat_eq, nat_lt, arith, le_refl, eq-eqb, ne_eqb, is_some, unwrap_or}
+use Rattle.std.proofs.Common.{ℕ, ◌≡◌, ◌≢◌, ◌<◌, ◌≤◌, ◌+◌, ◌-◌, ◌==◌, Bool, true, false, Option, Some, None, List, [], ◌∷◌, length, cond, refl, sym, ◌∙◌, ap, subst, nat_lt, arith, le_refl, eq-eqb, ne_eqb, is_some}
 use Rattle.std.proofs.lemmas.Bool.{ltb-true, ltb-false}
 use Rattle.std.specs.List.Sorted.{IsStrictlySortedBy}
-use Rattle.std.specs.Map.{keys_of, values_of}
+use Rattle.std.specs.Map.{keys_of}
 use Rattle.std.specs.Ordering.{nat_cmp}
 use Rattle.std.specs.Cmp.Lexicographic.{slice_cmp}
 use Rattle.tree_definitions.specs.declared.node.Node.{Node}
 use Rattle.tree_definitions.specs.declared.node.Node.TheVariants.{Dir, File, Link}
 use Rattle.tree_definitions.specs.Entries.{Entries, entry_at, with_entry, without_entry}
-use Rattle.tree_definitions.specs.Tree.{FileTree, node_at, with_node, without_node, grown}
-use Rattle.tree_definitions.specs.Place.{Place, Root, Taken, Free, Nowhere}
-use Rattle.tree_definitions.specs.Apply.{named, is_dir, links_of, has_entries, one_link_more, one_link_fewer, name_gone, name_set, moved, room_made}
-use Rattle.tree_laws.specs.WellFormed.{BirthsAscend, NamesAscend, IsRooted, one_at, names_in, names_of, IsWellFormed, IsNew}
-use Rattle.tree_laws.specs.Touching.{Kind, OfDirectory, OfFile, OfLink, kind_of}
-use Rattle.tree_laws.proofs.Pairs.{name_exact, sorted_put, sorted_removed, found_other, found_left}
-use Rattle.tree_laws.proofs.Nodes.{each_but, with_same, with_other, without_same, without_other}
-use Rattle.tree_laws.proofs.Balance.{names_at, at_name, Limits, Within, one_own, one_other, names_without, count_put, count_removed, Owing, none_owed, owing_none, paid, other_entries, other_links, node_gone}
+use Rattle.tree_definitions.specs.Tree.{FileTree, node_at, with_node, without_node}
+use Rattle.tree_definitions.specs.Apply.{is_dir, links_of, has_entries, one_link_more, one_link_fewer}
+use Rattle.tree_laws.specs.WellFormed.{one_at, names_in, names_of, IsWellFormed, IsNew}
+use Rattle.tree_laws.specs.Touching.{kind_of}
+use Rattle.tree_laws.proofs.Pairs.{name_exact, sorted_put, sorted_removed}
+use Rattle.tree_laws.proofs.Nodes.{each_but, with_same, with_other}
+use Rattle.tree_laws.proofs.Balance.{names_at, at_name, Limits, Within, one_own, one_other, names_without, count_put, count_removed, Owing, other_entries, other_links, node_gone}
 
 pub one_sym : (b c : ℕ) → one_at b c ≡ one_at c b
 one_sym b c = each_but (λ b. one_at b c ≡ one_at c b) c refl (λ b far. one_other b c (λ e. far (sym e)) ∙ sym (one_other c b far)) b
@@ -90,15 +89,15 @@ module _ (A : Limits) (t : FileTree) (x y : ℕ → ℕ) (o : Owing A t x y) whe
   pub node_made : (d : ℕ) (z : Node) → node_at t d ≡ None → d ≢ 0 → ((b : ℕ) → names_in b z ≡ 0) → ((es : Entries) (n : ℕ) → z ≡ Dir es n → IsStrictlySortedBy (slice_cmp nat_cmp) (keys_of es)) → links_of (Some z) ≡ 1 → Within A d z → Owing A (with_node t d z) (λ b. x b + one_at d b) (λ b. y b + 0)
   node_made d z new away plain sorted one fine = other_links A t x y o d z (λ b. ap (names_at b) new) plain sorted away fine (λ b. 0) (λ b. one_at d b)
       (each_but (λ b. links_of (node_at (with_node t d z) b) + 0 ≡ links_of (node_at t b) + one_at d b) d
-        (let a : links_of (node_at (with_node t d z) d) ≡ 1 = ap links_of (with_same t d z) ∙ one in let c : links_of (node_at t d) ≡ 0 = ap links_of new in let u : one_at d d ≡ 1 = one_own d in omega arith)
-        (λ c far. (let a : links_of (node_at (with_node t d z) c) ≡ links_of (node_at t c) = ap links_of (with_other t d z c far) in let u : one_at d c ≡ 0 = one_other d c far in omega arith)))
+      (let a : links_of (node_at (with_node t d z) d) ≡ 1 = ap links_of (with_same t d z) ∙ one in let c : links_of (node_at t d) ≡ 0 = ap links_of new in let u : one_at d d ≡ 1 = one_own d in omega arith)
+      (λ c far. (let a : links_of (node_at (with_node t d z) c) ≡ links_of (node_at t c) = ap links_of (with_other t d z c far) in let u : one_at d c ≡ 0 = one_other d c far in omega arith)))
 
   -- a node that is no directory has other links
   pub links_put : (d : ℕ) (z u : Node) → node_at t d ≡ Some z → is_dir (Some z) ≡ false → is_dir (Some u) ≡ false → kind_of z ≡ kind_of u → d ≢ 0 → (p q : ℕ) → links_of (Some u) + p ≡ links_of (Some z) + q → Owing A (with_node t d u) (λ b. x b + cond (b == d) q 0) (λ b. y b + cond (b == d) p 0)
   links_put d z u is plain_z plain_u kind away p q count = other_links A t x y o d u (λ b. ap (names_at b) is ∙ no_names b z plain_z) (λ b. no_names b u plain_u) (λ es n e. absurd (let k : is_dir (Some u) ≡ true = ap (λ v. is_dir (Some v)) e in cc)) away (same_within z u plain_z plain_u kind (o.allowed d z is)) (λ b. cond (b == d) p 0) (λ b. cond (b == d) q 0)
       (each_but (λ b. links_of (node_at (with_node t d u) b) + cond (b == d) p 0 ≡ links_of (node_at t b) + cond (b == d) q 0) d
-        (rw (eq-eqb d d refl) (let a : links_of (node_at (with_node t d u) d) ≡ links_of (Some u) = ap links_of (with_same t d u) in let c : links_of (node_at t d) ≡ links_of (Some z) = ap links_of is in rw (a, c) count))
-        (λ c far. rw (ne_eqb c d far) (ap (λ l. l + 0) (ap links_of (with_other t d u c far)))))
+      (rw (eq-eqb d d refl) (let a : links_of (node_at (with_node t d u) d) ≡ links_of (Some u) = ap links_of (with_same t d u) in let c : links_of (node_at t d) ≡ links_of (Some z) = ap links_of is in rw (a, c) count))
+      (λ c far. rw (ne_eqb c d far) (ap (λ l. l + 0) (ap links_of (with_other t d u c far)))))
     where
       same_within : (z u : Node) → is_dir (Some z) ≡ false → is_dir (Some u) ≡ false → kind_of z ≡ kind_of u → Within A d z → Within A d u
       same_within (File cells links) (File others more) f g k i = i

@@ -1,18 +1,17 @@
 -- A birth tells the kind of its node, throughout a history.
-use Rattle.std.proofs.Common.{ℕ, ◌≡◌, ◌≢◌, ◌≤◌, arith, le_refl, ◌==◌, Bool, true, false, Option, Some, None, List, [], ◌∷◌, cond, refl, sym, ◌∙◌, ap, subst, nat_eq, eq-eqb}
+use Rattle.std.proofs.Common.{ℕ, ◌≡◌, arith, le_refl, ◌==◌, false, List, [], ◌∷◌, cond, refl, sym, ◌∙◌, ap, nat_eq, eq-eqb}
 use Rattle.std.specs.List.{AllByRecursion, IsDistinct}
 use Rattle.std.proofs.lemmas.Map.Keys.{IsDistinct-head, IsDistinct-tail}
 use Rattle.frang_base.specs.declared.op.Op.{Op}
 use Rattle.frang_base.specs.declared.op.Op.TheVariants as op
-use Rattle.tree_definitions.specs.declared.node.Node.{Node}
 use Rattle.tree_definitions.specs.declared.node.Node.TheVariants.{Dir, File, Link}
-use Rattle.tree_definitions.specs.Tree.{FileTree, node_at}
+use Rattle.tree_definitions.specs.Tree.{FileTree}
 use Rattle.tree_definitions.specs.Apply.{apply}
 use Rattle.tree_definitions.specs.History.{Settled, Stays, InDoubt, after, after_all, tree_after, doubted}
 use Rattle.tree_laws.specs.WellFormed.{IsWellFormed, IsNew, AreNew, numbers_of}
-use Rattle.tree_laws.specs.Touching.{Kind, OfDirectory, OfFile, OfLink, kind_of, HasKinds, SameKinds}
+use Rattle.tree_laws.specs.Touching.{Kind, HasKinds, SameKinds}
 use Rattle.tree_laws.specs.Kinds.{MakesToldKind, MakeToldKinds, kind_made, kind_by, kind_or, kinds_along}
-use Rattle.tree_laws.proofs.Balance.{Limits, Well, AreAllowed}
+use Rattle.tree_laws.proofs.Balance.{Limits, AreAllowed}
 use Rattle.tree_laws.proofs.WellFormedLaws.{Makes, apply_well}
 use Rattle.tree_laws.proofs.StepsLaws.{tree_after_well, doubted_well, after_keeps, are_new_after}
 
@@ -65,9 +64,10 @@ by_made kinds _ b h = tt
 told_by : (kinds : ℕ → Kind) (list : List Settled) → AllByRecursion (λ n. kind_by list n ≡ kinds n) (numbers_of list) → IsDistinct nat_eq (numbers_of list) → MakeToldKinds kinds list
 told_by kinds [] h d = tt
 told_by kinds (InDoubt runs ∷ list) h d = told_by kinds list h d
-told_by kinds (Stays e ∷ list) h d =
-    (by_made kinds e.op e.number.0 (sym (ap (λ t. cond t (kind_made e.op) (kind_by list e.number.0)) (eq-eqb e.number.0 e.number.0 refl)) ∙ h.0),
-     told_by kinds list (others (kind_made e.op) e.number.0 (numbers_of list) (IsDistinct-head nat_eq e.number.0 (numbers_of list) d) h.1) (IsDistinct-tail nat_eq e.number.0 (numbers_of list) d))
+told_by kinds (Stays e ∷ list) h d = (
+  by_made kinds e.op e.number.0 (sym (ap (λ t. cond t (kind_made e.op) (kind_by list e.number.0)) (eq-eqb e.number.0 e.number.0 refl)) ∙ h.0),
+  told_by kinds list (others (kind_made e.op) e.number.0 (numbers_of list) (IsDistinct-head nat_eq e.number.0 (numbers_of list) d) h.1) (IsDistinct-tail nat_eq e.number.0 (numbers_of list) d),
+)
   where
     others : (k : Kind) (n : ℕ) (ns : List ℕ) → AllByRecursion (λ m. nat_eq n m ≡ false) ns → AllByRecursion (λ m. cond (n == m) k (kind_by list m) ≡ kinds m) ns → AllByRecursion (λ m. kind_by list m ≡ kinds m) ns
     others k n [] a h = tt

@@ -1,5 +1,5 @@
 -- Cells that are alike, and nodes and answers that are alike but for them.
-use Rattle.std.proofs.Common.{ℕ, ◌≡◌, Bool, true, false, Option, Some, None, List, [], ◌∷◌, ◌++◌, ◌+◌, length, take, drop, refl, sym, ◌∙◌, ap, subst}
+use Rattle.std.proofs.Common.{ℕ, ◌≡◌, true, Option, Some, None, List, ◌++◌, ◌+◌, length, take, drop, refl, sym, ◌∙◌, ap, subst}
 use Rattle.frang_base.specs.declared.reply.Reply.{Reply}
 use Rattle.frang_base.specs.declared.reply.Reply.TheVariants as reply
 use Rattle.tree_definitions.specs.declared.cells.Cell.{Cell}
@@ -79,7 +79,7 @@ module _ (L : Likeness) where
   pub overwritten_like : (xs ys : List Cell) (off : ℕ) (new : List Cell) → L.like xs ys → L.like (overwritten xs off new) (overwritten ys off new)
   overwritten_like xs ys off new l =
       L.joined (take off xs ++ new) (take off ys ++ new) (drop (off + length new) xs) (drop (off + length new) ys)
-        (L.joined (take off xs) (take off ys) new new (L.taken off xs ys l) (L.same new)) (L.dropped (off + length new) xs ys l)
+      (L.joined (take off xs) (take off ys) new new (L.taken off xs ys l) (L.same new)) (L.dropped (off + length new) xs ys l)
 
   -- a reply that agrees with an answer agrees with one that is alike
   pub agrees_like : (a c : Answer) (r : Reply) → LikeAnswer L a c → agrees a r ≡ true → agrees c r ≡ true

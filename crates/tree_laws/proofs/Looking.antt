@@ -1,5 +1,5 @@
 -- Two trees that agree where an operation touches: it looks in the same directories, and touches the same further node.
-use Rattle.std.proofs.Common.{ℕ, ◌≡◌, ◌==◌, Bool, true, false, ◌&&◌, ◌||◌, not, Option, Some, None, List, [], ◌∷◌, ◌++◌, cond, refl, sym, ◌∙◌, ap, ap₂, subst, is_some}
+use Rattle.std.proofs.Common.{ℕ, ◌≡◌, Bool, true, false, not, Option, Some, None, List, [], ◌∷◌, ◌++◌, cond, refl, sym, ◌∙◌, ap, ap₂, subst, is_some}
 use Rattle.frang_base.specs.declared.op.Op.{Op}
 use Rattle.frang_base.specs.declared.op.Op.TheVariants as op
 use Rattle.frang_base.specs.declared.reply.Reply.{Reply}
@@ -9,7 +9,7 @@ use Rattle.tree_definitions.specs.declared.node.Node.TheVariants.{Dir, File, Lin
 use Rattle.tree_definitions.specs.Entries.{Entries, entry_at}
 use Rattle.tree_definitions.specs.Tree.{FileTree, node_at}
 use Rattle.tree_definitions.specs.Place.{Place, Root, Taken, Free, Nowhere, place, place_by, place_in, place_from, below, walked}
-use Rattle.tree_definitions.specs.Apply.{Answer, Plain, Applied, apply, renamed_from, is_dir}
+use Rattle.tree_definitions.specs.Apply.{Plain, Applied, apply, renamed_from}
 use Rattle.tree_definitions.specs.History.{agrees}
 use Rattle.tree_definitions.specs.Touched.{looked_in, further, reached, reached_if, then_walked, any_node, dir_node, file_node, link_node}
 use Rattle.tree_laws.specs.Touching.{Kind, OfDirectory, OfFile, OfLink, kind_of}
@@ -121,7 +121,7 @@ module _ (L : Likeness) (one two : FileTree) (g : Grounds one two) where
         let bs = reached one (λ n. not (dir_node n)) (place one path) in
         let first = λ (b : ℕ) (i : is_in b (walked one path) ≡ true). h.looked b (in_left b (walked one path) (then_walked one bs to) i) in
         ap₂ (λ w v. w ++ v) (walked_same path first)
-          (ap (λ l. then_walked two l to) (reached_same path first (λ n. not (dir_node n)) (λ k. not (dir_kind k)) plain_by) ∙ then_same bs to (λ b i. h.looked b (in_right b (walked one path) (then_walked one bs to) i)))
+        (ap (λ l. then_walked two l to) (reached_same path first (λ n. not (dir_node n)) (λ k. not (dir_kind k)) plain_by) ∙ then_same bs to (λ b i. h.looked b (in_right b (walked one path) (then_walked one bs to) i)))
     looked_same (op.Unlink path) h = walked_same path h.looked
     looked_same (op.Rmdir path) h = walked_same path h.looked
     looked_same (op.Rename [] to) h = refl
@@ -130,7 +130,7 @@ module _ (L : Likeness) (one two : FileTree) (g : Grounds one two) where
         let bs = reached one any_node (place one (n ∷ ns)) in
         let first = λ (b : ℕ) (i : is_in b (walked one (n ∷ ns)) ≡ true). h.looked b (in_left b (walked one (n ∷ ns)) (then_walked one bs (m ∷ ms)) i) in
         ap₂ (λ w v. w ++ v) (walked_same (n ∷ ns) first)
-          (ap (λ l. then_walked two l (m ∷ ms)) (reached_same (n ∷ ns) first any_node any_kind (λ x. refl)) ∙ then_same bs (m ∷ ms) (λ b i. h.looked b (in_right b (walked one (n ∷ ns)) (then_walked one bs (m ∷ ms)) i)))
+        (ap (λ l. then_walked two l (m ∷ ms)) (reached_same (n ∷ ns) first any_node any_kind (λ x. refl)) ∙ then_same bs (m ∷ ms) (λ b i. h.looked b (in_right b (walked one (n ∷ ns)) (then_walked one bs (m ∷ ms)) i)))
     looked_same (op.Write path off bytes) h = walked_same path h.looked
     looked_same (op.Fill path off len byte) h = walked_same path h.looked
     looked_same (op.Truncate path len) h = walked_same path h.looked
@@ -161,8 +161,8 @@ module _ (L : Likeness) (one two : FileTree) (g : Grounds one two) where
         not_told _ w z = cc
     second_walk h (Taken dir es k name c) s w e b i =
         h.looked b (in_right b (walked one (n ∷ ns)) (then_walked one (reached one any_node (place one (n ∷ ns))) (m ∷ ms))
-          (subst (λ p. is_in b (then_walked one (reached one any_node p) (m ∷ ms)) ≡ true) e
-            (subst (λ l. is_in b l ≡ true) (sym (then_after_any one c (node_at one c) (m ∷ ms) (g.alive_one dir es k name c s.0 s.1))) i)))
+        (subst (λ p. is_in b (then_walked one (reached one any_node p) (m ∷ ms)) ≡ true) e
+        (subst (λ l. is_in b l ≡ true) (sym (then_after_any one c (node_at one c) (m ∷ ms) (g.alive_one dir es k name c s.0 s.1))) i)))
 
   rename_further : (path to : List (List ℕ)) (birth k : ℕ) → AgreeOn L one two (op.Rename path to) reply.NotEmpty (apply one (op.Rename path to) birth k) → reached two dir_node (place two to) ≡ reached one dir_node (place one to)
   rename_further [] to birth k h = absurd (let z = h.told in cc)

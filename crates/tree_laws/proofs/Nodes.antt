@@ -1,11 +1,11 @@
 -- The nodes of a tree as a function of their births.
-use Rattle.std.proofs.Common.{ℕ, ◌≡◌, ◌≢◌, ◌+◌, Bool, true, false, Option, Some, None, List, [], ◌∷◌, length, cond, refl, sym, ◌∙◌, ap, arith, nat_eq, eqb-true, eq-eqb, ne_eqb, subst}
+use Rattle.std.proofs.Common.{ℕ, ◌≡◌, ◌≢◌, ◌+◌, Bool, true, false, Option, Some, None, length, refl, sym, ◌∙◌, nat_eq, eqb-true, eq-eqb, ne_eqb, subst}
 use Rattle.std.proofs.lemmas.Bool.{eqb-false}
 use Rattle.std.specs.Ordering.{nat_cmp}
 use Rattle.tree_definitions.specs.declared.node.Node.{Node}
 use Rattle.tree_definitions.specs.Tree.{FileTree, node_at, with_node, without_node}
 use Rattle.tree_laws.specs.WellFormed.{put, BirthsAscend}
-use Rattle.tree_laws.proofs.Pairs.{by_test, birth_exact, found_put, found_other, found_left, found_removed, sorted_put, sorted_removed, length_put, length_kept, length_removed}
+use Rattle.tree_laws.proofs.Pairs.{birth_exact, found_put, found_other, found_left, found_removed, sorted_put, sorted_removed, length_put, length_kept, length_removed}
 
 pub put_same : (f : ℕ → Option Node) (b : ℕ) (v : Option Node) → put f b v b ≡ v
 put_same f b v = rw (eq-eqb b b refl) refl

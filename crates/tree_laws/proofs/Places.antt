@@ -1,5 +1,5 @@
 -- Walks of one path in two trees that agree on the directories in which its names are looked up.
-use Rattle.std.proofs.Common.{ℕ, ◌≡◌, ◌==◌, Bool, true, false, ◌||◌, Option, Some, None, List, [], ◌∷◌, ◌++◌, cond, refl, sym, ◌∙◌, ap, subst, nat_eq, eq-eqb, is_some}
+use Rattle.std.proofs.Common.{ℕ, ◌≡◌, ◌==◌, Bool, true, false, ◌||◌, Option, Some, None, List, [], ◌∷◌, refl, sym, ◌∙◌, ap, subst, nat_eq, eq-eqb, is_some}
 use Rattle.std.specs.List.{list_any}
 use Rattle.tree_definitions.specs.declared.node.Node.{Node}
 use Rattle.tree_definitions.specs.declared.node.Node.TheVariants.{Dir, File, Link}
@@ -9,7 +9,7 @@ use Rattle.tree_definitions.specs.Place.{Place, Root, Taken, Free, Nowhere, plac
 use Rattle.tree_definitions.specs.Apply.{is_dir}
 use Rattle.tree_laws.specs.WellFormed.{EntriesNameNodes, IsRooted}
 use Rattle.tree_laws.proofs.Likeness.{Likeness, Like, Near}
-use Rattle.tree_laws.specs.Touching.{Kind, OfDirectory, OfFile, OfLink, kind_of, SameKinds}
+use Rattle.tree_laws.specs.Touching.{OfDirectory, OfFile, OfLink, SameKinds}
 
 -- what a place says of the tree
 abbrev pub Stands : FileTree → Place → Type 0
@@ -72,12 +72,12 @@ module _ (L : Likeness) (one two : FileTree) (kinds : SameKinds one two) (alive_
       → (b : ℕ) (name : List ℕ) (o q : Option Node) → node_at one b ≡ o → node_at two b ≡ q → is_some o ≡ true → is_some q ≡ true
       → ((d : ℕ) → is_in d (walked_by (place_in o b name) b (λ c. walked_from one c path)) ≡ true → Near L one two d)
       → (place_in q b name ≡ place_in o b name) × (walked_by (place_in q b name) b (λ c. walked_from two c path) ≡ walked_by (place_in o b name) b (λ c. walked_from one c path))
-        × (below (place_in q b name) (λ c. place_from two c path) ≡ below (place_in o b name) (λ c. place_from one c path))
+      × (below (place_in q b name) (λ c. place_from two c path) ≡ below (place_in o b name) (λ c. place_from one c path))
   first_name path on b name (Some (Dir es n)) q i j s t same = go (entry_at es name) refl same
     where
       go : (a : Option ℕ) → entry_at es name ≡ a → ((d : ℕ) → is_in d (walked_by (place_by b es n name a) b (λ c. walked_from one c path)) ≡ true → Near L one two d)
           → (place_in q b name ≡ place_by b es n name a) × (walked_by (place_in q b name) b (λ c. walked_from two c path) ≡ walked_by (place_by b es n name a) b (λ c. walked_from one c path))
-            × (below (place_in q b name) (λ c. place_from two c path) ≡ below (place_by b es n name a) (λ c. place_from one c path))
+          × (below (place_in q b name) (λ c. place_from two c path) ≡ below (place_by b es n name a) (λ c. place_from one c path))
       go None at same =
           let is : q ≡ Some (Dir es n) = sym j ∙ subst (λ o. Like L o (node_at two b)) i (same b (head_is_in b [])) in
           rw (is, at) (refl, refl, refl)

@@ -1,5 +1,5 @@
 -- An answer other than `ok` leaves the tree, and so does a look.
-use Rattle.std.proofs.Common.{◌≡◌, ℕ, Bool, true, false, not, ◌&&◌, cond, map, replicate, take, drop, nat_lt, length, max, Option, Some, None, List, [], ◌∷◌, ◌+◌, ◌-◌, ◌*◌, refl}
+use Rattle.std.proofs.Common.{◌≡◌, ℕ, Bool, true, false, cond, map, replicate, take, drop, nat_lt, length, Option, Some, None, List, [], ◌∷◌, refl}
 use Rattle.frang_base.specs.declared.op.Op.{Op}
 use Rattle.frang_base.specs.declared.op.Op.TheVariants as op
 use Rattle.frang_base.specs.declared.reply.Reply.{Reply}

@@ -1,11 +1,11 @@
 -- What nobody saw can go.
-use Rattle.std.proofs.Common.{ℕ, ◌≡◌, ◌≢◌, ◌+◌, ◌==◌, Bool, true, false, not, ◌&&◌, ◌||◌, Option, Some, None, List, [], ◌∷◌, ◌++◌, length, map, filter, take, drop, cond, refl, sym, ◌∙◌, ap, ap₂, subst, inl, inr, ◌⊎◌, ⊎_elim, nat_eq, eqb-true, eq-eqb, nat_lt}
+use Rattle.std.proofs.Common.{ℕ, ◌≡◌, ◌+◌, ◌==◌, Bool, true, false, not, ◌&&◌, ◌||◌, Option, Some, None, List, [], ◌∷◌, ◌++◌, length, map, filter, take, drop, cond, refl, sym, ◌∙◌, ap, subst, nat_eq, eqb-true, eq-eqb, nat_lt}
 use Rattle.std.specs.List.{list_any}
 use Rattle.std.specs.Map.{lookup}
 use Rattle.std.specs.BTreeMap.{is_at}
 use Rattle.std.specs.Ordering.{nat_cmp}
 use Rattle.tree_laws.proofs.Pairs.{tie, birth_exact}
-use Rattle.std.proofs.lemmas.Bool.{and_parts, and_from, or_parts, not-true, eqb-false}
+use Rattle.std.proofs.lemmas.Bool.{and_parts, and_from, or_parts, not-true}
 use Rattle.std.proofs.lemmas.Map.Keys.{IsDistinct-tail}
 use Rattle.frang_base.specs.declared.op.Op.{Op}
 use Rattle.frang_base.specs.declared.op.Op.TheVariants as op
@@ -18,17 +18,17 @@ use Rattle.tree_definitions.specs.declared.node.Node.{Node}
 use Rattle.tree_definitions.specs.declared.node.Node.TheVariants.{Dir, File, Link}
 use Rattle.tree_definitions.specs.Tree.{FileTree, node_at, with_node}
 use Rattle.tree_definitions.specs.Place.{Place, Root, Taken, Free, Nowhere, place}
-use Rattle.tree_definitions.specs.Apply.{Answer, Plain, Shows, Applied, says, apply, at_file, if_file, shown, overwritten, is_path_op}
-use Rattle.tree_definitions.specs.History.{applied, is_answer, agrees, cells_show, told_blocks, may_tell, leaves_tree, fits, tree_after, after_read, with_shown, file_at, file_of, Settled, Stays, InDoubt, CellRun, doubted, after, grows, may_stand, legal_from}
+use Rattle.tree_definitions.specs.Apply.{Plain, Shows, Applied, says, apply, at_file, if_file, shown, overwritten, is_path_op}
+use Rattle.tree_definitions.specs.History.{applied, is_answer, agrees, told_blocks, may_tell, leaves_tree, fits, tree_after, after_read, with_shown, file_at, file_of, Settled, Stays, InDoubt, CellRun, doubted, after, grows, may_stand, legal_from}
 use Rattle.tree_definitions.specs.Touched.{touches, changes, changed, births, differs, is_nospace, touched_later, refused_later, changes_room, is_seen, is_synced, stalled_after}
-use Rattle.tree_definitions.specs.Removal.{is_of, begins_removal, left, keeps_known, none_known, recovered, doubtful, is_lost, mounts}
-use Rattle.tree_laws.specs.WellFormed.{IsWellFormed, IsNew, IsWalkable, AreNew, numbers_of}
-use Rattle.tree_laws.specs.Touching.{Kind, HasKinds, SameKinds, wants_room}
+use Rattle.tree_definitions.specs.Removal.{begins_removal, left, keeps_known, none_known, recovered, doubtful, is_lost, mounts}
+use Rattle.tree_laws.specs.WellFormed.{IsWellFormed, AreNew, numbers_of}
+use Rattle.tree_laws.specs.Touching.{Kind, HasKinds, wants_room}
 use Rattle.tree_laws.specs.Kinds.{MakeToldKinds, kinds_along}
 use Rattle.tree_laws.specs.Removing.{without, none_seen, has_room, room_left}
 use Rattle.tree_laws.proofs.Nodes.{each_but, with_same, with_other}
-use Rattle.tree_laws.proofs.Places.{is_in, head_is_in, tail_is_in}
-use Rattle.tree_laws.proofs.Likeness.{Likeness, Like, Near, like_same, like_equal}
+use Rattle.tree_laws.proofs.Places.{is_in, tail_is_in}
+use Rattle.tree_laws.proofs.Likeness.{Like, Near, like_same, like_equal}
 use Rattle.tree_laws.proofs.Vagueness.{Vaguer, vague, vague_nodes_trans, shown_is_sharper, doubted_near}
 use Rattle.tree_laws.proofs.Sameness.{alike_at, no_difference}
 use Rattle.tree_laws.proofs.Replies.{wants_alike}
@@ -124,13 +124,13 @@ shown_sharper t (Some f) off bytes h b =
     let new = File (overwritten f.1.0 off (map Byte bytes)) f.1.1 in
     let g = h f refl in
     each_but (λ c. Like vague (node_at (with_node t f.0 new) c) (node_at t c)) f.0
-      (subst (λ z. Like vague z (node_at t f.0)) (sym (with_same t f.0 new)) (f.1.0, g.0, g.1))
-      (λ c far. like_equal vague (node_at (with_node t f.0 new) c) (node_at t c) (with_other t f.0 new c far)) b
+    (subst (λ z. Like vague z (node_at t f.0)) (sym (with_same t f.0 new)) (f.1.0, g.0, g.1))
+    (λ c far. like_equal vague (node_at (with_node t f.0 new) c) (node_at t c) (with_other t f.0 new c far)) b
 
 read_sharper : (t : FileTree) (o : Op) (r : Reply) (n m b : ℕ) → agrees (apply t o n m).answer r ≡ true → Like vague (node_at (after_read (apply t o n m).tree o r) b) (node_at (apply t o n m).tree b)
 read_sharper t (op.Read path off len) (reply.Shown bytes) n m b told =
     subst (λ u. Like vague (node_at (with_shown u (file_at u (place u path)) off bytes) b) (node_at u b)) (sym (looks_leave t (op.Read path off len) n m refl))
-      (shown_sharper t (file_at t (place t path)) off bytes (λ f e. (file_at_is t (place t path) f e, place_sharper t (place t path) off len bytes f e told)) b)
+    (shown_sharper t (file_at t (place t path)) off bytes (λ f e. (file_at_is t (place t path) f e, place_sharper t (place t path) off len bytes f e told)) b)
 read_sharper t (op.Read path off len) _ n m b told = like_same vague (node_at (apply t (op.Read path off len) n m).tree b)
 read_sharper t o r n m b told = like_same vague (node_at (apply t o n m).tree b)
 
@@ -147,7 +147,7 @@ sharper_after t e b h = go (leaves_tree e.op e.reply) (is_answer t e) refl
     go false true i =
         let same : node_at t b ≡ node_at (applied t e).tree b = alike_at t (applied t e).tree b (unchanged (is_answer t e) (differs t (applied t e).tree b) i h) in
         subst (Like vague (node_at (after_read (applied t e).tree e.op e.reply) b)) (sym same)
-          (read_sharper t e.op e.reply e.number.0 (told_blocks t e.reply) b (and_parts (is_path_op e.op) (agrees (applied t e).answer e.reply) i).1)
+        (read_sharper t e.op e.reply e.number.0 (told_blocks t e.reply) b (and_parts (is_path_op e.op) (agrees (applied t e).answer e.reply) i).1)
 
 -- ---- tests along a list
 not_in_left : (b : ℕ) (xs ys : List ℕ) → is_in b (xs ++ ys) ≡ false → is_in b xs ≡ false
@@ -175,7 +175,7 @@ touched_append server xs ys t (Stays e ∷ rest) h g =
     let p = or_parts (not (e.server.0 == server) && list_any (touches t e) xs) (touched_later server xs (after t (Stays e)) rest) h in
     let q = or_parts (not (e.server.0 == server) && list_any (touches t e) ys) (touched_later server ys (after t (Stays e)) rest) g in
     or_false (not (e.server.0 == server) && list_any (touches t e) (xs ++ ys)) (touched_later server (xs ++ ys) (after t (Stays e)) rest)
-      (go (not (e.server.0 == server)) p.0 q.0) (touched_append server xs ys (after t (Stays e)) rest p.1 q.1)
+    (go (not (e.server.0 == server)) p.0 q.0) (touched_append server xs ys (after t (Stays e)) rest p.1 q.1)
   where
     go : (c : Bool) → c && list_any (touches t e) xs ≡ false → c && list_any (touches t e) ys ≡ false → c && list_any (touches t e) (xs ++ ys) ≡ false
     go true h g = any_append (touches t e) xs ys h g
@@ -228,7 +228,7 @@ module _ (server : ℕ) (kinds : ℕ → Kind) where
       untouched = touched_append server nodes (changed t e) (tree_after t e) rest
           (or_parts (not (e.server.0 == server) && list_any (touches t e) nodes) (touched_later server nodes (after t (Stays e)) rest) a.untouched).1
           (subst (λ s. touched_later s (changed t e) (tree_after t e) rest ≡ false) (eqb-true e.server.0 server own)
-            (or_parts (touched_later e.server.0 (changed t e) (after t (Stays e)) rest) (changes_room t e && refused_later e.server.0 rest) unseen).0);
+          (or_parts (touched_later e.server.0 (changed t e) (after t (Stays e)) rest) (changes_room t e && refused_later e.server.0 rest) unseen).0);
     }
 
     -- the entry stays, and acts
@@ -289,14 +289,16 @@ module _ (server : ℕ) (kinds : ℕ → Kind) where
 
         go : (l : Bool) → leaves_tree e.op e.reply ≡ l → (is_answer t e && may_tell t ever e.reply) || l ≡ true → l || not (wants_room (applied u e).answer) ≡ true
             → ((is_answer u e && may_tell u more e.reply) || leaves_tree e.op e.reply ≡ true) × ((b : ℕ) → is_in b nodes ≡ false → Near vague (tree_after t e) (tree_after u e) b)
-        go true i fit fitting =
-            (ap (λ l. (is_answer u e && may_tell u more e.reply) || l) i ∙ true_last (is_answer u e && may_tell u more e.reply),
-             λ b h. subst (λ l. Like vague (node_at (cond l t (cond (is_answer t e) (after_read (applied t e).tree e.op e.reply) t)) b) (node_at (cond l u (cond (is_answer u e) (after_read (applied u e).tree e.op e.reply) u)) b)) (sym i) (a.near b h))
+        go true i fit fitting = (
+          ap (λ l. (is_answer u e && may_tell u more e.reply) || l) i ∙ true_last (is_answer u e && may_tell u more e.reply),
+          λ b h. subst (λ l. Like vague (node_at (cond l t (cond (is_answer t e) (after_read (applied t e).tree e.op e.reply) t)) b) (node_at (cond l u (cond (is_answer u e) (after_read (applied u e).tree e.op e.reply) u)) b)) (sym i) (a.near b h),
+        )
         go false i fit fitting =
             let answered = (and_parts (is_answer t e) (may_tell t ever e.reply) (only (is_answer t e && may_tell t ever e.reply) fit)).0 in
-            let f = not_so (wants_room (applied u e).answer) fitting in
-            (ap (λ l. (is_answer u e && may_tell u more e.reply) || l) i ∙ in_first (is_answer u e) (may_tell u more e.reply) (stays_answered other answered room f) (tells_room u more e.reply room),
-             λ b h. joint_near vague t u (tree_after t e) (tree_after u e) (stays_joint other answered room f) b (a.near b h))
+            let f = not_so (wants_room (applied u e).answer) fitting in (
+              ap (λ l. (is_answer u e && may_tell u more e.reply) || l) i ∙ in_first (is_answer u e) (may_tell u more e.reply) (stays_answered other answered room f) (tells_room u more e.reply room),
+              λ b h. joint_near vague t u (tree_after t e) (tree_after u e) (stays_joint other answered room f) b (a.near b h),
+            )
 
   keeps_legal : (list : List Settled) (t u : FileTree) (nodes : List ℕ) (ever more : ℕ) → Apart t u nodes list → legal_from t ever list ≡ true → none_seen server t list ≡ true → refused_later server list ≡ false → has_room u (without server list) ≡ true → legal_from u more (without server list) ≡ true
   keeps_legal [] t u nodes ever more a legal unseen refused room = refl
@@ -307,8 +309,8 @@ module _ (server : ℕ) (kinds : ℕ → Kind) where
       let s = and_parts (not (e.server.0 == server) || not (is_seen t e rest)) (none_seen server (tree_after t e) rest) unseen in
       let r = or_parts (not (e.server.0 == server) && is_nospace e.reply) (refused_later server rest) refused in
       go (e.server.0 == server) refl l.0 s.0 r.0 room
-        (λ b more. keeps_legal rest (tree_after t e) u (nodes ++ changed t e) (ever + grows t (Stays e)) more b l.1 s.1 r.1)
-        (λ b more. keeps_legal rest (tree_after t e) (tree_after u e) nodes (ever + grows t (Stays e)) more b l.1 s.1 r.1)
+      (λ b more. keeps_legal rest (tree_after t e) u (nodes ++ changed t e) (ever + grows t (Stays e)) more b l.1 s.1 r.1)
+      (λ b more. keeps_legal rest (tree_after t e) (tree_after u e) nodes (ever + grows t (Stays e)) more b l.1 s.1 r.1)
     where
       go : (c : Bool) → e.server.0 == server ≡ c → fits t ever e ≡ true → not c || not (is_seen t e rest) ≡ true → not c && is_nospace e.reply ≡ false
           → has_room u (cond (not c) (Stays e ∷ without server rest) (without server rest)) ≡ true
@@ -334,8 +336,8 @@ pub unseen_can_go : (server : ℕ) (t : FileTree) (ever more : ℕ) (list : List
 unseen_can_go server t ever more list w new legal unseen refused room =
     let k = kinds_can_be_told t list new in
     keeps_legal server (kinds_along t list) list t t [] ever more
-      (record { well_t = w; well_u = w; new_t = new; new_u = new; kinds_t = k.0; kinds_u = k.0; told = k.1; near = λ b h. like_same vague (node_at t b); untouched = nothing_touches server t list })
-      legal unseen refused room
+    (record { well_t = w; well_u = w; new_t = new; new_u = new; kinds_t = k.0; kinds_u = k.0; told = k.1; near = λ b h. like_same vague (node_at t b); untouched = nothing_touches server t list })
+    legal unseen refused room
 
 -- ---- a recovery
 unseen_if_unknown : (server : ℕ) (stalled : Bool) (t : FileTree) (list : List Settled) → none_known server stalled t list ≡ true → none_seen server t list ≡ true
@@ -345,7 +347,7 @@ unseen_if_unknown server stalled t (Stays e ∷ rest) h =
     let now = stalled_after server stalled (Stays e) in
     let p = and_parts (not (e.server.0 == server) || (not (is_seen t e rest) && not (is_synced server now rest))) (none_known server now (after t (Stays e)) rest) h in
     and_from (not (e.server.0 == server) || not (is_seen t e rest)) (none_seen server (after t (Stays e)) rest)
-      (weaker (not (e.server.0 == server)) (not (is_seen t e rest)) (not (is_synced server now rest)) p.0) (unseen_if_unknown server now (after t (Stays e)) rest p.1)
+    (weaker (not (e.server.0 == server)) (not (is_seen t e rest)) (not (is_synced server now rest)) p.0) (unseen_if_unknown server now (after t (Stays e)) rest p.1)
   where
     weaker : (a b c : Bool) → a || (b && c) ≡ true → a || b ≡ true
     weaker true b c h = refl
@@ -357,7 +359,7 @@ recovery_legal server keeps stalled t ever [] w new legal known room = refl
 recovery_legal server keeps stalled t ever (s ∷ rest) w new legal known room =
     let l = and_parts (may_stand t ever s) (legal_from (after t s) (ever + grows t s) rest) legal in
     go (begins_removal server keeps t s rest) refl known room l.0
-      (λ k r. recovery_legal server keeps (stalled_after server stalled s) (after t s) (ever + grows t s) rest (after_keeps t s rest w new) (are_new_after t s rest w new) l.1 k r)
+    (λ k r. recovery_legal server keeps (stalled_after server stalled s) (after t s) (ever + grows t s) rest (after_keeps t s rest w new) (are_new_after t s rest w new) l.1 k r)
   where
     not_so : (x : Bool) → not x ≡ true → x ≡ false
     not_so true h = cc
@@ -373,7 +375,7 @@ recovery_legal server keeps stalled t ever (s ∷ rest) w new legal known room =
     go true e known room stands later =
         let r = and_parts (not (refused_later server (s ∷ rest))) (has_room t (without server (s ∷ rest))) room in
         subst (λ l. legal_from t ever l ≡ true) (own e)
-          (unseen_can_go server t ever ever (s ∷ rest) w new legal (unseen_if_unknown server stalled t (s ∷ rest) known) (not_so (refused_later server (s ∷ rest)) r.0) r.1)
+        (unseen_can_go server t ever ever (s ∷ rest) w new legal (unseen_if_unknown server stalled t (s ∷ rest) known) (not_so (refused_later server (s ∷ rest)) r.0) r.1)
     go false e known room stands later = and_from (may_stand t ever s) (legal_from (after t s) (ever + grows t s) (left server keeps (after t s) rest)) stands (later known room)
 
 pub recovery_leaves_legal : (server keeps : ℕ) (opening : FileTree) (ever : ℕ) (list : List Settled) → IsWellFormed opening → AreNew opening list → legal_from opening ever list ≡ true → keeps_known server keeps false opening list ≡ true → room_left server keeps opening list ≡ true → legal_from opening ever (recovered opening server keeps list) ≡ true

@@ -1,14 +1,14 @@
 -- Replies that are said alike.
-use Rattle.std.proofs.Common.{ℕ, ◌≡◌, Bool, true, false, List, [], ◌∷◌, ◌++◌, take, refl, sym, ◌∙◌, ap, codes, nat_eq}
+use Rattle.std.proofs.Common.{ℕ, ◌≡◌, Bool, true, List, [], ◌∷◌, take, refl, sym, ◌∙◌, ap, codes, nat_eq}
 use Rattle.std.specs.Cmp.Lexicographic.{pointwise}
 use Rattle.frang_base.specs.declared.reply.Reply.{Reply}
 use Rattle.frang_base.specs.declared.reply.Reply.TheVariants as reply
-use Rattle.tree_definitions.specs.SaidLines.{reply_text, shown_text}
-use Rattle.tree_definitions.specs.History.{same_reply, agrees, shows}
+use Rattle.tree_definitions.specs.SaidLines.{reply_text}
+use Rattle.tree_definitions.specs.History.{same_reply, agrees}
 use Rattle.tree_definitions.specs.Apply.{Answer, Plain, Shows}
 use Rattle.tree_definitions.specs.Touched.{is_nospace}
 use Rattle.tree_laws.specs.Touching.{wants_room}
-use Rattle.tree_laws.proofs.Sameness.{text_sound, text_same}
+use Rattle.tree_laws.proofs.Sameness.{text_sound}
 
 pub told_mlink : (r : Reply) → same_reply reply.MLink r ≡ true → r ≡ reply.MLink
 told_mlink reply.MLink h = refl

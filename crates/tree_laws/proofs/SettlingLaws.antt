@@ -1,12 +1,12 @@
 -- What settles of a history is of the history.
-use Rattle.std.proofs.Common.{◌≡◌, ◌⊎◌, inl, inr, ⊎_elim, ℕ, ◌==◌, Bool, true, false, not, ◌&&◌, cond, List, [], ◌∷◌, ◌++◌, map, filter, refl, sym, ◌∙◌, ap, subst, append_assoc, append-nil, nat_lt}
+use Rattle.std.proofs.Common.{◌≡◌, ◌⊎◌, inl, inr, ℕ, ◌==◌, Bool, true, false, not, ◌&&◌, cond, List, [], ◌∷◌, ◌++◌, map, filter, refl, sym, ◌∙◌, ap, subst, append_assoc, append-nil, nat_lt}
 use Rattle.std.specs.List.{list_any}
-use Rattle.std.proofs.lemmas.Bool.{and_parts, and_from, not_from_true, not-true}
+use Rattle.std.proofs.lemmas.Bool.{and_parts}
 use Rattle.tree_definitions.specs.declared.history.Entry.{Entry}
 use Rattle.tree_definitions.specs.declared.history.Item.{Item}
 use Rattle.tree_definitions.specs.declared.history.Item.TheVariants.{Did, Recovered}
 use Rattle.tree_definitions.specs.Tree.{FileTree}
-use Rattle.tree_definitions.specs.History.{Settled, Stays, InDoubt, CellRun, after, after_all}
+use Rattle.tree_definitions.specs.History.{Settled, Stays, InDoubt, after, after_all}
 use Rattle.tree_definitions.specs.Removal.{settled, settled_from, left, begins_removal, is_lost, is_of, mounts, recovered, doubtful}
 use Rattle.tree_definitions.specs.Touched.{changes_shape}
 use Rattle.tree_laws.specs.Settling.{entries_of, entries_left, IsSublist, HasNoRecovery, LostBeforeMounts, RemovesNothing, RemovesFrom}
@@ -84,7 +84,7 @@ settled_is_sub : (opening : FileTree) (list : List Settled) (seen : List Entry) 
 settled_is_sub opening list seen [] h = sub_more (entries_left list) seen [] h
 settled_is_sub opening list seen (Did e ∷ items) h =
     subst (λ l. IsSublist (entries_left (settled_from opening (list ++ Stays e ∷ []) items)) l) (append_assoc seen (e ∷ []) (entries_of items))
-      (settled_is_sub opening (list ++ Stays e ∷ []) (seen ++ e ∷ []) items (subst (λ l. IsSublist l (seen ++ e ∷ [])) (sym (entries-append list (Stays e ∷ []))) (sub_push (entries_left list) seen e h)))
+    (settled_is_sub opening (list ++ Stays e ∷ []) (seen ++ e ∷ []) items (subst (λ l. IsSublist l (seen ++ e ∷ [])) (sym (entries-append list (Stays e ∷ []))) (sub_push (entries_left list) seen e h)))
 settled_is_sub opening list seen (Recovered s k ∷ items) h =
     settled_is_sub opening (recovered opening s.0 k.0 list) seen items (sub_trans (entries_left (recovered opening s.0 k.0 list)) (entries_left list) seen (recovered_is_sub opening s.0 k.0 list) h)
 

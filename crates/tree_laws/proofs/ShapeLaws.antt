@@ -1,7 +1,7 @@
 -- Looks leave the shape; directories never have fewer blocks; what has no path touches nothing.
-use Rattle.std.proofs.Common.{ℕ, ◌≡◌, ◌≤◌, ◌<◌, ◌+◌, ◌-◌, ◌==◌, Bool, true, false, ◌&&◌, ◌||◌, not, Option, Some, None, List, [], ◌∷◌, ◌++◌, length, map, take, drop, cond, refl, sym, ◌∙◌, ap, ap₂, subst, nat_lt, arith, le_refl, length-append, length-drop, length-take, min}
+use Rattle.std.proofs.Common.{ℕ, ◌≡◌, ◌≤◌, ◌+◌, ◌-◌, ◌==◌, Bool, true, false, ◌&&◌, ◌||◌, Option, Some, None, List, [], ◌∷◌, ◌++◌, length, map, take, drop, cond, refl, sym, ap, subst, nat_lt, arith, le_refl, length-append, length-drop, length-take, min}
 use Rattle.std.proofs.lemmas.List.{length-map}
-use Rattle.std.proofs.lemmas.Bool.{and_parts, ltb-true, ltb-false}
+use Rattle.std.proofs.lemmas.Bool.{and_parts, ltb-false}
 use Rattle.std.specs.List.{list_any}
 use Rattle.std.specs.Ordering.{nat_cmp}
 use Rattle.frang_base.specs.declared.op.Op.{Op}
@@ -14,18 +14,17 @@ use Rattle.tree_definitions.specs.declared.history.Entry.{Entry}
 use Rattle.tree_definitions.specs.declared.node.Node.{Node}
 use Rattle.tree_definitions.specs.declared.node.Node.TheVariants.{Dir, File, Link}
 use Rattle.tree_definitions.specs.Entries.{Entries}
-use Rattle.tree_definitions.specs.Tree.{FileTree, node_at, with_node, dir_blocks}
+use Rattle.tree_definitions.specs.Tree.{FileTree, node_at, dir_blocks}
 use Rattle.tree_definitions.specs.Place.{Place, Root, Taken, Free, Nowhere, place}
-use Rattle.tree_definitions.specs.Apply.{Applied, Answer, Plain, Shows, says, apply, at_file, if_file, shown, overwritten, is_path_op}
+use Rattle.tree_definitions.specs.Apply.{Applied, Plain, Shows, says, apply, at_file, if_file, shown, overwritten, is_path_op}
 use Rattle.tree_definitions.specs.History.{applied, is_answer, agrees, cells_show, cell_shows, told_blocks, leaves_tree, tree_after, after_read, with_shown, file_at, file_of}
-use Rattle.tree_definitions.specs.Touched.{touches, changes, changes_shape, differs, node_shape, shape_of, looked_in, further}
+use Rattle.tree_definitions.specs.Touched.{touches, changes, differs, node_shape, shape_of, looked_in, further}
 use Rattle.tree_laws.specs.Refusals.{is_look}
 use Rattle.tree_laws.specs.WellFormed.{IsWellFormed, IsNew, BirthsAscend}
-use Rattle.tree_laws.specs.Touching.{Kind, OfDirectory, OfFile, OfLink}
 use Rattle.tree_laws.proofs.Pairs.{birth_exact, seen_kept}
 use Rattle.tree_laws.proofs.Refusals.{looks_leave}
 use Rattle.tree_laws.proofs.Sameness.{no_difference}
-use Rattle.tree_laws.proofs.Balance.{Limits, Within, Well, AreAllowed}
+use Rattle.tree_laws.proofs.Balance.{Limits, Within}
 use Rattle.tree_laws.proofs.WellFormedLaws.{Makes, apply_well}
 use Rattle.tree_laws.proofs.StepsLaws.{file_at_is}
 
@@ -121,7 +120,7 @@ place_shown t (Nowhere r) off len bytes f e h = cc
 read_shape : (t : FileTree) (o : Op) (r : Reply) (b m : ℕ) → BirthsAscend t → is_look o ≡ true → agrees (apply t o b m).answer r ≡ true → shape_of (after_read (apply t o b m).tree o r) ≡ shape_of t
 read_shape t (op.Read path off len) (reply.Shown bytes) b m births h told =
     subst (λ u. shape_of (with_shown u (file_at u (place u path)) off bytes) ≡ shape_of t) (sym (looks_leave t (op.Read path off len) b m refl))
-      (shown_shape t (file_at t (place t path)) off bytes births (λ f e. (file_at_is t (place t path) f e, place_shown t (place t path) off len bytes f e told)))
+    (shown_shape t (file_at t (place t path)) off bytes births (λ f e. (file_at_is t (place t path) f e, place_shown t (place t path) off len bytes f e told)))
 read_shape t (op.Read path off len) _ b m births h told = ap shape_of (looks_leave t (op.Read path off len) b m refl)
 read_shape t (op.Stat path) r b m births h told = ap shape_of (looks_leave t (op.Stat path) b m refl)
 read_shape t (op.List path) r b m births h told = ap shape_of (looks_leave t (op.List path) b m refl)

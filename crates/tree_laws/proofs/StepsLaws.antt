@@ -1,6 +1,6 @@
 -- The steps of a settled list leave a well-formed tree so, and make nodes only at the numbers of their entries.
-use Rattle.std.proofs.Common.{ℕ, ◌≡◌, ◌≢◌, ◌≤◌, arith, le_refl, ◌+◌, ◌==◌, Bool, true, false, ◌&&◌, Option, Some, None, List, [], ◌∷◌, ◌++◌, length, map, cond, refl, sym, ◌∙◌, ap, subst, nat_eq, eq-eqb, eqb-true, inl, inr, ◌⊎◌, ⊎_elim, is_some}
-use Rattle.std.specs.List.{AllByRecursion, IsDistinct}
+use Rattle.std.proofs.Common.{ℕ, ◌≡◌, ◌≢◌, arith, le_refl, Bool, true, false, Option, Some, None, List, [], ◌∷◌, map, cond, refl, sym, ap, subst, nat_eq, inl, inr, ◌⊎◌, ⊎_elim, is_some}
+use Rattle.std.specs.List.{AllByRecursion}
 use Rattle.std.proofs.lemmas.Bool.{eqb-false}
 use Rattle.std.proofs.lemmas.Map.Keys.{IsDistinct-head, IsDistinct-tail}
 use Rattle.frang_base.specs.declared.op.Op.{Op}
@@ -12,12 +12,11 @@ use Rattle.tree_definitions.specs.declared.cells.Cell.TheVariants.{Byte}
 use Rattle.tree_definitions.specs.declared.history.Entry.{Entry}
 use Rattle.tree_definitions.specs.declared.node.Node.{Node}
 use Rattle.tree_definitions.specs.declared.node.Node.TheVariants.{Dir, File, Link}
-use Rattle.tree_definitions.specs.Tree.{FileTree, node_at, with_node}
+use Rattle.tree_definitions.specs.Tree.{FileTree, node_at}
 use Rattle.tree_definitions.specs.Place.{Place, Root, Taken, Free, Nowhere, place}
 use Rattle.tree_definitions.specs.Apply.{apply, overwritten}
 use Rattle.tree_definitions.specs.History.{applied, is_answer, told_blocks, leaves_tree, tree_after, after_read, with_shown, file_at, file_of, CellRun, Settled, Stays, InDoubt, doubted, doubted_file, doubted_cells, after, after_all}
 use Rattle.tree_laws.specs.WellFormed.{IsWellFormed, IsNew, numbers_of, AreNew}
-use Rattle.tree_laws.specs.Touching.{Kind, OfDirectory, OfFile, OfLink, kind_of, HasKinds}
 use Rattle.tree_laws.proofs.Balance.{Limits, Within, Well, AreAllowed}
 use Rattle.tree_laws.proofs.WellFormedLaws.{Makes, apply_well, recelled_well}
 
@@ -165,4 +164,3 @@ after_keeps t (InDoubt runs) list w n = doubted_keeps t runs w
 pub after_all_keeps : (t : FileTree) (list : List Settled) → IsWellFormed t → AreNew t list → IsWellFormed (after_all t list)
 after_all_keeps t [] w n = w
 after_all_keeps t (s ∷ list) w n = after_all_keeps (after t s) list (after_keeps t s list w n) (are_new_after t s list w n)
-

@@ -1,11 +1,11 @@
 -- Transcripts are closed under beginnings; what one line more adds.
-use Rattle.std.proofs.Common.{◌≡◌, ℕ, List, [], ◌∷◌, ◌++◌, refl, sym, ◌∙◌, ap, subst, append-nil, append_assoc}
+use Rattle.std.proofs.Common.{◌≡◌, ℕ, List, [], ◌∷◌, ◌++◌, sym, ◌∙◌, ap, subst, append-nil, append_assoc}
 use Rattle.std.proofs.lemmas.Grind.{flat_map-append}
 use Rattle.frang_base.specs.declared.said.Said.{Said}
 use Rattle.frang_base.specs.declared.script.Line.{Line}
 use Rattle.tree_definitions.specs.History.{Opening}
 use Rattle.tree_definitions.specs.Live.{item_of, live_history}
-use Rattle.tree_definitions.specs.Transcript.{Faults, MaySay, MaySayAll}
+use Rattle.tree_definitions.specs.Transcript.{Faults, MaySayAll}
 
 pub live-append : (script : List Line) (run : ℕ) (xs ys : List Said) → live_history script run (xs ++ ys) ≡ live_history script run xs ++ live_history script run ys
 live-append script run xs ys = flat_map-append (item_of script run) xs ys

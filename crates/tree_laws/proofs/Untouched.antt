@@ -1,7 +1,5 @@
 -- What an entry doesn't touch stays.
-use Rattle.std.proofs.Common.{ℕ, ◌≡◌, ◌≢◌, ◌==◌, Bool, true, false, ◌&&◌, ◌||◌, not, Option, Some, None, List, [], ◌∷◌, ◌++◌, map, cond, refl, sym, ◌∙◌, ap, subst}
-use Rattle.std.specs.List.{list_any}
-use Rattle.std.proofs.lemmas.Bool.{and_parts, or_parts, and_from}
+use Rattle.std.proofs.Common.{ℕ, ◌≡◌, ◌≢◌, Bool, true, false, ◌&&◌, ◌||◌, Option, Some, None, List, [], ◌∷◌, ◌++◌, map, cond, refl, sym, ◌∙◌, ap, subst}
 use Rattle.frang_base.specs.declared.op.Op.{Op}
 use Rattle.frang_base.specs.declared.op.Op.TheVariants as op
 use Rattle.frang_base.specs.declared.reply.Reply.{Reply}
@@ -13,8 +11,8 @@ use Rattle.tree_definitions.specs.declared.node.Node.{Node}
 use Rattle.tree_definitions.specs.declared.node.Node.TheVariants.{Dir, File, Link}
 use Rattle.tree_definitions.specs.Tree.{FileTree, node_at}
 use Rattle.tree_definitions.specs.Place.{Place, Root, Taken, Free, Nowhere, place}
-use Rattle.tree_definitions.specs.Apply.{apply, overwritten, is_path_op}
-use Rattle.tree_definitions.specs.History.{applied, is_answer, agrees, told_blocks, leaves_tree, tree_after, after_read, with_shown, file_at, file_of}
+use Rattle.tree_definitions.specs.Apply.{apply, overwritten}
+use Rattle.tree_definitions.specs.History.{applied, is_answer, told_blocks, leaves_tree, tree_after, after_read, with_shown, file_at, file_of}
 use Rattle.tree_definitions.specs.Touched.{touches, changes, differs, looked_in, further, reached, reached_if, file_node}
 use Rattle.tree_laws.proofs.Nodes.{with_other}
 use Rattle.tree_laws.proofs.Sameness.{alike_at}
@@ -68,8 +66,8 @@ read_leaves : (tree : FileTree) (o : Op) (r : Reply) (b birth m : ℕ) → is_in
 read_leaves tree (op.Read path off len) (reply.Shown bytes) b birth m h =
     let e = looks_leave tree (op.Read path off len) birth m refl in
     subst (λ t. node_at (with_shown t (file_at t (place t path)) off bytes) b ≡ node_at t b) (sym e)
-      (shown_leaves tree (file_at tree (place tree path)) off bytes b
-        (λ f i j. let w : is_in b (reached tree file_node (place tree path)) ≡ true = subst (λ c. is_in c (reached tree file_node (place tree path)) ≡ true) (sym j) (file_at_reached tree (place tree path) f i) in cc))
+    (shown_leaves tree (file_at tree (place tree path)) off bytes b
+    (λ f i j. let w : is_in b (reached tree file_node (place tree path)) ≡ true = subst (λ c. is_in c (reached tree file_node (place tree path)) ≡ true) (sym j) (file_at_reached tree (place tree path) f i) in cc))
 read_leaves tree (op.Read path off len) _ b birth m h = refl
 read_leaves tree _ r b birth m h = refl
 

@@ -1,5 +1,5 @@
 -- Cells that are the same, or in doubt in the second list.
-use Rattle.std.proofs.Common.{ℕ, zero, suc, ◌≡◌, ◌≢◌, ◌+◌, ◌==◌, Bool, true, false, ◌&&◌, Option, Some, None, List, [], ◌∷◌, ◌++◌, length, map, take, drop, cond, refl, sym, ◌∙◌, ap, subst, inl, inr, ◌⊎◌, arith, eqb-true, take-append-drop, drop-drop, append_assoc}
+use Rattle.std.proofs.Common.{ℕ, zero, suc, ◌≡◌, ◌≢◌, ◌+◌, true, Option, Some, None, List, [], ◌∷◌, ◌++◌, length, map, take, drop, refl, sym, ◌∙◌, ap, subst, inl, inr, ◌⊎◌, arith, eqb-true, take-append-drop, drop-drop, append_assoc}
 use Rattle.std.proofs.lemmas.Bool.{and_parts, and_from}
 use Rattle.std.proofs.lemmas.List.{length-map}
 use Rattle.tree_definitions.specs.declared.cells.Cell.{Cell}
@@ -106,29 +106,29 @@ shown_is_sharper cells off len bytes h =
     let new = map Byte bytes in
     let n : length new ≡ length mid = simp length-map (shown_long mid bytes h) in
     let whole : (take off cells ++ mid) ++ drop (off + length new) cells ≡ cells =
-        append_assoc (take off cells) mid (drop (off + length new) cells)
-        ∙ ap (λ k. take off cells ++ (mid ++ drop (off + k) cells)) n
-        ∙ ap (λ l. take off cells ++ (mid ++ l)) (sym (drop-drop (length mid) off cells))
-        ∙ ap (λ l. take off cells ++ l) (front_and_rest len (drop off cells))
-        ∙ take-append-drop off cells in
+    append_assoc (take off cells) mid (drop (off + length new) cells)
+    ∙ ap (λ k. take off cells ++ (mid ++ drop (off + k) cells)) n
+    ∙ ap (λ l. take off cells ++ (mid ++ l)) (sym (drop-drop (length mid) off cells))
+    ∙ ap (λ l. take off cells ++ l) (front_and_rest len (drop off cells))
+    ∙ take-append-drop off cells in
     subst (Vaguer (overwritten cells off new)) whole
-      (vague_joined (take off cells ++ new) (take off cells ++ mid) (drop (off + length new) cells) (drop (off + length new) cells)
-        (vague_joined (take off cells) (take off cells) new mid (vague_same (take off cells)) (sharper mid bytes h)) (vague_same (drop (off + length new) cells)))
+    (vague_joined (take off cells ++ new) (take off cells ++ mid) (drop (off + length new) cells) (drop (off + length new) cells)
+    (vague_joined (take off cells) (take off cells) new mid (vague_same (take off cells)) (sharper mid bytes h)) (vague_same (drop (off + length new) cells)))
 
 -- doubt comes into both
 doubted_like : (xs ys : List Cell) (from count : ℕ) → Vaguer xs ys → Vaguer (doubted_cells xs from count) (doubted_cells ys from count)
 doubted_like xs ys from count l =
     let mid = doubt_alike (take count (drop from xs)) (take count (drop from ys)) (vague_long (take count (drop from xs)) (take count (drop from ys)) (vague_taken count (drop from xs) (drop from ys) (vague_dropped from xs ys l))) in
     vague_joined (take from xs ++ map (λ c. Doubtful) (take count (drop from xs))) (take from ys ++ map (λ c. Doubtful) (take count (drop from ys))) (drop (from + count) xs) (drop (from + count) ys)
-      (vague_joined (take from xs) (take from ys) (map (λ c. Doubtful) (take count (drop from xs))) (map (λ c. Doubtful) (take count (drop from ys))) (vague_taken from xs ys l) (subst (Vaguer (map (λ c. Doubtful) (take count (drop from xs)))) mid (vague_same (map (λ c. Doubtful) (take count (drop from xs))))))
-      (vague_dropped (from + count) xs ys l)
+    (vague_joined (take from xs) (take from ys) (map (λ c. Doubtful) (take count (drop from xs))) (map (λ c. Doubtful) (take count (drop from ys))) (vague_taken from xs ys l) (subst (Vaguer (map (λ c. Doubtful) (take count (drop from xs)))) mid (vague_same (map (λ c. Doubtful) (take count (drop from xs))))))
+    (vague_dropped (from + count) xs ys l)
 
 module _ (t u : FileTree) (r from count : ℕ) where
   doubt_here : (o q : Option Node) → node_at t r ≡ o → node_at u r ≡ q → Like vague o q → Like vague (node_at (doubted_file t (file_of r o) from count) r) (node_at (doubted_file u (file_of r q) from count) r)
   doubt_here (Some (File cells links)) q i j l =
       subst (λ z. Like vague (node_at (with_node t r (File (doubted_cells cells from count) links)) r) (node_at (doubted_file u (file_of r z) from count) r)) (sym l.1)
-        (subst (λ z. Like vague z (node_at (with_node u r (File (doubted_cells l.0 from count) links)) r)) (sym (with_same t r (File (doubted_cells cells from count) links)))
-          (doubted_cells l.0 from count, with_same u r (File (doubted_cells l.0 from count) links), doubted_like cells l.0 from count l.2))
+      (subst (λ z. Like vague z (node_at (with_node u r (File (doubted_cells l.0 from count) links)) r)) (sym (with_same t r (File (doubted_cells cells from count) links)))
+      (doubted_cells l.0 from count, with_same u r (File (doubted_cells l.0 from count) links), doubted_like cells l.0 from count l.2))
   doubt_here (Some (Dir es n)) q i j l = subst (λ z. Like vague (node_at t r) (node_at (doubted_file u (file_of r z) from count) r)) (sym l) (subst (λ z. Like vague z (node_at u r)) (sym i) (j ∙ l))
   doubt_here (Some (Link target links)) q i j l = subst (λ z. Like vague (node_at t r) (node_at (doubted_file u (file_of r z) from count) r)) (sym l) (subst (λ z. Like vague z (node_at u r)) (sym i) (j ∙ l))
   doubt_here None q i j l = subst (λ z. Like vague (node_at t r) (node_at (doubted_file u (file_of r z) from count) r)) (sym l) (subst (λ z. Like vague z (node_at u r)) (sym i) (j ∙ l))

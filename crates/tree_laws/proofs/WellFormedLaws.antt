@@ -1,5 +1,5 @@
 -- An operation at a new birth leaves a well-formed tree so.
-use Rattle.std.proofs.Common.{ℕ, ◌≡◌, ◌≢◌, ◌<◌, ◌≤◌, ◌+◌, ◌-◌, ◌*◌, ◌==◌, Bool, true, false, not, ◌&&◌, Option, Some, None, List, [], ◌∷◌, ◌++◌, length, map, replicate, take, drop, max, cond, refl, sym, ◌∙◌, ap, subst, nat_eq, nat_lt, nat_le, arith, le_refl, eqb-true, eq-eqb, lt-ltb, is_some}
+use Rattle.std.proofs.Common.{ℕ, ◌≡◌, ◌≢◌, ◌≤◌, ◌+◌, ◌-◌, ◌*◌, ◌==◌, Bool, true, false, not, ◌&&◌, Option, Some, None, List, [], ◌∷◌, length, map, replicate, take, max, cond, refl, sym, ◌∙◌, ap, subst, nat_lt, nat_le, arith, le_refl, eqb-true, lt-ltb, is_some}
 use Rattle.std.proofs.lemmas.Bool.{eqb-false}
 use Rattle.std.specs.List.Sorted.{IsStrictlySortedBy}
 use Rattle.std.specs.Map.{keys_of}
@@ -7,24 +7,23 @@ use Rattle.std.specs.Ordering.{nat_cmp}
 use Rattle.std.specs.Cmp.Lexicographic.{slice_cmp}
 use Rattle.frang_base.specs.declared.op.Op.{Op}
 use Rattle.frang_base.specs.declared.op.Op.TheVariants as op
-use Rattle.frang_base.specs.declared.reply.Reply.{Reply}
 use Rattle.frang_base.specs.declared.reply.Reply.TheVariants as reply
 use Rattle.tree_definitions.specs.declared.cells.Cell.{Cell}
 use Rattle.tree_definitions.specs.declared.cells.Cell.TheVariants.{Byte}
 use Rattle.tree_definitions.specs.declared.node.Node.{Node}
 use Rattle.tree_definitions.specs.declared.node.Node.TheVariants.{Dir, File, Link}
 use Rattle.tree_definitions.specs.Entries.{Entries, entry_at, with_entry, without_entry}
-use Rattle.tree_definitions.specs.Tree.{FileTree, node_at, with_node, without_node, grown, must_grow, large_blocks_of, small_blocks_of, larges_full, count_of, file_blocks, inodes_full, lacks_block, entries_full}
+use Rattle.tree_definitions.specs.Tree.{FileTree, node_at, with_node, grown, must_grow, large_blocks_of, small_blocks_of, larges_full, count_of, file_blocks, inodes_full, lacks_block, entries_full}
 use Rattle.tree_definitions.specs.Place.{Place, Root, Taken, Free, Nowhere, place}
-use Rattle.tree_definitions.specs.Apply.{Applied, says, named, made, is_dir, links_of, has_entries, one_link_more, one_link_fewer, linked_to, linked, unlinked, dir_removed, name_gone, name_set, moved, room_made, moved_onto, moved_to, goes_through, renamed_to, renamed_from, renamed, at_node, if_file, at_file, overwritten, written, truncated, apply}
+use Rattle.tree_definitions.specs.Apply.{Applied, says, named, made, is_dir, links_of, has_entries, one_link_more, one_link_fewer, linked_to, linked, unlinked, dir_removed, name_gone, name_set, moved, moved_onto, moved_to, goes_through, renamed_to, renamed_from, renamed, if_file, at_file, overwritten, written, truncated, apply}
 use Rattle.tree_laws.specs.Refusals.{is_look}
-use Rattle.tree_laws.specs.WellFormed.{BirthsAscend, NamesAscend, IsRooted, one_at, names_in, names_of, IsWellFormed, IsNew}
-use Rattle.tree_laws.specs.Touching.{Kind, OfDirectory, OfFile, OfLink, kind_of}
+use Rattle.tree_laws.specs.WellFormed.{one_at, names_in, IsNew}
+use Rattle.tree_laws.specs.Touching.{OfDirectory, OfFile, OfLink}
 use Rattle.tree_laws.proofs.Pairs.{name_exact, found_left}
-use Rattle.tree_laws.proofs.Nodes.{each_but, with_same, with_other, without_same, without_other}
+use Rattle.tree_laws.proofs.Nodes.{with_same, with_other}
 use Rattle.tree_laws.proofs.Places.{Stands, place_stands}
 use Rattle.tree_laws.proofs.Refusals.{looks_leave}
-use Rattle.tree_laws.proofs.Balance.{at_name, AreAllowed, Limits, Within, Well, Owing, none_owed, owing_none, paid, node_gone}
+use Rattle.tree_laws.proofs.Balance.{at_name, Limits, Within, Well, Owing, none_owed, owing_none, paid}
 use Rattle.tree_laws.proofs.Keeping.{one_sym, never_root, has_links, names_nodes, root_is_old, restated, entry_put, entry_gone, room_kept, node_made, links_put, link_more, link_fewer}
 
 none_sorted : IsStrictlySortedBy (slice_cmp nat_cmp) (keys_of {K = List ℕ} {X = ℕ} [])
@@ -75,16 +74,16 @@ module _ (A : Limits) (u : FileTree) (x y : ℕ → ℕ) (o : Owing A u x y) (fr
         let g = entry_gone A u x y o from es n name b is at in
         let h = entry_put A without (λ c. x c + one_at c b) (λ c. y c + 0) g to d.0 d.1 d.1 new b d.2 (le_refl d.1) in
         subst (λ t. Owing A (name_set t to new b (node_at t to)) (λ c. x c + one_at c b + at_name c q) (λ c. y c + 0 + one_at c b)) (sym without_is)
-          (subst (λ v. Owing A (name_set without to new b v) (λ c. x c + one_at c b + at_name c q) (λ c. y c + 0 + one_at c b)) (sym d.2)
-            (subst (λ v. Owing A (with_node without to (Dir (with_entry d.0 new b) d.1)) (λ c. x c + one_at c b + at_name c v) (λ c. y c + 0 + one_at c b)) (d.3 ∙ found) h))
+        (subst (λ v. Owing A (name_set without to new b v) (λ c. x c + one_at c b + at_name c q) (λ c. y c + 0 + one_at c b)) (sym d.2)
+        (subst (λ v. Owing A (with_node without to (Dir (with_entry d.0 new b) d.1)) (λ c. x c + one_at c b + at_name c v) (λ c. y c + 0 + one_at c b)) (d.3 ∙ found) h))
 
     -- the other nodes stay
     moved_other : (c : ℕ) → c ≢ from → c ≢ to → node_at (moved u from name to new b) c ≡ node_at u c
     moved_other c f g =
         let d = second_dir (to == from) refl in
         subst (λ t. node_at (name_set t to new b (node_at t to)) c ≡ node_at u c) (sym without_is)
-          (subst (λ v. node_at (name_set without to new b v) c ≡ node_at u c) (sym d.2)
-            (with_other without to (Dir (with_entry d.0 new b) d.1) c g ∙ with_other u from (Dir (without_entry es name) n) c f))
+        (subst (λ v. node_at (name_set without to new b v) c ≡ node_at u c) (sym d.2)
+        (with_other without to (Dir (with_entry d.0 new b) d.1) c g ∙ with_other u from (Dir (without_entry es name) n) c f))
 
 module _ (A : Limits) (t : FileTree) (w : Well A t) where
   start : Owing A t none_owed none_owed
@@ -113,7 +112,7 @@ module _ (A : Limits) (t : FileTree) (w : Well A t) where
       let far : dir ≢ b = λ e. (let q : Some (Dir es n) ≡ None = sym s.0 ∙ ap (node_at t) e ∙ new in cc) in
       let h = node_made A t none_owed none_owed start b z new (root_is_old t w.well b new) plain sorted one fine in
       if_well A (entries_full es) (says t reply.DirFull) _ (λ e. w) (λ e. if_well A (inodes_full t) (says t reply.NoInode) _ (λ e. w) (λ e. if_well A (lacks_block t es n) (says t reply.NoDirBlock) _ (λ e. w)
-        (λ e. name_given (with_node t b z) b h dir es n name (with_other t b z dir far ∙ s.0) s.1)))
+      (λ e. name_given (with_node t b z) b h dir es n name (with_other t b z dir far ∙ s.0) s.1)))
 
   module _ (dir : ℕ) (es : Entries) (n : ℕ) (name : List ℕ) (b : ℕ) (s : Stands t (Taken dir es n name b)) where
     taken_some : is_some (node_at t b) ≡ true
@@ -134,7 +133,7 @@ module _ (A : Limits) (t : FileTree) (w : Well A t) where
         let h = link_more A t none_owed none_owed start b (node_at t b) refl taken_some plain taken_away in
         let far : to ≢ b = λ e. (let k : is_dir (node_at t b) ≡ true = ap is_dir (ap (node_at t) (sym e) ∙ q.0) in cc) in
         if_well A (nat_le 1000 (links_of (node_at t b))) (says t reply.MLink) _ (λ e. w) (λ e. if_well A (entries_full fs) (says t reply.DirFull) _ (λ e. w) (λ e. if_well A (lacks_block t fs m) (says t reply.NoDirBlock) _ (λ e. w)
-          (λ e. name_given (one_link_more t b (node_at t b)) b h to fs m new (more_other (node_at t b) to far ∙ q.0) q.1)))
+        (λ e. name_given (one_link_more t b (node_at t b)) b h to fs m new (more_other (node_at t b) to far ∙ q.0) q.1)))
       where
         more_other : (o : Option Node) (c : ℕ) → c ≢ b → node_at (one_link_more t b o) c ≡ node_at t c
         more_other (Some (File cells links)) c far = with_other t b (File cells (links + 1)) c far
@@ -189,7 +188,7 @@ module _ (A : Limits) (t : FileTree) (w : Well A t) where
               let far_from : old ≢ dir = λ z. (let k : has_entries (node_at t old) ≡ true = ap has_entries (ap (node_at t) z ∙ s.0) ∙ named_has es n name b s.1 in cc) in
               let far_to : old ≢ to = λ z. (let k : has_entries (node_at t old) ≡ true = ap has_entries (ap (node_at t) z ∙ q.0) ∙ named_has fs m new old q.1 in cc) in
               let f = link_fewer A (moved t dir name to new b) _ _ h old (node_at t old) (moved_other A t none_owed none_owed start dir es n name b s.0 s.1 to fs m new q.0 other old far_from far_to)
-                  (has_links t w.well to fs m new old q.0 q.1) empty (never_root t w.well to fs m new old q.0 q.1) in
+              (has_links t w.well to fs m new old q.0 q.1) empty (never_root t w.well to fs m new old q.0 q.1) in
               paid A (one_link_fewer (moved t dir name to new b) old (node_at t old)) _ _ f (λ c. (let z : one_at c old ≡ one_at old c = one_sym c old in omega arith))
 
     -- a name moves to where none is
@@ -203,9 +202,9 @@ module _ (A : Limits) (t : FileTree) (w : Well A t) where
       moved_to_well : Well A (moved_to t dir name b to fs m new).tree
       moved_to_well = if_well A (dir == to) (says (moved t dir name to new b) reply.Ok) _ (λ e. free_well t m start s.0 q.0)
           (λ e. if_well A (entries_full fs) (says t reply.DirFull) _ (λ f. w) (λ f. if_well A (lacks_block t fs m) (says t reply.NoDirBlock) _ (λ f. w) (λ f.
-            free_well (with_node t to (Dir fs (grown fs m))) (grown fs m)
-              (restated A (with_node t to (Dir fs (grown fs m))) _ _ none_owed none_owed (room_kept A t none_owed none_owed start to fs m (grown fs m) q.0 (grows fs m)) (λ c. refl) (λ c. refl))
-              (with_other t to (Dir fs (grown fs m)) dir (eqb-false dir to e) ∙ s.0) (with_same t to (Dir fs (grown fs m))))))
+          free_well (with_node t to (Dir fs (grown fs m))) (grown fs m)
+          (restated A (with_node t to (Dir fs (grown fs m))) _ _ none_owed none_owed (room_kept A t none_owed none_owed start to fs m (grown fs m) q.0 (grows fs m)) (λ c. refl) (λ c. refl))
+          (with_other t to (Dir fs (grown fs m)) dir (eqb-false dir to e) ∙ s.0) (with_same t to (Dir fs (grown fs m))))))
 
     renamed_to_well : (path : List (List ℕ)) (p : Place) → Stands t p → Well A (renamed_to t dir name b path p).tree
     renamed_to_well path Root q = w
@@ -236,10 +235,10 @@ module _ (A : Limits) (t : FileTree) (w : Well A t) where
   written_well m b cells links off len put is =
       let size = max (length cells) (off + len) in
       if_well A (nat_lt (length cells) off) (says t reply.BadOffset) _ (λ e. w)
-        (λ e. if_well A (nat_lt 1114112 (off + len)) (says t reply.TooBig) _ (λ e. w)
-          (λ e. if_well A (nat_lt (large_blocks_of (length cells)) (large_blocks_of size) && larges_full t) (says t reply.NoLarge) _ (λ e. w)
-            (λ e. if_well A (nat_lt (1024 * t.segments - m) (count_of file_blocks t + (small_blocks_of size - small_blocks_of (length cells)))) (says t (reply.NoBlock m)) (says (with_node t b (File (put cells) links)) reply.Ok) (λ e. w)
-              (λ e. recelled_well b cells (put cells) links is))))
+      (λ e. if_well A (nat_lt 1114112 (off + len)) (says t reply.TooBig) _ (λ e. w)
+      (λ e. if_well A (nat_lt (large_blocks_of (length cells)) (large_blocks_of size) && larges_full t) (says t reply.NoLarge) _ (λ e. w)
+      (λ e. if_well A (nat_lt (1024 * t.segments - m) (count_of file_blocks t + (small_blocks_of size - small_blocks_of (length cells)))) (says t (reply.NoBlock m)) (says (with_node t b (File (put cells) links)) reply.Ok) (λ e. w)
+      (λ e. recelled_well b cells (put cells) links is))))
 
   truncated_well : (b : ℕ) (cells : List Cell) (links len : ℕ) → node_at t b ≡ Some (File cells links) → Well A (truncated t b cells links len).tree
   truncated_well b cells links len is = if_well A (nat_lt (length cells) len) (says t reply.BadOffset) (says (with_node t b (File (take len cells) links)) reply.Ok) (λ e. w) (λ e. recelled_well b cells (take len cells) links is)

@@ -1,20 +1,19 @@
 -- Whole histories, with their recoveries.
-use Rattle.std.proofs.Common.{ℕ, ◌≡◌, ◌+◌, ◌-◌, Bool, true, false, ◌&&◌, List, [], ◌∷◌, ◌++◌, map, refl, sym, ◌∙◌, ap, subst, inl, inr, ◌⊎◌, nat_eq, arith}
+use Rattle.std.proofs.Common.{ℕ, ◌≡◌, ◌+◌, ◌-◌, true, false, ◌&&◌, List, [], ◌∷◌, ◌++◌, map, refl, sym, ◌∙◌, ap, subst, inl, inr, nat_eq, arith}
 use Rattle.std.specs.List.{AllByRecursion, IsDistinct}
 use Rattle.std.proofs.lemmas.Bool.{and_parts}
-use Rattle.std.proofs.lemmas.Map.Keys.{IsDistinct-head, IsDistinct-tail, IsDistinct-cons}
 use Rattle.frang_base.specs.declared.sector.OpNo.{OpNo}
 use Rattle.frang_base.specs.declared.sector.ServerId.{ServerId}
 use Rattle.tree_definitions.specs.declared.history.Entry.{Entry}
 use Rattle.tree_definitions.specs.declared.history.Item.{Item}
 use Rattle.tree_definitions.specs.declared.history.Item.TheVariants.{Did, Recovered}
 use Rattle.tree_definitions.specs.Tree.{FileTree, count_of, dir_blocks}
-use Rattle.tree_definitions.specs.History.{Opening, Settled, Stays, InDoubt, after, grows, may_stand, legal_from, tree_after}
+use Rattle.tree_definitions.specs.History.{Opening, Settled, Stays, InDoubt, grows, may_stand, legal_from, tree_after}
 use Rattle.tree_definitions.specs.Removal.{settled, keeps, keeps_known, kept_from, is_legal, tree_of}
 use Rattle.tree_laws.specs.WellFormed.{IsWellFormed, IsNew, AreNew, numbers_of}
 use Rattle.tree_laws.specs.Settling.{entries_of, entries_left, IsSublist, HasNoRecovery}
 use Rattle.tree_laws.specs.Removing.{room_left}
-use Rattle.tree_laws.specs.Whole.{all_numbers, AreAllNew, HasNoDoubt}
+use Rattle.tree_laws.specs.Whole.{AreAllNew, HasNoDoubt}
 use Rattle.tree_laws.proofs.SettlingLaws.{settled_is_of, settles}
 use Rattle.tree_laws.proofs.StepsLaws.{after_all_keeps}
 use Rattle.tree_laws.proofs.HistoryLaws.{settled-recovered, kept-recovered}

@@ -9,7 +9,7 @@ use Rattle.tree_definitions.specs.Entries.{Entries}
 use Rattle.tree_definitions.specs.Tree.{FileTree, node_at}
 use Rattle.tree_definitions.specs.Apply.{Plain, apply, is_path_op}
 use Rattle.tree_definitions.specs.History.{tree_after}
-use Rattle.tree_definitions.specs.Touched.{touches, changes, changes_shape, shape_of}
+use Rattle.tree_definitions.specs.Touched.{touches, changes, shape_of}
 use Rattle.tree_laws.specs.Refusals.{is_look}
 use Rattle.tree_laws.specs.WellFormed.{IsWellFormed, IsNew, BirthsAscend}
 

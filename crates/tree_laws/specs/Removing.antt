@@ -3,7 +3,7 @@ use Rattle.std.specs.Prelude.{◌≡◌, ℕ, Bool, true, false, not, ◌&&◌, 
 use Rattle.tree_definitions.specs.Tree.{FileTree}
 use Rattle.tree_definitions.specs.History.{Settled, Stays, InDoubt, applied, leaves_tree, after, legal_from}
 use Rattle.tree_definitions.specs.Touched.{is_seen, refused_later}
-use Rattle.tree_definitions.specs.Removal.{is_of, begins_removal, left, keeps_known, recovered}
+use Rattle.tree_definitions.specs.Removal.{is_of, begins_removal, keeps_known, recovered}
 use Rattle.tree_laws.specs.Touching.{wants_room}
 use Rattle.tree_laws.specs.WellFormed.{IsWellFormed, AreNew}
 

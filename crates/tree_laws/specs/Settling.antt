@@ -1,11 +1,11 @@
 -- What settles of a history is of the history.
-use Rattle.std.specs.Prelude.{◌≡◌, ◌⊎◌, ℕ, Bool, true, false, not, List, [], ◌∷◌, ◌++◌, map, filter}
+use Rattle.std.specs.Prelude.{◌≡◌, ◌⊎◌, ℕ, true, false, not, List, [], ◌∷◌, ◌++◌, map, filter}
 use Rattle.std.specs.List.{list_any}
 use Rattle.tree_definitions.specs.declared.history.Entry.{Entry}
 use Rattle.tree_definitions.specs.declared.history.Item.{Item}
 use Rattle.tree_definitions.specs.declared.history.Item.TheVariants.{Did, Recovered}
 use Rattle.tree_definitions.specs.Tree.{FileTree}
-use Rattle.tree_definitions.specs.History.{Settled, Stays, InDoubt, after_all, legal_from}
+use Rattle.tree_definitions.specs.History.{Settled, Stays, InDoubt, after_all}
 use Rattle.tree_definitions.specs.Removal.{settled, left, is_lost, is_of, mounts}
 
 -- the entries of a history, recovered or not

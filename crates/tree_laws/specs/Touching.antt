@@ -1,14 +1,11 @@
 -- An entry goes by the nodes that it touches, and by the kinds of the others.
-use Rattle.std.specs.Prelude.{◌≡◌, ℕ, Bool, true, false, Option, Some, None, List, [], ◌∷◌}
-use Rattle.frang_base.specs.declared.op.Op.{Op}
-use Rattle.frang_base.specs.declared.op.Op.TheVariants as op
-use Rattle.frang_base.specs.declared.reply.Reply.{Reply}
+use Rattle.std.specs.Prelude.{◌≡◌, ℕ, Bool, true, false, Some}
 use Rattle.tree_definitions.specs.declared.history.Entry.{Entry}
 use Rattle.tree_definitions.specs.declared.node.Node.{Node}
 use Rattle.tree_definitions.specs.declared.node.Node.TheVariants.{Dir, File, Link}
 use Rattle.tree_definitions.specs.Tree.{FileTree, node_at}
-use Rattle.tree_definitions.specs.Apply.{Answer, Plain, Shows, apply}
-use Rattle.tree_definitions.specs.History.{applied, is_answer, tree_after, Settled, Stays, InDoubt, after_all}
+use Rattle.tree_definitions.specs.Apply.{Answer, Plain, Shows}
+use Rattle.tree_definitions.specs.History.{applied, is_answer, tree_after}
 use Rattle.tree_definitions.specs.Touched.{touches, changes, is_nospace}
 use Rattle.tree_laws.specs.WellFormed.{IsWalkable, IsNew}
 

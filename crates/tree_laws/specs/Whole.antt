@@ -1,14 +1,13 @@
 -- Whole histories, with their recoveries.
-use Rattle.std.specs.Prelude.{◌≡◌, ℕ, true, false, List, [], ◌∷◌, ◌++◌, map, nat_eq}
+use Rattle.std.specs.Prelude.{◌≡◌, ℕ, true, List, [], ◌∷◌, ◌++◌, map, nat_eq}
 use Rattle.std.specs.List.{AllByRecursion, IsDistinct}
 use Rattle.frang_base.specs.declared.sector.OpNo.{OpNo}
 use Rattle.frang_base.specs.declared.sector.ServerId.{ServerId}
-use Rattle.tree_definitions.specs.declared.history.Entry.{Entry}
 use Rattle.tree_definitions.specs.declared.history.Item.{Item}
 use Rattle.tree_definitions.specs.declared.history.Item.TheVariants.{Did, Recovered}
 use Rattle.tree_definitions.specs.Tree.{FileTree}
 use Rattle.tree_definitions.specs.History.{Opening, Settled, Stays, InDoubt}
-use Rattle.tree_definitions.specs.Removal.{settled, keeps, keeps_known, is_legal, tree_of}
+use Rattle.tree_definitions.specs.Removal.{settled, keeps, is_legal, tree_of}
 use Rattle.tree_laws.specs.WellFormed.{IsWellFormed, IsNew, AreNew}
 use Rattle.tree_laws.specs.Settling.{entries_of, entries_left}
 use Rattle.tree_laws.specs.Removing.{room_left}
