@@ -27,3 +27,4 @@ pub mod ShapeLaws
 pub mod Vagueness
 pub mod RemovingLaws
 pub mod WholeLaws
+pub mod OrderLaws

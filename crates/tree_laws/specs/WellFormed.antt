@@ -88,6 +88,14 @@ FindsWhatWasPut = (tree : FileTree) (birth : ℕ) (node : Node) (b : ℕ) → no
 abbrev pub MissesWhatWasTaken : Type 0
 MissesWhatWasTaken = (tree : FileTree) (birth b : ℕ) → BirthsAscend tree → node_at (without_node tree birth) b ≡ put (node_at tree) birth None b
 
+-- births stay in order, whatever is applied, at whatever birth
+abbrev pub ApplyKeepsOrder : Type 0
+ApplyKeepsOrder = (tree : FileTree) (o : Op) (birth m : ℕ) → BirthsAscend tree → BirthsAscend (apply tree o birth m).tree
+
+-- and whatever list of steps follows, legal or not
+abbrev pub StepsKeepOrder : Type 0
+StepsKeepOrder = (tree : FileTree) (list : List Settled) → BirthsAscend tree → BirthsAscend (after_all tree list)
+
 -- the fresh tree is well formed
 abbrev pub FreshIsWellFormed : Type 0
 FreshIsWellFormed = (segments : ℕ) → IsWellFormed (fresh segments)

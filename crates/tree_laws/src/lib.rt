@@ -6,7 +6,7 @@
 ghost use Rattle.tree_laws.specs.Histories.{EntrySettles, RecoverySettles, EntryActs, EntryIsLegal, EntryKeeps, RecoveryKeeps, StepsFollow, LegalByParts};
 ghost use Rattle.tree_laws.specs.Prefixes.{PrefixesAreTranscripts, EachMayBeSaid, GoesOnByALine, LineAdds};
 ghost use Rattle.tree_laws.specs.Kinds.{ToldKindsAgree, ApplyKeepsKinds, StepsKeepKinds, KindsCanBeTold};
-ghost use Rattle.tree_laws.specs.WellFormed.{FindsWhatWasPut, MissesWhatWasTaken, FreshIsWellFormed, ApplyKeepsWellFormed, StepKeepsWellFormed, StepsKeepWellFormed, LaterNumbersStayNew, NodesComeByNumbers, WellFormedIsWalkable};
+ghost use Rattle.tree_laws.specs.WellFormed.{FindsWhatWasPut, MissesWhatWasTaken, ApplyKeepsOrder, StepsKeepOrder, FreshIsWellFormed, ApplyKeepsWellFormed, StepKeepsWellFormed, StepsKeepWellFormed, LaterNumbersStayNew, NodesComeByNumbers, WellFormedIsWalkable};
 ghost use Rattle.tree_laws.specs.Settling.{SettledIsOfHistory, SettlesToItself, RecoveryRemovesASuffix, LostIsOfTheServer};
 ghost use Rattle.tree_laws.specs.Counts.{MakesOneNode, FreesAtMostOneNode, KeepsTheNodes, BlocksNeverFall, LooksChangeNothing, LooksLeaveTheShape, NoPathTouchesNothing};
 ghost use Rattle.tree_laws.specs.Removing.{UnseenCanGo, RecoveryLeavesLegal};
@@ -20,11 +20,17 @@ pub fn a_refusal_leaves_the_tree()
     ensures looks { LooksLeaveTheTree }
 {}
 
-/// Births ascend in every tree that grows from the fresh one by entries of new numbers, and so do the names of each directory; the root
-/// stays a directory, and each node has as many names as links. A well-formed tree can be walked: its entries name nodes.
-pub fn trees_stay_well_formed()
+/// Births that ascend go on ascending, so that no two nodes have the same, and a node is found where it was put and nowhere else.
+pub fn births_stay_distinct()
     ensures put { FindsWhatWasPut }
     ensures taken { MissesWhatWasTaken }
+    ensures apply { ApplyKeepsOrder }
+    ensures steps { StepsKeepOrder }
+{}
+
+/// In every tree that grows from the fresh one by entries of new numbers births ascend, and so do the names of each directory; the root is
+/// a directory, and each node has as many names as links. A well-formed tree can be walked: its entries name nodes.
+pub fn trees_stay_well_formed()
     ensures fresh { FreshIsWellFormed }
     ensures apply { ApplyKeepsWellFormed }
     ensures step { StepKeepsWellFormed }

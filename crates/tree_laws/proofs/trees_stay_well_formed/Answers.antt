@@ -1,14 +1,7 @@
 -- By what each change of a tree does to its order and to the balance of names and links.
-use Rattle.tree_laws.proofs.Nodes.{node_with, node_without}
 use Rattle.tree_laws.proofs.FreshLaws.{fresh_well, walkable}
 use Rattle.tree_laws.proofs.StepsLaws.{apply_keeps, after_keeps, after_all_keeps, are_new_after, new_stays}
 use Rattle.tree_laws.proofs.trees_stay_well_formed.Goals as goal
-
-pub returns-clause-put : goal.returns-clause-put
-returns-clause-put c = node_with
-
-pub returns-clause-taken : goal.returns-clause-taken
-returns-clause-taken c = node_without
 
 pub returns-clause-fresh : goal.returns-clause-fresh
 returns-clause-fresh c = fresh_well
