@@ -10,6 +10,8 @@ use Rattle.tree_definitions.specs.Place.{Place, Root, Taken, Free, Nowhere}
 use Rattle.tree_definitions.specs.Apply.{Plain, Applied, says, named, made, is_dir, has_entries, links_of, one_link_more, one_link_fewer, linked_to, linked, unlinked, dir_removed, moved, name_gone, name_set}
 use Rattle.tree_laws.specs.WellFormed.{BirthsAscend, EntriesNameNodes, IsNew}
 use Rattle.tree_laws.specs.Touching.{wants_room, SameKinds, kind_of, OfDirectory, OfFile, OfLink}
+use Rattle.tree_laws.specs.Rooms.{SameRoom}
+use Rattle.tree_laws.proofs.Rooms.{same_inodes, same_lacks}
 use Rattle.tree_laws.proofs.Likeness.{Likeness, Near, like_equal, like_dir, like_links}
 use Rattle.tree_laws.proofs.Nodes.{with_same, with_other, without_same, ascend_with, ascend_without}
 use Rattle.tree_laws.proofs.Places.{Stands}
@@ -84,8 +86,8 @@ module _ (L : Likeness) (one two : FileTree) where
       let first = joint_with L one two one two (joint_none L one two) birth node (like_equal L (node_at one birth) (node_at two birth) (new_one ∙ sym new_two)) in
       let j = joint_with L one two (with_node one birth node) (with_node two birth node) first dir (Dir (with_entry es name birth) (grown es n)) (like_equal L (node_at one dir) (node_at two dir) (s.0 ∙ sym t.0)) in
       both_if L one two (entries_full es) (says one reply.DirFull) _ (says two reply.DirFull) _ (both_say L one two reply.DirFull)
-      (if_room L one two (inodes_full one) (inodes_full two) reply.NoInode reply.NoInode _ _ refl refl
-      (if_room L one two (lacks_block one es n) (lacks_block two es n) reply.NoDirBlock reply.NoDirBlock _ _ refl refl
+      (if_room L one two (inodes_full one) (inodes_full two) reply.NoInode reply.NoInode _ _ refl refl (λ k. same_inodes one two k) (λ k. refl)
+      (if_room L one two (lacks_block one es n) (lacks_block two es n) reply.NoDirBlock reply.NoDirBlock _ _ refl refl (λ k. same_lacks one two k es n) (λ k. refl)
       (both_do L one two (named (with_node one birth node) dir es n name birth) (named (with_node two birth node) dir es n name birth) reply.Ok j)))
 
 -- a node with a link more isn't the same
@@ -100,18 +102,16 @@ linked_differs t b (Some x) i s f dir es n name at e =
     let away : b ≢ dir = λ q. (let w : Some x ≡ Some (Dir es n) = sym i ∙ ap (node_at t) q ∙ at in let z : is_dir (Some x) ≡ true = ap is_dir w in cc) in
     more_differs t b x f (sym (with_other (one_link_more t b (Some x)) dir (Dir (with_entry es name b) (grown es n)) b away) ∙ e)
 
--- which of its outcomes a link has
-by_link : (S : Type 0) (one u : FileTree) (b : ℕ) (c full lacks : Bool)
-    → wants_room (cond c (says one reply.MLink) (cond full (says one reply.DirFull) (cond lacks (says one reply.NoDirBlock) (says u reply.Ok)))).answer ≡ false
-    → ((cond c (says one reply.MLink) (cond full (says one reply.DirFull) (cond lacks (says one reply.NoDirBlock) (says u reply.Ok)))).answer ≡ Plain reply.MLink → S)
+-- which of its outcomes a link has: each that isn't told by the name alone tells of the node
+by_link : (S : Type 0) (one u : FileTree) (b : ℕ) (c full lacks : Bool) → ((cond c (says one reply.MLink) (cond full (says one reply.DirFull) (cond lacks (says one reply.NoDirBlock) (says u reply.Ok)))).answer ≡ Plain reply.MLink → S)
     → ((cond c (says one reply.MLink) (cond full (says one reply.DirFull) (cond lacks (says one reply.NoDirBlock) (says u reply.Ok)))).answer ≡ Plain reply.DirFull → S)
-    → (S ⊎ (node_at (cond c (says one reply.MLink) (cond full (says one reply.DirFull) (cond lacks (says one reply.NoDirBlock) (says u reply.Ok)))).tree b ≡ node_at one b))
-    → (node_at u b ≢ node_at one b) → S
-by_link S one u b true full lacks w m f l d = m refl
-by_link S one u b false true lacks w m f l d = f refl
-by_link S one u b false false true w m f l d = absurd (cc)
-by_link S one u b false false false w m f (inl s) d = s
-by_link S one u b false false false w m f (inr e) d = absurd (d e)
+    → ((cond c (says one reply.MLink) (cond full (says one reply.DirFull) (cond lacks (says one reply.NoDirBlock) (says u reply.Ok)))).answer ≡ Plain reply.NoDirBlock → S)
+    → (S ⊎ (node_at (cond c (says one reply.MLink) (cond full (says one reply.DirFull) (cond lacks (says one reply.NoDirBlock) (says u reply.Ok)))).tree b ≡ node_at one b)) → (node_at u b ≢ node_at one b) → S
+by_link S one u b true full lacks m f n l d = m refl
+by_link S one u b false true lacks m f n l d = f refl
+by_link S one u b false false true m f n l d = n refl
+by_link S one u b false false false m f n (inl s) d = s
+by_link S one u b false false false m f n (inr e) d = absurd (d e)
 
 module _ (L : Likeness) (one two : FileTree) where
   module _ (b : ℕ) (there : is_some (node_at one b) ≡ true) (plain : is_dir (node_at one b) ≡ false) where
@@ -124,21 +124,19 @@ module _ (L : Likeness) (one two : FileTree) where
         subst (λ k. Matches L one two (linked_to one b (Free dir es n name)) (cond (nat_le 1000 k) (says two reply.MLink) (cond (entries_full es) (says two reply.DirFull) (cond (lacks_block two es n) (says two reply.NoDirBlock) (says (named (one_link_more two b q) dir es n name b) reply.Ok))))) (like_links L o q same)
         (both_if L one two (nat_le 1000 (links_of o)) (says one reply.MLink) _ (says two reply.MLink) _ (both_say L one two reply.MLink)
         (both_if L one two (entries_full es) (says one reply.DirFull) _ (says two reply.DirFull) _ (both_say L one two reply.DirFull)
-        (if_room L one two (lacks_block one es n) (lacks_block two es n) reply.NoDirBlock reply.NoDirBlock _ _ refl refl
+        (if_room L one two (lacks_block one es n) (lacks_block two es n) reply.NoDirBlock reply.NoDirBlock _ _ refl refl (λ k. same_lacks one two k es n) (λ k. refl)
         (both_do L one two (named (one_link_more one b o) dir es n name b) (named (one_link_more two b q) dir es n name b) reply.Ok j))))
 
     linked_to_matches : (q : Place) → Stands one q → Stands two q
-        → ((linked_to one b q).answer ≡ Plain reply.MLink → Near L one two b) → ((linked_to one b q).answer ≡ Plain reply.DirFull → Near L one two b)
+        → ((linked_to one b q).answer ≡ Plain reply.MLink → Near L one two b) → ((linked_to one b q).answer ≡ Plain reply.DirFull → Near L one two b) → ((linked_to one b q).answer ≡ Plain reply.NoDirBlock → Near L one two b)
         → ((Near L one two b) ⊎ (node_at (linked_to one b q).tree b ≡ node_at one b)) → Matches L one two (linked_to one b q) (linked_to two b q)
-    linked_to_matches Root s t m f l = both_say L one two reply.Exist
-    linked_to_matches (Nowhere r) s t m f l = both_say L one two r
-    linked_to_matches (Taken dir es n name c) s t m f l = both_say L one two reply.Exist
-    linked_to_matches (Free dir es n name) s t m f l = record {
-      alike = λ v w. (free_matches
-          (by_link (Near L one two b) one (named (one_link_more one b (node_at one b)) dir es n name b) b (nat_le 1000 (links_of (node_at one b))) (entries_full es) (lacks_block one es n) v m f l
+    linked_to_matches Root s t m f k l = both_say L one two reply.Exist
+    linked_to_matches (Nowhere r) s t m f k l = both_say L one two r
+    linked_to_matches (Taken dir es n name c) s t m f k l = both_say L one two reply.Exist
+    linked_to_matches (Free dir es n name) s t m f k l = free_matches
+        (by_link (Near L one two b) one (named (one_link_more one b (node_at one b)) dir es n name b) b (nat_le 1000 (links_of (node_at one b))) (entries_full es) (lacks_block one es n) m f k l
           (linked_differs one b (node_at one b) refl there plain dir es n name s.0))
-          dir es n name (like_equal L (node_at one dir) (node_at two dir) (s.0 ∙ sym t.0))).alike v w;
-    }
+        dir es n name (like_equal L (node_at one dir) (node_at two dir) (s.0 ∙ sym t.0))
 
   module _ (kinds : SameKinds one two) (alive_one : EntriesNameNodes one) (alive_two : EntriesNameNodes two) where
     same_dir : (b : ℕ) → is_some (node_at one b) ≡ true → is_some (node_at two b) ≡ true → is_dir (node_at one b) ≡ is_dir (node_at two b)
@@ -158,20 +156,22 @@ module _ (L : Likeness) (one two : FileTree) where
       pub link_taken : (q p : Place) → Stands one q → Stands two p → (is_dir (node_at one b) ≡ false → p ≡ q)
           → ((linked one (Taken dir es n name b) q).answer ≡ Plain reply.MLink → is_dir (node_at one b) ≡ false → Near L one two b)
           → ((linked one (Taken dir es n name b) q).answer ≡ Plain reply.DirFull → is_dir (node_at one b) ≡ false → Near L one two b)
+          → ((linked one (Taken dir es n name b) q).answer ≡ Plain reply.NoDirBlock → is_dir (node_at one b) ≡ false → Near L one two b)
           → ((Near L one two b) ⊎ (node_at (linked one (Taken dir es n name b) q).tree b ≡ node_at one b))
           → Matches L one two (linked one (Taken dir es n name b) q) (linked two (Taken dir es n name b) p)
-      link_taken q p sq tp same m f l = go (is_dir (node_at one b)) refl m f l
+      link_taken q p sq tp same m f k l = go (is_dir (node_at one b)) refl m f k l
         where
           go : (c : Bool) → is_dir (node_at one b) ≡ c
               → ((cond {A = Applied} c (says one reply.IsDir) (linked_to one b q)).answer ≡ Plain reply.MLink → is_dir (node_at one b) ≡ false → Near L one two b)
               → ((cond {A = Applied} c (says one reply.IsDir) (linked_to one b q)).answer ≡ Plain reply.DirFull → is_dir (node_at one b) ≡ false → Near L one two b)
+              → ((cond {A = Applied} c (says one reply.IsDir) (linked_to one b q)).answer ≡ Plain reply.NoDirBlock → is_dir (node_at one b) ≡ false → Near L one two b)
               → ((Near L one two b) ⊎ (node_at (cond {A = Applied} c (says one reply.IsDir) (linked_to one b q)).tree b ≡ node_at one b))
               → Matches L one two (cond {A = Applied} c (says one reply.IsDir) (linked_to one b q)) (cond {A = Applied} (is_dir (node_at two b)) (says two reply.IsDir) (linked_to two b p))
-          go true i m f l = subst (λ d. Matches L one two (says one reply.IsDir) (cond {A = Applied} d (says two reply.IsDir) (linked_to two b p))) (sym i ∙ dir_alike) (both_say L one two reply.IsDir)
-          go false i m f l =
+          go true i m f k l = subst (λ d. Matches L one two (says one reply.IsDir) (cond {A = Applied} d (says two reply.IsDir) (linked_to two b p))) (sym i ∙ dir_alike) (both_say L one two reply.IsDir)
+          go false i m f k l =
               subst (λ d. Matches L one two (linked_to one b q) (cond {A = Applied} d (says two reply.IsDir) (linked_to two b p))) (sym i ∙ dir_alike)
               (subst (λ z. Matches L one two (linked_to one b q) (linked_to two b z)) (sym (same i))
-              (linked_to_matches b some_one i q sq (subst (Stands two) (same i) tp) (λ e. m e i) (λ e. f e i) l))
+              (linked_to_matches b some_one i q sq (subst (Stands two) (same i) tp) (λ e. m e i) (λ e. f e i) (λ e. k e i) l))
 
       -- unlink, where the name is there
       fewer_matches : BirthsAscend one → BirthsAscend two → Near L one two b → Matches L one two (says (one_link_fewer (with_node one dir (Dir (without_entry es name) n)) b (node_at one b)) reply.Ok) (says (one_link_fewer (with_node two dir (Dir (without_entry es name) n)) b (node_at two b)) reply.Ok)

@@ -21,15 +21,21 @@ use Rattle.tree_laws.specs.Touching.{SameKinds, wants_room, AgreeWhereTouched, D
 use Rattle.tree_laws.proofs.Sameness.{differs_or_not, where_same}
 use Rattle.tree_laws.proofs.Places.{is_in, Stands, place_stands}
 use Rattle.tree_laws.proofs.Refusals.{looks_leave}
+use Rattle.tree_laws.specs.Rooms.{SameRoom}
+use Rattle.tree_laws.proofs.Rooms.{same_told}
 use Rattle.tree_laws.proofs.Likeness.{Likeness, Like, Near, like_equal, overwritten_like, agrees_like, equal, equal_nodes, equal_answers}
-use Rattle.tree_laws.proofs.Joint.{Both, Joint, Alike, joint_none, joint_put, joint_near}
+use Rattle.tree_laws.proofs.Joint.{Both, Joint, Alike, joint_none, joint_put, joint_near, Matches}
 use Rattle.tree_laws.proofs.Asking.{Grounds}
 use Rattle.tree_laws.proofs.Applying.{AgreeOn, walks, in_left, in_right, apply_matches}
 use Rattle.tree_laws.proofs.Looking.{looked_same, further_same}
 use Rattle.tree_laws.proofs.Untouched.{looked_is_touched, changed_is_touched, file_at_reached, untouched_stays}
 
+-- neither answer wants room, or the trees take the same of the disk
+abbrev pub Roomy : FileTree → FileTree → Entry → Type 0
+Roomy one two e = ((wants_room (applied one e).answer ≡ false) × (wants_room (applied two e).answer ≡ false)) ⊎ SameRoom one two
+
 module _ (L : Likeness) (one two : FileTree) (e : Entry) (walk_one : IsWalkable one) (walk_two : IsWalkable two) (kinds : SameKinds one two) (new_one : IsNew one e.number.0) (new_two : IsNew two e.number.0)
-    (answered : is_answer one e ≡ true) (room_one : wants_room (applied one e).answer ≡ false) (room_two : wants_room (applied two e).answer ≡ false) (near : (b : ℕ) → touches one e b ≡ true → Near L one two b) where
+    (answered : is_answer one e ≡ true) (room : Roomy one two e) (near : (b : ℕ) → touches one e b ≡ true → Near L one two b) where
   pub grounds : Grounds one two
   grounds = record { births_one = walk_one.births; births_two = walk_two.births; alive_one = walk_one.entries; alive_two = walk_two.entries; root_one = walk_one.rooted; root_two = walk_two.rooted; kinds = kinds }
 
@@ -45,8 +51,12 @@ module _ (L : Likeness) (one two : FileTree) (e : Entry) (walk_one : IsWalkable 
   pub agree_on : AgreeOn L one two e.op e.reply (applied one e)
   agree_on = record { looked = looked_agrees; further = further_agrees; left = left_or_near; told = (and_parts (is_path_op e.op) (agrees (applied one e).answer e.reply) answered).1 }
 
+  by_room : Roomy one two e → Matches L one two (applied one e) (applied two e) → Alike L one two (applied one e) (applied two e)
+  by_room (inl p) m = m.alike p.0 p.1
+  by_room (inr s) m = m.roomy s
+
   pub alike : Alike L one two (applied one e) (applied two e)
-  alike = (apply_matches L one two grounds e.number.0 new_one new_two (told_blocks one e.reply) (told_blocks two e.reply) e.reply e.op agree_on).alike room_one room_two
+  alike = by_room room (apply_matches L one two grounds e.number.0 new_one new_two (told_blocks one e.reply) (told_blocks two e.reply) (λ s. same_told one two s e.reply) e.reply e.op agree_on)
 
   pub answered_two : is_answer two e ≡ true
   answered_two = let p = and_parts (is_path_op e.op) (agrees (applied one e).answer e.reply) answered in and_from (is_path_op e.op) (agrees (applied two e).answer e.reply) p.0 (agrees_like L (applied one e).answer (applied two e).answer e.reply alike.answer p.1)
@@ -124,19 +134,19 @@ module _ (one two : FileTree) (e : Entry) (walk_one : IsWalkable one) (walk_two 
   near_by b h = like_equal equal (node_at one b) (node_at two b) (agree b h)
 
   both : Alike equal one two (applied one e) (applied two e)
-  both = alike equal one two e walk_one walk_two kinds new_one new_two answered room_one room_two near_by
+  both = alike equal one two e walk_one walk_two kinds new_one new_two answered (inl (room_one, room_two)) near_by
 
   agreed : AgreeOn equal one two e.op e.reply (applied one e)
-  agreed = agree_on equal one two e walk_one walk_two kinds new_one new_two answered room_one room_two near_by
+  agreed = agree_on equal one two e walk_one walk_two kinds new_one new_two answered (inl (room_one, room_two)) near_by
 
   told_two : is_answer two e ≡ true
-  told_two = answered_two equal one two e walk_one walk_two kinds new_one new_two answered room_one room_two near_by
+  told_two = answered_two equal one two e walk_one walk_two kinds new_one new_two answered (inl (room_one, room_two)) near_by
 
   afterwards : Joint equal one two (tree_after one e) (tree_after two e)
-  afterwards = after_joint equal one two e walk_one walk_two kinds new_one new_two answered room_one room_two near_by
+  afterwards = after_joint equal one two e walk_one walk_two kinds new_one new_two answered (inl (room_one, room_two)) near_by
 
   ground : Grounds one two
-  ground = grounds equal one two e walk_one walk_two kinds new_one new_two answered room_one room_two near_by
+  ground = grounds equal one two e walk_one walk_two kinds new_one new_two answered (inl (room_one, room_two)) near_by
 
   changed_same : (b : ℕ) → changes one e b ≡ changes two e b
   changed_same b = ap₂ (λ x y. x && y) (answered ∙ sym told_two)

@@ -14,9 +14,10 @@ use Rattle.tree_definitions.specs.Apply.{Answer, Plain, Applied, apply, says, is
 use Rattle.tree_definitions.specs.History.{agrees}
 use Rattle.tree_definitions.specs.Touched.{looked_in, further, reached, reached_if, then_walked, any_node, dir_node, file_node, link_node}
 use Rattle.tree_laws.specs.WellFormed.{IsNew}
+use Rattle.tree_laws.specs.Rooms.{SameRoom}
 use Rattle.tree_laws.proofs.Likeness.{Likeness, Near, overwritten_like}
 use Rattle.tree_laws.proofs.Places.{Stands, SameWalk, same_walk, place_stands, is_in}
-use Rattle.tree_laws.proofs.Replies.{told_mlink, told_dirfull, told_notempty}
+use Rattle.tree_laws.proofs.Replies.{told_mlink, told_dirfull, told_nodirblock, told_notempty}
 use Rattle.tree_laws.proofs.Joint.{Matches, both_say}
 use Rattle.tree_laws.proofs.Acting.{made_matches, link_taken, unlink_taken, rmdir_taken, some_one}
 use Rattle.tree_laws.proofs.Renaming.{renamed_to_matches}
@@ -92,7 +93,7 @@ module _ (L : Likeness) (one two : FileTree) (g : Grounds one two) where
       let e = (walks path same).place in
       subst (λ q. Matches L one two (f (place one path)) (h q)) (sym e) (each (place one path) (place_stands one path) (subst (Stands two) e (place_stands two path)) refl)
 
-  module _ (birth : ℕ) (new_one : IsNew one birth) (new_two : IsNew two birth) (m k : ℕ) (r : Reply) where
+  module _ (birth : ℕ) (new_one : IsNew one birth) (new_two : IsNew two birth) (m k : ℕ) (told_same : SameRoom one two → m ≡ k) (r : Reply) where
     link_matches : (path to : List (List ℕ)) → AgreeOn L one two (op.Link path to) r (apply one (op.Link path to) birth m) → Matches L one two (linked one (place one path) (place one to)) (linked two (place two path) (place two to))
     link_matches path to h = at_place (λ p. linked one p (place one to)) (λ p. linked two p (place two to)) path (λ b i. h.looked b (in_left b (walked one path) (then_walked one (reached one (λ n. not (dir_node n)) (place one path)) to) i)) go
       where
@@ -109,6 +110,7 @@ module _ (L : Likeness) (one two : FileTree) (g : Grounds one two) where
             (subst (λ p. is_in d (then_walked one (reached one (λ n. not (dir_node n)) p) to) ≡ true) e (subst (λ l. is_in d l ≡ true) (sym (then_after_plain one b (node_at one b) to there f)) i))))).place)
             (λ z f. h.further b (subst (λ q. is_in b (further one (op.Link path to) q) ≡ true) (sym (told_mlink r (told_by (Plain reply.MLink) z))) reached_b))
             (λ z f. h.further b (subst (λ q. is_in b (further one (op.Link path to) q) ≡ true) (sym (told_dirfull r (told_by (Plain reply.DirFull) z))) reached_b))
+            (λ z f. h.further b (subst (λ q. is_in b (further one (op.Link path to) q) ≡ true) (sym (told_nodirblock r (told_by (Plain reply.NoDirBlock) z))) reached_b))
             (subst (λ p. (Near L one two b) ⊎ (node_at (linked one p (place one to)).tree b ≡ node_at one b)) (sym e) (h.left b))
 
     unlink_matches : (path : List (List ℕ)) → AgreeOn L one two (op.Unlink path) r (apply one (op.Unlink path) birth m) → Matches L one two (unlinked one (place one path)) (unlinked two (place two path))
@@ -164,12 +166,12 @@ module _ (L : Likeness) (one two : FileTree) (g : Grounds one two) where
     apply_matches (op.Write path off bytes) h =
         let f = λ (t : FileTree) (i : ℕ) (b : ℕ) (cells : List Cell) (links : ℕ). written t i b cells links off (length bytes) (λ old. overwritten old off (map Byte bytes)) in
         at_place (λ p. at_file one p (f one m)) (λ p. at_file two p (f two k)) path h.looked
-        (λ p s t e. at_file_matches L one two g (f one m) (f two k) (λ b cells others links same l. written_matches L one two g m k b cells others links off (length bytes) (λ old. overwritten old off (map Byte bytes)) same l (overwritten_like L cells others off (map Byte bytes) l)) p s t
+        (λ p s t e. at_file_matches L one two g (f one m) (f two k) (λ b cells others links same l. written_matches L one two g m k told_same b cells others links off (length bytes) (λ old. overwritten old off (map Byte bytes)) same l (overwritten_like L cells others off (map Byte bytes) l)) p s t
         (λ b i. h.further b (subst (λ p. is_in b (reached one file_node p) ≡ true) e i)))
     apply_matches (op.Fill path off len byte) h =
         let f = λ (t : FileTree) (i : ℕ) (b : ℕ) (cells : List Cell) (links : ℕ). written t i b cells links off len (λ old. overwritten old off (replicate len (Byte byte))) in
         at_place (λ p. at_file one p (f one m)) (λ p. at_file two p (f two k)) path h.looked
-        (λ p s t e. at_file_matches L one two g (f one m) (f two k) (λ b cells others links same l. written_matches L one two g m k b cells others links off len (λ old. overwritten old off (replicate len (Byte byte))) same l (overwritten_like L cells others off (replicate len (Byte byte)) l)) p s t
+        (λ p s t e. at_file_matches L one two g (f one m) (f two k) (λ b cells others links same l. written_matches L one two g m k told_same b cells others links off len (λ old. overwritten old off (replicate len (Byte byte))) same l (overwritten_like L cells others off (replicate len (Byte byte)) l)) p s t
         (λ b i. h.further b (subst (λ p. is_in b (reached one file_node p) ≡ true) e i)))
     apply_matches (op.Truncate path len) h =
         at_place (λ p. at_file one p (λ b cells links. truncated one b cells links len)) (λ p. at_file two p (λ b cells links. truncated two b cells links len)) path h.looked

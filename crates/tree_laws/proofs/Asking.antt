@@ -11,6 +11,8 @@ use Rattle.tree_definitions.specs.Touched.{dir_node, file_node, link_node, any_n
 use Rattle.tree_laws.specs.WellFormed.{BirthsAscend, EntriesNameNodes, IsRooted}
 use Rattle.tree_laws.specs.Touching.{SameKinds, OfDirectory, OfFile, OfLink}
 use Rattle.tree_laws.proofs.Places.{Stands, is_in, head_is_in, dir_is_some}
+use Rattle.tree_laws.specs.Rooms.{SameRoom}
+use Rattle.tree_laws.proofs.Rooms.{same_larges, same_left}
 use Rattle.tree_laws.proofs.Likeness.{Likeness, Like, Near}
 use Rattle.tree_laws.proofs.Joint.{Matches, joint_none, joint_put, both_do, both_say, both_if, if_room}
 
@@ -79,8 +81,8 @@ module _ (L : Likeness) (one two : FileTree) (g : Grounds one two) where
       (cond (nat_lt (large_blocks_of n) (large_blocks_of size) && larges_full t) (says t reply.NoLarge)
       (cond (nat_lt (1024 * t.segments - m) (count_of file_blocks t + (small_blocks_of size - small_blocks_of n))) (says t (reply.NoBlock m)) (says u reply.Ok))))
 
-  pub written_matches : (m k b : ℕ) (cells others : List Cell) (links off len : ℕ) (put : List Cell → List Cell) → Near L one two b → L.like cells others → L.like (put cells) (put others) → Matches L one two (written one m b cells links off len put) (written two k b others links off len put)
-  written_matches m k b cells others links off len put same l p =
+  pub written_matches : (m k : ℕ) → (SameRoom one two → m ≡ k) → (b : ℕ) (cells others : List Cell) (links off len : ℕ) (put : List Cell → List Cell) → Near L one two b → L.like cells others → L.like (put cells) (put others) → Matches L one two (written one m b cells links off len put) (written two k b others links off len put)
+  written_matches m k told b cells others links off len put same l p =
       let n = length cells in
       let size = max n (off + len) in
       let u = with_node one b (File (put cells) links) in
@@ -88,8 +90,8 @@ module _ (L : Likeness) (one two : FileTree) (g : Grounds one two) where
       subst (λ i. Matches L one two (written one m b cells links off len put) (writing two k i off len v)) (L.long cells others l)
       (both_if L one two (nat_lt n off) (says one reply.BadOffset) _ (says two reply.BadOffset) _ (both_say L one two reply.BadOffset)
       (both_if L one two (nat_lt 1114112 (off + len)) (says one reply.TooBig) _ (says two reply.TooBig) _ (both_say L one two reply.TooBig)
-      (if_room L one two (nat_lt (large_blocks_of n) (large_blocks_of size) && larges_full one) (nat_lt (large_blocks_of n) (large_blocks_of size) && larges_full two) reply.NoLarge reply.NoLarge _ _ refl refl
-      (if_room L one two (nat_lt (1024 * one.segments - m) (count_of file_blocks one + (small_blocks_of size - small_blocks_of n))) (nat_lt (1024 * two.segments - k) (count_of file_blocks two + (small_blocks_of size - small_blocks_of n))) (reply.NoBlock m) (reply.NoBlock k) _ _ refl refl
+      (if_room L one two (nat_lt (large_blocks_of n) (large_blocks_of size) && larges_full one) (nat_lt (large_blocks_of n) (large_blocks_of size) && larges_full two) reply.NoLarge reply.NoLarge _ _ refl refl (λ r. ap (λ f. nat_lt (large_blocks_of n) (large_blocks_of size) && f) (same_larges one two r)) (λ r. refl)
+      (if_room L one two (nat_lt (1024 * one.segments - m) (count_of file_blocks one + (small_blocks_of size - small_blocks_of n))) (nat_lt (1024 * two.segments - k) (count_of file_blocks two + (small_blocks_of size - small_blocks_of n))) (reply.NoBlock m) (reply.NoBlock k) _ _ refl refl (λ r. same_left one two m k (small_blocks_of size - small_blocks_of n) r (told r)) (λ r. ap (λ i. reply.NoBlock i) (told r))
       (both_do L one two u v reply.Ok (joint_put L one two one two (joint_none L one two) b (File (put cells) links) (File (put others) links) same (put others, refl, p)))))))
 
   pub truncated_matches : (b : ℕ) (cells others : List Cell) (links len : ℕ) → Near L one two b → L.like cells others → Matches L one two (truncated one b cells links len) (truncated two b others links len)
@@ -99,11 +101,14 @@ module _ (L : Likeness) (one two : FileTree) (g : Grounds one two) where
       (both_if L one two (nat_lt (length cells) len) (says one reply.BadOffset) _ (says two reply.BadOffset) _ (both_say L one two reply.BadOffset)
       (both_do L one two (with_node one b (File (take len cells) links)) v reply.Ok (joint_put L one two one two (joint_none L one two) b (File (take len cells) links) (File (take len others) links) same (take len others, refl, L.taken len cells others l))))
 
+  shows_both : (cells others : List Cell) → L.like cells others → Matches L one two (record { answer = Shows cells; tree = one }) (record { answer = Shows others; tree = two })
+  shows_both cells others l = record { alike = λ _ _. record { answer = (others, refl, l); nodes = joint_none L one two }; roomy = λ _. record { answer = (others, refl, l); nodes = joint_none L one two } }
+
   pub shown_matches : (cells others : List Cell) (off len : ℕ) → L.like cells others → Matches L one two (shown one cells off len) (shown two others off len)
   shown_matches cells others off len l =
       subst (λ i. Matches L one two (shown one cells off len) (cond (nat_lt i off) (says two reply.BadOffset) (record { answer = Shows (take len (drop off others)); tree = two }))) (L.long cells others l)
       (both_if L one two (nat_lt (length cells) off) (says one reply.BadOffset) _ (says two reply.BadOffset) _ (both_say L one two reply.BadOffset)
-      (record { alike = λ _ _. record { answer = (take len (drop off others), refl, L.taken len (drop off cells) (drop off others) (L.dropped off cells others l)); nodes = joint_none L one two } }))
+        (shows_both (take len (drop off cells)) (take len (drop off others)) (L.taken len (drop off cells) (drop off others) (L.dropped off cells others l))))
 
   -- of any node
   described_matches : (o q : Option Node) → Like L o q → Matches L one two (described one o) (described two q)

@@ -1,14 +1,15 @@
 -- The same changes made in two trees, at births where they agree.
-use Rattle.std.proofs.Common.{ℕ, ◌≡◌, ◌+◌, ◌-◌, Bool, true, false, Option, Some, None, List, cond, refl, sym, ◌∙◌, subst, inl, inr, ◌⊎◌, nat_lt}
+use Rattle.std.proofs.Common.{ℕ, ◌≡◌, ◌+◌, ◌-◌, Bool, true, false, Option, Some, None, List, cond, refl, ap, sym, ◌∙◌, subst, inl, inr, ◌⊎◌, nat_lt}
 use Rattle.frang_base.specs.declared.reply.Reply.{Reply}
 use Rattle.tree_definitions.specs.declared.node.Node.{Node}
 use Rattle.tree_definitions.specs.declared.node.Node.TheVariants.{Dir, File, Link}
 use Rattle.tree_definitions.specs.Entries.{with_entry, without_entry}
 use Rattle.tree_definitions.specs.Tree.{FileTree, node_at, with_node, without_node}
-use Rattle.tree_definitions.specs.Apply.{Applied, says, one_link_more, one_link_fewer, name_gone, name_set, moved}
+use Rattle.tree_definitions.specs.Apply.{Plain, Applied, says, one_link_more, one_link_fewer, name_gone, name_set, moved}
 use Rattle.tree_definitions.specs.Touched.{is_nospace}
 use Rattle.tree_laws.specs.WellFormed.{BirthsAscend}
 use Rattle.tree_laws.specs.Touching.{wants_room}
+use Rattle.tree_laws.specs.Rooms.{SameRoom}
 use Rattle.tree_laws.proofs.Likeness.{Likeness, Like, Near, LikeAnswer, like_same, like_equal}
 use Rattle.tree_laws.proofs.Nodes.{each_but, with_same, with_other, without_same, without_other}
 
@@ -91,12 +92,13 @@ module _ (L : Likeness) (one two : FileTree) where
     pub answer : LikeAnswer L a.answer c.answer
     pub nodes : Joint L one two a.tree c.tree
 
-  -- two outcomes are alike, unless one wants room
+  -- two outcomes are alike, unless one wants room; where the trees take the same of the disk, in any case
   pub record Matches (a c : Applied) : Type 0 where
     pub alike : wants_room a.answer ≡ false → wants_room c.answer ≡ false → Alike a c
+    pub roomy : SameRoom one two → Alike a c
 
   pub both_do : (u v : FileTree) (r : Reply) → Joint L one two u v → Matches (says u r) (says v r)
-  both_do u v r j = record { alike = λ _ _. record { answer = refl; nodes = j } }
+  both_do u v r j = record { alike = λ _ _. record { answer = refl; nodes = j }; roomy = λ _. record { answer = refl; nodes = j } }
 
   pub both_say : (r : Reply) → Matches (says one r) (says two r)
   both_say r = both_do one two r joint_none
@@ -109,7 +111,8 @@ module _ (L : Likeness) (one two : FileTree) where
   if_known true x y p q m n = m refl
   if_known false x y p q m n = n refl
 
-  pub if_room : (b c : Bool) (r s : Reply) (x y : Applied) → is_nospace r ≡ true → is_nospace s ≡ true → Matches x y → Matches (cond b (says one r) x) (cond c (says two s) y)
-  if_room true c r s x y h g m = record { alike = λ e f. absurd (cc) }
-  if_room false true r s x y h g m = record { alike = λ e f. absurd (cc) }
-  if_room false false r s x y h g m = m
+  pub if_room : (b c : Bool) (r s : Reply) (x y : Applied) → is_nospace r ≡ true → is_nospace s ≡ true → (SameRoom one two → b ≡ c) → (SameRoom one two → r ≡ s) → Matches x y → Matches (cond b (says one r) x) (cond c (says two s) y)
+  if_room true true r s x y h g e i m = record { alike = λ v w. absurd (cc); roomy = λ k. record { answer = ap Plain (sym (i k)); nodes = joint_none } }
+  if_room true false r s x y h g e i m = record { alike = λ v w. absurd (cc); roomy = λ k. absurd (let z : true ≡ false = e k in cc) }
+  if_room false true r s x y h g e i m = record { alike = λ v w. absurd (cc); roomy = λ k. absurd (let z : false ≡ true = e k in cc) }
+  if_room false false r s x y h g e i m = m

@@ -2,6 +2,7 @@ pub mod Pairs
 pub mod Nodes
 pub mod Sameness
 pub mod Replies
+pub mod Rooms
 pub mod Likeness
 pub mod Places
 pub mod Joint
@@ -25,6 +26,7 @@ pub mod SettlingLaws
 pub mod CountLaws
 pub mod ShapeLaws
 pub mod Vagueness
+pub mod RoomLaws
 pub mod RemovingLaws
 pub mod WholeLaws
 pub mod OrderLaws

@@ -34,7 +34,7 @@ module _ {K : Type 0} (cmp : K → K → Ordering) (exact : IsExact cmp) where
   pub self : (x : K) → is_at (cmp x) x ≡ true
   self x = ap is_eq (exact.own x)
 
-  below_all : (k l : K) (ks : List K) → cmp k l ≡ Less → AllByRecursion (λ y. cmp l y ≡ Less) ks → AllByRecursion (λ y. cmp k y ≡ Less) ks
+  pub below_all : (k l : K) (ks : List K) → cmp k l ≡ Less → AllByRecursion (λ y. cmp l y ≡ Less) ks → AllByRecursion (λ y. cmp k y ≡ Less) ks
   below_all k l [] h a = tt
   below_all k l (y ∷ ys) h a = (exact.total.trans k l y h a.0, below_all k l ys h a.1)
 
@@ -64,7 +64,7 @@ module _ {K X : Type 0} (cmp : K → K → Ordering) (exact : IsExact cmp) where
       (λ i. ap (λ x. cond (is_at (cmp q) e.0) (Some e.1) x) (found_left es k q n))
 
   -- no key equals a key below all of them
-  none_below : (es : List (K × X)) (k : K) → AllByRecursion (λ y. cmp k y ≡ Less) (keys_of es) → lookup (is_at (cmp k)) es ≡ None
+  pub none_below : (es : List (K × X)) (k : K) → AllByRecursion (λ y. cmp k y ≡ Less) (keys_of es) → lookup (is_at (cmp k)) es ≡ None
   none_below [] k a = refl
   none_below (e ∷ es) k a = let z : is_at (cmp k) e.0 ≡ false = ap is_eq a.0 in rw z (none_below es k a.1)
 

@@ -1,5 +1,5 @@
 -- What nobody saw can go.
-use Rattle.std.proofs.Common.{ℕ, ◌≡◌, ◌+◌, ◌==◌, Bool, true, false, not, ◌&&◌, ◌||◌, Option, Some, None, List, [], ◌∷◌, ◌++◌, length, map, filter, take, drop, cond, refl, sym, ◌∙◌, ap, subst, nat_eq, eqb-true, eq-eqb, nat_lt}
+use Rattle.std.proofs.Common.{◌≤◌, ◌-◌, arith, le_refl, leb-true, le-leb, nat_le, inl, inr, ◌⊎◌, ℕ, ◌≡◌, ◌+◌, ◌==◌, Bool, true, false, not, ◌&&◌, ◌||◌, Option, Some, None, List, [], ◌∷◌, ◌++◌, length, map, filter, take, drop, cond, refl, sym, ◌∙◌, ap, subst, nat_eq, eqb-true, eq-eqb, nat_lt}
 use Rattle.std.specs.List.{list_any}
 use Rattle.std.specs.Map.{lookup}
 use Rattle.std.specs.BTreeMap.{is_at}
@@ -16,11 +16,11 @@ use Rattle.tree_definitions.specs.declared.cells.Cell.TheVariants.{Byte}
 use Rattle.tree_definitions.specs.declared.history.Entry.{Entry}
 use Rattle.tree_definitions.specs.declared.node.Node.{Node}
 use Rattle.tree_definitions.specs.declared.node.Node.TheVariants.{Dir, File, Link}
-use Rattle.tree_definitions.specs.Tree.{FileTree, node_at, with_node}
+use Rattle.tree_definitions.specs.Tree.{FileTree, node_at, with_node, count_of, dir_blocks}
 use Rattle.tree_definitions.specs.Place.{Place, Root, Taken, Free, Nowhere, place}
 use Rattle.tree_definitions.specs.Apply.{Plain, Shows, Applied, says, apply, at_file, if_file, shown, overwritten, is_path_op}
 use Rattle.tree_definitions.specs.History.{applied, is_answer, agrees, told_blocks, may_tell, leaves_tree, fits, tree_after, after_read, with_shown, file_at, file_of, Settled, Stays, InDoubt, CellRun, doubted, after, grows, may_stand, legal_from}
-use Rattle.tree_definitions.specs.Touched.{touches, changes, changed, births, differs, is_nospace, touched_later, refused_later, changes_room, is_seen, is_synced, stalled_after}
+use Rattle.tree_definitions.specs.Touched.{touches, changes, changed, births, differs, is_nospace, touched_later, refused_later, other_room, changes_room, is_seen, is_synced, stalled_after}
 use Rattle.tree_definitions.specs.Removal.{begins_removal, left, keeps_known, none_known, recovered, doubtful, is_lost, mounts}
 use Rattle.tree_laws.specs.WellFormed.{IsWellFormed, AreNew, numbers_of}
 use Rattle.tree_laws.specs.Touching.{Kind, HasKinds, wants_room}
@@ -35,10 +35,13 @@ use Rattle.tree_laws.proofs.Replies.{wants_alike}
 use Rattle.tree_laws.proofs.Refusals.{looks_leave}
 use Rattle.tree_laws.proofs.Joint.{Joint, joint_near}
 use Rattle.tree_laws.proofs.Applying.{in_left, in_right}
-use Rattle.tree_laws.proofs.Alike.{answered_two, after_joint}
+use Rattle.tree_laws.specs.Rooms.{SameRoom}
+use Rattle.tree_laws.proofs.RoomLaws.{RoomAlike, room_of, room_same, like_room, joint_room, doubted_room, room_stays, grows_same}
+use Rattle.tree_laws.proofs.OrderLaws.{segments_after}
+use Rattle.tree_laws.proofs.Alike.{Roomy, answered_two, after_joint}
 use Rattle.tree_laws.proofs.FreshLaws.{walkable}
 use Rattle.tree_laws.proofs.StepsLaws.{file_at_is, after_keeps, are_new_after}
-use Rattle.tree_laws.proofs.KindsLaws.{kinds_agree, after_keeps_kinds, kinds_can_be_told}
+use Rattle.tree_laws.proofs.KindsLaws.{kinds_agree, apply_keeps_kinds, after_keeps_kinds, kinds_can_be_told}
 use Rattle.tree_laws.proofs.SettlingLaws.{lost_is_of}
 use Rattle.tree_laws.proofs.HistoryLaws.{legal-push, and-true}
 
@@ -185,6 +188,17 @@ tells_room : (t : FileTree) (n : ℕ) (r : Reply) → is_nospace r ≡ false →
 tells_room t n (reply.NoBlock m) h = cc
 tells_room t n _ h = refl
 
+tells_same : (t u : FileTree) (ever more : ℕ) (r : Reply) → count_of dir_blocks t ≡ count_of dir_blocks u → ever ≤ more → may_tell t ever r ≡ true → may_tell u more r ≡ true
+tells_same t u ever more (reply.NoBlock m) e le h = within (count_of dir_blocks t) (count_of dir_blocks u) m ever more e le h
+  where
+    within : (c d m ever more : ℕ) → c ≡ d → ever ≤ more → nat_le c m && nat_le m ever ≡ true → nat_le d m && nat_le m more ≡ true
+    within c d m ever more e le h =
+        let p = and_parts (nat_le c m) (nat_le m ever) h in
+        let i : c ≤ m = leb-true c m p.0 in
+        let j : m ≤ ever = leb-true m ever p.1 in
+        and_from (nat_le d m) (nat_le m more) (le-leb d m (omega arith)) (le-leb m more (omega arith))
+tells_same t u ever more _ e le h = refl
+
 -- ---- the induction
 module _ (server : ℕ) (kinds : ℕ → Kind) where
   -- the list that is left, where the trees are alike off the nodes that were changed
@@ -199,6 +213,13 @@ module _ (server : ℕ) (kinds : ℕ → Kind) where
     pub near : (b : ℕ) → is_in b nodes ≡ false → Near vague t u b
     pub untouched : touched_later server nodes t list ≡ false
 
+  -- the trees take the same of the disk, or no later entry of another server was answered for want of room
+  abbrev Room : FileTree → FileTree → ℕ → ℕ → List Settled → Type 0
+  Room t u ever more list = ((t.segments ≡ u.segments) × RoomAlike t u × (ever ≤ more)) ⊎ (refused_later server list ≡ false)
+
+  room_is : (t u : FileTree) (nodes : List ℕ) (list : List Settled) → Apart t u nodes list → t.segments ≡ u.segments → RoomAlike t u → SameRoom t u
+  room_is t u nodes list a seg same = room_same t u a.well_t.births a.well_u.births seg same
+
   doubt_apart : (t u : FileTree) (nodes : List ℕ) (runs : List CellRun) (rest : List Settled) → Apart t u nodes (InDoubt runs ∷ rest) → Apart (doubted t runs) (doubted u runs) nodes rest
   doubt_apart t u nodes runs rest a = record {
     well_t = after_keeps t (InDoubt runs) rest a.well_t a.new_t;
@@ -211,6 +232,18 @@ module _ (server : ℕ) (kinds : ℕ → Kind) where
     near = λ b h. doubted_near t u runs b (a.near b h);
     untouched = a.untouched;
   }
+
+  doubt_room : (t u : FileTree) (nodes : List ℕ) (runs : List CellRun) (rest : List Settled) (ever more : ℕ) → Apart t u nodes (InDoubt runs ∷ rest) → Room t u ever more (InDoubt runs ∷ rest) → Room (doubted t runs) (doubted u runs) (ever + grows t (InDoubt runs)) (more + grows u (InDoubt runs)) rest
+  doubt_room t u nodes runs rest ever more a (inr r) = inr r
+  doubt_room t u nodes runs rest ever more a (inl r) =
+      let b = doubt_apart t u nodes runs rest a in
+      let seg = segments_after t (InDoubt runs) a.well_t.births ∙ r.0 ∙ sym (segments_after u (InDoubt runs) a.well_u.births) in
+      let same = λ (c : ℕ). doubted_room t runs c ∙ r.1 c ∙ sym (doubted_room u runs c) in
+      let g : grows t (InDoubt runs) ≡ grows u (InDoubt runs) = grows_same t u (doubted t runs) (doubted u runs) (room_is t u nodes (InDoubt runs ∷ rest) a r.0 r.1) (room_is (doubted t runs) (doubted u runs) nodes rest b seg same) in
+      inl (seg, same, grown_le ever more (grows t (InDoubt runs)) (grows u (InDoubt runs)) r.2 g)
+    where
+      grown_le : (a b c d : ℕ) → a ≤ b → c ≡ d → a + c ≤ b + d
+      grown_le a b c d l e = omega arith
 
   module _ (t u : FileTree) (nodes : List ℕ) (e : Entry) (rest : List Settled) (a : Apart t u nodes (Stays e ∷ rest)) where
     -- the entry goes
@@ -231,8 +264,43 @@ module _ (server : ℕ) (kinds : ℕ → Kind) where
           (or_parts (touched_later e.server.0 (changed t e) (after t (Stays e)) rest) (changes_room t e && refused_later e.server.0 rest) unseen).0);
     }
 
+    -- a removed entry that changes no node's room leaves the room
+    removed_room : changes_room t e ≡ false → (b : ℕ) → room_of (node_at (tree_after t e) b) ≡ room_of (node_at t b)
+    removed_room h b = go (changes t e b) refl
+      where
+        kinds_new : HasKinds kinds (applied t e).tree
+        kinds_new = apply_keeps_kinds kinds t e.op e.number.0 (told_blocks t e.reply) a.well_t a.new_t.absent.0 a.kinds_t a.told.0
+
+        acted : other_room (node_at t b) (node_at (applied t e).tree b) ≡ false → room_of (node_at (applied t e).tree b) ≡ room_of (node_at t b)
+        acted h = sym (room_stays (node_at t b) (node_at (applied t e).tree b) (kinds_agree kinds t (applied t e).tree a.kinds_t kinds_new b) h)
+
+        by_steps : (l c : Bool) → is_answer t e ≡ c → room_of (node_at (applied t e).tree b) ≡ room_of (node_at t b) → room_of (node_at (cond l t (cond c (after_read (applied t e).tree e.op e.reply) t)) b) ≡ room_of (node_at t b)
+        by_steps true c i r = refl
+        by_steps false false i r = refl
+        by_steps false true i r = like_room (node_at (after_read (applied t e).tree e.op e.reply) b) (node_at (applied t e).tree b)
+            (read_sharper t e.op e.reply e.number.0 (told_blocks t e.reply) b (and_parts (is_path_op e.op) (agrees (applied t e).answer e.reply) i).1) ∙ r
+
+        go : (c : Bool) → changes t e b ≡ c → room_of (node_at (tree_after t e) b) ≡ room_of (node_at t b)
+        go false i = like_room (node_at (tree_after t e) b) (node_at t b) (sharper_after t e b i)
+        go true i = by_steps (leaves_tree e.op e.reply) (is_answer t e) refl
+            (acted (by_contrast (other_room (node_at t b) (node_at (applied t e).tree b)) (changes_room t e) (λ o. any_in (λ c. other_room (node_at t c) (node_at (applied t e).tree c)) b (changed t e) (changed_in t e b i) o) h))
+
+    gone_room : (ever more : ℕ) → e.server.0 == server ≡ true → is_seen t e rest ≡ false → Room t u ever more (Stays e ∷ rest) → Room (tree_after t e) u (ever + grows t (Stays e)) more rest
+    gone_room ever more own unseen (inr r) = inr (or_parts (not (e.server.0 == server) && is_nospace e.reply) (refused_later server rest) r).1
+    gone_room ever more own unseen (inl r) = go (changes_room t e) refl (or_parts (touched_later e.server.0 (changed t e) (after t (Stays e)) rest) (changes_room t e && refused_later e.server.0 rest) unseen).1
+      where
+        no_more : (x y n : ℕ) → x ≡ y → ever + (x - y) ≤ more
+        no_more x y n i = let l : ever ≤ more = r.2 in omega arith
+
+        go : (c : Bool) → changes_room t e ≡ c → c && refused_later e.server.0 rest ≡ false → Room (tree_after t e) u (ever + grows t (Stays e)) more rest
+        go true i h = inr (subst (λ s. refused_later s rest ≡ false) (eqb-true e.server.0 server own) h)
+        go false i h =
+            let seg = segments_after t (Stays e) a.well_t.births in
+            let s = room_same (tree_after t e) t (after_keeps t (Stays e) rest a.well_t a.new_t).births a.well_t.births seg (removed_room i) in
+            inl (seg ∙ r.0, λ b. removed_room i b ∙ r.1 b, no_more (count_of dir_blocks (tree_after t e)) (count_of dir_blocks t) 0 s.dirs)
+
     -- the entry stays, and acts
-    module _ (other : e.server.0 == server ≡ false) (answered : is_answer t e ≡ true) (room : is_nospace e.reply ≡ false) (fitting : wants_room (applied u e).answer ≡ false) where
+    module _ (other : e.server.0 == server ≡ false) (answered : is_answer t e ≡ true) (enough : Roomy t u e) where
       near_touched : (b : ℕ) → touches t e b ≡ true → Near vague t u b
       near_touched b h = a.near b (by_contrast (is_in b nodes) (list_any (touches t e) nodes) (λ i. any_in (touches t e) b nodes i h) none)
         where
@@ -243,14 +311,11 @@ module _ (server : ℕ) (kinds : ℕ → Kind) where
           none : list_any (touches t e) nodes ≡ false
           none = first (e.server.0 == server) (list_any (touches t e) nodes) other (or_parts (not (e.server.0 == server) && list_any (touches t e) nodes) (touched_later server nodes (after t (Stays e)) rest) a.untouched).0
 
-      told_room : wants_room (applied t e).answer ≡ false
-      told_room = wants_alike (applied t e).answer e.reply (and_parts (is_path_op e.op) (agrees (applied t e).answer e.reply) answered).1 ∙ room
-
       stays_answered : is_answer u e ≡ true
-      stays_answered = answered_two vague t u e (walkable t a.well_t) (walkable u a.well_u) (kinds_agree kinds t u a.kinds_t a.kinds_u) a.new_t.absent.0 a.new_u.absent.0 answered told_room fitting near_touched
+      stays_answered = answered_two vague t u e (walkable t a.well_t) (walkable u a.well_u) (kinds_agree kinds t u a.kinds_t a.kinds_u) a.new_t.absent.0 a.new_u.absent.0 answered enough near_touched
 
       stays_joint : Joint vague t u (tree_after t e) (tree_after u e)
-      stays_joint = after_joint vague t u e (walkable t a.well_t) (walkable u a.well_u) (kinds_agree kinds t u a.kinds_t a.kinds_u) a.new_t.absent.0 a.new_u.absent.0 answered told_room fitting near_touched
+      stays_joint = after_joint vague t u e (walkable t a.well_t) (walkable u a.well_u) (kinds_agree kinds t u a.kinds_t a.kinds_u) a.new_t.absent.0 a.new_u.absent.0 answered enough near_touched
 
     -- the trees after an entry that stays
     kept_apart : ((b : ℕ) → is_in b nodes ≡ false → Near vague (tree_after t e) (tree_after u e) b) → Apart (tree_after t e) (tree_after u e) nodes rest
@@ -266,62 +331,105 @@ module _ (server : ℕ) (kinds : ℕ → Kind) where
       untouched = (or_parts (not (e.server.0 == server) && list_any (touches t e) nodes) (touched_later server nodes (after t (Stays e)) rest) a.untouched).1;
     }
 
-    -- an entry that stays fits, and the trees stay alike
-    kept_fits : (ever more : ℕ) → e.server.0 == server ≡ false → fits t ever e ≡ true → is_nospace e.reply ≡ false → leaves_tree e.op e.reply || not (wants_room (applied u e).answer) ≡ true
-        → (fits u more e ≡ true) × ((b : ℕ) → is_in b nodes ≡ false → Near vague (tree_after t e) (tree_after u e) b)
-    kept_fits ever more other fit room fitting = go (leaves_tree e.op e.reply) refl fit fitting
+    -- what an entry that stays makes of both trees: nothing, or the same
+    record Kept (more : ℕ) : Type 0 where
+      pub fits_on : fits u more e ≡ true
+      pub near_on : (b : ℕ) → is_in b nodes ≡ false → Near vague (tree_after t e) (tree_after u e) b
+      pub room_on : RoomAlike t u → RoomAlike (tree_after t e) (tree_after u e)
+
+    only : (x : Bool) → x || false ≡ true → x ≡ true
+    only true h = refl
+    only false h = h
+
+    true_last : (x : Bool) → x || true ≡ true
+    true_last true = refl
+    true_last false = refl
+
+    in_first : (x y l : Bool) → x ≡ true → y ≡ true → (x && y) || l ≡ true
+    in_first true true l i j = refl
+    in_first true false l i j = cc
+    in_first false y l i j = cc
+
+    -- one that leaves the tree
+    kept_still : (more : ℕ) → leaves_tree e.op e.reply ≡ true → Kept more
+    kept_still more i =
+        let still = λ (z : FileTree). ap (λ l. cond l z (cond (is_answer z e) (after_read (applied z e).tree e.op e.reply) z)) i in
+        record {
+          fits_on = ap (λ l. (is_answer u e && may_tell u more e.reply) || l) i ∙ true_last (is_answer u e && may_tell u more e.reply);
+          near_on = λ b h. subst (λ z. Near vague z (tree_after u e) b) (sym (still t)) (subst (λ z. Near vague t z b) (sym (still u)) (a.near b h));
+          room_on = λ r b. ap (λ z. room_of (node_at z b)) (still t) ∙ r b ∙ ap (λ z. room_of (node_at z b)) (sym (still u));
+        }
+
+    -- one that acts
+    kept_acts : (more : ℕ) → e.server.0 == server ≡ false → is_answer t e ≡ true → Roomy t u e → may_tell u more e.reply ≡ true → Kept more
+    kept_acts more other answered enough tells = record {
+      fits_on = in_first (is_answer u e) (may_tell u more e.reply) (leaves_tree e.op e.reply) (stays_answered other answered enough) tells;
+      near_on = λ b h. joint_near vague t u (tree_after t e) (tree_after u e) (stays_joint other answered enough) b (a.near b h);
+      room_on = λ r. joint_room t u (tree_after t e) (tree_after u e) (stays_joint other answered enough) r;
+    }
+
+    not_so : (x : Bool) → not x ≡ true → x ≡ false
+    not_so true h = cc
+    not_so false h = refl
+
+    kept : (ever more : ℕ) → e.server.0 == server ≡ false → fits t ever e ≡ true → Room t u ever more (Stays e ∷ rest) → leaves_tree e.op e.reply || (is_nospace e.reply || not (wants_room (applied u e).answer)) ≡ true → Kept more
+    kept ever more other fit room fitting = go (leaves_tree e.op e.reply) refl fit fitting
       where
-        in_first : (x y : Bool) → x ≡ true → y ≡ true → (x && y) || false ≡ true
-        in_first true y i j = ap (λ z. z || false) j
-        in_first false y i j = cc
+        unrefused : (c n : Bool) → c ≡ false → not c && n ≡ false → n ≡ false
+        unrefused true n i h = absurd (cc)
+        unrefused false n i h = h
 
-        only : (x : Bool) → x || false ≡ true → x ≡ true
-        only true h = refl
-        only false h = h
+        by_room : is_answer t e ≡ true → may_tell t ever e.reply ≡ true → Room t u ever more (Stays e ∷ rest) → is_nospace e.reply || not (wants_room (applied u e).answer) ≡ true → Kept more
+        by_room answered tells (inl r) f =
+            let s = room_is t u nodes (Stays e ∷ rest) a r.0 r.1 in
+            kept_acts more other answered (inr s) (tells_same t u ever more e.reply s.dirs r.2 tells)
+        by_room answered tells (inr r) f =
+            let n : is_nospace e.reply ≡ false = unrefused (e.server.0 == server) (is_nospace e.reply) other (or_parts (not (e.server.0 == server) && is_nospace e.reply) (refused_later server rest) r).0 in
+            let told : wants_room (applied t e).answer ≡ false = wants_alike (applied t e).answer e.reply (and_parts (is_path_op e.op) (agrees (applied t e).answer e.reply) answered).1 ∙ n in
+            let now : wants_room (applied u e).answer ≡ false = not_so (wants_room (applied u e).answer) (sym (ap (λ b. b || not (wants_room (applied u e).answer)) n) ∙ f) in
+            kept_acts more other answered (inl (told, now)) (tells_room u more e.reply n)
 
-        true_last : (x : Bool) → x || true ≡ true
-        true_last true = refl
-        true_last false = refl
-
-        not_so : (x : Bool) → not x ≡ true → x ≡ false
-        not_so true h = cc
-        not_so false h = refl
-
-        go : (l : Bool) → leaves_tree e.op e.reply ≡ l → (is_answer t e && may_tell t ever e.reply) || l ≡ true → l || not (wants_room (applied u e).answer) ≡ true
-            → ((is_answer u e && may_tell u more e.reply) || leaves_tree e.op e.reply ≡ true) × ((b : ℕ) → is_in b nodes ≡ false → Near vague (tree_after t e) (tree_after u e) b)
-        go true i fit fitting = (
-          ap (λ l. (is_answer u e && may_tell u more e.reply) || l) i ∙ true_last (is_answer u e && may_tell u more e.reply),
-          λ b h. subst (λ l. Like vague (node_at (cond l t (cond (is_answer t e) (after_read (applied t e).tree e.op e.reply) t)) b) (node_at (cond l u (cond (is_answer u e) (after_read (applied u e).tree e.op e.reply) u)) b)) (sym i) (a.near b h),
-        )
+        go : (l : Bool) → leaves_tree e.op e.reply ≡ l → (is_answer t e && may_tell t ever e.reply) || l ≡ true → l || (is_nospace e.reply || not (wants_room (applied u e).answer)) ≡ true → Kept more
+        go true i fit fitting = kept_still more i
         go false i fit fitting =
-            let answered = (and_parts (is_answer t e) (may_tell t ever e.reply) (only (is_answer t e && may_tell t ever e.reply) fit)).0 in
-            let f = not_so (wants_room (applied u e).answer) fitting in (
-              ap (λ l. (is_answer u e && may_tell u more e.reply) || l) i ∙ in_first (is_answer u e) (may_tell u more e.reply) (stays_answered other answered room f) (tells_room u more e.reply room),
-              λ b h. joint_near vague t u (tree_after t e) (tree_after u e) (stays_joint other answered room f) b (a.near b h),
-            )
+            let p = and_parts (is_answer t e) (may_tell t ever e.reply) (only (is_answer t e && may_tell t ever e.reply) fit) in
+            by_room p.0 p.1 room fitting
 
-  keeps_legal : (list : List Settled) (t u : FileTree) (nodes : List ℕ) (ever more : ℕ) → Apart t u nodes list → legal_from t ever list ≡ true → none_seen server t list ≡ true → refused_later server list ≡ false → has_room u (without server list) ≡ true → legal_from u more (without server list) ≡ true
-  keeps_legal [] t u nodes ever more a legal unseen refused room = refl
-  keeps_legal (InDoubt runs ∷ rest) t u nodes ever more a legal unseen refused room =
-      keeps_legal rest (doubted t runs) (doubted u runs) nodes (ever + grows t (InDoubt runs)) (more + grows u (InDoubt runs)) (doubt_apart t u nodes runs rest a) legal unseen refused room
-  keeps_legal (Stays e ∷ rest) t u nodes ever more a legal unseen refused room =
+    kept_room : (ever more : ℕ) → Kept more → Room t u ever more (Stays e ∷ rest) → Room (tree_after t e) (tree_after u e) (ever + grows t (Stays e)) (more + grows u (Stays e)) rest
+    kept_room ever more k (inr r) = inr (or_parts (not (e.server.0 == server) && is_nospace e.reply) (refused_later server rest) r).1
+    kept_room ever more k (inl r) =
+        let b = kept_apart k.near_on in
+        let seg = segments_after t (Stays e) a.well_t.births ∙ r.0 ∙ sym (segments_after u (Stays e) a.well_u.births) in
+        let same = k.room_on r.1 in
+        let g : grows t (Stays e) ≡ grows u (Stays e) = grows_same t u (tree_after t e) (tree_after u e) (room_is t u nodes (Stays e ∷ rest) a r.0 r.1) (room_is (tree_after t e) (tree_after u e) nodes rest b seg same) in
+        inl (seg, same, grown_le ever more (grows t (Stays e)) (grows u (Stays e)) r.2 g)
+      where
+        grown_le : (a b c d : ℕ) → a ≤ b → c ≡ d → a + c ≤ b + d
+        grown_le a b c d l e = omega arith
+
+  keeps_legal : (list : List Settled) (t u : FileTree) (nodes : List ℕ) (ever more : ℕ) → Apart t u nodes list → Room t u ever more list → legal_from t ever list ≡ true → none_seen server t list ≡ true → has_room u (without server list) ≡ true → legal_from u more (without server list) ≡ true
+  keeps_legal [] t u nodes ever more a r legal unseen room = refl
+  keeps_legal (InDoubt runs ∷ rest) t u nodes ever more a r legal unseen room =
+      keeps_legal rest (doubted t runs) (doubted u runs) nodes (ever + grows t (InDoubt runs)) (more + grows u (InDoubt runs)) (doubt_apart t u nodes runs rest a) (doubt_room t u nodes runs rest ever more a r) legal unseen room
+  keeps_legal (Stays e ∷ rest) t u nodes ever more a r legal unseen room =
       let l = and_parts (fits t ever e) (legal_from (tree_after t e) (ever + grows t (Stays e)) rest) legal in
       let s = and_parts (not (e.server.0 == server) || not (is_seen t e rest)) (none_seen server (tree_after t e) rest) unseen in
-      let r = or_parts (not (e.server.0 == server) && is_nospace e.reply) (refused_later server rest) refused in
-      go (e.server.0 == server) refl l.0 s.0 r.0 room
-      (λ b more. keeps_legal rest (tree_after t e) u (nodes ++ changed t e) (ever + grows t (Stays e)) more b l.1 s.1 r.1)
-      (λ b more. keeps_legal rest (tree_after t e) (tree_after u e) nodes (ever + grows t (Stays e)) more b l.1 s.1 r.1)
+      go (e.server.0 == server) refl l.0 s.0 room
+        (λ b q i. keeps_legal rest (tree_after t e) u (nodes ++ changed t e) (ever + grows t (Stays e)) more b q l.1 s.1 i)
+        (λ b q i. keeps_legal rest (tree_after t e) (tree_after u e) nodes (ever + grows t (Stays e)) (more + grows u (Stays e)) b q l.1 s.1 i)
     where
-      go : (c : Bool) → e.server.0 == server ≡ c → fits t ever e ≡ true → not c || not (is_seen t e rest) ≡ true → not c && is_nospace e.reply ≡ false
+      go : (c : Bool) → e.server.0 == server ≡ c → fits t ever e ≡ true → not c || not (is_seen t e rest) ≡ true
           → has_room u (cond (not c) (Stays e ∷ without server rest) (without server rest)) ≡ true
-          → (Apart (tree_after t e) u (nodes ++ changed t e) rest → (more : ℕ) → has_room u (without server rest) ≡ true → legal_from u more (without server rest) ≡ true)
-          → (Apart (tree_after t e) (tree_after u e) nodes rest → (more : ℕ) → has_room (tree_after u e) (without server rest) ≡ true → legal_from (tree_after u e) more (without server rest) ≡ true)
+          → (Apart (tree_after t e) u (nodes ++ changed t e) rest → Room (tree_after t e) u (ever + grows t (Stays e)) more rest → has_room u (without server rest) ≡ true → legal_from u more (without server rest) ≡ true)
+          → (Apart (tree_after t e) (tree_after u e) nodes rest → Room (tree_after t e) (tree_after u e) (ever + grows t (Stays e)) (more + grows u (Stays e)) rest → has_room (tree_after u e) (without server rest) ≡ true → legal_from (tree_after u e) (more + grows u (Stays e)) (without server rest) ≡ true)
           → legal_from u more (cond (not c) (Stays e ∷ without server rest) (without server rest)) ≡ true
-      go true i fit seen refused room gone stays = gone (removed_apart t u nodes e rest a i (not-true (is_seen t e rest) seen)) more room
-      go false i fit seen refused room gone stays =
-          let p = and_parts (leaves_tree e.op e.reply || not (wants_room (applied u e).answer)) (has_room (tree_after u e) (without server rest)) room in
-          let k = kept_fits t u nodes e rest a ever more i fit refused p.0 in
-          and_from (fits u more e) (legal_from (tree_after u e) (more + grows u (Stays e)) (without server rest)) k.0 (stays (kept_apart t u nodes e rest a k.1) (more + grows u (Stays e)) p.1)
+      go true i fit seen room gone stays =
+          let unseen = not-true (is_seen t e rest) seen in
+          gone (removed_apart t u nodes e rest a i unseen) (gone_room t u nodes e rest a ever more i unseen r) room
+      go false i fit seen room gone stays =
+          let p = and_parts (leaves_tree e.op e.reply || (is_nospace e.reply || not (wants_room (applied u e).answer))) (has_room (tree_after u e) (without server rest)) room in
+          let k = kept t u nodes e rest a ever more i fit r p.0 in
+          and_from (fits u more e) (legal_from (tree_after u e) (more + grows u (Stays e)) (without server rest)) k.fits_on (stays (kept_apart t u nodes e rest a k.near_on) (kept_room t u nodes e rest a ever more k r) p.1)
 
 nothing_touches : (server : ℕ) (t : FileTree) (list : List Settled) → touched_later server [] t list ≡ false
 nothing_touches server t [] = refl
@@ -332,12 +440,12 @@ nothing_touches server t (Stays e ∷ rest) = or_false (not (e.server.0 == serve
     no_use true = refl
     no_use false = refl
 
-pub unseen_can_go : (server : ℕ) (t : FileTree) (ever more : ℕ) (list : List Settled) → IsWellFormed t → AreNew t list → legal_from t ever list ≡ true → none_seen server t list ≡ true → refused_later server list ≡ false → has_room t (without server list) ≡ true → legal_from t more (without server list) ≡ true
-unseen_can_go server t ever more list w new legal unseen refused room =
+pub unseen_can_go : (server : ℕ) (t : FileTree) (ever : ℕ) (list : List Settled) → IsWellFormed t → AreNew t list → legal_from t ever list ≡ true → none_seen server t list ≡ true → has_room t (without server list) ≡ true → legal_from t ever (without server list) ≡ true
+unseen_can_go server t ever list w new legal unseen room =
     let k = kinds_can_be_told t list new in
-    keeps_legal server (kinds_along t list) list t t [] ever more
-    (record { well_t = w; well_u = w; new_t = new; new_u = new; kinds_t = k.0; kinds_u = k.0; told = k.1; near = λ b h. like_same vague (node_at t b); untouched = nothing_touches server t list })
-    legal unseen refused room
+    keeps_legal server (kinds_along t list) list t t [] ever ever
+      (record { well_t = w; well_u = w; new_t = new; new_u = new; kinds_t = k.0; kinds_u = k.0; told = k.1; near = λ b h. like_same vague (node_at t b); untouched = nothing_touches server t list })
+      (inl (refl, λ b. refl, le_refl ever)) legal unseen room
 
 -- ---- a recovery
 unseen_if_unknown : (server : ℕ) (stalled : Bool) (t : FileTree) (list : List Settled) → none_known server stalled t list ≡ true → none_seen server t list ≡ true
@@ -361,21 +469,14 @@ recovery_legal server keeps stalled t ever (s ∷ rest) w new legal known room =
     go (begins_removal server keeps t s rest) refl known room l.0
     (λ k r. recovery_legal server keeps (stalled_after server stalled s) (after t s) (ever + grows t s) rest (after_keeps t s rest w new) (are_new_after t s rest w new) l.1 k r)
   where
-    not_so : (x : Bool) → not x ≡ true → x ≡ false
-    not_so true h = cc
-    not_so false h = refl
-
     own : begins_removal server keeps t s rest ≡ true → without server (s ∷ rest) ≡ without server rest
     own e = ap (λ b. cond (not b) (s ∷ without server rest) (without server rest)) (lost_is_of server keeps t s (and_parts (is_lost server keeps t s) (not (list_any (mounts server) rest)) e).0)
 
     go : (b : Bool) → begins_removal server keeps t s rest ≡ b → cond b (none_known server stalled t (s ∷ rest)) (keeps_known server keeps (stalled_after server stalled s) (after t s) rest) ≡ true
-        → cond b (not (refused_later server (s ∷ rest)) && has_room t (without server (s ∷ rest))) (room_left server keeps (after t s) rest) ≡ true → may_stand t ever s ≡ true
+        → cond b (has_room t (without server (s ∷ rest))) (room_left server keeps (after t s) rest) ≡ true → may_stand t ever s ≡ true
         → (keeps_known server keeps (stalled_after server stalled s) (after t s) rest ≡ true → room_left server keeps (after t s) rest ≡ true → legal_from (after t s) (ever + grows t s) (left server keeps (after t s) rest) ≡ true)
         → legal_from t ever (cond b (without server rest) (s ∷ left server keeps (after t s) rest)) ≡ true
-    go true e known room stands later =
-        let r = and_parts (not (refused_later server (s ∷ rest))) (has_room t (without server (s ∷ rest))) room in
-        subst (λ l. legal_from t ever l ≡ true) (own e)
-        (unseen_can_go server t ever ever (s ∷ rest) w new legal (unseen_if_unknown server stalled t (s ∷ rest) known) (not_so (refused_later server (s ∷ rest)) r.0) r.1)
+    go true e known room stands later = subst (λ l. legal_from t ever l ≡ true) (own e) (unseen_can_go server t ever (s ∷ rest) w new legal (unseen_if_unknown server stalled t (s ∷ rest) known) room)
     go false e known room stands later = and_from (may_stand t ever s) (legal_from (after t s) (ever + grows t s) (left server keeps (after t s) rest)) stands (later known room)
 
 pub recovery_leaves_legal : (server keeps : ℕ) (opening : FileTree) (ever : ℕ) (list : List Settled) → IsWellFormed opening → AreNew opening list → legal_from opening ever list ≡ true → keeps_known server keeps false opening list ≡ true → room_left server keeps opening list ≡ true → legal_from opening ever (recovered opening server keeps list) ≡ true

@@ -11,6 +11,8 @@ use Rattle.tree_definitions.specs.Apply.{Plain, Applied, says, is_dir, has_entri
 use Rattle.tree_laws.specs.WellFormed.{BirthsAscend, EntriesNameNodes}
 use Rattle.tree_laws.specs.Touching.{SameKinds}
 use Rattle.tree_laws.proofs.Places.{Stands}
+use Rattle.tree_laws.specs.Rooms.{SameRoom}
+use Rattle.tree_laws.proofs.Rooms.{same_lacks}
 use Rattle.tree_laws.proofs.Likeness.{Likeness, Near, like_equal, like_entries}
 use Rattle.tree_laws.proofs.Joint.{Matches, joint_none, joint_with, joint_fewer, joint_moved, both_do, both_say, both_if, if_known, if_room}
 use Rattle.tree_laws.proofs.Acting.{moved_ascends, fewer_differs, some_one, dir_alike}
@@ -96,7 +98,7 @@ module _ (L : Likeness) (one two : FileTree) (births_one : BirthsAscend one) (bi
         let k = joint_moved L one two (room_made one to fs m) (room_made two to fs m) room from name to new b from_same at in
         both_if L one two (from == to) (says (moved one from name to new b) reply.Ok) _ (says (moved two from name to new b) reply.Ok) _ (both_do L one two (moved one from name to new b) (moved two from name to new b) reply.Ok j)
         (both_if L one two (entries_full fs) (says one reply.DirFull) _ (says two reply.DirFull) _ (both_say L one two reply.DirFull)
-        (if_room L one two (lacks_block one fs m) (lacks_block two fs m) reply.NoDirBlock reply.NoDirBlock _ _ refl refl
+        (if_room L one two (lacks_block one fs m) (lacks_block two fs m) reply.NoDirBlock reply.NoDirBlock _ _ refl refl (λ k. same_lacks one two k fs m) (λ k. refl)
         (both_do L one two (moved (room_made one to fs m) from name to new b) (moved (room_made two to fs m) from name to new b) reply.Ok k)))
 
     through_same : (path : List (List ℕ)) → walked two path ≡ walked one path → goes_through one path b ≡ goes_through two path b

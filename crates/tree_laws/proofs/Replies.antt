@@ -22,6 +22,12 @@ told_dirfull (reply.Shown []) h = cc
 told_dirfull (reply.Shown (b ∷ bytes)) h = cc
 told_dirfull _ h = cc
 
+pub told_nodirblock : (r : Reply) → same_reply reply.NoDirBlock r ≡ true → r ≡ reply.NoDirBlock
+told_nodirblock reply.NoDirBlock h = refl
+told_nodirblock (reply.Shown []) h = cc
+told_nodirblock (reply.Shown (b ∷ bytes)) h = cc
+told_nodirblock _ h = cc
+
 pub told_notempty : (r : Reply) → same_reply reply.NotEmpty r ≡ true → r ≡ reply.NotEmpty
 told_notempty reply.NotEmpty h = refl
 told_notempty (reply.Shown []) h = cc

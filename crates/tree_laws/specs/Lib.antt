@@ -8,3 +8,4 @@ pub mod Settling
 pub mod Counts
 pub mod Removing
 pub mod Whole
+pub mod Rooms
