@@ -9,8 +9,7 @@ use Rattle.tree_definitions.specs.Tree.{FileTree, node_at, with_node, without_no
 use Rattle.tree_definitions.specs.Place.{Place, Root, Taken, Free, Nowhere}
 use Rattle.tree_definitions.specs.Apply.{Plain, Applied, says, named, made, is_dir, has_entries, links_of, one_link_more, one_link_fewer, linked_to, linked, unlinked, dir_removed, moved, name_gone, name_set}
 use Rattle.tree_laws.specs.WellFormed.{BirthsAscend, EntriesNameNodes, IsNew}
-use Rattle.tree_laws.specs.Touching.{wants_room, SameKinds, kind_of, OfDirectory, OfFile, OfLink}
-use Rattle.tree_laws.specs.Rooms.{SameRoom}
+use Rattle.tree_laws.specs.Touching.{SameKinds, kind_of, OfDirectory, OfFile, OfLink}
 use Rattle.tree_laws.proofs.Rooms.{same_inodes, same_lacks}
 use Rattle.tree_laws.proofs.Likeness.{Likeness, Near, like_equal, like_dir, like_links}
 use Rattle.tree_laws.proofs.Nodes.{with_same, with_other, without_same, ascend_with, ascend_without}
@@ -135,7 +134,7 @@ module _ (L : Likeness) (one two : FileTree) where
     linked_to_matches (Taken dir es n name c) s t m f k l = both_say L one two reply.Exist
     linked_to_matches (Free dir es n name) s t m f k l = free_matches
         (by_link (Near L one two b) one (named (one_link_more one b (node_at one b)) dir es n name b) b (nat_le 1000 (links_of (node_at one b))) (entries_full es) (lacks_block one es n) m f k l
-          (linked_differs one b (node_at one b) refl there plain dir es n name s.0))
+        (linked_differs one b (node_at one b) refl there plain dir es n name s.0))
         dir es n name (like_equal L (node_at one dir) (node_at two dir) (s.0 ∙ sym t.0))
 
   module _ (kinds : SameKinds one two) (alive_one : EntriesNameNodes one) (alive_two : EntriesNameNodes two) where

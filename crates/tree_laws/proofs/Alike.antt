@@ -129,24 +129,24 @@ differs_alike a b c d (inl p) s t = ap₂ (λ x y. not (same_where x y)) (equal_
 differs_alike a b c d (inr p) s t = ap (λ x. not (same_where a x)) p.0 ∙ ap not s ∙ sym (ap (λ x. not (same_where b x)) p.1 ∙ ap not t)
 
 module _ (one two : FileTree) (e : Entry) (walk_one : IsWalkable one) (walk_two : IsWalkable two) (kinds : SameKinds one two) (new_one : IsNew one e.number.0) (new_two : IsNew two e.number.0)
-    (answered : is_answer one e ≡ true) (room_one : wants_room (applied one e).answer ≡ false) (room_two : wants_room (applied two e).answer ≡ false) (agree : AgreeWhereTouched one two e) where
+    (answered : is_answer one e ≡ true) (room : Roomy one two e) (agree : AgreeWhereTouched one two e) where
   near_by : (b : ℕ) → touches one e b ≡ true → Near equal one two b
   near_by b h = like_equal equal (node_at one b) (node_at two b) (agree b h)
 
   both : Alike equal one two (applied one e) (applied two e)
-  both = alike equal one two e walk_one walk_two kinds new_one new_two answered (inl (room_one, room_two)) near_by
+  both = alike equal one two e walk_one walk_two kinds new_one new_two answered room near_by
 
   agreed : AgreeOn equal one two e.op e.reply (applied one e)
-  agreed = agree_on equal one two e walk_one walk_two kinds new_one new_two answered (inl (room_one, room_two)) near_by
+  agreed = agree_on equal one two e walk_one walk_two kinds new_one new_two answered room near_by
 
   told_two : is_answer two e ≡ true
-  told_two = answered_two equal one two e walk_one walk_two kinds new_one new_two answered (inl (room_one, room_two)) near_by
+  told_two = answered_two equal one two e walk_one walk_two kinds new_one new_two answered room near_by
 
   afterwards : Joint equal one two (tree_after one e) (tree_after two e)
-  afterwards = after_joint equal one two e walk_one walk_two kinds new_one new_two answered (inl (room_one, room_two)) near_by
+  afterwards = after_joint equal one two e walk_one walk_two kinds new_one new_two answered room near_by
 
   ground : Grounds one two
-  ground = grounds equal one two e walk_one walk_two kinds new_one new_two answered (inl (room_one, room_two)) near_by
+  ground = grounds equal one two e walk_one walk_two kinds new_one new_two answered room near_by
 
   changed_same : (b : ℕ) → changes one e b ≡ changes two e b
   changed_same b = ap₂ (λ x y. x && y) (answered ∙ sym told_two)

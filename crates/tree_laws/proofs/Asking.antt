@@ -108,7 +108,7 @@ module _ (L : Likeness) (one two : FileTree) (g : Grounds one two) where
   shown_matches cells others off len l =
       subst (λ i. Matches L one two (shown one cells off len) (cond (nat_lt i off) (says two reply.BadOffset) (record { answer = Shows (take len (drop off others)); tree = two }))) (L.long cells others l)
       (both_if L one two (nat_lt (length cells) off) (says one reply.BadOffset) _ (says two reply.BadOffset) _ (both_say L one two reply.BadOffset)
-        (shows_both (take len (drop off cells)) (take len (drop off others)) (L.taken len (drop off cells) (drop off others) (L.dropped off cells others l))))
+      (shows_both (take len (drop off cells)) (take len (drop off others)) (L.taken len (drop off cells) (drop off others) (L.dropped off cells others l))))
 
   -- of any node
   described_matches : (o q : Option Node) → Like L o q → Matches L one two (described one o) (described two q)

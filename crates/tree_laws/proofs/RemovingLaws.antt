@@ -415,8 +415,8 @@ module _ (server : ℕ) (kinds : ℕ → Kind) where
       let l = and_parts (fits t ever e) (legal_from (tree_after t e) (ever + grows t (Stays e)) rest) legal in
       let s = and_parts (not (e.server.0 == server) || not (is_seen t e rest)) (none_seen server (tree_after t e) rest) unseen in
       go (e.server.0 == server) refl l.0 s.0 room
-        (λ b q i. keeps_legal rest (tree_after t e) u (nodes ++ changed t e) (ever + grows t (Stays e)) more b q l.1 s.1 i)
-        (λ b q i. keeps_legal rest (tree_after t e) (tree_after u e) nodes (ever + grows t (Stays e)) (more + grows u (Stays e)) b q l.1 s.1 i)
+      (λ b q i. keeps_legal rest (tree_after t e) u (nodes ++ changed t e) (ever + grows t (Stays e)) more b q l.1 s.1 i)
+      (λ b q i. keeps_legal rest (tree_after t e) (tree_after u e) nodes (ever + grows t (Stays e)) (more + grows u (Stays e)) b q l.1 s.1 i)
     where
       go : (c : Bool) → e.server.0 == server ≡ c → fits t ever e ≡ true → not c || not (is_seen t e rest) ≡ true
           → has_room u (cond (not c) (Stays e ∷ without server rest) (without server rest)) ≡ true
@@ -444,8 +444,8 @@ pub unseen_can_go : (server : ℕ) (t : FileTree) (ever : ℕ) (list : List Sett
 unseen_can_go server t ever list w new legal unseen room =
     let k = kinds_can_be_told t list new in
     keeps_legal server (kinds_along t list) list t t [] ever ever
-      (record { well_t = w; well_u = w; new_t = new; new_u = new; kinds_t = k.0; kinds_u = k.0; told = k.1; near = λ b h. like_same vague (node_at t b); untouched = nothing_touches server t list })
-      (inl (refl, λ b. refl, le_refl ever)) legal unseen room
+    (record { well_t = w; well_u = w; new_t = new; new_u = new; kinds_t = k.0; kinds_u = k.0; told = k.1; near = λ b h. like_same vague (node_at t b); untouched = nothing_touches server t list })
+    (inl (refl, λ b. refl, le_refl ever)) legal unseen room
 
 -- ---- a recovery
 unseen_if_unknown : (server : ℕ) (stalled : Bool) (t : FileTree) (list : List Settled) → none_known server stalled t list ≡ true → none_seen server t list ≡ true

@@ -11,7 +11,6 @@ use Rattle.tree_definitions.specs.Apply.{Plain, Applied, says, is_dir, has_entri
 use Rattle.tree_laws.specs.WellFormed.{BirthsAscend, EntriesNameNodes}
 use Rattle.tree_laws.specs.Touching.{SameKinds}
 use Rattle.tree_laws.proofs.Places.{Stands}
-use Rattle.tree_laws.specs.Rooms.{SameRoom}
 use Rattle.tree_laws.proofs.Rooms.{same_lacks}
 use Rattle.tree_laws.proofs.Likeness.{Likeness, Near, like_equal, like_entries}
 use Rattle.tree_laws.proofs.Joint.{Matches, joint_none, joint_with, joint_fewer, joint_moved, both_do, both_say, both_if, if_known, if_room}

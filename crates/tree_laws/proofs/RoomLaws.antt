@@ -1,31 +1,30 @@
 -- Trees whose nodes take the same of the disk, birth by birth, take the same of it.
-use Rattle.std.proofs.Common.{ℕ, ◌≡◌, ◌≢◌, ◌+◌, ◌-◌, ◌≤◌, ◌==◌, Bool, true, false, not, ◌&&◌, Option, Some, None, List, [], ◌∷◌, ◌++◌, length, map, take, drop, cond, refl, sym, ◌∙◌, ap, ap₂, subst, inl, inr, ◌⊎◌, arith, nat_eq, eqb-true, length-append, length-drop, min}
+use Rattle.std.proofs.Common.{ℕ, ◌≡◌, ◌+◌, ◌-◌, ◌==◌, Bool, true, false, not, ◌&&◌, Option, Some, None, List, [], ◌∷◌, length, map, cond, refl, sym, ◌∙◌, ap, ap₂, subst, inl, inr, arith, eqb-true, length-append, length-drop}
 use Rattle.std.specs.Option.{option_map}
-use Rattle.std.specs.List.{AllByRecursion, sum_by, fold}
+use Rattle.std.specs.List.{sum_by, fold}
 use Rattle.std.specs.List.Sorted.{IsStrictlySortedBy}
 use Rattle.std.specs.Map.{lookup, keys_of, values_of}
 use Rattle.std.specs.BTreeMap.{is_at}
-use Rattle.std.specs.Ordering.{nat_cmp, is_eq, ordering_reverse}
+use Rattle.std.specs.Ordering.{nat_cmp, ordering_reverse}
 use Rattle.std.specs.declared.cmp.Ordering.{Ordering}
 use Rattle.std.specs.declared.cmp.Ordering.TheVariants.{Less, Equal, Greater}
 use Rattle.std.proofs.lemmas.Bool.{and_parts}
 use Rattle.std.proofs.lemmas.List.{length-map, length-take}
 use Rattle.std.proofs.lemmas.Map.Made.{lookup-map_values}
 use Rattle.tree_definitions.specs.declared.cells.Cell.{Cell}
-use Rattle.tree_definitions.specs.declared.cells.Cell.TheVariants.{Doubtful}
 use Rattle.tree_definitions.specs.declared.node.Node.{Node}
 use Rattle.tree_definitions.specs.declared.node.Node.TheVariants.{Dir, File, Link}
 use Rattle.tree_definitions.specs.Tree.{FileTree, node_at, with_node, count_of, dir_blocks, file_blocks, small_blocks, large_blocks, small_blocks_of, large_blocks_of}
-use Rattle.tree_definitions.specs.History.{Settled, after, grows, doubted, doubted_file, doubted_cells, file_of, CellRun}
+use Rattle.tree_definitions.specs.History.{doubted, doubted_file, doubted_cells, file_of, CellRun}
 use Rattle.tree_definitions.specs.Touched.{other_room}
 use Rattle.tree_laws.specs.WellFormed.{BirthsAscend}
 use Rattle.tree_laws.specs.Rooms.{SameRoom}
-use Rattle.tree_laws.specs.Touching.{kind_of, OfDirectory, OfFile, OfLink}
+use Rattle.tree_laws.specs.Touching.{kind_of}
 use Rattle.tree_laws.proofs.Pairs.{birth_exact, tie, self, none_below, below_all}
 use Rattle.tree_laws.proofs.Nodes.{each_but, with_same, with_other}
-use Rattle.tree_laws.proofs.Likeness.{Likeness, Like, Near}
+use Rattle.tree_laws.proofs.Likeness.{Like}
 use Rattle.tree_laws.proofs.Joint.{Both, Joint}
-use Rattle.tree_laws.proofs.Vagueness.{vague, Vaguer, vague_long}
+use Rattle.tree_laws.proofs.Vagueness.{vague, vague_long}
 
 -- ---- lists in order with the same at each key are equal
 module _ {X : Type 0} where
@@ -133,7 +132,7 @@ one_doubt : (t : FileTree) (r from count : ℕ) (o : Option Node) → node_at t 
 one_doubt t r from count (Some (File cells links)) is b =
     let new = File (doubted_cells cells from count) links in
     each_but (λ b. room_of (node_at (with_node t r new) b) ≡ room_of (node_at t b)) r
-      (ap room_of (with_same t r new) ∙ ap (λ n. Some (0, (small_blocks_of n, large_blocks_of n))) (doubted_long cells from count) ∙ ap room_of (sym is)) (λ c far. ap room_of (with_other t r new c far)) b
+    (ap room_of (with_same t r new) ∙ ap (λ n. Some (0, (small_blocks_of n, large_blocks_of n))) (doubted_long cells from count) ∙ ap room_of (sym is)) (λ c far. ap room_of (with_other t r new c far)) b
 one_doubt t r from count (Some (Dir es n)) is b = refl
 one_doubt t r from count (Some (Link target links)) is b = refl
 one_doubt t r from count None is b = refl

@@ -1,9 +1,9 @@
 -- Two trees that take the same of the disk.
-use Rattle.std.proofs.Common.{ℕ, ◌≡◌, ◌*◌, ◌+◌, ◌-◌, nat_le, nat_lt, Bool, true, false, not, ◌&&◌, ◌==◌, Option, Some, None, List, [], ◌∷◌, length, cond, refl, sym, ◌∙◌, ap, ap₂, subst}
+use Rattle.std.proofs.Common.{ℕ, ◌≡◌, ◌*◌, ◌+◌, ◌-◌, nat_le, nat_lt, false, cond, refl, ap₂}
 use Rattle.frang_base.specs.declared.reply.Reply.{Reply}
 use Rattle.frang_base.specs.declared.reply.Reply.TheVariants as reply
 use Rattle.tree_definitions.specs.Entries.{Entries}
-use Rattle.tree_definitions.specs.Tree.{FileTree, count_of, dir_blocks, file_blocks, small_blocks, large_blocks, inodes_full, blocks_full, larges_full, must_grow, lacks_block}
+use Rattle.tree_definitions.specs.Tree.{FileTree, count_of, file_blocks, inodes_full, larges_full, must_grow, lacks_block}
 use Rattle.tree_definitions.specs.History.{told_blocks}
 use Rattle.tree_laws.specs.Rooms.{SameRoom}
 

@@ -1,5 +1,5 @@
 -- What trees take of the disk.
-use Rattle.std.specs.Prelude.{◌≡◌, ℕ, length}
+use Rattle.std.specs.Prelude.{◌≡◌, length}
 use Rattle.tree_definitions.specs.Tree.{FileTree, count_of, dir_blocks, file_blocks, small_blocks, large_blocks}
 
 -- the same number of segments, of nodes, and of blocks of each sort

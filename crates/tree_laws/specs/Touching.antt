@@ -7,6 +7,7 @@ use Rattle.tree_definitions.specs.Tree.{FileTree, node_at}
 use Rattle.tree_definitions.specs.Apply.{Answer, Plain, Shows}
 use Rattle.tree_definitions.specs.History.{applied, is_answer, tree_after}
 use Rattle.tree_definitions.specs.Touched.{touches, changes, is_nospace}
+use Rattle.tree_laws.specs.Rooms.{SameRoom}
 use Rattle.tree_laws.specs.WellFormed.{IsWalkable, IsNew}
 
 -- the kind of a node, which an entry of a directory shows
@@ -51,6 +52,11 @@ pub record DoesAlike (one two : FileTree) (e : Entry) : Type 0 where
 abbrev pub GoesByWhatItTouches : Type 0
 GoesByWhatItTouches = (one two : FileTree) (e : Entry) → IsWalkable one → IsWalkable two → SameKinds one two → IsNew one e.number.0 → IsNew two e.number.0
     → is_answer one e ≡ true → wants_room (applied one e).answer ≡ false → wants_room (applied two e).answer ≡ false → AgreeWhereTouched one two e → DoesAlike one two e
+
+-- also for want of room, where the trees take the same of the disk
+abbrev pub GoesAlikeInSameRoom : Type 0
+GoesAlikeInSameRoom = (one two : FileTree) (e : Entry) → IsWalkable one → IsWalkable two → SameKinds one two → IsNew one e.number.0 → IsNew two e.number.0
+    → is_answer one e ≡ true → SameRoom one two → AgreeWhereTouched one two e → DoesAlike one two e
 
 -- what an entry doesn't touch stays
 abbrev pub UntouchedStays : Type 0

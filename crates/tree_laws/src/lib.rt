@@ -11,7 +11,7 @@ ghost use Rattle.tree_laws.specs.Settling.{SettledIsOfHistory, SettlesToItself, 
 ghost use Rattle.tree_laws.specs.Counts.{MakesOneNode, FreesAtMostOneNode, KeepsTheNodes, BlocksNeverFall, LooksChangeNothing, LooksLeaveTheShape, NoPathTouchesNothing};
 ghost use Rattle.tree_laws.specs.Removing.{UnseenCanGo, RecoveryLeavesLegal};
 ghost use Rattle.tree_laws.specs.Whole.{SettledNumbersAreNew, HistoriesStayWellFormed, RecoveryIsLegal, LegalIsOfWhatIsLeft};
-ghost use Rattle.tree_laws.specs.Touching.{GoesByWhatItTouches, UntouchedStays};
+ghost use Rattle.tree_laws.specs.Touching.{GoesByWhatItTouches, GoesAlikeInSameRoom, UntouchedStays};
 ghost use Rattle.tree_laws.specs.Refusals.{RefusalsLeaveTheTree, LooksLeaveTheTree};
 
 /// An answer other than `ok` leaves the tree, and a look leaves it whatever it is answered.
@@ -51,9 +51,10 @@ pub fn a_birth_tells_the_kind()
 
 /// An entry that is answered in one tree is answered alike in another, touches and changes the same nodes there and makes the same of
 /// them, where both can be walked, nodes of one birth are of one kind, its number is no node's, the trees agree on what it touches in the
-/// first, and neither answer is for want of room. What it doesn't touch stays.
+/// first, and neither answer is for want of room or both trees take the same of the disk. What it doesn't touch stays.
 pub fn apply_goes_by_what_it_touches()
     ensures alike { GoesByWhatItTouches }
+    ensures same_room { GoesAlikeInSameRoom }
     ensures untouched { UntouchedStays }
 {}
 
@@ -104,8 +105,8 @@ pub fn transcripts_are_closed_under_prefixes()
 {}
 
 /// What nobody saw can go: a legal list without the entries of a server, none of which another server has seen, is legal with the same
-/// replies, and so a recovery that removes nothing known leaves a legal list legal. No later entry of another server may have been
-/// answered for want of room, nor find it now.
+/// replies, and so a recovery that removes nothing known leaves a legal list legal. No entry that stays may find want of room now, that
+/// found none before.
 pub fn what_nobody_saw_can_go()
     ensures unseen { UnseenCanGo }
     ensures recovery { RecoveryLeavesLegal }
