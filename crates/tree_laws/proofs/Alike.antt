@@ -163,6 +163,7 @@ module _ (one two : FileTree) (e : Entry) (walk_one : IsWalkable one) (walk_two 
   pub does_alike : DoesAlike one two e
   does_alike = record {
     answer = equal_answers (applied one e).answer (applied two e).answer both.answer;
+    answered = told_two;
     touched = touched_same;
     changed = changed_same;
     there = λ b t. equal_nodes (node_at (tree_after one e) b) (node_at (tree_after two e) b) (joint_near equal one two (tree_after one e) (tree_after two e) afterwards b (near_by b t));

@@ -34,6 +34,7 @@ kind_by [] birth = OfFile
 kind_by (Stays e ∷ list) birth = if e.number.0 == birth then kind_made e.op else kind_by list birth
 kind_by (InDoubt runs ∷ list) birth = kind_by list birth
 
+-- the kind of a node, or this one where there is none
 abbrev pub kind_or : Kind → Option Node → Kind
 kind_or kind (Some node) = kind_of node
 kind_or kind None = kind

@@ -16,6 +16,7 @@ pub data Kind : Type 0 where
   OfFile : Kind
   OfLink : Kind
 
+-- of what kind a node is
 abbrev pub kind_of : Node → Kind
 kind_of (Dir entries blocks) = OfDirectory
 kind_of (File cells links) = OfFile
@@ -42,6 +43,7 @@ AgreeWhereTouched one two e = (birth : ℕ) → touches one e birth ≡ true →
 -- doesn't touch stays in each
 pub record DoesAlike (one two : FileTree) (e : Entry) : Type 0 where
   pub answer : (applied one e).answer ≡ (applied two e).answer
+  pub answered : is_answer two e ≡ true
   pub touched : (birth : ℕ) → touches one e birth ≡ touches two e birth
   pub changed : (birth : ℕ) → changes one e birth ≡ changes two e birth
   pub there : (birth : ℕ) → touches one e birth ≡ true → node_at (tree_after one e) birth ≡ node_at (tree_after two e) birth
