@@ -1,0 +1,9 @@
+-- By the cases of apply.
+use Rattle.tree_laws.proofs.Refusals.{refusals_leave, looks_leave}
+use Rattle.tree_laws.proofs.a_refusal_leaves_the_tree.Goals as goal
+
+pub returns-clause-refusals : goal.returns-clause-refusals
+returns-clause-refusals c = refusals_leave
+
+pub returns-clause-looks : goal.returns-clause-looks
+returns-clause-looks c = looks_leave
