@@ -9,6 +9,7 @@ use Rattle.frang_outside.specs.declared.act.Act.{Act}
 use Rattle.frang_outside.specs.Outside.{State, Rose, NoneFell, told_more}
 use Rattle.tree_definitions.specs.History.{Opening}
 use Rattle.tree_definitions.specs.Transcript.{Faults, MaySay, MaySayAll}
+use Rattle.tree_laws.proofs.TranscriptLaws.{may_all-append}
 use Rattle.frang_top.specs.declared.run.RunFault.{RunFault}
 use Rattle.frang_top.specs.declared.run.RunFault.TheVariants.{NoMemory, Mute}
 use Rattle.frang_top.specs.Run.{IsRun, SaysRun, AlwaysSaysRun, AreSays, said_act}
@@ -16,9 +17,7 @@ use Rattle.frang_top.specs.RunFaults.{SaysOne, StopsBy, IsMute}
 use Rattle.frang_top.specs.Running.{Always, Told}
 
 pub may_all-push : (script : List Line) (o : Opening) (faults : Faults) (before saids : List Said) (x : Said) → MaySayAll script o faults before saids → MaySay script o faults (before ++ saids) x → MaySayAll script o faults before (saids ++ x ∷ [])
-may_all-push script o faults before [] x all may = (subst (λ b. MaySay script o faults b x) (append-nil before) may, tt)
-may_all-push script o faults before (s ∷ saids) x all may =
-    (all.0, may_all-push script o faults (before ++ s ∷ []) saids x all.1 (subst (λ b. MaySay script o faults b x) (sym (append_assoc before (s ∷ []) saids)) may))
+may_all-push script o faults before saids x all may = may_all-append script o faults before saids (x ∷ []) all (may, tt)
 
 pub told-push : (told after : Option (List Act)) (saids : List Said) (x : Said) → Told told saids → after ≡ told_more told (said_act x) → Told after (saids ++ x ∷ [])
 told-push None after saids x before e acts is = cc

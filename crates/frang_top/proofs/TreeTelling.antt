@@ -18,7 +18,8 @@ use Rattle.tree_definitions.specs.Transcript.{no_faults, is_node, is_end, is_ove
 use Rattle.frang_top.specs.Run.{opening, history_of, IsRun, said_act}
 use Rattle.frang_top.specs.Running.{Always, Told, IsAt}
 use Rattle.frang_top.specs.Telling.{IsTelling, IsDone}
-use Rattle.frang_top.proofs.HistoryLaws.{both, left, right, live-push}
+use Rattle.tree_laws.proofs.TranscriptLaws.{live-push}
+use Rattle.frang_top.proofs.HistoryLaws.{both, left, right}
 use Rattle.frang_top.proofs.StateLaws.{settled_own, settled-node, over-push, are_answered-push, are_answered-all, own_nodes}
 use Rattle.frang_top.proofs.Prefixes.{may_all-push, told-push, always-push, always_says}
 

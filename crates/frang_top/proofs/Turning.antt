@@ -21,7 +21,9 @@ use Rattle.frang_top.specs.Reading.{AreBuilt}
 use Rattle.frang_top.specs.Answering.{state_with, entry_of, Answers, RepliesTo, Replies}
 use Rattle.frang_top.specs.Running.{is_own_answer, Answered, Always, IsAt}
 use Rattle.frang_top.specs.Run.{opening, history_of, IsRun, said_act}
-use Rattle.frang_top.proofs.HistoryLaws.{both, left, right, live-push, kept-push, tree_of-push, legal-did}
+use Rattle.tree_laws.proofs.HistoryLaws.{kept-push, tree_of-push}
+use Rattle.tree_laws.proofs.TranscriptLaws.{live-push}
+use Rattle.frang_top.proofs.HistoryLaws.{both, left, right, legal-did}
 use Rattle.frang_top.proofs.ScriptLaws.{line_of-number, lines_for-all, lines_for-none}
 use Rattle.frang_top.proofs.StateLaws.{state-push, over-push, answered-push, answered-last, own_count, own_no_node}
 use Rattle.frang_top.proofs.Prefixes.{may_all-push, told-push, always-push}

@@ -202,6 +202,19 @@ the_last_writer_counts = refl
 a_truncate_writes_to_the_old_end : Ends (made ++ by 0 3 (op.Write a 0 (1 ∷ 2 ∷ [])) reply.Ok ∷ by 0 4 op.Sync reply.Ok ∷ by 0 5 (op.Truncate a 1) reply.Ok ∷ recovery 0 (line 5) ∷ []) (line 2) (Some (File (Doubtful ∷ []) 1))
 a_truncate_writes_to_the_old_end = refl
 
+a_truncate_to_the_present_size_writes_nothing : Ends (made ++ by 0 3 (op.Write a 0 (1 ∷ 2 ∷ [])) reply.Ok ∷ by 0 4 op.Sync reply.Ok ∷ by 0 5 (op.Truncate a 2) reply.Ok ∷ recovery 0 (line 5) ∷ []) (line 2) (Some (File (Byte 1 ∷ Byte 2 ∷ []) 1))
+a_truncate_to_the_present_size_writes_nothing = refl
+
+-- of two sectors the one that was written comes into doubt
+abbrev two_sectors : List Item
+two_sectors = made ++ by 0 3 (op.Fill a 0 514 1) reply.Ok ∷ by 0 4 op.Sync reply.Ok ∷ by 0 5 (op.Write a 513 (7 ∷ [])) reply.Ok ∷ recovery 0 (line 3) ∷ by 0 7 op.Mount reply.Mounted ∷ []
+
+the_other_sector_is_sure : IsNotLegal (two_sectors ++ by 0 8 (op.Read a 511 1) (reply.Shown (9 ∷ [])) ∷ [])
+the_other_sector_is_sure = refl
+
+the_written_sector_is_in_doubt : IsLegal (two_sectors ++ by 0 8 (op.Read a 512 2) (reply.Shown (9 ∷ 9 ∷ [])) ∷ [])
+the_written_sector_is_in_doubt = refl
+
 -- any bytes may then be read, and afterwards the same
 abbrev reads : List ℕ → List ℕ → List Item
 reads one two = written ++ recovery 0 (line 3) ∷ by 0 7 op.Mount reply.Mounted ∷ by 0 8 (op.Read a 0 2) (reply.Shown one) ∷ by 0 9 (op.Read a 0 2) (reply.Shown two) ∷ []

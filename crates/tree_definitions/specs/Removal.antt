@@ -43,9 +43,9 @@ left server keeps tree (s ∷ rest) =
     if begins_removal server keeps tree s rest then filter (λ t. not (is_of server t)) rest
     else s ∷ left server keeps (after tree s) rest
 
--- bytes from one offset to another meet a sector of 512 bytes
+-- bytes from one offset to another meet a sector of 512 bytes; where there are none, they meet none
 abbrev pub meets : ℕ → ℕ → ℕ → Bool
-meets sector from to = nat_lt from (512 * (sector + 1)) && nat_lt (512 * sector) to
+meets sector from to = nat_lt from to && nat_lt from (512 * (sector + 1)) && nat_lt (512 * sector) to
 
 -- bytes of this file, from one offset to another, meet a sector of the file with this birth
 abbrev pub meets_in : ℕ → ℕ → Option (ℕ × (List Cell × ℕ)) → ℕ → ℕ → Bool
