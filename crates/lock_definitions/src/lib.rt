@@ -5,6 +5,7 @@
 #![tactic(auto)]
 
 mod claim;
+mod laws;
 mod limits;
 mod lists;
 
