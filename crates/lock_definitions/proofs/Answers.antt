@@ -67,6 +67,16 @@ pub free-holders : (locks : Locks) (server : ℕ) (lock : LockId) (mode : Mode) 
 unfolding any_server server_bits
 free-holders locks server lock mode = free_of_bits (conflicts locks server lock mode) 16
 
+-- the answer, read off the bits
+pub granted_without_bits : (locks : Locks) (server : ℕ) (lock : LockId) (mode : Mode) → holders locks server lock mode ≡ 0 → want_answer locks server lock mode ≡ Granted
+granted_without_bits locks server lock mode none = ap (λ b. if b then Granted else Wait (holders locks server lock mode)) (sym (free-holders locks server lock mode) ∙ ap (λ m. m == 0) none)
+
+pub waits_with_bits : (locks : Locks) (server : ℕ) (lock : LockId) (mode : Mode) → (holders locks server lock mode ≡ 0 → ⊥) → want_answer locks server lock mode ≡ Wait (holders locks server lock mode)
+waits_with_bits locks server lock mode some = ap (λ b. if b then Granted else Wait (holders locks server lock mode)) (sym (free-holders locks server lock mode) ∙ not_zero (holders locks server lock mode) some)
+  where
+    not_zero : (m : ℕ) → (m ≡ 0 → ⊥) → (m == 0) ≡ false
+    not_zero m apart = grind (arith, nat_tests)
+
 pub bit_of_holder : (locks : Locks) (server : ℕ) (lock : LockId) (mode : Mode) (other : ℕ) → IsBitSet (holders locks server lock mode) other ↔ ((other < 16) × (conflicts locks server lock mode other ≡ true))
 unfolding server_bits
 bit_of_holder locks server lock mode other = bit_set (conflicts locks server lock mode) 16 other

@@ -9,7 +9,8 @@ use Rattle.frang_base.specs.declared.lock.Mode.TheVariants.{Shared, Sole}
 use Rattle.lock_definitions.specs.declared.claim.Claim.{Claim}
 use Rattle.lock_definitions.specs.Servers.{any_server}
 use Rattle.lock_definitions.specs.Locks.{Locks, claim_in, claims_of, claim_of, held, AreCompatible, AreClaims, AreLocks}
-use Rattle.lock_definitions.specs.Calls.{serves, clashes, conflicts, is_free, changed, holding, granted, wishing, given_up, shared, wanted, released, downgraded, cleared}
+use Rattle.lock_definitions.specs.declared.claim.Wanted.TheVariants.{Granted, Wait}
+use Rattle.lock_definitions.specs.Calls.{holders, answered, serves, clashes, conflicts, is_free, changed, holding, granted, wishing, given_up, shared, wanted, released, downgraded, cleared}
 use Rattle.lock_definitions.proofs.ServerTests.{none_below}
 use Rattle.lock_definitions.proofs.Changes.{claims_past, claim_of-changed, IsChanged}
 
@@ -162,6 +163,6 @@ module _ (locks : Locks) (are : AreLocks locks) (s : ℕ) (lock : LockId) (mode 
   pub AreCompatible-wanted : AreCompatible (wanted locks s lock mode)
   AreCompatible-wanted = go (is_free locks s lock mode) refl
     where
-      go : (b : Bool) → is_free locks s lock mode ≡ b → AreCompatible (changed locks s lock (if b then granted mode else wishing mode))
+      go : (b : Bool) → is_free locks s lock mode ≡ b → AreCompatible (changed locks s lock (answered (if b then Granted else Wait (holders locks s lock mode)) mode))
       go true free = compatible-granted free
       go false taken = AreCompatible-no_more _ locks (wished_no_more locks s lock mode (are.claims s)) are.compatible

@@ -9,8 +9,8 @@ use Rattle.frang_base.specs.declared.lock.Mode.{Mode}
 use Rattle.lock_definitions.specs.declared.claim.Claim.{Claim}
 use Rattle.lock_definitions.specs.declared.claim.LogHold.{LogHold}
 use Rattle.lock_definitions.specs.Order.{is_lock}
-use Rattle.lock_definitions.specs.Locks.{Claims, Locks, claim_in, claims_of, claim_of, held, no_locks, AreCompatible, AreClaims, AreLocks}
-use Rattle.lock_definitions.specs.Calls.{is_free, changed, granted, wishing, given_up, shared, wanted, released, downgraded, log_taken_by, hold_of, taken, hold_extended, extended, hold_not_by, cleared}
+use Rattle.lock_definitions.specs.Locks.{Claims, Locks, claim_in, claims_of, claim_of, held, no_clerks, no_logs, no_locks, AreCompatible, AreClaims, AreLocks}
+use Rattle.lock_definitions.specs.Calls.{answered, want_answer, changed, given_up, shared, wanted, released, downgraded, log_taken_by, hold_of, taken, hold_extended, extended, hold_not_by, cleared}
 use Rattle.lock_definitions.specs.Runs.{LockCall, after_call, after_calls, is_want, asks}
 use Rattle.lock_definitions.specs.Runs.LockCall.{Want, Release, Downgrade, TakeLog, Extend, Clear}
 use Rattle.lock_definitions.proofs.LockOrder.{is_lock_equiv}
@@ -25,7 +25,7 @@ AreClaims-none = record { ordered = tt; claimed = λ k d below. absurd (omega ar
 -- ---- the fresh state
 
 no_claims : (server : ℕ) → claims_of no_locks server ≡ []
-unfolding no_locks
+unfolding no_clerks no_logs
 no_claims server = go (cases_lt server 16)
   where
     go : (server < 16) ⊎ (16 ≤ server) → claims_of no_locks server ≡ []
@@ -33,7 +33,7 @@ no_claims server = go (cases_lt server 16)
     go (inr above) = claims_past no_locks server (omega (arith, length-replicate {A = Claims} 16 []))
 
 pub AreLocks-no_locks : AreLocks no_locks
-unfolding no_locks
+unfolding no_clerks no_logs
 AreLocks-no_locks = record {
   servers = length-replicate {A = Claims} 16 [];
   logs = length-replicate {A = Option LogHold} 256 None;
@@ -53,7 +53,7 @@ module _ (locks : Locks) (are : AreLocks locks) where
   }
 
   pub AreLocks-wanted : (s : ℕ) (lock : LockId) (mode : Mode) → AreLocks (wanted locks s lock mode)
-  AreLocks-wanted s lock mode = AreLocks-changed s lock (if is_free locks s lock mode then granted mode else wishing mode) (AreCompatible-wanted locks are s lock mode)
+  AreLocks-wanted s lock mode = AreLocks-changed s lock (answered (want_answer locks s lock mode) mode) (AreCompatible-wanted locks are s lock mode)
 
   pub AreLocks-released : (s : ℕ) (lock : LockId) → AreLocks (released locks s lock)
   AreLocks-released s lock = AreLocks-changed s lock given_up (AreCompatible-no_more _ locks (released_no_more locks s lock (are.claims s)) are.compatible)
@@ -98,7 +98,7 @@ module _ (locks : Locks) (are : AreLocks locks) where
   -- ---- who asks for nothing gets nothing
 
   unasked_want : (asker : ℕ) (asked : LockId) (mode : Mode) (t : ℕ) (q : LockId) → is_want t q (Want asker asked mode) ≡ false → held locks t q ≡ None → held (wanted locks asker asked mode) t q ≡ None
-  unasked_want asker asked mode t q unasked none = go (claim_of-changed locks asker asked (if is_free locks asker asked mode then granted mode else wishing mode) (are.claims asker) t q)
+  unasked_want asker asked mode t q unasked none = go (claim_of-changed locks asker asked (answered (want_answer locks asker asked mode) mode) (are.claims asker) t q)
     where
       asks_so : (t ≡ asker) → q ≡ asked → (asker == t && is_lock q asked) ≡ true
       asks_so same here = both (asker == t) (is_lock q asked) (grind (arith, nat_tests)) (ap (λ l. is_lock l asked) here ∙ is_lock_equiv.refl asked)
@@ -107,7 +107,7 @@ module _ (locks : Locks) (are : AreLocks locks) where
           both true b e f = f
           both false b e f = absurd (false≢true e)
 
-      go : IsChanged locks asker asked (if is_free locks asker asked mode then granted mode else wishing mode) t q ⊎ (claim_of (wanted locks asker asked mode) t q ≡ claim_of locks t q) → held (wanted locks asker asked mode) t q ≡ None
+      go : IsChanged locks asker asked (answered (want_answer locks asker asked mode) mode) t q ⊎ (claim_of (wanted locks asker asked mode) t q ≡ claim_of locks t q) → held (wanted locks asker asked mode) t q ≡ None
       go (inl at) = absurd (false≢true (sym unasked ∙ asks_so at.same_server at.same_lock))
       go (inr same) = ap (λ c. c.held) same ∙ none
 

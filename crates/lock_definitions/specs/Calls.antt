@@ -78,8 +78,13 @@ shared claim = record claim { held = option_map (λ mode. Shared) claim.held }
 abbrev pub want_answer : Locks → ℕ → LockId → Mode → Wanted
 want_answer locks server lock mode = if is_free locks server lock mode then Granted else Wait (holders locks server lock mode)
 
+-- what the answer makes of the claim
+abbrev pub answered : Wanted → Mode → Claim → Claim
+answered Granted mode claim = granted mode claim
+answered (Wait holders) mode claim = wishing mode claim
+
 abbrev pub wanted : Locks → ℕ → LockId → Mode → Locks
-wanted locks server lock mode = changed locks server lock (if is_free locks server lock mode then granted mode else wishing mode)
+wanted locks server lock mode = changed locks server lock (answered (want_answer locks server lock mode) mode)
 
 -- `release` and `downgrade`
 abbrev pub released : Locks → ℕ → LockId → Locks

@@ -59,9 +59,17 @@ is_wished locks server lock mode = is_wished_in (claim_of locks server lock) mod
 abbrev pub log_hold : Locks → ℕ → Option LogHold
 log_hold locks dead = slice_index_or locks.logs dead None
 
+-- sixteen servers without claims
+unfoldable pub no_clerks : List Claims
+no_clerks = replicate 16 []
+
+-- 256 logs that nobody has taken
+unfoldable pub no_logs : List (Option LogHold)
+no_logs = replicate 256 None
+
 -- nothing held, wished or taken
-unfoldable pub no_locks : Locks
-no_locks = record { clerks = replicate 16 []; logs = replicate 256 None }
+abbrev pub no_locks : Locks
+no_locks = record { clerks = no_clerks; logs = no_logs }
 
 -- no lock is held sole by one server and held in any mode by another
 abbrev pub AreCompatible : Locks → Type 0

@@ -10,5 +10,9 @@ mod limits;
 mod lists;
 
 pub use claim::{AskedFor, Claim, LogHold, LogTaken, Wanted};
+pub use laws::{
+    each_asked_lock_is_listed, holders_stay_compatible, locks_are_asked_for,
+    same_locks_answer_alike, waits_for_each_holder,
+};
 pub use limits::{LAST_TICK, LEASE_TICKS, LOGS, MARGIN_TICKS, SERVERS};
 pub use lists::{ClerkLocks, LockList, LogList};
