@@ -1,0 +1,8 @@
+pub mod Answers
+pub mod Changes
+pub mod ClaimLists
+pub mod Compatibility
+pub mod LockOrder
+pub mod ServerTests
+pub mod SortedEntries
+pub mod States

@@ -1,0 +1,28 @@
+-- Locks are in a total order, in which only the same lock is equal.
+use Rattle.std.proofs.Common.{◌≡◌, true, ap, rules}
+use Rattle.std.specs.Cmp.{IsTotalOrder, IsEquivalence, eq_by_cmp_equiv}
+use Rattle.std.specs.Cmp.Rules.{comparing}
+use Rattle.std.specs.Ordering.{eq_by_cmp}
+use Rattle.std.proofs.lemmas.Bool.Decides.{nat_tests}
+use Rattle.std.proofs.Common.{arith}
+use Rattle.frang_base.specs.declared.lock.LockId.{LockId}
+use Rattle.frang_base.specs.declared.lock.LockId.TheVariants.{Log, Segment, Node}
+use Rattle.lock_definitions.specs.Order.{lock_cmp, is_lock}
+
+pub lock_total : IsTotalOrder lock_cmp
+lock_total = search (comparing, rules)
+
+-- a lock found is the lock that was looked for
+pub found_lock : (a b : LockId) → is_lock a b ≡ true → b ≡ a
+found_lock (Log a) (Log b) e = ap Log (grind (arith, nat_tests))
+found_lock (Log a) (Segment b) e = cc
+found_lock (Log a) (Node b) e = cc
+found_lock (Segment a) (Log b) e = cc
+found_lock (Segment a) (Segment b) e = ap Segment (grind (arith, nat_tests))
+found_lock (Segment a) (Node b) e = cc
+found_lock (Node a) (Log b) e = cc
+found_lock (Node a) (Segment b) e = cc
+found_lock (Node a) (Node b) e = ap Node (grind (arith, nat_tests))
+
+pub is_lock_equiv : IsEquivalence (eq_by_cmp lock_cmp)
+is_lock_equiv = eq_by_cmp_equiv lock_total

@@ -1,0 +1,11 @@
+-- All sixteen servers were tried.
+use Rattle.std.proofs.Common.{◌≡◌, ◌==◌, not, ◌&&◌, ap, ◌∙◌, arith}
+use Rattle.lock_definitions.specs.Servers.{any_below, any_server}
+use Rattle.lock_definitions.specs.Locks.{is_wished}
+use Rattle.lock_table.proofs.table.LockTable.is_wished_by_other.Goals as goal
+
+pub returns : goal.returns
+unfolding any_server
+returns c =
+    let all : c.loop-other.other ≡ 16 = omega arith in
+    c.loop-other.invariant ∙ ap (any_below (λ other. not (other == c.args.server.0) && is_wished c.args.self.now.locks other c.args.lock c.args.mode)) all

@@ -1,0 +1,13 @@
+//! The lock table: which server holds which lock in which mode, whose wishes are noted, and who has taken the log of a dead
+//! server until when. The contract of each call is the definition's answer and next state, exactly, and in every table holders
+//! are compatible. It stands on the definitions of locks, and nothing in a contract says how the table lies in memory.
+#![tactic(auto)]
+
+mod clerk;
+mod clerks;
+mod logs;
+mod modes;
+mod table;
+
+pub use lock_definitions::{AskedFor, LogTaken, Wanted};
+pub use table::LockTable;
