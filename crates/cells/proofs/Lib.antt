@@ -1,3 +1,7 @@
 pub mod Basics
 pub mod Blocks
 pub mod Histories
+pub mod Removals
+pub mod More
+pub mod Seen
+pub mod Plans
