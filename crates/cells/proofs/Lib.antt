@@ -5,3 +5,4 @@ pub mod Removals
 pub mod More
 pub mod Seen
 pub mod Plans
+pub mod Bytes
