@@ -1,0 +1,5 @@
+pub mod World
+pub mod Guards
+pub mod Steps
+pub mod Claims
+pub mod Logged
