@@ -1,1 +1,3 @@
-
+pub mod Leases
+pub mod Locks
+pub mod Doing

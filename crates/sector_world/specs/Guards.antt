@@ -191,7 +191,7 @@ pub record CanIssue (w : World) (a s : ℕ) (block : Block) (mark : ℕ) : Type 
   pub logged : mark ≤ w.acked a
   pub alone : w.flight s ≡ None
 
-pub record CanRedo (w : World) (r : Rescue) (s : ℕ) (block : Block) : Type 0 where
+pub record CanReplay (w : World) (r : Rescue) (s : ℕ) (block : Block) : Type 0 where
   pub going : w.rescue ≡ Some r
   pub wanted : r.told s ≡ Wanted block
   pub alone : w.flight s ≡ None

@@ -14,7 +14,7 @@ use Rattle.sector_world.specs.World.Phase.{Off, Up, Dead}
 use Rattle.sector_world.specs.World.Slot.{Absent, Clean, Dirty}
 use Rattle.sector_world.specs.World.Page.{NoPage, CleanPage, DirtyPage, FreedPage}
 use Rattle.sector_world.specs.World.Told.{Unread, Wanted, InPlace}
-use Rattle.sector_world.specs.Guards.{to_replay, CanRenew, CanMount, CanUnmount, CanTake, CanGive, CanLower, CanDo, CanReach, CanAck, CanSync, CanReclaim, CanBegin, CanFinish, CanFetch, CanIssue, CanRedo, CanLand, CanFade, CanFetchBytes, CanClear, CanIssueBytes, CanLandBytes, CanFadeBytes, CanSettle}
+use Rattle.sector_world.specs.Guards.{to_replay, CanRenew, CanMount, CanUnmount, CanTake, CanGive, CanLower, CanDo, CanReach, CanAck, CanSync, CanReclaim, CanBegin, CanFinish, CanFetch, CanIssue, CanReplay, CanLand, CanFade, CanFetchBytes, CanClear, CanIssueBytes, CanLandBytes, CanFadeBytes, CanSettle}
 
 pub data Event : Type 0 where
   Tick : Event
@@ -36,7 +36,7 @@ pub data Event : Type 0 where
   Finish : (r : Rescue) → Event
   Fetch : (a s : ℕ) → Event
   Issue : (a s : ℕ) → (block : Block) → (mark : ℕ) → Event
-  Redo : (r : Rescue) → (s : ℕ) → (block : Block) → Event
+  Replay : (r : Rescue) → (s : ℕ) → (block : Block) → Event
   Land : (s : ℕ) → (f : Flight) → Event
   Fade : (s : ℕ) → (f : Flight) → Event
   Break : (s : ℕ) → (f : Flight) → Event
@@ -70,7 +70,7 @@ Can w (Look r s) = w.rescue ≡ Some r
 Can w (Finish r) = CanFinish w r
 Can w (Fetch a s) = CanFetch w a s
 Can w (Issue a s block mark) = CanIssue w a s block mark
-Can w (Redo r s block) = CanRedo w r s block
+Can w (Replay r s block) = CanReplay w r s block
 Can w (Land s f) = CanLand w s f
 Can w (Fade s f) = CanFade w s f
 Can w (Break s f) = CanLand w s f
@@ -206,7 +206,7 @@ after w (Finish r) = record w {
 }
 after w (Fetch a s) = record w { slot = put2 w.slot a s (Clean (w.disk s)) }
 after w (Issue a s block mark) = record w { flight = put w.flight s (Some (record { by = a; behalf = a; stamp = w.expiry a - 15; block = block })) }
-after w (Redo r s block) = record w { flight = put w.flight s (Some (record { by = r.by; behalf = r.dead; stamp = w.expiry r.by - 15; block = block })) }
+after w (Replay r s block) = record w { flight = put w.flight s (Some (record { by = r.by; behalf = r.dead; stamp = w.expiry r.by - 15; block = block })) }
 after w (Land s f) = record w {
   disk = put w.disk s f.block;
   flight = put w.flight s None;

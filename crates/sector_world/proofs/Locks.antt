@@ -1,0 +1,341 @@
+-- Taking and giving locks, fetching.
+use Rattle.std.proofs.Common.{true, false, zero, suc, List, [], ◌∷◌, Bool, IsTrue, IsSome, if◌then◌else◌, ⊎_elim, le_refl, le_trans, ℕ, ◌+◌, ◌-◌, ◌<◌, ◌≤◌, ◌≡◌, ◌≢◌, ◌⊎◌, ◌&&◌, inl, inr, Option, Some, None, nat_eq, nat_lt, nat_le, refl, sym, ◌∙◌, ap, subst, arith}
+use Rattle.std.proofs.lemmas.Bool.Decides.{nat_tests}
+use Rattle.frang_base.specs.declared.change.Change.{Change}
+use Rattle.frang_base.specs.declared.lock.LockId.{LockId}
+use Rattle.frang_base.specs.declared.lock.Mode.{Mode}
+use Rattle.frang_base.specs.declared.lock.Mode.TheVariants.{Shared, Sole}
+use Rattle.cells.specs.Blocks.{Block, version, edited, zeros, same_block}
+use Rattle.cells.specs.Changes.{Redo, change_at, forced, redone, redo_all, keep_if, up_to, above, member, same_lock, has_lock, put, put2, put_lock}
+use Rattle.cells.specs.Histories.{Fill, Commit, Item, Entry, redo_of, kept, survives, in_doubt, synced_of, recovered, settled, is_left, logical, is_own, own, Each, Changes, Moves, Writes, touches, reaches, OpsRise, Named, IsLast, is_logged}
+use Rattle.cells.specs.Histories.Item.{Done, Doubt}
+use Rattle.cells.specs.OnDisk.{Raises, Rising, AllDurable, OnDisk}
+use Rattle.cells.specs.OnDisk.OnDisk.{in_place, pending, passed}
+use Rattle.cells.specs.Seen.{moved, cover_of, Alters, Meets, IsLost, SawNone, Unseen, UsedNone, Unmet, Unsynced, Kept}
+use Rattle.cells.proofs.Basics.{by_test, eq_of, ne_of, le_of, gt_of, of_le, of_gt, of_lt, of_ge, of_eq, of_ne, le_or_lt, or_equal, true_or, by_some, some_or, some_same, lock_of, lock_same, lock_not, at_put, put_same, put_other, at_put2, at_lock, by_keep}
+use Rattle.cells.proofs.Blocks.{edited_version, same_block_is, same_block_refl}
+use Rattle.cells.proofs.Histories.{AtMost, each_map, each_map2, each_kept, rising_bound, kept_version, rising_kept, all_skipped, kept_logical, replayed_is, on_disk_map, lost_pending, all_durable, unchanged, all_in_place, pending_or_not, in_place_or, disk_version, on_disk_kept, redo_keep, up_keep}
+use Rattle.cells.proofs.Removals.{survives_other, survives_own, survives_low, ops_kept, own_none, own_kept, all_durable_kept, last_kept, named_keep, last_named, redo_named}
+use Rattle.cells.proofs.More.{at_most_more, IsAbove, on_disk_more, all_durable_each, all_settled, last_pending, replay_place, redo_twice, named_more}
+use Rattle.cells.proofs.Seen.{unseen_kept, unseen_more, unmet_kept, unmet_more, unsynced_more, cover_kept, clear_survives, each_all, each_kept_with}
+use Rattle.sector_world.specs.World.{World, Phase, Slot, Page, Flight, ByteFlight, Told, Rescue, cover, has_version}
+use Rattle.sector_world.specs.World.Phase.{Off, Up, Dead}
+use Rattle.sector_world.specs.World.Slot.{Absent, Clean, Dirty}
+use Rattle.sector_world.specs.World.Told.{Unread, Wanted, InPlace}
+use Rattle.sector_world.specs.Guards.{Fits, NotDirty, NoDirtyPage, Based, Owned, MovesOwned, IsBelow, AreBelow, NoneNames, to_replay, CanTake, CanGive, CanLower, CanDo, CanReach, CanAck, CanSync, CanReclaim, CanBegin, CanFinish, CanFetch, CanIssue, CanReplay, CanLand}
+use Rattle.sector_world.specs.Steps.{after, changed, landed, rescue_landed, rescue_left, extended, found}
+use Rattle.sector_world.specs.Steps.Event.{Tick, Leave, Renew, Mount, Unmount, Take, Give, Lower, Do, Reach, Ack, Sync, Reclaim, Crash, Begin, Look, Finish, Fetch, Issue, Replay, Land, Fade, Break, BreakNew}
+use Rattle.sector_world.specs.Claims.{now_of, IsCopy}
+use Rattle.sector_world.specs.Logged.{Logged, IsNewer, Covers, Pending, HeldIf, IsAhead, NoneIfOff, AbsentUnlessUp, Agrees, IsOwn, IsRescue, FlightOk, ToldOk, RescueOk}
+
+fits_sole_none : (m : Option Mode) → Fits Sole m → m ≢ None → ⊥
+fits_sole_none None f n = n refl
+fits_sole_none (Some Shared) f n = f
+fits_sole_none (Some Sole) f n = f
+
+fits_none : (m : Mode) → Fits m (Some Sole) → ⊥
+fits_none Shared f = f
+fits_none Sole f = f
+
+held_more : (x : Slot) (old new : Option Mode) → old ≢ Some Sole → new ≢ None → HeldIf x old → HeldIf x new
+held_more Absent old new n m h = tt
+held_more (Clean block) old new n m h = m
+held_more (Dirty block mark) old new n m h = absurd (n h)
+
+none_if_up : (p : Phase) (m : Option Mode) → p ≡ Up → NoneIfOff p m
+none_if_up Off m e = absurd (cc)
+none_if_up Up m e = tt
+none_if_up Dead m e = tt
+
+pub logged_take : (w : World) (a : ℕ) (l : LockId) (mode : Mode) → CanTake w a l mode → Logged w → Logged (after w (Take a l mode))
+logged_take w a l mode can g =
+    let sole : (b : ℕ) (k : LockId) → w.holds b k ≡ Some Sole → put_lock w.holds a l (Some mode) b k ≡ Some Sole = λ b k h.
+    at_lock (λ m. m ≡ Some Sole) w.holds a l (Some mode) b k (λ e f. absurd (can.more (cc))) (λ o. h) in
+    let goes : (s : ℕ) (block : Block) → OnDisk w.opening w.durable s (Pending w s) block (settled w.history) → OnDisk w.opening w.durable s (Pending (after w (Take a l mode)) s) block (settled w.history) = λ s block o.
+    on_disk_map w.opening w.durable w.durable s (Pending w s) (Pending (after w (Take a l mode)) s) block (λ d. le_refl (w.durable d))
+    (λ c i q. record { sole = sole c.by (cover w s) q.sole; above = q.above; covered = q.covered }) (settled w.history) o in
+    record {
+      logs = g.logs;
+      apart = λ b d t. at_lock (λ m. m ≡ Some Sole → put_lock w.holds a l (Some mode) d t ≢ None → b ≡ d) w.holds a l (Some mode) b t
+          (λ e f m. at_lock (λ x. x ≢ None → b ≡ d) w.holds a l (Some mode) d t
+          (λ i j n. e ∙ sym i)
+          (λ o n. let other : d ≢ a = λ q. o q f in
+          let fits : Fits Sole (w.holds d l) = subst (λ x. Fits x (w.holds d l)) (some_same mode Sole m) (can.fits d other) in
+          absurd (fits_sole_none (w.holds d l) fits (subst (λ x. w.holds d x ≢ None) f n))))
+          (λ o m. at_lock (λ x. x ≢ None → b ≡ d) w.holds a l (Some mode) d t
+          (λ i j n. let other : b ≢ a = λ q. o q j in
+          let was : w.holds b l ≡ Some Sole = subst (λ x. w.holds b x ≡ Some Sole) j m in
+          absurd (fits_none mode (subst (λ x. Fits mode x) was (can.fits b other))))
+          (λ i n. g.apart b d t m n));
+      known = g.known;
+      off_free = λ b t. at_lock (λ m. NoneIfOff (w.phase b) m) w.holds a l (Some mode) b t (λ e f. none_if_up (w.phase b) (Some mode) (ap w.phase e ∙ can.up)) (λ o. g.off_free b t);
+      rested = g.rested;
+      not_up = g.not_up;
+      held = λ b s. at_lock (λ m. HeldIf (w.slot b s) m) w.holds a l (Some mode) b (cover w s)
+          (λ e f. let was : w.holds b (cover w s) ≢ Some Sole = λ q. can.more (cc) in held_more (w.slot b s) (w.holds b (cover w s)) (Some mode) was (λ x. cc) (g.held b s))
+          (λ o. g.held b s);
+      copies = g.copies;
+      ahead = g.ahead;
+      newer = g.newer;
+      place = λ s. goes s (w.disk s) (g.place s);
+      locked = each_map (λ e. w.durable e.by < e.op → (k : LockId) → IsTrue (has_lock k e.alone) → w.holds e.by k ≡ Some Sole) (λ e. w.durable e.by < e.op → (k : LockId) → IsTrue (has_lock k e.alone) → put_lock w.holds a l (Some mode) e.by k ≡ Some Sole)
+          (λ e m n k i. sole e.by k (m n k i)) (settled w.history) g.locked;
+      firm = λ s. each_map (λ e. Alters s e → w.durable e.by < e.op → w.holds e.by (cover w s) ≡ Some Sole) (λ e. Alters s e → w.durable e.by < e.op → put_lock w.holds a l (Some mode) e.by (cover w s) ≡ Some Sole)
+          (λ e m i n. sole e.by (cover w s) (m i n)) (settled w.history) (g.firm s);
+      rising = g.rising;
+      ops = g.ops;
+      below = g.below;
+      reached = g.reached;
+      acks = g.acks;
+      floored = g.floored;
+      unseen = g.unseen;
+      unmet = g.unmet;
+      unsynced = g.unsynced;
+      was_kept = g.was_kept;
+      flights = λ s f e n. let q : FlightOk w s f = g.flights s f e n in
+          record { place = goes s f.block q.place; higher = q.higher; sole = sole f.behalf (cover w s) q.sole; named = q.named; source = q.source };
+      rescued = g.rescued;
+    }
+
+not_covered : (x : Slot) (op : ℕ) → NotDirty x → Covers Up x op → ⊥
+not_covered Absent op n c = c
+not_covered (Clean block) op n c = c
+not_covered (Dirty block mark) op n c = n
+
+free_ok : (p : Phase) → NoneIfOff p None
+free_ok Off = refl
+free_ok Up = tt
+free_ok Dead = tt
+
+absent_ok : (p : Phase) → AbsentUnlessUp p Absent
+absent_ok Off = refl
+absent_ok Up = tt
+absent_ok Dead = refl
+
+module _ (w : World) (a : ℕ) (l : LockId) (can : CanGive w a l) (g : Logged w) where
+  -- a fact of a slot after the lock is given
+  at_slot : (P : Slot → Type 0) (b s : ℕ) → (b ≡ a → cover w s ≡ l → P Absent) → ((b ≡ a → cover w s ≢ l) → P (w.slot b s)) → P ((after w (Give a l)).slot b s)
+  at_slot P b s same other =
+      at_put (λ f. P (f s)) w.slot a (λ t. if same_lock (cover w t) l then Absent else w.slot a t) b
+      (λ e. by_test P Absent (w.slot a s) (same_lock (cover w s) l)
+      (λ i. same e (lock_of (cover w s) l i))
+      (λ i. subst (λ x. P (w.slot x s)) e (other (λ j. lock_not (cover w s) l i))))
+      (λ n. other (λ e. absurd (n e)))
+
+  sole : (b : ℕ) (k : LockId) → (b ≡ a → k ≢ l) → w.holds b k ≡ Some Sole → put_lock w.holds a l None b k ≡ Some Sole
+  sole b k n h = at_lock (λ m. m ≡ Some Sole) w.holds a l None b k (λ e f. absurd (n e f)) (λ o. h)
+
+  none : (s : ℕ) (c : Commit) → Pending w s c → c.by ≡ a → cover w s ≢ l
+  none s c q e f =
+      not_covered (w.slot a s) c.op (can.clean s f)
+      (subst (λ x. Covers x (w.slot a s) c.op) can.up (subst (λ x. Covers (w.phase x) (w.slot x s) c.op) e q.covered))
+
+  goes : (s : ℕ) (block : Block) → OnDisk w.opening w.durable s (Pending w s) block (settled w.history) → OnDisk w.opening w.durable s (Pending (after w (Give a l)) s) block (settled w.history)
+  goes s block o =
+      on_disk_map w.opening w.durable w.durable s (Pending w s) (Pending (after w (Give a l)) s) block (λ d. le_refl (w.durable d))
+      (λ c i q. record {
+        sole = sole c.by (cover w s) (none s c q) q.sole;
+        above = q.above;
+        covered = at_slot (λ x. Covers (w.phase c.by) x c.op) c.by s (λ e f. absurd (none s c q e f)) (λ n. q.covered);
+      })
+      (settled w.history) o
+
+  give_firm : (s : ℕ) → Each (λ e. Alters s e → w.durable e.by < e.op → put_lock w.holds a l None e.by (cover w s) ≡ Some Sole) (settled w.history)
+  give_firm s = each_map2 (λ e. Alters s e → w.durable e.by < e.op → w.holds e.by (cover w s) ≡ Some Sole) (λ e. e.op ≤ w.last e.by) (λ e. Alters s e → w.durable e.by < e.op → put_lock w.holds a l None e.by (cover w s) ≡ Some Sole)
+      (λ e m b i n. sole e.by (cover w s)
+      (λ j k. let h : w.holds a l ≡ Some Sole = subst (λ x. w.holds x l ≡ Some Sole) j (subst (λ x. w.holds e.by x ≡ Some Sole) k (m i n)) in
+      let u : w.last a ≤ w.acked a = can.logged h in
+      let v : w.acked a ≤ w.durable a = g.acks a in
+      let x : w.last e.by ≡ w.last a = ap w.last j in
+      let y : w.durable e.by ≡ w.durable a = ap w.durable j in absurd (omega arith))
+      (m i n))
+      (settled w.history) (g.firm s) g.below
+
+  give_flight : (s : ℕ) (f : Flight) → w.flight s ≡ Some f → w.now ≤ f.stamp → FlightOk (after w (Give a l)) s f
+  give_flight s f e n =
+      let q : FlightOk w s f = g.flights s f e n in
+      record {
+        place = goes s f.block q.place;
+        higher = q.higher;
+        named = q.named;
+        sole = sole f.behalf (cover w s) (λ i j. ⊎_elim (λ o. can.landed s f j e n o.same (o.same ∙ i)) (λ o. let u = can.up in let v = o.dead in let z : w.phase f.behalf ≡ w.phase a = ap w.phase i in cc) q.source) q.sole;
+        source = ⊎_elim (λ o. inl (record {
+          same = o.same;
+          lease = o.lease;
+          agrees = at_slot (λ x. Agrees (w.phase f.by) x f.block) f.by s (λ i j. absurd (can.landed s f j e n o.same i)) (λ i. o.agrees);
+        })) (λ o. inr o) q.source;
+      }
+
+  pub logged_give : Logged (after w (Give a l))
+  logged_give = record {
+    logs = g.logs;
+    apart = λ b d t. at_lock (λ m. m ≡ Some Sole → put_lock w.holds a l None d t ≢ None → b ≡ d) w.holds a l None b t
+        (λ e f m. absurd (cc))
+        (λ o m. at_lock (λ x. x ≢ None → b ≡ d) w.holds a l None d t (λ i j n. absurd (n refl)) (λ i n. g.apart b d t m n));
+    known = g.known;
+    off_free = λ b t. at_lock (λ m. NoneIfOff (w.phase b) m) w.holds a l None b t (λ e f. free_ok (w.phase b)) (λ o. g.off_free b t);
+    rested = g.rested;
+    not_up = λ b s. at_slot (λ x. AbsentUnlessUp (w.phase b) x) b s (λ e f. absent_ok (w.phase b)) (λ n. g.not_up b s);
+    held = λ b s. at_slot (λ x. HeldIf x (put_lock w.holds a l None b (cover w s))) b s (λ e f. tt)
+        (λ n. at_lock (λ m. HeldIf (w.slot b s) m) w.holds a l None b (cover w s) (λ e f. absurd (n e f)) (λ i. g.held b s));
+    copies = λ b s. at_slot (λ x. IsCopy x (now_of w s)) b s (λ e f. tt) (λ n. g.copies b s);
+    newer = λ b s k. at_slot (λ x. IsNewer (w.disk s) x) b s (λ e f. tt) (λ n. g.newer b s k);
+    ahead = λ b s. at_slot (λ x. IsAhead (w.last b) s b (settled w.history) x) b s (λ e f. tt) (λ n. g.ahead b s);
+    place = λ s. goes s (w.disk s) (g.place s);
+    firm = give_firm;
+    locked = each_map2 (λ e. w.durable e.by < e.op → (k : LockId) → IsTrue (has_lock k e.alone) → w.holds e.by k ≡ Some Sole) (λ e. e.op ≤ w.last e.by) (λ e. w.durable e.by < e.op → (k : LockId) → IsTrue (has_lock k e.alone) → put_lock w.holds a l None e.by k ≡ Some Sole)
+        (λ e m b n k i. sole e.by k
+        (λ j q. let h : w.holds a l ≡ Some Sole = subst (λ x. w.holds x l ≡ Some Sole) j (subst (λ x. w.holds e.by x ≡ Some Sole) q (m n k i)) in
+        let u : w.last a ≤ w.acked a = can.logged h in
+        let v : w.acked a ≤ w.durable a = g.acks a in
+        let x : w.last e.by ≡ w.last a = ap w.last j in
+        let y : w.durable e.by ≡ w.durable a = ap w.durable j in absurd (omega arith))
+        (m n k i))
+        (settled w.history) g.locked g.below;
+    rising = g.rising;
+    ops = g.ops;
+    below = g.below;
+    reached = g.reached;
+    acks = g.acks;
+    floored = g.floored;
+    unseen = g.unseen;
+    unmet = g.unmet;
+    unsynced = g.unsynced;
+    was_kept = g.was_kept;
+    flights = give_flight;
+    rescued = g.rescued;
+  }
+
+lower_held : (x : Slot) (m : Option Mode) → NotDirty x → HeldIf x m → HeldIf x (Some Shared)
+lower_held Absent m n h = tt
+lower_held (Clean z) m n h = λ e. cc
+lower_held (Dirty z mark) m n h = absurd n
+
+-- a lock that was held alone is held shared: as when it is given, but what is cached stays
+module _ (w : World) (a : ℕ) (l : LockId) (can : CanGive w a l) (alone : w.holds a l ≡ Some Sole) (g : Logged w) where
+  lower_sole : (b : ℕ) (k : LockId) → (b ≡ a → k ≢ l) → w.holds b k ≡ Some Sole → put_lock w.holds a l (Some Shared) b k ≡ Some Sole
+  lower_sole b k n h = at_lock (λ m. m ≡ Some Sole) w.holds a l (Some Shared) b k (λ e f. absurd (n e f)) (λ o. h)
+
+  lower_goes : (s : ℕ) (block : Block) → OnDisk w.opening w.durable s (Pending w s) block (settled w.history) → OnDisk w.opening w.durable s (Pending (after w (Lower a l)) s) block (settled w.history)
+  lower_goes s block o =
+      on_disk_map w.opening w.durable w.durable s (Pending w s) (Pending (after w (Lower a l)) s) block (λ d. le_refl (w.durable d))
+      (λ c i q. record { sole = lower_sole c.by (cover w s) (none w a l can g s c q) q.sole; above = q.above; covered = q.covered }) (settled w.history) o
+
+  not_durable : (e : Commit) → w.durable e.by < e.op → e.op ≤ w.last e.by → (k : LockId) → e.by ≡ a → k ≢ l
+  not_durable e n b k j q =
+      let u : w.last a ≤ w.acked a = can.logged alone in
+      let v : w.acked a ≤ w.durable a = g.acks a in
+      let x : w.last e.by ≡ w.last a = ap w.last j in
+      let y : w.durable e.by ≡ w.durable a = ap w.durable j in absurd (omega arith)
+
+  pub logged_lower : Logged (after w (Lower a l))
+  logged_lower = record {
+    logs = g.logs;
+    apart = λ b d t. at_lock (λ m. m ≡ Some Sole → put_lock w.holds a l (Some Shared) d t ≢ None → b ≡ d) w.holds a l (Some Shared) b t
+        (λ e f m. absurd (cc))
+        (λ o m. at_lock (λ x. x ≢ None → b ≡ d) w.holds a l (Some Shared) d t
+        (λ i j n. g.apart b d t m (λ q. let z : w.holds d t ≡ Some Sole = ap (λ x. w.holds x t) i ∙ ap (w.holds a) j ∙ alone in cc)) (λ i n. g.apart b d t m n));
+    known = g.known;
+    off_free = λ b t. at_lock (λ m. NoneIfOff (w.phase b) m) w.holds a l (Some Shared) b t (λ e f. none_if_up (w.phase b) (Some Shared) (ap w.phase e ∙ can.up)) (λ o. g.off_free b t);
+    rested = g.rested;
+    not_up = g.not_up;
+    held = λ b s. at_lock (λ m. HeldIf (w.slot b s) m) w.holds a l (Some Shared) b (cover w s)
+        (λ e f. lower_held (w.slot b s) (w.holds b (cover w s)) (subst (λ x. NotDirty (w.slot x s)) (sym e) (can.clean s f)) (g.held b s)) (λ i. g.held b s);
+    copies = g.copies;
+    ahead = g.ahead;
+    newer = g.newer;
+    place = λ s. lower_goes s (w.disk s) (g.place s);
+    firm = λ s. each_map2 (λ e. Alters s e → w.durable e.by < e.op → w.holds e.by (cover w s) ≡ Some Sole) (λ e. e.op ≤ w.last e.by) (λ e. Alters s e → w.durable e.by < e.op → put_lock w.holds a l (Some Shared) e.by (cover w s) ≡ Some Sole)
+        (λ e m b i n. lower_sole e.by (cover w s) (not_durable e n b (cover w s)) (m i n)) (settled w.history) (g.firm s) g.below;
+    locked = each_map2 (λ e. w.durable e.by < e.op → (k : LockId) → IsTrue (has_lock k e.alone) → w.holds e.by k ≡ Some Sole) (λ e. e.op ≤ w.last e.by) (λ e. w.durable e.by < e.op → (k : LockId) → IsTrue (has_lock k e.alone) → put_lock w.holds a l (Some Shared) e.by k ≡ Some Sole)
+        (λ e m b n k i. lower_sole e.by k (not_durable e n b k) (m n k i)) (settled w.history) g.locked g.below;
+    rising = g.rising;
+    ops = g.ops;
+    below = g.below;
+    reached = g.reached;
+    acks = g.acks;
+    floored = g.floored;
+    unseen = g.unseen;
+    unmet = g.unmet;
+    unsynced = g.unsynced;
+    was_kept = g.was_kept;
+    flights = λ s f e n. let q : FlightOk w s f = g.flights s f e n in
+        record {
+          place = lower_goes s f.block q.place;
+          higher = q.higher;
+          named = q.named;
+          source = q.source;
+          sole = lower_sole f.behalf (cover w s) (λ i j. ⊎_elim (λ o. can.landed s f j e n o.same (o.same ∙ i)) (λ o. let u = can.up in let v = o.dead in let z : w.phase f.behalf ≡ w.phase a = ap w.phase i in cc) q.source) q.sole;
+        };
+    rescued = g.rescued;
+  }
+
+up_ok : (p : Phase) (x : Slot) → p ≡ Up → AbsentUnlessUp p x
+up_ok Off x e = absurd (cc)
+up_ok Up x e = tt
+up_ok Dead x e = absurd (cc)
+
+module _ (w : World) (a s : ℕ) (can : CanFetch w a s) (g : Logged w) where
+  fetch_none : (c : Commit) → c.by ≡ a → Pending w s c → ⊥
+  fetch_none c e p =
+      let m : w.slot c.by s ≡ Absent = ap (λ x. w.slot x s) e ∙ can.absent in
+      let u : w.phase c.by ≡ Up = ap w.phase e ∙ can.up in
+      subst (λ x. Covers Up x c.op) m (subst (λ x. Covers x (w.slot c.by s) c.op) u p.covered)
+
+  fetch_now : w.disk s ≡ now_of w s
+  fetch_now = all_in_place w.opening w.durable s (Pending w s) (w.disk s) (λ c i p. fetch_none c (g.apart c.by a (cover w s) p.sole can.held) p) (settled w.history) (g.place s)
+
+  fetch_goes : (t : ℕ) (block : Block) → OnDisk w.opening w.durable t (Pending w t) block (settled w.history) → OnDisk w.opening w.durable t (Pending (after w (Fetch a s)) t) block (settled w.history)
+  fetch_goes t block o =
+      on_disk_map w.opening w.durable w.durable t (Pending w t) (Pending (after w (Fetch a s)) t) block (λ d. le_refl (w.durable d))
+      (λ c i q. record {
+        sole = q.sole;
+        above = q.above;
+        covered = at_put2 (λ x. Covers (w.phase c.by) x c.op) w.slot a s (Clean (w.disk s)) c.by t (λ e f. absurd (fetch_none c e (subst (λ x. Pending w x c) f q))) (λ n. q.covered);
+      })
+      (settled w.history) o
+
+  pub logged_fetch : Logged (after w (Fetch a s))
+  logged_fetch = record {
+    logs = g.logs;
+    apart = g.apart;
+    known = g.known;
+    off_free = g.off_free;
+    rested = g.rested;
+    not_up = λ b t. at_put2 (λ x. AbsentUnlessUp (w.phase b) x) w.slot a s (Clean (w.disk s)) b t (λ e f. up_ok (w.phase b) (Clean (w.disk s)) (ap w.phase e ∙ can.up)) (λ o. g.not_up b t);
+    held = λ b t. at_put2 (λ x. HeldIf x (w.holds b (cover w t))) w.slot a s (Clean (w.disk s)) b t
+        (λ e f. subst (λ x. w.holds x (cover w t) ≢ None) (sym e) (subst (λ x. w.holds a (cover w x) ≢ None) (sym f) can.held)) (λ o. g.held b t);
+    copies = λ b t. at_put2 (λ x. IsCopy x (now_of w t)) w.slot a s (Clean (w.disk s)) b t (λ e f. fetch_now ∙ ap (now_of w) (sym f)) (λ o. g.copies b t);
+    newer = λ b t k. at_put2 (λ x. IsNewer (w.disk t) x) w.slot a s (Clean (w.disk s)) b t (λ e f. tt) (λ o. g.newer b t k);
+    ahead = λ b t. at_put2 (λ x. IsAhead (w.last b) t b (settled w.history) x) w.slot a s (Clean (w.disk s)) b t (λ e f. tt) (λ o. g.ahead b t);
+    place = λ t. fetch_goes t (w.disk t) (g.place t);
+    firm = g.firm;
+    locked = g.locked;
+    rising = g.rising;
+    ops = g.ops;
+    below = g.below;
+    reached = g.reached;
+    acks = g.acks;
+    floored = g.floored;
+    unseen = g.unseen;
+    unmet = g.unmet;
+    unsynced = g.unsynced;
+    was_kept = g.was_kept;
+    flights = λ t f e n. let q : FlightOk w t f = g.flights t f e n in
+        record {
+          place = fetch_goes t f.block q.place;
+          higher = q.higher;
+          sole = q.sole;
+          named = q.named;
+          source = ⊎_elim (λ o. inl (record {
+            same = o.same;
+            lease = o.lease;
+            agrees = at_put2 (λ x. Agrees (w.phase f.by) x f.block) w.slot a s (Clean (w.disk s)) f.by t
+                (λ i j. let u : w.phase f.by ≡ Up = ap w.phase i ∙ can.up in
+                let v : w.slot f.by t ≡ Absent = ap (λ x. w.slot x t) i ∙ ap (w.slot a) j ∙ can.absent in
+                absurd (subst (λ x. Agrees Up x f.block) v (subst (λ x. Agrees x (w.slot f.by t) f.block) u o.agrees)))
+                (λ i. o.agrees);
+          })) (λ o. inr o) q.source;
+        };
+    rescued = g.rescued;
+  }
