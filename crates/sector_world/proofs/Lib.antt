@@ -1,3 +1,5 @@
 pub mod Leases
 pub mod Locks
 pub mod Doing
+pub mod Reaching
+pub mod Landing

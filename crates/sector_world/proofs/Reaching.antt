@@ -1,0 +1,254 @@
+-- What comes to the disk: parts of logs, and writes of sectors that were in flight.
+use Rattle.std.proofs.Common.{true, false, zero, suc, List, [], ◌∷◌, Bool, IsTrue, IsSome, if◌then◌else◌, ⊎_elim, le_refl, le_trans, ℕ, ◌+◌, ◌-◌, ◌<◌, ◌≤◌, ◌≡◌, ◌≢◌, ◌⊎◌, ◌&&◌, inl, inr, Option, Some, None, nat_eq, nat_lt, nat_le, refl, sym, ◌∙◌, ap, subst, arith}
+use Rattle.std.proofs.lemmas.Bool.Decides.{nat_tests}
+use Rattle.frang_base.specs.declared.change.Change.{Change}
+use Rattle.frang_base.specs.declared.lock.LockId.{LockId}
+use Rattle.frang_base.specs.declared.lock.Mode.{Mode}
+use Rattle.frang_base.specs.declared.lock.Mode.TheVariants.{Shared, Sole}
+use Rattle.cells.specs.Blocks.{Block, version, edited, zeros, same_block}
+use Rattle.cells.specs.Changes.{Redo, change_at, forced, redone, redo_all, keep_if, up_to, above, member, same_lock, has_lock, put, put2, put_lock}
+use Rattle.cells.specs.Histories.{Fill, Commit, Item, Entry, redo_of, kept, survives, in_doubt, synced_of, recovered, settled, is_left, logical, is_own, own, Each, Changes, Moves, Writes, touches, reaches, OpsRise, Named, IsLast, is_logged}
+use Rattle.cells.specs.Histories.Item.{Done, Doubt}
+use Rattle.cells.specs.OnDisk.{Raises, Rising, AllDurable, OnDisk}
+use Rattle.cells.specs.OnDisk.OnDisk.{in_place, pending, passed}
+use Rattle.cells.specs.Seen.{moved, cover_of, Alters, Meets, IsLost, SawNone, Unseen, UsedNone, Unmet, Unsynced, Kept}
+use Rattle.cells.proofs.Basics.{by_test, eq_of, ne_of, le_of, gt_of, of_le, of_gt, of_lt, of_ge, of_eq, of_ne, le_or_lt, or_equal, true_or, by_some, some_or, some_same, lock_of, lock_same, lock_not, at_put, put_same, put_other, at_put2, at_lock, by_keep}
+use Rattle.cells.proofs.Blocks.{edited_version, same_block_is, same_block_refl}
+use Rattle.cells.proofs.Histories.{AtMost, each_map, each_map2, each_kept, rising_bound, kept_version, rising_kept, all_skipped, kept_logical, replayed_is, on_disk_map, lost_pending, all_durable, unchanged, all_in_place, pending_or_not, in_place_or, disk_version, on_disk_kept, redo_keep, up_keep}
+use Rattle.cells.proofs.Removals.{survives_other, survives_own, survives_low, ops_kept, own_none, own_kept, all_durable_kept, last_kept, named_keep, last_named, redo_named}
+use Rattle.cells.proofs.More.{at_most_more, IsAbove, on_disk_more, all_durable_each, all_settled, last_pending, replay_place, redo_twice, named_more}
+use Rattle.cells.proofs.Seen.{unseen_kept, unseen_more, unmet_kept, unmet_more, unsynced_more, cover_kept, clear_survives, each_all, each_kept_with}
+use Rattle.sector_world.specs.World.{World, Phase, Slot, Page, Flight, ByteFlight, Told, Rescue, cover, has_version}
+use Rattle.sector_world.specs.World.Phase.{Off, Up, Dead}
+use Rattle.sector_world.specs.World.Slot.{Absent, Clean, Dirty}
+use Rattle.sector_world.specs.World.Told.{Unread, Wanted, InPlace}
+use Rattle.sector_world.specs.Guards.{Fits, NotDirty, NoDirtyPage, Based, Owned, MovesOwned, IsBelow, AreBelow, NoneNames, to_replay, CanTake, CanGive, CanLower, CanDo, CanReach, CanAck, CanSync, CanReclaim, CanBegin, CanFinish, CanFetch, CanIssue, CanReplay, CanLand}
+use Rattle.sector_world.specs.Steps.{after, changed, landed, rescue_landed, rescue_left, extended, found}
+use Rattle.sector_world.specs.Steps.Event.{Tick, Leave, Renew, Mount, Unmount, Take, Give, Lower, Do, Reach, Ack, Sync, Reclaim, Crash, Begin, Look, Finish, Fetch, Issue, Replay, Land, Fade, Break, BreakNew}
+use Rattle.sector_world.specs.Claims.{now_of, IsCopy}
+use Rattle.sector_world.specs.Logged.{Logged, IsNewer, Covers, Pending, HeldIf, IsAhead, NoneIfOff, AbsentUnlessUp, Agrees, IsOwn, IsRescue, FlightOk, ToldOk, RescueOk}
+
+module _ (w : World) (d k : ℕ) (can : CanReach w d k) (g : Logged w) where
+  reach_up : (e : ℕ) → w.durable e ≤ put w.durable d k e
+  reach_up e = at_put (λ x. w.durable e ≤ x) w.durable d k e (λ q. let a : w.durable d ≤ k = can.more in let b : w.durable e ≡ w.durable d = ap w.durable q in omega arith) (λ n. omega arith)
+
+  reach_goes : (s : ℕ) (block : Block) → OnDisk w.opening w.durable s (Pending w s) block (settled w.history) → OnDisk w.opening (put w.durable d k) s (Pending w s) block (settled w.history)
+  reach_goes s block o = on_disk_map w.opening w.durable (put w.durable d k) s (Pending w s) (Pending w s) block reach_up (λ c i p. p) (settled w.history) o
+
+  pub logged_reach : Logged (after w (Reach d k))
+  logged_reach = record {
+    logs = g.logs;
+    apart = g.apart;
+    known = g.known;
+    off_free = g.off_free;
+    rested = λ e i. le_trans (g.rested e i) (reach_up e);
+    not_up = g.not_up;
+    held = g.held;
+    copies = g.copies;
+    ahead = g.ahead;
+    newer = g.newer;
+    place = λ s. reach_goes s (w.disk s) (g.place s);
+    locked = each_map (λ e. w.durable e.by < e.op → (l : LockId) → IsTrue (has_lock l e.alone) → w.holds e.by l ≡ Some Sole) (λ e. put w.durable d k e.by < e.op → (l : LockId) → IsTrue (has_lock l e.alone) → w.holds e.by l ≡ Some Sole)
+        (λ e m n. let u : w.durable e.by ≤ put w.durable d k e.by = reach_up e.by in m (omega arith)) (settled w.history) g.locked;
+    firm = λ s. each_map (λ e. Alters s e → w.durable e.by < e.op → w.holds e.by (cover w s) ≡ Some Sole) (λ e. Alters s e → put w.durable d k e.by < e.op → w.holds e.by (cover w s) ≡ Some Sole)
+        (λ e m i n. let u : w.durable e.by ≤ put w.durable d k e.by = reach_up e.by in m i (omega arith)) (settled w.history) (g.firm s);
+    rising = g.rising;
+    ops = g.ops;
+    below = g.below;
+    reached = λ e. at_put (λ x. x ≤ w.last e) w.durable d k e (λ q. let a : k ≤ w.last d = can.there in let b : w.last e ≡ w.last d = ap w.last q in omega arith) (λ n. g.reached e);
+    acks = λ e. le_trans (g.acks e) (reach_up e);
+    floored = g.floored;
+    unseen = λ e. unseen_more e (w.durable e) (put w.durable d k e) (reach_up e) (settled w.history) (g.unseen e);
+    unmet = λ e. unmet_more e (w.durable e) (put w.durable d k e) (reach_up e) (settled w.history) (g.unmet e);
+    unsynced = λ e. unsynced_more e (w.durable e) (put w.durable d k e) (reach_up e) w.history (g.unsynced e);
+    was_kept = g.was_kept;
+    flights = λ s f e n. let q : FlightOk w s f = g.flights s f e n in
+        record {
+          place = reach_goes s f.block q.place;
+          higher = q.higher;
+          sole = q.sole;
+          source = q.source;
+          named = named_more (w.log f.behalf) (w.durable f.behalf) (put w.durable d k f.behalf) s (version f.block) (reach_up f.behalf) q.named;
+        };
+    rescued = λ r e. let q : RescueOk w r = g.rescued r e in
+        record {
+          dead = q.dead;
+          ended = q.ended;
+          up = q.up;
+          until = q.until;
+          told = λ s. at_put (λ x. ToldOk (r.told s) (w.disk s) (redo_all (up_to x (w.log r.dead)) s (w.disk s))) w.durable d k r.dead
+              (λ i. let u : w.now ≤ w.expiry d = can.lease in let v : w.expiry r.dead < w.now = q.ended in let x : w.expiry r.dead ≡ w.expiry d = ap w.expiry i in absurd (omega arith)) (λ i. q.told s);
+        };
+  }
+
+pub logged_ack : (w : World) (a k : ℕ) → CanAck w a k → Logged w → Logged (after w (Ack a k))
+logged_ack w a k can g = record {
+  logs = g.logs;
+  apart = g.apart;
+  known = g.known;
+  off_free = g.off_free;
+  rested = g.rested;
+  not_up = g.not_up;
+  held = g.held;
+  copies = g.copies;
+  ahead = g.ahead;
+  newer = g.newer;
+  place = g.place;
+  firm = g.firm;
+  locked = g.locked;
+  rising = g.rising;
+  ops = g.ops;
+  below = g.below;
+  reached = g.reached;
+  acks = λ e. at_put (λ x. x ≤ w.durable e) w.acked a k e (λ q. subst (λ x. k ≤ w.durable x) (sym q) can.there) (λ n. g.acks e);
+  floored = g.floored;
+  unseen = g.unseen;
+  unmet = g.unmet;
+  unsynced = g.unsynced;
+  was_kept = g.was_kept;
+  flights = g.flights;
+  rescued = g.rescued;
+}
+
+pub logged_sync : (w : World) (a : ℕ) → CanSync w a → Logged w → Logged (after w (Sync a))
+logged_sync w a can g = record {
+  logs = g.logs;
+  apart = g.apart;
+  known = g.known;
+  off_free = g.off_free;
+  rested = g.rested;
+  not_up = g.not_up;
+  held = g.held;
+  copies = g.copies;
+  ahead = g.ahead;
+  newer = g.newer;
+  place = g.place;
+  firm = g.firm;
+  locked = g.locked;
+  rising = g.rising;
+  ops = g.ops;
+  below = g.below;
+  reached = g.reached;
+  acks = g.acks;
+  floored = g.floored;
+  unseen = g.unseen;
+  unmet = g.unmet;
+  unsynced = λ d. ((λ e. let u : w.last a ≤ w.acked a = can.logged in let v : w.acked a ≤ w.durable a = g.acks a in subst (λ x. w.last a ≤ w.durable x) e (omega arith)), g.unsynced d);
+  was_kept = g.was_kept;
+  flights = g.flights;
+  rescued = g.rescued;
+}
+
+pub sole_held : (m : Option Mode) → m ≡ Some Sole → m ≢ None
+sole_held m e f = cc
+
+covered_mark : (x : Slot) (block : Block) (mark op : ℕ) → x ≡ Dirty block mark → Covers Up x op → op ≤ mark
+covered_mark x block mark op e c = subst (λ y. Covers Up y op) e c
+
+-- what a flight may be, with a new one in it
+pub at_flight : (w v : World) (s : ℕ) (f0 : Flight) → FlightOk v s f0 → ((t : ℕ) (f : Flight) → w.flight t ≡ Some f → v.now ≤ f.stamp → FlightOk v t f)
+    → (t : ℕ) (f : Flight) → put w.flight s (Some f0) t ≡ Some f → v.now ≤ f.stamp → FlightOk v t f
+at_flight w v s f0 q old t f =
+    at_put (λ x. x ≡ Some f → v.now ≤ f.stamp → FlightOk v t f) w.flight s (Some f0) t
+    (λ e i n. subst (λ x. FlightOk v t x) (some_same f0 f i) (subst (λ x. FlightOk v x f0) (sym e) q))
+    (λ n. old t f)
+
+module _ (w : World) (a s : ℕ) (block : Block) (mark : ℕ) (can : CanIssue w a s block mark) (g : Logged w) where
+  issue_sole : w.holds a (cover w s) ≡ Some Sole
+  issue_sole = subst (λ x. HeldIf x (w.holds a (cover w s))) can.dirty (g.held a s)
+
+  issue_now : block ≡ now_of w s
+  issue_now = subst (λ x. IsCopy x (now_of w s)) can.dirty (g.copies a s)
+
+  issue_ahead : IsAhead (w.last a) s a (settled w.history) (Dirty block mark)
+  issue_ahead = subst (λ x. IsAhead (w.last a) s a (settled w.history) x) can.dirty (g.ahead a s)
+
+  issue_newer : (version (w.disk s)) < (version block)
+  issue_newer = subst (IsNewer (w.disk s)) can.dirty (g.newer a s can.well)
+
+  issue_mark : mark ≤ w.durable a
+  issue_mark = le_trans can.logged (g.acks a)
+
+  issue_durable : AllDurable w.durable s (settled w.history)
+  issue_durable = all_durable w.opening w.durable s (Pending w s) (w.disk s)
+      (λ c p. let e : c.by ≡ a = g.apart c.by a (cover w s) p.sole (sole_held (w.holds a (cover w s)) issue_sole) in
+      let q : c.op ≤ mark = covered_mark (w.slot c.by s) block mark c.op (ap (λ x. w.slot x s) e ∙ can.dirty) (subst (λ x. Covers x (w.slot c.by s) c.op) (ap w.phase e ∙ can.up) p.covered) in
+      let l : mark ≤ w.durable a = issue_mark in
+      let r : w.durable c.by ≡ w.durable a = ap w.durable e in omega arith)
+      (settled w.history) (g.place s)
+
+  issue_named : Named (to_replay w a) s (version block)
+  issue_named =
+      let less : (version (w.disk s)) < (version (now_of w s)) = subst (λ x. (version (w.disk s)) < (version x)) issue_now issue_newer in
+      let p = last_pending w.opening w.durable s a mark (Pending w s) (w.disk s) (settled w.history) issue_ahead.1 less (g.place s) in
+      let fl : w.floor a < mark = subst (λ x. w.floor a < x) p.3 (subst (λ x. w.floor x < p.0.op) p.2 p.1.above) in
+      subst (λ l. Named (up_to (w.durable a) l) s (version block)) (sym (g.logs a))
+      (subst (λ x. Named (up_to (w.durable a) (own a (w.floor a) (settled w.history))) s (version x)) (sym issue_now)
+      (last_named w.opening s a mark (w.floor a) (w.durable a) fl issue_mark (settled w.history) issue_ahead.1))
+
+  issue_flight : FlightOk (after w (Issue a s block mark)) s (record { by = a; behalf = a; stamp = w.expiry a - 15; block = block })
+  issue_flight = record {
+    place = in_place issue_now issue_durable;
+    higher = issue_newer;
+    sole = issue_sole;
+    named = issue_named;
+    source = inl (record { same = refl; lease = omega arith; agrees = rw (can.up, can.dirty) (inl refl) });
+  }
+
+  pub logged_issue : Logged (after w (Issue a s block mark))
+  logged_issue = record {
+    logs = g.logs;
+    apart = g.apart;
+    known = g.known;
+    off_free = g.off_free;
+    rested = g.rested;
+    not_up = g.not_up;
+    held = g.held;
+    copies = g.copies;
+    ahead = g.ahead;
+    newer = g.newer;
+    place = g.place;
+    firm = g.firm;
+    locked = g.locked;
+    rising = g.rising;
+    ops = g.ops;
+    below = g.below;
+    reached = g.reached;
+    acks = g.acks;
+    floored = g.floored;
+    unseen = g.unseen;
+    unmet = g.unmet;
+    unsynced = g.unsynced;
+    was_kept = g.was_kept;
+    flights = at_flight w (after w (Issue a s block mark)) s (record { by = a; behalf = a; stamp = w.expiry a - 15; block = block }) issue_flight g.flights;
+    rescued = g.rescued;
+  }
+
+pub logged_fade : (w : World) (s : ℕ) (f : Flight) → Logged w → Logged (after w (Fade s f))
+logged_fade w s f g = record {
+  logs = g.logs;
+  apart = g.apart;
+  known = g.known;
+  off_free = g.off_free;
+  rested = g.rested;
+  not_up = g.not_up;
+  held = g.held;
+  copies = g.copies;
+  ahead = g.ahead;
+  newer = g.newer;
+  place = g.place;
+  firm = g.firm;
+  locked = g.locked;
+  rising = g.rising;
+  ops = g.ops;
+  below = g.below;
+  reached = g.reached;
+  acks = g.acks;
+  floored = g.floored;
+  unseen = g.unseen;
+  unmet = g.unmet;
+  unsynced = g.unsynced;
+  was_kept = g.was_kept;
+  flights = λ t h. at_put (λ x. x ≡ Some h → w.now ≤ h.stamp → FlightOk w t h) w.flight s None t (λ e i n. absurd (cc)) (λ n. g.flights t h);
+  rescued = g.rescued;
+}
