@@ -3,3 +3,7 @@ pub mod Locks
 pub mod Doing
 pub mod Reaching
 pub mod Landing
+pub mod Reclaiming
+pub mod Crashing
+pub mod Breaking
+pub mod Recovering

@@ -1,0 +1,159 @@
+-- A put fails, and leaves the old sector or the new one.
+use Rattle.std.proofs.Common.{true, false, zero, suc, List, [], ◌∷◌, Bool, IsTrue, IsSome, if◌then◌else◌, ⊎_elim, le_refl, le_trans, ℕ, ◌+◌, ◌-◌, ◌<◌, ◌≤◌, ◌≡◌, ◌≢◌, ◌⊎◌, ◌&&◌, inl, inr, Option, Some, None, nat_eq, nat_lt, nat_le, refl, sym, ◌∙◌, ap, subst, arith}
+use Rattle.std.proofs.lemmas.Bool.Decides.{nat_tests}
+use Rattle.frang_base.specs.declared.change.Change.{Change}
+use Rattle.frang_base.specs.declared.lock.LockId.{LockId}
+use Rattle.frang_base.specs.declared.lock.Mode.{Mode}
+use Rattle.frang_base.specs.declared.lock.Mode.TheVariants.{Shared, Sole}
+use Rattle.cells.specs.Blocks.{Block, version, edited, zeros, same_block}
+use Rattle.cells.specs.Changes.{Redo, change_at, forced, redone, redo_all, keep_if, up_to, above, member, same_lock, has_lock, put, put2, put_lock}
+use Rattle.cells.specs.Histories.{Fill, Commit, Item, Entry, redo_of, kept, survives, in_doubt, synced_of, recovered, settled, is_left, logical, is_own, own, Each, Changes, Moves, Writes, touches, reaches, OpsRise, Named, IsLast, is_logged}
+use Rattle.cells.specs.Histories.Item.{Done, Doubt}
+use Rattle.cells.specs.OnDisk.{Raises, Rising, AllDurable, OnDisk}
+use Rattle.cells.specs.OnDisk.OnDisk.{in_place, pending, passed}
+use Rattle.cells.specs.Seen.{moved, cover_of, Alters, Meets, IsLost, SawNone, Unseen, UsedNone, Unmet, Unsynced, Kept}
+use Rattle.cells.proofs.Basics.{by_test, eq_of, ne_of, le_of, gt_of, of_le, of_gt, of_lt, of_ge, of_eq, of_ne, le_or_lt, or_equal, true_or, by_some, some_or, some_same, lock_of, lock_same, lock_not, at_put, put_same, put_other, at_put2, at_lock, by_keep}
+use Rattle.cells.proofs.Blocks.{edited_version, same_block_is, same_block_refl}
+use Rattle.cells.proofs.Histories.{AtMost, each_map, each_map2, each_kept, rising_bound, kept_version, rising_kept, all_skipped, kept_logical, replayed_is, on_disk_map, lost_pending, all_durable, unchanged, all_in_place, pending_or_not, in_place_or, disk_version, on_disk_kept, redo_keep, up_keep}
+use Rattle.cells.proofs.Removals.{survives_other, survives_own, survives_low, ops_kept, own_none, own_kept, all_durable_kept, last_kept, named_keep, last_named, redo_named}
+use Rattle.cells.proofs.More.{at_most_more, IsAbove, on_disk_more, all_durable_each, all_settled, last_pending, replay_place, redo_twice, named_more}
+use Rattle.cells.proofs.Seen.{unseen_kept, unseen_more, unmet_kept, unmet_more, unsynced_more, cover_kept, clear_survives, each_all, each_kept_with}
+use Rattle.sector_world.specs.World.{World, Phase, Slot, Page, Flight, ByteFlight, Told, Rescue, cover, has_version}
+use Rattle.sector_world.specs.World.Phase.{Off, Up, Dead}
+use Rattle.sector_world.specs.World.Slot.{Absent, Clean, Dirty}
+use Rattle.sector_world.specs.World.Told.{Unread, Wanted, InPlace}
+use Rattle.sector_world.specs.Guards.{Fits, NotDirty, NoDirtyPage, Based, Owned, MovesOwned, IsBelow, AreBelow, NoneNames, to_replay, CanTake, CanGive, CanLower, CanDo, CanReach, CanAck, CanSync, CanReclaim, CanBegin, CanFinish, CanFetch, CanIssue, CanReplay, CanLand}
+use Rattle.sector_world.specs.Steps.{after, changed, landed, rescue_landed, rescue_left, extended, found}
+use Rattle.sector_world.specs.Steps.Event.{Tick, Leave, Renew, Mount, Unmount, Take, Give, Lower, Do, Reach, Ack, Sync, Reclaim, Crash, Begin, Look, Finish, Fetch, Issue, Replay, Land, Fade, Break, BreakNew}
+use Rattle.sector_world.specs.Claims.{now_of, IsCopy}
+use Rattle.sector_world.specs.Logged.{Logged, IsNewer, Covers, Pending, HeldIf, IsAhead, NoneIfOff, AbsentUnlessUp, Agrees, IsOwn, IsRescue, FlightOk, ToldOk, RescueOk}
+
+use Rattle.sector_world.proofs.Crashing.{left_is}
+use Rattle.sector_world.proofs.Landing.{newer_free, other_replay, told_other}
+use Rattle.sector_world.proofs.Reaching.{sole_held}
+
+-- who isn't sick now wasn't sick before
+well_before : (w : World) (a b : ℕ) → put w.sick a true b ≡ false → (w.sick b ≡ false) × (b ≢ a)
+well_before w a b = at_put (λ x. x ≡ false → (w.sick b ≡ false) × (b ≢ a)) w.sick a true b (λ e k. absurd (cc)) (λ n k. (k, n))
+
+-- a flight that is left: what a recovery wants is asked less often
+left_flight : (w : World) (a s : ℕ) (f : Flight) → FlightOk w s f → FlightOk (record w { rescue = rescue_left a w.rescue }) s f
+left_flight w a s f q = record {
+  place = q.place;
+  higher = q.higher;
+  sole = q.sole;
+  named = q.named;
+  source = ⊎_elim (λ o. inl (record { same = o.same; lease = o.lease; agrees = o.agrees }))
+      (λ o. inr (record { dead = o.dead; lease = o.lease; told = λ r i j. o.told r (left_is a w.rescue r i).0 j; rescuer = λ r i j. o.rescuer r (left_is a w.rescue r i).0 j })) q.source;
+}
+
+pub logged_break : (w : World) (s : ℕ) (f : Flight) → Logged w → Logged (after w (Break s f))
+logged_break w s f g = record {
+  logs = g.logs;
+  apart = g.apart;
+  known = g.known;
+  off_free = g.off_free;
+  rested = g.rested;
+  not_up = g.not_up;
+  held = g.held;
+  copies = g.copies;
+  ahead = g.ahead;
+  newer = λ b t k. g.newer b t (well_before w f.by b k).0;
+  place = g.place;
+  firm = g.firm;
+  locked = g.locked;
+  rising = g.rising;
+  ops = g.ops;
+  below = g.below;
+  reached = g.reached;
+  acks = g.acks;
+  floored = g.floored;
+  unseen = g.unseen;
+  unmet = g.unmet;
+  unsynced = g.unsynced;
+  was_kept = g.was_kept;
+  flights = λ t k. at_put (λ x. x ≡ Some k → w.now ≤ k.stamp → FlightOk (after w (Break s f)) t k) w.flight s None t (λ e i n. absurd (cc)) (λ n i l. left_flight w f.by t k (g.flights t k i l));
+  rescued = λ r e. g.rescued r (left_is f.by w.rescue r e).0;
+}
+
+module _ (w : World) (s : ℕ) (f : Flight) (can : CanLand w s f) (g : Logged w) where
+  ok : FlightOk w s f
+  ok = g.flights s f can.there can.early
+
+  -- the server of the write, or the dead one, holds the sector alone, so nobody else has it dirty
+  broken_newer : (b t : ℕ) → put w.sick f.by true b ≡ false → IsNewer (put w.disk s f.block t) (w.slot b t)
+  broken_newer b t k =
+      at_put (λ x. IsNewer x (w.slot b t)) w.disk s f.block t
+      (λ e. ⊎_elim
+      (λ q. subst (λ x. IsNewer f.block (w.slot x t)) (sym q)
+      (⊎_elim
+      (λ o. absurd ((well_before w f.by b k).1 (q ∙ sym o.same)))
+      (λ o. dead_newer (w.phase f.behalf) f.block (w.slot f.behalf t) o.dead (g.not_up f.behalf t)) ok.source))
+      (λ q. newer_free (w.slot b t) (w.holds b (cover w t)) f.block (g.held b t)
+      (λ m. q (sym (g.apart f.behalf b (cover w s) ok.sole (sole_held (w.holds b (cover w s)) (ap (λ x. w.holds b (cover w x)) (sym e) ∙ m))))))
+      (or_equal_or b f.behalf))
+      (λ n. g.newer b t (well_before w f.by b k).0)
+    where
+      or_equal_or : (x y : ℕ) → (x ≡ y) ⊎ (x ≢ y)
+      or_equal_or x y = grind arith
+
+      dead_newer : (p : Phase) (new : Block) (x : Slot) → p ≡ Dead → AbsentUnlessUp p x → IsNewer new x
+      dead_newer Off new x e a = absurd (cc)
+      dead_newer Up new x e a = absurd (cc)
+      dead_newer Dead new x e a = subst (IsNewer new) (sym a) tt
+
+  broken_place : (t : ℕ) → OnDisk w.opening w.durable t (Pending w t) (put w.disk s f.block t) (settled w.history)
+  broken_place t = at_put (λ x. OnDisk w.opening w.durable t (Pending w t) x (settled w.history)) w.disk s f.block t
+      (λ e. subst (λ x. OnDisk w.opening w.durable x (Pending w x) f.block (settled w.history)) (sym e) ok.place) (λ n. g.place t)
+
+  broken_told : (r : Rescue) → w.rescue ≡ Some r → r.by ≢ f.by → ToldOk (r.told s) f.block (redo_all (to_replay w r.dead) s f.block)
+  broken_told r e n =
+      let q : RescueOk w r = g.rescued r e in
+      let other : r.dead ≢ f.behalf = λ i. ⊎_elim
+      (λ o. let u : f.stamp ≤ w.expiry f.by = o.lease in let v : w.expiry r.dead < w.now = q.ended in let z : w.expiry f.by ≡ w.expiry r.dead = ap w.expiry (o.same ∙ sym i) in
+      let y : w.now ≤ f.stamp = can.early in absurd (omega arith))
+      (λ o. n (o.rescuer r e i)) ok.source in
+      let j : w.holds r.dead (cover w s) ≡ Some Sole → ⊥ = λ m. other (g.apart r.dead f.behalf (cover w s) m (sole_held (w.holds f.behalf (cover w s)) ok.sole)) in
+      let new : redo_all (to_replay w r.dead) s f.block ≡ f.block = other_replay w g r.dead s f.block j ok.place in
+      let old : redo_all (to_replay w r.dead) s (w.disk s) ≡ w.disk s = other_replay w g r.dead s (w.disk s) j (g.place s) in
+      subst (λ x. ToldOk (r.told s) f.block x) (sym new) (told_other (r.told s) (w.disk s) (redo_all (to_replay w r.dead) s (w.disk s)) f.block old (q.told s))
+
+  pub logged_break_new : Logged (after w (BreakNew s f))
+  logged_break_new = record {
+    logs = g.logs;
+    apart = g.apart;
+    known = g.known;
+    off_free = g.off_free;
+    rested = g.rested;
+    not_up = g.not_up;
+    held = g.held;
+    copies = g.copies;
+    ahead = g.ahead;
+    newer = broken_newer;
+    place = broken_place;
+    firm = g.firm;
+    locked = g.locked;
+    rising = g.rising;
+    ops = g.ops;
+    below = g.below;
+    reached = g.reached;
+    acks = g.acks;
+    floored = g.floored;
+    unseen = g.unseen;
+    unmet = g.unmet;
+    unsynced = g.unsynced;
+    was_kept = g.was_kept;
+    flights = λ t k. at_put (λ x. x ≡ Some k → w.now ≤ k.stamp → FlightOk (after w (BreakNew s f)) t k) w.flight s None t (λ e i n. absurd (cc))
+        (λ n i l. let q : FlightOk w t k = g.flights t k i l in let z = left_flight w f.by t k q in
+        record { place = z.place; sole = z.sole; named = z.named; source = z.source; higher = subst (λ x. (version x) < (version k.block)) (sym (put_other w.disk s f.block t n)) q.higher });
+    rescued = λ r e. let l = left_is f.by w.rescue r e in let q : RescueOk w r = g.rescued r l.0 in
+        record {
+          dead = q.dead;
+          ended = q.ended;
+          up = q.up;
+          until = q.until;
+          told = λ t. at_put (λ x. ToldOk (r.told t) x (redo_all (to_replay w r.dead) t x)) w.disk s f.block t
+              (λ i. subst (λ x. ToldOk (r.told x) f.block (redo_all (to_replay w r.dead) x f.block)) (sym i) (broken_told r l.0 l.1))
+              (λ n. q.told t);
+        };
+  }

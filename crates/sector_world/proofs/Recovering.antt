@@ -1,0 +1,216 @@
+-- A recovery beside live servers: it begins, looks at sectors, and writes them.
+use Rattle.std.proofs.Common.{true, false, zero, suc, List, [], ◌∷◌, Bool, IsTrue, IsSome, if◌then◌else◌, ⊎_elim, le_refl, le_trans, ℕ, ◌+◌, ◌-◌, ◌<◌, ◌≤◌, ◌≡◌, ◌≢◌, ◌⊎◌, ◌&&◌, inl, inr, Option, Some, None, nat_eq, nat_lt, nat_le, refl, sym, ◌∙◌, ap, subst, arith}
+use Rattle.std.proofs.lemmas.Bool.Decides.{nat_tests}
+use Rattle.frang_base.specs.declared.change.Change.{Change}
+use Rattle.frang_base.specs.declared.lock.LockId.{LockId}
+use Rattle.frang_base.specs.declared.lock.Mode.{Mode}
+use Rattle.frang_base.specs.declared.lock.Mode.TheVariants.{Shared, Sole}
+use Rattle.cells.specs.Blocks.{Block, version, edited, zeros, same_block}
+use Rattle.cells.specs.Changes.{Redo, change_at, forced, redone, redo_all, keep_if, up_to, above, member, same_lock, has_lock, put, put2, put_lock}
+use Rattle.cells.specs.Histories.{Fill, Commit, Item, Entry, redo_of, kept, survives, in_doubt, synced_of, recovered, settled, is_left, logical, is_own, own, Each, Changes, Moves, Writes, touches, reaches, OpsRise, Named, IsLast, is_logged}
+use Rattle.cells.specs.Histories.Item.{Done, Doubt}
+use Rattle.cells.specs.OnDisk.{Raises, Rising, AllDurable, OnDisk}
+use Rattle.cells.specs.OnDisk.OnDisk.{in_place, pending, passed}
+use Rattle.cells.specs.Seen.{moved, cover_of, Alters, Meets, IsLost, SawNone, Unseen, UsedNone, Unmet, Unsynced, Kept}
+use Rattle.cells.proofs.Basics.{by_test, eq_of, ne_of, le_of, gt_of, of_le, of_gt, of_lt, of_ge, of_eq, of_ne, le_or_lt, or_equal, true_or, by_some, some_or, some_same, lock_of, lock_same, lock_not, at_put, put_same, put_other, at_put2, at_lock, by_keep}
+use Rattle.cells.proofs.Blocks.{edited_version, same_block_is, same_block_refl}
+use Rattle.cells.proofs.Histories.{AtMost, each_map, each_map2, each_kept, rising_bound, kept_version, rising_kept, all_skipped, kept_logical, replayed_is, on_disk_map, lost_pending, all_durable, unchanged, all_in_place, pending_or_not, in_place_or, disk_version, on_disk_kept, redo_keep, up_keep}
+use Rattle.cells.proofs.Removals.{survives_other, survives_own, survives_low, ops_kept, own_none, own_kept, all_durable_kept, last_kept, named_keep, last_named, redo_named}
+use Rattle.cells.proofs.More.{at_most_more, IsAbove, on_disk_more, all_durable_each, all_settled, last_pending, replay_place, redo_twice, named_more}
+use Rattle.cells.proofs.Seen.{unseen_kept, unseen_more, unmet_kept, unmet_more, unsynced_more, cover_kept, clear_survives, each_all, each_kept_with}
+use Rattle.sector_world.specs.World.{World, Phase, Slot, Page, Flight, ByteFlight, Told, Rescue, cover, has_version}
+use Rattle.sector_world.specs.World.Phase.{Off, Up, Dead}
+use Rattle.sector_world.specs.World.Slot.{Absent, Clean, Dirty}
+use Rattle.sector_world.specs.World.Told.{Unread, Wanted, InPlace}
+use Rattle.sector_world.specs.Guards.{Fits, NotDirty, NoDirtyPage, Based, Owned, MovesOwned, IsBelow, AreBelow, NoneNames, to_replay, CanTake, CanGive, CanLower, CanDo, CanReach, CanAck, CanSync, CanReclaim, CanBegin, CanFinish, CanFetch, CanIssue, CanReplay, CanLand}
+use Rattle.sector_world.specs.Steps.{after, changed, landed, rescue_landed, rescue_left, extended, found}
+use Rattle.sector_world.specs.Steps.Event.{Tick, Leave, Renew, Mount, Unmount, Take, Give, Lower, Do, Reach, Ack, Sync, Reclaim, Crash, Begin, Look, Finish, Fetch, Issue, Replay, Land, Fade, Break, BreakNew}
+use Rattle.sector_world.specs.Claims.{now_of, IsCopy}
+use Rattle.sector_world.specs.Logged.{Logged, IsNewer, Covers, Pending, HeldIf, IsAhead, NoneIfOff, AbsentUnlessUp, Agrees, IsOwn, IsRescue, FlightOk, ToldOk, RescueOk}
+
+use Rattle.sector_world.proofs.Reaching.{sole_held, at_flight}
+use Rattle.sector_world.proofs.Landing.{other_replay}
+
+pub logged_begin : (w : World) (d b : ℕ) → CanBegin w d b → Logged w → Logged (after w (Begin d b))
+logged_begin w d b can g = record {
+  logs = g.logs;
+  apart = g.apart;
+  known = g.known;
+  off_free = g.off_free;
+  rested = g.rested;
+  not_up = g.not_up;
+  held = g.held;
+  copies = g.copies;
+  ahead = g.ahead;
+  newer = g.newer;
+  place = g.place;
+  firm = g.firm;
+  locked = g.locked;
+  rising = g.rising;
+  ops = g.ops;
+  below = g.below;
+  reached = g.reached;
+  acks = g.acks;
+  floored = g.floored;
+  unseen = g.unseen;
+  unmet = g.unmet;
+  unsynced = g.unsynced;
+  was_kept = g.was_kept;
+  flights = λ s f e n. let q : FlightOk w s f = g.flights s f e n in
+      record {
+        place = q.place;
+        higher = q.higher;
+        sole = q.sole;
+        named = q.named;
+        source = ⊎_elim (λ o. inl o)
+            (λ o. let other : f.behalf ≢ d = λ i. let u : f.stamp ≤ w.until f.behalf = o.lease in let v : w.until d < w.now = can.given_up in let z : w.until f.behalf ≡ w.until d = ap w.until i in absurd (omega arith) in
+            inr (record {
+              dead = o.dead;
+              lease = subst (λ x. f.stamp ≤ x) (sym (put_other w.until d (w.expiry b) f.behalf other)) o.lease;
+              rescuer = λ r i j. absurd (other (sym j ∙ sym (ap (λ x. x.dead) (some_same (record { dead = d; by = b; told = λ s. Unread }) r i))));
+              told = λ r i j. absurd (other (sym j ∙ sym (ap (λ x. x.dead) (some_same (record { dead = d; by = b; told = λ s. Unread }) r i))));
+            }))
+            q.source;
+      };
+  rescued = λ r e. subst (λ x. RescueOk (after w (Begin d b)) x) (some_same (record { dead = d; by = b; told = λ s. Unread }) r e)
+      (record { dead = can.dead; ended = can.ended; up = can.up; until = put_same w.until d (w.expiry b); told = λ s. tt });
+}
+
+found_ok : (rs : List Redo) (s : ℕ) (old : Block) → ToldOk (found old (redo_all rs s old)) old (redo_all rs s old)
+found_ok rs s old =
+    by_test (λ x. ToldOk x old (redo_all rs s old)) (Wanted (redo_all rs s old)) InPlace (nat_lt (version old) (version (redo_all rs s old)))
+    (λ e. (refl, let m : (version old) < (version (redo_all rs s old)) = grind (arith, nat_tests) in m))
+    (λ e. ⊎_elim (λ i. i) (λ i. let u : (version old) < (version (redo_all rs s old)) = i.0 in let m : (version (redo_all rs s old)) ≤ (version old) = grind (arith, nat_tests) in absurd (omega arith)) (redo_named rs s old))
+
+found_wanted : (old new block : Block) → block ≡ new → (version old) < (version new) → found old new ≡ Wanted block
+found_wanted old new block e l = rw (of_lt (version old) (version new) l) (ap Wanted (sym e))
+
+pub logged_look : (w : World) (r : Rescue) (s : ℕ) → w.rescue ≡ Some r → Logged w → Logged (after w (Look r s))
+logged_look w r s going g =
+    let k : RescueOk w r = g.rescued r going in
+    let new : Rescue = record { dead = r.dead; by = r.by; told = put r.told s (found (w.disk s) (redo_all (to_replay w r.dead) s (w.disk s))) } in
+    record {
+      logs = g.logs;
+      apart = g.apart;
+      known = g.known;
+      off_free = g.off_free;
+      rested = g.rested;
+      not_up = g.not_up;
+      held = g.held;
+      copies = g.copies;
+      ahead = g.ahead;
+      newer = g.newer;
+      place = g.place;
+      firm = g.firm;
+      locked = g.locked;
+      rising = g.rising;
+      ops = g.ops;
+      below = g.below;
+      reached = g.reached;
+      acks = g.acks;
+      floored = g.floored;
+      unseen = g.unseen;
+      unmet = g.unmet;
+      unsynced = g.unsynced;
+      was_kept = g.was_kept;
+      flights = λ t f e n. let q : FlightOk w t f = g.flights t f e n in
+          record {
+            place = q.place;
+            higher = q.higher;
+            sole = q.sole;
+            named = q.named;
+            source = ⊎_elim (λ o. inl o)
+                (λ o. inr (record {
+                  dead = o.dead;
+                  lease = o.lease;
+                  rescuer = λ x i j. let same : new ≡ x = some_same new x i in sym (ap (λ y. y.by) same) ∙ o.rescuer r going (ap (λ y. y.dead) same ∙ j);
+                  told = λ x i j. let same : new ≡ x = some_same new x i in
+                      let old : r.told t ≡ Wanted f.block = o.told r going (ap (λ y. y.dead) same ∙ j) in
+                      subst (λ y. y.told t ≡ Wanted f.block) same
+                      (at_put (λ y. y ≡ Wanted f.block) r.told s (found (w.disk s) (redo_all (to_replay w r.dead) s (w.disk s))) t
+                      (λ m. let z : ToldOk (Wanted f.block) (w.disk t) (redo_all (to_replay w r.dead) t (w.disk t)) = subst (λ y. ToldOk y (w.disk t) (redo_all (to_replay w r.dead) t (w.disk t))) old (k.told t) in
+                      subst (λ y. found (w.disk y) (redo_all (to_replay w r.dead) y (w.disk y)) ≡ Wanted f.block) m (found_wanted (w.disk t) (redo_all (to_replay w r.dead) t (w.disk t)) f.block z.0 z.1))
+                      (λ m. old));
+                }))
+                q.source;
+          };
+      rescued = λ x e. subst (λ y. RescueOk (after w (Look r s)) y) (some_same new x e)
+          (record {
+            dead = k.dead;
+            ended = k.ended;
+            up = k.up;
+            until = k.until;
+            told = λ t. at_put (λ y. ToldOk y (w.disk t) (redo_all (to_replay w r.dead) t (w.disk t))) r.told s (found (w.disk s) (redo_all (to_replay w r.dead) s (w.disk s))) t
+                (λ m. subst (λ y. ToldOk (found (w.disk y) (redo_all (to_replay w r.dead) y (w.disk y))) (w.disk t) (redo_all (to_replay w r.dead) t (w.disk t))) m (found_ok (to_replay w r.dead) t (w.disk t)))
+                (λ m. k.told t);
+          });
+    }
+
+pub sole_or_not : (m : Option Mode) → (m ≡ Some Sole) ⊎ (m ≡ Some Sole → ⊥)
+sole_or_not None = inr (λ e. cc)
+sole_or_not (Some Shared) = inr (λ e. cc)
+sole_or_not (Some Sole) = inl refl
+
+module _ (w : World) (r : Rescue) (s : ℕ) (block : Block) (can : CanReplay w r s block) (g : Logged w) where
+  k : RescueOk w r
+  k = g.rescued r can.going
+
+  redo_block : ToldOk (Wanted block) (w.disk s) (redo_all (to_replay w r.dead) s (w.disk s))
+  redo_block = subst (λ x. ToldOk x (w.disk s) (redo_all (to_replay w r.dead) s (w.disk s))) can.wanted (k.told s)
+
+  redo_sole : w.holds r.dead (cover w s) ≡ Some Sole
+  redo_sole = ⊎_elim (λ e. e)
+      (λ n. let same : redo_all (to_replay w r.dead) s (w.disk s) ≡ w.disk s = other_replay w g r.dead s (w.disk s) n (g.place s) in
+      let u : (version (w.disk s)) < (version (redo_all (to_replay w r.dead) s (w.disk s))) = redo_block.1 in
+      let v : (version (redo_all (to_replay w r.dead) s (w.disk s))) ≡ (version (w.disk s)) = ap (λ x. (version x)) same in absurd (omega arith))
+      (sole_or_not (w.holds r.dead (cover w s)))
+
+  redo_flight : FlightOk (after w (Replay r s block)) s (record { by = r.by; behalf = r.dead; stamp = w.expiry r.by - 15; block = block })
+  redo_flight = record {
+    place = subst (λ x. OnDisk w.opening w.durable s (Pending w s) x (settled w.history)) (sym redo_block.0)
+        (subst (λ l. OnDisk w.opening w.durable s (Pending w s) (redo_all (up_to (w.durable r.dead) l) s (w.disk s)) (settled w.history)) (sym (g.logs r.dead))
+        (replay_place w.opening w.durable s r.dead (w.floor r.dead) (Pending w s) (w.disk s)
+        (λ c p. let e : c.by ≡ r.dead = g.apart c.by r.dead (cover w s) p.sole (sole_held (w.holds r.dead (cover w s)) redo_sole) in (e, subst (λ x. w.floor x < c.op) e p.above))
+        (settled w.history) g.ops (g.rising s) (g.place s)));
+    higher = subst (λ x. (version (w.disk s)) < (version x)) (sym redo_block.0) redo_block.1;
+    sole = redo_sole;
+    named = subst (λ x. Named (to_replay w r.dead) s (version x)) (sym redo_block.0)
+        (⊎_elim (λ same. let u : (version (w.disk s)) < (version (redo_all (to_replay w r.dead) s (w.disk s))) = redo_block.1 in
+        let v : (version (redo_all (to_replay w r.dead) s (w.disk s))) ≡ (version (w.disk s)) = ap (λ x. (version x)) same in absurd (omega arith))
+        (λ m. m.1) (redo_named (to_replay w r.dead) s (w.disk s)));
+    source = inr (record {
+      dead = k.dead;
+      lease = (let u : w.until r.dead ≡ w.expiry r.by = k.until in omega arith);
+      rescuer = λ x i j. ap (λ y. y.by) (some_same x r (sym i ∙ can.going));
+      told = λ x i j. ap (λ y. y.told s) (some_same x r (sym i ∙ can.going)) ∙ can.wanted;
+    });
+  }
+
+  pub logged_replay : Logged (after w (Replay r s block))
+  logged_replay = record {
+    logs = g.logs;
+    apart = g.apart;
+    known = g.known;
+    off_free = g.off_free;
+    rested = g.rested;
+    not_up = g.not_up;
+    held = g.held;
+    copies = g.copies;
+    ahead = g.ahead;
+    newer = g.newer;
+    place = g.place;
+    firm = g.firm;
+    locked = g.locked;
+    rising = g.rising;
+    ops = g.ops;
+    below = g.below;
+    reached = g.reached;
+    acks = g.acks;
+    floored = g.floored;
+    unseen = g.unseen;
+    unmet = g.unmet;
+    unsynced = g.unsynced;
+    was_kept = g.was_kept;
+    flights = at_flight w (after w (Replay r s block)) s (record { by = r.by; behalf = r.dead; stamp = w.expiry r.by - 15; block = block }) redo_flight g.flights;
+    rescued = g.rescued;
+  }
