@@ -7,3 +7,4 @@ pub mod Reclaiming
 pub mod Crashing
 pub mod Breaking
 pub mod Recovering
+pub mod Finishing
