@@ -8,3 +8,4 @@ pub mod Crashing
 pub mod Breaking
 pub mod Recovering
 pub mod Finishing
+pub mod BytesPlain

@@ -3,3 +3,4 @@ pub mod Guards
 pub mod Steps
 pub mod Claims
 pub mod Logged
+pub mod Bytes
