@@ -9,3 +9,4 @@ pub mod Breaking
 pub mod Recovering
 pub mod Finishing
 pub mod BytesPlain
+pub mod BytesLocks
