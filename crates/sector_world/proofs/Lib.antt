@@ -10,3 +10,4 @@ pub mod Recovering
 pub mod Finishing
 pub mod BytesPlain
 pub mod BytesLocks
+pub mod BytesLanding
