@@ -58,7 +58,7 @@ removed_more false wr sh more u n e = e
 pub writes_reach : (a : Commit) (s : ℕ) → Writes s a → IsTrue (reaches a s)
 writes_reach a s w = subst (λ b. IsTrue (if b then true else a.sees s)) (sym w) refl
 
-free_before : (o : Option Fill) (old : Bool) → (IsSome o → ⊥) → is_free_by o old ≡ false → old ≡ false
+pub free_before : (o : Option Fill) (old : Bool) → (IsSome o → ⊥) → is_free_by o old ≡ false → old ≡ false
 free_before None old n e = e
 free_before (Some v) old n e = absurd (n refl)
 

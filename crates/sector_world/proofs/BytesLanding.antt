@@ -67,7 +67,7 @@ bytes_fetch w a s can k g =
     }
 
 -- who doesn't hold a sector's lock has no page of it
-other_page : (P : Page → Type 0) (x : Page) (m : Option Mode) → (m ≢ None → ⊥) → PageHeld x m → P NoPage → P x
+pub other_page : (P : Page → Type 0) (x : Page) (m : Option Mode) → (m ≢ None → ⊥) → PageHeld x m → P NoPage → P x
 other_page P NoPage m n h p = p
 other_page P (CleanPage b) m n h p = absurd (n h)
 other_page P (DirtyPage b k) m n h p = absurd (n (λ e. cc))

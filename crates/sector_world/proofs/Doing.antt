@@ -139,7 +139,7 @@ reaches_held w c can t i =
     (λ e. not_free (w.holds c.by (cover w t)) (can.written t e)) (λ e. can.used (cover w t) e) i
 
 module _ (w : World) (c : Commit) (can : CanDo w c) (g : Logged w) where
-  do_sole : (b t : ℕ) → w.holds b (cover w t) ≡ Some Sole → w.holds b (cover (after w (Do c)) t) ≡ Some Sole
+  pub do_sole : (b t : ℕ) → w.holds b (cover w t) ≡ Some Sole → w.holds b (cover (after w (Do c)) t) ≡ Some Sole
   do_sole b t h = moves_sole (c.moves t) (cover w t) c.by b w.holds (can.moves t) (λ m. g.apart b c.by (cover w t) h (not_free (w.holds c.by (cover w t)) m)) h
 
   do_logs : (d : ℕ) → put w.log c.by (redo_of c ∷ w.log c.by) d ≡ own d (w.floor d) (Done c ∷ settled w.history)

@@ -11,3 +11,4 @@ pub mod Finishing
 pub mod BytesPlain
 pub mod BytesLocks
 pub mod BytesLanding
+pub mod BytesDoing
