@@ -62,11 +62,11 @@ none_named : (rs : List Redo) (s v : ℕ) → NoneNames rs s → Named rs s v �
 none_named [] s v n m = m
 none_named (r ∷ rs) s v n m = ⊎_elim (λ x. let a = n.0 in let b = x.1 in cc) (λ x. none_named rs s v n.1 x) m
 
-abbrev rest : World → ℕ → List Item
+abbrev pub rest : World → ℕ → List Item
 rest w d = kept (survives d (w.durable d)) (settled w.history)
 
 module _ (w : World) (r : Rescue) (can : CanFinish w r) (g : Logged w) where
-  k : RescueOk w r
+  pub k : RescueOk w r
   k = g.rescued r can.going
 
   -- each sector has what a replay of the log makes of it
@@ -74,7 +74,7 @@ module _ (w : World) (r : Rescue) (can : CanFinish w r) (g : Logged w) where
   disk_is s = ⊎_elim (λ e. subst (λ x. ToldOk x (w.disk s) (redo_all (to_replay w r.dead) s (w.disk s))) e (k.told s)) (λ n. none_replay (to_replay w r.dead) s (w.disk s) n) (can.all s)
 
   -- what a recovery removes altered only sectors that the dead server holds alone
-  lost_sole : (s : ℕ) → (w.holds r.dead (cover w s) ≡ Some Sole → ⊥) → Each (λ c. Alters s c → survives r.dead (w.durable r.dead) c ≡ true) (settled w.history)
+  pub lost_sole : (s : ℕ) → (w.holds r.dead (cover w s) ≡ Some Sole → ⊥) → Each (λ c. Alters s c → survives r.dead (w.durable r.dead) c ≡ true) (settled w.history)
   lost_sole s n =
       each_map (λ c. Alters s c → w.durable c.by < c.op → w.holds c.by (cover w s) ≡ Some Sole) (λ c. Alters s c → survives r.dead (w.durable r.dead) c ≡ true)
       (λ c m i. survives_low r.dead (w.durable r.dead) c (λ e.
@@ -84,18 +84,18 @@ module _ (w : World) (r : Rescue) (can : CanFinish w r) (g : Logged w) where
   other_stays : (s : ℕ) → (w.holds r.dead (cover w s) ≡ Some Sole → ⊥) → Each (λ c. Changes s c → survives r.dead (w.durable r.dead) c ≡ true) (settled w.history)
   other_stays s n = each_map (λ c. Alters s c → survives r.dead (w.durable r.dead) c ≡ true) (λ c. Changes s c → survives r.dead (w.durable r.dead) c ≡ true) (λ c m i. m (inl i)) (settled w.history) (lost_sole s n)
 
-  other_now : (s : ℕ) → (w.holds r.dead (cover w s) ≡ Some Sole → ⊥) → logical w.opening (rest w r.dead) s ≡ now_of w s
+  pub other_now : (s : ℕ) → (w.holds r.dead (cover w s) ≡ Some Sole → ⊥) → logical w.opening (rest w r.dead) s ≡ now_of w s
   other_now s n = kept_logical w.opening s (survives r.dead (w.durable r.dead)) (settled w.history) (other_stays s n)
 
-  other_cover : (s : ℕ) → (w.holds r.dead (cover w s) ≡ Some Sole → ⊥) → cover (after w (Finish r)) s ≡ cover w s
+  pub other_cover : (s : ℕ) → (w.holds r.dead (cover w s) ≡ Some Sole → ⊥) → cover (after w (Finish r)) s ≡ cover w s
   other_cover s n = cover_kept w.home s (survives r.dead (w.durable r.dead)) (settled w.history)
       (each_map (λ c. Alters s c → survives r.dead (w.durable r.dead) c ≡ true) (λ c. Moves s c → survives r.dead (w.durable r.dead) c ≡ true) (λ c m i. m (inr (inl i))) (settled w.history) (lost_sole s n))
 
   -- another server's lock stays, and covers what it covered
-  not_dead : (b s : ℕ) → b ≢ r.dead → w.holds b (cover w s) ≢ None → w.holds r.dead (cover w s) ≡ Some Sole → ⊥
+  pub not_dead : (b s : ℕ) → b ≢ r.dead → w.holds b (cover w s) ≢ None → w.holds r.dead (cover w s) ≡ Some Sole → ⊥
   not_dead b s n f m = n (sym (g.apart r.dead b (cover w s) m f))
 
-  other_holds : (b s : ℕ) → b ≢ r.dead → w.holds b (cover w s) ≢ None → (after w (Finish r)).holds b (cover (after w (Finish r)) s) ≡ w.holds b (cover w s)
+  pub other_holds : (b s : ℕ) → b ≢ r.dead → w.holds b (cover w s) ≢ None → (after w (Finish r)).holds b (cover (after w (Finish r)) s) ≡ w.holds b (cover w s)
   other_holds b s n f =
       ap (λ x. x (cover (after w (Finish r)) s)) (put_other w.holds r.dead (λ l. None) b n) ∙ ap (w.holds b) (other_cover s (not_dead b s n f))
 

@@ -12,3 +12,4 @@ pub mod BytesPlain
 pub mod BytesLocks
 pub mod BytesLanding
 pub mod BytesDoing
+pub mod BytesFinishing
