@@ -124,7 +124,7 @@ page_sole p (CleanPage v) m e l h = absurd (subst (λ q. IsLoose q (CleanPage v)
 page_sole p (DirtyPage v k) m e l h = h
 page_sole p (FreedPage k) m e l h = h
 
-clean_loose : (p : Phase) (x : Page) (v : Block) → p ≡ Up → x ≡ CleanPage v → IsLoose p x → ⊥
+pub clean_loose : (p : Phase) (x : Page) (v : Block) → p ≡ Up → x ≡ CleanPage v → IsLoose p x → ⊥
 clean_loose p x v e c l = subst (λ y. IsLoose Up y) c (subst (λ q. IsLoose q x) e l)
 
 none_or : (o : Option Fill) → (IsSome o → ⊥) ⊎ IsSome o

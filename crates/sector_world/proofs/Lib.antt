@@ -13,3 +13,4 @@ pub mod BytesLocks
 pub mod BytesLanding
 pub mod BytesDoing
 pub mod BytesFinishing
+pub mod Versioned

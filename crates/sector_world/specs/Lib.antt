@@ -4,3 +4,4 @@ pub mod Steps
 pub mod Claims
 pub mod Logged
 pub mod Bytes
+pub mod Kinds
