@@ -157,3 +157,33 @@ module _ (w : World) (s : ℕ) (f : Flight) (can : CanLand w s f) (g : Logged w)
               (λ n. q.told t);
         };
   }
+
+-- a put of bytes failed: the server's recovery is over, and it issues no more
+pub logged_bytes_break : (w : World) (a : ℕ) → Logged w → Logged (record w { sick = put w.sick a true; rescue = rescue_left a w.rescue })
+logged_bytes_break w a g = record {
+  logs = g.logs;
+  apart = g.apart;
+  known = g.known;
+  off_free = g.off_free;
+  rested = g.rested;
+  not_up = g.not_up;
+  held = g.held;
+  copies = g.copies;
+  ahead = g.ahead;
+  newer = λ b t k. g.newer b t (well_before w a b k).0;
+  place = g.place;
+  firm = g.firm;
+  locked = g.locked;
+  rising = g.rising;
+  ops = g.ops;
+  below = g.below;
+  reached = g.reached;
+  acks = g.acks;
+  floored = g.floored;
+  unseen = g.unseen;
+  unmet = g.unmet;
+  unsynced = g.unsynced;
+  was_kept = g.was_kept;
+  flights = λ t k i l. left_flight w a t k (g.flights t k i l);
+  rescued = λ r e. g.rescued r (left_is a w.rescue r e).0;
+}

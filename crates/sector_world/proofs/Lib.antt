@@ -14,3 +14,4 @@ pub mod BytesLanding
 pub mod BytesDoing
 pub mod BytesFinishing
 pub mod Versioned
+pub mod Every
