@@ -25,7 +25,7 @@ use Rattle.sector_world.specs.World.Told.{Unread, Wanted, InPlace}
 use Rattle.sector_world.specs.Guards.{Fits, NotDirty, NoDirtyPage, Based, Owned, MovesOwned, IsBelow, AreBelow, NoneNames, to_replay, CanTake, CanGive, CanLower, CanDo, CanReach, CanAck, CanSync, CanReclaim, CanBegin, CanFinish, CanFetch, CanIssue, CanReplay, CanLand}
 use Rattle.sector_world.specs.Steps.{after, changed, landed, rescue_landed, rescue_left, extended, found}
 use Rattle.sector_world.specs.Steps.Event.{Tick, Leave, Renew, Mount, Unmount, Take, Give, Lower, Do, Reach, Ack, Sync, Reclaim, Crash, Begin, Look, Finish, Fetch, Issue, Replay, Land, Fade, Break, BreakNew}
-use Rattle.sector_world.specs.Claims.{now_of, IsCopy}
+use Rattle.sector_world.specs.Logged.{now_of, IsCopy}
 use Rattle.sector_world.specs.Logged.{Logged, IsNewer, Covers, Pending, HeldIf, IsAhead, NoneIfOff, AbsentUnlessUp, Agrees, IsOwn, IsRescue, FlightOk, ToldOk, RescueOk}
 
 use Rattle.sector_world.proofs.Crashing.{left_is}
@@ -40,11 +40,11 @@ well_before w a b = at_put (λ x. x ≡ false → (w.sick b ≡ false) × (b ≢
 left_flight : (w : World) (a s : ℕ) (f : Flight) → FlightOk w s f → FlightOk (record w { rescue = rescue_left a w.rescue }) s f
 left_flight w a s f q = record {
   place = q.place;
-  higher = q.higher;
+  higher = q.higher; lease = q.lease;
   sole = q.sole;
   named = q.named;
-  source = ⊎_elim (λ o. inl (record { same = o.same; lease = o.lease; agrees = o.agrees }))
-      (λ o. inr (record { dead = o.dead; lease = o.lease; told = λ r i j. o.told r (left_is a w.rescue r i).0 j; rescuer = λ r i j. o.rescuer r (left_is a w.rescue r i).0 j })) q.source;
+  source = ⊎_elim (λ o. inl (record { same = o.same; agrees = o.agrees }))
+      (λ o. inr (record { taker = o.taker; dead = o.dead; until = o.until; told = λ r i j. o.told r (left_is a w.rescue r i).0 j; rescuer = λ r i j. o.rescuer r (left_is a w.rescue r i).0 j })) q.source;
 }
 
 pub logged_break : (w : World) (s : ℕ) (f : Flight) → Logged w → Logged (after w (Break s f))
@@ -52,6 +52,7 @@ logged_break w s f g = record {
   logs = g.logs;
   apart = g.apart;
   known = g.known;
+  leases = g.leases;
   off_free = g.off_free;
   rested = g.rested;
   not_up = g.not_up;
@@ -110,7 +111,7 @@ module _ (w : World) (s : ℕ) (f : Flight) (can : CanLand w s f) (g : Logged w)
   broken_told r e n =
       let q : RescueOk w r = g.rescued r e in
       let other : r.dead ≢ f.behalf = λ i. ⊎_elim
-      (λ o. let u : f.stamp ≤ w.expiry f.by = o.lease in let v : w.expiry r.dead < w.now = q.ended in let z : w.expiry f.by ≡ w.expiry r.dead = ap w.expiry (o.same ∙ sym i) in
+      (λ o. let u : f.stamp ≤ w.expiry f.by = ok.lease in let v : w.expiry r.dead < w.now = q.ended in let z : w.expiry f.by ≡ w.expiry r.dead = ap w.expiry (o.same ∙ sym i) in
       let y : w.now ≤ f.stamp = can.early in absurd (omega arith))
       (λ o. n (o.rescuer r e i)) ok.source in
       let j : w.holds r.dead (cover w s) ≡ Some Sole → ⊥ = λ m. other (g.apart r.dead f.behalf (cover w s) m (sole_held (w.holds f.behalf (cover w s)) ok.sole)) in
@@ -123,6 +124,7 @@ module _ (w : World) (s : ℕ) (f : Flight) (can : CanLand w s f) (g : Logged w)
     logs = g.logs;
     apart = g.apart;
     known = g.known;
+    leases = g.leases;
     off_free = g.off_free;
     rested = g.rested;
     not_up = g.not_up;
@@ -145,11 +147,11 @@ module _ (w : World) (s : ℕ) (f : Flight) (can : CanLand w s f) (g : Logged w)
     was_kept = g.was_kept;
     flights = λ t k. at_put (λ x. x ≡ Some k → w.now ≤ k.stamp → FlightOk (after w (BreakNew s f)) t k) w.flight s None t (λ e i n. absurd (cc))
         (λ n i l. let q : FlightOk w t k = g.flights t k i l in let z = left_flight w f.by t k q in
-        record { place = z.place; sole = z.sole; named = z.named; source = z.source; higher = subst (λ x. (version x) < (version k.block)) (sym (put_other w.disk s f.block t n)) q.higher });
+        record { place = z.place; lease = z.lease; sole = z.sole; named = z.named; source = z.source; higher = subst (λ x. (version x) < (version k.block)) (sym (put_other w.disk s f.block t n)) q.higher });
     rescued = λ r e. let l = left_is f.by w.rescue r e in let q : RescueOk w r = g.rescued r l.0 in
         record {
           dead = q.dead;
-          ended = q.ended;
+          taker = q.taker; ended = q.ended;
           up = q.up;
           until = q.until;
           told = λ t. at_put (λ x. ToldOk (r.told t) x (redo_all (to_replay w r.dead) t x)) w.disk s f.block t
@@ -164,6 +166,7 @@ logged_bytes_break w a g = record {
   logs = g.logs;
   apart = g.apart;
   known = g.known;
+  leases = g.leases;
   off_free = g.off_free;
   rested = g.rested;
   not_up = g.not_up;

@@ -25,7 +25,7 @@ use Rattle.sector_world.specs.World.Told.{Unread, Wanted, InPlace}
 use Rattle.sector_world.specs.Guards.{Fits, NotDirty, NoDirtyPage, Based, Owned, MovesOwned, IsBelow, AreBelow, NoneNames, to_replay, CanTake, CanGive, CanLower, CanDo, CanReach, CanAck, CanSync, CanReclaim, CanBegin, CanFinish, CanFetch, CanIssue, CanReplay, CanLand}
 use Rattle.sector_world.specs.Steps.{after, changed, landed, rescue_landed, rescue_left, extended, found}
 use Rattle.sector_world.specs.Steps.Event.{Tick, Leave, Renew, Mount, Unmount, Take, Give, Lower, Do, Reach, Ack, Sync, Reclaim, Crash, Begin, Look, Finish, Fetch, Issue, Replay, Land, Fade, Break, BreakNew}
-use Rattle.sector_world.specs.Claims.{now_of, IsCopy}
+use Rattle.sector_world.specs.Logged.{now_of, IsCopy}
 use Rattle.sector_world.specs.Logged.{Logged, IsNewer, Covers, Pending, HeldIf, IsAhead, NoneIfOff, AbsentUnlessUp, Agrees, IsOwn, IsRescue, FlightOk, ToldOk, RescueOk}
 
 -- a recovery that is still under way isn't the dead server's
@@ -51,6 +51,7 @@ logged_crash w a up g =
       logs = g.logs;
       apart = g.apart;
       known = λ b. at_put (λ p. p ≢ Off → b < w.servers) w.phase a Dead b (λ e n. g.known b (λ q. let r = ap w.phase e ∙ up in cc)) (λ n. g.known b);
+      leases = g.leases;
       off_free = λ b t. at_put (λ p. NoneIfOff p (w.holds b t)) w.phase a Dead b (λ e. tt) (λ n. g.off_free b t);
       rested = λ b. at_put (λ p. p ≡ Off → w.last b ≤ w.durable b) w.phase a Dead b (λ e i. absurd (cc)) (λ n. g.rested b);
       not_up = λ b t. at_put (λ p. AbsentUnlessUp p (put w.slot a (λ s. Absent) b t)) w.phase a Dead b
@@ -76,18 +77,18 @@ logged_crash w a up g =
       flights = λ s f e n. let q : FlightOk w s f = g.flights s f e n in
           record {
             place = goes s f.block q.place;
-            higher = q.higher;
+            higher = q.higher; lease = q.lease;
             sole = q.sole;
             named = q.named;
             source = ⊎_elim
                 (λ o. inl (record {
                   same = o.same;
-                  lease = o.lease;
                   agrees = at_put (λ x. Agrees x (put w.slot a (λ s. Absent) f.by s) f.block) w.phase a Dead f.by (λ i. tt)
                       (λ i. at_put (λ x. Agrees (w.phase f.by) (x s) f.block) w.slot a (λ s. Absent) f.by (λ j. absurd (i j)) (λ j. o.agrees));
                 }))
                 (λ o. inr (record {
-                  lease = o.lease;
+                  taker = o.taker;
+                  until = o.until;
                   dead = at_put (λ x. x ≡ Dead) w.phase a Dead f.behalf (λ i. refl) (λ i. o.dead);
                   told = λ r i j. o.told r (left_is a w.rescue r i).0 j;
                   rescuer = λ r i j. o.rescuer r (left_is a w.rescue r i).0 j;
@@ -96,7 +97,7 @@ logged_crash w a up g =
           };
       rescued = λ r e. let l = left_is a w.rescue r e in let q : RescueOk w r = g.rescued r l.0 in
           record {
-            ended = q.ended;
+            taker = q.taker; ended = q.ended;
             until = q.until;
             told = q.told;
             dead = at_put (λ x. x ≡ Dead) w.phase a Dead r.dead (λ i. refl) (λ i. q.dead);

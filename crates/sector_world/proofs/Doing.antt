@@ -25,7 +25,7 @@ use Rattle.sector_world.specs.World.Told.{Unread, Wanted, InPlace}
 use Rattle.sector_world.specs.Guards.{Fits, NotDirty, NoDirtyPage, Based, Owned, MovesOwned, IsBelow, AreBelow, NoneNames, to_replay, CanTake, CanGive, CanLower, CanDo, CanReach, CanAck, CanSync, CanReclaim, CanBegin, CanFinish, CanFetch, CanIssue, CanReplay, CanLand}
 use Rattle.sector_world.specs.Steps.{after, changed, landed, rescue_landed, rescue_left, extended, found}
 use Rattle.sector_world.specs.Steps.Event.{Tick, Leave, Renew, Mount, Unmount, Take, Give, Lower, Do, Reach, Ack, Sync, Reclaim, Crash, Begin, Look, Finish, Fetch, Issue, Replay, Land, Fade, Break, BreakNew}
-use Rattle.sector_world.specs.Claims.{now_of, IsCopy}
+use Rattle.sector_world.specs.Logged.{now_of, IsCopy}
 use Rattle.sector_world.specs.Logged.{Logged, IsNewer, Covers, Pending, HeldIf, IsAhead, NoneIfOff, AbsentUnlessUp, Agrees, IsOwn, IsRescue, FlightOk, ToldOk, RescueOk}
 
 held_changed : (o : Option Change) (op : ℕ) (x : Slot) (m : Option Mode) → Owned o m → HeldIf x m → HeldIf (changed o op x) m
@@ -248,12 +248,11 @@ module _ (w : World) (c : Commit) (can : CanDo w c) (g : Logged w) where
       let q : FlightOk w s f = g.flights s f e n in
       record {
         place = do_goes s f.block q.place;
-        higher = q.higher;
+        higher = q.higher; lease = q.lease;
         sole = do_sole f.behalf s q.sole;
         named = do_named f.behalf s (version f.block) q.named;
         source = ⊎_elim (λ o. inl (record {
           same = o.same;
-          lease = o.lease;
           agrees = at_slot (λ x. Agrees (w.phase f.by) x f.block) f.by s
               (λ i. agrees_changed (change_at c.changes s) c.op (w.phase f.by) (w.slot c.by s) f.block (can.based s)
               (subst (λ x. Agrees (w.phase f.by) (w.slot x s) f.block) i o.agrees))
@@ -266,7 +265,7 @@ module _ (w : World) (c : Commit) (can : CanDo w c) (g : Logged w) where
       let q : RescueOk w r = g.rescued r e in
       record {
         dead = q.dead;
-        ended = q.ended;
+        taker = q.taker; ended = q.ended;
         up = q.up;
         until = q.until;
         told = λ s. at_put (λ x. ToldOk (r.told s) (w.disk s) (redo_all (up_to (w.durable r.dead) x) s (w.disk s))) w.log c.by (redo_of c ∷ w.log c.by) r.dead
@@ -278,6 +277,7 @@ module _ (w : World) (c : Commit) (can : CanDo w c) (g : Logged w) where
     logs = do_logs;
     apart = g.apart;
     known = g.known;
+    leases = g.leases;
     off_free = g.off_free;
     rested = λ b e. at_put (λ x. x ≤ w.durable b) w.last c.by c.op b (λ i. let p : w.phase b ≡ Up = ap w.phase i ∙ can.up in absurd (cc)) (λ n. g.rested b e);
     not_up = λ b t. at_slot (λ x. AbsentUnlessUp (w.phase b) x) b t (λ e. up_only (w.phase b) (changed (change_at c.changes t) c.op (w.slot c.by t)) (ap w.phase e ∙ can.up)) (λ n. g.not_up b t);

@@ -1,5 +1,5 @@
 -- All events, and every run.
-use Rattle.std.proofs.Common.{true, false, le_refl, ℕ, ◌≡◌, ◌≢◌, Bool, List, [], ◌∷◌, Option, Some, None, if◌then◌else◌, refl}
+use Rattle.std.proofs.Common.{true, false, le_refl, arith, ℕ, ◌≡◌, ◌≢◌, Bool, List, [], ◌∷◌, Option, Some, None, if◌then◌else◌, refl}
 use Rattle.frang_base.specs.declared.lock.LockId.{LockId}
 use Rattle.cells.specs.Blocks.{Block, zeros}
 use Rattle.cells.specs.OnDisk.OnDisk.{in_place}
@@ -43,6 +43,7 @@ module _ (servers : ℕ) (disk : ℕ → Block) (logged of_files : ℕ → Bool)
     logs = λ d. refl;
     apart = λ a b s e n. absurd (cc);
     known = λ a n. absurd (n refl);
+    leases = λ a. omega arith;
     off_free = λ a s. refl;
     rested = λ a e. le_refl 0;
     not_up = λ a s. refl;

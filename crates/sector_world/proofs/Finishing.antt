@@ -25,7 +25,7 @@ use Rattle.sector_world.specs.World.Told.{Unread, Wanted, InPlace}
 use Rattle.sector_world.specs.Guards.{Fits, NotDirty, NoDirtyPage, Based, Owned, MovesOwned, IsBelow, AreBelow, NoneNames, to_replay, CanTake, CanGive, CanLower, CanDo, CanReach, CanAck, CanSync, CanReclaim, CanBegin, CanFinish, CanFetch, CanIssue, CanReplay, CanLand}
 use Rattle.sector_world.specs.Steps.{after, changed, landed, rescue_landed, rescue_left, extended, found}
 use Rattle.sector_world.specs.Steps.Event.{Tick, Leave, Renew, Mount, Unmount, Take, Give, Lower, Do, Reach, Ack, Sync, Reclaim, Crash, Begin, Look, Finish, Fetch, Issue, Replay, Land, Fade, Break, BreakNew}
-use Rattle.sector_world.specs.Claims.{now_of, IsCopy}
+use Rattle.sector_world.specs.Logged.{now_of, IsCopy}
 use Rattle.sector_world.specs.Logged.{Logged, IsNewer, Covers, Pending, HeldIf, IsAhead, NoneIfOff, AbsentUnlessUp, Agrees, IsOwn, IsRescue, FlightOk, ToldOk, RescueOk}
 
 use Rattle.sector_world.proofs.Reaching.{sole_held}
@@ -180,24 +180,24 @@ module _ (w : World) (r : Rescue) (can : CanFinish w r) (g : Logged w) where
       let q : FlightOk w s f = g.flights s f e l in
       let other : f.behalf ≢ r.dead = λ i.
       ⊎_elim
-      (λ o. let u : f.stamp ≤ w.expiry f.by = o.lease in let v : w.expiry r.dead < w.now = k.ended in let z : w.expiry f.by ≡ w.expiry r.dead = ap w.expiry (o.same ∙ i) in absurd (omega arith))
+      (λ o. let u : f.stamp ≤ w.expiry f.by = q.lease in let v : w.expiry r.dead < w.now = k.ended in let z : w.expiry f.by ≡ w.expiry r.dead = ap w.expiry (o.same ∙ i) in absurd (omega arith))
       (λ o. let t : r.told s ≡ Wanted f.block = o.told r can.going (sym i) in
       ⊎_elim (λ m. cc) (λ m. none_named (to_replay w r.dead) s (version f.block) m (subst (λ x. Named (to_replay w x) s (version f.block)) i q.named)) (can.all s))
       q.source in
       let held : w.holds f.behalf (cover w s) ≢ None = sole_held (w.holds f.behalf (cover w s)) q.sole in
       record {
         place = finish_goes s f.block (not_dead f.behalf s other held) q.place;
-        higher = q.higher;
+        higher = q.higher; lease = q.lease;
         sole = other_holds f.behalf s other held ∙ q.sole;
         named = subst (λ x. Named (up_to (w.durable f.behalf) x) s (version f.block)) (sym (put_other w.log r.dead [] f.behalf other)) q.named;
         source = ⊎_elim
             (λ o. inl (record {
               same = o.same;
-              lease = o.lease;
               agrees = at_put (λ x. Agrees x (w.slot f.by s) f.block) w.phase r.dead Off f.by (λ i. absurd (other (sym o.same ∙ i))) (λ i. o.agrees);
             }))
             (λ o. inr (record {
-              lease = o.lease;
+              taker = put_other w.taker r.dead None f.behalf other ∙ o.taker;
+              until = o.until;
               dead = at_put (λ x. x ≡ Dead) w.phase r.dead Off f.behalf (λ i. absurd (other i)) (λ i. o.dead);
               told = λ x i j. absurd (cc);
               rescuer = λ x i j. absurd (cc);
@@ -212,6 +212,7 @@ module _ (w : World) (r : Rescue) (can : CanFinish w r) (g : Logged w) where
         (λ e m. absurd (cc))
         (λ n m. at_put (λ f. f l ≢ None → a ≡ b) w.holds r.dead (λ t. None) b (λ e i. absurd (i refl)) (λ e i. g.apart a b l m i));
     known = λ b. at_put (λ p. p ≢ Off → b < w.servers) w.phase r.dead Off b (λ e n. absurd (n refl)) (λ n. g.known b);
+    leases = g.leases;
     off_free = λ b l. at_put (λ p. NoneIfOff p (put w.holds r.dead (λ t. None) b l)) w.phase r.dead Off b
         (λ e. at_put (λ f. f l ≡ None) w.holds r.dead (λ t. None) b (λ i. refl) (λ n. absurd (n e)))
         (λ n. at_put (λ f. NoneIfOff (w.phase b) (f l)) w.holds r.dead (λ t. None) b (λ i. absurd (n i)) (λ i. g.off_free b l));

@@ -25,7 +25,7 @@ use Rattle.sector_world.specs.World.Told.{Unread, Wanted, InPlace}
 use Rattle.sector_world.specs.Guards.{Fits, NotDirty, NoDirtyPage, Based, Owned, MovesOwned, IsBelow, AreBelow, NoneNames, to_replay, CanTake, CanGive, CanLower, CanDo, CanReach, CanAck, CanSync, CanReclaim, CanBegin, CanFinish, CanFetch, CanIssue, CanReplay, CanLand}
 use Rattle.sector_world.specs.Steps.{after, changed, landed, rescue_landed, rescue_left, extended, found}
 use Rattle.sector_world.specs.Steps.Event.{Tick, Leave, Renew, Mount, Unmount, Take, Give, Lower, Do, Reach, Ack, Sync, Reclaim, Crash, Begin, Look, Finish, Fetch, Issue, Replay, Land, Fade, Break, BreakNew}
-use Rattle.sector_world.specs.Claims.{now_of, IsCopy}
+use Rattle.sector_world.specs.Logged.{now_of, IsCopy}
 use Rattle.sector_world.specs.Logged.{Logged, IsNewer, Covers, Pending, HeldIf, IsAhead, NoneIfOff, AbsentUnlessUp, Agrees, IsOwn, IsRescue, FlightOk, ToldOk, RescueOk}
 
 use Rattle.sector_world.proofs.Reaching.{sole_held}
@@ -158,13 +158,15 @@ module _ (w : World) (s : ℕ) (f : Flight) (can : CanLand w s f) (g : Logged w)
       record {
         place = land_other t h.block n q.place;
         higher = subst (λ x. (version x) < (version h.block)) (sym (put_other w.disk s f.block t n)) q.higher;
+        lease = q.lease;
         sole = q.sole;
         named = q.named;
         source = ⊎_elim
-            (λ o. inl (record { same = o.same; lease = o.lease; agrees = at_slot (λ x. Agrees (w.phase h.by) x h.block) h.by t o.agrees (λ i j. absurd (n j)) }))
+            (λ o. inl (record { same = o.same; agrees = at_slot (λ x. Agrees (w.phase h.by) x h.block) h.by t o.agrees (λ i j. absurd (n j)) }))
             (λ o. inr (record {
+              taker = o.taker;
               dead = o.dead;
-              lease = o.lease;
+              until = o.until;
               told = λ r i j. let b = rescue_before f.behalf s w.rescue r i in b.4 t (λ k. n) ∙ o.told b.0 b.1 (sym b.2 ∙ j);
               rescuer = λ r i j. let b = rescue_before f.behalf s w.rescue r i in b.3 ∙ o.rescuer b.0 b.1 (sym b.2 ∙ j);
             }))
@@ -184,7 +186,7 @@ module _ (w : World) (s : ℕ) (f : Flight) (can : CanLand w s f) (g : Logged w)
       (subst (λ x. ToldOk (q.told s) f.block x) (sym new) (told_other (q.told s) (w.disk s) (redo_all (to_replay w q.dead) s (w.disk s)) f.block old (k.told s))))
       (λ i. subst (λ x. ToldOk x f.block (redo_all (to_replay w q.dead) s f.block)) (sym (same i))
       (⊎_elim
-      (λ o. let u : f.stamp ≤ w.expiry f.by = o.lease in let v : w.expiry q.dead < w.now = k.ended in let z : w.expiry f.by ≡ w.expiry q.dead = ap w.expiry (o.same ∙ sym i) in
+      (λ o. let u : f.stamp ≤ w.expiry f.by = ok.lease in let v : w.expiry q.dead < w.now = k.ended in let z : w.expiry f.by ≡ w.expiry q.dead = ap w.expiry (o.same ∙ sym i) in
       let y : w.now ≤ f.stamp = can.early in absurd (omega arith))
       (λ o. let t : ToldOk (Wanted f.block) (w.disk s) (redo_all (to_replay w q.dead) s (w.disk s)) = subst (λ x. ToldOk x (w.disk s) (redo_all (to_replay w q.dead) s (w.disk s))) (o.told q e i) (k.told s) in
       ap (λ x. redo_all (to_replay w q.dead) s x) t.0 ∙ redo_twice (to_replay w q.dead) s (w.disk s) ∙ sym t.0)
@@ -200,6 +202,7 @@ module _ (w : World) (s : ℕ) (f : Flight) (can : CanLand w s f) (g : Logged w)
       let q : RescueOk w b.0 = g.rescued b.0 b.1 in
       record {
         dead = ap w.phase b.2 ∙ q.dead;
+        taker = ap w.taker b.2 ∙ q.taker ∙ ap Some (sym b.3);
         ended = subst (λ x. w.expiry x < w.now) (sym b.2) q.ended;
         up = ap w.phase b.3 ∙ q.up;
         until = ap w.until b.2 ∙ q.until ∙ ap w.expiry (sym b.3);
@@ -216,6 +219,7 @@ module _ (w : World) (s : ℕ) (f : Flight) (can : CanLand w s f) (g : Logged w)
     logs = g.logs;
     apart = g.apart;
     known = g.known;
+    leases = g.leases;
     off_free = g.off_free;
     rested = g.rested;
     not_up = λ b t. at_put2 (λ x. AbsentUnlessUp (w.phase b) x) w.slot f.behalf s (landed f.block (w.slot f.behalf s)) b t

@@ -22,7 +22,8 @@ pub logged_tick : (w : World) → Logged w → Logged (after w Tick)
 logged_tick w g =
     let flights : (s : ℕ) (f : Flight) → w.flight s ≡ Some f → w.now + 1 ≤ f.stamp → FlightOk w s f = λ s f e n. g.flights s f e (omega arith) in
     let rescued : (r : Rescue) → w.rescue ≡ Some r → RescueOk (after w Tick) r = λ r e. let q : RescueOk w r = g.rescued r e in
-    record { dead = q.dead; ended = (let m : w.expiry r.dead < w.now = q.ended in omega arith); up = q.up; until = q.until; told = q.told } in
+    record { dead = q.dead; taker = q.taker; ended = (let m : w.expiry r.dead < w.now = q.ended in omega arith); up = q.up; until = q.until; told = q.told } in
+    let leases : (a : ℕ) → w.expiry a ≤ w.now + 1 + 30 = λ a. let m : w.expiry a ≤ w.now + 30 = g.leases a in omega arith in
     search
 
 none_some : (r : Rescue) → ◌≡◌ {A = Option Rescue} None (Some r) → ⊥
@@ -35,10 +36,10 @@ logged_leave w g =
     let q : FlightOk w s f = g.flights s f e n in
     record {
       place = q.place;
-      higher = q.higher;
+      higher = q.higher; lease = q.lease;
       sole = q.sole;
       named = q.named;
-      source = ⊎_elim (λ o. inl o) (λ o. inr (record { dead = o.dead; lease = o.lease; told = λ r i j. absurd (none_some r i); rescuer = λ r i j. absurd (none_some r i) })) q.source;
+      source = ⊎_elim (λ o. inl o) (λ o. inr (record { taker = o.taker; dead = o.dead; until = o.until; told = λ r i j. absurd (none_some r i); rescuer = λ r i j. absurd (none_some r i) })) q.source;
     } in
     let rescued : (r : Rescue) → ◌≡◌ {A = Option Rescue} None (Some r) → RescueOk (after w Leave) r = λ r e. absurd (none_some r e) in
     search
@@ -71,17 +72,17 @@ logged_renew w a can g =
     let q : FlightOk w s f = g.flights s f e n in
     record {
       place = q.place;
-      higher = q.higher;
+      higher = q.higher; lease = le_trans q.lease (longer w a can.later f.by);
       sole = q.sole;
       named = q.named;
-      source = ⊎_elim (λ o. inl (record { same = o.same; lease = le_trans o.lease (longer w a can.later f.by); agrees = o.agrees }))
-          (λ o. inr (record { dead = o.dead; lease = le_trans o.lease (held f.behalf); told = o.told; rescuer = o.rescuer })) q.source;
+      source = ⊎_elim (λ o. inl (record { same = o.same; agrees = o.agrees }))
+          (λ o. inr (record { taker = o.taker; dead = o.dead; until = le_trans o.until (held f.behalf); told = o.told; rescuer = o.rescuer })) q.source;
     } in
     let rescued : (r : Rescue) → w.rescue ≡ Some r → RescueOk (after w (Renew a)) r = λ r e.
     let q : RescueOk w r = g.rescued r e in
     record {
       dead = q.dead;
-      ended = at_put (λ x. x < w.now) w.expiry a (w.now + 30) r.dead (λ i. absurd (phases_differ w.phase a r.dead can.up q.dead i)) (λ n. q.ended);
+      taker = q.taker; ended = at_put (λ x. x < w.now) w.expiry a (w.now + 30) r.dead (λ i. absurd (phases_differ w.phase a r.dead can.up q.dead i)) (λ n. q.ended);
       up = q.up;
       until = subst (λ o. extended a (w.now + 30) o w.until r.dead ≡ put w.expiry a (w.now + 30) r.by) (sym e) (extended_own a (w.now + 30) r w.expiry w.until q.until);
       told = q.told;
@@ -90,6 +91,7 @@ logged_renew w a can g =
       logs = g.logs;
       apart = g.apart;
       known = g.known;
+      leases = λ b. at_put (λ x. x ≤ w.now + 30) w.expiry a (w.now + 30) b (λ e. le_refl (w.now + 30)) (λ n. g.leases b);
       off_free = g.off_free;
       rested = g.rested;
       not_up = g.not_up;
@@ -137,18 +139,18 @@ logged_mount w a can g =
     let q : FlightOk w s f = g.flights s f e n in
     record {
       place = goes s f.block q.place;
-      higher = q.higher;
+      higher = q.higher; lease = at_put (λ x. f.stamp ≤ x) w.expiry a (w.now + 30) f.by (λ i. le_trans q.lease (g.leases f.by)) (λ i. q.lease);
       sole = q.sole;
       named = q.named;
       source = ⊎_elim
           (λ o. let other : f.by ≢ a = λ i. subst (λ x. Agrees x (w.slot f.by s) f.block) (ap w.phase i ∙ can.off) o.agrees in
           inl (record {
             same = o.same;
-            lease = at_put (λ x. f.stamp ≤ x) w.expiry a (w.now + 30) f.by (λ i. absurd (other i)) (λ i. o.lease);
             agrees = at_put (λ x. Agrees x (w.slot f.by s) f.block) w.phase a Up f.by (λ i. absurd (other i)) (λ i. o.agrees);
           }))
           (λ o. inr (record {
-            lease = o.lease;
+            taker = o.taker;
+            until = o.until;
             told = o.told;
             rescuer = o.rescuer;
             dead = at_put (λ x. x ≡ Dead) w.phase a Up f.behalf (λ i. let z : w.phase f.behalf ≡ Off = ap w.phase i ∙ can.off in let y = o.dead in absurd (cc)) (λ i. o.dead);
@@ -159,7 +161,7 @@ logged_mount w a can g =
     let q : RescueOk w r = g.rescued r e in
     record {
       dead = at_put (λ x. x ≡ Dead) w.phase a Up r.dead (λ i. let z : w.phase r.dead ≡ Off = ap w.phase i ∙ can.off in let y = q.dead in absurd (cc)) (λ i. q.dead);
-      ended = at_put (λ x. x < w.now) w.expiry a (w.now + 30) r.dead (λ i. let z : w.phase r.dead ≡ Off = ap w.phase i ∙ can.off in let y = q.dead in absurd (cc)) (λ i. q.ended);
+      taker = q.taker; ended = at_put (λ x. x < w.now) w.expiry a (w.now + 30) r.dead (λ i. let z : w.phase r.dead ≡ Off = ap w.phase i ∙ can.off in let y = q.dead in absurd (cc)) (λ i. q.ended);
       up = at_put (λ x. x ≡ Up) w.phase a Up r.by (λ i. refl) (λ i. q.up);
       until = at_put (λ x. w.until r.dead ≡ x) w.expiry a (w.now + 30) r.by (λ i. let z : w.phase r.by ≡ Off = ap w.phase i ∙ can.off in let y = q.up in absurd (cc)) (λ i. q.until);
       told = q.told;
@@ -168,6 +170,7 @@ logged_mount w a can g =
       logs = g.logs;
       apart = g.apart;
       known = λ b. at_put (λ p. p ≢ Off → b < w.servers) w.phase a Up b (λ e n. subst (λ x. x < w.servers) (sym e) can.known) (λ n. g.known b);
+      leases = λ b. at_put (λ x. x ≤ w.now + 30) w.expiry a (w.now + 30) b (λ e. le_refl (w.now + 30)) (λ n. g.leases b);
       off_free = λ b s. at_put (λ p. NoneIfOff p (w.holds b s)) w.phase a Up b (λ e. tt) (λ n. g.off_free b s);
       rested = λ b. at_put (λ p. p ≡ Off → w.last b ≤ w.durable b) w.phase a Up b (λ e i. absurd (cc)) (λ n. g.rested b);
       not_up = λ b s. at_put (λ p. AbsentUnlessUp p (w.slot b s)) w.phase a Up b (λ e. tt) (λ n. g.not_up b s);
@@ -208,18 +211,18 @@ logged_unmount w a can g =
     let q : FlightOk w s f = g.flights s f e n in
     record {
       place = goes s f.block q.place;
-      higher = q.higher;
+      higher = q.higher; lease = q.lease;
       sole = q.sole;
       named = q.named;
       source = ⊎_elim
           (λ o. inl (record {
             same = o.same;
-            lease = o.lease;
             agrees = at_put (λ x. Agrees x (w.slot f.by s) f.block) w.phase a Off f.by
                 (λ i. let m : w.holds f.behalf (cover w s) ≡ None = ap (λ x. w.holds x (cover w s)) (sym o.same ∙ i) ∙ can.given (cover w s) in let y = q.sole in absurd (cc)) (λ i. o.agrees);
           }))
           (λ o. inr (record {
-            lease = o.lease;
+            taker = o.taker;
+            until = o.until;
             told = o.told;
             rescuer = o.rescuer;
             dead = at_put (λ x. x ≡ Dead) w.phase a Off f.behalf (λ i. absurd (phases_differ w.phase a f.behalf can.up o.dead i)) (λ i. o.dead);
@@ -230,7 +233,7 @@ logged_unmount w a can g =
     let q : RescueOk w r = g.rescued r e in
     record {
       dead = at_put (λ x. x ≡ Dead) w.phase a Off r.dead (λ i. absurd (phases_differ w.phase a r.dead can.up q.dead i)) (λ i. q.dead);
-      ended = q.ended;
+      taker = q.taker; ended = q.ended;
       up = at_put (λ x. x ≡ Up) w.phase a Off r.by (λ i. absurd (can.resting r e i)) (λ i. q.up);
       until = q.until;
       told = q.told;
@@ -239,6 +242,7 @@ logged_unmount w a can g =
       logs = g.logs;
       apart = g.apart;
       known = λ b. at_put (λ p. p ≢ Off → b < w.servers) w.phase a Off b (λ e n. absurd (n refl)) (λ n. g.known b);
+      leases = g.leases;
       off_free = λ b l. at_put (λ p. NoneIfOff p (w.holds b l)) w.phase a Off b (λ e. ap (λ x. w.holds x l) e ∙ can.given l) (λ n. g.off_free b l);
       rested = λ b. at_put (λ p. p ≡ Off → w.last b ≤ w.durable b) w.phase a Off b (λ e i. subst (λ x. w.last x ≤ w.durable x) (sym e) full) (λ n. g.rested b);
       not_up = λ b s. at_put (λ p. AbsentUnlessUp p (w.slot b s)) w.phase a Off b

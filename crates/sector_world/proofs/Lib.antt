@@ -15,3 +15,5 @@ pub mod BytesDoing
 pub mod BytesFinishing
 pub mod Versioned
 pub mod Every
+pub mod Recoverable
+pub mod Left

@@ -25,7 +25,7 @@ use Rattle.sector_world.specs.World.Told.{Unread, Wanted, InPlace}
 use Rattle.sector_world.specs.Guards.{Fits, NotDirty, NoDirtyPage, Based, Owned, MovesOwned, IsBelow, AreBelow, NoneNames, to_replay, CanTake, CanGive, CanLower, CanDo, CanReach, CanAck, CanSync, CanReclaim, CanBegin, CanFinish, CanFetch, CanIssue, CanReplay, CanLand}
 use Rattle.sector_world.specs.Steps.{after, changed, landed, rescue_landed, rescue_left, extended, found}
 use Rattle.sector_world.specs.Steps.Event.{Tick, Leave, Renew, Mount, Unmount, Take, Give, Lower, Do, Reach, Ack, Sync, Reclaim, Crash, Begin, Look, Finish, Fetch, Issue, Replay, Land, Fade, Break, BreakNew}
-use Rattle.sector_world.specs.Claims.{now_of, IsCopy}
+use Rattle.sector_world.specs.Logged.{now_of, IsCopy}
 use Rattle.sector_world.specs.Logged.{Logged, IsNewer, Covers, Pending, HeldIf, IsAhead, NoneIfOff, AbsentUnlessUp, Agrees, IsOwn, IsRescue, FlightOk, ToldOk, RescueOk}
 
 fits_sole_none : (m : Option Mode) → Fits Sole m → m ≢ None → ⊥
@@ -68,6 +68,7 @@ logged_take w a l mode can g =
           absurd (fits_none mode (subst (λ x. Fits mode x) was (can.fits b other))))
           (λ i n. g.apart b d t m n));
       known = g.known;
+      leases = g.leases;
       off_free = λ b t. at_lock (λ m. NoneIfOff (w.phase b) m) w.holds a l (Some mode) b t (λ e f. none_if_up (w.phase b) (Some mode) (ap w.phase e ∙ can.up)) (λ o. g.off_free b t);
       rested = g.rested;
       not_up = g.not_up;
@@ -93,7 +94,7 @@ logged_take w a l mode can g =
       unsynced = g.unsynced;
       was_kept = g.was_kept;
       flights = λ s f e n. let q : FlightOk w s f = g.flights s f e n in
-          record { place = goes s f.block q.place; higher = q.higher; sole = sole f.behalf (cover w s) q.sole; named = q.named; source = q.source };
+          record { place = goes s f.block q.place; higher = q.higher; lease = q.lease; sole = sole f.behalf (cover w s) q.sole; named = q.named; source = q.source };
       rescued = g.rescued;
     }
 
@@ -156,12 +157,11 @@ module _ (w : World) (a : ℕ) (l : LockId) (can : CanGive w a l) (g : Logged w)
       let q : FlightOk w s f = g.flights s f e n in
       record {
         place = goes s f.block q.place;
-        higher = q.higher;
+        higher = q.higher; lease = q.lease;
         named = q.named;
         sole = sole f.behalf (cover w s) (λ i j. ⊎_elim (λ o. can.landed s f j e n o.same (o.same ∙ i)) (λ o. let u = can.up in let v = o.dead in let z : w.phase f.behalf ≡ w.phase a = ap w.phase i in cc) q.source) q.sole;
         source = ⊎_elim (λ o. inl (record {
           same = o.same;
-          lease = o.lease;
           agrees = at_slot (λ x. Agrees (w.phase f.by) x f.block) f.by s (λ i j. absurd (can.landed s f j e n o.same i)) (λ i. o.agrees);
         })) (λ o. inr o) q.source;
       }
@@ -173,6 +173,7 @@ module _ (w : World) (a : ℕ) (l : LockId) (can : CanGive w a l) (g : Logged w)
         (λ e f m. absurd (cc))
         (λ o m. at_lock (λ x. x ≢ None → b ≡ d) w.holds a l None d t (λ i j n. absurd (n refl)) (λ i n. g.apart b d t m n));
     known = g.known;
+    leases = g.leases;
     off_free = λ b t. at_lock (λ m. NoneIfOff (w.phase b) m) w.holds a l None b t (λ e f. free_ok (w.phase b)) (λ o. g.off_free b t);
     rested = g.rested;
     not_up = λ b s. at_slot (λ x. AbsentUnlessUp (w.phase b) x) b s (λ e f. absent_ok (w.phase b)) (λ n. g.not_up b s);
@@ -236,6 +237,7 @@ module _ (w : World) (a : ℕ) (l : LockId) (can : CanGive w a l) (alone : w.hol
         (λ o m. at_lock (λ x. x ≢ None → b ≡ d) w.holds a l (Some Shared) d t
         (λ i j n. g.apart b d t m (λ q. let z : w.holds d t ≡ Some Sole = ap (λ x. w.holds x t) i ∙ ap (w.holds a) j ∙ alone in cc)) (λ i n. g.apart b d t m n));
     known = g.known;
+    leases = g.leases;
     off_free = λ b t. at_lock (λ m. NoneIfOff (w.phase b) m) w.holds a l (Some Shared) b t (λ e f. none_if_up (w.phase b) (Some Shared) (ap w.phase e ∙ can.up)) (λ o. g.off_free b t);
     rested = g.rested;
     not_up = g.not_up;
@@ -262,7 +264,7 @@ module _ (w : World) (a : ℕ) (l : LockId) (can : CanGive w a l) (alone : w.hol
     flights = λ s f e n. let q : FlightOk w s f = g.flights s f e n in
         record {
           place = lower_goes s f.block q.place;
-          higher = q.higher;
+          higher = q.higher; lease = q.lease;
           named = q.named;
           source = q.source;
           sole = lower_sole f.behalf (cover w s) (λ i j. ⊎_elim (λ o. can.landed s f j e n o.same (o.same ∙ i)) (λ o. let u = can.up in let v = o.dead in let z : w.phase f.behalf ≡ w.phase a = ap w.phase i in cc) q.source) q.sole;
@@ -300,6 +302,7 @@ module _ (w : World) (a s : ℕ) (can : CanFetch w a s) (g : Logged w) where
     logs = g.logs;
     apart = g.apart;
     known = g.known;
+    leases = g.leases;
     off_free = g.off_free;
     rested = g.rested;
     not_up = λ b t. at_put2 (λ x. AbsentUnlessUp (w.phase b) x) w.slot a s (Clean (w.disk s)) b t (λ e f. up_ok (w.phase b) (Clean (w.disk s)) (ap w.phase e ∙ can.up)) (λ o. g.not_up b t);
@@ -324,12 +327,11 @@ module _ (w : World) (a s : ℕ) (can : CanFetch w a s) (g : Logged w) where
     flights = λ t f e n. let q : FlightOk w t f = g.flights t f e n in
         record {
           place = fetch_goes t f.block q.place;
-          higher = q.higher;
+          higher = q.higher; lease = q.lease;
           sole = q.sole;
           named = q.named;
           source = ⊎_elim (λ o. inl (record {
             same = o.same;
-            lease = o.lease;
             agrees = at_put2 (λ x. Agrees (w.phase f.by) x f.block) w.slot a s (Clean (w.disk s)) f.by t
                 (λ i j. let u : w.phase f.by ≡ Up = ap w.phase i ∙ can.up in
                 let v : w.slot f.by t ≡ Absent = ap (λ x. w.slot x t) i ∙ ap (w.slot a) j ∙ can.absent in

@@ -25,7 +25,7 @@ use Rattle.sector_world.specs.World.Told.{Unread, Wanted, InPlace}
 use Rattle.sector_world.specs.Guards.{Fits, NotDirty, NoDirtyPage, Based, Owned, MovesOwned, IsBelow, AreBelow, NoneNames, to_replay, CanTake, CanGive, CanLower, CanDo, CanReach, CanAck, CanSync, CanReclaim, CanBegin, CanFinish, CanFetch, CanIssue, CanReplay, CanLand}
 use Rattle.sector_world.specs.Steps.{after, changed, landed, rescue_landed, rescue_left, extended, found}
 use Rattle.sector_world.specs.Steps.Event.{Tick, Leave, Renew, Mount, Unmount, Take, Give, Lower, Do, Reach, Ack, Sync, Reclaim, Crash, Begin, Look, Finish, Fetch, Issue, Replay, Land, Fade, Break, BreakNew}
-use Rattle.sector_world.specs.Claims.{now_of, IsCopy}
+use Rattle.sector_world.specs.Logged.{now_of, IsCopy}
 use Rattle.sector_world.specs.Logged.{Logged, IsNewer, Covers, Pending, HeldIf, IsAhead, NoneIfOff, AbsentUnlessUp, Agrees, IsOwn, IsRescue, FlightOk, ToldOk, RescueOk}
 
 module _ (w : World) (d k : ℕ) (can : CanReach w d k) (g : Logged w) where
@@ -40,6 +40,7 @@ module _ (w : World) (d k : ℕ) (can : CanReach w d k) (g : Logged w) where
     logs = g.logs;
     apart = g.apart;
     known = g.known;
+    leases = g.leases;
     off_free = g.off_free;
     rested = λ e i. le_trans (g.rested e i) (reach_up e);
     not_up = g.not_up;
@@ -65,7 +66,7 @@ module _ (w : World) (d k : ℕ) (can : CanReach w d k) (g : Logged w) where
     flights = λ s f e n. let q : FlightOk w s f = g.flights s f e n in
         record {
           place = reach_goes s f.block q.place;
-          higher = q.higher;
+          higher = q.higher; lease = q.lease;
           sole = q.sole;
           source = q.source;
           named = named_more (w.log f.behalf) (w.durable f.behalf) (put w.durable d k f.behalf) s (version f.block) (reach_up f.behalf) q.named;
@@ -73,7 +74,7 @@ module _ (w : World) (d k : ℕ) (can : CanReach w d k) (g : Logged w) where
     rescued = λ r e. let q : RescueOk w r = g.rescued r e in
         record {
           dead = q.dead;
-          ended = q.ended;
+          taker = q.taker; ended = q.ended;
           up = q.up;
           until = q.until;
           told = λ s. at_put (λ x. ToldOk (r.told s) (w.disk s) (redo_all (up_to x (w.log r.dead)) s (w.disk s))) w.durable d k r.dead
@@ -86,6 +87,7 @@ logged_ack w a k can g = record {
   logs = g.logs;
   apart = g.apart;
   known = g.known;
+  leases = g.leases;
   off_free = g.off_free;
   rested = g.rested;
   not_up = g.not_up;
@@ -115,6 +117,7 @@ logged_sync w a can g = record {
   logs = g.logs;
   apart = g.apart;
   known = g.known;
+  leases = g.leases;
   off_free = g.off_free;
   rested = g.rested;
   not_up = g.not_up;
@@ -190,9 +193,10 @@ module _ (w : World) (a s : ℕ) (block : Block) (mark : ℕ) (can : CanIssue w 
   issue_flight = record {
     place = in_place issue_now issue_durable;
     higher = issue_newer;
+    lease = omega arith;
     sole = issue_sole;
     named = issue_named;
-    source = inl (record { same = refl; lease = omega arith; agrees = rw (can.up, can.dirty) (inl refl) });
+    source = inl (record { same = refl; agrees = rw (can.up, can.dirty) (inl refl) });
   }
 
   pub logged_issue : Logged (after w (Issue a s block mark))
@@ -200,6 +204,7 @@ module _ (w : World) (a s : ℕ) (block : Block) (mark : ℕ) (can : CanIssue w 
     logs = g.logs;
     apart = g.apart;
     known = g.known;
+    leases = g.leases;
     off_free = g.off_free;
     rested = g.rested;
     not_up = g.not_up;
@@ -229,6 +234,7 @@ logged_fade w s f g = record {
   logs = g.logs;
   apart = g.apart;
   known = g.known;
+  leases = g.leases;
   off_free = g.off_free;
   rested = g.rested;
   not_up = g.not_up;

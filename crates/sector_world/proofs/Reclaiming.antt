@@ -25,7 +25,7 @@ use Rattle.sector_world.specs.World.Told.{Unread, Wanted, InPlace}
 use Rattle.sector_world.specs.Guards.{Fits, NotDirty, NoDirtyPage, Based, Owned, MovesOwned, IsBelow, AreBelow, NoneNames, to_replay, CanTake, CanGive, CanLower, CanDo, CanReach, CanAck, CanSync, CanReclaim, CanBegin, CanFinish, CanFetch, CanIssue, CanReplay, CanLand}
 use Rattle.sector_world.specs.Steps.{after, changed, landed, rescue_landed, rescue_left, extended, found}
 use Rattle.sector_world.specs.Steps.Event.{Tick, Leave, Renew, Mount, Unmount, Take, Give, Lower, Do, Reach, Ack, Sync, Reclaim, Crash, Begin, Look, Finish, Fetch, Issue, Replay, Land, Fade, Break, BreakNew}
-use Rattle.sector_world.specs.Claims.{now_of, IsCopy}
+use Rattle.sector_world.specs.Logged.{now_of, IsCopy}
 use Rattle.sector_world.specs.Logged.{Logged, IsNewer, Covers, Pending, HeldIf, IsAhead, NoneIfOff, AbsentUnlessUp, Agrees, IsOwn, IsRescue, FlightOk, ToldOk, RescueOk}
 
 and_false : (a b : Bool) → b ≡ false → (a && b) ≡ b
@@ -118,6 +118,7 @@ module _ (w : World) (a k : ℕ) (can : CanReclaim w a k) (g : Logged w) where
         (λ n. at_put (λ x. w.log d ≡ own d x (settled w.history)) w.floor a k d (λ i. absurd (n i)) (λ i. g.logs d));
     apart = g.apart;
     known = g.known;
+    leases = g.leases;
     off_free = g.off_free;
     rested = g.rested;
     not_up = g.not_up;
@@ -141,7 +142,7 @@ module _ (w : World) (a k : ℕ) (can : CanReclaim w a k) (g : Logged w) where
     flights = λ s f e n. let q : FlightOk w s f = g.flights s f e n in
         record {
           place = reclaim_goes s f.block (let u : (version (w.disk s)) < (version f.block) = q.higher in omega arith) q.place;
-          higher = q.higher;
+          higher = q.higher; lease = q.lease;
           sole = q.sole;
           source = q.source;
           named = at_put (λ x. Named (up_to (w.durable f.behalf) x) s (version f.block)) w.log a (above k (w.log a)) f.behalf
@@ -151,7 +152,7 @@ module _ (w : World) (a k : ℕ) (can : CanReclaim w a k) (g : Logged w) where
     rescued = λ r e. let q : RescueOk w r = g.rescued r e in
         record {
           dead = q.dead;
-          ended = q.ended;
+          taker = q.taker; ended = q.ended;
           up = q.up;
           until = q.until;
           told = λ s. at_put (λ x. ToldOk (r.told s) (w.disk s) (redo_all (up_to (w.durable r.dead) x) s (w.disk s))) w.log a (above k (w.log a)) r.dead

@@ -25,7 +25,7 @@ use Rattle.sector_world.specs.World.Told.{Unread, Wanted, InPlace}
 use Rattle.sector_world.specs.Guards.{Fits, NotDirty, NoDirtyPage, Based, Owned, MovesOwned, IsBelow, AreBelow, NoneNames, to_replay, CanTake, CanGive, CanLower, CanDo, CanReach, CanAck, CanSync, CanReclaim, CanBegin, CanFinish, CanFetch, CanIssue, CanReplay, CanLand}
 use Rattle.sector_world.specs.Steps.{after, changed, landed, rescue_landed, rescue_left, extended, found}
 use Rattle.sector_world.specs.Steps.Event.{Tick, Leave, Renew, Mount, Unmount, Take, Give, Lower, Do, Reach, Ack, Sync, Reclaim, Crash, Begin, Look, Finish, Fetch, Issue, Replay, Land, Fade, Break, BreakNew}
-use Rattle.sector_world.specs.Claims.{now_of, IsCopy}
+use Rattle.sector_world.specs.Logged.{now_of, IsCopy}
 use Rattle.sector_world.specs.Logged.{Logged, IsNewer, Covers, Pending, HeldIf, IsAhead, NoneIfOff, AbsentUnlessUp, Agrees, IsOwn, IsRescue, FlightOk, ToldOk, RescueOk}
 
 use Rattle.sector_world.proofs.Reaching.{sole_held, at_flight}
@@ -36,6 +36,7 @@ logged_begin w d b can g = record {
   logs = g.logs;
   apart = g.apart;
   known = g.known;
+  leases = g.leases;
   off_free = g.off_free;
   rested = g.rested;
   not_up = g.not_up;
@@ -59,21 +60,22 @@ logged_begin w d b can g = record {
   flights = λ s f e n. let q : FlightOk w s f = g.flights s f e n in
       record {
         place = q.place;
-        higher = q.higher;
+        higher = q.higher; lease = q.lease;
         sole = q.sole;
         named = q.named;
         source = ⊎_elim (λ o. inl o)
-            (λ o. let other : f.behalf ≢ d = λ i. let u : f.stamp ≤ w.until f.behalf = o.lease in let v : w.until d < w.now = can.given_up in let z : w.until f.behalf ≡ w.until d = ap w.until i in absurd (omega arith) in
+            (λ o. let other : f.behalf ≢ d = λ i. let u : f.stamp ≤ w.until f.behalf = o.until in let v : w.until d < w.now = can.given_up in let z : w.until f.behalf ≡ w.until d = ap w.until i in absurd (omega arith) in
             inr (record {
+              taker = put_other w.taker d (Some b) f.behalf other ∙ o.taker;
               dead = o.dead;
-              lease = subst (λ x. f.stamp ≤ x) (sym (put_other w.until d (w.expiry b) f.behalf other)) o.lease;
+              until = subst (λ x. f.stamp ≤ x) (sym (put_other w.until d (w.expiry b) f.behalf other)) o.until;
               rescuer = λ r i j. absurd (other (sym j ∙ sym (ap (λ x. x.dead) (some_same (record { dead = d; by = b; told = λ s. Unread }) r i))));
               told = λ r i j. absurd (other (sym j ∙ sym (ap (λ x. x.dead) (some_same (record { dead = d; by = b; told = λ s. Unread }) r i))));
             }))
             q.source;
       };
   rescued = λ r e. subst (λ x. RescueOk (after w (Begin d b)) x) (some_same (record { dead = d; by = b; told = λ s. Unread }) r e)
-      (record { dead = can.dead; ended = can.ended; up = can.up; until = put_same w.until d (w.expiry b); told = λ s. tt });
+      (record { dead = can.dead; ended = can.ended; up = can.up; taker = put_same w.taker d (Some b); until = put_same w.until d (w.expiry b); told = λ s. tt });
 }
 
 found_ok : (rs : List Redo) (s : ℕ) (old : Block) → ToldOk (found old (redo_all rs s old)) old (redo_all rs s old)
@@ -93,6 +95,7 @@ logged_look w r s going g =
       logs = g.logs;
       apart = g.apart;
       known = g.known;
+      leases = g.leases;
       off_free = g.off_free;
       rested = g.rested;
       not_up = g.not_up;
@@ -116,13 +119,14 @@ logged_look w r s going g =
       flights = λ t f e n. let q : FlightOk w t f = g.flights t f e n in
           record {
             place = q.place;
-            higher = q.higher;
+            higher = q.higher; lease = q.lease;
             sole = q.sole;
             named = q.named;
             source = ⊎_elim (λ o. inl o)
                 (λ o. inr (record {
+                  taker = o.taker;
                   dead = o.dead;
-                  lease = o.lease;
+                  until = o.until;
                   rescuer = λ x i j. let same : new ≡ x = some_same new x i in sym (ap (λ y. y.by) same) ∙ o.rescuer r going (ap (λ y. y.dead) same ∙ j);
                   told = λ x i j. let same : new ≡ x = some_same new x i in
                       let old : r.told t ≡ Wanted f.block = o.told r going (ap (λ y. y.dead) same ∙ j) in
@@ -139,6 +143,7 @@ logged_look w r s going g =
             dead = k.dead;
             ended = k.ended;
             up = k.up;
+            taker = k.taker;
             until = k.until;
             told = λ t. at_put (λ y. ToldOk y (w.disk t) (redo_all (to_replay w r.dead) t (w.disk t))) r.told s (found (w.disk s) (redo_all (to_replay w r.dead) s (w.disk s))) t
                 (λ m. subst (λ y. ToldOk (found (w.disk y) (redo_all (to_replay w r.dead) y (w.disk y))) (w.disk t) (redo_all (to_replay w r.dead) t (w.disk t))) m (found_ok (to_replay w r.dead) t (w.disk t)))
@@ -173,14 +178,16 @@ module _ (w : World) (r : Rescue) (s : ℕ) (block : Block) (can : CanReplay w r
         (λ c p. let e : c.by ≡ r.dead = g.apart c.by r.dead (cover w s) p.sole (sole_held (w.holds r.dead (cover w s)) redo_sole) in (e, subst (λ x. w.floor x < c.op) e p.above))
         (settled w.history) g.ops (g.rising s) (g.place s)));
     higher = subst (λ x. (version (w.disk s)) < (version x)) (sym redo_block.0) redo_block.1;
+    lease = omega arith;
     sole = redo_sole;
     named = subst (λ x. Named (to_replay w r.dead) s (version x)) (sym redo_block.0)
         (⊎_elim (λ same. let u : (version (w.disk s)) < (version (redo_all (to_replay w r.dead) s (w.disk s))) = redo_block.1 in
         let v : (version (redo_all (to_replay w r.dead) s (w.disk s))) ≡ (version (w.disk s)) = ap (λ x. (version x)) same in absurd (omega arith))
         (λ m. m.1) (redo_named (to_replay w r.dead) s (w.disk s)));
     source = inr (record {
+      taker = k.taker;
       dead = k.dead;
-      lease = (let u : w.until r.dead ≡ w.expiry r.by = k.until in omega arith);
+      until = (let u : w.until r.dead ≡ w.expiry r.by = k.until in omega arith);
       rescuer = λ x i j. ap (λ y. y.by) (some_same x r (sym i ∙ can.going));
       told = λ x i j. ap (λ y. y.told s) (some_same x r (sym i ∙ can.going)) ∙ can.wanted;
     });
@@ -191,6 +198,7 @@ module _ (w : World) (r : Rescue) (s : ℕ) (block : Block) (can : CanReplay w r
     logs = g.logs;
     apart = g.apart;
     known = g.known;
+    leases = g.leases;
     off_free = g.off_free;
     rested = g.rested;
     not_up = g.not_up;

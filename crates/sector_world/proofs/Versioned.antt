@@ -204,7 +204,7 @@ module _ (w : World) (a : Commit) (can : CanDo w a) (l : Logged w) (k : Bytes w)
   }
 
 -- which sectors have versions stays known through a removal
-claimed_kept : (first : ℕ → Bool) (s d k : ℕ) (h : List Item) → OpsRise h → Unseen d k h → Each (λ c. c.claims s ≡ true → Moves s c) h → Claimed first s h → Claimed first s (kept (survives d k) h)
+pub claimed_kept : (first : ℕ → Bool) (s d k : ℕ) (h : List Item) → OpsRise h → Unseen d k h → Each (λ c. c.claims s ≡ true → Moves s c) h → Claimed first s h → Claimed first s (kept (survives d k) h)
 claimed_kept first s d k [] o u m c = tt
 claimed_kept first s d k (Doubt x ∷ h) o u m c = claimed_kept first s d k h o u m c
 claimed_kept first s d k (Done a ∷ h) o u m c =

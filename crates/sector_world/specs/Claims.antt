@@ -1,16 +1,20 @@
 -- What holds after every run, of the sectors with versions.
-use Rattle.std.specs.Prelude.{ℕ, zero, suc, ◌≡◌, ◌<◌, ◌⊎◌, List}
+use Rattle.std.specs.Prelude.{ℕ, zero, suc, true, false, Bool, ◌≡◌, ◌≢◌, ◌<◌, ◌≤◌, List, Option, Some, None, nat_eq, if◌then◌else◌}
 use Rattle.cells.specs.Blocks.{Block, version}
 use Rattle.cells.specs.Changes.{redo_all}
-use Rattle.cells.specs.Histories.{Item, settled, recovered, logical, OpsRise, Named}
+use Rattle.cells.specs.Histories.{Item, settled, recovered, logical, OpsRise, Named, is_logged}
+use Rattle.cells.specs.Bytes.{Known, Agree}
 use Rattle.cells.specs.Seen.{Unmet, Unseen, Unsynced, Kept}
-use Rattle.sector_world.specs.World.{World, Slot}
-use Rattle.sector_world.specs.World.Slot.{Absent, Clean, Dirty}
+use Rattle.sector_world.specs.World.{World, Flight, ByteFlight, block_at, has_version}
 use Rattle.sector_world.specs.Guards.{to_replay}
+use Rattle.sector_world.specs.Steps.{Event, after}
+use Rattle.sector_world.specs.Steps.Event.{Tick, Leave, Renew, Mount, Unmount, Take, Give, Lower, Do, Reach, Ack, Sync, Reclaim, Crash, Begin, Look, Finish, Fetch, Issue, Replay, Land, Fade, Break, BreakNew, FetchBytes, Clear, IssueBytes, LandBytes, FadeBytes, BreakBytes, BreakBytesNew, Settle}
+use Rattle.sector_world.specs.Logged.{now_of, IsCopy}
+use Rattle.sector_world.specs.Bytes.{IsCopyPage, IsDiskPage}
 
--- the disk after a replay of the durable records of the logs below n, in their order
+-- the one disk after a replay of the durable records of the logs below n, in their order
 abbrev pub replayed : World → ℕ → ℕ → Block
-replayed w zero s = w.disk s
+replayed w zero s = block_at w s
 replayed w (suc n) s = redo_all (to_replay w n) s (replayed w n s)
 
 -- what is left of the settled history if the logs of the servers below n were recovered now, in their order
@@ -18,16 +22,92 @@ abbrev pub left : World → ℕ → List Item
 left w zero = settled w.history
 left w (suc n) = recovered n (w.durable n) (w.synced n) (left w n)
 
--- the sectors after all operations of the settled history
-abbrev pub now_of : World → ℕ → Block
-now_of w s = logical w.opening (settled w.history) s
+-- A write of a sector with a version comes to the disk in order: the version rises; a durable record of the log on whose
+-- behalf it comes names it with this version; it comes within its server's lease; and where it is on behalf of another, its
+-- server was the last to begin that one's recovery, which isn't over.
+pub record IsOrdered (w : World) (s : ℕ) (f : Flight) : Type 0 where
+  pub versioned : has_version w s ≡ true
+  pub higher : version (block_at w s) < version f.block
+  pub named : Named (to_replay w f.behalf) s (version f.block)
+  pub leased : w.now ≤ w.expiry f.by
+  pub taken : f.by ≢ f.behalf → w.taker f.behalf ≡ Some f.by
 
--- what is cached is this
-abbrev pub IsCopy : Slot → Block → Type 0
-IsCopy Absent block = Unit {0}
-IsCopy (Clean x) block = x ≡ block
-IsCopy (Dirty x mark) block = x ≡ block
+-- a write of bytes comes to a sector without a version, within its server's lease
+pub record IsPlain (w : World) (s : ℕ) (f : ByteFlight) : Type 0 where
+  pub plain : has_version w s ≡ false
+  pub leased : w.now ≤ w.expiry f.by
 
--- the sector stays, or its version rises and a durable record of a log names it
-abbrev pub Orderly : World → World → ℕ → Type 0
-Orderly w v s = (v.disk s ≡ w.disk s) ⊎ ((version (w.disk s) < version (v.disk s)) × (d : ℕ) × Named (to_replay w d) s (version (v.disk s)))
+abbrev pub Orderly : World → Event → Type 0
+Orderly w (Land s f) = IsOrdered w s f
+Orderly w (BreakNew s f) = IsOrdered w s f
+Orderly w (LandBytes s f) = IsPlain w s f
+Orderly w (BreakBytesNew s f) = IsPlain w s f
+Orderly w e = Unit {0}
+
+-- the block that an event brings to a sector of the disk
+abbrev pub came : ℕ → Block → ℕ → Option Block
+came t block s = if nat_eq t s then Some block else None
+
+abbrev pub brings : Event → ℕ → Option Block
+brings (Land t f) s = came t f.block s
+brings (BreakNew t f) s = came t f.block s
+brings (LandBytes t f) s = came t f.block s
+brings (BreakBytesNew t f) s = came t f.block s
+brings Tick s = None
+brings Leave s = None
+brings (Renew a) s = None
+brings (Mount a) s = None
+brings (Unmount a) s = None
+brings (Take a l mode) s = None
+brings (Give a l) s = None
+brings (Lower a l) s = None
+brings (Do c) s = None
+brings (Reach d k) s = None
+brings (Ack a k) s = None
+brings (Sync a) s = None
+brings (Reclaim a k) s = None
+brings (Crash a) s = None
+brings (Begin d b) s = None
+brings (Look r t) s = None
+brings (Finish r) s = None
+brings (Fetch a t) s = None
+brings (Issue a t block mark) s = None
+brings (Replay r t block) s = None
+brings (Fade t f) s = None
+brings (Break t f) s = None
+brings (FetchBytes a t) s = None
+brings (Clear a t) s = None
+brings (IssueBytes a t block mark) s = None
+brings (FadeBytes t f) s = None
+brings (BreakBytes t f) s = None
+brings (Settle a t block mark) s = None
+
+abbrev pub or_else : Option Block → Block → Block
+or_else None old = old
+or_else (Some block) old = block
+
+-- there is one disk: a sector is what came last
+abbrev pub IsOneDisk : World → Event → ℕ → Type 0
+IsOneDisk w e s = block_at (after w e) s ≡ or_else (brings e s) (block_at w s)
+
+pub record Holds (w : World) : Type 0 where
+  -- each cached sector is the logical one, each cached page what a read shows, and the clean ones are the disk's
+  pub coherent : (a s : ℕ) → IsCopy (w.slot a s) (now_of w s)
+  pub coherent_bytes : (a s : ℕ) → IsCopyPage (w.page a s) (w.truth s)
+  pub clean_bytes : (a s : ℕ) → IsDiskPage (w.page a s) (w.bytes s)
+  -- what is known of bytes is what a read shows, and each read of the settled history showed the bytes that were known
+  pub known : (s : ℕ) → Known w.first s (w.truth s) (settled w.history)
+  pub agree : Agree w.first (settled w.history)
+  -- the disk with all logs replayed is the logical disk of what recoveries of all logs would leave
+  pub recoverable : (s : ℕ) → is_logged w.logged (left w w.servers) s ≡ true → replayed w w.servers s ≡ logical w.opening (left w w.servers) s
+  -- the disk, with no replay and with one, has all bytes that recoveries of all logs would leave known
+  pub on_disk : (s : ℕ) → is_logged w.logged (left w w.servers) s ≡ false → Known w.first s (block_at w s) (left w w.servers)
+  pub on_replayed : (s : ℕ) → is_logged w.logged (left w w.servers) s ≡ false → Known w.first s (replayed w w.servers s) (left w w.servers)
+  pub left_agrees : Agree w.first (left w w.servers)
+  -- what a server's recovery would remove now is a suffix of its operations that nobody saw or met and no sync answered for
+  pub rise : OpsRise (settled w.history)
+  pub unseen : (d : ℕ) → Unseen d (w.durable d) (settled w.history)
+  pub unmet : (d : ℕ) → Unmet d (w.durable d) (settled w.history)
+  pub unsynced : (d : ℕ) → Unsynced d (w.durable d) w.history
+  -- and so was what each recovery removed
+  pub was_kept : Kept w.history

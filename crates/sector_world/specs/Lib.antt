@@ -1,7 +1,7 @@
 pub mod World
 pub mod Guards
 pub mod Steps
-pub mod Claims
 pub mod Logged
 pub mod Bytes
 pub mod Kinds
+pub mod Claims

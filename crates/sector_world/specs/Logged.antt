@@ -1,11 +1,11 @@
 -- What every step keeps of the sectors with versions.
-use Rattle.std.specs.Prelude.{false, IsTrue, ℕ, ◌<◌, ◌≤◌, ◌≡◌, ◌≢◌, ◌⊎◌, List, Option, Some, None}
+use Rattle.std.specs.Prelude.{false, IsTrue, ℕ, ◌<◌, ◌≤◌, ◌≡◌, ◌≢◌, ◌⊎◌, ◌+◌, List, Option, Some, None}
 use Rattle.frang_base.specs.declared.lock.LockId.{LockId}
 use Rattle.frang_base.specs.declared.lock.Mode.{Mode}
 use Rattle.frang_base.specs.declared.lock.Mode.TheVariants.{Shared, Sole}
 use Rattle.cells.specs.Blocks.{Block, version}
 use Rattle.cells.specs.Changes.{has_lock, redo_all}
-use Rattle.cells.specs.Histories.{Commit, Item, settled, own, Each, OpsRise, Named, IsLast}
+use Rattle.cells.specs.Histories.{Commit, Item, settled, logical, own, Each, OpsRise, Named, IsLast}
 use Rattle.cells.specs.OnDisk.{Rising, OnDisk}
 use Rattle.cells.specs.Seen.{Unmet, Alters, Unseen, Unsynced, Kept}
 use Rattle.sector_world.specs.World.{World, Phase, Slot, Flight, Told, Rescue, cover}
@@ -13,7 +13,16 @@ use Rattle.sector_world.specs.World.Phase.{Off, Up, Dead}
 use Rattle.sector_world.specs.World.Slot.{Absent, Clean, Dirty}
 use Rattle.sector_world.specs.World.Told.{Unread, Wanted, InPlace}
 use Rattle.sector_world.specs.Guards.{to_replay}
-use Rattle.sector_world.specs.Claims.{now_of, IsCopy}
+
+-- the sectors after all operations of the settled history
+abbrev pub now_of : World → ℕ → Block
+now_of w s = logical w.opening (settled w.history) s
+
+-- what is cached is this
+abbrev pub IsCopy : Slot → Block → Type 0
+IsCopy Absent block = Unit {0}
+IsCopy (Clean x) block = x ≡ block
+IsCopy (Dirty x mark) block = x ≡ block
 
 -- an operation that may not be in place at a sector: its server is dead, or has the sector dirty with a mark that is not less
 abbrev pub Covers : Phase → Slot → ℕ → Type 0
@@ -69,14 +78,14 @@ Agrees Up (Dirty block mark) f = (block ≡ f) ⊎ (version f < version block)
 abbrev pub IsOwn : World → ℕ → Flight → Type 0
 IsOwn w s f = record {
   same : f.by ≡ f.behalf;
-  lease : f.stamp ≤ w.expiry f.by;
   agrees : Agrees (w.phase f.by) (w.slot f.by s) f.block;
 }
 
 abbrev pub IsRescue : World → ℕ → Flight → Type 0
 IsRescue w s f = record {
   dead : w.phase f.behalf ≡ Dead;
-  lease : f.stamp ≤ w.until f.behalf;
+  taker : w.taker f.behalf ≡ Some f.by;
+  until : f.stamp ≤ w.until f.behalf;
   told : (r : Rescue) → w.rescue ≡ Some r → r.dead ≡ f.behalf → r.told s ≡ Wanted f.block;
   rescuer : (r : Rescue) → w.rescue ≡ Some r → r.dead ≡ f.behalf → r.by ≡ f.by;
 }
@@ -86,6 +95,7 @@ abbrev pub FlightOk : World → ℕ → Flight → Type 0
 FlightOk w s f = record {
   place : OnDisk w.opening w.durable s (Pending w s) f.block (settled w.history);
   higher : version (w.disk s) < version f.block;
+  lease : f.stamp ≤ w.expiry f.by;
   sole : w.holds f.behalf (cover w s) ≡ Some Sole;
   named : Named (to_replay w f.behalf) s (version f.block);
   source : IsOwn w s f ⊎ IsRescue w s f;
@@ -101,6 +111,7 @@ RescueOk w r = record {
   dead : w.phase r.dead ≡ Dead;
   ended : w.expiry r.dead < w.now;
   up : w.phase r.by ≡ Up;
+  taker : w.taker r.dead ≡ Some r.by;
   until : w.until r.dead ≡ w.expiry r.by;
   told : (s : ℕ) → ToldOk (r.told s) (w.disk s) (redo_all (to_replay w r.dead) s (w.disk s));
 }
@@ -110,6 +121,7 @@ Logged w = record {
   logs : (d : ℕ) → w.log d ≡ own d (w.floor d) (settled w.history);
   apart : (a b : ℕ) (l : LockId) → w.holds a l ≡ Some Sole → w.holds b l ≢ None → a ≡ b;
   known : (a : ℕ) → w.phase a ≢ Off → a < w.servers;
+  leases : (a : ℕ) → w.expiry a ≤ w.now + 30;
   off_free : (a : ℕ) (l : LockId) → NoneIfOff (w.phase a) (w.holds a l);
   rested : (a : ℕ) → w.phase a ≡ Off → w.last a ≤ w.durable a;
   not_up : (a s : ℕ) → AbsentUnlessUp (w.phase a) (w.slot a s);

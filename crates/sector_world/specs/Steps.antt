@@ -191,7 +191,7 @@ after w (Crash a) = record w {
   page = put w.page a (λ s. NoPage);
   rescue = rescue_left a w.rescue;
 }
-after w (Begin d b) = record w { rescue = Some (record { dead = d; by = b; told = λ s. Unread }); until = put w.until d (w.expiry b) }
+after w (Begin d b) = record w { rescue = Some (record { dead = d; by = b; told = λ s. Unread }); taker = put w.taker d (Some b); until = put w.until d (w.expiry b) }
 after w (Look r s) = record w { rescue = Some (record { dead = r.dead; by = r.by; told = put r.told s (found (w.disk s) (redo_all (to_replay w r.dead) s (w.disk s))) }) }
 after w (Finish r) = record w {
   phase = put w.phase r.dead Off;
@@ -201,6 +201,7 @@ after w (Finish r) = record w {
   acked = put w.acked r.dead (w.durable r.dead);
   last = put w.last r.dead (w.durable r.dead);
   truth = λ s. truth_left (w.holds r.dead (cover w s)) (w.bytes s) (w.truth s);
+  taker = put w.taker r.dead None;
   rescue = None;
   history = Recovered r.dead (w.durable r.dead) ∷ w.history;
 }

@@ -71,7 +71,8 @@ pub record World : Type 0 where
   pub acked : ℕ → ℕ
   pub floor : ℕ → ℕ
   pub last : ℕ → ℕ
-  -- until when the taker of a log holds it, and the recovery under way
+  -- who last began to recover a log that isn't recovered since, until when it holds the log, and the recovery under way
+  pub taker : ℕ → Option ℕ
   pub until : ℕ → ℕ
   pub rescue : Option Rescue
   -- the sectors with versions: the disk, the caches by server, and the write in flight
@@ -105,6 +106,7 @@ start servers disk logged of_files home = record {
   acked = λ d. 0;
   floor = λ d. 0;
   last = λ d. 0;
+  taker = λ d. None;
   until = λ d. 0;
   rescue = None;
   disk = λ s. if logged s then disk s else zeros;
