@@ -54,7 +54,7 @@ dead_absent Off x e a = a
 dead_absent Up x e a = absurd (cc)
 dead_absent Dead x e a = a
 
-none_replay : (rs : List Redo) (s : ℕ) (block : Block) → NoneNames rs s → redo_all rs s block ≡ block
+pub none_replay : (rs : List Redo) (s : ℕ) (block : Block) → NoneNames rs s → redo_all rs s block ≡ block
 none_replay [] s block n = refl
 none_replay (r ∷ rs) s block n = rw (n.0, none_replay rs s block n.1)
 

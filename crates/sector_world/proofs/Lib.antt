@@ -17,3 +17,7 @@ pub mod Versioned
 pub mod Every
 pub mod Recoverable
 pub mod Left
+pub mod OneDisk
+pub mod Holding
+pub mod Legal
+pub mod Trees

@@ -5,3 +5,5 @@ pub mod Logged
 pub mod Bytes
 pub mod Kinds
 pub mod Claims
+pub mod Planned
+pub mod Trees

@@ -1,14 +1,42 @@
-//! Servers over shared sectors: whatever they do, and wherever they stop, the disk with its logs replayed is what was done
-//! but for the ends of some servers' work, which nobody saw.
+//! Servers over the sectors of one disk, with locks, leases, caches, private logs, writes in flight and recoveries, where any
+//! server may stop at any moment. The contracts promise that caches agree, that the disk with its logs replayed is what was
+//! done but for ends of some servers' work that nobody saw, that no sector with a version ever gets older, that all answers
+//! are those of one tree, and that what is known of file bytes is on the disk. It holds no code and stands on `cells`.
 #![tactic(auto)]
 
-ghost use Rattle.std.specs.Prelude.{◌≡◌};
-ghost use Rattle.sector_world.specs.Steps.{Run};
-ghost use Rattle.sector_world.specs.Logged.{Logged};
+ghost use Rattle.std.specs.Prelude.{◌≡◌, ℕ, List, Bool, true};
+ghost use Rattle.frang_base.specs.declared.lock.LockId.{LockId};
+ghost use Rattle.cells.specs.Blocks.{Block, zeros};
+ghost use Rattle.cells.specs.Plans.{Plan, IsFramed};
+ghost use Rattle.sector_world.specs.World.{World, start};
+ghost use Rattle.sector_world.specs.Steps.{Event, Run, Can};
+ghost use Rattle.sector_world.specs.Claims.{Holds, Orderly, IsOneDisk};
+ghost use Rattle.sector_world.specs.Planned.{ArePlanned, IsLegal};
+ghost use Rattle.sector_world.specs.Trees.{Apply, MeetsTree, AreNew, Stand, first_disk};
 
-/// Nothing yet.
-pub fn nothing(x: usize) -> usize
-    ensures { result ≡ x }
+/// After every run from a disk, of which some sectors have versions and some are of files, and at each next event.
+pub fn every_run()
+    ensures holds { (servers : ℕ) (disk : ℕ → Block) (logged of_files : ℕ → Bool) (home : ℕ → LockId) (events : List Event) (w : World)
+        → Run (start servers disk logged of_files home) events w → Holds w }
+    ensures orderly { (servers : ℕ) (disk : ℕ → Block) (logged of_files : ℕ → Bool) (home : ℕ → LockId) (events : List Event) (w : World)
+        → Run (start servers disk logged of_files home) events w → (e : Event) → Can w e → Orderly w e }
+    ensures one_disk { (servers : ℕ) (disk : ℕ → Block) (logged of_files : ℕ → Bool) (home : ℕ → LockId) (events : List Event) (w : World)
+        → Run (start servers disk logged of_files home) events w → (e : Event) → Can w e → (s : ℕ) → IsOneDisk w e s }
+    ensures legal { (plan : Plan) → IsFramed plan
+        → (servers : ℕ) (disk : ℕ → Block) (logged of_files : ℕ → Bool) (home : ℕ → LockId) (events : List Event) (w : World)
+        → Run (start servers disk logged of_files home) events w → ArePlanned plan (start servers disk logged of_files home) events
+        → IsLegal plan w }
 {
-    x
+}
+
+/// After every run whose operations are planned and have new numbers: for all plans, trees, tests of whether sectors stand for
+/// a tree, and ways to apply operations to trees that fit together.
+pub fn every_tree<Tree>()
+    ensures { (plan : Plan) → IsFramed plan
+        → (stands : (ℕ → Block) → Tree → Bool) (apply : Apply Tree) (fresh : ℕ → Tree → Bool) → MeetsTree Tree plan stands apply fresh
+        → (servers : ℕ) (disk : ℕ → Block) (logged of_files : ℕ → Bool) (home : ℕ → LockId) (first : Tree)
+        → stands (first_disk logged disk) first ≡ true → (events : List Event) (w : World)
+        → Run (start servers disk logged of_files home) events w → ArePlanned plan (start servers disk logged of_files home) events
+        → AreNew Tree fresh first (start servers disk logged of_files home) events → Stand Tree stands apply first w }
+{
 }
