@@ -1,8 +1,7 @@
 -- The version of a changed block is the change's, and the test of blocks is equality.
-use Rattle.std.proofs.Common.{ℕ, zero, suc, ◌+◌, ◌*◌, ◌/◌, ◌%◌, ◌≡◌, true, false, List, [], ◌∷◌, ◌++◌, take, drop, nat_eq, refl, sym, ◌∙◌, ap, arith, if◌then◌else◌}
-use Rattle.std.proofs.lemmas.Bool.Decides.{nat_tests}
+use Rattle.std.proofs.Common.{ℕ, zero, suc, ◌+◌, ◌*◌, ◌/◌, ◌%◌, ◌≡◌, true, false, [], ◌∷◌, nat_eq, refl, ◌∙◌, ap, arith}
 use Rattle.frang_base.specs.declared.change.Change.{Change}
-use Rattle.cells.specs.Blocks.{Block, spelled, spelling, version, patched, edited, same_block}
+use Rattle.cells.specs.Blocks.{Block, spelled, spelling, version, edited, same_block}
 use Rattle.cells.proofs.Basics.{by_test, eq_of, of_eq}
 
 low_byte : (n : ℕ) → n % 256 + 256 * (n / 256) ≡ n

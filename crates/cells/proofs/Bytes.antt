@@ -7,9 +7,8 @@ use Rattle.cells.specs.Histories.Item.{Done, Doubt}
 use Rattle.cells.specs.Bytes.{filled, turned, value, is_free_by, is_free, Known, AllWritten, OnData, Agree}
 use Rattle.cells.specs.Bytes.OnData.{here, newer, marked}
 use Rattle.cells.specs.Seen.{IsLost, Alters, Unseen}
-use Rattle.cells.proofs.Basics.{by_test, by_keep, eq_of, le_of, of_eq, of_lt, of_le, le_or_lt, or_equal, true_or}
+use Rattle.cells.proofs.Basics.{by_test, by_keep, eq_of, le_of, of_eq, of_lt, le_or_lt, or_equal, true_or}
 use Rattle.cells.proofs.Histories.{each_map, each_kept}
-use Rattle.cells.proofs.Seen.{each_kept_with}
 use Rattle.cells.proofs.Removals.{survives_low}
 
 pub survives_up : (d k : ℕ) (a : Commit) → a.by ≡ d → survives d k a ≡ true → a.op ≤ k

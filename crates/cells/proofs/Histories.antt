@@ -1,6 +1,5 @@
 -- Lemmas on histories.
-use Rattle.std.proofs.Common.{⊎_elim, le_of_eq, le_trans, ℕ, ◌<◌, ◌≤◌, ◌≡◌, ◌≢◌, ◌⊎◌, ◌&&◌, inl, inr, Bool, true, false, List, [], ◌∷◌, Option, Some, None, IsSome, nat_eq, nat_lt, nat_le, if◌then◌else◌, refl, sym, ◌∙◌, ap, subst, arith, cond}
-use Rattle.std.proofs.lemmas.Bool.Decides.{nat_tests}
+use Rattle.std.proofs.Common.{⊎_elim, le_of_eq, le_trans, ℕ, ◌<◌, ◌≤◌, ◌≡◌, ◌⊎◌, ◌&&◌, inl, inr, Bool, true, false, List, [], ◌∷◌, Option, Some, None, IsSome, nat_eq, nat_lt, nat_le, if◌then◌else◌, refl, sym, ◌∙◌, ap, subst, arith}
 use Rattle.frang_base.specs.declared.change.Change.{Change}
 use Rattle.cells.specs.Blocks.{Block, version, edited}
 use Rattle.cells.specs.Changes.{Redo, change_at, forced, redone, redo_all, keep_if, up_to}

@@ -1,7 +1,7 @@
 -- Operations that nobody saw can be removed: the others are still what the plan says.
 use Rattle.std.proofs.Common.{ℕ, Bool, List, [], ◌∷◌, IsTrue, sym, ◌∙◌, subst}
 use Rattle.cells.specs.Blocks.{Block}
-use Rattle.cells.specs.Histories.{Commit, Item, kept, logical, Each}
+use Rattle.cells.specs.Histories.{Commit, Item, kept, logical}
 use Rattle.cells.specs.Histories.Item.{Done, Doubt}
 use Rattle.cells.specs.Plans.{Plan, looks, IsFramed, Legal, IsClear}
 use Rattle.cells.proofs.Basics.{by_keep}

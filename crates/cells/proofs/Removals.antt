@@ -8,9 +8,9 @@ use Rattle.cells.specs.Histories.{Commit, Item, redo_of, IsLast, kept, survives,
 use Rattle.cells.specs.Histories.Item.{Done, Doubt}
 use Rattle.cells.specs.OnDisk.{AllDurable, OnDisk}
 use Rattle.cells.specs.OnDisk.OnDisk.{in_place, pending, passed}
-use Rattle.cells.proofs.Basics.{by_test, by_keep, eq_of, of_le, le_of, of_eq, of_ne, of_ge, of_lt}
+use Rattle.cells.proofs.Basics.{by_test, by_keep, eq_of, of_le, of_eq, of_ne, of_ge, of_lt}
 use Rattle.cells.proofs.Blocks.{edited_version}
-use Rattle.cells.proofs.Histories.{each_map, each_kept, up_keep}
+use Rattle.cells.proofs.Histories.{each_kept, up_keep}
 
 -- who survives
 pub survives_other : (d k : ℕ) (c : Commit) → c.by ≢ d → survives d k c ≡ true

@@ -1,14 +1,14 @@
 -- What is unseen, unmet and unsynced stays so, and covers stay where all that moved them stays.
-use Rattle.std.proofs.Common.{⊎_elim, IsTrue, ℕ, ◌<◌, ◌≤◌, ◌≡◌, ◌≢◌, ◌⊎◌, inl, inr, Bool, true, false, List, [], ◌∷◌, Option, Some, None, IsSome, refl, sym, ◌∙◌, ap, subst, arith}
+use Rattle.std.proofs.Common.{⊎_elim, IsTrue, ℕ, ◌<◌, ◌≤◌, ◌≡◌, inl, Bool, true, false, List, [], ◌∷◌, Option, Some, None, IsSome, refl, sym, ◌∙◌, ap, arith}
 use Rattle.frang_base.specs.declared.lock.LockId.{LockId}
 use Rattle.cells.specs.Changes.{keep_if, has_lock}
-use Rattle.cells.specs.Histories.{Commit, Item, Entry, kept, survives, is_left, Each, Changes, Moves, OpsRise, touches}
+use Rattle.cells.specs.Histories.{Commit, Item, Entry, kept, survives, Each, Changes, Moves, OpsRise}
 use Rattle.cells.specs.Histories.Item.{Done, Doubt}
 use Rattle.cells.specs.Histories.Entry.{Did, Recovered, Synced, Mounted}
-use Rattle.cells.specs.Seen.{moved, cover_of, Alters, Meets, IsLost, Unseen, Unmet, Unsynced}
+use Rattle.cells.specs.Seen.{moved, cover_of, Alters, IsLost, Unseen, Unmet, Unsynced}
 use Rattle.cells.specs.Plans.{IsClear}
-use Rattle.cells.proofs.Basics.{by_keep, or_equal, le_or_lt, le_of, of_le}
-use Rattle.cells.proofs.Histories.{each_map, each_map2, each_kept}
+use Rattle.cells.proofs.Basics.{by_keep, or_equal, le_or_lt, le_of}
+use Rattle.cells.proofs.Histories.{each_map, each_kept}
 use Rattle.cells.proofs.Removals.{survives_own, survives_low}
 
 pub unseen_kept : (d k : ℕ) (keep : Commit → Bool) (h : List Item) → Unseen d k h → Unseen d k (kept keep h)

@@ -1,37 +1,30 @@
 -- The end of a recovery: what was not durable goes, and what was not synced is in doubt.
-use Rattle.std.proofs.Common.{true, false, zero, suc, List, [], ◌∷◌, Bool, IsTrue, IsSome, is_some, if◌then◌else◌, ⊎_elim, le_refl, le_trans, ℕ, ◌+◌, ◌-◌, ◌<◌, ◌≤◌, ◌≡◌, ◌≢◌, ◌⊎◌, ◌&&◌, inl, inr, Option, Some, None, nat_eq, nat_lt, nat_le, refl, sym, ◌∙◌, ap, subst, arith}
-use Rattle.std.proofs.lemmas.Bool.Decides.{nat_tests}
-use Rattle.frang_base.specs.declared.lock.LockId.{LockId}
+use Rattle.std.proofs.Common.{true, false, List, [], ◌∷◌, Bool, ⊎_elim, ℕ, ◌<◌, ◌≤◌, ◌≡◌, ◌≢◌, inl, inr, Option, Some, None, nat_eq, refl, sym, ◌∙◌, ap, subst, arith}
 use Rattle.frang_base.specs.declared.lock.Mode.{Mode}
 use Rattle.frang_base.specs.declared.lock.Mode.TheVariants.{Shared, Sole}
-use Rattle.cells.specs.Blocks.{Block, zeros, same_block}
-use Rattle.cells.specs.Changes.{same_lock, has_lock, put, put2, put_lock}
-use Rattle.cells.specs.Histories.{Fill, Commit, Item, Entry, kept, survives, doubt_step, in_doubt, synced_of, recovered, settled, Each, Changes, Moves, Writes, touches, reaches, OpsRise, is_logged}
-use Rattle.cells.specs.Histories.Fill.{Written, Freed}
-use Rattle.cells.specs.Histories.Item.{Done, Doubt}
+use Rattle.cells.specs.Blocks.{Block}
+use Rattle.cells.specs.Changes.{put}
+use Rattle.cells.specs.Histories.{Item, Entry, kept, survives, in_doubt, synced_of, recovered, settled, Each, Writes}
 use Rattle.cells.specs.Histories.Entry.{Did, Recovered, Synced, Mounted}
-use Rattle.cells.specs.Bytes.{filled, turned, value, is_free_by, is_free, Known, AllWritten, OnData, Agree}
-use Rattle.cells.specs.Bytes.OnData.{here, newer, marked}
-use Rattle.cells.specs.Seen.{moved, Alters}
-use Rattle.cells.proofs.Basics.{by_test, eq_of, ne_of, le_of, of_le, of_lt, of_eq, of_ne, le_or_lt, or_equal, true_or, some_or, some_same, lock_of, lock_same, lock_not, at_put, put_same, put_other, at_put2, at_lock}
-use Rattle.cells.proofs.Blocks.{same_block_is}
-use Rattle.cells.proofs.Histories.{each_map, each_map2, each_kept}
+use Rattle.cells.specs.Bytes.{is_free, Known, OnData}
+use Rattle.cells.specs.Bytes.OnData.{here, marked}
+use Rattle.cells.specs.Seen.{Alters}
+use Rattle.cells.proofs.Basics.{by_test, eq_of, le_or_lt, at_put, put_other}
+use Rattle.cells.proofs.Histories.{each_map}
 use Rattle.cells.proofs.Seen.{each_kept_with}
-use Rattle.cells.proofs.Removals.{survives_low, ops_kept}
-use Rattle.cells.proofs.Bytes.{survives_up, none_writes, free_kept, value_kept, known_kept, known_past, known_marked, writes_reach, data_map, data_in_place, data_durable, doubt_kept, finish_known, recovered_known, agree_kept, data_kept}
-use Rattle.sector_world.specs.World.{World, Phase, Page, ByteFlight, Rescue, cover, has_version}
+use Rattle.cells.proofs.Bytes.{survives_up, free_kept, known_kept, doubt_kept, finish_known, recovered_known, agree_kept, data_kept}
+use Rattle.sector_world.specs.World.{World, Phase, Page, ByteFlight, Rescue, cover}
 use Rattle.sector_world.specs.World.Phase.{Off, Up, Dead}
 use Rattle.sector_world.specs.World.Page.{NoPage, CleanPage, DirtyPage, FreedPage}
-use Rattle.sector_world.specs.Guards.{Fits, NoDirtyPage, DirtyIfFree, Shows, MovesOwned, CanRenew, CanMount, CanUnmount, CanTake, CanGive, CanLower, CanClaim, CanDo, CanReach, CanSync, CanFinish, CanFetchBytes, CanClear, CanIssueBytes, CanLandBytes, CanSettle}
-use Rattle.sector_world.specs.Steps.{after, page_filled, page_done, truth_filled, page_lowered, page_landed, truth_left}
-use Rattle.sector_world.specs.Steps.Event.{Tick, Renew, Mount, Unmount, Take, Give, Lower, Do, Reach, Sync, Crash, Finish, FetchBytes, Clear, IssueBytes, LandBytes, FadeBytes, BreakBytes, BreakBytesNew, Settle}
-use Rattle.sector_world.specs.Logged.{Logged, NoneIfOff, FlightOk, RescueOk}
-use Rattle.sector_world.specs.Bytes.{IsLoose, CoversPage, PendingBytes, PageHeld, PageUnlessUp, IsCopyPage, IsDiskPage, IsMarked, ByteFlightOk, Bytes}
+use Rattle.sector_world.specs.Guards.{CanFinish}
+use Rattle.sector_world.specs.Steps.{after, truth_left}
+use Rattle.sector_world.specs.Steps.Event.{Finish}
+use Rattle.sector_world.specs.Logged.{Logged, RescueOk}
+use Rattle.sector_world.specs.Bytes.{IsLoose, PendingBytes, PageHeld, PageUnlessUp, IsCopyPage, IsMarked, ByteFlightOk, Bytes}
 use Rattle.cells.specs.Seen.{Unsynced}
-use Rattle.sector_world.specs.Guards.{to_replay}
 use Rattle.sector_world.proofs.Reaching.{sole_held}
 use Rattle.sector_world.proofs.Recovering.{sole_or_not}
-use Rattle.sector_world.proofs.Finishing.{k, lost_sole, other_cover, not_dead, other_holds}
+use Rattle.sector_world.proofs.Finishing.{k, lost_sole, not_dead, other_holds}
 
 left_sole : (m : Option Mode) (x y : Block) → m ≡ Some Sole → truth_left m x y ≡ x
 left_sole None x y e = cc

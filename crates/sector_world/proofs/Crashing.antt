@@ -1,32 +1,18 @@
 -- The death of a server.
-use Rattle.std.proofs.Common.{true, false, zero, suc, List, [], ◌∷◌, Bool, IsTrue, IsSome, if◌then◌else◌, ⊎_elim, le_refl, le_trans, ℕ, ◌+◌, ◌-◌, ◌<◌, ◌≤◌, ◌≡◌, ◌≢◌, ◌⊎◌, ◌&&◌, inl, inr, Option, Some, None, nat_eq, nat_lt, nat_le, refl, sym, ◌∙◌, ap, subst, arith}
-use Rattle.std.proofs.lemmas.Bool.Decides.{nat_tests}
-use Rattle.frang_base.specs.declared.change.Change.{Change}
-use Rattle.frang_base.specs.declared.lock.LockId.{LockId}
-use Rattle.frang_base.specs.declared.lock.Mode.{Mode}
-use Rattle.frang_base.specs.declared.lock.Mode.TheVariants.{Shared, Sole}
-use Rattle.cells.specs.Blocks.{Block, version, edited, zeros, same_block}
-use Rattle.cells.specs.Changes.{Redo, change_at, forced, redone, redo_all, keep_if, up_to, above, member, same_lock, has_lock, put, put2, put_lock}
-use Rattle.cells.specs.Histories.{Fill, Commit, Item, Entry, redo_of, kept, survives, in_doubt, synced_of, recovered, settled, is_left, logical, is_own, own, Each, Changes, Moves, Writes, touches, reaches, OpsRise, Named, IsLast, is_logged}
-use Rattle.cells.specs.Histories.Item.{Done, Doubt}
-use Rattle.cells.specs.OnDisk.{Raises, Rising, AllDurable, OnDisk}
-use Rattle.cells.specs.OnDisk.OnDisk.{in_place, pending, passed}
-use Rattle.cells.specs.Seen.{moved, cover_of, Alters, Meets, IsLost, SawNone, Unseen, UsedNone, Unmet, Unsynced, Kept}
-use Rattle.cells.proofs.Basics.{by_test, eq_of, ne_of, le_of, gt_of, of_le, of_gt, of_lt, of_ge, of_eq, of_ne, le_or_lt, or_equal, true_or, by_some, some_or, some_same, lock_of, lock_same, lock_not, at_put, put_same, put_other, at_put2, at_lock, by_keep}
-use Rattle.cells.proofs.Blocks.{edited_version, same_block_is, same_block_refl}
-use Rattle.cells.proofs.Histories.{AtMost, each_map, each_map2, each_kept, rising_bound, kept_version, rising_kept, all_skipped, kept_logical, replayed_is, on_disk_map, lost_pending, all_durable, unchanged, all_in_place, pending_or_not, in_place_or, disk_version, on_disk_kept, redo_keep, up_keep}
-use Rattle.cells.proofs.Removals.{survives_other, survives_own, survives_low, ops_kept, own_none, own_kept, all_durable_kept, last_kept, named_keep, last_named, redo_named}
-use Rattle.cells.proofs.More.{at_most_more, IsAbove, on_disk_more, all_durable_each, all_settled, last_pending, replay_place, redo_twice, named_more}
-use Rattle.cells.proofs.Seen.{unseen_kept, unseen_more, unmet_kept, unmet_more, unsynced_more, cover_kept, clear_survives, each_all, each_kept_with}
-use Rattle.sector_world.specs.World.{World, Phase, Slot, Page, Flight, ByteFlight, Told, Rescue, cover, has_version}
+use Rattle.std.proofs.Common.{⊎_elim, le_refl, ℕ, ◌<◌, ◌≤◌, ◌≡◌, ◌≢◌, inl, inr, Option, Some, None, nat_eq, refl, ◌∙◌, ap}
+use Rattle.cells.specs.Blocks.{Block}
+use Rattle.cells.specs.Changes.{put}
+use Rattle.cells.specs.Histories.{settled}
+use Rattle.cells.specs.OnDisk.{OnDisk}
+use Rattle.cells.proofs.Basics.{by_test, ne_of, at_put}
+use Rattle.cells.proofs.Histories.{on_disk_map}
+use Rattle.sector_world.specs.World.{World, Rescue, cover}
 use Rattle.sector_world.specs.World.Phase.{Off, Up, Dead}
-use Rattle.sector_world.specs.World.Slot.{Absent, Clean, Dirty}
-use Rattle.sector_world.specs.World.Told.{Unread, Wanted, InPlace}
-use Rattle.sector_world.specs.Guards.{Fits, NotDirty, NoDirtyPage, Based, Owned, MovesOwned, IsBelow, AreBelow, NoneNames, to_replay, CanTake, CanGive, CanLower, CanDo, CanReach, CanAck, CanSync, CanReclaim, CanBegin, CanFinish, CanFetch, CanIssue, CanReplay, CanLand}
-use Rattle.sector_world.specs.Steps.{after, changed, landed, rescue_landed, rescue_left, extended, found}
-use Rattle.sector_world.specs.Steps.Event.{Tick, Leave, Renew, Mount, Unmount, Take, Give, Lower, Do, Reach, Ack, Sync, Reclaim, Crash, Begin, Look, Finish, Fetch, Issue, Replay, Land, Fade, Break, BreakNew}
+use Rattle.sector_world.specs.World.Slot.{Absent}
+use Rattle.sector_world.specs.Steps.{after, rescue_left}
+use Rattle.sector_world.specs.Steps.Event.{Crash}
 use Rattle.sector_world.specs.Logged.{now_of, IsCopy}
-use Rattle.sector_world.specs.Logged.{Logged, IsNewer, Covers, Pending, HeldIf, IsAhead, NoneIfOff, AbsentUnlessUp, Agrees, IsOwn, IsRescue, FlightOk, ToldOk, RescueOk}
+use Rattle.sector_world.specs.Logged.{Logged, IsNewer, Covers, Pending, HeldIf, IsAhead, NoneIfOff, AbsentUnlessUp, Agrees, FlightOk, RescueOk}
 
 -- a recovery that is still under way isn't the dead server's
 pub left_is : (a : ℕ) (o : Option Rescue) (r : Rescue) → rescue_left a o ≡ Some r → (o ≡ Some r) × (r.by ≢ a)
@@ -77,7 +63,8 @@ logged_crash w a up g =
       flights = λ s f e n. let q : FlightOk w s f = g.flights s f e n in
           record {
             place = goes s f.block q.place;
-            higher = q.higher; lease = q.lease;
+            higher = q.higher;
+            lease = q.lease;
             sole = q.sole;
             named = q.named;
             source = ⊎_elim
@@ -97,7 +84,8 @@ logged_crash w a up g =
           };
       rescued = λ r e. let l = left_is a w.rescue r e in let q : RescueOk w r = g.rescued r l.0 in
           record {
-            taker = q.taker; ended = q.ended;
+            taker = q.taker;
+            ended = q.ended;
             until = q.until;
             told = q.told;
             dead = at_put (λ x. x ≡ Dead) w.phase a Dead r.dead (λ i. refl) (λ i. q.dead);

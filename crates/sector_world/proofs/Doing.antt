@@ -1,32 +1,28 @@
 -- An operation is done: it changes the cache, the log, the history and the covers.
-use Rattle.std.proofs.Common.{true, false, zero, suc, List, [], ◌∷◌, Bool, IsTrue, IsSome, is_some, if◌then◌else◌, ⊎_elim, le_refl, le_trans, ℕ, ◌+◌, ◌-◌, ◌<◌, ◌≤◌, ◌≡◌, ◌≢◌, ◌⊎◌, ◌&&◌, inl, inr, Option, Some, None, nat_eq, nat_lt, nat_le, refl, sym, ◌∙◌, ap, subst, arith}
-use Rattle.std.proofs.lemmas.Bool.Decides.{nat_tests}
+use Rattle.std.proofs.Common.{true, false, List, ◌∷◌, Bool, IsTrue, IsSome, is_some, if◌then◌else◌, ⊎_elim, le_refl, le_trans, ℕ, ◌<◌, ◌≤◌, ◌≡◌, ◌≢◌, inl, inr, Option, Some, None, nat_le, refl, sym, ◌∙◌, ap, subst, arith}
 use Rattle.frang_base.specs.declared.change.Change.{Change}
 use Rattle.frang_base.specs.declared.lock.LockId.{LockId}
 use Rattle.frang_base.specs.declared.lock.Mode.{Mode}
-use Rattle.frang_base.specs.declared.lock.Mode.TheVariants.{Shared, Sole}
-use Rattle.cells.specs.Blocks.{Block, version, edited, zeros, same_block}
-use Rattle.cells.specs.Changes.{Redo, change_at, forced, redone, redo_all, keep_if, up_to, above, member, same_lock, has_lock, put, put2, put_lock}
-use Rattle.cells.specs.Histories.{Fill, Commit, Item, Entry, redo_of, kept, survives, in_doubt, synced_of, recovered, settled, is_left, logical, is_own, own, Each, Changes, Moves, Writes, touches, reaches, OpsRise, Named, IsLast, is_logged}
-use Rattle.cells.specs.Histories.Item.{Done, Doubt}
-use Rattle.cells.specs.OnDisk.{Raises, Rising, AllDurable, OnDisk}
-use Rattle.cells.specs.OnDisk.OnDisk.{in_place, pending, passed}
-use Rattle.cells.specs.Seen.{moved, cover_of, Alters, Meets, IsLost, SawNone, Unseen, UsedNone, Unmet, Unsynced, Kept}
-use Rattle.cells.proofs.Basics.{by_test, eq_of, ne_of, le_of, gt_of, of_le, of_gt, of_lt, of_ge, of_eq, of_ne, le_or_lt, or_equal, true_or, by_some, some_or, some_same, lock_of, lock_same, lock_not, at_put, put_same, put_other, at_put2, at_lock, by_keep}
-use Rattle.cells.proofs.Blocks.{edited_version, same_block_is, same_block_refl}
-use Rattle.cells.proofs.Histories.{AtMost, each_map, each_map2, each_kept, rising_bound, kept_version, rising_kept, all_skipped, kept_logical, replayed_is, on_disk_map, lost_pending, all_durable, unchanged, all_in_place, pending_or_not, in_place_or, disk_version, on_disk_kept, redo_keep, up_keep}
-use Rattle.cells.proofs.Removals.{survives_other, survives_own, survives_low, ops_kept, own_none, own_kept, all_durable_kept, last_kept, named_keep, last_named, redo_named}
-use Rattle.cells.proofs.More.{at_most_more, IsAbove, on_disk_more, all_durable_each, all_settled, last_pending, replay_place, redo_twice, named_more}
-use Rattle.cells.proofs.Seen.{unseen_kept, unseen_more, unmet_kept, unmet_more, unsynced_more, cover_kept, clear_survives, each_all, each_kept_with}
-use Rattle.sector_world.specs.World.{World, Phase, Slot, Page, Flight, ByteFlight, Told, Rescue, cover, has_version}
+use Rattle.frang_base.specs.declared.lock.Mode.TheVariants.{Sole}
+use Rattle.cells.specs.Blocks.{Block, version, edited}
+use Rattle.cells.specs.Changes.{change_at, forced, redo_all, up_to, has_lock, put}
+use Rattle.cells.specs.Histories.{Commit, Item, redo_of, settled, logical, own, Each, Changes, reaches, Named}
+use Rattle.cells.specs.Histories.Item.{Done}
+use Rattle.cells.specs.OnDisk.{Raises, OnDisk}
+use Rattle.cells.specs.OnDisk.OnDisk.{pending}
+use Rattle.cells.specs.Seen.{moved, Alters, IsLost, SawNone}
+use Rattle.cells.proofs.Basics.{of_lt, of_eq, of_ne, at_put}
+use Rattle.cells.proofs.Blocks.{edited_version}
+use Rattle.cells.proofs.Histories.{each_map, on_disk_map, disk_version}
+use Rattle.cells.proofs.Removals.{named_keep}
+use Rattle.sector_world.specs.World.{World, Phase, Slot, Flight, Rescue, cover}
 use Rattle.sector_world.specs.World.Phase.{Off, Up, Dead}
 use Rattle.sector_world.specs.World.Slot.{Absent, Clean, Dirty}
-use Rattle.sector_world.specs.World.Told.{Unread, Wanted, InPlace}
-use Rattle.sector_world.specs.Guards.{Fits, NotDirty, NoDirtyPage, Based, Owned, MovesOwned, IsBelow, AreBelow, NoneNames, to_replay, CanTake, CanGive, CanLower, CanDo, CanReach, CanAck, CanSync, CanReclaim, CanBegin, CanFinish, CanFetch, CanIssue, CanReplay, CanLand}
-use Rattle.sector_world.specs.Steps.{after, changed, landed, rescue_landed, rescue_left, extended, found}
-use Rattle.sector_world.specs.Steps.Event.{Tick, Leave, Renew, Mount, Unmount, Take, Give, Lower, Do, Reach, Ack, Sync, Reclaim, Crash, Begin, Look, Finish, Fetch, Issue, Replay, Land, Fade, Break, BreakNew}
+use Rattle.sector_world.specs.Guards.{Based, Owned, MovesOwned, to_replay, CanDo}
+use Rattle.sector_world.specs.Steps.{after, changed}
+use Rattle.sector_world.specs.Steps.Event.{Do}
 use Rattle.sector_world.specs.Logged.{now_of, IsCopy}
-use Rattle.sector_world.specs.Logged.{Logged, IsNewer, Covers, Pending, HeldIf, IsAhead, NoneIfOff, AbsentUnlessUp, Agrees, IsOwn, IsRescue, FlightOk, ToldOk, RescueOk}
+use Rattle.sector_world.specs.Logged.{Logged, IsNewer, Covers, Pending, HeldIf, IsAhead, AbsentUnlessUp, Agrees, FlightOk, ToldOk, RescueOk}
 
 held_changed : (o : Option Change) (op : ℕ) (x : Slot) (m : Option Mode) → Owned o m → HeldIf x m → HeldIf (changed o op x) m
 held_changed None op x m q h = h
@@ -248,7 +244,8 @@ module _ (w : World) (c : Commit) (can : CanDo w c) (g : Logged w) where
       let q : FlightOk w s f = g.flights s f e n in
       record {
         place = do_goes s f.block q.place;
-        higher = q.higher; lease = q.lease;
+        higher = q.higher;
+        lease = q.lease;
         sole = do_sole f.behalf s q.sole;
         named = do_named f.behalf s (version f.block) q.named;
         source = ⊎_elim (λ o. inl (record {
@@ -265,7 +262,8 @@ module _ (w : World) (c : Commit) (can : CanDo w c) (g : Logged w) where
       let q : RescueOk w r = g.rescued r e in
       record {
         dead = q.dead;
-        taker = q.taker; ended = q.ended;
+        taker = q.taker;
+        ended = q.ended;
         up = q.up;
         until = q.until;
         told = λ s. at_put (λ x. ToldOk (r.told s) (w.disk s) (redo_all (up_to (w.durable r.dead) x) s (w.disk s))) w.log c.by (redo_of c ∷ w.log c.by) r.dead

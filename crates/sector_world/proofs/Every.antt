@@ -1,10 +1,9 @@
 -- All events, and every run.
-use Rattle.std.proofs.Common.{true, false, le_refl, arith, ℕ, ◌≡◌, ◌≢◌, Bool, List, [], ◌∷◌, Option, Some, None, if◌then◌else◌, refl}
+use Rattle.std.proofs.Common.{true, false, le_refl, arith, ℕ, ◌≡◌, Bool, List, [], ◌∷◌, Some, None, if◌then◌else◌, refl}
 use Rattle.frang_base.specs.declared.lock.LockId.{LockId}
 use Rattle.cells.specs.Blocks.{Block, zeros}
 use Rattle.cells.specs.OnDisk.OnDisk.{in_place}
 use Rattle.cells.specs.Bytes.OnData.{here}
-use Rattle.cells.proofs.Basics.{by_test}
 use Rattle.sector_world.specs.World.{World, start}
 use Rattle.sector_world.specs.Steps.{Event, Can, after, Run}
 use Rattle.sector_world.specs.Steps.Event.{Tick, Leave, Renew, Mount, Unmount, Take, Give, Lower, Do, Reach, Ack, Sync, Reclaim, Crash, Begin, Look, Finish, Fetch, Issue, Replay, Land, Fade, Break, BreakNew, FetchBytes, Clear, IssueBytes, LandBytes, FadeBytes, BreakBytes, BreakBytesNew, Settle}

@@ -1,18 +1,18 @@
 -- What holds after every run.
-use Rattle.std.proofs.Common.{true, false, zero, suc, List, [], ◌∷◌, Bool, IsSome, if◌then◌else◌, ⊎_elim, ℕ, ◌≤◌, ◌≡◌, ◌⊎◌, inl, inr, Option, Some, None, nat_le, refl, sym, ◌∙◌, ap, subst}
+use Rattle.std.proofs.Common.{true, false, zero, suc, List, [], ◌∷◌, Bool, IsSome, if◌then◌else◌, ⊎_elim, ℕ, ◌≡◌, ◌⊎◌, inl, inr, Option, Some, None, nat_le, refl, sym, ◌∙◌, ap, subst}
 use Rattle.cells.specs.Blocks.{Block, zeros}
 use Rattle.cells.specs.Changes.{Redo, change_at, redo_all, keep_if, up_to}
-use Rattle.cells.specs.Histories.{Commit, Item, settled, own, is_own, redo_of, logical, is_logged, Each, Changes}
+use Rattle.cells.specs.Histories.{Item, settled, own, is_own, redo_of, logical, is_logged, Each, Changes}
 use Rattle.cells.specs.Histories.Item.{Done, Doubt}
-use Rattle.cells.specs.Bytes.{Known, is_free}
+use Rattle.cells.specs.Bytes.{Known}
 use Rattle.sector_world.specs.World.{World, has_version, block_at}
 use Rattle.sector_world.specs.Guards.{NoneNames, to_replay}
-use Rattle.sector_world.specs.Kinds.{Kinds, Good}
+use Rattle.sector_world.specs.Kinds.{Good}
 use Rattle.sector_world.specs.Claims.{Holds, replayed, left}
 use Rattle.sector_world.proofs.Finishing.{none_replay}
 use Rattle.sector_world.proofs.Versioned.{plain_unchanged, plain_first, unchanged_logical}
 use Rattle.sector_world.proofs.Recoverable.{replay_disk, recoverable}
-use Rattle.sector_world.proofs.Left.{Fine, fine_left, left_logged, left_is, still_free, on_disk}
+use Rattle.sector_world.proofs.Left.{fine_left, left_logged, left_is, still_free, on_disk}
 
 true_or_false : (b : Bool) → (b ≡ true) ⊎ (b ≡ false)
 true_or_false true = inl refl

@@ -1,9 +1,6 @@
 -- The clock and the leases, mounting and unmounting.
-use Rattle.std.proofs.Common.{true, false, ⊎_elim, le_refl, le_trans, ℕ, ◌+◌, ◌<◌, ◌≤◌, ◌≡◌, ◌≢◌, inl, inr, Option, Some, None, nat_eq, refl, sym, ◌∙◌, ap, subst, arith}
-use Rattle.std.proofs.lemmas.Bool.Decides.{nat_tests}
-use Rattle.frang_base.specs.declared.lock.LockId.{LockId}
+use Rattle.std.proofs.Common.{false, ⊎_elim, le_refl, le_trans, ℕ, ◌+◌, ◌<◌, ◌≤◌, ◌≡◌, ◌≢◌, inl, inr, Option, Some, None, nat_eq, refl, sym, ◌∙◌, ap, subst, arith}
 use Rattle.frang_base.specs.declared.lock.Mode.{Mode}
-use Rattle.frang_base.specs.declared.lock.Mode.TheVariants.{Shared, Sole}
 use Rattle.cells.specs.Blocks.{Block}
 use Rattle.cells.specs.Changes.{put}
 use Rattle.cells.specs.Histories.{Commit, settled}
@@ -36,7 +33,8 @@ logged_leave w g =
     let q : FlightOk w s f = g.flights s f e n in
     record {
       place = q.place;
-      higher = q.higher; lease = q.lease;
+      higher = q.higher;
+      lease = q.lease;
       sole = q.sole;
       named = q.named;
       source = ⊎_elim (λ o. inl o) (λ o. inr (record { taker = o.taker; dead = o.dead; until = o.until; told = λ r i j. absurd (none_some r i); rescuer = λ r i j. absurd (none_some r i) })) q.source;
@@ -72,7 +70,8 @@ logged_renew w a can g =
     let q : FlightOk w s f = g.flights s f e n in
     record {
       place = q.place;
-      higher = q.higher; lease = le_trans q.lease (longer w a can.later f.by);
+      higher = q.higher;
+      lease = le_trans q.lease (longer w a can.later f.by);
       sole = q.sole;
       named = q.named;
       source = ⊎_elim (λ o. inl (record { same = o.same; agrees = o.agrees }))
@@ -82,7 +81,8 @@ logged_renew w a can g =
     let q : RescueOk w r = g.rescued r e in
     record {
       dead = q.dead;
-      taker = q.taker; ended = at_put (λ x. x < w.now) w.expiry a (w.now + 30) r.dead (λ i. absurd (phases_differ w.phase a r.dead can.up q.dead i)) (λ n. q.ended);
+      taker = q.taker;
+      ended = at_put (λ x. x < w.now) w.expiry a (w.now + 30) r.dead (λ i. absurd (phases_differ w.phase a r.dead can.up q.dead i)) (λ n. q.ended);
       up = q.up;
       until = subst (λ o. extended a (w.now + 30) o w.until r.dead ≡ put w.expiry a (w.now + 30) r.by) (sym e) (extended_own a (w.now + 30) r w.expiry w.until q.until);
       told = q.told;
@@ -139,7 +139,8 @@ logged_mount w a can g =
     let q : FlightOk w s f = g.flights s f e n in
     record {
       place = goes s f.block q.place;
-      higher = q.higher; lease = at_put (λ x. f.stamp ≤ x) w.expiry a (w.now + 30) f.by (λ i. le_trans q.lease (g.leases f.by)) (λ i. q.lease);
+      higher = q.higher;
+      lease = at_put (λ x. f.stamp ≤ x) w.expiry a (w.now + 30) f.by (λ i. le_trans q.lease (g.leases f.by)) (λ i. q.lease);
       sole = q.sole;
       named = q.named;
       source = ⊎_elim
@@ -161,7 +162,8 @@ logged_mount w a can g =
     let q : RescueOk w r = g.rescued r e in
     record {
       dead = at_put (λ x. x ≡ Dead) w.phase a Up r.dead (λ i. let z : w.phase r.dead ≡ Off = ap w.phase i ∙ can.off in let y = q.dead in absurd (cc)) (λ i. q.dead);
-      taker = q.taker; ended = at_put (λ x. x < w.now) w.expiry a (w.now + 30) r.dead (λ i. let z : w.phase r.dead ≡ Off = ap w.phase i ∙ can.off in let y = q.dead in absurd (cc)) (λ i. q.ended);
+      taker = q.taker;
+      ended = at_put (λ x. x < w.now) w.expiry a (w.now + 30) r.dead (λ i. let z : w.phase r.dead ≡ Off = ap w.phase i ∙ can.off in let y = q.dead in absurd (cc)) (λ i. q.ended);
       up = at_put (λ x. x ≡ Up) w.phase a Up r.by (λ i. refl) (λ i. q.up);
       until = at_put (λ x. w.until r.dead ≡ x) w.expiry a (w.now + 30) r.by (λ i. let z : w.phase r.by ≡ Off = ap w.phase i ∙ can.off in let y = q.up in absurd (cc)) (λ i. q.until);
       told = q.told;
@@ -211,7 +213,8 @@ logged_unmount w a can g =
     let q : FlightOk w s f = g.flights s f e n in
     record {
       place = goes s f.block q.place;
-      higher = q.higher; lease = q.lease;
+      higher = q.higher;
+      lease = q.lease;
       sole = q.sole;
       named = q.named;
       source = ⊎_elim
@@ -233,7 +236,8 @@ logged_unmount w a can g =
     let q : RescueOk w r = g.rescued r e in
     record {
       dead = at_put (λ x. x ≡ Dead) w.phase a Off r.dead (λ i. absurd (phases_differ w.phase a r.dead can.up q.dead i)) (λ i. q.dead);
-      taker = q.taker; ended = q.ended;
+      taker = q.taker;
+      ended = q.ended;
       up = at_put (λ x. x ≡ Up) w.phase a Off r.by (λ i. absurd (can.resting r e i)) (λ i. q.up);
       until = q.until;
       told = q.told;

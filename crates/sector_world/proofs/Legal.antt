@@ -1,7 +1,7 @@
 -- The history stays legal, through all removals.
-use Rattle.std.proofs.Common.{ℕ, ◌≡◌, ◌≢◌, ◌⊎◌, List, [], ◌∷◌, IsTrue, refl, sym, ◌∙◌, ap, subst}
+use Rattle.std.proofs.Common.{◌≡◌, ◌≢◌, List, [], ◌∷◌, IsTrue, refl, sym, ◌∙◌, subst}
 use Rattle.cells.specs.Blocks.{Block}
-use Rattle.cells.specs.Histories.{Commit, settled, survives, touches}
+use Rattle.cells.specs.Histories.{Commit, settled, survives}
 use Rattle.cells.specs.Histories.Item.{Done}
 use Rattle.cells.specs.Plans.{Plan, looks, IsFramed, Legal}
 use Rattle.cells.proofs.Plans.{legal_kept}

@@ -1,32 +1,23 @@
 -- Taking and giving locks, fetching.
-use Rattle.std.proofs.Common.{true, false, zero, suc, List, [], ◌∷◌, Bool, IsTrue, IsSome, if◌then◌else◌, ⊎_elim, le_refl, le_trans, ℕ, ◌+◌, ◌-◌, ◌<◌, ◌≤◌, ◌≡◌, ◌≢◌, ◌⊎◌, ◌&&◌, inl, inr, Option, Some, None, nat_eq, nat_lt, nat_le, refl, sym, ◌∙◌, ap, subst, arith}
-use Rattle.std.proofs.lemmas.Bool.Decides.{nat_tests}
-use Rattle.frang_base.specs.declared.change.Change.{Change}
+use Rattle.std.proofs.Common.{IsTrue, if◌then◌else◌, ⊎_elim, le_refl, ℕ, ◌<◌, ◌≤◌, ◌≡◌, ◌≢◌, inl, inr, Option, Some, None, refl, sym, ◌∙◌, ap, subst, arith}
 use Rattle.frang_base.specs.declared.lock.LockId.{LockId}
 use Rattle.frang_base.specs.declared.lock.Mode.{Mode}
 use Rattle.frang_base.specs.declared.lock.Mode.TheVariants.{Shared, Sole}
-use Rattle.cells.specs.Blocks.{Block, version, edited, zeros, same_block}
-use Rattle.cells.specs.Changes.{Redo, change_at, forced, redone, redo_all, keep_if, up_to, above, member, same_lock, has_lock, put, put2, put_lock}
-use Rattle.cells.specs.Histories.{Fill, Commit, Item, Entry, redo_of, kept, survives, in_doubt, synced_of, recovered, settled, is_left, logical, is_own, own, Each, Changes, Moves, Writes, touches, reaches, OpsRise, Named, IsLast, is_logged}
-use Rattle.cells.specs.Histories.Item.{Done, Doubt}
-use Rattle.cells.specs.OnDisk.{Raises, Rising, AllDurable, OnDisk}
-use Rattle.cells.specs.OnDisk.OnDisk.{in_place, pending, passed}
-use Rattle.cells.specs.Seen.{moved, cover_of, Alters, Meets, IsLost, SawNone, Unseen, UsedNone, Unmet, Unsynced, Kept}
-use Rattle.cells.proofs.Basics.{by_test, eq_of, ne_of, le_of, gt_of, of_le, of_gt, of_lt, of_ge, of_eq, of_ne, le_or_lt, or_equal, true_or, by_some, some_or, some_same, lock_of, lock_same, lock_not, at_put, put_same, put_other, at_put2, at_lock, by_keep}
-use Rattle.cells.proofs.Blocks.{edited_version, same_block_is, same_block_refl}
-use Rattle.cells.proofs.Histories.{AtMost, each_map, each_map2, each_kept, rising_bound, kept_version, rising_kept, all_skipped, kept_logical, replayed_is, on_disk_map, lost_pending, all_durable, unchanged, all_in_place, pending_or_not, in_place_or, disk_version, on_disk_kept, redo_keep, up_keep}
-use Rattle.cells.proofs.Removals.{survives_other, survives_own, survives_low, ops_kept, own_none, own_kept, all_durable_kept, last_kept, named_keep, last_named, redo_named}
-use Rattle.cells.proofs.More.{at_most_more, IsAbove, on_disk_more, all_durable_each, all_settled, last_pending, replay_place, redo_twice, named_more}
-use Rattle.cells.proofs.Seen.{unseen_kept, unseen_more, unmet_kept, unmet_more, unsynced_more, cover_kept, clear_survives, each_all, each_kept_with}
-use Rattle.sector_world.specs.World.{World, Phase, Slot, Page, Flight, ByteFlight, Told, Rescue, cover, has_version}
+use Rattle.cells.specs.Blocks.{Block}
+use Rattle.cells.specs.Changes.{same_lock, has_lock, put_lock}
+use Rattle.cells.specs.Histories.{Commit, settled, Each}
+use Rattle.cells.specs.OnDisk.{OnDisk}
+use Rattle.cells.specs.Seen.{Alters}
+use Rattle.cells.proofs.Basics.{by_test, some_same, lock_of, lock_not, at_put, at_put2, at_lock}
+use Rattle.cells.proofs.Histories.{each_map, each_map2, on_disk_map, all_in_place}
+use Rattle.sector_world.specs.World.{World, Phase, Slot, Flight, cover}
 use Rattle.sector_world.specs.World.Phase.{Off, Up, Dead}
 use Rattle.sector_world.specs.World.Slot.{Absent, Clean, Dirty}
-use Rattle.sector_world.specs.World.Told.{Unread, Wanted, InPlace}
-use Rattle.sector_world.specs.Guards.{Fits, NotDirty, NoDirtyPage, Based, Owned, MovesOwned, IsBelow, AreBelow, NoneNames, to_replay, CanTake, CanGive, CanLower, CanDo, CanReach, CanAck, CanSync, CanReclaim, CanBegin, CanFinish, CanFetch, CanIssue, CanReplay, CanLand}
-use Rattle.sector_world.specs.Steps.{after, changed, landed, rescue_landed, rescue_left, extended, found}
-use Rattle.sector_world.specs.Steps.Event.{Tick, Leave, Renew, Mount, Unmount, Take, Give, Lower, Do, Reach, Ack, Sync, Reclaim, Crash, Begin, Look, Finish, Fetch, Issue, Replay, Land, Fade, Break, BreakNew}
+use Rattle.sector_world.specs.Guards.{Fits, NotDirty, CanTake, CanGive, CanFetch}
+use Rattle.sector_world.specs.Steps.{after}
+use Rattle.sector_world.specs.Steps.Event.{Take, Give, Lower, Fetch}
 use Rattle.sector_world.specs.Logged.{now_of, IsCopy}
-use Rattle.sector_world.specs.Logged.{Logged, IsNewer, Covers, Pending, HeldIf, IsAhead, NoneIfOff, AbsentUnlessUp, Agrees, IsOwn, IsRescue, FlightOk, ToldOk, RescueOk}
+use Rattle.sector_world.specs.Logged.{Logged, IsNewer, Covers, Pending, HeldIf, IsAhead, NoneIfOff, AbsentUnlessUp, Agrees, FlightOk}
 
 fits_sole_none : (m : Option Mode) → Fits Sole m → m ≢ None → ⊥
 fits_sole_none None f n = n refl
@@ -157,7 +148,8 @@ module _ (w : World) (a : ℕ) (l : LockId) (can : CanGive w a l) (g : Logged w)
       let q : FlightOk w s f = g.flights s f e n in
       record {
         place = goes s f.block q.place;
-        higher = q.higher; lease = q.lease;
+        higher = q.higher;
+        lease = q.lease;
         named = q.named;
         sole = sole f.behalf (cover w s) (λ i j. ⊎_elim (λ o. can.landed s f j e n o.same (o.same ∙ i)) (λ o. let u = can.up in let v = o.dead in let z : w.phase f.behalf ≡ w.phase a = ap w.phase i in cc) q.source) q.sole;
         source = ⊎_elim (λ o. inl (record {
@@ -264,7 +256,8 @@ module _ (w : World) (a : ℕ) (l : LockId) (can : CanGive w a l) (alone : w.hol
     flights = λ s f e n. let q : FlightOk w s f = g.flights s f e n in
         record {
           place = lower_goes s f.block q.place;
-          higher = q.higher; lease = q.lease;
+          higher = q.higher;
+          lease = q.lease;
           named = q.named;
           source = q.source;
           sole = lower_sole f.behalf (cover w s) (λ i j. ⊎_elim (λ o. can.landed s f j e n o.same (o.same ∙ i)) (λ o. let u = can.up in let v = o.dead in let z : w.phase f.behalf ≡ w.phase a = ap w.phase i in cc) q.source) q.sole;
@@ -327,7 +320,8 @@ module _ (w : World) (a s : ℕ) (can : CanFetch w a s) (g : Logged w) where
     flights = λ t f e n. let q : FlightOk w t f = g.flights t f e n in
         record {
           place = fetch_goes t f.block q.place;
-          higher = q.higher; lease = q.lease;
+          higher = q.higher;
+          lease = q.lease;
           sole = q.sole;
           named = q.named;
           source = ⊎_elim (λ o. inl (record {

@@ -1,19 +1,17 @@
 -- There is one disk, and writes come to it in order.
-use Rattle.std.proofs.Common.{true, false, zero, suc, List, [], ◌∷◌, Bool, IsTrue, IsSome, is_some, if◌then◌else◌, ⊎_elim, le_refl, le_trans, ℕ, ◌<◌, ◌≤◌, ◌≡◌, ◌≢◌, ◌⊎◌, inl, inr, Option, Some, None, nat_eq, refl, sym, ◌∙◌, ap, subst, arith}
+use Rattle.std.proofs.Common.{true, false, Bool, if◌then◌else◌, ⊎_elim, le_trans, ℕ, ◌<◌, ◌≡◌, ◌⊎◌, inl, inr, refl, sym, ◌∙◌, ap, subst, arith}
 use Rattle.cells.specs.Blocks.{Block, version, zeros}
 use Rattle.cells.specs.Changes.{put}
-use Rattle.cells.specs.Histories.{Commit, Item, settled, survives, is_logged}
-use Rattle.cells.specs.Histories.Item.{Done}
-use Rattle.cells.proofs.Basics.{by_test, at_put, eq_of, ne_of, of_eq, of_ne, or_equal}
-use Rattle.sector_world.specs.World.{World, Page, Flight, ByteFlight, Rescue, has_version, block_at}
-use Rattle.sector_world.specs.World.Page.{CleanPage}
+use Rattle.cells.specs.Histories.{Commit, settled, survives}
+use Rattle.cells.proofs.Basics.{of_eq, of_ne, or_equal}
+use Rattle.sector_world.specs.World.{World, Flight, ByteFlight, Rescue, has_version, block_at}
 use Rattle.sector_world.specs.Guards.{CanLand, CanLandBytes, CanDo, CanFinish}
 use Rattle.sector_world.specs.Steps.{Event, Can, after}
 use Rattle.sector_world.specs.Steps.Event.{Tick, Leave, Renew, Mount, Unmount, Take, Give, Lower, Do, Reach, Ack, Sync, Reclaim, Crash, Begin, Look, Finish, Fetch, Issue, Replay, Land, Fade, Break, BreakNew, FetchBytes, Clear, IssueBytes, LandBytes, FadeBytes, BreakBytes, BreakBytesNew, Settle}
 use Rattle.sector_world.specs.Logged.{Logged, Pending, FlightOk}
-use Rattle.sector_world.specs.Bytes.{Bytes, ByteFlightOk, IsDiskPage}
+use Rattle.sector_world.specs.Bytes.{ByteFlightOk, IsDiskPage}
 use Rattle.sector_world.specs.Kinds.{Kinds, Good}
-use Rattle.sector_world.specs.Claims.{IsOrdered, IsPlain, Orderly, came, brings, or_else, IsOneDisk}
+use Rattle.sector_world.specs.Claims.{IsOrdered, IsPlain, Orderly, came, or_else, IsOneDisk}
 use Rattle.sector_world.proofs.Finishing.{logged_finish}
 use Rattle.sector_world.proofs.Versioned.{plain_unchanged, plain_first, unchanged_place, logged_less, kinds_finish, landed_plain}
 

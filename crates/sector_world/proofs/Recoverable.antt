@@ -1,32 +1,17 @@
 -- The sectors with versions after a replay of all logs are those without what is not durable.
-use Rattle.std.proofs.Common.{true, false, zero, suc, List, [], ◌∷◌, Bool, IsTrue, IsSome, if◌then◌else◌, ⊎_elim, le_refl, le_trans, ℕ, ◌+◌, ◌-◌, ◌<◌, ◌≤◌, ◌≡◌, ◌≢◌, ◌⊎◌, ◌&&◌, inl, inr, Option, Some, None, nat_eq, nat_lt, nat_le, refl, sym, ◌∙◌, ap, subst, arith}
-use Rattle.std.proofs.lemmas.Bool.Decides.{nat_tests}
-use Rattle.frang_base.specs.declared.change.Change.{Change}
-use Rattle.frang_base.specs.declared.lock.LockId.{LockId}
-use Rattle.frang_base.specs.declared.lock.Mode.{Mode}
-use Rattle.frang_base.specs.declared.lock.Mode.TheVariants.{Shared, Sole}
-use Rattle.cells.specs.Blocks.{Block, version, edited, zeros, same_block}
-use Rattle.cells.specs.Changes.{Redo, change_at, forced, redone, redo_all, keep_if, up_to, above, member, same_lock, has_lock, put, put2, put_lock}
-use Rattle.cells.specs.Histories.{Fill, Commit, Item, Entry, redo_of, kept, survives, in_doubt, synced_of, recovered, settled, is_left, logical, is_own, own, Each, Changes, Moves, Writes, touches, reaches, OpsRise, Named, IsLast, is_logged}
-use Rattle.cells.specs.Histories.Item.{Done, Doubt}
-use Rattle.cells.specs.OnDisk.{Raises, Rising, AllDurable, OnDisk}
-use Rattle.cells.specs.OnDisk.OnDisk.{in_place, pending, passed}
-use Rattle.cells.specs.Seen.{moved, cover_of, Alters, Meets, IsLost, SawNone, Unseen, UsedNone, Unmet, Unsynced, Kept}
-use Rattle.cells.proofs.Basics.{by_test, eq_of, ne_of, le_of, gt_of, of_le, of_gt, of_lt, of_ge, of_eq, of_ne, le_or_lt, or_equal, true_or, by_some, some_or, some_same, lock_of, lock_same, lock_not, at_put, put_same, put_other, at_put2, at_lock, by_keep}
-use Rattle.cells.proofs.Blocks.{edited_version, same_block_is, same_block_refl}
-use Rattle.cells.proofs.Histories.{AtMost, each_map, each_map2, each_kept, rising_bound, kept_version, rising_kept, all_skipped, kept_logical, replayed_is, on_disk_map, lost_pending, all_durable, unchanged, all_in_place, pending_or_not, in_place_or, disk_version, on_disk_kept, redo_keep, up_keep}
-use Rattle.cells.proofs.Removals.{survives_other, survives_own, survives_low, ops_kept, own_none, own_kept, all_durable_kept, last_kept, named_keep, last_named, redo_named}
-use Rattle.cells.proofs.More.{at_most_more, IsAbove, on_disk_more, all_durable_each, all_settled, last_pending, replay_place, redo_twice, named_more}
-use Rattle.cells.proofs.Seen.{unseen_kept, unseen_more, unmet_kept, unmet_more, unsynced_more, cover_kept, clear_survives, each_all, each_kept_with}
-use Rattle.sector_world.specs.World.{World, Phase, Slot, Page, Flight, ByteFlight, Told, Rescue, cover, has_version}
-use Rattle.sector_world.specs.World.Phase.{Off, Up, Dead}
-use Rattle.sector_world.specs.World.Slot.{Absent, Clean, Dirty}
-use Rattle.sector_world.specs.World.Told.{Unread, Wanted, InPlace}
-use Rattle.sector_world.specs.Guards.{Fits, NotDirty, NoDirtyPage, Based, Owned, MovesOwned, IsBelow, AreBelow, NoneNames, to_replay, CanTake, CanGive, CanLower, CanDo, CanReach, CanAck, CanSync, CanReclaim, CanBegin, CanFinish, CanFetch, CanIssue, CanReplay, CanLand}
-use Rattle.sector_world.specs.Steps.{after, changed, landed, rescue_landed, rescue_left, extended, found}
-use Rattle.sector_world.specs.Steps.Event.{Tick, Leave, Renew, Mount, Unmount, Take, Give, Lower, Do, Reach, Ack, Sync, Reclaim, Crash, Begin, Look, Finish, Fetch, Issue, Replay, Land, Fade, Break, BreakNew}
-use Rattle.sector_world.specs.Logged.{now_of, IsCopy}
-use Rattle.sector_world.specs.Logged.{Logged, IsNewer, Covers, Pending, HeldIf, IsAhead, NoneIfOff, AbsentUnlessUp, Agrees, IsOwn, IsRescue, FlightOk, ToldOk, RescueOk}
+use Rattle.std.proofs.Common.{true, zero, suc, List, ⊎_elim, le_refl, ℕ, ◌<◌, ◌≤◌, ◌≡◌, ◌≢◌, ◌⊎◌, inl, inr, None, nat_le, refl, sym, ◌∙◌, ap, subst, arith}
+use Rattle.cells.specs.Blocks.{Block, version}
+use Rattle.cells.specs.Changes.{Redo, change_at, redo_all, up_to}
+use Rattle.cells.specs.Histories.{Commit, kept, settled, is_left, logical, Each, Changes}
+use Rattle.cells.specs.OnDisk.{AllDurable}
+use Rattle.cells.proofs.Basics.{of_le, le_or_lt}
+use Rattle.cells.proofs.Histories.{AtMost, each_map, rising_bound, all_skipped, kept_logical, replayed_is, pending_or_not, in_place_or}
+use Rattle.cells.proofs.Removals.{redo_named}
+use Rattle.cells.proofs.More.{at_most_more}
+use Rattle.sector_world.specs.World.{World, cover}
+use Rattle.sector_world.specs.Guards.{to_replay}
+use Rattle.sector_world.specs.Logged.{now_of}
+use Rattle.sector_world.specs.Logged.{Logged, Pending, NoneIfOff}
 
 -- the sectors with versions after a replay of the durable records of the logs below n, in their order
 abbrev pub replay_disk : World → ℕ → ℕ → Block
@@ -100,4 +85,3 @@ module _ (w : World) (g : Logged w) where
       ⊎_elim (λ i. let j : w.servers ≤ m.0.by = i.0 in absurd (omega arith)) (λ i. i.1) (before_or_after s m.0.by f w.servers))
       (λ m. all_there s m.0 m.1)
       (pending_or_not w.opening w.durable s (Pending w s) (w.disk s) (settled w.history) (g.place s))
-

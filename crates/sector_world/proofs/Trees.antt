@@ -1,9 +1,9 @@
 -- The sectors stand for the tree of the history, and the replayed disk for the tree that is left.
-use Rattle.std.proofs.Common.{ℕ, zero, suc, ◌≡◌, ◌≢◌, Bool, true, false, List, [], ◌∷◌, if◌then◌else◌, sym, ◌∙◌, ap, subst}
+use Rattle.std.proofs.Common.{ℕ, zero, suc, ◌≡◌, ◌≢◌, Bool, true, List, [], ◌∷◌, sym, ◌∙◌, ap, subst}
 use Rattle.std.proofs.Math.Path.{fun_ext}
-use Rattle.cells.specs.Blocks.{Block, zeros}
-use Rattle.cells.specs.Changes.{change_at, forced, keep_if}
-use Rattle.cells.specs.Histories.{Commit, Item, settled, recovered, survives, kept, logical, is_logged, Each}
+use Rattle.cells.specs.Blocks.{Block}
+use Rattle.cells.specs.Changes.{change_at, forced}
+use Rattle.cells.specs.Histories.{Commit, Item, settled, survives, kept, logical, Each}
 use Rattle.cells.specs.Histories.Item.{Done, Doubt}
 use Rattle.cells.specs.Plans.{Plan, Legal}
 use Rattle.cells.proofs.Basics.{by_keep}
@@ -13,9 +13,9 @@ use Rattle.sector_world.specs.Steps.{Event, after, Run}
 use Rattle.sector_world.specs.Steps.Event.{Tick, Leave, Renew, Mount, Unmount, Take, Give, Lower, Do, Reach, Ack, Sync, Reclaim, Crash, Begin, Look, Finish, Fetch, Issue, Replay, Land, Fade, Break, BreakNew, FetchBytes, Clear, IssueBytes, LandBytes, FadeBytes, BreakBytes, BreakBytesNew, Settle}
 use Rattle.sector_world.specs.Steps.Run.{stays, goes}
 use Rattle.sector_world.specs.Kinds.{Good}
-use Rattle.sector_world.specs.Claims.{left, replayed}
+use Rattle.sector_world.specs.Claims.{left}
 use Rattle.sector_world.specs.Planned.{IsLegal}
-use Rattle.sector_world.specs.Trees.{Applied, Apply, MeetsTree, Meets, IsNew, NewIf, AreNew, tree_of, Answers, with_versions, Stand}
+use Rattle.sector_world.specs.Trees.{Apply, MeetsTree, Meets, NewIf, AreNew, tree_of, Answers, Stand}
 use Rattle.sector_world.proofs.Holding.{with_versions_is}
 
 -- the numbers of the operations differ, and are new to the first tree
@@ -84,8 +84,7 @@ module _ {Tree : Type 0} (plan : Plan) (stands : (ℕ → Block) → Tree → Bo
   both (Done c ∷ h) l d =
       let r = both h l.1 d.2 in
       let new : fresh c.op (tree_of apply first h) ≡ true = r.1 c.op d.1 d.0 in
-      let q : Meets Tree plan stands apply fresh c.op c.asked (tree_of apply first h) (logical opening h) = meets c.op c.asked (tree_of apply first h) (logical opening h) r.0 new in
-      (
+      let q : Meets Tree plan stands apply fresh c.op c.asked (tree_of apply first h) (logical opening h) = meets c.op c.asked (tree_of apply first h) (logical opening h) r.0 new in (
         subst (λ o. stands (λ s. forced (change_at o.changes s) (logical opening h s)) (apply c.op c.asked o.blocks (tree_of apply first h)).tree ≡ true) (sym l.0) q.next,
         (λ m e f. subst (λ o. fresh m (apply c.op c.asked o.blocks (tree_of apply first h)).tree ≡ true) (sym l.0) (q.others m (λ i. e.0 (sym i)) (r.1 m e.1 f))),
       )

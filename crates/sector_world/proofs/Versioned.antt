@@ -1,39 +1,31 @@
 -- Which sectors have versions, through all events.
-use Rattle.std.proofs.Common.{true, false, zero, suc, List, [], ◌∷◌, Bool, IsTrue, IsSome, is_some, if◌then◌else◌, ⊎_elim, le_refl, le_trans, ℕ, ◌+◌, ◌-◌, ◌<◌, ◌≤◌, ◌≡◌, ◌≢◌, ◌⊎◌, ◌&&◌, inl, inr, Option, Some, None, nat_eq, nat_lt, nat_le, refl, sym, ◌∙◌, ap, subst, arith}
-use Rattle.std.proofs.lemmas.Bool.Decides.{nat_tests}
+use Rattle.std.proofs.Common.{true, false, List, [], ◌∷◌, Bool, IsTrue, IsSome, if◌then◌else◌, ⊎_elim, le_trans, ℕ, ◌-◌, ◌<◌, ◌≤◌, ◌≡◌, ◌⊎◌, inl, inr, Option, Some, None, refl, sym, ◌∙◌, ap, subst, arith}
 use Rattle.frang_base.specs.declared.lock.LockId.{LockId}
 use Rattle.frang_base.specs.declared.lock.Mode.{Mode}
-use Rattle.frang_base.specs.declared.lock.Mode.TheVariants.{Shared, Sole}
-use Rattle.cells.specs.Blocks.{Block, zeros, same_block}
-use Rattle.cells.specs.Changes.{change_at, same_lock, has_lock, put, put2, put_lock}
-use Rattle.cells.specs.Histories.{Fill, Commit, Item, Entry, kept, survives, doubt_step, in_doubt, synced_of, recovered, settled, Each, Changes, Moves, Writes, touches, reaches, OpsRise, is_logged}
-use Rattle.cells.specs.Histories.Fill.{Written, Freed}
+use Rattle.frang_base.specs.declared.lock.Mode.TheVariants.{Sole}
+use Rattle.cells.specs.Blocks.{Block, zeros}
+use Rattle.cells.specs.Changes.{change_at, same_lock, put, put2}
+use Rattle.cells.specs.Histories.{Fill, Commit, Item, kept, survives, settled, Each, Changes, Moves, Writes, touches, OpsRise, is_logged}
 use Rattle.cells.specs.Histories.Item.{Done, Doubt}
-use Rattle.cells.specs.Histories.Entry.{Did, Recovered, Synced, Mounted}
-use Rattle.cells.specs.Bytes.{filled, turned, value, is_free_by, is_free, Known, AllWritten, OnData, Agree}
-use Rattle.cells.specs.Bytes.OnData.{here, newer, marked}
-use Rattle.cells.specs.Seen.{moved, Alters}
-use Rattle.cells.proofs.Basics.{by_test, eq_of, ne_of, le_of, of_le, of_lt, of_eq, of_ne, le_or_lt, or_equal, true_or, some_or, some_same, lock_of, lock_same, lock_not, at_put, put_same, put_other, at_put2, at_lock}
-use Rattle.cells.proofs.Blocks.{same_block_is}
+use Rattle.cells.specs.Bytes.{is_free_by, is_free, AllWritten}
+use Rattle.cells.specs.Seen.{Alters}
+use Rattle.cells.proofs.Basics.{by_test, le_or_lt, or_equal, at_put, at_put2}
 use Rattle.cells.proofs.Histories.{each_map, each_map2, each_kept}
-use Rattle.cells.proofs.Seen.{each_kept_with}
-use Rattle.cells.proofs.Removals.{survives_low, ops_kept}
-use Rattle.cells.proofs.Bytes.{survives_up, none_writes, free_kept, value_kept, known_kept, known_past, known_marked, writes_reach, data_map, data_in_place, data_durable, doubt_kept, finish_known, recovered_known, agree_kept, data_kept}
-use Rattle.sector_world.specs.World.{World, Phase, Page, ByteFlight, Rescue, cover, has_version}
-use Rattle.sector_world.specs.World.Phase.{Off, Up, Dead}
-use Rattle.sector_world.specs.World.Page.{NoPage, CleanPage, DirtyPage, FreedPage}
-use Rattle.sector_world.specs.Guards.{Fits, NoDirtyPage, DirtyIfFree, Shows, MovesOwned, CanRenew, CanMount, CanUnmount, CanTake, CanGive, CanLower, CanClaim, CanDo, CanReach, CanSync, CanFinish, CanFetchBytes, CanClear, CanIssueBytes, CanLandBytes, CanSettle}
-use Rattle.sector_world.specs.Steps.{after, page_filled, page_done, truth_filled, page_lowered, page_landed, truth_left}
-use Rattle.sector_world.specs.Steps.Event.{Tick, Renew, Mount, Unmount, Take, Give, Lower, Do, Reach, Sync, Crash, Finish, FetchBytes, Clear, IssueBytes, LandBytes, FadeBytes, BreakBytes, BreakBytesNew, Settle}
-use Rattle.sector_world.specs.Logged.{Logged, NoneIfOff, FlightOk, RescueOk}
-use Rattle.sector_world.specs.Bytes.{IsLoose, CoversPage, PendingBytes, PageHeld, PageUnlessUp, IsCopyPage, IsDiskPage, IsMarked, ByteFlightOk, Bytes}
+use Rattle.cells.proofs.Removals.{survives_low}
+use Rattle.cells.proofs.Bytes.{survives_up, none_writes, free_kept, data_in_place}
+use Rattle.sector_world.specs.World.{World, Page, ByteFlight, Rescue, cover, has_version}
+use Rattle.sector_world.specs.World.Page.{NoPage, CleanPage, DirtyPage}
+use Rattle.sector_world.specs.Guards.{MovesOwned, CanDo, CanReach, CanFetchBytes, CanClear, CanIssueBytes, CanLandBytes, CanSettle}
+use Rattle.sector_world.specs.Steps.{after, page_done, page_lowered, page_landed}
+use Rattle.sector_world.specs.Steps.Event.{Tick, Give, Lower, Do, Reach, Crash, Finish, FetchBytes, Clear, IssueBytes, LandBytes, FadeBytes, BreakBytes, BreakBytesNew, Settle}
+use Rattle.sector_world.specs.Logged.{Logged}
+use Rattle.sector_world.specs.Bytes.{IsLoose, PendingBytes, IsDiskPage, ByteFlightOk, Bytes}
 use Rattle.cells.specs.OnDisk.{OnDisk}
 use Rattle.cells.specs.OnDisk.OnDisk.{in_place, pending, passed}
 use Rattle.cells.specs.Histories.{logical}
 use Rattle.cells.specs.Seen.{Unseen, IsLost}
 use Rattle.cells.proofs.Basics.{by_keep}
 use Rattle.cells.proofs.Histories.{unchanged}
-use Rattle.cells.proofs.Removals.{survives_own}
 use Rattle.sector_world.specs.Kinds.{Claimed, Kinds}
 use Rattle.sector_world.proofs.Reaching.{sole_held}
 use Rattle.sector_world.proofs.BytesLanding.{other_page}
@@ -193,8 +185,7 @@ module _ (w : World) (a : Commit) (can : CanDo w a) (l : Logged w) (k : Bytes w)
         (λ i. let q : ByteFlightOk w s f = k.flights s f e n in claim_alone f.by s i q.sole q.loose)
         (λ i. g.landed s f i.1 e n) (claims_or (a.claims s) (has_version w s) v);
     cleared = λ s v n. ⊎_elim
-        (λ i. let r = data_in_place w.first w.durable s (PendingBytes w s) (w.bytes s) (λ c h p. claim_alone c.by s i p.sole p.loose) (settled w.history) (k.place s) in
-        (
+        (λ i. let r = data_in_place w.first w.durable s (PendingBytes w s) (w.bytes s) (λ c h p. claim_alone c.by s i p.sole p.loose) (settled w.history) (k.place s) in (
           sym (subst (λ x. IsDiskPage x (w.bytes s)) (can.claims s i).cleared (k.clean a.by s)),
           free_none (a.writes s) (is_free w.first (settled w.history) s) (no_write s v) (can.claims s i).free,
           ((λ x. absurd (no_write s v x)), r.1),

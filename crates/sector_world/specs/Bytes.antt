@@ -1,7 +1,7 @@
 -- What every step keeps of file bytes.
 use Rattle.std.specs.Prelude.{true, false, Bool, ℕ, ◌<◌, ◌≤◌, ◌≡◌, ◌≢◌, ◌⊎◌, List, Option, Some, None}
 use Rattle.frang_base.specs.declared.lock.Mode.{Mode}
-use Rattle.frang_base.specs.declared.lock.Mode.TheVariants.{Shared, Sole}
+use Rattle.frang_base.specs.declared.lock.Mode.TheVariants.{Sole}
 use Rattle.cells.specs.Blocks.{Block}
 use Rattle.cells.specs.Histories.{Commit, Item, settled, in_doubt, synced_of, Writes}
 use Rattle.cells.specs.Bytes.{is_free, Known, OnData, Agree}

@@ -1,5 +1,5 @@
 -- What holds after every run, of the sectors with versions.
-use Rattle.std.specs.Prelude.{ℕ, zero, suc, true, false, Bool, ◌≡◌, ◌≢◌, ◌<◌, ◌≤◌, List, Option, Some, None, nat_eq, if◌then◌else◌}
+use Rattle.std.specs.Prelude.{ℕ, zero, suc, true, false, ◌≡◌, ◌≢◌, ◌<◌, ◌≤◌, List, Option, Some, None, nat_eq, if◌then◌else◌}
 use Rattle.cells.specs.Blocks.{Block, version}
 use Rattle.cells.specs.Changes.{redo_all}
 use Rattle.cells.specs.Histories.{Item, settled, recovered, logical, OpsRise, Named, is_logged}

@@ -9,11 +9,11 @@ use Rattle.cells.specs.Changes.{Redo, change_at, up_to, has_lock}
 use Rattle.cells.specs.Histories.{Commit, settled, is_logged, touches, Changes, Moves, Writes}
 use Rattle.cells.specs.Histories.Item.{Done}
 use Rattle.cells.specs.Bytes.{is_free}
-use Rattle.sector_world.specs.World.{World, Slot, Page, Flight, ByteFlight, Told, Rescue, cover, has_version}
+use Rattle.sector_world.specs.World.{World, Slot, Page, Flight, ByteFlight, Rescue, cover, has_version}
 use Rattle.sector_world.specs.World.Phase.{Off, Up, Dead}
 use Rattle.sector_world.specs.World.Slot.{Absent, Clean, Dirty}
 use Rattle.sector_world.specs.World.Page.{NoPage, CleanPage, DirtyPage, FreedPage}
-use Rattle.sector_world.specs.World.Told.{Unread, Wanted, InPlace}
+use Rattle.sector_world.specs.World.Told.{Wanted, InPlace}
 
 -- one server may hold this beside what another holds
 abbrev pub Fits : Mode → Option Mode → Type 0

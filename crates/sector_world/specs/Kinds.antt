@@ -1,10 +1,10 @@
 -- What every step keeps of which sectors have versions, and all that every step keeps.
-use Rattle.std.specs.Prelude.{true, false, Bool, ℕ, ◌≤◌, ◌≡◌, List, [], ◌∷◌, Option, Some, None}
-use Rattle.cells.specs.Blocks.{Block, zeros}
-use Rattle.cells.specs.Histories.{Commit, Item, settled, is_logged, Each, Changes, Moves}
+use Rattle.std.specs.Prelude.{true, false, Bool, ℕ, ◌≤◌, ◌≡◌, List, [], ◌∷◌, Some}
+use Rattle.cells.specs.Blocks.{zeros}
+use Rattle.cells.specs.Histories.{Item, settled, is_logged, Each, Changes, Moves}
 use Rattle.cells.specs.Histories.Item.{Done, Doubt}
 use Rattle.cells.specs.Bytes.{is_free, AllWritten}
-use Rattle.sector_world.specs.World.{World, Page, ByteFlight, has_version}
+use Rattle.sector_world.specs.World.{World, ByteFlight, has_version}
 use Rattle.sector_world.specs.World.Page.{NoPage}
 use Rattle.sector_world.specs.Logged.{Logged}
 use Rattle.sector_world.specs.Bytes.{Bytes}

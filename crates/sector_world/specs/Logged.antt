@@ -2,7 +2,7 @@
 use Rattle.std.specs.Prelude.{false, IsTrue, ℕ, ◌<◌, ◌≤◌, ◌≡◌, ◌≢◌, ◌⊎◌, ◌+◌, List, Option, Some, None}
 use Rattle.frang_base.specs.declared.lock.LockId.{LockId}
 use Rattle.frang_base.specs.declared.lock.Mode.{Mode}
-use Rattle.frang_base.specs.declared.lock.Mode.TheVariants.{Shared, Sole}
+use Rattle.frang_base.specs.declared.lock.Mode.TheVariants.{Sole}
 use Rattle.cells.specs.Blocks.{Block, version}
 use Rattle.cells.specs.Changes.{has_lock, redo_all}
 use Rattle.cells.specs.Histories.{Commit, Item, settled, logical, own, Each, OpsRise, Named, IsLast}

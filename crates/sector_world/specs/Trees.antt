@@ -7,7 +7,7 @@ use Rattle.cells.specs.Blocks.{Block, zeros}
 use Rattle.cells.specs.Changes.{change_at, forced}
 use Rattle.cells.specs.Histories.{Commit, Item, settled, is_logged, Each}
 use Rattle.cells.specs.Histories.Item.{Done, Doubt}
-use Rattle.cells.specs.Plans.{Plan, Outcome}
+use Rattle.cells.specs.Plans.{Plan}
 use Rattle.sector_world.specs.World.{World}
 use Rattle.sector_world.specs.Steps.{Event, after}
 use Rattle.sector_world.specs.Steps.Event.{Do}

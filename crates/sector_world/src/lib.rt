@@ -26,8 +26,7 @@ pub fn every_run()
         → (servers : ℕ) (disk : ℕ → Block) (logged of_files : ℕ → Bool) (home : ℕ → LockId) (events : List Event) (w : World)
         → Run (start servers disk logged of_files home) events w → ArePlanned plan (start servers disk logged of_files home) events
         → IsLegal plan w }
-{
-}
+{}
 
 /// After every run whose operations are planned and have new numbers: for all plans, trees, tests of whether sectors stand for
 /// a tree, and ways to apply operations to trees that fit together.
@@ -38,5 +37,4 @@ pub fn every_tree<Tree>()
         → stands (first_disk logged disk) first ≡ true → (events : List Event) (w : World)
         → Run (start servers disk logged of_files home) events w → ArePlanned plan (start servers disk logged of_files home) events
         → AreNew Tree fresh first (start servers disk logged of_files home) events → Stand Tree stands apply first w }
-{
-}
+{}
