@@ -38,6 +38,7 @@ logged_crash w a up g =
       apart = g.apart;
       known = λ b. at_put (λ p. p ≢ Off → b < w.servers) w.phase a Dead b (λ e n. g.known b (λ q. let r = ap w.phase e ∙ up in cc)) (λ n. g.known b);
       leases = g.leases;
+      begun = λ d b e. let q = g.begun d b e in (at_put (λ x. x ≡ Dead) w.phase a Dead d (λ i. refl) (λ n. q.0), q.1);
       off_free = λ b t. at_put (λ p. NoneIfOff p (w.holds b t)) w.phase a Dead b (λ e. tt) (λ n. g.off_free b t);
       rested = λ b. at_put (λ p. p ≡ Off → w.last b ≤ w.durable b) w.phase a Dead b (λ e i. absurd (cc)) (λ n. g.rested b);
       not_up = λ b t. at_put (λ p. AbsentUnlessUp p (put w.slot a (λ s. Absent) b t)) w.phase a Dead b

@@ -276,6 +276,7 @@ module _ (w : World) (c : Commit) (can : CanDo w c) (g : Logged w) where
     apart = g.apart;
     known = g.known;
     leases = g.leases;
+    begun = g.begun;
     off_free = g.off_free;
     rested = λ b e. at_put (λ x. x ≤ w.durable b) w.last c.by c.op b (λ i. let p : w.phase b ≡ Up = ap w.phase i ∙ can.up in absurd (cc)) (λ n. g.rested b e);
     not_up = λ b t. at_slot (λ x. AbsentUnlessUp (w.phase b) x) b t (λ e. up_only (w.phase b) (changed (change_at c.changes t) c.op (w.slot c.by t)) (ap w.phase e ∙ can.up)) (λ n. g.not_up b t);

@@ -43,6 +43,7 @@ module _ (servers : ℕ) (disk : ℕ → Block) (logged of_files : ℕ → Bool)
     apart = λ a b s e n. absurd (cc);
     known = λ a n. absurd (n refl);
     leases = λ a. omega arith;
+    begun = λ d b e. absurd (cc);
     off_free = λ a s. refl;
     rested = λ a e. le_refl 0;
     not_up = λ a s. refl;

@@ -208,6 +208,7 @@ module _ (w : World) (r : Rescue) (can : CanFinish w r) (g : Logged w) where
         (λ n m. at_put (λ f. f l ≢ None → a ≡ b) w.holds r.dead (λ t. None) b (λ e i. absurd (i refl)) (λ e i. g.apart a b l m i));
     known = λ b. at_put (λ p. p ≢ Off → b < w.servers) w.phase r.dead Off b (λ e n. absurd (n refl)) (λ n. g.known b);
     leases = g.leases;
+    begun = λ d b. at_put (λ o. o ≡ Some b → (put w.phase r.dead Off d ≡ Dead) × (w.expiry d < w.now)) w.taker r.dead None d (λ i j. absurd (cc)) (λ n j. let q = g.begun d b j in (put_other w.phase r.dead Off d n ∙ q.0, q.1));
     off_free = λ b l. at_put (λ p. NoneIfOff p (put w.holds r.dead (λ t. None) b l)) w.phase r.dead Off b
         (λ e. at_put (λ f. f l ≡ None) w.holds r.dead (λ t. None) b (λ i. refl) (λ n. absurd (n e)))
         (λ n. at_put (λ f. NoneIfOff (w.phase b) (f l)) w.holds r.dead (λ t. None) b (λ i. absurd (n i)) (λ i. g.off_free b l));

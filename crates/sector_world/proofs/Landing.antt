@@ -212,6 +212,7 @@ module _ (w : World) (s : ℕ) (f : Flight) (can : CanLand w s f) (g : Logged w)
     apart = g.apart;
     known = g.known;
     leases = g.leases;
+    begun = g.begun;
     off_free = g.off_free;
     rested = g.rested;
     not_up = λ b t. at_put2 (λ x. AbsentUnlessUp (w.phase b) x) w.slot f.behalf s (landed f.block (w.slot f.behalf s)) b t

@@ -21,6 +21,7 @@ logged_tick w g =
     let rescued : (r : Rescue) → w.rescue ≡ Some r → RescueOk (after w Tick) r = λ r e. let q : RescueOk w r = g.rescued r e in
     record { dead = q.dead; taker = q.taker; ended = (let m : w.expiry r.dead < w.now = q.ended in omega arith); up = q.up; until = q.until; told = q.told } in
     let leases : (a : ℕ) → w.expiry a ≤ w.now + 1 + 30 = λ a. let m : w.expiry a ≤ w.now + 30 = g.leases a in omega arith in
+    let begun : (d b : ℕ) → w.taker d ≡ Some b → (w.phase d ≡ Dead) × (w.expiry d < w.now + 1) = λ d b e. let q = g.begun d b e in (q.0, let m : w.expiry d < w.now = q.1 in omega arith) in
     search
 
 none_some : (r : Rescue) → ◌≡◌ {A = Option Rescue} None (Some r) → ⊥
@@ -92,6 +93,7 @@ logged_renew w a can g =
       apart = g.apart;
       known = g.known;
       leases = λ b. at_put (λ x. x ≤ w.now + 30) w.expiry a (w.now + 30) b (λ e. le_refl (w.now + 30)) (λ n. g.leases b);
+      begun = λ d b e. let q = g.begun d b e in (q.0, at_put (λ x. x < w.now) w.expiry a (w.now + 30) d (λ i. absurd (phases_differ w.phase a d can.up q.0 i)) (λ n. q.1));
       off_free = g.off_free;
       rested = g.rested;
       not_up = g.not_up;
@@ -173,6 +175,9 @@ logged_mount w a can g =
       apart = g.apart;
       known = λ b. at_put (λ p. p ≢ Off → b < w.servers) w.phase a Up b (λ e n. subst (λ x. x < w.servers) (sym e) can.known) (λ n. g.known b);
       leases = λ b. at_put (λ x. x ≤ w.now + 30) w.expiry a (w.now + 30) b (λ e. le_refl (w.now + 30)) (λ n. g.leases b);
+      begun = λ d b e. let q = g.begun d b e in
+          let n : d ≢ a = λ i. let z : w.phase d ≡ Off = ap w.phase i ∙ can.off in let y = q.0 in cc in
+          (put_other w.phase a Up d n ∙ q.0, at_put (λ x. x < w.now) w.expiry a (w.now + 30) d (λ i. absurd (n i)) (λ i. q.1));
       off_free = λ b s. at_put (λ p. NoneIfOff p (w.holds b s)) w.phase a Up b (λ e. tt) (λ n. g.off_free b s);
       rested = λ b. at_put (λ p. p ≡ Off → w.last b ≤ w.durable b) w.phase a Up b (λ e i. absurd (cc)) (λ n. g.rested b);
       not_up = λ b s. at_put (λ p. AbsentUnlessUp p (w.slot b s)) w.phase a Up b (λ e. tt) (λ n. g.not_up b s);
@@ -247,6 +252,7 @@ logged_unmount w a can g =
       apart = g.apart;
       known = λ b. at_put (λ p. p ≢ Off → b < w.servers) w.phase a Off b (λ e n. absurd (n refl)) (λ n. g.known b);
       leases = g.leases;
+      begun = λ d b e. let q = g.begun d b e in (put_other w.phase a Off d (phases_differ w.phase a d can.up q.0) ∙ q.0, q.1);
       off_free = λ b l. at_put (λ p. NoneIfOff p (w.holds b l)) w.phase a Off b (λ e. ap (λ x. w.holds x l) e ∙ can.given l) (λ n. g.off_free b l);
       rested = λ b. at_put (λ p. p ≡ Off → w.last b ≤ w.durable b) w.phase a Off b (λ e i. subst (λ x. w.last x ≤ w.durable x) (sym e) full) (λ n. g.rested b);
       not_up = λ b s. at_put (λ p. AbsentUnlessUp p (w.slot b s)) w.phase a Off b

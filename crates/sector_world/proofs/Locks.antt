@@ -60,6 +60,7 @@ logged_take w a l mode can g =
           (λ i n. g.apart b d t m n));
       known = g.known;
       leases = g.leases;
+      begun = g.begun;
       off_free = λ b t. at_lock (λ m. NoneIfOff (w.phase b) m) w.holds a l (Some mode) b t (λ e f. none_if_up (w.phase b) (Some mode) (ap w.phase e ∙ can.up)) (λ o. g.off_free b t);
       rested = g.rested;
       not_up = g.not_up;
@@ -166,6 +167,7 @@ module _ (w : World) (a : ℕ) (l : LockId) (can : CanGive w a l) (g : Logged w)
         (λ o m. at_lock (λ x. x ≢ None → b ≡ d) w.holds a l None d t (λ i j n. absurd (n refl)) (λ i n. g.apart b d t m n));
     known = g.known;
     leases = g.leases;
+    begun = g.begun;
     off_free = λ b t. at_lock (λ m. NoneIfOff (w.phase b) m) w.holds a l None b t (λ e f. free_ok (w.phase b)) (λ o. g.off_free b t);
     rested = g.rested;
     not_up = λ b s. at_slot (λ x. AbsentUnlessUp (w.phase b) x) b s (λ e f. absent_ok (w.phase b)) (λ n. g.not_up b s);
@@ -230,6 +232,7 @@ module _ (w : World) (a : ℕ) (l : LockId) (can : CanGive w a l) (alone : w.hol
         (λ i j n. g.apart b d t m (λ q. let z : w.holds d t ≡ Some Sole = ap (λ x. w.holds x t) i ∙ ap (w.holds a) j ∙ alone in cc)) (λ i n. g.apart b d t m n));
     known = g.known;
     leases = g.leases;
+    begun = g.begun;
     off_free = λ b t. at_lock (λ m. NoneIfOff (w.phase b) m) w.holds a l (Some Shared) b t (λ e f. none_if_up (w.phase b) (Some Shared) (ap w.phase e ∙ can.up)) (λ o. g.off_free b t);
     rested = g.rested;
     not_up = g.not_up;
@@ -296,6 +299,7 @@ module _ (w : World) (a s : ℕ) (can : CanFetch w a s) (g : Logged w) where
     apart = g.apart;
     known = g.known;
     leases = g.leases;
+    begun = g.begun;
     off_free = g.off_free;
     rested = g.rested;
     not_up = λ b t. at_put2 (λ x. AbsentUnlessUp (w.phase b) x) w.slot a s (Clean (w.disk s)) b t (λ e f. up_ok (w.phase b) (Clean (w.disk s)) (ap w.phase e ∙ can.up)) (λ o. g.not_up b t);

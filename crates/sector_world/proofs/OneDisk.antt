@@ -1,9 +1,9 @@
 -- There is one disk, and writes come to it in order.
-use Rattle.std.proofs.Common.{true, false, Bool, if◌then◌else◌, ⊎_elim, le_trans, ℕ, ◌<◌, ◌≡◌, ◌⊎◌, inl, inr, refl, sym, ◌∙◌, ap, subst, arith}
+use Rattle.std.proofs.Common.{true, false, Bool, if◌then◌else◌, ⊎_elim, le_trans, ℕ, ◌<◌, ◌≤◌, ◌≡◌, ◌⊎◌, inl, inr, Option, Some, None, refl, sym, ◌∙◌, ap, subst, arith}
 use Rattle.cells.specs.Blocks.{Block, version, zeros}
 use Rattle.cells.specs.Changes.{put}
 use Rattle.cells.specs.Histories.{Commit, settled, survives}
-use Rattle.cells.proofs.Basics.{of_eq, of_ne, or_equal}
+use Rattle.cells.proofs.Basics.{by_some, of_eq, of_ne, or_equal}
 use Rattle.sector_world.specs.World.{World, Flight, ByteFlight, Rescue, has_version, block_at}
 use Rattle.sector_world.specs.Guards.{CanLand, CanLandBytes, CanDo, CanFinish}
 use Rattle.sector_world.specs.Steps.{Event, Can, after}
@@ -35,6 +35,10 @@ flight_versioned w g s f can =
     let u : version (w.disk s) < version f.block = q.higher in let v : version (w.disk s) ≡ version f.block = ap version (old ∙ sym same) in absurd (omega arith))
     (true_or_false (has_version w s))
 
+-- no recovery of a server begins while its lease lasts
+none_begun : (w : World) → Good w → (d : ℕ) → w.now ≤ w.expiry d → w.taker d ≡ None
+none_begun w g d le = by_some (λ o. w.taker d ≡ o → o ≡ None) (w.taker d) (λ e i. refl) (λ b e i. let q : w.expiry d < w.now = (g.logged.begun d b e).1 in absurd (omega arith)) refl
+
 ordered : (w : World) → Good w → (s : ℕ) (f : Flight) → CanLand w s f → IsOrdered w s f
 ordered w g s f can =
     let q : FlightOk w s f = g.logged.flights s f can.there can.early in
@@ -44,11 +48,12 @@ ordered w g s f can =
       higher = rw v q.higher;
       named = q.named;
       leased = le_trans can.early q.lease;
+      untaken = none_begun w g f.by (le_trans can.early q.lease);
       taken = λ n. ⊎_elim (λ o. absurd (n o.same)) (λ o. o.taker) q.source;
     }
 
 plain : (w : World) → Good w → (s : ℕ) (f : ByteFlight) → CanLandBytes w s f → IsPlain w s f
-plain w g s f can = let q : ByteFlightOk w s f = g.bytes.flights s f can.there can.early in record { plain = landed_plain w s f can g.kinds; leased = le_trans can.early q.lease }
+plain w g s f can = let q : ByteFlightOk w s f = g.bytes.flights s f can.there can.early in record { plain = landed_plain w s f can g.kinds; leased = le_trans can.early q.lease; untaken = none_begun w g f.by (le_trans can.early q.lease) }
 
 pub orderly_good : (w : World) → Good w → (e : Event) → Can w e → Orderly w e
 orderly_good w g (Land s f) can = ordered w g s f can

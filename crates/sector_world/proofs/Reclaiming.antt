@@ -107,6 +107,7 @@ module _ (w : World) (a k : ℕ) (can : CanReclaim w a k) (g : Logged w) where
     apart = g.apart;
     known = g.known;
     leases = g.leases;
+    begun = g.begun;
     off_free = g.off_free;
     rested = g.rested;
     not_up = g.not_up;

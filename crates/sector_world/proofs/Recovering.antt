@@ -11,6 +11,7 @@ use Rattle.cells.proofs.Basics.{by_test, of_lt, some_same, at_put, put_same, put
 use Rattle.cells.proofs.Removals.{redo_named}
 use Rattle.cells.proofs.More.{replay_place}
 use Rattle.sector_world.specs.World.{World, Rescue, cover}
+use Rattle.sector_world.specs.World.Phase.{Dead}
 use Rattle.sector_world.specs.World.Told.{Unread, Wanted, InPlace}
 use Rattle.sector_world.specs.Guards.{to_replay, CanBegin, CanReplay}
 use Rattle.sector_world.specs.Steps.{after, found}
@@ -25,6 +26,7 @@ logged_begin w d b can g = record {
   apart = g.apart;
   known = g.known;
   leases = g.leases;
+  begun = λ e x. at_put (λ o. o ≡ Some x → (w.phase e ≡ Dead) × (w.expiry e < w.now)) w.taker d (Some b) e (λ i j. (ap w.phase i ∙ can.dead, subst (λ y. w.expiry y < w.now) (sym i) can.ended)) (λ n. g.begun e x);
   off_free = g.off_free;
   rested = g.rested;
   not_up = g.not_up;
@@ -85,6 +87,7 @@ logged_look w r s going g =
       apart = g.apart;
       known = g.known;
       leases = g.leases;
+      begun = g.begun;
       off_free = g.off_free;
       rested = g.rested;
       not_up = g.not_up;
@@ -189,6 +192,7 @@ module _ (w : World) (r : Rescue) (s : ℕ) (block : Block) (can : CanReplay w r
     apart = g.apart;
     known = g.known;
     leases = g.leases;
+    begun = g.begun;
     off_free = g.off_free;
     rested = g.rested;
     not_up = g.not_up;

@@ -23,19 +23,21 @@ left w zero = settled w.history
 left w (suc n) = recovered n (w.durable n) (w.synced n) (left w n)
 
 -- A write of a sector with a version comes to the disk in order: the version rises; a durable record of the log on whose
--- behalf it comes names it with this version; it comes within its server's lease; and where it is on behalf of another, its
--- server was the last to begin that one's recovery, which isn't over.
+-- behalf it comes names it with this version; it comes within its server's lease, with no recovery of its server begun; and
+-- where it is on behalf of another, its server was the last to begin that one's recovery, which isn't over.
 pub record IsOrdered (w : World) (s : ℕ) (f : Flight) : Type 0 where
   pub versioned : has_version w s ≡ true
   pub higher : version (block_at w s) < version f.block
   pub named : Named (to_replay w f.behalf) s (version f.block)
   pub leased : w.now ≤ w.expiry f.by
+  pub untaken : w.taker f.by ≡ None
   pub taken : f.by ≢ f.behalf → w.taker f.behalf ≡ Some f.by
 
--- a write of bytes comes to a sector without a version, within its server's lease
+-- a write of bytes comes to a sector without a version, within its server's lease, with no recovery of its server begun
 pub record IsPlain (w : World) (s : ℕ) (f : ByteFlight) : Type 0 where
   pub plain : has_version w s ≡ false
   pub leased : w.now ≤ w.expiry f.by
+  pub untaken : w.taker f.by ≡ None
 
 abbrev pub Orderly : World → Event → Type 0
 Orderly w (Land s f) = IsOrdered w s f
