@@ -13,12 +13,9 @@ use Rattle.sector_world.specs.Steps.{after, rescue_left}
 use Rattle.sector_world.specs.Steps.Event.{Break, BreakNew}
 use Rattle.sector_world.specs.Logged.{Logged, IsNewer, Pending, AbsentUnlessUp, FlightOk, ToldOk, RescueOk}
 use Rattle.sector_world.proofs.Crashing.{left_is}
+use Rattle.sector_world.proofs.Leases.{well_before}
 use Rattle.sector_world.proofs.Landing.{newer_free, other_replay, told_other}
 use Rattle.sector_world.proofs.Reaching.{sole_held}
-
--- who isn't sick now wasn't sick before
-well_before : (w : World) (a b : ℕ) → put w.sick a true b ≡ false → (w.sick b ≡ false) × (b ≢ a)
-well_before w a b = at_put (λ x. x ≡ false → (w.sick b ≡ false) × (b ≢ a)) w.sick a true b (λ e k. absurd (cc)) (λ n k. (k, n))
 
 -- a flight that is left: what a recovery wants is asked less often
 left_flight : (w : World) (a s : ℕ) (f : Flight) → FlightOk w s f → FlightOk (record w { rescue = rescue_left a w.rescue }) s f

@@ -6,6 +6,7 @@ use Rattle.cells.specs.Histories.{settled}
 use Rattle.cells.specs.OnDisk.{OnDisk}
 use Rattle.cells.proofs.Basics.{by_test, ne_of, at_put}
 use Rattle.cells.proofs.Histories.{on_disk_map}
+use Rattle.sector_world.proofs.Leases.{well_before}
 use Rattle.sector_world.specs.World.{World, Rescue, cover}
 use Rattle.sector_world.specs.World.Phase.{Off, Up, Dead}
 use Rattle.sector_world.specs.World.Slot.{Absent}
@@ -46,7 +47,7 @@ logged_crash w a up g =
           (λ n. at_put (λ f. AbsentUnlessUp (w.phase b) (f t)) w.slot a (λ s. Absent) b (λ e. absurd (n e)) (λ n. g.not_up b t));
       held = λ b t. at_put (λ f. HeldIf (f t) (w.holds b (cover w t))) w.slot a (λ s. Absent) b (λ e. tt) (λ n. g.held b t);
       copies = λ b t. at_put (λ f. IsCopy (f t) (now_of w t)) w.slot a (λ s. Absent) b (λ e. tt) (λ n. g.copies b t);
-      newer = λ b t k. at_put (λ f. IsNewer (w.disk t) (f t)) w.slot a (λ s. Absent) b (λ e. tt) (λ n. g.newer b t k);
+      newer = λ b t k. at_put (λ f. IsNewer (w.disk t) (f t)) w.slot a (λ s. Absent) b (λ e. tt) (λ n. g.newer b t (well_before w a b k).0);
       ahead = λ b t. at_put (λ f. IsAhead (w.last b) t b (settled w.history) (f t)) w.slot a (λ s. Absent) b (λ e. tt) (λ n. g.ahead b t);
       place = λ s. goes s (w.disk s) (g.place s);
       firm = g.firm;

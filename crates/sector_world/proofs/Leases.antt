@@ -1,5 +1,5 @@
 -- The clock and the leases, mounting and unmounting.
-use Rattle.std.proofs.Common.{false, ⊎_elim, le_refl, le_trans, ℕ, ◌+◌, ◌<◌, ◌≤◌, ◌≡◌, ◌≢◌, inl, inr, Option, Some, None, nat_eq, refl, sym, ◌∙◌, ap, subst, arith}
+use Rattle.std.proofs.Common.{true, false, ⊎_elim, le_refl, le_trans, ℕ, ◌+◌, ◌<◌, ◌≤◌, ◌≡◌, ◌≢◌, inl, inr, Option, Some, None, nat_eq, refl, sym, ◌∙◌, ap, subst, arith}
 use Rattle.frang_base.specs.declared.lock.Mode.{Mode}
 use Rattle.cells.specs.Blocks.{Block}
 use Rattle.cells.specs.Changes.{put}
@@ -207,6 +207,10 @@ absent_if_free Absent m e h = refl
 absent_if_free (Clean z) m e h = absurd (h e)
 absent_if_free (Dirty z mark) m e h = cc
 
+-- who isn't sick now wasn't sick before
+pub well_before : (w : World) (a b : ℕ) → put w.sick a true b ≡ false → (w.sick b ≡ false) × (b ≢ a)
+well_before w a b = at_put (λ x. x ≡ false → (w.sick b ≡ false) × (b ≢ a)) w.sick a true b (λ e k. absurd (cc)) (λ n k. (k, n))
+
 pub logged_unmount : (w : World) (a : ℕ) → CanUnmount w a → Logged w → Logged (after w (Unmount a))
 logged_unmount w a can g =
     let none : (s : ℕ) (c : Commit) → c.by ≡ a → Pending w s c → ⊥ = λ s c e q.
@@ -260,7 +264,7 @@ logged_unmount w a can g =
       held = g.held;
       copies = g.copies;
       ahead = g.ahead;
-      newer = g.newer;
+      newer = λ b t k. g.newer b t (well_before w a b k).0;
       place = λ s. goes s (w.disk s) (g.place s);
       firm = g.firm;
       locked = g.locked;

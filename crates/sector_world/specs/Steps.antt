@@ -162,7 +162,7 @@ after w (Mount a) = record w {
   synced = put w.synced a (w.last a);
   history = Mounted a (w.last a) ∷ w.history;
 }
-after w (Unmount a) = record w { phase = put w.phase a Off; synced = put w.synced a (w.last a); history = Synced a (w.last a) ∷ w.history }
+after w (Unmount a) = record w { phase = put w.phase a Off; sick = put w.sick a true; synced = put w.synced a (w.last a); history = Synced a (w.last a) ∷ w.history }
 after w (Take a l mode) = record w { holds = put_lock w.holds a l (Some mode) }
 after w (Give a l) = record w {
   holds = put_lock w.holds a l None;
@@ -187,6 +187,7 @@ after w (Sync a) = record w { synced = put w.synced a (w.last a); history = Sync
 after w (Reclaim a k) = record w { log = put w.log a (above k (w.log a)); floor = put w.floor a k }
 after w (Crash a) = record w {
   phase = put w.phase a Dead;
+  sick = put w.sick a true;
   slot = put w.slot a (λ s. Absent);
   page = put w.page a (λ s. NoPage);
   rescue = rescue_left a w.rescue;

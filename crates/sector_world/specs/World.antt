@@ -1,6 +1,6 @@
 -- The world: servers with leases, locks, caches and logs, writes in flight, the recovery under way, and the disk. A sector
 -- has two sides: as one with a version, which records name, and as one of file bytes, which none names. One side counts.
-use Rattle.std.specs.Prelude.{ℕ, Bool, false, List, [], Option, Some, None, if◌then◌else◌}
+use Rattle.std.specs.Prelude.{ℕ, Bool, true, false, List, [], Option, Some, None, if◌then◌else◌}
 use Rattle.frang_base.specs.declared.lock.LockId.{LockId}
 use Rattle.frang_base.specs.declared.lock.Mode.{Mode}
 use Rattle.cells.specs.Blocks.{Block, zeros}
@@ -58,7 +58,8 @@ pub record World : Type 0 where
   pub logged : ℕ → Bool
   pub first : ℕ → Option Block
   pub home : ℕ → LockId
-  -- the clock, the end of each server's lease, its phase, and whether a put of it failed in this mount
+  -- the clock, the end of each server's lease, its phase, and whether it may issue no writes: it isn't up, or a put of it failed in
+  -- this mount
   pub now : ℕ
   pub expiry : ℕ → ℕ
   pub phase : ℕ → Phase
@@ -99,7 +100,7 @@ start servers disk logged of_files home = record {
   now = 1;
   expiry = λ d. 0;
   phase = λ d. Off;
-  sick = λ d. false;
+  sick = λ d. true;
   holds = λ d l. None;
   log = λ d. [];
   durable = λ d. 0;
