@@ -21,3 +21,4 @@ pub mod OneDisk
 pub mod Holding
 pub mod Legal
 pub mod Trees
+pub mod Examples

@@ -7,3 +7,4 @@ pub mod Kinds
 pub mod Claims
 pub mod Planned
 pub mod Trees
+pub mod Examples

@@ -1,0 +1,63 @@
+-- The runs of the examples.
+use Rattle.std.proofs.Common.{if◌then◌else◌, cond, ℕ, zero, suc, ◌+◌, ◌<◌, ◌≤◌, ◌≡◌, ◌≢◌, ◌⊎◌, inl, inr, true, false, Bool, not, List, [], ◌∷◌, Option, Some, None, IsTrue, IsSome, is_some, nat_eq, refl, sym, subst, arith, lit<, add-zero}
+use Rattle.frang_base.specs.declared.change.Change.{Change}
+use Rattle.frang_base.specs.declared.lock.LockId.{LockId}
+use Rattle.frang_base.specs.declared.lock.LockId.TheVariants.{Node}
+use Rattle.frang_base.specs.declared.lock.Mode.{Mode}
+use Rattle.frang_base.specs.declared.lock.Mode.TheVariants.{Shared, Sole}
+use Rattle.cells.specs.Blocks.{Block, zeros}
+use Rattle.cells.specs.Changes.{change_at, has_lock, same_lock}
+use Rattle.cells.specs.Histories.{Fill, Commit, Item, is_logged}
+use Rattle.cells.specs.Histories.Fill.{Written}
+use Rattle.cells.specs.Histories.Item.{Done}
+use Rattle.cells.proofs.Basics.{by_test, at_put2, at_lock, eq_of, ne_of, lock_of}
+use Rattle.sector_world.specs.World.{World, Slot, Page, Rescue}
+use Rattle.sector_world.specs.World.Slot.{Absent, Clean, Dirty}
+use Rattle.sector_world.specs.World.Page.{NoPage, CleanPage}
+use Rattle.sector_world.specs.World.Told.{Unread, Wanted, InPlace}
+use Rattle.sector_world.specs.Guards.{Based, Owned, CanDo}
+use Rattle.sector_world.specs.Steps.{Event, after, Run}
+use Rattle.sector_world.specs.Steps.Event.{Tick, Renew, Mount, Take, Do, Reach, Ack, Sync, Crash, Begin, Look, Finish, Fetch, Issue, Replay, Land, Fade, FetchBytes}
+use Rattle.sector_world.specs.Steps.Run.{stays, goes}
+use Rattle.sector_world.specs.Examples.{begin, change, changed, deed, ticks, done, rescue, told, write, recovery, lost, IsLostRun, kept, IsKeptRun, twice, IsTwiceRun, late, IsLateRun, bytes, scribble, reading, doubted, read, IsReadRun}
+
+tick_run : (n : ℕ) (w v : World) (es : List Event) → Run (record w { now = w.now + n }) es v → Run w (ticks n es) v
+tick_run zero w v es r = subst (λ n. Run (record w { now = n }) es v) (add-zero w.now) r
+tick_run (suc n) w v es r = goes tt (tick_run n (after w Tick) v es (let e : w.now + suc n ≡ w.now + 1 + n = omega arith in subst (λ n. Run (record w { now = n }) es v) e r))
+
+abbrev ready : World
+ready = after (after (after (after (after begin (Mount 0)) (Mount 1)) (Mount 2)) (Take 0 (Node 5) Sole)) (Fetch 0 5)
+
+one_lock : (n : ℕ) (l : LockId) → IsTrue (has_lock l (Node n ∷ [])) → Node n ≡ l
+one_lock n l i = by_test (λ b. b ≡ true → Node n ≡ l) true false (same_lock (Node n) l) (λ e j. lock_of (Node n) l e) (λ e j. cc) i
+
+here_sole : (b : ℕ) (l : LockId) → b ≡ 0 → Node 5 ≡ l → ready.holds b l ≡ Some Sole
+here_sole b l e f = at_lock (λ m. m ≡ Some Sole) (λ d k. None) 0 (Node 5) (Some Sole) b l (λ i j. refl) (λ n. absurd (n e (sym f)))
+
+at_five : (P : Option Change → Type 0) (s : ℕ) → (5 ≡ s → P (Some change)) → P None → P (change_at deed.changes s)
+at_five P s f n = by_test P (Some change) None (nat_eq 5 s) (λ e. f (eq_of 5 s e)) (λ e. n)
+
+sole_held : (m : Option Mode) → m ≡ Some Sole → m ≢ None
+sole_held m e f = cc
+
+node_five : (s : ℕ) → 5 ≡ s → Node 5 ≡ Node s
+node_five s e = cc
+
+can_deed : CanDo ready deed
+can_deed = record {
+  up = refl;
+  number = lit< tt;
+  used = λ l i. sole_held (ready.holds 0 l) (here_sole 0 l refl (one_lock 5 l i));
+  alone = λ l i. here_sole 0 l refl (one_lock 5 l i);
+  looked = λ s. at_five (λ o. IsTrue (if is_some o then true else false) → ready.holds 0 (Node s) ≢ None) s (λ e i. sole_held (ready.holds 0 (Node s)) (here_sole 0 (Node s) refl (node_five s e))) (λ i. cc);
+  owned = λ s. at_five (λ o. Owned o (ready.holds 0 (Node s))) s (λ e. here_sole 0 (Node s) refl (node_five s e)) tt;
+  based = λ s. at_five (λ o. Based o (ready.slot 0 s)) s
+      (λ e. at_put2 (λ x. Based (Some change) x) (λ d k. Absent) 0 5 (Clean zeros) 0 s (λ i j. lit< tt) (λ n. absurd (n refl (sym e)))) tt;
+  moves = λ s. tt;
+  claims = λ s e. absurd (cc);
+  named = λ s. at_five (λ o. IsSome o → not (nat_eq s 9) ≡ true) s (λ e i. subst (λ x. not (nat_eq x 9) ≡ true) e refl) (λ i. cc);
+  plain = λ s i. absurd (cc);
+  sees = λ s. refl;
+  written = λ s i. absurd (cc);
+  shows = λ s. tt;
+}

@@ -1,0 +1,171 @@
+-- Runs in which the guards are met together. Sector 9 has bytes of a file, all others have versions; each has a lock of its own.
+use Rattle.std.specs.Prelude.{ℕ, zero, suc, ◌≡◌, Bool, true, false, not, List, [], ◌∷◌, Option, Some, None, nat_eq, if◌then◌else◌}
+use Rattle.frang_base.specs.declared.sector.Sector.{Sector}
+use Rattle.frang_base.specs.declared.change.Change.{Change}
+use Rattle.frang_base.specs.declared.lock.LockId.{LockId}
+use Rattle.frang_base.specs.declared.lock.LockId.TheVariants.{Node}
+use Rattle.frang_base.specs.declared.lock.Mode.TheVariants.{Shared, Sole}
+use Rattle.frang_base.specs.declared.op.Op.TheVariants as op
+use Rattle.frang_base.specs.declared.reply.Reply.TheVariants as reply
+use Rattle.cells.specs.Blocks.{Block, zeros, edited}
+use Rattle.cells.specs.Changes.{put, has_lock}
+use Rattle.cells.specs.Bytes.{value}
+use Rattle.cells.specs.Histories.{Fill, Commit, Item, settled}
+use Rattle.cells.specs.Histories.Fill.{Written}
+use Rattle.cells.specs.Histories.Item.{Done, Doubt}
+use Rattle.sector_world.specs.World.{World, Flight, Told, Rescue, start}
+use Rattle.sector_world.specs.World.Slot.{Dirty}
+use Rattle.sector_world.specs.World.Told.{Unread, Wanted, InPlace}
+use Rattle.sector_world.specs.Steps.{Event, Run}
+use Rattle.sector_world.specs.Steps.Event.{Tick, Renew, Mount, Take, Do, Reach, Ack, Sync, Crash, Begin, Look, Finish, Fetch, Issue, Replay, Land, Fade, FetchBytes}
+
+-- three servers and a disk of zeros
+abbrev pub begin : World
+begin = start 3 (λ s. zeros) (λ s. not (nat_eq s 9)) (λ s. nat_eq s 9) (λ s. Node s)
+
+-- sector 5 gets version 1
+abbrev pub change : Change
+change = record { sector = record { 0 = 5 }; version = 1; patches = [] }
+
+abbrev pub changed : Block
+changed = edited change zeros
+
+-- an operation of server 0 that changes sector 5
+abbrev pub deed : Commit
+deed = record {
+  by = 0;
+  op = 1;
+  asked = op.Sync;
+  reply = reply.Ok;
+  blocks = 0;
+  looked = [];
+  changes = change ∷ [];
+  claims = λ s. false;
+  moves = λ s. None;
+  writes = λ s. None;
+  sees = λ s. has_lock (Node s) (Node 5 ∷ []);
+  shown = λ s. None;
+  uses = Node 5 ∷ [];
+  alone = Node 5 ∷ [];
+}
+
+-- so many ticks, and then these events
+abbrev pub ticks : ℕ → List Event → List Event
+ticks zero es = es
+ticks (suc n) es = Tick ∷ ticks n es
+
+-- server 0 does it, and its servers are up
+abbrev pub done : List Event → List Event
+done es = Mount 0 ∷ Mount 1 ∷ Mount 2 ∷ Take 0 (Node 5) Sole ∷ Fetch 0 5 ∷ Do deed ∷ es
+
+abbrev pub rescue : ℕ → Rescue
+rescue b = record { dead = 0; by = b; told = λ s. Unread }
+
+-- what a recovery by b has found of sector 5
+abbrev pub told : ℕ → Told → Rescue
+told b t = record { dead = 0; by = b; told = put (λ s. Unread) 5 t }
+
+-- the write of sector 5 by b on behalf of server 0, with this stamp
+abbrev pub write : ℕ → ℕ → Flight
+write b stamp = record { by = b; behalf = 0; stamp = stamp; block = changed }
+
+-- server b recovers server 0's log; the write in flight has this stamp
+abbrev pub recovery : ℕ → ℕ → List Event
+recovery b stamp = Begin 0 b ∷ Look (rescue b) 5 ∷ Replay (told b (Wanted changed)) 5 changed ∷ Land 5 (write b stamp) ∷ Finish (told b InPlace) ∷ []
+
+-- no operation is left
+abbrev pub IsEmpty : List Item → Type 0
+IsEmpty [] = Unit {0}
+IsEmpty (Done c ∷ h) = ⊥
+IsEmpty (Doubt m ∷ h) = IsEmpty h
+
+-- an operation that isn't synced is lost with its server
+abbrev pub lost : List Event
+lost = done (Crash 0 ∷ ticks 31 (Begin 0 1 ∷ Finish (rescue 1) ∷ []))
+
+pub record IsLostRun (w : World) : Type 0 where
+  pub run : Run begin lost w
+  pub none : IsEmpty (settled w.history)
+  pub disk : w.disk 5 ≡ zeros
+
+-- a synced one is kept: the recovery writes it
+abbrev pub kept : List Event
+kept = done (Reach 0 1 ∷ Ack 0 1 ∷ Sync 0 ∷ Crash 0 ∷ ticks 31 (Renew 1 ∷ recovery 1 47))
+
+pub record IsKeptRun (w : World) : Type 0 where
+  pub run : Run begin kept w
+  pub there : (m : ℕ → Bool) × (settled w.history ≡ Doubt m ∷ Done deed ∷ [])
+  pub disk : w.disk 5 ≡ changed
+
+-- the recoverer dies with its write in flight, which comes late, and a second one recovers
+abbrev pub twice : List Event
+twice = done (Reach 0 1 ∷ Crash 0 ∷ ticks 31 (Renew 1 ∷ Begin 0 1 ∷ Look (rescue 1) 5 ∷ Replay (told 1 (Wanted changed)) 5 changed ∷ Crash 1
+    ∷ ticks 31 (Renew 2 ∷ Fade 5 (write 1 47) ∷ recovery 2 78)))
+
+pub record IsTwiceRun (w : World) : Type 0 where
+  pub run : Run begin twice w
+  pub there : (m : ℕ → Bool) × (settled w.history ≡ Doubt m ∷ Done deed ∷ [])
+  pub disk : w.disk 5 ≡ changed
+
+-- a write comes late: the sector stays dirty, and the disk as it was
+abbrev pub late : List Event
+late = done (Reach 0 1 ∷ Ack 0 1 ∷ Issue 0 5 changed 1 ∷ ticks 16 (Fade 5 (write 0 16) ∷ []))
+
+pub record IsLateRun (w : World) : Type 0 where
+  pub run : Run begin late w
+  pub dirty : w.slot 0 5 ≡ Dirty changed 1
+  pub disk : w.disk 5 ≡ zeros
+
+-- an operation of server 0 that writes bytes to sector 9
+abbrev pub bytes : Block
+bytes = 7 ∷ []
+
+abbrev pub scribble : Commit
+scribble = record {
+  by = 0;
+  op = 1;
+  asked = op.Sync;
+  reply = reply.Ok;
+  blocks = 0;
+  looked = [];
+  changes = [];
+  claims = λ s. false;
+  moves = λ s. None;
+  writes = λ s. if nat_eq s 9 then Some (Written bytes) else None;
+  sees = λ s. has_lock (Node s) (Node 9 ∷ []);
+  shown = λ s. None;
+  uses = Node 9 ∷ [];
+  alone = Node 9 ∷ [];
+}
+
+-- an operation of server 1 that shows the bytes of sector 9
+abbrev pub reading : Commit
+reading = record {
+  by = 1;
+  op = 2;
+  asked = op.Sync;
+  reply = reply.Ok;
+  blocks = 0;
+  looked = [];
+  changes = [];
+  claims = λ s. false;
+  moves = λ s. None;
+  writes = λ s. None;
+  sees = λ s. has_lock (Node s) (Node 9 ∷ []);
+  shown = λ s. if nat_eq s 9 then Some zeros else None;
+  uses = Node 9 ∷ [];
+  alone = [];
+}
+
+-- bytes that weren't synced are in doubt after the recovery, and another server's read makes them known
+abbrev pub doubted : List Event
+doubted = Mount 0 ∷ Mount 1 ∷ Take 0 (Node 9) Sole ∷ Do scribble ∷ Reach 0 1 ∷ Crash 0 ∷ ticks 31 (Begin 0 1 ∷ Finish (rescue 1) ∷ [])
+
+abbrev pub read : List Event
+read = Take 1 (Node 9) Shared ∷ FetchBytes 1 9 ∷ Do reading ∷ []
+
+pub record IsReadRun (v w : World) : Type 0 where
+  pub doubt : Run begin doubted v
+  pub unknown : value v.first (settled v.history) 9 ≡ None
+  pub run : Run v read w
+  pub known : value w.first (settled w.history) 9 ≡ Some zeros
