@@ -1,5 +1,5 @@
 -- The runs of the examples.
-use Rattle.std.proofs.Common.{if◌then◌else◌, cond, ℕ, zero, suc, ◌+◌, ◌<◌, ◌≤◌, ◌≡◌, ◌≢◌, ◌⊎◌, inl, inr, true, false, Bool, not, List, [], ◌∷◌, Option, Some, None, IsTrue, IsSome, is_some, nat_eq, refl, sym, subst, arith, lit<, add-zero}
+use Rattle.std.proofs.Common.{if◌then◌else◌, cond, ℕ, zero, suc, ◌+◌, ◌-◌, ◌<◌, ◌≤◌, ◌≡◌, ◌≢◌, ◌⊎◌, inl, inr, true, false, Bool, not, List, [], ◌∷◌, Option, Some, None, IsTrue, IsSome, is_some, nat_eq, refl, sym, subst, arith, lit<, add-zero}
 use Rattle.frang_base.specs.declared.change.Change.{Change}
 use Rattle.frang_base.specs.declared.lock.LockId.{LockId}
 use Rattle.frang_base.specs.declared.lock.LockId.TheVariants.{Node}
@@ -7,19 +7,19 @@ use Rattle.frang_base.specs.declared.lock.Mode.{Mode}
 use Rattle.frang_base.specs.declared.lock.Mode.TheVariants.{Shared, Sole}
 use Rattle.cells.specs.Blocks.{Block, zeros}
 use Rattle.cells.specs.Changes.{change_at, has_lock, same_lock}
-use Rattle.cells.specs.Histories.{Fill, Commit, Item, is_logged}
+use Rattle.cells.specs.Histories.{Fill, Commit, Item, redo_of, is_logged}
 use Rattle.cells.specs.Histories.Fill.{Written}
 use Rattle.cells.specs.Histories.Item.{Done}
-use Rattle.cells.proofs.Basics.{by_test, at_put2, at_lock, eq_of, ne_of, lock_of}
+use Rattle.cells.proofs.Basics.{by_test, at_put, at_put2, at_lock, eq_of, ne_of, lock_of}
 use Rattle.sector_world.specs.World.{World, Slot, Page, Rescue}
 use Rattle.sector_world.specs.World.Slot.{Absent, Clean, Dirty}
 use Rattle.sector_world.specs.World.Page.{NoPage, CleanPage}
 use Rattle.sector_world.specs.World.Told.{Unread, Wanted, InPlace}
-use Rattle.sector_world.specs.Guards.{Based, Owned, CanDo}
+use Rattle.sector_world.specs.Guards.{Based, Owned, NoneNames, CanDo}
 use Rattle.sector_world.specs.Steps.{Event, after, Run}
 use Rattle.sector_world.specs.Steps.Event.{Tick, Renew, Mount, Take, Do, Reach, Ack, Sync, Crash, Begin, Look, Finish, Fetch, Issue, Replay, Land, Fade, FetchBytes}
 use Rattle.sector_world.specs.Steps.Run.{stays, goes}
-use Rattle.sector_world.specs.Examples.{begin, change, changed, deed, ticks, done, rescue, told, write, recovery, lost, IsLostRun, kept, IsKeptRun, twice, IsTwiceRun, late, IsLateRun, bytes, scribble, reading, doubted, read, IsReadRun}
+use Rattle.sector_world.specs.Examples.{begin, change, changed, deed, ticks, done, rescue, wanted, placed, write, recovery, lost, IsLostRun, kept, IsKeptRun, twice, IsTwiceRun, late, IsLateRun, bytes, scribble, reading, doubted, read, IsReadRun}
 
 tick_run : (n : ℕ) (w v : World) (es : List Event) → Run (record w { now = w.now + n }) es v → Run w (ticks n es) v
 tick_run zero w v es r = subst (λ n. Run (record w { now = n }) es v) (add-zero w.now) r
@@ -60,4 +60,69 @@ can_deed = record {
   sees = λ s. refl;
   written = λ s i. absurd (cc);
   shows = λ s. tt;
+}
+
+abbrev did : World
+did = after ready (Do deed)
+
+-- the run of the operation, before any that goes on from there
+done_run : (es : List Event) (v : World) → Run did es v → Run begin (done es) v
+done_run es v r =
+    goes (record { off = refl; known = lit< tt }) (goes (record { off = refl; known = lit< tt }) (goes (record { off = refl; known = lit< tt })
+    (goes (record { up = refl; more = λ e. cc; fits = λ b n. tt })
+    (goes (record { up = refl; held = λ e. cc; absent = refl }) (goes can_deed r)))))
+
+abbrev fallen : World
+fallen = after did (Crash 0)
+
+abbrev lost_late : World
+lost_late = record fallen { now = 32 }
+
+pub lost_world : World
+lost_world = after (after lost_late (Begin 0 1)) (Finish (rescue 1))
+
+pub is_lost : IsLostRun lost_world
+unfolding lost_world
+is_lost = record {
+  run = done_run (Crash 0 ∷ ticks 31 (Begin 0 1 ∷ Finish (rescue 1) ∷ [])) (after (after lost_late (Begin 0 1)) (Finish (rescue 1)))
+      (goes refl (tick_run 31 fallen (after (after lost_late (Begin 0 1)) (Finish (rescue 1))) (Begin 0 1 ∷ Finish (rescue 1) ∷ [])
+      (goes (record { dead = refl; ended = lit< tt; given_up = lit< tt; up = refl }) (goes (record { going = refl; all = λ s. inr tt }) stays))));
+  none = tt;
+  disk = refl;
+}
+
+abbrev synced : World
+synced = after (after (after did (Reach 0 1)) (Ack 0 1)) (Sync 0)
+
+abbrev kept_late : World
+kept_late = record (after synced (Crash 0)) { now = 32 }
+
+abbrev recovered : ℕ → World → World
+recovered b w = after (after (after (after (after w (Begin 0 b)) (Look (rescue b) 5)) (Replay (wanted b) 5 changed)) (Land 5 (write b (w.expiry b - 15)))) (Finish (placed b))
+
+-- the log names no other sector
+no_name : (s : ℕ) → s ≢ 5 → NoneNames (redo_of deed ∷ []) s
+no_name s n = (at_five (λ o. o ≡ None) s (λ e. absurd (n (sym e))) refl, tt)
+
+pub kept_world : World
+kept_world = recovered 1 (after kept_late (Renew 1))
+
+pub is_kept : IsKeptRun kept_world
+unfolding kept_world
+is_kept = record {
+  run = done_run (Reach 0 1 ∷ Ack 0 1 ∷ Sync 0 ∷ Crash 0 ∷ ticks 31 (Renew 1 ∷ recovery 1 47)) (recovered 1 (after kept_late (Renew 1)))
+      (goes (record { more = omega arith; there = omega arith; lease = omega arith })
+      (goes (record { up = refl; there = omega arith })
+      (goes (record { up = refl; logged = omega arith; clean = λ s. tt })
+      (goes refl
+      (tick_run 31 (after synced (Crash 0)) (recovered 1 (after kept_late (Renew 1))) (Renew 1 ∷ recovery 1 47)
+      (goes (record { up = refl; later = lit< tt })
+      (goes (record { dead = refl; ended = lit< tt; given_up = lit< tt; up = refl })
+      (goes refl
+      (goes (record { going = refl; wanted = refl; alone = refl })
+      (goes (record { there = refl; early = omega arith })
+      (goes (record { going = refl; all = λ s. at_put (λ x. (x ≡ InPlace) ⊎ NoneNames (redo_of deed ∷ []) s) (wanted 1).told 5 InPlace s (λ e. inl refl) (λ n. inr (no_name s n)) })
+      stays)))))))))));
+  there = (_, refl);
+  disk = refl;
 }

@@ -61,9 +61,12 @@ done es = Mount 0 ∷ Mount 1 ∷ Mount 2 ∷ Take 0 (Node 5) Sole ∷ Fetch 0 5
 abbrev pub rescue : ℕ → Rescue
 rescue b = record { dead = 0; by = b; told = λ s. Unread }
 
--- what a recovery by b has found of sector 5
-abbrev pub told : ℕ → Told → Rescue
-told b t = record { dead = 0; by = b; told = put (λ s. Unread) 5 t }
+-- a recovery by b has found sector 5 to be written, and has written it
+abbrev pub wanted : ℕ → Rescue
+wanted b = record { dead = 0; by = b; told = put (λ s. Unread) 5 (Wanted changed) }
+
+abbrev pub placed : ℕ → Rescue
+placed b = record { dead = 0; by = b; told = put (put (λ s. Unread) 5 (Wanted changed)) 5 InPlace }
 
 -- the write of sector 5 by b on behalf of server 0, with this stamp
 abbrev pub write : ℕ → ℕ → Flight
@@ -71,7 +74,7 @@ write b stamp = record { by = b; behalf = 0; stamp = stamp; block = changed }
 
 -- server b recovers server 0's log; the write in flight has this stamp
 abbrev pub recovery : ℕ → ℕ → List Event
-recovery b stamp = Begin 0 b ∷ Look (rescue b) 5 ∷ Replay (told b (Wanted changed)) 5 changed ∷ Land 5 (write b stamp) ∷ Finish (told b InPlace) ∷ []
+recovery b stamp = Begin 0 b ∷ Look (rescue b) 5 ∷ Replay (wanted b) 5 changed ∷ Land 5 (write b stamp) ∷ Finish (placed b) ∷ []
 
 -- no operation is left
 abbrev pub IsEmpty : List Item → Type 0
@@ -99,7 +102,7 @@ pub record IsKeptRun (w : World) : Type 0 where
 
 -- the recoverer dies with its write in flight, which comes late, and a second one recovers
 abbrev pub twice : List Event
-twice = done (Reach 0 1 ∷ Crash 0 ∷ ticks 31 (Renew 1 ∷ Begin 0 1 ∷ Look (rescue 1) 5 ∷ Replay (told 1 (Wanted changed)) 5 changed ∷ Crash 1
+twice = done (Reach 0 1 ∷ Crash 0 ∷ ticks 31 (Renew 1 ∷ Begin 0 1 ∷ Look (rescue 1) 5 ∷ Replay (wanted 1) 5 changed ∷ Crash 1
     ∷ ticks 31 (Renew 2 ∷ Fade 5 (write 1 47) ∷ recovery 2 78)))
 
 pub record IsTwiceRun (w : World) : Type 0 where
