@@ -15,7 +15,7 @@ use Rattle.sector_world.specs.World.{World, Slot, Page, Rescue}
 use Rattle.sector_world.specs.World.Slot.{Absent, Clean, Dirty}
 use Rattle.sector_world.specs.World.Page.{NoPage, CleanPage}
 use Rattle.sector_world.specs.World.Told.{Unread, Wanted, InPlace}
-use Rattle.sector_world.specs.Guards.{Based, Owned, NoneNames, CanDo}
+use Rattle.sector_world.specs.Guards.{Fits, Based, Owned, Shows, NoneNames, CanDo}
 use Rattle.sector_world.specs.Steps.{Event, after, Run}
 use Rattle.sector_world.specs.Steps.Event.{Tick, Renew, Mount, Take, Do, Reach, Ack, Sync, Crash, Begin, Look, Finish, Fetch, Issue, Replay, Land, Fade, FetchBytes}
 use Rattle.sector_world.specs.Steps.Run.{stays, goes}
@@ -125,4 +125,152 @@ is_kept = record {
       stays)))))))))));
   there = (_, refl);
   disk = refl;
+}
+
+abbrev twice_first : World
+twice_first = record (after (after did (Reach 0 1)) (Crash 0)) { now = 32 }
+
+abbrev twice_fallen : World
+twice_fallen = after (after (after (after (after twice_first (Renew 1)) (Begin 0 1)) (Look (rescue 1) 5)) (Replay (wanted 1) 5 changed)) (Crash 1)
+
+abbrev twice_second : World
+twice_second = record twice_fallen { now = 63 }
+
+pub twice_world : World
+twice_world = recovered 2 (after (after twice_second (Renew 2)) (Fade 5 (write 1 47)))
+
+pub is_twice : IsTwiceRun twice_world
+unfolding twice_world
+is_twice = record {
+  run = done_run (Reach 0 1 ∷ Crash 0 ∷ ticks 31 (Renew 1 ∷ Begin 0 1 ∷ Look (rescue 1) 5 ∷ Replay (wanted 1) 5 changed ∷ Crash 1 ∷ ticks 31 (Renew 2 ∷ Fade 5 (write 1 47) ∷ recovery 2 78)))
+      (recovered 2 (after (after twice_second (Renew 2)) (Fade 5 (write 1 47))))
+      (goes (record { more = omega arith; there = omega arith; lease = omega arith })
+      (goes refl
+      (tick_run 31 (after (after did (Reach 0 1)) (Crash 0)) (recovered 2 (after (after twice_second (Renew 2)) (Fade 5 (write 1 47)))) (Renew 1 ∷ Begin 0 1 ∷ Look (rescue 1) 5 ∷ Replay (wanted 1) 5 changed ∷ Crash 1 ∷ ticks 31 (Renew 2 ∷ Fade 5 (write 1 47) ∷ recovery 2 78))
+      (goes (record { up = refl; later = lit< tt })
+      (goes (record { dead = refl; ended = lit< tt; given_up = lit< tt; up = refl })
+      (goes refl
+      (goes (record { going = refl; wanted = refl; alone = refl })
+      (goes refl
+      (tick_run 31 twice_fallen (recovered 2 (after (after twice_second (Renew 2)) (Fade 5 (write 1 47)))) (Renew 2 ∷ Fade 5 (write 1 47) ∷ recovery 2 78)
+      (goes (record { up = refl; later = lit< tt })
+      (goes (record { there = refl; late = inl (lit< tt) })
+      (goes (record { dead = refl; ended = lit< tt; given_up = lit< tt; up = refl })
+      (goes refl
+      (goes (record { going = refl; wanted = refl; alone = refl })
+      (goes (record { there = refl; early = omega arith })
+      (goes (record { going = refl; all = λ s. at_put (λ x. (x ≡ InPlace) ⊎ NoneNames (redo_of deed ∷ []) s) (wanted 2).told 5 InPlace s (λ e. inl refl) (λ n. inr (no_name s n)) })
+      stays))))))))))))))));
+  there = (_, refl);
+  disk = refl;
+}
+
+abbrev sent : World
+sent = after (after (after did (Reach 0 1)) (Ack 0 1)) (Issue 0 5 changed 1)
+
+pub late_world : World
+late_world = after (record sent { now = 17 }) (Fade 5 (write 0 16))
+
+pub is_late : IsLateRun late_world
+unfolding late_world
+is_late = record {
+  run = done_run (Reach 0 1 ∷ Ack 0 1 ∷ Issue 0 5 changed 1 ∷ ticks 16 (Fade 5 (write 0 16) ∷ [])) (after (record sent { now = 17 }) (Fade 5 (write 0 16)))
+      (goes (record { more = omega arith; there = omega arith; lease = omega arith })
+      (goes (record { up = refl; there = omega arith })
+      (goes (record { well = refl; up = refl; dirty = refl; logged = omega arith; alone = refl })
+      (tick_run 16 sent (after (record sent { now = 17 }) (Fade 5 (write 0 16))) (Fade 5 (write 0 16) ∷ [])
+      (goes (record { there = refl; late = inl (lit< tt) }) stays)))));
+  dirty = refl;
+  disk = refl;
+}
+
+abbrev held : World
+held = after (after (after begin (Mount 0)) (Mount 1)) (Take 0 (Node 9) Sole)
+
+at_nine : (P : Option Fill → Type 0) (s : ℕ) → (9 ≡ s → P (Some (Written bytes))) → P None → P (scribble.writes s)
+at_nine P s f n = by_test P (Some (Written bytes)) None (nat_eq s 9) (λ e. f (sym (eq_of s 9 e))) (λ e. n)
+
+nine_sole : (l : LockId) → Node 9 ≡ l → held.holds 0 l ≡ Some Sole
+nine_sole l f = at_lock (λ m. m ≡ Some Sole) (λ d k. None) 0 (Node 9) (Some Sole) 0 l (λ i j. refl) (λ n. absurd (n refl (sym f)))
+
+node_nine : (s : ℕ) → 9 ≡ s → Node 9 ≡ Node s
+node_nine s e = cc
+
+can_scribble : CanDo held scribble
+can_scribble = record {
+  up = refl;
+  number = lit< tt;
+  used = λ l i. sole_held (held.holds 0 l) (nine_sole l (one_lock 9 l i));
+  alone = λ l i. nine_sole l (one_lock 9 l i);
+  looked = λ s i. absurd (cc);
+  owned = λ s. tt;
+  based = λ s. tt;
+  moves = λ s. tt;
+  claims = λ s e. absurd (cc);
+  named = λ s i. absurd (cc);
+  plain = λ s. at_nine (λ o. IsSome o → not (nat_eq s 9) ≡ false) s (λ e i. subst (λ x. not (nat_eq x 9) ≡ false) e refl) (λ i. absurd (cc));
+  sees = λ s. refl;
+  written = λ s. at_nine (λ o. IsSome o → held.holds 0 (Node s) ≡ Some Sole) s (λ e i. nine_sole (Node s) (node_nine s e)) (λ i. absurd (cc));
+  shows = λ s. tt;
+}
+
+abbrev scribbled : World
+scribbled = after (after (after held (Do scribble)) (Reach 0 1)) (Crash 0)
+
+abbrev doubt_world : World
+doubt_world = after (after (record scribbled { now = 32 }) (Begin 0 1)) (Finish (rescue 1))
+
+abbrev shared : World
+shared = after (after doubt_world (Take 1 (Node 9) Shared)) (FetchBytes 1 9)
+
+shared_holds : (l : LockId) → Node 9 ≡ l → shared.holds 1 l ≢ None
+shared_holds l f = at_lock (λ m. m ≢ None) doubt_world.holds 1 (Node 9) (Some Shared) 1 l (λ i j e. cc) (λ n. absurd (n refl (sym f)))
+
+shows_nine : (s : ℕ) → Shows (reading.shown s) (shared.page 1 s)
+shows_nine s =
+    by_test (λ o. Shows o (shared.page 1 s)) (Some zeros) None (nat_eq s 9)
+    (λ e. at_put2 (λ x. Shows (Some zeros) x) doubt_world.page 1 9 (CleanPage zeros) 1 s (λ i j. refl) (λ n. absurd (n refl (eq_of s 9 e))))
+    (λ e. tt)
+
+can_read : CanDo shared reading
+can_read = record {
+  up = refl;
+  number = lit< tt;
+  used = λ l i. shared_holds l (one_lock 9 l i);
+  alone = λ l i. absurd (cc);
+  looked = λ s i. absurd (cc);
+  owned = λ s. tt;
+  based = λ s. tt;
+  moves = λ s. tt;
+  claims = λ s e. absurd (cc);
+  named = λ s i. absurd (cc);
+  plain = λ s i. absurd (cc);
+  sees = λ s. refl;
+  written = λ s i. absurd (cc);
+  shows = shows_nine;
+}
+
+-- nobody holds a lock after the recovery
+only_free : (b : ℕ) → b ≢ 1 → Fits Shared (doubt_world.holds b (Node 9))
+only_free b n = at_put (λ f. Fits Shared (f (Node 9))) held.holds 0 (λ l. None) b (λ e. tt)
+    (λ i. at_lock (λ m. Fits Shared m) (λ d k. None) 0 (Node 9) (Some Sole) b (Node 9) (λ e j. absurd (i e)) (λ j. tt))
+
+pub before_read : World
+before_read = doubt_world
+
+pub after_read : World
+after_read = after shared (Do reading)
+
+pub is_read : IsReadRun before_read after_read
+unfolding before_read after_read
+is_read = record {
+  doubt = goes (record { off = refl; known = lit< tt }) (goes (record { off = refl; known = lit< tt }) (goes (record { up = refl; more = λ e. cc; fits = λ b n. tt })
+      (goes can_scribble (goes (record { more = omega arith; there = omega arith; lease = omega arith }) (goes refl
+      (tick_run 31 scribbled doubt_world (Begin 0 1 ∷ Finish (rescue 1) ∷ [])
+      (goes (record { dead = refl; ended = lit< tt; given_up = lit< tt; up = refl }) (goes (record { going = refl; all = λ s. inr (refl, tt) }) stays))))))));
+  unknown = refl;
+  run = goes (record { up = refl; more = λ e. cc; fits = only_free })
+      (goes (record { up = refl; held = λ e. cc; absent = refl; plain = refl; filled = refl })
+      (goes can_read stays));
+  known = refl;
 }
