@@ -1,12 +1,12 @@
 -- The runs of the examples.
-use Rattle.std.proofs.Common.{if◌then◌else◌, cond, ℕ, zero, suc, ◌+◌, ◌-◌, ◌<◌, ◌≤◌, ◌≡◌, ◌≢◌, ◌⊎◌, inl, inr, true, false, Bool, not, List, [], ◌∷◌, Option, Some, None, IsTrue, IsSome, is_some, nat_eq, refl, sym, subst, arith, lit<, add-zero}
+use Rattle.std.proofs.Common.{if◌then◌else◌, cond, ℕ, zero, suc, ◌+◌, ◌-◌, ◌<◌, ◌≤◌, ◌≡◌, ◌≢◌, ◌⊎◌, ⊎_elim, inl, inr, true, false, Bool, not, List, [], ◌∷◌, Option, Some, None, IsTrue, IsSome, is_some, nat_eq, nat_lt, refl, sym, subst, arith, lit<, add-zero}
 use Rattle.frang_base.specs.declared.change.Change.{Change}
 use Rattle.frang_base.specs.declared.lock.LockId.{LockId}
 use Rattle.frang_base.specs.declared.lock.LockId.TheVariants.{Node}
 use Rattle.frang_base.specs.declared.lock.Mode.{Mode}
 use Rattle.frang_base.specs.declared.lock.Mode.TheVariants.{Shared, Sole}
 use Rattle.cells.specs.Blocks.{Block, zeros}
-use Rattle.cells.specs.Changes.{change_at, has_lock, same_lock}
+use Rattle.cells.specs.Changes.{change_at, has_lock, same_lock, put_lock}
 use Rattle.cells.specs.Histories.{Fill, Commit, Item, redo_of, is_logged}
 use Rattle.cells.specs.Histories.Fill.{Written}
 use Rattle.cells.specs.Histories.Item.{Done}
@@ -15,11 +15,11 @@ use Rattle.sector_world.specs.World.{World, Slot, Page, Rescue}
 use Rattle.sector_world.specs.World.Slot.{Absent, Clean, Dirty}
 use Rattle.sector_world.specs.World.Page.{NoPage, CleanPage}
 use Rattle.sector_world.specs.World.Told.{Unread, Wanted, InPlace}
-use Rattle.sector_world.specs.Guards.{Fits, Based, Owned, Shows, NoneNames, CanDo}
+use Rattle.sector_world.specs.Guards.{Fits, Based, Owned, MovesOwned, Shows, NoneNames, CanClaim, CanDo}
 use Rattle.sector_world.specs.Steps.{Event, after, Run}
-use Rattle.sector_world.specs.Steps.Event.{Tick, Renew, Mount, Take, Do, Reach, Ack, Sync, Crash, Begin, Look, Finish, Fetch, Issue, Replay, Land, Fade, FetchBytes}
+use Rattle.sector_world.specs.Steps.Event.{Tick, Renew, Mount, Take, Do, Reach, Ack, Sync, Crash, Begin, Look, Finish, Fetch, Issue, Replay, Land, Fade, FetchBytes, Clear, IssueBytes, LandBytes}
 use Rattle.sector_world.specs.Steps.Run.{stays, goes}
-use Rattle.sector_world.specs.Examples.{begin, change, changed, deed, ticks, done, rescue, wanted, placed, write, recovery, lost, IsLostRun, kept, IsKeptRun, twice, IsTwiceRun, late, IsLateRun, bytes, scribble, reading, doubted, read, IsReadRun}
+use Rattle.sector_world.specs.Examples.{begin, change, changed, deed, ticks, done, rescue, wanted, placed, write, recovery, lost, IsLostRun, kept, IsKeptRun, twice, IsTwiceRun, late, IsLateRun, bytes, scribble, reading, doubted, read, IsReadRun, change_8, claim, claimed, IsClaimedRun}
 
 tick_run : (n : ℕ) (w v : World) (es : List Event) → Run (record w { now = w.now + n }) es v → Run w (ticks n es) v
 tick_run zero w v es r = subst (λ n. Run (record w { now = n }) es v) (add-zero w.now) r
@@ -55,7 +55,7 @@ can_deed = record {
       (λ e. at_put2 (λ x. Based (Some change) x) (λ d k. Absent) 0 5 (Clean zeros) 0 s (λ i j. lit< tt) (λ n. absurd (n refl (sym e)))) tt;
   moves = λ s. tt;
   claims = λ s e. absurd (cc);
-  named = λ s. at_five (λ o. IsSome o → not (nat_eq s 9) ≡ true) s (λ e i. subst (λ x. not (nat_eq x 9) ≡ true) e refl) (λ i. cc);
+  named = λ s. at_five (λ o. IsSome o → nat_lt s 8 ≡ true) s (λ e i. subst (λ x. nat_lt x 8 ≡ true) e refl) (λ i. cc);
   plain = λ s i. absurd (cc);
   sees = λ s. refl;
   written = λ s i. absurd (cc);
@@ -208,7 +208,7 @@ can_scribble = record {
   moves = λ s. tt;
   claims = λ s e. absurd (cc);
   named = λ s i. absurd (cc);
-  plain = λ s. at_nine (λ o. IsSome o → not (nat_eq s 9) ≡ false) s (λ e i. subst (λ x. not (nat_eq x 9) ≡ false) e refl) (λ i. absurd (cc));
+  plain = λ s. at_nine (λ o. IsSome o → nat_lt s 8 ≡ false) s (λ e i. subst (λ x. nat_lt x 8 ≡ false) e refl) (λ i. absurd (cc));
   sees = λ s. refl;
   written = λ s. at_nine (λ o. IsSome o → held.holds 0 (Node s) ≡ Some Sole) s (λ e i. nine_sole (Node s) (node_nine s e)) (λ i. absurd (cc));
   shows = λ s. tt;
@@ -274,3 +274,62 @@ is_read = record {
       (goes can_read stays));
   known = refl;
 }
+
+abbrev cleared : World
+cleared = after (after (after (after (after (after (after begin (Mount 0)) (Take 0 (Node 8) Sole)) (Take 0 (Node 5) Sole)) (Clear 0 8)) (IssueBytes 0 8 zeros 0)) (LandBytes 8 (record { by = 0; stamp = 16; block = zeros }))) (Fetch 0 8)
+
+two_locks : (l : LockId) → IsTrue (has_lock l (Node 8 ∷ Node 5 ∷ [])) → (Node 8 ≡ l) ⊎ (Node 5 ≡ l)
+two_locks l i = by_test (λ b. b ≡ true → (Node 8 ≡ l) ⊎ (Node 5 ≡ l)) true (has_lock l (Node 5 ∷ [])) (same_lock (Node 8) l) (λ e j. inl (lock_of (Node 8) l e)) (λ e j. inr (one_lock 5 l j)) i
+
+cleared_sole : (l : LockId) → (Node 8 ≡ l) ⊎ (Node 5 ≡ l) → cleared.holds 0 l ≡ Some Sole
+cleared_sole l d = ⊎_elim (λ e. subst (λ x. cleared.holds 0 x ≡ Some Sole) e refl) (λ e. subst (λ x. cleared.holds 0 x ≡ Some Sole) e refl) d
+
+at_eight : (P : Option Change → Type 0) (s : ℕ) → (8 ≡ s → P (Some change_8)) → P None → P (change_at claim.changes s)
+at_eight P s f n = by_test P (Some change_8) None (nat_eq 8 s) (λ e. f (eq_of 8 s e)) (λ e. n)
+
+node_eight : (s : ℕ) → 8 ≡ s → Node 8 ≡ Node s
+node_eight s e = cc
+
+claim_eight : (s : ℕ) → 8 ≡ s → CanClaim cleared claim s
+claim_eight s e = subst (λ x. CanClaim cleared claim x) e (record { fresh = refl; free = refl; cleared = refl; moved = refl })
+
+can_claim : CanDo cleared claim
+can_claim = record {
+  up = refl;
+  number = lit< tt;
+  used = λ l i. sole_held (cleared.holds 0 l) (cleared_sole l (two_locks l i));
+  alone = λ l i. cleared_sole l (two_locks l i);
+  looked = λ s. at_eight (λ o. IsTrue (if is_some o then true else false) → cleared.holds 0 (Node s) ≢ None) s (λ e i. sole_held (cleared.holds 0 (Node s)) (cleared_sole (Node s) (inl (node_eight s e)))) (λ i. cc);
+  owned = λ s. at_eight (λ o. Owned o (cleared.holds 0 (Node s))) s (λ e. cleared_sole (Node s) (inl (node_eight s e))) tt;
+  based = λ s. at_eight (λ o. Based o (cleared.slot 0 s)) s
+      (λ e. at_put2 (λ x. Based (Some change_8) x) (λ d k. Absent) 0 8 (Clean zeros) 0 s (λ i j. lit< tt) (λ n. absurd (n refl (sym e)))) tt;
+  moves = λ s. by_test (λ o. MovesOwned o (cleared.holds 0 (Node s)) (cleared.holds 0)) (Some (Node 5)) None (nat_eq s 8)
+      (λ e. (cleared_sole (Node s) (inl (node_eight s (sym (eq_of s 8 e)))), refl)) (λ e. tt);
+  claims = λ s e. claim_eight s (sym (eq_of s 8 e));
+  named = λ s. at_eight (λ o. IsSome o → (if nat_eq s 8 then true else nat_lt s 8) ≡ true) s (λ e i. subst (λ x. (if nat_eq x 8 then true else nat_lt x 8) ≡ true) e refl) (λ i. absurd (cc));
+  plain = λ s i. absurd (cc);
+  sees = λ s. refl;
+  written = λ s i. absurd (cc);
+  shows = λ s. tt;
+}
+
+pub claimed_world : World
+claimed_world = after cleared (Do claim)
+
+pub is_claimed : IsClaimedRun claimed_world
+unfolding claimed_world
+is_claimed = record {
+  run = goes (record { off = refl; known = lit< tt }) (goes (record { up = refl; more = λ e. cc; fits = λ b n. tt })
+      (goes (record { up = refl; more = λ e. cc; fits = fits_five })
+      (goes (record { up = refl; held = refl; plain = refl; free = refl })
+      (goes (record { well = refl; up = refl; dirty = refl; logged = omega arith; alone = refl })
+      (goes (record { there = refl; early = omega arith })
+      (goes (record { up = refl; held = λ e. cc; absent = refl })
+      (goes can_claim stays)))))));
+  versioned = refl;
+  moved = refl;
+  page = refl;
+}
+  where
+    fits_five : (b : ℕ) → b ≢ 0 → Fits Sole (put_lock (λ d k. None) 0 (Node 8) (Some Sole) b (Node 5))
+    fits_five b n = at_lock (λ m. Fits Sole m) (λ d k. None) 0 (Node 8) (Some Sole) b (Node 5) (λ e j. absurd (n e)) (λ j. tt)

@@ -1,5 +1,6 @@
--- Runs in which the guards are met together. Sector 9 has bytes of a file, all others have versions; each has a lock of its own.
-use Rattle.std.specs.Prelude.{ℕ, zero, suc, ◌≡◌, Bool, true, false, not, List, [], ◌∷◌, Option, Some, None, nat_eq, if◌then◌else◌}
+-- Runs in which the guards are met together. Sectors below 8 have versions, sector 9 has bytes of a file, the others are free;
+-- each has a lock of its own.
+use Rattle.std.specs.Prelude.{ℕ, zero, suc, ◌≡◌, Bool, true, false, List, [], ◌∷◌, Option, Some, None, nat_eq, nat_lt, if◌then◌else◌}
 use Rattle.frang_base.specs.declared.sector.Sector.{Sector}
 use Rattle.frang_base.specs.declared.change.Change.{Change}
 use Rattle.frang_base.specs.declared.lock.LockId.{LockId}
@@ -13,15 +14,16 @@ use Rattle.cells.specs.Bytes.{value}
 use Rattle.cells.specs.Histories.{Fill, Commit, Item, settled}
 use Rattle.cells.specs.Histories.Fill.{Written}
 use Rattle.cells.specs.Histories.Item.{Done, Doubt}
-use Rattle.sector_world.specs.World.{World, Flight, Told, Rescue, start}
+use Rattle.sector_world.specs.World.{World, Flight, Rescue, start, cover, has_version}
+use Rattle.sector_world.specs.World.Page.{NoPage}
 use Rattle.sector_world.specs.World.Slot.{Dirty}
 use Rattle.sector_world.specs.World.Told.{Unread, Wanted, InPlace}
 use Rattle.sector_world.specs.Steps.{Event, Run}
-use Rattle.sector_world.specs.Steps.Event.{Tick, Renew, Mount, Take, Do, Reach, Ack, Sync, Crash, Begin, Look, Finish, Fetch, Issue, Replay, Land, Fade, FetchBytes}
+use Rattle.sector_world.specs.Steps.Event.{Tick, Renew, Mount, Take, Do, Reach, Ack, Sync, Crash, Begin, Look, Finish, Fetch, Issue, Replay, Land, Fade, FetchBytes, Clear, IssueBytes, LandBytes}
 
 -- three servers and a disk of zeros
 abbrev pub begin : World
-begin = start 3 (λ s. zeros) (λ s. not (nat_eq s 9)) (λ s. nat_eq s 9) (λ s. Node s)
+begin = start 3 (λ s. zeros) (λ s. nat_lt s 8) (λ s. nat_eq s 9) (λ s. Node s)
 
 -- sector 5 gets version 1
 abbrev pub change : Change
@@ -172,3 +174,34 @@ pub record IsReadRun (v w : World) : Type 0 where
   pub unknown : value v.first (settled v.history) 9 ≡ None
   pub run : Run v read w
   pub known : value w.first (settled w.history) 9 ≡ Some zeros
+
+-- an operation of server 0 that makes sector 8 one with versions, under another lock, once zeros are written there
+abbrev pub change_8 : Change
+change_8 = record { sector = record { 0 = 8 }; version = 1; patches = [] }
+
+abbrev pub claim : Commit
+claim = record {
+  by = 0;
+  op = 1;
+  asked = op.Sync;
+  reply = reply.Ok;
+  blocks = 0;
+  looked = [];
+  changes = change_8 ∷ [];
+  claims = λ s. nat_eq s 8;
+  moves = λ s. if nat_eq s 8 then Some (Node 5) else None;
+  writes = λ s. None;
+  sees = λ s. has_lock (Node s) (Node 8 ∷ Node 5 ∷ []);
+  shown = λ s. None;
+  uses = Node 8 ∷ Node 5 ∷ [];
+  alone = Node 8 ∷ Node 5 ∷ [];
+}
+
+abbrev pub claimed : List Event
+claimed = Mount 0 ∷ Take 0 (Node 8) Sole ∷ Take 0 (Node 5) Sole ∷ Clear 0 8 ∷ IssueBytes 0 8 zeros 0 ∷ LandBytes 8 (record { by = 0; stamp = 16; block = zeros }) ∷ Fetch 0 8 ∷ Do claim ∷ []
+
+pub record IsClaimedRun (w : World) : Type 0 where
+  pub run : Run begin claimed w
+  pub versioned : has_version w 8 ≡ true
+  pub moved : cover w 8 ≡ Node 5
+  pub page : w.page 0 8 ≡ NoPage
