@@ -13,6 +13,7 @@ ghost use Rattle.sector_world.specs.Steps.{Event, Run, Can};
 ghost use Rattle.sector_world.specs.Claims.{Holds, Orderly, IsOneDisk};
 ghost use Rattle.sector_world.specs.Planned.{ArePlanned, IsLegal};
 ghost use Rattle.sector_world.specs.Trees.{Apply, MeetsTree, AreNew, Stand, first_disk};
+ghost use Rattle.sector_world.specs.Examples.{IsLostRun, IsKeptRun, IsTwiceRun, IsLateRun, IsReadRun, IsClaimedRun};
 
 /// After every run from a disk, of which some sectors have versions and some are of files, and at each next event.
 pub fn every_run()
@@ -38,3 +39,14 @@ pub fn every_tree<Tree>()
         → Run (start servers disk logged of_files home) events w → ArePlanned plan (start servers disk logged of_files home) events
         → AreNew Tree fresh first (start servers disk logged of_files home) events → Stand Tree stands apply first w }
 {}
+
+/// Runs in which the guards are met together.
+pub fn example_runs()
+    ensures lost { (w : World) × IsLostRun w }
+    ensures kept { (w : World) × IsKeptRun w }
+    ensures twice { (w : World) × IsTwiceRun w }
+    ensures late { (w : World) × IsLateRun w }
+    ensures read { (v : World) × (w : World) × IsReadRun v w }
+    ensures claimed { (w : World) × IsClaimedRun w }
+{
+}
