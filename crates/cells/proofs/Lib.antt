@@ -6,3 +6,4 @@ pub mod More
 pub mod Seen
 pub mod Plans
 pub mod Bytes
+pub mod Laws

@@ -5,3 +5,4 @@ pub mod Bytes
 pub mod OnDisk
 pub mod Seen
 pub mod Plans
+pub mod Laws

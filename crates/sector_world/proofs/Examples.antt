@@ -1,25 +1,24 @@
 -- The runs of the examples.
-use Rattle.std.proofs.Common.{if◌then◌else◌, cond, ℕ, zero, suc, ◌+◌, ◌-◌, ◌<◌, ◌≤◌, ◌≡◌, ◌≢◌, ◌⊎◌, ⊎_elim, inl, inr, true, false, Bool, not, List, [], ◌∷◌, Option, Some, None, IsTrue, IsSome, is_some, nat_eq, nat_lt, refl, sym, subst, arith, lit<, add-zero}
+use Rattle.std.proofs.Common.{if◌then◌else◌, ℕ, zero, suc, ◌+◌, ◌-◌, ◌≡◌, ◌≢◌, ◌⊎◌, ⊎_elim, inl, inr, true, false, List, [], ◌∷◌, Option, Some, None, IsTrue, IsSome, is_some, nat_eq, nat_lt, refl, sym, subst, arith, lit<, add-zero}
 use Rattle.frang_base.specs.declared.change.Change.{Change}
 use Rattle.frang_base.specs.declared.lock.LockId.{LockId}
 use Rattle.frang_base.specs.declared.lock.LockId.TheVariants.{Node}
 use Rattle.frang_base.specs.declared.lock.Mode.{Mode}
 use Rattle.frang_base.specs.declared.lock.Mode.TheVariants.{Shared, Sole}
-use Rattle.cells.specs.Blocks.{Block, zeros}
+use Rattle.cells.specs.Blocks.{zeros}
 use Rattle.cells.specs.Changes.{change_at, has_lock, same_lock, put_lock}
-use Rattle.cells.specs.Histories.{Fill, Commit, Item, redo_of, is_logged}
+use Rattle.cells.specs.Histories.{Fill, redo_of}
 use Rattle.cells.specs.Histories.Fill.{Written}
-use Rattle.cells.specs.Histories.Item.{Done}
-use Rattle.cells.proofs.Basics.{by_test, at_put, at_put2, at_lock, eq_of, ne_of, lock_of}
-use Rattle.sector_world.specs.World.{World, Slot, Page, Rescue}
-use Rattle.sector_world.specs.World.Slot.{Absent, Clean, Dirty}
-use Rattle.sector_world.specs.World.Page.{NoPage, CleanPage}
-use Rattle.sector_world.specs.World.Told.{Unread, Wanted, InPlace}
+use Rattle.cells.proofs.Basics.{by_test, at_put, at_put2, at_lock, eq_of, lock_of}
+use Rattle.sector_world.specs.World.{World}
+use Rattle.sector_world.specs.World.Slot.{Absent, Clean}
+use Rattle.sector_world.specs.World.Page.{CleanPage}
+use Rattle.sector_world.specs.World.Told.{InPlace}
 use Rattle.sector_world.specs.Guards.{Fits, Based, Owned, MovesOwned, Shows, NoneNames, CanClaim, CanDo}
 use Rattle.sector_world.specs.Steps.{Event, after, Run}
 use Rattle.sector_world.specs.Steps.Event.{Tick, Renew, Mount, Take, Do, Reach, Ack, Sync, Crash, Begin, Look, Finish, Fetch, Issue, Replay, Land, Fade, FetchBytes, Clear, IssueBytes, LandBytes}
 use Rattle.sector_world.specs.Steps.Run.{stays, goes}
-use Rattle.sector_world.specs.Examples.{begin, change, changed, deed, ticks, done, rescue, wanted, placed, write, recovery, lost, IsLostRun, kept, IsKeptRun, twice, IsTwiceRun, late, IsLateRun, bytes, scribble, reading, doubted, read, IsReadRun, change_8, claim, claimed, IsClaimedRun}
+use Rattle.sector_world.specs.Examples.{begin, change, changed, deed, ticks, done, rescue, wanted, placed, write, recovery, IsLostRun, IsKeptRun, IsTwiceRun, IsLateRun, bytes, scribble, reading, IsReadRun, change_8, claim, IsClaimedRun}
 
 tick_run : (n : ℕ) (w v : World) (es : List Event) → Run (record w { now = w.now + n }) es v → Run w (ticks n es) v
 tick_run zero w v es r = subst (λ n. Run (record w { now = n }) es v) (add-zero w.now) r

@@ -1,5 +1,5 @@
 -- There is one disk, and writes come to it in order.
-use Rattle.std.proofs.Common.{true, false, Bool, if◌then◌else◌, ⊎_elim, le_trans, ℕ, ◌<◌, ◌≤◌, ◌≡◌, ◌⊎◌, inl, inr, Option, Some, None, refl, sym, ◌∙◌, ap, subst, arith}
+use Rattle.std.proofs.Common.{true, false, Bool, if◌then◌else◌, ⊎_elim, le_trans, ℕ, ◌<◌, ◌≤◌, ◌≡◌, ◌⊎◌, inl, inr, None, refl, sym, ◌∙◌, ap, subst, arith}
 use Rattle.cells.specs.Blocks.{Block, version, zeros}
 use Rattle.cells.specs.Changes.{put}
 use Rattle.cells.specs.Histories.{Commit, settled, survives}

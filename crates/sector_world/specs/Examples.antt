@@ -1,9 +1,7 @@
 -- Runs in which the guards are met together. Sectors below 8 have versions, sector 9 has bytes of a file, the others are free;
 -- each has a lock of its own.
-use Rattle.std.specs.Prelude.{ℕ, zero, suc, ◌≡◌, Bool, true, false, List, [], ◌∷◌, Option, Some, None, nat_eq, nat_lt, if◌then◌else◌}
-use Rattle.frang_base.specs.declared.sector.Sector.{Sector}
+use Rattle.std.specs.Prelude.{ℕ, zero, suc, ◌≡◌, Bool, true, false, List, [], ◌∷◌, Some, None, nat_eq, nat_lt, if◌then◌else◌}
 use Rattle.frang_base.specs.declared.change.Change.{Change}
-use Rattle.frang_base.specs.declared.lock.LockId.{LockId}
 use Rattle.frang_base.specs.declared.lock.LockId.TheVariants.{Node}
 use Rattle.frang_base.specs.declared.lock.Mode.TheVariants.{Shared, Sole}
 use Rattle.frang_base.specs.declared.op.Op.TheVariants as op
@@ -11,7 +9,7 @@ use Rattle.frang_base.specs.declared.reply.Reply.TheVariants as reply
 use Rattle.cells.specs.Blocks.{Block, zeros, edited}
 use Rattle.cells.specs.Changes.{put, has_lock}
 use Rattle.cells.specs.Bytes.{value}
-use Rattle.cells.specs.Histories.{Fill, Commit, Item, settled}
+use Rattle.cells.specs.Histories.{Commit, Item, settled}
 use Rattle.cells.specs.Histories.Fill.{Written}
 use Rattle.cells.specs.Histories.Item.{Done, Doubt}
 use Rattle.sector_world.specs.World.{World, Flight, Rescue, start, cover, has_version}

@@ -1,6 +1,6 @@
 -- The world: servers with leases, locks, caches and logs, writes in flight, the recovery under way, and the disk. A sector
 -- has two sides: as one with a version, which records name, and as one of file bytes, which none names. One side counts.
-use Rattle.std.specs.Prelude.{ℕ, Bool, true, false, List, [], Option, Some, None, if◌then◌else◌}
+use Rattle.std.specs.Prelude.{ℕ, Bool, true, List, [], Option, Some, None, if◌then◌else◌}
 use Rattle.frang_base.specs.declared.lock.LockId.{LockId}
 use Rattle.frang_base.specs.declared.lock.Mode.{Mode}
 use Rattle.cells.specs.Blocks.{Block, zeros}

@@ -48,5 +48,4 @@ pub fn example_runs()
     ensures late { (w : World) × IsLateRun w }
     ensures read { (v : World) × (w : World) × IsReadRun v w }
     ensures claimed { (w : World) × IsClaimedRun w }
-{
-}
+{}
