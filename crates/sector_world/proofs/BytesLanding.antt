@@ -142,8 +142,8 @@ pub bytes_issue : (w : World) (a s : ℕ) (block : Block) (mark : ℕ) → CanIs
 bytes_issue w a s block mark can k g =
     let f0 : ByteFlight = record { by = a; stamp = w.expiry a - 15; block = block } in
     let ok : ByteFlightOk w s f0 = record {
-      place = dirty_here w a s block mark can.up can.dirty can.logged k g (PendingBytes w s);
-      sole = dirty_sole w a s block mark can.up can.dirty can.logged k g;
+      place = dirty_here w a s block mark can.up can.dirty can.log_before k g (PendingBytes w s);
+      sole = dirty_sole w a s block mark can.up can.dirty can.log_before k g;
       lease = omega arith;
       loose = rw (can.up, can.dirty) tt;
     } in
@@ -237,7 +237,7 @@ disk_page w s f v ok k g b =
 
 module _ (w : World) (s : ℕ) (f : ByteFlight) (can : CanLandBytes w s f) (k : Logged w) (g : Bytes w) where
   ok : ByteFlightOk w s f
-  ok = g.flights s f can.there can.early
+  ok = g.flights s f can.there can.in_time
 
   or : (page_landed (w.acked f.by) f.block (w.page f.by s) ≡ w.page f.by s) ⊎ ((mark : ℕ) × (w.page f.by s ≡ DirtyPage f.block mark) × (mark ≤ w.acked f.by) × (page_landed (w.acked f.by) f.block (w.page f.by s) ≡ CleanPage f.block))
   or = landed_or (w.acked f.by) f.block (w.page f.by s)

@@ -153,7 +153,7 @@ bytes_lower w a l can k g = bytes_lowered w a l can.give k g (Some Shared) page_
 pub bytes_sync : (w : World) (a : ℕ) → CanSync w a → Logged w → Bytes w → Bytes (after w (Sync a))
 bytes_sync w a can k g =
     let same : (b : ℕ) → b ≢ a → put w.synced a (w.last a) b ≡ w.synced b = λ b n. put_other w.synced a (w.last a) b n in
-    let low : w.last a ≤ w.durable a = le_trans can.logged (k.acks a) in
+    let low : w.last a ≤ w.durable a = le_trans can.acknowledged (k.acks a) in
     let goes : (t : ℕ) (v : Block) → OnData w.first w.durable t (PendingBytes w t) v (settled w.history) → OnData w.first w.durable t (PendingBytes (after w (Sync a)) t) v (settled w.history) = λ t v o.
     ⊎_elim
     (λ n. data_map w.first w.durable w.durable t (PendingBytes w t) (PendingBytes (after w (Sync a)) t) v (λ d. le_refl (w.durable d))

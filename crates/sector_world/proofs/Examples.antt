@@ -112,7 +112,7 @@ is_kept = record {
   run = done_run (Reach 0 1 ∷ Ack 0 1 ∷ Sync 0 ∷ Crash 0 ∷ ticks 31 (Renew 1 ∷ recovery 1 47)) (recovered 1 (after kept_late (Renew 1)))
       (goes (record { more = omega arith; there = omega arith; lease = omega arith })
       (goes (record { up = refl; there = omega arith })
-      (goes (record { up = refl; logged = omega arith; clean = λ s. tt })
+      (goes (record { up = refl; acknowledged = omega arith; clean = λ s. tt })
       (goes refl
       (tick_run 31 (after synced (Crash 0)) (recovered 1 (after kept_late (Renew 1))) (Renew 1 ∷ recovery 1 47)
       (goes (record { up = refl; later = lit< tt })
@@ -176,7 +176,7 @@ is_late = record {
   run = done_run (Reach 0 1 ∷ Ack 0 1 ∷ Issue 0 5 changed 1 ∷ ticks 16 (Fade 5 (write 0 16) ∷ [])) (after (record sent { now = 17 }) (Fade 5 (write 0 16)))
       (goes (record { more = omega arith; there = omega arith; lease = omega arith })
       (goes (record { up = refl; there = omega arith })
-      (goes (record { well = refl; up = refl; dirty = refl; logged = omega arith; alone = refl })
+      (goes (record { well = refl; up = refl; dirty = refl; log_first = omega arith; alone = refl })
       (tick_run 16 sent (after (record sent { now = 17 }) (Fade 5 (write 0 16))) (Fade 5 (write 0 16) ∷ [])
       (goes (record { there = refl; late = inl (lit< tt) }) stays)))));
   dirty = refl;
@@ -321,8 +321,8 @@ is_claimed = record {
   run = goes (record { off = refl; known = lit< tt }) (goes (record { up = refl; more = λ e. cc; fits = λ b n. tt })
       (goes (record { up = refl; more = λ e. cc; fits = fits_five })
       (goes (record { up = refl; held = refl; plain = refl; free = refl })
-      (goes (record { well = refl; up = refl; dirty = refl; logged = omega arith; alone = refl })
-      (goes (record { there = refl; early = omega arith })
+      (goes (record { well = refl; up = refl; dirty = refl; log_before = omega arith; alone = refl })
+      (goes (record { there = refl; in_time = omega arith })
       (goes (record { up = refl; held = λ e. cc; absent = refl })
       (goes can_claim stays)))))));
   versioned = refl;

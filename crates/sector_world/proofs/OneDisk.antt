@@ -53,7 +53,7 @@ ordered w g s f can =
     }
 
 plain : (w : World) → Good w → (s : ℕ) (f : ByteFlight) → CanLandBytes w s f → IsPlain w s f
-plain w g s f can = let q : ByteFlightOk w s f = g.bytes.flights s f can.there can.early in record { plain = landed_plain w s f can g.kinds; leased = le_trans can.early q.lease; untaken = none_begun w g f.by (le_trans can.early q.lease) }
+plain w g s f can = let q : ByteFlightOk w s f = g.bytes.flights s f can.there can.in_time in record { plain = landed_plain w s f can g.kinds; leased = le_trans can.in_time q.lease; untaken = none_begun w g f.by (le_trans can.in_time q.lease) }
 
 pub orderly_good : (w : World) → Good w → (e : Event) → Can w e → Orderly w e
 orderly_good w g (Land s f) can = ordered w g s f can

@@ -136,7 +136,7 @@ logged_sync w a can g = record {
   floored = g.floored;
   unseen = g.unseen;
   unmet = g.unmet;
-  unsynced = λ d. ((λ e. let u : w.last a ≤ w.acked a = can.logged in let v : w.acked a ≤ w.durable a = g.acks a in subst (λ x. w.last a ≤ w.durable x) e (omega arith)), g.unsynced d);
+  unsynced = λ d. ((λ e. let u : w.last a ≤ w.acked a = can.acknowledged in let v : w.acked a ≤ w.durable a = g.acks a in subst (λ x. w.last a ≤ w.durable x) e (omega arith)), g.unsynced d);
   was_kept = g.was_kept;
   flights = g.flights;
   rescued = g.rescued;
@@ -170,7 +170,7 @@ module _ (w : World) (a s : ℕ) (block : Block) (mark : ℕ) (can : CanIssue w 
   issue_newer = subst (IsNewer (w.disk s)) can.dirty (g.newer a s can.well)
 
   issue_mark : mark ≤ w.durable a
-  issue_mark = le_trans can.logged (g.acks a)
+  issue_mark = le_trans can.log_first (g.acks a)
 
   issue_durable : AllDurable w.durable s (settled w.history)
   issue_durable = all_durable w.opening w.durable s (Pending w s) (w.disk s)

@@ -273,7 +273,7 @@ pub kinds_break : (w : World) (s : ℕ) (f : ByteFlight) → Kinds w → Kinds (
 kinds_break w s f g = kinds_fade w s f g
 
 pub landed_plain : (w : World) (s : ℕ) (f : ByteFlight) → CanLandBytes w s f → Kinds w → has_version w s ≡ false
-landed_plain w s f can g = true_or_false (has_version w s) (λ v. g.landed s f v can.there can.early)
+landed_plain w s f can g = true_or_false (has_version w s) (λ v. g.landed s f v can.there can.in_time)
 
 landed_cleared : (w : World) (s : ℕ) (f : ByteFlight) → CanLandBytes w s f → Kinds w → (t : ℕ) → has_version w t ≡ true → w.logged t ≡ false → (put w.bytes s f.block t ≡ zeros) × (is_free w.first (settled w.history) t ≡ true) × AllWritten w.durable t (settled w.history)
 landed_cleared w s f can g t v n =

@@ -158,7 +158,7 @@ pub record CanAck (w : World) (a k : ℕ) : Type 0 where
 -- the whole log is acknowledged, and no bytes are dirty but zeros of free sectors
 pub record CanSync (w : World) (a : ℕ) : Type 0 where
   pub up : w.phase a ≡ Up
-  pub logged : w.last a ≤ w.acked a
+  pub acknowledged : w.last a ≤ w.acked a
   pub clean : (s : ℕ) → DirtyIfFree (w.page a s) (is_free w.first (settled w.history) s)
 
 pub record CanReclaim (w : World) (a k : ℕ) : Type 0 where
@@ -188,7 +188,7 @@ pub record CanIssue (w : World) (a s : ℕ) (block : Block) (mark : ℕ) : Type 
   pub well : w.sick a ≡ false
   pub up : w.phase a ≡ Up
   pub dirty : w.slot a s ≡ Dirty block mark
-  pub logged : mark ≤ w.acked a
+  pub log_first : mark ≤ w.acked a
   pub alone : w.flight s ≡ None
 
 pub record CanReplay (w : World) (r : Rescue) (s : ℕ) (block : Block) : Type 0 where
@@ -226,12 +226,12 @@ pub record CanIssueBytes (w : World) (a s : ℕ) (block : Block) (mark : ℕ) : 
   pub well : w.sick a ≡ false
   pub up : w.phase a ≡ Up
   pub dirty : w.page a s ≡ DirtyPage block mark
-  pub logged : mark ≤ w.acked a
+  pub log_before : mark ≤ w.acked a
   pub alone : w.byte_flight s ≡ None
 
 pub record CanLandBytes (w : World) (s : ℕ) (f : ByteFlight) : Type 0 where
   pub there : w.byte_flight s ≡ Some f
-  pub early : w.now ≤ f.stamp
+  pub in_time : w.now ≤ f.stamp
 
 pub record CanFadeBytes (w : World) (s : ℕ) (f : ByteFlight) : Type 0 where
   pub there : w.byte_flight s ≡ Some f
