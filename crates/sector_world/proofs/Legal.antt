@@ -29,7 +29,7 @@ legal_do plan frame w c p g l = (
   l,
 )
 
-legal_step : (plan : Plan) → IsFramed plan → (w : World) (e : Event) → PlannedIf plan w e → Good w → Legal plan w.opening (settled w.history) → Legal plan (after w e).opening (settled (after w e).history)
+pub legal_step : (plan : Plan) → IsFramed plan → (w : World) (e : Event) → PlannedIf plan w e → Good w → Legal plan w.opening (settled w.history) → Legal plan (after w e).opening (settled (after w e).history)
 legal_step plan frame w (Do c) p g l = legal_do plan frame w c p g l
 legal_step plan frame w (Finish r) p g l = legal_kept plan w.opening (survives r.dead (w.durable r.dead)) frame (settled w.history) (clear_survives r.dead (w.durable r.dead) (settled w.history) g.logged.ops (g.logged.unseen r.dead)) l
 legal_step plan frame w Tick p g l = l

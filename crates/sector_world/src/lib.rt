@@ -7,11 +7,13 @@
 ghost use Rattle.std.specs.Prelude.{◌≡◌, ℕ, List, Bool, true};
 ghost use Rattle.frang_base.specs.declared.lock.LockId.{LockId};
 ghost use Rattle.cells.specs.Blocks.{Block, zeros};
-ghost use Rattle.cells.specs.Plans.{Plan, IsFramed};
+ghost use Rattle.cells.specs.Histories.{settled};
+ghost use Rattle.cells.specs.Plans.{Plan, IsFramed, Legal};
 ghost use Rattle.sector_world.specs.World.{World, start};
-ghost use Rattle.sector_world.specs.Steps.{Event, Run, Can};
+ghost use Rattle.sector_world.specs.Steps.{Event, Run, Can, after};
+ghost use Rattle.sector_world.specs.Kinds.{Good};
 ghost use Rattle.sector_world.specs.Claims.{Holds, Orderly, IsOneDisk};
-ghost use Rattle.sector_world.specs.Planned.{ArePlanned, IsLegal};
+ghost use Rattle.sector_world.specs.Planned.{PlannedIf, ArePlanned, IsLegal};
 ghost use Rattle.sector_world.specs.Trees.{Apply, MeetsTree, AreNew, Stand, first_disk};
 ghost use Rattle.sector_world.specs.Examples.{IsLostRun, IsKeptRun, IsTwiceRun, IsLateRun, IsReadRun, IsClaimedRun};
 
@@ -28,6 +30,21 @@ pub fn every_run()
         → Run (start servers disk logged of_files home) events w → ArePlanned plan (start servers disk logged of_files home) events
         → IsLegal plan w }
 {}
+
+/// What every event keeps, for whoever shows that the steps of a system are events of this world: `Good` holds at the start and
+/// through each event, and all that holds after a run follows from it alone.
+pub fn every_event()
+    ensures start { (servers : ℕ) (disk : ℕ → Block) (logged of_files : ℕ → Bool) (home : ℕ → LockId)
+        → Good (start servers disk logged of_files home) }
+    ensures step { (w : World) (e : Event) → Can w e → Good w → Good (after w e) }
+    ensures holds { (w : World) → Good w → Holds w }
+    ensures orderly { (w : World) → Good w → (e : Event) → Can w e → Orderly w e }
+    ensures one_disk { (w : World) → Good w → (e : Event) → Can w e → (s : ℕ) → IsOneDisk w e s }
+    ensures legal { (plan : Plan) → IsFramed plan → (w : World) (e : Event) → PlannedIf plan w e → Good w
+        → Legal plan w.opening (settled w.history) → Legal plan (after w e).opening (settled (after w e).history) }
+    ensures left { (plan : Plan) → IsFramed plan → (w : World) → Good w → Legal plan w.opening (settled w.history) → IsLegal plan w }
+{
+}
 
 /// After every run whose operations are planned and have new numbers: for all plans, trees, tests of whether sectors stand for
 /// a tree, and ways to apply operations to trees that fit together.
