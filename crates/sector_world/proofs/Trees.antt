@@ -15,14 +15,8 @@ use Rattle.sector_world.specs.Steps.Run.{stays, goes}
 use Rattle.sector_world.specs.Kinds.{Good}
 use Rattle.sector_world.specs.Claims.{left}
 use Rattle.sector_world.specs.Planned.{IsLegal}
-use Rattle.sector_world.specs.Trees.{Apply, MeetsTree, Meets, NewIf, AreNew, tree_of, Answers, Stand}
+use Rattle.sector_world.specs.Trees.{Apply, MeetsTree, Meets, NewIf, AreNew, Distinct, tree_of, Answers, Stand}
 use Rattle.sector_world.proofs.Holding.{with_versions_is}
-
--- the numbers of the operations differ, and are new to the first tree
-abbrev pub Distinct : {Tree : Type 0} → (ℕ → Tree → Bool) → Tree → List Item → Type 0
-Distinct fresh first [] = Unit {0}
-Distinct fresh first (Done c ∷ h) = (fresh c.op first ≡ true) × Each (λ e. e.op ≢ c.op) h × Distinct fresh first h
-Distinct fresh first (Doubt m ∷ h) = Distinct fresh first h
 
 distinct_kept : {Tree : Type 0} (fresh : ℕ → Tree → Bool) (first : Tree) (keep : Commit → Bool) (h : List Item) → Distinct fresh first h → Distinct fresh first (kept keep h)
 distinct_kept fresh first keep [] d = tt
@@ -36,7 +30,7 @@ distinct_left : {Tree : Type 0} (fresh : ℕ → Tree → Bool) (first : Tree) (
 distinct_left fresh first w d zero = d
 distinct_left fresh first w d (suc n) = distinct_kept fresh first (survives n (w.durable n)) (left w n) (distinct_left fresh first w d n)
 
-distinct_step : {Tree : Type 0} (fresh : ℕ → Tree → Bool) (first : Tree) (w : World) (e : Event) → NewIf Tree fresh first w e → Distinct fresh first (settled w.history) → Distinct fresh first (settled (after w e).history)
+pub distinct_step : {Tree : Type 0} (fresh : ℕ → Tree → Bool) (first : Tree) (w : World) (e : Event) → NewIf Tree fresh first w e → Distinct fresh first (settled w.history) → Distinct fresh first (settled (after w e).history)
 distinct_step fresh first w (Do c) n d = (n.unused, n.others, d)
 distinct_step fresh first w (Finish r) n d = distinct_kept fresh first (survives r.dead (w.durable r.dead)) (settled w.history) d
 distinct_step fresh first w Tick n d = d

@@ -47,6 +47,12 @@ abbrev pub AreNew : (Tree : Type 0) → (ℕ → Tree → Bool) → Tree → Wor
 AreNew Tree fresh first w [] = Unit {0}
 AreNew Tree fresh first w (e ∷ es) = NewIf Tree fresh first w e × AreNew Tree fresh first (after w e) es
 
+-- the numbers of the operations differ, and are new to the first tree
+abbrev pub Distinct : {Tree : Type 0} → (ℕ → Tree → Bool) → Tree → List Item → Type 0
+Distinct fresh first [] = Unit {0}
+Distinct fresh first (Done c ∷ h) = (fresh c.op first ≡ true) × Each (λ e. e.op ≢ c.op) h × Distinct fresh first h
+Distinct fresh first (Doubt m ∷ h) = Distinct fresh first h
+
 -- the tree after these operations
 abbrev pub tree_of : {Tree : Type 0} → Apply Tree → Tree → List Item → Tree
 tree_of apply first [] = first

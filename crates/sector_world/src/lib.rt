@@ -14,7 +14,7 @@ ghost use Rattle.sector_world.specs.Steps.{Event, Run, Can, after};
 ghost use Rattle.sector_world.specs.Kinds.{Good};
 ghost use Rattle.sector_world.specs.Claims.{Holds, Orderly, IsOneDisk};
 ghost use Rattle.sector_world.specs.Planned.{PlannedIf, ArePlanned, IsLegal};
-ghost use Rattle.sector_world.specs.Trees.{Apply, MeetsTree, AreNew, Stand, first_disk};
+ghost use Rattle.sector_world.specs.Trees.{Apply, MeetsTree, NewIf, AreNew, Distinct, Stand, first_disk};
 ghost use Rattle.sector_world.specs.Examples.{IsLostRun, IsKeptRun, IsTwiceRun, IsLateRun, IsReadRun, IsClaimedRun};
 
 /// After every run from a disk, of which some sectors have versions and some are of files, and at each next event.
@@ -56,6 +56,16 @@ pub fn every_tree<Tree>()
         → Run (start servers disk logged of_files home) events w → ArePlanned plan (start servers disk logged of_files home) events
         → AreNew Tree fresh first (start servers disk logged of_files home) events → Stand Tree stands apply first w }
 {}
+
+/// What every event keeps of the numbers of operations, and what follows for trees from what every event keeps.
+pub fn every_tree_event<Tree>()
+    ensures numbers { (fresh : ℕ → Tree → Bool) (first : Tree) (w : World) (e : Event) → NewIf Tree fresh first w e
+        → Distinct fresh first (settled w.history) → Distinct fresh first (settled (after w e).history) }
+    ensures stand { (plan : Plan) (stands : (ℕ → Block) → Tree → Bool) (apply : Apply Tree) (fresh : ℕ → Tree → Bool)
+        → MeetsTree Tree plan stands apply fresh → (first : Tree) (w : World) → stands w.opening first ≡ true → IsLegal plan w
+        → Distinct fresh first (settled w.history) → Good w → Stand Tree stands apply first w }
+{
+}
 
 /// Runs in which the guards are met together.
 pub fn example_runs()
