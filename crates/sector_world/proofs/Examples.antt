@@ -8,7 +8,7 @@ use Rattle.frang_base.specs.declared.lock.Mode.TheVariants.{Shared, Sole}
 use Rattle.cells.specs.Blocks.{zeros}
 use Rattle.cells.specs.Changes.{change_at, has_lock, same_lock, put_lock}
 use Rattle.cells.specs.Histories.{Fill, redo_of}
-use Rattle.cells.specs.Histories.Fill.{Written}
+use Rattle.cells.specs.Histories.Fill.{Written, Freed}
 use Rattle.cells.proofs.Basics.{by_test, at_put, at_put2, at_lock, eq_of, lock_of}
 use Rattle.sector_world.specs.World.{World}
 use Rattle.sector_world.specs.World.Slot.{Absent, Clean}
@@ -18,7 +18,7 @@ use Rattle.sector_world.specs.Guards.{Fits, Based, Owned, MovesOwned, Shows, Non
 use Rattle.sector_world.specs.Steps.{Event, after, Run}
 use Rattle.sector_world.specs.Steps.Event.{Tick, Renew, Mount, Take, Do, Reach, Ack, Sync, Crash, Begin, Look, Finish, Fetch, Issue, Replay, Land, Fade, FetchBytes, Clear, IssueBytes, LandBytes}
 use Rattle.sector_world.specs.Steps.Run.{stays, goes}
-use Rattle.sector_world.specs.Examples.{begin, change, changed, deed, ticks, done, rescue, wanted, placed, write, recovery, IsLostRun, IsKeptRun, IsTwiceRun, IsLateRun, bytes, scribble, reading, IsReadRun, change_8, claim, IsClaimedRun}
+use Rattle.sector_world.specs.Examples.{freeing, freed, IsFreedRun, begin, change, changed, deed, ticks, done, rescue, wanted, placed, write, recovery, IsLostRun, IsKeptRun, IsTwiceRun, IsLateRun, bytes, scribble, reading, IsReadRun, change_8, claim, IsClaimedRun}
 
 tick_run : (n : ℕ) (w v : World) (es : List Event) → Run (record w { now = w.now + n }) es v → Run w (ticks n es) v
 tick_run zero w v es r = subst (λ n. Run (record w { now = n }) es v) (add-zero w.now) r
@@ -332,3 +332,76 @@ is_claimed = record {
   where
     fits_five : (b : ℕ) → b ≢ 0 → Fits Sole (put_lock (λ d k. None) 0 (Node 8) (Some Sole) b (Node 5))
     fits_five b n = at_lock (λ m. Fits Sole m) (λ d k. None) 0 (Node 8) (Some Sole) b (Node 5) (λ e j. absurd (n e)) (λ j. tt)
+
+abbrev both_held : World
+both_held = after (after (after begin (Mount 0)) (Take 0 (Node 9) Sole)) (Take 0 (Node 5) Sole)
+
+both_sole : (l : LockId) → (Node 9 ≡ l) ⊎ (Node 5 ≡ l) → both_held.holds 0 l ≡ Some Sole
+both_sole l d = ⊎_elim (λ e. subst (λ x. both_held.holds 0 x ≡ Some Sole) e refl) (λ e. subst (λ x. both_held.holds 0 x ≡ Some Sole) e refl) d
+
+can_write : CanDo both_held scribble
+can_write = record {
+  up = refl;
+  number = lit< tt;
+  used = λ l i. sole_held (both_held.holds 0 l) (both_sole l (inl (one_lock 9 l i)));
+  alone = λ l i. both_sole l (inl (one_lock 9 l i));
+  looked = λ s i. absurd (cc);
+  owned = λ s. tt;
+  based = λ s. tt;
+  moves = λ s. tt;
+  claims = λ s e. absurd (cc);
+  named = λ s i. absurd (cc);
+  plain = λ s. at_nine (λ o. IsSome o → nat_lt s 8 ≡ false) s (λ e i. subst (λ x. nat_lt x 8 ≡ false) e refl) (λ i. absurd (cc));
+  sees = λ s. refl;
+  written = λ s. at_nine (λ o. IsSome o → both_held.holds 0 (Node s) ≡ Some Sole) s (λ e i. both_sole (Node s) (inl (node_nine s e))) (λ i. absurd (cc));
+  shows = λ s. tt;
+}
+
+abbrev flying : World
+flying = after (after (after (after both_held (Do scribble)) (Reach 0 1)) (Ack 0 1)) (IssueBytes 0 9 bytes 1)
+
+two_of : (l : LockId) → IsTrue (has_lock l (Node 9 ∷ Node 5 ∷ [])) → (Node 9 ≡ l) ⊎ (Node 5 ≡ l)
+two_of l i = by_test (λ b. b ≡ true → (Node 9 ≡ l) ⊎ (Node 5 ≡ l)) true (has_lock l (Node 5 ∷ [])) (same_lock (Node 9) l) (λ e j. inl (lock_of (Node 9) l e)) (λ e j. inr (one_lock 5 l j)) i
+
+at_freed : {X : Type 0} (P : Option X → Type 0) (x : X) (s : ℕ) → (9 ≡ s → P (Some x)) → P None → P (if nat_eq s 9 then Some x else None)
+at_freed P x s f n = by_test P (Some x) None (nat_eq s 9) (λ e. f (sym (eq_of s 9 e))) (λ e. n)
+
+can_free : CanDo flying freeing
+can_free = record {
+  up = refl;
+  number = lit< tt;
+  used = λ l i. sole_held (flying.holds 0 l) (both_sole l (two_of l i));
+  alone = λ l i. both_sole l (two_of l i);
+  looked = λ s i. absurd (cc);
+  owned = λ s. tt;
+  based = λ s. tt;
+  moves = λ s. at_freed (λ o. MovesOwned o (flying.holds 0 (Node s)) (flying.holds 0)) (Node 5) s (λ e. (both_sole (Node s) (inl (node_nine s e)), refl)) tt;
+  claims = λ s e. absurd (cc);
+  named = λ s i. absurd (cc);
+  plain = λ s. at_freed (λ o. IsSome o → nat_lt s 8 ≡ false) Freed s (λ e i. subst (λ x. nat_lt x 8 ≡ false) e refl) (λ i. absurd (cc));
+  sees = λ s. refl;
+  written = λ s. at_freed (λ o. IsSome o → flying.holds 0 (Node s) ≡ Some Sole) Freed s (λ e i. both_sole (Node s) (inl (node_nine s e))) (λ i. absurd (cc));
+  shows = λ s. tt;
+}
+
+pub freed_world : World
+freed_world = after (after flying (Do freeing)) (LandBytes 9 (record { by = 0; stamp = 16; block = bytes }))
+
+pub is_freed : IsFreedRun freed_world
+unfolding freed_world
+is_freed = record {
+  run = goes (record { off = refl; known = lit< tt }) (goes (record { up = refl; more = λ e. cc; fits = λ b n. tt })
+      (goes (record { up = refl; more = λ e. cc; fits = fits_five })
+      (goes can_write
+      (goes (record { more = omega arith; there = omega arith; lease = omega arith })
+      (goes (record { up = refl; there = omega arith })
+      (goes (record { well = refl; up = refl; dirty = refl; log_before = omega arith; alone = refl })
+      (goes can_free
+      (goes (record { there = refl; in_time = omega arith }) stays))))))));
+  free = refl;
+  page = refl;
+  came = refl;
+}
+  where
+    fits_five : (b : ℕ) → b ≢ 0 → Fits Sole (put_lock (λ d k. None) 0 (Node 9) (Some Sole) b (Node 5))
+    fits_five b n = at_lock (λ m. Fits Sole m) (λ d k. None) 0 (Node 9) (Some Sole) b (Node 5) (λ e j. absurd (n e)) (λ j. tt)

@@ -8,12 +8,12 @@ use Rattle.frang_base.specs.declared.op.Op.TheVariants as op
 use Rattle.frang_base.specs.declared.reply.Reply.TheVariants as reply
 use Rattle.cells.specs.Blocks.{Block, zeros, edited}
 use Rattle.cells.specs.Changes.{put, has_lock}
-use Rattle.cells.specs.Bytes.{value}
+use Rattle.cells.specs.Bytes.{value, is_free}
 use Rattle.cells.specs.Histories.{Commit, Item, settled}
-use Rattle.cells.specs.Histories.Fill.{Written}
+use Rattle.cells.specs.Histories.Fill.{Written, Freed}
 use Rattle.cells.specs.Histories.Item.{Done, Doubt}
 use Rattle.sector_world.specs.World.{World, Flight, Rescue, start, cover, has_version}
-use Rattle.sector_world.specs.World.Page.{NoPage}
+use Rattle.sector_world.specs.World.Page.{NoPage, FreedPage}
 use Rattle.sector_world.specs.World.Slot.{Dirty}
 use Rattle.sector_world.specs.World.Told.{Unread, Wanted, InPlace}
 use Rattle.sector_world.specs.Steps.{Event, Run}
@@ -203,3 +203,32 @@ pub record IsClaimedRun (w : World) : Type 0 where
   pub versioned : has_version w 8 ≡ true
   pub moved : cover w 8 ≡ Node 5
   pub page : w.page 0 8 ≡ NoPage
+
+-- an operation of server 0 that frees the bytes of sector 9, which goes under another lock
+abbrev pub freeing : Commit
+freeing = record {
+  by = 0;
+  op = 2;
+  asked = op.Sync;
+  reply = reply.Ok;
+  blocks = 0;
+  looked = [];
+  changes = [];
+  claims = λ s. false;
+  moves = λ s. if nat_eq s 9 then Some (Node 5) else None;
+  writes = λ s. if nat_eq s 9 then Some Freed else None;
+  sees = λ s. has_lock (Node s) (Node 9 ∷ Node 5 ∷ []);
+  shown = λ s. None;
+  uses = Node 9 ∷ Node 5 ∷ [];
+  alone = Node 9 ∷ Node 5 ∷ [];
+}
+
+-- bytes are freed while their write is in flight, which still comes
+abbrev pub freed : List Event
+freed = Mount 0 ∷ Take 0 (Node 9) Sole ∷ Take 0 (Node 5) Sole ∷ Do scribble ∷ Reach 0 1 ∷ Ack 0 1 ∷ IssueBytes 0 9 bytes 1 ∷ Do freeing ∷ LandBytes 9 (record { by = 0; stamp = 16; block = bytes }) ∷ []
+
+pub record IsFreedRun (w : World) : Type 0 where
+  pub run : Run begin freed w
+  pub free : is_free w.first (settled w.history) 9 ≡ true
+  pub page : w.page 0 9 ≡ FreedPage 2
+  pub came : w.bytes 9 ≡ bytes
