@@ -1,4 +1,4 @@
--- What holds after every run, of the sectors with versions.
+-- What holds after every run, and at each event.
 use Rattle.std.specs.Prelude.{ℕ, zero, suc, true, false, ◌≡◌, ◌≢◌, ◌<◌, ◌≤◌, List, Option, Some, None, nat_eq, if◌then◌else◌}
 use Rattle.cells.specs.Blocks.{Block, version}
 use Rattle.cells.specs.Changes.{redo_all}
@@ -8,7 +8,7 @@ use Rattle.cells.specs.Seen.{Unmet, Unseen, Unsynced, Kept}
 use Rattle.sector_world.specs.World.{World, Flight, ByteFlight, block_at, has_version}
 use Rattle.sector_world.specs.Guards.{to_replay}
 use Rattle.sector_world.specs.Steps.{Event, after}
-use Rattle.sector_world.specs.Steps.Event.{Tick, Leave, Renew, Mount, Unmount, Take, Give, Lower, Do, Reach, Ack, Sync, Reclaim, Crash, Begin, Look, Finish, Fetch, Issue, Replay, Land, Fade, Break, BreakNew, FetchBytes, Clear, IssueBytes, LandBytes, FadeBytes, BreakBytes, BreakBytesNew, Settle}
+use Rattle.sector_world.specs.Steps.Event.{Land, BreakNew, LandBytes, BreakBytesNew}
 use Rattle.sector_world.specs.Logged.{now_of, IsCopy}
 use Rattle.sector_world.specs.Bytes.{IsCopyPage, IsDiskPage}
 
@@ -55,34 +55,7 @@ brings (Land t f) s = came t f.block s
 brings (BreakNew t f) s = came t f.block s
 brings (LandBytes t f) s = came t f.block s
 brings (BreakBytesNew t f) s = came t f.block s
-brings Tick s = None
-brings Leave s = None
-brings (Renew a) s = None
-brings (Mount a) s = None
-brings (Unmount a) s = None
-brings (Take a l mode) s = None
-brings (Give a l) s = None
-brings (Lower a l) s = None
-brings (Do c) s = None
-brings (Reach d k) s = None
-brings (Ack a k) s = None
-brings (Sync a) s = None
-brings (Reclaim a k) s = None
-brings (Crash a) s = None
-brings (Begin d b) s = None
-brings (Look r t) s = None
-brings (Finish r) s = None
-brings (Fetch a t) s = None
-brings (Issue a t block mark) s = None
-brings (Replay r t block) s = None
-brings (Fade t f) s = None
-brings (Break t f) s = None
-brings (FetchBytes a t) s = None
-brings (Clear a t) s = None
-brings (IssueBytes a t block mark) s = None
-brings (FadeBytes t f) s = None
-brings (BreakBytes t f) s = None
-brings (Settle a t block mark) s = None
+brings e s = None
 
 abbrev pub or_else : Option Block → Block → Block
 or_else None old = old
