@@ -108,7 +108,7 @@ and_first : (a b : Bool) → (a && b) ≡ true → a ≡ true
 and_first true b e = refl
 and_first false b e = cc
 
-own_by : (d f : ℕ) (c : Commit) → is_own d f c ≡ true → c.by ≡ d
+pub own_by : (d f : ℕ) (c : Commit) → is_own d f c ≡ true → c.by ≡ d
 own_by d f c e = by_test (λ b. b ≡ true → c.by ≡ d) (nat_lt f c.op) false (nat_eq c.by d) (λ g i. eq_of c.by d g) (λ g i. cc) e
 
 -- a replay of d's records leaves the sector where they are in place

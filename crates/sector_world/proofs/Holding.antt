@@ -1,16 +1,24 @@
 -- What holds after every run.
-use Rattle.std.proofs.Common.{true, false, zero, suc, List, [], ◌∷◌, Bool, IsSome, if◌then◌else◌, ⊎_elim, ℕ, ◌≡◌, ◌⊎◌, inl, inr, Option, Some, None, nat_le, refl, sym, ◌∙◌, ap, subst}
-use Rattle.cells.specs.Blocks.{Block, zeros}
+use Rattle.std.proofs.Common.{true, false, zero, suc, List, [], ◌∷◌, Bool, IsSome, if◌then◌else◌, ⊎_elim, ℕ, ◌<◌, ◌≤◌, ◌≡◌, ◌⊎◌, inl, inr, Option, Some, None, nat_le, refl, sym, ◌∙◌, ap, subst}
+use Rattle.frang_base.specs.declared.change.Change.{Change}
+use Rattle.frang_base.specs.declared.lock.Mode.{Mode}
+use Rattle.frang_base.specs.declared.lock.Mode.TheVariants.{Sole}
+use Rattle.cells.proofs.Basics.{by_keep, le_or_lt}
+use Rattle.cells.proofs.Histories.{AtMost, each_map, each_map2, in_place_or, own_by}
+use Rattle.sector_world.specs.World.Phase.{Off, Up, Dead}
+use Rattle.sector_world.specs.Logged.{Pending, NoneIfOff, FlightOk}
+use Rattle.sector_world.specs.Bytes.{ByteFlightOk}
+use Rattle.cells.specs.Blocks.{Block, version, zeros}
 use Rattle.cells.specs.Changes.{Redo, change_at, redo_all, keep_if, up_to}
 use Rattle.cells.specs.Histories.{Item, settled, own, is_own, redo_of, logical, is_logged, Each, Changes}
 use Rattle.cells.specs.Histories.Item.{Done, Doubt}
 use Rattle.cells.specs.Bytes.{Known}
-use Rattle.sector_world.specs.World.{World, has_version, block_at}
+use Rattle.sector_world.specs.World.{World, Phase, Flight, ByteFlight, cover, has_version, block_at}
 use Rattle.sector_world.specs.Guards.{NoneNames, to_replay}
-use Rattle.sector_world.specs.Kinds.{Good}
-use Rattle.sector_world.specs.Claims.{Holds, replayed, left}
+use Rattle.sector_world.specs.Kinds.{Claimed, Good}
+use Rattle.sector_world.specs.Claims.{EachNames, Holds, replayed, left}
 use Rattle.sector_world.proofs.Finishing.{none_replay}
-use Rattle.sector_world.proofs.Versioned.{plain_unchanged, plain_first, unchanged_logical}
+use Rattle.sector_world.proofs.Versioned.{logged_skip, plain_unchanged, plain_first, unchanged_logical}
 use Rattle.sector_world.proofs.Recoverable.{replay_disk, recoverable}
 use Rattle.sector_world.proofs.Left.{fine_left, left_logged, left_is, still_free, on_disk}
 
@@ -34,6 +42,28 @@ own_names d f s (Doubt m ∷ h) e = own_names d f s h e
 up_names : (k s : ℕ) (rs : List Redo) → NoneNames rs s → NoneNames (up_to k rs) s
 up_names k s [] n = tt
 up_names k s (r ∷ rs) n = none_at (nat_le r.op k) r (up_to k rs) s n.0 (up_names k s rs n.1)
+
+none_off : (p : Phase) (m : Option Mode) → p ≡ Off → NoneIfOff p m → m ≡ None
+none_off Off m e n = n
+none_off Up m e n = cc
+none_off Dead m e n = cc
+
+-- what holds of the changes of d's operations holds of its records
+names_own : (d f s : ℕ) (P : Change → Type 0) (h : List Item) → Each (λ c. c.by ≡ d → (x : Change) → change_at c.changes s ≡ Some x → P x) h → EachNames P (own d f h) s
+names_own d f s P [] e = tt
+names_own d f s P (Done c ∷ h) e =
+    by_keep (λ rs. EachNames P rs s) (is_own d f c) (redo_of c) (own d f h)
+    (λ i. (e.0 (own_by d f c i), names_own d f s P h e.1)) (λ i. names_own d f s P h e.1)
+names_own d f s P (Doubt m ∷ h) e = names_own d f s P h e
+
+-- a sector that was changed has a version now
+claimed_now : (first : ℕ → Bool) (s : ℕ) (h : List Item) → Claimed first s h → Each (λ c. Changes s c → is_logged first h s ≡ true) h
+claimed_now first s [] k = tt
+claimed_now first s (Done c ∷ h) k = (
+  k.0,
+  each_map (λ e. Changes s e → is_logged first h s ≡ true) (λ e. Changes s e → is_logged first (Done c ∷ h) s ≡ true) (λ e m i. logged_skip (c.claims s) (is_logged first h s) (m i)) h (claimed_now first s h k.1),
+)
+claimed_now first s (Doubt m ∷ h) k = claimed_now first s h k
 
 module _ (w : World) (g : Good w) where
   -- a replay leaves a sector without a version
@@ -69,8 +99,34 @@ module _ (w : World) (g : Good w) where
   bytes_replayed s n =
       ⊎_elim (λ e. unmade_known s (replayed w w.servers s) e n) (λ e. subst (λ v. Known w.first s v (left w w.servers)) (sym (plain_replayed s e w.servers)) (bytes_there s n)) (true_or_false (has_version w s))
 
+  version_at : (s : ℕ) → has_version w s ≡ true → block_at w s ≡ w.disk s
+  version_at s e = rw e refl
+
+  in_flight : (s : ℕ) (f : Flight) → w.flight s ≡ Some f → (f.stamp < w.now) ⊎ (w.holds f.behalf (cover w s) ≡ Some Sole)
+  in_flight s f e = ⊎_elim (λ l. inr (let q : FlightOk w s f = g.logged.flights s f e l in q.sole)) (λ l. inl l) (le_or_lt w.now f.stamp)
+
+  in_flight_bytes : (s : ℕ) (f : ByteFlight) → w.byte_flight s ≡ Some f → (f.stamp < w.now) ⊎ (w.holds f.by (cover w s) ≡ Some Sole)
+  in_flight_bytes s f e = ⊎_elim (λ l. inr (let q : ByteFlightOk w s f = g.bytes.flights s f e l in q.sole)) (λ l. inl l) (le_or_lt w.now f.stamp)
+
+  records : (d s : ℕ) → EachNames (λ x. (x.version ≤ version (block_at w s)) ⊎ (w.holds d (cover w s) ≡ Some Sole)) (w.log d) s
+  records d s =
+      subst (λ l. EachNames (λ x. (x.version ≤ version (block_at w s)) ⊎ (w.holds d (cover w s) ≡ Some Sole)) l s) (sym (g.logged.logs d))
+      (names_own d (w.floor d) s (λ x. (x.version ≤ version (block_at w s)) ⊎ (w.holds d (cover w s) ≡ Some Sole)) (settled w.history)
+      (each_map2 (λ c. Pending w s c ⊎ AtMost (change_at c.changes s) (version (w.disk s))) (λ c. Changes s c → has_version w s ≡ true)
+      (λ c. c.by ≡ d → (x : Change) → change_at c.changes s ≡ Some x → (x.version ≤ version (block_at w s)) ⊎ (w.holds d (cover w s) ≡ Some Sole))
+      (λ c m v e x i. ⊎_elim (λ p. inr (ap (λ y. w.holds y (cover w s)) (sym e) ∙ p.sole))
+      (λ a. inl (subst (λ y. x.version ≤ version y) (sym (version_at s (v (subst IsSome (sym i) refl)))) (subst (λ o. AtMost o (version (w.disk s))) i a))) m)
+      (settled w.history)
+      (in_place_or w.opening w.durable s (Pending w s) (w.disk s) (settled w.history) (g.logged.place s) (g.logged.rising s))
+      (claimed_now w.logged s (settled w.history) (g.kinds.claimed s))))
+
   pub holds_good : Holds w
   holds_good = record {
+    compatible = g.logged.apart;
+    off = λ a l e. none_off (w.phase a) (w.holds a l) e (g.logged.off_free a l);
+    in_flight = in_flight;
+    in_flight_bytes = in_flight_bytes;
+    records = records;
     coherent = g.logged.copies;
     coherent_bytes = g.bytes.copies;
     clean_bytes = g.bytes.clean;

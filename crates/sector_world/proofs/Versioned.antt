@@ -36,7 +36,7 @@ logged_step : (b : Bool) (less more : Bool) → (less ≡ true → more ≡ true
 logged_step true less more f e = refl
 logged_step false less more f e = f e
 
-logged_skip : (b : Bool) (more : Bool) → more ≡ true → (if b then true else more) ≡ true
+pub logged_skip : (b : Bool) (more : Bool) → more ≡ true → (if b then true else more) ≡ true
 logged_skip true more e = refl
 logged_skip false more e = e
 

@@ -1,11 +1,15 @@
 -- What holds after every run, and at each event.
-use Rattle.std.specs.Prelude.{ℕ, zero, suc, true, false, ◌≡◌, ◌≢◌, ◌<◌, ◌≤◌, List, Option, Some, None, nat_eq, if◌then◌else◌}
+use Rattle.std.specs.Prelude.{ℕ, zero, suc, true, false, ◌≡◌, ◌≢◌, ◌<◌, ◌≤◌, ◌⊎◌, List, [], ◌∷◌, Option, Some, None, nat_eq, if◌then◌else◌}
 use Rattle.cells.specs.Blocks.{Block, version}
-use Rattle.cells.specs.Changes.{redo_all}
+use Rattle.cells.specs.Changes.{Redo, change_at, redo_all}
+use Rattle.frang_base.specs.declared.change.Change.{Change}
+use Rattle.frang_base.specs.declared.lock.LockId.{LockId}
+use Rattle.frang_base.specs.declared.lock.Mode.TheVariants.{Sole}
 use Rattle.cells.specs.Histories.{Item, settled, recovered, logical, OpsRise, Named, is_logged}
 use Rattle.cells.specs.Bytes.{Known, Agree}
 use Rattle.cells.specs.Seen.{Unmet, Unseen, Unsynced, Kept}
-use Rattle.sector_world.specs.World.{World, Flight, ByteFlight, block_at, has_version}
+use Rattle.sector_world.specs.World.{World, Flight, ByteFlight, cover, block_at, has_version}
+use Rattle.sector_world.specs.World.Phase.{Off}
 use Rattle.sector_world.specs.Guards.{to_replay}
 use Rattle.sector_world.specs.Steps.{Event, after}
 use Rattle.sector_world.specs.Steps.Event.{Land, BreakNew, LandBytes, BreakBytesNew}
@@ -65,7 +69,20 @@ or_else (Some block) old = block
 abbrev pub IsOneDisk : World → Event → ℕ → Type 0
 IsOneDisk w e s = block_at (after w e) s ≡ or_else (brings e s) (block_at w s)
 
+-- a fact of each change of the sector by a record
+abbrev pub EachNames : (Change → Type 0) → List Redo → ℕ → Type 0
+EachNames P [] s = Unit {0}
+EachNames P (r ∷ rs) s = ((x : Change) → change_at r.changes s ≡ Some x → P x) × EachNames P rs s
+
 pub record Holds (w : World) : Type 0 where
+  -- no lock is held alone by one server and in any mode by another, and who is off holds none
+  pub compatible : (a b : ℕ) (l : LockId) → w.holds a l ≡ Some Sole → w.holds b l ≢ None → a ≡ b
+  pub off : (a : ℕ) (l : LockId) → w.phase a ≡ Off → w.holds a l ≡ None
+  -- each write in flight is too late, or its sector's cover is held alone by the one on whose behalf it is
+  pub in_flight : (s : ℕ) (f : Flight) → w.flight s ≡ Some f → (f.stamp < w.now) ⊎ (w.holds f.behalf (cover w s) ≡ Some Sole)
+  pub in_flight_bytes : (s : ℕ) (f : ByteFlight) → w.byte_flight s ≡ Some f → (f.stamp < w.now) ⊎ (w.holds f.by (cover w s) ≡ Some Sole)
+  -- each sector that a record of a log names has at least the named version on the disk, or the log's server holds its cover alone
+  pub records : (d s : ℕ) → EachNames (λ x. (x.version ≤ version (block_at w s)) ⊎ (w.holds d (cover w s) ≡ Some Sole)) (w.log d) s
   -- each cached sector is the logical one, each cached page what a read shows, and the clean ones are the disk's
   pub coherent : (a s : ℕ) → IsCopy (w.slot a s) (now_of w s)
   pub coherent_bytes : (a s : ℕ) → IsCopyPage (w.page a s) (w.truth s)
