@@ -30,35 +30,10 @@ left_flight w a s f q = record {
 }
 
 pub logged_break : (w : World) (s : ℕ) (f : Flight) → Logged w → Logged (after w (Break s f))
-logged_break w s f g = record {
-  logs = g.logs;
-  apart = g.apart;
-  known = g.known;
-  leases = g.leases;
-  begun = g.begun;
-  off_free = g.off_free;
-  rested = g.rested;
-  not_up = g.not_up;
-  held = g.held;
-  copies = g.copies;
-  ahead = g.ahead;
-  newer = λ b t k. g.newer b t (well_before w f.by b k).0;
-  place = g.place;
-  firm = g.firm;
-  locked = g.locked;
-  rising = g.rising;
-  ops = g.ops;
-  below = g.below;
-  reached = g.reached;
-  acks = g.acks;
-  floored = g.floored;
-  unseen = g.unseen;
-  unmet = g.unmet;
-  unsynced = g.unsynced;
-  was_kept = g.was_kept;
-  flights = λ t k. at_put (λ x. x ≡ Some k → w.now ≤ k.stamp → FlightOk (after w (Break s f)) t k) w.flight s None t (λ e i n. absurd (cc)) (λ n i l. left_flight w f.by t k (g.flights t k i l));
-  rescued = λ r e. g.rescued r (left_is f.by w.rescue r e).0;
-}
+logged_break w s f g = let newer : (a' s' : ℕ) → (after w (Break s f)).sick a' ≡ false → IsNewer ((after w (Break s f)).disk s') ((after w (Break s f)).slot a' s') = λ b t k. g.newer b t (well_before w f.by b k).0 in
+    let flights : (s' : ℕ) (f' : Flight) → (after w (Break s f)).flight s' ≡ Some f' → (after w (Break s f)).now ≤ f'.stamp → FlightOk (after w (Break s f)) s' f' = λ t k. at_put (λ x. x ≡ Some k → w.now ≤ k.stamp → FlightOk (after w (Break s f)) t k) w.flight s None t (λ e i n. absurd (cc)) (λ n i l. left_flight w f.by t k (g.flights t k i l)) in
+    let rescued : (r' : Rescue) → (after w (Break s f)).rescue ≡ Some r' → RescueOk (after w (Break s f)) r' = λ r e. g.rescued r (left_is f.by w.rescue r e).0 in
+    search
 
 module _ (w : World) (s : ℕ) (f : Flight) (can : CanLand w s f) (g : Logged w) where
   ok : FlightOk w s f
@@ -103,76 +78,27 @@ module _ (w : World) (s : ℕ) (f : Flight) (can : CanLand w s f) (g : Logged w)
       subst (λ x. ToldOk (r.told s) f.block x) (sym new) (told_other (r.told s) (w.disk s) (redo_all (to_replay w r.dead) s (w.disk s)) f.block old (q.told s))
 
   pub logged_break_new : Logged (after w (BreakNew s f))
-  logged_break_new = record {
-    logs = g.logs;
-    apart = g.apart;
-    known = g.known;
-    leases = g.leases;
-    begun = g.begun;
-    off_free = g.off_free;
-    rested = g.rested;
-    not_up = g.not_up;
-    held = g.held;
-    copies = g.copies;
-    ahead = g.ahead;
-    newer = broken_newer;
-    place = broken_place;
-    firm = g.firm;
-    locked = g.locked;
-    rising = g.rising;
-    ops = g.ops;
-    below = g.below;
-    reached = g.reached;
-    acks = g.acks;
-    floored = g.floored;
-    unseen = g.unseen;
-    unmet = g.unmet;
-    unsynced = g.unsynced;
-    was_kept = g.was_kept;
-    flights = λ t k. at_put (λ x. x ≡ Some k → w.now ≤ k.stamp → FlightOk (after w (BreakNew s f)) t k) w.flight s None t (λ e i n. absurd (cc))
-        (λ n i l. let q : FlightOk w t k = g.flights t k i l in let z = left_flight w f.by t k q in
-        record { place = z.place; lease = z.lease; sole = z.sole; named = z.named; source = z.source; higher = subst (λ x. (version x) < (version k.block)) (sym (put_other w.disk s f.block t n)) q.higher });
-    rescued = λ r e. let l = left_is f.by w.rescue r e in let q : RescueOk w r = g.rescued r l.0 in
-        record {
-          dead = q.dead;
-          taker = q.taker;
-          ended = q.ended;
-          up = q.up;
-          until = q.until;
-          told = λ t. at_put (λ x. ToldOk (r.told t) x (redo_all (to_replay w r.dead) t x)) w.disk s f.block t
-              (λ i. subst (λ x. ToldOk (r.told x) f.block (redo_all (to_replay w r.dead) x f.block)) (sym i) (broken_told r l.0 l.1))
-              (λ n. q.told t);
-        };
-  }
+  logged_break_new = let newer : (a' s' : ℕ) → (after w (BreakNew s f)).sick a' ≡ false → IsNewer ((after w (BreakNew s f)).disk s') ((after w (BreakNew s f)).slot a' s') = broken_newer in
+      let place : (s' : ℕ) → OnDisk (after w (BreakNew s f)).opening (after w (BreakNew s f)).durable s' (Pending (after w (BreakNew s f)) s') ((after w (BreakNew s f)).disk s') (settled (after w (BreakNew s f)).history) = broken_place in
+      let flights : (s' : ℕ) (f' : Flight) → (after w (BreakNew s f)).flight s' ≡ Some f' → (after w (BreakNew s f)).now ≤ f'.stamp → FlightOk (after w (BreakNew s f)) s' f' = λ t k. at_put (λ x. x ≡ Some k → w.now ≤ k.stamp → FlightOk (after w (BreakNew s f)) t k) w.flight s None t (λ e i n. absurd (cc))
+      (λ n i l. let q : FlightOk w t k = g.flights t k i l in let z = left_flight w f.by t k q in
+      record { place = z.place; lease = z.lease; sole = z.sole; named = z.named; source = z.source; higher = subst (λ x. (version x) < (version k.block)) (sym (put_other w.disk s f.block t n)) q.higher }) in
+      let rescued : (r' : Rescue) → (after w (BreakNew s f)).rescue ≡ Some r' → RescueOk (after w (BreakNew s f)) r' = λ r e. let l = left_is f.by w.rescue r e in let q : RescueOk w r = g.rescued r l.0 in
+      record {
+        dead = q.dead;
+        taker = q.taker;
+        ended = q.ended;
+        up = q.up;
+        until = q.until;
+        told = λ t. at_put (λ x. ToldOk (r.told t) x (redo_all (to_replay w r.dead) t x)) w.disk s f.block t
+            (λ i. subst (λ x. ToldOk (r.told x) f.block (redo_all (to_replay w r.dead) x f.block)) (sym i) (broken_told r l.0 l.1))
+            (λ n. q.told t);
+      } in
+      search
 
 -- a put of bytes failed: the server's recovery is over, and it issues no more
 pub logged_bytes_break : (w : World) (a : ℕ) → Logged w → Logged (record w { sick = put w.sick a true; rescue = rescue_left a w.rescue })
-logged_bytes_break w a g = record {
-  logs = g.logs;
-  apart = g.apart;
-  known = g.known;
-  leases = g.leases;
-  begun = g.begun;
-  off_free = g.off_free;
-  rested = g.rested;
-  not_up = g.not_up;
-  held = g.held;
-  copies = g.copies;
-  ahead = g.ahead;
-  newer = λ b t k. g.newer b t (well_before w a b k).0;
-  place = g.place;
-  firm = g.firm;
-  locked = g.locked;
-  rising = g.rising;
-  ops = g.ops;
-  below = g.below;
-  reached = g.reached;
-  acks = g.acks;
-  floored = g.floored;
-  unseen = g.unseen;
-  unmet = g.unmet;
-  unsynced = g.unsynced;
-  was_kept = g.was_kept;
-  flights = λ t k i l. left_flight w a t k (g.flights t k i l);
-  rescued = λ r e. g.rescued r (left_is a w.rescue r e).0;
-}
+logged_bytes_break w a g = let newer : (a' s' : ℕ) → (record w { sick = put w.sick a true; rescue = rescue_left a w.rescue }).sick a' ≡ false → IsNewer ((record w { sick = put w.sick a true; rescue = rescue_left a w.rescue }).disk s') ((record w { sick = put w.sick a true; rescue = rescue_left a w.rescue }).slot a' s') = λ b t k. g.newer b t (well_before w a b k).0 in
+    let flights : (s' : ℕ) (f' : Flight) → (record w { sick = put w.sick a true; rescue = rescue_left a w.rescue }).flight s' ≡ Some f' → (record w { sick = put w.sick a true; rescue = rescue_left a w.rescue }).now ≤ f'.stamp → FlightOk (record w { sick = put w.sick a true; rescue = rescue_left a w.rescue }) s' f' = λ t k i l. left_flight w a t k (g.flights t k i l) in
+    let rescued : (r' : Rescue) → (record w { sick = put w.sick a true; rescue = rescue_left a w.rescue }).rescue ≡ Some r' → RescueOk (record w { sick = put w.sick a true; rescue = rescue_left a w.rescue }) r' = λ r e. g.rescued r (left_is a w.rescue r e).0 in
+    search

@@ -88,35 +88,11 @@ logged_renew w a can g =
       until = subst (λ o. extended a (w.now + 30) o w.until r.dead ≡ put w.expiry a (w.now + 30) r.by) (sym e) (extended_own a (w.now + 30) r w.expiry w.until q.until);
       told = q.told;
     } in
-    record {
-      logs = g.logs;
-      apart = g.apart;
-      known = g.known;
-      leases = λ b. at_put (λ x. x ≤ w.now + 30) w.expiry a (w.now + 30) b (λ e. le_refl (w.now + 30)) (λ n. g.leases b);
-      begun = λ d b e. let q = g.begun d b e in (q.0, at_put (λ x. x < w.now) w.expiry a (w.now + 30) d (λ i. absurd (phases_differ w.phase a d can.up q.0 i)) (λ n. q.1));
-      off_free = g.off_free;
-      rested = g.rested;
-      not_up = g.not_up;
-      held = g.held;
-      copies = g.copies;
-      ahead = g.ahead;
-      newer = g.newer;
-      place = g.place;
-      firm = g.firm;
-      locked = g.locked;
-      rising = g.rising;
-      ops = g.ops;
-      below = g.below;
-      reached = g.reached;
-      acks = g.acks;
-      floored = g.floored;
-      unseen = g.unseen;
-      unmet = g.unmet;
-      unsynced = g.unsynced;
-      was_kept = g.was_kept;
-      flights = flights;
-      rescued = rescued;
-    }
+    let leases : (a' : ℕ) → (after w (Renew a)).expiry a' ≤ (after w (Renew a)).now + 30 = λ b. at_put (λ x. x ≤ w.now + 30) w.expiry a (w.now + 30) b (λ e. le_refl (w.now + 30)) (λ n. g.leases b) in
+    let begun : (d' b' : ℕ) → (after w (Renew a)).taker d' ≡ Some b' → ((after w (Renew a)).phase d' ≡ Dead) × ((after w (Renew a)).expiry d' < (after w (Renew a)).now) = λ d b e. let q = g.begun d b e in (q.0, at_put (λ x. x < w.now) w.expiry a (w.now + 30) d (λ i. absurd (phases_differ w.phase a d can.up q.0 i)) (λ n. q.1)) in
+    let flights : (s' : ℕ) (f' : Flight) → (after w (Renew a)).flight s' ≡ Some f' → (after w (Renew a)).now ≤ f'.stamp → FlightOk (after w (Renew a)) s' f' = flights in
+    let rescued : (r' : Rescue) → (after w (Renew a)).rescue ≡ Some r' → RescueOk (after w (Renew a)) r' = rescued in
+    search
 
 -- what is pending, at a server whose phase is another now
 phase_pending : (w : World) (a : ℕ) (p : Phase) (s : ℕ) (c : Commit) → (c.by ≡ a → Pending w s c → ⊥) → Pending w s c → Pending (record w { phase = put w.phase a p }) s c

@@ -1,5 +1,5 @@
 -- Taking and giving locks, fetching.
-use Rattle.std.proofs.Common.{IsTrue, if◌then◌else◌, ⊎_elim, le_refl, ℕ, ◌<◌, ◌≤◌, ◌≡◌, ◌≢◌, inl, inr, Option, Some, None, refl, sym, ◌∙◌, ap, subst, arith}
+use Rattle.std.proofs.Common.{IsTrue, if◌then◌else◌, ⊎_elim, le_refl, ℕ, ◌<◌, ◌≤◌, ◌≡◌, ◌≢◌, inl, inr, Option, Some, None, refl, sym, ◌∙◌, ap, subst, arith, false}
 use Rattle.frang_base.specs.declared.lock.LockId.{LockId}
 use Rattle.frang_base.specs.declared.lock.Mode.{Mode}
 use Rattle.frang_base.specs.declared.lock.Mode.TheVariants.{Shared, Sole}
@@ -45,50 +45,29 @@ logged_take w a l mode can g =
     let goes : (s : ℕ) (block : Block) → OnDisk w.opening w.durable s (Pending w s) block (settled w.history) → OnDisk w.opening w.durable s (Pending (after w (Take a l mode)) s) block (settled w.history) = λ s block o.
     on_disk_map w.opening w.durable w.durable s (Pending w s) (Pending (after w (Take a l mode)) s) block (λ d. le_refl (w.durable d))
     (λ c i q. record { sole = sole c.by (cover w s) q.sole; above = q.above; covered = q.covered }) (settled w.history) o in
-    record {
-      logs = g.logs;
-      apart = λ b d t. at_lock (λ m. m ≡ Some Sole → put_lock w.holds a l (Some mode) d t ≢ None → b ≡ d) w.holds a l (Some mode) b t
-          (λ e f m. at_lock (λ x. x ≢ None → b ≡ d) w.holds a l (Some mode) d t
-          (λ i j n. e ∙ sym i)
-          (λ o n. let other : d ≢ a = λ q. o q f in
-          let fits : Fits Sole (w.holds d l) = subst (λ x. Fits x (w.holds d l)) (some_same mode Sole m) (can.fits d other) in
-          absurd (fits_sole_none (w.holds d l) fits (subst (λ x. w.holds d x ≢ None) f n))))
-          (λ o m. at_lock (λ x. x ≢ None → b ≡ d) w.holds a l (Some mode) d t
-          (λ i j n. let other : b ≢ a = λ q. o q j in
-          let was : w.holds b l ≡ Some Sole = subst (λ x. w.holds b x ≡ Some Sole) j m in
-          absurd (fits_none mode (subst (λ x. Fits mode x) was (can.fits b other))))
-          (λ i n. g.apart b d t m n));
-      known = g.known;
-      leases = g.leases;
-      begun = g.begun;
-      off_free = λ b t. at_lock (λ m. NoneIfOff (w.phase b) m) w.holds a l (Some mode) b t (λ e f. none_if_up (w.phase b) (Some mode) (ap w.phase e ∙ can.up)) (λ o. g.off_free b t);
-      rested = g.rested;
-      not_up = g.not_up;
-      held = λ b s. at_lock (λ m. HeldIf (w.slot b s) m) w.holds a l (Some mode) b (cover w s)
-          (λ e f. let was : w.holds b (cover w s) ≢ Some Sole = λ q. can.more (cc) in held_more (w.slot b s) (w.holds b (cover w s)) (Some mode) was (λ x. cc) (g.held b s))
-          (λ o. g.held b s);
-      copies = g.copies;
-      ahead = g.ahead;
-      newer = g.newer;
-      place = λ s. goes s (w.disk s) (g.place s);
-      locked = each_map (λ e. w.durable e.by < e.op → (k : LockId) → IsTrue (has_lock k e.alone) → w.holds e.by k ≡ Some Sole) (λ e. w.durable e.by < e.op → (k : LockId) → IsTrue (has_lock k e.alone) → put_lock w.holds a l (Some mode) e.by k ≡ Some Sole)
-          (λ e m n k i. sole e.by k (m n k i)) (settled w.history) g.locked;
-      firm = λ s. each_map (λ e. Alters s e → w.durable e.by < e.op → w.holds e.by (cover w s) ≡ Some Sole) (λ e. Alters s e → w.durable e.by < e.op → put_lock w.holds a l (Some mode) e.by (cover w s) ≡ Some Sole)
-          (λ e m i n. sole e.by (cover w s) (m i n)) (settled w.history) (g.firm s);
-      rising = g.rising;
-      ops = g.ops;
-      below = g.below;
-      reached = g.reached;
-      acks = g.acks;
-      floored = g.floored;
-      unseen = g.unseen;
-      unmet = g.unmet;
-      unsynced = g.unsynced;
-      was_kept = g.was_kept;
-      flights = λ s f e n. let q : FlightOk w s f = g.flights s f e n in
-          record { place = goes s f.block q.place; higher = q.higher; lease = q.lease; sole = sole f.behalf (cover w s) q.sole; named = q.named; source = q.source };
-      rescued = g.rescued;
-    }
+    let apart : (a' b' : ℕ) (l' : LockId) → (after w (Take a l mode)).holds a' l' ≡ Some Sole → (after w (Take a l mode)).holds b' l' ≢ None → a' ≡ b' = λ b d t. at_lock (λ m. m ≡ Some Sole → put_lock w.holds a l (Some mode) d t ≢ None → b ≡ d) w.holds a l (Some mode) b t
+    (λ e f m. at_lock (λ x. x ≢ None → b ≡ d) w.holds a l (Some mode) d t
+    (λ i j n. e ∙ sym i)
+    (λ o n. let other : d ≢ a = λ q. o q f in
+    let fits : Fits Sole (w.holds d l) = subst (λ x. Fits x (w.holds d l)) (some_same mode Sole m) (can.fits d other) in
+    absurd (fits_sole_none (w.holds d l) fits (subst (λ x. w.holds d x ≢ None) f n))))
+    (λ o m. at_lock (λ x. x ≢ None → b ≡ d) w.holds a l (Some mode) d t
+    (λ i j n. let other : b ≢ a = λ q. o q j in
+    let was : w.holds b l ≡ Some Sole = subst (λ x. w.holds b x ≡ Some Sole) j m in
+    absurd (fits_none mode (subst (λ x. Fits mode x) was (can.fits b other))))
+    (λ i n. g.apart b d t m n)) in
+    let off_free : (a' : ℕ) (l' : LockId) → NoneIfOff ((after w (Take a l mode)).phase a') ((after w (Take a l mode)).holds a' l') = λ b t. at_lock (λ m. NoneIfOff (w.phase b) m) w.holds a l (Some mode) b t (λ e f. none_if_up (w.phase b) (Some mode) (ap w.phase e ∙ can.up)) (λ o. g.off_free b t) in
+    let held : (a' s' : ℕ) → HeldIf ((after w (Take a l mode)).slot a' s') ((after w (Take a l mode)).holds a' (cover (after w (Take a l mode)) s')) = λ b s. at_lock (λ m. HeldIf (w.slot b s) m) w.holds a l (Some mode) b (cover w s)
+    (λ e f. let was : w.holds b (cover w s) ≢ Some Sole = λ q. can.more (cc) in held_more (w.slot b s) (w.holds b (cover w s)) (Some mode) was (λ x. cc) (g.held b s))
+    (λ o. g.held b s) in
+    let place : (s' : ℕ) → OnDisk (after w (Take a l mode)).opening (after w (Take a l mode)).durable s' (Pending (after w (Take a l mode)) s') ((after w (Take a l mode)).disk s') (settled (after w (Take a l mode)).history) = λ s. goes s (w.disk s) (g.place s) in
+    let locked : Each (λ e'. (after w (Take a l mode)).durable e'.by < e'.op → (l' : LockId) → IsTrue (has_lock l' e'.alone) → (after w (Take a l mode)).holds e'.by l' ≡ Some Sole) (settled (after w (Take a l mode)).history) = each_map (λ e. w.durable e.by < e.op → (k : LockId) → IsTrue (has_lock k e.alone) → w.holds e.by k ≡ Some Sole) (λ e. w.durable e.by < e.op → (k : LockId) → IsTrue (has_lock k e.alone) → put_lock w.holds a l (Some mode) e.by k ≡ Some Sole)
+    (λ e m n k i. sole e.by k (m n k i)) (settled w.history) g.locked in
+    let firm : (s' : ℕ) → Each (λ e'. Alters s' e' → (after w (Take a l mode)).durable e'.by < e'.op → (after w (Take a l mode)).holds e'.by (cover (after w (Take a l mode)) s') ≡ Some Sole) (settled (after w (Take a l mode)).history) = λ s. each_map (λ e. Alters s e → w.durable e.by < e.op → w.holds e.by (cover w s) ≡ Some Sole) (λ e. Alters s e → w.durable e.by < e.op → put_lock w.holds a l (Some mode) e.by (cover w s) ≡ Some Sole)
+    (λ e m i n. sole e.by (cover w s) (m i n)) (settled w.history) (g.firm s) in
+    let flights : (s' : ℕ) (f' : Flight) → (after w (Take a l mode)).flight s' ≡ Some f' → (after w (Take a l mode)).now ≤ f'.stamp → FlightOk (after w (Take a l mode)) s' f' = λ s f e n. let q : FlightOk w s f = g.flights s f e n in
+    record { place = goes s f.block q.place; higher = q.higher; lease = q.lease; sole = sole f.behalf (cover w s) q.sole; named = q.named; source = q.source } in
+    search
 
 not_covered : (x : Slot) (op : ℕ) → NotDirty x → Covers Up x op → ⊥
 not_covered Absent op n c = c
@@ -224,49 +203,28 @@ module _ (w : World) (a : ℕ) (l : LockId) (can : CanGive w a l) (alone : w.hol
       let y : w.durable e.by ≡ w.durable a = ap w.durable j in absurd (omega arith)
 
   pub logged_lower : Logged (after w (Lower a l))
-  logged_lower = record {
-    logs = g.logs;
-    apart = λ b d t. at_lock (λ m. m ≡ Some Sole → put_lock w.holds a l (Some Shared) d t ≢ None → b ≡ d) w.holds a l (Some Shared) b t
-        (λ e f m. absurd (cc))
-        (λ o m. at_lock (λ x. x ≢ None → b ≡ d) w.holds a l (Some Shared) d t
-        (λ i j n. g.apart b d t m (λ q. let z : w.holds d t ≡ Some Sole = ap (λ x. w.holds x t) i ∙ ap (w.holds a) j ∙ alone in cc)) (λ i n. g.apart b d t m n));
-    known = g.known;
-    leases = g.leases;
-    begun = g.begun;
-    off_free = λ b t. at_lock (λ m. NoneIfOff (w.phase b) m) w.holds a l (Some Shared) b t (λ e f. none_if_up (w.phase b) (Some Shared) (ap w.phase e ∙ can.up)) (λ o. g.off_free b t);
-    rested = g.rested;
-    not_up = g.not_up;
-    held = λ b s. at_lock (λ m. HeldIf (w.slot b s) m) w.holds a l (Some Shared) b (cover w s)
-        (λ e f. lower_held (w.slot b s) (w.holds b (cover w s)) (subst (λ x. NotDirty (w.slot x s)) (sym e) (can.clean s f)) (g.held b s)) (λ i. g.held b s);
-    copies = g.copies;
-    ahead = g.ahead;
-    newer = g.newer;
-    place = λ s. lower_goes s (w.disk s) (g.place s);
-    firm = λ s. each_map2 (λ e. Alters s e → w.durable e.by < e.op → w.holds e.by (cover w s) ≡ Some Sole) (λ e. e.op ≤ w.last e.by) (λ e. Alters s e → w.durable e.by < e.op → put_lock w.holds a l (Some Shared) e.by (cover w s) ≡ Some Sole)
-        (λ e m b i n. lower_sole e.by (cover w s) (not_durable e n b (cover w s)) (m i n)) (settled w.history) (g.firm s) g.below;
-    locked = each_map2 (λ e. w.durable e.by < e.op → (k : LockId) → IsTrue (has_lock k e.alone) → w.holds e.by k ≡ Some Sole) (λ e. e.op ≤ w.last e.by) (λ e. w.durable e.by < e.op → (k : LockId) → IsTrue (has_lock k e.alone) → put_lock w.holds a l (Some Shared) e.by k ≡ Some Sole)
-        (λ e m b n k i. lower_sole e.by k (not_durable e n b k) (m n k i)) (settled w.history) g.locked g.below;
-    rising = g.rising;
-    ops = g.ops;
-    below = g.below;
-    reached = g.reached;
-    acks = g.acks;
-    floored = g.floored;
-    unseen = g.unseen;
-    unmet = g.unmet;
-    unsynced = g.unsynced;
-    was_kept = g.was_kept;
-    flights = λ s f e n. let q : FlightOk w s f = g.flights s f e n in
-        record {
-          place = lower_goes s f.block q.place;
-          higher = q.higher;
-          lease = q.lease;
-          named = q.named;
-          source = q.source;
-          sole = lower_sole f.behalf (cover w s) (λ i j. ⊎_elim (λ o. can.landed s f j e n o.same (o.same ∙ i)) (λ o. let u = can.up in let v = o.dead in let z : w.phase f.behalf ≡ w.phase a = ap w.phase i in cc) q.source) q.sole;
-        };
-    rescued = g.rescued;
-  }
+  logged_lower = let apart : (a' b' : ℕ) (l' : LockId) → (after w (Lower a l)).holds a' l' ≡ Some Sole → (after w (Lower a l)).holds b' l' ≢ None → a' ≡ b' = λ b d t. at_lock (λ m. m ≡ Some Sole → put_lock w.holds a l (Some Shared) d t ≢ None → b ≡ d) w.holds a l (Some Shared) b t
+      (λ e f m. absurd (cc))
+      (λ o m. at_lock (λ x. x ≢ None → b ≡ d) w.holds a l (Some Shared) d t
+      (λ i j n. g.apart b d t m (λ q. let z : w.holds d t ≡ Some Sole = ap (λ x. w.holds x t) i ∙ ap (w.holds a) j ∙ alone in cc)) (λ i n. g.apart b d t m n)) in
+      let off_free : (a' : ℕ) (l' : LockId) → NoneIfOff ((after w (Lower a l)).phase a') ((after w (Lower a l)).holds a' l') = λ b t. at_lock (λ m. NoneIfOff (w.phase b) m) w.holds a l (Some Shared) b t (λ e f. none_if_up (w.phase b) (Some Shared) (ap w.phase e ∙ can.up)) (λ o. g.off_free b t) in
+      let held : (a' s' : ℕ) → HeldIf ((after w (Lower a l)).slot a' s') ((after w (Lower a l)).holds a' (cover (after w (Lower a l)) s')) = λ b s. at_lock (λ m. HeldIf (w.slot b s) m) w.holds a l (Some Shared) b (cover w s)
+      (λ e f. lower_held (w.slot b s) (w.holds b (cover w s)) (subst (λ x. NotDirty (w.slot x s)) (sym e) (can.clean s f)) (g.held b s)) (λ i. g.held b s) in
+      let place : (s' : ℕ) → OnDisk (after w (Lower a l)).opening (after w (Lower a l)).durable s' (Pending (after w (Lower a l)) s') ((after w (Lower a l)).disk s') (settled (after w (Lower a l)).history) = λ s. lower_goes s (w.disk s) (g.place s) in
+      let firm : (s' : ℕ) → Each (λ e'. Alters s' e' → (after w (Lower a l)).durable e'.by < e'.op → (after w (Lower a l)).holds e'.by (cover (after w (Lower a l)) s') ≡ Some Sole) (settled (after w (Lower a l)).history) = λ s. each_map2 (λ e. Alters s e → w.durable e.by < e.op → w.holds e.by (cover w s) ≡ Some Sole) (λ e. e.op ≤ w.last e.by) (λ e. Alters s e → w.durable e.by < e.op → put_lock w.holds a l (Some Shared) e.by (cover w s) ≡ Some Sole)
+      (λ e m b i n. lower_sole e.by (cover w s) (not_durable e n b (cover w s)) (m i n)) (settled w.history) (g.firm s) g.below in
+      let locked : Each (λ e'. (after w (Lower a l)).durable e'.by < e'.op → (l' : LockId) → IsTrue (has_lock l' e'.alone) → (after w (Lower a l)).holds e'.by l' ≡ Some Sole) (settled (after w (Lower a l)).history) = each_map2 (λ e. w.durable e.by < e.op → (k : LockId) → IsTrue (has_lock k e.alone) → w.holds e.by k ≡ Some Sole) (λ e. e.op ≤ w.last e.by) (λ e. w.durable e.by < e.op → (k : LockId) → IsTrue (has_lock k e.alone) → put_lock w.holds a l (Some Shared) e.by k ≡ Some Sole)
+      (λ e m b n k i. lower_sole e.by k (not_durable e n b k) (m n k i)) (settled w.history) g.locked g.below in
+      let flights : (s' : ℕ) (f' : Flight) → (after w (Lower a l)).flight s' ≡ Some f' → (after w (Lower a l)).now ≤ f'.stamp → FlightOk (after w (Lower a l)) s' f' = λ s f e n. let q : FlightOk w s f = g.flights s f e n in
+      record {
+        place = lower_goes s f.block q.place;
+        higher = q.higher;
+        lease = q.lease;
+        named = q.named;
+        source = q.source;
+        sole = lower_sole f.behalf (cover w s) (λ i j. ⊎_elim (λ o. can.landed s f j e n o.same (o.same ∙ i)) (λ o. let u = can.up in let v = o.dead in let z : w.phase f.behalf ≡ w.phase a = ap w.phase i in cc) q.source) q.sole;
+      } in
+      search
 
 up_ok : (p : Phase) (x : Slot) → p ≡ Up → AbsentUnlessUp p x
 up_ok Off x e = absurd (cc)
@@ -294,48 +252,27 @@ module _ (w : World) (a s : ℕ) (can : CanFetch w a s) (g : Logged w) where
       (settled w.history) o
 
   pub logged_fetch : Logged (after w (Fetch a s))
-  logged_fetch = record {
-    logs = g.logs;
-    apart = g.apart;
-    known = g.known;
-    leases = g.leases;
-    begun = g.begun;
-    off_free = g.off_free;
-    rested = g.rested;
-    not_up = λ b t. at_put2 (λ x. AbsentUnlessUp (w.phase b) x) w.slot a s (Clean (w.disk s)) b t (λ e f. up_ok (w.phase b) (Clean (w.disk s)) (ap w.phase e ∙ can.up)) (λ o. g.not_up b t);
-    held = λ b t. at_put2 (λ x. HeldIf x (w.holds b (cover w t))) w.slot a s (Clean (w.disk s)) b t
-        (λ e f. subst (λ x. w.holds x (cover w t) ≢ None) (sym e) (subst (λ x. w.holds a (cover w x) ≢ None) (sym f) can.held)) (λ o. g.held b t);
-    copies = λ b t. at_put2 (λ x. IsCopy x (now_of w t)) w.slot a s (Clean (w.disk s)) b t (λ e f. fetch_now ∙ ap (now_of w) (sym f)) (λ o. g.copies b t);
-    newer = λ b t k. at_put2 (λ x. IsNewer (w.disk t) x) w.slot a s (Clean (w.disk s)) b t (λ e f. tt) (λ o. g.newer b t k);
-    ahead = λ b t. at_put2 (λ x. IsAhead (w.last b) t b (settled w.history) x) w.slot a s (Clean (w.disk s)) b t (λ e f. tt) (λ o. g.ahead b t);
-    place = λ t. fetch_goes t (w.disk t) (g.place t);
-    firm = g.firm;
-    locked = g.locked;
-    rising = g.rising;
-    ops = g.ops;
-    below = g.below;
-    reached = g.reached;
-    acks = g.acks;
-    floored = g.floored;
-    unseen = g.unseen;
-    unmet = g.unmet;
-    unsynced = g.unsynced;
-    was_kept = g.was_kept;
-    flights = λ t f e n. let q : FlightOk w t f = g.flights t f e n in
-        record {
-          place = fetch_goes t f.block q.place;
-          higher = q.higher;
-          lease = q.lease;
-          sole = q.sole;
-          named = q.named;
-          source = ⊎_elim (λ o. inl (record {
-            same = o.same;
-            agrees = at_put2 (λ x. Agrees (w.phase f.by) x f.block) w.slot a s (Clean (w.disk s)) f.by t
-                (λ i j. let u : w.phase f.by ≡ Up = ap w.phase i ∙ can.up in
-                let v : w.slot f.by t ≡ Absent = ap (λ x. w.slot x t) i ∙ ap (w.slot a) j ∙ can.absent in
-                absurd (subst (λ x. Agrees Up x f.block) v (subst (λ x. Agrees x (w.slot f.by t) f.block) u o.agrees)))
-                (λ i. o.agrees);
-          })) (λ o. inr o) q.source;
-        };
-    rescued = g.rescued;
-  }
+  logged_fetch = let not_up : (a' s' : ℕ) → AbsentUnlessUp ((after w (Fetch a s)).phase a') ((after w (Fetch a s)).slot a' s') = λ b t. at_put2 (λ x. AbsentUnlessUp (w.phase b) x) w.slot a s (Clean (w.disk s)) b t (λ e f. up_ok (w.phase b) (Clean (w.disk s)) (ap w.phase e ∙ can.up)) (λ o. g.not_up b t) in
+      let held : (a' s' : ℕ) → HeldIf ((after w (Fetch a s)).slot a' s') ((after w (Fetch a s)).holds a' (cover (after w (Fetch a s)) s')) = λ b t. at_put2 (λ x. HeldIf x (w.holds b (cover w t))) w.slot a s (Clean (w.disk s)) b t
+      (λ e f. subst (λ x. w.holds x (cover w t) ≢ None) (sym e) (subst (λ x. w.holds a (cover w x) ≢ None) (sym f) can.held)) (λ o. g.held b t) in
+      let copies : (a' s' : ℕ) → IsCopy ((after w (Fetch a s)).slot a' s') (now_of (after w (Fetch a s)) s') = λ b t. at_put2 (λ x. IsCopy x (now_of w t)) w.slot a s (Clean (w.disk s)) b t (λ e f. fetch_now ∙ ap (now_of w) (sym f)) (λ o. g.copies b t) in
+      let newer : (a' s' : ℕ) → (after w (Fetch a s)).sick a' ≡ false → IsNewer ((after w (Fetch a s)).disk s') ((after w (Fetch a s)).slot a' s') = λ b t k. at_put2 (λ x. IsNewer (w.disk t) x) w.slot a s (Clean (w.disk s)) b t (λ e f. tt) (λ o. g.newer b t k) in
+      let ahead : (a' s' : ℕ) → IsAhead ((after w (Fetch a s)).last a') s' a' (settled (after w (Fetch a s)).history) ((after w (Fetch a s)).slot a' s') = λ b t. at_put2 (λ x. IsAhead (w.last b) t b (settled w.history) x) w.slot a s (Clean (w.disk s)) b t (λ e f. tt) (λ o. g.ahead b t) in
+      let place : (s' : ℕ) → OnDisk (after w (Fetch a s)).opening (after w (Fetch a s)).durable s' (Pending (after w (Fetch a s)) s') ((after w (Fetch a s)).disk s') (settled (after w (Fetch a s)).history) = λ t. fetch_goes t (w.disk t) (g.place t) in
+      let flights : (s' : ℕ) (f' : Flight) → (after w (Fetch a s)).flight s' ≡ Some f' → (after w (Fetch a s)).now ≤ f'.stamp → FlightOk (after w (Fetch a s)) s' f' = λ t f e n. let q : FlightOk w t f = g.flights t f e n in
+      record {
+        place = fetch_goes t f.block q.place;
+        higher = q.higher;
+        lease = q.lease;
+        sole = q.sole;
+        named = q.named;
+        source = ⊎_elim (λ o. inl (record {
+          same = o.same;
+          agrees = at_put2 (λ x. Agrees (w.phase f.by) x f.block) w.slot a s (Clean (w.disk s)) f.by t
+              (λ i j. let u : w.phase f.by ≡ Up = ap w.phase i ∙ can.up in
+              let v : w.slot f.by t ≡ Absent = ap (λ x. w.slot x t) i ∙ ap (w.slot a) j ∙ can.absent in
+              absurd (subst (λ x. Agrees Up x f.block) v (subst (λ x. Agrees x (w.slot f.by t) f.block) u o.agrees)))
+              (λ i. o.agrees);
+        })) (λ o. inr o) q.source;
+      } in
+      search

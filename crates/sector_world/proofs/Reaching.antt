@@ -8,7 +8,7 @@ use Rattle.cells.specs.Changes.{redo_all, up_to, has_lock, put}
 use Rattle.cells.specs.Histories.{settled, own, Named}
 use Rattle.cells.specs.OnDisk.{AllDurable, OnDisk}
 use Rattle.cells.specs.OnDisk.OnDisk.{in_place}
-use Rattle.cells.specs.Seen.{Alters}
+use Rattle.cells.specs.Seen.{Alters, Unsynced}
 use Rattle.cells.proofs.Basics.{some_same, at_put}
 use Rattle.cells.proofs.Histories.{each_map, on_disk_map, all_durable}
 use Rattle.cells.proofs.Removals.{last_named}
@@ -81,66 +81,12 @@ module _ (w : World) (d k : ℕ) (can : CanReach w d k) (g : Logged w) where
   }
 
 pub logged_ack : (w : World) (a k : ℕ) → CanAck w a k → Logged w → Logged (after w (Ack a k))
-logged_ack w a k can g = record {
-  logs = g.logs;
-  apart = g.apart;
-  known = g.known;
-  leases = g.leases;
-  begun = g.begun;
-  off_free = g.off_free;
-  rested = g.rested;
-  not_up = g.not_up;
-  held = g.held;
-  copies = g.copies;
-  ahead = g.ahead;
-  newer = g.newer;
-  place = g.place;
-  firm = g.firm;
-  locked = g.locked;
-  rising = g.rising;
-  ops = g.ops;
-  below = g.below;
-  reached = g.reached;
-  acks = λ e. at_put (λ x. x ≤ w.durable e) w.acked a k e (λ q. subst (λ x. k ≤ w.durable x) (sym q) can.there) (λ n. g.acks e);
-  floored = g.floored;
-  unseen = g.unseen;
-  unmet = g.unmet;
-  unsynced = g.unsynced;
-  was_kept = g.was_kept;
-  flights = g.flights;
-  rescued = g.rescued;
-}
+logged_ack w a k can g = let acks : (d' : ℕ) → (after w (Ack a k)).acked d' ≤ (after w (Ack a k)).durable d' = λ e. at_put (λ x. x ≤ w.durable e) w.acked a k e (λ q. subst (λ x. k ≤ w.durable x) (sym q) can.there) (λ n. g.acks e) in
+    search
 
 pub logged_sync : (w : World) (a : ℕ) → CanSync w a → Logged w → Logged (after w (Sync a))
-logged_sync w a can g = record {
-  logs = g.logs;
-  apart = g.apart;
-  known = g.known;
-  leases = g.leases;
-  begun = g.begun;
-  off_free = g.off_free;
-  rested = g.rested;
-  not_up = g.not_up;
-  held = g.held;
-  copies = g.copies;
-  ahead = g.ahead;
-  newer = g.newer;
-  place = g.place;
-  firm = g.firm;
-  locked = g.locked;
-  rising = g.rising;
-  ops = g.ops;
-  below = g.below;
-  reached = g.reached;
-  acks = g.acks;
-  floored = g.floored;
-  unseen = g.unseen;
-  unmet = g.unmet;
-  unsynced = λ d. ((λ e. let u : w.last a ≤ w.acked a = can.acknowledged in let v : w.acked a ≤ w.durable a = g.acks a in subst (λ x. w.last a ≤ w.durable x) e (omega arith)), g.unsynced d);
-  was_kept = g.was_kept;
-  flights = g.flights;
-  rescued = g.rescued;
-}
+logged_sync w a can g = let unsynced : (d' : ℕ) → Unsynced d' ((after w (Sync a)).durable d') (after w (Sync a)).history = λ d. ((λ e. let u : w.last a ≤ w.acked a = can.acknowledged in let v : w.acked a ≤ w.durable a = g.acks a in subst (λ x. w.last a ≤ w.durable x) e (omega arith)), g.unsynced d) in
+    search
 
 pub sole_held : (m : Option Mode) → m ≡ Some Sole → m ≢ None
 sole_held m e f = cc
@@ -200,63 +146,9 @@ module _ (w : World) (a s : ℕ) (block : Block) (mark : ℕ) (can : CanIssue w 
   }
 
   pub logged_issue : Logged (after w (Issue a s block mark))
-  logged_issue = record {
-    logs = g.logs;
-    apart = g.apart;
-    known = g.known;
-    leases = g.leases;
-    begun = g.begun;
-    off_free = g.off_free;
-    rested = g.rested;
-    not_up = g.not_up;
-    held = g.held;
-    copies = g.copies;
-    ahead = g.ahead;
-    newer = g.newer;
-    place = g.place;
-    firm = g.firm;
-    locked = g.locked;
-    rising = g.rising;
-    ops = g.ops;
-    below = g.below;
-    reached = g.reached;
-    acks = g.acks;
-    floored = g.floored;
-    unseen = g.unseen;
-    unmet = g.unmet;
-    unsynced = g.unsynced;
-    was_kept = g.was_kept;
-    flights = at_flight w (after w (Issue a s block mark)) s (record { by = a; behalf = a; stamp = w.expiry a - 15; block = block }) issue_flight g.flights;
-    rescued = g.rescued;
-  }
+  logged_issue = let flights : (s' : ℕ) (f' : Flight) → (after w (Issue a s block mark)).flight s' ≡ Some f' → (after w (Issue a s block mark)).now ≤ f'.stamp → FlightOk (after w (Issue a s block mark)) s' f' = at_flight w (after w (Issue a s block mark)) s (record { by = a; behalf = a; stamp = w.expiry a - 15; block = block }) issue_flight g.flights in
+      search
 
 pub logged_fade : (w : World) (s : ℕ) (f : Flight) → Logged w → Logged (after w (Fade s f))
-logged_fade w s f g = record {
-  logs = g.logs;
-  apart = g.apart;
-  known = g.known;
-  leases = g.leases;
-  begun = g.begun;
-  off_free = g.off_free;
-  rested = g.rested;
-  not_up = g.not_up;
-  held = g.held;
-  copies = g.copies;
-  ahead = g.ahead;
-  newer = g.newer;
-  place = g.place;
-  firm = g.firm;
-  locked = g.locked;
-  rising = g.rising;
-  ops = g.ops;
-  below = g.below;
-  reached = g.reached;
-  acks = g.acks;
-  floored = g.floored;
-  unseen = g.unseen;
-  unmet = g.unmet;
-  unsynced = g.unsynced;
-  was_kept = g.was_kept;
-  flights = λ t h. at_put (λ x. x ≡ Some h → w.now ≤ h.stamp → FlightOk w t h) w.flight s None t (λ e i n. absurd (cc)) (λ n. g.flights t h);
-  rescued = g.rescued;
-}
+logged_fade w s f g = let flights : (s' : ℕ) (f' : Flight) → (after w (Fade s f)).flight s' ≡ Some f' → (after w (Fade s f)).now ≤ f'.stamp → FlightOk (after w (Fade s f)) s' f' = λ t h. at_put (λ x. x ≡ Some h → w.now ≤ h.stamp → FlightOk w t h) w.flight s None t (λ e i n. absurd (cc)) (λ n. g.flights t h) in
+    search

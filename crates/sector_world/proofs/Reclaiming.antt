@@ -10,7 +10,7 @@ use Rattle.cells.specs.OnDisk.{OnDisk}
 use Rattle.cells.proofs.Basics.{of_lt, of_eq, of_ne, le_or_lt, or_equal, at_put, by_keep}
 use Rattle.cells.proofs.Removals.{named_keep}
 use Rattle.cells.proofs.More.{IsAbove, on_disk_more}
-use Rattle.sector_world.specs.World.{World}
+use Rattle.sector_world.specs.World.{World, Flight, Rescue}
 use Rattle.sector_world.specs.Guards.{IsBelow, AreBelow, CanReclaim}
 use Rattle.sector_world.specs.Steps.{after}
 use Rattle.sector_world.specs.Steps.Event.{Reclaim}
@@ -99,54 +99,31 @@ module _ (w : World) (a k : ℕ) (can : CanReclaim w a k) (g : Logged w) where
       (settled w.history) (written s) (g.rising s) o
 
   pub logged_reclaim : Logged (after w (Reclaim a k))
-  logged_reclaim = record {
-    logs = λ d. at_put (λ x. x ≡ own d (put w.floor a k d) (settled w.history)) w.log a (above k (w.log a)) d
-        (λ e. at_put (λ x. above k (w.log a) ≡ own d x (settled w.history)) w.floor a k d
-        (λ i. ap (above k) (g.logs a) ∙ above_own a (w.floor a) k can.more (settled w.history) ∙ ap (λ x. own x k (settled w.history)) (sym e)) (λ n. absurd (n e)))
-        (λ n. at_put (λ x. w.log d ≡ own d x (settled w.history)) w.floor a k d (λ i. absurd (n i)) (λ i. g.logs d));
-    apart = g.apart;
-    known = g.known;
-    leases = g.leases;
-    begun = g.begun;
-    off_free = g.off_free;
-    rested = g.rested;
-    not_up = g.not_up;
-    held = g.held;
-    copies = g.copies;
-    ahead = g.ahead;
-    newer = g.newer;
-    place = λ s. reclaim_goes s (w.disk s) (le_refl (version (w.disk s))) (g.place s);
-    firm = g.firm;
-    locked = g.locked;
-    rising = g.rising;
-    ops = g.ops;
-    below = g.below;
-    reached = g.reached;
-    acks = g.acks;
-    floored = λ e. at_put (λ x. x ≤ w.last e) w.floor a k e (λ i. subst (λ x. k ≤ w.last x) (sym i) can.there) (λ n. g.floored e);
-    unseen = g.unseen;
-    unmet = g.unmet;
-    unsynced = g.unsynced;
-    was_kept = g.was_kept;
-    flights = λ s f e n. let q : FlightOk w s f = g.flights s f e n in
-        record {
-          place = reclaim_goes s f.block (let u : (version (w.disk s)) < (version f.block) = q.higher in omega arith) q.place;
-          higher = q.higher;
-          lease = q.lease;
-          sole = q.sole;
-          source = q.source;
-          named = at_put (λ x. Named (up_to (w.durable f.behalf) x) s (version f.block)) w.log a (above k (w.log a)) f.behalf
-              (λ i. named_above (w.durable f.behalf) k (w.log a) s (version (w.disk s)) (version f.block) (can.written s) q.higher (subst (λ x. Named (up_to (w.durable f.behalf) (w.log x)) s (version f.block)) i q.named))
-              (λ i. q.named);
-        };
-    rescued = λ r e. let q : RescueOk w r = g.rescued r e in
-        record {
-          dead = q.dead;
-          taker = q.taker;
-          ended = q.ended;
-          up = q.up;
-          until = q.until;
-          told = λ s. at_put (λ x. ToldOk (r.told s) (w.disk s) (redo_all (up_to (w.durable r.dead) x) s (w.disk s))) w.log a (above k (w.log a)) r.dead
-              (λ i. let u = can.up in let v = q.dead in let z : w.phase r.dead ≡ w.phase a = ap w.phase i in absurd (cc)) (λ i. q.told s);
-        };
-  }
+  logged_reclaim = let logs : (d' : ℕ) → (after w (Reclaim a k)).log d' ≡ own d' ((after w (Reclaim a k)).floor d') (settled (after w (Reclaim a k)).history) = λ d. at_put (λ x. x ≡ own d (put w.floor a k d) (settled w.history)) w.log a (above k (w.log a)) d
+      (λ e. at_put (λ x. above k (w.log a) ≡ own d x (settled w.history)) w.floor a k d
+      (λ i. ap (above k) (g.logs a) ∙ above_own a (w.floor a) k can.more (settled w.history) ∙ ap (λ x. own x k (settled w.history)) (sym e)) (λ n. absurd (n e)))
+      (λ n. at_put (λ x. w.log d ≡ own d x (settled w.history)) w.floor a k d (λ i. absurd (n i)) (λ i. g.logs d)) in
+      let place : (s' : ℕ) → OnDisk (after w (Reclaim a k)).opening (after w (Reclaim a k)).durable s' (Pending (after w (Reclaim a k)) s') ((after w (Reclaim a k)).disk s') (settled (after w (Reclaim a k)).history) = λ s. reclaim_goes s (w.disk s) (le_refl (version (w.disk s))) (g.place s) in
+      let floored : (d' : ℕ) → (after w (Reclaim a k)).floor d' ≤ (after w (Reclaim a k)).last d' = λ e. at_put (λ x. x ≤ w.last e) w.floor a k e (λ i. subst (λ x. k ≤ w.last x) (sym i) can.there) (λ n. g.floored e) in
+      let flights : (s' : ℕ) (f' : Flight) → (after w (Reclaim a k)).flight s' ≡ Some f' → (after w (Reclaim a k)).now ≤ f'.stamp → FlightOk (after w (Reclaim a k)) s' f' = λ s f e n. let q : FlightOk w s f = g.flights s f e n in
+      record {
+        place = reclaim_goes s f.block (let u : (version (w.disk s)) < (version f.block) = q.higher in omega arith) q.place;
+        higher = q.higher;
+        lease = q.lease;
+        sole = q.sole;
+        source = q.source;
+        named = at_put (λ x. Named (up_to (w.durable f.behalf) x) s (version f.block)) w.log a (above k (w.log a)) f.behalf
+            (λ i. named_above (w.durable f.behalf) k (w.log a) s (version (w.disk s)) (version f.block) (can.written s) q.higher (subst (λ x. Named (up_to (w.durable f.behalf) (w.log x)) s (version f.block)) i q.named))
+            (λ i. q.named);
+      } in
+      let rescued : (r' : Rescue) → (after w (Reclaim a k)).rescue ≡ Some r' → RescueOk (after w (Reclaim a k)) r' = λ r e. let q : RescueOk w r = g.rescued r e in
+      record {
+        dead = q.dead;
+        taker = q.taker;
+        ended = q.ended;
+        up = q.up;
+        until = q.until;
+        told = λ s. at_put (λ x. ToldOk (r.told s) (w.disk s) (redo_all (up_to (w.durable r.dead) x) s (w.disk s))) w.log a (above k (w.log a)) r.dead
+            (λ i. let u = can.up in let v = q.dead in let z : w.phase r.dead ≡ w.phase a = ap w.phase i in absurd (cc)) (λ i. q.told s);
+      } in
+      search

@@ -10,7 +10,7 @@ use Rattle.cells.specs.OnDisk.{OnDisk}
 use Rattle.cells.proofs.Basics.{by_test, of_lt, some_same, at_put, put_same, put_other}
 use Rattle.cells.proofs.Removals.{redo_named}
 use Rattle.cells.proofs.More.{replay_place}
-use Rattle.sector_world.specs.World.{World, Rescue, cover}
+use Rattle.sector_world.specs.World.{World, Rescue, cover, Flight}
 use Rattle.sector_world.specs.World.Phase.{Dead}
 use Rattle.sector_world.specs.World.Told.{Unread, Wanted, InPlace}
 use Rattle.sector_world.specs.Guards.{to_replay, CanBegin, CanReplay}
@@ -21,53 +21,28 @@ use Rattle.sector_world.proofs.Reaching.{sole_held, at_flight}
 use Rattle.sector_world.proofs.Landing.{other_replay}
 
 pub logged_begin : (w : World) (d b : ℕ) → CanBegin w d b → Logged w → Logged (after w (Begin d b))
-logged_begin w d b can g = record {
-  logs = g.logs;
-  apart = g.apart;
-  known = g.known;
-  leases = g.leases;
-  begun = λ e x. at_put (λ o. o ≡ Some x → (w.phase e ≡ Dead) × (w.expiry e < w.now)) w.taker d (Some b) e (λ i j. (ap w.phase i ∙ can.dead, subst (λ y. w.expiry y < w.now) (sym i) can.ended)) (λ n. g.begun e x);
-  off_free = g.off_free;
-  rested = g.rested;
-  not_up = g.not_up;
-  held = g.held;
-  copies = g.copies;
-  ahead = g.ahead;
-  newer = g.newer;
-  place = g.place;
-  firm = g.firm;
-  locked = g.locked;
-  rising = g.rising;
-  ops = g.ops;
-  below = g.below;
-  reached = g.reached;
-  acks = g.acks;
-  floored = g.floored;
-  unseen = g.unseen;
-  unmet = g.unmet;
-  unsynced = g.unsynced;
-  was_kept = g.was_kept;
-  flights = λ s f e n. let q : FlightOk w s f = g.flights s f e n in
-      record {
-        place = q.place;
-        higher = q.higher;
-        lease = q.lease;
-        sole = q.sole;
-        named = q.named;
-        source = ⊎_elim (λ o. inl o)
-            (λ o. let other : f.behalf ≢ d = λ i. let u : f.stamp ≤ w.until f.behalf = o.until in let v : w.until d < w.now = can.given_up in let z : w.until f.behalf ≡ w.until d = ap w.until i in absurd (omega arith) in
-            inr (record {
-              taker = put_other w.taker d (Some b) f.behalf other ∙ o.taker;
-              dead = o.dead;
-              until = subst (λ x. f.stamp ≤ x) (sym (put_other w.until d (w.expiry b) f.behalf other)) o.until;
-              rescuer = λ r i j. absurd (other (sym j ∙ sym (ap (λ x. x.dead) (some_same (record { dead = d; by = b; told = λ s. Unread }) r i))));
-              told = λ r i j. absurd (other (sym j ∙ sym (ap (λ x. x.dead) (some_same (record { dead = d; by = b; told = λ s. Unread }) r i))));
-            }))
-            q.source;
-      };
-  rescued = λ r e. subst (λ x. RescueOk (after w (Begin d b)) x) (some_same (record { dead = d; by = b; told = λ s. Unread }) r e)
-      (record { dead = can.dead; ended = can.ended; up = can.up; taker = put_same w.taker d (Some b); until = put_same w.until d (w.expiry b); told = λ s. tt });
-}
+logged_begin w d b can g = let begun : (d' b' : ℕ) → (after w (Begin d b)).taker d' ≡ Some b' → ((after w (Begin d b)).phase d' ≡ Dead) × ((after w (Begin d b)).expiry d' < (after w (Begin d b)).now) = λ e x. at_put (λ o. o ≡ Some x → (w.phase e ≡ Dead) × (w.expiry e < w.now)) w.taker d (Some b) e (λ i j. (ap w.phase i ∙ can.dead, subst (λ y. w.expiry y < w.now) (sym i) can.ended)) (λ n. g.begun e x) in
+    let flights : (s' : ℕ) (f' : Flight) → (after w (Begin d b)).flight s' ≡ Some f' → (after w (Begin d b)).now ≤ f'.stamp → FlightOk (after w (Begin d b)) s' f' = λ s f e n. let q : FlightOk w s f = g.flights s f e n in
+    record {
+      place = q.place;
+      higher = q.higher;
+      lease = q.lease;
+      sole = q.sole;
+      named = q.named;
+      source = ⊎_elim (λ o. inl o)
+          (λ o. let other : f.behalf ≢ d = λ i. let u : f.stamp ≤ w.until f.behalf = o.until in let v : w.until d < w.now = can.given_up in let z : w.until f.behalf ≡ w.until d = ap w.until i in absurd (omega arith) in
+          inr (record {
+            taker = put_other w.taker d (Some b) f.behalf other ∙ o.taker;
+            dead = o.dead;
+            until = subst (λ x. f.stamp ≤ x) (sym (put_other w.until d (w.expiry b) f.behalf other)) o.until;
+            rescuer = λ r i j. absurd (other (sym j ∙ sym (ap (λ x. x.dead) (some_same (record { dead = d; by = b; told = λ s. Unread }) r i))));
+            told = λ r i j. absurd (other (sym j ∙ sym (ap (λ x. x.dead) (some_same (record { dead = d; by = b; told = λ s. Unread }) r i))));
+          }))
+          q.source;
+    } in
+    let rescued : (r' : Rescue) → (after w (Begin d b)).rescue ≡ Some r' → RescueOk (after w (Begin d b)) r' = λ r e. subst (λ x. RescueOk (after w (Begin d b)) x) (some_same (record { dead = d; by = b; told = λ s. Unread }) r e)
+    (record { dead = can.dead; ended = can.ended; up = can.up; taker = put_same w.taker d (Some b); until = put_same w.until d (w.expiry b); told = λ s. tt }) in
+    search
 
 found_ok : (rs : List Redo) (s : ℕ) (old : Block) → ToldOk (found old (redo_all rs s old)) old (redo_all rs s old)
 found_ok rs s old =
@@ -82,67 +57,41 @@ pub logged_look : (w : World) (r : Rescue) (s : ℕ) → w.rescue ≡ Some r →
 logged_look w r s going g =
     let k : RescueOk w r = g.rescued r going in
     let new : Rescue = record { dead = r.dead; by = r.by; told = put r.told s (found (w.disk s) (redo_all (to_replay w r.dead) s (w.disk s))) } in
+    let flights : (s' : ℕ) (f' : Flight) → (after w (Look r s)).flight s' ≡ Some f' → (after w (Look r s)).now ≤ f'.stamp → FlightOk (after w (Look r s)) s' f' = λ t f e n. let q : FlightOk w t f = g.flights t f e n in
     record {
-      logs = g.logs;
-      apart = g.apart;
-      known = g.known;
-      leases = g.leases;
-      begun = g.begun;
-      off_free = g.off_free;
-      rested = g.rested;
-      not_up = g.not_up;
-      held = g.held;
-      copies = g.copies;
-      ahead = g.ahead;
-      newer = g.newer;
-      place = g.place;
-      firm = g.firm;
-      locked = g.locked;
-      rising = g.rising;
-      ops = g.ops;
-      below = g.below;
-      reached = g.reached;
-      acks = g.acks;
-      floored = g.floored;
-      unseen = g.unseen;
-      unmet = g.unmet;
-      unsynced = g.unsynced;
-      was_kept = g.was_kept;
-      flights = λ t f e n. let q : FlightOk w t f = g.flights t f e n in
-          record {
-            place = q.place;
-            higher = q.higher;
-            lease = q.lease;
-            sole = q.sole;
-            named = q.named;
-            source = ⊎_elim (λ o. inl o)
-                (λ o. inr (record {
-                  taker = o.taker;
-                  dead = o.dead;
-                  until = o.until;
-                  rescuer = λ x i j. let same : new ≡ x = some_same new x i in sym (ap (λ y. y.by) same) ∙ o.rescuer r going (ap (λ y. y.dead) same ∙ j);
-                  told = λ x i j. let same : new ≡ x = some_same new x i in
-                      let old : r.told t ≡ Wanted f.block = o.told r going (ap (λ y. y.dead) same ∙ j) in
-                      subst (λ y. y.told t ≡ Wanted f.block) same
-                      (at_put (λ y. y ≡ Wanted f.block) r.told s (found (w.disk s) (redo_all (to_replay w r.dead) s (w.disk s))) t
-                      (λ m. let z : ToldOk (Wanted f.block) (w.disk t) (redo_all (to_replay w r.dead) t (w.disk t)) = subst (λ y. ToldOk y (w.disk t) (redo_all (to_replay w r.dead) t (w.disk t))) old (k.told t) in
-                      subst (λ y. found (w.disk y) (redo_all (to_replay w r.dead) y (w.disk y)) ≡ Wanted f.block) m (found_wanted (w.disk t) (redo_all (to_replay w r.dead) t (w.disk t)) f.block z.0 z.1))
-                      (λ m. old));
-                }))
-                q.source;
-          };
-      rescued = λ x e. subst (λ y. RescueOk (after w (Look r s)) y) (some_same new x e)
-          (record {
-            dead = k.dead;
-            ended = k.ended;
-            up = k.up;
-            taker = k.taker;
-            until = k.until;
-            told = λ t. at_put (λ y. ToldOk y (w.disk t) (redo_all (to_replay w r.dead) t (w.disk t))) r.told s (found (w.disk s) (redo_all (to_replay w r.dead) s (w.disk s))) t
-                (λ m. subst (λ y. ToldOk (found (w.disk y) (redo_all (to_replay w r.dead) y (w.disk y))) (w.disk t) (redo_all (to_replay w r.dead) t (w.disk t))) m (found_ok (to_replay w r.dead) t (w.disk t)))
-                (λ m. k.told t);
-          });
-    }
+      place = q.place;
+      higher = q.higher;
+      lease = q.lease;
+      sole = q.sole;
+      named = q.named;
+      source = ⊎_elim (λ o. inl o)
+          (λ o. inr (record {
+            taker = o.taker;
+            dead = o.dead;
+            until = o.until;
+            rescuer = λ x i j. let same : new ≡ x = some_same new x i in sym (ap (λ y. y.by) same) ∙ o.rescuer r going (ap (λ y. y.dead) same ∙ j);
+            told = λ x i j. let same : new ≡ x = some_same new x i in
+                let old : r.told t ≡ Wanted f.block = o.told r going (ap (λ y. y.dead) same ∙ j) in
+                subst (λ y. y.told t ≡ Wanted f.block) same
+                (at_put (λ y. y ≡ Wanted f.block) r.told s (found (w.disk s) (redo_all (to_replay w r.dead) s (w.disk s))) t
+                (λ m. let z : ToldOk (Wanted f.block) (w.disk t) (redo_all (to_replay w r.dead) t (w.disk t)) = subst (λ y. ToldOk y (w.disk t) (redo_all (to_replay w r.dead) t (w.disk t))) old (k.told t) in
+                subst (λ y. found (w.disk y) (redo_all (to_replay w r.dead) y (w.disk y)) ≡ Wanted f.block) m (found_wanted (w.disk t) (redo_all (to_replay w r.dead) t (w.disk t)) f.block z.0 z.1))
+                (λ m. old));
+          }))
+          q.source;
+    } in
+    let rescued : (r' : Rescue) → (after w (Look r s)).rescue ≡ Some r' → RescueOk (after w (Look r s)) r' = λ x e. subst (λ y. RescueOk (after w (Look r s)) y) (some_same new x e)
+    (record {
+      dead = k.dead;
+      ended = k.ended;
+      up = k.up;
+      taker = k.taker;
+      until = k.until;
+      told = λ t. at_put (λ y. ToldOk y (w.disk t) (redo_all (to_replay w r.dead) t (w.disk t))) r.told s (found (w.disk s) (redo_all (to_replay w r.dead) s (w.disk s))) t
+          (λ m. subst (λ y. ToldOk (found (w.disk y) (redo_all (to_replay w r.dead) y (w.disk y))) (w.disk t) (redo_all (to_replay w r.dead) t (w.disk t))) m (found_ok (to_replay w r.dead) t (w.disk t)))
+          (λ m. k.told t);
+    }) in
+    search
 
 pub sole_or_not : (m : Option Mode) → (m ≡ Some Sole) ⊎ (m ≡ Some Sole → ⊥)
 sole_or_not None = inr (λ e. cc)
@@ -187,32 +136,5 @@ module _ (w : World) (r : Rescue) (s : ℕ) (block : Block) (can : CanReplay w r
   }
 
   pub logged_replay : Logged (after w (Replay r s block))
-  logged_replay = record {
-    logs = g.logs;
-    apart = g.apart;
-    known = g.known;
-    leases = g.leases;
-    begun = g.begun;
-    off_free = g.off_free;
-    rested = g.rested;
-    not_up = g.not_up;
-    held = g.held;
-    copies = g.copies;
-    ahead = g.ahead;
-    newer = g.newer;
-    place = g.place;
-    firm = g.firm;
-    locked = g.locked;
-    rising = g.rising;
-    ops = g.ops;
-    below = g.below;
-    reached = g.reached;
-    acks = g.acks;
-    floored = g.floored;
-    unseen = g.unseen;
-    unmet = g.unmet;
-    unsynced = g.unsynced;
-    was_kept = g.was_kept;
-    flights = at_flight w (after w (Replay r s block)) s (record { by = r.by; behalf = r.dead; stamp = w.expiry r.by - 15; block = block }) redo_flight g.flights;
-    rescued = g.rescued;
-  }
+  logged_replay = let flights : (s' : ℕ) (f' : Flight) → (after w (Replay r s block)).flight s' ≡ Some f' → (after w (Replay r s block)).now ≤ f'.stamp → FlightOk (after w (Replay r s block)) s' f' = at_flight w (after w (Replay r s block)) s (record { by = r.by; behalf = r.dead; stamp = w.expiry r.by - 15; block = block }) redo_flight g.flights in
+      search

@@ -43,8 +43,7 @@ pub fn every_event()
     ensures legal { (plan : Plan) → IsFramed plan → (w : World) (e : Event) → PlannedIf plan w e → Good w
         → Legal plan w.opening (settled w.history) → Legal plan (after w e).opening (settled (after w e).history) }
     ensures left { (plan : Plan) → IsFramed plan → (w : World) → Good w → Legal plan w.opening (settled w.history) → IsLegal plan w }
-{
-}
+{}
 
 /// After every run whose operations are planned and have new numbers: for all plans, trees, tests of whether sectors stand for
 /// a tree, and ways to apply operations to trees that fit together.
@@ -64,8 +63,7 @@ pub fn every_tree_event<Tree>()
     ensures stand { (plan : Plan) (stands : (ℕ → Block) → Tree → Bool) (apply : Apply Tree) (fresh : ℕ → Tree → Bool)
         → MeetsTree Tree plan stands apply fresh → (first : Tree) (w : World) → stands w.opening first ≡ true → IsLegal plan w
         → Distinct fresh first (settled w.history) → Good w → Stand Tree stands apply first w }
-{
-}
+{}
 
 /// Runs in which the guards are met together.
 pub fn example_runs()
