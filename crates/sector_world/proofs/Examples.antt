@@ -18,7 +18,7 @@ use Rattle.sector_world.specs.Guards.{Fits, Based, Owned, MovesOwned, Shows, Non
 use Rattle.sector_world.specs.Steps.{Event, after, Run}
 use Rattle.sector_world.specs.Steps.Event.{Tick, Renew, Mount, Take, Do, Reach, Ack, Sync, Crash, Begin, Look, Finish, Fetch, Issue, Replay, Land, Fade, FetchBytes, Clear, IssueBytes, LandBytes}
 use Rattle.sector_world.specs.Steps.Run.{stays, goes}
-use Rattle.sector_world.specs.Examples.{freeing, freed, IsFreedRun, begin, change, changed, deed, ticks, done, rescue, wanted, placed, write, recovery, IsLostRun, IsKeptRun, IsTwiceRun, IsLateRun, bytes, scribble, reading, IsReadRun, change_8, claim, IsClaimedRun}
+use Rattle.sector_world.specs.Examples.{freeing, IsFreedRun, begin, change, changed, deed, ticks, done, rescue, wanted, placed, write, recovery, IsLostRun, IsKeptRun, IsTwiceRun, IsLateRun, bytes, scribble, reading, IsReadRun, change_8, claim, IsClaimedRun}
 
 tick_run : (n : ℕ) (w v : World) (es : List Event) → Run (record w { now = w.now + n }) es v → Run w (ticks n es) v
 tick_run zero w v es r = subst (λ n. Run (record w { now = n }) es v) (add-zero w.now) r

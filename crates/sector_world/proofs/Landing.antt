@@ -207,34 +207,14 @@ module _ (w : World) (s : ℕ) (f : Flight) (can : CanLand w s f) (g : Logged w)
       }
 
   pub logged_land : Logged (after w (Land s f))
-  logged_land = record {
-    logs = g.logs;
-    apart = g.apart;
-    known = g.known;
-    leases = g.leases;
-    begun = g.begun;
-    off_free = g.off_free;
-    rested = g.rested;
-    not_up = λ b t. at_put2 (λ x. AbsentUnlessUp (w.phase b) x) w.slot f.behalf s (landed f.block (w.slot f.behalf s)) b t
-        (λ e i. subst (λ y. AbsentUnlessUp (w.phase y) (landed f.block (w.slot f.behalf s))) (sym e) (landed_not_up (w.phase f.behalf) f.block (w.slot f.behalf s) (g.not_up f.behalf s))) (λ n. g.not_up b t);
-    held = λ b t. at_slot (λ x. HeldIf x (w.holds b (cover w t))) b t (g.held b t)
-        (λ e i mark q m. let z : w.holds b (cover w t) ≡ Some Sole = ap (λ x. w.holds x (cover w t)) e ∙ ap (λ x. w.holds f.behalf (cover w x)) i ∙ ok.sole in cc);
-    copies = λ b t. at_slot (λ x. IsCopy x (now_of w t)) b t (g.copies b t) (λ e i mark q. now mark q ∙ ap (now_of w) (sym i));
-    ahead = λ b t. at_slot (λ x. IsAhead (w.last b) t b (settled w.history) x) b t (g.ahead b t) (λ e i mark q. tt);
-    newer = land_newer;
-    place = land_place;
-    firm = g.firm;
-    locked = g.locked;
-    rising = g.rising;
-    ops = g.ops;
-    below = g.below;
-    reached = g.reached;
-    acks = g.acks;
-    floored = g.floored;
-    unseen = g.unseen;
-    unmet = g.unmet;
-    unsynced = g.unsynced;
-    was_kept = g.was_kept;
-    flights = λ t h. at_put (λ x. x ≡ Some h → w.now ≤ h.stamp → FlightOk (after w (Land s f)) t h) w.flight s None t (λ e i n. absurd (cc)) (λ n i l. land_flight t h n i l);
-    rescued = land_rescue;
-  }
+  logged_land = let not_up : (a' s' : ℕ) → AbsentUnlessUp ((after w (Land s f)).phase a') ((after w (Land s f)).slot a' s') = λ b t. at_put2 (λ x. AbsentUnlessUp (w.phase b) x) w.slot f.behalf s (landed f.block (w.slot f.behalf s)) b t
+      (λ e i. subst (λ y. AbsentUnlessUp (w.phase y) (landed f.block (w.slot f.behalf s))) (sym e) (landed_not_up (w.phase f.behalf) f.block (w.slot f.behalf s) (g.not_up f.behalf s))) (λ n. g.not_up b t) in
+      let held : (a' s' : ℕ) → HeldIf ((after w (Land s f)).slot a' s') ((after w (Land s f)).holds a' (cover (after w (Land s f)) s')) = λ b t. at_slot (λ x. HeldIf x (w.holds b (cover w t))) b t (g.held b t)
+      (λ e i mark q m. let z : w.holds b (cover w t) ≡ Some Sole = ap (λ x. w.holds x (cover w t)) e ∙ ap (λ x. w.holds f.behalf (cover w x)) i ∙ ok.sole in cc) in
+      let copies : (a' s' : ℕ) → IsCopy ((after w (Land s f)).slot a' s') (now_of (after w (Land s f)) s') = λ b t. at_slot (λ x. IsCopy x (now_of w t)) b t (g.copies b t) (λ e i mark q. now mark q ∙ ap (now_of w) (sym i)) in
+      let ahead : (a' s' : ℕ) → IsAhead ((after w (Land s f)).last a') s' a' (settled (after w (Land s f)).history) ((after w (Land s f)).slot a' s') = λ b t. at_slot (λ x. IsAhead (w.last b) t b (settled w.history) x) b t (g.ahead b t) (λ e i mark q. tt) in
+      let newer : (a' s' : ℕ) → (after w (Land s f)).sick a' ≡ false → IsNewer ((after w (Land s f)).disk s') ((after w (Land s f)).slot a' s') = land_newer in
+      let place : (s' : ℕ) → OnDisk (after w (Land s f)).opening (after w (Land s f)).durable s' (Pending (after w (Land s f)) s') ((after w (Land s f)).disk s') (settled (after w (Land s f)).history) = land_place in
+      let flights : (s' : ℕ) (f' : Flight) → (after w (Land s f)).flight s' ≡ Some f' → (after w (Land s f)).now ≤ f'.stamp → FlightOk (after w (Land s f)) s' f' = λ t h. at_put (λ x. x ≡ Some h → w.now ≤ h.stamp → FlightOk (after w (Land s f)) t h) w.flight s None t (λ e i n. absurd (cc)) (λ n i l. land_flight t h n i l) in
+      let rescued : (r' : Rescue) → (after w (Land s f)).rescue ≡ Some r' → RescueOk (after w (Land s f)) r' = land_rescue in
+      search

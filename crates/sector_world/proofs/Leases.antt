@@ -1,9 +1,11 @@
 -- The clock and the leases, mounting and unmounting.
 use Rattle.std.proofs.Common.{true, false, ⊎_elim, le_refl, le_trans, ℕ, ◌+◌, ◌<◌, ◌≤◌, ◌≡◌, ◌≢◌, inl, inr, Option, Some, None, nat_eq, refl, sym, ◌∙◌, ap, subst, arith}
 use Rattle.frang_base.specs.declared.lock.Mode.{Mode}
+use Rattle.frang_base.specs.declared.lock.LockId.{LockId}
 use Rattle.cells.specs.Blocks.{Block}
 use Rattle.cells.specs.Changes.{put}
 use Rattle.cells.specs.Histories.{Commit, settled}
+use Rattle.cells.specs.Seen.{Unsynced}
 use Rattle.cells.specs.OnDisk.{OnDisk}
 use Rattle.cells.proofs.Basics.{by_test, at_put, put_same, put_other, eq_of, ne_of}
 use Rattle.cells.proofs.Histories.{on_disk_map}
@@ -146,37 +148,20 @@ logged_mount w a can g =
       until = at_put (λ x. w.until r.dead ≡ x) w.expiry a (w.now + 30) r.by (λ i. let z : w.phase r.by ≡ Off = ap w.phase i ∙ can.off in let y = q.up in absurd (cc)) (λ i. q.until);
       told = q.told;
     } in
-    record {
-      logs = g.logs;
-      apart = g.apart;
-      known = λ b. at_put (λ p. p ≢ Off → b < w.servers) w.phase a Up b (λ e n. subst (λ x. x < w.servers) (sym e) can.known) (λ n. g.known b);
-      leases = λ b. at_put (λ x. x ≤ w.now + 30) w.expiry a (w.now + 30) b (λ e. le_refl (w.now + 30)) (λ n. g.leases b);
-      begun = λ d b e. let q = g.begun d b e in
-          let n : d ≢ a = λ i. let z : w.phase d ≡ Off = ap w.phase i ∙ can.off in let y = q.0 in cc in
-          (put_other w.phase a Up d n ∙ q.0, at_put (λ x. x < w.now) w.expiry a (w.now + 30) d (λ i. absurd (n i)) (λ i. q.1));
-      off_free = λ b s. at_put (λ p. NoneIfOff p (w.holds b s)) w.phase a Up b (λ e. tt) (λ n. g.off_free b s);
-      rested = λ b. at_put (λ p. p ≡ Off → w.last b ≤ w.durable b) w.phase a Up b (λ e i. absurd (cc)) (λ n. g.rested b);
-      not_up = λ b s. at_put (λ p. AbsentUnlessUp p (w.slot b s)) w.phase a Up b (λ e. tt) (λ n. g.not_up b s);
-      held = g.held;
-      copies = g.copies;
-      ahead = g.ahead;
-      newer = λ b s. at_put (λ x. x ≡ false → IsNewer (w.disk s) (w.slot b s)) w.sick a false b (λ e k. absent_newer (w.phase b) (w.disk s) (w.slot b s) (ap w.phase e ∙ can.off) (g.not_up b s)) (λ n. g.newer b s);
-      place = λ s. goes s (w.disk s) (g.place s);
-      firm = g.firm;
-      locked = g.locked;
-      rising = g.rising;
-      ops = g.ops;
-      below = g.below;
-      reached = g.reached;
-      acks = g.acks;
-      floored = g.floored;
-      unseen = g.unseen;
-      unmet = g.unmet;
-      unsynced = λ d. ((λ e. subst (λ x. w.last a ≤ w.durable x) e (g.rested a can.off)), g.unsynced d);
-      was_kept = g.was_kept;
-      flights = flights;
-      rescued = rescued;
-    }
+    let known : (a' : ℕ) → (after w (Mount a)).phase a' ≢ Off → a' < (after w (Mount a)).servers = λ b. at_put (λ p. p ≢ Off → b < w.servers) w.phase a Up b (λ e n. subst (λ x. x < w.servers) (sym e) can.known) (λ n. g.known b) in
+    let leases : (a' : ℕ) → (after w (Mount a)).expiry a' ≤ (after w (Mount a)).now + 30 = λ b. at_put (λ x. x ≤ w.now + 30) w.expiry a (w.now + 30) b (λ e. le_refl (w.now + 30)) (λ n. g.leases b) in
+    let begun : (d' b' : ℕ) → (after w (Mount a)).taker d' ≡ Some b' → ((after w (Mount a)).phase d' ≡ Dead) × ((after w (Mount a)).expiry d' < (after w (Mount a)).now) = λ d b e. let q = g.begun d b e in
+    let n : d ≢ a = λ i. let z : w.phase d ≡ Off = ap w.phase i ∙ can.off in let y = q.0 in cc in
+    (put_other w.phase a Up d n ∙ q.0, at_put (λ x. x < w.now) w.expiry a (w.now + 30) d (λ i. absurd (n i)) (λ i. q.1)) in
+    let off_free : (a' : ℕ) (l' : LockId) → NoneIfOff ((after w (Mount a)).phase a') ((after w (Mount a)).holds a' l') = λ b s. at_put (λ p. NoneIfOff p (w.holds b s)) w.phase a Up b (λ e. tt) (λ n. g.off_free b s) in
+    let rested : (a' : ℕ) → (after w (Mount a)).phase a' ≡ Off → (after w (Mount a)).last a' ≤ (after w (Mount a)).durable a' = λ b. at_put (λ p. p ≡ Off → w.last b ≤ w.durable b) w.phase a Up b (λ e i. absurd (cc)) (λ n. g.rested b) in
+    let not_up : (a' s' : ℕ) → AbsentUnlessUp ((after w (Mount a)).phase a') ((after w (Mount a)).slot a' s') = λ b s. at_put (λ p. AbsentUnlessUp p (w.slot b s)) w.phase a Up b (λ e. tt) (λ n. g.not_up b s) in
+    let newer : (a' s' : ℕ) → (after w (Mount a)).sick a' ≡ false → IsNewer ((after w (Mount a)).disk s') ((after w (Mount a)).slot a' s') = λ b s. at_put (λ x. x ≡ false → IsNewer (w.disk s) (w.slot b s)) w.sick a false b (λ e k. absent_newer (w.phase b) (w.disk s) (w.slot b s) (ap w.phase e ∙ can.off) (g.not_up b s)) (λ n. g.newer b s) in
+    let place : (s' : ℕ) → OnDisk (after w (Mount a)).opening (after w (Mount a)).durable s' (Pending (after w (Mount a)) s') ((after w (Mount a)).disk s') (settled (after w (Mount a)).history) = λ s. goes s (w.disk s) (g.place s) in
+    let unsynced : (d' : ℕ) → Unsynced d' ((after w (Mount a)).durable d') (after w (Mount a)).history = λ d. ((λ e. subst (λ x. w.last a ≤ w.durable x) e (g.rested a can.off)), g.unsynced d) in
+    let flights : (s' : ℕ) (f' : Flight) → (after w (Mount a)).flight s' ≡ Some f' → (after w (Mount a)).now ≤ f'.stamp → FlightOk (after w (Mount a)) s' f' = flights in
+    let rescued : (r' : Rescue) → (after w (Mount a)).rescue ≡ Some r' → RescueOk (after w (Mount a)) r' = rescued in
+    search
 
 absent_if_free : (x : Slot) (m : Option Mode) → m ≡ None → HeldIf x m → x ≡ Absent
 absent_if_free Absent m e h = refl
@@ -227,33 +212,15 @@ logged_unmount w a can g =
       until = q.until;
       told = q.told;
     } in
-    record {
-      logs = g.logs;
-      apart = g.apart;
-      known = λ b. at_put (λ p. p ≢ Off → b < w.servers) w.phase a Off b (λ e n. absurd (n refl)) (λ n. g.known b);
-      leases = g.leases;
-      begun = λ d b e. let q = g.begun d b e in (put_other w.phase a Off d (phases_differ w.phase a d can.up q.0) ∙ q.0, q.1);
-      off_free = λ b l. at_put (λ p. NoneIfOff p (w.holds b l)) w.phase a Off b (λ e. ap (λ x. w.holds x l) e ∙ can.given l) (λ n. g.off_free b l);
-      rested = λ b. at_put (λ p. p ≡ Off → w.last b ≤ w.durable b) w.phase a Off b (λ e i. subst (λ x. w.last x ≤ w.durable x) (sym e) full) (λ n. g.rested b);
-      not_up = λ b s. at_put (λ p. AbsentUnlessUp p (w.slot b s)) w.phase a Off b
-          (λ e. absent_if_free (w.slot b s) (w.holds b (cover w s)) (ap (λ x. w.holds x (cover w s)) e ∙ can.given (cover w s)) (g.held b s)) (λ n. g.not_up b s);
-      held = g.held;
-      copies = g.copies;
-      ahead = g.ahead;
-      newer = λ b t k. g.newer b t (well_before w a b k).0;
-      place = λ s. goes s (w.disk s) (g.place s);
-      firm = g.firm;
-      locked = g.locked;
-      rising = g.rising;
-      ops = g.ops;
-      below = g.below;
-      reached = g.reached;
-      acks = g.acks;
-      floored = g.floored;
-      unseen = g.unseen;
-      unmet = g.unmet;
-      unsynced = λ d. ((λ e. subst (λ x. w.last a ≤ w.durable x) e full), g.unsynced d);
-      was_kept = g.was_kept;
-      flights = flights;
-      rescued = rescued;
-    }
+    let known : (a' : ℕ) → (after w (Unmount a)).phase a' ≢ Off → a' < (after w (Unmount a)).servers = λ b. at_put (λ p. p ≢ Off → b < w.servers) w.phase a Off b (λ e n. absurd (n refl)) (λ n. g.known b) in
+    let begun : (d' b' : ℕ) → (after w (Unmount a)).taker d' ≡ Some b' → ((after w (Unmount a)).phase d' ≡ Dead) × ((after w (Unmount a)).expiry d' < (after w (Unmount a)).now) = λ d b e. let q = g.begun d b e in (put_other w.phase a Off d (phases_differ w.phase a d can.up q.0) ∙ q.0, q.1) in
+    let off_free : (a' : ℕ) (l' : LockId) → NoneIfOff ((after w (Unmount a)).phase a') ((after w (Unmount a)).holds a' l') = λ b l. at_put (λ p. NoneIfOff p (w.holds b l)) w.phase a Off b (λ e. ap (λ x. w.holds x l) e ∙ can.given l) (λ n. g.off_free b l) in
+    let rested : (a' : ℕ) → (after w (Unmount a)).phase a' ≡ Off → (after w (Unmount a)).last a' ≤ (after w (Unmount a)).durable a' = λ b. at_put (λ p. p ≡ Off → w.last b ≤ w.durable b) w.phase a Off b (λ e i. subst (λ x. w.last x ≤ w.durable x) (sym e) full) (λ n. g.rested b) in
+    let not_up : (a' s' : ℕ) → AbsentUnlessUp ((after w (Unmount a)).phase a') ((after w (Unmount a)).slot a' s') = λ b s. at_put (λ p. AbsentUnlessUp p (w.slot b s)) w.phase a Off b
+    (λ e. absent_if_free (w.slot b s) (w.holds b (cover w s)) (ap (λ x. w.holds x (cover w s)) e ∙ can.given (cover w s)) (g.held b s)) (λ n. g.not_up b s) in
+    let newer : (a' s' : ℕ) → (after w (Unmount a)).sick a' ≡ false → IsNewer ((after w (Unmount a)).disk s') ((after w (Unmount a)).slot a' s') = λ b t k. g.newer b t (well_before w a b k).0 in
+    let place : (s' : ℕ) → OnDisk (after w (Unmount a)).opening (after w (Unmount a)).durable s' (Pending (after w (Unmount a)) s') ((after w (Unmount a)).disk s') (settled (after w (Unmount a)).history) = λ s. goes s (w.disk s) (g.place s) in
+    let unsynced : (d' : ℕ) → Unsynced d' ((after w (Unmount a)).durable d') (after w (Unmount a)).history = λ d. ((λ e. subst (λ x. w.last a ≤ w.durable x) e full), g.unsynced d) in
+    let flights : (s' : ℕ) (f' : Flight) → (after w (Unmount a)).flight s' ≡ Some f' → (after w (Unmount a)).now ≤ f'.stamp → FlightOk (after w (Unmount a)) s' f' = flights in
+    let rescued : (r' : Rescue) → (after w (Unmount a)).rescue ≡ Some r' → RescueOk (after w (Unmount a)) r' = rescued in
+    search

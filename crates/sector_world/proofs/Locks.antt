@@ -139,46 +139,29 @@ module _ (w : World) (a : ℕ) (l : LockId) (can : CanGive w a l) (g : Logged w)
       }
 
   pub logged_give : Logged (after w (Give a l))
-  logged_give = record {
-    logs = g.logs;
-    apart = λ b d t. at_lock (λ m. m ≡ Some Sole → put_lock w.holds a l None d t ≢ None → b ≡ d) w.holds a l None b t
-        (λ e f m. absurd (cc))
-        (λ o m. at_lock (λ x. x ≢ None → b ≡ d) w.holds a l None d t (λ i j n. absurd (n refl)) (λ i n. g.apart b d t m n));
-    known = g.known;
-    leases = g.leases;
-    begun = g.begun;
-    off_free = λ b t. at_lock (λ m. NoneIfOff (w.phase b) m) w.holds a l None b t (λ e f. free_ok (w.phase b)) (λ o. g.off_free b t);
-    rested = g.rested;
-    not_up = λ b s. at_slot (λ x. AbsentUnlessUp (w.phase b) x) b s (λ e f. absent_ok (w.phase b)) (λ n. g.not_up b s);
-    held = λ b s. at_slot (λ x. HeldIf x (put_lock w.holds a l None b (cover w s))) b s (λ e f. tt)
-        (λ n. at_lock (λ m. HeldIf (w.slot b s) m) w.holds a l None b (cover w s) (λ e f. absurd (n e f)) (λ i. g.held b s));
-    copies = λ b s. at_slot (λ x. IsCopy x (now_of w s)) b s (λ e f. tt) (λ n. g.copies b s);
-    newer = λ b s k. at_slot (λ x. IsNewer (w.disk s) x) b s (λ e f. tt) (λ n. g.newer b s k);
-    ahead = λ b s. at_slot (λ x. IsAhead (w.last b) s b (settled w.history) x) b s (λ e f. tt) (λ n. g.ahead b s);
-    place = λ s. goes s (w.disk s) (g.place s);
-    firm = give_firm;
-    locked = each_map2 (λ e. w.durable e.by < e.op → (k : LockId) → IsTrue (has_lock k e.alone) → w.holds e.by k ≡ Some Sole) (λ e. e.op ≤ w.last e.by) (λ e. w.durable e.by < e.op → (k : LockId) → IsTrue (has_lock k e.alone) → put_lock w.holds a l None e.by k ≡ Some Sole)
-        (λ e m b n k i. sole e.by k
-        (λ j q. let h : w.holds a l ≡ Some Sole = subst (λ x. w.holds x l ≡ Some Sole) j (subst (λ x. w.holds e.by x ≡ Some Sole) q (m n k i)) in
-        let u : w.last a ≤ w.acked a = can.logged h in
-        let v : w.acked a ≤ w.durable a = g.acks a in
-        let x : w.last e.by ≡ w.last a = ap w.last j in
-        let y : w.durable e.by ≡ w.durable a = ap w.durable j in absurd (omega arith))
-        (m n k i))
-        (settled w.history) g.locked g.below;
-    rising = g.rising;
-    ops = g.ops;
-    below = g.below;
-    reached = g.reached;
-    acks = g.acks;
-    floored = g.floored;
-    unseen = g.unseen;
-    unmet = g.unmet;
-    unsynced = g.unsynced;
-    was_kept = g.was_kept;
-    flights = give_flight;
-    rescued = g.rescued;
-  }
+  logged_give = let apart : (a' b' : ℕ) (l' : LockId) → (after w (Give a l)).holds a' l' ≡ Some Sole → (after w (Give a l)).holds b' l' ≢ None → a' ≡ b' = λ b d t. at_lock (λ m. m ≡ Some Sole → put_lock w.holds a l None d t ≢ None → b ≡ d) w.holds a l None b t
+      (λ e f m. absurd (cc))
+      (λ o m. at_lock (λ x. x ≢ None → b ≡ d) w.holds a l None d t (λ i j n. absurd (n refl)) (λ i n. g.apart b d t m n)) in
+      let off_free : (a' : ℕ) (l' : LockId) → NoneIfOff ((after w (Give a l)).phase a') ((after w (Give a l)).holds a' l') = λ b t. at_lock (λ m. NoneIfOff (w.phase b) m) w.holds a l None b t (λ e f. free_ok (w.phase b)) (λ o. g.off_free b t) in
+      let not_up : (a' s' : ℕ) → AbsentUnlessUp ((after w (Give a l)).phase a') ((after w (Give a l)).slot a' s') = λ b s. at_slot (λ x. AbsentUnlessUp (w.phase b) x) b s (λ e f. absent_ok (w.phase b)) (λ n. g.not_up b s) in
+      let held : (a' s' : ℕ) → HeldIf ((after w (Give a l)).slot a' s') ((after w (Give a l)).holds a' (cover (after w (Give a l)) s')) = λ b s. at_slot (λ x. HeldIf x (put_lock w.holds a l None b (cover w s))) b s (λ e f. tt)
+      (λ n. at_lock (λ m. HeldIf (w.slot b s) m) w.holds a l None b (cover w s) (λ e f. absurd (n e f)) (λ i. g.held b s)) in
+      let copies : (a' s' : ℕ) → IsCopy ((after w (Give a l)).slot a' s') (now_of (after w (Give a l)) s') = λ b s. at_slot (λ x. IsCopy x (now_of w s)) b s (λ e f. tt) (λ n. g.copies b s) in
+      let newer : (a' s' : ℕ) → (after w (Give a l)).sick a' ≡ false → IsNewer ((after w (Give a l)).disk s') ((after w (Give a l)).slot a' s') = λ b s k. at_slot (λ x. IsNewer (w.disk s) x) b s (λ e f. tt) (λ n. g.newer b s k) in
+      let ahead : (a' s' : ℕ) → IsAhead ((after w (Give a l)).last a') s' a' (settled (after w (Give a l)).history) ((after w (Give a l)).slot a' s') = λ b s. at_slot (λ x. IsAhead (w.last b) s b (settled w.history) x) b s (λ e f. tt) (λ n. g.ahead b s) in
+      let place : (s' : ℕ) → OnDisk (after w (Give a l)).opening (after w (Give a l)).durable s' (Pending (after w (Give a l)) s') ((after w (Give a l)).disk s') (settled (after w (Give a l)).history) = λ s. goes s (w.disk s) (g.place s) in
+      let firm : (s' : ℕ) → Each (λ e'. Alters s' e' → (after w (Give a l)).durable e'.by < e'.op → (after w (Give a l)).holds e'.by (cover (after w (Give a l)) s') ≡ Some Sole) (settled (after w (Give a l)).history) = give_firm in
+      let locked : Each (λ e'. (after w (Give a l)).durable e'.by < e'.op → (l' : LockId) → IsTrue (has_lock l' e'.alone) → (after w (Give a l)).holds e'.by l' ≡ Some Sole) (settled (after w (Give a l)).history) = each_map2 (λ e. w.durable e.by < e.op → (k : LockId) → IsTrue (has_lock k e.alone) → w.holds e.by k ≡ Some Sole) (λ e. e.op ≤ w.last e.by) (λ e. w.durable e.by < e.op → (k : LockId) → IsTrue (has_lock k e.alone) → put_lock w.holds a l None e.by k ≡ Some Sole)
+      (λ e m b n k i. sole e.by k
+      (λ j q. let h : w.holds a l ≡ Some Sole = subst (λ x. w.holds x l ≡ Some Sole) j (subst (λ x. w.holds e.by x ≡ Some Sole) q (m n k i)) in
+      let u : w.last a ≤ w.acked a = can.logged h in
+      let v : w.acked a ≤ w.durable a = g.acks a in
+      let x : w.last e.by ≡ w.last a = ap w.last j in
+      let y : w.durable e.by ≡ w.durable a = ap w.durable j in absurd (omega arith))
+      (m n k i))
+      (settled w.history) g.locked g.below in
+      let flights : (s' : ℕ) (f' : Flight) → (after w (Give a l)).flight s' ≡ Some f' → (after w (Give a l)).now ≤ f'.stamp → FlightOk (after w (Give a l)) s' f' = give_flight in
+      search
 
 lower_held : (x : Slot) (m : Option Mode) → NotDirty x → HeldIf x m → HeldIf x (Some Shared)
 lower_held Absent m n h = tt
