@@ -111,7 +111,7 @@ unfolding kept_world
 is_kept = record {
   run = done_run (Reach 0 1 ∷ Ack 0 1 ∷ Sync 0 ∷ Crash 0 ∷ ticks 31 (Renew 1 ∷ recovery 1 47)) (recovered 1 (after kept_late (Renew 1)))
       (goes (record { more = omega arith; there = omega arith; lease = omega arith })
-      (goes (record { up = refl; there = omega arith })
+      (goes (record { there = omega arith })
       (goes (record { up = refl; acknowledged = omega arith; clean = λ s. tt })
       (goes refl
       (tick_run 31 (after synced (Crash 0)) (recovered 1 (after kept_late (Renew 1))) (Renew 1 ∷ recovery 1 47)
@@ -175,7 +175,7 @@ unfolding late_world
 is_late = record {
   run = done_run (Reach 0 1 ∷ Ack 0 1 ∷ Issue 0 5 changed 1 ∷ ticks 16 (Fade 5 (write 0 16) ∷ [])) (after (record sent { now = 17 }) (Fade 5 (write 0 16)))
       (goes (record { more = omega arith; there = omega arith; lease = omega arith })
-      (goes (record { up = refl; there = omega arith })
+      (goes (record { there = omega arith })
       (goes (record { well = refl; up = refl; dirty = refl; log_first = omega arith; alone = refl })
       (tick_run 16 sent (after (record sent { now = 17 }) (Fade 5 (write 0 16))) (Fade 5 (write 0 16) ∷ [])
       (goes (record { there = refl; late = inl (lit< tt) }) stays)))));
@@ -394,7 +394,7 @@ is_freed = record {
       (goes (record { up = refl; more = λ e. cc; fits = fits_five })
       (goes can_write
       (goes (record { more = omega arith; there = omega arith; lease = omega arith })
-      (goes (record { up = refl; there = omega arith })
+      (goes (record { there = omega arith })
       (goes (record { well = refl; up = refl; dirty = refl; log_before = omega arith; alone = refl })
       (goes can_free
       (goes (record { there = refl; in_time = omega arith }) stays))))))));

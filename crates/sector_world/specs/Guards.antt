@@ -152,7 +152,6 @@ pub record CanReach (w : World) (d k : ℕ) : Type 0 where
   pub lease : w.now ≤ w.expiry d
 
 pub record CanAck (w : World) (a k : ℕ) : Type 0 where
-  pub up : w.phase a ≡ Up
   pub there : k ≤ w.durable a
 
 -- the whole log is acknowledged, and no bytes are dirty but zeros of free sectors
