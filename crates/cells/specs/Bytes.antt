@@ -29,6 +29,7 @@ is_free_by None older = older
 is_free_by (Some (Written block)) older = false
 is_free_by (Some Freed) older = true
 
+-- the sector is free after these
 abbrev pub is_free : (ℕ → Option Block) → List Item → ℕ → Bool
 is_free first [] s = not (is_some (first s))
 is_free first (Done c ∷ h) s = is_free_by (c.writes s) (is_free first h s)

@@ -46,6 +46,7 @@ pub data Item : Type 0 where
 abbrev pub redo_of : Commit → Redo
 redo_of c = record { op = c.op; changes = c.changes }
 
+-- the operations that pass the test, with the marks of doubt
 abbrev pub kept : (Commit → Bool) → List Item → List Item
 kept keep [] = []
 kept keep (Done c ∷ h) = keep_if (keep c) (Done c) (kept keep h)
@@ -97,6 +98,7 @@ logical opening [] s = opening s
 logical opening (Done c ∷ h) s = forced (change_at c.changes s) (logical opening h s)
 logical opening (Doubt m ∷ h) s = logical opening h s
 
+-- the operation is d's, above a number
 abbrev pub is_own : ℕ → ℕ → Commit → Bool
 is_own d floor c = if nat_eq c.by d then nat_lt floor c.op else false
 
@@ -116,9 +118,11 @@ Each P (Doubt m ∷ h) = Each P h
 abbrev pub Changes : ℕ → Commit → Type 0
 Changes s c = IsSome (change_at c.changes s)
 
+-- the operation moves the sector under another lock
 abbrev pub Moves : ℕ → Commit → Type 0
 Moves s c = IsSome (c.moves s)
 
+-- the operation writes the sector's bytes, or frees them
 abbrev pub Writes : ℕ → Commit → Type 0
 Writes s c = IsSome (c.writes s)
 

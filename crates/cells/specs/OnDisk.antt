@@ -11,6 +11,7 @@ abbrev pub Raises : Option Change → Block → Type 0
 Raises None block = Unit {0}
 Raises (Some x) block = version block < x.version
 
+-- along the history each change of the sector raises its version
 abbrev pub Rising : (ℕ → Block) → ℕ → List Item → Type 0
 Rising opening s [] = Unit {0}
 Rising opening s (Done c ∷ h) = Raises (change_at c.changes s) (logical opening h s) × Rising opening s h

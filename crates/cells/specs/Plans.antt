@@ -23,9 +23,11 @@ pub record Outcome : Type 0 where
 abbrev pub Plan : Type 0
 Plan = ℕ → Op → (ℕ → Block) → Outcome
 
+-- what the plan of an operation said
 abbrev pub outcome_of : Commit → Outcome
 outcome_of c = record { reply = c.reply; blocks = c.blocks; looked = c.looked; changes = c.changes; claims = c.claims; moves = c.moves }
 
+-- the outcome says that the plan looked at the sector, or changes it
 abbrev pub looks : Outcome → ℕ → Bool
 looks o s = if is_some (change_at o.changes s) then true else member s o.looked
 

@@ -6,6 +6,7 @@ use Rattle.cells.specs.Histories.{Commit, Item, Entry, settled, Each, Changes, M
 use Rattle.cells.specs.Histories.Item.{Done, Doubt}
 use Rattle.cells.specs.Histories.Entry.{Did, Recovered, Synced, Mounted}
 
+-- the lock that covers a sector after a move, or after none
 abbrev pub moved : Option LockId → LockId → LockId
 moved None lock = lock
 moved (Some new) lock = new

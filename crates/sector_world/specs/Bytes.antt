@@ -36,12 +36,14 @@ PendingBytes w s a h = record {
   read : (Writes s a → ⊥) → (in_doubt a.by (w.synced a.by) h s ≡ true) ⊎ (is_free w.first h s ≡ true);
 }
 
+-- a cached sector's cover is held, that of a dirty or freed one alone
 abbrev pub PageHeld : Page → Option Mode → Type 0
 PageHeld NoPage mode = Unit {0}
 PageHeld (CleanPage block) mode = mode ≢ None
 PageHeld (DirtyPage block mark) mode = mode ≡ Some Sole
 PageHeld (FreedPage mark) mode = mode ≡ Some Sole
 
+-- who isn't up has no pages
 abbrev pub PageUnlessUp : Phase → Page → Type 0
 PageUnlessUp Off page = page ≡ NoPage
 PageUnlessUp Up page = Unit {0}
@@ -77,6 +79,7 @@ ByteFlightOk w s f = record {
   loose : IsLoose (w.phase f.by) (w.page f.by s);
 }
 
+-- what every step keeps of file bytes
 abbrev pub Bytes : World → Type 0
 Bytes w = record {
   not_up : (a s : ℕ) → PageUnlessUp (w.phase a) (w.page a s);

@@ -43,6 +43,7 @@ pub record IsPlain (w : World) (s : ℕ) (f : ByteFlight) : Type 0 where
   pub leased : w.now ≤ w.expiry f.by
   pub untaken : w.taker f.by ≡ None
 
+-- so does each write that an event brings to the disk
 abbrev pub Orderly : World → Event → Type 0
 Orderly w (Land s f) = IsOrdered w s f
 Orderly w (BreakNew s f) = IsOrdered w s f
@@ -54,6 +55,7 @@ Orderly w e = Unit {0}
 abbrev pub came : ℕ → Block → ℕ → Option Block
 came t block s = if nat_eq t s then Some block else None
 
+-- the block that this event brings to the sector
 abbrev pub brings : Event → ℕ → Option Block
 brings (Land t f) s = came t f.block s
 brings (BreakNew t f) s = came t f.block s
@@ -61,6 +63,7 @@ brings (LandBytes t f) s = came t f.block s
 brings (BreakBytesNew t f) s = came t f.block s
 brings e s = None
 
+-- the block that came, or the old one
 abbrev pub or_else : Option Block → Block → Block
 or_else None old = old
 or_else (Some block) old = block
@@ -74,6 +77,7 @@ abbrev pub EachNames : (Change → Type 0) → List Redo → ℕ → Type 0
 EachNames P [] s = Unit {0}
 EachNames P (r ∷ rs) s = ((x : Change) → change_at r.changes s ≡ Some x → P x) × EachNames P rs s
 
+-- what holds after every run
 pub record Holds (w : World) : Type 0 where
   -- no lock is held alone by one server and in any mode by another, and who is off holds none
   pub compatible : (a b : ℕ) (l : LockId) → w.holds a l ≡ Some Sole → w.holds b l ≢ None → a ≡ b

@@ -27,6 +27,7 @@ begin = start 3 (λ s. zeros) (λ s. nat_lt s 8) (λ s. nat_eq s 9) (λ s. Node 
 abbrev pub change : Change
 change = record { sector = record { 0 = 5 }; version = 1; patches = [] }
 
+-- sector 5 after the change
 abbrev pub changed : Block
 changed = edited change zeros
 
@@ -58,6 +59,7 @@ ticks (suc n) es = Tick ∷ ticks n es
 abbrev pub done : List Event → List Event
 done es = Mount 0 ∷ Mount 1 ∷ Mount 2 ∷ Take 0 (Node 5) Sole ∷ Fetch 0 5 ∷ Do deed ∷ es
 
+-- the recovery of server 0's log by b, at its beginning
 abbrev pub rescue : ℕ → Rescue
 rescue b = record { dead = 0; by = b; told = λ s. Unread }
 
@@ -65,6 +67,7 @@ rescue b = record { dead = 0; by = b; told = λ s. Unread }
 abbrev pub wanted : ℕ → Rescue
 wanted b = record { dead = 0; by = b; told = put (λ s. Unread) 5 (Wanted changed) }
 
+-- and has written it
 abbrev pub placed : ℕ → Rescue
 placed b = record { dead = 0; by = b; told = put (put (λ s. Unread) 5 (Wanted changed)) 5 InPlace }
 
@@ -86,6 +89,7 @@ IsEmpty (Doubt m ∷ h) = IsEmpty h
 abbrev pub lost : List Event
 lost = done (Crash 0 ∷ ticks 31 (Begin 0 1 ∷ Finish (rescue 1) ∷ []))
 
+-- the run leads here, where no operation is left and the disk is as it was
 pub record IsLostRun (w : World) : Type 0 where
   pub run : Run begin lost w
   pub none : IsEmpty (settled w.history)
@@ -95,6 +99,7 @@ pub record IsLostRun (w : World) : Type 0 where
 abbrev pub kept : List Event
 kept = done (Reach 0 1 ∷ Ack 0 1 ∷ Sync 0 ∷ Crash 0 ∷ ticks 31 (Renew 1 ∷ recovery 1 47))
 
+-- the run leads here, where the operation is left and the disk has its change
 pub record IsKeptRun (w : World) : Type 0 where
   pub run : Run begin kept w
   pub there : (m : ℕ → Bool) × (settled w.history ≡ Doubt m ∷ Done deed ∷ [])
@@ -105,6 +110,7 @@ abbrev pub twice : List Event
 twice = done (Reach 0 1 ∷ Crash 0 ∷ ticks 31 (Renew 1 ∷ Begin 0 1 ∷ Look (rescue 1) 5 ∷ Replay (wanted 1) 5 changed ∷ Crash 1
     ∷ ticks 31 (Renew 2 ∷ Fade 5 (write 1 47) ∷ recovery 2 78)))
 
+-- the run leads here, where the operation is left and the disk has its change
 pub record IsTwiceRun (w : World) : Type 0 where
   pub run : Run begin twice w
   pub there : (m : ℕ → Bool) × (settled w.history ≡ Doubt m ∷ Done deed ∷ [])
@@ -114,6 +120,7 @@ pub record IsTwiceRun (w : World) : Type 0 where
 abbrev pub late : List Event
 late = done (Reach 0 1 ∷ Ack 0 1 ∷ Issue 0 5 changed 1 ∷ ticks 16 (Fade 5 (write 0 16) ∷ []))
 
+-- the run leads here
 pub record IsLateRun (w : World) : Type 0 where
   pub run : Run begin late w
   pub dirty : w.slot 0 5 ≡ Dirty changed 1
@@ -123,6 +130,7 @@ pub record IsLateRun (w : World) : Type 0 where
 abbrev pub bytes : Block
 bytes = 7 ∷ []
 
+-- an operation of server 0 that writes them to sector 9
 abbrev pub scribble : Commit
 scribble = record {
   by = 0;
@@ -164,9 +172,11 @@ reading = record {
 abbrev pub doubted : List Event
 doubted = Mount 0 ∷ Mount 1 ∷ Take 0 (Node 9) Sole ∷ Do scribble ∷ Reach 0 1 ∷ Crash 0 ∷ ticks 31 (Begin 0 1 ∷ Finish (rescue 1) ∷ [])
 
+-- and is read
 abbrev pub read : List Event
 read = Take 1 (Node 9) Shared ∷ FetchBytes 1 9 ∷ Do reading ∷ []
 
+-- the runs lead to v, where the bytes are unknown, and on to w, where they are known
 pub record IsReadRun (v w : World) : Type 0 where
   pub doubt : Run begin doubted v
   pub unknown : value v.first (settled v.history) 9 ≡ None
@@ -177,6 +187,7 @@ pub record IsReadRun (v w : World) : Type 0 where
 abbrev pub change_8 : Change
 change_8 = record { sector = record { 0 = 8 }; version = 1; patches = [] }
 
+-- an operation of server 0 that makes sector 8 one with versions, under another lock
 abbrev pub claim : Commit
 claim = record {
   by = 0;
@@ -195,9 +206,11 @@ claim = record {
   alone = Node 8 ∷ Node 5 ∷ [];
 }
 
+-- zeros are written to sector 8, and come, before the operation
 abbrev pub claimed : List Event
 claimed = Mount 0 ∷ Take 0 (Node 8) Sole ∷ Take 0 (Node 5) Sole ∷ Clear 0 8 ∷ IssueBytes 0 8 zeros 0 ∷ LandBytes 8 (record { by = 0; stamp = 16; block = zeros }) ∷ Fetch 0 8 ∷ Do claim ∷ []
 
+-- the run leads here, where sector 8 has a version, another cover, and no page
 pub record IsClaimedRun (w : World) : Type 0 where
   pub run : Run begin claimed w
   pub versioned : has_version w 8 ≡ true
@@ -227,6 +240,7 @@ freeing = record {
 abbrev pub freed : List Event
 freed = Mount 0 ∷ Take 0 (Node 9) Sole ∷ Take 0 (Node 5) Sole ∷ Do scribble ∷ Reach 0 1 ∷ Ack 0 1 ∷ IssueBytes 0 9 bytes 1 ∷ Do freeing ∷ LandBytes 9 (record { by = 0; stamp = 16; block = bytes }) ∷ []
 
+-- the run leads here, where sector 9 is free and has the bytes that came
 pub record IsFreedRun (w : World) : Type 0 where
   pub run : Run begin freed w
   pub free : is_free w.first (settled w.history) 9 ≡ true

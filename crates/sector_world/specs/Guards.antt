@@ -23,11 +23,13 @@ Fits Sole (Some Shared) = ⊥
 Fits Shared (Some Sole) = ⊥
 Fits Sole (Some Sole) = ⊥
 
+-- the slot isn't dirty
 abbrev pub NotDirty : Slot → Type 0
 NotDirty Absent = Unit {0}
 NotDirty (Clean block) = Unit {0}
 NotDirty (Dirty block mark) = ⊥
 
+-- the page isn't dirty
 abbrev pub NoDirtyPage : Page → Type 0
 NoDirtyPage NoPage = Unit {0}
 NoDirtyPage (CleanPage block) = Unit {0}
@@ -71,6 +73,7 @@ abbrev pub IsBelow : Option Change → ℕ → Type 0
 IsBelow None n = Unit {0}
 IsBelow (Some x) n = x.version ≤ n
 
+-- so is each of these records up to k
 abbrev pub AreBelow : ℕ → List Redo → ℕ → ℕ → Type 0
 AreBelow k [] s n = Unit {0}
 AreBelow k (r ∷ rs) s n = (r.op ≤ k → IsBelow (change_at r.changes s) n) × AreBelow k rs s n
@@ -84,10 +87,12 @@ NoneNames (r ∷ rs) s = (change_at r.changes s ≡ None) × NoneNames rs s
 abbrev pub to_replay : World → ℕ → List Redo
 to_replay w d = up_to (w.durable d) (w.log d)
 
+-- an up server's lease grows
 pub record CanRenew (w : World) (a : ℕ) : Type 0 where
   pub up : w.phase a ≡ Up
   pub later : w.expiry a < w.now + 30
 
+-- a server that is off, and whose log is replayed with the others, mounts
 pub record CanMount (w : World) (a : ℕ) : Type 0 where
   pub off : w.phase a ≡ Off
   pub known : a < w.servers
@@ -99,6 +104,7 @@ pub record CanUnmount (w : World) (a : ℕ) : Type 0 where
   pub logged : w.last a ≤ w.acked a
   pub resting : (r : Rescue) → w.rescue ≡ Some r → r.by ≢ a
 
+-- a lock is taken that fits beside what the others hold
 pub record CanTake (w : World) (a : ℕ) (l : LockId) (mode : Mode) : Type 0 where
   pub up : w.phase a ≡ Up
   pub more : w.holds a l ≢ Some Sole
@@ -114,6 +120,7 @@ pub record CanGive (w : World) (a : ℕ) (l : LockId) : Type 0 where
   pub landed_bytes : (s : ℕ) (f : ByteFlight) → cover w s ≡ l → w.byte_flight s ≡ Some f → w.now ≤ f.stamp → f.by ≢ a
   pub logged : w.holds a l ≡ Some Sole → w.last a ≤ w.acked a
 
+-- a lock that is held alone is held shared from now on, as it might be given
 pub record CanLower (w : World) (a : ℕ) (l : LockId) : Type 0 where
   pub give : CanGive w a l
   pub alone : w.holds a l ≡ Some Sole
@@ -125,6 +132,7 @@ pub record CanClaim (w : World) (c : Commit) (s : ℕ) : Type 0 where
   pub cleared : w.page c.by s ≡ CleanPage zeros
   pub moved : Moves s c
 
+-- an operation is done over what its server has cached
 pub record CanDo (w : World) (c : Commit) : Type 0 where
   pub up : w.phase c.by ≡ Up
   pub number : w.last c.by < c.op
@@ -151,6 +159,7 @@ pub record CanReach (w : World) (d k : ℕ) : Type 0 where
   pub there : k ≤ w.last d
   pub lease : w.now ≤ w.expiry d
 
+-- a server knows of its log only what is on the disk
 pub record CanAck (w : World) (a k : ℕ) : Type 0 where
   pub there : k ≤ w.durable a
 
@@ -160,29 +169,34 @@ pub record CanSync (w : World) (a : ℕ) : Type 0 where
   pub acknowledged : w.last a ≤ w.acked a
   pub clean : (s : ℕ) → DirtyIfFree (w.page a s) (is_free w.first (settled w.history) s)
 
+-- the records up to k are given up: each sector that they name is in place
 pub record CanReclaim (w : World) (a k : ℕ) : Type 0 where
   pub up : w.phase a ≡ Up
   pub more : w.floor a ≤ k
   pub there : k ≤ w.last a
   pub written : (s : ℕ) → AreBelow k (w.log a) s (version (w.disk s))
 
+-- a dead server's lease has ended, and so has the hold on its log of who took it before
 pub record CanBegin (w : World) (d b : ℕ) : Type 0 where
   pub dead : w.phase d ≡ Dead
   pub ended : w.expiry d < w.now
   pub given_up : w.until d < w.now
   pub up : w.phase b ≡ Up
 
+-- each sector that a record names was found or written
 pub record CanFinish (w : World) (r : Rescue) : Type 0 where
   pub going : w.rescue ≡ Some r
   pub all : (s : ℕ) → (r.told s ≡ InPlace) ⊎ NoneNames (to_replay w r.dead) s
 
 -- a sector with a version
 
+-- a sector that isn't cached, under a lock that is held
 pub record CanFetch (w : World) (a s : ℕ) : Type 0 where
   pub up : w.phase a ≡ Up
   pub held : w.holds a (cover w s) ≢ None
   pub absent : w.slot a s ≡ Absent
 
+-- a dirty sector whose record is known to be on the disk, by a server no put of which failed, with no write of it in flight
 pub record CanIssue (w : World) (a s : ℕ) (block : Block) (mark : ℕ) : Type 0 where
   pub well : w.sick a ≡ false
   pub up : w.phase a ≡ Up
@@ -190,6 +204,7 @@ pub record CanIssue (w : World) (a s : ℕ) (block : Block) (mark : ℕ) : Type 
   pub log_first : mark ≤ w.acked a
   pub alone : w.flight s ≡ None
 
+-- a sector that the recovery wants written, with no write of it in flight
 pub record CanReplay (w : World) (r : Rescue) (s : ℕ) (block : Block) : Type 0 where
   pub going : w.rescue ≡ Some r
   pub wanted : r.told s ≡ Wanted block
@@ -207,6 +222,7 @@ pub record CanFade (w : World) (s : ℕ) (f : Flight) : Type 0 where
 
 -- a sector of bytes
 
+-- a sector of bytes that count, not cached, under a lock that is held
 pub record CanFetchBytes (w : World) (a s : ℕ) : Type 0 where
   pub up : w.phase a ≡ Up
   pub held : w.holds a (cover w s) ≢ None
@@ -221,6 +237,7 @@ pub record CanClear (w : World) (a s : ℕ) : Type 0 where
   pub plain : has_version w s ≡ false
   pub free : is_free w.first (settled w.history) s ≡ true
 
+-- a dirty sector whose last operation is known to be in the log on the disk, with no write of it in flight
 pub record CanIssueBytes (w : World) (a s : ℕ) (block : Block) (mark : ℕ) : Type 0 where
   pub well : w.sick a ≡ false
   pub up : w.phase a ≡ Up
@@ -228,10 +245,12 @@ pub record CanIssueBytes (w : World) (a s : ℕ) (block : Block) (mark : ℕ) : 
   pub log_before : mark ≤ w.acked a
   pub alone : w.byte_flight s ≡ None
 
+-- a write of bytes comes to the disk in time
 pub record CanLandBytes (w : World) (s : ℕ) (f : ByteFlight) : Type 0 where
   pub there : w.byte_flight s ≡ Some f
   pub in_time : w.now ≤ f.stamp
 
+-- a write of bytes comes too late, or is lost with its server
 pub record CanFadeBytes (w : World) (s : ℕ) (f : ByteFlight) : Type 0 where
   pub there : w.byte_flight s ≡ Some f
   pub late : (f.stamp < w.now) ⊎ (w.phase f.by ≡ Dead)

@@ -40,6 +40,7 @@ Pending w s c = record {
   covered : Covers (w.phase c.by) (w.slot c.by s) c.op;
 }
 
+-- a cached sector's cover is held, that of a dirty one alone
 abbrev pub HeldIf : Slot → Option Mode → Type 0
 HeldIf Absent mode = Unit {0}
 HeldIf (Clean block) mode = mode ≢ None
@@ -57,11 +58,13 @@ IsNewer old Absent = Unit {0}
 IsNewer old (Clean block) = Unit {0}
 IsNewer old (Dirty block mark) = version old < version block
 
+-- who is off holds no lock
 abbrev pub NoneIfOff : Phase → Option Mode → Type 0
 NoneIfOff Off mode = mode ≡ None
 NoneIfOff Up mode = Unit {0}
 NoneIfOff Dead mode = Unit {0}
 
+-- who isn't up has nothing cached
 abbrev pub AbsentUnlessUp : Phase → Slot → Type 0
 AbsentUnlessUp Off slot = slot ≡ Absent
 AbsentUnlessUp Up slot = Unit {0}
@@ -75,12 +78,14 @@ Agrees Up Absent f = ⊥
 Agrees Up (Clean block) f = ⊥
 Agrees Up (Dirty block mark) f = (block ≡ f) ⊎ (version f < version block)
 
+-- a write in flight is its server's own
 abbrev pub IsOwn : World → ℕ → Flight → Type 0
 IsOwn w s f = record {
   same : f.by ≡ f.behalf;
   agrees : Agrees (w.phase f.by) (w.slot f.by s) f.block;
 }
 
+-- a write in flight is of the recovery that was begun last of a dead server's log
 abbrev pub IsRescue : World → ℕ → Flight → Type 0
 IsRescue w s f = record {
   dead : w.phase f.behalf ≡ Dead;
@@ -101,11 +106,13 @@ FlightOk w s f = record {
   source : IsOwn w s f ⊎ IsRescue w s f;
 }
 
+-- what a recovery has found is what a replay makes of the disk's sector
 abbrev pub ToldOk : Told → Block → Block → Type 0
 ToldOk Unread old new = Unit {0}
 ToldOk (Wanted block) old new = (block ≡ new) × (version old < version new)
 ToldOk InPlace old new = new ≡ old
 
+-- the recovery under way is of a dead server whose lease ended, by one that is up and took the log last
 abbrev pub RescueOk : World → Rescue → Type 0
 RescueOk w r = record {
   dead : w.phase r.dead ≡ Dead;
@@ -116,6 +123,7 @@ RescueOk w r = record {
   told : (s : ℕ) → ToldOk (r.told s) (w.disk s) (redo_all (to_replay w r.dead) s (w.disk s));
 }
 
+-- what every step keeps of the sectors with versions, of locks, leases and logs
 abbrev pub Logged : World → Type 0
 Logged w = record {
   logs : (d : ℕ) → w.log d ≡ own d (w.floor d) (settled w.history);

@@ -20,6 +20,7 @@ pub record IsPlanned (plan : Plan) (w : World) (c : Commit) : Type 0 where
   pub outcome : outcome_of c ≡ plan c.op c.asked (λ s. cached (w.opening s) (w.slot c.by s))
   pub there : (s : ℕ) → IsTrue (touches c s) → w.slot c.by s ≢ Absent
 
+-- if the event is an operation, it is planned
 abbrev pub PlannedIf : Plan → World → Event → Type 0
 PlannedIf plan w (Do c) = IsPlanned plan w c
 PlannedIf plan w e = Unit {0}

@@ -16,6 +16,7 @@ use Rattle.sector_world.specs.World.Page.{NoPage, CleanPage, DirtyPage, FreedPag
 use Rattle.sector_world.specs.World.Told.{Unread, Wanted, InPlace}
 use Rattle.sector_world.specs.Guards.{to_replay, CanRenew, CanMount, CanUnmount, CanTake, CanGive, CanLower, CanDo, CanReach, CanAck, CanSync, CanReclaim, CanBegin, CanFinish, CanFetch, CanIssue, CanReplay, CanLand, CanFade, CanFetchBytes, CanClear, CanIssueBytes, CanLandBytes, CanFadeBytes, CanSettle}
 
+-- what may happen; `a` is a server, `s` a sector, `d` a log's server
 pub data Event : Type 0 where
   Tick : Event
   Leave : Event
@@ -50,6 +51,7 @@ pub data Event : Type 0 where
   BreakBytesNew : (s : ℕ) → (f : ByteFlight) → Event
   Settle : (a s : ℕ) → (block : Block) → (mark : ℕ) → Event
 
+-- when it may happen
 abbrev pub Can : World → Event → Type 0
 Can w Tick = Unit {0}
 Can w Leave = Unit {0}
@@ -84,6 +86,7 @@ Can w (BreakBytes s f) = CanLandBytes w s f
 Can w (BreakBytesNew s f) = CanLandBytes w s f
 Can w (Settle a s block mark) = CanSettle w a s block mark
 
+-- the slot after an operation that changes the sector, or doesn't
 abbrev pub changed : Option Change → ℕ → Slot → Slot
 changed None op slot = slot
 changed (Some x) op Absent = Absent
@@ -121,6 +124,7 @@ page_filled None op page = page
 page_filled (Some (Written block)) op page = DirtyPage block op
 page_filled (Some Freed) op page = FreedPage op
 
+-- the page after an operation that claims the sector, writes or frees its bytes, or does neither
 abbrev pub page_done : Bool → Option Fill → ℕ → Page → Page
 page_done claimed fill op page = if claimed then NoPage else page_filled fill op page
 
@@ -150,6 +154,7 @@ truth_left None bytes truth = truth
 truth_left (Some Shared) bytes truth = truth
 truth_left (Some Sole) bytes truth = bytes
 
+-- the world after an event
 abbrev pub after : World → Event → World
 after w Tick = record w { now = w.now + 1 }
 -- a recovery isn't gone on with

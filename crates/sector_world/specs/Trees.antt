@@ -31,6 +31,7 @@ pub record Meets (Tree : Type 0) (plan : Plan) (stands : (ℕ → Block) → Tre
   pub next : stands (λ s. forced (change_at (plan n op disk).changes s) (disk s)) (apply n op (plan n op disk).blocks tree).tree ≡ true
   pub others : (m : ℕ) → m ≢ n → fresh m tree ≡ true → fresh m (apply n op (plan n op disk).blocks tree).tree ≡ true
 
+-- so it is for every operation, tree and disk
 abbrev pub MeetsTree : (Tree : Type 0) → Plan → ((ℕ → Block) → Tree → Bool) → Apply Tree → (ℕ → Tree → Bool) → Type 0
 MeetsTree Tree plan stands apply fresh = (n : ℕ) (op : Op) (tree : Tree) (disk : ℕ → Block) → stands disk tree ≡ true → fresh n tree ≡ true → Meets Tree plan stands apply fresh n op tree disk
 
@@ -39,10 +40,12 @@ pub record IsNew (Tree : Type 0) (fresh : ℕ → Tree → Bool) (first : Tree) 
   pub unused : fresh c.op first ≡ true
   pub others : Each (λ e. e.op ≢ c.op) (settled w.history)
 
+-- if the event is an operation, its number is new
 abbrev pub NewIf : (Tree : Type 0) → (ℕ → Tree → Bool) → Tree → World → Event → Type 0
 NewIf Tree fresh first w (Do c) = IsNew Tree fresh first w c
 NewIf Tree fresh first w e = Unit {0}
 
+-- so are those of all operations of a run
 abbrev pub AreNew : (Tree : Type 0) → (ℕ → Tree → Bool) → Tree → World → List Event → Type 0
 AreNew Tree fresh first w [] = Unit {0}
 AreNew Tree fresh first w (e ∷ es) = NewIf Tree fresh first w e × AreNew Tree fresh first (after w e) es
@@ -73,6 +76,7 @@ with_versions w h disk s = if is_logged w.logged h s then disk s else zeros
 abbrev pub first_disk : (ℕ → Bool) → (ℕ → Block) → ℕ → Block
 first_disk logged disk s = if logged s then disk s else zeros
 
+-- what holds of trees after a run
 pub record Stand (Tree : Type 0) (stands : (ℕ → Block) → Tree → Bool) (apply : Apply Tree) (first : Tree) (w : World) : Type 0 where
   -- the answers are those of one tree, also without what recoveries of all logs would remove
   pub answers : Answers apply first (settled w.history)

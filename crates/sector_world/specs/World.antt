@@ -8,6 +8,7 @@ use Rattle.cells.specs.Changes.{Redo}
 use Rattle.cells.specs.Histories.{Entry, settled, is_logged}
 use Rattle.cells.specs.Seen.{cover_of}
 
+-- a server isn't mounted, is mounted, or died and isn't recovered
 pub data Phase : Type 0 where
   Off : Phase
   Up : Phase
@@ -51,6 +52,7 @@ pub record Rescue : Type 0 where
   pub by : ℕ
   pub told : ℕ → Told
 
+-- the state of all
 pub record World : Type 0 where
   pub servers : ℕ
   -- the start: the sectors with versions (zeros elsewhere), which they are, the bytes of files, and the covers
