@@ -28,9 +28,10 @@ use Rattle.sector_world.proofs.BytesDoing.{bytes_do}
 use Rattle.sector_world.proofs.BytesFinishing.{bytes_finish}
 use Rattle.sector_world.proofs.Versioned.{kinds_tick, kinds_give, kinds_lower, kinds_crash, kinds_reach, kinds_do, kinds_finish, kinds_fetch, kinds_clear, kinds_settle, kinds_issue, kinds_fade, kinds_break, kinds_land, kinds_break_new}
 
-some_is : (b : Bool) (x u : Block) → (if b then Some x else None) ≡ Some u → u ≡ x
-some_is true x u e = cc
-some_is false x u e = cc
+some_is : (l b : Bool) (x u : Block) → (if l then None else (if b then Some x else None)) ≡ Some u → u ≡ (if l then zeros else x)
+some_is true b x u e = cc
+some_is false true x u e = cc
+some_is false false x u e = cc
 
 none_logged : (b : Bool) (x : Block) → b ≡ false → (if b then x else zeros) ≡ zeros
 none_logged true x e = cc
@@ -75,9 +76,9 @@ module _ (servers : ℕ) (disk : ℕ → Block) (logged of_files : ℕ → Bool)
     copies = λ a s. tt;
     clean = λ a s. tt;
     dirtied = λ a s. tt;
-    knows = λ s u fr e. some_is (of_files s) (disk s) u e;
+    knows = λ s u fr e. some_is (logged s) (of_files s) (disk s) u e;
     still = λ s fr f. refl;
-    place = λ s. here (λ u fr e. some_is (of_files s) (disk s) u e) tt;
+    place = λ s. here (λ u fr e. some_is (logged s) (of_files s) (disk s) u e) tt;
     synced = λ d. le_refl 0;
     counted = λ d. refl;
     flights = λ s f e n. absurd (cc);

@@ -91,13 +91,13 @@ pub record World : Type 0 where
   -- what was done, the newest entry first
   pub history : List Entry
 
--- the world at the start: the disk, which of its sectors have versions, which are of files, and the covers
+-- the world at the start: the disk, which of its sectors have versions, which of the others are of files, and the covers
 abbrev pub start : ℕ → (ℕ → Block) → (ℕ → Bool) → (ℕ → Bool) → (ℕ → LockId) → World
 start servers disk logged of_files home = record {
   servers = servers;
   opening = λ s. if logged s then disk s else zeros;
   logged = logged;
-  first = λ s. if of_files s then Some (disk s) else None;
+  first = λ s. if logged s then None else (if of_files s then Some (disk s) else None);
   home = home;
   now = 1;
   expiry = λ d. 0;
@@ -115,8 +115,8 @@ start servers disk logged of_files home = record {
   disk = λ s. if logged s then disk s else zeros;
   slot = λ d s. Absent;
   flight = λ s. None;
-  bytes = disk;
-  truth = disk;
+  bytes = λ s. if logged s then zeros else disk s;
+  truth = λ s. if logged s then zeros else disk s;
   page = λ d s. NoPage;
   byte_flight = λ s. None;
   synced = λ d. 0;
