@@ -18,7 +18,7 @@ use Rattle.sector_world.specs.Guards.{Fits, Based, Owned, MovesOwned, Shows, Non
 use Rattle.sector_world.specs.Steps.{Event, after, Run}
 use Rattle.sector_world.specs.Steps.Event.{Tick, Renew, Mount, Take, Do, Reach, Ack, Sync, Crash, Begin, Look, Finish, Fetch, Issue, Replay, Land, Fade, FetchBytes, Clear, IssueBytes, LandBytes}
 use Rattle.sector_world.specs.Steps.Run.{stays, goes}
-use Rattle.sector_world.specs.Examples.{freeing, IsFreedRun, begin, change, changed, deed, ticks, done, rescue, wanted, placed, write, recovery, IsLostRun, IsKeptRun, IsTwiceRun, IsLateRun, bytes, scribble, reading, IsReadRun, change_8, claim, IsClaimedRun}
+use Rattle.sector_world.specs.Examples.{releasing, change_again, released_cover, retaking, IsRetakenRun, freeing, IsFreedRun, begin, change, changed, deed, ticks, done, rescue, wanted, placed, write, recovery, IsLostRun, IsKeptRun, IsTwiceRun, IsLateRun, bytes, scribble, reading, IsReadRun, change_8, claim, IsClaimedRun}
 
 tick_run : (n : ℕ) (w v : World) (es : List Event) → Run (record w { now = w.now + n }) es v → Run w (ticks n es) v
 tick_run zero w v es r = subst (λ n. Run (record w { now = n }) es v) (add-zero w.now) r
@@ -405,3 +405,78 @@ is_freed = record {
   where
     fits_five : (b : ℕ) → b ≢ 0 → Fits Sole (put_lock (λ d k. None) 0 (Node 9) (Some Sole) b (Node 5))
     fits_five b n = at_lock (λ m. Fits Sole m) (λ d k. None) 0 (Node 9) (Some Sole) b (Node 5) (λ e j. absurd (n e)) (λ j. tt)
+
+abbrev both_taken : World
+both_taken = after (after (after (after begin (Mount 0)) (Take 0 (Node 5) Sole)) (Take 0 (Node 6) Sole)) (Fetch 0 5)
+
+pair_of : (l : LockId) → IsTrue (has_lock l (Node 5 ∷ Node 6 ∷ [])) → (Node 5 ≡ l) ⊎ (Node 6 ≡ l)
+pair_of l i = by_test (λ b. b ≡ true → (Node 5 ≡ l) ⊎ (Node 6 ≡ l)) true (has_lock l (Node 6 ∷ [])) (same_lock (Node 5) l) (λ e j. inl (lock_of (Node 5) l e)) (λ e j. inr (one_lock 6 l j)) i
+
+pair_sole : (l : LockId) → (Node 5 ≡ l) ⊎ (Node 6 ≡ l) → both_taken.holds 0 l ≡ Some Sole
+pair_sole l d = ⊎_elim (λ e. subst (λ x. both_taken.holds 0 x ≡ Some Sole) e refl) (λ e. subst (λ x. both_taken.holds 0 x ≡ Some Sole) e refl) d
+
+at_moved : (P : Option LockId → Type 0) (l : LockId) (s : ℕ) → (5 ≡ s → P (Some l)) → P None → P (if nat_eq s 5 then Some l else None)
+at_moved P l s f n = by_test P (Some l) None (nat_eq s 5) (λ e. f (sym (eq_of s 5 e))) (λ e. n)
+
+can_release : CanDo both_taken releasing
+can_release = record {
+  up = refl;
+  number = lit< tt;
+  used = λ l i. sole_held (both_taken.holds 0 l) (pair_sole l (pair_of l i));
+  alone = λ l i. pair_sole l (pair_of l i);
+  looked = λ s. at_five (λ o. IsTrue (if is_some o then true else false) → both_taken.holds 0 (Node s) ≢ None) s (λ e i. sole_held (both_taken.holds 0 (Node s)) (pair_sole (Node s) (inl (node_five s e)))) (λ i. cc);
+  owned = λ s. at_five (λ o. Owned o (both_taken.holds 0 (Node s))) s (λ e. pair_sole (Node s) (inl (node_five s e))) tt;
+  based = λ s. at_five (λ o. Based o (both_taken.slot 0 s)) s
+      (λ e. at_put2 (λ x. Based (Some change) x) (λ d k. Absent) 0 5 (Clean zeros) 0 s (λ i j. lit< tt) (λ n. absurd (n refl (sym e)))) tt;
+  moves = λ s. at_moved (λ o. MovesOwned o (both_taken.holds 0 (Node s)) (both_taken.holds 0)) (Node 6) s (λ e. (pair_sole (Node s) (inl (node_five s e)), refl)) tt;
+  claims = λ s e. absurd (cc);
+  named = λ s. at_five (λ o. IsSome o → nat_lt s 8 ≡ true) s (λ e i. subst (λ x. nat_lt x 8 ≡ true) e refl) (λ i. absurd (cc));
+  plain = λ s i. absurd (cc);
+  sees = λ s. refl;
+  written = λ s i. absurd (cc);
+  shows = λ s. tt;
+}
+
+abbrev released : World
+released = after both_taken (Do releasing)
+
+at_again : (P : Option Change → Type 0) (s : ℕ) → (5 ≡ s → P (Some change_again)) → P None → P (change_at retaking.changes s)
+at_again P s f n = by_test P (Some change_again) None (nat_eq 5 s) (λ e. f (eq_of 5 s e)) (λ e. n)
+
+six : (s : ℕ) → 5 ≡ s → Node 6 ≡ released_cover s
+six s e = subst (λ x. Node 6 ≡ released_cover x) e refl
+
+can_retake : CanDo released retaking
+can_retake = record {
+  up = refl;
+  number = lit< tt;
+  used = λ l i. sole_held (released.holds 0 l) (pair_sole l (pair_of l i));
+  alone = λ l i. pair_sole l (pair_of l i);
+  looked = λ s. at_again (λ o. IsTrue (if is_some o then true else false) → released.holds 0 (released_cover s) ≢ None) s (λ e i. sole_held (released.holds 0 (released_cover s)) (pair_sole (released_cover s) (inr (six s e)))) (λ i. cc);
+  owned = λ s. at_again (λ o. Owned o (released.holds 0 (released_cover s))) s (λ e. pair_sole (released_cover s) (inr (six s e))) tt;
+  based = λ s. at_again (λ o. Based o (released.slot 0 s)) s (λ e. subst (λ x. Based (Some change_again) (released.slot 0 x)) e (lit< tt)) tt;
+  moves = λ s. at_moved (λ o. MovesOwned o (released.holds 0 (released_cover s)) (released.holds 0)) (Node 5) s (λ e. (pair_sole (released_cover s) (inr (six s e)), refl)) tt;
+  claims = λ s e. absurd (cc);
+  named = λ s. at_again (λ o. IsSome o → nat_lt s 8 ≡ true) s (λ e i. subst (λ x. nat_lt x 8 ≡ true) e refl) (λ i. absurd (cc));
+  plain = λ s i. absurd (cc);
+  sees = λ s. refl;
+  written = λ s i. absurd (cc);
+  shows = λ s. tt;
+}
+
+pub retaken_world : World
+retaken_world = after released (Do retaking)
+
+pub is_retaken : IsRetakenRun retaken_world
+unfolding retaken_world
+is_retaken = record {
+  run = goes (record { off = refl; known = lit< tt }) (goes (record { up = refl; more = λ e. cc; fits = λ b n. tt })
+      (goes (record { up = refl; more = λ e. cc; fits = fits_six })
+      (goes (record { up = refl; held = λ e. cc; absent = refl })
+      (goes can_release (goes can_retake stays)))));
+  moved = refl;
+  dirty = refl;
+}
+  where
+    fits_six : (b : ℕ) → b ≢ 0 → Fits Sole (put_lock (λ d k. None) 0 (Node 5) (Some Sole) b (Node 6))
+    fits_six b n = at_lock (λ m. Fits Sole m) (λ d k. None) 0 (Node 5) (Some Sole) b (Node 6) (λ e j. absurd (n e)) (λ j. tt)

@@ -2,6 +2,7 @@
 -- each has a lock of its own.
 use Rattle.std.specs.Prelude.{ℕ, zero, suc, ◌≡◌, Bool, true, false, List, [], ◌∷◌, Some, None, nat_eq, nat_lt, if◌then◌else◌}
 use Rattle.frang_base.specs.declared.change.Change.{Change}
+use Rattle.frang_base.specs.declared.lock.LockId.{LockId}
 use Rattle.frang_base.specs.declared.lock.LockId.TheVariants.{Node}
 use Rattle.frang_base.specs.declared.lock.Mode.TheVariants.{Shared, Sole}
 use Rattle.frang_base.specs.declared.op.Op.TheVariants as op
@@ -9,6 +10,7 @@ use Rattle.frang_base.specs.declared.reply.Reply.TheVariants as reply
 use Rattle.cells.specs.Blocks.{Block, zeros, edited}
 use Rattle.cells.specs.Changes.{put, has_lock}
 use Rattle.cells.specs.Bytes.{value, is_free}
+use Rattle.cells.specs.Seen.{moved}
 use Rattle.cells.specs.Histories.{Commit, Item, settled}
 use Rattle.cells.specs.Histories.Fill.{Written, Freed}
 use Rattle.cells.specs.Histories.Item.{Done, Doubt}
@@ -246,3 +248,57 @@ pub record IsFreedRun (w : World) : Type 0 where
   pub free : is_free w.first (settled w.history) 9 ≡ true
   pub page : w.page 0 9 ≡ FreedPage 2
   pub came : w.bytes 9 ≡ bytes
+
+-- an operation of server 0 that frees sector 5, a directory's, and one that takes it again
+abbrev pub releasing : Commit
+releasing = record {
+  by = 0;
+  op = 1;
+  asked = op.Sync;
+  reply = reply.Ok;
+  blocks = 0;
+  looked = [];
+  changes = change ∷ [];
+  claims = λ s. false;
+  moves = λ s. if nat_eq s 5 then Some (Node 6) else None;
+  writes = λ s. None;
+  sees = λ s. has_lock (Node s) (Node 5 ∷ Node 6 ∷ []);
+  shown = λ s. None;
+  uses = Node 5 ∷ Node 6 ∷ [];
+  alone = Node 5 ∷ Node 6 ∷ [];
+}
+
+abbrev pub change_again : Change
+change_again = record { sector = record { 0 = 5 }; version = 2; patches = [] }
+
+-- the cover of a sector after the first
+abbrev pub released_cover : ℕ → LockId
+released_cover s = moved (if nat_eq s 5 then Some (Node 6) else None) (Node s)
+
+abbrev pub retaking : Commit
+retaking = record {
+  by = 0;
+  op = 2;
+  asked = op.Sync;
+  reply = reply.Ok;
+  blocks = 0;
+  looked = [];
+  changes = change_again ∷ [];
+  claims = λ s. false;
+  moves = λ s. if nat_eq s 5 then Some (Node 5) else None;
+  writes = λ s. None;
+  sees = λ s. has_lock (released_cover s) (Node 5 ∷ Node 6 ∷ []);
+  shown = λ s. None;
+  uses = Node 5 ∷ Node 6 ∷ [];
+  alone = Node 5 ∷ Node 6 ∷ [];
+}
+
+-- a sector with a version is freed and used again: its version goes on
+abbrev pub retaken : List Event
+retaken = Mount 0 ∷ Take 0 (Node 5) Sole ∷ Take 0 (Node 6) Sole ∷ Fetch 0 5 ∷ Do releasing ∷ Do retaking ∷ []
+
+-- the run leads here, where sector 5 is under its first lock again and dirty with version 2
+pub record IsRetakenRun (w : World) : Type 0 where
+  pub run : Run begin retaken w
+  pub moved : cover w 5 ≡ Node 5
+  pub dirty : w.slot 0 5 ≡ Dirty (edited change_again changed) 2

@@ -15,7 +15,7 @@ ghost use Rattle.sector_world.specs.Kinds.{Good};
 ghost use Rattle.sector_world.specs.Claims.{Holds, Orderly, IsOneDisk};
 ghost use Rattle.sector_world.specs.Planned.{PlannedIf, ArePlanned, IsLegal};
 ghost use Rattle.sector_world.specs.Trees.{Apply, MeetsTree, NewIf, AreNew, Distinct, Stand, first_disk};
-ghost use Rattle.sector_world.specs.Examples.{IsLostRun, IsKeptRun, IsTwiceRun, IsLateRun, IsReadRun, IsClaimedRun, IsFreedRun};
+ghost use Rattle.sector_world.specs.Examples.{IsLostRun, IsKeptRun, IsTwiceRun, IsLateRun, IsReadRun, IsClaimedRun, IsFreedRun, IsRetakenRun};
 
 /// After every run from a disk, of which some sectors have versions and some are of files, and at each next event.
 pub fn every_run()
@@ -74,4 +74,5 @@ pub fn example_runs()
     ensures read { (v : World) × (w : World) × IsReadRun v w }
     ensures claimed { (w : World) × IsClaimedRun w }
     ensures freed { (w : World) × IsFreedRun w }
+    ensures retaken { (w : World) × IsRetakenRun w }
 {}

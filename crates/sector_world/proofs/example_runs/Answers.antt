@@ -1,5 +1,5 @@
 -- The runs, step by step.
-use Rattle.sector_world.proofs.Examples.{lost_world, is_lost, kept_world, is_kept, twice_world, is_twice, late_world, is_late, before_read, after_read, is_read, claimed_world, is_claimed, freed_world, is_freed}
+use Rattle.sector_world.proofs.Examples.{lost_world, is_lost, kept_world, is_kept, twice_world, is_twice, late_world, is_late, before_read, after_read, is_read, claimed_world, is_claimed, freed_world, is_freed, retaken_world, is_retaken}
 use Rattle.sector_world.proofs.example_runs.Goals as goal
 
 pub returns-clause-lost : goal.returns-clause-lost
@@ -22,3 +22,6 @@ returns-clause-claimed c = (claimed_world, is_claimed)
 
 pub returns-clause-freed : goal.returns-clause-freed
 returns-clause-freed c = (freed_world, is_freed)
+
+pub returns-clause-retaken : goal.returns-clause-retaken
+returns-clause-retaken c = (retaken_world, is_retaken)
