@@ -1,0 +1,9 @@
+pub mod Basics
+pub mod Blocks
+pub mod Histories
+pub mod Removals
+pub mod More
+pub mod Seen
+pub mod Plans
+pub mod Bytes
+pub mod Laws

@@ -1,0 +1,8 @@
+pub mod Blocks
+pub mod Changes
+pub mod Histories
+pub mod Bytes
+pub mod OnDisk
+pub mod Seen
+pub mod Plans
+pub mod Laws

@@ -1,0 +1,10 @@
+pub mod World
+pub mod Guards
+pub mod Steps
+pub mod Logged
+pub mod Bytes
+pub mod Kinds
+pub mod Claims
+pub mod Planned
+pub mod Trees
+pub mod Examples
