@@ -16,6 +16,7 @@ abbrev pub standing_of : Bool → Standing
 standing_of true = Up
 standing_of false = Off
 
+-- what the lines said tell of such a server
 abbrev pub state_with : Bool → ServerState
 state_with up = record { standing = standing_of up; debt = Free; may_die = false; just_died = false; under_recovery = false }
 
@@ -35,5 +36,6 @@ abbrev pub RepliesTo : ℕ → What → Bool → FileTree → Reply → Bool →
 RepliesTo number (Server o) up tree r up_after after = Answers number o up tree r up_after after
 RepliesTo number (Host h) up tree r up_after after = ⊥
 
+-- a reply to a line of the script
 abbrev pub Replies : Line → Bool → FileTree → Reply → Bool → FileTree → Type 0
 Replies line up tree r up_after after = RepliesTo line.number line.what up tree r up_after after

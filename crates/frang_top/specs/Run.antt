@@ -53,6 +53,7 @@ pub record IsWhole (script : List Line) (acts : List Act) : Type 0 where
   pub answered : are_answered script saids ≡ true
   pub ended : list_any is_end saids ≡ true
 
+-- the record, where it is told, is a whole run
 abbrev pub EndsWhole : List Line → Option (List Act) → Type 0
 EndsWhole script told = (acts : List Act) → told ≡ Some acts → IsWhole script acts
 

@@ -83,6 +83,7 @@ abbrev pub answered : Wanted → Mode → Claim → Claim
 answered Granted mode claim = granted mode claim
 answered (Wait holders) mode claim = wishing mode claim
 
+-- the state after a want
 abbrev pub wanted : Locks → ℕ → LockId → Mode → Locks
 wanted locks server lock mode = changed locks server lock (answered (want_answer locks server lock mode) mode)
 
@@ -90,6 +91,7 @@ wanted locks server lock mode = changed locks server lock (answered (want_answer
 abbrev pub released : Locks → ℕ → LockId → Locks
 released locks server lock = changed locks server lock given_up
 
+-- the state after a downgrade
 abbrev pub downgraded : Locks → ℕ → LockId → Locks
 downgraded locks server lock = changed locks server lock shared
 
@@ -126,13 +128,16 @@ hold_against by now (Some hold) = if hold.by.0 == by || nat_lt hold.expiry now t
 abbrev pub log_taken_by : Locks → ℕ → ℕ → ℕ → Option LogHold
 log_taken_by locks dead by now = hold_against by now (log_hold locks dead)
 
+-- the answer to who takes a log against this hold
 abbrev pub log_answer : Option LogHold → Result (Unit {0}) LogTaken
 log_answer None = Ok tt
 log_answer (Some hold) = Err (record { by = hold.by; expiry = hold.expiry })
 
+-- a hold of this taker with this expiry
 abbrev pub hold_of : ℕ → ℕ → LogHold
 hold_of by expiry = record { by = record { 0 = by }; expiry = expiry }
 
+-- the state after a taking
 abbrev pub taken : Locks → ℕ → ℕ → ℕ → ℕ → Locks
 taken locks dead by now expiry =
     if is_some (log_taken_by locks dead by now) then locks
@@ -143,6 +148,7 @@ abbrev pub hold_extended : ℕ → ℕ → Option LogHold → Option LogHold
 hold_extended by expiry None = None
 hold_extended by expiry (Some hold) = if hold.by.0 == by then Some (hold_of by expiry) else Some hold
 
+-- the state after an extension
 abbrev pub extended : Locks → ℕ → ℕ → Locks
 extended locks by expiry = record locks { logs = map (hold_extended by expiry) locks.logs }
 
@@ -151,6 +157,7 @@ abbrev pub hold_not_by : ℕ → Option LogHold → Option LogHold
 hold_not_by by None = None
 hold_not_by by (Some hold) = if hold.by.0 == by then None else Some hold
 
+-- the state after a clearing
 abbrev pub cleared : Locks → ℕ → Locks
 cleared locks dead =
     record { clerks = slice_set locks.clerks dead []; logs = slice_set (map (hold_not_by dead) locks.logs) dead None }

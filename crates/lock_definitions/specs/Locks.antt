@@ -24,6 +24,7 @@ pub record Locks : Type 0 where
 abbrev pub no_claim : Claim
 no_claim = record { held = None; wishes_shared = false; wishes_sole = false }
 
+-- nothing is held or wished
 abbrev pub is_no_claim : Claim → Bool
 is_no_claim claim = not (is_some claim.held || claim.wishes_shared || claim.wishes_sole)
 
@@ -40,6 +41,7 @@ with_claim claims lock claim =
 abbrev pub claims_of : Locks → ℕ → Claims
 claims_of locks server = slice_index_or locks.clerks server []
 
+-- a server's claim on a lock
 abbrev pub claim_of : Locks → ℕ → LockId → Claim
 claim_of locks server lock = claim_in (claims_of locks server) lock
 
@@ -52,6 +54,7 @@ abbrev pub is_wished_in : Claim → Mode → Bool
 is_wished_in claim Shared = claim.wishes_shared
 is_wished_in claim Sole = claim.wishes_sole
 
+-- a server wishes the lock in this mode
 abbrev pub is_wished : Locks → ℕ → LockId → Mode → Bool
 is_wished locks server lock mode = is_wished_in (claim_of locks server lock) mode
 

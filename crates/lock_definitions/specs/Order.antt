@@ -18,6 +18,7 @@ number_of (Log n) = n
 number_of (Segment n) = n
 number_of (Node n) = n
 
+-- locks by their kinds as they are listed, and then by their numbers
 abbrev pub lock_cmp : LockId → LockId → Ordering
 lock_cmp = then_cmp (on kind_of nat_cmp) (on number_of nat_cmp)
 

@@ -15,6 +15,7 @@ pub data LockCall : Type 0 where
   Extend : (by expiry : ℕ) → LockCall
   Clear : (dead : ℕ) → LockCall
 
+-- the state after one call
 abbrev pub after_call : Locks → LockCall → Locks
 after_call locks (Want server lock mode) = wanted locks server lock mode
 after_call locks (Release server lock) = released locks server lock

@@ -14,6 +14,7 @@ pub record Table : Type 0 where
 abbrev pub locks_of : AllKept → List (Option LogHold) → Locks
 locks_of clerks logs = record { clerks = clerks.claims; logs = logs }
 
+-- a table of these claims and holds on logs
 abbrev pub table_of : AllKept → List (Option LogHold) → Table
 table_of clerks logs = record { locks = locks_of clerks logs; room = clerks.room }
 

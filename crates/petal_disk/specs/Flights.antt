@@ -19,6 +19,7 @@ pub record Flights : Type 0 where
   pub next : ℕ
   pub room : ℕ
 
+-- the ticket of this number
 abbrev pub is_ticket : ℕ → Ticket → Bool
 is_ticket t ticket = ticket.0 == t
 
@@ -38,6 +39,7 @@ busy_with writes sector = option_map (λ write. write.0) (find (λ write. write.
 abbrev pub ticket_cmp : Ticket → Ticket → Ordering
 ticket_cmp = on (λ ticket. ticket.0) nat_cmp
 
+-- the sectors of the writes, in their order
 abbrev pub sectors : Writes → List ℕ
 sectors writes = map (λ write. write.1.sector.0) writes
 

@@ -42,6 +42,7 @@ made tree birth node (Free dir entries blocks name) =
     else (if lacks_block tree entries blocks then says tree reply.NoDirBlock
     else says (named (with_node tree birth node) dir entries blocks name birth) reply.Ok))
 
+-- a directory is there
 abbrev pub is_dir : Option Node → Bool
 is_dir (Some (Dir entries blocks)) = true
 is_dir (Some (File cells links)) = false
@@ -73,6 +74,7 @@ linked_to tree birth (Free dir entries blocks name) =
     else (if lacks_block tree entries blocks then says tree reply.NoDirBlock
     else says (named (one_link_more tree birth (node_at tree birth)) dir entries blocks name birth) reply.Ok))
 
+-- link, from the place of the node to that of its second name
 abbrev pub linked : FileTree → Place → Place → Applied
 linked tree Root to = says tree reply.IsDir
 linked tree (Nowhere r) to = says tree r
@@ -86,6 +88,7 @@ one_link_fewer tree birth (Some (Link target links)) = if nat_lt 1 links then wi
 one_link_fewer tree birth (Some (Dir entries blocks)) = without_node tree birth
 one_link_fewer tree birth None = tree
 
+-- a directory with entries is there
 abbrev pub has_entries : Option Node → Bool
 has_entries (Some (Dir entries blocks)) = nat_lt 0 (length entries)
 has_entries (Some (File cells links)) = false

@@ -30,6 +30,7 @@ abbrev pub cell_shows : Cell → ℕ → Bool
 cell_shows (Byte a) b = a == b
 cell_shows Doubtful b = true
 
+-- cells show bytes, each its own
 abbrev pub cells_show : List Cell → List ℕ → Bool
 cells_show [] [] = true
 cells_show (cell ∷ cells) (b ∷ bytes) = cell_shows cell b && cells_show cells bytes
@@ -41,34 +42,42 @@ abbrev pub shown_is : List ℕ → Reply → Bool
 shown_is bytes (reply.Shown others) = pointwise nat_eq bytes others
 shown_is bytes _ = false
 
+-- a file of this size with these links
 abbrev pub file_is : ℕ → ℕ → Reply → Bool
 file_is size links (reply.File s l) = size == s && links == l
 file_is size links _ = false
 
+-- a directory of so many entries
 abbrev pub dir_is : ℕ → Reply → Bool
 dir_is entries (reply.Dir n) = entries == n
 dir_is entries _ = false
 
+-- a link with a target of this length
 abbrev pub link_is : ℕ → Reply → Bool
 link_is len (reply.Symlink n) = len == n
 link_is len _ = false
 
+-- these names
 abbrev pub names_are : List (List ℕ) → Reply → Bool
 names_are names (reply.Names others) = pointwise (pointwise nat_eq) names others
 names_are names _ = false
 
+-- this target
 abbrev pub target_is : List ℕ → Reply → Bool
 target_is target (reply.Target other) = pointwise nat_eq target other
 target_is target _ = false
 
+-- this run and this tick
 abbrev pub time_is : ℕ → ℕ → Reply → Bool
 time_is run tick (reply.Time r t) = run == r && tick == t
 time_is run tick _ = false
 
+-- no block, with this number told
 abbrev pub no_block_is : ℕ → Reply → Bool
 no_block_is m (reply.NoBlock n) = m == n
 no_block_is m _ = false
 
+-- the same contents, of replies of one word
 abbrev pub contents_are : Reply → Reply → Bool
 contents_are (reply.Shown bytes) r = shown_is bytes r
 contents_are (reply.File size links) r = file_is size links r
@@ -186,6 +195,7 @@ abbrev pub doubted_file : FileTree → Option (ℕ × (List Cell × ℕ)) → �
 doubted_file tree None from count = tree
 doubted_file tree (Some file) from count = with_node tree file.0 (File (doubted_cells file.1.0 from count) file.1.1)
 
+-- runs of cells come into doubt
 abbrev pub doubted : FileTree → List CellRun → FileTree
 doubted tree [] = tree
 doubted tree (run ∷ runs) = doubted (doubted_file tree (file_of run.birth (node_at tree run.birth)) run.from run.count) runs

@@ -19,10 +19,12 @@ line_of script number = find (λ l. l.number == number) script
 abbrev pub number_of : ℕ → ℕ → ℕ
 number_of run line = run * 2 ^ 32 + line
 
+-- an answer to a server's line is an entry, and one to the host's is none
 abbrev pub item_of_what : ℕ → ServerId → Reply → ℕ → What → List Item
 item_of_what run server r number (Server o) = Did (record { server = server; number = record { 0 = number_of run number }; op = o; reply = r }) ∷ []
 item_of_what run server r number (Host h) = []
 
+-- an answer to a line that is there
 abbrev pub item_of_line : ℕ → ServerId → Reply → ℕ → Option Line → List Item
 item_of_line run server r number None = []
 item_of_line run server r number (Some l) = item_of_what run server r number l.what

@@ -52,6 +52,7 @@ abbrev pub meets_in : ℕ → ℕ → Option (ℕ × (List Cell × ℕ)) → ℕ
 meets_in birth sector None from to = false
 meets_in birth sector (Some file) from to = file.0 == birth && meets sector from to
 
+-- the size of a file, where there is one
 abbrev pub size_of : Option (ℕ × (List Cell × ℕ)) → ℕ
 size_of None = 0
 size_of (Some file) = length file.1.0
@@ -130,6 +131,7 @@ kept_from opening list (Recovered server keeps ∷ items) = keeps_known server.0
 abbrev pub keeps : Opening → List Item → Bool
 keeps opening history = kept_from opening.tree [] history
 
+-- this as a fact
 abbrev pub Keeps : Opening → List Item → Type 0
 Keeps opening history = IsTrue (keeps opening history)
 
@@ -137,6 +139,7 @@ Keeps opening history = IsTrue (keeps opening history)
 abbrev pub is_legal : Opening → List Item → Bool
 is_legal opening history = legal_from opening.tree opening.dir_blocks (settled opening.tree history)
 
+-- this as a fact
 abbrev pub IsLegal : Opening → List Item → Type 0
 IsLegal opening history = IsTrue (is_legal opening history)
 

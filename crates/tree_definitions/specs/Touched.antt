@@ -80,19 +80,23 @@ reached tree wanted (Taken dir entries blocks name birth) = reached_if wanted bi
 reached tree wanted (Free dir entries blocks name) = []
 reached tree wanted (Nowhere r) = []
 
+-- whatever node
 abbrev pub any_node : Node → Bool
 any_node node = true
 
+-- a directory
 abbrev pub dir_node : Node → Bool
 dir_node (Dir entries blocks) = true
 dir_node (File cells links) = false
 dir_node (Link target links) = false
 
+-- a file
 abbrev pub file_node : Node → Bool
 file_node (File cells links) = true
 file_node (Dir entries blocks) = false
 file_node (Link target links) = false
 
+-- a symbolic link
 abbrev pub link_node : Node → Bool
 link_node (Link target links) = true
 link_node (Dir entries blocks) = false
@@ -151,6 +155,7 @@ touched_later server nodes tree [] = false
 touched_later server nodes tree (Stays e ∷ rest) = (not (e.server.0 == server) && list_any (touches tree e) nodes) || touched_later server nodes (after tree (Stays e)) rest
 touched_later server nodes tree (InDoubt runs ∷ rest) = touched_later server nodes (after tree (InDoubt runs)) rest
 
+-- an answer for want of inodes or blocks
 abbrev pub is_nospace : Reply → Bool
 is_nospace reply.NoInode = true
 is_nospace reply.NoDirBlock = true
@@ -171,6 +176,7 @@ other_room None None = false
 other_room (Some a) None = true
 other_room None (Some b) = true
 
+-- an entry makes or frees a node, or changes its blocks
 abbrev pub changes_room : FileTree → Entry → Bool
 changes_room tree e = list_any (λ b. other_room (node_at tree b) (node_at (applied tree e).tree b)) (changed tree e)
 
@@ -178,22 +184,27 @@ changes_room tree e = list_any (λ b. other_room (node_at tree b) (node_at (appl
 abbrev pub is_seen : FileTree → Entry → List Settled → Bool
 is_seen tree e rest = touched_later e.server.0 (changed tree e) (after tree (Stays e)) rest || (changes_room tree e && refused_later e.server.0 rest)
 
+-- the reply `mounted`
 abbrev pub is_mounted : Reply → Bool
 is_mounted reply.Mounted = true
 is_mounted _ = false
 
+-- the reply `ok`
 abbrev pub is_ok : Reply → Bool
 is_ok reply.Ok = true
 is_ok _ = false
 
+-- a sync
 abbrev pub is_sync : Op → Bool
 is_sync op.Sync = true
 is_sync _ = false
 
+-- an unmount
 abbrev pub is_unmount : Op → Bool
 is_unmount op.Unmount = true
 is_unmount _ = false
 
+-- a stall
 abbrev pub is_stall : Op → Bool
 is_stall op.Stall = true
 is_stall _ = false

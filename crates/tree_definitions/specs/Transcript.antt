@@ -24,6 +24,7 @@ use Rattle.tree_definitions.specs.TreeLines.{tree_lines}
 abbrev pub Faults : Type 0
 Faults = ℕ → ℕ → Bool
 
+-- no count ever rises
 abbrev pub no_faults : Faults
 no_faults place server = false
 
@@ -56,22 +57,27 @@ pub record ServerState : Type 0 where
 abbrev pub first_state : ServerState
 first_state = record { standing = Off; debt = Free; may_die = false; just_died = false; under_recovery = false }
 
+-- it is up
 abbrev pub is_up : Standing → Bool
 is_up Up = true
 is_up _ = false
 
+-- it is off
 abbrev pub is_off : Standing → Bool
 is_off Off = true
 is_off _ = false
 
+-- it is stalled
 abbrev pub is_stalled : Standing → Bool
 is_stalled Stalled = true
 is_stalled _ = false
 
+-- it is dead
 abbrev pub is_dead : Standing → Bool
 is_dead Dead = true
 is_dead _ = false
 
+-- a mount
 abbrev pub is_mount : Op → Bool
 is_mount op.Mount = true
 is_mount _ = false
@@ -88,18 +94,22 @@ calls_death (op.CutAt k) = true
 calls_death op.Stall = true
 calls_death _ = false
 
+-- the reply `expired`
 abbrev pub is_expired : Reply → Bool
 is_expired reply.Expired = true
 is_expired _ = false
 
+-- the reply `already`
 abbrev pub is_already : Reply → Bool
 is_already reply.Already = true
 is_already _ = false
 
+-- the reply `down`
 abbrev pub is_down : Reply → Bool
 is_down reply.Down = true
 is_down _ = false
 
+-- the reply `io`
 abbrev pub is_io : Reply → Bool
 is_io reply.Io = true
 is_io _ = false
@@ -127,6 +137,7 @@ after_answer state o r = record {
   under_recovery = state.under_recovery;
 }
 
+-- a server after the answer to what a line asks; the host's lines tell nothing of it
 abbrev pub after_asked : ServerState → What → Reply → ServerState
 after_asked state (Server o) r = after_answer state o r
 after_asked state (Host h) r = state
@@ -192,18 +203,22 @@ abbrev pub is_halt : What → Bool
 is_halt (Host host.Halt) = true
 is_halt _ = false
 
+-- a line that halts
 abbrev pub is_halt_line : Option Line → Bool
 is_halt_line None = false
 is_halt_line (Some line) = is_halt line.what
 
+-- an answer to such a line
 abbrev pub halts : List Line → Said → Bool
 halts script (said.Answer s number r) = is_halt_line (line_of script number)
 halts script _ = false
 
+-- a line of the tree
 abbrev pub is_node : Said → Bool
 is_node (said.Node path kind size links) = true
 is_node _ = false
 
+-- the end
 abbrev pub is_end : Said → Bool
 is_end said.End = true
 is_end _ = false
@@ -247,6 +262,7 @@ may_answer_by Dead just_died faulted o r = if is_mount o then may_mount Dead jus
 abbrev pub may_owe : Op → Reply → Bool
 may_owe o r = if is_unmount o then is_ok r else is_expired r
 
+-- by debt: who may owe answers either way
 abbrev pub may_answer_owing : Debt → ServerState → Bool → Op → Reply → Bool
 may_answer_owing Free state faulted o r = may_answer_by state.standing state.just_died faulted o r
 may_answer_owing Owes state faulted o r = may_owe o r
@@ -268,10 +284,12 @@ abbrev pub answers_next : List Line → Faults → List Said → ℕ → ℕ →
 answers_next script faults saids who number r None = false
 answers_next script faults saids who number r (Some line) = line.number == number && may_reply script faults saids who number line.what r
 
+-- a crash is asked
 abbrev pub asks_crash : What → Bool
 asks_crash (Server o) = is_crash o
 asks_crash (Host h) = false
 
+-- a line that asks a crash
 abbrev pub is_crash_line : Option Line → Bool
 is_crash_line None = false
 is_crash_line (Some line) = asks_crash line.what
@@ -293,6 +311,7 @@ abbrev pub may_be_recovered : List Line → Faults → List Said → ℕ → Boo
 may_be_recovered script faults saids server =
     let state = state_of script faults server saids in is_dead state.standing && state.under_recovery
 
+-- neither stalled nor dead
 abbrev pub is_settled : Standing → Bool
 is_settled now = is_off now || is_up now
 

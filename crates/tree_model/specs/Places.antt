@@ -6,6 +6,7 @@ use Rattle.tree_definitions.specs.Place.{Place as Spot, Root as AtRoot, Taken as
 use Rattle.tree_model.specs.declared.place.Place.{Place}
 use Rattle.tree_model.specs.declared.place.Place.TheVariants.{Root, Taken, Free, Nowhere}
 
+-- the place that a place of the code is
 abbrev pub spot_of : Place → Spot
 spot_of Root = AtRoot
 spot_of (Taken dir entries blocks name birth) = IsTaken dir entries.now blocks name.now birth
