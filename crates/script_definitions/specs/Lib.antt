@@ -1,2 +1,5 @@
 pub mod Numerals
 pub mod SaidReading
+pub mod ScriptFaults
+pub mod ScriptWords
+pub mod ScriptText

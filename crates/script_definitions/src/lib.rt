@@ -4,6 +4,12 @@
 //! definitions of the tree.
 #![tactic(auto)]
 
+mod asked;
+mod fault;
 mod number;
+mod word;
 
+pub use asked::Asked;
+pub use fault::{LineFault, ScriptFault};
 pub use number::{count, number_within};
+pub use word::ServerWord;
