@@ -3,3 +3,4 @@ pub mod SaidReading
 pub mod ScriptFaults
 pub mod ScriptWords
 pub mod ScriptText
+pub mod ScriptPrinted

@@ -52,9 +52,14 @@ with_line line (Err f) = Err f
 abbrev pub fault_at : ℕ → LineFault → ScriptFault
 fault_at number f = record { line = number; kind = kind_of f }
 
+-- the fault with the number of its line
+abbrev pub numbered : {A : Type 0} → ℕ → Result A LineFault → Result A ScriptFault
+numbered number (Ok x) = Ok x
+numbered number (Err f) = Err (fault_at number f)
+
 -- a judged line, and what follows it after `halt` or not
-abbrev pub after_line : ℕ → Bool → Result (Option Asked) LineFault → (Bool → Result (List Line) ScriptFault) → Result (List Line) ScriptFault
-after_line number halted (Err f) rest = Err (fault_at number f)
+abbrev pub after_line : ℕ → Bool → Result (Option Asked) ScriptFault → (Bool → Result (List Line) ScriptFault) → Result (List Line) ScriptFault
+after_line number halted (Err f) rest = Err f
 after_line number halted (Ok None) rest = rest halted
 after_line number halted (Ok (Some asked)) rest = with_line (record { number = number; who = asked.who; what = asked.what }) (rest (halted || is_halt asked.what))
 
@@ -63,7 +68,7 @@ abbrev pub script_from : ℕ → Bool → List (List ℕ) → Result (List Line)
 script_from number halted [] = Ok []
 script_from number halted (line ∷ lines) =
     if nat_lt 65536 number then Err (fault_at number fault.TooManyLines)
-    else after_line number halted (judged halted line) (λ h. script_from (number + 1) h lines)
+    else after_line number halted (numbered number (judged halted line)) (λ h. script_from (number + 1) h lines)
 
 -- the script of these bytes, or its first bad line
 abbrev pub script_of : List ℕ → Result (List Line) ScriptFault

@@ -1,6 +1,5 @@
 -- What readers answer: what their definitions give, unless memory is short.
-use Rattle.std.specs.Prelude.{◌≡◌, List, Result, Ok, Err}
-use Rattle.frang_base.specs.declared.script.Line.{Line}
+use Rattle.std.specs.Prelude.{◌≡◌, Result, Ok, Err}
 use Rattle.script_definitions.specs.declared.fault.LineFault.{LineFault}
 use Rattle.script_definitions.specs.declared.fault.ScriptFault.{ScriptFault}
 use Rattle.script_lang.specs.declared.refusal.Refusal.{Refusal}
@@ -20,8 +19,8 @@ Gives given (Ok x) = given ≡ Ok x
 Gives given (Err refusal.NoMemory) = Unit {0}
 Gives given (Err (refusal.Bad f)) = given ≡ Err f
 
--- a script, as its definition gives it
-abbrev pub GivesScript : Result (List Line) ScriptFault → Result (List Line) ReadFault → Type 0
-GivesScript given (Ok script) = given ≡ Ok script
-GivesScript given (Err read.NoMemory) = Unit {0}
-GivesScript given (Err (read.Bad f)) = given ≡ Err f
+-- what a definition with the numbers of lines gives
+abbrev pub GivesNumbered : {A : Type 0} → Result A ScriptFault → Result A ReadFault → Type 0
+GivesNumbered given (Ok x) = given ≡ Ok x
+GivesNumbered given (Err read.NoMemory) = Unit {0}
+GivesNumbered given (Err (read.Bad f)) = given ≡ Err f

@@ -5,8 +5,12 @@
 
 mod arguments;
 mod command;
+mod print;
 mod refusal;
+mod script;
 mod words;
 
+pub use print::print_script;
 pub use refusal::ReadFault;
+pub use script::read_script;
 pub use script_definitions::ScriptFault;

@@ -36,7 +36,7 @@ pub fn next_line(text: &[u8]) -> Option<(&[u8], &[u8])>
     }
 }
 
-fn is_blank(byte: u8) -> bool
+pub fn is_blank(byte: u8) -> bool
     ensures { result ≡ is_blank byte }
 {
     byte == b' ' || byte == b'\t'
