@@ -4,8 +4,11 @@
 #![tactic(auto)]
 
 mod number;
+mod parts;
+mod reading;
 mod reply;
 mod said;
 
+pub use reading::read_line;
 pub use reply::reply_word;
 pub use said::write_line;

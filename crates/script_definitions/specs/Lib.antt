@@ -1,0 +1,6 @@
+pub mod Numerals
+pub mod SaidReading
+pub mod ScriptFaults
+pub mod ScriptWords
+pub mod ScriptText
+pub mod ScriptPrinted

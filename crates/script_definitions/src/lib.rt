@@ -1,0 +1,15 @@
+//! What scripts and said lines are as texts: the grammar of scripts with the first fault of a bad one, the text that prints a
+//! script, and the line that bytes are. The meanings are the definitions in `specs/`; the code is the small readers of words
+//! that both grammars share, each of which is promised to give its definition's value. It stands on the base types and the
+//! definitions of the tree.
+#![tactic(auto)]
+
+mod asked;
+mod fault;
+mod number;
+mod word;
+
+pub use asked::Asked;
+pub use fault::{LineFault, ScriptFault};
+pub use number::{count, number_within};
+pub use word::ServerWord;

@@ -1,0 +1,3 @@
+pub mod LinesAndWords
+pub mod Texts
+pub mod ReadingLines

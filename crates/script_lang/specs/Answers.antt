@@ -1,0 +1,26 @@
+-- What readers answer: what their definitions give, unless memory is short.
+use Rattle.std.specs.Prelude.{◌≡◌, Result, Ok, Err}
+use Rattle.script_definitions.specs.declared.fault.LineFault.{LineFault}
+use Rattle.script_definitions.specs.declared.fault.ScriptFault.{ScriptFault}
+use Rattle.script_lang.specs.declared.refusal.Refusal.{Refusal}
+use Rattle.script_lang.specs.declared.refusal.Refusal.TheVariants as refusal
+use Rattle.script_lang.specs.declared.refusal.ReadFault.{ReadFault}
+use Rattle.script_lang.specs.declared.refusal.ReadFault.TheVariants as read
+
+-- a part of a line, seen so, as its definition gives it
+abbrev pub GivesBy : {X A : Type 0} → (X → A) → Result A LineFault → Result X Refusal → Type 0
+GivesBy view given (Ok x) = given ≡ Ok (view x)
+GivesBy view given (Err refusal.NoMemory) = Unit {0}
+GivesBy view given (Err (refusal.Bad f)) = given ≡ Err f
+
+-- a part of a line as its definition gives it
+abbrev pub Gives : {A : Type 0} → Result A LineFault → Result A Refusal → Type 0
+Gives given (Ok x) = given ≡ Ok x
+Gives given (Err refusal.NoMemory) = Unit {0}
+Gives given (Err (refusal.Bad f)) = given ≡ Err f
+
+-- what a definition with the numbers of lines gives
+abbrev pub GivesNumbered : {A : Type 0} → Result A ScriptFault → Result A ReadFault → Type 0
+GivesNumbered given (Ok x) = given ≡ Ok x
+GivesNumbered given (Err read.NoMemory) = Unit {0}
+GivesNumbered given (Err (read.Bad f)) = given ≡ Err f

@@ -1,0 +1,351 @@
+// What a line asks.
+ghost use Rattle.std.specs.Prelude.{◌≡◌};
+ghost use Rattle.std.specs.List.{list_all};
+ghost use Rattle.script_definitions.specs.Numerals.{is_digit};
+ghost use Rattle.script_definitions.specs.ScriptWords.{words_of, word_among, path_words, longer_words, bare_words, server_word, symlink_of, write_of, fill_of, truncate_of, read_of, writes_of, crash_of, op_with, op_of, host_op_of, server_of, server_line, host_line, asked_of};
+ghost use Rattle.script_lang.specs.Answers.{Gives};
+
+use crate::arguments::{byte, number, offset, path, path_alone, paths, text};
+use crate::refusal::Refusal;
+use crate::words::{four_words, next_word, no_words, one_word, three_words, two_words};
+use frang_base::{HostOp, Op, ServerId, What};
+use script_definitions::{number_within, Asked, LineFault, ServerWord};
+use std::alloc::Global;
+
+const TARGET_BYTES_MAX: usize = 384;
+const TEXT_BYTES_MAX: usize = 512;
+const FILE_BYTES_MAX: u32 = 1_114_112;
+const READ_BYTES_MAX: u32 = 4096;
+const WRITES_MAX: u32 = 1_000_000;
+const TICKS_MAX: u32 = 10_000;
+const SERVER_MAX: u32 = 15;
+
+// A word that a path follows alone.
+fn path_word(word: &[u8]) -> Option<ServerWord>
+    ensures { result ≡ word_among path_words word.now }
+{
+    if word == b"create".as_slice() {
+        return Some(ServerWord::Create);
+    }
+    if word == b"mkdir".as_slice() {
+        return Some(ServerWord::Mkdir);
+    }
+    if word == b"unlink".as_slice() {
+        return Some(ServerWord::Unlink);
+    }
+    if word == b"rmdir".as_slice() {
+        return Some(ServerWord::Rmdir);
+    }
+    if word == b"stat".as_slice() {
+        return Some(ServerWord::Stat);
+    }
+    if word == b"list".as_slice() {
+        return Some(ServerWord::List);
+    }
+    if word == b"readlink".as_slice() {
+        return Some(ServerWord::Readlink);
+    }
+    if word == b"time".as_slice() {
+        return Some(ServerWord::Time);
+    }
+    None
+}
+
+// A word that a path and more follow.
+fn longer_word(word: &[u8]) -> Option<ServerWord>
+    ensures { result ≡ word_among longer_words word.now }
+{
+    if word == b"link".as_slice() {
+        return Some(ServerWord::Link);
+    }
+    if word == b"rename".as_slice() {
+        return Some(ServerWord::Rename);
+    }
+    if word == b"symlink".as_slice() {
+        return Some(ServerWord::Symlink);
+    }
+    if word == b"write".as_slice() {
+        return Some(ServerWord::Write);
+    }
+    if word == b"fill".as_slice() {
+        return Some(ServerWord::Fill);
+    }
+    if word == b"truncate".as_slice() {
+        return Some(ServerWord::Truncate);
+    }
+    if word == b"read".as_slice() {
+        return Some(ServerWord::Read);
+    }
+    None
+}
+
+// A word that no path follows.
+fn bare_word(word: &[u8]) -> Option<ServerWord>
+    ensures { result ≡ word_among bare_words word.now }
+{
+    if word == b"sync".as_slice() {
+        return Some(ServerWord::Sync);
+    }
+    if word == b"mount".as_slice() {
+        return Some(ServerWord::Mount);
+    }
+    if word == b"unmount".as_slice() {
+        return Some(ServerWord::Unmount);
+    }
+    if word == b"crash".as_slice() {
+        return Some(ServerWord::Crash);
+    }
+    if word == b"cut".as_slice() {
+        return Some(ServerWord::Cut);
+    }
+    if word == b"stall".as_slice() {
+        return Some(ServerWord::Stall);
+    }
+    None
+}
+
+fn server_word(word: &[u8]) -> Option<ServerWord>
+    ensures { result ≡ server_word word.now }
+{
+    if let Some(found) = path_word(word) {
+        return Some(found);
+    }
+    if let Some(found) = longer_word(word) {
+        return Some(found);
+    }
+    bare_word(word)
+}
+
+#[tactic(auto, unfolding(script_definitions::specs::ScriptWords::symlink_of))]
+fn symlink(alloc: Global, words: &[u8]) -> Result<Op, Refusal>
+    ensures { Gives (symlink_of (words_of words.now)) result }
+{
+    let (at, target) = two_words(words)?;
+    let path = path(alloc, at)?;
+    let target = text(alloc, target, TARGET_BYTES_MAX)?;
+    Ok(Op::Symlink { path, target })
+}
+
+#[tactic(auto, unfolding(script_definitions::specs::ScriptWords::write_of))]
+fn write(alloc: Global, words: &[u8]) -> Result<Op, Refusal>
+    ensures { Gives (write_of (words_of words.now)) result }
+{
+    let (at, off, bytes) = three_words(words)?;
+    let path = path(alloc, at)?;
+    let off = offset(off)?;
+    let bytes = text(alloc, bytes, TEXT_BYTES_MAX)?;
+    Ok(Op::Write { path, off, bytes })
+}
+
+#[tactic(auto, unfolding(script_definitions::specs::ScriptWords::fill_of))]
+fn fill(alloc: Global, words: &[u8]) -> Result<Op, Refusal>
+    ensures { Gives (fill_of (words_of words.now)) result }
+{
+    let (at, off, len, digits) = four_words(words)?;
+    let path = path(alloc, at)?;
+    let off = offset(off)?;
+    let len = number(len, 1, FILE_BYTES_MAX)?;
+    let byte = byte(digits)?;
+    Ok(Op::Fill {
+        path,
+        off,
+        len,
+        byte,
+    })
+}
+
+#[tactic(auto, unfolding(script_definitions::specs::ScriptWords::truncate_of))]
+fn truncate(alloc: Global, words: &[u8]) -> Result<Op, Refusal>
+    ensures { Gives (truncate_of (words_of words.now)) result }
+{
+    let (at, len) = two_words(words)?;
+    let path = path(alloc, at)?;
+    let len = offset(len)?;
+    Ok(Op::Truncate { path, len })
+}
+
+#[tactic(auto, unfolding(script_definitions::specs::ScriptWords::read_of))]
+fn read(alloc: Global, words: &[u8]) -> Result<Op, Refusal>
+    ensures { Gives (read_of (words_of words.now)) result }
+{
+    let (at, off, len) = three_words(words)?;
+    let path = path(alloc, at)?;
+    let off = offset(off)?;
+    let len = number(len, 1, READ_BYTES_MAX)?;
+    Ok(Op::Read { path, off, len })
+}
+
+// A count of writes.
+fn writes(words: &[u8]) -> Result<u32, Refusal>
+    ensures { Gives (writes_of (words_of words.now)) result }
+{
+    number(one_word(words)?, 1, WRITES_MAX)
+}
+
+// At once, or at a write.
+fn crash(words: &[u8]) -> Result<Op, Refusal>
+    ensures { Gives (crash_of (words_of words.now)) result }
+{
+    if next_word(words).is_none() {
+        return Ok(Op::Crash);
+    }
+    let k = writes(words)?;
+    Ok(Op::CrashAt { k })
+}
+
+// The server that a word of digits names.
+#[tactic(auto, using(script_definitions::proofs::NumeralLaws::number_in_most))]
+fn server(word: &[u8]) -> Result<ServerId, Refusal>
+    ensures { Gives (server_of word.now) result }
+{
+    match number_within(word, 0, SERVER_MAX) {
+        Some(number) => Ok(ServerId(number as u8)),
+        None => Err(Refusal::Bad(LineFault::BadServer)),
+    }
+}
+
+// What a word asks with the words that follow it.
+fn op_with(alloc: Global, word: ServerWord, words: &[u8]) -> Result<Op, Refusal>
+    ensures { Gives (op_with word (words_of words.now)) result }
+{
+    match word {
+        ServerWord::Create => {
+            let path = path_alone(alloc, words)?;
+            Ok(Op::Create { path })
+        }
+        ServerWord::Mkdir => {
+            let path = path_alone(alloc, words)?;
+            Ok(Op::Mkdir { path })
+        }
+        ServerWord::Unlink => {
+            let path = path_alone(alloc, words)?;
+            Ok(Op::Unlink { path })
+        }
+        ServerWord::Rmdir => {
+            let path = path_alone(alloc, words)?;
+            Ok(Op::Rmdir { path })
+        }
+        ServerWord::Stat => {
+            let path = path_alone(alloc, words)?;
+            Ok(Op::Stat { path })
+        }
+        ServerWord::List => {
+            let path = path_alone(alloc, words)?;
+            Ok(Op::List { path })
+        }
+        ServerWord::Readlink => {
+            let path = path_alone(alloc, words)?;
+            Ok(Op::Readlink { path })
+        }
+        ServerWord::Time => {
+            let path = path_alone(alloc, words)?;
+            Ok(Op::Time { path })
+        }
+        ServerWord::Link => {
+            let (path, to) = paths(alloc, words)?;
+            Ok(Op::Link { path, to })
+        }
+        ServerWord::Rename => {
+            let (path, to) = paths(alloc, words)?;
+            Ok(Op::Rename { path, to })
+        }
+        ServerWord::Symlink => symlink(alloc, words),
+        ServerWord::Write => write(alloc, words),
+        ServerWord::Fill => fill(alloc, words),
+        ServerWord::Truncate => truncate(alloc, words),
+        ServerWord::Read => read(alloc, words),
+        ServerWord::Sync => {
+            no_words(words)?;
+            Ok(Op::Sync)
+        }
+        ServerWord::Mount => {
+            no_words(words)?;
+            Ok(Op::Mount)
+        }
+        ServerWord::Unmount => {
+            no_words(words)?;
+            Ok(Op::Unmount)
+        }
+        ServerWord::Crash => crash(words),
+        ServerWord::Cut => {
+            let k = writes(words)?;
+            Ok(Op::CutAt { k })
+        }
+        ServerWord::Stall => {
+            no_words(words)?;
+            Ok(Op::Stall)
+        }
+    }
+}
+
+// What a server is asked.
+fn op_of(alloc: Global, words: &[u8]) -> Result<Op, Refusal>
+    ensures { Gives (op_of (words_of words.now)) result }
+{
+    let Some((word, rest)) = next_word(words) else {
+        return Err(Refusal::Bad(LineFault::MissingWord));
+    };
+    match server_word(word) {
+        Some(word) => op_with(alloc, word, rest),
+        None => Err(Refusal::Bad(LineFault::UnknownWord)),
+    }
+}
+
+// What the host is asked.
+fn host_op(word: &[u8], words: &[u8]) -> Result<HostOp, Refusal>
+    ensures { Gives (host_op_of word.now (words_of words.now)) result }
+{
+    if word == b"barrier".as_slice() {
+        no_words(words)?;
+        return Ok(HostOp::Barrier);
+    }
+    if word == b"halt".as_slice() {
+        no_words(words)?;
+        return Ok(HostOp::Halt);
+    }
+    if word == b"tick".as_slice() {
+        let n = number(one_word(words)?, 1, TICKS_MAX)?;
+        return Ok(HostOp::Tick { n });
+    }
+    Err(Refusal::Bad(LineFault::UnknownWord))
+}
+
+fn server_line(alloc: Global, word: &[u8], words: &[u8]) -> Result<Asked, Refusal>
+    ensures { Gives (server_line word.now (words_of words.now)) result }
+{
+    let who = server(word)?;
+    let op = op_of(alloc, words)?;
+    Ok(Asked {
+        who,
+        what: What::Server(op),
+    })
+}
+
+fn host_line(word: &[u8], words: &[u8]) -> Result<Asked, Refusal>
+    ensures { Gives (host_line word.now (words_of words.now)) result }
+{
+    let op = host_op(word, words)?;
+    Ok(Asked {
+        who: ServerId::HOST,
+        what: What::Host(op),
+    })
+}
+
+fn are_digits(word: &[u8]) -> bool
+    ensures { result ≡ list_all is_digit word.now }
+{
+    word.iter().all(|byte| byte.is_ascii_digit())
+}
+
+// What the words of a line ask.
+pub fn asked(alloc: Global, line: &[u8]) -> Result<Asked, Refusal>
+    ensures { Gives (asked_of (words_of line.now)) result }
+{
+    let Some((word, words)) = next_word(line) else {
+        return Err(Refusal::Bad(LineFault::MissingWord));
+    };
+    if are_digits(word) {
+        return server_line(alloc, word, words);
+    }
+    host_line(word, words)
+}
