@@ -12,7 +12,8 @@ use std::alloc::AllocError;
 use std::cmp::Ordering;
 use std::marker::Model;
 
-const NAME_BYTES_MAX: usize = 64;
+/// Bytes of a name, at most.
+pub(crate) const NAME_BYTES_MAX: usize = 64;
 
 /// A name, seen as the list of its bytes: 1 to 64 of them, none at most 0x20, 0x7F or `/`, and not `.` or `..`. Names are
 /// ordered by their bytes.
