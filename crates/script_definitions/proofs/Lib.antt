@@ -1,2 +1,5 @@
 pub mod NumeralLaws
 pub mod PartsLaws
+pub mod Splitting
+pub mod SaidWritten
+pub mod SaidRead
