@@ -101,8 +101,8 @@ server_read high w s wide e =
 pub who_read : (w : List ℕ) (s : ServerId) → who_at w ≡ Some s → IsWho s.0 × (w ≡ who_text s.0)
 who_read w s e =
     elim (chosen (bytes_eq w (codes "-")) (Some (server_number 255)) (server_at w) (Some s) e) [
-      inl h ↦ (let n : 255 ≡ s.0 = host_is s h.1 in (inr (sym n), word_is w (codes "-") h.0 ∙ ap who_text n))
-    | inr h ↦ (let k = server_read 15 w s (omega arith) h.1 in (inl k.0, k.1 ∙ sym (who_low s.0 k.0)))
+      | inl h ↦ (let n : 255 ≡ s.0 = host_is s h.1 in (inr (sym n), word_is w (codes "-") h.0 ∙ ap who_text n))
+      | inr h ↦ (let k = server_read 15 w s (omega arith) h.1 in (inl k.0, k.1 ∙ sym (who_low s.0 k.0)))
     ]
 
 pub two_read : (parts : List (List ℕ)) (p : ℕ × ℕ) → two_counts parts ≡ Some p → (p.0 < 2 ^ 32) × (p.1 < 2 ^ 32) × (parts ≡ decimal p.0 ∷ decimal p.1 ∷ [])
@@ -141,10 +141,10 @@ op_read w op e =
 hex_read : (b d : ℕ) → hex_value b ≡ Some d → (d < 16) × (b ≡ hex_digit d)
 hex_read b d e =
     elim (chosen (leb 48 b && leb b 57) (Some (b - 48)) (cond (leb 97 b && leb b 102) (Some (b - 87)) None) (Some d) e) [
-      inl h ↦ (let r = and_parts (leb 48 b) (leb b 57) h.0 in let l : 48 ≤ b = leb-true 48 b r.0 in let g : b ≤ 57 = leb-true b 57 r.1 in let s : b - 48 ≡ d = same_some (b - 48) d h.1 in
-        (omega arith, (let v : b ≡ 48 + d = omega arith in v) ∙ sym (ap (λ t. cond t (48 + d) (87 + d)) (lt-ltb d 10 (omega arith)))))
-    | inr h ↦ (let k = only_true (leb 97 b && leb b 102) (Some (b - 87)) d h.1 in let r = and_parts (leb 97 b) (leb b 102) k.0 in let l : 97 ≤ b = leb-true 97 b r.0 in let g : b ≤ 102 = leb-true b 102 r.1 in let s : b - 87 ≡ d = same_some (b - 87) d k.1 in
-        (omega arith, (let v : b ≡ 87 + d = omega arith in v) ∙ sym (ap (λ t. cond t (48 + d) (87 + d)) (le-ltb d 10 (omega arith)))))
+      | inl h ↦ (let r = and_parts (leb 48 b) (leb b 57) h.0 in let l : 48 ≤ b = leb-true 48 b r.0 in let g : b ≤ 57 = leb-true b 57 r.1 in let s : b - 48 ≡ d = same_some (b - 48) d h.1 in
+          (omega arith, (let v : b ≡ 48 + d = omega arith in v) ∙ sym (ap (λ t. cond t (48 + d) (87 + d)) (lt-ltb d 10 (omega arith)))))
+      | inr h ↦ (let k = only_true (leb 97 b && leb b 102) (Some (b - 87)) d h.1 in let r = and_parts (leb 97 b) (leb b 102) k.0 in let l : 97 ≤ b = leb-true 97 b r.0 in let g : b ≤ 102 = leb-true b 102 r.1 in let s : b - 87 ≡ d = same_some (b - 87) d k.1 in
+          (omega arith, (let v : b ≡ 87 + d = omega arith in v) ∙ sym (ap (λ t. cond t (48 + d) (87 + d)) (le-ltb d 10 (omega arith)))))
     ]
 
 byte_read : (high low b : ℕ) → byte_at high low ≡ Some b → (b < 256) × (high ≡ hex_digit (b / 16)) × (low ≡ hex_digit (b % 16))
@@ -167,9 +167,10 @@ hex_bytes_read (high ∷ low ∷ digits) bytes e =
     let t = then_some (λ b. option_map (λ bs. b ∷ bs) (hex_bytes digits)) (byte_at high low) bytes e in
     let m = map_some (λ bs. t.0 ∷ bs) (hex_bytes digits) bytes t.2 in
     let h = byte_read high low t.0 t.1 in
-    let r = hex_bytes_read digits m.0 m.1 in
-    (ap (list_all (λ b. ltb b 256)) (sym m.2) ∙ and_from (ltb t.0 256) (list_all (λ b. ltb b 256) m.0) (lt-ltb t.0 256 h.0) r.0,
-     ap (λ x. x ∷ low ∷ digits) h.1 ∙ ap (λ x. hex_digit (t.0 / 16) ∷ x ∷ digits) h.2 ∙ ap (λ x. hex_digit (t.0 / 16) ∷ hex_digit (t.0 % 16) ∷ x) r.1 ∙ ap (flat_map hex_byte) m.2)
+    let r = hex_bytes_read digits m.0 m.1 in (
+      ap (list_all (λ b. ltb b 256)) (sym m.2) ∙ and_from (ltb t.0 256) (list_all (λ b. ltb b 256) m.0) (lt-ltb t.0 256 h.0) r.0,
+      ap (λ x. x ∷ low ∷ digits) h.1 ∙ ap (λ x. hex_digit (t.0 / 16) ∷ x ∷ digits) h.2 ∙ ap (λ x. hex_digit (t.0 / 16) ∷ hex_digit (t.0 % 16) ∷ x) r.1 ∙ ap (flat_map hex_byte) m.2,
+    )
 
 -- replies: what is proper, and its parts
 pub record IsRead (r : Reply) (parts : List (List ℕ)) : Type 0 where
@@ -187,9 +188,9 @@ not_empty false o z e = (refl, e)
 pub shown_read : (parts : List (List ℕ)) (bytes : List ℕ) → shown_of parts ≡ Some bytes → IsRead (reply.Shown bytes) (codes "data" ∷ parts)
 shown_read parts bytes e =
     elim (chosen (is_end parts) (Some []) (sole some_bytes parts) (Some bytes) e) [
-      inl h ↦ (let n : [] ≡ bytes = same_some [] bytes h.1 in subst (λ bs. IsRead (reply.Shown bs) (codes "data" ∷ parts)) n (record { proper = refl; parts_are = ap (λ ps. codes "data" ∷ ps) (end_is parts h.0) }))
-    | inr h ↦ (let s = sole_some some_bytes parts bytes h.1 in let n = not_empty (eqb (length s.0) 0) (hex_bytes s.0) bytes s.2 in let r = hex_bytes_read s.0 bytes n.1 in
-        subst (λ ps. IsRead (reply.Shown bytes) (codes "data" ∷ ps)) (sym s.1) (shown_none s.0 bytes r.0 r.1 n.0))
+      | inl h ↦ (let n : [] ≡ bytes = same_some [] bytes h.1 in subst (λ bs. IsRead (reply.Shown bs) (codes "data" ∷ parts)) n (record { proper = refl; parts_are = ap (λ ps. codes "data" ∷ ps) (end_is parts h.0) }))
+      | inr h ↦ (let s = sole_some some_bytes parts bytes h.1 in let n = not_empty (eqb (length s.0) 0) (hex_bytes s.0) bytes s.2 in let r = hex_bytes_read s.0 bytes n.1 in
+          subst (λ ps. IsRead (reply.Shown bytes) (codes "data" ∷ ps)) (sym s.1) (shown_none s.0 bytes r.0 r.1 n.0))
     ]
 
 -- replies of one word
@@ -226,8 +227,8 @@ among_read [] w r p e = cc
 among_read (q ∷ replies) w r p e =
     let h = and_parts (is_plain q) (list_all is_plain replies) p in
     elim (chosen (bytes_eq w (reply_word q)) (Some q) (reply_among replies w) (Some r) e) [
-      inl k ↦ subst (λ t. IsRead t (w ∷ [])) (same_some q r k.1) (subst (λ t. IsRead q (t ∷ [])) (sym (word_is w (reply_word q) k.0)) (plain_read q h.0))
-    | inr k ↦ among_read replies w r h.1 k.1
+      | inl k ↦ subst (λ t. IsRead t (w ∷ [])) (same_some q r k.1) (subst (λ t. IsRead q (t ∷ [])) (sym (word_is w (reply_word q) k.0)) (plain_read q h.0))
+      | inr k ↦ among_read replies w r h.1 k.1
     ]
 
 either : {A : Type 0} (o p : Option A) (y : A) → first_some o p ≡ Some y → (o ≡ Some y) ⊎ (p ≡ Some y)
@@ -237,10 +238,10 @@ either (Some x) p y e = inl e
 pub plain_at_read : (w : List ℕ) (r : Reply) → plain_at w ≡ Some r → IsRead r (w ∷ [])
 plain_at_read w r e =
     elim (either (reply_among state_replies w) (first_some (reply_among place_replies w) (reply_among limit_replies w)) r e) [
-      inl h ↦ among_read state_replies w r refl h
-    | inr k ↦ elim (either (reply_among place_replies w) (reply_among limit_replies w) r k) [
-        inl h ↦ among_read place_replies w r refl h
-      | inr h ↦ among_read limit_replies w r refl h
+      | inl h ↦ among_read state_replies w r refl h
+      | inr k ↦ elim (either (reply_among place_replies w) (reply_among limit_replies w) r k) [
+        | inl h ↦ among_read place_replies w r refl h
+        | inr h ↦ among_read limit_replies w r refl h
       ]
     ]
 
@@ -254,10 +255,10 @@ of_word q r parts e h = as_read q r parts (same_some q r e) h
 full_read : (w : List ℕ) (r : Reply) → full_at w ≡ Some r → IsRead r (codes "nospace" ∷ w ∷ [])
 full_read w r e =
     elim (chosen (bytes_eq w (codes "inode")) (Some reply.NoInode) (cond (bytes_eq w (codes "dir")) (Some reply.NoDirBlock) (cond (bytes_eq w (codes "large")) (Some reply.NoLarge) None)) (Some r) e) [
-      inl h ↦ of_word reply.NoInode r (codes "nospace" ∷ w ∷ []) h.1 (record { proper = tt; parts_are = ap (λ t. codes "nospace" ∷ t ∷ []) (word_is w (codes "inode") h.0) })
-    | inr k ↦ elim (chosen (bytes_eq w (codes "dir")) (Some reply.NoDirBlock) (cond (bytes_eq w (codes "large")) (Some reply.NoLarge) None) (Some r) k.1) [
-        inl h ↦ of_word reply.NoDirBlock r (codes "nospace" ∷ w ∷ []) h.1 (record { proper = tt; parts_are = ap (λ t. codes "nospace" ∷ t ∷ []) (word_is w (codes "dir") h.0) })
-      | inr l ↦ (let h = only_true (bytes_eq w (codes "large")) (Some reply.NoLarge) r l.1 in of_word reply.NoLarge r (codes "nospace" ∷ w ∷ []) h.1 (record { proper = tt; parts_are = ap (λ t. codes "nospace" ∷ t ∷ []) (word_is w (codes "large") h.0) }))
+      | inl h ↦ of_word reply.NoInode r (codes "nospace" ∷ w ∷ []) h.1 (record { proper = tt; parts_are = ap (λ t. codes "nospace" ∷ t ∷ []) (word_is w (codes "inode") h.0) })
+      | inr k ↦ elim (chosen (bytes_eq w (codes "dir")) (Some reply.NoDirBlock) (cond (bytes_eq w (codes "large")) (Some reply.NoLarge) None) (Some r) k.1) [
+        | inl h ↦ of_word reply.NoDirBlock r (codes "nospace" ∷ w ∷ []) h.1 (record { proper = tt; parts_are = ap (λ t. codes "nospace" ∷ t ∷ []) (word_is w (codes "dir") h.0) })
+        | inr l ↦ (let h = only_true (bytes_eq w (codes "large")) (Some reply.NoLarge) r l.1 in of_word reply.NoLarge r (codes "nospace" ∷ w ∷ []) h.1 (record { proper = tt; parts_are = ap (λ t. codes "nospace" ∷ t ∷ []) (word_is w (codes "large") h.0) }))
       ]
     ]
 
@@ -268,9 +269,9 @@ sole_count_read parts n e = let s = sole_some count_at parts n e in let c = coun
 nospace_read : (w : List ℕ) (parts : List (List ℕ)) (r : Reply) → nospace_of w parts ≡ Some r → IsRead r (codes "nospace" ∷ w ∷ parts)
 nospace_read w parts r e =
     elim (chosen (bytes_eq w (codes "data")) (option_map reply.NoBlock (sole count_at parts)) (at_end (full_at w) parts) (Some r) e) [
-      inl h ↦ (let m = map_some reply.NoBlock (sole count_at parts) r h.1 in let c = sole_count_read parts m.0 m.1 in
-        as_read (reply.NoBlock m.0) r (codes "nospace" ∷ w ∷ parts) m.2 (record { proper = c.0; parts_are = ap (λ t. codes "nospace" ∷ t ∷ parts) (word_is w (codes "data") h.0) ∙ ap (λ ps. codes "nospace" ∷ codes "data" ∷ ps) c.1 }))
-    | inr k ↦ (let h = at_end_some (full_at w) parts r k.1 in subst (λ ps. IsRead r (codes "nospace" ∷ w ∷ ps)) (sym h.0) (full_read w r h.1))
+      | inl h ↦ (let m = map_some reply.NoBlock (sole count_at parts) r h.1 in let c = sole_count_read parts m.0 m.1 in
+          as_read (reply.NoBlock m.0) r (codes "nospace" ∷ w ∷ parts) m.2 (record { proper = c.0; parts_are = ap (λ t. codes "nospace" ∷ t ∷ parts) (word_is w (codes "data") h.0) ∙ ap (λ ps. codes "nospace" ∷ codes "data" ∷ ps) c.1 }))
+      | inr k ↦ (let h = at_end_some (full_at w) parts r k.1 in subst (λ ps. IsRead r (codes "nospace" ∷ w ∷ ps)) (sym h.0) (full_read w r h.1))
     ]
 
 -- a word, and what was read behind it

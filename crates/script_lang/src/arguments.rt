@@ -6,8 +6,8 @@ ghost use Rattle.script_lang.specs.Answers.{Gives};
 
 use crate::refusal::Refusal;
 use crate::words::{one_word, two_words};
-use frang_base::{parse_path, Path, PathFault, Text};
-use script_definitions::{number_within, LineFault};
+use frang_base::{Path, PathFault, Text, parse_path};
+use script_definitions::{LineFault, number_within};
 use std::alloc::Global;
 
 pub fn path(alloc: Global, word: &[u8]) -> Result<Path, Refusal>

@@ -9,15 +9,21 @@ use crate::arguments::{byte, number, offset, path, path_alone, paths, text};
 use crate::refusal::Refusal;
 use crate::words::{four_words, next_word, no_words, one_word, three_words, two_words};
 use frang_base::{HostOp, Op, ServerId, What};
-use script_definitions::{number_within, Asked, LineFault, ServerWord};
+use script_definitions::{Asked, LineFault, ServerWord, number_within};
 use std::alloc::Global;
 
 const TARGET_BYTES_MAX: usize = 384;
+
 const TEXT_BYTES_MAX: usize = 512;
+
 const FILE_BYTES_MAX: u32 = 1_114_112;
+
 const READ_BYTES_MAX: u32 = 4096;
+
 const WRITES_MAX: u32 = 1_000_000;
+
 const TICKS_MAX: u32 = 10_000;
+
 const SERVER_MAX: u32 = 15;
 
 // A word that a path follows alone.

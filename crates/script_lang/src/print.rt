@@ -114,12 +114,7 @@ fn print_next_path(path: &Path, to: &mut Vec<u8>) -> Result<(), NoMemory>
 }
 
 // A blank and an offset, and a blank and a text.
-fn print_bytes_at(
-    alloc: Global,
-    off: u32,
-    bytes: &[u8],
-    to: &mut Vec<u8>,
-) -> Result<(), NoMemory>
+fn print_bytes_at(alloc: Global, off: u32, bytes: &[u8], to: &mut Vec<u8>) -> Result<(), NoMemory>
     ensures { OnOk result (to.new.items ≡ to.old.items ++ (32 ∷ (decimal off ++ 32 ∷ bytes.now))) }
 {
     print_count(alloc, off, to)?;

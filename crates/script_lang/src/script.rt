@@ -15,6 +15,7 @@ use script_definitions::{Asked, LineFault, ScriptFault};
 use std::alloc::Global;
 
 const SCRIPT_BYTES_MAX: usize = 1_048_576;
+
 const LINES_MAX: u32 = 65_536;
 
 fn is_control(byte: u8) -> bool
@@ -125,13 +126,7 @@ fn is_halt(what: &What) -> bool
     }
 }
 
-#[tactic(auto, using(
-    crate::proofs::ReadingLines::skipped_turn,
-    crate::proofs::ReadingLines::asked_turn,
-    crate::proofs::ReadingLines::bad_turn,
-    crate::proofs::ReadingLines::many_turn,
-    crate::proofs::ReadingLines::end_turn
-))]
+#[tactic(auto, using(crate::proofs::ReadingLines::skipped_turn, crate::proofs::ReadingLines::asked_turn, crate::proofs::ReadingLines::bad_turn, crate::proofs::ReadingLines::many_turn, crate::proofs::ReadingLines::end_turn))]
 fn read_lines(alloc: Global, bytes: &[u8]) -> Result<Script, ReadFault>
     ensures { GivesNumbered (script_from 1 false (lines bytes.now)) result }
 {
