@@ -6,3 +6,4 @@ pub mod LockOrder
 pub mod ServerTests
 pub mod SortedEntries
 pub mod States
+pub mod Wants

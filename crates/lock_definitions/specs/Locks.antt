@@ -9,6 +9,7 @@ use Rattle.frang_base.specs.declared.lock.Mode.{Mode}
 use Rattle.frang_base.specs.declared.lock.Mode.TheVariants.{Shared, Sole}
 use Rattle.lock_definitions.specs.declared.claim.Claim.{Claim}
 use Rattle.lock_definitions.specs.declared.claim.LogHold.{LogHold}
+use Rattle.lock_definitions.specs.declared.limits.TheConstants.{SERVERS, LOGS}
 use Rattle.lock_definitions.specs.Order.{lock_cmp, is_lock}
 
 -- what one server has and wishes, by lock, ascending; a lock of which it neither has nor wishes anything isn't listed
@@ -64,11 +65,11 @@ log_hold locks dead = slice_index_or locks.logs dead None
 
 -- sixteen servers without claims
 unfoldable pub no_clerks : List Claims
-no_clerks = replicate 16 []
+no_clerks = replicate SERVERS []
 
 -- 256 logs that nobody has taken
 unfoldable pub no_logs : List (Option LogHold)
-no_logs = replicate 256 None
+no_logs = replicate LOGS None
 
 -- nothing held, wished or taken
 abbrev pub no_locks : Locks
@@ -85,7 +86,7 @@ pub record AreClaims (claims : Claims) : Type 0 where
 
 -- the state of every lock table: 16 servers, 256 logs, compatible holders
 pub record AreLocks (locks : Locks) : Type 0 where
-  pub servers : length locks.clerks ≡ 16
-  pub logs : length locks.logs ≡ 256
+  pub servers : length locks.clerks ≡ SERVERS
+  pub logs : length locks.logs ≡ LOGS
   pub claims : (server : ℕ) → AreClaims (claims_of locks server)
   pub compatible : AreCompatible locks

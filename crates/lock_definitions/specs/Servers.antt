@@ -1,5 +1,6 @@
 -- Tests of the servers that may hold locks, 0 to 15.
 use Rattle.std.specs.Prelude.{ℕ, zero, suc, ◌^◌, Bool, false, ◌||◌, if◌then◌else◌, bit_or}
+use Rattle.lock_definitions.specs.declared.limits.TheConstants.{SERVERS}
 
 -- some number below the bound passes
 abbrev pub any_below : (ℕ → Bool) → ℕ → Bool
@@ -13,8 +14,8 @@ bits_below passes (suc n) = if passes n then bit_or (bits_below passes n) (2 ^ n
 
 -- some server passes
 unfoldable pub any_server : (ℕ → Bool) → Bool
-any_server passes = any_below passes 16
+any_server passes = any_below passes SERVERS
 
 -- a bit for each server that passes
 unfoldable pub server_bits : (ℕ → Bool) → ℕ
-server_bits passes = bits_below passes 16
+server_bits passes = bits_below passes SERVERS

@@ -11,8 +11,9 @@ mod lists;
 
 pub use claim::{AskedFor, Claim, LogHold, LogTaken, Wanted};
 pub use laws::{
-    each_asked_lock_is_listed, holders_stay_compatible, locks_are_asked_for,
-    same_locks_answer_alike, waits_for_each_holder,
+    cleared_servers_have_nothing, each_asked_lock_is_listed, holders_stay_compatible,
+    locks_are_asked_for, same_locks_answer_alike, waits_for_each_holder,
+    wants_are_granted_or_noted,
 };
 pub use limits::{LAST_TICK, LEASE_TICKS, LOGS, MARGIN_TICKS, SERVERS};
 pub use lists::{ClerkLocks, LockList, LogList};

@@ -1,5 +1,5 @@
 // What all servers have and wish.
-ghost use Rattle.std.specs.Prelude.{◌≡◌, ◌<◌, ◌≤◌, [], map, IsOk, IsSome, OnOk, OnErr, slice_index, slice_index_or, slice_set};
+ghost use Rattle.std.specs.Prelude.{◌≡◌, ◌<◌, [], map, IsOk, IsSome, OnOk, OnErr, slice_index, slice_index_or, slice_set};
 ghost use Rattle.std.specs.Map.{lookup};
 ghost use Rattle.lock_definitions.specs.Order.{is_lock};
 ghost use Rattle.lock_definitions.specs.Locks.{claim_in, with_claim, no_clerks};
@@ -20,13 +20,14 @@ pub(crate) struct Clerks {
 
 impl Model for Clerks {
     ghost use Rattle.std.specs.Prelude.{◌≡◌, length};
+    ghost use Rattle.lock_definitions.specs.declared.limits.TheConstants.{SERVERS};
     ghost use Rattle.lock_table.specs.Kept.{AllKept, all_kept};
 
     ghost Value = { AllKept };
 
     ghost view = { λ clerks. all_kept clerks.clerks };
 
-    ghost invariant = { λ clerks. length clerks.clerks ≡ 16 };
+    ghost invariant = { λ clerks. length clerks.clerks ≡ SERVERS };
 }
 
 // A clerk for each server, without claims.
@@ -68,7 +69,7 @@ impl Clerks {
 
     /// Makes room for one more claim of a server. Nothing else changes.
     pub(crate) fn reserve(&mut self, server: ServerId) -> Result<(), NoMemory>
-        requires { server.0 ≤ 15 }
+        requires { server.0 < SERVERS }
         ensures claims { self.new.claims ≡ self.old.claims }
         ensures ok { OnOk result (0 < slice_index self.new.room server.0) }
     {
@@ -83,7 +84,7 @@ impl Clerks {
         lock: LockId,
         claim: Claim,
     ) -> Result<(), NoMemory>
-        requires { server.0 ≤ 15 }
+        requires { server.0 < SERVERS }
         ensures ok { OnOk result (self.new.claims ≡ slice_set self.old.claims server.0 (with_claim (slice_index_or self.old.claims server.0 []) lock claim)) }
         ensures err { OnErr result (self.new.claims ≡ self.old.claims) }
         ensures sure { 0 < slice_index self.old.room server.0 → IsOk result }

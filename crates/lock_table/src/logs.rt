@@ -15,13 +15,14 @@ pub(crate) struct Logs {
 
 impl Model for Logs {
     ghost use Rattle.std.specs.Prelude.{◌≡◌, List, Option, length};
+    ghost use Rattle.lock_definitions.specs.declared.limits.TheConstants.{LOGS};
     ghost use Rattle.lock_definitions.specs.declared.claim.LogHold.{LogHold};
 
     ghost Value = { List (Option LogHold) };
 
     ghost view = { λ logs. logs.holds };
 
-    ghost invariant = { λ logs. length logs.holds ≡ 256 };
+    ghost invariant = { λ logs. length logs.holds ≡ LOGS };
 }
 
 #[tactic(auto, unfolding(lock_definitions::specs::Locks::no_logs))]

@@ -1,5 +1,5 @@
 // The lock table.
-ghost use Rattle.std.specs.Prelude.{◌≡◌, ◌≤◌, ◌++◌, IsOk, IsSome, IfOk, OnOk, OnErr};
+ghost use Rattle.std.specs.Prelude.{◌≡◌, ◌<◌, ◌++◌, IsOk, IsSome, IfOk, OnOk, OnErr};
 ghost use Rattle.std.specs.Option.{option_map, option_to_list};
 ghost use Rattle.lock_definitions.specs.Locks.{no_locks, claim_of, held, is_wished, AreLocks};
 ghost use Rattle.lock_definitions.specs.Calls.{holders, want_answer, wanted, released, downgraded, is_wished_by_other, asked_for, revokes, log_taken_by, log_answer, taken, extended, cleared};
@@ -105,7 +105,7 @@ impl LockTable {
     /// sole; the wish is then noted, until it is granted or the server is cleared. Else the mode is granted; who holds the lock
     /// sole keeps it so. After `NoMemory` the locks are as before; it doesn't come where there is room for this want.
     pub fn want(&mut self, server: ServerId, lock: LockId, mode: Mode) -> Result<Wanted, NoMemory>
-        requires { server.0 ≤ 15 }
+        requires { server.0 < SERVERS }
         ensures answer { IfOk result (λ answer. answer ≡ want_answer self.old.locks server.0 lock mode) }
         ensures ok { OnOk result (self.new.locks ≡ wanted self.old.locks server.0 lock mode) }
         ensures err { OnErr result (self.new.locks ≡ self.old.locks) }
@@ -119,7 +119,7 @@ impl LockTable {
 
     /// Makes room for a want of this server, 0 to 15, for this lock. Nothing else changes, whatever the answer.
     pub fn reserve(&mut self, server: ServerId, lock: LockId) -> Result<(), NoMemory>
-        requires { server.0 ≤ 15 }
+        requires { server.0 < SERVERS }
         ensures locks { self.new.locks ≡ self.old.locks }
         ensures ok { OnOk result (HasRoom self.new server.0 lock) }
     {
