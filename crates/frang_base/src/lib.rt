@@ -3,6 +3,7 @@
 //! on std alone.
 #![tactic(auto)]
 
+mod bitmap;
 mod change;
 mod fault;
 mod lock;
@@ -16,6 +17,7 @@ mod script;
 mod sector;
 mod text;
 
+pub use bitmap::{Bitmap, Held};
 pub use change::{Change, Patch, Patches};
 pub use fault::{NoMemory, PathFault};
 pub use lock::{LockId, Mode};
