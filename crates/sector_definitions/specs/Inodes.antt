@@ -1,0 +1,73 @@
+-- Inode sectors.
+use Rattle.std.specs.Prelude.{ℕ, zero, suc, ◌*◌, Bool, not, ◌&&◌, ◌||◌, ◌==◌, ◌≡◌, ◌^◌, if◌then◌else◌, nat_le, nat_lt, Option, Some, None, List, [], ◌∷◌, ◌++◌, length, take, drop, slice_index, IsTrue}
+use Rattle.std.specs.List.{list_all, flat_map}
+use Rattle.byteorder.specs.Endian.{little_bytes}
+use Rattle.tree_definitions.specs.Tree.{small_blocks_of}
+use Rattle.sector_definitions.specs.declared.inode.Inode.{Inode}
+use Rattle.sector_definitions.specs.Bytes.{number_at, zeros, are_zero, same_bytes}
+
+-- its bytes, field by field
+abbrev pub inode_bytes : Inode → List ℕ
+inode_bytes x =
+    little_bytes 8 x.version ++ x.kind ∷ 0 ∷ little_bytes 2 x.links ++ little_bytes 2 x.blocks ++ 0 ∷ 0 ∷ little_bytes 8 x.size
+    ++ little_bytes 8 x.birth ++ flat_map (little_bytes 4) x.small ++ little_bytes 4 x.large ++ zeros 28 ++ x.target
+
+-- a byte of a link's target: above the blank, and not the delete byte
+abbrev pub is_target_byte : ℕ → Bool
+is_target_byte b = nat_lt 32 b && not (b == 127)
+
+-- the small blocks past those in use are 0
+abbrev pub ends_blocks : Inode → Bool
+ends_blocks x = are_zero (drop x.blocks x.small)
+
+-- all but the version is 0
+abbrev pub is_free_inode : Inode → Bool
+is_free_inode x = x.kind == 0 && x.links == 0 && x.blocks == 0 && x.size == 0 && x.birth == 0 && are_zero x.small && x.large == 0 && are_zero x.target
+
+-- a file has 1 to 1,000 links and at most 1,114,112 bytes, the first 65,536 of them in small blocks of 4,096, the others in a large block
+abbrev pub is_file_inode : Inode → Bool
+is_file_inode x =
+    x.kind == 1 && nat_le 1 x.links && nat_le x.links 1000 && nat_le x.size 1114112 && x.blocks == small_blocks_of x.size && ends_blocks x
+    && (if nat_lt 65536 x.size then nat_lt 0 x.large else x.large == 0) && are_zero x.target
+
+-- a directory has one link and at most 16 blocks, each with room for 56 entries
+abbrev pub is_directory_inode : Inode → Bool
+is_directory_inode x =
+    x.kind == 2 && x.links == 1 && nat_le x.blocks 16 && nat_le x.size (56 * x.blocks) && ends_blocks x && x.large == 0 && are_zero x.target
+
+-- a symbolic link has 1 to 1,000 links, no blocks, and a target of 1 to 384 bytes
+abbrev pub is_link_inode : Inode → Bool
+is_link_inode x =
+    x.kind == 3 && nat_le 1 x.links && nat_le x.links 1000 && x.blocks == 0 && are_zero x.small && x.large == 0 && nat_le 1 x.size && nat_le x.size 384
+    && list_all is_target_byte (take x.size x.target) && are_zero (drop x.size x.target)
+
+-- an inode that may stand on the disk
+abbrev pub inode_fits : Inode → Bool
+inode_fits x = is_free_inode x || is_file_inode x || is_directory_inode x || is_link_inode x
+
+-- so many numbers of four bytes from the first byte on
+abbrev pub numbers_in : ℕ → List ℕ → List ℕ
+numbers_in zero bytes = []
+numbers_in (suc n) bytes = number_at 4 0 bytes ∷ numbers_in n (drop 4 bytes)
+
+-- what stands at the places of its fields
+abbrev pub inode_fields : List ℕ → Inode
+inode_fields block = record
+  { version = number_at 8 0 block
+  ; kind = slice_index block 8
+  ; links = number_at 2 10 block
+  ; blocks = number_at 2 12 block
+  ; size = number_at 8 16 block
+  ; birth = number_at 8 24 block
+  ; small = numbers_in 16 (drop 32 block)
+  ; large = number_at 4 96 block
+  ; target = drop 128 block
+  }
+
+-- the block is the sector of this inode
+abbrev pub IsInodeSector : List ℕ → Inode → Type 0
+IsInodeSector block x = (block ≡ inode_bytes x) × IsTrue (inode_fits x)
+
+-- the inode whose sector the block is
+abbrev pub inode_in : List ℕ → Option Inode
+inode_in block = if inode_fits (inode_fields block) && same_bytes (inode_bytes (inode_fields block)) block then Some (inode_fields block) else None

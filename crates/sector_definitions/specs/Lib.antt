@@ -1,0 +1,7 @@
+pub mod Bytes
+pub mod Regions
+pub mod Params
+pub mod Inodes
+pub mod Directories
+pub mod Bitmaps
+pub mod LogSectors

@@ -1,0 +1,56 @@
+-- Sectors of logs. A sector of zeros in slot j is the empty sector numbered j; any other one has its number in its first bytes.
+use Rattle.std.specs.Prelude.{ℕ, ◌+◌, ◌%◌, ◌^◌, Bool, ◌&&◌, ◌||◌, ◌==◌, ◌≡◌, if◌then◌else◌, nat_le, nat_lt, Option, Some, None, List, [], ◌∷◌, ◌++◌, drop, IsTrue}
+use Rattle.byteorder.specs.Endian.{little_bytes}
+use Rattle.frang_base.specs.declared.sector.OpNo.{OpNo}
+use Rattle.sector_definitions.specs.declared.log_sector.LogSector.{LogSector}
+use Rattle.sector_definitions.specs.Bytes.{number_at, zeros, are_zero, same_bytes}
+
+-- the bytes of a sector with a number of its own, field by field
+abbrev pub numbered_bytes : LogSector → List ℕ
+numbered_bytes x =
+    little_bytes 8 x.seq ++ little_bytes 8 x.op.0 ++ little_bytes 2 x.part ++ little_bytes 2 x.parts ++ little_bytes 2 x.used ++ 0 ∷ 0 ∷ x.body
+
+-- the bytes of a sector: the first 256 numbers are those of sectors of zeros
+abbrev pub log_sector_bytes : LogSector → List ℕ
+log_sector_bytes x = if nat_lt x.seq 256 then zeros 512 else numbered_bytes x
+
+-- all but the number is 0
+abbrev pub is_empty_sector : LogSector → Bool
+is_empty_sector x = x.op.0 == 0 && x.part == 0 && x.parts == 0 && x.used == 0 && are_zero x.body
+
+-- a part of a record: every part but the last uses all 488 bytes of the body, the last at least one, and zeros follow
+abbrev pub is_record_sector : LogSector → Bool
+is_record_sector x =
+    nat_le 256 x.seq && nat_le 1 x.op.0 && nat_lt x.part x.parts && nat_le x.parts 9
+    && (if x.part + 1 == x.parts then nat_le 1 x.used && nat_le x.used 488 else x.used == 488) && are_zero (drop x.used x.body)
+
+-- a sector that may stand in a slot
+abbrev pub log_sector_fits : ℕ → LogSector → Bool
+log_sector_fits slot x = nat_lt x.seq (2 ^ 63) && x.seq % 256 == slot && (is_empty_sector x || is_record_sector x)
+
+-- what stands at the places of a sector's fields
+abbrev pub log_sector_fields : List ℕ → LogSector
+log_sector_fields block = record
+  { seq = number_at 8 0 block
+  ; op = record { 0 = number_at 8 8 block }
+  ; part = number_at 2 16 block
+  ; parts = number_at 2 18 block
+  ; used = number_at 2 20 block
+  ; body = drop 24 block
+  }
+
+-- the empty sector of this number
+abbrev pub empty_sector : ℕ → LogSector
+empty_sector seq = record { seq = seq; op = record { 0 = 0 }; part = 0; parts = 0; used = 0; body = zeros 488 }
+
+-- the block in this slot is this sector of a log
+abbrev pub IsLogSector : ℕ → List ℕ → LogSector → Type 0
+IsLogSector slot block x = (block ≡ log_sector_bytes x) × IsTrue (log_sector_fits slot x)
+
+-- the sector of a log that a block with a number of its own is
+abbrev pub numbered_sector_in : ℕ → List ℕ → LogSector → Option LogSector
+numbered_sector_in slot block x = if nat_le 256 x.seq && log_sector_fits slot x && same_bytes (numbered_bytes x) block then Some x else None
+
+-- the sector of a log that the block in this slot is
+abbrev pub log_sector_in : ℕ → List ℕ → Option LogSector
+log_sector_in slot block = if same_bytes (zeros 512) block then Some (empty_sector slot) else numbered_sector_in slot block (log_sector_fields block)
