@@ -1,0 +1,4 @@
+pub mod Disks
+pub mod Store
+pub mod Naming
+pub mod Standing

@@ -1,0 +1,62 @@
+// A disk.
+ghost use Rattle.std.specs.Prelude.{◌≡◌, [], OnErr, OnOk};
+ghost use Rattle.std.specs.BTreeMap.{insert_entry};
+ghost use Rattle.std.specs.Ordering.{nat_cmp};
+ghost use Rattle.disk_definitions.specs.Disks.{sectors_of};
+ghost use Rattle.sector_definitions.specs.Bytes.{zeros};
+
+use frang_base::{Block, NoMemory, Sector};
+use std::alloc::Global;
+use std::collections::BTreeMap;
+use std::marker::Model;
+
+/// A disk, seen as the sectors that were set with their blocks, ascending; every other sector is zero.
+#[derive(Debug, Drop)]
+pub struct Disk {
+    blocks: BTreeMap<u64, Block>,
+}
+
+impl Model for Disk {
+    ghost use Rattle.std.specs.Prelude.{List, ℕ};
+
+    ghost Value = { List (ℕ × List ℕ) };
+
+    ghost view = { λ d. d.blocks.entries };
+}
+
+impl Disk {
+    /// A disk of zeros. It takes no memory.
+    pub fn new(alloc: Global) -> Self
+        ensures { result ≡ [] }
+    {
+        Disk {
+            blocks: BTreeMap::new(alloc),
+        }
+    }
+
+    /// The sector has this block, in place of what it had. After `NoMemory` nothing has changed.
+    pub fn set(&mut self, sector: Sector, block: Block) -> Result<(), NoMemory>
+        ensures ok { OnOk result (self.new ≡ insert_entry nat_cmp self.old sector.0 block) }
+        ensures err { OnErr result (self.new ≡ self.old) }
+    {
+        self.blocks.insert(sector.0, block)?;
+        Ok(())
+    }
+
+    /// The block of a sector: zeros where it wasn't set.
+    pub fn get(&self, sector: Sector) -> Block
+        ensures { result ≡ sectors_of self.now sector.0 }
+    {
+        match self.blocks.get(&sector.0) {
+            Some(block) => *block,
+            None => zero_block(),
+        }
+    }
+}
+
+#[tactic(auto, unfolding(sector_definitions::specs::Bytes::zeros))]
+fn zero_block() -> Block
+    ensures { result ≡ zeros 512 }
+{
+    [0; 512]
+}
