@@ -1,3 +1,4 @@
+pub mod CellLaws
 pub mod Sketch
 pub mod AppliedExamples
 pub mod HistoryExamples

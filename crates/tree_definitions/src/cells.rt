@@ -1,6 +1,8 @@
 // The bytes of a file, of which some may be in doubt.
-ghost use Rattle.std.specs.Prelude.{◌≡◌, ◌≤◌, [], length};
+ghost use Rattle.std.specs.Prelude.{◌≡◌, ◌≤◌, ◌+◌, ◌-◌, ◌++◌, [], length, map, take, drop, replicate, OnOk, OnErr};
+ghost use Rattle.tree_definitions.specs.Apply.{overwritten};
 
+use frang_base::NoMemory;
 use std::alloc::{AllocError, Global};
 use std::marker::Model;
 
@@ -28,6 +30,37 @@ impl Model for Cells {
     ghost invariant = { λ c. length c.cells.items ≤ 1114112 };
 }
 
+// Lengthens cells up to an end, where they are fewer.
+fn extend_to(cells: &mut Vec<Cell>, end: usize) -> Result<(), NoMemory>
+    ensures ok { OnOk result (cells.new.items ≡ cells.old.items ++ replicate (end - length cells.old.items) (Cell.Byte 0)) }
+    ensures err { OnErr result (cells.new.items ≡ cells.old.items) }
+{
+    if cells.len() < end {
+        cells.resize(end, Cell::Byte(0))?;
+    }
+    Ok(())
+}
+
+// Puts bytes over cells that are there.
+fn put_bytes(cells: &mut [Cell], off: usize, bytes: &[u8])
+    requires { off + length bytes.now ≤ length cells.old }
+    ensures { cells.new ≡ overwritten cells.old off (map Cell.Byte bytes.now) }
+{
+    for (i, byte) in bytes.iter().enumerate() {
+        cells[off + i] = Cell::Byte(*byte);
+    }
+}
+
+// Puts the same byte over cells that are there.
+fn put_byte(cells: &mut [Cell], off: usize, len: usize, byte: u8)
+    requires { off + len ≤ length cells.old }
+    ensures { cells.new ≡ overwritten cells.old off (replicate len (Cell.Byte byte)) }
+{
+    for i in 0..len {
+        cells[off + i] = Cell::Byte(byte);
+    }
+}
+
 impl Cells {
     /// An empty file. It takes no memory.
     pub fn new(alloc: Global) -> Self
@@ -51,6 +84,49 @@ impl Cells {
         ensures { result.now ≡ self.now }
     {
         &self.cells
+    }
+
+    /// The cells from an offset on, at most so many.
+    pub fn shown(&self, off: usize, len: usize) -> &[Cell]
+        requires { off ≤ length self.now }
+        ensures { result.now ≡ take len (drop off self.now) }
+    {
+        let rest = &self.cells.as_slice()[off..];
+        &rest[..len.min(rest.len())]
+    }
+
+    /// Puts bytes into the cells from an offset on; what lies past their end is added. After `NoMemory` the cells are as before.
+    #[tactic(auto, using(crate::proofs::CellLaws::overwritten_padded))]
+    pub fn overwrite(&mut self, off: usize, bytes: &[u8]) -> Result<(), NoMemory>
+        requires begins { off ≤ length self.old }
+        requires ends { off + length bytes.now ≤ 1114112 }
+        ensures ok { OnOk result (self.new ≡ overwritten self.old off (map Cell.Byte bytes.now)) }
+        ensures err { OnErr result (self.new ≡ self.old) }
+    {
+        extend_to(&mut self.cells, off + bytes.len())?;
+        put_bytes(&mut self.cells, off, bytes);
+        Ok(())
+    }
+
+    /// Puts so many times the same byte into the cells from an offset on, as `overwrite` does. After `NoMemory` the cells are as
+    /// before.
+    #[tactic(auto, using(crate::proofs::CellLaws::overwritten_padded))]
+    pub fn fill(&mut self, off: usize, len: usize, byte: u8) -> Result<(), NoMemory>
+        requires begins { off ≤ length self.old }
+        requires ends { off + len ≤ 1114112 }
+        ensures ok { OnOk result (self.new ≡ overwritten self.old off (replicate len (Cell.Byte byte))) }
+        ensures err { OnErr result (self.new ≡ self.old) }
+    {
+        extend_to(&mut self.cells, off + len)?;
+        put_byte(&mut self.cells, off, len, byte);
+        Ok(())
+    }
+
+    /// Keeps the first `len` cells, or all where they are fewer.
+    pub fn truncate(&mut self, len: usize)
+        ensures { self.new ≡ take len self.old }
+    {
+        self.cells.truncate(len);
     }
 }
 

@@ -1,6 +1,6 @@
 // The entries of a directory.
-ghost use Rattle.std.specs.Prelude.{◌≡◌, ◌≤◌, ◌<◌, [], length, OnOk, OnErr};
-ghost use Rattle.tree_definitions.specs.Entries.{entry_at, with_entry};
+ghost use Rattle.std.specs.Prelude.{◌≡◌, ◌≤◌, ◌<◌, [], length, IsSome, OnOk, OnErr};
+ghost use Rattle.tree_definitions.specs.Entries.{entry_at, with_entry, without_entry};
 
 use frang_base::{Name, NoMemory};
 use std::alloc::{AllocError, Global};
@@ -57,6 +57,25 @@ impl Entries {
     {
         self.map.insert(name, birth)?;
         Ok(())
+    }
+
+    /// Gives a name that is there another node. It takes no memory.
+    pub fn replace(&mut self, name: Name, birth: u64)
+        requires { IsSome (entry_at self.old name) }
+        ensures { self.new ≡ with_entry self.old name birth }
+    {
+        match self.map.insert(name, birth) {
+            Ok(_) => {}
+            Err(_) => unreachable!(),
+        }
+    }
+
+    /// Removes a name, if it is there.
+    pub fn remove(&mut self, name: &Name)
+        ensures is { self.new ≡ without_entry self.old name.now }
+        ensures shorter { IsSome (entry_at self.old name.now) → length self.new < 896 }
+    {
+        self.map.remove(name);
     }
 
     /// The entries as a map from names to births.
