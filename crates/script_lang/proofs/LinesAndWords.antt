@@ -7,7 +7,7 @@ use Rattle.std.proofs.lemmas.Iterator.Adapters.{position_from-zero}
 use Rattle.std.proofs.lemmas.Bool.{ne_eqb}
 use Rattle.frang_base.proofs.Cutting.{cut_where, cut_nowhere}
 use Rattle.script_definitions.specs.ScriptWords.{is_blank, is_some_word, words_of}
-use Rattle.script_definitions.proofs.PartsLaws.{HasFirst, split_has}
+use Rattle.script_definitions.proofs.PartsLaws.{HasFirst, split_has, part_alone}
 use Rattle.script_lang.specs.Words.{blank_parts, words_left}
 
 -- a line with its line feed
@@ -16,19 +16,6 @@ parts_then x parts h = ap (λ ps. lines_of_parts (x ∷ ps)) h.is ∙ ap (λ ps.
 
 pub line_before : (text line after : List ℕ) → slice_split (λ b. eqb b 10) text ≡ line ∷ slice_split (λ b. eqb b 10) after → lines text ≡ strip_carriage_return line ∷ lines after
 line_before text line after e = ap lines_of_parts e ∙ parts_then line _ (split_has (λ b. eqb b 10) after)
-
--- the one part of a text is the text
-onto_alone : (x : ℕ) (xs part line : List ℕ) (parts : List (List ℕ)) → (parts ≡ [] → part ≡ xs) → onto_first x (part ∷ parts) ≡ line ∷ [] → line ≡ x ∷ xs
-onto_alone x xs part line [] same e = let s : part ≡ xs = same refl in cc
-onto_alone x xs part line (p ∷ ps) same e = cc
-
-alone_step : (b : Bool) (x : ℕ) (xs line : List ℕ) (parts : List (List ℕ)) → (h : HasFirst parts) → (parts ≡ h.first ∷ [] → h.first ≡ xs) → cond b ([] ∷ parts) (onto_first x parts) ≡ line ∷ [] → line ≡ x ∷ xs
-alone_step true x xs line parts h same e = let i : parts ≡ h.first ∷ h.rest = h.is in cc
-alone_step false x xs line parts h same e = onto_alone x xs h.first line h.rest (λ n. same (h.is ∙ ap (λ r. h.first ∷ r) n)) (sym (ap (onto_first x) h.is) ∙ e)
-
-pub part_alone : (p : ℕ → Bool) (xs line : List ℕ) → slice_split p xs ≡ line ∷ [] → line ≡ xs
-part_alone p [] line e = cc
-part_alone p (x ∷ xs) line e = alone_step (p x) x xs line (slice_split p xs) (split_has p xs) (λ i. part_alone p xs _ i) e
 
 -- the last line, without a line feed
 some_line : (x : ℕ) (xs : List ℕ) → slice_split (λ b. eqb b 10) (x ∷ xs) ≡ (x ∷ xs) ∷ [] → lines (x ∷ xs) ≡ (x ∷ xs) ∷ []
