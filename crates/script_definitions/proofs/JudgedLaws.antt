@@ -26,7 +26,7 @@ use Rattle.script_definitions.specs.declared.fault.ScriptFault.{ScriptFault}
 use Rattle.script_definitions.proofs.NumeralLaws.{numeral-decimal}
 use Rattle.script_definitions.proofs.PartsLaws.{HasFirst}
 use Rattle.script_definitions.proofs.SaidWritten.{numeral_differs}
-use Rattle.script_definitions.proofs.AskedLaws.{bind_ok, same_ok, guard_ok, byte_complete}
+use Rattle.script_definitions.proofs.AskedLaws.{bind_ok, same_ok, guard_ok, byte_sound, byte_complete}
 use Rattle.script_definitions.proofs.AskedRead.{asked, asked_sound, asked_complete}
 use Rattle.script_definitions.proofs.GoodWords.{is_good, good_some, words_good, joined_words, joined_text, hex_good}
 
@@ -67,60 +67,24 @@ last_good g a b c d x y e h =
     let s = and_parts (g d) (g x && true) r.1 in
     and_from (g a) (g b && (g c && (g d && (g y && true)))) p.0 (and_from (g b) (g c && (g d && (g y && true))) q.0 (and_from (g c) (g d && (g y && true)) r.0 (and_from (g d) (g y && true) s.0 (and_from (g y) true h refl))))
 
-op_good : (ws : List (List ℕ)) (o : Op) → IsProperOp o → OpSpelled ws o → list_all is_good ws ≡ true → list_all is_good (op_words o) ≡ true
-op_good ws (op.Fill path off len byte) h e g = last_good is_good (codes "fill") (path_text path) (decimal off) (decimal len) e.0 (hex_byte byte) (sym (ap (list_all is_good) e.2) ∙ g) (hex_good byte h.4)
-op_good ws (op.Create path) h e g = sym (ap (list_all is_good) e) ∙ g
-op_good ws (op.Mkdir path) h e g = sym (ap (list_all is_good) e) ∙ g
-op_good ws (op.Link path to) h e g = sym (ap (list_all is_good) e) ∙ g
-op_good ws (op.Symlink path target) h e g = sym (ap (list_all is_good) e) ∙ g
-op_good ws (op.Unlink path) h e g = sym (ap (list_all is_good) e) ∙ g
-op_good ws (op.Rmdir path) h e g = sym (ap (list_all is_good) e) ∙ g
-op_good ws (op.Rename path to) h e g = sym (ap (list_all is_good) e) ∙ g
-op_good ws (op.Write path off bytes) h e g = sym (ap (list_all is_good) e) ∙ g
-op_good ws (op.Truncate path len) h e g = sym (ap (list_all is_good) e) ∙ g
-op_good ws (op.Read path off len) h e g = sym (ap (list_all is_good) e) ∙ g
-op_good ws (op.Stat path) h e g = sym (ap (list_all is_good) e) ∙ g
-op_good ws (op.List path) h e g = sym (ap (list_all is_good) e) ∙ g
-op_good ws (op.Readlink path) h e g = sym (ap (list_all is_good) e) ∙ g
-op_good ws (op.Time path) h e g = sym (ap (list_all is_good) e) ∙ g
-op_good ws op.Sync h e g = sym (ap (list_all is_good) e) ∙ g
-op_good ws op.Mount h e g = sym (ap (list_all is_good) e) ∙ g
-op_good ws op.Unmount h e g = sym (ap (list_all is_good) e) ∙ g
-op_good ws op.Crash h e g = sym (ap (list_all is_good) e) ∙ g
-op_good ws (op.CrashAt k) h e g = sym (ap (list_all is_good) e) ∙ g
-op_good ws (op.CutAt k) h e g = sym (ap (list_all is_good) e) ∙ g
-op_good ws op.Stall h e g = sym (ap (list_all is_good) e) ∙ g
+-- what holds of the words that were read holds of those that print it, where it holds of a `fill` with any digits of its byte
+pub spelled_by : (P : List (List ℕ) → Type 0) (ws : List (List ℕ)) (o : Op) → OpSpelled ws o → ((path : List (List ℕ)) (off len : ℕ) (digits : List ℕ) (byte : ℕ) → byte_at digits ≡ Ok byte → P (codes "fill" ∷ path_text path ∷ decimal off ∷ decimal len ∷ digits ∷ []) → P (op_words (op.Fill path off len byte))) → P ws → P (op_words o)
+spelled_by P ws (op.Fill path off len byte) e fill p = fill path off len e.0 byte e.1 (subst P e.2 p)
+spelled_by P ws _ e fill p = subst P e p
+
+op_good : (ws : List (List ℕ)) (o : Op) → OpSpelled ws o → list_all is_good ws ≡ true → list_all is_good (op_words o) ≡ true
+op_good ws o e g = spelled_by (λ words. list_all is_good words ≡ true) ws o e (λ path off len digits byte is good. last_good is_good (codes "fill") (path_text path) (decimal off) (decimal len) digits (hex_byte byte) good (hex_good byte (byte_sound digits byte is))) g
 
 pub line_good : (ws : List (List ℕ)) (who : ℕ) (what : What) → IsProperWhat who what → WhatSpelled ws who what → list_all is_good ws ≡ true → list_all is_good (line_words who what) ≡ true
 line_good ws who (Server o) h e g =
     let k = and_parts (is_good (decimal who)) (list_all is_good e.0) (sym (ap (list_all is_good) e.1) ∙ g) in
-    and_from (is_good (decimal who)) (list_all is_good (op_words o)) k.0 (op_good e.0 o h.1 e.2 k.1)
+    and_from (is_good (decimal who)) (list_all is_good (op_words o)) k.0 (op_good e.0 o e.2 k.1)
 line_good ws who (Host o) h e g = sym (ap (list_all is_good) e) ∙ g
 
 -- printed words ask the same
 op_printed : (ws : List (List ℕ)) (o : Op) → IsProperOp o → OpSpelled ws o → OpSpelled (op_words o) o
 op_printed ws (op.Fill path off len byte) h e = (hex_byte byte, byte_complete byte h.4, refl)
-op_printed ws (op.Create path) h e = refl
-op_printed ws (op.Mkdir path) h e = refl
-op_printed ws (op.Link path to) h e = refl
-op_printed ws (op.Symlink path target) h e = refl
-op_printed ws (op.Unlink path) h e = refl
-op_printed ws (op.Rmdir path) h e = refl
-op_printed ws (op.Rename path to) h e = refl
-op_printed ws (op.Write path off bytes) h e = refl
-op_printed ws (op.Truncate path len) h e = refl
-op_printed ws (op.Read path off len) h e = refl
-op_printed ws (op.Stat path) h e = refl
-op_printed ws (op.List path) h e = refl
-op_printed ws (op.Readlink path) h e = refl
-op_printed ws (op.Time path) h e = refl
-op_printed ws op.Sync h e = refl
-op_printed ws op.Mount h e = refl
-op_printed ws op.Unmount h e = refl
-op_printed ws op.Crash h e = refl
-op_printed ws (op.CrashAt k) h e = refl
-op_printed ws (op.CutAt k) h e = refl
-op_printed ws op.Stall h e = refl
+op_printed ws _ h e = refl
 
 what_printed : (ws : List (List ℕ)) (who : ℕ) (what : What) → IsProperWhat who what → WhatSpelled ws who what → WhatSpelled (line_words who what) who what
 what_printed ws who (Server o) h e = (op_words o, refl, op_printed e.0 o h.1 e.2)
@@ -152,7 +116,7 @@ pub record HasWords (words : List (List ℕ)) : Type 0 where
   pub is : words ≡ first ∷ rest
   pub no_comment : is_comment first ≡ false
 
-line_has : (who : ℕ) (what : What) → IsProperWhat who what → HasWords (line_words who what)
+pub line_has : (who : ℕ) (what : What) → IsProperWhat who what → HasWords (line_words who what)
 line_has who (Server o) h = record { first = decimal who; rest = op_words o; is = refl; no_comment = numeral_first (decimal who) (numeral-decimal who (omega (arith, h.0))) }
 line_has who (Host host.Barrier) h = record { first = codes "barrier"; rest = []; is = refl; no_comment = refl }
 line_has who (Host (host.Tick n)) h = record { first = codes "tick"; rest = decimal n ∷ []; is = refl; no_comment = refl }

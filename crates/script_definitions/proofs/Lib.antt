@@ -7,3 +7,6 @@ pub mod AskedLaws
 pub mod AskedRead
 pub mod GoodWords
 pub mod JudgedLaws
+pub mod LinesLaws
+pub mod PrintedLaws
+pub mod PrintedLength

@@ -1,10 +1,11 @@
 // What the definitions promise of one another. Each law is the contract of a function that does nothing.
-ghost use Rattle.std.specs.Prelude.{◌≡◌, ◌++◌, ◌∷◌, List, ℕ, Some, None, Ok};
+ghost use Rattle.std.specs.Prelude.{◌≡◌, ◌≤◌, ◌+◌, ◌++◌, ◌∷◌, List, ℕ, Some, None, Ok, length};
 ghost use Rattle.frang_base.specs.declared.said.Said.{Said};
 ghost use Rattle.frang_base.specs.declared.script.Line.{Line};
 ghost use Rattle.tree_definitions.specs.SaidLines.{said_line};
 ghost use Rattle.script_definitions.specs.SaidReading.{IsProperSaid, said_of};
 ghost use Rattle.script_definitions.specs.ScriptGrammar.{IsScriptText};
+ghost use Rattle.script_definitions.specs.ScriptPrinted.{printed};
 ghost use Rattle.script_definitions.specs.ScriptText.{script_of};
 
 /// A line is read back from its bytes.
@@ -40,4 +41,11 @@ pub fn what_is_in_the_grammar_is_read()
 /// No text is two scripts.
 pub fn a_text_is_one_script()
     ensures { (bytes : List ℕ) (s t : List Line) → IsScriptText bytes s → IsScriptText bytes t → s ≡ t }
+{}
+
+/// A script that was read is read again, with the numbers of its lines, from the text that prints it, where that text isn't too
+/// long. It is longer than the bytes that were read by at most the line feed that may lack at their end.
+pub fn printed_scripts_are_read_back()
+    ensures read { (bytes : List ℕ) (script : List Line) → script_of bytes ≡ Ok script → length (printed script) ≤ 1048576 → script_of (printed script) ≡ Ok script }
+    ensures short { (bytes : List ℕ) (script : List Line) → script_of bytes ≡ Ok script → length (printed script) ≤ length bytes + 1 }
 {}

@@ -1,4 +1,3 @@
 pub mod LinesAndWords
 pub mod Texts
 pub mod ReadingLines
-pub mod PrintedLaws

@@ -17,7 +17,7 @@ use Rattle.script_definitions.proofs.Splitting.{is_free, split_before}
 use Rattle.script_definitions.proofs.AskedLaws.{guard_ok, same_ok}
 use Rattle.script_definitions.proofs.GoodWords.{is_good, words_good, joined_free}
 use Rattle.script_definitions.proofs.JudgedLaws.{IsJudged, judged_sound, judged_complete, line_good, command_printed, line_of, lines_step, with_line_ok}
-use Rattle.script_lang.proofs.LinesAndWords.{line_before}
+use Rattle.script_definitions.proofs.LinesLaws.{line_before}
 
 -- empty lines
 empty_lines : (k : ℕ) (text : List ℕ) → lines (replicate k 10 ++ text) ≡ replicate k [] ++ lines text
@@ -83,8 +83,9 @@ lines_printed (line ∷ ls) m n halted script low e =
     let g = guard_ok (ltb 65536 n) (fault_at n fault.TooManyLines) (after_line n halted (numbered n (judged halted line)) (λ h. script_from (n + 1) h ls)) script e in
     step_printed m n halted line ls script (judged halted line) low (ltb-false 65536 n g.0) refl (λ k h rest b f. lines_printed ls k (n + 1) h rest b f) g.1
 
--- a script that was read is read from its text, unless that is too long
-pub read_again : (bytes : List ℕ) (script : List Line) → script_of bytes ≡ Ok script → script_of (printed script) ≡ cond (ltb 1048576 (length (printed script))) (Err (fault_at 0 fault.ScriptTooLong)) (Ok script)
-read_again bytes script e =
+-- a script that was read is read from its text, where that isn't too long
+pub read_again : (bytes : List ℕ) (script : List Line) → script_of bytes ≡ Ok script → length (printed script) ≤ 1048576 → script_of (printed script) ≡ Ok script
+read_again bytes script e short =
     let g = guard_ok (ltb 1048576 (length bytes)) (fault_at 0 fault.ScriptTooLong) (script_from 1 false (lines bytes)) script e in
-    ap (cond (ltb 1048576 (length (printed script))) (Err (fault_at 0 fault.ScriptTooLong))) (lines_printed (lines bytes) 1 1 false script (omega arith) g.1)
+    ap (λ b. cond b (Err (fault_at 0 fault.ScriptTooLong)) (script_from 1 false (lines (printed script)))) (le-ltb 1048576 (length (printed script)) short)
+    ∙ lines_printed (lines bytes) 1 1 false script (omega arith) g.1
