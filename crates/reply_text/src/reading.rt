@@ -1,11 +1,13 @@
 // Said lines from bytes.
-ghost use Rattle.std.specs.Prelude.{◌≡◌, IfOk, option_map, option_and_then};
+ghost use Rattle.std.specs.Prelude.{◌≡◌, IfOk, IfSome, IfNone, option_map, option_and_then};
 ghost use Rattle.frang_base.specs.declared.reply.Reply.TheVariants as reply;
+ghost use Rattle.frang_base.specs.declared.said.Said.{Said};
 ghost use Rattle.frang_base.specs.declared.said.Said.TheVariants as said;
+ghost use Rattle.tree_definitions.specs.SaidLines.{said_line};
 ghost use Rattle.script_definitions.specs.Numerals.{count_at};
 ghost use Rattle.std.specs.Option.{option_copied};
 ghost use Rattle.frang_base.specs.PathText.{parts_left};
-ghost use Rattle.script_definitions.specs.SaidReading.{sole, names_of, target_at, op_at, shown_of, reply_among, state_replies, place_replies, limit_replies, plain_at, full_at, nospace_of, short_reply_from, reply_from, reply_of, answer_of, by_of, recovering_of, keeps_of, recovered_of, note_from, first_of_parts, kind_from, node_from, said_from, said_in, without_feed, said_of};
+ghost use Rattle.script_definitions.specs.SaidReading.{IsProperSaid, sole, names_of, target_at, op_at, shown_of, reply_among, state_replies, place_replies, limit_replies, plain_at, full_at, nospace_of, short_reply_from, reply_from, reply_of, answer_of, by_of, recovering_of, keeps_of, recovered_of, note_from, first_of_parts, kind_from, node_from, said_from, said_in, without_feed, said_of};
 
 use crate::parts::{
     is_end, is_path_text, is_target, log, name_list, op_number, point, server, sole_count,
@@ -396,12 +398,26 @@ fn without_feed(bytes: &[u8]) -> Option<&[u8]>
     }
 }
 
-/// The line that these bytes are, with its line feed: `None` exactly where they are none that can be said, or a report line.
-pub fn read_line(alloc: Global, bytes: &[u8]) -> Result<Option<Said>, NoMemory>
+fn read_said(alloc: Global, bytes: &[u8]) -> Result<Option<Said>, NoMemory>
     ensures { IfOk result (λ s. s ≡ said_of bytes.now) }
 {
     match without_feed(bytes) {
         Some(text) => read_text(alloc, text),
+        None => Ok(None),
+    }
+}
+
+/// The line that these bytes are, with its line feed. `None` exactly where they are the bytes of no line that can be said; report
+/// lines are none.
+pub fn read_line(alloc: Global, bytes: &[u8]) -> Result<Option<Said>, NoMemory>
+    ensures exact { IfOk result (λ s. s ≡ said_of bytes.now) }
+    // What is read can be said, and these are its bytes.
+    ensures found { IfOk result (λ r. IfSome r (λ s. IsProperSaid s × (said_line s ≡ bytes.now))) }
+    // Where nothing is read, they are the bytes of no line that can be said.
+    ensures none { IfOk result (λ r. IfNone r ((s : Said) → IsProperSaid s → said_line s ≡ bytes.now → ⊥)) }
+{
+    match read_said(alloc, bytes)? {
+        Some(said) => Ok(Some(said)),
         None => Ok(None),
     }
 }

@@ -3,3 +3,10 @@ pub mod PartsLaws
 pub mod Splitting
 pub mod SaidWritten
 pub mod SaidRead
+pub mod AskedLaws
+pub mod AskedRead
+pub mod GoodWords
+pub mod JudgedLaws
+pub mod LinesLaws
+pub mod PrintedLaws
+pub mod PrintedLength

@@ -24,6 +24,19 @@ pub split_has : (p : ℕ → Bool) (text : List ℕ) → HasFirst (slice_split p
 split_has p [] = record { first = []; rest = []; is = refl }
 split_has p (x ∷ text) = cond_has (p x) x (slice_split p text)
 
+-- the one part of a text is the text
+onto_alone : (x : ℕ) (xs part line : List ℕ) (parts : List (List ℕ)) → (parts ≡ [] → part ≡ xs) → onto_first x (part ∷ parts) ≡ line ∷ [] → line ≡ x ∷ xs
+onto_alone x xs part line [] same e = let s : part ≡ xs = same refl in cc
+onto_alone x xs part line (p ∷ ps) same e = cc
+
+alone_step : (b : Bool) (x : ℕ) (xs line : List ℕ) (parts : List (List ℕ)) → (h : HasFirst parts) → (parts ≡ h.first ∷ [] → h.first ≡ xs) → cond b ([] ∷ parts) (onto_first x parts) ≡ line ∷ [] → line ≡ x ∷ xs
+alone_step true x xs line parts h same e = let i : parts ≡ h.first ∷ h.rest = h.is in cc
+alone_step false x xs line parts h same e = onto_alone x xs h.first line h.rest (λ n. same (h.is ∙ ap (λ r. h.first ∷ r) n)) (sym (ap (onto_first x) h.is) ∙ e)
+
+pub part_alone : (p : ℕ → Bool) (xs line : List ℕ) → slice_split p xs ≡ line ∷ [] → line ≡ xs
+part_alone p [] line e = cc
+part_alone p (x ∷ xs) line e = alone_step (p x) x xs line (slice_split p xs) (split_has p xs) (λ i. part_alone p xs _ i) e
+
 -- a part before a text isn't alone
 pub sole_of_more : (p : ℕ → Bool) (part text : List ℕ) → sole_part (part ∷ slice_split p text) ≡ None
 sole_of_more p part text = ap (λ parts. sole_part (part ∷ parts)) (split_has p text).is

@@ -20,7 +20,7 @@ use Rattle.script_definitions.specs.Numerals.{number_in, count_at}
 use Rattle.script_definitions.specs.SaidReading.{IsWho, IsNodeKind, is_target, is_path_text, IsProperReply, IsProperSaid, parts_of, sole_part, sole, first_of_parts, is_end, at_end, server_at, who_at, log_at, two_counts, point_at, op_at, hex_value, byte_at, hex_bytes, some_bytes, shown_of, names_of, target_at, state_replies, place_replies, limit_replies, reply_among, first_some, plain_at, full_at, nospace_of, short_reply_from, reply_from, reply_of, answer_of, by_of, recovering_of, keeps_of, recovered_of, note_from, kind_from, node_from, said_from, said_in, without_feed, said_of}
 use Rattle.script_definitions.proofs.NumeralLaws.{IsNumber, number_in-Some}
 use Rattle.script_definitions.proofs.PartsLaws.{HasFirst, split_has}
-use Rattle.script_definitions.proofs.SaidWritten.{who_low, file_kind, dir_kind, reply_parts, kind_parts, said_parts, said_joined}
+use Rattle.script_definitions.proofs.SaidWritten.{text_low, nothing_follows, said_of_line, who_low, file_kind, dir_kind, reply_parts, kind_parts, said_parts, said_joined}
 
 -- fields, and what a `Some` has
 abbrev server_number : ℕ → ServerId
@@ -508,3 +508,17 @@ said_of_read bytes s e =
     let t = then_some said_in (without_feed bytes) s e in
     let h = said_in_read t.0 s t.2 in
     (h.0, ap (λ u. u ++ 10 ∷ []) h.1 ∙ sym (feed_read bytes t.0 t.1))
+
+none_of : {A : Type 0} (o : Option A) → ((x : A) → o ≡ Some x → ⊥) → o ≡ None
+none_of None h = refl
+none_of (Some x) h = absurd (h x refl)
+
+-- whatever follows the line feed is refused
+pub refused_behind : (s : Said) (b : ℕ) (more : List ℕ) → IsProperSaid s → said_of (said_line s ++ b ∷ more) ≡ None
+refused_behind s b more h = none_of (said_of (said_line s ++ b ∷ more)) (λ t e.
+    (let r = said_of_read (said_line s ++ b ∷ more) t e in
+    nothing_follows (said_text t) (said_text s) more b (text_low t r.0) (text_low s h) (r.1 ∙ append_assoc (said_text s) (10 ∷ []) (b ∷ more))))
+
+-- where nothing is read, no proper line has these bytes
+pub not_read : (bytes : List ℕ) (s : Said) → said_of bytes ≡ None → IsProperSaid s → said_line s ≡ bytes → ⊥
+not_read bytes s e h is = (let f : None ≡ Some s = sym e ∙ ap said_of (sym is) ∙ said_of_line s h in cc)

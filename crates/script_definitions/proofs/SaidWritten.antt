@@ -4,7 +4,7 @@ use Rattle.std.specs.List.{list_all, slice_split, join_with_byte, flat_map}
 use Rattle.std.specs.Option.{option_map, option_and_then}
 use Rattle.std.specs.Str.{bytes_eq}
 use Rattle.std.specs.Fmt.{decimal}
-use Rattle.std.proofs.lemmas.Bool.{and_parts, and_from, ltb-true, ltb-false, le-leb, lt-leb, and_right, ne_eqb, le-ltb, lt-ltb, eqb-true, false_from_ne_true}
+use Rattle.std.proofs.lemmas.Bool.{and_parts, and_from, ltb-true, ltb-false, leb-true, le-leb, lt-leb, and_right, ne_eqb, le-ltb, lt-ltb, eqb-true, false_from_ne_true}
 use Rattle.std.proofs.lemmas.Bool.Decides.{nat_tests}
 use Rattle.std.proofs.lemmas.List.{take_at, get_or_at, length_push}
 use Rattle.std.proofs.lemmas.List.Splits.{join_with_byte-slice_split}
@@ -19,7 +19,7 @@ use Rattle.tree_definitions.specs.SaidLines.{hex_digit, hex_byte, spaced, reply_
 use Rattle.script_definitions.specs.Numerals.{is_digit, is_numeral, number_in, count_at}
 use Rattle.script_definitions.specs.SaidReading.{IsWho, is_target, is_target_byte, is_path_text, IsProperReply, IsNodeKind, IsProperSaid, parts_of, sole_part, sole, first_of_parts, is_end, at_end, server_at, who_at, log_at, two_counts, point_at, op_at, hex_value, byte_at, hex_bytes, some_bytes, shown_of, names_of, target_at, plain_at, nospace_of, short_reply_from, reply_from, reply_of, answer_of, by_of, recovering_of, keeps_of, recovered_of, note_from, kind_from, node_from, said_from, said_in, without_feed, said_of}
 use Rattle.script_definitions.proofs.NumeralLaws.{IsPlain, IsPlain-decimal, numeral-decimal, number_in-decimal}
-use Rattle.script_definitions.proofs.PartsLaws.{HasFirst}
+use Rattle.script_definitions.proofs.PartsLaws.{HasFirst, part_alone}
 use Rattle.script_definitions.proofs.Splitting.{is_free, all_weaker, all_append, split_before, split_alone, split_join, joined, all_joined}
 
 -- the kinds of nodes with their numbers
@@ -38,6 +38,16 @@ digit_free c other b digit = not_same b c (λ e. (let f : is_digit b ≡ false =
 
 pub decimal_free : (c n : ℕ) → is_digit c ≡ false → n < 2 ^ 64 → is_free c (decimal n) ≡ true
 decimal_free c n other small = all_weaker is_digit (λ b. not (eqb b c)) (digit_free c other) (decimal n) (IsPlain-decimal n small).digits
+
+-- bytes of parts stand above the blank
+abbrev pub is_above : List ℕ → Bool
+is_above part = list_all (λ b. ltb 32 b) part
+
+digit_above : (b : ℕ) → is_digit b ≡ true → ltb 32 b ≡ true
+digit_above b e = lt-ltb 32 b (let h : 48 ≤ b = leb-true 48 b (and_parts (leb 48 b) (leb b 57) e).0 in omega arith)
+
+pub decimal_above : (n : ℕ) → n < 2 ^ 64 → is_above (decimal n) ≡ true
+decimal_above n small = all_weaker is_digit (λ b. ltb 32 b) digit_above (decimal n) (IsPlain-decimal n small).digits
 
 -- a numeral doesn't begin with anything else
 pub numeral_differs : (ds : List ℕ) (c : ℕ) (w : List ℕ) → is_numeral ds ≡ true → is_digit c ≡ false → bytes_eq ds (c ∷ w) ≡ false
@@ -67,9 +77,9 @@ point_back m n h k =
     ∙ ap (λ ps. two_counts (decimal m ∷ ps)) (split_alone 46 (decimal n) (decimal_free 46 n refl (omega arith)))
     ∙ two_back m n h k
 
-pub point_free : (m n : ℕ) → m < 2 ^ 64 → n < 2 ^ 64 → is_free 32 (run_point m n) ≡ true
+pub point_clean : (m n : ℕ) → m < 2 ^ 64 → n < 2 ^ 64 → is_above (run_point m n) ≡ true
 unfolding run_point
-point_free m n h k = all_append (λ b. not (eqb b 32)) (decimal m ++ 46 ∷ []) (decimal n) (all_append (λ b. not (eqb b 32)) (decimal m) (46 ∷ []) (decimal_free 32 m refl h) refl) (decimal_free 32 n refl k)
+point_clean m n h k = all_append (λ b. ltb 32 b) (decimal m ++ 46 ∷ []) (decimal n) (all_append (λ b. ltb 32 b) (decimal m) (46 ∷ []) (decimal_above m h) refl) (decimal_above n k)
 
 op_same : (op : ℕ) → (op / 4294967296) * 4294967296 + op % 4294967296 ≡ op
 op_same op = omega arith
@@ -102,9 +112,9 @@ who_back s (inl h) =
     ∙ server_back s h
 who_back s (inr e) = ap (λ n. who_at (who_text n)) e ∙ ap (λ n. Some (server_number n)) (sym e)
 
-pub who_free : (n : ℕ) → IsWho n → is_free 32 (who_text n) ≡ true
-who_free n (inl h) = ap (is_free 32) (who_low n h) ∙ decimal_free 32 n refl (omega arith)
-who_free n (inr e) = ap (λ k. is_free 32 (who_text k)) e
+pub who_clean : (n : ℕ) → IsWho n → is_above (who_text n) ≡ true
+who_clean n (inl h) = ap is_above (who_low n h) ∙ decimal_above n (omega arith)
+who_clean n (inr e) = ap (λ k. is_above (who_text k)) e
 
 -- bytes in hexadecimal digits
 hex_low : (d : ℕ) → d < 10 → hex_value (48 + d) ≡ Some d
@@ -125,9 +135,9 @@ hex_step d false e h = hex_high d (ltb-false d 10 e) h
 digit_back : (d : ℕ) → d < 16 → hex_value (hex_digit d) ≡ Some d
 digit_back d h = hex_step d (ltb d 10) refl h
 
-digit_other : (d : ℕ) (b : Bool) → not (eqb (cond b (48 + d) (87 + d)) 32) ≡ true
-digit_other d true = not_same (48 + d) 32 (λ e. absurd (omega arith))
-digit_other d false = not_same (87 + d) 32 (λ e. absurd (omega arith))
+digit_other : (d : ℕ) (b : Bool) → ltb 32 (cond b (48 + d) (87 + d)) ≡ true
+digit_other d true = lt-ltb 32 (48 + d) (omega arith)
+digit_other d false = lt-ltb 32 (87 + d) (omega arith)
 
 byte_back : (b : ℕ) → b < 256 → byte_at (hex_digit (b / 16)) (hex_digit (b % 16)) ≡ Some b
 byte_back b h =
@@ -142,9 +152,9 @@ hex_back (b ∷ bytes) e =
     ap (λ o. option_and_then (λ c. option_map (λ cs. c ∷ cs) (hex_bytes (flat_map hex_byte bytes))) o) (byte_back b (ltb-true b 256 h.0))
     ∙ ap (λ o. option_map (λ cs. b ∷ cs) o) (hex_back bytes h.1)
 
-pub hex_free : (bytes : List ℕ) → is_free 32 (flat_map hex_byte bytes) ≡ true
-hex_free [] = refl
-hex_free (b ∷ bytes) = and_from (not (eqb (hex_digit (b / 16)) 32)) (not (eqb (hex_digit (b % 16)) 32) && is_free 32 (flat_map hex_byte bytes)) (digit_other (b / 16) (ltb (b / 16) 10)) (and_from (not (eqb (hex_digit (b % 16)) 32)) (is_free 32 (flat_map hex_byte bytes)) (digit_other (b % 16) (ltb (b % 16) 10)) (hex_free bytes))
+pub hex_clean : (bytes : List ℕ) → is_above (flat_map hex_byte bytes) ≡ true
+hex_clean [] = refl
+hex_clean (b ∷ bytes) = and_from (ltb 32 (hex_digit (b / 16))) (ltb 32 (hex_digit (b % 16)) && is_above (flat_map hex_byte bytes)) (digit_other (b / 16) (ltb (b / 16) 10)) (and_from (ltb 32 (hex_digit (b % 16))) (is_above (flat_map hex_byte bytes)) (digit_other (b % 16) (ltb (b % 16) 10)) (hex_clean bytes))
 
 pub shown_back : (b : ℕ) (bytes : List ℕ) → list_all (λ b. ltb b 256) (b ∷ bytes) ≡ true → shown_of (flat_map hex_byte (b ∷ bytes) ∷ []) ≡ Some (b ∷ bytes)
 shown_back b bytes e =
@@ -152,49 +162,44 @@ shown_back b bytes e =
     ∙ hex_back (b ∷ bytes) e
 
 -- names and targets
-name_byte_free : (b : ℕ) → is_name_byte b ≡ true → not (eqb b 32) ≡ true
-name_byte_free b e =
+name_byte_clean : (b : ℕ) → is_name_byte b ≡ true → ltb 32 b ≡ true
+name_byte_clean b e =
     let h = and_parts (ltb 32 b && not (eqb b 47)) (not (eqb b 127)) e in
-    let g = and_parts (ltb 32 b) (not (eqb b 47)) h.0 in
-    let k : 32 < b = ltb-true 32 b g.0 in
-    not_same b 32 (λ s. absurd (omega arith))
+    (and_parts (ltb 32 b) (not (eqb b 47)) h.0).0
 
-name_bytes : (name : List ℕ) → is_name name ≡ true → list_all is_name_byte name ≡ true
+pub name_bytes : (name : List ℕ) → is_name name ≡ true → list_all is_name_byte name ≡ true
 name_bytes name e =
     let h = and_parts (ltb 0 (length name) && leb (length name) 64 && list_all is_name_byte name) (not (is_dots name)) e in
     (and_parts (ltb 0 (length name) && leb (length name) 64) (list_all is_name_byte name) h.0).1
 
-pub name_free : (name : List ℕ) → is_name name ≡ true → is_free 32 name ≡ true
-name_free name e = all_weaker is_name_byte (λ b. not (eqb b 32)) name_byte_free name (name_bytes name e)
+pub name_clean : (name : List ℕ) → is_name name ≡ true → is_above name ≡ true
+name_clean name e = all_weaker is_name_byte (λ b. ltb 32 b) name_byte_clean name (name_bytes name e)
 
-pub names_free : (names : List (List ℕ)) → list_all is_name names ≡ true → list_all (is_free 32) names ≡ true
-names_free names e = all_weaker is_name (is_free 32) name_free names e
+pub names_clean : (names : List (List ℕ)) → list_all is_name names ≡ true → list_all is_above names ≡ true
+names_clean names e = all_weaker is_name is_above name_clean names e
 
-target_byte_free : (b : ℕ) → is_target_byte b ≡ true → not (eqb b 32) ≡ true
-target_byte_free b e =
-    let g = and_parts (ltb 32 b) (not (eqb b 127)) e in
-    let k : 32 < b = ltb-true 32 b g.0 in
-    not_same b 32 (λ s. absurd (omega arith))
+target_byte_clean : (b : ℕ) → is_target_byte b ≡ true → ltb 32 b ≡ true
+target_byte_clean b e = (and_parts (ltb 32 b) (not (eqb b 127)) e).0
 
-pub target_free : (target : List ℕ) → is_target target ≡ true → is_free 32 target ≡ true
-target_free target e =
+pub target_clean : (target : List ℕ) → is_target target ≡ true → is_above target ≡ true
+target_clean target e =
     let h = and_parts (ltb 0 (length target) && leb (length target) 384) (list_all is_target_byte target) e in
-    all_weaker is_target_byte (λ b. not (eqb b 32)) target_byte_free target h.1
+    all_weaker is_target_byte (λ b. ltb 32 b) target_byte_clean target h.1
 
-below_free : (text : List ℕ) → list_all is_name (slice_split (λ b. eqb b 47) text) ≡ true → is_free 32 text ≡ true
-below_free text e =
-    sym (ap (is_free 32) (join_with_byte-slice_split 47 text))
-    ∙ all_joined (λ b. not (eqb b 32)) 47 (slice_split (λ b. eqb b 47) text) refl (names_free (slice_split (λ b. eqb b 47) text) e)
+below_clean : (text : List ℕ) → list_all is_name (slice_split (λ b. eqb b 47) text) ≡ true → is_above text ≡ true
+below_clean text e =
+    sym (ap is_above (join_with_byte-slice_split 47 text))
+    ∙ all_joined (λ b. ltb 32 b) 47 (slice_split (λ b. eqb b 47) text) refl (names_clean (slice_split (λ b. eqb b 47) text) e)
 
-slash_free : (b : ℕ) → eqb b 47 ≡ true → not (eqb b 32) ≡ true
-slash_free b e = ap (λ c. not (eqb c 32)) (eqb-true b 47 e)
+slash_clean : (b : ℕ) → eqb b 47 ≡ true → ltb 32 b ≡ true
+slash_clean b e = ap (ltb 32) (eqb-true b 47 e)
 
-pub path_free : (path : List ℕ) → is_path_text path ≡ true → is_free 32 path ≡ true
-path_free [] e = refl
-path_free (b ∷ []) e = and_from (not (eqb b 32)) true (slash_free b e) refl
-path_free (b ∷ c ∷ text) e =
+pub path_clean : (path : List ℕ) → is_path_text path ≡ true → is_above path ≡ true
+path_clean [] e = refl
+path_clean (b ∷ []) e = and_from (ltb 32 b) true (slash_clean b e) refl
+path_clean (b ∷ c ∷ text) e =
     let h = and_parts (eqb b 47) (list_all is_name (slice_split (λ d. eqb d 47) (c ∷ text))) e in
-    and_from (not (eqb b 32)) (is_free 32 (c ∷ text)) (slash_free b h.0) (below_free (c ∷ text) h.1)
+    and_from (ltb 32 b) (is_above (c ∷ text)) (slash_clean b h.0) (below_clean (c ∷ text) h.1)
 
 -- the parts of a reply
 abbrev pub reply_parts : Reply → List (List ℕ)
@@ -233,17 +238,17 @@ reply_first (reply.NoBlock m) = record { first = codes "nospace"; rest = codes "
 reply_first reply.NoLarge = record { first = codes "nospace"; rest = codes "large" ∷ []; is = refl }
 reply_first r = record { first = reply_word r; rest = []; is = refl }
 
-pub reply_free : (r : Reply) → IsProperReply r → list_all (is_free 32) (reply_parts r) ≡ true
-reply_free (reply.Shown []) h = refl
-reply_free (reply.Shown (b ∷ bytes)) h = and_from (is_free 32 (flat_map hex_byte (b ∷ bytes))) true (hex_free (b ∷ bytes)) refl
-reply_free (reply.File size links) h = and_from (is_free 32 (decimal size)) (is_free 32 (decimal links) && true) (decimal_free 32 size refl (omega (arith, h.0))) (and_from (is_free 32 (decimal links)) true (decimal_free 32 links refl (omega (arith, h.1))) refl)
-reply_free (reply.Dir entries) h = and_from (is_free 32 (decimal entries)) true (decimal_free 32 entries refl (omega (arith, h))) refl
-reply_free (reply.Symlink len) h = and_from (is_free 32 (decimal len)) true (decimal_free 32 len refl (omega (arith, h))) refl
-reply_free (reply.Names names) h = names_free names h
-reply_free (reply.Target target) h = and_from (is_free 32 target) true (target_free target h) refl
-reply_free (reply.Time run tick) h = and_from (is_free 32 (run_point run tick)) true (point_free run tick (omega (arith, h.0)) (omega (arith, h.1))) refl
-reply_free (reply.NoBlock m) h = and_from (is_free 32 (decimal m)) true (decimal_free 32 m refl (omega (arith, h))) refl
-reply_free r h = refl
+pub reply_clean : (r : Reply) → IsProperReply r → list_all is_above (reply_parts r) ≡ true
+reply_clean (reply.Shown []) h = refl
+reply_clean (reply.Shown (b ∷ bytes)) h = and_from (is_above (flat_map hex_byte (b ∷ bytes))) true (hex_clean (b ∷ bytes)) refl
+reply_clean (reply.File size links) h = and_from (is_above (decimal size)) (is_above (decimal links) && true) (decimal_above size (omega (arith, h.0))) (and_from (is_above (decimal links)) true (decimal_above links (omega (arith, h.1))) refl)
+reply_clean (reply.Dir entries) h = and_from (is_above (decimal entries)) true (decimal_above entries (omega (arith, h))) refl
+reply_clean (reply.Symlink len) h = and_from (is_above (decimal len)) true (decimal_above len (omega (arith, h))) refl
+reply_clean (reply.Names names) h = names_clean names h
+reply_clean (reply.Target target) h = and_from (is_above target) true (target_clean target h) refl
+reply_clean (reply.Time run tick) h = and_from (is_above (run_point run tick)) true (point_clean run tick (omega (arith, h.0)) (omega (arith, h.1))) refl
+reply_clean (reply.NoBlock m) h = and_from (is_above (decimal m)) true (decimal_above m (omega (arith, h))) refl
+reply_clean r h = refl
 
 pub reply_back : (r : Reply) → IsProperReply r → reply_of (reply_parts r) ≡ Some r
 reply_back (reply.Shown []) h = refl
@@ -307,29 +312,29 @@ said_joined (said.Node path kind size links) h =
 said_joined (said.Shown text) h = absurd h
 said_joined s h = refl
 
-line_free : (op : ℕ) → op < 2 ^ 64 → is_free 32 (run_line op) ≡ true
-line_free op h = point_free (op / 4294967296) (op % 4294967296) (omega arith) (omega arith)
+line_clean : (op : ℕ) → op < 2 ^ 64 → is_above (run_line op) ≡ true
+line_clean op h = point_clean (op / 4294967296) (op % 4294967296) (omega arith) (omega arith)
 
-kind_free : (kind size links : ℕ) → IsNodeKind kind links → size < 2 ^ 32 → list_all (is_free 32) (kind_parts kind size links) ≡ true
-kind_free kind size links (inl h) k = ap (λ n. list_all (is_free 32) (kind_parts n size links)) h.0 ∙ and_from (is_free 32 (decimal size)) (is_free 32 (decimal links) && true) (decimal_free 32 size refl (omega arith)) (and_from (is_free 32 (decimal links)) true (decimal_free 32 links refl (omega (arith, h.1))) refl)
-kind_free kind size links (inr (inl e, z)) k = ap (λ n. list_all (is_free 32) (kind_parts n size links)) e ∙ and_from (is_free 32 (decimal size)) true (decimal_free 32 size refl (omega arith)) refl
-kind_free kind size links (inr (inr e, z)) k = ap (λ n. list_all (is_free 32) (kind_parts n size links)) e ∙ and_from (is_free 32 (decimal size)) true (decimal_free 32 size refl (omega arith)) refl
+kind_clean : (kind size links : ℕ) → IsNodeKind kind links → size < 2 ^ 32 → list_all is_above (kind_parts kind size links) ≡ true
+kind_clean kind size links (inl h) k = ap (λ n. list_all is_above (kind_parts n size links)) h.0 ∙ and_from (is_above (decimal size)) (is_above (decimal links) && true) (decimal_above size (omega arith)) (and_from (is_above (decimal links)) true (decimal_above links (omega (arith, h.1))) refl)
+kind_clean kind size links (inr (inl e, z)) k = ap (λ n. list_all is_above (kind_parts n size links)) e ∙ and_from (is_above (decimal size)) true (decimal_above size (omega arith)) refl
+kind_clean kind size links (inr (inr e, z)) k = ap (λ n. list_all is_above (kind_parts n size links)) e ∙ and_from (is_above (decimal size)) true (decimal_above size (omega arith)) refl
 
-one_free : (n : ℕ) → n < 2 ^ 64 → (is_free 32 (decimal n) && true) ≡ true
-one_free n h = and_from (is_free 32 (decimal n)) true (decimal_free 32 n refl h) refl
+one_clean : (n : ℕ) → n < 2 ^ 64 → (is_above (decimal n) && true) ≡ true
+one_clean n h = and_from (is_above (decimal n)) true (decimal_above n h) refl
 
-pub said_free : (s : Said) → IsProperSaid s → list_all (is_free 32) (said_parts s) ≡ true
-said_free (said.Answer server line r) h = and_from (is_free 32 (decimal line)) (is_free 32 (who_text server.0) && list_all (is_free 32) (reply_parts r)) (decimal_free 32 line refl (omega (arith, h.1))) (and_from (is_free 32 (who_text server.0)) (list_all (is_free 32) (reply_parts r)) (who_free server.0 h.0) (reply_free r h.2))
-said_free (said.Dead server) h = one_free server.0 (omega (arith, h))
-said_free (said.Recovering server by) h = and_from (is_free 32 (decimal server.0)) (is_free 32 (who_text by.0) && true) (decimal_free 32 server.0 refl (omega (arith, h.0))) (and_from (is_free 32 (who_text by.0)) true (who_free by.0 h.1) refl)
-said_free (said.Recovered server keeps) h = and_from (is_free 32 (decimal server.0)) (is_free 32 (run_line keeps.0) && true) (decimal_free 32 server.0 refl (omega (arith, h.0))) (and_from (is_free 32 (run_line keeps.0)) true (line_free keeps.0 h.1) refl)
-said_free (said.Renewed server) h = one_free server.0 (omega (arith, h))
-said_free (said.Node path kind size links) h = and_from (is_free 32 path) (list_all (is_free 32) (kind_parts kind size links)) (path_free path (h.0)) (kind_free kind size links h.1 h.2)
-said_free (said.Redo op) h = and_from (is_free 32 (run_line op.0)) true (line_free op.0 h) refl
-said_free (said.Backup line) h = one_free line (omega (arith, h))
-said_free (said.Locks line) h = one_free line (omega (arith, h))
-said_free (said.Shown text) h = absurd h
-said_free said.End h = refl
+pub said_clean : (s : Said) → IsProperSaid s → list_all is_above (said_parts s) ≡ true
+said_clean (said.Answer server line r) h = and_from (is_above (decimal line)) (is_above (who_text server.0) && list_all is_above (reply_parts r)) (decimal_above line (omega (arith, h.1))) (and_from (is_above (who_text server.0)) (list_all is_above (reply_parts r)) (who_clean server.0 h.0) (reply_clean r h.2))
+said_clean (said.Dead server) h = one_clean server.0 (omega (arith, h))
+said_clean (said.Recovering server by) h = and_from (is_above (decimal server.0)) (is_above (who_text by.0) && true) (decimal_above server.0 (omega (arith, h.0))) (and_from (is_above (who_text by.0)) true (who_clean by.0 h.1) refl)
+said_clean (said.Recovered server keeps) h = and_from (is_above (decimal server.0)) (is_above (run_line keeps.0) && true) (decimal_above server.0 (omega (arith, h.0))) (and_from (is_above (run_line keeps.0)) true (line_clean keeps.0 h.1) refl)
+said_clean (said.Renewed server) h = one_clean server.0 (omega (arith, h))
+said_clean (said.Node path kind size links) h = and_from (is_above path) (list_all is_above (kind_parts kind size links)) (path_clean path (h.0)) (kind_clean kind size links h.1 h.2)
+said_clean (said.Redo op) h = and_from (is_above (run_line op.0)) true (line_clean op.0 h) refl
+said_clean (said.Backup line) h = one_clean line (omega (arith, h))
+said_clean (said.Locks line) h = one_clean line (omega (arith, h))
+said_clean (said.Shown text) h = absurd h
+said_clean said.End h = refl
 
 -- what the parts say
 kind_back : (path : List ℕ) (kind size links : ℕ) → IsNodeKind kind links → size < 2 ^ 32 → option_map (λ k. said.Node path k.0 k.1 k.2) (first_of_parts kind_from (kind_parts kind size links)) ≡ Some (said.Node path kind size links)
@@ -398,15 +403,42 @@ said_has (said.Locks line) h = record { first = codes "!"; rest = codes "locks" 
 said_has (said.Shown text) h = absurd h
 said_has said.End h = record { first = codes "!"; rest = codes "end" ∷ []; is = refl }
 
-split_said : (parts : List (List ℕ)) → HasFirst parts → list_all (is_free 32) parts ≡ true → parts_of (join_with_byte 32 parts) ≡ parts
+above_free : (part : List ℕ) → is_above part ≡ true → is_free 32 part ≡ true
+above_free part e = all_weaker (λ b. ltb 32 b) (λ b. not (eqb b 32)) (λ b h. not_same b 32 (λ s. absurd (let k : 32 < b = ltb-true 32 b h in omega arith))) part e
+
+split_said : (parts : List (List ℕ)) → HasFirst parts → list_all is_above parts ≡ true → parts_of (join_with_byte 32 parts) ≡ parts
 split_said parts h e =
     ap (λ ps. parts_of (join_with_byte 32 ps)) h.is
-    ∙ split_join 32 h.first h.rest (sym (ap (list_all (is_free 32)) h.is) ∙ e)
+    ∙ split_join 32 h.first h.rest (sym (ap (list_all (is_free 32)) h.is) ∙ all_weaker is_above (is_free 32) above_free parts e)
     ∙ sym h.is
 
 pub said_of_line : (s : Said) → IsProperSaid s → said_of (said_line s) ≡ Some s
 said_of_line s h =
     ap (option_and_then said_in) (feed_back (said_text s))
     ∙ ap said_in (said_joined s h)
-    ∙ ap (first_of_parts said_from) (split_said (said_parts s) (said_has s h) (said_free s h))
+    ∙ ap (first_of_parts said_from) (split_said (said_parts s) (said_has s h) (said_clean s h))
     ∙ said_back s h
+
+-- no line has a line feed before its end
+above_low : (part : List ℕ) → is_above part ≡ true → is_free 10 part ≡ true
+above_low part e = all_weaker (λ b. ltb 32 b) (λ b. not (eqb b 10)) (λ b h. not_same b 10 (λ s. absurd (let k : 32 < b = ltb-true 32 b h in omega arith))) part e
+
+second_same : (a b : List ℕ) (xs ys : List (List ℕ)) → a ∷ xs ≡ b ∷ ys → xs ≡ ys
+second_same a b xs ys e = cc
+
+pub text_low : (s : Said) → IsProperSaid s → is_free 10 (said_text s) ≡ true
+text_low s h =
+    ap (is_free 10) (said_joined s h)
+    ∙ all_joined (λ b. not (eqb b 10)) 32 (said_parts s) refl (all_weaker is_above (is_free 10) above_low (said_parts s) (said_clean s h))
+
+pub nothing_follows : (xs ys more : List ℕ) (b : ℕ) → is_free 10 xs ≡ true → is_free 10 ys ≡ true → xs ++ 10 ∷ [] ≡ ys ++ 10 ∷ (b ∷ more) → ⊥
+nothing_follows xs ys more b x y e =
+    let one : slice_split (λ c. eqb c 10) (xs ++ 10 ∷ []) ≡ xs ∷ [] ∷ [] = split_before 10 xs [] x in
+    let two : slice_split (λ c. eqb c 10) (ys ++ 10 ∷ (b ∷ more)) ≡ ys ∷ slice_split (λ c. eqb c 10) (b ∷ more) = split_before 10 ys (b ∷ more) y in
+    let same : slice_split (λ c. eqb c 10) (b ∷ more) ≡ [] ∷ [] = second_same ys xs (slice_split (λ c. eqb c 10) (b ∷ more)) ([] ∷ []) (sym two ∙ sym (ap (slice_split (λ c. eqb c 10)) e) ∙ one) in
+    let none : [] ≡ b ∷ more = part_alone (λ c. eqb c 10) (b ∷ more) [] same in
+    cc
+
+-- two proper lines with the same bytes are one
+pub one_line : (s t : Said) → IsProperSaid s → IsProperSaid t → said_line s ≡ said_line t → s ≡ t
+one_line s t h k e = (let same : Some s ≡ Some t = sym (said_of_line s h) ∙ ap said_of e ∙ said_of_line t k in cc)

@@ -4,3 +4,4 @@ pub mod ScriptFaults
 pub mod ScriptWords
 pub mod ScriptText
 pub mod ScriptPrinted
+pub mod ScriptGrammar

@@ -6,10 +6,16 @@
 
 mod asked;
 mod fault;
+mod laws;
 mod number;
 mod word;
 
 pub use asked::Asked;
 pub use fault::{LineFault, ScriptFault};
+pub use laws::{
+    a_text_is_one_script, bytes_are_those_of_their_line, lines_are_read_back,
+    no_two_lines_have_the_same_bytes, nothing_may_follow_a_line, printed_scripts_are_read_back,
+    what_is_in_the_grammar_is_read, what_is_read_is_in_the_grammar,
+};
 pub use number::{count, number_within};
 pub use word::ServerWord;

@@ -1,4 +1,4 @@
--- The lines of a text and the words of a line, one after the other.
+-- The words of a line, one after the other.
 use Rattle.std.proofs.Common.{◌≡◌, ℕ, ◌+◌, ◌-◌, ◌<◌, ◌≤◌, Bool, true, false, not, cond, ltb, eqb, ◌||◌, List, [], ◌∷◌, ◌++◌, length, take, drop, get_or, filter, unwrap_or, Option, Some, None, refl, sym, ◌∙◌, ap, subst, arith, zero, suc}
 use Rattle.std.specs.List.{slice_split, onto_first, position, position_from, position_or_len}
 use Rattle.std.specs.Str.Lines.{lines, lines_of_parts, strip_carriage_return}
@@ -7,36 +7,8 @@ use Rattle.std.proofs.lemmas.Iterator.Adapters.{position_from-zero}
 use Rattle.std.proofs.lemmas.Bool.{ne_eqb}
 use Rattle.frang_base.proofs.Cutting.{cut_where, cut_nowhere}
 use Rattle.script_definitions.specs.ScriptWords.{is_blank, is_some_word, words_of}
-use Rattle.script_definitions.proofs.PartsLaws.{HasFirst, split_has}
+use Rattle.script_definitions.proofs.PartsLaws.{HasFirst, split_has, part_alone}
 use Rattle.script_lang.specs.Words.{blank_parts, words_left}
-
--- a line with its line feed
-parts_then : (x : List ℕ) (parts : List (List ℕ)) → HasFirst parts → lines_of_parts (x ∷ parts) ≡ strip_carriage_return x ∷ lines_of_parts parts
-parts_then x parts h = ap (λ ps. lines_of_parts (x ∷ ps)) h.is ∙ ap (λ ps. strip_carriage_return x ∷ lines_of_parts ps) (sym h.is)
-
-pub line_before : (text line after : List ℕ) → slice_split (λ b. eqb b 10) text ≡ line ∷ slice_split (λ b. eqb b 10) after → lines text ≡ strip_carriage_return line ∷ lines after
-line_before text line after e = ap lines_of_parts e ∙ parts_then line _ (split_has (λ b. eqb b 10) after)
-
--- the one part of a text is the text
-onto_alone : (x : ℕ) (xs part line : List ℕ) (parts : List (List ℕ)) → (parts ≡ [] → part ≡ xs) → onto_first x (part ∷ parts) ≡ line ∷ [] → line ≡ x ∷ xs
-onto_alone x xs part line [] same e = let s : part ≡ xs = same refl in cc
-onto_alone x xs part line (p ∷ ps) same e = cc
-
-alone_step : (b : Bool) (x : ℕ) (xs line : List ℕ) (parts : List (List ℕ)) → (h : HasFirst parts) → (parts ≡ h.first ∷ [] → h.first ≡ xs) → cond b ([] ∷ parts) (onto_first x parts) ≡ line ∷ [] → line ≡ x ∷ xs
-alone_step true x xs line parts h same e = let i : parts ≡ h.first ∷ h.rest = h.is in cc
-alone_step false x xs line parts h same e = onto_alone x xs h.first line h.rest (λ n. same (h.is ∙ ap (λ r. h.first ∷ r) n)) (sym (ap (onto_first x) h.is) ∙ e)
-
-pub part_alone : (p : ℕ → Bool) (xs line : List ℕ) → slice_split p xs ≡ line ∷ [] → line ≡ xs
-part_alone p [] line e = cc
-part_alone p (x ∷ xs) line e = alone_step (p x) x xs line (slice_split p xs) (split_has p xs) (λ i. part_alone p xs _ i) e
-
--- the last line, without a line feed
-some_line : (x : ℕ) (xs : List ℕ) → slice_split (λ b. eqb b 10) (x ∷ xs) ≡ (x ∷ xs) ∷ [] → lines (x ∷ xs) ≡ (x ∷ xs) ∷ []
-some_line x xs e = ap lines_of_parts e ∙ ap (λ b. cond b [] ((x ∷ xs) ∷ [])) (ne_eqb (suc (length xs)) 0 (λ h. absurd (let k : suc (length xs) ≡ 0 = h in omega arith)))
-
-pub last_line : (text line : List ℕ) → (length text ≡ 0 → ⊥) → slice_split (λ b. eqb b 10) text ≡ line ∷ [] → lines text ≡ text ∷ []
-last_line [] line some e = absurd (some refl)
-last_line (x ∷ xs) line some e = some_line x xs (e ∙ ap (λ l. l ∷ []) (part_alone (λ b. eqb b 10) (x ∷ xs) line e))
 
 -- a part that is a word, and an empty one
 pub word_found : (text part : List ℕ) (after : Option (List ℕ)) → slice_split is_blank text ≡ part ∷ blank_parts after → (length part ≡ 0 → ⊥) → words_of text ≡ part ∷ words_of (unwrap_or after [])

@@ -215,72 +215,27 @@ fn op_with(alloc: Global, word: ServerWord, words: &[u8]) -> Result<Op, Refusal>
     ensures { Gives (op_with word (words_of words.now)) result }
 {
     match word {
-        ServerWord::Create => {
-            let path = path_alone(alloc, words)?;
-            Ok(Op::Create { path })
-        }
-        ServerWord::Mkdir => {
-            let path = path_alone(alloc, words)?;
-            Ok(Op::Mkdir { path })
-        }
-        ServerWord::Unlink => {
-            let path = path_alone(alloc, words)?;
-            Ok(Op::Unlink { path })
-        }
-        ServerWord::Rmdir => {
-            let path = path_alone(alloc, words)?;
-            Ok(Op::Rmdir { path })
-        }
-        ServerWord::Stat => {
-            let path = path_alone(alloc, words)?;
-            Ok(Op::Stat { path })
-        }
-        ServerWord::List => {
-            let path = path_alone(alloc, words)?;
-            Ok(Op::List { path })
-        }
-        ServerWord::Readlink => {
-            let path = path_alone(alloc, words)?;
-            Ok(Op::Readlink { path })
-        }
-        ServerWord::Time => {
-            let path = path_alone(alloc, words)?;
-            Ok(Op::Time { path })
-        }
-        ServerWord::Link => {
-            let (path, to) = paths(alloc, words)?;
-            Ok(Op::Link { path, to })
-        }
-        ServerWord::Rename => {
-            let (path, to) = paths(alloc, words)?;
-            Ok(Op::Rename { path, to })
-        }
+        ServerWord::Create => path_alone(alloc, words).map(|path| Op::Create { path }),
+        ServerWord::Mkdir => path_alone(alloc, words).map(|path| Op::Mkdir { path }),
+        ServerWord::Unlink => path_alone(alloc, words).map(|path| Op::Unlink { path }),
+        ServerWord::Rmdir => path_alone(alloc, words).map(|path| Op::Rmdir { path }),
+        ServerWord::Stat => path_alone(alloc, words).map(|path| Op::Stat { path }),
+        ServerWord::List => path_alone(alloc, words).map(|path| Op::List { path }),
+        ServerWord::Readlink => path_alone(alloc, words).map(|path| Op::Readlink { path }),
+        ServerWord::Time => path_alone(alloc, words).map(|path| Op::Time { path }),
+        ServerWord::Link => paths(alloc, words).map(|(path, to)| Op::Link { path, to }),
+        ServerWord::Rename => paths(alloc, words).map(|(path, to)| Op::Rename { path, to }),
         ServerWord::Symlink => symlink(alloc, words),
         ServerWord::Write => write(alloc, words),
         ServerWord::Fill => fill(alloc, words),
         ServerWord::Truncate => truncate(alloc, words),
         ServerWord::Read => read(alloc, words),
-        ServerWord::Sync => {
-            no_words(words)?;
-            Ok(Op::Sync)
-        }
-        ServerWord::Mount => {
-            no_words(words)?;
-            Ok(Op::Mount)
-        }
-        ServerWord::Unmount => {
-            no_words(words)?;
-            Ok(Op::Unmount)
-        }
+        ServerWord::Sync => no_words(words).map(|_| Op::Sync),
+        ServerWord::Mount => no_words(words).map(|_| Op::Mount),
+        ServerWord::Unmount => no_words(words).map(|_| Op::Unmount),
         ServerWord::Crash => crash(words),
-        ServerWord::Cut => {
-            let k = writes(words)?;
-            Ok(Op::CutAt { k })
-        }
-        ServerWord::Stall => {
-            no_words(words)?;
-            Ok(Op::Stall)
-        }
+        ServerWord::Cut => writes(words).map(|k| Op::CutAt { k }),
+        ServerWord::Stall => no_words(words).map(|_| Op::Stall),
     }
 }
 

@@ -3,6 +3,7 @@ ghost use Rattle.std.specs.Prelude.{◌≡◌, ◌+◌, ◌-◌, ◌<◌, ◌∷
 ghost use Rattle.std.specs.Fmt.{decimal};
 ghost use Rattle.std.specs.List.{flat_map, join_with_byte};
 ghost use Rattle.tree_definitions.specs.SaidLines.{hex_digit, hex_byte};
+ghost use Rattle.frang_base.specs.declared.op.Op.TheVariants as op;
 ghost use Rattle.frang_base.specs.declared.op.What.TheVariants.{Host, Server};
 ghost use Rattle.script_definitions.specs.ScriptPrinted.{path_text, op_words, line_words, line_text, printed_from, printed};
 
@@ -136,6 +137,74 @@ fn print_filled(
     print_byte(byte, to)
 }
 
+// A word, and two paths behind it.
+fn print_paths(word: &[u8], path: &Path, other: &Path, to: &mut Vec<u8>) -> Result<(), NoMemory>
+    ensures { OnOk result (to.new.items
+        ≡ to.old.items ++ (word.now ++ 32 ∷ (path_text path.now ++ 32 ∷ path_text other.now))) }
+{
+    print_at(word, path, to)?;
+    print_next_path(other, to)
+}
+
+fn print_symlink(path: &Path, target: &[u8], to: &mut Vec<u8>) -> Result<(), NoMemory>
+    ensures { OnOk result (to.new.items
+        ≡ to.old.items ++ join_with_byte 32 (op_words (op.Symlink path.now target.now))) }
+{
+    print_at(b"symlink", path, to)?;
+    print_text(target, to)
+}
+
+fn print_write(
+    alloc: Global,
+    path: &Path,
+    off: u32,
+    bytes: &[u8],
+    to: &mut Vec<u8>,
+) -> Result<(), NoMemory>
+    ensures { OnOk result (to.new.items
+        ≡ to.old.items ++ join_with_byte 32 (op_words (op.Write path.now off bytes.now))) }
+{
+    print_at(b"write", path, to)?;
+    print_bytes_at(alloc, off, bytes, to)
+}
+
+fn print_fill(
+    alloc: Global,
+    path: &Path,
+    off: u32,
+    len: u32,
+    byte: u8,
+    to: &mut Vec<u8>,
+) -> Result<(), NoMemory>
+    ensures { OnOk result (to.new.items
+        ≡ to.old.items ++ join_with_byte 32 (op_words (op.Fill path.now off len byte))) }
+{
+    print_at(b"fill", path, to)?;
+    print_filled(alloc, off, len, byte, to)
+}
+
+fn print_truncate(alloc: Global, path: &Path, len: u32, to: &mut Vec<u8>) -> Result<(), NoMemory>
+    ensures { OnOk result (to.new.items
+        ≡ to.old.items ++ join_with_byte 32 (op_words (op.Truncate path.now len))) }
+{
+    print_at(b"truncate", path, to)?;
+    print_count(alloc, len, to)
+}
+
+fn print_read(
+    alloc: Global,
+    path: &Path,
+    off: u32,
+    len: u32,
+    to: &mut Vec<u8>,
+) -> Result<(), NoMemory>
+    ensures { OnOk result (to.new.items
+        ≡ to.old.items ++ join_with_byte 32 (op_words (op.Read path.now off len))) }
+{
+    print_at(b"read", path, to)?;
+    print_counts(alloc, off, len, to)
+}
+
 // What a server is asked.
 fn print_op(alloc: Global, op: &Op, to: &mut Vec<u8>) -> Result<(), NoMemory>
     ensures { OnOk result (to.new.items ≡ to.old.items ++ join_with_byte 32 (op_words op.now)) }
@@ -149,6 +218,18 @@ fn print_op(alloc: Global, op: &Op, to: &mut Vec<u8>) -> Result<(), NoMemory>
         Op::List { path } => print_at(b"list", path, to),
         Op::Readlink { path } => print_at(b"readlink", path, to),
         Op::Time { path } => print_at(b"time", path, to),
+        Op::Link { path, to: other } => print_paths(b"link", path, other, to),
+        Op::Rename { path, to: other } => print_paths(b"rename", path, other, to),
+        Op::Symlink { path, target } => print_symlink(path, target.as_slice(), to),
+        Op::Write { path, off, bytes } => print_write(alloc, path, *off, bytes.as_slice(), to),
+        Op::Fill {
+            path,
+            off,
+            len,
+            byte,
+        } => print_fill(alloc, path, *off, *len, *byte, to),
+        Op::Truncate { path, len } => print_truncate(alloc, path, *len, to),
+        Op::Read { path, off, len } => print_read(alloc, path, *off, *len, to),
         Op::Sync => print_word(b"sync", to),
         Op::Mount => print_word(b"mount", to),
         Op::Unmount => print_word(b"unmount", to),
@@ -156,39 +237,6 @@ fn print_op(alloc: Global, op: &Op, to: &mut Vec<u8>) -> Result<(), NoMemory>
         Op::CrashAt { k } => print_counted(alloc, b"crash", *k, to),
         Op::CutAt { k } => print_counted(alloc, b"cut", *k, to),
         Op::Stall => print_word(b"stall", to),
-        Op::Link { path, to: other } => {
-            print_at(b"link", path, to)?;
-            print_next_path(other, to)
-        }
-        Op::Rename { path, to: other } => {
-            print_at(b"rename", path, to)?;
-            print_next_path(other, to)
-        }
-        Op::Symlink { path, target } => {
-            print_at(b"symlink", path, to)?;
-            print_text(target.as_slice(), to)
-        }
-        Op::Write { path, off, bytes } => {
-            print_at(b"write", path, to)?;
-            print_bytes_at(alloc, *off, bytes.as_slice(), to)
-        }
-        Op::Fill {
-            path,
-            off,
-            len,
-            byte,
-        } => {
-            print_at(b"fill", path, to)?;
-            print_filled(alloc, *off, *len, *byte, to)
-        }
-        Op::Truncate { path, len } => {
-            print_at(b"truncate", path, to)?;
-            print_count(alloc, *len, to)
-        }
-        Op::Read { path, off, len } => {
-            print_at(b"read", path, to)?;
-            print_counts(alloc, *off, *len, to)
-        }
     }
 }
 

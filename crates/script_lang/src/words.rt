@@ -21,7 +21,7 @@ fn without_return(line: &[u8]) -> &[u8]
 }
 
 // The first line, and the text after it.
-#[tactic(auto, using(crate::proofs::LinesAndWords::line_before, crate::proofs::LinesAndWords::last_line))]
+#[tactic(auto, using(script_definitions::proofs::LinesLaws::line_before, script_definitions::proofs::LinesLaws::last_line))]
 pub fn next_line(text: &[u8]) -> Option<(&[u8], &[u8])>
     ensures { MatchOption result (lines text.now ≡ [])
         (λ l. lines text.now ≡ l.0.now ∷ lines l.1.now) }
