@@ -1,17 +1,15 @@
-// What the nodes of a tree take of the disk.
-ghost use Rattle.std.specs.Prelude.{◌≡◌, ◌+◌, ◌*◌, ◌-◌, ◌^◌, ◌<◌, min, nat_le, length, sum_by, ℕ};
-ghost use Rattle.std.specs.Map.{values_of};
-ghost use Rattle.tree_definitions.specs.Tree.{small_blocks, must_grow, lacks_block};
+// What nodes take of the disk.
+ghost use Rattle.std.specs.Prelude.{◌≡◌, ◌≤◌, true};
+ghost use Rattle.tree_definitions.specs.Tree.{small_blocks_of, large_blocks_of, must_grow};
 
-use std::collections::BTreeMap;
 use tree_definitions::{Entries, Node};
 
-/// Entries of a directory, at most.
-pub const DIR_ENTRIES_MAX: usize = 896;
 /// Inodes of a segment.
 pub const INODES_A_SEGMENT: u64 = 64;
-// Small blocks of a segment.
-const BLOCKS_A_SEGMENT: u64 = 1024;
+/// Small blocks of a segment.
+pub const BLOCKS_A_SEGMENT: u64 = 1024;
+/// Entries of a directory, at most.
+pub const DIR_ENTRIES_MAX: usize = 896;
 // Entries of a directory's small block.
 const ENTRIES_A_BLOCK: u64 = 56;
 // Bytes of a small block, and of a file in its small blocks.
@@ -19,44 +17,76 @@ const BLOCK_BYTES: u64 = 4096;
 
 const SMALL_BYTES: u64 = 65536;
 
-fn small_blocks(node: &Node) -> u64
-    ensures { result ≡ small_blocks node.now }
-{
-    match node {
-        Node::Dir { blocks, .. } => u64::from(*blocks),
-        Node::File { cells, .. } => {
-            ((cells.len() as u64).min(SMALL_BYTES) + (BLOCK_BYTES - 1)) / BLOCK_BYTES
-        }
-        Node::Link { .. } => 0,
-    }
+/// Blocks of the disk: small ones of files, small ones of directories, and large ones.
+#[derive(Clone, Copy, Debug)]
+pub struct Blocks {
+    pub files: u64,
+    pub dirs: u64,
+    pub larges: u64,
 }
 
-// Whether the small blocks of the nodes are as many as a disk of so many segments has.
-fn blocks_full(nodes: &BTreeMap<u64, Node>, segments: u32) -> bool
-    ensures { result ≡ nat_le (1024 * segments) (sum_by small_blocks (values_of nodes.now.entries)) }
+/// The small blocks that the bytes of a file take.
+pub fn small_blocks_of(size: usize) -> u64
+    ensures is { result ≡ small_blocks_of size }
+    ensures few { result ≤ 16 }
 {
-    let mut used = 0u64;
-    for node in nodes.values() {
-        used = used.saturating_add(small_blocks(node));
+    ((size as u64).min(SMALL_BYTES) + (BLOCK_BYTES - 1)) / BLOCK_BYTES
+}
+
+/// The large blocks that the bytes of a file take, at most one.
+pub fn large_blocks_of(size: usize) -> u64
+    ensures is { result ≡ large_blocks_of size }
+    ensures few { result ≤ 1 }
+{
+    if size as u64 > SMALL_BYTES { 1 } else { 0 }
+}
+
+impl Blocks {
+    ghost use Rattle.tree_model.specs.Counts.{blocks_of, CanCount, Counts};
+
+    /// No blocks.
+    pub const NONE: Blocks = Blocks {
+        files: 0,
+        dirs: 0,
+        larges: 0,
+    };
+
+    /// What a node takes.
+    pub fn of(node: &Node) -> Blocks
+        ensures { result ≡ blocks_of node.now }
+    {
+        match node {
+            Node::Dir { blocks, .. } => Blocks {
+                files: 0,
+                dirs: u64::from(*blocks),
+                larges: 0,
+            },
+            Node::File { cells, .. } => Blocks {
+                files: small_blocks_of(cells.len()),
+                dirs: 0,
+                larges: large_blocks_of(cells.len()),
+            },
+            Node::Link { .. } => Blocks::NONE,
+        }
     }
-    BLOCKS_A_SEGMENT * u64::from(segments) <= used
+
+    /// These blocks with some in place of others.
+    pub fn with(self, before: Blocks, after: Blocks) -> Blocks
+        requires { CanCount self before after }
+        ensures { Counts self before after result }
+    {
+        Blocks {
+            files: self.files + after.files - before.files,
+            dirs: self.dirs + after.dirs - before.dirs,
+            larges: self.larges + after.larges - before.larges,
+        }
+    }
 }
 
 /// Whether one entry more takes a further block.
 pub fn must_grow(entries: &Entries, blocks: u32) -> bool
-    ensures { result ≡ must_grow entries.now blocks }
+    ensures is { result ≡ must_grow entries.now blocks }
+    ensures few { result ≡ true → blocks ≤ 16 }
 {
     ENTRIES_A_BLOCK * u64::from(blocks) <= entries.len() as u64
-}
-
-/// Whether one entry more takes a further block, and there is none.
-pub fn lacks_block(
-    nodes: &BTreeMap<u64, Node>,
-    segments: u32,
-    entries: &Entries,
-    blocks: u32,
-) -> bool
-    ensures { result ≡ lacks_block (record { segments = segments; nodes = nodes.now.entries }) entries.now blocks }
-{
-    must_grow(entries, blocks) && blocks_full(nodes, segments)
 }

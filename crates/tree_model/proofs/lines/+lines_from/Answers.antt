@@ -1,6 +1,6 @@
 use Rattle.std.proofs.Common.{◌-◌, ap, arith, rules}
 use Rattle.std.proofs.lemmas.Grind.{common_steps}
-use Rattle.tree_definitions.specs.TreeLines.{name_below, lines_from}
+use Rattle.tree_definitions.specs.TreeLines.{lines_from}
 use Rattle.tree_model.proofs.EntryLines.{first_entry, next_entry}
 use Rattle.tree_model.proofs.lines.+lines_from.Goals as goal
 
