@@ -1,47 +1,117 @@
--- The lines of a script, by their numbers and by their server.
-use Rattle.std.proofs.Common.{◌≡◌, ℕ, zero, suc, ◌+◌, ◌<◌, Bool, true, false, cond, Option, Some, None, List, [], ◌∷◌, ◌++◌, length, refl, sym, ◌∙◌, ap, subst, arith, eqb, eq-eqb, nat_eq}
+-- The lines of a script that can be answered: their numbers ascend, and each is found by its number and by its server.
+use Rattle.std.proofs.Common.{◌≡◌, ◌⊎◌, inl, inr, ℕ, zero, suc, ◌+◌, ◌<◌, ◌≤◌, Bool, true, false, not, ◌&&◌, cond, Option, Some, None, List, [], ◌∷◌, length, take, refl, sym, ◌∙◌, ap, subst, arith, eqb, eq-eqb, nat_eq, nat_lt}
+use Rattle.std.specs.Prelude.{Result, Ok, Err}
 use Rattle.std.proofs.lemmas.Bool.{ne_eqb}
-use Rattle.std.specs.List.{slice_get, find, filter}
+use Rattle.std.proofs.lemmas.Bool.Decides.{nat_tests}
+use Rattle.std.specs.List.{slice_get, find, filter, list_all}
+use Rattle.frang_base.specs.declared.said.Said.{Said}
 use Rattle.frang_base.specs.declared.script.Line.{Line}
 use Rattle.tree_definitions.specs.Live.{line_of}
-use Rattle.tree_definitions.specs.Transcript.{lines_for}
-use Rattle.frang_top.specs.Reading.{IsBuiltLine, AreBuilt, is_built}
+use Rattle.tree_definitions.specs.Transcript.{lines_for, lines_before, are_answered}
+use Rattle.script_definitions.specs.declared.fault.ScriptFault.{ScriptFault}
+use Rattle.script_definitions.specs.ScriptGrammar.{AreLines, IsScriptText, AsksBy}
+use Rattle.script_definitions.specs.ScriptText.{script_of, is_halt}
+use Rattle.frang_top.specs.Built.{IsBuiltLine, AreBuilt, is_built_line, first_unbuilt, unless_unbuilt, built_by, built_script_of}
+use Rattle.frang_top.proofs.HistoryLaws.{both, left, right}
 
-pub built_at : (n : ℕ) (script : List Line) (i : ℕ) (line : Line) → AreBuilt n script → slice_get script i ≡ Some line → IsBuiltLine (n + i) line
+-- a line whose number is at least n, and so at least m
+pub line_lower : (m n : ℕ) (line : Line) → m ≤ n → IsBuiltLine n line → IsBuiltLine m line
+line_lower m n line low is = record { number = (let e : n ≤ line.number = is.number in omega arith); small = is.small; proper = is.proper; built = is.built }
+
+built_lower : (m n : ℕ) (script : List Line) → m ≤ n → AreBuilt n script → AreBuilt m script
+built_lower m n [] low all = tt
+built_lower m n (l ∷ ls) low all = (line_lower m n l low all.0, all.1)
+
+-- what is found nowhere holds everywhere
+none_unbuilt : (l : Line) (ls : List Line) → first_unbuilt (l ∷ ls) ≡ None → (is_built_line l ≡ true) × (first_unbuilt ls ≡ None)
+none_unbuilt l ls none = go (is_built_line l) none
+  where
+    go : (b : Bool) → cond (not b) (Some l) (first_unbuilt ls) ≡ None → (b ≡ true) × (first_unbuilt ls ≡ None)
+    go true e = (refl, e)
+    go false e = cc
+
+-- the lines of a text that is a script, where each can be answered
+lines_built : (n : ℕ) (halted : Bool) (lines : List (List ℕ)) (script : List Line) → AreLines n halted lines script → first_unbuilt script ≡ None → AreBuilt n script
+lines_built n halted [] script is none = subst (AreBuilt n) (sym is) tt
+lines_built n halted (text ∷ lines) script (small, inl skipped) none = built_lower n (n + 1) script (omega arith) (lines_built (n + 1) halted lines script skipped.1 none)
+lines_built n halted (text ∷ lines) script (small, inr (asked, rest, is, on, asks, more)) none =
+    let line : Line = record { number = n; who = asked.who; what = asked.what } in
+    let parts = none_unbuilt line rest (ap first_unbuilt (sym is) ∙ none) in
+    let first : IsBuiltLine n line = record { number = omega arith; small = small; proper = asks.2.2.0; built = parts.0 } in
+    subst (AreBuilt n) (sym is) (first, lines_built (n + 1) (is_halt asked.what) lines rest more parts.1)
+
+-- what was read can be answered
+pub text_built : (bytes : List ℕ) (script : List Line) → IsScriptText bytes script → first_unbuilt script ≡ None → AreBuilt 1 script
+text_built bytes script is none = lines_built 1 false _ script is.1 none
+
+pub built_at : (n : ℕ) (script : List Line) (i : ℕ) (line : Line) → AreBuilt n script → slice_get script i ≡ Some line → IsBuiltLine n line
 built_at n [] i line all at = cc
 built_at n (l ∷ ls) zero line all at =
-    let e : n + 0 ≡ n = omega arith in
     let same : l ≡ line = cc in
-    subst (λ k. IsBuiltLine k line) (sym e) (subst (λ x. IsBuiltLine n x) same all.0)
+    subst (λ x. IsBuiltLine n x) same all.0
 built_at n (l ∷ ls) (suc i) line all at =
-    let e : (n + 1) + i ≡ n + suc i = omega arith in
-    subst (λ k. IsBuiltLine k line) e (built_at (n + 1) ls i line all.1 at)
+    let low : n ≤ l.number + 1 = (let e : n ≤ l.number = all.0.number in omega arith) in
+    line_lower n (l.number + 1) line low (built_at (l.number + 1) ls i line all.1 at)
 
 differs : (m n : ℕ) → m < n → eqb m n ≡ false
 differs m n h = ne_eqb m n (λ e. omega arith)
 
-find_number : (n : ℕ) (script : List Line) (i : ℕ) (line : Line) → AreBuilt n script → slice_get script i ≡ Some line → find (λ l. nat_eq l.number (n + i)) script ≡ Some line
-find_number n [] i line all at = cc
-find_number n (l ∷ ls) zero line all at =
-    let here : nat_eq l.number (n + 0) ≡ true = eq-eqb l.number (n + 0) (all.0.number ∙ omega arith) in
-    ap (λ b. cond b (Some l) (find (λ l. nat_eq l.number (n + 0)) ls)) here ∙ at
-find_number n (l ∷ ls) (suc i) line all at =
-    let other : nat_eq l.number (n + suc i) ≡ false = ap (λ m. nat_eq m (n + suc i)) all.0.number ∙ differs n (n + suc i) (omega arith) in
-    let e : (n + 1) + i ≡ n + suc i = omega arith in
-    ap (λ b. cond b (Some l) (find (λ l. nat_eq l.number (n + suc i)) ls)) other
-    ∙ ap (λ k. find (λ l. nat_eq l.number k) ls) (sym e) ∙ find_number (n + 1) ls i line all.1 at
-
 pub line_of-number : (n : ℕ) (script : List Line) (i : ℕ) (line : Line) → AreBuilt n script → slice_get script i ≡ Some line → line_of script line.number ≡ Some line
-line_of-number n script i line all at = ap (line_of script) (built_at n script i line all at).number ∙ find_number n script i line all at
+line_of-number n [] i line all at = cc
+line_of-number n (l ∷ ls) zero line all at =
+    let same : l ≡ line = cc in
+    ap (λ b. cond b (Some l) (find (λ x. nat_eq x.number line.number) ls)) (eq-eqb l.number line.number (ap (λ x. x.number) same)) ∙ at
+line_of-number n (l ∷ ls) (suc i) line all at =
+    let later : l.number + 1 ≤ line.number = (built_at (l.number + 1) ls i line all.1 at).number in
+    ap (λ b. cond b (Some l) (find (λ x. nat_eq x.number line.number) ls)) (differs l.number line.number (omega arith)) ∙ line_of-number (l.number + 1) ls i line all.1 at
 
-pub lines_for-all : (n : ℕ) (script : List Line) → AreBuilt n script → lines_for 0 script ≡ script
-lines_for-all n [] all = refl
-lines_for-all n (l ∷ ls) all =
-    let own : nat_eq l.who.0 0 ≡ true = eq-eqb l.who.0 0 all.0.who in
-    ap (λ b. cond b (l ∷ lines_for 0 ls) (lines_for 0 ls)) own ∙ ap (λ rest. l ∷ rest) (lines_for-all (n + 1) ls all.1)
+-- the next line of a server: as many of its lines stand before it as it has answered
+pub next_found : (p : Line → Bool) (script : List Line) (i : ℕ) (line : Line) → slice_get script i ≡ Some line → p line ≡ true → slice_get (filter p script) (length (filter p (take i script))) ≡ Some line
+next_found p [] i line at own = cc
+next_found p (l ∷ ls) zero line at own =
+    let same : l ≡ line = cc in
+    ap (λ b. slice_get (cond b (l ∷ filter p ls) (filter p ls)) 0) (ap p same ∙ own) ∙ at
+next_found p (l ∷ ls) (suc i) line at own = go (p l)
+  where
+    go : (b : Bool) → slice_get (cond b (l ∷ filter p ls) (filter p ls)) (length (cond b (l ∷ filter p (take i ls)) (filter p (take i ls)))) ≡ Some line
+    go true = next_found p ls i line at own
+    go false = next_found p ls i line at own
 
-pub lines_for-none : (n : ℕ) (script : List Line) → AreBuilt n script → lines_for 255 script ≡ []
-lines_for-none n [] all = refl
-lines_for-none n (l ∷ ls) all =
-    let other : nat_eq l.who.0 255 ≡ false = ap (λ w. nat_eq w 255) all.0.who in
-    ap (λ b. cond b (l ∷ lines_for 255 ls) (lines_for 255 ls)) other ∙ lines_for-none (n + 1) ls all.1
+not_before : (k m : ℕ) → m ≤ k → nat_lt k m ≡ false
+not_before k m h = grind (arith, nat_tests, h)
+
+-- no line stands before the first number
+none_before : (p : Line → Bool) (n m : ℕ) (script : List Line) → AreBuilt n script → m ≤ n → lines_before m (filter p script) ≡ []
+none_before p n m [] all low = refl
+none_before p n m (l ∷ ls) all low = go (p l)
+  where
+    rest : lines_before m (filter p ls) ≡ []
+    rest = none_before p (l.number + 1) m ls all.1 (let e : n ≤ l.number = all.0.number in omega arith)
+
+    go : (b : Bool) → lines_before m (cond b (l ∷ filter p ls) (filter p ls)) ≡ []
+    go true = ap (λ b. cond b (l ∷ lines_before m (filter p ls)) (lines_before m (filter p ls))) (not_before l.number m (let e : n ≤ l.number = all.0.number in omega arith)) ∙ rest
+    go false = rest
+
+-- the lines before one that are chosen are answered, where all that stand before it are
+pub before_answered : (p : Line → Bool) (n : ℕ) (script : List Line) (i : ℕ) (line : Line) (saids : List Said) → AreBuilt n script → slice_get script i ≡ Some line → are_answered (take i script) saids ≡ true → are_answered (lines_before line.number (filter p script)) saids ≡ true
+before_answered p n [] i line saids all at was = cc
+before_answered p n (l ∷ ls) zero line saids all at was =
+    let same : l ≡ line = cc in
+    let low : line.number ≤ l.number = omega (arith, ap (λ x. x.number) same) in
+    ap (λ xs. are_answered xs saids) (none_before p l.number line.number (l ∷ ls) (record { number = omega arith; small = all.0.small; proper = all.0.proper; built = all.0.built }, all.1) low)
+before_answered p n (l ∷ ls) (suc i) line saids all at was = go (p l) (nat_lt l.number line.number)
+  where
+    rest : are_answered (lines_before line.number (filter p ls)) saids ≡ true
+    rest = before_answered p (l.number + 1) ls i line saids all.1 at (right _ _ was)
+
+    after : (c : Bool) → are_answered (cond c (l ∷ lines_before line.number (filter p ls)) (lines_before line.number (filter p ls))) saids ≡ true
+    after true = both _ _ (left _ _ was) rest
+    after false = rest
+
+    go : (b c : Bool) → are_answered (lines_before line.number (cond b (l ∷ filter p ls) (filter p ls))) saids ≡ true
+    go true c = after (nat_lt l.number line.number)
+    go false c = rest
+
+pub filter_all : (xs : List Line) → filter (λ l. true) xs ≡ xs
+filter_all [] = refl
+filter_all (x ∷ xs) = ap (λ ys. x ∷ ys) (filter_all xs)

@@ -1,15 +1,20 @@
--- What a line is answered, by whether the server is mounted, and what that makes of the server and of the tree.
-use Rattle.std.specs.Prelude.{◌≡◌, ℕ, Bool, true, false}
+-- What a line is answered by a server over a tree, and what that makes of both.
+use Rattle.std.specs.Prelude.{◌≡◌, ◌≤◌, ℕ, ◌+◌, ◌-◌, Bool, true, false}
 use Rattle.frang_base.specs.declared.op.Op.{Op}
 use Rattle.frang_base.specs.declared.op.What.{What}
-use Rattle.frang_base.specs.declared.op.What.TheVariants.{Server, Host}
+use Rattle.frang_base.specs.declared.op.What.TheVariants as what
 use Rattle.frang_base.specs.declared.reply.Reply.{Reply}
+use Rattle.frang_base.specs.declared.reply.Reply.TheVariants as reply
 use Rattle.frang_base.specs.declared.script.Line.{Line}
 use Rattle.tree_definitions.specs.declared.history.Entry.{Entry}
-use Rattle.tree_definitions.specs.Tree.{FileTree}
-use Rattle.tree_definitions.specs.History.{fits, tree_after}
+use Rattle.tree_definitions.specs.Tree.{FileTree, fresh, count_of, dir_blocks}
+use Rattle.tree_definitions.specs.History.{Opening, fresh_opening, fits, tree_after}
 use Rattle.tree_definitions.specs.Live.{number_of}
 use Rattle.tree_definitions.specs.Transcript.{Standing, Off, Up, Free, ServerState, may_answer, after_answer}
+use Rattle.tree_laws.specs.WellFormed.{BirthsAscend}
+use Rattle.script_definitions.specs.SaidReading.{IsProperReply}
+use Rattle.script_definitions.specs.Sayable.{IsSureTree}
+use Rattle.frang_top.specs.declared.server.Server.{Server}
 
 -- a server that was mounted, or wasn't, and never died
 abbrev pub standing_of : Bool → Standing
@@ -24,18 +29,38 @@ state_with up = record { standing = standing_of up; debt = Free; may_die = false
 abbrev pub entry_of : ℕ → Op → Reply → Entry
 entry_of number o r = record { server = record { 0 = 0 }; number = record { 0 = number_of 1 number }; op = o; reply = r }
 
--- a reply to an operation, from a server that is mounted or not and a tree, to those after it
-pub record Answers (number : ℕ) (o : Op) (up : Bool) (tree : FileTree) (r : Reply) (up_after : Bool) (after : FileTree) : Type 0 where
-  pub may : may_answer (state_with up) false o r ≡ true
-  pub state_is : after_answer (state_with up) o r ≡ state_with up_after
-  pub fits_always : (ever : ℕ) → fits tree ever (entry_of number o r) ≡ true
-  pub tree_is : after ≡ tree_after tree (entry_of number o r)
+-- the directories' blocks are counted, births ascend, and each cell of the tree is a byte
+pub record IsReady (server : Server) : Type 0 where
+  pub counted : count_of dir_blocks server.tree ≤ server.dir_blocks
+  pub births : BirthsAscend server.tree
+  pub sure : IsSureTree server.tree
 
--- a reply to what a line asks; the host asks nothing here
-abbrev pub RepliesTo : ℕ → What → Bool → FileTree → Reply → Bool → FileTree → Type 0
-RepliesTo number (Server o) up tree r up_after after = Answers number o up tree r up_after after
-RepliesTo number (Host h) up tree r up_after after = ⊥
+-- the opening of a server's run
+abbrev pub opening_of : Server → Opening
+opening_of server = fresh_opening server.tree.segments
+
+-- a server before its first line
+pub record IsFirst (server : Server) : Type 0 where
+  pub off : server.mounted ≡ false
+  pub tree : server.tree ≡ fresh server.tree.segments
+  pub blocks : server.dir_blocks ≡ 0
+
+-- a reply to an operation, from a server and its tree to those after it
+pub record Answers (number : ℕ) (o : Op) (before : Server) (r : Reply) (after : Server) : Type 0 where
+  pub may : may_answer (state_with before.mounted) false o r ≡ true
+  pub state_is : after_answer (state_with before.mounted) o r ≡ state_with after.mounted
+  pub fits_where : (ever : ℕ) → before.dir_blocks ≤ ever → fits before.tree ever (entry_of number o r) ≡ true
+  pub tree_is : after.tree ≡ tree_after before.tree (entry_of number o r)
+  pub segments : after.tree.segments ≡ before.tree.segments
+  pub grown : after.dir_blocks ≤ before.dir_blocks + (count_of dir_blocks after.tree - count_of dir_blocks before.tree)
+  pub ready : IsReady after
+  pub proper : IsProperReply r
+
+-- a reply to what a line asks; a barrier is answered `ok` and changes nothing
+abbrev pub RepliesTo : ℕ → What → Server → Reply → Server → Type 0
+RepliesTo number (what.Server o) before r after = Answers number o before r after
+RepliesTo number (what.Host h) before r after = (r ≡ reply.Ok) × (after ≡ before)
 
 -- a reply to a line of the script
-abbrev pub Replies : Line → Bool → FileTree → Reply → Bool → FileTree → Type 0
-Replies line up tree r up_after after = RepliesTo line.number line.what up tree r up_after after
+abbrev pub Replies : Line → Server → Reply → Server → Type 0
+Replies line before r after = RepliesTo line.number line.what before r after

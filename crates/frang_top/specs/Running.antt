@@ -1,42 +1,48 @@
 -- Where a run stands between two of its lines.
-use Rattle.std.specs.Prelude.{◌≡◌, ℕ, ◌<◌, Bool, true, false, ◌==◌, Option, Some, None, List, length, take, slice_get}
-use Rattle.std.specs.List.{list_all, list_any}
+use Rattle.std.specs.Prelude.{◌≡◌, ◌≤◌, ℕ, Bool, false, Option, Some, List, [], ◌∷◌, map, take}
+use Rattle.std.specs.List.{All}
 use Rattle.frang_base.specs.declared.said.Said.{Said}
 use Rattle.frang_base.specs.declared.said.Said.TheVariants as said
 use Rattle.frang_base.specs.declared.script.Line.{Line}
 use Rattle.frang_outside.specs.declared.act.Act.{Act}
-use Rattle.tree_definitions.specs.Tree.{FileTree}
-use Rattle.tree_definitions.specs.Removal.{tree_of}
-use Rattle.tree_definitions.specs.Transcript.{state_of, no_faults, is_over, answers}
-use Rattle.frang_top.specs.Answering.{state_with}
-use Rattle.frang_top.specs.Run.{opening, history_of, IsRun, AreSays}
+use Rattle.tree_definitions.specs.History.{Opening}
+use Rattle.tree_definitions.specs.Removal.{settled, tree_of}
+use Rattle.tree_definitions.specs.Transcript.{state_of, no_faults, is_over}
+use Rattle.tree_laws.specs.Histories.{ever_after}
+use Rattle.script_definitions.specs.SaidReading.{IsProperSaid}
+use Rattle.frang_top.specs.declared.server.Server.{Server}
+use Rattle.frang_top.specs.Answering.{state_with, IsReady}
+use Rattle.frang_top.specs.Run.{history_of, IsRun, said_act}
 
--- an answer of server 0
-abbrev pub is_own_answer : Said → Bool
-is_own_answer (said.Answer s number r) = s.0 == 0
-is_own_answer _ = false
+-- the lines said are answers to these lines, in order
+abbrev pub Follows : List Line → List Said → Type 0
+Follows [] [] = Unit {0}
+Follows (line ∷ lines) (said.Answer s number r ∷ saids) = (s ≡ line.who) × (number ≡ line.number) × Follows lines saids
+Follows _ _ = ⊥
 
 -- the first lines are those of a run, however many
-abbrev pub Always : List Line → List Said → Type 0
-Always script saids = (k : ℕ) → IsRun script (take k saids)
+abbrev pub Always : Opening → List Line → List Said → Type 0
+Always opening script saids = (k : ℕ) → IsRun opening script (take k saids)
 
 -- the record, where it is told, is the lines said
 abbrev pub Told : Option (List Act) → List Said → Type 0
-Told told saids = (acts : List Act) → told ≡ Some acts → AreSays acts saids
+Told told saids = (acts : List Act) → told ≡ Some acts → acts ≡ map said_act saids
 
--- the first i lines of the script are answered
-abbrev pub Answered : List Line → List Said → ℕ → Type 0
-Answered script saids i = (k : ℕ) (line : Line) → k < i → slice_get script k ≡ Some line → list_any (answers line.number) saids ≡ true
+-- the blocks that were ever a directory's
+abbrev pub ever_of : Opening → List Line → List Said → ℕ
+ever_of opening script saids = ever_after opening.tree opening.dir_blocks (settled opening.tree (history_of opening script saids))
 
 -- after i lines of the script
-pub record IsAt (script : List Line) (i : ℕ) (up : Bool) (tree : FileTree) (told : Option (List Act)) : Type 0 where
+pub record IsAt (opening : Opening) (script : List Line) (i : ℕ) (server : Server) (told : Option (List Act)) : Type 0 where
   pub saids : List Said
   pub acts : Told told saids
-  pub own : list_all is_own_answer saids ≡ true
-  pub count : length saids ≡ i
-  pub answered : Answered script saids i
+  pub follows : Follows (take i script) saids
+  pub proper : All IsProperSaid saids
   pub goes_on : is_over script saids ≡ false
-  pub state_is : state_of script no_faults 0 saids ≡ state_with up
-  pub tree_is : tree ≡ tree_of opening (history_of script saids)
-  pub run : IsRun script saids
-  pub always : Always script saids
+  pub state_is : state_of script no_faults 0 saids ≡ state_with server.mounted
+  pub tree_is : server.tree ≡ tree_of opening (history_of opening script saids)
+  pub blocks : server.dir_blocks ≤ ever_of opening script saids
+  pub ready : IsReady server
+  pub segments : server.tree.segments ≡ opening.tree.segments
+  pub run : IsRun opening script saids
+  pub always : Always opening script saids

@@ -1,0 +1,93 @@
+// The one server of the scripts that are answered so far, over a tree in memory.
+ghost use Rattle.std.specs.Prelude.{◌≡◌, ◌≤◌, IfOk, true};
+ghost use Rattle.script_definitions.specs.ScriptGrammar.{IsProperOp};
+ghost use Rattle.frang_top.specs.Built.{is_built_op, IsBuiltLine};
+ghost use Rattle.frang_top.specs.Answering.{Answers, IsFirst, IsReady, Replies};
+
+use frang_base::{Line, NoMemory, Op, OpNo, Reply, What};
+use std::alloc::Global;
+use tree_model::Tree;
+
+// Operations are numbered from this on in the first run: its number times 2^32.
+const FIRST_RUN: u64 = 1 << 32;
+
+/// A server: whether it is mounted, the tree, and how many small blocks are or were a directory's.
+#[derive(Debug, Drop)]
+pub struct Server {
+    pub mounted: bool,
+    pub tree: Tree,
+    pub dir_blocks: u32,
+}
+
+impl Server {
+    /// A server that isn't mounted, with a fresh disk of so many segments.
+    pub fn first(alloc: Global, segments: u32) -> Result<Server, NoMemory>
+        requires { segments ≤ 64 }
+        ensures first { IfOk result (λ server. IsFirst server) }
+        ensures segments { IfOk result (λ server. server.tree.segments ≡ segments) }
+    {
+        Ok(Server {
+            mounted: false,
+            tree: Tree::fresh(alloc, segments)?,
+            dir_blocks: 0,
+        })
+    }
+
+    // Does an operation over a path.
+    fn apply(&mut self, op: &Op, number: u32) -> Result<Reply, NoMemory>
+        requires ready { IsReady self.old }
+        requires mounted { self.old.mounted ≡ true }
+        requires path { is_path_op op.now ≡ true }
+        requires proper { IsProperOp op.now }
+        ensures ok { IfOk result (λ r. Answers number op.now self.old r self.new) }
+    {
+        let birth = OpNo(FIRST_RUN + u64::from(number));
+        let reply = self.tree.apply(op, birth, self.dir_blocks)?;
+        self.dir_blocks = self.dir_blocks.max(self.tree.dir_blocks());
+        Ok(reply)
+    }
+
+    // Mounts, where it isn't mounted.
+    fn mount(&mut self) -> Reply
+        requires { IsReady self.old }
+        ensures { (number : ℕ) → Answers number op.Mount self.old result self.new }
+    {
+        if self.mounted {
+            return Reply::Already;
+        }
+        self.mounted = true;
+        Reply::Mounted
+    }
+
+    // Answers an operation.
+    fn answer(&mut self, op: &Op, number: u32) -> Result<Reply, NoMemory>
+        requires ready { IsReady self.old }
+        requires built { is_built_op op.now ≡ true }
+        requires proper { IsProperOp op.now }
+        ensures ok { IfOk result (λ r. Answers number op.now self.old r self.new) }
+    {
+        match op {
+            Op::Mount => Ok(self.mount()),
+            _ if !self.mounted => Ok(Reply::Down),
+            Op::Sync => Ok(Reply::Ok),
+            Op::Unmount => {
+                self.mounted = false;
+                Ok(Reply::Ok)
+            }
+            _ => self.apply(op, number),
+        }
+    }
+
+    /// The reply to a line of server 0 or to a barrier.
+    pub fn reply_to(&mut self, line: &Line) -> Result<Reply, NoMemory>
+        requires ready { IsReady self.old }
+        requires built { IsBuiltLine 0 line.now }
+        ensures ok { IfOk result (λ r. Replies line.now self.old r self.new) }
+    {
+        let number = line.number;
+        match &line.what {
+            What::Server(op) => self.answer(op, number),
+            What::Host(_) => Ok(Reply::Ok),
+        }
+    }
+}
