@@ -1,37 +1,26 @@
 -- What is asked by words is what the grammar says, and the other way round.
-use Rattle.std.proofs.Common.{◌≡◌, ℕ, ◌+◌, ◌-◌, ◌*◌, ◌/◌, ◌%◌, ◌^◌, ◌≤◌, ◌<◌, Bool, true, false, not, ◌&&◌, ◌||◌, cond, eqb, ltb, leb, ◌⊎◌, inl, inr, List, [], ◌∷◌, ◌++◌, length, Option, Some, None, Result, Ok, Err, refl, sym, ◌∙◌, ap, subst, arith, codes, zero, suc}
+use Rattle.std.proofs.Common.{◌≡◌, ℕ, ◌+◌, ◌-◌, ◌*◌, ◌/◌, ◌%◌, ◌^◌, ◌≤◌, ◌<◌, Bool, true, false, not, ◌&&◌, ◌||◌, cond, eqb, ltb, leb, ◌⊎◌, inl, inr, List, [], ◌∷◌, ◌++◌, length, Option, Some, None, Result, Ok, Err, refl, sym, ◌∙◌, ap, subst, arith, suc}
 use Rattle.std.specs.List.{list_all, slice_split, join_with_byte, flat_map}
-use Rattle.std.specs.Str.{bytes_eq}
 use Rattle.std.specs.Fmt.{decimal}
-use Rattle.std.proofs.lemmas.Bool.{and_parts, and_from, or_parts, or_from, not-true, not-false, not_from_false, ltb-true, ltb-false, leb-true, lt-ltb, le-ltb, le-leb, lt-leb, and_right, eqb-true, eqb-false, ne_eqb, false_from_ne_true}
+use Rattle.std.proofs.lemmas.Bool.{and_parts, and_from, or_parts, or_from, not-true, not-false, not_from_false, ltb-true, ltb-false, leb-true, lt-ltb, le-ltb, le-leb, lt-leb, and_right, eqb-true, eqb-false, ne_eqb}
 use Rattle.std.proofs.lemmas.List.Splits.{join_with_byte-slice_split}
 use Rattle.frang_base.specs.Name.{is_name, is_name_byte, is_dots}
 use Rattle.frang_base.specs.PathText.{name_fault, with_name, unless_fault, names_from, names_below_root, names_from_root, path_of}
 use Rattle.frang_base.specs.declared.fault.PathFault.{PathFault}
 use Rattle.frang_base.specs.declared.fault.PathFault.TheVariants as pathfault
-use Rattle.frang_base.specs.declared.op.Op.{Op}
-use Rattle.frang_base.specs.declared.op.Op.TheVariants as op
-use Rattle.frang_base.specs.declared.op.HostOp.{HostOp}
-use Rattle.frang_base.specs.declared.op.HostOp.TheVariants as host
-use Rattle.frang_base.specs.declared.op.What.{What}
-use Rattle.frang_base.specs.declared.op.What.TheVariants.{Server, Host}
-use Rattle.frang_base.specs.declared.sector.ServerId.{ServerId}
 use Rattle.tree_definitions.specs.SaidLines.{hex_digit, hex_byte}
-use Rattle.script_definitions.specs.Numerals.{is_digit, is_numeral, number_in}
+use Rattle.script_definitions.specs.Numerals.{number_in}
 use Rattle.script_definitions.specs.ScriptFaults.{◌>>=◌}
-use Rattle.script_definitions.specs.ScriptWords.{no_words, one_word, two_words, three_words, four_words, or_fault, path_or_fault, path_at, number_at, offset_at, text_at, digit_value, byte_at, word_text, path_words, longer_words, bare_words, word_among, first_word, server_word, path_alone, paths, symlink_of, write_of, fill_of, truncate_of, read_of, writes_of, crash_of, op_with, op_of, host_op_of, server_of, server_line, host_line, asked_of}
-use Rattle.script_definitions.specs.ScriptPrinted.{path_text, op_words, line_words}
-use Rattle.script_definitions.specs.ScriptGrammar.{IsPath, IsProperOp, IsProperWhat, OpSpelled, WhatSpelled, AsksBy}
-use Rattle.script_definitions.specs.declared.asked.Asked.{Asked}
+use Rattle.script_definitions.specs.ScriptWords.{or_fault, path_or_fault, path_at, number_at, offset_at, text_at, digit_value, byte_at}
+use Rattle.script_definitions.specs.ScriptPrinted.{path_text}
+use Rattle.script_definitions.specs.ScriptGrammar.{IsPath}
 use Rattle.script_definitions.specs.declared.fault.LineFault.{LineFault}
 use Rattle.script_definitions.specs.declared.fault.LineFault.TheVariants as fault
-use Rattle.script_definitions.specs.declared.word.ServerWord.{ServerWord}
-use Rattle.script_definitions.specs.declared.word.ServerWord.TheVariants as word
-use Rattle.script_definitions.proofs.NumeralLaws.{IsNumber, number_in-Some, number_in-decimal, numeral-decimal, IsPlain, IsPlain-decimal}
+use Rattle.script_definitions.proofs.NumeralLaws.{IsNumber, number_in-Some, number_in-decimal}
 use Rattle.script_definitions.proofs.Splitting.{is_free, all_weaker, split_join, joined}
 use Rattle.script_definitions.proofs.PartsLaws.{HasFirst, split_has}
-use Rattle.script_definitions.proofs.SaidWritten.{name_bytes, numeral_differs}
-use Rattle.script_definitions.proofs.SaidRead.{chosen, word_is, same_some}
+use Rattle.script_definitions.proofs.SaidWritten.{name_bytes}
+use Rattle.script_definitions.proofs.SaidRead.{chosen, same_some}
 
 -- how a value came about
 pub bind_ok : {F A B : Type 0} (r : Result A F) (f : A → Result B F) (y : B) → (r >>= f) ≡ Ok y → (x : A) × (r ≡ Ok x) × (f x ≡ Ok y)
@@ -171,7 +160,7 @@ name_slash b e =
     let h = and_parts (ltb 32 b && not (eqb b 47)) (not (eqb b 127)) e in
     (and_parts (ltb 32 b) (not (eqb b 47)) h.0).1
 
-slash_free : (name : List ℕ) → is_name name ≡ true → is_free 47 name ≡ true
+pub slash_free : (name : List ℕ) → is_name name ≡ true → is_free 47 name ≡ true
 slash_free name e = all_weaker is_name_byte (λ b. not (eqb b 47)) name_slash name (name_bytes name e)
 
 -- a name isn't empty, so what follows the root isn't either

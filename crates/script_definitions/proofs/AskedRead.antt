@@ -1,5 +1,5 @@
 -- What words ask, and the words that ask it.
-use Rattle.std.proofs.Common.{◌≡◌, ℕ, ◌+◌, ◌-◌, ◌*◌, ◌/◌, ◌%◌, ◌^◌, ◌≤◌, ◌<◌, Bool, true, false, not, ◌&&◌, ◌||◌, cond, eqb, ltb, leb, ◌⊎◌, inl, inr, List, [], ◌∷◌, ◌++◌, length, Option, Some, None, Result, Ok, Err, refl, sym, ◌∙◌, ap, subst, arith, codes, zero, suc}
+use Rattle.std.proofs.Common.{◌≡◌, ℕ, ◌≤◌, cond, ◌⊎◌, inl, inr, List, [], ◌∷◌, Option, Some, None, Result, Ok, Err, refl, sym, ◌∙◌, ap, subst, arith, codes}
 use Rattle.std.specs.List.{list_all}
 use Rattle.std.specs.Str.{bytes_eq}
 use Rattle.std.specs.Fmt.{decimal}
@@ -10,20 +10,19 @@ use Rattle.frang_base.specs.declared.op.HostOp.TheVariants as host
 use Rattle.frang_base.specs.declared.op.What.{What}
 use Rattle.frang_base.specs.declared.op.What.TheVariants.{Server, Host}
 use Rattle.frang_base.specs.declared.sector.ServerId.{ServerId}
-use Rattle.tree_definitions.specs.SaidLines.{hex_byte}
 use Rattle.script_definitions.specs.Numerals.{is_digit, number_in}
 use Rattle.script_definitions.specs.ScriptFaults.{◌>>=◌}
 use Rattle.script_definitions.specs.ScriptWords.{no_words, one_word, two_words, three_words, four_words, or_fault, path_at, number_at, offset_at, text_at, byte_at, word_text, path_words, longer_words, bare_words, word_among, first_word, server_word, path_alone, paths, symlink_of, write_of, fill_of, truncate_of, read_of, writes_of, crash_of, op_with, op_of, host_op_of, server_of, server_line, host_line, asked_of}
-use Rattle.script_definitions.specs.ScriptPrinted.{path_text, op_words, line_words}
+use Rattle.script_definitions.specs.ScriptPrinted.{path_text, line_words}
 use Rattle.script_definitions.specs.ScriptGrammar.{IsPath, IsProperOp, IsProperWhat, OpSpelled, WhatSpelled, AsksBy}
 use Rattle.script_definitions.specs.declared.asked.Asked.{Asked}
 use Rattle.script_definitions.specs.declared.fault.LineFault.{LineFault}
 use Rattle.script_definitions.specs.declared.fault.LineFault.TheVariants as fault
 use Rattle.script_definitions.specs.declared.word.ServerWord.{ServerWord}
 use Rattle.script_definitions.specs.declared.word.ServerWord.TheVariants as word
-use Rattle.script_definitions.proofs.NumeralLaws.{IsNumber, IsPlain, IsPlain-decimal, number_in-Some, number_in-decimal}
+use Rattle.script_definitions.proofs.NumeralLaws.{IsPlain-decimal, number_in-Some, number_in-decimal}
 use Rattle.script_definitions.proofs.SaidRead.{chosen, word_is, same_some}
-use Rattle.script_definitions.proofs.AskedLaws.{bind_ok, same_ok, or_ok, path_at_sound, path_at_complete, number_sound, number_complete, offset_sound, offset_complete, text_sound, text_complete, byte_sound, byte_complete}
+use Rattle.script_definitions.proofs.AskedLaws.{bind_ok, same_ok, or_ok, path_at_sound, path_at_complete, number_sound, number_complete, offset_sound, offset_complete, text_sound, text_complete, byte_sound}
 
 -- tuples and records by their parts
 abbrev pair : List ℕ → List ℕ → List ℕ × List ℕ

@@ -1,24 +1,16 @@
 -- The words of a line that is text, and lines that are joined of such words.
-use Rattle.std.proofs.Common.{◌≡◌, ℕ, ◌+◌, ◌-◌, ◌*◌, ◌/◌, ◌%◌, ◌^◌, ◌≤◌, ◌<◌, Bool, true, false, not, ◌&&◌, ◌||◌, cond, eqb, ltb, leb, ◌⊎◌, inl, inr, List, [], ◌∷◌, ◌++◌, length, filter, get_or, refl, sym, ◌∙◌, ap, subst, arith, codes, zero, suc}
+use Rattle.std.proofs.Common.{◌≡◌, ℕ, ◌+◌, ◌/◌, ◌%◌, ◌≤◌, ◌<◌, Bool, true, false, not, ◌&&◌, cond, eqb, ltb, List, [], ◌∷◌, ◌++◌, filter, refl, sym, ◌∙◌, ap, arith, zero, suc}
 use Rattle.std.specs.List.{list_all, list_any, slice_split, onto_first, join_with_byte}
 use Rattle.std.specs.Str.{is_utf8, IsUtf8, IsAscii}
-use Rattle.std.specs.Fmt.{decimal}
 use Rattle.std.proofs.Math.Utf8.{encode, encodes, scalar, scalars}
-use Rattle.std.proofs.lemmas.Bool.{and_parts, and_from, or_parts, or_from, not-true, not_from_false, eqb-true, le-ltb, lt-ltb, le-leb, ltb-true, ltb-false, ne_eqb, false_from_ne_true, cond_both}
-use Rattle.std.proofs.lemmas.Str.{IsUtf8-append, IsUtf8-nil, IsUtf8-encode, IsUtf8-from_ascii, is_utf8-from_IsUtf8, IsUtf8-from_is_utf8, encode_ascii}
+use Rattle.std.proofs.lemmas.Bool.{and_parts, and_from, or_parts, or_from, not-true, not_from_false, eqb-true, le-ltb, ltb-true, ltb-false, ne_eqb, false_from_ne_true, cond_both}
+use Rattle.std.proofs.lemmas.Str.{IsUtf8-append, IsUtf8-nil, IsUtf8-from_ascii, is_utf8-from_IsUtf8, IsUtf8-from_is_utf8, encode_ascii}
 use Rattle.std.proofs.lemmas.List.{append-nil}
-use Rattle.std.proofs.lemmas.List.Splits.{slice_split-cons_no, slice_split-cons_yes}
-use Rattle.frang_base.specs.declared.op.Op.{Op}
-use Rattle.frang_base.specs.declared.op.Op.TheVariants as op
-use Rattle.frang_base.specs.declared.op.HostOp.TheVariants as host
-use Rattle.frang_base.specs.declared.op.What.{What}
-use Rattle.frang_base.specs.declared.op.What.TheVariants.{Server, Host}
+use Rattle.std.proofs.lemmas.List.Splits.{slice_split-cons_no}
 use Rattle.tree_definitions.specs.SaidLines.{hex_digit, hex_byte}
 use Rattle.script_definitions.specs.ScriptWords.{is_blank, is_some_word, words_of}
-use Rattle.script_definitions.specs.ScriptText.{is_control, is_text, is_comment, is_skipped}
-use Rattle.script_definitions.specs.ScriptPrinted.{path_text, op_words, line_words, line_text}
-use Rattle.script_definitions.specs.ScriptGrammar.{OpSpelled, WhatSpelled}
-use Rattle.script_definitions.proofs.Splitting.{all_weaker, all_append, all_joined}
+use Rattle.script_definitions.specs.ScriptText.{is_control, is_text}
+use Rattle.script_definitions.proofs.Splitting.{all_weaker, all_joined}
 use Rattle.script_definitions.proofs.PartsLaws.{HasFirst, split_has}
 
 -- a byte that a word may have
@@ -194,7 +186,7 @@ good_some w e = (and_parts (is_some_word w) (list_all is_word_byte w) (and_parts
 pub good_bytes : (w : List ℕ) → is_good w ≡ true → list_all is_word_byte w ≡ true
 good_bytes w e = (and_parts (is_some_word w) (list_all is_word_byte w) (and_parts (is_some_word w && list_all is_word_byte w) (is_utf8 w) e).0).1
 
-good_utf8 : (w : List ℕ) → is_good w ≡ true → is_utf8 w ≡ true
+pub good_utf8 : (w : List ℕ) → is_good w ≡ true → is_utf8 w ≡ true
 good_utf8 w e = (and_parts (is_some_word w && list_all is_word_byte w) (is_utf8 w) e).1
 
 good_free : (w : List ℕ) → is_good w ≡ true → list_all (λ b. not (is_blank b)) w ≡ true

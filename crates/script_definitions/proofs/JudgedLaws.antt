@@ -1,9 +1,9 @@
 -- Lines that are judged, by the grammar, and lines as they are printed.
-use Rattle.std.proofs.Common.{◌≡◌, ℕ, ◌+◌, ◌≤◌, ◌<◌, Bool, true, false, not, ◌&&◌, ◌||◌, cond, eqb, ltb, leb, ◌⊎◌, inl, inr, List, [], ◌∷◌, ◌++◌, length, Option, Some, None, Result, Ok, Err, refl, sym, ◌∙◌, ap, subst, arith, codes, zero, suc}
+use Rattle.std.proofs.Common.{◌≡◌, ℕ, ◌+◌, ◌≤◌, Bool, true, false, not, ◌&&◌, ◌||◌, cond, eqb, ltb, inl, inr, List, [], ◌∷◌, length, Option, Some, None, Result, Ok, Err, refl, sym, ◌∙◌, ap, subst, arith, codes, suc}
 use Rattle.std.specs.List.{list_all, join_with_byte}
 use Rattle.std.specs.Fmt.{decimal}
 use Rattle.std.specs.Str.Lines.{lines}
-use Rattle.std.proofs.lemmas.Bool.{and_parts, and_from, or_from, not-true, not-false, not_from_false, ltb-false, le-ltb, lt-ltb, ne_eqb, eqb-true, false_from_ne_true}
+use Rattle.std.proofs.lemmas.Bool.{and_parts, and_from, or_from, not-false, ltb-false, le-ltb, ne_eqb}
 use Rattle.std.specs.Str.{bytes_eq}
 use Rattle.std.proofs.lemmas.Slice.Eq.{bytes_eq-Decides}
 use Rattle.frang_base.specs.declared.op.Op.{Op}
@@ -13,21 +13,20 @@ use Rattle.frang_base.specs.declared.op.What.{What}
 use Rattle.frang_base.specs.declared.op.What.TheVariants.{Server, Host}
 use Rattle.frang_base.specs.declared.script.Line.{Line}
 use Rattle.tree_definitions.specs.SaidLines.{hex_byte}
-use Rattle.script_definitions.specs.Numerals.{is_digit, is_numeral}
-use Rattle.script_definitions.specs.ScriptFaults.{kind_of, ◌>>=◌}
+use Rattle.script_definitions.specs.Numerals.{is_numeral}
+use Rattle.script_definitions.specs.ScriptFaults.{◌>>=◌}
 use Rattle.script_definitions.specs.ScriptWords.{words_of, is_some_word, byte_at, asked_of}
 use Rattle.script_definitions.specs.ScriptText.{is_text, is_comment, is_skipped, judged, is_halt, with_line, fault_at, numbered, after_line, script_from, script_of}
 use Rattle.script_definitions.specs.ScriptPrinted.{path_text, op_words, line_words, line_text}
-use Rattle.script_definitions.specs.ScriptGrammar.{IsProperOp, IsProperWhat, OpSpelled, WhatSpelled, AsksBy, IsCommand, AreLines, IsScriptText}
+use Rattle.script_definitions.specs.ScriptGrammar.{IsProperOp, IsProperWhat, OpSpelled, WhatSpelled, IsCommand, AreLines, IsScriptText}
 use Rattle.script_definitions.specs.declared.asked.Asked.{Asked}
 use Rattle.script_definitions.specs.declared.fault.LineFault.{LineFault}
 use Rattle.script_definitions.specs.declared.fault.LineFault.TheVariants as fault
 use Rattle.script_definitions.specs.declared.fault.ScriptFault.{ScriptFault}
 use Rattle.script_definitions.proofs.NumeralLaws.{numeral-decimal}
-use Rattle.script_definitions.proofs.PartsLaws.{HasFirst}
 use Rattle.script_definitions.proofs.SaidWritten.{numeral_differs}
 use Rattle.script_definitions.proofs.AskedLaws.{bind_ok, same_ok, guard_ok, byte_sound, byte_complete}
-use Rattle.script_definitions.proofs.AskedRead.{asked, asked_sound, asked_complete}
+use Rattle.script_definitions.proofs.AskedRead.{asked_sound, asked_complete}
 use Rattle.script_definitions.proofs.GoodWords.{is_good, good_some, words_good, joined_words, joined_text, hex_good}
 
 -- how a line came to be judged

@@ -10,3 +10,7 @@ pub mod JudgedLaws
 pub mod LinesLaws
 pub mod PrintedLaws
 pub mod PrintedLength
+pub mod SayableTrees
+pub mod SayableLines
+pub mod SayableHistories
+pub mod SayableScripts

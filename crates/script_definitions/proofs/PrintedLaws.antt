@@ -1,6 +1,6 @@
 -- A script that was read is read again from the text that prints it.
-use Rattle.std.proofs.Common.{◌≡◌, ℕ, ◌+◌, ◌-◌, ◌≤◌, ◌<◌, Bool, true, false, not, ◌&&◌, ◌||◌, cond, eqb, ltb, List, [], ◌∷◌, ◌++◌, length, take, get_or, replicate, Option, Some, None, Result, Ok, Err, refl, sym, ◌∙◌, ap, subst, arith, append_assoc, zero, suc}
-use Rattle.std.specs.List.{list_all, slice_split, join_with_byte}
+use Rattle.std.proofs.Common.{◌≡◌, ℕ, ◌+◌, ◌-◌, ◌≤◌, Bool, true, false, not, ◌||◌, cond, eqb, ltb, List, [], ◌∷◌, ◌++◌, length, take, get_or, replicate, Option, Some, None, Result, Ok, Err, refl, ◌∙◌, ap, subst, arith, zero, suc}
+use Rattle.std.specs.List.{list_all}
 use Rattle.std.specs.Str.Lines.{lines, strip_carriage_return}
 use Rattle.std.proofs.lemmas.Bool.{and_parts, not-true, ltb-false, le-ltb}
 use Rattle.std.proofs.lemmas.List.Splits.{slice_split-cons_yes}
@@ -8,15 +8,13 @@ use Rattle.frang_base.specs.declared.script.Line.{Line}
 use Rattle.script_definitions.specs.ScriptWords.{words_of}
 use Rattle.script_definitions.specs.ScriptText.{judged, is_halt, with_line, fault_at, numbered, after_line, script_from, script_of}
 use Rattle.script_definitions.specs.ScriptPrinted.{line_words, line_text, printed_from, printed}
-use Rattle.script_definitions.specs.ScriptGrammar.{IsCommand}
 use Rattle.script_definitions.specs.declared.asked.Asked.{Asked}
 use Rattle.script_definitions.specs.declared.fault.LineFault.{LineFault}
 use Rattle.script_definitions.specs.declared.fault.LineFault.TheVariants as fault
-use Rattle.script_definitions.specs.declared.fault.ScriptFault.{ScriptFault}
 use Rattle.script_definitions.proofs.Splitting.{is_free, split_before}
 use Rattle.script_definitions.proofs.AskedLaws.{guard_ok, same_ok}
 use Rattle.script_definitions.proofs.GoodWords.{is_good, words_good, joined_free}
-use Rattle.script_definitions.proofs.JudgedLaws.{IsJudged, judged_sound, judged_complete, line_good, command_printed, line_of, lines_step, with_line_ok}
+use Rattle.script_definitions.proofs.JudgedLaws.{judged_sound, judged_complete, line_good, command_printed, line_of, lines_step, with_line_ok}
 use Rattle.script_definitions.proofs.LinesLaws.{line_before}
 
 -- empty lines

@@ -1,10 +1,10 @@
 -- What is read of a line is proper, and its bytes are the line's.
-use Rattle.std.proofs.Common.{◌≡◌, ℕ, ◌+◌, ◌-◌, ◌*◌, ◌/◌, ◌%◌, ◌^◌, ◌≤◌, ◌<◌, Bool, true, false, not, ◌&&◌, cond, eqb, ltb, leb, ◌⊎◌, inl, inr, List, [], ◌∷◌, ◌++◌, length, take, drop, get_or, Option, Some, None, refl, sym, ◌∙◌, ap, subst, arith, append_assoc, codes, zero, suc, find}
+use Rattle.std.proofs.Common.{◌≡◌, ℕ, ◌+◌, ◌-◌, ◌*◌, ◌/◌, ◌%◌, ◌^◌, ◌≤◌, ◌<◌, Bool, true, false, ◌&&◌, cond, eqb, ltb, leb, ◌⊎◌, inl, inr, List, [], ◌∷◌, ◌++◌, length, take, drop, get_or, Option, Some, None, refl, sym, ◌∙◌, ap, subst, arith, append_assoc, codes}
 use Rattle.std.specs.List.{list_all, slice_split, join_with_byte, flat_map}
 use Rattle.std.specs.Option.{option_map, option_and_then}
 use Rattle.std.specs.Str.{bytes_eq}
 use Rattle.std.specs.Fmt.{decimal}
-use Rattle.std.proofs.lemmas.Bool.{and_parts, and_from, ltb-true, ltb-false, leb-true, leb-false, eqb-true, lt-ltb, le-ltb}
+use Rattle.std.proofs.lemmas.Bool.{and_parts, and_from, leb-true, eqb-true, lt-ltb, le-ltb}
 use Rattle.std.proofs.lemmas.List.{take-append-drop, drop_more, drop_all}
 use Rattle.std.proofs.lemmas.List.Splits.{join_with_byte-slice_split}
 use Rattle.std.proofs.lemmas.Slice.Eq.{bytes_eq-Decides}
@@ -17,9 +17,8 @@ use Rattle.frang_base.specs.declared.sector.ServerId.{ServerId}
 use Rattle.frang_base.specs.declared.sector.OpNo.{OpNo}
 use Rattle.tree_definitions.specs.SaidLines.{hex_digit, hex_byte, reply_word, run_point, who_text, run_line, said_text, said_line}
 use Rattle.script_definitions.specs.Numerals.{number_in, count_at}
-use Rattle.script_definitions.specs.SaidReading.{IsWho, IsNodeKind, is_target, is_path_text, IsProperReply, IsProperSaid, parts_of, sole_part, sole, first_of_parts, is_end, at_end, server_at, who_at, log_at, two_counts, point_at, op_at, hex_value, byte_at, hex_bytes, some_bytes, shown_of, names_of, target_at, state_replies, place_replies, limit_replies, reply_among, first_some, plain_at, full_at, nospace_of, short_reply_from, reply_from, reply_of, answer_of, by_of, recovering_of, keeps_of, recovered_of, note_from, kind_from, node_from, said_from, said_in, without_feed, said_of}
-use Rattle.script_definitions.proofs.NumeralLaws.{IsNumber, number_in-Some}
-use Rattle.script_definitions.proofs.PartsLaws.{HasFirst, split_has}
+use Rattle.script_definitions.specs.SaidReading.{IsWho, IsNodeKind, is_target, is_path_text, IsProperReply, IsProperSaid, parts_of, sole, first_of_parts, is_end, at_end, server_at, who_at, log_at, two_counts, point_at, op_at, hex_value, byte_at, hex_bytes, some_bytes, shown_of, names_of, target_at, state_replies, place_replies, limit_replies, reply_among, first_some, plain_at, full_at, nospace_of, short_reply_from, reply_from, reply_of, answer_of, by_of, recovering_of, keeps_of, recovered_of, note_from, kind_from, node_from, said_from, said_in, without_feed, said_of}
+use Rattle.script_definitions.proofs.NumeralLaws.{number_in-Some}
 use Rattle.script_definitions.proofs.SaidWritten.{text_low, nothing_follows, said_of_line, who_low, file_kind, dir_kind, reply_parts, kind_parts, said_parts, said_joined}
 
 -- fields, and what a `Some` has

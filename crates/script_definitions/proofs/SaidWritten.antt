@@ -1,11 +1,10 @@
 -- A proper line is read back from its bytes.
-use Rattle.std.proofs.Common.{◌≡◌, ℕ, ◌+◌, ◌-◌, ◌*◌, ◌/◌, ◌%◌, ◌^◌, ◌≤◌, ◌<◌, Bool, true, false, not, ◌&&◌, cond, eqb, ltb, leb, ◌⊎◌, inl, inr, List, [], ◌∷◌, ◌++◌, length, take, get_or, Option, Some, None, refl, sym, ◌∙◌, ap, subst, arith, append_assoc, codes, zero, suc, find, if◌then◌else◌, ◌==◌, IsTrue}
+use Rattle.std.proofs.Common.{◌≡◌, ℕ, ◌+◌, ◌-◌, ◌*◌, ◌/◌, ◌%◌, ◌^◌, ◌≤◌, ◌<◌, Bool, true, false, not, ◌&&◌, cond, eqb, ltb, leb, inl, inr, List, [], ◌∷◌, ◌++◌, length, take, get_or, Some, None, refl, sym, ◌∙◌, ap, arith, append_assoc, codes, suc, if◌then◌else◌, ◌==◌}
 use Rattle.std.specs.List.{list_all, slice_split, join_with_byte, flat_map}
 use Rattle.std.specs.Option.{option_map, option_and_then}
 use Rattle.std.specs.Str.{bytes_eq}
 use Rattle.std.specs.Fmt.{decimal}
-use Rattle.std.proofs.lemmas.Bool.{and_parts, and_from, ltb-true, ltb-false, leb-true, le-leb, lt-leb, and_right, ne_eqb, le-ltb, lt-ltb, eqb-true, false_from_ne_true}
-use Rattle.std.proofs.lemmas.Bool.Decides.{nat_tests}
+use Rattle.std.proofs.lemmas.Bool.{and_parts, and_from, ltb-true, ltb-false, leb-true, le-leb, lt-leb, and_right, ne_eqb, lt-ltb, eqb-true, false_from_ne_true}
 use Rattle.std.proofs.lemmas.List.{take_at, get_or_at, length_push}
 use Rattle.std.proofs.lemmas.List.Splits.{join_with_byte-slice_split}
 use Rattle.frang_base.specs.Name.{is_name, is_name_byte, is_dots}
@@ -15,10 +14,10 @@ use Rattle.frang_base.specs.declared.said.Said.{Said}
 use Rattle.frang_base.specs.declared.said.Said.TheVariants as said
 use Rattle.frang_base.specs.declared.sector.ServerId.{ServerId}
 use Rattle.frang_base.specs.declared.sector.OpNo.{OpNo}
-use Rattle.tree_definitions.specs.SaidLines.{hex_digit, hex_byte, spaced, reply_word, bytes_text, run_point, contents_text, reply_text, who_text, run_line, keeps_text, node_text, said_text, said_line}
-use Rattle.script_definitions.specs.Numerals.{is_digit, is_numeral, number_in, count_at}
-use Rattle.script_definitions.specs.SaidReading.{IsWho, is_target, is_target_byte, is_path_text, IsProperReply, IsNodeKind, IsProperSaid, parts_of, sole_part, sole, first_of_parts, is_end, at_end, server_at, who_at, log_at, two_counts, point_at, op_at, hex_value, byte_at, hex_bytes, some_bytes, shown_of, names_of, target_at, plain_at, nospace_of, short_reply_from, reply_from, reply_of, answer_of, by_of, recovering_of, keeps_of, recovered_of, note_from, kind_from, node_from, said_from, said_in, without_feed, said_of}
-use Rattle.script_definitions.proofs.NumeralLaws.{IsPlain, IsPlain-decimal, numeral-decimal, number_in-decimal}
+use Rattle.tree_definitions.specs.SaidLines.{hex_digit, hex_byte, spaced, reply_word, run_point, reply_text, who_text, run_line, keeps_text, node_text, said_text, said_line}
+use Rattle.script_definitions.specs.Numerals.{is_digit, is_numeral, count_at}
+use Rattle.script_definitions.specs.SaidReading.{IsWho, is_target, is_target_byte, is_path_text, IsProperReply, IsNodeKind, IsProperSaid, parts_of, sole, first_of_parts, server_at, who_at, log_at, two_counts, point_at, op_at, hex_value, byte_at, hex_bytes, shown_of, reply_of, answer_of, note_from, kind_from, node_from, said_from, said_in, without_feed, said_of}
+use Rattle.script_definitions.proofs.NumeralLaws.{IsPlain-decimal, numeral-decimal, number_in-decimal}
 use Rattle.script_definitions.proofs.PartsLaws.{HasFirst, part_alone}
 use Rattle.script_definitions.proofs.Splitting.{is_free, all_weaker, all_append, split_before, split_alone, split_join, joined, all_joined}
 

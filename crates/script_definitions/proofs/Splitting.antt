@@ -1,11 +1,10 @@
 -- Texts that are joined of parts without the separator are cut into these parts again.
-use Rattle.std.proofs.Common.{◌≡◌, ℕ, ◌+◌, ◌-◌, ◌≤◌, ◌<◌, Bool, true, false, not, ◌&&◌, cond, eqb, List, [], ◌∷◌, ◌++◌, length, take, get_or, refl, sym, ◌∙◌, ap, arith, append_assoc, length-append, zero, suc}
+use Rattle.std.proofs.Common.{◌≡◌, ℕ, Bool, true, not, eqb, List, [], ◌∷◌, ◌++◌, refl, sym, ◌∙◌, ap}
 use Rattle.std.specs.List.{list_all, slice_split, onto_first, join_with_byte, flat_map}
 use Rattle.std.proofs.lemmas.Bool.{and_parts, and_from, not-true, eq-eqb}
 use Rattle.std.proofs.lemmas.List.{append-nil}
 use Rattle.std.proofs.lemmas.List.Folds.{list_all-append}
 use Rattle.std.proofs.lemmas.List.Splits.{slice_split-cons_no, slice_split-cons_yes}
-use Rattle.script_definitions.proofs.PartsLaws.{HasFirst, split_has}
 
 -- no byte is the separator
 abbrev pub is_free : ℕ → List ℕ → Bool

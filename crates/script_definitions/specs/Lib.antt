@@ -5,3 +5,4 @@ pub mod ScriptWords
 pub mod ScriptText
 pub mod ScriptPrinted
 pub mod ScriptGrammar
+pub mod Sayable

@@ -8,6 +8,7 @@ mod asked;
 mod fault;
 mod laws;
 mod number;
+mod sayable;
 mod word;
 
 pub use asked::Asked;
@@ -18,4 +19,8 @@ pub use laws::{
     what_is_in_the_grammar_is_read, what_is_read_is_in_the_grammar,
 };
 pub use number::{count, number_within};
+pub use sayable::{
+    histories_leave_what_can_be_said, scripts_ask_what_can_be_said, tree_lines_can_be_said,
+    what_can_be_said_is_proper, what_is_applied_can_be_said,
+};
 pub use word::ServerWord;

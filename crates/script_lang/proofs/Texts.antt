@@ -4,7 +4,6 @@ use Rattle.std.specs.List.{slice_split, onto_first, list_any}
 use Rattle.std.specs.Str.{is_utf8, IsUtf8}
 use Rattle.std.proofs.lemmas.Bool.{false_from_ne_true}
 use Rattle.std.proofs.lemmas.Str.{is_utf8-from_IsUtf8, IsUtf8-from_is_utf8}
-use Rattle.std.proofs.lemmas.List.Splits.{slice_split-cons_no, slice_split-cons_yes}
 use Rattle.script_definitions.specs.ScriptWords.{is_blank, is_some_word, words_of}
 use Rattle.script_definitions.specs.ScriptText.{is_control}
 use Rattle.script_definitions.proofs.PartsLaws.{HasFirst, split_has}

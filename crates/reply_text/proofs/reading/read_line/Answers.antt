@@ -1,5 +1,5 @@
 -- What is read can be said and has these bytes; where nothing is read, nothing that can be said has them.
-use Rattle.std.proofs.Common.{◌≡◌, None, Some, rules}
+use Rattle.std.proofs.Common.{◌≡◌, None, rules}
 use Rattle.script_definitions.specs.SaidReading.{said_of}
 use Rattle.script_definitions.proofs.SaidRead.{said_of_read, not_read}
 use Rattle.reply_text.proofs.reading.read_line.Goals as goal

@@ -1,0 +1,127 @@
+-- What a tree, an operation and a reply must be for lines of them to be lines that can be said; numbers are left to their types.
+use Rattle.std.specs.Prelude.{◌≡◌, ◌<◌, ◌^◌, ℕ, true, ◌⊎◌, List}
+use Rattle.std.specs.List.{All, list_all}
+use Rattle.std.specs.Map.{keys_of, values_of}
+use Rattle.frang_base.specs.Name.{is_name}
+use Rattle.frang_base.specs.declared.op.Op.{Op}
+use Rattle.frang_base.specs.declared.op.Op.TheVariants as op
+use Rattle.frang_base.specs.declared.op.What.{What}
+use Rattle.frang_base.specs.declared.op.What.TheVariants.{Server, Host}
+use Rattle.frang_base.specs.declared.reply.Reply.{Reply}
+use Rattle.frang_base.specs.declared.reply.Reply.TheVariants as reply
+use Rattle.frang_base.specs.declared.said.Said.{Said}
+use Rattle.frang_base.specs.declared.said.Said.TheVariants as said
+use Rattle.frang_base.specs.declared.script.Line.{Line}
+use Rattle.tree_definitions.specs.declared.cells.Cell.{Cell}
+use Rattle.tree_definitions.specs.declared.cells.Cell.TheVariants.{Byte, Doubtful}
+use Rattle.tree_definitions.specs.declared.history.Entry.{Entry}
+use Rattle.tree_definitions.specs.declared.history.Item.{Item}
+use Rattle.tree_definitions.specs.declared.history.Item.TheVariants.{Did, Recovered}
+use Rattle.tree_definitions.specs.declared.node.Node.{Node}
+use Rattle.tree_definitions.specs.declared.node.Node.TheVariants.{Dir, File, Link}
+use Rattle.tree_definitions.specs.Entries.{Entries}
+use Rattle.tree_definitions.specs.Tree.{FileTree}
+use Rattle.tree_definitions.specs.Apply.{Answer, Plain, Shows, Applied}
+use Rattle.tree_definitions.specs.History.{Settled, Stays, InDoubt}
+use Rattle.script_definitions.specs.SaidReading.{is_target, is_path_text}
+
+-- a cell in doubt, or one with a byte
+abbrev pub IsSayableCell : Cell → Type 0
+IsSayableCell (Byte b) = b < 256
+IsSayableCell Doubtful = Unit {0}
+
+-- each name of a directory is a name
+abbrev pub AreSayableEntries : Entries → Type 0
+AreSayableEntries entries = All (λ name. is_name name ≡ true) (keys_of entries)
+
+-- a directory of names, a file of bytes, a link with a target
+abbrev pub IsSayableNode : Node → Type 0
+IsSayableNode (Dir entries blocks) = AreSayableEntries entries
+IsSayableNode (File cells links) = All IsSayableCell cells
+IsSayableNode (Link target links) = is_target target ≡ true
+
+-- each node of a tree
+abbrev pub IsSayableTree : FileTree → Type 0
+IsSayableTree tree = All IsSayableNode (values_of tree.nodes)
+
+-- a path of names
+abbrev pub IsSayablePath : List (List ℕ) → Type 0
+IsSayablePath path = list_all is_name path ≡ true
+
+-- paths of names, and what it writes
+abbrev pub IsSayableOp : Op → Type 0
+IsSayableOp (op.Create path) = IsSayablePath path
+IsSayableOp (op.Mkdir path) = IsSayablePath path
+IsSayableOp (op.Link path to) = IsSayablePath path × IsSayablePath to
+IsSayableOp (op.Symlink path target) = IsSayablePath path × (is_target target ≡ true)
+IsSayableOp (op.Unlink path) = IsSayablePath path
+IsSayableOp (op.Rmdir path) = IsSayablePath path
+IsSayableOp (op.Rename path to) = IsSayablePath path × IsSayablePath to
+IsSayableOp (op.Write path off bytes) = IsSayablePath path × All (λ b. b < 256) bytes
+IsSayableOp (op.Fill path off len byte) = IsSayablePath path × (byte < 256)
+IsSayableOp (op.Truncate path len) = IsSayablePath path
+IsSayableOp (op.Read path off len) = IsSayablePath path
+IsSayableOp (op.Stat path) = IsSayablePath path
+IsSayableOp (op.List path) = IsSayablePath path
+IsSayableOp (op.Readlink path) = IsSayablePath path
+IsSayableOp (op.Time path) = IsSayablePath path
+IsSayableOp _ = Unit {0}
+
+-- what a server is asked
+abbrev pub IsSayableWhat : What → Type 0
+IsSayableWhat (Server o) = IsSayableOp o
+IsSayableWhat (Host o) = Unit {0}
+
+-- a reply, its numbers aside
+abbrev pub IsSayableReply : Reply → Type 0
+IsSayableReply (reply.Shown bytes) = All (λ b. b < 256) bytes
+IsSayableReply (reply.Names names) = All (λ name. is_name name ≡ true) names
+IsSayableReply (reply.Target target) = is_target target ≡ true
+IsSayableReply _ = Unit {0}
+
+-- the numbers of a reply have 32 bits
+abbrev pub HasCounts : Reply → Type 0
+HasCounts (reply.File size links) = (size < 2 ^ 32) × (links < 2 ^ 32)
+HasCounts (reply.Dir entries) = entries < 2 ^ 32
+HasCounts (reply.Symlink len) = len < 2 ^ 32
+HasCounts (reply.Time run tick) = (run < 2 ^ 32) × (tick < 2 ^ 32)
+HasCounts (reply.NoBlock m) = m < 2 ^ 32
+HasCounts _ = Unit {0}
+
+-- an answer: such a reply, or cells
+abbrev pub IsSayableAnswer : Answer → Type 0
+IsSayableAnswer (Plain r) = IsSayableReply r
+IsSayableAnswer (Shows cells) = All IsSayableCell cells
+
+-- an answer, and the tree after it
+pub record IsSayableApplied (applied : Applied) : Type 0 where
+  pub answer : IsSayableAnswer applied.answer
+  pub tree : IsSayableTree applied.tree
+
+-- an entry of a history
+abbrev pub IsSayableEntry : Entry → Type 0
+IsSayableEntry e = IsSayableOp e.op × IsSayableReply e.reply
+
+-- an item of a history
+abbrev pub IsSayableItem : Item → Type 0
+IsSayableItem (Did e) = IsSayableEntry e
+IsSayableItem (Recovered server kept) = Unit {0}
+
+-- a line of a script
+abbrev pub IsSayableLine : Line → Type 0
+IsSayableLine line = IsSayableWhat line.what
+
+-- a line that was said, where it is an answer
+abbrev pub HasSayableReply : Said → Type 0
+HasSayableReply (said.Answer server line r) = IsSayableReply r
+HasSayableReply _ = Unit {0}
+
+-- a step of a settled history
+abbrev pub IsSayableStep : Settled → Type 0
+IsSayableStep (Stays e) = IsSayableEntry e
+IsSayableStep (InDoubt runs) = Unit {0}
+
+-- a line of a tree, its numbers aside: the text of a path, and links at a file alone
+abbrev pub IsTreeLine : Said → Type 0
+IsTreeLine (said.Node path kind size links) = (is_path_text path ≡ true) × ((kind ≡ 1) ⊎ (((kind ≡ 2) ⊎ (kind ≡ 3)) × (links ≡ 0)))
+IsTreeLine _ = ⊥
