@@ -20,10 +20,10 @@ use Rattle.tree_definitions.specs.TreeLines.{name_below, lines_with, lines_from,
 use Rattle.tree_definitions.specs.TreeLines as lines
 use Rattle.script_definitions.specs.SaidReading.{is_path_text, IsWho, IsProperReply, IsProperSaid}
 use Rattle.script_definitions.specs.ScriptPrinted.{path_text}
-use Rattle.script_definitions.specs.Sayable.{AreSayableEntries, IsSayableTree, IsSayableReply, IsTreeLine, HasCounts}
+use Rattle.script_definitions.specs.Sayable.{IsSayableCell, IsNodeIfOf, AreSayableEntries, IsSayableTree, IsSayableReply, IsTreeLine, HasCounts}
 use Rattle.script_definitions.proofs.Splitting.{is_free, all_weaker, all_append, split_join, joined}
 use Rattle.script_definitions.proofs.AskedLaws.{slash_free}
-use Rattle.script_definitions.proofs.SayableTrees.{IsSayableIf, found_sayable}
+use Rattle.script_definitions.proofs.SayableTrees.{found_sayable}
 
 -- a text of names, each behind a slash
 pub record IsBelow (text : List ℕ) : Type 0 where
@@ -71,7 +71,7 @@ entries_lines f (e ∷ entries) h k =
     All-append IsTreeLine (f e) (flat_map f entries) (k e (All-head (λ n. is_name n ≡ true) e.0 (keys_of entries) h))
     (entries_lines f entries (All-tail (λ n. is_name n ≡ true) e.0 (keys_of entries) h) k)
 
-node_lines : (text : List ℕ) (node : Option Node) (f : List ℕ × ℕ → List Said) → IsBelow text → IsSayableIf node → ((e : List ℕ × ℕ) → is_name e.0 ≡ true → All IsTreeLine (f e)) → All IsTreeLine (lines_with text node f)
+node_lines : (text : List ℕ) (node : Option Node) (f : List ℕ × ℕ → List Said) → IsBelow text → IsNodeIfOf IsSayableCell node → ((e : List ℕ × ℕ) → is_name e.0 ≡ true → All IsTreeLine (f e)) → All IsTreeLine (lines_with text node f)
 node_lines text None f h k more = All-nil IsTreeLine
 node_lines text (Some (File cells links)) f h k more = All-cons IsTreeLine (said.Node (lines.path_text text) 1 (length cells) links) [] (below_path text h, inl refl) (All-nil IsTreeLine)
 node_lines text (Some (Link target links)) f h k more = All-cons IsTreeLine (said.Node (lines.path_text text) 3 (length target) 0) [] (below_path text h, inr (inr refl, refl)) (All-nil IsTreeLine)
@@ -80,7 +80,7 @@ node_lines text (Some (Dir entries blocks)) f h k more = All-cons IsTreeLine (sa
 from_lines : (depth : ℕ) (tree : FileTree) (text : List ℕ) (birth : ℕ) → IsSayableTree tree → IsBelow text → All IsTreeLine (lines_from depth tree text birth)
 from_lines zero tree text birth h k = All-nil IsTreeLine
 from_lines (suc depth) tree text birth h k =
-    node_lines text (node_at tree birth) (λ e. lines_from depth tree (name_below text e.0) e.1) k (found_sayable tree birth h)
+    node_lines text (node_at tree birth) (λ e. lines_from depth tree (name_below text e.0) e.1) k (found_sayable IsSayableCell (λ b l. l) tree birth h)
     (λ e named. from_lines depth tree (name_below text e.0) e.1 h (below_more text e.0 k named))
 
 pub sayable_lines : (tree : FileTree) → IsSayableTree tree → All IsTreeLine (tree_lines tree)

@@ -1,5 +1,5 @@
 -- What a tree, an operation and a reply must be for lines of them to be lines that can be said; numbers are left to their types.
-use Rattle.std.specs.Prelude.{◌≡◌, ◌<◌, ◌^◌, ℕ, true, ◌⊎◌, List}
+use Rattle.std.specs.Prelude.{◌≡◌, ◌<◌, ◌^◌, ℕ, true, ◌⊎◌, Option, Some, None, List}
 use Rattle.std.specs.List.{All, list_all}
 use Rattle.std.specs.Map.{keys_of, values_of}
 use Rattle.frang_base.specs.Name.{is_name}
@@ -34,15 +34,35 @@ IsSayableCell Doubtful = Unit {0}
 abbrev pub AreSayableEntries : Entries → Type 0
 AreSayableEntries entries = All (λ name. is_name name ≡ true) (keys_of entries)
 
--- a directory of names, a file of bytes, a link with a target
-abbrev pub IsSayableNode : Node → Type 0
-IsSayableNode (Dir entries blocks) = AreSayableEntries entries
-IsSayableNode (File cells links) = All IsSayableCell cells
-IsSayableNode (Link target links) = is_target target ≡ true
+-- a directory of names, a file of such cells, a link with a target
+abbrev pub IsNodeOf : (Cell → Type 0) → Node → Type 0
+IsNodeOf C (Dir entries blocks) = AreSayableEntries entries
+IsNodeOf C (File cells links) = All C cells
+IsNodeOf C (Link target links) = is_target target ≡ true
+
+-- a node that is there
+abbrev pub IsNodeIfOf : (Cell → Type 0) → Option Node → Type 0
+IsNodeIfOf C None = Unit {0}
+IsNodeIfOf C (Some node) = IsNodeOf C node
 
 -- each node of a tree
+abbrev pub IsTreeOf : (Cell → Type 0) → FileTree → Type 0
+IsTreeOf C tree = All (IsNodeOf C) (values_of tree.nodes)
+
+abbrev pub IsSayableNode : Node → Type 0
+IsSayableNode = IsNodeOf IsSayableCell
+
 abbrev pub IsSayableTree : FileTree → Type 0
-IsSayableTree tree = All IsSayableNode (values_of tree.nodes)
+IsSayableTree = IsTreeOf IsSayableCell
+
+-- a cell with a byte: none is in doubt
+abbrev pub IsSureCell : Cell → Type 0
+IsSureCell (Byte b) = b < 256
+IsSureCell Doubtful = ⊥
+
+-- a tree no cell of which is in doubt
+abbrev pub IsSureTree : FileTree → Type 0
+IsSureTree = IsTreeOf IsSureCell
 
 -- a path of names
 abbrev pub IsSayablePath : List (List ℕ) → Type 0
@@ -88,15 +108,27 @@ HasCounts (reply.Time run tick) = (run < 2 ^ 32) × (tick < 2 ^ 32)
 HasCounts (reply.NoBlock m) = m < 2 ^ 32
 HasCounts _ = Unit {0}
 
+-- a reply that an operation over a path may have of its own
+abbrev pub IsTreeReply : Reply → Type 0
+IsTreeReply reply.Down = ⊥
+IsTreeReply reply.Expired = ⊥
+IsTreeReply reply.Io = ⊥
+IsTreeReply reply.Already = ⊥
+IsTreeReply reply.Mounted = ⊥
+IsTreeReply r = IsSayableReply r
+
 -- an answer: such a reply, or cells
-abbrev pub IsSayableAnswer : Answer → Type 0
-IsSayableAnswer (Plain r) = IsSayableReply r
-IsSayableAnswer (Shows cells) = All IsSayableCell cells
+abbrev pub IsAnswerOf : (Cell → Type 0) → Answer → Type 0
+IsAnswerOf C (Plain r) = IsTreeReply r
+IsAnswerOf C (Shows cells) = All C cells
 
 -- an answer, and the tree after it
-pub record IsSayableApplied (applied : Applied) : Type 0 where
-  pub answer : IsSayableAnswer applied.answer
-  pub tree : IsSayableTree applied.tree
+pub record IsAppliedOf (C : Cell → Type 0) (applied : Applied) : Type 0 where
+  pub answer : IsAnswerOf C applied.answer
+  pub tree : IsTreeOf C applied.tree
+
+abbrev pub IsSayableApplied : Applied → Type 0
+IsSayableApplied = IsAppliedOf IsSayableCell
 
 -- an entry of a history
 abbrev pub IsSayableEntry : Entry → Type 0
