@@ -45,14 +45,14 @@ file_of_sayable birth None h = tt
 
 file_at_sayable : (tree : FileTree) (p : Place) → IsSayableTree tree → IsSayableFile (file_at tree p)
 file_at_sayable tree Root h = tt
-file_at_sayable tree (Taken dir entries blocks name birth) h = file_of_sayable birth (node_at tree birth) (found_sayable IsSayableCell byte_sayable tree birth h)
+file_at_sayable tree (Taken dir entries blocks name birth) h = file_of_sayable birth (node_at tree birth) (found_sayable IsSayableCell byte_sayable 0 tree birth h)
 file_at_sayable tree (Free dir entries blocks name) h = tt
 file_at_sayable tree (Nowhere r) h = tt
 
 -- an entry
 with_shown_sayable : (tree : FileTree) (file : Option (ℕ × (List Cell × ℕ))) (off : ℕ) (bytes : List ℕ) → IsSayableTree tree → IsSayableFile file → All (λ b. b < 256) bytes → IsSayableTree (with_shown tree file off bytes)
 with_shown_sayable tree None off bytes h k l = h
-with_shown_sayable tree (Some file) off bytes h k l = put_sayable IsSayableCell byte_sayable tree file.0 (File (overwritten file.1.0 off (map Byte bytes)) file.1.1) h (over_sayable IsSayableCell byte_sayable file.1.0 off (map Byte bytes) k (bytes_sayable IsSayableCell byte_sayable bytes l))
+with_shown_sayable tree (Some file) off bytes h k l = put_sayable IsSayableCell byte_sayable 0 tree file.0 (File (overwritten file.1.0 off (map Byte bytes)) file.1.1) h (over_sayable IsSayableCell byte_sayable 0 file.1.0 off (map Byte bytes) k (bytes_sayable IsSayableCell byte_sayable 0 bytes l))
 
 read_sayable : (tree : FileTree) (o : Op) (r : Reply) → IsSayableTree tree → IsSayableReply r → IsSayableTree (after_read tree o r)
 read_sayable tree (op.Read path off len) (reply.Shown bytes) h k = with_shown_sayable tree (file_at tree (place tree path)) off bytes h (file_at_sayable tree (place tree path) h) k
@@ -62,7 +62,7 @@ read_sayable tree _ r h k = h
 pub entry_sayable : (tree : FileTree) (e : Entry) → IsSayableTree tree → IsSayableEntry e → IsSayableTree (tree_after tree e)
 entry_sayable tree e h k =
     either IsSayableTree (leaves_tree e.op e.reply) _ _ h
-    (either IsSayableTree (is_answer tree e) _ _ (read_sayable (applied tree e).tree e.op e.reply (apply_sayable IsSayableCell byte_sayable tree e.op e.number.0 (told_blocks tree e.reply) h k.0).tree k.1) h)
+    (either IsSayableTree (is_answer tree e) _ _ (read_sayable (applied tree e).tree e.op e.reply (apply_sayable IsSayableCell byte_sayable (told_blocks tree e.reply) tree e.op e.number.0 h k.0).tree k.1) h)
 
 -- cells in doubt
 doubt_sayable : (cells : List Cell) (from count : ℕ) → All IsSayableCell cells → All IsSayableCell (doubted_cells cells from count)
@@ -74,13 +74,13 @@ doubt_sayable cells from count h =
 
 doubted_file_sayable : (tree : FileTree) (file : Option (ℕ × (List Cell × ℕ))) (from count : ℕ) → IsSayableTree tree → IsSayableFile file → IsSayableTree (doubted_file tree file from count)
 doubted_file_sayable tree None from count h k = h
-doubted_file_sayable tree (Some file) from count h k = put_sayable IsSayableCell byte_sayable tree file.0 (File (doubted_cells file.1.0 from count) file.1.1) h (doubt_sayable file.1.0 from count k)
+doubted_file_sayable tree (Some file) from count h k = put_sayable IsSayableCell byte_sayable 0 tree file.0 (File (doubted_cells file.1.0 from count) file.1.1) h (doubt_sayable file.1.0 from count k)
 
 doubted_sayable : (tree : FileTree) (runs : List CellRun) → IsSayableTree tree → IsSayableTree (doubted tree runs)
 doubted_sayable tree [] h = h
 doubted_sayable tree (run ∷ runs) h =
     let file = file_of run.birth (node_at tree run.birth) in
-    doubted_sayable (doubted_file tree file run.from run.count) runs (doubted_file_sayable tree file run.from run.count h (file_of_sayable run.birth (node_at tree run.birth) (found_sayable IsSayableCell byte_sayable tree run.birth h)))
+    doubted_sayable (doubted_file tree file run.from run.count) runs (doubted_file_sayable tree file run.from run.count h (file_of_sayable run.birth (node_at tree run.birth) (found_sayable IsSayableCell byte_sayable 0 tree run.birth h)))
 
 -- the steps of a settled history
 pub step_sayable : (tree : FileTree) (s : Settled) → IsSayableTree tree → IsSayableStep s → IsSayableTree (after tree s)

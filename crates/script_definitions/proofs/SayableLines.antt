@@ -80,7 +80,7 @@ node_lines text (Some (Dir entries blocks)) f h k more = All-cons IsTreeLine (sa
 from_lines : (depth : ℕ) (tree : FileTree) (text : List ℕ) (birth : ℕ) → IsSayableTree tree → IsBelow text → All IsTreeLine (lines_from depth tree text birth)
 from_lines zero tree text birth h k = All-nil IsTreeLine
 from_lines (suc depth) tree text birth h k =
-    node_lines text (node_at tree birth) (λ e. lines_from depth tree (name_below text e.0) e.1) k (found_sayable IsSayableCell (λ b l. l) tree birth h)
+    node_lines text (node_at tree birth) (λ e. lines_from depth tree (name_below text e.0) e.1) k (found_sayable IsSayableCell (λ b l. l) 0 tree birth h)
     (λ e named. from_lines depth tree (name_below text e.0) e.1 h (below_more text e.0 k named))
 
 pub sayable_lines : (tree : FileTree) → IsSayableTree tree → All IsTreeLine (tree_lines tree)

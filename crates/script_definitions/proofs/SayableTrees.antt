@@ -1,5 +1,5 @@
 -- What is applied to a tree whose names, targets and bytes can be said leaves it so, and its answer can be said.
-use Rattle.std.proofs.Common.{◌≡◌, ℕ, ◌+◌, ◌-◌, ◌*◌, ◌<◌, Bool, true, false, not, ◌&&◌, cond, eqb, ltb, leb, List, [], ◌∷◌, ◌++◌, length, map, take, drop, replicate, Option, Some, None, max}
+use Rattle.std.proofs.Common.{◌≡◌, refl, ℕ, ◌+◌, ◌-◌, ◌*◌, ◌<◌, Bool, true, false, not, ◌&&◌, cond, eqb, ltb, leb, List, [], ◌∷◌, ◌++◌, length, map, take, drop, replicate, Option, Some, None, max}
 use Rattle.std.specs.Option.{IfSome}
 use Rattle.std.specs.List.{All, list_all}
 use Rattle.std.specs.BTreeMap.{is_at}
@@ -27,7 +27,7 @@ pub either : {A : Type 0} (P : A → Type 0) (b : Bool) (x y : A) → P x → P 
 either P true x y h k = h
 either P false x y h k = k
 
-module _ (C : Cell → Type 0) (byte_is : (b : ℕ) → b < 256 → C (Byte b)) where
+module _ (C : Cell → Type 0) (byte_is : (b : ℕ) → b < 256 → C (Byte b)) (m : ℕ) where
   abbrev NodeOf : Node → Type 0
   NodeOf = IsNodeOf C
 
@@ -38,7 +38,7 @@ module _ (C : Cell → Type 0) (byte_is : (b : ℕ) → b < 256 → C (Byte b)) 
   TreeOf = IsTreeOf C
 
   abbrev AppliedOf : Applied → Type 0
-  AppliedOf = IsAppliedOf C
+  AppliedOf = IsAppliedOf C m
 
 
   -- nodes come, go and are found
@@ -67,7 +67,7 @@ module _ (C : Cell → Type 0) (byte_is : (b : ℕ) → b < 256 → C (Byte b)) 
   IsSayablePlace Root = Unit {0}
   IsSayablePlace (Taken dir entries blocks name birth) = AreSayableEntries entries × (is_name name ≡ true)
   IsSayablePlace (Free dir entries blocks name) = AreSayableEntries entries × (is_name name ≡ true)
-  IsSayablePlace (Nowhere r) = IsTreeReply r
+  IsSayablePlace (Nowhere r) = IsTreeReply m r
 
   by_sayable : (dir : ℕ) (entries : Entries) (blocks : ℕ) (name : List ℕ) (o : Option ℕ) → AreSayableEntries entries → is_name name ≡ true → IsSayablePlace (place_by dir entries blocks name o)
   by_sayable dir entries blocks name (Some birth) h e = (h, e)
@@ -93,7 +93,7 @@ module _ (C : Cell → Type 0) (byte_is : (b : ℕ) → b < 256 → C (Byte b)) 
       below_sayable (place_in (node_at tree birth) birth name) (λ b. place_from tree b (next ∷ names)) (in_sayable (node_at tree birth) birth name (found_sayable tree birth h) p.0) (λ b. place_sayable tree b (next ∷ names) h p.1)
 
   -- answers and trees
-  answers : (tree : FileTree) (r : Reply) → TreeOf tree → IsTreeReply r → AppliedOf (says tree r)
+  answers : (tree : FileTree) (r : Reply) → TreeOf tree → IsTreeReply m r → AppliedOf (says tree r)
   answers tree r h k = record { answer = k; tree = h }
 
   named_sayable : (tree : FileTree) (dir : ℕ) (entries : Entries) (blocks : ℕ) (name : List ℕ) (birth : ℕ) → TreeOf tree → AreSayableEntries entries → is_name name ≡ true → TreeOf (named tree dir entries blocks name birth)
@@ -235,13 +235,13 @@ module _ (C : Cell → Type 0) (byte_is : (b : ℕ) → b < 256 → C (Byte b)) 
   pub bytes_sayable : (bytes : List ℕ) → All (λ b. b < 256) bytes → All C (map Byte bytes)
   bytes_sayable bytes h = All-map C Byte bytes (λ k d l. byte_is _ (h k d l))
 
-  written_sayable : (tree : FileTree) (m birth : ℕ) (cells : List Cell) (links off len : ℕ) (put : List Cell → List Cell) → TreeOf tree → All C (put cells) → AppliedOf (written tree m birth cells links off len put)
-  written_sayable tree m birth cells links off len put h k =
+  written_sayable : (tree : FileTree) (birth : ℕ) (cells : List Cell) (links off len : ℕ) (put : List Cell → List Cell) → TreeOf tree → All C (put cells) → AppliedOf (written tree m birth cells links off len put)
+  written_sayable tree birth cells links off len put h k =
       let size = max (length cells) (off + len) in
       either AppliedOf (ltb (length cells) off) _ _ (answers tree reply.BadOffset h tt)
       (either AppliedOf (ltb 1114112 (off + len)) _ _ (answers tree reply.TooBig h tt)
       (either AppliedOf (ltb (large_blocks_of (length cells)) (large_blocks_of size) && larges_full tree) _ _ (answers tree reply.NoLarge h tt)
-      (either AppliedOf (ltb (1024 * tree.segments - m) (count_of file_blocks tree + (small_blocks_of size - small_blocks_of (length cells)))) _ _ (answers tree (reply.NoBlock m) h tt)
+      (either AppliedOf (ltb (1024 * tree.segments - m) (count_of file_blocks tree + (small_blocks_of size - small_blocks_of (length cells)))) _ _ (answers tree (reply.NoBlock m) h refl)
       (answers (with_node tree birth (File (put cells) links)) reply.Ok (put_sayable tree birth (File (put cells) links) h k) tt))))
 
   truncated_sayable : (tree : FileTree) (birth : ℕ) (cells : List Cell) (links len : ℕ) → TreeOf tree → All C cells → AppliedOf (truncated tree birth cells links len)
@@ -273,20 +273,20 @@ module _ (C : Cell → Type 0) (byte_is : (b : ℕ) → b < 256 → C (Byte b)) 
   target_sayable tree None h k = answers tree reply.NoEnt h tt
 
   -- an operation
-  pub apply_sayable : (tree : FileTree) (o : Op) (birth m : ℕ) → TreeOf tree → IsSayableOp o → AppliedOf (apply tree o birth m)
-  apply_sayable tree (op.Create path) birth m h k = made_sayable tree birth (File [] 1) (place tree path) h (All-nil C) (place_sayable tree 0 path h k)
-  apply_sayable tree (op.Mkdir path) birth m h k = made_sayable tree birth (Dir [] 0) (place tree path) h (All-nil (λ name. is_name name ≡ true)) (place_sayable tree 0 path h k)
-  apply_sayable tree (op.Symlink path target) birth m h k = made_sayable tree birth (Link target 1) (place tree path) h k.1 (place_sayable tree 0 path h k.0)
-  apply_sayable tree (op.Link path to) birth m h k = linked_sayable tree (place tree path) (place tree to) h (place_sayable tree 0 path h k.0) (place_sayable tree 0 to h k.1)
-  apply_sayable tree (op.Unlink path) birth m h k = unlinked_sayable tree (place tree path) h (place_sayable tree 0 path h k)
-  apply_sayable tree (op.Rmdir path) birth m h k = removed_sayable tree (place tree path) h (place_sayable tree 0 path h k)
-  apply_sayable tree (op.Rename path to) birth m h k = renamed_sayable tree path to h k.0 k.1
-  apply_sayable tree (op.Write path off bytes) birth m h k = at_file_sayable tree path (λ b cells links. written tree m b cells links off (length bytes) (λ old. overwritten old off (map Byte bytes))) h k.0 (λ b cells links c. written_sayable tree m b cells links off (length bytes) (λ old. overwritten old off (map Byte bytes)) h (over_sayable cells off (map Byte bytes) c (bytes_sayable bytes k.1)))
-  apply_sayable tree (op.Fill path off len byte) birth m h k = at_file_sayable tree path (λ b cells links. written tree m b cells links off len (λ old. overwritten old off (replicate len (Byte byte)))) h k.0 (λ b cells links c. written_sayable tree m b cells links off len (λ old. overwritten old off (replicate len (Byte byte))) h (over_sayable cells off (replicate len (Byte byte)) c (All-replicate C len (Byte byte) (byte_is byte k.1))))
-  apply_sayable tree (op.Truncate path len) birth m h k = at_file_sayable tree path (λ b cells links. truncated tree b cells links len) h k (λ b cells links c. truncated_sayable tree b cells links len h c)
-  apply_sayable tree (op.Read path off len) birth m h k = at_file_sayable tree path (λ b cells links. shown tree cells off len) h k (λ b cells links c. shown_sayable tree cells off len h c)
-  apply_sayable tree (op.Stat path) birth m h k = at_sayable tree (place tree path) (λ b node. described tree node) h (place_sayable tree 0 path h k) (λ b node n. described_sayable tree node h)
-  apply_sayable tree (op.List path) birth m h k = at_sayable tree (place tree path) (λ b node. listed tree node) h (place_sayable tree 0 path h k) (λ b node n. listed_sayable tree node h n)
-  apply_sayable tree (op.Readlink path) birth m h k = at_sayable tree (place tree path) (λ b node. target_of tree node) h (place_sayable tree 0 path h k) (λ b node n. target_sayable tree node h n)
-  apply_sayable tree (op.Time path) birth m h k = at_file_sayable tree path (λ b cells links. says tree (reply.Time 0 0)) h k (λ b cells links c. answers tree (reply.Time 0 0) h tt)
-  apply_sayable tree _ birth m h k = answers tree reply.Ok h tt
+  pub apply_sayable : (tree : FileTree) (o : Op) (birth : ℕ) → TreeOf tree → IsSayableOp o → AppliedOf (apply tree o birth m)
+  apply_sayable tree (op.Create path) birth h k = made_sayable tree birth (File [] 1) (place tree path) h (All-nil C) (place_sayable tree 0 path h k)
+  apply_sayable tree (op.Mkdir path) birth h k = made_sayable tree birth (Dir [] 0) (place tree path) h (All-nil (λ name. is_name name ≡ true)) (place_sayable tree 0 path h k)
+  apply_sayable tree (op.Symlink path target) birth h k = made_sayable tree birth (Link target 1) (place tree path) h k.1 (place_sayable tree 0 path h k.0)
+  apply_sayable tree (op.Link path to) birth h k = linked_sayable tree (place tree path) (place tree to) h (place_sayable tree 0 path h k.0) (place_sayable tree 0 to h k.1)
+  apply_sayable tree (op.Unlink path) birth h k = unlinked_sayable tree (place tree path) h (place_sayable tree 0 path h k)
+  apply_sayable tree (op.Rmdir path) birth h k = removed_sayable tree (place tree path) h (place_sayable tree 0 path h k)
+  apply_sayable tree (op.Rename path to) birth h k = renamed_sayable tree path to h k.0 k.1
+  apply_sayable tree (op.Write path off bytes) birth h k = at_file_sayable tree path (λ b cells links. written tree m b cells links off (length bytes) (λ old. overwritten old off (map Byte bytes))) h k.0 (λ b cells links c. written_sayable tree b cells links off (length bytes) (λ old. overwritten old off (map Byte bytes)) h (over_sayable cells off (map Byte bytes) c (bytes_sayable bytes k.1)))
+  apply_sayable tree (op.Fill path off len byte) birth h k = at_file_sayable tree path (λ b cells links. written tree m b cells links off len (λ old. overwritten old off (replicate len (Byte byte)))) h k.0 (λ b cells links c. written_sayable tree b cells links off len (λ old. overwritten old off (replicate len (Byte byte))) h (over_sayable cells off (replicate len (Byte byte)) c (All-replicate C len (Byte byte) (byte_is byte k.1))))
+  apply_sayable tree (op.Truncate path len) birth h k = at_file_sayable tree path (λ b cells links. truncated tree b cells links len) h k (λ b cells links c. truncated_sayable tree b cells links len h c)
+  apply_sayable tree (op.Read path off len) birth h k = at_file_sayable tree path (λ b cells links. shown tree cells off len) h k (λ b cells links c. shown_sayable tree cells off len h c)
+  apply_sayable tree (op.Stat path) birth h k = at_sayable tree (place tree path) (λ b node. described tree node) h (place_sayable tree 0 path h k) (λ b node n. described_sayable tree node h)
+  apply_sayable tree (op.List path) birth h k = at_sayable tree (place tree path) (λ b node. listed tree node) h (place_sayable tree 0 path h k) (λ b node n. listed_sayable tree node h n)
+  apply_sayable tree (op.Readlink path) birth h k = at_sayable tree (place tree path) (λ b node. target_of tree node) h (place_sayable tree 0 path h k) (λ b node n. target_sayable tree node h n)
+  apply_sayable tree (op.Time path) birth h k = at_file_sayable tree path (λ b cells links. says tree (reply.Time 0 0)) h k (λ b cells links c. answers tree (reply.Time 0 0) h tt)
+  apply_sayable tree _ birth h k = answers tree reply.Ok h tt

@@ -108,26 +108,27 @@ HasCounts (reply.Time run tick) = (run < 2 ^ 32) × (tick < 2 ^ 32)
 HasCounts (reply.NoBlock m) = m < 2 ^ 32
 HasCounts _ = Unit {0}
 
--- a reply that an operation over a path may have of its own
-abbrev pub IsTreeReply : Reply → Type 0
-IsTreeReply reply.Down = ⊥
-IsTreeReply reply.Expired = ⊥
-IsTreeReply reply.Io = ⊥
-IsTreeReply reply.Already = ⊥
-IsTreeReply reply.Mounted = ⊥
-IsTreeReply r = IsSayableReply r
+-- a reply that an operation over a path may have of its own, where m is the number of blocks that were ever a directory's
+abbrev pub IsTreeReply : ℕ → Reply → Type 0
+IsTreeReply m reply.Down = ⊥
+IsTreeReply m reply.Expired = ⊥
+IsTreeReply m reply.Io = ⊥
+IsTreeReply m reply.Already = ⊥
+IsTreeReply m reply.Mounted = ⊥
+IsTreeReply m (reply.NoBlock n) = n ≡ m
+IsTreeReply m r = IsSayableReply r
 
 -- an answer: such a reply, or cells
-abbrev pub IsAnswerOf : (Cell → Type 0) → Answer → Type 0
-IsAnswerOf C (Plain r) = IsTreeReply r
-IsAnswerOf C (Shows cells) = All C cells
+abbrev pub IsAnswerOf : (Cell → Type 0) → ℕ → Answer → Type 0
+IsAnswerOf C m (Plain r) = IsTreeReply m r
+IsAnswerOf C m (Shows cells) = All C cells
 
 -- an answer, and the tree after it
-pub record IsAppliedOf (C : Cell → Type 0) (applied : Applied) : Type 0 where
-  pub answer : IsAnswerOf C applied.answer
+pub record IsAppliedOf (C : Cell → Type 0) (m : ℕ) (applied : Applied) : Type 0 where
+  pub answer : IsAnswerOf C m applied.answer
   pub tree : IsTreeOf C applied.tree
 
-abbrev pub IsSayableApplied : Applied → Type 0
+abbrev pub IsSayableApplied : ℕ → Applied → Type 0
 IsSayableApplied = IsAppliedOf IsSayableCell
 
 -- an entry of a history

@@ -25,7 +25,7 @@ pub fn scripts_ask_what_can_be_said()
 
 /// Such an operation, applied to a tree that can be said, leaves one, and its answer can be said.
 pub fn what_is_applied_can_be_said()
-    ensures { (tree : FileTree) (op : Op) (birth m : ℕ) → IsSayableTree tree → IsSayableOp op → IsSayableApplied (apply tree op birth m) }
+    ensures { (tree : FileTree) (op : Op) (birth m : ℕ) → IsSayableTree tree → IsSayableOp op → IsSayableApplied m (apply tree op birth m) }
 {}
 
 /// The fresh tree can be said, and so can what a history of such operations and replies leaves of one that can; the live history is
