@@ -30,7 +30,9 @@ follows-push (l ∷ ls) (_ ∷ saids) line r was = absurd was
 pub take-next : (script : List Line) (i : ℕ) (line : Line) → slice_get script i ≡ Some line → take (i + 1) script ≡ take i script ++ line ∷ []
 take-next [] i line at = cc
 take-next (l ∷ ls) zero line at = let same : l ≡ line = cc in ap (λ x. x ∷ []) same
-take-next (l ∷ ls) (suc i) line at = ap (λ xs. l ∷ xs) (take-next ls i line at)
+take-next (l ∷ ls) (suc i) line at =
+    let further : suc i + 1 ≡ suc (i + 1) = omega arith in
+    ap (λ n. take n (l ∷ ls)) further ∙ ap (λ xs. l ∷ xs) (take-next ls i line at)
 
 pub follows_count : (lines : List Line) (saids : List Said) → Follows lines saids → length saids ≡ length lines
 follows_count [] [] is = refl
@@ -44,11 +46,12 @@ pub follows_own : (who : ℕ) (lines : List Line) (saids : List Said) → Follow
 follows_own who [] [] is = refl
 follows_own who (l ∷ ls) (said.Answer s n r ∷ saids) is =
     ap (λ x. length (cond (nat_eq x.0 who) (said.Answer s n r ∷ filter (is_answer_of who) saids) (filter (is_answer_of who) saids))) is.0
-    ∙ go (nat_eq l.who.0 who)
+    ∙ go (nat_eq l.who.0 who) (follows_own who ls saids is.2)
   where
-    go : (b : Bool) → length (cond b (said.Answer s n r ∷ filter (is_answer_of who) saids) (filter (is_answer_of who) saids)) ≡ length (cond b (l ∷ lines_for who ls) (lines_for who ls))
-    go true = ap suc (follows_own who ls saids is.2)
-    go false = follows_own who ls saids is.2
+    go : (b : Bool) → length (filter (is_answer_of who) saids) ≡ length (lines_for who ls)
+        → length (cond b (said.Answer s n r ∷ filter (is_answer_of who) saids) (filter (is_answer_of who) saids)) ≡ length (cond b (l ∷ lines_for who ls) (lines_for who ls))
+    go true rest = ap suc rest
+    go false rest = rest
 follows_own who [] (x ∷ saids) is = absurd is
 follows_own who (l ∷ ls) [] is = absurd is
 follows_own who (l ∷ ls) (_ ∷ saids) is = absurd is

@@ -1,8 +1,9 @@
 -- The first lines said, and the record of the lines said.
 use Rattle.std.proofs.Common.{◌≡◌, ◌⊎◌, inl, inr, ℕ, zero, suc, ◌+◌, ◌-◌, ◌^◌, min, ◌<◌, ◌≤◌, true, false, Option, Some, None, List, [], ◌∷◌, ◌++◌, length, map, take, refl, sym, ◌∙◌, ap, subst, arith, length-append, append_assoc, append-nil, get_or}
 use Rattle.std.specs.Prelude.{Result, Ok, Err}
-use Rattle.std.specs.List.{slice_get}
+use Rattle.std.specs.List.{All, slice_get, cons_option}
 use Rattle.std.proofs.lemmas.List.{take_all, take-append-le, take-map, map-append, length-map}
+use Rattle.std.proofs.lemmas.List.Elements.{All-head, All-tail, All-take, All-append, All-cons, All-nil}
 use Rattle.frang_base.specs.declared.said.Said.{Said}
 use Rattle.frang_base.specs.declared.script.Line.{Line}
 use Rattle.frang_outside.specs.declared.act.Act.{Act}
@@ -10,9 +11,11 @@ use Rattle.frang_outside.specs.Outside.{State, Rose, NoneFell, told_more}
 use Rattle.tree_definitions.specs.History.{Opening}
 use Rattle.tree_definitions.specs.Transcript.{Faults, MaySay, MaySayAll}
 use Rattle.tree_laws.proofs.TranscriptLaws.{may_all-append}
+use Rattle.script_definitions.specs.SaidReading.{IsProperSaid}
+use Rattle.script_definitions.proofs.SaidWritten.{said_of_line}
 use Rattle.frang_top.specs.declared.run.RunFault.{RunFault}
 use Rattle.frang_top.specs.declared.run.RunFault.TheVariants.{NoMemory, Mute}
-use Rattle.frang_top.specs.Run.{IsRun, SaysRun, AlwaysSaysRun, AreSays, said_act}
+use Rattle.frang_top.specs.Run.{IsRun, SaysRun, AlwaysSaysRun, saids_of, said_act}
 use Rattle.frang_top.specs.RunFaults.{SaysOne, StopsBy, IsMute}
 use Rattle.frang_top.specs.Running.{Always, Told}
 
@@ -34,20 +37,33 @@ either (suc k) (suc n) = go (either k n)
     go (inl low) = inl (omega arith)
     go (inr high) = inr (omega arith)
 
-pub always-push : (script : List Line) (saids : List Said) (x : Said) → Always script saids → IsRun script (saids ++ x ∷ []) → Always script (saids ++ x ∷ [])
-always-push script saids x always run k = go (either k (length saids))
+pub always-push : (o : Opening) (script : List Line) (saids : List Said) (x : Said) → Always o script saids → IsRun o script (saids ++ x ∷ []) → Always o script (saids ++ x ∷ [])
+always-push o script saids x always run k = go (either k (length saids))
   where
-    go : (k ≤ length saids) ⊎ (length saids < k) → IsRun script (take k (saids ++ x ∷ []))
-    go (inl low) = subst (IsRun script) (sym (take-append-le k saids (x ∷ []) low)) (always k)
-    go (inr high) = subst (IsRun script) (sym (take_all k (saids ++ x ∷ []) (let e : length (saids ++ x ∷ []) ≤ k = omega (arith, length-append saids (x ∷ [])) in e))) run
+    go : (k ≤ length saids) ⊎ (length saids < k) → IsRun o script (take k (saids ++ x ∷ []))
+    go (inl low) = subst (IsRun o script) (sym (take-append-le k saids (x ∷ []) low)) (always k)
+    go (inr high) = subst (IsRun o script) (sym (take_all k (saids ++ x ∷ []) (let e : length (saids ++ x ∷ []) ≤ k = omega (arith, length-append saids (x ∷ [])) in e))) run
+
+-- lines that can be said are read back
+pub read_back : (saids : List Said) → All IsProperSaid saids → saids_of (map said_act saids) ≡ saids
+read_back [] proper = refl
+read_back (x ∷ saids) proper =
+    ap (λ o. cons_option o (saids_of (map said_act saids))) (said_of_line x (All-head IsProperSaid x saids proper))
+    ∙ ap (λ xs. x ∷ xs) (read_back saids (All-tail IsProperSaid x saids proper))
+
+pub proper-push : (saids : List Said) (x : Said) → All IsProperSaid saids → IsProperSaid x → All IsProperSaid (saids ++ x ∷ [])
+proper-push saids x proper is = All-append IsProperSaid saids (x ∷ []) proper (All-cons IsProperSaid x [] is (All-nil IsProperSaid))
+
+-- the acts that say these lines say a run where the lines are one
+pub says_run : (o : Opening) (script : List Line) (acts : List Act) (saids : List Said) → acts ≡ map said_act saids → All IsProperSaid saids → IsRun o script saids → SaysRun o script acts
+says_run o script acts saids is proper run =
+    let back : saids_of acts ≡ saids = ap saids_of is ∙ read_back saids proper in
+    record { says = is ∙ ap (map said_act) (sym back); run = subst (IsRun o script) (sym back) run }
 
 -- what is told says a run at each moment
-pub always_says : (script : List Line) (told : Option (List Act)) (saids : List Said) → Told told saids → Always script saids → AlwaysSaysRun script told
-always_says script told saids acts_are always acts is k = record {
-  saids = take k saids;
-  says = ap (take k) (acts_are acts is) ∙ take-map said_act k saids;
-  run = always k;
-}
+pub always_says : (o : Opening) (script : List Line) (told : Option (List Act)) (saids : List Said) → Told told saids → All IsProperSaid saids → Always o script saids → AlwaysSaysRun o script told
+always_says o script told saids acts_are proper always acts is k =
+    says_run o script (take k acts) (take k saids) (ap (take k) (acts_are acts is) ∙ take-map said_act k saids) (All-take IsProperSaid k saids proper) (always k)
 
 pub acts_count : (told : Option (List Act)) (saids : List Said) → Told told saids → (acts : List Act) → told ≡ Some acts → length acts ≡ length saids
 acts_count told saids acts_are acts is = ap length (acts_are acts is) ∙ mapped saids

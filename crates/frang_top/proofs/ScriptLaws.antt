@@ -37,7 +37,7 @@ lines_built n halted (text ∷ lines) script (small, inl skipped) none = built_l
 lines_built n halted (text ∷ lines) script (small, inr (asked, rest, is, on, asks, more)) none =
     let line : Line = record { number = n; who = asked.who; what = asked.what } in
     let parts = none_unbuilt line rest (ap first_unbuilt (sym is) ∙ none) in
-    let first : IsBuiltLine n line = record { number = omega arith; small = small; proper = asks.2.2.0; built = parts.0 } in
+    let first : IsBuiltLine n line = record { number = omega arith; small = small; proper = asks.2.0; built = parts.0 } in
     subst (AreBuilt n) (sym is) (first, lines_built (n + 1) (is_halt asked.what) lines rest more parts.1)
 
 -- what was read can be answered
@@ -71,11 +71,11 @@ next_found p [] i line at own = cc
 next_found p (l ∷ ls) zero line at own =
     let same : l ≡ line = cc in
     ap (λ b. slice_get (cond b (l ∷ filter p ls) (filter p ls)) 0) (ap p same ∙ own) ∙ at
-next_found p (l ∷ ls) (suc i) line at own = go (p l)
+next_found p (l ∷ ls) (suc i) line at own = go (p l) (next_found p ls i line at own)
   where
-    go : (b : Bool) → slice_get (cond b (l ∷ filter p ls) (filter p ls)) (length (cond b (l ∷ filter p (take i ls)) (filter p (take i ls)))) ≡ Some line
-    go true = next_found p ls i line at own
-    go false = next_found p ls i line at own
+    go : (b : Bool) → slice_get (filter p ls) (length (filter p (take i ls))) ≡ Some line → slice_get (cond b (l ∷ filter p ls) (filter p ls)) (length (cond b (l ∷ filter p (take i ls)) (filter p (take i ls)))) ≡ Some line
+    go true rest = rest
+    go false rest = rest
 
 not_before : (k m : ℕ) → m ≤ k → nat_lt k m ≡ false
 not_before k m h = grind (arith, nat_tests, h)
@@ -83,14 +83,12 @@ not_before k m h = grind (arith, nat_tests, h)
 -- no line stands before the first number
 none_before : (p : Line → Bool) (n m : ℕ) (script : List Line) → AreBuilt n script → m ≤ n → lines_before m (filter p script) ≡ []
 none_before p n m [] all low = refl
-none_before p n m (l ∷ ls) all low = go (p l)
+none_before p n m (l ∷ ls) all low =
+    go (p l) (none_before p (l.number + 1) m ls all.1 (let e : n ≤ l.number = all.0.number in omega arith)) (not_before l.number m (let e : n ≤ l.number = all.0.number in omega arith))
   where
-    rest : lines_before m (filter p ls) ≡ []
-    rest = none_before p (l.number + 1) m ls all.1 (let e : n ≤ l.number = all.0.number in omega arith)
-
-    go : (b : Bool) → lines_before m (cond b (l ∷ filter p ls) (filter p ls)) ≡ []
-    go true = ap (λ b. cond b (l ∷ lines_before m (filter p ls)) (lines_before m (filter p ls))) (not_before l.number m (let e : n ≤ l.number = all.0.number in omega arith)) ∙ rest
-    go false = rest
+    go : (b : Bool) → lines_before m (filter p ls) ≡ [] → nat_lt l.number m ≡ false → lines_before m (cond b (l ∷ filter p ls) (filter p ls)) ≡ []
+    go true rest late = ap (λ b. cond b (l ∷ lines_before m (filter p ls)) (lines_before m (filter p ls))) late ∙ rest
+    go false rest late = rest
 
 -- the lines before one that are chosen are answered, where all that stand before it are
 pub before_answered : (p : Line → Bool) (n : ℕ) (script : List Line) (i : ℕ) (line : Line) (saids : List Said) → AreBuilt n script → slice_get script i ≡ Some line → are_answered (take i script) saids ≡ true → are_answered (lines_before line.number (filter p script)) saids ≡ true
@@ -99,18 +97,18 @@ before_answered p n (l ∷ ls) zero line saids all at was =
     let same : l ≡ line = cc in
     let low : line.number ≤ l.number = omega (arith, ap (λ x. x.number) same) in
     ap (λ xs. are_answered xs saids) (none_before p l.number line.number (l ∷ ls) (record { number = omega arith; small = all.0.small; proper = all.0.proper; built = all.0.built }, all.1) low)
-before_answered p n (l ∷ ls) (suc i) line saids all at was = go (p l) (nat_lt l.number line.number)
+before_answered p n (l ∷ ls) (suc i) line saids all at was = go (p l) (nat_lt l.number line.number) (before_answered p (l.number + 1) ls i line saids all.1 at (right _ _ was))
   where
-    rest : are_answered (lines_before line.number (filter p ls)) saids ≡ true
-    rest = before_answered p (l.number + 1) ls i line saids all.1 at (right _ _ was)
+    before : List Line
+    before = lines_before line.number (filter p ls)
 
-    after : (c : Bool) → are_answered (cond c (l ∷ lines_before line.number (filter p ls)) (lines_before line.number (filter p ls))) saids ≡ true
-    after true = both _ _ (left _ _ was) rest
-    after false = rest
+    after : (c : Bool) → are_answered before saids ≡ true → are_answered (cond c (l ∷ before) before) saids ≡ true
+    after true rest = both _ _ (left _ _ was) rest
+    after false rest = rest
 
-    go : (b c : Bool) → are_answered (lines_before line.number (cond b (l ∷ filter p ls) (filter p ls))) saids ≡ true
-    go true c = after (nat_lt l.number line.number)
-    go false c = rest
+    go : (b c : Bool) → are_answered before saids ≡ true → are_answered (lines_before line.number (cond b (l ∷ filter p ls) (filter p ls))) saids ≡ true
+    go true c rest = after (nat_lt l.number line.number) rest
+    go false c rest = rest
 
 pub filter_all : (xs : List Line) → filter (λ l. true) xs ≡ xs
 filter_all [] = refl

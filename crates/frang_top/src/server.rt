@@ -1,5 +1,7 @@
 // The one server of the scripts that are answered so far, over a tree in memory.
-ghost use Rattle.std.specs.Prelude.{◌≡◌, ◌≤◌, IfOk, true};
+ghost use Rattle.std.specs.Prelude.{◌≡◌, ◌≤◌, ℕ, IfOk, true};
+ghost use Rattle.tree_definitions.specs.Apply.{is_path_op};
+ghost use Rattle.frang_base.specs.declared.op.Op.TheVariants as op;
 ghost use Rattle.script_definitions.specs.ScriptGrammar.{IsProperOp};
 ghost use Rattle.frang_top.specs.Built.{is_built_op, IsBuiltLine};
 ghost use Rattle.frang_top.specs.Answering.{Answers, IsFirst, IsReady, Replies};

@@ -1,0 +1,166 @@
+-- What an operation over a path is answered: a reply of its own, which agrees with itself and tells the number of blocks that was given.
+use Rattle.std.proofs.Common.{◌≡◌, ℕ, ◌+◌, ◌-◌, ◌*◌, ◌<◌, ◌≤◌, Bool, true, false, not, ◌&&◌, ◌||◌, cond, Option, Some, None, List, [], ◌∷◌, ◌++◌, length, map, take, drop, replicate, refl, sym, ◌∙◌, ap, subst, nat_eq, eq-eqb, nat_le, nat_lt, arith, max}
+use Rattle.std.specs.Cmp.Lexicographic.{pointwise}
+use Rattle.std.proofs.lemmas.Bool.Decides.{nat_tests}
+use Rattle.frang_base.specs.declared.op.Op.{Op}
+use Rattle.frang_base.specs.declared.op.Op.TheVariants as op
+use Rattle.frang_base.specs.declared.reply.Reply.{Reply}
+use Rattle.frang_base.specs.declared.reply.Reply.TheVariants as reply
+use Rattle.tree_definitions.specs.declared.cells.Cell.{Cell}
+use Rattle.tree_definitions.specs.declared.cells.Cell.TheVariants.{Byte}
+use Rattle.tree_definitions.specs.declared.node.Node.{Node}
+use Rattle.tree_definitions.specs.declared.node.Node.TheVariants.{Dir, File, Link}
+use Rattle.tree_definitions.specs.Tree.{FileTree, node_at, with_node, count_of, dir_blocks, file_blocks, small_blocks_of, large_blocks_of, larges_full}
+use Rattle.tree_definitions.specs.Place.{Place, Root, Taken, Free, Nowhere, place}
+use Rattle.tree_definitions.specs.Apply.{Answer, Plain, Shows, Applied, says, is_path_op, if_file, at_file, written, overwritten, apply}
+use Rattle.tree_definitions.specs.SaidLines.{reply_word}
+use Rattle.tree_definitions.specs.Touched.{is_ok}
+use Rattle.tree_definitions.specs.History.{may_be_ok, same_reply, contents_are, agrees, cells_show, may_tell, told_blocks, leaves_tree}
+use Rattle.tree_definitions.specs.Transcript.{is_own, after_answer}
+use Rattle.tree_laws.proofs.Sameness.{text_same, pointwise_same}
+use Rattle.script_definitions.specs.Sayable.{IsTreeReply, IsSayableReply}
+use Rattle.tree_model.specs.Replies.{answer_of, gives}
+use Rattle.frang_top.specs.Answering.{state_with}
+use Rattle.frang_top.proofs.HistoryLaws.{both}
+
+-- each reply has its own contents
+same_contents : (r : Reply) → contents_are r r ≡ true
+same_contents (reply.Shown bytes) = text_same bytes
+same_contents (reply.File size links) = both _ _ (eq-eqb size size refl) (eq-eqb links links refl)
+same_contents (reply.Dir entries) = eq-eqb entries entries refl
+same_contents (reply.Symlink len) = eq-eqb len len refl
+same_contents (reply.Names names) = pointwise_same (pointwise nat_eq) text_same names
+same_contents (reply.Target target) = text_same target
+same_contents (reply.Time run tick) = both _ _ (eq-eqb run run refl) (eq-eqb tick tick refl)
+same_contents (reply.NoBlock m) = eq-eqb m m refl
+same_contents _ = refl
+
+own_cells : (bytes : List ℕ) → cells_show (map Byte bytes) bytes ≡ true
+own_cells [] = refl
+own_cells (b ∷ bytes) = both _ _ (eq-eqb b b refl) (own_cells bytes)
+
+same_self : (r : Reply) → same_reply r r ≡ true
+same_self r = both (pointwise nat_eq (reply_word r) (reply_word r)) (contents_are r r) (text_same (reply_word r)) (same_contents r)
+
+-- the answer that a reply gives agrees with it
+pub agrees_self : (r : Reply) → agrees (answer_of r) r ≡ true
+agrees_self (reply.Shown bytes) = own_cells bytes
+agrees_self (reply.Ok) = refl
+agrees_self r = same_self r
+
+-- a reply of a tree's own is the operation's own
+pub tree_own : (o : Op) (m : ℕ) (r : Reply) → is_path_op o ≡ true → IsTreeReply m r → is_own o r ≡ true
+tree_own o m reply.Down path h = absurd h
+tree_own o m reply.Expired path h = absurd h
+tree_own o m reply.Io path h = absurd h
+tree_own o m reply.Already path h = absurd h
+tree_own o m reply.Mounted path h = absurd h
+tree_own op.Crash m r path h = cc
+tree_own o m r path h = ap (λ b. b || (may_be_ok o && is_ok r)) path
+
+-- it leaves a server up
+pub tree_state : (o : Op) (m : ℕ) (r : Reply) → is_path_op o ≡ true → IsTreeReply m r → after_answer (state_with true) o r ≡ state_with true
+tree_state o m r path h = go o r path h
+  where
+    go : (o : Op) (r : Reply) → is_path_op o ≡ true → IsTreeReply m r → after_answer (state_with true) o r ≡ state_with true
+    go o reply.Mounted path h = absurd h
+    go op.Unmount reply.Ok path h = cc
+    go op.Crash reply.Ok path h = cc
+    go (op.CrashAt k) reply.Ok path h = cc
+    go (op.CutAt k) reply.Ok path h = cc
+    go op.Stall reply.Ok path h = cc
+    go o r path h = refl
+
+-- and it changes the tree as the operation does
+pub tree_applies : (o : Op) (m : ℕ) (r : Reply) → is_path_op o ≡ true → IsTreeReply m r → leaves_tree o r ≡ false
+tree_applies o m reply.Down path h = absurd h
+tree_applies o m reply.Expired path h = absurd h
+tree_applies o m reply.Io path h = absurd h
+tree_applies o m reply.Already path h = absurd h
+tree_applies o m reply.Mounted path h = absurd h
+tree_applies op.Sync m reply.Ok path h = cc
+tree_applies op.Unmount m reply.Ok path h = cc
+tree_applies op.Crash m reply.Ok path h = cc
+tree_applies (op.CrashAt k) m reply.Ok path h = cc
+tree_applies (op.CutAt k) m reply.Ok path h = cc
+tree_applies op.Stall m reply.Ok path h = cc
+tree_applies o m r path h = refl
+
+-- an answer that isn't of cells is its reply
+plain_is : (r q : Reply) → answer_of r ≡ Plain q → r ≡ q
+plain_is (reply.Shown bytes) q is = cc
+plain_is reply.Ok q is = cc
+plain_is r q is = cc
+
+no_more : (s m k x : ℕ) → k ≤ m → nat_lt (1024 * s - m) x ≡ false → nat_lt (1024 * s - k) x ≡ false
+no_more s m k x low h = grind (arith, nat_tests, low, h)
+
+-- the number that a refusal tells is the one that was given; else fewer blocks change nothing
+written_told : (tree after : FileTree) (m birth : ℕ) (cells : List Cell) (links off len : ℕ) (put : List Cell → List Cell) (r : Reply) → count_of dir_blocks tree ≤ m
+    → written tree m birth cells links off len put ≡ gives after r → written tree (told_blocks tree r) birth cells links off len put ≡ gives after r
+written_told tree after m birth cells links off len put r low is =
+    go (nat_lt (length cells) off) (nat_lt 1114112 (off + len)) (nat_lt (large_blocks_of (length cells)) (large_blocks_of size) && larges_full tree) (nat_lt (1024 * tree.segments - m) need) refl is
+  where
+    size : ℕ
+    size = max (length cells) (off + len)
+
+    need : ℕ
+    need = count_of file_blocks tree + (small_blocks_of size - small_blocks_of (length cells))
+
+    done : Applied
+    done = says (with_node tree birth (File (put cells) links)) reply.Ok
+
+    room : ℕ → Applied
+    room k = cond {A = Applied} (nat_lt (1024 * tree.segments - k) need) (says tree (reply.NoBlock k)) done
+
+    last : (d : Bool) → nat_lt (1024 * tree.segments - m) need ≡ d → cond {A = Applied} d (says tree (reply.NoBlock m)) done ≡ gives after r → room (told_blocks tree r) ≡ gives after r
+    last true full h =
+        let told : r ≡ reply.NoBlock m = plain_is r (reply.NoBlock m) (sym (ap (λ a. a.answer) h)) in
+        ap room (ap (told_blocks tree) told) ∙ ap (λ b. cond {A = Applied} b (says tree (reply.NoBlock m)) done) full ∙ h
+    last false free h =
+        let told : r ≡ reply.Ok = plain_is r reply.Ok (sym (ap (λ a. a.answer) h)) in
+        ap room (ap (told_blocks tree) told)
+        ∙ ap (λ b. cond {A = Applied} b (says tree (reply.NoBlock (count_of dir_blocks tree))) done) (no_more tree.segments m (count_of dir_blocks tree) need low free) ∙ h
+
+    go : (a b c d : Bool) → nat_lt (1024 * tree.segments - m) need ≡ d
+        → cond {A = Applied} a (says tree reply.BadOffset) (cond b (says tree reply.TooBig) (cond c (says tree reply.NoLarge) (cond d (says tree (reply.NoBlock m)) done))) ≡ gives after r
+        → cond {A = Applied} a (says tree reply.BadOffset) (cond b (says tree reply.TooBig) (cond c (says tree reply.NoLarge) (room (told_blocks tree r)))) ≡ gives after r
+    go true b c d e h = h
+    go false true c d e h = h
+    go false false true d e h = h
+    go false false false d e h = last d e h
+
+file_told : (tree after : FileTree) (next other : ℕ → List Cell → ℕ → Applied) (r : Reply) (p : Place)
+    → ((b : ℕ) (cells : List Cell) (links : ℕ) → next b cells links ≡ gives after r → other b cells links ≡ gives after r) → at_file tree p next ≡ gives after r → at_file tree p other ≡ gives after r
+file_told tree after next other r p each is = go p is
+  where
+    node : (b : ℕ) (o : Option Node) → if_file tree next b o ≡ gives after r → if_file tree other b o ≡ gives after r
+    node b (Some (File cells links)) h = each b cells links h
+    node b (Some (Dir entries blocks)) h = h
+    node b (Some (Link target links)) h = h
+    node b None h = h
+
+    go : (p : Place) → at_file tree p next ≡ gives after r → at_file tree p other ≡ gives after r
+    go Root h = node 0 (node_at tree 0) h
+    go (Taken dir entries blocks name b) h = node b (node_at tree b) h
+    go (Free dir entries blocks name) h = h
+    go (Nowhere q) h = h
+
+-- the operation, applied with the number that its reply tells, is answered so
+pub told_same : (tree after : FileTree) (o : Op) (birth m : ℕ) (r : Reply) → count_of dir_blocks tree ≤ m → apply tree o birth m ≡ gives after r → apply tree o birth (told_blocks tree r) ≡ gives after r
+told_same tree after (op.Write path off bytes) birth m r low is =
+    file_told tree after _ (λ b cells links. written tree (told_blocks tree r) b cells links off (length bytes) (λ old. overwritten old off (map Byte bytes))) r (place tree path)
+    (λ b cells links h. written_told tree after m b cells links off (length bytes) (λ old. overwritten old off (map Byte bytes)) r low h) is
+told_same tree after (op.Fill path off len byte) birth m r low is =
+    file_told tree after _ (λ b cells links. written tree (told_blocks tree r) b cells links off len (λ old. overwritten old off (replicate len (Byte byte)))) r (place tree path)
+    (λ b cells links h. written_told tree after m b cells links off len (λ old. overwritten old off (replicate len (Byte byte))) r low h) is
+told_same tree after (op.Create path) birth m r low is = is
+told_same tree after o birth m r low is = is
+
+-- the number that it tells may be told
+pub told_may : (tree : FileTree) (m ever : ℕ) (r : Reply) → IsTreeReply m r → count_of dir_blocks tree ≤ m → m ≤ ever → may_tell tree ever r ≡ true
+told_may tree m ever (reply.NoBlock n) is low high =
+    let least : nat_le (count_of dir_blocks tree) n ≡ true = (let e : n ≡ m = is in grind (arith, nat_tests, low, e)) in
+    let most : nat_le n ever ≡ true = (let e : n ≡ m = is in grind (arith, nat_tests, high, e)) in
+    both _ _ least most
+told_may tree m ever r is low high = refl
