@@ -14,12 +14,12 @@ use Rattle.tree_definitions.specs.Tree.{FileTree, node_at, with_node, count_of, 
 use Rattle.tree_definitions.specs.Place.{Place, Root, Taken, Free, Nowhere, place}
 use Rattle.tree_definitions.specs.Apply.{Answer, Plain, Shows, Applied, says, is_path_op, if_file, at_file, written, overwritten, apply}
 use Rattle.tree_definitions.specs.SaidLines.{reply_word}
-use Rattle.tree_definitions.specs.Touched.{is_ok}
+use Rattle.tree_definitions.specs.Touched.{is_ok, is_mounted, is_stall, is_unmount}
 use Rattle.tree_definitions.specs.History.{may_be_ok, same_reply, contents_are, agrees, cells_show, may_tell, told_blocks, leaves_tree}
-use Rattle.tree_definitions.specs.Transcript.{is_own, after_answer}
+use Rattle.tree_definitions.specs.Transcript.{Standing, Off, Up, Stalled, Free, ServerState, is_own, calls_death, after_answer}
 use Rattle.tree_laws.proofs.Sameness.{text_same, pointwise_same}
 use Rattle.script_definitions.specs.Sayable.{IsTreeReply, IsSayableReply}
-use Rattle.tree_model.specs.Replies.{answer_of, gives}
+use Rattle.file_tree.specs.Replies.{answer_of, gives}
 use Rattle.frang_top.specs.Answering.{state_with}
 use Rattle.frang_top.proofs.HistoryLaws.{both}
 
@@ -58,18 +58,35 @@ tree_own o m reply.Mounted path h = absurd h
 tree_own op.Crash m r path h = cc
 tree_own o m r path h = ap (λ b. b || (may_be_ok o && is_ok r)) path
 
+-- an operation over a path calls for no death, and neither stalls nor unmounts
+path_calls : (o : Op) → is_path_op o ≡ true → (calls_death o ≡ false) × (is_stall o ≡ false) × (is_unmount o ≡ false)
+path_calls op.Mount h = cc
+path_calls op.Sync h = cc
+path_calls op.Unmount h = cc
+path_calls op.Crash h = cc
+path_calls (op.CrashAt k) h = cc
+path_calls (op.CutAt k) h = cc
+path_calls op.Stall h = cc
+path_calls o h = (refl, refl, refl)
+
+not_mounted : (m : ℕ) (r : Reply) → IsTreeReply m r → is_mounted r ≡ false
+not_mounted m reply.Mounted h = absurd h
+not_mounted m r h = refl
+
+stays_up : (mounts stalls unmounts calls ok : Bool) → mounts ≡ false → stalls ≡ false → unmounts ≡ false → calls ≡ false
+    → record { standing = cond mounts Up (cond (true && ok && stalls) Stalled (cond (true && ok && unmounts) Off Up)); debt = Free; may_die = not mounts && (false || (calls && ok)); just_died = false; under_recovery = false } ≡ state_with true
+stays_up true s u c ok a b d e = cc
+stays_up false true u c ok a b d e = cc
+stays_up false false true c ok a b d e = cc
+stays_up false false false true ok a b d e = cc
+stays_up false false false false true a b d e = refl
+stays_up false false false false false a b d e = refl
+
 -- it leaves a server up
 pub tree_state : (o : Op) (m : ℕ) (r : Reply) → is_path_op o ≡ true → IsTreeReply m r → after_answer (state_with true) o r ≡ state_with true
-tree_state o m r path h = go o r path h
-  where
-    go : (o : Op) (r : Reply) → is_path_op o ≡ true → IsTreeReply m r → after_answer (state_with true) o r ≡ state_with true
-    go o reply.Mounted path h = absurd h
-    go op.Unmount reply.Ok path h = cc
-    go op.Crash reply.Ok path h = cc
-    go (op.CrashAt k) reply.Ok path h = cc
-    go (op.CutAt k) reply.Ok path h = cc
-    go op.Stall reply.Ok path h = cc
-    go o r path h = refl
+tree_state o m r path h =
+    let calls = path_calls o path in
+    stays_up (is_mounted r) (is_stall o) (is_unmount o) (calls_death o) (is_ok r) (not_mounted m r h) calls.1 calls.2 calls.0
 
 -- and it changes the tree as the operation does
 pub tree_applies : (o : Op) (m : ℕ) (r : Reply) → is_path_op o ≡ true → IsTreeReply m r → leaves_tree o r ≡ false

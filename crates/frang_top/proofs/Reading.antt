@@ -5,6 +5,7 @@ use Rattle.std.specs.Map.{lookup, keys_of}
 use Rattle.std.specs.List.Sorted.{IsStrictlySortedBy}
 use Rattle.std.specs.Cmp.{nat_cmp_total}
 use Rattle.std.proofs.lemmas.Map.Entries.{lookup_at_gap, lookup_head}
+use Rattle.std.proofs.lemmas.Map.Keys.{sorted_tail}
 use Rattle.std.specs.BTreeMap.{is_at, insert_entry}
 use Rattle.std.specs.declared.cmp.Ordering.{Ordering}
 use Rattle.std.specs.declared.cmp.Ordering.TheVariants.{Less, Equal, Greater}
@@ -22,12 +23,12 @@ use Rattle.tree_definitions.specs.Place.{Place, Root, Taken, Free, Nowhere, plac
 use Rattle.tree_definitions.specs.Apply.{Answer, Plain, Shows, Applied, says, if_file, at_file, overwritten, shown, apply}
 use Rattle.tree_definitions.specs.History.{after_read, with_shown, file_at, file_of}
 use Rattle.tree_laws.specs.WellFormed.{BirthsAscend}
-use Rattle.tree_model.specs.Replies.{answer_of, gives}
+use Rattle.file_tree.specs.Replies.{answer_of, gives}
 
 -- a node put where it is leaves the list; a birth below all of them isn't there
 insert_same : (es : List (ℕ × Node)) (b : ℕ) (x : Node) → IsStrictlySortedBy nat_cmp (keys_of es) → lookup (is_at (nat_cmp b)) es ≡ Some x → insert_entry nat_cmp es b x ≡ es
 insert_same [] b x sorted found = cc
-insert_same (e ∷ es) b x sorted found = go (nat_cmp b e.0) refl (insert_same es b x sorted.1)
+insert_same (e ∷ es) b x sorted found = go (nat_cmp b e.0) refl (insert_same es b x (sorted_tail nat_cmp e.0 (keys_of es) sorted))
   where
     whole : List (ℕ × Node)
     whole = e ∷ es
@@ -58,7 +59,7 @@ past_taken (x ∷ xs) (suc n) = past_taken xs n
 
 over_same : (cells : List Cell) (off len : ℕ) → overwritten cells off (take len (drop off cells)) ≡ cells
 over_same cells off len =
-    ap (λ rest. take off cells ++ take len (drop off cells) ++ rest) (sym (drop-drop off (length (take len (drop off cells))) cells) ∙ past_taken (drop off cells) len)
+    ap (λ rest. take off cells ++ take len (drop off cells) ++ rest) (sym (drop-drop (length (take len (drop off cells))) off cells) ∙ past_taken (drop off cells) len)
     ∙ append_assoc (take off cells) (take len (drop off cells)) (drop len (drop off cells))
     ∙ ap (λ rest. take off cells ++ rest) (take-append-drop len (drop off cells)) ∙ take-append-drop off cells
 

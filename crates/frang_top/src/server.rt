@@ -8,7 +8,7 @@ ghost use Rattle.frang_top.specs.Answering.{Answers, IsFirst, IsReady, Replies};
 
 use frang_base::{Line, NoMemory, Op, OpNo, Reply, What};
 use std::alloc::Global;
-use tree_model::Tree;
+use file_tree::Tree;
 
 // Operations are numbered from this on in the first run: its number times 2^32.
 const FIRST_RUN: u64 = 1 << 32;
