@@ -14,8 +14,9 @@ use Rattle.tree_definitions.specs.Tree.{FileTree, node_at}
 use Rattle.tree_definitions.specs.Place.{Place, Root, Taken, Free, Nowhere, place}
 use Rattle.tree_definitions.specs.Apply.{Applied, Plain, Shows, apply, says, is_path_op, if_file, at_file, shown}
 use Rattle.tree_definitions.specs.History.{after_read, agrees, applied, cells_show, file_of, file_at, leaves_tree, same_reply, told_blocks, tree_after, with_shown}
-use Rattle.tree_model.specs.Replies.{answer_of, gives}
-use Rattle.tree_model.specs.Replayed.{shown_at, after_reading, after_redo}
+use Rattle.file_tree.specs.Replies.{answer_of, gives}
+use Rattle.file_tree.specs.Shown.{shown_at}
+use Rattle.tree_model.specs.Replayed.{after_reading, after_redo}
 
 -- cells that are sure show their own bytes
 sure_show : (bytes others : List ℕ) → cells_show (map Byte bytes) others ≡ pointwise nat_eq bytes others

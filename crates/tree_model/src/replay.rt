@@ -1,21 +1,14 @@
 // The tree after an entry, and after a history.
-ghost use Rattle.std.specs.Prelude.{◌≡◌, OnOk, OnErr, IfOk, IfSome, IsTrue, true, map};
+ghost use Rattle.std.specs.Prelude.{◌≡◌, OnOk, OnErr, IfOk, IsTrue};
 ghost use Rattle.tree_definitions.specs.Removal.{tree_from};
-ghost use Rattle.tree_definitions.specs.declared.cells.Cell.TheVariants.{Byte};
-ghost use Rattle.tree_definitions.specs.Tree.{node_at};
-ghost use Rattle.tree_definitions.specs.Place.{place};
-ghost use Rattle.tree_definitions.specs.History.{cells_show, file_of, file_at, may_be_ok, leaves_tree, told_blocks, tree_after};
-ghost use Rattle.tree_model.specs.CanApply.{CanApply};
-ghost use Rattle.tree_model.specs.Counts.{IsWithin};
-ghost use Rattle.tree_model.specs.Edits.{CanPut};
-ghost use Rattle.tree_model.specs.Replayed.{file_shows, shown_at, after_reading, after_redo, is_within, is_did, all_did};
+ghost use Rattle.tree_definitions.specs.History.{may_be_ok, leaves_tree, told_blocks, tree_after};
+ghost use Rattle.file_tree.specs.CanApply.{CanApply};
+ghost use Rattle.tree_model.specs.Replayed.{after_reading, after_redo, is_within, is_did, all_did};
 
 use crate::agree::same_reply;
-use crate::edits::Bytes;
-use crate::place::{Place, ROOT, place_from};
 use crate::{History, Tree};
 use frang_base::{Name, NoMemory, Op, Reply};
-use tree_definitions::{Cell, Entry, Item, Node};
+use tree_definitions::{Entry, Item};
 
 fn may_be_ok(op: &Op) -> bool
     ensures { result ≡ may_be_ok op.now }
@@ -46,57 +39,6 @@ fn told_blocks(tree: &Tree, reply: &Reply) -> u32
     }
 }
 
-// Whether cells show bytes: one in doubt shows any.
-fn cells_show(cells: &[Cell], bytes: &[u8]) -> bool
-    ensures { result ≡ cells_show cells.now bytes.now }
-{
-    match (cells, bytes) {
-        ([], []) => true,
-        ([Cell::Byte(byte), cells @ ..], [other, bytes @ ..]) => {
-            byte == other && cells_show(cells, bytes)
-        }
-        ([Cell::Doubtful, cells @ ..], [_, bytes @ ..]) => cells_show(cells, bytes),
-        ([], [_, ..]) | ([_, ..], []) => false,
-    }
-}
-
-// Whether the node of a birth is a file whose cells show bytes from an offset on.
-fn file_shows(tree: &Tree, birth: u64, off: u32, len: u32, bytes: &[u8]) -> bool
-    ensures is { result ≡ file_shows (file_of birth (node_at tree.now birth)) off len bytes.now }
-    ensures fits { result ≡ true → IfSome (node_at tree.now birth) (CanPut off (map Byte bytes.now)) }
-    ensures within { IsWithin tree.now }
-{
-    match tree.node(birth) {
-        Some(Node::File { cells, .. }) => {
-            off as usize <= cells.len()
-                && cells_show(cells.shown(off as usize, len as usize), bytes)
-        }
-        Some(Node::Dir { .. } | Node::Link { .. }) | None => false,
-    }
-}
-
-// A read of a node that showed bytes: where a file's cells show them, they become them. After `NoMemory` the tree is as before.
-fn show_at(tree: &mut Tree, birth: u64, off: u32, len: u32, bytes: &[u8]) -> Result<(), NoMemory>
-    ensures ok { OnOk result (tree.new ≡ shown_at tree.old (file_of birth (node_at tree.old birth)) off len bytes.now) }
-    ensures err { OnErr result (tree.new ≡ tree.old) }
-{
-    if file_shows(tree, birth, off, len, bytes) {
-        tree.put_bytes(birth, off as usize, &Bytes::Text(bytes))?;
-    }
-    Ok(())
-}
-
-// A read that showed bytes. After `NoMemory` the tree is as before.
-fn show(tree: &mut Tree, path: &[Name], off: u32, len: u32, bytes: &[u8]) -> Result<(), NoMemory>
-    ensures ok { OnOk result (tree.new ≡ shown_at tree.old (file_at tree.old (place tree.old path.now)) off len bytes.now) }
-    ensures err { OnErr result (tree.new ≡ tree.old) }
-{
-    match place_from(tree, ROOT, path) {
-        Place::Taken { birth, .. } => show_at(tree, birth, off, len, bytes),
-        Place::Root | Place::Free { .. } | Place::Nowhere(_) => Ok(()),
-    }
-}
-
 // A read with its reply. After `NoMemory` the tree is as before.
 fn read_again(
     tree: &mut Tree,
@@ -109,7 +51,7 @@ fn read_again(
     ensures err { OnErr result (tree.new ≡ tree.old) }
 {
     match reply {
-        Reply::Shown(bytes) => show(tree, path, off, len, bytes.as_slice()),
+        Reply::Shown(bytes) => tree.show(path, off, len, bytes.as_slice()),
         _ => Ok(()),
     }
 }

@@ -1,7 +1,7 @@
 use Rattle.std.proofs.Common.{◌≡◌, sym, ◌∙◌, ap, cond}
 use Rattle.tree_definitions.specs.Apply.{apply}
 use Rattle.tree_definitions.specs.History.{told_blocks, applied}
-use Rattle.tree_model.specs.Replies.{gives}
+use Rattle.file_tree.specs.Replies.{gives}
 use Rattle.tree_model.proofs.Redoing.{redone}
 use Rattle.tree_model.proofs.replay.redo.Goals as goal
 
