@@ -3,7 +3,8 @@ use Rattle.std.proofs.Common.{◌≡◌, ◌⊎◌, inl, inr, ℕ, zero, suc, �
 use Rattle.std.specs.Prelude.{Result, Ok, Err}
 use Rattle.std.proofs.lemmas.Bool.{ne_eqb}
 use Rattle.std.proofs.lemmas.Bool.Decides.{nat_tests}
-use Rattle.std.specs.List.{slice_get, find, filter, list_all}
+use Rattle.std.specs.List.{All, slice_get, find, filter, list_all}
+use Rattle.std.proofs.lemmas.List.Elements.{All-head, All-tail}
 use Rattle.frang_base.specs.declared.said.Said.{Said}
 use Rattle.frang_base.specs.declared.script.Line.{Line}
 use Rattle.tree_definitions.specs.Live.{line_of}
@@ -11,12 +12,15 @@ use Rattle.tree_definitions.specs.Transcript.{lines_for, lines_before, are_answe
 use Rattle.script_definitions.specs.declared.fault.ScriptFault.{ScriptFault}
 use Rattle.script_definitions.specs.ScriptGrammar.{AreLines, IsScriptText, AsksBy}
 use Rattle.script_definitions.specs.ScriptText.{script_of, is_halt}
+use Rattle.script_definitions.specs.Sayable.{IsSayableLine}
+use Rattle.script_definitions.proofs.SayableScripts.{script_sayable}
+use Rattle.script_definitions.proofs.JudgedLaws.{text_sound}
 use Rattle.frang_top.specs.Built.{IsBuiltLine, AreBuilt, is_built_line, first_unbuilt, unless_unbuilt, built_by, built_script_of}
 use Rattle.frang_top.proofs.HistoryLaws.{both, left, right}
 
 -- a line whose number is at least n, and so at least m
 pub line_lower : (m n : ℕ) (line : Line) → m ≤ n → IsBuiltLine n line → IsBuiltLine m line
-line_lower m n line low is = record { number = (let e : n ≤ line.number = is.number in omega arith); small = is.small; proper = is.proper; built = is.built }
+line_lower m n line low is = record { number = (let e : n ≤ line.number = is.number in omega arith); small = is.small; proper = is.proper; sayable = is.sayable; built = is.built }
 
 built_lower : (m n : ℕ) (script : List Line) → m ≤ n → AreBuilt n script → AreBuilt m script
 built_lower m n [] low all = tt
@@ -31,18 +35,29 @@ none_unbuilt l ls none = go (is_built_line l) none
     go false e = cc
 
 -- the lines of a text that is a script, where each can be answered
-lines_built : (n : ℕ) (halted : Bool) (lines : List (List ℕ)) (script : List Line) → AreLines n halted lines script → first_unbuilt script ≡ None → AreBuilt n script
-lines_built n halted [] script is none = subst (AreBuilt n) (sym is) tt
-lines_built n halted (text ∷ lines) script (small, inl skipped) none = built_lower n (n + 1) script (omega arith) (lines_built (n + 1) halted lines script skipped.1 none)
-lines_built n halted (text ∷ lines) script (small, inr (asked, rest, is, on, asks, more)) none =
+lines_built : (n : ℕ) (halted : Bool) (lines : List (List ℕ)) (script : List Line) → AreLines n halted lines script → first_unbuilt script ≡ None → All IsSayableLine script → AreBuilt n script
+lines_built n halted [] script is none sayable = subst (AreBuilt n) (sym is) tt
+lines_built n halted (text ∷ lines) script (small, inl skipped) none sayable = built_lower n (n + 1) script (omega arith) (lines_built (n + 1) halted lines script skipped.1 none sayable)
+lines_built n halted (text ∷ lines) script (small, inr (asked, rest, is, on, asks, more)) none sayable =
     let line : Line = record { number = n; who = asked.who; what = asked.what } in
     let parts = none_unbuilt line rest (ap first_unbuilt (sym is) ∙ none) in
-    let first : IsBuiltLine n line = record { number = omega arith; small = small; proper = asks.2.0; built = parts.0 } in
-    subst (AreBuilt n) (sym is) (first, lines_built (n + 1) (is_halt asked.what) lines rest more parts.1)
+    let said : All IsSayableLine (line ∷ rest) = subst (All IsSayableLine) is sayable in
+    let first : IsBuiltLine n line = record { number = omega arith; small = small; proper = asks.2.0; sayable = All-head IsSayableLine line rest said; built = parts.0 } in
+    subst (AreBuilt n) (sym is) (first, lines_built (n + 1) (is_halt asked.what) lines rest more parts.1 (All-tail IsSayableLine line rest said))
 
 -- what was read can be answered
-pub text_built : (bytes : List ℕ) (script : List Line) → IsScriptText bytes script → first_unbuilt script ≡ None → AreBuilt 1 script
-text_built bytes script is none = lines_built 1 false _ script is.1 none
+by_first : (script given : List Line) (o : Option Line) → unless_unbuilt script o ≡ Ok given → (o ≡ None) × (script ≡ given)
+by_first script given None is = let same : Ok script ≡ Ok given = is in (refl, cc)
+by_first script given (Some line) is = cc
+
+read_first : (bytes : List ℕ) (given : List Line) (read : Result (List Line) ScriptFault) → script_of bytes ≡ read → built_by read ≡ Ok given → AreBuilt 1 given
+read_first bytes given (Ok script) is built =
+    let parts = by_first script given (first_unbuilt script) built in
+    subst (AreBuilt 1) parts.1 (lines_built 1 false _ script (text_sound bytes script is).1 parts.0 (script_sayable bytes script is))
+read_first bytes given (Err fault) is built = cc
+
+pub read_built : (bytes : List ℕ) (script : List Line) → built_script_of bytes ≡ Ok script → AreBuilt 1 script
+read_built bytes script built = read_first bytes script (script_of bytes) refl built
 
 pub built_at : (n : ℕ) (script : List Line) (i : ℕ) (line : Line) → AreBuilt n script → slice_get script i ≡ Some line → IsBuiltLine n line
 built_at n [] i line all at = cc
@@ -96,7 +111,7 @@ before_answered p n [] i line saids all at was = cc
 before_answered p n (l ∷ ls) zero line saids all at was =
     let same : l ≡ line = cc in
     let low : line.number ≤ l.number = omega (arith, ap (λ x. x.number) same) in
-    ap (λ xs. are_answered xs saids) (none_before p l.number line.number (l ∷ ls) (record { number = omega arith; small = all.0.small; proper = all.0.proper; built = all.0.built }, all.1) low)
+    ap (λ xs. are_answered xs saids) (none_before p l.number line.number (l ∷ ls) (record { number = omega arith; small = all.0.small; proper = all.0.proper; sayable = all.0.sayable; built = all.0.built }, all.1) low)
 before_answered p n (l ∷ ls) (suc i) line saids all at was = go (p l) (nat_lt l.number line.number) (before_answered p (l.number + 1) ls i line saids all.1 at (right _ _ was))
   where
     before : List Line

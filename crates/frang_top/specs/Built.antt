@@ -7,6 +7,7 @@ use Rattle.frang_base.specs.declared.op.What.{What}
 use Rattle.frang_base.specs.declared.op.What.TheVariants.{Server, Host}
 use Rattle.frang_base.specs.declared.script.Line.{Line}
 use Rattle.script_definitions.specs.declared.fault.ScriptFault.{ScriptFault}
+use Rattle.script_definitions.specs.Sayable.{IsSayableLine}
 use Rattle.script_definitions.specs.ScriptGrammar.{IsProperWhat}
 use Rattle.script_definitions.specs.ScriptText.{script_of}
 
@@ -53,6 +54,7 @@ pub record IsBuiltLine (n : ℕ) (line : Line) : Type 0 where
   pub number : n ≤ line.number
   pub small : line.number ≤ 65536
   pub proper : IsProperWhat line.who.0 line.what
+  pub sayable : IsSayableLine line
   pub built : is_built_line line ≡ true
 
 -- a script of such lines, whose numbers ascend from n on

@@ -2,6 +2,7 @@
 ghost use Rattle.std.specs.Prelude.{◌≡◌, ◌≤◌, ℕ, IfOk, true};
 ghost use Rattle.tree_definitions.specs.Apply.{is_path_op};
 ghost use Rattle.frang_base.specs.declared.op.Op.TheVariants as op;
+ghost use Rattle.script_definitions.specs.Sayable.{IsSayableOp};
 ghost use Rattle.script_definitions.specs.ScriptGrammar.{IsProperOp};
 ghost use Rattle.frang_top.specs.Built.{is_built_op, IsBuiltLine};
 ghost use Rattle.frang_top.specs.Answering.{Answers, IsFirst, IsReady, Replies};
@@ -41,6 +42,7 @@ impl Server {
         requires mounted { self.old.mounted ≡ true }
         requires path { is_path_op op.now ≡ true }
         requires proper { IsProperOp op.now }
+        requires sayable { IsSayableOp op.now }
         ensures ok { IfOk result (λ r. Answers number op.now self.old r self.new) }
     {
         let birth = OpNo(FIRST_RUN + u64::from(number));
@@ -66,11 +68,16 @@ impl Server {
         requires ready { IsReady self.old }
         requires built { is_built_op op.now ≡ true }
         requires proper { IsProperOp op.now }
+        requires sayable { IsSayableOp op.now }
         ensures ok { IfOk result (λ r. Answers number op.now self.old r self.new) }
     {
+        if let Op::Mount = op {
+            return Ok(self.mount());
+        }
+        if !self.mounted {
+            return Ok(Reply::Down);
+        }
         match op {
-            Op::Mount => Ok(self.mount()),
-            _ if !self.mounted => Ok(Reply::Down),
             Op::Sync => Ok(Reply::Ok),
             Op::Unmount => {
                 self.mounted = false;

@@ -1,0 +1,247 @@
+-- A run between two of its lines: before the first, and after one more.
+use Rattle.std.proofs.Common.{◌≡◌, ◌⊎◌, inl, inr, ℕ, zero, suc, ◌+◌, ◌-◌, ◌<◌, ◌≤◌, Bool, true, false, ◌&&◌, not, cond, Option, Some, None, List, [], ◌∷◌, ◌++◌, length, take, refl, sym, ◌∙◌, ap, subst, arith, eq-eqb, eqb-true, nat_eq, length-append, append-nil}
+use Rattle.std.specs.List.{All, slice_get, filter, list_any}
+use Rattle.std.proofs.lemmas.List.{take_all}
+use Rattle.std.proofs.lemmas.List.Elements.{All-nil}
+use Rattle.frang_base.specs.declared.op.HostOp.{HostOp}
+use Rattle.frang_base.specs.declared.op.HostOp.TheVariants as host
+use Rattle.frang_base.specs.declared.op.Op.{Op}
+use Rattle.frang_base.specs.declared.op.What.{What}
+use Rattle.frang_base.specs.declared.op.What.TheVariants.{Server, Host}
+use Rattle.frang_base.specs.declared.reply.Reply.{Reply}
+use Rattle.frang_base.specs.declared.reply.Reply.TheVariants as reply
+use Rattle.frang_base.specs.declared.said.Said.{Said}
+use Rattle.frang_base.specs.declared.said.Said.TheVariants as said
+use Rattle.frang_base.specs.declared.script.Line.{Line}
+use Rattle.frang_base.specs.declared.sector.ServerId.{ServerId}
+use Rattle.frang_outside.specs.declared.act.Act.{Act}
+use Rattle.frang_outside.specs.Outside.{told_more}
+use Rattle.tree_definitions.specs.declared.history.Entry.{Entry}
+use Rattle.tree_definitions.specs.declared.history.Item.{Item}
+use Rattle.tree_definitions.specs.declared.history.Item.TheVariants.{Did, Recovered}
+use Rattle.tree_definitions.specs.Tree.{FileTree, fresh, count_of, dir_blocks}
+use Rattle.tree_definitions.specs.History.{Opening, Stays, fits, fresh_opening, grows, tree_after, after_all}
+use Rattle.tree_definitions.specs.Live.{item_of, item_of_line, item_of_what, line_of}
+use Rattle.tree_definitions.specs.Removal.{is_legal, keeps, settled, tree_of}
+use Rattle.tree_definitions.specs.Transcript.{no_faults, ServerState, first_state, state_of, after_answer, after_asked, after_line, may_answer, may_reply, answers, answers_next, next_line, are_answered, lines_for, lines_before, is_answer_of, is_over, is_node, goes_on, halts, is_halt, is_halt_line, MaySay}
+use Rattle.tree_laws.specs.Histories.{ever_after}
+use Rattle.tree_laws.proofs.HistoryLaws.{ever-append, is_legal-push, kept-push, settled-push, tree_of-push}
+use Rattle.tree_laws.proofs.TranscriptLaws.{live-push}
+use Rattle.script_definitions.specs.SaidReading.{IsProperReply, IsProperSaid, IsWho}
+use Rattle.script_definitions.specs.ScriptGrammar.{IsProperWhat}
+use Rattle.frang_top.specs.declared.server.Server.{Server as Serving}
+use Rattle.frang_top.specs.Answering.{state_with, entry_of, opening_of, Answers, IsFirst, IsReady, RepliesTo, Replies}
+use Rattle.frang_top.specs.Built.{AreBuilt, IsBuiltLine, is_built}
+use Rattle.frang_top.specs.Running.{Always, Follows, IsAt, Told, ever_of}
+use Rattle.frang_top.specs.Run.{history_of, IsRun, said_act}
+use Rattle.frang_top.proofs.HistoryLaws.{both, left, right}
+use Rattle.frang_top.proofs.ScriptLaws.{before_answered, built_at, filter_all, line_of-number, next_found}
+use Rattle.frang_top.proofs.StateLaws.{over-push, state-push}
+use Rattle.frang_top.proofs.Following.{answer, follows-push, follows_answered, follows_no_node, follows_own, take-next}
+use Rattle.frang_top.proofs.Prefixes.{always-push, may_all-push, proper-push, told-push}
+
+-- what an answer adds to the history
+added : (o : Opening) (script : List Line) (saids : List Said) (line : Line) (r : Reply) (items : List Item) → item_of script o.run (answer line r) ≡ items → history_of o script (saids ++ answer line r ∷ []) ≡ history_of o script saids ++ items
+added o script saids line r items is = live-push script o.run saids (answer line r) ∙ ap (λ l. history_of o script saids ++ l) is
+
+item_by : (o : Opening) (script : List Line) (line : Line) (r : Reply) → line_of script line.number ≡ Some line → item_of script o.run (answer line r) ≡ item_of_what o.run line.who r line.number line.what
+item_by o script line r found = ap (item_of_line o.run line.who r line.number) found
+
+-- the answer to a line halts nothing
+no_halt : (script : List Line) (line : Line) (r : Reply) → line_of script line.number ≡ Some line → is_halt line.what ≡ false → halts script (answer line r) ≡ false
+no_halt script line r found not_halt = ap is_halt_line found ∙ not_halt
+
+-- the next line may be answered, by the server whose it is
+may_say_next : (o : Opening) (script : List Line) (i : ℕ) (saids : List Said) (line : Line) (r : Reply) → slice_get script i ≡ Some line → Follows (take i script) saids → is_over script saids ≡ false
+    → may_reply script no_faults saids line.who.0 line.number line.what r ≡ true → MaySay script o no_faults saids (answer line r)
+may_say_next o script i saids line r at follows on may =
+    let who = line.who.0 in
+    let next : next_line who script saids ≡ Some line
+    = ap (slice_get (lines_for who script)) (follows_own who (take i script) saids follows) ∙ next_found (λ l. nat_eq l.who.0 who) script i line at (eq-eqb who who refl) in
+    let on_goes : goes_on script saids ≡ true = both _ _ (ap not on) (ap not (follows_no_node (take i script) saids follows)) in
+    both _ _ on_goes (ap (answers_next script no_faults saids who line.number r) next ∙ both _ _ (eq-eqb line.number line.number refl) may)
+
+-- a reply of server 0 to its line
+may_server : (script : List Line) (i : ℕ) (up : Bool) (saids : List Said) (line : Line) (o : Op) (r : Reply) → AreBuilt 1 script → slice_get script i ≡ Some line → Follows (take i script) saids
+    → state_of script no_faults 0 saids ≡ state_with up → may_answer (state_with up) false o r ≡ true → may_reply script no_faults saids 0 line.number (Server o) r ≡ true
+may_server script i up saids line o r built at follows state_is may =
+    both _ _ (before_answered (λ l. nat_eq l.who.0 255) 1 script i line saids built at (follows_answered (take i script) saids follows)) (ap (λ st. may_answer st false o r) state_is ∙ may)
+
+-- a barrier's `ok`
+may_host : (script : List Line) (i : ℕ) (saids : List Said) (line : Line) (h : HostOp) → AreBuilt 1 script → slice_get script i ≡ Some line → Follows (take i script) saids
+    → may_reply script no_faults saids line.who.0 line.number (Host h) reply.Ok ≡ true
+may_host script i saids line h built at follows =
+    ap (λ ls. are_answered (lines_before line.number ls) saids) (sym (filter_all script))
+    ∙ before_answered (λ l. true) 1 script i line saids built at (follows_answered (take i script) saids follows)
+
+-- whose a line is that can be answered
+pub who_server : (who : ℕ) (o : Op) → is_built who (Server o) ≡ true → who ≡ 0
+who_server who o h = eqb-true who 0 (left _ _ h)
+
+-- a line more of a run
+run_more : (o : Opening) (script : List Line) (saids : List Said) (x : Said) (items : List Item) → history_of o script (saids ++ x ∷ []) ≡ history_of o script saids ++ items → IsRun o script saids → MaySay script o no_faults saids x
+    → is_legal o (history_of o script saids ++ items) ≡ true → keeps o (history_of o script saids ++ items) ≡ true → IsRun o script (saids ++ x ∷ [])
+run_more o script saids x items longer run may legal kept = record {
+  lines = may_all-push script o no_faults [] saids x run.lines may;
+  legal = ap (is_legal o) longer ∙ legal;
+  kept = ap (keeps o) longer ∙ kept;
+}
+
+-- blocks that were ever a directory's, after one entry more
+ever-push : (o : Opening) (history : List Item) (e : Entry) →
+    ever_after o.tree o.dir_blocks (settled o.tree (history ++ Did e ∷ []))
+    ≡ ever_after o.tree o.dir_blocks (settled o.tree history) + (count_of dir_blocks (tree_after (tree_of o history) e) - count_of dir_blocks (tree_of o history))
+ever-push o history e = ap (ever_after o.tree o.dir_blocks) (settled-push o.tree [] history e) ∙ ever-append o.tree o.dir_blocks (settled o.tree history) (Stays e ∷ [])
+
+-- what one answer more needs and leaves
+record Turned (o : Opening) (script : List Line) (saids : List Said) (line : Line) (r : Reply) (before after : Serving) : Type 0 where
+  pub items : List Item
+  pub item_is : item_of script o.run (answer line r) ≡ items
+  pub may : MaySay script o no_faults saids (answer line r)
+  pub proper : IsProperSaid (answer line r)
+  pub halts_not : halts script (answer line r) ≡ false
+  pub state_is : state_of script no_faults 0 (saids ++ answer line r ∷ []) ≡ state_with after.mounted
+  pub tree_is : after.tree ≡ tree_of o (history_of o script saids ++ items)
+  pub legal : is_legal o (history_of o script saids ++ items) ≡ true
+  pub kept : keeps o (history_of o script saids ++ items) ≡ true
+  pub blocks : after.dir_blocks ≤ ever_after o.tree o.dir_blocks (settled o.tree (history_of o script saids ++ items))
+  pub ready : IsReady after
+  pub segments : after.tree.segments ≡ before.tree.segments
+
+turned : (o : Opening) (script : List Line) (i : ℕ) (before after : Serving) (told told_after : Option (List Act)) (line : Line) (r : Reply) → slice_get script i ≡ Some line → (now : IsAt o script i before told)
+    → Turned o script now.saids line r before after → told_after ≡ told_more told (said_act (answer line r)) → IsAt o script (i + 1) after told_after
+turned o script i before after told told_after line r at now next says =
+    let saids = now.saids in
+    let longer = added o script saids line r next.items next.item_is in
+    let run : IsRun o script (saids ++ answer line r ∷ []) = run_more o script saids (answer line r) next.items longer now.run next.may next.legal next.kept in
+    record {
+      saids = saids ++ answer line r ∷ [];
+      acts = told-push told told_after saids (answer line r) now.acts says;
+      follows = subst (λ ls. Follows ls (saids ++ answer line r ∷ [])) (sym (take-next script i line at)) (follows-push (take i script) saids line r now.follows);
+      proper = proper-push saids (answer line r) now.proper next.proper;
+      goes_on = over-push script saids (answer line r) now.goes_on next.halts_not refl;
+      state_is = next.state_is;
+      tree_is = next.tree_is ∙ ap (tree_of o) (sym longer);
+      blocks = subst (λ h. after.dir_blocks ≤ ever_after o.tree o.dir_blocks (settled o.tree h)) (sym longer) next.blocks;
+      ready = next.ready;
+      segments = next.segments ∙ now.segments;
+      run = run;
+      always = always-push o script saids (answer line r) now.always run;
+    }
+
+-- where the first run begins
+abbrev IsFirstRun : Opening → Type 0
+IsFirstRun o = o.run ≡ 1
+
+-- a line of server 0 is answered
+served : (o : Opening) (script : List Line) (i : ℕ) (before after : Serving) (told : Option (List Act)) (line : Line) (r : Reply) (op : Op) → IsFirstRun o → AreBuilt 1 script → slice_get script i ≡ Some line
+    → (now : IsAt o script i before told) → line.what ≡ Server op → line.who.0 ≡ 0 → Answers line.number op before r after → Turned o script now.saids line r before after
+served o script i before after told line r op first built at now asks own answers =
+    let saids = now.saids in
+    let history = history_of o script saids in
+    let e = entry_of line.number op r in
+    let is = built_at 1 script i line built at in
+    let found : line_of script line.number ≡ Some line = line_of-number 1 script i line built at in
+    let who : line.who ≡ record { 0 = 0 } = ap (λ n. record { 0 = n }) own in
+    let entry : item_of script o.run (answer line r) ≡ Did e ∷ []
+    = item_by o script line r found ∙ ap (λ w. item_of_what o.run line.who r line.number w) asks
+      ∙ ap (λ s. item_of_what o.run s r line.number (Server op)) who ∙ ap (λ n. item_of_what n (record { 0 = 0 }) r line.number (Server op)) first in
+    let reply : may_reply script no_faults saids line.who.0 line.number line.what r ≡ true
+    = ap (λ n. may_reply script no_faults saids n line.number line.what r) own ∙ ap (λ w. may_reply script no_faults saids 0 line.number w r) asks
+      ∙ may_server script i before.mounted saids line op r built at now.follows now.state_is answers.may in
+    let tree_grows : count_of dir_blocks (tree_after (tree_of o history) e) - count_of dir_blocks (tree_of o history) ≡ count_of dir_blocks after.tree - count_of dir_blocks before.tree
+    = ap (λ t. count_of dir_blocks (tree_after t e) - count_of dir_blocks t) (sym now.tree_is) ∙ ap (λ t. count_of dir_blocks t - count_of dir_blocks before.tree) (sym answers.tree_is) in
+    let ever = ever-push o history e ∙ ap (λ n. ever_of o script saids + n) tree_grows in
+    let more : after.dir_blocks ≤ ever_of o script saids + (count_of dir_blocks after.tree - count_of dir_blocks before.tree)
+    = (let a : after.dir_blocks ≤ before.dir_blocks + (count_of dir_blocks after.tree - count_of dir_blocks before.tree) = answers.grown in
+       let b : before.dir_blocks ≤ ever_of o script saids = now.blocks in
+       omega arith) in
+    record {
+      items = Did e ∷ [];
+      item_is = entry;
+      may = may_say_next o script i saids line r at now.follows now.goes_on reply;
+      proper = (subst IsWho (sym own) (inl (omega arith)), (let s : line.number ≤ 65536 = is.small in omega arith), answers.proper);
+      halts_not = no_halt script line r found (ap is_halt asks);
+      state_is = state-push script 0 0 first_state saids (answer line r)
+          ∙ ap (λ n. cond (nat_eq n 0) (after_line (state_of script no_faults 0 saids) (line_of script line.number) r) (state_of script no_faults 0 saids)) own
+          ∙ ap (λ l. after_line (state_of script no_faults 0 saids) l r) found ∙ ap (λ w. after_asked (state_of script no_faults 0 saids) w r) asks
+          ∙ ap (λ st. after_answer st op r) now.state_is ∙ answers.state_is;
+      tree_is = answers.tree_is ∙ ap (λ t. tree_after t e) now.tree_is ∙ sym (tree_of-push o history e);
+      legal = is_legal-push o history e ∙ both _ _ now.run.legal (ap (λ t. fits t (ever_of o script saids) e) (sym now.tree_is) ∙ answers.fits_where (ever_of o script saids) now.blocks);
+      kept = kept-push o.tree [] history e ∙ now.run.kept;
+      blocks = subst (λ n. after.dir_blocks ≤ n) (sym ever) more;
+      ready = answers.ready;
+      segments = answers.segments;
+    }
+
+-- a barrier is answered
+hosted : (o : Opening) (script : List Line) (i : ℕ) (before : Serving) (told : Option (List Act)) (line : Line) (h : HostOp) → AreBuilt 1 script → slice_get script i ≡ Some line
+    → (now : IsAt o script i before told) → line.what ≡ Host h → is_halt (Host h) ≡ false → line.who.0 ≡ 255 → Turned o script now.saids line reply.Ok before before
+hosted o script i before told line h built at now asks not_halt own =
+    let saids = now.saids in
+    let is = built_at 1 script i line built at in
+    let found : line_of script line.number ≡ Some line = line_of-number 1 script i line built at in
+    let same : history_of o script saids ++ [] ≡ history_of o script saids = append-nil (history_of o script saids) in
+    record {
+      items = [];
+      item_is = item_by o script line reply.Ok found ∙ ap (λ w. item_of_what o.run line.who reply.Ok line.number w) asks;
+      may = may_say_next o script i saids line reply.Ok at now.follows now.goes_on (ap (λ w. may_reply script no_faults saids line.who.0 line.number w reply.Ok) asks ∙ may_host script i saids line h built at now.follows);
+      proper = (inr own, (let s : line.number ≤ 65536 = is.small in omega arith), tt);
+      halts_not = no_halt script line reply.Ok found (ap is_halt asks ∙ not_halt);
+      state_is = state-push script 0 0 first_state saids (answer line reply.Ok)
+          ∙ ap (λ n. cond (nat_eq n 0) (after_line (state_of script no_faults 0 saids) (line_of script line.number) reply.Ok) (state_of script no_faults 0 saids)) own ∙ now.state_is;
+      tree_is = now.tree_is ∙ ap (tree_of o) (sym same);
+      legal = ap (is_legal o) same ∙ now.run.legal;
+      kept = ap (keeps o) same ∙ now.run.kept;
+      blocks = subst (λ l. before.dir_blocks ≤ ever_after o.tree o.dir_blocks (settled o.tree l)) (sym same) now.blocks;
+      ready = now.ready;
+      segments = refl;
+    }
+
+host_who : (who : ℕ) (h : HostOp) → IsProperWhat who (Host h) → who ≡ 255
+host_who who (host.Tick n) is = is.0
+host_who who host.Barrier is = is
+host_who who host.Halt is = is
+
+barrier_goes_on : (who : ℕ) (h : HostOp) → is_built who (Host h) ≡ true → is_halt (Host h) ≡ false
+barrier_goes_on who host.Barrier is = refl
+barrier_goes_on who (host.Tick n) is = cc
+barrier_goes_on who host.Halt is = cc
+
+pub turn : (o : Opening) (script : List Line) (i : ℕ) (before after : Serving) (told told_after : Option (List Act)) (line : Line) (r : Reply) → IsFirstRun o → AreBuilt 1 script → slice_get script i ≡ Some line
+    → IsAt o script i before told → Replies line before r after → told_after ≡ told_more told (said_act (answer line r)) → IsAt o script (i + 1) after told_after
+turn o script i before after told told_after line r first built at now replies says = go line.what refl replies
+  where
+    is : IsBuiltLine 1 line
+    is = built_at 1 script i line built at
+
+    go : (w : What) → line.what ≡ w → RepliesTo line.number w before r after → IsAt o script (i + 1) after told_after
+    go (Server op) asks answers =
+        let own : line.who.0 ≡ 0 = who_server line.who.0 op (subst (λ w. is_built line.who.0 w ≡ true) asks is.built) in
+        turned o script i before after told told_after line r at now (served o script i before after told line r op first built at now asks own answers) says
+    go (Host h) asks (ok, same) =
+        let own : line.who.0 ≡ 255 = host_who line.who.0 h (subst (IsProperWhat line.who.0) asks is.proper) in
+        let on : is_halt (Host h) ≡ false = barrier_goes_on line.who.0 h (subst (λ w. is_built line.who.0 w ≡ true) asks is.built) in
+        let next : IsAt o script (i + 1) before told_after
+        = turned o script i before before told told_after line reply.Ok at now (hosted o script i before told line h built at now asks on own) (says ∙ ap (λ q. told_more told (said_act (answer line q))) ok) in
+        subst (λ s. IsAt o script (i + 1) s told_after) (sym same) next
+
+-- before the first line
+nothing : (segments : ℕ) (script : List Line) → IsRun (fresh_opening segments) script []
+nothing segments script = record { lines = tt; legal = refl; kept = refl }
+
+pub started : (script : List Line) (server : Serving) (told : Option (List Act)) → IsFirst server → IsReady server → ((acts : List Act) → told ≡ Some acts → acts ≡ []) → IsAt (opening_of server) script 0 server told
+started script server told first ready empty = record {
+  saids = [];
+  acts = empty;
+  follows = tt;
+  proper = All-nil IsProperSaid;
+  goes_on = refl;
+  state_is = ap state_with (sym first.off);
+  tree_is = first.tree;
+  blocks = (let z : server.dir_blocks ≡ 0 = first.blocks in omega arith);
+  ready = ready;
+  segments = refl;
+  run = nothing server.tree.segments script;
+  always = λ k. subst (IsRun (opening_of server) script) (sym (take_all k [] (let e : 0 ≤ k = omega arith in e))) (nothing server.tree.segments script);
+}

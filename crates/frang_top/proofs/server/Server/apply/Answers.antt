@@ -1,0 +1,12 @@
+use Rattle.std.proofs.Common.{◌+◌, ap}
+use Rattle.frang_top.proofs.Answered.{answers_applied, can_apply}
+use Rattle.frang_top.proofs.server.Server.apply.Goals as goal
+
+pub apply-requires : goal.apply-requires
+apply-requires c = can_apply c.args.self.now.tree c.args.op.now c.requires.ready.sure c.requires.proper c.requires.sayable c.requires.path
+
+pub returns : goal.returns
+returns c = record {
+  ok = answers_applied c.args.number c.args.op.now c.args.self.now (record { mounted = c.args.self.now.mounted; tree = c.apply.new.self; dir_blocks = c.max-self.result }) c.in_ok-reply.reply
+      c.requires.ready c.requires.mounted c.requires.path c.requires.sayable ? ? ? ?;
+}
