@@ -5,6 +5,7 @@ ghost use Rattle.tree_definitions.specs.Tree.{FileTree, fresh, node_at, with_nod
 ghost use Rattle.tree_definitions.specs.TreeLines.{tree_lines};
 ghost use Rattle.tree_edits.specs.Edits.{without_name, with_name, with_blocks, with_links, with_cells, with_first, edited, CanPut, Names};
 ghost use Rattle.tree_edits.specs.Written.{cells_of};
+ghost use Rattle.file_tree.specs.Proper.{HasTarget, AreProper};
 
 use crate::lines::lines_from;
 use crate::place::ROOT;
@@ -28,12 +29,13 @@ pub struct Tree {
 impl Model for Tree {
     ghost use Rattle.tree_definitions.specs.Tree.{FileTree};
     ghost use Rattle.tree_edits.specs.Counts.{IsCounted};
+    ghost use Rattle.file_tree.specs.Proper.{HasTargets};
 
     ghost Value = { FileTree };
 
     ghost view = { λ t. record { segments = t.segments; nodes = t.nodes.entries } };
 
-    ghost invariant = { λ t. IsCounted t.taken (record { segments = t.segments; nodes = t.nodes.entries }) };
+    ghost invariant = { λ t. IsCounted t.taken (record { segments = t.segments; nodes = t.nodes.entries }) × HasTargets (record { segments = t.segments; nodes = t.nodes.entries }) };
 }
 
 impl Tree {
@@ -67,6 +69,7 @@ impl Tree {
     pub(crate) fn node(&self, birth: u64) -> Option<&Node>
         ensures is { option_copied result ≡ node_at self.now birth }
         ensures within { IsWithin self.now }
+        ensures target { IfSome (node_at self.now birth) HasTarget }
     {
         self.nodes.get(&birth)
     }
@@ -123,7 +126,8 @@ impl Tree {
     /// A birth gets this node, in place of one that it may have. `NoMemory` comes only where it has none, and leaves the tree as
     /// before.
     pub(crate) fn put(&mut self, birth: u64, node: Node) -> Result<(), NoMemory>
-        requires { HasRoom self.old birth (blocks_of node) }
+        requires room { HasRoom self.old birth (blocks_of node) }
+        requires target { HasTarget node }
         ensures ok { OnOk result (self.new ≡ with_node self.old birth node) }
         ensures swapped { IsSwapped self.old.nodes birth self.new.nodes }
         ensures err { OnErr result (self.new ≡ self.old) }
@@ -140,6 +144,7 @@ impl Tree {
     pub(crate) fn replace(&mut self, birth: u64, node: Node)
         requires there { IsSome (node_at self.old birth) }
         requires room { HasRoom self.old birth (blocks_of node) }
+        requires target { HasTarget node }
         ensures { self.new ≡ with_node self.old birth node }
     {
         match self.put(birth, node) {
@@ -224,7 +229,8 @@ impl Tree {
 
     /// The lines of the tree, from the root: each directory before its entries, entries in order of their bytes.
     pub fn lines(&self) -> Result<Vec<Said>, NoMemory>
-        ensures { IfOk result (λ lines. lines.items ≡ tree_lines self.now) }
+        ensures is { IfOk result (λ lines. lines.items ≡ tree_lines self.now) }
+        ensures proper { IfOk result (λ lines. AreProper lines.items) }
     {
         let mut lines = Vec::new(self.alloc);
         let root = Text::new(self.alloc);

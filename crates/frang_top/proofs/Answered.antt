@@ -16,10 +16,9 @@ use Rattle.tree_definitions.specs.Live.{number_of}
 use Rattle.tree_definitions.specs.Transcript.{Off, Up, after_answer, is_mount, is_own, may_answer, may_mount, may_refuse}
 use Rattle.tree_laws.specs.WellFormed.{BirthsAscend}
 use Rattle.tree_laws.proofs.OrderLaws.{births_apply, segments_apply}
-use Rattle.script_definitions.specs.SaidReading.{IsProperReply}
-use Rattle.script_definitions.specs.Sayable.{HasCounts, IsAppliedOf, IsAnswerOf, IsSayableOp, IsSayableReply, IsSureCell, IsSureTree, IsTreeReply}
+use Rattle.script_definitions.specs.SaidReading.{IsProperReply, is_target}
+use Rattle.script_definitions.specs.Sayable.{IsAppliedOf, IsAnswerOf, IsSayableOp, IsSureCell, IsSureTree, IsTreeReply}
 use Rattle.script_definitions.proofs.SayableTrees.{apply_sayable}
-use Rattle.script_definitions.proofs.SayableLines.{proper_reply}
 use Rattle.file_tree.specs.CanApply.{CanApply}
 use Rattle.file_tree.specs.Replies.{answer_of, gives}
 use Rattle.file_tree.specs.Sure.{is_sure, shows_sure}
@@ -45,15 +44,6 @@ reply_of m (reply.Shown bytes) h = shown_small bytes h
 reply_of m reply.Ok h = h
 reply_of m r h = h
 
-sayable_of : (m : ℕ) (r : Reply) → IsTreeReply m r → IsSayableReply r
-sayable_of m reply.Down h = absurd h
-sayable_of m reply.Expired h = absurd h
-sayable_of m reply.Io h = absurd h
-sayable_of m reply.Already h = absurd h
-sayable_of m reply.Mounted h = absurd h
-sayable_of m (reply.NoBlock n) h = tt
-sayable_of m r h = h
-
 second : {A : Type 0} (l a : Bool) (x y : A) → l ≡ false → a ≡ true → cond l x (cond a y x) ≡ y
 second true a x y e f = cc
 second false true x y e f = refl
@@ -77,10 +67,10 @@ own_up : (o : Op) (m : ℕ) (r : Reply) → is_path_op o ≡ true → IsTreeRepl
 own_up o m r path own = ap (λ b. cond b (may_mount Up false false r) (is_own o r)) (not_mount o path) ∙ tree_own o m r path own
 
 -- an operation over a path, on a server that is mounted
-pub answers_applied : (number : ℕ) (o : Op) (before after : Server) (r : Reply) → IsReady before → before.mounted ≡ true → is_path_op o ≡ true → IsSayableOp o → HasCounts r
+pub answers_applied : (number : ℕ) (o : Op) (before after : Server) (r : Reply) → IsReady before → before.mounted ≡ true → is_path_op o ≡ true → IsSayableOp o → IsProperReply r
     → apply before.tree o (number_of 1 number) before.dir_blocks ≡ gives after.tree r → after.mounted ≡ before.mounted → after.dir_blocks ≡ max before.dir_blocks (count_of dir_blocks after.tree)
     → Answers number o before r after
-answers_applied number o before after r ready up path can counts is mounted most =
+answers_applied number o before after r ready up path can proper is mounted most =
     let m = before.dir_blocks in
     let e = entry_of number o r in
     let sure = sure_applied before.tree o (number_of 1 number) m ready.sure can in
@@ -100,7 +90,7 @@ answers_applied number o before after r ready up path can counts is mounted most
         births = subst BirthsAscend (ap (λ a. a.tree) is) (births_apply before.tree o (number_of 1 number) m ready.births);
         sure = subst IsSureTree (ap (λ a. a.tree) is) sure.tree;
       };
-      proper = proper_reply r (sayable_of m r own) counts;
+      proper = proper;
     }
 
 -- an operation that changes no tree
@@ -169,7 +159,7 @@ shows_answer (Plain r) h = refl
 shows_answer (Shows cells) h = shows_bytes cells h
 
 pub can_apply : (tree : FileTree) (o : Op) → IsSureTree tree → IsProperOp o → IsSayableOp o → is_path_op o ≡ true → CanApply tree o
-can_apply tree (op.Symlink path target) sure proper can path-op = proper.1
+can_apply tree (op.Symlink path target) sure proper can path-op = let e : is_target target ≡ true = can.1 in search rules
 can_apply tree (op.Read path off len) sure proper can path-op = shows_answer (apply tree (op.Read path off len) 0 0).answer (sure_applied tree (op.Read path off len) 0 0 sure can).answer
 can_apply tree op.Sync sure proper can h = cc
 can_apply tree op.Mount sure proper can h = cc
