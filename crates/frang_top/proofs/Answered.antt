@@ -1,5 +1,5 @@
 -- What a server answers to an operation over a path is its own reply, fits the history and leaves the server ready.
-use Rattle.std.proofs.Common.{◌≡◌, ℕ, ◌+◌, ◌-◌, ◌≤◌, ◌<◌, Bool, true, false, ◌&&◌, ◌||◌, cond, List, [], ◌∷◌, map, refl, sym, ◌∙◌, ap, subst, arith, max}
+use Rattle.std.proofs.Common.{◌≡◌, not, ℕ, ◌+◌, ◌-◌, ◌≤◌, ◌<◌, Bool, true, false, ◌&&◌, ◌||◌, cond, List, [], ◌∷◌, map, refl, sym, ◌∙◌, ap, subst, arith, max}
 use Rattle.std.specs.List.{All, list_all}
 use Rattle.std.proofs.lemmas.List.Elements.{All-nil, All-cons, All-head, All-tail}
 use Rattle.frang_base.specs.declared.op.Op.{Op}
@@ -8,23 +8,29 @@ use Rattle.frang_base.specs.declared.reply.Reply.{Reply}
 use Rattle.frang_base.specs.declared.reply.Reply.TheVariants as reply
 use Rattle.tree_definitions.specs.declared.cells.Cell.{Cell}
 use Rattle.tree_definitions.specs.declared.cells.Cell.TheVariants.{Byte, Doubtful}
+use Rattle.frang_base.specs.Name.{is_name}
+use Rattle.frang_base.specs.declared.said.Said.{Said}
 use Rattle.tree_definitions.specs.declared.history.Entry.{Entry}
-use Rattle.tree_definitions.specs.Tree.{FileTree, count_of, dir_blocks}
+use Rattle.tree_definitions.specs.declared.node.Node.{Node}
+use Rattle.tree_definitions.specs.declared.node.Node.TheVariants.{Dir}
+use Rattle.tree_definitions.specs.Tree.{FileTree, fresh, count_of, dir_blocks}
 use Rattle.tree_definitions.specs.Apply.{Answer, Applied, Plain, Shows, apply, is_path_op}
 use Rattle.tree_definitions.specs.History.{agrees, applied, after_read, fits, is_answer, leaves_tree, may_tell, told_blocks, tree_after}
 use Rattle.tree_definitions.specs.Live.{number_of}
 use Rattle.tree_definitions.specs.Transcript.{Off, Up, after_answer, is_mount, is_own, may_answer, may_mount, may_refuse}
 use Rattle.tree_laws.specs.WellFormed.{BirthsAscend}
+use Rattle.tree_laws.proofs.FreshLaws.{fresh_well}
 use Rattle.tree_laws.proofs.OrderLaws.{births_apply, segments_apply}
-use Rattle.script_definitions.specs.SaidReading.{IsProperReply, is_target}
-use Rattle.script_definitions.specs.Sayable.{IsAppliedOf, IsAnswerOf, IsSayableOp, IsSureCell, IsSureTree, IsTreeReply}
+use Rattle.script_definitions.specs.SaidReading.{IsProperReply, IsProperSaid, is_target}
+use Rattle.script_definitions.specs.Sayable.{IsNodeOf, IsAppliedOf, IsAnswerOf, IsSayableOp, IsSureCell, IsSureTree, IsTreeReply}
 use Rattle.script_definitions.proofs.SayableTrees.{apply_sayable}
 use Rattle.file_tree.specs.CanApply.{CanApply}
+use Rattle.file_tree.specs.Proper.{AreProper}
 use Rattle.file_tree.specs.Replies.{answer_of, gives}
 use Rattle.file_tree.specs.Sure.{is_sure, shows_sure}
 use Rattle.script_definitions.specs.ScriptGrammar.{IsProperOp}
 use Rattle.frang_top.specs.declared.server.Server.{Server}
-use Rattle.frang_top.specs.Answering.{Answers, IsReady, entry_of, state_with}
+use Rattle.frang_top.specs.Answering.{Answers, IsFirst, IsReady, entry_of, state_with}
 use Rattle.frang_top.proofs.HistoryLaws.{both}
 use Rattle.frang_top.proofs.Applying.{agrees_self, told_may, told_same, tree_applies, tree_own, tree_state}
 use Rattle.frang_top.proofs.Reading.{read_same}
@@ -159,7 +165,7 @@ shows_answer (Plain r) h = refl
 shows_answer (Shows cells) h = shows_bytes cells h
 
 pub can_apply : (tree : FileTree) (o : Op) → IsSureTree tree → IsProperOp o → IsSayableOp o → is_path_op o ≡ true → CanApply tree o
-can_apply tree (op.Symlink path target) sure proper can path-op = let e : is_target target ≡ true = can.1 in search rules
+can_apply tree (op.Symlink path target) sure proper can path-op = can.1
 can_apply tree (op.Read path off len) sure proper can path-op = shows_answer (apply tree (op.Read path off len) 0 0).answer (sure_applied tree (op.Read path off len) 0 0 sure can).answer
 can_apply tree op.Sync sure proper can h = cc
 can_apply tree op.Mount sure proper can h = cc
@@ -169,3 +175,24 @@ can_apply tree (op.CrashAt k) sure proper can h = cc
 can_apply tree (op.CutAt k) sure proper can h = cc
 can_apply tree op.Stall sure proper can h = cc
 can_apply tree o sure proper can h = tt
+
+-- an operation that isn't a mount
+pub other_op : (o : Op) → (o ≡ op.Mount → ⊥) → is_mount o ≡ false
+other_op op.Mount h = absurd (h refl)
+other_op o h = refl
+
+-- a server before its first line is ready
+fresh_sure : (segments : ℕ) → IsSureTree (fresh segments)
+fresh_sure segments = All-cons (IsNodeOf IsSureCell) (Dir [] 0) [] (All-nil (λ name. is_name name ≡ true)) (All-nil (IsNodeOf IsSureCell))
+
+pub first_ready : (server : Server) → IsFirst server → IsReady server
+first_ready server first = record {
+  counted = subst (λ t. count_of dir_blocks t ≤ server.dir_blocks) (sym first.tree) (let none : 0 ≤ server.dir_blocks = omega arith in none);
+  births = subst BirthsAscend (sym first.tree) (fresh_well server.tree.segments).births;
+  sure = subst IsSureTree (sym first.tree) (fresh_sure server.tree.segments);
+}
+
+-- lines of which each can be said
+pub all_proper : (lines : List Said) → AreProper lines → All IsProperSaid lines
+all_proper [] h = All-nil IsProperSaid
+all_proper (x ∷ lines) h = All-cons IsProperSaid x lines h.0 (all_proper lines h.1)

@@ -102,3 +102,9 @@ follows_stays script k place state (l ∷ ls) (said.Answer s n r ∷ saids) is e
 follows_stays script k place state [] (x ∷ saids) is each = absurd is
 follows_stays script k place state (l ∷ ls) [] is each = absurd is
 follows_stays script k place state (l ∷ ls) (_ ∷ saids) is each = absurd is
+
+-- so many lines stand before one
+pub taken_count : (script : List Line) (i : ℕ) (line : Line) → slice_get script i ≡ Some line → length (take i script) ≡ i
+taken_count [] i line at = cc
+taken_count (l ∷ ls) zero line at = refl
+taken_count (l ∷ ls) (suc i) line at = ap suc (taken_count ls i line at)
