@@ -75,10 +75,11 @@ shown_bytes tree after cells off len bytes false is =
 shown_at : (tree after : FileTree) (off len : ℕ) (bytes : List ℕ) (b : ℕ) (o : Option Node) → BirthsAscend tree → node_at tree b ≡ o
     → if_file tree (λ b cells links. shown tree cells off len) b o ≡ gives after (reply.Shown bytes) → (after ≡ tree) × (with_shown tree (file_of b o) off bytes ≡ tree)
 shown_at tree after off len bytes b (Some (File cells links)) births found is =
-    let parts = shown_bytes tree after cells off len bytes (nat_lt (length cells) off) is in
-    (parts.1,
-    ap (λ new. with_node tree b (File (overwritten cells off new) links)) parts.0
-    ∙ ap (λ new. with_node tree b (File new links)) (over_same cells off len) ∙ put_same_node tree b (File cells links) births found)
+    let parts = shown_bytes tree after cells off len bytes (nat_lt (length cells) off) is in (
+      parts.1,
+      ap (λ new. with_node tree b (File (overwritten cells off new) links)) parts.0
+          ∙ ap (λ new. with_node tree b (File new links)) (over_same cells off len) ∙ put_same_node tree b (File cells links) births found,
+    )
 shown_at tree after off len bytes b (Some (Dir entries blocks)) births found is = let bad : Plain reply.IsDir ≡ Shows (map Byte bytes) = ap (λ a. a.answer) is in cc
 shown_at tree after off len bytes b (Some (Link target links)) births found is = let bad : Plain reply.Inval ≡ Shows (map Byte bytes) = ap (λ a. a.answer) is in cc
 shown_at tree after off len bytes b None births found is = let bad : Plain reply.NoEnt ≡ Shows (map Byte bytes) = ap (λ a. a.answer) is in cc

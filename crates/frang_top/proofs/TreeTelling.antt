@@ -171,8 +171,8 @@ told_end o script lines told after now says =
       always = always_says o script after saids acts_are proper (always-push o script now.saids said.End now.always run);
       whole = λ acts is.
           (let said = says_run o script acts saids (acts_are acts is) proper run in
-           let back : saids ≡ saids_of acts = sym (ap saids_of (acts_are acts is) ∙ read_back saids proper) in
-           record { says = said.says; run = said.run; answered = ap (are_answered script) (sym back) ∙ answered; ended = ap (list_any is_end) (sym back) ∙ ended });
+          let back : saids ≡ saids_of acts = sym (ap saids_of (acts_are acts is) ∙ read_back saids proper) in
+          record { says = said.says; run = said.run; answered = ap (are_answered script) (sym back) ∙ answered; ended = ap (list_any is_end) (sym back) ∙ ended });
     }
   where
     or_true : (b : Bool) → b || true ≡ true

@@ -145,17 +145,17 @@ served o script i before after told line r op first built at now asks own answer
     let who : line.who ≡ record { 0 = 0 } = ap (λ n. record { 0 = n }) own in
     let entry : item_of script o.run (answer line r) ≡ Did e ∷ []
     = item_by o script line r found ∙ ap (λ w. item_of_what o.run line.who r line.number w) asks
-      ∙ ap (λ s. item_of_what o.run s r line.number (Server op)) who ∙ ap (λ n. item_of_what n (record { 0 = 0 }) r line.number (Server op)) first in
+    ∙ ap (λ s. item_of_what o.run s r line.number (Server op)) who ∙ ap (λ n. item_of_what n (record { 0 = 0 }) r line.number (Server op)) first in
     let reply : may_reply script no_faults saids line.who.0 line.number line.what r ≡ true
     = ap (λ n. may_reply script no_faults saids n line.number line.what r) own ∙ ap (λ w. may_reply script no_faults saids 0 line.number w r) asks
-      ∙ may_server script i before.mounted saids line op r built at now.follows now.state_is answers.may in
+    ∙ may_server script i before.mounted saids line op r built at now.follows now.state_is answers.may in
     let tree_grows : count_of dir_blocks (tree_after (tree_of o history) e) - count_of dir_blocks (tree_of o history) ≡ count_of dir_blocks after.tree - count_of dir_blocks before.tree
     = ap (λ t. count_of dir_blocks (tree_after t e) - count_of dir_blocks t) (sym now.tree_is) ∙ ap (λ t. count_of dir_blocks t - count_of dir_blocks before.tree) (sym answers.tree_is) in
     let ever = ever-push o history e ∙ ap (λ n. ever_of o script saids + n) tree_grows in
     let more : after.dir_blocks ≤ ever_of o script saids + (count_of dir_blocks after.tree - count_of dir_blocks before.tree)
     = (let a : after.dir_blocks ≤ before.dir_blocks + (count_of dir_blocks after.tree - count_of dir_blocks before.tree) = answers.grown in
-       let b : before.dir_blocks ≤ ever_of o script saids = now.blocks in
-       omega arith) in
+    let b : before.dir_blocks ≤ ever_of o script saids = now.blocks in
+    omega arith) in
     record {
       items = Did e ∷ [];
       item_is = entry;

@@ -7,9 +7,9 @@ ghost use Rattle.script_definitions.specs.ScriptGrammar.{IsProperOp};
 ghost use Rattle.frang_top.specs.Built.{is_built_op, IsBuiltLine};
 ghost use Rattle.frang_top.specs.Answering.{Answers, IsFirst, IsReady, Replies};
 
+use file_tree::Tree;
 use frang_base::{Line, NoMemory, Op, OpNo, Reply, What};
 use std::alloc::Global;
-use file_tree::Tree;
 
 // Operations are numbered from this on in the first run: its number times 2^32.
 const FIRST_RUN: u64 = 1 << 32;
