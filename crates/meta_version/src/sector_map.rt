@@ -85,7 +85,7 @@ impl<T: Drop> SectorMap<T> {
         ensures spare { self.new.spare + room_for self.old.entries sector.0 ≡ self.old.spare }
     {
         match self.place(sector) {
-            Ok(at) => self.entries[at].1 = value,
+            Ok(at) => self.entries[at] = (sector.0, value),
             Err(at) => match self.entries.insert(at, (sector.0, value)) {
                 Ok(()) => {}
                 Err(_) => unreachable!(),

@@ -1,0 +1,2 @@
+pub mod SectorPlaces
+pub mod BlockBytes
