@@ -148,3 +148,35 @@ module _ {V : Type 0} where
   ascend_some (b ∷ kept) [] sorted = tt
   ascend_some (true ∷ kept) (entry ∷ entries) sorted = (above_some entry.0 kept entries sorted.0, ascend_some kept entries sorted.1)
   ascend_some (false ∷ kept) (entry ∷ entries) sorted = ascend_some kept entries sorted.1
+
+  -- ---- adjusting by one function or another
+
+  -- only what a function makes of the value at the sector counts
+  pub adjusted_same : (f g : V → V) (entries : List (ℕ × V)) (sector : ℕ) (value : V) → value_at entries sector ≡ Some value → f value ≡ g value → adjusted f entries sector ≡ adjusted g entries sector
+  adjusted_same f g [] sector value there same = refl
+  adjusted_same f g (entry ∷ entries) sector value there same = go (is_at (nat_cmp sector) entry.0) refl (adjusted_same f g entries sector value)
+    where
+      go : (b : Bool) → is_at (nat_cmp sector) entry.0 ≡ b → (value_at entries sector ≡ Some value → f value ≡ g value → adjusted f entries sector ≡ adjusted g entries sector)
+          → (if b then (entry.0, f entry.1) ∷ entries else entry ∷ adjusted f entries sector) ≡ (if b then (entry.0, g entry.1) ∷ entries else entry ∷ adjusted g entries sector)
+      go true is rest =
+          let here : Some entry.1 ≡ Some value = ap (λ b. if b then Some entry.1 else value_at entries sector) (sym is) ∙ there in
+          let at : entry.1 ≡ value = cc here in
+          ap (λ v. (entry.0, v) ∷ entries) (ap f at ∙ same ∙ sym (ap g at))
+      go false is rest = ap (λ tail. entry ∷ tail) (rest (ap (λ b. if b then Some entry.1 else value_at entries sector) (sym is) ∙ there) same)
+
+  pub adjusted-adjusted : (f g : V → V) (entries : List (ℕ × V)) (sector : ℕ) → adjusted g (adjusted f entries sector) sector ≡ adjusted (λ v. g (f v)) entries sector
+  adjusted-adjusted f g [] sector = refl
+  adjusted-adjusted f g (entry ∷ entries) sector = go (is_at (nat_cmp sector) entry.0) refl (adjusted-adjusted f g entries sector)
+    where
+      go : (b : Bool) → is_at (nat_cmp sector) entry.0 ≡ b → adjusted g (adjusted f entries sector) sector ≡ adjusted (λ v. g (f v)) entries sector
+          → adjusted g (if b then (entry.0, f entry.1) ∷ entries else entry ∷ adjusted f entries sector) sector ≡ (if b then (entry.0, g (f entry.1)) ∷ entries else entry ∷ adjusted (λ v. g (f v)) entries sector)
+      go true is rest = ap (λ b. if b then (entry.0, g (f entry.1)) ∷ entries else (entry.0, f entry.1) ∷ adjusted g entries sector) is
+      go false is rest = ap (λ b. if b then (entry.0, g entry.1) ∷ adjusted f entries sector else entry ∷ adjusted g (adjusted f entries sector) sector) is ∙ ap (λ tail. entry ∷ tail) rest
+
+  pub adjusted_by_nothing : (entries : List (ℕ × V)) (sector : ℕ) → adjusted (λ v. v) entries sector ≡ entries
+  adjusted_by_nothing [] sector = refl
+  adjusted_by_nothing (entry ∷ entries) sector = go (is_at (nat_cmp sector) entry.0) (adjusted_by_nothing entries sector)
+    where
+      go : (b : Bool) → adjusted (λ v. v) entries sector ≡ entries → (if b then (entry.0, entry.1) ∷ entries else entry ∷ adjusted (λ v. v) entries sector) ≡ entry ∷ entries
+      go true rest = refl
+      go false rest = ap (λ tail. entry ∷ tail) rest

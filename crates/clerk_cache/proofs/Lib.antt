@@ -1,0 +1,5 @@
+pub mod Joining
+pub mod Rooms
+pub mod Edits
+pub mod Dropped
+pub mod DropLaws

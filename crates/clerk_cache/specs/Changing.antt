@@ -1,11 +1,11 @@
 -- What a change, a clean and a move of a cover make of a cached sector.
-use Rattle.std.specs.Prelude.{ℕ, Option, Some, None, Bool, false, if◌then◌else◌}
+use Rattle.std.specs.Prelude.{ℕ, Some, None, Bool, false, if◌then◌else◌}
 use Rattle.std.specs.Option.{option_map_or}
 use Rattle.frang_base.specs.declared.lock.LockId.{LockId}
 use Rattle.frang_base.specs.declared.change.Change.{Change}
 use Rattle.cells.specs.Blocks.{Block, same_block}
 use Rattle.change_definitions.specs.Changes.{changed}
-use Rattle.change_definitions.specs.SectorMaps.{with_value, adjusted}
+use Rattle.change_definitions.specs.SectorMaps.{adjusted}
 use Rattle.clerk_cache.specs.Cached.{Cached, Contents, block_at}
 
 -- a sector as the disk has it

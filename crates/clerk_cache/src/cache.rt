@@ -7,6 +7,7 @@ ghost use Rattle.change_definitions.specs.Changes.{is_change};
 ghost use Rattle.change_definitions.specs.SectorMaps.{value_at, with_value, without, adjusted, room_for};
 ghost use Rattle.meta_version.specs.Updates.{IsOlder};
 ghost use Rattle.clerk_cache.specs.Cached.{block_at, cover_at, blocks_of, marks_of};
+ghost use Rattle.clerk_cache.specs.Kept.{cached_of, state_at, is_state_under, is_state_dirty_under, first_dirty_state, is_sector_under, state_marks};
 ghost use Rattle.clerk_cache.specs.Changing.{clean, dirty, holds, with_change, with_written, with_cover};
 ghost use Rattle.clerk_cache.specs.Dropping.{first_dirty, dropped, DropOutcome};
 
@@ -43,6 +44,52 @@ impl Model for Cache {
 #[derive(Clone, Copy, Debug, PartialEq, Eq)]
 pub struct Dirty {
     pub sector: Sector,
+}
+
+// The sector of this state is under the lock.
+fn is_under(state: &SectorState, lock: LockId) -> bool
+    ensures { result ≡ is_state_under lock state.now }
+{
+    state.cover == lock
+}
+
+// The sector of this state is under the lock and dirty.
+fn is_dirty_under(state: &SectorState, lock: LockId) -> bool
+    ensures { result ≡ is_state_dirty_under lock state.now }
+{
+    is_under(state, lock) && state.mark.is_some()
+}
+
+// The first sector of these that is under the lock and dirty.
+fn first_dirty(states: &[(u64, SectorState)], lock: LockId) -> Option<u64>
+    ensures { result ≡ first_dirty_state lock states.now }
+{
+    let entry = states.iter().find(|entry| is_dirty_under(&entry.1, lock))?;
+    Some(entry.0)
+}
+
+// The sector is in the map, and under the lock.
+fn is_sector_under(states: &SectorMap<SectorState>, sector: u64, lock: LockId) -> bool
+    ensures { result ≡ is_sector_under lock states.now.entries sector }
+{
+    match states.get(Sector(sector)) {
+        Some(state) => is_under(state, lock),
+        None => false,
+    }
+}
+
+// The dirty sectors of these, with their marks.
+fn marks_of(alloc: Global, states: &[(u64, SectorState)]) -> Result<Vec<Mark>, NoMemory>
+    ensures { IfOk result (λ marks. marks.items ≡ state_marks states.now) }
+{
+    let mut marks = Vec::new(alloc);
+    for entry in states {
+        if let Some(mark) = entry.1.mark {
+            let sector = Sector(entry.0);
+            marks.push(Mark { sector, mark })?;
+        }
+    }
+    Ok(marks)
 }
 
 impl Cache {
@@ -82,22 +129,46 @@ impl Cache {
         self.sectors.get(sector)
     }
 
+    // What is kept of a sector beside its block.
+    fn state(&self, sector: Sector) -> Option<SectorState>
+        ensures { result ≡ state_at self.now.entries sector.0 }
+    {
+        self.states.get(sector).copied()
+    }
+
     /// The lock that covers a sector. `None` exactly where the sector isn't cached.
     pub fn cover(&self, sector: Sector) -> Option<LockId>
         ensures { result ≡ cover_at self.now.entries sector.0 }
     {
-        let state = self.states.get(sector)?;
-        Some(state.cover)
+        self.state(sector).map(|state| state.cover)
+    }
+
+    // Caches a sector with this block and the rest.
+    fn set(&mut self, sector: Sector, block: Block, state: SectorState)
+        requires { room_for self.old.entries sector.0 ≤ self.old.spare }
+        ensures entries { self.new.entries ≡ with_value self.old.entries sector.0 (cached_of block state) }
+        ensures spare { self.new.spare + room_for self.old.entries sector.0 ≡ self.old.spare }
+    {
+        self.sectors.put(sector, block);
+        self.states.put(sector, state);
+    }
+
+    // Keeps this beside the block of a cached sector.
+    fn set_state(&mut self, sector: Sector, state: SectorState)
+        requires { IsSome (value_at self.old.entries sector.0) }
+        ensures entries { self.new.entries ≡ adjusted (λ cached. cached_of cached.block state) self.old.entries sector.0 }
+        ensures spare { self.new.spare ≡ self.old.spare }
+    {
+        self.states.put(sector, state);
     }
 
     /// Caches a sector as the disk has it, under this lock. The sector is cached already, or there is room. It takes no memory.
     pub fn set_clean(&mut self, sector: Sector, block: Block, cover: LockId)
         requires { room_for self.old.entries sector.0 ≤ self.old.spare }
         ensures entries { self.new.entries ≡ with_value self.old.entries sector.0 (clean block cover) }
-        ensures spare { self.old.spare ≤ self.new.spare + room_for self.old.entries sector.0 }
+        ensures spare { self.new.spare + room_for self.old.entries sector.0 ≡ self.old.spare }
     {
-        self.sectors.put(sector, block);
-        self.states.put(sector, SectorState { cover, mark: None });
+        self.set(sector, block, SectorState { cover, mark: None });
     }
 
     /// Caches a sector with bytes that the disk doesn't have yet, with this mark and under this lock. The sector is cached already, or
@@ -105,16 +176,10 @@ impl Cache {
     pub fn set_bytes(&mut self, sector: Sector, block: Block, mark: u64, cover: LockId)
         requires { room_for self.old.entries sector.0 ≤ self.old.spare }
         ensures entries { self.new.entries ≡ with_value self.old.entries sector.0 (dirty block mark cover) }
-        ensures spare { self.old.spare ≤ self.new.spare + room_for self.old.entries sector.0 }
+        ensures spare { self.new.spare + room_for self.old.entries sector.0 ≡ self.old.spare }
     {
-        self.sectors.put(sector, block);
-        self.states.put(
-            sector,
-            SectorState {
-                cover,
-                mark: Some(mark),
-            },
-        );
+        let mark = Some(mark);
+        self.set(sector, block, SectorState { cover, mark });
     }
 
     /// Lays a change over its sector, which is cached and older than the change. The sector is then dirty with this mark, and under
@@ -126,13 +191,8 @@ impl Cache {
         ensures spare { self.new.spare ≡ self.old.spare }
     {
         self.sectors.change(change);
-        self.states.put(
-            change.sector,
-            SectorState {
-                cover,
-                mark: Some(mark),
-            },
-        );
+        let mark = Some(mark);
+        self.set_state(change.sector, SectorState { cover, mark });
     }
 
     /// The sector isn't cached afterwards, whether it was dirty or not. It takes no memory.
@@ -169,12 +229,14 @@ impl Cache {
         ensures entries { self.new.entries ≡ adjusted (λ cached. clean cached.block cached.cover) self.old.entries sector.0 }
         ensures spare { self.new.spare ≡ self.old.spare }
     {
-        if let Some(state) = self.states.get(sector) {
-            let cleaned = SectorState {
-                mark: None,
-                ..*state
-            };
-            self.states.put(sector, cleaned);
+        if let Some(state) = self.state(sector) {
+            self.set_state(
+                sector,
+                SectorState {
+                    mark: None,
+                    ..state
+                },
+            );
         }
     }
 
@@ -183,35 +245,14 @@ impl Cache {
         ensures marks { IfOk result (λ marks. marks.items ≡ marks_of self.now.entries) }
         ensures ordered { IfOk result (λ marks. IsStrictlySortedBy (on (λ mark. mark.sector.0) nat_cmp) marks.items) }
     {
-        let mut marks = Vec::new(self.alloc);
-        for (sector, state) in self.states.entries() {
-            if let Some(mark) = state.mark {
-                marks.push(Mark {
-                    sector: Sector(*sector),
-                    mark,
-                })?;
-            }
-        }
-        Ok(marks)
-    }
-
-    // The first dirty sector under the lock.
-    fn first_dirty(&self, lock: LockId) -> Option<Sector>
-        ensures { option_map (λ sector. sector.0) result ≡ first_dirty lock self.now.entries }
-    {
-        let (sector, _) = self
-            .states
-            .entries()
-            .iter()
-            .find(|(_, state)| state.cover == lock && state.mark.is_some())?;
-        Some(Sector(*sector))
+        marks_of(self.alloc, self.states.entries())
     }
 
     /// No sector under this lock is dirty: exactly then `drop_cover` answers `Ok`.
     pub fn is_clean(&self, lock: LockId) -> bool
         ensures { result ≡ not (is_some (first_dirty lock self.now.entries)) }
     {
-        self.first_dirty(lock).is_none()
+        first_dirty(self.states.entries(), lock).is_none()
     }
 
     /// Puts a cached sector under another lock. Its block and its mark stay. It takes no memory.
@@ -220,11 +261,8 @@ impl Cache {
         ensures entries { self.new.entries ≡ with_cover self.old.entries sector.0 cover }
         ensures spare { self.new.spare ≡ self.old.spare }
     {
-        match self.states.get(sector) {
-            Some(state) => {
-                let moved = SectorState { cover, ..*state };
-                self.states.put(sector, moved);
-            }
+        match self.state(sector) {
+            Some(state) => self.set_state(sector, SectorState { cover, ..state }),
             None => unreachable!(),
         }
     }
@@ -235,11 +273,9 @@ impl Cache {
         ensures spare { self.old.spare ≤ self.new.spare }
     {
         let states = &self.states;
-        self.sectors.retain(|(sector, _)| match states.get(Sector(*sector)) {
-            Some(state) => state.cover != lock,
-            None => true,
-        });
-        self.states.retain(|(_, state)| state.cover != lock);
+        self.sectors
+            .retain(|entry| !is_sector_under(states, entry.0, lock));
+        self.states.retain(|entry| !is_under(&entry.1, lock));
     }
 
     /// Drops all sectors under a lock from the cache. `Dirty` comes exactly where one of them is dirty, and names the first such;
@@ -248,7 +284,8 @@ impl Cache {
         ensures outcome { DropOutcome lock self.old.entries self.new.entries result }
         ensures spare { self.old.spare ≤ self.new.spare }
     {
-        if let Some(sector) = self.first_dirty(lock) {
+        if let Some(sector) = first_dirty(self.states.entries(), lock) {
+            let sector = Sector(sector);
             return Err(Dirty { sector });
         }
         self.drop_all(lock);

@@ -16,7 +16,7 @@ pub fn covers_are_dropped_clean()
     ensures clean { (lock : LockId) (contents : Contents) → first_dirty lock contents ≡ None → (s : ℕ) (cached : Cached) → value_at contents s ≡ Some cached → is_under lock cached ≡ true → cached.mark ≡ None }
     ensures marks { (lock : LockId) (contents : Contents) → first_dirty lock contents ≡ None → marks_of (dropped lock contents) ≡ marks_of contents }
     ensures gone { (lock : LockId) (contents : Contents) → Ascend contents → (s : ℕ) (cached : Cached) → value_at contents s ≡ Some cached → is_under lock cached ≡ true → value_at (dropped lock contents) s ≡ None }
-    ensures others { (lock : LockId) (contents : Contents) → Ascend contents → (s : ℕ) (cached : Cached) → value_at contents s ≡ Some cached → is_under lock cached ≡ false → value_at (dropped lock contents) s ≡ Some cached }
+    ensures others { (lock : LockId) (contents : Contents) → (s : ℕ) (cached : Cached) → value_at contents s ≡ Some cached → is_under lock cached ≡ false → value_at (dropped lock contents) s ≡ Some cached }
 {}
 
 /// After a change its sector is dirty with the change's mark and under its lock, and holds the changed block.
