@@ -3,3 +3,4 @@ pub mod Rooms
 pub mod Edits
 pub mod Dropped
 pub mod DropLaws
+pub mod CacheExamples
