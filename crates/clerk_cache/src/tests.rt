@@ -52,6 +52,13 @@ fn try_change(cache: &mut Cache, change: &Change, mark: u64, cover: LockId) -> b
     true
 }
 
+// Caches bytes that the disk doesn't have, under the node.
+fn put_bytes(cache: &mut Cache, sector: u64, block: Block, mark: u64) -> Result<(), NoMemory> {
+    cache.reserve(1)?;
+    cache.set_bytes(Sector(sector), block, mark, NODE);
+    Ok(())
+}
+
 // Puts a cached sector under another lock.
 fn try_move(cache: &mut Cache, sector: u64, cover: LockId) {
     if cache.cover(Sector(sector)).is_some() {
@@ -94,7 +101,7 @@ fn a_changed_sector_is_dirty_until_it_is_written(rt: HostRuntime) -> Result<(), 
 #[test]
 fn a_cover_is_dropped_only_clean(rt: HostRuntime) -> Result<(), Fail> {
     let mut cache = small_cache(rt.alloc())?;
-    cache.set_bytes(Sector(5), block_of(0, 51), 257, NODE);
+    put_bytes(&mut cache, 5, block_of(0, 51), 257)?;
     try_move(&mut cache, 5, SEGMENT);
     assert_eq!(rt; cache.drop_cover(SEGMENT), Err(Dirty { sector: Sector(5) }));
     assert_eq!(rt; cache.drop_cover(NODE), Ok(()));
@@ -109,8 +116,8 @@ fn a_cover_is_dropped_only_clean(rt: HostRuntime) -> Result<(), Fail> {
 #[test]
 fn dirty_sectors_ascend(rt: HostRuntime) -> Result<(), Fail> {
     let mut cache = small_cache(rt.alloc())?;
-    cache.set_bytes(Sector(5), block_of(0, 51), 257, NODE);
-    cache.set_bytes(Sector(3), block_of(0, 31), 258, NODE);
+    put_bytes(&mut cache, 5, block_of(0, 51), 257)?;
+    put_bytes(&mut cache, 3, block_of(0, 31), 258)?;
     let marks = cache.dirty()?;
     assert_eq!(rt; marks.first().map(|mark| mark.sector), Some(Sector(3)));
     assert_eq!(rt; marks.last().map(|mark| mark.sector), Some(Sector(5)));
