@@ -1,0 +1,4 @@
+pub mod ChangeLaws
+pub mod MapLaws
+pub mod ChangeExamples
+pub mod MapExamples

@@ -1,0 +1,111 @@
+-- What is kept beside a block, made another, is what the definitions say.
+use Rattle.std.proofs.Common.{◌≡◌, ℕ, nat_eq, [], ◌∷◌, ◌&&◌, Bool, true, false, if◌then◌else◌, Option, Some, None, IsSome, subst, refl, sym, ap, ◌∙◌}
+use Rattle.std.specs.Cmp.Lexicographic.{pointwise}
+use Rattle.std.specs.Option.{option_map, option_map_or}
+use Rattle.frang_base.specs.declared.lock.LockId.{LockId}
+use Rattle.frang_base.specs.declared.change.Change.{Change}
+use Rattle.cells.specs.Blocks.{Block, same_block}
+use Rattle.change_definitions.specs.Changes.{changed}
+use Rattle.change_definitions.specs.SectorMaps.{value_at, adjusted}
+use Rattle.change_definitions.proofs.MapLaws.{adjusted_same, adjusted-adjusted, adjusted_nothing, adjusted_by_nothing, value_at-adjusted}
+use Rattle.meta_version.specs.Updates.{IsOlder, with_change as block_change}
+use Rattle.clerk_cache.specs.declared.state.SectorState.{SectorState}
+use Rattle.clerk_cache.specs.Cached.{Cached, Contents, block_at}
+use Rattle.clerk_cache.specs.Kept.{cached_of, state_of, state_at, joined, AreAlike}
+use Rattle.clerk_cache.proofs.Joining.{Blocks, States, joined-blocks}
+use Rattle.clerk_cache.specs.Changing.{clean, holds, written, with_written, with_cover, with_change}
+
+-- a state that is found is that of a cached sector
+pub record IsKeptOf (contents : Contents) (sector : ℕ) (state : SectorState) : Type 0 where
+  pub cached : Cached
+  pub there : value_at contents sector ≡ Some cached
+  pub same : state_of cached ≡ state
+
+pub state_there : (contents : Contents) (sector : ℕ) (state : SectorState) → state_at contents sector ≡ Some state → IsKeptOf contents sector state
+state_there contents sector state e = go (value_at contents sector) refl e
+  where
+    go : (o : Option Cached) → value_at contents sector ≡ o → option_map state_of o ≡ Some state → IsKeptOf contents sector state
+    go (Some cached) is same = record { cached = cached; there = is; same = cc same }
+    go None is same = cc same
+
+-- no longer dirty
+pub marked_clean : (contents : Contents) (sector : ℕ) (state : SectorState) → state_at contents sector ≡ Some state
+    → adjusted (λ cached. cached_of cached.block (record state { mark = None })) contents sector ≡ adjusted (λ cached. clean cached.block cached.cover) contents sector
+marked_clean contents sector state e =
+    let kept = state_there contents sector state e in
+    adjusted_same (λ cached. cached_of cached.block (record state { mark = None })) (λ cached. clean cached.block cached.cover) contents sector kept.cached kept.there (ap (λ s. clean kept.cached.block s.cover) (sym kept.same))
+
+-- under another lock
+pub moved : (contents : Contents) (sector : ℕ) (state : SectorState) (cover : LockId) → state_at contents sector ≡ Some state
+    → adjusted (λ cached. cached_of cached.block (record state { cover = cover })) contents sector ≡ with_cover contents sector cover
+moved contents sector state cover e =
+    let kept = state_there contents sector state e in
+    adjusted_same (λ cached. cached_of cached.block (record state { cover = cover })) (λ cached. record cached { cover = cover }) contents sector kept.cached kept.there
+    (ap (λ s. cached_of kept.cached.block (record { cover = cover; mark = s.mark })) (sym kept.same))
+
+-- written as it still is
+pub written_clean : (contents : Contents) (sector : ℕ) (block : Block) → holds contents sector block ≡ true → adjusted (λ cached. clean cached.block cached.cover) contents sector ≡ with_written contents sector block
+written_clean contents sector block e = go (value_at contents sector) refl e
+  where
+    go : (o : Option Cached) → value_at contents sector ≡ o → option_map_or (λ held. same_block held block) (option_map (λ cached. cached.block) o) false ≡ true
+        → adjusted (λ cached. clean cached.block cached.cover) contents sector ≡ with_written contents sector block
+    go (Some cached) is same = adjusted_same (λ c. clean c.block c.cover) (written block) contents sector cached is (sym (ap (λ b. if b then clean cached.block cached.cover else cached) same))
+    go None is same = cc same
+
+-- changed since it was written
+pub written_dirty : (contents : Contents) (sector : ℕ) (block : Block) → holds contents sector block ≡ false → contents ≡ with_written contents sector block
+written_dirty contents sector block e = go (value_at contents sector) refl e
+  where
+    go : (o : Option Cached) → value_at contents sector ≡ o → option_map_or (λ held. same_block held block) (option_map (λ cached. cached.block) o) false ≡ false
+        → contents ≡ with_written contents sector block
+    go (Some cached) is same =
+        sym (adjusted_by_nothing contents sector) ∙ adjusted_same (λ c. c) (written block) contents sector cached is (sym (ap (λ b. if b then clean cached.block cached.cover else cached) same))
+    go None is same = sym (adjusted_nothing (written block) contents sector is)
+
+-- a sector without a state isn't there
+pub nothing_there : (f : Cached → Cached) (contents : Contents) (sector : ℕ) → state_at contents sector ≡ None → contents ≡ adjusted f contents sector
+nothing_there f contents sector e = go (value_at contents sector) refl e
+  where
+    go : (o : Option Cached) → value_at contents sector ≡ o → option_map state_of o ≡ None → contents ≡ adjusted f contents sector
+    go (Some cached) is same = cc same
+    go None is same = sym (adjusted_nothing f contents sector is)
+
+-- ---- a change
+
+is_there : (o : Option Cached) (change : Change) → IsOlder (option_map (λ cached. cached.block) o) change → IsSome o
+is_there (Some cached) change older = refl
+is_there None change older = elim older [ ]
+
+some_mapped : (f : Cached → Cached) (o : Option Cached) → IsSome o → IsSome (option_map f o)
+some_mapped f (Some x) some = refl
+some_mapped f None some = some
+
+module _ (change : Change) (blocks new_blocks : Blocks) (states : States) (alike : AreAlike blocks states) (is : new_blocks ≡ block_change blocks change) where
+  -- the contents once the block is changed
+  changed_first : joined new_blocks states ≡ adjusted (λ cached. record cached { block = changed cached.block change }) (joined blocks states) change.sector.0
+  changed_first = ap (λ bs. joined bs states) is ∙ joined-blocks (λ block. changed block change) blocks states change.sector.0 alike
+
+  pub still_there : IsOlder (block_at (joined blocks states) change.sector.0) change → IsSome (value_at (joined new_blocks states) change.sector.0)
+  still_there older =
+      let g : Cached → Cached = λ cached. record cached { block = changed cached.block change } in
+      let there = is_there (value_at (joined blocks states) change.sector.0) change older in
+      subst (λ contents. IsSome (value_at contents change.sector.0)) (sym changed_first)
+      (subst IsSome (sym (value_at-adjusted g (joined blocks states) change.sector.0)) (some_mapped g (value_at (joined blocks states) change.sector.0) there))
+
+  pub then_marked : (mark : ℕ) (cover : LockId)
+      → adjusted (λ cached. cached_of cached.block (record { cover = cover; mark = Some mark })) (joined new_blocks states) change.sector.0 ≡ with_change (joined blocks states) change mark cover
+  then_marked mark cover =
+      ap (λ contents. adjusted (λ cached. cached_of cached.block (record { cover = cover; mark = Some mark })) contents change.sector.0) changed_first
+      ∙ adjusted-adjusted (λ cached. record cached { block = changed cached.block change }) (λ cached. cached_of cached.block (record { cover = cover; mark = Some mark })) (joined blocks states) change.sector.0
+
+-- ---- the comparison of blocks
+
+pub same_bytes : (a b : Block) → pointwise nat_eq a b ≡ same_block a b
+same_bytes [] [] = refl
+same_bytes [] (y ∷ b) = refl
+same_bytes (x ∷ a) [] = refl
+same_bytes (x ∷ a) (y ∷ b) = go (nat_eq x y) (same_bytes a b)
+  where
+    go : (t : Bool) → pointwise nat_eq a b ≡ same_block a b → (t && pointwise nat_eq a b) ≡ (if t then same_block a b else false)
+    go true rest = rest
+    go false rest = refl

@@ -1,0 +1,6 @@
+pub mod Joining
+pub mod Rooms
+pub mod Edits
+pub mod Dropped
+pub mod DropLaws
+pub mod CacheExamples

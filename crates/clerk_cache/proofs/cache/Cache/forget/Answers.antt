@@ -1,0 +1,17 @@
+-- Both maps lose the sector.
+use Rattle.std.proofs.Common.{ap, ◌∙◌}
+use Rattle.change_definitions.specs.SectorMaps.{without}
+use Rattle.clerk_cache.specs.Kept.{joined}
+use Rattle.clerk_cache.proofs.Joining.{kept_without, joined-without}
+use Rattle.clerk_cache.proofs.cache.Cache.forget.Goals as goal
+
+pub invariant_of-self : goal.invariant_of-self
+invariant_of-self c =
+    kept_without c.self.inside.sectors.entries c.remove.new.self.entries c.self.inside.states.entries c.remove-2.new.self.entries c.args.sector.0
+    c.self.invariant c.remove.ensures.entries c.remove-2.ensures.entries
+
+pub returns-clause-entries : goal.returns-clause-entries
+returns-clause-entries c =
+    (λ i. joined (c.remove.ensures.entries i) (c.remove-2.ensures.entries i))
+    ∙ joined-without _ _ c.args.sector.0 c.self.invariant.alike
+    ∙ ap (λ cache. without cache.entries c.args.sector.0) c.self.view_is

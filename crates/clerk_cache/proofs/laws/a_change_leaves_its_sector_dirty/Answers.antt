@@ -1,0 +1,11 @@
+-- What stands at the sector is what the change makes of it.
+use Rattle.std.proofs.Common.{ap, ◌∙◌}
+use Rattle.std.specs.Option.{option_map}
+use Rattle.change_definitions.specs.Changes.{changed}
+use Rattle.change_definitions.proofs.MapLaws.{value_at-adjusted}
+use Rattle.clerk_cache.specs.Changing.{dirty}
+use Rattle.clerk_cache.proofs.laws.a_change_leaves_its_sector_dirty.Goals as goal
+
+pub returns : goal.returns
+returns c = λ contents change mark cover cached there.
+    value_at-adjusted (λ c. dirty (changed c.block change) mark cover) contents change.sector.0 ∙ ap (option_map (λ c. dirty (changed c.block change) mark cover)) there

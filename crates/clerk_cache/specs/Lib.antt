@@ -1,0 +1,4 @@
+pub mod Cached
+pub mod Changing
+pub mod Dropping
+pub mod Kept

@@ -1,0 +1,294 @@
+// The cached sectors.
+ghost use Rattle.std.specs.Prelude.{◌≡◌, ◌+◌, ◌<◌, ◌≤◌, [], not, is_some, true, IsOk, IsSome, IfOk, OnOk};
+ghost use Rattle.std.specs.List.Sorted.{IsStrictlySortedBy};
+ghost use Rattle.std.specs.Option.{option_copied, option_map};
+ghost use Rattle.std.specs.Ordering.{nat_cmp, on};
+ghost use Rattle.change_definitions.specs.Changes.{is_change};
+ghost use Rattle.change_definitions.specs.SectorMaps.{value_at, with_value, without, adjusted, room_for};
+ghost use Rattle.meta_version.specs.Updates.{IsOlder};
+ghost use Rattle.clerk_cache.specs.Cached.{block_at, cover_at, blocks_of, marks_of};
+ghost use Rattle.clerk_cache.specs.Kept.{cached_of, state_at, is_state_under, is_state_dirty_under, first_dirty_state, is_sector_under, state_marks};
+ghost use Rattle.clerk_cache.specs.Changing.{clean, dirty, holds, with_change, with_written, with_cover};
+ghost use Rattle.clerk_cache.specs.Dropping.{first_dirty, dropped, DropOutcome};
+
+use crate::state::SectorState;
+use flush_order::Mark;
+use frang_base::{Block, Change, LockId, NoMemory, Sector};
+use meta_version::{SectorMap, Sectors};
+use std::alloc::Global;
+use std::marker::Model;
+
+/// The cached sectors of a server. Contracts see them as entries, a sector's number with its block, the lock that covers it and,
+/// where it is dirty, its mark, ascending by sector, and for how many more entries there is room.
+#[derive(Debug, Drop)]
+pub struct Cache {
+    sectors: Sectors,
+    states: SectorMap<SectorState>,
+    alloc: Global,
+}
+
+impl Model for Cache {
+    ghost use Rattle.change_definitions.specs.SectorMaps.{Spacious};
+    ghost use Rattle.clerk_cache.specs.Cached.{Cached};
+
+    ghost Value = { Spacious Cached };
+
+    ghost use Rattle.clerk_cache.specs.Kept.{cache_of, AreKept};
+
+    ghost view = { λ cache. cache_of cache.sectors cache.states };
+
+    ghost invariant = { λ cache. AreKept cache.sectors.entries cache.states.entries };
+}
+
+/// A cover isn't dropped: this sector under it is dirty.
+#[derive(Clone, Copy, Debug, PartialEq, Eq)]
+pub struct Dirty {
+    pub sector: Sector,
+}
+
+// The sector of this state is under the lock.
+fn is_under(state: &SectorState, lock: LockId) -> bool
+    ensures { result ≡ is_state_under lock state.now }
+{
+    state.cover == lock
+}
+
+// The sector of this state is under the lock and dirty.
+fn is_dirty_under(state: &SectorState, lock: LockId) -> bool
+    ensures { result ≡ is_state_dirty_under lock state.now }
+{
+    is_under(state, lock) && state.mark.is_some()
+}
+
+// The first sector of these that is under the lock and dirty.
+fn first_dirty(states: &[(u64, SectorState)], lock: LockId) -> Option<u64>
+    ensures { result ≡ first_dirty_state lock states.now }
+{
+    let entry = states.iter().find(|entry| is_dirty_under(&entry.1, lock))?;
+    Some(entry.0)
+}
+
+// The sector is in the map, and under the lock.
+fn is_sector_under(states: &SectorMap<SectorState>, sector: u64, lock: LockId) -> bool
+    ensures { result ≡ is_sector_under lock states.now.entries sector }
+{
+    match states.get(Sector(sector)) {
+        Some(state) => is_under(state, lock),
+        None => false,
+    }
+}
+
+// The dirty sectors of these, with their marks.
+fn marks_of(alloc: Global, states: &[(u64, SectorState)]) -> Result<Vec<Mark>, NoMemory>
+    ensures { IfOk result (λ marks. marks.items ≡ state_marks states.now) }
+{
+    let mut marks = Vec::new(alloc);
+    for entry in states {
+        if let Some(mark) = entry.1.mark {
+            let sector = Sector(entry.0);
+            marks.push(Mark { sector, mark })?;
+        }
+    }
+    Ok(marks)
+}
+
+impl Cache {
+    /// Nothing cached. It takes no memory.
+    pub fn new(alloc: Global) -> Cache
+        ensures { result.entries ≡ [] }
+    {
+        Cache {
+            sectors: SectorMap::new(alloc),
+            states: SectorMap::new(alloc),
+            alloc,
+        }
+    }
+
+    /// Makes room for `n` more sectors. Nothing else changes, whatever the answer. It takes no memory where there is that room.
+    pub fn reserve(&mut self, n: usize) -> Result<(), NoMemory>
+        ensures entries { self.new.entries ≡ self.old.entries }
+        ensures ok { OnOk result (n ≤ self.new.spare) }
+        ensures sure { n ≤ self.old.spare → IsOk result }
+        ensures spare { self.old.spare ≤ self.new.spare }
+    {
+        self.sectors.reserve(n)?;
+        self.states.reserve(n)
+    }
+
+    /// The sectors with their blocks, for the plans.
+    pub fn sectors(&self) -> &Sectors
+        ensures { result.now.entries ≡ blocks_of self.now.entries }
+    {
+        &self.sectors
+    }
+
+    /// The block of a sector. `None` exactly where it isn't cached.
+    pub fn get(&self, sector: Sector) -> Option<&Block>
+        ensures { option_copied result ≡ block_at self.now.entries sector.0 }
+    {
+        self.sectors.get(sector)
+    }
+
+    // What is kept of a sector beside its block.
+    fn state(&self, sector: Sector) -> Option<SectorState>
+        ensures { result ≡ state_at self.now.entries sector.0 }
+    {
+        self.states.get(sector).copied()
+    }
+
+    /// The lock that covers a sector. `None` exactly where the sector isn't cached.
+    pub fn cover(&self, sector: Sector) -> Option<LockId>
+        ensures { result ≡ cover_at self.now.entries sector.0 }
+    {
+        self.state(sector).map(|state| state.cover)
+    }
+
+    // Caches a sector with this block and the rest.
+    fn set(&mut self, sector: Sector, block: Block, state: SectorState)
+        requires { room_for self.old.entries sector.0 ≤ self.old.spare }
+        ensures entries { self.new.entries ≡ with_value self.old.entries sector.0 (cached_of block state) }
+        ensures spare { self.new.spare + room_for self.old.entries sector.0 ≡ self.old.spare }
+    {
+        self.sectors.put(sector, block);
+        self.states.put(sector, state);
+    }
+
+    // Keeps this beside the block of a cached sector.
+    fn set_state(&mut self, sector: Sector, state: SectorState)
+        requires { IsSome (value_at self.old.entries sector.0) }
+        ensures entries { self.new.entries ≡ adjusted (λ cached. cached_of cached.block state) self.old.entries sector.0 }
+        ensures spare { self.new.spare ≡ self.old.spare }
+    {
+        self.states.put(sector, state);
+    }
+
+    /// Caches a sector as the disk has it, under this lock. The sector is cached already, or there is room. It takes no memory.
+    pub fn set_clean(&mut self, sector: Sector, block: Block, cover: LockId)
+        requires { room_for self.old.entries sector.0 ≤ self.old.spare }
+        ensures entries { self.new.entries ≡ with_value self.old.entries sector.0 (clean block cover) }
+        ensures spare { self.new.spare + room_for self.old.entries sector.0 ≡ self.old.spare }
+    {
+        self.set(sector, block, SectorState { cover, mark: None });
+    }
+
+    /// Caches a sector with bytes that the disk doesn't have yet, with this mark and under this lock. The sector is cached already, or
+    /// there is room. It takes no memory.
+    pub fn set_bytes(&mut self, sector: Sector, block: Block, mark: u64, cover: LockId)
+        requires { room_for self.old.entries sector.0 ≤ self.old.spare }
+        ensures entries { self.new.entries ≡ with_value self.old.entries sector.0 (dirty block mark cover) }
+        ensures spare { self.new.spare + room_for self.old.entries sector.0 ≡ self.old.spare }
+    {
+        let mark = Some(mark);
+        self.set(sector, block, SectorState { cover, mark });
+    }
+
+    /// Lays a change over its sector, which is cached and older than the change. The sector is then dirty with this mark, and under
+    /// this lock. It takes no memory.
+    pub fn change(&mut self, change: &Change, mark: u64, cover: LockId)
+        requires well_formed { is_change change.now ≡ true }
+        requires older { IsOlder (block_at self.old.entries change.now.sector.0) change.now }
+        ensures entries { self.new.entries ≡ with_change self.old.entries change.now mark cover }
+        ensures spare { self.new.spare ≡ self.old.spare }
+    {
+        self.sectors.change(change);
+        let mark = Some(mark);
+        self.set_state(change.sector, SectorState { cover, mark });
+    }
+
+    /// The sector isn't cached afterwards, whether it was dirty or not. It takes no memory.
+    pub fn forget(&mut self, sector: Sector)
+        ensures entries { self.new.entries ≡ without self.old.entries sector.0 }
+        ensures spare { self.old.spare ≤ self.new.spare }
+    {
+        self.sectors.remove(sector);
+        self.states.remove(sector);
+    }
+
+    /// The sector was written as this block: it is no longer dirty where it still holds that block. It takes no memory.
+    pub fn clean(&mut self, sector: Sector, block: &Block)
+        ensures entries { self.new.entries ≡ with_written self.old.entries sector.0 block.now }
+        ensures spare { self.new.spare ≡ self.old.spare }
+    {
+        if self.holds(sector, block) {
+            self.mark_clean(sector);
+        }
+    }
+
+    // The sector is cached with this block.
+    fn holds(&self, sector: Sector, block: &Block) -> bool
+        ensures { result ≡ holds self.now.entries sector.0 block.now }
+    {
+        match self.sectors.get(sector) {
+            Some(held) => held == block,
+            None => false,
+        }
+    }
+
+    // The sector isn't dirty afterwards, where it is cached.
+    fn mark_clean(&mut self, sector: Sector)
+        ensures entries { self.new.entries ≡ adjusted (λ cached. clean cached.block cached.cover) self.old.entries sector.0 }
+        ensures spare { self.new.spare ≡ self.old.spare }
+    {
+        if let Some(state) = self.state(sector) {
+            self.set_state(
+                sector,
+                SectorState {
+                    mark: None,
+                    ..state
+                },
+            );
+        }
+    }
+
+    /// The dirty sectors with their marks, ascending by sector.
+    pub fn dirty(&self) -> Result<Vec<Mark>, NoMemory>
+        ensures marks { IfOk result (λ marks. marks.items ≡ marks_of self.now.entries) }
+        ensures ordered { IfOk result (λ marks. IsStrictlySortedBy (on (λ mark. mark.sector.0) nat_cmp) marks.items) }
+    {
+        marks_of(self.alloc, self.states.entries())
+    }
+
+    /// No sector under this lock is dirty: exactly then `drop_cover` answers `Ok`.
+    pub fn is_clean(&self, lock: LockId) -> bool
+        ensures { result ≡ not (is_some (first_dirty lock self.now.entries)) }
+    {
+        first_dirty(self.states.entries(), lock).is_none()
+    }
+
+    /// Puts a cached sector under another lock. Its block and its mark stay. It takes no memory.
+    pub fn move_cover(&mut self, sector: Sector, cover: LockId)
+        requires { IsSome (value_at self.old.entries sector.0) }
+        ensures entries { self.new.entries ≡ with_cover self.old.entries sector.0 cover }
+        ensures spare { self.new.spare ≡ self.old.spare }
+    {
+        match self.state(sector) {
+            Some(state) => self.set_state(sector, SectorState { cover, ..state }),
+            None => unreachable!(),
+        }
+    }
+
+    // Drops the sectors under a lock, dirty ones too.
+    fn drop_all(&mut self, lock: LockId)
+        ensures entries { self.new.entries ≡ dropped lock self.old.entries }
+        ensures spare { self.old.spare ≤ self.new.spare }
+    {
+        let states = &self.states;
+        self.sectors
+            .retain(|entry| !is_sector_under(states, entry.0, lock));
+        self.states.retain(|entry| !is_under(&entry.1, lock));
+    }
+
+    /// Drops all sectors under a lock from the cache. `Dirty` comes exactly where one of them is dirty, and names the first such;
+    /// freed sectors are under their segment's lock. The cache is then unchanged. It takes no memory.
+    pub fn drop_cover(&mut self, lock: LockId) -> Result<(), Dirty>
+        ensures outcome { DropOutcome lock self.old.entries self.new.entries result }
+        ensures spare { self.old.spare ≤ self.new.spare }
+    {
+        if let Some(sector) = first_dirty(self.states.entries(), lock) {
+            let sector = Sector(sector);
+            return Err(Dirty { sector });
+        }
+        self.drop_all(lock);
+        Ok(())
+    }
+}

@@ -1,0 +1,51 @@
+//! Which dirty sector may be written: log first. A sector that was changed in memory has as its mark the number of the last log
+//! sector that names the change, and may be written once the log stands on the disk up to there. The contract promises the first
+//! such sector of a list, and that there is none where it says none. It stands on the base types.
+#![tactic(auto)]
+
+ghost use Rattle.std.specs.Prelude.{◌≡◌, ◌↔◌, ◌<◌, None};
+ghost use Rattle.std.specs.List.{All};
+ghost use Rattle.flush_order.specs.Marks.{first_reached};
+
+use frang_base::Sector;
+
+/// A dirty sector, and the number of the log's last sector that must be acknowledged before it may be written.
+#[derive(Clone, Copy, Debug, PartialEq, Eq)]
+pub struct Mark {
+    pub sector: Sector,
+    pub mark: u64,
+}
+
+/// The first of the dirty sectors that may be written, where the log is acknowledged up to the number `reached`: its mark is at
+/// most that number. `None` exactly where there is none. It takes no memory.
+pub fn may_go(dirty: &[Mark], reached: u64) -> Option<Sector>
+    ensures first { result ≡ first_reached dirty.now reached }
+    ensures none { (result ≡ None) ↔ All (λ mark. reached < mark.mark) dirty.now }
+{
+    let mark = dirty.iter().find(|mark| mark.mark <= reached)?;
+    Some(mark.sector)
+}
+
+#[cfg(test)]
+mod tests {
+    use super::*;
+
+    #[test]
+    fn the_first_in_the_list_goes(rt: HostRuntime) {
+        let dirty = [
+            Mark {
+                sector: Sector(4),
+                mark: 260,
+            },
+            Mark {
+                sector: Sector(6),
+                mark: 257,
+            },
+        ];
+        assert_eq!(rt; may_go(&dirty, 256), None);
+        assert_eq!(rt; may_go(&dirty, 257), Some(Sector(6)));
+        assert_eq!(rt; may_go(&dirty, 259), Some(Sector(6)));
+        assert_eq!(rt; may_go(&dirty, 260), Some(Sector(4)));
+        assert_eq!(rt; may_go(&[], 300), None);
+    }
+}
