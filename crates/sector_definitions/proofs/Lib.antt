@@ -1,0 +1,3 @@
+pub mod WrittenFields
+pub mod Readings
+pub mod ParamLaws
