@@ -2,3 +2,4 @@ pub mod WrittenFields
 pub mod Readings
 pub mod PatchLaws
 pub mod ParamLaws
+pub mod InodeLaws

@@ -1,6 +1,6 @@
 -- A block that is written field by field from its front: what stands before a place grows by what is written there.
 use Rattle.std.proofs.Common.{◌≡◌, ℕ, ◌+◌, ◌≤◌, List, [], ◌∷◌, ◌++◌, length, take, drop, refl, sym, ap, ◌∙◌, append_assoc, arith, length-append, length-drop}
-use Rattle.std.proofs.lemmas.List.{take_at, take_all, drop_all, drop-drop, append-nil, length-take-le}
+use Rattle.std.proofs.lemmas.List.{take_at, take_all, drop_all, drop-drop, append-nil, length-take-le, length-replicate}
 use borrow.Rule.Slice.PartMut.{mid_of, post_of, put_mid, same_len_mid}
 use Rattle.sector_definitions.specs.Bytes.{zeros}
 
@@ -48,3 +48,7 @@ pub front_zeros : (len a k : ℕ) (xs ys done : List ℕ) → Front len a xs don
 front_zeros len a k xs ys done f s e =
     let l : length (mid_of a k xs) ≡ k = length-take-le k (drop a xs) (omega (arith, f.whole, length-drop a xs)) in
     front_last len a k xs ys (zeros k) done f s (e ∙ ap zeros l)
+
+pub length_zeros : (n : ℕ) → length (zeros n) ≡ n
+unfolding zeros
+length_zeros n = length-replicate n 0
