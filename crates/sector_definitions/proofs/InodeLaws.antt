@@ -1,10 +1,10 @@
 -- Inode sectors: what was written reads back, and a block is the sector of at most one inode.
-use Rattle.std.proofs.Common.{◌≡◌, ℕ, zero, suc, ◌+◌, ◌*◌, ◌^◌, ◌<◌, ◌≤◌, Bool, true, IsTrue, Option, Some, None, List, [], ◌∷◌, ◌++◌, length, take, drop, slice_index, refl, sym, ap, ◌∙◌, append_assoc, arith, length-append}
+use Rattle.std.proofs.Common.{◌≡◌, ℕ, zero, suc, ◌+◌, ◌-◌, ◌*◌, ◌^◌, ◌<◌, ◌≤◌, Bool, true, IsTrue, Option, Some, None, List, [], ◌∷◌, ◌++◌, length, take, drop, slice_index, refl, sym, ap, ◌∙◌, append_assoc, arith, length-append}
 use Rattle.std.specs.List.{flat_map, All}
 use Rattle.std.proofs.lemmas.Bool.{and_parts}
-use Rattle.std.proofs.lemmas.List.{drop_at, drop-drop, take-append-drop}
-use Rattle.byteorder.specs.Endian.{little_number, little_bytes}
-use Rattle.byteorder.specs.Numbers.{little_number-reads_back, length-bytes_low_first}
+use Rattle.std.proofs.lemmas.List.{drop_at, drop-drop, drop-take, take-append-drop}
+use Rattle.byteorder.specs.Endian.{little_number, little_bytes, IsRead}
+use Rattle.byteorder.specs.Numbers.{little_number-reads_back, little_from-take}
 use Rattle.sector_definitions.specs.declared.inode.Inode.{Inode}
 use Rattle.sector_definitions.specs.Bytes.{number_at, zeros}
 use Rattle.sector_definitions.specs.Inodes.{inode_bytes, inode_fits, inode_fields, inode_in, IsInodeSector, numbers_in}
@@ -13,11 +13,11 @@ use Rattle.sector_definitions.proofs.WrittenFields.{length_zeros}
 use Rattle.sector_definitions.proofs.Readings.{read_back, read_is}
 
 -- an inode of these fields
-abbrev inode : (version kind links blocks size birth : ℕ) (small : List ℕ) (large : ℕ) (target : List ℕ) → Inode
+abbrev pub inode : (version kind links blocks size birth : ℕ) (small : List ℕ) (large : ℕ) (target : List ℕ) → Inode
 inode version kind links blocks size birth small large target = record { version = version; kind = kind; links = links; blocks = blocks; size = size; birth = birth; small = small; large = large; target = target }
 
 -- inodes with the same fields are one
-same_inode : (a b c d e f : ℕ) (g : List ℕ) (h : ℕ) (i : List ℕ) (a' b' c' d' e' f' : ℕ) (g' : List ℕ) (h' : ℕ) (i' : List ℕ) → a ≡ a' → b ≡ b' → c ≡ c' → d ≡ d' → e ≡ e' → f ≡ f' → g ≡ g' → h ≡ h' → i ≡ i' → inode a b c d e f g h i ≡ inode a' b' c' d' e' f' g' h' i'
+pub same_inode : (a b c d e f : ℕ) (g : List ℕ) (h : ℕ) (i : List ℕ) (a' b' c' d' e' f' : ℕ) (g' : List ℕ) (h' : ℕ) (i' : List ℕ) → a ≡ a' → b ≡ b' → c ≡ c' → d ≡ d' → e ≡ e' → f ≡ f' → g ≡ g' → h ≡ h' → i ≡ i' → inode a b c d e f g h i ≡ inode a' b' c' d' e' f' g' h' i'
 same_inode a b c d e f g h i a' b' c' d' e' f' g' h' i' q1 q2 q3 q4 q5 q6 q7 q8 q9 = cc
 
 -- numbers of four bytes each read back
@@ -88,3 +88,21 @@ pub length_inode_bytes : (x : Inode) → InodeRange x → length (inode_bytes x)
 length_inode_bytes x r =
     sym (ap length (take-append-drop 32 (inode_bytes x))) ∙ length-append (take 32 (inode_bytes x)) (drop 32 (inode_bytes x)) ∙ omega (arith,
     ap length (behind_birth x) ∙ length-append (flat_map (little_bytes 4) x.small) (large_and_target x), length_numbers x.small, r.small_len, length-append (little_bytes 4 x.large ++ zeros 28) x.target, length-append (little_bytes 4 x.large) (zeros 28), length_zeros 28, r.target_len)
+
+-- numbers that were read one after the other
+pub numbers_read : (n : ℕ) (src dst : List ℕ) → length dst ≡ n → IsRead little_number 4 src dst → dst ≡ numbers_in n src
+numbers_read zero src [] h r = refl
+numbers_read zero src (d ∷ ds) h r = absurd (omega arith)
+numbers_read (suc n) src [] h r = absurd (omega arith)
+numbers_read (suc n) src (d ∷ ds) h r =
+    let rest : IsRead little_number 4 (drop 4 src) ds = λ k lt. r (suc k) (omega arith) ∙ ap (little_number 4) (ap (λ (i : ℕ). drop i src) (omega arith) ∙ sym (drop-drop (4 * k) 4 src)) in
+    ap (λ (x : ℕ). x ∷ ds) (r 0 (omega arith)) ∙ ap (λ (xs : List ℕ). little_number 4 src ∷ xs) (numbers_read n (drop 4 src) ds (omega arith) rest)
+
+-- numbers read no byte behind them
+pub numbers_take : (n m : ℕ) (xs : List ℕ) → 4 * n ≤ m → numbers_in n (take m xs) ≡ numbers_in n xs
+numbers_take zero m xs h = refl
+numbers_take (suc n) m xs h =
+    let first : little_number 4 (take m xs) ≡ little_number 4 xs = little_from-take 0 4 m xs (omega arith) in
+    let rest : drop 4 (take m xs) ≡ take (m - 4) (drop 4 xs) = ap (λ (k : ℕ). drop 4 (take k xs)) (omega arith) ∙ drop-take 4 (m - 4) xs in
+    ap (λ (x : ℕ). x ∷ numbers_in n (drop 4 (take m xs))) first ∙ ap (λ (ys : List ℕ). little_number 4 xs ∷ numbers_in n ys) rest
+    ∙ ap (λ (ys : List ℕ). little_number 4 xs ∷ ys) (numbers_take n (m - 4) (drop 4 xs) (omega arith))
