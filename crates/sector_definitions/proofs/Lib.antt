@@ -3,3 +3,4 @@ pub mod Readings
 pub mod PatchLaws
 pub mod ParamLaws
 pub mod InodeLaws
+pub mod RegionLaws
