@@ -4,3 +4,5 @@ pub mod PatchLaws
 pub mod ParamLaws
 pub mod InodeLaws
 pub mod RegionLaws
+pub mod RegionExamples
+pub mod ParamExamples

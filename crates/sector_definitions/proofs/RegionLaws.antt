@@ -157,3 +157,19 @@ region_read segments s r =
 -- no two places in range have one sector
 pub region_once : (segments : ℕ) (q r : Region) → segments ≤ 64 → is_in_range segments q ≡ true → is_in_range segments r ≡ true → sector_of q ≡ sector_of r → q ≡ r
 region_once segments q r h g k e = let same : Some q ≡ Some r = sym (region_found segments q h g) ∙ ap (region_of segments) e ∙ region_found segments r h k in cc
+
+-- a segment that covers a free sector in range is one of the disk's
+pub cover_within : (segments : ℕ) (r : Region) (l : LockId) → is_in_range segments r ≡ true → free_cover r ≡ Some l → (k : ℕ) × (l ≡ lock.Segment k) × (k < segments)
+cover_within segments region.Param l h e = absurd cc
+cover_within segments (region.Log server slot) l h e = absurd cc
+cover_within segments (region.Segment k) l h e = (k, cc, is_below k segments h)
+cover_within segments (region.Inode i) l h e = let g = is_below i (64 * segments) h in (i / 64, cc, omega arith)
+cover_within segments (region.Small block part) l h e = let g = (pair_is_below block part (1024 * segments) 8 h).0 in (block / 1024, cc, omega arith)
+cover_within segments (region.Large block part) l h e = (block, cc, (pair_is_below block part segments 2048 h).0)
+
+-- a segment covers its 64 inodes, its 1,024 small blocks and its large one
+pub cover_of_inode : (k j : ℕ) → j < 64 → free_cover (region.Inode (k * 64 + j)) ≡ Some (lock.Segment k)
+cover_of_inode k j h = ap (λ (n : ℕ). Some (lock.Segment n)) (div-mul-add k 64 j h)
+
+pub cover_of_small : (k j part : ℕ) → j < 1024 → free_cover (region.Small (k * 1024 + j) part) ≡ Some (lock.Segment k)
+cover_of_small k j part h = ap (λ (n : ℕ). Some (lock.Segment n)) (div-mul-add k 1024 j h)
