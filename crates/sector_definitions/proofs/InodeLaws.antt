@@ -89,8 +89,16 @@ inode_once block x y r s h g = let e : Some x ≡ Some y = sym (inode_found bloc
 -- it has 512 bytes
 pub length_inode_bytes : (x : Inode) → InodeRange x → length (inode_bytes x) ≡ 512
 length_inode_bytes x r =
-    sym (ap length (take-append-drop 32 (inode_bytes x))) ∙ length-append (take 32 (inode_bytes x)) (drop 32 (inode_bytes x)) ∙ omega (arith,
-    ap length (behind_birth x) ∙ length-append (flat_map (little_bytes 4) x.small) (large_and_target x), length_numbers x.small, r.small_len, length-append (little_bytes 4 x.large ++ zeros 28) x.target, length-append (little_bytes 4 x.large) (zeros 28), length_zeros 28, r.target_len)
+    sym (ap length (take-append-drop 32 (inode_bytes x))) ∙ length-append (take 32 (inode_bytes x)) (drop 32 (inode_bytes x)) ∙ omega (
+      arith,
+      ap length (behind_birth x) ∙ length-append (flat_map (little_bytes 4) x.small) (large_and_target x),
+      length_numbers x.small,
+      r.small_len,
+      length-append (little_bytes 4 x.large ++ zeros 28) x.target,
+      length-append (little_bytes 4 x.large) (zeros 28),
+      length_zeros 28,
+      r.target_len,
+    )
 
 -- numbers that were read one after the other
 pub numbers_read : (n : ℕ) (src dst : List ℕ) → length dst ≡ n → IsRead little_number 4 src dst → dst ≡ numbers_in n src

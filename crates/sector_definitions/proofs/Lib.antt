@@ -6,3 +6,4 @@ pub mod InodeLaws
 pub mod RegionLaws
 pub mod RegionExamples
 pub mod ParamExamples
+pub mod InodeExamples

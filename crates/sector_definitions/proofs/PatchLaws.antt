@@ -43,7 +43,7 @@ runs_laid [] (b ∷ new) pre at h l = absurd (omega arith)
 runs_laid (a ∷ old) [] pre at h l = absurd (omega arith)
 runs_laid (a ∷ old) (b ∷ new) pre at h l =
     let behind : (x : ℕ) → patched (runs_from (at + 1) old new) (pre ++ x ∷ old) ≡ pre ++ x ∷ new = λ x.
-        ap (patched (runs_from (at + 1) old new)) (sym (append_assoc pre (x ∷ []) old)) ∙ runs_laid old new (pre ++ x ∷ []) (at + 1) (one_longer pre x at h) (omega arith) ∙ append_assoc pre (x ∷ []) new in
+    ap (patched (runs_from (at + 1) old new)) (sym (append_assoc pre (x ∷ []) old)) ∙ runs_laid old new (pre ++ x ∷ []) (at + 1) (one_longer pre x at h) (omega arith) ∙ append_assoc pre (x ∷ []) new in
     by_test (λ (rs : List Patch). patched rs (pre ++ a ∷ old) ≡ pre ++ b ∷ new) (runs_from (at + 1) old new) (joined at b (runs_from (at + 1) old new)) (a == b)
     (λ t. behind a ∙ ap (λ (x : ℕ). pre ++ x ∷ new) (eq_of a b t))
     (λ t. joined_laid (runs_from (at + 1) old new) pre old a b at h ∙ behind b)
@@ -61,9 +61,10 @@ runs_of_same (x ∷ xs) at = by_test (λ (rs : List Patch). rs ≡ []) (runs_fro
 -- there are no patches exactly where the blocks are the same from place 8 on
 pub no_patches : (old new : List ℕ) → 8 ≤ length old → length old ≡ length new → (patches_of old new ≡ []) ↔ (drop 8 old ≡ drop 8 new)
 no_patches old new h l =
-    let front : length (take 8 old) ≡ 8 = length-take-le 8 old h in
-    (λ e. let same : old ≡ take 8 old ++ drop 8 new = ap (λ (ps : List Patch). patched ps old) (sym e) ∙ patches_laid old new h l in ap (drop 8) same ∙ drop_at (take 8 old) (drop 8 new) 8 front,
-    λ e. ap (λ (xs : List ℕ). runs_from 8 (drop 8 old) xs) (sym e) ∙ runs_of_same (drop 8 old) 8)
+    let front : length (take 8 old) ≡ 8 = length-take-le 8 old h in (
+      λ e. let same : old ≡ take 8 old ++ drop 8 new = ap (λ (ps : List Patch). patched ps old) (sym e) ∙ patches_laid old new h l in ap (drop 8) same ∙ drop_at (take 8 old) (drop 8 new) 8 front,
+      λ e. ap (λ (xs : List ℕ). runs_from 8 (drop 8 old) xs) (sym e) ∙ runs_of_same (drop 8 old) 8,
+    )
 
 -- a run that begins one place earlier is as far from those behind it
 begun : (n from to at next : ℕ) (rest : ℕ → Bool) → from ≤ at → next ≡ at + 1 → (nat_le (at + 1) next && nat_le 1 n && nat_le (next + n) to && rest (next + n + 1)) ≡ true
@@ -126,8 +127,8 @@ joined_new (p ∷ ps) pre old a b at h d e =
     let parts = and_parts (pointwise (λ x y. not (x == y)) (take (length p.bytes) (drop p.at (pre ++ a ∷ old))) p.bytes) (are_new (pre ++ a ∷ old) ps) e in
     by_test (λ (rs : List Patch). are_new (pre ++ a ∷ old) rs ≡ true) (record { at = at; bytes = b ∷ p.bytes } ∷ ps) (record { at = at; bytes = b ∷ [] } ∷ p ∷ ps) (p.at == at + 1)
     (λ t. let place : drop p.at (pre ++ a ∷ old) ≡ old = ap (λ (k : ℕ). drop k (pre ++ a ∷ old)) (eq_of p.at (at + 1) t) ∙ behind_front pre old a at h in
-        one_new (pre ++ a ∷ old) old p.bytes a b at (are_new (pre ++ a ∷ old) ps) (drop_at pre (a ∷ old) at h) d
-        (sym (ap (λ (xs : List ℕ). pointwise (λ x y. not (x == y)) (take (length p.bytes) xs) p.bytes) place) ∙ parts.0) parts.1)
+    one_new (pre ++ a ∷ old) old p.bytes a b at (are_new (pre ++ a ∷ old) ps) (drop_at pre (a ∷ old) at h) d
+    (sym (ap (λ (xs : List ℕ). pointwise (λ x y. not (x == y)) (take (length p.bytes) xs) p.bytes) place) ∙ parts.0) parts.1)
     (λ t. one_new (pre ++ a ∷ old) old [] a b at (are_new (pre ++ a ∷ old) (p ∷ ps)) (drop_at pre (a ∷ old) at h) d refl e)
 
 runs_new : (old new pre : List ℕ) (at : ℕ) → length pre ≡ at → are_new (pre ++ old) (runs_from at old new) ≡ true
@@ -135,7 +136,7 @@ runs_new [] new pre at h = refl
 runs_new (a ∷ old) [] pre at h = refl
 runs_new (a ∷ old) (b ∷ new) pre at h =
     let behind : are_new (pre ++ a ∷ old) (runs_from (at + 1) old new) ≡ true =
-        ap (λ (xs : List ℕ). are_new xs (runs_from (at + 1) old new)) (sym (append_assoc pre (a ∷ []) old)) ∙ runs_new old new (pre ++ a ∷ []) (at + 1) (one_longer pre a at h) in
+    ap (λ (xs : List ℕ). are_new xs (runs_from (at + 1) old new)) (sym (append_assoc pre (a ∷ []) old)) ∙ runs_new old new (pre ++ a ∷ []) (at + 1) (one_longer pre a at h) in
     by_test (λ (rs : List Patch). are_new (pre ++ a ∷ old) rs ≡ true) (runs_from (at + 1) old new) (joined at b (runs_from (at + 1) old new)) (a == b)
     (λ t. behind)
     (λ t. joined_new (runs_from (at + 1) old new) pre old a b at h t behind)

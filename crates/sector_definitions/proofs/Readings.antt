@@ -27,7 +27,7 @@ pub read_is : {X : Type 0} (bytes : X → List ℕ) (fits : X → Bool) (block :
 read_is {X} bytes fits block y x =
     by_test (λ (o : Option X). o ≡ Some x → (block ≡ bytes x) × (fits x ≡ true)) (Some y) None (fits y && same_bytes (bytes y) block)
     (λ t e. let q : y ≡ x = cc in let parts = and_parts (fits y) (same_bytes (bytes y) block) t in
-        (sym (same_bytes_is (bytes y) block parts.1) ∙ ap bytes q, subst (λ (z : X). fits z ≡ true) q parts.0))
+    (sym (same_bytes_is (bytes y) block parts.1) ∙ ap bytes q, subst (λ (z : X). fits z ≡ true) q parts.0))
     (λ t e. cc)
 
 -- a reading that finds fields which don't fit

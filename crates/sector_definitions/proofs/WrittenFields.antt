@@ -10,7 +10,7 @@ pub wrote : (done xs ys bs : List ℕ) (a k n m : ℕ) → a ≤ length xs → t
 wrote done xs ys bs a k n m h d e l i =
     let front : length (done ++ bs) ≡ m = length-append done bs ∙ omega (arith, ap length (sym d) ∙ length-take-le a xs h) in
     let whole : put_mid a k xs ys ≡ (done ++ bs) ++ (drop n (mid_of a k xs) ++ post_of a k xs) =
-        rw (d, e, append_assoc bs (drop n (mid_of a k xs)) (post_of a k xs), append_assoc done bs (drop n (mid_of a k xs) ++ post_of a k xs)) refl in
+    rw (d, e, append_assoc bs (drop n (mid_of a k xs)) (post_of a k xs), append_assoc done bs (drop n (mid_of a k xs) ++ post_of a k xs)) refl in
     rw whole (take_at (done ++ bs) (drop n (mid_of a k xs) ++ post_of a k xs) m front)
 
 -- the last bytes of a block
@@ -76,7 +76,7 @@ front_zero_part len a k xs ys done f s e =
 
 -- a number at the beginning of a block
 pub front_number : (len n : ℕ) (xs ys bs : List ℕ) → length xs ≡ len → n ≤ len → length ys ≡ length xs → ys ≡ bs ++ drop n xs → length bs ≡ n → Front len n ys bs
-front_number len n xs ys bs h s m e l = record { whole = m ∙ h; begins = ap (take n) e ∙ take_at bs (drop n xs) n l; }
+front_number len n xs ys bs h s m e l = record { whole = m ∙ h; begins = ap (take n) e ∙ take_at bs (drop n xs) n l }
 
 -- what was done up to the end is all
 pub front_all : (len : ℕ) (xs done : List ℕ) → Front len len xs done → xs ≡ done
