@@ -3,6 +3,7 @@ pub mod Readings
 pub mod PatchLaws
 pub mod ParamLaws
 pub mod InodeLaws
+pub mod InodeChanges
 pub mod RegionLaws
 pub mod RegionExamples
 pub mod ParamExamples
