@@ -2,7 +2,7 @@
 use Rattle.std.proofs.Common.{refl}
 use Rattle.byteorder.specs.Endian.{little_bytes}
 use Rattle.sector_definitions.proofs.WrittenFields.{front_first, front_more, front_zeros}
-use Rattle.param_block.proofs.encode.Goals as goal
+use Rattle.param_block.proofs.coder.encode.Goals as goal
 
 pub returns : goal.returns
 returns c =
