@@ -1,8 +1,5 @@
 // Where the regions begin, and how many of each thing there are. Sectors have 512 bytes.
 
-/// The most segments of a disk.
-pub const SEGMENTS_MAX: u32 = 64;
-
 /// The inodes of a segment.
 pub const SEGMENT_INODES: u32 = 64;
 
@@ -15,8 +12,10 @@ pub const LOGS_FROM: u64 = 2_147_483_648;
 /// The sectors from the first of one log to the first of the next.
 pub const LOG_STRIDE: u64 = 8_388_608;
 
-/// The logs, and the slots of each, which are its first sectors.
+/// The logs.
 pub const LOGS: u64 = 256;
+
+/// The slots of a log, which are its first sectors.
 
 pub const LOG_SLOTS: u64 = 256;
 

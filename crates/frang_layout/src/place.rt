@@ -11,10 +11,9 @@ use crate::limits::{
 use frang_base::{LockId, Sector};
 use sector_definitions::Region;
 
-/// What lies in a sector of a disk of so many segments. `None` exactly where the sector is in no region.
+/// The place of a sector on a disk of so many segments, at most 64. `None` exactly where the sector is in no region.
 pub fn region_of(sector: Sector, segments: u32) -> Option<Region>
-    requires least { 1 ≤ segments }
-    requires most { segments ≤ 64 }
+    requires { segments ≤ 64 }
     ensures { result ≡ region_of segments sector.0 }
 {
     let s = sector.0;
@@ -37,7 +36,7 @@ pub fn region_of(sector: Sector, segments: u32) -> Option<Region>
     }
 }
 
-/// The sector of a place.
+/// The sector of a place, in range or not.
 pub fn sector_of(region: &Region) -> Sector
     ensures { result.0 ≡ sector_of region.now }
 {
@@ -118,5 +117,107 @@ fn large_at(segments: u32, n: u64) -> Option<Region>
         })
     } else {
         None
+    }
+}
+
+#[cfg(test)]
+mod tests {
+    use super::*;
+
+    // The first sectors of things on a disk of 16 segments, as the format lists them.
+    const PLACES: [(u64, Region); 11] = [
+        (0, Region::Param),
+        (2_147_483_648, Region::Log { server: 0, slot: 0 }),
+        (2_155_872_256, Region::Log { server: 1, slot: 0 }),
+        (
+            4_286_578_943,
+            Region::Log {
+                server: 255,
+                slot: 255,
+            },
+        ),
+        (4_294_967_311, Region::Segment(15)),
+        (10_737_418_241, Region::Inode(1)),
+        (10_737_419_263, Region::Inode(1023)),
+        (12_884_901_896, Region::Small { block: 1, part: 0 }),
+        (
+            12_885_032_959,
+            Region::Small {
+                block: 16383,
+                part: 7,
+            },
+        ),
+        (287_762_808_832, Region::Large { block: 0, part: 0 }),
+        (
+            319_975_065_599,
+            Region::Large {
+                block: 15,
+                part: 2047,
+            },
+        ),
+    ];
+
+    #[test]
+    fn places_are_found_at_their_sectors(rt: HostRuntime) {
+        for (sector, region) in PLACES {
+            assert_eq!(rt;
+                region_of(Sector(sector), 16),
+                Some(region),
+                "sector {sector}"
+            );
+            assert_eq!(rt; sector_of(&region), Sector(sector), "sector {sector}");
+        }
+    }
+
+    #[test]
+    fn other_sectors_are_in_no_region(rt: HostRuntime) {
+        let sectors = [
+            1,
+            2_147_483_647,
+            2_147_483_904,
+            4_286_578_944,
+            4_294_967_312,
+            10_737_419_264,
+            12_885_032_960,
+            287_762_808_831,
+            287_762_810_880,
+            322_122_547_200,
+            u64::MAX,
+        ];
+        for sector in sectors {
+            assert_eq!(rt; region_of(Sector(sector), 16), None, "sector {sector}");
+        }
+    }
+
+    #[test]
+    fn segments_cover_what_is_free(rt: HostRuntime) {
+        let covers = [
+            (Region::Param, None),
+            (Region::Log { server: 1, slot: 2 }, None),
+            (Region::Segment(7), Some(LockId::Segment(7))),
+            (Region::Inode(63), Some(LockId::Segment(0))),
+            (Region::Inode(64), Some(LockId::Segment(1))),
+            (
+                Region::Small {
+                    block: 1023,
+                    part: 7,
+                },
+                Some(LockId::Segment(0)),
+            ),
+            (
+                Region::Small {
+                    block: 1024,
+                    part: 0,
+                },
+                Some(LockId::Segment(1)),
+            ),
+            (
+                Region::Large { block: 3, part: 9 },
+                Some(LockId::Segment(3)),
+            ),
+        ];
+        for (region, cover) in covers {
+            assert_eq!(rt; free_cover(&region), cover);
+        }
     }
 }

@@ -1,10 +1,10 @@
 -- A sector's place has that sector, and a place in range is found at its sector.
-use Rattle.std.proofs.Common.{◌≡◌, ◌≢◌, ◌⊎◌, ℕ, ◌+◌, ◌-◌, ◌*◌, ◌/◌, ◌%◌, ◌<◌, ◌≤◌, Bool, true, false, ◌&&◌, ◌==◌, IsTrue, if◌then◌else◌, nat_eq, nat_le, nat_lt, Option, Some, None, refl, sym, ap, ◌∙◌, subst, arith, cond}
+use Rattle.std.proofs.Common.{◌≡◌, ◌≢◌, ◌⊎◌, ◌↔◌, ℕ, ◌+◌, ◌-◌, ◌*◌, ◌/◌, ◌%◌, ◌<◌, ◌≤◌, Bool, true, false, ◌&&◌, ◌==◌, IsTrue, if◌then◌else◌, nat_eq, nat_le, nat_lt, Option, Some, None, refl, sym, ap, ◌∙◌, subst, arith, cond}
 use Rattle.std.proofs.lemmas.Nat.{div-add-mod', div-mul-add, mod-mul-add}
 use Rattle.std.proofs.lemmas.Bool.Decides.{nat_tests}
 use Rattle.frang_base.specs.declared.lock.LockId.{LockId}
 use Rattle.frang_base.specs.declared.lock.LockId.TheVariants as lock
-use Rattle.cells.proofs.Basics.{by_test, eq_of, le_of, of_ne, of_lt, of_le}
+use Rattle.cells.proofs.Basics.{by_test, by_some, eq_of, le_of, of_ne, of_lt, of_le}
 use Rattle.sector_definitions.specs.declared.region.Region.{Region}
 use Rattle.sector_definitions.specs.declared.region.Region.TheVariants as region
 use Rattle.sector_definitions.specs.Regions.{logs_from, bitmaps_from, inodes_from, small_blocks_from, large_blocks_from, log_stride, large_stride, sector_of, log_at, large_at, is_among, region_of, is_in_range, free_cover}
@@ -173,3 +173,9 @@ cover_of_inode k j h = ap (λ (n : ℕ). Some (lock.Segment n)) (div-mul-add k 6
 
 pub cover_of_small : (k j part : ℕ) → j < 1024 → free_cover (region.Small (k * 1024 + j) part) ≡ Some (lock.Segment k)
 cover_of_small k j part h = ap (λ (n : ℕ). Some (lock.Segment n)) (div-mul-add k 1024 j h)
+
+-- nothing is found exactly where no place in range has the sector
+pub region_none : (segments s : ℕ) → segments ≤ 64 → (region_of segments s ≡ None) ↔ ((r : Region) → is_in_range segments r ≡ true → sector_of r ≡ s → ⊥)
+region_none segments s h =
+    (λ e r g q. let f : Some r ≡ None = sym (region_found segments r h g) ∙ ap (region_of segments) q ∙ e in cc,
+    λ f. by_some (λ o. o ≡ None) (region_of segments s) (λ e. refl) (λ r e. let p = region_read segments s r e in absurd (f r p.1 p.0)))
