@@ -52,17 +52,17 @@ numbers_in (suc n) bytes = number_at 4 0 bytes ∷ numbers_in n (drop 4 bytes)
 
 -- what stands at the places of its fields
 abbrev pub inode_fields : List ℕ → Inode
-inode_fields block = record
-  { version = number_at 8 0 block
-  ; kind = slice_index block 8
-  ; links = number_at 2 10 block
-  ; blocks = number_at 2 12 block
-  ; size = number_at 8 16 block
-  ; birth = number_at 8 24 block
-  ; small = numbers_in 16 (drop 32 block)
-  ; large = number_at 4 96 block
-  ; target = drop 128 block
-  }
+inode_fields block = record {
+  version = number_at 8 0 block;
+  kind = slice_index block 8;
+  links = number_at 2 10 block;
+  blocks = number_at 2 12 block;
+  size = number_at 8 16 block;
+  birth = number_at 8 24 block;
+  small = numbers_in 16 (drop 32 block);
+  large = number_at 4 96 block;
+  target = drop 128 block;
+}
 
 -- the block is the sector of this inode
 abbrev pub IsInodeSector : List ℕ → Inode → Type 0

@@ -30,14 +30,14 @@ log_sector_fits slot x = nat_lt x.seq (2 ^ 63) && x.seq % 256 == slot && (is_emp
 
 -- what stands at the places of a sector's fields
 abbrev pub log_sector_fields : List ℕ → LogSector
-log_sector_fields block = record
-  { seq = number_at 8 0 block
-  ; op = record { 0 = number_at 8 8 block }
-  ; part = number_at 2 16 block
-  ; parts = number_at 2 18 block
-  ; used = number_at 2 20 block
-  ; body = drop 24 block
-  }
+log_sector_fields block = record {
+  seq = number_at 8 0 block;
+  op = record { 0 = number_at 8 8 block };
+  part = number_at 2 16 block;
+  parts = number_at 2 18 block;
+  used = number_at 2 20 block;
+  body = drop 24 block;
+}
 
 -- the empty sector of this number
 abbrev pub empty_sector : ℕ → LogSector

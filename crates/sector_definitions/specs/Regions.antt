@@ -60,7 +60,7 @@ region_of segments sector =
     else (if is_among bitmaps_from segments sector then Some (region.Segment (sector - bitmaps_from))
     else (if is_among inodes_from (64 * segments) sector then Some (region.Inode (sector - inodes_from))
     else (if is_among small_blocks_from (8192 * segments) sector
-          then Some (region.Small ((sector - small_blocks_from) / 8) ((sector - small_blocks_from) % 8))
+    then Some (region.Small ((sector - small_blocks_from) / 8) ((sector - small_blocks_from) % 8))
     else (if nat_le large_blocks_from sector then large_at segments (sector - large_blocks_from) else None)))))
 
 -- the place lies in its region on a disk of so many segments

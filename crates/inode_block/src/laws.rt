@@ -1,0 +1,54 @@
+// Laws of inodes and their sectors.
+ghost use Rattle.std.specs.Prelude.{◌≡◌, ◌<◌, ◌^◌, List, ℕ, Some, IsTrue, length, slice_index};
+ghost use Rattle.frang_base.specs.declared.change.Change.{Change};
+ghost use Rattle.cells.specs.Blocks.{edited, patched};
+ghost use Rattle.sector_definitions.specs.declared.inode.Inode.{Inode};
+ghost use Rattle.sector_definitions.specs.Inodes.{inode_bytes, inode_fits, inode_in, IsInodeSector};
+ghost use Rattle.sector_definitions.specs.Patches.{patches_of};
+ghost use Rattle.sector_definitions.specs.Ranges.{InodeRange};
+
+use sector_definitions::Inode;
+
+/// Each inode has the ranges that the laws below ask for, since its fields have their types.
+pub fn inodes_are_in_range(value: &Inode)
+    ensures { InodeRange value.now }
+{
+    let _version = value.version;
+    let _kind = value.kind;
+    let _links = value.links;
+    let _blocks = value.blocks;
+    let _size = value.size;
+    let _birth = value.birth;
+    let _large = value.large;
+    numbers_are_in_range(&value.small);
+    small_blocks_are_16(&value.small);
+    targets_are_long(&value.target);
+}
+
+fn numbers_are_in_range(numbers: &[u32])
+    ensures { (i : ℕ) → slice_index numbers.now i < 2 ^ 32 }
+{}
+
+fn small_blocks_are_16(numbers: &[u32; 16])
+    ensures { length numbers.now ≡ 16 }
+{}
+
+fn targets_are_long(target: &[u8; 384])
+    ensures { length target.now ≡ 384 }
+{}
+
+/// What was encoded is decoded to the same inode, and what was decoded encodes to the same block. No block is the sector of two
+/// inodes.
+pub fn decoding_undoes_encoding()
+    ensures back { (x : Inode) → InodeRange x → IsTrue (inode_fits x) → inode_in (inode_bytes x) ≡ Some x }
+    ensures read { (block : List ℕ) (x : Inode) → inode_in block ≡ Some x → IsInodeSector block x }
+    ensures found { (block : List ℕ) (x : Inode) → InodeRange x → IsInodeSector block x → inode_in block ≡ Some x }
+    ensures once { (block : List ℕ) (x y : Inode) → InodeRange x → InodeRange y → IsInodeSector block x → IsInodeSector block y → x ≡ y }
+{}
+
+/// Laid over the old inode's block, the patches give the new one's but for the version. A change with them and with the new version
+/// makes the new one's block of the old one's.
+pub fn changes_make_the_new_inode()
+    ensures laid { (old new : Inode) → InodeRange old → InodeRange new → patched (patches_of (inode_bytes old) (inode_bytes new)) (inode_bytes old) ≡ inode_bytes (record new { version = old.version }) }
+    ensures edited { (x : Change) (old new : Inode) → InodeRange old → InodeRange new → x.patches ≡ patches_of (inode_bytes old) (inode_bytes new) → x.version ≡ new.version → edited x (inode_bytes old) ≡ inode_bytes new }
+{}

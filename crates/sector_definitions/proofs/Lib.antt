@@ -1,0 +1,10 @@
+pub mod WrittenFields
+pub mod Readings
+pub mod PatchLaws
+pub mod ParamLaws
+pub mod InodeLaws
+pub mod InodeChanges
+pub mod RegionLaws
+pub mod RegionExamples
+pub mod ParamExamples
+pub mod InodeExamples
