@@ -1,0 +1,2 @@
+pub mod SectorBytes
+pub mod BitmapLaws
