@@ -21,9 +21,9 @@ pub fn decode(from: &Block) -> Option<Bitmap>
     ensures { result ≡ bitmap_in from.now }
 {
     let read = fields(from);
-    let mut bytes = [0; 512];
-    encode(&read, &mut bytes);
-    if bytes == *from { Some(read) } else { None }
+    let mut again = [0; 512];
+    encode(&read, &mut again);
+    if again == *from { Some(read) } else { None }
 }
 
 // What stands at the places of the fields.

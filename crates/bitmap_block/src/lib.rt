@@ -8,4 +8,4 @@ mod laws;
 
 pub use codec::{decode, encode};
 pub use frang_base::Bitmap;
-pub use laws::sectors_and_segments_are_one_to_one;
+pub use laws::what_is_written_reads_back;

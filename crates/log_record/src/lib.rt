@@ -2,7 +2,9 @@
 //! where it is a sector of a log that may stand there. It stands on the definitions of sectors.
 #![tactic(auto)]
 
+mod laws;
 mod sector;
 
+pub use laws::what_is_written_reads_back;
 pub use sector::{sector_read, sector_write};
 pub use sector_definitions::LogSector;

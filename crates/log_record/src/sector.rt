@@ -14,6 +14,7 @@ const FIRST_NUMBERED: u64 = 256;
 const NUMBERS_END: u64 = 1 << 63;
 // A record has at most so many sectors.
 const PARTS_MAX: u16 = 9;
+
 const BODY_BYTES: u16 = 488;
 
 /// Makes the block this sector of a log.
@@ -22,17 +23,31 @@ pub fn sector_write(s: &LogSector, to: &mut Block)
     ensures { to.new ≡ log_sector_bytes s.now }
 {
     if s.seq < FIRST_NUMBERED {
-        *to = [0; 512];
+        clear(to);
     } else {
         write_fields(s, to);
     }
+}
+
+#[tactic(auto, unfolding(sector_definitions::specs::Bytes::zeros))]
+fn clear(to: &mut Block)
+    ensures { to.new ≡ spec.zeros 512 }
+{
+    *to = [0; 512];
+}
+
+#[tactic(auto, unfolding(sector_definitions::specs::Bytes::zeros))]
+fn is_clear(b: &Block) -> bool
+    ensures { result ≡ spec.same_bytes (spec.zeros 512) b.now }
+{
+    [0; 512] == *b
 }
 
 /// The sector of a log that the block in this slot is. `None` exactly where no such sector may stand there.
 pub fn sector_read(b: &Block, slot: u8) -> Option<LogSector>
     ensures { result ≡ log_sector_in slot b.now }
 {
-    if [0; 512] == *b {
+    if is_clear(b) {
         return Some(empty_sector(slot));
     }
     numbered_sector(b, slot, fields(b))
@@ -55,18 +70,26 @@ fn write_fields(s: &LogSector, to: &mut Block)
 fn fields(b: &Block) -> LogSector
     ensures { result ≡ log_sector_fields b.now }
 {
-    let mut body = [0; 488];
-    body.copy_from_slice(&b[24..]);
     LogSector {
         seq: LittleEndian::read_u64(b),
         op: OpNo(LittleEndian::read_u64(&b[8..])),
         part: LittleEndian::read_u16(&b[16..]),
         parts: LittleEndian::read_u16(&b[18..]),
         used: LittleEndian::read_u16(&b[20..]),
-        body,
+        body: body_of(b),
     }
 }
 
+fn body_of(b: &Block) -> [u8; 488]
+    ensures { result ≡ drop 24 b.now }
+{
+    let mut body = [0; 488];
+    body.copy_from_slice(&b[24..]);
+    body
+}
+
+// The empty sector that stands in this slot as zeros.
+#[tactic(auto, unfolding(sector_definitions::specs::Bytes::zeros))]
 fn empty_sector(slot: u8) -> LogSector
     ensures { result ≡ sectors.empty_sector slot }
 {
@@ -110,7 +133,11 @@ fn is_empty(s: &LogSector) -> bool
 fn is_record(s: &LogSector) -> bool
     ensures { result ≡ is_record_sector s.now }
 {
-    s.seq >= FIRST_NUMBERED && s.op.0 >= 1 && s.part < s.parts && s.parts <= PARTS_MAX && uses_its_body(s)
+    s.seq >= FIRST_NUMBERED
+        && s.op.0 >= 1
+        && s.part < s.parts
+        && s.parts <= PARTS_MAX
+        && uses_its_body(s)
 }
 
 // Every part but the last uses the whole body, the last at least one byte, and zeros follow.

@@ -1,2 +1,5 @@
-pub mod SectorBytes
+pub mod WrittenFields
+pub mod Readings
+pub mod ParamLaws
 pub mod BitmapLaws
+pub mod LogSectorLaws
