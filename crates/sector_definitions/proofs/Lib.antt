@@ -3,3 +3,5 @@ pub mod Readings
 pub mod ParamLaws
 pub mod BitmapLaws
 pub mod LogSectorLaws
+pub mod DirectoryPlaces
+pub mod DirectoryLaws
