@@ -3,16 +3,20 @@
 //! definitions of sectors.
 #![tactic(auto)]
 
+mod laws;
 mod names;
 mod reading;
 mod writing;
 
-pub use reading::decode;
-pub use writing::encode;
+pub use laws::what_is_written_reads_back;
 pub use names::find;
+pub use reading::decode;
 pub use sector_definitions::{DirEntry, DirSector};
+pub use writing::encode;
 
 // The places for entries in a sector.
 const PLACES: usize = 7;
+
 const ENTRY_BYTES: usize = 72;
+
 const NAME_BYTES: usize = 64;

@@ -2,7 +2,7 @@
 ghost use Rattle.std.specs.Prelude.{◌≡◌};
 ghost use Rattle.sector_definitions.specs.Directories.{name_in, place_of_name};
 
-use crate::NAME_BYTES;
+use crate::{NAME_BYTES, PLACES};
 use frang_base::Name;
 use sector_definitions::{DirEntry, DirSector};
 
@@ -10,7 +10,13 @@ use sector_definitions::{DirEntry, DirSector};
 pub fn find(sector: &DirSector, name: &Name) -> Option<u8>
     ensures { result ≡ place_of_name name.now sector.now.entries }
 {
-    for (place, entry) in sector.entries.iter().enumerate() {
+    place_in(&sector.entries, name)
+}
+
+fn place_in(entries: &[DirEntry; PLACES], name: &Name) -> Option<u8>
+    ensures { result ≡ place_of_name name.now entries.now }
+{
+    for (place, entry) in entries.iter().enumerate() {
         if name_of(entry) == name.as_slice() {
             return Some(place as u8);
         }

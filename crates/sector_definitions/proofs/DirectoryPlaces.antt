@@ -1,6 +1,6 @@
 -- The entries of a sector one after another: how they are read, and where a name stands first.
-use Rattle.std.proofs.Common.{◌≡◌, ℕ, zero, suc, ◌+◌, ◌*◌, ◌<◌, ◌≤◌, Bool, true, false, if◌then◌else◌, Option, Some, None, List, [], ◌∷◌, ◌++◌, length, take, drop, set, refl, sym, ap, ◌∙◌, arith}
-use Rattle.std.proofs.lemmas.List.{take_more_set, take_all, drop-drop}
+use Rattle.std.proofs.Common.{◌≡◌, ℕ, zero, suc, ◌+◌, ◌*◌, ◌<◌, ◌≤◌, Bool, true, false, if◌then◌else◌, Option, Some, None, List, [], ◌∷◌, ◌++◌, length, take, drop, set, get_or, drop-cons, refl, sym, ap, ◌∙◌, arith}
+use Rattle.std.proofs.lemmas.List.{take_more, take_more_set, take_all, take-append-drop, length-take-le, drop-drop}
 use Rattle.std.proofs.lemmas.Slice.{between_to_end}
 use Rattle.std.specs.List.{between}
 use Rattle.std.specs.Option.{option_map}
@@ -54,3 +54,25 @@ name_found name [] e ys h t = rw t refl
 name_found name (x ∷ xs) e ys h t =
     let p = not_first (same_bytes (name_in x) name) (place_of_name name xs) h in
     rw (p.0, name_found name xs e ys p.1 t) refl
+
+-- what the comparison of a name said
+compared_is : (e : DirEntry) (name a b : List ℕ) (r s : Bool) → a ≡ name_in e → b ≡ name → r ≡ same_bytes a b → r ≡ s → same_bytes (name_in e) name ≡ s
+compared_is e name a b r s p q test is = cc
+
+-- the entry at a place is the first of its name, where none before it is
+pub found_there : (name : List ℕ) (es : List DirEntry) (d : DirEntry) (k : ℕ) (a b : List ℕ) (r : Bool) → k < length es
+    → place_of_name name (take k es) ≡ None → a ≡ name_in (get_or es k d) → b ≡ name → r ≡ same_bytes a b → r ≡ true
+    → Some k ≡ place_of_name name es
+found_there name es d k a b r below none is named test alike =
+    let e = get_or es k d in
+    let split : es ≡ take k es ++ e ∷ drop (suc k) es = sym (take-append-drop k es) ∙ ap (λ (rest : List DirEntry). take k es ++ rest) (drop-cons es k d below) in
+    let found = name_found name (take k es) e (drop (suc k) es) none (compared_is e name a b r true is named test alike) in
+    sym (ap (place_of_name name) split ∙ found ∙ ap (λ (n : ℕ). Some n) (length-take-le k es (omega arith)))
+
+-- no entry so far has the name, where the next hasn't
+pub passed_there : (name : List ℕ) (es : List DirEntry) (d : DirEntry) (k : ℕ) (a b : List ℕ) (r : Bool) → k < length es
+    → place_of_name name (take k es) ≡ None → a ≡ name_in (get_or es k d) → b ≡ name → r ≡ same_bytes a b → r ≡ false
+    → place_of_name name (take (k + 1) es) ≡ None
+passed_there name es d k a b r below none is named test apart =
+    let e = get_or es k d in
+    ap (place_of_name name) (take_more es k d below) ∙ name_passed name (take k es) e none (compared_is e name a b r false is named test apart)
