@@ -1,5 +1,6 @@
 pub mod WrittenFields
 pub mod Readings
+pub mod PatchLaws
 pub mod ParamLaws
 pub mod BitmapLaws
 pub mod LogSectorLaws
