@@ -4,8 +4,10 @@
 #![tactic(auto)]
 
 mod codec;
+mod differences;
 mod laws;
 
 pub use codec::{decode, encode};
+pub use differences::patches;
 pub use frang_base::Bitmap;
 pub use laws::what_is_written_reads_back;

@@ -3,11 +3,13 @@
 //! definitions of sectors.
 #![tactic(auto)]
 
+mod differences;
 mod laws;
 mod names;
 mod reading;
 mod writing;
 
+pub use differences::patches;
 pub use laws::what_is_written_reads_back;
 pub use names::find;
 pub use reading::decode;
