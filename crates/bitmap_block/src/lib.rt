@@ -5,9 +5,12 @@
 
 mod codec;
 mod differences;
+mod inodes;
 mod laws;
+mod state;
 
 pub use codec::{decode, encode};
 pub use differences::patches;
 pub use frang_base::Bitmap;
+pub use inodes::{inode_in_use, with_inode};
 pub use laws::what_is_written_reads_back;
