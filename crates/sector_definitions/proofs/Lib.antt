@@ -6,3 +6,6 @@ pub mod BitmapLaws
 pub mod LogSectorLaws
 pub mod DirectoryPlaces
 pub mod DirectoryLaws
+pub mod BitmapExamples
+pub mod LogSectorExamples
+pub mod DirectoryExamples
