@@ -84,10 +84,11 @@ pub state_replaced : (states : List ℕ) (j k b s : ℕ) → length states ≡ 2
 state_replaced states j k b s n h digits =
     let state : ℕ → ℕ = λ byte. byte / 4 ^ (k % 4) % 4 in
     elim (cases_eq (k / 4) (j / 4)) [
-      inl e ↦
-        let byte : get_or (set states (j / 4) b) (k / 4) 0 ≡ b = ap (λ (i : ℕ). get_or (set states (j / 4) b) i 0) e ∙ get_or-set_same states (j / 4) b 0 (omega arith) in
-        let old : get_or states (k / 4) 0 ≡ get_or states (j / 4) 0 = ap (λ (i : ℕ). get_or states i 0) e in
-        ap state byte ∙ in_its_byte j k b s (get_or states (j / 4) 0) e digits ∙ ap (λ (o : ℕ). if k == j then s else state o) (sym old)
-    | inr d ↦ chosen k j (state (get_or (set states (j / 4) b) (k / 4) 0)) s (state (get_or states (k / 4) 0))
-        (λ q. absurd (d (ap (λ (i : ℕ). i / 4) q)))
-        (λ q. ap state (get_or-set_other states (j / 4) (k / 4) b 0 d)) ]
+      | inl e ↦
+          let byte : get_or (set states (j / 4) b) (k / 4) 0 ≡ b = ap (λ (i : ℕ). get_or (set states (j / 4) b) i 0) e ∙ get_or-set_same states (j / 4) b 0 (omega arith) in
+          let old : get_or states (k / 4) 0 ≡ get_or states (j / 4) 0 = ap (λ (i : ℕ). get_or states i 0) e in
+          ap state byte ∙ in_its_byte j k b s (get_or states (j / 4) 0) e digits ∙ ap (λ (o : ℕ). if k == j then s else state o) (sym old)
+      | inr d ↦ chosen k j (state (get_or (set states (j / 4) b) (k / 4) 0)) s (state (get_or states (k / 4) 0))
+          (λ q. absurd (d (ap (λ (i : ℕ). i / 4) q)))
+          (λ q. ap state (get_or-set_other states (j / 4) (k / 4) b 0 d))
+    ]

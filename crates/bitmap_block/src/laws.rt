@@ -8,5 +8,4 @@ pub fn what_is_written_reads_back()
     ensures back { (x : Bitmap) → x.version < 2 ^ 64 → x.inodes < 2 ^ 64 → length x.states ≡ 256 → bitmap_in (bitmap_bytes x) ≡ Some x }
     ensures read { (block : List ℕ) (x : Bitmap) → bitmap_in block ≡ Some x → IsBitmapSector block x }
     ensures once { (block : List ℕ) (x y : Bitmap) → x.version < 2 ^ 64 → x.inodes < 2 ^ 64 → length x.states ≡ 256 → y.version < 2 ^ 64 → y.inodes < 2 ^ 64 → length y.states ≡ 256 → IsBitmapSector block x → IsBitmapSector block y → x ≡ y }
-{
-}
+{}

@@ -8,9 +8,12 @@ mod differences;
 mod inodes;
 mod laws;
 mod state;
+#[cfg(test)]
+mod tests;
 
 pub use codec::{decode, encode};
 pub use differences::patches;
 pub use frang_base::Bitmap;
 pub use inodes::{inode_in_use, with_inode};
 pub use laws::what_is_written_reads_back;
+pub use state::{BlockState, state_of, with_state};

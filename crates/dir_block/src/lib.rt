@@ -7,6 +7,8 @@ mod differences;
 mod laws;
 mod names;
 mod reading;
+#[cfg(test)]
+mod tests;
 mod writing;
 
 pub use differences::patches;

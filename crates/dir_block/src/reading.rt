@@ -1,5 +1,5 @@
 // A sector of a directory from its bytes.
-ghost use Rattle.std.specs.Prelude.{◌≡◌, ◌≤◌, ◌||◌, ◌&&◌, length, drop};
+ghost use Rattle.std.specs.Prelude.{◌≡◌, ◌≤◌, ◌||◌, ◌&&◌, length, drop, IfSome, IsTrue};
 ghost use Rattle.frang_base.specs.Name.{is_name};
 ghost use Rattle.sector_definitions.specs.Bytes as zero;
 ghost use Rattle.sector_definitions.specs.Directories as spec;
@@ -13,7 +13,8 @@ use sector_definitions::{DirEntry, DirSector};
 
 /// The sector of a directory that the block is. `None` exactly where it is none.
 pub fn decode(from: &Block) -> Option<DirSector>
-    ensures { result ≡ directory_in from.now }
+    ensures value { result ≡ directory_in from.now }
+    ensures fits { IfSome result (λ x. IsTrue (directory_fits x)) }
 {
     let read = fields(from);
     if !fits(&read) {

@@ -4,6 +4,8 @@
 
 mod laws;
 mod sector;
+#[cfg(test)]
+mod tests;
 
 pub use laws::what_is_written_reads_back;
 pub use sector::{sector_read, sector_write};

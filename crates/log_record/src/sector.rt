@@ -1,5 +1,5 @@
 // A sector of a log as a block, and back.
-ghost use Rattle.std.specs.Prelude.{◌≡◌, ◌<◌, ◌+◌, ◌%◌, ◌==◌, ◌&&◌, IsTrue, drop, if◌then◌else◌, nat_le};
+ghost use Rattle.std.specs.Prelude.{◌≡◌, ◌<◌, ◌+◌, ◌%◌, ◌==◌, ◌&&◌, IfSome, IsTrue, drop, if◌then◌else◌, nat_le};
 ghost use Rattle.sector_definitions.specs.Bytes as spec;
 ghost use Rattle.sector_definitions.specs.LogSectors as sectors;
 ghost use Rattle.sector_definitions.specs.LogSectors.{log_sector_bytes, log_sector_fields, log_sector_fits, log_sector_in, numbered_bytes, numbered_sector_in, is_empty_sector, is_record_sector};
@@ -45,7 +45,8 @@ fn is_clear(b: &Block) -> bool
 
 /// The sector of a log that the block in this slot is. `None` exactly where no such sector may stand there.
 pub fn sector_read(b: &Block, slot: u8) -> Option<LogSector>
-    ensures { result ≡ log_sector_in slot b.now }
+    ensures value { result ≡ log_sector_in slot b.now }
+    ensures fits { IfSome result (λ x. IsTrue (log_sector_fits slot x)) }
 {
     if is_clear(b) {
         return Some(empty_sector(slot));

@@ -1,5 +1,5 @@
 -- Sectors of logs: what was written reads back, and a block in a slot is at most one sector.
-use Rattle.std.proofs.Common.{◌≡◌, ℕ, ◌%◌, ◌^◌, ◌<◌, ◌≤◌, Bool, true, false, ◌&&◌, ◌||◌, ◌==◌, nat_le, nat_lt, Option, Some, List, [], ◌∷◌, ◌++◌, length, refl, sym, ap, ◌∙◌, subst, arith}
+use Rattle.std.proofs.Common.{◌≡◌, ℕ, ◌%◌, ◌^◌, ◌<◌, ◌≤◌, Bool, true, false, ◌&&◌, ◌||◌, ◌==◌, nat_le, nat_lt, Option, Some, None, IfSome, IsTrue, List, [], ◌∷◌, ◌++◌, length, refl, sym, ap, ◌∙◌, subst, arith}
 use Rattle.std.proofs.lemmas.Bool.{and_parts, and_from, false_from_ne_true}
 use Rattle.std.proofs.lemmas.Bool.Decides.{nat_tests}
 use Rattle.byteorder.specs.Endian.{little_bytes}
@@ -95,7 +95,7 @@ log_sector_back slot x h fits =
     (read_back numbered_bytes (is_numbered slot) (log_sector_fields (numbered_bytes x)) x (fields_of_numbered_bytes x h) test))
 
 -- the empty sector of a slot may stand there
-empty_fits : (slot : ℕ) → slot < 256 → log_sector_fits slot (empty_sector slot) ≡ true
+pub empty_fits : (slot : ℕ) → slot < 256 → log_sector_fits slot (empty_sector slot) ≡ true
 unfolding zeros
 empty_fits slot h =
     let below : nat_lt slot (2 ^ 63) ≡ true = grind (arith, nat_tests) in
@@ -128,3 +128,9 @@ log_sector_found slot block x s h = ap (log_sector_in slot) h.0 ∙ log_sector_b
 pub log_sector_once : (slot : ℕ) (block : List ℕ) (x y : LogSector) → IsStorable x → IsStorable y → IsLogSector slot block x → IsLogSector slot block y → x ≡ y
 log_sector_once slot block x y s t h g =
     let e : Some x ≡ Some y = sym (log_sector_found slot block x s h) ∙ log_sector_found slot block y t g in cc
+
+-- what is read of a numbered sector may stand in its slot
+pub numbered_fits : (slot : ℕ) (block : List ℕ) (y : LogSector) (o : Option LogSector) → o ≡ numbered_sector_in slot block y → IfSome o (λ x. IsTrue (log_sector_fits slot x))
+numbered_fits slot block y None e = tt
+numbered_fits slot block y (Some x) e =
+    (and_parts (nat_le 256 x.seq) (log_sector_fits slot x) (read_is numbered_bytes (is_numbered slot) block y x (sym e)).1).1
