@@ -1,9 +1,14 @@
 // Sectors worked out by hand.
+ghost use Rattle.std.specs.Prelude.{◌<◌, ◌%◌, ◌^◌, IsTrue};
+ghost use Rattle.sector_definitions.specs.LogSectors.{log_sector_fits};
+
 use crate::{LogSector, sector_read, sector_write};
 use frang_base::{Block, OpNo};
 
 // The only sector of a record of operation 2^32 + 5 in slot 2, whose body is one byte.
-fn only_part() -> LogSector {
+fn only_part() -> LogSector
+    ensures { IsTrue (log_sector_fits (result.seq % 256) result) }
+{
     let mut body = [0; 488];
     body[0] = 9;
     LogSector {
@@ -16,7 +21,10 @@ fn only_part() -> LogSector {
     }
 }
 
-fn empty(seq: u64) -> LogSector {
+fn empty(seq: u64) -> LogSector
+    requires { seq < 2 ^ 63 }
+    ensures { IsTrue (log_sector_fits (result.seq % 256) result) }
+{
     LogSector {
         seq,
         op: OpNo(0),
