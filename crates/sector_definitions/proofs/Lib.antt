@@ -8,3 +8,10 @@ pub mod RegionLaws
 pub mod RegionExamples
 pub mod ParamExamples
 pub mod InodeExamples
+pub mod BitmapLaws
+pub mod LogSectorLaws
+pub mod DirectoryPlaces
+pub mod DirectoryLaws
+pub mod BitmapExamples
+pub mod LogSectorExamples
+pub mod DirectoryExamples
