@@ -122,8 +122,8 @@ fn host_op(alloc: Global, op: &HostOp, to: &mut Vec<u8>) -> Result<(), NoMemory>
 
 // A line by its number, who is asked, and the names of the forms.
 fn line(alloc: Global, line: &Line, to: &mut Vec<u8>) -> Result<(), NoMemory> {
-    number(alloc, line.number, to)?;
-    number(alloc, u32::from(line.who.0), to)?;
+    let front = format!(in alloc; "{} {}", line.number, line.who.0)?;
+    to.extend_from_slice(front.as_bytes())?;
     match &line.what {
         What::Server(op) => server_op(alloc, op, to),
         What::Host(op) => host_op(alloc, op, to),
@@ -134,7 +134,7 @@ fn described(alloc: Global, script: &Script) -> Result<Vec<u8>, NoMemory> {
     let mut text = Vec::new(alloc);
     for one in script.as_slice() {
         line(alloc, one, &mut text)?;
-        text.push(b';')?;
+        text.push(b'\n')?;
     }
     Ok(text)
 }
@@ -156,75 +156,116 @@ fn expect_bad(rt: &impl Abort, alloc: Global, script: &[u8], line: u32, kind: u8
     }
 }
 
-#[test]
-fn each_command_is_read(rt: HostRuntime) -> Result<(), Fail> {
-    let rows = [
-        ("0 mount\n", " 1 0 Mount;"),
-        ("15 unmount\n", " 1 15 Unmount;"),
-        ("9 sync\n", " 1 9 Sync;"),
-        ("10 stall\n", " 1 10 Stall;"),
-        ("0 create /a\n", " 1 0 Create [a];"),
-        ("0 mkdir /a/b\n", " 1 0 Mkdir [a|b];"),
-        ("0 unlink /a\n", " 1 0 Unlink [a];"),
-        ("0 rmdir /\n", " 1 0 Rmdir [];"),
-        ("0 stat /\n", " 1 0 Stat [];"),
-        ("0 list /a/b/c\n", " 1 0 List [a|b|c];"),
-        ("0 readlink /a\n", " 1 0 Readlink [a];"),
-        ("0 time /a\n", " 1 0 Time [a];"),
-        ("0 link /a /b/c\n", " 1 0 Link [a] [b|c];"),
-        ("0 rename /a /\n", " 1 0 Rename [a] [];"),
-        ("0 symlink /a t\n", " 1 0 Symlink [a] t;"),
-        ("0 write /a 0 hello\n", " 1 0 Write [a] 0 hello;"),
-        ("0 fill /a 5 9 0a\n", " 1 0 Fill [a] 5 9 10;"),
-        ("0 truncate /a 7\n", " 1 0 Truncate [a] 7;"),
-        ("0 read /a 2 3\n", " 1 0 Read [a] 2 3;"),
-        ("0 crash\n", " 1 0 Crash;"),
-        ("0 crash 3\n", " 1 0 CrashAt 3;"),
-        ("0 cut 4\n", " 1 0 CutAt 4;"),
-        ("barrier\n", " 1 255 Barrier;"),
-        ("tick 5\n", " 1 255 Tick 5;"),
-        ("halt\n", " 1 255 Halt;"),
-    ];
-    for (script, wanted) in rows {
-        expect_read(&rt, rt.alloc(), script.as_bytes(), wanted.as_bytes())?;
+// All of these lines are bad alone, with this kind.
+fn expect_all_bad(rt: &impl Abort, alloc: Global, scripts: &str, kind: u8) {
+    for script in scripts.lines() {
+        expect_bad(rt, alloc, script.as_bytes(), 1, kind);
     }
-    Ok(())
 }
 
+const EACH_COMMAND: &str = "0 mount
+15 unmount
+9 sync
+10 stall
+0 create /a
+0 mkdir /a/b
+0 unlink /a
+0 rmdir /
+0 stat /
+0 list /a/b/c
+0 readlink /a
+0 time /a
+0 link /a /b/c
+0 rename /a /
+0 symlink /a t
+0 write /a 0 hello
+0 fill /a 5 9 0a
+0 truncate /a 7
+0 read /a 2 3
+0 crash
+0 crash 3
+0 cut 4
+barrier
+tick 5
+halt
+";
+
+const EACH_COMMAND_READ: &str = "1 0 Mount
+2 15 Unmount
+3 9 Sync
+4 10 Stall
+5 0 Create [a]
+6 0 Mkdir [a|b]
+7 0 Unlink [a]
+8 0 Rmdir []
+9 0 Stat []
+10 0 List [a|b|c]
+11 0 Readlink [a]
+12 0 Time [a]
+13 0 Link [a] [b|c]
+14 0 Rename [a] []
+15 0 Symlink [a] t
+16 0 Write [a] 0 hello
+17 0 Fill [a] 5 9 10
+18 0 Truncate [a] 7
+19 0 Read [a] 2 3
+20 0 Crash
+21 0 CrashAt 3
+22 0 CutAt 4
+23 255 Barrier
+24 255 Tick 5
+25 255 Halt
+";
+
+const BOUNDS: &str = "0 symlink /a /b/../c
+0 write /a 4294967295 x
+0 fill /a 0 1 00
+0 fill /a 4294967295 1114112 fF
+0 fill /a 0 1 9A
+0 truncate /a 0
+0 truncate /a 4294967295
+0 read /a 0 1
+0 read /a 4294967295 4096
+0 crash 1
+0 crash 1000000
+0 cut 1
+0 cut 1000000
+tick 1
+tick 10000
+0 create /...
+0 create /.a/b.
+0 create /#
+0 create /\u{e9}
+0 write /a 0 \u{2603}";
+
+const BOUNDS_READ: &str = "1 0 Symlink [a] /b/../c
+2 0 Write [a] 4294967295 x
+3 0 Fill [a] 0 1 0
+4 0 Fill [a] 4294967295 1114112 255
+5 0 Fill [a] 0 1 154
+6 0 Truncate [a] 0
+7 0 Truncate [a] 4294967295
+8 0 Read [a] 0 1
+9 0 Read [a] 4294967295 4096
+10 0 CrashAt 1
+11 0 CrashAt 1000000
+12 0 CutAt 1
+13 0 CutAt 1000000
+14 255 Tick 1
+15 255 Tick 10000
+16 0 Create [...]
+17 0 Create [.a|b.]
+18 0 Create [#]
+19 0 Create [\u{e9}]
+20 0 Write [a] 0 \u{2603}
+";
+
 #[test]
-fn arguments_are_read_to_their_bounds(rt: HostRuntime) -> Result<(), Fail> {
-    let rows = [
-        ("0 symlink /a /b/../c", " 1 0 Symlink [a] /b/../c;"),
-        ("0 write /a 4294967295 x", " 1 0 Write [a] 4294967295 x;"),
-        ("0 fill /a 0 1 00", " 1 0 Fill [a] 0 1 0;"),
-        (
-            "0 fill /a 4294967295 1114112 fF",
-            " 1 0 Fill [a] 4294967295 1114112 255;",
-        ),
-        ("0 fill /a 0 1 9A", " 1 0 Fill [a] 0 1 154;"),
-        ("0 truncate /a 0", " 1 0 Truncate [a] 0;"),
-        ("0 truncate /a 4294967295", " 1 0 Truncate [a] 4294967295;"),
-        ("0 read /a 0 1", " 1 0 Read [a] 0 1;"),
-        (
-            "0 read /a 4294967295 4096",
-            " 1 0 Read [a] 4294967295 4096;",
-        ),
-        ("0 crash 1", " 1 0 CrashAt 1;"),
-        ("0 crash 1000000", " 1 0 CrashAt 1000000;"),
-        ("0 cut 1", " 1 0 CutAt 1;"),
-        ("0 cut 1000000", " 1 0 CutAt 1000000;"),
-        ("tick 1", " 1 255 Tick 1;"),
-        ("tick 10000", " 1 255 Tick 10000;"),
-        ("0 create /...", " 1 0 Create [...];"),
-        ("0 create /.a/b.", " 1 0 Create [.a|b.];"),
-        ("0 create /#", " 1 0 Create [#];"),
-        ("0 create /\u{e9}", " 1 0 Create [\u{e9}];"),
-        ("0 write /a 0 \u{2603}", " 1 0 Write [a] 0 \u{2603};"),
-    ];
-    for (script, wanted) in rows {
-        expect_read(&rt, rt.alloc(), script.as_bytes(), wanted.as_bytes())?;
-    }
-    Ok(())
+fn each_command_is_read_to_its_bounds(rt: HostRuntime) -> Result<(), Fail> {
+    let alloc = rt.alloc();
+    let commands = EACH_COMMAND.as_bytes();
+    expect_read(&rt, alloc, commands, EACH_COMMAND_READ.as_bytes())?;
+    expect_read(&rt, alloc, BOUNDS.as_bytes(), BOUNDS_READ.as_bytes())
 }
 
 #[test]
@@ -232,21 +273,21 @@ fn lines_are_counted_and_words_parted(rt: HostRuntime) -> Result<(), Fail> {
     let rows = [
         ("", ""),
         ("\n\n", ""),
-        ("0 mount", " 1 0 Mount;"),
-        ("0 mount\r\n", " 1 0 Mount;"),
-        ("0 write /a 0 x\r\n", " 1 0 Write [a] 0 x;"),
-        ("\r\n0 sync\r\n", " 2 0 Sync;"),
-        (" \t0\t \tmount\t \n", " 1 0 Mount;"),
-        ("\t0 create\t/a", " 1 0 Create [a];"),
-        ("\n\n0 mount\n", " 3 0 Mount;"),
-        ("# 0 mount\n0 sync\n", " 2 0 Sync;"),
+        ("0 mount", "1 0 Mount\n"),
+        ("0 mount\r\n", "1 0 Mount\n"),
+        ("0 write /a 0 x\r\n", "1 0 Write [a] 0 x\n"),
+        ("\r\n0 sync\r\n", "2 0 Sync\n"),
+        (" \t0\t \tmount\t \n", "1 0 Mount\n"),
+        ("\t0 create\t/a", "1 0 Create [a]\n"),
+        ("\n\n0 mount\n", "3 0 Mount\n"),
+        ("# 0 mount\n0 sync\n", "2 0 Sync\n"),
         ("#\n#\u{1}\u{7f}\n", ""),
-        (" \t \n0 mount\n\n0 sync", " 2 0 Mount; 4 0 Sync;"),
+        (" \t \n0 mount\n\n0 sync", "2 0 Mount\n4 0 Sync\n"),
         (
             "1 mount\n0 mount\nbarrier\n",
-            " 1 1 Mount; 2 0 Mount; 3 255 Barrier;",
+            "1 1 Mount\n2 0 Mount\n3 255 Barrier\n",
         ),
-        ("halt\n\n# after the end\n \t", " 1 255 Halt;"),
+        ("halt\n\n# after the end\n \t", "1 255 Halt\n"),
     ];
     for (script, wanted) in rows {
         expect_read(&rt, rt.alloc(), script.as_bytes(), wanted.as_bytes())?;
@@ -254,121 +295,109 @@ fn lines_are_counted_and_words_parted(rt: HostRuntime) -> Result<(), Fail> {
     Ok(())
 }
 
+const UNKNOWN_WORDS: &str = "mount
+Barrier
+-1 mount
++1 mount
+0x mount
+ # 0 mount
+\u{feff}0 mount
+0 Create /a
+0 creat /a
+0 barrier
+0 tick 1";
+
+const NO_SERVERS: &str = "16 mount
+00 mount
+01 mount
+015 mount
+255 mount
+18446744073709551616 mount";
+
 #[test]
 fn bad_words_are_refused(rt: HostRuntime) {
-    let rows = [
-        ("mount", 1, 2),
-        ("Barrier", 1, 2),
-        ("-1 mount", 1, 2),
-        ("+1 mount", 1, 2),
-        ("0x mount", 1, 2),
-        (" # 0 mount", 1, 2),
-        ("\u{feff}0 mount", 1, 2),
-        ("0 Create /a", 1, 2),
-        ("0 creat /a", 1, 2),
-        ("0 barrier", 1, 2),
-        ("0 tick 1", 1, 2),
-        ("16 mount", 1, 7),
-        ("00 mount", 1, 7),
-        ("01 mount", 1, 7),
-        ("015 mount", 1, 7),
-        ("255 mount", 1, 7),
-        ("18446744073709551616 mount", 1, 7),
-    ];
-    for (script, line, kind) in rows {
-        expect_bad(&rt, rt.alloc(), script.as_bytes(), line, kind);
-    }
+    expect_all_bad(&rt, rt.alloc(), UNKNOWN_WORDS, 2);
+    expect_all_bad(&rt, rt.alloc(), NO_SERVERS, 7);
 }
+
+const TOO_FEW_WORDS: &str = "0
+0 create
+0 time
+0 link /a
+0 rename
+0 symlink /a
+0 write /a 0
+0 fill /a 0 1
+0 truncate /a
+0 read /a 0
+0 cut
+tick";
+
+const TOO_MANY_WORDS: &str = "0 mount 0
+0 unmount 0
+0 sync 0
+0 stall 1
+0 create /a /b
+0 link /a /b /c
+0 symlink /a t u
+0 write /a 0 two words
+0 fill /a 0 1 00 0
+0 truncate /a 0 0
+0 read /a 0 1 1
+0 crash 1 1
+0 cut 1 1
+barrier x
+halt x
+tick 1 1";
 
 #[test]
 fn words_are_counted(rt: HostRuntime) {
-    let rows = [
-        ("0", 1, 3),
-        ("0 create", 1, 3),
-        ("0 time\r\n", 1, 3),
-        ("0 link /a", 1, 3),
-        ("0 rename", 1, 3),
-        ("0 symlink /a", 1, 3),
-        ("0 write /a 0", 1, 3),
-        ("0 fill /a 0 1", 1, 3),
-        ("0 truncate /a", 1, 3),
-        ("0 read /a 0", 1, 3),
-        ("0 cut", 1, 3),
-        ("tick", 1, 3),
-        ("0 mount 0", 1, 4),
-        ("0 unmount 0", 1, 4),
-        ("0 sync 0", 1, 4),
-        ("0 stall 1", 1, 4),
-        ("0 create /a /b", 1, 4),
-        ("0 link /a /b /c", 1, 4),
-        ("0 symlink /a t u", 1, 4),
-        ("0 write /a 0 two words", 1, 4),
-        ("0 fill /a 0 1 00 0", 1, 4),
-        ("0 truncate /a 0 0", 1, 4),
-        ("0 read /a 0 1 1", 1, 4),
-        ("0 crash 1 1", 1, 4),
-        ("0 cut 1 1", 1, 4),
-        ("barrier x", 1, 4),
-        ("halt x", 1, 4),
-        ("tick 1 1", 1, 4),
-    ];
-    for (script, line, kind) in rows {
-        expect_bad(&rt, rt.alloc(), script.as_bytes(), line, kind);
-    }
+    expect_all_bad(&rt, rt.alloc(), TOO_FEW_WORDS, 3);
+    expect_all_bad(&rt, rt.alloc(), TOO_MANY_WORDS, 4);
 }
 
-#[test]
-fn bad_numbers_are_refused(rt: HostRuntime) {
-    let rows = [
-        ("0 truncate /a x1", 1, 5),
-        ("0 truncate /a 01", 1, 5),
-        ("0 truncate /a 00", 1, 5),
-        ("0 truncate /a -1", 1, 5),
-        ("0 truncate /a +1", 1, 5),
-        ("0 truncate /a 1e3", 1, 5),
-        ("0 truncate /a 4294967296", 1, 5),
-        ("0 truncate /a 18446744073709551616", 1, 5),
-        ("0 write /a 4294967296 x", 1, 5),
-        ("0 fill /a 4294967296 1 00", 1, 5),
-        ("0 fill /a 0 0 00", 1, 5),
-        ("0 fill /a 0 1114113 00", 1, 5),
-        ("0 fill /a 0 1 0", 1, 5),
-        ("0 fill /a 0 1 000", 1, 5),
-        ("0 fill /a 0 1 g0", 1, 5),
-        ("0 fill /a 0 1 0G", 1, 5),
-        ("0 read /a 4294967296 1", 1, 5),
-        ("0 read /a 0 0", 1, 5),
-        ("0 read /a 0 4097", 1, 5),
-        ("0 crash 0", 1, 5),
-        ("0 crash 1000001", 1, 5),
-        ("0 crash 01", 1, 5),
-        ("0 cut 0", 1, 5),
-        ("0 cut 1000001", 1, 5),
-        ("tick 0", 1, 5),
-        ("tick 10001", 1, 5),
-        ("tick 01", 1, 5),
-    ];
-    for (script, line, kind) in rows {
-        expect_bad(&rt, rt.alloc(), script.as_bytes(), line, kind);
-    }
-}
+const BAD_NUMBERS: &str = "0 truncate /a x1
+0 truncate /a 01
+0 truncate /a 00
+0 truncate /a -1
+0 truncate /a +1
+0 truncate /a 1e3
+0 truncate /a 4294967296
+0 truncate /a 18446744073709551616
+0 write /a 4294967296 x
+0 fill /a 4294967296 1 00
+0 fill /a 0 0 00
+0 fill /a 0 1114113 00
+0 fill /a 0 1 0
+0 fill /a 0 1 000
+0 fill /a 0 1 g0
+0 fill /a 0 1 0G
+0 read /a 4294967296 1
+0 read /a 0 0
+0 read /a 0 4097
+0 crash 0
+0 crash 1000001
+0 crash 01
+0 cut 0
+0 cut 1000001
+tick 0
+tick 10001
+tick 01";
+
+const BAD_PATHS: &str = "0 create a
+0 create //
+0 create /a/
+0 create /a//b
+0 create /.
+0 create /..
+0 create /a/../b
+0 link a /b
+0 rename /a b";
 
 #[test]
-fn bad_paths_are_refused(rt: HostRuntime) {
-    let rows = [
-        ("0 create a", 1, 6),
-        ("0 create //", 1, 6),
-        ("0 create /a/", 1, 6),
-        ("0 create /a//b", 1, 6),
-        ("0 create /.", 1, 6),
-        ("0 create /..", 1, 6),
-        ("0 create /a/../b", 1, 6),
-        ("0 link a /b", 1, 6),
-        ("0 rename /a b", 1, 6),
-    ];
-    for (script, line, kind) in rows {
-        expect_bad(&rt, rt.alloc(), script.as_bytes(), line, kind);
-    }
+fn bad_arguments_are_refused(rt: HostRuntime) {
+    expect_all_bad(&rt, rt.alloc(), BAD_NUMBERS, 5);
+    expect_all_bad(&rt, rt.alloc(), BAD_PATHS, 6);
 }
 
 #[test]
@@ -386,40 +415,58 @@ fn the_first_bad_line_counts(rt: HostRuntime) {
     }
 }
 
-// Each row has both faults; the one that comes first counts.
+// Each of these lines has several faults, of which that of the table comes first.
+const BYTES_FIRST: &str = "16 \u{1}
+nonsense \u{1}
+0 nonsense \u{1}
+0 create \u{1}/a /b
+0 truncate /\u{1} x";
+
+const SERVER_FIRST: &str = "16 nonsense
+16
+16 mount x
+16 create a";
+
+const WORD_FIRST: &str = "nonsense a b c
+0 nonsense
+0 nonsense a b c d e";
+
+const FEW_WORDS_FIRST: &str = "0 link a
+0 fill a x
+0 truncate a";
+
+const MANY_WORDS_FIRST: &str = "0 create a b
+0 truncate a x y
+0 crash x y
+tick x y";
+
+const PATH_FIRST: &str = "0 truncate a x
+0 fill a x 0 zz
+0 read a x y";
+
+const NUMBER_FIRST: &str = "0 fill /a x 0 zz";
+
 #[test]
 fn faults_of_a_line_have_an_order(rt: HostRuntime) {
+    expect_all_bad(&rt, rt.alloc(), BYTES_FIRST, 1);
+    expect_all_bad(&rt, rt.alloc(), SERVER_FIRST, 7);
+    expect_all_bad(&rt, rt.alloc(), WORD_FIRST, 2);
+    expect_all_bad(&rt, rt.alloc(), FEW_WORDS_FIRST, 3);
+    expect_all_bad(&rt, rt.alloc(), MANY_WORDS_FIRST, 4);
+    expect_all_bad(&rt, rt.alloc(), PATH_FIRST, 6);
+    expect_all_bad(&rt, rt.alloc(), NUMBER_FIRST, 5);
+}
+
+#[test]
+fn after_halt_bad_bytes_come_first(rt: HostRuntime) {
     let rows = [
         ("halt\n0 create /\u{7f}\n", 2, 1),
-        ("16 \u{1}", 1, 1),
-        ("nonsense \u{1}", 1, 1),
-        ("0 nonsense \u{1}", 1, 1),
-        ("0 create \u{1}/a /b", 1, 1),
-        ("0 truncate /\u{1} x", 1, 1),
         ("halt\n16 mount", 2, 11),
         ("halt\nnonsense", 2, 11),
         ("halt\n0 nonsense", 2, 11),
         ("halt\n0 create", 2, 11),
         ("halt\n0 create /a /b", 2, 11),
         ("halt\n0 create a", 2, 11),
-        ("16 nonsense", 1, 7),
-        ("16", 1, 7),
-        ("16 mount x", 1, 7),
-        ("16 create a", 1, 7),
-        ("nonsense a b c", 1, 2),
-        ("0 nonsense", 1, 2),
-        ("0 nonsense a b c d e", 1, 2),
-        ("0 link a", 1, 3),
-        ("0 fill a x", 1, 3),
-        ("0 truncate a", 1, 3),
-        ("0 create a b", 1, 4),
-        ("0 truncate a x y", 1, 4),
-        ("0 crash x y", 1, 4),
-        ("tick x y", 1, 4),
-        ("0 truncate a x", 1, 6),
-        ("0 fill a x 0 zz", 1, 6),
-        ("0 fill /a x 0 zz", 1, 5),
-        ("0 read a x y", 1, 6),
     ];
     for (script, line, kind) in rows {
         expect_bad(&rt, rt.alloc(), script.as_bytes(), line, kind);
