@@ -23,3 +23,9 @@ abbrev pub GivesNumbered : {A : Type 0} → Result A ScriptFault → Result A Re
 GivesNumbered given (Ok x) = given ≡ Ok x
 GivesNumbered given (Err read.NoMemory) = Unit {0}
 GivesNumbered given (Err (read.Bad f)) = given ≡ Err f
+
+-- what holds where the bytes are bad
+abbrev pub IfBad : {X : Type 0} → Result X ReadFault → Type 0 → Type 0
+IfBad (Ok x) P = Unit {0}
+IfBad (Err read.NoMemory) P = Unit {0}
+IfBad (Err (read.Bad f)) P = P

@@ -212,8 +212,8 @@ fn server(word: &[u8]) -> Result<ServerId, LineFault>
 }
 
 // What needs no more words.
-fn alone(op: Op, words: &[u8]) -> Result<Op, Refusal>
-    ensures { Gives (alone op (words_of words.now)) result }
+fn alone(op: Op, words: &[u8]) -> Result<Op, LineFault>
+    ensures { result ≡ alone op (words_of words.now) }
 {
     no_words(words)?;
     Ok(op)
@@ -239,12 +239,12 @@ fn op_with(alloc: Global, word: ServerWord, words: &[u8]) -> Result<Op, Refusal>
         ServerWord::Fill => fill(alloc, words),
         ServerWord::Truncate => truncate(alloc, words),
         ServerWord::Read => read(alloc, words),
-        ServerWord::Sync => alone(Op::Sync, words),
-        ServerWord::Mount => alone(Op::Mount, words),
-        ServerWord::Unmount => alone(Op::Unmount, words),
+        ServerWord::Sync => Ok(alone(Op::Sync, words)?),
+        ServerWord::Mount => Ok(alone(Op::Mount, words)?),
+        ServerWord::Unmount => Ok(alone(Op::Unmount, words)?),
         ServerWord::Crash => Ok(crash(words)?),
         ServerWord::Cut => Ok(Op::CutAt { k: writes(words)? }),
-        ServerWord::Stall => alone(Op::Stall, words),
+        ServerWord::Stall => Ok(alone(Op::Stall, words)?),
     }
 }
 
