@@ -8,6 +8,8 @@ mod parts;
 mod reading;
 mod reply;
 mod said;
+#[cfg(test)]
+mod tests;
 
 pub use reading::read_line;
 pub use reply::reply_word;

@@ -1,4 +1,4 @@
--- The text that prints a script is longer than the one that was read by at most a line feed.
+-- The text that prints a script is longer than the one that was read by at most the line feed that may lack at its end.
 use Rattle.std.proofs.Common.{◌≡◌, ℕ, ◌+◌, ◌-◌, ◌≤◌, Bool, true, false, ◌||◌, cond, eqb, ltb, List, [], ◌∷◌, ◌++◌, length, length-append, take, filter, replicate, Option, Some, None, Result, Ok, Err, refl, sym, ◌∙◌, ap, subst, arith, zero, suc}
 use Rattle.std.specs.Prelude.{min}
 use Rattle.std.proofs.lemmas.List.{length-take}
@@ -18,6 +18,8 @@ use Rattle.script_definitions.specs.declared.fault.LineFault.{LineFault}
 use Rattle.script_definitions.specs.declared.fault.LineFault.TheVariants as fault
 use Rattle.script_definitions.proofs.PartsLaws.{HasFirst, split_has}
 use Rattle.script_definitions.proofs.AskedLaws.{guard_ok, same_ok}
+use Rattle.std.proofs.lemmas.Bool.{ltb-false}
+use Rattle.script_definitions.proofs.PrintedLaws.{read_again}
 use Rattle.script_definitions.proofs.JudgedLaws.{HasWords, line_has, judged_sound, line_of, with_line_ok, spelled_by}
 
 -- the bytes of parts, with one more for each
@@ -134,3 +136,43 @@ printed_short bytes script e =
     let h = lines_length (lines bytes) 1 1 false script (omega arith) g.1 in
     let k = lines_span bytes in
     omega (arith, h, k)
+
+-- where the text ends by a line feed, its lines take no more than it
+split_more : (b : Bool) (x : ℕ) (parts : List (List ℕ)) → HasFirst parts → cond b ([] ∷ (parts ++ [] ∷ [])) (onto_first x (parts ++ [] ∷ [])) ≡ cond b ([] ∷ parts) (onto_first x parts) ++ [] ∷ []
+split_more true x parts h = refl
+split_more false x parts h = ap (λ ps. onto_first x (ps ++ [] ∷ [])) h.is ∙ sym (ap (λ ps. onto_first x ps ++ [] ∷ []) h.is)
+
+split_ended : (text : List ℕ) → slice_split (λ b. eqb b 10) (text ++ 10 ∷ []) ≡ slice_split (λ b. eqb b 10) text ++ [] ∷ []
+split_ended [] = refl
+split_ended (x ∷ text) =
+    ap (λ ps. cond (eqb x 10) ([] ∷ ps) (onto_first x ps)) (split_ended text)
+    ∙ split_more (eqb x 10) x (slice_split (λ b. eqb b 10) text) (split_has (λ b. eqb b 10) text)
+
+ended_span : (parts : List (List ℕ)) → span (lines_of_parts (parts ++ [] ∷ [])) ≤ span parts
+ended_span [] = omega arith
+ended_span (x ∷ []) = let short = strip_step (eqb (slice_index x (length x - 1)) 13) x in omega (arith, short)
+ended_span (x ∷ y ∷ more) =
+    let short = strip_step (eqb (slice_index x (length x - 1)) 13) x in
+    let rest = ended_span (y ∷ more) in
+    omega (arith, short, rest)
+
+ended_lines : (text : List ℕ) → span (lines (text ++ 10 ∷ [])) ≤ length text + 1
+ended_lines text =
+    let same : lines (text ++ 10 ∷ []) ≡ lines_of_parts (slice_split (λ b. eqb b 10) text ++ [] ∷ []) = ap lines_of_parts (split_ended text) in
+    let few = ended_span (slice_split (λ b. eqb b 10) text) in
+    let all = split_span (λ b. eqb b 10) text in
+    let equal = ap span same in
+    omega (arith, few, all, equal)
+
+printed_ended : (text : List ℕ) (script : List Line) → script_of (text ++ 10 ∷ []) ≡ Ok script → length (printed script) ≤ 1048576
+printed_ended text script e =
+    let bytes = text ++ 10 ∷ [] in
+    let g = guard_ok (ltb 1048576 (length bytes)) (fault_at 0 fault.ScriptTooLong) (script_from 1 false (lines bytes)) script e in
+    let h = lines_length (lines bytes) 1 1 false script (omega arith) g.1 in
+    let k = ended_lines text in
+    let few : length bytes ≤ 1048576 = ltb-false 1048576 (length bytes) g.0 in
+    let size : length bytes ≡ length text + 1 = length-append text (10 ∷ []) in
+    omega (arith, h, k, few, size)
+
+pub ended_again : (text : List ℕ) (script : List Line) → script_of (text ++ 10 ∷ []) ≡ Ok script → script_of (printed script) ≡ Ok script
+ended_again text script e = read_again (text ++ 10 ∷ []) script e (printed_ended text script e)

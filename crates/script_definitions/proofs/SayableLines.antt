@@ -31,10 +31,10 @@ pub record IsBelow (text : List ℕ) : Type 0 where
   pub named : list_all is_name names ≡ true
   pub is : text ≡ flat_map (λ n. 47 ∷ n) names
 
-below_none : IsBelow []
+pub below_none : IsBelow []
 below_none = record { names = []; named = refl; is = refl }
 
-below_more : (text name : List ℕ) → IsBelow text → is_name name ≡ true → IsBelow (name_below text name)
+pub below_more : (text name : List ℕ) → IsBelow text → is_name name ≡ true → IsBelow (name_below text name)
 below_more text name h e = record {
   names = h.names ++ name ∷ [];
   named = all_append is_name h.names (name ∷ []) h.named (and_from (is_name name) true e refl);
@@ -61,7 +61,7 @@ text_step : (names : List (List ℕ)) → lines.path_text (flat_map (λ n. 47 �
 text_step [] = refl
 text_step (name ∷ names) = refl
 
-below_path : (text : List ℕ) → IsBelow text → is_path_text (lines.path_text text) ≡ true
+pub below_path : (text : List ℕ) → IsBelow text → is_path_text (lines.path_text text) ≡ true
 below_path text h = ap (λ t. is_path_text (lines.path_text t)) h.is ∙ ap is_path_text (text_step h.names) ∙ proper_path h.names h.named
 
 -- the lines of a tree

@@ -1,5 +1,5 @@
 // What the definitions promise of one another. Each law is the contract of a function that does nothing.
-ghost use Rattle.std.specs.Prelude.{◌≡◌, ◌≤◌, ◌+◌, ◌++◌, ◌∷◌, List, ℕ, Some, None, Ok, length};
+ghost use Rattle.std.specs.Prelude.{◌≡◌, ◌≤◌, ◌+◌, ◌++◌, ◌∷◌, [], List, ℕ, Some, None, Ok, length};
 ghost use Rattle.frang_base.specs.declared.said.Said.{Said};
 ghost use Rattle.frang_base.specs.declared.script.Line.{Line};
 ghost use Rattle.tree_definitions.specs.SaidLines.{said_line};
@@ -43,9 +43,10 @@ pub fn a_text_is_one_script()
     ensures { (bytes : List ℕ) (s t : List Line) → IsScriptText bytes s → IsScriptText bytes t → s ≡ t }
 {}
 
-/// A script that was read is read again, with the numbers of its lines, from the text that prints it, where that text isn't too
-/// long. It is longer than the bytes that were read by at most the line feed that may lack at their end.
+/// A script that was read is read again, with the numbers of its lines, from the text that prints it, where that isn't too long. It
+/// is longer than the bytes that were read by at most a line feed, and where these end by a line feed it is short enough.
 pub fn printed_scripts_are_read_back()
     ensures read { (bytes : List ℕ) (script : List Line) → script_of bytes ≡ Ok script → length (printed script) ≤ 1048576 → script_of (printed script) ≡ Ok script }
     ensures short { (bytes : List ℕ) (script : List Line) → script_of bytes ≡ Ok script → length (printed script) ≤ length bytes + 1 }
+    ensures ended { (text : List ℕ) (script : List Line) → script_of (text ++ 10 ∷ []) ≡ Ok script → script_of (printed script) ≡ Ok script }
 {}

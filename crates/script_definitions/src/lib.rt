@@ -1,7 +1,7 @@
 //! What scripts and said lines are as texts: the grammar of scripts with the first fault of a bad one, the text that prints a
 //! script, and the line that bytes are. The meanings are the definitions in `specs/`; the code is the small readers of words
-//! that both grammars share, each of which is promised to give its definition's value. It stands on the base types and the
-//! definitions of the tree.
+//! that both grammars share, each of which is promised to give its definition's value. The laws promise that reading and writing
+//! undo each other and that what a tree holds and answers can be said. It stands on the base types and the definitions of the tree.
 #![tactic(auto)]
 
 mod asked;

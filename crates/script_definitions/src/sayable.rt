@@ -1,6 +1,7 @@
 // That what is answered and what a tree holds can be said. Each law is the contract of a function that does nothing.
-ghost use Rattle.std.specs.Prelude.{◌≡◌, ◌<◌, ◌^◌, List, ℕ, Ok};
-ghost use Rattle.std.specs.List.{All};
+ghost use Rattle.std.specs.Prelude.{◌≡◌, ◌<◌, ◌^◌, List, ℕ, Ok, true};
+ghost use Rattle.std.specs.List.{All, list_all};
+ghost use Rattle.frang_base.specs.Name.{is_name};
 ghost use Rattle.frang_base.specs.declared.op.Op.{Op};
 ghost use Rattle.frang_base.specs.declared.reply.Reply.{Reply};
 ghost use Rattle.frang_base.specs.declared.said.Said.{Said};
@@ -14,7 +15,8 @@ ghost use Rattle.tree_definitions.specs.Live.{live_history};
 ghost use Rattle.tree_definitions.specs.Removal.{tree_of};
 ghost use Rattle.tree_definitions.specs.Tree.{FileTree, fresh};
 ghost use Rattle.tree_definitions.specs.TreeLines.{tree_lines};
-ghost use Rattle.script_definitions.specs.SaidReading.{IsWho, IsProperSaid};
+ghost use Rattle.script_definitions.specs.SaidReading.{IsWho, IsProperSaid, is_path_text};
+ghost use Rattle.script_definitions.specs.ScriptPrinted.{path_text};
 ghost use Rattle.script_definitions.specs.Sayable.{IsSayableTree, IsSayableOp, IsSayableReply, IsSayableApplied, IsSayableItem, IsSayableLine, HasSayableReply, HasCounts, IsTreeLine};
 ghost use Rattle.script_definitions.specs.ScriptText.{script_of};
 
@@ -41,8 +43,10 @@ pub fn tree_lines_can_be_said()
     ensures { (tree : FileTree) → IsSayableTree tree → All IsTreeLine (tree_lines tree) }
 {}
 
-/// Such lines of a tree, and answers of such replies, are lines that can be said where their numbers have 32 bits.
+/// Such lines of a tree, and answers of such replies, are lines that can be said where their numbers have 32 bits; and the text of
+/// names is that of a path.
 pub fn what_can_be_said_is_proper()
+    ensures path { (names : List (List ℕ)) → list_all is_name names ≡ true → is_path_text (path_text names) ≡ true }
     ensures node { (path : List ℕ) (kind size links : ℕ) → IsTreeLine (said.Node path kind size links) → size < 2 ^ 32 → links < 2 ^ 32 → IsProperSaid (said.Node path kind size links) }
     ensures answer { (server : ServerId) (line : ℕ) (r : Reply) → IsWho server.0 → line < 2 ^ 32 → IsSayableReply r → HasCounts r → IsProperSaid (said.Answer server line r) }
 {}

@@ -1,3 +1,4 @@
 pub mod LinesAndWords
 pub mod Texts
 pub mod ReadingLines
+pub mod ScriptAnswers

@@ -16,24 +16,21 @@ pub fn path(alloc: Global, word: &[u8]) -> Result<Path, Refusal>
     match parse_path(alloc, word) {
         Ok(path) => Ok(path),
         Err(PathFault::NoMemory) => Err(Refusal::NoMemory),
-        Err(PathFault::BadName) => Err(Refusal::Bad(LineFault::BadPath)),
-        Err(PathFault::TooLong) => Err(Refusal::Bad(LineFault::BadPath)),
-        Err(PathFault::TooDeep) => Err(Refusal::Bad(LineFault::BadPath)),
+        Err(PathFault::BadName | PathFault::TooLong | PathFault::TooDeep) => {
+            Err(Refusal::Bad(LineFault::BadPath))
+        }
     }
 }
 
-pub fn number(word: &[u8], low: u32, high: u32) -> Result<u32, Refusal>
-    ensures { Gives (number_at low high word.now) result }
+pub fn number(word: &[u8], low: u32, high: u32) -> Result<u32, LineFault>
+    ensures { result ≡ number_at low high word.now }
 {
-    match number_within(word, low, high) {
-        Some(number) => Ok(number),
-        None => Err(Refusal::Bad(LineFault::BadNumber)),
-    }
+    number_within(word, low, high).ok_or(LineFault::BadNumber)
 }
 
 // An offset or a length.
-pub fn offset(word: &[u8]) -> Result<u32, Refusal>
-    ensures { Gives (offset_at word.now) result }
+pub fn offset(word: &[u8]) -> Result<u32, LineFault>
+    ensures { result ≡ offset_at word.now }
 {
     number(word, 0, u32::MAX)
 }
@@ -61,19 +58,16 @@ fn digit_value(digit: u8) -> Option<u8>
     }
 }
 
-fn wanted_digit(digit: u8) -> Result<u8, Refusal>
-    ensures value { Gives (or_fault LineFault.BadNumber (digit_value digit)) result }
+fn wanted_digit(digit: u8) -> Result<u8, LineFault>
+    ensures value { result ≡ or_fault LineFault.BadNumber (digit_value digit) }
     ensures small { IfOk result (λ n. n < 16) }
 {
-    match digit_value(digit) {
-        Some(value) => Ok(value),
-        None => Err(Refusal::Bad(LineFault::BadNumber)),
-    }
+    digit_value(digit).ok_or(LineFault::BadNumber)
 }
 
 // A byte by two hexadecimal digits.
-pub fn byte(word: &[u8]) -> Result<u8, Refusal>
-    ensures { Gives (byte_at word.now) result }
+pub fn byte(word: &[u8]) -> Result<u8, LineFault>
+    ensures { result ≡ byte_at word.now }
 {
     match word {
         [high, low] => {
@@ -81,7 +75,7 @@ pub fn byte(word: &[u8]) -> Result<u8, Refusal>
             let low = wanted_digit(*low)?;
             Ok(high * 16 + low)
         }
-        _ => Err(Refusal::Bad(LineFault::BadNumber)),
+        _ => Err(LineFault::BadNumber),
     }
 }
 

@@ -4,6 +4,7 @@ ghost use Rattle.std.specs.List.{list_all};
 ghost use Rattle.script_definitions.specs.Numerals.{is_digit};
 ghost use Rattle.script_definitions.specs.ScriptWords.{words_of, word_among, path_words, longer_words, bare_words, server_word, symlink_of, write_of, fill_of, truncate_of, read_of, writes_of, crash_of, op_with, op_of, host_op_of, server_of, server_line, host_line, asked_of};
 ghost use Rattle.script_lang.specs.Answers.{Gives};
+ghost use Rattle.script_lang.specs.Words.{alone};
 
 use crate::arguments::{byte, number, offset, path, path_alone, paths, text};
 use crate::refusal::Refusal;
@@ -182,15 +183,15 @@ fn read(alloc: Global, words: &[u8]) -> Result<Op, Refusal>
 }
 
 // A count of writes.
-fn writes(words: &[u8]) -> Result<u32, Refusal>
-    ensures { Gives (writes_of (words_of words.now)) result }
+fn writes(words: &[u8]) -> Result<u32, LineFault>
+    ensures { result ≡ writes_of (words_of words.now) }
 {
     number(one_word(words)?, 1, WRITES_MAX)
 }
 
 // At once, or at a write.
-fn crash(words: &[u8]) -> Result<Op, Refusal>
-    ensures { Gives (crash_of (words_of words.now)) result }
+fn crash(words: &[u8]) -> Result<Op, LineFault>
+    ensures { result ≡ crash_of (words_of words.now) }
 {
     if next_word(words).is_none() {
         return Ok(Op::Crash);
@@ -201,13 +202,21 @@ fn crash(words: &[u8]) -> Result<Op, Refusal>
 
 // The server that a word of digits names.
 #[tactic(auto, using(script_definitions::proofs::NumeralLaws::number_in_most))]
-fn server(word: &[u8]) -> Result<ServerId, Refusal>
-    ensures { Gives (server_of word.now) result }
+fn server(word: &[u8]) -> Result<ServerId, LineFault>
+    ensures { result ≡ server_of word.now }
 {
     match number_within(word, 0, SERVER_MAX) {
         Some(number) => Ok(ServerId(number as u8)),
-        None => Err(Refusal::Bad(LineFault::BadServer)),
+        None => Err(LineFault::BadServer),
     }
+}
+
+// What needs no more words.
+fn alone(op: Op, words: &[u8]) -> Result<Op, LineFault>
+    ensures { result ≡ alone op (words_of words.now) }
+{
+    no_words(words)?;
+    Ok(op)
 }
 
 // What a word asks with the words that follow it.
@@ -230,12 +239,12 @@ fn op_with(alloc: Global, word: ServerWord, words: &[u8]) -> Result<Op, Refusal>
         ServerWord::Fill => fill(alloc, words),
         ServerWord::Truncate => truncate(alloc, words),
         ServerWord::Read => read(alloc, words),
-        ServerWord::Sync => no_words(words).map(|_| Op::Sync),
-        ServerWord::Mount => no_words(words).map(|_| Op::Mount),
-        ServerWord::Unmount => no_words(words).map(|_| Op::Unmount),
-        ServerWord::Crash => crash(words),
-        ServerWord::Cut => writes(words).map(|k| Op::CutAt { k }),
-        ServerWord::Stall => no_words(words).map(|_| Op::Stall),
+        ServerWord::Sync => Ok(alone(Op::Sync, words)?),
+        ServerWord::Mount => Ok(alone(Op::Mount, words)?),
+        ServerWord::Unmount => Ok(alone(Op::Unmount, words)?),
+        ServerWord::Crash => Ok(crash(words)?),
+        ServerWord::Cut => Ok(Op::CutAt { k: writes(words)? }),
+        ServerWord::Stall => Ok(alone(Op::Stall, words)?),
     }
 }
 
@@ -253,8 +262,8 @@ fn op_of(alloc: Global, words: &[u8]) -> Result<Op, Refusal>
 }
 
 // What the host is asked.
-fn host_op(word: &[u8], words: &[u8]) -> Result<HostOp, Refusal>
-    ensures { Gives (host_op_of word.now (words_of words.now)) result }
+fn host_op(word: &[u8], words: &[u8]) -> Result<HostOp, LineFault>
+    ensures { result ≡ host_op_of word.now (words_of words.now) }
 {
     if word == b"barrier".as_slice() {
         no_words(words)?;
@@ -268,7 +277,7 @@ fn host_op(word: &[u8], words: &[u8]) -> Result<HostOp, Refusal>
         let n = number(one_word(words)?, 1, TICKS_MAX)?;
         return Ok(HostOp::Tick { n });
     }
-    Err(Refusal::Bad(LineFault::UnknownWord))
+    Err(LineFault::UnknownWord)
 }
 
 fn server_line(alloc: Global, word: &[u8], words: &[u8]) -> Result<Asked, Refusal>
@@ -282,8 +291,8 @@ fn server_line(alloc: Global, word: &[u8], words: &[u8]) -> Result<Asked, Refusa
     })
 }
 
-fn host_line(word: &[u8], words: &[u8]) -> Result<Asked, Refusal>
-    ensures { Gives (host_line word.now (words_of words.now)) result }
+fn host_line(word: &[u8], words: &[u8]) -> Result<Asked, LineFault>
+    ensures { result ≡ host_line word.now (words_of words.now) }
 {
     let op = host_op(word, words)?;
     Ok(Asked {
@@ -308,5 +317,5 @@ pub fn asked(alloc: Global, line: &[u8]) -> Result<Asked, Refusal>
     if are_digits(word) {
         return server_line(alloc, word, words);
     }
-    host_line(word, words)
+    Ok(host_line(word, words)?)
 }

@@ -8,6 +8,10 @@ mod command;
 mod print;
 mod refusal;
 mod script;
+#[cfg(test)]
+mod sizes;
+#[cfg(test)]
+mod tests;
 mod words;
 
 pub use print::print_script;

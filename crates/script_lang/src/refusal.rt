@@ -38,3 +38,13 @@ impl From<NoMemory> for Refusal {
         Refusal::NoMemory
     }
 }
+
+impl From<LineFault> for Refusal {
+    ghost use Rattle.script_lang.specs.declared.refusal.Refusal.TheVariants.{Bad};
+
+    ghost from_gives = { λ fault e. e ≡ Bad fault };
+
+    fn from(fault: LineFault) -> Self {
+        Refusal::Bad(fault)
+    }
+}

@@ -1,11 +1,13 @@
 // A script from bytes.
-ghost use Rattle.std.specs.Prelude.{◌≡◌, ◌&&◌, ◌==◌, false, not, length};
+ghost use Rattle.std.specs.Prelude.{◌≡◌, ◌&&◌, ◌==◌, false, not, length, List, IfOk};
 ghost use Rattle.std.specs.List.{list_any};
 ghost use Rattle.std.specs.Str.{is_utf8};
 ghost use Rattle.std.specs.Str.Lines.{lines};
 ghost use Rattle.script_definitions.specs.ScriptWords.{is_blank, words_of};
+ghost use Rattle.frang_base.specs.declared.script.Line.{Line};
+ghost use Rattle.script_definitions.specs.ScriptGrammar.{IsScriptText};
 ghost use Rattle.script_definitions.specs.ScriptText.{is_control, is_text, is_comment, is_skipped, judged, is_halt, fault_at, numbered, script_from, script_of};
-ghost use Rattle.script_lang.specs.Answers.{Gives, GivesNumbered};
+ghost use Rattle.script_lang.specs.Answers.{Gives, GivesNumbered, IfBad};
 
 use crate::command::asked;
 use crate::refusal::{ReadFault, Refusal};
@@ -155,8 +157,13 @@ fn read_lines(alloc: Global, bytes: &[u8]) -> Result<Script, ReadFault>
 
 /// The script of these bytes. `Bad` comes exactly where they are none, with the first bad line, counted from 1, and the kind of
 /// its first fault; more than 1,048,576 bytes are kind 9 at line 0. What is read takes memory in proportion to the bytes.
+#[tactic(auto, using(crate::proofs::ScriptAnswers::read_found, crate::proofs::ScriptAnswers::read_none))]
 pub fn read_script(alloc: Global, bytes: &[u8]) -> Result<Script, ReadFault>
-    ensures { GivesNumbered (script_of bytes.now) result }
+    ensures exact { GivesNumbered (script_of bytes.now) result }
+    // What is read is in the grammar.
+    ensures found { IfOk result (λ script. IsScriptText bytes.now script) }
+    // Bad bytes are no script of the grammar.
+    ensures none { IfBad result ((script : List Line) → IsScriptText bytes.now script → ⊥) }
 {
     if bytes.len() > SCRIPT_BYTES_MAX {
         return Err(ReadFault::Bad(fault_at(0, LineFault::ScriptTooLong)));

@@ -4,10 +4,9 @@ ghost use Rattle.std.specs.List.{position, slice_split};
 ghost use Rattle.std.specs.Option.{option_copied};
 ghost use Rattle.std.specs.Str.Lines.{lines, strip_carriage_return};
 ghost use Rattle.script_definitions.specs.ScriptWords.{is_blank, words_of, no_words, one_word, two_words, three_words, four_words};
-ghost use Rattle.script_lang.specs.Answers.{Gives, GivesBy};
+ghost use Rattle.script_lang.specs.Answers.{AreWords};
 ghost use Rattle.script_lang.specs.Words.{blank_parts};
 
-use crate::refusal::Refusal;
 use frang_base::cut;
 use script_definitions::LineFault;
 
@@ -77,53 +76,53 @@ pub fn next_word(text: &[u8]) -> Option<(&[u8], &[u8])>
 }
 
 // The first word, which must be there, and the text after it.
-fn wanted_word(text: &[u8]) -> Result<(&[u8], &[u8]), Refusal>
+fn wanted_word(text: &[u8]) -> Result<(&[u8], &[u8]), LineFault>
     ensures { MatchResult result
         (λ w. words_of text.now ≡ w.0.now ∷ words_of w.1.now)
-        (λ e. (words_of text.now ≡ []) × (e ≡ Refusal.Bad LineFault.MissingWord)) }
+        (λ f. (words_of text.now ≡ []) × (f ≡ LineFault.MissingWord)) }
 {
     match next_word(text) {
         Some((word, rest)) => Ok((word, rest)),
-        None => Err(Refusal::Bad(LineFault::MissingWord)),
+        None => Err(LineFault::MissingWord),
     }
 }
 
 // No word may follow.
-pub fn no_words(text: &[u8]) -> Result<(), Refusal>
-    ensures { Gives (no_words (words_of text.now)) result }
+pub fn no_words(text: &[u8]) -> Result<(), LineFault>
+    ensures { result ≡ no_words (words_of text.now) }
 {
     match next_word(text) {
-        Some(_) => Err(Refusal::Bad(LineFault::ExtraWord)),
+        Some(_) => Err(LineFault::ExtraWord),
         None => Ok(()),
     }
 }
 
-pub fn one_word(text: &[u8]) -> Result<&[u8], Refusal>
-    ensures { GivesBy (λ w. w.now) (one_word (words_of text.now)) result }
+pub fn one_word(text: &[u8]) -> Result<&[u8], LineFault>
+    ensures { AreWords (λ w. w.now) (one_word (words_of text.now)) result }
 {
     let (a, rest) = wanted_word(text)?;
     no_words(rest)?;
     Ok(a)
 }
 
-pub fn two_words(text: &[u8]) -> Result<(&[u8], &[u8]), Refusal>
-    ensures { GivesBy (λ w. (w.0.now, w.1.now)) (two_words (words_of text.now)) result }
+pub fn two_words(text: &[u8]) -> Result<(&[u8], &[u8]), LineFault>
+    ensures { AreWords (λ w. (w.0.now, w.1.now)) (two_words (words_of text.now)) result }
 {
     let (a, rest) = wanted_word(text)?;
     let b = one_word(rest)?;
     Ok((a, b))
 }
 
-pub fn three_words(text: &[u8]) -> Result<(&[u8], &[u8], &[u8]), Refusal>
-    ensures { GivesBy (λ w. (w.0.now, w.1.now, w.2.now)) (three_words (words_of text.now)) result }
+pub fn three_words(text: &[u8]) -> Result<(&[u8], &[u8], &[u8]), LineFault>
+    ensures { AreWords (λ w. (w.0.now, w.1.now, w.2.now)) (three_words (words_of text.now)) result }
 {
     let (a, rest) = wanted_word(text)?;
     let (b, c) = two_words(rest)?;
     Ok((a, b, c))
 }
 
-pub fn four_words(text: &[u8]) -> Result<(&[u8], &[u8], &[u8], &[u8]), Refusal>
-    ensures { GivesBy (λ w. (w.0.now, w.1.now, w.2.now, w.3.now)) (four_words (words_of text.now)) result }
+pub fn four_words(text: &[u8]) -> Result<(&[u8], &[u8], &[u8], &[u8]), LineFault>
+    ensures { AreWords (λ w. (w.0.now, w.1.now, w.2.now, w.3.now)) (four_words (words_of text.now)) result }
 {
     let (a, rest) = wanted_word(text)?;
     let (b, c, d) = three_words(rest)?;
