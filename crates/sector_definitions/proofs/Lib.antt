@@ -1,0 +1,4 @@
+pub mod WrittenFields
+pub mod Readings
+pub mod PatchLaws
+pub mod ParamLaws
