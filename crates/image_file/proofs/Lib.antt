@@ -1,0 +1,2 @@
+pub mod EntryBytes
+pub mod EntriesRead

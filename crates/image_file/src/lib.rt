@@ -1,0 +1,4 @@
+//! Images of disks: a disk as bytes, and bytes as a disk or their first fault. Contracts promise that reading gives exactly what the
+//! definition of images says of the bytes, and that writing adds exactly the image of the disk; the laws say that the one undoes the
+//! other. It stands on the definitions of disks and on the readers of sectors.
+#![tactic(auto)]
