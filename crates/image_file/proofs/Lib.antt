@@ -1,2 +1,4 @@
 pub mod EntryBytes
 pub mod EntriesRead
+pub mod Ascending
+pub mod Headers
