@@ -2,3 +2,6 @@ pub mod EntryBytes
 pub mod EntriesRead
 pub mod Ascending
 pub mod Headers
+pub mod Bounds
+pub mod FirstSector
+pub mod ImageLaws
