@@ -25,17 +25,28 @@ read_by count rest bytes t m c r =
     ∙ (ap (λ (b : Bool). cond b (sectors_in (number_at 8 8 bytes) (drop 16 bytes)) (Err (fault 0 OtherMark))) m
     ∙ (ap (λ (n : ℕ). sectors_in n (drop 16 bytes)) c ∙ ap (sectors_in count) r))
 
+length_marked : (count : ℕ) → length (image_mark ++ little_bytes 8 count) ≡ 16
+length_marked count = omega (arith, length-append image_mark (little_bytes 8 count), length-bytes_low_first 0 8 count)
+
+joined : (count : ℕ) (rest : List ℕ) → headed count rest ≡ image_mark ++ (little_bytes 8 count ++ rest)
+joined count rest = append_assoc image_mark (little_bytes 8 count) rest
+
+pub header_count : (count : ℕ) (rest : List ℕ) → count < 2 ^ 64 → number_at 8 8 (headed count rest) ≡ count
+header_count count rest h =
+    ap (λ (xs : List ℕ). number_at 8 8 xs) (joined count rest)
+    ∙ (ap (λ (xs : List ℕ). little_from 0 8 xs) (drop-append_seam image_mark (little_bytes 8 count ++ rest)) ∙ little_number-reads_back 8 count rest h)
+
+pub header_rest : (count : ℕ) (rest : List ℕ) → drop 16 (headed count rest) ≡ rest
+header_rest count rest =
+    ap (λ (i : ℕ). drop i (headed count rest)) (sym (length_marked count)) ∙ drop-append_seam (image_mark ++ little_bytes 8 count) rest
+
 pub header_read : (count : ℕ) (rest : List ℕ) → count < 2 ^ 64 → image_in (headed count rest) ≡ sectors_in count rest
 header_read count rest h =
-    let number = little_bytes 8 count in
-    let n : length number ≡ 8 = length-bytes_low_first 0 8 count in
-    let marked : length (image_mark ++ number) ≡ 16 = omega (arith, length-append image_mark number, n) in
-    let joined : headed count rest ≡ image_mark ++ (number ++ rest) = append_assoc image_mark number rest in
     read_by count rest (headed count rest)
-    (of_ge _ 16 (omega (arith, length-append (image_mark ++ number) rest, marked)))
-    (ap (λ (xs : List ℕ). same_bytes (take 8 xs) image_mark) joined ∙ (ap (λ (xs : List ℕ). same_bytes xs image_mark) (take-append_seam image_mark (number ++ rest)) ∙ same_bytes_refl image_mark))
-    (ap (λ (xs : List ℕ). number_at 8 8 xs) joined ∙ (ap (λ (xs : List ℕ). little_from 0 8 xs) (drop-append_seam image_mark (number ++ rest)) ∙ little_number-reads_back 8 count rest h))
-    (ap (λ (i : ℕ). drop i (headed count rest)) (sym marked) ∙ drop-append_seam (image_mark ++ number) rest)
+    (of_ge _ 16 (omega (arith, length-append (image_mark ++ little_bytes 8 count) rest, length_marked count)))
+    (ap (λ (xs : List ℕ). same_bytes (take 8 xs) image_mark) (joined count rest)
+    ∙ (ap (λ (xs : List ℕ). same_bytes xs image_mark) (take-append_seam image_mark (little_bytes 8 count ++ rest)) ∙ same_bytes_refl image_mark))
+    (header_count count rest h) (header_rest count rest)
 
 pub record Header (bytes : List ℕ) (es : Blocks) : Type 0 where
   pub text : bytes ≡ headed (number_at 8 8 bytes) (drop 16 bytes)

@@ -69,7 +69,7 @@ entries_of : (es : Blocks) → AllByRecursion (λ k. k < 2 ^ 40) (keys_of es) �
 entries_of [] n b = tt
 entries_of (e ∷ es) n b = (record { number = let h = n.0 in omega arith; block = b.0; }, entries_of es n.1 b.1)
 
-none_of_zeros : (segments : ℕ) (es : Blocks) → AllByRecursion (IsImaged segments) es → AllByRecursion (λ e. are_zero e.1 ≡ false) es
+pub none_of_zeros : (segments : ℕ) (es : Blocks) → AllByRecursion (IsImaged segments) es → AllByRecursion (λ e. are_zero e.1 ≡ false) es
 none_of_zeros segments [] i = tt
 none_of_zeros segments (e ∷ es) i = (i.0.written, none_of_zeros segments es i.1)
 

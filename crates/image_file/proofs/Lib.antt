@@ -5,3 +5,4 @@ pub mod Headers
 pub mod Bounds
 pub mod FirstSector
 pub mod ImageLaws
+pub mod DiskLaws
