@@ -26,7 +26,7 @@ use Rattle.image_file.proofs.ImageLaws.{none_of_zeros, read_is_image}
 
 all_entries : (es : Blocks) → AllByRecursion (λ k. k < 2 ^ 64) (keys_of es) → AllByRecursion (λ b. length b ≡ 512) (values_of es) → AllByRecursion IsEntry es
 all_entries [] n b = tt
-all_entries (e ∷ es) n b = (record { number = n.0; block = b.0; }, all_entries es n.1 b.1)
+all_entries (e ∷ es) n b = (record { number = n.0; block = b.0 }, all_entries es n.1 b.1)
 
 ascend_all : (es : Blocks) → IsStrictlySortedBy nat_cmp (keys_of es) → AllByRecursion IsEntry es → AllByRecursion (λ e. are_zero e.1 ≡ false) es → AscendAll es
 unfolding IsStrictlySortedBy
@@ -94,10 +94,10 @@ without_zero : (k : ℕ) (e : ℕ × List ℕ) (es : Blocks) → Above e.0 es �
 without_zero k e es u z ih =
     by_test (λ (o : Option (List ℕ)). sectors_of (sectors_written es) k ≡ unwrap_or o (zeros 512)) (Some e.1) (lookup (is_at (nat_cmp k)) es) (is_at (nat_cmp k) e.0)
     (λ t.
-        let same = same_place k e.0 t in
-        let none : lookup (is_at (nat_cmp k)) (sectors_written es) ≡ None =
-            above_misses k (sectors_written es) (subst (λ (n : ℕ). Above n (sectors_written es)) (sym same) (above_written e.0 es u)) in
-        ap (λ (o : Option (List ℕ)). unwrap_or o (zeros 512)) none ∙ sym z)
+    let same = same_place k e.0 t in
+    let none : lookup (is_at (nat_cmp k)) (sectors_written es) ≡ None =
+    above_misses k (sectors_written es) (subst (λ (n : ℕ). Above n (sectors_written es)) (sym same) (above_written e.0 es u)) in
+    ap (λ (o : Option (List ℕ)). unwrap_or o (zeros 512)) none ∙ sym z)
     (λ t. ih)
 
 with_first : (k : ℕ) (e : ℕ × List ℕ) (xs ys : Blocks) → sectors_of xs k ≡ sectors_of ys k → sectors_of (e ∷ xs) k ≡ sectors_of (e ∷ ys) k

@@ -60,7 +60,7 @@ fits_by r block =
     by_test (λ (o : Option ImageFlaw). o ≡ None → Fits (Some r) block) (Some OfZeros) (cond (block_fits r block) None (Some BadSector)) (are_zero block)
     (λ z e. cc)
     (λ z. by_test (λ (o : Option ImageFlaw). o ≡ None → Fits (Some r) block) None (Some BadSector) (block_fits r block)
-        (λ f e. record { region = r; place = refl; written = z; grammar = f; }) (λ f e. cc))
+    (λ f e. record { region = r; place = refl; written = z; grammar = f }) (λ f e. cc))
 
 fits_where : (o : Option Region) (block : List ℕ) → block_flaw o block ≡ None → Fits o block
 fits_where None block e = cc
@@ -71,7 +71,7 @@ flawless segments before s block =
     by_test (λ (o : Option ImageFlaw). o ≡ None → (before < s) × IsImaged segments (s, block)) (Some OutOfOrder) (block_flaw (region_of segments s) block) (nat_le s before)
     (λ t e. cc)
     (λ t e. let f = fits_where (region_of segments s) block e in
-        (gt_of s before t, record { region = f.region; place = f.place; written = f.written; grammar = f.grammar; }))
+    (gt_of s before t, record { region = f.region; place = f.place; written = f.written; grammar = f.grammar }))
 
 -- ---- an entry with those behind it
 
@@ -87,7 +87,7 @@ pub record Judged (flaw : Option ImageFlaw) (e : ℕ × List ℕ) (r : Result Bl
   pub all : es ≡ e ∷ others
 
 pub judged_ok : (at : ℕ) (flaw : Option ImageFlaw) (e : ℕ × List ℕ) (r : Result Blocks ImageFault) (es : Blocks) → judged at flaw e r ≡ Ok es → Judged flaw e r es
-judged_ok at None e (Ok read) es h = record { flawless = refl; others = read; read = refl; all = cc; }
+judged_ok at None e (Ok read) es h = record { flawless = refl; others = read; read = refl; all = cc }
 judged_ok at None e (Err f) es h = cc
 judged_ok at (Some flaw) e r es h = cc
 
@@ -112,13 +112,16 @@ entries_read_back segments before at [] h = refl
 entries_read_back segments before at ((s, block) ∷ es) h =
     rw (entries_step segments before at (length es) s block (flat_map image_entry es) h.1)
     (judged_reads at (entry_flaw segments before (s, block)) (s, block) _ es (entry_may_have segments before s block h.0 h.2)
-        (entries_read_back segments s (at + 520) es h.3))
+    (entries_read_back segments s (at + 520) es h.3))
 
 pub entries_found : (segments before at : ℕ) (es : Blocks) → Ascend before es → AllByRecursion (IsImaged segments) es → entries_in segments before at (length es) (flat_map image_entry es) ≡ Ok es
 entries_found segments before at [] h i = refl
 entries_found segments before at ((s, block) ∷ es) h i =
-    rw (entries_step segments before at (length es) s block (flat_map image_entry es) h.1, no_flaw segments before s block h.0 i.0,
-        entries_found segments s (at + 520) es h.3 i.1) refl
+    rw (
+      entries_step segments before at (length es) s block (flat_map image_entry es) h.1,
+      no_flaw segments before s block h.0 i.0,
+      entries_found segments s (at + 520) es h.3 i.1,
+    ) refl
 
 pub record Entries (segments before count : ℕ) (bytes : List ℕ) (es : Blocks) : Type 0 where
   pub long : length es ≡ count
@@ -127,7 +130,7 @@ pub record Entries (segments before count : ℕ) (bytes : List ℕ) (es : Blocks
   pub each : AllByRecursion (IsImaged segments) es
 
 nothing_read : (segments before : ℕ) (es : Blocks) → es ≡ [] → Entries segments before 0 [] es
-nothing_read segments before [] h = record { long = refl; text = refl; ascend = tt; each = tt; }
+nothing_read segments before [] h = record { long = refl; text = refl; ascend = tt; each = tt }
 nothing_read segments before (e ∷ es) h = cc
 
 one_more : (segments before count s : ℕ) (block rest bytes : List ℕ) (es others : Blocks) → es ≡ (s, block) ∷ others → bytes ≡ image_entry (s, block) ++ rest
@@ -153,8 +156,8 @@ entries_read segments before at (suc count) bytes es f =
     (nat_lt (length bytes) 520)
     (λ t h. cc)
     (λ t h.
-        let long : 520 ≤ length bytes = grind (arith, nat_tests) in
-        let j = judged_ok at _ (entry_in bytes) _ es h in
-        let l = flawless segments before (entry_in bytes).0 (entry_in bytes).1 j.flawless in
-        one_more segments before count (entry_in bytes).0 (entry_in bytes).1 (drop 520 bytes) bytes es j.others j.all (entry_again bytes f long) (read_entry bytes f long) l.0 l.1
-        (entries_read segments (entry_in bytes).0 (at + 520) count (drop 520 bytes) j.others (drop_are 520 bytes f) j.read))
+    let long : 520 ≤ length bytes = grind (arith, nat_tests) in
+    let j = judged_ok at _ (entry_in bytes) _ es h in
+    let l = flawless segments before (entry_in bytes).0 (entry_in bytes).1 j.flawless in
+    one_more segments before count (entry_in bytes).0 (entry_in bytes).1 (drop 520 bytes) bytes es j.others j.all (entry_again bytes f long) (read_entry bytes f long) l.0 l.1
+    (entries_read segments (entry_in bytes).0 (at + 520) count (drop 520 bytes) j.others (drop_are 520 bytes f) j.read))

@@ -75,7 +75,7 @@ entry_reads s block rest h =
     let joined : image_entry (s, block) ++ rest ≡ number ++ (block ++ rest) = append_assoc number block rest in
     let n : length number ≡ 8 = length-bytes_low_first 0 8 s in
     let behind : drop 8 (image_entry (s, block) ++ rest) ≡ block ++ rest =
-        ap (drop 8) joined ∙ (ap (λ (i : ℕ). drop i (number ++ (block ++ rest))) (sym n) ∙ drop-append_seam number (block ++ rest)) in
+    ap (drop 8) joined ∙ (ap (λ (i : ℕ). drop i (number ++ (block ++ rest))) (sym n) ∙ drop-append_seam number (block ++ rest)) in
     pair _ s _ block
     (ap (little_from 0 8) joined ∙ little_number-reads_back 8 s (block ++ rest) h.number)
     (ap (take 512) behind ∙ (ap (λ (i : ℕ). take i (block ++ rest)) (sym h.block) ∙ take-append_seam block rest))

@@ -46,11 +46,11 @@ pub record First (es : Blocks) (p : Param) : Type 0 where
 pub first_of : (es : Blocks) (p : Param) → IsStrictlySortedBy nat_cmp (keys_of es) → param_in (sectors_of es 0) ≡ Some p → First es p
 unfolding IsStrictlySortedBy
 first_of [] p s e = let no : None ≡ Some p = sym no_parameters ∙ e in cc
-first_of ((zero, b) ∷ es) p s e = record { block = b; others = es; all = refl; param = e; }
+first_of ((zero, b) ∷ es) p s e = record { block = b; others = es; all = refl; param = e }
 first_of ((suc n, b) ∷ es) p s e =
     let apart : is_at (nat_cmp 0) (suc n) ≡ false = ap is_eq (less_of 0 (suc n) (omega arith)) in
     let missing : lookup (is_at (nat_cmp 0)) ((suc n, b) ∷ es) ≡ None =
-        ap (λ (t : Bool). cond t (Some b) (lookup (is_at (nat_cmp 0)) es)) apart ∙ nothing_at_zero (suc n) es s.0 in
+    ap (λ (t : Bool). cond t (Some b) (lookup (is_at (nat_cmp 0)) es)) apart ∙ nothing_at_zero (suc n) es s.0 in
     let no : None ≡ Some p = sym no_parameters ∙ (ap (λ (o : Option (List ℕ)). param_in (unwrap_or o (zeros 512))) (sym missing) ∙ e) in
     cc
 
@@ -76,8 +76,8 @@ first_flawless s block =
     by_test (λ (o : Option ImageFlaw). o ≡ None → FirstFits s block) (Some OfZeros) _ (are_zero block)
     (λ z e. cc)
     (λ z. by_test (λ (o : Option ImageFlaw). o ≡ None → FirstFits s block) None (Some BadSector) (nat_eq s 0 && may_run_again (param_in block))
-        (λ t e. let parts = and_parts (nat_eq s 0) (may_run_again (param_in block)) t in record { zero_th = eq_of s 0 parts.0; written = z; fits = parts.1; })
-        (λ t e. cc))
+    (λ t e. let parts = and_parts (nat_eq s 0) (may_run_again (param_in block)) t in record { zero_th = eq_of s 0 parts.0; written = z; fits = parts.1 })
+    (λ t e. cc))
 
 -- ---- it and the others
 
@@ -105,7 +105,7 @@ sectors_read_back [] h = tt
 sectors_read_back ((s, block) ∷ es) h =
     rw (first_step (length es) s block (flat_map image_entry es) h.0)
     (judged_reads 16 (first_flaw (s, block)) (s, block) _ es (first_may_have s block h.1)
-        (entries_read_back (segments_by (param_in block)) 0 536 es (ascend_from 0 s es (omega arith) h.2)))
+    (entries_read_back (segments_by (param_in block)) 0 536 es (ascend_from 0 s es (omega arith) h.2)))
 
 pub sectors_found : (block : List ℕ) (es : Blocks) (p : Param) → param_in block ≡ Some p → may_run_again (param_in block) ≡ true → are_zero block ≡ false → IsEntry (0, block) → Ascend 0 es
     → AllByRecursion (IsImaged p.segments) es → sectors_in (suc (length es)) (image_entry (0, block) ++ flat_map image_entry es) ≡ Ok ((0, block) ∷ es)
@@ -139,7 +139,13 @@ sectors_by count bytes (s, block) es others o a t w z f r =
     let m = may_run (param_in block) f in
     let zeroth : (s, block) ≡ (0, block) = ap (λ (n : ℕ). (n, block)) o in
     record {
-      block = block; others = others; param = m.0; is = m.1; fits = f; written = z; ascend = r.ascend;
+      block = block;
+      others = others;
+      param = m.0;
+      is = m.1;
+      fits = f;
+      written = z;
+      ascend = r.ascend;
       all = a ∙ ap (λ (e : ℕ × List ℕ). e ∷ others) zeroth;
       entry = subst IsEntry zeroth w;
       each = subst (λ (n : ℕ). AllByRecursion (IsImaged n) others) (ap segments_by m.1) r.each;
@@ -157,8 +163,8 @@ sectors_read (suc count) bytes es f =
     (nat_lt (length bytes) 520)
     (λ t h. cc)
     (λ t h.
-        let long : 520 ≤ length bytes = grind (arith, nat_tests) in
-        let j = judged_ok 16 _ (entry_in bytes) _ es h in
-        let l = first_flawless (entry_in bytes).0 (entry_in bytes).1 j.flawless in
-        sectors_by count bytes (entry_in bytes) es j.others l.zero_th j.all (entry_again bytes f long) (read_entry bytes f long) l.written l.fits
-        (entries_read (segments_by (param_in (entry_in bytes).1)) 0 536 count (drop 520 bytes) j.others (drop_are 520 bytes f) j.read))
+    let long : 520 ≤ length bytes = grind (arith, nat_tests) in
+    let j = judged_ok 16 _ (entry_in bytes) _ es h in
+    let l = first_flawless (entry_in bytes).0 (entry_in bytes).1 j.flawless in
+    sectors_by count bytes (entry_in bytes) es j.others l.zero_th j.all (entry_again bytes f long) (read_entry bytes f long) l.written l.fits
+    (entries_read (segments_by (param_in (entry_in bytes).1)) 0 536 count (drop 520 bytes) j.others (drop_are 520 bytes f) j.read))

@@ -27,7 +27,7 @@ use Rattle.image_file.proofs.FirstSector.{First, first_of, AscendAll, sectors_re
 
 -- the parameter sector is one that an image may have
 param_imaged : (segments : ℕ) (block : List ℕ) → are_zero block ≡ false → may_run_again (param_in block) ≡ true → IsImaged segments (0, block)
-param_imaged segments block z f = record { region = region.Param; place = refl; written = z; grammar = f; }
+param_imaged segments block z f = record { region = region.Param; place = refl; written = z; grammar = f }
 
 image_by : (bytes : List ℕ) (es : Blocks) (block : List ℕ) (others : Blocks) (param : Param) → es ≡ (0, block) ∷ others → bytes ≡ image_with ((0, block) ∷ others) → param_in block ≡ Some param
     → may_run_again (param_in block) ≡ true → are_zero block ≡ false → length block ≡ 512 → Ascend 0 others → AllByRecursion (IsImaged param.segments) others → IsImage bytes es
@@ -67,7 +67,7 @@ numbers_end segments (e ∷ es) few i = (region_ends segments e.0 i.0.region few
 
 entries_of : (es : Blocks) → AllByRecursion (λ k. k < 2 ^ 40) (keys_of es) → AllByRecursion (λ e. length e.1 ≡ 512) es → AllByRecursion IsEntry es
 entries_of [] n b = tt
-entries_of (e ∷ es) n b = (record { number = let h = n.0 in omega arith; block = b.0; }, entries_of es n.1 b.1)
+entries_of (e ∷ es) n b = (record { number = let h = n.0 in omega arith; block = b.0 }, entries_of es n.1 b.1)
 
 pub none_of_zeros : (segments : ℕ) (es : Blocks) → AllByRecursion (IsImaged segments) es → AllByRecursion (λ e. are_zero e.1 ≡ false) es
 none_of_zeros segments [] i = tt
@@ -87,8 +87,8 @@ found_by es block others p all is s b i =
     let entries = entries_of ((0, block) ∷ others) ends b in
     let ascend = ascend_of 0 others s.0 s.1 entries.1 (none_of_zeros p.segments others i.1) in
     let found : image_in (image_with ((0, block) ∷ others)) ≡ Ok ((0, block) ∷ others) =
-        header_read (suc (length others)) (image_entry (0, block) ++ flat_map image_entry others) (few_sectors ((0, block) ∷ others) s ends)
-        ∙ sectors_found block others p is (at_zero p.segments block i.0) i.0.written entries.0 ascend i.1 in
+    header_read (suc (length others)) (image_entry (0, block) ++ flat_map image_entry others) (few_sectors ((0, block) ∷ others) s ends)
+    ∙ sectors_found block others p is (at_zero p.segments block i.0) i.0.written entries.0 ascend i.1 in
     subst (λ (xs : Blocks). image_in (image_with xs) ≡ Ok xs) (sym all) found
 
 pub image_is_read : (bytes : List ℕ) (es : Blocks) → IsImage bytes es → image_in bytes ≡ Ok es

@@ -2,3 +2,10 @@
 //! definition of images says of the bytes, and that writing adds exactly the image of the disk; the laws say that the one undoes the
 //! other. It stands on the definitions of disks and on the readers of sectors.
 #![tactic(auto)]
+
+mod laws;
+
+pub use laws::{
+    images_are_what_is_read, images_tell_disks_apart, read_images_are_written_again,
+    written_images_read_back,
+};
