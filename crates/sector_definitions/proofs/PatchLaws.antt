@@ -34,7 +34,7 @@ joined_laid (p ∷ ps) pre old a b at h =
     (λ t. ap (patched (p ∷ ps)) (laid pre (a ∷ old) (b ∷ []) at h))
 
 -- laid over the old bytes the runs give the new ones
-runs_laid : (old new pre : List ℕ) (at : ℕ) → length pre ≡ at → length old ≡ length new → patched (runs_from at old new) (pre ++ old) ≡ pre ++ new
+pub runs_laid : (old new pre : List ℕ) (at : ℕ) → length pre ≡ at → length old ≡ length new → patched (runs_from at old new) (pre ++ old) ≡ pre ++ new
 runs_laid [] [] pre at h l = refl
 runs_laid [] (b ∷ new) pre at h l = absurd (omega arith)
 runs_laid (a ∷ old) [] pre at h l = absurd (omega arith)
@@ -82,7 +82,7 @@ joined_apart (p ∷ ps) from to at b h g e =
     (λ t. begun (length p.bytes) from to at p.at (λ k. are_apart k to ps) h (eq_of p.at (at + 1) t) e)
     (λ t. parted (length p.bytes) from to at p.at (λ k. are_apart k to ps) h g (ne_of p.at (at + 1) t) e)
 
-runs_apart : (old new : List ℕ) (from to at : ℕ) → from ≤ at → at + length old ≤ to → are_apart from to (runs_from at old new) ≡ true
+pub runs_apart : (old new : List ℕ) (from to at : ℕ) → from ≤ at → at + length old ≤ to → are_apart from to (runs_from at old new) ≡ true
 runs_apart [] new from to at h g = refl
 runs_apart (a ∷ old) [] from to at h g = refl
 runs_apart (a ∷ old) (b ∷ new) from to at h g =

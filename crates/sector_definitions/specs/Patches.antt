@@ -23,9 +23,3 @@ abbrev pub are_apart : ℕ → ℕ → List Patch → Bool
 are_apart from to [] = true
 are_apart from to (p ∷ ps) =
     nat_le from p.at && nat_le 1 (length p.bytes) && nat_le (p.at + length p.bytes) to && are_apart (p.at + length p.bytes + 1) to ps
-
--- how many bytes differ before the first that don't
-abbrev pub differing : List ℕ → List ℕ → ℕ
-differing [] new = 0
-differing (a ∷ old) [] = 0
-differing (a ∷ old) (b ∷ new) = if a == b then 0 else 1 + differing old new
