@@ -6,3 +6,7 @@ pub mod BitmapLaws
 pub mod LogSectorLaws
 pub mod DirectoryPlaces
 pub mod DirectoryLaws
+pub mod InodeLaws
+pub mod RegionLaws
+pub mod RegionExamples
+pub mod ParamExamples
