@@ -8,6 +8,7 @@ use Rattle.sector_definitions.specs.declared.region.Region.{Region}
 use Rattle.sector_definitions.specs.declared.region.Region.TheVariants as region
 use Rattle.sector_definitions.specs.Params.{param_in, param_fits}
 use Rattle.sector_definitions.specs.Regions.{logs_from, bitmaps_from, inodes_from, small_blocks_from, large_blocks_from, log_stride, large_stride, is_among, log_at, large_at, region_of}
+use Rattle.image_file.specs.Entries.{HasSegments}
 use Rattle.sector_definitions.proofs.ParamLaws.{param_read}
 
 lt_of : (i k : ℕ) → nat_lt i k ≡ true → i < k
@@ -37,7 +38,7 @@ region_ends segments s r few =
     (λ t4. by_test (Small s r) _ _ (nat_le large_blocks_from s) (λ t e. let l = large_ends segments (s - large_blocks_from) r few e in let h = le_of large_blocks_from s t in omega arith)
     (λ t5 e. cc))))))
 
-pub few_segments : (block : List ℕ) (p : Param) → param_in block ≡ Some p → p.segments ≤ 64
-few_segments block p e =
+pub has_segments : (block : List ℕ) (p : Param) → param_in block ≡ Some p → HasSegments p.segments
+has_segments block p e =
     let fits : IsTrue (param_fits p) = (param_read block p e).1 in
-    grind (arith, nat_tests, and_parts)
+    (grind (arith, nat_tests, and_parts), grind (arith, nat_tests, and_parts))

@@ -20,7 +20,7 @@ use Rattle.image_file.proofs.EntryBytes.{IsEntry, drop_are}
 use Rattle.image_file.proofs.EntriesRead.{Ascend}
 use Rattle.image_file.proofs.Ascending.{Above, ascend_of, above_of, sorted_of, blocks_of, sorted_written, all_written, written_not_zero, written_all}
 use Rattle.image_file.proofs.Headers.{headed, header_read, Header, header_back}
-use Rattle.image_file.proofs.Bounds.{region_ends, few_segments}
+use Rattle.image_file.proofs.Bounds.{region_ends, has_segments}
 use Rattle.image_file.proofs.FirstSector.{First, first_of, AscendAll, sectors_read_back, sectors_found, Sectors, sectors_read}
 
 -- ---- what is read is an image
@@ -82,7 +82,7 @@ found_by : (es : Blocks) (block : List ℕ) (others : Blocks) (p : Param) → es
     → AllByRecursion (λ e. length e.1 ≡ 512) ((0, block) ∷ others) → AllByRecursion (IsImaged p.segments) ((0, block) ∷ others) → image_in (image_with es) ≡ Ok es
 unfolding IsStrictlySortedBy
 found_by es block others p all is s b i =
-    let few = few_segments block p is in
+    let few = (has_segments block p is).1 in
     let ends = numbers_end p.segments ((0, block) ∷ others) few i in
     let entries = entries_of ((0, block) ∷ others) ends b in
     let ascend = ascend_of 0 others s.0 s.1 entries.1 (none_of_zeros p.segments others i.1) in

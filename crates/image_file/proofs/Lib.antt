@@ -6,3 +6,6 @@ pub mod Bounds
 pub mod FirstSector
 pub mod ImageLaws
 pub mod DiskLaws
+pub mod LastSector
+pub mod CountingWritten
+pub mod ReadingEntries
