@@ -45,6 +45,22 @@ fn change(image: &mut Vec<u8>, changes: &[(usize, u8)]) {
     }
 }
 
+fn zero_from_to(image: &mut Vec<u8>, from: usize, to: usize) {
+    for place in from..to {
+        if let Some(there) = image.get_mut(place) {
+            *there = 0;
+        }
+    }
+}
+
+fn front(image: &[u8], len: usize) -> &[u8] {
+    if len < image.len() {
+        &image[..len]
+    } else {
+        image
+    }
+}
+
 fn fresh(alloc: Global) -> Result<Vec<u8>, AllocError> {
     let mut image = vec![in alloc; 0; 1576]?;
     change(&mut image, &FRESH);
@@ -104,9 +120,9 @@ fn the_fresh_image_is_read(rt: HostRuntime) -> Result<(), Fail> {
     let disk = read_image(rt.alloc(), &worked)?;
     assert_eq!(rt; disk.len(), 3);
     assert_eq!(rt; disk.get(Sector(10_737_418_240))[8], 2);
-    let mut again = vec![in rt.alloc(); 7]?;
+    let mut again = Vec::new(rt.alloc());
     write_image(&disk, &mut again)?;
-    assert!(rt; again[1..] == worked[..]);
+    assert!(rt; again.as_slice() == worked.as_slice());
     Ok(())
 }
 
@@ -121,7 +137,11 @@ fn bytes_that_end_early(rt: HostRuntime) -> Result<(), Fail> {
         (536, 536),
         (1575, 1056),
     ] {
-        assert_eq!(rt; fault_in(rt.alloc(), &worked[..len]), (at, 1), "at {len}");
+        assert_eq!(rt;
+            fault_in(rt.alloc(), front(&worked, len)),
+            (at, 1),
+            "at {len}"
+        );
     }
     Ok(())
 }
@@ -147,10 +167,12 @@ fn counts_that_differ(rt: HostRuntime) -> Result<(), Fail> {
 #[test]
 fn the_greatest_count(rt: HostRuntime) -> Result<(), Fail> {
     let mut image = fresh(rt.alloc())?;
-    image[8..16].fill(255);
+    for place in 8..16 {
+        change(&mut image, &[(place, 255)]);
+    }
     assert_eq!(rt; fault_in(rt.alloc(), &image), (1576, 1));
-    image[8..16].fill(0);
-    assert_eq!(rt; fault_in(rt.alloc(), &image[..16]), (16, 7));
+    zero_from_to(&mut image, 8, 16);
+    assert_eq!(rt; fault_in(rt.alloc(), front(&image, 16)), (16, 7));
     Ok(())
 }
 
@@ -208,9 +230,9 @@ fn sectors_of_zeros(rt: HostRuntime) -> Result<(), Fail> {
     let clear_in_no_region = [(536, 16), (544, 0), (552, 0)];
     assert_eq!(rt; fault_after(rt.alloc(), &clear_in_no_region)?, (536, 4));
     let mut image = fresh(rt.alloc())?;
-    image[24..536].fill(0);
+    zero_from_to(&mut image, 24, 536);
     assert_eq!(rt; fault_in(rt.alloc(), &image), (16, 5));
-    image[16] = 1;
+    change(&mut image, &[(16, 1)]);
     assert_eq!(rt; fault_in(rt.alloc(), &image), (16, 5));
     Ok(())
 }
