@@ -2,3 +2,4 @@ pub mod Disks
 pub mod Store
 pub mod Naming
 pub mod Standing
+pub mod Images

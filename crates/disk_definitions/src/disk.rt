@@ -1,5 +1,8 @@
 // A disk.
-ghost use Rattle.std.specs.Prelude.{◌≡◌, [], OnErr, OnOk};
+ghost use Rattle.std.specs.Prelude.{◌≡◌, ◌<◌, ◌^◌, [], OnErr, OnOk, length};
+ghost use Rattle.std.specs.List.{All};
+ghost use Rattle.std.specs.List.Sorted.{IsStrictlySortedBy};
+ghost use Rattle.std.specs.Map.{keys_of, values_of};
 ghost use Rattle.std.specs.BTreeMap.{insert_entry};
 ghost use Rattle.std.specs.Ordering.{nat_cmp};
 ghost use Rattle.disk_definitions.specs.Disks.{sectors_of};
@@ -17,11 +20,15 @@ pub struct Disk {
 }
 
 impl Model for Disk {
-    ghost use Rattle.std.specs.Prelude.{List, ℕ};
+    ghost use Rattle.std.specs.Prelude.{List, ℕ, ◌≡◌, ◌<◌, ◌^◌, length};
+    ghost use Rattle.std.specs.List.{All};
+    ghost use Rattle.std.specs.Map.{keys_of, values_of};
 
     ghost Value = { List (ℕ × List ℕ) };
 
     ghost view = { λ d. d.blocks.entries };
+
+    ghost invariant = { λ d. All (λ sector. sector < 2 ^ 64) (keys_of d.blocks.entries) × All (λ block. length block ≡ 512) (values_of d.blocks.entries) };
 }
 
 impl Disk {
@@ -41,6 +48,23 @@ impl Disk {
     {
         self.blocks.insert(sector.0, block)?;
         Ok(())
+    }
+
+    /// The number of sectors that were set. They ascend, each with its block.
+    pub fn len(&self) -> usize
+        ensures len { result ≡ length self.now }
+        ensures ascending { IsStrictlySortedBy nat_cmp (keys_of self.now) }
+        ensures numbers { All (λ sector. sector < 2 ^ 64) (keys_of self.now) }
+        ensures blocks { All (λ block. length block ≡ 512) (values_of self.now) }
+    {
+        self.blocks.len()
+    }
+
+    /// The sectors that were set with their blocks, as a map.
+    pub fn as_map(&self) -> &BTreeMap<u64, Block>
+        ensures { result.now.entries ≡ self.now }
+    {
+        &self.blocks
     }
 
     /// The block of a sector: zeros where it wasn't set.

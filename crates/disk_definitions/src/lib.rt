@@ -5,5 +5,7 @@
 #![tactic(auto)]
 
 mod disk;
+mod image;
 
 pub use disk::Disk;
+pub use image::{ImageFault, ImageFlaw};

@@ -1,0 +1,21 @@
+-- What the laws of images speak of.
+use Rattle.std.specs.Prelude.{◌≡◌, ℕ, ◌<◌, Result, Ok, Err, List, slice_index}
+use Rattle.disk_definitions.specs.declared.image.ImageFault.{ImageFault}
+use Rattle.disk_definitions.specs.declared.image.ImageFlaw.{ImageFlaw}
+use Rattle.disk_definitions.specs.declared.image.ImageFlaw.TheVariants.{NoRegion, BadSector}
+use Rattle.disk_definitions.specs.Images.{Blocks}
+
+-- each is a byte
+abbrev pub AreBytes : List ℕ → Type 0
+AreBytes bytes = (k : ℕ) → slice_index bytes k < 256
+
+-- a flaw of the disk and not of its image: a sector in no region, or one not in its grammar
+abbrev pub IsOfDisk : ImageFlaw → Type 0
+IsOfDisk NoRegion = Unit {0}
+IsOfDisk BadSector = Unit {0}
+IsOfDisk _ = ⊥
+
+-- what is read is these sectors, where the disk has no flaw
+abbrev pub ReadsBack : Blocks → Result Blocks ImageFault → Type 0
+ReadsBack sectors (Ok read) = read ≡ sectors
+ReadsBack sectors (Err f) = IsOfDisk f.flaw
