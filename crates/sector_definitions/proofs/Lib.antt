@@ -15,7 +15,3 @@ pub mod DirectoryLaws
 pub mod BitmapExamples
 pub mod LogSectorExamples
 pub mod DirectoryExamples
-pub mod InodeLaws
-pub mod RegionLaws
-pub mod RegionExamples
-pub mod ParamExamples
