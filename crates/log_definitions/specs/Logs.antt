@@ -1,0 +1,98 @@
+-- Reading a log by its 256 slots: where it ends, and which records stand in it.
+use Rattle.std.specs.Prelude.{ℕ, zero, suc, ◌+◌, ◌-◌, ◌*◌, ◌%◌, Bool, true, false, ◌&&◌, ◌==◌, if◌then◌else◌, nat_le, nat_lt, max, Option, Some, None, List, [], ◌∷◌, ◌++◌, length, take, drop, map, not, fold}
+use Rattle.std.specs.List.{list_all, filter, filter_map}
+use Rattle.std.specs.Option.{option_map}
+use Rattle.frang_base.specs.declared.change.Change.{Change}
+use Rattle.sector_definitions.specs.declared.log_sector.LogSector.{LogSector}
+use Rattle.sector_definitions.specs.LogSectors.{log_sector_in}
+use Rattle.tree_definitions.specs.Numbers.{below}
+use Rattle.log_definitions.specs.declared.redo.Redo.{Redo}
+use Rattle.log_definitions.specs.Records.{record_in}
+
+-- the blocks of a log, by slot
+abbrev pub Slots : Type 0
+Slots = ℕ → List ℕ
+
+-- the sector of this number, where it stands in its slot
+abbrev pub numbered : ℕ → Option LogSector → Option LogSector
+numbered n None = None
+numbered n (Some x) = if x.seq == n then Some x else None
+
+abbrev pub sector_numbered : Slots → ℕ → Option LogSector
+sector_numbered slots n = numbered n (log_sector_in (n % 256) (slots (n % 256)))
+
+abbrev pub stands : Slots → ℕ → Bool
+stands slots n = is_there (sector_numbered slots n)
+  where
+    is_there : Option LogSector → Bool
+    is_there None = false
+    is_there (Some x) = true
+
+-- the 192 numbers up to an end
+abbrev pub window : ℕ → List ℕ
+window end = map (λ k. end - 191 + k) (below 192)
+
+-- all of them stand in their slots
+abbrev pub is_end : Slots → ℕ → Bool
+is_end slots end = nat_le 191 end && list_all (stands slots) (window end)
+
+-- the numbers that stand in the slots
+abbrev pub seq_of : LogSector → ℕ
+seq_of x = x.seq
+
+abbrev pub numbers_in : Slots → List ℕ
+numbers_in slots = filter_map (λ slot. option_map seq_of (log_sector_in slot (slots slot))) (below 256)
+
+-- the end of a log: the greatest number of which it and the 191 before it stand in their slots; 0 where there is none
+abbrev pub log_end : Slots → ℕ
+log_end slots = fold max 0 (filter (is_end slots) (numbers_in slots))
+
+-- the log is sealed: no slot has a number above its end
+abbrev pub is_sealed : Slots → Bool
+is_sealed slots = list_all (λ n. nat_le n (log_end slots)) (numbers_in slots)
+
+-- the sectors up to the end, none where there is no end
+abbrev pub sectors_read : Slots → ℕ → List LogSector
+sectors_read slots zero = []
+sectors_read slots (suc end) = filter_map (sector_numbered slots) (window (suc end))
+
+-- a sector is this part of a record with this operation and so many parts
+abbrev pub is_part : LogSector → ℕ → LogSector → Bool
+is_part first part x = x.op.0 == first.op.0 && x.parts == first.parts && x.part == part
+
+-- these are all parts of a record, from one on
+abbrev pub are_parts : LogSector → ℕ → List LogSector → Bool
+are_parts first part [] = true
+are_parts first part (x ∷ xs) = is_part first part x && are_parts first (part + 1) xs
+
+-- the bytes that sectors use of their bodies
+abbrev pub used_bytes : List LogSector → List ℕ
+used_bytes [] = []
+used_bytes (x ∷ xs) = take x.used x.body ++ used_bytes xs
+
+-- a record of these sectors, where they are whole and their bytes are the body of one
+abbrev pub record_of : LogSector → List LogSector → Option Redo
+record_of first parts =
+    if length parts == first.parts && are_parts first 0 parts then option_map (λ changes. record { op = first.op; changes = changes }) (record_in (used_bytes parts)) else None
+
+-- the record that begins at the first of these sectors, if one does
+abbrev pub record_at : List LogSector → Option Redo
+record_at [] = None
+record_at (x ∷ xs) = if x.part == 0 && nat_le 1 x.parts then record_of x (take x.parts (x ∷ xs)) else None
+
+-- the records that stand whole among sectors, in order
+abbrev pub records_among : List LogSector → List Redo
+records_among [] = []
+records_among (x ∷ xs) = with_record (record_at (x ∷ xs)) (records_among xs)
+  where
+    with_record : Option Redo → List Redo → List Redo
+    with_record None rest = rest
+    with_record (Some r) rest = r ∷ rest
+
+-- the records of a log: those that stand whole in the 192 numbers up to its end
+abbrev pub log_records : Slots → List Redo
+log_records slots = records_among (sectors_read slots (log_end slots))
+
+-- the greatest operation number among records, 0 where there is none
+abbrev pub greatest_operation : List Redo → ℕ
+greatest_operation records = fold max 0 (map (λ r. r.op.0) records)
