@@ -1,0 +1,2 @@
+pub mod RecordExamples
+pub mod LogExamples
