@@ -1,5 +1,5 @@
 -- Which operations may be applied to a tree.
-use Rattle.std.specs.Prelude.{◌≡◌, true, IsTrue}
+use Rattle.std.specs.Prelude.{Bool, false, ◌≡◌, true, IsTrue}
 use Rattle.frang_base.specs.declared.op.Op.{Op}
 use Rattle.frang_base.specs.declared.op.Op.TheVariants as op
 use Rattle.script_definitions.specs.SaidReading.{is_target}
@@ -19,3 +19,14 @@ CanApply tree (op.CrashAt k) = ⊥
 CanApply tree (op.CutAt k) = ⊥
 CanApply tree op.Stall = ⊥
 CanApply tree _ = Unit {0}
+
+-- an operation that makes, moves or removes names
+abbrev pub names : Op → Bool
+names (op.Create path) = true
+names (op.Mkdir path) = true
+names (op.Symlink path target) = true
+names (op.Link path to) = true
+names (op.Unlink path) = true
+names (op.Rmdir path) = true
+names (op.Rename path to) = true
+names _ = false

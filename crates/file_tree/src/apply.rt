@@ -1,8 +1,10 @@
 // Operations applied to a tree.
-ghost use Rattle.std.specs.Prelude.{◌≡◌, IfOk, OnErr};
-ghost use Rattle.script_definitions.specs.SaidReading.{IsProperReply};
-ghost use Rattle.tree_definitions.specs.Apply.{apply};
-ghost use Rattle.file_tree.specs.CanApply.{CanApply};
+ghost use Rattle.std.specs.Prelude.{◌≡◌, ℕ, [], false, IfOk, IsTrue, OnErr};
+ghost use Rattle.script_definitions.specs.SaidReading.{IsProperReply, is_target};
+ghost use Rattle.tree_definitions.specs.declared.node.Node.TheVariants.{Dir, File, Link};
+ghost use Rattle.tree_definitions.specs.Apply.{apply, made};
+ghost use Rattle.tree_definitions.specs.Place.{place};
+ghost use Rattle.file_tree.specs.CanApply.{CanApply, names};
 ghost use Rattle.file_tree.specs.Replies.{gives};
 
 use crate::Tree;
@@ -10,9 +12,40 @@ use crate::bytes::{put_at, read, truncate};
 use crate::looks::{list, readlink, stat, time};
 use crate::names::{link, make, rmdir, unlink};
 use crate::rename::rename;
-use frang_base::{NoMemory, Op, OpNo, Reply};
+use frang_base::{Name, NoMemory, Op, OpNo, Reply, Text};
 use tree_definitions::{Cells, Entries, Node, Target};
 use tree_edits::Bytes;
+
+// Answers `create`: an empty file with one name.
+fn create(tree: &mut Tree, path: &[Name], birth: u64) -> Result<Reply, NoMemory>
+    ensures ok { IfOk result (λ reply. made tree.old birth (File [] 1) (place tree.old path.now) ≡ gives tree.new reply) }
+    ensures err { OnErr result (tree.new ≡ tree.old) }
+    ensures proper { IfOk result IsProperReply }
+{
+    let cells = Cells::new(tree.alloc());
+    make(tree, path, birth, Node::File { cells, links: 1 })
+}
+
+// Answers `mkdir`: a directory without entries.
+fn mkdir(tree: &mut Tree, path: &[Name], birth: u64) -> Result<Reply, NoMemory>
+    ensures ok { IfOk result (λ reply. made tree.old birth (Dir [] 0) (place tree.old path.now) ≡ gives tree.new reply) }
+    ensures err { OnErr result (tree.new ≡ tree.old) }
+    ensures proper { IfOk result IsProperReply }
+{
+    let entries = Entries::new(tree.alloc());
+    make(tree, path, birth, Node::Dir { entries, blocks: 0 })
+}
+
+// Answers `symlink`: a symbolic link with one name.
+fn symlink(tree: &mut Tree, path: &[Name], birth: u64, target: &Text) -> Result<Reply, NoMemory>
+    requires { IsTrue (is_target target.now) }
+    ensures ok { IfOk result (λ reply. made tree.old birth (Link target.now 1) (place tree.old path.now) ≡ gives tree.new reply) }
+    ensures err { OnErr result (tree.new ≡ tree.old) }
+    ensures proper { IfOk result IsProperReply }
+{
+    let target = Target::of(target.try_copy()?);
+    make(tree, path, birth, Node::Link { target, links: 1 })
+}
 
 impl Tree {
     /// Does an operation, and answers it: a read by the bytes that it shows, of which none may be in doubt. A node that it makes gets
@@ -24,45 +57,29 @@ impl Tree {
         ensures proper { IfOk result IsProperReply }
     {
         match op {
-            Op::Create { path } => {
-                let cells = Cells::new(self.alloc());
-                make(
-                    self,
-                    path.as_slice(),
-                    birth.0,
-                    Node::File { cells, links: 1 },
-                )
-            }
-            Op::Mkdir { path } => {
-                let entries = Entries::new(self.alloc());
-                make(
-                    self,
-                    path.as_slice(),
-                    birth.0,
-                    Node::Dir { entries, blocks: 0 },
-                )
-            }
-            Op::Symlink { path, target } => {
-                let target = Target::of(target.try_copy()?);
-                make(
-                    self,
-                    path.as_slice(),
-                    birth.0,
-                    Node::Link { target, links: 1 },
-                )
-            }
+            Op::Create { path } => create(self, path.as_slice(), birth.0),
+            Op::Mkdir { path } => mkdir(self, path.as_slice(), birth.0),
+            Op::Symlink { path, target } => symlink(self, path.as_slice(), birth.0, target),
             Op::Link { path, to } => link(self, path.as_slice(), to.as_slice()),
             Op::Unlink { path } => Ok(unlink(self, path.as_slice())),
             Op::Rmdir { path } => Ok(rmdir(self, path.as_slice())),
             Op::Rename { path, to } => rename(self, path.as_slice(), to.as_slice()),
+            _ => self.apply_to_bytes(op, m),
+        }
+    }
+
+    // Does an operation that writes, reads or looks.
+    fn apply_to_bytes(&mut self, op: &Op, m: u32) -> Result<Reply, NoMemory>
+        requires can { CanApply self.old op.now }
+        requires bytes { names op.now ≡ false }
+        ensures ok { (birth : ℕ) → IfOk result (λ reply. apply self.old op.now birth m ≡ gives self.new reply) }
+        ensures err { OnErr result (self.new ≡ self.old) }
+        ensures proper { IfOk result IsProperReply }
+    {
+        match op {
             Op::Write { path, off, bytes } => {
-                put_at(
-                    self,
-                    m,
-                    path.as_slice(),
-                    *off,
-                    &Bytes::Text(bytes.as_slice()),
-                )
+                let bytes = Bytes::Text(bytes.as_slice());
+                put_at(self, m, path.as_slice(), *off, &bytes)
             }
             Op::Fill {
                 path,
@@ -70,11 +87,8 @@ impl Tree {
                 len,
                 byte,
             } => {
-                let bytes = Bytes::Same {
-                    len: *len,
-                    byte: *byte,
-                };
-                put_at(self, m, path.as_slice(), *off, &bytes)
+                let (len, byte) = (*len, *byte);
+                put_at(self, m, path.as_slice(), *off, &Bytes::Same { len, byte })
             }
             Op::Truncate { path, len } => Ok(truncate(self, path.as_slice(), *len)),
             Op::Read { path, off, len } => read(self, path.as_slice(), *off, *len),
@@ -82,13 +96,7 @@ impl Tree {
             Op::List { path } => list(self, path.as_slice()),
             Op::Readlink { path } => readlink(self, path.as_slice()),
             Op::Time { path } => Ok(time(self, path.as_slice())),
-            Op::Sync
-            | Op::Mount
-            | Op::Unmount
-            | Op::Crash
-            | Op::CrashAt { .. }
-            | Op::CutAt { .. }
-            | Op::Stall => unreachable!(),
+            _ => unreachable!(),
         }
     }
 }
