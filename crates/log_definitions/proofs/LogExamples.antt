@@ -66,3 +66,7 @@ greatest_of_none = refl
 
 greatest_of_two : greatest_operation (redo 8 5 ∷ redo 9 4 ∷ []) ≡ 9
 greatest_of_two = refl
+
+-- a whole body in the first of two parts, of which the second lacks
+a_second_part_lacks : records_among (sector 256 9 0 2 (record_bytes (short 5)) 25 ∷ []) ≡ []
+a_second_part_lacks = refl
