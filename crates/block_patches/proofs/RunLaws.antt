@@ -1,11 +1,11 @@
 -- The runs of what is left are the one at its front and those behind it.
-use Rattle.std.proofs.Common.{◌≡◌, ◌≢◌, ℕ, zero, suc, ◌+◌, ◌-◌, ◌<◌, ◌≤◌, Bool, true, false, ◌&&◌, ◌==◌, if◌then◌else◌, nat_eq, nat_le, List, [], ◌∷◌, ◌++◌, length, take, drop, slice_index, get_or, refl, sym, ap, ◌∙◌, subst, append_assoc, arith, length-append, length-drop, drop-cons, add-one, cond}
+use Rattle.std.proofs.Common.{◌≡◌, ◌≢◌, ℕ, suc, ◌+◌, ◌-◌, ◌<◌, ◌≤◌, Bool, true, false, ◌==◌, if◌then◌else◌, List, [], ◌∷◌, ◌++◌, length, take, drop, slice_index, get_or, refl, sym, ap, ◌∙◌, append_assoc, arith, length-drop, drop-cons, add-one}
 use Rattle.std.proofs.lemmas.Bool.Decides.{nat_tests}
 use Rattle.std.proofs.lemmas.List.{take_all, drop_all, drop-drop}
 use borrow.Rule.Slice.PartMut.{mid_of}
 use Rattle.frang_base.specs.declared.change.Patch.{Patch}
-use Rattle.cells.proofs.Basics.{by_test, eq_of, ne_of, of_eq, of_ne, le_of}
-use Rattle.sector_definitions.specs.Patches.{joined, runs_from, patches_of, are_apart}
+use Rattle.cells.proofs.Basics.{by_test, of_eq, of_ne}
+use Rattle.sector_definitions.specs.Patches.{joined, runs_from, are_apart}
 use Rattle.sector_definitions.proofs.PatchLaws.{runs_apart}
 use Rattle.block_patches.specs.Runs.{differing, run}
 

@@ -1,12 +1,15 @@
 // Limits of inodes.
 
-/// The kinds of nodes, as the disk has them.
+/// The kind of a free inode, as the disk has it.
 pub const FREE: u8 = 0;
 
+/// The kind of a file.
 pub const FILE: u8 = 1;
 
+/// The kind of a directory.
 pub const DIRECTORY: u8 = 2;
 
+/// The kind of a symbolic link.
 pub const LINK: u8 = 3;
 
 /// The most names that a file or a symbolic link has.

@@ -1,5 +1,5 @@
 -- Patches between two inodes make the new one's sector of the old one's.
-use Rattle.std.proofs.Common.{◌≡◌, ℕ, ◌+◌, ◌≤◌, List, ◌++◌, length, take, drop, refl, sym, ap, ◌∙◌, arith}
+use Rattle.std.proofs.Common.{◌≡◌, ◌≤◌, length, sym, ap, ◌∙◌, arith}
 use Rattle.frang_base.specs.declared.change.Change.{Change}
 use Rattle.cells.specs.Blocks.{patched, spelling, edited}
 use Rattle.sector_definitions.specs.declared.inode.Inode.{Inode}

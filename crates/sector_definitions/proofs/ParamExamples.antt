@@ -1,5 +1,5 @@
 -- Parameter sectors, byte for byte: that of a fresh disk of 16 segments, and neighbours that are none.
-use Rattle.std.proofs.Common.{◌≡◌, ℕ, Option, Some, None, List, [], ◌∷◌, ◌++◌, refl}
+use Rattle.std.proofs.Common.{◌≡◌, ℕ, Some, None, List, [], ◌∷◌, ◌++◌, refl}
 use Rattle.sector_definitions.specs.declared.param.Param.{Param}
 use Rattle.sector_definitions.specs.Bytes.{zeros}
 use Rattle.sector_definitions.specs.Params.{param_bytes, param_in}

@@ -1,11 +1,11 @@
 -- Parameter sectors: what was written reads back, and a block is the sector of at most one value.
-use Rattle.std.proofs.Common.{◌≡◌, ℕ, ◌^◌, ◌<◌, true, IsTrue, Option, Some, None, List, ◌++◌, refl, sym, ap, ◌∙◌, arith}
+use Rattle.std.proofs.Common.{◌≡◌, ℕ, ◌^◌, ◌<◌, IsTrue, Some, List, ◌++◌, sym, ap, ◌∙◌, arith}
 use Rattle.std.proofs.lemmas.Bool.{and_parts}
 use Rattle.std.proofs.lemmas.Bool.Decides.{nat_tests}
 use Rattle.byteorder.specs.Endian.{little_bytes}
 use Rattle.byteorder.specs.Numbers.{little_number-reads_back}
 use Rattle.sector_definitions.specs.declared.param.Param.{Param}
-use Rattle.sector_definitions.specs.Bytes.{number_at, zeros}
+use Rattle.sector_definitions.specs.Bytes.{zeros}
 use Rattle.sector_definitions.specs.Params.{param_bytes, param_fits, param_fields, param_in, IsParamSector}
 use Rattle.sector_definitions.proofs.Readings.{read_back, read_is}
 

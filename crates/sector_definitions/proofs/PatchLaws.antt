@@ -1,14 +1,14 @@
 -- Patches laid over the old block give the new one from place 8 on; there are none exactly where nothing differs; they ascend and don't touch.
-use Rattle.std.proofs.Common.{◌≡◌, ◌≢◌, ◌↔◌, ℕ, zero, suc, ◌+◌, ◌-◌, ◌^◌, ◌<◌, ◌≤◌, Bool, true, false, ◌&&◌, ◌==◌, not, IsTrue, Result, IfOk, if◌then◌else◌, nat_eq, nat_le, List, [], ◌∷◌, ◌++◌, length, take, drop, refl, sym, ap, ◌∙◌, subst, append_assoc, arith, length-append, length-drop, cond}
-use Rattle.std.proofs.lemmas.Bool.{and_parts, and_from}
+use Rattle.std.proofs.Common.{◌≡◌, ◌≢◌, ◌↔◌, ℕ, suc, ◌+◌, ◌-◌, ◌^◌, ◌<◌, ◌≤◌, Bool, true, false, ◌&&◌, ◌==◌, not, Result, IfOk, nat_le, List, [], ◌∷◌, ◌++◌, length, take, drop, refl, sym, ap, ◌∙◌, subst, append_assoc, arith, length-append, length-drop}
+use Rattle.std.proofs.lemmas.Bool.{and_parts}
 use Rattle.std.specs.Cmp.Lexicographic.{pointwise}
 use Rattle.std.proofs.lemmas.Bool.Decides.{nat_tests}
-use Rattle.std.proofs.lemmas.List.{take_at, drop_at, drop-drop, append-nil, take-append-drop, length-take-le}
+use Rattle.std.proofs.lemmas.List.{take_at, drop_at, drop-drop, take-append-drop, length-take-le}
 use Rattle.frang_base.specs.declared.change.Patch.{Patch}
 use Rattle.frang_base.specs.declared.change.Change.{Change}
 use Rattle.byteorder.specs.Endian.{little_bytes}
 use Rattle.cells.specs.Blocks.{overwritten, patched, spelling, edited}
-use Rattle.cells.proofs.Basics.{by_test, eq_of, ne_of, of_eq, of_le, le_of}
+use Rattle.cells.proofs.Basics.{by_test, eq_of, ne_of}
 use Rattle.sector_definitions.specs.Patches.{joined, runs_from, patches_of, are_apart, are_new}
 
 -- bytes laid over what stands behind a front

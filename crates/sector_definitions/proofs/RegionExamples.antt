@@ -1,6 +1,5 @@
 -- Places on a disk of 16 segments: worked addresses, and each region from both sides of its bounds.
-use Rattle.std.proofs.Common.{◌≡◌, ℕ, Bool, true, false, Option, Some, None, refl}
-use Rattle.frang_base.specs.declared.lock.LockId.{LockId}
+use Rattle.std.proofs.Common.{◌≡◌, ℕ, false, Some, None, refl}
 use Rattle.frang_base.specs.declared.lock.LockId.TheVariants as lock
 use Rattle.sector_definitions.specs.declared.region.Region.{Region}
 use Rattle.sector_definitions.specs.declared.region.Region.TheVariants as region

@@ -1,6 +1,6 @@
 -- A block that is written field by field from its front: what stands before a place grows by what is written there.
-use Rattle.std.proofs.Common.{◌≡◌, ℕ, ◌+◌, ◌≤◌, List, [], ◌∷◌, ◌++◌, length, take, drop, refl, sym, ap, ◌∙◌, append_assoc, arith, length-append, length-drop}
-use Rattle.std.proofs.lemmas.List.{take_at, take_all, drop_all, drop-drop, append-nil, length-take-le, length-replicate}
+use Rattle.std.proofs.Common.{◌≡◌, ℕ, ◌+◌, ◌≤◌, List, [], ◌++◌, length, take, drop, refl, sym, ap, ◌∙◌, append_assoc, arith, length-append, length-drop}
+use Rattle.std.proofs.lemmas.List.{take_at, take_all, drop_all, append-nil, length-take-le, length-replicate}
 use borrow.Rule.Slice.PartMut.{mid_of, post_of, put_mid, same_len_mid}
 use Rattle.byteorder.specs.Endian.{little_number}
 use Rattle.sector_definitions.specs.Bytes.{zeros, number_at}
