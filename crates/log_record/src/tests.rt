@@ -64,7 +64,11 @@ fn zeros_are_the_empty_sector_of_their_slot(rt: HostRuntime) {
     sector_write(&empty(7), &mut block);
     assert_eq!(rt; block, [0; 512]);
     for slot in [0, 7, 255] {
-        assert_eq!(rt; sector_read(&[0; 512], slot), Some(empty(u64::from(slot))), "slot {slot}");
+        assert_eq!(rt;
+            sector_read(&[0; 512], slot),
+            Some(empty(u64::from(slot))),
+            "slot {slot}"
+        );
     }
 }
 
@@ -105,6 +109,10 @@ fn parts_of_longer_records_use_their_body(rt: HostRuntime) {
         block[16] = part;
         block[18] = parts;
         block[20..22].copy_from_slice(&u16::to_le_bytes(used));
-        assert_eq!(rt; sector_read(&block, 2).is_some(), read, "part {part} of {parts}, {used} bytes");
+        assert_eq!(rt;
+            sector_read(&block, 2).is_some(),
+            read,
+            "part {part} of {parts}, {used} bytes"
+        );
     }
 }

@@ -40,7 +40,6 @@ module _ (C : Cell → Type 0) (byte_is : (b : ℕ) → b < 256 → C (Byte b)) 
   abbrev AppliedOf : Applied → Type 0
   AppliedOf = IsAppliedOf C m
 
-
   -- nodes come, go and are found
   pub put_sayable : (tree : FileTree) (birth : ℕ) (node : Node) → TreeOf tree → NodeOf node → TreeOf (with_node tree birth node)
   put_sayable tree birth node h k = All-values-insert_entry nat_cmp birth node NodeOf tree.nodes h k

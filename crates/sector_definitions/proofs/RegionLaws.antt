@@ -176,6 +176,7 @@ cover_of_small k j part h = ap (λ (n : ℕ). Some (lock.Segment n)) (div-mul-ad
 
 -- nothing is found exactly where no place in range has the sector
 pub region_none : (segments s : ℕ) → segments ≤ 64 → (region_of segments s ≡ None) ↔ ((r : Region) → is_in_range segments r ≡ true → sector_of r ≡ s → ⊥)
-region_none segments s h =
-    (λ e r g q. let f : Some r ≡ None = sym (region_found segments r h g) ∙ ap (region_of segments) q ∙ e in cc,
-    λ f. by_some (λ o. o ≡ None) (region_of segments s) (λ e. refl) (λ r e. let p = region_read segments s r e in absurd (f r p.1 p.0)))
+region_none segments s h = (
+  λ e r g q. let f : Some r ≡ None = sym (region_found segments r h g) ∙ ap (region_of segments) q ∙ e in cc,
+  λ f. by_some (λ o. o ≡ None) (region_of segments s) (λ e. refl) (λ r e. let p = region_read segments s r e in absurd (f r p.1 p.0)),
+)
