@@ -1,7 +1,13 @@
 // The calls that may want memory, each with ample memory: its answer is the value, and not the refusal.
-use frang_base::{Name, NameList, NoMemory, Op, Patch, Patches, Path, Reply, Text};
+use file_tree::Tree;
+use frang_base::{
+    Line, Name, NameList, NoMemory, Op, OpNo, Patch, Patches, Path, Reply, Said, Script, ServerId,
+    Text, What,
+};
+use reply_text::write_line;
 use std::alloc::Global;
 use std::test::Fail;
+use tree_model::History;
 
 fn create_a(alloc: Global) -> Result<Op, NoMemory> {
     let mut path = Path::new(alloc);
@@ -54,5 +60,73 @@ fn lists_are_copied(rt: HostRuntime) -> Result<(), Fail> {
     let names = names_are_copied(alloc)?;
     let patches = patches_are_copied(alloc)?;
     assert_eq!(rt; (texts, paths, names, patches), (true, true, true, true));
+    Ok(())
+}
+
+// Applies a create.
+fn apply_create(tree: &mut Tree, op: &Op, birth: u64) -> Result<Reply, NoMemory> {
+    match op {
+        Op::Create { .. } => tree.apply(op, OpNo(birth), 0),
+        _ => Ok(Reply::Down),
+    }
+}
+
+#[test]
+fn a_tree_is_changed(rt: HostRuntime) -> Result<(), Fail> {
+    let alloc = rt.alloc();
+    let mut tree = Tree::fresh(alloc, 16)?.try_copy()?;
+    let create = create_a(alloc)?;
+    let first = apply_create(&mut tree, &create, 1)?;
+    let second = apply_create(&mut tree, &create, 2)?;
+    let are_answered = matches!((&first, &second), (Reply::Ok, Reply::Exist));
+    assert!(rt; are_answered);
+    Ok(())
+}
+
+fn script(alloc: Global) -> Result<Script, NoMemory> {
+    let mut script = Script::new(alloc);
+    for (number, op) in [(1, Op::Mount), (2, create_a(alloc)?), (3, create_a(alloc)?)] {
+        script.push(Line {
+            number,
+            who: ServerId(0),
+            what: What::Server(op),
+        })?;
+    }
+    script.try_copy()
+}
+
+fn answer(line: u32, reply: Reply) -> Said {
+    Said::Answer {
+        server: ServerId(0),
+        line,
+        reply,
+    }
+}
+
+// What a history leaves of a fresh tree, as it is said.
+fn left_tree(alloc: Global, history: &History) -> Result<Vec<u8>, NoMemory> {
+    let mut text = Vec::new(alloc);
+    if history.is_simple() {
+        let tree = history.tree(&Tree::fresh(alloc, 16)?)?;
+        for line in &tree.lines()? {
+            write_line(alloc, line, &mut text)?;
+        }
+    }
+    Ok(text)
+}
+
+#[test]
+fn a_history_leaves_a_tree(rt: HostRuntime) -> Result<(), Fail> {
+    let alloc = rt.alloc();
+    let said = [
+        answer(1, Reply::Mounted),
+        answer(2, Reply::Ok),
+        answer(3, Reply::Exist),
+    ];
+    let mut history = History::live(alloc, &script(alloc)?, 1, &said)?;
+    let text = left_tree(alloc, &history)?;
+    assert_eq!(rt; text.as_slice(), b"= / dir 1\n= /a file 0 1\n".as_slice());
+    history.drop_after(ServerId(0), OpNo(0))?;
+    assert_eq!(rt; history.as_slice().len(), 4);
     Ok(())
 }
