@@ -1,7 +1,9 @@
 -- Entries as the code has them.
-use Rattle.std.specs.Prelude.{◌≡◌, ℕ, ◌≤◌, List, ◌++◌, nat_lt, if◌then◌else◌, Option, Some, None, Result, Ok, Err, length, take, drop, not}
+use Rattle.std.specs.Prelude.{◌≡◌, ℕ, ◌+◌, ◌≤◌, List, ◌++◌, nat_lt, if◌then◌else◌, Option, Some, None, Result, Ok, Err, length, take, drop, not}
 use Rattle.std.specs.List.{All, filter}
 use Rattle.std.specs.Map.{keys_of}
+use Rattle.std.specs.Global.{Vec}
+use Rattle.std.specs.Vec.{vec_len, vec_capacity}
 use Rattle.disk_definitions.specs.declared.image.ImageFault.{ImageFault}
 use Rattle.image_file.specs.declared.entry.Entry.{Entry}
 use Rattle.sector_definitions.specs.Bytes.{number_at, are_zero}
@@ -32,9 +34,15 @@ behind front (Err f) = Err f
 abbrev pub EndsBy : ℕ → Blocks → Type 0
 EndsBy last sectors = All (λ sector. sector ≤ last) (keys_of sectors)
 
--- what stood first stands first
-abbrev pub Keeps : List ℕ → List ℕ → Type 0
-Keeps old new = take (length old) new ≡ old
+-- so many bytes can be added with no memory taken
+abbrev pub HasRoom : Vec ℕ → ℕ → Type 0
+HasRoom bytes count = vec_len bytes + count ≤ vec_capacity bytes
+
+-- new has these bytes behind those of old, and no less capacity
+pub record Adds (old new : Vec ℕ) (bytes : List ℕ) : Type 0 where
+  pub items : new.items ≡ old.items ++ bytes
+  pub len : vec_len new ≡ vec_len old + length bytes
+  pub room : vec_capacity old ≤ vec_capacity new
 
 -- the blocks that aren't zero
 abbrev pub written_blocks : List (List ℕ) → List (List ℕ)

@@ -1,13 +1,14 @@
 // A disk as bytes.
-ghost use Rattle.std.specs.Prelude.{◌≡◌, ◌++◌, ◌∷◌, ◌<◌, ◌^◌, OnErr, OnOk, length, take};
-ghost use Rattle.std.specs.Map.{keys_of, values_of};
-ghost use Rattle.std.specs.List.{All, flat_map};
+ghost use Rattle.std.specs.Prelude.{◌≡◌, ◌≤◌, ◌+◌, ◌*◌, ◌++◌, OnErr, OnOk, length};
+ghost use Rattle.std.specs.Map.{values_of};
+ghost use Rattle.std.specs.List.{flat_map};
+ghost use Rattle.std.specs.Vec.{vec_capacity, vec_len};
 ghost use Rattle.byteorder.specs.Endian.{little_bytes};
 ghost use Rattle.disk_definitions.specs.Images.{image_entry, image_mark, image_text, sectors_written};
-ghost use Rattle.image_file.specs.Entries.{Keeps, written_blocks};
+ghost use Rattle.image_file.specs.Entries.{written_blocks, Adds, HasRoom};
 
 use crate::entry::is_zero;
-use crate::limits::MARK;
+use crate::limits::{ENTRY_BYTES, HEADER_BYTES, MARK};
 use byteorder::{ByteOrder, LittleEndian};
 use disk_definitions::Disk;
 use frang_base::{Block, NoMemory};
@@ -27,69 +28,79 @@ fn count_written(disk: &Disk) -> u64
     count_blocks(disk.as_map()) as u64
 }
 
-// Adds a number of eight bytes, or nothing.
-fn write_number(number: u64, to: &mut Vec<u8>) -> Result<(), NoMemory>
-    ensures ok { OnOk result (to.new.items ≡ to.old.items ++ little_bytes 8 number) }
-    ensures err { OnErr result (to.new.items ≡ to.old.items) }
+// Takes the memory for an image of so many sectors.
+fn reserve(count: u64, to: &mut Vec<u8>) -> Result<(), NoMemory>
+    ensures items { to.new.items ≡ to.old.items }
+    ensures room { OnOk result (HasRoom to.new (16 + 520 * count)) }
+{
+    let Some(len) = count
+        .checked_mul(ENTRY_BYTES)
+        .and_then(|entries| entries.checked_add(HEADER_BYTES))
+    else {
+        return Err(NoMemory);
+    };
+    to.reserve(len as usize)?;
+    Ok(())
+}
+
+// Adds bytes for which there is room.
+fn add(bytes: &[u8], to: &mut Vec<u8>)
+    requires { HasRoom to.old (length bytes.now) }
+    ensures { Adds to.old to.new bytes.now }
+{
+    match to.extend_from_slice(bytes) {
+        Ok(()) => {}
+        Err(_) => unreachable!(),
+    }
+}
+
+fn add_number(number: u64, to: &mut Vec<u8>)
+    requires { HasRoom to.old 8 }
+    ensures { Adds to.old to.new (little_bytes 8 number) }
 {
     let mut bytes = [0; 8];
     LittleEndian::write_u64(&mut bytes, number);
-    to.extend_from_slice(&bytes)?;
-    Ok(())
+    add(&bytes, to);
 }
 
-// Adds the mark and the count. After want of memory what stood there stands there.
-fn write_header(count: u64, to: &mut Vec<u8>) -> Result<(), NoMemory>
-    ensures ok { OnOk result (to.new.items ≡ to.old.items ++ (image_mark ++ little_bytes 8 count)) }
-    ensures err { OnErr result (Keeps to.old.items to.new.items) }
+fn add_header(count: u64, to: &mut Vec<u8>)
+    requires { HasRoom to.old 16 }
+    ensures { Adds to.old to.new (image_mark ++ little_bytes 8 count) }
 {
-    to.extend_from_slice(&MARK)?;
-    write_number(count, to)
+    add(&MARK, to);
+    add_number(count, to);
 }
 
-// Adds the entry of a sector. After want of memory what stood there stands there.
-fn write_entry(sector: u64, block: &Block, to: &mut Vec<u8>) -> Result<(), NoMemory>
-    ensures ok { OnOk result (to.new.items ≡ to.old.items ++ image_entry (sector, block.now)) }
-    ensures err { OnErr result (Keeps to.old.items to.new.items) }
+fn add_entry(sector: u64, block: &Block, to: &mut Vec<u8>)
+    requires { HasRoom to.old 520 }
+    ensures entry { Adds to.old to.new (image_entry (sector, block.now)) }
+    ensures len { vec_len to.new ≡ vec_len to.old + 520 }
 {
-    write_number(sector, to)?;
-    to.extend_from_slice(block)?;
-    Ok(())
+    add_number(sector, to);
+    add(block, to);
 }
 
-// Adds the entries of the sectors that aren't zero. After want of memory what stood there stands there.
-fn write_entries(disk: &Disk, to: &mut Vec<u8>) -> Result<(), NoMemory>
-    ensures ok { OnOk result (to.new.items ≡ to.old.items ++ flat_map image_entry (sectors_written disk.now)) }
-    ensures err { OnErr result (Keeps to.old.items to.new.items) }
+// Adds the entries of the sectors that aren't zero.
+fn add_entries(disk: &Disk, to: &mut Vec<u8>)
+    requires { HasRoom to.old (520 * length (sectors_written disk.now)) }
+    ensures { to.new.items ≡ to.old.items ++ flat_map image_entry (sectors_written disk.now) }
 {
     for (sector, block) in disk.as_map() {
         if !is_zero(block) {
-            write_entry(*sector, block, to)?;
+            add_entry(*sector, block, to);
         }
     }
-    Ok(())
 }
 
-fn write_parts(disk: &Disk, to: &mut Vec<u8>) -> Result<(), NoMemory>
-    ensures ok { OnOk result (to.new.items ≡ to.old.items ++ image_text disk.now) }
-    ensures err { OnErr result (Keeps to.old.items to.new.items) }
-{
-    write_header(count_written(disk), to)?;
-    write_entries(disk, to)
-}
-
-/// Adds the image of the disk: the header, and an entry for each sector that isn't zero, ascending. After `NoMemory` the bytes are
-/// as before.
+/// Adds the image of the disk: the header, and an entry for each sector that isn't zero, ascending. After `NoMemory` nothing was
+/// added.
 pub fn write_image(disk: &Disk, to: &mut Vec<u8>) -> Result<(), NoMemory>
     ensures ok { OnOk result (to.new.items ≡ to.old.items ++ image_text disk.now) }
     ensures err { OnErr result (to.new.items ≡ to.old.items) }
 {
-    let before = to.len();
-    match write_parts(disk, to) {
-        Ok(()) => Ok(()),
-        Err(NoMemory) => {
-            to.truncate(before);
-            Err(NoMemory)
-        }
-    }
+    let count = count_written(disk);
+    reserve(count, to)?;
+    add_header(count, to);
+    add_entries(disk, to);
+    Ok(())
 }

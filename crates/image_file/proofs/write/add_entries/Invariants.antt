@@ -1,8 +1,8 @@
-use Rattle.std.proofs.Common.{◌≡◌, ◌++◌}
+use Rattle.std.proofs.Common.{◌≡◌, ◌++◌, ◌+◌, ◌*◌, ◌≤◌, length}
 use Rattle.std.specs.List.{flat_map}
 use Rattle.disk_definitions.specs.Images.{image_entry, sectors_written}
-use Rattle.image_file.specs.Entries.{Keeps}
-use Rattle.image_file.proofs.write.write_entries.Given as goal
+use Rattle.image_file.specs.Entries.{HasRoom}
+use Rattle.image_file.proofs.write.add_entries.Given as goal
 
 -- the iterator of a map is seen as the entries that it has left
 abbrev pub invariant-loop-sector : goal.invariant-loop-sector
@@ -10,5 +10,5 @@ invariant-loop-sector l = record {
   can : (goal.iterator-loop-sector).can_next l.sector-iterator;
   ends : (goal.iterator-loop-sector).is_finite l.sector-iterator;
   rest : l.to.items ++ flat_map image_entry (sectors_written l.sector-iterator) ≡ l.fn.to.items ++ flat_map image_entry (sectors_written l.disk);
-  keeps : Keeps l.fn.to.items l.to.items;
+  room : HasRoom l.to (520 * length (sectors_written l.sector-iterator));
 }
