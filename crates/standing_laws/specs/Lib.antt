@@ -1,0 +1,5 @@
+pub mod Below
+pub mod ReadTree
+pub mod Soundness
+pub mod Renaming
+pub mod Laws
