@@ -1,3 +1,9 @@
 pub mod Bounded
 pub mod Entered
 pub mod Sums
+pub mod NodesRead
+pub mod Shapes
+pub mod Pictured
+pub mod PicturedBlocks
+pub mod PicturedNames
+pub mod SoundStanding

@@ -85,3 +85,14 @@ module _ {K L X Y : Type 0} (one : K → K → Ordering) (two : L → L → Orde
   pub equal_sums : (xs : List (K × X)) (ys : List (L × Y)) → IsStrictlySortedBy one (keys_of xs) → IsStrictlySortedBy two (keys_of ys) → Correspond xs ys → sum_by f (values_of xs) ≡ sum_by g (values_of ys)
   equal_sums [] ys s t c = none_left ys c
   equal_sums (x ∷ xs) ys s t c = one_more x xs ys s t c (equal_sums xs (remove_entry (is_at (two (to x.0))) ys) (tail_sorted x xs s) (sorted_removed two exact_two ys (to x.0) t) (others x xs ys s t c))
+
+-- where each weighs nothing, all weigh nothing
+all_zero : {X : Type 0} (xs : List X) → sum_by (λ x. 0) xs ≡ 0
+all_zero [] = refl
+all_zero {X} (x ∷ xs) = let a : sum_by (λ y. 0) (x ∷ xs) ≡ 0 + sum_by (λ y. 0) xs = sum_by-cons (λ y. 0) x xs in let b : sum_by (λ y. 0) xs ≡ 0 = all_zero xs in omega arith
+
+pub zero_sum : {K X : Type 0} (cmp : K → K → Ordering) (exact : IsExact cmp) (f : X → ℕ) (xs : List (K × X)) → IsStrictlySortedBy cmp (keys_of xs) → ((k : K) (x : X) → lookup (is_at (cmp k)) xs ≡ Some x → f x ≡ 0) → sum_by f (values_of xs) ≡ 0
+zero_sum {K} {X} cmp exact f xs sorted none =
+    equal_sums cmp cmp exact exact (λ k. k) (λ k. k) f (λ x. 0) xs xs sorted sorted
+    (λ k x e. record { value = x; found = e; home = refl; weighs = none k x e }, λ k x e. record { value = x; found = e; home = refl; weighs = sym (none k x e) })
+    ∙ all_zero (values_of xs)
