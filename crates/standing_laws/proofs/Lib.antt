@@ -7,3 +7,6 @@ pub mod Pictured
 pub mod PicturedBlocks
 pub mod PicturedNames
 pub mod SoundStanding
+pub mod Stored
+pub mod StandingBlocks
+pub mod StandingNames

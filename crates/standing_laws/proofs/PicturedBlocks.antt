@@ -29,14 +29,14 @@ use Rattle.standing_laws.proofs.Shapes.{Shape, OfFile, OfDir, OfLink, IsFileShap
 use Rattle.standing_laws.proofs.Pictured.{IsInRange, nothing, at_inode, naming_of, slot_pair, is_emptied, cells_of, length_cells, read_file, read_dir, read_link, tree, at, n, at_some, at_none, node, below, known}
 
 -- the place of index j of inode b
-place_is : (b j : ℕ) → j < 16 → ((b * 16 + j) / 16 ≡ b) × ((b * 16 + j) % 16 ≡ j)
+pub place_is : (b j : ℕ) → j < 16 → ((b * 16 + j) / 16 ≡ b) × ((b * 16 + j) % 16 ≡ j)
 place_is b j h = (div-mul-add b 16 j h, mod-mul-add b 16 j h)
 
 pair_is : (t b j : ℕ) → t / 16 ≡ b → t % 16 ≡ j → slot_pair t ≡ slot_pair (b * 16 + j)
 pair_is t b j e f = ap slot_pair (sym (div-add-mod' t 16) ∙ ap (λ q. q * 16 + t % 16) e ∙ ap (λ r. b * 16 + r) f)
 
 -- a block that is found at an index
-in_slot : (o : Option StoredNode) (j k : ℕ) → block_in o j ≡ Some k → (x : StoredNode) × (o ≡ Some x) × (j < x.blocks) × (x.small j ≡ k)
+pub in_slot : (o : Option StoredNode) (j k : ℕ) → block_in o j ≡ Some k → (x : StoredNode) × (o ≡ Some x) × (j < x.blocks) × (x.small j ≡ k)
 in_slot None j k h = absurd (cc)
 in_slot (Some x) j k h = go (nat_lt j x.blocks) refl h
   where
@@ -44,7 +44,7 @@ in_slot (Some x) j k h = go (nat_lt j x.blocks) refl h
     go true e h = (x, refl, ltb-true j x.blocks e, (let q : Some (x.small j) ≡ Some k = h in cc))
     go false e h = absurd (cc)
 
-slot_in : (o : Option StoredNode) (x : StoredNode) (j : ℕ) → o ≡ Some x → j < x.blocks → block_in o j ≡ Some (x.small j)
+pub slot_in : (o : Option StoredNode) (x : StoredNode) (j : ℕ) → o ≡ Some x → j < x.blocks → block_in o j ≡ Some (x.small j)
 slot_in o x j e l = ap (λ o. block_in o j) e ∙ cond-true (nat_lt j x.blocks) (Some (x.small j)) None (lt-ltb j x.blocks l)
 
 -- a use that agrees with a kind
@@ -61,7 +61,7 @@ unused_use Bytes at h = absurd (cc)
 unused_use OfEntries at h = absurd (cc)
 
 -- the block of a shape
-few : (x : StoredNode) → Shape x → x.blocks ≤ 16
+pub few : (x : StoredNode) → Shape x → x.blocks ≤ 16
 few x (OfFile f) = f.few
 few x (OfDir f) = f.few
 few x (OfLink f) = let b : x.blocks ≡ 0 = f.blocks in omega arith
@@ -82,7 +82,7 @@ large_is s x (OfDir f) = ap (λ y. has_large (Some y)) (read_dir s x f.kind) ∙
 large_is s x (OfLink f) = ap (λ y. has_large (Some y)) (read_link s x f.kind) ∙ sym (ap (nat_lt 0) f.large)
 
 -- a large block that is found
-in_large : (o : Option StoredNode) (g : ℕ) → large_in o ≡ Some g → (x : StoredNode) × (o ≡ Some x) × (nat_lt 0 x.large ≡ true) × (x.large - 1 ≡ g)
+pub in_large : (o : Option StoredNode) (g : ℕ) → large_in o ≡ Some g → (x : StoredNode) × (o ≡ Some x) × (nat_lt 0 x.large ≡ true) × (x.large - 1 ≡ g)
 in_large None g h = absurd (cc)
 in_large (Some x) g h = go (nat_lt 0 x.large) refl h
   where
