@@ -10,3 +10,4 @@ pub mod SoundStanding
 pub mod Stored
 pub mod StandingBlocks
 pub mod StandingNames
+pub mod StandingTree

@@ -47,23 +47,23 @@ values : {K X : Type 0} (xs : List (K × X)) → length (values_of xs) ≡ lengt
 values [] = refl
 values (x ∷ xs) = ap suc (values xs)
 
-pub first_is : (o : Option ℕ) (f : ℕ → ℕ) → is_some o ≡ true → (v : ℕ) × (o ≡ Some v)
-first_is None f h = absurd (cc)
-first_is (Some v) f h = (v, refl)
+pub first_is : (o : Option ℕ) → is_some o ≡ true → (v : ℕ) × (o ≡ Some v)
+first_is None h = absurd (cc)
+first_is (Some v) h = (v, refl)
 
 is_none : (o : Option ℕ) → is_some o ≡ false → o ≡ None
 is_none None h = refl
 is_none (Some v) h = absurd (cc)
 
 module _ (segments : ℕ) (s : Store) (range : IsInRange segments s) (t : FileTree) (w : IsWellFormed t) (n : Naming) (p : Pictures s (node_at t) n) where
-  abbrev at : Nodes
+  abbrev pub at : Nodes
   at = node_at t
 
-  abbrev read : Nodes
+  abbrev pub read : Nodes
   read = node_at (tree_in segments s)
 
   -- a name has a node, of the kind that stands in its entry
-  named : (d v : ℕ) (name : List ℕ) → find_in (at d) name ≡ Some v → is_some (at v) ≡ true
+  pub named : (d v : ℕ) (name : List ℕ) → find_in (at d) name ≡ Some v → is_some (at v) ≡ true
   named d v name e = go (at d) refl e
     where
       go : (o : Option Node) → at d ≡ o → find_in o name ≡ Some v → is_some (at v) ≡ true
@@ -84,7 +84,7 @@ module _ (segments : ℕ) (s : Store) (range : IsInRange segments s) (t : FileTr
     abbrev x : StoredNode
     x = made_by n d (Dir es k)
 
-    abbrev entries : Entries
+    abbrev pub entries : Entries
     entries = entries_to (place_at s x) (56 * k)
 
     same_place : (q : ℕ) → q < 56 * k → place_at s x q ≡ dir_place s n d q
@@ -95,7 +95,7 @@ module _ (segments : ℕ) (s : Store) (range : IsInRange segments s) (t : FileTr
     entry_is q e l h =
         let g : dir_place s n d q ≡ Some e = sym (same_place q l) ∙ h in
         let r = p.places d q e (subst (λ o. q < 56 * room_in o) (sym is) l) g in
-        let f = first_is (find_in (at d) e.name) (λ v. v) r.1 in
+        let f = first_is (find_in (at d) e.name) r.1 in
         let m = p.names d f.0 e.name f.1 in
         let z : Some e ≡ Some (entry_of n e.name f.0) = sym g ∙ ap (dir_place s n d) (sym r.0) ∙ m.1 in
         (f.0, sym (ap (λ o. find_in o e.name) is) ∙ f.1, (let y : e ≡ entry_of n e.name f.0 = cc in y), r.0)
@@ -138,7 +138,7 @@ module _ (segments : ℕ) (s : Store) (range : IsInRange segments s) (t : FileTr
           where
             before : (q : ℕ) → q < 56 * k → (e : StoredEntry) → n.spot d e.name ≡ q → is_some (entry_at (entries_to (place_at s x) q) e.name) ≡ true → ⊥
             before q l e h b =
-                let g = first_is (entry_at (entries_to (place_at s x) q) e.name) (λ v. v) b in
+                let g = first_is (entry_at (entries_to (place_at s x) q) e.name) b in
                 let f : StandsAt (place_at s x) q e.name g.0 = found_at (place_at s x) q e.name g.0 g.1 in
                 let u : f.spot < q = f.within in
                 let r = entry_is f.spot f.entry (omega arith) f.is in
