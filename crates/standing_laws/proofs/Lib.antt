@@ -11,3 +11,4 @@ pub mod Stored
 pub mod StandingBlocks
 pub mod StandingNames
 pub mod StandingTree
+pub mod OneTree
