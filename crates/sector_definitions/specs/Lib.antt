@@ -1,5 +1,6 @@
 pub mod Bytes
 pub mod Regions
+pub mod Patches
 pub mod Params
 pub mod Inodes
 pub mod Directories

@@ -1,0 +1,4 @@
+pub mod Written
+pub mod Chosen
+pub mod Bits
+pub mod Digits

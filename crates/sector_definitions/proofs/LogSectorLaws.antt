@@ -1,0 +1,131 @@
+-- Sectors of logs: what was written reads back, and a block in a slot is at most one sector.
+use Rattle.std.proofs.Common.{◌≡◌, ℕ, ◌+◌, ◌%◌, ◌^◌, ◌<◌, ◌≤◌, Bool, true, false, ◌&&◌, ◌||◌, IsTrue, if◌then◌else◌, ◌==◌, nat_le, nat_lt, Option, Some, None, List, [], ◌∷◌, ◌++◌, length, replicate, refl, sym, ap, ◌∙◌, subst, arith}
+use Rattle.std.proofs.lemmas.Bool.{and_parts, and_from, or_parts, false_from_ne_true}
+use Rattle.std.proofs.lemmas.Bool.Decides.{nat_tests}
+use Rattle.byteorder.specs.Endian.{little_bytes}
+use Rattle.byteorder.specs.Numbers.{little_number-reads_back}
+use Rattle.frang_base.specs.declared.sector.OpNo.{OpNo}
+use Rattle.sector_definitions.specs.declared.log_sector.LogSector.{LogSector}
+use Rattle.sector_definitions.specs.Bytes.{number_at, zeros, are_zero, same_bytes}
+use Rattle.sector_definitions.specs.LogSectors.{numbered_bytes, log_sector_bytes, is_empty_sector, is_record_sector, log_sector_fits, log_sector_fields, empty_sector, IsLogSector, numbered_sector_in, log_sector_in}
+use Rattle.cells.proofs.Basics.{by_test}
+use Rattle.sector_definitions.proofs.Readings.{same_bytes_is, same_bytes_refl, read_back, read_is}
+
+-- the numbers of a sector fit their fields, and the body has its length
+pub record IsStorable (x : LogSector) : Type 0 where
+  pub seq : x.seq < 256 ^ 8
+  pub op : x.op.0 < 256 ^ 8
+  pub part : x.part < 256 ^ 2
+  pub parts : x.parts < 256 ^ 2
+  pub used : x.used < 256 ^ 2
+  pub body : length x.body ≡ 488
+
+-- sectors with the same fields are one
+same_sector : {s o p q u : ℕ} {b : List ℕ} (x : LogSector) → s ≡ x.seq → o ≡ x.op.0 → p ≡ x.part → q ≡ x.parts → u ≡ x.used → b ≡ x.body
+    → record { seq = s; op = record { 0 = o }; part = p; parts = q; used = u; body = b } ≡ x
+same_sector x seq op part parts used body = rw (seq, op, part, parts, used, body) refl
+
+-- the fields of the bytes of a numbered sector
+pub fields_of_numbered_bytes : (x : LogSector) → IsStorable x → log_sector_fields (numbered_bytes x) ≡ x
+fields_of_numbered_bytes x h =
+    let tail = little_bytes 2 x.used ++ (0 ∷ 0 ∷ x.body) in
+    same_sector x
+      (little_number-reads_back 8 x.seq (little_bytes 8 x.op.0 ++ (little_bytes 2 x.part ++ (little_bytes 2 x.parts ++ tail))) h.seq)
+      (little_number-reads_back 8 x.op.0 (little_bytes 2 x.part ++ (little_bytes 2 x.parts ++ tail)) h.op)
+      (little_number-reads_back 2 x.part (little_bytes 2 x.parts ++ tail) h.part)
+      (little_number-reads_back 2 x.parts tail h.parts)
+      (little_number-reads_back 2 x.used (0 ∷ 0 ∷ x.body) h.used)
+      refl
+
+-- a numbered sector isn't zeros
+numbered_is_not_zeros : (x : LogSector) → IsStorable x → 256 ≤ x.seq → same_bytes (zeros 512) (numbered_bytes x) ≡ false
+unfolding zeros
+numbered_is_not_zeros x h n = false_from_ne_true (same_bytes (zeros 512) (numbered_bytes x)) (λ e.
+    let first : 0 ≡ x.seq = ap (number_at 8 0) (same_bytes_is (zeros 512) (numbered_bytes x) e) ∙ ap (λ (y : LogSector). y.seq) (fields_of_numbered_bytes x h) in
+    omega arith)
+
+-- bytes that are all 0
+zeros_of : (xs : List ℕ) → are_zero xs ≡ true → xs ≡ zeros (length xs)
+unfolding zeros
+zeros_of [] h = refl
+zeros_of (x ∷ xs) h =
+    let parts = and_parts (x == 0) (are_zero xs) h in
+    let first : x ≡ 0 = grind (arith, nat_tests) in
+    rw first (ap (λ (ys : List ℕ). 0 ∷ ys) (zeros_of xs parts.1))
+
+-- one of two, where it isn't the second
+first_of_two : (a b : Bool) → (a || b) ≡ true → (b ≡ true → ⊥) → a ≡ true
+first_of_two true b h n = refl
+first_of_two false b h n = absurd (n h)
+
+record_number : (x : LogSector) → is_record_sector x ≡ true → 256 ≤ x.seq
+record_number x h = grind (arith, nat_tests, and_parts)
+
+empty_fields : (x : LogSector) → is_empty_sector x ≡ true → (x.op.0 ≡ 0) × (x.part ≡ 0) × (x.parts ≡ 0) × (x.used ≡ 0) × (are_zero x.body ≡ true)
+empty_fields x h = grind (arith, nat_tests, and_parts)
+
+-- the slot of a sector that fits, and that it is empty or a part of a record
+fitting : (slot : ℕ) (x : LogSector) → log_sector_fits slot x ≡ true → (x.seq % 256 ≡ slot) × ((is_empty_sector x || is_record_sector x) ≡ true)
+fitting slot x h =
+    let outer = and_parts (nat_lt x.seq (2 ^ 63) && x.seq % 256 == slot) (is_empty_sector x || is_record_sector x) h in
+    let inner = and_parts (nat_lt x.seq (2 ^ 63)) (x.seq % 256 == slot) outer.0 in
+    let e : x.seq % 256 ≡ slot = grind (arith, nat_tests) in (e, outer.1)
+
+-- a sector with a number below 256 is the empty one of its slot
+low_is_empty : (slot : ℕ) (x : LogSector) → length x.body ≡ 488 → x.seq < 256 → log_sector_fits slot x ≡ true → empty_sector slot ≡ x
+low_is_empty slot x n low h =
+    let fit = fitting slot x h in
+    let e = empty_fields x (first_of_two (is_empty_sector x) (is_record_sector x) fit.1 (λ r. let k = record_number x r in omega arith)) in
+    let seq : slot ≡ x.seq = omega arith in
+    let body : zeros 488 ≡ x.body = sym (zeros_of x.body e.4 ∙ ap zeros n) in
+    same_sector x seq (sym e.0) (sym e.1) (sym e.2) (sym e.3) body
+
+-- a sector with a number of its own that may stand in the slot
+abbrev is_numbered : ℕ → LogSector → Bool
+is_numbered slot x = nat_le 256 x.seq && log_sector_fits slot x
+
+-- what was written reads back
+pub log_sector_back : (slot : ℕ) (x : LogSector) → IsStorable x → log_sector_fits slot x ≡ true → log_sector_in slot (log_sector_bytes x) ≡ Some x
+log_sector_back slot x h fits =
+    by_test (λ (b : List ℕ). log_sector_in slot b ≡ Some x) (zeros 512) (numbered_bytes x) (nat_lt x.seq 256)
+    (λ t. rw (same_bytes_refl (zeros 512)) (ap (λ (y : LogSector). Some y) (low_is_empty slot x h.body (grind (arith, nat_tests)) fits)))
+    (λ f.
+        let numbered : 256 ≤ x.seq = grind (arith, nat_tests) in
+        let test : is_numbered slot x ≡ true = and_from (nat_le 256 x.seq) (log_sector_fits slot x) (grind (arith, nat_tests)) fits in
+        rw (numbered_is_not_zeros x h numbered)
+        (read_back numbered_bytes (is_numbered slot) (log_sector_fields (numbered_bytes x)) x (fields_of_numbered_bytes x h) test))
+
+-- the empty sector of a slot may stand there
+empty_fits : (slot : ℕ) → slot < 256 → log_sector_fits slot (empty_sector slot) ≡ true
+unfolding zeros
+empty_fits slot h =
+    let below : nat_lt slot (2 ^ 63) ≡ true = grind (arith, nat_tests) in
+    let at : (slot % 256 == slot) ≡ true = grind (arith, nat_tests) in
+    rw (below, at) refl
+
+-- the bytes of a numbered sector
+bytes_of_numbered : (x : LogSector) → 256 ≤ x.seq → log_sector_bytes x ≡ numbered_bytes x
+bytes_of_numbered x h = let e : nat_lt x.seq 256 ≡ false = grind (arith, nat_tests) in rw e refl
+
+-- what a block in a slot is read as, it is
+pub log_sector_read : (slot : ℕ) (block : List ℕ) (x : LogSector) → slot < 256 → log_sector_in slot block ≡ Some x → IsLogSector slot block x
+log_sector_read slot block x low =
+    by_test (λ (o : Option LogSector). o ≡ Some x → IsLogSector slot block x) (Some (empty_sector slot)) (numbered_sector_in slot block (log_sector_fields block))
+    (same_bytes (zeros 512) block)
+    (λ t e.
+        let is : empty_sector slot ≡ x = cc in
+        let zero : log_sector_bytes (empty_sector slot) ≡ zeros 512 = let b : nat_lt slot 256 ≡ true = grind (arith, nat_tests) in rw b refl in
+        subst (IsLogSector slot block) is (sym (same_bytes_is (zeros 512) block t) ∙ sym zero, empty_fits slot low))
+    (λ f e.
+        let parts = read_is numbered_bytes (is_numbered slot) block (log_sector_fields block) x e in
+        let fits = and_parts (nat_le 256 x.seq) (log_sector_fits slot x) parts.1 in
+        (parts.0 ∙ sym (bytes_of_numbered x (grind (arith, nat_tests))), fits.1))
+
+-- what a block in a slot is, it is read as
+pub log_sector_found : (slot : ℕ) (block : List ℕ) (x : LogSector) → IsStorable x → IsLogSector slot block x → log_sector_in slot block ≡ Some x
+log_sector_found slot block x s h = ap (log_sector_in slot) h.0 ∙ log_sector_back slot x s h.1
+
+-- a block in a slot is at most one sector
+pub log_sector_once : (slot : ℕ) (block : List ℕ) (x y : LogSector) → IsStorable x → IsStorable y → IsLogSector slot block x → IsLogSector slot block y → x ≡ y
+log_sector_once slot block x y s t h g =
+    let e : Some x ≡ Some y = sym (log_sector_found slot block x s h) ∙ log_sector_found slot block y t g in cc

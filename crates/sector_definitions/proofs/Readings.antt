@@ -1,0 +1,30 @@
+-- How a reading that writes again what it read, and compares, goes back and forth, whatever the fields are.
+use Rattle.std.proofs.Common.{◌≡◌, Bool, true, false, ◌&&◌, IsTrue, if◌then◌else◌, ℕ, Option, Some, None, List, refl, sym, ap, ◌∙◌, subst}
+use Rattle.std.proofs.lemmas.Bool.{and_parts, and_from}
+use Rattle.std.proofs.lemmas.Slice.Eq.{bytes_eq-Decides}
+use Rattle.cells.proofs.Basics.{by_test}
+use Rattle.sector_definitions.specs.Bytes.{same_bytes}
+
+-- the value whose fields stand in the block, where it fits and its bytes are the block
+abbrev pub read_as : {X : Type 0} → (X → List ℕ) → (X → Bool) → List ℕ → X → Option X
+read_as bytes fits block x = if fits x && same_bytes (bytes x) block then Some x else None
+
+pub same_bytes_is : (a b : List ℕ) → same_bytes a b ≡ true → a ≡ b
+same_bytes_is a b = (bytes_eq-Decides a b).0
+
+pub same_bytes_refl : (a : List ℕ) → same_bytes a a ≡ true
+same_bytes_refl a = (bytes_eq-Decides a a).1 refl
+
+-- what fits reads back from its own bytes
+pub read_back : {X : Type 0} (bytes : X → List ℕ) (fits : X → Bool) (y x : X) → y ≡ x → fits x ≡ true → read_as bytes fits (bytes x) y ≡ Some x
+read_back {X} bytes fits y x e h =
+    let test : (fits x && same_bytes (bytes x) (bytes x)) ≡ true = and_from (fits x) (same_bytes (bytes x) (bytes x)) h (same_bytes_refl (bytes x)) in
+    ap (read_as bytes fits (bytes x)) e ∙ ap (λ (b : Bool). if b then Some x else None) test
+
+-- what is read fits, and its bytes are the block
+pub read_is : {X : Type 0} (bytes : X → List ℕ) (fits : X → Bool) (block : List ℕ) (y x : X) → read_as bytes fits block y ≡ Some x → (block ≡ bytes x) × (fits x ≡ true)
+read_is {X} bytes fits block y x =
+    by_test (λ (o : Option X). o ≡ Some x → (block ≡ bytes x) × (fits x ≡ true)) (Some y) None (fits y && same_bytes (bytes y) block)
+    (λ t e. let q : y ≡ x = cc in let parts = and_parts (fits y) (same_bytes (bytes y) block) t in
+        (sym (same_bytes_is (bytes y) block parts.1) ∙ ap bytes q, subst (λ (z : X). fits z ≡ true) q parts.0))
+    (λ t e. cc)
