@@ -91,10 +91,10 @@ turn ps qs target old new at n h g d e q =
     let counted : n ≡ differing (drop at old) (drop at new) = d ∙ ap (λ (xs : List ℕ). differing xs (mid_of at (512 - at) new)) (mid_rest old at h) ∙ ap (differing (drop at old)) (mid_rest new at g) in
     let bytes : mid_of at (at + n - at) new ≡ take n (drop at new) = ap (λ (k : ℕ). take k (drop at new)) (omega arith) in
     let rest : runs_from at (drop at old) (drop at new) ≡ run at (take n (drop at new)) ++ runs_from (at + suc n) (drop (suc n) (drop at old)) (drop (suc n) (drop at new)) =
-        runs_split (drop at old) (drop at new) at ∙ ap (λ (k : ℕ). run at (take k (drop at new)) ++ runs_from (at + suc k) (drop (suc k) (drop at old)) (drop (suc k) (drop at new))) (sym counted) in
+    runs_split (drop at old) (drop at new) at ∙ ap (λ (k : ℕ). run at (take k (drop at new)) ++ runs_from (at + suc k) (drop (suc k) (drop at old)) (drop (suc k) (drop at new))) (sym counted) in
     let behind : runs_from (at + suc n) (drop (suc n) (drop at old)) (drop (suc n) (drop at new)) ≡ runs_from (at + (n + 1)) (drop (at + (n + 1)) old) (drop (at + (n + 1)) new) =
-        ap (λ (xs : List ℕ). runs_from (at + suc n) xs (drop (suc n) (drop at new))) (drop-drop (suc n) at old) ∙ ap (runs_from (at + suc n) (drop (at + suc n) old)) (drop-drop (suc n) at new)
-        ∙ ap (λ (k : ℕ). runs_from (at + k) (drop (at + k) old) (drop (at + k) new)) (omega arith) in
+    ap (λ (xs : List ℕ). runs_from (at + suc n) xs (drop (suc n) (drop at new))) (drop-drop (suc n) at old) ∙ ap (runs_from (at + suc n) (drop (at + suc n) old)) (drop-drop (suc n) at new)
+    ∙ ap (λ (k : ℕ). runs_from (at + k) (drop (at + k) old) (drop (at + k) new)) (omega arith) in
     ap (λ (rs : List Patch). rs ++ runs_from (at + (n + 1)) (drop (at + (n + 1)) old) (drop (at + (n + 1)) new)) (q ∙ ap (λ (bs : List ℕ). ps ++ run at bs) bytes)
     ∙ append_assoc ps (run at (take n (drop at new))) (runs_from (at + (n + 1)) (drop (at + (n + 1)) old) (drop (at + (n + 1)) new))
     ∙ ap (λ (rs : List Patch). ps ++ (run at (take n (drop at new)) ++ rs)) (sym behind) ∙ ap (λ (rs : List Patch). ps ++ rs) (sym rest) ∙ e

@@ -6,3 +6,4 @@ pub mod BitmapLaws
 pub mod LogSectorLaws
 pub mod DirectoryPlaces
 pub mod DirectoryLaws
+pub mod InodeLaws

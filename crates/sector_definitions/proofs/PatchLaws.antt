@@ -1,12 +1,15 @@
 -- Patches laid over the old block give the new one from place 8 on; there are none exactly where nothing differs; they ascend and don't touch.
-use Rattle.std.proofs.Common.{◌≡◌, ◌≢◌, ◌↔◌, ℕ, zero, suc, ◌+◌, ◌-◌, ◌<◌, ◌≤◌, Bool, true, false, ◌&&◌, ◌==◌, IsTrue, if◌then◌else◌, nat_eq, nat_le, List, [], ◌∷◌, ◌++◌, length, take, drop, refl, sym, ap, ◌∙◌, subst, append_assoc, arith, length-append, length-drop, cond}
+use Rattle.std.proofs.Common.{◌≡◌, ◌≢◌, ◌↔◌, ℕ, zero, suc, ◌+◌, ◌-◌, ◌^◌, ◌<◌, ◌≤◌, Bool, true, false, ◌&&◌, ◌==◌, not, IsTrue, if◌then◌else◌, nat_eq, nat_le, List, [], ◌∷◌, ◌++◌, length, take, drop, refl, sym, ap, ◌∙◌, subst, append_assoc, arith, length-append, length-drop, cond}
 use Rattle.std.proofs.lemmas.Bool.{and_parts, and_from}
+use Rattle.std.specs.Cmp.Lexicographic.{pointwise}
 use Rattle.std.proofs.lemmas.Bool.Decides.{nat_tests}
 use Rattle.std.proofs.lemmas.List.{take_at, drop_at, drop-drop, append-nil, take-append-drop, length-take-le}
 use Rattle.frang_base.specs.declared.change.Patch.{Patch}
-use Rattle.cells.specs.Blocks.{overwritten, patched}
+use Rattle.frang_base.specs.declared.change.Change.{Change}
+use Rattle.byteorder.specs.Endian.{little_bytes}
+use Rattle.cells.specs.Blocks.{overwritten, patched, spelling, edited}
 use Rattle.cells.proofs.Basics.{by_test, eq_of, ne_of, of_eq, of_le, le_of}
-use Rattle.sector_definitions.specs.Patches.{joined, runs_from, patches_of, are_apart}
+use Rattle.sector_definitions.specs.Patches.{joined, runs_from, patches_of, are_apart, are_new}
 
 -- bytes laid over what stands behind a front
 laid : (pre old bytes : List ℕ) (at : ℕ) → length pre ≡ at → overwritten (pre ++ old) at bytes ≡ pre ++ (bytes ++ drop (length bytes) old)
@@ -89,3 +92,55 @@ runs_apart (a ∷ old) (b ∷ new) from to at h g =
     by_test (λ (rs : List Patch). are_apart from to rs ≡ true) (runs_from (at + 1) old new) (joined at b (runs_from (at + 1) old new)) (a == b)
     (λ t. runs_apart old new from to (at + 1) (omega arith) (omega arith))
     (λ t. joined_apart (runs_from (at + 1) old new) from to at b h (omega arith) (runs_apart old new (at + 1) to (at + 1) (omega arith) (omega arith)))
+
+-- a number of eight bytes, spelled
+eight : (a b c d e f g h i j k l m n o p : ℕ) → a ≡ i → b ≡ j → c ≡ k → d ≡ l → e ≡ m → f ≡ n → g ≡ o → h ≡ p
+    → a ∷ b ∷ c ∷ d ∷ e ∷ f ∷ g ∷ h ∷ [] ≡ i ∷ j ∷ k ∷ l ∷ m ∷ n ∷ o ∷ p ∷ []
+eight a b c d e f g h i j k l m n o p q1 q2 q3 q4 q5 q6 q7 q8 = cc
+
+pub spelled_version : (n : ℕ) → n < 256 ^ 8 → spelling 7 n ≡ little_bytes 8 n
+spelled_version n h = eight _ _ _ _ _ _ _ _ _ _ _ _ _ _ _ _ refl refl (omega arith) (omega arith) (omega arith) (omega arith) (omega arith) (omega arith)
+
+-- a change with these patches and the version of the new block makes the new block of the old one
+pub edited_by_patches : (x : Change) (old new : List ℕ) → 8 ≤ length old → length old ≡ length new → x.patches ≡ patches_of old new → spelling 7 x.version ≡ take 8 new → edited x old ≡ new
+edited_by_patches x old new h l p v =
+    let rest : drop 8 (patched x.patches old) ≡ drop 8 new = ap (λ (ps : List Patch). drop 8 (patched ps old)) p ∙ ap (drop 8) (patches_laid old new h l) ∙ drop_at (take 8 old) (drop 8 new) 8 (length-take-le 8 old h) in
+    ap (λ (xs : List ℕ). xs ++ drop 8 (patched x.patches old)) v ∙ ap (λ (xs : List ℕ). take 8 new ++ xs) rest ∙ take-append-drop 8 new
+
+-- the patches between blocks of 512 bytes lie behind the version, ascend and don't touch
+pub patches_apart : (old new : List ℕ) → length old ≡ 512 → are_apart 8 512 (patches_of old new) ≡ true
+patches_apart old new h = runs_apart (drop 8 old) (drop 8 new) 8 512 8 (omega arith) (omega (arith, length-drop 8 old))
+
+-- what stands behind a front of that length
+behind_front : (pre old : List ℕ) (a at : ℕ) → length pre ≡ at → drop (at + 1) (pre ++ a ∷ old) ≡ old
+behind_front pre old a at h = ap (drop (at + 1)) (sym (append_assoc pre (a ∷ []) old)) ∙ drop_at (pre ++ a ∷ []) old (at + 1) (one_longer pre a at h)
+
+-- a byte that differs, in front of bytes that do
+one_new : (whole old bytes : List ℕ) (a b at : ℕ) (rest : Bool) → drop at whole ≡ a ∷ old → (a == b) ≡ false → pointwise (λ x y. not (x == y)) (take (length bytes) old) bytes ≡ true → rest ≡ true
+    → (pointwise (λ x y. not (x == y)) (take (length (b ∷ bytes)) (drop at whole)) (b ∷ bytes) && rest) ≡ true
+one_new whole old bytes a b at rest h d e r = rw (h, d, e, r) refl
+
+joined_new : (ps : List Patch) (pre old : List ℕ) (a b at : ℕ) → length pre ≡ at → (a == b) ≡ false → are_new (pre ++ a ∷ old) ps ≡ true → are_new (pre ++ a ∷ old) (joined at b ps) ≡ true
+joined_new [] pre old a b at h d e = one_new (pre ++ a ∷ old) old [] a b at true (drop_at pre (a ∷ old) at h) d refl refl
+joined_new (p ∷ ps) pre old a b at h d e =
+    let parts = and_parts (pointwise (λ x y. not (x == y)) (take (length p.bytes) (drop p.at (pre ++ a ∷ old))) p.bytes) (are_new (pre ++ a ∷ old) ps) e in
+    by_test (λ (rs : List Patch). are_new (pre ++ a ∷ old) rs ≡ true) (record { at = at; bytes = b ∷ p.bytes } ∷ ps) (record { at = at; bytes = b ∷ [] } ∷ p ∷ ps) (p.at == at + 1)
+    (λ t. let place : drop p.at (pre ++ a ∷ old) ≡ old = ap (λ (k : ℕ). drop k (pre ++ a ∷ old)) (eq_of p.at (at + 1) t) ∙ behind_front pre old a at h in
+        one_new (pre ++ a ∷ old) old p.bytes a b at (are_new (pre ++ a ∷ old) ps) (drop_at pre (a ∷ old) at h) d
+        (sym (ap (λ (xs : List ℕ). pointwise (λ x y. not (x == y)) (take (length p.bytes) xs) p.bytes) place) ∙ parts.0) parts.1)
+    (λ t. one_new (pre ++ a ∷ old) old [] a b at (are_new (pre ++ a ∷ old) (p ∷ ps)) (drop_at pre (a ∷ old) at h) d refl e)
+
+runs_new : (old new pre : List ℕ) (at : ℕ) → length pre ≡ at → are_new (pre ++ old) (runs_from at old new) ≡ true
+runs_new [] new pre at h = refl
+runs_new (a ∷ old) [] pre at h = refl
+runs_new (a ∷ old) (b ∷ new) pre at h =
+    let behind : are_new (pre ++ a ∷ old) (runs_from (at + 1) old new) ≡ true =
+        ap (λ (xs : List ℕ). are_new xs (runs_from (at + 1) old new)) (sym (append_assoc pre (a ∷ []) old)) ∙ runs_new old new (pre ++ a ∷ []) (at + 1) (one_longer pre a at h) in
+    by_test (λ (rs : List Patch). are_new (pre ++ a ∷ old) rs ≡ true) (runs_from (at + 1) old new) (joined at b (runs_from (at + 1) old new)) (a == b)
+    (λ t. behind)
+    (λ t. joined_new (runs_from (at + 1) old new) pre old a b at h t behind)
+
+-- each patched byte differs from the old one
+pub patches_new : (old new : List ℕ) → 8 ≤ length old → are_new old (patches_of old new) ≡ true
+patches_new old new h =
+    ap (λ (xs : List ℕ). are_new xs (patches_of old new)) (sym (take-append-drop 8 old)) ∙ runs_new (drop 8 old) (drop 8 new) (take 8 old) 8 (length-take-le 8 old h)

@@ -28,3 +28,13 @@ read_is {X} bytes fits block y x =
     (λ t e. let q : y ≡ x = cc in let parts = and_parts (fits y) (same_bytes (bytes y) block) t in
         (sym (same_bytes_is (bytes y) block parts.1) ∙ ap bytes q, subst (λ (z : X). fits z ≡ true) q parts.0))
     (λ t e. cc)
+
+-- a reading that finds fields which don't fit
+pub reads_none : {X : Type 0} (bytes : X → List ℕ) (fits : X → Bool) (block : List ℕ) (y x : X) → x ≡ y → fits x ≡ false → None ≡ read_as bytes fits block y
+reads_none {X} bytes fits block y x e f = sym (ap (read_as bytes fits block) (sym e) ∙ ap (λ (t : Bool). if t && same_bytes (bytes x) block then Some x else None) f)
+
+-- a reading that compares the block with the bytes of what it found
+pub reads_same : {X : Type 0} (bytes : X → List ℕ) (fits : X → Bool) (block again : List ℕ) (y x : X) (same : Bool) → x ≡ y → fits x ≡ true → again ≡ bytes x → same ≡ same_bytes again block → (if same then Some x else None) ≡ read_as bytes fits block y
+reads_same {X} bytes fits block again y x same e f a s =
+    ap (λ (t : Bool). if t then Some x else None) (s ∙ ap (λ (zs : List ℕ). same_bytes zs block) a)
+    ∙ sym (ap (read_as bytes fits block) (sym e) ∙ ap (λ (t : Bool). if t && same_bytes (bytes x) block then Some x else None) f)

@@ -1,6 +1,6 @@
 -- A block that is written field by field from its front: what stands before a place grows by what is written there.
 use Rattle.std.proofs.Common.{◌≡◌, ℕ, ◌+◌, ◌≤◌, List, [], ◌∷◌, ◌++◌, length, take, drop, refl, sym, ap, ◌∙◌, append_assoc, arith, length-append, length-drop}
-use Rattle.std.proofs.lemmas.List.{take_at, take_all, drop_all, drop-drop, append-nil, length-take-le}
+use Rattle.std.proofs.lemmas.List.{take_at, take_all, drop_all, drop-drop, append-nil, length-take, length-take-le, length-replicate}
 use borrow.Rule.Slice.PartMut.{mid_of, post_of, put_mid, same_len_mid}
 use Rattle.sector_definitions.specs.Bytes.{zeros}
 
@@ -17,6 +17,10 @@ pub wrote_last : (done xs ys : List ℕ) (a k : ℕ) → take a xs ≡ done → 
 wrote_last done xs ys a k d l =
     let rest : drop k (drop a xs) ≡ [] = drop_all k (drop a xs) (omega (arith, length-drop a xs)) in
     rw (d, rest, append-nil ys) refl
+
+pub length_zeros : (n : ℕ) → length (zeros n) ≡ n
+unfolding zeros
+length_zeros n = length-replicate n 0
 
 -- so many bytes, which begin with what was done up to a place
 pub record Front (len m : ℕ) (xs done : List ℕ) : Type 0 where
@@ -48,3 +52,30 @@ pub front_zeros : (len a k : ℕ) (xs ys done : List ℕ) → Front len a xs don
 front_zeros len a k xs ys done f s e =
     let l : length (mid_of a k xs) ≡ k = length-take-le k (drop a xs) (omega (arith, f.whole, length-drop a xs)) in
     front_last len a k xs ys (zeros k) done f s (e ∙ ap zeros l)
+
+-- the rest of a block is what stands from a place on
+pub rest_of : (a k : ℕ) (xs : List ℕ) → length xs ≡ a + k → mid_of a k xs ≡ drop a xs
+rest_of a k xs h = take_all k (drop a xs) (omega (arith, length-drop a xs))
+
+-- bytes that were put between two places, behind what was done
+pub front_part : (len a k : ℕ) (xs ys bs done : List ℕ) → Front len a xs done → a ≤ len → length ys ≡ length (mid_of a k xs) → ys ≡ bs → length bs ≡ k → Front len (a + k) (put_mid a k xs ys) (done ++ bs)
+front_part len a k xs ys bs done f s m e l =
+    let none : drop k (mid_of a k xs) ≡ [] = drop_all k (mid_of a k xs) (omega (arith, length-take k (drop a xs))) in
+    record {
+      whole = same_len_mid a k xs ys m ∙ f.whole;
+      begins = wrote done xs ys bs a k k (a + k) (omega (arith, f.whole)) f.begins (e ∙ sym (ap (λ (zs : List ℕ). bs ++ zs) none ∙ append-nil bs)) l refl;
+    }
+
+-- zeros between two places, behind what was done
+pub front_zero_part : (len a k : ℕ) (xs ys done : List ℕ) → Front len a xs done → a + k ≤ len → ys ≡ zeros (length (mid_of a k xs)) → Front len (a + k) (put_mid a k xs ys) (done ++ zeros k)
+front_zero_part len a k xs ys done f s e =
+    let l : length (mid_of a k xs) ≡ k = length-take-le k (drop a xs) (omega (arith, f.whole, length-drop a xs)) in
+    front_part len a k xs ys (zeros k) done f (omega arith) (ap length e ∙ length_zeros (length (mid_of a k xs))) (e ∙ ap zeros l) (length_zeros k)
+
+-- a number at the beginning of a block
+pub front_number : (len n : ℕ) (xs ys bs : List ℕ) → length xs ≡ len → n ≤ len → length ys ≡ length xs → ys ≡ bs ++ drop n xs → length bs ≡ n → Front len n ys bs
+front_number len n xs ys bs h s m e l = record { whole = m ∙ h; begins = ap (take n) e ∙ take_at bs (drop n xs) n l; }
+
+-- what was done up to the end is all
+pub front_all : (len : ℕ) (xs done : List ℕ) → Front len len xs done → xs ≡ done
+front_all len xs done f = sym (take_all len xs (omega (arith, f.whole))) ∙ f.begins

@@ -3,6 +3,7 @@ pub mod Regions
 pub mod Patches
 pub mod Params
 pub mod Inodes
+pub mod Ranges
 pub mod Directories
 pub mod Bitmaps
 pub mod LogSectors

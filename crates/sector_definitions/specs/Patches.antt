@@ -1,5 +1,6 @@
 -- How two blocks differ from place 8 on, which is behind their versions: as the longest runs of new bytes.
-use Rattle.std.specs.Prelude.{ℕ, ◌+◌, Bool, true, ◌&&◌, ◌==◌, if◌then◌else◌, nat_le, List, [], ◌∷◌, length, drop}
+use Rattle.std.specs.Prelude.{ℕ, ◌+◌, Bool, true, not, ◌&&◌, ◌==◌, if◌then◌else◌, nat_le, List, [], ◌∷◌, length, take, drop}
+use Rattle.std.specs.Cmp.Lexicographic.{pointwise}
 use Rattle.frang_base.specs.declared.change.Patch.{Patch}
 
 -- one byte more in front of the runs behind it: it joins a run that begins at the next place, or is one by itself
@@ -23,3 +24,8 @@ abbrev pub are_apart : ℕ → ℕ → List Patch → Bool
 are_apart from to [] = true
 are_apart from to (p ∷ ps) =
     nat_le from p.at && nat_le 1 (length p.bytes) && nat_le (p.at + length p.bytes) to && are_apart (p.at + length p.bytes + 1) to ps
+
+-- each byte of the patches differs from the old one at its place
+abbrev pub are_new : List ℕ → List Patch → Bool
+are_new old [] = true
+are_new old (p ∷ ps) = pointwise (λ a b. not (a == b)) (take (length p.bytes) (drop p.at old)) p.bytes && are_new old ps

@@ -1,0 +1,22 @@
+// What a change of an inode has to put into its sector.
+ghost use Rattle.std.specs.Prelude.{◌≡◌, IsTrue, IfOk};
+ghost use Rattle.sector_definitions.specs.Inodes.{inode_bytes, inode_fits};
+ghost use Rattle.sector_definitions.specs.Patches.{patches_of};
+
+use crate::coder::encode;
+use block_patches::patches_of;
+use frang_base::{NoMemory, Patches};
+use sector_definitions::Inode;
+use std::alloc::Global;
+
+pub fn patches(alloc: Global, old: &Inode, new: &Inode) -> Result<Patches, NoMemory>
+    requires old { IsTrue (inode_fits old.now) }
+    requires new { IsTrue (inode_fits new.now) }
+    ensures { IfOk result (λ patches. patches ≡ patches_of (inode_bytes old.now) (inode_bytes new.now)) }
+{
+    let mut before = [0; 512];
+    encode(old, &mut before);
+    let mut after = [0; 512];
+    encode(new, &mut after);
+    patches_of(alloc, &before, &after)
+}
