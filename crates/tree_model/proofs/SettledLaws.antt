@@ -1,12 +1,11 @@
 -- A history without recoveries settles to its entries.
-use Rattle.std.proofs.Common.{◌≡◌, ℕ, Bool, true, false, ◌&&◌, List, [], ◌∷◌, ◌++◌, refl, sym, ◌∙◌, ap, append_assoc, append-nil}
-use Rattle.tree_definitions.specs.declared.history.Entry.{Entry}
+use Rattle.std.proofs.Common.{◌≡◌, Bool, true, false, ◌&&◌, List, [], ◌∷◌, ◌++◌, refl, sym, ◌∙◌, ap, append_assoc, append-nil}
 use Rattle.tree_definitions.specs.declared.history.Item.{Item}
 use Rattle.tree_definitions.specs.declared.history.Item.TheVariants.{Did, Recovered}
 use Rattle.tree_definitions.specs.Tree.{FileTree}
-use Rattle.tree_definitions.specs.History.{Settled, Stays, InDoubt, after_all, tree_after}
-use Rattle.tree_definitions.specs.Removal.{settled, settled_from, tree_from}
-use Rattle.tree_model.specs.Did.{is_did, all_did}
+use Rattle.tree_definitions.specs.History.{Settled, Stays, after_all, tree_after}
+use Rattle.tree_definitions.specs.Removal.{settled_from, tree_from}
+use Rattle.tree_model.specs.Replayed.{is_did, all_did}
 
 -- the tree after entries, as long as there is no recovery
 abbrev pub run_items : FileTree → List Item → FileTree

@@ -1,13 +1,13 @@
 // The tree after an entry, and after a history.
-ghost use Rattle.std.specs.Prelude.{◌≡◌, IfOk, IsTrue};
+ghost use Rattle.std.specs.Prelude.{◌≡◌, OnOk, OnErr, IfOk, IsTrue};
 ghost use Rattle.tree_definitions.specs.Removal.{tree_from};
-ghost use Rattle.tree_definitions.specs.History.{may_be_ok, leaves_tree, tree_after};
-ghost use Rattle.tree_model.specs.Did.{is_simple, is_did, all_did};
+ghost use Rattle.tree_definitions.specs.History.{may_be_ok, leaves_tree, told_blocks, tree_after};
+ghost use Rattle.file_tree.specs.CanApply.{CanApply};
+ghost use Rattle.tree_model.specs.Replayed.{after_reading, after_redo, is_within, is_did, all_did};
 
 use crate::agree::same_reply;
 use crate::{History, Tree};
-use frang_base::{NoMemory, Op, Reply};
-use std::alloc::Global;
+use frang_base::{Name, NoMemory, Op, Reply};
 use tree_definitions::{Entry, Item};
 
 fn may_be_ok(op: &Op) -> bool
@@ -29,56 +29,90 @@ fn leaves_tree(op: &Op, reply: &Reply) -> bool
     }
 }
 
-// The tree after an entry. One that doesn't fit leaves it.
-fn tree_after(tree: &Tree, entry: &Entry) -> Result<Tree, NoMemory>
-    requires { IsTrue (is_simple entry.now.op) }
-    ensures { IfOk result (λ after. after ≡ tree_after tree.now entry.now) }
+// The number of small blocks that are or were a directory's: the one said, else those of the tree.
+fn told_blocks(tree: &Tree, reply: &Reply) -> u32
+    ensures { result ≡ told_blocks tree.now reply.now }
 {
-    if leaves_tree(&entry.op, &entry.reply) {
-        return tree.try_copy();
-    }
-    match &entry.op {
-        Op::Create { .. } => {
-            let mut next = tree.try_copy()?;
-            let reply = next.apply(&entry.op, entry.number, 0)?;
-            if same_reply(&reply, &entry.reply) {
-                Ok(next)
-            } else {
-                tree.try_copy()
-            }
-        }
-        _ => tree.try_copy(),
+    match reply {
+        Reply::NoBlock { m } => *m,
+        _ => tree.dir_blocks(),
     }
 }
 
-// A create, or an operation without a path.
-fn is_simple(op: &Op) -> bool
-    ensures { result ≡ is_simple op.now }
+// A read with its reply. After `NoMemory` the tree is as before.
+fn read_again(
+    tree: &mut Tree,
+    path: &[Name],
+    off: u32,
+    len: u32,
+    reply: &Reply,
+) -> Result<(), NoMemory>
+    ensures ok { OnOk result (tree.new ≡ after_reading tree.old path.now off len reply.now) }
+    ensures err { OnErr result (tree.new ≡ tree.old) }
 {
-    matches!(
-        op,
-        Op::Create { .. }
-            | Op::Sync
-            | Op::Mount
-            | Op::Unmount
-            | Op::Crash
-            | Op::CrashAt { .. }
-            | Op::CutAt { .. }
-            | Op::Stall
-    )
+    match reply {
+        Reply::Shown(bytes) => tree.show(path, off, len, bytes.as_slice()),
+        _ => Ok(()),
+    }
+}
+
+// An operation done again; one that is answered otherwise than before leaves the tree.
+fn redo(tree: &mut Tree, entry: &Entry) -> Result<(), NoMemory>
+    requires { CanApply tree.old entry.now.op }
+    ensures ok { OnOk result (tree.new ≡ after_redo tree.old entry.now) }
+{
+    let m = told_blocks(tree, &entry.reply);
+    let mut next = tree.try_copy()?;
+    let reply = next.apply(&entry.op, entry.number, m)?;
+    if same_reply(&reply, &entry.reply) {
+        *tree = next;
+    }
+    Ok(())
+}
+
+// The tree after an entry. One that doesn't fit leaves it.
+fn step(tree: &mut Tree, entry: &Entry) -> Result<(), NoMemory>
+    requires { IsTrue (is_within entry.now.op) }
+    ensures ok { OnOk result (tree.new ≡ tree_after tree.old entry.now) }
+{
+    if leaves_tree(&entry.op, &entry.reply) {
+        return Ok(());
+    }
+    match &entry.op {
+        Op::Read { path, off, len } => {
+            read_again(tree, path.as_slice(), *off, *len, &entry.reply)
+        }
+        Op::Sync
+        | Op::Mount
+        | Op::Unmount
+        | Op::Crash
+        | Op::CrashAt { .. }
+        | Op::CutAt { .. }
+        | Op::Stall => Ok(()),
+        _ => redo(tree, entry),
+    }
+}
+
+fn is_within(op: &Op) -> bool
+    ensures { result ≡ is_within op.now }
+{
+    match op {
+        Op::Symlink { target, .. } => target.len() <= 384,
+        _ => true,
+    }
 }
 
 fn is_did(item: &Item) -> bool
     ensures { result ≡ is_did item.now }
 {
     match item {
-        Item::Did(entry) => is_simple(&entry.op),
+        Item::Did(entry) => is_within(&entry.op),
         Item::Recovered { .. } => false,
     }
 }
 
 impl History {
-    /// Whether the tree can be computed so far: the history has no recoveries, and of the operations with a path only creates.
+    /// Whether the tree can be computed so far: the history has no recoveries, and its targets are no longer than a script allows.
     pub fn is_simple(&self) -> bool
         ensures { result ≡ all_did self.now }
     {
@@ -86,7 +120,6 @@ impl History {
     }
 
     /// The tree that a history leaves of its opening's tree, where `is_simple`.
-    #[tactic(auto, using(crate::proofs::SettledLaws::tree_of_did))]
     pub fn tree(&self, opening: &Tree) -> Result<Tree, NoMemory>
         requires { IsTrue (all_did self.now) }
         ensures { IfOk result (λ tree. tree ≡ tree_from opening.now self.now) }
@@ -94,7 +127,7 @@ impl History {
         let mut tree = opening.try_copy()?;
         for item in self.as_slice() {
             match item {
-                Item::Did(entry) => tree = tree_after(&tree, entry)?,
+                Item::Did(entry) => step(&mut tree, entry)?,
                 Item::Recovered { .. } => unreachable!(),
             }
         }

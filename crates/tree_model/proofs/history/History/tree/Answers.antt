@@ -1,6 +1,5 @@
-use Rattle.std.proofs.Common.{◌≡◌, ◌≤◌, List, [], drop, length, sym, ◌∙◌, ap, arith, rules}
+use Rattle.std.proofs.Common.{◌≡◌, [], drop, sym, ◌∙◌, ap, arith, rules}
 use Rattle.std.proofs.lemmas.Grind.{common_steps}
-use Rattle.tree_definitions.specs.declared.history.Item.{Item}
 use Rattle.tree_model.proofs.SettledLaws.{run_items, tree_of_did}
 use Rattle.tree_model.proofs.history.History.tree.Goals as goal
 

@@ -1,0 +1,20 @@
+-- Which operations may be applied to a tree.
+use Rattle.std.specs.Prelude.{◌≡◌, ◌≤◌, true, length}
+use Rattle.frang_base.specs.declared.op.Op.{Op}
+use Rattle.frang_base.specs.declared.op.Op.TheVariants as op
+use Rattle.tree_definitions.specs.Tree.{FileTree}
+use Rattle.tree_definitions.specs.Apply.{apply}
+use Rattle.file_tree.specs.Sure.{shows_sure}
+
+-- one with a path; a target is no longer than a script allows, and a read shows no cell in doubt
+abbrev pub CanApply : FileTree → Op → Type 0
+CanApply tree (op.Symlink path target) = length target ≤ 384
+CanApply tree (op.Read path off len) = shows_sure (apply tree (op.Read path off len) 0 0).answer ≡ true
+CanApply tree op.Sync = ⊥
+CanApply tree op.Mount = ⊥
+CanApply tree op.Unmount = ⊥
+CanApply tree op.Crash = ⊥
+CanApply tree (op.CrashAt k) = ⊥
+CanApply tree (op.CutAt k) = ⊥
+CanApply tree op.Stall = ⊥
+CanApply tree _ = Unit {0}

@@ -1,0 +1,106 @@
+// Operations that look at a node: stat, list, readlink, time.
+ghost use Rattle.std.specs.Prelude.{◌≡◌, IfOk, map};
+ghost use Rattle.std.specs.Option.{option_copied};
+ghost use Rattle.frang_base.specs.declared.reply.Reply.TheVariants.{Time};
+ghost use Rattle.tree_definitions.specs.Tree.{FileTree};
+ghost use Rattle.tree_definitions.specs.Place.{place};
+ghost use Rattle.tree_definitions.specs.Apply.{says, at_node, at_file, described, listed, target_of};
+ghost use Rattle.file_tree.specs.Replies.{gives};
+
+use crate::Tree;
+use crate::place::{file_at, reached};
+use frang_base::{Name, NameList, NoMemory, Reply, Text};
+use std::alloc::Global;
+use tree_definitions::{Entries, Node};
+
+// What a node is.
+fn described(node: Option<&Node>) -> Reply
+    ensures { (tree : FileTree) → described tree (option_copied node.entry) ≡ gives tree result }
+{
+    match node {
+        Some(Node::File { cells, links }) => Reply::File {
+            size: cells.len() as u32,
+            links: *links,
+        },
+        Some(Node::Dir { entries, .. }) => Reply::Dir {
+            entries: entries.len() as u32,
+        },
+        Some(Node::Link { target, .. }) => Reply::Symlink {
+            len: target.len() as u32,
+        },
+        None => Reply::NoEnt,
+    }
+}
+
+/// Answers `stat`.
+pub fn stat(tree: &Tree, path: &[Name]) -> Reply
+    ensures { at_node tree.now (place tree.now path.now) (λ b node. described tree.now node) ≡ gives tree.now result }
+{
+    match reached(tree, path) {
+        Ok(birth) => described(tree.node(birth)),
+        Err(refusal) => refusal.reply(),
+    }
+}
+
+// The names of a directory, in order.
+fn names_of(alloc: Global, entries: &Entries) -> Result<NameList, NoMemory>
+    ensures { IfOk result (λ names. names ≡ map (λ e. e.0) entries.now) }
+{
+    let mut names = NameList::new(alloc);
+    for (name, _) in entries.as_map() {
+        names.push(name.copy())?;
+    }
+    Ok(names)
+}
+
+// The names of a node that has to be a directory.
+fn listed(alloc: Global, node: Option<&Node>) -> Result<Reply, NoMemory>
+    ensures { IfOk result (λ reply. (tree : FileTree) → listed tree (option_copied node.entry) ≡ gives tree reply) }
+{
+    match node {
+        Some(Node::Dir { entries, .. }) => Ok(Reply::Names(names_of(alloc, entries)?)),
+        Some(Node::File { .. } | Node::Link { .. }) => Ok(Reply::NotDir),
+        None => Ok(Reply::NoEnt),
+    }
+}
+
+/// Answers `list`.
+pub fn list(tree: &Tree, path: &[Name]) -> Result<Reply, NoMemory>
+    ensures { IfOk result (λ reply. at_node tree.now (place tree.now path.now) (λ b node. listed tree.now node) ≡ gives tree.now reply) }
+{
+    match reached(tree, path) {
+        Ok(birth) => listed(tree.alloc(), tree.node(birth)),
+        Err(refusal) => Ok(refusal.reply()),
+    }
+}
+
+// The target of a node that has to be a symbolic link.
+fn target_of(alloc: Global, node: Option<&Node>) -> Result<Reply, NoMemory>
+    ensures { IfOk result (λ reply. (tree : FileTree) → target_of tree (option_copied node.entry) ≡ gives tree reply) }
+{
+    match node {
+        Some(Node::Link { target, .. }) => Ok(Reply::Target(Text::of(alloc, target.as_slice())?)),
+        Some(Node::Dir { .. } | Node::File { .. }) => Ok(Reply::Inval),
+        None => Ok(Reply::NoEnt),
+    }
+}
+
+/// Answers `readlink`.
+pub fn readlink(tree: &Tree, path: &[Name]) -> Result<Reply, NoMemory>
+    ensures { IfOk result (λ reply. at_node tree.now (place tree.now path.now) (λ b node. target_of tree.now node) ≡ gives tree.now reply) }
+{
+    match reached(tree, path) {
+        Ok(birth) => target_of(tree.alloc(), tree.node(birth)),
+        Err(refusal) => Ok(refusal.reply()),
+    }
+}
+
+/// Answers `time`: no times are kept.
+pub fn time(tree: &Tree, path: &[Name]) -> Reply
+    ensures { at_file tree.now (place tree.now path.now) (λ b cells links. says tree.now (Time 0 0)) ≡ gives tree.now result }
+{
+    match file_at(tree, path) {
+        Ok(_) => Reply::Time { run: 0, tick: 0 },
+        Err(refusal) => refusal.reply(),
+    }
+}

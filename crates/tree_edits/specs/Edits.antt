@@ -1,0 +1,72 @@
+-- What becomes of a node that is changed where it stands.
+use Rattle.std.specs.Prelude.{◌≡◌, ℕ, ◌+◌, ◌≤◌, Option, Some, None, IsSome, List, length, take}
+use Rattle.std.specs.Ordering.{nat_cmp}
+use Rattle.std.specs.List.Sorted.{IsStrictlySortedBy}
+use Rattle.std.specs.Map.{keys_of, lookup, set_value}
+use Rattle.std.specs.BTreeMap.{is_at}
+use Rattle.tree_definitions.specs.declared.cells.Cell.{Cell}
+use Rattle.tree_definitions.specs.declared.node.Node.{Node}
+use Rattle.tree_definitions.specs.declared.node.Node.TheVariants.{Dir, File, Link}
+use Rattle.tree_definitions.specs.Entries.{entry_at, with_entry, without_entry}
+use Rattle.tree_definitions.specs.Tree.{FileTree, node_at, with_node}
+use Rattle.tree_definitions.specs.Apply.{overwritten}
+
+-- a directory loses a name
+abbrev pub without_name : List ℕ → Node → Node
+without_name name (Dir entries blocks) = Dir (without_entry entries name) blocks
+without_name name (File cells links) = File cells links
+without_name name (Link target links) = Link target links
+
+-- a directory has this node at a name
+abbrev pub with_name : List ℕ → ℕ → Node → Node
+with_name name birth (Dir entries blocks) = Dir (with_entry entries name birth) blocks
+with_name name birth (File cells links) = File cells links
+with_name name birth (Link target links) = Link target links
+
+-- a directory has so many blocks
+abbrev pub with_blocks : ℕ → Node → Node
+with_blocks n (Dir entries blocks) = Dir entries n
+with_blocks n (File cells links) = File cells links
+with_blocks n (Link target links) = Link target links
+
+-- a node that is no directory has so many names
+abbrev pub with_links : ℕ → Node → Node
+with_links n (Dir entries blocks) = Dir entries blocks
+with_links n (File cells links) = File cells n
+with_links n (Link target links) = Link target n
+
+-- a file's cells from an offset on are these
+abbrev pub with_cells : ℕ → List Cell → Node → Node
+with_cells off new (File cells links) = File (overwritten cells off new) links
+with_cells off new (Dir entries blocks) = Dir entries blocks
+with_cells off new (Link target links) = Link target links
+
+-- a file keeps its first cells
+abbrev pub with_first : ℕ → Node → Node
+with_first len (File cells links) = File (take len cells) links
+with_first len (Dir entries blocks) = Dir entries blocks
+with_first len (Link target links) = Link target links
+
+-- cells may be put into a file from an offset on, up to its greatest size
+abbrev pub CanPut : ℕ → List Cell → Node → Type 0
+CanPut off new (File cells links) = (off ≤ length cells) × (off + length new ≤ 1114112)
+CanPut off new _ = Unit {0}
+
+-- a directory has the name
+abbrev pub Names : List ℕ → Node → Type 0
+Names name (Dir entries blocks) = IsSome (entry_at entries name)
+Names name _ = Unit {0}
+
+-- among the nodes, the one of a birth is changed, if there is one
+pub record IsEdited (edit : Node → Node) (nodes : List (ℕ × Node)) (birth : ℕ) (after : List (ℕ × Node)) : Type 0 where
+  pub ordered : IsStrictlySortedBy nat_cmp (keys_of nodes)
+  pub there : (node : Node) → lookup (is_at (nat_cmp birth)) nodes ≡ Some node → after ≡ set_value (is_at (nat_cmp birth)) nodes (edit node)
+  pub absent : lookup (is_at (nat_cmp birth)) nodes ≡ None → after ≡ nodes
+
+-- the same of a tree
+abbrev pub edited_by : FileTree → ℕ → (Node → Node) → Option Node → FileTree
+edited_by tree birth edit (Some node) = with_node tree birth (edit node)
+edited_by tree birth edit None = tree
+
+abbrev pub edited : FileTree → ℕ → (Node → Node) → FileTree
+edited tree birth edit = edited_by tree birth edit (node_at tree birth)

@@ -1,0 +1,3 @@
+pub mod Counts
+pub mod Edits
+pub mod Written

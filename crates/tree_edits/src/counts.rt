@@ -1,0 +1,92 @@
+// What nodes take of the disk.
+ghost use Rattle.std.specs.Prelude.{◌≡◌, ◌≤◌, true};
+ghost use Rattle.tree_definitions.specs.Tree.{small_blocks_of, large_blocks_of, must_grow};
+
+use tree_definitions::{Entries, Node};
+
+/// Inodes of a segment.
+pub const INODES_A_SEGMENT: u64 = 64;
+/// Small blocks of a segment.
+pub const BLOCKS_A_SEGMENT: u64 = 1024;
+/// Entries of a directory, at most.
+pub const DIR_ENTRIES_MAX: usize = 896;
+// Entries of a directory's small block.
+const ENTRIES_A_BLOCK: u64 = 56;
+// Bytes of a small block, and of a file in its small blocks.
+const BLOCK_BYTES: u64 = 4096;
+
+const SMALL_BYTES: u64 = 65536;
+
+/// Blocks of the disk: small ones of files, small ones of directories, and large ones.
+#[derive(Clone, Copy, Debug)]
+pub struct Blocks {
+    pub files: u64,
+    pub dirs: u64,
+    pub larges: u64,
+}
+
+/// The small blocks that the bytes of a file take.
+pub fn small_blocks_of(size: usize) -> u64
+    ensures is { result ≡ small_blocks_of size }
+    ensures few { result ≤ 16 }
+{
+    ((size as u64).min(SMALL_BYTES) + (BLOCK_BYTES - 1)) / BLOCK_BYTES
+}
+
+/// The large blocks that the bytes of a file take, at most one.
+pub fn large_blocks_of(size: usize) -> u64
+    ensures is { result ≡ large_blocks_of size }
+    ensures few { result ≤ 1 }
+{
+    if size as u64 > SMALL_BYTES { 1 } else { 0 }
+}
+
+impl Blocks {
+    ghost use Rattle.tree_edits.specs.Counts.{blocks_of, CanCount, Counts};
+
+    /// No blocks.
+    pub const NONE: Blocks = Blocks {
+        files: 0,
+        dirs: 0,
+        larges: 0,
+    };
+
+    /// What a node takes.
+    pub fn of(node: &Node) -> Blocks
+        ensures { result ≡ blocks_of node.now }
+    {
+        match node {
+            Node::Dir { blocks, .. } => Blocks {
+                files: 0,
+                dirs: u64::from(*blocks),
+                larges: 0,
+            },
+            Node::File { cells, .. } => Blocks {
+                files: small_blocks_of(cells.len()),
+                dirs: 0,
+                larges: large_blocks_of(cells.len()),
+            },
+            Node::Link { .. } => Blocks::NONE,
+        }
+    }
+
+    /// These blocks with some in place of others.
+    pub fn with(self, before: Blocks, after: Blocks) -> Blocks
+        requires { CanCount self before after }
+        ensures { Counts self before after result }
+    {
+        Blocks {
+            files: self.files + after.files - before.files,
+            dirs: self.dirs + after.dirs - before.dirs,
+            larges: self.larges + after.larges - before.larges,
+        }
+    }
+}
+
+/// Whether one entry more takes a further block.
+pub fn must_grow(entries: &Entries, blocks: u32) -> bool
+    ensures is { result ≡ must_grow entries.now blocks }
+    ensures few { result ≡ true → blocks ≤ 16 }
+{
+    ENTRIES_A_BLOCK * u64::from(blocks) <= entries.len() as u64
+}

@@ -1,0 +1,37 @@
+-- What an entry of a history does to a tree, by the steps that do it again.
+use Rattle.std.specs.Prelude.{ℕ, Bool, true, false, if◌then◌else◌, nat_le, List, length}
+use Rattle.std.specs.List.{list_all}
+use Rattle.frang_base.specs.declared.op.Op.{Op}
+use Rattle.frang_base.specs.declared.op.Op.TheVariants as op
+use Rattle.frang_base.specs.declared.reply.Reply.{Reply}
+use Rattle.frang_base.specs.declared.reply.Reply.TheVariants as reply
+use Rattle.tree_definitions.specs.declared.history.Entry.{Entry}
+use Rattle.tree_definitions.specs.declared.history.Item.{Item}
+use Rattle.tree_definitions.specs.declared.history.Item.TheVariants.{Did, Recovered}
+use Rattle.tree_definitions.specs.Tree.{FileTree}
+use Rattle.tree_definitions.specs.Place.{place}
+use Rattle.tree_definitions.specs.History.{applied, agrees, file_at}
+use Rattle.file_tree.specs.Shown.{shown_at}
+
+-- after a read of a path
+abbrev pub after_reading : FileTree → List (List ℕ) → ℕ → ℕ → Reply → FileTree
+after_reading tree path off len (reply.Shown bytes) = shown_at tree (file_at tree (place tree path)) off len bytes
+after_reading tree path off len _ = tree
+
+-- after an operation that is done again: one that is answered otherwise leaves the tree
+abbrev pub after_redo : FileTree → Entry → FileTree
+after_redo tree e = if agrees (applied tree e).answer e.reply then (applied tree e).tree else tree
+
+-- an operation in the grammar of scripts: a target isn't longer than it allows
+abbrev pub is_within : Op → Bool
+is_within (op.Symlink path target) = nat_le (length target) 384
+is_within _ = true
+
+-- an entry of such an operation
+abbrev pub is_did : Item → Bool
+is_did (Did e) = is_within e.op
+is_did (Recovered server keeps) = false
+
+-- a history of them, without recoveries
+abbrev pub all_did : List Item → Bool
+all_did items = list_all is_did items
