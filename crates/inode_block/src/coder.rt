@@ -19,6 +19,15 @@ pub fn encode(value: &Inode, to: &mut Block)
     to[128..].copy_from_slice(&value.target);
 }
 
+pub(crate) fn block_of(value: &Inode) -> Block
+    requires { IsTrue (inode_fits value.now) }
+    ensures { result ≡ inode_bytes value.now }
+{
+    let mut block = [0; 512];
+    encode(value, &mut block);
+    block
+}
+
 fn write_head(value: &Inode, to: &mut [u8])
     requires { length to.old ≡ 32 }
     ensures { to.new ≡ take 32 (inode_bytes value.now) }
@@ -46,9 +55,7 @@ pub fn decode(from: &Block) -> Option<Inode>
     if !fits(&value) {
         return None;
     }
-    let mut again = [0; 512];
-    encode(&value, &mut again);
-    (again == *from).then_some(value)
+    (block_of(&value) == *from).then_some(value)
 }
 
 fn fields(from: &Block) -> Inode

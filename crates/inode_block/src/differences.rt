@@ -3,7 +3,7 @@ ghost use Rattle.std.specs.Prelude.{◌≡◌, IsTrue, IfOk};
 ghost use Rattle.sector_definitions.specs.Inodes.{inode_bytes, inode_fits};
 ghost use Rattle.sector_definitions.specs.Patches.{patches_of};
 
-use crate::coder::encode;
+use crate::coder::block_of;
 use block_patches::patches_of;
 use frang_base::{NoMemory, Patches};
 use sector_definitions::Inode;
@@ -14,9 +14,5 @@ pub fn patches(alloc: Global, old: &Inode, new: &Inode) -> Result<Patches, NoMem
     requires new { IsTrue (inode_fits new.now) }
     ensures { IfOk result (λ patches. patches ≡ patches_of (inode_bytes old.now) (inode_bytes new.now)) }
 {
-    let mut before = [0; 512];
-    encode(old, &mut before);
-    let mut after = [0; 512];
-    encode(new, &mut after);
-    patches_of(alloc, &before, &after)
+    patches_of(alloc, &block_of(old), &block_of(new))
 }

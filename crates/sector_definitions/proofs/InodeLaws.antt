@@ -13,12 +13,15 @@ use Rattle.sector_definitions.proofs.WrittenFields.{length_zeros}
 use Rattle.sector_definitions.proofs.Readings.{read_back, read_is}
 
 -- an inode of these fields
-abbrev pub inode : (version kind links blocks size birth : ℕ) (small : List ℕ) (large : ℕ) (target : List ℕ) → Inode
+abbrev inode : (version kind links blocks size birth : ℕ) (small : List ℕ) (large : ℕ) (target : List ℕ) → Inode
 inode version kind links blocks size birth small large target = record { version = version; kind = kind; links = links; blocks = blocks; size = size; birth = birth; small = small; large = large; target = target }
 
 -- inodes with the same fields are one
-pub same_inode : (a b c d e f : ℕ) (g : List ℕ) (h : ℕ) (i : List ℕ) (a' b' c' d' e' f' : ℕ) (g' : List ℕ) (h' : ℕ) (i' : List ℕ) → a ≡ a' → b ≡ b' → c ≡ c' → d ≡ d' → e ≡ e' → f ≡ f' → g ≡ g' → h ≡ h' → i ≡ i' → inode a b c d e f g h i ≡ inode a' b' c' d' e' f' g' h' i'
+same_inode : (a b c d e f : ℕ) (g : List ℕ) (h : ℕ) (i : List ℕ) (a' b' c' d' e' f' : ℕ) (g' : List ℕ) (h' : ℕ) (i' : List ℕ) → a ≡ a' → b ≡ b' → c ≡ c' → d ≡ d' → e ≡ e' → f ≡ f' → g ≡ g' → h ≡ h' → i ≡ i' → inode a b c d e f g h i ≡ inode a' b' c' d' e' f' g' h' i'
 same_inode a b c d e f g h i a' b' c' d' e' f' g' h' i' q1 q2 q3 q4 q5 q6 q7 q8 q9 = cc
+
+pub same_fields : (x y : Inode) → x.version ≡ y.version → x.kind ≡ y.kind → x.links ≡ y.links → x.blocks ≡ y.blocks → x.size ≡ y.size → x.birth ≡ y.birth → x.small ≡ y.small → x.large ≡ y.large → x.target ≡ y.target → x ≡ y
+same_fields x y = same_inode x.version x.kind x.links x.blocks x.size x.birth x.small x.large x.target y.version y.kind y.links y.blocks y.size y.birth y.small y.large y.target
 
 -- numbers of four bytes each read back
 numbers_back : (xs rest : List ℕ) → ((i : ℕ) → slice_index xs i < 2 ^ 32) → numbers_in (length xs) (flat_map (little_bytes 4) xs ++ rest) ≡ xs
@@ -58,7 +61,7 @@ target_back x r =
 -- the fields of its bytes
 pub fields_of_inode_bytes : (x : Inode) → InodeRange x → inode_fields (inode_bytes x) ≡ x
 fields_of_inode_bytes x r =
-    same_inode _ _ _ _ _ _ _ _ _ x.version x.kind x.links x.blocks x.size x.birth x.small x.large x.target
+    same_fields (inode_fields (inode_bytes x)) x
     (little_number-reads_back 8 x.version [] r.version)
     refl
     (little_number-reads_back 2 x.links [] r.links)

@@ -1,5 +1,5 @@
 -- Patches laid over the old block give the new one from place 8 on; there are none exactly where nothing differs; they ascend and don't touch.
-use Rattle.std.proofs.Common.{◌≡◌, ◌≢◌, ◌↔◌, ℕ, zero, suc, ◌+◌, ◌-◌, ◌^◌, ◌<◌, ◌≤◌, Bool, true, false, ◌&&◌, ◌==◌, not, IsTrue, if◌then◌else◌, nat_eq, nat_le, List, [], ◌∷◌, ◌++◌, length, take, drop, refl, sym, ap, ◌∙◌, subst, append_assoc, arith, length-append, length-drop, cond}
+use Rattle.std.proofs.Common.{◌≡◌, ◌≢◌, ◌↔◌, ℕ, zero, suc, ◌+◌, ◌-◌, ◌^◌, ◌<◌, ◌≤◌, Bool, true, false, ◌&&◌, ◌==◌, not, IsTrue, Result, IfOk, if◌then◌else◌, nat_eq, nat_le, List, [], ◌∷◌, ◌++◌, length, take, drop, refl, sym, ap, ◌∙◌, subst, append_assoc, arith, length-append, length-drop, cond}
 use Rattle.std.proofs.lemmas.Bool.{and_parts, and_from}
 use Rattle.std.specs.Cmp.Lexicographic.{pointwise}
 use Rattle.std.proofs.lemmas.Bool.Decides.{nat_tests}
@@ -144,3 +144,8 @@ runs_new (a ∷ old) (b ∷ new) pre at h =
 pub patches_new : (old new : List ℕ) → 8 ≤ length old → are_new old (patches_of old new) ≡ true
 patches_new old new h =
     ap (λ (xs : List ℕ). are_new xs (patches_of old new)) (sym (take-append-drop 8 old)) ∙ runs_new (drop 8 old) (drop 8 new) (take 8 old) 8 (length-take-le 8 old h)
+
+-- patches between blocks are those between equal ones
+pub same_patches : {E : Type 0} (r : Result (List Patch) E) (before after old new : List ℕ) → before ≡ old → after ≡ new → IfOk r (λ ps. ps ≡ patches_of before after) → IfOk r (λ ps. ps ≡ patches_of old new)
+same_patches r before after old new b a h =
+    subst (λ (zs : List ℕ). IfOk r (λ ps. ps ≡ patches_of old zs)) a (subst (λ (zs : List ℕ). IfOk r (λ ps. ps ≡ patches_of zs after)) b h)

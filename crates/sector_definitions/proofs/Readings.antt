@@ -1,6 +1,7 @@
 -- How a reading that writes again what it read, and compares, goes back and forth, whatever the fields are.
 use Rattle.std.proofs.Common.{◌≡◌, Bool, true, false, ◌&&◌, IsTrue, if◌then◌else◌, ℕ, Option, Some, None, List, refl, sym, ap, ◌∙◌, subst}
 use Rattle.std.proofs.lemmas.Bool.{and_parts, and_from}
+use Rattle.std.specs.Bool.{then_some}
 use Rattle.std.proofs.lemmas.Slice.Eq.{bytes_eq-Decides}
 use Rattle.cells.proofs.Basics.{by_test}
 use Rattle.sector_definitions.specs.Bytes.{same_bytes}
@@ -33,8 +34,12 @@ read_is {X} bytes fits block y x =
 pub reads_none : {X : Type 0} (bytes : X → List ℕ) (fits : X → Bool) (block : List ℕ) (y x : X) → x ≡ y → fits x ≡ false → None ≡ read_as bytes fits block y
 reads_none {X} bytes fits block y x e f = sym (ap (read_as bytes fits block) (sym e) ∙ ap (λ (t : Bool). if t && same_bytes (bytes x) block then Some x else None) f)
 
+then_some_is : {X : Type 0} (t : Bool) (x : X) → then_some t x ≡ (if t then Some x else None)
+then_some_is true x = refl
+then_some_is false x = refl
+
 -- a reading that compares the block with the bytes of what it found
-pub reads_same : {X : Type 0} (bytes : X → List ℕ) (fits : X → Bool) (block again : List ℕ) (y x : X) (same : Bool) → x ≡ y → fits x ≡ true → again ≡ bytes x → same ≡ same_bytes again block → (if same then Some x else None) ≡ read_as bytes fits block y
+pub reads_same : {X : Type 0} (bytes : X → List ℕ) (fits : X → Bool) (block again : List ℕ) (y x : X) (same : Bool) → x ≡ y → fits x ≡ true → again ≡ bytes x → same ≡ same_bytes again block → then_some same x ≡ read_as bytes fits block y
 reads_same {X} bytes fits block again y x same e f a s =
-    ap (λ (t : Bool). if t then Some x else None) (s ∙ ap (λ (zs : List ℕ). same_bytes zs block) a)
+    then_some_is same x ∙ ap (λ (t : Bool). if t then Some x else None) (s ∙ ap (λ (zs : List ℕ). same_bytes zs block) a)
     ∙ sym (ap (read_as bytes fits block) (sym e) ∙ ap (λ (t : Bool). if t && same_bytes (bytes x) block then Some x else None) f)

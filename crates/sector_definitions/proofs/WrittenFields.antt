@@ -1,8 +1,9 @@
 -- A block that is written field by field from its front: what stands before a place grows by what is written there.
 use Rattle.std.proofs.Common.{◌≡◌, ℕ, ◌+◌, ◌≤◌, List, [], ◌∷◌, ◌++◌, length, take, drop, refl, sym, ap, ◌∙◌, append_assoc, arith, length-append, length-drop}
-use Rattle.std.proofs.lemmas.List.{take_at, take_all, drop_all, drop-drop, append-nil, length-take, length-take-le, length-replicate}
+use Rattle.std.proofs.lemmas.List.{take_at, take_all, drop_all, drop-drop, append-nil, length-take-le, length-replicate}
 use borrow.Rule.Slice.PartMut.{mid_of, post_of, put_mid, same_len_mid}
-use Rattle.sector_definitions.specs.Bytes.{zeros}
+use Rattle.byteorder.specs.Endian.{little_number}
+use Rattle.sector_definitions.specs.Bytes.{zeros, number_at}
 
 -- bytes that were put at a place behind what was done
 pub wrote : (done xs ys bs : List ℕ) (a k n m : ℕ) → a ≤ length xs → take a xs ≡ done → ys ≡ bs ++ drop n (mid_of a k xs) → length bs ≡ n → m ≡ a + n → take m (put_mid a k xs ys) ≡ done ++ bs
@@ -58,19 +59,20 @@ pub rest_of : (a k : ℕ) (xs : List ℕ) → length xs ≡ a + k → mid_of a k
 rest_of a k xs h = take_all k (drop a xs) (omega (arith, length-drop a xs))
 
 -- bytes that were put between two places, behind what was done
-pub front_part : (len a k : ℕ) (xs ys bs done : List ℕ) → Front len a xs done → a ≤ len → length ys ≡ length (mid_of a k xs) → ys ≡ bs → length bs ≡ k → Front len (a + k) (put_mid a k xs ys) (done ++ bs)
-front_part len a k xs ys bs done f s m e l =
-    let none : drop k (mid_of a k xs) ≡ [] = drop_all k (mid_of a k xs) (omega (arith, length-take k (drop a xs))) in
+pub front_part : (len a k : ℕ) (xs ys bs done : List ℕ) → Front len a xs done → a + k ≤ len → length ys ≡ length (mid_of a k xs) → ys ≡ bs → Front len (a + k) (put_mid a k xs ys) (done ++ bs)
+front_part len a k xs ys bs done f s m e =
+    let l : length (mid_of a k xs) ≡ k = length-take-le k (drop a xs) (omega (arith, f.whole, length-drop a xs)) in
+    let none : drop k (mid_of a k xs) ≡ [] = drop_all k (mid_of a k xs) (omega (arith, l)) in
     record {
       whole = same_len_mid a k xs ys m ∙ f.whole;
-      begins = wrote done xs ys bs a k k (a + k) (omega (arith, f.whole)) f.begins (e ∙ sym (ap (λ (zs : List ℕ). bs ++ zs) none ∙ append-nil bs)) l refl;
+      begins = wrote done xs ys bs a k k (a + k) (omega (arith, f.whole)) f.begins (e ∙ sym (ap (λ (zs : List ℕ). bs ++ zs) none ∙ append-nil bs)) (sym (ap length e) ∙ m ∙ l) refl;
     }
 
 -- zeros between two places, behind what was done
 pub front_zero_part : (len a k : ℕ) (xs ys done : List ℕ) → Front len a xs done → a + k ≤ len → ys ≡ zeros (length (mid_of a k xs)) → Front len (a + k) (put_mid a k xs ys) (done ++ zeros k)
 front_zero_part len a k xs ys done f s e =
     let l : length (mid_of a k xs) ≡ k = length-take-le k (drop a xs) (omega (arith, f.whole, length-drop a xs)) in
-    front_part len a k xs ys (zeros k) done f (omega arith) (ap length e ∙ length_zeros (length (mid_of a k xs))) (e ∙ ap zeros l) (length_zeros k)
+    front_part len a k xs ys (zeros k) done f s (ap length e ∙ length_zeros (length (mid_of a k xs))) (e ∙ ap zeros l)
 
 -- a number at the beginning of a block
 pub front_number : (len n : ℕ) (xs ys bs : List ℕ) → length xs ≡ len → n ≤ len → length ys ≡ length xs → ys ≡ bs ++ drop n xs → length bs ≡ n → Front len n ys bs
@@ -79,3 +81,7 @@ front_number len n xs ys bs h s m e l = record { whole = m ∙ h; begins = ap (t
 -- what was done up to the end is all
 pub front_all : (len : ℕ) (xs done : List ℕ) → Front len len xs done → xs ≡ done
 front_all len xs done f = sym (take_all len xs (omega (arith, f.whole))) ∙ f.begins
+
+-- a number that was read from the rest of a block stands at its place
+pub read_at : (n a k x : ℕ) (xs : List ℕ) → length xs ≡ a + k → x ≡ little_number n (mid_of a k xs) → x ≡ number_at n a xs
+read_at n a k x xs h e = e ∙ ap (little_number n) (rest_of a k xs h)
