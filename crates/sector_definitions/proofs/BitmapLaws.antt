@@ -1,5 +1,5 @@
 -- Bitmap segments: what was written reads back, and a block is the sector of at most one segment.
-use Rattle.std.proofs.Common.{◌≡◌, ℕ, ◌^◌, ◌<◌, Bool, true, false, ◌==◌, Option, Some, List, [], ◌∷◌, ◌++◌, length, take, refl, sym, ap, ◌∙◌}
+use Rattle.std.proofs.Common.{◌≡◌, ℕ, ◌^◌, ◌<◌, Bool, true, false, ◌==◌, Some, List, ◌∷◌, ◌++◌, length, refl, sym, ap, ◌∙◌}
 use Rattle.std.proofs.lemmas.List.{take_at, get_or_at}
 use Rattle.byteorder.specs.Endian.{little_bytes}
 use Rattle.byteorder.specs.Numbers.{little_number-reads_back}
@@ -23,10 +23,10 @@ pub fields_of_bitmap_bytes : (x : Bitmap) → x.version < 2 ^ 64 → x.inodes < 
 fields_of_bitmap_bytes x version inodes states =
     let tail = large_byte x.large ∷ zeros 239 in
     same_segment x
-      (little_number-reads_back 8 x.version (little_bytes 8 x.inodes ++ (x.states ++ tail)) version)
-      (little_number-reads_back 8 x.inodes (x.states ++ tail) inodes)
-      (take_at x.states tail 256 states)
-      (ap (λ (n : ℕ). n == 1) (get_or_at x.states (large_byte x.large) (zeros 239) 0 256 states) ∙ mark_back x.large)
+    (little_number-reads_back 8 x.version (little_bytes 8 x.inodes ++ (x.states ++ tail)) version)
+    (little_number-reads_back 8 x.inodes (x.states ++ tail) inodes)
+    (take_at x.states tail 256 states)
+    (ap (λ (n : ℕ). n == 1) (get_or_at x.states (large_byte x.large) (zeros 239) 0 256 states) ∙ mark_back x.large)
 
 -- what was written reads back
 pub bitmap_back : (x : Bitmap) → x.version < 2 ^ 64 → x.inodes < 2 ^ 64 → length x.states ≡ 256 → bitmap_in (bitmap_bytes x) ≡ Some x

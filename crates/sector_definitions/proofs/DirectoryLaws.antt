@@ -1,8 +1,7 @@
 -- Sectors of directories: what was written reads back, and a block is at most one sector.
-use Rattle.std.proofs.Common.{◌≡◌, ℕ, ◌+◌, ◌^◌, ◌<◌, Bool, true, IsTrue, Option, Some, List, [], ◌∷◌, ◌++◌, length, take, drop, refl, sym, ap, ◌∙◌, append_assoc, length-append, arith}
+use Rattle.std.proofs.Common.{◌≡◌, ℕ, ◌^◌, ◌<◌, IsTrue, Some, List, [], ◌∷◌, ◌++◌, length, take, drop, refl, sym, ap, ◌∙◌, append_assoc, length-append, arith}
 use Rattle.std.proofs.lemmas.List.{take_at, drop_at}
 use Rattle.std.specs.List.{flat_map}
-use Rattle.byteorder.specs.Endian.{little_bytes}
 use Rattle.byteorder.specs.Numbers.{little_number-reads_back}
 use Rattle.sector_definitions.specs.declared.directory.DirEntry.{DirEntry}
 use Rattle.sector_definitions.specs.declared.directory.DirSector.{DirSector}
@@ -32,10 +31,10 @@ same_sector x version entries = rw (version, entries) refl
 fields_of_entry : (e : DirEntry) (rest : List ℕ) → IsStorableEntry e → entry_fields (entry_bytes e ++ rest) ≡ e
 fields_of_entry e rest h =
     same_entry e
-      (little_number-reads_back 4 e.inode (e.len ∷ e.kind ∷ ((e.name ++ 0 ∷ 0 ∷ []) ++ rest)) h.inode)
-      refl
-      refl
-      (ap (take 64) (append_assoc e.name (0 ∷ 0 ∷ []) rest) ∙ take_at e.name (0 ∷ 0 ∷ rest) 64 h.name)
+    (little_number-reads_back 4 e.inode (e.len ∷ e.kind ∷ ((e.name ++ 0 ∷ 0 ∷ []) ++ rest)) h.inode)
+    refl
+    refl
+    (ap (take 64) (append_assoc e.name (0 ∷ 0 ∷ []) rest) ∙ take_at e.name (0 ∷ 0 ∷ rest) 64 h.name)
 
 length_of_entry : (e : DirEntry) → IsStorableEntry e → length (entry_bytes e) ≡ 72
 length_of_entry e h = omega (arith, length-append e.name (0 ∷ 0 ∷ []), h.name)
@@ -61,8 +60,8 @@ pub fields_of_directory_bytes : (x : DirSector) → IsStorableSector x → direc
 fields_of_directory_bytes x h =
     let bytes = flat_map entry_bytes x.entries in
     same_sector x
-      (little_number-reads_back 8 x.version bytes h.version)
-      (ap (λ (n : ℕ). entries_in n bytes) (sym h.seven) ∙ entries_back x.entries h.entries)
+    (little_number-reads_back 8 x.version bytes h.version)
+    (ap (λ (n : ℕ). entries_in n bytes) (sym h.seven) ∙ entries_back x.entries h.entries)
 
 -- what was written reads back
 pub directory_back : (x : DirSector) → IsStorableSector x → IsTrue (directory_fits x) → directory_in (directory_bytes x) ≡ Some x

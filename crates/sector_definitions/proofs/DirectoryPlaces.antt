@@ -4,7 +4,6 @@ use Rattle.std.proofs.lemmas.List.{take_more, take_more_set, take_all, take-appe
 use Rattle.std.proofs.lemmas.Slice.{between_to_end}
 use Rattle.std.specs.List.{between}
 use Rattle.std.specs.Option.{option_map}
-use Rattle.cells.proofs.Basics.{by_test}
 use Rattle.sector_definitions.specs.declared.directory.DirEntry.{DirEntry}
 use Rattle.sector_definitions.specs.Bytes.{same_bytes}
 use Rattle.sector_definitions.specs.Directories.{entry_fields, entries_in, name_in, place_of_name}

@@ -7,3 +7,6 @@ pub mod LogSectorLaws
 pub mod DirectoryPlaces
 pub mod DirectoryLaws
 pub mod InodeLaws
+pub mod BitmapExamples
+pub mod LogSectorExamples
+pub mod DirectoryExamples

@@ -1,10 +1,9 @@
 -- Sectors of logs: what was written reads back, and a block in a slot is at most one sector.
-use Rattle.std.proofs.Common.{◌≡◌, ℕ, ◌+◌, ◌%◌, ◌^◌, ◌<◌, ◌≤◌, Bool, true, false, ◌&&◌, ◌||◌, IsTrue, if◌then◌else◌, ◌==◌, nat_le, nat_lt, Option, Some, None, List, [], ◌∷◌, ◌++◌, length, replicate, refl, sym, ap, ◌∙◌, subst, arith}
-use Rattle.std.proofs.lemmas.Bool.{and_parts, and_from, or_parts, false_from_ne_true}
+use Rattle.std.proofs.Common.{◌≡◌, ℕ, ◌%◌, ◌^◌, ◌<◌, ◌≤◌, Bool, true, false, ◌&&◌, ◌||◌, ◌==◌, nat_le, nat_lt, Option, Some, List, [], ◌∷◌, ◌++◌, length, refl, sym, ap, ◌∙◌, subst, arith}
+use Rattle.std.proofs.lemmas.Bool.{and_parts, and_from, false_from_ne_true}
 use Rattle.std.proofs.lemmas.Bool.Decides.{nat_tests}
 use Rattle.byteorder.specs.Endian.{little_bytes}
 use Rattle.byteorder.specs.Numbers.{little_number-reads_back}
-use Rattle.frang_base.specs.declared.sector.OpNo.{OpNo}
 use Rattle.sector_definitions.specs.declared.log_sector.LogSector.{LogSector}
 use Rattle.sector_definitions.specs.Bytes.{number_at, zeros, are_zero, same_bytes}
 use Rattle.sector_definitions.specs.LogSectors.{numbered_bytes, log_sector_bytes, is_empty_sector, is_record_sector, log_sector_fits, log_sector_fields, empty_sector, IsLogSector, numbered_sector_in, log_sector_in}
@@ -30,12 +29,12 @@ pub fields_of_numbered_bytes : (x : LogSector) → IsStorable x → log_sector_f
 fields_of_numbered_bytes x h =
     let tail = little_bytes 2 x.used ++ (0 ∷ 0 ∷ x.body) in
     same_sector x
-      (little_number-reads_back 8 x.seq (little_bytes 8 x.op.0 ++ (little_bytes 2 x.part ++ (little_bytes 2 x.parts ++ tail))) h.seq)
-      (little_number-reads_back 8 x.op.0 (little_bytes 2 x.part ++ (little_bytes 2 x.parts ++ tail)) h.op)
-      (little_number-reads_back 2 x.part (little_bytes 2 x.parts ++ tail) h.part)
-      (little_number-reads_back 2 x.parts tail h.parts)
-      (little_number-reads_back 2 x.used (0 ∷ 0 ∷ x.body) h.used)
-      refl
+    (little_number-reads_back 8 x.seq (little_bytes 8 x.op.0 ++ (little_bytes 2 x.part ++ (little_bytes 2 x.parts ++ tail))) h.seq)
+    (little_number-reads_back 8 x.op.0 (little_bytes 2 x.part ++ (little_bytes 2 x.parts ++ tail)) h.op)
+    (little_number-reads_back 2 x.part (little_bytes 2 x.parts ++ tail) h.part)
+    (little_number-reads_back 2 x.parts tail h.parts)
+    (little_number-reads_back 2 x.used (0 ∷ 0 ∷ x.body) h.used)
+    refl
 
 -- a numbered sector isn't zeros
 numbered_is_not_zeros : (x : LogSector) → IsStorable x → 256 ≤ x.seq → same_bytes (zeros 512) (numbered_bytes x) ≡ false
@@ -90,10 +89,10 @@ log_sector_back slot x h fits =
     by_test (λ (b : List ℕ). log_sector_in slot b ≡ Some x) (zeros 512) (numbered_bytes x) (nat_lt x.seq 256)
     (λ t. rw (same_bytes_refl (zeros 512)) (ap (λ (y : LogSector). Some y) (low_is_empty slot x h.body (grind (arith, nat_tests)) fits)))
     (λ f.
-        let numbered : 256 ≤ x.seq = grind (arith, nat_tests) in
-        let test : is_numbered slot x ≡ true = and_from (nat_le 256 x.seq) (log_sector_fits slot x) (grind (arith, nat_tests)) fits in
-        rw (numbered_is_not_zeros x h numbered)
-        (read_back numbered_bytes (is_numbered slot) (log_sector_fields (numbered_bytes x)) x (fields_of_numbered_bytes x h) test))
+    let numbered : 256 ≤ x.seq = grind (arith, nat_tests) in
+    let test : is_numbered slot x ≡ true = and_from (nat_le 256 x.seq) (log_sector_fits slot x) (grind (arith, nat_tests)) fits in
+    rw (numbered_is_not_zeros x h numbered)
+    (read_back numbered_bytes (is_numbered slot) (log_sector_fields (numbered_bytes x)) x (fields_of_numbered_bytes x h) test))
 
 -- the empty sector of a slot may stand there
 empty_fits : (slot : ℕ) → slot < 256 → log_sector_fits slot (empty_sector slot) ≡ true
@@ -113,13 +112,13 @@ log_sector_read slot block x low =
     by_test (λ (o : Option LogSector). o ≡ Some x → IsLogSector slot block x) (Some (empty_sector slot)) (numbered_sector_in slot block (log_sector_fields block))
     (same_bytes (zeros 512) block)
     (λ t e.
-        let is : empty_sector slot ≡ x = cc in
-        let zero : log_sector_bytes (empty_sector slot) ≡ zeros 512 = let b : nat_lt slot 256 ≡ true = grind (arith, nat_tests) in rw b refl in
-        subst (IsLogSector slot block) is (sym (same_bytes_is (zeros 512) block t) ∙ sym zero, empty_fits slot low))
+    let is : empty_sector slot ≡ x = cc in
+    let zero : log_sector_bytes (empty_sector slot) ≡ zeros 512 = let b : nat_lt slot 256 ≡ true = grind (arith, nat_tests) in rw b refl in
+    subst (IsLogSector slot block) is (sym (same_bytes_is (zeros 512) block t) ∙ sym zero, empty_fits slot low))
     (λ f e.
-        let parts = read_is numbered_bytes (is_numbered slot) block (log_sector_fields block) x e in
-        let fits = and_parts (nat_le 256 x.seq) (log_sector_fits slot x) parts.1 in
-        (parts.0 ∙ sym (bytes_of_numbered x (grind (arith, nat_tests))), fits.1))
+    let parts = read_is numbered_bytes (is_numbered slot) block (log_sector_fields block) x e in
+    let fits = and_parts (nat_le 256 x.seq) (log_sector_fits slot x) parts.1 in
+    (parts.0 ∙ sym (bytes_of_numbered x (grind (arith, nat_tests))), fits.1))
 
 -- what a block in a slot is, it is read as
 pub log_sector_found : (slot : ℕ) (block : List ℕ) (x : LogSector) → IsStorable x → IsLogSector slot block x → log_sector_in slot block ≡ Some x
