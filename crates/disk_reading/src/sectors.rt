@@ -50,3 +50,16 @@ pub(crate) fn directory_at(disk: &Disk, block: u32, p: u32) -> Option<DirSector>
     let sector = SMALL_BLOCKS_FROM + SECTORS_A_BLOCK * u64::from(block) + u64::from(p);
     dir_block::decode(&disk.get(Sector(sector)))
 }
+
+/// Inode `i`, where it is in use. `None` exactly where it is free, past the segments, or not in its grammar.
+#[tactic(auto, using(crate::proofs::Decoded::decoded_node))]
+pub(crate) fn used_inode(disk: &Disk, segments: u32, i: u32) -> Option<Inode>
+    requires { segments ≤ 64 }
+    ensures { option_map stored result ≡ (store_in segments disk.now).inode i }
+{
+    if i >= INODES_A_SEGMENT * segments {
+        return None;
+    }
+    let inode = inode_at(disk, i)?;
+    if inode.kind == 0 { None } else { Some(inode) }
+}

@@ -1,5 +1,5 @@
 -- What tests of the numbers below a bound tell of each number.
-use Rattle.std.proofs.Common.{◌≡◌, ◌≢◌, ℕ, zero, suc, ◌<◌, ◌≤◌, ◌⊎◌, inl, inr, ⊎_elim, Bool, true, false, not, ◌&&◌, ◌||◌, Option, Some, None, is_some, cond, refl, sym, ◌∙◌, ap, subst, arith, eqb-true, eq-eqb, ne_eqb}
+use Rattle.std.proofs.Common.{◌≡◌, ◌≢◌, ℕ, zero, suc, ◌+◌, ◌<◌, ◌≤◌, ◌⊎◌, inl, inr, ⊎_elim, Bool, true, false, not, ◌&&◌, ◌||◌, Option, Some, None, is_some, cond, refl, sym, ◌∙◌, ap, subst, arith, eqb-true, eq-eqb, ne_eqb}
 use Rattle.std.proofs.lemmas.Bool.{and_parts, and_from, or_cases, or_left, or_right, cases_eq, cases_order, cases_Bool, not-true, not_from_false, false_from_ne_true, cond-true, cond-false, both_ways}
 use Rattle.standing_laws.specs.Below.{all_below, any_below, find_below, holds, lists, is_new, are_distinct}
 
@@ -94,3 +94,10 @@ distinct_from f n only = all_from n (λ t. is_new f t (f t)) (λ t h. new t h (f
         let b : r.0 < t = r.1 in
         let s : r.0 ≡ t = only r.0 t k (omega arith) h r.2 e in
         omega arith)))
+
+-- one number more, as a loop counts
+pub all_more : (n : ℕ) (test : ℕ → Bool) → all_below (n + 1) test ≡ (all_below n test && test n)
+all_more n test = let e : n + 1 ≡ suc n = omega arith in ap (λ k. all_below k test) e
+
+pub any_more : (n : ℕ) (test : ℕ → Bool) → any_below (n + 1) test ≡ (any_below n test || test n)
+any_more n test = let e : n + 1 ≡ suc n = omega arith in ap (λ k. any_below k test) e

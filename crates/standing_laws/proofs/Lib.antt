@@ -12,3 +12,5 @@ pub mod StandingBlocks
 pub mod StandingNames
 pub mod StandingTree
 pub mod OneTree
+pub mod Counted
+pub mod RoomLaws

@@ -27,10 +27,10 @@ module _ (s : Store) where
   births_to zero = none_sorted
   births_to (suc n) = with_one (nodes_to s n) n (s.inode n) (births_to n)
 
-  abbrev seen : ℕ → ℕ → Option Node
+  abbrev pub seen : ℕ → ℕ → Option Node
   seen n b = lookup (is_at (nat_cmp b)) (nodes_to s n)
 
-  past : (n b : ℕ) → n ≤ b → seen n b ≡ None
+  pub past : (n b : ℕ) → n ≤ b → seen n b ≡ None
   past zero b h = refl
   past (suc n) b h = go (past n b (omega arith)) (s.inode n)
     where

@@ -66,7 +66,7 @@ few x (OfFile f) = f.few
 few x (OfDir f) = f.few
 few x (OfLink f) = let b : x.blocks ≡ 0 = f.blocks in omega arith
 
-blocks_are : (s : Store) (x : StoredNode) → Shape x → blocks_of (Some (read_node s x)) ≡ x.blocks
+pub blocks_are : (s : Store) (x : StoredNode) → Shape x → blocks_of (Some (read_node s x)) ≡ x.blocks
 blocks_are s x (OfFile f) = ap (λ y. blocks_of (Some y)) (read_file s x f.kind) ∙ ap small_blocks_of (length_cells (byte_at s x) x.size) ∙ sym f.blocks
 blocks_are s x (OfDir f) = ap (λ y. blocks_of (Some y)) (read_dir s x f.kind)
 blocks_are s x (OfLink f) = ap (λ y. blocks_of (Some y)) (read_link s x f.kind) ∙ sym f.blocks
@@ -76,7 +76,7 @@ use_is s x j u (OfFile f) l h = (used_by x.kind u h).1 f.kind ∙ sym (ap (λ y.
 use_is s x j u (OfDir f) l h = (used_by x.kind u h).0 f.kind ∙ sym (ap (λ y. use_by (Some y)) (read_dir s x f.kind))
 use_is s x j u (OfLink f) l h = absurd (let b : x.blocks ≡ 0 = f.blocks in omega arith)
 
-large_is : (s : Store) (x : StoredNode) → Shape x → has_large (Some (read_node s x)) ≡ nat_lt 0 x.large
+pub large_is : (s : Store) (x : StoredNode) → Shape x → has_large (Some (read_node s x)) ≡ nat_lt 0 x.large
 large_is s x (OfFile f) = ap (λ y. has_large (Some y)) (read_file s x f.kind) ∙ ap (nat_lt 65536) (length_cells (byte_at s x) x.size) ∙ f.has
 large_is s x (OfDir f) = ap (λ y. has_large (Some y)) (read_dir s x f.kind) ∙ sym (ap (nat_lt 0) f.large)
 large_is s x (OfLink f) = ap (λ y. has_large (Some y)) (read_link s x f.kind) ∙ sym (ap (nat_lt 0) f.large)

@@ -3,9 +3,10 @@ use Rattle.sector_definitions.specs.Regions.{sector_of}
 use Rattle.sector_definitions.specs.declared.region.Region.TheVariants as region
 use Rattle.std.proofs.Common.{◌==◌, ◌≡◌, ◌≢◌, ℕ, zero, suc, ◌+◌, ◌-◌, ◌*◌, ◌/◌, ◌<◌, ◌≤◌, ◌⊎◌, inl, inr, ⊎_elim, Bool, true, false, not, ◌&&◌, ◌||◌, Option, Some, None, List, [], ◌∷◌, is_some, length, take, drop, min, cond, refl, sym, ◌∙◌, ap, subst, arith, nat_lt, nat_le, slice_index, get_or, get_or-drop, nat_eq, eqb-true, ltb-true, ltb-false, leb-true, lt-ltb, le-ltb, le_refl}
 use Rattle.std.proofs.lemmas.Bool.{and_parts, or_cases, cases_lt, cases_Bool, cond-true, cond-false, both_ways}
+use Rattle.std.specs.List.{list_all}
 use Rattle.sector_definitions.specs.declared.inode.Inode.{Inode}
 use Rattle.sector_definitions.specs.Bytes.{are_zero, same_bytes}
-use Rattle.sector_definitions.specs.Inodes.{ends_blocks, is_free_inode, is_file_inode, is_directory_inode, is_link_inode, inode_fits, inode_fields, inode_bytes, inode_in}
+use Rattle.sector_definitions.specs.Inodes.{is_target_byte, ends_blocks, is_free_inode, is_file_inode, is_directory_inode, is_link_inode, inode_fits, inode_fields, inode_bytes, inode_in}
 use Rattle.tree_definitions.specs.Tree.{small_blocks_of}
 use Rattle.disk_definitions.specs.Disks.{Sectors}
 use Rattle.disk_definitions.specs.Naming.{first_blocks}
@@ -34,6 +35,8 @@ pub record IsLinkShape (x : StoredNode) : Type 0 where
   pub blocks : x.blocks ≡ 0
   pub small : x.small ≡ first_blocks 0 x.small
   pub large : x.large ≡ 0
+  pub size : (1 ≤ x.size) × (x.size ≤ 384)
+  pub bytes : list_all is_target_byte x.target ≡ true
 
 pub data Shape (x : StoredNode) : Type 0 where
   OfFile : IsFileShape x → Shape x
@@ -78,7 +81,7 @@ stored x = record { kind = x.kind; links = x.links; size = x.size; birth = x.bir
 untargeted : (k : ℕ) (t : List ℕ) (c : ℕ) → c == 3 ≡ false → k ≡ c → cond (k == 3) t [] ≡ []
 untargeted k t c h e = subst (λ k. cond (k == 3) t [] ≡ []) (sym e) (cond-false (c == 3) t [] h)
 
-file_shape : (x : Inode) → is_file_inode x ≡ true → IsFileShape (stored x)
+pub file_shape : (x : Inode) → is_file_inode x ≡ true → IsFileShape (stored x)
 file_shape x h =
     let kind : x.kind == 1 ≡ true = search (and_l, and_r) depth 12 in
     let blocks : x.blocks == small_blocks_of x.size ≡ true = search (and_l, and_r) depth 12 in
@@ -96,7 +99,7 @@ file_shape x h =
       target = untargeted x.kind (take x.size x.target) 1 refl (eqb-true x.kind 1 kind);
     }
 
-dir_shape : (x : Inode) → is_directory_inode x ≡ true → IsDirShape (stored x)
+pub dir_shape : (x : Inode) → is_directory_inode x ≡ true → IsDirShape (stored x)
 dir_shape x h =
     let kind : x.kind == 2 ≡ true = search (and_l, and_r) depth 12 in
     let links : x.links == 1 ≡ true = search (and_l, and_r) depth 12 in
@@ -112,13 +115,18 @@ dir_shape x h =
       target = untargeted x.kind (take x.size x.target) 2 refl (eqb-true x.kind 2 kind);
     }
 
-link_shape : (x : Inode) → is_link_inode x ≡ true → IsLinkShape (stored x)
+pub link_shape : (x : Inode) → is_link_inode x ≡ true → IsLinkShape (stored x)
 link_shape x h =
     let kind : x.kind == 3 ≡ true = search (and_l, and_r) depth 12 in
     let blocks : x.blocks == 0 ≡ true = search (and_l, and_r) depth 12 in
     let none : are_zero x.small ≡ true = search (and_l, and_r) depth 12 in
     let large : x.large == 0 ≡ true = search (and_l, and_r) depth 12 in
+    let some : nat_le 1 x.size ≡ true = search (and_l, and_r) depth 12 in
+    let few : nat_le x.size 384 ≡ true = search (and_l, and_r) depth 12 in
+    let bytes : list_all is_target_byte (take x.size x.target) ≡ true = search (and_l, and_r) depth 12 in
     record {
+      size = (leb-true 1 x.size some, leb-true x.size 384 few);
+      bytes = ap (list_all is_target_byte) (cond-true (x.kind == 3) (take x.size x.target) [] kind) ∙ bytes;
       kind = eqb-true x.kind 3 kind;
       blocks = eqb-true x.blocks 0 blocks;
       small = first_of x.small 0 none;
@@ -134,7 +142,7 @@ used_shape x h free = ⊎_elim
     (λ e. OfLink (link_shape x e)) (or_cases (is_free_inode x || is_file_inode x || is_directory_inode x) (is_link_inode x) h)
 
 -- what an inode's block says fits
-in_block : (block : List ℕ) (x : Inode) → inode_in block ≡ Some x → inode_fits x ≡ true
+pub in_block : (block : List ℕ) (x : Inode) → inode_in block ≡ Some x → inode_fits x ≡ true
 in_block block x e = go (inode_fits (inode_fields block) && same_bytes (inode_bytes (inode_fields block)) block) refl e
   where
     go : (b : Bool) → (inode_fits (inode_fields block) && same_bytes (inode_bytes (inode_fields block)) block) ≡ b → cond b (Some (inode_fields block)) None ≡ Some x → inode_fits x ≡ true

@@ -3,3 +3,4 @@ pub mod ReadTree
 pub mod Soundness
 pub mod Renaming
 pub mod Laws
+pub mod Room

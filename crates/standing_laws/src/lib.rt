@@ -4,6 +4,7 @@
 //! plain variables. It stands on the definitions of disks and trees.
 #![tactic(auto)]
 
+ghost use Rattle.standing_laws.specs.Room.{SoundFits};
 ghost use Rattle.standing_laws.specs.Laws.{SoundStands, ReadingHasNoDoubt, StandingIsSound, StandsForOne};
 
 /// A sound disk stands for the tree that is read off it, whose births are the numbers of the inodes, and no cell of which is doubtful.
@@ -21,4 +22,9 @@ pub fn a_disk_that_stands_is_sound()
 /// are the same in names, kinds, links, sizes, blocks and targets, and in the cells that are bytes in both.
 pub fn a_disk_stands_for_one_tree()
     ensures one { StandsForOne }
+{}
+
+/// The tree of a sound disk takes no more blocks than the segments have, and its targets have 1 to 384 bytes that may stand in one.
+pub fn a_sound_disk_has_room()
+    ensures fits { SoundFits }
 {}
