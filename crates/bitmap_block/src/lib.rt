@@ -14,3 +14,4 @@ pub use differences::patches;
 pub use frang_base::Bitmap;
 pub use inodes::{inode_in_use, with_inode};
 pub use laws::what_is_written_reads_back;
+pub use state::{BlockState, state_of, with_state};

@@ -1,1 +1,3 @@
 pub mod Seen
+pub mod Fits
+pub mod Marks

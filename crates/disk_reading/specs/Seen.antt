@@ -10,7 +10,7 @@ use Rattle.disk_definitions.specs.Store.{Store, StoredNode, StoredEntry, Use, st
 use Rattle.disk_definitions.specs.Store.Use.{Fresh, Bytes, Empty, Entries as OfEntries}
 
 -- what a disk of so many segments says
-abbrev pub store_in : ℕ → List (ℕ × List ℕ) → Store
+unfoldable pub store_in : ℕ → List (ℕ × List ℕ) → Store
 store_in segments disk = store_of segments (sectors_of disk)
 
 -- the node of an inode in use

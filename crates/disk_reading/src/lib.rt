@@ -2,6 +2,9 @@
 //! of sectors, on the laws of disks that stand for trees, and on the file tree.
 #![tactic(auto)]
 
+mod grammar;
+mod marks;
+mod owners;
 mod sectors;
 
 pub use disk_definitions::Disk;
