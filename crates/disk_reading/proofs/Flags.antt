@@ -1,5 +1,5 @@
 -- One number more among those that are flagged.
-use Rattle.std.proofs.Common.{◌==◌, ◌≡◌, ◌≢◌, ℕ, zero, suc, ◌+◌, ◌<◌, ◌≤◌, ⊎_elim, Bool, true, false, not, ◌&&◌, ◌||◌, Option, Some, None, List, length, replicate, set, get_or, cond, refl, sym, ◌∙◌, ap, subst, arith, eq-eqb, ne_eqb, length-set, get_or-set_same, get_or-set_other}
+use Rattle.std.proofs.Common.{◌==◌, ◌≡◌, ◌≢◌, ℕ, zero, suc, ◌+◌, ◌<◌, ◌≤◌, ⊎_elim, Bool, true, false, not, ◌&&◌, ◌||◌, Option, Some, None, List, [], ◌∷◌, ◌++◌, take, drop, length, replicate, set, get_or, cond, refl, sym, ◌∙◌, ap, subst, arith, eq-eqb, ne_eqb, length-set, get_or-set_same, get_or-set_other}
 use Rattle.std.proofs.lemmas.Bool.{cases_eq, and_from, and_right, or_left, or_right, not_from_false, not_from_true, both_ways}
 use Rattle.standing_laws.specs.Below.{all_below, holds, lists, is_new, are_distinct}
 use Rattle.standing_laws.proofs.Bounded.{all_more, any_more, lists_from, all_at}
@@ -22,7 +22,7 @@ one_flag f n flags a None b k l = a.each k l ∙ plain (lists f n k)
     plain false = refl
 one_flag f n flags a (Some j) b k l = ⊎_elim
     (λ e. subst (λ j. flag_at (flagged flags (Some j)) k ≡ (lists f n k || holds (Some j) k)) e (get_or-set_same flags k true false l ∙ sym (or_right (lists f n k) (k == k) (eq-eqb k k refl))))
-    (λ ne. get_or-set_other flags j k true false (λ e. ne e) ∙ a.each k l ∙ plain (lists f n k) (j == k) (ne_eqb j k ne)) (cases_eq j k)
+    (λ ne. get_or-set_other flags j k true false ne ∙ a.each k l ∙ plain (lists f n k) (j == k) (ne_eqb j k (λ e. ne (sym e)))) (cases_eq k j)
   where
     plain : (x y : Bool) → y ≡ false → x ≡ (x || y)
     plain true y e = refl
@@ -56,3 +56,15 @@ no_flags f size = record { distinct = refl; each = λ k l. unset size k }
 pub all_same : (n : ℕ) (f g : ℕ → Bool) → ((k : ℕ) → k < n → f k ≡ g k) → all_below n f ≡ all_below n g
 all_same zero f g h = refl
 all_same (suc n) f g h = ap (λ b. b && f n) (all_same n f g (λ k l. h k (omega arith))) ∙ ap (λ b. all_below n g && b) (h n (omega arith))
+
+-- the flags of all, and what is so of those without one
+pub flags_all : (f : ℕ → Option ℕ) (n size : ℕ) (flags : List Bool) (test : ℕ → Bool) → AreFlags f n flags → length flags ≡ size → all_below size (λ k. flag_at flags k || test k) ≡ (are_distinct f n && all_below size (λ k. lists f n k || test k))
+flags_all f n size flags test a l = all_same size (λ k. flag_at flags k || test k) (λ k. lists f n k || test k) (λ k h. ap (λ b. b || test k) (a.each k (subst (λ m. k < m) (sym l) h))) ∙ sym (ap (λ b. b && all_below size (λ k. lists f n k || test k)) a.distinct)
+
+-- what a slice of a whole vector leaves of it
+pub kept : (new rest : List Bool) (n : ℕ) → length new ≡ n → take n (new ++ rest) ≡ new
+kept new rest n e = ap (λ k. take k (new ++ rest)) (sym e) ∙ whole new
+  where
+    whole : (xs : List Bool) → take (length xs) (xs ++ rest) ≡ xs
+    whole [] = refl
+    whole (x ∷ xs) = ap (λ l. x ∷ l) (whole xs)

@@ -1,3 +1,4 @@
 pub mod Decoded
 pub mod Flags
 pub mod Marked
+pub mod Cells
