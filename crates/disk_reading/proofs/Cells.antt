@@ -1,5 +1,5 @@
 -- The bytes of a file, sector by sector.
-use Rattle.std.proofs.Common.{◌≡◌, ℕ, zero, suc, ◌+◌, ◌-◌, ◌*◌, ◌/◌, ◌%◌, ◌<◌, ◌≤◌, Bool, true, false, List, [], ◌∷◌, ◌++◌, length, map, take, drop, cond, refl, sym, ◌∙◌, ap, subst, arith, nat_lt, slice_index, lt-ltb, le-ltb, append_assoc, append-nil, ⊎_elim, get_or-take, length-take-le}
+use Rattle.std.proofs.Common.{◌≡◌, ℕ, zero, suc, ◌+◌, ◌-◌, ◌*◌, ◌/◌, ◌%◌, ◌<◌, ◌≤◌, Bool, true, false, List, [], ◌∷◌, ◌++◌, length, map, take, drop, cond, refl, sym, ◌∙◌, ap, subst, arith, nat_lt, slice_index, lt-ltb, le-ltb, append_assoc, append-nil, ⊎_elim, get_or-take, length-take, min}
 use Rattle.std.proofs.lemmas.Bool.{cases_lt, cond-true, cond-false}
 use Rattle.std.proofs.lemmas.List.{take_all, drop_all}
 use Rattle.tree_definitions.specs.declared.cells.Cell.{Cell}
@@ -30,7 +30,7 @@ cells_more f a bytes h =
     let m : length (cells_to f a) ≤ a + length (map Byte bytes) = omega arith in
     ap (λ c. c ++ map Byte bytes ++ drop (a + length (map Byte bytes)) (cells_to f a)) (take_all a (cells_to f a) l)
     ∙ ap (λ c. cells_to f a ++ map Byte bytes ++ c) (drop_all (a + length (map Byte bytes)) (cells_to f a) m)
-    ∙ ap (λ c. cells_to f a ++ c) (append-nil (map Byte bytes)) ∙ sym (cells_on f a bytes h)
+    ∙ append-nil (cells_to f a ++ map Byte bytes) ∙ sym (cells_on f a bytes h)
 
 -- a byte of a sector of a file
 pub data_byte : (segments : ℕ) (sectors : Sectors) (x : StoredNode) (part j : ℕ) → j < 512 → slice_index (sectors (data_sector x part)) j ≡ byte_at (store_of segments sectors) x (part * 512 + j)
@@ -56,6 +56,18 @@ data_byte segments sectors x part j h = ⊎_elim
 -- the first bytes of a sector
 pub data_bytes : (segments : ℕ) (sectors : Sectors) (x : StoredNode) (part len : ℕ) → len ≤ 512 → (j : ℕ) → j < length (take len (sectors (data_sector x part))) → slice_index (take len (sectors (data_sector x part))) j ≡ byte_at (store_of segments sectors) x (part * 512 + j)
 data_bytes segments sectors x part len h j l =
-    let t : length (take len (sectors (data_sector x part))) ≤ len = length-take-le len (sectors (data_sector x part)) in
+    let t : length (take len (sectors (data_sector x part))) ≡ min len (length (sectors (data_sector x part))) = length-take len (sectors (data_sector x part)) in
     let k : j < len = omega arith in
     get_or-take len (sectors (data_sector x part)) j 0 k ∙ data_byte segments sectors x part j (omega arith)
+
+-- a sector of a file is added, up to the size
+pub sector_added : (segments : ℕ) (sectors : Sectors) (x : StoredNode) (part size len : ℕ) (cells : List Cell) (block : List ℕ) → block ≡ sectors (data_sector x part) → length block ≡ 512 → part * 512 < size → len ≡ min 512 (size - part * 512)
+    → cells ≡ cells_to (byte_at (store_of segments sectors) x) (part * 512) → overwritten cells (part * 512) (map Byte (take len block)) ≡ cells_to (byte_at (store_of segments sectors) x) (min (part * 512 + 512) size)
+sector_added segments sectors x part size len cells block b l w n e =
+    let f = byte_at (store_of segments sectors) x in
+    let t : length (take len block) ≡ min len (length block) = length-take len block in
+    let k : part * 512 + length (take len block) ≡ min (part * 512 + 512) size = omega arith in
+    let h : len ≤ 512 = omega arith in
+    ap (λ c. overwritten c (part * 512) (map Byte (take len block))) e
+    ∙ cells_more f (part * 512) (take len block) (subst (λ s. (j : ℕ) → j < length (take len s) → slice_index (take len s) j ≡ f (part * 512 + j)) (sym b) (data_bytes segments sectors x part len h))
+    ∙ ap (cells_to f) k

@@ -9,9 +9,10 @@ use Rattle.sector_definitions.specs.declared.directory.DirSector.{DirSector}
 use Rattle.sector_definitions.specs.declared.region.Region.TheVariants as region
 use Rattle.sector_definitions.specs.Regions.{sector_of}
 use Rattle.sector_definitions.specs.Inodes.{is_free_inode, is_file_inode, is_directory_inode, is_link_inode, inode_fits, inode_in}
-use Rattle.sector_definitions.specs.Directories.{is_free_place, is_used_place, entry_fits, directory_fits, directory_fields, directory_bytes, directory_in}
+use Rattle.sector_definitions.specs.Directories.{is_free_place, is_used_place, entry_fits, name_in, directory_fits, directory_fields, directory_bytes, directory_in}
 use Rattle.sector_definitions.specs.Bitmaps.{bitmap_in, inode_bit, block_state}
 use Rattle.sector_definitions.specs.Bytes.{same_bytes}
+use Rattle.frang_base.specs.Name.{is_name}
 use Rattle.frang_base.specs.declared.bitmap.Bitmap.{Bitmap}
 use Rattle.bitmap_block.specs.States.{state_number}
 use Rattle.bitmap_block.specs.declared.state.BlockState.{BlockState}
@@ -29,12 +30,14 @@ free_kind x h = go (is_free_inode x) refl
   where
     other : (k : ℕ) → x.kind ≡ k → k == 0 ≡ false → false ≡ (x.kind == 0)
     other k e n = sym (ap (λ k. k == 0) e ∙ n)
+
     used : is_free_inode x ≡ false → false ≡ (x.kind == 0)
     used f = ⊎_elim
         (λ r. ⊎_elim
         (λ r. ⊎_elim (λ e. absurd (both_ways (is_free_inode x) f e)) (λ e. other 1 (file_shape x e).kind refl) (or_cases (is_free_inode x) (is_file_inode x) r))
         (λ e. other 2 (dir_shape x e).kind refl) (or_cases (is_free_inode x || is_file_inode x) (is_directory_inode x) r))
         (λ e. other 3 (link_shape x e).kind refl) (or_cases (is_free_inode x || is_file_inode x || is_directory_inode x) (is_link_inode x) h)
+
     go : (b : Bool) → is_free_inode x ≡ b → is_free_inode x ≡ (x.kind == 0)
     go true e = e ∙ sym (let k : x.kind == 0 ≡ true = search (and_l, and_r) depth 12 in k)
     go false e = e ∙ used e
@@ -146,3 +149,12 @@ past_blocks segments sectors k l = (sym ((disk_range segments sectors).uses k l)
 
 pub past_larges : (segments : ℕ) (sectors : Sectors) (g : ℕ) → segments ≤ g → false ≡ (store_of segments sectors).large_bit g
 past_larges segments sectors g l = sym ((disk_range segments sectors).larges g l)
+
+-- the name of an entry
+pub proper_entry : (block : List ℕ) (x : DirSector) (q : ℕ) (e : DirEntry) → directory_in block ≡ Some x → slice_get x.entries q ≡ Some e → (e.kind == 0) ≡ false → (is_name (name_in e) ≡ true) × (e.len ≤ 64)
+proper_entry block x q e h g k =
+    let f : entry_fits e ≡ true = entry_of_list x.entries q e (directory_fit block x h) g in
+    ⊎_elim (λ t. absurd (both_ways (e.kind == 0) k (sym (free_place e f) ∙ t))) (λ t. (
+        let n : is_name (name_in e) ≡ true = search (and_l, and_r) depth 8 in
+        let l : nat_le e.len 64 ≡ true = search (and_l, and_r) depth 8 in
+        (n, leb-true e.len 64 l))) (or_cases (is_free_place e) (is_used_place e) f)

@@ -4,8 +4,12 @@ use Rattle.sector_definitions.specs.declared.region.Region.TheVariants as region
 use Rattle.sector_definitions.specs.Regions.{sector_of}
 use Rattle.tree_definitions.specs.Entries.{Entries}
 use Rattle.disk_definitions.specs.Store.{Store, StoredNode, StoredEntry}
-use Rattle.standing_laws.specs.ReadTree.{entries_to}
-use Rattle.standing_laws.specs.Soundness.{entries_agree}
+use Rattle.standing_laws.specs.ReadTree.{entries_to, read_node, nodes_to}
+use Rattle.sector_definitions.specs.declared.inode.Inode.{Inode}
+use Rattle.sector_definitions.specs.Inodes.{inode_fits}
+use Rattle.tree_definitions.specs.declared.node.Node.{Node}
+use Rattle.standing_laws.specs.Below.{all_below}
+use Rattle.standing_laws.specs.Soundness.{entries_agree, node_agrees}
 
 -- the sector of 512 bytes of a file, counted from its start: the first 128 stand in small blocks, the others in the large one
 abbrev pub data_sector : StoredNode → ℕ → ℕ
@@ -15,3 +19,18 @@ data_sector x part = if nat_lt part 128 then sector_of (region.Small (x.small (p
 abbrev pub AreRead : Store → (ℕ → Option StoredEntry) → ℕ → Option Entries → Type 0
 AreRead s place n None = entries_agree s place n ≡ false
 AreRead s place n (Some entries) = (entries_agree s place n ≡ true) × (entries ≡ entries_to place n)
+
+-- a node, or that what it holds isn't as long as its size says, or doesn't agree
+abbrev pub IsNode : Store → StoredNode → Option Node → Type 0
+IsNode s x None = node_agrees s (Some x) ≡ false
+IsNode s x (Some node) = (node_agrees s (Some x) ≡ true) × (node ≡ read_node s x)
+
+-- the nodes of the first n inodes, or that one of them doesn't agree
+abbrev pub AreNodes : Store → ℕ → Option (List (ℕ × Node)) → Type 0
+AreNodes s n None = all_below n (λ i. node_agrees s (s.inode i)) ≡ false
+AreNodes s n (Some nodes) = (all_below n (λ i. node_agrees s (s.inode i)) ≡ true) × (nodes ≡ nodes_to s n)
+
+-- an inode whose bytes can be found: its large block lies below 64, and is there where the size takes one
+pub record IsReadable (x : Inode) : Type 0 where
+  pub fits : inode_fits x ≡ true
+  pub large : x.large ≤ 64

@@ -2,8 +2,10 @@
 //! of sectors, on the laws of disks that stand for trees, and on the file tree.
 #![tactic(auto)]
 
+mod files;
 mod grammar;
 mod marks;
+mod nodes;
 mod owners;
 mod sectors;
 

@@ -16,7 +16,9 @@ use sector_definitions::Inode;
 pub(crate) const BLOCKS_AN_INODE: u32 = 16;
 /// The kind of a file, of a directory and of a link.
 pub(crate) const FILE: u8 = 1;
+
 pub(crate) const DIRECTORY: u8 = 2;
+
 pub(crate) const LINK: u8 = 3;
 
 fn bit_agrees(disk: &Disk, segments: u32, i: u32) -> bool
@@ -24,7 +26,11 @@ fn bit_agrees(disk: &Disk, segments: u32, i: u32) -> bool
     ensures { result ≡ sound.bit_agrees (store_in segments disk.now) i }
 {
     let used = used_inode(disk, segments, i).is_some();
-    if bit_of(disk, segments, i) { used } else { !used }
+    if bit_of(disk, segments, i) {
+        used
+    } else {
+        !used
+    }
 }
 
 /// The small block at an index of an inode, where it has one there.
@@ -47,7 +53,11 @@ pub(crate) fn large_at(disk: &Disk, segments: u32, i: u32) -> Option<u32>
     ensures { result ≡ sound.large_at (store_in segments disk.now) i }
 {
     let inode = used_inode(disk, segments, i)?;
-    if 0 < inode.large { Some(inode.large - 1) } else { None }
+    if 0 < inode.large {
+        Some(inode.large - 1)
+    } else {
+        None
+    }
 }
 
 fn is_used_for(kind: u8, state: BlockState) -> bool

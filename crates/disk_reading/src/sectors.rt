@@ -1,11 +1,12 @@
 // The sectors of a disk, decoded.
-ghost use Rattle.std.specs.Prelude.{◌≡◌, ◌≤◌, ◌<◌, ◌*◌};
+ghost use Rattle.std.specs.Prelude.{◌≡◌, ◌≤◌, ◌<◌, ◌*◌, true, IfSome};
+ghost use Rattle.frang_base.specs.Name.{is_name};
 ghost use Rattle.std.specs.Option.{option_map};
 ghost use Rattle.sector_definitions.specs.declared.region.Region.TheVariants as region;
 ghost use Rattle.sector_definitions.specs.Regions.{sector_of};
 ghost use Rattle.sector_definitions.specs.Bitmaps.{bitmap_in};
-ghost use Rattle.sector_definitions.specs.Directories.{directory_in};
-ghost use Rattle.sector_definitions.specs.Inodes.{inode_in};
+ghost use Rattle.sector_definitions.specs.Directories.{directory_in, name_in};
+ghost use Rattle.sector_definitions.specs.Inodes.{inode_in, inode_fits};
 ghost use Rattle.disk_definitions.specs.Disks.{sectors_of};
 ghost use Rattle.disk_reading.specs.Seen.{store_in, stored, entered, use_of_state};
 
@@ -16,10 +17,13 @@ use sector_definitions::{DirEntry, DirSector, Inode};
 
 // The first sector of each region.
 const BITMAPS_FROM: u64 = 4_294_967_296;
+
 const INODES_FROM: u64 = 10_737_418_240;
+
 const SMALL_BLOCKS_FROM: u64 = 12_884_901_888;
 // Sectors of a small block.
 const SECTORS_A_BLOCK: u64 = 8;
+
 const LARGE_BLOCKS_FROM: u64 = 287_762_808_832;
 // The sectors from the first of one large block to the first of the next.
 const LARGE_STRIDE: u64 = 2_147_483_648;
@@ -88,7 +92,8 @@ pub(crate) fn directory_at(disk: &Disk, block: u32, p: u32) -> Option<DirSector>
 #[tactic(auto, using(crate::proofs::Decoded::decoded_node), unfolding(crate::specs::Seen::store_in))]
 pub(crate) fn used_inode(disk: &Disk, segments: u32, i: u32) -> Option<Inode>
     requires { segments ≤ 64 }
-    ensures { option_map stored result ≡ (store_in segments disk.now).inode i }
+    ensures is { option_map stored result ≡ (store_in segments disk.now).inode i }
+    ensures fits { IfSome result (λ x. inode_fits x ≡ true) }
 {
     if i >= INODES_A_SEGMENT * segments {
         return None;
@@ -148,7 +153,8 @@ pub(crate) fn large_bit(disk: &Disk, segments: u32, g: u32) -> bool
 pub(crate) fn entry_at(disk: &Disk, segments: u32, block: u32, place: u32) -> Option<DirEntry>
     requires few { segments ≤ 64 }
     requires place { place < 56 }
-    ensures { option_map entered result ≡ (store_in segments disk.now).place block place }
+    ensures is { option_map entered result ≡ (store_in segments disk.now).place block place }
+    ensures proper { IfSome result (λ e. (is_name (name_in e) ≡ true) × (e.len ≤ 64)) }
 {
     if block >= BLOCKS_A_SEGMENT * segments {
         return None;
