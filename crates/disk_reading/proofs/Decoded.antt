@@ -25,7 +25,7 @@ use Rattle.standing_laws.proofs.Shapes.{and_l, and_r, in_block, file_shape, dir_
 use Rattle.disk_reading.specs.Seen.{stored, entered, use_of_state}
 
 -- an inode is free exactly where its kind is 0
-free_kind : (x : Inode) → inode_fits x ≡ true → is_free_inode x ≡ (x.kind == 0)
+pub free_kind : (x : Inode) → inode_fits x ≡ true → is_free_inode x ≡ (x.kind == 0)
 free_kind x h = go (is_free_inode x) refl
   where
     other : (k : ℕ) → x.kind ≡ k → k == 0 ≡ false → false ≡ (x.kind == 0)

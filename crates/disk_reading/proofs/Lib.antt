@@ -2,3 +2,4 @@ pub mod Decoded
 pub mod Flags
 pub mod Marked
 pub mod Cells
+pub mod Read

@@ -24,13 +24,3 @@ AreRead s place n (Some entries) = (entries_agree s place n ≡ true) × (entrie
 abbrev pub IsNode : Store → StoredNode → Option Node → Type 0
 IsNode s x None = node_agrees s (Some x) ≡ false
 IsNode s x (Some node) = (node_agrees s (Some x) ≡ true) × (node ≡ read_node s x)
-
--- the nodes of the first n inodes, or that one of them doesn't agree
-abbrev pub AreNodes : Store → ℕ → Option (List (ℕ × Node)) → Type 0
-AreNodes s n None = all_below n (λ i. node_agrees s (s.inode i)) ≡ false
-AreNodes s n (Some nodes) = (all_below n (λ i. node_agrees s (s.inode i)) ≡ true) × (nodes ≡ nodes_to s n)
-
--- an inode whose bytes can be found: its large block lies below 64, and is there where the size takes one
-pub record IsReadable (x : Inode) : Type 0 where
-  pub fits : inode_fits x ≡ true
-  pub large : x.large ≤ 64
