@@ -1,6 +1,8 @@
 -- What an inode in use says of its blocks.
-use Rattle.std.proofs.Common.{◌≡◌, ℕ, ◌-◌, ◌<◌, Bool, true, false, Option, Some, None, cond, refl, sym, ◌∙◌, ap, nat_lt, slice_index, ◌≤◌, le-ltb, lt-ltb}
-use Rattle.std.proofs.lemmas.Bool.{cond-true, cond-false}
+use Rattle.std.proofs.Common.{◌≡◌, ℕ, ◌-◌, ◌<◌, Bool, true, false, Option, Some, None, cond, refl, sym, ◌∙◌, ap, nat_lt, slice_index, ◌≤◌, le-ltb, lt-ltb, ⊎_elim, arith}
+use Rattle.std.proofs.lemmas.Bool.{cond-true, cond-false, cases_lt, both_ways, false_from_ne_true}
+use Rattle.standing_laws.specs.Below.{all_below}
+use Rattle.standing_laws.proofs.Bounded.{all_at}
 use Rattle.sector_definitions.specs.declared.inode.Inode.{Inode}
 use Rattle.disk_definitions.specs.Store.{Store, StoredNode}
 use Rattle.standing_laws.specs.Soundness.{block_in, is_used_for, use_agrees, large_in}
@@ -23,3 +25,13 @@ large_then o x e l = sym (ap large_in e ∙ cond-true (nat_lt 0 x.large) (Some (
 
 pub large_else : (o : Option StoredNode) (x : Inode) → o ≡ Some (stored x) → x.large ≤ 0 → None ≡ large_in o
 large_else o x e n = sym (ap large_in e ∙ cond-false (nat_lt 0 x.large) (Some (x.large - 1)) None (le-ltb 0 x.large n))
+
+-- a large block below the segments
+pub large_few : (segments : ℕ) (o : Option StoredNode) (x : Inode) → o ≡ Some (stored x) → segments ≤ 64 → ((g : ℕ) → large_in o ≡ Some g → g < segments) → x.large ≤ 64
+large_few segments o x e few h = ⊎_elim
+    (λ l. (let w : x.large - 1 < segments = h (x.large - 1) (sym (large_then o x e l)) in omega arith))
+    (λ l. omega arith) (cases_lt 0 x.large)
+
+-- one number that fails
+pub not_all : (n size : ℕ) (test : ℕ → Bool) → n < size → false ≡ test n → false ≡ all_below size test
+not_all n size test l e = sym (false_from_ne_true (all_below size test) (λ t. both_ways (test n) (sym e) (all_at size test t n l)))

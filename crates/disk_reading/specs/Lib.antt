@@ -2,3 +2,4 @@ pub mod Seen
 pub mod Fits
 pub mod Marks
 pub mod Files
+pub mod Names

@@ -4,6 +4,7 @@
 
 mod files;
 mod grammar;
+mod links;
 mod marks;
 mod nodes;
 mod owners;

@@ -1,5 +1,5 @@
 // The sectors of a disk, decoded.
-ghost use Rattle.std.specs.Prelude.{◌≡◌, ◌≤◌, ◌<◌, ◌*◌, true, IfSome};
+ghost use Rattle.std.specs.Prelude.{◌≡◌, ◌≢◌, ◌≤◌, ◌<◌, ◌*◌, true, IfSome};
 ghost use Rattle.frang_base.specs.Name.{is_name};
 ghost use Rattle.std.specs.Option.{option_map};
 ghost use Rattle.sector_definitions.specs.declared.region.Region.TheVariants as region;
@@ -94,6 +94,7 @@ pub(crate) fn used_inode(disk: &Disk, segments: u32, i: u32) -> Option<Inode>
     requires { segments ≤ 64 }
     ensures is { option_map stored result ≡ (store_in segments disk.now).inode i }
     ensures fits { IfSome result (λ x. inode_fits x ≡ true) }
+    ensures used { IfSome result (λ x. x.kind ≢ 0) }
 {
     if i >= INODES_A_SEGMENT * segments {
         return None;
