@@ -1,14 +1,15 @@
 -- Which operations may be applied to a tree.
-use Rattle.std.specs.Prelude.{◌≡◌, ◌≤◌, true, length}
+use Rattle.std.specs.Prelude.{◌≡◌, true, IsTrue}
 use Rattle.frang_base.specs.declared.op.Op.{Op}
 use Rattle.frang_base.specs.declared.op.Op.TheVariants as op
+use Rattle.script_definitions.specs.SaidReading.{is_target}
 use Rattle.tree_definitions.specs.Tree.{FileTree}
 use Rattle.tree_definitions.specs.Apply.{apply}
 use Rattle.file_tree.specs.Sure.{shows_sure}
 
--- one with a path; a target is no longer than a script allows, and a read shows no cell in doubt
+-- one with a path; a target is one that scripts may have, and a read shows no cell in doubt
 abbrev pub CanApply : FileTree → Op → Type 0
-CanApply tree (op.Symlink path target) = length target ≤ 384
+CanApply tree (op.Symlink path target) = IsTrue (is_target target)
 CanApply tree (op.Read path off len) = shows_sure (apply tree (op.Read path off len) 0 0).answer ≡ true
 CanApply tree op.Sync = ⊥
 CanApply tree op.Mount = ⊥

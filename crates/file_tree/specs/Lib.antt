@@ -5,4 +5,5 @@ pub mod Sure
 pub mod Puts
 pub mod Named
 pub mod Shown
+pub mod Proper
 pub mod CanApply

@@ -1,5 +1,6 @@
 // Operations applied to a tree.
 ghost use Rattle.std.specs.Prelude.{◌≡◌, IfOk, OnErr};
+ghost use Rattle.script_definitions.specs.SaidReading.{IsProperReply};
 ghost use Rattle.tree_definitions.specs.Apply.{apply};
 ghost use Rattle.file_tree.specs.CanApply.{CanApply};
 ghost use Rattle.file_tree.specs.Replies.{gives};
@@ -20,6 +21,7 @@ impl Tree {
         requires { CanApply self.old op.now }
         ensures ok { IfOk result (λ reply. apply self.old op.now birth.0 m ≡ gives self.new reply) }
         ensures err { OnErr result (self.new ≡ self.old) }
+        ensures proper { IfOk result IsProperReply }
     {
         match op {
             Op::Create { path } => {

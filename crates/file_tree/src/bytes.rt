@@ -1,6 +1,7 @@
 // Operations on the bytes of a file: write, fill, truncate, read.
-ghost use Rattle.std.specs.Prelude.{◌≡◌, ◌+◌, ◌<◌, ◌^◌, ℕ, List, IfOk, IfNone, OnErr, length, map, true};
+ghost use Rattle.std.specs.Prelude.{◌≡◌, ◌+◌, ◌<◌, ◌^◌, ℕ, List, IfOk, IfSome, IfNone, IsTrue, OnErr, length, map, nat_lt, true};
 ghost use Rattle.std.specs.List.{list_all};
+ghost use Rattle.script_definitions.specs.SaidReading.{IsProperReply};
 ghost use Rattle.tree_definitions.specs.declared.cells.Cell.{Cell as TheCell};
 ghost use Rattle.tree_definitions.specs.declared.cells.Cell.TheVariants.{Byte};
 ghost use Rattle.tree_definitions.specs.declared.node.Node.TheVariants.{File};
@@ -26,6 +27,7 @@ const FILE_BYTES_MAX: usize = 1_114_112;
 fn refused(tree: &Tree, m: u32, cells: &Cells, off: usize, len: usize) -> Option<Reply>
     requires { off + len < 2 ^ 64 }
     ensures is { (birth links : ℕ) (put : List TheCell → List TheCell) → written tree.now m birth cells.now links off len put ≡ by_refusal tree.now result (with_node tree.now birth (File (put cells.now) links)) }
+    ensures proper { IfSome result IsProperReply }
     ensures room { IfNone result (CanGrow tree.now (length cells.now) off len) }
 {
     let before = cells.len();
@@ -57,6 +59,7 @@ pub fn put_at(
 ) -> Result<Reply, NoMemory>
     ensures ok { IfOk result (λ reply. at_file tree.old (place tree.old path.now) (λ b cells links. written tree.old m b cells links off (size_of bytes.now) (λ old. overwritten old off (cells_of bytes.now))) ≡ gives tree.new reply) }
     ensures err { OnErr result (tree.new ≡ tree.old) }
+    ensures proper { IfOk result IsProperReply }
 {
     let file = match file_at(tree, path) {
         Ok(file) => file,
@@ -73,7 +76,8 @@ pub fn put_at(
 
 /// Answers `truncate`.
 pub fn truncate(tree: &mut Tree, path: &[Name], len: u32) -> Reply
-    ensures { at_file tree.old (place tree.old path.now) (λ b cells links. truncated tree.old b cells links len) ≡ gives tree.new result }
+    ensures is { at_file tree.old (place tree.old path.now) (λ b cells links. truncated tree.old b cells links len) ≡ gives tree.new result }
+    ensures proper { IsProperReply result }
 {
     let file = match file_at(tree, path) {
         Ok(file) => file,
@@ -90,7 +94,8 @@ pub fn truncate(tree: &mut Tree, path: &[Name], len: u32) -> Reply
 // The bytes of cells of which none is in doubt.
 fn bytes_of(alloc: Global, cells: &[Cell]) -> Result<Text, NoMemory>
     requires { list_all is_sure cells.now ≡ true }
-    ensures { IfOk result (λ text. map Byte text ≡ cells.now) }
+    ensures is { IfOk result (λ text. map Byte text ≡ cells.now) }
+    ensures bytes { IfOk result (λ text. IsTrue (list_all (λ b. nat_lt b 256) text)) }
 {
     let mut text = Text::new(alloc);
     for cell in cells {
@@ -105,7 +110,8 @@ fn bytes_of(alloc: Global, cells: &[Cell]) -> Result<Text, NoMemory>
 // The bytes of a file from an offset on, at most so many.
 fn shown(tree: &Tree, cells: &Cells, off: u32, len: u32) -> Result<Reply, NoMemory>
     requires { shows_sure (shown tree.now cells.now off len).answer ≡ true }
-    ensures { IfOk result (λ reply. shown tree.now cells.now off len ≡ gives tree.now reply) }
+    ensures is { IfOk result (λ reply. shown tree.now cells.now off len ≡ gives tree.now reply) }
+    ensures proper { IfOk result IsProperReply }
 {
     if cells.len() < off as usize {
         return Ok(Reply::BadOffset);
@@ -117,7 +123,8 @@ fn shown(tree: &Tree, cells: &Cells, off: u32, len: u32) -> Result<Reply, NoMemo
 /// Answers `read`, where it shows no cell in doubt.
 pub fn read(tree: &Tree, path: &[Name], off: u32, len: u32) -> Result<Reply, NoMemory>
     requires { shows_sure (at_file tree.now (place tree.now path.now) (λ b cells links. shown tree.now cells off len)).answer ≡ true }
-    ensures { IfOk result (λ reply. at_file tree.now (place tree.now path.now) (λ b cells links. shown tree.now cells off len) ≡ gives tree.now reply) }
+    ensures is { IfOk result (λ reply. at_file tree.now (place tree.now path.now) (λ b cells links. shown tree.now cells off len) ≡ gives tree.now reply) }
+    ensures proper { IfOk result IsProperReply }
 {
     match file_at(tree, path) {
         Ok(file) => shown(tree, file.cells, off, len),

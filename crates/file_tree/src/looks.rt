@@ -1,10 +1,14 @@
 // Operations that look at a node: stat, list, readlink, time.
-ghost use Rattle.std.specs.Prelude.{◌≡◌, IfOk, map};
+ghost use Rattle.std.specs.Prelude.{◌≡◌, IfOk, IfSome, IsTrue, map};
+ghost use Rattle.std.specs.List.{list_all};
 ghost use Rattle.std.specs.Option.{option_copied};
+ghost use Rattle.frang_base.specs.Name.{is_name};
 ghost use Rattle.frang_base.specs.declared.reply.Reply.TheVariants.{Time};
+ghost use Rattle.script_definitions.specs.SaidReading.{IsProperReply};
 ghost use Rattle.tree_definitions.specs.Tree.{FileTree};
 ghost use Rattle.tree_definitions.specs.Place.{place};
 ghost use Rattle.tree_definitions.specs.Apply.{says, at_node, at_file, described, listed, target_of};
+ghost use Rattle.file_tree.specs.Proper.{HasTarget};
 ghost use Rattle.file_tree.specs.Replies.{gives};
 
 use crate::Tree;
@@ -15,7 +19,8 @@ use tree_definitions::{Entries, Node};
 
 // What a node is.
 fn described(node: Option<&Node>) -> Reply
-    ensures { (tree : FileTree) → described tree (option_copied node.entry) ≡ gives tree result }
+    ensures is { (tree : FileTree) → described tree (option_copied node.entry) ≡ gives tree result }
+    ensures proper { IsProperReply result }
 {
     match node {
         Some(Node::File { cells, links }) => Reply::File {
@@ -34,7 +39,8 @@ fn described(node: Option<&Node>) -> Reply
 
 /// Answers `stat`.
 pub fn stat(tree: &Tree, path: &[Name]) -> Reply
-    ensures { at_node tree.now (place tree.now path.now) (λ b node. described tree.now node) ≡ gives tree.now result }
+    ensures is { at_node tree.now (place tree.now path.now) (λ b node. described tree.now node) ≡ gives tree.now result }
+    ensures proper { IsProperReply result }
 {
     match reached(tree, path) {
         Ok(birth) => described(tree.node(birth)),
@@ -44,10 +50,13 @@ pub fn stat(tree: &Tree, path: &[Name]) -> Reply
 
 // The names of a directory, in order.
 fn names_of(alloc: Global, entries: &Entries) -> Result<NameList, NoMemory>
-    ensures { IfOk result (λ names. names ≡ map (λ e. e.0) entries.now) }
+    ensures is { IfOk result (λ names. names ≡ map (λ e. e.0) entries.now) }
+    ensures names { IfOk result (λ names. IsTrue (list_all is_name names)) }
 {
     let mut names = NameList::new(alloc);
     for (name, _) in entries.as_map() {
+        // Its length tells that a name's bytes are those of a name.
+        let _ = name.len();
         names.push(name.copy())?;
     }
     Ok(names)
@@ -55,7 +64,8 @@ fn names_of(alloc: Global, entries: &Entries) -> Result<NameList, NoMemory>
 
 // The names of a node that has to be a directory.
 fn listed(alloc: Global, node: Option<&Node>) -> Result<Reply, NoMemory>
-    ensures { IfOk result (λ reply. (tree : FileTree) → listed tree (option_copied node.entry) ≡ gives tree reply) }
+    ensures is { IfOk result (λ reply. (tree : FileTree) → listed tree (option_copied node.entry) ≡ gives tree reply) }
+    ensures proper { IfOk result IsProperReply }
 {
     match node {
         Some(Node::Dir { entries, .. }) => Ok(Reply::Names(names_of(alloc, entries)?)),
@@ -66,7 +76,8 @@ fn listed(alloc: Global, node: Option<&Node>) -> Result<Reply, NoMemory>
 
 /// Answers `list`.
 pub fn list(tree: &Tree, path: &[Name]) -> Result<Reply, NoMemory>
-    ensures { IfOk result (λ reply. at_node tree.now (place tree.now path.now) (λ b node. listed tree.now node) ≡ gives tree.now reply) }
+    ensures is { IfOk result (λ reply. at_node tree.now (place tree.now path.now) (λ b node. listed tree.now node) ≡ gives tree.now reply) }
+    ensures proper { IfOk result IsProperReply }
 {
     match reached(tree, path) {
         Ok(birth) => listed(tree.alloc(), tree.node(birth)),
@@ -76,7 +87,9 @@ pub fn list(tree: &Tree, path: &[Name]) -> Result<Reply, NoMemory>
 
 // The target of a node that has to be a symbolic link.
 fn target_of(alloc: Global, node: Option<&Node>) -> Result<Reply, NoMemory>
-    ensures { IfOk result (λ reply. (tree : FileTree) → target_of tree (option_copied node.entry) ≡ gives tree reply) }
+    requires { IfSome (option_copied node) HasTarget }
+    ensures is { IfOk result (λ reply. (tree : FileTree) → target_of tree (option_copied node.entry) ≡ gives tree reply) }
+    ensures proper { IfOk result IsProperReply }
 {
     match node {
         Some(Node::Link { target, .. }) => Ok(Reply::Target(Text::of(alloc, target.as_slice())?)),
@@ -87,7 +100,8 @@ fn target_of(alloc: Global, node: Option<&Node>) -> Result<Reply, NoMemory>
 
 /// Answers `readlink`.
 pub fn readlink(tree: &Tree, path: &[Name]) -> Result<Reply, NoMemory>
-    ensures { IfOk result (λ reply. at_node tree.now (place tree.now path.now) (λ b node. target_of tree.now node) ≡ gives tree.now reply) }
+    ensures is { IfOk result (λ reply. at_node tree.now (place tree.now path.now) (λ b node. target_of tree.now node) ≡ gives tree.now reply) }
+    ensures proper { IfOk result IsProperReply }
 {
     match reached(tree, path) {
         Ok(birth) => target_of(tree.alloc(), tree.node(birth)),
@@ -97,7 +111,8 @@ pub fn readlink(tree: &Tree, path: &[Name]) -> Result<Reply, NoMemory>
 
 /// Answers `time`: no times are kept.
 pub fn time(tree: &Tree, path: &[Name]) -> Reply
-    ensures { at_file tree.now (place tree.now path.now) (λ b cells links. says tree.now (Time 0 0)) ≡ gives tree.now result }
+    ensures is { at_file tree.now (place tree.now path.now) (λ b cells links. says tree.now (Time 0 0)) ≡ gives tree.now result }
+    ensures proper { IsProperReply result }
 {
     match file_at(tree, path) {
         Ok(_) => Reply::Time { run: 0, tick: 0 },

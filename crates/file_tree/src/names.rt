@@ -1,12 +1,14 @@
 // Operations on the names of directories: create, mkdir, symlink, link, unlink, rmdir, rename.
 ghost use Rattle.std.specs.Prelude.{◌≡◌, ◌<◌, false, IfOk, OnErr, length};
 ghost use Rattle.std.specs.Option.{option_copied};
+ghost use Rattle.script_definitions.specs.SaidReading.{IsProperReply};
 ghost use Rattle.tree_definitions.specs.Entries.{with_entry};
 ghost use Rattle.tree_definitions.specs.Tree.{node_at, grown};
 ghost use Rattle.tree_definitions.specs.Place.{place};
 ghost use Rattle.tree_definitions.specs.Apply.{is_dir, links_of, has_entries, made, one_link_fewer, name_gone, unlinked, dir_removed, linked_to, linked};
 ghost use Rattle.tree_edits.specs.Counts.{blocks_of};
 ghost use Rattle.file_tree.specs.Named.{HasEntry};
+ghost use Rattle.file_tree.specs.Proper.{HasTarget};
 ghost use Rattle.file_tree.specs.Replies.{gives};
 
 use crate::Tree;
@@ -69,9 +71,11 @@ pub fn with_name(entries: &Entries, name: &Name, birth: u64) -> Result<Entries, 
 
 /// Answers `create`, `mkdir` and `symlink`: a name that isn't there gets a new node. After `NoMemory` the tree is as before.
 pub fn make(tree: &mut Tree, path: &[Name], birth: u64, node: Node) -> Result<Reply, NoMemory>
-    requires { blocks_of node ≡ Blocks.NONE }
+    requires bare { blocks_of node ≡ Blocks.NONE }
+    requires target { HasTarget node }
     ensures ok { IfOk result (λ reply. made tree.old birth node (place tree.old path.now) ≡ gives tree.new reply) }
     ensures err { OnErr result (tree.new ≡ tree.old) }
+    ensures proper { IfOk result IsProperReply }
 {
     match place_from(tree, ROOT, path) {
         Place::Root | Place::Taken { .. } => Ok(Reply::Exist),
@@ -130,7 +134,8 @@ fn forget(tree: &mut Tree, dir: u64, name: &Name, birth: u64)
 
 /// Answers `unlink`.
 pub fn unlink(tree: &mut Tree, path: &[Name]) -> Reply
-    ensures { unlinked tree.old (place tree.old path.now) ≡ gives tree.new result }
+    ensures is { unlinked tree.old (place tree.old path.now) ≡ gives tree.new result }
+    ensures proper { IsProperReply result }
 {
     match place_from(tree, ROOT, path) {
         Place::Root => Reply::IsDir,
@@ -153,7 +158,8 @@ pub fn unlink(tree: &mut Tree, path: &[Name]) -> Reply
 
 /// Answers `rmdir`.
 pub fn rmdir(tree: &mut Tree, path: &[Name]) -> Reply
-    ensures { dir_removed tree.old (place tree.old path.now) ≡ gives tree.new result }
+    ensures is { dir_removed tree.old (place tree.old path.now) ≡ gives tree.new result }
+    ensures proper { IsProperReply result }
 {
     match place_from(tree, ROOT, path) {
         Place::Root => Reply::Inval,
@@ -183,6 +189,7 @@ fn linked_to(tree: &mut Tree, birth: u64, to: &[Name]) -> Result<Reply, NoMemory
     requires { is_dir (node_at tree.old birth) ≡ false }
     ensures ok { IfOk result (λ reply. linked_to tree.old birth (place tree.old to.now) ≡ gives tree.new reply) }
     ensures err { OnErr result (tree.new ≡ tree.old) }
+    ensures proper { IfOk result IsProperReply }
 {
     match place_from(tree, ROOT, to) {
         Place::Root | Place::Taken { .. } => Ok(Reply::Exist),
@@ -217,6 +224,7 @@ fn linked_to(tree: &mut Tree, birth: u64, to: &[Name]) -> Result<Reply, NoMemory
 pub fn link(tree: &mut Tree, path: &[Name], to: &[Name]) -> Result<Reply, NoMemory>
     ensures ok { IfOk result (λ reply. linked tree.old (place tree.old path.now) (place tree.old to.now) ≡ gives tree.new reply) }
     ensures err { OnErr result (tree.new ≡ tree.old) }
+    ensures proper { IfOk result IsProperReply }
 {
     match place_from(tree, ROOT, path) {
         Place::Root => Ok(Reply::IsDir),

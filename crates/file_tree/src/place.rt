@@ -1,6 +1,7 @@
 // Where the names of a path lead.
 ghost use Rattle.std.specs.Prelude.{◌≡◌, ◌==◌, ℕ, Option, Some, List, IfOk};
 ghost use Rattle.std.specs.List.{list_any};
+ghost use Rattle.script_definitions.specs.SaidReading.{IsProperReply};
 ghost use Rattle.tree_definitions.specs.Place.{place, place_in, place_from, walked_from};
 ghost use Rattle.tree_definitions.specs.declared.cells.Cell.{Cell};
 ghost use Rattle.tree_definitions.specs.declared.node.Node.{Node};
@@ -32,6 +33,7 @@ impl Refusal {
     pub fn reply(self) -> Reply
         ensures is { result ≡ reply_of self }
         ensures plain { answer_of result ≡ Plain result }
+        ensures proper { IsProperReply result }
     {
         match self {
             Refusal::NoEnt => Reply::NoEnt,

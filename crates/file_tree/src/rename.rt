@@ -1,5 +1,6 @@
 // The operation rename.
 ghost use Rattle.std.specs.Prelude.{◌≡◌, ℕ, true, false, IfOk, IsSome, OnErr};
+ghost use Rattle.script_definitions.specs.SaidReading.{IsProperReply};
 ghost use Rattle.tree_definitions.specs.declared.node.Node.TheVariants.{Dir};
 ghost use Rattle.tree_definitions.specs.Entries.{Entries as TheEntries, entry_at, with_entry, without_entry};
 ghost use Rattle.tree_definitions.specs.Tree.{node_at};
@@ -63,7 +64,8 @@ fn put_onto(tree: &mut Tree, what: &Named, onto: &Named)
 fn moved_onto(tree: &mut Tree, what: &Named, onto: &Named) -> Reply
     requires what { IsNamed tree.old what.now }
     requires onto { IsNamed tree.old onto.now }
-    ensures { moved_onto tree.old what.now.dir what.now.name.now what.now.birth onto.now.dir onto.now.name.now onto.now.birth ≡ gives tree.new result }
+    ensures is { moved_onto tree.old what.now.dir what.now.name.now what.now.birth onto.now.dir onto.now.name.now onto.now.birth ≡ gives tree.new result }
+    ensures proper { IsProperReply result }
 {
     if onto.birth == what.birth {
         return Reply::Ok;
@@ -118,6 +120,7 @@ fn moved_to(tree: &mut Tree, what: &Named, to: u64, new: &Name) -> Result<Reply,
     requires to { is_dir (node_at tree.old to) ≡ true }
     ensures ok { IfOk result (λ reply. (entries : TheEntries) (blocks : ℕ) → node_at tree.old to ≡ Some (Dir entries blocks) → moved_to tree.old what.now.dir what.now.name.now what.now.birth to entries blocks new.now ≡ gives tree.new reply) }
     ensures err { OnErr result (tree.new ≡ tree.old) }
+    ensures proper { IfOk result IsProperReply }
 {
     if what.dir == to {
         moved_within(tree, what, new)?;
@@ -151,6 +154,7 @@ fn renamed_to(tree: &mut Tree, what: &Named, to: &[Name]) -> Result<Reply, NoMem
     requires { IsNamed tree.old what.now }
     ensures ok { IfOk result (λ reply. renamed_to tree.old what.now.dir what.now.name.now what.now.birth to.now (place tree.old to.now) ≡ gives tree.new reply) }
     ensures err { OnErr result (tree.new ≡ tree.old) }
+    ensures proper { IfOk result IsProperReply }
 {
     match place_from(tree, ROOT, to) {
         Place::Root => Ok(Reply::Inval),
@@ -180,6 +184,7 @@ fn renamed_to(tree: &mut Tree, what: &Named, to: &[Name]) -> Result<Reply, NoMem
 fn renamed_from(tree: &mut Tree, path: &[Name], to: &[Name]) -> Result<Reply, NoMemory>
     ensures ok { IfOk result (λ reply. renamed_from tree.old (place tree.old path.now) to.now ≡ gives tree.new reply) }
     ensures err { OnErr result (tree.new ≡ tree.old) }
+    ensures proper { IfOk result IsProperReply }
 {
     match place_from(tree, ROOT, path) {
         Place::Root => Ok(Reply::Inval),
@@ -201,6 +206,7 @@ fn renamed_from(tree: &mut Tree, path: &[Name], to: &[Name]) -> Result<Reply, No
 pub fn rename(tree: &mut Tree, path: &[Name], to: &[Name]) -> Result<Reply, NoMemory>
     ensures ok { IfOk result (λ reply. renamed tree.old path.now to.now ≡ gives tree.new reply) }
     ensures err { OnErr result (tree.new ≡ tree.old) }
+    ensures proper { IfOk result IsProperReply }
 {
     match (path, to) {
         ([], _) | ([_, ..], []) => Ok(Reply::Inval),

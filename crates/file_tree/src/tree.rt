@@ -1,10 +1,12 @@
 // The tree of files.
-ghost use Rattle.std.specs.Prelude.{◌≡◌, ◌≤◌, ◌+◌, ◌-◌, ◌*◌, IfOk, IfSome, IsSome, OnOk, OnErr, None, nat_lt};
+ghost use Rattle.std.specs.Prelude.{◌^◌, min, sum_by, ◌≡◌, ◌≤◌, ◌+◌, ◌-◌, ◌*◌, IfOk, IfSome, IsSome, OnOk, OnErr, None, nat_lt};
 ghost use Rattle.std.specs.Option.{option_copied};
-ghost use Rattle.tree_definitions.specs.Tree.{FileTree, fresh, node_at, with_node, without_node, count_of, dir_blocks, file_blocks, inodes_full, blocks_full, larges_full, lacks_block};
+ghost use Rattle.std.specs.Map.{values_of};
+ghost use Rattle.tree_definitions.specs.Tree.{FileTree, fresh, node_at, with_node, without_node, count_of, dir_blocks, file_blocks, large_blocks, inodes_full, blocks_full, larges_full, lacks_block};
 ghost use Rattle.tree_definitions.specs.TreeLines.{tree_lines};
 ghost use Rattle.tree_edits.specs.Edits.{without_name, with_name, with_blocks, with_links, with_cells, with_first, edited, CanPut, Names};
 ghost use Rattle.tree_edits.specs.Written.{cells_of};
+ghost use Rattle.file_tree.specs.Proper.{HasTarget, HasTargets, AreProper};
 
 use crate::lines::lines_from;
 use crate::place::ROOT;
@@ -28,12 +30,29 @@ pub struct Tree {
 impl Model for Tree {
     ghost use Rattle.tree_definitions.specs.Tree.{FileTree};
     ghost use Rattle.tree_edits.specs.Counts.{IsCounted};
+    ghost use Rattle.file_tree.specs.Proper.{HasTargets};
 
     ghost Value = { FileTree };
 
     ghost view = { λ t. record { segments = t.segments; nodes = t.nodes.entries } };
 
-    ghost invariant = { λ t. IsCounted t.taken (record { segments = t.segments; nodes = t.nodes.entries }) };
+    ghost invariant = { λ t. IsCounted t.taken (record { segments = t.segments; nodes = t.nodes.entries }) × HasTargets (record { segments = t.segments; nodes = t.nodes.entries }) };
+}
+
+// What nodes take of the disk.
+fn taken_by(nodes: &BTreeMap<u64, Node>) -> Blocks
+    ensures files { result.files ≡ min (sum_by file_blocks (values_of nodes.now.entries)) (2 ^ 64 - 1) }
+    ensures dirs { result.dirs ≡ min (sum_by dir_blocks (values_of nodes.now.entries)) (2 ^ 64 - 1) }
+    ensures larges { result.larges ≡ min (sum_by large_blocks (values_of nodes.now.entries)) (2 ^ 64 - 1) }
+{
+    let mut taken = Blocks::NONE;
+    for node in nodes.values() {
+        let blocks = Blocks::of(node);
+        taken.files = taken.files.saturating_add(blocks.files);
+        taken.dirs = taken.dirs.saturating_add(blocks.dirs);
+        taken.larges = taken.larges.saturating_add(blocks.larges);
+    }
+    taken
 }
 
 impl Tree {
@@ -58,6 +77,21 @@ impl Tree {
         })
     }
 
+    /// The tree of these nodes, on a disk of so many segments that has room for them.
+    pub fn of(alloc: Global, segments: u32, nodes: BTreeMap<u64, Node>) -> Tree
+        requires within { IsWithin (record { segments = segments; nodes = nodes.entries }) }
+        requires targets { HasTargets (record { segments = segments; nodes = nodes.entries }) }
+        ensures { result ≡ record { segments = segments; nodes = nodes.entries } }
+    {
+        let taken = taken_by(&nodes);
+        Tree {
+            alloc,
+            segments,
+            nodes,
+            taken,
+        }
+    }
+
     /// The allocator of what is made.
     pub(crate) fn alloc(&self) -> Global {
         self.alloc
@@ -67,6 +101,7 @@ impl Tree {
     pub(crate) fn node(&self, birth: u64) -> Option<&Node>
         ensures is { option_copied result ≡ node_at self.now birth }
         ensures within { IsWithin self.now }
+        ensures target { IfSome (node_at self.now birth) HasTarget }
     {
         self.nodes.get(&birth)
     }
@@ -123,7 +158,8 @@ impl Tree {
     /// A birth gets this node, in place of one that it may have. `NoMemory` comes only where it has none, and leaves the tree as
     /// before.
     pub(crate) fn put(&mut self, birth: u64, node: Node) -> Result<(), NoMemory>
-        requires { HasRoom self.old birth (blocks_of node) }
+        requires room { HasRoom self.old birth (blocks_of node) }
+        requires target { HasTarget node }
         ensures ok { OnOk result (self.new ≡ with_node self.old birth node) }
         ensures swapped { IsSwapped self.old.nodes birth self.new.nodes }
         ensures err { OnErr result (self.new ≡ self.old) }
@@ -140,6 +176,7 @@ impl Tree {
     pub(crate) fn replace(&mut self, birth: u64, node: Node)
         requires there { IsSome (node_at self.old birth) }
         requires room { HasRoom self.old birth (blocks_of node) }
+        requires target { HasTarget node }
         ensures { self.new ≡ with_node self.old birth node }
     {
         match self.put(birth, node) {
@@ -224,7 +261,8 @@ impl Tree {
 
     /// The lines of the tree, from the root: each directory before its entries, entries in order of their bytes.
     pub fn lines(&self) -> Result<Vec<Said>, NoMemory>
-        ensures { IfOk result (λ lines. lines.items ≡ tree_lines self.now) }
+        ensures is { IfOk result (λ lines. lines.items ≡ tree_lines self.now) }
+        ensures proper { IfOk result (λ lines. AreProper lines.items) }
     {
         let mut lines = Vec::new(self.alloc);
         let root = Text::new(self.alloc);

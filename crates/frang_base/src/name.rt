@@ -1,5 +1,5 @@
 // A name of a directory's entry. It lies in an array, so that it takes no memory.
-ghost use Rattle.std.specs.Prelude.{◌≡◌, if◌then◌else◌, length};
+ghost use Rattle.std.specs.Prelude.{◌≡◌, if◌then◌else◌, length, IsTrue};
 ghost use Rattle.std.specs.List.{list_all};
 ghost use Rattle.frang_base.specs.Name.{is_dots, is_name, is_name_byte};
 ghost use Rattle.std.proofs.Common.{rules};
@@ -82,6 +82,14 @@ impl Name {
         ensures { result.now ≡ self.now }
     {
         &self.bytes[..self.len]
+    }
+
+    /// The number of bytes. They are those of a name.
+    pub fn len(&self) -> usize
+        ensures len { result ≡ length self.now }
+        ensures name { IsTrue (is_name self.now) }
+    {
+        self.len
     }
 
     /// Another name of the same bytes. It takes no memory.

@@ -1,10 +1,11 @@
 -- What an entry of a history does to a tree, by the steps that do it again.
-use Rattle.std.specs.Prelude.{ℕ, Bool, true, false, if◌then◌else◌, nat_le, List, length}
+use Rattle.std.specs.Prelude.{ℕ, Bool, true, false, if◌then◌else◌, List}
 use Rattle.std.specs.List.{list_all}
 use Rattle.frang_base.specs.declared.op.Op.{Op}
 use Rattle.frang_base.specs.declared.op.Op.TheVariants as op
 use Rattle.frang_base.specs.declared.reply.Reply.{Reply}
 use Rattle.frang_base.specs.declared.reply.Reply.TheVariants as reply
+use Rattle.script_definitions.specs.SaidReading.{is_target}
 use Rattle.tree_definitions.specs.declared.history.Entry.{Entry}
 use Rattle.tree_definitions.specs.declared.history.Item.{Item}
 use Rattle.tree_definitions.specs.declared.history.Item.TheVariants.{Did, Recovered}
@@ -22,9 +23,9 @@ after_reading tree path off len _ = tree
 abbrev pub after_redo : FileTree → Entry → FileTree
 after_redo tree e = if agrees (applied tree e).answer e.reply then (applied tree e).tree else tree
 
--- an operation in the grammar of scripts: a target isn't longer than it allows
+-- an operation whose target, where it has one, is in the grammar of scripts
 abbrev pub is_within : Op → Bool
-is_within (op.Symlink path target) = nat_le (length target) 384
+is_within (op.Symlink path target) = is_target target
 is_within _ = true
 
 -- an entry of such an operation

@@ -1,7 +1,7 @@
 // The history that is read off the lines said.
-ghost use Rattle.std.specs.Prelude.{◌≡◌, ◌++◌, IfOk, OnOk};
+ghost use Rattle.std.specs.Prelude.{◌≡◌, ◌++◌, IfOk, OnOk, OnErr};
 ghost use Rattle.std.specs.Option.{option_copied};
-ghost use Rattle.tree_definitions.specs.Live.{item_of, item_of_line, line_of, live_history};
+ghost use Rattle.tree_definitions.specs.Live.{item_of, item_of_line, line_of, live_history, drop_after};
 
 use frang_base::{Line, NoMemory, OpNo, Reply, Said, Script, ServerId, What};
 use std::alloc::Global;
@@ -106,6 +106,16 @@ impl History {
             push_item(lines, run, one, &mut items)?;
         }
         Ok(History { items })
+    }
+
+    /// Adds a recovery of a server's log, whose greatest operation number was this one, or 0 where it had none. After `NoMemory`
+    /// the history is as before.
+    pub fn drop_after(&mut self, server: ServerId, keeps: OpNo) -> Result<(), NoMemory>
+        ensures ok { OnOk result (self.new ≡ drop_after self.old server keeps.0) }
+        ensures err { OnErr result (self.new ≡ self.old) }
+    {
+        self.items.push(Item::Recovered { server, keeps })?;
+        Ok(())
     }
 
     /// All items, the oldest first.

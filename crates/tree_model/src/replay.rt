@@ -1,5 +1,7 @@
 // The tree after an entry, and after a history.
 ghost use Rattle.std.specs.Prelude.{◌≡◌, OnOk, OnErr, IfOk, IsTrue};
+ghost use Rattle.std.specs.List.{list_all};
+ghost use Rattle.script_definitions.specs.SaidReading.{is_target_byte, is_target};
 ghost use Rattle.tree_definitions.specs.Removal.{tree_from};
 ghost use Rattle.tree_definitions.specs.History.{may_be_ok, leaves_tree, told_blocks, tree_after};
 ghost use Rattle.file_tree.specs.CanApply.{CanApply};
@@ -9,6 +11,9 @@ use crate::agree::same_reply;
 use crate::{History, Tree};
 use frang_base::{Name, NoMemory, Op, Reply};
 use tree_definitions::{Entry, Item};
+
+/// Bytes of a symbolic link's target, at most.
+const TARGET_BYTES_MAX: usize = 384;
 
 fn may_be_ok(op: &Op) -> bool
     ensures { result ≡ may_be_ok op.now }
@@ -93,11 +98,29 @@ fn step(tree: &mut Tree, entry: &Entry) -> Result<(), NoMemory>
     }
 }
 
+fn is_target_byte(byte: u8) -> bool
+    ensures { result ≡ is_target_byte byte }
+{
+    byte > 32 && byte != 127
+}
+
+fn all_target_bytes(bytes: &[u8]) -> bool
+    ensures { result ≡ list_all is_target_byte bytes.now }
+{
+    bytes.iter().all(|byte| is_target_byte(*byte))
+}
+
+fn is_target(bytes: &[u8]) -> bool
+    ensures { result ≡ is_target bytes.now }
+{
+    !bytes.is_empty() && bytes.len() <= TARGET_BYTES_MAX && all_target_bytes(bytes)
+}
+
 fn is_within(op: &Op) -> bool
     ensures { result ≡ is_within op.now }
 {
     match op {
-        Op::Symlink { target, .. } => target.len() <= 384,
+        Op::Symlink { target, .. } => is_target(target.as_slice()),
         _ => true,
     }
 }
@@ -112,7 +135,7 @@ fn is_did(item: &Item) -> bool
 }
 
 impl History {
-    /// Whether the tree can be computed so far: the history has no recoveries, and its targets are no longer than a script allows.
+    /// Whether the tree can be computed so far: the history has no recoveries, and its targets are in the grammar of scripts.
     pub fn is_simple(&self) -> bool
         ensures { result ≡ all_did self.now }
     {

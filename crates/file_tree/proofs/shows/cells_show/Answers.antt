@@ -1,4 +1,4 @@
-use Rattle.std.proofs.Common.{◌≡◌, ◌<◌, length, drop, sym, ◌∙◌, arith}
+use Rattle.std.proofs.Common.{◌<◌, length, drop, sym, ◌∙◌, arith}
 use Rattle.std.proofs.lemmas.List.{length-drop}
 use Rattle.file_tree.proofs.Showing.{too_few}
 use Rattle.file_tree.proofs.shows.cells_show.Goals as goal

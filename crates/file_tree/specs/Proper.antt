@@ -1,0 +1,34 @@
+-- What a tree holds can be said: targets are targets, and the text of a path is one.
+use Rattle.std.specs.Prelude.{◌≡◌, ℕ, Bool, true, ◌&&◌, ◌==◌, if◌then◌else◌, IsTrue, List, [], ◌∷◌}
+use Rattle.std.specs.List.{list_all, slice_split}
+use Rattle.frang_base.specs.Name.{is_name}
+use Rattle.frang_base.specs.declared.said.Said.{Said}
+use Rattle.script_definitions.specs.SaidReading.{is_target, IsProperSaid}
+use Rattle.tree_definitions.specs.declared.node.Node.{Node}
+use Rattle.tree_definitions.specs.declared.node.Node.TheVariants.{Dir, File, Link}
+use Rattle.tree_definitions.specs.Tree.{FileTree, count_of}
+
+-- 1 for a symbolic link to what is no target, else 0
+abbrev pub odd_target : Node → ℕ
+odd_target (Link target links) = if is_target target then 0 else 1
+odd_target (Dir entries blocks) = 0
+odd_target (File cells links) = 0
+
+-- every symbolic link has a target
+abbrev pub HasTargets : FileTree → Type 0
+HasTargets tree = count_of odd_target tree ≡ 0
+
+-- a symbolic link's target is one
+abbrev pub HasTarget : Node → Type 0
+HasTarget (Link target links) = IsTrue (is_target target)
+HasTarget _ = Unit {0}
+
+-- nothing, or `/` before each of some names: the text of a path from the root, whose own is empty
+abbrev pub is_below : List ℕ → Bool
+is_below [] = true
+is_below (b ∷ text) = b == 47 && list_all is_name (slice_split (λ d. d == 47) text)
+
+-- lines that can be said
+abbrev pub AreProper : List Said → Type 0
+AreProper [] = Unit {0}
+AreProper (said ∷ lines) = IsProperSaid said × AreProper lines
