@@ -3,3 +3,4 @@ pub mod Fits
 pub mod Marks
 pub mod Files
 pub mod Names
+pub mod Reach

@@ -8,6 +8,7 @@ mod links;
 mod marks;
 mod nodes;
 mod owners;
+mod reached;
 mod sectors;
 
 pub use disk_definitions::Disk;

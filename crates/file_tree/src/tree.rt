@@ -1,12 +1,11 @@
 // The tree of files.
-ghost use Rattle.std.specs.Prelude.{◌^◌, min, sum_by, ◌≡◌, ◌≤◌, ◌+◌, ◌-◌, ◌*◌, IfOk, IfSome, IsSome, OnOk, OnErr, None, nat_lt};
+ghost use Rattle.std.specs.Prelude.{◌≡◌, ◌≤◌, ◌+◌, ◌-◌, ◌*◌, IfOk, IfSome, IsSome, OnOk, OnErr, None, nat_lt};
 ghost use Rattle.std.specs.Option.{option_copied};
-ghost use Rattle.std.specs.Map.{values_of};
-ghost use Rattle.tree_definitions.specs.Tree.{FileTree, fresh, node_at, with_node, without_node, count_of, dir_blocks, file_blocks, large_blocks, inodes_full, blocks_full, larges_full, lacks_block};
+ghost use Rattle.tree_definitions.specs.Tree.{FileTree, fresh, node_at, with_node, without_node, count_of, dir_blocks, file_blocks, inodes_full, blocks_full, larges_full, lacks_block};
 ghost use Rattle.tree_definitions.specs.TreeLines.{tree_lines};
 ghost use Rattle.tree_edits.specs.Edits.{without_name, with_name, with_blocks, with_links, with_cells, with_first, edited, CanPut, Names};
 ghost use Rattle.tree_edits.specs.Written.{cells_of};
-ghost use Rattle.file_tree.specs.Proper.{HasTarget, HasTargets, AreProper};
+ghost use Rattle.file_tree.specs.Proper.{HasTarget, AreProper};
 
 use crate::lines::lines_from;
 use crate::place::ROOT;
@@ -39,22 +38,6 @@ impl Model for Tree {
     ghost invariant = { λ t. IsCounted t.taken (record { segments = t.segments; nodes = t.nodes.entries }) × HasTargets (record { segments = t.segments; nodes = t.nodes.entries }) };
 }
 
-// What nodes take of the disk.
-fn taken_by(nodes: &BTreeMap<u64, Node>) -> Blocks
-    ensures files { result.files ≡ min (sum_by file_blocks (values_of nodes.now.entries)) (2 ^ 64 - 1) }
-    ensures dirs { result.dirs ≡ min (sum_by dir_blocks (values_of nodes.now.entries)) (2 ^ 64 - 1) }
-    ensures larges { result.larges ≡ min (sum_by large_blocks (values_of nodes.now.entries)) (2 ^ 64 - 1) }
-{
-    let mut taken = Blocks::NONE;
-    for node in nodes.values() {
-        let blocks = Blocks::of(node);
-        taken.files = taken.files.saturating_add(blocks.files);
-        taken.dirs = taken.dirs.saturating_add(blocks.dirs);
-        taken.larges = taken.larges.saturating_add(blocks.larges);
-    }
-    taken
-}
-
 impl Tree {
     ghost use Rattle.tree_edits.specs.Counts.{blocks_of, IsSwapped, IsWithin, HasRoom};
 
@@ -75,21 +58,6 @@ impl Tree {
             nodes,
             taken: Blocks::NONE,
         })
-    }
-
-    /// The tree of these nodes, on a disk of so many segments that has room for them.
-    pub fn of(alloc: Global, segments: u32, nodes: BTreeMap<u64, Node>) -> Tree
-        requires within { IsWithin (record { segments = segments; nodes = nodes.entries }) }
-        requires targets { HasTargets (record { segments = segments; nodes = nodes.entries }) }
-        ensures { result ≡ record { segments = segments; nodes = nodes.entries } }
-    {
-        let taken = taken_by(&nodes);
-        Tree {
-            alloc,
-            segments,
-            nodes,
-            taken,
-        }
     }
 
     /// The allocator of what is made.
