@@ -6,3 +6,4 @@ pub mod Read
 pub mod Linked
 pub mod ReachLaws
 pub mod NamesFound
+pub mod Tested

@@ -4,3 +4,4 @@ pub mod Marks
 pub mod Files
 pub mod Names
 pub mod Reach
+pub mod Tests

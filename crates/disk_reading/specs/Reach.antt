@@ -66,3 +66,26 @@ is_closed_at flags at d = not (flag_at flags d) || names_flagged flags (at d)
 
 abbrev pub is_closed : List Bool → Nodes → Bool
 is_closed flags at = all_below (length flags) (is_closed_at flags at)
+
+-- what nodes name lies below
+abbrev pub AreNamedBelow : Nodes → ℕ → Type 0
+AreNamedBelow at n = (d v : ℕ) → names_at (at d) v ≡ true → v < n
+
+-- flags that grew, of what is reached, and closed
+pub record HasClosed (at : Nodes) (before after : List Bool) : Type 0 where
+  pub long : length after ≡ length before
+  pub reached : AreReached at after
+  pub grows : (k : ℕ) → flag_at before k ≡ true → flag_at after k ≡ true
+  pub closed : is_closed after at ≡ true
+
+-- how many have no flag
+abbrev pub unflagged : List Bool → ℕ
+unflagged [] = 0
+unflagged (true ∷ flags) = unflagged flags
+unflagged (false ∷ flags) = unflagged flags + 1
+
+-- flags that grew, of what is reached
+pub record IsOnTheWay (at : Nodes) (before after : List Bool) : Type 0 where
+  pub long : length after ≡ length before
+  pub reached : AreReached at after
+  pub grows : (k : ℕ) → flag_at before k ≡ true → flag_at after k ≡ true

@@ -2,8 +2,11 @@
 ghost use Rattle.std.specs.Prelude.{◌≡◌, ◌≤◌, ◌<◌, ◌*◌, ◌/◌, ◌%◌, not, is_some};
 ghost use Rattle.standing_laws.specs.Below.{all_below};
 ghost use Rattle.standing_laws.specs.Soundness as sound;
+ghost use Rattle.disk_definitions.specs.Disks.{sectors_of};
 ghost use Rattle.disk_reading.specs.Seen.{store_in, use_of_state};
+ghost use Rattle.disk_reading.specs.Tests as tests;
 
+use crate::grammar::sectors_fit;
 use crate::sectors::{
     BLOCKS_A_SEGMENT, INODES_A_SEGMENT, PLACES_A_BLOCK, bit_of, entry_at, large_bit, use_of,
     used_inode,
@@ -178,4 +181,28 @@ fn larges_marked(disk: &Disk, segments: u32) -> bool
         all = all && is_marked(disk, segments, large_at(disk, segments, i));
     }
     all
+}
+
+// Whether inode 0 is a directory's.
+fn is_rooted(disk: &Disk, segments: u32) -> bool
+    requires { segments ≤ 64 }
+    ensures { result ≡ sound.has_kind ((store_in segments disk.now).inode 0) 2 }
+{
+    match used_inode(disk, segments, 0) {
+        Some(inode) => inode.kind == DIRECTORY,
+        None => false,
+    }
+}
+
+/// Whether the sectors are in their grammar, with versions up to `most`, and the bitmaps agree with the inodes.
+pub(crate) fn marks_agree(disk: &Disk, most: u64, segments: u32) -> bool
+    requires { segments ≤ 64 }
+    ensures { result ≡ tests.marks_agree most segments (store_in segments disk.now) (sectors_of disk.now) }
+{
+    sectors_fit(disk, most, segments)
+        && bits_agree(disk, segments)
+        && uses_agree(disk, segments)
+        && blocks_cleared(disk, segments)
+        && larges_marked(disk, segments)
+        && is_rooted(disk, segments)
 }
