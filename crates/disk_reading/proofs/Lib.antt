@@ -7,3 +7,4 @@ pub mod Linked
 pub mod ReachLaws
 pub mod NamesFound
 pub mod Tested
+pub mod Assembled

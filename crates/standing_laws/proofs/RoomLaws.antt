@@ -104,20 +104,22 @@ module _ (s : Store) (shapes : (i : ℕ) (x : StoredNode) → s.inode i ≡ Some
 never_fresh : (kind : ℕ) (u : Use) → is_used_for kind u ≡ true → u ≡ Fresh → ⊥
 never_fresh kind u h e = let z : is_used_for kind Fresh ≡ true = sym (ap (is_used_for kind) e) ∙ h in cc
 
-module _ (segments : ℕ) (s : Store) (range : IsInRange segments s) (shapes : (i : ℕ) (x : StoredNode) → s.inode i ≡ Some x → Shape x) (c : IsConsistent segments s) where
-  small_below : (t k : ℕ) → t < 1024 * segments → block_at s t ≡ Some k → k < 1024 * segments
-  small_below t k l e = ⊎_elim (λ w. w)
+-- what is listed lies below the segments, where uses and marks agree
+module _ (segments : ℕ) (s : Store) (range : IsInRange segments s) where
+  pub small_below : all_below (1024 * segments) (λ t. use_agrees s (s.inode (t / 16)) (t % 16)) ≡ true → (t k : ℕ) → t < 1024 * segments → block_at s t ≡ Some k → k < 1024 * segments
+  small_below uses t k l e = ⊎_elim (λ w. w)
       (λ w. (let a = in_slot (s.inode (t / 16)) (t % 16) k e in
-      let h : use_agrees s (s.inode (t / 16)) (t % 16) ≡ true = all_at (1024 * segments) (λ t. use_agrees s (s.inode (t / 16)) (t % 16)) c.uses t l in
+      let h : use_agrees s (s.inode (t / 16)) (t % 16) ≡ true = all_at (1024 * segments) (λ t. use_agrees s (s.inode (t / 16)) (t % 16)) uses t l in
       let g : use_agrees s (Some a.0) (t % 16) ≡ true = sym (ap (λ o. use_agrees s o (t % 16)) a.1) ∙ h in
       let u : is_used_for a.0.kind (s.use_of (a.0.small (t % 16))) ≡ true = sym (cond-true (nat_lt (t % 16) a.0.blocks) (is_used_for a.0.kind (s.use_of (a.0.small (t % 16)))) true (lt-ltb (t % 16) a.0.blocks a.2)) ∙ g in
       absurd (never_fresh a.0.kind (s.use_of (a.0.small (t % 16))) u (ap s.use_of a.3 ∙ range.uses k w)))) (cases_lt k (1024 * segments))
 
-  large_below : (i g : ℕ) → i < 64 * segments → large_at s i ≡ Some g → g < segments
-  large_below i g l e = ⊎_elim (λ w. w)
-      (λ w. absurd (let h : is_marked s (large_at s i) ≡ true = all_at (64 * segments) (λ i. is_marked s (large_at s i)) c.large_marked i l in
+  pub large_below : all_below (64 * segments) (λ i. is_marked s (large_at s i)) ≡ true → (i g : ℕ) → i < 64 * segments → large_at s i ≡ Some g → g < segments
+  large_below marked i g l e = ⊎_elim (λ w. w)
+      (λ w. absurd (let h : is_marked s (large_at s i) ≡ true = all_at (64 * segments) (λ i. is_marked s (large_at s i)) marked i l in
       let b : s.large_bit g ≡ true = sym (ap (is_marked s) e) ∙ h in both_ways (s.large_bit g) (range.larges g w) b)) (cases_lt g segments)
 
+module _ (segments : ℕ) (s : Store) (range : IsInRange segments s) (shapes : (i : ℕ) (x : StoredNode) → s.inode i ≡ Some x → Shape x) (c : IsConsistent segments s) where
   target_fits : (b : ℕ) (target : List ℕ) (links : ℕ) → node_at (tree_in segments s) b ≡ Some (Link target links) → (1 ≤ length target) × (length target ≤ 384) × (list_all is_target_byte target ≡ true)
   target_fits b target links h =
       let k = known segments s range shapes c b (ap is_some h) in
@@ -138,9 +140,9 @@ module _ (segments : ℕ) (s : Store) (range : IsInRange segments s) (shapes : (
   fits_disk = record {
     small = (
         let e : 16 * (64 * segments) ≡ 1024 * segments = omega arith in
-        let a : how_many (block_at s) (1024 * segments) ≤ 1024 * segments = at_most (block_at s) (1024 * segments) (1024 * segments) c.once small_below in
+        let a : how_many (block_at s) (1024 * segments) ≤ 1024 * segments = at_most (block_at s) (1024 * segments) (1024 * segments) c.once (small_below segments s range c.uses) in
         subst (λ n. n ≤ 1024 * segments) (sym (smalls s shapes (64 * segments) ∙ ap (how_many (block_at s)) e)) a);
-    large = subst (λ n. n ≤ segments) (sym (larges s shapes (64 * segments))) (at_most (large_at s) (64 * segments) segments c.large_once large_below);
+    large = subst (λ n. n ≤ segments) (sym (larges s shapes (64 * segments))) (at_most (large_at s) (64 * segments) segments c.large_once (large_below segments s range c.large_marked));
     targets = target_fits;
   }
 
