@@ -1,5 +1,6 @@
 -- The tests together say that a disk is sound.
-use Rattle.std.proofs.Common.{◌==◌, ◌≡◌, ℕ, ◌+◌, ◌*◌, ◌/◌, ◌%◌, ◌<◌, ◌≤◌, ⊎_elim, Bool, true, false, not, ◌&&◌, ◌||◌, Option, Some, None, List, length, is_some, cond, refl, sym, ◌∙◌, ap, subst, arith}
+use Rattle.std.proofs.Common.{◌==◌, ◌≡◌, ℕ, ◌+◌, ◌*◌, ◌/◌, ◌%◌, ◌<◌, ◌≤◌, ⊎_elim, Bool, true, false, not, ◌&&◌, ◌||◌, Option, Some, None, List, length, is_some, cond, refl, sym, ◌∙◌, ap, subst, arith, MatchBool, Result, Ok, Err}
+use Rattle.std.specs.Prelude.{IfOk}
 use Rattle.std.specs.Option.{option_map}
 use Rattle.std.specs.List.Sorted.{IsStrictlySortedBy}
 use Rattle.std.specs.Map.{keys_of, values_of}
@@ -170,3 +171,13 @@ module _ (most segments : ℕ) (sectors : Sectors) where
         versions = f.versions;
         consistent = record { bits = p.bits; once = u.0; uses = p.uses; listed = u.1; cleared = p.cleared; large_once = v.0; large_marked = p.marked; large_listed = v.1; nodes = n; links = l; rooted = p.rooted; reached = r };
       }
+
+  -- what is reached decides, once all else agrees
+  pub sound_told : (nodes : List (ℕ × Node)) → nodes ≡ nodes_to s (64 * segments) → marks_agree most segments s sectors ≡ true → owners_agree segments s ≡ true → all_below (64 * segments) (λ i. node_agrees s (s.inode i)) ≡ true
+      → all_below (64 * segments) (is_linked nodes) ≡ true → (t : Bool) → MatchBool t (IsReached (nodes_at nodes)) (IsReached (nodes_at nodes) → ⊥) → IsSoundReading most segments sectors nodes t
+  sound_told nodes e m o n l true r = (sound_from m o n (ap (λ ns. all_below (64 * segments) (is_linked ns)) (sym e) ∙ l) (subst (λ ns. IsReached (nodes_at ns)) e r), e)
+  sound_told nodes e m o n l false r = λ h. r (subst (λ ns. IsReached (nodes_at ns)) (sym e) h.consistent.reached)
+
+pub if_ok_map : {E : Type 0} (r : Result Bool E) (P Q : Bool → Type 0) → ((b : Bool) → P b → Q b) → IfOk r P → IfOk r Q
+if_ok_map (Ok b) P Q f h = f b h
+if_ok_map (Err e) P Q f h = tt

@@ -8,6 +8,7 @@ mod links;
 mod marks;
 mod nodes;
 mod owners;
+mod read;
 mod reached;
 mod sectors;
 

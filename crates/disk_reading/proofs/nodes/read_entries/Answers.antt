@@ -4,7 +4,7 @@ use Rattle.std.specs.Option.{option_map}
 use Rattle.standing_laws.specs.ReadTree.{place_at, with_place}
 use Rattle.standing_laws.specs.Soundness.{entry_agrees}
 use Rattle.disk_reading.specs.Seen.{store_in, stored, entered}
-use Rattle.disk_reading.proofs.Read.{place_more, place_fails, OneMore}
+use Rattle.disk_reading.proofs.PlaceByPlace.{place_more, place_fails, OneMore}
 use Rattle.disk_reading.proofs.nodes.read_entries.Goals as goal
 
 pub returns-then-not-branch : goal.returns-then-not-branch
