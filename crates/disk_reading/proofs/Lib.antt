@@ -8,3 +8,4 @@ pub mod ReachLaws
 pub mod NamesFound
 pub mod Tested
 pub mod Assembled
+pub mod Treed

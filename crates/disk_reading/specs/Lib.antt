@@ -5,3 +5,4 @@ pub mod Files
 pub mod Names
 pub mod Reach
 pub mod Tests
+pub mod Reading

@@ -13,3 +13,4 @@ mod reached;
 mod sectors;
 
 pub use disk_definitions::Disk;
+pub use read::tree_read;
