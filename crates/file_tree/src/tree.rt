@@ -1,11 +1,12 @@
 // The tree of files.
-ghost use Rattle.std.specs.Prelude.{◌≡◌, ◌≤◌, ◌+◌, ◌-◌, ◌*◌, IfOk, IfSome, IsSome, OnOk, OnErr, None, nat_lt};
+ghost use Rattle.std.specs.Prelude.{◌^◌, min, sum_by, ◌≡◌, ◌≤◌, ◌+◌, ◌-◌, ◌*◌, IfOk, IfSome, IsSome, OnOk, OnErr, None, nat_lt};
 ghost use Rattle.std.specs.Option.{option_copied};
-ghost use Rattle.tree_definitions.specs.Tree.{FileTree, fresh, node_at, with_node, without_node, count_of, dir_blocks, file_blocks, inodes_full, blocks_full, larges_full, lacks_block};
+ghost use Rattle.std.specs.Map.{values_of};
+ghost use Rattle.tree_definitions.specs.Tree.{FileTree, fresh, node_at, with_node, without_node, count_of, dir_blocks, file_blocks, large_blocks, inodes_full, blocks_full, larges_full, lacks_block};
 ghost use Rattle.tree_definitions.specs.TreeLines.{tree_lines};
 ghost use Rattle.tree_edits.specs.Edits.{without_name, with_name, with_blocks, with_links, with_cells, with_first, edited, CanPut, Names};
 ghost use Rattle.tree_edits.specs.Written.{cells_of};
-ghost use Rattle.file_tree.specs.Proper.{HasTarget, AreProper};
+ghost use Rattle.file_tree.specs.Proper.{HasTarget, HasTargets, AreProper};
 
 use crate::lines::lines_from;
 use crate::place::ROOT;
@@ -38,6 +39,39 @@ impl Model for Tree {
     ghost invariant = { λ t. IsCounted t.taken (record { segments = t.segments; nodes = t.nodes.entries }) × HasTargets (record { segments = t.segments; nodes = t.nodes.entries }) };
 }
 
+// The small blocks of files.
+fn files_taken(nodes: &BTreeMap<u64, Node>) -> u64
+    ensures { result ≡ min (sum_by file_blocks (values_of nodes.now.entries)) (2 ^ 64 - 1) }
+{
+    let mut taken = 0u64;
+    for node in nodes.values() {
+        taken = taken.saturating_add(Blocks::of(node).files);
+    }
+    taken
+}
+
+// The small blocks of directories.
+fn dirs_taken(nodes: &BTreeMap<u64, Node>) -> u64
+    ensures { result ≡ min (sum_by dir_blocks (values_of nodes.now.entries)) (2 ^ 64 - 1) }
+{
+    let mut taken = 0u64;
+    for node in nodes.values() {
+        taken = taken.saturating_add(Blocks::of(node).dirs);
+    }
+    taken
+}
+
+// The large blocks.
+fn larges_taken(nodes: &BTreeMap<u64, Node>) -> u64
+    ensures { result ≡ min (sum_by large_blocks (values_of nodes.now.entries)) (2 ^ 64 - 1) }
+{
+    let mut taken = 0u64;
+    for node in nodes.values() {
+        taken = taken.saturating_add(Blocks::of(node).larges);
+    }
+    taken
+}
+
 impl Tree {
     ghost use Rattle.tree_edits.specs.Counts.{blocks_of, IsSwapped, IsWithin, HasRoom};
 
@@ -58,6 +92,25 @@ impl Tree {
             nodes,
             taken: Blocks::NONE,
         })
+    }
+
+    /// The tree of these nodes, on a disk of so many segments that has room for them.
+    pub fn of(alloc: Global, segments: u32, nodes: BTreeMap<u64, Node>) -> Tree
+        requires within { IsWithin (record { segments = segments; nodes = nodes.entries }) }
+        requires targets { HasTargets (record { segments = segments; nodes = nodes.entries }) }
+        ensures { result ≡ record { segments = segments; nodes = nodes.entries } }
+    {
+        let taken = Blocks {
+            files: files_taken(&nodes),
+            dirs: dirs_taken(&nodes),
+            larges: larges_taken(&nodes),
+        };
+        Tree {
+            alloc,
+            segments,
+            nodes,
+            taken,
+        }
     }
 
     /// The allocator of what is made.

@@ -1,0 +1,11 @@
+pub mod Decoded
+pub mod Flags
+pub mod Marked
+pub mod Cells
+pub mod PlaceByPlace
+pub mod Linked
+pub mod ReachLaws
+pub mod NamesFound
+pub mod Tested
+pub mod Assembled
+pub mod Treed

@@ -1,0 +1,26 @@
+-- Where the bytes of a file lie, sector by sector.
+use Rattle.std.specs.Prelude.{◌≡◌, ◌≤◌, ◌<◌, ℕ, ◌-◌, ◌*◌, ◌/◌, ◌%◌, Bool, true, false, if◌then◌else◌, nat_lt, Option, Some, None, List}
+use Rattle.sector_definitions.specs.declared.region.Region.TheVariants as region
+use Rattle.sector_definitions.specs.Regions.{sector_of}
+use Rattle.tree_definitions.specs.Entries.{Entries}
+use Rattle.disk_definitions.specs.Store.{Store, StoredNode, StoredEntry}
+use Rattle.standing_laws.specs.ReadTree.{entries_to, read_node, nodes_to}
+use Rattle.sector_definitions.specs.declared.inode.Inode.{Inode}
+use Rattle.sector_definitions.specs.Inodes.{inode_fits}
+use Rattle.tree_definitions.specs.declared.node.Node.{Node}
+use Rattle.standing_laws.specs.Below.{all_below}
+use Rattle.standing_laws.specs.Soundness.{entries_agree, node_agrees}
+
+-- the sector of 512 bytes of a file, counted from its start: the first 128 stand in small blocks, the others in the large one
+abbrev pub data_sector : StoredNode → ℕ → ℕ
+data_sector x part = if nat_lt part 128 then sector_of (region.Small (x.small (part / 8)) (part % 8)) else sector_of (region.Large (x.large - 1) (part - 128))
+
+-- the entries of the first n places, or that they don't agree
+abbrev pub AreRead : Store → (ℕ → Option StoredEntry) → ℕ → Option Entries → Type 0
+AreRead s place n None = entries_agree s place n ≡ false
+AreRead s place n (Some entries) = (entries_agree s place n ≡ true) × (entries ≡ entries_to place n)
+
+-- a node, or that what it holds isn't as long as its size says, or doesn't agree
+abbrev pub IsNode : Store → StoredNode → Option Node → Type 0
+IsNode s x None = node_agrees s (Some x) ≡ false
+IsNode s x (Some node) = (node_agrees s (Some x) ≡ true) × (node ≡ read_node s x)

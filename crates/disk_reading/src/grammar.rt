@@ -1,0 +1,107 @@
+// Whether the sectors of a disk are in their grammar, with versions up to the most.
+ghost use Rattle.std.specs.Prelude.{◌≡◌, ◌≤◌, ◌*◌, ◌<◌, ◌^◌};
+ghost use Rattle.disk_definitions.specs.Disks.{sectors_of};
+ghost use Rattle.standing_laws.specs.Below.{all_below};
+ghost use Rattle.disk_reading.specs.Seen.{store_in, use_of_state};
+ghost use Rattle.disk_reading.specs.Fits as fits;
+
+use crate::sectors::{
+    BLOCKS_A_SEGMENT, INODES_A_SEGMENT, PARTS_A_BLOCK, inode_sector, part_sector, segment_sector,
+    use_of,
+};
+use bitmap_block::BlockState;
+use byteorder::{ByteOrder, LittleEndian};
+use disk_definitions::Disk;
+
+#[tactic(auto, unfolding(crate::specs::Fits::segment_fits))]
+fn segment_fits(disk: &Disk, most: u64, k: u32) -> bool
+    ensures { result ≡ fits.segment_fits most (sectors_of disk.now) k }
+{
+    let block = disk.get(segment_sector(k));
+    bitmap_block::decode(&block).is_some() && LittleEndian::read_u64(&block) <= most
+}
+
+#[tactic(auto, unfolding(crate::specs::Fits::inode_fits))]
+fn inode_fits(disk: &Disk, most: u64, i: u32) -> bool
+    ensures { result ≡ fits.inode_fits most (sectors_of disk.now) i }
+{
+    let block = disk.get(inode_sector(i));
+    inode_block::decode(&block).is_some() && LittleEndian::read_u64(&block) <= most
+}
+
+#[tactic(auto, unfolding(crate::specs::Fits::part_fits))]
+fn part_fits(disk: &Disk, most: u64, block: u32, p: u32) -> bool
+    ensures { result ≡ fits.part_fits most (sectors_of disk.now) block p }
+{
+    let part = disk.get(part_sector(block, p));
+    dir_block::decode(&part).is_some() && LittleEndian::read_u64(&part) <= most
+}
+
+#[tactic(auto, using(standing_laws::proofs::Bounded::all_more))]
+fn parts_fit(disk: &Disk, most: u64, block: u32) -> bool
+    ensures { result ≡ all_below 8 (fits.part_fits most (sectors_of disk.now) block) }
+{
+    let mut all = true;
+    for p in 0..PARTS_A_BLOCK {
+        all = all && part_fits(disk, most, block, p);
+    }
+    all
+}
+
+fn block_fits(disk: &Disk, most: u64, state: BlockState, block: u32) -> bool
+    ensures { result ≡ fits.block_fits most (sectors_of disk.now) (use_of_state state) block }
+{
+    match state {
+        BlockState::Unused => true,
+        BlockState::FileBytes => true,
+        BlockState::FormerDirectory => parts_fit(disk, most, block),
+        BlockState::Directory => parts_fit(disk, most, block),
+    }
+}
+
+#[tactic(auto, using(standing_laws::proofs::Bounded::all_more))]
+fn segments_fit(disk: &Disk, most: u64, segments: u32) -> bool
+    requires { segments ≤ 64 }
+    ensures { result ≡ all_below segments (fits.segment_fits most (sectors_of disk.now)) }
+{
+    let mut all = true;
+    for k in 0..segments {
+        all = all && segment_fits(disk, most, k);
+    }
+    all
+}
+
+#[tactic(auto, using(standing_laws::proofs::Bounded::all_more))]
+fn inodes_fit(disk: &Disk, most: u64, segments: u32) -> bool
+    requires { segments ≤ 64 }
+    ensures { result ≡ all_below (64 * segments) (fits.inode_fits most (sectors_of disk.now)) }
+{
+    let mut all = true;
+    for i in 0..INODES_A_SEGMENT * segments {
+        all = all && inode_fits(disk, most, i);
+    }
+    all
+}
+
+#[tactic(auto, using(standing_laws::proofs::Bounded::all_more))]
+fn blocks_fit(disk: &Disk, most: u64, segments: u32) -> bool
+    requires { segments ≤ 64 }
+    ensures { result ≡ all_below (1024 * segments) (λ k. fits.block_fits most (sectors_of disk.now) ((store_in segments disk.now).use_of k) k) }
+{
+    let mut all = true;
+    for block in 0..BLOCKS_A_SEGMENT * segments {
+        all = all && block_fits(disk, most, use_of(disk, segments, block), block);
+    }
+    all
+}
+
+/// Whether every segment, every inode, and every sector of a block that is or was a directory's is in its grammar, with a version up
+/// to `most`.
+pub(crate) fn sectors_fit(disk: &Disk, most: u64, segments: u32) -> bool
+    requires { segments ≤ 64 }
+    ensures { result ≡ fits.sectors_fit most segments (store_in segments disk.now) (sectors_of disk.now) }
+{
+    segments_fit(disk, most, segments)
+        && inodes_fit(disk, most, segments)
+        && blocks_fit(disk, most, segments)
+}

@@ -1,0 +1,208 @@
+// What the bitmaps say of inodes and blocks, against what the inodes say.
+ghost use Rattle.std.specs.Prelude.{◌≡◌, ◌≤◌, ◌<◌, ◌*◌, ◌/◌, ◌%◌, not, is_some};
+ghost use Rattle.standing_laws.specs.Below.{all_below};
+ghost use Rattle.standing_laws.specs.Soundness as sound;
+ghost use Rattle.disk_definitions.specs.Disks.{sectors_of};
+ghost use Rattle.disk_reading.specs.Seen.{store_in, use_of_state};
+ghost use Rattle.disk_reading.specs.Tests as tests;
+
+use crate::grammar::sectors_fit;
+use crate::sectors::{
+    BLOCKS_A_SEGMENT, INODES_A_SEGMENT, PLACES_A_BLOCK, bit_of, entry_at, large_bit, use_of,
+    used_inode,
+};
+use bitmap_block::BlockState;
+use disk_definitions::Disk;
+use sector_definitions::Inode;
+
+/// Small blocks of an inode.
+pub(crate) const BLOCKS_AN_INODE: u32 = 16;
+/// The kind of a file, of a directory and of a link.
+pub(crate) const FILE: u8 = 1;
+
+pub(crate) const DIRECTORY: u8 = 2;
+
+pub(crate) const LINK: u8 = 3;
+
+fn bit_agrees(disk: &Disk, segments: u32, i: u32) -> bool
+    requires { segments ≤ 64 }
+    ensures { result ≡ sound.bit_agrees (store_in segments disk.now) i }
+{
+    let used = used_inode(disk, segments, i).is_some();
+    if bit_of(disk, segments, i) {
+        used
+    } else {
+        !used
+    }
+}
+
+/// The small block at an index of an inode, where it has one there.
+pub(crate) fn block_at(disk: &Disk, segments: u32, t: u32) -> Option<u32>
+    requires { segments ≤ 64 }
+    ensures { result ≡ sound.block_at (store_in segments disk.now) t }
+{
+    let inode = used_inode(disk, segments, t / BLOCKS_AN_INODE)?;
+    let j = t % BLOCKS_AN_INODE;
+    if j < u32::from(inode.blocks) {
+        Some(inode.small[j as usize])
+    } else {
+        None
+    }
+}
+
+/// The large block of an inode, where it has one.
+pub(crate) fn large_at(disk: &Disk, segments: u32, i: u32) -> Option<u32>
+    requires { segments ≤ 64 }
+    ensures { result ≡ sound.large_at (store_in segments disk.now) i }
+{
+    let inode = used_inode(disk, segments, i)?;
+    if 0 < inode.large {
+        Some(inode.large - 1)
+    } else {
+        None
+    }
+}
+
+fn is_used_for(kind: u8, state: BlockState) -> bool
+    ensures { result ≡ sound.is_used_for kind (use_of_state state) }
+{
+    match state {
+        BlockState::Unused => false,
+        BlockState::FormerDirectory => false,
+        BlockState::FileBytes => kind != DIRECTORY,
+        BlockState::Directory => kind == DIRECTORY,
+    }
+}
+
+fn use_agrees(disk: &Disk, segments: u32, t: u32) -> bool
+    requires { segments ≤ 64 }
+    ensures { result ≡ sound.use_agrees (store_in segments disk.now) ((store_in segments disk.now).inode (t / 16)) (t % 16) }
+{
+    let Some(inode) = used_inode(disk, segments, t / BLOCKS_AN_INODE) else {
+        return true;
+    };
+    let j = t % BLOCKS_AN_INODE;
+    if j < u32::from(inode.blocks) {
+        is_used_for(inode.kind, use_of(disk, segments, inode.small[j as usize]))
+    } else {
+        true
+    }
+}
+
+/// Whether no node uses a block of this state.
+pub(crate) fn is_unused(state: BlockState) -> bool
+    ensures { result ≡ sound.is_unused (use_of_state state) }
+{
+    match state {
+        BlockState::Unused => true,
+        BlockState::FormerDirectory => true,
+        BlockState::FileBytes => false,
+        BlockState::Directory => false,
+    }
+}
+
+#[tactic(auto, using(standing_laws::proofs::Bounded::all_more))]
+fn has_no_entries(disk: &Disk, segments: u32, block: u32) -> bool
+    requires { segments ≤ 64 }
+    ensures { result ≡ all_below 56 (λ p. not (is_some ((store_in segments disk.now).place block p))) }
+{
+    let mut all = true;
+    for p in 0..PLACES_A_BLOCK {
+        all = all && entry_at(disk, segments, block, p).is_none();
+    }
+    all
+}
+
+fn is_cleared(disk: &Disk, segments: u32, block: u32, state: BlockState) -> bool
+    requires { segments ≤ 64 }
+    ensures { result ≡ sound.is_cleared (store_in segments disk.now) block (use_of_state state) }
+{
+    match state {
+        BlockState::FormerDirectory => has_no_entries(disk, segments, block),
+        BlockState::Unused => true,
+        BlockState::FileBytes => true,
+        BlockState::Directory => true,
+    }
+}
+
+fn is_marked(disk: &Disk, segments: u32, g: Option<u32>) -> bool
+    requires { segments ≤ 64 }
+    ensures { result ≡ sound.is_marked (store_in segments disk.now) g }
+{
+    match g {
+        Some(g) => large_bit(disk, segments, g),
+        None => true,
+    }
+}
+
+#[tactic(auto, using(standing_laws::proofs::Bounded::all_more))]
+fn bits_agree(disk: &Disk, segments: u32) -> bool
+    requires { segments ≤ 64 }
+    ensures { result ≡ all_below (64 * segments) (sound.bit_agrees (store_in segments disk.now)) }
+{
+    let mut all = true;
+    for i in 0..INODES_A_SEGMENT * segments {
+        all = all && bit_agrees(disk, segments, i);
+    }
+    all
+}
+
+#[tactic(auto, using(standing_laws::proofs::Bounded::all_more))]
+fn uses_agree(disk: &Disk, segments: u32) -> bool
+    requires { segments ≤ 64 }
+    ensures { result ≡ all_below (1024 * segments) (λ t. sound.use_agrees (store_in segments disk.now) ((store_in segments disk.now).inode (t / 16)) (t % 16)) }
+{
+    let mut all = true;
+    for t in 0..BLOCKS_A_SEGMENT * segments {
+        all = all && use_agrees(disk, segments, t);
+    }
+    all
+}
+
+#[tactic(auto, using(standing_laws::proofs::Bounded::all_more))]
+fn blocks_cleared(disk: &Disk, segments: u32) -> bool
+    requires { segments ≤ 64 }
+    ensures { result ≡ all_below (1024 * segments) (λ k. sound.is_cleared (store_in segments disk.now) k ((store_in segments disk.now).use_of k)) }
+{
+    let mut all = true;
+    for block in 0..BLOCKS_A_SEGMENT * segments {
+        all = all && is_cleared(disk, segments, block, use_of(disk, segments, block));
+    }
+    all
+}
+
+#[tactic(auto, using(standing_laws::proofs::Bounded::all_more))]
+fn larges_marked(disk: &Disk, segments: u32) -> bool
+    requires { segments ≤ 64 }
+    ensures { result ≡ all_below (64 * segments) (λ i. sound.is_marked (store_in segments disk.now) (sound.large_at (store_in segments disk.now) i)) }
+{
+    let mut all = true;
+    for i in 0..INODES_A_SEGMENT * segments {
+        all = all && is_marked(disk, segments, large_at(disk, segments, i));
+    }
+    all
+}
+
+// Whether inode 0 is a directory's.
+fn is_rooted(disk: &Disk, segments: u32) -> bool
+    requires { segments ≤ 64 }
+    ensures { result ≡ sound.has_kind ((store_in segments disk.now).inode 0) 2 }
+{
+    match used_inode(disk, segments, 0) {
+        Some(inode) => inode.kind == DIRECTORY,
+        None => false,
+    }
+}
+
+/// Whether the sectors are in their grammar, with versions up to `most`, and the bitmaps agree with the inodes.
+pub(crate) fn marks_agree(disk: &Disk, most: u64, segments: u32) -> bool
+    requires { segments ≤ 64 }
+    ensures { result ≡ tests.marks_agree most segments (store_in segments disk.now) (sectors_of disk.now) }
+{
+    sectors_fit(disk, most, segments)
+        && bits_agree(disk, segments)
+        && uses_agree(disk, segments)
+        && blocks_cleared(disk, segments)
+        && larges_marked(disk, segments)
+        && is_rooted(disk, segments)
+}

@@ -1,0 +1,81 @@
+// The tree that a disk stands for.
+ghost use Rattle.std.specs.Prelude.{◌≡◌, ◌≤◌, ◌*◌, ◌/◌, ◌%◌, [], true, IfOk};
+ghost use Rattle.disk_definitions.specs.Disks.{sectors_of};
+ghost use Rattle.standing_laws.specs.Below.{all_below};
+ghost use Rattle.standing_laws.specs.Soundness as sound;
+ghost use Rattle.disk_reading.specs.Reading.{IsReading};
+ghost use Rattle.disk_reading.specs.Seen.{store_in};
+ghost use Rattle.disk_reading.specs.Tests as tests;
+
+use crate::links::links_agree;
+use crate::marks::marks_agree;
+use crate::nodes::add_nodes;
+use crate::owners::{blocks_agree, larges_agree};
+use crate::reached::all_reached;
+use crate::sectors::INODES_A_SEGMENT;
+use disk_definitions::Disk;
+use file_tree::Tree;
+use frang_base::{NoMemory, Sector};
+use std::alloc::Global;
+use std::collections::BTreeMap;
+use tree_definitions::Node;
+
+// The versions that a run may give to a sector.
+const VERSIONS_A_RUN: u64 = 131_072;
+
+// Whether no block has two owners, and none is used without one.
+fn owners_agree(alloc: Global, disk: &Disk, segments: u32) -> Result<bool, NoMemory>
+    requires few { segments ≤ 64 }
+    requires uses { all_below (1024 * segments) (λ t. sound.use_agrees (store_in segments disk.now) ((store_in segments disk.now).inode (t / 16)) (t % 16)) ≡ true }
+    requires marked { all_below (64 * segments) (λ i. sound.is_marked (store_in segments disk.now) (sound.large_at (store_in segments disk.now) i)) ≡ true }
+    ensures { IfOk result (λ b. b ≡ tests.owners_agree segments (store_in segments disk.now)) }
+{
+    let blocks = blocks_agree(alloc, disk, segments)?;
+    let larges = larges_agree(alloc, disk, segments)?;
+    Ok(blocks && larges)
+}
+
+/// Adds the nodes of a disk to none. False exactly where the disk isn't sound.
+pub(crate) fn read_sound(
+    nodes: &mut BTreeMap<u64, Node>,
+    alloc: Global,
+    disk: &Disk,
+    most: u64,
+    segments: u32,
+) -> Result<bool, NoMemory>
+    requires few { segments ≤ 64 }
+    requires some { 1 ≤ segments }
+    requires none { nodes.old.entries ≡ [] }
+    ensures { IfOk result (tests.IsSoundReading most segments (sectors_of disk.now) nodes.new.entries) }
+{
+    if !marks_agree(disk, most, segments) {
+        return Ok(false);
+    }
+    if !owners_agree(alloc, disk, segments)? {
+        return Ok(false);
+    }
+    if !add_nodes(nodes, alloc, disk, segments)? {
+        return Ok(false);
+    }
+    if !links_agree(alloc, nodes, INODES_A_SEGMENT * segments)? {
+        return Ok(false);
+    }
+    all_reached(alloc, nodes, INODES_A_SEGMENT * segments)
+}
+
+/// The tree that a disk stands for. The birth of each node is the number of its inode, and no cell is doubtful. `None` exactly where the
+/// disk stands for no tree.
+pub fn tree_read(alloc: Global, disk: &Disk) -> Result<Option<Tree>, NoMemory>
+    ensures { IfOk result (IsReading (sectors_of disk.now)) }
+{
+    let Some(param) = param_block::decode(&disk.get(Sector(0))) else {
+        return Ok(None);
+    };
+    let most = VERSIONS_A_RUN * u64::from(param.run);
+    let mut nodes = BTreeMap::new(alloc);
+    if read_sound(&mut nodes, alloc, disk, most, param.segments)? {
+        Ok(Some(Tree::of(alloc, param.segments, nodes)))
+    } else {
+        Ok(None)
+    }
+}

@@ -1,0 +1,16 @@
+pub mod Bounded
+pub mod Entered
+pub mod Sums
+pub mod NodesRead
+pub mod Shapes
+pub mod Pictured
+pub mod PicturedBlocks
+pub mod PicturedNames
+pub mod SoundStanding
+pub mod Stored
+pub mod StandingBlocks
+pub mod StandingNames
+pub mod StandingTree
+pub mod OneTree
+pub mod Counted
+pub mod RoomLaws

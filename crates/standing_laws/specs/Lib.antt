@@ -1,0 +1,6 @@
+pub mod Below
+pub mod ReadTree
+pub mod Soundness
+pub mod Renaming
+pub mod Laws
+pub mod Room
