@@ -13,20 +13,12 @@ ghost use Rattle.disk_reading.specs.Seen.{store_in, stored, entered, use_of_stat
 use bitmap_block::{BlockState, inode_in_use, state_of};
 use disk_definitions::Disk;
 use frang_base::{Bitmap, Sector};
+use frang_layout::{
+    BITMAPS_FROM, INODES_FROM, LARGE_BLOCKS_FROM, LARGE_STRIDE, SMALL_BLOCK_SECTORS,
+    SMALL_BLOCKS_FROM,
+};
 use sector_definitions::{DirEntry, DirSector, Inode};
 
-// The first sector of each region.
-const BITMAPS_FROM: u64 = 4_294_967_296;
-
-const INODES_FROM: u64 = 10_737_418_240;
-
-const SMALL_BLOCKS_FROM: u64 = 12_884_901_888;
-// Sectors of a small block.
-const SECTORS_A_BLOCK: u64 = 8;
-
-const LARGE_BLOCKS_FROM: u64 = 287_762_808_832;
-// The sectors from the first of one large block to the first of the next.
-const LARGE_STRIDE: u64 = 2_147_483_648;
 /// Sectors of a small block.
 pub(crate) const PARTS_A_BLOCK: u32 = 8;
 /// Places for entries in a sector of a directory.
@@ -56,7 +48,7 @@ pub(crate) fn inode_sector(i: u32) -> Sector
 pub(crate) fn part_sector(block: u32, p: u32) -> Sector
     ensures { result.0 ≡ sector_of (region.Small block p) }
 {
-    Sector(SMALL_BLOCKS_FROM + u64::from(block) * SECTORS_A_BLOCK + u64::from(p))
+    Sector(SMALL_BLOCKS_FROM + u64::from(block) * SMALL_BLOCK_SECTORS + u64::from(p))
 }
 
 /// The sector of part `p` of large block `g`, below 64.
