@@ -155,6 +155,6 @@ pub proper_entry : (block : List ℕ) (x : DirSector) (q : ℕ) (e : DirEntry) �
 proper_entry block x q e h g k =
     let f : entry_fits e ≡ true = entry_of_list x.entries q e (directory_fit block x h) g in
     ⊎_elim (λ t. absurd (both_ways (e.kind == 0) k (sym (free_place e f) ∙ t))) (λ t. (
-        let n : is_name (name_in e) ≡ true = search (and_l, and_r) depth 8 in
-        let l : nat_le e.len 64 ≡ true = search (and_l, and_r) depth 8 in
-        (n, leb-true e.len 64 l))) (or_cases (is_free_place e) (is_used_place e) f)
+    let n : is_name (name_in e) ≡ true = search (and_l, and_r) depth 8 in
+    let l : nat_le e.len 64 ≡ true = search (and_l, and_r) depth 8 in
+    (n, leb-true e.len 64 l))) (or_cases (is_free_place e) (is_used_place e) f)

@@ -91,9 +91,10 @@ module _ (s : Store) (x : Inode) where
 
   pub dir_node : (es : Entries) → x.kind ≡ 2 → entries_agree s places (56 * x.blocks) ≡ true → es ≡ entries_to places (56 * x.blocks) → length es ≡ x.size → IsNode s (stored x) (Some (Dir es x.blocks))
   dir_node es k a e l =
-      let m : length (entries_to places (56 * x.blocks)) ≡ x.size = ap length (sym e) ∙ l in
-      (as_dir k ∙ and_from (entries_agree s places (56 * x.blocks)) (length (entries_to places (56 * x.blocks)) == x.size) a (eq-eqb (length (entries_to places (56 * x.blocks))) x.size m),
-      ap (λ es. Dir es x.blocks) e ∙ sym (read_dir s (stored x) k))
+      let m : length (entries_to places (56 * x.blocks)) ≡ x.size = ap length (sym e) ∙ l in (
+        as_dir k ∙ and_from (entries_agree s places (56 * x.blocks)) (length (entries_to places (56 * x.blocks)) == x.size) a (eq-eqb (length (entries_to places (56 * x.blocks))) x.size m),
+        ap (λ es. Dir es x.blocks) e ∙ sym (read_dir s (stored x) k),
+      )
 
   pub dir_apart : x.kind ≡ 2 → entries_agree s places (56 * x.blocks) ≡ false → node_agrees s (Some (stored x)) ≡ false
   dir_apart k a = as_dir k ∙ and_left (entries_agree s places (56 * x.blocks)) (length (entries_to places (56 * x.blocks)) == x.size) a
@@ -102,9 +103,10 @@ module _ (s : Store) (x : Inode) where
   dir_other_size es k e n = as_dir k ∙ and_right (entries_agree s places (56 * x.blocks)) (length (entries_to places (56 * x.blocks)) == x.size) (ne_eqb (length (entries_to places (56 * x.blocks))) x.size (λ z. n (ap length e ∙ z)))
 
   pub file_node : (cells : List Cell) → x.kind ≡ 1 → cells ≡ cells_to (byte_at s (stored x)) x.size → IsNode s (stored x) (Some (File cells x.links))
-  file_node cells k e =
-      (cond-false (x.kind == 2) (directory_agrees s (stored x)) (cond (x.kind == 3) (length (stored x).target == x.size) true) (ap (λ k. k == 2) k) ∙ cond-false (x.kind == 3) (length (stored x).target == x.size) true (ap (λ k. k == 3) k),
-      ap (λ c. File c x.links) e ∙ sym (read_file s (stored x) k))
+  file_node cells k e = (
+    cond-false (x.kind == 2) (directory_agrees s (stored x)) (cond (x.kind == 3) (length (stored x).target == x.size) true) (ap (λ k. k == 2) k) ∙ cond-false (x.kind == 3) (length (stored x).target == x.size) true (ap (λ k. k == 3) k),
+    ap (λ c. File c x.links) e ∙ sym (read_file s (stored x) k),
+  )
 
   pub link_node : (target : List ℕ) → is_link_inode x ≡ true → length x.target ≡ 384 → target ≡ take x.size x.target → IsNode s (stored x) (Some (Link target x.links))
   link_node target h l e =
@@ -114,6 +116,7 @@ module _ (s : Store) (x : Inode) where
       let q : x.size ≤ 384 = f.size.1 in
       let a : length (take x.size x.target) ≡ min x.size (length x.target) = length-take x.size x.target in
       let z : length (stored x).target ≡ length (take x.size x.target) = ap length t in
-      let m : length (stored x).target ≡ x.size = omega arith in
-      (cond-false (x.kind == 2) (directory_agrees s (stored x)) (cond (x.kind == 3) (length (stored x).target == x.size) true) (ap (λ k. k == 2) k) ∙ cond-true (x.kind == 3) (length (stored x).target == x.size) true (ap (λ k. k == 3) k) ∙ eq-eqb (length (stored x).target) x.size m,
-      ap (λ t. Link t x.links) (e ∙ sym t) ∙ sym (read_link s (stored x) k))
+      let m : length (stored x).target ≡ x.size = omega arith in (
+        cond-false (x.kind == 2) (directory_agrees s (stored x)) (cond (x.kind == 3) (length (stored x).target == x.size) true) (ap (λ k. k == 2) k) ∙ cond-true (x.kind == 3) (length (stored x).target == x.size) true (ap (λ k. k == 3) k) ∙ eq-eqb (length (stored x).target) x.size m,
+        ap (λ t. Link t x.links) (e ∙ sym t) ∙ sym (read_link s (stored x) k),
+      )

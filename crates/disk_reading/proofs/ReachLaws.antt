@@ -58,12 +58,14 @@ module _ (at : Nodes) (sorted : NamesAscendIn at) (before : List Bool) (i : ℕ)
     where
       kept : (k : ℕ) → flag_at flags k ≡ true → flag_at new k ≡ true
       kept k h = a.each k (flag_within flags k h) ∙ or_left (flag_at flags k) (names_at (at i) k) h
+
       reached : (b : ℕ) → flag_at new b ≡ true → IsReachedAt at b
       reached b h =
           let l : b < length new = flag_within new b h in
           let w : b < length flags = subst (λ n. b < n) a.long l in
           ⊎_elim (λ t. s.reached b t) (λ t. (let r = named_found at sorted i b (at i) refl t in reached_on at i b r.0 (s.reached i f) r.1))
           (or_cases (flag_at flags b) (names_at (at i) b) (sym (a.each b w) ∙ h))
+
       on : (d v : ℕ) → d < i + 1 → flag_at before d ≡ true → names_at (at d) v ≡ true → v < length before → flag_at new v ≡ true
       on d v l h m w = ⊎_elim
           (λ b. kept v (s.on d v b h m w))

@@ -37,6 +37,7 @@ some_segments block p e = go (param_fits (param_fields block) && same_bytes (par
   where
     some : (p : Param) → param_fits p ≡ true → 1 ≤ p.segments
     some p h = let f : nat_le 1 p.segments ≡ true = search (and_l, and_r) depth 8 in leb-true 1 p.segments f
+
     go : (b : Bool) → (param_fits (param_fields block) && same_bytes (param_bytes (param_fields block)) block) ≡ b → cond b (Some (param_fields block)) None ≡ Some p → 1 ≤ p.segments
     go true h e = let s : param_fields block ≡ p = cc in some p (subst (λ q. param_fits q ≡ true) s (and_parts (param_fits (param_fields block)) (same_bytes (param_bytes (param_fields block)) block) h).0)
     go false h e = absurd (cc)

@@ -8,8 +8,8 @@ mod links;
 mod marks;
 mod nodes;
 mod owners;
-mod read;
 mod reached;
+mod read;
 mod sectors;
 
 pub use disk_definitions::Disk;

@@ -17,5 +17,5 @@ returns c =
     let r : flag_at c.deref_mut.result.now 0 ≡ true = ap (λ l. flag_at l 0) d ∙ get_or-set_same items 0 true false some in
     let n : length items ≡ c.in_ok-flags.flags.len = search rules in
     let e : c.deref.result.now ≡ c.close.new.flags =
-        c.deref.ensures.value ∙ kept c.close.new.flags (drop (length c.close.new.flags) (set items 0 true)) c.in_ok-flags.flags.len (c.close.ensures.long ∙ ap length d ∙ length-set items 0 true ∙ n) in
+    c.deref.ensures.value ∙ kept c.close.new.flags (drop (length c.close.new.flags) (set items 0 true)) c.in_ok-flags.flags.len (c.close.ensures.long ∙ ap length d ∙ length-set items 0 true ∙ n) in
     reached_told nodes c.deref_mut.result.now c.close.new.flags c.close.ensures r c.births_flagged.result (c.births_flagged.ensures ∙ ap (λ l. list_all (flag_at l) (keys_of nodes)) e)
