@@ -85,6 +85,7 @@ module _ (f : ℕ → Option ℕ) where
       new : (k : ℕ) → f n ≡ Some k → (o : Option ℕ) → lookup (is_at (nat_cmp k)) (all_placed f n) ≡ o → o ≡ None
       new k g None e = refl
       new k g (Some t) e = absurd (let r = placed_at n k t e in let l : t < n = r.0 in let q : t ≡ n = h t n k (omega arith) (omega arith) r.1 g in omega arith)
+
       go : length (all_placed f n) ≡ how_many f n → (o : Option ℕ) → f n ≡ o → length (placed (all_placed f n) o n) ≡ how_many f n + one_if o
       go before None e = let b : length (all_placed f n) ≡ how_many f n = before in omega arith
       go before (Some k) e =

@@ -45,6 +45,7 @@ module _ (s : Store) where
       last : (n : ℕ) (o : Option StoredNode) → s.inode n ≡ o → lookup (is_at (nat_cmp n)) (with_inode s (nodes_to s n) n (s.inode n)) ≡ option_map (read_node s) (s.inode n)
       last n None e = ap (λ o. lookup (is_at (nat_cmp n)) (with_inode s (nodes_to s n) n o)) e ∙ past n n (omega arith) ∙ sym (ap (option_map (read_node s)) e)
       last n (Some x) e = ap (λ o. lookup (is_at (nat_cmp n)) (with_inode s (nodes_to s n) n o)) e ∙ found_put nat_cmp birth_exact (nodes_to s n) n (read_node s x) ∙ sym (ap (option_map (read_node s)) e)
+
       before : (n b : ℕ) → b < n → seen n b ≡ option_map (read_node s) (s.inode b) → (o : Option StoredNode) → lookup (is_at (nat_cmp b)) (with_inode s (nodes_to s n) n o) ≡ option_map (read_node s) (s.inode b)
       before n b l h None = h
       before n b l h (Some x) = found_other nat_cmp birth_exact (nodes_to s n) n (read_node s x) b (λ e. omega arith) ∙ h

@@ -56,6 +56,7 @@ module _ (to back too home : ℕ → ℕ) where
     where
       met : option_map to (entry_at one name) ≡ option_map too (entry_at two name)
       met = sym (p name) ∙ q name
+
       go : (a : Option ℕ) → entry_at one name ≡ a → (b : Option ℕ) → entry_at two name ≡ b → entry_at two name ≡ option_map (λ b. home (to b)) (entry_at one name)
       go None e None f = f ∙ sym (ap (option_map (λ b. home (to b))) e)
       go None e (Some v) f = absurd (let z : None ≡ Some (too v) = sym (ap (option_map to) e) ∙ met ∙ ap (option_map too) f in cc)
@@ -66,12 +67,15 @@ module _ (to back too home : ℕ → ℕ) where
           f ∙ ap (λ b. Some b) (sym (again name v f) ∙ ap home (sym y)) ∙ sym (ap (option_map (λ b. home (to b))) e)
 
   same_cells : (one two read : List Cell) → CellsAgree one read → CellsAgree two read → AllBytes read → CellsAgree one two
-  same_cells one two read p q bytes = (p.0 ∙ sym q.0, λ j u v e f. (
-      let l : j < length read = subst (λ n. j < n) p.0 (slice_get_within one j (cell.Byte u) e) in
-      let g : slice_get read j ≡ Some (get_or read j (cell.Byte u)) = slice_get-get_or read j (cell.Byte u) l in
-      let b = bytes j (get_or read j (cell.Byte u)) g in
-      let h : slice_get read j ≡ Some (cell.Byte b.0) = g ∙ ap (λ c. Some c) b.1 in
-      p.1 j u b.0 e h ∙ sym (q.1 j v b.0 f h)))
+  same_cells one two read p q bytes = (
+    p.0 ∙ sym q.0,
+    λ j u v e f. (
+        let l : j < length read = subst (λ n. j < n) p.0 (slice_get_within one j (cell.Byte u) e) in
+        let g : slice_get read j ≡ Some (get_or read j (cell.Byte u)) = slice_get-get_or read j (cell.Byte u) l in
+        let b = bytes j (get_or read j (cell.Byte u)) g in
+        let h : slice_get read j ≡ Some (cell.Byte b.0) = g ∙ ap (λ c. Some c) b.1 in
+        p.1 j u b.0 e h ∙ sym (q.1 j v b.0 f h)),
+  )
 
   same_dirs : (es : Entries) (k : ℕ) (x y : Node) → SameNode to x (Dir es k) → SameNode too y (Dir es k) → ((fs : Entries) (n : ℕ) → y ≡ Dir fs n → (name : List ℕ) (v : ℕ) → entry_at fs name ≡ Some v → home (too v) ≡ v) → SameNode (λ b. home (to b)) x y
   same_dirs es k (Dir one n) (Dir two m) p q again = (same_entries one two es p.0 q.0 (again two m refl), p.1 ∙ sym q.1)
@@ -123,9 +127,11 @@ stands_for_one sectors one two h k =
     let z : Some h.param ≡ Some k.param = sym h.parameters ∙ k.parameters in
     let q : h.param ≡ k.param = cc in
     let r = subst (λ p. IsRenaming k.naming.inode (back_of k.naming) two (read_tree p.segments sectors)) (sym q) (standing_renamed sectors two k) in
-    let s = store_of h.param.segments sectors in
-    (λ b. back_of k.naming (h.naming.inode b), λ b. back_of h.naming (k.naming.inode b),
-    both_renamed h.naming.inode (back_of h.naming) k.naming.inode (back_of k.naming) one two (read_tree h.param.segments sectors) k.well_formed (standing_renamed sectors one h) r (tree_bytes h.param.segments s (disk_range h.param.segments sectors)))
+    let s = store_of h.param.segments sectors in (
+      λ b. back_of k.naming (h.naming.inode b),
+      λ b. back_of h.naming (k.naming.inode b),
+      both_renamed h.naming.inode (back_of h.naming) k.naming.inode (back_of k.naming) one two (read_tree h.param.segments sectors) k.well_formed (standing_renamed sectors one h) r (tree_bytes h.param.segments s (disk_range h.param.segments sectors)),
+    )
 
 pub reading_has_no_doubt : ReadingHasNoDoubt
 reading_has_no_doubt segments sectors = tree_bytes segments (store_of segments sectors) (disk_range segments sectors)

@@ -25,7 +25,6 @@ use Rattle.standing_laws.proofs.Bounded.{last_or_before, all_at, find_at, find_n
 use Rattle.standing_laws.proofs.Entered.{StandsAt, found_at, at_found, new_name, one_spot}
 use Rattle.standing_laws.proofs.NodesRead.{node_read}
 use Rattle.standing_laws.proofs.Shapes.{Shape, OfFile, OfDir, OfLink, IsFileShape, IsDirShape, IsLinkShape}
-
 use Rattle.standing_laws.proofs.Pictured.{IsInRange, nothing, at_inode, naming_of, slot_pair, is_emptied, cells_of, length_cells, read_file, read_dir, read_link, tree, at, n, at_some, at_none, node, below, known}
 
 -- the place of index j of inode b

@@ -25,7 +25,6 @@ use Rattle.standing_laws.proofs.Bounded.{last_or_before, all_at, find_at, find_n
 use Rattle.standing_laws.proofs.Entered.{StandsAt, found_at, at_found, new_name, one_spot}
 use Rattle.standing_laws.proofs.NodesRead.{node_read}
 use Rattle.standing_laws.proofs.Shapes.{Shape, OfFile, OfDir, OfLink, IsFileShape, IsDirShape, IsLinkShape}
-
 use Rattle.tree_laws.proofs.Pairs.{tie, self, name_exact}
 use Rattle.tree_definitions.specs.Entries.{Entries, entry_at}
 use Rattle.standing_laws.proofs.Pictured.{IsInRange, nothing, at_inode, naming_of, is_named, cells_of, cell_at, read_file, read_dir, read_link, tree, at, n, at_some, at_none, node, below, known, agreed, dir_size, inodes_are, bits_are, numbered_are, whose_are, kinds_are}
@@ -67,6 +66,7 @@ module _ (segments : ℕ) (s : Store) (range : IsInRange segments s) (shapes : (
       shaped x e (OfFile f) = absurd (let z : nodes d ≡ Some (File (cells_of s x) x.links) = its_node d x e ∙ ap (λ y. Some y) (read_file s x f.kind) in never (ap room_in z) (λ name. ap (λ o. find_in o name) z))
       shaped x e (OfDir f) = (x, (e, f.kind, its_node d x e ∙ ap (λ y. Some y) (read_dir s x f.kind)))
       shaped x e (OfLink f) = absurd (let z : nodes d ≡ Some (Link x.target x.links) = its_node d x e ∙ ap (λ y. Some y) (read_link s x f.kind) in never (ap room_in z) (λ name. ap (λ o. find_in o name) z))
+
       go : (o : Option StoredNode) → s.inode d ≡ o → (x : StoredNode) × IsDirectory d x
       go None e = absurd (let z : nodes d ≡ None = at_none segments s range shapes c d e in never (ap room_in z) (λ name. ap (λ o. find_in o name) z))
       go (Some x) e = shaped x e (shapes d x e)
@@ -93,9 +93,10 @@ module _ (segments : ℕ) (s : Store) (range : IsInRange segments s) (shapes : (
       let w : f.spot < 56 * x.blocks = f.within in
       let q : m.spot d name ≡ f.spot = subst (λ k. m.spot d k ≡ f.spot) f.named (spot_is d x i f.spot f.entry f.within f.is) in
       let k : has_kind (s.inode f.entry.inode) f.entry.kind ≡ true = (new_name s (place_at s x) (56 * x.blocks) (agrees d x i) f.spot f.entry f.within f.is).1 in
-      let j : (at_inode s b).kind ≡ f.entry.kind = ap (λ i. (at_inode s i).kind) (sym f.inode) ∙ kind_at (s.inode f.entry.inode) f.entry.kind k in
-      (subst (λ k. k < 56 * room_in (nodes d)) (sym q) (subst (λ r. f.spot < 56 * r) (sym (ap room_in i.2)) w),
-      ap (dir_place s m d) q ∙ dir_place_is d x i.0 f.spot ∙ f.is ∙ ap (λ e. Some e) (same_entry f.entry name b (m.kind b) f.named f.inode (sym j)))
+      let j : (at_inode s b).kind ≡ f.entry.kind = ap (λ i. (at_inode s i).kind) (sym f.inode) ∙ kind_at (s.inode f.entry.inode) f.entry.kind k in (
+        subst (λ k. k < 56 * room_in (nodes d)) (sym q) (subst (λ r. f.spot < 56 * r) (sym (ap room_in i.2)) w),
+        ap (dir_place s m d) q ∙ dir_place_is d x i.0 f.spot ∙ f.is ∙ ap (λ e. Some e) (same_entry f.entry name b (m.kind b) f.named f.inode (sym j)),
+      )
 
   places_are : (d q : ℕ) (e : StoredEntry) → q < 56 * room_in (nodes d) → dir_place s m d q ≡ Some e → (m.spot d e.name ≡ q) × (is_some (find_in (nodes d) e.name) ≡ true)
   places_are d q e l h =
@@ -114,6 +115,7 @@ module _ (segments : ℕ) (s : Store) (range : IsInRange segments s) (shapes : (
     where
       none : (o : Option Node) → nodes b ≡ o → cell_in o j ≡ None → Allows v (file_byte s m b j)
       none o e z = absurd (let y : None ≡ Some v = sym z ∙ sym (ap (λ o. cell_in o j) e) ∙ h in cc)
+
       shaped : (x : StoredNode) → s.inode b ≡ Some x → Shape x → Allows v (file_byte s m b j)
       shaped x e (OfFile f) =
           let z : nodes b ≡ Some (File (cells_of s x) x.links) = its_node b x e ∙ ap (λ y. Some y) (read_file s x f.kind) in
@@ -121,6 +123,7 @@ module _ (segments : ℕ) (s : Store) (range : IsInRange segments s) (shapes : (
           subst (λ v. Allows v (file_byte s m b j)) (sym g) (file_byte_is b x e j)
       shaped x e (OfDir f) = none (Some (Dir (entries_to (place_at s x) (56 * x.blocks)) x.blocks)) (its_node b x e ∙ ap (λ y. Some y) (read_dir s x f.kind)) refl
       shaped x e (OfLink f) = none (Some (Link x.target x.links)) (its_node b x e ∙ ap (λ y. Some y) (read_link s x f.kind)) refl
+
       go : (o : Option StoredNode) → s.inode b ≡ o → Allows v (file_byte s m b j)
       go None e = none None (at_none segments s range shapes c b e) refl
       go (Some x) e = shaped x e (shapes b x e)

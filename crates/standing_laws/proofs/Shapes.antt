@@ -155,6 +155,7 @@ stored_shape block y h = go (inode_in block) refl h
     free : (x : Inode) → inode_fits x ≡ true → (b : Bool) → is_free_inode x ≡ b → cond b None (Some (stored x)) ≡ Some y → Shape y
     free x fits true f h = absurd (cc)
     free x fits false f h = let s : stored x ≡ y = cc in subst Shape s (used_shape x fits f)
+
     go : (o : Option Inode) → inode_in block ≡ o → stored_node o ≡ Some y → Shape y
     go None e h = absurd (cc)
     go (Some x) e h = free x (in_block block x e) (is_free_inode x) refl h

@@ -85,6 +85,7 @@ module _ (segments : ℕ) (s : Store) (range : IsInRange segments s) (shapes : (
     where
       never : (c : ℕ) (kind : ℕ) → has_kind (s.inode c) kind ≡ true → c ≢ b
       never c kind h q = both_ways (has_kind (s.inode c) kind) (ap (λ o. has_kind o kind) (ap s.inode q ∙ e)) h
+
       weighs : (d : ℕ) (x : Node) → nodes d ≡ Some x → names_in b x ≡ 0
       weighs d (File cells links) h = refl
       weighs d (Link target links) h = refl
@@ -99,6 +100,7 @@ module _ (segments : ℕ) (s : Store) (range : IsInRange segments s) (shapes : (
           go : (o : Option StoredNode) → s.inode 0 ≡ o → (x : StoredNode) × (s.inode 0 ≡ Some x)
           go (Some x) e = (x, e)
           go None e = absurd (both_ways (has_kind (s.inode 0) 2) (ap (λ o. has_kind o 2) e) c.rooted)
+
       past : 64 * segments ≤ b → names_of tree b + one_at 0 b ≡ links_of (nodes b)
       past l =
           let r = rooted in
@@ -113,6 +115,7 @@ module _ (segments : ℕ) (s : Store) (range : IsInRange segments s) (shapes : (
     where
       shaped : (x : StoredNode) → s.inode 0 ≡ Some x → x.kind ≡ 2 → is_dir (nodes 0) ≡ true
       shaped x e k = ap is_dir (at_some segments s range shapes c 0 x e ∙ ap (λ y. Some y) (read_dir s x k))
+
       go : (o : Option StoredNode) → s.inode 0 ≡ o → is_dir (nodes 0) ≡ true
       go None e = absurd (both_ways (has_kind (s.inode 0) 2) (ap (λ o. has_kind o 2) e) c.rooted)
       go (Some x) e = shaped x e (eqb-true x.kind 2 (sym (ap (λ o. has_kind o 2) e) ∙ c.rooted))
@@ -126,6 +129,7 @@ few_segments block p e = go (param_fits (param_fields block) && same_bytes (para
   where
     few : (p : Param) → param_fits p ≡ true → p.segments ≤ 64
     few p h = let f : nat_le p.segments 64 ≡ true = search (and_l, and_r) depth 8 in leb-true p.segments 64 f
+
     go : (b : Bool) → (param_fits (param_fields block) && same_bytes (param_bytes (param_fields block)) block) ≡ b → cond b (Some (param_fields block)) None ≡ Some p → p.segments ≤ 64
     go true h e = let s : param_fields block ≡ p = cc in few p (subst (λ q. param_fits q ≡ true) s (and_parts (param_fits (param_fields block)) (same_bytes (param_bytes (param_fields block)) block) h).0)
     go false h e = absurd (cc)

@@ -86,6 +86,7 @@ module _ (segments : ℕ) (s : Store) (range : IsInRange segments s) (shapes : (
           let u : s.use_of (x.small j) ≡ use_by (Some h.node) = p.uses (x.small j) ∙ ap (use_for (n.was (x.small j)) at) (owner (t / 16) x e j w) ∙ ap use_by h.found in
           let k : x.kind ≡ kind_of h.node = ap (λ y. y.kind) h.is ∙ made_kind n h.birth h.node in
           cond-true (nat_lt j x.blocks) (is_used_for x.kind (s.use_of (x.small j))) true l ∙ ap (λ k. is_used_for k (s.use_of (x.small j))) k ∙ ap (is_used_for (kind_of h.node)) u ∙ used_for h.node j w2
+
       go : (o : Option StoredNode) → s.inode (t / 16) ≡ o → use_agrees s (s.inode (t / 16)) (t % 16) ≡ true
       go None e = ap (λ o. use_agrees s o (t % 16)) e
       go (Some x) e = ap (λ o. use_agrees s o (t % 16)) e ∙ in_use x e (nat_lt (t % 16) x.blocks) refl

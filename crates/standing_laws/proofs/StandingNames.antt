@@ -113,6 +113,7 @@ module _ (segments : ℕ) (s : Store) (range : IsInRange segments s) (t : FileTr
         none : (o : Option ℕ) → entry_at es name ≡ o → entry_at entries name ≡ None → None ≡ option_map n.inode o
         none None e f = refl
         none (Some v) e f = absurd (both_ways (is_some (entry_at entries name)) (ap is_some f) (is_read name v e))
+
         go : (o : Option ℕ) → entry_at entries name ≡ o → entry_at entries name ≡ option_map n.inode (entry_at es name)
         go None e = e ∙ none (entry_at es name) refl e
         go (Some c) e =
@@ -151,6 +152,7 @@ module _ (segments : ℕ) (s : Store) (range : IsInRange segments s) (t : FileTr
       where
         forth : (name : List ℕ) (v : ℕ) → entry_at es name ≡ Some v → Meets (λ m. entry_at entries m) (λ m. m) (λ m. m) f g name v
         forth name v e = record { value = n.inode v; found = entries_read name ∙ ap (option_map n.inode) e; home = refl; weighs = same name v e }
+
         backwards : (name : List ℕ) (c : ℕ) → entry_at entries name ≡ Some c → Meets (λ m. entry_at es m) (λ m. m) (λ m. m) g f name c
         backwards name c e = go (entry_at es name) refl
           where

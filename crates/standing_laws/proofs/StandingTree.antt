@@ -89,13 +89,18 @@ module _ (segments : ℕ) (s : Store) (range : IsInRange segments s) (t : FileTr
   same_node b (Dir es k) e = (entries_read segments s range t w n p b es k e, refl)
   same_node b (Link target links) e = (refl, refl)
   same_node b (File cells links) e =
-      let x = made_by n b (File cells links) in
-      ((sym (length_cells (byte_at s x) (length cells)), λ j u v h k. (
-          let l : j < length cells = slice_get_within cells j (cell.Byte u) h in
-          let a : file_byte s n b j ≡ u = p.bytes b j (cell.Byte u) (ap (λ o. cell_in o j) e ∙ h) in
-          let c : cell.Byte v ≡ cell.Byte (byte_at s x j) = cell_at (byte_at s x) (length cells) j (cell.Byte v) k in
-          let d : v ≡ byte_at s x j = cc in
-          sym (d ∙ byte_is b cells links j l ∙ a))), refl)
+      let x = made_by n b (File cells links) in (
+        (
+          sym (length_cells (byte_at s x) (length cells)),
+          λ j u v h k. (
+              let l : j < length cells = slice_get_within cells j (cell.Byte u) h in
+              let a : file_byte s n b j ≡ u = p.bytes b j (cell.Byte u) (ap (λ o. cell_in o j) e ∙ h) in
+              let c : cell.Byte v ≡ cell.Byte (byte_at s x j) = cell_at (byte_at s x) (length cells) j (cell.Byte v) k in
+              let d : v ≡ byte_at s x j = cc in
+              sym (d ∙ byte_is b cells links j l ∙ a)),
+        ),
+        refl,
+      )
 
   -- the tree becomes the one that is read by its naming
   pub renamed : n.inode 0 ≡ 0 → t.segments ≡ segments → IsRenaming n.inode (back_of n) t (tree_in segments s)
@@ -129,6 +134,7 @@ module _ (segments : ℕ) (s : Store) (range : IsInRange segments s) (t : FileTr
     where
       forth : (d : ℕ) (y : Node) → at d ≡ Some y → Meets read n.inode (back_of n) (names_in b) (names_in (n.inode b)) d y
       forth d y e = record { value = read_node s (made_by n d y); found = read_made d y e; home = ap (λ o. unwrap_or o 0) (p.numbered d (ap is_some e)); weighs = names_same b h d y e }
+
       backwards : (i : ℕ) (z : Node) → read i ≡ Some z → Meets at (back_of n) n.inode (names_in (n.inode b)) (names_in b) i z
       backwards i z e =
           let m = made_read i z e in

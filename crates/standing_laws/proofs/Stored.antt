@@ -62,6 +62,7 @@ module _ (s : Store) (at : Nodes) (n : Naming) (p : Pictures s at n) where
       node b h (Some y) f =
           let z : Some x ≡ Some (made_by n b y) = sym e ∙ p.inodes i ∙ ap (inode_for n at) h ∙ ap (inode_by n b) f in
           record { birth = b; node = y; born = h; found = f; numbered = (p.whose i b h).0; is = (let q : x ≡ made_by n b y = cc in q) }
+
       go : (o : Option ℕ) → n.birth i ≡ o → Has n at i x
       go None h = absurd (let z : Some x ≡ None = sym e ∙ p.inodes i ∙ ap (inode_for n at) h in cc)
       go (Some b) h = node b h (at b) refl
