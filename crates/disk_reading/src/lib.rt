@@ -14,3 +14,6 @@ mod sectors;
 
 pub use disk_definitions::Disk;
 pub use read::tree_read;
+
+#[cfg(test)]
+mod tests;
