@@ -9,6 +9,7 @@ ghost use Rattle.disk_definitions.specs.Disks.{sectors_of};
 ghost use Rattle.sector_definitions.specs.Bytes.{zeros};
 
 use frang_base::{Block, NoMemory, Sector};
+use sqlite_items::Boxed;
 use std::alloc::Global;
 use std::collections::BTreeMap;
 use std::marker::Model;
@@ -16,7 +17,8 @@ use std::marker::Model;
 /// A disk, seen as the sectors that were set with their blocks, ascending; every other sector is zero.
 #[derive(Debug, Drop)]
 pub struct Disk {
-    blocks: BTreeMap<u64, Block>,
+    alloc: Global,
+    blocks: BTreeMap<u64, Boxed<Block>>,
 }
 
 impl Model for Disk {
@@ -37,6 +39,7 @@ impl Disk {
         ensures { result ≡ [] }
     {
         Disk {
+            alloc,
             blocks: BTreeMap::new(alloc),
         }
     }
@@ -46,6 +49,7 @@ impl Disk {
         ensures ok { OnOk result (self.new ≡ insert_entry nat_cmp self.old sector.0 block) }
         ensures err { OnErr result (self.new ≡ self.old) }
     {
+        let block = Boxed::new(self.alloc, block)?;
         self.blocks.insert(sector.0, block)?;
         Ok(())
     }
@@ -61,7 +65,7 @@ impl Disk {
     }
 
     /// The sectors that were set with their blocks, as a map.
-    pub fn as_map(&self) -> &BTreeMap<u64, Block>
+    pub fn as_map(&self) -> &BTreeMap<u64, Boxed<Block>>
         ensures { result.now.entries ≡ self.now }
     {
         &self.blocks
@@ -72,7 +76,7 @@ impl Disk {
         ensures { result ≡ sectors_of self.now sector.0 }
     {
         match self.blocks.get(&sector.0) {
-            Some(block) => *block,
+            Some(block) => *block.get(),
             None => zero_block(),
         }
     }

@@ -2,7 +2,6 @@
 use Rattle.std.proofs.Common.{◌≡◌, ℕ, suc, Bool, true, false, not, cond, List, [], ◌∷◌, ◌++◌, length, refl, sym, ap, ◌∙◌, append_assoc}
 use Rattle.std.specs.List.{flat_map}
 use Rattle.std.specs.Map.{values_of}
-use Rattle.cells.proofs.Basics.{by_test}
 use Rattle.sector_definitions.specs.Bytes.{are_zero}
 use Rattle.disk_definitions.specs.Images.{Blocks, image_entry, sectors_written}
 use Rattle.image_file.specs.Entries.{written_blocks}
@@ -14,6 +13,16 @@ both false block e xs ys h = h
 pub count_of_blocks : (es : Blocks) → length (written_blocks (values_of es)) ≡ length (sectors_written es)
 count_of_blocks [] = refl
 count_of_blocks (e ∷ es) = both (not (are_zero e.1)) e.1 e (written_blocks (values_of es)) (sectors_written es) (count_of_blocks es)
+
+pub fewer_blocks : (left rest : List (List ℕ)) (block : List ℕ) → left ≡ block ∷ rest → are_zero block ≡ false → length (written_blocks left) ≡ suc (length (written_blocks rest))
+fewer_blocks left rest block l z =
+    ap (λ (xs : List (List ℕ)). length (written_blocks xs)) l
+    ∙ ap (λ (b : Bool). length (cond (not b) (block ∷ written_blocks rest) (written_blocks rest))) z
+
+pub same_blocks : (left rest : List (List ℕ)) (block : List ℕ) → left ≡ block ∷ rest → are_zero block ≡ true → length (written_blocks left) ≡ length (written_blocks rest)
+same_blocks left rest block l z =
+    ap (λ (xs : List (List ℕ)). length (written_blocks xs)) l
+    ∙ ap (λ (b : Bool). length (cond (not b) (block ∷ written_blocks rest) (written_blocks rest))) z
 
 -- ---- one sector more is written
 

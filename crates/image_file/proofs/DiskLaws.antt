@@ -1,5 +1,5 @@
 -- The image of a disk reads back as its sectors that aren't zero, unless the disk has a flaw, and tells the disk from any other.
-use Rattle.std.proofs.Common.{◌≡◌, ℕ, zero, suc, ◌+◌, ◌*◌, ◌^◌, ◌<◌, ◌≤◌, Bool, true, false, not, ◌&&◌, cond, nat_eq, Option, Some, None, Result, Ok, Err, List, [], ◌∷◌, ◌++◌, length, drop, replicate, refl, sym, ap, ◌∙◌, subst, arith}
+use Rattle.std.proofs.Common.{◌≡◌, ℕ, suc, ◌^◌, ◌<◌, ◌≤◌, Bool, true, false, not, cond, nat_eq, Option, Some, None, Ok, List, [], ◌∷◌, ◌++◌, length, drop, replicate, refl, sym, ap, ◌∙◌, subst, arith}
 use Rattle.std.specs.List.{flat_map, All, AllByRecursion}
 use Rattle.std.specs.List.Sorted.{IsStrictlySortedBy}
 use Rattle.std.specs.Map.{keys_of, values_of, lookup}
@@ -12,12 +12,10 @@ use Rattle.std.proofs.lemmas.List.Elements.{recursion_from_All}
 use Rattle.cells.proofs.Basics.{by_test, eq_of}
 use Rattle.sector_definitions.specs.Bytes.{number_at, zeros, are_zero}
 use Rattle.disk_definitions.specs.Disks.{sectors_of, SameDisk}
-use Rattle.disk_definitions.specs.declared.image.ImageFault.{ImageFault}
 use Rattle.disk_definitions.specs.Images.{Blocks, image_entry, entry_in, image_with, image_text, image_in, sectors_written}
 use Rattle.image_file.specs.Laws.{AreBytes, ReadsBack}
 use Rattle.image_file.proofs.EntryBytes.{IsEntry, entry_reads, behind_entry}
-use Rattle.image_file.proofs.EntriesRead.{Ascend}
-use Rattle.image_file.proofs.Ascending.{Above, less_of, lt_of_less, above_from, ascend_of, sorted_written, all_written, written_not_zero, written_all}
+use Rattle.image_file.proofs.Ascending.{Above, ascend_of, sorted_written, all_written, written_not_zero, written_all}
 use Rattle.image_file.proofs.Headers.{headed, header_count, header_rest, header_read}
 use Rattle.image_file.proofs.FirstSector.{AscendAll, sectors_read_back}
 use Rattle.image_file.proofs.ImageLaws.{none_of_zeros, read_is_image}

@@ -1,5 +1,5 @@
 -- Entries behind the first: what is written is read, unless the disk has a flaw, and what is read was written so.
-use Rattle.std.proofs.Common.{◌≡◌, ℕ, zero, suc, ◌+◌, ◌*◌, ◌^◌, ◌<◌, ◌≤◌, Bool, true, false, cond, nat_lt, nat_le, Option, Some, None, Result, Ok, Err, List, [], ◌∷◌, ◌++◌, length, take, drop, refl, sym, ap, ◌∙◌, subst, length-append, length-drop, arith}
+use Rattle.std.proofs.Common.{◌≡◌, ℕ, zero, suc, ◌+◌, ◌<◌, ◌≤◌, Bool, true, false, cond, nat_lt, nat_le, Option, Some, None, Result, Ok, Err, List, [], ◌∷◌, ◌++◌, length, drop, refl, sym, ap, ◌∙◌, subst, length-append, arith}
 use Rattle.std.specs.List.{flat_map, AllByRecursion}
 use Rattle.std.proofs.lemmas.Bool.Decides.{nat_tests}
 use Rattle.cells.proofs.Basics.{by_test, gt_of, of_gt, of_ge}
@@ -8,8 +8,8 @@ use Rattle.sector_definitions.specs.Bytes.{are_zero}
 use Rattle.sector_definitions.specs.Regions.{region_of}
 use Rattle.disk_definitions.specs.declared.image.ImageFault.{ImageFault}
 use Rattle.disk_definitions.specs.declared.image.ImageFlaw.{ImageFlaw}
-use Rattle.disk_definitions.specs.declared.image.ImageFlaw.TheVariants.{Cut, OutOfOrder, NoRegion, OfZeros, BytesAfter, BadSector}
-use Rattle.disk_definitions.specs.Images.{Blocks, image_entry, entry_in, IsImaged, block_fits, block_flaw, entry_flaw, fault, with_entry, judged, entries_in}
+use Rattle.disk_definitions.specs.declared.image.ImageFlaw.TheVariants.{Cut, OutOfOrder, OfZeros, BadSector}
+use Rattle.disk_definitions.specs.Images.{Blocks, image_entry, entry_in, IsImaged, block_fits, block_flaw, entry_flaw, fault, judged, entries_in}
 use Rattle.image_file.specs.Laws.{AreBytes, IsOfDisk, ReadsBack}
 use Rattle.image_file.proofs.EntryBytes.{IsEntry, length_entry, entry_reads, behind_entry, entry_again, read_entry, drop_are}
 

@@ -1,5 +1,5 @@
 -- The first sector of an image is the parameter sector; the others stand behind it.
-use Rattle.std.proofs.Common.{◌≡◌, ℕ, zero, suc, ◌+◌, ◌*◌, ◌^◌, ◌<◌, ◌≤◌, Bool, true, false, ◌&&◌, cond, nat_lt, nat_eq, Option, Some, None, Result, Ok, Err, List, [], ◌∷◌, ◌++◌, length, take, drop, refl, sym, ap, ◌∙◌, subst, length-append, length-drop, arith}
+use Rattle.std.proofs.Common.{◌≡◌, ℕ, zero, suc, ◌≤◌, Bool, true, false, ◌&&◌, cond, nat_lt, nat_eq, Option, Some, None, Result, Ok, Err, List, [], ◌∷◌, ◌++◌, length, drop, refl, sym, ap, ◌∙◌, subst, length-append, arith}
 use Rattle.std.specs.List.{flat_map, AllByRecursion}
 use Rattle.std.specs.List.Sorted.{IsStrictlySortedBy}
 use Rattle.std.specs.Map.{keys_of, lookup}
@@ -10,18 +10,16 @@ use Rattle.std.proofs.lemmas.Bool.{and_parts}
 use Rattle.std.proofs.lemmas.Bool.Decides.{nat_tests}
 use Rattle.cells.proofs.Basics.{by_test, eq_of, of_ge}
 use Rattle.sector_definitions.specs.declared.param.Param.{Param}
-use Rattle.sector_definitions.specs.declared.region.Region.{Region}
-use Rattle.sector_definitions.specs.declared.region.Region.TheVariants as region
 use Rattle.sector_definitions.specs.Bytes.{zeros, are_zero}
 use Rattle.sector_definitions.specs.Params.{param_in}
 use Rattle.disk_definitions.specs.Disks.{sectors_of}
 use Rattle.disk_definitions.specs.declared.image.ImageFault.{ImageFault}
 use Rattle.disk_definitions.specs.declared.image.ImageFlaw.{ImageFlaw}
-use Rattle.disk_definitions.specs.declared.image.ImageFlaw.TheVariants.{Cut, OfZeros, BytesAfter, BadSector}
-use Rattle.disk_definitions.specs.Images.{Blocks, image_entry, entry_in, IsImaged, may_run_again, block_fits, first_flaw, fault, judged, entries_in, segments_by, sectors_in}
+use Rattle.disk_definitions.specs.declared.image.ImageFlaw.TheVariants.{Cut, OfZeros, BadSector}
+use Rattle.disk_definitions.specs.Images.{Blocks, image_entry, entry_in, IsImaged, may_run_again, first_flaw, fault, judged, entries_in, segments_by, sectors_in}
 use Rattle.image_file.specs.Laws.{AreBytes, ReadsBack}
 use Rattle.image_file.proofs.EntryBytes.{IsEntry, length_entry, entry_reads, behind_entry, entry_again, read_entry, drop_are}
-use Rattle.image_file.proofs.EntriesRead.{Ascend, MayHave, judged_reads, Judged, judged_ok, Entries, entries_read, entries_read_back, entries_found}
+use Rattle.image_file.proofs.EntriesRead.{Ascend, MayHave, judged_reads, judged_ok, Entries, entries_read, entries_read_back, entries_found}
 use Rattle.image_file.proofs.Ascending.{Above, less_of, lt_of_less, ascend_from}
 
 -- ---- which sector is first

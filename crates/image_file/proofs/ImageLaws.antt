@@ -1,6 +1,6 @@
 -- Bytes are read as sectors exactly where they are their image; the image of a disk reads back, unless the disk has a flaw; it tells its disk from any other.
-use Rattle.std.proofs.Common.{◌≡◌, ℕ, zero, suc, ◌+◌, ◌*◌, ◌^◌, ◌<◌, ◌≤◌, Bool, true, false, Option, Some, None, Result, Ok, Err, List, [], ◌∷◌, ◌++◌, length, drop, refl, sym, ap, ◌∙◌, subst, append_assoc, arith}
-use Rattle.std.specs.List.{flat_map, All, AllByRecursion}
+use Rattle.std.proofs.Common.{◌≡◌, ℕ, suc, ◌^◌, ◌<◌, ◌≤◌, true, false, Some, Ok, List, [], ◌∷◌, ◌++◌, length, drop, refl, sym, ap, ◌∙◌, subst, arith}
+use Rattle.std.specs.List.{flat_map, AllByRecursion}
 use Rattle.std.specs.List.Sorted.{IsStrictlySortedBy}
 use Rattle.std.specs.Map.{keys_of}
 use Rattle.std.specs.Ordering.{nat_cmp}
@@ -12,16 +12,14 @@ use Rattle.sector_definitions.specs.declared.region.Region.{Region}
 use Rattle.sector_definitions.specs.declared.region.Region.TheVariants as region
 use Rattle.sector_definitions.specs.Bytes.{number_at, are_zero}
 use Rattle.sector_definitions.specs.Params.{param_in}
-use Rattle.sector_definitions.specs.Regions.{region_of}
-use Rattle.disk_definitions.specs.declared.image.ImageFault.{ImageFault}
-use Rattle.disk_definitions.specs.Images.{Blocks, image_entry, image_with, image_text, image_in, IsImaged, IsImage, block_fits, may_run_again, sectors_in, sectors_written}
-use Rattle.image_file.specs.Laws.{AreBytes, ReadsBack}
+use Rattle.disk_definitions.specs.Images.{Blocks, image_entry, image_with, image_in, IsImaged, IsImage, block_fits, may_run_again}
+use Rattle.image_file.specs.Laws.{AreBytes}
 use Rattle.image_file.proofs.EntryBytes.{IsEntry, drop_are}
 use Rattle.image_file.proofs.EntriesRead.{Ascend}
-use Rattle.image_file.proofs.Ascending.{Above, ascend_of, above_of, sorted_of, blocks_of, sorted_written, all_written, written_not_zero, written_all}
-use Rattle.image_file.proofs.Headers.{headed, header_read, Header, header_back}
+use Rattle.image_file.proofs.Ascending.{ascend_of, above_of, sorted_of, blocks_of}
+use Rattle.image_file.proofs.Headers.{headed, header_read, header_back}
 use Rattle.image_file.proofs.Bounds.{region_ends, has_segments}
-use Rattle.image_file.proofs.FirstSector.{First, first_of, AscendAll, sectors_read_back, sectors_found, Sectors, sectors_read}
+use Rattle.image_file.proofs.FirstSector.{first_of, sectors_found, sectors_read}
 
 -- ---- what is read is an image
 

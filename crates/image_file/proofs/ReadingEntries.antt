@@ -9,7 +9,7 @@ use Rattle.sector_definitions.specs.Params.{param_in}
 use Rattle.sector_definitions.specs.declared.param.Param.{Param}
 use Rattle.disk_definitions.specs.declared.image.ImageFault.{ImageFault}
 use Rattle.disk_definitions.specs.declared.image.ImageFlaw.{ImageFlaw}
-use Rattle.disk_definitions.specs.declared.image.ImageFlaw.TheVariants.{Cut, BytesAfter}
+use Rattle.disk_definitions.specs.declared.image.ImageFlaw.TheVariants.{Cut}
 use Rattle.disk_definitions.specs.Images.{Blocks, entry_in, entry_flaw, first_flaw, fault, with_entry, judged, entries_in, segments_by, sectors_in}
 use Rattle.image_file.specs.Entries.{next_entry, header_of, behind}
 use Rattle.image_file.proofs.EntriesRead.{flawless}

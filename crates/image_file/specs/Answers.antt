@@ -1,5 +1,5 @@
 -- What readers answer: what the definition of images gives, unless memory is short.
-use Rattle.std.specs.Prelude.{◌≡◌, ℕ, Result, Ok, Err}
+use Rattle.std.specs.Prelude.{◌≡◌, Result, Ok, Err}
 use Rattle.disk_definitions.specs.declared.image.ImageFault.{ImageFault}
 use Rattle.disk_definitions.specs.Images.{Blocks, kind_of}
 use Rattle.image_file.specs.declared.refusal.ImageRead.{ImageRead}

@@ -4,6 +4,7 @@ ghost use Rattle.std.specs.Map.{values_of};
 ghost use Rattle.std.specs.List.{flat_map};
 ghost use Rattle.std.specs.Vec.{vec_capacity, vec_len};
 ghost use Rattle.byteorder.specs.Endian.{little_bytes};
+ghost use Rattle.sector_definitions.specs.Bytes.{are_zero};
 ghost use Rattle.disk_definitions.specs.Images.{image_entry, image_mark, image_text, sectors_written};
 ghost use Rattle.image_file.specs.Entries.{written_blocks, Adds, HasRoom};
 
@@ -12,12 +13,25 @@ use crate::limits::{ENTRY_BYTES, HEADER_BYTES, MARK};
 use byteorder::{ByteOrder, LittleEndian};
 use disk_definitions::Disk;
 use frang_base::{Block, NoMemory};
+use sqlite_items::Boxed;
 use std::collections::BTreeMap;
 
-fn count_blocks(blocks: &BTreeMap<u64, Block>) -> usize
+fn is_blank(block: &Boxed<Block>) -> bool
+    ensures { result ≡ are_zero block.now }
+{
+    is_zero(block.get())
+}
+
+fn count_blocks(blocks: &BTreeMap<u64, Boxed<Block>>) -> u64
     ensures { result ≡ length (written_blocks (values_of blocks.now.entries)) }
 {
-    blocks.values().filter(|block| !is_zero(block)).count()
+    let mut count = 0u64;
+    for block in blocks.values() {
+        if !is_blank(block) {
+            count += 1;
+        }
+    }
+    count
 }
 
 // The number of sectors that aren't zero.
@@ -25,7 +39,7 @@ fn count_blocks(blocks: &BTreeMap<u64, Block>) -> usize
 fn count_written(disk: &Disk) -> u64
     ensures { result ≡ length (sectors_written disk.now) }
 {
-    count_blocks(disk.as_map()) as u64
+    count_blocks(disk.as_map())
 }
 
 // Takes the memory for an image of so many sectors.
@@ -71,13 +85,13 @@ fn add_header(count: u64, to: &mut Vec<u8>)
     add_number(count, to);
 }
 
-fn add_entry(sector: u64, block: &Block, to: &mut Vec<u8>)
+fn add_entry(sector: u64, block: &Boxed<Block>, to: &mut Vec<u8>)
     requires { HasRoom to.old 520 }
     ensures entry { Adds to.old to.new (image_entry (sector, block.now)) }
     ensures len { vec_len to.new ≡ vec_len to.old + 520 }
 {
     add_number(sector, to);
-    add(block, to);
+    add(block.get(), to);
 }
 
 // Adds the entries of the sectors that aren't zero.
@@ -86,7 +100,7 @@ fn add_entries(disk: &Disk, to: &mut Vec<u8>)
     ensures { to.new.items ≡ to.old.items ++ flat_map image_entry (sectors_written disk.now) }
 {
     for (sector, block) in disk.as_map() {
-        if !is_zero(block) {
+        if !is_blank(block) {
             add_entry(*sector, block, to);
         }
     }

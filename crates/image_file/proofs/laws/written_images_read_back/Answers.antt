@@ -1,5 +1,5 @@
 use Rattle.std.proofs.Common.{arith}
-use Rattle.image_file.proofs.DiskLaws.{AreSectors, written_reads_back, written_is_the_disk}
+use Rattle.image_file.proofs.DiskLaws.{written_reads_back, written_is_the_disk}
 use Rattle.image_file.proofs.laws.written_images_read_back.Goals as goal
 
 pub returns-clause-reads : goal.returns-clause-reads

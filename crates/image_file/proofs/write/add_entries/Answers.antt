@@ -1,11 +1,11 @@
-use Rattle.std.proofs.Common.{◌≡◌, ℕ, suc, false, length, ◌∙◌, sym, arith, rules}
+use Rattle.std.proofs.Common.{◌≡◌, suc, false, length, arith, rules}
 use Rattle.sector_definitions.specs.Bytes.{are_zero}
 use Rattle.disk_definitions.specs.Images.{sectors_written}
 use Rattle.image_file.proofs.CountingWritten.{written_turn, fewer_left}
 use Rattle.image_file.proofs.write.add_entries.Goals as goal
 
-pub loop-sector-preserved-then-not-is_zero : goal.loop-sector-preserved-then-not-is_zero
-loop-sector-preserved-then-not-is_zero c =
+pub loop-sector-preserved-then-not-is_blank : goal.loop-sector-preserved-then-not-is_blank
+loop-sector-preserved-then-not-is_blank c =
     let z : are_zero c.in-Some.block.now ≡ false = first_of (search rules, cc) in
     let n : length (sectors_written c.loop-sector.sector-iterator) ≡ suc (length (sectors_written c.next.new.self)) =
     fewer_left c.loop-sector.sector-iterator c.next.new.self c.in-Some.sector.now c.in-Some.block.now c.in-Some.ensures.steps z in

@@ -1,4 +1,4 @@
-use Rattle.std.proofs.Common.{◌≡◌, ◌++◌, ◌+◌, ◌*◌, ◌≤◌, length}
+use Rattle.std.proofs.Common.{◌≡◌, ◌++◌, ◌*◌, length}
 use Rattle.std.specs.List.{flat_map}
 use Rattle.disk_definitions.specs.Images.{image_entry, sectors_written}
 use Rattle.image_file.specs.Entries.{HasRoom}
