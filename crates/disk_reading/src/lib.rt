@@ -1,5 +1,6 @@
-//! The tree that a disk stands for, read off its sectors. The contract promises that tree, or that there is none. It stands on the coders
-//! of sectors, on the laws of disks that stand for trees, and on the file tree.
+//! What is read off the sectors of a disk as a whole: the tree that it stands for, and, offered again from the crate of replays, the greatest
+//! operation of a log and the disk once its logs are replayed. The contract promises that tree, or that there is none. It stands on the
+//! coders of sectors, on the laws of disks that stand for trees, and on the file tree.
 #![tactic(auto)]
 
 mod files;
@@ -13,6 +14,7 @@ mod read;
 mod sectors;
 
 pub use disk_definitions::Disk;
+pub use disk_replay::{greatest, replayed};
 pub use read::tree_read;
 
 #[cfg(test)]

@@ -8,7 +8,7 @@ use Rattle.tree_definitions.specs.declared.node.Node.{Node}
 use Rattle.tree_definitions.specs.declared.node.Node.TheVariants.{Dir, File, Link}
 use Rattle.tree_definitions.specs.Tree.{FileTree, node_at}
 use Rattle.tree_edits.specs.Counts.{taken_in, IsSwapped}
-use Rattle.tree_edits.specs.Edits.{IsEdited, without_name, with_name, with_blocks, with_links, with_cells, with_first}
+use Rattle.tree_edits.specs.Edits.{IsEdited, without_name, with_name, with_blocks, with_links, with_cells, with_first, with_doubt}
 use Rattle.tree_edits.proofs.Swaps.{taken_le, edited_swapped, edited_le}
 use Rattle.file_tree.specs.Proper.{odd_target, HasTarget, HasTargets}
 
@@ -76,3 +76,8 @@ pub first_odd : (len : ℕ) (node : Node) → odd_target (with_first len node) �
 first_odd len (Dir entries blocks) = omega arith
 first_odd len (File cells links) = omega arith
 first_odd len (Link target links) = omega arith
+
+pub doubt_odd : (from count : ℕ) (node : Node) → odd_target (with_doubt from count node) ≤ odd_target node
+doubt_odd from count (Dir entries blocks) = omega arith
+doubt_odd from count (File cells links) = omega arith
+doubt_odd from count (Link target links) = omega arith

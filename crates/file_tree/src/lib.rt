@@ -5,12 +5,16 @@
 
 mod apply;
 mod bytes;
+mod doubts;
 mod lines;
 mod looks;
 mod names;
 mod place;
+mod reach;
 mod rename;
 mod shows;
 mod tree;
 
+pub use place::FileAt;
+pub use shows::cells_show;
 pub use tree::Tree;

@@ -24,8 +24,8 @@ fn cell_shows(cell: Cell, byte: u8) -> bool
     }
 }
 
-// Whether cells show bytes, each its own.
-fn cells_show(cells: &[Cell], bytes: &[u8]) -> bool
+/// Whether cells show bytes, each its own: one in doubt shows any.
+pub fn cells_show(cells: &[Cell], bytes: &[u8]) -> bool
     ensures { result ≡ cells_show cells.now bytes.now }
 {
     let mut left = bytes;

@@ -4,7 +4,7 @@ ghost use Rattle.std.specs.Option.{option_copied};
 ghost use Rattle.std.specs.Map.{values_of};
 ghost use Rattle.tree_definitions.specs.Tree.{FileTree, fresh, node_at, with_node, without_node, count_of, dir_blocks, file_blocks, large_blocks, inodes_full, blocks_full, larges_full, lacks_block};
 ghost use Rattle.tree_definitions.specs.TreeLines.{tree_lines};
-ghost use Rattle.tree_edits.specs.Edits.{without_name, with_name, with_blocks, with_links, with_cells, with_first, edited, CanPut, Names};
+ghost use Rattle.tree_edits.specs.Edits.{without_name, with_name, with_blocks, with_links, with_cells, with_first, with_doubt, edited, CanPut, Names};
 ghost use Rattle.tree_edits.specs.Written.{cells_of};
 ghost use Rattle.file_tree.specs.Proper.{HasTarget, HasTargets, AreProper};
 
@@ -114,12 +114,19 @@ impl Tree {
     }
 
     /// The allocator of what is made.
-    pub(crate) fn alloc(&self) -> Global {
+    pub fn alloc(&self) -> Global {
         self.alloc
     }
 
+    /// The nodes by their births.
+    pub fn nodes(&self) -> &BTreeMap<u64, Node>
+        ensures { result.now.entries ≡ self.now.nodes }
+    {
+        &self.nodes
+    }
+
     /// The node of a birth. `None` exactly where no node has it.
-    pub(crate) fn node(&self, birth: u64) -> Option<&Node>
+    pub fn node(&self, birth: u64) -> Option<&Node>
         ensures is { option_copied result ≡ node_at self.now birth }
         ensures within { IsWithin self.now }
         ensures target { IfSome (node_at self.now birth) HasTarget }
@@ -278,6 +285,13 @@ impl Tree {
         nodes::cut(&mut self.nodes, birth, len);
         let after = nodes::blocks_in(&self.nodes, birth);
         self.taken = self.taken.with(before, after);
+    }
+
+    /// So many cells of a file from an offset on come into doubt.
+    pub(crate) fn doubt_node(&mut self, birth: u64, from: usize, count: usize)
+        ensures { self.new ≡ edited self.old birth (with_doubt from count) }
+    {
+        nodes::doubt(&mut self.nodes, birth, from, count);
     }
 
     /// The lines of the tree, from the root: each directory before its entries, entries in order of their bytes.

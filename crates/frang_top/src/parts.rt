@@ -106,7 +106,7 @@ fn answer(line: u32, reply: Reply) -> Said {
 // What a history leaves of a fresh tree, as it is said.
 fn left_tree(alloc: Global, history: &History) -> Result<Vec<u8>, NoMemory> {
     let mut text = Vec::new(alloc);
-    if history.is_simple() {
+    if history.has_proper_targets() {
         let tree = history.tree(&Tree::fresh(alloc, 16)?)?;
         for line in &tree.lines()? {
             write_line(alloc, line, &mut text)?;

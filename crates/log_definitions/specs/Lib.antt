@@ -1,3 +1,4 @@
 pub mod Records
 pub mod Logs
 pub mod Replay
+pub mod Arriving

@@ -1,8 +1,7 @@
 -- Reading a log by its 256 slots: where it ends, and which records stand in it.
-use Rattle.std.specs.Prelude.{ℕ, zero, suc, ◌+◌, ◌-◌, ◌*◌, ◌%◌, Bool, true, false, ◌&&◌, ◌==◌, if◌then◌else◌, nat_le, nat_lt, max, Option, Some, None, List, [], ◌∷◌, ◌++◌, length, take, drop, map, not, fold}
-use Rattle.std.specs.List.{list_all, filter, filter_map}
+use Rattle.std.specs.Prelude.{ℕ, zero, suc, ◌+◌, ◌-◌, ◌%◌, Bool, true, ◌&&◌, ◌==◌, if◌then◌else◌, nat_le, max, Option, Some, None, is_some, List, [], ◌∷◌, ◌++◌, length, take, map, fold}
+use Rattle.std.specs.List.{list_all, filter, filter_map, cons_option}
 use Rattle.std.specs.Option.{option_map}
-use Rattle.frang_base.specs.declared.change.Change.{Change}
 use Rattle.sector_definitions.specs.declared.log_sector.LogSector.{LogSector}
 use Rattle.sector_definitions.specs.LogSectors.{log_sector_in}
 use Rattle.tree_definitions.specs.Numbers.{below}
@@ -22,14 +21,10 @@ abbrev pub sector_numbered : Slots → ℕ → Option LogSector
 sector_numbered slots n = numbered n (log_sector_in (n % 256) (slots (n % 256)))
 
 abbrev pub stands : Slots → ℕ → Bool
-stands slots n = is_there (sector_numbered slots n)
-  where
-    is_there : Option LogSector → Bool
-    is_there None = false
-    is_there (Some x) = true
+stands slots n = is_some (sector_numbered slots n)
 
 -- the 192 numbers up to an end
-abbrev pub window : ℕ → List ℕ
+unfoldable pub window : ℕ → List ℕ
 window end = map (λ k. end - 191 + k) (below 192)
 
 -- all of them stand in their slots
@@ -40,11 +35,11 @@ is_end slots end = nat_le 191 end && list_all (stands slots) (window end)
 abbrev pub seq_of : LogSector → ℕ
 seq_of x = x.seq
 
-abbrev pub numbers_in : Slots → List ℕ
+unfoldable pub numbers_in : Slots → List ℕ
 numbers_in slots = filter_map (λ slot. option_map seq_of (log_sector_in slot (slots slot))) (below 256)
 
 -- the end of a log: the greatest number of which it and the 191 before it stand in their slots; 0 where there is none
-abbrev pub log_end : Slots → ℕ
+unfoldable pub log_end : Slots → ℕ
 log_end slots = fold max 0 (filter (is_end slots) (numbers_in slots))
 
 -- the log is sealed: no slot has a number above its end
@@ -83,11 +78,7 @@ record_at (x ∷ xs) = if x.part == 0 && nat_le 1 x.parts then record_of x (take
 -- the records that stand whole among sectors, in order
 abbrev pub records_among : List LogSector → List Redo
 records_among [] = []
-records_among (x ∷ xs) = with_record (record_at (x ∷ xs)) (records_among xs)
-  where
-    with_record : Option Redo → List Redo → List Redo
-    with_record None rest = rest
-    with_record (Some r) rest = r ∷ rest
+records_among (x ∷ xs) = cons_option (record_at (x ∷ xs)) (records_among xs)
 
 -- the records of a log: those that stand whole in the 192 numbers up to its end
 abbrev pub log_records : Slots → List Redo

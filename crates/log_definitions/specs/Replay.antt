@@ -1,5 +1,5 @@
 -- The disk after all logs are replayed: the logs in order, their records in order, each change where its sector is older; then the logs are zero.
-use Rattle.std.specs.Prelude.{ℕ, ◌+◌, Bool, true, false, ◌&&◌, ◌==◌, if◌then◌else◌, Option, Some, None, List, [], ◌∷◌, fold}
+use Rattle.std.specs.Prelude.{ℕ, Bool, true, false, ◌&&◌, ◌==◌, if◌then◌else◌, Option, Some, None, List, fold}
 use Rattle.std.specs.List.{flat_map}
 use Rattle.frang_base.specs.declared.change.Change.{Change}
 use Rattle.sector_definitions.specs.declared.region.Region.{Region}
@@ -11,7 +11,6 @@ use Rattle.sector_definitions.specs.Regions.{region_of, sector_of}
 use Rattle.change_definitions.specs.Changes.{applied}
 use Rattle.disk_definitions.specs.Disks.{Sectors}
 use Rattle.tree_definitions.specs.Numbers.{below}
-use Rattle.log_definitions.specs.declared.redo.Redo.{Redo}
 use Rattle.log_definitions.specs.Logs.{Slots, log_records, greatest_operation}
 
 -- the slots of a server's log

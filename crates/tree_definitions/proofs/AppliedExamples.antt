@@ -1,15 +1,14 @@
 -- What each operation answers: each refusal, each order of two refusals that matters, each effect.
-use Rattle.std.proofs.Common.{◌≡◌, ℕ, ◌+◌, ◌-◌, Option, Some, None, List, [], ◌∷◌, refl, length}
+use Rattle.std.proofs.Common.{◌≡◌, ℕ, Option, Some, None, [], ◌∷◌, refl}
 use Rattle.frang_base.specs.declared.op.Op.{Op}
 use Rattle.frang_base.specs.declared.op.Op.TheVariants as op
 use Rattle.frang_base.specs.declared.reply.Reply.{Reply}
 use Rattle.frang_base.specs.declared.reply.Reply.TheVariants as reply
-use Rattle.tree_definitions.specs.declared.cells.Cell.{Cell}
-use Rattle.tree_definitions.specs.declared.cells.Cell.TheVariants.{Byte, Doubtful}
+use Rattle.tree_definitions.specs.declared.cells.Cell.TheVariants.{Byte}
 use Rattle.tree_definitions.specs.declared.node.Node.{Node}
 use Rattle.tree_definitions.specs.declared.node.Node.TheVariants.{Dir, File, Link}
-use Rattle.tree_definitions.specs.Tree.{FileTree, fresh, node_at, with_node}
-use Rattle.tree_definitions.specs.Apply.{Applied, Answer, Plain, Shows, says, apply}
+use Rattle.tree_definitions.specs.Tree.{FileTree, fresh, node_at}
+use Rattle.tree_definitions.specs.Apply.{Plain, Shows, says, apply}
 use Rattle.tree_definitions.proofs.Sketch.{root, a, b, d, l, da, de, dea, ax, lx, xy, done, some, crowded, crowded_below}
 
 -- an operation at the birth 9 is refused so

@@ -1,19 +1,15 @@
 -- Legal histories, what is seen and synced, what a recovery removes, and what it leaves in doubt.
-use Rattle.std.proofs.Common.{◌≡◌, ℕ, ◌+◌, Bool, true, false, Option, Some, None, List, [], ◌∷◌, ◌++◌, refl}
-use Rattle.frang_base.specs.declared.op.Op.{Op}
+use Rattle.std.proofs.Common.{◌≡◌, ℕ, true, false, Option, Some, None, List, [], ◌∷◌, ◌++◌, refl}
 use Rattle.frang_base.specs.declared.op.Op.TheVariants as op
-use Rattle.frang_base.specs.declared.reply.Reply.{Reply}
 use Rattle.frang_base.specs.declared.reply.Reply.TheVariants as reply
-use Rattle.tree_definitions.specs.declared.cells.Cell.{Cell}
 use Rattle.tree_definitions.specs.declared.cells.Cell.TheVariants.{Byte, Doubtful}
 use Rattle.tree_definitions.specs.declared.history.Item.{Item}
 use Rattle.tree_definitions.specs.declared.node.Node.{Node}
-use Rattle.tree_definitions.specs.declared.node.Node.TheVariants.{Dir, File, Link}
-use Rattle.tree_definitions.specs.Tree.{FileTree, fresh, node_at}
-use Rattle.tree_definitions.specs.History.{Opening, fresh_opening, Settled}
-use Rattle.tree_definitions.specs.Touched.{is_seen, is_synced}
-use Rattle.tree_definitions.specs.Removal.{settled, is_legal, keeps, tree_of}
-use Rattle.tree_definitions.proofs.Sketch.{root, a, b, d, l, da, de, ax, some, by, recovery, line}
+use Rattle.tree_definitions.specs.declared.node.Node.TheVariants.{File}
+use Rattle.tree_definitions.specs.Tree.{node_at}
+use Rattle.tree_definitions.specs.History.{Opening, fresh_opening}
+use Rattle.tree_definitions.specs.Removal.{is_legal, keeps, tree_of}
+use Rattle.tree_definitions.proofs.Sketch.{a, b, d, da, ax, some, by, recovery, line}
 
 abbrev opening : Opening
 opening = fresh_opening 16

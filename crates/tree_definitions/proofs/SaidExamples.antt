@@ -2,14 +2,12 @@
 use Rattle.std.proofs.Common.{◌≡◌, ℕ, List, [], ◌∷◌, ◌++◌, refl, codes, lit<}
 use Rattle.std.specs.Fmt.{decimal}
 use Rattle.std.proofs.lemmas.Fmt.{decimal-digits_of, decimal_digit}
-use Rattle.frang_base.specs.declared.reply.Reply.{Reply}
 use Rattle.frang_base.specs.declared.reply.Reply.TheVariants as reply
 use Rattle.frang_base.specs.declared.said.Said.{Said}
 use Rattle.frang_base.specs.declared.said.Said.TheVariants as said
 use Rattle.frang_base.specs.declared.sector.ServerId.{ServerId}
 use Rattle.tree_definitions.specs.SaidLines.{said_text, said_line, run_point, keeps_text}
 use Rattle.tree_definitions.specs.TreeLines.{tree_lines}
-use Rattle.tree_definitions.specs.Tree.{fresh}
 use Rattle.tree_definitions.proofs.Sketch.{some}
 
 -- numbers in decimal digits

@@ -1,14 +1,11 @@
 -- Names, trees, entries and lines for the examples.
-use Rattle.std.proofs.Common.{ℕ, zero, suc, ◌+◌, List, [], ◌∷◌, ◌++◌}
+use Rattle.std.proofs.Common.{ℕ, zero, suc, ◌+◌, List, [], ◌∷◌}
 use Rattle.frang_base.specs.declared.op.Op.{Op}
 use Rattle.frang_base.specs.declared.op.Op.TheVariants as op
 use Rattle.frang_base.specs.declared.reply.Reply.{Reply}
-use Rattle.tree_definitions.specs.declared.cells.Cell.{Cell}
-use Rattle.tree_definitions.specs.declared.cells.Cell.TheVariants.{Byte}
 use Rattle.tree_definitions.specs.declared.history.Item.{Item}
 use Rattle.tree_definitions.specs.declared.history.Item.TheVariants.{Did, Recovered}
-use Rattle.tree_definitions.specs.declared.node.Node.{Node}
-use Rattle.tree_definitions.specs.declared.node.Node.TheVariants.{Dir, File, Link}
+use Rattle.tree_definitions.specs.declared.node.Node.TheVariants.{Dir, File}
 use Rattle.tree_definitions.specs.Entries.{Entries}
 use Rattle.tree_definitions.specs.Tree.{FileTree, fresh}
 use Rattle.tree_definitions.specs.Apply.{apply}

@@ -1,5 +1,5 @@
 -- Which lines may be said after which: each rule of a well-formed transcript.
-use Rattle.std.proofs.Common.{◌≡◌, ℕ, ◌+◌, Bool, true, false, List, [], ◌∷◌, ◌++◌, refl, codes, nat_le, nat_eq, ◌&&◌}
+use Rattle.std.proofs.Common.{◌≡◌, ℕ, ◌+◌, List, [], ◌∷◌, ◌++◌, refl, codes, nat_le, nat_eq, ◌&&◌}
 use Rattle.frang_base.specs.declared.op.Op.{Op}
 use Rattle.frang_base.specs.declared.op.Op.TheVariants as op
 use Rattle.frang_base.specs.declared.op.HostOp.{HostOp}
@@ -10,11 +10,10 @@ use Rattle.frang_base.specs.declared.reply.Reply.TheVariants as reply
 use Rattle.frang_base.specs.declared.said.Said.{Said}
 use Rattle.frang_base.specs.declared.said.Said.TheVariants as said
 use Rattle.frang_base.specs.declared.script.Line.{Line}
-use Rattle.tree_definitions.specs.declared.history.Item.{Item}
 use Rattle.tree_definitions.specs.History.{Opening, fresh_opening}
 use Rattle.tree_definitions.specs.Live.{live_history}
 use Rattle.tree_definitions.specs.Transcript.{Faults, no_faults, MaySay, IsTranscript, left_history}
-use Rattle.tree_definitions.proofs.Sketch.{a, b, by, recovery, line}
+use Rattle.tree_definitions.proofs.Sketch.{a, by, recovery}
 
 abbrev asks : ℕ → ℕ → Op → Line
 asks number server o = record { number = number; who = record { 0 = server }; what = Server o }

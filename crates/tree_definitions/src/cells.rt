@@ -1,6 +1,7 @@
 // The bytes of a file, of which some may be in doubt.
 ghost use Rattle.std.specs.Prelude.{◌≡◌, ◌≤◌, ◌+◌, ◌-◌, ◌++◌, [], length, map, take, drop, replicate, OnOk, OnErr};
 ghost use Rattle.tree_definitions.specs.Apply.{overwritten};
+ghost use Rattle.tree_definitions.specs.History.{doubted_cells};
 
 use frang_base::NoMemory;
 use std::alloc::{AllocError, Global};
@@ -51,13 +52,13 @@ fn put_bytes(cells: &mut [Cell], off: usize, bytes: &[u8])
     }
 }
 
-// Puts the same byte over cells that are there.
-fn put_byte(cells: &mut [Cell], off: usize, len: usize, byte: u8)
+// Puts the same cell over cells that are there.
+fn put_cell(cells: &mut [Cell], off: usize, len: usize, cell: Cell)
     requires { off + len ≤ length cells.old }
-    ensures { cells.new ≡ overwritten cells.old off (replicate len (Cell.Byte byte)) }
+    ensures { cells.new ≡ overwritten cells.old off (replicate len cell) }
 {
     for i in 0..len {
-        cells[off + i] = Cell::Byte(byte);
+        cells[off + i] = cell;
     }
 }
 
@@ -118,7 +119,7 @@ impl Cells {
         ensures err { OnErr result (self.new ≡ self.old) }
     {
         extend_to(&mut self.cells, off + len)?;
-        put_byte(&mut self.cells, off, len, byte);
+        put_cell(&mut self.cells, off, len, Cell::Byte(byte));
         Ok(())
     }
 
@@ -127,6 +128,15 @@ impl Cells {
         ensures { self.new ≡ take len self.old }
     {
         self.cells.truncate(len);
+    }
+
+    /// Brings so many cells from an offset on into doubt; those past the end are passed over.
+    pub fn doubt(&mut self, from: usize, count: usize)
+        ensures { self.new ≡ doubted_cells self.old from count }
+    {
+        let off = from.min(self.cells.len());
+        let len = count.min(self.cells.len() - off);
+        put_cell(&mut self.cells, off, len, Cell::Doubtful);
     }
 }
 

@@ -5,15 +5,16 @@ use Rattle.std.specs.Ordering.{nat_cmp}
 use Rattle.std.specs.Map.{lookup, values_of}
 use Rattle.std.specs.BTreeMap.{is_at}
 use Rattle.std.proofs.lemmas.Bool.Decides.{nat_tests}
-use Rattle.std.proofs.lemmas.List.{length-take}
+use Rattle.std.proofs.lemmas.List.{length-append, length-map, length-take, length-drop}
 use Rattle.std.proofs.lemmas.List.Sums.{sum_by-cons}
 use Rattle.tree_definitions.specs.declared.cells.Cell.{Cell}
 use Rattle.tree_definitions.specs.declared.node.Node.{Node}
 use Rattle.tree_definitions.specs.declared.node.Node.TheVariants.{Dir, File, Link}
 use Rattle.tree_definitions.specs.Tree.{FileTree, node_at, file_blocks, dir_blocks, large_blocks, small_blocks, small_blocks_of, large_blocks_of}
+use Rattle.tree_definitions.specs.History.{doubted_cells}
 use Rattle.tree_edits.specs.declared.counts.Blocks.{Blocks}
 use Rattle.tree_edits.specs.Counts.{blocks_of, taken_in, blocks_in, IsSwapped, IsWithin, IsCounted, HasRoom, CanCount, Counts}
-use Rattle.tree_edits.specs.Edits.{IsEdited, without_name, with_name, with_links, with_first}
+use Rattle.tree_edits.specs.Edits.{IsEdited, without_name, with_name, with_links, with_first, with_doubt}
 use Rattle.tree_edits.proofs.Swaps.{taken_le, found_edited, edited_swapped, edited_le, edited_same}
 
 -- the small blocks are those of directories and those of files
@@ -94,6 +95,15 @@ pub links_same : (n : ℕ) (node : Node) → blocks_of (with_links n node) ≡ b
 links_same n (Dir entries blocks) = refl
 links_same n (File cells links) = refl
 links_same n (Link target links) = refl
+
+-- cells in doubt are as many
+as_many : (from count : ℕ) (cells : List Cell) → length (doubted_cells cells from count) ≡ length cells
+as_many from count cells = simp (length-append, length-map, length-take, length-drop) (omega arith)
+
+pub doubt_same : (from count : ℕ) (node : Node) → blocks_of (with_doubt from count node) ≡ blocks_of node
+doubt_same from count (File cells links) = ap (λ n. record { files = small_blocks_of n; dirs = 0; larges = large_blocks_of n }) (as_many from count cells)
+doubt_same from count (Dir entries blocks) = refl
+doubt_same from count (Link target links) = refl
 
 -- fewer bytes take no more blocks
 fewer_small : (m n : ℕ) → m ≤ n → small_blocks_of m ≤ small_blocks_of n

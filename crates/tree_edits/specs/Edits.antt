@@ -10,6 +10,7 @@ use Rattle.tree_definitions.specs.declared.node.Node.TheVariants.{Dir, File, Lin
 use Rattle.tree_definitions.specs.Entries.{entry_at, with_entry, without_entry}
 use Rattle.tree_definitions.specs.Tree.{FileTree, node_at, with_node}
 use Rattle.tree_definitions.specs.Apply.{overwritten}
+use Rattle.tree_definitions.specs.History.{doubted_cells}
 
 -- a directory loses a name
 abbrev pub without_name : List ℕ → Node → Node
@@ -46,6 +47,12 @@ abbrev pub with_first : ℕ → Node → Node
 with_first len (File cells links) = File (take len cells) links
 with_first len (Dir entries blocks) = Dir entries blocks
 with_first len (Link target links) = Link target links
+
+-- cells of a file come into doubt
+abbrev pub with_doubt : ℕ → ℕ → Node → Node
+with_doubt from count (File cells links) = File (doubted_cells cells from count) links
+with_doubt from count (Dir entries blocks) = Dir entries blocks
+with_doubt from count (Link target links) = Link target links
 
 -- cells may be put into a file from an offset on, up to its greatest size
 abbrev pub CanPut : ℕ → List Cell → Node → Type 0

@@ -1,6 +1,6 @@
 // Changes of a node where it stands.
 ghost use Rattle.std.specs.Prelude.{◌≡◌, ◌<◌, ◌^◌, OnOk, OnErr};
-ghost use Rattle.tree_edits.specs.Edits.{without_name, with_name, with_blocks, with_links, with_cells, with_first, CanPut, Names};
+ghost use Rattle.tree_edits.specs.Edits.{without_name, with_name, with_blocks, with_links, with_cells, with_first, with_doubt, CanPut, Names};
 ghost use Rattle.tree_edits.specs.Written.{cells_of, size_of};
 
 use frang_base::{Name, NoMemory};
@@ -87,6 +87,16 @@ pub fn cut(node: &mut Node, len: usize)
 {
     match node {
         Node::File { cells, .. } => cells.truncate(len),
+        Node::Dir { .. } | Node::Link { .. } => {}
+    }
+}
+
+/// So many cells of a file from an offset on come into doubt.
+pub fn doubt(node: &mut Node, from: usize, count: usize)
+    ensures { node.new ≡ with_doubt from count node.old }
+{
+    match node {
+        Node::File { cells, .. } => cells.doubt(from, count),
         Node::Dir { .. } | Node::Link { .. } => {}
     }
 }

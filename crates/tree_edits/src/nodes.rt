@@ -4,7 +4,7 @@ ghost use Rattle.std.specs.Ordering.{nat_cmp};
 ghost use Rattle.std.specs.BTreeMap.{get, is_at, insert_entry};
 ghost use Rattle.std.specs.Map.{remove_entry};
 ghost use Rattle.tree_edits.specs.Counts.{blocks_in, IsSwapped};
-ghost use Rattle.tree_edits.specs.Edits.{without_name, with_name, with_blocks, with_links, with_cells, with_first, CanPut, Names, IsEdited};
+ghost use Rattle.tree_edits.specs.Edits.{without_name, with_name, with_blocks, with_links, with_cells, with_first, with_doubt, CanPut, Names, IsEdited};
 ghost use Rattle.tree_edits.specs.Written.{cells_of};
 
 use crate::counts::Blocks;
@@ -105,5 +105,14 @@ pub fn cut(nodes: &mut BTreeMap<u64, Node>, birth: u64, len: usize)
 {
     if let Some(node) = nodes.get_mut(&birth) {
         edits::cut(node, len);
+    }
+}
+
+/// So many cells of a file from an offset on come into doubt.
+pub fn doubt(nodes: &mut BTreeMap<u64, Node>, birth: u64, from: usize, count: usize)
+    ensures { IsEdited (with_doubt from count) nodes.old.entries birth nodes.new.entries }
+{
+    if let Some(node) = nodes.get_mut(&birth) {
+        edits::doubt(node, from, count);
     }
 }

@@ -1,5 +1,5 @@
 -- What an entry of a history does to a tree, by the steps that do it again.
-use Rattle.std.specs.Prelude.{ℕ, Bool, true, false, if◌then◌else◌, List}
+use Rattle.std.specs.Prelude.{ℕ, Bool, true, if◌then◌else◌, List}
 use Rattle.std.specs.List.{list_all}
 use Rattle.frang_base.specs.declared.op.Op.{Op}
 use Rattle.frang_base.specs.declared.op.Op.TheVariants as op
@@ -11,7 +11,7 @@ use Rattle.tree_definitions.specs.declared.history.Item.{Item}
 use Rattle.tree_definitions.specs.declared.history.Item.TheVariants.{Did, Recovered}
 use Rattle.tree_definitions.specs.Tree.{FileTree}
 use Rattle.tree_definitions.specs.Place.{place}
-use Rattle.tree_definitions.specs.History.{applied, agrees, file_at}
+use Rattle.tree_definitions.specs.History.{applied, is_answer, file_at}
 use Rattle.file_tree.specs.Shown.{shown_at}
 
 -- after a read of a path
@@ -21,18 +21,18 @@ after_reading tree path off len _ = tree
 
 -- after an operation that is done again: one that is answered otherwise leaves the tree
 abbrev pub after_redo : FileTree → Entry → FileTree
-after_redo tree e = if agrees (applied tree e).answer e.reply then (applied tree e).tree else tree
+after_redo tree e = if is_answer tree e then (applied tree e).tree else tree
 
 -- an operation whose target, where it has one, is in the grammar of scripts
 abbrev pub is_within : Op → Bool
 is_within (op.Symlink path target) = is_target target
 is_within _ = true
 
--- an entry of such an operation
-abbrev pub is_did : Item → Bool
-is_did (Did e) = is_within e.op
-is_did (Recovered server keeps) = false
+-- an item that is a recovery, or an entry of such an operation
+abbrev pub item_within : Item → Bool
+item_within (Did e) = is_within e.op
+item_within (Recovered server keeps) = true
 
--- a history of them, without recoveries
-abbrev pub all_did : List Item → Bool
-all_did items = list_all is_did items
+-- a history of them
+abbrev pub all_within : List Item → Bool
+all_within items = list_all item_within items

@@ -1,13 +1,12 @@
-// The tree after an entry, and after a history.
-ghost use Rattle.std.specs.Prelude.{◌≡◌, OnOk, OnErr, IfOk, IsTrue};
+// The tree after an entry.
+ghost use Rattle.std.specs.Prelude.{◌≡◌, OnOk, OnErr, IsTrue};
 ghost use Rattle.std.specs.List.{list_all};
 ghost use Rattle.script_definitions.specs.SaidReading.{is_target_byte, is_target};
-ghost use Rattle.tree_definitions.specs.Removal.{tree_from};
-ghost use Rattle.tree_definitions.specs.History.{may_be_ok, leaves_tree, told_blocks, tree_after};
+ghost use Rattle.tree_definitions.specs.History.{may_be_ok, leaves_tree, tree_after};
 ghost use Rattle.file_tree.specs.CanApply.{CanApply};
-ghost use Rattle.tree_model.specs.Replayed.{after_reading, after_redo, is_within, is_did, all_did};
+ghost use Rattle.tree_model.specs.Replayed.{after_reading, after_redo, is_within, item_within, all_within};
 
-use crate::agree::same_reply;
+use crate::again::done_again;
 use crate::{History, Tree};
 use frang_base::{Name, NoMemory, Op, Reply};
 use tree_definitions::{Entry, Item};
@@ -34,16 +33,6 @@ fn leaves_tree(op: &Op, reply: &Reply) -> bool
     }
 }
 
-// The number of small blocks that are or were a directory's: the one said, else those of the tree.
-fn told_blocks(tree: &Tree, reply: &Reply) -> u32
-    ensures { result ≡ told_blocks tree.now reply.now }
-{
-    match reply {
-        Reply::NoBlock { m } => *m,
-        _ => tree.dir_blocks(),
-    }
-}
-
 // A read with its reply. After `NoMemory` the tree is as before.
 fn read_again(
     tree: &mut Tree,
@@ -66,17 +55,14 @@ fn redo(tree: &mut Tree, entry: &Entry) -> Result<(), NoMemory>
     requires { CanApply tree.old entry.now.op }
     ensures ok { OnOk result (tree.new ≡ after_redo tree.old entry.now) }
 {
-    let m = told_blocks(tree, &entry.reply);
-    let mut next = tree.try_copy()?;
-    let reply = next.apply(&entry.op, entry.number, m)?;
-    if same_reply(&reply, &entry.reply) {
+    if let Some(next) = done_again(tree, entry)? {
         *tree = next;
     }
     Ok(())
 }
 
-// The tree after an entry. One that doesn't fit leaves it.
-fn step(tree: &mut Tree, entry: &Entry) -> Result<(), NoMemory>
+/// The tree after an entry. One that doesn't fit leaves it.
+pub fn tree_after(tree: &mut Tree, entry: &Entry) -> Result<(), NoMemory>
     requires { IsTrue (is_within entry.now.op) }
     ensures ok { OnOk result (tree.new ≡ tree_after tree.old entry.now) }
 {
@@ -125,35 +111,20 @@ fn is_within(op: &Op) -> bool
     }
 }
 
-fn is_did(item: &Item) -> bool
-    ensures { result ≡ is_did item.now }
+fn item_within(item: &Item) -> bool
+    ensures { result ≡ item_within item.now }
 {
     match item {
         Item::Did(entry) => is_within(&entry.op),
-        Item::Recovered { .. } => false,
+        Item::Recovered { .. } => true,
     }
 }
 
 impl History {
-    /// Whether the tree can be computed so far: the history has no recoveries, and its targets are in the grammar of scripts.
-    pub fn is_simple(&self) -> bool
-        ensures { result ≡ all_did self.now }
+    /// Whether its tree can be computed: the targets of its symbolic links are in the grammar of scripts.
+    pub fn has_proper_targets(&self) -> bool
+        ensures { result ≡ all_within self.now }
     {
-        self.as_slice().iter().all(|item| is_did(item))
-    }
-
-    /// The tree that a history leaves of its opening's tree, where `is_simple`.
-    pub fn tree(&self, opening: &Tree) -> Result<Tree, NoMemory>
-        requires { IsTrue (all_did self.now) }
-        ensures { IfOk result (λ tree. tree ≡ tree_from opening.now self.now) }
-    {
-        let mut tree = opening.try_copy()?;
-        for item in self.as_slice() {
-            match item {
-                Item::Did(entry) => step(&mut tree, entry)?,
-                Item::Recovered { .. } => unreachable!(),
-            }
-        }
-        Ok(tree)
+        self.as_slice().iter().all(|item| item_within(item))
     }
 }

@@ -1,0 +1,4 @@
+pub mod Exact
+pub mod Segments
+pub mod States
+pub mod Steps

@@ -1,0 +1,22 @@
+//! What an operation allocates of the bitmap segments that it holds: the least inode, small block or large block that is free and of the
+//! right state. The contracts promise exactly the definitions' picks, with nothing exactly where no held segment has one, and no memory
+//! but for lists of blocks. It stands on the definitions of picks and on the coder of bitmap sectors.
+#![tactic(auto)]
+
+mod mark;
+mod pick;
+#[cfg(test)]
+mod tests;
+
+pub use bitmap_block::BlockState;
+pub use frang_base::{Bitmap, Held};
+pub use mark::{mark_blocks, mark_inode};
+pub use pick::{pick_inode, pick_large, pick_many, pick_small};
+pub use pick_definitions::Use;
+
+// The most segments that a disk has.
+const SEGMENTS: u32 = 64;
+
+const INODES_A_SEGMENT: u32 = 64;
+
+const BLOCKS_A_SEGMENT: u32 = 1024;

@@ -1,0 +1,5 @@
+pub mod Decoded
+pub mod Readings
+pub mod Places
+pub mod Searches
+pub mod Steps

@@ -1,0 +1,27 @@
+-- By what stands in the inode.
+use Rattle.std.proofs.Common.{◌≡◌, Some, None, Err, sym, rules, ap, ◌∙◌}
+use Rattle.std.specs.Option.{option_map}
+use Rattle.dir_lookup.specs.Reading.{Gives, Lacks, read_of}
+use Rattle.dir_lookup.specs.Spots.{spot_of, walked_in}
+use Rattle.dir_lookup.specs.Stored.{stored}
+use Rattle.dir_lookup.proofs.Steps.{said_ok, said_err, stepped}
+use Rattle.dir_lookup.proofs.walk.step.Goals as goal
+
+pub returns-in_err-found : goal.returns-in_err-found
+returns-in_err-found c dirs held =
+    let need = c.in_err-found.field-0.0 in
+    let e : c.from_residual.result ≡ Err need = search rules in
+    ap (read_of (λ s. walked_in dirs c.args.number (spot_of s))) e
+    ∙ stepped dirs c.args.number c.args.name.now c.args.sectors.now.entries held (Lacks need.0.0)
+    (said_err (option_map stored) c.inode_at.result need _ c.in_err-found.was (c.inode_at.ensures.reads held))
+
+pub returns-in-Some : goal.returns-in-Some
+returns-in-Some c dirs held =
+    c.below.ensures dirs held
+    ∙ stepped dirs c.args.number c.args.name.now c.args.sectors.now.entries held (Gives (Some (stored c.in-Some.inode)))
+    (sym (ap (λ o. Gives (option_map stored o)) c.in-Some.is) ∙ said_ok (option_map stored) c.inode_at.result c.in_ok-found.found _ c.in_ok-found.was (c.inode_at.ensures.reads held))
+
+pub returns-in-None : goal.returns-in-None
+returns-in-None c dirs held =
+    stepped dirs c.args.number c.args.name.now c.args.sectors.now.entries held (Gives None)
+    (sym (ap (λ o. Gives (option_map stored o)) c.in-None.is) ∙ said_ok (option_map stored) c.inode_at.result c.in_ok-found.found _ c.in_ok-found.was (c.inode_at.ensures.reads held))

@@ -1,0 +1,34 @@
+-- What decoded sectors are in a store.
+use Rattle.std.specs.Prelude.{◌≡◌, ◌≤◌, ℕ, ◌==◌, true, if◌then◌else◌, Option, Some, None, [], take, slice_index}
+use Rattle.frang_base.specs.Name.{is_name}
+use Rattle.sector_definitions.specs.declared.inode.Inode.{Inode}
+use Rattle.sector_definitions.specs.declared.directory.DirEntry.{DirEntry}
+use Rattle.sector_definitions.specs.declared.directory.DirSector.{DirSector}
+use Rattle.sector_definitions.specs.Directories.{name_in}
+use Rattle.sector_definitions.specs.Inodes.{inode_fits}
+use Rattle.disk_definitions.specs.Store.{StoredNode, StoredEntry, entry_in}
+
+-- the node of an inode in use
+abbrev pub stored : Inode → StoredNode
+stored x = record { kind = x.kind; links = x.links; size = x.size; birth = x.birth; blocks = x.blocks; small = slice_index x.small; large = x.large; target = if x.kind == 3 then take x.size x.target else [] }
+
+-- the entry of a place in use
+abbrev pub entered : DirEntry → StoredEntry
+entered e = record { name = name_in e; inode = e.inode; kind = e.kind }
+
+-- the entries of a sector by their places
+abbrev pub entries_at : DirSector → ℕ → Option StoredEntry
+entries_at x = entry_in (Some x)
+
+-- an inode in use, and the bounds of its fields
+pub record IsUsed (x : Inode) : Type 0 where
+  pub fits : inode_fits x ≡ true
+  pub kind : 1 ≤ x.kind
+  pub blocks : x.blocks ≤ 16
+  pub size : x.size ≤ 1114112
+  pub target : x.kind ≡ 3 → x.size ≤ 384
+
+-- an entry in use has a name
+pub record IsProper (e : DirEntry) : Type 0 where
+  pub name : is_name (name_in e) ≡ true
+  pub len : e.len ≤ 64

@@ -1,0 +1,141 @@
+// The first place of a directory that passes a test.
+ghost use Rattle.std.specs.Prelude.{◌≡◌, ◌≤◌, ◌<◌, ◌*◌, ◌/◌, ◌%◌, ℕ, IfOk, IfSome, IsTrue, length, slice_index};
+ghost use Rattle.std.specs.Option.{option_map};
+ghost use Rattle.pick_definitions.specs.Least.{least};
+ghost use Rattle.sector_definitions.specs.Directories.{directory_fits};
+ghost use Rattle.plan_definitions.specs.Ask.{Got, ReadDirectory};
+ghost use Rattle.plan_definitions.specs.Walks.{hit, is_named, is_vacant, search};
+ghost use Rattle.dir_lookup.specs.Reading.{Reads};
+ghost use Rattle.dir_lookup.specs.Spots.{found_at, vacant_at};
+ghost use Rattle.dir_lookup.specs.Stored.{entries_at};
+
+use crate::sectors::entry_at;
+use crate::{Need, directory_at};
+use dir_block::find;
+use frang_base::Name;
+use meta_version::Sectors;
+use sector_definitions::{DirEntry, DirSector, Inode};
+
+// Sectors of a directory's block.
+const PARTS: u32 = 8;
+
+// Places for entries in a sector.
+const PLACES: u32 = 7;
+
+/// An entry, and its place in its directory: by block, sector and place, 56 to a block.
+#[derive(Clone, Copy, Debug, PartialEq, Eq)]
+pub struct Found {
+    pub place: u32,
+    pub entry: DirEntry,
+}
+
+/// The first entry of this name in a directory of at most 16 blocks. `None` exactly where the name isn't there.
+pub fn first_named(sectors: &Sectors, directory: &Inode, name: &Name) -> Result<Option<Found>, Need>
+    requires { directory.now.blocks ≤ 16 }
+    ensures { Reads (option_map found_at) (search (slice_index directory.now.small) (is_named name.now) 0 (8 * directory.now.blocks)) sectors.now.entries result }
+{
+    for j in 0..PARTS * u32::from(directory.blocks) {
+        let sector = part_at(sectors, directory, j)?;
+        if let Some(found) = named_in(&sector, name, j) {
+            return Ok(Some(found));
+        }
+    }
+    Ok(None)
+}
+
+/// The first free place of a directory of at most 16 blocks. `None` exactly where there is none.
+pub fn first_vacant(sectors: &Sectors, directory: &Inode) -> Result<Option<u32>, Need>
+    requires { directory.now.blocks ≤ 16 }
+    ensures { Reads (option_map vacant_at) (search (slice_index directory.now.small) is_vacant 0 (8 * directory.now.blocks)) sectors.now.entries result }
+{
+    for j in 0..PARTS * u32::from(directory.blocks) {
+        let sector = part_at(sectors, directory, j)?;
+        if let Some(place) = vacant_in(&sector, j) {
+            return Ok(Some(place));
+        }
+    }
+    Ok(None)
+}
+
+/// Sector `j` of a directory, 8 to a block.
+pub fn part_at(sectors: &Sectors, directory: &Inode, j: u32) -> Result<DirSector, Need>
+    requires { j < 128 }
+    ensures reads { Reads entries_at (ReadDirectory (slice_index directory.now.small (j / 8)) (j % 8) Got) sectors.now.entries result }
+    ensures fits { IfOk result (λ x. IsTrue (directory_fits x)) }
+{
+    directory_at(
+        sectors,
+        directory.small[(j / PARTS) as usize],
+        (j % PARTS) as u8,
+    )
+}
+
+// The first entry of the name in sector `j` of a directory.
+fn named_in(sector: &DirSector, name: &Name, j: u32) -> Option<Found>
+    requires { j < 128 }
+    ensures { option_map found_at result ≡ hit (is_named name.now) j (entries_at sector.now) (least (λ r. is_named name.now (entries_at sector.now r)) 7) }
+{
+    match named_place(sector, name) {
+        Some(place) => {
+            let at = usize::from(place);
+            Some(Found {
+                place: PLACES * j + u32::from(place),
+                entry: sector.entries[at],
+            })
+        }
+        None => None,
+    }
+}
+
+// The first place with the name.
+fn named_place(sector: &DirSector, name: &Name) -> Option<u8>
+    ensures is { result ≡ least (λ r. is_named name.now (entries_at sector.now r)) 7 }
+    ensures place { IfSome result (λ r. r < 7) }
+{
+    // By their types a name has bytes, so that no free place has it, and a sector has seven places.
+    let _bytes = name.len();
+    places_are_seven(&sector.entries);
+    find(sector, name)
+}
+
+fn places_are_seven(entries: &[DirEntry; 7])
+    ensures { length entries.now ≡ 7 }
+{}
+
+// The first free place in sector `j` of a directory.
+fn vacant_in(sector: &DirSector, j: u32) -> Option<u32>
+    requires j { j < 128 }
+    requires fits { IsTrue (directory_fits sector.now) }
+    ensures { option_map vacant_at result ≡ hit is_vacant j (entries_at sector.now) (least (λ r. is_vacant (entries_at sector.now r)) 7) }
+{
+    match vacant_place(sector) {
+        Some(place) => Some(PLACES * j + place),
+        None => None,
+    }
+}
+
+// The first free place.
+fn vacant_place(sector: &DirSector) -> Option<u32>
+    requires { IsTrue (directory_fits sector.now) }
+    ensures is { result ≡ least (λ r. is_vacant (entries_at sector.now r)) 7 }
+    ensures place { IfSome result (λ r. r < 7) }
+{
+    for place in 0..PLACES {
+        let vacant = is_vacant(sector, place);
+        if vacant {
+            return Some(place);
+        }
+    }
+    None
+}
+
+fn is_vacant(sector: &DirSector, place: u32) -> bool
+    requires fits { IsTrue (directory_fits sector.now) }
+    requires place { place < 7 }
+    ensures { result ≡ is_vacant (entries_at sector.now place) }
+{
+    match entry_at(sector, place as u8) {
+        Some(_) => false,
+        None => true,
+    }
+}

@@ -1,0 +1,115 @@
+// Cached sectors, decoded.
+ghost use Rattle.std.specs.Prelude.{◌≡◌, ◌<◌, true, IfOk, IfSome, IsTrue};
+ghost use Rattle.std.specs.List.{list_all};
+ghost use Rattle.std.specs.Option.{option_map};
+ghost use Rattle.change_definitions.specs.SectorMaps.{value_at};
+ghost use Rattle.sector_definitions.specs.Directories.{directory_fits, directory_in, is_free_place, name_in};
+ghost use Rattle.sector_definitions.specs.Inodes.{inode_in};
+ghost use Rattle.disk_definitions.specs.Store.{stored_node, entry_in};
+ghost use Rattle.plan_definitions.specs.Ask.{Got, ReadInode, ReadDirectory};
+ghost use Rattle.dir_lookup.specs.Reading.{Reads, read_of, read_or_lacks};
+ghost use Rattle.dir_lookup.specs.Stored.{IsProper, IsUsed, entered, entries_at, stored};
+
+use crate::Need;
+use frang_base::{Block, Name, Sector};
+use frang_layout::{Region, sector_of};
+use inode_block::decode;
+use meta_version::Sectors;
+use sector_definitions::{DirEntry, DirSector, Inode};
+
+// The kind of a free inode and of a free place.
+const FREE: u8 = 0;
+
+// The block of a sector.
+fn block_at(sectors: &Sectors, sector: Sector) -> Result<&Block, Need>
+    ensures { read_of (λ block. block.now) result ≡ read_or_lacks sector.0 (value_at sectors.now.entries sector.0) }
+{
+    sectors.get(sector).ok_or(Need(sector))
+}
+
+/// Inode `i`, where it is in use. `None` exactly where its sector is that of a free inode, or of none.
+pub fn inode_at(sectors: &Sectors, i: u32) -> Result<Option<Inode>, Need>
+    ensures reads { Reads (option_map stored) (ReadInode i Got) sectors.now.entries result }
+    ensures used { IfOk result (λ o. IfSome o IsUsed) }
+{
+    let block = block_at(sectors, sector_of(&Region::Inode(i)))?;
+    Ok(used_inode(block))
+}
+
+// The inode of a block, where it is in use.
+
+fn used_inode(block: &Block) -> Option<Inode>
+    ensures is { option_map stored result ≡ stored_node (inode_in block.now) }
+    ensures used { IfSome result IsUsed }
+{
+    let inode = decode(block)?;
+    if inode.kind == FREE {
+        None
+    } else {
+        Some(inode)
+    }
+}
+
+/// Part `part` of a small block as a sector of a directory. One that is no sector of a directory has no entries.
+pub fn directory_at(sectors: &Sectors, block: u32, part: u8) -> Result<DirSector, Need>
+    ensures reads { Reads entries_at (ReadDirectory block part Got) sectors.now.entries result }
+    ensures fits { IfOk result (λ x. IsTrue (directory_fits x)) }
+{
+    let block = block_at(sectors, sector_of(&Region::Small { block, part }))?;
+    Ok(entries_of(block))
+}
+
+// The sector of a directory that a block is, or one without entries.
+
+fn entries_of(block: &Block) -> DirSector
+    ensures is { entries_at result ≡ entry_in (directory_in block.now) }
+    ensures fits { IsTrue (directory_fits result) }
+{
+    match dir_block::decode(block) {
+        Some(sector) => sector,
+        None => no_entries(),
+    }
+}
+
+// Seven free places.
+fn no_entries() -> DirSector
+    ensures free { list_all is_free_place result.entries ≡ true }
+    ensures fits { IsTrue (directory_fits result) }
+{
+    let free = DirEntry {
+        inode: 0,
+        len: 0,
+        kind: FREE,
+        name: [0; 64],
+    };
+    DirSector {
+        version: 0,
+        entries: [free; 7],
+    }
+}
+
+/// The entry at a place of a sector, 0 to 6. `None` exactly where the place is free.
+pub fn entry_at(sector: &DirSector, place: u8) -> Option<DirEntry>
+    requires fits { IsTrue (directory_fits sector.now) }
+    requires place { place < 7 }
+    ensures is { option_map entered result ≡ entries_at sector.now place }
+    ensures proper { IfSome result IsProper }
+{
+    let entry = sector.entries[usize::from(place)];
+    if entry.kind == FREE {
+        None
+    } else {
+        Some(entry)
+    }
+}
+
+/// The name of an entry in use.
+pub fn name_of(entry: &DirEntry) -> Name
+    requires { IsProper entry.now }
+    ensures { result ≡ name_in entry.now }
+{
+    match Name::of(&entry.name[..usize::from(entry.len)]) {
+        Some(name) => name,
+        None => unreachable!(),
+    }
+}

@@ -1,0 +1,8 @@
+pub mod SectorsSet
+pub mod LaidChanges
+pub mod LogsApart
+pub mod ReplayedDisk
+pub mod FittingRecords
+pub mod ReadSlots
+pub mod ZeroLogs
+pub mod Copied

@@ -1,0 +1,66 @@
+-- A replay changes no sector of a log, so the logs may be zero before the changes are laid.
+use Rattle.std.proofs.Common.{◌≡◌, ℕ, ◌+◌, ◌*◌, ◌<◌, Bool, true, false, ◌&&◌, ◌==◌, nat_lt, if◌then◌else◌, Option, Some, None, List, [], ◌∷◌, refl, sym, ◌∙◌, arith, ltb-true}
+use Rattle.std.proofs.lemmas.Bool.{and_parts, and_right, false≢true}
+use Rattle.frang_base.specs.declared.change.Change.{Change}
+use Rattle.sector_definitions.specs.declared.region.Region.{Region}
+use Rattle.sector_definitions.specs.declared.region.Region.TheVariants as region
+use Rattle.sector_definitions.specs.Bytes.{zeros}
+use Rattle.sector_definitions.specs.Regions.{bitmaps_from, inodes_from, log_stride, logs_from, region_of, small_blocks_from}
+use Rattle.sector_definitions.proofs.RegionLaws.{region_read}
+use Rattle.change_definitions.specs.Changes.{applied}
+use Rattle.disk_definitions.specs.Disks.{Sectors, SameDisk}
+use Rattle.log_definitions.specs.Replay.{is_log, is_replayed, with_change}
+use Rattle.disk_replay.specs.Laid.{is_changed, is_logged, with_changes, without_logs}
+use Rattle.disk_replay.proofs.LaidChanges.{laid_same}
+
+-- ---- where logs lie
+
+log_low : (sector : ℕ) (o : Option Region) → region_of 64 sector ≡ o → is_log o ≡ true → sector < bitmaps_from
+log_low sector (Some (region.Log server slot)) e t =
+    let place = region_read 64 sector (region.Log server slot) e in
+    let parts = and_parts (nat_lt server 256) (nat_lt slot 256) place.1 in
+    let a = ltb-true server 256 parts.0 in
+    let b = ltb-true slot 256 parts.1 in
+    let at : logs_from + server * log_stride + slot ≡ sector = place.0 in
+    omega arith
+log_low sector None e t = absurd cc
+log_low sector (Some region.Param) e t = absurd cc
+log_low sector (Some (region.Segment k)) e t = absurd cc
+log_low sector (Some (region.Inode i)) e t = absurd cc
+log_low sector (Some (region.Small k part)) e t = absurd cc
+log_low sector (Some (region.Large k part)) e t = absurd cc
+
+low_kept : (segments sector : ℕ) (o : Option Region) → sector < bitmaps_from → region_of segments sector ≡ o → is_replayed o ≡ false
+low_kept segments sector (Some (region.Segment k)) h e =
+    let at : bitmaps_from + k ≡ sector = (region_read segments sector (region.Segment k) e).0 in absurd (omega arith)
+low_kept segments sector (Some (region.Inode i)) h e =
+    let at : inodes_from + i ≡ sector = (region_read segments sector (region.Inode i) e).0 in absurd (omega arith)
+low_kept segments sector (Some (region.Small k part)) h e =
+    let at : small_blocks_from + k * 8 + part ≡ sector = (region_read segments sector (region.Small k part) e).0 in absurd (omega arith)
+low_kept segments sector None h e = refl
+low_kept segments sector (Some region.Param) h e = refl
+low_kept segments sector (Some (region.Log server slot)) h e = refl
+low_kept segments sector (Some (region.Large k part)) h e = refl
+
+pub log_kept : (segments sector : ℕ) → is_logged sector ≡ true → is_changed segments sector ≡ false
+unfolding is_logged is_changed
+log_kept segments sector t = low_kept segments sector (region_of segments sector) (log_low sector (region_of 64 sector) refl t) refl
+
+-- ---- changes laid over the disk without its logs
+
+apart : (log here : Bool) (zero block : List ℕ) (c : Change) → (log ≡ true → here ≡ false)
+    → (if here then applied (if log then zero else block) c else (if log then zero else block)) ≡ (if log then zero else (if here then applied block c else block))
+apart true true zero block c h = absurd (false≢true (sym (h refl)))
+apart true false zero block c h = refl
+apart false here zero block c h = refl
+
+one_apart : (segments : ℕ) (s : Sectors) (c : Change) → SameDisk (with_change segments (without_logs s) c) (without_logs (with_change segments s c))
+unfolding without_logs is_changed
+one_apart segments s c sector =
+    apart (is_logged sector) (sector == c.sector.0 && is_changed segments sector) (zeros 512) (s sector) c (λ t. and_right (sector == c.sector.0) (is_changed segments sector) (log_kept segments sector t))
+
+pub laid_apart : (segments : ℕ) (changes : List Change) (s : Sectors) → SameDisk (with_changes segments (without_logs s) changes) (without_logs (with_changes segments s changes))
+unfolding with_changes
+laid_apart segments [] s sector = refl
+laid_apart segments (c ∷ changes) s sector =
+    laid_same segments changes (with_change segments (without_logs s) c) (without_logs (with_change segments s c)) (one_apart segments s c) sector ∙ laid_apart segments changes (with_change segments s c) sector

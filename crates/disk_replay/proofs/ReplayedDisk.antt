@@ -1,0 +1,51 @@
+-- The changes of all logs laid over the disk without its logs make the replayed disk.
+use Rattle.std.proofs.Common.{◌≡◌, ℕ, ◌+◌, ◌≤◌, true, if◌then◌else◌, Option, Some, None, List, [], ◌∷◌, ◌++◌, refl, sym, ap, ◌∙◌, add-one, append-nil, arith}
+use Rattle.std.specs.List.{flat_map}
+use Rattle.std.proofs.lemmas.Bool.Decides.{nat_tests}
+use Rattle.std.proofs.lemmas.List.Concat.{flat_map-append}
+use Rattle.sector_definitions.specs.declared.param.Param.{Param}
+use Rattle.sector_definitions.specs.Bytes.{zeros}
+use Rattle.sector_definitions.specs.Params.{param_fits, param_in}
+use Rattle.sector_definitions.specs.Regions.{region_of}
+use Rattle.sector_definitions.proofs.ParamLaws.{param_read}
+use Rattle.disk_definitions.specs.Disks.{Sectors, SameDisk}
+use Rattle.tree_definitions.specs.Numbers.{below}
+use Rattle.log_definitions.specs.Logs.{log_records}
+use Rattle.log_definitions.specs.Replay.{is_log, replayed, slots_of, with_logs}
+use Rattle.disk_replay.specs.Laid.{changes_below, changes_in, is_logged, with_changes, without_logs}
+use Rattle.disk_replay.proofs.LaidChanges.{laid_same}
+use Rattle.disk_replay.proofs.LogsApart.{laid_apart}
+
+-- ---- logs in order
+
+pub no_logs : (s : Sectors) → changes_below s 0 ≡ []
+unfolding changes_below
+no_logs s = refl
+
+pub next_log : (s : Sectors) (server : ℕ) → changes_below s (server + 1) ≡ changes_below s server ++ changes_in (log_records (slots_of s server))
+unfolding changes_below
+next_log s server =
+    let of_log = λ (n : ℕ). changes_in (log_records (slots_of s n)) in
+    ap (λ k. flat_map of_log (below k)) (add-one server) ∙ flat_map-append of_log (below server) (server ∷ []) ∙ ap (λ cs. flat_map of_log (below server) ++ cs) (append-nil (of_log server))
+
+-- ---- the whole
+
+few : (p : Param) → param_fits p ≡ true → p.segments ≤ 64
+few p h = grind (arith, nat_tests)
+
+pub few_segments : (block : List ℕ) (p : Param) → param_in block ≡ Some p → p.segments ≤ 64
+few_segments block p e = few p (param_read block p e).1
+
+by_parameters : (s : Sectors) (o : Option Param) → param_in (s 0) ≡ o → (sector : ℕ) → (if is_logged sector then zeros 512 else with_logs o s sector) ≡ replayed s sector
+unfolding is_logged
+by_parameters s o e sector = ap (λ (p : Option Param). if is_log (region_of 64 sector) then zeros 512 else with_logs p s sector) (sym e)
+
+pub not_replayed : (s copy : Sectors) → param_in (s 0) ≡ None → SameDisk copy (without_logs s) → SameDisk copy (replayed s)
+unfolding without_logs
+not_replayed s copy e h sector = h sector ∙ by_parameters s None e sector
+
+pub all_replayed : (s copy new : Sectors) (p : Param) → param_in (s 0) ≡ Some p → SameDisk copy (without_logs s) → SameDisk new (with_changes p.segments copy (changes_below s 256)) → SameDisk new (replayed s)
+unfolding without_logs with_changes changes_below
+all_replayed s copy new p e h made sector =
+    let changes = changes_below s 256 in
+    made sector ∙ laid_same p.segments changes copy (without_logs s) h sector ∙ laid_apart p.segments changes s sector ∙ by_parameters s (Some p) e sector

@@ -1,0 +1,40 @@
+-- The words of a replay as its steps speak of them: changes laid over a disk, and the disk without its logs.
+use Rattle.std.specs.Prelude.{◌≡◌, ℕ, Bool, true, List, fold, if◌then◌else◌}
+use Rattle.std.specs.List.{All, flat_map}
+use Rattle.frang_base.specs.declared.change.Change.{Change}
+use Rattle.sector_definitions.specs.Bytes.{zeros}
+use Rattle.sector_definitions.specs.Regions.{region_of}
+use Rattle.change_definitions.specs.Changes.{is_change}
+use Rattle.disk_definitions.specs.Disks.{Sectors}
+use Rattle.tree_definitions.specs.Numbers.{below}
+use Rattle.log_definitions.specs.declared.redo.Redo.{Redo}
+use Rattle.log_definitions.specs.Logs.{log_records}
+use Rattle.log_definitions.specs.Replay.{slots_of, is_log, is_replayed, with_change}
+
+-- the sector is one of a log
+unfoldable pub is_logged : ℕ → Bool
+is_logged sector = is_log (region_of 64 sector)
+
+-- the sector is one that a replay changes, on a disk of so many segments
+unfoldable pub is_changed : ℕ → ℕ → Bool
+is_changed segments sector = is_replayed (region_of segments sector)
+
+-- the changes of a record may stand in one
+abbrev pub HoldsChanges : Redo → Type 0
+HoldsChanges r = All (λ c. is_change c ≡ true) r.changes
+
+-- the changes of records, in order
+abbrev pub changes_in : List Redo → List Change
+changes_in records = flat_map (λ r. r.changes) records
+
+-- the changes of the logs of the first servers, in order
+unfoldable pub changes_below : Sectors → ℕ → List Change
+changes_below sectors servers = flat_map (λ server. changes_in (log_records (slots_of sectors server))) (below servers)
+
+-- the disk with these changes laid over it, in order
+unfoldable pub with_changes : ℕ → Sectors → List Change → Sectors
+with_changes segments sectors changes = fold (with_change segments) sectors changes
+
+-- the disk with all its logs zero
+unfoldable pub without_logs : Sectors → Sectors
+without_logs sectors sector = if is_logged sector then zeros 512 else sectors sector

@@ -1,0 +1,14 @@
+//! The disk after its logs are replayed, and the greatest operation that a log holds. The contracts promise the sectors of the definition
+//! and the operation of the definition, for any disk. A log none of whose sectors was set is passed over, since it holds no record. It
+//! stands on the definitions of logs, on their reading, and on changes that are applied only where the block is older.
+#![tactic(auto)]
+
+mod apply;
+mod records;
+mod replay;
+
+pub use records::greatest;
+pub use replay::replayed;
+
+#[cfg(test)]
+mod tests;

@@ -1,0 +1,80 @@
+-- The locks of a plan cover what it changes and what it says.
+use Rattle.std.specs.Prelude.{◌≡◌, ℕ, ◌/◌, Bool, true, false, is_some, List}
+use Rattle.std.specs.List.{AllByRecursion, Contains}
+use Rattle.frang_base.specs.declared.lock.LockId.{LockId}
+use Rattle.frang_base.specs.declared.lock.LockId.TheVariants as lock
+use Rattle.frang_base.specs.declared.lock.Mode.TheVariants.{Shared, Sole}
+use Rattle.frang_base.specs.declared.op.Op.{Op}
+use Rattle.frang_base.specs.declared.op.Op.TheVariants as op
+use Rattle.frang_base.specs.declared.reply.Reply.{Reply}
+use Rattle.frang_base.specs.declared.reply.Reply.TheVariants as reply
+use Rattle.disk_definitions.specs.Store.{Store}
+use Rattle.store_changes.specs.Edits.{Edit}
+use Rattle.store_changes.specs.Edits.Edit.{SetInode, SetBit, SetUse, SetPlace, SetLarge, SetBytes, SetLargeBytes}
+use Rattle.pick_definitions.specs.Held.{bitmap_of}
+use Rattle.plan_definitions.specs.Ask.{run}
+use Rattle.plan_definitions.specs.Walks.{walk}
+use Rattle.plan_definitions.specs.Plans.{Hand, Lock, Plan, Finish}
+use Rattle.plan_definitions.specs.Plans.Plan.{Lacks, Clears, Finishes}
+use Rattle.plan_definitions.specs.PlanOf.{plan_of}
+
+-- held alone
+abbrev pub IsSole : List Lock → LockId → Type 0
+IsSole locks l = Contains locks (l, Sole)
+
+-- an inode is written under its node's lock, the bits and states of a segment under that segment's. What stands in blocks is under the lock of the
+-- node that has them, which goes by a naming and isn't said here
+abbrev pub IsCovered : List Lock → Edit → Type 0
+IsCovered locks (SetInode i x) = IsSole locks (lock.Node i)
+IsCovered locks (SetBit i b) = IsSole locks (lock.Segment (i / 64))
+IsCovered locks (SetUse k u) = IsSole locks (lock.Segment (k / 1024))
+IsCovered locks (SetLarge g b) = IsSole locks (lock.Segment g)
+IsCovered locks (SetPlace k p e) = Unit {0}
+IsCovered locks (SetBytes k part bytes) = Unit {0}
+IsCovered locks (SetLargeBytes g part bytes) = Unit {0}
+
+-- an allocation found nothing
+abbrev pub says_full : Reply → Bool
+says_full reply.NoInode = true
+says_full reply.NoDirBlock = true
+says_full reply.NoLarge = true
+says_full (reply.NoBlock m) = true
+says_full _ = false
+
+-- a finished plan: its edits are covered, and where an allocation found nothing each segment is held alone
+pub record FinishIsCovered (h : Hand) (f : Finish) : Type 0 where
+  pub edits : AllByRecursion (IsCovered f.locks) f.edits
+  pub full : says_full f.reply ≡ true → (k : ℕ) → is_some (bitmap_of h.held k) ≡ true → IsSole f.locks (lock.Segment k)
+
+abbrev pub PlanIsCovered : Hand → Plan → Type 0
+PlanIsCovered h Lacks = Unit {0}
+PlanIsCovered h (Clears k locks) = IsSole locks (lock.Segment (k / 1024))
+PlanIsCovered h (Finishes f) = FinishIsCovered h f
+
+-- over any disk, of a tree or not
+abbrev pub IsCoveredPlan : Op → Type 0
+IsCoveredPlan o = (h : Hand) (s : Store) (birth : ℕ) → PlanIsCovered h (run (plan_of h birth o) s)
+
+abbrev pub LocksCover : Type 0
+LocksCover = (o : Op) → IsCoveredPlan o
+
+-- these nodes are held with others
+abbrev pub AreHeld : List ℕ → Plan → Type 0
+AreHeld is Lacks = Unit {0}
+AreHeld is (Clears k locks) = (i : ℕ) → Contains is i → Contains locks (lock.Node i, Shared)
+AreHeld is (Finishes f) = (i : ℕ) → Contains is i → Contains f.locks (lock.Node i, Shared)
+
+-- so the directories in which the walk of this path looks up its names
+abbrev pub HoldsItsWalk : List (List ℕ) → Op → Type 0
+HoldsItsWalk path o = (h : Hand) (s : Store) (birth : ℕ) → AreHeld (run (walk path) s).dirs (run (plan_of h birth o) s)
+
+-- of looks and of file bytes
+pub record WalksAreHeld : Type 0 where
+  pub stat : (path : List (List ℕ)) → HoldsItsWalk path (op.Stat path)
+  pub list : (path : List (List ℕ)) → HoldsItsWalk path (op.List path)
+  pub readlink : (path : List (List ℕ)) → HoldsItsWalk path (op.Readlink path)
+  pub time : (path : List (List ℕ)) → HoldsItsWalk path (op.Time path)
+  pub read : (path : List (List ℕ)) (off len : ℕ) → HoldsItsWalk path (op.Read path off len)
+  pub truncate : (path : List (List ℕ)) (len : ℕ) → HoldsItsWalk path (op.Truncate path len)
+  pub write : (path : List (List ℕ)) (off : ℕ) (bytes : List ℕ) → HoldsItsWalk path (op.Write path off bytes)
+  pub fill : (path : List (List ℕ)) (off len byte : ℕ) → HoldsItsWalk path (op.Fill path off len byte)

@@ -1,0 +1,148 @@
+// Histories with recoveries, and the trees that they leave, worked out by hand.
+use file_tree::Tree;
+use frang_base::{NoMemory, Said};
+use reply_text::{read_line, write_line};
+use script_lang::read_script;
+use std::alloc::Global;
+use std::test::Fail;
+use tree_definitions::{Cell, Node};
+use tree_model::History;
+
+// What was made after the sync is lost.
+const UNSYNCED: &str = "0 mount : mounted
+0 create /a : ok
+0 sync : ok
+0 create /b : ok
+0 crash : ok
+! recovered 0 keeps 1.2";
+
+// One sector was written after the sync, so that it shows any bytes, and from then on those.
+const READ: &str = "0 mount : mounted
+1 mount : mounted
+0 create /a : ok
+0 fill /a 0 600 41 : ok
+0 sync : ok
+0 fill /a 0 10 42 : ok
+0 crash : ok
+! recovered 0 keeps 1.4
+1 read /a 0 4 : data 42414242";
+
+// A server that looked at the file has waited for its bytes.
+const TOUCHED: &str = "0 mount : mounted
+1 mount : mounted
+0 create /a : ok
+0 fill /a 0 600 41 : ok
+0 sync : ok
+0 fill /a 0 10 42 : ok
+1 stat /a : file 600 1
+0 crash : ok
+! recovered 0 keeps 1.4";
+
+// Each recovery removes its own server's entries. A fill that stays leaves its sector in doubt, and one that is removed does not.
+const TWO_SERVERS: &str = "0 mount : mounted
+1 mount : mounted
+0 create /a : ok
+0 fill /a 0 600 41 : ok
+0 sync : ok
+1 create /b : ok
+1 fill /b 0 600 42 : ok
+1 sync : ok
+0 fill /a 512 8 43 : ok
+1 mkdir /d : ok
+0 create /c : ok
+1 fill /b 0 8 44 : ok
+0 crash : ok
+1 crash : ok
+! recovered 1 keeps 1.7
+! recovered 0 keeps 1.4";
+
+// What was done before the server's last mount stays.
+const MOUNTED_AGAIN: &str = "0 mount : mounted
+0 create /a : ok
+0 crash : ok
+0 mount : mounted
+! recovered 0 keeps 0.0";
+
+// A table's script and what was said of it. A recovery is an empty line of the script, so that a row's place is its line.
+fn split_table(alloc: Global, table: &str) -> Result<(Vec<u8>, Vec<Said>), NoMemory> {
+    let mut script = Vec::new(alloc);
+    let mut saids = Vec::new(alloc);
+    for (i, row) in table.split('\n').enumerate() {
+        let (asked, told) = row.split_once(" : ").unwrap_or(("", row));
+        script.extend_from_slice(asked.as_bytes())?;
+        script.push(b'\n')?;
+        let line = match asked.split_once(" ") {
+            Some((who, _)) => format!(in alloc; "{} {who} {told}\n", i as u64 + 1)?,
+            None => format!(in alloc; "{told}\n")?,
+        };
+        if let Some(said) = read_line(alloc, line.as_bytes())? {
+            saids.push(said)?;
+        }
+    }
+    Ok((script, saids))
+}
+
+fn mark(cell: &Cell) -> u8 {
+    match cell {
+        Cell::Byte(byte) => *byte,
+        Cell::Doubtful => b'?',
+    }
+}
+
+// The first and the last cell of each sector of a file.
+fn push_marks(cells: &[Cell], text: &mut Vec<u8>) -> Result<(), NoMemory> {
+    for sector in cells.chunks(512) {
+        if let [first, .., last] = sector {
+            text.push(mark(first))?;
+            text.push(mark(last))?;
+        }
+    }
+    text.push(b'\n')?;
+    Ok(())
+}
+
+// The lines of a tree, and then the marks of its files.
+fn picture(alloc: Global, tree: &Tree) -> Result<Vec<u8>, NoMemory> {
+    let mut text = Vec::new(alloc);
+    for line in &tree.lines()? {
+        write_line(alloc, line, &mut text)?;
+    }
+    for node in tree.nodes().values() {
+        if let Node::File { cells, .. } = node {
+            push_marks(cells.as_slice(), &mut text)?;
+        }
+    }
+    Ok(text)
+}
+
+// The picture of the tree that a table leaves of a fresh one.
+fn tree_left(alloc: Global, table: &str) -> Result<Vec<u8>, NoMemory> {
+    let (script, saids) = split_table(alloc, table)?;
+    let Ok(script) = read_script(alloc, &script) else {
+        return Ok(Vec::new(alloc));
+    };
+    let history = History::live(alloc, &script, 1, &saids)?;
+    if !history.has_proper_targets() {
+        return Ok(Vec::new(alloc));
+    }
+    picture(alloc, &history.tree(&Tree::fresh(alloc, 16)?)?)
+}
+
+#[test]
+fn recoveries_leave_trees(rt: HostRuntime) -> Result<(), Fail> {
+    let rows = [
+        (UNSYNCED, "= / dir 1\n= /a file 0 1\n\n"),
+        (READ, "= / dir 1\n= /a file 600 1\nB?AA\n"),
+        (TOUCHED, "= / dir 1\n= /a file 600 1\nBAAA\n"),
+        (
+            TWO_SERVERS,
+            "= / dir 2\n= /a file 600 1\n= /b file 600 1\nAA??\nBBBB\n",
+        ),
+        (MOUNTED_AGAIN, "= / dir 1\n= /a file 0 1\n\n"),
+    ];
+    for (table, wanted) in rows {
+        let text = tree_left(rt.alloc(), table)?;
+        assert_eq!(rt; text.as_slice(), wanted.as_bytes());
+    }
+    Ok(())
+}

@@ -1,0 +1,181 @@
+-- Reading records among sectors: without the first sectors, with further ones behind, and which sectors are read up to an end.
+use Rattle.std.proofs.Common.{◌≡◌, ℕ, zero, suc, ◌+◌, ◌-◌, ◌<◌, ◌≤◌, ⊎_elim, Bool, true, false, ◌&&◌, ◌==◌, nat_le, Option, Some, None, List, [], ◌∷◌, ◌++◌, length, take, drop, map, get_or, cond, refl, sym, ap, ◌∙◌, subst, arith, append-nil, length-append, ne_eqb, eqb-true}
+use Rattle.std.specs.List.{list_all, filter_map, cons_option}
+use Rattle.std.specs.Option.{option_map}
+use Rattle.std.proofs.lemmas.Bool.{and_left, and_right, and_parts, cases_lt, cases_eq, cond-false}
+use Rattle.std.proofs.lemmas.List.{take_all, take-append-le, map-append, get_or_append_left, get_or_push}
+use Rattle.std.proofs.lemmas.List.Elements.{filter_map-append}
+use Rattle.tree_definitions.specs.Numbers.{below}
+use Rattle.sector_definitions.specs.declared.log_sector.LogSector.{LogSector}
+use Rattle.log_definitions.specs.declared.redo.Redo.{Redo}
+use Rattle.log_definitions.specs.Records.{record_in}
+use Rattle.log_definitions.specs.Logs.{Slots, sector_numbered, window, is_end, sectors_read, is_part, are_parts, used_bytes, record_of, record_at, records_among}
+use Rattle.log_definitions.proofs.EndLaws.{sector_of_number, end_is_high, end_stands}
+
+-- ---- records that begin among the first sectors
+
+-- one more, if a record begins
+abbrev pub counted : Option Redo → ℕ → ℕ
+counted None n = n
+counted (Some r) n = suc n
+
+-- how many records begin among the first k sectors
+abbrev pub begun : List LogSector → ℕ → ℕ
+begun [] k = 0
+begun (x ∷ xs) zero = 0
+begun (x ∷ xs) (suc k) = counted (record_at (x ∷ xs)) (begun xs k)
+
+dropped : (o : Option Redo) (n : ℕ) (rs : List Redo) → drop (counted o n) (cons_option o rs) ≡ drop n rs
+dropped None n rs = refl
+dropped (Some r) n rs = refl
+
+-- without the first sectors the records that begin there are missing
+pub records_among-drop : (k : ℕ) (xs : List LogSector) → records_among (drop k xs) ≡ drop (begun xs k) (records_among xs)
+records_among-drop zero [] = refl
+records_among-drop (suc k) [] = refl
+records_among-drop zero (x ∷ xs) = refl
+records_among-drop (suc k) (x ∷ xs) = records_among-drop k xs ∙ sym (dropped (record_at (x ∷ xs)) (begun xs k) (records_among xs))
+
+counted_more : (o : Option Redo) (m n : ℕ) → m ≤ n → counted o m ≤ counted o n
+counted_more None m n h = h
+counted_more (Some r) m n h = omega arith
+
+pub begun_more : (xs : List LogSector) (j k : ℕ) → j ≤ k → begun xs j ≤ begun xs k
+begun_more [] j k h = omega arith
+begun_more (x ∷ xs) zero k h = omega arith
+begun_more (x ∷ xs) (suc j) zero h = absurd (omega arith)
+begun_more (x ∷ xs) (suc j) (suc k) h = counted_more (record_at (x ∷ xs)) (begun xs j) (begun xs k) (begun_more xs j k (omega arith))
+
+length_with : (o : Option Redo) (rs : List Redo) → length (cons_option o rs) ≡ counted o (length rs)
+length_with None rs = refl
+length_with (Some r) rs = refl
+
+pub begun_all : (xs : List LogSector) → begun xs (length xs) ≡ length (records_among xs)
+begun_all [] = refl
+begun_all (x ∷ xs) = ap (counted (record_at (x ∷ xs))) (begun_all xs) ∙ sym (length_with (record_at (x ∷ xs)) (records_among xs))
+
+pub begun_past : (xs : List LogSector) (k : ℕ) → length xs ≤ k → begun xs k ≡ length (records_among xs)
+begun_past [] k h = refl
+begun_past (x ∷ xs) zero h = absurd (omega arith)
+begun_past (x ∷ xs) (suc k) h = ap (counted (record_at (x ∷ xs))) (begun_past xs k (omega arith)) ∙ sym (length_with (record_at (x ∷ xs)) (records_among xs))
+
+pub begun_within : (xs : List LogSector) (k : ℕ) → begun xs k ≤ length (records_among xs)
+begun_within xs k =
+    ⊎_elim (λ l. let m : begun xs k ≤ begun xs (length xs) = begun_more xs k (length xs) (omega arith) in subst (λ n. begun xs k ≤ n) (begun_all xs) m)
+    (λ l. let e : begun xs k ≡ length (records_among xs) = begun_past xs k l in omega arith) (cases_lt k (length xs))
+
+-- ---- further sectors behind
+
+-- no record goes on in these sectors: the first one, if there is one, has part 0
+abbrev pub starts_anew : List LogSector → Bool
+starts_anew [] = true
+starts_anew (x ∷ xs) = x.part == 0
+
+-- sectors with one of part 0 behind the first are no parts of one record
+not_parts : (first : LogSector) (part : ℕ) (xs : List LogSector) (y : LogSector) (ys : List LogSector) → 0 < part + length xs → y.part ≡ 0 → are_parts first part (xs ++ y ∷ ys) ≡ false
+not_parts first part [] y ys h e = and_left (is_part first part y) (are_parts first (part + 1) ys) (and_right (y.op.0 == first.op.0 && y.parts == first.parts) (y.part == part) (ne_eqb y.part part (λ s. omega arith)))
+not_parts first part (x ∷ xs) y ys h e = and_right (is_part first part x) (are_parts first (part + 1) (xs ++ y ∷ ys)) (not_parts first (part + 1) xs y ys (omega arith) e)
+
+-- the first sectors, more than those before one
+taken_past : (n : ℕ) (xs : List LogSector) (y : LogSector) (ys : List LogSector) → length xs < n → (zs : List LogSector) × (take n (xs ++ y ∷ ys) ≡ xs ++ y ∷ zs)
+taken_past zero xs y ys h = absurd (omega arith)
+taken_past (suc n) [] y ys h = (take n ys, refl)
+taken_past (suc n) (x ∷ xs) y ys h = let r = taken_past n xs y ys (omega arith) in (r.0, ap (λ zs. x ∷ zs) r.1)
+
+no_record_of : (first : LogSector) (parts : List LogSector) → (length parts == first.parts && are_parts first 0 parts) ≡ false → record_of first parts ≡ None
+no_record_of first parts e = cond-false (length parts == first.parts && are_parts first 0 parts) (option_map (λ changes. record { op = first.op; changes = changes }) (record_in (used_bytes parts))) None e
+
+-- a record that ends behind the last sector isn't whole, and can't go on in sectors that start anew
+cut_record : (x : LogSector) (xs ys : List LogSector) → starts_anew ys ≡ true → length (x ∷ xs) < x.parts → record_of x (take x.parts ((x ∷ xs) ++ ys)) ≡ record_of x (take x.parts (x ∷ xs))
+cut_record x xs [] anew h = ap (λ zs. record_of x (take x.parts zs)) (append-nil (x ∷ xs))
+cut_record x xs (y ∷ ys) anew h =
+    let taken = taken_past x.parts (x ∷ xs) y ys h in
+    let short : length (take x.parts (x ∷ xs)) ≡ length (x ∷ xs) = ap length (take_all x.parts (x ∷ xs) (omega arith)) in
+    ap (record_of x) taken.1
+    ∙ no_record_of x ((x ∷ xs) ++ y ∷ taken.0) (and_right (length ((x ∷ xs) ++ y ∷ taken.0) == x.parts) (are_parts x 0 ((x ∷ xs) ++ y ∷ taken.0)) (not_parts x 0 (x ∷ xs) y taken.0 (omega arith) (eqb-true y.part 0 anew)))
+    ∙ sym (no_record_of x (take x.parts (x ∷ xs)) (and_left (length (take x.parts (x ∷ xs)) == x.parts) (are_parts x 0 (take x.parts (x ∷ xs))) (ne_eqb (length (take x.parts (x ∷ xs))) x.parts (λ e. omega arith))))
+
+same_record_of : (x : LogSector) (xs ys : List LogSector) → starts_anew ys ≡ true → record_of x (take x.parts ((x ∷ xs) ++ ys)) ≡ record_of x (take x.parts (x ∷ xs))
+same_record_of x xs ys anew = ⊎_elim (cut_record x xs ys anew) (λ h. ap (record_of x) (take-append-le x.parts (x ∷ xs) ys h)) (cases_lt (length (x ∷ xs)) x.parts)
+
+pub record_at-append : (x : LogSector) (xs ys : List LogSector) → starts_anew ys ≡ true → record_at ((x ∷ xs) ++ ys) ≡ record_at (x ∷ xs)
+record_at-append x xs ys anew = ap (λ o. cond (x.part == 0 && nat_le 1 x.parts) o None) (same_record_of x xs ys anew)
+
+appended : (o : Option Redo) (rs qs : List Redo) → cons_option o (rs ++ qs) ≡ cons_option o rs ++ qs
+appended None rs qs = refl
+appended (Some r) rs qs = refl
+
+pub records_among-append : (xs ys : List LogSector) → starts_anew ys ≡ true → records_among (xs ++ ys) ≡ records_among xs ++ records_among ys
+records_among-append [] ys anew = refl
+records_among-append (x ∷ xs) ys anew =
+    ap (λ o. cons_option o (records_among (xs ++ ys))) (record_at-append x xs ys anew) ∙ ap (cons_option (record_at (x ∷ xs))) (records_among-append xs ys anew)
+    ∙ appended (record_at (x ∷ xs)) (records_among xs) (records_among ys)
+
+pub begun-append : (xs ys : List LogSector) → starts_anew ys ≡ true → begun (xs ++ ys) (length xs) ≡ length (records_among xs)
+begun-append [] [] anew = refl
+begun-append [] (y ∷ ys) anew = refl
+begun-append (x ∷ xs) ys anew =
+    ap (λ o. counted o (begun (xs ++ ys) (length xs))) (record_at-append x xs ys anew) ∙ ap (counted (record_at (x ∷ xs))) (begun-append xs ys anew)
+    ∙ sym (length_with (record_at (x ∷ xs)) (records_among xs))
+
+-- no record begins in a sector of no part
+no_record_at : (x : LogSector) (xs : List LogSector) → x.parts ≡ 0 → record_at (x ∷ xs) ≡ None
+no_record_at x xs e = cond-false (x.part == 0 && nat_le 1 x.parts) (record_of x (take x.parts (x ∷ xs))) None (and_right (x.part == 0) (nat_le 1 x.parts) (ap (nat_le 1) e))
+
+pub no_records : (xs : List LogSector) → list_all (λ x. x.parts == 0) xs ≡ true → records_among xs ≡ []
+no_records [] all = refl
+no_records (x ∷ xs) all =
+    let p = and_parts (x.parts == 0) (list_all (λ y. y.parts == 0) xs) all in
+    ap (λ o. cons_option o (records_among xs)) (no_record_at x xs (eqb-true x.parts 0 p.0)) ∙ no_records xs p.1
+
+-- ---- the sectors up to an end
+
+module _ {X : Type 0} (f : ℕ → Option X) (g : ℕ → ℕ) where
+  -- what is found at the numbers below n
+  pub found : ℕ → List X
+  found n = filter_map f (map g (below n))
+
+  found_more : (n : ℕ) (x : X) → f (g n) ≡ Some x → found (suc n) ≡ found n ++ x ∷ []
+  unfolding found
+  found_more n x e = ap (filter_map f) (map-append g (below n) (n ∷ [])) ∙ filter_map-append f (map g (below n)) (g n ∷ []) ∙ ap (λ o. filter_map f (map g (below n)) ++ cons_option o []) e
+
+  -- something is found at each
+  abbrev pub Each : ℕ → Type 0
+  Each n = (k : ℕ) → k < n → (x : X) × (f (g k) ≡ Some x)
+
+  pub length_found : (n : ℕ) → Each n → length (found n) ≡ n
+  unfolding found
+  length_found zero each = refl
+  length_found (suc n) each =
+      let e : length (found n) ≡ n = length_found n (λ k h. each k (omega arith)) in
+      let last = each n (omega arith) in
+      let both = length-append (found n) (last.0 ∷ []) in
+      ap length (found_more n last.0 last.1) ∙ both ∙ (omega arith)
+
+  pub found_at : (n : ℕ) → Each n → (k : ℕ) → k < n → (d : X) → Some (get_or (found n) k d) ≡ f (g k)
+  found_at zero each k h d = absurd (omega arith)
+  found_at (suc n) each k h d =
+      let before : Each n = λ j l. each j (omega arith) in
+      let last = each n (omega arith) in
+      let e = length_found n before in
+      ap (λ xs. Some (get_or xs k d)) (found_more n last.0 last.1)
+      ∙ ⊎_elim (λ s. ap (λ x. Some x) (get_or_push (found n) last.0 d k (e ∙ sym s)) ∙ sym last.1 ∙ ap (λ j. f (g j)) (sym s))
+      (λ ne. let l : k < n = omega arith in ap (λ x. Some x) (get_or_append_left (found n) (last.0 ∷ []) d k (omega arith)) ∙ found_at n before k l d) (cases_eq k n)
+
+sectors_are : (slots : Slots) (end : ℕ) → 191 ≤ end → sectors_read slots end ≡ found (sector_numbered slots) (λ k. end - 191 + k) 192
+unfolding found window
+sectors_are slots zero h = absurd (omega arith)
+sectors_are slots (suc end) h = refl
+
+each_stands : (slots : Slots) (end : ℕ) → is_end slots end ≡ true → (k : ℕ) → k < 192 → (x : LogSector) × (sector_numbered slots (end - 191 + k) ≡ Some x)
+each_stands slots end e k h = let low : 191 ≤ end = end_is_high slots end e in sector_of_number slots (end - 191 + k) (end_stands slots end e (end - 191 + k) (omega arith) (omega arith))
+
+-- up to an end 192 sectors are read
+pub length-sectors_read : (slots : Slots) (end : ℕ) → is_end slots end ≡ true → length (sectors_read slots end) ≡ 192
+length-sectors_read slots end e =
+    ap length (sectors_are slots end (end_is_high slots end e)) ∙ length_found (sector_numbered slots) (λ k. end - 191 + k) 192 (each_stands slots end e)
+
+-- and these are the ones of the 192 numbers
+pub sector_read_at : (slots : Slots) (end : ℕ) → is_end slots end ≡ true → (k : ℕ) → k < 192 → (d : LogSector) → Some (get_or (sectors_read slots end) k d) ≡ sector_numbered slots (end - 191 + k)
+sector_read_at slots end e k h d =
+    ap (λ xs. Some (get_or xs k d)) (sectors_are slots end (end_is_high slots end e)) ∙ found_at (sector_numbered slots) (λ k. end - 191 + k) 192 (each_stands slots end e) k h d

@@ -1,0 +1,4 @@
+pub mod NumbersRead
+pub mod RecordBack
+pub mod RecordRead
+pub mod RecordSteps

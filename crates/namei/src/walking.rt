@@ -1,0 +1,51 @@
+// The walk of a path.
+ghost use Rattle.std.specs.Prelude.{◌≡◌};
+ghost use Rattle.pick_definitions.specs.Held.{Segments};
+ghost use Rattle.plan_definitions.specs.Walks as walks;
+ghost use Rattle.dir_lookup.specs.Reading.{reading};
+ghost use Rattle.dir_lookup.specs.Spots.{spot_of};
+ghost use Rattle.namei.specs.Steps.{step_at, step_of};
+
+use dir_lookup::{Refusal, Spot, walk_spot};
+use frang_base::{Path, Sector};
+use meta_version::Sectors;
+
+/// Where a walk leads over the sectors that are cached.
+#[derive(Clone, Copy, Debug, PartialEq, Eq)]
+pub enum Step {
+    /// This sector isn't cached, and is the first that the walk needs.
+    Need(Sector),
+    /// The path names the node of this inode.
+    At { inode: u32 },
+    /// A name isn't there.
+    NoEnt,
+    /// A node on the way is no directory.
+    NotDir,
+}
+
+/// The walk of a path from the root, whose inode is 0. It takes no memory.
+pub fn walk(path: &Path, sectors: &Sectors, root: u32) -> Step
+    requires { root ≡ 0 }
+    ensures { (held : Segments) → result ≡ step_of (reading (walks.walk path.now) sectors.now.entries held) }
+{
+    match walk_spot(sectors, path.as_slice()) {
+        Ok(spot) => step_at(&spot, root),
+        Err(need) => Step::Need(need.0),
+    }
+}
+
+// The node of a spot, or why there is none.
+fn step_at(spot: &Spot, root: u32) -> Step
+    requires { root ≡ 0 }
+    ensures { result ≡ step_at (spot_of spot.now) }
+{
+    match spot {
+        Spot::AtRoot => Step::At { inode: root },
+        Spot::AtName { found, .. } => Step::At {
+            inode: found.entry.inode,
+        },
+        Spot::AtGap { .. } => Step::NoEnt,
+        Spot::Lost(Refusal::NoEnt) => Step::NoEnt,
+        Spot::Lost(Refusal::NotDir) => Step::NotDir,
+    }
+}

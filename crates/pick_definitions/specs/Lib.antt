@@ -1,0 +1,5 @@
+pub mod Least
+pub mod Held
+pub mod Picks
+pub mod Taken
+pub mod Laws

@@ -1,0 +1,10 @@
+// What a small block is picked for.
+
+/// What a small block is to hold.
+#[derive(Clone, Copy, Debug, PartialEq, Eq)]
+pub enum Use {
+    /// Bytes of a file.
+    Bytes,
+    /// Entries of a directory.
+    Directory,
+}

@@ -1,0 +1,9 @@
+pub mod Ask
+pub mod Walks
+pub mod Plans
+pub mod NamePlans
+pub mod FilePlans
+pub mod LookPlans
+pub mod PlanOf
+pub mod Written
+pub mod Meets

@@ -1,0 +1,30 @@
+-- The plan of each operation.
+use Rattle.std.specs.Prelude.{ℕ, []}
+use Rattle.frang_base.specs.declared.op.Op.{Op}
+use Rattle.frang_base.specs.declared.op.Op.TheVariants as op
+use Rattle.frang_base.specs.declared.reply.Reply.TheVariants as reply
+use Rattle.tree_definitions.specs.declared.node.Node.TheVariants.{Dir, File, Link}
+use Rattle.plan_definitions.specs.Ask.{Ask}
+use Rattle.plan_definitions.specs.Plans.{Hand, Plan, refused}
+use Rattle.plan_definitions.specs.NamePlans.{plan_made, plan_linked, plan_unlinked, plan_dir_removed, plan_renamed}
+use Rattle.plan_definitions.specs.FilePlans.{plan_written, plan_filled, plan_truncated, plan_read}
+use Rattle.plan_definitions.specs.LookPlans.{plan_described, plan_listed, plan_target, plan_timed}
+
+-- of an operation with a path, whose new node would have this birth; an operation without one isn't planned
+abbrev pub plan_of : Hand → ℕ → Op → Ask Plan
+plan_of h birth (op.Create path) = plan_made h birth (File [] 1) path
+plan_of h birth (op.Mkdir path) = plan_made h birth (Dir [] 0) path
+plan_of h birth (op.Symlink path target) = plan_made h birth (Link target 1) path
+plan_of h birth (op.Link path to) = plan_linked h path to
+plan_of h birth (op.Unlink path) = plan_unlinked path
+plan_of h birth (op.Rmdir path) = plan_dir_removed path
+plan_of h birth (op.Rename path to) = plan_renamed h path to
+plan_of h birth (op.Write path off bytes) = plan_written h path off bytes
+plan_of h birth (op.Fill path off len byte) = plan_filled h path off len byte
+plan_of h birth (op.Truncate path len) = plan_truncated path len
+plan_of h birth (op.Read path off len) = plan_read path off len
+plan_of h birth (op.Stat path) = plan_described path
+plan_of h birth (op.List path) = plan_listed path
+plan_of h birth (op.Readlink path) = plan_target path
+plan_of h birth (op.Time path) = plan_timed path
+plan_of h birth op = refused reply.Ok []

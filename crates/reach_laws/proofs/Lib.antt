@@ -1,0 +1,10 @@
+pub mod Walks
+pub mod NamesThere
+pub mod Reaching
+pub mod Changes
+pub mod Adding
+pub mod Removing
+pub mod Homeward
+pub mod Moving
+pub mod Applied
+pub mod Steps

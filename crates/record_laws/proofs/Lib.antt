@@ -1,0 +1,13 @@
+pub mod Grammar
+pub mod Kept
+pub mod SegmentEdits
+pub mod InodeEdits
+pub mod PlaceEdits
+pub mod ByteEdits
+pub mod EditLaws
+pub mod LaidOver
+pub mod Versioned
+pub mod NearBy
+pub mod RecordLaws
+pub mod DiskLaws
+pub mod RecordFits

@@ -1,0 +1,4 @@
+pub mod Fit
+pub mod Says
+pub mod Ready
+pub mod Laws

@@ -1,0 +1,15 @@
+pub mod Shown
+pub mod Standing
+pub mod Along
+pub mod Parts
+pub mod OneRecord
+pub mod WholeRecords
+pub mod PlacedRecords
+pub mod PlacedReads
+pub mod Flags
+pub mod Good
+pub mod Stepping
+pub mod Beginning
+pub mod Ending
+pub mod ReadingBack
+pub mod RingExamples

@@ -1,0 +1,187 @@
+-- Rings and the logs behind them, by hand.
+use Rattle.std.proofs.Common.{◌≡◌, ℕ, ◌+◌, ◌-◌, ◌^◌, true, false, Option, Some, None, Ok, Err, List, [], ◌∷◌, replicate, refl}
+use Rattle.std.specs.Option.{option_map}
+use Rattle.frang_base.specs.declared.sector.Sector.{Sector}
+use Rattle.sector_definitions.specs.declared.log_sector.LogSector.{LogSector}
+use Rattle.sector_definitions.specs.Bytes.{zeros}
+use Rattle.sector_definitions.specs.LogSectors.{log_sector_bytes, log_sector_in}
+use Rattle.log_definitions.specs.declared.redo.Redo.{Redo}
+use Rattle.log_definitions.specs.Logs.{Slots, window, numbers_in, log_end, log_records, is_sealed}
+use Rattle.log_definitions.specs.Arriving.{with_sectors}
+use Rattle.ring_definitions.specs.declared.ring.Named.{Named}
+use Rattle.ring_definitions.specs.declared.ring.RingFault.TheVariants.{Full}
+use Rattle.ring_definitions.specs.RingRuns.{LogEvent, log_at, may_all_happen, after_log_events}
+use Rattle.ring_definitions.specs.RingRuns.LogEvent.{Append, Issue, Arrive, Acknowledge, GiveUp}
+use Rattle.ring_definitions.specs.Rings.{Ring, ring_at, is_record, sectors_needed, part_sector, last, free, appended, append_answer, next_sector, issued, acked, oldest_versions, reclaimed, unwritten}
+
+-- a record of one short change of a sector
+abbrev redo : ℕ → ℕ → Redo
+redo op sector = record { op = record { 0 = op }; changes = record { sector = record { 0 = sector }; version = 1; patches = record { at = 8; bytes = 1 ∷ [] } ∷ [] } ∷ [] }
+
+-- it takes one sector, of this number
+abbrev alone : ℕ → LogSector
+alone number = part_sector number (redo number 5) 0
+
+in_one_sector : sectors_needed (redo 9 5) ≡ 1
+in_one_sector = refl
+
+a_record : is_record (redo (2 ^ 64 - 1) 5) ≡ true
+a_record = refl
+
+no_operation : is_record (redo 0 5) ≡ false
+no_operation = refl
+
+-- 8 bytes don't hold its operation, and so its sector would read as none
+an_operation_past_its_field : is_record (redo (2 ^ 64) 5) ≡ false
+an_operation_past_its_field = refl
+
+its_sector_is_none : log_sector_in 0 (log_sector_bytes (part_sector 256 (redo (2 ^ 64) 5) 0)) ≡ None
+unfolding zeros
+its_sector_is_none = refl
+
+-- ---- logs
+
+-- the log of a new disk
+abbrev new_log : Slots
+new_log slot = zeros 512
+
+ends_at_255 : log_end new_log ≡ 255
+unfolding zeros window numbers_in log_end
+ends_at_255 = refl
+
+is_new : is_sealed new_log ≡ true
+unfolding zeros window numbers_in log_end
+is_new = refl
+
+-- two sectors arrived, and the one between them didn't
+abbrev gap_log : Slots
+gap_log = with_sectors new_log (alone 256 ∷ alone 258 ∷ [])
+
+ends_at_256 : log_end gap_log ≡ 256
+unfolding zeros window numbers_in log_end
+ends_at_256 = refl
+
+one_record : log_records gap_log ≡ redo 256 5 ∷ []
+unfolding zeros window numbers_in log_end
+one_record = refl
+
+-- it arrives too
+abbrev whole_log : Slots
+whole_log = with_sectors gap_log (alone 257 ∷ [])
+
+ends_at_258 : log_end whole_log ≡ 258
+unfolding zeros window numbers_in log_end
+ends_at_258 = refl
+
+three_records : log_records whole_log ≡ redo 256 5 ∷ redo 257 5 ∷ redo 258 5 ∷ []
+unfolding zeros window numbers_in log_end
+three_records = refl
+
+-- ---- rings
+
+-- a ring behind a new log, with two records
+abbrev ring : Ring
+ring = appended (appended (ring_at 255) (redo 9 5)) (redo 10 6)
+
+-- a sector's number
+abbrev number_of : Option (ℕ × List ℕ) → Option ℕ
+number_of o = option_map (λ x. x.0) o
+
+nothing_waits : number_of (next_sector (ring_at 255)) ≡ None
+nothing_waits = refl
+
+first_number : number_of (next_sector ring) ≡ Some 256
+first_number = refl
+
+next_number : number_of (next_sector (issued ring)) ≡ Some 257
+next_number = refl
+
+all_issued : number_of (next_sector (issued (issued ring))) ≡ None
+all_issued = refl
+
+-- acknowledged in the other order
+one_ahead : (acked (issued (issued ring)) 257).reached ≡ 255
+one_ahead = refl
+
+both : (acked (acked (issued (issued ring)) 257) 256).reached ≡ 257
+both = refl
+
+again : acked (acked (issued ring) 256) 256 ≡ acked (issued ring) 256
+again = refl
+
+-- ---- bounds
+
+-- so many numbers are issued and not acknowledged, and one waits
+abbrev behind : ℕ → Ring
+behind n = record { given_up = 255; reached = 255; above = replicate n false; waiting = alone (256 + n) ∷ []; named = [] }
+
+the_64th_is_given : number_of (next_sector (behind 63)) ≡ Some 319
+the_64th_is_given = refl
+
+the_65th_waits : number_of (next_sector (behind 64)) ≡ None
+the_65th_waits = refl
+
+-- so many numbers are acknowledged and not given up
+abbrev held : ℕ → Ring
+held n = record { given_up = 255; reached = 255 + n; above = []; waiting = []; named = [] }
+
+one_is_free : append_answer (held 191) (redo 9 5) ≡ Ok 447
+one_is_free = refl
+
+none_is_free : append_answer (held 192) (redo 9 5) ≡ Err (Full 1 0)
+none_is_free = refl
+
+-- ---- giving up
+
+-- a sector that a record names
+abbrev named : ℕ → ℕ → ℕ → Named
+named sector version last = record { sector = record { 0 = sector }; version = version; last = last }
+
+-- records that end at 256, at 319 and at 320
+abbrev full : Ring
+full = record { given_up = 255; reached = 320; above = []; waiting = []; named = named 5 1 256 ∷ named 6 1 256 ∷ named 5 2 319 ∷ named 5 3 320 ∷ [] }
+
+the_oldest_64_name : oldest_versions full ≡ (5, 2) ∷ (6, 1) ∷ []
+the_oldest_64_name = refl
+
+given_up_to : (reclaimed full).given_up ≡ 319
+given_up_to = refl
+
+the_last_stays : (reclaimed full).named ≡ named 5 3 320 ∷ []
+the_last_stays = refl
+
+freed : free (reclaimed full) ≡ 191
+freed = refl
+
+-- what is known to stand on the disk
+abbrev stands : ℕ → ℕ → Sector × ℕ
+stands sector version = (record { 0 = sector }, version)
+
+all_stand : unwritten full (stands 6 1 ∷ stands 5 2 ∷ []) ≡ None
+all_stand = refl
+
+an_older_one_stands : unwritten full (stands 6 1 ∷ stands 5 1 ∷ []) ≡ Some (record { sector = record { 0 = 5 } })
+an_older_one_stands = refl
+
+-- ---- runs
+
+-- two sectors arrive in the other order, and the first record is given up with the second
+abbrev run : List LogEvent
+run = Append (redo 9 5) ∷ Append (redo 10 6) ∷ Issue ∷ Issue ∷ Arrive 257 ∷ Acknowledge 257 ∷ Arrive 256 ∷ Acknowledge 256 ∷ GiveUp ∷ []
+
+it_may_happen : may_all_happen (log_at new_log) run ≡ true
+unfolding zeros window numbers_in log_end
+it_may_happen = refl
+
+it_reads_as_both : log_records (after_log_events (log_at new_log) run).slots ≡ redo 9 5 ∷ redo 10 6 ∷ []
+unfolding zeros window numbers_in log_end
+it_reads_as_both = refl
+
+-- of a sector on its way no acknowledgement comes, and none is issued where none waits
+too_early : may_all_happen (log_at new_log) (Append (redo 9 5) ∷ Issue ∷ Acknowledge 256 ∷ []) ≡ false
+unfolding zeros window numbers_in log_end
+too_early = refl
+
+none_waits : may_all_happen (log_at new_log) (Append (redo 9 5) ∷ Issue ∷ Issue ∷ []) ≡ false
+unfolding zeros window numbers_in log_end
+none_waits = refl

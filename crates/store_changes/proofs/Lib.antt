@@ -1,0 +1,16 @@
+pub mod Puts
+pub mod Names
+pub mod Kept
+pub mod Rooms
+pub mod Free
+pub mod NewNode
+pub mod Entry
+pub mod Grow
+pub mod Relink
+pub mod Replace
+pub mod Counts
+pub mod DropNode
+pub mod Freeing
+pub mod Indices
+pub mod Resize
+pub mod WorkedChanges

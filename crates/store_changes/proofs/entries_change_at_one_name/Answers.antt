@@ -1,0 +1,18 @@
+-- By the lemmas over plain variables.
+use Rattle.store_changes.proofs.Names.{names_come}
+use Rattle.store_changes.proofs.Names.{names_go}
+use Rattle.store_changes.proofs.Names.{names_move}
+use Rattle.store_changes.proofs.Names.{names_are_taken}
+use Rattle.store_changes.proofs.entries_change_at_one_name.Goals as goal
+
+pub returns-clause-comes : goal.returns-clause-comes
+returns-clause-comes c = names_come
+
+pub returns-clause-goes : goal.returns-clause-goes
+returns-clause-goes c = names_go
+
+pub returns-clause-moves : goal.returns-clause-moves
+returns-clause-moves c = names_move
+
+pub returns-clause-taken : goal.returns-clause-taken
+returns-clause-taken c = names_are_taken

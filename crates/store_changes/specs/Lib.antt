@@ -1,0 +1,5 @@
+pub mod Edits
+pub mod Changes
+pub mod Namings
+pub mod Laws
+pub mod Resizing

@@ -1,7 +1,0 @@
-use Rattle.std.proofs.Common.{◌≡◌, replicate}
-use Rattle.std.proofs.Math.Seq.{paste}
-use Rattle.tree_definitions.specs.declared.cells.Cell.TheVariants.{Byte}
-use Rattle.tree_definitions.proofs.cells.put_byte.Given as goal
-
-abbrev pub invariant-loop-i : goal.invariant-loop-i
-invariant-loop-i l = l.cells ≡ paste l.initial.cells l.off (replicate l.i (Byte l.byte)) l.i

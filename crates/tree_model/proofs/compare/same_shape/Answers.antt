@@ -1,0 +1,7 @@
+use Rattle.std.proofs.Common.{arith}
+use Rattle.std.proofs.lemmas.Bool.Decides.{nat_tests}
+use Rattle.tree_model.proofs.Comparing.{files_same}
+use Rattle.tree_model.proofs.compare.same_shape.Goals as goal
+
+pub returns-then-len : goal.returns-then-len
+returns-then-len c = grind (arith, nat_tests, files_same c.in-File-File.cells c.in-File-File.others c.in-File-File.links c.in-File-File.n)

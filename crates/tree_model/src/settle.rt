@@ -1,0 +1,183 @@
+// A history once its recoveries have acted, and the tree that it leaves.
+ghost use Rattle.std.specs.Prelude.{◌≡◌, ◌++◌, ◌+◌, ◌/◌, ◌≤◌, ℕ, not, false, map, filter, IfOk, OnOk, IsTrue};
+ghost use Rattle.std.specs.List.{list_any, list_all, flat_map};
+ghost use Rattle.tree_definitions.specs.Numbers.{below};
+ghost use Rattle.tree_definitions.specs.History.{after_all};
+ghost use Rattle.tree_definitions.specs.Removal.{mounts, is_of, begins_removal, left, sector_cells, file_sectors, is_doubtful, doubtful, recovered, settled, tree_from};
+ghost use Rattle.tree_model.specs.Replayed.{is_within, all_within};
+
+use crate::doubt::{Sought, is_doubtful};
+use crate::steps::{CellRun, SECTOR_BYTES, Step, any_mounts};
+use crate::{History, Tree};
+use frang_base::{NoMemory, OpNo, ServerId};
+use tree_definitions::{Item, Node};
+
+// Whether a server's removal begins at a step: what it lost, after its last mount.
+fn begins_removal(
+    server: ServerId,
+    keeps: OpNo,
+    tree: &Tree,
+    step: &Step,
+    rest: &[Step],
+) -> Result<bool, NoMemory>
+    ensures { IfOk result (λ it. it ≡ begins_removal server.0 keeps.0 tree.now step.now rest.now) }
+{
+    Ok(step.is_lost(server, keeps, tree)? && !any_mounts(server, rest))
+}
+
+// Adds the steps that are no entries of a server.
+fn push_others<'h>(
+    server: ServerId,
+    steps: &[Step<'h>],
+    kept: &mut Vec<Step<'h>>,
+) -> Result<(), NoMemory>
+    ensures { OnOk result (kept.new.items ≡ kept.old.items ++ filter (λ t. not (is_of server.0 t)) steps.now) }
+{
+    for step in steps {
+        if !step.is_of(server) {
+            kept.push(step.try_copy()?)?;
+        }
+    }
+    Ok(())
+}
+
+// The steps that are left where a server's removal has acted.
+fn left<'h>(
+    server: ServerId,
+    keeps: OpNo,
+    opening: &Tree,
+    list: &[Step<'h>],
+) -> Result<Vec<Step<'h>>, NoMemory>
+    ensures { IfOk result (λ kept. kept.items ≡ left server.0 keeps.0 opening.now list.now) }
+{
+    let mut tree = opening.try_copy()?;
+    let mut kept = Vec::new(opening.alloc());
+    let mut rest = list;
+    while let [step, later @ ..] = rest {
+        if begins_removal(server, keeps, &tree, step, later)? {
+            push_others(server, later, &mut kept)?;
+            return Ok(kept);
+        }
+        kept.push(step.try_copy()?)?;
+        step.take(&mut tree)?;
+        rest = later;
+    }
+    Ok(kept)
+}
+
+// The tree at the end of a list of steps.
+fn tree_at_end(opening: &Tree, list: &[Step]) -> Result<Tree, NoMemory>
+    ensures { IfOk result (λ tree. tree ≡ after_all opening.now list.now) }
+{
+    let mut tree = opening.try_copy()?;
+    for step in list {
+        step.take(&mut tree)?;
+    }
+    Ok(tree)
+}
+
+// The sectors of a file of this size.
+fn sectors_of(size: usize) -> usize
+    requires { size ≤ 1114112 }
+    ensures { result ≡ (size + 511) / 512 }
+{
+    (size + (SECTOR_BYTES - 1)) / SECTOR_BYTES
+}
+
+// Adds the cells of a file's sectors that are in doubt at the end of a list.
+fn push_sectors(
+    server: ServerId,
+    birth: u64,
+    size: usize,
+    opening: &Tree,
+    list: &[Step],
+    runs: &mut Vec<CellRun>,
+) -> Result<(), NoMemory>
+    requires { size ≤ 1114112 }
+    ensures { OnOk result (runs.new.items ≡ runs.old.items ++ map (sector_cells birth size) (filter (λ sector. is_doubtful server.0 birth sector false opening.now list.now) (below ((size + 511) / 512)))) }
+{
+    for sector in 0..sectors_of(size) {
+        let sought = Sought {
+            server,
+            birth,
+            sector,
+        };
+        if is_doubtful(&sought, opening, list)? {
+            runs.push(CellRun::of_sector(birth, size, sector))?;
+        }
+    }
+    Ok(())
+}
+
+// Adds the cells of a node that are in doubt at the end of a list.
+fn push_node(
+    server: ServerId,
+    birth: u64,
+    node: &Node,
+    opening: &Tree,
+    list: &[Step],
+    runs: &mut Vec<CellRun>,
+) -> Result<(), NoMemory>
+    ensures { OnOk result (runs.new.items ≡ runs.old.items ++ file_sectors (λ b sector. is_doubtful server.0 b sector false opening.now list.now) birth node.now) }
+{
+    match node {
+        Node::File { cells, .. } => push_sectors(server, birth, cells.len(), opening, list, runs),
+        Node::Dir { .. } | Node::Link { .. } => Ok(()),
+    }
+}
+
+// The cells that come into doubt at the end of a list.
+fn doubtful(server: ServerId, opening: &Tree, list: &[Step]) -> Result<Vec<CellRun>, NoMemory>
+    ensures { IfOk result (λ runs. runs.items ≡ doubtful server.0 opening.now list.now) }
+{
+    let tree = tree_at_end(opening, list)?;
+    let mut runs = Vec::new(opening.alloc());
+    for (birth, node) in tree.nodes() {
+        push_node(server, *birth, node, opening, list, &mut runs)?;
+    }
+    Ok(runs)
+}
+
+// The list after a recovery: entries are gone, and then cells are in doubt.
+fn recovered<'h>(
+    opening: &Tree,
+    server: ServerId,
+    keeps: OpNo,
+    list: &[Step<'h>],
+) -> Result<Vec<Step<'h>>, NoMemory>
+    ensures { IfOk result (λ steps. steps.items ≡ recovered opening.now server.0 keeps.0 list.now) }
+{
+    let mut rest = left(server, keeps, opening, list)?;
+    let runs = doubtful(server, opening, &rest)?;
+    rest.push(Step::in_doubt(runs))?;
+    Ok(rest)
+}
+
+// The settled history.
+fn settled<'h>(opening: &Tree, history: &'h [Item]) -> Result<Vec<Step<'h>>, NoMemory>
+    requires { IsTrue (all_within history.now) }
+    ensures { IfOk result (λ steps. steps.items ≡ settled opening.now history.now) }
+{
+    let mut list = Vec::new(opening.alloc());
+    for item in history {
+        match item {
+            Item::Did(entry) => list.push(Step::stays(entry))?,
+            Item::Recovered { server, keeps } => {
+                list = recovered(opening, *server, *keeps, &list)?;
+            }
+        }
+    }
+    Ok(list)
+}
+
+impl History {
+    /// The tree that a history leaves of its opening's tree, once its recoveries have acted: each removes what its server's log lost,
+    /// and leaves bytes in doubt. An entry that doesn't fit where it stands leaves the tree.
+    pub fn tree(&self, opening: &Tree) -> Result<Tree, NoMemory>
+        requires { IsTrue (all_within self.now) }
+        ensures { IfOk result (λ tree. tree ≡ tree_from opening.now self.now) }
+    {
+        let steps = settled(opening, self.as_slice())?;
+        tree_at_end(opening, &steps)
+    }
+}

@@ -1,0 +1,3 @@
+pub mod SpaciousRings
+pub mod Outcomes
+pub mod Kept

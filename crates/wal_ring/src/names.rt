@@ -1,0 +1,124 @@
+// What the records of a ring name.
+ghost use Rattle.std.specs.Prelude.{◌≡◌, ◌+◌, ◌≤◌, [], ◌++◌, nat_le, length, not, fold, map, find, vec_len, vec_capacity, IfOk, OnOk};
+ghost use Rattle.std.specs.List.{filter};
+ghost use Rattle.std.specs.Option.{option_map};
+ghost use Rattle.ring_definitions.specs.Rings as rings;
+ghost use Rattle.ring_definitions.specs.Rings.{names_of, last_of, with_named};
+
+use frang_base::{NoMemory, Sector};
+use log_record::Redo;
+use ring_definitions::{Named, Unwritten};
+use std::alloc::Global;
+use std::collections::BTreeMap;
+
+// The oldest records end within so many numbers behind those that are given up.
+const OLDEST: u64 = 64;
+
+/// Adds what a record names behind the rest, with its last number. There is room.
+pub(crate) fn put_names(named: &mut Vec<Named>, redo: &Redo, last: u64)
+    requires { vec_len named.old + length redo.now.changes ≤ vec_capacity named.old }
+    ensures items { named.new.items ≡ named.old.items ++ names_of last redo.now }
+    ensures len { vec_len named.new ≡ vec_len named.old + length redo.now.changes }
+    ensures capacity { vec_capacity named.old ≤ vec_capacity named.new }
+{
+    let changes = redo.changes.as_slice();
+    for change in changes {
+        let name = Named {
+            sector: change.sector,
+            version: change.version,
+            last,
+        };
+        match named.push(name) {
+            Ok(()) => {}
+            Err(_) => unreachable!(),
+        }
+    }
+}
+
+// It belongs to the oldest records.
+fn is_oldest(given_up: u64, x: &Named) -> bool
+    ensures { result ≡ nat_le x.now.last (given_up + 64) }
+{
+    x.last <= given_up.saturating_add(OLDEST)
+}
+
+// The sector is known to stand on the disk in that version or a later one.
+fn is_known(disk: &[(Sector, u64)], x: &Named) -> bool
+    ensures { result ≡ rings.is_known disk.now x.now }
+{
+    disk.iter()
+        .any(|known| known.0.0 == x.sector.0 && x.version <= known.1)
+}
+
+/// The first sector of the oldest records that isn't known to be written.
+pub(crate) fn unwritten(given_up: u64, named: &[Named], disk: &[(Sector, u64)]) -> Option<Unwritten>
+    ensures { result ≡ option_map (λ x. record { sector = x.sector }) (find (λ x. not (rings.is_known disk.now x)) (filter (λ x. nat_le x.last (given_up + 64)) named.now)) }
+{
+    let x = named
+        .iter()
+        .filter(|x| is_oldest(given_up, x))
+        .find(|x| !is_known(disk, x))?;
+    Some(Unwritten { sector: x.sector })
+}
+
+/// The last number of the oldest records, or that which is given up.
+pub(crate) fn last_of_oldest(given_up: u64, named: &[Named]) -> u64
+    ensures { result ≡ last_of given_up (filter (λ x. nat_le x.last (given_up + 64)) named.now) }
+{
+    let mut last = given_up;
+    for x in named {
+        if is_oldest(given_up, x) {
+            last = x.last;
+        }
+    }
+    last
+}
+
+/// Takes out what the oldest records name.
+pub(crate) fn drop_oldest(given_up: u64, named: &mut Vec<Named>)
+    ensures items { named.new.items ≡ filter (λ x. not (nat_le x.last (given_up + 64))) named.old.items }
+    ensures capacity { vec_capacity named.new ≡ vec_capacity named.old }
+    ensures len { vec_len named.new ≤ vec_len named.old }
+{
+    named.retain(|x| !is_oldest(given_up, x));
+}
+
+/// The sectors that the oldest records name, each with its greatest version there.
+pub(crate) fn oldest_versions(
+    alloc: Global,
+    given_up: u64,
+    named: &[Named],
+) -> Result<BTreeMap<u64, u64>, NoMemory>
+    ensures { IfOk result (λ m. m.entries ≡ fold with_named [] (filter (λ x. nat_le x.last (given_up + 64)) named.now)) }
+{
+    let mut versions = BTreeMap::new(alloc);
+    for x in named {
+        if is_oldest(given_up, x) {
+            note(&mut versions, x)?;
+        }
+    }
+    Ok(versions)
+}
+
+// The greater one of the sector's versions is kept.
+fn note(versions: &mut BTreeMap<u64, u64>, x: &Named) -> Result<(), NoMemory>
+    ensures { OnOk result (versions.new.entries ≡ with_named versions.old.entries x.now) }
+{
+    let known = versions.get(&x.sector.0).copied().unwrap_or(0);
+    versions.insert(x.sector.0, x.version.max(known))?;
+    Ok(())
+}
+
+/// The sectors with their versions, ascending.
+pub(crate) fn listed(
+    alloc: Global,
+    versions: &BTreeMap<u64, u64>,
+) -> Result<Vec<(Sector, u64)>, NoMemory>
+    ensures { IfOk result (λ list. map (λ entry. (entry.0.0, entry.1)) list.items ≡ versions.now.entries) }
+{
+    let mut list = Vec::new(alloc);
+    for (sector, version) in versions {
+        list.push((Sector(*sector), *version))?;
+    }
+    Ok(list)
+}

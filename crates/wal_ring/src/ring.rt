@@ -1,0 +1,259 @@
+// The ring.
+ghost use Rattle.std.specs.Prelude.{◌≡◌, ◌+◌, ◌-◌, ◌<◌, ◌≤◌, ◌^◌, map, Ok, IfOk, IsOk, OnOk, IsSomeAnd, IsTrue};
+ghost use Rattle.std.specs.VecDeque.{deque_len, deque_capacity};
+ghost use Rattle.ring_definitions.specs.Rings as rings;
+ghost use Rattle.ring_definitions.specs.Rings.{is_record, append_answer, ring_at, appended, passed, oldest_versions};
+ghost use Rattle.wal_ring.specs.SpaciousRings.{HasRoom, KeepsRoom, KeepsRoomBut};
+ghost use Rattle.wal_ring.specs.Outcomes.{AppendOutcome, ReserveOutcome, ReclaimOutcome};
+
+use crate::names::{drop_oldest, last_of_oldest, listed, oldest_versions, put_names, unwritten};
+use crate::parts::{put_sectors, sectors_needed};
+use frang_base::{Block, NoMemory, Sector};
+use log_record::{LogSector, RECORD_BYTES_MAX, Redo, push_record, sector_write};
+use ring_definitions::{Named, RingFault, Unwritten};
+use std::alloc::Global;
+use std::collections::VecDeque;
+use std::marker::Model;
+
+// So many numbers past the one up to which all are acknowledged may be issued.
+const ISSUES: usize = 64;
+// So many numbers may be given that aren't given up.
+const NUMBERS: u64 = 192;
+
+/// The log of a server in memory: its records that aren't given up, whose sectors have numbers that go on for ever, and which of these are issued and
+/// acknowledged. Contracts see the ring of the definitions, and for how many more sectors of its log and names of sectors there is room.
+#[derive(Debug, Drop)]
+pub struct Ring {
+    given_up: u64,
+    reached: u64,
+    above: VecDeque<bool>,
+    waiting: VecDeque<LogSector>,
+    named: Vec<Named>,
+    // The body of a record while it is cut into sectors.
+    body: Vec<u8>,
+    alloc: Global,
+}
+
+impl Model for Ring {
+    ghost use Rattle.std.specs.Prelude.{◌-◌, vec_len, vec_capacity};
+    ghost use Rattle.std.specs.VecDeque.{deque_len, deque_capacity};
+    ghost use Rattle.wal_ring.specs.SpaciousRings.{SpaciousRing};
+    ghost use Rattle.wal_ring.specs.Kept.{IsKept};
+
+    ghost Value = { SpaciousRing };
+
+    ghost view = { λ r. record {
+      ring = record { given_up = r.given_up; reached = r.reached; above = r.above.items; waiting = r.waiting.items; named = r.named.items };
+      sectors = deque_capacity r.waiting - deque_len r.waiting;
+      names = vec_capacity r.named - vec_len r.named;
+    } };
+
+    ghost invariant = { λ r. IsKept r.reached r.above.items r.waiting.items (deque_capacity r.above) (vec_capacity r.body) };
+}
+
+impl Ring {
+    /// A ring that goes on behind the end of a log: the next number is `end` + 1. It has room for no record yet.
+    pub fn at(alloc: Global, end: u64) -> Result<Ring, NoMemory>
+        requires first { 255 ≤ end }
+        requires small { end < 2 ^ 62 }
+        ensures { IfOk result (λ r. r.ring ≡ ring_at end) }
+    {
+        Ok(Ring {
+            given_up: end,
+            reached: end,
+            above: VecDeque::with_capacity(alloc, ISSUES)?,
+            waiting: VecDeque::new(alloc),
+            named: Vec::new(alloc),
+            body: Vec::with_capacity(alloc, RECORD_BYTES_MAX)?,
+            alloc,
+        })
+    }
+
+    /// Appends a record, and answers the last number of its sectors. `Full` comes exactly where it needs more sectors than are free, and `NoMemory` only
+    /// where enough are free and there is no room. After both the ring is as before.
+    pub fn append(&mut self, redo: &Redo) -> Result<u64, RingFault>
+        requires record { IsTrue (is_record redo.now) }
+        requires numbers { rings.last self.old.ring < 2 ^ 63 - 16 }
+        ensures outcome { AppendOutcome redo.now self.old self.new result }
+        ensures sure { HasRoom self.old redo.now → result ≡ append_answer self.old.ring redo.now }
+        ensures last { IfOk result (λ number. rings.last self.new.ring ≡ number) }
+        ensures room { KeepsRoomBut redo.now self.old self.new }
+    {
+        self.reserve(redo)?;
+        Ok(self.put(redo))
+    }
+
+    // Appends a record for which there is room.
+    fn put(&mut self, redo: &Redo) -> u64
+        requires record { IsTrue (is_record redo.now) }
+        requires numbers { rings.last self.old.ring < 2 ^ 63 - 16 }
+        requires room { HasRoom self.old redo.now }
+        ensures ring { self.new.ring ≡ appended self.old.ring redo.now }
+        ensures answer { result ≡ rings.last self.old.ring + rings.sectors_needed redo.now }
+        ensures last { result ≡ rings.last self.new.ring }
+        ensures room { KeepsRoomBut redo.now self.old self.new }
+    {
+        let before = self.last();
+        let last = before + u64::from(sectors_needed(redo));
+        self.body.clear();
+        match push_record(&mut self.body, redo) {
+            Ok(()) => {}
+            Err(NoMemory) => unreachable!(),
+        }
+        put_sectors(&mut self.waiting, before + 1, redo, &self.body);
+        put_names(&mut self.named, redo, last);
+        last
+    }
+
+    // The last number issued.
+    fn sent(&self) -> u64
+        ensures { result ≡ rings.sent self.now.ring }
+    {
+        self.reached + self.above.len() as u64
+    }
+
+    // The last number given.
+    fn last(&self) -> u64
+        ensures number { result ≡ rings.last self.now.ring }
+        ensures first { 255 ≤ result }
+    {
+        self.sent() + self.waiting.len() as u64
+    }
+
+    // How many numbers are free.
+    fn free(&self) -> u32
+        ensures { result ≡ rings.free self.now.ring }
+    {
+        NUMBERS.saturating_sub(self.last().saturating_sub(self.given_up)) as u32
+    }
+
+    /// How many sectors a record needs, and how many are free: what `Full` would show. It takes no memory.
+    pub fn room(&self, redo: &Redo) -> Result<(u32, u32), NoMemory>
+        requires { IsTrue (is_record redo.now) }
+        ensures { result ≡ Ok (rings.sectors_needed redo.now, rings.free self.now.ring) }
+    {
+        Ok((u32::from(sectors_needed(redo)), self.free()))
+    }
+
+    /// Makes room for a record, so that its append as the next call takes no memory. Nothing else changes, whatever the answer. `Full` comes exactly as in
+    /// `append`, and `NoMemory` only where there is no room yet.
+    pub fn reserve(&mut self, redo: &Redo) -> Result<(), RingFault>
+        requires { IsTrue (is_record redo.now) }
+        ensures ring { self.new.ring ≡ self.old.ring }
+        ensures outcome { ReserveOutcome redo.now self.old self.new result }
+        ensures sure { HasRoom self.old redo.now → IsOk (append_answer self.old.ring redo.now) → IsOk result }
+        ensures room { KeepsRoom self.old self.new }
+    {
+        let (need, free) = (u32::from(sectors_needed(redo)), self.free());
+        if need > free {
+            return Err(RingFault::Full { need, free });
+        }
+        self.make_room(need as usize, redo.changes.as_slice().len())
+            .map_err(|_| RingFault::NoMemory)
+    }
+
+    // Makes room for so many sectors of the log and names of sectors.
+    fn make_room(&mut self, sectors: usize, names: usize) -> Result<(), NoMemory>
+        ensures ring { self.new.ring ≡ self.old.ring }
+        ensures sectors { OnOk result (sectors ≤ self.new.sectors) }
+        ensures names { OnOk result (names ≤ self.new.names) }
+        ensures sure { sectors ≤ self.old.sectors → names ≤ self.old.names → IsOk result }
+        ensures room { KeepsRoom self.old self.new }
+    {
+        self.waiting.reserve(sectors)?;
+        self.named.reserve(names)?;
+        Ok(())
+    }
+
+    /// The next sector to be issued, with its number. `None` exactly where all are issued, or the number is more than 64 past the one up to which all are
+    /// acknowledged.
+    pub fn next_sector(&self) -> Option<(u64, Block)>
+        ensures { result ≡ rings.next_sector self.now.ring }
+    {
+        if self.above.len() >= ISSUES {
+            return None;
+        }
+        let sector = self.waiting.front()?;
+        let mut block = [0; 512];
+        sector_write(sector, &mut block);
+        Some((self.sent() + 1, block))
+    }
+
+    /// The sector that `next_sector` gives with this number is issued. It takes no memory.
+    pub fn issued(&mut self, seq: u64)
+        requires { IsSomeAnd (rings.next_sector self.old.ring) (λ x. x.0 ≡ seq) }
+        ensures ring { self.new.ring ≡ rings.issued self.old.ring }
+        ensures sent { rings.sent self.new.ring ≡ seq }
+        ensures last { rings.last self.new.ring ≡ rings.last self.old.ring }
+        ensures room { KeepsRoom self.old self.new }
+    {
+        prove!(self.sent() + 1 == seq);
+        let _ = self.waiting.pop_front();
+        match self.above.push_back(false) {
+            Ok(()) => {}
+            Err(_) => unreachable!(),
+        }
+    }
+
+    /// The sector of this number, which was issued, is acknowledged. A number that is passed already changes nothing. It takes no memory.
+    pub fn acked(&mut self, seq: u64)
+        requires { seq ≤ rings.sent self.old.ring }
+        ensures ring { self.new.ring ≡ rings.acked self.old.ring seq }
+        ensures sent { rings.sent self.new.ring ≡ rings.sent self.old.ring }
+        ensures last { rings.last self.new.ring ≡ rings.last self.old.ring }
+        ensures room { KeepsRoom self.old self.new }
+    {
+        if seq <= self.reached {
+            return;
+        }
+        let at = (seq - self.reached - 1) as usize;
+        self.above[at] = true;
+        self.reached = pass(self.reached, &mut self.above);
+    }
+
+    /// Every number up to this one is acknowledged.
+    pub fn reached(&self) -> u64
+        ensures { result ≡ self.now.ring.reached }
+    {
+        self.reached
+    }
+
+    /// The sectors named in the records that `reclaim` would give up, ascending, each with its greatest version there.
+    pub fn oldest(&self) -> Result<Vec<(Sector, u64)>, NoMemory>
+        ensures { IfOk result (λ list. map (λ entry. (entry.0.0, entry.1)) list.items ≡ oldest_versions self.now.ring) }
+    {
+        let versions = oldest_versions(self.alloc, self.given_up, &self.named)?;
+        listed(self.alloc, &versions)
+    }
+
+    /// Gives up the oldest records up to 64 sectors, whose changes all stand on the disk: `disk` names versions that are known to stand there. `Unwritten`
+    /// comes exactly where a sector named in these records has no such version, or a lesser one than the record's, and names the first such; the ring is
+    /// then as before. It takes no memory.
+    pub fn reclaim(&mut self, disk: &[(Sector, u64)]) -> Result<(), Unwritten>
+        ensures outcome { ReclaimOutcome disk.now self.old.ring self.new.ring result }
+        ensures room { KeepsRoom self.old self.new }
+    {
+        if let Some(fault) = unwritten(self.given_up, &self.named, disk) {
+            return Err(fault);
+        }
+        let given_up = self.given_up;
+        self.given_up = last_of_oldest(given_up, &self.named);
+        drop_oldest(given_up, &mut self.named);
+        Ok(())
+    }
+}
+
+// Passes the numbers that are acknowledged without a gap: takes them off, and answers the number that is then reached.
+fn pass(mut reached: u64, above: &mut VecDeque<bool>) -> u64
+    requires { reached + deque_len above.old < 2 ^ 63 }
+    ensures passes { (ring : rings.Ring) → passed ring reached above.old.items ≡ record ring { reached = result; above = above.new.items } }
+    ensures rises { reached ≤ result }
+    ensures numbers { result + deque_len above.new ≡ reached + deque_len above.old }
+    ensures capacity { deque_capacity above.old ≤ deque_capacity above.new }
+{
+    while above.front() == Some(&true) {
+        let _ = above.pop_front();
+        reached += 1;
+    }
+    reached
+}
