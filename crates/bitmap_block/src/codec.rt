@@ -26,8 +26,8 @@ pub fn decode(from: &Block) -> Option<Bitmap>
     if again == *from { Some(read) } else { None }
 }
 
-// What stands at the places of the fields.
-fn fields(from: &Block) -> Bitmap
+/// What stands at the places of a segment's fields, whether or not the block is a segment.
+pub fn fields(from: &Block) -> Bitmap
     ensures { result ≡ bitmap_fields from.now }
 {
     let mut states = [0; 256];

@@ -11,7 +11,7 @@ mod state;
 #[cfg(test)]
 mod tests;
 
-pub use codec::{decode, encode};
+pub use codec::{decode, encode, fields};
 pub use differences::patches;
 pub use frang_base::Bitmap;
 pub use inodes::{inode_in_use, with_inode};

@@ -14,7 +14,7 @@ mod writing;
 pub use differences::patches;
 pub use laws::what_is_written_reads_back;
 pub use names::find;
-pub use reading::decode;
+pub use reading::{decode, fields};
 pub use sector_definitions::{DirEntry, DirSector};
 pub use writing::encode;
 

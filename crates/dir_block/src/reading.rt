@@ -25,8 +25,8 @@ pub fn decode(from: &Block) -> Option<DirSector>
     (again == *from).then_some(read)
 }
 
-// What stands at the places of a sector's fields.
-fn fields(from: &Block) -> DirSector
+/// What stands at the places of a sector's fields, whether or not the block is a sector of a directory.
+pub fn fields(from: &Block) -> DirSector
     ensures { result ≡ directory_fields from.now }
 {
     DirSector {

@@ -1,16 +1,15 @@
 // A sector of a directory as bytes.
-ghost use Rattle.std.specs.Prelude.{◌≡◌, IsTrue, length};
+ghost use Rattle.std.specs.Prelude.{◌≡◌, length};
 ghost use Rattle.std.specs.List.{flat_map};
-ghost use Rattle.sector_definitions.specs.Directories.{directory_bytes, directory_fits, entry_bytes};
+ghost use Rattle.sector_definitions.specs.Directories.{directory_bytes, entry_bytes};
 
 use crate::{ENTRY_BYTES, PLACES};
 use byteorder::{ByteOrder, LittleEndian};
 use frang_base::Block;
 use sector_definitions::{DirEntry, DirSector};
 
-/// Makes the block this sector of a directory.
+/// Makes the block this sector of a directory. Any value has bytes; those of one in the grammar read back.
 pub fn encode(value: &DirSector, to: &mut Block)
-    requires { IsTrue (directory_fits value.now) }
     ensures { to.new ≡ directory_bytes value.now }
 {
     *to = [0; 512];

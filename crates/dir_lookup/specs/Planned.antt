@@ -3,8 +3,9 @@ use Rattle.std.specs.Prelude.{ℕ, List, map}
 use Rattle.frang_base.specs.declared.sector.Sector.{Sector}
 use Rattle.meta_version.specs.declared.plan.Plan.{Plan as CodePlan}
 use Rattle.meta_version.specs.declared.plan.Plan.TheVariants as plan
+use Rattle.pick_definitions.specs.Held.{Segments}
 use Rattle.plan_definitions.specs.Plans.{Plan, Lacks as LacksSegments, Clears, Finishes}
-use Rattle.plan_definitions.specs.Written.{Cached, cached_sectors, changes_of, byte_writes, freed_sectors}
+use Rattle.plan_definitions.specs.Written.{Cached, sectors_at_hand, changes_of, byte_writes, freed_sectors}
 use Rattle.dir_lookup.specs.Reading.{Read, Lacks, Gives}
 
 abbrev pub sector_by : ℕ → Sector
@@ -13,9 +14,9 @@ sector_by s = record { 0 = s }
 abbrev pub write_by : ℕ × List ℕ → Sector × List ℕ
 write_by w = (sector_by w.0, w.1)
 
-abbrev pub planned : Cached → Read Plan → CodePlan
-planned cached (Lacks sector) = plan.Need (sector_by sector)
-planned cached (Gives LacksSegments) = plan.Segments
-planned cached (Gives (Clears k locks)) = plan.Clear k
-planned cached (Gives (Finishes f)) =
-    plan.Done f.reply (changes_of (cached_sectors cached) f.edits) (map write_by (byte_writes f.edits)) (map sector_by (freed_sectors f.edits))
+abbrev pub planned : Cached → Segments → Read Plan → CodePlan
+planned cached held (Lacks sector) = plan.Need (sector_by sector)
+planned cached held (Gives LacksSegments) = plan.Segments
+planned cached held (Gives (Clears k locks)) = plan.Clear k
+planned cached held (Gives (Finishes f)) =
+    plan.Done f.reply (changes_of (sectors_at_hand cached held) f.edits) (map write_by (byte_writes f.edits)) (map sector_by (freed_sectors f.edits))

@@ -138,9 +138,13 @@ module _ (h : Hand) (s : Store) where
       touched : List ℕ
       touched = t.dirs ++ t.inode ∷ []
 
+      by_kind : (x : StoredNode) (c : Bool) → PlanIsCovered h (run (if c then next t.inode touched x else refused reply.Inval touched) s)
+      by_kind x true = each t.inode touched x
+      by_kind x false = refuse_covered h reply.Inval touched refl
+
       read : (o : Option StoredNode) → PlanIsCovered h (run (with_file (next t.inode touched) touched o) s)
       read None = refuse_covered h reply.NoEnt touched refl
-      read (Some x) = each t.inode touched x
+      read (Some x) = by_kind x (x.kind == 1)
 
       go : (a b : Bool) → PlanIsCovered h (run (if a then refused reply.IsDir t.dirs else (if b then ReadInode t.inode (with_file (next t.inode touched) touched) else refused reply.Inval t.dirs)) s)
       go true b = refuse_covered h reply.IsDir t.dirs refl

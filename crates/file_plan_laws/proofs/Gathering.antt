@@ -1,6 +1,7 @@
 -- A look at all sectors of a directory gathers the entries of all its places.
-use Rattle.std.proofs.Common.{ℕ, zero, suc, ◌≡◌, ◌<◌, ◌≤◌, ◌+◌, ◌-◌, ◌*◌, ◌/◌, ◌%◌, ◌⊎◌, inl, inr, ⊎_elim, Bool, true, false, ◌||◌, Option, Some, None, List, [], ◌∷◌, ◌++◌, refl, sym, ◌∙◌, ap, ap₂, subst, arith}
+use Rattle.std.proofs.Common.{ℕ, zero, suc, ◌≡◌, ◌<◌, ◌≤◌, ◌+◌, ◌-◌, ◌*◌, ◌/◌, ◌%◌, ◌⊎◌, inl, inr, ⊎_elim, Bool, true, false, nat_lt, ◌||◌, Option, Some, None, List, [], ◌∷◌, ◌++◌, refl, sym, ◌∙◌, ap, ap₂, subst, arith}
 use Rattle.std.proofs.lemmas.Bool.{cases_eq, cases_lt}
+use Rattle.std.proofs.lemmas.Bool.Decides.{nat_tests}
 use Rattle.std.proofs.lemmas.List.Elements.{filter_map-append}
 use Rattle.std.specs.List.{filter_map, cons_option}
 use Rattle.std.specs.Ordering.{nat_cmp}
@@ -92,7 +93,8 @@ module _ (m : List ℕ) where
     part_is j r l =
         let a : j / 8 ≡ (7 * j + r) / 56 = omega arith in
         let b : 7 * (j % 8) + r ≡ (7 * j + r) % 56 = omega arith in
-        ap₂ (λ k p. s.place (small k) p) a b
+        let c : nat_lt r 7 ≡ true = grind (arith, nat_tests) in
+        rw c (ap₂ (λ k p. s.place (small k) p) a b)
 
     pub gathered_has : (n j q : ℕ) (e : StoredEntry) → 7 * j ≤ q → q < 7 * (j + n) → place_of s.place small q ≡ Some e → m ≡ e.name → has_name m (gathered s small j n) ≡ true
     gathered_has zero j q e lo hi i named = absurd (omega arith)

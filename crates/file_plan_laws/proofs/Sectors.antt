@@ -20,9 +20,9 @@ module _ (y : StoredNode) (one : (i j : ℕ) → i < y.blocks → j < y.blocks �
       go : (b : Bool) → (if b then part_of (edited z (if b then SetBytes (y.small (t / 8)) (t % 8) bytes else SetLargeBytes (y.large - 1) (t - 128) bytes)).byte (y.small (t / 8)) (t % 8)
           else part_of (edited z (if b then SetBytes (y.small (t / 8)) (t % 8) bytes else SetLargeBytes (y.large - 1) (t - 128) bytes)).large_byte (y.large - 1) (t - 128)) r ≡ bytes r
       go true = let a : (512 * (t % 8) + r) / 512 ≡ t % 8 = omega arith in let c : (512 * (t % 8) + r) % 512 ≡ r = omega arith in
-          put_part_same z.byte (y.small (t / 8)) (t % 8) bytes (512 * (t % 8) + r) a ∙ ap bytes c
+          let i : nat_lt r 512 ≡ true = grind (arith, nat_tests) in rw i (put_part_same z.byte (y.small (t / 8)) (t % 8) bytes (512 * (t % 8) + r) a ∙ ap bytes c)
       go false = let a : (512 * (t - 128) + r) / 512 ≡ t - 128 = omega arith in let c : (512 * (t - 128) + r) % 512 ≡ r = omega arith in
-          put_part_same z.large_byte (y.large - 1) (t - 128) bytes (512 * (t - 128) + r) a ∙ ap bytes c
+          let i : nat_lt r 512 ≡ true = grind (arith, nat_tests) in rw i (put_part_same z.large_byte (y.large - 1) (t - 128) bytes (512 * (t - 128) + r) a ∙ ap bytes c)
 
   abbrev Has : ℕ → Type 0
   Has t = t < 128 → t / 8 < y.blocks
@@ -40,12 +40,12 @@ module _ (y : StoredNode) (one : (i j : ℕ) → i < y.blocks → j < y.blocks �
           (if c then part_of (edited z (if b then SetBytes (y.small (t / 8)) (t % 8) bytes else SetLargeBytes (y.large - 1) (t - 128) bytes)).byte (y.small (u / 8)) (u % 8)
           else part_of (edited z (if b then SetBytes (y.small (t / 8)) (t % 8) bytes else SetLargeBytes (y.large - 1) (t - 128) bytes)).large_byte (y.large - 1) (u - 128)) r
           ≡ (if c then part_of z.byte (y.small (u / 8)) (u % 8) else part_of z.large_byte (y.large - 1) (u - 128)) r
-      go true p true q = put_part_other z.byte (y.small (t / 8)) (t % 8) bytes (y.small (u / 8)) (512 * (u % 8) + r)
-          (λ i e. far (sym (apart u t (one (u / 8) (t / 8) (hu (grind (arith, nat_tests))) (ht (grind (arith, nat_tests))) i) e)))
+      go true p true q = let w : nat_lt r 512 ≡ true = grind (arith, nat_tests) in rw w (put_part_other z.byte (y.small (t / 8)) (t % 8) bytes (y.small (u / 8)) (512 * (u % 8) + r)
+          (λ i e. far (sym (apart u t (one (u / 8) (t / 8) (hu (grind (arith, nat_tests))) (ht (grind (arith, nat_tests))) i) e))))
       go true p false q = refl
       go false p true q = refl
-      go false p false q = put_part_other z.large_byte (y.large - 1) (t - 128) bytes (y.large - 1) (512 * (u - 128) + r)
-          (λ i e. far (sym (apart_large u t (grind (arith, nat_tests)) (grind (arith, nat_tests)) e)))
+      go false p false q = let w : nat_lt r 512 ≡ true = grind (arith, nat_tests) in rw w (put_part_other z.large_byte (y.large - 1) (t - 128) bytes (y.large - 1) (512 * (u - 128) + r)
+          (λ i e. far (sym (apart_large u t (grind (arith, nat_tests)) (grind (arith, nat_tests)) e))))
 
 -- ---- all sectors of a write
 

@@ -18,7 +18,8 @@ module _ (s : Store) (stamp links large : ℕ) (block : ℕ → ℕ) (cells : Li
       let rest : 512 * (j / 512 % 8) + j % 512 ≡ j % 4096 = omega arith in
       let inside : j / 4096 < small_blocks_of (length cells) = omega arith in
       let own : first_blocks (small_blocks_of (length cells)) block (j / 4096) ≡ block (j / 4096) = rw (of_lt (j / 4096) (small_blocks_of (length cells)) inside) refl in
-      rw (of_lt (j / 512) 128 low) (ap₂ (λ k r. s.byte k r) (ap (first_blocks (small_blocks_of (length cells)) block) index ∙ own) rest)
+      let part : j % 512 < 512 = omega arith in
+      rw (of_lt (j / 512) 128 low, of_lt (j % 512) 512 part) (ap₂ (λ k r. s.byte k r) (ap (first_blocks (small_blocks_of (length cells)) block) index ∙ own) rest)
 
   large_case : (j : ℕ) → j < length cells → 65536 ≤ j → stored_byte s (inode_of stamp block large (File cells links)) j ≡ s.large_byte large (j - 65536)
   large_case j l m =
@@ -26,7 +27,8 @@ module _ (s : Store) (stamp links large : ℕ) (block : ℕ → ℕ) (cells : Li
       let rest : 512 * (j / 512 - 128) + j % 512 ≡ j - 65536 = omega arith in
       let more : 65536 < length cells = omega arith in
       let less : large + 1 - 1 ≡ large = omega arith in
-      rw (of_ge (j / 512) 128 high, of_lt 65536 (length cells) more) (ap₂ (λ k r. s.large_byte k r) less rest)
+      let part : j % 512 < 512 = omega arith in
+      rw (of_ge (j / 512) 128 high, of_lt 65536 (length cells) more, of_lt (j % 512) 512 part) (ap₂ (λ k r. s.large_byte k r) less rest)
 
   pub stored_is : (j : ℕ) → j < length cells → stored_byte s (inode_of stamp block large (File cells links)) j ≡ byte_at s block large j
   stored_is j l = go (nat_lt j 65536) refl

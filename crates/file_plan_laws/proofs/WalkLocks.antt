@@ -118,9 +118,13 @@ module _ (h : Hand) (s : Store) (dirs : List ℕ) where
   file_held : (next : ℕ → List ℕ → StoredNode → Ask Plan) → ((i : ℕ) (touched : List ℕ) (x : StoredNode) → Has touched → AreHeld dirs (run (next i touched x) s)) → (i kind : ℕ) → AreHeld dirs (run (at_file next (at i kind)) s)
   file_held next each i kind = go (kind == 2) (kind == 1)
     where
+      by_kind : (x : StoredNode) (c : Bool) → AreHeld dirs (run (if c then next i (dirs ++ i ∷ []) x else refused reply.Inval (dirs ++ i ∷ [])) s)
+      by_kind x true = each i (dirs ++ i ∷ []) x (behind i)
+      by_kind x false = refuse_held reply.Inval (dirs ++ i ∷ []) (behind i)
+
       read : (o : Option StoredNode) → AreHeld dirs (run (with_file (next i (dirs ++ i ∷ [])) (dirs ++ i ∷ []) o) s)
       read None = refuse_held reply.NoEnt (dirs ++ i ∷ []) (behind i)
-      read (Some x) = each i (dirs ++ i ∷ []) x (behind i)
+      read (Some x) = by_kind x (x.kind == 1)
 
       go : (a b : Bool) → AreHeld dirs (run (if a then refused reply.IsDir dirs else (if b then ReadInode i (with_file (next i (dirs ++ i ∷ [])) (dirs ++ i ∷ [])) else refused reply.Inval dirs)) s)
       go true b = refuse_held reply.IsDir dirs own

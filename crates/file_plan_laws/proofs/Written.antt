@@ -4,7 +4,7 @@ use Rattle.std.proofs.lemmas.Bool.{cases_lt}
 use Rattle.std.proofs.lemmas.Bool.Decides.{nat_tests}
 use Rattle.disk_definitions.specs.Store.{Store, StoredNode}
 use Rattle.store_changes.specs.Edits.{edited_all}
-use Rattle.plan_definitions.specs.FilePlans.{Writing, end_of, keeps_bytes, mixed, sectors_met}
+use Rattle.plan_definitions.specs.FilePlans.{Writing, end_of, keeps_bytes, byte_over, mixed, sectors_met}
 use Rattle.file_plan_laws.proofs.Bytes.{sector_at, stored_byte}
 use Rattle.file_plan_laws.proofs.Sectors.{old_sector, sector_edits, sector_in, sector_out}
 
@@ -38,12 +38,15 @@ keeps_outside w size j l out = ⊎_elim
     or_true true = refl
     or_true false = refl
 
-mixed_new : (w : Writing) (t r j : ℕ) (old : ℕ → ℕ) → 512 * t + r ≡ j → w.off ≤ j → j < end_of w → mixed w t old r ≡ w.byte j
-mixed_new w t r j old e lo hi = subst (λ k. (if nat_le w.off k && nat_lt k (end_of w) then w.byte k else old r) ≡ w.byte j) (sym e)
+in_sector : (w : Writing) (t r : ℕ) (old : ℕ → ℕ) → r < 512 → mixed w t old r ≡ byte_over w (512 * t + r) (old r)
+in_sector w t r old l = let i : nat_lt r 512 ≡ true = grind (arith, nat_tests) in rw i refl
+
+mixed_new : (w : Writing) (t r j : ℕ) (old : ℕ → ℕ) → r < 512 → 512 * t + r ≡ j → w.off ≤ j → j < end_of w → mixed w t old r ≡ w.byte j
+mixed_new w t r j old l e lo hi = in_sector w t r old l ∙ subst (λ k. byte_over w k (old r) ≡ w.byte j) (sym e)
     (let a : nat_le w.off j ≡ true = grind (arith, nat_tests) in let b : nat_lt j (end_of w) ≡ true = grind (arith, nat_tests) in rw (a, b) refl)
 
-mixed_old : (w : Writing) (t r j : ℕ) (old : ℕ → ℕ) → 512 * t + r ≡ j → (j < w.off) ⊎ (end_of w ≤ j) → mixed w t old r ≡ old r
-mixed_old w t r j old e out = subst (λ k. (if nat_le w.off k && nat_lt k (end_of w) then w.byte k else old r) ≡ old r) (sym e)
+mixed_old : (w : Writing) (t r j : ℕ) (old : ℕ → ℕ) → r < 512 → 512 * t + r ≡ j → (j < w.off) ⊎ (end_of w ≤ j) → mixed w t old r ≡ old r
+mixed_old w t r j old l e out = in_sector w t r old l ∙ subst (λ k. byte_over w k (old r) ≡ old r) (sym e)
     (⊎_elim
     (λ l. let a : nat_le w.off j ≡ false = grind (arith, nat_tests) in rw a refl)
     (λ l. let b : nat_lt j (end_of w) ≡ false = grind (arith, nat_tests) in not_both (nat_le w.off j) (nat_lt j (end_of w)) b)
@@ -75,14 +78,14 @@ module _ (w : Writing) (x y : StoredNode) (s z : Store) (one : (i j : ℕ) → i
   pub byte_new : (j : ℕ) → w.off ≤ j → j < end_of w → stored_byte t y j ≡ w.byte j
   byte_new j lo hi =
       let r = met_byte w.off w.len j lo hi in
-      sector_in w x y s one met first (j / 512) (j % 512) z (rest j) r.0 r.1 has_met ∙ mixed_new w (j / 512) (j % 512) j (old_sector w x y s (j / 512)) (parts j) lo hi
+      sector_in w x y s one met first (j / 512) (j % 512) z (rest j) r.0 r.1 has_met ∙ mixed_new w (j / 512) (j % 512) j (old_sector w x y s (j / 512)) (rest j) (parts j) lo hi
 
   -- what was there before, of a byte below the old size
   pub byte_old : (j : ℕ) → j < y.size → j < x.size → stored_byte z y j ≡ stored_byte s x j → (j < w.off) ⊎ (end_of w ≤ j) → stored_byte t y j ≡ stored_byte s x j
   byte_old j l m same out = ⊎_elim
       (λ a. sector_out w x y s one met first (j / 512) (j % 512) z (rest j) (inl a) has_met here ∙ same)
       (λ a. ⊎_elim
-      (λ c. sector_in w x y s one met first (j / 512) (j % 512) z (rest j) a c has_met ∙ mixed_old w (j / 512) (j % 512) j (old_sector w x y s (j / 512)) (parts j) out
+      (λ c. sector_in w x y s one met first (j / 512) (j % 512) z (rest j) a c has_met ∙ mixed_old w (j / 512) (j % 512) j (old_sector w x y s (j / 512)) (rest j) (parts j) out
       ∙ ap (λ b. (if b then sector_at s x (j / 512) else (λ r. 0)) (j % 512)) (keeps_outside w x.size j m out))
       (λ c. sector_out w x y s one met first (j / 512) (j % 512) z (rest j) (inr c) has_met here ∙ same)
       (cases_lt (j / 512) (first + met)))

@@ -1,16 +1,15 @@
 // Inodes written into blocks, and read from them.
-ghost use Rattle.std.specs.Prelude.{◌≡◌, IsTrue, length, take, drop};
+ghost use Rattle.std.specs.Prelude.{◌≡◌, length, take, drop};
 ghost use Rattle.sector_definitions.specs.Bytes.{zeros};
-ghost use Rattle.sector_definitions.specs.Inodes.{inode_bytes, inode_fits, inode_fields, inode_in, numbers_in};
+ghost use Rattle.sector_definitions.specs.Inodes.{inode_bytes, inode_fields, inode_in, numbers_in};
 
 use crate::grammar::fits;
 use byteorder::{ByteOrder, LittleEndian};
 use frang_base::Block;
 use sector_definitions::Inode;
 
-/// Writes the sector of an inode that fits. What the block held counts for nothing.
+/// Writes the sector of an inode. What the block held counts for nothing. Any inode has bytes; those of one in the grammar read back.
 pub fn encode(value: &Inode, to: &mut Block)
-    requires { IsTrue (inode_fits value.now) }
     ensures { to.new ≡ inode_bytes value.now }
 {
     write_head(value, &mut to[..32]);
@@ -20,9 +19,8 @@ pub fn encode(value: &Inode, to: &mut Block)
     to[128..].copy_from_slice(&value.target);
 }
 
-// The sector of an inode that fits.
+// The sector of an inode.
 pub(crate) fn block_of(value: &Inode) -> Block
-    requires { IsTrue (inode_fits value.now) }
     ensures { result ≡ inode_bytes value.now }
 {
     let mut block = [0; 512];
@@ -100,9 +98,7 @@ mod tests {
     use super::*;
 
     // The root of a fresh disk.
-    fn root() -> Inode
-        ensures { IsTrue (inode_fits result) }
-    {
+    fn root() -> Inode {
         Inode {
             version: 1,
             kind: 2,

@@ -4,6 +4,7 @@ ghost use Rattle.pick_definitions.specs.Held.{Segments};
 ghost use Rattle.plan_definitions.specs.Walks as walks;
 ghost use Rattle.dir_lookup.specs.Reading.{reading};
 ghost use Rattle.dir_lookup.specs.Spots.{spot_of};
+ghost use Rattle.namei.specs.Leads.{LeadsOverDisks};
 ghost use Rattle.namei.specs.Steps.{step_at, step_of};
 
 use dir_lookup::{Refusal, Spot, walk_spot};
@@ -23,8 +24,19 @@ pub enum Step {
     NotDir,
 }
 
-/// The walk of a path from the root, whose inode is 0. It takes no memory.
+/// The walk of a path from the root, whose inode is 0. It takes no memory. Over every disk that stands for a tree and of which the sectors are, it
+/// leads where the tree's walk does: `Need` names the first sector that it looks at and that isn't cached, `At` the inode of the node that the path
+/// names, `NoEnt` and `NotDir` come exactly where the tree has them.
 pub fn walk(path: &Path, sectors: &Sectors, root: u32) -> Step
+    requires { root ≡ 0 }
+    ensures is { (held : Segments) → result ≡ step_of (reading (walks.walk path.now) sectors.now.entries held) }
+    ensures leads { LeadsOverDisks path.now sectors.now.entries result }
+{
+    walked_step(path, sectors, root)
+}
+
+// The walk as the definitions have it.
+fn walked_step(path: &Path, sectors: &Sectors, root: u32) -> Step
     requires { root ≡ 0 }
     ensures { (held : Segments) → result ≡ step_of (reading (walks.walk path.now) sectors.now.entries held) }
 {

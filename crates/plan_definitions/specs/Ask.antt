@@ -1,5 +1,5 @@
 -- A computation that looks at sectors, one after another, each time going on by what it sees.
-use Rattle.std.specs.Prelude.{◌≡◌, ℕ, ◌+◌, ◌*◌, Bool, if◌then◌else◌, Option, Some, None, List, [], ◌∷◌}
+use Rattle.std.specs.Prelude.{◌≡◌, ℕ, ◌+◌, ◌*◌, Bool, if◌then◌else◌, nat_lt, Option, Some, None, List, [], ◌∷◌}
 use Rattle.sector_definitions.specs.declared.region.Region.TheVariants as region
 use Rattle.sector_definitions.specs.Regions.{sector_of}
 use Rattle.disk_definitions.specs.Store.{Store, StoredNode, StoredEntry}
@@ -40,11 +40,11 @@ bind (ReadLarge g part next) f = ReadLarge g part (λ x. bind (next x) f)
 
 -- the seven places of a sector of a directory, whose block has 56
 abbrev pub seven : (ℕ → ℕ → Option StoredEntry) → ℕ → ℕ → ℕ → Option StoredEntry
-seven place k part r = place k (7 * part + r)
+seven place k part r = if nat_lt r 7 then place k (7 * part + r) else None
 
 -- the 512 bytes of a part of a block
 abbrev pub part_of : (ℕ → ℕ → ℕ) → ℕ → ℕ → ℕ → ℕ
-part_of byte k part r = byte k (512 * part + r)
+part_of byte k part r = if nat_lt r 512 then byte k (512 * part + r) else 0
 
 -- its value over a disk
 abbrev pub run : {A : Type 0} → Ask A → Store → A

@@ -26,10 +26,10 @@ small_bytes = 65536
 
 -- ---- the file that a path names
 
--- the inode of a target that has to be a file: of any other kind the entry tells it
+-- the inode of a target that has to be a file: of any other kind the entry tells it, and an inode of another kind is refused alike
 abbrev pub with_file : (StoredNode → Ask Plan) → List ℕ → Option StoredNode → Ask Plan
 with_file next touched None = refused reply.NoEnt touched
-with_file next touched (Some x) = next x
+with_file next touched (Some x) = if x.kind == 1 then next x else refused reply.Inval touched
 
 abbrev pub at_file : (ℕ → List ℕ → StoredNode → Ask Plan) → Target → Ask Plan
 at_file next t =
@@ -63,9 +63,13 @@ end_of w = w.off + w.len
 abbrev pub keeps_bytes : Writing → ℕ → ℕ → Bool
 keeps_bytes w size t = nat_lt (512 * t) (min w.off size) || nat_lt (end_of w) (min (512 * (t + 1)) size)
 
--- the sector with its new bytes among the old ones
+-- the new byte at a place of the file, or the old one
+abbrev pub byte_over : Writing → ℕ → ℕ → ℕ
+byte_over w j old = if nat_le w.off j && nat_lt j (end_of w) then w.byte j else old
+
+-- the 512 bytes of the sector, the new ones among the old ones
 abbrev pub mixed : Writing → ℕ → (ℕ → ℕ) → ℕ → ℕ
-mixed w t old r = if nat_le w.off (512 * t + r) && nat_lt (512 * t + r) (end_of w) then w.byte (512 * t + r) else old r
+mixed w t old r = if nat_lt r 512 then byte_over w (512 * t + r) (old r) else 0
 
 -- the bytes around are those that are there, or zeros where none of them counts
 abbrev pub write_sector : Writing → StoredNode → StoredNode → ℕ → (List Edit → Ask Plan) → Ask Plan

@@ -1,5 +1,5 @@
 -- What a plan comes to, and what it picks of the segments that are held.
-use Rattle.std.specs.Prelude.{ℕ, ◌+◌, ◌*◌, ◌/◌, Bool, not, ◌&&◌, if◌then◌else◌, nat_le, Option, Some, None, List, [], ◌∷◌, ◌++◌, map}
+use Rattle.std.specs.Prelude.{ℕ, ◌+◌, ◌*◌, ◌/◌, Bool, not, ◌&&◌, if◌then◌else◌, nat_le, nat_lt, Option, Some, None, List, [], ◌∷◌, ◌++◌, map}
 use Rattle.std.specs.Map.{keys_of}
 use Rattle.frang_base.specs.declared.lock.LockId.{LockId}
 use Rattle.frang_base.specs.declared.lock.LockId.TheVariants as lock
@@ -77,13 +77,14 @@ abbrev pub room_in : Option ℕ → Room
 room_in None = NoRoom
 room_in (Some k) = InBlock k
 
-abbrev pub room_at : Hand → Option Found → Ask Room
-room_at h (Some found) = Got (Inside found.0)
-room_at h None = read_held h (Got (room_in (picked_directory h.held)))
+-- a directory has at most 16 blocks
+abbrev pub room_at : Hand → StoredNode → Option Found → Ask Room
+room_at h x (Some found) = Got (Inside found.0)
+room_at h x None = if nat_lt x.blocks 16 then read_held h (Got (room_in (picked_directory h.held))) else Got NoRoom
 
 -- the first free place, else a block
 abbrev pub find_room : Hand → StoredNode → Ask Room
-find_room h x = bind (search x.small is_vacant 0 (8 * x.blocks)) (room_at h)
+find_room h x = bind (search x.small is_vacant 0 (8 * x.blocks)) (room_at h x)
 
 -- the directory with a block more
 abbrev pub with_block : StoredNode → ℕ → StoredNode

@@ -27,6 +27,7 @@ use Rattle.pick_definitions.specs.Taken.{with_inode, with_state, with_large}
 use Rattle.store_changes.specs.Edits.{Edit}
 use Rattle.store_changes.specs.Edits.Edit.{SetInode, SetBit, SetUse, SetPlace, SetLarge, SetBytes, SetLargeBytes}
 use Rattle.plan_definitions.specs.Ask.{AtHand}
+use Rattle.plan_definitions.specs.Plans.{Hand}
 
 -- ---- what is said as it stands in a sector
 
@@ -202,10 +203,22 @@ is_zero_at_hand cached sector = is_zero (value_at cached sector)
 abbrev pub is_zeroed : Cached → ℕ → Bool
 is_zeroed cached k = list_all (λ part. is_zero_at_hand cached (sector_of (region.Small k part))) (below 8)
 
--- the cached sectors as sectors of a disk; those that aren't cached are asked for by nobody
-abbrev pub cached_sectors : Cached → Sectors
-cached_sectors cached sector = or_zeros (value_at cached sector)
+-- the sectors of the held segments, by their bitmaps
+abbrev pub segment_sectors : Segments → Cached
+segment_sectors held = map (λ h. (sector_of (region.Segment h.0), bitmap_bytes h.1)) held
+
+-- the held segments and the cached sectors as sectors of a disk; those that are neither are asked for by nobody
+abbrev pub sectors_at_hand : Cached → Segments → Sectors
+sectors_at_hand cached held sector = or_cached (value_at (segment_sectors held) sector)
   where
     or_zeros : Option (List ℕ) → List ℕ
     or_zeros None = zeros 512
     or_zeros (Some block) = block
+
+    or_cached : Option (List ℕ) → List ℕ
+    or_cached None = or_zeros (value_at cached sector)
+    or_cached (Some block) = block
+
+-- the held segments, whether these are all, and the blocks that are cached as zero
+abbrev pub hand_of : Cached → Segments → Bool → Hand
+hand_of cached held all = record { held = held; all = all; zeroed = is_zeroed cached }

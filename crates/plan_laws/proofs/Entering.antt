@@ -1,5 +1,6 @@
 -- An entry comes into a directory: in the first free place, or in a block that the directory takes.
-use Rattle.std.proofs.Common.{ℕ, ◌≡◌, ◌<◌, ◌+◌, ◌*◌, ◌/◌, ◌%◌, Bool, true, false, Option, Some, None, List, refl, sym, ◌∙◌, ap, ap₂, subst, arith, is_some}
+use Rattle.std.proofs.Common.{ℕ, ◌≡◌, ◌<◌, ◌+◌, ◌*◌, ◌/◌, ◌%◌, Bool, true, false, nat_le, nat_lt, if◌then◌else◌, Option, Some, None, List, length, refl, sym, ◌∙◌, ap, ap₂, subst, arith, is_some}
+use Rattle.std.proofs.lemmas.Bool.Decides.{nat_tests}
 use Rattle.tree_definitions.specs.declared.node.Node.{Node}
 use Rattle.tree_definitions.specs.declared.node.Node.TheVariants.{Dir}
 use Rattle.tree_definitions.specs.Entries.{Entries, entry_at, with_entry}
@@ -20,7 +21,7 @@ use Rattle.store_changes.proofs.Free.{no_entries}
 use Rattle.std.specs.Map.{keys_of}
 use Rattle.plan_definitions.specs.Ask.{Got, run}
 use Rattle.plan_definitions.specs.Walks.{search, is_vacant}
-use Rattle.plan_definitions.specs.Plans.{Hand, Room, room_at, room_in, find_room, with_block, enter, must_clear}
+use Rattle.plan_definitions.specs.Plans.{Hand, Room, room_at, room_in, read_held, find_room, with_block, enter, must_clear}
 use Rattle.plan_definitions.specs.Plans.Room.{Inside, InBlock, NoRoom}
 use Rattle.plan_definitions.specs.Meets.{IsOfTree, IsHandOf}
 use Rattle.plan_laws.proofs.Asking.{run-bind, run-segments}
@@ -38,7 +39,7 @@ IsRoomFor h s tree n d entries blocks (Inside q) = IsFreePlace s n d blocks q ×
 IsRoomFor h s tree n d entries blocks (InBlock k) = (must_grow entries blocks ≡ true) × (k < 1024 * tree.segments) × (blocks_full tree ≡ false) × (must_clear h k ≡ false → IsFreeBlock s k)
 IsRoomFor h s tree n d entries blocks NoRoom = (must_grow entries blocks ≡ true) × (h.all ≡ true → blocks_full tree ≡ true)
 
-module _ (h : Hand) (s : Store) (tree : FileTree) (n : Naming) (of : IsOfTree s tree n) (hand : IsHandOf h s tree.segments) (d blocks : ℕ) (entries : Entries) (is : node_at tree d ≡ Some (Dir entries blocks)) where
+module _ (h : Hand) (s : Store) (tree : FileTree) (n : Naming) (of : IsOfTree s tree n) (hand : IsHandOf h s tree.segments) (d blocks : ℕ) (entries : Entries) (is : node_at tree d ≡ Some (Dir entries blocks)) (few : nat_le 896 (length entries) ≡ false) where
   abbrev x : StoredNode
   x = inode_by n d (Dir entries blocks)
 
@@ -52,17 +53,23 @@ module _ (h : Hand) (s : Store) (tree : FileTree) (n : Naming) (of : IsOfTree s 
   in_block None e grow = (grow, block_none h s tree n of hand e)
   in_block (Some k) e grow = let r = block_some h s tree n of hand k e in (grow, r.1, r.2, block_clear h s tree n of hand k e)
 
-  room_is : (o : Option ℕ) → least vacant (56 * blocks) ≡ o → IsRoomFor h s tree n d entries blocks (run (room_at h (found_in row o)) s)
+  room_is : (o : Option ℕ) → least vacant (56 * blocks) ≡ o → IsRoomFor h s tree n d entries blocks (run (room_at h x (found_in row o)) s)
   room_is (Some q) e =
       (free_place s (node_at tree) n of.pictures d blocks entries is (of.well_formed.names d entries blocks is) q e, place_some s (node_at tree) n of.pictures d blocks entries is (of.well_formed.names d entries blocks is) q e)
-  room_is None e = rw (run-segments (keys_of h.held) (Got (room_in (picked_directory h.held))) s)
-      (in_block (picked_directory h.held) refl (place_none s (node_at tree) n of.pictures d blocks entries is (of.well_formed.names d entries blocks is) e))
+  room_is None e = by_blocks (nat_lt blocks 16) refl (place_none s (node_at tree) n of.pictures d blocks entries is (of.well_formed.names d entries blocks is) e)
+    where
+      -- with 16 blocks the directory would have 896 entries
+      by_blocks : (c : Bool) → nat_lt blocks 16 ≡ c → must_grow entries blocks ≡ true → IsRoomFor h s tree n d entries blocks (run (if c then read_held h (Got (room_in (picked_directory h.held))) else Got NoRoom) s)
+      by_blocks true f grow = rw (run-segments (keys_of h.held) (Got (room_in (picked_directory h.held))) s) (in_block (picked_directory h.held) refl grow)
+      by_blocks false f grow =
+          let impossible : ⊥ = grind (arith, nat_tests, f, grow, few) in
+          absurd impossible
 
   pub room_found : IsRoomFor h s tree n d entries blocks (run (find_room h x) s)
   room_found =
       let size : 7 * (8 * blocks) ≡ 56 * blocks = omega arith in
       let e : run (search x.small is_vacant 0 (8 * blocks)) s ≡ found_in row (least vacant (56 * blocks)) = run-search x.small is_vacant s (8 * blocks) ∙ ap (λ k. found_in row (least vacant k)) size in
-      subst (λ r. IsRoomFor h s tree n d entries blocks r) (sym (run-bind (search x.small is_vacant 0 (8 * blocks)) (room_at h) s ∙ ap (λ f. run (room_at h f) s) e))
+      subst (λ r. IsRoomFor h s tree n d entries blocks r) (sym (run-bind (search x.small is_vacant 0 (8 * blocks)) (room_at h x) s ∙ ap (λ f. run (room_at h x f) s) e))
       (room_is (least vacant (56 * blocks)) refl)
 
 -- whether the tree lacks the block

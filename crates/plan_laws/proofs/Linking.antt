@@ -114,15 +114,15 @@ module _ (h : Hand) (s : Store) (tree : FileTree) (n : Naming) (of : IsOfTree s 
       by_clear true e well = rw e e
       by_clear false e well = rw e (finished (InBlock k) (r.0, record { free = (r.3 e).free; clear = (r.3 e).clear }, r.1) well)
 
-  by_size : (c : Bool) → Meets h s (if c then says tree reply.DirFull else (if lacks_block tree entries blocks then says tree reply.NoDirBlock else says result reply.Ok))
+  by_size : (c : Bool) → nat_le 896 (length entries) ≡ c → Meets h s (if c then says tree reply.DirFull else (if lacks_block tree entries blocks then says tree reply.NoDirBlock else says result reply.Ok))
       (run (if c then refused reply.DirFull (dirs ++ n.inode b ∷ []) else bind (find_room h x) (linking_in h (n.inode d) x name (n.inode b) y dirs)) s)
-  by_size true = λ well. refuse_meets h s tree n of reply.DirFull (dirs ++ n.inode b ∷ [])
-  by_size false = rw (run-bind (find_room h x) (linking_in h (n.inode d) x name (n.inode b) y dirs) s) (room_case (run (find_room h x) s) (room_found h s tree n of hand d blocks entries is))
+  by_size true few = λ well. refuse_meets h s tree n of reply.DirFull (dirs ++ n.inode b ∷ [])
+  by_size false few = rw (run-bind (find_room h x) (linking_in h (n.inode d) x name (n.inode b) y dirs) s) (room_case (run (find_room h x) s) (room_found h s tree n of hand d blocks entries is few))
 
   by_links : (c : Bool) → Meets h s (if c then says tree reply.MLink else (if nat_le 896 (length entries) then says tree reply.DirFull else (if lacks_block tree entries blocks then says tree reply.NoDirBlock else says result reply.Ok)))
       (run (if c then refused reply.MLink (dirs ++ n.inode b ∷ []) else (if nat_le 896 (length entries) then refused reply.DirFull (dirs ++ n.inode b ∷ []) else bind (find_room h x) (linking_in h (n.inode d) x name (n.inode b) y dirs))) s)
   by_links true = λ well. refuse_meets h s tree n of reply.MLink (dirs ++ n.inode b ∷ [])
-  by_links false = by_size (nat_le 896 (length entries))
+  by_links false = by_size (nat_le 896 (length entries)) refl
 
   -- a second name that isn't there
   pub gap_meets : Meets h s (if nat_le 1000 (links_of (Some node)) then says tree reply.MLink else (if nat_le 896 (length entries) then says tree reply.DirFull else (if lacks_block tree entries blocks then says tree reply.NoDirBlock else says result reply.Ok)))

@@ -114,19 +114,19 @@ module _ (h : Hand) (s : Store) (tree : FileTree) (n : Naming) (of : IsOfTree s 
           by_clear true e well = rw e e
           by_clear false e well = rw e (finished (InBlock k) (r.0, record { free = (r.3 e).free; clear = (r.3 e).clear }, r.1) well)
 
-    inode_case : (o : Option ℕ) → picked_inode h.held ≡ o → Meets h s (if inodes_full tree then says tree reply.NoInode else (if lacks_block tree entries blocks then says tree reply.NoDirBlock else says result reply.Ok)) (run (making_with h (n.inode d) x name birth node dirs o) s)
-    inode_case None e = λ well. none_meets h s tree n of reply.NoInode dirs (inodes_full tree) (if lacks_block tree entries blocks then says tree reply.NoDirBlock else says result reply.Ok) (inode_none h s tree n of hand e)
-    inode_case (Some j) e = rw (run-bind (find_room h x) (making_in h (n.inode d) x name birth node dirs j) s)
+    inode_case : (o : Option ℕ) → nat_le 896 (length entries) ≡ false → picked_inode h.held ≡ o → Meets h s (if inodes_full tree then says tree reply.NoInode else (if lacks_block tree entries blocks then says tree reply.NoDirBlock else says result reply.Ok)) (run (making_with h (n.inode d) x name birth node dirs o) s)
+    inode_case None few e = λ well. none_meets h s tree n of reply.NoInode dirs (inodes_full tree) (if lacks_block tree entries blocks then says tree reply.NoDirBlock else says result reply.Ok) (inode_none h s tree n of hand e)
+    inode_case (Some j) few e = rw (run-bind (find_room h x) (making_in h (n.inode d) x name birth node dirs j) s)
         (passes h s (inodes_full tree) (says tree reply.NoInode) (if lacks_block tree entries blocks then says tree reply.NoDirBlock else says result reply.Ok) (run (making_in h (n.inode d) x name birth node dirs j (run (find_room h x) s)) s)
-        (inode_some h s tree n of hand j e).2 (room_case j e (run (find_room h x) s) (room_found h s tree n of hand d blocks entries is)))
+        (inode_some h s tree n of hand j e).2 (room_case j e (run (find_room h x) s) (room_found h s tree n of hand d blocks entries is few)))
 
     pub gap_meets : Meets h s (made tree birth node (Free d entries blocks name)) (run (making h birth node dirs (AtGap (n.inode d) x name)) s)
-    gap_meets = by_size (nat_le 896 (length entries))
+    gap_meets = by_size (nat_le 896 (length entries)) refl
       where
-        by_size : (c : Bool) → Meets h s (if c then says tree reply.DirFull else (if inodes_full tree then says tree reply.NoInode else (if lacks_block tree entries blocks then says tree reply.NoDirBlock else says result reply.Ok)))
+        by_size : (c : Bool) → nat_le 896 (length entries) ≡ c → Meets h s (if c then says tree reply.DirFull else (if inodes_full tree then says tree reply.NoInode else (if lacks_block tree entries blocks then says tree reply.NoDirBlock else says result reply.Ok)))
             (run (if c then refused reply.DirFull dirs else read_held h (making_with h (n.inode d) x name birth node dirs (picked_inode h.held))) s)
-        by_size true = λ well. refuse_meets h s tree n of reply.DirFull dirs
-        by_size false = rw (run-segments (keys_of h.held) (making_with h (n.inode d) x name birth node dirs (picked_inode h.held)) s) (inode_case (picked_inode h.held) refl)
+        by_size true few = λ well. refuse_meets h s tree n of reply.DirFull dirs
+        by_size false few = rw (run-segments (keys_of h.held) (making_with h (n.inode d) x name birth node dirs (picked_inode h.held)) s) (inode_case (picked_inode h.held) few refl)
 
 pub made_meets : (h : Hand) (s : Store) (tree : FileTree) (n : Naming) → IsOfTree s tree n → IsHandOf h s tree.segments → (birth : ℕ) (node : Node) → IsNew tree birth → IsBare node → (path : List (List ℕ)) →
     Meets h s (made tree birth node (place tree path)) (run (plan_made h birth node path) s)

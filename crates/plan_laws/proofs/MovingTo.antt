@@ -133,15 +133,15 @@ module _ (h : Hand) (s : Store) (tree : FileTree) (n : Naming) (of : IsOfTree s 
           by_clear true e well = rw e e
           by_clear false e well = rw e (finished (InBlock k) (r.0, r.3 e, r.1) well)
 
-      by_size : (c : Bool) → Meets h s (if c then says tree reply.DirFull else (if lacks_block tree entries blocks then says tree reply.NoDirBlock else says last reply.Ok))
+      by_size : (c : Bool) → nat_le 896 (length entries) ≡ c → Meets h s (if c then says tree reply.DirFull else (if lacks_block tree entries blocks then says tree reply.NoDirBlock else says last reply.Ok))
           (run (if c then refused reply.DirFull dirs else bind (find_room h x) (moving_in h m (n.inode to) x new dirs)) s)
-      by_size true = λ well. refuse_meets h s tree n of reply.DirFull dirs
-      by_size false = rw (run-bind (find_room h x) (moving_in h m (n.inode to) x new dirs) s) (room_case (run (find_room h x) s) (room_found h s tree n of hand to blocks entries is))
+      by_size true few = λ well. refuse_meets h s tree n of reply.DirFull dirs
+      by_size false few = rw (run-bind (find_room h x) (moving_in h m (n.inode to) x new dirs) s) (room_case (run (find_room h x) s) (room_found h s tree n of hand to blocks entries is few))
 
       between_meets : Meets h s (if nat_le 896 (length entries) then says tree reply.DirFull else (if lacks_block tree entries blocks then says tree reply.NoDirBlock else says (moved room_tree from name to new b) reply.Ok))
           (run (if nat_le 896 (length entries) then refused reply.DirFull dirs else bind (find_room h x) (moving_in h m (n.inode to) x new dirs)) s)
       between_meets = subst (λ r. Meets h s (if nat_le 896 (length entries) then says tree reply.DirFull else (if lacks_block tree entries blocks then says tree reply.NoDirBlock else says r reply.Ok))
-          (run (if nat_le 896 (length entries) then refused reply.DirFull dirs else bind (find_room h x) (moving_in h m (n.inode to) x new dirs)) s)) (sym last_is) (by_size (nat_le 896 (length entries)))
+          (run (if nat_le 896 (length entries) then refused reply.DirFull dirs else bind (find_room h x) (moving_in h m (n.inode to) x new dirs)) s)) (sym last_is) (by_size (nat_le 896 (length entries)) refl)
 
     -- the same directory, or another
     abbrev tested : Bool → Applied

@@ -1,5 +1,6 @@
 -- A search finds the least place that passes.
-use Rattle.std.proofs.Common.{◌≡◌, ℕ, zero, suc, ◌+◌, ◌-◌, ◌*◌, ◌/◌, ◌%◌, ◌<◌, Bool, false, Option, Some, None, refl, sym, ◌∙◌, ap, ap₂, arith}
+use Rattle.std.proofs.Common.{◌≡◌, ℕ, zero, suc, ◌+◌, ◌-◌, ◌*◌, ◌/◌, ◌%◌, ◌<◌, Bool, true, false, nat_lt, Option, Some, None, refl, sym, ◌∙◌, ap, ap₂, arith}
+use Rattle.std.proofs.lemmas.Bool.Decides.{nat_tests}
 use Rattle.std.specs.Option.{option_map}
 use Rattle.disk_definitions.specs.Store.{Store, StoredEntry}
 use Rattle.disk_definitions.specs.Naming.{place_of}
@@ -28,7 +29,8 @@ module _ (small : ℕ → ℕ) (test : Option StoredEntry → Bool) (s : Store) 
   part_is j r l =
       let a : j / 8 ≡ (7 * j + r) / 56 = omega arith in
       let b : 7 * (j % 8) + r ≡ (7 * j + r) % 56 = omega arith in
-      ap₂ (λ k p. s.place (small k) p) a b
+      let c : nat_lt r 7 ≡ true = grind (arith, nat_tests) in
+      rw c (ap₂ (λ k p. s.place (small k) p) a b)
 
   one_sector : (j n : ℕ) → run (search small test (j + 1) n) s ≡ found_in row (least_from passes (7 * (j + 1)) (7 * n)) → (o : Option ℕ) → least (λ r. test (part j r)) 7 ≡ o →
       run (or_on (hit test j (part j) o) (search small test (j + 1) n)) s ≡ found_in row (least_from passes (7 * j) (7 * suc n))

@@ -1,0 +1,4 @@
+pub mod Standing
+pub mod Exactly
+pub mod Versions
+pub mod Ended

@@ -1,0 +1,104 @@
+-- The directories of a walk, name after name.
+use Rattle.std.proofs.Common.{◌≡◌, ◌==◌, ◌||◌, ℕ, Bool, true, false, cond, Result, Ok, Err, List, [], ◌∷◌, ◌++◌, append_assoc, append-nil, IfOk, length, ◌<◌, arith, refl, sym, ap, ◌∙◌}
+use Rattle.std.proofs.lemmas.List.Folds.{list_any-append}
+use Rattle.frang_base.specs.declared.reply.Reply.{Reply}
+use Rattle.frang_base.specs.declared.reply.Reply.TheVariants as reply
+use Rattle.pick_definitions.specs.Held.{Segments}
+use Rattle.plan_definitions.specs.Ask.{Ask, Got, ReadInode}
+use Rattle.plan_definitions.specs.Walks.{Spot, AtRoot, AtName, AtGap, Lost, Walked, in_inode, onward, walk, walk_from}
+use Rattle.plan_definitions.specs.Written.{Cached}
+use Rattle.dir_lookup.specs.Reading.{Read, Lacks, Gives, reading, then_read}
+use Rattle.dir_lookup.specs.declared.need.Need.{Need}
+use Rattle.dir_lookup.specs.declared.spot.Spot.{Spot as CodeSpot}
+use Rattle.dir_lookup.specs.declared.spot.Spot.TheVariants as spot
+use Rattle.dir_lookup.specs.declared.spot.Refusal.{Refusal}
+use Rattle.dir_lookup.specs.Spots.{leads, reply_of, spot_of, walked_in}
+use Rattle.dir_lookup.proofs.Searches.{goes_on}
+use Rattle.dir_steps.specs.Spots.{FindsPassing, IsStanding, PassesFrom, has_inode, looked_in}
+use Rattle.dir_steps.proofs.Bounds.{walk_stands}
+use Rattle.dir_steps.proofs.Leading.{code_directory}
+
+-- ---- a name on the way
+walked_looked : (dirs : List ℕ) (i : ℕ) (s : Spot) → walked_in dirs i s ≡ record { spot = s; dirs = dirs ++ looked_in i s }
+walked_looked dirs i AtRoot = ap (λ dirs. record { spot = AtRoot; dirs = dirs }) (sym (append-nil dirs))
+walked_looked dirs i (AtName n x name q e) = refl
+walked_looked dirs i (AtGap n x name) = refl
+walked_looked dirs i (Lost r) = ap (λ dirs. record { spot = Lost r; dirs = dirs }) (sym (append-nil dirs))
+
+abbrev led_on : (List ℕ → ℕ → Ask Walked) → List ℕ → Result ℕ Reply → Ask Walked
+led_on next dirs (Ok i) = next dirs i
+led_on next dirs (Err r) = Got (record { spot = Lost r; dirs = dirs })
+
+onward_is : (next : List ℕ → ℕ → Ask Walked) (dirs : List ℕ) (s : Spot) → onward next dirs s ≡ led_on next dirs (leads s)
+onward_is next dirs AtRoot = refl
+onward_is next dirs (AtGap i x name) = refl
+onward_is next dirs (Lost r) = refl
+onward_is next dirs (AtName i x name q e) = go (e.kind == 2)
+  where
+    go : (b : Bool) → cond b (next dirs e.inode) (Got (record { spot = Lost reply.NotDir; dirs = dirs })) ≡ led_on next dirs (cond b (Ok e.inode) (Err reply.NotDir))
+    go true = refl
+    go false = refl
+
+pub no_names : (names : List (List ℕ)) → length names < 1 → names ≡ []
+no_names [] l = refl
+no_names (n ∷ ns) l = absurd (omega arith)
+
+pub passes_none : (cached : Cached) (held : Segments) (from inode : ℕ) (dirs : List ℕ) → PassesFrom cached held from [] inode dirs (Ok (spot.AtRoot, false))
+passes_none cached held from inode dirs = ([], refl, ap (λ dirs. Gives (record { spot = AtRoot; dirs = dirs })) (sym (append-nil dirs)))
+
+module _ (cached : Cached) (held : Segments) (from inode : ℕ) (dirs : List ℕ) (name : List ℕ) where
+  -- the last name
+  pub passes_one : (s : CodeSpot) (b : Bool) → Gives (walked_in dirs from (spot_of s)) ≡ reading (ReadInode from (in_inode dirs from name)) cached held → b ≡ has_inode inode (looked_in from (spot_of s))
+      → PassesFrom cached held from (name ∷ []) inode dirs (Ok (s, b))
+  passes_one s b e h = (looked_in from (spot_of s), h, sym e ∙ ap Gives (walked_looked dirs from (spot_of s)))
+
+  -- a name before others
+  abbrev on : List ℕ → List (List ℕ) → Walked → Ask Walked
+  on next names w = onward (λ more j. walk_from more j (next ∷ names)) w.dirs w.spot
+
+  first : (next : List ℕ) (names : List (List ℕ)) (r : Read Walked) → r ≡ reading (ReadInode from (in_inode dirs from name)) cached held
+      → reading (walk_from dirs from (name ∷ next ∷ names)) cached held ≡ then_read r (λ w. reading (on next names w) cached held)
+  first next names r e = sym (goes_on (ReadInode from (in_inode dirs from name)) (on next names) cached held r e)
+
+  pub first_lacks : (next : List ℕ) (names : List (List ℕ)) (n : ℕ) → Lacks n ≡ reading (ReadInode from (in_inode dirs from name)) cached held → reading (walk_from dirs from (name ∷ next ∷ names)) cached held ≡ Lacks n
+  first_lacks next names n e = first next names (Lacks n) e
+
+  on_by : (next : List ℕ) (names : List (List ℕ)) (s : Spot) (o : Result ℕ Reply) → Gives (walked_in dirs from s) ≡ reading (ReadInode from (in_inode dirs from name)) cached held → leads s ≡ o
+      → reading (walk_from dirs from (name ∷ next ∷ names)) cached held ≡ reading (led_on (λ more j. walk_from more j (next ∷ names)) (dirs ++ looked_in from s) o) cached held
+  on_by next names s o e l =
+      first next names (Gives (walked_in dirs from s)) e
+      ∙ ap (λ w. reading (on next names w) cached held) (walked_looked dirs from s)
+      ∙ ap (λ p. reading p cached held) (onward_is (λ more j. walk_from more j (next ∷ names)) (dirs ++ looked_in from s) s)
+      ∙ ap (λ o. reading (led_on (λ more j. walk_from more j (next ∷ names)) (dirs ++ looked_in from s) o) cached held) l
+
+  pub passes_lost : (next : List ℕ) (names : List (List ℕ)) (s : CodeSpot) (b : Bool) (r : Refusal) → Gives (walked_in dirs from (spot_of s)) ≡ reading (ReadInode from (in_inode dirs from name)) cached held
+      → b ≡ has_inode inode (looked_in from (spot_of s)) → leads (spot_of s) ≡ Err (reply_of r) → PassesFrom cached held from (name ∷ next ∷ names) inode dirs (Ok (spot.Lost r, b))
+  passes_lost next names s b r e h l = (looked_in from (spot_of s), h, on_by next names (spot_of s) (Err (reply_of r)) e l)
+
+  pub passes_lack : (next : List ℕ) (names : List (List ℕ)) (s : CodeSpot) (j n : ℕ) → Gives (walked_in dirs from (spot_of s)) ≡ reading (ReadInode from (in_inode dirs from name)) cached held → leads (spot_of s) ≡ Ok j
+      → reading (walk_from (dirs ++ looked_in from (spot_of s)) j (next ∷ names)) cached held ≡ Lacks n → reading (walk_from dirs from (name ∷ next ∷ names)) cached held ≡ Lacks n
+  passes_lack next names s j n e l ih = on_by next names (spot_of s) (Ok j) e l ∙ ih
+
+  pub passes_more : (next : List ℕ) (names : List (List ℕ)) (s last : CodeSpot) (here there b : Bool) (j : ℕ) → Gives (walked_in dirs from (spot_of s)) ≡ reading (ReadInode from (in_inode dirs from name)) cached held
+      → here ≡ has_inode inode (looked_in from (spot_of s)) → leads (spot_of s) ≡ Ok j → b ≡ (here || there)
+      → PassesFrom cached held j (next ∷ names) inode (dirs ++ looked_in from (spot_of s)) (Ok (last, there)) → PassesFrom cached held from (name ∷ next ∷ names) inode dirs (Ok (last, b))
+  passes_more next names s last here there b j e h l c ih =
+      let looked : List ℕ = looked_in from (spot_of s) in
+      let both : b ≡ has_inode inode (looked ++ ih.0) =
+      c ∙ ap (λ here. here || there) h ∙ ap (λ there. has_inode inode looked || there) ih.1 ∙ sym (list_any-append (λ i. i == inode) looked ih.0) in (
+        looked ++ ih.0,
+        both,
+        on_by next names (spot_of s) (Ok j) e l ∙ ih.2 ∙ ap (λ dirs. Gives (record { spot = spot_of last; dirs = dirs })) (append_assoc dirs looked ih.0),
+      )
+
+-- ---- plans
+module _ (cached : Cached) (held : Segments) (path : List (List ℕ)) (inode : ℕ) where
+  pub finds_passing : (result : Result (CodeSpot × Bool) Need) → PassesFrom cached held 0 path inode [] result → FindsPassing cached held path inode result
+  finds_passing (Ok p) f = (f.0, f.1, λ next. sym (goes_on (walk path) (λ w. next w.dirs w.spot) cached held (Gives (record { spot = spot_of p.0; dirs = f.0 })) (sym f.2)))
+  finds_passing (Err need) f = λ next. sym (goes_on (walk path) (λ w. next w.dirs w.spot) cached held (Lacks need.0.0) (sym f))
+
+  pub passing_stands : (result : Result (CodeSpot × Bool) Need) → PassesFrom cached held 0 path inode [] result → IfOk result (λ p. IsStanding p.0)
+  passing_stands (Ok p) f =
+      let w : Walked = record { spot = spot_of p.0; dirs = f.0 } in
+      code_directory p.0 (walk_stands cached held w path [] 0 f.2)
+  passing_stands (Err need) f = tt

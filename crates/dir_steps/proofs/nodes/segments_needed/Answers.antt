@@ -1,0 +1,16 @@
+-- A node that goes needs its segments.
+use Rattle.std.proofs.Common.{◌≡◌, ℕ, true, [], cond, sym, ap, ◌∙◌}
+use Rattle.plan_definitions.specs.NamePlans as plans
+use Rattle.dir_lookup.specs.Stored.{stored}
+use Rattle.dir_steps.specs.Rooms.{needed}
+use Rattle.dir_steps.proofs.Needed.{looks_over}
+use Rattle.dir_steps.proofs.nodes.segments_needed.Goals as goal
+
+pub returns-then-is_last : goal.returns-then-is_last
+returns-then-is_last c cached =
+    let held = c.args.held.now in
+    let j : ℕ = c.args.number in
+    let y = stored c.args.inode.now in
+    let t : plans.is_last y ≡ true = sym c.is_last.ensures ∙ c.if-is_last.true in
+    looks_over cached held (plans.fewer_segments j y) c.segments_of_node.result
+    (c.segments_of_node.ensures ∙ ap (λ b. needed held (cond b (plans.segments_of j y) [])) (sym t))

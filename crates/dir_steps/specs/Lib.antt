@@ -1,0 +1,4 @@
+pub mod Nodes
+pub mod Outcomes
+pub mod Rooms
+pub mod Spots

@@ -1,0 +1,5 @@
+pub mod Lists
+pub mod Inodes
+pub mod Made
+pub mod AtHand
+pub mod Changed

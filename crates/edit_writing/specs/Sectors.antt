@@ -1,0 +1,36 @@
+-- One sector by the edits that are of it, and which versions have a next one.
+use Rattle.std.specs.Prelude.{ℕ, ◌-◌, ◌^◌, Bool, IsTrue, ◌==◌, nat_lt, if◌then◌else◌, Option, Some, None, Result, Ok, Err, List}
+use Rattle.std.specs.List.{filter_map, list_all}
+use Rattle.sector_definitions.specs.Bytes.{number_at, zeros}
+use Rattle.disk_definitions.specs.Disks.{Sectors}
+use Rattle.disk_definitions.specs.Standing.{version_at}
+use Rattle.store_changes.specs.Edits.{Edit}
+use Rattle.plan_definitions.specs.Written.{edit_sector, edited_block, metadata_sector}
+use Rattle.plan_steps.specs.declared.edit.Outcome.{Outcome}
+use Rattle.plan_steps.specs.declared.stop.Stop.{Stop}
+use Rattle.plan_steps.specs.Edits.{edits_of}
+
+-- the block, or zeros where there is none
+abbrev pub block_or_zeros : Option (List ℕ) → List ℕ
+block_or_zeros None = zeros 512
+block_or_zeros (Some block) = block
+
+-- the block of a sector after an edit, which may be of another sector
+abbrev pub edited_at : ℕ → List ℕ → Edit → List ℕ
+edited_at sector block e = if sector == edit_sector e then edited_block block (number_at 8 0 block) e else block
+
+-- the version of a sector is below the largest number of eight bytes, so it has a next one
+abbrev pub has_next_version : Sectors → ℕ → Bool
+has_next_version sectors sector = nat_lt (version_at sectors sector) (2 ^ 64 - 1)
+
+-- so it is with each sector with a version that the edits change
+abbrev pub have_next_versions : Sectors → List Edit → Bool
+have_next_versions sectors edits = list_all (has_next_version sectors) (filter_map metadata_sector edits)
+
+abbrev pub HasNextVersions : Sectors → List Edit → Type 0
+HasNextVersions sectors edits = IsTrue (have_next_versions sectors edits)
+
+-- so it is with the edits of a plan that is done
+abbrev pub EndsWithNextVersions : Sectors → Result Outcome Stop → Type 0
+EndsWithNextVersions sectors (Ok outcome) = HasNextVersions sectors (edits_of outcome.edits.items)
+EndsWithNextVersions sectors (Err stop) = Unit {0}

@@ -1,0 +1,67 @@
+// The plan as its caller has it.
+ghost use Rattle.std.specs.Prelude.{◌≡◌, [], IfOk, map};
+ghost use Rattle.meta_version.specs.declared.plan.Plan.TheVariants as plan;
+ghost use Rattle.pick_definitions.specs.Held.{AreSegments};
+ghost use Rattle.plan_definitions.specs.Plans.{Plan as Planned};
+ghost use Rattle.plan_definitions.specs.Written as written;
+ghost use Rattle.plan_definitions.specs.Written.{sectors_at_hand};
+ghost use Rattle.dir_lookup.specs.Planned.{planned, sector_by, write_by};
+ghost use Rattle.dir_lookup.specs.Reading.{Read};
+ghost use Rattle.plan_steps.specs.Edits.{edits_of};
+ghost use Rattle.plan_steps.specs.Ends.{Comes};
+ghost use Rattle.edit_writing.specs.Sectors.{EndsWithNextVersions, HasNextVersions};
+
+use crate::{byte_writes, changes_of, freed_sectors};
+use frang_base::{Held, NoMemory, Reply};
+use meta_version::{ByteWrites, Changes, Plan, SectorList, Sectors};
+use plan_steps::{Outcome, Stop};
+use std::alloc::Global;
+
+/// The plan as it ended: what it needs, or its reply with what its edits write. Its one refusal is want of memory, which the plan may
+/// have ended with. What `changes_of` asks of its edits is asked here.
+pub fn finish(
+    alloc: Global,
+    sectors: &Sectors,
+    held: &Held,
+    ended: Result<Outcome, Stop>,
+) -> Result<Plan, NoMemory>
+    requires segments { AreSegments held.now }
+    requires versions { EndsWithNextVersions (sectors_at_hand sectors.now.entries held.now) ended }
+    ensures { (p : Read Planned) → Comes p ended → IfOk result (λ plan. plan ≡ planned sectors.now.entries held.now p) }
+{
+    match ended {
+        Ok(outcome) => done(alloc, sectors, held, outcome),
+        Err(Stop::Need(sector)) => Ok(Plan::Need(sector)),
+        Err(Stop::Segments) => Ok(Plan::Segments),
+        Err(Stop::Clear { block }) => Ok(Plan::Clear { block }),
+        Err(Stop::Refused(reply)) => Ok(unchanged(alloc, reply)),
+        Err(Stop::NoMemory) => Err(NoMemory),
+    }
+}
+
+// The reply with what the edits write.
+fn done(alloc: Global, sectors: &Sectors, held: &Held, outcome: Outcome) -> Result<Plan, NoMemory>
+    requires segments { AreSegments held.now }
+    requires versions { HasNextVersions (sectors_at_hand sectors.now.entries held.now) (edits_of outcome.edits.items) }
+    ensures { IfOk result (λ done. done ≡ plan.Done outcome.reply (written.changes_of (sectors_at_hand sectors.now.entries held.now) (edits_of outcome.edits.items)) (map write_by (written.byte_writes (edits_of outcome.edits.items))) (map sector_by (written.freed_sectors (edits_of outcome.edits.items)))) }
+{
+    let Outcome { reply, edits } = outcome;
+    Ok(Plan::Done {
+        reply,
+        changes: changes_of(alloc, sectors, held, &edits)?,
+        bytes: byte_writes(alloc, &edits)?,
+        freed: freed_sectors(alloc, &edits)?,
+    })
+}
+
+// The reply, and nothing is written.
+fn unchanged(alloc: Global, reply: Reply) -> Plan
+    ensures { result ≡ plan.Done reply [] [] [] }
+{
+    Plan::Done {
+        reply,
+        changes: Changes::from_vec(Vec::new(alloc)),
+        bytes: ByteWrites::from_vec(Vec::new(alloc)),
+        freed: SectorList::from_vec(Vec::new(alloc)),
+    }
+}

@@ -1,0 +1,12 @@
+pub mod Refused
+pub mod Looking
+pub mod Decoded
+pub mod DecodedNodes
+pub mod DecodedEntries
+pub mod FileNodes
+pub mod Owning
+pub mod Aimed
+pub mod Changes
+pub mod Cutting
+pub mod Placing
+pub mod Writing

@@ -1,0 +1,10 @@
+-- What a disk in its grammar says may stand on it.
+use Rattle.std.specs.Prelude.{◌≡◌, ℕ, length}
+use Rattle.disk_definitions.specs.Disks.{Sectors}
+use Rattle.disk_definitions.specs.Store.{store_of}
+use Rattle.disk_definitions.specs.Standing.{IsInGrammar}
+use Rattle.plan_conditions.specs.FitPlans.{IsFitStore}
+
+-- its sectors are of 512 bytes; no bound on a byte is needed, since a number of the grammar reads back from its own bytes
+abbrev pub DisksAreFit : Type 0
+DisksAreFit = (sectors : Sectors) (segments : ℕ) → IsInGrammar segments sectors → ((sector : ℕ) → length (sectors sector) ≡ 512) → IsFitStore segments (store_of segments sectors)

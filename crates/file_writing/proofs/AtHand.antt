@@ -1,0 +1,43 @@
+-- A look at every segment that is held finds each at hand.
+use Rattle.std.proofs.Common.{◌≡◌, ℕ, Bool, true, false, cond, is_some, Option, Some, None, [], ◌∷◌, refl, ap, arith}
+use Rattle.std.proofs.lemmas.Bool.Decides.{nat_tests}
+use Rattle.std.specs.BTreeMap.{is_at}
+use Rattle.std.specs.Map.{keys_of}
+use Rattle.std.specs.Ordering.{nat_cmp}
+use Rattle.frang_base.specs.declared.bitmap.Bitmap.{Bitmap}
+use Rattle.pick_definitions.specs.Held.{Segments, bitmap_of}
+use Rattle.plan_definitions.specs.Ask.{Ask, read_segments}
+use Rattle.plan_definitions.specs.Plans.{Hand, read_held}
+use Rattle.plan_definitions.specs.Written.{Cached, is_held}
+use Rattle.dir_lookup.specs.Reading.{reading}
+
+at_itself : (k : ℕ) → is_at (nat_cmp k) k ≡ true
+at_itself k = grind (arith, nat_tests)
+
+held_by : (held : Segments) (k : ℕ) (o : Option Bitmap) → bitmap_of held k ≡ o → is_some o ≡ true → is_held held k ≡ true
+held_by held k None e s = absurd (cc)
+held_by held k (Some x) e s = rw e refl
+
+there_by : (held : Segments) (k : ℕ) (o : Option Bitmap) → bitmap_of held k ≡ o → is_held held k ≡ true → is_some o ≡ true
+there_by held k None e h = rw e at h
+there_by held k (Some x) e h = refl
+
+held_first : (k : ℕ) (x : Bitmap) (es : Segments) → is_held ((k, x) ∷ es) k ≡ true
+held_first k x es = held_by ((k, x) ∷ es) k (Some x) (ap (λ b. cond b (Some x) (bitmap_of es k)) (at_itself k)) refl
+
+held_later : (e : ℕ × Bitmap) (es : Segments) (k : ℕ) → is_held es k ≡ true → is_held (e ∷ es) k ≡ true
+held_later e es k h = held_by (e ∷ es) k (cond (is_at (nat_cmp k) e.0) (Some e.1) (bitmap_of es k)) refl (go (is_at (nat_cmp k) e.0))
+  where
+    go : (b : Bool) → is_some (cond b (Some e.1) (bitmap_of es k)) ≡ true
+    go true = refl
+    go false = there_by es k (bitmap_of es k) refl h
+
+keys_at_hand : {A : Type 0} (es held : Segments) (cached : Cached) (p : Ask A) → ((k : ℕ) → is_held es k ≡ true → is_held held k ≡ true)
+    → reading (read_segments (keys_of es) p) cached held ≡ reading p cached held
+keys_at_hand [] held cached p h = refl
+keys_at_hand ((k, x) ∷ es) held cached p h =
+    let t : is_held held k ≡ true = h k (held_first k x es) in
+    rw t (keys_at_hand es held cached p (λ j i. h j (held_later (k, x) es j i)))
+
+pub held_at_hand : {A : Type 0} (h : Hand) (cached : Cached) (p : Ask A) → reading (read_held h p) cached h.held ≡ reading p cached h.held
+held_at_hand h cached p = keys_at_hand h.held h.held cached p (λ k i. i)

@@ -1,0 +1,74 @@
+-- The plan by its choices: what is refused, and what is picked.
+use Rattle.std.proofs.Common.{◌≡◌, ◌==◌, ◌&&◌, ◌<◌, ◌≤◌, ◌-◌, ℕ, Bool, true, false, cond, nat_lt, max, Option, None, List, [], refl, sym, ap, ◌∙◌, arith, eq-eqb, ne_eqb, lt-ltb}
+use Rattle.std.proofs.lemmas.Bool.Decides.{nat_tests}
+use Rattle.frang_base.specs.declared.reply.Reply.TheVariants as reply
+use Rattle.tree_definitions.specs.Tree.{small_blocks_of}
+use Rattle.disk_definitions.specs.Store.{StoredNode}
+use Rattle.pick_definitions.specs.Picks.{picked_large, picked_many}
+use Rattle.plan_definitions.specs.Ask.{Ask}
+use Rattle.plan_definitions.specs.Plans.{Hand, Plan, read_held, refused}
+use Rattle.plan_definitions.specs.FilePlans.{Writing, end_of, writing, writing_in, writing_large, writing_picked, writing_small}
+use Rattle.plan_definitions.specs.Written.{Cached}
+use Rattle.dir_lookup.specs.Reading.{reading}
+use Rattle.file_writing.proofs.AtHand.{held_at_hand}
+
+not_below : (a b : ℕ) → b ≤ a → nat_lt a b ≡ false
+not_below a b l = grind (arith, nat_tests)
+
+module _ (h : Hand) (w : Writing) (i : ℕ) (touched : List ℕ) (x : StoredNode) (cached : Cached) where
+  -- ---- the small blocks
+  -- how many are wanted
+  abbrev pub wanted : ℕ
+  wanted = small_blocks_of (max x.size (end_of w)) - x.blocks
+
+  -- the plan by whether none is
+  small_by : Option ℕ → Bool → Ask Plan
+  small_by large b = cond b (writing_in w i touched x [] large) (read_held h (writing_picked h w i touched x large (picked_many h.held wanted)))
+
+  pub none_wanted : (large : Option ℕ) → wanted ≡ 0 → reading (writing_in w i touched x [] large) cached h.held ≡ reading (writing_small h w i touched x large) cached h.held
+  unfolding small_by
+  none_wanted large e = ap (λ b. reading (small_by large b) cached h.held) (sym (eq-eqb wanted 0 e))
+
+  pub some_wanted : (large : Option ℕ) (o : Option (List ℕ)) → (wanted ≡ 0 → ⊥) → picked_many h.held wanted ≡ o
+      → reading (writing_picked h w i touched x large o) cached h.held ≡ reading (writing_small h w i touched x large) cached h.held
+  unfolding small_by
+  some_wanted large o e p =
+      ap (λ o. reading (writing_picked h w i touched x large o) cached h.held) (sym p) ∙ sym (held_at_hand h cached (writing_picked h w i touched x large (picked_many h.held wanted)))
+      ∙ ap (λ b. reading (small_by large b) cached h.held) (sym (ne_eqb wanted 0 e))
+
+  -- ---- the range, and the large block
+  -- the plan by its three tests
+  by_tests : Bool → Bool → Bool → Ask Plan
+  by_tests a b c =
+      cond a (refused reply.BadOffset touched)
+      (cond b (refused reply.TooBig touched) (cond c (read_held h (writing_large h w i touched x (picked_large h.held))) (writing_small h w i touched x None)))
+
+  -- these are what the tests say
+  abbrev tested : (a b c : Bool) → Type 0
+  tested a b c = reading (by_tests a b c) cached h.held ≡ reading (writing h w i touched x) cached h.held
+
+  as_tested : (a b c : Bool) → nat_lt x.size w.off ≡ a → nat_lt 1114112 (end_of w) ≡ b → (nat_lt 65536 (end_of w) && x.large == 0) ≡ c → tested a b c
+  unfolding by_tests
+  as_tested a b c ea eb ec =
+      sym (ap (λ a. reading (by_tests a (nat_lt 1114112 (end_of w)) (nat_lt 65536 (end_of w) && x.large == 0)) cached h.held) ea
+      ∙ ap (λ b. reading (by_tests a b (nat_lt 65536 (end_of w) && x.large == 0)) cached h.held) eb ∙ ap (λ c. reading (by_tests a b c) cached h.held) ec)
+
+  pub bad_offset : x.size < w.off → reading (refused reply.BadOffset touched) cached h.held ≡ reading (writing h w i touched x) cached h.held
+  unfolding by_tests
+  bad_offset l = as_tested true (nat_lt 1114112 (end_of w)) (nat_lt 65536 (end_of w) && x.large == 0) (lt-ltb x.size w.off l) refl refl
+
+  pub too_big : w.off ≤ x.size → 1114112 < end_of w → reading (refused reply.TooBig touched) cached h.held ≡ reading (writing h w i touched x) cached h.held
+  unfolding by_tests
+  too_big o l = as_tested false true (nat_lt 65536 (end_of w) && x.large == 0) (not_below x.size w.off o) (lt-ltb 1114112 (end_of w) l) refl
+
+  pub has_large : w.off ≤ x.size → end_of w ≤ 1114112 → (nat_lt 65536 (end_of w) && x.large == 0) ≡ false
+      → reading (writing_small h w i touched x None) cached h.held ≡ reading (writing h w i touched x) cached h.held
+  unfolding by_tests
+  has_large o l n = as_tested false false false (not_below x.size w.off o) (not_below 1114112 (end_of w) l) n
+
+  pub large_wanted : w.off ≤ x.size → end_of w ≤ 1114112 → (nat_lt 65536 (end_of w) && x.large == 0) ≡ true → (g : Option ℕ) → picked_large h.held ≡ g
+      → reading (writing_large h w i touched x g) cached h.held ≡ reading (writing h w i touched x) cached h.held
+  unfolding by_tests
+  large_wanted o l n g p =
+      ap (λ g. reading (writing_large h w i touched x g) cached h.held) (sym p) ∙ sym (held_at_hand h cached (writing_large h w i touched x (picked_large h.held)))
+      ∙ as_tested false false true (not_below x.size w.off o) (not_below 1114112 (end_of w) l) n

@@ -1,0 +1,9 @@
+pub mod Around
+pub mod Setting
+pub mod Counting
+pub mod Resized
+pub mod Mixed
+pub mod Sectors
+pub mod AtHand
+pub mod Choices
+pub mod Ending

@@ -1,0 +1,58 @@
+-- By what is picked.
+use Rattle.std.proofs.Common.{◌≡◌, ◌-◌, ℕ, Some, None, max, refl, subst, rules, arith}
+use Rattle.frang_base.specs.declared.reply.Reply.TheVariants as reply
+use Rattle.tree_definitions.specs.Tree.{small_blocks_of}
+use Rattle.pick_definitions.specs.Picks.{picked_many}
+use Rattle.pick_definitions.proofs.ManyLaws.{picks_the_least}
+use Rattle.plan_definitions.specs.Plans.{Hand, none_left}
+use Rattle.plan_definitions.specs.FilePlans.{directory_blocks, end_of}
+use Rattle.dir_lookup.specs.Reading.{reading}
+use Rattle.dir_lookup.specs.Stored.{stored}
+use Rattle.plan_steps.specs.Ends.{Comes, Stops}
+use Rattle.file_writing.specs.Writings.{writing_of}
+use Rattle.file_writing.proofs.Choices.{none_wanted, some_wanted}
+use Rattle.file_writing.proofs.write.write_small.Goals as goal
+
+pub returns-then-more-eq0 : goal.returns-then-more-eq0
+returns-then-more-eq0 c zeroed touched =
+    let cached = c.args.sectors.now.entries in
+    let h : Hand = record { held = c.args.held.now; all = c.args.all; zeroed = zeroed } in
+    let w = writing_of c.args.writing.now in
+    let x = stored c.args.file.now.inode in
+    let none : small_blocks_of (max x.size (end_of w)) - x.blocks ≡ 0 = search rules in
+    subst (λ p. Comes p c.write_in.result) (none_wanted h w c.args.file.now.number touched x cached c.args.large none) (c.write_in.ensures c.args.held.now touched)
+
+pub write_in-requires-in-Some-clause-picks : goal.write_in-requires-in-Some-clause-picks
+write_in-requires-in-Some-clause-picks c =
+    let m : ℕ = small_blocks_of (max c.args.file.now.inode.size (end_of (writing_of c.args.writing.now))) - c.args.file.now.inode.blocks in
+    let n : c.from.result ≡ m = search rules in
+    let p : picked_many c.args.held.now m ≡ Some c.deref.result.now = search rules in
+    omega (arith, (picks_the_least c.args.held.now m c.deref.result.now p).0)
+
+pub returns-in-Some : goal.returns-in-Some
+returns-in-Some c zeroed touched =
+    let cached = c.args.sectors.now.entries in
+    let h : Hand = record { held = c.args.held.now; all = c.args.all; zeroed = zeroed } in
+    let w = writing_of c.args.writing.now in
+    let x = stored c.args.file.now.inode in
+    let m : ℕ = small_blocks_of (max x.size (end_of w)) - x.blocks in
+    let n : c.from.result ≡ m = search rules in
+    let some : m ≡ 0 → ⊥ = search rules in
+    let p : picked_many c.args.held.now m ≡ Some c.deref.result.now = search rules in
+    subst (λ p. Comes p c.write_in-in-Some.result) (some_wanted h w c.args.file.now.number touched x cached c.args.large (Some c.deref.result.now) some p)
+    (c.write_in-in-Some.ensures c.args.held.now touched)
+
+pub returns-in-None : goal.returns-in-None
+returns-in-None c zeroed touched =
+    let cached = c.args.sectors.now.entries in
+    let h : Hand = record { held = c.args.held.now; all = c.args.all; zeroed = zeroed } in
+    let w = writing_of c.args.writing.now in
+    let x = stored c.args.file.now.inode in
+    let m : ℕ = small_blocks_of (max x.size (end_of w)) - x.blocks in
+    let n : c.from.result ≡ m = search rules in
+    let some : m ≡ 0 → ⊥ = search rules in
+    let p : picked_many c.args.held.now m ≡ None = search rules in
+    let s : Stops (reading (none_left h (reply.NoBlock c.directory_blocks-m.result) touched) cached c.args.held.now) c.none_left.result = c.none_left.ensures h touched cached c.args.held.now refl in
+    let q : Stops (reading (none_left h (reply.NoBlock (directory_blocks c.args.held.now)) touched) cached c.args.held.now) c.none_left.result =
+    subst (λ n. Stops (reading (none_left h (reply.NoBlock n) touched) cached c.args.held.now) c.none_left.result) c.directory_blocks-m.ensures s in
+    subst (λ p. Stops p c.none_left.result) (some_wanted h w c.args.file.now.number touched x cached c.args.large None some p) q

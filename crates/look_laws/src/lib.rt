@@ -1,0 +1,19 @@
+//! Laws of where a plan looks: over a disk that is the picture of a tree only at inodes and blocks that the disk has, and what is at hand of the
+//! sectors that it looks at decides what it comes to. Each is the contract of a public function with an empty body. It stands on the definitions and
+//! laws of plans.
+#![tactic(auto)]
+
+ghost use Rattle.plan_definitions.specs.Plans.{Plan};
+ghost use Rattle.look_laws.specs.Inside.{PlansLookInside, MeetsWhereItLooks};
+
+/// Over the disk of a tree, with segments of it at hand, the plan of an operation looks only at inodes and at blocks of directories that the disk
+/// has.
+pub fn plans_look_inside()
+    ensures inside { PlansLookInside }
+{}
+
+/// Where what is at hand of the sectors that a computation looks at is the disk's, it has its value over the disk, or needs the first of them that
+/// isn't at hand. What is at hand of other sectors counts for nothing.
+pub fn what_is_at_hand_decides()
+    ensures met { MeetsWhereItLooks Plan }
+{}

@@ -1,0 +1,13 @@
+pub mod Directories
+pub mod Links
+pub mod Uses
+pub mod Pieces
+pub mod OnDisk
+pub mod Named
+pub mod FoundRooms
+pub mod Refusing
+pub mod Removing
+pub mod Making
+pub mod Linking
+pub mod Moving
+pub mod Renaming

@@ -1,0 +1,37 @@
+-- What the tests ask with may be asked: paths have names, and few segments are held.
+use Rattle.std.proofs.Common.{◌≡◌, ◌<◌, ◌&&◌, ℕ, Bool, true, false, List, Some, [], ◌∷◌, refl, sym, subst, arith}
+use Rattle.std.proofs.lemmas.Bool.Decides.{nat_tests}
+use Rattle.std.specs.List.{list_all}
+use Rattle.std.specs.BTreeMap.{insert_entry, is_at}
+use Rattle.std.specs.Ordering.{nat_cmp}
+use Rattle.frang_base.specs.Name.{is_name}
+use Rattle.frang_base.specs.declared.bitmap.Bitmap.{Bitmap}
+use Rattle.pick_definitions.specs.Held.{Segments, AreSegments, bitmap_of}
+use Rattle.plan_conditions.specs.Allowed.{AreNames}
+
+pub all_names : (names : List (List ℕ)) → list_all is_name names ≡ true → AreNames names
+all_names [] e = tt
+all_names (name ∷ names) e = go (is_name name) refl (all_names names) e
+  where
+    go : (t : Bool) → is_name name ≡ t → (list_all is_name names ≡ true → AreNames names) → (t && list_all is_name names) ≡ true → AreNames (name ∷ names)
+    go true is rest all = (is, rest all)
+    go false is rest all = absurd (cc)
+
+pub no_segment : (held : Segments) → held ≡ [] → AreSegments held
+no_segment held e = subst AreSegments (sym e) none
+  where
+    none : AreSegments []
+    none k x at = absurd (cc)
+
+found : (a b : ℕ) → is_at (nat_cmp a) b ≡ true → b ≡ a
+found a b e = grind (arith, nat_tests)
+
+pub one_segment : (held : Segments) (j : ℕ) (y : Bitmap) → held ≡ insert_entry nat_cmp [] j y → j < 64 → AreSegments held
+one_segment held j y e low = subst AreSegments (sym e) one
+  where
+    go : (k : ℕ) (x : Bitmap) (t : Bool) → is_at (nat_cmp k) j ≡ t → bitmap_of ((j, y) ∷ []) k ≡ Some x → k < 64
+    go k x true is at = let same : j ≡ k = found k j is in omega arith
+    go k x false is at = absurd (cc)
+
+    one : AreSegments ((j, y) ∷ [])
+    one k x at = go k x (is_at (nat_cmp k) j) refl at

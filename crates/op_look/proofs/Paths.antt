@@ -1,0 +1,29 @@
+-- An operation that only looks has a path.
+use Rattle.frang_base.specs.declared.op.Op.{Op}
+use Rattle.frang_base.specs.declared.op.Op.TheVariants as op
+use Rattle.plan_disk_laws.specs.Laws.{HasPath}
+use Rattle.op_look.specs.Looks.{IsLook}
+
+pub has_path : (o : Op) → IsLook o → HasPath o
+has_path (op.Create path) n = absurd n
+has_path (op.Mkdir path) n = absurd n
+has_path (op.Symlink path target) n = absurd n
+has_path (op.Link path to) n = absurd n
+has_path (op.Unlink path) n = absurd n
+has_path (op.Rmdir path) n = absurd n
+has_path (op.Rename path to) n = absurd n
+has_path (op.Write path off bytes) n = absurd n
+has_path (op.Fill path off len byte) n = absurd n
+has_path (op.Truncate path len) n = absurd n
+has_path (op.Read path off len) n = absurd n
+has_path (op.Stat path) n = tt
+has_path (op.List path) n = tt
+has_path (op.Readlink path) n = tt
+has_path (op.Time path) n = tt
+has_path op.Sync n = absurd n
+has_path op.Mount n = absurd n
+has_path op.Unmount n = absurd n
+has_path op.Crash n = absurd n
+has_path (op.CrashAt k) n = absurd n
+has_path (op.CutAt k) n = absurd n
+has_path op.Stall n = absurd n

@@ -1,0 +1,13 @@
+-- The plan lists the names so far and those of the sectors that are left.
+use Rattle.std.proofs.Common.{◌≡◌, ◌-◌, ◌*◌, ℕ, List, slice_index}
+use Rattle.pick_definitions.specs.Held.{Segments}
+use Rattle.plan_definitions.specs.LookPlans.{read_entries, listing}
+use Rattle.dir_lookup.specs.Reading.{reading}
+use Rattle.dir_lookup.specs.Stored.{stored}
+use Rattle.op_look.proofs.Listed.{listed}
+use Rattle.op_look.proofs.names.names_in.Given as goal
+
+abbrev pub invariant-loop-j : goal.invariant-loop-j
+invariant-loop-j l =
+    (held : Segments) (touched : List ℕ) → reading (read_entries (slice_index l.directory.small) l.j (8 * l.directory.blocks - l.j) (listed touched l.sorted.entries)) l.sectors.entries held
+    ≡ reading (listing touched (stored l.directory)) l.sectors.entries held

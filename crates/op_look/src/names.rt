@@ -1,0 +1,76 @@
+// The names in a directory.
+ghost use Rattle.std.specs.Prelude.{◌≡◌, ◌≤◌, ◌<◌, fold, IfOk, IfSome, IsTrue, OnOk, List, ℕ};
+ghost use Rattle.std.specs.Option.{option_map};
+ghost use Rattle.pick_definitions.specs.Held.{Segments};
+ghost use Rattle.sector_definitions.specs.Directories.{directory_fits};
+ghost use Rattle.plan_definitions.specs.LookPlans.{entries_of};
+ghost use Rattle.dir_lookup.specs.Stored.{IsProper, entered, entries_at, stored};
+ghost use Rattle.op_look.specs.Looks.{ListsNames, with_name, with_place};
+ghost use Rattle.std.specs.Map.{keys_of};
+
+use dir_lookup::{entry_at, name_of, part_at};
+use frang_base::{Name, NameList, NoMemory};
+use meta_version::Sectors;
+use plan_steps::Stop;
+use sector_definitions::{DirEntry, DirSector, Inode};
+use std::alloc::Global;
+use std::collections::BTreeMap;
+
+// Sectors of a directory's block, and places of a sector.
+const PARTS: u32 = 8;
+
+const PLACES: u8 = 7;
+
+/// The names in a directory, in order of their bytes.
+pub(crate) fn names_in(
+    alloc: Global,
+    sectors: &Sectors,
+    directory: &Inode,
+) -> Result<NameList, Stop>
+    requires { directory.now.blocks ≤ 16 }
+    ensures { (held : Segments) → ListsNames sectors.now.entries held (stored directory.now) result }
+{
+    let mut sorted: BTreeMap<Name, u64> = BTreeMap::new(alloc);
+    for j in 0..PARTS * u32::from(directory.blocks) {
+        let sector = part_at(sectors, directory, j)?;
+        add_names(&mut sorted, &sector)?;
+    }
+    let names = list_of(alloc, &sorted)?;
+    Ok(names)
+}
+
+// Adds the names of a sector.
+fn add_names(sorted: &mut BTreeMap<Name, u64>, sector: &DirSector) -> Result<(), NoMemory>
+    requires { IsTrue (directory_fits sector.now) }
+    ensures { OnOk result (sorted.new.entries ≡ fold with_name sorted.old.entries (entries_of (entries_at sector.now))) }
+{
+    for place in 0..PLACES {
+        add_name(sorted, entry_at(sector, place))?;
+    }
+    Ok(())
+}
+
+// Adds the name of an entry, where there is one. The names alone count.
+fn add_name(sorted: &mut BTreeMap<Name, u64>, entry: Option<DirEntry>) -> Result<(), NoMemory>
+    requires { IfSome entry IsProper }
+    ensures { OnOk result (sorted.new.entries ≡ with_place sorted.old.entries (option_map entered entry)) }
+{
+    match entry {
+        Some(entry) => {
+            sorted.insert(name_of(&entry), 0)?;
+            Ok(())
+        }
+        None => Ok(()),
+    }
+}
+
+// The names of a map, in their order.
+fn list_of(alloc: Global, sorted: &BTreeMap<Name, u64>) -> Result<NameList, NoMemory>
+    ensures { IfOk result (λ names. names ≡ keys_of sorted.now.entries) }
+{
+    let mut names = NameList::new(alloc);
+    for name in sorted.keys() {
+        names.push(name.copy())?;
+    }
+    Ok(names)
+}

@@ -1,0 +1,157 @@
+// The plan of a look.
+ghost use Rattle.std.specs.Prelude.{◌≡◌, ◌≤◌, ◌<◌, ◌^◌, Bool, ℕ, IfOk, [], if◌then◌else◌, take, ◌==◌};
+ghost use Rattle.pick_definitions.specs.Held.{Segments};
+ghost use Rattle.plan_definitions.specs.LookPlans.{described, plan_described, plan_listed, plan_target, plan_timed, timed};
+ghost use Rattle.plan_definitions.specs.Plans.{Hand};
+ghost use Rattle.plan_definitions.specs.PlanOf.{plan_of};
+ghost use Rattle.dir_lookup.specs.Planned.{planned};
+ghost use Rattle.dir_lookup.specs.Reading.{reading};
+ghost use Rattle.dir_lookup.specs.Stored.{IsUsed, stored};
+ghost use Rattle.plan_steps.specs.Ends.{Says};
+ghost use Rattle.code_plan_laws.specs.CodeStands.{StandsOverDisks, IsExactOverDisks};
+ghost use Rattle.op_look.specs.Looks.{IsLook, says};
+
+use crate::names::names_in;
+use frang_base::{NoMemory, Op, Path, Reply, Text};
+use meta_version::{ByteWrites, Changes, Plan, SectorList, Sectors};
+use plan_steps::{Stop, inode_of, target_of};
+use sector_definitions::Inode;
+use std::alloc::Global;
+
+// The kinds of nodes.
+const FILE: u8 = 1;
+
+const DIRECTORY: u8 = 2;
+
+const LINK: u8 = 3;
+
+/// The plan of an operation that only looks: stat, list, readlink or time. It is done with the reply, and changes nothing; or a sector is
+/// needed, the first that is looked at and isn't cached. Whatever segments are held, over every disk that stands for a tree it answers as the
+/// tree does. Its one refusal is want of memory.
+pub fn plan_look(alloc: Global, op: &Op, sectors: &Sectors) -> Result<Plan, NoMemory>
+    requires { IsLook op.now }
+    ensures is { (h : Hand) (birth : ℕ) (held : Segments) → IfOk result (λ plan. plan ≡ planned sectors.now.entries held (reading (plan_of h birth op.now) sectors.now.entries held)) }
+    ensures stands { (birth : ℕ) (held : Segments) (all : Bool) → birth < 2 ^ 64 → IfOk result (StandsOverDisks op.now birth sectors.now.entries held all) }
+    ensures exact { (birth : ℕ) (held : Segments) (all : Bool) → birth < 2 ^ 64 → IfOk result (IsExactOverDisks op.now birth sectors.now.entries held all) }
+{
+    ended_look(alloc, op, sectors)
+}
+
+// The plan, as the look ended.
+fn ended_look(alloc: Global, op: &Op, sectors: &Sectors) -> Result<Plan, NoMemory>
+    requires { IsLook op.now }
+    ensures { (h : Hand) (birth : ℕ) (held : Segments) → IfOk result (λ plan. plan ≡ planned sectors.now.entries held (reading (plan_of h birth op.now) sectors.now.entries held)) }
+{
+    match look(alloc, op, sectors) {
+        Ok(reply) => Ok(done(alloc, reply)),
+        Err(Stop::Refused(reply)) => Ok(done(alloc, reply)),
+        Err(Stop::Need(sector)) => Ok(Plan::Need(sector)),
+        Err(Stop::Segments) => Ok(Plan::Segments),
+        Err(Stop::Clear { block }) => Ok(Plan::Clear { block }),
+        Err(Stop::NoMemory) => Err(NoMemory),
+    }
+}
+
+// A plan that only answers.
+fn done(alloc: Global, reply: Reply) -> Plan
+    ensures { result ≡ says reply }
+{
+    Plan::Done {
+        reply,
+        changes: Changes::from_vec(Vec::new(alloc)),
+        bytes: ByteWrites::from_vec(Vec::new(alloc)),
+        freed: SectorList::from_vec(Vec::new(alloc)),
+    }
+}
+
+fn look(alloc: Global, op: &Op, sectors: &Sectors) -> Result<Reply, Stop>
+    requires { IsLook op.now }
+    ensures { (h : Hand) (birth : ℕ) (held : Segments) → Says (reading (plan_of h birth op.now) sectors.now.entries held) result }
+{
+    match op {
+        Op::Stat { path } => describe(sectors, path),
+        Op::List { path } => list(alloc, sectors, path),
+        Op::Readlink { path } => read_link(alloc, sectors, path),
+        Op::Time { path } => time(sectors, path),
+        _ => unreachable!(),
+    }
+}
+
+fn describe(sectors: &Sectors, path: &Path) -> Result<Reply, Stop>
+    ensures { (held : Segments) → Says (reading (plan_described path.now) sectors.now.entries held) result }
+{
+    let target = target_of(sectors, path)?;
+    let inode = inode_of(sectors, target.inode)?;
+    Ok(described(&inode))
+}
+
+// What a node is: of a file its size and links, of a directory its entries, of a link its length.
+fn described(inode: &Inode) -> Reply
+    requires { IsUsed inode.now }
+    ensures { result ≡ described (stored inode.now) }
+{
+    let size = inode.size as u32;
+    match inode.kind {
+        FILE => Reply::File {
+            size,
+            links: u32::from(inode.links),
+        },
+        DIRECTORY => Reply::Dir { entries: size },
+        _ => Reply::Symlink { len: size },
+    }
+}
+
+fn list(alloc: Global, sectors: &Sectors, path: &Path) -> Result<Reply, Stop>
+    ensures { (held : Segments) → Says (reading (plan_listed path.now) sectors.now.entries held) result }
+{
+    let target = target_of(sectors, path)?;
+    if target.kind != DIRECTORY {
+        return Err(Stop::Refused(Reply::NotDir));
+    }
+    let inode = inode_of(sectors, target.inode)?;
+    let names = names_in(alloc, sectors, &inode)?;
+    Ok(Reply::Names(names))
+}
+
+fn read_link(alloc: Global, sectors: &Sectors, path: &Path) -> Result<Reply, Stop>
+    ensures { (held : Segments) → Says (reading (plan_target path.now) sectors.now.entries held) result }
+{
+    let target = target_of(sectors, path)?;
+    if target.kind != LINK {
+        return Err(Stop::Refused(Reply::Inval));
+    }
+    let inode = inode_of(sectors, target.inode)?;
+    let text = link_text(alloc, &inode)?;
+    Ok(Reply::Target(text))
+}
+
+// The target of a link; of any other node nothing.
+fn link_text(alloc: Global, inode: &Inode) -> Result<Text, NoMemory>
+    requires { IsUsed inode.now }
+    ensures { IfOk result (λ text. text ≡ (if inode.now.kind == 3 then take inode.now.size inode.now.target else [])) }
+{
+    if inode.kind == LINK {
+        Text::of(alloc, &inode.target[..inode.size as usize])
+    } else {
+        Ok(Text::new(alloc))
+    }
+}
+
+fn time(sectors: &Sectors, path: &Path) -> Result<Reply, Stop>
+    ensures { (held : Segments) → Says (reading (plan_timed path.now) sectors.now.entries held) result }
+{
+    let target = target_of(sectors, path)?;
+    let inode = inode_of(sectors, target.inode)?;
+    Ok(timed(&inode))
+}
+
+// When a node was last written. This format keeps no times, so of a file it is 0.0.
+fn timed(inode: &Inode) -> Reply
+    ensures { result ≡ timed (stored inode.now) }
+{
+    match inode.kind {
+        FILE => Reply::Time { run: 0, tick: 0 },
+        DIRECTORY => Reply::IsDir,
+        _ => Reply::Inval,
+    }
+}

@@ -1,0 +1,4 @@
+pub mod Choosing
+pub mod Rooming
+pub mod Moves
+pub mod Going

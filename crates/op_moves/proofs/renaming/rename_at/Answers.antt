@@ -1,0 +1,45 @@
+-- By where the first path leads.
+use Rattle.std.proofs.Common.{◌++◌, sym, ap, ◌∙◌}
+use Rattle.frang_base.specs.declared.reply.Reply.TheVariants as reply
+use Rattle.plan_definitions.specs.Ask.{bind}
+use Rattle.plan_definitions.specs.Walks.{walk}
+use Rattle.plan_definitions.specs.Plans.{Plan, refuse}
+use Rattle.plan_definitions.specs.NamePlans.{Moving, renaming, renaming_to}
+use Rattle.dir_lookup.specs.Reading.{Read, Gives, reading}
+use Rattle.dir_lookup.specs.declared.spot.Spot.{Spot}
+use Rattle.dir_lookup.specs.Spots.{spot_of}
+use Rattle.dir_lookup.specs.Stored.{entered, stored}
+use Rattle.plan_definitions.specs.Written.{hand_of}
+use Rattle.dir_steps.proofs.Ending.{comes_as}
+use Rattle.op_moves.proofs.Choosing.{refuses}
+use Rattle.op_moves.proofs.renaming.rename_at.Goals as goal
+
+pub returns-in-AtName : goal.returns-in-AtName
+returns-in-AtName c dirs =
+    let cached = c.args.sectors.now.entries in
+    let held = c.args.held.now in
+    let h = hand_of cached held c.args.all in
+    let plan : Spot → Read Plan = λ s. reading (renaming h c.args.to.now dirs (spot_of s)) cached held in
+    let m : Moving = record { dir = c.in-AtName.number; x = stored c.in-AtName.directory; q = c.in-AtName.found.place; entry = entered c.in-AtName.found.entry } in
+    comes_as (plan c.args.spot.now) (reading (bind (walk c.args.to.now) (λ w. renaming_to h m w.dirs (dirs ++ w.dirs) w.spot)) cached held) c.rename_named.result (ap plan c.in-AtName.is) (c.rename_named.ensures dirs)
+
+pub returns-in-AtRoot : goal.returns-in-AtRoot
+returns-in-AtRoot c dirs =
+    let cached = c.args.sectors.now.entries in
+    let held = c.args.held.now in
+    let plan : Spot → Read Plan = λ s. reading (renaming (hand_of cached held c.args.all) c.args.to.now dirs (spot_of s)) cached held in
+    refuses (plan c.args.spot.now) reply.Inval dirs (ap plan c.in-AtRoot.is)
+
+pub returns-in-AtGap : goal.returns-in-AtGap
+returns-in-AtGap c dirs =
+    let cached = c.args.sectors.now.entries in
+    let held = c.args.held.now in
+    let plan : Spot → Read Plan = λ s. reading (renaming (hand_of cached held c.args.all) c.args.to.now dirs (spot_of s)) cached held in
+    refuses (plan c.args.spot.now) reply.NoEnt dirs (ap plan c.in-AtGap.is)
+
+pub returns-in-Lost : goal.returns-in-Lost
+returns-in-Lost c dirs =
+    let cached = c.args.sectors.now.entries in
+    let held = c.args.held.now in
+    let plan : Spot → Read Plan = λ s. reading (renaming (hand_of cached held c.args.all) c.args.to.now dirs (spot_of s)) cached held in
+    refuses (plan c.args.spot.now) c.reply.result dirs (ap plan c.in-Lost.is ∙ ap (λ r. Gives (refuse r dirs)) (sym c.reply.ensures))

@@ -1,0 +1,4 @@
+pub mod Allowed
+pub mod FitPlans
+pub mod SmallRecords
+pub mod OnDisk

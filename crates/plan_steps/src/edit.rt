@@ -1,0 +1,54 @@
+// What an operation changes.
+use bitmap_block::BlockState;
+use frang_base::{Block, Reply};
+use sector_definitions::{DirEntry, Inode};
+
+/// The change of one thing of a disk. Blocks are numbered over all segments, small ones and large ones apart.
+#[derive(Debug, Drop)]
+pub enum Edit {
+    /// An inode, in use or free. Its version counts for nothing.
+    Inode {
+        number: u32,
+        inode: Option<Inode>,
+    },
+    /// Whether the bitmap has an inode in use.
+    Bit {
+        number: u32,
+        used: bool,
+    },
+    /// What a small block is used for.
+    Use {
+        block: u32,
+        state: BlockState,
+    },
+    /// A place of a directory's block, 0 to 55, with its entry or free.
+    Place {
+        block: u32,
+        place: u32,
+        entry: Option<DirEntry>,
+    },
+    /// Whether a large block is in use.
+    Large {
+        block: u32,
+        used: bool,
+    },
+    /// The bytes of a sector of a small block, part 0 to 7.
+    Bytes {
+        block: u32,
+        part: u8,
+        bytes: Block,
+    },
+    /// The bytes of a sector of a large block, part 0 to 2,047.
+    LargeBytes {
+        block: u32,
+        part: u16,
+        bytes: Block,
+    },
+}
+
+/// What a plan is done with: the reply, and the edits that make it, the first one first.
+#[derive(Debug, Drop)]
+pub struct Outcome {
+    pub reply: Reply,
+    pub edits: Vec<Edit>,
+}

@@ -1,0 +1,65 @@
+// The node that a path names.
+ghost use Rattle.std.specs.Prelude.{◌≡◌, IfOk};
+ghost use Rattle.pick_definitions.specs.Held.{Segments};
+ghost use Rattle.dir_lookup.specs.Spots.{spot_of};
+ghost use Rattle.dir_lookup.specs.Stored.{IsUsed};
+ghost use Rattle.plan_steps.specs.Targets.{FindsInode, FindsTarget, target_at, target_of};
+
+use crate::stop::Stop;
+use dir_lookup::{Refusal, Spot, inode_at, walk_spot};
+use frang_base::{Path, Reply};
+use meta_version::Sectors;
+use sector_definitions::Inode;
+
+// The inode and the kind of the root.
+const ROOT: u32 = 0;
+
+const DIRECTORY: u8 = 2;
+
+/// A node by its inode's number and its kind, as its entry has it.
+#[derive(Clone, Copy, Debug, PartialEq, Eq)]
+pub struct Target {
+    pub inode: u32,
+    pub kind: u8,
+}
+
+/// The node that a path names, or how the walk was refused.
+pub fn target_of(sectors: &Sectors, path: &Path) -> Result<Target, Stop>
+    ensures { (held : Segments) → FindsTarget sectors.now.entries held path.now result }
+{
+    let spot = walk_spot(sectors, path.as_slice())?;
+    match target_at(&spot) {
+        Ok(target) => Ok(target),
+        Err(refusal) => Err(Stop::Refused(refusal.reply())),
+    }
+}
+
+// The node of a spot.
+fn target_at(spot: &Spot) -> Result<Target, Refusal>
+    ensures { target_of result ≡ target_at (spot_of spot.now) }
+{
+    match spot {
+        Spot::AtRoot => Ok(Target {
+            inode: ROOT,
+            kind: DIRECTORY,
+        }),
+        Spot::AtName { found, .. } => Ok(Target {
+            inode: found.entry.inode,
+            kind: found.entry.kind,
+        }),
+        Spot::AtGap { .. } => Err(Refusal::NoEnt),
+        Spot::Lost(refusal) => Err(*refusal),
+    }
+}
+
+/// The inode of a node that was reached. A free one is refused as a name that isn't there.
+pub fn inode_of(sectors: &Sectors, i: u32) -> Result<Inode, Stop>
+    ensures finds { (held : Segments) → FindsInode sectors.now.entries held i result }
+    ensures used { IfOk result IsUsed }
+{
+    let found = inode_at(sectors, i)?;
+    match found {
+        Some(inode) => Ok(inode),
+        None => Err(Stop::Refused(Reply::NoEnt)),
+    }
+}

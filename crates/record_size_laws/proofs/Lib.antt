@@ -1,0 +1,10 @@
+pub mod Differing
+pub mod PatchCosts
+pub mod EditCosts
+pub mod Charges
+pub mod Sums
+pub mod Bounds
+pub mod EditBudgets
+pub mod NameBudgets
+pub mod FileBudgets
+pub mod AllBudgets
