@@ -3,21 +3,11 @@ use Rattle.std.proofs.Common.{ℕ, suc, ◌≡◌, ◌<◌, ◌≤◌, ◌+◌, 
 use Rattle.std.proofs.lemmas.Bool.{cases_eq, cases_lt}
 use Rattle.std.proofs.lemmas.Bool.Decides.{nat_tests}
 use Rattle.std.specs.Option.{option_map}
+use Rattle.sector_definitions.proofs.Chosen.{chosen_same, chosen_other}
 use Rattle.pick_definitions.specs.Least.{least_from}
 use Rattle.pick_definitions.specs.Picks.{is_in_state, least_in_state, with_state_at, picks}
-use Rattle.pick_definitions.proofs.Chosen.{chosen_same, chosen_other}
-use Rattle.pick_definitions.proofs.LeastLaws.{from_none, from_some, from_nothing, found_at, passed_to, least_at, nothing_below}
+use Rattle.pick_definitions.proofs.LeastLaws.{from_some, from_nothing, found_at, passed_to, least_at, nothing_below}
 use Rattle.pick_definitions.proofs.ManyLaws.{no_picks, more_found, more_missing, same_picks}
-
--- ---- number after number
-pub step_found : (test : ℕ → Bool) (i end : ℕ) (want : Option ℕ) → i < end → test i ≡ true → least_from test i (end - i) ≡ want → Some i ≡ want
-step_found test i end want l t e = sym (found_at test i i end (omega arith) l t (λ j lo hi. absurd (omega arith))) ∙ e
-
-pub step_passed : (test : ℕ → Bool) (i end : ℕ) (want : Option ℕ) → i < end → test i ≡ false → least_from test i (end - i) ≡ want → least_from test (i + 1) (end - (i + 1)) ≡ want
-step_passed test i end want l f e = sym (passed_to test i (i + 1) end (omega arith) (omega arith) (λ j lo hi. let s : i ≡ j = omega arith in subst (λ x. test x ≡ false) s f)) ∙ e
-
-pub step_end : (test : ℕ → Bool) (i end : ℕ) (want : Option ℕ) → end ≤ i → least_from test i (end - i) ≡ want → None ≡ want
-step_end test i end want l e = let z : end - i ≡ 0 = omega arith in sym (from_none test i) ∙ ap (least_from test i) (sym z) ∙ e
 
 -- ---- segment after segment, each by the places in it
 module _ (test : ℕ → Bool) (size base start end : ℕ) (want : Option ℕ) (within : base + size ≤ end) (low : start ≤ size)

@@ -1,4 +1,2 @@
 pub mod Written
-pub mod Chosen
-pub mod Bits
 pub mod Digits

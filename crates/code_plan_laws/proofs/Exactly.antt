@@ -5,11 +5,9 @@ use Rattle.frang_base.specs.declared.op.Op.{Op}
 use Rattle.frang_base.specs.declared.sector.Sector.{Sector as CodeSector}
 use Rattle.meta_version.specs.declared.plan.Plan.{Plan as CodePlan}
 use Rattle.meta_version.specs.declared.plan.Plan.TheVariants as code
-use Rattle.tree_definitions.specs.Tree.{FileTree, node_at}
-use Rattle.tree_laws.specs.WellFormed.{IsNew}
+use Rattle.tree_definitions.specs.Tree.{FileTree}
 use Rattle.disk_definitions.specs.Disks.{Sectors}
 use Rattle.disk_definitions.specs.Store.{Store, store_of}
-use Rattle.store_changes.specs.Laws.{FilesFit}
 use Rattle.pick_definitions.specs.Held.{Segments}
 use Rattle.pick_definitions.specs.Picks.{picked_directory}
 use Rattle.plan_definitions.specs.Ask.{Sector, Ask, looks, run, meet, number_of}
@@ -29,7 +27,6 @@ use Rattle.plan_conditions.specs.OnDisk.{AreOfDisk, StandsBelow}
 use Rattle.plan_disk_laws.proofs.OfDisk.{of_tree, is_hand}
 use Rattle.plan_disk_laws.proofs.Zeroed.{zero_places}
 use Rattle.plan_disk_laws.proofs.AtHand.{agrees}
-use Rattle.plan_disk_laws.proofs.Written.{files_fit_now}
 use Rattle.code_plan_laws.specs.CodeStands.{TakesBy, CodeIsExact, PlannedIsExact}
 
 module _ (cached : Cached) (held : Segments) (all : Bool) (tree : FileTree) (o : Op) (q : Plan)
@@ -76,17 +73,16 @@ module _ (cached : Cached) (held : Segments) (all : Bool) (tree : FileTree) (o :
   is_exact missing = record { need = needs missing; segments = segments missing; clear = cleared missing }
 
 pub planned_exact : PlannedIsExact
-planned_exact o birth cached held all disk tree allowed of below new =
+planned_exact o birth cached held all disk tree of below =
     let s : Store = store_of tree.segments disk in
     let h : Hand = hand_of cached held all in
     let plan : Ask Plan = plan_of h birth o in
     let hand : IsHandOf h s tree.segments = is_hand disk tree below cached held all of (λ k p e l. zero_places cached disk of.as_cached tree.segments k p e l) in
     let missing : Option Sector = first_missing (at_hand cached held) (looks plan s) in
-    let fit : FilesFit (node_at tree) = files_fit_now cached held all disk tree of below in
     let e : meet plan (at_hand cached held) ≡ unless_missing missing (run plan s) =
     meets_where plan (at_hand cached held) s (agrees cached held tree.segments disk of.as_cached below.whole (looks plan s) (all_inside o h s tree below.stands.naming birth (of_tree disk tree below) hand)) in
     subst (λ p. CodeIsExact cached held all tree o missing (planned cached held (numbered p))) (sym e)
     (is_exact cached held all tree o (run plan s)
-    (lacks_exactly o h s tree below.stands.naming birth (of_tree disk tree below) hand fit new)
-    (clears_exactly o h s tree below.stands.naming birth (of_tree disk tree below) hand fit new)
+    (lacks_exactly o h s tree below.stands.naming birth (of_tree disk tree below))
+    (clears_exactly o h s tree below.stands.naming birth (of_tree disk tree below))
     missing)

@@ -85,7 +85,7 @@ next_versions o birth cached held all f p small d e =
     meets_where plan (at_hand cached held) s (agrees cached held d.tree.segments d.disk d.at_hand.as_cached d.stands.whole (looks plan s) (all_inside o h s d.tree d.stands.stands.naming birth (of_tree d.disk d.tree d.stands) at)) in
     let g = given missing (run plan s) f (sym (ap numbered is) ∙ e) in
     let fits : IsFitFinish h d.tree.segments s f =
-    subst (PlanIsFit h d.tree.segments s) g.1 (all_fit o p h s d.tree d.stands.stands.naming birth (of_tree d.disk d.tree d.stands) at (fit_store cached held all d.disk d.tree d.at_hand d.stands) d.new small d.allowed) in
+    subst (PlanIsFit h d.tree.segments s) g.1 (all_fit o p h s d.tree d.stands.stands.naming birth (of_tree d.disk d.tree d.stands) at (fit_store cached held all d.disk d.tree d.at_hand d.stands) small d.allowed) in
     let r = ready cached held all d.disk d.tree d.at_hand d.stands f fits in
     all_below d.stands.most d.tree.segments d.disk f.edits r (sectors_at_hand cached held) f.edits fits.edits
     (where_edited o cached held all d.disk d.tree birth d.at_hand d.stands g.0 f g.1 f.edits (λ e h. h))

@@ -75,7 +75,7 @@ pub record CodeIsExact (cached : Cached) (held : Segments) (all : Bool) (tree : 
 
 -- so it is of this plan over every such disk
 abbrev pub IsExactOverDisks : Op → ℕ → Cached → Segments → Bool → CodePlan → Type 0
-IsExactOverDisks o birth cached held all p = (disk : Sectors) (tree : FileTree) → IsAllowed o → AreOfDisk cached held all tree.segments disk → StandsBelow disk tree → IsNew tree birth →
+IsExactOverDisks o birth cached held all p = (disk : Sectors) (tree : FileTree) → AreOfDisk cached held all tree.segments disk → StandsBelow disk tree →
     CodeIsExact cached held all tree o (first_missing (at_hand cached held) (looks (plan_of (hand_of cached held all) birth o) (store_of tree.segments disk))) p
 
 -- the definitions' plan, as the code has it, is such a one

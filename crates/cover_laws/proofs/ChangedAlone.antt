@@ -30,9 +30,9 @@ use Rattle.plan_laws.proofs.Walking.{walks_lead}
 use Rattle.plan_laws.proofs.MovingOnto.{moving_of}
 use Rattle.plan_laws.proofs.Tests.{same_inode_test}
 use Rattle.file_plan_laws.specs.Locks.{IsSole}
-use Rattle.file_plan_laws.proofs.Covering.{has_head, has_more, has_cases}
+use Rattle.file_plan_laws.proofs.Covering.{has_head, has_more, has_cases, not_in_none}
 use Rattle.cover_laws.proofs.Targets.{is_kind, spot_target, gap_dir, name_nodes, link_changed, rename_changed}
-use Rattle.cover_laws.proofs.Telling.{none_in, Tells, tells_map, Alone, made_path_alone, linking_tells, unlink_alone, rmdir_alone, renaming_tells}
+use Rattle.cover_laws.proofs.Telling.{Tells, tells_map, Alone, made_path_alone, linking_tells, unlink_alone, rmdir_alone, renaming_tells}
 use Rattle.cover_laws.proofs.Changing.{OnlyAt, is_among, made_only, linked_only, unlinked_only, removed_only, onto_only, moved_to_only}
 
 -- the answer of the tree is the plan's reply
@@ -55,11 +55,11 @@ module _ (h : Hand) (s : Store) (tree : FileTree) (n : Naming) (of : IsOfTree s 
 
   -- among the nodes that are held alone
   narrow : (js : List ℕ) (v : Plan) → Contains js i → Tells (Alone js) v → Tells IsAlone v
-  narrow js v c t = tells_map v (λ f g ok k d. ⊎_elim (λ e. subst (λ z. IsSole f.locks (lock.Node z)) e (g ok i c)) (λ z. absurd (none_in k z)) (has_cases i k [] d)) t
+  narrow js v c t = tells_map v (λ f g ok k d. ⊎_elim (λ e. subst (λ z. IsSole f.locks (lock.Node z)) e (g ok i c)) (λ z. absurd (not_in_none k z)) (has_cases i k [] d)) t
 
   in_two : (a b : ℕ) → Contains (a ∷ b ∷ []) c → Contains (n.inode a ∷ n.inode b ∷ []) i
   in_two a b d = ⊎_elim (λ e. subst (λ z. Contains (n.inode a ∷ n.inode b ∷ []) (n.inode z)) e (has_head (n.inode a) (n.inode b ∷ [])))
-      (λ g. ⊎_elim (λ e. subst (λ z. Contains (n.inode a ∷ n.inode b ∷ []) (n.inode z)) e (has_more (n.inode a) (n.inode b) (n.inode b ∷ []) (has_head (n.inode b) []))) (λ z. absurd (none_in c z)) (has_cases b c [] g)) (has_cases a c (b ∷ []) d)
+      (λ g. ⊎_elim (λ e. subst (λ z. Contains (n.inode a ∷ n.inode b ∷ []) (n.inode z)) e (has_more (n.inode a) (n.inode b) (n.inode b ∷ []) (has_head (n.inode b) []))) (λ z. absurd (not_in_none c z)) (has_cases b c [] g)) (has_cases a c (b ∷ []) d)
 
   -- ---- create, mkdir, symlink
   module _ (birth : ℕ) (node : Node) (new : IsNew tree birth) where
@@ -70,7 +70,7 @@ module _ (h : Hand) (s : Store) (tree : FileTree) (n : Naming) (of : IsOfTree s 
         (λ d blocks entries name b is had g. same g)
         (λ d blocks entries name is absent g. ⊎_elim
         (λ e. absurd (let z : is_some (node_at tree c) ≡ false = ap (λ k. is_some (node_at tree k)) (sym e) ∙ ap is_some new in cc))
-        (λ l. ⊎_elim (λ e. subst (λ z. Contains (n.inode d ∷ []) (n.inode z)) e (has_head (n.inode d) [])) (λ z. absurd (none_in c z)) (has_cases d c [] l))
+        (λ l. ⊎_elim (λ e. subst (λ z. Contains (n.inode d ∷ []) (n.inode z)) e (has_head (n.inode d) [])) (λ z. absurd (not_in_none c z)) (has_cases d c [] l))
         (has_cases birth c (d ∷ []) (is_among tree (made tree birth node (Free d entries blocks name)).tree (birth ∷ d ∷ []) c (made_only tree birth node d blocks entries name) g)))
 
     pub made_changed : (path : List (List ℕ)) → Differs (made tree birth node (place tree path)) → Tells IsAlone (run (plan_made h birth node path) s)
@@ -84,7 +84,7 @@ module _ (h : Hand) (s : Store) (tree : FileTree) (n : Naming) (of : IsOfTree s 
       (λ d blocks entries name b is had g. same g)
       (λ d blocks entries name is absent g. ⊎_elim
       (λ e. subst (λ z. Contains (n.inode d ∷ n.inode b ∷ []) (n.inode z)) e (has_more (n.inode d) (n.inode b) (n.inode b ∷ []) (has_head (n.inode b) [])))
-      (λ l. ⊎_elim (λ e. subst (λ z. Contains (n.inode d ∷ n.inode b ∷ []) (n.inode z)) e (has_head (n.inode d) (n.inode b ∷ []))) (λ z. absurd (none_in c z)) (has_cases d c [] l))
+      (λ l. ⊎_elim (λ e. subst (λ z. Contains (n.inode d ∷ n.inode b ∷ []) (n.inode z)) e (has_head (n.inode d) (n.inode b ∷ []))) (λ z. absurd (not_in_none c z)) (has_cases d c [] l))
       (has_cases b c (d ∷ []) (is_among tree (linked_to tree b (Free d entries blocks name)).tree (b ∷ d ∷ []) c (linked_only tree b d blocks entries name) g)))
 
   -- a node that is a directory gets no second name
@@ -137,7 +137,7 @@ module _ (h : Hand) (s : Store) (tree : FileTree) (n : Naming) (of : IsOfTree s 
     not_through false a d = d
 
     onto_nodes : (d old : ℕ) (t u : Bool) → t ≡ u → Contains (if u then [] else from ∷ d ∷ old ∷ []) c → Contains (if t then [] else n.inode from ∷ n.inode d ∷ n.inode old ∷ []) i
-    onto_nodes d old true true e g = absurd (none_in c g)
+    onto_nodes d old true true e g = absurd (not_in_none c g)
     onto_nodes d old true false e g = absurd (cc)
     onto_nodes d old false true e g = absurd (cc)
     onto_nodes d old false false e g = ⊎_elim
@@ -180,7 +180,7 @@ module _ (h : Hand) (s : Store) (tree : FileTree) (n : Naming) (of : IsOfTree s 
     by_node b (Some (Dir entries blocks)) e d = same d
     by_node b (Some (Link target links)) e d = same d
     by_node b (Some (File cells links)) e d = rw (of.pictures.kinds b (File cells links) e)
-        (⊎_elim (λ p. subst (λ z. Contains (n.inode b ∷ []) (n.inode z)) p (has_head (n.inode b) [])) (λ z. absurd (none_in c z)) (has_cases b c [] (is_among tree (next b cells links).tree (b ∷ []) c (each b links cells) d)))
+        (⊎_elim (λ p. subst (λ z. Contains (n.inode b ∷ []) (n.inode z)) p (has_head (n.inode b) [])) (λ z. absurd (not_in_none c z)) (has_cases b c [] (is_among tree (next b cells links).tree (b ∷ []) c (each b links cells) d)))
 
     at_root : (o : Option Node) → is_dir o ≡ true → Differs (if_file tree next 0 o) → Contains [] i
     at_root None r d = same d

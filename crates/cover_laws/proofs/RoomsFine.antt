@@ -6,12 +6,12 @@ use Rattle.frang_base.specs.declared.lock.LockId.{LockId}
 use Rattle.frang_base.specs.declared.lock.LockId.TheVariants as lock
 use Rattle.frang_base.specs.declared.lock.Mode.TheVariants.{Sole}
 use Rattle.tree_definitions.specs.Numbers.{below}
+use Rattle.cells.specs.Changes.{put}
+use Rattle.cells.proofs.Basics.{put_same}
 use Rattle.disk_definitions.specs.Store.{Store, StoredNode, StoredEntry, Use}
 use Rattle.disk_definitions.specs.Naming.{Naming}
-use Rattle.store_changes.specs.Edits.{put}
 use Rattle.store_changes.specs.Edits.Edit.{SetInode, SetBit, SetLarge}
 use Rattle.store_changes.specs.Changes.{freed, uses_to, large_gone, drop_node, relink}
-use Rattle.store_changes.proofs.Puts.{put_same}
 use Rattle.plan_definitions.specs.Ask.{InodeAt, DirectoryAt, Ask, Got, ReadInode, ReadDirectory, bind, run, looks}
 use Rattle.plan_definitions.specs.Walks.{Spot}
 use Rattle.plan_definitions.specs.Walks.Spot.{AtRoot, AtName, AtGap, Lost}

@@ -6,17 +6,17 @@ use Rattle.tree_definitions.specs.declared.node.Node.{Node}
 use Rattle.tree_definitions.specs.declared.node.Node.TheVariants.{Dir, File, Link}
 use Rattle.tree_definitions.specs.Tree.{FileTree, node_at, small_blocks_of}
 use Rattle.tree_definitions.specs.Apply.{is_dir}
+use Rattle.cells.proofs.Basics.{of_lt}
 use Rattle.tree_laws.proofs.Keeping.{names_nodes}
-use Rattle.disk_definitions.specs.Store.{Store, StoredNode, StoredEntry}
+use Rattle.disk_definitions.specs.Store.{Store, StoredNode, StoredEntry, is_unused}
 use Rattle.disk_definitions.specs.Store.Use.{Fresh}
 use Rattle.disk_definitions.specs.Naming.{Naming, Nodes, Pictures, kind_of, blocks_of, has_large, find_in, inode_of, inode_by, inode_for, use_by, use_for, entry_of, place_of, dir_place, first_blocks}
 use Rattle.pick_definitions.specs.Held.{state_in}
 use Rattle.pick_definitions.specs.Picks.{picked_inode, picked_large, picked_directory, picked_many}
 use Rattle.pick_definitions.proofs.PickLaws.{an_inode, a_large_block}
 use Rattle.pick_definitions.proofs.ManyLaws.{picks_the_least}
-use Rattle.store_changes.specs.Laws.{is_free}
-use Rattle.store_changes.proofs.Puts.{of_lt}
 use Rattle.store_changes.proofs.Kept.{inode_is}
+use Rattle.store_changes.proofs.Free.{none_of}
 use Rattle.plan_definitions.specs.Plans.{Hand}
 use Rattle.plan_definitions.specs.Meets.{IsOfTree, IsHandOf, is_directory_use}
 use Rattle.plan_laws.proofs.Picks.{block_some}
@@ -51,16 +51,12 @@ pub record DiskStands (h : Hand) (s : Store) (n : Naming) : Type 0 where
   pub blocks : (m : ℕ) (picks : List ℕ) → picked_many h.held m ≡ Some picks → (k : ℕ) → Contains picks k → (n.owner k ≡ None) × (is_directory_use (s.use_of k) ≡ false)
   pub large : (g : ℕ) → picked_large h.held ≡ Some g → n.large_owner g ≡ None
 
-none_of : {X : Type 0} (o : Option X) → is_some o ≡ false → o ≡ None
-none_of None e = refl
-none_of (Some x) e = absurd (cc)
-
 module _ (s : Store) (at : Nodes) (n : Naming) (g : Pictures s at n) where
   -- a block in neither of the free uses has an owner, and others have none
-  free_unowned : (k : ℕ) → is_free (s.use_of k) ≡ true → n.owner k ≡ None
+  free_unowned : (k : ℕ) → is_unused (s.use_of k) ≡ true → n.owner k ≡ None
   free_unowned k e = go (n.owner k) refl
     where
-      by_node : (b j : ℕ) (o : Option Node) → at b ≡ o → n.owner k ≡ Some (b, j) → is_free (use_by o) ≡ true → j < blocks_of o → ⊥
+      by_node : (b j : ℕ) (o : Option Node) → at b ≡ o → n.owner k ≡ Some (b, j) → is_unused (use_by o) ≡ true → j < blocks_of o → ⊥
       by_node b j None p q e l = omega arith
       by_node b j (Some (Dir entries blocks)) p q e l = absurd (cc)
       by_node b j (Some (File cells links)) p q e l = absurd (cc)
@@ -68,7 +64,7 @@ module _ (s : Store) (at : Nodes) (n : Naming) (g : Pictures s at n) where
 
       go : (o : Option (ℕ × ℕ)) → n.owner k ≡ o → n.owner k ≡ None
       go None p = p
-      go (Some (b, j)) p = absurd (by_node b j (at b) refl p (subst (λ u. is_free u ≡ true) (g.uses k ∙ ap (use_for (n.was k) at) p) e) (g.owners k b j p).1)
+      go (Some (b, j)) p = absurd (by_node b j (at b) refl p (subst (λ u. is_unused u ≡ true) (g.uses k ∙ ap (use_for (n.was k) at) p) e) (g.owners k b j p).1)
 
   module _ (b : ℕ) (node : Node) (is : at b ≡ Some node) where
     abbrev x : StoredNode
@@ -199,7 +195,7 @@ module _ (h : Hand) (s : Store) (tree : FileTree) (n : Naming) (of : IsOfTree s 
     root = root_stands (node_at tree 0) refl of.well_formed.rooted;
     inode = λ j e. let bit : s.bit j ≡ false = hand.bits j false (an_inode h.held j e).1 in none_of (n.birth j) (sym (g.bits j) ∙ bit);
     block = λ k e. free_unowned s (node_at tree) n g k (block_some h s tree n of hand k e).0;
-    blocks = λ m picks e k c. let u : s.use_of k ≡ Fresh = picked m picks e k c in (free_unowned s (node_at tree) n g k (ap is_free u), ap is_directory_use u);
+    blocks = λ m picks e k c. let u : s.use_of k ≡ Fresh = picked m picks e k c in (free_unowned s (node_at tree) n g k (ap is_unused u), ap is_directory_use u);
     large = λ k e. let bit : s.large_bit k ≡ false = hand.larges k false (a_large_block h.held k e).1 in none_of (n.large_owner k) (sym (g.large_bits k) ∙ bit);
   }
     where

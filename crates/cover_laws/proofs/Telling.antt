@@ -1,5 +1,5 @@
 -- What the reply of a finished plan tells of its locks: of `ok` the nodes that change are held alone.
-use Rattle.std.proofs.Common.{ℕ, ◌≡◌, ◌<◌, ◌/◌, ◌==◌, ◌&&◌, not, ⊎_elim, Bool, true, false, nat_le, nat_lt, if◌then◌else◌, Option, Some, None, List, [], ◌∷◌, ◌++◌, refl, sym, ◌∙◌, subst, eqb-true, arith}
+use Rattle.std.proofs.Common.{ℕ, ◌≡◌, ◌/◌, ◌==◌, ◌&&◌, not, ⊎_elim, Bool, true, false, nat_le, nat_lt, if◌then◌else◌, Option, Some, None, List, [], ◌∷◌, ◌++◌, refl, sym, ◌∙◌, subst, eqb-true}
 use Rattle.std.proofs.lemmas.List.Elements.{Contains-append_left, Contains-append_right}
 use Rattle.std.specs.List.{Contains}
 use Rattle.std.specs.Map.{keys_of}
@@ -20,7 +20,7 @@ use Rattle.plan_definitions.specs.Plans.Room.{Inside, InBlock, NoRoom}
 use Rattle.plan_definitions.specs.NamePlans.{made_by, making_in, making_with, making, plan_made, linked_by, linking_in, linking_node, linking_to, linking, fewer_segments, finish_over, removed_by, unlinking_node, unlinking, plan_unlinked, removing_node, removing, plan_dir_removed, Moving, moved_onto_by, replacing_node, moving_onto, moved_within, moved_between, moving_in, moving_to, goes_through, renaming_to, renaming}
 use Rattle.plan_laws.proofs.Asking.{run-bind, run-segments}
 use Rattle.file_plan_laws.specs.Locks.{IsSole}
-use Rattle.file_plan_laws.proofs.Covering.{has_head, has_cases, node_sole}
+use Rattle.file_plan_laws.proofs.Covering.{has_head, has_cases, node_sole, not_in_none}
 use Rattle.cover_laws.specs.Covers.{IsHeld}
 use Rattle.cover_laws.proofs.Fine.{only_held, shared_held}
 use Rattle.cover_laws.proofs.Targets.{is_kind, spot_target, gap_dir, name_nodes, link_changed, rename_changed}
@@ -44,9 +44,6 @@ Alone js f = is_ok f.reply ≡ true → (j : ℕ) → Contains js j → IsSole f
 abbrev pub Held : (Reply → Bool) → List ℕ → Finish → Type 0
 Held wants js f = wants f.reply ≡ true → (j : ℕ) → Contains js j → IsHeld f.locks (lock.Node j)
 
-pub none_in : {X : Type 0} (x : X) → Contains [] x → ⊥
-none_in x c = let z : c.0 < 0 = c.1 in omega arith
-
 -- replies of a link and of a rename by which a further node is held
 abbrev pub has_linked : Reply → Bool
 has_linked reply.MLink = true
@@ -61,7 +58,7 @@ is_not_empty _ = false
 pub empty_alone : (v : Plan) → Tells (Alone []) v
 empty_alone Lacks = tt
 empty_alone (Clears k locks) = tt
-empty_alone (Finishes f) = λ ok j c. absurd (none_in j c)
+empty_alone (Finishes f) = λ ok j c. absurd (not_in_none j c)
 
 pub refuse_alone : (js : List ℕ) (r : Reply) (touched : List ℕ) → is_ok r ≡ false → Tells (Alone js) (refuse r touched)
 refuse_alone js r touched e = λ ok j c. absurd (cc)
@@ -228,7 +225,7 @@ module _ (h : Hand) (s : Store) where
 
     among : (b : Bool) (j k : ℕ) → Contains (if b then j ∷ [] else []) k → Contains (j ∷ []) k
     among true j k c = c
-    among false j k c = absurd (none_in k c)
+    among false j k c = absurd (not_in_none k c)
 
     as_spot : (i : ℕ) (x : StoredNode) (name : List ℕ) (q : ℕ) (e : StoredEntry) (v : Plan) → e.inode == m.entry.inode ≡ false → Tells (Onto i e.inode) v → Tells (RenameTells m (AtName i x name q e)) v
     as_spot i x name q e Lacks f t = tt
@@ -239,7 +236,7 @@ module _ (h : Hand) (s : Store) where
     moving_onto_tells i x name q e dirs = go (e.inode == m.entry.inode) refl (m.entry.kind == 2 && not (e.kind == 2)) (e.kind == 2 && not (m.entry.kind == 2))
       where
         go : (a : Bool) → e.inode == m.entry.inode ≡ a → (b c : Bool) → Tells (RenameTells m (AtName i x name q e)) (run (if a then refused reply.Ok dirs else (if b then refused reply.NotDir dirs else (if c then refused reply.IsDir dirs else ReadInode e.inode (replacing_node m i x name q e.inode dirs)))) s)
-        go true p b c = record { alone = rw p (λ ok k d. absurd (none_in k d)); held = λ n. absurd (cc) }
+        go true p b c = record { alone = rw p (λ ok k d. absurd (not_in_none k d)); held = λ n. absurd (cc) }
         go false p true c = quiet_rename (AtName i x name q e) reply.NotDir dirs refl refl
         go false p false true = quiet_rename (AtName i x name q e) reply.IsDir dirs refl refl
         go false p false false = as_spot i x name q e (run (replacing_node m i x name q e.inode dirs (s.inode e.inode)) s) p (replacing_tells i x name q e.inode dirs (s.inode e.inode))
@@ -254,7 +251,7 @@ module _ (h : Hand) (s : Store) where
       where
         both : IsSole (moved_within m name dirs).locks (lock.Node m.dir) → i ≡ m.dir → (k : ℕ) → Contains (m.dir ∷ i ∷ []) k → IsSole (moved_within m name dirs).locks (lock.Node k)
         both own e k c = ⊎_elim (λ p. subst (λ z. IsSole (moved_within m name dirs).locks (lock.Node z)) p own)
-            (λ d. ⊎_elim (λ p. subst (λ z. IsSole (moved_within m name dirs).locks (lock.Node z)) (sym e ∙ p) own) (λ g. absurd (none_in k g)) (has_cases i k [] d)) (has_cases m.dir k (i ∷ []) c)
+            (λ d. ⊎_elim (λ p. subst (λ z. IsSole (moved_within m name dirs).locks (lock.Node z)) (sym e ∙ p) own) (λ g. absurd (not_in_none k g)) (has_cases i k [] d)) (has_cases m.dir k (i ∷ []) c)
 
         go : (a : Bool) → i == m.dir ≡ a → (b : Bool) → Tells (Alone (m.dir ∷ i ∷ [])) (run (if a then Got (Finishes (moved_within m name dirs)) else (if b then refused reply.DirFull dirs else bind (find_room h x) (moving_in h m i x name dirs))) s)
         go true p b = λ ok k c. both (Contains-append_right (shared_nodes dirs) (sole_nodes (m.dir ∷ [])) (lock.Node m.dir, Sole) (has_head (lock.Node m.dir, Sole) [])) (eqb-true i m.dir p) k c
@@ -264,11 +261,11 @@ module _ (h : Hand) (s : Store) where
     as_gap : (i : ℕ) (x : StoredNode) (name : List ℕ) (v : Plan) → Tells (Alone (m.dir ∷ i ∷ [])) v → Tells (RenameTells m (AtGap i x name)) v
     as_gap i x name Lacks t = tt
     as_gap i x name (Clears k locks) t = tt
-    as_gap i x name (Finishes g) t = record { alone = t; held = λ n k c. absurd (none_in k c) }
+    as_gap i x name (Finishes g) t = record { alone = t; held = λ n k c. absurd (not_in_none k c) }
 
     renaming_to_tells : (to_dirs dirs : List ℕ) (v : Spot) → Tells (RenameTells m v) (run (renaming_to h m to_dirs dirs v) s)
     renaming_to_tells to_dirs dirs AtRoot = quiet_rename AtRoot reply.Inval dirs refl refl
-    renaming_to_tells to_dirs dirs (Lost r) = record { alone = λ ok k c. absurd (none_in k c); held = λ n k c. absurd (none_in k c) }
+    renaming_to_tells to_dirs dirs (Lost r) = record { alone = λ ok k c. absurd (not_in_none k c); held = λ n k c. absurd (not_in_none k c) }
     renaming_to_tells to_dirs dirs (AtName i x name q e) = go (goes_through m to_dirs)
       where
         go : (b : Bool) → Tells (RenameTells m (AtName i x name q e)) (run (if b then refused reply.Inval dirs else moving_onto m i x name q e dirs) s)

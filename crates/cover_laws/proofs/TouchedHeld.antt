@@ -24,14 +24,14 @@ use Rattle.plan_laws.proofs.Asking.{run-bind}
 use Rattle.plan_laws.proofs.Cases.{inode_by, by_spot}
 use Rattle.plan_laws.proofs.Walking.{walks_lead}
 use Rattle.plan_definitions.specs.Walks.Spot.{AtRoot, AtName, AtGap, Lost}
-use Rattle.file_plan_laws.proofs.Covering.{has_head, has_cases}
+use Rattle.file_plan_laws.proofs.Covering.{has_head, has_cases, not_in_none}
 use Rattle.cover_laws.proofs.NamesFine.{removed_dir}
 use Rattle.cover_laws.specs.Covers.{IsHeld, PlanHolds, WalkedNodesAreHeld}
 use Rattle.cover_laws.proofs.Standing.{DiskStands, disk_stands}
 use Rattle.cover_laws.proofs.WalksFine.{either}
 use Rattle.cover_laws.proofs.Targets.{any_kind, is_kind, spot_target}
 use Rattle.cover_laws.proofs.Quiet.{IsQuiet, walk_quiet}
-use Rattle.cover_laws.proofs.Telling.{none_in, Tells, tells_map, Held, linking_tells, has_linked, is_not_empty, renaming_tells}
+use Rattle.cover_laws.proofs.Telling.{Tells, tells_map, Held, linking_tells, has_linked, is_not_empty, renaming_tells}
 use Rattle.cover_laws.proofs.Further.{link_further, rename_further}
 use Rattle.cover_laws.proofs.WalkedHeld.{not_root, reached_one, in_touched, removed_spot, walked_touched}
 use Rattle.cover_laws.proofs.AllFine.{touched, plan_fine}
@@ -60,13 +60,13 @@ module _ (h : Hand) (s : Store) (tree : FileTree) (n : Naming) (of : IsOfTree s 
   linked_node : (to : List (List ℕ)) (dirs : List ℕ) (c : ℕ) (v : Spot) (p : Place) → Mirrors s (node_at tree) n v p → Contains (reached tree any_node p) c → Tells (Held has_linked (n.inode c ∷ [])) (run (linking h to dirs v) s)
   linked_node to dirs c = by_spot s (node_at tree) n of.pictures (λ v p. Contains (reached tree any_node p) c → Tells (Held has_linked (n.inode c ∷ [])) (run (linking h to dirs v) s))
       (λ d e. absurd (cc))
-      (λ r d. absurd (none_in c d))
+      (λ r d. absurd (not_in_none c d))
       (λ d blocks entries name b is had g.
       let one : b ≡ c = reached_one any_node b c (node_at tree b) g in
       tells_map (run (linking h to dirs (AtName (n.inode d) (inode_by n d (Dir entries blocks)) name (n.spot d name) (entry_of n name b))) s)
       (λ f t w. held_one (n.inode b) (n.inode c) f (ap n.inode one) (t.held w))
       (linking_tells h s to dirs (n.inode d) (inode_by n d (Dir entries blocks)) name (n.spot d name) (entry_of n name b)))
-      (λ d blocks entries name is absent g. absurd (none_in c g))
+      (λ d blocks entries name is absent g. absurd (not_in_none c g))
 
   link_node_held : (path to : List (List ℕ)) (c : ℕ) → Contains (reached tree any_node (place tree path)) c → Tells (Held has_linked (n.inode c ∷ [])) (run (plan_linked h path to) s)
   link_node_held path to c d = let w = run (walk path) s in rw (run-bind (walk path) (λ w. linking h to w.dirs w.spot) s) (linked_node to w.dirs c w.spot (place tree path) (walks_lead s tree n path of).0 d)
@@ -80,7 +80,7 @@ module _ (h : Hand) (s : Store) (tree : FileTree) (n : Naming) (of : IsOfTree s 
       tells_map (run (renaming h to dirs (AtName d x name p e)) s) (λ f t w k g. t.held w k (only k g)) (renaming_tells h s to dirs d x name p e)
     where
       only : (k : ℕ) → Contains (i ∷ []) k → Contains (spot_target (is_kind 2) (run (walk to) s).spot) k
-      only k g = ⊎_elim (λ e. subst (Contains (spot_target (is_kind 2) (run (walk to) s).spot)) e c) (λ z. absurd (none_in k z)) (has_cases i k [] g)
+      only k g = ⊎_elim (λ e. subst (Contains (spot_target (is_kind 2) (run (walk to) s).spot)) e c) (λ z. absurd (not_in_none k z)) (has_cases i k [] g)
 
   rename_node_held : (path to : List (List ℕ)) (c : ℕ) → Contains (reached tree dir_node (place tree to)) c → Tells (Held is_not_empty (n.inode c ∷ [])) (run (plan_renamed h path to) s)
   rename_node_held [] to c d = λ e. absurd (cc)
@@ -106,14 +106,14 @@ module _ (h : Hand) (s : Store) (tree : FileTree) (n : Naming) (of : IsOfTree s 
     last path wanted k fit b c = let w = run (walk path) s in Contains-append_right w.dirs (spot_target k w.spot) (n.inode b) (in_touched h s tree n of wanted k fit path b c)
 
     further_held : (o : Op) → Ends o → (b : ℕ) → Contains (further tree o f.reply) b → Goal b
-    further_held (op.Create path) p b c = absurd (none_in b c)
-    further_held (op.Mkdir path) p b c = absurd (none_in b c)
-    further_held (op.Symlink path target) p b c = absurd (none_in b c)
+    further_held (op.Create path) p b c = absurd (not_in_none b c)
+    further_held (op.Mkdir path) p b c = absurd (not_in_none b c)
+    further_held (op.Symlink path target) p b c = absurd (not_in_none b c)
     further_held (op.Link path to) p b c =
         let r = link_further tree path to f.reply b c in
         let t : Held has_linked (n.inode b ∷ []) f = subst (Tells (Held has_linked (n.inode b ∷ []))) p (link_node_held path to b r.1) in t r.0 (n.inode b) (has_head (n.inode b) [])
-    further_held (op.Unlink path) p b c = absurd (none_in b c)
-    further_held (op.Rmdir []) p b c = absurd (none_in b c)
+    further_held (op.Unlink path) p b c = absurd (not_in_none b c)
+    further_held (op.Rmdir []) p b c = absurd (not_in_none b c)
     further_held (op.Rmdir (name ∷ names)) p b c =
         let w = run (walk (name ∷ names)) s in
         of_touched (op.Rmdir (name ∷ names)) p b (Contains-append_right w.dirs (removed_dir h s n disk w.spot) (n.inode b)
@@ -129,13 +129,13 @@ module _ (h : Hand) (s : Store) (tree : FileTree) (n : Naming) (of : IsOfTree s 
     further_held (op.Time path) p b c = of_touched (op.Time path) p b (last path any_node any_kind (λ node e. refl) b c)
     further_held (op.List path) p b c = of_touched (op.List path) p b (last path dir_node (is_kind 2) dir_fit b c)
     further_held (op.Readlink path) p b c = of_touched (op.Readlink path) p b (last path link_node (is_kind 3) link_fit b c)
-    further_held op.Sync p b c = absurd (none_in b c)
-    further_held op.Mount p b c = absurd (none_in b c)
-    further_held op.Unmount p b c = absurd (none_in b c)
-    further_held op.Crash p b c = absurd (none_in b c)
-    further_held (op.CrashAt k) p b c = absurd (none_in b c)
-    further_held (op.CutAt k) p b c = absurd (none_in b c)
-    further_held op.Stall p b c = absurd (none_in b c)
+    further_held op.Sync p b c = absurd (not_in_none b c)
+    further_held op.Mount p b c = absurd (not_in_none b c)
+    further_held op.Unmount p b c = absurd (not_in_none b c)
+    further_held op.Crash p b c = absurd (not_in_none b c)
+    further_held (op.CrashAt k) p b c = absurd (not_in_none b c)
+    further_held (op.CutAt k) p b c = absurd (not_in_none b c)
+    further_held op.Stall p b c = absurd (not_in_none b c)
 
 pub walks_are_held : WalkedNodesAreHeld
 walks_are_held o h s tree n birth f of hand p b c =

@@ -6,12 +6,12 @@ use Rattle.std.specs.List.{Contains}
 use Rattle.frang_base.specs.declared.lock.LockId.TheVariants as lock
 use Rattle.frang_base.specs.declared.reply.Reply.TheVariants as reply
 use Rattle.tree_definitions.specs.Tree.{small_blocks_of}
+use Rattle.cells.proofs.Basics.{of_lt}
 use Rattle.disk_definitions.specs.Store.{Store, StoredNode}
 use Rattle.disk_definitions.specs.Store.Use.{Bytes}
 use Rattle.disk_definitions.specs.Naming.{Naming}
 use Rattle.store_changes.specs.Edits.{Edit}
 use Rattle.store_changes.specs.Edits.Edit.{SetUse, SetBytes, SetLargeBytes}
-use Rattle.store_changes.proofs.Puts.{of_lt}
 use Rattle.pick_definitions.specs.Picks.{picked_many, picked_large}
 use Rattle.pick_definitions.proofs.ManyLaws.{picks_the_least}
 use Rattle.plan_definitions.specs.Ask.{Ask, Got}

@@ -1,5 +1,5 @@
 -- What decoded sectors are: inodes in use by their kind, and the entries of a directory's sector by theirs.
-use Rattle.std.proofs.Common.{◌==◌, ◌≡◌, ℕ, zero, suc, ◌*◌, ◌≤◌, Bool, true, false, ◌&&◌, ◌||◌, ⊎_elim, Option, Some, None, List, [], ◌∷◌, take, cond, refl, sym, ◌∙◌, ap, subst, nat_lt, nat_le, eqb-true, leb-true, ne_eqb, arith}
+use Rattle.std.proofs.Common.{◌==◌, ◌≡◌, ℕ, zero, suc, ◌*◌, ◌≤◌, Bool, true, false, ◌||◌, ⊎_elim, Option, Some, None, List, [], ◌∷◌, take, cond, refl, sym, ◌∙◌, ap, subst, nat_lt, nat_le, eqb-true, leb-true, arith}
 use Rattle.std.proofs.Math.Path.{fun_ext}
 use Rattle.std.specs.List.{slice_get, list_all}
 use Rattle.std.specs.Option.{option_map}
@@ -7,19 +7,15 @@ use Rattle.std.proofs.lemmas.Bool.{and_parts, or_cases, both_ways}
 use Rattle.sector_definitions.specs.declared.inode.Inode.{Inode}
 use Rattle.sector_definitions.specs.declared.directory.DirEntry.{DirEntry}
 use Rattle.sector_definitions.specs.declared.directory.DirSector.{DirSector}
-use Rattle.sector_definitions.specs.Inodes.{is_free_inode, is_file_inode, is_directory_inode, is_link_inode, inode_fits, inode_in, inode_fields, inode_bytes}
+use Rattle.sector_definitions.specs.Inodes.{is_free_inode, is_file_inode, is_directory_inode, is_link_inode, inode_fits, inode_in}
 use Rattle.sector_definitions.specs.Directories.{is_free_place, is_used_place, entry_fits, name_in, directory_fits}
-use Rattle.sector_definitions.specs.Bytes.{same_bytes}
 use Rattle.frang_base.specs.Name.{is_name}
 use Rattle.tree_definitions.specs.Tree.{small_blocks_of}
-use Rattle.disk_definitions.specs.Store.{StoredNode, StoredEntry, stored_node, stored_entry, entry_in}
-use Rattle.dir_lookup.specs.Stored.{IsUsed, stored, entered, entries_at}
-
-pub and_l : (a b : Bool) → (a && b) ≡ true → a ≡ true
-and_l a b h = (and_parts a b h).0
-
-pub and_r : (a b : Bool) → (a && b) ≡ true → b ≡ true
-and_r a b h = (and_parts a b h).1
+use Rattle.sector_definitions.proofs.Readings.{and_l, and_r}
+use Rattle.sector_definitions.proofs.InodeLaws.{inode_read, few_blocks}
+use Rattle.sector_definitions.proofs.DirectoryPlaces.{free_place, entry_of_list}
+use Rattle.disk_definitions.specs.Store.{StoredNode, StoredEntry, stored_node, stored_entry, entry_in, stored, entered}
+use Rattle.dir_lookup.specs.Stored.{IsUsed, entries_at}
 
 -- ---- inodes
 
@@ -29,9 +25,6 @@ pub record IsBounded (x : Inode) (k : ℕ) : Type 0 where
   pub blocks : x.blocks ≤ 16
   pub size : x.size ≤ 1114112
   pub target : x.kind ≡ 3 → x.size ≤ 384
-
-few_blocks : (size : ℕ) → small_blocks_of size ≤ 16
-few_blocks size = grind (arith)
 
 file_bounds : (x : Inode) → is_file_inode x ≡ true → IsBounded x 1
 file_bounds x h =
@@ -84,29 +77,22 @@ kind_of x h = go (is_free_inode x) refl
     go true e = let k : x.kind == 0 ≡ true = search (and_l, and_r) depth 12 in Free e (eqb-true x.kind 0 k)
     go false e = used e
 
-in_block : (block : List ℕ) (x : Inode) → inode_in block ≡ Some x → inode_fits x ≡ true
-in_block block x e = go (inode_fits (inode_fields block) && same_bytes (inode_bytes (inode_fields block)) block) refl e
-  where
-    go : (b : Bool) → (inode_fits (inode_fields block) && same_bytes (inode_bytes (inode_fields block)) block) ≡ b → cond b (Some (inode_fields block)) None ≡ Some x → inode_fits x ≡ true
-    go true h e = let s : inode_fields block ≡ x = cc in subst (λ y. inode_fits y ≡ true) s (and_parts (inode_fits (inode_fields block)) (same_bytes (inode_bytes (inode_fields block)) block) h).0
-    go false h e = absurd (cc)
-
 -- a decoded inode of kind 0 is free, and any other is in use
 pub free_node : (block : List ℕ) (x : Inode) → inode_in block ≡ Some x → x.kind ≡ 0 → None ≡ stored_node (inode_in block)
-free_node block x e z = go (kind_of x (in_block block x e))
+free_node block x e z = go (kind_of x (inode_read block x e).1)
   where
     go : Kind x → None ≡ stored_node (inode_in block)
     go (Free f k) = sym (ap stored_node e ∙ ap (λ b. cond b None (Some (stored x))) f)
     go (Used k f l b) = absurd (omega (arith, b.kind))
 
 pub used_node : (block : List ℕ) (x : Inode) → inode_in block ≡ Some x → (x.kind ≡ 0 → ⊥) → (Some (stored x) ≡ stored_node (inode_in block)) × IsUsed x
-used_node block x e n = go (kind_of x (in_block block x e))
+used_node block x e n = go (kind_of x (inode_read block x e).1)
   where
     go : Kind x → (Some (stored x) ≡ stored_node (inode_in block)) × IsUsed x
     go (Free f k) = absurd (n k)
     go (Used k f l b) = (
       sym (ap stored_node e ∙ ap (λ b. cond b None (Some (stored x))) f),
-      record { fits = in_block block x e; kind = omega (arith, b.kind); blocks = b.blocks; size = b.size; target = b.target },
+      record { fits = (inode_read block x e).1; kind = omega (arith, b.kind); blocks = b.blocks; size = b.size; target = b.target },
     )
 
 -- ---- entries
@@ -123,23 +109,6 @@ no_entries x h = fun_ext (λ r. go x.entries r h)
     go [] r h = refl
     go (e ∷ es) zero h = none e (is_free_place e) (and_parts (is_free_place e) (list_all is_free_place es) h).0
     go (e ∷ es) (suc r) h = go es r (and_parts (is_free_place e) (list_all is_free_place es) h).1
-
--- a place is free exactly where its kind is 0
-free_place : (e : DirEntry) → entry_fits e ≡ true → is_free_place e ≡ (e.kind == 0)
-free_place e h = go (is_free_place e) refl
-  where
-    go : (b : Bool) → is_free_place e ≡ b → is_free_place e ≡ (e.kind == 0)
-    go true f = f ∙ sym (let k : e.kind == 0 ≡ true = search (and_l, and_r) depth 8 in k)
-    go false f = f ∙ ⊎_elim (λ t. absurd (both_ways (is_free_place e) f t)) (λ t. (
-        let k : nat_le 1 e.kind ≡ true = search (and_l, and_r) depth 8 in
-        let l : 1 ≤ e.kind = leb-true 1 e.kind k in
-        sym (ne_eqb e.kind 0 (λ z. omega arith)))) (or_cases (is_free_place e) (is_used_place e) h)
-
--- each place of a sector fits
-entry_of_list : (xs : List DirEntry) (q : ℕ) (e : DirEntry) → list_all entry_fits xs ≡ true → slice_get xs q ≡ Some e → entry_fits e ≡ true
-entry_of_list [] q e h g = absurd (cc)
-entry_of_list (x ∷ xs) zero e h g = let s : x ≡ e = cc in subst (λ e. entry_fits e ≡ true) s (and_parts (entry_fits x) (list_all entry_fits xs) h).0
-entry_of_list (x ∷ xs) (suc q) e h g = entry_of_list xs q e (and_parts (entry_fits x) (list_all entry_fits xs) h).1 g
 
 -- the entry of a place, by its kind
 pub entry_by_kind : (x : DirSector) (r : ℕ) (e : DirEntry) → directory_fits x ≡ true → slice_get x.entries r ≡ Some e → entries_at x r ≡ cond (e.kind == 0) None (Some (entered e))

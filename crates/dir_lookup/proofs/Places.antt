@@ -1,5 +1,5 @@
 -- The first place of a sector that passes, and where a name stands first.
-use Rattle.std.proofs.Common.{◌≡◌, ◌==◌, ℕ, zero, suc, ◌+◌, ◌-◌, ◌*◌, ◌<◌, ◌≤◌, Bool, true, false, not, ◌&&◌, Option, Some, None, IfSome, List, [], ◌∷◌, cond, length, take, refl, sym, ap, subst, ◌∙◌, nat_eq, eqb-true, arith}
+use Rattle.std.proofs.Common.{◌≡◌, ◌==◌, ℕ, zero, suc, ◌+◌, ◌-◌, ◌*◌, ◌<◌, Bool, true, false, not, ◌&&◌, Option, Some, None, IfSome, List, [], ◌∷◌, cond, length, take, refl, sym, ap, subst, ◌∙◌, nat_eq, eqb-true, arith}
 use Rattle.std.specs.List.{slice_get}
 use Rattle.std.specs.Option.{option_map}
 use Rattle.frang_base.specs.Name.{is_name}
@@ -7,12 +7,12 @@ use Rattle.sector_definitions.specs.declared.directory.DirEntry.{DirEntry}
 use Rattle.sector_definitions.specs.declared.directory.DirSector.{DirSector}
 use Rattle.sector_definitions.specs.Bytes.{same_bytes}
 use Rattle.sector_definitions.specs.Directories.{name_in, is_free_place, place_of_name}
-use Rattle.disk_definitions.specs.Store.{StoredEntry, stored_entry}
+use Rattle.sector_definitions.proofs.Readings.{and_l, and_r}
+use Rattle.disk_definitions.specs.Store.{StoredEntry, stored_entry, entered}
 use Rattle.pick_definitions.specs.Least.{least, least_from}
-use Rattle.pick_definitions.proofs.LeastLaws.{found_at, from_here, from_next, from_none, least_below, least_some, passed_to}
+use Rattle.pick_definitions.proofs.LeastLaws.{from_here, from_next, from_none, least_below, least_some}
 use Rattle.plan_definitions.specs.Walks.{Found, hit, is_named, is_vacant}
-use Rattle.dir_lookup.specs.Stored.{entered, entries_at}
-use Rattle.dir_lookup.proofs.Decoded.{and_l, and_r}
+use Rattle.dir_lookup.specs.Stored.{entries_at}
 
 -- ---- names
 no_name : (name : List ℕ) → is_name name ≡ true → same_bytes [] name ≡ false
@@ -65,16 +65,6 @@ named_least name x n l =
 pub within : (test : ℕ → Bool) (n : ℕ) (o : Option ℕ) → o ≡ least test n → IfSome o (λ r. r < n)
 within test n None e = tt
 within test n (Some r) e = (least_some test n r (sym e)).1
-
--- ---- place after place
-pub found_here : (test : ℕ → Bool) (i end : ℕ) (want : Option ℕ) → i < end → test i ≡ true → least_from test i (end - i) ≡ want → Some i ≡ want
-found_here test i end want l t e = sym (found_at test i i end (omega arith) l t (λ j lo hi. absurd (omega arith))) ∙ e
-
-pub passed_here : (test : ℕ → Bool) (i end : ℕ) (want : Option ℕ) → i < end → test i ≡ false → least_from test i (end - i) ≡ want → least_from test (i + 1) (end - (i + 1)) ≡ want
-passed_here test i end want l f e = sym (passed_to test i (i + 1) end (omega arith) (omega arith) (λ j lo hi. let s : i ≡ j = omega arith in subst (λ x. test x ≡ false) s f)) ∙ e
-
-pub none_left : (test : ℕ → Bool) (i end : ℕ) (want : Option ℕ) → end ≤ i → least_from test i (end - i) ≡ want → None ≡ want
-none_left test i end want l e = let z : end - i ≡ 0 = omega arith in sym (from_none test i) ∙ ap (least_from test i) (sym z) ∙ e
 
 -- ---- hits
 pub no_hit : (test : Option StoredEntry → Bool) (j : ℕ) (f : ℕ → Option StoredEntry) (o : Option ℕ) → None ≡ o → None ≡ hit test j f o

@@ -42,11 +42,11 @@ pub in_no_directory : (dirs : List ℕ) (i : ℕ) (name : List ℕ) (x : StoredN
 in_no_directory dirs i name x cached held k = ap (λ b. reading (cond b (look_up dirs i x name) (Got (record { spot = Lost reply.NotDir; dirs = dirs }))) cached held) (sym k)
 
 -- ---- on from a name on the way
-abbrev led_on : (List ℕ → ℕ → Ask Walked) → List ℕ → Result ℕ Reply → Ask Walked
+abbrev pub led_on : (List ℕ → ℕ → Ask Walked) → List ℕ → Result ℕ Reply → Ask Walked
 led_on next dirs (Ok i) = next dirs i
 led_on next dirs (Err r) = Got (record { spot = Lost r; dirs = dirs })
 
-onward_is : (next : List ℕ → ℕ → Ask Walked) (dirs : List ℕ) (s : Spot) → onward next dirs s ≡ led_on next dirs (leads s)
+pub onward_is : (next : List ℕ → ℕ → Ask Walked) (dirs : List ℕ) (s : Spot) → onward next dirs s ≡ led_on next dirs (leads s)
 onward_is next dirs AtRoot = refl
 onward_is next dirs (AtGap i x name) = refl
 onward_is next dirs (Lost r) = refl

@@ -2,6 +2,7 @@
 use Rattle.std.specs.Prelude.{ℕ, ◌==◌, if◌then◌else◌, Option, Some, None, Result, Ok, Err, List, [], ◌∷◌, ◌++◌}
 use Rattle.frang_base.specs.declared.reply.Reply.{Reply}
 use Rattle.frang_base.specs.declared.reply.Reply.TheVariants as reply
+use Rattle.disk_definitions.specs.Store.{stored, entered}
 use Rattle.plan_definitions.specs.Walks.{Spot, AtRoot, AtName, AtGap, Lost, Walked}
 use Rattle.plan_definitions.specs.Walks as walks
 use Rattle.dir_lookup.specs.declared.search.Found.{Found}
@@ -9,7 +10,6 @@ use Rattle.dir_lookup.specs.declared.spot.Refusal.{Refusal}
 use Rattle.dir_lookup.specs.declared.spot.Refusal.TheVariants as refusal
 use Rattle.dir_lookup.specs.declared.spot.Spot.{Spot as CodeSpot}
 use Rattle.dir_lookup.specs.declared.spot.Spot.TheVariants as spot
-use Rattle.dir_lookup.specs.Stored.{stored, entered}
 
 -- a place with its entry, and a place without one
 abbrev pub found_at : Found → walks.Found

@@ -1,20 +1,12 @@
 -- What decoded sectors are in a store.
-use Rattle.std.specs.Prelude.{◌≡◌, ◌≤◌, ℕ, ◌==◌, true, if◌then◌else◌, Option, Some, None, [], take, slice_index}
+use Rattle.std.specs.Prelude.{◌≡◌, ◌≤◌, ℕ, true, Option, Some, None}
 use Rattle.frang_base.specs.Name.{is_name}
 use Rattle.sector_definitions.specs.declared.inode.Inode.{Inode}
 use Rattle.sector_definitions.specs.declared.directory.DirEntry.{DirEntry}
 use Rattle.sector_definitions.specs.declared.directory.DirSector.{DirSector}
 use Rattle.sector_definitions.specs.Directories.{name_in}
 use Rattle.sector_definitions.specs.Inodes.{inode_fits}
-use Rattle.disk_definitions.specs.Store.{StoredNode, StoredEntry, entry_in}
-
--- the node of an inode in use
-abbrev pub stored : Inode → StoredNode
-stored x = record { kind = x.kind; links = x.links; size = x.size; birth = x.birth; blocks = x.blocks; small = slice_index x.small; large = x.large; target = if x.kind == 3 then take x.size x.target else [] }
-
--- the entry of a place in use
-abbrev pub entered : DirEntry → StoredEntry
-entered e = record { name = name_in e; inode = e.inode; kind = e.kind }
+use Rattle.disk_definitions.specs.Store.{StoredEntry, entry_in}
 
 -- the entries of a sector by their places
 abbrev pub entries_at : DirSector → ℕ → Option StoredEntry

@@ -5,10 +5,10 @@ ghost use Rattle.std.specs.Option.{option_map};
 ghost use Rattle.change_definitions.specs.SectorMaps.{value_at};
 ghost use Rattle.sector_definitions.specs.Directories.{directory_fits, directory_in, is_free_place, name_in};
 ghost use Rattle.sector_definitions.specs.Inodes.{inode_in};
-ghost use Rattle.disk_definitions.specs.Store.{stored_node, entry_in};
+ghost use Rattle.disk_definitions.specs.Store.{stored_node, entry_in, stored, entered};
 ghost use Rattle.plan_definitions.specs.Ask.{Got, ReadInode, ReadDirectory};
 ghost use Rattle.dir_lookup.specs.Reading.{Reads, read_of, read_or_lacks};
-ghost use Rattle.dir_lookup.specs.Stored.{IsProper, IsUsed, entered, entries_at, stored};
+ghost use Rattle.dir_lookup.specs.Stored.{IsProper, IsUsed, entries_at};
 
 use crate::Need;
 use frang_base::{Block, Name, Sector};

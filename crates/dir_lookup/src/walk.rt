@@ -1,11 +1,11 @@
 // The walk of a path over cached sectors.
 ghost use Rattle.std.specs.Prelude.{◌≡◌, ◌≤◌, ℕ, Some, List};
 ghost use Rattle.pick_definitions.specs.Held.{Segments};
+ghost use Rattle.disk_definitions.specs.Store.{stored};
 ghost use Rattle.plan_definitions.specs.Ask.{Got, ReadInode, bind};
 ghost use Rattle.plan_definitions.specs.Walks as walks;
 ghost use Rattle.dir_lookup.specs.Reading.{Reads};
 ghost use Rattle.dir_lookup.specs.Spots.{led_of, leads, spot_of, walked_in};
-ghost use Rattle.dir_lookup.specs.Stored.{stored};
 
 use crate::{Need, Refusal, Spot, first_named, inode_at};
 use frang_base::Name;

@@ -6,7 +6,7 @@ use Rattle.sector_definitions.specs.declared.region.Region.TheVariants as region
 use Rattle.sector_definitions.specs.Regions.{sector_of}
 use Rattle.sector_definitions.specs.Inodes.{inode_in}
 use Rattle.change_definitions.specs.SectorMaps.{value_at}
-use Rattle.disk_definitions.specs.Store.{StoredNode, StoredEntry, stored_node}
+use Rattle.disk_definitions.specs.Store.{StoredNode, StoredEntry, stored_node, stored}
 use Rattle.pick_definitions.specs.Held.{Segments}
 use Rattle.pick_definitions.specs.Least.{least}
 use Rattle.pick_definitions.proofs.LeastLaws.{least_some}
@@ -14,7 +14,6 @@ use Rattle.plan_definitions.specs.Ask.{Ask, Got, ReadInode, DirectoryAt, InodeAt
 use Rattle.plan_definitions.specs.Walks.{Found, Spot, AtRoot, AtName, AtGap, Lost, Walked, hit, is_named, look_up, in_inode, onward, or_on, search, spot_by, walk_from}
 use Rattle.plan_definitions.specs.Written.{Cached, at_hand, directory_at_hand, inode_at_hand}
 use Rattle.dir_lookup.specs.Reading.{Read, Lacks, Gives, numbered, reading, then_read}
-use Rattle.dir_lookup.specs.Stored.{stored}
 use Rattle.dir_lookup.proofs.Decoded.{free_node, used_node}
 use Rattle.dir_lookup.proofs.Readings.{reading_bind}
 

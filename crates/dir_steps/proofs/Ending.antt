@@ -2,16 +2,16 @@
 use Rattle.std.proofs.Common.{◌≡◌, ℕ, Option, Some, None, Result, Ok, Err, List, refl, sym, ap, subst, ◌∙◌}
 use Rattle.std.proofs.Math.Path.{fun_ext}
 use Rattle.frang_base.specs.declared.reply.Reply.TheVariants as reply
+use Rattle.frang_base.specs.declared.reply.Reply.{Reply}
 use Rattle.sector_definitions.specs.declared.inode.Inode.{Inode}
-use Rattle.disk_definitions.specs.Store.{StoredNode}
+use Rattle.disk_definitions.specs.Store.{StoredNode, stored}
 use Rattle.pick_definitions.specs.Held.{Segments}
 use Rattle.plan_definitions.specs.Ask.{Ask, ReadInode, bind}
 use Rattle.plan_definitions.specs.Walks.{Spot, walk}
-use Rattle.plan_definitions.specs.Plans.{Plan, Finish, Finishes, refused}
+use Rattle.plan_definitions.specs.Plans.{Plan, Finish, Finishes, refuse, refused, shared_nodes}
 use Rattle.plan_definitions.specs.LookPlans.{with_inode}
 use Rattle.plan_definitions.specs.Written.{Cached}
 use Rattle.dir_lookup.specs.Reading.{Read, Gives, reading}
-use Rattle.dir_lookup.specs.Stored.{stored}
 use Rattle.plan_steps.specs.declared.edit.Outcome.{Outcome}
 use Rattle.plan_steps.specs.declared.stop.Stop.{Stop}
 use Rattle.plan_steps.specs.declared.stop.Stop.TheVariants as stop
@@ -26,6 +26,10 @@ comes_as p q r e = subst (λ p. Comes p r) (sym e)
 
 pub stops_as : (p q : Read Plan) (e : Stop) → p ≡ q → Stops q e → Stops p e
 stops_as p q e h = subst (λ p. Stops p e) (sym h)
+
+-- a plan that is refused
+pub refuses : (p : Read Plan) (r : Reply) (dirs : List ℕ) → p ≡ Gives (refuse r dirs) → Comes p (Err (stop.Refused r))
+refuses p r dirs e = (shared_nodes dirs, e)
 
 -- a plan that is done so
 pub comes_done : (p : Read Plan) (f : Finish) (o : Outcome) → p ≡ Gives (Finishes f) → o.reply ≡ f.reply → edits_of o.edits.items ≡ f.edits → Comes p (Ok o)

@@ -1,5 +1,5 @@
 -- Each plan that walks a path goes by where the walk leads.
-use Rattle.std.proofs.Common.{◌≡◌, ℕ, List, [], refl, sym, ap, subst, ◌∙◌}
+use Rattle.std.proofs.Common.{◌≡◌, ℕ, List, [], sym, ap, subst, ◌∙◌}
 use Rattle.pick_definitions.specs.Held.{Segments}
 use Rattle.plan_definitions.specs.Ask.{Ask, Got, bind}
 use Rattle.plan_definitions.specs.Walks.{Spot, Walked, walk}
@@ -11,22 +11,9 @@ use Rattle.dir_lookup.specs.Reading.{Read, Lacks, Gives, reading, then_read}
 use Rattle.dir_lookup.specs.Spots.{spot_of}
 use Rattle.dir_lookup.proofs.Readings.{reading_bind}
 use Rattle.dir_lookup.proofs.Searches.{goes_on}
+use Rattle.plan_steps.proofs.Targets.{led, lacking}
 use Rattle.dir_steps.specs.Spots.{IsStanding}
 use Rattle.dir_steps.proofs.Bounds.{Stands, walk_stands}
-
--- ---- the walk of which the spot is known
-record Led (r : Read Walked) (s : Spot) : Type 0 where
-  pub walked : Walked
-  pub is : r ≡ Gives walked
-  pub spot : walked.spot ≡ s
-
-led : (r : Read Walked) (s : Spot) → Gives s ≡ then_read r (λ w. Gives w.spot) → Led r s
-led (Lacks n) s e = absurd (cc)
-led (Gives w) s e = let h : s ≡ w.spot = cc in record { walked = w; is = refl; spot = sym h }
-
-lacking : (r : Read Walked) (n : ℕ) → Lacks n ≡ then_read r (λ w. Gives w.spot) → r ≡ Lacks n
-lacking (Lacks m) n e = let h : n ≡ m = cc in ap Lacks (sym h)
-lacking (Gives w) n e = absurd (cc)
 
 pub code_directory : (s : CodeSpot) → Stands (spot_of s) → IsStanding s
 code_directory spot.AtRoot t = tt

@@ -1,10 +1,10 @@
 -- The directories of a walk, name after name.
-use Rattle.std.proofs.Common.{◌≡◌, ◌==◌, ◌||◌, ℕ, Bool, true, false, cond, Result, Ok, Err, List, [], ◌∷◌, ◌++◌, append_assoc, append-nil, IfOk, length, ◌<◌, arith, refl, sym, ap, ◌∙◌}
+use Rattle.std.proofs.Common.{◌≡◌, ◌==◌, ◌||◌, ℕ, Bool, false, Result, Ok, Err, List, [], ◌∷◌, ◌++◌, append_assoc, append-nil, IfOk, length, ◌<◌, arith, refl, sym, ap, ◌∙◌}
 use Rattle.std.proofs.lemmas.List.Folds.{list_any-append}
 use Rattle.frang_base.specs.declared.reply.Reply.{Reply}
 use Rattle.frang_base.specs.declared.reply.Reply.TheVariants as reply
 use Rattle.pick_definitions.specs.Held.{Segments}
-use Rattle.plan_definitions.specs.Ask.{Ask, Got, ReadInode}
+use Rattle.plan_definitions.specs.Ask.{Ask, ReadInode}
 use Rattle.plan_definitions.specs.Walks.{Spot, AtRoot, AtName, AtGap, Lost, Walked, in_inode, onward, walk, walk_from}
 use Rattle.plan_definitions.specs.Written.{Cached}
 use Rattle.dir_lookup.specs.Reading.{Read, Lacks, Gives, reading, then_read}
@@ -14,6 +14,7 @@ use Rattle.dir_lookup.specs.declared.spot.Spot.TheVariants as spot
 use Rattle.dir_lookup.specs.declared.spot.Refusal.{Refusal}
 use Rattle.dir_lookup.specs.Spots.{leads, reply_of, spot_of, walked_in}
 use Rattle.dir_lookup.proofs.Searches.{goes_on}
+use Rattle.dir_lookup.proofs.Steps.{led_on, onward_is}
 use Rattle.dir_steps.specs.Spots.{FindsPassing, IsStanding, PassesFrom, has_inode, looked_in}
 use Rattle.dir_steps.proofs.Bounds.{walk_stands}
 use Rattle.dir_steps.proofs.Leading.{code_directory}
@@ -24,20 +25,6 @@ walked_looked dirs i AtRoot = ap (λ dirs. record { spot = AtRoot; dirs = dirs }
 walked_looked dirs i (AtName n x name q e) = refl
 walked_looked dirs i (AtGap n x name) = refl
 walked_looked dirs i (Lost r) = ap (λ dirs. record { spot = Lost r; dirs = dirs }) (sym (append-nil dirs))
-
-abbrev led_on : (List ℕ → ℕ → Ask Walked) → List ℕ → Result ℕ Reply → Ask Walked
-led_on next dirs (Ok i) = next dirs i
-led_on next dirs (Err r) = Got (record { spot = Lost r; dirs = dirs })
-
-onward_is : (next : List ℕ → ℕ → Ask Walked) (dirs : List ℕ) (s : Spot) → onward next dirs s ≡ led_on next dirs (leads s)
-onward_is next dirs AtRoot = refl
-onward_is next dirs (AtGap i x name) = refl
-onward_is next dirs (Lost r) = refl
-onward_is next dirs (AtName i x name q e) = go (e.kind == 2)
-  where
-    go : (b : Bool) → cond b (next dirs e.inode) (Got (record { spot = Lost reply.NotDir; dirs = dirs })) ≡ led_on next dirs (cond b (Ok e.inode) (Err reply.NotDir))
-    go true = refl
-    go false = refl
 
 pub no_names : (names : List (List ℕ)) → length names < 1 → names ≡ []
 no_names [] l = refl

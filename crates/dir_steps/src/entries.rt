@@ -1,10 +1,10 @@
 // Entries of directories that come, go, or are replaced.
 ghost use Rattle.std.specs.Prelude.{◌≡◌, ◌<◌, ◌+◌, ◌*◌, ◌/◌, ◌%◌, ◌++◌, ◌∷◌, [], OnOk, slice_index};
 ghost use Rattle.std.specs.Option.{option_map};
+ghost use Rattle.disk_definitions.specs.Store.{stored, entered};
 ghost use Rattle.store_changes.specs.Edits.{SetPlace};
 ghost use Rattle.store_changes.specs.Changes as changes;
 ghost use Rattle.plan_definitions.specs.Plans as plans;
-ghost use Rattle.dir_lookup.specs.Stored.{entered, stored};
 ghost use Rattle.plan_steps.specs.Edits.{edits_of};
 ghost use Rattle.dir_steps.specs.Nodes.{IsDirectory};
 ghost use Rattle.dir_steps.specs.Rooms.{IsRoomOf, room_in};

@@ -7,10 +7,10 @@ ghost use Rattle.store_changes.specs.Changes as changes;
 ghost use Rattle.disk_definitions.specs.Naming.{inode_of, kind_of};
 ghost use Rattle.plan_definitions.specs.Written.{Cached};
 ghost use Rattle.plan_definitions.specs.NamePlans as plans;
-ghost use Rattle.dir_lookup.specs.Stored.{IsUsed, stored};
+ghost use Rattle.dir_lookup.specs.Stored.{IsUsed};
 ghost use Rattle.plan_steps.specs.Edits.{edit_of, edits_of};
 ghost use Rattle.bitmap_block.specs.States.{state_number};
-ghost use Rattle.disk_definitions.specs.Store.{use_by};
+ghost use Rattle.disk_definitions.specs.Store.{use_by, stored};
 ghost use Rattle.dir_steps.specs.Nodes.{node_of};
 ghost use Rattle.dir_steps.specs.Rooms.{LooksOver, missing_of, needed};
 

@@ -2,12 +2,12 @@
 ghost use Rattle.std.specs.Prelude.{ℕ, List, ◌≡◌, Bool, IfOk, IfSome, if◌then◌else◌, nat_lt};
 ghost use Rattle.pick_definitions.specs.Held.{Segments, state_in};
 ghost use Rattle.pick_definitions.specs.Picks.{is_in_state, picked_directory};
+ghost use Rattle.disk_definitions.specs.Store.{stored};
 ghost use Rattle.plan_definitions.specs.Plans as plans;
 ghost use Rattle.plan_definitions.specs.Plans.{NoRoom};
 ghost use Rattle.plan_definitions.specs.Written.{Cached};
 ghost use Rattle.plan_steps.specs.Ends.{Stops};
 ghost use Rattle.dir_lookup.specs.Reading.{read_of, reading};
-ghost use Rattle.dir_lookup.specs.Stored.{stored};
 ghost use Rattle.plan_definitions.specs.Written.{hand_of};
 ghost use Rattle.dir_steps.specs.Nodes.{IsDirectory};
 ghost use Rattle.dir_steps.specs.Rooms.{ClearsRoom, IsRoomOf, room_in, room_of};

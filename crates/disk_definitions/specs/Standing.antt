@@ -41,9 +41,13 @@ abbrev pub reached_from : Nodes → ℕ → List (List ℕ) → Option ℕ
 reached_from at b [] = Some b
 reached_from at b (name ∷ names) = option_and_then (λ next. reached_from at next names) (find_in (at b) name)
 
+-- names lead from the root to this birth
+abbrev pub IsReachedAt : Nodes → ℕ → Type 0
+IsReachedAt at b = (names : List (List ℕ)) × (reached_from at 0 names ≡ Some b)
+
 -- each node is reached from the root
 abbrev pub IsReached : Nodes → Type 0
-IsReached at = (b : ℕ) → is_some (at b) ≡ true → (names : List (List ℕ)) × (reached_from at 0 names ≡ Some b)
+IsReached at = (b : ℕ) → is_some (at b) ≡ true → IsReachedAt at b
 
 -- the disk stands for the tree: its sectors are in their grammar, no version is above 131,072 a run, and what they say is the picture of the tree, whose
 -- root has inode 0, and whose births by a script, which have a run number, stand in their inodes

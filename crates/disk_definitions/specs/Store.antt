@@ -37,6 +37,13 @@ pub data Use : Type 0 where
   Empty : Use
   Entries : Use
 
+-- no node uses such a block
+abbrev pub is_unused : Use → Bool
+is_unused Fresh = true
+is_unused Bytes = false
+is_unused Empty = true
+is_unused Entries = false
+
 pub record Store : Type 0 where
   pub inode : ℕ → Option StoredNode
   pub bit : ℕ → Bool
@@ -46,17 +53,23 @@ pub record Store : Type 0 where
   pub byte : ℕ → ℕ → ℕ  -- by small block, and byte below 4,096
   pub large_byte : ℕ → ℕ → ℕ  -- by large block, and byte below 1,048,576
 
+-- the node of an inode in use
+abbrev pub stored : Inode → StoredNode
+stored x = record { kind = x.kind; links = x.links; size = x.size; birth = x.birth; blocks = x.blocks; small = slice_index x.small; large = x.large; target = if x.kind == 3 then take x.size x.target else [] }
+
 -- the node of an inode, where it isn't free
 abbrev pub stored_node : Option Inode → Option StoredNode
 stored_node None = None
-stored_node (Some x) =
-    if is_free_inode x then None
-    else Some (record { kind = x.kind; links = x.links; size = x.size; birth = x.birth; blocks = x.blocks; small = slice_index x.small; large = x.large; target = if x.kind == 3 then take x.size x.target else [] })
+stored_node (Some x) = if is_free_inode x then None else Some (stored x)
+
+-- the entry of a place in use
+abbrev pub entered : DirEntry → StoredEntry
+entered e = record { name = name_in e; inode = e.inode; kind = e.kind }
 
 -- the entry of a place, where it isn't free
 abbrev pub stored_entry : Option DirEntry → Option StoredEntry
 stored_entry None = None
-stored_entry (Some e) = if is_free_place e then None else Some (record { name = name_in e; inode = e.inode; kind = e.kind })
+stored_entry (Some e) = if is_free_place e then None else Some (entered e)
 
 -- the entry of a place of a directory's sector
 abbrev pub entry_in : Option DirSector → ℕ → Option StoredEntry

@@ -11,11 +11,11 @@ use Rattle.tree_definitions.specs.declared.node.Node.{Node}
 use Rattle.tree_definitions.specs.declared.node.Node.TheVariants.{Dir, File, Link}
 use Rattle.tree_definitions.specs.Entries.{Entries, entry_at}
 use Rattle.disk_definitions.specs.Disks.{Sectors}
-use Rattle.disk_definitions.specs.Store.{Store, StoredNode, store_of}
+use Rattle.disk_definitions.specs.Store.{Store, StoredNode, store_of, is_unused}
 use Rattle.disk_definitions.specs.Standing.{IsReached}
 use Rattle.standing_laws.specs.Below.{all_below, lists, are_distinct}
 use Rattle.standing_laws.specs.ReadTree.{place_at, entries_to, read_node, nodes_to, tree_in, byte_at, cells_to}
-use Rattle.standing_laws.specs.Soundness.{bit_agrees, block_at, use_agrees, is_unused, is_cleared, is_marked, large_at, has_kind, entries_agree, directory_agrees, node_agrees, links_agree, IsConsistent, IsSound}
+use Rattle.standing_laws.specs.Soundness.{bit_agrees, block_at, use_agrees, is_cleared, is_marked, large_at, has_kind, entries_agree, directory_agrees, node_agrees, links_agree, IsConsistent, IsSound}
 use Rattle.standing_laws.proofs.Bounded.{all_at}
 use Rattle.standing_laws.proofs.Entered.{StandsAt, found_at, new_name, sorted_to}
 use Rattle.standing_laws.proofs.NodesRead.{node_read}

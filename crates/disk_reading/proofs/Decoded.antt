@@ -1,28 +1,31 @@
 -- What decoded sectors say of a store.
-use Rattle.std.proofs.Common.{◌==◌, ◌≡◌, ℕ, zero, suc, ◌+◌, ◌*◌, ◌/◌, ◌%◌, ◌<◌, ◌≤◌, Bool, true, false, not, ◌&&◌, ◌||◌, ⊎_elim, Option, Some, None, List, [], ◌∷◌, take, cond, refl, sym, ◌∙◌, ap, subst, nat_lt, nat_le, nat_eq, slice_index, eqb-true, leb-true, lt-ltb, le-ltb, ne_eqb, arith}
+use Rattle.std.proofs.Common.{◌==◌, ◌≡◌, ℕ, ◌+◌, ◌*◌, ◌/◌, ◌%◌, ◌<◌, ◌≤◌, Bool, true, false, not, ◌&&◌, ◌||◌, ⊎_elim, Option, Some, None, List, take, cond, refl, sym, ◌∙◌, ap, nat_lt, nat_le, nat_eq, slice_index, eqb-true, leb-true, lt-ltb, le-ltb, ne_eqb}
 use Rattle.std.specs.Option.{option_map}
-use Rattle.std.specs.List.{slice_get, list_all}
-use Rattle.std.proofs.lemmas.Bool.{and_parts, or_cases, cond-true, cond-false, and_right, both_ways, false_from_ne_true, cases_Bool}
+use Rattle.std.specs.List.{slice_get}
+use Rattle.std.proofs.lemmas.Bool.{or_cases, cond-true, cond-false, and_right, both_ways, false_from_ne_true, cases_Bool}
 use Rattle.sector_definitions.specs.declared.inode.Inode.{Inode}
 use Rattle.sector_definitions.specs.declared.directory.DirEntry.{DirEntry}
 use Rattle.sector_definitions.specs.declared.directory.DirSector.{DirSector}
 use Rattle.sector_definitions.specs.declared.region.Region.TheVariants as region
 use Rattle.sector_definitions.specs.Regions.{sector_of}
 use Rattle.sector_definitions.specs.Inodes.{is_free_inode, is_file_inode, is_directory_inode, is_link_inode, inode_fits, inode_in}
-use Rattle.sector_definitions.specs.Directories.{is_free_place, is_used_place, entry_fits, name_in, directory_fits, directory_fields, directory_bytes, directory_in}
+use Rattle.sector_definitions.specs.Directories.{is_free_place, is_used_place, entry_fits, name_in, directory_in}
 use Rattle.sector_definitions.specs.Bitmaps.{bitmap_in, inode_bit, block_state}
-use Rattle.sector_definitions.specs.Bytes.{same_bytes}
 use Rattle.frang_base.specs.Name.{is_name}
 use Rattle.frang_base.specs.declared.bitmap.Bitmap.{Bitmap}
+use Rattle.sector_definitions.proofs.Readings.{and_l, and_r}
+use Rattle.sector_definitions.proofs.InodeLaws.{inode_read}
+use Rattle.sector_definitions.proofs.DirectoryLaws.{directory_read}
+use Rattle.sector_definitions.proofs.DirectoryPlaces.{free_place, entry_of_list}
 use Rattle.bitmap_block.specs.States.{state_number}
 use Rattle.bitmap_block.specs.declared.state.BlockState.{BlockState}
 use Rattle.bitmap_block.specs.declared.state.BlockState.TheVariants as state
 use Rattle.disk_definitions.specs.Store.Use.{Fresh}
 use Rattle.standing_laws.proofs.SoundStanding.{disk_range}
 use Rattle.disk_definitions.specs.Disks.{Sectors}
-use Rattle.disk_definitions.specs.Store.{StoredNode, StoredEntry, stored_node, stored_entry, entry_in, use_by, use_in, bit_in, large_in, store_of}
-use Rattle.standing_laws.proofs.Shapes.{and_l, and_r, in_block, file_shape, dir_shape, link_shape}
-use Rattle.disk_reading.specs.Seen.{stored, entered, use_of_state}
+use Rattle.disk_definitions.specs.Store.{StoredNode, StoredEntry, stored_node, stored_entry, entry_in, use_by, use_in, bit_in, large_in, store_of, stored, entered}
+use Rattle.standing_laws.proofs.Shapes.{file_shape, dir_shape, link_shape}
+use Rattle.disk_reading.specs.Seen.{use_of_state}
 
 -- an inode is free exactly where its kind is 0
 pub free_kind : (x : Inode) → inode_fits x ≡ true → is_free_inode x ≡ (x.kind == 0)
@@ -52,7 +55,7 @@ decoded_node block = go (inode_in block) refl
   where
     go : (o : Option Inode) → inode_in block ≡ o → stored_node o ≡ node_of o
     go None e = refl
-    go (Some x) e = ap (λ b. cond b None (Some (stored x))) (free_kind x (in_block block x e))
+    go (Some x) e = ap (λ b. cond b None (Some (stored x))) (free_kind x (inode_read block x e).1)
 
 -- an inode in use, by its kind
 pub used_is : (segments : ℕ) (sectors : Sectors) (i : ℕ) (x : Inode) → i < 64 * segments → inode_in (sectors (sector_of (region.Inode i))) ≡ Some x → (x.kind ≡ 0 → ⊥) → Some (stored x) ≡ (store_of segments sectors).inode i
@@ -60,30 +63,6 @@ used_is segments sectors i x l e n =
     let f : (x.kind == 0) ≡ false = ne_eqb x.kind 0 n in
     sym (cond-true (nat_lt i (64 * segments)) (stored_node (inode_in (sectors (sector_of (region.Inode i))))) None (lt-ltb i (64 * segments) l)
     ∙ decoded_node (sectors (sector_of (region.Inode i))) ∙ ap node_of e ∙ cond-false (x.kind == 0) None (Some (stored x)) f)
-
--- a place is free exactly where its kind is 0
-free_place : (e : DirEntry) → entry_fits e ≡ true → is_free_place e ≡ (e.kind == 0)
-free_place e h = go (is_free_place e) refl
-  where
-    go : (b : Bool) → is_free_place e ≡ b → is_free_place e ≡ (e.kind == 0)
-    go true f = f ∙ sym (let k : e.kind == 0 ≡ true = search (and_l, and_r) depth 8 in k)
-    go false f = f ∙ ⊎_elim (λ t. absurd (both_ways (is_free_place e) f t)) (λ t. (
-        let k : nat_le 1 e.kind ≡ true = search (and_l, and_r) depth 8 in
-        let l : 1 ≤ e.kind = leb-true 1 e.kind k in
-        sym (ne_eqb e.kind 0 (λ z. omega arith)))) (or_cases (is_free_place e) (is_used_place e) h)
-
--- each place of a sector fits
-entry_of_list : (xs : List DirEntry) (q : ℕ) (e : DirEntry) → list_all entry_fits xs ≡ true → slice_get xs q ≡ Some e → entry_fits e ≡ true
-entry_of_list [] q e h g = absurd (cc)
-entry_of_list (x ∷ xs) zero e h g = let s : x ≡ e = cc in subst (λ e. entry_fits e ≡ true) s (and_parts (entry_fits x) (list_all entry_fits xs) h).0
-entry_of_list (x ∷ xs) (suc q) e h g = entry_of_list xs q e (and_parts (entry_fits x) (list_all entry_fits xs) h).1 g
-
-directory_fit : (block : List ℕ) (x : DirSector) → directory_in block ≡ Some x → directory_fits x ≡ true
-directory_fit block x e = go (directory_fits (directory_fields block) && same_bytes (directory_bytes (directory_fields block)) block) refl e
-  where
-    go : (b : Bool) → (directory_fits (directory_fields block) && same_bytes (directory_bytes (directory_fields block)) block) ≡ b → cond b (Some (directory_fields block)) None ≡ Some x → directory_fits x ≡ true
-    go true h e = let s : directory_fields block ≡ x = cc in subst (λ y. directory_fits y ≡ true) s (and_parts (directory_fits (directory_fields block)) (same_bytes (directory_bytes (directory_fields block)) block) h).0
-    go false h e = absurd (cc)
 
 -- the entry of a decoded place
 abbrev pub entry_of : Option DirEntry → Option StoredEntry
@@ -95,7 +74,7 @@ decoded_entry block x q h = ap (λ o. entry_in o q) h ∙ go (slice_get x.entrie
   where
     go : (o : Option DirEntry) → slice_get x.entries q ≡ o → stored_entry o ≡ entry_of o
     go None e = refl
-    go (Some e) g = ap (λ b. cond b None (Some (entered e))) (free_place e (entry_of_list x.entries q e (directory_fit block x h) g))
+    go (Some e) g = ap (λ b. cond b None (Some (entered e))) (free_place e (entry_of_list x.entries q e (directory_read block x h).1 g))
 
 -- an entry in use, by its kind
 pub entry_is : (segments : ℕ) (sectors : Sectors) (k p : ℕ) (x : DirSector) (e : DirEntry) → k < 1024 * segments → directory_in (sectors (sector_of (region.Small k (p / 7)))) ≡ Some x → slice_get x.entries (p % 7) ≡ Some e → (b : Bool) → (e.kind == 0) ≡ b → cond b None (Some (entered e)) ≡ (store_of segments sectors).place k p
@@ -153,7 +132,7 @@ past_larges segments sectors g l = sym ((disk_range segments sectors).larges g l
 -- the name of an entry
 pub proper_entry : (block : List ℕ) (x : DirSector) (q : ℕ) (e : DirEntry) → directory_in block ≡ Some x → slice_get x.entries q ≡ Some e → (e.kind == 0) ≡ false → (is_name (name_in e) ≡ true) × (e.len ≤ 64)
 proper_entry block x q e h g k =
-    let f : entry_fits e ≡ true = entry_of_list x.entries q e (directory_fit block x h) g in
+    let f : entry_fits e ≡ true = entry_of_list x.entries q e (directory_read block x h).1 g in
     ⊎_elim (λ t. absurd (both_ways (e.kind == 0) k (sym (free_place e f) ∙ t))) (λ t. (
     let n : is_name (name_in e) ≡ true = search (and_l, and_r) depth 8 in
     let l : nat_le e.len 64 ≡ true = search (and_l, and_r) depth 8 in

@@ -4,9 +4,8 @@ use Rattle.std.proofs.lemmas.Bool.{cond-true, cond-false, cases_lt, both_ways, f
 use Rattle.standing_laws.specs.Below.{all_below}
 use Rattle.standing_laws.proofs.Bounded.{all_at}
 use Rattle.sector_definitions.specs.declared.inode.Inode.{Inode}
-use Rattle.disk_definitions.specs.Store.{Store, StoredNode}
+use Rattle.disk_definitions.specs.Store.{Store, StoredNode, stored}
 use Rattle.standing_laws.specs.Soundness.{block_in, is_used_for, use_agrees, large_in}
-use Rattle.disk_reading.specs.Seen.{stored}
 
 pub block_then : (o : Option StoredNode) (x : Inode) (j : ℕ) → o ≡ Some (stored x) → j < x.blocks → Some (slice_index x.small j) ≡ block_in o j
 block_then o x j e l = sym (ap (λ o. block_in o j) e ∙ cond-true (nat_lt j x.blocks) (Some (slice_index x.small j)) None (lt-ltb j x.blocks l))

@@ -9,7 +9,7 @@ use Rattle.tree_definitions.specs.declared.cells.Cell.{Cell}
 use Rattle.tree_definitions.specs.declared.node.Node.TheVariants.{Dir, File, Link}
 use Rattle.tree_definitions.specs.Entries.{Entries, entry_at}
 use Rattle.tree_laws.proofs.Pairs.{name_exact, length_put}
-use Rattle.disk_definitions.specs.Store.{Store, StoredNode, StoredEntry}
+use Rattle.disk_definitions.specs.Store.{Store, StoredNode, StoredEntry, stored}
 use Rattle.standing_laws.specs.Below.{all_below}
 use Rattle.standing_laws.specs.ReadTree.{place_at, with_place, entries_to, byte_at, cells_to, read_node}
 use Rattle.standing_laws.specs.Soundness.{has_kind, entry_agrees, entries_agree, directory_agrees, node_agrees}
@@ -17,7 +17,6 @@ use Rattle.standing_laws.proofs.Bounded.{all_more, all_at}
 use Rattle.standing_laws.proofs.Shapes.{file_shape, dir_shape, link_shape}
 use Rattle.standing_laws.proofs.Pictured.{read_file, read_dir, read_link}
 use Rattle.disk_reading.specs.Files.{IsNode}
-use Rattle.disk_reading.specs.Seen.{stored}
 use Rattle.disk_reading.proofs.Decoded.{free_kind}
 
 -- ---- places

@@ -1,13 +1,14 @@
 -- Flags that grow stay flags of what is reached, and closed flags are all of it.
-use Rattle.std.proofs.Common.{◌==◌, ◌&&◌, ◌||◌, not, MatchBool, eq-eqb, ◌≡◌, ℕ, zero, suc, ◌+◌, ◌<◌, ◌≤◌, ⊎_elim, Bool, true, false, Option, Some, None, List, [], ◌∷◌, ◌++◌, is_some, length, set, get_or, sum_by, cond, refl, sym, ◌∙◌, ap, subst, arith}
+use Rattle.std.proofs.Common.{◌==◌, ◌&&◌, ◌||◌, not, MatchBool, eq-eqb, ◌≡◌, ℕ, zero, suc, ◌+◌, ◌<◌, ◌≤◌, ⊎_elim, Bool, true, false, Option, Some, None, List, [], ◌∷◌, is_some, length, set, get_or, sum_by, cond, refl, sym, ◌∙◌, ap, subst, arith}
 use Rattle.std.specs.Option.{option_and_then}
 use Rattle.disk_definitions.specs.Naming.{Nodes, find_in}
-use Rattle.disk_definitions.specs.Standing.{reached_from, IsReached}
+use Rattle.disk_definitions.specs.Standing.{reached_from, IsReached, IsReachedAt}
+use Rattle.reach_laws.proofs.Walks.{reached_on}
 use Rattle.disk_reading.specs.Marks.{flag_at}
 use Rattle.std.proofs.lemmas.Bool.{cases_lt, or_cases, or_parts, and_cases, and_parts, and_from, not-true, not-false, cond-true, or_left, or_right, both_ways}
 use Rattle.tree_definitions.specs.declared.node.Node.{Node}
 use Rattle.tree_definitions.specs.declared.node.Node.TheVariants.{Dir, File, Link}
-use Rattle.disk_reading.specs.Reach.{IsReachedAt, AreReached, AreFlaggedOn, HasSpread, HasClosed, NamesAscendIn, AreNamedBelow, names_at, nodes_at, has_value, names_flagged, is_closed_at, is_closed, unflagged}
+use Rattle.disk_reading.specs.Reach.{AreReached, AreFlaggedOn, HasSpread, HasClosed, NamesAscendIn, AreNamedBelow, names_at, nodes_at, has_value, names_flagged, is_closed_at, is_closed, unflagged}
 use Rattle.std.specs.List.{list_all}
 use Rattle.std.specs.Map.{lookup, keys_of, values_of}
 use Rattle.std.specs.BTreeMap.{is_at}
@@ -16,18 +17,6 @@ use Rattle.tree_laws.proofs.Pairs.{birth_exact, tie, self}
 use Rattle.standing_laws.specs.Below.{all_below}
 use Rattle.standing_laws.proofs.Bounded.{all_at}
 use Rattle.disk_reading.proofs.NamesFound.{value_named, named_all}
-
--- a walk goes on by a name
-pub walk_on : (at : Nodes) (names : List (List ℕ)) (a b c : ℕ) (name : List ℕ) → reached_from at a names ≡ Some b → find_in (at b) name ≡ Some c → reached_from at a (names ++ name ∷ []) ≡ Some c
-walk_on at [] a b c name h f = let q : a ≡ b = cc in ap (λ b. option_and_then (λ next. reached_from at next []) (find_in (at b) name)) q ∙ ap (option_and_then (λ next. reached_from at next [])) f
-walk_on at (m ∷ names) a b c name h f = go (λ v i. walk_on at names v b c name i f) (find_in (at a) m) h
-  where
-    go : ((v : ℕ) → reached_from at v names ≡ Some b → reached_from at v (names ++ name ∷ []) ≡ Some c) → (o : Option ℕ) → option_and_then (λ next. reached_from at next names) o ≡ Some b → option_and_then (λ next. reached_from at next (names ++ name ∷ [])) o ≡ Some c
-    go later None i = absurd (cc)
-    go later (Some v) i = later v i
-
-pub reached_on : (at : Nodes) (b c : ℕ) (name : List ℕ) → IsReachedAt at b → find_in (at b) name ≡ Some c → IsReachedAt at c
-reached_on at b c name r f = (r.0 ++ name ∷ [], walk_on at r.0 0 b c name r.1 f)
 
 -- closed flags from the root have all that is reached
 pub closed_all : (at : Nodes) (flags : List Bool) → ((d b : ℕ) (name : List ℕ) → flag_at flags d ≡ true → find_in (at d) name ≡ Some b → flag_at flags b ≡ true)

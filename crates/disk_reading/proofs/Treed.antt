@@ -12,6 +12,8 @@ use Rattle.script_definitions.specs.SaidReading.{is_target, is_target_byte}
 use Rattle.sector_definitions.specs.declared.param.Param.{Param}
 use Rattle.sector_definitions.specs.Bytes.{same_bytes}
 use Rattle.sector_definitions.specs.Params.{param_in, param_fits, param_fields, param_bytes}
+use Rattle.sector_definitions.proofs.Readings.{and_l, and_r}
+use Rattle.sector_definitions.proofs.ParamLaws.{few_segments}
 use Rattle.disk_definitions.specs.Disks.{Sectors}
 use Rattle.disk_definitions.specs.Store.{store_of}
 use Rattle.disk_definitions.specs.Standing.{StandsFor}
@@ -24,8 +26,7 @@ use Rattle.standing_laws.specs.Room.{FitsDisk}
 use Rattle.standing_laws.proofs.NodesRead.{births_read}
 use Rattle.standing_laws.proofs.OneTree.{reading_has_no_doubt}
 use Rattle.standing_laws.proofs.RoomLaws.{sound_fits}
-use Rattle.standing_laws.proofs.Shapes.{and_l, and_r}
-use Rattle.standing_laws.proofs.SoundStanding.{sound_stands, few_segments}
+use Rattle.standing_laws.proofs.SoundStanding.{sound_stands}
 use Rattle.standing_laws.proofs.StandingTree.{standing_is_sound}
 use Rattle.standing_laws.proofs.Sums.{zero_sum}
 use Rattle.disk_reading.specs.Reading.{IsReading}

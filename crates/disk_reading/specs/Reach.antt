@@ -10,7 +10,7 @@ use Rattle.std.specs.Ordering.{nat_cmp}
 use Rattle.tree_definitions.specs.declared.node.Node.{Node}
 use Rattle.tree_definitions.specs.declared.node.Node.TheVariants.{Dir, File, Link}
 use Rattle.disk_definitions.specs.Naming.{Nodes}
-use Rattle.disk_definitions.specs.Standing.{reached_from}
+use Rattle.disk_definitions.specs.Standing.{IsReachedAt}
 use Rattle.standing_laws.specs.Below.{all_below}
 use Rattle.disk_reading.specs.Marks.{flag_at}
 
@@ -28,10 +28,6 @@ names_at None k = false
 names_at (Some (Dir entries blocks)) k = has_value (values_of entries) k
 names_at (Some (File cells links)) k = false
 names_at (Some (Link target links)) k = false
-
--- names lead from the root to this birth
-abbrev pub IsReachedAt : Nodes → ℕ → Type 0
-IsReachedAt at b = (names : List (List ℕ)) × (reached_from at 0 names ≡ Some b)
 
 -- each birth with a flag is reached
 abbrev pub AreReached : Nodes → List Bool → Type 0

@@ -1,9 +1,9 @@
 -- All that is tested of a disk before its nodes are read.
 use Rattle.std.specs.Prelude.{◌≡◌, ℕ, ◌*◌, ◌/◌, ◌%◌, Bool, true, false, not, ◌&&◌, ◌||◌, List}
 use Rattle.disk_definitions.specs.Disks.{Sectors}
-use Rattle.disk_definitions.specs.Store.{Store, store_of}
+use Rattle.disk_definitions.specs.Store.{Store, store_of, is_unused}
 use Rattle.standing_laws.specs.Below.{all_below, lists, are_distinct}
-use Rattle.standing_laws.specs.Soundness.{bit_agrees, block_at, use_agrees, is_unused, is_cleared, is_marked, large_at, has_kind, IsSound}
+use Rattle.standing_laws.specs.Soundness.{bit_agrees, block_at, use_agrees, is_cleared, is_marked, large_at, has_kind, IsSound}
 use Rattle.tree_definitions.specs.declared.node.Node.{Node}
 use Rattle.standing_laws.specs.ReadTree.{nodes_to}
 use Rattle.disk_reading.specs.Fits.{sectors_fit}

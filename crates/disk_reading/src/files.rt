@@ -1,9 +1,10 @@
 // The bytes of a file, read sector by sector.
 ghost use Rattle.std.specs.Prelude.{◌≡◌, ◌≤◌, ◌<◌, ◌+◌, ◌*◌, true, min, OnOk, IfOk};
 ghost use Rattle.sector_definitions.specs.Inodes.{is_file_inode};
+ghost use Rattle.disk_definitions.specs.Store.{stored};
 ghost use Rattle.standing_laws.specs.ReadTree.{byte_at, cells_to};
 ghost use Rattle.disk_reading.specs.Files as files;
-ghost use Rattle.disk_reading.specs.Seen.{store_in, stored};
+ghost use Rattle.disk_reading.specs.Seen.{store_in};
 
 use crate::sectors::{PARTS_A_BLOCK, large_sector, part_sector};
 use disk_definitions::Disk;

@@ -1,6 +1,7 @@
 // What the bitmaps say of inodes and blocks, against what the inodes say.
 ghost use Rattle.std.specs.Prelude.{◌≡◌, ◌≤◌, ◌<◌, ◌*◌, ◌/◌, ◌%◌, not, is_some};
 ghost use Rattle.standing_laws.specs.Below.{all_below};
+ghost use Rattle.disk_definitions.specs.Store as store;
 ghost use Rattle.standing_laws.specs.Soundness as sound;
 ghost use Rattle.disk_definitions.specs.Disks.{sectors_of};
 ghost use Rattle.disk_reading.specs.Seen.{store_in, use_of_state};
@@ -91,7 +92,7 @@ fn use_agrees(disk: &Disk, segments: u32, t: u32) -> bool
 
 /// Whether no node uses a block of this state.
 pub(crate) fn is_unused(state: BlockState) -> bool
-    ensures { result ≡ sound.is_unused (use_of_state state) }
+    ensures { result ≡ store.is_unused (use_of_state state) }
 {
     match state {
         BlockState::Unused => true,

@@ -4,11 +4,12 @@ ghost use Rattle.std.specs.Option.{option_map};
 ghost use Rattle.frang_base.specs.Name.{is_name};
 ghost use Rattle.sector_definitions.specs.Directories.{name_in};
 ghost use Rattle.sector_definitions.specs.Inodes.{is_directory_inode, inode_fits};
+ghost use Rattle.disk_definitions.specs.Store.{stored, entered};
 ghost use Rattle.standing_laws.specs.ReadTree.{place_at, with_place, with_inode, nodes_to};
 ghost use Rattle.standing_laws.specs.Below.{all_below};
 ghost use Rattle.standing_laws.specs.Soundness as sound;
 ghost use Rattle.disk_reading.specs.Files.{AreRead, IsNode};
-ghost use Rattle.disk_reading.specs.Seen.{store_in, stored, entered};
+ghost use Rattle.disk_reading.specs.Seen.{store_in};
 
 use crate::files::read_cells;
 use crate::marks::{DIRECTORY, FILE};

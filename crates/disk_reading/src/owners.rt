@@ -1,6 +1,7 @@
 // The blocks that inodes list: none twice, and all others unused.
 ghost use Rattle.std.specs.Prelude.{◌≡◌, ◌≤◌, ◌<◌, ◌*◌, ◌&&◌, ◌||◌, ℕ, true, false, not, length, replicate, IfOk};
 ghost use Rattle.standing_laws.specs.Below.{all_below, lists, are_distinct};
+ghost use Rattle.disk_definitions.specs.Store as store;
 ghost use Rattle.standing_laws.specs.Soundness as sound;
 ghost use Rattle.disk_reading.specs.Marks.{flag_at, has_flag, flagged, AreFlags, IsBelow};
 ghost use Rattle.disk_reading.specs.Seen.{store_in};
@@ -50,7 +51,7 @@ fn flag_blocks(disk: &Disk, segments: u32, flags: &mut [bool]) -> bool
 fn others_unused(disk: &Disk, segments: u32, flags: &[bool]) -> bool
     requires few { segments ≤ 64 }
     requires length { length flags.now ≡ 1024 * segments }
-    ensures { result ≡ all_below (1024 * segments) (λ k. flag_at flags.now k || sound.is_unused ((store_in segments disk.now).use_of k)) }
+    ensures { result ≡ all_below (1024 * segments) (λ k. flag_at flags.now k || store.is_unused ((store_in segments disk.now).use_of k)) }
 {
     let mut all = true;
     for block in 0..BLOCKS_A_SEGMENT * segments {
@@ -64,7 +65,7 @@ fn others_unused(disk: &Disk, segments: u32, flags: &[bool]) -> bool
 pub(crate) fn blocks_agree(alloc: Global, disk: &Disk, segments: u32) -> Result<bool, NoMemory>
     requires few { segments ≤ 64 }
     requires below { (t : ℕ) → t < 1024 * segments → IsBelow (1024 * segments) (sound.block_at (store_in segments disk.now) t) }
-    ensures { IfOk result (λ b. b ≡ (are_distinct (sound.block_at (store_in segments disk.now)) (1024 * segments) && all_below (1024 * segments) (λ k. lists (sound.block_at (store_in segments disk.now)) (1024 * segments) k || sound.is_unused ((store_in segments disk.now).use_of k)))) }
+    ensures { IfOk result (λ b. b ≡ (are_distinct (sound.block_at (store_in segments disk.now)) (1024 * segments) && all_below (1024 * segments) (λ k. lists (sound.block_at (store_in segments disk.now)) (1024 * segments) k || store.is_unused ((store_in segments disk.now).use_of k)))) }
 {
     let mut flags = vec![in alloc; false; (BLOCKS_A_SEGMENT * segments) as usize]?;
     if !flag_blocks(disk, segments, &mut flags) {

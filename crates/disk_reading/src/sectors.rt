@@ -8,7 +8,8 @@ ghost use Rattle.sector_definitions.specs.Bitmaps.{bitmap_in};
 ghost use Rattle.sector_definitions.specs.Directories.{directory_in, name_in};
 ghost use Rattle.sector_definitions.specs.Inodes.{inode_in, inode_fits};
 ghost use Rattle.disk_definitions.specs.Disks.{sectors_of};
-ghost use Rattle.disk_reading.specs.Seen.{store_in, stored, entered, use_of_state};
+ghost use Rattle.disk_definitions.specs.Store.{stored, entered};
+ghost use Rattle.disk_reading.specs.Seen.{store_in, use_of_state};
 
 use bitmap_block::{BlockState, inode_in_use, state_of};
 use disk_definitions::Disk;

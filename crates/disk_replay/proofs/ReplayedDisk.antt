@@ -1,13 +1,11 @@
 -- The changes of all logs laid over the disk without its logs make the replayed disk.
-use Rattle.std.proofs.Common.{◌≡◌, ℕ, ◌+◌, ◌≤◌, true, if◌then◌else◌, Option, Some, None, List, [], ◌∷◌, ◌++◌, refl, sym, ap, ◌∙◌, add-one, append-nil, arith}
+use Rattle.std.proofs.Common.{◌≡◌, ℕ, ◌+◌, if◌then◌else◌, Option, Some, None, [], ◌∷◌, ◌++◌, refl, sym, ap, ◌∙◌, add-one, append-nil}
 use Rattle.std.specs.List.{flat_map}
-use Rattle.std.proofs.lemmas.Bool.Decides.{nat_tests}
 use Rattle.std.proofs.lemmas.List.Concat.{flat_map-append}
 use Rattle.sector_definitions.specs.declared.param.Param.{Param}
 use Rattle.sector_definitions.specs.Bytes.{zeros}
-use Rattle.sector_definitions.specs.Params.{param_fits, param_in}
+use Rattle.sector_definitions.specs.Params.{param_in}
 use Rattle.sector_definitions.specs.Regions.{region_of}
-use Rattle.sector_definitions.proofs.ParamLaws.{param_read}
 use Rattle.disk_definitions.specs.Disks.{Sectors, SameDisk}
 use Rattle.tree_definitions.specs.Numbers.{below}
 use Rattle.log_definitions.specs.Logs.{log_records}
@@ -29,12 +27,6 @@ next_log s server =
     ap (λ k. flat_map of_log (below k)) (add-one server) ∙ flat_map-append of_log (below server) (server ∷ []) ∙ ap (λ cs. flat_map of_log (below server) ++ cs) (append-nil (of_log server))
 
 -- ---- the whole
-
-few : (p : Param) → param_fits p ≡ true → p.segments ≤ 64
-few p h = grind (arith, nat_tests)
-
-pub few_segments : (block : List ℕ) (p : Param) → param_in block ≡ Some p → p.segments ≤ 64
-few_segments block p e = few p (param_read block p e).1
 
 by_parameters : (s : Sectors) (o : Option Param) → param_in (s 0) ≡ o → (sector : ℕ) → (if is_logged sector then zeros 512 else with_logs o s sector) ≡ replayed s sector
 unfolding is_logged

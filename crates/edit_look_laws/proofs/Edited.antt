@@ -3,11 +3,12 @@ use Rattle.std.proofs.Common.{ℕ, zero, suc, ◌≡◌, ◌<◌, ◌-◌, ◌*�
 use Rattle.std.proofs.lemmas.List.Elements.{Contains-append_left, Contains-append_right}
 use Rattle.std.specs.List.{AllByRecursion, Contains}
 use Rattle.tree_definitions.specs.Numbers.{below}
+use Rattle.cells.specs.Changes.{put}
+use Rattle.cells.proofs.Basics.{put_same}
 use Rattle.disk_definitions.specs.Store.{StoredNode, StoredEntry, Use}
-use Rattle.store_changes.specs.Edits.{Edit, put}
+use Rattle.store_changes.specs.Edits.{Edit}
 use Rattle.store_changes.specs.Edits.Edit.{SetInode, SetBit, SetUse, SetPlace, SetLarge, SetBytes, SetLargeBytes}
 use Rattle.store_changes.specs.Changes.{freed, uses_to, large_gone, drop_node, relink}
-use Rattle.store_changes.proofs.Puts.{put_same}
 use Rattle.plan_definitions.specs.Ask.{Sector, InodeAt, DirectoryAt, SegmentAt}
 use Rattle.plan_definitions.specs.Plans.{Plan, Room, enter}
 use Rattle.plan_definitions.specs.Plans.Plan.{Lacks, Clears, Finishes}

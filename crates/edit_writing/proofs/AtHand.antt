@@ -11,6 +11,7 @@ use Rattle.frang_base.specs.declared.bitmap.Bitmap.{Bitmap}
 use Rattle.sector_definitions.specs.Bitmaps.{bitmap_bytes}
 use Rattle.sector_definitions.specs.Regions.{bitmaps_from}
 use Rattle.change_definitions.specs.SectorMaps.{value_at}
+use Rattle.change_definitions.proofs.MapLaws.{found}
 use Rattle.pick_definitions.specs.Held.{Segments, AreSegments, bitmap_of}
 use Rattle.plan_definitions.specs.Written.{segment_sectors}
 
@@ -42,10 +43,6 @@ not_held (Some x) k all l = let h : k < 64 = all x refl in absurd (omega arith)
 
 pub past_segments : (held : Segments) (s : ℕ) → AreSegments held → bitmaps_from ≤ s → 64 ≤ s - bitmaps_from → value_at (segment_sectors held) s ≡ None
 past_segments held s all l m = segment_sector held s l ∙ ap (option_map bitmap_bytes) (not_held (bitmap_of held (s - bitmaps_from)) (s - bitmaps_from) (all (s - bitmaps_from)) m)
-
--- ---- segments that are held one after the other
-found : (a b : ℕ) → is_at (nat_cmp a) b ≡ true → b ≡ a
-found a b e = grind (arith, nat_tests)
 
 segments_by_keys : (held : Segments) → All (λ k. k < 64) (keys_of held) → AreSegments held
 segments_by_keys [] all k x e = absurd (cc)

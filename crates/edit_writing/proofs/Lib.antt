@@ -1,4 +1,3 @@
-pub mod Lists
 pub mod Inodes
 pub mod Made
 pub mod AtHand

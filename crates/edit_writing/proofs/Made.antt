@@ -2,6 +2,7 @@
 use Rattle.std.proofs.Common.{◌≡◌, ◌%◌, ◌⊎◌, inl, inr, ℕ, Some, List, length, refl, sym, ap, subst, ◌∙◌}
 use Rattle.std.specs.Option.{option_map}
 use Rattle.frang_base.specs.declared.sector.Sector.{Sector}
+use Rattle.sector_definitions.proofs.Lists.{all_numbers}
 use Rattle.bitmap_block.specs.declared.state.BlockState.{BlockState}
 use Rattle.bitmap_block.specs.declared.state.BlockState.TheVariants.{Unused, FileBytes, FormerDirectory, Directory}
 use Rattle.bitmap_block.specs.States.{state_number}
@@ -13,7 +14,6 @@ use Rattle.dir_lookup.specs.Planned.{sector_by, write_by}
 use Rattle.plan_steps.specs.Edits.{edit_of}
 use Rattle.plan_steps.specs.declared.edit.Edit.{Edit}
 use Rattle.plan_steps.specs.declared.edit.Edit.TheVariants as edit
-use Rattle.edit_writing.proofs.Lists.{all_numbers}
 
 -- the edit writes these bytes
 abbrev pub Writes : Edit → List ℕ → Type 0

@@ -5,12 +5,12 @@ ghost use Rattle.sector_definitions.specs.Bitmaps.{bitmap_bytes, bitmap_fields};
 ghost use Rattle.sector_definitions.specs.Bytes.{number_at};
 ghost use Rattle.sector_definitions.specs.Directories.{directory_bytes, directory_fields};
 ghost use Rattle.sector_definitions.specs.Inodes.{inode_bytes};
+ghost use Rattle.disk_definitions.specs.Store.{stored, entered};
 ghost use Rattle.bitmap_block.specs.States.{state_number};
 ghost use Rattle.pick_definitions.specs.Taken.{with_inode, with_large, with_state};
 ghost use Rattle.store_changes.specs.Edits.Edit.{SetPlace};
 ghost use Rattle.plan_definitions.specs.Written as written;
 ghost use Rattle.plan_definitions.specs.Written.{edit_sector, edited_block, is_metadata, with_place};
-ghost use Rattle.dir_lookup.specs.Stored.{entered, stored};
 ghost use Rattle.plan_steps.specs.Edits.{edit_of};
 
 use crate::fields::{inode_with, place_with};

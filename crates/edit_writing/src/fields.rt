@@ -2,8 +2,8 @@
 ghost use Rattle.std.specs.Prelude.{◌≡◌, ◌≤◌, Some, None, length};
 ghost use Rattle.std.specs.Option.{option_map};
 ghost use Rattle.sector_definitions.specs.Bytes.{zeros};
+ghost use Rattle.disk_definitions.specs.Store.{stored, entered};
 ghost use Rattle.plan_definitions.specs.Written.{inode_with, padded, place_with};
-ghost use Rattle.dir_lookup.specs.Stored.{entered, stored};
 
 use sector_definitions::{DirEntry, Inode};
 

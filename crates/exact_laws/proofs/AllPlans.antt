@@ -45,10 +45,10 @@ module _ (h : Hand) (s : Store) (tree : FileTree) (n : Naming) (birth : ℕ) (of
   outcome op.Stall = refl
 
 pub lacks_exactly : LacksExactly
-lacks_exactly o h s tree n birth of hand fit new = lacks_by h (wants tree o) (run (plan_of h birth o) s) (outcome h s tree n birth of o)
+lacks_exactly o h s tree n birth of = lacks_by h (wants tree o) (run (plan_of h birth o) s) (outcome h s tree n birth of o)
 
 pub clears_exactly : ClearsExactly
-clears_exactly o h s tree n birth of hand fit new k = clears_by h k (wants tree o) (run (plan_of h birth o) s) (outcome h s tree n birth of o)
+clears_exactly o h s tree n birth of k = clears_by h k (wants tree o) (run (plan_of h birth o) s) (outcome h s tree n birth of o)
 
 pub says_full_exactly : SaysFullExactly
-says_full_exactly o h s tree n birth of hand fit new = full_by h (wants tree o) (run (plan_of h birth o) s) (outcome h s tree n birth of o)
+says_full_exactly o h s tree n birth of = full_by h (wants tree o) (run (plan_of h birth o) s) (outcome h s tree n birth of o)

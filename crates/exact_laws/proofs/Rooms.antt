@@ -6,11 +6,13 @@ use Rattle.frang_base.specs.declared.reply.Reply.{Reply}
 use Rattle.tree_definitions.specs.declared.node.Node.TheVariants.{Dir}
 use Rattle.tree_definitions.specs.Entries.{Entries}
 use Rattle.tree_definitions.specs.Tree.{FileTree, node_at, must_grow}
+use Rattle.cells.proofs.Basics.{some_same}
 use Rattle.disk_definitions.specs.Store.{Store, StoredNode, StoredEntry}
 use Rattle.disk_definitions.specs.Naming.{Naming, first_blocks, place_of}
 use Rattle.pick_definitions.specs.Least.{least}
 use Rattle.pick_definitions.specs.Held.{Segments, state_in}
 use Rattle.pick_definitions.specs.Picks.{picks, picked_inode, picked_directory, picked_many}
+use Rattle.pick_definitions.proofs.ManyLaws.{no_picks}
 use Rattle.plan_definitions.specs.Ask.{Got, ReadDirectory, run}
 use Rattle.plan_definitions.specs.Walks.{search, is_vacant}
 use Rattle.plan_definitions.specs.Plans.{Hand, Finish, Room, none_left, room_at, room_in, read_held, find_room, finish_in, must_clear}
@@ -24,7 +26,7 @@ use Rattle.plan_laws.proofs.Places.{place_some, place_none}
 use Rattle.file_plan_laws.specs.Locks.{says_full}
 use Rattle.exact_laws.specs.Wants.{Wants}
 use Rattle.exact_laws.specs.Exact.{FindsNothing}
-use Rattle.exact_laws.proofs.Outcomes.{IsFound, Outcome, none_outcome, not_both, same_some}
+use Rattle.exact_laws.proofs.Outcomes.{IsFound, Outcome, none_outcome, not_both}
 
 -- the room of a directory that must grow, or needn't
 abbrev pub IsRoom : Hand → Bool → Room → Type 0
@@ -64,13 +66,9 @@ module _ (h : Hand) (s : Store) (tree : FileTree) (n : Naming) (of : IsOfTree s 
       subst (λ r. IsRoom h (must_grow entries blocks) r) (sym (run-bind (search x.small is_vacant 0 (8 * blocks)) (room_at h x) s ∙ ap (λ f. run (room_at h x f) s) e))
       (room_is (least vacant (56 * blocks)) refl)
 
-nothing_picked : (states : ℕ → Option ℕ) → picks states 0 ≡ Some []
-unfolding picks
-nothing_picked states = refl
-
 -- no block for bytes is always there
 pub none_wanted : (held : Segments) → picked_many held 0 ≡ None → ⊥
-none_wanted held e = let z : picks (state_in held) 0 ≡ Some [] = nothing_picked (state_in held) in let y : picks (state_in held) 0 ≡ None = e in cc
+none_wanted held e = let z : picks (state_in held) 0 ≡ Some [] = no_picks (state_in held) in let y : picks (state_in held) 0 ≡ None = e in cc
 
 module _ (h : Hand) (s : Store) (inode grows : Bool) (some : inode ≡ true → picked_inode h.held ≡ None → ⊥) where
   -- what a new name takes
@@ -94,4 +92,4 @@ module _ (h : Hand) (s : Store) (inode grows : Bool) (some : inode ≡ true → 
     where
       go : (c : Bool) → must_clear h k ≡ c → IsFound h w (run (if c then Got (Clears k f.locks) else ReadDirectory k 0 (λ p. Got (Finishes f))) s)
       go true c = (e.0, e.1, c)
-      go false c = (plain, λ j t z. let i : k ≡ j = same_some k j (sym e.1 ∙ z) in subst (λ i. must_clear h i ≡ false) i c)
+      go false c = (plain, λ j t z. let i : k ≡ j = some_same k j (sym e.1 ∙ z) in subst (λ i. must_clear h i ≡ false) i c)

@@ -1,5 +1,5 @@
 -- What the plans of write and fill come to: a large block first, and then the small ones.
-use Rattle.std.proofs.Common.{ℕ, ◌≡◌, ◌<◌, ◌≤◌, ◌+◌, ◌-◌, ◌/◌, ◌==◌, ◌&&◌, not, Bool, true, false, nat_lt, nat_eq, max, if◌then◌else◌, inl, inr, Option, Some, None, List, [], ◌∷◌, ◌++◌, length, refl, sym, ◌∙◌, ap, subst, arith, is_some}
+use Rattle.std.proofs.Common.{ℕ, ◌≡◌, ◌+◌, ◌-◌, ◌/◌, ◌==◌, ◌&&◌, not, Bool, true, false, nat_lt, max, if◌then◌else◌, inl, inr, Option, Some, None, List, [], ◌∷◌, ◌++◌, length, refl, sym, ◌∙◌, subst, arith, is_some}
 use Rattle.std.proofs.lemmas.Bool.Decides.{nat_tests}
 use Rattle.std.specs.Map.{keys_of}
 use Rattle.frang_base.specs.declared.reply.Reply.TheVariants as reply
@@ -24,28 +24,11 @@ use Rattle.plan_laws.proofs.Cases.{inode_by, by_spot}
 use Rattle.plan_laws.proofs.Walking.{walks_lead}
 use Rattle.file_plan_laws.proofs.Sectors.{run-writes}
 use Rattle.file_plan_laws.proofs.Covering.{IsFine, walk_fine}
+use Rattle.file_plan_laws.proofs.Writing.{plan_needs, tree_needs}
 use Rattle.exact_laws.specs.Wants.{Wants, wants_written, wants_in, wants_bytes}
 use Rattle.exact_laws.specs.Exact.{FindsNothing}
 use Rattle.exact_laws.proofs.Outcomes.{Outcome, none_outcome}
 use Rattle.exact_laws.proofs.Rooms.{none_wanted}
-
--- whether a large block is needed, as the plan and as the tree has it
-plan_needs : (had ends : Bool) (own : ℕ) → (ends && ((if had then own + 1 else 0) == 0)) ≡ (ends && not had)
-plan_needs true ends own = let e : nat_eq (own + 1) 0 ≡ false = grind (arith, nat_tests) in ap (λ v. ends && v) e
-plan_needs false ends own = refl
-
-tree_needs : (old end : ℕ) → nat_lt (large_blocks_of old) (large_blocks_of (max old end)) ≡ (nat_lt 65536 end && not (nat_lt 65536 old))
-tree_needs old end = go (nat_lt 65536 old) refl (nat_lt 65536 end) refl (nat_lt 65536 (max old end)) refl
-  where
-    go : (a : Bool) → nat_lt 65536 old ≡ a → (b : Bool) → nat_lt 65536 end ≡ b → (c : Bool) → nat_lt 65536 (max old end) ≡ c → nat_lt (if a then 1 else 0) (if c then 1 else 0) ≡ (b && not a)
-    go true p true q true r = refl
-    go true p true q false r = refl
-    go true p false q true r = refl
-    go true p false q false r = refl
-    go false p true q true r = refl
-    go false p true q false r = absurd (let l : 65536 < end = grind (arith, nat_tests) in let m : max old end ≤ 65536 = grind (arith, nat_tests) in omega arith)
-    go false p false q true r = absurd (let l : end ≤ 65536 = grind (arith, nat_tests) in let k : old ≤ 65536 = grind (arith, nat_tests) in let m : 65536 < max old end = grind (arith, nat_tests) in omega arith)
-    go false p false q false r = refl
 
 module _ (h : Hand) (s : Store) (n : Naming) (b links : ℕ) (old : List Cell) (w : Writing) (touched : List ℕ) where
   abbrev x : StoredNode

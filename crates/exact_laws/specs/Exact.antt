@@ -1,18 +1,16 @@
 -- Where a plan lacks segments, has a block cleared, or says that there is no space.
 use Rattle.std.specs.Prelude.{◌≡◌, ◌↔◌, ◌⊎◌, ℕ, true, false, Some, None, List}
 use Rattle.frang_base.specs.declared.op.Op.{Op}
-use Rattle.tree_definitions.specs.Tree.{FileTree, node_at}
-use Rattle.tree_laws.specs.WellFormed.{IsNew}
+use Rattle.tree_definitions.specs.Tree.{FileTree}
 use Rattle.disk_definitions.specs.Store.{Store}
 use Rattle.disk_definitions.specs.Naming.{Naming}
 use Rattle.pick_definitions.specs.Held.{Segments}
 use Rattle.pick_definitions.specs.Picks.{picked_inode, picked_directory, picked_large, picked_many}
-use Rattle.store_changes.specs.Laws.{FilesFit}
 use Rattle.plan_definitions.specs.Ask.{run}
 use Rattle.plan_definitions.specs.Plans.{Hand, Lock, Plan, Finish, must_clear}
 use Rattle.plan_definitions.specs.Plans.Plan.{Lacks, Clears, Finishes}
 use Rattle.plan_definitions.specs.PlanOf.{plan_of}
-use Rattle.plan_definitions.specs.Meets.{IsOfTree, IsHandOf}
+use Rattle.plan_definitions.specs.Meets.{IsOfTree}
 use Rattle.file_plan_laws.specs.Locks.{says_full}
 use Rattle.exact_laws.specs.Wants.{Wants, wants}
 
@@ -24,9 +22,9 @@ FindsNothing held w =
     ⊎ (((w.large ≡ true) × (picked_large held ≡ None))
     ⊎ (picked_many held w.small ≡ None)))
 
--- what holds of the plan of each operation, over the disk of a tree whose files fit into their blocks, with segments of it at hand
+-- what holds of the plan of each operation over the disk of a tree, whatever is held
 abbrev pub OfEachPlan : (Hand → FileTree → Op → Plan → Type 0) → Type 0
-OfEachPlan Holds = (o : Op) (h : Hand) (s : Store) (tree : FileTree) (n : Naming) (birth : ℕ) → IsOfTree s tree n → IsHandOf h s tree.segments → FilesFit (node_at tree) → IsNew tree birth →
+OfEachPlan Holds = (o : Op) (h : Hand) (s : Store) (tree : FileTree) (n : Naming) (birth : ℕ) → IsOfTree s tree n →
     Holds h tree o (run (plan_of h birth o) s)
 
 -- it lacks segments exactly where not all are held and an allocation finds nothing in them

@@ -5,7 +5,7 @@
 
 ghost use Rattle.exact_laws.specs.Exact.{LacksExactly, ClearsExactly, SaysFullExactly};
 
-/// Over the disk of a tree, with segments of it at hand, the plan of an operation lacks segments exactly where not all are held and an allocation
+/// Over the disk of a tree, whatever is held, the plan of an operation lacks segments exactly where not all are held and an allocation
 /// that the tree asks for finds nothing in them. It has a block cleared exactly where a directory must grow, every allocation finds something,
 /// and the block that is found was never a directory's and isn't known to be zero. It says that there is no space exactly where all segments
 /// are held and an allocation finds nothing.

@@ -3,6 +3,7 @@ use Rattle.std.proofs.Common.{ℕ, ◌≡◌, ◌<◌, ◌≤◌, ◌+◌, ◌-�
 use Rattle.std.proofs.lemmas.Bool.Decides.{nat_tests}
 use Rattle.frang_base.specs.declared.reply.Reply.TheVariants as reply
 use Rattle.tree_definitions.specs.Tree.{small_blocks_of}
+use Rattle.sector_definitions.proofs.Lists.{listed_at, length_listed}
 use Rattle.disk_definitions.specs.Store.{Store, StoredNode}
 use Rattle.disk_definitions.specs.Store.Use.{Fresh}
 use Rattle.disk_definitions.specs.Standing.{IsMetadata}
@@ -15,7 +16,6 @@ use Rattle.plan_definitions.specs.NamePlans.{finish_over}
 use Rattle.plan_definitions.specs.FilePlans.{resized, size_edits, blocks_between, large_cut, cut_segments, cut_by, cutting}
 use Rattle.plan_laws.proofs.Asking.{run-segments}
 use Rattle.record_laws.specs.Fit.{IsFitNode}
-use Rattle.record_laws.proofs.InodeEdits.{length_listed, listed_at}
 use Rattle.file_plan_laws.proofs.Among.{is_among}
 use Rattle.file_plan_laws.proofs.Setting.{all_set}
 use Rattle.plan_conditions.specs.FitPlans.{IsFitFinish}
@@ -82,4 +82,4 @@ module _ (h : Hand) (g : ℕ) (s : Store) (i : ℕ) (touched : List ℕ) (x : St
       go false e = rw (run-segments (cut_segments x len) (Got (Finishes (cut_by i touched x len))) s) (cut_fits (grind (arith, nat_tests)))
 
 pub truncate_fits : TruncateFits
-truncate_fits path len h s tree n birth of hand fit new small allowed = file_fits h s tree n of fit (cutting len) (λ i touched x file. cutting_fits h tree.segments s i touched x file len) path
+truncate_fits path len h s tree n birth of hand fit small allowed = file_fits h s tree n of fit (cutting len) (λ i touched x file. cutting_fits h tree.segments s i touched x file len) path

@@ -1,12 +1,12 @@
 -- The fields of an inode that is read from a sector of 512 bytes: what their bytes hold, and no more.
-use Rattle.std.proofs.Common.{◌≡◌, ℕ, zero, suc, ◌*◌, ◌^◌, ◌<◌, Some, List, [], ◌∷◌, ◌++◌, length, drop, slice_index, refl, sym, ap, ◌∙◌, append_assoc, arith, length-drop}
+use Rattle.std.proofs.Common.{◌≡◌, ℕ, zero, suc, ◌^◌, ◌<◌, Some, List, [], ◌∷◌, ◌++◌, length, drop, slice_index, refl, sym, ap, ◌∙◌, arith, length-drop}
 use Rattle.std.specs.List.{flat_map}
-use Rattle.std.proofs.lemmas.List.{drop_at, drop-drop}
+use Rattle.std.proofs.lemmas.List.{drop-drop}
 use Rattle.byteorder.specs.Endian.{little_number, little_bytes}
 use Rattle.sector_definitions.specs.declared.inode.Inode.{Inode}
 use Rattle.sector_definitions.specs.Bytes.{zeros}
 use Rattle.sector_definitions.specs.Inodes.{inode_bytes, inode_fits, inode_fields, inode_in, numbers_in}
-use Rattle.sector_definitions.proofs.InodeLaws.{length_numbers}
+use Rattle.sector_definitions.proofs.InodeLaws.{large_and_target, behind_birth, behind_small}
 use Rattle.record_laws.proofs.Grammar.{fits_back, fits_eight, fields_read, inode_is}
 
 pub record IsDecoded (x : Inode) : Type 0 where
@@ -28,19 +28,6 @@ numbers_fit : (xs rest : List ℕ) → numbers_in (length xs) (flat_map (little_
 numbers_fit [] rest h j = omega arith
 numbers_fit (x ∷ xs) rest h zero = let first : little_number 4 (little_bytes 4 x ++ (flat_map (little_bytes 4) xs ++ rest)) ≡ x = cc in fits_four x (flat_map (little_bytes 4) xs ++ rest) first
 numbers_fit (x ∷ xs) rest h (suc j) = let others : numbers_in (length xs) (flat_map (little_bytes 4) xs ++ rest) ≡ xs = cc in numbers_fit xs rest others j
-
--- what stands behind the small blocks
-abbrev large_and_target : Inode → List ℕ
-large_and_target x = little_bytes 4 x.large ++ zeros 28 ++ x.target
-
-from_small : (xs ls zs ts : List ℕ) → ((xs ++ ls) ++ zs) ++ ts ≡ xs ++ ((ls ++ zs) ++ ts)
-from_small xs ls zs ts = rw (append_assoc xs ls zs, append_assoc xs (ls ++ zs) ts) refl
-
-behind_birth : (x : Inode) → drop 32 (inode_bytes x) ≡ flat_map (little_bytes 4) x.small ++ large_and_target x
-behind_birth x = from_small (flat_map (little_bytes 4) x.small) (little_bytes 4 x.large) (zeros 28) x.target
-
-behind_small : (x : Inode) → length x.small ≡ 16 → drop 64 (drop 32 (inode_bytes x)) ≡ large_and_target x
-behind_small x h = ap (drop 64) (behind_birth x) ∙ drop_at (flat_map (little_bytes 4) x.small) (large_and_target x) 64 (length_numbers x.small ∙ ap (λ (n : ℕ). 4 * n) h)
 
 pub decoded : (block : List ℕ) (x : Inode) → inode_in block ≡ Some x → length block ≡ 512 → IsDecoded x
 decoded block x h whole =

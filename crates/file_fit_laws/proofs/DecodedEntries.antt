@@ -10,8 +10,8 @@ use Rattle.sector_definitions.specs.Regions.{sector_of}
 use Rattle.sector_definitions.specs.Inodes.{inode_in}
 use Rattle.sector_definitions.specs.Directories.{name_in, is_free_place, is_used_place, entry_fits, directory_in}
 use Rattle.sector_definitions.proofs.DirectoryLaws.{IsStorableEntry, AreStorable, directory_read}
-use Rattle.standing_laws.proofs.Shapes.{and_l, and_r}
-use Rattle.disk_definitions.specs.Store.{StoredNode, StoredEntry, stored_node, stored_entry, entry_in, directory_at}
+use Rattle.sector_definitions.proofs.Readings.{and_l, and_r}
+use Rattle.disk_definitions.specs.Store.{StoredNode, StoredEntry, stored_node, stored_entry, entry_in, directory_at, entered}
 use Rattle.record_laws.specs.Fit.{IsFitNode, IsFitEntry}
 use Rattle.record_laws.proofs.Grammar.{directory_storable}
 use Rattle.file_fit_laws.specs.FitDisks.{DisksAreFit}
@@ -23,10 +23,7 @@ one_fits [] p e g all fit = absurd (cc)
 one_fits (d ∷ ds) zero e g all fit = let s : d ≡ e = cc in subst (λ z. IsStorableEntry z × (entry_fits z ≡ true)) s (all.0, (and_parts (entry_fits d) (list_all entry_fits ds) fit).0)
 one_fits (d ∷ ds) (suc p) e g all fit = one_fits ds p e g all.1 (and_parts (entry_fits d) (list_all entry_fits ds) fit).1
 
-abbrev kept : DirEntry → StoredEntry
-kept e = record { name = name_in e; inode = e.inode; kind = e.kind }
-
-used_fits : (e : DirEntry) → IsStorableEntry e → is_used_place e ≡ true → IsFitEntry (kept e)
+used_fits : (e : DirEntry) → IsStorableEntry e → is_used_place e ≡ true → IsFitEntry (entered e)
 used_fits e storable h =
     let some : nat_le 1 e.kind ≡ true = search (and_l, and_r) depth 12 in
     let kind : nat_le e.kind 3 ≡ true = search (and_l, and_r) depth 12 in
@@ -37,10 +34,10 @@ used_fits e storable h =
 entry_kept : (e : DirEntry) (y : StoredEntry) → IsStorableEntry e → entry_fits e ≡ true → stored_entry (Some e) ≡ Some y → IsFitEntry y
 entry_kept e y storable fit h = go (is_free_place e) refl h
   where
-    go : (b : Bool) → is_free_place e ≡ b → cond b None (Some (kept e)) ≡ Some y → IsFitEntry y
+    go : (b : Bool) → is_free_place e ≡ b → cond b None (Some (entered e)) ≡ Some y → IsFitEntry y
     go true f h = absurd (cc)
     go false f h =
-        let s : kept e ≡ y = cc in
+        let s : entered e ≡ y = cc in
         subst IsFitEntry s (⊎_elim (λ i. absurd (both_ways (is_free_place e) f i)) (λ i. used_fits e storable i) (or_cases (is_free_place e) (is_used_place e) fit))
 
 placed_fit : (block : List ℕ) (p : ℕ) (y : StoredEntry) → entry_in (directory_in block) p ≡ Some y → IsFitEntry y

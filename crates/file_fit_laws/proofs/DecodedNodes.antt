@@ -1,27 +1,19 @@
 -- An inode in use that is read from a sector may stand there again.
-use Rattle.std.proofs.Common.{◌≡◌, ℕ, zero, suc, ◌-◌, ◌≤◌, ⊎_elim, Bool, true, false, ◌||◌, ◌==◌, nat_le, nat_eq, cond, Option, Some, None, List, [], ◌∷◌, ◌++◌, length, take, drop, map, slice_index, refl, sym, ap, ◌∙◌, subst, arith, eqb-true, leb-true, length-drop}
+use Rattle.std.proofs.Common.{◌≡◌, ℕ, zero, suc, ◌-◌, ◌≤◌, ⊎_elim, Bool, true, false, ◌||◌, ◌==◌, nat_le, nat_eq, cond, Option, Some, None, List, [], ◌∷◌, ◌++◌, length, take, drop, slice_index, refl, sym, ap, ◌∙◌, subst, arith, eqb-true, leb-true, length-drop}
 use Rattle.std.proofs.lemmas.Bool.{and_parts, or_cases, both_ways}
 use Rattle.std.proofs.lemmas.List.{take-append-drop, length-take-le}
-use Rattle.tree_definitions.specs.Numbers.{below}
 use Rattle.sector_definitions.specs.declared.inode.Inode.{Inode}
 use Rattle.sector_definitions.specs.Bytes.{zeros, are_zero}
 use Rattle.sector_definitions.specs.Inodes.{inode_in, inode_fits, is_free_inode, is_file_inode, is_directory_inode, is_link_inode}
-use Rattle.sector_definitions.proofs.InodeLaws.{same_fields}
-use Rattle.standing_laws.proofs.Shapes.{and_l, and_r, in_block}
-use Rattle.disk_definitions.specs.Store.{StoredNode, stored_node}
+use Rattle.sector_definitions.proofs.InodeLaws.{same_fields, inode_read}
+use Rattle.sector_definitions.proofs.Readings.{and_l, and_r}
+use Rattle.sector_definitions.proofs.Lists.{all_numbers}
+use Rattle.disk_definitions.specs.Store.{StoredNode, stored_node, stored}
 use Rattle.plan_definitions.specs.Written.{padded, inode_with}
 use Rattle.record_laws.specs.Fit.{IsFitNode}
-use Rattle.file_plan_laws.proofs.Bytes.{values, values_below}
-use Rattle.file_plan_laws.proofs.Among.{listed}
 use Rattle.file_fit_laws.proofs.Decoded.{IsDecoded, decoded}
 
-abbrev stored : Inode → StoredNode
-stored x = record { kind = x.kind; links = x.links; size = x.size; birth = x.birth; blocks = x.blocks; small = slice_index x.small; large = x.large; target = cond (x.kind == 3) (take x.size x.target) [] }
-
 -- ---- small blocks and targets
-
-small_again : (xs : List ℕ) (n : ℕ) → length xs ≡ n → map (slice_index xs) (below n) ≡ xs
-small_again xs n l = values_below (slice_index xs) n ∙ ap (values (slice_index xs) 0) (sym l) ∙ sym (listed xs)
 
 small_past : (xs : List ℕ) (j : ℕ) → length xs ≤ j → slice_index xs j ≡ 0
 small_past [] j l = refl
@@ -91,7 +83,7 @@ has_target x l h free = ⊎_elim
 fit_again : (x : Inode) → IsDecoded x → inode_fits x ≡ true → is_free_inode x ≡ false → IsFitNode (stored x)
 fit_again x d h free =
     let t = has_target x d.target_len h free in
-    let same : inode_with x.version (Some (stored x)) ≡ x = same_fields (inode_with x.version (Some (stored x))) x refl refl refl refl refl refl (small_again x.small 16 d.small_len) refl t.again in
+    let same : inode_with x.version (Some (stored x)) ≡ x = same_fields (inode_with x.version (Some (stored x))) x refl refl refl refl refl refl (all_numbers x.small 16 d.small_len) refl t.again in
     record {
       fits = ap inode_fits same ∙ h;
       used = t.some;
@@ -107,7 +99,7 @@ stored_fit block y whole h = go (inode_in block) refl h
   where
     used : (x : Inode) → inode_in block ≡ Some x → (b : Bool) → is_free_inode x ≡ b → cond b None (Some (stored x)) ≡ Some y → IsFitNode y
     used x e true f h = absurd (cc)
-    used x e false f h = let s : stored x ≡ y = cc in subst IsFitNode s (fit_again x (decoded block x e whole) (in_block block x e) f)
+    used x e false f h = let s : stored x ≡ y = cc in subst IsFitNode s (fit_again x (decoded block x e whole) (inode_read block x e).1 f)
 
     go : (o : Option Inode) → inode_in block ≡ o → stored_node o ≡ Some y → IsFitNode y
     go None e h = absurd (cc)

@@ -1,20 +1,18 @@
 -- The inode of a file with another size may stand in its sector.
-use Rattle.std.proofs.Common.{◌≡◌, ℕ, zero, suc, ◌-◌, ◌^◌, ◌<◌, ◌≤◌, ⊎_elim, Bool, true, false, ◌||◌, ◌==◌, nat_lt, nat_le, if◌then◌else◌, Option, Some, List, [], ◌∷◌, length, drop, map, slice_index, refl, ◌∙◌, arith, eqb-true, leb-true}
+use Rattle.std.proofs.Common.{◌≡◌, ℕ, ◌-◌, ◌^◌, ◌<◌, ◌≤◌, ⊎_elim, Bool, true, false, ◌||◌, ◌==◌, nat_lt, nat_le, if◌then◌else◌, Option, Some, List, slice_index, refl, ◌∙◌, arith, eqb-true, leb-true}
 use Rattle.std.proofs.lemmas.Bool.{and_from, or_cases}
 use Rattle.std.proofs.lemmas.Bool.Decides.{nat_tests}
-use Rattle.tree_definitions.specs.Numbers.{below}
 use Rattle.tree_definitions.specs.Tree.{small_blocks_of}
 use Rattle.sector_definitions.specs.declared.inode.Inode.{Inode}
 use Rattle.sector_definitions.specs.Bytes.{are_zero}
 use Rattle.sector_definitions.specs.Inodes.{inode_fits, ends_blocks, is_free_inode, is_file_inode, is_directory_inode, is_link_inode}
-use Rattle.standing_laws.proofs.Shapes.{and_l, and_r}
-use Rattle.cells.proofs.Basics.{of_le}
-use Rattle.store_changes.proofs.Puts.{of_ge}
+use Rattle.cells.proofs.Basics.{of_le, of_ge}
+use Rattle.sector_definitions.proofs.Readings.{and_l, and_r}
+use Rattle.sector_definitions.proofs.Lists.{ends_at}
 use Rattle.disk_definitions.specs.Store.{StoredNode}
 use Rattle.plan_definitions.specs.Written.{padded, inode_with}
 use Rattle.plan_definitions.specs.FilePlans.{large_after, resized}
 use Rattle.record_laws.specs.Fit.{IsFitNode}
-use Rattle.record_laws.proofs.InodeEdits.{length_listed, listed_at}
 
 -- ---- what fits of a file
 
@@ -64,15 +62,6 @@ fit_file x fit k =
 
 -- ---- the inode with another size
 
-zero_from : (xs : List ℕ) (n : ℕ) → ((j : ℕ) → n ≤ j → j < length xs → slice_index xs j ≡ 0) → are_zero (drop n xs) ≡ true
-zero_from [] zero z = refl
-zero_from [] (suc n) z = refl
-zero_from (x ∷ xs) zero z = and_from (x == 0) (are_zero xs) (let e : x ≡ 0 = z 0 (omega arith) (omega arith) in rw e refl) (zero_from xs zero (λ j l m. z (suc j) (omega arith) (omega arith)))
-zero_from (x ∷ xs) (suc n) z = zero_from xs n (λ j l m. z (suc j) (omega arith) (omega arith))
-
-ends : (f : ℕ → ℕ) (n : ℕ) → ((j : ℕ) → n ≤ j → f j ≡ 0) → are_zero (drop n (map f (below 16))) ≡ true
-ends f n z = zero_from (map f (below 16)) n (λ j l m. let e : length (map f (below 16)) ≡ 16 = length_listed f 16 in listed_at f 16 j (omega arith) ∙ z j l)
-
 file_fits : (y : Inode) → y.kind ≡ 1 → 1 ≤ y.links → y.links ≤ 1000 → y.size ≤ 1114112 → y.blocks ≡ small_blocks_of y.size → ends_blocks y ≡ true → goes_by_size y.size y.large ≡ true → are_zero y.target ≡ true → inode_fits y ≡ true
 file_fits y kind some most size blocks last large target =
     among (is_free_inode y) (is_file_inode y) (is_directory_inode y) (is_link_inode y)
@@ -101,7 +90,7 @@ module _ (x : StoredNode) (size : ℕ) (picks : List ℕ) (o : Option ℕ) where
   resized_fits fit k most new large by_size =
       let f = fit_file x fit k in
       record {
-        fits = file_fits (inode_with 0 (Some (resized x size picks o))) k f.some f.most most refl (ends (resized x size picks o).small (small_blocks_of size) small_past) by_size f.target;
+        fits = file_fits (inode_with 0 (Some (resized x size picks o))) k f.some f.most most refl (ends_at (resized x size picks o).small (small_blocks_of size) small_past) by_size f.target;
         used = fit.used;
         birth = fit.birth;
         small = small_most fit.small new;

@@ -4,10 +4,10 @@ use Rattle.std.proofs.lemmas.Bool.{cases_lt}
 use Rattle.tree_definitions.specs.declared.cells.Cell.{Cell}
 use Rattle.tree_definitions.specs.declared.node.Node.TheVariants.{File}
 use Rattle.tree_definitions.specs.Tree.{FileTree, node_at, small_blocks_of}
+use Rattle.cells.proofs.Basics.{of_lt}
 use Rattle.disk_definitions.specs.Store.{Store, StoredNode}
 use Rattle.disk_definitions.specs.Store.Use.{Fresh, Bytes}
 use Rattle.disk_definitions.specs.Naming.{Naming, has_large, use_for}
-use Rattle.store_changes.proofs.Puts.{of_lt}
 use Rattle.plan_definitions.specs.Meets.{IsOfTree}
 use Rattle.plan_laws.proofs.Cases.{inode_by}
 

@@ -3,12 +3,13 @@ use Rattle.std.proofs.Common.{ℕ, zero, suc, ◌≡◌, ◌<◌, ◌≤◌, ◌
 use Rattle.std.proofs.lemmas.Bool.Decides.{nat_tests}
 use Rattle.std.proofs.lemmas.List.{get_or_past}
 use Rattle.tree_definitions.specs.Tree.{small_blocks_of}
+use Rattle.cells.proofs.Basics.{of_lt}
 use Rattle.disk_definitions.specs.Store.{Store, StoredNode}
 use Rattle.disk_definitions.specs.Store.Use.{Bytes}
 use Rattle.disk_definitions.specs.Standing.{IsMetadata}
 use Rattle.store_changes.specs.Edits.{Edit, edited_all}
 use Rattle.store_changes.specs.Edits.Edit.{SetUse, SetLarge, SetBytes, SetLargeBytes}
-use Rattle.store_changes.proofs.Puts.{of_lt, edited_append}
+use Rattle.store_changes.proofs.Puts.{edited_append}
 use Rattle.plan_definitions.specs.Ask.{Ask, Got}
 use Rattle.plan_definitions.specs.Plans.{Hand, Plan}
 use Rattle.plan_definitions.specs.Plans.Plan.{Finishes}

@@ -89,11 +89,11 @@ module _ (h : Hand) (s : Store) (tree : FileTree) (n : Naming) (of : IsOfTree s 
       go false false e = sized_fits (grind (arith, nat_tests)) (nat_lt 65536 (end_of w) && x.large == 0) refl
 
 pub write_fits : WriteFits
-write_fits path off bytes h s tree n birth of hand fit new small allowed =
+write_fits path off bytes h s tree n birth of hand fit small allowed =
     let w : Writing = record { off = off; len = length bytes; byte = λ j. slice_index bytes (j - off) } in
     file_fits h s tree n of fit (writing h w) (λ i touched x file. writing_fits h s tree n of hand w i touched x file) path
 
 pub fill_fits : FillFits
-fill_fits path off len byte h s tree n birth of hand fit new small allowed =
+fill_fits path off len byte h s tree n birth of hand fit small allowed =
     let w : Writing = record { off = off; len = len; byte = λ j. byte } in
     file_fits h s tree n of fit (writing h w) (λ i touched x file. writing_fits h s tree n of hand w i touched x file) path

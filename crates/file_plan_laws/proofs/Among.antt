@@ -1,6 +1,6 @@
 -- A number is among the values of some numbers.
 use Rattle.std.proofs.Common.{ℕ, zero, suc, ◌≡◌, ◌<◌, ◌+◌, ◌==◌, ◌||◌, Bool, true, false, nat_eq, List, [], ◌∷◌, length, slice_index, refl, sym, ◌∙◌, ap, arith, eq-eqb}
-use Rattle.store_changes.proofs.Puts.{eq_of}
+use Rattle.cells.proofs.Basics.{eq_of}
 use Rattle.file_plan_laws.proofs.Bytes.{values, values_same}
 
 abbrev pub is_among : ℕ → List ℕ → Bool

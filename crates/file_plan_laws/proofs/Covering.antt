@@ -33,7 +33,7 @@ has_head x xs = (0, omega arith, refl)
 pub has_more : {X : Type 0} (x y : X) (xs : List X) → Contains xs y → Contains (x ∷ xs) y
 has_more x y xs h = (suc h.0, omega (arith, h.1), h.2)
 
-not_in_none : {X : Type 0} (y : X) → Contains [] y → ⊥
+pub not_in_none : {X : Type 0} (y : X) → Contains [] y → ⊥
 not_in_none y h = let l : h.0 < 0 = h.1 in omega arith
 
 pub has_cases : {X : Type 0} (x y : X) (xs : List X) → Contains (x ∷ xs) y → (x ≡ y) ⊎ Contains xs y

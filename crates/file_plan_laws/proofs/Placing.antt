@@ -10,16 +10,17 @@ use Rattle.tree_definitions.specs.declared.cells.Cell.TheVariants as cell
 use Rattle.tree_definitions.specs.declared.node.Node.TheVariants.{File}
 use Rattle.tree_definitions.specs.Tree.{FileTree, node_at, with_node, small_blocks_of}
 use Rattle.tree_definitions.specs.Apply.{says, overwritten}
+use Rattle.cells.proofs.Basics.{eq_of, of_lt, of_ge}
 use Rattle.tree_laws.specs.WellFormed.{IsWellFormed}
-use Rattle.disk_definitions.specs.Store.{Store, StoredNode, Use}
+use Rattle.disk_definitions.specs.Store.{Store, StoredNode, Use, is_unused}
 use Rattle.disk_definitions.specs.Store.Use.{Fresh, Bytes}
 use Rattle.disk_definitions.specs.Naming.{Naming, inode_of, Allows}
 use Rattle.store_changes.specs.Edits.{Edit, edited_all}
 use Rattle.store_changes.specs.Edits.Edit.{SetUse, SetLarge}
 use Rattle.store_changes.specs.Namings.{is_owned_by, is_of}
-use Rattle.store_changes.specs.Laws.{FilesFit, is_free}
+use Rattle.store_changes.specs.Laws.{FilesFit}
 use Rattle.store_changes.specs.Resizing.{index_of, is_large_of, byte_at, named_resized, HasBlocks, IsResized}
-use Rattle.store_changes.proofs.Puts.{of_lt, of_ge, eq_of, edited_append}
+use Rattle.store_changes.proofs.Puts.{edited_append}
 use Rattle.store_changes.proofs.Indices.{index_hit}
 use Rattle.plan_definitions.specs.Ask.{Got, run}
 use Rattle.plan_definitions.specs.Plans.{Hand, Plan}
@@ -296,7 +297,7 @@ module _ (h : Hand) (s : Store) (tree : FileTree) (n : Naming) (of : IsOfTree s 
     pub blocks_within : AreWithin tree.segments new block large
     blocks_within = record {
       smalls = λ j l. ⊎_elim
-          (λ i. in_range s tree n of (block j) (ap is_free (ap s.use_of (own_block j i) ∙ mine_used s (node_at tree) n of.pictures b links large old new block is has (n.block b j) j (mine s (node_at tree) n of.pictures b links large old new block is has (n.block b j) j i refl))))
+          (λ i. in_range s tree n of (block j) (ap is_unused (ap s.use_of (own_block j i) ∙ mine_used s (node_at tree) n of.pictures b links large old new block is has (n.block b j) j (mine s (node_at tree) n of.pictures b links large old new block is has (n.block b j) j i refl))))
           (λ i. subst (λ k. k < 1024 * tree.segments) (sym (pick_block j i)) (picked.within (j - had) (omega arith)))
           (cases_lt j had);
       larges = large_within o takes;

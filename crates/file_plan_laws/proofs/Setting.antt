@@ -1,7 +1,8 @@
 -- The store after some blocks get one use, some large blocks are taken or given back, and an inode gets another size.
 use Rattle.std.proofs.Common.{ℕ, ◌≡◌, ◌==◌, ◌||◌, Bool, true, false, nat_eq, if◌then◌else◌, Some, List, [], ◌∷◌, ◌++◌, map, refl, sym, ◌∙◌, ap, subst}
+use Rattle.cells.specs.Changes.{put}
 use Rattle.disk_definitions.specs.Store.{Store, StoredNode, Use}
-use Rattle.store_changes.specs.Edits.{Edit, put, edited, edited_all}
+use Rattle.store_changes.specs.Edits.{Edit, edited, edited_all}
 use Rattle.store_changes.specs.Edits.Edit.{SetInode, SetUse, SetLarge}
 use Rattle.store_changes.proofs.Puts.{edited_append}
 use Rattle.plan_definitions.specs.FilePlans.{size_edits}

@@ -5,13 +5,13 @@ use Rattle.std.proofs.lemmas.Bool.Decides.{nat_tests}
 use Rattle.tree_definitions.specs.declared.cells.Cell.{Cell}
 use Rattle.tree_definitions.specs.declared.node.Node.TheVariants.{File}
 use Rattle.tree_definitions.specs.Tree.{small_blocks_of}
+use Rattle.cells.specs.Changes.{put}
+use Rattle.cells.proofs.Basics.{eq_of, at_put}
 use Rattle.disk_definitions.specs.Store.{Store, StoredNode}
 use Rattle.disk_definitions.specs.Store.Use.{Bytes}
 use Rattle.disk_definitions.specs.Naming.{Naming, Nodes, Pictures, first_blocks, has_large, blocks_of, inode_of, use_for}
-use Rattle.store_changes.specs.Edits.{put}
 use Rattle.store_changes.specs.Namings.{is_of}
 use Rattle.store_changes.specs.Resizing.{index_of, HasBlocks}
-use Rattle.store_changes.proofs.Puts.{at_put, eq_of}
 use Rattle.store_changes.proofs.Kept.{inode_is}
 use Rattle.store_changes.proofs.Indices.{index_hit, own_index}
 use Rattle.plan_definitions.specs.FilePlans.{small_after, large_after, resized}

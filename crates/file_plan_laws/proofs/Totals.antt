@@ -4,12 +4,11 @@ use Rattle.std.specs.Option.{option_map}
 use Rattle.tree_definitions.specs.declared.node.Node.{Node}
 use Rattle.tree_definitions.specs.declared.node.Node.TheVariants.{Dir, File, Link}
 use Rattle.tree_definitions.specs.Tree.{FileTree, node_at, count_of, file_blocks, large_blocks}
-use Rattle.disk_definitions.specs.Store.{Store, Use}
+use Rattle.disk_definitions.specs.Store.{Store, Use, is_unused}
 use Rattle.disk_definitions.specs.Store.Use.{Fresh, Bytes, Empty, Entries}
 use Rattle.disk_definitions.specs.Naming.{Naming, blocks_of, has_large, use_by, use_for}
 use Rattle.pick_definitions.specs.Least.{count, one_if}
 use Rattle.pick_definitions.proofs.Counts.{count_zero, count_more}
-use Rattle.store_changes.specs.Laws.{is_free}
 use Rattle.store_changes.proofs.Free.{a_some}
 use Rattle.plan_definitions.specs.Meets.{IsOfTree, is_directory_use}
 use Rattle.plan_laws.proofs.Blocks.{IsBlockOf, count_blocks}
@@ -96,7 +95,7 @@ module _ (s : Store) (tree : FileTree) (n : Naming) (of : IsOfTree s tree n) whe
   pub files_counted : count holds_bytes (1024 * tree.segments) ≡ count_of file_blocks tree
   files_counted = count_blocks n.block file_blocks n.owner (1024 * tree.segments) tree.nodes holds_bytes of.well_formed.births
       (record {
-        into = λ b j x i l. (in_range s tree n of (n.block b j) (ap is_free (bytes_used b j x i l)), ap is_bytes (bytes_used b j x i l));
+        into = λ b j x i l. (in_range s tree n of (n.block b j) (ap is_unused (bytes_used b j x i l)), ap is_bytes (bytes_used b j x i l));
         owned = bytes_owned;
         onto = λ q l e. bytes_at q e (n.owner q) refl;
       })

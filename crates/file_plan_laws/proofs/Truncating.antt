@@ -10,6 +10,7 @@ use Rattle.tree_definitions.specs.declared.cells.Cell.{Cell}
 use Rattle.tree_definitions.specs.declared.node.Node.TheVariants.{File}
 use Rattle.tree_definitions.specs.Tree.{FileTree, node_at, with_node, small_blocks_of}
 use Rattle.tree_definitions.specs.Apply.{says, truncated}
+use Rattle.cells.proofs.Basics.{eq_of, ne_of, of_lt}
 use Rattle.tree_laws.specs.WellFormed.{IsWellFormed}
 use Rattle.tree_laws.proofs.StepsLaws.{apply_keeps}
 use Rattle.disk_definitions.specs.Store.{Store, StoredNode, Use}
@@ -19,7 +20,6 @@ use Rattle.store_changes.specs.Edits.{Edit, edited_all}
 use Rattle.store_changes.specs.Namings.{is_owned_by}
 use Rattle.store_changes.specs.Laws.{FilesFit}
 use Rattle.store_changes.specs.Resizing.{index_of, named_resized, HasBlocks, IsResized}
-use Rattle.store_changes.proofs.Puts.{of_lt, eq_of, ne_of}
 use Rattle.store_changes.proofs.Resize.{own_blocks_do}
 use Rattle.plan_definitions.specs.Ask.{Got, run}
 use Rattle.plan_definitions.specs.NamePlans.{finish_over}

@@ -28,11 +28,11 @@ use Rattle.file_plan_laws.proofs.Taking.{ArePicked, large_some, large_none, dire
 use Rattle.file_plan_laws.proofs.Placing.{new_size, TakesLarge, writing_in_meets}
 
 -- whether a large block is needed, as the plan and as the tree has it
-plan_needs : (had ends : Bool) (own : ℕ) → (ends && ((if had then own + 1 else 0) == 0)) ≡ (ends && not had)
+pub plan_needs : (had ends : Bool) (own : ℕ) → (ends && ((if had then own + 1 else 0) == 0)) ≡ (ends && not had)
 plan_needs true ends own = let e : nat_eq (own + 1) 0 ≡ false = grind (arith, nat_tests) in ap (λ v. ends && v) e
 plan_needs false ends own = refl
 
-tree_needs : (old end : ℕ) → nat_lt (large_blocks_of old) (large_blocks_of (max old end)) ≡ (nat_lt 65536 end && not (nat_lt 65536 old))
+pub tree_needs : (old end : ℕ) → nat_lt (large_blocks_of old) (large_blocks_of (max old end)) ≡ (nat_lt 65536 end && not (nat_lt 65536 old))
 tree_needs old end = go (nat_lt 65536 old) refl (nat_lt 65536 end) refl (nat_lt 65536 (max old end)) refl
   where
     go : (a : Bool) → nat_lt 65536 old ≡ a → (b : Bool) → nat_lt 65536 end ≡ b → (c : Bool) → nat_lt 65536 (max old end) ≡ c → nat_lt (if a then 1 else 0) (if c then 1 else 0) ≡ (b && not a)

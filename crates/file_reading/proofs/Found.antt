@@ -3,7 +3,7 @@ use Rattle.std.proofs.Common.{◌≡◌, ◌==◌, ℕ, cond, Option, Some, None
 use Rattle.std.proofs.Math.Path.{fun_ext}
 use Rattle.frang_base.specs.declared.reply.Reply.TheVariants as reply
 use Rattle.sector_definitions.specs.declared.inode.Inode.{Inode}
-use Rattle.disk_definitions.specs.Store.{StoredNode}
+use Rattle.disk_definitions.specs.Store.{StoredNode, stored}
 use Rattle.pick_definitions.specs.Held.{Segments}
 use Rattle.plan_definitions.specs.Ask.{Ask, ReadInode}
 use Rattle.plan_definitions.specs.Plans.{Plan, refused, shared_nodes}
@@ -11,7 +11,6 @@ use Rattle.plan_definitions.specs.LookPlans.{with_inode}
 use Rattle.plan_definitions.specs.FilePlans.{at_file, plan_of_file, with_file}
 use Rattle.plan_definitions.specs.Written.{Cached}
 use Rattle.dir_lookup.specs.Reading.{reading}
-use Rattle.dir_lookup.specs.Stored.{stored}
 use Rattle.plan_steps.specs.declared.stop.Stop.{Stop}
 use Rattle.plan_steps.specs.declared.stop.Stop.TheVariants as stop
 use Rattle.plan_steps.specs.declared.target.Target.{Target as Found}

@@ -1,9 +1,8 @@
 -- The sectors of a file, one after another.
-use Rattle.std.proofs.Common.{◌≡◌, ℕ, zero, suc, ◌+◌, ◌-◌, ◌/◌, ◌%◌, ◌<◌, ◌≤◌, Bool, true, false, cond, nat_lt, List, [], ◌∷◌, ◌++◌, length, map, take, slice_index, refl, sym, ap, ◌∙◌, arith, append_assoc}
+use Rattle.std.proofs.Common.{◌≡◌, ℕ, suc, ◌+◌, ◌-◌, ◌/◌, ◌%◌, ◌<◌, ◌≤◌, Bool, true, false, cond, nat_lt, List, [], ◌++◌, length, map, slice_index, sym, ap, ◌∙◌, arith, append_assoc}
 use Rattle.std.proofs.Math.Path.{fun_ext}
-use Rattle.std.proofs.Math.Seq.{take-suc}
-use Rattle.std.proofs.lemmas.List.{map-append, take_all}
 use Rattle.tree_definitions.specs.Numbers.{below}
+use Rattle.sector_definitions.proofs.Lists.{all_numbers}
 use Rattle.disk_definitions.specs.Store.{StoredNode}
 use Rattle.pick_definitions.specs.Held.{Segments}
 use Rattle.plan_definitions.specs.Ask.{Ask, Got, ReadBytes, ReadLarge}
@@ -22,15 +21,6 @@ sector_goes_on x t next cached held r e = go (nat_lt t 128) e
         → then_read r (λ bytes. reading (next bytes) cached held) ≡ reading (cond b (ReadBytes (x.small (t / 8)) (t % 8) next) (ReadLarge (x.large - 1) (t - 128) next)) cached held
     go true e = goes_on (ReadBytes (x.small (t / 8)) (t % 8) Got) next cached held r e
     go false e = goes_on (ReadLarge (x.large - 1) (t - 128) Got) next cached held r e
-
--- the bytes of a block by their places are the block
-first_bytes : (block : List ℕ) (n : ℕ) → n ≤ length block → map (slice_index block) (below n) ≡ take n block
-first_bytes block zero l = refl
-first_bytes block (suc n) l =
-    map-append (slice_index block) (below n) (n ∷ []) ∙ ap (λ bytes. bytes ++ slice_index block n ∷ []) (first_bytes block n (omega arith)) ∙ sym (take-suc block n 0 (omega arith))
-
-pub all_bytes : (block : List ℕ) (n : ℕ) → length block ≡ n → map (slice_index block) (below n) ≡ block
-all_bytes block n l = first_bytes block n (omega arith) ∙ take_all n block (omega arith)
 
 module _ (x : StoredNode) (cached : Cached) (held : Segments) (next : List ℕ → Ask Plan) (want : Read Plan) (t end : ℕ) (before : List ℕ) where
   -- what is done with the sector
@@ -52,7 +42,7 @@ module _ (x : StoredNode) (cached : Cached) (held : Segments) (next : List ℕ �
   unfolding after
   sector_more block all l long e a w =
       let same : (λ (more : List ℕ). next (all ++ more)) ≡ (λ more. next (before ++ (map (slice_index block) (below 512) ++ more))) =
-      fun_ext (λ more. ap (λ all. next (all ++ more)) a ∙ ap next (append_assoc before block more) ∙ ap (λ bytes. next (before ++ (bytes ++ more))) (sym (all_bytes block 512 long))) in
+      fun_ext (λ more. ap (λ all. next (all ++ more)) a ∙ ap next (append_assoc before block more) ∙ ap (λ bytes. next (before ++ (bytes ++ more))) (sym (all_numbers block 512 long))) in
       ap (λ next. reading (read_sectors x (t + 1) (end - (t + 1)) next) cached held) same ∙ opened (Gives (slice_index block)) l e ∙ w
 
   pub sectors_end : end ≤ t → reading (read_sectors x t (end - t) (λ more. next (before ++ more))) cached held ≡ want → want ≡ reading (next (before ++ [])) cached held

@@ -4,14 +4,13 @@ use Rattle.tree_definitions.specs.Tree.{small_blocks_of}
 use Rattle.sector_definitions.specs.declared.inode.Inode.{Inode}
 use Rattle.sector_definitions.specs.declared.region.Region.{Region}
 use Rattle.sector_definitions.specs.declared.region.Region.TheVariants as region
-use Rattle.disk_definitions.specs.Store.{StoredNode}
+use Rattle.disk_definitions.specs.Store.{StoredNode, stored}
 use Rattle.pick_definitions.specs.Held.{Segments}
 use Rattle.plan_definitions.specs.Ask.{Ask}
 use Rattle.plan_definitions.specs.Plans.{Plan, refuse}
 use Rattle.plan_definitions.specs.FilePlans.{plan_of_file, read_sectors}
 use Rattle.plan_definitions.specs.Written.{Cached}
 use Rattle.dir_lookup.specs.Reading.{Lacks, Gives, reading}
-use Rattle.dir_lookup.specs.Stored.{stored}
 use Rattle.plan_steps.specs.declared.stop.Stop.{Stop}
 use Rattle.plan_steps.specs.declared.stop.Stop.TheVariants as stop
 use Rattle.file_reading.specs.declared.file.File.{File}

@@ -2,10 +2,10 @@
 ghost use Rattle.std.specs.Prelude.{◌≡◌, ◌<◌, IfOk, slice_index};
 ghost use Rattle.change_definitions.specs.SectorMaps.{value_at};
 ghost use Rattle.pick_definitions.specs.Held.{Segments};
+ghost use Rattle.disk_definitions.specs.Store.{stored};
 ghost use Rattle.plan_definitions.specs.Ask.{Got};
 ghost use Rattle.plan_definitions.specs.FilePlans.{read_sector};
 ghost use Rattle.dir_lookup.specs.Reading.{Reads, read_of, read_or_lacks};
-ghost use Rattle.dir_lookup.specs.Stored.{stored};
 ghost use Rattle.file_reading.specs.Files.{FindsFile, IsFile, place_of};
 
 use dir_lookup::Need;

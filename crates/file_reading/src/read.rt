@@ -1,9 +1,9 @@
 // The plan of a read.
 ghost use Rattle.std.specs.Prelude.{◌≡◌, ◌≤◌, ◌<◌, ◌+◌, ◌-◌, ◌*◌, ◌%◌, ℕ, List, length, take, drop, IfOk};
 ghost use Rattle.pick_definitions.specs.Held.{Segments};
+ghost use Rattle.disk_definitions.specs.Store.{stored};
 ghost use Rattle.plan_definitions.specs.FilePlans.{plan_read, sectors_met, showing};
 ghost use Rattle.dir_lookup.specs.Reading.{reading};
-ghost use Rattle.dir_lookup.specs.Stored.{stored};
 ghost use Rattle.plan_steps.specs.Ends.{Says};
 ghost use Rattle.file_reading.specs.Files.{ReadsSectors};
 

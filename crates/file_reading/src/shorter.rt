@@ -1,8 +1,8 @@
 // What a file keeps and gives up when it gets shorter.
 ghost use Rattle.std.specs.Prelude.{◌≡◌, ◌≤◌, ◌<◌, ◌*◌, ℕ, nat_lt, if◌then◌else◌, slice_index, [], None};
 ghost use Rattle.tree_definitions.specs.Tree.{small_blocks_of};
+ghost use Rattle.disk_definitions.specs.Store.{stored};
 ghost use Rattle.plan_definitions.specs.FilePlans.{blocks_between, large_after, large_cut, large_segment, resized};
-ghost use Rattle.dir_lookup.specs.Stored.{stored};
 ghost use Rattle.file_reading.specs.Files.{IsFile};
 
 use sector_definitions::Inode;

@@ -1,11 +1,10 @@
 // The plan of a truncate.
 ghost use Rattle.std.specs.Prelude.{◌≡◌, ◌≤◌, ◌++◌, ℕ, List, IfOk, OnOk, map, false, [], None};
 ghost use Rattle.store_changes.specs.Edits.{SetLarge, SetUse};
-ghost use Rattle.disk_definitions.specs.Store.{Fresh};
+ghost use Rattle.disk_definitions.specs.Store.{Fresh, stored};
 ghost use Rattle.plan_definitions.specs.FilePlans.{cutting, large_segment, plan_truncated, resized, size_edits};
 ghost use Rattle.plan_definitions.specs.Written.{Cached};
 ghost use Rattle.dir_lookup.specs.Reading.{reading};
-ghost use Rattle.dir_lookup.specs.Stored.{stored};
 ghost use Rattle.plan_steps.specs.Edits.{edits_of};
 ghost use Rattle.plan_steps.specs.Ends.{Comes};
 ghost use Rattle.file_reading.specs.Cuts.{cut_edits};

@@ -1,8 +1,8 @@
 -- The plan by its choices: what is refused, and what is picked.
-use Rattle.std.proofs.Common.{◌≡◌, ◌==◌, ◌&&◌, ◌<◌, ◌≤◌, ◌-◌, ℕ, Bool, true, false, cond, nat_lt, max, Option, None, List, [], refl, sym, ap, ◌∙◌, arith, eq-eqb, ne_eqb, lt-ltb}
-use Rattle.std.proofs.lemmas.Bool.Decides.{nat_tests}
+use Rattle.std.proofs.Common.{◌≡◌, ◌==◌, ◌&&◌, ◌<◌, ◌≤◌, ◌-◌, ℕ, Bool, true, false, cond, nat_lt, max, Option, None, List, [], refl, sym, ap, ◌∙◌, eq-eqb, ne_eqb, lt-ltb}
 use Rattle.frang_base.specs.declared.reply.Reply.TheVariants as reply
 use Rattle.tree_definitions.specs.Tree.{small_blocks_of}
+use Rattle.cells.proofs.Basics.{of_ge}
 use Rattle.disk_definitions.specs.Store.{StoredNode}
 use Rattle.pick_definitions.specs.Picks.{picked_large, picked_many}
 use Rattle.plan_definitions.specs.Ask.{Ask}
@@ -10,10 +10,7 @@ use Rattle.plan_definitions.specs.Plans.{Hand, Plan, read_held, refused}
 use Rattle.plan_definitions.specs.FilePlans.{Writing, end_of, writing, writing_in, writing_large, writing_picked, writing_small}
 use Rattle.plan_definitions.specs.Written.{Cached}
 use Rattle.dir_lookup.specs.Reading.{reading}
-use Rattle.file_writing.proofs.AtHand.{held_at_hand}
-
-not_below : (a b : ℕ) → b ≤ a → nat_lt a b ≡ false
-not_below a b l = grind (arith, nat_tests)
+use Rattle.plan_steps.proofs.AtHand.{held_at_hand}
 
 module _ (h : Hand) (w : Writing) (i : ℕ) (touched : List ℕ) (x : StoredNode) (cached : Cached) where
   -- ---- the small blocks
@@ -59,16 +56,16 @@ module _ (h : Hand) (w : Writing) (i : ℕ) (touched : List ℕ) (x : StoredNode
 
   pub too_big : w.off ≤ x.size → 1114112 < end_of w → reading (refused reply.TooBig touched) cached h.held ≡ reading (writing h w i touched x) cached h.held
   unfolding by_tests
-  too_big o l = as_tested false true (nat_lt 65536 (end_of w) && x.large == 0) (not_below x.size w.off o) (lt-ltb 1114112 (end_of w) l) refl
+  too_big o l = as_tested false true (nat_lt 65536 (end_of w) && x.large == 0) (of_ge x.size w.off o) (lt-ltb 1114112 (end_of w) l) refl
 
   pub has_large : w.off ≤ x.size → end_of w ≤ 1114112 → (nat_lt 65536 (end_of w) && x.large == 0) ≡ false
       → reading (writing_small h w i touched x None) cached h.held ≡ reading (writing h w i touched x) cached h.held
   unfolding by_tests
-  has_large o l n = as_tested false false false (not_below x.size w.off o) (not_below 1114112 (end_of w) l) n
+  has_large o l n = as_tested false false false (of_ge x.size w.off o) (of_ge 1114112 (end_of w) l) n
 
   pub large_wanted : w.off ≤ x.size → end_of w ≤ 1114112 → (nat_lt 65536 (end_of w) && x.large == 0) ≡ true → (g : Option ℕ) → picked_large h.held ≡ g
       → reading (writing_large h w i touched x g) cached h.held ≡ reading (writing h w i touched x) cached h.held
   unfolding by_tests
   large_wanted o l n g p =
       ap (λ g. reading (writing_large h w i touched x g) cached h.held) (sym p) ∙ sym (held_at_hand h cached (writing_large h w i touched x (picked_large h.held)))
-      ∙ as_tested false false true (not_below x.size w.off o) (not_below 1114112 (end_of w) l) n
+      ∙ as_tested false false true (of_ge x.size w.off o) (of_ge 1114112 (end_of w) l) n

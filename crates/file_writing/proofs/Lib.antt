@@ -4,6 +4,5 @@ pub mod Counting
 pub mod Resized
 pub mod Mixed
 pub mod Sectors
-pub mod AtHand
 pub mod Choices
 pub mod Ending

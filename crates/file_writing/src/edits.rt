@@ -1,9 +1,9 @@
 // The sectors that what is written meets, one after another.
 ghost use Rattle.std.specs.Prelude.{◌≡◌, ◌≤◌, ◌<◌, ◌∷◌, ◌++◌, [], OnOk};
 ghost use Rattle.pick_definitions.specs.Held.{Segments};
+ghost use Rattle.disk_definitions.specs.Store.{stored};
 ghost use Rattle.plan_definitions.specs.FilePlans.{end_of};
 ghost use Rattle.sector_definitions.specs.Bytes as bytes;
-ghost use Rattle.dir_lookup.specs.Stored.{stored};
 ghost use Rattle.file_writing.specs.Writings.{FindsAround, WritesSector, WritesSectors, writing_of};
 
 use crate::SECTOR_BYTES;

@@ -1,7 +1,7 @@
 // The edit of a sector of a file, which is 512 of its bytes, counted from its first.
 ghost use Rattle.std.specs.Prelude.{◌≡◌, ◌<◌, slice_index};
+ghost use Rattle.disk_definitions.specs.Store.{stored};
 ghost use Rattle.plan_definitions.specs.FilePlans.{set_sector};
-ghost use Rattle.dir_lookup.specs.Stored.{stored};
 ghost use Rattle.plan_steps.specs.Edits.{edit_of};
 
 use crate::SMALL_SECTORS;

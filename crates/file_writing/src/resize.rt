@@ -1,10 +1,10 @@
 // The inode of a file that has another size, and the edits that take blocks for it.
 ghost use Rattle.std.specs.Prelude.{◌≡◌, ◌≤◌, ◌<◌, ◌-◌, ◌++◌, IfOk, IfSome, OnOk, length, map, slice_index};
 ghost use Rattle.disk_definitions.specs.Store.Use.{Bytes};
+ghost use Rattle.disk_definitions.specs.Store.{stored};
 ghost use Rattle.store_changes.specs.Edits.Edit.{SetUse};
 ghost use Rattle.tree_definitions.specs.Tree.{small_blocks_of};
 ghost use Rattle.plan_definitions.specs.FilePlans.{large_after, large_taken, resized, size_edits, small_after};
-ghost use Rattle.dir_lookup.specs.Stored.{stored};
 ghost use Rattle.plan_steps.specs.Edits.{edits_of};
 ghost use Rattle.file_reading.specs.Files.{IsFile};
 

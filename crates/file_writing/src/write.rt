@@ -2,10 +2,10 @@
 ghost use Rattle.std.specs.Prelude.{◌≡◌, ◌≤◌, ◌<◌, ◌-◌, ◌==◌, ◌&&◌, Bool, IfSome, List, length, max, nat_lt, ℕ};
 ghost use Rattle.tree_definitions.specs.Tree.{small_blocks_of};
 ghost use Rattle.pick_definitions.specs.Held.{Segments};
+ghost use Rattle.disk_definitions.specs.Store.{stored};
 ghost use Rattle.plan_definitions.specs.FilePlans as plans;
 ghost use Rattle.plan_definitions.specs.FilePlans.{end_of, plan_filled, plan_written, writing_in, writing_small};
 ghost use Rattle.dir_lookup.specs.Reading.{reading};
-ghost use Rattle.dir_lookup.specs.Stored.{stored};
 ghost use Rattle.plan_steps.specs.Ends.{Comes};
 ghost use Rattle.file_reading.specs.Files.{IsFile};
 ghost use Rattle.file_writing.specs.Writings.{writing_of};

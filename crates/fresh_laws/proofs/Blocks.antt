@@ -91,10 +91,6 @@ first_version = omega arith
 pub root_version : number_at 8 0 (inode_bytes root_inode) ≤ 1
 root_version = omega arith
 
-pub zero_version : number_at 8 0 (zeros 512) ≡ 0
-unfolding zeros
-zero_version = refl
-
 pub param_long : (segments : ℕ) → length (param_bytes (fresh_param segments)) ≡ 512
 unfolding zeros
 param_long segments = refl

@@ -5,12 +5,12 @@ use Rattle.tree_laws.proofs.FreshLaws.{fresh_well}
 use Rattle.sector_definitions.specs.Bytes.{number_at}
 use Rattle.sector_definitions.specs.Bitmaps.{bitmap_in}
 use Rattle.sector_definitions.specs.Inodes.{inode_in}
-use Rattle.sector_definitions.proofs.WrittenFields.{length_zeros}
+use Rattle.sector_definitions.proofs.WrittenFields.{length_zeros, zero_version}
 use Rattle.disk_definitions.specs.Disks.{Sectors}
 use Rattle.disk_definitions.specs.Standing.{IsMetadata, IsInGrammar, HasVersionsUpTo, IsReached, StandsFor}
 use Rattle.plan_conditions.specs.OnDisk.{StandsBelow}
 use Rattle.fresh_laws.specs.Fresh.{fresh_param, fresh_disk, FreshStands}
-use Rattle.fresh_laws.proofs.Blocks.{param_reads, first_reads, zeros_read, root_reads, free_reads, first_version, root_version, zero_version, param_long, first_long, root_long}
+use Rattle.fresh_laws.proofs.Blocks.{param_reads, first_reads, zeros_read, root_reads, free_reads, first_version, root_version, param_long, first_long, root_long}
 use Rattle.fresh_laws.proofs.Sectors.{each_sector, each_segment, each_inode}
 use Rattle.fresh_laws.proofs.Stored.{store, uses}
 use Rattle.fresh_laws.proofs.Picture.{root_only, naming, picture}

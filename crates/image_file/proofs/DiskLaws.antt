@@ -10,10 +10,10 @@ use Rattle.std.proofs.lemmas.Bool.{and_parts}
 use Rattle.std.proofs.lemmas.Bool.Decides.{nat_tests}
 use Rattle.std.proofs.lemmas.List.Elements.{recursion_from_All}
 use Rattle.cells.proofs.Basics.{by_test, eq_of}
-use Rattle.sector_definitions.specs.Bytes.{number_at, zeros, are_zero}
+use Rattle.sector_definitions.specs.Bytes.{number_at, zeros, are_zero, AreBytes}
 use Rattle.disk_definitions.specs.Disks.{sectors_of, SameDisk}
 use Rattle.disk_definitions.specs.Images.{Blocks, image_entry, entry_in, image_with, image_text, image_in, sectors_written}
-use Rattle.image_file.specs.Laws.{AreBytes, ReadsBack}
+use Rattle.image_file.specs.Laws.{ReadsBack}
 use Rattle.image_file.proofs.EntryBytes.{IsEntry, entry_reads, behind_entry}
 use Rattle.image_file.proofs.Ascending.{Above, ascend_of, sorted_written, all_written, written_not_zero, written_all}
 use Rattle.image_file.proofs.Headers.{headed, header_count, header_rest, header_read}

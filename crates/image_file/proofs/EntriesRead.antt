@@ -4,14 +4,15 @@ use Rattle.std.specs.List.{flat_map, AllByRecursion}
 use Rattle.std.proofs.lemmas.Bool.Decides.{nat_tests}
 use Rattle.cells.proofs.Basics.{by_test, gt_of, of_gt, of_ge}
 use Rattle.sector_definitions.specs.declared.region.Region.{Region}
-use Rattle.sector_definitions.specs.Bytes.{are_zero}
+use Rattle.sector_definitions.specs.Bytes.{are_zero, AreBytes}
 use Rattle.sector_definitions.specs.Regions.{region_of}
+use Rattle.sector_definitions.proofs.NumberBytes.{drop_are}
 use Rattle.disk_definitions.specs.declared.image.ImageFault.{ImageFault}
 use Rattle.disk_definitions.specs.declared.image.ImageFlaw.{ImageFlaw}
 use Rattle.disk_definitions.specs.declared.image.ImageFlaw.TheVariants.{Cut, OutOfOrder, OfZeros, BadSector}
 use Rattle.disk_definitions.specs.Images.{Blocks, image_entry, entry_in, IsImaged, block_fits, block_flaw, entry_flaw, fault, judged, entries_in}
-use Rattle.image_file.specs.Laws.{AreBytes, IsOfDisk, ReadsBack}
-use Rattle.image_file.proofs.EntryBytes.{IsEntry, length_entry, entry_reads, behind_entry, entry_again, read_entry, drop_are}
+use Rattle.image_file.specs.Laws.{IsOfDisk, ReadsBack}
+use Rattle.image_file.proofs.EntryBytes.{IsEntry, length_entry, entry_reads, behind_entry, entry_again, read_entry}
 
 -- sectors that ascend from behind one, as entries, none of zeros
 abbrev pub Ascend : ℕ → Blocks → Type 0

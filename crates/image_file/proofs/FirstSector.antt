@@ -10,15 +10,16 @@ use Rattle.std.proofs.lemmas.Bool.{and_parts}
 use Rattle.std.proofs.lemmas.Bool.Decides.{nat_tests}
 use Rattle.cells.proofs.Basics.{by_test, eq_of, of_ge}
 use Rattle.sector_definitions.specs.declared.param.Param.{Param}
-use Rattle.sector_definitions.specs.Bytes.{zeros, are_zero}
+use Rattle.sector_definitions.specs.Bytes.{zeros, are_zero, AreBytes}
 use Rattle.sector_definitions.specs.Params.{param_in}
+use Rattle.sector_definitions.proofs.NumberBytes.{drop_are}
 use Rattle.disk_definitions.specs.Disks.{sectors_of}
 use Rattle.disk_definitions.specs.declared.image.ImageFault.{ImageFault}
 use Rattle.disk_definitions.specs.declared.image.ImageFlaw.{ImageFlaw}
 use Rattle.disk_definitions.specs.declared.image.ImageFlaw.TheVariants.{Cut, OfZeros, BadSector}
 use Rattle.disk_definitions.specs.Images.{Blocks, image_entry, entry_in, IsImaged, may_run_again, first_flaw, fault, judged, entries_in, segments_by, sectors_in}
-use Rattle.image_file.specs.Laws.{AreBytes, ReadsBack}
-use Rattle.image_file.proofs.EntryBytes.{IsEntry, length_entry, entry_reads, behind_entry, entry_again, read_entry, drop_are}
+use Rattle.image_file.specs.Laws.{ReadsBack}
+use Rattle.image_file.proofs.EntryBytes.{IsEntry, length_entry, entry_reads, behind_entry, entry_again, read_entry}
 use Rattle.image_file.proofs.EntriesRead.{Ascend, MayHave, judged_reads, judged_ok, Entries, entries_read, entries_read_back, entries_found}
 use Rattle.image_file.proofs.Ascending.{Above, less_of, lt_of_less, ascend_from}
 

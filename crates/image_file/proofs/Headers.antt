@@ -6,13 +6,12 @@ use Rattle.std.proofs.lemmas.Bool.Decides.{nat_tests}
 use Rattle.cells.proofs.Basics.{by_test, of_ge}
 use Rattle.byteorder.specs.Endian.{little_from, little_bytes}
 use Rattle.byteorder.specs.Numbers.{little_number-reads_back, length-bytes_low_first}
-use Rattle.sector_definitions.specs.Bytes.{number_at, same_bytes}
+use Rattle.sector_definitions.specs.Bytes.{number_at, same_bytes, AreBytes}
 use Rattle.sector_definitions.proofs.Readings.{same_bytes_is, same_bytes_refl}
+use Rattle.sector_definitions.proofs.NumberBytes.{number_again, drop_are}
 use Rattle.disk_definitions.specs.declared.image.ImageFault.{ImageFault}
 use Rattle.disk_definitions.specs.declared.image.ImageFlaw.TheVariants.{Cut, OtherMark}
 use Rattle.disk_definitions.specs.Images.{Blocks, image_mark, sectors_in, image_in, fault}
-use Rattle.image_file.specs.Laws.{AreBytes}
-use Rattle.image_file.proofs.EntryBytes.{number_again, drop_are}
 
 -- the header with a count, and what follows it
 abbrev pub headed : ℕ → List ℕ → List ℕ

@@ -1,13 +1,9 @@
 -- What the laws of images speak of.
-use Rattle.std.specs.Prelude.{◌≡◌, ℕ, ◌<◌, Result, Ok, Err, List, slice_index}
+use Rattle.std.specs.Prelude.{◌≡◌, Result, Ok, Err}
 use Rattle.disk_definitions.specs.declared.image.ImageFault.{ImageFault}
 use Rattle.disk_definitions.specs.declared.image.ImageFlaw.{ImageFlaw}
 use Rattle.disk_definitions.specs.declared.image.ImageFlaw.TheVariants.{NoRegion, BadSector}
 use Rattle.disk_definitions.specs.Images.{Blocks}
-
--- each is a byte
-abbrev pub AreBytes : List ℕ → Type 0
-AreBytes bytes = (k : ℕ) → slice_index bytes k < 256
 
 -- a flaw of the disk and not of its image: a sector in no region, or one not in its grammar
 abbrev pub IsOfDisk : ImageFlaw → Type 0

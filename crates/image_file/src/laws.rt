@@ -1,8 +1,9 @@
 // Laws of images: reading and writing undo each other.
 ghost use Rattle.std.specs.Prelude.{◌≡◌, ℕ, List, Ok, ◌↔◌};
+ghost use Rattle.sector_definitions.specs.Bytes.{AreBytes};
 ghost use Rattle.disk_definitions.specs.Disks.{SameDisk, sectors_of};
 ghost use Rattle.disk_definitions.specs.Images.{Blocks, IsImage, image_in, image_text, sectors_written};
-ghost use Rattle.image_file.specs.Laws.{AreBytes, ReadsBack};
+ghost use Rattle.image_file.specs.Laws.{ReadsBack};
 
 use disk_definitions::Disk;
 

@@ -1,12 +1,11 @@
 -- A sector that arrives stands in its slot, and the sectors in other slots stay.
-use Rattle.std.proofs.Common.{◌≡◌, ◌≢◌, ℕ, zero, suc, ◌%◌, ◌^◌, ◌<◌, ◌&&◌, ◌||◌, ◌==◌, nat_lt, true, Some, length, refl, sym, ap, ◌∙◌, arith, ne_eqb, eq-eqb}
+use Rattle.std.proofs.Common.{◌≡◌, ◌≢◌, ℕ, ◌%◌, ◌^◌, ◌<◌, ◌&&◌, ◌||◌, ◌==◌, nat_lt, true, Some, refl, sym, ap, ◌∙◌, arith, ne_eqb, eq-eqb}
 use Rattle.std.proofs.lemmas.Bool.{and_from, cond-true, cond-false}
 use Rattle.std.proofs.lemmas.Bool.Decides.{nat_tests}
-use Rattle.std.proofs.lemmas.List.{length-replicate}
 use Rattle.sector_definitions.specs.declared.log_sector.LogSector.{LogSector}
-use Rattle.sector_definitions.specs.Bytes.{zeros, are_zero}
 use Rattle.sector_definitions.specs.LogSectors.{log_sector_bytes, log_sector_fits, is_empty_sector, is_record_sector, empty_sector, log_sector_in}
 use Rattle.sector_definitions.proofs.LogSectorLaws.{IsStorable, log_sector_back}
+use Rattle.sector_definitions.proofs.WrittenFields.{zeros_are_zero, length_zeros}
 use Rattle.log_definitions.specs.Arriving.{with_sector}
 use Rattle.log_definitions.specs.Logs.{Slots, numbered, sector_numbered}
 use Rattle.log_definitions.proofs.EndLaws.{numbered_is, numbered_of}
@@ -33,17 +32,8 @@ one_number slots n m x y e f s =
 
 -- ---- empty sectors
 
-length_of_zeros : (n : ℕ) → length (zeros n) ≡ n
-unfolding zeros
-length_of_zeros n = length-replicate n 0
-
-all_zero : (n : ℕ) → are_zero (zeros n) ≡ true
-unfolding zeros
-all_zero zero = refl
-all_zero (suc n) = all_zero n
-
 pub empty_storable : (n : ℕ) → n < 2 ^ 63 → IsStorable (empty_sector n)
-empty_storable n h = record { seq = omega arith; op = omega arith; part = omega arith; parts = omega arith; used = omega arith; body = length_of_zeros 488 }
+empty_storable n h = record { seq = omega arith; op = omega arith; part = omega arith; parts = omega arith; used = omega arith; body = length_zeros 488 }
 
 -- the empty sector of any number may stand in its slot
 pub empty_fits_any : (n : ℕ) → n < 2 ^ 63 → log_sector_fits (n % 256) (empty_sector n) ≡ true
@@ -51,7 +41,7 @@ empty_fits_any n h =
     let low : nat_lt n (2 ^ 63) ≡ true = grind (arith, nat_tests) in
     let slot : (n % 256 == n % 256) ≡ true = eq-eqb (n % 256) (n % 256) refl in
     and_from (nat_lt n (2 ^ 63) && n % 256 == n % 256) (is_empty_sector (empty_sector n) || is_record_sector (empty_sector n)) (and_from (nat_lt n (2 ^ 63)) (n % 256 == n % 256) low slot)
-    (ap (λ b. b || is_record_sector (empty_sector n)) (all_zero 488))
+    (ap (λ b. b || is_record_sector (empty_sector n)) (zeros_are_zero 488))
 
 pub empty_arrived : (slots : Slots) (n : ℕ) → n < 2 ^ 63 → sector_numbered (with_sector slots (empty_sector n)) n ≡ Some (empty_sector n)
 empty_arrived slots n h = arrived slots (empty_sector n) (empty_storable n h) (empty_fits_any n h)

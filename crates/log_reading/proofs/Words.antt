@@ -1,37 +1,19 @@
 -- The words over what stands in the slots are those of a log's definition.
-use Rattle.std.proofs.Common.{◌≡◌, ℕ, zero, suc, ◌%◌, ◌<◌, Bool, true, false, ◌&&◌, if◌then◌else◌, nat_le, is_some, Option, Some, None, List, [], ◌∷◌, ◌++◌, length, get_or, map, refl, sym, ap, ◌∙◌, arith, length-append}
+use Rattle.std.proofs.Common.{◌≡◌, ℕ, zero, suc, ◌%◌, ◌<◌, Bool, ◌&&◌, if◌then◌else◌, nat_le, is_some, Option, Some, None, List, [], ◌∷◌, get_or, map, refl, ap, ◌∙◌, arith}
 use Rattle.std.proofs.Math.Nat.{mod-lt}
 use Rattle.std.specs.Prelude.{max, fold}
 use Rattle.std.specs.List.{list_all, filter, filter_map, cons_option}
 use Rattle.std.specs.Option.{option_map}
-use Rattle.std.proofs.Math.Seq.{get_or-append_seam}
-use Rattle.std.proofs.lemmas.Bool.Decides.{nat_tests}
-use Rattle.std.proofs.lemmas.List.{get_or-map, get_or_append_left}
+use Rattle.std.proofs.lemmas.List.{get_or-map}
 use Rattle.sector_definitions.specs.declared.log_sector.LogSector.{LogSector}
 use Rattle.sector_definitions.specs.LogSectors.{log_sector_in}
 use Rattle.tree_definitions.specs.Numbers.{below}
+use Rattle.sector_definitions.proofs.Lists.{length_below, below_at}
 use Rattle.log_definitions.specs.Logs as logs
 use Rattle.log_definitions.specs.Logs.{Slots, is_end, log_end, numbered, numbers_in, sector_numbered, sectors_read, seq_of, stands, window}
 use Rattle.log_reading.specs.Decoded.{Decoded, decoded, end_of, is_full, numbers_of, sector_with, sectors_up_to}
 
 -- ---- lists
-
-length_below : (n : ℕ) → length (below n) ≡ n
-length_below zero = refl
-length_below (suc n) = let e = length_below n in omega (arith, e, length-append (below n) (n ∷ []))
-
-below_at : (n k : ℕ) → k < n → get_or (below n) k 0 ≡ k
-below_at zero k h = absurd (omega arith)
-below_at (suc n) k h = go (nat_le n k) refl (below_at n k)
-  where
-    go : (b : Bool) → nat_le n k ≡ b → (k < n → get_or (below n) k 0 ≡ k) → get_or (below n ++ n ∷ []) k 0 ≡ k
-    go true t before =
-        let last : k ≡ n = grind (arith, nat_tests, t, h) in
-        let place : k ≡ length (below n) = last ∙ sym (length_below n) in
-        ap (λ i. get_or (below n ++ n ∷ []) i 0) place ∙ get_or-append_seam (below n) n [] 0 ∙ sym last
-    go false t before =
-        let less : k < n = grind (arith, nat_tests, t) in
-        get_or_append_left (below n) (n ∷ []) 0 k (omega (arith, less, length_below n)) ∙ before less
 
 module _ {X Y Z : Type 0} where
   filter_map-map : (f : Y → Option Z) (g : X → Y) (xs : List X) → filter_map f (map g xs) ≡ filter_map (λ x. f (g x)) xs

@@ -9,8 +9,9 @@ use Rattle.std.specs.Result.{OnErr}
 use Rattle.cells.proofs.Basics.{of_le}
 use Rattle.frang_base.specs.declared.change.Change.{Change}
 use Rattle.change_definitions.specs.Changes.{is_change}
+use Rattle.sector_definitions.specs.Bytes.{AreBytes}
 use Rattle.log_definitions.specs.Records.{Read, all_read, record_bytes, record_fits, record_in, sectors_ascend, whole_record}
-use Rattle.log_record.proofs.NumbersRead.{AreBytes, taken}
+use Rattle.log_record.proofs.NumbersRead.{taken}
 use Rattle.log_record.proofs.RecordBack.{is_record}
 use Rattle.log_record.proofs.RecordRead.{changes_are, changes_read, record_in_is, record_read}
 

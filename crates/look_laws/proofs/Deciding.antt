@@ -1,19 +1,10 @@
 -- What is at hand of the sectors that a computation looks at decides what it comes to.
-use Rattle.std.proofs.Common.{◌≡◌, ℕ, Bool, true, false, Option, Some, None, List, refl, ◌∙◌, ap, is_some, if◌then◌else◌}
+use Rattle.std.proofs.Common.{List, refl}
 use Rattle.disk_definitions.specs.Store.{Store}
-use Rattle.plan_definitions.specs.Ask.{Sector, InodeAt, DirectoryAt, SegmentAt, BytesAt, LargeAt, Ask, Got, ReadInode, ReadDirectory, ReadSegment, ReadBytes, ReadLarge, AtHand, Met, Needs, Has, seven, part_of, run, looks, meet, or_needs}
-use Rattle.plan_laws.specs.Looking.{first_missing, unless_missing}
+use Rattle.plan_definitions.specs.Ask.{InodeAt, DirectoryAt, BytesAt, LargeAt, Ask, Got, ReadInode, ReadDirectory, ReadSegment, ReadBytes, ReadLarge, AtHand, Has, seven, part_of, run, looks, meet}
+use Rattle.plan_laws.specs.Looking.{first_missing}
+use Rattle.plan_laws.proofs.Asking.{step, held}
 use Rattle.look_laws.specs.Inside.{AgreesWhereAll, MeetsWhereItLooks}
-
--- one sector, and then the others
-step : {X A : Type 0} (sector : Sector) (o : Option X) (v : X) (f : X → Met A) (xs : Option Sector) (a : A) → ((x : X) → o ≡ Some x → x ≡ v) → f v ≡ unless_missing xs a →
-    or_needs sector o f ≡ unless_missing (if is_some o then xs else Some sector) a
-step sector None v f xs a is e = refl
-step sector (Some x) v f xs a is e = ap f (is x refl) ∙ e
-
-held : {A : Type 0} (k : ℕ) (b : Bool) (m : Met A) (xs : Option Sector) (a : A) → m ≡ unless_missing xs a → (if b then m else Needs (SegmentAt k)) ≡ unless_missing (if b then xs else Some (SegmentAt k)) a
-held k true m xs a e = e
-held k false m xs a e = refl
 
 pub meets_where : {A : Type 0} → MeetsWhereItLooks A
 meets_where (Got a) c s of = refl

@@ -1,38 +1,20 @@
 -- A directory's inode stays fit with another size, and with a block more.
-use Rattle.std.proofs.Common.{◌≡◌, ℕ, zero, suc, ◌+◌, ◌*◌, ◌^◌, ◌<◌, ◌≤◌, ⊎_elim, true, false, nat_le, Some, List, [], ◌∷◌, map, drop, refl, arith, leb-true}
+use Rattle.std.proofs.Common.{◌≡◌, ℕ, ◌*◌, ◌^◌, ◌<◌, ◌≤◌, ⊎_elim, true, false, nat_le, Some, [], refl, arith, leb-true}
 use Rattle.std.proofs.lemmas.Bool.{or_cases}
 use Rattle.std.proofs.lemmas.Bool.Decides.{nat_tests}
-use Rattle.tree_definitions.specs.Numbers.{below}
 use Rattle.sector_definitions.specs.declared.inode.Inode.{Inode}
 use Rattle.sector_definitions.specs.Bytes.{zeros, are_zero}
 use Rattle.sector_definitions.specs.Inodes.{is_directory_inode, is_link_inode}
-use Rattle.standing_laws.proofs.Shapes.{and_l, and_r}
+use Rattle.sector_definitions.proofs.Readings.{and_l, and_r}
+use Rattle.sector_definitions.proofs.Lists.{ends_at}
+use Rattle.sector_definitions.proofs.WrittenFields.{zeros_are_zero}
 use Rattle.disk_definitions.specs.Store.{StoredNode}
 use Rattle.plan_definitions.specs.Written.{inode_with}
 use Rattle.record_laws.specs.Fit.{IsFitNode}
 
--- n values of a function from one on
-abbrev values : (ℕ → ℕ) → ℕ → ℕ → List ℕ
-values f i zero = []
-values f i (suc n) = f i ∷ values f (i + 1) n
-
-zeros_past : (f : ℕ → ℕ) (n i b : ℕ) → ((j : ℕ) → i + b ≤ j → f j ≡ 0) → are_zero (drop b (values f i n)) ≡ true
-zeros_past f zero i zero h = refl
-zeros_past f zero i (suc b) h = refl
-zeros_past f (suc n) i zero h = rw (h i (omega arith)) (zeros_past f n (i + 1) zero (λ j l. h j (omega arith)))
-zeros_past f (suc n) i (suc b) h = zeros_past f n (i + 1) b (λ j l. h j (omega arith))
-
-pub ends_at : (f : ℕ → ℕ) (b : ℕ) → ((j : ℕ) → b ≤ j → f j ≡ 0) → are_zero (drop b (map f (below 16))) ≡ true
-ends_at f b h = zeros_past f 16 0 b (λ j l. h j (omega arith))
-
-pub zero_all : (n : ℕ) → are_zero (zeros n) ≡ true
-unfolding zeros
-zero_all zero = refl
-zero_all (suc n) = zero_all n
-
 -- no bytes of a target
 pub untargeted : are_zero (zeros 384) ≡ true
-untargeted = zero_all 384
+untargeted = zeros_are_zero 384
 
 -- the inode of a directory
 abbrev pub directory : ℕ → ℕ → ℕ → (ℕ → ℕ) → StoredNode

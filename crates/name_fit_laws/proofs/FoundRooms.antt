@@ -5,6 +5,8 @@ use Rattle.std.specs.Map.{keys_of}
 use Rattle.tree_definitions.specs.declared.node.Node.TheVariants.{Dir}
 use Rattle.tree_definitions.specs.Entries.{Entries}
 use Rattle.tree_definitions.specs.Tree.{FileTree, node_at, must_grow}
+use Rattle.cells.specs.Changes.{put}
+use Rattle.cells.proofs.Basics.{at_put, put_same, put_other}
 use Rattle.disk_definitions.specs.Store.{Store, StoredNode, StoredEntry}
 use Rattle.disk_definitions.specs.Store.Use.{Entries as OfEntries}
 use Rattle.disk_definitions.specs.Standing.{IsMetadata}
@@ -13,8 +15,6 @@ use Rattle.pick_definitions.specs.Least.{least}
 use Rattle.pick_definitions.specs.Held.{AreSegments, state_in}
 use Rattle.pick_definitions.specs.Picks.{is_in_state, picked_directory}
 use Rattle.pick_definitions.proofs.PickLaws.{for_a_directory}
-use Rattle.store_changes.specs.Edits.{put}
-use Rattle.store_changes.proofs.Puts.{at_put, put_same, put_other}
 use Rattle.plan_definitions.specs.Ask.{Got, ReadDirectory, run}
 use Rattle.plan_definitions.specs.Walks.{search, is_vacant}
 use Rattle.plan_definitions.specs.Plans.{Hand, Finish, Room, room_at, room_in, read_held, find_room, finish_in, with_block, must_clear}

@@ -8,6 +8,7 @@ use Rattle.tree_definitions.specs.declared.node.Node.TheVariants.{Dir}
 use Rattle.tree_definitions.specs.Entries.{Entries, entry_at}
 use Rattle.tree_definitions.specs.Tree.{FileTree, node_at}
 use Rattle.tree_definitions.specs.Place.{place}
+use Rattle.cells.proofs.Basics.{ne_of}
 use Rattle.tree_laws.proofs.Keeping.{names_nodes}
 use Rattle.disk_definitions.specs.Store.{Store, StoredNode, StoredEntry}
 use Rattle.disk_definitions.specs.Naming.{Naming, kind_of, entry_of}
@@ -15,7 +16,6 @@ use Rattle.store_changes.specs.Edits.{edited_all}
 use Rattle.store_changes.specs.Changes.{relink}
 use Rattle.store_changes.proofs.Free.{a_some}
 use Rattle.store_changes.proofs.Kept.{inode_is}
-use Rattle.store_changes.proofs.Puts.{ne_of}
 use Rattle.plan_definitions.specs.Ask.{bind, run}
 use Rattle.plan_definitions.specs.Walks.{AtName, AtGap, walk}
 use Rattle.plan_definitions.specs.Plans.{Hand, Room, enter, find_room, is_full, refused}
@@ -114,7 +114,7 @@ module _ (h : Hand) (s : Store) (tree : FileTree) (n : Naming) (of : IsOfTree s 
           linking_to_fits to names dirs b r.0 r.1 (subst (λ k. k ≢ 2) kind (ne_of (n.kind b) 2 e))
 
 pub link_fits : LinkIsFit
-link_fits path to h s tree n birth of hand fit new old allowed =
+link_fits path to h s tree n birth of hand fit old allowed =
     let w = run (walk path) s in
     rw (run-bind (walk path) (λ w. linking h to w.dirs w.spot) s)
     (by_spot s (node_at tree) n of.pictures (λ v p. PlanIsFit h tree.segments s (run (linking h to w.dirs v) s))

@@ -9,13 +9,15 @@ use Rattle.tree_definitions.specs.Tree.{small_blocks_of}
 use Rattle.sector_definitions.specs.declared.inode.Inode.{Inode}
 use Rattle.sector_definitions.specs.Bytes.{zeros, are_zero}
 use Rattle.sector_definitions.specs.Inodes.{is_target_byte, ends_blocks, inode_fits, is_free_inode, is_file_inode, is_directory_inode, is_link_inode}
-use Rattle.standing_laws.proofs.Shapes.{and_l, and_r}
+use Rattle.sector_definitions.proofs.Readings.{and_l, and_r}
+use Rattle.sector_definitions.proofs.WrittenFields.{zeros_are_zero}
 use Rattle.disk_definitions.specs.Store.{StoredNode}
 use Rattle.disk_definitions.specs.Naming.{inode_of, first_blocks}
 use Rattle.plan_definitions.specs.Written.{inode_with}
 use Rattle.record_laws.specs.Fit.{IsFitNode}
+use Rattle.record_laws.proofs.InodeEdits.{free_is}
 use Rattle.plan_conditions.specs.Allowed.{IsTarget}
-use Rattle.name_fit_laws.proofs.Directories.{zero_all, untargeted, directory_fits}
+use Rattle.name_fit_laws.proofs.Directories.{untargeted, directory_fits}
 
 file_relinked : (x : Inode) (links : ℕ) → is_file_inode x ≡ true → 1 ≤ links → links ≤ 1000 → is_file_inode (record x { links = links }) ≡ true
 file_relinked x links h a b =
@@ -43,9 +45,6 @@ link_relinked x links h a b =
     let few : nat_le links 1000 ≡ true = grind (arith, nat_tests) in
     rw (kind, some, few, blocks, none, large, least, most, bytes, rest) refl
 
-free_kind : (x : Inode) → is_free_inode x ≡ true → x.kind ≡ 0
-free_kind x h = let kind : x.kind == 0 ≡ true = search (and_l, and_r) depth 12 in eqb-true x.kind 0 kind
-
 directory_kind : (x : Inode) → is_directory_inode x ≡ true → x.kind ≡ 2
 directory_kind x h = let kind : x.kind == 2 ≡ true = search (and_l, and_r) depth 12 in eqb-true x.kind 2 kind
 
@@ -58,7 +57,7 @@ is_link_fits x h = or_right (is_free_inode x || is_file_inode x || is_directory_
 relinked : (x : Inode) (links : ℕ) → inode_fits x ≡ true → 1 ≤ x.kind → x.kind ≢ 2 → 1 ≤ links → links ≤ 1000 → inode_fits (record x { links = links }) ≡ true
 relinked x links h used plain a b = ⊎_elim
     (λ r. ⊎_elim
-    (λ r. ⊎_elim (λ e. absurd (let z : x.kind ≡ 0 = free_kind x e in omega arith)) (λ e. is_file_fits (record x { links = links }) (file_relinked x links e a b)) (or_cases (is_free_inode x) (is_file_inode x) r))
+    (λ r. ⊎_elim (λ e. absurd (let z : x.kind ≡ 0 = free_is x e in omega arith)) (λ e. is_file_fits (record x { links = links }) (file_relinked x links e a b)) (or_cases (is_free_inode x) (is_file_inode x) r))
     (λ e. absurd (plain (directory_kind x e))) (or_cases (is_free_inode x || is_file_inode x) (is_directory_inode x) r))
     (λ e. is_link_fits (record x { links = links }) (link_relinked x links e a b)) (or_cases (is_free_inode x || is_file_inode x || is_directory_inode x) (is_link_inode x) h)
 
@@ -71,7 +70,7 @@ link_links x h = let links : nat_le x.links 1000 ≡ true = search (and_l, and_r
 few_links : (x : Inode) → inode_fits x ≡ true → 1 ≤ x.kind → x.kind ≢ 2 → x.links ≤ 1000
 few_links x h used plain = ⊎_elim
     (λ r. ⊎_elim
-    (λ r. ⊎_elim (λ e. absurd (let z : x.kind ≡ 0 = free_kind x e in omega arith)) (λ e. file_links x e) (or_cases (is_free_inode x) (is_file_inode x) r))
+    (λ r. ⊎_elim (λ e. absurd (let z : x.kind ≡ 0 = free_is x e in omega arith)) (λ e. file_links x e) (or_cases (is_free_inode x) (is_file_inode x) r))
     (λ e. absurd (plain (directory_kind x e))) (or_cases (is_free_inode x || is_file_inode x) (is_directory_inode x) r))
     (λ e. link_links x e) (or_cases (is_free_inode x || is_file_inode x || is_directory_inode x) (is_link_inode x) h)
 
@@ -117,5 +116,5 @@ new_link birth target old h =
     let most : nat_le (length target) 384 ≡ true = let l = h.few in grind (arith, nat_tests) in
     let rest = zeros (384 - length target) in
     let bytes : list_all is_target_byte (take (length target) (target ++ rest)) ≡ true = ap (list_all is_target_byte) (take_at target rest (length target) refl) ∙ h.bytes in
-    let past : are_zero (drop (length target) (target ++ rest)) ≡ true = ap are_zero (drop_past target rest) ∙ zero_all (384 - length target) in
+    let past : are_zero (drop (length target) (target ++ rest)) ≡ true = ap are_zero (drop_past target rest) ∙ zeros_are_zero (384 - length target) in
     record { fits = rw (least, most, bytes, past) refl; used = omega arith; birth = old; small = few_blocks; past = λ j l. no_blocks j; large = omega arith; target = refl }

@@ -7,11 +7,11 @@ use Rattle.tree_definitions.specs.declared.node.Node.{Node}
 use Rattle.tree_definitions.specs.declared.node.Node.TheVariants.{Dir, File, Link}
 use Rattle.tree_definitions.specs.Entries.{Entries, entry_at}
 use Rattle.tree_definitions.specs.Tree.{FileTree, node_at, small_blocks_of}
+use Rattle.cells.proofs.Basics.{of_lt, of_ge}
 use Rattle.disk_definitions.specs.Store.{Store}
 use Rattle.disk_definitions.specs.Store.Use.{Fresh, Bytes, Entries as OfEntries}
 use Rattle.disk_definitions.specs.Naming.{Naming, kind_of, blocks_of, has_large, room_in, find_in, first_blocks, use_by, use_for, entry_of}
 use Rattle.store_changes.specs.Changes.{freed}
-use Rattle.store_changes.proofs.Puts.{of_lt, of_ge}
 use Rattle.store_changes.proofs.Rooms.{which_block}
 use Rattle.store_changes.proofs.Kept.{inode_is}
 use Rattle.plan_definitions.specs.Meets.{IsOfTree, is_directory_use}

@@ -2,12 +2,13 @@
 use Rattle.std.proofs.Common.{◌≡◌, ◌≢◌, ℕ, zero, suc, ◌+◌, ◌-◌, ◌*◌, ◌/◌, ◌%◌, ◌<◌, ◌≤◌, Bool, true, false, ◌==◌, if◌then◌else◌, None, List, [], ◌∷◌, ◌++◌, refl, sym, subst, arith}
 use Rattle.std.proofs.lemmas.Bool.Decides.{nat_tests}
 use Rattle.tree_definitions.specs.declared.node.Node.{Node}
+use Rattle.cells.specs.Changes.{put}
+use Rattle.cells.proofs.Basics.{put_same}
 use Rattle.disk_definitions.specs.Store.{Store, StoredNode, StoredEntry, Use}
 use Rattle.disk_definitions.specs.Naming.{inode_of}
-use Rattle.store_changes.specs.Edits.{Edit, put}
+use Rattle.store_changes.specs.Edits.{Edit}
 use Rattle.store_changes.specs.Edits.Edit.{SetInode, SetBit, SetLarge}
 use Rattle.store_changes.specs.Changes.{new_node, put_entry, take_entry, replace_entry, grow, relink, freed, uses_to, large_gone, drop_node}
-use Rattle.store_changes.proofs.Puts.{put_same}
 use Rattle.plan_definitions.specs.Plans.{Room, enter, with_block}
 use Rattle.plan_definitions.specs.Plans.Room.{Inside, InBlock, NoRoom}
 use Rattle.plan_definitions.specs.NamePlans.{is_last, fewer}

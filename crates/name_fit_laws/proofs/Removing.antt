@@ -100,7 +100,7 @@ module _ (h : Hand) (s : Store) (tree : FileTree) (n : Naming) (of : IsOfTree s 
       go false = refuse_fits h tree.segments s reply.NotDir dirs
 
 pub unlink_fits : UnlinkIsFit
-unlink_fits path h s tree n birth of hand fit new old allowed =
+unlink_fits path h s tree n birth of hand fit old allowed =
     let w = run (walk path) s in
     rw (run-bind (walk path) (λ w. unlinking w.dirs w.spot) s)
     (by_spot s (node_at tree) n of.pictures (λ v p. PlanIsFit h tree.segments s (run (unlinking w.dirs v) s))
@@ -111,7 +111,7 @@ unlink_fits path h s tree n birth of hand fit new old allowed =
     w.spot (place tree path) (walks_lead s tree n path of).0)
 
 pub rmdir_fits : RmdirIsFit
-rmdir_fits path h s tree n birth of hand fit new old allowed =
+rmdir_fits path h s tree n birth of hand fit old allowed =
     let w = run (walk path) s in
     rw (run-bind (walk path) (λ w. removing w.dirs w.spot) s)
     (by_spot s (node_at tree) n of.pictures (λ v p. PlanIsFit h tree.segments s (run (removing w.dirs v) s))

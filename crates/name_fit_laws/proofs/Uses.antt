@@ -1,12 +1,13 @@
 -- Which blocks are or were a directory's at the end of edits.
 use Rattle.std.proofs.Common.{◌≡◌, ℕ, zero, suc, ◌-◌, ◌<◌, Bool, true, false, ◌==◌, if◌then◌else◌, None, [], ◌∷◌, ◌++◌, refl, sym, ◌∙◌, ap, arith}
+use Rattle.cells.proofs.Basics.{at_put}
 use Rattle.disk_definitions.specs.Store.{Store, StoredNode, Use}
 use Rattle.disk_definitions.specs.Store.Use.{Fresh, Bytes, Empty, Entries}
 use Rattle.disk_definitions.specs.Standing.{IsMetadata}
 use Rattle.store_changes.specs.Edits.{edited, edited_all}
 use Rattle.store_changes.specs.Edits.Edit.{SetInode, SetBit, SetUse, SetLarge}
 use Rattle.store_changes.specs.Changes.{freed, uses_to, large_gone, drop_node, relink}
-use Rattle.store_changes.proofs.Puts.{at_put, edited_append}
+use Rattle.store_changes.proofs.Puts.{edited_append}
 use Rattle.plan_definitions.specs.NamePlans.{is_last, fewer}
 use Rattle.plan_definitions.specs.Meets.{is_directory_use}
 

@@ -1,11 +1,11 @@
 -- What the tests ask with may be asked: paths have names, and few segments are held.
 use Rattle.std.proofs.Common.{◌≡◌, ◌<◌, ◌&&◌, ℕ, Bool, true, false, List, Some, [], ◌∷◌, refl, sym, subst, arith}
-use Rattle.std.proofs.lemmas.Bool.Decides.{nat_tests}
 use Rattle.std.specs.List.{list_all}
 use Rattle.std.specs.BTreeMap.{insert_entry, is_at}
 use Rattle.std.specs.Ordering.{nat_cmp}
 use Rattle.frang_base.specs.Name.{is_name}
 use Rattle.frang_base.specs.declared.bitmap.Bitmap.{Bitmap}
+use Rattle.change_definitions.proofs.MapLaws.{found}
 use Rattle.pick_definitions.specs.Held.{Segments, AreSegments, bitmap_of}
 use Rattle.plan_conditions.specs.Allowed.{AreNames}
 
@@ -22,9 +22,6 @@ no_segment held e = subst AreSegments (sym e) none
   where
     none : AreSegments []
     none k x at = absurd (cc)
-
-found : (a b : ℕ) → is_at (nat_cmp a) b ≡ true → b ≡ a
-found a b e = grind (arith, nat_tests)
 
 pub one_segment : (held : Segments) (j : ℕ) (y : Bitmap) → held ≡ insert_entry nat_cmp [] j y → j < 64 → AreSegments held
 one_segment held j y e low = subst AreSegments (sym e) one

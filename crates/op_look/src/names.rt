@@ -3,8 +3,9 @@ ghost use Rattle.std.specs.Prelude.{◌≡◌, ◌≤◌, ◌<◌, fold, IfOk, I
 ghost use Rattle.std.specs.Option.{option_map};
 ghost use Rattle.pick_definitions.specs.Held.{Segments};
 ghost use Rattle.sector_definitions.specs.Directories.{directory_fits};
+ghost use Rattle.disk_definitions.specs.Store.{stored, entered};
 ghost use Rattle.plan_definitions.specs.LookPlans.{entries_of};
-ghost use Rattle.dir_lookup.specs.Stored.{IsProper, entered, entries_at, stored};
+ghost use Rattle.dir_lookup.specs.Stored.{IsProper, entries_at};
 ghost use Rattle.op_look.specs.Looks.{ListsNames, with_name, with_place};
 ghost use Rattle.std.specs.Map.{keys_of};
 

@@ -1,12 +1,13 @@
 // The plan of a look.
 ghost use Rattle.std.specs.Prelude.{◌≡◌, ◌≤◌, ◌<◌, ◌^◌, Bool, ℕ, IfOk, [], if◌then◌else◌, take, ◌==◌};
 ghost use Rattle.pick_definitions.specs.Held.{Segments};
+ghost use Rattle.disk_definitions.specs.Store.{stored};
 ghost use Rattle.plan_definitions.specs.LookPlans.{described, plan_described, plan_listed, plan_target, plan_timed, timed};
 ghost use Rattle.plan_definitions.specs.Plans.{Hand};
 ghost use Rattle.plan_definitions.specs.PlanOf.{plan_of};
 ghost use Rattle.dir_lookup.specs.Planned.{planned};
 ghost use Rattle.dir_lookup.specs.Reading.{reading};
-ghost use Rattle.dir_lookup.specs.Stored.{IsUsed, stored};
+ghost use Rattle.dir_lookup.specs.Stored.{IsUsed};
 ghost use Rattle.plan_steps.specs.Ends.{Says};
 ghost use Rattle.code_plan_laws.specs.CodeStands.{StandsOverDisks, IsExactOverDisks};
 ghost use Rattle.op_look.specs.Looks.{IsLook, says};

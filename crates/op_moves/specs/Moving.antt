@@ -1,7 +1,7 @@
 -- The name that is moved, as the code has it.
 use Rattle.std.specs.Prelude.{◌<◌, ◌*◌}
+use Rattle.disk_definitions.specs.Store.{stored, entered}
 use Rattle.plan_definitions.specs.NamePlans.{Moving}
-use Rattle.dir_lookup.specs.Stored.{entered, stored}
 use Rattle.dir_steps.specs.Nodes.{IsDirectory}
 use Rattle.op_moves.specs.declared.named.Named.{Named}
 

@@ -1,5 +1,6 @@
 // Second names of files and links.
 ghost use Rattle.std.specs.Prelude.{◌≡◌, ◌++◌, ◌+◌, ◌∷◌, ◌<◌, ℕ, List, Some, nat_le};
+ghost use Rattle.disk_definitions.specs.Store.{stored, entered};
 ghost use Rattle.store_changes.specs.Changes.{relink};
 ghost use Rattle.plan_definitions.specs.Ask.{bind};
 ghost use Rattle.plan_definitions.specs.Walks.{walk};
@@ -7,7 +8,6 @@ ghost use Rattle.plan_definitions.specs.Plans as plans;
 ghost use Rattle.plan_definitions.specs.NamePlans.{linking, linking_node, linking_to, plan_linked};
 ghost use Rattle.dir_lookup.specs.Reading.{reading};
 ghost use Rattle.dir_lookup.specs.Spots.{spot_of};
-ghost use Rattle.dir_lookup.specs.Stored.{entered, stored};
 ghost use Rattle.plan_steps.specs.Ends.{Comes};
 ghost use Rattle.plan_definitions.specs.Written.{hand_of};
 ghost use Rattle.dir_steps.specs.Nodes.{IsDirectory};

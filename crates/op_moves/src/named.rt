@@ -1,6 +1,6 @@
 // Directories, and names in them.
 ghost use Rattle.std.specs.Prelude.{◌≡◌, ◌==◌};
-ghost use Rattle.dir_lookup.specs.Stored.{entered};
+ghost use Rattle.disk_definitions.specs.Store.{entered};
 
 use dir_lookup::Found;
 use sector_definitions::{DirEntry, Inode};

@@ -2,6 +2,7 @@
 ghost use Rattle.std.specs.Prelude.{◌≡◌, ◌==◌, ◌++◌, ◌&&◌, ◌<◌, ◌*◌, ℕ, List, Some, None, not, if◌then◌else◌, nat_lt};
 ghost use Rattle.pick_definitions.specs.Held.{Segments};
 ghost use Rattle.frang_base.specs.declared.reply.Reply.TheVariants as reply;
+ghost use Rattle.disk_definitions.specs.Store.{stored, entered};
 ghost use Rattle.store_changes.specs.Changes.{replace_entry, take_entry};
 ghost use Rattle.plan_definitions.specs.Ask.{bind};
 ghost use Rattle.plan_definitions.specs.Walks.{walk};
@@ -10,7 +11,7 @@ ghost use Rattle.plan_definitions.specs.NamePlans.{fewer as less, goes_through, 
 ghost use Rattle.plan_definitions.specs.Written.{Cached};
 ghost use Rattle.dir_lookup.specs.Reading.{reading};
 ghost use Rattle.dir_lookup.specs.Spots.{spot_of};
-ghost use Rattle.dir_lookup.specs.Stored.{IsUsed, entered, stored};
+ghost use Rattle.dir_lookup.specs.Stored.{IsUsed};
 ghost use Rattle.plan_steps.specs.Ends.{Comes};
 ghost use Rattle.plan_definitions.specs.Written.{hand_of};
 ghost use Rattle.dir_steps.specs.Nodes.{IsDirectory};

@@ -1,6 +1,6 @@
 // Room for an entry that comes.
 ghost use Rattle.std.specs.Prelude.{IfOk};
-ghost use Rattle.dir_lookup.specs.Stored.{stored};
+ghost use Rattle.disk_definitions.specs.Store.{stored};
 ghost use Rattle.plan_definitions.specs.Written.{hand_of};
 ghost use Rattle.dir_steps.specs.Nodes.{IsDirectory};
 ghost use Rattle.dir_steps.specs.Rooms.{IsRoomOf};

@@ -1,11 +1,11 @@
 // Nodes that are made: files, directories and links.
 ghost use Rattle.std.specs.Prelude.{◌≡◌, ◌++◌, ℕ, List, IfOk};
+ghost use Rattle.disk_definitions.specs.Store.{stored, entered};
 ghost use Rattle.store_changes.specs.Changes.{new_node};
 ghost use Rattle.plan_definitions.specs.Plans as plans;
 ghost use Rattle.plan_definitions.specs.NamePlans.{making, plan_made};
 ghost use Rattle.dir_lookup.specs.Reading.{reading};
 ghost use Rattle.dir_lookup.specs.Spots.{spot_of};
-ghost use Rattle.dir_lookup.specs.Stored.{entered, stored};
 ghost use Rattle.plan_steps.specs.Ends.{Comes};
 ghost use Rattle.plan_definitions.specs.Written.{hand_of};
 ghost use Rattle.dir_steps.specs.Nodes.{IsDirectory, node_of};

@@ -1,11 +1,12 @@
 // Names that are removed.
 ghost use Rattle.std.specs.Prelude.{◌++◌, ◌<◌, ◌*◌, ℕ, List};
+ghost use Rattle.disk_definitions.specs.Store.{stored};
 ghost use Rattle.store_changes.specs.Changes.{take_entry};
 ghost use Rattle.plan_definitions.specs.NamePlans as plans;
 ghost use Rattle.plan_definitions.specs.Written.{Cached};
 ghost use Rattle.dir_lookup.specs.Reading.{reading};
 ghost use Rattle.dir_lookup.specs.Spots.{spot_of};
-ghost use Rattle.dir_lookup.specs.Stored.{IsUsed, stored};
+ghost use Rattle.dir_lookup.specs.Stored.{IsUsed};
 ghost use Rattle.plan_steps.specs.Ends.{Comes};
 ghost use Rattle.dir_steps.specs.Nodes.{IsDirectory};
 ghost use Rattle.dir_steps.specs.Spots.{IsStanding};

@@ -1,5 +1,5 @@
 -- What the least number that passes a test is, and how the search for it goes on.
-use Rattle.std.proofs.Common.{ℕ, zero, suc, ◌≡◌, ◌<◌, ◌≤◌, ◌+◌, ◌-◌, ◌⊎◌, ⊎_elim, Bool, true, false, Some, None, refl, sym, ap, subst, ◌∙◌, arith}
+use Rattle.std.proofs.Common.{ℕ, zero, suc, ◌≡◌, ◌<◌, ◌≤◌, ◌+◌, ◌-◌, ◌⊎◌, ⊎_elim, Bool, true, false, Option, Some, None, refl, sym, ap, subst, ◌∙◌, arith}
 use Rattle.pick_definitions.specs.Least.{least_from, least}
 
 pub from_here : (test : ℕ → Bool) (i n : ℕ) → test i ≡ true → least_from test i (suc n) ≡ Some i
@@ -104,3 +104,13 @@ from_same f g i (suc n) h = go (from_same f g (i + 1) n (λ j lo hi. h j (omega 
 
 pub least_same : (f g : ℕ → Bool) (n : ℕ) → ((j : ℕ) → j < n → f j ≡ g j) → least f n ≡ least g n
 least_same f g n h = least_below f n ∙ from_same f g 0 n (λ j lo hi. h j (omega arith)) ∙ sym (least_below g n)
+
+-- ---- number after number
+pub step_found : (test : ℕ → Bool) (i end : ℕ) (want : Option ℕ) → i < end → test i ≡ true → least_from test i (end - i) ≡ want → Some i ≡ want
+step_found test i end want l t e = sym (found_at test i i end (omega arith) l t (λ j lo hi. absurd (omega arith))) ∙ e
+
+pub step_passed : (test : ℕ → Bool) (i end : ℕ) (want : Option ℕ) → i < end → test i ≡ false → least_from test i (end - i) ≡ want → least_from test (i + 1) (end - (i + 1)) ≡ want
+step_passed test i end want l f e = sym (passed_to test i (i + 1) end (omega arith) (omega arith) (λ j lo hi. let s : i ≡ j = omega arith in subst (λ x. test x ≡ false) s f)) ∙ e
+
+pub step_end : (test : ℕ → Bool) (i end : ℕ) (want : Option ℕ) → end ≤ i → least_from test i (end - i) ≡ want → None ≡ want
+step_end test i end want l e = let z : end - i ≡ 0 = omega arith in sym (from_none test i) ∙ ap (least_from test i) (sym z) ∙ e

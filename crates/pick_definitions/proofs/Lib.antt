@@ -1,4 +1,3 @@
-pub mod Chosen
 pub mod Digits
 pub mod LeastLaws
 pub mod Counts

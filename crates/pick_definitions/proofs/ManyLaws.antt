@@ -8,12 +8,12 @@ use Rattle.std.specs.List.Sorted.{IsStrictlyIncreasing}
 use Rattle.std.specs.Option.{option_map, option_and_then}
 use Rattle.frang_base.specs.declared.bitmap.Bitmap.{Bitmap}
 use Rattle.sector_definitions.specs.Bitmaps.{block_state}
+use Rattle.sector_definitions.proofs.Chosen.{chosen_same, chosen_other}
 use Rattle.pick_definitions.specs.Least.{count}
 use Rattle.pick_definitions.specs.Held.{Segments, bitmap_of, state_in}
 use Rattle.pick_definitions.specs.Picks.{is_in_state, least_in_state, with_state_at, picks, picked_bytes, picked_many}
 use Rattle.pick_definitions.specs.Taken.{taken_small}
 use Rattle.pick_definitions.specs.Laws.{PicksTheLeast, PicksWhereThereAreEnough, PicksOneAfterAnother}
-use Rattle.pick_definitions.proofs.Chosen.{chosen_same, chosen_other}
 use Rattle.pick_definitions.proofs.LeastLaws.{least_some, least_nothing, least_same}
 use Rattle.pick_definitions.proofs.Counts.{count_none, count_less_one}
 use Rattle.pick_definitions.proofs.PickLaws.{state_is, not_state, held_there}

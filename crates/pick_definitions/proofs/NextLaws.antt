@@ -3,11 +3,11 @@ use Rattle.std.proofs.Common.{ℕ, ◌≡◌, ◌≢◌, ◌<◌, ◌/◌, ◌%�
 use Rattle.std.proofs.lemmas.Bool.{cases_lt, cases_eq}
 use Rattle.frang_base.specs.declared.bitmap.Bitmap.{Bitmap}
 use Rattle.sector_definitions.specs.Bitmaps.{inode_bit}
+use Rattle.sector_definitions.proofs.Chosen.{chosen_same, chosen_other}
 use Rattle.pick_definitions.specs.Held.{Segments, bitmap_of, inode_in, state_in, large_in}
 use Rattle.pick_definitions.specs.Picks.{or_else, least_in_state, picked_directory}
 use Rattle.pick_definitions.specs.Taken.{taken_inode, taken_large, taken_small}
 use Rattle.pick_definitions.specs.Laws.{NextInodeIsAbove, NextLargeBlockIsAbove, NextForBytesIsAbove, NextForADirectoryIsAnother}
-use Rattle.pick_definitions.proofs.Chosen.{chosen_same, chosen_other}
 use Rattle.pick_definitions.proofs.PickLaws.{held_there, an_inode, a_large_block, in_state}
 use Rattle.pick_definitions.proofs.TakenLaws.{small_is_changed, inode_is_marked, large_is_marked}
 use Rattle.pick_definitions.proofs.ManyLaws.{is_held}

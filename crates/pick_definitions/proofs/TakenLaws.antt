@@ -1,56 +1,18 @@
 -- What is taken or given back has its new state, and all else stays.
-use Rattle.std.proofs.Common.{ℕ, ◌≡◌, ◌≢◌, ◌<◌, ◌/◌, ◌%◌, ◌*◌, ◌+◌, inl, inr, ◌==◌, if◌then◌else◌, is_some, Bool, true, false, ◌||◌, Option, Some, None, List, [], ◌∷◌, length, refl, sym, ap, subst, ◌∙◌, arith}
+use Rattle.std.proofs.Common.{ℕ, ◌≡◌, ◌≢◌, ◌<◌, ◌/◌, ◌%◌, ◌*◌, ◌+◌, inl, inr, ◌==◌, if◌then◌else◌, is_some, Bool, true, false, ◌||◌, Option, Some, None, [], ◌∷◌, length, refl, sym, ap, subst, ◌∙◌, arith}
 use Rattle.std.proofs.lemmas.Bool.{cases_eq}
-use Rattle.std.proofs.lemmas.Bool.Decides.{nat_tests}
-use Rattle.std.specs.BTreeMap.{insert_entry, is_at}
-use Rattle.std.specs.Map.{lookup}
 use Rattle.std.proofs.Math.ListN.{length-set}
 use Rattle.std.specs.List.{list_any}
 use Rattle.std.specs.Option.{option_map}
-use Rattle.std.specs.Ordering.{nat_cmp, match_ordering, is_eq}
-use Rattle.std.specs.declared.cmp.Ordering.{Ordering}
-use Rattle.std.specs.declared.cmp.Ordering.TheVariants.{Less, Equal, Greater}
+use Rattle.std.specs.Ordering.{nat_cmp}
 use Rattle.frang_base.specs.declared.bitmap.Bitmap.{Bitmap}
 use Rattle.sector_definitions.specs.Bitmaps.{inode_bit, block_state}
+use Rattle.sector_definitions.proofs.Chosen.{chosen, chosen_same, chosen_other}
+use Rattle.tree_laws.proofs.Pairs.{birth_exact, found_put, found_other}
 use Rattle.pick_definitions.specs.Held.{Segments, bitmap_of, inode_in, state_in, large_in}
 use Rattle.pick_definitions.specs.Taken.{with_state, with_inode, with_large, put_bitmap, changed_at, taken_small, marked_inode, marked_large, with_states}
 use Rattle.pick_definitions.specs.Laws.{SmallBlockIsChanged, InodeIsMarked, LargeBlockIsMarked, SegmentsAreChanged, StatesAreChanged}
-use Rattle.pick_definitions.proofs.Chosen.{chosen, chosen_same, chosen_other}
 use Rattle.pick_definitions.proofs.Digits.{state_replaced, inode_marked}
-
--- a number is at itself alone
-at_itself : (q : ℕ) → is_at (nat_cmp q) q ≡ true
-at_itself q = grind (arith, nat_tests)
-
-at_another : (q k : ℕ) → q ≢ k → is_at (nat_cmp q) k ≡ false
-at_another q k d = grind (arith, nat_tests)
-
-equal_is : (k q : ℕ) → nat_cmp k q ≡ Equal → k ≡ q
-equal_is k q e = grind (arith, nat_tests)
-
-greater_is : (k q : ℕ) → nat_cmp k q ≡ Greater → k ≢ q
-greater_is k q e = grind (arith, nat_tests)
-
--- the segment that was put has its new bitmap, and each other one what it had
-found_put : {X : Type 0} (es : List (ℕ × X)) (k : ℕ) (v : X) → lookup (is_at (nat_cmp k)) (insert_entry nat_cmp es k v) ≡ Some v
-found_put [] k v = rw (at_itself k) refl
-found_put (e ∷ es) k v = go (found_put es k v) (nat_cmp k e.0) refl
-  where
-    go : lookup (is_at (nat_cmp k)) (insert_entry nat_cmp es k v) ≡ Some v → (o : Ordering) → nat_cmp k e.0 ≡ o
-        → lookup (is_at (nat_cmp k)) (match_ordering o ((k, v) ∷ e ∷ es) ((e.0, v) ∷ es) (e ∷ insert_entry nat_cmp es k v)) ≡ Some v
-    go rest Less i = rw (at_itself k) refl
-    go rest Equal i = let at : is_at (nat_cmp k) e.0 ≡ true = ap is_eq i in rw at refl
-    go rest Greater i = rw (at_another k e.0 (greater_is k e.0 i)) rest
-
-found_other : {X : Type 0} (es : List (ℕ × X)) (k : ℕ) (v : X) (q : ℕ) → q ≢ k → lookup (is_at (nat_cmp q)) (insert_entry nat_cmp es k v) ≡ lookup (is_at (nat_cmp q)) es
-found_other [] k v q d = rw (at_another q k d) refl
-found_other {X = X} (e ∷ es) k v q d = go (found_other es k v q d) (nat_cmp k e.0) refl
-  where
-    go : lookup (is_at (nat_cmp q)) (insert_entry nat_cmp es k v) ≡ lookup (is_at (nat_cmp q)) es → (o : Ordering) → nat_cmp k e.0 ≡ o
-        → lookup (is_at (nat_cmp q)) (match_ordering o ((k, v) ∷ e ∷ es) ((e.0, v) ∷ es) (e ∷ insert_entry nat_cmp es k v)) ≡ lookup (is_at (nat_cmp q)) (e ∷ es)
-    go rest Less i = rw (at_another q k d) refl
-    go rest Equal i = let at : is_at (nat_cmp q) e.0 ≡ false = at_another q e.0 (λ j. d (j ∙ sym (equal_is k e.0 i))) in rw at refl
-    go rest Greater i = ap (λ (o : Option X). if is_at (nat_cmp q) e.0 then Some e.1 else o) rest
 
 module _ (held : Segments) (k : ℕ) (change : Bitmap → Bitmap) where
   changed_here : bitmap_of (changed_at held k change) k ≡ option_map change (bitmap_of held k)
@@ -58,14 +20,14 @@ module _ (held : Segments) (k : ℕ) (change : Bitmap → Bitmap) where
     where
       go : (o : Option Bitmap) → bitmap_of held k ≡ o → bitmap_of (put_bitmap held k change o) k ≡ option_map change o
       go None e = e
-      go (Some x) e = found_put held k (change x)
+      go (Some x) e = found_put nat_cmp birth_exact held k (change x)
 
   changed_else : (q : ℕ) → q ≢ k → bitmap_of (changed_at held k change) q ≡ bitmap_of held q
   changed_else q d = go (bitmap_of held k)
     where
       go : (o : Option Bitmap) → bitmap_of (put_bitmap held k change o) q ≡ bitmap_of held q
       go None = refl
-      go (Some x) = found_other held k (change x) q d
+      go (Some x) = found_other nat_cmp birth_exact held k (change x) q d
 
   -- what the change leaves of each bitmap stays
   pub kept : {Y : Type 0} (f : Bitmap → Y) → ((x : Bitmap) → f (change x) ≡ f x) → (q : ℕ) → option_map f (bitmap_of (changed_at held k change) q) ≡ option_map f (bitmap_of held q)

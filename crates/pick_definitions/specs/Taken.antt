@@ -1,15 +1,12 @@
 -- The held segments once something is taken of them or given back.
-use Rattle.std.specs.Prelude.{ℕ, ◌+◌, ◌-◌, ◌*◌, ◌/◌, ◌%◌, ◌^◌, Bool, true, ◌==◌, if◌then◌else◌, Option, Some, None, List, [], ◌∷◌, slice_index, slice_set}
+use Rattle.std.specs.Prelude.{ℕ, ◌/◌, ◌%◌, ◌^◌, Bool, true, ◌==◌, if◌then◌else◌, Option, Some, None, List, [], ◌∷◌, slice_index, slice_set}
 use Rattle.std.specs.BTreeMap.{insert_entry}
 use Rattle.std.specs.Int.{w64, bit_not}
 use Rattle.std.specs.Int.Bits.{bit_and, bit_or}
 use Rattle.std.specs.Ordering.{nat_cmp}
 use Rattle.frang_base.specs.declared.bitmap.Bitmap.{Bitmap}
+use Rattle.sector_definitions.specs.Bitmaps.{with_digit}
 use Rattle.pick_definitions.specs.Held.{Segments, bitmap_of}
-
--- the byte with another state at one of its four places
-abbrev pub with_digit : ℕ → ℕ → ℕ → ℕ
-with_digit place byte state = byte - byte / 4 ^ place % 4 * 4 ^ place + state * 4 ^ place
 
 -- the segment with its small block j in this state
 abbrev pub with_state : Bitmap → ℕ → ℕ → Bitmap

@@ -2,7 +2,6 @@
 use Rattle.std.specs.Prelude.{◌≡◌, ◌<◌, ◌*◌, ◌^◌, ◌⊎◌, ℕ, true, Some}
 use Rattle.frang_base.specs.declared.op.Op.{Op}
 use Rattle.tree_definitions.specs.Tree.{FileTree}
-use Rattle.tree_laws.specs.WellFormed.{IsNew}
 use Rattle.disk_definitions.specs.Store.{Store, StoredNode, StoredEntry}
 use Rattle.disk_definitions.specs.Standing.{IsMetadata}
 use Rattle.disk_definitions.specs.Naming.{Naming}
@@ -32,5 +31,5 @@ PlanIsFit h segments s (Finishes f) = IsFitFinish h segments s f
 
 -- so it is of the plan of an operation over the disk of a tree
 abbrev pub HasFitPlan : Op → Type 0
-HasFitPlan o = (h : Hand) (s : Store) (tree : FileTree) (n : Naming) (birth : ℕ) → IsOfTree s tree n → IsHandOf h s tree.segments → IsFitStore tree.segments s → IsNew tree birth → birth < 2 ^ 64 → IsAllowed o →
+HasFitPlan o = (h : Hand) (s : Store) (tree : FileTree) (n : Naming) (birth : ℕ) → IsOfTree s tree n → IsHandOf h s tree.segments → IsFitStore tree.segments s → birth < 2 ^ 64 → IsAllowed o →
     PlanIsFit h tree.segments s (run (plan_of h birth o) s)

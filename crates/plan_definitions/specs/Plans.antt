@@ -6,8 +6,9 @@ use Rattle.frang_base.specs.declared.lock.LockId.TheVariants as lock
 use Rattle.frang_base.specs.declared.lock.Mode.{Mode}
 use Rattle.frang_base.specs.declared.lock.Mode.TheVariants.{Shared, Sole}
 use Rattle.frang_base.specs.declared.reply.Reply.{Reply}
+use Rattle.cells.specs.Changes.{put}
 use Rattle.disk_definitions.specs.Store.{StoredNode, StoredEntry}
-use Rattle.store_changes.specs.Edits.{Edit, put}
+use Rattle.store_changes.specs.Edits.{Edit}
 use Rattle.store_changes.specs.Changes.{put_entry, grow}
 use Rattle.pick_definitions.specs.Held.{Segments, state_in}
 use Rattle.pick_definitions.specs.Picks.{is_in_state, picked_directory}

@@ -66,7 +66,7 @@ module _ (o : Op) (planned : IsPlannedForFiles o) (fit : HasFitPlan o) (cached :
     refl,
     by_plan e (run plan s) refl
         (planned h s tree below.stands.naming birth m (of_tree sectors tree below) at new (record { fit = files_fit_now cached held all sectors tree of below; directories = count }))
-        (fit h s tree below.stands.naming birth (of_tree sectors tree below) at (fit_store cached held all sectors tree of below) new small_birth allowed)
+        (fit h s tree below.stands.naming birth (of_tree sectors tree below) at (fit_store cached held all sectors tree of below) small_birth allowed)
         (small_records o h below.most tree.segments sectors birth (fit_store cached held all sectors tree of below)),
   )
 

@@ -4,6 +4,7 @@ use Rattle.std.proofs.Math.Path.{fun_ext}
 use Rattle.std.proofs.lemmas.Bool.{cases_lt}
 use Rattle.std.proofs.lemmas.Option.{slice_get_past}
 use Rattle.std.proofs.lemmas.List.{get_or_past}
+use Rattle.cells.proofs.Basics.{of_lt, of_ge}
 use Rattle.sector_definitions.specs.declared.region.Region.TheVariants as region
 use Rattle.sector_definitions.specs.declared.directory.DirSector.{DirSector}
 use Rattle.sector_definitions.specs.Inodes.{inode_in}
@@ -12,7 +13,6 @@ use Rattle.sector_definitions.specs.Regions.{sector_of}
 use Rattle.change_definitions.specs.SectorMaps.{value_at}
 use Rattle.disk_definitions.specs.Disks.{Sectors}
 use Rattle.disk_definitions.specs.Store.{Store, StoredNode, StoredEntry, stored_node, stored_entry, entry_in, directory_at, store_of}
-use Rattle.store_changes.proofs.Puts.{of_lt, of_ge}
 use Rattle.pick_definitions.specs.Held.{Segments}
 use Rattle.plan_definitions.specs.Ask.{Sector, InodeAt, DirectoryAt, SegmentAt, BytesAt, LargeAt, AtHand, seven, part_of}
 use Rattle.plan_definitions.specs.Written.{Cached, inode_at_hand, directory_at_hand, bytes_at_hand, at_hand}

@@ -3,13 +3,13 @@ use Rattle.std.proofs.Common.{◌≡◌, ℕ, ◌+◌, ◌/◌, ◌<◌, ⊎_eli
 use Rattle.std.specs.List.{Contains}
 use Rattle.std.specs.BTreeMap.{is_at}
 use Rattle.std.specs.Ordering.{nat_cmp}
-use Rattle.std.proofs.lemmas.Bool.Decides.{nat_tests}
 use Rattle.frang_base.specs.declared.bitmap.Bitmap.{Bitmap}
 use Rattle.sector_definitions.specs.declared.region.Region.TheVariants as region
 use Rattle.sector_definitions.specs.Bitmaps.{bitmap_bytes}
 use Rattle.sector_definitions.specs.Regions.{sector_of}
 use Rattle.sector_definitions.proofs.BitmapLaws.{bitmap_read}
 use Rattle.change_definitions.specs.SectorMaps.{value_at}
+use Rattle.tree_laws.proofs.Pairs.{birth_exact, tie, self}
 use Rattle.disk_definitions.specs.Disks.{Sectors}
 use Rattle.store_changes.specs.Edits.{Edit}
 use Rattle.store_changes.specs.Edits.Edit.{SetInode, SetBit, SetUse, SetPlace, SetLarge, SetBytes, SetLargeBytes}
@@ -20,12 +20,6 @@ use Rattle.plan_laws.specs.Looking.{is_at_hand, first_missing}
 use Rattle.file_plan_laws.proofs.Covering.{has_cases}
 use Rattle.plan_conditions.specs.OnDisk.{AreOfDisk}
 use Rattle.edit_look_laws.specs.Looked.{edited_at}
-
-number_is : (q k : ℕ) → is_at (nat_cmp q) k ≡ true → q ≡ k
-number_is q k e = grind (arith, nat_tests)
-
-number_itself : (q : ℕ) → is_at (nat_cmp q) q ≡ true
-number_itself q = grind (arith, nat_tests)
 
 -- a block of a held segment
 pub record IsHeldBlock (held : Segments) (sector : ℕ) (block : List ℕ) : Type 0 where
@@ -41,15 +35,15 @@ block_held (h ∷ held) sector block e = go (block_held held sector block) (is_a
   where
     more : (c : IsHeldBlock held sector block) → is_at (nat_cmp sector) (sector_of (region.Segment h.0)) ≡ false → (b : Bool) → is_at (nat_cmp c.segment) h.0 ≡ b → (if b then Some h.1 else bitmap_of held c.segment) ≡ Some c.bitmap
     more c f true i =
-        let same : sector ≡ sector_of (region.Segment h.0) = c.number ∙ ap (λ k. sector_of (region.Segment k)) (number_is c.segment h.0 i) in
-        let z : is_at (nat_cmp sector) (sector_of (region.Segment h.0)) ≡ true = subst (λ q. is_at (nat_cmp sector) q ≡ true) same (number_itself sector) in
+        let same : sector ≡ sector_of (region.Segment h.0) = c.number ∙ ap (λ k. sector_of (region.Segment k)) (tie nat_cmp birth_exact c.segment h.0 i) in
+        let z : is_at (nat_cmp sector) (sector_of (region.Segment h.0)) ≡ true = subst (λ q. is_at (nat_cmp sector) q ≡ true) same (self nat_cmp birth_exact sector) in
         absurd (cc)
     more c f false i = c.is
 
     go : (value_at (segment_sectors held) sector ≡ Some block → IsHeldBlock held sector block) → (b : Bool) → is_at (nat_cmp sector) (sector_of (region.Segment h.0)) ≡ b →
         (if b then Some (bitmap_bytes h.1) else value_at (segment_sectors held) sector) ≡ Some block → IsHeldBlock (h ∷ held) sector block
     go rest true i e = let same : bitmap_bytes h.1 ≡ block = cc in
-        record { segment = h.0; bitmap = h.1; is = rw (number_itself h.0) refl; number = number_is sector (sector_of (region.Segment h.0)) i; bytes = sym same }
+        record { segment = h.0; bitmap = h.1; is = rw (self nat_cmp birth_exact h.0) refl; number = tie nat_cmp birth_exact sector (sector_of (region.Segment h.0)) i; bytes = sym same }
     go rest false i e = let c = rest e in record { segment = c.segment; bitmap = c.bitmap; is = more c i (is_at (nat_cmp c.segment) h.0) refl; number = c.number; bytes = c.bytes }
 
 held_there : (held : Segments) (k : ℕ) (x : Bitmap) → bitmap_of held k ≡ Some x → value_at (segment_sectors held) (sector_of (region.Segment k)) ≡ None → ⊥
@@ -60,7 +54,7 @@ held_there (h ∷ held) k x e f = go (held_there held k x) (is_at (nat_cmp k) h.
         (c : Bool) → is_at (nat_cmp (sector_of (region.Segment k))) (sector_of (region.Segment h.0)) ≡ c → (if c then Some (bitmap_bytes h.1) else value_at (segment_sectors held) (sector_of (region.Segment k))) ≡ None → ⊥
     go rest b i e true j f = absurd (cc)
     go rest true i e false j f =
-        let z : is_at (nat_cmp (sector_of (region.Segment k))) (sector_of (region.Segment h.0)) ≡ true = subst (λ q. is_at (nat_cmp (sector_of (region.Segment k))) (sector_of (region.Segment q)) ≡ true) (number_is k h.0 i) (number_itself (sector_of (region.Segment k))) in
+        let z : is_at (nat_cmp (sector_of (region.Segment k))) (sector_of (region.Segment h.0)) ≡ true = subst (λ q. is_at (nat_cmp (sector_of (region.Segment k))) (sector_of (region.Segment q)) ≡ true) (tie nat_cmp birth_exact k h.0 i) (self nat_cmp birth_exact (sector_of (region.Segment k))) in
         absurd (cc)
     go rest false i e false j f = rest e f
 

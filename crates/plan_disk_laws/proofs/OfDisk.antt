@@ -1,25 +1,22 @@
 -- What a disk says that stands for a tree is a store of that tree, and what is at hand of the disk is of that store.
-use Rattle.std.proofs.Common.{◌≡◌, ℕ, ◌+◌, ◌*◌, ◌/◌, ◌%◌, ◌<◌, ◌≤◌, ◌&&◌, Bool, true, false, nat_lt, Option, Some, None, List, if◌then◌else◌, is_some, refl, sym, ◌∙◌, ap, subst, arith}
+use Rattle.std.proofs.Common.{◌≡◌, ℕ, ◌+◌, ◌*◌, ◌/◌, ◌%◌, ◌<◌, ◌≤◌, Bool, true, nat_lt, Option, Some, None, List, if◌then◌else◌, is_some, refl, sym, ◌∙◌, ap, subst, arith}
 use Rattle.std.specs.Option.{option_map}
 use Rattle.frang_base.specs.declared.bitmap.Bitmap.{Bitmap}
+use Rattle.cells.proofs.Basics.{of_lt, of_ge}
 use Rattle.sector_definitions.specs.Bitmaps.{inode_bit, block_state}
 use Rattle.tree_definitions.specs.Tree.{FileTree, node_at}
+use Rattle.sector_definitions.proofs.Readings.{and_l}
+use Rattle.sector_definitions.proofs.ParamLaws.{few_segments}
 use Rattle.disk_definitions.specs.Disks.{Sectors}
 use Rattle.disk_definitions.specs.Store.{Store, use_by, store_of, segment_at, bit_in, use_in, large_in as large_there}
 use Rattle.disk_definitions.specs.Store.Use.{Fresh}
 use Rattle.disk_definitions.specs.Naming.{Pictures}
-use Rattle.store_changes.proofs.Puts.{of_lt, of_ge}
-use Rattle.standing_laws.proofs.SoundStanding.{few_segments}
 use Rattle.pick_definitions.specs.Held.{Segments, bitmap_of, inode_in, state_in, large_in}
 use Rattle.pick_definitions.proofs.PickLaws.{held_there}
 use Rattle.plan_definitions.specs.Meets.{IsOfTree, IsHandOf}
 use Rattle.plan_definitions.specs.Written.{hand_of, Cached, is_zeroed}
 use Rattle.record_laws.proofs.Kept.{is_less}
 use Rattle.plan_conditions.specs.OnDisk.{AreOfDisk, StandsBelow}
-
-and_left : (a b : Bool) → (a && b) ≡ true → a ≡ true
-and_left true b e = refl
-and_left false b e = absurd (cc)
 
 -- what is said of a thing that is there
 some_is : {X Y : Type 0} (f : X → Y) (o : Option X) (x : X) (y : Y) → o ≡ Some x → option_map f o ≡ Some y → f x ≡ y
@@ -45,9 +42,9 @@ module _ (sectors : Sectors) (tree : FileTree) (below : StandsBelow sectors tree
     pictures = subst (λ k. Pictures (store_of k sectors) (node_at tree) below.stands.naming) (sym below.stands.segments) below.stands.picture;
     root = below.stands.root;
     births = below.stands.births;
-    inodes = λ i e. is_less i (64 * segments) (and_left (nat_lt i (64 * segments)) (bit_in (segment_at sectors (i / 64)) (i % 64)) e);
+    inodes = λ i e. is_less i (64 * segments) (and_l (nat_lt i (64 * segments)) (bit_in (segment_at sectors (i / 64)) (i % 64)) e);
     blocks = use_past;
-    larges = λ g e. is_less g segments (and_left (nat_lt g segments) (large_there (segment_at sectors g)) e);
+    larges = λ g e. is_less g segments (and_l (nat_lt g segments) (large_there (segment_at sectors g)) e);
   }
 
   module _ (cached : Cached) (held : Segments) (all : Bool) (of : AreOfDisk cached held all segments sectors) (zero_places : (k p : ℕ) → is_zeroed cached k ≡ true → p < 56 → s.place k p ≡ None) where

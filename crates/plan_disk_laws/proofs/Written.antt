@@ -3,6 +3,8 @@ use Rattle.std.proofs.Common.{◌≡◌, ℕ, ◌+◌, ◌*◌, ◌^◌, ◌<◌
 use Rattle.std.proofs.lemmas.Bool.{and_parts}
 use Rattle.frang_base.specs.declared.op.Op.{Op}
 use Rattle.frang_base.specs.declared.change.Change.{Change}
+use Rattle.sector_definitions.proofs.Readings.{and_l, and_r}
+use Rattle.sector_definitions.proofs.WrittenFields.{zero_version}
 use Rattle.log_definitions.specs.Records.{record_bytes, record_fits}
 use Rattle.sector_definitions.specs.declared.param.Param.{Param}
 use Rattle.sector_definitions.specs.declared.region.Region.TheVariants as region
@@ -19,7 +21,6 @@ use Rattle.disk_definitions.specs.Disks.{Sectors}
 use Rattle.disk_definitions.specs.Store.{Store, StoredNode, store_of, directory_at}
 use Rattle.disk_definitions.specs.Naming.{Pictures}
 use Rattle.disk_definitions.specs.Standing.{IsMetadata, IsInGrammar, HasVersionsUpTo, StandsFor, version_at}
-use Rattle.standing_laws.proofs.Shapes.{and_l, and_r}
 use Rattle.store_changes.specs.Edits.{Edit, edited_all}
 use Rattle.store_changes.specs.Edits.Edit.{SetInode, SetBit, SetUse, SetPlace, SetLarge, SetBytes, SetLargeBytes}
 use Rattle.store_changes.specs.Laws.{FilesFit}
@@ -40,7 +41,7 @@ use Rattle.plan_conditions.specs.FitPlans.{IsFitStore, IsFitFinish}
 use Rattle.plan_conditions.specs.SmallRecords.{IsSmall}
 use Rattle.plan_conditions.specs.OnDisk.{AreOfDisk, StandsBelow, MakeARecord, FinishStands}
 use Rattle.plan_disk_laws.proofs.OfDisk.{few}
-use Rattle.plan_disk_laws.proofs.Zeroed.{zero_is_some, zero_version, zero_sector}
+use Rattle.plan_disk_laws.proofs.Zeroed.{zero_is_some, zero_sector}
 
 -- a run is below 2 ^ 32
 small_run : (block : List ℕ) (p : Param) → param_in block ≡ Some p → p.run < 2 ^ 32

@@ -6,7 +6,7 @@ use Rattle.std.proofs.lemmas.List.Folds.{list_all-append}
 use Rattle.sector_definitions.specs.declared.region.Region.TheVariants as region
 use Rattle.sector_definitions.specs.declared.directory.DirEntry.{DirEntry}
 use Rattle.sector_definitions.specs.declared.directory.DirSector.{DirSector}
-use Rattle.sector_definitions.specs.Bytes.{zeros, number_at, same_bytes}
+use Rattle.sector_definitions.specs.Bytes.{zeros, same_bytes}
 use Rattle.sector_definitions.specs.Directories.{directory_bytes, directory_fits, directory_in}
 use Rattle.sector_definitions.specs.Regions.{sector_of}
 use Rattle.sector_definitions.proofs.Readings.{same_bytes_is}
@@ -48,10 +48,6 @@ zero_read = ap directory_in (sym zero_bytes) ∙ directory_back empty storable e
 
 pub zero_is_some : is_some (directory_in (zeros 512)) ≡ true
 zero_is_some = ap is_some zero_read
-
-pub zero_version : number_at 8 0 (zeros 512) ≡ 0
-unfolding zeros
-zero_version = refl
 
 pub no_entry : (r : ℕ) → r < 7 → entry_in (directory_in (zeros 512)) r ≡ None
 unfolding zeros

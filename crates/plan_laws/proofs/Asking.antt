@@ -24,12 +24,12 @@ pub goes_on : {A B : Type 0} → GoesOn A B
 goes_on p f s = (run-bind p f s, looks-bind p f s)
 
 -- one sector, and then the others
-step : {X A : Type 0} (sector : Sector) (o : Option X) (v : X) (f : X → Met A) (xs : Option Sector) (a : A) → ((x : X) → o ≡ Some x → x ≡ v) → f v ≡ unless_missing xs a →
+pub step : {X A : Type 0} (sector : Sector) (o : Option X) (v : X) (f : X → Met A) (xs : Option Sector) (a : A) → ((x : X) → o ≡ Some x → x ≡ v) → f v ≡ unless_missing xs a →
     or_needs sector o f ≡ unless_missing (if is_some o then xs else Some sector) a
 step sector None v f xs a is e = refl
 step sector (Some x) v f xs a is e = ap f (is x refl) ∙ e
 
-held : {A : Type 0} (k : ℕ) (b : Bool) (m : Met A) (xs : Option Sector) (a : A) → m ≡ unless_missing xs a → (if b then m else Needs (SegmentAt k)) ≡ unless_missing (if b then xs else Some (SegmentAt k)) a
+pub held : {A : Type 0} (k : ℕ) (b : Bool) (m : Met A) (xs : Option Sector) (a : A) → m ≡ unless_missing xs a → (if b then m else Needs (SegmentAt k)) ≡ unless_missing (if b then xs else Some (SegmentAt k)) a
 held k true m xs a e = e
 held k false m xs a e = refl
 

@@ -8,11 +8,11 @@ use Rattle.std.specs.BTreeMap.{is_at}
 use Rattle.std.specs.Ordering.{nat_cmp}
 use Rattle.std.specs.List.Sorted.{IsStrictlySortedBy}
 use Rattle.tree_definitions.specs.declared.node.Node.{Node}
+use Rattle.cells.specs.Changes.{put}
+use Rattle.cells.proofs.Basics.{by_test, at_put, put_same, put_other}
 use Rattle.tree_laws.proofs.Pairs.{birth_exact, tie, self}
 use Rattle.pick_definitions.specs.Least.{count}
 use Rattle.pick_definitions.proofs.Counts.{count_none, count_less_one}
-use Rattle.store_changes.specs.Edits.{put}
-use Rattle.store_changes.proofs.Puts.{by_test, at_put, put_same, put_other}
 use Rattle.plan_laws.proofs.Counting.{false_if, rest_sorted, not_head}
 
 -- f with the first so many blocks failing

@@ -4,11 +4,11 @@ use Rattle.std.specs.declared.cmp.Ordering.{Ordering}
 use Rattle.std.specs.Map.{lookup, keys_of}
 use Rattle.std.specs.BTreeMap.{is_at}
 use Rattle.std.specs.List.Sorted.{IsStrictlySortedBy}
+use Rattle.cells.specs.Changes.{put}
+use Rattle.cells.proofs.Basics.{by_test, at_put, put_same, put_other}
 use Rattle.tree_laws.proofs.Pairs.{IsExact, tie, self, none_below}
 use Rattle.pick_definitions.specs.Least.{count, one_if}
 use Rattle.pick_definitions.proofs.Counts.{count_zero, count_more, count_none, count_less_one}
-use Rattle.store_changes.specs.Edits.{put}
-use Rattle.store_changes.proofs.Puts.{by_test, at_put, put_same, put_other}
 
 pub count_all : (f : ℕ → Bool) (n : ℕ) → ((q : ℕ) → q < n → f q ≡ true) → count f n ≡ n
 count_all f zero h = count_zero f

@@ -5,17 +5,19 @@ use Rattle.tree_definitions.specs.declared.node.Node.{Node}
 use Rattle.tree_definitions.specs.declared.node.Node.TheVariants.{Dir}
 use Rattle.tree_definitions.specs.Entries.{Entries, entry_at, with_entry}
 use Rattle.tree_definitions.specs.Tree.{FileTree, node_at, must_grow, grown, blocks_full, lacks_block}
+use Rattle.cells.specs.Changes.{put}
+use Rattle.cells.proofs.Basics.{put_same}
 use Rattle.tree_laws.specs.WellFormed.{put as put_node}
 use Rattle.tree_laws.proofs.Nodes.{each_but, put_same as node_same, put_other as node_other}
 use Rattle.disk_definitions.specs.Store.{Store, StoredNode, StoredEntry}
 use Rattle.disk_definitions.specs.Naming.{Naming, Nodes, first_blocks, entry_of, place_of, dir_place}
 use Rattle.pick_definitions.specs.Least.{least}
 use Rattle.pick_definitions.specs.Picks.{picked_directory}
-use Rattle.store_changes.specs.Edits.{put, edited_all}
+use Rattle.store_changes.specs.Edits.{edited_all}
 use Rattle.store_changes.specs.Changes.{put_entry, grow}
 use Rattle.store_changes.specs.Namings.{named_at, named_block, KeepsOthers}
 use Rattle.store_changes.specs.Laws.{HasInode, IsFreePlace, IsFreeBlock}
-use Rattle.store_changes.proofs.Puts.{put_same, put_twice, edited_append}
+use Rattle.store_changes.proofs.Puts.{put_twice, edited_append}
 use Rattle.store_changes.proofs.Names.{names_come}
 use Rattle.store_changes.proofs.Free.{no_entries}
 use Rattle.std.specs.Map.{keys_of}

@@ -10,6 +10,7 @@ use Rattle.tree_definitions.specs.Entries.{Entries, entry_at, with_entry}
 use Rattle.tree_definitions.specs.Tree.{FileTree, node_at, with_node, grown, inodes_full, lacks_block}
 use Rattle.tree_definitions.specs.Place.{Free, place}
 use Rattle.tree_definitions.specs.Apply.{says, named, made}
+use Rattle.cells.proofs.Basics.{put_same}
 use Rattle.tree_laws.specs.WellFormed.{IsWellFormed, IsNew, put as put_node}
 use Rattle.tree_laws.proofs.Nodes.{node_with}
 use Rattle.tree_laws.proofs.Keeping.{names_nodes}
@@ -21,7 +22,7 @@ use Rattle.store_changes.specs.Edits.{edited_all}
 use Rattle.store_changes.specs.Changes.{new_node}
 use Rattle.store_changes.specs.Namings.{named_new}
 use Rattle.store_changes.specs.Laws.{IsBare, MayCome}
-use Rattle.store_changes.proofs.Puts.{put_same, edited_append}
+use Rattle.store_changes.proofs.Puts.{edited_append}
 use Rattle.plan_definitions.specs.Ask.{run}
 use Rattle.plan_definitions.specs.Walks.{AtGap, walk}
 use Rattle.plan_definitions.specs.Plans.{Hand, Room, enter, find_room, finish_in, must_clear, refused, read_held}

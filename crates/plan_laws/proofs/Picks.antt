@@ -1,36 +1,31 @@
 -- What the picks of held segments find, against what the tree takes of the disk.
-use Rattle.std.proofs.Common.{ℕ, ◌≡◌, ◌≢◌, ◌<◌, ◌≤◌, ◌*◌, ◌/◌, ◌%◌, ◌⊎◌, inl, inr, ⊎_elim, Bool, true, false, not, ◌&&◌, Option, Some, None, length, nat_le, refl, ◌∙◌, ap, subst, arith, is_some}
+use Rattle.std.proofs.Common.{ℕ, ◌≡◌, ◌≢◌, ◌<◌, ◌≤◌, ◌*◌, ◌/◌, ◌%◌, ◌⊎◌, inl, inr, ⊎_elim, Bool, true, false, not, ◌&&◌, Option, Some, None, length, refl, ◌∙◌, ap, subst, arith, is_some}
 use Rattle.std.proofs.lemmas.Bool.Decides.{nat_tests}
 use Rattle.std.specs.Option.{option_map}
 use Rattle.frang_base.specs.declared.bitmap.Bitmap.{Bitmap}
+use Rattle.cells.proofs.Basics.{of_gt, of_le}
 use Rattle.sector_definitions.specs.Bitmaps.{inode_bit, block_state}
 use Rattle.tree_definitions.specs.Tree.{FileTree, inodes_full, blocks_full, count_of, small_blocks}
-use Rattle.disk_definitions.specs.Store.{Store, use_by}
+use Rattle.disk_definitions.specs.Store.{Store, use_by, is_unused}
 use Rattle.disk_definitions.specs.Store.Use.{Fresh, Empty}
 use Rattle.disk_definitions.specs.Naming.{Naming}
 use Rattle.pick_definitions.specs.Least.{count}
 use Rattle.pick_definitions.specs.Held.{AreSegments, bitmap_of, inode_in, state_in}
 use Rattle.pick_definitions.specs.Picks.{is_in_state, picked_inode, picked_directory}
 use Rattle.pick_definitions.proofs.PickLaws.{an_inode, no_inode, for_a_directory, none_for_a_directory, held_there}
-use Rattle.store_changes.specs.Laws.{is_free, IsFreeBlock}
+use Rattle.store_changes.specs.Laws.{IsFreeBlock}
 use Rattle.plan_definitions.specs.Plans.{Hand, must_clear}
 use Rattle.plan_definitions.specs.Meets.{IsOfTree, IsHandOf}
 use Rattle.plan_laws.proofs.Counting.{count_all, count_less}
 use Rattle.plan_laws.proofs.Totals.{inodes_counted, blocks_counted}
 
 -- in use, where neither of the free states
-taken_state : (state : ℕ) → state ≢ 0 → state ≢ 2 → is_free (use_by state) ≡ false
+taken_state : (state : ℕ) → state ≢ 0 → state ≢ 2 → is_unused (use_by state) ≡ false
 taken_state state a b = grind (arith, nat_tests)
 
 held_at : {X Y : Type 0} (f : X → Y) (o : Option X) → is_some o ≡ true → (y : Y) × (option_map f o ≡ Some y)
 held_at f None e = absurd (cc)
 held_at f (Some x) e = (f x, refl)
-
-pub full_if : (room used : ℕ) → room ≤ used → nat_le room used ≡ true
-full_if room used l = grind (arith, nat_tests)
-
-pub room_if : (room used : ℕ) → used < room → nat_le room used ≡ false
-room_if room used l = grind (arith, nat_tests)
 
 module _ (h : Hand) (s : Store) (tree : FileTree) (n : Naming) (of : IsOfTree s tree n) (hand : IsHandOf h s tree.segments) where
   are_segments : AreSegments h.held
@@ -44,7 +39,7 @@ module _ (h : Hand) (s : Store) (tree : FileTree) (n : Naming) (of : IsOfTree s 
       let m : j / 64 < tree.segments = hand.within (j / 64) (ap is_some x.1) in
       let l : j < 64 * tree.segments = omega arith in
       let c : count s.bit (64 * tree.segments) < 64 * tree.segments = count_less s.bit (64 * tree.segments) j l bit in
-      (bit, l, room_if (64 * tree.segments) (length tree.nodes) (subst (λ z. z < 64 * tree.segments) (inodes_counted s tree n of) c))
+      (bit, l, of_gt (64 * tree.segments) (length tree.nodes) (subst (λ z. z < 64 * tree.segments) (inodes_counted s tree n of) c))
 
   not_free : (i : ℕ) (used : Bool) → inode_in h.held i ≡ Some used → inode_in h.held i ≢ Some false → s.bit i ≡ true
   not_free i true e f = hand.bits i true e
@@ -56,16 +51,16 @@ module _ (h : Hand) (s : Store) (tree : FileTree) (n : Naming) (of : IsOfTree s 
       let x = held_at (λ (x : Bitmap). inode_bit x (i % 64)) (bitmap_of h.held (i / 64)) (hand.all.0 all (i / 64) (omega arith)) in
       not_free i x.0 x.1 (no_inode h.held are_segments e i)) in
       let t : count s.bit (64 * tree.segments) ≡ length tree.nodes = inodes_counted s tree n of in
-      full_if (64 * tree.segments) (length tree.nodes) (omega arith)
+      of_le (64 * tree.segments) (length tree.nodes) (omega arith)
 
   abbrev taken : ℕ → Bool
-  taken k = not (is_free (s.use_of k))
+  taken k = not (is_unused (s.use_of k))
 
   state_of : (k : ℕ) → picked_directory h.held ≡ Some k → (state_in h.held k ≡ Some 2) ⊎ (state_in h.held k ≡ Some 0)
   state_of k e = ⊎_elim (λ p. inl p.1) (λ p. inr p.0.1) (for_a_directory h.held k are_segments e)
 
-  block_free : (k : ℕ) → picked_directory h.held ≡ Some k → is_free (s.use_of k) ≡ true
-  block_free k e = ⊎_elim (λ p. ap is_free (hand.states k 2 p)) (λ p. ap is_free (hand.states k 0 p)) (state_of k e)
+  block_free : (k : ℕ) → picked_directory h.held ≡ Some k → is_unused (s.use_of k) ≡ true
+  block_free k e = ⊎_elim (λ p. ap is_unused (hand.states k 2 p)) (λ p. ap is_unused (hand.states k 0 p)) (state_of k e)
 
   block_below : (k : ℕ) → picked_directory h.held ≡ Some k → k < 1024 * tree.segments
   block_below k e = ⊎_elim (λ p. below 2 p) (λ p. below 0 p) (state_of k e)
@@ -75,12 +70,12 @@ module _ (h : Hand) (s : Store) (tree : FileTree) (n : Naming) (of : IsOfTree s 
           let x = held_there (λ (x : Bitmap). block_state x (k % 1024)) (bitmap_of h.held (k / 1024)) state p in
           let m : k / 1024 < tree.segments = hand.within (k / 1024) (ap is_some x.1) in omega arith
 
-  pub block_some : (k : ℕ) → picked_directory h.held ≡ Some k → (is_free (s.use_of k) ≡ true) × (k < 1024 * tree.segments) × (blocks_full tree ≡ false)
+  pub block_some : (k : ℕ) → picked_directory h.held ≡ Some k → (is_unused (s.use_of k) ≡ true) × (k < 1024 * tree.segments) × (blocks_full tree ≡ false)
   block_some k e =
       let free : taken k ≡ false = ap not (block_free k e) in
       let l : k < 1024 * tree.segments = block_below k e in
       let c : count taken (1024 * tree.segments) < 1024 * tree.segments = count_less taken (1024 * tree.segments) k l free in
-      (block_free k e, l, room_if (1024 * tree.segments) (count_of small_blocks tree) (subst (λ z. z < 1024 * tree.segments) (blocks_counted s tree n of) c))
+      (block_free k e, l, of_gt (1024 * tree.segments) (count_of small_blocks tree) (subst (λ z. z < 1024 * tree.segments) (blocks_counted s tree n of) c))
 
   -- a block that needs no clearing has no entries
   pub block_clear : (k : ℕ) → picked_directory h.held ≡ Some k → must_clear h k ≡ false → IsFreeBlock s k
@@ -100,6 +95,6 @@ module _ (h : Hand) (s : Store) (tree : FileTree) (n : Naming) (of : IsOfTree s 
       let x = held_at (λ (x : Bitmap). block_state x (k % 1024)) (bitmap_of h.held (k / 1024)) (hand.all.0 all (k / 1024) (omega arith)) in
       let not_zero : x.0 ≢ 0 = λ i. none.1 k (x.1 ∙ ap Some i) in
       let not_two : x.0 ≢ 2 = λ i. none.0 k (x.1 ∙ ap Some i) in
-      ap (λ u. not (is_free u)) (hand.states k x.0 x.1) ∙ ap not (taken_state x.0 not_zero not_two)) in
+      ap (λ u. not (is_unused u)) (hand.states k x.0 x.1) ∙ ap not (taken_state x.0 not_zero not_two)) in
       let t : count taken (1024 * tree.segments) ≡ count_of small_blocks tree = blocks_counted s tree n of in
-      full_if (1024 * tree.segments) (count_of small_blocks tree) (omega arith)
+      of_le (1024 * tree.segments) (count_of small_blocks tree) (omega arith)

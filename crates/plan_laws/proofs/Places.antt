@@ -7,6 +7,7 @@ use Rattle.std.specs.Map.{keys_of}
 use Rattle.tree_definitions.specs.declared.node.Node.TheVariants.{Dir}
 use Rattle.tree_definitions.specs.Entries.{Entries, entry_at}
 use Rattle.tree_definitions.specs.Tree.{must_grow}
+use Rattle.cells.proofs.Basics.{of_le, of_gt}
 use Rattle.tree_laws.proofs.Pairs.{name_exact}
 use Rattle.disk_definitions.specs.Store.{Store, StoredEntry}
 use Rattle.disk_definitions.specs.Naming.{Naming, Nodes, Pictures, find_in, room_in, first_blocks, entry_of, place_of, dir_place}
@@ -16,7 +17,6 @@ use Rattle.store_changes.specs.Laws.{IsFreePlace}
 use Rattle.store_changes.proofs.Free.{a_some}
 use Rattle.plan_definitions.specs.Walks.{is_vacant}
 use Rattle.plan_laws.proofs.Counting.{count_all, count_less, count_keys}
-use Rattle.plan_laws.proofs.Picks.{full_if, room_if}
 use Rattle.plan_laws.proofs.Spots.{as_inode}
 
 module _ (s : Store) (at : Nodes) (n : Naming) (g : Pictures s at n) (d blocks : ℕ) (entries : Entries) (is : at d ≡ Some (Dir entries blocks)) (sorted : IsStrictlySortedBy (slice_cmp nat_cmp) (keys_of entries)) where
@@ -56,11 +56,11 @@ module _ (s : Store) (at : Nodes) (n : Naming) (g : Pictures s at n) (d blocks :
   place_some q e =
       let r = free_place q e in
       let c : count filled (56 * blocks) < 56 * blocks = count_less filled (56 * blocks) q r.inside (ap is_some r.vacant) in
-      room_if (56 * blocks) (length entries) (subst (λ z. z < 56 * blocks) places_counted c)
+      of_gt (56 * blocks) (length entries) (subst (λ z. z < 56 * blocks) places_counted c)
 
   pub place_none : least vacant (56 * blocks) ≡ None → must_grow entries blocks ≡ true
   place_none e =
       let c : count filled (56 * blocks) ≡ 56 * blocks = count_all filled (56 * blocks) (λ q l.
       ap is_some (sym (as_inode s at n g d blocks q l)) ∙ unvacant (place_of s.place (first_blocks blocks (n.block d)) q) (least_nothing vacant (56 * blocks) e q l)) in
       let t : count filled (56 * blocks) ≡ length entries = places_counted in
-      full_if (56 * blocks) (length entries) (omega arith)
+      of_le (56 * blocks) (length entries) (omega arith)

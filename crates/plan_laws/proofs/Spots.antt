@@ -6,12 +6,12 @@ use Rattle.tree_definitions.specs.declared.node.Node.{Node}
 use Rattle.tree_definitions.specs.declared.node.Node.TheVariants.{Dir, File, Link}
 use Rattle.tree_definitions.specs.Entries.{Entries, entry_at}
 use Rattle.tree_definitions.specs.Place.{Place, Nowhere, place_by, place_in, walked_by}
+use Rattle.cells.proofs.Basics.{of_lt}
 use Rattle.tree_laws.proofs.Sameness.{text_sound, text_same}
 use Rattle.disk_definitions.specs.Store.{Store, StoredNode, StoredEntry}
 use Rattle.disk_definitions.specs.Naming.{Naming, Nodes, Pictures, find_in, room_in, first_blocks, inode_of, entry_of, place_of, dir_place}
 use Rattle.pick_definitions.specs.Least.{least}
 use Rattle.pick_definitions.proofs.LeastLaws.{least_some, least_nothing}
-use Rattle.store_changes.proofs.Puts.{of_lt}
 use Rattle.store_changes.proofs.Rooms.{which_block}
 use Rattle.store_changes.proofs.Kept.{inode_is}
 use Rattle.plan_definitions.specs.Ask.{Got, run}

@@ -6,6 +6,7 @@ use Rattle.tree_definitions.specs.declared.node.Node.TheVariants.{Dir, File, Lin
 use Rattle.tree_definitions.specs.Entries.{Entries}
 use Rattle.tree_definitions.specs.Tree.{FileTree, node_at}
 use Rattle.tree_definitions.specs.Apply.{is_dir}
+use Rattle.cells.proofs.Basics.{at_put}
 use Rattle.tree_laws.specs.WellFormed.{IsWellFormed, put as put_node}
 use Rattle.tree_laws.proofs.Nodes.{each_but, put_same as node_same, put_other as node_other}
 use Rattle.tree_laws.proofs.Places.{dir_is_some}
@@ -16,7 +17,6 @@ use Rattle.store_changes.specs.Edits.{edited_all}
 use Rattle.store_changes.specs.Changes.{new_node, put_entry, take_entry, replace_entry, grow, relink, drop_node}
 use Rattle.store_changes.specs.Namings.{named_new, named_at, named_block, named_less, is_of, KeepsOthers}
 use Rattle.store_changes.specs.Laws.{Leads, MayCome, HasInode, HasNameMore, HasNameLess, HasNameInstead, IsFreePlace, IsFreeBlock, HasNoNames, with_links}
-use Rattle.store_changes.proofs.Puts.{at_put}
 use Rattle.store_changes.proofs.Kept.{inode_is}
 use Rattle.store_changes.proofs.NewNode.{nodes_come}
 use Rattle.store_changes.proofs.Entry.{entries_come, entries_go}

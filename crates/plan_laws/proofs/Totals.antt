@@ -6,12 +6,11 @@ use Rattle.tree_definitions.specs.declared.node.Node.{Node}
 use Rattle.tree_definitions.specs.declared.node.Node.TheVariants.{Dir, File, Link}
 use Rattle.tree_definitions.specs.Tree.{FileTree, node_at, count_of, small_blocks, small_blocks_of}
 use Rattle.tree_laws.proofs.Pairs.{birth_exact}
-use Rattle.disk_definitions.specs.Store.{Store}
+use Rattle.disk_definitions.specs.Store.{Store, is_unused}
 use Rattle.disk_definitions.specs.Store.Use.{Fresh, Empty}
-use Rattle.disk_definitions.specs.Naming.{Naming, blocks_of, use_by, use_for}
+use Rattle.disk_definitions.specs.Naming.{Naming, blocks_of, use_for}
 use Rattle.pick_definitions.specs.Least.{count}
-use Rattle.store_changes.specs.Laws.{is_free}
-use Rattle.store_changes.proofs.Free.{a_some}
+use Rattle.store_changes.proofs.Free.{a_some, in_use}
 use Rattle.plan_definitions.specs.Meets.{IsOfTree}
 use Rattle.plan_laws.proofs.Counting.{count_keys}
 use Rattle.plan_laws.proofs.Blocks.{IsBlockOf, count_blocks}
@@ -24,13 +23,7 @@ same_blocks (File cells links) = zero_more (small_blocks_of (length cells))
     zero_more n = omega arith
 same_blocks (Link target links) = refl
 
-taken_by : (x : Option Node) (j : ℕ) → j < blocks_of x → is_free (use_by x) ≡ false
-taken_by None j l = absurd (omega arith)
-taken_by (Some (Dir entries blocks)) j l = refl
-taken_by (Some (File cells links)) j l = refl
-taken_by (Some (Link target links)) j l = absurd (omega arith)
-
-free_if : (b : Bool) → is_free (if b then Empty else Fresh) ≡ true
+free_if : (b : Bool) → is_unused (if b then Empty else Fresh) ≡ true
 free_if true = refl
 free_if false = refl
 
@@ -45,25 +38,25 @@ module _ (s : Store) (tree : FileTree) (n : Naming) (of : IsOfTree s tree n) whe
       (λ q l e. let b = a_some (n.birth q) (sym (of.pictures.bits q) ∙ e) in let r = of.pictures.whose q b.0 b.1 in (b.0, r.1, r.0))
 
   abbrev taken : ℕ → Bool
-  taken k = not (is_free (s.use_of k))
+  taken k = not (is_unused (s.use_of k))
 
   owned_at : (b j : ℕ) (x : Node) → node_at tree b ≡ Some x → j < small_blocks x → j < blocks_of (node_at tree b)
   owned_at b j x is l = rw is (subst (λ z. j < z) (same_blocks x) l)
 
-  use_at : (b j : ℕ) (x : Node) → node_at tree b ≡ Some x → j < small_blocks x → is_free (s.use_of (n.block b j)) ≡ false
+  use_at : (b j : ℕ) (x : Node) → node_at tree b ≡ Some x → j < small_blocks x → is_unused (s.use_of (n.block b j)) ≡ false
   use_at b j x is l =
       let own : n.owner (n.block b j) ≡ Some (b, j) = of.pictures.owned b j (owned_at b j x is l) in
-      ap is_free (of.pictures.uses (n.block b j) ∙ ap (use_for (n.was (n.block b j)) (node_at tree)) own) ∙ taken_by (node_at tree b) j (owned_at b j x is l)
+      ap is_unused (of.pictures.uses (n.block b j) ∙ ap (use_for (n.was (n.block b j)) (node_at tree)) own) ∙ in_use (node_at tree b) j (owned_at b j x is l)
 
-  pub in_range : (k : ℕ) → is_free (s.use_of k) ≡ false → k < 1024 * tree.segments
+  pub in_range : (k : ℕ) → is_unused (s.use_of k) ≡ false → k < 1024 * tree.segments
   in_range k e = go (nat_lt k (1024 * tree.segments)) refl
     where
       go : (b : Bool) → nat_lt k (1024 * tree.segments) ≡ b → k < 1024 * tree.segments
       go true i = grind (arith, nat_tests)
-      go false i = absurd (let l : 1024 * tree.segments ≤ k = grind (arith, nat_tests) in let f : is_free (s.use_of k) ≡ true = ap is_free (of.blocks k l) in cc)
+      go false i = absurd (let l : 1024 * tree.segments ≤ k = grind (arith, nat_tests) in let f : is_unused (s.use_of k) ≡ true = ap is_unused (of.blocks k l) in cc)
 
-  block_at : (k : ℕ) → not (is_free (s.use_of k)) ≡ true → (o : Option (ℕ × ℕ)) → n.owner k ≡ o → IsBlockOf n.block small_blocks (node_at tree) k
-  block_at k e None i = absurd (let f : is_free (s.use_of k) ≡ true = ap is_free (of.pictures.uses k ∙ ap (use_for (n.was k) (node_at tree)) i) ∙ free_if (n.was k) in let g : not (is_free (s.use_of k)) ≡ false = ap not f in cc)
+  block_at : (k : ℕ) → not (is_unused (s.use_of k)) ≡ true → (o : Option (ℕ × ℕ)) → n.owner k ≡ o → IsBlockOf n.block small_blocks (node_at tree) k
+  block_at k e None i = absurd (let f : is_unused (s.use_of k) ≡ true = ap is_unused (of.pictures.uses k ∙ ap (use_for (n.was k) (node_at tree)) i) ∙ free_if (n.was k) in let g : not (is_unused (s.use_of k)) ≡ false = ap not f in cc)
   block_at k e (Some o) i =
       let r = of.pictures.owners k o.0 o.1 i in
       let some : is_some (node_at tree o.0) ≡ true = there (node_at tree o.0) o.1 r.1 in

@@ -25,7 +25,7 @@ rest_by (Taken d entries blocks name b) next = next b
 rest_by (Free d entries blocks name) next = []
 rest_by (Nowhere r) next = []
 
-abbrev IsNotRoot : Place → Type 0
+abbrev pub IsNotRoot : Place → Type 0
 IsNotRoot Root = ⊥
 IsNotRoot _ = Unit {0}
 
@@ -33,11 +33,11 @@ looked_up : (d blocks : ℕ) (entries : Entries) (name : List ℕ) (o : Option �
 looked_up d blocks entries name None = tt
 looked_up d blocks entries name (Some b) = tt
 
-not_root : (o : Option Node) (d : ℕ) (name : List ℕ) → IsNotRoot (place_in o d name)
-not_root None d name = tt
-not_root (Some (Dir entries blocks)) d name = looked_up d blocks entries name (entry_at entries name)
-not_root (Some (File cells links)) d name = tt
-not_root (Some (Link target links)) d name = tt
+pub place_not_root : (o : Option Node) (d : ℕ) (name : List ℕ) → IsNotRoot (place_in o d name)
+place_not_root None d name = tt
+place_not_root (Some (Dir entries blocks)) d name = looked_up d blocks entries name (entry_at entries name)
+place_not_root (Some (File cells links)) d name = tt
+place_not_root (Some (Link target links)) d name = tt
 
 module _ (s : Store) (tree : FileTree) (n : Naming) (of : IsOfTree s tree n) where
   abbrev Leads : List ℕ → Walked → Place → List ℕ → Type 0
@@ -94,7 +94,7 @@ module _ (s : Store) (tree : FileTree) (n : Naming) (of : IsOfTree s tree n) whe
       let p = place_in (node_at tree d) d name in
       let first = in_inode_leads s (node_at tree) n of.pictures dirs d name (node_at tree d) refl h in
       let w = run (in_inode dirs (n.inode d) name (s.inode (n.inode d))) s in
-      let root = not_root (node_at tree d) d name in
+      let root = place_not_root (node_at tree d) d name in
       let rest = onward_leads (next ∷ names) next names refl (λ more c there. walk_leads (next ∷ names) more c there) w.dirs w.spot p root first.spot in
       rw (run-bind (ReadInode (n.inode d) (in_inode dirs (n.inode d) name)) (λ w. onward (λ more j. walk_from more j (next ∷ names)) w.dirs w.spot) s)
       (record {

@@ -1,2 +1,3 @@
+pub mod AtHand
 pub mod Targets
 pub mod Stopping

@@ -20,11 +20,11 @@ pub record Led (r : Read Walked) (s : Spot) : Type 0 where
   pub is : r ≡ Gives walked
   pub spot : walked.spot ≡ s
 
-led : (r : Read Walked) (s : Spot) → Gives s ≡ then_read r (λ w. Gives w.spot) → Led r s
+pub led : (r : Read Walked) (s : Spot) → Gives s ≡ then_read r (λ w. Gives w.spot) → Led r s
 led (Lacks n) s e = absurd (cc)
 led (Gives w) s e = let h : s ≡ w.spot = cc in record { walked = w; is = refl; spot = sym h }
 
-lacking : (r : Read Walked) (n : ℕ) → Lacks n ≡ then_read r (λ w. Gives w.spot) → r ≡ Lacks n
+pub lacking : (r : Read Walked) (n : ℕ) → Lacks n ≡ then_read r (λ w. Gives w.spot) → r ≡ Lacks n
 lacking (Lacks m) n e = let h : n ≡ m = cc in ap Lacks (sym h)
 lacking (Gives w) n e = absurd (cc)
 

@@ -2,9 +2,8 @@
 use Rattle.std.specs.Prelude.{ℕ, List, map, slice_index}
 use Rattle.std.specs.Option.{option_map}
 use Rattle.bitmap_block.specs.States.{state_number}
-use Rattle.disk_definitions.specs.Store.{use_by}
+use Rattle.disk_definitions.specs.Store.{use_by, stored, entered}
 use Rattle.store_changes.specs.Edits.{Edit, SetInode, SetBit, SetUse, SetPlace, SetLarge, SetBytes, SetLargeBytes}
-use Rattle.dir_lookup.specs.Stored.{stored, entered}
 use Rattle.plan_steps.specs.declared.edit.Edit.{Edit as CodeEdit}
 use Rattle.plan_steps.specs.declared.edit.Edit.TheVariants as edit
 

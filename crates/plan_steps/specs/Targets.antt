@@ -3,7 +3,7 @@ use Rattle.std.specs.Prelude.{◌≡◌, ℕ, Option, Some, None, Result, Ok, Er
 use Rattle.frang_base.specs.declared.reply.Reply.{Reply}
 use Rattle.frang_base.specs.declared.reply.Reply.TheVariants as reply
 use Rattle.sector_definitions.specs.declared.inode.Inode.{Inode}
-use Rattle.disk_definitions.specs.Store.{StoredNode}
+use Rattle.disk_definitions.specs.Store.{StoredNode, stored}
 use Rattle.pick_definitions.specs.Held.{Segments}
 use Rattle.plan_definitions.specs.Ask.{Ask, ReadInode}
 use Rattle.plan_definitions.specs.Walks.{Spot, Target, at_spot}
@@ -12,7 +12,6 @@ use Rattle.plan_definitions.specs.LookPlans.{plan_of_node, with_inode}
 use Rattle.plan_definitions.specs.Written.{Cached}
 use Rattle.dir_lookup.specs.Reading.{Read, Lacks, Gives, reading}
 use Rattle.dir_lookup.specs.Spots.{reply_of}
-use Rattle.dir_lookup.specs.Stored.{stored}
 use Rattle.dir_lookup.specs.declared.spot.Refusal.{Refusal}
 use Rattle.plan_steps.specs.declared.stop.Stop.{Stop}
 use Rattle.plan_steps.specs.declared.stop.Stop.TheVariants as stop

@@ -10,8 +10,8 @@ use Rattle.tree_laws.specs.WellFormed.{IsWellFormed, IsNew}
 use Rattle.tree_laws.proofs.Nodes.{with_other}
 use Rattle.tree_laws.proofs.Places.{dir_is_some}
 use Rattle.disk_definitions.specs.Naming.{find_in}
-use Rattle.disk_definitions.specs.Standing.{IsReached}
-use Rattle.reach_laws.proofs.Walks.{IsReachedAt, finds, reached_on, named_by_dir}
+use Rattle.disk_definitions.specs.Standing.{IsReached, IsReachedAt}
+use Rattle.reach_laws.proofs.Walks.{finds, reached_on, named_by_dir}
 use Rattle.reach_laws.proofs.Reaching.{KeepsWays, dirs_reached, all_reached, reached_links, links_with}
 use Rattle.reach_laws.proofs.Changes.{SameDirs, finds_there, entries_dirs, put_finds, put_keeps, more_dirs, more_finds, more_else, more_links}
 

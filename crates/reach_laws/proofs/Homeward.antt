@@ -10,7 +10,8 @@ use Rattle.tree_definitions.specs.Tree.{FileTree, node_at}
 use Rattle.tree_definitions.specs.Apply.{is_dir}
 use Rattle.tree_definitions.specs.Place.{Place, Root, Taken, Free, Nowhere, place_by, place_in, below, place_from, walked_by, walked_from}
 use Rattle.disk_definitions.specs.Naming.{find_in}
-use Rattle.reach_laws.proofs.Walks.{IsReachedAt, finds, reached_on}
+use Rattle.disk_definitions.specs.Standing.{IsReachedAt}
+use Rattle.reach_laws.proofs.Walks.{finds, reached_on}
 
 -- the place is a name in this directory
 abbrev pub LeadsTo : Place → ℕ → Type 0

@@ -8,8 +8,8 @@ use Rattle.tree_definitions.specs.Apply.{is_dir, name_gone, name_set, moved, roo
 use Rattle.tree_laws.specs.WellFormed.{BirthsAscend, IsWellFormed}
 use Rattle.tree_laws.proofs.Nodes.{with_other, ascend_with}
 use Rattle.tree_laws.proofs.Places.{dir_is_some}
-use Rattle.disk_definitions.specs.Standing.{IsReached}
-use Rattle.reach_laws.proofs.Walks.{IsReachedAt, finds, reached_on}
+use Rattle.disk_definitions.specs.Standing.{IsReached, IsReachedAt}
+use Rattle.reach_laws.proofs.Walks.{finds, reached_on}
 use Rattle.reach_laws.proofs.Reaching.{HaveLinks, KeepsWays, dirs_reached, all_reached, links_with}
 use Rattle.reach_laws.proofs.Changes.{same_place, room_finds, entries_dirs, put_finds, put_keeps, gone_keeps}
 

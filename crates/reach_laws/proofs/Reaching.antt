@@ -10,8 +10,8 @@ use Rattle.tree_laws.proofs.Nodes.{with_same, with_other, without_same, without_
 use Rattle.tree_laws.proofs.Balance.{one_other}
 use Rattle.tree_laws.proofs.Keeping.{has_links}
 use Rattle.disk_definitions.specs.Naming.{find_in}
-use Rattle.disk_definitions.specs.Standing.{IsReached}
-use Rattle.reach_laws.proofs.Walks.{IsReachedAt, finds, root_reached, reached_on, carried, named_by_dir}
+use Rattle.disk_definitions.specs.Standing.{IsReached, IsReachedAt}
+use Rattle.reach_laws.proofs.Walks.{finds, root_reached, reached_on, carried, named_by_dir}
 use Rattle.reach_laws.proofs.NamesThere.{name_there}
 
 -- each node has a link

@@ -17,9 +17,9 @@ use Rattle.tree_definitions.specs.History.{applied, is_answer, told_blocks, leav
 use Rattle.tree_laws.specs.WellFormed.{IsWellFormed, IsNew}
 use Rattle.tree_laws.proofs.Pairs.{birth_exact, tie}
 use Rattle.tree_laws.proofs.StepsLaws.{file_at_is, after_keeps, are_new_after}
-use Rattle.disk_definitions.specs.Standing.{IsReached}
+use Rattle.disk_definitions.specs.Standing.{IsReached, IsReachedAt}
 use Rattle.reach_laws.specs.Reached.{FreshIsReached, StepKeepsReached, StepsKeepReached}
-use Rattle.reach_laws.proofs.Walks.{IsReachedAt, root_reached}
+use Rattle.reach_laws.proofs.Walks.{root_reached}
 use Rattle.reach_laws.proofs.Changes.{cells_reached}
 use Rattle.reach_laws.proofs.Applied.{apply_keeps_reached}
 

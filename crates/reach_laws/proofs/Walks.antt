@@ -6,11 +6,7 @@ use Rattle.tree_definitions.specs.declared.node.Node.TheVariants.{Dir, File, Lin
 use Rattle.tree_definitions.specs.Tree.{FileTree, node_at}
 use Rattle.tree_definitions.specs.Apply.{is_dir}
 use Rattle.disk_definitions.specs.Naming.{Nodes, find_in}
-use Rattle.disk_definitions.specs.Standing.{reached_from}
-
--- a birth is reached from the root
-abbrev pub IsReachedAt : Nodes → ℕ → Type 0
-IsReachedAt at b = (names : List (List ℕ)) × (reached_from at 0 names ≡ Some b)
+use Rattle.disk_definitions.specs.Standing.{reached_from, IsReachedAt}
 
 -- the birth of a name in a directory of a tree
 abbrev pub finds : FileTree → ℕ → List ℕ → Option ℕ

@@ -1,11 +1,11 @@
 -- An inode that was written reads back as it is.
-use Rattle.std.proofs.Common.{◌≡◌, ℕ, zero, suc, ◌-◌, ◌*◌, ◌^◌, ◌<◌, ◌≤◌, inl, inr, ⊎_elim, Bool, true, false, ◌||◌, ◌==◌, nat_lt, nat_le, if◌then◌else◌, Option, Some, None, is_some, List, [], ◌∷◌, ◌++◌, length, take, map, get_or, slice_index, refl, sym, ap, ◌∙◌, subst, arith, length-append, eqb-true, leb-true}
+use Rattle.std.proofs.Common.{◌≡◌, ℕ, zero, suc, ◌-◌, ◌*◌, ◌^◌, ◌<◌, ◌≤◌, inl, inr, ⊎_elim, Bool, true, false, ◌||◌, ◌==◌, nat_lt, nat_le, if◌then◌else◌, Option, Some, None, is_some, List, [], length, take, map, slice_index, refl, sym, ap, ◌∙◌, subst, arith, length-append, eqb-true, leb-true}
 use Rattle.std.proofs.lemmas.Bool.{or_cases, both_ways, cases_eq, cases_lt}
-use Rattle.std.proofs.lemmas.List.{take_at, get_or_append_left, get_or_past, nil_from_length, length-map, get_or-map}
-use Rattle.std.proofs.Math.Seq.{get_or-append_seam}
+use Rattle.std.proofs.lemmas.List.{take_at, get_or_past, nil_from_length}
 use Rattle.cells.proofs.Basics.{of_eq, of_ne, of_lt}
 use Rattle.tree_definitions.specs.Numbers.{below}
 use Rattle.tree_definitions.specs.Tree.{small_blocks_of}
+use Rattle.cells.specs.Changes.{put}
 use Rattle.sector_definitions.specs.declared.inode.Inode.{Inode}
 use Rattle.sector_definitions.specs.declared.region.Region.TheVariants as region
 use Rattle.sector_definitions.specs.Regions.{sector_of}
@@ -13,35 +13,16 @@ use Rattle.sector_definitions.specs.Bytes.{zeros}
 use Rattle.sector_definitions.specs.Inodes.{inode_bytes, inode_in, inode_fits, is_free_inode, is_file_inode, is_directory_inode, is_link_inode}
 use Rattle.sector_definitions.specs.Ranges.{InodeRange}
 use Rattle.sector_definitions.proofs.WrittenFields.{length_zeros}
-use Rattle.sector_definitions.proofs.InodeLaws.{inode_back}
-use Rattle.standing_laws.proofs.Shapes.{and_l, and_r}
+use Rattle.sector_definitions.proofs.InodeLaws.{inode_back, few_blocks}
+use Rattle.sector_definitions.proofs.Chosen.{chosen_same, chosen_other}
+use Rattle.sector_definitions.proofs.Readings.{and_l, and_r}
+use Rattle.sector_definitions.proofs.Lists.{listed_at, length_listed}
 use Rattle.disk_definitions.specs.Disks.{Sectors}
 use Rattle.disk_definitions.specs.Store.{StoredNode, stored_node, store_of}
-use Rattle.store_changes.specs.Edits.{put}
-use Rattle.pick_definitions.proofs.Chosen.{chosen_same, chosen_other}
 use Rattle.plan_definitions.specs.Written.{padded, inode_with}
 use Rattle.record_laws.specs.Fit.{IsFitNode}
 use Rattle.record_laws.specs.Says.{InodesSay}
 use Rattle.record_laws.proofs.Kept.{if_same, is_less}
-
--- ---- numbers by their places
-
-pub length_below : (n : ℕ) → length (below n) ≡ n
-length_below zero = refl
-length_below (suc n) = length-append (below n) (n ∷ []) ∙ omega (arith, length_below n)
-
-below_at : (n j : ℕ) → j < n → get_or (below n) j 0 ≡ j
-below_at zero j l = absurd (omega arith)
-below_at (suc n) j l = ⊎_elim
-    (λ m. get_or_append_left (below n) (n ∷ []) 0 j (omega (arith, length_below n)) ∙ below_at n j m)
-    (λ m. let e : j ≡ length (below n) = omega (arith, length_below n) in ap (λ (i : ℕ). get_or (below n ++ n ∷ []) i 0) e ∙ get_or-append_seam (below n) n [] 0 ∙ sym (e ∙ length_below n))
-    (cases_lt j n)
-
-pub listed_at : (f : ℕ → ℕ) (n j : ℕ) → j < n → slice_index (map f (below n)) j ≡ f j
-listed_at f n j l = get_or-map f (below n) j 0 0 (omega (arith, length_below n)) ∙ ap f (below_at n j l)
-
-pub length_listed : (f : ℕ → ℕ) (n : ℕ) → length (map f (below n)) ≡ n
-length_listed f n = length-map (below n) f ∙ length_below n
 
 -- ---- the fields of a node in use
 
@@ -52,9 +33,6 @@ record IsBounded (x : Inode) : Type 0 where
   blocks : x.blocks ≤ 16
   size : x.size ≤ 1114112
   link : x.kind ≡ 3 → x.size ≤ 384
-
-few_blocks : (size : ℕ) → small_blocks_of size ≤ 16
-few_blocks size = omega arith
 
 file_bounded : (x : Inode) → is_file_inode x ≡ true → IsBounded x
 file_bounded x h =
@@ -94,7 +72,7 @@ link_bounded x h =
     let s : x.size ≤ 384 = leb-true x.size 384 size in
     record { kind = omega arith; links = leb-true x.links 1000 links; blocks = omega arith; size = omega arith; link = λ e. s }
 
-free_is : (x : Inode) → is_free_inode x ≡ true → x.kind ≡ 0
+pub free_is : (x : Inode) → is_free_inode x ≡ true → x.kind ≡ 0
 free_is x h = let kind : x.kind == 0 ≡ true = search (and_l, and_r) depth 12 in eqb-true x.kind 0 kind
 
 not_free : (x : Inode) → 1 ≤ x.kind → is_free_inode x ≡ false

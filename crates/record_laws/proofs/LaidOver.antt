@@ -1,21 +1,19 @@
 -- The changes and the bytes of edits, laid over the disk, at one sector.
-use Rattle.std.proofs.Common.{◌≡◌, ◌≢◌, ℕ, ◌+◌, Bool, true, false, ◌==◌, if◌then◌else◌, Option, Some, None, List, [], ◌∷◌, refl, sym, ap, ◌∙◌, subst, arith}
+use Rattle.std.proofs.Common.{◌≡◌, ◌≢◌, ℕ, ◌+◌, Bool, true, false, ◌==◌, if◌then◌else◌, Option, Some, None, List, [], ◌∷◌, refl, sym, ap, ◌∙◌, subst}
 use Rattle.std.specs.Prelude.{fold}
 use Rattle.std.specs.List.{filter_map}
 use Rattle.std.specs.List.Sorted.{IsStrictlySortedBy}
 use Rattle.std.specs.Map.{keys_of}
 use Rattle.std.specs.BTreeMap.{is_at}
-use Rattle.std.specs.Ordering.{nat_cmp, match_ordering, is_eq}
-use Rattle.std.specs.declared.cmp.Ordering.{Ordering}
-use Rattle.std.specs.declared.cmp.Ordering.TheVariants.{Less, Equal, Greater}
-use Rattle.std.proofs.lemmas.Bool.Decides.{nat_tests}
+use Rattle.std.specs.Ordering.{nat_cmp}
 use Rattle.cells.proofs.Basics.{of_eq, of_ne}
 use Rattle.frang_base.specs.declared.change.Patch.{Patch}
 use Rattle.frang_base.specs.declared.change.Change.{Change}
 use Rattle.change_definitions.specs.Changes.{changed}
-use Rattle.change_definitions.specs.SectorMaps.{value_at, with_value, Ascend}
-use Rattle.change_definitions.proofs.MapLaws.{absent, ascend_with, AllAbove}
+use Rattle.change_definitions.specs.SectorMaps.{value_at, Ascend}
+use Rattle.change_definitions.proofs.MapLaws.{absent, ascend_with, AllAbove, found}
 use Rattle.sector_definitions.specs.Patches.{patches_of}
+use Rattle.tree_laws.proofs.Pairs.{birth_exact, self, found_put, found_other}
 use Rattle.disk_definitions.specs.Disks.{Sectors}
 use Rattle.disk_definitions.specs.Standing.{version_at}
 use Rattle.store_changes.specs.Edits.{Edit}
@@ -28,36 +26,6 @@ by_bool true f g = f refl
 by_bool false f g = g refl
 
 -- ---- maps of sectors
-
-at_itself : (q : ℕ) → is_at (nat_cmp q) q ≡ true
-at_itself q = grind (arith, nat_tests)
-
-at_another : (q k : ℕ) → q ≢ k → is_at (nat_cmp q) k ≡ false
-at_another q k d = grind (arith, nat_tests)
-
-equal_is : (k q : ℕ) → nat_cmp k q ≡ Equal → k ≡ q
-equal_is k q e = grind (arith, nat_tests)
-
-greater_is : (k q : ℕ) → nat_cmp k q ≡ Greater → k ≢ q
-greater_is k q e = grind (arith, nat_tests)
-
-value_put : {V : Type 0} (es : List (ℕ × V)) (k : ℕ) (v : V) → value_at (with_value es k v) k ≡ Some v
-value_put [] k v = rw (at_itself k) refl
-value_put {V} (e ∷ es) k v = go (value_put es k v) (nat_cmp k e.0) refl
-  where
-    go : value_at (with_value es k v) k ≡ Some v → (o : Ordering) → nat_cmp k e.0 ≡ o → value_at (match_ordering o ((k, v) ∷ e ∷ es) ((e.0, v) ∷ es) (e ∷ with_value es k v)) k ≡ Some v
-    go rest Less i = rw (at_itself k) refl
-    go rest Equal i = let at : is_at (nat_cmp k) e.0 ≡ true = ap is_eq i in rw at refl
-    go rest Greater i = rw (at_another k e.0 (greater_is k e.0 i)) rest
-
-value_other : {V : Type 0} (es : List (ℕ × V)) (k : ℕ) (v : V) (q : ℕ) → q ≢ k → value_at (with_value es k v) q ≡ value_at es q
-value_other [] k v q d = rw (at_another q k d) refl
-value_other {V} (e ∷ es) k v q d = go (value_other es k v q d) (nat_cmp k e.0) refl
-  where
-    go : value_at (with_value es k v) q ≡ value_at es q → (o : Ordering) → nat_cmp k e.0 ≡ o → value_at (match_ordering o ((k, v) ∷ e ∷ es) ((e.0, v) ∷ es) (e ∷ with_value es k v)) q ≡ value_at (e ∷ es) q
-    go rest Less i = rw (at_another q k d) refl
-    go rest Equal i = let at : is_at (nat_cmp q) e.0 ≡ false = at_another q e.0 (λ j. d (j ∙ sym (equal_is k e.0 i))) in rw at refl
-    go rest Greater i = ap (λ (o : Option V). if is_at (nat_cmp q) e.0 then Some e.1 else o) rest
 
 -- ---- lists that are filtered
 
@@ -129,7 +97,7 @@ named_ascend sorted (n ∷ ns) h = named_ascend (with_number sorted n) ns (ascen
 pub unnamed : (sorted : List (ℕ × ℕ)) (es : List Edit) (s : ℕ) → Misses true s es → value_at (named sorted es) s ≡ value_at sorted s
 unnamed sorted [] s m = refl
 unnamed sorted (e ∷ es) s m = by_bool (is_metadata e)
-    (λ i. ap (λ (xs : List (ℕ × ℕ)). value_at xs s) (named_true sorted e es i) ∙ unnamed (with_number sorted (edit_sector e)) es s m.1 ∙ value_other sorted (edit_sector e) 0 s (m.0 i))
+    (λ i. ap (λ (xs : List (ℕ × ℕ)). value_at xs s) (named_true sorted e es i) ∙ unnamed (with_number sorted (edit_sector e)) es s m.1 ∙ found_other nat_cmp birth_exact sorted (edit_sector e) 0 s (m.0 i))
     (λ i. ap (λ (xs : List (ℕ × ℕ)). value_at xs s) (named_false sorted e es i) ∙ unnamed sorted es s m.1)
 
 -- where it isn't named, none of the edits writes it
@@ -137,8 +105,8 @@ pub not_named : (sorted : List (ℕ × ℕ)) (es : List Edit) (s : ℕ) → valu
 not_named sorted [] s h = (h, tt)
 not_named sorted (e ∷ es) s h = by_bool (is_metadata e)
     (λ i. let r = not_named (with_number sorted (edit_sector e)) es s (sym (ap (λ (xs : List (ℕ × ℕ)). value_at xs s) (named_true sorted e es i)) ∙ h) in
-    let d : s ≢ edit_sector e = λ q. let some : value_at (with_number sorted (edit_sector e)) s ≡ Some 0 = ap (value_at (with_number sorted (edit_sector e))) q ∙ value_put sorted (edit_sector e) 0 in let none = r.0 in cc in
-    (sym (value_other sorted (edit_sector e) 0 s d) ∙ r.0, ((λ j. d), r.1)))
+    let d : s ≢ edit_sector e = λ q. let some : value_at (with_number sorted (edit_sector e)) s ≡ Some 0 = ap (value_at (with_number sorted (edit_sector e))) q ∙ found_put nat_cmp birth_exact sorted (edit_sector e) 0 in let none = r.0 in cc in
+    (sym (found_other nat_cmp birth_exact sorted (edit_sector e) 0 s d) ∙ r.0, ((λ j. d), r.1)))
     (λ i. let r = not_named sorted es s (sym (ap (λ (xs : List (ℕ × ℕ)). value_at xs s) (named_false sorted e es i)) ∙ h) in (r.0, ((λ j. absurd cc), r.1)))
 
 -- ---- the changes
@@ -169,11 +137,8 @@ pub laid_else : (old new x : Sectors) (sorted : List (ℕ × ℕ)) (s : ℕ) →
 laid_else old new x [] s h = refl
 laid_else old new x (k ∷ sorted) s h = by_bool (is_at (nat_cmp s) k.0)
     (λ e. let some : value_at (k ∷ sorted) s ≡ Some k.1 = ap (λ (t : Bool). if t then Some k.1 else value_at sorted s) e in absurd cc)
-    (λ e. one_laid old new x k sorted s (λ q. let t : is_at (nat_cmp s) k.0 ≡ true = ap (λ (z : ℕ). is_at (nat_cmp s) z) (sym q) ∙ at_itself s in absurd cc)
+    (λ e. one_laid old new x k sorted s (λ q. let t : is_at (nat_cmp s) k.0 ≡ true = ap (λ (z : ℕ). is_at (nat_cmp s) z) (sym q) ∙ self nat_cmp birth_exact s in absurd cc)
     (λ y same. laid_else old new y sorted s (sym (ap (λ (t : Bool). if t then Some k.1 else value_at sorted s) e) ∙ h) ∙ same))
-
-is_there : (s k : ℕ) → is_at (nat_cmp s) k ≡ true → k ≡ s
-is_there s k e = grind (arith, nat_tests)
 
 -- the change of the sector itself, and none of it later
 first_laid : (old new x : Sectors) (k : ℕ × ℕ) (sorted : List (ℕ × ℕ)) (s : ℕ) → k.0 ≡ s → ((y : Sectors) → fold with_change y (changes old new sorted) s ≡ y s)
@@ -199,6 +164,6 @@ pub laid_here : (old new x : Sectors) (sorted : List (ℕ × ℕ)) (s v : ℕ) �
 unfolding IsStrictlySortedBy
 laid_here old new x [] s v asc h = absurd cc
 laid_here old new x (k ∷ sorted) s v asc h = by_bool (is_at (nat_cmp s) k.0)
-    (λ e. let here : k.0 ≡ s = is_there s k.0 e in first_laid old new x k sorted s here (λ y. laid_else old new y sorted s (absent s sorted (subst (λ (z : ℕ). AllAbove z sorted) here asc.0))))
-    (λ e. by_some_change old new x k sorted s (λ q. let t : is_at (nat_cmp s) k.0 ≡ true = ap (λ (z : ℕ). is_at (nat_cmp s) z) (sym q) ∙ at_itself s in absurd cc)
+    (λ e. let here : k.0 ≡ s = found s k.0 e in first_laid old new x k sorted s here (λ y. laid_else old new y sorted s (absent s sorted (subst (λ (z : ℕ). AllAbove z sorted) here asc.0))))
+    (λ e. by_some_change old new x k sorted s (λ q. let t : is_at (nat_cmp s) k.0 ≡ true = ap (λ (z : ℕ). is_at (nat_cmp s) z) (sym q) ∙ self nat_cmp birth_exact s in absurd cc)
     (λ y same. laid_here old new y sorted s v asc.1 (sym (ap (λ (t : Bool). if t then Some k.1 else value_at sorted s) e) ∙ h) ∙ ap (λ (b : List ℕ). made b (change_of old new s)) same))

@@ -2,25 +2,25 @@
 use Rattle.std.proofs.Common.{◌≡◌, ℕ, zero, suc, ◌-◌, ◌*◌, ◌/◌, ◌%◌, ◌<◌, ◌≤◌, inl, inr, Bool, true, false, ◌||◌, ◌==◌, nat_lt, nat_le, if◌then◌else◌, Option, Some, None, is_some, List, [], ◌∷◌, length, take, drop, set, refl, sym, ap, ◌∙◌, subst, arith, length-append, eqb-true, leb-true}
 use Rattle.std.specs.List.{list_all, slice_get}
 use Rattle.std.proofs.Math.ListN.{length-set}
-use Rattle.std.proofs.lemmas.Bool.{and_parts, and_from, cases_eq}
+use Rattle.std.proofs.lemmas.Bool.{and_parts, and_from, cases_eq, or_right}
 use Rattle.std.proofs.lemmas.List.{take_at, drop_at}
 use Rattle.cells.proofs.Basics.{of_lt, of_le}
 use Rattle.frang_base.specs.Name.{is_name}
+use Rattle.cells.specs.Changes.{put2}
 use Rattle.sector_definitions.specs.declared.directory.DirEntry.{DirEntry}
 use Rattle.sector_definitions.specs.declared.directory.DirSector.{DirSector}
 use Rattle.sector_definitions.specs.declared.region.Region.TheVariants as region
 use Rattle.sector_definitions.specs.Regions.{sector_of}
 use Rattle.sector_definitions.specs.Bytes.{zeros, are_zero}
 use Rattle.sector_definitions.specs.Directories.{is_free_place, is_used_place, entry_fits, directory_bytes, directory_fields, directory_in}
-use Rattle.sector_definitions.proofs.WrittenFields.{length_zeros}
+use Rattle.sector_definitions.proofs.WrittenFields.{length_zeros, zeros_are_zero}
 use Rattle.sector_definitions.proofs.DirectoryLaws.{IsStorableEntry, AreStorable, directory_read, directory_back}
-use Rattle.standing_laws.proofs.Shapes.{and_l, and_r}
+use Rattle.sector_definitions.proofs.Chosen.{chosen_same, chosen_other}
+use Rattle.sector_definitions.proofs.Readings.{and_l, and_r}
 use Rattle.disk_definitions.specs.Disks.{Sectors}
 use Rattle.disk_definitions.specs.Store.{StoredEntry, Use, store_of, stored_entry, entry_in, directory_at}
 use Rattle.disk_definitions.specs.Standing.{IsMetadata}
-use Rattle.store_changes.specs.Edits.{put2}
 use Rattle.plan_definitions.specs.Written.{padded, place_with, with_place}
-use Rattle.pick_definitions.proofs.Chosen.{chosen_same, chosen_other}
 use Rattle.record_laws.specs.Fit.{IsFitEntry}
 use Rattle.record_laws.specs.Says.{PlacesSay}
 use Rattle.record_laws.proofs.Grammar.{directory_is, directory_storable}
@@ -59,16 +59,11 @@ MayEnter (Some e) = IsFitEntry e
 name_most : (e : StoredEntry) → IsFitEntry e → length e.name ≤ 64
 name_most e h = let n = h.name in let most : nat_le (length e.name) 64 ≡ true = search (and_l, and_r) depth 12 in leb-true (length e.name) 64 most
 
-zero_zeros : (n : ℕ) → are_zero (zeros n) ≡ true
-unfolding zeros
-zero_zeros zero = refl
-zero_zeros (suc n) = zero_zeros n
-
 name_back : (e : StoredEntry) → take (length e.name) (padded 64 e.name) ≡ e.name
 name_back e = take_at e.name (zeros (64 - length e.name)) (length e.name) refl
 
 rest_back : (e : StoredEntry) → are_zero (drop (length e.name) (padded 64 e.name)) ≡ true
-rest_back e = ap are_zero (drop_at e.name (zeros (64 - length e.name)) (length e.name) refl) ∙ zero_zeros (64 - length e.name)
+rest_back e = ap are_zero (drop_at e.name (zeros (64 - length e.name)) (length e.name) refl) ∙ zeros_are_zero (64 - length e.name)
 
 place_storable : (o : Option StoredEntry) → MayEnter o → IsStorableEntry (place_with o)
 place_storable None h = record { inode = omega arith; name = length_zeros 64 }
@@ -77,10 +72,6 @@ place_storable (Some e) h = let small = h.inode in let most = name_most e h in r
 used_place : (e : StoredEntry) → IsFitEntry e → is_used_place (place_with (Some e)) ≡ true
 used_place e h =
     and_from _ _ (and_from _ _ (and_from _ _ (and_from _ _ (of_le 1 e.kind h.some) (of_le e.kind 3 h.kind)) (of_le (length e.name) 64 (name_most e h))) (ap is_name (name_back e) ∙ h.name)) (rest_back e)
-
-or_right : (a b : Bool) → b ≡ true → (a || b) ≡ true
-or_right true b h = refl
-or_right false b h = h
 
 free_place : is_free_place (place_with None) ≡ true
 unfolding zeros

@@ -1,31 +1,26 @@
 -- An edit of a segment's bits and uses: what the sector then says.
-use Rattle.std.proofs.Common.{◌≡◌, ◌≢◌, ℕ, ◌*◌, ◌/◌, ◌%◌, ◌^◌, ◌<◌, ◌≤◌, Bool, true, false, ◌&&◌, ◌==◌, nat_lt, if◌then◌else◌, Option, Some, None, is_some, List, length, refl, sym, ap, ◌∙◌, inl, inr, arith, bit_and, bit_or, w64}
+use Rattle.std.proofs.Common.{◌≡◌, ◌≢◌, ℕ, ◌*◌, ◌/◌, ◌%◌, ◌^◌, ◌<◌, ◌≤◌, Bool, true, false, ◌&&◌, ◌==◌, nat_lt, if◌then◌else◌, Option, Some, is_some, List, length, refl, sym, ap, ◌∙◌, inl, inr, arith, bit_and, bit_or, w64}
 use Rattle.std.specs.Int.{bit_not}
 use Rattle.std.proofs.Math.ListN.{length-set}
 use Rattle.std.proofs.lemmas.Bool.{cases_eq}
 use Rattle.std.proofs.lemmas.Nat.{or_lt, pow_below, and_le_l}
 use Rattle.cells.proofs.Basics.{of_lt, of_eq, of_ne}
 use Rattle.frang_base.specs.declared.bitmap.Bitmap.{Bitmap}
+use Rattle.cells.specs.Changes.{put}
 use Rattle.sector_definitions.specs.declared.region.Region.TheVariants as region
 use Rattle.sector_definitions.specs.Regions.{sector_of}
 use Rattle.sector_definitions.specs.Bitmaps.{bitmap_bytes, bitmap_fields, bitmap_in, inode_bit, block_state}
 use Rattle.sector_definitions.proofs.BitmapLaws.{bitmap_read, bitmap_back}
+use Rattle.sector_definitions.proofs.Chosen.{chosen, chosen_same, chosen_other}
 use Rattle.pick_definitions.specs.Taken.{with_inode, with_state, with_large}
 use Rattle.pick_definitions.proofs.Digits.{state_replaced, inode_marked}
-use Rattle.pick_definitions.proofs.Chosen.{chosen, chosen_same, chosen_other}
 use Rattle.disk_definitions.specs.Disks.{Sectors}
 use Rattle.disk_definitions.specs.Store.{Use, store_of, segment_at, bit_in, use_by, use_in, large_in}
 use Rattle.disk_definitions.specs.Store.Use.{Fresh, Bytes, Empty, Entries}
-use Rattle.store_changes.specs.Edits.{put}
 use Rattle.plan_definitions.specs.Written.{state_of}
 use Rattle.record_laws.specs.Says.{SegmentsSay}
 use Rattle.record_laws.proofs.Grammar.{IsStorableBitmap, bitmap_storable, bitmap_is}
 use Rattle.record_laws.proofs.Kept.{if_same, and_same, is_less}
-
--- what is there is something
-pub there : {X : Type 0} (o : Option X) → is_some o ≡ true → (x : X) × (o ≡ Some x)
-there None e = absurd cc
-there (Some x) e = (x, refl)
 
 -- a bitmap that was changed and written reads back
 pub changed_back : (block : List ℕ) (x : Bitmap) (f : Bitmap → Bitmap) → bitmap_in block ≡ Some x → ((y : Bitmap) → IsStorableBitmap y → IsStorableBitmap (f y)) → bitmap_in (bitmap_bytes (f (bitmap_fields block))) ≡ Some (f x)

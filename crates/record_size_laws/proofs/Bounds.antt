@@ -6,6 +6,7 @@ use Rattle.std.specs.Map.{keys_of}
 use Rattle.std.specs.Ordering.{nat_cmp, match_ordering}
 use Rattle.std.specs.declared.cmp.Ordering.{Ordering}
 use Rattle.std.specs.declared.cmp.Ordering.TheVariants.{Less, Equal, Greater}
+use Rattle.std.proofs.lemmas.Bool.{or_left, or_right}
 use Rattle.cells.proofs.Basics.{by_some, of_eq}
 use Rattle.byteorder.specs.Endian.{little_bytes}
 use Rattle.frang_base.specs.declared.change.Patch.{Patch}
@@ -23,7 +24,7 @@ use Rattle.record_laws.specs.Ready.{store_after, IsReady}
 use Rattle.record_laws.proofs.LaidOver.{by_bool, filter_none, filter_some, named, named_true, named_false, named_ascend, changes}
 use Rattle.plan_conditions.specs.SmallRecords.{IsSmall}
 use Rattle.record_size_laws.proofs.PatchCosts.{cost, length_change, length_little}
-use Rattle.record_size_laws.proofs.Charges.{budget, charge, names, or_left, or_right, sector_cost}
+use Rattle.record_size_laws.proofs.Charges.{budget, charge, names, sector_cost}
 use Rattle.record_size_laws.proofs.Sums.{total, total_charge}
 
 -- how many edits name a sector

@@ -1,12 +1,13 @@
 -- What each edit adds to a record: the bytes of the change of a sector are at most what the edits of this sector add.
 use Rattle.std.proofs.Common.{◌≡◌, ◌≢◌, ℕ, ◌+◌, ◌*◌, ◌/◌, ◌<◌, ◌≤◌, Bool, true, false, ◌||◌, ◌&&◌, ◌==◌, if◌then◌else◌, inl, inr, List, [], ◌∷◌, length, refl, sym, ap, ◌∙◌, subst, arith}
-use Rattle.std.proofs.lemmas.Bool.{cases_eq}
+use Rattle.std.proofs.lemmas.Bool.{cases_eq, or_left, or_right}
 use Rattle.cells.proofs.Basics.{of_eq, of_ne, eq_of}
 use Rattle.sector_definitions.specs.declared.region.Region.{Region}
 use Rattle.sector_definitions.specs.declared.region.Region.TheVariants as region
 use Rattle.sector_definitions.specs.Regions.{sector_of, is_in_range}
 use Rattle.sector_definitions.specs.Patches.{patches_of}
 use Rattle.sector_definitions.proofs.RegionLaws.{region_once}
+use Rattle.sector_definitions.proofs.Readings.{and_l, and_r}
 use Rattle.disk_definitions.specs.Disks.{Sectors}
 use Rattle.disk_definitions.specs.Store.{Store}
 use Rattle.disk_definitions.specs.Standing.{IsMetadata}
@@ -61,14 +62,6 @@ names s (e ∷ es) = (is_metadata e && s == edit_sector e) || names s es
 or_cases : {P : Type 0} (a b : Bool) → (a || b) ≡ true → (a ≡ true → P) → (b ≡ true → P) → P
 or_cases true b h f g = f refl
 or_cases false b h f g = g h
-
-pub or_right : (a b : Bool) → b ≡ true → (a || b) ≡ true
-or_right true b h = refl
-or_right false b h = h
-
-pub or_left : (a b : Bool) → a ≡ true → (a || b) ≡ true
-or_left true b h = refl
-or_left false b h = absurd cc
 
 -- ---- sums over one sector
 
@@ -168,18 +161,10 @@ pub record Writer (segments : ℕ) (end : Store) (s : ℕ) (es : List Edit) : Ty
   pub meets : MeetsUse end edit
   pub inodes : (i : ℕ) → sets_inode i edit ≡ true → sets_later i es ≡ true
 
-and_left : (a b : Bool) → (a && b) ≡ true → a ≡ true
-and_left true b h = refl
-and_left false b h = absurd cc
-
-and_right : (a b : Bool) → (a && b) ≡ true → b ≡ true
-and_right true b h = h
-and_right false b h = absurd cc
-
 writer : (segments : ℕ) (end : Store) (s : ℕ) (es : List Edit) → AreFit segments end es → names s es ≡ true → Writer segments end s es
 writer segments end s [] fit h = absurd cc
 writer segments end s (e ∷ es) fit h = or_cases (is_metadata e && s == edit_sector e) (names s es) h
-    (λ t. record { edit = e; metadata = and_left (is_metadata e) (s == edit_sector e) t; here = eq_of s (edit_sector e) (and_right (is_metadata e) (s == edit_sector e) t); fit = fit.0.0; meets = fit.0.1; inodes = λ i q. or_left (sets_inode i e) (sets_later i es) q })
+    (λ t. record { edit = e; metadata = and_l (is_metadata e) (s == edit_sector e) t; here = eq_of s (edit_sector e) (and_r (is_metadata e) (s == edit_sector e) t); fit = fit.0.0; meets = fit.0.1; inodes = λ i q. or_left (sets_inode i e) (sets_later i es) q })
     (λ t. let w = writer segments end s es fit.1 t in record { edit = w.edit; metadata = w.metadata; here = w.here; fit = w.fit; meets = w.meets; inodes = λ i q. or_right (sets_inode i e) (sets_later i es) (w.inodes i q) })
 
 partly : (segments : ℕ) (end : Store) (r : Region) (es : List Edit) → segments ≤ 64 → is_in_range segments r ≡ true → AreFit segments end es → ((e : Edit) → MeetsUse end e → edit_region e ≡ r → is_partial e ≡ true) → Partly (sector_of r) es

@@ -4,7 +4,8 @@ use Rattle.std.proofs.lemmas.Bool.{or_cases}
 use Rattle.cells.proofs.Basics.{of_eq}
 use Rattle.sector_definitions.specs.declared.inode.Inode.{Inode}
 use Rattle.sector_definitions.specs.Inodes.{is_free_inode, is_file_inode, is_directory_inode, is_link_inode, inode_fits}
-use Rattle.standing_laws.proofs.Shapes.{and_l, and_r, file_shape, dir_shape, link_shape}
+use Rattle.sector_definitions.proofs.Readings.{and_l, and_r}
+use Rattle.standing_laws.proofs.Shapes.{file_shape, dir_shape, link_shape}
 use Rattle.tree_definitions.specs.declared.node.Node.{Node}
 use Rattle.disk_definitions.specs.Store.{StoredNode, StoredEntry, Use}
 use Rattle.store_changes.specs.Edits.{Edit}

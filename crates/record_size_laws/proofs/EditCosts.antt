@@ -1,5 +1,5 @@
 -- How many bytes of its sector an edit changes that writes a part of it: a segment's bit or use, or a place of a directory.
-use Rattle.std.proofs.Common.{◌≡◌, ℕ, zero, suc, ◌/◌, ◌%◌, ◌<◌, ◌≤◌, Bool, true, false, Some, Option, List, [], ◌∷◌, ◌++◌, length, set, slice_index, refl, sym, ap, ◌∙◌, subst, arith, length-append}
+use Rattle.std.proofs.Common.{◌≡◌, ℕ, zero, suc, ◌/◌, ◌%◌, ◌<◌, ◌≤◌, Bool, true, false, Some, Option, List, [], ◌∷◌, ◌++◌, length, set, slice_index, refl, sym, ap, ◌∙◌, subst, arith}
 use Rattle.std.specs.List.{flat_map}
 use Rattle.std.proofs.Math.ListN.{length-set}
 use Rattle.byteorder.specs.Endian.{little_bytes}
@@ -9,21 +9,21 @@ use Rattle.sector_definitions.specs.declared.directory.DirSector.{DirSector}
 use Rattle.sector_definitions.specs.declared.region.Region.TheVariants as region
 use Rattle.sector_definitions.specs.Regions.{sector_of}
 use Rattle.sector_definitions.specs.Bytes.{zeros}
-use Rattle.sector_definitions.specs.Bitmaps.{large_byte, bitmap_bytes, bitmap_fields, bitmap_in}
+use Rattle.sector_definitions.specs.Bitmaps.{large_byte, bitmap_bytes, bitmap_fields, bitmap_in, with_digit}
 use Rattle.sector_definitions.specs.Directories.{entry_bytes, directory_bytes, directory_fields, directory_in}
 use Rattle.sector_definitions.proofs.BitmapLaws.{bitmap_read}
-use Rattle.sector_definitions.proofs.DirectoryLaws.{IsStorableEntry, AreStorable, directory_read}
-use Rattle.pick_definitions.specs.Taken.{with_digit, with_inode, with_state, with_large}
+use Rattle.sector_definitions.proofs.DirectoryLaws.{AreStorable, directory_read, length_of_entry}
+use Rattle.pick_definitions.specs.Taken.{with_inode, with_state, with_large}
 use Rattle.disk_definitions.specs.Disks.{Sectors}
 use Rattle.disk_definitions.specs.Store.{Store, StoredEntry, segment_at, directory_at}
 use Rattle.disk_definitions.specs.Standing.{version_at}
 use Rattle.store_changes.specs.Edits.{Edit}
 use Rattle.store_changes.specs.Edits.Edit.{SetInode, SetBit, SetUse, SetPlace, SetLarge, SetBytes, SetLargeBytes}
+use Rattle.store_changes.proofs.Free.{a_some}
 use Rattle.plan_definitions.specs.Written.{state_of, place_with, with_place, edit_sector, edited_block}
 use Rattle.record_laws.specs.Fit.{IsFitEdit, MeetsUse}
 use Rattle.record_laws.specs.Says.{Says}
 use Rattle.record_laws.proofs.Grammar.{bitmap_is, directory_is, directory_storable}
-use Rattle.record_laws.proofs.SegmentEdits.{there}
 use Rattle.record_laws.proofs.PlaceEdits.{MayEnter, placed_back}
 use Rattle.record_laws.proofs.EditLaws.{fit_place}
 use Rattle.record_size_laws.proofs.Differing.{differing, same_bytes, at_most, pieces, behind, one_set}
@@ -94,15 +94,12 @@ segment_differs block x f n h l =
 
 -- ---- directories
 
-length_entry : (e : DirEntry) → IsStorableEntry e → length (entry_bytes e) ≡ 72
-length_entry e h = let long : length e.name ≡ 64 = h.name in omega (arith, length-append e.name (0 ∷ 0 ∷ []))
-
 entries_differ : (es : List DirEntry) (p : ℕ) (d : DirEntry) → AreStorable es → AreStorable (set es p d) → differing (flat_map entry_bytes es) (flat_map entry_bytes (set es p d)) ≤ 72
 entries_differ [] p d h g = omega arith
 entries_differ (e ∷ es) zero d h g =
     let rest : List ℕ = flat_map entry_bytes es in
-    let old = length_entry e h.0 in
-    let new = length_entry d g.0 in
+    let old = length_of_entry e h.0 in
+    let new = length_of_entry d g.0 in
     let a = pieces (entry_bytes e) rest (entry_bytes d) rest (old ∙ sym new) in
     let b = at_most 72 (entry_bytes e) (entry_bytes d) (omega arith) (omega arith) in
     let c = same_bytes rest in
@@ -127,7 +124,7 @@ place_differs block x p o h may =
 module _ (segments : ℕ) (end s : Store) (sectors : Sectors) (h : Says segments end sectors s) where
   in_segment : (k : ℕ) (f : Bitmap → Bitmap) (n : ℕ) → k < segments → ((x : Bitmap) → differing (bitmap_bytes x) (bitmap_bytes (f x)) ≤ n)
       → differing (sectors (sector_of (region.Segment k))) (bitmap_bytes (f (bitmap_fields (sectors (sector_of (region.Segment k)))))) ≤ n
-  in_segment k f n l each = let x = there (segment_at sectors k) (h.in_segments.grammar k l) in segment_differs (sectors (sector_of (region.Segment k))) x.0 f n x.1 (each x.0)
+  in_segment k f n l each = let x = a_some (segment_at sectors k) (h.in_segments.grammar k l) in segment_differs (sectors (sector_of (region.Segment k))) x.0 f n x.1 (each x.0)
 
   pub part_differs : (e : Edit) → IsFitEdit segments e → MeetsUse end e → is_partial e ≡ true → differing (sectors (edit_sector e)) (edited_block (sectors (edit_sector e)) (version_at sectors (edit_sector e)) e) ≤ most_in e
   part_differs (SetInode i x) fit meets t = absurd cc
@@ -136,7 +133,7 @@ module _ (segments : ℕ) (end s : Store) (sectors : Sectors) (h : Says segments
   part_differs (SetPlace k p o) fit meets t =
       let f = fit_place segments k p o fit in
       let lp : p < 56 = f.1 in
-      let x = there (directory_at sectors k (p / 7)) (h.in_places.grammar k (p / 7) f.0 (omega arith) meets) in
+      let x = a_some (directory_at sectors k (p / 7)) (h.in_places.grammar k (p / 7) f.0 (omega arith) meets) in
       place_differs (sectors (sector_of (region.Small k (p / 7)))) x.0 (p % 7) o x.1 f.2
   part_differs (SetLarge g b) fit meets t = in_segment g (λ x. with_large x b) 1 fit (λ x. large_differs x b)
   part_differs (SetBytes k part bytes) fit meets t = absurd cc

@@ -1,11 +1,13 @@
 -- The plans of looks and of the bytes of files make small records.
-use Rattle.std.proofs.Common.{ℕ, zero, suc, ◌≡◌, ◌≤◌, ◌+◌, ◌-◌, ◌*◌, ◌/◌, ◌%◌, ◌==◌, ◌&&◌, not, Bool, true, false, nat_le, nat_lt, max, min, if◌then◌else◌, Option, Some, None, List, [], ◌∷◌, ◌++◌, length, map, take, drop, refl, ◌∙◌, arith, length-append}
+use Rattle.std.proofs.Common.{ℕ, zero, suc, ◌≡◌, ◌≤◌, ◌+◌, ◌-◌, ◌*◌, ◌/◌, ◌%◌, ◌==◌, ◌&&◌, not, Bool, true, false, nat_le, nat_lt, max, min, if◌then◌else◌, Option, Some, None, List, [], ◌∷◌, ◌++◌, length, map, take, drop, refl, ◌∙◌, arith}
 use Rattle.std.proofs.lemmas.List.{length-map}
 use Rattle.std.specs.Map.{keys_of}
 use Rattle.frang_base.specs.declared.reply.Reply.{Reply}
 use Rattle.frang_base.specs.declared.reply.Reply.TheVariants as reply
 use Rattle.tree_definitions.specs.Numbers.{below}
 use Rattle.tree_definitions.specs.Tree.{small_blocks_of}
+use Rattle.sector_definitions.proofs.Lists.{length_below}
+use Rattle.sector_definitions.proofs.InodeLaws.{few_blocks}
 use Rattle.disk_definitions.specs.Store.{Store, StoredNode, StoredEntry}
 use Rattle.disk_definitions.specs.Store.Use.{Fresh, Bytes}
 use Rattle.store_changes.specs.Edits.{Edit}
@@ -52,13 +54,6 @@ sector_within y t bytes = go (nat_lt t 128)
     go : (b : Bool) → AreWithin ((if b then SetBytes (y.small (t / 8)) (t % 8) bytes else SetLargeBytes (y.large - 1) (t - 128) bytes) ∷ []) 0 0
     go true = record { few = omega arith; short = omega arith }
     go false = record { few = omega arith; short = omega arith }
-
-small_blocks_few : (size : ℕ) → small_blocks_of size ≤ 16
-small_blocks_few size = omega arith
-
-length_below : (n : ℕ) → length (below n) ≡ n
-length_below zero = refl
-length_below (suc n) = let e = length_below n in omega (arith, length-append (below n) (n ∷ []))
 
 length_between : (x : StoredNode) (from to : ℕ) → length (blocks_between x from to) ≡ to - from
 length_between x from to = length-map (below (to - from)) (λ n. x.small (from + n)) ∙ length_below (to - from)
@@ -142,7 +137,7 @@ module _ (s : Store) where
         more = small_blocks_of (max x.size (end_of w)) - x.blocks
 
         few : more ≤ 16
-        few = let l = small_blocks_few (max x.size (end_of w)) in omega arith
+        few = let l = few_blocks (max x.size (end_of w)) in omega arith
 
         go : (b : Bool) → MakesSmall (run (if b then writing_in w i touched x [] o else read_held h (writing_picked h w i touched x o (picked_many h.held more))) s)
         go true = in_small [] o (omega arith)

@@ -1,9 +1,10 @@
 -- A fact of each element of a list and its number, where the numbers follow each other.
-use Rattle.std.proofs.Common.{◌≡◌, ℕ, zero, suc, ◌+◌, ◌<◌, Some, List, [], ◌∷◌, ◌++◌, length, take, map, refl, sym, ◌∙◌, subst, arith}
+use Rattle.std.proofs.Common.{◌≡◌, ℕ, zero, suc, ◌+◌, ◌<◌, Some, List, [], ◌∷◌, ◌++◌, length, take, map, sym, ◌∙◌, subst, arith}
 use Rattle.std.specs.List.{slice_get}
-use Rattle.std.proofs.lemmas.List.{map-append, length-map, length_push}
+use Rattle.std.proofs.lemmas.List.{map-append, length-map}
 use Rattle.cells.proofs.Basics.{some_same}
 use Rattle.tree_definitions.specs.Numbers.{below}
+use Rattle.sector_definitions.proofs.Lists.{length_below}
 
 abbrev pub Along : {X : Type 0} → (ℕ → X → Type 0) → ℕ → List X → Type 0
 Along P from [] = Unit {0}
@@ -29,15 +30,11 @@ along_take P from zero xs h = tt
 along_take P from (suc n) [] h = tt
 along_take P from (suc n) (x ∷ xs) h = (h.0, along_take P (from + 1) n xs h.1)
 
-pub length-below : (n : ℕ) → length (below n) ≡ n
-length-below zero = refl
-length-below (suc n) = length_push (below n) n ∙ omega (arith, length-below n)
-
 -- of a function at each number below n
 pub along_map : {X : Type 0} (P : ℕ → X → Type 0) (f : ℕ → X) (from n : ℕ) → ((k : ℕ) → k < n → P (from + k) (f k)) → Along P from (map f (below n))
 along_map P f from zero h = tt
 along_map P f from (suc n) h =
-    let size : length (map f (below n)) ≡ n = length-map (below n) f ∙ length-below n in
+    let size : length (map f (below n)) ≡ n = length-map (below n) f ∙ length_below n in
     subst (Along P from) (sym (map-append f (below n) (n ∷ [])))
     (along_append P from (map f (below n)) (f n ∷ []) (along_map P f from n (λ k l. h k (omega arith)))
     (subst (λ m. P (from + m) (f n)) (sym size) (h n (omega arith)), tt))

@@ -9,9 +9,11 @@ use Rattle.sector_definitions.specs.Bytes.{zeros, are_zero}
 use Rattle.sector_definitions.specs.LogSectors.{log_sector_bytes, log_sector_in, is_empty_sector, is_record_sector}
 use Rattle.sector_definitions.proofs.LogSectorLaws.{IsStorable, log_sector_back}
 use Rattle.tree_definitions.specs.Numbers.{below}
+use Rattle.sector_definitions.proofs.Lists.{length_below}
+use Rattle.sector_definitions.proofs.WrittenFields.{zeros_are_zero}
 use Rattle.log_definitions.specs.Logs.{is_part, are_parts, used_bytes}
 use Rattle.ring_definitions.specs.Rings.{piece}
-use Rattle.ring_definitions.proofs.Along.{Along, along_map, length-below}
+use Rattle.ring_definitions.proofs.Along.{Along, along_map}
 
 -- one of these parts of a body
 abbrev pub cut : ℕ → OpNo → List ℕ → ℕ → ℕ → LogSector
@@ -35,11 +37,6 @@ length-piece body part = length-take 488 (drop (488 * part) body) ∙ ap (min 48
 length-zeros : (n : ℕ) → length (zeros n) ≡ n
 unfolding zeros
 length-zeros n = length-replicate n 0
-
-zeros_are_zero : (n : ℕ) → are_zero (zeros n) ≡ true
-unfolding zeros
-zeros_are_zero zero = refl
-zeros_are_zero (suc n) = zeros_are_zero n
 
 -- ---- one part
 
@@ -156,7 +153,7 @@ pub are_cuts : (first : ℕ) (op : OpNo) (body : List ℕ) (parts j n : ℕ) →
 are_cuts first op body parts j zero = refl
 are_cuts first op body parts j (suc n) =
     let x : LogSector = cut first op body parts j in
-    let size : 0 + length (map (cut first op body parts) (below n)) ≡ n = omega (arith, length-map (below n) (cut first op body parts), length-below n) in
+    let size : 0 + length (map (cut first op body parts) (below n)) ≡ n = omega (arith, length-map (below n) (cut first op body parts), length_below n) in
     let one : is_part x n (cut first op body parts n) ≡ true =
     and_from (op.0 == op.0 && parts == parts) (n == n) (and_from (op.0 == op.0) (parts == parts) (eq-eqb op.0 op.0 refl) (eq-eqb parts parts refl)) (eq-eqb n n refl) in
     ap (are_parts x 0) (map-append (cut first op body parts) (below n) (n ∷ []))

@@ -7,12 +7,13 @@ use Rattle.frang_base.specs.declared.change.Change.{Change}
 use Rattle.sector_definitions.specs.declared.log_sector.LogSector.{LogSector}
 use Rattle.sector_definitions.specs.LogSectors.{log_sector_bytes, log_sector_in}
 use Rattle.tree_definitions.specs.Numbers.{below}
+use Rattle.sector_definitions.proofs.Lists.{length_below}
 use Rattle.log_definitions.specs.declared.redo.Redo.{Redo}
 use Rattle.log_definitions.specs.Records.{record_bytes, record_fits, record_in}
 use Rattle.log_definitions.specs.Logs.{are_parts}
 use Rattle.log_record.proofs.RecordBack.{record_back, is_record as fitting}
 use Rattle.ring_definitions.specs.Rings.{is_record, sectors_needed, record_sectors}
-use Rattle.ring_definitions.proofs.Along.{Along, along_map, length-below}
+use Rattle.ring_definitions.proofs.Along.{Along, along_map}
 use Rattle.ring_definitions.proofs.Parts.{IsCut, is_cut, cut, cuts, parts_count, part_reads, used_all, are_cuts}
 use Rattle.ring_definitions.proofs.OneRecord.{IsWhole}
 
@@ -41,11 +42,11 @@ record_cut redo m = is_cut (length (record_bytes redo.changes)) (some_bytes redo
 
 pub length-record_sectors : (first : ℕ) (redo : Redo) → length (record_sectors first redo) ≡ sectors_needed redo
 length-record_sectors first redo =
-    length-map (below (sectors_needed redo)) (cut first redo.op (record_bytes redo.changes) (sectors_needed redo)) ∙ length-below (sectors_needed redo)
+    length-map (below (sectors_needed redo)) (cut first redo.op (record_bytes redo.changes) (sectors_needed redo)) ∙ length_below (sectors_needed redo)
 
 module _ (first : ℕ) (op : OpNo) (body : List ℕ) (n : ℕ) (c : IsCut (length body) n) where
   length-cuts : length (cuts first op body n) ≡ n
-  length-cuts = length-map (below n) (cut first op body n) ∙ length-below n
+  length-cuts = length-map (below n) (cut first op body n) ∙ length_below n
 
   head_cut : (x : LogSector) (rest : List LogSector) → cuts first op body n ≡ x ∷ rest → x ≡ cut first op body n 0
   head_cut x rest e =

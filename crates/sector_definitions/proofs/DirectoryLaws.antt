@@ -36,7 +36,7 @@ fields_of_entry e rest h =
     refl
     (ap (take 64) (append_assoc e.name (0 ∷ 0 ∷ []) rest) ∙ take_at e.name (0 ∷ 0 ∷ rest) 64 h.name)
 
-length_of_entry : (e : DirEntry) → IsStorableEntry e → length (entry_bytes e) ≡ 72
+pub length_of_entry : (e : DirEntry) → IsStorableEntry e → length (entry_bytes e) ≡ 72
 length_of_entry e h = omega (arith, length-append e.name (0 ∷ 0 ∷ []), h.name)
 
 -- the entries of their bytes

@@ -1,12 +1,14 @@
 -- The entries of a sector one after another: how they are read, and where a name stands first.
-use Rattle.std.proofs.Common.{◌≡◌, ℕ, zero, suc, ◌+◌, ◌*◌, ◌<◌, ◌≤◌, Bool, true, false, if◌then◌else◌, Option, Some, None, List, [], ◌∷◌, ◌++◌, length, take, drop, set, get_or, drop-cons, refl, sym, ap, ◌∙◌, arith}
+use Rattle.std.proofs.Common.{◌==◌, ◌≡◌, ℕ, zero, suc, ◌+◌, ◌*◌, ◌<◌, ◌≤◌, ⊎_elim, Bool, true, false, nat_le, leb-true, ne_eqb, subst, if◌then◌else◌, Option, Some, None, List, [], ◌∷◌, ◌++◌, length, take, drop, set, get_or, drop-cons, refl, sym, ap, ◌∙◌, arith}
 use Rattle.std.proofs.lemmas.List.{take_more, take_more_set, take_all, take-append-drop, length-take-le, drop-drop}
 use Rattle.std.proofs.lemmas.Slice.{between_to_end}
-use Rattle.std.specs.List.{between}
+use Rattle.std.proofs.lemmas.Bool.{and_parts, or_cases, both_ways}
+use Rattle.std.specs.List.{between, list_all, slice_get}
 use Rattle.std.specs.Option.{option_map}
 use Rattle.sector_definitions.specs.declared.directory.DirEntry.{DirEntry}
 use Rattle.sector_definitions.specs.Bytes.{same_bytes}
-use Rattle.sector_definitions.specs.Directories.{entry_fields, entries_in, name_in, place_of_name}
+use Rattle.sector_definitions.specs.Directories.{is_free_place, is_used_place, entry_fits, entry_fields, entries_in, name_in, place_of_name}
+use Rattle.sector_definitions.proofs.Readings.{and_l, and_r}
 
 -- one entry more
 pub entries_more : (k : ℕ) (bytes : List ℕ) → entries_in (suc k) bytes ≡ entries_in k bytes ++ entry_fields (drop (k * 72) bytes) ∷ []
@@ -75,3 +77,20 @@ pub passed_there : (name : List ℕ) (es : List DirEntry) (d : DirEntry) (k : �
 passed_there name es d k a b r below none is named test apart =
     let e = get_or es k d in
     ap (place_of_name name) (take_more es k d below) ∙ name_passed name (take k es) e none (compared_is e name a b r false is named test apart)
+
+-- a place is free exactly where its kind is 0
+pub free_place : (e : DirEntry) → entry_fits e ≡ true → is_free_place e ≡ (e.kind == 0)
+free_place e h = go (is_free_place e) refl
+  where
+    go : (b : Bool) → is_free_place e ≡ b → is_free_place e ≡ (e.kind == 0)
+    go true f = f ∙ sym (let k : e.kind == 0 ≡ true = search (and_l, and_r) depth 8 in k)
+    go false f = f ∙ ⊎_elim (λ t. absurd (both_ways (is_free_place e) f t)) (λ t. (
+        let k : nat_le 1 e.kind ≡ true = search (and_l, and_r) depth 8 in
+        let l : 1 ≤ e.kind = leb-true 1 e.kind k in
+        sym (ne_eqb e.kind 0 (λ z. omega arith)))) (or_cases (is_free_place e) (is_used_place e) h)
+
+-- each place of a sector fits
+pub entry_of_list : (xs : List DirEntry) (q : ℕ) (e : DirEntry) → list_all entry_fits xs ≡ true → slice_get xs q ≡ Some e → entry_fits e ≡ true
+entry_of_list [] q e h g = absurd (cc)
+entry_of_list (x ∷ xs) zero e h g = let s : x ≡ e = cc in subst (λ e. entry_fits e ≡ true) s (and_parts (entry_fits x) (list_all entry_fits xs) h).0
+entry_of_list (x ∷ xs) (suc q) e h g = entry_of_list xs q e (and_parts (entry_fits x) (list_all entry_fits xs) h).1 g

@@ -4,6 +4,7 @@ use Rattle.std.specs.List.{flat_map}
 use Rattle.std.proofs.lemmas.List.{drop_at, drop-drop, drop-take, take-append-drop}
 use Rattle.byteorder.specs.Endian.{little_number, little_bytes, IsRead}
 use Rattle.byteorder.specs.Numbers.{little_number-reads_back, little_from-take}
+use Rattle.tree_definitions.specs.Tree.{small_blocks_of}
 use Rattle.sector_definitions.specs.declared.inode.Inode.{Inode}
 use Rattle.sector_definitions.specs.Bytes.{number_at, zeros}
 use Rattle.sector_definitions.specs.Inodes.{inode_bytes, inode_fits, inode_fields, inode_in, IsInodeSector, numbers_in}
@@ -34,16 +35,16 @@ length_numbers [] = refl
 length_numbers (x ∷ xs) = let h = length_numbers xs in omega arith
 
 -- what stands behind the birth, and behind the small blocks
-abbrev large_and_target : Inode → List ℕ
+abbrev pub large_and_target : Inode → List ℕ
 large_and_target x = little_bytes 4 x.large ++ zeros 28 ++ x.target
 
 from_small : (xs ls zs ts : List ℕ) → ((xs ++ ls) ++ zs) ++ ts ≡ xs ++ ((ls ++ zs) ++ ts)
 from_small xs ls zs ts = rw (append_assoc xs ls zs, append_assoc xs (ls ++ zs) ts) refl
 
-behind_birth : (x : Inode) → drop 32 (inode_bytes x) ≡ flat_map (little_bytes 4) x.small ++ large_and_target x
+pub behind_birth : (x : Inode) → drop 32 (inode_bytes x) ≡ flat_map (little_bytes 4) x.small ++ large_and_target x
 behind_birth x = from_small (flat_map (little_bytes 4) x.small) (little_bytes 4 x.large) (zeros 28) x.target
 
-behind_small : (x : Inode) → length x.small ≡ 16 → drop 64 (drop 32 (inode_bytes x)) ≡ large_and_target x
+pub behind_small : (x : Inode) → length x.small ≡ 16 → drop 64 (drop 32 (inode_bytes x)) ≡ large_and_target x
 behind_small x h = ap (drop 64) (behind_birth x) ∙ drop_at (flat_map (little_bytes 4) x.small) (large_and_target x) 64 (length_numbers x.small ∙ ap (λ (n : ℕ). 4 * n) h)
 
 small_back : (x : Inode) → InodeRange x → numbers_in 16 (drop 32 (inode_bytes x)) ≡ x.small
@@ -116,3 +117,7 @@ numbers_take (suc n) m xs h =
     let rest : drop 4 (take m xs) ≡ take (m - 4) (drop 4 xs) = ap (λ (k : ℕ). drop 4 (take k xs)) (omega arith) ∙ drop-take 4 (m - 4) xs in
     ap (λ (x : ℕ). x ∷ numbers_in n (drop 4 (take m xs))) first ∙ ap (λ (ys : List ℕ). little_number 4 xs ∷ numbers_in n ys) rest
     ∙ ap (λ (ys : List ℕ). little_number 4 xs ∷ ys) (numbers_take n (m - 4) (drop 4 xs) (omega arith))
+
+-- a file has at most 16 small blocks
+pub few_blocks : (size : ℕ) → small_blocks_of size ≤ 16
+few_blocks size = omega arith

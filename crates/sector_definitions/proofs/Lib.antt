@@ -1,6 +1,11 @@
 pub mod WrittenFields
 pub mod Readings
 pub mod PatchLaws
+pub mod Chosen
+pub mod Lists
+pub mod NumberBytes
+pub mod Digits
+pub mod Bits
 pub mod ParamLaws
 pub mod InodeLaws
 pub mod InodeChanges

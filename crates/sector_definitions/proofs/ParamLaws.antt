@@ -1,5 +1,5 @@
 -- Parameter sectors: what was written reads back, and a block is the sector of at most one value.
-use Rattle.std.proofs.Common.{◌≡◌, ℕ, ◌^◌, ◌<◌, IsTrue, Some, List, ◌++◌, sym, ap, ◌∙◌, arith}
+use Rattle.std.proofs.Common.{◌≡◌, ℕ, ◌^◌, ◌<◌, IsTrue, Some, List, ◌++◌, sym, ap, ◌∙◌, arith, ◌≤◌, true}
 use Rattle.std.proofs.lemmas.Bool.{and_parts}
 use Rattle.std.proofs.lemmas.Bool.Decides.{nat_tests}
 use Rattle.byteorder.specs.Endian.{little_bytes}
@@ -44,3 +44,10 @@ param_found block p h = ap param_in h.0 ∙ param_back p h.1
 -- a block is the sector of at most one value
 pub param_once : (block : List ℕ) (p q : Param) → IsParamSector block p → IsParamSector block q → p ≡ q
 param_once block p q h g = let e : Some p ≡ Some q = sym (param_found block p h) ∙ param_found block q g in cc
+
+-- a disk has at most 64 segments
+few : (p : Param) → param_fits p ≡ true → p.segments ≤ 64
+few p h = grind (arith, nat_tests)
+
+pub few_segments : (block : List ℕ) (p : Param) → param_in block ≡ Some p → p.segments ≤ 64
+few_segments block p e = few p (param_read block p e).1

@@ -6,6 +6,13 @@ use Rattle.std.proofs.lemmas.Slice.Eq.{bytes_eq-Decides}
 use Rattle.cells.proofs.Basics.{by_test}
 use Rattle.sector_definitions.specs.Bytes.{same_bytes}
 
+-- both of two tests
+pub and_l : (a b : Bool) → (a && b) ≡ true → a ≡ true
+and_l a b h = (and_parts a b h).0
+
+pub and_r : (a b : Bool) → (a && b) ≡ true → b ≡ true
+and_r a b h = (and_parts a b h).1
+
 -- the value whose fields stand in the block, where it fits and its bytes are the block
 abbrev pub read_as : {X : Type 0} → (X → List ℕ) → (X → Bool) → List ℕ → X → Option X
 read_as bytes fits block x = if fits x && same_bytes (bytes x) block then Some x else None

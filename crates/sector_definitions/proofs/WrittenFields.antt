@@ -1,9 +1,9 @@
 -- A block that is written field by field from its front: what stands before a place grows by what is written there.
-use Rattle.std.proofs.Common.{◌≡◌, ℕ, ◌+◌, ◌≤◌, List, [], ◌++◌, length, take, drop, refl, sym, ap, ◌∙◌, append_assoc, arith, length-append, length-drop}
+use Rattle.std.proofs.Common.{◌≡◌, ℕ, zero, suc, ◌+◌, ◌≤◌, true, List, [], ◌++◌, length, take, drop, refl, sym, ap, ◌∙◌, append_assoc, arith, length-append, length-drop}
 use Rattle.std.proofs.lemmas.List.{take_at, take_all, drop_all, append-nil, length-take-le, length-replicate}
 use borrow.Rule.Slice.PartMut.{mid_of, post_of, put_mid, same_len_mid}
 use Rattle.byteorder.specs.Endian.{little_number}
-use Rattle.sector_definitions.specs.Bytes.{zeros, number_at}
+use Rattle.sector_definitions.specs.Bytes.{zeros, number_at, are_zero}
 
 -- bytes that were put at a place behind what was done
 pub wrote : (done xs ys bs : List ℕ) (a k n m : ℕ) → a ≤ length xs → take a xs ≡ done → ys ≡ bs ++ drop n (mid_of a k xs) → length bs ≡ n → m ≡ a + n → take m (put_mid a k xs ys) ≡ done ++ bs
@@ -22,6 +22,15 @@ wrote_last done xs ys a k d l =
 pub length_zeros : (n : ℕ) → length (zeros n) ≡ n
 unfolding zeros
 length_zeros n = length-replicate n 0
+
+pub zeros_are_zero : (n : ℕ) → are_zero (zeros n) ≡ true
+unfolding zeros
+zeros_are_zero zero = refl
+zeros_are_zero (suc n) = zeros_are_zero n
+
+pub zero_version : number_at 8 0 (zeros 512) ≡ 0
+unfolding zeros
+zero_version = refl
 
 -- so many bytes, which begin with what was done up to a place
 pub record Front (len m : ℕ) (xs done : List ℕ) : Type 0 where

@@ -1,5 +1,5 @@
 -- Segments of the allocation bitmap.
-use Rattle.std.specs.Prelude.{ℕ, ◌+◌, ◌*◌, ◌/◌, ◌%◌, ◌^◌, Bool, true, false, ◌&&◌, ◌==◌, ◌≡◌, if◌then◌else◌, nat_le, Option, Some, None, List, [], ◌∷◌, ◌++◌, take, drop, slice_index, IsTrue}
+use Rattle.std.specs.Prelude.{ℕ, ◌+◌, ◌-◌, ◌*◌, ◌/◌, ◌%◌, ◌^◌, Bool, true, false, ◌&&◌, ◌==◌, ◌≡◌, if◌then◌else◌, nat_le, Option, Some, None, List, [], ◌∷◌, ◌++◌, take, drop, slice_index, IsTrue}
 use Rattle.byteorder.specs.Endian.{little_bytes}
 use Rattle.frang_base.specs.declared.bitmap.Bitmap.{Bitmap}
 use Rattle.sector_definitions.specs.Bytes.{number_at, zeros, same_bytes}
@@ -32,3 +32,7 @@ inode_bit x j = (x.inodes / 2 ^ j) % 2 == 1
 -- what a small block is used for: 0 nothing yet, 1 file bytes, 2 nothing, and it was a directory's, 3 a directory
 abbrev pub block_state : Bitmap → ℕ → ℕ
 block_state x j = (slice_index x.states (j / 4) / 4 ^ (j % 4)) % 4
+
+-- the byte with another state at one of its four places
+abbrev pub with_digit : ℕ → ℕ → ℕ → ℕ
+with_digit place byte state = byte - byte / 4 ^ place % 4 * 4 ^ place + state * 4 ^ place

@@ -1,5 +1,5 @@
 -- Numbers and bytes in sectors. All numbers stand with their lowest byte first.
-use Rattle.std.specs.Prelude.{ℕ, Bool, List, ◌∷◌, drop, replicate, nat_eq, ◌==◌}
+use Rattle.std.specs.Prelude.{ℕ, ◌<◌, Bool, List, slice_index, ◌∷◌, drop, replicate, nat_eq, ◌==◌}
 use Rattle.std.specs.Cmp.Lexicographic.{pointwise}
 use Rattle.std.specs.List.{list_all}
 use Rattle.byteorder.specs.Endian.{little_number, little_bytes}
@@ -19,3 +19,7 @@ are_zero = list_all (λ b. b == 0)
 -- the same bytes
 abbrev pub same_bytes : List ℕ → List ℕ → Bool
 same_bytes = pointwise nat_eq
+
+-- each is a byte
+abbrev pub AreBytes : List ℕ → Type 0
+AreBytes bytes = (k : ℕ) → slice_index bytes k < 256

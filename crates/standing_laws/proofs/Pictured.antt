@@ -15,12 +15,12 @@ use Rattle.tree_definitions.specs.declared.cells.Cell.TheVariants as cell
 use Rattle.tree_definitions.specs.declared.node.Node.{Node}
 use Rattle.tree_definitions.specs.declared.node.Node.TheVariants.{Dir, File, Link}
 use Rattle.tree_definitions.specs.Tree.{FileTree, node_at, small_blocks_of}
-use Rattle.disk_definitions.specs.Store.{Store, StoredNode, StoredEntry, Use}
+use Rattle.disk_definitions.specs.Store.{Store, StoredNode, StoredEntry, Use, is_unused}
 use Rattle.disk_definitions.specs.Store.Use.{Fresh, Bytes, Empty, Entries as OfEntries}
 use Rattle.disk_definitions.specs.Naming.{Naming, Nodes, Pictures, kind_of, blocks_of, has_large, room_in, find_in, cell_in, first_blocks, inode_of, inode_by, inode_for, use_by, use_for, entry_of, place_of, dir_place, file_byte, Allows}
 use Rattle.standing_laws.specs.Below.{all_below, find_below, holds, lists, are_distinct}
 use Rattle.standing_laws.specs.ReadTree.{place_at, byte_at, cells_to, entries_to, read_node, tree_in}
-use Rattle.standing_laws.specs.Soundness.{agree, bit_agrees, block_in, block_at, is_used_for, use_agrees, is_unused, is_cleared, large_in, large_at, is_marked, has_kind, directory_agrees, entries_agree, node_agrees, IsConsistent}
+use Rattle.standing_laws.specs.Soundness.{agree, bit_agrees, block_in, block_at, is_used_for, use_agrees, is_cleared, large_in, large_at, is_marked, has_kind, directory_agrees, entries_agree, node_agrees, IsConsistent}
 use Rattle.standing_laws.proofs.Bounded.{last_or_before, all_at, find_at, find_none, find_only, lists_at, lists_from, holds_at, holds_from, distinct_at}
 use Rattle.standing_laws.proofs.Entered.{StandsAt, found_at, at_found, new_name, one_spot}
 use Rattle.standing_laws.proofs.NodesRead.{node_read}

@@ -1,13 +1,15 @@
 -- What the grammar of inodes says of the nodes that are stored in them.
 use Rattle.sector_definitions.specs.Regions.{sector_of}
 use Rattle.sector_definitions.specs.declared.region.Region.TheVariants as region
-use Rattle.std.proofs.Common.{◌==◌, ◌≡◌, ◌≢◌, ℕ, zero, suc, ◌+◌, ◌-◌, ◌*◌, ◌/◌, ◌<◌, ◌≤◌, ◌⊎◌, inl, inr, ⊎_elim, Bool, true, false, not, ◌&&◌, ◌||◌, Option, Some, None, List, [], ◌∷◌, is_some, length, take, drop, min, cond, refl, sym, ◌∙◌, ap, subst, arith, nat_lt, nat_le, slice_index, get_or, get_or-drop, nat_eq, eqb-true, ltb-true, ltb-false, leb-true, lt-ltb, le-ltb, le_refl}
+use Rattle.std.proofs.Common.{◌==◌, ◌≡◌, ◌≢◌, ℕ, zero, suc, ◌+◌, ◌-◌, ◌*◌, ◌/◌, ◌<◌, ◌≤◌, ◌⊎◌, inl, inr, ⊎_elim, Bool, true, false, not, ◌||◌, Option, Some, None, List, [], ◌∷◌, is_some, length, take, drop, min, cond, refl, sym, ◌∙◌, ap, subst, arith, nat_lt, nat_le, slice_index, get_or, get_or-drop, nat_eq, eqb-true, ltb-true, ltb-false, leb-true, lt-ltb, le-ltb, le_refl}
 use Rattle.std.proofs.lemmas.Bool.{and_parts, or_cases, cases_lt, cases_Bool, cond-true, cond-false, both_ways}
 use Rattle.std.specs.List.{list_all}
 use Rattle.sector_definitions.specs.declared.inode.Inode.{Inode}
-use Rattle.sector_definitions.specs.Bytes.{are_zero, same_bytes}
-use Rattle.sector_definitions.specs.Inodes.{is_target_byte, ends_blocks, is_free_inode, is_file_inode, is_directory_inode, is_link_inode, inode_fits, inode_fields, inode_bytes, inode_in}
+use Rattle.sector_definitions.specs.Bytes.{are_zero}
+use Rattle.sector_definitions.specs.Inodes.{is_target_byte, ends_blocks, is_free_inode, is_file_inode, is_directory_inode, is_link_inode, inode_fits, inode_in}
 use Rattle.tree_definitions.specs.Tree.{small_blocks_of}
+use Rattle.sector_definitions.proofs.Readings.{and_l, and_r}
+use Rattle.sector_definitions.proofs.InodeLaws.{inode_read, few_blocks}
 use Rattle.disk_definitions.specs.Disks.{Sectors}
 use Rattle.disk_definitions.specs.Naming.{first_blocks}
 use Rattle.disk_definitions.specs.Store.{StoredNode, stored_node, store_of}
@@ -57,15 +59,6 @@ first_of xs n z = λ i j. at j i
         (λ l. (let e : n + (j - n) ≡ j = omega arith in
         let g : slice_index (drop n xs) (j - n) ≡ slice_index xs (n + (j - n)) = get_or-drop n xs (j - n) 0 in
         ap (slice_index xs) (sym e) ∙ sym g ∙ zero_at (drop n xs) (j - n) z ∙ sym (cond-false (nat_lt j n) (slice_index xs j) 0 (le-ltb j n l)))) (cases_lt j n)
-
-few_blocks : (size : ℕ) → small_blocks_of size ≤ 16
-few_blocks size = omega arith
-
-pub and_l : (a b : Bool) → (a && b) ≡ true → a ≡ true
-and_l a b h = (and_parts a b h).0
-
-pub and_r : (a b : Bool) → (a && b) ≡ true → b ≡ true
-and_r a b h = (and_parts a b h).1
 
 -- a large block is there exactly where the size takes one
 large_is : (size large : ℕ) → cond (nat_lt 65536 size) (nat_lt 0 large) (large == 0) ≡ true → (large ≡ cond (nat_lt 65536 size) (large - 1 + 1) 0) × (nat_lt 65536 size ≡ nat_lt 0 large)
@@ -141,14 +134,6 @@ used_shape x h free = ⊎_elim
     (λ e. OfDir (dir_shape x e)) (or_cases (is_free_inode x || is_file_inode x) (is_directory_inode x) r))
     (λ e. OfLink (link_shape x e)) (or_cases (is_free_inode x || is_file_inode x || is_directory_inode x) (is_link_inode x) h)
 
--- what an inode's block says fits
-pub in_block : (block : List ℕ) (x : Inode) → inode_in block ≡ Some x → inode_fits x ≡ true
-in_block block x e = go (inode_fits (inode_fields block) && same_bytes (inode_bytes (inode_fields block)) block) refl e
-  where
-    go : (b : Bool) → (inode_fits (inode_fields block) && same_bytes (inode_bytes (inode_fields block)) block) ≡ b → cond b (Some (inode_fields block)) None ≡ Some x → inode_fits x ≡ true
-    go true h e = let s : inode_fields block ≡ x = cc in subst (λ y. inode_fits y ≡ true) s (and_parts (inode_fits (inode_fields block)) (same_bytes (inode_bytes (inode_fields block)) block) h).0
-    go false h e = absurd (cc)
-
 stored_shape : (block : List ℕ) (y : StoredNode) → stored_node (inode_in block) ≡ Some y → Shape y
 stored_shape block y h = go (inode_in block) refl h
   where
@@ -158,7 +143,7 @@ stored_shape block y h = go (inode_in block) refl h
 
     go : (o : Option Inode) → inode_in block ≡ o → stored_node o ≡ Some y → Shape y
     go None e h = absurd (cc)
-    go (Some x) e h = free x (in_block block x e) (is_free_inode x) refl h
+    go (Some x) e h = free x (inode_read block x e).1 (is_free_inode x) refl h
 
 -- each inode in use of a disk
 pub disk_shape : (segments : ℕ) (sectors : Sectors) (i : ℕ) (y : StoredNode) → (store_of segments sectors).inode i ≡ Some y → Shape y

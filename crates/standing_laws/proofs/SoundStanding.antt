@@ -1,12 +1,12 @@
 -- A sound disk stands for the tree that is read off it.
-use Rattle.std.proofs.Common.{◌==◌, ◌≡◌, ◌≢◌, ℕ, zero, suc, ◌+◌, ◌-◌, ◌*◌, ◌/◌, ◌%◌, ◌^◌, ◌<◌, ◌≤◌, ◌⊎◌, inl, inr, ⊎_elim, Bool, true, false, not, ◌&&◌, ◌||◌, Option, Some, None, List, [], ◌∷◌, is_some, length, cond, refl, sym, ◌∙◌, ap, subst, arith, nat_lt, nat_le, eqb-true, ltb-true, leb-true, lt-ltb, le-ltb, eq-eqb, unwrap_or}
+use Rattle.std.proofs.Common.{◌==◌, ◌≡◌, ◌≢◌, ℕ, zero, suc, ◌+◌, ◌-◌, ◌*◌, ◌/◌, ◌%◌, ◌^◌, ◌<◌, ◌≤◌, ◌⊎◌, inl, inr, ⊎_elim, true, false, not, ◌||◌, Option, Some, None, List, [], ◌∷◌, is_some, length, cond, refl, sym, ◌∙◌, ap, subst, arith, nat_lt, eqb-true, ltb-true, lt-ltb, le-ltb, eq-eqb, unwrap_or}
 use Rattle.std.specs.Option.{option_map}
 use Rattle.std.specs.Map.{lookup, keys_of}
 use Rattle.std.specs.BTreeMap.{is_at}
 use Rattle.std.specs.Ordering.{nat_cmp}
 use Rattle.std.specs.Cmp.Lexicographic.{slice_cmp}
 use Rattle.std.specs.List.Sorted.{IsStrictlySortedBy}
-use Rattle.std.proofs.lemmas.Bool.{and_parts, and_left, cases_lt, cond-true, cond-false, both_ways}
+use Rattle.std.proofs.lemmas.Bool.{and_left, cases_lt, cond-true, cond-false, both_ways}
 use Rattle.tree_definitions.specs.declared.node.Node.{Node}
 use Rattle.tree_definitions.specs.declared.node.Node.TheVariants.{Dir, File, Link}
 use Rattle.tree_definitions.specs.Entries.{Entries, entry_at}
@@ -15,9 +15,7 @@ use Rattle.tree_definitions.specs.Apply.{is_dir, links_of}
 use Rattle.tree_laws.specs.WellFormed.{NamesAscend, IsRooted, LinksAreNames, IsWellFormed, one_at, names_in, names_of}
 use Rattle.tree_laws.proofs.Pairs.{name_exact, birth_exact}
 use Rattle.tree_laws.proofs.Balance.{one_other}
-use Rattle.sector_definitions.specs.declared.param.Param.{Param}
-use Rattle.sector_definitions.specs.Bytes.{same_bytes}
-use Rattle.sector_definitions.specs.Params.{param_in, param_fits, param_fields, param_bytes}
+use Rattle.sector_definitions.proofs.ParamLaws.{few_segments}
 use Rattle.disk_definitions.specs.Disks.{Sectors}
 use Rattle.disk_definitions.specs.Store.{Store, StoredNode, StoredEntry, Use, store_of, segment_at, bit_in, large_in}
 use Rattle.disk_definitions.specs.Store.Use.{Fresh}
@@ -30,7 +28,7 @@ use Rattle.standing_laws.proofs.Bounded.{all_at}
 use Rattle.standing_laws.proofs.Entered.{StandsAt, found_at, new_name, sorted_to}
 use Rattle.standing_laws.proofs.Sums.{zero_sum}
 use Rattle.standing_laws.proofs.NodesRead.{births_read}
-use Rattle.standing_laws.proofs.Shapes.{Shape, OfFile, OfDir, OfLink, disk_shape, and_l, and_r}
+use Rattle.standing_laws.proofs.Shapes.{Shape, OfFile, OfDir, OfLink, disk_shape}
 use Rattle.standing_laws.proofs.Pictured.{IsInRange, cells_of, naming_of, read_file, read_dir, read_link, at, at_some, at_none, known, below, agreed, dir_size}
 use Rattle.standing_laws.proofs.PicturedNames.{pictures}
 
@@ -122,17 +120,6 @@ module _ (segments : ℕ) (s : Store) (range : IsInRange segments s) (shapes : (
 
   pub is_well : IsWellFormed tree
   is_well = record { births = births_read s segments; names = names_ascend; rooted = is_rooted; links = links_are }
-
--- a disk has at most 64 segments
-pub few_segments : (block : List ℕ) (p : Param) → param_in block ≡ Some p → p.segments ≤ 64
-few_segments block p e = go (param_fits (param_fields block) && same_bytes (param_bytes (param_fields block)) block) refl e
-  where
-    few : (p : Param) → param_fits p ≡ true → p.segments ≤ 64
-    few p h = let f : nat_le p.segments 64 ≡ true = search (and_l, and_r) depth 8 in leb-true p.segments 64 f
-
-    go : (b : Bool) → (param_fits (param_fields block) && same_bytes (param_bytes (param_fields block)) block) ≡ b → cond b (Some (param_fields block)) None ≡ Some p → p.segments ≤ 64
-    go true h e = let s : param_fields block ≡ p = cc in few p (subst (λ q. param_fits q ≡ true) s (and_parts (param_fits (param_fields block)) (same_bytes (param_bytes (param_fields block)) block) h).0)
-    go false h e = absurd (cc)
 
 pub sound_stands : SoundStands
 sound_stands param sectors is sound =

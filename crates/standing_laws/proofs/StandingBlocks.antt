@@ -4,11 +4,11 @@ use Rattle.std.proofs.lemmas.Bool.{cases_lt, cond-true, cond-false, both_ways, n
 use Rattle.std.proofs.lemmas.Nat.{div-mul-add, mod-mul-add, div-add-mod'}
 use Rattle.tree_definitions.specs.declared.node.Node.{Node}
 use Rattle.tree_definitions.specs.declared.node.Node.TheVariants.{Dir, File, Link}
-use Rattle.disk_definitions.specs.Store.{Store, StoredNode, StoredEntry, Use}
+use Rattle.disk_definitions.specs.Store.{Store, StoredNode, StoredEntry, Use, is_unused}
 use Rattle.disk_definitions.specs.Store.Use.{Fresh, Bytes, Empty, Entries as OfEntries}
 use Rattle.disk_definitions.specs.Naming.{Naming, Nodes, Pictures, kind_of, blocks_of, has_large, inode_for, use_by, use_for}
 use Rattle.standing_laws.specs.Below.{all_below, lists, are_distinct}
-use Rattle.standing_laws.specs.Soundness.{agree, bit_agrees, block_in, block_at, is_used_for, use_agrees, is_unused, is_cleared, large_in, large_at, is_marked}
+use Rattle.standing_laws.specs.Soundness.{agree, bit_agrees, block_in, block_at, is_used_for, use_agrees, is_cleared, large_in, large_at, is_marked}
 use Rattle.standing_laws.proofs.Bounded.{all_from, lists_from, distinct_from}
 use Rattle.standing_laws.proofs.Shapes.{Shape}
 use Rattle.standing_laws.proofs.Pictured.{IsInRange}

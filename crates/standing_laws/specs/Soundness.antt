@@ -5,7 +5,7 @@ use Rattle.tree_definitions.specs.Tree.{FileTree, node_at}
 use Rattle.tree_definitions.specs.Apply.{links_of}
 use Rattle.tree_laws.specs.WellFormed.{one_at, names_of}
 use Rattle.disk_definitions.specs.Disks.{Sectors}
-use Rattle.disk_definitions.specs.Store.{Store, StoredNode, StoredEntry, Use, store_of}
+use Rattle.disk_definitions.specs.Store.{Store, StoredNode, StoredEntry, Use, store_of, is_unused}
 use Rattle.disk_definitions.specs.Store.Use.{Fresh, Bytes, Empty, Entries as OfEntries}
 use Rattle.disk_definitions.specs.Standing.{IsInGrammar, HasVersionsUpTo, IsReached}
 use Rattle.standing_laws.specs.Below.{all_below, any_below, lists, are_distinct}
@@ -40,13 +40,6 @@ is_used_for kind OfEntries = kind == 2
 abbrev pub use_agrees : Store → Option StoredNode → ℕ → Bool
 use_agrees s None j = true
 use_agrees s (Some x) j = if nat_lt j x.blocks then is_used_for x.kind (s.use_of (x.small j)) else true
-
--- no node uses it
-abbrev pub is_unused : Use → Bool
-is_unused Fresh = true
-is_unused Bytes = false
-is_unused Empty = true
-is_unused OfEntries = false
 
 -- a block that was a directory's has no entries
 abbrev pub is_cleared : Store → ℕ → Use → Bool

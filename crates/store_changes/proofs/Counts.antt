@@ -5,6 +5,7 @@ use Rattle.std.proofs.lemmas.Option.{slice_get_within}
 use Rattle.tree_definitions.specs.declared.cells.Cell.{Cell}
 use Rattle.tree_definitions.specs.declared.node.Node.{Node}
 use Rattle.tree_definitions.specs.declared.node.Node.TheVariants.{Dir, File, Link}
+use Rattle.cells.proofs.Basics.{of_lt}
 use Rattle.disk_definitions.specs.Store.{Store, Use}
 use Rattle.disk_definitions.specs.Store.Use.{Bytes, Empty, Entries}
 use Rattle.disk_definitions.specs.Standing.{IsMetadata}
@@ -12,7 +13,6 @@ use Rattle.disk_definitions.specs.Naming.{Naming, Nodes, Pictures, blocks_of, ha
 use Rattle.store_changes.specs.Laws.{FilesFit, FilesFitBySizes, SaysTheSame, PicturesGoByWhatCounts}
 use Rattle.std.proofs.lemmas.Nat.{mod_below}
 use Rattle.store_changes.proofs.Kept.{inode_is}
-use Rattle.store_changes.proofs.Puts.{of_lt}
 use Rattle.store_changes.proofs.Rooms.{dir_use}
 
 pub cell_block : (x : Option Node) (j : ℕ) (c : Cell) → cell_in x j ≡ Some c → j < 65536 → (j / 4096 < blocks_of x) × (use_by x ≡ Bytes)

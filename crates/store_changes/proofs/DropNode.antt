@@ -3,6 +3,7 @@ use Rattle.std.proofs.Common.{ℕ, ◌+◌, ◌*◌, ◌/◌, ◌%◌, ◌<◌, 
 use Rattle.std.proofs.lemmas.Bool.Decides.{nat_tests}
 use Rattle.tree_definitions.specs.declared.node.Node.{Node}
 use Rattle.tree_definitions.specs.declared.node.Node.TheVariants.{Dir, File, Link}
+use Rattle.cells.proofs.Basics.{by_test, eq_of, ne_of, at_put, put_same, put_other}
 use Rattle.tree_laws.specs.WellFormed.{put as put_node}
 use Rattle.disk_definitions.specs.Store.{Store, StoredEntry}
 use Rattle.disk_definitions.specs.Store.Use.{Empty}
@@ -10,7 +11,6 @@ use Rattle.disk_definitions.specs.Naming.{Naming, Nodes, Pictures, kind_of, bloc
 use Rattle.store_changes.specs.Changes.{freed}
 use Rattle.store_changes.specs.Namings.{is_owned_by, is_of, named_less, KeepsOthers}
 use Rattle.store_changes.specs.Laws.{HasNoNames, dropped, DroppedNodesGo}
-use Rattle.store_changes.proofs.Puts.{by_test, eq_of, ne_of, at_put, put_same, put_other}
 use Rattle.store_changes.proofs.Kept.{both, same_inode}
 
 -- the owners other than b are the same

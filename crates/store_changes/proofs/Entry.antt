@@ -4,17 +4,19 @@ use Rattle.std.proofs.lemmas.Bool.Decides.{nat_tests}
 use Rattle.tree_definitions.specs.declared.node.Node.{Node}
 use Rattle.tree_definitions.specs.declared.node.Node.TheVariants.{Dir}
 use Rattle.tree_definitions.specs.Entries.{Entries, entry_at}
+use Rattle.cells.specs.Changes.{put}
+use Rattle.cells.proofs.Basics.{of_lt, at_put, put_same, put_other}
 use Rattle.tree_laws.specs.WellFormed.{put as put_node}
 use Rattle.tree_laws.proofs.Nodes.{each_but}
 use Rattle.disk_definitions.specs.Store.{Store, StoredNode, StoredEntry}
 use Rattle.disk_definitions.specs.Store.Use.{Entries as OfEntries}
 use Rattle.disk_definitions.specs.Naming.{Naming, Nodes, Pictures, find_in, room_in, inode_of, inode_by, inode_for, use_by, use_for, entry_of, dir_place}
-use Rattle.store_changes.specs.Edits.{put, edited_all}
+use Rattle.store_changes.specs.Edits.{edited_all}
 use Rattle.store_changes.specs.Edits.Edit.{SetInode, SetPlace}
 use Rattle.store_changes.specs.Changes.{put_entry, take_entry}
 use Rattle.store_changes.specs.Namings.{put_name, named_at, KeepsOthers}
 use Rattle.store_changes.specs.Laws.{Leads, HasNameMore, HasNameLess, EntriesCome, EntriesGo}
-use Rattle.store_changes.proofs.Puts.{at_put, put_same, put_other, put2_same, put2_other, of_lt}
+use Rattle.store_changes.proofs.Puts.{put2_same, put2_other}
 use Rattle.store_changes.proofs.Names.{at_name, name_same, name_other}
 use Rattle.store_changes.proofs.Kept.{both, same_inode, same_use, inode_is, keeps_all}
 use Rattle.store_changes.proofs.Free.{a_some}

@@ -4,14 +4,16 @@ use Rattle.std.proofs.Math.Path.{fun_ext}
 use Rattle.std.proofs.lemmas.Bool.Decides.{nat_tests}
 use Rattle.tree_definitions.specs.declared.node.Node.{Node}
 use Rattle.tree_definitions.specs.declared.node.Node.TheVariants.{Dir, File, Link}
+use Rattle.cells.specs.Changes.{put}
+use Rattle.cells.proofs.Basics.{eq_of, ne_of, of_lt, at_put, put_other}
 use Rattle.disk_definitions.specs.Store.{Store, Use}
 use Rattle.disk_definitions.specs.Naming.{Naming, Nodes, Pictures, kind_of, blocks_of, has_large, first_blocks, inode_of}
-use Rattle.store_changes.specs.Edits.{put, edited, edited_all}
+use Rattle.store_changes.specs.Edits.{edited, edited_all}
 use Rattle.store_changes.specs.Edits.Edit.{SetInode, SetBit, SetUse, SetLarge}
 use Rattle.store_changes.specs.Changes.{freed, uses_to, large_gone, drop_node}
 use Rattle.store_changes.specs.Namings.{is_owned_by, is_of, named_less}
 use Rattle.store_changes.specs.Laws.{Leads, dropped, EditsDrop, NodesGo}
-use Rattle.store_changes.proofs.Puts.{at_put, put_other, edited_append, of_lt, eq_of, ne_of}
+use Rattle.store_changes.proofs.Puts.{edited_append}
 use Rattle.store_changes.proofs.Entry.{stored_is}
 use Rattle.store_changes.proofs.DropNode.{dropped_nodes_go}
 

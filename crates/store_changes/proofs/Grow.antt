@@ -4,17 +4,18 @@ use Rattle.std.proofs.Math.Path.{fun_ext}
 use Rattle.std.proofs.lemmas.Bool.Decides.{nat_tests}
 use Rattle.tree_definitions.specs.declared.node.Node.TheVariants.{Dir}
 use Rattle.tree_definitions.specs.Entries.{Entries}
+use Rattle.cells.specs.Changes.{put}
+use Rattle.cells.proofs.Basics.{at_put, put_same, put_other}
 use Rattle.tree_laws.specs.WellFormed.{put as put_node}
 use Rattle.tree_laws.proofs.Nodes.{each_but}
 use Rattle.disk_definitions.specs.Store.{Store, StoredEntry}
 use Rattle.disk_definitions.specs.Store.Use.{Entries as OfEntries}
 use Rattle.disk_definitions.specs.Naming.{Naming, Nodes, Pictures, find_in, room_in, first_blocks, inode_of, inode_by, inode_for, use_by, use_for, entry_of, dir_place}
-use Rattle.store_changes.specs.Edits.{put, edited_all}
+use Rattle.store_changes.specs.Edits.{edited_all}
 use Rattle.store_changes.specs.Edits.Edit.{SetInode, SetUse}
 use Rattle.store_changes.specs.Changes.{grow}
 use Rattle.store_changes.specs.Namings.{named_block, KeepsOthers}
 use Rattle.store_changes.specs.Laws.{Leads, DirectoriesGrow}
-use Rattle.store_changes.proofs.Puts.{at_put, put_same, put_other}
 use Rattle.store_changes.proofs.Kept.{both, same_inode, same_use}
 use Rattle.store_changes.proofs.Free.{no_owner, no_entries}
 use Rattle.store_changes.proofs.Rooms.{which_block}

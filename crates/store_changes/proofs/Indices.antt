@@ -5,12 +5,12 @@ use Rattle.std.proofs.lemmas.Bool.Decides.{nat_tests}
 use Rattle.tree_definitions.specs.declared.cells.Cell.{Cell}
 use Rattle.tree_definitions.specs.declared.node.Node.TheVariants.{File}
 use Rattle.tree_definitions.specs.Tree.{small_blocks_of}
-use Rattle.disk_definitions.specs.Store.{Store}
+use Rattle.cells.proofs.Basics.{by_test, eq_of, ne_of, of_lt}
+use Rattle.disk_definitions.specs.Store.{Store, is_unused}
 use Rattle.disk_definitions.specs.Naming.{Naming, Nodes, Pictures, has_large}
-use Rattle.store_changes.specs.Laws.{is_free}
 use Rattle.store_changes.specs.Resizing.{index_in, index_of, is_large_of, HasBlocks}
-use Rattle.store_changes.proofs.Puts.{by_test, eq_of, ne_of, of_lt}
 use Rattle.store_changes.proofs.Free.{no_owner, no_large_owner}
+use Rattle.store_changes.proofs.Rooms.{some_pair}
 
 pub index_hit : (block : ℕ → ℕ) (n k j : ℕ) → index_in block n k ≡ Some j → (block j ≡ k) × (j < n)
 index_hit block zero k j e = absurd (cc)
@@ -26,9 +26,6 @@ index_found block (suc n) j l one =
     (λ t. ap (λ x. Some x) (one n (omega arith) (eq_of (block n) (block j) t)))
     (λ t. let f : n ≢ j = λ e. ne_of (block n) (block j) t (ap block e) in index_found block n j (grind arith) (λ i h. one i (omega arith)))
 
-some_pair : (x y : ℕ × ℕ) → Some x ≡ Some y → x ≡ y
-some_pair x y e = cc
-
 module _ (s : Store) (at : Nodes) (n : Naming) (g : Pictures s at n) (b links large : ℕ) (old new : List Cell) (block : ℕ → ℕ) (is : at b ≡ Some (File old links)) (has : HasBlocks s n b old new block large) where
   abbrev before : ℕ
   before = small_blocks_of (length old)
@@ -43,7 +40,7 @@ module _ (s : Store) (at : Nodes) (n : Naming) (g : Pictures s at n) (b links la
   pub was_own : (j : ℕ) → j < count → (n.owner (block j) ≡ Some (b, j)) ⊎ (n.owner (block j) ≡ None)
   was_own j l = ⊎_elim
       (λ h. inl (ap n.owner (has.kept j h l) ∙ old_owner j h))
-      (λ h. inr (no_owner s at n g (block j) (ap is_free (has.fresh j h l))))
+      (λ h. inr (no_owner s at n g (block j) (ap is_unused (has.fresh j h l))))
       (cases_lt j before)
 
   same_old : (i j : ℕ) → i < before → j < before → n.block b i ≡ n.block b j → i ≡ j
@@ -55,7 +52,7 @@ module _ (s : Store) (at : Nodes) (n : Naming) (g : Pictures s at n) (b links la
   not_both i j li ci lj cj e =
       let x : ℕ × ℕ = (b, i) in
       let a : n.owner (block i) ≡ Some x = ap n.owner (has.kept i li ci) ∙ old_owner i li in
-      let c : n.owner (block j) ≡ None = no_owner s at n g (block j) (ap is_free (has.fresh j lj cj)) in
+      let c : n.owner (block j) ≡ None = no_owner s at n g (block j) (ap is_unused (has.fresh j lj cj)) in
       let d : Some x ≡ None = sym a ∙ ap n.owner e ∙ c in cc
 
   one_index : (i j : ℕ) → i < count → j < count → block i ≡ block j → i ≡ j

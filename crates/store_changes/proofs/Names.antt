@@ -5,10 +5,10 @@ use Rattle.std.specs.Cmp.Lexicographic.{slice_cmp}
 use Rattle.std.specs.BTreeMap.{is_at}
 use Rattle.std.proofs.lemmas.Bool.{both_ways}
 use Rattle.tree_definitions.specs.Entries.{entry_at, without_entry}
+use Rattle.cells.proofs.Basics.{by_test}
 use Rattle.tree_laws.proofs.Pairs.{tie, self, name_exact, found_put, found_other, found_left, found_removed, length_put, length_kept, length_removed}
 use Rattle.store_changes.specs.Namings.{put_name}
 use Rattle.store_changes.specs.Laws.{NamesCome, NamesGo, NamesMove, NamesAreTaken}
-use Rattle.store_changes.proofs.Puts.{by_test}
 use Rattle.store_changes.proofs.Free.{a_some}
 
 pub at_name : {X : Type 0} (P : X → Type 0) (f : List ℕ → X) (k : List ℕ) (v : X) (i : List ℕ) → (i ≡ k → P v) → (i ≢ k → P (f i)) → P (put_name f k v i)

@@ -4,14 +4,15 @@ use Rattle.std.proofs.Math.Path.{fun_ext}
 use Rattle.std.proofs.lemmas.Bool.Decides.{nat_tests}
 use Rattle.tree_definitions.specs.declared.node.Node.{Node}
 use Rattle.tree_definitions.specs.declared.node.Node.TheVariants.{Dir, File, Link}
+use Rattle.cells.specs.Changes.{put}
+use Rattle.cells.proofs.Basics.{at_put, put_same, put_other}
 use Rattle.tree_laws.specs.WellFormed.{put as put_node}
 use Rattle.disk_definitions.specs.Store.{Store}
 use Rattle.disk_definitions.specs.Naming.{Naming, Nodes, Pictures, kind_of, blocks_of, has_large, find_in, room_in, cell_in, first_blocks, inode_of, inode_by, inode_for}
-use Rattle.store_changes.specs.Edits.{put, edited_all}
+use Rattle.store_changes.specs.Edits.{edited_all}
 use Rattle.store_changes.specs.Changes.{new_node}
 use Rattle.store_changes.specs.Namings.{named_new, KeepsOthers}
 use Rattle.store_changes.specs.Laws.{IsBare, MayCome, NodesCome}
-use Rattle.store_changes.proofs.Puts.{at_put, put_same, put_other}
 use Rattle.store_changes.proofs.Free.{none_of}
 use Rattle.store_changes.proofs.Kept.{both, same_inode, same_use}
 

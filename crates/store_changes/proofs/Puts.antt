@@ -1,34 +1,11 @@
 -- Functions that are changed at one place, and lists of edits.
-use Rattle.std.proofs.Common.{ℕ, ◌/◌, ◌%◌, ◌<◌, ◌≤◌, ◌≡◌, ◌≢◌, Bool, true, false, [], ◌∷◌, nat_eq, nat_lt, cond, if◌then◌else◌, refl, arith}
+use Rattle.std.proofs.Common.{ℕ, ◌/◌, ◌%◌, ◌≡◌, ◌≢◌, [], ◌∷◌, nat_eq, if◌then◌else◌, refl, arith}
 use Rattle.std.proofs.Math.Path.{fun_ext}
 use Rattle.std.proofs.lemmas.Bool.Decides.{nat_tests}
-use Rattle.std.proofs.lemmas.Bool.{cond_both}
+use Rattle.cells.specs.Changes.{put, put2}
+use Rattle.cells.proofs.Basics.{by_test, eq_of}
 use Rattle.store_changes.specs.Laws.{EditsGoOn}
-use Rattle.store_changes.specs.Edits.{put, put2, put_part, edited}
-
-pub by_test : {X : Type 0} (P : X → Type 0) (x y : X) (b : Bool) → (b ≡ true → P x) → (b ≡ false → P y) → P (cond b x y)
-by_test P x y b onyes onno = cond_both b x y P onyes onno
-
-pub eq_of : (i k : ℕ) → nat_eq i k ≡ true → i ≡ k
-eq_of i k e = grind (arith, nat_tests)
-
-pub ne_of : (i k : ℕ) → nat_eq i k ≡ false → i ≢ k
-ne_of i k e = grind (arith, nat_tests)
-
-pub of_lt : (i k : ℕ) → i < k → nat_lt i k ≡ true
-of_lt i k e = grind (arith, nat_tests)
-
-pub of_ge : (i k : ℕ) → k ≤ i → nat_lt i k ≡ false
-of_ge i k e = grind (arith, nat_tests)
-
-pub at_put : {X : Type 0} (P : X → Type 0) (f : ℕ → X) (k : ℕ) (v : X) (i : ℕ) → (i ≡ k → P v) → (i ≢ k → P (f i)) → P (put f k v i)
-at_put P f k v i same other = by_test P v (f i) (nat_eq i k) (λ e. same (eq_of i k e)) (λ e. other (ne_of i k e))
-
-pub put_same : {X : Type 0} (f : ℕ → X) (k : ℕ) (v : X) → put f k v k ≡ v
-put_same f k v = at_put (λ x. x ≡ v) f k v k (λ e. refl) (λ n. absurd (n refl))
-
-pub put_other : {X : Type 0} (f : ℕ → X) (k : ℕ) (v : X) (i : ℕ) → i ≢ k → put f k v i ≡ f i
-put_other f k v i n = at_put (λ x. x ≡ f i) f k v i (λ e. absurd (n e)) (λ m. refl)
+use Rattle.store_changes.specs.Edits.{put_part, edited}
 
 pub put_twice : {X : Type 0} (f : ℕ → X) (k : ℕ) (v w : X) → put (put f k v) k w ≡ put f k w
 put_twice f k v w = fun_ext (λ i. grind (arith, nat_tests))

@@ -3,6 +3,7 @@ use Rattle.std.proofs.Common.{ℕ, ◌*◌, ◌/◌, ◌%◌, ◌<◌, ◌≡◌
 use Rattle.std.proofs.lemmas.Bool.Decides.{nat_tests}
 use Rattle.tree_definitions.specs.declared.node.Node.TheVariants.{Dir}
 use Rattle.tree_definitions.specs.Entries.{Entries, entry_at}
+use Rattle.cells.proofs.Basics.{of_lt, at_put, put_same, put_other}
 use Rattle.tree_laws.specs.WellFormed.{put as put_node}
 use Rattle.tree_laws.proofs.Nodes.{each_but}
 use Rattle.disk_definitions.specs.Store.{Store, StoredEntry}
@@ -13,7 +14,7 @@ use Rattle.store_changes.specs.Edits.Edit.{SetPlace}
 use Rattle.store_changes.specs.Changes.{replace_entry}
 use Rattle.store_changes.specs.Namings.{put_name, named_at, KeepsOthers}
 use Rattle.store_changes.specs.Laws.{Leads, HasNameInstead, EntriesAreReplaced}
-use Rattle.store_changes.proofs.Puts.{at_put, put_same, put_other, put2_same, put2_other, of_lt}
+use Rattle.store_changes.proofs.Puts.{put2_same, put2_other}
 use Rattle.store_changes.proofs.Names.{at_name, name_same, name_other}
 use Rattle.store_changes.proofs.Kept.{both, same_use}
 use Rattle.store_changes.proofs.Free.{a_some}

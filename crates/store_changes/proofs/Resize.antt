@@ -4,6 +4,7 @@ use Rattle.std.proofs.lemmas.Bool.Decides.{nat_tests}
 use Rattle.tree_definitions.specs.declared.cells.Cell.{Cell}
 use Rattle.tree_definitions.specs.declared.node.Node.TheVariants.{File}
 use Rattle.tree_definitions.specs.Tree.{small_blocks_of}
+use Rattle.cells.proofs.Basics.{by_test, ne_of, at_put, put_same, put_other}
 use Rattle.tree_laws.specs.WellFormed.{put as put_node}
 use Rattle.tree_laws.proofs.Nodes.{each_but}
 use Rattle.disk_definitions.specs.Store.{Store, StoredEntry}
@@ -13,7 +14,6 @@ use Rattle.disk_definitions.specs.Naming.{Naming, Nodes, Pictures, blocks_of, ha
 use Rattle.store_changes.specs.Namings.{is_owned_by, is_of, KeepsOthers}
 use Rattle.store_changes.specs.Laws.{FilesFit}
 use Rattle.store_changes.specs.Resizing.{index_of, is_large_of, owner_after, named_resized, HasBlocks, IsResized, FilesAreResized, OwnBlocksDo}
-use Rattle.store_changes.proofs.Puts.{by_test, ne_of, at_put, put_same, put_other}
 use Rattle.store_changes.proofs.Kept.{both, same_inode}
 use Rattle.store_changes.proofs.Rooms.{block_room, dir_use}
 use Rattle.store_changes.proofs.Counts.{cell_fits, below_56, below_4096, cell_block, cell_large, byte_use, large_use, same_byte}

@@ -3,10 +3,10 @@ use Rattle.std.proofs.Common.{ℕ, ◌+◌, ◌*◌, ◌/◌, ◌%◌, ◌<◌, 
 use Rattle.std.proofs.Math.Nat.{div-add-mod}
 use Rattle.tree_definitions.specs.declared.node.Node.{Node}
 use Rattle.tree_definitions.specs.declared.node.Node.TheVariants.{Dir, File, Link}
+use Rattle.cells.specs.Changes.{put2}
 use Rattle.disk_definitions.specs.Store.{Store, StoredEntry}
 use Rattle.disk_definitions.specs.Store.Use.{Entries}
 use Rattle.disk_definitions.specs.Naming.{Naming, Nodes, Pictures, blocks_of, room_in, use_by, use_for, dir_place}
-use Rattle.store_changes.specs.Edits.{put2}
 use Rattle.store_changes.proofs.Puts.{put2_other}
 
 pub room_le : (x : Option Node) → room_in x ≤ blocks_of x
@@ -24,7 +24,7 @@ block_room x q l = let a : q / 56 < room_in x = which_block q (room_in x) l in l
 pub same_place : (q p : ℕ) → q / 56 ≡ p / 56 → q % 56 ≡ p % 56 → q ≡ p
 same_place q p a b = let e : 56 * (q / 56) + q % 56 ≡ q = div-add-mod q 56 in let f : 56 * (p / 56) + p % 56 ≡ p = div-add-mod p 56 in omega arith
 
-some_pair : (x y : ℕ × ℕ) → Some x ≡ Some y → x ≡ y
+pub some_pair : (x y : ℕ × ℕ) → Some x ≡ Some y → x ≡ y
 some_pair x y e = cc
 
 -- no two directories share a place

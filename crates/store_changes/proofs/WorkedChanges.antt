@@ -4,18 +4,20 @@ use Rattle.std.proofs.lemmas.Bool.Decides.{nat_tests}
 use Rattle.tree_definitions.specs.declared.cells.Cell.{Cell}
 use Rattle.tree_definitions.specs.declared.cells.Cell.TheVariants as cell
 use Rattle.tree_definitions.specs.declared.node.Node.TheVariants.{Dir, File}
+use Rattle.cells.specs.Changes.{put}
+use Rattle.cells.proofs.Basics.{at_put}
 use Rattle.tree_laws.specs.WellFormed.{put as put_node}
 use Rattle.disk_definitions.specs.Store.{Store, StoredNode}
 use Rattle.disk_definitions.specs.Store.Use.{Fresh, Bytes, Entries}
 use Rattle.disk_definitions.specs.Naming.{Naming, Nodes, Pictures, find_in, inode_of, Allows}
-use Rattle.store_changes.specs.Edits.{put, edited_all}
+use Rattle.store_changes.specs.Edits.{edited_all}
 use Rattle.store_changes.specs.Changes.{new_node, grow, put_entry}
 use Rattle.store_changes.specs.Namings.{named_new, named_block, named_at}
 use Rattle.store_changes.specs.Edits.Edit.{SetInode, SetUse, SetBytes}
 use Rattle.store_changes.specs.Laws.{FilesFit}
 use Rattle.store_changes.specs.Resizing.{index_of, named_resized, byte_at, HasBlocks, IsResized}
 use Rattle.store_changes.proofs.Resize.{files_are_resized}
-use Rattle.store_changes.proofs.Puts.{at_put, put_part_other}
+use Rattle.store_changes.proofs.Puts.{put_part_other}
 use Rattle.store_changes.proofs.Names.{names_come}
 use Rattle.store_changes.proofs.NewNode.{nodes_come}
 use Rattle.store_changes.proofs.Grow.{directories_grow}

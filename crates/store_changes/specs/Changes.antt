@@ -2,10 +2,11 @@
 -- small blocks, and places of a directory, of which each block has 56.
 use Rattle.std.specs.Prelude.{ℕ, zero, suc, ◌+◌, ◌-◌, ◌/◌, ◌%◌, true, false, ◌==◌, if◌then◌else◌, Some, None, List, [], ◌∷◌, ◌++◌}
 use Rattle.tree_definitions.specs.declared.node.Node.{Node}
+use Rattle.cells.specs.Changes.{put}
 use Rattle.disk_definitions.specs.Store.{StoredNode, StoredEntry, Use}
 use Rattle.disk_definitions.specs.Store.Use.{Fresh, Empty, Entries}
 use Rattle.disk_definitions.specs.Naming.{inode_of}
-use Rattle.store_changes.specs.Edits.{Edit, put}
+use Rattle.store_changes.specs.Edits.{Edit}
 use Rattle.store_changes.specs.Edits.Edit.{SetInode, SetBit, SetUse, SetPlace, SetLarge}
 
 -- a node without blocks comes to stand in inode i

@@ -1,14 +1,7 @@
 -- The change of one thing of a store, and of several one after another.
 use Rattle.std.specs.Prelude.{ℕ, ◌/◌, ◌%◌, Bool, ◌==◌, if◌then◌else◌, Option, List, [], ◌∷◌}
+use Rattle.cells.specs.Changes.{put, put2}
 use Rattle.disk_definitions.specs.Store.{Store, StoredNode, StoredEntry, Use}
-
--- f with this value at k
-abbrev pub put : {X : Type 0} → (ℕ → X) → ℕ → X → ℕ → X
-put f k v i = if i == k then v else f i
-
--- f with this value at j of k
-abbrev pub put2 : {X : Type 0} → (ℕ → ℕ → X) → ℕ → ℕ → X → ℕ → ℕ → X
-put2 f k j v i l = if i == k then (if l == j then v else f i l) else f i l
 
 -- f with these 512 values in a part of k
 abbrev pub put_part : (ℕ → ℕ → ℕ) → ℕ → ℕ → (ℕ → ℕ) → ℕ → ℕ → ℕ

@@ -1,5 +1,5 @@
 -- What each change makes of the picture of some nodes, and of its naming.
-use Rattle.std.specs.Prelude.{◌≡◌, ◌≢◌, ℕ, ◌+◌, ◌*◌, ◌<◌, ◌≤◌, Bool, true, false, if◌then◌else◌, Option, Some, None, List, [], ◌++◌, length, is_some}
+use Rattle.std.specs.Prelude.{◌≡◌, ◌≢◌, ℕ, ◌+◌, ◌*◌, ◌<◌, ◌≤◌, true, false, if◌then◌else◌, Option, Some, None, List, [], ◌++◌, length, is_some}
 use Rattle.std.specs.Ordering.{nat_cmp}
 use Rattle.std.specs.Cmp.Lexicographic.{slice_cmp}
 use Rattle.std.specs.List.Sorted.{IsStrictlySortedBy}
@@ -9,12 +9,13 @@ use Rattle.tree_definitions.specs.declared.node.Node.{Node}
 use Rattle.tree_definitions.specs.declared.node.Node.TheVariants.{Dir, File, Link}
 use Rattle.tree_definitions.specs.Entries.{Entries, entry_at, with_entry, without_entry}
 use Rattle.tree_definitions.specs.Apply.{is_dir}
+use Rattle.cells.specs.Changes.{put}
 use Rattle.tree_laws.specs.WellFormed.{put as put_node}
-use Rattle.disk_definitions.specs.Store.{Store, StoredNode, Use}
-use Rattle.disk_definitions.specs.Store.Use.{Fresh, Bytes, Empty, Entries as OfEntries}
+use Rattle.disk_definitions.specs.Store.{Store, StoredNode, is_unused}
+use Rattle.disk_definitions.specs.Store.Use.{Fresh, Bytes}
 use Rattle.disk_definitions.specs.Standing.{IsMetadata}
 use Rattle.disk_definitions.specs.Naming.{Naming, Nodes, Pictures, kind_of, find_in, entry_of, dir_place}
-use Rattle.store_changes.specs.Edits.{Edit, put, edited_all}
+use Rattle.store_changes.specs.Edits.{Edit, edited_all}
 use Rattle.store_changes.specs.Changes.{new_node, put_entry, take_entry, replace_entry, grow, relink, freed, drop_node}
 use Rattle.store_changes.specs.Namings.{named_new, named_at, named_block, is_owned_by, is_of, named_less, KeepsOthers}
 
@@ -88,16 +89,9 @@ abbrev pub EntriesGo : Type 0
 EntriesGo = (s : Store) (at : Nodes) (n : Naming) (d blocks : ℕ) (x : StoredNode) (old new : Entries) (name : List ℕ) → Pictures s at n → HasInode s at n d (Dir old blocks) x → HasNameLess old new name →
     Leads s (edited_all s (take_entry (n.inode d) x (n.spot d name))) at n n d (Some (Dir new blocks))
 
--- no node has the block
-abbrev pub is_free : Use → Bool
-is_free Fresh = true
-is_free Bytes = false
-is_free Empty = true
-is_free OfEntries = false
-
 -- a free block of which no place has an entry; of one that was a directory's that is so
 pub record IsFreeBlock (s : Store) (k : ℕ) : Type 0 where
-  pub free : is_free (s.use_of k) ≡ true
+  pub free : is_unused (s.use_of k) ≡ true
   pub clear : s.use_of k ≡ Fresh → (p : ℕ) → p < 56 → s.place k p ≡ None
 
 abbrev pub DirectoriesGrow : Type 0

@@ -4,8 +4,8 @@ use Rattle.std.specs.Prelude.{◌≡◌, ◌≢◌, ℕ, Bool, true, false, ◌=
 use Rattle.std.specs.Ordering.{nat_cmp}
 use Rattle.std.specs.Cmp.Lexicographic.{slice_cmp}
 use Rattle.std.specs.BTreeMap.{is_at}
+use Rattle.cells.specs.Changes.{put}
 use Rattle.disk_definitions.specs.Naming.{Naming, Nodes}
-use Rattle.store_changes.specs.Edits.{put}
 
 -- f with this value at a name
 abbrev pub put_name : {X : Type 0} → (List ℕ → X) → List ℕ → X → List ℕ → X

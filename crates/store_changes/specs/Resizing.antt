@@ -4,11 +4,11 @@ use Rattle.std.specs.List.{slice_get}
 use Rattle.tree_definitions.specs.declared.cells.Cell.{Cell}
 use Rattle.tree_definitions.specs.declared.node.Node.TheVariants.{File}
 use Rattle.tree_definitions.specs.Tree.{small_blocks_of}
+use Rattle.cells.specs.Changes.{put}
 use Rattle.disk_definitions.specs.Store.{Store}
 use Rattle.disk_definitions.specs.Store.Use.{Fresh, Bytes}
 use Rattle.disk_definitions.specs.Standing.{IsMetadata}
 use Rattle.disk_definitions.specs.Naming.{Naming, Nodes, Pictures, inode_of, Allows}
-use Rattle.store_changes.specs.Edits.{put}
 use Rattle.store_changes.specs.Namings.{is_owned_by, is_of}
 use Rattle.store_changes.specs.Laws.{Leads, FilesFit}
 

@@ -1,6 +1,6 @@
 -- The sectors of a record: where each begins in the body, and that each may stand in its slot.
-use Rattle.std.proofs.Common.{◌≡◌, ℕ, zero, suc, ◌+◌, ◌-◌, ◌*◌, ◌/◌, ◌%◌, ◌^◌, ◌<◌, ◌≤◌, Bool, true, false, ◌&&◌, ◌||◌, ◌==◌, if◌then◌else◌, nat_le, nat_lt, min, IsTrue, List, [], ◌∷◌, ◌++◌, length, take, drop, map, replicate, append_assoc, add-one, refl, sym, ap, ◌∙◌, arith}
-use Rattle.std.proofs.lemmas.Bool.{and_parts, and_from}
+use Rattle.std.proofs.Common.{◌≡◌, ℕ, zero, ◌+◌, ◌-◌, ◌*◌, ◌/◌, ◌%◌, ◌^◌, ◌<◌, ◌≤◌, true, ◌&&◌, ◌==◌, if◌then◌else◌, nat_le, nat_lt, min, IsTrue, List, [], ◌∷◌, ◌++◌, length, take, drop, map, replicate, append_assoc, add-one, refl, sym, ap, ◌∙◌, arith}
+use Rattle.std.proofs.lemmas.Bool.{and_parts, and_from, or_right}
 use Rattle.std.proofs.lemmas.Bool.Decides.{nat_tests}
 use Rattle.std.proofs.lemmas.List.{length-drop, length-take, map-append}
 use Rattle.std.proofs.lemmas.List.Folds.{list_all-append}
@@ -12,6 +12,7 @@ use Rattle.sector_definitions.specs.Bytes.{zeros, are_zero}
 use Rattle.sector_definitions.specs.LogSectors.{is_empty_sector, is_record_sector}
 use Rattle.sector_definitions.specs.declared.log_sector.LogSector.{LogSector}
 use Rattle.tree_definitions.specs.Numbers.{below}
+use Rattle.sector_definitions.proofs.WrittenFields.{zeros_are_zero}
 use Rattle.log_definitions.specs.declared.redo.Redo.{Redo}
 use Rattle.log_definitions.specs.Records.{record_bytes, record_fits, sectors_ascend}
 use Rattle.ring_definitions.specs.Rings.{is_record, sectors_needed, piece, part_sector}
@@ -49,15 +50,6 @@ more_parts first redo part before old after x e more is =
 pub all_fit : (before after : List LogSector) (x : LogSector) → IsTrue (list_all fits_its_slot before) → IsTrue (fits_its_slot x) → after ≡ before ++ x ∷ [] → IsTrue (list_all fits_its_slot after)
 all_fit before after x h fit more = ap (list_all fits_its_slot) more ∙ list_all-append fits_its_slot before (x ∷ []) ∙ and_from _ _ h (and_from _ _ fit refl)
 
-zeros_are_zero : (n : ℕ) → are_zero (zeros n) ≡ true
-unfolding zeros
-zeros_are_zero zero = refl
-zeros_are_zero (suc n) = zeros_are_zero n
-
-either : (a b : Bool) → b ≡ true → (a || b) ≡ true
-either true b h = refl
-either false b h = h
-
 -- every part but the last uses the whole body, the last at least one byte
 uses : (n part parts used : ℕ) → parts ≡ (n + 487) / 488 → used ≡ min 488 (n - 488 * part) → part < parts
     → (if part + 1 == parts then nat_le 1 used && nat_le used 488 else used == 488) ≡ true
@@ -79,4 +71,4 @@ part_fits first redo part h f m p =
     let zero : are_zero (drop (length bytes) (bytes ++ zeros (488 - length bytes))) ≡ true = ap are_zero (drop-append_seam bytes (zeros (488 - length bytes))) ∙ zeros_are_zero (488 - length bytes) in
     let record_sector : is_record_sector x ≡ true =
     and_from _ _ (and_from _ _ (and_from _ _ (and_from _ _ (and_from _ _ (of_le 256 x.seq (omega arith)) (of_le 1 redo.op.0 (op_of redo h))) (of_lt part parts p)) (of_le parts 9 few)) (uses n part parts (length bytes) refl (length-piece body part) p)) zero in
-    and_from _ _ number (either (is_empty_sector x) (is_record_sector x) record_sector)
+    and_from _ _ number (or_right (is_empty_sector x) (is_record_sector x) record_sector)

@@ -3,8 +3,8 @@ use Rattle.std.proofs.Common.{◌≡◌, ◌-◌, ℕ, ◌+◌, ◌*◌, ◌<◌
 use Rattle.pick_definitions.specs.Least.{least_from}
 use Rattle.pick_definitions.specs.Held.{inode_in}
 use Rattle.pick_definitions.specs.Picks.{is_free, picked_inode}
-use Rattle.pick_definitions.proofs.LeastLaws.{least_below}
-use Rattle.bitmap_alloc.proofs.Steps.{step_end, segment_found, segment_passed}
+use Rattle.pick_definitions.proofs.LeastLaws.{least_below, step_end}
+use Rattle.bitmap_alloc.proofs.Steps.{segment_found, segment_passed}
 use Rattle.bitmap_alloc.proofs.pick.pick_inode.Goals as goal
 
 -- a search from a place 0 of a segment

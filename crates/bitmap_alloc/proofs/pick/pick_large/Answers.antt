@@ -2,8 +2,7 @@
 use Rattle.std.proofs.Common.{◌≡◌, ℕ, ◌<◌, Bool, true, false, sym, arith}
 use Rattle.pick_definitions.specs.Held.{large_in}
 use Rattle.pick_definitions.specs.Picks.{is_free, picked_large}
-use Rattle.pick_definitions.proofs.LeastLaws.{least_below}
-use Rattle.bitmap_alloc.proofs.Steps.{step_end, step_found, step_passed}
+use Rattle.pick_definitions.proofs.LeastLaws.{least_below, step_found, step_passed, step_end}
 use Rattle.bitmap_alloc.proofs.pick.pick_large.Goals as goal
 
 pub loop-k-init : goal.loop-k-init

@@ -1,10 +1,9 @@
 -- Place after place.
 use Rattle.std.proofs.Common.{◌≡◌, ◌≤◌, ◌<◌, ℕ, Bool, true, false, sym, arith}
 use Rattle.pick_definitions.specs.Least.{least}
-use Rattle.pick_definitions.proofs.LeastLaws.{least_below}
+use Rattle.pick_definitions.proofs.LeastLaws.{least_below, step_found, step_passed, step_end}
 use Rattle.plan_definitions.specs.Walks.{is_vacant}
 use Rattle.dir_lookup.specs.Stored.{entries_at}
-use Rattle.dir_lookup.proofs.Places.{found_here, passed_here, none_left}
 use Rattle.dir_lookup.proofs.search.vacant_place.Goals as goal
 
 pub loop-place-init : goal.loop-place-init
@@ -15,17 +14,17 @@ returns-then-vacant-clause-is c =
     let test : ℕ → Bool = λ r. is_vacant (entries_at c.args.sector.now r) in
     let l : c.loop-place.place < 7 = omega arith in
     let t : test c.loop-place.place ≡ true = cc in
-    found_here test c.loop-place.place 7 (least test 7) l t c.loop-place.invariant
+    step_found test c.loop-place.place 7 (least test 7) l t c.loop-place.invariant
 
 pub loop-place-preserved : goal.loop-place-preserved
 loop-place-preserved c =
     let test : ℕ → Bool = λ r. is_vacant (entries_at c.args.sector.now r) in
     let l : c.loop-place.place < 7 = omega arith in
     let t : test c.loop-place.place ≡ false = cc in
-    passed_here test c.loop-place.place 7 (least test 7) l t c.loop-place.invariant
+    step_passed test c.loop-place.place 7 (least test 7) l t c.loop-place.invariant
 
 pub returns-clause-is : goal.returns-clause-is
 returns-clause-is c =
     let test : ℕ → Bool = λ r. is_vacant (entries_at c.args.sector.now r) in
     let l : 7 ≤ c.loop-place.place = omega arith in
-    none_left test c.loop-place.place 7 (least test 7) l c.loop-place.invariant
+    step_end test c.loop-place.place 7 (least test 7) l c.loop-place.invariant

@@ -1,7 +1,7 @@
 -- The block that is decoded is that of the inode's sector.
 use Rattle.std.proofs.Common.{ap, sym, ◌∙◌}
 use Rattle.std.specs.Option.{option_map}
-use Rattle.dir_lookup.specs.Stored.{stored}
+use Rattle.disk_definitions.specs.Store.{stored}
 use Rattle.dir_lookup.specs.Reading.{read_of}
 use Rattle.dir_lookup.proofs.Readings.{inode_reads}
 use Rattle.dir_lookup.proofs.sectors.inode_at.Goals as goal

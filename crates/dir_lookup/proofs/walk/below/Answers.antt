@@ -1,6 +1,6 @@
 -- By the kind of the node.
 use Rattle.std.proofs.Common.{eq-eqb, ne_eqb, ◌∙◌}
-use Rattle.dir_lookup.specs.Stored.{stored}
+use Rattle.disk_definitions.specs.Store.{stored}
 use Rattle.dir_lookup.proofs.Steps.{in_directory, in_no_directory}
 use Rattle.dir_lookup.proofs.walk.below.Goals as goal
 

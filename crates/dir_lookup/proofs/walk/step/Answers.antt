@@ -1,9 +1,9 @@
 -- By what stands in the inode.
 use Rattle.std.proofs.Common.{◌≡◌, Some, None, Err, sym, rules, ap, ◌∙◌}
 use Rattle.std.specs.Option.{option_map}
+use Rattle.disk_definitions.specs.Store.{stored}
 use Rattle.dir_lookup.specs.Reading.{Gives, Lacks, read_of}
 use Rattle.dir_lookup.specs.Spots.{spot_of, walked_in}
-use Rattle.dir_lookup.specs.Stored.{stored}
 use Rattle.dir_lookup.proofs.Steps.{said_ok, said_err, stepped}
 use Rattle.dir_lookup.proofs.walk.step.Goals as goal
 

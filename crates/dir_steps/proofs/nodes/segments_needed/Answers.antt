@@ -1,7 +1,7 @@
 -- A node that goes needs its segments.
 use Rattle.std.proofs.Common.{◌≡◌, ℕ, true, [], cond, sym, ap, ◌∙◌}
+use Rattle.disk_definitions.specs.Store.{stored}
 use Rattle.plan_definitions.specs.NamePlans as plans
-use Rattle.dir_lookup.specs.Stored.{stored}
 use Rattle.dir_steps.specs.Rooms.{needed}
 use Rattle.dir_steps.proofs.Needed.{looks_over}
 use Rattle.dir_steps.proofs.nodes.segments_needed.Goals as goal

@@ -1,10 +1,11 @@
 -- The bytes are added at the end.
 use Rattle.std.proofs.Common.{◌≡◌, ◌-◌, ◌*◌, ◌<◌, ◌≤◌, length, min, sym, ◌∙◌, ap, subst, rules, arith, le_refl}
 use Rattle.disk_definitions.specs.Disks.{sectors_of}
+use Rattle.disk_definitions.specs.Store.{stored}
 use Rattle.standing_laws.specs.ReadTree.{byte_at}
 use Rattle.standing_laws.proofs.Pictured.{length_cells}
 use Rattle.disk_reading.specs.Files.{data_sector}
-use Rattle.disk_reading.specs.Seen.{store_in, stored}
+use Rattle.disk_reading.specs.Seen.{store_in}
 use Rattle.disk_reading.proofs.Cells.{sector_added}
 use Rattle.disk_reading.proofs.files.add_sector.Goals as goal
 

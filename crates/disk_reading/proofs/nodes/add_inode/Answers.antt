@@ -1,7 +1,8 @@
 -- By the inode in use.
 use Rattle.std.proofs.Common.{◌≡◌, Some, sym, ◌∙◌, ap, rules}
 use Rattle.std.specs.Option.{option_map}
-use Rattle.disk_reading.specs.Seen.{store_in, stored}
+use Rattle.disk_definitions.specs.Store.{stored}
+use Rattle.disk_reading.specs.Seen.{store_in}
 use Rattle.disk_reading.proofs.Marked.{large_few}
 use Rattle.disk_reading.proofs.nodes.add_inode.Goals as goal
 

@@ -1,9 +1,10 @@
 -- One place more.
 use Rattle.std.proofs.Common.{◌≡◌, ◌+◌, ◌*◌, ◌/◌, ◌%◌, ◌<◌, true, false, sym, ◌∙◌, ap, rules}
 use Rattle.std.specs.Option.{option_map}
+use Rattle.disk_definitions.specs.Store.{stored, entered}
 use Rattle.standing_laws.specs.ReadTree.{place_at, with_place}
 use Rattle.standing_laws.specs.Soundness.{entry_agrees}
-use Rattle.disk_reading.specs.Seen.{store_in, stored, entered}
+use Rattle.disk_reading.specs.Seen.{store_in}
 use Rattle.disk_reading.proofs.PlaceByPlace.{place_more, place_fails, OneMore}
 use Rattle.disk_reading.proofs.nodes.read_entries.Goals as goal
 

@@ -1,7 +1,8 @@
 use Rattle.std.proofs.Common.{◌≡◌, ◌≤◌, true, length}
+use Rattle.disk_definitions.specs.Store.{stored}
 use Rattle.standing_laws.specs.ReadTree.{place_at, entries_to}
 use Rattle.standing_laws.specs.Soundness.{entries_agree}
-use Rattle.disk_reading.specs.Seen.{store_in, stored}
+use Rattle.disk_reading.specs.Seen.{store_in}
 use Rattle.disk_reading.proofs.nodes.read_entries.Given as goal
 
 abbrev pub invariant-loop-q : goal.invariant-loop-q

@@ -1,6 +1,6 @@
 use Rattle.std.proofs.Common.{◌≡◌, ◌||◌}
+use Rattle.disk_definitions.specs.Store.{is_unused}
 use Rattle.standing_laws.specs.Below.{all_below}
-use Rattle.standing_laws.specs.Soundness.{is_unused}
 use Rattle.disk_reading.specs.Marks.{flag_at}
 use Rattle.disk_reading.specs.Seen.{store_in}
 use Rattle.disk_reading.proofs.owners.others_unused.Given as goal

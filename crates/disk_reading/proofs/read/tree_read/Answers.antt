@@ -1,8 +1,8 @@
 -- A sound disk stands for the tree of its nodes, and one that isn't sound for none.
 use Rattle.std.proofs.Common.{◌≡◌, ◌*◌, Some, true, false, sym, ◌∙◌, ap, subst}
 use Rattle.sector_definitions.specs.Params.{param_in}
+use Rattle.sector_definitions.proofs.ParamLaws.{few_segments}
 use Rattle.disk_definitions.specs.Disks.{sectors_of}
-use Rattle.standing_laws.proofs.SoundStanding.{few_segments}
 use Rattle.disk_reading.specs.Reading.{IsReading}
 use Rattle.disk_reading.specs.Tests.{IsSoundReading}
 use Rattle.disk_reading.proofs.Treed.{is_within, has_targets, reading_some, reading_none}

@@ -3,7 +3,7 @@ use Rattle.std.proofs.Common.{◌≡◌, ◌*◌, ◌<◌, Some, sym, ◌∙◌,
 use Rattle.sector_definitions.specs.declared.region.Region.TheVariants as region
 use Rattle.sector_definitions.specs.Regions.{sector_of}
 use Rattle.sector_definitions.specs.Inodes.{inode_in}
-use Rattle.standing_laws.proofs.Shapes.{in_block}
+use Rattle.sector_definitions.proofs.InodeLaws.{inode_read}
 use Rattle.disk_definitions.specs.Disks.{sectors_of}
 use Rattle.disk_reading.specs.Seen.{store_in}
 use Rattle.disk_reading.proofs.Decoded.{used_is}
@@ -20,4 +20,4 @@ returns-else-inode-eq0-clause-fits c =
     let x = c.in_ok-inode.inode in
     let bytes = sectors_of c.args.disk.now (sector_of (region.Inode c.args.i)) in
     let e : inode_in bytes ≡ Some x = sym c.inode_at.ensures ∙ c.in_ok-inode.was in
-    in_block bytes x e
+    (inode_read bytes x e).1

@@ -1,8 +1,9 @@
 -- The logs' changes laid over the disk without its logs, where sector 0 is a parameter sector.
 use Rattle.std.proofs.Common.{◌≡◌, sym, ap, ◌∙◌}
 use Rattle.sector_definitions.specs.Params.{param_in}
+use Rattle.sector_definitions.proofs.ParamLaws.{few_segments}
 use Rattle.disk_definitions.specs.Disks.{sectors_of}
-use Rattle.disk_replay.proofs.ReplayedDisk.{all_replayed, few_segments, not_replayed}
+use Rattle.disk_replay.proofs.ReplayedDisk.{all_replayed, not_replayed}
 use Rattle.disk_replay.proofs.replay.replayed.Goals as goal
 use Rattle.disk_replay.proofs.replay.replayed.Goals.{in-Some+in_ok-apply_logs, in_default}
 

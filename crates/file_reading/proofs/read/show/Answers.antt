@@ -1,8 +1,8 @@
 -- The bytes of the sectors, cut to what is shown.
 use Rattle.std.proofs.Common.{◌≡◌, ◌+◌, ◌-◌, ◌/◌, ◌≤◌, min, Err, subst, sym, arith, rules, ◌∙◌}
+use Rattle.disk_definitions.specs.Store.{stored}
 use Rattle.plan_definitions.specs.FilePlans.{sectors_met, showing}
 use Rattle.dir_lookup.specs.Reading.{reading}
-use Rattle.dir_lookup.specs.Stored.{stored}
 use Rattle.plan_steps.specs.Ends.{Says}
 use Rattle.file_reading.specs.Files.{ReadsSectors}
 use Rattle.file_reading.proofs.Shown.{bytes_shown, past_the_end, sectors_shown, sectors_stop, shows}

@@ -1,10 +1,10 @@
 -- A length past the end is refused, and once all segments are held the cut is done.
 use Rattle.std.proofs.Common.{◌≡◌, ◌++◌, ◌/◌, map, ap, sym, ◌∙◌, subst, arith}
 use Rattle.tree_definitions.specs.Tree.{small_blocks_of}
+use Rattle.disk_definitions.specs.Store.{stored}
 use Rattle.plan_definitions.specs.FilePlans.{blocks_between, cut_segments, large_segment}
 use Rattle.plan_definitions.specs.Ask.{read_segments}
 use Rattle.dir_lookup.specs.Reading.{reading}
-use Rattle.dir_lookup.specs.Stored.{stored}
 use Rattle.plan_steps.specs.Edits.{edits_of}
 use Rattle.file_reading.specs.Cuts.{AreHeld}
 use Rattle.file_reading.proofs.Cutting.{cut_done, past_the_end}

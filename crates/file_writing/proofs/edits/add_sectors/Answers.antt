@@ -1,7 +1,7 @@
 -- Sector after sector.
 use Rattle.std.proofs.Common.{◌≡◌, ◌+◌, ◌/◌, ◌<◌, ◌++◌, ◌∷◌, [], ℕ, Err, refl, sym, ap, subst, arith, rules}
+use Rattle.disk_definitions.specs.Store.{stored}
 use Rattle.dir_lookup.specs.Reading.{reading}
-use Rattle.dir_lookup.specs.Stored.{stored}
 use Rattle.plan_steps.specs.Edits.{edits_of}
 use Rattle.plan_steps.specs.declared.stop.Stop.TheVariants as stop
 use Rattle.file_writing.specs.Writings.{WritesSector, WritesSectors, write_behind, writing_of}

@@ -1,12 +1,12 @@
 -- The plan adds the edits of the sectors that are left to those that are there.
 use Rattle.std.proofs.Common.{◌≡◌, ◌+◌, ◌-◌, ◌/◌, ◌++◌, List}
 use Rattle.pick_definitions.specs.Held.{Segments}
+use Rattle.disk_definitions.specs.Store.{stored}
 use Rattle.store_changes.specs.Edits.{Edit}
 use Rattle.plan_definitions.specs.Ask.{Ask}
 use Rattle.plan_definitions.specs.Plans.{Plan}
 use Rattle.plan_definitions.specs.FilePlans.{sectors_met, write_sectors}
 use Rattle.dir_lookup.specs.Reading.{reading}
-use Rattle.dir_lookup.specs.Stored.{stored}
 use Rattle.plan_steps.specs.Edits.{edits_of}
 use Rattle.file_writing.specs.Writings.{write_behind, writing_of}
 use Rattle.file_writing.proofs.edits.add_sectors.Given as goal

@@ -1,6 +1,6 @@
 -- The sector's bytes, or zeros.
 use Rattle.std.proofs.Common.{sym, ◌∙◌}
-use Rattle.dir_lookup.specs.Stored.{stored}
+use Rattle.disk_definitions.specs.Store.{stored}
 use Rattle.file_writing.specs.Writings.{writing_of}
 use Rattle.file_writing.proofs.Around.{around_read, around_zeros}
 use Rattle.file_writing.proofs.edits.bytes_around.Goals as goal

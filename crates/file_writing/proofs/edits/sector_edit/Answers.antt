@@ -1,6 +1,6 @@
 -- By what stands around.
 use Rattle.std.proofs.Common.{◌≡◌, Err, subst, sym, rules}
-use Rattle.dir_lookup.specs.Stored.{stored}
+use Rattle.disk_definitions.specs.Store.{stored}
 use Rattle.file_writing.specs.Writings.{FindsAround, WritesSector, writing_of}
 use Rattle.file_writing.proofs.Around.{sector_lacks, sector_written}
 use Rattle.file_writing.proofs.edits.sector_edit.Goals as goal

@@ -1,8 +1,8 @@
 -- Block after block.
 use Rattle.std.proofs.Common.{◌≡◌, ◌<◌, ◌≤◌, ◌+◌, ℕ, length, set, refl, subst, ◌∙◌, arith, rules}
 use Rattle.std.proofs.Math.ListN.{length-set}
+use Rattle.disk_definitions.specs.Store.{stored}
 use Rattle.plan_definitions.specs.FilePlans.{small_after}
-use Rattle.dir_lookup.specs.Stored.{stored}
 use Rattle.file_writing.proofs.Setting.{SetBelow, set_all, set_more}
 use Rattle.file_writing.proofs.Resized.{small_past}
 use Rattle.file_writing.proofs.resize.small_after.Goals as goal

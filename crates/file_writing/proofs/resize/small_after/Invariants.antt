@@ -1,7 +1,7 @@
 -- The first blocks are set.
 use Rattle.std.proofs.Common.{◌≡◌, length}
+use Rattle.disk_definitions.specs.Store.{stored}
 use Rattle.plan_definitions.specs.FilePlans.{small_after}
-use Rattle.dir_lookup.specs.Stored.{stored}
 use Rattle.file_writing.proofs.Setting.{SetBelow}
 use Rattle.file_writing.proofs.resize.small_after.Given as goal
 

@@ -3,9 +3,9 @@ use Rattle.std.proofs.Common.{◌≡◌, ◌==◌, ◌&&◌, ◌<◌, ◌≤◌,
 use Rattle.pick_definitions.specs.Held.{large_in}
 use Rattle.pick_definitions.specs.Picks.{is_free}
 use Rattle.pick_definitions.proofs.LeastLaws.{least_some}
+use Rattle.disk_definitions.specs.Store.{stored}
 use Rattle.plan_definitions.specs.Plans.{Hand, shared_nodes}
 use Rattle.plan_definitions.specs.FilePlans.{end_of}
-use Rattle.dir_lookup.specs.Stored.{stored}
 use Rattle.plan_steps.specs.Ends.{Comes, Stops}
 use Rattle.file_writing.specs.Writings.{writing_of}
 use Rattle.file_writing.proofs.Choices.{bad_offset, has_large, large_wanted, too_big}

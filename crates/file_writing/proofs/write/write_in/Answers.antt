@@ -1,8 +1,8 @@
 -- The edits of all but the bytes, and then the sectors.
 use Rattle.std.proofs.Common.{◌≡◌, Err, max, subst, sym, ap, ◌∙◌, rules}
+use Rattle.disk_definitions.specs.Store.{stored}
 use Rattle.plan_definitions.specs.FilePlans.{end_of, resized, writing_in}
 use Rattle.dir_lookup.specs.Reading.{reading}
-use Rattle.dir_lookup.specs.Stored.{stored}
 use Rattle.plan_steps.specs.Ends.{Comes}
 use Rattle.file_writing.specs.Writings.{WritesSectors, writing_of}
 use Rattle.file_writing.proofs.Ending.{all_written, sectors_stop}

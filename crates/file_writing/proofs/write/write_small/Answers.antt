@@ -4,10 +4,10 @@ use Rattle.frang_base.specs.declared.reply.Reply.TheVariants as reply
 use Rattle.tree_definitions.specs.Tree.{small_blocks_of}
 use Rattle.pick_definitions.specs.Picks.{picked_many}
 use Rattle.pick_definitions.proofs.ManyLaws.{picks_the_least}
+use Rattle.disk_definitions.specs.Store.{stored}
 use Rattle.plan_definitions.specs.Plans.{Hand, none_left}
 use Rattle.plan_definitions.specs.FilePlans.{directory_blocks, end_of}
 use Rattle.dir_lookup.specs.Reading.{reading}
-use Rattle.dir_lookup.specs.Stored.{stored}
 use Rattle.plan_steps.specs.Ends.{Comes, Stops}
 use Rattle.file_writing.specs.Writings.{writing_of}
 use Rattle.file_writing.proofs.Choices.{none_wanted, some_wanted}

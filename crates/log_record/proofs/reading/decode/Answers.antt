@@ -4,9 +4,10 @@ use Rattle.std.specs.List.{list_all}
 use Rattle.std.specs.Option.{option_map}
 use Rattle.frang_base.specs.declared.change.Change.{Change}
 use Rattle.change_definitions.specs.Changes.{is_change}
+use Rattle.sector_definitions.specs.Bytes.{AreBytes}
 use Rattle.log_definitions.specs.declared.redo.Redo.{Redo}
 use Rattle.log_definitions.specs.Records.{sectors_ascend}
-use Rattle.log_record.proofs.NumbersRead.{AreBytes, taken}
+use Rattle.log_record.proofs.NumbersRead.{taken}
 use Rattle.log_record.proofs.RecordRead.{changes_read}
 use Rattle.log_record.proofs.RecordSteps.{empty_of, read_of, too_long, read_whole}
 use Rattle.log_record.proofs.reading.decode.Goals as goal

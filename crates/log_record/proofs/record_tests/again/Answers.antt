@@ -1,6 +1,6 @@
 -- What is decoded may stand in a log.
 use Rattle.std.proofs.Common.{sym, ◌∙◌, arith}
-use Rattle.log_record.proofs.NumbersRead.{AreBytes}
+use Rattle.sector_definitions.specs.Bytes.{AreBytes}
 use Rattle.log_record.proofs.RecordRead.{decoded_fits}
 use Rattle.log_record.proofs.record_tests.again.Goals as goal
 

@@ -1,6 +1,7 @@
 -- Place after place.
 use Rattle.std.specs.Option.{option_map}
-use Rattle.dir_lookup.specs.Stored.{entered, entries_at}
+use Rattle.disk_definitions.specs.Store.{entered}
+use Rattle.dir_lookup.specs.Stored.{entries_at}
 use Rattle.op_look.proofs.Listed.{place_added}
 use Rattle.op_look.proofs.names.add_names.Goals as goal
 

@@ -1,9 +1,9 @@
 -- The plan lists the names so far and those of the sectors that are left.
 use Rattle.std.proofs.Common.{◌≡◌, ◌-◌, ◌*◌, ℕ, List, slice_index}
 use Rattle.pick_definitions.specs.Held.{Segments}
+use Rattle.disk_definitions.specs.Store.{stored}
 use Rattle.plan_definitions.specs.LookPlans.{read_entries, listing}
 use Rattle.dir_lookup.specs.Reading.{reading}
-use Rattle.dir_lookup.specs.Stored.{stored}
 use Rattle.op_look.proofs.Listed.{listed}
 use Rattle.op_look.proofs.names.names_in.Given as goal
 

@@ -1,13 +1,12 @@
 -- A directory lists its names.
 use Rattle.std.proofs.Common.{◌≡◌, ◌==◌, Err, List, [], ◌∷◌, ◌++◌, ℕ, if◌then◌else◌, subst, sym, rules, ◌∙◌}
 use Rattle.frang_base.specs.declared.reply.Reply.TheVariants as reply
-use Rattle.disk_definitions.specs.Store.{StoredNode}
+use Rattle.disk_definitions.specs.Store.{StoredNode, stored}
 use Rattle.plan_definitions.specs.Ask.{Ask}
 use Rattle.plan_definitions.specs.Walks.{Target}
 use Rattle.plan_definitions.specs.Plans.{Plan, refused}
 use Rattle.plan_definitions.specs.LookPlans as looks
 use Rattle.dir_lookup.specs.Reading.{reading}
-use Rattle.dir_lookup.specs.Stored.{stored}
 use Rattle.plan_steps.specs.Ends.{Says}
 use Rattle.plan_steps.specs.Targets.{FindsInode, FindsTarget, node_of}
 use Rattle.plan_steps.proofs.Stopping.{inode_stops, of_another, of_kind, target_stops}

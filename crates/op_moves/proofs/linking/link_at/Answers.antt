@@ -9,8 +9,8 @@ use Rattle.dir_lookup.specs.Reading.{Read, Gives, reading}
 use Rattle.dir_lookup.specs.declared.spot.Spot.{Spot}
 use Rattle.dir_lookup.specs.Spots.{spot_of}
 use Rattle.plan_definitions.specs.Written.{hand_of}
-use Rattle.dir_steps.proofs.Ending.{comes_as}
-use Rattle.op_moves.proofs.Choosing.{if_not, if_so, refuses}
+use Rattle.dir_steps.proofs.Ending.{comes_as, refuses}
+use Rattle.op_moves.proofs.Choosing.{if_not, if_so}
 use Rattle.op_moves.proofs.linking.link_at.Goals as goal
 
 pub returns-then-is_directory : goal.returns-then-is_directory

@@ -1,17 +1,16 @@
 -- By the links of the node, and by the room in the directory.
 use Rattle.std.proofs.Common.{◌≡◌, ◌∷◌, ◌++◌, [], ℕ, List, Some, Err, subst, sym, ◌∙◌, rules}
 use Rattle.frang_base.specs.declared.reply.Reply.TheVariants as reply
+use Rattle.disk_definitions.specs.Store.{stored, entered}
 use Rattle.plan_definitions.specs.Ask.{bind}
 use Rattle.plan_definitions.specs.Plans.{find_room}
 use Rattle.plan_definitions.specs.NamePlans.{linked_by, linking_node}
 use Rattle.dir_lookup.specs.Reading.{reading}
-use Rattle.dir_lookup.specs.Stored.{entered, stored}
 use Rattle.plan_steps.specs.Ends.{Comes}
 use Rattle.plan_definitions.specs.Written.{hand_of}
 use Rattle.dir_steps.specs.Rooms.{room_in}
-use Rattle.dir_steps.proofs.Ending.{comes_done, stops_as}
+use Rattle.dir_steps.proofs.Ending.{comes_done, stops_as, refuses}
 use Rattle.op_moves.specs.Rooming.{in_room}
-use Rattle.op_moves.proofs.Choosing.{refuses}
 use Rattle.op_moves.proofs.Going.{link_finds, link_full, link_many}
 use Rattle.op_moves.proofs.Moves.{link_edits}
 use Rattle.op_moves.proofs.linking.link_in.Goals as goal

@@ -1,18 +1,16 @@
 -- By where the second path leads.
 use Rattle.std.proofs.Common.{◌≡◌, ℕ, Some, Err, subst, sym, ap, refl, ◌∙◌, rules}
 use Rattle.frang_base.specs.declared.reply.Reply.TheVariants as reply
-use Rattle.disk_definitions.specs.Store.{StoredEntry}
+use Rattle.disk_definitions.specs.Store.{StoredEntry, stored, entered}
 use Rattle.plan_definitions.specs.Ask.{ReadInode}
 use Rattle.plan_definitions.specs.Plans.{Plan, refuse}
 use Rattle.plan_definitions.specs.NamePlans.{linking_node, linking_to}
 use Rattle.dir_lookup.specs.Reading.{Read, Gives, reading}
 use Rattle.dir_lookup.specs.declared.spot.Spot.{Spot}
 use Rattle.dir_lookup.specs.Spots.{spot_of}
-use Rattle.dir_lookup.specs.Stored.{entered, stored}
 use Rattle.plan_steps.specs.Ends.{Comes}
 use Rattle.plan_definitions.specs.Written.{hand_of}
-use Rattle.dir_steps.proofs.Ending.{comes_as, node_read, node_stops, stops_as}
-use Rattle.op_moves.proofs.Choosing.{refuses}
+use Rattle.dir_steps.proofs.Ending.{comes_as, node_read, node_stops, stops_as, refuses}
 use Rattle.op_moves.proofs.linking.link_to.Goals as goal
 
 pub returns-in_err-node-in-AtGap : goal.returns-in_err-node-in-AtGap

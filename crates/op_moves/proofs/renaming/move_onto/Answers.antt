@@ -1,14 +1,13 @@
 -- By whether both names are one node's, by the kinds, and by the inode.
 use Rattle.std.proofs.Common.{◌≡◌, ℕ, List, Some, Err, subst, sym, refl, ◌∙◌, rules}
 use Rattle.frang_base.specs.declared.reply.Reply.TheVariants as reply
+use Rattle.disk_definitions.specs.Store.{stored, entered}
 use Rattle.plan_definitions.specs.Ask.{ReadInode}
 use Rattle.plan_definitions.specs.NamePlans.{moving_onto, replacing_node}
 use Rattle.dir_lookup.specs.Reading.{reading}
-use Rattle.dir_lookup.specs.Stored.{entered, stored}
 use Rattle.plan_steps.specs.Ends.{Comes}
-use Rattle.dir_steps.proofs.Ending.{comes_as, node_read, node_stops, stops_as}
+use Rattle.dir_steps.proofs.Ending.{comes_as, node_read, node_stops, stops_as, refuses}
 use Rattle.op_moves.specs.Moving.{moving_of}
-use Rattle.op_moves.proofs.Choosing.{refuses}
 use Rattle.op_moves.proofs.Going.{onto_itself, onto_reads, onto_refused}
 use Rattle.op_moves.proofs.renaming.move_onto.Goals as goal
 

@@ -1,18 +1,17 @@
 -- By whether the directory is the name's own, and by the room in the other one.
 use Rattle.std.proofs.Common.{◌≡◌, ℕ, List, Err, subst, sym, ◌∙◌, rules}
 use Rattle.frang_base.specs.declared.reply.Reply.TheVariants as reply
+use Rattle.disk_definitions.specs.Store.{stored}
 use Rattle.plan_definitions.specs.Ask.{bind}
 use Rattle.plan_definitions.specs.Plans.{find_room}
 use Rattle.plan_definitions.specs.NamePlans.{moved_between, moved_within, moving_to}
 use Rattle.dir_lookup.specs.Reading.{reading}
-use Rattle.dir_lookup.specs.Stored.{stored}
 use Rattle.plan_steps.specs.Ends.{Comes}
 use Rattle.plan_definitions.specs.Written.{hand_of}
 use Rattle.dir_steps.specs.Rooms.{room_in}
-use Rattle.dir_steps.proofs.Ending.{comes_done, stops_as}
+use Rattle.dir_steps.proofs.Ending.{comes_done, stops_as, refuses}
 use Rattle.op_moves.specs.Moving.{moving_of}
 use Rattle.op_moves.specs.Rooming.{in_room}
-use Rattle.op_moves.proofs.Choosing.{refuses}
 use Rattle.op_moves.proofs.Going.{move_finds, move_full, move_stays}
 use Rattle.op_moves.proofs.renaming.move_to.Goals as goal
 

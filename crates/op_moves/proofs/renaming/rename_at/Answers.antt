@@ -1,6 +1,7 @@
 -- By where the first path leads.
 use Rattle.std.proofs.Common.{◌++◌, sym, ap, ◌∙◌}
 use Rattle.frang_base.specs.declared.reply.Reply.TheVariants as reply
+use Rattle.disk_definitions.specs.Store.{stored, entered}
 use Rattle.plan_definitions.specs.Ask.{bind}
 use Rattle.plan_definitions.specs.Walks.{walk}
 use Rattle.plan_definitions.specs.Plans.{Plan, refuse}
@@ -8,10 +9,8 @@ use Rattle.plan_definitions.specs.NamePlans.{Moving, renaming, renaming_to}
 use Rattle.dir_lookup.specs.Reading.{Read, Gives, reading}
 use Rattle.dir_lookup.specs.declared.spot.Spot.{Spot}
 use Rattle.dir_lookup.specs.Spots.{spot_of}
-use Rattle.dir_lookup.specs.Stored.{entered, stored}
 use Rattle.plan_definitions.specs.Written.{hand_of}
-use Rattle.dir_steps.proofs.Ending.{comes_as}
-use Rattle.op_moves.proofs.Choosing.{refuses}
+use Rattle.dir_steps.proofs.Ending.{comes_as, refuses}
 use Rattle.op_moves.proofs.renaming.rename_at.Goals as goal
 
 pub returns-in-AtName : goal.returns-in-AtName

@@ -1,16 +1,16 @@
 -- By where the second path leads, and by whether its walk passed the moved directory.
 use Rattle.std.proofs.Common.{◌≡◌, ℕ, List, true, false, sym, ap, ◌∙◌}
 use Rattle.frang_base.specs.declared.reply.Reply.TheVariants as reply
+use Rattle.disk_definitions.specs.Store.{stored, entered}
 use Rattle.plan_definitions.specs.Plans.{Plan, refuse, refused}
 use Rattle.plan_definitions.specs.NamePlans.{goes_through, moving_onto, moving_to, renaming_to}
 use Rattle.dir_lookup.specs.Reading.{Read, Gives, reading}
 use Rattle.dir_lookup.specs.declared.spot.Spot.{Spot}
 use Rattle.dir_lookup.specs.Spots.{spot_of}
-use Rattle.dir_lookup.specs.Stored.{entered, stored}
 use Rattle.plan_definitions.specs.Written.{hand_of}
-use Rattle.dir_steps.proofs.Ending.{comes_as}
+use Rattle.dir_steps.proofs.Ending.{comes_as, refuses}
 use Rattle.op_moves.specs.Moving.{moving_of}
-use Rattle.op_moves.proofs.Choosing.{if_not, if_so, refuses}
+use Rattle.op_moves.proofs.Choosing.{if_not, if_so}
 use Rattle.op_moves.proofs.renaming.rename_to.Goals as goal
 
 pub returns-then-through : goal.returns-then-through

@@ -1,14 +1,13 @@
 -- By whether the node may be replaced, and by the segments that are held.
 use Rattle.std.proofs.Common.{◌≡◌, ◌∷◌, ◌++◌, [], ℕ, List, Some, Err, subst, sym, ◌∙◌, rules}
 use Rattle.frang_base.specs.declared.reply.Reply.TheVariants as reply
+use Rattle.disk_definitions.specs.Store.{stored}
 use Rattle.plan_definitions.specs.NamePlans.{moved_onto_by, replacing_node}
 use Rattle.dir_lookup.specs.Reading.{reading}
-use Rattle.dir_lookup.specs.Stored.{stored}
 use Rattle.plan_steps.specs.declared.stop.Stop.TheVariants as stop
 use Rattle.plan_steps.specs.Ends.{Comes}
-use Rattle.dir_steps.proofs.Ending.{comes_done}
+use Rattle.dir_steps.proofs.Ending.{comes_done, refuses}
 use Rattle.op_moves.specs.Moving.{moving_of}
-use Rattle.op_moves.proofs.Choosing.{refuses}
 use Rattle.op_moves.proofs.Going.{replace_looks, replace_refused}
 use Rattle.op_moves.proofs.renaming.replace.Goals as goal
 

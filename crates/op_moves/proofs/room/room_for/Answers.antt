@@ -1,10 +1,10 @@
 -- By what is found, and by whether its block is clear.
 use Rattle.std.proofs.Common.{◌≡◌, Err, subst, sym, ap, ◌∙◌, rules}
 use Rattle.frang_base.specs.declared.reply.Reply.TheVariants as reply
+use Rattle.disk_definitions.specs.Store.{stored}
 use Rattle.plan_definitions.specs.Ask.{bind}
 use Rattle.plan_definitions.specs.Plans.{NoRoom, find_room, finish_in, none_left}
 use Rattle.dir_lookup.specs.Reading.{Gives, Lacks, reading}
-use Rattle.dir_lookup.specs.Stored.{stored}
 use Rattle.dir_lookup.proofs.Steps.{said_ok, said_err}
 use Rattle.plan_steps.specs.declared.stop.Stop.TheVariants as stop
 use Rattle.plan_definitions.specs.Written.{hand_of}

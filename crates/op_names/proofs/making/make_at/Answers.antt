@@ -1,19 +1,18 @@
 -- By where the path leads.
 use Rattle.std.proofs.Common.{◌≡◌, ℕ, List, Err, subst, sym, ap, ◌∙◌, rules}
 use Rattle.frang_base.specs.declared.reply.Reply.TheVariants as reply
+use Rattle.disk_definitions.specs.Store.{stored, entered}
 use Rattle.plan_definitions.specs.Plans.{Plan, refuse}
 use Rattle.plan_definitions.specs.NamePlans.{made_by, making}
 use Rattle.dir_lookup.specs.Reading.{Read, Gives, reading}
 use Rattle.dir_lookup.specs.declared.spot.Spot.{Spot}
 use Rattle.dir_lookup.specs.Spots.{spot_of}
-use Rattle.dir_lookup.specs.Stored.{entered, stored}
 use Rattle.plan_steps.specs.Ends.{Comes}
 use Rattle.plan_definitions.specs.Written.{hand_of}
 use Rattle.dir_steps.specs.Nodes.{node_of}
 use Rattle.dir_steps.specs.Rooms.{room_in}
-use Rattle.dir_steps.proofs.Ending.{comes_done, stops_as}
+use Rattle.dir_steps.proofs.Ending.{comes_done, stops_as, refuses}
 use Rattle.op_names.proofs.Placing.{same_edits}
-use Rattle.op_names.proofs.Replying.{refuses}
 use Rattle.op_names.proofs.making.make_at.Goals as goal
 
 pub returns-in_err-place-in-AtGap : goal.returns-in_err-place-in-AtGap

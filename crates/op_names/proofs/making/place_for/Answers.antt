@@ -2,12 +2,12 @@
 use Rattle.std.proofs.Common.{◌≡◌, true, false, ℕ, Some, None, Err, subst, sym, ◌∙◌, rules}
 use Rattle.frang_base.specs.declared.reply.Reply.TheVariants as reply
 use Rattle.pick_definitions.specs.Picks.{picked_inode}
+use Rattle.disk_definitions.specs.Store.{stored}
 use Rattle.plan_definitions.specs.Ask.{bind}
 use Rattle.plan_definitions.specs.Walks.{AtGap}
 use Rattle.plan_definitions.specs.Plans.{find_room, is_full, none_left, shared_nodes}
 use Rattle.plan_definitions.specs.NamePlans.{making, making_in}
 use Rattle.dir_lookup.specs.Reading.{reading}
-use Rattle.dir_lookup.specs.Stored.{stored}
 use Rattle.plan_definitions.specs.Written.{hand_of}
 use Rattle.dir_steps.proofs.Ending.{stops_as}
 use Rattle.op_names.specs.Places.{FindsPlace}

@@ -1,8 +1,8 @@
 -- The segments are held, and the edits are those of the plan.
 use Rattle.std.proofs.Common.{ℕ}
+use Rattle.disk_definitions.specs.Store.{stored}
 use Rattle.plan_definitions.specs.NamePlans.{fewer_segments, finish_over, removed_by}
 use Rattle.dir_lookup.specs.Reading.{reading}
-use Rattle.dir_lookup.specs.Stored.{stored}
 use Rattle.dir_steps.proofs.Ending.{comes_done}
 use Rattle.op_names.proofs.removing.remove.Goals as goal
 

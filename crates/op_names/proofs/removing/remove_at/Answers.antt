@@ -1,17 +1,17 @@
 -- By where the path leads, by the kind of the node, and by whether the directory is empty.
 use Rattle.std.proofs.Common.{◌≡◌, ◌∷◌, ◌++◌, [], ℕ, Err, subst, sym, ap, refl, ◌∙◌, rules}
 use Rattle.frang_base.specs.declared.reply.Reply.TheVariants as reply
+use Rattle.disk_definitions.specs.Store.{stored}
 use Rattle.plan_definitions.specs.Ask.{ReadInode}
 use Rattle.plan_definitions.specs.Plans.{Plan, refuse, refused}
 use Rattle.plan_definitions.specs.NamePlans.{fewer_segments, finish_over, removed_by, removing, removing_node}
 use Rattle.dir_lookup.specs.Reading.{Read, Gives, reading}
 use Rattle.dir_lookup.specs.declared.spot.Spot.{Spot}
 use Rattle.dir_lookup.specs.Spots.{spot_of}
-use Rattle.dir_lookup.specs.Stored.{stored}
 use Rattle.plan_steps.specs.Ends.{Comes}
 use Rattle.plan_steps.proofs.Stopping.{of_another, of_kind}
-use Rattle.dir_steps.proofs.Ending.{comes_as, node_read, node_stops, stops_as}
-use Rattle.op_names.proofs.Replying.{refuses, none_inside, some_inside}
+use Rattle.dir_steps.proofs.Ending.{comes_as, node_read, node_stops, stops_as, refuses}
+use Rattle.op_names.proofs.Replying.{none_inside, some_inside}
 use Rattle.op_names.proofs.removing.remove_at.Goals as goal
 
 pub returns-then-found-ne-DIRECTORY : goal.returns-then-found-ne-DIRECTORY

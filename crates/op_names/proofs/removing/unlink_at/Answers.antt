@@ -1,17 +1,16 @@
 -- By where the path leads, and by the kind of the node.
 use Rattle.std.proofs.Common.{◌≡◌, ℕ, Some, Err, subst, sym, ap, refl, ◌∙◌, rules}
 use Rattle.frang_base.specs.declared.reply.Reply.TheVariants as reply
+use Rattle.disk_definitions.specs.Store.{stored}
 use Rattle.plan_definitions.specs.Ask.{ReadInode}
 use Rattle.plan_definitions.specs.Plans.{Plan, refuse, refused}
 use Rattle.plan_definitions.specs.NamePlans.{unlinking, unlinking_node}
 use Rattle.dir_lookup.specs.Reading.{Read, Gives, reading}
 use Rattle.dir_lookup.specs.declared.spot.Spot.{Spot}
 use Rattle.dir_lookup.specs.Spots.{spot_of}
-use Rattle.dir_lookup.specs.Stored.{stored}
 use Rattle.plan_steps.specs.Ends.{Comes}
 use Rattle.plan_steps.proofs.Stopping.{of_another, of_kind}
-use Rattle.dir_steps.proofs.Ending.{comes_as, node_read, node_stops, stops_as}
-use Rattle.op_names.proofs.Replying.{refuses}
+use Rattle.dir_steps.proofs.Ending.{comes_as, node_read, node_stops, stops_as, refuses}
 use Rattle.op_names.proofs.removing.unlink_at.Goals as goal
 
 pub returns-then-found-eq-DIRECTORY : goal.returns-then-found-eq-DIRECTORY

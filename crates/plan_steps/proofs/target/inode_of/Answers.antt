@@ -1,8 +1,8 @@
 -- By what stands in the inode.
 use Rattle.std.proofs.Common.{◌≡◌, Some, None, Err, subst, sym, ap, rules, ◌∙◌}
 use Rattle.std.specs.Option.{option_map}
+use Rattle.disk_definitions.specs.Store.{stored}
 use Rattle.dir_lookup.specs.Reading.{Gives, Lacks}
-use Rattle.dir_lookup.specs.Stored.{stored}
 use Rattle.dir_lookup.proofs.Steps.{said_ok, said_err}
 use Rattle.plan_steps.specs.declared.stop.Stop.TheVariants as stop
 use Rattle.plan_steps.specs.Targets.{FindsInode}

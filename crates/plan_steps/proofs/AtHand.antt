@@ -5,14 +5,12 @@ use Rattle.std.specs.BTreeMap.{is_at}
 use Rattle.std.specs.Map.{keys_of}
 use Rattle.std.specs.Ordering.{nat_cmp}
 use Rattle.frang_base.specs.declared.bitmap.Bitmap.{Bitmap}
+use Rattle.tree_laws.proofs.Pairs.{birth_exact, self}
 use Rattle.pick_definitions.specs.Held.{Segments, bitmap_of}
 use Rattle.plan_definitions.specs.Ask.{Ask, read_segments}
 use Rattle.plan_definitions.specs.Plans.{Hand, read_held}
 use Rattle.plan_definitions.specs.Written.{Cached, is_held}
 use Rattle.dir_lookup.specs.Reading.{reading}
-
-at_itself : (k : ℕ) → is_at (nat_cmp k) k ≡ true
-at_itself k = grind (arith, nat_tests)
 
 held_by : (held : Segments) (k : ℕ) (o : Option Bitmap) → bitmap_of held k ≡ o → is_some o ≡ true → is_held held k ≡ true
 held_by held k None e s = absurd (cc)
@@ -23,7 +21,7 @@ there_by held k None e h = rw e at h
 there_by held k (Some x) e h = refl
 
 held_first : (k : ℕ) (x : Bitmap) (es : Segments) → is_held ((k, x) ∷ es) k ≡ true
-held_first k x es = held_by ((k, x) ∷ es) k (Some x) (ap (λ b. cond b (Some x) (bitmap_of es k)) (at_itself k)) refl
+held_first k x es = held_by ((k, x) ∷ es) k (Some x) (ap (λ b. cond b (Some x) (bitmap_of es k)) (self nat_cmp birth_exact k)) refl
 
 held_later : (e : ℕ × Bitmap) (es : Segments) (k : ℕ) → is_held es k ≡ true → is_held (e ∷ es) k ≡ true
 held_later e es k h = held_by (e ∷ es) k (cond (is_at (nat_cmp k) e.0) (Some e.1) (bitmap_of es k)) refl (go (is_at (nat_cmp k) e.0))

@@ -2,7 +2,7 @@
 use Rattle.std.proofs.Common.{◌≡◌, ◌≢◌, ℕ, ◌*◌, ◌^◌, ◌%◌, ◌<◌, ◌-◌, Bool, true, false, ◌==◌, if◌then◌else◌, ap, bit_and, bit_or, w64, arith}
 use Rattle.std.proofs.lemmas.Nat.Bits.{bit_at_set_same, bit_at_set_other, bit_at_clear_same, bit_at_clear_other}
 use Rattle.std.specs.Int.{bit_at, bit_not}
-use Rattle.bitmap_block.proofs.Chosen.{chosen}
+use Rattle.sector_definitions.proofs.Chosen.{chosen}
 
 pub bit_set : (n j k : ℕ) → j < 64 → k < 64 → (bit_at (bit_or n (1 * 2 ^ j % 2 ^ 64)) k == 1) ≡ (if k == j then true else bit_at n k == 1)
 bit_set n j k h i = chosen k j (bit_at (bit_or n (1 * 2 ^ j % 2 ^ 64)) k == 1) true (bit_at n k == 1)
