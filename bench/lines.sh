@@ -9,7 +9,7 @@ trap 'rm -rf "$work"' EXIT
   for n in $(seq 1 65534); do echo "0 create /f$((n % 2000))"; done
   echo "0 sync"
 } >"$work/script"
-"$top/frang" run "$work/script" >"$work/warm"
+"$top/frang" build
 /usr/bin/env time -f '%e s, %M KB' "$top/crates/frang_cli/out/frang_cli" run "$work/script" >"$work/out"
 tail -n 1 "$work/out"
 wc -l <"$work/out"

@@ -44,7 +44,7 @@ fills() {
     echo "0 truncate /f 0"
   done
 }
-"$top/frang" run /dev/null >/dev/null
+"$top/frang" build
 for name in mixed moves fills; do
   "$name" >"$work/$name"
   /usr/bin/env time -f "$name: %e s, %U s of the processor, %M KB" "$top/crates/frang_cli/out/frang_cli" run "$work/$name" >"$work/out"

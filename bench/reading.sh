@@ -6,7 +6,7 @@ top=$(cd "$(dirname "$0")/.." && pwd)
 work=$(mktemp -d)
 trap 'rm -rf "$work"' EXIT
 mkdir "$work/crates"
-for crate in frang_base tree_definitions script_definitions frang_outside script_lang; do
+for crate in frang_base tree_definitions script_definitions sector_bytes frang_outside reply_text script_lang; do
   cp -a "$top/crates/$crate" "$work/crates/"
   grep "^$crate:" "$top/crates.txt" >>"$work/crates.txt"
 done

@@ -1,13 +1,14 @@
 #!/usr/bin/env bash
-# Times the ring of a log on 10,000 and on 20,000 small records: each is appended, its sector issued and acknowledged, and the oldest records are
-# given up when the ring is full. It proves and builds a program of its own over a copy of the crates, which takes some minutes. Not part of the gate.
+# Times the ring of a log on 10,000 and on 20,000 small records, and counts the sectors that are written: the records are appended, after each and then after
+# every eighth one all sectors are issued and acknowledged, and the oldest records are given up when the ring is full. It proves and builds a program of
+# its own over a copy of the crates, which takes some minutes. Not part of the gate.
 set -eu
 top=$(cd "$(dirname "$0")/.." && pwd)
 work=$(mktemp -d)
 trap 'rm -rf "$work"' EXIT
 mkdir "$work/crates"
-for crate in frang_base tree_definitions tree_laws sector_definitions disk_definitions cells change_definitions meta_version log_definitions \
-  ring_definitions log_record log_reading wal_ring; do
+for crate in frang_base tree_definitions sorted_entries sector_bytes sector_definitions meta_version log_definitions ring_definitions log_record \
+  log_reading wal_ring; do
   cp -a "$top/crates/$crate" "$work/crates/"
   grep "^$crate:" "$top/crates.txt" >>"$work/crates.txt"
 done
@@ -19,22 +20,22 @@ cat >"$work/crates/ring_bench/src/main.rt" <<'END'
 #![tactic(auto)]
 
 ghost use Rattle.std.specs.Prelude.{◌≡◌, ◌<◌, ◌≤◌, ◌^◌, length, true, IfOk, IsTrue};
-ghost use Rattle.change_definitions.specs.Changes.{is_change};
+ghost use Rattle.sector_bytes.specs.Changes.{is_change};
 ghost use Rattle.log_definitions.specs.Records.{change_bytes};
 ghost use Rattle.ring_definitions.specs.Rings as rings;
 ghost use Rattle.ring_definitions.specs.Rings.{is_record};
 
-use frang_base::{Change, NoMemory, OpNo, Patch, Patches, Sector, Text};
-use meta_version::Changes;
+use frang_base::{Change, Changes, NoMemory, OpNo, Patch, Patches, Redo, Sector, Text};
 use std::alloc::Global;
 use std::time::Instant;
-use wal_ring::{Redo, Ring, RingFault};
+use wal_ring::{Ring, RingFault};
 
 // A ring, with the last number that it gave.
 #[derive(Drop)]
 struct Run {
     ring: Ring,
     last: u64,
+    written: u64,
     ghost numbers: { last ≡ rings.last ring.ring },
 }
 
@@ -57,10 +58,15 @@ impl Run {
         }
     }
 
+    // Writes all sectors that wait.
     fn write(&mut self) {
-        if let Some((seq, _)) = self.ring.next_sector() {
+        for _ in 0..200 {
+            let Some((seq, _)) = self.ring.next_sector() else {
+                return;
+            };
             self.ring.issued(seq);
             self.ring.acked(seq);
+            self.written = self.written.saturating_add(1);
         }
     }
 
@@ -70,13 +76,13 @@ impl Run {
         match self.append(redo) {
             Ok(()) => {}
             Err(RingFault::Full { need: _, free: _ }) => {
+                self.write();
                 if !self.give_up() || self.append(redo).is_err() {
                     return false;
                 }
             }
             Err(RingFault::NoMemory) => return false,
         }
-        self.write();
         true
     }
 }
@@ -108,32 +114,36 @@ fn record_of(alloc: Global, n: u64) -> Result<Redo, NoMemory>
     Ok(Redo { op, changes })
 }
 
-// How many of the records were logged.
-fn logged(alloc: Global, count: u64) -> Result<u64, NoMemory> {
+// How many of the records were logged, and how many sectors were written, where all are written after so many records.
+fn logged(alloc: Global, count: u64, every: u64) -> Result<(u64, u64), NoMemory> {
     let mut run = Run {
         ring: Ring::at(alloc, 255)?,
         last: 255,
+        written: 0,
     };
     for n in 0..count {
         let redo = record_of(alloc, n)?;
         if !run.log(&redo) {
-            return Ok(n);
+            return Ok((n, run.written));
+        }
+        if n % every.max(1) == 0 {
+            run.write();
         }
     }
-    Ok(count)
+    Ok((count, run.written))
 }
 
 fn main(rt: HostRuntime) -> anyhow::Result<()> {
-    for count in [10_000, 20_000] {
+    for (count, every) in [(10_000, 1), (20_000, 1), (10_000, 8), (20_000, 8)] {
         let start = Instant::now(&rt)?;
-        let done = logged(rt.alloc(), count).unwrap_or(0);
+        let (done, written) = logged(rt.alloc(), count, every).unwrap_or((0, 0));
         let millis = start.elapsed(&rt)?.as_millis();
-        println!(rt; "{done} records of {count} in {millis} ms")?;
+        println!(rt; "{done} records of {count} in {millis} ms, written after each {every}: {written} sectors")?;
     }
     Ok(())
 }
 END
-echo 'ring_bench: frang_base change_definitions meta_version log_definitions ring_definitions wal_ring tree_definitions sector_definitions disk_definitions log_record log_reading cells byteorder sqlite_items anyhow' >>"$work/crates.txt"
+echo 'ring_bench: frang_base sector_bytes log_definitions ring_definitions wal_ring anyhow' >>"$work/crates.txt"
 cd "$work/crates/ring_bench"
 rt run >"$work/log" 2>&1 || { tail -n 20 "$work/log"; exit 1; }
 /usr/bin/env time -f '%e s, %M KB' ./out/ring_bench

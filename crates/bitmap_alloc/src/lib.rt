@@ -5,18 +5,9 @@
 
 mod mark;
 mod pick;
-#[cfg(test)]
-mod tests;
 
 pub use bitmap_block::BlockState;
 pub use frang_base::{Bitmap, Held};
-pub use mark::{mark_blocks, mark_inode};
+pub use mark::{mark_block, mark_inode};
 pub use pick::{pick_inode, pick_large, pick_many, pick_small};
 pub use pick_definitions::Use;
-
-// The most segments that a disk has.
-const SEGMENTS: u32 = 64;
-
-const INODES_A_SEGMENT: u32 = 64;
-
-const BLOCKS_A_SEGMENT: u32 = 1024;

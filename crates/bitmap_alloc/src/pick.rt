@@ -1,14 +1,15 @@
 // Picks: the least inode or block that is free, held segment after held segment.
 ghost use Rattle.std.specs.Prelude.{◌≡◌, ◌≤◌, ◌<◌, ◌+◌, ◌-◌, ◌*◌, ◌==◌, not, IfOk, IfSome};
 ghost use Rattle.std.specs.Option.{option_map};
+ghost use Rattle.frang_base.specs.declared.limits.TheConstants.{SEGMENT_BLOCKS, SEGMENT_INODES, SEGMENTS_MAX};
 ghost use Rattle.bitmap_block.specs.States.{state_number};
 ghost use Rattle.sector_definitions.specs.Bitmaps.{inode_bit, block_state};
 ghost use Rattle.pick_definitions.specs.Least.{least, least_from};
 ghost use Rattle.pick_definitions.specs.Held.{inode_in, state_in, large_in};
 ghost use Rattle.pick_definitions.specs.Picks.{is_free, is_in_state, picked_inode, picked_small, picked_large, picked_many};
 
-use crate::{BLOCKS_A_SEGMENT, INODES_A_SEGMENT, SEGMENTS};
 use bitmap_block::{BlockState, inode_in_use, state_of};
+use frang_base::limits::{SEGMENT_BLOCKS, SEGMENT_INODES, SEGMENTS_MAX};
 use frang_base::{Bitmap, Held, NoMemory};
 use pick_definitions::Use;
 use std::alloc::Global;
@@ -17,9 +18,9 @@ use std::alloc::Global;
 pub fn pick_inode(held: &Held) -> Option<u32>
     ensures { result ≡ picked_inode held.now }
 {
-    for k in 0..SEGMENTS {
+    for k in 0..SEGMENTS_MAX {
         if let Some(j) = free_inode(held, k) {
-            return Some(INODES_A_SEGMENT * k + j);
+            return Some(SEGMENT_INODES * k + j);
         }
     }
     None
@@ -44,7 +45,7 @@ pub fn pick_small(held: &Held, want: Use) -> Option<u32>
 pub fn pick_large(held: &Held) -> Option<u32>
     ensures { result ≡ picked_large held.now }
 {
-    for k in 0..SEGMENTS {
+    for k in 0..SEGMENTS_MAX {
         if is_large_free(held, k) {
             return Some(k);
         }
@@ -71,18 +72,18 @@ pub fn pick_many(alloc: Global, held: &Held, count: usize) -> Result<Option<Vec<
 
 // The least free inode of segment `k`, by its place in it.
 fn free_inode(held: &Held, k: u32) -> Option<u32>
-    ensures least { result ≡ least (λ j. is_free (inode_in held.now (64 * k + j))) 64 }
-    ensures below { IfSome result (λ j. j < 64) }
+    ensures least { result ≡ least (λ j. is_free (inode_in held.now (SEGMENT_INODES * k + j))) SEGMENT_INODES }
+    ensures below { IfSome result (λ j. j < SEGMENT_INODES) }
 {
     let bitmap = held.get(k)?;
     free_inode_of(bitmap)
 }
 
 fn free_inode_of(bitmap: &Bitmap) -> Option<u32>
-    ensures least { result ≡ least (λ j. not (inode_bit bitmap.now j)) 64 }
-    ensures below { IfSome result (λ j. j < 64) }
+    ensures least { result ≡ least (λ j. not (inode_bit bitmap.now j)) SEGMENT_INODES }
+    ensures below { IfSome result (λ j. j < SEGMENT_INODES) }
 {
-    for j in 0..INODES_A_SEGMENT {
+    for j in 0..SEGMENT_INODES {
         let free = !inode_in_use(bitmap, j);
         if free {
             return Some(j);
@@ -102,14 +103,14 @@ fn is_large_free(held: &Held, k: u32) -> bool
 
 // The least small block in this state from a block on.
 fn least_block(held: &Held, state: BlockState, from: u32) -> Option<u32>
-    requires { from ≤ 65536 }
-    ensures least { result ≡ least_from (λ b. is_in_state (state_number state) (state_in held.now b)) from (65536 - from) }
-    ensures below { IfSome result (λ b. b < 65536) }
+    requires { from ≤ SEGMENTS_MAX * SEGMENT_BLOCKS }
+    ensures least { result ≡ least_from (λ b. is_in_state (state_number state) (state_in held.now b)) from (SEGMENTS_MAX * SEGMENT_BLOCKS - from) }
+    ensures below { IfSome result (λ b. b < SEGMENTS_MAX * SEGMENT_BLOCKS) }
 {
-    let mut start = from % BLOCKS_A_SEGMENT;
-    for k in from / BLOCKS_A_SEGMENT..SEGMENTS {
+    let mut start = from % SEGMENT_BLOCKS;
+    for k in from / SEGMENT_BLOCKS..SEGMENTS_MAX {
         if let Some(j) = least_in_segment(held, k, state, start) {
-            return Some(BLOCKS_A_SEGMENT * k + j);
+            return Some(SEGMENT_BLOCKS * k + j);
         }
         start = 0;
     }
@@ -118,20 +119,20 @@ fn least_block(held: &Held, state: BlockState, from: u32) -> Option<u32>
 
 // The least small block of segment `k` in this state, from a place in it on and by its place in it.
 fn least_in_segment(held: &Held, k: u32, state: BlockState, start: u32) -> Option<u32>
-    requires { start ≤ 1024 }
-    ensures least { result ≡ least_from (λ j. is_in_state (state_number state) (state_in held.now (1024 * k + j))) start (1024 - start) }
-    ensures below { IfSome result (λ j. j < 1024) }
+    requires { start ≤ SEGMENT_BLOCKS }
+    ensures least { result ≡ least_from (λ j. is_in_state (state_number state) (state_in held.now (SEGMENT_BLOCKS * k + j))) start (SEGMENT_BLOCKS - start) }
+    ensures below { IfSome result (λ j. j < SEGMENT_BLOCKS) }
 {
     let bitmap = held.get(k)?;
     least_of(bitmap, state, start)
 }
 
 fn least_of(bitmap: &Bitmap, state: BlockState, start: u32) -> Option<u32>
-    requires { start ≤ 1024 }
-    ensures least { result ≡ least_from (λ j. block_state bitmap.now j == state_number state) start (1024 - start) }
-    ensures below { IfSome result (λ j. j < 1024) }
+    requires { start ≤ SEGMENT_BLOCKS }
+    ensures least { result ≡ least_from (λ j. block_state bitmap.now j == state_number state) start (SEGMENT_BLOCKS - start) }
+    ensures below { IfSome result (λ j. j < SEGMENT_BLOCKS) }
 {
-    for j in start..BLOCKS_A_SEGMENT {
+    for j in start..SEGMENT_BLOCKS {
         if state_of(bitmap, j) == state {
             return Some(j);
         }

@@ -1,20 +1,17 @@
-// How two segments differ.
+// What a change of a segment has to put into its sector.
 ghost use Rattle.std.specs.Prelude.{◌≡◌, IfOk};
 ghost use Rattle.sector_definitions.specs.Bitmaps.{bitmap_bytes};
-ghost use Rattle.sector_definitions.specs.Patches.{patches_of};
+ghost use Rattle.sector_bytes.specs.Patches.{patches_of};
 
-use crate::encode;
+use crate::writing::block_of;
+use block_patches::patches_of;
 use frang_base::{Bitmap, NoMemory, Patches};
 use std::alloc::Global;
 
-/// The patches that make the sector of the new segment of that of the old one but for its version: the longest runs of bytes from
-/// place 8 on in which the two differ, ascending.
+/// The longest runs of bytes, from byte 8 on, in which the sectors of two segments differ, ascending. The version, in the first 8
+/// bytes, counts for nothing. Its one refusal is want of memory.
 pub fn patches(alloc: Global, old: &Bitmap, new: &Bitmap) -> Result<Patches, NoMemory>
     ensures { IfOk result (λ patches. patches ≡ patches_of (bitmap_bytes old.now) (bitmap_bytes new.now)) }
 {
-    let mut before = [0; 512];
-    let mut after = [0; 512];
-    encode(old, &mut before);
-    encode(new, &mut after);
-    block_patches::patches_of(alloc, &before, &after)
+    patches_of(alloc, &block_of(old), &block_of(new))
 }

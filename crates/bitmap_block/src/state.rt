@@ -4,6 +4,7 @@ ghost use Rattle.bitmap_block.specs.States.{state_number};
 ghost use Rattle.sector_definitions.specs.Bitmaps.{block_state};
 
 use frang_base::Bitmap;
+use frang_base::limits::SEGMENT_BLOCKS;
 
 /// What a small block is used for.
 #[derive(Clone, Copy, Debug, PartialEq, Eq)]
@@ -20,7 +21,7 @@ pub enum BlockState {
 
 /// The state of small block `j` of the segment, 0 to 1,023.
 pub fn state_of(bitmap: &Bitmap, j: u32) -> BlockState
-    requires { j < 1024 }
+    requires { j < SEGMENT_BLOCKS }
     ensures { state_number result ≡ block_state bitmap.now j }
 {
     state_from(bitmap.states[(j / 4) as usize] / weight(j % 4) % 4)
@@ -28,8 +29,8 @@ pub fn state_of(bitmap: &Bitmap, j: u32) -> BlockState
 
 /// The segment with small block `j`, 0 to 1,023, in this state. All else stays.
 pub fn with_state(bitmap: &Bitmap, j: u32, state: BlockState) -> Bitmap
-    requires { j < 1024 }
-    ensures states { (k : ℕ) → k < 1024 → block_state result k ≡ (if k == j then state_number state else block_state bitmap.now k) }
+    requires { j < SEGMENT_BLOCKS }
+    ensures states { (k : ℕ) → k < SEGMENT_BLOCKS → block_state result k ≡ (if k == j then state_number state else block_state bitmap.now k) }
     ensures others { (result.version ≡ bitmap.now.version) × (result.inodes ≡ bitmap.now.inodes) × (result.large ≡ bitmap.now.large) }
 {
     let at = (j / 4) as usize;

@@ -4,9 +4,9 @@ use Rattle.std.proofs.lemmas.Bool.Decides.{nat_tests}
 use Rattle.std.proofs.lemmas.List.{take_all, drop_all, drop-drop}
 use borrow.Rule.Slice.PartMut.{mid_of}
 use Rattle.frang_base.specs.declared.change.Patch.{Patch}
-use Rattle.cells.proofs.Basics.{by_test, of_eq, of_ne}
-use Rattle.sector_definitions.specs.Patches.{joined, runs_from, are_apart}
-use Rattle.sector_definitions.proofs.PatchLaws.{runs_apart}
+use Rattle.frang_base.proofs.Basics.{by_test, of_eq, of_ne}
+use Rattle.sector_bytes.specs.Patches.{joined, runs_from, are_apart}
+use Rattle.sector_bytes.proofs.PatchLaws.{runs_apart}
 use Rattle.block_patches.specs.Runs.{differing, run}
 
 -- one place more, where the bytes differ there

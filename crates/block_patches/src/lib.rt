@@ -4,7 +4,6 @@
 #![tactic(auto)]
 
 mod laws;
-mod limits;
 mod patches;
 
 pub use laws::{patches_are_the_longest_runs, patches_make_the_new_block};

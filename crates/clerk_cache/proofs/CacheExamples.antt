@@ -2,8 +2,8 @@
 use Rattle.std.proofs.Common.{◌≡◌, Some, None, [], ◌∷◌, refl}
 use Rattle.frang_base.specs.declared.lock.LockId.TheVariants.{Segment, Node}
 use Rattle.frang_base.specs.declared.change.Change.{Change}
-use Rattle.cells.specs.Blocks.{Block}
-use Rattle.change_definitions.specs.Changes.{changed}
+use Rattle.sector_bytes.specs.Blocks.{Block}
+use Rattle.sector_bytes.specs.Changes.{changed}
 use Rattle.clerk_cache.specs.Cached.{Contents, block_at, cover_at, blocks_of, marks_of}
 use Rattle.clerk_cache.specs.Changing.{clean, dirty, with_change, with_written, with_cover}
 use Rattle.clerk_cache.specs.Dropping.{first_dirty, dropped}

@@ -7,8 +7,8 @@ use Rattle.std.specs.BTreeMap.{is_at}
 use Rattle.std.specs.Option.{option_map}
 use Rattle.std.specs.Ordering.{nat_cmp}
 use Rattle.frang_base.specs.declared.lock.LockId.{LockId}
-use Rattle.change_definitions.specs.SectorMaps.{value_at, Ascend}
-use Rattle.change_definitions.proofs.MapLaws.{AllAbove, absent, found}
+use Rattle.sector_bytes.specs.SectorMaps.{value_at, Ascend}
+use Rattle.sector_bytes.proofs.MapLaws.{AllAbove, absent, found}
 use Rattle.clerk_cache.specs.Cached.{Cached, Contents, mark_of, marks_of}
 use Rattle.clerk_cache.specs.Dropping.{is_under, is_dirty_under, first_dirty, dropped}
 

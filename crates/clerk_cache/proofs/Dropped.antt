@@ -9,8 +9,8 @@ use Rattle.std.specs.Option.{option_map, option_map_or}
 use Rattle.std.specs.Ordering.{nat_cmp, on, ordering_reverse, is_eq}
 use Rattle.std.specs.declared.cmp.Ordering.TheVariants.{Less, Equal}
 use Rattle.frang_base.specs.declared.lock.LockId.{LockId}
-use Rattle.change_definitions.specs.SectorMaps.{value_at, Ascend}
-use Rattle.change_definitions.proofs.MapLaws.{AllAbove}
+use Rattle.sector_bytes.specs.SectorMaps.{value_at, Ascend}
+use Rattle.sector_bytes.proofs.MapLaws.{AllAbove}
 use Rattle.clerk_cache.specs.declared.state.SectorState.{SectorState}
 use Rattle.clerk_cache.specs.Cached.{Contents, mark_of, marks_of}
 use Rattle.clerk_cache.specs.Dropping.{is_dirty_under, first_dirty, dropped}

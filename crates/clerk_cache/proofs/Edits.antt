@@ -4,10 +4,11 @@ use Rattle.std.specs.Cmp.Lexicographic.{pointwise}
 use Rattle.std.specs.Option.{option_map, option_map_or}
 use Rattle.frang_base.specs.declared.lock.LockId.{LockId}
 use Rattle.frang_base.specs.declared.change.Change.{Change}
-use Rattle.cells.specs.Blocks.{Block, same_block}
-use Rattle.change_definitions.specs.Changes.{changed}
-use Rattle.change_definitions.specs.SectorMaps.{value_at, adjusted}
-use Rattle.change_definitions.proofs.MapLaws.{adjusted_same, adjusted-adjusted, adjusted_nothing, adjusted_by_nothing, value_at-adjusted}
+use Rattle.sector_bytes.specs.Blocks.{Block}
+use Rattle.std.specs.Str.{bytes_eq}
+use Rattle.sector_bytes.specs.Changes.{changed}
+use Rattle.sector_bytes.specs.SectorMaps.{value_at, adjusted}
+use Rattle.sector_bytes.proofs.MapLaws.{adjusted_same, adjusted-adjusted, adjusted_nothing, adjusted_by_nothing, value_at-adjusted}
 use Rattle.meta_version.specs.Updates.{IsOlder, with_change as block_change}
 use Rattle.clerk_cache.specs.declared.state.SectorState.{SectorState}
 use Rattle.clerk_cache.specs.Cached.{Cached, Contents, block_at}
@@ -47,7 +48,7 @@ moved contents sector state cover e =
 pub written_clean : (contents : Contents) (sector : ℕ) (block : Block) → holds contents sector block ≡ true → adjusted (λ cached. clean cached.block cached.cover) contents sector ≡ with_written contents sector block
 written_clean contents sector block e = go (value_at contents sector) refl e
   where
-    go : (o : Option Cached) → value_at contents sector ≡ o → option_map_or (λ held. same_block held block) (option_map (λ cached. cached.block) o) false ≡ true
+    go : (o : Option Cached) → value_at contents sector ≡ o → option_map_or (λ held. bytes_eq held block) (option_map (λ cached. cached.block) o) false ≡ true
         → adjusted (λ cached. clean cached.block cached.cover) contents sector ≡ with_written contents sector block
     go (Some cached) is same = adjusted_same (λ c. clean c.block c.cover) (written block) contents sector cached is (sym (ap (λ b. if b then clean cached.block cached.cover else cached) same))
     go None is same = cc same
@@ -56,7 +57,7 @@ written_clean contents sector block e = go (value_at contents sector) refl e
 pub written_dirty : (contents : Contents) (sector : ℕ) (block : Block) → holds contents sector block ≡ false → contents ≡ with_written contents sector block
 written_dirty contents sector block e = go (value_at contents sector) refl e
   where
-    go : (o : Option Cached) → value_at contents sector ≡ o → option_map_or (λ held. same_block held block) (option_map (λ cached. cached.block) o) false ≡ false
+    go : (o : Option Cached) → value_at contents sector ≡ o → option_map_or (λ held. bytes_eq held block) (option_map (λ cached. cached.block) o) false ≡ false
         → contents ≡ with_written contents sector block
     go (Some cached) is same =
         sym (adjusted_by_nothing contents sector) ∙ adjusted_same (λ c. c) (written block) contents sector cached is (sym (ap (λ b. if b then clean cached.block cached.cover else cached) same))
@@ -97,15 +98,3 @@ module _ (change : Change) (blocks new_blocks : Blocks) (states : States) (alike
   then_marked mark cover =
       ap (λ contents. adjusted (λ cached. cached_of cached.block (record { cover = cover; mark = Some mark })) contents change.sector.0) changed_first
       ∙ adjusted-adjusted (λ cached. record cached { block = changed cached.block change }) (λ cached. cached_of cached.block (record { cover = cover; mark = Some mark })) (joined blocks states) change.sector.0
-
--- ---- the comparison of blocks
-
-pub same_bytes : (a b : Block) → pointwise nat_eq a b ≡ same_block a b
-same_bytes [] [] = refl
-same_bytes [] (y ∷ b) = refl
-same_bytes (x ∷ a) [] = refl
-same_bytes (x ∷ a) (y ∷ b) = go (nat_eq x y) (same_bytes a b)
-  where
-    go : (t : Bool) → pointwise nat_eq a b ≡ same_block a b → (t && pointwise nat_eq a b) ≡ (if t then same_block a b else false)
-    go true rest = rest
-    go false rest = refl

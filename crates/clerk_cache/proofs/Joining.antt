@@ -8,9 +8,9 @@ use Rattle.std.specs.Option.{option_map}
 use Rattle.std.specs.Ordering.{nat_cmp, match_ordering}
 use Rattle.std.specs.declared.cmp.Ordering.{Ordering}
 use Rattle.std.specs.declared.cmp.Ordering.TheVariants.{Less, Equal, Greater}
-use Rattle.cells.specs.Blocks.{Block}
-use Rattle.change_definitions.specs.SectorMaps.{value_at, with_value, without, adjusted, Ascend}
-use Rattle.change_definitions.proofs.MapLaws.{with_value_there, ascend_with, ascend_without, ascend_adjusted}
+use Rattle.sector_bytes.specs.Blocks.{Block}
+use Rattle.sector_bytes.specs.SectorMaps.{value_at, with_value, without, adjusted, Ascend}
+use Rattle.sector_bytes.proofs.MapLaws.{with_value_there, ascend_with, ascend_without, ascend_adjusted}
 use Rattle.clerk_cache.specs.declared.state.SectorState.{SectorState}
 use Rattle.clerk_cache.specs.Cached.{block_at, blocks_of}
 use Rattle.clerk_cache.specs.Kept.{cached_of, state_of, joined, state_at, AreAlike, AreKept}

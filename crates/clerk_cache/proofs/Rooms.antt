@@ -1,7 +1,7 @@
 -- A cache has room for a sector where both its maps have.
 use Rattle.std.proofs.Common.{◌≡◌, ℕ, if◌then◌else◌, List, Option, Some, None, IsSome, is_some, refl, ap, ◌∙◌}
 use Rattle.std.specs.Option.{option_map}
-use Rattle.change_definitions.specs.SectorMaps.{value_at, room_for}
+use Rattle.sector_bytes.specs.SectorMaps.{value_at, room_for}
 use Rattle.clerk_cache.specs.Kept.{joined, AreAlike}
 use Rattle.clerk_cache.proofs.Joining.{Blocks, States, block_at-joined, state_at-joined}
 

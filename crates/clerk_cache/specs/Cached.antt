@@ -3,8 +3,8 @@ use Rattle.std.specs.Prelude.{ℕ, List, Option, map}
 use Rattle.std.specs.Option.{option_map}
 use Rattle.std.specs.List.{filter_map}
 use Rattle.frang_base.specs.declared.lock.LockId.{LockId}
-use Rattle.cells.specs.Blocks.{Block}
-use Rattle.change_definitions.specs.SectorMaps.{value_at}
+use Rattle.sector_bytes.specs.Blocks.{Block}
+use Rattle.sector_bytes.specs.SectorMaps.{value_at}
 use Rattle.flush_order.specs.declared.Mark.{Mark}
 
 -- a cached sector: its block, the lock that covers it, and where it is dirty its mark

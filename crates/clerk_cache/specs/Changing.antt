@@ -3,9 +3,10 @@ use Rattle.std.specs.Prelude.{ℕ, Some, None, Bool, false, if◌then◌else◌}
 use Rattle.std.specs.Option.{option_map_or}
 use Rattle.frang_base.specs.declared.lock.LockId.{LockId}
 use Rattle.frang_base.specs.declared.change.Change.{Change}
-use Rattle.cells.specs.Blocks.{Block, same_block}
-use Rattle.change_definitions.specs.Changes.{changed}
-use Rattle.change_definitions.specs.SectorMaps.{adjusted}
+use Rattle.sector_bytes.specs.Blocks.{Block}
+use Rattle.std.specs.Str.{bytes_eq}
+use Rattle.sector_bytes.specs.Changes.{changed}
+use Rattle.sector_bytes.specs.SectorMaps.{adjusted}
 use Rattle.clerk_cache.specs.Cached.{Cached, Contents, block_at}
 
 -- a sector as the disk has it
@@ -22,11 +23,11 @@ with_change contents change mark cover = adjusted (λ cached. dirty (changed cac
 
 -- a sector that was written as this block: clean, unless it has changed since
 abbrev pub written : Block → Cached → Cached
-written block cached = if same_block cached.block block then clean cached.block cached.cover else cached
+written block cached = if bytes_eq cached.block block then clean cached.block cached.cover else cached
 
 -- the sector is cached with this block
 abbrev pub holds : Contents → ℕ → Block → Bool
-holds contents sector block = option_map_or (λ held. same_block held block) (block_at contents sector) false
+holds contents sector block = option_map_or (λ held. bytes_eq held block) (block_at contents sector) false
 
 -- the contents after the sector was written as this block
 abbrev pub with_written : Contents → ℕ → Block → Contents

@@ -2,7 +2,7 @@
 use Rattle.std.specs.Prelude.{◌≡◌, ℕ, Bool, not, ◌&&◌, is_some, Option, Some, None, Result, Ok, Err, find, filter}
 use Rattle.std.specs.Option.{option_map}
 use Rattle.frang_base.specs.declared.lock.LockId.{LockId}
-use Rattle.cells.specs.Changes.{same_lock}
+use Rattle.frang_base.specs.Locks.{same_lock}
 use Rattle.clerk_cache.specs.declared.cache.Dirty.{Dirty}
 use Rattle.clerk_cache.specs.Cached.{Cached, Contents}
 

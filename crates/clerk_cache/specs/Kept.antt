@@ -3,10 +3,10 @@ use Rattle.std.specs.Prelude.{◌≡◌, ℕ, min, Bool, false, ◌&&◌, is_som
 use Rattle.std.specs.List.{filter_map}
 use Rattle.std.specs.Option.{option_map, option_map_or}
 use Rattle.frang_base.specs.declared.lock.LockId.{LockId}
-use Rattle.cells.specs.Blocks.{Block}
-use Rattle.cells.specs.Changes.{same_lock}
+use Rattle.sector_bytes.specs.Blocks.{Block}
+use Rattle.frang_base.specs.Locks.{same_lock}
 use Rattle.flush_order.specs.declared.Mark.{Mark}
-use Rattle.change_definitions.specs.SectorMaps.{Ascend, Spacious, value_at}
+use Rattle.sector_bytes.specs.SectorMaps.{Ascend, Spacious, value_at}
 use Rattle.clerk_cache.specs.declared.state.SectorState.{SectorState}
 use Rattle.clerk_cache.specs.Cached.{Cached, Contents}
 

@@ -3,8 +3,8 @@ ghost use Rattle.std.specs.Prelude.{◌≡◌, ◌+◌, ◌<◌, ◌≤◌, [], 
 ghost use Rattle.std.specs.List.Sorted.{IsStrictlySortedBy};
 ghost use Rattle.std.specs.Option.{option_copied, option_map};
 ghost use Rattle.std.specs.Ordering.{nat_cmp, on};
-ghost use Rattle.change_definitions.specs.Changes.{is_change};
-ghost use Rattle.change_definitions.specs.SectorMaps.{value_at, with_value, without, adjusted, room_for};
+ghost use Rattle.sector_bytes.specs.Changes.{is_change};
+ghost use Rattle.sector_bytes.specs.SectorMaps.{value_at, with_value, without, adjusted, room_for};
 ghost use Rattle.meta_version.specs.Updates.{IsOlder};
 ghost use Rattle.clerk_cache.specs.Cached.{block_at, cover_at, blocks_of, marks_of};
 ghost use Rattle.clerk_cache.specs.Kept.{cached_of, state_at, is_state_under, is_state_dirty_under, first_dirty_state, is_sector_under, state_marks};
@@ -28,7 +28,7 @@ pub struct Cache {
 }
 
 impl Model for Cache {
-    ghost use Rattle.change_definitions.specs.SectorMaps.{Spacious};
+    ghost use Rattle.sector_bytes.specs.SectorMaps.{Spacious};
     ghost use Rattle.clerk_cache.specs.Cached.{Cached};
 
     ghost Value = { Spacious Cached };

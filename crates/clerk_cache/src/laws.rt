@@ -2,10 +2,10 @@
 ghost use Rattle.std.specs.Prelude.{◌≡◌, ◌↔◌, ℕ, None, Some, Ok, Err, Result, is_some, not, true, false};
 ghost use Rattle.frang_base.specs.declared.lock.LockId.{LockId};
 ghost use Rattle.frang_base.specs.declared.change.Change.{Change};
-ghost use Rattle.cells.specs.Blocks.{Block};
-ghost use Rattle.cells.specs.Changes.{same_lock};
-ghost use Rattle.change_definitions.specs.SectorMaps.{Ascend, value_at};
-ghost use Rattle.change_definitions.specs.Changes.{changed};
+ghost use Rattle.sector_bytes.specs.Blocks.{Block};
+ghost use Rattle.frang_base.specs.Locks.{same_lock};
+ghost use Rattle.sector_bytes.specs.SectorMaps.{Ascend, value_at};
+ghost use Rattle.sector_bytes.specs.Changes.{changed};
 ghost use Rattle.clerk_cache.specs.Cached.{Cached, Contents, marks_of};
 ghost use Rattle.clerk_cache.specs.Changing.{dirty, with_change};
 ghost use Rattle.clerk_cache.specs.Dropping.{is_under, first_dirty, dropped};

@@ -6,8 +6,6 @@
 mod cache;
 mod laws;
 mod state;
-#[cfg(test)]
-mod tests;
 
 pub use cache::{Cache, Dirty};
 pub use laws::{a_change_leaves_its_sector_dirty, covers_are_dropped_clean};

@@ -13,7 +13,7 @@ use Rattle.plan_steps.specs.declared.edit.Outcome.{Outcome}
 use Rattle.plan_steps.specs.declared.stop.Stop.{Stop}
 use Rattle.plan_steps.specs.Edits.{edits_of}
 use Rattle.plan_steps.specs.Ends.{Comes}
-use Rattle.plan_disk_laws.specs.Laws.{HasPath}
+use Rattle.plan_standing.specs.Laws.{HasPath}
 use Rattle.code_plan_laws.specs.CodeStands.{IsOverADisk, StandsOverDisks, IsExactOverDisks}
 use Rattle.code_plan_laws.proofs.Standing.{planned_stands}
 use Rattle.code_plan_laws.proofs.Exactly.{planned_exact}

@@ -1,7 +1,7 @@
 -- The code's plan stands as the definitions' does.
 use Rattle.std.proofs.Common.{◌≡◌, ℕ, Bool, Option, Some, None, List, [], ◌∷◌, map, refl, sym, ap, ap₂, ◌∙◌, subst}
 use Rattle.std.specs.Option.{option_map}
-use Rattle.disk_definitions.specs.Disks.{Sectors}
+use Rattle.sector_bytes.specs.Sectors.{Sectors}
 use Rattle.disk_definitions.specs.Standing.{StandsFor}
 use Rattle.tree_definitions.specs.Apply.{Applied}
 use Rattle.pick_definitions.specs.Held.{Segments}
@@ -11,8 +11,8 @@ use Rattle.plan_definitions.specs.PlanOf.{plan_of}
 use Rattle.plan_definitions.specs.Written.{hand_of, Cached, at_hand, sectors_at_hand, changes_of, byte_writes, laid_over}
 use Rattle.dir_lookup.specs.Reading.{numbered}
 use Rattle.dir_lookup.specs.Planned.{planned, write_by}
-use Rattle.plan_conditions.specs.OnDisk.{MetStands}
-use Rattle.plan_disk_laws.proofs.Operations.{all_stand}
+use Rattle.plan_definitions.specs.OnDisk.{MetStands}
+use Rattle.plan_standing.proofs.Operations.{all_stand}
 use Rattle.code_plan_laws.specs.CodeStands.{write_of, CodeStands, PlannedStands}
 
 -- a write by number and back

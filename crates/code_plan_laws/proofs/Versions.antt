@@ -5,10 +5,10 @@ use Rattle.std.proofs.lemmas.Bool.Decides.{nat_tests}
 use Rattle.frang_base.specs.declared.op.Op.{Op}
 use Rattle.frang_base.specs.declared.bitmap.Bitmap.{Bitmap}
 use Rattle.sector_definitions.specs.declared.region.Region.TheVariants as region
-use Rattle.sector_definitions.specs.Bytes.{number_at}
+use Rattle.sector_bytes.specs.Bytes.{number_at}
 use Rattle.sector_definitions.specs.Regions.{sector_of}
 use Rattle.tree_definitions.specs.Tree.{FileTree, node_at}
-use Rattle.disk_definitions.specs.Disks.{Sectors}
+use Rattle.sector_bytes.specs.Sectors.{Sectors}
 use Rattle.disk_definitions.specs.Store.{Store, store_of}
 use Rattle.disk_definitions.specs.Standing.{version_at}
 use Rattle.store_changes.specs.Edits.{Edit, edited_all}
@@ -18,19 +18,19 @@ use Rattle.plan_definitions.specs.Ask.{Sector, Ask, Met, run, looks, meet}
 use Rattle.plan_definitions.specs.Plans.{Hand, Plan, Finish, Finishes}
 use Rattle.plan_definitions.specs.PlanOf.{plan_of}
 use Rattle.plan_definitions.specs.Written.{hand_of, Cached, at_hand, sectors_at_hand, edit_sector, is_metadata, metadata_sector}
-use Rattle.plan_laws.specs.Looking.{first_missing, unless_missing}
-use Rattle.look_laws.proofs.Deciding.{meets_where}
-use Rattle.look_laws.proofs.AllPlans.{all_inside}
+use Rattle.plan_definitions.specs.Missing.{first_missing, unless_missing}
+use Rattle.plan_looks.proofs.Deciding.{meets_where}
+use Rattle.plan_looks.proofs.AllInside.{all_inside}
 use Rattle.dir_lookup.specs.Reading.{Read, Lacks, Gives, numbered}
-use Rattle.record_laws.specs.Fit.{AreFit, IsFitEdit, MeetsUse}
-use Rattle.record_laws.specs.Ready.{IsReady}
-use Rattle.plan_conditions.specs.FitPlans.{PlanIsFit, IsFitFinish}
-use Rattle.plan_disk_laws.proofs.OfDisk.{few, of_tree, is_hand}
-use Rattle.plan_disk_laws.proofs.Zeroed.{zero_places}
-use Rattle.plan_disk_laws.proofs.AtHand.{agrees}
-use Rattle.plan_disk_laws.proofs.Edited.{where_edited, hand}
-use Rattle.plan_disk_laws.proofs.Operations.{all_fit}
-use Rattle.plan_disk_laws.proofs.Written.{fit_store, ready}
+use Rattle.plan_definitions.specs.FitEdits.{AreFit, IsFitEdit, MeetsUse}
+use Rattle.plan_definitions.specs.Ready.{IsReady}
+use Rattle.plan_definitions.specs.FitPlans.{PlanIsFit, IsFitFinish}
+use Rattle.plan_standing.proofs.OfDisk.{few, of_tree, is_hand}
+use Rattle.plan_standing.proofs.Zeroed.{zero_places}
+use Rattle.plan_standing.proofs.AtHand.{agrees}
+use Rattle.plan_standing.proofs.Edited.{where_edited, hand}
+use Rattle.plan_standing.proofs.Operations.{all_fit}
+use Rattle.plan_standing.proofs.Written.{fit_store, ready}
 use Rattle.code_plan_laws.specs.CodeStands.{IsOverADisk, HasNextVersions, HoldsSegments}
 
 some_held : (held : Segments) (k : ℕ) (x : Bitmap) → bitmap_of held k ≡ Some x → is_some (bitmap_of held k) ≡ true

@@ -11,7 +11,7 @@ use Rattle.tree_definitions.specs.Apply.{Applied, apply}
 use Rattle.tree_laws.specs.WellFormed.{IsNew}
 use Rattle.meta_version.specs.declared.plan.Plan.{Plan as CodePlan}
 use Rattle.meta_version.specs.declared.plan.Plan.TheVariants as plan
-use Rattle.disk_definitions.specs.Disks.{Sectors}
+use Rattle.sector_bytes.specs.Sectors.{Sectors}
 use Rattle.disk_definitions.specs.Store.{store_of}
 use Rattle.disk_definitions.specs.Standing.{StandsFor, version_at}
 use Rattle.pick_definitions.specs.Held.{Segments, AreSegments}
@@ -21,14 +21,14 @@ use Rattle.plan_definitions.specs.Plans.{Finish, Finishes, must_clear}
 use Rattle.plan_definitions.specs.PlanOf.{plan_of}
 use Rattle.plan_definitions.specs.Meets.{Answers, directory_blocks_in}
 use Rattle.plan_definitions.specs.Written.{hand_of, Cached, at_hand, laid_over, metadata_sector, sectors_at_hand}
-use Rattle.plan_laws.specs.Looking.{first_missing}
+use Rattle.plan_definitions.specs.Missing.{first_missing}
 use Rattle.dir_lookup.specs.Reading.{Gives, reading}
 use Rattle.dir_lookup.specs.Planned.{planned}
-use Rattle.plan_conditions.specs.Allowed.{IsAllowed}
-use Rattle.plan_conditions.specs.OnDisk.{AreOfDisk, StandsBelow, MakeARecord}
-use Rattle.plan_disk_laws.specs.Laws.{HasPath}
-use Rattle.exact_laws.specs.Wants.{Wants, wants}
-use Rattle.exact_laws.specs.Exact.{FindsNothing}
+use Rattle.plan_definitions.specs.Allowed.{IsAllowed}
+use Rattle.plan_definitions.specs.OnDisk.{AreOfDisk, StandsBelow, MakeARecord}
+use Rattle.plan_standing.specs.Laws.{HasPath}
+use Rattle.plan_space.specs.Wants.{Wants, wants}
+use Rattle.plan_space.specs.Exact.{FindsNothing}
 
 -- a sector with its bytes, by the sector's number
 abbrev pub write_of : CodeSector × List ℕ → ℕ × List ℕ

@@ -2,8 +2,9 @@
 ghost use Rattle.std.specs.Prelude.{◌≡◌};
 ghost use Rattle.sector_definitions.specs.Directories.{name_in, place_of_name};
 
-use crate::{NAME_BYTES, PLACES};
+use crate::PLACES;
 use frang_base::Name;
+use frang_base::limits::NAME_BYTES_MAX;
 use sector_definitions::{DirEntry, DirSector};
 
 /// The place of the first entry of this name, 0 to 6. `None` exactly where there is none.
@@ -27,5 +28,5 @@ fn place_in(entries: &[DirEntry; PLACES], name: &Name) -> Option<u8>
 fn name_of(entry: &DirEntry) -> &[u8]
     ensures { result.now ≡ name_in entry.now }
 {
-    &entry.name[..usize::from(entry.len).min(NAME_BYTES)]
+    &entry.name[..usize::from(entry.len).min(NAME_BYTES_MAX)]
 }

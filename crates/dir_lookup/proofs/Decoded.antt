@@ -1,8 +1,7 @@
 -- What decoded sectors are: inodes in use by their kind, and the entries of a directory's sector by theirs.
-use Rattle.std.proofs.Common.{◌==◌, ◌≡◌, ℕ, zero, suc, ◌*◌, ◌≤◌, Bool, true, false, ◌||◌, ⊎_elim, Option, Some, None, List, [], ◌∷◌, take, cond, refl, sym, ◌∙◌, ap, subst, nat_lt, nat_le, eqb-true, leb-true, arith}
+use Rattle.std.proofs.Common.{◌==◌, ◌≡◌, ℕ, zero, suc, ◌*◌, ◌≤◌, Bool, true, false, ◌||◌, ⊎_elim, Some, None, List, [], ◌∷◌, cond, refl, sym, ◌∙◌, ap, subst, nat_le, eqb-true, leb-true, arith}
 use Rattle.std.proofs.Math.Path.{fun_ext}
 use Rattle.std.specs.List.{slice_get, list_all}
-use Rattle.std.specs.Option.{option_map}
 use Rattle.std.proofs.lemmas.Bool.{and_parts, or_cases, both_ways}
 use Rattle.sector_definitions.specs.declared.inode.Inode.{Inode}
 use Rattle.sector_definitions.specs.declared.directory.DirEntry.{DirEntry}
@@ -14,7 +13,7 @@ use Rattle.tree_definitions.specs.Tree.{small_blocks_of}
 use Rattle.sector_definitions.proofs.Readings.{and_l, and_r}
 use Rattle.sector_definitions.proofs.InodeLaws.{inode_read, few_blocks}
 use Rattle.sector_definitions.proofs.DirectoryPlaces.{free_place, entry_of_list}
-use Rattle.disk_definitions.specs.Store.{StoredNode, StoredEntry, stored_node, stored_entry, entry_in, stored, entered}
+use Rattle.disk_definitions.specs.Store.{stored_node, stored_entry, entry_in, stored, entered}
 use Rattle.dir_lookup.specs.Stored.{IsUsed, entries_at}
 
 -- ---- inodes

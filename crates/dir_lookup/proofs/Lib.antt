@@ -3,3 +3,4 @@ pub mod Readings
 pub mod Places
 pub mod Searches
 pub mod Steps
+pub mod Through

@@ -1,11 +1,11 @@
 -- The first place of a sector that passes, and where a name stands first.
-use Rattle.std.proofs.Common.{◌≡◌, ◌==◌, ℕ, zero, suc, ◌+◌, ◌-◌, ◌*◌, ◌<◌, Bool, true, false, not, ◌&&◌, Option, Some, None, IfSome, List, [], ◌∷◌, cond, length, take, refl, sym, ap, subst, ◌∙◌, nat_eq, eqb-true, arith}
+use Rattle.std.proofs.Common.{◌≡◌, ◌==◌, ℕ, suc, ◌+◌, ◌*◌, ◌<◌, Bool, true, false, Option, Some, None, IfSome, List, [], ◌∷◌, cond, length, take, refl, sym, ap, subst, ◌∙◌, eqb-true, arith}
 use Rattle.std.specs.List.{slice_get}
 use Rattle.std.specs.Option.{option_map}
 use Rattle.frang_base.specs.Name.{is_name}
 use Rattle.sector_definitions.specs.declared.directory.DirEntry.{DirEntry}
 use Rattle.sector_definitions.specs.declared.directory.DirSector.{DirSector}
-use Rattle.sector_definitions.specs.Bytes.{same_bytes}
+use Rattle.std.specs.Str.{bytes_eq}
 use Rattle.sector_definitions.specs.Directories.{name_in, is_free_place, place_of_name}
 use Rattle.sector_definitions.proofs.Readings.{and_l, and_r}
 use Rattle.disk_definitions.specs.Store.{StoredEntry, stored_entry, entered}
@@ -15,35 +15,35 @@ use Rattle.plan_definitions.specs.Walks.{Found, hit, is_named, is_vacant}
 use Rattle.dir_lookup.specs.Stored.{entries_at}
 
 -- ---- names
-no_name : (name : List ℕ) → is_name name ≡ true → same_bytes [] name ≡ false
+no_name : (name : List ℕ) → is_name name ≡ true → bytes_eq [] name ≡ false
 no_name [] n = absurd (cc)
 no_name (b ∷ bs) n = refl
 
 -- an entry has a name where the bytes are the same; a free place has none
-named_entry : (name : List ℕ) (e : DirEntry) → is_name name ≡ true → is_named name (stored_entry (Some e)) ≡ same_bytes (name_in e) name
+named_entry : (name : List ℕ) (e : DirEntry) → is_name name ≡ true → is_named name (stored_entry (Some e)) ≡ bytes_eq (name_in e) name
 named_entry name e n = go (is_free_place e) refl
   where
-    go : (b : Bool) → is_free_place e ≡ b → is_named name (cond b None (Some (entered e))) ≡ same_bytes (name_in e) name
+    go : (b : Bool) → is_free_place e ≡ b → is_named name (cond b None (Some (entered e))) ≡ bytes_eq (name_in e) name
     go false f = refl
     go true f =
         let l : e.len == 0 ≡ true = search (and_l, and_r) depth 8 in
         let z : e.len ≡ 0 = eqb-true e.len 0 l in
         let t : name_in e ≡ [] = ap (λ (k : ℕ). take k e.name) z in
-        sym (ap (λ (bytes : List ℕ). same_bytes bytes name) t ∙ no_name name n)
+        sym (ap (λ (bytes : List ℕ). bytes_eq bytes name) t ∙ no_name name n)
 
 moved : (i : ℕ) (b : Bool) (later : Option ℕ) (o : Option ℕ) → o ≡ cond b (Some i) (option_map (λ r. i + 1 + r) later) → o ≡ option_map (λ r. i + r) (cond b (Some 0) (option_map suc later))
 moved i true later o e = let z : i ≡ i + 0 = omega arith in e ∙ ap Some z
 moved i false None o e = e
 moved i false (Some r) o e = let z : i + 1 + r ≡ i + suc r = omega arith in e ∙ ap Some z
 
-from_first : (name : List ℕ) (test : ℕ → Bool) (i : ℕ) (es : List DirEntry) → ((r : ℕ) (e : DirEntry) → slice_get es r ≡ Some e → test (i + r) ≡ same_bytes (name_in e) name)
+from_first : (name : List ℕ) (test : ℕ → Bool) (i : ℕ) (es : List DirEntry) → ((r : ℕ) (e : DirEntry) → slice_get es r ≡ Some e → test (i + r) ≡ bytes_eq (name_in e) name)
     → least_from test i (length es) ≡ option_map (λ r. i + r) (place_of_name name es)
 from_first name test i [] h = from_none test i
 from_first name test i (e ∷ es) h =
-    moved i (same_bytes (name_in e) name) (place_of_name name es) (least_from test i (suc (length es)))
-    (go (same_bytes (name_in e) name) here (from_first name test (i + 1) es (λ r d g. let z : i + 1 + r ≡ i + suc r = omega arith in ap test z ∙ h (suc r) d g)))
+    moved i (bytes_eq (name_in e) name) (place_of_name name es) (least_from test i (suc (length es)))
+    (go (bytes_eq (name_in e) name) here (from_first name test (i + 1) es (λ r d g. let z : i + 1 + r ≡ i + suc r = omega arith in ap test z ∙ h (suc r) d g)))
   where
-    here : test i ≡ same_bytes (name_in e) name
+    here : test i ≡ bytes_eq (name_in e) name
     here = let z : i ≡ i + 0 = omega arith in ap test z ∙ h 0 e refl
 
     go : (b : Bool) → test i ≡ b → least_from test (i + 1) (length es) ≡ option_map (λ r. i + 1 + r) (place_of_name name es)
@@ -58,7 +58,7 @@ same_places (Some r) = let z : 0 + r ≡ r = omega arith in ap Some z
 pub named_least : (name : List ℕ) (x : DirSector) → is_name name ≡ true → length x.entries ≡ 7 → place_of_name name x.entries ≡ least (λ r. is_named name (entries_at x r)) 7
 named_least name x n l =
     let test : ℕ → Bool = λ r. is_named name (entries_at x r) in
-    let each : (r : ℕ) (e : DirEntry) → slice_get x.entries r ≡ Some e → test (0 + r) ≡ same_bytes (name_in e) name =
+    let each : (r : ℕ) (e : DirEntry) → slice_get x.entries r ≡ Some e → test (0 + r) ≡ bytes_eq (name_in e) name =
     λ r e g. (let z : 0 + r ≡ r = omega arith in ap test z ∙ ap (λ o. is_named name (stored_entry o)) g ∙ named_entry name e n) in
     sym (least_below test 7 ∙ ap (least_from test 0) (sym l) ∙ from_first name test 0 x.entries each ∙ same_places (place_of_name name x.entries))
 

@@ -1,5 +1,5 @@
 -- One step of a search through the sectors of a directory.
-use Rattle.std.proofs.Common.{◌≡◌, ℕ, zero, suc, ◌+◌, ◌-◌, ◌*◌, ◌/◌, ◌%◌, ◌<◌, ◌≤◌, Bool, Option, Some, None, refl, sym, ap, subst, ◌∙◌, arith}
+use Rattle.std.proofs.Common.{◌≡◌, ℕ, suc, ◌+◌, ◌-◌, ◌/◌, ◌%◌, ◌<◌, ◌≤◌, Bool, Option, Some, None, sym, ap, ◌∙◌, arith}
 use Rattle.disk_definitions.specs.Store.{StoredEntry}
 use Rattle.pick_definitions.specs.Held.{Segments}
 use Rattle.pick_definitions.specs.Least.{least}

@@ -1,4 +1,6 @@
 pub mod Reading
+pub mod Hands
 pub mod Stored
 pub mod Spots
+pub mod Passing
 pub mod Planned

@@ -1,7 +1,7 @@
 -- What reading of cached sectors comes to: a value, or the number of the first sector that is needed and isn't cached.
-use Rattle.std.specs.Prelude.{◌≡◌, ℕ, Option, Some, None, Result, Ok, Err, List}
+use Rattle.std.specs.Prelude.{◌≡◌, ℕ, Option, Some, None, Result, Ok, Err}
 use Rattle.pick_definitions.specs.Held.{Segments}
-use Rattle.plan_definitions.specs.Ask.{Ask, Got, Met, meet, bind, number_of}
+use Rattle.plan_definitions.specs.Ask.{Ask, Met, meet, number_of}
 use Rattle.plan_definitions.specs.Ask.Met.{Needs, Has}
 use Rattle.plan_definitions.specs.Written.{Cached, at_hand}
 use Rattle.dir_lookup.specs.declared.need.Need.{Need}

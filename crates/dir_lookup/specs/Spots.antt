@@ -1,5 +1,6 @@
 -- What the code's places and spots are in the definitions of walks.
-use Rattle.std.specs.Prelude.{ℕ, ◌==◌, if◌then◌else◌, Option, Some, None, Result, Ok, Err, List, [], ◌∷◌, ◌++◌}
+use Rattle.std.specs.Prelude.{ℕ, Bool, ◌==◌, if◌then◌else◌, Some, None, Result, Ok, Err, List, [], ◌∷◌, ◌++◌}
+use Rattle.std.specs.List.{list_any}
 use Rattle.frang_base.specs.declared.reply.Reply.{Reply}
 use Rattle.frang_base.specs.declared.reply.Reply.TheVariants as reply
 use Rattle.disk_definitions.specs.Store.{stored, entered}
@@ -24,8 +25,8 @@ reply_of refusal.NotDir = reply.NotDir
 
 abbrev pub spot_of : CodeSpot → Spot
 spot_of spot.AtRoot = AtRoot
-spot_of (spot.AtName number directory name found) = AtName number (stored directory) name found.place (entered found.entry)
-spot_of (spot.AtGap number directory name) = AtGap number (stored directory) name
+spot_of (spot.AtName directory name found) = AtName directory.number (stored directory.inode) name found.place (entered found.entry)
+spot_of (spot.AtGap directory name) = AtGap directory.number (stored directory.inode) name
 spot_of (spot.Lost r) = Lost (reply_of r)
 
 -- the name of the spot was looked up in this directory
@@ -45,3 +46,14 @@ leads (Lost r) = Err r
 abbrev pub led_of : Result ℕ Refusal → Result ℕ Reply
 led_of (Ok i) = Ok i
 led_of (Err r) = Err (reply_of r)
+
+-- the directory in which the last name was looked up
+abbrev pub looked_in : ℕ → Spot → List ℕ
+looked_in i AtRoot = []
+looked_in i (AtName number x name q e) = i ∷ []
+looked_in i (AtGap number x name) = i ∷ []
+looked_in i (Lost r) = []
+
+-- this inode is one of the directories
+abbrev pub has_inode : ℕ → List ℕ → Bool
+has_inode inode dirs = list_any (λ i. i == inode) dirs

@@ -1,5 +1,5 @@
 -- What decoded sectors are in a store.
-use Rattle.std.specs.Prelude.{◌≡◌, ◌≤◌, ℕ, true, Option, Some, None}
+use Rattle.std.specs.Prelude.{◌≡◌, ◌≤◌, ℕ, true, Option, Some}
 use Rattle.frang_base.specs.Name.{is_name}
 use Rattle.sector_definitions.specs.declared.inode.Inode.{Inode}
 use Rattle.sector_definitions.specs.declared.directory.DirEntry.{DirEntry}

@@ -1,16 +1,18 @@
-//! Cached sectors as plans read them: inodes, sectors of directories, the names in a directory, and the walk of a path. The contracts
-//! promise what the reading programs of the plans come to over the same sectors, the first sector that isn't cached included. It stands
-//! on the map of cached sectors, the coders of sectors and the definitions of plans.
+//! Cached sectors as plans read them: what a plan has at hand, inodes, sectors of directories, the names in a directory, and the walk of
+//! a path. The contracts promise what the reading programs of the plans come to over the same sectors, the first sector that isn't cached
+//! included. It stands on the map of cached sectors, the coders of sectors and the definitions of plans.
 #![tactic(auto)]
 
+mod hand;
 mod need;
 mod search;
 mod sectors;
 mod spot;
 mod walk;
 
+pub use hand::Hand;
 pub use need::Need;
 pub use search::{Found, first_named, first_vacant, part_at};
-pub use sectors::{directory_at, entry_at, inode_at, name_of};
-pub use spot::{Refusal, Spot};
-pub use walk::{look_up, step, walk_spot};
+pub use sectors::{block_at, directory_at, entry_at, inode_at, name_of};
+pub use spot::{NumberedInode, Refusal, Spot};
+pub use walk::{look_up, step, walk_passing, walk_spot};

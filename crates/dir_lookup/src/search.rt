@@ -13,14 +13,9 @@ use crate::sectors::entry_at;
 use crate::{Need, directory_at};
 use dir_block::find;
 use frang_base::Name;
+use frang_base::limits::{SECTOR_ENTRIES, SMALL_BLOCK_SECTORS};
 use meta_version::Sectors;
 use sector_definitions::{DirEntry, DirSector, Inode};
-
-// Sectors of a directory's block.
-const PARTS: u32 = 8;
-
-// Places for entries in a sector.
-const PLACES: u32 = 7;
 
 /// An entry, and its place in its directory: by block, sector and place, 56 to a block.
 #[derive(Clone, Copy, Debug, PartialEq, Eq)]
@@ -34,7 +29,7 @@ pub fn first_named(sectors: &Sectors, directory: &Inode, name: &Name) -> Result<
     requires { directory.now.blocks ≤ 16 }
     ensures { Reads (option_map found_at) (search (slice_index directory.now.small) (is_named name.now) 0 (8 * directory.now.blocks)) sectors.now.entries result }
 {
-    for j in 0..PARTS * u32::from(directory.blocks) {
+    for j in 0..SMALL_BLOCK_SECTORS * u32::from(directory.blocks) {
         let sector = part_at(sectors, directory, j)?;
         if let Some(found) = named_in(&sector, name, j) {
             return Ok(Some(found));
@@ -48,7 +43,7 @@ pub fn first_vacant(sectors: &Sectors, directory: &Inode) -> Result<Option<u32>,
     requires { directory.now.blocks ≤ 16 }
     ensures { Reads (option_map vacant_at) (search (slice_index directory.now.small) is_vacant 0 (8 * directory.now.blocks)) sectors.now.entries result }
 {
-    for j in 0..PARTS * u32::from(directory.blocks) {
+    for j in 0..SMALL_BLOCK_SECTORS * u32::from(directory.blocks) {
         let sector = part_at(sectors, directory, j)?;
         if let Some(place) = vacant_in(&sector, j) {
             return Ok(Some(place));
@@ -65,8 +60,8 @@ pub fn part_at(sectors: &Sectors, directory: &Inode, j: u32) -> Result<DirSector
 {
     directory_at(
         sectors,
-        directory.small[(j / PARTS) as usize],
-        (j % PARTS) as u8,
+        directory.small[(j / SMALL_BLOCK_SECTORS) as usize],
+        (j % SMALL_BLOCK_SECTORS) as u8,
     )
 }
 
@@ -79,7 +74,7 @@ fn named_in(sector: &DirSector, name: &Name, j: u32) -> Option<Found>
         Some(place) => {
             let at = usize::from(place);
             Some(Found {
-                place: PLACES * j + u32::from(place),
+                place: SECTOR_ENTRIES * j + u32::from(place),
                 entry: sector.entries[at],
             })
         }
@@ -109,7 +104,7 @@ fn vacant_in(sector: &DirSector, j: u32) -> Option<u32>
     ensures { option_map vacant_at result ≡ hit is_vacant j (entries_at sector.now) (least (λ r. is_vacant (entries_at sector.now r)) 7) }
 {
     match vacant_place(sector) {
-        Some(place) => Some(PLACES * j + place),
+        Some(place) => Some(SECTOR_ENTRIES * j + place),
         None => None,
     }
 }
@@ -120,7 +115,7 @@ fn vacant_place(sector: &DirSector) -> Option<u32>
     ensures is { result ≡ least (λ r. is_vacant (entries_at sector.now r)) 7 }
     ensures place { IfSome result (λ r. r < 7) }
 {
-    for place in 0..PLACES {
+    for place in 0..SECTOR_ENTRIES {
         let vacant = is_vacant(sector, place);
         if vacant {
             return Some(place);

@@ -2,7 +2,7 @@
 ghost use Rattle.std.specs.Prelude.{◌≡◌, ◌<◌, true, IfOk, IfSome, IsTrue};
 ghost use Rattle.std.specs.List.{list_all};
 ghost use Rattle.std.specs.Option.{option_map};
-ghost use Rattle.change_definitions.specs.SectorMaps.{value_at};
+ghost use Rattle.sector_bytes.specs.SectorMaps.{value_at};
 ghost use Rattle.sector_definitions.specs.Directories.{directory_fits, directory_in, is_free_place, name_in};
 ghost use Rattle.sector_definitions.specs.Inodes.{inode_in};
 ghost use Rattle.disk_definitions.specs.Store.{stored_node, entry_in, stored, entered};
@@ -11,17 +11,15 @@ ghost use Rattle.dir_lookup.specs.Reading.{Reads, read_of, read_or_lacks};
 ghost use Rattle.dir_lookup.specs.Stored.{IsProper, IsUsed, entries_at};
 
 use crate::Need;
+use frang_base::limits::KIND_FREE;
 use frang_base::{Block, Name, Sector};
 use frang_layout::{Region, sector_of};
 use inode_block::decode;
 use meta_version::Sectors;
 use sector_definitions::{DirEntry, DirSector, Inode};
 
-// The kind of a free inode and of a free place.
-const FREE: u8 = 0;
-
-// The block of a sector.
-fn block_at(sectors: &Sectors, sector: Sector) -> Result<&Block, Need>
+/// The block of a sector. `Need` names the sector where it isn't cached.
+pub fn block_at(sectors: &Sectors, sector: Sector) -> Result<&Block, Need>
     ensures { read_of (λ block. block.now) result ≡ read_or_lacks sector.0 (value_at sectors.now.entries sector.0) }
 {
     sectors.get(sector).ok_or(Need(sector))
@@ -37,13 +35,12 @@ pub fn inode_at(sectors: &Sectors, i: u32) -> Result<Option<Inode>, Need>
 }
 
 // The inode of a block, where it is in use.
-
 fn used_inode(block: &Block) -> Option<Inode>
     ensures is { option_map stored result ≡ stored_node (inode_in block.now) }
     ensures used { IfSome result IsUsed }
 {
     let inode = decode(block)?;
-    if inode.kind == FREE {
+    if inode.kind == KIND_FREE {
         None
     } else {
         Some(inode)
@@ -60,7 +57,6 @@ pub fn directory_at(sectors: &Sectors, block: u32, part: u8) -> Result<DirSector
 }
 
 // The sector of a directory that a block is, or one without entries.
-
 fn entries_of(block: &Block) -> DirSector
     ensures is { entries_at result ≡ entry_in (directory_in block.now) }
     ensures fits { IsTrue (directory_fits result) }
@@ -79,7 +75,7 @@ fn no_entries() -> DirSector
     let free = DirEntry {
         inode: 0,
         len: 0,
-        kind: FREE,
+        kind: KIND_FREE,
         name: [0; 64],
     };
     DirSector {
@@ -96,7 +92,7 @@ pub fn entry_at(sector: &DirSector, place: u8) -> Option<DirEntry>
     ensures proper { IfSome result IsProper }
 {
     let entry = sector.entries[usize::from(place)];
-    if entry.kind == FREE {
+    if entry.kind == KIND_FREE {
         None
     } else {
         Some(entry)

@@ -15,23 +15,32 @@ pub enum Refusal {
     NotDir,
 }
 
-/// Where a walk leads. A directory is its inode's number, and the inode.
+/// An inode with its number.
+#[derive(Clone, Copy, Debug)]
+pub struct NumberedInode {
+    /// The number of the inode, counted from 0 over all segments.
+    pub number: u32,
+    /// What stands in it.
+    pub inode: Inode,
+}
+
+/// Where a walk leads.
 #[derive(Debug, Drop)]
 pub enum Spot {
+    /// At the root.
     AtRoot,
     /// The last name is there.
     AtName {
-        number: u32,
-        directory: Inode,
+        directory: NumberedInode,
         name: Name,
         found: Found,
     },
     /// The last name isn't there.
     AtGap {
-        number: u32,
-        directory: Inode,
+        directory: NumberedInode,
         name: Name,
     },
+    /// The walk was refused on the way.
     Lost(Refusal),
 }
 

@@ -1,39 +1,32 @@
 // The walk of a path over cached sectors.
-ghost use Rattle.std.specs.Prelude.{◌≡◌, ◌≤◌, ℕ, Some, List};
+ghost use Rattle.std.specs.Prelude.{◌≡◌, ◌≤◌, ◌||◌, ℕ, Some, List, []};
 ghost use Rattle.pick_definitions.specs.Held.{Segments};
 ghost use Rattle.disk_definitions.specs.Store.{stored};
 ghost use Rattle.plan_definitions.specs.Ask.{Got, ReadInode, bind};
 ghost use Rattle.plan_definitions.specs.Walks as walks;
 ghost use Rattle.dir_lookup.specs.Reading.{Reads};
-ghost use Rattle.dir_lookup.specs.Spots.{led_of, leads, spot_of, walked_in};
+ghost use Rattle.dir_lookup.specs.Spots.{has_inode, led_of, leads, looked_in, spot_of, walked_in};
+ghost use Rattle.dir_lookup.specs.Passing.{PassesFrom};
 
-use crate::{Need, Refusal, Spot, first_named, inode_at};
+use crate::{Need, NumberedInode, Refusal, Spot, first_named, inode_at};
 use frang_base::Name;
+use frang_base::limits::{KIND_DIRECTORY, ROOT_INODE};
 use meta_version::Sectors;
-use sector_definitions::Inode;
-
-// The inode of the root.
-const ROOT: u32 = 0;
-
-// The kind of a directory.
-const DIRECTORY: u8 = 2;
 
 /// A name looked up in a directory of at most 16 blocks.
-pub fn look_up(sectors: &Sectors, number: u32, directory: &Inode, name: &Name) -> Result<Spot, Need>
-    requires { directory.now.blocks ≤ 16 }
-    ensures { (dirs : List ℕ) → Reads (λ s. walked_in dirs number (spot_of s)) (walks.look_up dirs number (stored directory.now) name.now) sectors.now.entries result }
+pub fn look_up(sectors: &Sectors, directory: &NumberedInode, name: &Name) -> Result<Spot, Need>
+    requires { directory.now.inode.blocks ≤ 16 }
+    ensures { (dirs : List ℕ) → Reads (λ s. walked_in dirs directory.now.number (spot_of s)) (walks.look_up dirs directory.now.number (stored directory.now.inode) name.now) sectors.now.entries result }
 {
-    let found = first_named(sectors, directory, name)?;
+    let found = first_named(sectors, &directory.inode, name)?;
     let name = name.copy();
     match found {
         Some(found) => Ok(Spot::AtName {
-            number,
             directory: *directory,
             name,
             found,
         }),
         None => Ok(Spot::AtGap {
-            number,
             directory: *directory,
             name,
         }),
@@ -46,18 +39,18 @@ pub fn step(sectors: &Sectors, number: u32, name: &Name) -> Result<Spot, Need>
 {
     let found = inode_at(sectors, number)?;
     match found {
-        Some(inode) => below(sectors, number, &inode, name),
+        Some(inode) => below(sectors, &NumberedInode { number, inode }, name),
         None => Ok(Spot::Lost(Refusal::NoEnt)),
     }
 }
 
 // A name below a node, which has to be a directory.
-fn below(sectors: &Sectors, number: u32, inode: &Inode, name: &Name) -> Result<Spot, Need>
-    requires { inode.now.blocks ≤ 16 }
-    ensures { (dirs : List ℕ) → Reads (λ s. walked_in dirs number (spot_of s)) (walks.in_inode dirs number name.now (Some (stored inode.now))) sectors.now.entries result }
+fn below(sectors: &Sectors, node: &NumberedInode, name: &Name) -> Result<Spot, Need>
+    requires { node.now.inode.blocks ≤ 16 }
+    ensures { (dirs : List ℕ) → Reads (λ s. walked_in dirs node.now.number (spot_of s)) (walks.in_inode dirs node.now.number name.now (Some (stored node.now.inode))) sectors.now.entries result }
 {
-    if inode.kind == DIRECTORY {
-        look_up(sectors, number, inode, name)
+    if node.inode.kind == KIND_DIRECTORY {
+        look_up(sectors, node, name)
     } else {
         Ok(Spot::Lost(Refusal::NotDir))
     }
@@ -67,35 +60,75 @@ fn below(sectors: &Sectors, number: u32, inode: &Inode, name: &Name) -> Result<S
 pub fn walk_spot(sectors: &Sectors, path: &[Name]) -> Result<Spot, Need>
     ensures { Reads spot_of (bind (walks.walk path.now) (λ w. Got w.spot)) sectors.now.entries result }
 {
-    spot_from(sectors, ROOT, path)
+    // Which directories it passes is asked of none.
+    let (spot, _) = walk_passing(sectors, path, ROOT_INODE)?;
+    Ok(spot)
 }
 
-// Where the walk of names leads, from an inode on.
-fn spot_from(sectors: &Sectors, from: u32, names: &[Name]) -> Result<Spot, Need>
-    ensures { (dirs : List ℕ) → Reads spot_of (bind (walks.walk_from dirs from names.now) (λ w. Got w.spot)) sectors.now.entries result }
+/// Where the walk of a path leads, from the root on, and whether it looks up a name in the directory of this inode.
+pub fn walk_passing(sectors: &Sectors, path: &[Name], inode: u32) -> Result<(Spot, bool), Need>
+    ensures { (held : Segments) → PassesFrom sectors.now.entries held 0 path.now inode [] result }
+{
+    passes_from(sectors, ROOT_INODE, path, inode)
+}
+
+// Where the walk of names leads, from an inode on, and whether it looks up a name in the directory of this inode.
+fn passes_from(
+    sectors: &Sectors,
+    from: u32,
+    names: &[Name],
+    inode: u32,
+) -> Result<(Spot, bool), Need>
+    ensures { (held : Segments) (dirs : List ℕ) → PassesFrom sectors.now.entries held from names.now inode dirs result }
 {
     match names {
-        [] => Ok(Spot::AtRoot),
-        [name] => step(sectors, from, name),
+        [] => Ok((Spot::AtRoot, false)),
+        [name] => {
+            let spot = step(sectors, from, name)?;
+            let here = is_looked_in(&spot, from, inode);
+            Ok((spot, here))
+        }
         [name, rest @ ..] => {
             let spot = step(sectors, from, name)?;
-            match onward(spot) {
-                Ok(next) => spot_from(sectors, next, rest),
-                Err(refusal) => Ok(Spot::Lost(refusal)),
+            let here = is_looked_in(&spot, from, inode);
+            match onward(&spot) {
+                Ok(next) => {
+                    let (last, there) = passes_from(sectors, next, rest, inode)?;
+                    Ok((last, either(here, there)))
+                }
+                Err(refusal) => Ok((Spot::Lost(refusal), here)),
             }
         }
     }
 }
 
-// The inode of the directory at which the walk goes on.
-pub(crate) fn onward(spot: Spot) -> Result<u32, Refusal>
-    ensures { led_of result ≡ leads (spot_of spot) }
+fn either(here: bool, there: bool) -> bool
+    ensures { result ≡ (here || there) }
+{
+    here || there
+}
+
+// The last name was looked up in the directory `from`, and it is this one.
+fn is_looked_in(spot: &Spot, from: u32, inode: u32) -> bool
+    ensures { result ≡ has_inode inode (looked_in from (spot_of spot.now)) }
 {
     match spot {
-        Spot::AtRoot => Ok(ROOT),
-        Spot::AtName { found, .. } if found.entry.kind == DIRECTORY => Ok(found.entry.inode),
+        Spot::AtName { .. } => from == inode,
+        Spot::AtGap { .. } => from == inode,
+        Spot::AtRoot => false,
+        Spot::Lost(_) => false,
+    }
+}
+
+// The inode of the directory at which the walk goes on.
+fn onward(spot: &Spot) -> Result<u32, Refusal>
+    ensures { led_of result ≡ leads (spot_of spot.now) }
+{
+    match spot {
+        Spot::AtRoot => Ok(ROOT_INODE),
+        Spot::AtName { found, .. } if found.entry.kind == KIND_DIRECTORY => Ok(found.entry.inode),
         Spot::AtName { .. } => Err(Refusal::NotDir),
         Spot::AtGap { .. } => Err(Refusal::NoEnt),
-        Spot::Lost(refusal) => Err(refusal),
+        Spot::Lost(refusal) => Err(*refusal),
     }
 }

@@ -8,13 +8,15 @@ use Rattle.byteorder.specs.Endian.{little_bytes}
 use Rattle.sector_definitions.specs.declared.param.Param.{Param}
 use Rattle.sector_definitions.specs.declared.region.Region.{Region}
 use Rattle.sector_definitions.specs.declared.region.Region.TheVariants as region
-use Rattle.sector_definitions.specs.Bytes.{number_at, are_zero, same_bytes}
+use Rattle.sector_bytes.specs.Bytes.{number_at, are_zero}
+use Rattle.std.specs.Str.{bytes_eq}
+use Rattle.frang_base.specs.declared.limits.TheConstants.{SECTOR_BYTES}
 use Rattle.sector_definitions.specs.Regions.{region_of}
 use Rattle.sector_definitions.specs.Params.{param_in}
 use Rattle.sector_definitions.specs.LogSectors.{log_sector_in}
 use Rattle.sector_definitions.specs.Bitmaps.{bitmap_in}
 use Rattle.sector_definitions.specs.Inodes.{inode_in}
-use Rattle.disk_definitions.specs.Disks.{sectors_of}
+use Rattle.sector_bytes.specs.Sectors.{sectors_of}
 use Rattle.disk_definitions.specs.declared.image.ImageFault.{ImageFault}
 use Rattle.disk_definitions.specs.declared.image.ImageFlaw.{ImageFlaw}
 use Rattle.disk_definitions.specs.declared.image.ImageFlaw.TheVariants.{Cut, OtherMark, OutOfOrder, NoRegion, OfZeros, BytesAfter, BadSector}
@@ -84,7 +86,7 @@ pub record IsImage (bytes : List ℕ) (sectors : Blocks) : Type 0 where
   pub param : Param
   pub parameters : param_in (sectors_of sectors 0) ≡ Some param
   pub ascending : IsStrictlySortedBy nat_cmp (keys_of sectors)
-  pub blocks : All (λ e. length e.1 ≡ 512) sectors
+  pub blocks : All (λ e. length e.1 ≡ SECTOR_BYTES) sectors
   pub each : All (IsImaged param.segments) sectors
 
 -- ---- reading, with the first fault
@@ -94,7 +96,7 @@ fault at flaw = record { at = at; flaw = flaw }
 
 -- the sector of the entry at the first byte, and its block
 abbrev pub entry_in : List ℕ → ℕ × List ℕ
-entry_in bytes = (number_at 8 0 bytes, take 512 (drop 8 bytes))
+entry_in bytes = (number_at 8 0 bytes, take SECTOR_BYTES (drop 8 bytes))
 
 -- the flaw of a block in a region: zeros come before its grammar
 abbrev pub block_flaw : Option Region → List ℕ → Option ImageFlaw
@@ -146,4 +148,4 @@ sectors_in (suc count) bytes =
 abbrev pub image_in : List ℕ → Result Blocks ImageFault
 image_in bytes =
     if nat_lt (length bytes) 16 then Err (fault 0 Cut)
-    else (if same_bytes (take 8 bytes) image_mark then sectors_in (number_at 8 8 bytes) (drop 16 bytes) else Err (fault 0 OtherMark))
+    else (if bytes_eq (take 8 bytes) image_mark then sectors_in (number_at 8 8 bytes) (drop 16 bytes) else Err (fault 0 OtherMark))

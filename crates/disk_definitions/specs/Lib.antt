@@ -1,4 +1,3 @@
-pub mod Disks
 pub mod Store
 pub mod Naming
 pub mod Standing

@@ -2,12 +2,13 @@
 -- directions, so that nothing has to be said of what differs or has one owner. It is total: the values of births that are gone don't matter.
 use Rattle.std.specs.Prelude.{◌≡◌, ℕ, ◌+◌, ◌*◌, ◌-◌, ◌/◌, ◌%◌, ◌<◌, Bool, true, false, if◌then◌else◌, nat_lt, Option, Some, None, List, [], ◌∷◌, length, is_some}
 use Rattle.std.specs.List.{slice_get}
+use Rattle.frang_base.specs.declared.limits.TheConstants.{BLOCK_ENTRIES, KIND_DIRECTORY, KIND_FILE, KIND_LINK, SMALL_BLOCK_BYTES, SMALL_BYTES_MAX}
 use Rattle.tree_definitions.specs.declared.cells.Cell.{Cell}
 use Rattle.tree_definitions.specs.declared.cells.Cell.TheVariants as cell
 use Rattle.tree_definitions.specs.declared.node.Node.{Node}
 use Rattle.tree_definitions.specs.declared.node.Node.TheVariants.{Dir, File, Link}
 use Rattle.tree_definitions.specs.Entries.{entry_at}
-use Rattle.tree_definitions.specs.Tree.{small_blocks_of}
+use Rattle.tree_definitions.specs.Tree.{dir_blocks, small_blocks, small_blocks_of}
 use Rattle.disk_definitions.specs.Store.{Store, StoredNode, StoredEntry, Use}
 use Rattle.disk_definitions.specs.Store.Use.{Fresh, Bytes, Empty, Entries}
 
@@ -29,30 +30,26 @@ pub record Naming : Type 0 where
 
 -- 1 for a file, 2 for a directory, 3 for a link
 abbrev pub kind_of : Node → ℕ
-kind_of (Dir entries blocks) = 2
-kind_of (File cells links) = 1
-kind_of (Link target links) = 3
+kind_of (Dir entries blocks) = KIND_DIRECTORY
+kind_of (File cells links) = KIND_FILE
+kind_of (Link target links) = KIND_LINK
 
 -- the small blocks of a node
 abbrev pub blocks_of : Option Node → ℕ
 blocks_of None = 0
-blocks_of (Some (Dir entries blocks)) = blocks
-blocks_of (Some (File cells links)) = small_blocks_of (length cells)
-blocks_of (Some (Link target links)) = 0
+blocks_of (Some node) = small_blocks node
 
 -- the node has a large block
 abbrev pub has_large : Option Node → Bool
 has_large None = false
 has_large (Some (Dir entries blocks)) = false
-has_large (Some (File cells links)) = nat_lt 65536 (length cells)
+has_large (Some (File cells links)) = nat_lt SMALL_BYTES_MAX (length cells)
 has_large (Some (Link target links)) = false
 
 -- the blocks of a directory
 abbrev pub room_in : Option Node → ℕ
 room_in None = 0
-room_in (Some (Dir entries blocks)) = blocks
-room_in (Some (File cells links)) = 0
-room_in (Some (Link target links)) = 0
+room_in (Some node) = dir_blocks node
 
 -- the birth of a name in a directory
 abbrev pub find_in : Option Node → List ℕ → Option ℕ
@@ -75,19 +72,19 @@ first_blocks count block j = if nat_lt j count then block j else 0
 -- the inode of a node with these blocks
 abbrev pub inode_of : ℕ → (ℕ → ℕ) → ℕ → Node → StoredNode
 inode_of stamp block large (Dir entries blocks) =
-    record { kind = 2; links = 1; size = length entries; birth = stamp; blocks = blocks; small = first_blocks blocks block; large = 0; target = [] }
+    record { kind = KIND_DIRECTORY; links = 1; size = length entries; birth = stamp; blocks = blocks; small = first_blocks blocks block; large = 0; target = [] }
 inode_of stamp block large (File cells links) = record {
-  kind = 1;
+  kind = KIND_FILE;
   links = links;
   size = length cells;
   birth = stamp;
   blocks = small_blocks_of (length cells);
   small = first_blocks (small_blocks_of (length cells)) block;
-  large = if nat_lt 65536 (length cells) then large + 1 else 0;
+  large = if nat_lt SMALL_BYTES_MAX (length cells) then large + 1 else 0;
   target = [];
 }
 inode_of stamp block large (Link target links) =
-    record { kind = 3; links = links; size = length target; birth = stamp; blocks = 0; small = first_blocks 0 block; large = 0; target = target }
+    record { kind = KIND_LINK; links = links; size = length target; birth = stamp; blocks = 0; small = first_blocks 0 block; large = 0; target = target }
 
 abbrev pub inode_by : Naming → ℕ → Option Node → Option StoredNode
 inode_by n b None = None
@@ -115,14 +112,14 @@ entry_of n name b = record { name = name; inode = n.inode b; kind = n.kind b }
 
 -- what stands at a place of a directory with these blocks
 abbrev pub place_of : (ℕ → ℕ → Option StoredEntry) → (ℕ → ℕ) → ℕ → Option StoredEntry
-place_of place block q = place (block (q / 56)) (q % 56)
+place_of place block q = place (block (q / BLOCK_ENTRIES)) (q % BLOCK_ENTRIES)
 
 abbrev pub dir_place : Store → Naming → ℕ → ℕ → Option StoredEntry
 dir_place s n d = place_of s.place (n.block d)
 
 -- a byte of a file: the first 65,536 stand in small blocks, the others in the large one
 abbrev pub file_byte : Store → Naming → ℕ → ℕ → ℕ
-file_byte s n b j = if nat_lt j 65536 then s.byte (n.block b (j / 4096)) (j % 4096) else s.large_byte (n.large b) (j - 65536)
+file_byte s n b j = if nat_lt j SMALL_BYTES_MAX then s.byte (n.block b (j / SMALL_BLOCK_BYTES)) (j % SMALL_BLOCK_BYTES) else s.large_byte (n.large b) (j - SMALL_BYTES_MAX)
 
 -- a byte that a cell allows: a doubtful cell allows any
 abbrev pub Allows : Cell → ℕ → Type 0
@@ -139,10 +136,10 @@ pub record Pictures (s : Store) (at : Nodes) (n : Naming) : Type 0 where
   pub owned : (b j : ℕ) → j < blocks_of (at b) → n.owner (n.block b j) ≡ Some (b, j)
   pub owners : (k b j : ℕ) → n.owner k ≡ Some (b, j) → (n.block b j ≡ k) × (j < blocks_of (at b))
   pub uses : (k : ℕ) → s.use_of k ≡ use_for (n.was k) at (n.owner k)
-  pub emptied : (k p : ℕ) → p < 56 → s.use_of k ≡ Empty → s.place k p ≡ None
+  pub emptied : (k p : ℕ) → p < BLOCK_ENTRIES → s.use_of k ≡ Empty → s.place k p ≡ None
   pub larges : (b : ℕ) → has_large (at b) ≡ true → n.large_owner (n.large b) ≡ Some b
   pub large_owners : (g b : ℕ) → n.large_owner g ≡ Some b → (n.large b ≡ g) × (has_large (at b) ≡ true)
   pub large_bits : (g : ℕ) → s.large_bit g ≡ is_some (n.large_owner g)
-  pub names : (d b : ℕ) (m : List ℕ) → find_in (at d) m ≡ Some b → (n.spot d m < 56 * room_in (at d)) × (dir_place s n d (n.spot d m) ≡ Some (entry_of n m b))
-  pub places : (d q : ℕ) (e : StoredEntry) → q < 56 * room_in (at d) → dir_place s n d q ≡ Some e → (n.spot d e.name ≡ q) × (is_some (find_in (at d) e.name) ≡ true)
+  pub names : (d b : ℕ) (m : List ℕ) → find_in (at d) m ≡ Some b → (n.spot d m < BLOCK_ENTRIES * room_in (at d)) × (dir_place s n d (n.spot d m) ≡ Some (entry_of n m b))
+  pub places : (d q : ℕ) (e : StoredEntry) → q < BLOCK_ENTRIES * room_in (at d) → dir_place s n d q ≡ Some e → (n.spot d e.name ≡ q) × (is_some (find_in (at d) e.name) ≡ true)
   pub bytes : (b j : ℕ) (c : Cell) → cell_in (at b) j ≡ Some c → Allows c (file_byte s n b j)

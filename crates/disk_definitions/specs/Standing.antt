@@ -1,22 +1,23 @@
 -- A disk stands for a tree.
 use Rattle.std.specs.Prelude.{◌≡◌, ◌≤◌, ◌<◌, ℕ, ◌*◌, ◌^◌, Bool, true, Option, Some, None, List, [], ◌∷◌, is_some}
 use Rattle.std.specs.Option.{option_and_then}
+use Rattle.frang_base.specs.declared.limits.TheConstants.{RUN_LINES_END, RUN_VERSIONS_MAX, SEGMENT_BLOCKS, SEGMENT_INODES, SMALL_BLOCK_SECTORS}
 use Rattle.tree_definitions.specs.Tree.{FileTree, node_at}
 use Rattle.tree_laws.specs.WellFormed.{IsWellFormed}
 use Rattle.sector_definitions.specs.declared.param.Param.{Param}
 use Rattle.sector_definitions.specs.declared.region.Region.TheVariants as region
-use Rattle.sector_definitions.specs.Bytes.{number_at}
+use Rattle.sector_bytes.specs.Blocks.{version_of}
 use Rattle.sector_definitions.specs.Regions.{sector_of}
 use Rattle.sector_definitions.specs.Params.{param_in}
 use Rattle.sector_definitions.specs.Inodes.{inode_in}
-use Rattle.disk_definitions.specs.Disks.{Sectors}
+use Rattle.sector_bytes.specs.Sectors.{Sectors}
 use Rattle.disk_definitions.specs.Store.{Use, store_of, segment_at, directory_at}
 use Rattle.disk_definitions.specs.Store.Use.{Empty, Entries}
 use Rattle.disk_definitions.specs.Naming.{Naming, Nodes, Pictures, find_in}
 
--- the version of a sector: its first eight bytes
+-- the version of a sector
 abbrev pub version_at : Sectors → ℕ → ℕ
-version_at sectors sector = number_at 8 0 (sectors sector)
+version_at sectors sector = version_of (sectors sector)
 
 -- the block is or was a directory's
 abbrev pub IsMetadata : Use → Type 0
@@ -27,14 +28,14 @@ IsMetadata _ = ⊥
 -- every inode, segment and directory sector is in its grammar
 pub record IsInGrammar (segments : ℕ) (sectors : Sectors) : Type 0 where
   pub bitmaps : (k : ℕ) → k < segments → is_some (segment_at sectors k) ≡ true
-  pub inodes : (i : ℕ) → i < 64 * segments → is_some (inode_in (sectors (sector_of (region.Inode i)))) ≡ true
-  pub directories : (k p : ℕ) → k < 1024 * segments → p < 8 → IsMetadata ((store_of segments sectors).use_of k) → is_some (directory_at sectors k p) ≡ true
+  pub inodes : (i : ℕ) → i < SEGMENT_INODES * segments → is_some (inode_in (sectors (sector_of (region.Inode i)))) ≡ true
+  pub directories : (k p : ℕ) → k < SEGMENT_BLOCKS * segments → p < SMALL_BLOCK_SECTORS → IsMetadata ((store_of segments sectors).use_of k) → is_some (directory_at sectors k p) ≡ true
 
 -- the versions of these sectors are at most so many
 pub record HasVersionsUpTo (most segments : ℕ) (sectors : Sectors) : Type 0 where
   pub bitmaps : (k : ℕ) → k < segments → version_at sectors (sector_of (region.Segment k)) ≤ most
-  pub inodes : (i : ℕ) → i < 64 * segments → version_at sectors (sector_of (region.Inode i)) ≤ most
-  pub directories : (k p : ℕ) → k < 1024 * segments → p < 8 → IsMetadata ((store_of segments sectors).use_of k) → version_at sectors (sector_of (region.Small k p)) ≤ most
+  pub inodes : (i : ℕ) → i < SEGMENT_INODES * segments → version_at sectors (sector_of (region.Inode i)) ≤ most
+  pub directories : (k p : ℕ) → k < SEGMENT_BLOCKS * segments → p < SMALL_BLOCK_SECTORS → IsMetadata ((store_of segments sectors).use_of k) → version_at sectors (sector_of (region.Small k p)) ≤ most
 
 -- the birth that a walk along names reaches from a birth
 abbrev pub reached_from : Nodes → ℕ → List (List ℕ) → Option ℕ
@@ -56,10 +57,10 @@ pub record StandsFor (sectors : Sectors) (tree : FileTree) : Type 0 where
   pub parameters : param_in (sectors 0) ≡ Some param
   pub segments : tree.segments ≡ param.segments
   pub grammar : IsInGrammar param.segments sectors
-  pub versions : HasVersionsUpTo (131072 * param.run) param.segments sectors
+  pub versions : HasVersionsUpTo (RUN_VERSIONS_MAX * param.run) param.segments sectors
   pub well_formed : IsWellFormed tree
   pub reached : IsReached (node_at tree)
   pub naming : Naming
   pub picture : Pictures (store_of param.segments sectors) (node_at tree) naming
   pub root : naming.inode 0 ≡ 0
-  pub births : (b : ℕ) → is_some (node_at tree b) ≡ true → 2 ^ 32 ≤ b → naming.stamp b ≡ b
+  pub births : (b : ℕ) → is_some (node_at tree b) ≡ true → RUN_LINES_END ≤ b → naming.stamp b ≡ b

@@ -2,6 +2,7 @@
 -- directories by their places, the bytes of blocks. Numbers past the disk's segments say nothing.
 use Rattle.std.specs.Prelude.{ℕ, ◌+◌, ◌*◌, ◌/◌, ◌%◌, Bool, true, false, ◌==◌, ◌&&◌, if◌then◌else◌, nat_lt, Option, Some, None, List, [], ◌∷◌, take, slice_index}
 use Rattle.std.specs.List.{slice_get}
+use Rattle.frang_base.specs.declared.limits.TheConstants.{KIND_LINK, SECTOR_BYTES, SECTOR_ENTRIES, SEGMENT_BLOCKS, SEGMENT_INODES}
 use Rattle.frang_base.specs.declared.bitmap.Bitmap.{Bitmap}
 use Rattle.sector_definitions.specs.declared.region.Region.TheVariants as region
 use Rattle.sector_definitions.specs.declared.inode.Inode.{Inode}
@@ -11,7 +12,7 @@ use Rattle.sector_definitions.specs.Regions.{sector_of}
 use Rattle.sector_definitions.specs.Inodes.{inode_in, is_free_inode}
 use Rattle.sector_definitions.specs.Directories.{directory_in, is_free_place, name_in}
 use Rattle.sector_definitions.specs.Bitmaps.{bitmap_in, inode_bit, block_state}
-use Rattle.disk_definitions.specs.Disks.{Sectors}
+use Rattle.sector_bytes.specs.Sectors.{Sectors}
 
 -- an inode in use: its kind is 1 for a file, 2 for a directory, 3 for a link; the first `blocks` of its small blocks are in use
 pub record StoredNode : Type 0 where
@@ -55,7 +56,7 @@ pub record Store : Type 0 where
 
 -- the node of an inode in use
 abbrev pub stored : Inode → StoredNode
-stored x = record { kind = x.kind; links = x.links; size = x.size; birth = x.birth; blocks = x.blocks; small = slice_index x.small; large = x.large; target = if x.kind == 3 then take x.size x.target else [] }
+stored x = record { kind = x.kind; links = x.links; size = x.size; birth = x.birth; blocks = x.blocks; small = slice_index x.small; large = x.large; target = if x.kind == KIND_LINK then take x.size x.target else [] }
 
 -- the node of an inode, where it isn't free
 abbrev pub stored_node : Option Inode → Option StoredNode
@@ -105,11 +106,11 @@ directory_at sectors k p = directory_in (sectors (sector_of (region.Small k p)))
 -- what the sectors of so many segments say
 abbrev pub store_of : ℕ → Sectors → Store
 store_of segments sectors = record {
-  inode = λ i. if nat_lt i (64 * segments) then stored_node (inode_in (sectors (sector_of (region.Inode i)))) else None;
-  bit = λ i. nat_lt i (64 * segments) && bit_in (segment_at sectors (i / 64)) (i % 64);
-  use_of = λ k. if nat_lt k (1024 * segments) then use_in (segment_at sectors (k / 1024)) (k % 1024) else Fresh;
-  place = λ k p. if nat_lt k (1024 * segments) then entry_in (directory_at sectors k (p / 7)) (p % 7) else None;
+  inode = λ i. if nat_lt i (SEGMENT_INODES * segments) then stored_node (inode_in (sectors (sector_of (region.Inode i)))) else None;
+  bit = λ i. nat_lt i (SEGMENT_INODES * segments) && bit_in (segment_at sectors (i / SEGMENT_INODES)) (i % SEGMENT_INODES);
+  use_of = λ k. if nat_lt k (SEGMENT_BLOCKS * segments) then use_in (segment_at sectors (k / SEGMENT_BLOCKS)) (k % SEGMENT_BLOCKS) else Fresh;
+  place = λ k p. if nat_lt k (SEGMENT_BLOCKS * segments) then entry_in (directory_at sectors k (p / SECTOR_ENTRIES)) (p % SECTOR_ENTRIES) else None;
   large_bit = λ g. nat_lt g segments && large_in (segment_at sectors g);
-  byte = λ k j. slice_index (sectors (sector_of (region.Small k (j / 512)))) (j % 512);
-  large_byte = λ g j. slice_index (sectors (sector_of (region.Large g (j / 512)))) (j % 512);
+  byte = λ k j. slice_index (sectors (sector_of (region.Small k (j / SECTOR_BYTES)))) (j % SECTOR_BYTES);
+  large_byte = λ g j. slice_index (sectors (sector_of (region.Large g (j / SECTOR_BYTES)))) (j % SECTOR_BYTES);
 }

@@ -5,10 +5,11 @@ ghost use Rattle.std.specs.List.Sorted.{IsStrictlySortedBy};
 ghost use Rattle.std.specs.Map.{keys_of, values_of};
 ghost use Rattle.std.specs.BTreeMap.{insert_entry};
 ghost use Rattle.std.specs.Ordering.{nat_cmp};
-ghost use Rattle.disk_definitions.specs.Disks.{sectors_of};
-ghost use Rattle.sector_definitions.specs.Bytes.{zeros};
+ghost use Rattle.frang_base.specs.declared.limits.TheConstants.{SECTOR_BYTES};
+ghost use Rattle.sector_bytes.specs.Sectors.{sectors_of};
 
 use frang_base::{Block, NoMemory, Sector};
+use sector_bytes::zero_block;
 use sqlite_items::Boxed;
 use std::alloc::Global;
 use std::collections::BTreeMap;
@@ -25,12 +26,13 @@ impl Model for Disk {
     ghost use Rattle.std.specs.Prelude.{List, ℕ, ◌≡◌, ◌<◌, ◌^◌, length};
     ghost use Rattle.std.specs.List.{All};
     ghost use Rattle.std.specs.Map.{keys_of, values_of};
+    ghost use Rattle.frang_base.specs.declared.limits.TheConstants.{SECTOR_BYTES};
 
     ghost Value = { List (ℕ × List ℕ) };
 
     ghost view = { λ d. d.blocks.entries };
 
-    ghost invariant = { λ d. All (λ sector. sector < 2 ^ 64) (keys_of d.blocks.entries) × All (λ block. length block ≡ 512) (values_of d.blocks.entries) };
+    ghost invariant = { λ d. All (λ sector. sector < 2 ^ 64) (keys_of d.blocks.entries) × All (λ block. length block ≡ SECTOR_BYTES) (values_of d.blocks.entries) };
 }
 
 impl Disk {
@@ -59,7 +61,7 @@ impl Disk {
         ensures len { result ≡ length self.now }
         ensures ascending { IsStrictlySortedBy nat_cmp (keys_of self.now) }
         ensures numbers { All (λ sector. sector < 2 ^ 64) (keys_of self.now) }
-        ensures blocks { All (λ block. length block ≡ 512) (values_of self.now) }
+        ensures blocks { All (λ block. length block ≡ SECTOR_BYTES) (values_of self.now) }
     {
         self.blocks.len()
     }
@@ -80,11 +82,4 @@ impl Disk {
             None => zero_block(),
         }
     }
-}
-
-#[tactic(auto, unfolding(sector_definitions::specs::Bytes::zeros))]
-fn zero_block() -> Block
-    ensures { result ≡ zeros 512 }
-{
-    [0; 512]
 }

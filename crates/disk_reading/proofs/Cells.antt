@@ -7,7 +7,7 @@ use Rattle.tree_definitions.specs.declared.cells.Cell.TheVariants.{Byte}
 use Rattle.tree_definitions.specs.Apply.{overwritten}
 use Rattle.sector_definitions.specs.declared.region.Region.TheVariants as region
 use Rattle.sector_definitions.specs.Regions.{sector_of}
-use Rattle.disk_definitions.specs.Disks.{Sectors}
+use Rattle.sector_bytes.specs.Sectors.{Sectors}
 use Rattle.disk_definitions.specs.Store.{StoredNode, store_of}
 use Rattle.standing_laws.specs.ReadTree.{byte_at, cells_to}
 use Rattle.standing_laws.proofs.Pictured.{length_cells}

@@ -22,7 +22,7 @@ use Rattle.bitmap_block.specs.declared.state.BlockState.{BlockState}
 use Rattle.bitmap_block.specs.declared.state.BlockState.TheVariants as state
 use Rattle.disk_definitions.specs.Store.Use.{Fresh}
 use Rattle.standing_laws.proofs.SoundStanding.{disk_range}
-use Rattle.disk_definitions.specs.Disks.{Sectors}
+use Rattle.sector_bytes.specs.Sectors.{Sectors}
 use Rattle.disk_definitions.specs.Store.{StoredNode, StoredEntry, stored_node, stored_entry, entry_in, use_by, use_in, bit_in, large_in, store_of, stored, entered}
 use Rattle.standing_laws.proofs.Shapes.{file_shape, dir_shape, link_shape}
 use Rattle.disk_reading.specs.Seen.{use_of_state}

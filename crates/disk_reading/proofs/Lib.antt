@@ -9,3 +9,4 @@ pub mod NamesFound
 pub mod Tested
 pub mod Assembled
 pub mod Treed
+pub mod SectorFits

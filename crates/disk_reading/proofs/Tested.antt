@@ -4,7 +4,7 @@ use Rattle.std.proofs.lemmas.Bool.{and_parts, and_from}
 use Rattle.sector_definitions.specs.declared.region.Region.TheVariants as region
 use Rattle.sector_definitions.specs.Regions.{sector_of}
 use Rattle.sector_definitions.specs.Inodes.{inode_in}
-use Rattle.disk_definitions.specs.Disks.{Sectors}
+use Rattle.sector_bytes.specs.Sectors.{Sectors}
 use Rattle.disk_definitions.specs.Store.{Store, Use, segment_at, directory_at, store_of}
 use Rattle.disk_definitions.specs.Store.Use.{Fresh, Bytes, Empty, Entries as OfEntries}
 use Rattle.disk_definitions.specs.Standing.{version_at, IsMetadata, IsInGrammar, HasVersionsUpTo}

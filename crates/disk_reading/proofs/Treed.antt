@@ -8,13 +8,13 @@ use Rattle.tree_definitions.specs.declared.node.Node.{Node}
 use Rattle.tree_definitions.specs.declared.node.Node.TheVariants.{Dir, File, Link}
 use Rattle.tree_definitions.specs.Tree.{FileTree, node_at, count_of, small_blocks, file_blocks, dir_blocks, large_blocks}
 use Rattle.tree_laws.proofs.Pairs.{birth_exact}
-use Rattle.script_definitions.specs.SaidReading.{is_target, is_target_byte}
+use Rattle.frang_base.specs.Name.{is_target, is_target_byte}
 use Rattle.sector_definitions.specs.declared.param.Param.{Param}
-use Rattle.sector_definitions.specs.Bytes.{same_bytes}
+use Rattle.std.specs.Str.{bytes_eq}
 use Rattle.sector_definitions.specs.Params.{param_in, param_fits, param_fields, param_bytes}
 use Rattle.sector_definitions.proofs.Readings.{and_l, and_r}
 use Rattle.sector_definitions.proofs.ParamLaws.{few_segments}
-use Rattle.disk_definitions.specs.Disks.{Sectors}
+use Rattle.sector_bytes.specs.Sectors.{Sectors}
 use Rattle.disk_definitions.specs.Store.{store_of}
 use Rattle.disk_definitions.specs.Standing.{StandsFor}
 use Rattle.tree_edits.specs.Counts.{IsWithin}
@@ -34,13 +34,13 @@ use Rattle.disk_reading.specs.Tests.{IsSoundReading}
 
 -- a disk has at least one segment
 pub some_segments : (block : List ℕ) (p : Param) → param_in block ≡ Some p → 1 ≤ p.segments
-some_segments block p e = go (param_fits (param_fields block) && same_bytes (param_bytes (param_fields block)) block) refl e
+some_segments block p e = go (param_fits (param_fields block) && bytes_eq (param_bytes (param_fields block)) block) refl e
   where
     some : (p : Param) → param_fits p ≡ true → 1 ≤ p.segments
     some p h = let f : nat_le 1 p.segments ≡ true = search (and_l, and_r) depth 8 in leb-true 1 p.segments f
 
-    go : (b : Bool) → (param_fits (param_fields block) && same_bytes (param_bytes (param_fields block)) block) ≡ b → cond b (Some (param_fields block)) None ≡ Some p → 1 ≤ p.segments
-    go true h e = let s : param_fields block ≡ p = cc in some p (subst (λ q. param_fits q ≡ true) s (and_parts (param_fits (param_fields block)) (same_bytes (param_bytes (param_fields block)) block) h).0)
+    go : (b : Bool) → (param_fits (param_fields block) && bytes_eq (param_bytes (param_fields block)) block) ≡ b → cond b (Some (param_fields block)) None ≡ Some p → 1 ≤ p.segments
+    go true h e = let s : param_fields block ≡ p = cc in some p (subst (λ q. param_fits q ≡ true) s (and_parts (param_fits (param_fields block)) (bytes_eq (param_bytes (param_fields block)) block) h).0)
     go false h e = absurd (cc)
 
 module _ (most segments : ℕ) (sectors : Sectors) (few : segments ≤ 64) (sound : IsSound most segments sectors) (nodes : List (ℕ × Node)) (is : nodes ≡ nodes_to (store_of segments sectors) (64 * segments)) where

@@ -1,5 +1,6 @@
 -- Where the bytes of a file lie, sector by sector.
 use Rattle.std.specs.Prelude.{◌≡◌, ◌≤◌, ◌<◌, ℕ, ◌-◌, ◌*◌, ◌/◌, ◌%◌, Bool, true, false, if◌then◌else◌, nat_lt, Option, Some, None, List}
+use Rattle.frang_base.specs.declared.limits.TheConstants.{SMALL_BLOCK_SECTORS, SMALL_SECTORS_MAX}
 use Rattle.sector_definitions.specs.declared.region.Region.TheVariants as region
 use Rattle.sector_definitions.specs.Regions.{sector_of}
 use Rattle.tree_definitions.specs.Entries.{Entries}
@@ -13,7 +14,9 @@ use Rattle.standing_laws.specs.Soundness.{entries_agree, node_agrees}
 
 -- the sector of 512 bytes of a file, counted from its start: the first 128 stand in small blocks, the others in the large one
 abbrev pub data_sector : StoredNode → ℕ → ℕ
-data_sector x part = if nat_lt part 128 then sector_of (region.Small (x.small (part / 8)) (part % 8)) else sector_of (region.Large (x.large - 1) (part - 128))
+data_sector x part =
+    if nat_lt part SMALL_SECTORS_MAX then sector_of (region.Small (x.small (part / SMALL_BLOCK_SECTORS)) (part % SMALL_BLOCK_SECTORS))
+    else sector_of (region.Large (x.large - 1) (part - SMALL_SECTORS_MAX))
 
 -- the entries of the first n places, or that they don't agree
 abbrev pub AreRead : Store → (ℕ → Option StoredEntry) → ℕ → Option Entries → Type 0

@@ -1,9 +1,10 @@
 -- Tests of single sectors: in the grammar, with a version up to the most.
 use Rattle.std.specs.Prelude.{ℕ, ◌*◌, Bool, true, false, ◌&&◌, if◌then◌else◌, nat_le, is_some}
+use Rattle.frang_base.specs.declared.limits.TheConstants.{SEGMENT_BLOCKS, SEGMENT_INODES, SMALL_BLOCK_SECTORS}
 use Rattle.sector_definitions.specs.declared.region.Region.TheVariants as region
 use Rattle.sector_definitions.specs.Regions.{sector_of}
 use Rattle.sector_definitions.specs.Inodes.{inode_in}
-use Rattle.disk_definitions.specs.Disks.{Sectors}
+use Rattle.sector_bytes.specs.Sectors.{Sectors}
 use Rattle.disk_definitions.specs.Store.{Store, Use, segment_at, directory_at}
 use Rattle.disk_definitions.specs.Store.Use.{Fresh, Bytes, Empty, Entries as OfEntries}
 use Rattle.disk_definitions.specs.Standing.{version_at}
@@ -25,11 +26,11 @@ part_fits most sectors k p = is_some (directory_at sectors k p) && nat_le (versi
 abbrev pub block_fits : ℕ → Sectors → Use → ℕ → Bool
 block_fits most sectors Fresh k = true
 block_fits most sectors Bytes k = true
-block_fits most sectors Empty k = all_below 8 (part_fits most sectors k)
-block_fits most sectors OfEntries k = all_below 8 (part_fits most sectors k)
+block_fits most sectors Empty k = all_below SMALL_BLOCK_SECTORS (part_fits most sectors k)
+block_fits most sectors OfEntries k = all_below SMALL_BLOCK_SECTORS (part_fits most sectors k)
 
 -- the sectors of so many segments, whose blocks have these uses
 abbrev pub sectors_fit : ℕ → ℕ → Store → Sectors → Bool
 sectors_fit most segments s sectors =
-    all_below segments (segment_fits most sectors) && all_below (64 * segments) (inode_fits most sectors)
-    && all_below (1024 * segments) (λ k. block_fits most sectors (s.use_of k) k)
+    all_below segments (segment_fits most sectors) && all_below (SEGMENT_INODES * segments) (inode_fits most sectors)
+    && all_below (SEGMENT_BLOCKS * segments) (λ k. block_fits most sectors (s.use_of k) k)

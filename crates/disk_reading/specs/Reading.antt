@@ -1,7 +1,7 @@
 -- What reading a disk gives.
 use Rattle.std.specs.Prelude.{Option, Some, None}
 use Rattle.tree_definitions.specs.Tree.{FileTree}
-use Rattle.disk_definitions.specs.Disks.{Sectors}
+use Rattle.sector_bytes.specs.Sectors.{Sectors}
 use Rattle.disk_definitions.specs.Standing.{StandsFor}
 use Rattle.standing_laws.specs.Laws.{StandsByInodes, HasNoDoubt}
 

@@ -2,7 +2,7 @@
 use Rattle.std.specs.Prelude.{ℕ, Option, Some, None, List}
 use Rattle.bitmap_block.specs.declared.state.BlockState.{BlockState}
 use Rattle.bitmap_block.specs.declared.state.BlockState.TheVariants as state
-use Rattle.disk_definitions.specs.Disks.{sectors_of}
+use Rattle.sector_bytes.specs.Sectors.{sectors_of}
 use Rattle.disk_definitions.specs.Store.{Store, Use, store_of}
 use Rattle.disk_definitions.specs.Store.Use.{Fresh, Bytes, Empty, Entries as OfEntries}
 

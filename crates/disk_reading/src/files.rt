@@ -6,31 +6,34 @@ ghost use Rattle.standing_laws.specs.ReadTree.{byte_at, cells_to};
 ghost use Rattle.disk_reading.specs.Files as files;
 ghost use Rattle.disk_reading.specs.Seen.{store_in};
 
-use crate::sectors::{PARTS_A_BLOCK, large_sector, part_sector};
 use disk_definitions::Disk;
+use frang_base::limits::{
+    LARGE_BLOCK_SECTORS, SECTOR_BYTES, SEGMENTS_MAX, SMALL_BLOCK_SECTORS, SMALL_SECTORS_MAX,
+};
 use frang_base::{NoMemory, Sector};
+use frang_layout::{Region, sector_of};
 use sector_definitions::Inode;
 use std::alloc::Global;
 use tree_definitions::Cells;
 
-const SECTOR_BYTES: usize = 512;
-// The sectors of a file that stand in its small blocks.
-const SMALL_PARTS: u32 = 128;
-
+// The sector of a file's bytes, counted from its start.
 fn data_sector(inode: &Inode, part: u32) -> Sector
-    requires part { part < 2176 }
-    requires large { inode.now.large ≤ 64 }
-    requires has { 128 ≤ part → 0 < inode.now.large }
+    requires part { part < SMALL_SECTORS_MAX + LARGE_BLOCK_SECTORS }
+    requires large { inode.now.large ≤ SEGMENTS_MAX }
+    requires has { SMALL_SECTORS_MAX ≤ part → 0 < inode.now.large }
     ensures { result.0 ≡ files.data_sector (stored inode.now) part }
 {
-    if part < SMALL_PARTS {
-        part_sector(
-            inode.small[(part / PARTS_A_BLOCK) as usize],
-            part % PARTS_A_BLOCK,
-        )
+    sector_of(&if part < SMALL_SECTORS_MAX {
+        Region::Small {
+            block: inode.small[(part / SMALL_BLOCK_SECTORS) as usize],
+            part: (part % SMALL_BLOCK_SECTORS) as u8,
+        }
     } else {
-        large_sector(inode.large - 1, part - SMALL_PARTS)
-    }
+        Region::Large {
+            block: inode.large - 1,
+            part: (part - SMALL_SECTORS_MAX) as u16,
+        }
+    })
 }
 
 // Adds the bytes of a sector of a file, up to its size.
@@ -42,10 +45,10 @@ fn add_sector(
     part: u32,
 ) -> Result<(), NoMemory>
     requires file { is_file_inode inode.now ≡ true }
-    requires large { inode.now.large ≤ 64 }
-    requires within { part * 512 < inode.now.size }
-    requires before { cells.old ≡ cells_to (byte_at (store_in segments disk.now) (stored inode.now)) (part * 512) }
-    ensures { OnOk result (cells.new ≡ cells_to (byte_at (store_in segments disk.now) (stored inode.now)) (min (part * 512 + 512) inode.now.size)) }
+    requires large { inode.now.large ≤ SEGMENTS_MAX }
+    requires within { part * SECTOR_BYTES < inode.now.size }
+    requires before { cells.old ≡ cells_to (byte_at (store_in segments disk.now) (stored inode.now)) (part * SECTOR_BYTES) }
+    ensures { OnOk result (cells.new ≡ cells_to (byte_at (store_in segments disk.now) (stored inode.now)) (min (part * SECTOR_BYTES + SECTOR_BYTES) inode.now.size)) }
 {
     let block = disk.get(data_sector(inode, part));
     let off = part as usize * SECTOR_BYTES;
@@ -62,7 +65,7 @@ pub(crate) fn read_cells(
     inode: &Inode,
 ) -> Result<Cells, NoMemory>
     requires file { is_file_inode inode.now ≡ true }
-    requires large { inode.now.large ≤ 64 }
+    requires large { inode.now.large ≤ SEGMENTS_MAX }
     ensures { IfOk result (λ cells. cells ≡ cells_to (byte_at (store_in segments disk.now) (stored inode.now)) inode.now.size) }
 {
     let mut cells = Cells::new(alloc);

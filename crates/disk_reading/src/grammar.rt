@@ -1,23 +1,22 @@
 // Whether the sectors of a disk are in their grammar, with versions up to the most.
 ghost use Rattle.std.specs.Prelude.{◌≡◌, ◌≤◌, ◌*◌, ◌<◌, ◌^◌};
-ghost use Rattle.disk_definitions.specs.Disks.{sectors_of};
+ghost use Rattle.sector_bytes.specs.Sectors.{sectors_of};
 ghost use Rattle.standing_laws.specs.Below.{all_below};
 ghost use Rattle.disk_reading.specs.Seen.{store_in, use_of_state};
 ghost use Rattle.disk_reading.specs.Fits as fits;
 
-use crate::sectors::{
-    BLOCKS_A_SEGMENT, INODES_A_SEGMENT, PARTS_A_BLOCK, inode_sector, part_sector, segment_sector,
-    use_of,
-};
+use crate::sectors::use_of;
 use bitmap_block::BlockState;
 use byteorder::{ByteOrder, LittleEndian};
 use disk_definitions::Disk;
+use frang_base::limits::{SEGMENT_BLOCKS, SEGMENT_INODES, SEGMENTS_MAX, SMALL_BLOCK_SECTORS};
+use frang_layout::{Region, sector_of};
 
 #[tactic(auto, unfolding(crate::specs::Fits::segment_fits))]
 fn segment_fits(disk: &Disk, most: u64, k: u32) -> bool
     ensures { result ≡ fits.segment_fits most (sectors_of disk.now) k }
 {
-    let block = disk.get(segment_sector(k));
+    let block = disk.get(sector_of(&Region::Segment(k)));
     bitmap_block::decode(&block).is_some() && LittleEndian::read_u64(&block) <= most
 }
 
@@ -25,24 +24,24 @@ fn segment_fits(disk: &Disk, most: u64, k: u32) -> bool
 fn inode_fits(disk: &Disk, most: u64, i: u32) -> bool
     ensures { result ≡ fits.inode_fits most (sectors_of disk.now) i }
 {
-    let block = disk.get(inode_sector(i));
+    let block = disk.get(sector_of(&Region::Inode(i)));
     inode_block::decode(&block).is_some() && LittleEndian::read_u64(&block) <= most
 }
 
 #[tactic(auto, unfolding(crate::specs::Fits::part_fits))]
-fn part_fits(disk: &Disk, most: u64, block: u32, p: u32) -> bool
-    ensures { result ≡ fits.part_fits most (sectors_of disk.now) block p }
+fn part_fits(disk: &Disk, most: u64, block: u32, part: u8) -> bool
+    ensures { result ≡ fits.part_fits most (sectors_of disk.now) block part }
 {
-    let part = disk.get(part_sector(block, p));
-    dir_block::decode(&part).is_some() && LittleEndian::read_u64(&part) <= most
+    let bytes = disk.get(sector_of(&Region::Small { block, part }));
+    dir_block::decode(&bytes).is_some() && LittleEndian::read_u64(&bytes) <= most
 }
 
 #[tactic(auto, using(standing_laws::proofs::Bounded::all_more))]
 fn parts_fit(disk: &Disk, most: u64, block: u32) -> bool
-    ensures { result ≡ all_below 8 (fits.part_fits most (sectors_of disk.now) block) }
+    ensures { result ≡ all_below SMALL_BLOCK_SECTORS (fits.part_fits most (sectors_of disk.now) block) }
 {
     let mut all = true;
-    for p in 0..PARTS_A_BLOCK {
+    for p in 0..SMALL_BLOCK_SECTORS as u8 {
         all = all && part_fits(disk, most, block, p);
     }
     all
@@ -61,7 +60,7 @@ fn block_fits(disk: &Disk, most: u64, state: BlockState, block: u32) -> bool
 
 #[tactic(auto, using(standing_laws::proofs::Bounded::all_more))]
 fn segments_fit(disk: &Disk, most: u64, segments: u32) -> bool
-    requires { segments ≤ 64 }
+    requires { segments ≤ SEGMENTS_MAX }
     ensures { result ≡ all_below segments (fits.segment_fits most (sectors_of disk.now)) }
 {
     let mut all = true;
@@ -73,11 +72,11 @@ fn segments_fit(disk: &Disk, most: u64, segments: u32) -> bool
 
 #[tactic(auto, using(standing_laws::proofs::Bounded::all_more))]
 fn inodes_fit(disk: &Disk, most: u64, segments: u32) -> bool
-    requires { segments ≤ 64 }
-    ensures { result ≡ all_below (64 * segments) (fits.inode_fits most (sectors_of disk.now)) }
+    requires { segments ≤ SEGMENTS_MAX }
+    ensures { result ≡ all_below (SEGMENT_INODES * segments) (fits.inode_fits most (sectors_of disk.now)) }
 {
     let mut all = true;
-    for i in 0..INODES_A_SEGMENT * segments {
+    for i in 0..SEGMENT_INODES * segments {
         all = all && inode_fits(disk, most, i);
     }
     all
@@ -85,11 +84,11 @@ fn inodes_fit(disk: &Disk, most: u64, segments: u32) -> bool
 
 #[tactic(auto, using(standing_laws::proofs::Bounded::all_more))]
 fn blocks_fit(disk: &Disk, most: u64, segments: u32) -> bool
-    requires { segments ≤ 64 }
-    ensures { result ≡ all_below (1024 * segments) (λ k. fits.block_fits most (sectors_of disk.now) ((store_in segments disk.now).use_of k) k) }
+    requires { segments ≤ SEGMENTS_MAX }
+    ensures { result ≡ all_below (SEGMENT_BLOCKS * segments) (λ k. fits.block_fits most (sectors_of disk.now) ((store_in segments disk.now).use_of k) k) }
 {
     let mut all = true;
-    for block in 0..BLOCKS_A_SEGMENT * segments {
+    for block in 0..SEGMENT_BLOCKS * segments {
         all = all && block_fits(disk, most, use_of(disk, segments, block), block);
     }
     all
@@ -98,7 +97,7 @@ fn blocks_fit(disk: &Disk, most: u64, segments: u32) -> bool
 /// Whether every segment, every inode, and every sector of a block that is or was a directory's is in its grammar, with a version up
 /// to `most`.
 pub(crate) fn sectors_fit(disk: &Disk, most: u64, segments: u32) -> bool
-    requires { segments ≤ 64 }
+    requires { segments ≤ SEGMENTS_MAX }
     ensures { result ≡ fits.sectors_fit most segments (store_in segments disk.now) (sectors_of disk.now) }
 {
     segments_fit(disk, most, segments)

@@ -16,6 +16,3 @@ mod sectors;
 pub use disk_definitions::Disk;
 pub use disk_replay::{greatest, replayed};
 pub use read::tree_read;
-
-#[cfg(test)]
-mod tests;

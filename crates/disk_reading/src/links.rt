@@ -9,6 +9,7 @@ ghost use Rattle.standing_laws.specs.Below.{all_below};
 ghost use Rattle.tree_definitions.specs.Apply.{links_of};
 
 use frang_base::NoMemory;
+use frang_base::limits::ROOT_INODE;
 use std::alloc::Global;
 use std::collections::BTreeMap;
 use tree_definitions::{Entries, Node};
@@ -70,7 +71,7 @@ fn is_linked(counts: &[u64], nodes: &BTreeMap<u64, Node>, i: u32) -> bool
     requires counted { slice_index counts.now i ≡ counted (sum_by (names_in i) (values_of nodes.now.entries)) }
     ensures { result ≡ is_linked nodes.now.entries i }
 {
-    let root = if i == 0 { 1 } else { 0 };
+    let root = if i == ROOT_INODE { 1 } else { 0 };
     let names = counts[i as usize].saturating_add(root);
     names == u64::from(links_of(nodes, u64::from(i)))
 }

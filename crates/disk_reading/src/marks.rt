@@ -3,30 +3,21 @@ ghost use Rattle.std.specs.Prelude.{◌≡◌, ◌≤◌, ◌<◌, ◌*◌, ◌/
 ghost use Rattle.standing_laws.specs.Below.{all_below};
 ghost use Rattle.disk_definitions.specs.Store as store;
 ghost use Rattle.standing_laws.specs.Soundness as sound;
-ghost use Rattle.disk_definitions.specs.Disks.{sectors_of};
+ghost use Rattle.sector_bytes.specs.Sectors.{sectors_of};
 ghost use Rattle.disk_reading.specs.Seen.{store_in, use_of_state};
 ghost use Rattle.disk_reading.specs.Tests as tests;
 
 use crate::grammar::sectors_fit;
-use crate::sectors::{
-    BLOCKS_A_SEGMENT, INODES_A_SEGMENT, PLACES_A_BLOCK, bit_of, entry_at, large_bit, use_of,
-    used_inode,
-};
+use crate::sectors::{bit_of, entry_at, has_kind, large_bit, use_of, used_inode};
 use bitmap_block::BlockState;
 use disk_definitions::Disk;
-use sector_definitions::Inode;
-
-/// Small blocks of an inode.
-pub(crate) const BLOCKS_AN_INODE: u32 = 16;
-/// The kind of a file, of a directory and of a link.
-pub(crate) const FILE: u8 = 1;
-
-pub(crate) const DIRECTORY: u8 = 2;
-
-pub(crate) const LINK: u8 = 3;
+use frang_base::limits::{
+    BLOCK_ENTRIES, INODE_BLOCKS_MAX, KIND_DIRECTORY, ROOT_INODE, SEGMENT_BLOCKS, SEGMENT_INODES,
+    SEGMENTS_MAX,
+};
 
 fn bit_agrees(disk: &Disk, segments: u32, i: u32) -> bool
-    requires { segments ≤ 64 }
+    requires { segments ≤ SEGMENTS_MAX }
     ensures { result ≡ sound.bit_agrees (store_in segments disk.now) i }
 {
     let used = used_inode(disk, segments, i).is_some();
@@ -39,11 +30,11 @@ fn bit_agrees(disk: &Disk, segments: u32, i: u32) -> bool
 
 /// The small block at an index of an inode, where it has one there.
 pub(crate) fn block_at(disk: &Disk, segments: u32, t: u32) -> Option<u32>
-    requires { segments ≤ 64 }
+    requires { segments ≤ SEGMENTS_MAX }
     ensures { result ≡ sound.block_at (store_in segments disk.now) t }
 {
-    let inode = used_inode(disk, segments, t / BLOCKS_AN_INODE)?;
-    let j = t % BLOCKS_AN_INODE;
+    let inode = used_inode(disk, segments, t / INODE_BLOCKS_MAX)?;
+    let j = t % INODE_BLOCKS_MAX;
     if j < u32::from(inode.blocks) {
         Some(inode.small[j as usize])
     } else {
@@ -53,7 +44,7 @@ pub(crate) fn block_at(disk: &Disk, segments: u32, t: u32) -> Option<u32>
 
 /// The large block of an inode, where it has one.
 pub(crate) fn large_at(disk: &Disk, segments: u32, i: u32) -> Option<u32>
-    requires { segments ≤ 64 }
+    requires { segments ≤ SEGMENTS_MAX }
     ensures { result ≡ sound.large_at (store_in segments disk.now) i }
 {
     let inode = used_inode(disk, segments, i)?;
@@ -70,19 +61,19 @@ fn is_used_for(kind: u8, state: BlockState) -> bool
     match state {
         BlockState::Unused => false,
         BlockState::FormerDirectory => false,
-        BlockState::FileBytes => kind != DIRECTORY,
-        BlockState::Directory => kind == DIRECTORY,
+        BlockState::FileBytes => kind != KIND_DIRECTORY,
+        BlockState::Directory => kind == KIND_DIRECTORY,
     }
 }
 
 fn use_agrees(disk: &Disk, segments: u32, t: u32) -> bool
-    requires { segments ≤ 64 }
-    ensures { result ≡ sound.use_agrees (store_in segments disk.now) ((store_in segments disk.now).inode (t / 16)) (t % 16) }
+    requires { segments ≤ SEGMENTS_MAX }
+    ensures { result ≡ sound.use_agrees (store_in segments disk.now) ((store_in segments disk.now).inode (t / INODE_BLOCKS_MAX)) (t % INODE_BLOCKS_MAX) }
 {
-    let Some(inode) = used_inode(disk, segments, t / BLOCKS_AN_INODE) else {
+    let Some(inode) = used_inode(disk, segments, t / INODE_BLOCKS_MAX) else {
         return true;
     };
-    let j = t % BLOCKS_AN_INODE;
+    let j = t % INODE_BLOCKS_MAX;
     if j < u32::from(inode.blocks) {
         is_used_for(inode.kind, use_of(disk, segments, inode.small[j as usize]))
     } else {
@@ -104,18 +95,18 @@ pub(crate) fn is_unused(state: BlockState) -> bool
 
 #[tactic(auto, using(standing_laws::proofs::Bounded::all_more))]
 fn has_no_entries(disk: &Disk, segments: u32, block: u32) -> bool
-    requires { segments ≤ 64 }
-    ensures { result ≡ all_below 56 (λ p. not (is_some ((store_in segments disk.now).place block p))) }
+    requires { segments ≤ SEGMENTS_MAX }
+    ensures { result ≡ all_below BLOCK_ENTRIES (λ p. not (is_some ((store_in segments disk.now).place block p))) }
 {
     let mut all = true;
-    for p in 0..PLACES_A_BLOCK {
+    for p in 0..BLOCK_ENTRIES {
         all = all && entry_at(disk, segments, block, p).is_none();
     }
     all
 }
 
 fn is_cleared(disk: &Disk, segments: u32, block: u32, state: BlockState) -> bool
-    requires { segments ≤ 64 }
+    requires { segments ≤ SEGMENTS_MAX }
     ensures { result ≡ sound.is_cleared (store_in segments disk.now) block (use_of_state state) }
 {
     match state {
@@ -127,7 +118,7 @@ fn is_cleared(disk: &Disk, segments: u32, block: u32, state: BlockState) -> bool
 }
 
 fn is_marked(disk: &Disk, segments: u32, g: Option<u32>) -> bool
-    requires { segments ≤ 64 }
+    requires { segments ≤ SEGMENTS_MAX }
     ensures { result ≡ sound.is_marked (store_in segments disk.now) g }
 {
     match g {
@@ -138,11 +129,11 @@ fn is_marked(disk: &Disk, segments: u32, g: Option<u32>) -> bool
 
 #[tactic(auto, using(standing_laws::proofs::Bounded::all_more))]
 fn bits_agree(disk: &Disk, segments: u32) -> bool
-    requires { segments ≤ 64 }
-    ensures { result ≡ all_below (64 * segments) (sound.bit_agrees (store_in segments disk.now)) }
+    requires { segments ≤ SEGMENTS_MAX }
+    ensures { result ≡ all_below (SEGMENT_INODES * segments) (sound.bit_agrees (store_in segments disk.now)) }
 {
     let mut all = true;
-    for i in 0..INODES_A_SEGMENT * segments {
+    for i in 0..SEGMENT_INODES * segments {
         all = all && bit_agrees(disk, segments, i);
     }
     all
@@ -150,11 +141,11 @@ fn bits_agree(disk: &Disk, segments: u32) -> bool
 
 #[tactic(auto, using(standing_laws::proofs::Bounded::all_more))]
 fn uses_agree(disk: &Disk, segments: u32) -> bool
-    requires { segments ≤ 64 }
-    ensures { result ≡ all_below (1024 * segments) (λ t. sound.use_agrees (store_in segments disk.now) ((store_in segments disk.now).inode (t / 16)) (t % 16)) }
+    requires { segments ≤ SEGMENTS_MAX }
+    ensures { result ≡ all_below (SEGMENT_BLOCKS * segments) (λ t. sound.use_agrees (store_in segments disk.now) ((store_in segments disk.now).inode (t / INODE_BLOCKS_MAX)) (t % INODE_BLOCKS_MAX)) }
 {
     let mut all = true;
-    for t in 0..BLOCKS_A_SEGMENT * segments {
+    for t in 0..SEGMENT_BLOCKS * segments {
         all = all && use_agrees(disk, segments, t);
     }
     all
@@ -162,11 +153,11 @@ fn uses_agree(disk: &Disk, segments: u32) -> bool
 
 #[tactic(auto, using(standing_laws::proofs::Bounded::all_more))]
 fn blocks_cleared(disk: &Disk, segments: u32) -> bool
-    requires { segments ≤ 64 }
-    ensures { result ≡ all_below (1024 * segments) (λ k. sound.is_cleared (store_in segments disk.now) k ((store_in segments disk.now).use_of k)) }
+    requires { segments ≤ SEGMENTS_MAX }
+    ensures { result ≡ all_below (SEGMENT_BLOCKS * segments) (λ k. sound.is_cleared (store_in segments disk.now) k ((store_in segments disk.now).use_of k)) }
 {
     let mut all = true;
-    for block in 0..BLOCKS_A_SEGMENT * segments {
+    for block in 0..SEGMENT_BLOCKS * segments {
         all = all && is_cleared(disk, segments, block, use_of(disk, segments, block));
     }
     all
@@ -174,30 +165,19 @@ fn blocks_cleared(disk: &Disk, segments: u32) -> bool
 
 #[tactic(auto, using(standing_laws::proofs::Bounded::all_more))]
 fn larges_marked(disk: &Disk, segments: u32) -> bool
-    requires { segments ≤ 64 }
-    ensures { result ≡ all_below (64 * segments) (λ i. sound.is_marked (store_in segments disk.now) (sound.large_at (store_in segments disk.now) i)) }
+    requires { segments ≤ SEGMENTS_MAX }
+    ensures { result ≡ all_below (SEGMENT_INODES * segments) (λ i. sound.is_marked (store_in segments disk.now) (sound.large_at (store_in segments disk.now) i)) }
 {
     let mut all = true;
-    for i in 0..INODES_A_SEGMENT * segments {
+    for i in 0..SEGMENT_INODES * segments {
         all = all && is_marked(disk, segments, large_at(disk, segments, i));
     }
     all
 }
 
-// Whether inode 0 is a directory's.
-fn is_rooted(disk: &Disk, segments: u32) -> bool
-    requires { segments ≤ 64 }
-    ensures { result ≡ sound.has_kind ((store_in segments disk.now).inode 0) 2 }
-{
-    match used_inode(disk, segments, 0) {
-        Some(inode) => inode.kind == DIRECTORY,
-        None => false,
-    }
-}
-
 /// Whether the sectors are in their grammar, with versions up to `most`, and the bitmaps agree with the inodes.
 pub(crate) fn marks_agree(disk: &Disk, most: u64, segments: u32) -> bool
-    requires { segments ≤ 64 }
+    requires { segments ≤ SEGMENTS_MAX }
     ensures { result ≡ tests.marks_agree most segments (store_in segments disk.now) (sectors_of disk.now) }
 {
     sectors_fit(disk, most, segments)
@@ -205,5 +185,5 @@ pub(crate) fn marks_agree(disk: &Disk, most: u64, segments: u32) -> bool
         && uses_agree(disk, segments)
         && blocks_cleared(disk, segments)
         && larges_marked(disk, segments)
-        && is_rooted(disk, segments)
+        && has_kind(disk, segments, ROOT_INODE, KIND_DIRECTORY)
 }

@@ -12,30 +12,23 @@ ghost use Rattle.disk_reading.specs.Files.{AreRead, IsNode};
 ghost use Rattle.disk_reading.specs.Seen.{store_in};
 
 use crate::files::read_cells;
-use crate::marks::{DIRECTORY, FILE};
-use crate::sectors::{INODES_A_SEGMENT, PLACES_A_BLOCK, entry_at, used_inode};
+use crate::sectors::{entry_at, has_kind, used_inode};
 use disk_definitions::Disk;
+use frang_base::limits::{
+    BLOCK_ENTRIES, DIRECTORY_ENTRIES_MAX, INODE_BLOCKS_MAX, KIND_DIRECTORY, KIND_FILE, KIND_FREE,
+    NAME_BYTES_MAX, SEGMENT_INODES, SEGMENTS_MAX, TARGET_BYTES_MAX,
+};
 use frang_base::{Name, NoMemory, Text};
 use sector_definitions::{DirEntry, Inode};
 use std::alloc::Global;
 use std::collections::BTreeMap;
 use tree_definitions::{Entries, Node, Target};
 
-fn has_kind(disk: &Disk, segments: u32, i: u32, kind: u8) -> bool
-    requires { segments ≤ 64 }
-    ensures { result ≡ sound.has_kind ((store_in segments disk.now).inode i) kind }
-{
-    match used_inode(disk, segments, i) {
-        Some(inode) => inode.kind == kind,
-        None => false,
-    }
-}
-
 // The name of an entry, where it is a new one and the entry names an inode in use of its kind.
 fn agreed_name(disk: &Disk, segments: u32, entries: &Entries, entry: &DirEntry) -> Option<Name>
-    requires few { segments ≤ 64 }
+    requires few { segments ≤ SEGMENTS_MAX }
     requires name { is_name (name_in entry.now) ≡ true }
-    requires len { entry.now.len ≤ 64 }
+    requires len { entry.now.len ≤ NAME_BYTES_MAX }
     ensures { result ≡ (if sound.entry_agrees (store_in segments disk.now) entries.now (Some (entered entry.now)) then Some (name_in entry.now) else None) }
 {
     let name = Name::of(&entry.name[..entry.len as usize])?;
@@ -54,9 +47,9 @@ fn add_place(
     segments: u32,
     place: Option<DirEntry>,
 ) -> Result<bool, NoMemory>
-    requires few { segments ≤ 64 }
-    requires proper { IfSome place (λ e. (is_name (name_in e) ≡ true) × (e.len ≤ 64)) }
-    requires room { length entries.old < 896 }
+    requires few { segments ≤ SEGMENTS_MAX }
+    requires proper { IfSome place (λ e. (is_name (name_in e) ≡ true) × (e.len ≤ NAME_BYTES_MAX)) }
+    requires room { length entries.old < DIRECTORY_ENTRIES_MAX }
     ensures agrees { IfOk result (λ b. b ≡ sound.entry_agrees (store_in segments disk.now) entries.old (option_map entered place)) }
     ensures added { IfOk result (λ b. b ≡ true → entries.new ≡ with_place entries.old (option_map entered place)) }
 {
@@ -76,14 +69,14 @@ fn read_entries(
     segments: u32,
     inode: &Inode,
 ) -> Result<Option<Entries>, NoMemory>
-    requires few { segments ≤ 64 }
-    requires blocks { inode.now.blocks ≤ 16 }
-    ensures { IfOk result (AreRead (store_in segments disk.now) (place_at (store_in segments disk.now) (stored inode.now)) (56 * inode.now.blocks)) }
+    requires few { segments ≤ SEGMENTS_MAX }
+    requires blocks { inode.now.blocks ≤ INODE_BLOCKS_MAX }
+    ensures { IfOk result (AreRead (store_in segments disk.now) (place_at (store_in segments disk.now) (stored inode.now)) (BLOCK_ENTRIES * inode.now.blocks)) }
 {
     let mut entries = Entries::new(alloc);
-    for q in 0..PLACES_A_BLOCK * u32::from(inode.blocks) {
-        let block = inode.small[(q / PLACES_A_BLOCK) as usize];
-        let place = entry_at(disk, segments, block, q % PLACES_A_BLOCK);
+    for q in 0..BLOCK_ENTRIES * u32::from(inode.blocks) {
+        let block = inode.small[(q / BLOCK_ENTRIES) as usize];
+        let place = entry_at(disk, segments, block, q % BLOCK_ENTRIES);
         if !add_place(&mut entries, disk, segments, place)? {
             return Ok(None);
         }
@@ -98,9 +91,9 @@ fn read_directory(
     segments: u32,
     inode: &Inode,
 ) -> Result<Option<Node>, NoMemory>
-    requires few { segments ≤ 64 }
-    requires kind { inode.now.kind ≡ 2 }
-    requires blocks { inode.now.blocks ≤ 16 }
+    requires few { segments ≤ SEGMENTS_MAX }
+    requires kind { inode.now.kind ≡ KIND_DIRECTORY }
+    requires blocks { inode.now.blocks ≤ INODE_BLOCKS_MAX }
     ensures { IfOk result (IsNode (store_in segments disk.now) (stored inode.now)) }
 {
     let Some(entries) = read_entries(alloc, disk, segments, inode)? else {
@@ -117,7 +110,7 @@ fn read_directory(
 
 // The target of a link.
 fn read_target(alloc: Global, inode: &Inode) -> Result<Target, NoMemory>
-    requires { inode.now.size ≤ 384 }
+    requires { inode.now.size ≤ TARGET_BYTES_MAX }
     ensures { IfOk result (λ t. t ≡ take inode.now.size inode.now.target) }
 {
     let mut text = Text::new(alloc);
@@ -132,17 +125,17 @@ fn read_node(
     segments: u32,
     inode: &Inode,
 ) -> Result<Option<Node>, NoMemory>
-    requires few { segments ≤ 64 }
+    requires few { segments ≤ SEGMENTS_MAX }
     requires fits { inode_fits inode.now ≡ true }
-    requires large { inode.now.large ≤ 64 }
-    requires used { inode.now.kind ≢ 0 }
+    requires large { inode.now.large ≤ SEGMENTS_MAX }
+    requires used { inode.now.kind ≢ KIND_FREE }
     ensures { IfOk result (IsNode (store_in segments disk.now) (stored inode.now)) }
 {
     let links = u32::from(inode.links);
-    if inode.kind == DIRECTORY {
+    if inode.kind == KIND_DIRECTORY {
         return read_directory(alloc, disk, segments, inode);
     }
-    if inode.kind == FILE {
+    if inode.kind == KIND_FILE {
         let cells = read_cells(alloc, disk, segments, inode)?;
         return Ok(Some(Node::File { cells, links }));
     }
@@ -158,7 +151,7 @@ fn add_inode(
     segments: u32,
     i: u32,
 ) -> Result<bool, NoMemory>
-    requires few { segments ≤ 64 }
+    requires few { segments ≤ SEGMENTS_MAX }
     requires large { (g : ℕ) → sound.large_at (store_in segments disk.now) i ≡ Some g → g < segments }
     ensures agrees { IfOk result (λ b. b ≡ sound.node_agrees (store_in segments disk.now) ((store_in segments disk.now).inode i)) }
     ensures added { IfOk result (λ b. b ≡ true → nodes.new.entries ≡ with_inode (store_in segments disk.now) nodes.old.entries i ((store_in segments disk.now).inode i)) }
@@ -180,13 +173,13 @@ pub(crate) fn add_nodes(
     disk: &Disk,
     segments: u32,
 ) -> Result<bool, NoMemory>
-    requires few { segments ≤ 64 }
+    requires few { segments ≤ SEGMENTS_MAX }
     requires none { nodes.old.entries ≡ [] }
-    requires large { (i g : ℕ) → i < 64 * segments → sound.large_at (store_in segments disk.now) i ≡ Some g → g < segments }
-    ensures agree { IfOk result (λ b. b ≡ all_below (64 * segments) (λ i. sound.node_agrees (store_in segments disk.now) ((store_in segments disk.now).inode i))) }
-    ensures added { IfOk result (λ b. b ≡ true → nodes.new.entries ≡ nodes_to (store_in segments disk.now) (64 * segments)) }
+    requires large { (i g : ℕ) → i < SEGMENT_INODES * segments → sound.large_at (store_in segments disk.now) i ≡ Some g → g < segments }
+    ensures agree { IfOk result (λ b. b ≡ all_below (SEGMENT_INODES * segments) (λ i. sound.node_agrees (store_in segments disk.now) ((store_in segments disk.now).inode i))) }
+    ensures added { IfOk result (λ b. b ≡ true → nodes.new.entries ≡ nodes_to (store_in segments disk.now) (SEGMENT_INODES * segments)) }
 {
-    for i in 0..INODES_A_SEGMENT * segments {
+    for i in 0..SEGMENT_INODES * segments {
         if !add_inode(nodes, alloc, disk, segments, i)? {
             return Ok(false);
         }

@@ -64,12 +64,19 @@ fn spread(flags: &mut [bool], nodes: &BTreeMap<u64, Node>)
     }
 }
 
+// Whether the birth has a flag.
+fn is_flagged(flags: &[bool], birth: u64) -> bool
+    ensures { result ≡ flag_at flags.now birth }
+{
+    flags.get(birth as usize).copied().unwrap_or(false)
+}
+
 fn are_flagged(flags: &[bool], entries: &Entries) -> bool
     ensures { result ≡ list_all (flag_at flags.now) (values_of entries.now) }
 {
     let mut all = true;
     for birth in entries.as_map().values() {
-        all = all && flags.get(*birth as usize).copied().unwrap_or(false);
+        all = all && is_flagged(flags, *birth);
     }
     all
 }
@@ -118,7 +125,7 @@ fn births_flagged(flags: &[bool], nodes: &BTreeMap<u64, Node>) -> bool
 {
     let mut all = true;
     for birth in nodes.keys() {
-        all = all && flags.get(*birth as usize).copied().unwrap_or(false);
+        all = all && is_flagged(flags, *birth);
     }
     all
 }

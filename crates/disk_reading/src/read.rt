@@ -1,6 +1,6 @@
 // The tree that a disk stands for.
 ghost use Rattle.std.specs.Prelude.{◌≡◌, ◌≤◌, ◌*◌, ◌/◌, ◌%◌, [], true, IfOk};
-ghost use Rattle.disk_definitions.specs.Disks.{sectors_of};
+ghost use Rattle.sector_bytes.specs.Sectors.{sectors_of};
 ghost use Rattle.standing_laws.specs.Below.{all_below};
 ghost use Rattle.standing_laws.specs.Soundness as sound;
 ghost use Rattle.disk_reading.specs.Reading.{IsReading};
@@ -12,22 +12,21 @@ use crate::marks::marks_agree;
 use crate::nodes::add_nodes;
 use crate::owners::{blocks_agree, larges_agree};
 use crate::reached::all_reached;
-use crate::sectors::INODES_A_SEGMENT;
 use disk_definitions::Disk;
 use file_tree::Tree;
+use frang_base::limits::{
+    INODE_BLOCKS_MAX, RUN_VERSIONS_MAX, SEGMENT_BLOCKS, SEGMENT_INODES, SEGMENTS_MAX,
+};
 use frang_base::{NoMemory, Sector};
 use std::alloc::Global;
 use std::collections::BTreeMap;
 use tree_definitions::Node;
 
-// The versions that a run may give to a sector.
-const VERSIONS_A_RUN: u64 = 131_072;
-
 // Whether no block has two owners, and none is used without one.
 fn owners_agree(alloc: Global, disk: &Disk, segments: u32) -> Result<bool, NoMemory>
-    requires few { segments ≤ 64 }
-    requires uses { all_below (1024 * segments) (λ t. sound.use_agrees (store_in segments disk.now) ((store_in segments disk.now).inode (t / 16)) (t % 16)) ≡ true }
-    requires marked { all_below (64 * segments) (λ i. sound.is_marked (store_in segments disk.now) (sound.large_at (store_in segments disk.now) i)) ≡ true }
+    requires few { segments ≤ SEGMENTS_MAX }
+    requires uses { all_below (SEGMENT_BLOCKS * segments) (λ t. sound.use_agrees (store_in segments disk.now) ((store_in segments disk.now).inode (t / INODE_BLOCKS_MAX)) (t % INODE_BLOCKS_MAX)) ≡ true }
+    requires marked { all_below (SEGMENT_INODES * segments) (λ i. sound.is_marked (store_in segments disk.now) (sound.large_at (store_in segments disk.now) i)) ≡ true }
     ensures { IfOk result (λ b. b ≡ tests.owners_agree segments (store_in segments disk.now)) }
 {
     let blocks = blocks_agree(alloc, disk, segments)?;
@@ -43,7 +42,7 @@ pub(crate) fn read_sound(
     most: u64,
     segments: u32,
 ) -> Result<bool, NoMemory>
-    requires few { segments ≤ 64 }
+    requires few { segments ≤ SEGMENTS_MAX }
     requires some { 1 ≤ segments }
     requires none { nodes.old.entries ≡ [] }
     ensures { IfOk result (tests.IsSoundReading most segments (sectors_of disk.now) nodes.new.entries) }
@@ -57,10 +56,10 @@ pub(crate) fn read_sound(
     if !add_nodes(nodes, alloc, disk, segments)? {
         return Ok(false);
     }
-    if !links_agree(alloc, nodes, INODES_A_SEGMENT * segments)? {
+    if !links_agree(alloc, nodes, SEGMENT_INODES * segments)? {
         return Ok(false);
     }
-    all_reached(alloc, nodes, INODES_A_SEGMENT * segments)
+    all_reached(alloc, nodes, SEGMENT_INODES * segments)
 }
 
 /// The tree that a disk stands for. The birth of each node is the number of its inode, and no cell is doubtful. `None` exactly where the
@@ -71,7 +70,7 @@ pub fn tree_read(alloc: Global, disk: &Disk) -> Result<Option<Tree>, NoMemory>
     let Some(param) = param_block::decode(&disk.get(Sector(0))) else {
         return Ok(None);
     };
-    let most = VERSIONS_A_RUN * u64::from(param.run);
+    let most = RUN_VERSIONS_MAX * u64::from(param.run);
     let mut nodes = BTreeMap::new(alloc);
     if read_sound(&mut nodes, alloc, disk, most, param.segments)? {
         Ok(Some(Tree::of(alloc, param.segments, nodes)))

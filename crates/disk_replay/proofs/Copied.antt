@@ -6,10 +6,10 @@ use Rattle.std.specs.Map.{keys_of, lookup}
 use Rattle.std.specs.Option.{unwrap_or}
 use Rattle.std.specs.Ordering.{nat_cmp}
 use Rattle.std.proofs.lemmas.Bool.{false≢true}
-use Rattle.sector_definitions.specs.Bytes.{zeros}
-use Rattle.cells.proofs.Basics.{by_test, or_equal}
+use Rattle.sector_bytes.specs.Bytes.{zeros}
+use Rattle.frang_base.proofs.Basics.{by_test, or_equal}
 use Rattle.tree_laws.proofs.Pairs.{birth_exact, none_below, self, tie}
-use Rattle.disk_definitions.specs.Disks.{Sectors, SameDisk, sectors_of}
+use Rattle.sector_bytes.specs.Sectors.{Sectors, SameSectors, sectors_of}
 use Rattle.disk_replay.specs.Laid.{is_logged, without_logs}
 use Rattle.disk_replay.proofs.SectorsSet.{set_elsewhere, set_there}
 
@@ -74,6 +74,6 @@ none_copied disk left copy l e h = record {
   others = λ sector f. ap (λ es. over es (sectors_of copy) sector) l ∙ ap (λ es. over disk (sectors_of es) sector) e;
 }
 
-pub all_copied : (disk copy : Blocks) → IsCopying disk [] copy → SameDisk (sectors_of copy) (without_logs (sectors_of disk))
+pub all_copied : (disk copy : Blocks) → IsCopying disk [] copy → SameSectors (sectors_of copy) (without_logs (sectors_of disk))
 unfolding over without_logs
 all_copied disk copy h sector = by_test (λ (b : List ℕ). sectors_of copy sector ≡ b) (zeros 512) (sectors_of disk sector) (is_logged sector) (h.logs sector) (h.others sector)

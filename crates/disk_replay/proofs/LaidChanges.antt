@@ -6,9 +6,10 @@ use Rattle.std.proofs.lemmas.Bool.{and_from, and_parts, and_left, false≢true}
 use Rattle.std.proofs.lemmas.List.Sums.{fold-append}
 use Rattle.frang_base.specs.declared.change.Change.{Change}
 use Rattle.sector_definitions.specs.Regions.{region_of}
-use Rattle.cells.proofs.Basics.{by_test, eq_of, of_eq, of_ge, of_ne, or_equal}
-use Rattle.change_definitions.specs.Changes.{applied, changed, is_older, version_of}
-use Rattle.disk_definitions.specs.Disks.{Sectors, SameDisk, sectors_of}
+use Rattle.frang_base.proofs.Basics.{by_test, eq_of, of_eq, of_ge, of_ne, or_equal}
+use Rattle.sector_bytes.specs.Changes.{applied, changed, is_older}
+use Rattle.sector_bytes.specs.Blocks.{version_of}
+use Rattle.sector_bytes.specs.Sectors.{Sectors, SameSectors, sectors_of}
 use Rattle.log_definitions.specs.Replay.{is_replayed, with_change}
 use Rattle.disk_replay.specs.Laid.{is_changed, with_changes}
 use Rattle.disk_replay.proofs.SectorsSet.{set_there, set_elsewhere}
@@ -32,7 +33,7 @@ unfolding block_by
 elsewhere segments sector c block n = ap (λ (b : Bool). if b then applied block c else block) (and_left (sector == c.sector.0) (is_changed segments sector) (of_ne sector c.sector.0 n))
 
 -- a sector that a replay doesn't change
-pub none_laid : (segments : ℕ) (s : Sectors) (c : Change) → is_changed segments c.sector.0 ≡ false → SameDisk s (with_changes segments s (c ∷ []))
+pub none_laid : (segments : ℕ) (s : Sectors) (c : Change) → is_changed segments c.sector.0 ≡ false → SameSectors s (with_changes segments s (c ∷ []))
 unfolding block_by
 none_laid segments s c e sector =
     sym (one_laid segments s c sector
@@ -42,7 +43,7 @@ none_laid segments s c e sector =
     (λ t. refl))
 
 -- a sector that is as new
-pub none_newer : (segments : ℕ) (s : Sectors) (c : Change) → c.version ≤ version_of (s c.sector.0) → SameDisk s (with_changes segments s (c ∷ []))
+pub none_newer : (segments : ℕ) (s : Sectors) (c : Change) → c.version ≤ version_of (s c.sector.0) → SameSectors s (with_changes segments s (c ∷ []))
 unfolding block_by
 none_newer segments s c h sector =
     sym (one_laid segments s c sector
@@ -54,7 +55,7 @@ none_newer segments s c h sector =
 
 -- a sector that is set to its changed block
 pub set_laid : (segments : ℕ) (es : List (ℕ × List ℕ)) (c : Change) (block : List ℕ) → is_changed segments c.sector.0 ≡ true → block ≡ applied (sectors_of es c.sector.0) c
-    → SameDisk (sectors_of (insert_entry nat_cmp es c.sector.0 block)) (with_changes segments (sectors_of es) (c ∷ []))
+    → SameSectors (sectors_of (insert_entry nat_cmp es c.sector.0 block)) (with_changes segments (sectors_of es) (c ∷ []))
 set_laid segments es c block e is sector =
     let after = sectors_of (insert_entry nat_cmp es c.sector.0 block) in
     ⊎_elim
@@ -65,10 +66,10 @@ set_laid segments es c block e is sector =
 
 -- ---- several
 
-pub one_same : (segments : ℕ) (a b : Sectors) (c : Change) → SameDisk a b → SameDisk (with_change segments a c) (with_change segments b c)
+pub one_same : (segments : ℕ) (a b : Sectors) (c : Change) → SameSectors a b → SameSectors (with_change segments a c) (with_change segments b c)
 one_same segments a b c same sector = ap (λ block. if sector == c.sector.0 && is_replayed (region_of segments sector) then applied block c else block) (same sector)
 
-pub laid_same : (segments : ℕ) (changes : List Change) (a b : Sectors) → SameDisk a b → SameDisk (with_changes segments a changes) (with_changes segments b changes)
+pub laid_same : (segments : ℕ) (changes : List Change) (a b : Sectors) → SameSectors a b → SameSectors (with_changes segments a changes) (with_changes segments b changes)
 unfolding with_changes
 laid_same segments [] a b same = same
 laid_same segments (c ∷ changes) a b same = laid_same segments changes (with_change segments a c) (with_change segments b c) (one_same segments a b c same)
@@ -78,23 +79,23 @@ unfolding with_changes
 laid_both segments s xs ys = fold-append (with_change segments) s xs ys
 
 -- the first of what is left are laid
-pub laid_first : (segments : ℕ) (old new all : Sectors) (xs rest left : List Change) → left ≡ xs ++ rest → SameDisk new (with_changes segments old xs) → SameDisk (with_changes segments old left) all
-    → SameDisk (with_changes segments new rest) all
+pub laid_first : (segments : ℕ) (old new all : Sectors) (xs rest left : List Change) → left ≡ xs ++ rest → SameSectors new (with_changes segments old xs) → SameSectors (with_changes segments old left) all
+    → SameSectors (with_changes segments new rest) all
 laid_first segments old new all xs rest left split made h sector =
     laid_same segments rest new (with_changes segments old xs) made sector ∙ ap (λ (f : Sectors). f sector) (sym (laid_both segments old xs rest))
     ∙ ap (λ cs. with_changes segments old cs sector) (sym split) ∙ h sector
 
 -- more of them are laid behind those that were
-pub laid_more : (segments : ℕ) (s old new : Sectors) (before xs after : List Change) → after ≡ before ++ xs → SameDisk new (with_changes segments old xs) → SameDisk old (with_changes segments s before)
-    → SameDisk new (with_changes segments s after)
+pub laid_more : (segments : ℕ) (s old new : Sectors) (before xs after : List Change) → after ≡ before ++ xs → SameSectors new (with_changes segments old xs) → SameSectors old (with_changes segments s before)
+    → SameSectors new (with_changes segments s after)
 laid_more segments s old new before xs after split made h sector =
     made sector ∙ laid_same segments xs old (with_changes segments s before) h sector ∙ ap (λ (f : Sectors). f sector) (sym (laid_both segments s before xs))
     ∙ ap (λ cs. with_changes segments s cs sector) (sym split)
 
-pub nothing_laid : (segments : ℕ) (s : Sectors) → SameDisk s (with_changes segments s [])
+pub nothing_laid : (segments : ℕ) (s : Sectors) → SameSectors s (with_changes segments s [])
 unfolding with_changes
 nothing_laid segments s sector = refl
 
 -- nothing is left
-pub all_laid : (segments : ℕ) (s all : Sectors) (left : List Change) → left ≡ [] → SameDisk (with_changes segments s left) all → SameDisk s all
+pub all_laid : (segments : ℕ) (s all : Sectors) (left : List Change) → left ≡ [] → SameSectors (with_changes segments s left) all → SameSectors s all
 all_laid segments s all left e h sector = nothing_laid segments s sector ∙ ap (λ cs. with_changes segments s cs sector) (sym e) ∙ h sector

@@ -4,11 +4,11 @@ use Rattle.std.proofs.lemmas.Bool.{and_parts, and_right, false≢true}
 use Rattle.frang_base.specs.declared.change.Change.{Change}
 use Rattle.sector_definitions.specs.declared.region.Region.{Region}
 use Rattle.sector_definitions.specs.declared.region.Region.TheVariants as region
-use Rattle.sector_definitions.specs.Bytes.{zeros}
+use Rattle.sector_bytes.specs.Bytes.{zeros}
 use Rattle.sector_definitions.specs.Regions.{bitmaps_from, inodes_from, log_stride, logs_from, region_of, small_blocks_from}
 use Rattle.sector_definitions.proofs.RegionLaws.{region_read}
-use Rattle.change_definitions.specs.Changes.{applied}
-use Rattle.disk_definitions.specs.Disks.{Sectors, SameDisk}
+use Rattle.sector_bytes.specs.Changes.{applied}
+use Rattle.sector_bytes.specs.Sectors.{Sectors, SameSectors}
 use Rattle.log_definitions.specs.Replay.{is_log, is_replayed, with_change}
 use Rattle.disk_replay.specs.Laid.{is_changed, is_logged, with_changes, without_logs}
 use Rattle.disk_replay.proofs.LaidChanges.{laid_same}
@@ -54,12 +54,12 @@ apart true true zero block c h = absurd (false≢true (sym (h refl)))
 apart true false zero block c h = refl
 apart false here zero block c h = refl
 
-one_apart : (segments : ℕ) (s : Sectors) (c : Change) → SameDisk (with_change segments (without_logs s) c) (without_logs (with_change segments s c))
+one_apart : (segments : ℕ) (s : Sectors) (c : Change) → SameSectors (with_change segments (without_logs s) c) (without_logs (with_change segments s c))
 unfolding without_logs is_changed
 one_apart segments s c sector =
     apart (is_logged sector) (sector == c.sector.0 && is_changed segments sector) (zeros 512) (s sector) c (λ t. and_right (sector == c.sector.0) (is_changed segments sector) (log_kept segments sector t))
 
-pub laid_apart : (segments : ℕ) (changes : List Change) (s : Sectors) → SameDisk (with_changes segments (without_logs s) changes) (without_logs (with_changes segments s changes))
+pub laid_apart : (segments : ℕ) (changes : List Change) (s : Sectors) → SameSectors (with_changes segments (without_logs s) changes) (without_logs (with_changes segments s changes))
 unfolding with_changes
 laid_apart segments [] s sector = refl
 laid_apart segments (c ∷ changes) s sector =

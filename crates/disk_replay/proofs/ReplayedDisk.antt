@@ -3,10 +3,10 @@ use Rattle.std.proofs.Common.{◌≡◌, ℕ, ◌+◌, if◌then◌else◌, Opti
 use Rattle.std.specs.List.{flat_map}
 use Rattle.std.proofs.lemmas.List.Concat.{flat_map-append}
 use Rattle.sector_definitions.specs.declared.param.Param.{Param}
-use Rattle.sector_definitions.specs.Bytes.{zeros}
+use Rattle.sector_bytes.specs.Bytes.{zeros}
 use Rattle.sector_definitions.specs.Params.{param_in}
 use Rattle.sector_definitions.specs.Regions.{region_of}
-use Rattle.disk_definitions.specs.Disks.{Sectors, SameDisk}
+use Rattle.sector_bytes.specs.Sectors.{Sectors, SameSectors}
 use Rattle.tree_definitions.specs.Numbers.{below}
 use Rattle.log_definitions.specs.Logs.{log_records}
 use Rattle.log_definitions.specs.Replay.{is_log, replayed, slots_of, with_logs}
@@ -32,11 +32,11 @@ by_parameters : (s : Sectors) (o : Option Param) → param_in (s 0) ≡ o → (s
 unfolding is_logged
 by_parameters s o e sector = ap (λ (p : Option Param). if is_log (region_of 64 sector) then zeros 512 else with_logs p s sector) (sym e)
 
-pub not_replayed : (s copy : Sectors) → param_in (s 0) ≡ None → SameDisk copy (without_logs s) → SameDisk copy (replayed s)
+pub not_replayed : (s copy : Sectors) → param_in (s 0) ≡ None → SameSectors copy (without_logs s) → SameSectors copy (replayed s)
 unfolding without_logs
 not_replayed s copy e h sector = h sector ∙ by_parameters s None e sector
 
-pub all_replayed : (s copy new : Sectors) (p : Param) → param_in (s 0) ≡ Some p → SameDisk copy (without_logs s) → SameDisk new (with_changes p.segments copy (changes_below s 256)) → SameDisk new (replayed s)
+pub all_replayed : (s copy new : Sectors) (p : Param) → param_in (s 0) ≡ Some p → SameSectors copy (without_logs s) → SameSectors new (with_changes p.segments copy (changes_below s 256)) → SameSectors new (replayed s)
 unfolding without_logs with_changes changes_below
 all_replayed s copy new p e h made sector =
     let changes = changes_below s 256 in

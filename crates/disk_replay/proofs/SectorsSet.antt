@@ -3,9 +3,9 @@ use Rattle.std.proofs.Common.{◌≡◌, ◌≢◌, ℕ, List, ap}
 use Rattle.std.specs.BTreeMap.{insert_entry}
 use Rattle.std.specs.Option.{unwrap_or}
 use Rattle.std.specs.Ordering.{nat_cmp}
-use Rattle.sector_definitions.specs.Bytes.{zeros}
+use Rattle.sector_bytes.specs.Bytes.{zeros}
 use Rattle.tree_laws.proofs.Pairs.{birth_exact, found_other, found_put}
-use Rattle.disk_definitions.specs.Disks.{sectors_of}
+use Rattle.sector_bytes.specs.Sectors.{sectors_of}
 
 pub set_there : (es : List (ℕ × List ℕ)) (sector : ℕ) (block : List ℕ) → sectors_of (insert_entry nat_cmp es sector block) sector ≡ block
 set_there es sector block = ap (λ o. unwrap_or o (zeros 512)) (found_put nat_cmp birth_exact es sector block)

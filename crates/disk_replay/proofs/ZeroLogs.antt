@@ -2,9 +2,9 @@
 use Rattle.std.proofs.Common.{◌≡◌, ℕ, zero, suc, ◌%◌, ◌<◌, Bool, true, false, ◌==◌, if◌then◌else◌, Some, None, List, [], ◌∷◌, refl, ap, ◌∙◌, arith}
 use Rattle.std.proofs.Math.Nat.{mod-lt}
 use Rattle.std.specs.List.{filter_map}
-use Rattle.sector_definitions.specs.Bytes.{zeros}
+use Rattle.sector_bytes.specs.Bytes.{zeros}
 use Rattle.sector_definitions.specs.LogSectors.{empty_sector, log_sector_fields, log_sector_in, numbered_sector_in}
-use Rattle.sector_definitions.proofs.Readings.{same_bytes_refl}
+use Rattle.sector_bytes.proofs.SameBytes.{same_bytes_refl}
 use Rattle.log_definitions.specs.Logs.{Slots, log_end, log_records, numbered, records_among, sector_numbered, sectors_read, window}
 
 abbrev IsZeroLog : Slots → Type 0

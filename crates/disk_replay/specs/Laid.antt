@@ -2,12 +2,12 @@
 use Rattle.std.specs.Prelude.{◌≡◌, ℕ, Bool, true, List, fold, if◌then◌else◌}
 use Rattle.std.specs.List.{All, flat_map}
 use Rattle.frang_base.specs.declared.change.Change.{Change}
-use Rattle.sector_definitions.specs.Bytes.{zeros}
+use Rattle.sector_bytes.specs.Bytes.{zeros}
 use Rattle.sector_definitions.specs.Regions.{region_of}
-use Rattle.change_definitions.specs.Changes.{is_change}
-use Rattle.disk_definitions.specs.Disks.{Sectors}
+use Rattle.sector_bytes.specs.Changes.{is_change}
+use Rattle.sector_bytes.specs.Sectors.{Sectors}
 use Rattle.tree_definitions.specs.Numbers.{below}
-use Rattle.log_definitions.specs.declared.redo.Redo.{Redo}
+use Rattle.frang_base.specs.declared.change.Redo.{Redo}
 use Rattle.log_definitions.specs.Logs.{log_records}
 use Rattle.log_definitions.specs.Replay.{slots_of, is_log, is_replayed, with_change}
 

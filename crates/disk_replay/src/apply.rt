@@ -1,14 +1,13 @@
 // The changes of records, laid over a disk.
 ghost use Rattle.std.specs.Prelude.{◌≡◌, ◌≤◌, ◌∷◌, [], OnOk, true};
 ghost use Rattle.std.specs.List.{All};
-ghost use Rattle.change_definitions.specs.Changes.{is_change};
-ghost use Rattle.disk_definitions.specs.Disks.{sectors_of, SameDisk};
+ghost use Rattle.sector_bytes.specs.Changes.{is_change};
+ghost use Rattle.sector_bytes.specs.Sectors.{sectors_of, SameSectors};
 ghost use Rattle.disk_replay.specs.Laid.{changes_in, is_changed, with_changes, HoldsChanges};
 
 use disk_definitions::Disk;
-use frang_base::{Change, NoMemory, Sector};
+use frang_base::{Change, NoMemory, Redo, Sector};
 use frang_layout::{Region, region_of};
-use log_reading::Redo;
 use meta_version::{Applied, apply};
 
 /// Lays the changes of records over the disk, in order. After `NoMemory` some of them were laid.
@@ -19,7 +18,7 @@ pub(crate) fn apply_records(
 ) -> Result<(), NoMemory>
     requires segments { segments ≤ 64 }
     requires changes { All HoldsChanges records.now }
-    ensures { OnOk result (SameDisk (sectors_of disk.new) (with_changes segments (sectors_of disk.old) (changes_in records.now))) }
+    ensures { OnOk result (SameSectors (sectors_of disk.new) (with_changes segments (sectors_of disk.old) (changes_in records.now))) }
 {
     for record in records {
         apply_changes(disk, segments, record.changes.as_slice())?;
@@ -31,7 +30,7 @@ pub(crate) fn apply_records(
 fn apply_changes(disk: &mut Disk, segments: u32, changes: &[Change]) -> Result<(), NoMemory>
     requires segments { segments ≤ 64 }
     requires changes { All (λ c. is_change c ≡ true) changes.now }
-    ensures { OnOk result (SameDisk (sectors_of disk.new) (with_changes segments (sectors_of disk.old) changes.now)) }
+    ensures { OnOk result (SameSectors (sectors_of disk.new) (with_changes segments (sectors_of disk.old) changes.now)) }
 {
     for change in changes {
         apply_change(disk, segments, change)?;
@@ -43,7 +42,7 @@ fn apply_changes(disk: &mut Disk, segments: u32, changes: &[Change]) -> Result<(
 fn apply_change(disk: &mut Disk, segments: u32, change: &Change) -> Result<(), NoMemory>
     requires segments { segments ≤ 64 }
     requires change { is_change change.now ≡ true }
-    ensures { OnOk result (SameDisk (sectors_of disk.new) (with_changes segments (sectors_of disk.old) (change.now ∷ []))) }
+    ensures { OnOk result (SameSectors (sectors_of disk.new) (with_changes segments (sectors_of disk.old) (change.now ∷ []))) }
 {
     if !is_changed(segments, change.sector) {
         return Ok(());

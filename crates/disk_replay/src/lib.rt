@@ -9,6 +9,3 @@ mod replay;
 
 pub use records::greatest;
 pub use replay::replayed;
-
-#[cfg(test)]
-mod tests;

@@ -1,8 +1,8 @@
 // What the log of a server holds.
 ghost use Rattle.std.specs.Prelude.{◌≡◌, ◌<◌, ℕ, IfOk, [], length, slice_index_or, false};
 ghost use Rattle.std.specs.List.{All};
-ghost use Rattle.sector_definitions.specs.Bytes.{zeros};
-ghost use Rattle.disk_definitions.specs.Disks.{sectors_of};
+ghost use Rattle.sector_bytes.specs.Bytes.{zeros};
+ghost use Rattle.sector_bytes.specs.Sectors.{sectors_of};
 ghost use Rattle.log_definitions.specs.Logs.{log_records};
 ghost use Rattle.log_definitions.specs.Replay as replays;
 ghost use Rattle.log_definitions.specs.Replay.{greatest_of};
@@ -11,9 +11,10 @@ ghost use Rattle.sector_definitions.specs.declared.region.Region.TheVariants as 
 ghost use Rattle.disk_replay.specs.Laid.{HoldsChanges};
 
 use disk_definitions::Disk;
-use frang_base::{Block, NoMemory, OpNo, Sector, ServerId};
-use frang_layout::{LOG_SLOTS, Region, sector_of};
-use log_reading::{Redo, greatest_operation, read_log};
+use frang_base::limits::LOG_SECTORS;
+use frang_base::{Block, NoMemory, OpNo, Redo, Sector, ServerId};
+use frang_layout::{Region, sector_of};
+use log_reading::{greatest_operation, read_log};
 use std::alloc::Global;
 
 /// The greatest operation among the records of a server's log, 0 where it holds none. The server is any from 0 to 255.
@@ -47,7 +48,7 @@ fn is_set(disk: &Disk, server: ServerId) -> bool
 {
     let first = slot_sector(server, 0).0;
     disk.as_map()
-        .range(first..first + LOG_SLOTS)
+        .range(first..first + LOG_SECTORS)
         .next()
         .is_some()
 }
@@ -57,8 +58,8 @@ fn slots_of(alloc: Global, disk: &Disk, server: ServerId) -> Result<Vec<Block>, 
     ensures slots { IfOk result (λ v. (slot : ℕ) → slot < 256 → slice_index_or v.items slot [] ≡ replays.slots_of (sectors_of disk.now) server.0 slot) }
     ensures len { IfOk result (λ v. length v.items ≡ 256) }
 {
-    let mut slots = Vec::with_capacity(alloc, LOG_SLOTS as usize)?;
-    for slot in 0..LOG_SLOTS {
+    let mut slots = Vec::with_capacity(alloc, LOG_SECTORS as usize)?;
+    for slot in 0..LOG_SECTORS {
         slots.push(disk.get(slot_sector(server, slot as u8)))?;
     }
     Ok(slots)

@@ -1,6 +1,6 @@
 // The disk after its logs are replayed.
 ghost use Rattle.std.specs.Prelude.{◌≡◌, ◌≤◌, ℕ, IfOk, OnOk};
-ghost use Rattle.disk_definitions.specs.Disks.{sectors_of, SameDisk};
+ghost use Rattle.sector_bytes.specs.Sectors.{sectors_of, SameSectors};
 ghost use Rattle.log_definitions.specs.Replay.{replayed};
 ghost use Rattle.disk_replay.specs.Laid as laid;
 ghost use Rattle.disk_replay.specs.Laid.{changes_below, with_changes};
@@ -8,13 +8,11 @@ ghost use Rattle.disk_replay.specs.Laid.{changes_below, with_changes};
 use crate::apply::apply_records;
 use crate::records::records_of;
 use disk_definitions::Disk;
+use frang_base::limits::{LOGS, SEGMENTS_MAX};
 use frang_base::{NoMemory, Sector, ServerId};
-use frang_layout::{LOGS, Region, region_of};
+use frang_layout::{Region, region_of};
 use param_block::decode;
 use std::alloc::Global;
-
-// A disk has at most so many segments.
-const SEGMENTS_MAX: u32 = 64;
 
 /// The disk after all its logs are replayed: their records' changes are laid over it, each where the sector is older, the logs in
 /// order and their records in order. No other sector than an inode, a segment of the bitmap or one of a small block is changed, and none
@@ -32,7 +30,7 @@ pub fn replayed(alloc: Global, disk: &Disk) -> Result<Disk, NoMemory>
 // Lays the changes of a disk's logs over its copy.
 fn apply_logs(alloc: Global, disk: &Disk, segments: u32, copy: &mut Disk) -> Result<(), NoMemory>
     requires { segments ≤ 64 }
-    ensures { OnOk result (SameDisk (sectors_of copy.new) (with_changes segments (sectors_of copy.old) (changes_below (sectors_of disk.now) 256))) }
+    ensures { OnOk result (SameSectors (sectors_of copy.new) (with_changes segments (sectors_of copy.old) (changes_below (sectors_of disk.now) 256))) }
 {
     for server in 0..LOGS {
         let records = records_of(alloc, disk, ServerId(server as u8))?;
@@ -43,7 +41,7 @@ fn apply_logs(alloc: Global, disk: &Disk, segments: u32, copy: &mut Disk) -> Res
 
 // A copy of the disk, with all logs zero.
 fn without_logs(alloc: Global, disk: &Disk) -> Result<Disk, NoMemory>
-    ensures { IfOk result (λ copy. SameDisk (sectors_of copy) (laid.without_logs (sectors_of disk.now))) }
+    ensures { IfOk result (λ copy. SameSectors (sectors_of copy) (laid.without_logs (sectors_of disk.now))) }
 {
     let mut copy = Disk::new(alloc);
     for (sector, block) in disk.as_map() {

@@ -1,17 +1,13 @@
 -- The sectors of held segments by their numbers.
-use Rattle.std.proofs.Common.{◌≡◌, ◌<◌, ◌≤◌, ◌+◌, ◌-◌, ℕ, Bool, true, false, if◌then◌else◌, Option, Some, None, [], ◌∷◌, refl, sym, ap, subst, ◌∙◌, arith}
+use Rattle.std.proofs.Common.{◌≡◌, ◌<◌, ◌≤◌, ◌+◌, ◌-◌, ℕ, Bool, true, false, if◌then◌else◌, Option, Some, None, [], ◌∷◌, refl, ap, ◌∙◌, arith}
 use Rattle.std.proofs.lemmas.Bool.Decides.{nat_tests}
-use Rattle.std.proofs.lemmas.List.Elements.{All-cons, All-head, All-nil, All-tail}
-use Rattle.std.specs.List.{All}
-use Rattle.std.specs.Map.{keys_of}
-use Rattle.std.specs.BTreeMap.{insert_entry, is_at}
+use Rattle.std.specs.BTreeMap.{is_at}
 use Rattle.std.specs.Option.{option_map}
 use Rattle.std.specs.Ordering.{nat_cmp}
 use Rattle.frang_base.specs.declared.bitmap.Bitmap.{Bitmap}
 use Rattle.sector_definitions.specs.Bitmaps.{bitmap_bytes}
 use Rattle.sector_definitions.specs.Regions.{bitmaps_from}
-use Rattle.change_definitions.specs.SectorMaps.{value_at}
-use Rattle.change_definitions.proofs.MapLaws.{found}
+use Rattle.sector_bytes.specs.SectorMaps.{value_at}
 use Rattle.pick_definitions.specs.Held.{Segments, AreSegments, bitmap_of}
 use Rattle.plan_definitions.specs.Written.{segment_sectors}
 
@@ -43,20 +39,3 @@ not_held (Some x) k all l = let h : k < 64 = all x refl in absurd (omega arith)
 
 pub past_segments : (held : Segments) (s : ℕ) → AreSegments held → bitmaps_from ≤ s → 64 ≤ s - bitmaps_from → value_at (segment_sectors held) s ≡ None
 past_segments held s all l m = segment_sector held s l ∙ ap (option_map bitmap_bytes) (not_held (bitmap_of held (s - bitmaps_from)) (s - bitmaps_from) (all (s - bitmaps_from)) m)
-
-segments_by_keys : (held : Segments) → All (λ k. k < 64) (keys_of held) → AreSegments held
-segments_by_keys [] all k x e = absurd (cc)
-segments_by_keys (h ∷ held) all k x e = go (is_at (nat_cmp k) h.0) refl (segments_by_keys held (All-tail (λ k. k < 64) h.0 (keys_of held) all) k x) e
-  where
-    go : (t : Bool) → is_at (nat_cmp k) h.0 ≡ t → (bitmap_of held k ≡ Some x → k < 64) → (if t then Some h.1 else bitmap_of held k) ≡ Some x → k < 64
-    go true is rest e =
-        let same : h.0 ≡ k = found k h.0 is in
-        let low : h.0 < 64 = All-head (λ k. k < 64) h.0 (keys_of held) all in
-        omega arith
-    go false is rest e = rest e
-
-pub first_two_segments : (held : Segments) (x y : Bitmap) → held ≡ insert_entry nat_cmp (insert_entry nat_cmp [] 0 x) 1 y → AreSegments held
-first_two_segments held x y e = subst AreSegments (sym e) (segments_by_keys ((0, x) ∷ (1, y) ∷ []) two)
-  where
-    two : All (λ k. k < 64) (0 ∷ 1 ∷ [])
-    two = All-cons (λ k. k < 64) 0 (1 ∷ []) (omega arith) (All-cons (λ k. k < 64) 1 [] (omega arith) (All-nil (λ k. k < 64)))

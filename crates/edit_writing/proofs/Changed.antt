@@ -8,9 +8,9 @@ use Rattle.std.proofs.lemmas.Map.Views.{All-keys-insert_entry}
 use Rattle.std.specs.List.{All, cons_option, filter_map, list_all}
 use Rattle.std.specs.Map.{keys_of}
 use Rattle.std.specs.Ordering.{nat_cmp}
-use Rattle.sector_definitions.specs.Bytes.{number_at}
-use Rattle.sector_definitions.specs.Patches.{patches_of}
-use Rattle.disk_definitions.specs.Disks.{Sectors}
+use Rattle.sector_bytes.specs.Bytes.{number_at}
+use Rattle.sector_bytes.specs.Patches.{patches_of}
+use Rattle.sector_bytes.specs.Sectors.{Sectors}
 use Rattle.disk_definitions.specs.Standing.{version_at}
 use Rattle.store_changes.specs.Edits.{Edit}
 use Rattle.plan_definitions.specs.Written.{all_edited, change_by, change_of, edited_sectors, with_number}

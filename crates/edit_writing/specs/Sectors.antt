@@ -1,14 +1,19 @@
 -- One sector by the edits that are of it, and which versions have a next one.
 use Rattle.std.specs.Prelude.{ℕ, ◌-◌, ◌^◌, Bool, IsTrue, ◌==◌, nat_lt, if◌then◌else◌, Option, Some, None, Result, Ok, Err, List}
 use Rattle.std.specs.List.{filter_map, list_all}
-use Rattle.sector_definitions.specs.Bytes.{number_at, zeros}
-use Rattle.disk_definitions.specs.Disks.{Sectors}
+use Rattle.sector_bytes.specs.Bytes.{number_at, zeros}
+use Rattle.sector_bytes.specs.Sectors.{Sectors}
 use Rattle.disk_definitions.specs.Standing.{version_at}
 use Rattle.store_changes.specs.Edits.{Edit}
-use Rattle.plan_definitions.specs.Written.{edit_sector, edited_block, metadata_sector}
+use Rattle.plan_definitions.specs.Written.{edit_sector, edited_block, metadata_sector, sectors_at_hand}
+use Rattle.dir_lookup.specs.declared.hand.Hand.{Hand}
 use Rattle.plan_steps.specs.declared.edit.Outcome.{Outcome}
 use Rattle.plan_steps.specs.declared.stop.Stop.{Stop}
 use Rattle.plan_steps.specs.Edits.{edits_of}
+
+-- the sectors at hand, as sectors of a disk
+abbrev pub at_hand : Hand → Sectors
+at_hand hand = sectors_at_hand hand.sectors.now.entries hand.held.now
 
 -- the block, or zeros where there is none
 abbrev pub block_or_zeros : Option (List ℕ) → List ℕ

@@ -1,29 +1,28 @@
 // The blocks of the sectors at hand.
 ghost use Rattle.std.specs.Prelude.{◌≡◌};
 ghost use Rattle.std.specs.Option.{option_copied, option_map};
-ghost use Rattle.change_definitions.specs.SectorMaps.{value_at};
+ghost use Rattle.sector_bytes.specs.SectorMaps.{value_at};
 ghost use Rattle.sector_definitions.specs.Bitmaps.{bitmap_bytes};
-ghost use Rattle.sector_definitions.specs.Bytes.{zeros};
 ghost use Rattle.pick_definitions.specs.Held.{AreSegments};
-ghost use Rattle.plan_definitions.specs.Written.{segment_sectors, sectors_at_hand};
-ghost use Rattle.edit_writing.specs.Sectors.{block_or_zeros};
+ghost use Rattle.plan_definitions.specs.Written.{segment_sectors};
+ghost use Rattle.edit_writing.specs.Sectors.{at_hand, block_or_zeros};
 
 use bitmap_block::encode;
+use dir_lookup::Hand;
+use frang_base::limits::{SECTOR_BYTES, SEGMENTS_MAX};
 use frang_base::{Bitmap, Block, Held, Sector};
 use frang_layout::BITMAPS_FROM;
 use meta_version::Sectors;
-
-// The most segments that a disk has.
-const SEGMENTS: u64 = 64;
+use sector_bytes::zero_block;
 
 /// The block of a sector: that of a held segment by its bitmap, else the cached one, else zeros.
-pub(crate) fn block_at_hand(sectors: &Sectors, held: &Held, sector: Sector) -> Block
-    requires { AreSegments held.now }
-    ensures { result ≡ sectors_at_hand sectors.now.entries held.now sector.0 }
+pub(crate) fn block_at_hand(hand: &Hand, sector: Sector) -> Block
+    requires { AreSegments hand.now.held.now }
+    ensures { result ≡ at_hand hand.now sector.0 }
 {
-    match segment_at(held, sector) {
+    match segment_at(hand.held, sector) {
         Some(bitmap) => segment_block(bitmap),
-        None => cached_block(sectors, sector),
+        None => cached_block(hand.sectors, sector),
     }
 }
 
@@ -36,7 +35,7 @@ fn segment_at(held: &Held, sector: Sector) -> Option<&Bitmap>
         return None;
     }
     let segment = sector.0 - BITMAPS_FROM;
-    if segment >= SEGMENTS {
+    if segment >= u64::from(SEGMENTS_MAX) {
         return None;
     }
     held.get(segment as u32)
@@ -45,7 +44,7 @@ fn segment_at(held: &Held, sector: Sector) -> Option<&Bitmap>
 fn segment_block(bitmap: &Bitmap) -> Block
     ensures { result ≡ bitmap_bytes bitmap.now }
 {
-    let mut block = [0; 512];
+    let mut block = [0; SECTOR_BYTES];
     encode(bitmap, &mut block);
     block
 }
@@ -58,11 +57,4 @@ fn cached_block(sectors: &Sectors, sector: Sector) -> Block
         Some(block) => *block,
         None => zero_block(),
     }
-}
-
-#[tactic(auto, unfolding(sector_definitions::specs::Bytes::zeros))]
-fn zero_block() -> Block
-    ensures { result ≡ zeros 512 }
-{
-    [0; 512]
 }

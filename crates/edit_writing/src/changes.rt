@@ -2,55 +2,50 @@
 ghost use Rattle.std.specs.Prelude.{◌≡◌, ◌+◌, ◌-◌, ◌<◌, ◌^◌, [], IfOk, IsTrue, fold};
 ghost use Rattle.std.specs.List.{filter_map, list_all};
 ghost use Rattle.std.specs.Map.{keys_of};
-ghost use Rattle.sector_definitions.specs.Bytes.{number_at};
-ghost use Rattle.sector_definitions.specs.Patches.{patches_of};
+ghost use Rattle.sector_bytes.specs.Bytes.{number_at};
+ghost use Rattle.sector_bytes.specs.Patches.{patches_of};
 ghost use Rattle.pick_definitions.specs.Held.{AreSegments};
 ghost use Rattle.plan_definitions.specs.Written as written;
-ghost use Rattle.plan_definitions.specs.Written.{all_edited, change_by, metadata_sector, sectors_at_hand, with_number};
+ghost use Rattle.plan_definitions.specs.Written.{all_edited, change_by, metadata_sector, with_number};
 ghost use Rattle.plan_steps.specs.Edits.{edits_of};
-ghost use Rattle.edit_writing.specs.Sectors.{HasNextVersions, edited_at, has_next_version};
+ghost use Rattle.edit_writing.specs.Sectors.{HasNextVersions, at_hand, edited_at, has_next_version};
 
 use crate::at_hand::block_at_hand;
 use crate::edited::{is_metadata, make, sector_of_edit};
 use block_patches::patches_of;
 use byteorder::{ByteOrder, LittleEndian};
-use frang_base::{Block, Change, Held, NoMemory, Sector};
-use meta_version::{Changes, SectorMap, Sectors};
+use dir_lookup::Hand;
+use frang_base::{Block, Change, Changes, NoMemory, Sector};
+use meta_version::SectorMap;
 use plan_steps::Edit;
 use std::alloc::Global;
 
 /// The changes that the edits make of the sectors at hand, ascending by sector: of each that they change the longest runs of new bytes,
 /// with its next version. A sector that comes out as it was has none. Its one refusal is want of memory. Each held segment is one of the
 /// 64 that a disk may have, and each version that rises has a next one: `have_next_versions` tests it.
-pub fn changes_of(
-    alloc: Global,
-    sectors: &Sectors,
-    held: &Held,
-    edits: &[Edit],
-) -> Result<Changes, NoMemory>
-    requires segments { AreSegments held.now }
-    requires versions { HasNextVersions (sectors_at_hand sectors.now.entries held.now) (edits_of edits.now) }
-    ensures { IfOk result (λ changes. changes ≡ written.changes_of (sectors_at_hand sectors.now.entries held.now) (edits_of edits.now)) }
+pub fn changes_of(alloc: Global, hand: &Hand, edits: &[Edit]) -> Result<Changes, NoMemory>
+    requires segments { AreSegments hand.now.held.now }
+    requires versions { HasNextVersions (at_hand hand.now) (edits_of edits.now) }
+    ensures { IfOk result (λ changes. changes ≡ written.changes_of (at_hand hand.now) (edits_of edits.now)) }
 {
     let numbers = edited_sectors(alloc, edits)?;
-    changes_at(alloc, sectors, held, edits, numbers.entries())
+    changes_at(alloc, hand, edits, numbers.entries())
 }
 
 // The changes of these sectors.
 fn changes_at(
     alloc: Global,
-    sectors: &Sectors,
-    held: &Held,
+    hand: &Hand,
     edits: &[Edit],
     numbers: &[(u64, u8)],
 ) -> Result<Changes, NoMemory>
-    requires segments { AreSegments held.now }
-    requires versions { IsTrue (list_all (has_next_version (sectors_at_hand sectors.now.entries held.now)) (keys_of numbers.now)) }
-    ensures { IfOk result (λ changes. changes ≡ filter_map (written.change_of (sectors_at_hand sectors.now.entries held.now) (all_edited (sectors_at_hand sectors.now.entries held.now) (edits_of edits.now))) (keys_of numbers.now)) }
+    requires segments { AreSegments hand.now.held.now }
+    requires versions { IsTrue (list_all (has_next_version (at_hand hand.now)) (keys_of numbers.now)) }
+    ensures { IfOk result (λ changes. changes ≡ filter_map (written.change_of (at_hand hand.now) (all_edited (at_hand hand.now) (edits_of edits.now))) (keys_of numbers.now)) }
 {
     let mut changes = Vec::new(alloc);
     for (number, _) in numbers {
-        if let Some(change) = change_of(alloc, sectors, held, edits, Sector(*number))? {
+        if let Some(change) = change_of(alloc, hand, edits, Sector(*number))? {
             changes.push(change)?;
         }
     }
@@ -60,16 +55,15 @@ fn changes_at(
 // The change of a sector, where one of its bytes changes.
 fn change_of(
     alloc: Global,
-    sectors: &Sectors,
-    held: &Held,
+    hand: &Hand,
     edits: &[Edit],
     sector: Sector,
 ) -> Result<Option<Change>, NoMemory>
-    requires segments { AreSegments held.now }
-    requires version { IsTrue (has_next_version (sectors_at_hand sectors.now.entries held.now) sector.0) }
-    ensures { IfOk result (λ change. change ≡ written.change_of (sectors_at_hand sectors.now.entries held.now) (all_edited (sectors_at_hand sectors.now.entries held.now) (edits_of edits.now)) sector.0) }
+    requires segments { AreSegments hand.now.held.now }
+    requires version { IsTrue (has_next_version (at_hand hand.now) sector.0) }
+    ensures { IfOk result (λ change. change ≡ written.change_of (at_hand hand.now) (all_edited (at_hand hand.now) (edits_of edits.now)) sector.0) }
 {
-    let old = block_at_hand(sectors, held, sector);
+    let old = block_at_hand(hand, sector);
     let new = edited(old, sector, edits);
     change_between(alloc, sector, &old, &new)
 }

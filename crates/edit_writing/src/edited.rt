@@ -2,7 +2,7 @@
 ghost use Rattle.std.specs.Prelude.{◌≡◌, ◌/◌, ◌%◌, None, length};
 ghost use Rattle.std.specs.Option.{option_map};
 ghost use Rattle.sector_definitions.specs.Bitmaps.{bitmap_bytes, bitmap_fields};
-ghost use Rattle.sector_definitions.specs.Bytes.{number_at};
+ghost use Rattle.sector_bytes.specs.Bytes.{number_at};
 ghost use Rattle.sector_definitions.specs.Directories.{directory_bytes, directory_fields};
 ghost use Rattle.sector_definitions.specs.Inodes.{inode_bytes};
 ghost use Rattle.disk_definitions.specs.Store.{stored, entered};
@@ -14,16 +14,14 @@ ghost use Rattle.plan_definitions.specs.Written.{edit_sector, edited_block, is_m
 ghost use Rattle.plan_steps.specs.Edits.{edit_of};
 
 use crate::fields::{inode_with, place_with};
-use bitmap_alloc::{mark_blocks, mark_inode};
+use bitmap_alloc::{mark_block, mark_inode};
 use bitmap_block::BlockState;
 use byteorder::{ByteOrder, LittleEndian};
+use frang_base::limits::{SECTOR_ENTRIES, SEGMENT_BLOCKS, SEGMENT_INODES};
 use frang_base::{Block, Sector};
-use frang_layout::{Region, SEGMENT_BLOCKS, SEGMENT_INODES, sector_of};
+use frang_layout::{Region, sector_of};
 use plan_steps::Edit;
 use sector_definitions::{DirEntry, Inode};
-
-// The places of a sector of a directory.
-const PLACES: u32 = 7;
 
 /// The sector that an edit changes.
 pub(crate) fn sector_of_edit(edit: &Edit) -> Sector
@@ -51,7 +49,7 @@ fn sector_of_place(block: u32, place: u32) -> Sector
     ensures { result.0 ≡ edit_sector (SetPlace block place None) }
 {
     let first = sector_of(&Region::Small { block, part: 0 });
-    Sector(first.0 + u64::from(place / PLACES))
+    Sector(first.0 + u64::from(place / SECTOR_ENTRIES))
 }
 
 /// Whether an edit is of a sector with a version.
@@ -104,8 +102,7 @@ fn set_state(block: &mut Block, number: u32, state: BlockState)
     ensures { block.new ≡ bitmap_bytes (with_state (bitmap_fields block.old) (number % 1024) (state_number state)) }
 {
     let bitmap = bitmap_block::fields(block);
-    let segment = number / SEGMENT_BLOCKS;
-    bitmap_block::encode(&mark_blocks(bitmap, segment, &[number], state), block);
+    bitmap_block::encode(&mark_block(bitmap, number % SEGMENT_BLOCKS, state), block);
 }
 
 // The sector of a directory has this entry at a place of its block, or nothing.
@@ -113,7 +110,7 @@ fn set_place(block: &mut Block, place: u32, entry: &Option<DirEntry>)
     ensures { block.new ≡ directory_bytes (with_place (directory_fields block.old) (place % 7) (option_map entered entry.now)) }
 {
     let mut sector = dir_block::fields(block);
-    sector.entries[(place % PLACES) as usize] = place_with(entry);
+    sector.entries[(place % SECTOR_ENTRIES) as usize] = place_with(entry);
     dir_block::encode(&sector, block);
 }
 

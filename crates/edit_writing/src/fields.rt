@@ -1,18 +1,14 @@
 // What edits put into a sector, field by field.
 ghost use Rattle.std.specs.Prelude.{◌≡◌, ◌≤◌, Some, None, length};
 ghost use Rattle.std.specs.Option.{option_map};
-ghost use Rattle.sector_definitions.specs.Bytes.{zeros};
+ghost use Rattle.sector_bytes.specs.Bytes.{zeros};
 ghost use Rattle.disk_definitions.specs.Store.{stored, entered};
 ghost use Rattle.plan_definitions.specs.Written.{inode_with, padded, place_with};
 
+use frang_base::limits::{
+    INODE_BLOCKS_MAX, KIND_FREE, KIND_LINK, NAME_BYTES_MAX, TARGET_BYTES_MAX,
+};
 use sector_definitions::{DirEntry, Inode};
-
-// The kind of a symbolic link.
-const LINK: u8 = 3;
-
-const NAME_BYTES: u8 = 64;
-
-const TARGET_BYTES: u64 = 384;
 
 /// The inode with this version, in use or free. Behind a link's target, and in place of one where it is no link, stand zeros.
 pub(crate) fn inode_with(version: u64, inode: &Option<Inode>) -> Inode
@@ -40,7 +36,7 @@ fn free_inode(version: u64) -> Inode
 {
     Inode {
         version,
-        kind: 0,
+        kind: KIND_FREE,
         links: 0,
         blocks: 0,
         size: 0,
@@ -51,25 +47,25 @@ fn free_inode(version: u64) -> Inode
     }
 }
 
-#[tactic(auto, unfolding(sector_definitions::specs::Bytes::zeros))]
+#[tactic(auto, unfolding(sector_bytes::specs::Bytes::zeros))]
 fn no_blocks() -> [u32; 16]
     ensures { result ≡ zeros 16 }
 {
-    [0; 16]
+    [0; INODE_BLOCKS_MAX as usize]
 }
 
-#[tactic(auto, unfolding(sector_definitions::specs::Bytes::zeros))]
+#[tactic(auto, unfolding(sector_bytes::specs::Bytes::zeros))]
 fn no_target() -> [u8; 384]
     ensures { result ≡ zeros 384 }
 {
-    [0; 384]
+    [0; TARGET_BYTES_MAX]
 }
 
-#[tactic(auto, unfolding(sector_definitions::specs::Bytes::zeros))]
+#[tactic(auto, unfolding(sector_bytes::specs::Bytes::zeros))]
 fn no_name() -> [u8; 64]
     ensures { result ≡ zeros 64 }
 {
-    [0; 64]
+    [0; NAME_BYTES_MAX]
 }
 
 // The target of a link, and zeros.
@@ -86,8 +82,8 @@ fn target_bytes(inode: &Inode) -> &[u8]
     ensures is { result.now ≡ (stored inode.now).target }
     ensures within { length result.now ≤ 384 }
 {
-    if inode.kind == LINK {
-        &inode.target[..inode.size.min(TARGET_BYTES) as usize]
+    if inode.kind == KIND_LINK {
+        &inode.target[..inode.size.min(TARGET_BYTES_MAX as u64) as usize]
     } else {
         &[]
     }
@@ -102,7 +98,7 @@ pub(crate) fn place_with(entry: &Option<DirEntry>) -> DirEntry
         None => DirEntry {
             inode: 0,
             len: 0,
-            kind: 0,
+            kind: KIND_FREE,
             name: no_name(),
         },
     }
@@ -111,7 +107,7 @@ pub(crate) fn place_with(entry: &Option<DirEntry>) -> DirEntry
 fn used_place(entry: &DirEntry) -> DirEntry
     ensures { result ≡ place_with (Some (entered entry.now)) }
 {
-    let len = entry.len.min(NAME_BYTES);
+    let len = entry.len.min(NAME_BYTES_MAX as u8);
     let mut name = no_name();
     pad(&entry.name[..usize::from(len)], &mut name);
     DirEntry {
@@ -131,7 +127,7 @@ fn pad(bytes: &[u8], to: &mut [u8])
     clear(rest);
 }
 
-#[tactic(auto, unfolding(sector_definitions::specs::Bytes::zeros))]
+#[tactic(auto, unfolding(sector_bytes::specs::Bytes::zeros))]
 fn clear(to: &mut [u8])
     ensures { to.new ≡ zeros (length to.old) }
 {

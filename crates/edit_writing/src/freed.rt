@@ -13,17 +13,12 @@ ghost use Rattle.dir_lookup.specs.Planned.{sector_by};
 ghost use Rattle.plan_steps.specs.Edits.{edit_of, edits_of};
 
 use bitmap_block::BlockState;
+use frang_base::limits::{LARGE_BLOCK_SECTORS, SMALL_BLOCK_SECTORS};
 use frang_base::{NoMemory, Sector};
 use frang_layout::{Region, sector_of};
 use meta_version::{SectorList, SectorMap};
 use plan_steps::Edit;
 use std::alloc::Global;
-
-// The sectors of a small block.
-const SMALL_BLOCK_PARTS: u8 = 8;
-
-// The sectors of a large block.
-const LARGE_BLOCK_PARTS: u16 = 2048;
 
 /// Each sector of the blocks of file bytes that the edits give back, ascending and once. Its one refusal is want of memory.
 pub fn freed_sectors(alloc: Global, edits: &[Edit]) -> Result<SectorList, NoMemory>
@@ -64,7 +59,7 @@ fn give_small(freed: &mut SectorMap<u8>, block: u32, state: BlockState) -> Resul
     ensures { OnOk result (freed.new.entries ≡ fold with_number freed.old.entries (sectors_given_back (SetUse block (use_by (state_number state))))) }
 {
     match state {
-        BlockState::Unused => add_small(freed, block, SMALL_BLOCK_PARTS),
+        BlockState::Unused => add_small(freed, block, SMALL_BLOCK_SECTORS as u8),
         _ => Ok(()),
     }
 }
@@ -76,7 +71,7 @@ fn give_large(freed: &mut SectorMap<u8>, block: u32, used: bool) -> Result<(), N
     if used {
         return Ok(());
     }
-    add_large(freed, block, LARGE_BLOCK_PARTS)
+    add_large(freed, block, LARGE_BLOCK_SECTORS as u16)
 }
 
 // Adds the first sectors of a small block.

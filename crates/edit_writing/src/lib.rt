@@ -10,8 +10,6 @@ mod edited;
 mod ended;
 mod fields;
 mod freed;
-#[cfg(test)]
-mod tests;
 mod versions;
 
 pub use bytes::byte_writes;

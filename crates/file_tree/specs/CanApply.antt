@@ -2,7 +2,7 @@
 use Rattle.std.specs.Prelude.{Bool, false, ◌≡◌, true, IsTrue}
 use Rattle.frang_base.specs.declared.op.Op.{Op}
 use Rattle.frang_base.specs.declared.op.Op.TheVariants as op
-use Rattle.script_definitions.specs.SaidReading.{is_target}
+use Rattle.frang_base.specs.Name.{is_target}
 use Rattle.tree_definitions.specs.Tree.{FileTree}
 use Rattle.tree_definitions.specs.Apply.{apply}
 use Rattle.file_tree.specs.Sure.{shows_sure}

@@ -1,9 +1,9 @@
 -- What a tree holds can be said: targets are targets, and the text of a path is one.
 use Rattle.std.specs.Prelude.{◌≡◌, ℕ, Bool, true, ◌&&◌, ◌==◌, if◌then◌else◌, IsTrue, List, [], ◌∷◌}
 use Rattle.std.specs.List.{list_all, slice_split}
-use Rattle.frang_base.specs.Name.{is_name}
+use Rattle.frang_base.specs.Name.{is_name, is_target}
 use Rattle.frang_base.specs.declared.said.Said.{Said}
-use Rattle.script_definitions.specs.SaidReading.{is_target, IsProperSaid}
+use Rattle.script_definitions.specs.SaidReading.{IsProperSaid}
 use Rattle.tree_definitions.specs.declared.node.Node.{Node}
 use Rattle.tree_definitions.specs.declared.node.Node.TheVariants.{Dir, File, Link}
 use Rattle.tree_definitions.specs.Tree.{FileTree, count_of}

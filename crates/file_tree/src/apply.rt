@@ -1,6 +1,7 @@
 // Operations applied to a tree.
 ghost use Rattle.std.specs.Prelude.{◌≡◌, ℕ, [], false, IfOk, IsTrue, OnErr};
-ghost use Rattle.script_definitions.specs.SaidReading.{IsProperReply, is_target};
+ghost use Rattle.script_definitions.specs.SaidReading.{IsProperReply};
+ghost use Rattle.frang_base.specs.Name.{is_target};
 ghost use Rattle.tree_definitions.specs.declared.node.Node.TheVariants.{Dir, File, Link};
 ghost use Rattle.tree_definitions.specs.Apply.{apply, made};
 ghost use Rattle.tree_definitions.specs.Place.{place};

@@ -25,27 +25,3 @@ pub fn may_go(dirty: &[Mark], reached: u64) -> Option<Sector>
     let mark = dirty.iter().find(|mark| mark.mark <= reached)?;
     Some(mark.sector)
 }
-
-#[cfg(test)]
-mod tests {
-    use super::*;
-
-    #[test]
-    fn the_first_in_the_list_goes(rt: HostRuntime) {
-        let dirty = [
-            Mark {
-                sector: Sector(4),
-                mark: 260,
-            },
-            Mark {
-                sector: Sector(6),
-                mark: 257,
-            },
-        ];
-        assert_eq!(rt; may_go(&dirty, 256), None);
-        assert_eq!(rt; may_go(&dirty, 257), Some(Sector(6)));
-        assert_eq!(rt; may_go(&dirty, 259), Some(Sector(6)));
-        assert_eq!(rt; may_go(&dirty, 260), Some(Sector(4)));
-        assert_eq!(rt; may_go(&[], 300), None);
-    }
-}

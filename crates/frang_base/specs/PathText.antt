@@ -2,6 +2,7 @@
 use Rattle.std.specs.Prelude.{◌≡◌, ℕ, ◌+◌, Bool, true, false, not, ◌&&◌, ◌||◌, ◌==◌, if◌then◌else◌, nat_lt, List, [], ◌∷◌, length, Option, Some, None, Result, Ok, Err}
 use Rattle.std.specs.List.{list_all, slice_split}
 use Rattle.frang_base.specs.Name.{is_dots, is_name_byte}
+use Rattle.frang_base.specs.declared.limits.TheConstants.{NAME_BYTES_MAX, PATH_BYTES_MAX, PATH_NAMES_MAX}
 use Rattle.frang_base.specs.declared.fault.PathFault.{PathFault}
 use Rattle.frang_base.specs.declared.fault.PathFault.TheVariants as fault
 
@@ -13,9 +14,9 @@ parts_left separator (Some text) = slice_split (λ b. b == separator) text
 -- a name, if it is preceded by fewer than 32: not empty, without a forbidden byte, not `.` or `..`, of at most 64 bytes
 abbrev pub name_fault : ℕ → List ℕ → Option PathFault
 name_fault before name =
-    if not (nat_lt before 32) then Some fault.TooDeep
+    if not (nat_lt before PATH_NAMES_MAX) then Some fault.TooDeep
     else (if (length name == 0) || not (list_all is_name_byte name) || is_dots name then Some fault.BadName
-    else (if nat_lt 64 (length name) then Some fault.TooLong else None))
+    else (if nat_lt NAME_BYTES_MAX (length name) then Some fault.TooLong else None))
 
 -- a name before the others
 abbrev pub with_name : List ℕ → Result (List (List ℕ)) PathFault → Result (List (List ℕ)) PathFault
@@ -44,7 +45,7 @@ names_from_root (b ∷ text) = if b == 47 then names_below_root text else Err fa
 
 -- the path of a text of at most 1,024 bytes, or its first fault
 abbrev pub path_of : List ℕ → Result (List (List ℕ)) PathFault
-path_of text = if nat_lt 1024 (length text) then Err fault.TooLong else names_from_root text
+path_of text = if nat_lt PATH_BYTES_MAX (length text) then Err fault.TooLong else names_from_root text
 
 -- what a reader of paths answers, unless memory is short
 abbrev pub IsPathAnswer : Result (List (List ℕ)) PathFault → Result (List (List ℕ)) PathFault → Type 0

@@ -1,9 +1,9 @@
-// What a record of the log changes: sectors, each by patches of its bytes.
+// Records of a log, and what they change: sectors, each by patches of its bytes.
 ghost use Rattle.std.specs.Prelude.{◌≡◌, ◌↔◌, [], ◌∷◌, ◌++◌, length, IfOk, IsTrue, OnOk, OnErr};
 ghost use Rattle.std.specs.List.{slice_get};
 ghost use Rattle.std.specs.Option.{option_copied};
 
-use crate::{NoMemory, Sector, Text};
+use crate::{Items, NoMemory, OpNo, Sector, Text};
 use std::alloc::{AllocError, Global};
 use std::marker::Model;
 
@@ -99,4 +99,14 @@ pub struct Change {
     pub sector: Sector,
     pub version: u64,
     pub patches: Patches,
+}
+
+/// Changes of sectors.
+pub type Changes = Items<Change>;
+
+/// A record of a log: the operation that it is of, and the changes of sectors that it makes.
+#[derive(Debug, Drop)]
+pub struct Redo {
+    pub op: OpNo,
+    pub changes: Changes,
 }

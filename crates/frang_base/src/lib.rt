@@ -6,6 +6,8 @@
 mod bitmap;
 mod change;
 mod fault;
+mod items;
+pub mod limits;
 mod lock;
 mod name;
 mod names;
@@ -18,8 +20,9 @@ mod sector;
 mod text;
 
 pub use bitmap::{Bitmap, Held};
-pub use change::{Change, Patch, Patches};
+pub use change::{Change, Changes, Patch, Patches, Redo};
 pub use fault::{NoMemory, PathFault};
+pub use items::Items;
 pub use lock::{LockId, Mode};
 pub use name::Name;
 pub use names::{NameList, Path};

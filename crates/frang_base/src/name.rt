@@ -8,30 +8,29 @@ ghost use Rattle.std.specs.Cmp.Lexicographic.{slice_cmp, nat_list_cmp_total};
 ghost use Rattle.std.specs.Cmp.Rules.{comparing};
 ghost use Rattle.std.specs.Ordering.{nat_cmp, eq_by_cmp, as_partial_cmp};
 
+use crate::limits::NAME_BYTES_MAX;
 use std::alloc::AllocError;
 use std::cmp::Ordering;
 use std::marker::Model;
-
-/// Bytes of a name, at most.
-pub(crate) const NAME_BYTES_MAX: usize = 64;
 
 /// A name, seen as the list of its bytes: 1 to 64 of them, none at most 0x20, 0x7F or `/`, and not `.` or `..`. Names are
 /// ordered by their bytes.
 #[derive(Debug, Drop)]
 pub struct Name {
-    bytes: [u8; 64],
+    bytes: [u8; NAME_BYTES_MAX],
     len: usize,
 }
 
 impl Model for Name {
     ghost use Rattle.std.specs.Prelude.{List, ℕ, ◌≡◌, ◌≤◌, IsTrue, take, length};
     ghost use Rattle.frang_base.specs.Name.{is_name};
+    ghost use Rattle.frang_base.specs.declared.limits.TheConstants.{NAME_BYTES_MAX};
 
     ghost Value = { List ℕ };
 
     ghost view = { λ n. take n.len n.bytes };
 
-    ghost invariant = { λ n. (n.len ≤ 64) × IsTrue (is_name (take n.len n.bytes)) };
+    ghost invariant = { λ n. (n.len ≤ NAME_BYTES_MAX) × IsTrue (is_name (take n.len n.bytes)) };
 }
 
 fn is_name_byte(byte: u8) -> bool
@@ -72,7 +71,7 @@ impl Name {
             return None;
         }
         let len = bytes.len();
-        let mut held = [0; 64];
+        let mut held = [0; NAME_BYTES_MAX];
         held[..len].copy_from_slice(bytes);
         Some(Name { bytes: held, len })
     }

@@ -5,15 +5,9 @@ ghost use Rattle.std.specs.Option.{option_copied};
 ghost use Rattle.frang_base.specs.Name.{is_name_byte};
 ghost use Rattle.frang_base.specs.PathText.{parts_left, name_fault, names_from, path_of, IsPathAnswer};
 
-use crate::name::NAME_BYTES_MAX;
+use crate::limits::{NAME_BYTES_MAX, PATH_BYTES_MAX, PATH_NAMES_MAX};
 use crate::{Name, NoMemory, Path, PathFault};
 use std::alloc::Global;
-
-// Bytes of a path's text, at most.
-const PATH_BYTES_MAX: usize = 1024;
-
-// Names of a path, at most.
-const PATH_NAMES_MAX: usize = 32;
 
 impl From<NoMemory> for PathFault {
     ghost use Rattle.frang_base.specs.declared.fault.PathFault.TheVariants.{NoMemory as Want};

@@ -9,8 +9,7 @@ mod place;
 
 pub use laws::{sectors_and_places_agree, segments_cover_their_own};
 pub use limits::{
-    BITMAPS_FROM, INODES_FROM, LARGE_BLOCK_SECTORS, LARGE_BLOCKS_FROM, LARGE_STRIDE, LOG_SLOTS,
-    LOG_STRIDE, LOGS, LOGS_FROM, SEGMENT_BLOCKS, SEGMENT_INODES, SMALL_BLOCK_SECTORS,
+    BITMAPS_FROM, INODES_FROM, LARGE_BLOCKS_FROM, LARGE_STRIDE, LOG_STRIDE, LOGS_FROM,
     SMALL_BLOCKS_FROM,
 };
 pub use place::{free_cover, region_of, sector_of};

@@ -10,7 +10,8 @@ use Rattle.frang_outside.specs.declared.outside.PutFault.{PutFault}
 use Rattle.frang_outside.specs.declared.outside.PutFault.TheVariants.{Failed as PutFailed, NoMemory as PutNoMemory}
 use Rattle.frang_outside.specs.declared.outside.SayFault.{SayFault}
 use Rattle.frang_outside.specs.declared.outside.SayFault.TheVariants.{Failed as SayFailed, NoMemory as SayNoMemory}
-use Rattle.frang_outside.specs.Disk.{Sectors, SameSectors, written, disk_after}
+use Rattle.frang_outside.specs.Disk.{written, disk_after}
+use Rattle.sector_bytes.specs.Sectors.{Sectors, SameSectors}
 
 -- the bytes of each sector; the acts so far, where they are told; how many gets and puts have failed that named a party, and how many says
 pub record State : Type 0 where
@@ -55,7 +56,7 @@ told_more (Some acts) act = Some (acts ++ act ∷ [])
 
 -- a record that is told accounts for the sectors
 abbrev pub Accounts : State → Type 0
-Accounts s = (acts : List Act) → s.acts ≡ Some acts → SameSectors (disk_after acts) s.sectors
+Accounts s = (acts : List Act) → s.acts ≡ Some acts → SameSectors s.sectors (disk_after acts)
 
 -- an answered get gives the sector's bytes; a failed one is counted for the server
 abbrev pub GetOutcome : State → State → ℕ → ℕ → Result (List ℕ) Failed → Type 0
@@ -70,10 +71,10 @@ pub record OldOrNew (old new : Sectors) (put : Put) : Type 0 where
 -- a put is late exactly where its stamp is below the present moment, also where the call would have failed, and then it changes
 -- no sector; the record has each answered put; a failed one leaves the old sector or the new one
 abbrev pub PutOutcome : State → State → Put → Result Taken PutFault → Type 0
-PutOutcome old new put (Ok Written) = (put.now ≤ put.stamp) × SameSectors (written old.sectors put.sector.0 put.bytes) new.sectors × (new.acts ≡ told_more old.acts (Acted put Written)) × NoneRose old new
-PutOutcome old new put (Ok Late) = (put.stamp < put.now) × SameSectors old.sectors new.sectors × (new.acts ≡ told_more old.acts (Acted put Late)) × NoneRose old new
+PutOutcome old new put (Ok Written) = (put.now ≤ put.stamp) × SameSectors new.sectors (written old.sectors put.sector.0 put.bytes) × (new.acts ≡ told_more old.acts (Acted put Written)) × NoneRose old new
+PutOutcome old new put (Ok Late) = (put.stamp < put.now) × SameSectors new.sectors old.sectors × (new.acts ≡ told_more old.acts (Acted put Late)) × NoneRose old new
 PutOutcome old new put (Err PutFailed) = (put.now ≤ put.stamp) × OldOrNew old.sectors new.sectors put × (new.acts ≡ old.acts) × OneRose old new put.server.0
-PutOutcome old new put (Err PutNoMemory) = SameSectors old.sectors new.sectors × (new.acts ≡ old.acts) × NoneRose old new
+PutOutcome old new put (Err PutNoMemory) = SameSectors new.sectors old.sectors × (new.acts ≡ old.acts) × NoneRose old new
 
 -- the record has the line that was said; a refused one adds nothing
 abbrev pub SayOutcome : State → State → List ℕ → Result (Unit {0}) SayFault → Type 0

@@ -1,9 +1,10 @@
 // Sectors in memory.
 ghost use Rattle.std.specs.Prelude.{◌≡◌, [], OnOk, OnErr};
-ghost use Rattle.frang_outside.specs.Disk.{SameSectors, written, zero_block};
-ghost use Rattle.frang_outside.specs.Blocks.{block_at};
+ghost use Rattle.frang_outside.specs.Disk.{written};
+ghost use Rattle.sector_bytes.specs.Sectors.{SameSectors, sectors_of};
 
 use frang_base::{Block, NoMemory, Sector};
+use sector_bytes::zero_block;
 use std::alloc::Global;
 use std::collections::BTreeMap;
 use std::marker::Model;
@@ -35,7 +36,7 @@ impl Blocks {
 
     /// A sector's bytes.
     pub(crate) fn get(&self, sector: Sector) -> Block
-        ensures { result ≡ block_at self.now sector.0 }
+        ensures { result ≡ sectors_of self.now sector.0 }
     {
         match self.blocks.get(&sector.0) {
             Some(block) => *block,
@@ -46,17 +47,10 @@ impl Blocks {
     /// Writes a sector. After `NoMemory` all are as before.
     pub(crate) fn set(&mut self, sector: Sector, bytes: Block) -> Result<(), NoMemory>
         ensures ok { OnOk result
-            (SameSectors (written (block_at self.old) sector.0 bytes) (block_at self.new)) }
+            (SameSectors (sectors_of self.new) (written (sectors_of self.old) sector.0 bytes)) }
         ensures err { OnErr result (self.new ≡ self.old) }
     {
         self.blocks.insert(sector.0, bytes)?;
         Ok(())
     }
-}
-
-#[tactic(auto, unfolding(crate::specs::Disk::zero_block))]
-fn zero_block() -> Block
-    ensures { result ≡ zero_block }
-{
-    [0; 512]
 }

@@ -1,6 +1,6 @@
 // The files of the system.
 ghost use Rattle.std.specs.Prelude.{◌≡◌};
-ghost use Rattle.frang_outside.specs.DirFiles.{CountsFault, ReadsWhole};
+ghost use Rattle.frang_outside.specs.DirFiles.{CountsFault, IsFaultOf, ReadsOpened, ReadsWhole, AnswersRead, AnswersWritten};
 
 use crate::{FileFault, Files};
 use std::alloc::Global;
@@ -47,17 +47,31 @@ impl<R: SystemFiles + Drop> Files for DirFiles<R> {
     ghost state = { real_files_state };
 
     fn read(&mut self, alloc: Global, name: &str, limit: u64) -> Result<Vec<u8>, FileFault> {
-        match fs::open(&self.rt, name) {
-            Ok(file) => read_whole(alloc, file, limit, &mut self.read_faults),
-            Err(error) => Err(counted(&error, &mut self.read_faults)),
-        }
+        read_opened(
+            alloc,
+            fs::open(&self.rt, name),
+            limit,
+            &mut self.read_faults,
+        )
     }
 
     fn write(&mut self, name: &str, bytes: &[u8]) -> Result<(), FileFault> {
-        match fs::write(&self.rt, name, bytes) {
-            Ok(()) => Ok(()),
-            Err(error) => Err(counted(&error, &mut self.write_faults)),
-        }
+        answer_written(fs::write(&self.rt, name, bytes), &mut self.write_faults)
+    }
+}
+
+// What a read answers by how the file was opened.
+fn read_opened<I: Read + Drop>(
+    alloc: Global,
+    opened: io::Result<I>,
+    limit: u64,
+    faults: &mut u64,
+) -> Result<Vec<u8>, FileFault>
+    ensures { ReadsOpened I.remaining opened limit faults.old faults.new result }
+{
+    match opened {
+        Ok(input) => read_whole(alloc, input, limit, faults),
+        Err(error) => Err(counted(&error, faults)),
     }
 }
 
@@ -73,19 +87,40 @@ fn read_whole<I: Read + Drop>(
 {
     let mut bytes = Vec::new(alloc);
     let mut input = input.take(limit.saturating_add(1));
-    match input.read_to_end(&mut bytes) {
-        Ok(_) => {}
-        Err(error) => return Err(counted(&error, faults)),
+    let read = input.read_to_end(&mut bytes);
+    answer_read(read, bytes, limit, faults)
+}
+
+// What a read answers by how the reading to the end went, which gave these bytes.
+fn answer_read(
+    read: io::Result<usize>,
+    bytes: Vec<u8>,
+    limit: u64,
+    faults: &mut u64,
+) -> Result<Vec<u8>, FileFault>
+    ensures { AnswersRead read bytes.items limit faults.old faults.new result }
+{
+    match read {
+        Ok(_) if bytes.len() as u64 > limit => Err(FileFault::TooLong),
+        Ok(_) => Ok(bytes),
+        Err(error) => Err(counted(&error, faults)),
     }
-    if bytes.len() as u64 > limit {
-        return Err(FileFault::TooLong);
+}
+
+// What a write answers by what the system answered.
+fn answer_written(written: io::Result<()>, faults: &mut u64) -> Result<(), FileFault>
+    ensures { AnswersWritten written faults.old faults.new result }
+{
+    match written {
+        Ok(()) => Ok(()),
+        Err(error) => Err(counted(&error, faults)),
     }
-    Ok(bytes)
 }
 
 // The fault of a call that answered this error, which is counted but for want of memory.
 fn counted(error: &io::Error, faults: &mut u64) -> FileFault
-    ensures { CountsFault faults.old faults.new result }
+    ensures fault { IsFaultOf error.now result }
+    ensures counts { CountsFault faults.old faults.new result }
 {
     if error.kind() == ErrorKind::OutOfMemory {
         return FileFault::NoMemory;

@@ -1,6 +1,6 @@
 // An outside in memory that fails at listed calls.
 ghost use Rattle.std.specs.Prelude.{◌≡◌, ℕ, [], length, slice_index};
-ghost use Rattle.frang_outside.specs.Disk.{SameSectors};
+ghost use Rattle.sector_bytes.specs.Sectors.{SameSectors};
 ghost use Rattle.frang_outside.specs.Outside.{Rose, NoneFell, GetOutcome, PutOutcome, SayOutcome};
 ghost use Rattle.frang_outside.specs.FaultyOutside.{Calls, is_next_listed, with_call, with_fault, faulty_state, FaultyGet, FaultyPut, FaultySay};
 
@@ -78,8 +78,8 @@ impl Outside for FaultyOutside {
     ghost accounts = { faulty_accounts };
 
     fn get(&mut self, server: ServerId, sector: Sector) -> Result<Block, Failed>
-        ensures sectors { SameSectors (faulty_state self.old).sectors
-            (faulty_state self.new).sectors }
+        ensures sectors { SameSectors (faulty_state self.new).sectors
+            (faulty_state self.old).sectors }
         ensures acts { (faulty_state self.new).acts ≡ (faulty_state self.old).acts }
         ensures counts { NoneFell (faulty_state self.old) (faulty_state self.new) }
         ensures outcome { GetOutcome (faulty_state self.old) (faulty_state self.new)
@@ -116,8 +116,8 @@ impl Outside for FaultyOutside {
     }
 
     fn say(&mut self, line: &[u8]) -> Result<(), SayFault>
-        ensures sectors { SameSectors (faulty_state self.old).sectors
-            (faulty_state self.new).sectors }
+        ensures sectors { SameSectors (faulty_state self.new).sectors
+            (faulty_state self.old).sectors }
         ensures counts { NoneFell (faulty_state self.old) (faulty_state self.new) }
         ensures outcome { SayOutcome (faulty_state self.old) (faulty_state self.new)
             line.now result }

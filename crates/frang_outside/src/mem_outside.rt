@@ -1,6 +1,7 @@
 // An outside in memory. It never fails, and tells its record.
 ghost use Rattle.std.specs.Prelude.{◌≡◌, [], Ok};
-ghost use Rattle.frang_outside.specs.Disk.{SameSectors, disk_after};
+ghost use Rattle.frang_outside.specs.Disk.{disk_after};
+ghost use Rattle.sector_bytes.specs.Sectors.{SameSectors};
 ghost use Rattle.frang_outside.specs.Outside.{NoneFell, GetOutcome, PutOutcome, SayOutcome};
 ghost use Rattle.frang_outside.specs.MemOutside.{memory_state, MemoryPut, MemorySay};
 
@@ -23,14 +24,14 @@ pub struct MemOutside {
 impl Model for MemOutside {
     ghost use Rattle.std.specs.Prelude.{List};
     ghost use Rattle.frang_outside.specs.declared.act.Act.{Act};
-    ghost use Rattle.frang_outside.specs.Disk.{SameSectors, disk_after};
-    ghost use Rattle.frang_outside.specs.Blocks.{block_at};
+    ghost use Rattle.frang_outside.specs.Disk.{disk_after};
+    ghost use Rattle.sector_bytes.specs.Sectors.{SameSectors, sectors_of};
 
     ghost Value = { List Act };
 
     ghost view = { λ m. m.acts.items };
 
-    ghost invariant = { λ m. SameSectors (disk_after m.acts.items) (block_at m.blocks) };
+    ghost invariant = { λ m. SameSectors (sectors_of m.blocks) (disk_after m.acts.items) };
 }
 
 impl MemOutside {
@@ -91,8 +92,8 @@ impl Outside for MemOutside {
 
     /// Adds the line to the record. Refused only for want of memory.
     fn say(&mut self, line: &[u8]) -> Result<(), SayFault>
-        ensures sectors { SameSectors (memory_state self.old).sectors
-            (memory_state self.new).sectors }
+        ensures sectors { SameSectors (memory_state self.new).sectors
+            (memory_state self.old).sectors }
         ensures counts { NoneFell (memory_state self.old) (memory_state self.new) }
         ensures outcome { SayOutcome (memory_state self.old) (memory_state self.new)
             line.now result }

@@ -1,10 +1,12 @@
 // The outside of the program.
 ghost use Rattle.std.specs.Prelude.{◌≡◌, []};
+ghost use Rattle.frang_outside.specs.StdOutside.{AnswersPrinted};
 
 use crate::blocks::Blocks;
 use crate::{Failed, Outside, Put, PutFault, SayFault, Taken};
 use frang_base::{Block, Sector, ServerId};
 use std::alloc::Global;
+use std::io;
 use std::marker::Model;
 
 /// The outside of the program. Its sectors are in memory, and it says to standard output. It tells
@@ -60,12 +62,19 @@ impl<R: Print + Drop> Outside for StdOutside<R> {
 
     /// Writes the whole line. `Failed` may have written a part of it.
     fn say(&mut self, line: &[u8]) -> Result<(), SayFault> {
-        match self.rt.write_all(line) {
-            Ok(()) => Ok(()),
-            Err(_) => {
-                self.say_faults = self.say_faults.saturating_add(1);
-                Err(SayFault::Failed)
-            }
+        answer_printed(self.rt.write_all(line), &mut self.say_faults)
+    }
+}
+
+// What a say answers by what the printer answered. A failure is counted.
+fn answer_printed(printed: io::Result<()>, faults: &mut u64) -> Result<(), SayFault>
+    ensures { AnswersPrinted printed faults.old faults.new result }
+{
+    match printed {
+        Ok(()) => Ok(()),
+        Err(_) => {
+            *faults = faults.saturating_add(1);
+            Err(SayFault::Failed)
         }
     }
 }

@@ -1,5 +1,5 @@
 -- What a server answers to an operation over a path is its own reply, fits the history and leaves the server ready.
-use Rattle.std.proofs.Common.{◌≡◌, not, ℕ, ◌+◌, ◌-◌, ◌≤◌, ◌<◌, Bool, true, false, ◌&&◌, ◌||◌, cond, List, [], ◌∷◌, map, refl, sym, ◌∙◌, ap, subst, arith, max}
+use Rattle.std.proofs.Common.{◌≡◌, ℕ, ◌≤◌, ◌<◌, Bool, true, false, ◌&&◌, ◌||◌, cond, List, [], ◌∷◌, map, refl, sym, ◌∙◌, ap, subst, arith, max}
 use Rattle.std.specs.List.{All, list_all}
 use Rattle.std.proofs.lemmas.List.Elements.{All-nil, All-cons, All-head, All-tail}
 use Rattle.frang_base.specs.declared.op.Op.{Op}
@@ -10,18 +10,16 @@ use Rattle.tree_definitions.specs.declared.cells.Cell.{Cell}
 use Rattle.tree_definitions.specs.declared.cells.Cell.TheVariants.{Byte, Doubtful}
 use Rattle.frang_base.specs.Name.{is_name}
 use Rattle.frang_base.specs.declared.said.Said.{Said}
-use Rattle.tree_definitions.specs.declared.history.Entry.{Entry}
-use Rattle.tree_definitions.specs.declared.node.Node.{Node}
 use Rattle.tree_definitions.specs.declared.node.Node.TheVariants.{Dir}
 use Rattle.tree_definitions.specs.Tree.{FileTree, fresh, count_of, dir_blocks}
-use Rattle.tree_definitions.specs.Apply.{Answer, Applied, Plain, Shows, apply, is_path_op}
-use Rattle.tree_definitions.specs.History.{agrees, applied, after_read, fits, is_answer, leaves_tree, may_tell, told_blocks, tree_after}
+use Rattle.tree_definitions.specs.Apply.{Answer, Plain, Shows, apply, is_path_op}
+use Rattle.tree_definitions.specs.History.{agrees, applied, after_read, is_answer, leaves_tree, may_tell}
 use Rattle.tree_definitions.specs.Live.{number_of}
 use Rattle.tree_definitions.specs.Transcript.{Off, Up, after_answer, is_mount, is_own, may_answer, may_mount, may_refuse}
 use Rattle.tree_laws.specs.WellFormed.{BirthsAscend}
 use Rattle.tree_laws.proofs.FreshLaws.{fresh_well}
 use Rattle.tree_laws.proofs.OrderLaws.{births_apply, segments_apply}
-use Rattle.script_definitions.specs.SaidReading.{IsProperReply, IsProperSaid, is_target}
+use Rattle.script_definitions.specs.SaidReading.{IsProperReply, IsProperSaid}
 use Rattle.script_definitions.specs.Sayable.{IsNodeOf, IsAppliedOf, IsAnswerOf, IsSayableOp, IsSureCell, IsSureTree, IsTreeReply}
 use Rattle.script_definitions.proofs.SayableTrees.{apply_sayable}
 use Rattle.file_tree.specs.CanApply.{CanApply}
@@ -60,9 +58,17 @@ fits_by true true leaves a b = refl
 fits_by true false leaves a b = cc
 fits_by false tells leaves a b = cc
 
--- the greatest number of directories' blocks grows by no more than the tree's
-most_grows : (before after most : ℕ) → before ≤ most → max most after ≤ most + (after - before)
-most_grows before after most low = omega arith
+or_left : (a b : Bool) → a ≡ true → a || b ≡ true
+or_left true b e = refl
+or_left false b e = cc
+
+or_right : (a b : Bool) → b ≡ true → a || b ≡ true
+or_right true b e = refl
+or_right false b e = e
+
+-- a tree's own blocks are no more than the most that there were
+most_stays : (before most : ℕ) → before ≤ most → most ≡ max most before
+most_stays before most low = omega arith
 
 -- a server that is up may answer so
 not_mount : (o : Op) → is_path_op o ≡ true → is_mount o ≡ false
@@ -90,7 +96,8 @@ answers_applied number o before after r ready up path can proper is mounted most
       fits_where = λ ever high. fits_by _ _ _ answered (told_may before.tree m ever r own ready.counted high);
       tree_is = sym (second _ _ before.tree _ (tree_applies o m r path own) answered ∙ ap (λ a. after_read a.tree o r) told ∙ read_same before.tree after.tree o r (number_of 1 number) m ready.births is);
       segments = ap (λ a. a.tree.segments) (sym is) ∙ segments_apply before.tree o (number_of 1 number) m ready.births;
-      grown = subst (λ n. n ≤ m + (count_of dir_blocks after.tree - count_of dir_blocks before.tree)) (sym most) (most_grows (count_of dir_blocks before.tree) (count_of dir_blocks after.tree) m ready.counted);
+      counts = or_left _ _ (ap (λ a. agrees a.answer r) is ∙ agrees_self r);
+      most = most;
       ready = record {
         counted = subst (λ n. count_of dir_blocks after.tree ≤ n) (sym most) (omega arith);
         births = subst BirthsAscend (ap (λ a. a.tree) is) (births_apply before.tree o (number_of 1 number) m ready.births);
@@ -105,10 +112,11 @@ answers_plain : (number : ℕ) (o : Op) (before after : Server) (r : Reply) → 
 answers_plain number o before after r ready may state leaves same most proper = record {
   may = may;
   state_is = state;
-  fits_where = λ ever high. or_true (is_answer before.tree (entry_of number o r) && may_tell before.tree ever r) (leaves_tree o r) leaves;
+  fits_where = λ ever high. or_right (is_answer before.tree (entry_of number o r) && may_tell before.tree ever r) (leaves_tree o r) leaves;
   tree_is = same ∙ sym (ap (λ b. cond b before.tree (cond (is_answer before.tree (entry_of number o r)) (after_read (applied before.tree (entry_of number o r)).tree o r) before.tree)) leaves);
   segments = ap (λ t. t.segments) same;
-  grown = (let e : after.dir_blocks ≡ before.dir_blocks = most in omega arith);
+  counts = or_right _ (leaves_tree o r) leaves;
+  most = most ∙ most_stays (count_of dir_blocks before.tree) before.dir_blocks ready.counted ∙ ap (λ t. max before.dir_blocks (count_of dir_blocks t)) (sym same);
   ready = record {
     counted = subst (λ t. count_of dir_blocks t ≤ after.dir_blocks) (sym same) (subst (λ n. count_of dir_blocks before.tree ≤ n) (sym most) ready.counted);
     births = subst BirthsAscend (sym same) ready.births;
@@ -116,10 +124,6 @@ answers_plain number o before after r ready may state leaves same most proper = 
   };
   proper = proper;
 }
-  where
-    or_true : (a b : Bool) → b ≡ true → a || b ≡ true
-    or_true true b e = refl
-    or_true false b e = e
 
 pub answers_already : (number : ℕ) (before : Server) → IsReady before → before.mounted ≡ true → Answers number op.Mount before reply.Already before
 answers_already number before ready up =

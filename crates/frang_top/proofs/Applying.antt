@@ -1,5 +1,5 @@
 -- What an operation over a path is answered: a reply of its own, which agrees with itself and tells the number of blocks that was given.
-use Rattle.std.proofs.Common.{◌≡◌, ℕ, ◌+◌, ◌-◌, ◌*◌, ◌<◌, ◌≤◌, Bool, true, false, not, ◌&&◌, ◌||◌, cond, Option, Some, None, List, [], ◌∷◌, ◌++◌, length, map, take, drop, replicate, refl, sym, ◌∙◌, ap, subst, nat_eq, eq-eqb, nat_le, nat_lt, arith, max}
+use Rattle.std.proofs.Common.{◌≡◌, ℕ, ◌+◌, ◌-◌, ◌*◌, ◌≤◌, Bool, true, false, not, ◌&&◌, ◌||◌, cond, Option, Some, None, List, [], ◌∷◌, length, map, replicate, refl, sym, ◌∙◌, ap, nat_eq, eq-eqb, nat_le, nat_lt, arith, max}
 use Rattle.std.specs.Cmp.Lexicographic.{pointwise}
 use Rattle.std.proofs.lemmas.Bool.Decides.{nat_tests}
 use Rattle.frang_base.specs.declared.op.Op.{Op}
@@ -12,13 +12,13 @@ use Rattle.tree_definitions.specs.declared.node.Node.{Node}
 use Rattle.tree_definitions.specs.declared.node.Node.TheVariants.{Dir, File, Link}
 use Rattle.tree_definitions.specs.Tree.{FileTree, node_at, with_node, count_of, dir_blocks, file_blocks, small_blocks_of, large_blocks_of, larges_full}
 use Rattle.tree_definitions.specs.Place.{Place, Root, Taken, Free, Nowhere, place}
-use Rattle.tree_definitions.specs.Apply.{Answer, Plain, Shows, Applied, says, is_path_op, if_file, at_file, written, overwritten, apply}
+use Rattle.tree_definitions.specs.Apply.{Plain, Applied, says, is_path_op, if_file, at_file, written, overwritten, apply}
 use Rattle.tree_definitions.specs.SaidLines.{reply_word}
 use Rattle.tree_definitions.specs.Touched.{is_ok, is_mounted, is_stall, is_unmount}
 use Rattle.tree_definitions.specs.History.{may_be_ok, same_reply, contents_are, agrees, cells_show, may_tell, told_blocks, leaves_tree}
-use Rattle.tree_definitions.specs.Transcript.{Standing, Off, Up, Stalled, Free, ServerState, is_own, calls_death, after_answer}
+use Rattle.tree_definitions.specs.Transcript.{Off, Up, Stalled, Free, is_own, calls_death, after_answer}
 use Rattle.tree_laws.proofs.Sameness.{text_same, pointwise_same}
-use Rattle.script_definitions.specs.Sayable.{IsTreeReply, IsSayableReply}
+use Rattle.script_definitions.specs.Sayable.{IsTreeReply}
 use Rattle.file_tree.specs.Replies.{answer_of, gives}
 use Rattle.frang_top.specs.Answering.{state_with}
 use Rattle.frang_top.proofs.HistoryLaws.{both}
@@ -74,7 +74,7 @@ not_mounted m reply.Mounted h = absurd h
 not_mounted m r h = refl
 
 stays_up : (mounts stalls unmounts calls ok : Bool) → mounts ≡ false → stalls ≡ false → unmounts ≡ false → calls ≡ false
-    → record { standing = cond mounts Up (cond (true && ok && stalls) Stalled (cond (true && ok && unmounts) Off Up)); debt = Free; may_die = not mounts && (false || (calls && ok)); just_died = false; under_recovery = false } ≡ state_with true
+    → record { phase = cond mounts Up (cond (true && ok && stalls) Stalled (cond (true && ok && unmounts) Off Up)); debt = Free; may_die = not mounts && (false || (calls && ok)); just_died = false; under_recovery = false } ≡ state_with true
 stays_up true s u c ok a b d e = cc
 stays_up false true u c ok a b d e = cc
 stays_up false false true c ok a b d e = cc

@@ -1,16 +1,11 @@
 -- Lines said that answer the lines of a script in order, each once.
-use Rattle.std.proofs.Common.{◌≡◌, ◌⊎◌, inl, inr, ℕ, zero, suc, ◌+◌, ◌<◌, Bool, true, false, ◌&&◌, ◌||◌, cond, Option, Some, None, List, [], ◌∷◌, ◌++◌, length, take, refl, sym, ◌∙◌, ap, subst, arith, eq-eqb, nat_eq}
-use Rattle.std.specs.List.{slice_get, filter, list_any, list_all}
-use Rattle.std.proofs.lemmas.Bool.{ne_eqb}
-use Rattle.frang_base.specs.declared.op.What.{What}
-use Rattle.frang_base.specs.declared.op.What.TheVariants.{Server, Host}
+use Rattle.std.proofs.Common.{◌≡◌, ℕ, zero, suc, ◌+◌, Bool, true, false, ◌||◌, cond, Some, List, [], ◌∷◌, ◌++◌, length, take, refl, ◌∙◌, ap, arith, eq-eqb, nat_eq}
+use Rattle.std.specs.List.{slice_get, filter, list_any}
 use Rattle.frang_base.specs.declared.reply.Reply.{Reply}
 use Rattle.frang_base.specs.declared.said.Said.{Said}
 use Rattle.frang_base.specs.declared.said.Said.TheVariants as said
 use Rattle.frang_base.specs.declared.script.Line.{Line}
-use Rattle.frang_base.specs.declared.sector.ServerId.{ServerId}
-use Rattle.tree_definitions.specs.Live.{line_of}
-use Rattle.tree_definitions.specs.Transcript.{ServerState, no_faults, after_said, after_line, state_from, lines_for, is_answer_of, is_node, answers, are_answered}
+use Rattle.tree_definitions.specs.Transcript.{ServerState, no_faults, after_said, state_from, lines_for, is_answer_of, is_node, answers, are_answered}
 use Rattle.frang_top.specs.Running.{Follows}
 use Rattle.frang_top.proofs.HistoryLaws.{both, left, right}
 

@@ -1,8 +1,8 @@
 -- The first lines said, and the record of the lines said.
-use Rattle.std.proofs.Common.{◌≡◌, ◌⊎◌, inl, inr, ℕ, zero, suc, ◌+◌, ◌-◌, ◌^◌, min, ◌<◌, ◌≤◌, true, false, Option, Some, None, List, [], ◌∷◌, ◌++◌, length, map, take, refl, sym, ◌∙◌, ap, subst, arith, length-append, append_assoc, append-nil, get_or}
-use Rattle.std.specs.Prelude.{Result, Ok, Err}
+use Rattle.std.proofs.Common.{◌≡◌, ◌⊎◌, inl, inr, ℕ, zero, suc, ◌<◌, ◌≤◌, Option, Some, None, List, [], ◌∷◌, ◌++◌, length, map, take, refl, sym, ◌∙◌, ap, subst, arith, length-append, get_or}
+use Rattle.std.specs.Prelude.{Err}
 use Rattle.std.specs.List.{All, slice_get, cons_option}
-use Rattle.std.proofs.lemmas.List.{take_all, take-append-le, take-map, map-append, length-map}
+use Rattle.std.proofs.lemmas.List.{take_all, take-append-le, take-map, map-append}
 use Rattle.std.proofs.lemmas.List.Elements.{All-head, All-tail, All-take, All-append, All-cons, All-nil}
 use Rattle.frang_base.specs.declared.said.Said.{Said}
 use Rattle.frang_base.specs.declared.script.Line.{Line}
@@ -16,7 +16,7 @@ use Rattle.script_definitions.proofs.SaidWritten.{said_of_line}
 use Rattle.frang_top.specs.declared.run.RunFault.{RunFault}
 use Rattle.frang_top.specs.declared.run.RunFault.TheVariants.{NoMemory, Mute}
 use Rattle.frang_top.specs.Run.{IsRun, SaysRun, AlwaysSaysRun, saids_of, said_act}
-use Rattle.frang_top.specs.RunFaults.{SaysOne, StopsBy, IsMute}
+use Rattle.frang_top.specs.RunFaults.{SaysOne, StopsBy}
 use Rattle.frang_top.specs.Running.{Always, Told}
 
 pub may_all-push : (script : List Line) (o : Opening) (faults : Faults) (before saids : List Said) (x : Said) → MaySayAll script o faults before saids → MaySay script o faults (before ++ saids) x → MaySayAll script o faults before (saids ++ x ∷ [])

@@ -1,5 +1,5 @@
 -- A read of a file whose cells are sure turns them into the bytes that they are.
-use Rattle.std.proofs.Common.{◌≡◌, ℕ, zero, suc, ◌+◌, ◌≤◌, ◌<◌, Bool, true, false, cond, Option, Some, None, List, [], ◌∷◌, ◌++◌, length, map, take, drop, refl, sym, ◌∙◌, ap, arith, nat_lt, append_assoc, take-append-drop, drop-drop}
+use Rattle.std.proofs.Common.{◌≡◌, ℕ, zero, suc, Bool, true, false, cond, Option, Some, None, List, [], ◌∷◌, ◌++◌, length, map, take, drop, refl, sym, ◌∙◌, ap, arith, nat_lt, append_assoc, take-append-drop, drop-drop}
 use Rattle.std.specs.Ordering.{nat_cmp, is_eq, match_ordering}
 use Rattle.std.specs.Map.{lookup, keys_of}
 use Rattle.std.specs.List.Sorted.{IsStrictlySortedBy}
@@ -9,7 +9,6 @@ use Rattle.std.proofs.lemmas.Map.Keys.{sorted_tail}
 use Rattle.std.specs.BTreeMap.{is_at, insert_entry}
 use Rattle.std.specs.declared.cmp.Ordering.{Ordering}
 use Rattle.std.specs.declared.cmp.Ordering.TheVariants.{Less, Equal, Greater}
-use Rattle.std.proofs.lemmas.List.{length-take}
 use Rattle.frang_base.specs.declared.op.Op.{Op}
 use Rattle.frang_base.specs.declared.op.Op.TheVariants as op
 use Rattle.frang_base.specs.declared.reply.Reply.{Reply}
@@ -20,10 +19,10 @@ use Rattle.tree_definitions.specs.declared.node.Node.{Node}
 use Rattle.tree_definitions.specs.declared.node.Node.TheVariants.{Dir, File, Link}
 use Rattle.tree_definitions.specs.Tree.{FileTree, node_at, with_node}
 use Rattle.tree_definitions.specs.Place.{Place, Root, Taken, Free, Nowhere, place}
-use Rattle.tree_definitions.specs.Apply.{Answer, Plain, Shows, Applied, says, if_file, at_file, overwritten, shown, apply}
+use Rattle.tree_definitions.specs.Apply.{Plain, Shows, Applied, says, if_file, at_file, overwritten, shown, apply}
 use Rattle.tree_definitions.specs.History.{after_read, with_shown, file_at, file_of}
 use Rattle.tree_laws.specs.WellFormed.{BirthsAscend}
-use Rattle.file_tree.specs.Replies.{answer_of, gives}
+use Rattle.file_tree.specs.Replies.{gives}
 
 -- a node put where it is leaves the list; a birth below all of them isn't there
 insert_same : (es : List (ℕ × Node)) (b : ℕ) (x : Node) → IsStrictlySortedBy nat_cmp (keys_of es) → lookup (is_at (nat_cmp b)) es ≡ Some x → insert_entry nat_cmp es b x ≡ es

@@ -1,17 +1,17 @@
 -- The lines of a script that can be answered: their numbers ascend, and each is found by its number and by its server.
-use Rattle.std.proofs.Common.{◌≡◌, ◌⊎◌, inl, inr, ℕ, zero, suc, ◌+◌, ◌<◌, ◌≤◌, Bool, true, false, not, ◌&&◌, cond, Option, Some, None, List, [], ◌∷◌, length, take, refl, sym, ◌∙◌, ap, subst, arith, eqb, eq-eqb, nat_eq, nat_lt}
+use Rattle.std.proofs.Common.{◌≡◌, inl, inr, ℕ, zero, suc, ◌+◌, ◌<◌, ◌≤◌, Bool, true, false, not, cond, Option, Some, None, List, [], ◌∷◌, length, take, refl, sym, ◌∙◌, ap, subst, arith, eqb, eq-eqb, nat_eq, nat_lt}
 use Rattle.std.specs.Prelude.{Result, Ok, Err}
 use Rattle.std.proofs.lemmas.Bool.{ne_eqb}
 use Rattle.std.proofs.lemmas.Bool.Decides.{nat_tests}
-use Rattle.std.specs.List.{All, slice_get, find, filter, list_all}
+use Rattle.std.specs.List.{All, slice_get, find, filter}
 use Rattle.std.proofs.lemmas.List.Elements.{All-head, All-tail}
 use Rattle.frang_base.specs.declared.said.Said.{Said}
 use Rattle.frang_base.specs.declared.script.Line.{Line}
 use Rattle.tree_definitions.specs.Live.{line_of}
-use Rattle.tree_definitions.specs.Transcript.{lines_for, lines_before, are_answered}
+use Rattle.tree_definitions.specs.Transcript.{lines_before, are_answered, is_halt}
 use Rattle.script_definitions.specs.declared.fault.ScriptFault.{ScriptFault}
-use Rattle.script_definitions.specs.ScriptGrammar.{AreLines, IsScriptText, AsksBy}
-use Rattle.script_definitions.specs.ScriptText.{script_of, is_halt}
+use Rattle.script_definitions.specs.ScriptGrammar.{AreLines}
+use Rattle.script_definitions.specs.ScriptText.{script_of}
 use Rattle.script_definitions.specs.Sayable.{IsSayableLine}
 use Rattle.script_definitions.proofs.SayableScripts.{script_sayable}
 use Rattle.script_definitions.proofs.JudgedLaws.{text_sound}

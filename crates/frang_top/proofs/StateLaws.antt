@@ -1,12 +1,12 @@
 -- What the lines said tell of a server, after one line more.
-use Rattle.std.proofs.Common.{◌≡◌, ℕ, zero, suc, ◌+◌, Bool, true, false, ◌&&◌, ◌||◌, Option, Some, List, [], ◌∷◌, ◌++◌, refl, sym, ◌∙◌, ap}
-use Rattle.std.specs.List.{slice_get, list_any, list_all}
+use Rattle.std.proofs.Common.{◌≡◌, ℕ, ◌+◌, Bool, true, false, ◌&&◌, ◌||◌, List, [], ◌∷◌, ◌++◌, refl, ◌∙◌, ap}
+use Rattle.std.specs.List.{list_any, list_all}
 use Rattle.std.proofs.lemmas.List.Folds.{list_any-append}
 use Rattle.frang_base.specs.declared.said.Said.{Said}
 use Rattle.frang_base.specs.declared.said.Said.TheVariants as said
 use Rattle.frang_base.specs.declared.script.Line.{Line}
 use Rattle.tree_definitions.specs.Numbers.{below}
-use Rattle.tree_definitions.specs.Transcript.{ServerState, first_state, no_faults, after_said, state_from, state_of, is_settled, all_settled, is_over, halts, is_node, is_end, answers, are_answered}
+use Rattle.tree_definitions.specs.Transcript.{ServerState, first_state, no_faults, after_said, state_from, is_settled, all_settled, is_over, halts, is_end, answers, are_answered}
 use Rattle.frang_top.proofs.HistoryLaws.{both, left, right}
 
 pub state-push : (script : List Line) (server place : ℕ) (state : ServerState) (saids : List Said) (x : Said)
@@ -25,7 +25,7 @@ all_same f g (x ∷ xs) each = ap (λ b. b && list_all f xs) (each x) ∙ ap (λ
 -- a line of the tree changes no server
 pub settled-node : (script : List Line) (saids : List Said) (path : List ℕ) (kind size links : ℕ) → all_settled script no_faults (saids ++ said.Node path kind size links ∷ []) ≡ all_settled script no_faults saids
 settled-node script saids path kind size links =
-    all_same _ _ (below 16) (λ server. ap (λ st. is_settled st.standing) (state-push script server 0 first_state saids (said.Node path kind size links)))
+    all_same _ _ (below 16) (λ server. ap (λ st. is_settled st.phase) (state-push script server 0 first_state saids (said.Node path kind size links)))
 
 or_left : (a b : Bool) → a || b ≡ false → a ≡ false
 or_left true b e = cc

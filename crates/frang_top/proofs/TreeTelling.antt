@@ -1,5 +1,5 @@
 -- A run that tells its tree, and its end.
-use Rattle.std.proofs.Common.{◌≡◌, ℕ, zero, suc, ◌+◌, ◌<◌, ◌≤◌, cond, nat_eq, Bool, true, false, ◌&&◌, ◌||◌, not, Option, Some, None, List, [], ◌∷◌, ◌++◌, length, refl, sym, ◌∙◌, ap, subst, arith, length-append, append-nil}
+use Rattle.std.proofs.Common.{◌≡◌, ℕ, zero, suc, ◌+◌, ◌≤◌, cond, nat_eq, Bool, true, false, ◌&&◌, ◌||◌, not, Option, Some, None, List, [], ◌∷◌, ◌++◌, length, refl, sym, ◌∙◌, ap, subst, arith, length-append, append-nil}
 use Rattle.std.specs.List.{All, slice_get, filter, list_any, list_all, flat_map}
 use Rattle.std.proofs.lemmas.List.{take_all}
 use Rattle.std.proofs.lemmas.Bool.{ne_eqb}
@@ -24,11 +24,12 @@ use Rattle.tree_definitions.specs.History.{Opening}
 use Rattle.tree_definitions.specs.Live.{line_of}
 use Rattle.tree_definitions.specs.Numbers.{below}
 use Rattle.tree_definitions.specs.Transcript.{no_faults, ServerState, first_state, state_of, after_said, after_line, after_asked, is_settled, is_node, is_end, is_over, are_answered, all_settled, nodes_said, live_tree, MaySay}
+use Rattle.frang_top.specs.DirectoryBlocks.{counts_blocks}
 use Rattle.frang_top.specs.Run.{history_of, IsRun, said_act, saids_of}
 use Rattle.frang_top.specs.declared.server.Server.{Server as Serving}
 use Rattle.frang_top.specs.Answering.{state_with}
 use Rattle.frang_top.specs.Built.{AreBuilt, is_built, is_built_line}
-use Rattle.frang_top.specs.Running.{Always, Follows, Told, IsAt}
+use Rattle.frang_top.specs.Running.{Follows, IsAt}
 use Rattle.script_definitions.specs.SaidReading.{IsProperSaid}
 use Rattle.frang_top.specs.Telling.{IsTelling, IsDone}
 use Rattle.tree_laws.proofs.TranscriptLaws.{live-push}
@@ -64,7 +65,7 @@ all_at (y ∷ ys) zero x all at = let same : y ≡ x = cc in ap is_node (sym sam
 all_at (y ∷ ys) (suc i) x all at = all_at ys i x (right _ _ all) at
 
 -- nobody is stalled or dead where server 0 is up or off and only it and the host have answered
-up_or_off : (up : Bool) → is_settled (state_with up).standing ≡ true
+up_or_off : (up : Bool) → is_settled (state_with up).phase ≡ true
 up_or_off true = refl
 up_or_off false = refl
 
@@ -86,14 +87,14 @@ leaves script line r k st found built = go line.what refl
     go (Host h) asks = hosts (nat_eq line.who.0 (suc k)) h asks
 
 pub settled_all : (o : Opening) (script : List Line) (server : Serving) (told : Option (List Act)) → AreBuilt 1 script → (now : IsAt o script (length script) server told) → all_settled script no_faults now.saids ≡ true
-settled_all o script server told built now = all_true (λ k. is_settled (state_of script no_faults k now.saids).standing) (below 16) each
+settled_all o script server told built now = all_true (λ k. is_settled (state_of script no_faults k now.saids).phase) (below 16) each
   where
     follows : Follows script now.saids
     follows = subst (λ ls. Follows ls now.saids) (take_all (length script) script (let e : length script ≤ length script = omega arith in e)) now.follows
 
-    each : (k : ℕ) → is_settled (state_of script no_faults k now.saids).standing ≡ true
-    each zero = ap (λ st. is_settled st.standing) now.state_is ∙ up_or_off server.mounted
-    each (suc k) = ap (λ st. is_settled st.standing) (follows_stays script (suc k) 0 first_state script now.saids follows (λ j l r st at. leaves script l r k st (line_of-number 1 script j l built at) (built_at 1 script j l built at).built))
+    each : (k : ℕ) → is_settled (state_of script no_faults k now.saids).phase ≡ true
+    each zero = ap (λ st. is_settled st.phase) now.state_is ∙ up_or_off server.mounted
+    each (suc k) = ap (λ st. is_settled st.phase) (follows_stays script (suc k) 0 first_state script now.saids follows (λ j l r st at. leaves script l r k st (line_of-number 1 script j l built at) (built_at 1 script j l built at).built))
 
 -- every line is answered, and the tree is to be told
 pub begun : (o : Opening) (script : List Line) (server : Serving) (told : Option (List Act)) (lines : List Said) → AreBuilt 1 script → IsAt o script (length script) server told → lines ≡ tree_lines server.tree → All IsProperSaid lines
@@ -125,6 +126,7 @@ same_run o script saids x same run may = record {
   lines = may_all-push script o no_faults [] saids x run.lines may;
   legal = ap (is_legal o) same ∙ run.legal;
   kept = ap (keeps o) same ∙ run.kept;
+  counted = ap (counts_blocks o) same ∙ run.counted;
 }
 
 all_proper_at : (xs : List Said) (i : ℕ) (x : Said) → All IsProperSaid xs → slice_get xs i ≡ Some x → IsProperSaid x

@@ -1,6 +1,6 @@
 -- A run between two of its lines: before the first, and after one more.
-use Rattle.std.proofs.Common.{◌≡◌, ◌⊎◌, inl, inr, ℕ, zero, suc, ◌+◌, ◌-◌, ◌<◌, ◌≤◌, Bool, true, false, ◌&&◌, not, cond, Option, Some, None, List, [], ◌∷◌, ◌++◌, length, take, refl, sym, ◌∙◌, ap, subst, arith, eq-eqb, eqb-true, nat_eq, length-append, append-nil}
-use Rattle.std.specs.List.{All, slice_get, filter, list_any}
+use Rattle.std.proofs.Common.{◌≡◌, inl, inr, ℕ, ◌+◌, ◌-◌, ◌≤◌, max, Bool, true, false, not, cond, Option, Some, List, [], ◌∷◌, ◌++◌, take, refl, sym, ◌∙◌, ap, subst, arith, eq-eqb, eqb-true, nat_eq, append-nil}
+use Rattle.std.specs.List.{slice_get}
 use Rattle.std.proofs.lemmas.List.{take_all}
 use Rattle.std.proofs.lemmas.List.Elements.{All-nil}
 use Rattle.frang_base.specs.declared.op.HostOp.{HostOp}
@@ -11,30 +11,30 @@ use Rattle.frang_base.specs.declared.op.What.TheVariants.{Server, Host}
 use Rattle.frang_base.specs.declared.reply.Reply.{Reply}
 use Rattle.frang_base.specs.declared.reply.Reply.TheVariants as reply
 use Rattle.frang_base.specs.declared.said.Said.{Said}
-use Rattle.frang_base.specs.declared.said.Said.TheVariants as said
 use Rattle.frang_base.specs.declared.script.Line.{Line}
-use Rattle.frang_base.specs.declared.sector.ServerId.{ServerId}
 use Rattle.frang_outside.specs.declared.act.Act.{Act}
 use Rattle.frang_outside.specs.Outside.{told_more}
 use Rattle.tree_definitions.specs.declared.history.Entry.{Entry}
 use Rattle.tree_definitions.specs.declared.history.Item.{Item}
-use Rattle.tree_definitions.specs.declared.history.Item.TheVariants.{Did, Recovered}
-use Rattle.tree_definitions.specs.Tree.{FileTree, fresh, count_of, dir_blocks}
-use Rattle.tree_definitions.specs.History.{Opening, Stays, fits, fresh_opening, grows, tree_after, after_all}
+use Rattle.tree_definitions.specs.declared.history.Item.TheVariants.{Did}
+use Rattle.tree_definitions.specs.Tree.{count_of, dir_blocks}
+use Rattle.tree_definitions.specs.History.{Opening, Stays, fits, fresh_opening, tree_after}
 use Rattle.tree_definitions.specs.Live.{item_of, item_of_line, item_of_what, line_of}
 use Rattle.tree_definitions.specs.Removal.{is_legal, keeps, settled, tree_of}
-use Rattle.tree_definitions.specs.Transcript.{no_faults, ServerState, first_state, state_of, after_answer, after_asked, after_line, may_answer, may_reply, answers, answers_next, next_line, are_answered, lines_for, lines_before, is_answer_of, is_over, is_node, goes_on, halts, is_halt, is_halt_line, MaySay}
+use Rattle.tree_definitions.specs.Transcript.{no_faults, first_state, state_of, after_answer, after_asked, after_line, may_answer, may_reply, answers, answers_next, next_line, are_answered, lines_for, lines_before, is_over, goes_on, halts, is_halt, is_halt_line, MaySay}
 use Rattle.tree_laws.specs.Histories.{ever_after}
 use Rattle.tree_laws.proofs.HistoryLaws.{ever-append, is_legal-push, kept-push, settled-push, tree_of-push}
 use Rattle.tree_laws.proofs.TranscriptLaws.{live-push}
-use Rattle.script_definitions.specs.SaidReading.{IsProperReply, IsProperSaid, IsWho}
+use Rattle.script_definitions.specs.SaidReading.{IsProperSaid, IsWho}
 use Rattle.script_definitions.specs.ScriptGrammar.{IsProperWhat}
 use Rattle.frang_top.specs.declared.server.Server.{Server as Serving}
 use Rattle.frang_top.specs.Answering.{state_with, entry_of, opening_of, Answers, IsFirst, IsReady, RepliesTo, Replies}
 use Rattle.frang_top.specs.Built.{AreBuilt, IsBuiltLine, is_built}
-use Rattle.frang_top.specs.Running.{Always, Follows, IsAt, Told, ever_of}
+use Rattle.frang_top.specs.Running.{Follows, IsAt, ever_of}
 use Rattle.frang_top.specs.Run.{history_of, IsRun, said_act}
-use Rattle.frang_top.proofs.HistoryLaws.{both, left, right}
+use Rattle.frang_top.specs.DirectoryBlocks.{answers_at, most_with, most_blocks, counts_blocks}
+use Rattle.frang_top.proofs.BlockLaws.{most_blocks-push, counts_blocks-push}
+use Rattle.frang_top.proofs.HistoryLaws.{both, left}
 use Rattle.frang_top.proofs.ScriptLaws.{before_answered, built_at, filter_all, line_of-number, next_found}
 use Rattle.frang_top.proofs.StateLaws.{over-push, state-push}
 use Rattle.frang_top.proofs.Following.{answer, follows-push, follows_answered, follows_no_node, follows_own, take-next}
@@ -80,11 +80,12 @@ who_server who o h = eqb-true who 0 (left _ _ h)
 
 -- a line more of a run
 run_more : (o : Opening) (script : List Line) (saids : List Said) (x : Said) (items : List Item) → history_of o script (saids ++ x ∷ []) ≡ history_of o script saids ++ items → IsRun o script saids → MaySay script o no_faults saids x
-    → is_legal o (history_of o script saids ++ items) ≡ true → keeps o (history_of o script saids ++ items) ≡ true → IsRun o script (saids ++ x ∷ [])
-run_more o script saids x items longer run may legal kept = record {
+    → is_legal o (history_of o script saids ++ items) ≡ true → keeps o (history_of o script saids ++ items) ≡ true → counts_blocks o (history_of o script saids ++ items) ≡ true → IsRun o script (saids ++ x ∷ [])
+run_more o script saids x items longer run may legal kept counted = record {
   lines = may_all-push script o no_faults [] saids x run.lines may;
   legal = ap (is_legal o) longer ∙ legal;
   kept = ap (keeps o) longer ∙ kept;
+  counted = ap (counts_blocks o) longer ∙ counted;
 }
 
 -- blocks that were ever a directory's, after one entry more
@@ -92,6 +93,10 @@ ever-push : (o : Opening) (history : List Item) (e : Entry) →
     ever_after o.tree o.dir_blocks (settled o.tree (history ++ Did e ∷ []))
     ≡ ever_after o.tree o.dir_blocks (settled o.tree history) + (count_of dir_blocks (tree_after (tree_of o history) e) - count_of dir_blocks (tree_of o history))
 ever-push o history e = ap (ever_after o.tree o.dir_blocks) (settled-push o.tree [] history e) ∙ ever-append o.tree o.dir_blocks (settled o.tree history) (Stays e ∷ [])
+
+-- the most blocks at once grow by no more than the tree's
+most_grows : (before after most now ever : ℕ) → before ≤ most → now ≡ max most after → most ≤ ever → now ≤ ever + (after - before)
+most_grows before after most now ever low is high = omega arith
 
 -- what one answer more needs and leaves
 record Turned (o : Opening) (script : List Line) (saids : List Said) (line : Line) (r : Reply) (before after : Serving) : Type 0 where
@@ -104,6 +109,8 @@ record Turned (o : Opening) (script : List Line) (saids : List Said) (line : Lin
   pub tree_is : after.tree ≡ tree_of o (history_of o script saids ++ items)
   pub legal : is_legal o (history_of o script saids ++ items) ≡ true
   pub kept : keeps o (history_of o script saids ++ items) ≡ true
+  pub counted : counts_blocks o (history_of o script saids ++ items) ≡ true
+  pub most : after.dir_blocks ≡ most_blocks o (history_of o script saids ++ items)
   pub blocks : after.dir_blocks ≤ ever_after o.tree o.dir_blocks (settled o.tree (history_of o script saids ++ items))
   pub ready : IsReady after
   pub segments : after.tree.segments ≡ before.tree.segments
@@ -113,7 +120,7 @@ turned : (o : Opening) (script : List Line) (i : ℕ) (before after : Serving) (
 turned o script i before after told told_after line r at now next says =
     let saids = now.saids in
     let longer = added o script saids line r next.items next.item_is in
-    let run : IsRun o script (saids ++ answer line r ∷ []) = run_more o script saids (answer line r) next.items longer now.run next.may next.legal next.kept in
+    let run : IsRun o script (saids ++ answer line r ∷ []) = run_more o script saids (answer line r) next.items longer now.run next.may next.legal next.kept next.counted in
     record {
       saids = saids ++ answer line r ∷ [];
       acts = told-push told told_after saids (answer line r) now.acts says;
@@ -122,6 +129,7 @@ turned o script i before after told told_after line r at now next says =
       goes_on = over-push script saids (answer line r) now.goes_on next.halts_not refl;
       state_is = next.state_is;
       tree_is = next.tree_is ∙ ap (tree_of o) (sym longer);
+      most = next.most ∙ ap (most_blocks o) (sym longer);
       blocks = subst (λ h. after.dir_blocks ≤ ever_after o.tree o.dir_blocks (settled o.tree h)) (sym longer) next.blocks;
       ready = next.ready;
       segments = next.segments ∙ now.segments;
@@ -153,9 +161,7 @@ served o script i before after told line r op first built at now asks own answer
     = ap (λ t. count_of dir_blocks (tree_after t e) - count_of dir_blocks t) (sym now.tree_is) ∙ ap (λ t. count_of dir_blocks t - count_of dir_blocks before.tree) (sym answers.tree_is) in
     let ever = ever-push o history e ∙ ap (λ n. ever_of o script saids + n) tree_grows in
     let more : after.dir_blocks ≤ ever_of o script saids + (count_of dir_blocks after.tree - count_of dir_blocks before.tree)
-    = (let a : after.dir_blocks ≤ before.dir_blocks + (count_of dir_blocks after.tree - count_of dir_blocks before.tree) = answers.grown in
-    let b : before.dir_blocks ≤ ever_of o script saids = now.blocks in
-    omega arith) in
+    = most_grows (count_of dir_blocks before.tree) (count_of dir_blocks after.tree) before.dir_blocks after.dir_blocks (ever_of o script saids) now.ready.counted answers.most now.blocks in
     record {
       items = Did e ∷ [];
       item_is = entry;
@@ -169,6 +175,8 @@ served o script i before after told line r op first built at now asks own answer
       tree_is = answers.tree_is ∙ ap (λ t. tree_after t e) now.tree_is ∙ sym (tree_of-push o history e);
       legal = is_legal-push o history e ∙ both _ _ now.run.legal (ap (λ t. fits t (ever_of o script saids) e) (sym now.tree_is) ∙ answers.fits_where (ever_of o script saids) now.blocks);
       kept = kept-push o.tree [] history e ∙ now.run.kept;
+      counted = counts_blocks-push o history e now.run.counted (ap (λ t. answers_at t (most_blocks o history) e) (sym now.tree_is) ∙ ap (λ n. answers_at before.tree n e) (sym now.most) ∙ answers.counts);
+      most = answers.most ∙ ap (λ n. most_with n after.tree) now.most ∙ ap (most_with (most_blocks o history)) (answers.tree_is ∙ ap (λ t. tree_after t e) now.tree_is) ∙ sym (most_blocks-push o history e);
       blocks = subst (λ n. after.dir_blocks ≤ n) (sym ever) more;
       ready = answers.ready;
       segments = answers.segments;
@@ -193,6 +201,8 @@ hosted o script i before told line h built at now asks not_halt own =
       tree_is = now.tree_is ∙ ap (tree_of o) (sym same);
       legal = ap (is_legal o) same ∙ now.run.legal;
       kept = ap (keeps o) same ∙ now.run.kept;
+      counted = ap (counts_blocks o) same ∙ now.run.counted;
+      most = now.most ∙ ap (most_blocks o) (sym same);
       blocks = subst (λ l. before.dir_blocks ≤ ever_after o.tree o.dir_blocks (settled o.tree l)) (sym same) now.blocks;
       ready = now.ready;
       segments = refl;
@@ -228,7 +238,7 @@ turn o script i before after told told_after line r first built at now replies s
 
 -- before the first line
 nothing : (segments : ℕ) (script : List Line) → IsRun (fresh_opening segments) script []
-nothing segments script = record { lines = tt; legal = refl; kept = refl }
+nothing segments script = record { lines = tt; legal = refl; kept = refl; counted = refl }
 
 pub started : (script : List Line) (server : Serving) (told : Option (List Act)) → IsFirst server → IsReady server → ((acts : List Act) → told ≡ Some acts → acts ≡ []) → IsAt (opening_of server) script 0 server told
 started script server told first ready empty = record {
@@ -239,6 +249,7 @@ started script server told first ready empty = record {
   goes_on = refl;
   state_is = ap state_with (sym first.off);
   tree_is = first.tree;
+  most = first.blocks;
   blocks = (let z : server.dir_blocks ≡ 0 = first.blocks in omega arith);
   ready = ready;
   segments = refl;

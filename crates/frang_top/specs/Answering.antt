@@ -1,5 +1,5 @@
 -- What a line is answered by a server over a tree, and what that makes of both.
-use Rattle.std.specs.Prelude.{◌≡◌, ◌≤◌, ℕ, ◌+◌, ◌-◌, Bool, true, false}
+use Rattle.std.specs.Prelude.{◌≡◌, ◌≤◌, ℕ, Bool, true, false}
 use Rattle.frang_base.specs.declared.op.Op.{Op}
 use Rattle.frang_base.specs.declared.op.What.{What}
 use Rattle.frang_base.specs.declared.op.What.TheVariants as what
@@ -7,23 +7,24 @@ use Rattle.frang_base.specs.declared.reply.Reply.{Reply}
 use Rattle.frang_base.specs.declared.reply.Reply.TheVariants as reply
 use Rattle.frang_base.specs.declared.script.Line.{Line}
 use Rattle.tree_definitions.specs.declared.history.Entry.{Entry}
-use Rattle.tree_definitions.specs.Tree.{FileTree, fresh, count_of, dir_blocks}
+use Rattle.tree_definitions.specs.Tree.{fresh, count_of, dir_blocks}
 use Rattle.tree_definitions.specs.History.{Opening, fresh_opening, fits, tree_after}
 use Rattle.tree_definitions.specs.Live.{number_of}
-use Rattle.tree_definitions.specs.Transcript.{Standing, Off, Up, Free, ServerState, may_answer, after_answer}
+use Rattle.tree_definitions.specs.Transcript.{Phase, Off, Up, Free, ServerState, may_answer, after_answer}
 use Rattle.tree_laws.specs.WellFormed.{BirthsAscend}
 use Rattle.script_definitions.specs.SaidReading.{IsProperReply}
 use Rattle.script_definitions.specs.Sayable.{IsSureTree}
 use Rattle.frang_top.specs.declared.server.Server.{Server}
+use Rattle.frang_top.specs.DirectoryBlocks.{answers_at, most_with}
 
 -- a server that was mounted, or wasn't, and never died
-abbrev pub standing_of : Bool → Standing
-standing_of true = Up
-standing_of false = Off
+abbrev pub phase_of : Bool → Phase
+phase_of true = Up
+phase_of false = Off
 
 -- what the lines said tell of such a server
 abbrev pub state_with : Bool → ServerState
-state_with up = record { standing = standing_of up; debt = Free; may_die = false; just_died = false; under_recovery = false }
+state_with up = record { phase = phase_of up; debt = Free; may_die = false; just_died = false; under_recovery = false }
 
 -- the entry of an operation of server 0 in the first run
 abbrev pub entry_of : ℕ → Op → Reply → Entry
@@ -52,7 +53,8 @@ pub record Answers (number : ℕ) (o : Op) (before : Server) (r : Reply) (after 
   pub fits_where : (ever : ℕ) → before.dir_blocks ≤ ever → fits before.tree ever (entry_of number o r) ≡ true
   pub tree_is : after.tree ≡ tree_after before.tree (entry_of number o r)
   pub segments : after.tree.segments ≡ before.tree.segments
-  pub grown : after.dir_blocks ≤ before.dir_blocks + (count_of dir_blocks after.tree - count_of dir_blocks before.tree)
+  pub counts : answers_at before.tree before.dir_blocks (entry_of number o r) ≡ true
+  pub most : after.dir_blocks ≡ most_with before.dir_blocks after.tree
   pub ready : IsReady after
   pub proper : IsProperReply r
 

@@ -5,6 +5,7 @@ use Rattle.frang_base.specs.declared.op.Op.TheVariants as op
 use Rattle.frang_base.specs.declared.op.HostOp.TheVariants as host
 use Rattle.frang_base.specs.declared.op.What.{What}
 use Rattle.frang_base.specs.declared.op.What.TheVariants.{Server, Host}
+use Rattle.frang_base.specs.declared.limits.TheConstants.{SCRIPT_LINES_MAX}
 use Rattle.frang_base.specs.declared.script.Line.{Line}
 use Rattle.script_definitions.specs.declared.fault.ScriptFault.{ScriptFault}
 use Rattle.script_definitions.specs.Sayable.{IsSayableLine}
@@ -52,7 +53,7 @@ built_script_of bytes = built_by (script_of bytes)
 -- a line that can be answered, whose number is at least n
 pub record IsBuiltLine (n : ℕ) (line : Line) : Type 0 where
   pub number : n ≤ line.number
-  pub small : line.number ≤ 65536
+  pub small : line.number ≤ SCRIPT_LINES_MAX
   pub proper : IsProperWhat line.who.0 line.what
   pub sayable : IsSayableLine line
   pub built : is_built_line line ≡ true

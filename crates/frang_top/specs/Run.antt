@@ -1,5 +1,5 @@
 -- What holds of the record at every moment of a run, and at its end. The lines said are a function of the record.
-use Rattle.std.specs.Prelude.{◌≡◌, ℕ, Bool, true, Option, Some, None, List, [], map, take}
+use Rattle.std.specs.Prelude.{◌≡◌, ℕ, true, Option, Some, None, List, [], map, take}
 use Rattle.std.specs.List.{list_any, filter_map}
 use Rattle.frang_base.specs.declared.said.Said.{Said}
 use Rattle.frang_base.specs.declared.script.Line.{Line}
@@ -12,17 +12,19 @@ use Rattle.tree_definitions.specs.Live.{live_history}
 use Rattle.tree_definitions.specs.Removal.{IsLegal, Keeps}
 use Rattle.tree_definitions.specs.Transcript.{IsTranscript, no_faults, are_answered, is_end}
 use Rattle.script_definitions.specs.SaidReading.{said_of}
+use Rattle.frang_top.specs.DirectoryBlocks.{counts_blocks}
 
 -- the history of the lines said
 abbrev pub history_of : Opening → List Line → List Said → List Item
 history_of opening script saids = live_history script opening.run saids
 
 -- the two facts of a moment: the lines said are a well-formed transcript of the script, in which no fault is counted; and its replies
--- are those of one file tree, with nothing removed that was seen or synced
+-- are those of one file tree, with nothing removed that was seen or synced, and with each block counted that is or was a directory's
 pub record IsRun (opening : Opening) (script : List Line) (saids : List Said) : Type 0 where
   pub lines : IsTranscript script opening no_faults saids
   pub legal : IsLegal opening (history_of opening script saids)
   pub kept : Keeps opening (history_of opening script saids)
+  pub counted : counts_blocks opening (history_of opening script saids) ≡ true
 
 -- the line that an act says, if it says one
 abbrev pub said_by : Act → Option Said

@@ -1,5 +1,5 @@
 -- Where a run stands between two of its lines.
-use Rattle.std.specs.Prelude.{◌≡◌, ◌≤◌, ℕ, Bool, false, Option, Some, List, [], ◌∷◌, map, take}
+use Rattle.std.specs.Prelude.{◌≡◌, ◌≤◌, ℕ, false, Option, Some, List, [], ◌∷◌, map, take}
 use Rattle.std.specs.List.{All}
 use Rattle.frang_base.specs.declared.said.Said.{Said}
 use Rattle.frang_base.specs.declared.said.Said.TheVariants as said
@@ -12,6 +12,7 @@ use Rattle.tree_laws.specs.Histories.{ever_after}
 use Rattle.script_definitions.specs.SaidReading.{IsProperSaid}
 use Rattle.frang_top.specs.declared.server.Server.{Server}
 use Rattle.frang_top.specs.Answering.{state_with, IsReady}
+use Rattle.frang_top.specs.DirectoryBlocks.{most_blocks}
 use Rattle.frang_top.specs.Run.{history_of, IsRun, said_act}
 
 -- the lines said are answers to these lines, in order
@@ -41,6 +42,7 @@ pub record IsAt (opening : Opening) (script : List Line) (i : ℕ) (server : Ser
   pub goes_on : is_over script saids ≡ false
   pub state_is : state_of script no_faults 0 saids ≡ state_with server.mounted
   pub tree_is : server.tree ≡ tree_of opening (history_of opening script saids)
+  pub most : server.dir_blocks ≡ most_blocks opening (history_of opening script saids)
   pub blocks : server.dir_blocks ≤ ever_of opening script saids
   pub ready : IsReady server
   pub segments : server.tree.segments ≡ opening.tree.segments

@@ -1,5 +1,6 @@
 // The one server of the scripts that are answered so far, over a tree in memory.
 ghost use Rattle.std.specs.Prelude.{◌≡◌, ◌≤◌, ℕ, IfOk, true};
+ghost use Rattle.frang_base.specs.declared.limits.TheConstants.{SEGMENTS_MAX};
 ghost use Rattle.tree_definitions.specs.Apply.{is_path_op};
 ghost use Rattle.frang_base.specs.declared.op.Op.TheVariants as op;
 ghost use Rattle.script_definitions.specs.Sayable.{IsSayableOp};
@@ -11,8 +12,8 @@ use file_tree::Tree;
 use frang_base::{Line, NoMemory, Op, OpNo, Reply, What};
 use std::alloc::Global;
 
-// Operations are numbered from this on in the first run: its number times 2^32.
-const FIRST_RUN: u64 = 1 << 32;
+// The run of a fresh disk.
+const FIRST_RUN: u32 = 1;
 
 /// A server: whether it is mounted, the tree, and how many small blocks are or were a directory's.
 #[derive(Debug, Drop)]
@@ -25,7 +26,7 @@ pub struct Server {
 impl Server {
     /// A server that isn't mounted, with a fresh disk of so many segments.
     pub fn first(alloc: Global, segments: u32) -> Result<Server, NoMemory>
-        requires { segments ≤ 64 }
+        requires { segments ≤ SEGMENTS_MAX }
         ensures first { IfOk result (λ server. IsFirst server) }
         ensures segments { IfOk result (λ server. server.tree.segments ≡ segments) }
     {
@@ -45,7 +46,7 @@ impl Server {
         requires sayable { IsSayableOp op.now }
         ensures ok { IfOk result (λ r. Answers number op.now self.old r self.new) }
     {
-        let birth = OpNo(FIRST_RUN + u64::from(number));
+        let birth = OpNo::of(FIRST_RUN, number);
         let reply = self.tree.apply(op, birth, self.dir_blocks)?;
         self.dir_blocks = self.dir_blocks.max(self.tree.dir_blocks());
         Ok(reply)

@@ -6,8 +6,8 @@ use Rattle.std.specs.Map.{keys_of}
 use Rattle.std.specs.Ordering.{nat_cmp}
 use Rattle.std.specs.declared.cmp.Ordering.TheVariants.{Less}
 use Rattle.std.proofs.lemmas.Bool.Decides.{nat_tests}
-use Rattle.cells.proofs.Basics.{by_test}
-use Rattle.sector_definitions.specs.Bytes.{are_zero}
+use Rattle.frang_base.proofs.Basics.{by_test}
+use Rattle.sector_bytes.specs.Bytes.{are_zero}
 use Rattle.disk_definitions.specs.Images.{Blocks, sectors_written}
 use Rattle.image_file.proofs.EntryBytes.{IsEntry}
 use Rattle.image_file.proofs.EntriesRead.{Ascend}

@@ -2,7 +2,7 @@
 use Rattle.std.proofs.Common.{◌≡◌, ℕ, suc, Bool, true, false, not, cond, List, [], ◌∷◌, ◌++◌, length, refl, sym, ap, ◌∙◌, append_assoc}
 use Rattle.std.specs.List.{flat_map}
 use Rattle.std.specs.Map.{values_of}
-use Rattle.sector_definitions.specs.Bytes.{are_zero}
+use Rattle.sector_bytes.specs.Bytes.{are_zero}
 use Rattle.disk_definitions.specs.Images.{Blocks, image_entry, sectors_written}
 use Rattle.image_file.specs.Entries.{written_blocks}
 

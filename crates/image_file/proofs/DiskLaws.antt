@@ -9,9 +9,9 @@ use Rattle.std.specs.Option.{unwrap_or}
 use Rattle.std.proofs.lemmas.Bool.{and_parts}
 use Rattle.std.proofs.lemmas.Bool.Decides.{nat_tests}
 use Rattle.std.proofs.lemmas.List.Elements.{recursion_from_All}
-use Rattle.cells.proofs.Basics.{by_test, eq_of}
-use Rattle.sector_definitions.specs.Bytes.{number_at, zeros, are_zero, AreBytes}
-use Rattle.disk_definitions.specs.Disks.{sectors_of, SameDisk}
+use Rattle.frang_base.proofs.Basics.{by_test, eq_of}
+use Rattle.sector_bytes.specs.Bytes.{number_at, zeros, are_zero, AreBytes}
+use Rattle.sector_bytes.specs.Sectors.{sectors_of, SameSectors}
 use Rattle.disk_definitions.specs.Images.{Blocks, image_entry, entry_in, image_with, image_text, image_in, sectors_written}
 use Rattle.image_file.specs.Laws.{ReadsBack}
 use Rattle.image_file.proofs.EntryBytes.{IsEntry, entry_reads, behind_entry}
@@ -117,7 +117,7 @@ written_same k (e ∷ es) s b =
     (λ t. without_zero k e es s.0 (zero_block e.1 (not_not (are_zero e.1) t) b.0) (written_same k es s.1 b.1))
 
 -- the sectors that aren't zero are the disk
-pub written_is_the_disk : (es : Blocks) → AreSectors es → SameDisk (sectors_of (sectors_written es)) (sectors_of es)
+pub written_is_the_disk : (es : Blocks) → AreSectors es → SameSectors (sectors_of (sectors_written es)) (sectors_of es)
 written_is_the_disk es h k = written_same k es h.ascending (recursion_from_All _ (values_of es) h.blocks)
 
 -- ---- telling disks apart
@@ -148,6 +148,6 @@ same_written xs ys g h e =
     same_entries (sectors_written xs) (sectors_written ys) parts.0 (all_written IsEntry xs (entries_of xs g)) (all_written IsEntry ys (entries_of ys h)) parts.1
 
 -- disks with one image are one
-pub same_disk : (xs ys : Blocks) → AreSectors xs → AreSectors ys → image_text xs ≡ image_text ys → SameDisk (sectors_of xs) (sectors_of ys)
+pub same_disk : (xs ys : Blocks) → AreSectors xs → AreSectors ys → image_text xs ≡ image_text ys → SameSectors (sectors_of xs) (sectors_of ys)
 same_disk xs ys g h e k =
     sym (written_is_the_disk xs g k) ∙ (ap (λ (zs : Blocks). sectors_of zs k) (same_written xs ys g h e) ∙ written_is_the_disk ys h k)

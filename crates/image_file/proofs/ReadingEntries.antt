@@ -1,10 +1,10 @@
 -- One entry more of an image, and its first.
 use Rattle.std.proofs.Common.{◌≡◌, ℕ, zero, suc, ◌+◌, ◌-◌, ◌<◌, ◌≤◌, Bool, true, false, cond, nat_lt, List, [], ◌∷◌, ◌++◌, length, take, drop, Option, Some, None, Result, Ok, Err, refl, sym, ◌∙◌, ap, append_assoc, drop-drop, length-drop, arith}
 use Rattle.std.proofs.lemmas.Bool.Decides.{nat_tests}
-use Rattle.cells.proofs.Basics.{by_test, of_ge, some_same}
+use Rattle.frang_base.proofs.Basics.{by_test, of_ge, some_same}
 use Rattle.byteorder.specs.Endian.{little_number}
 use Rattle.byteorder.specs.Numbers.{little_from-take}
-use Rattle.sector_definitions.specs.Bytes.{number_at}
+use Rattle.sector_bytes.specs.Bytes.{number_at}
 use Rattle.sector_definitions.specs.Params.{param_in}
 use Rattle.sector_definitions.specs.declared.param.Param.{Param}
 use Rattle.disk_definitions.specs.declared.image.ImageFault.{ImageFault}

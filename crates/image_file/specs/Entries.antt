@@ -1,12 +1,13 @@
 -- Entries as the code has them.
 use Rattle.std.specs.Prelude.{◌≡◌, ℕ, ◌+◌, ◌≤◌, List, ◌++◌, nat_lt, if◌then◌else◌, Option, Some, None, Result, Ok, Err, length, take, drop, not}
+use Rattle.frang_base.specs.declared.limits.TheConstants.{SEGMENTS_MAX}
 use Rattle.std.specs.List.{All, filter}
 use Rattle.std.specs.Map.{keys_of}
 use Rattle.std.specs.Global.{Vec}
 use Rattle.std.specs.Vec.{vec_len, vec_capacity}
 use Rattle.disk_definitions.specs.declared.image.ImageFault.{ImageFault}
 use Rattle.image_file.specs.declared.entry.Entry.{Entry}
-use Rattle.sector_definitions.specs.Bytes.{number_at, are_zero}
+use Rattle.sector_bytes.specs.Bytes.{number_at, are_zero}
 use Rattle.disk_definitions.specs.Images.{Blocks, entry_in}
 
 -- the sector and its block
@@ -19,7 +20,7 @@ next_entry bytes = if nat_lt (length bytes) 520 then None else Some (entry_in by
 
 -- so many segments as a disk may have
 abbrev pub HasSegments : ℕ → Type 0
-HasSegments segments = (1 ≤ segments) × (segments ≤ 64)
+HasSegments segments = (1 ≤ segments) × (segments ≤ SEGMENTS_MAX)
 
 -- the mark and the count of the header, and what follows it
 abbrev pub header_of : List ℕ → Option (List ℕ × ℕ × List ℕ)

@@ -3,11 +3,12 @@ ghost use Rattle.std.specs.Prelude.{◌≡◌, IfOk, MatchResult, None, Some};
 ghost use Rattle.std.specs.Option.{option_map};
 ghost use Rattle.disk_definitions.specs.Images.{block_fits, block_flaw, entry_flaw, first_flaw, may_run_again};
 ghost use Rattle.image_file.specs.Entries.{HasSegments, entry_of, next_entry};
-ghost use Rattle.sector_definitions.specs.Bytes.{are_zero};
+ghost use Rattle.sector_bytes.specs.Bytes.{are_zero};
 ghost use Rattle.sector_definitions.specs.Params.{param_in};
 
 use byteorder::{ByteOrder, LittleEndian};
 use disk_definitions::ImageFlaw;
+use frang_base::limits::SECTOR_BYTES;
 use frang_base::{Block, Sector};
 use frang_layout::region_of;
 use sector_definitions::{Param, Region};
@@ -24,7 +25,7 @@ pub fn next_entry(bytes: &[u8]) -> Option<(Entry<'_>, &[u8])>
     ensures { option_map (λ found. (entry_of found.0, found.1.now)) result ≡ next_entry bytes.now }
 {
     let (number, behind) = bytes.split_first_chunk::<8>()?;
-    let (block, rest) = behind.split_first_chunk::<512>()?;
+    let (block, rest) = behind.split_first_chunk::<SECTOR_BYTES>()?;
     let sector = LittleEndian::read_u64(number);
     Some((Entry { sector, block }, rest))
 }

@@ -1,7 +1,7 @@
 // Laws of images: reading and writing undo each other.
 ghost use Rattle.std.specs.Prelude.{◌≡◌, ℕ, List, Ok, ◌↔◌};
-ghost use Rattle.sector_definitions.specs.Bytes.{AreBytes};
-ghost use Rattle.disk_definitions.specs.Disks.{SameDisk, sectors_of};
+ghost use Rattle.sector_bytes.specs.Bytes.{AreBytes};
+ghost use Rattle.sector_bytes.specs.Sectors.{SameSectors, sectors_of};
 ghost use Rattle.disk_definitions.specs.Images.{Blocks, IsImage, image_in, image_text, sectors_written};
 ghost use Rattle.image_file.specs.Laws.{ReadsBack};
 
@@ -22,14 +22,14 @@ pub fn read_images_are_written_again()
 /// sector in no region, or one not in its grammar.
 pub fn written_images_read_back(disk: &Disk)
     ensures reads { ReadsBack (sectors_written disk.now) (image_in (image_text disk.now)) }
-    ensures whole { SameDisk (sectors_of (sectors_written disk.now)) (sectors_of disk.now) }
+    ensures whole { SameSectors (sectors_of (sectors_written disk.now)) (sectors_of disk.now) }
 {
     let _sectors = disk.len();
 }
 
 /// Disks with the same image are the same.
 pub fn images_tell_disks_apart(first: &Disk, second: &Disk)
-    ensures { image_text first.now ≡ image_text second.now → SameDisk (sectors_of first.now) (sectors_of second.now) }
+    ensures { image_text first.now ≡ image_text second.now → SameSectors (sectors_of first.now) (sectors_of second.now) }
 {
     let _firsts = first.len();
     let _seconds = second.len();

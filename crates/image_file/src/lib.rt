@@ -4,8 +4,8 @@
 #![tactic(auto)]
 
 mod entry;
+mod format;
 mod laws;
-mod limits;
 mod read;
 mod refusal;
 mod write;
@@ -17,6 +17,3 @@ pub use laws::{
 pub use read::read_image;
 pub use refusal::ImageRead;
 pub use write::write_image;
-
-#[cfg(test)]
-mod tests;

@@ -7,7 +7,7 @@ ghost use Rattle.image_file.specs.Entries.{behind, EndsBy, HasSegments, entry_of
 ghost use Rattle.image_file.specs.declared.refusal.Refusal.TheVariants as refusal;
 
 use crate::entry::{Entry, entry_flaw, first_param, next_entry};
-use crate::limits::{ENTRY_BYTES, HEADER_BYTES, MARK};
+use crate::format::{ENTRY_BYTES, HEADER_BYTES, MARK};
 use crate::refusal::{ImageRead, Refusal};
 use byteorder::{ByteOrder, LittleEndian};
 use disk_definitions::{Disk, ImageFault, ImageFlaw};

@@ -2,12 +2,13 @@
 ghost use Rattle.std.specs.Prelude.{◌≡◌, ◌≤◌, ◌&&◌, drop, take};
 ghost use Rattle.std.specs.List.{list_all};
 ghost use Rattle.tree_definitions.specs.Tree.{small_blocks_of};
-ghost use Rattle.sector_definitions.specs.Bytes.{are_zero};
-ghost use Rattle.sector_definitions.specs.Inodes.{ends_blocks, inode_fits, is_directory_inode, is_file_inode, is_free_inode, is_link_inode, is_target_byte};
+ghost use Rattle.sector_bytes.specs.Bytes.{are_zero};
+ghost use Rattle.sector_definitions.specs.Inodes.{ends_blocks, inode_fits, is_directory_inode, is_file_inode, is_free_inode, is_link_inode};
+ghost use Rattle.frang_base.specs.Name.{is_target_byte};
 
-use crate::limits::{
-    BLOCK_ENTRIES, DIRECTORY, DIRECTORY_BLOCKS_MAX, FILE, FILE_BYTES_MAX, FREE, LINK, LINKS_MAX,
-    SMALL_BLOCK_BYTES, SMALL_BYTES_MAX, TARGET_BYTES_MAX,
+use frang_base::limits::{
+    BLOCK_ENTRIES, FILE_BYTES_MAX, INODE_BLOCKS_MAX, KIND_DIRECTORY, KIND_FILE, KIND_FREE,
+    KIND_LINK, LINKS_MAX, SMALL_BLOCK_BYTES, SMALL_BYTES_MAX, TARGET_BYTES_MAX,
 };
 use sector_definitions::Inode;
 
@@ -21,7 +22,7 @@ pub(crate) fn fits(x: &Inode) -> bool
 fn is_free(x: &Inode) -> bool
     ensures { result ≡ is_free_inode x.now }
 {
-    x.kind == FREE
+    x.kind == KIND_FREE
         && x.links == 0
         && x.blocks == 0
         && x.size == 0
@@ -34,7 +35,7 @@ fn is_free(x: &Inode) -> bool
 fn is_file(x: &Inode) -> bool
     ensures { result ≡ is_file_inode x.now }
 {
-    x.kind == FILE
+    x.kind == KIND_FILE
         && 1 <= x.links
         && x.links <= LINKS_MAX
         && x.size <= FILE_BYTES_MAX
@@ -51,10 +52,10 @@ fn is_file(x: &Inode) -> bool
 fn is_directory(x: &Inode) -> bool
     ensures { result ≡ is_directory_inode x.now }
 {
-    x.kind == DIRECTORY
+    x.kind == KIND_DIRECTORY
         && x.links == 1
-        && x.blocks <= DIRECTORY_BLOCKS_MAX
-        && x.size <= BLOCK_ENTRIES * u64::from(x.blocks)
+        && u32::from(x.blocks) <= INODE_BLOCKS_MAX
+        && x.size <= u64::from(BLOCK_ENTRIES) * u64::from(x.blocks)
         && ends_blocks(x)
         && x.large == 0
         && are_zero(&x.target)
@@ -63,14 +64,14 @@ fn is_directory(x: &Inode) -> bool
 fn is_link(x: &Inode) -> bool
     ensures { result ≡ is_link_inode x.now }
 {
-    x.kind == LINK
+    x.kind == KIND_LINK
         && 1 <= x.links
         && x.links <= LINKS_MAX
         && x.blocks == 0
         && are_zero_numbers(&x.small)
         && x.large == 0
         && 1 <= x.size
-        && x.size <= TARGET_BYTES_MAX
+        && x.size <= TARGET_BYTES_MAX as u64
         && is_target(&x.target, x.size as usize)
 }
 
@@ -84,12 +85,12 @@ fn ends_blocks(x: &Inode) -> bool
     ensures { result ≡ ends_blocks x.now }
 {
     let blocks = usize::from(x.blocks);
-    blocks >= 16 || are_zero_numbers(&x.small[blocks..])
+    blocks >= INODE_BLOCKS_MAX as usize || are_zero_numbers(&x.small[blocks..])
 }
 
 // The first bytes are a target, and the others are zeros.
-fn is_target(bytes: &[u8; 384], len: usize) -> bool
-    requires { len ≤ 384 }
+fn is_target(bytes: &[u8; TARGET_BYTES_MAX], len: usize) -> bool
+    requires { len ≤ TARGET_BYTES_MAX }
     ensures { result ≡ (list_all is_target_byte (take len bytes.now) && are_zero (drop len bytes.now)) }
 {
     are_target_bytes(&bytes[..len]) && are_zero(&bytes[len..])

@@ -1,12 +1,14 @@
 // Laws of inodes and their sectors.
 ghost use Rattle.std.specs.Prelude.{◌≡◌, ◌<◌, ◌^◌, List, ℕ, Some, IsTrue, length, slice_index};
 ghost use Rattle.frang_base.specs.declared.change.Change.{Change};
-ghost use Rattle.cells.specs.Blocks.{edited, patched};
+ghost use Rattle.sector_bytes.specs.Changes.{changed};
+ghost use Rattle.sector_bytes.specs.Blocks.{patched};
 ghost use Rattle.sector_definitions.specs.declared.inode.Inode.{Inode};
 ghost use Rattle.sector_definitions.specs.Inodes.{inode_bytes, inode_fits, inode_in, IsInodeSector};
-ghost use Rattle.sector_definitions.specs.Patches.{patches_of};
+ghost use Rattle.sector_bytes.specs.Patches.{patches_of};
 ghost use Rattle.sector_definitions.specs.Ranges.{InodeRange};
 
+use frang_base::limits::TARGET_BYTES_MAX;
 use sector_definitions::Inode;
 
 /// Each inode has the ranges that the laws below ask for, since its fields have their types.
@@ -33,13 +35,13 @@ fn small_blocks_are_16(numbers: &[u32; 16])
     ensures { length numbers.now ≡ 16 }
 {}
 
-fn targets_are_long(target: &[u8; 384])
-    ensures { length target.now ≡ 384 }
+fn targets_are_long(target: &[u8; TARGET_BYTES_MAX])
+    ensures { length target.now ≡ TARGET_BYTES_MAX }
 {}
 
-/// What was encoded is decoded to the same inode, and what was decoded encodes to the same block. No block is the sector of two
-/// inodes.
-pub fn decoding_undoes_encoding()
+/// What was written of an inode reads back, a block is the sector of what it is read as, what a block is the sector of it is read as,
+/// and no block is the sector of two.
+pub fn what_is_written_reads_back()
     ensures back { (x : Inode) → InodeRange x → IsTrue (inode_fits x) → inode_in (inode_bytes x) ≡ Some x }
     ensures read { (block : List ℕ) (x : Inode) → inode_in block ≡ Some x → IsInodeSector block x }
     ensures found { (block : List ℕ) (x : Inode) → InodeRange x → IsInodeSector block x → inode_in block ≡ Some x }
@@ -48,7 +50,7 @@ pub fn decoding_undoes_encoding()
 
 /// Laid over the old inode's block, the patches give the new one's but for the version. A change with them and with the new version
 /// makes the new one's block of the old one's.
-pub fn changes_make_the_new_inode()
+pub fn patches_make_the_new_sector()
     ensures laid { (old new : Inode) → InodeRange old → InodeRange new → patched (patches_of (inode_bytes old) (inode_bytes new)) (inode_bytes old) ≡ inode_bytes (record new { version = old.version }) }
-    ensures edited { (x : Change) (old new : Inode) → InodeRange old → InodeRange new → x.patches ≡ patches_of (inode_bytes old) (inode_bytes new) → x.version ≡ new.version → edited x (inode_bytes old) ≡ inode_bytes new }
+    ensures edited { (x : Change) (old new : Inode) → InodeRange old → InodeRange new → x.patches ≡ patches_of (inode_bytes old) (inode_bytes new) → x.version ≡ new.version → changed (inode_bytes old) x ≡ inode_bytes new }
 {}

@@ -1,7 +1,7 @@
 // The one clock that servers and disk share.
 ghost use Rattle.std.specs.Prelude.{◌≡◌, ◌↔◌, ◌+◌, ◌≤◌, IsErr, OnOk, OnErr};
 
-use lock_definitions::LAST_TICK;
+use frang_base::limits::LAST_TICK;
 use std::marker::Model;
 
 /// A clock, seen as the number of the present tick. It begins at 0 and stands at most at `LAST_TICK`.
@@ -12,7 +12,7 @@ pub struct Clock {
 
 impl Model for Clock {
     ghost use Rattle.std.specs.Prelude.{ℕ, ◌≤◌};
-    ghost use Rattle.lock_definitions.specs.declared.limits.TheConstants.{LAST_TICK};
+    ghost use Rattle.frang_base.specs.declared.limits.TheConstants.{LAST_TICK};
 
     ghost Value = { ℕ };
 
@@ -31,6 +31,14 @@ impl Clock {
         ensures { result ≡ 0 }
     {
         Clock { ticks: 0 }
+    }
+
+    /// A clock that stands at this tick.
+    pub fn at(tick: u64) -> Clock
+        requires { tick ≤ LAST_TICK }
+        ensures { result ≡ tick }
+    {
+        Clock { ticks: tick }
     }
 
     /// The present tick.
@@ -52,20 +60,5 @@ impl Clock {
         }
         self.ticks += 1;
         Ok(())
-    }
-}
-
-#[cfg(test)]
-mod tests {
-    use super::*;
-
-    #[test]
-    fn ticks_to_its_end_and_no_further(rt: HostRuntime) {
-        let mut clock = Clock::new();
-        assert_eq!(rt; clock.tick(), Ok(()));
-        assert_eq!(rt; clock.now(), 1);
-        let mut last = Clock { ticks: LAST_TICK };
-        assert_eq!(rt; last.tick(), Err(ClockEnd));
-        assert_eq!(rt; last.now(), 18_446_744_073_709_551_585);
     }
 }

@@ -2,7 +2,7 @@
 ghost use Rattle.std.specs.Prelude.{◌≡◌, ◌↔◌, ◌+◌, ◌≤◌, ℕ, IsTrue, IsErr, IfOk, IfErr};
 ghost use Rattle.lock_definitions.specs.Lease.{lease_expiry, write_stamp, HasEnded, IsInTime};
 
-use lock_definitions::{LAST_TICK, LEASE_TICKS, MARGIN_TICKS};
+use frang_base::limits::{LAST_TICK, LEASE_TICKS, MARGIN_TICKS};
 use std::marker::Model;
 
 /// A lease, seen as its expiry: the last tick at which it still stands.
@@ -13,7 +13,7 @@ pub struct Lease {
 
 impl Model for Lease {
     ghost use Rattle.std.specs.Prelude.{ℕ, ◌≤◌};
-    ghost use Rattle.lock_definitions.specs.declared.limits.TheConstants.{LEASE_TICKS};
+    ghost use Rattle.frang_base.specs.declared.limits.TheConstants.{LEASE_TICKS};
 
     ghost Value = { ℕ };
 
@@ -84,26 +84,3 @@ impl Lease {
 pub fn writes_arrive_under_their_lease()
     ensures { (renewed now : ℕ) → IsInTime (write_stamp (lease_expiry renewed)) now → ¬ HasEnded (now + MARGIN_TICKS) (lease_expiry renewed) }
 {}
-
-#[cfg(test)]
-mod tests {
-    use super::*;
-
-    #[test]
-    fn a_lease_renewed_at_5_ends_at_36(rt: HostRuntime) {
-        let mut lease = Lease::new(0);
-        assert_eq!(rt; lease.renew(5), Ok(35));
-        assert_eq!(rt; lease.expiry(), 35);
-        assert_eq!(rt; lease.stamp(), 20);
-        assert!(rt; !lease.ended(35));
-        assert!(rt; lease.ended(36));
-        assert_eq!(rt;
-            lease.renew(36),
-            Err(Ended {
-                now: 36,
-                expiry: 35
-            })
-        );
-        assert_eq!(rt; lease.expiry(), 35);
-    }
-}

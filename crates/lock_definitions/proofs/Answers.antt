@@ -1,7 +1,7 @@
 -- What the answers of a lock table mean: the bits of those who wait, what a holder is asked for, and that tables with the same
 -- locks answer alike.
 use Rattle.std.proofs.Common.{◌≡◌, ℕ, ◌<◌, ◌≤◌, ◌^◌, ◌==◌, Bool, true, false, not, ◌&&◌, if◌then◌else◌, is_some, List, [], ◌∷◌, Option, Some, None, refl, sym, ap, ◌∙◌, inl, inr, ◌⊎◌, arith}
-use Rattle.std.specs.Prelude.{bit_and, IsBitSet, ◌↔◌, nat_lt}
+use Rattle.std.specs.Prelude.{bit_and, IsBitSet, ◌↔◌, nat_lt, unwrap_or}
 use Rattle.std.specs.Int.Bits.{and_zero_l}
 use Rattle.std.specs.List.{filter_map, cons_option}
 use Rattle.std.specs.Option.{option_map}
@@ -18,7 +18,6 @@ use Rattle.lock_definitions.specs.Order.{is_lock}
 use Rattle.lock_definitions.specs.Servers.{any_below, bits_below, any_server, server_bits}
 use Rattle.lock_definitions.specs.Locks.{Claims, Locks, no_claim, claim_in, claims_of, held, is_wished, AreLocks}
 use Rattle.lock_definitions.specs.declared.claim.Wanted.TheVariants.{Granted, Wait}
-use Rattle.std.specs.Prelude.{unwrap_or}
 use Rattle.lock_definitions.specs.Calls.{hold_against, clashes, conflicts, is_free, holders, asked_of, asked_for, is_wished_by_other, revokes, want_answer, log_taken_by}
 use Rattle.lock_definitions.specs.Same.{waits, SameLocks}
 use Rattle.lock_definitions.proofs.LockOrder.{found_lock}

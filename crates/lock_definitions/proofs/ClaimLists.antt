@@ -11,7 +11,7 @@ use Rattle.lock_definitions.specs.declared.claim.Claim.{Claim}
 use Rattle.lock_definitions.specs.Order.{lock_cmp, is_lock}
 use Rattle.lock_definitions.specs.Locks.{Claims, no_claim, is_no_claim, claim_in, with_claim, AreClaims}
 use Rattle.lock_definitions.proofs.LockOrder.{lock_total, is_lock_equiv}
-use Rattle.lock_definitions.proofs.SortedEntries.{sorted-insert_entry, sorted-remove_entry, lookup-insert_entry}
+use Rattle.sorted_entries.proofs.Sorted.{sorted-insert_entry, sorted-remove_entry, lookup-insert_entry}
 
 pub nothing_claimed : (claim : Claim) → is_no_claim claim ≡ true → claim ≡ no_claim
 nothing_claimed claim none = by claim.held claim.wishes_shared claim.wishes_sole none

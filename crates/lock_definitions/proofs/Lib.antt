@@ -4,6 +4,5 @@ pub mod ClaimLists
 pub mod Compatibility
 pub mod LockOrder
 pub mod ServerTests
-pub mod SortedEntries
 pub mod States
 pub mod Wants

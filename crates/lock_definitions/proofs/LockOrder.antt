@@ -1,12 +1,12 @@
 -- Locks are in a total order, in which only the same lock is equal.
-use Rattle.std.proofs.Common.{◌≡◌, true, ap, rules}
+use Rattle.std.proofs.Common.{◌≡◌, true, ap, rules, arith}
 use Rattle.std.specs.Cmp.{IsTotalOrder, IsEquivalence, eq_by_cmp_equiv}
 use Rattle.std.specs.Cmp.Rules.{comparing}
 use Rattle.std.specs.Ordering.{eq_by_cmp}
 use Rattle.std.proofs.lemmas.Bool.Decides.{nat_tests}
-use Rattle.std.proofs.Common.{arith}
 use Rattle.frang_base.specs.declared.lock.LockId.{LockId}
 use Rattle.frang_base.specs.declared.lock.LockId.TheVariants.{Log, Segment, Node}
+use Rattle.sorted_entries.specs.Places.{IsKeyOrder}
 use Rattle.lock_definitions.specs.Order.{lock_cmp, is_lock}
 
 pub lock_total : IsTotalOrder lock_cmp
@@ -26,3 +26,7 @@ found_lock (Node a) (Node b) e = ap Node (grind (arith, nat_tests))
 
 pub is_lock_equiv : IsEquivalence (eq_by_cmp lock_cmp)
 is_lock_equiv = eq_by_cmp_equiv lock_total
+
+-- locks are keys
+pub locks : IsKeyOrder lock_cmp
+locks = record { total = lock_total; exact = found_lock }

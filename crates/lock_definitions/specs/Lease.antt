@@ -1,6 +1,6 @@
 -- Leases, in ticks of the one clock that the servers and the disk share.
 use Rattle.std.specs.Prelude.{ℕ, ◌+◌, ◌-◌, ◌<◌, ◌≤◌}
-use Rattle.lock_definitions.specs.declared.limits.TheConstants.{LEASE_TICKS, MARGIN_TICKS}
+use Rattle.frang_base.specs.declared.limits.TheConstants.{LEASE_TICKS, MARGIN_TICKS}
 
 -- the last tick at which a lease that was begun or renewed at this one still stands
 abbrev pub lease_expiry : ℕ → ℕ

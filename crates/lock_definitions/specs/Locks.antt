@@ -9,7 +9,7 @@ use Rattle.frang_base.specs.declared.lock.Mode.{Mode}
 use Rattle.frang_base.specs.declared.lock.Mode.TheVariants.{Shared, Sole}
 use Rattle.lock_definitions.specs.declared.claim.Claim.{Claim}
 use Rattle.lock_definitions.specs.declared.claim.LogHold.{LogHold}
-use Rattle.lock_definitions.specs.declared.limits.TheConstants.{SERVERS, LOGS}
+use Rattle.frang_base.specs.declared.limits.TheConstants.{SERVERS, LOGS}
 use Rattle.lock_definitions.specs.Order.{lock_cmp, is_lock}
 
 -- what one server has and wishes, by lock, ascending; a lock of which it neither has nor wishes anything isn't listed

@@ -1,6 +1,6 @@
 -- Tests of the servers that may hold locks, 0 to 15.
 use Rattle.std.specs.Prelude.{ℕ, zero, suc, ◌^◌, Bool, false, ◌||◌, if◌then◌else◌, bit_or}
-use Rattle.lock_definitions.specs.declared.limits.TheConstants.{SERVERS}
+use Rattle.frang_base.specs.declared.limits.TheConstants.{SERVERS}
 
 -- some number below the bound passes
 abbrev pub any_below : (ℕ → Bool) → ℕ → Bool

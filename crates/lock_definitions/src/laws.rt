@@ -11,7 +11,7 @@ ghost use Rattle.lock_definitions.specs.Calls.{serves, conflicts, holders, wante
 ghost use Rattle.lock_definitions.specs.Runs.{LockCall, after_calls, asks};
 ghost use Rattle.lock_definitions.specs.Same.{SameLocks};
 
-use crate::SERVERS;
+use frang_base::limits::SERVERS;
 
 /// Whatever is called of a lock table and in whatever order, no lock is held sole by one server and in any mode by another.
 pub fn holders_stay_compatible()

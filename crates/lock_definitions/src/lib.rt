@@ -6,7 +6,6 @@
 
 mod claim;
 mod laws;
-mod limits;
 mod lists;
 
 pub use claim::{AskedFor, Claim, LogHold, LogTaken, Wanted};
@@ -15,5 +14,4 @@ pub use laws::{
     locks_are_asked_for, same_locks_answer_alike, waits_for_each_holder,
     wants_are_granted_or_noted,
 };
-pub use limits::{LAST_TICK, LEASE_TICKS, LOGS, MARGIN_TICKS, SERVERS};
 pub use lists::{ClerkLocks, LockList, LogList};

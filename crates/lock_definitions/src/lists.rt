@@ -175,23 +175,3 @@ pub struct ClerkLocks {
     pub wants: LockList,
     pub logs: LogList,
 }
-
-#[cfg(test)]
-mod tests {
-    use super::*;
-    use std::test::Fail;
-
-    #[test]
-    fn lists_keep_what_is_pushed(rt: HostRuntime) -> Result<(), Fail> {
-        let mut locks = LockList::new(rt.alloc());
-        assert_eq!(rt; locks.push((LockId::Node(1), Mode::Sole)), Ok(()));
-        assert_eq!(rt; locks.push((LockId::Log(0), Mode::Shared)), Ok(()));
-        assert_eq!(rt; locks.try_copy()?.as_slice(), locks.as_slice());
-        assert_eq!(rt; locks.get(1), Some(&(LockId::Log(0), Mode::Shared)));
-        let mut logs = LogList::new(rt.alloc());
-        assert_eq!(rt; logs.push((ServerId(3), 40)), Ok(()));
-        assert_eq!(rt; logs.try_copy()?.as_slice(), [(ServerId(3), 40)].as_slice());
-        assert_eq!(rt; logs.len(), 1);
-        Ok(())
-    }
-}

@@ -1,7 +1,6 @@
 -- What is kept of all servers, where one of them is changed.
 use Rattle.std.proofs.Common.{◌≡◌, ℕ, zero, suc, ◌<◌, ◌≤◌, List, [], ◌∷◌, length, map, set, get_or, replicate, Result, Ok, Err, OnOk, OnErr, IsSome, inl, inr, ◌⊎◌, refl, ap, ◌∙◌, subst, arith}
-use Rattle.std.proofs.lemmas.List.{map-set, get_or-map, get_or-set_same, length-set}
-use Rattle.std.proofs.lemmas.List.{get_or_past, length-map}
+use Rattle.std.proofs.lemmas.List.{map-set, get_or-map, get_or-set_same, length-set, get_or_past, length-map}
 use Rattle.std.proofs.lemmas.Bool.{cases_lt, false≢true}
 use Rattle.std.specs.Map.{lookup}
 use Rattle.frang_base.specs.declared.lock.LockId.{LockId}

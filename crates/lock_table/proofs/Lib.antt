@@ -1,4 +1,4 @@
 pub mod Changed
 pub mod InPlace
 pub mod KeptLists
-pub mod Places
+pub mod ClaimPlaces

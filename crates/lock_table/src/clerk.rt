@@ -1,9 +1,9 @@
 // What one server has and wishes, in order of the locks.
 ghost use Rattle.std.specs.Prelude.{◌≡◌, ◌<◌, [], IsOk, IsSome, OnOk, OnErr};
 ghost use Rattle.std.specs.Map.{lookup};
+ghost use Rattle.sorted_entries.specs.Places.{place_of};
 ghost use Rattle.lock_definitions.specs.Order.{is_lock, lock_cmp};
 ghost use Rattle.lock_definitions.specs.Locks.{claim_in, with_claim, no_claim, is_no_claim};
-ghost use Rattle.lock_table.specs.Place.{place_of};
 
 use frang_base::{LockId, NoMemory};
 use lock_definitions::Claim;
@@ -72,7 +72,7 @@ impl Clerk {
 
     // The lock's place, or the place where it would go.
     fn place(&self, lock: LockId) -> Result<usize, usize>
-        ensures place { result ≡ place_of lock self.now.claims }
+        ensures place { result ≡ place_of lock_cmp lock self.now.claims }
         ensures missing { OnErr result (lookup (is_lock lock) self.now.claims ≡ None) }
     {
         self.claims
@@ -100,7 +100,7 @@ impl Clerk {
 
     // Puts the claim at the lock's place.
     fn put(&mut self, at: usize, lock: LockId, claim: Claim)
-        requires { place_of lock self.old.claims ≡ Ok at }
+        requires { place_of lock_cmp lock self.old.claims ≡ Ok at }
         ensures { self.new.claims ≡ with_claim self.old.claims lock claim }
     {
         if is_no_claim(claim) {
@@ -127,7 +127,7 @@ impl Clerk {
 
     // Puts a claim on a lock that has none in the place where it goes.
     fn add(&mut self, at: usize, lock: LockId, claim: Claim) -> Result<(), NoMemory>
-        requires { place_of lock self.old.claims ≡ Err at }
+        requires { place_of lock_cmp lock self.old.claims ≡ Err at }
         ensures ok { OnOk result (self.new.claims ≡ with_claim self.old.claims lock claim) }
         ensures err { OnErr result (self.new.claims ≡ self.old.claims) }
         ensures sure { 0 < self.old.room → IsOk result }

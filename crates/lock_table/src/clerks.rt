@@ -6,8 +6,9 @@ ghost use Rattle.lock_definitions.specs.Locks.{claim_in, with_claim, no_clerks};
 ghost use Rattle.lock_table.specs.Kept.{claims_kept};
 
 use crate::clerk::{Clerk, no_claim};
+use frang_base::limits::SERVERS;
 use frang_base::{LockId, NoMemory, ServerId};
-use lock_definitions::{Claim, SERVERS};
+use lock_definitions::Claim;
 use std::alloc::Global;
 use std::array;
 use std::marker::Model;
@@ -20,7 +21,7 @@ pub(crate) struct Clerks {
 
 impl Model for Clerks {
     ghost use Rattle.std.specs.Prelude.{◌≡◌, length};
-    ghost use Rattle.lock_definitions.specs.declared.limits.TheConstants.{SERVERS};
+    ghost use Rattle.frang_base.specs.declared.limits.TheConstants.{SERVERS};
     ghost use Rattle.lock_table.specs.Kept.{AllKept, all_kept};
 
     ghost Value = { AllKept };

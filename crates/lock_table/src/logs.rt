@@ -4,7 +4,8 @@ ghost use Rattle.lock_definitions.specs.Locks.{no_logs};
 ghost use Rattle.lock_definitions.specs.Calls.{hold_against, hold_extended, hold_not_by};
 
 use frang_base::ServerId;
-use lock_definitions::{LOGS, LogHold};
+use frang_base::limits::LOGS;
+use lock_definitions::LogHold;
 use std::marker::Model;
 
 /// The hold on each log, by the number of the dead server; seen as the list of them.
@@ -15,7 +16,7 @@ pub(crate) struct Logs {
 
 impl Model for Logs {
     ghost use Rattle.std.specs.Prelude.{◌≡◌, List, Option, length};
-    ghost use Rattle.lock_definitions.specs.declared.limits.TheConstants.{LOGS};
+    ghost use Rattle.frang_base.specs.declared.limits.TheConstants.{LOGS};
     ghost use Rattle.lock_definitions.specs.declared.claim.LogHold.{LogHold};
 
     ghost Value = { List (Option LogHold) };

@@ -8,8 +8,9 @@ ghost use Rattle.lock_table.specs.Table.{HasRoom};
 use crate::clerks::Clerks;
 use crate::logs::Logs;
 use crate::modes::{answered, asked_of, clashes, given_up, is_wished_in, shared};
+use frang_base::limits::SERVERS;
 use frang_base::{LockId, Mode, NoMemory, ServerId};
-use lock_definitions::{AskedFor, Claim, LogHold, LogTaken, SERVERS, Wanted};
+use lock_definitions::{AskedFor, Claim, LogHold, LogTaken, Wanted};
 use std::alloc::Global;
 use std::marker::Model;
 
@@ -217,82 +218,5 @@ impl LockTable {
     {
         self.clerks.clear(dead);
         self.logs.clear(dead);
-    }
-}
-
-#[cfg(test)]
-mod tests {
-    use super::*;
-    use std::test::Fail;
-
-    #[test]
-    fn a_downgrade_lets_a_shared_wish_in(rt: HostRuntime) -> Result<(), Fail> {
-        let node = LockId::Node(1);
-        let mut table = LockTable::new(rt.alloc());
-        assert_eq!(rt; table.reserve(ServerId(0), node), Ok(()));
-        assert_eq!(rt;
-            table.want(ServerId(0), node, Mode::Sole),
-            Ok(Wanted::Granted)
-        );
-        assert_eq!(rt;
-            table.want(ServerId(1), node, Mode::Shared),
-            Ok(Wanted::Wait { holders: 1 })
-        );
-        assert_eq!(rt;
-            table.revokes(ServerId(0))?.as_slice(),
-            [(node, AskedFor::Downgrade)].as_slice()
-        );
-        assert_eq!(rt; table.held(ServerId(0), node), Some(Mode::Sole));
-        table.downgrade(ServerId(0), node);
-        assert_eq!(rt;
-            table.want(ServerId(1), node, Mode::Shared),
-            Ok(Wanted::Granted)
-        );
-        assert_eq!(rt; table.revokes(ServerId(0))?.as_slice(), [].as_slice());
-        assert_eq!(rt;
-            table.want(ServerId(1), node, Mode::Sole),
-            Ok(Wanted::Wait { holders: 1 })
-        );
-        assert_eq!(rt;
-            table.revokes(ServerId(0))?.as_slice(),
-            [(node, AskedFor::Release)].as_slice()
-        );
-        assert_eq!(rt; table.held(ServerId(0), node), Some(Mode::Shared));
-        table.release(ServerId(0), node);
-        assert_eq!(rt;
-            table.want(ServerId(1), node, Mode::Sole),
-            Ok(Wanted::Granted)
-        );
-        table.clear(ServerId(1));
-        assert_eq!(rt; table.held(ServerId(1), node), None);
-        Ok(())
-    }
-
-    #[test]
-    fn a_log_is_taken_until_its_takers_lease_ends(rt: HostRuntime) {
-        let mut table = LockTable::new(rt.alloc());
-        let dead = ServerId(3);
-        let taker = ServerId(2);
-        let other = ServerId::HOST;
-        assert_eq!(rt; table.take_log(dead, taker, 10, 40), Ok(()));
-        assert_eq!(rt;
-            table.take_log(dead, other, 40, 70),
-            Err(LogTaken {
-                by: taker,
-                expiry: 40
-            })
-        );
-        table.extend(taker, 50);
-        assert_eq!(rt;
-            table.take_log(dead, other, 50, 80),
-            Err(LogTaken {
-                by: taker,
-                expiry: 50
-            })
-        );
-        assert_eq!(rt; table.take_log(dead, taker, 50, 80), Ok(()));
-        assert_eq!(rt; table.take_log(dead, other, 81, 111), Ok(()));
-        table.clear(dead);
-        assert_eq!(rt; table.take_log(dead, taker, 81, 111), Ok(()));
     }
 }

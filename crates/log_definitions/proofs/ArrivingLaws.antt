@@ -3,7 +3,7 @@ use Rattle.std.proofs.Common.{◌≡◌, ◌≢◌, ℕ, ◌%◌, ◌^◌, ◌<�
 use Rattle.std.proofs.lemmas.Bool.{and_from, cond-true, cond-false}
 use Rattle.std.proofs.lemmas.Bool.Decides.{nat_tests}
 use Rattle.sector_definitions.specs.declared.log_sector.LogSector.{LogSector}
-use Rattle.sector_definitions.specs.LogSectors.{log_sector_bytes, log_sector_fits, is_empty_sector, is_record_sector, empty_sector, log_sector_in}
+use Rattle.sector_definitions.specs.LogSectors.{log_sector_bytes, log_sector_fits, is_empty_sector, is_filled_sector, empty_sector, log_sector_in}
 use Rattle.sector_definitions.proofs.LogSectorLaws.{IsStorable, log_sector_back}
 use Rattle.sector_definitions.proofs.WrittenFields.{zeros_are_zero, length_zeros}
 use Rattle.log_definitions.specs.Arriving.{with_sector}
@@ -40,8 +40,8 @@ pub empty_fits_any : (n : ℕ) → n < 2 ^ 63 → log_sector_fits (n % 256) (emp
 empty_fits_any n h =
     let low : nat_lt n (2 ^ 63) ≡ true = grind (arith, nat_tests) in
     let slot : (n % 256 == n % 256) ≡ true = eq-eqb (n % 256) (n % 256) refl in
-    and_from (nat_lt n (2 ^ 63) && n % 256 == n % 256) (is_empty_sector (empty_sector n) || is_record_sector (empty_sector n)) (and_from (nat_lt n (2 ^ 63)) (n % 256 == n % 256) low slot)
-    (ap (λ b. b || is_record_sector (empty_sector n)) (zeros_are_zero 488))
+    and_from (nat_lt n (2 ^ 63) && n % 256 == n % 256) (is_empty_sector (empty_sector n) || is_filled_sector (empty_sector n)) (and_from (nat_lt n (2 ^ 63)) (n % 256 == n % 256) low slot)
+    (ap (λ b. b || is_filled_sector (empty_sector n)) (zeros_are_zero 488))
 
 pub empty_arrived : (slots : Slots) (n : ℕ) → n < 2 ^ 63 → sector_numbered (with_sector slots (empty_sector n)) n ≡ Some (empty_sector n)
 empty_arrived slots n h = arrived slots (empty_sector n) (empty_storable n h) (empty_fits_any n h)

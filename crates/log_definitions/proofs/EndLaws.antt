@@ -5,7 +5,7 @@ use Rattle.std.specs.Option.{option_map}
 use Rattle.std.proofs.lemmas.Bool.{and_parts, and_from, cond-true}
 use Rattle.tree_definitions.specs.Numbers.{below}
 use Rattle.sector_definitions.specs.declared.log_sector.LogSector.{LogSector}
-use Rattle.sector_definitions.specs.LogSectors.{log_sector_in, is_empty_sector, is_record_sector}
+use Rattle.sector_definitions.specs.LogSectors.{log_sector_in, is_empty_sector, is_filled_sector}
 use Rattle.sector_definitions.proofs.LogSectorLaws.{log_sector_read}
 use Rattle.log_definitions.specs.Logs.{Slots, numbered, sector_numbered, stands, window, is_end, seq_of, numbers_in, log_end, is_sealed}
 use Rattle.log_definitions.proofs.Listed.{Among, all_at, all_from, among_filter, among_filtered, among_map, among_mapped, among_filter_map, among_filter_mapped, among_below, below_among, max_above, max_reached}
@@ -38,7 +38,7 @@ number_of_sector slots n x e = (numbered_is n (log_sector_in (n % 256) (slots (n
 pub slot_of_number : (slot : ℕ) (block : List ℕ) (x : LogSector) → slot < 256 → log_sector_in slot block ≡ Some x → x.seq % 256 ≡ slot
 slot_of_number slot block x low e =
     let fits = (log_sector_read slot block x low e).1 in
-    let outer = and_parts (nat_lt x.seq (2 ^ 63) && x.seq % 256 == slot) (is_empty_sector x || is_record_sector x) fits in
+    let outer = and_parts (nat_lt x.seq (2 ^ 63) && x.seq % 256 == slot) (is_empty_sector x || is_filled_sector x) fits in
     eqb-true (x.seq % 256) slot (and_parts (nat_lt x.seq (2 ^ 63)) (x.seq % 256 == slot) outer.0).1
 
 -- ---- the numbers in the slots are those that stand

@@ -3,8 +3,9 @@ use Rattle.std.proofs.Common.{◌≡◌, ℕ, List, [], ◌∷◌, ◌++◌, ref
 use Rattle.frang_base.specs.declared.change.Change.{Change}
 use Rattle.sector_definitions.specs.declared.log_sector.LogSector.{LogSector}
 use Rattle.sector_definitions.specs.LogSectors.{empty_sector}
-use Rattle.log_definitions.specs.declared.redo.Redo.{Redo}
+use Rattle.frang_base.specs.declared.change.Redo.{Redo}
 use Rattle.log_definitions.specs.Records.{record_bytes}
+use Rattle.log_definitions.specs.Frames.{frame_bytes, frame_read}
 use Rattle.log_definitions.specs.Logs.{records_among, greatest_operation}
 
 -- a record of one short change of a sector
@@ -69,3 +70,80 @@ greatest_of_two = refl
 -- a whole body in the first of two parts, of which the second lacks
 a_second_part_lacks : records_among (sector 256 9 0 2 (record_bytes (short 5)) 25 ∷ []) ≡ []
 a_second_part_lacks = refl
+
+-- ---- packed sectors
+
+-- a packed sector with these bytes, in which the first frame begins at this place
+abbrev packed : ℕ → ℕ → ℕ → List ℕ → LogSector
+packed seq part used bytes = record { seq = seq; op = record { 0 = 0 }; part = part; parts = 65535; used = used; body = bytes }
+
+-- a frame has 35 bytes
+abbrev frame : ℕ → ℕ → List ℕ
+frame op number = frame_bytes (redo op number)
+
+a_frame : frame 9 5 ≡ 9 ∷ 0 ∷ 0 ∷ 0 ∷ 0 ∷ 0 ∷ 0 ∷ 0 ∷ 25 ∷ 0 ∷ record_bytes (short 5)
+a_frame = refl
+
+two_in_one_sector : records_among (packed 256 0 70 (frame 8 5 ++ frame 9 4) ∷ []) ≡ redo 8 5 ∷ redo 9 4 ∷ []
+unfolding frame_read
+two_in_one_sector = refl
+
+-- the operation of a frame may be 0
+no_operation_in_a_frame : records_among (packed 256 0 35 (frame 0 5) ∷ []) ≡ redo 0 5 ∷ []
+unfolding frame_read
+no_operation_in_a_frame = refl
+
+-- the second frame goes on in the next sector, in which a third begins
+abbrev over_two : List LogSector
+over_two = packed 256 0 50 (frame 8 5 ++ take 15 (frame 9 4)) ∷ packed 257 20 55 (drop 15 (frame 9 4) ++ frame 10 3) ∷ []
+
+a_frame_over_two_sectors : records_among over_two ≡ redo 8 5 ∷ redo 9 4 ∷ redo 10 3 ∷ []
+unfolding frame_read
+a_frame_over_two_sectors = refl
+
+without_its_second_sector : records_among (take 1 over_two) ≡ redo 8 5 ∷ []
+unfolding frame_read
+without_its_second_sector = refl
+
+without_its_first_sector : records_among (drop 1 over_two) ≡ redo 10 3 ∷ []
+unfolding frame_read
+without_its_first_sector = refl
+
+-- a frame over three sectors, whose head is cut, and in the middle one of which none begins
+abbrev over_three : List LogSector
+over_three = packed 256 0 5 (take 5 (frame 9 4)) ∷ packed 257 65535 10 (take 10 (drop 5 (frame 9 4))) ∷ packed 258 20 55 (drop 15 (frame 9 4) ++ frame 10 3) ∷ []
+
+a_frame_over_three_sectors : records_among over_three ≡ redo 9 4 ∷ redo 10 3 ∷ []
+unfolding frame_read
+a_frame_over_three_sectors = refl
+
+cut_in_its_head : records_among (take 1 over_three) ≡ []
+unfolding frame_read
+cut_in_its_head = refl
+
+cut_in_its_body : records_among (take 2 over_three) ≡ []
+unfolding frame_read
+cut_in_its_body = refl
+
+-- a frame doesn't go on in a sector that begins with one, nor in one that isn't packed
+cut_by_a_beginning : records_among (packed 256 0 15 (take 15 (frame 9 4)) ∷ packed 257 0 35 (frame 10 3) ∷ []) ≡ redo 10 3 ∷ []
+unfolding frame_read
+cut_by_a_beginning = refl
+
+cut_by_another_form : records_among (packed 256 0 15 (take 15 (frame 9 4)) ∷ alone 257 10 6 ∷ packed 258 20 55 (drop 15 (frame 9 4) ++ frame 11 3) ∷ []) ≡ redo 10 6 ∷ redo 11 3 ∷ []
+unfolding frame_read
+cut_by_another_form = refl
+
+-- a length out of range ends the reading of its sector; a body of none is passed over
+no_length : records_among (packed 256 0 45 (9 ∷ replicate 9 0 ++ frame 10 3) ∷ packed 257 0 35 (frame 11 3) ∷ []) ≡ redo 11 3 ∷ []
+unfolding frame_read
+no_length = refl
+
+a_body_of_none : records_among (packed 256 0 46 (9 ∷ replicate 7 0 ++ 1 ∷ 0 ∷ 7 ∷ [] ++ frame 10 3) ∷ []) ≡ redo 10 3 ∷ []
+unfolding frame_read
+a_body_of_none = refl
+
+-- beside sectors of records that have them for themselves
+mixed : records_among (first 256 9 5 ∷ second 257 9 5 ∷ packed 258 0 35 (frame 10 3) ∷ alone 259 11 6 ∷ []) ≡ redo 9 5 ∷ redo 10 3 ∷ redo 11 6 ∷ []
+unfolding frame_read
+mixed = refl

@@ -1,5 +1,5 @@
 -- Reading records among sectors: without the first sectors, with further ones behind, and which sectors are read up to an end.
-use Rattle.std.proofs.Common.{◌≡◌, ℕ, zero, suc, ◌+◌, ◌-◌, ◌<◌, ◌≤◌, ⊎_elim, Bool, true, false, ◌&&◌, ◌==◌, nat_le, Option, Some, None, List, [], ◌∷◌, ◌++◌, length, take, drop, map, get_or, cond, refl, sym, ap, ◌∙◌, subst, arith, append-nil, length-append, ne_eqb, eqb-true}
+use Rattle.std.proofs.Common.{◌≡◌, ℕ, zero, suc, ◌+◌, ◌-◌, ◌<◌, ◌≤◌, ⊎_elim, Bool, true, false, not, ◌&&◌, ◌==◌, if◌then◌else◌, nat_le, Option, Some, None, List, [], ◌∷◌, ◌++◌, length, take, drop, map, get_or, cond, refl, sym, ap, ◌∙◌, subst, arith, append-nil, append_assoc, length-append, ne_eqb, eqb-true}
 use Rattle.std.specs.List.{list_all, filter_map, cons_option}
 use Rattle.std.specs.Option.{option_map}
 use Rattle.std.proofs.lemmas.Bool.{and_left, and_right, and_parts, cases_lt, cases_eq, cond-false}
@@ -7,62 +7,48 @@ use Rattle.std.proofs.lemmas.List.{take_all, take-append-le, map-append, get_or_
 use Rattle.std.proofs.lemmas.List.Elements.{filter_map-append}
 use Rattle.tree_definitions.specs.Numbers.{below}
 use Rattle.sector_definitions.specs.declared.log_sector.LogSector.{LogSector}
-use Rattle.log_definitions.specs.declared.redo.Redo.{Redo}
+use Rattle.frang_base.specs.declared.change.Redo.{Redo}
 use Rattle.log_definitions.specs.Records.{record_in}
-use Rattle.log_definitions.specs.Logs.{Slots, sector_numbered, window, is_end, sectors_read, is_part, are_parts, used_bytes, record_of, record_at, records_among}
+use Rattle.log_definitions.specs.Logs.{Slots, sector_numbered, window, is_end, sectors_read, is_part, are_parts, used_bytes, record_of, record_at, goes_on, bytes_on, bytes_begun, frames_of, records_at, records_among}
+use Rattle.log_definitions.specs.Frames.{frame_most, frames_among}
+use Rattle.sector_definitions.specs.LogSectors.{is_packed, packed_mark}
 use Rattle.log_definitions.proofs.EndLaws.{sector_of_number, end_is_high, end_stands}
 
 -- ---- records that begin among the first sectors
-
--- one more, if a record begins
-abbrev pub counted : Option Redo → ℕ → ℕ
-counted None n = n
-counted (Some r) n = suc n
 
 -- how many records begin among the first k sectors
 abbrev pub begun : List LogSector → ℕ → ℕ
 begun [] k = 0
 begun (x ∷ xs) zero = 0
-begun (x ∷ xs) (suc k) = counted (record_at (x ∷ xs)) (begun xs k)
+begun (x ∷ xs) (suc k) = length (records_at (x ∷ xs)) + begun xs k
 
-dropped : (o : Option Redo) (n : ℕ) (rs : List Redo) → drop (counted o n) (cons_option o rs) ≡ drop n rs
-dropped None n rs = refl
-dropped (Some r) n rs = refl
+dropped : (rs qs : List Redo) (n : ℕ) → drop (length rs + n) (rs ++ qs) ≡ drop n qs
+dropped [] qs n = let e : 0 + n ≡ n = omega arith in ap (λ k. drop k qs) e
+dropped (r ∷ rs) qs n = let e : suc (length rs) + n ≡ suc (length rs + n) = omega arith in ap (λ k. drop k (r ∷ (rs ++ qs))) e ∙ dropped rs qs n
 
 -- without the first sectors the records that begin there are missing
 pub records_among-drop : (k : ℕ) (xs : List LogSector) → records_among (drop k xs) ≡ drop (begun xs k) (records_among xs)
 records_among-drop zero [] = refl
 records_among-drop (suc k) [] = refl
 records_among-drop zero (x ∷ xs) = refl
-records_among-drop (suc k) (x ∷ xs) = records_among-drop k xs ∙ sym (dropped (record_at (x ∷ xs)) (begun xs k) (records_among xs))
+records_among-drop (suc k) (x ∷ xs) = records_among-drop k xs ∙ sym (dropped (records_at (x ∷ xs)) (records_among xs) (begun xs k))
 
-counted_more : (o : Option Redo) (m n : ℕ) → m ≤ n → counted o m ≤ counted o n
-counted_more None m n h = h
-counted_more (Some r) m n h = omega arith
+plus_more : (a m n : ℕ) → m ≤ n → a + m ≤ a + n
+plus_more a m n h = omega arith
 
 pub begun_more : (xs : List LogSector) (j k : ℕ) → j ≤ k → begun xs j ≤ begun xs k
 begun_more [] j k h = omega arith
 begun_more (x ∷ xs) zero k h = omega arith
 begun_more (x ∷ xs) (suc j) zero h = absurd (omega arith)
-begun_more (x ∷ xs) (suc j) (suc k) h = counted_more (record_at (x ∷ xs)) (begun xs j) (begun xs k) (begun_more xs j k (omega arith))
-
-length_with : (o : Option Redo) (rs : List Redo) → length (cons_option o rs) ≡ counted o (length rs)
-length_with None rs = refl
-length_with (Some r) rs = refl
-
-pub begun_all : (xs : List LogSector) → begun xs (length xs) ≡ length (records_among xs)
-begun_all [] = refl
-begun_all (x ∷ xs) = ap (counted (record_at (x ∷ xs))) (begun_all xs) ∙ sym (length_with (record_at (x ∷ xs)) (records_among xs))
+begun_more (x ∷ xs) (suc j) (suc k) h = plus_more (length (records_at (x ∷ xs))) (begun xs j) (begun xs k) (begun_more xs j k (omega arith))
 
 pub begun_past : (xs : List LogSector) (k : ℕ) → length xs ≤ k → begun xs k ≡ length (records_among xs)
 begun_past [] k h = refl
 begun_past (x ∷ xs) zero h = absurd (omega arith)
-begun_past (x ∷ xs) (suc k) h = ap (counted (record_at (x ∷ xs))) (begun_past xs k (omega arith)) ∙ sym (length_with (record_at (x ∷ xs)) (records_among xs))
+begun_past (x ∷ xs) (suc k) h = ap (λ n. length (records_at (x ∷ xs)) + n) (begun_past xs k (omega arith)) ∙ sym (length-append (records_at (x ∷ xs)) (records_among xs))
 
-pub begun_within : (xs : List LogSector) (k : ℕ) → begun xs k ≤ length (records_among xs)
-begun_within xs k =
-    ⊎_elim (λ l. let m : begun xs k ≤ begun xs (length xs) = begun_more xs k (length xs) (omega arith) in subst (λ n. begun xs k ≤ n) (begun_all xs) m)
-    (λ l. let e : begun xs k ≡ length (records_among xs) = begun_past xs k l in omega arith) (cases_lt k (length xs))
+pub begun_all : (xs : List LogSector) → begun xs (length xs) ≡ length (records_among xs)
+begun_all xs = begun_past xs (length xs) (omega arith)
 
 -- ---- further sectors behind
 
@@ -101,22 +87,49 @@ same_record_of x xs ys anew = ⊎_elim (cut_record x xs ys anew) (λ h. ap (reco
 pub record_at-append : (x : LogSector) (xs ys : List LogSector) → starts_anew ys ≡ true → record_at ((x ∷ xs) ++ ys) ≡ record_at (x ∷ xs)
 record_at-append x xs ys anew = ap (λ o. cond (x.part == 0 && nat_le 1 x.parts) o None) (same_record_of x xs ys anew)
 
-appended : (o : Option Redo) (rs qs : List Redo) → cons_option o (rs ++ qs) ≡ cons_option o rs ++ qs
-appended None rs qs = refl
-appended (Some r) rs qs = refl
+-- no frame goes on in sectors that start anew
+anew_stops : (ys : List LogSector) → starts_anew ys ≡ true → bytes_on ys ≡ []
+anew_stops [] anew = refl
+anew_stops (y ∷ ys) anew = cond-false (goes_on y) (take y.used y.body ++ bytes_on ys) [] (and_right (is_packed y) (not (y.part == 0)) (ap not anew))
+
+bytes_on-append : (xs ys : List LogSector) → bytes_on ys ≡ [] → bytes_on (xs ++ ys) ≡ bytes_on xs
+bytes_on-append [] ys stops = stops
+bytes_on-append (x ∷ xs) ys stops = ap (λ bs. if goes_on x then take x.used x.body ++ bs else []) (bytes_on-append xs ys stops)
+
+frames_of-append : (x : LogSector) (xs ys : List LogSector) → starts_anew ys ≡ true → frames_of x (xs ++ ys) ≡ frames_of x xs
+frames_of-append x xs ys anew =
+    ap (λ bs. frames_among (length (bytes_begun x)) (length (bytes_begun x)) (bytes_begun x ++ take frame_most bs)) (bytes_on-append xs ys (anew_stops ys anew))
+
+pub records_at-append : (x : LogSector) (xs ys : List LogSector) → starts_anew ys ≡ true → records_at ((x ∷ xs) ++ ys) ≡ records_at (x ∷ xs)
+records_at-append x xs ys anew =
+    ap (λ rs. if is_packed x then rs else cons_option (record_at ((x ∷ xs) ++ ys)) []) (frames_of-append x xs ys anew)
+    ∙ ap (λ o. if is_packed x then frames_of x xs else cons_option o []) (record_at-append x xs ys anew)
 
 pub records_among-append : (xs ys : List LogSector) → starts_anew ys ≡ true → records_among (xs ++ ys) ≡ records_among xs ++ records_among ys
 records_among-append [] ys anew = refl
 records_among-append (x ∷ xs) ys anew =
-    ap (λ o. cons_option o (records_among (xs ++ ys))) (record_at-append x xs ys anew) ∙ ap (cons_option (record_at (x ∷ xs))) (records_among-append xs ys anew)
-    ∙ appended (record_at (x ∷ xs)) (records_among xs) (records_among ys)
+    ap (λ rs. rs ++ records_among (xs ++ ys)) (records_at-append x xs ys anew) ∙ ap (λ rs. records_at (x ∷ xs) ++ rs) (records_among-append xs ys anew)
+    ∙ sym (append_assoc (records_at (x ∷ xs)) (records_among xs) (records_among ys))
 
 pub begun-append : (xs ys : List LogSector) → starts_anew ys ≡ true → begun (xs ++ ys) (length xs) ≡ length (records_among xs)
 begun-append [] [] anew = refl
 begun-append [] (y ∷ ys) anew = refl
 begun-append (x ∷ xs) ys anew =
-    ap (λ o. counted o (begun (xs ++ ys) (length xs))) (record_at-append x xs ys anew) ∙ ap (counted (record_at (x ∷ xs))) (begun-append xs ys anew)
-    ∙ sym (length_with (record_at (x ∷ xs)) (records_among xs))
+    ap (λ rs. length rs + begun (xs ++ ys) (length xs)) (records_at-append x xs ys anew) ∙ ap (λ n. length (records_at (x ∷ xs)) + n) (begun-append xs ys anew)
+    ∙ sym (length-append (records_at (x ∷ xs)) (records_among xs))
+
+-- behind sectors come as many as begin behind them
+pub begun_behind : (xs ys : List LogSector) (j : ℕ) → starts_anew ys ≡ true → begun (xs ++ ys) (length xs + j) ≡ length (records_among xs) + begun ys j
+begun_behind [] ys j anew = let e : 0 + j ≡ j = omega arith in ap (begun ys) e ∙ omega arith
+begun_behind (x ∷ xs) ys j anew =
+    let e : length (x ∷ xs) + j ≡ suc (length xs + j) = omega arith in
+    ap (begun (x ∷ (xs ++ ys))) e
+    ∙ ap (λ rs. length rs + begun (xs ++ ys) (length xs + j)) (records_at-append x xs ys anew)
+    ∙ ap (λ n. length (records_at (x ∷ xs)) + n) (begun_behind xs ys j anew)
+    ∙ sums (length (records_at (x ∷ xs))) (length (records_among xs)) (begun ys j) (length (records_at (x ∷ xs) ++ records_among xs)) (length-append (records_at (x ∷ xs)) (records_among xs))
+  where
+    sums : (a b c d : ℕ) → d ≡ a + b → a + (b + c) ≡ d + c
+    sums a b c d e = omega arith
 
 -- no record begins in a sector of no part
 no_record_at : (x : LogSector) (xs : List LogSector) → x.parts ≡ 0 → record_at (x ∷ xs) ≡ None
@@ -126,7 +139,9 @@ pub no_records : (xs : List LogSector) → list_all (λ x. x.parts == 0) xs ≡ 
 no_records [] all = refl
 no_records (x ∷ xs) all =
     let p = and_parts (x.parts == 0) (list_all (λ y. y.parts == 0) xs) all in
-    ap (λ o. cons_option o (records_among xs)) (no_record_at x xs (eqb-true x.parts 0 p.0)) ∙ no_records xs p.1
+    let none : x.parts ≡ 0 = eqb-true x.parts 0 p.0 in
+    let apart : is_packed x ≡ false = ap (λ n. n == packed_mark) none in
+    ap (λ rs. rs ++ records_among xs) (cond-false (is_packed x) (frames_of x xs) (cons_option (record_at (x ∷ xs)) []) apart ∙ ap (λ o. cons_option o []) (no_record_at x xs none)) ∙ no_records xs p.1
 
 -- ---- the sectors up to an end
 

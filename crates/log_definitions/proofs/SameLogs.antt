@@ -3,9 +3,10 @@ use Rattle.std.proofs.Common.{◌≡◌, ℕ, zero, suc, ◌%◌, ◌<◌, ◌�
 use Rattle.std.specs.List.{list_all, filter_map, cons_option}
 use Rattle.std.proofs.lemmas.Bool.{cond-true, cases_lt}
 use Rattle.sector_definitions.specs.declared.log_sector.LogSector.{LogSector}
-use Rattle.sector_definitions.specs.Bytes.{zeros, same_bytes}
+use Rattle.sector_bytes.specs.Bytes.{zeros}
+use Rattle.std.specs.Str.{bytes_eq}
 use Rattle.sector_definitions.specs.LogSectors.{log_sector_fields, empty_sector, numbered_sector_in, log_sector_in}
-use Rattle.sector_definitions.proofs.Readings.{same_bytes_refl}
+use Rattle.sector_bytes.proofs.SameBytes.{same_bytes_refl}
 use Rattle.log_definitions.specs.Logs.{Slots, numbered, sector_numbered, stands, window, is_end, log_end, sectors_read, log_records, records_among}
 use Rattle.log_definitions.proofs.Listed.{Among, all_from, among_filter_mapped}
 use Rattle.log_definitions.proofs.EndLaws.{numbered_is, numbered_of, sector_of_number, end_is_high, end_stands, end_from, end_is_below, log_end_is_one, log_end_is}
@@ -61,7 +62,7 @@ IsZeroLog slots = (slot : ℕ) → slot < 256 → slots slot ≡ zeros 512
 
 zero_slot : (slots : Slots) → IsZeroLog slots → (slot : ℕ) → slot < 256 → log_sector_in slot (slots slot) ≡ Some (empty_sector slot)
 zero_slot slots z slot h =
-    ap (log_sector_in slot) (z slot h) ∙ cond-true (same_bytes (zeros 512) (zeros 512)) (Some (empty_sector slot)) (numbered_sector_in slot (zeros 512) (log_sector_fields (zeros 512))) (same_bytes_refl (zeros 512))
+    ap (log_sector_in slot) (z slot h) ∙ cond-true (bytes_eq (zeros 512) (zeros 512)) (Some (empty_sector slot)) (numbered_sector_in slot (zeros 512) (log_sector_fields (zeros 512))) (same_bytes_refl (zeros 512))
 
 zero_number : (slots : Slots) → IsZeroLog slots → (n : ℕ) (x : LogSector) → sector_numbered slots n ≡ Some x → (empty_sector (n % 256) ≡ x) × (x.seq ≡ n)
 zero_number slots z n x e =

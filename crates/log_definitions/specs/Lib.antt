@@ -1,4 +1,5 @@
 pub mod Records
+pub mod Frames
 pub mod Logs
 pub mod Replay
 pub mod Arriving

@@ -1,12 +1,13 @@
 -- Reading a log by its 256 slots: where it ends, and which records stand in it.
-use Rattle.std.specs.Prelude.{ℕ, zero, suc, ◌+◌, ◌-◌, ◌%◌, Bool, true, ◌&&◌, ◌==◌, if◌then◌else◌, nat_le, max, Option, Some, None, is_some, List, [], ◌∷◌, ◌++◌, length, take, map, fold}
+use Rattle.std.specs.Prelude.{ℕ, zero, suc, ◌+◌, ◌-◌, ◌%◌, Bool, true, not, ◌&&◌, ◌==◌, if◌then◌else◌, nat_le, max, Option, Some, None, is_some, List, [], ◌∷◌, ◌++◌, length, take, drop, map, fold}
 use Rattle.std.specs.List.{list_all, filter, filter_map, cons_option}
 use Rattle.std.specs.Option.{option_map}
 use Rattle.sector_definitions.specs.declared.log_sector.LogSector.{LogSector}
-use Rattle.sector_definitions.specs.LogSectors.{log_sector_in}
+use Rattle.sector_definitions.specs.LogSectors.{is_packed, log_sector_in}
 use Rattle.tree_definitions.specs.Numbers.{below}
-use Rattle.log_definitions.specs.declared.redo.Redo.{Redo}
+use Rattle.frang_base.specs.declared.change.Redo.{Redo}
 use Rattle.log_definitions.specs.Records.{record_in}
+use Rattle.log_definitions.specs.Frames.{frame_most, frames_among}
 
 -- the blocks of a log, by slot
 abbrev pub Slots : Type 0
@@ -51,6 +52,8 @@ abbrev pub sectors_read : Slots → ℕ → List LogSector
 sectors_read slots zero = []
 sectors_read slots (suc end) = filter_map (sector_numbered slots) (window (suc end))
 
+-- ---- records with sectors of their own
+
 -- a sector is this part of a record with this operation and so many parts
 abbrev pub is_part : LogSector → ℕ → LogSector → Bool
 is_part first part x = x.op.0 == first.op.0 && x.parts == first.parts && x.part == part
@@ -70,15 +73,41 @@ abbrev pub record_of : LogSector → List LogSector → Option Redo
 record_of first parts =
     if length parts == first.parts && are_parts first 0 parts then option_map (λ changes. record { op = first.op; changes = changes }) (record_in (used_bytes parts)) else None
 
--- the record that begins at the first of these sectors, if one does
+-- the record with sectors of its own that begins at the first of these, if one does
 abbrev pub record_at : List LogSector → Option Redo
 record_at [] = None
 record_at (x ∷ xs) = if x.part == 0 && nat_le 1 x.parts then record_of x (take x.parts (x ∷ xs)) else None
 
--- the records that stand whole among sectors, in order
+-- ---- records in packed sectors
+
+-- the frame that runs on at the end of the sector before goes on in this one
+abbrev pub goes_on : LogSector → Bool
+goes_on x = is_packed x && not (x.part == 0)
+
+-- the bytes behind those of a packed sector that these sectors follow: those that they use, as long as each goes on
+abbrev pub bytes_on : List LogSector → List ℕ
+bytes_on [] = []
+bytes_on (x ∷ xs) = if goes_on x then take x.used x.body ++ bytes_on xs else []
+
+-- the bytes that a packed sector uses, from the first frame on that begins in it
+abbrev pub bytes_begun : LogSector → List ℕ
+bytes_begun x = drop x.part (take x.used x.body)
+
+-- the records of the frames that begin in a packed sector, in order; the bytes behind its own that a frame may need are those of one at most
+abbrev pub frames_of : LogSector → List LogSector → List Redo
+frames_of x xs = frames_among (length (bytes_begun x)) (length (bytes_begun x)) (bytes_begun x ++ take frame_most (bytes_on xs))
+
+-- ---- all records
+
+-- the records that begin in the first of these sectors
+abbrev pub records_at : List LogSector → List Redo
+records_at [] = []
+records_at (x ∷ xs) = if is_packed x then frames_of x xs else cons_option (record_at (x ∷ xs)) []
+
+-- the records that stand whole among sectors, in the order of the places where they begin
 abbrev pub records_among : List LogSector → List Redo
 records_among [] = []
-records_among (x ∷ xs) = cons_option (record_at (x ∷ xs)) (records_among xs)
+records_among (x ∷ xs) = records_at (x ∷ xs) ++ records_among xs
 
 -- the records of a log: those that stand whole in the 192 numbers up to its end
 abbrev pub log_records : Slots → List Redo

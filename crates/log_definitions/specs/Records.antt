@@ -5,8 +5,8 @@ use Rattle.std.specs.Option.{option_and_then, option_map}
 use Rattle.byteorder.specs.Endian.{little_bytes}
 use Rattle.frang_base.specs.declared.change.Patch.{Patch}
 use Rattle.frang_base.specs.declared.change.Change.{Change}
-use Rattle.sector_definitions.specs.Bytes.{number_at}
-use Rattle.change_definitions.specs.Changes.{is_change}
+use Rattle.sector_bytes.specs.Bytes.{number_at}
+use Rattle.sector_bytes.specs.Changes.{is_change}
 
 -- a patch: its place, its length, its bytes
 abbrev pub patch_bytes : Patch → List ℕ

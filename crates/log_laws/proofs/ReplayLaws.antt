@@ -7,15 +7,16 @@ use Rattle.frang_base.specs.declared.change.Change.{Change}
 use Rattle.sector_definitions.specs.declared.param.Param.{Param}
 use Rattle.sector_definitions.specs.declared.region.Region.{Region}
 use Rattle.sector_definitions.specs.declared.region.Region.TheVariants as region
-use Rattle.sector_definitions.specs.Bytes.{zeros}
+use Rattle.sector_bytes.specs.Bytes.{zeros}
 use Rattle.sector_definitions.specs.Params.{param_in}
 use Rattle.sector_definitions.specs.Regions.{logs_from, bitmaps_from, inodes_from, small_blocks_from, large_blocks_from, log_stride, log_at, large_at, is_among, region_of, sector_of}
 use Rattle.sector_definitions.proofs.RegionLaws.{region_found, region_read}
-use Rattle.change_definitions.specs.Changes.{version_of, changed, is_older, applied}
-use Rattle.change_definitions.proofs.ChangeLaws.{reached, rises}
-use Rattle.disk_definitions.specs.Disks.{Sectors}
+use Rattle.sector_bytes.specs.Changes.{changed, is_older, applied}
+use Rattle.sector_bytes.specs.Blocks.{version_of}
+use Rattle.sector_bytes.proofs.ChangeLaws.{reached, rises}
+use Rattle.sector_bytes.specs.Sectors.{Sectors}
 use Rattle.tree_definitions.specs.Numbers.{below}
-use Rattle.log_definitions.specs.declared.redo.Redo.{Redo}
+use Rattle.frang_base.specs.declared.change.Redo.{Redo}
 use Rattle.log_definitions.specs.Logs.{log_records}
 use Rattle.log_definitions.specs.Replay.{slots_of, is_replayed, with_change, logged_changes, with_logs, is_log, replayed}
 use Rattle.log_definitions.proofs.Listed.{Among, below_among}

@@ -1,6 +1,6 @@
 -- What the end of a log is.
 use Rattle.std.specs.Prelude.{◌≡◌, ◌≤◌, ◌<◌, ℕ, true, []}
-use Rattle.sector_definitions.specs.Bytes.{zeros}
+use Rattle.sector_bytes.specs.Bytes.{zeros}
 use Rattle.log_definitions.specs.Logs.{Slots, is_end, log_end, log_records}
 
 -- an end is not above the log's, and the log's end is one unless it is 0

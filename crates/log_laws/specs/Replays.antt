@@ -1,8 +1,8 @@
 -- What a replay of all logs leaves.
 use Rattle.std.specs.Prelude.{◌≡◌, ◌≤◌, ◌<◌, ℕ, Option, []}
 use Rattle.sector_definitions.specs.declared.param.Param.{Param}
-use Rattle.change_definitions.specs.Changes.{version_of}
-use Rattle.disk_definitions.specs.Disks.{Sectors}
+use Rattle.sector_bytes.specs.Blocks.{version_of}
+use Rattle.sector_bytes.specs.Sectors.{Sectors}
 use Rattle.log_definitions.specs.Logs.{log_records}
 use Rattle.log_definitions.specs.Replay.{slots_of, with_logs, replayed}
 

@@ -6,7 +6,7 @@ use Rattle.std.proofs.lemmas.Bool.{and_from}
 use Rattle.std.proofs.lemmas.Bool.Decides.{nat_tests}
 use Rattle.std.proofs.lemmas.List.Folds.{list_all-append}
 use Rattle.std.specs.List.{list_all, filter_map}
-use Rattle.cells.proofs.Basics.{of_le, of_gt}
+use Rattle.frang_base.proofs.Basics.{of_le, of_gt}
 use Rattle.sector_definitions.specs.declared.log_sector.LogSector.{LogSector}
 use Rattle.tree_definitions.specs.Numbers.{below}
 use Rattle.log_definitions.specs.Logs as logs

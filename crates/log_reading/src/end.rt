@@ -4,8 +4,8 @@ ghost use Rattle.std.specs.Option.{option_copied};
 ghost use Rattle.log_reading.specs.Decoded as spec;
 ghost use Rattle.log_reading.specs.Decoded.{end_of, is_full, sector_with};
 
-use crate::{NUMBERS_READ, SLOTS};
 use frang_base::NoMemory;
+use frang_base::limits::{LOG_SECTORS, LOG_WINDOW};
 use sector_definitions::LogSector;
 use std::alloc::Global;
 
@@ -30,11 +30,11 @@ fn is_full(sectors: &[Option<LogSector>], end: u64) -> bool
     requires { length sectors.now ≡ 256 }
     ensures { result ≡ is_full sectors.now end }
 {
-    if end < NUMBERS_READ - 1 {
+    if end < LOG_WINDOW - 1 {
         return false;
     }
-    for k in 0..NUMBERS_READ {
-        if sector_numbered(sectors, end - (NUMBERS_READ - 1) + k).is_none() {
+    for k in 0..LOG_WINDOW {
+        if sector_numbered(sectors, end - (LOG_WINDOW - 1) + k).is_none() {
             return false;
         }
     }
@@ -54,8 +54,8 @@ pub(crate) fn sectors_up_to(
     if end == 0 {
         return Ok(read);
     }
-    for k in 0..NUMBERS_READ {
-        if let Some(sector) = sector_numbered(sectors, end.saturating_sub(NUMBERS_READ - 1) + k) {
+    for k in 0..LOG_WINDOW {
+        if let Some(sector) = sector_numbered(sectors, end.saturating_sub(LOG_WINDOW - 1) + k) {
             read.push(*sector)?;
         }
     }
@@ -67,7 +67,7 @@ fn sector_numbered(sectors: &[Option<LogSector>], number: u64) -> Option<&LogSec
     requires { length sectors.now ≡ 256 }
     ensures { option_copied result ≡ sector_with sectors.now number }
 {
-    match &sectors[number as usize % SLOTS] {
+    match &sectors[(number % LOG_SECTORS) as usize] {
         Some(sector) if sector.seq == number => Some(sector),
         _ => None,
     }

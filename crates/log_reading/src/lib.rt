@@ -4,17 +4,9 @@
 #![tactic(auto)]
 
 mod end;
+mod frames;
 mod read;
 mod records;
-#[cfg(test)]
-mod tests;
 
-pub use log_definitions::Redo;
 pub use read::read_log;
 pub use records::greatest_operation;
-
-// A log has so many sectors.
-const SLOTS: usize = 256;
-
-// The numbers up to a log's end that stand in it.
-const NUMBERS_READ: u64 = 192;

@@ -3,17 +3,17 @@ ghost use Rattle.std.specs.Prelude.{◌≡◌, IfOk, length, slice_index_or, []}
 ghost use Rattle.log_definitions.specs.Logs as logs;
 ghost use Rattle.log_reading.specs.Decoded.{decoded};
 
-use crate::SLOTS;
 use crate::end::{log_end, sectors_up_to};
 use crate::records::records_among;
-use frang_base::{Block, NoMemory};
-use log_definitions::Redo;
+use frang_base::limits::LOG_SECTORS;
+use frang_base::{Block, NoMemory, Redo};
 use log_record::sector_read;
 use sector_definitions::LogSector;
 use std::alloc::Global;
 
 /// The end of a log and its records in order, by the blocks of its 256 slots. The end is the greatest number of which it and the 191
-/// before it stand in their slots, 0 where there is none. The records are those that stand whole in these 192 numbers.
+/// before it stand in their slots, 0 where there is none. The records are those that stand whole in these 192 numbers,
+/// in sectors of their own or packed.
 pub fn read_log(alloc: Global, slots: &[Block]) -> Result<(u64, Vec<Redo>), NoMemory>
     requires { length slots.now ≡ 256 }
     ensures end { IfOk result (λ r. r.0 ≡ logs.log_end (λ slot. slice_index_or slots.now slot [])) }
@@ -33,7 +33,7 @@ fn sectors_of(alloc: Global, slots: &[Block]) -> Result<Vec<Option<LogSector>>, 
     ensures len { IfOk result (λ v. length v.items ≡ 256) }
 {
     let mut sectors = Vec::new(alloc);
-    for slot in 0..SLOTS {
+    for slot in 0..LOG_SECTORS as usize {
         sectors.push(sector_read(&slots[slot], slot as u8))?;
     }
     Ok(sectors)

@@ -1,9 +1,9 @@
 // The records among sectors.
-ghost use Rattle.std.specs.Prelude.{◌≡◌, IfOk, length, take};
+ghost use Rattle.std.specs.Prelude.{◌≡◌, ◌++◌, IfOk, OnOk, length, take};
 ghost use Rattle.log_definitions.specs.Logs as logs;
 
-use frang_base::{NoMemory, OpNo};
-use log_definitions::Redo;
+use crate::frames::{push_frames, push_some};
+use frang_base::{NoMemory, OpNo, Redo};
 use log_record::decode;
 use sector_definitions::LogSector;
 use std::alloc::Global;
@@ -19,20 +19,37 @@ pub fn greatest_operation(records: &[Redo]) -> OpNo
     OpNo(greatest)
 }
 
-// The records that stand whole among sectors, in order.
+/// The records that stand whole among sectors, in the order of the places where they begin.
 pub(crate) fn records_among(alloc: Global, sectors: &[LogSector]) -> Result<Vec<Redo>, NoMemory>
     ensures { IfOk result (λ v. v.items ≡ logs.records_among sectors.now) }
 {
     let mut records = Vec::new(alloc);
     for at in 0..sectors.len() {
-        if let Some(record) = record_at(alloc, &sectors[at..])? {
-            records.push(record)?;
-        }
+        push_records(alloc, &mut records, &sectors[at..])?;
     }
     Ok(records)
 }
 
-// The record that begins at the first of the sectors. `None` exactly where none does, or it doesn't stand whole among them.
+// Adds the records that begin in the first of the sectors.
+fn push_records(
+    alloc: Global,
+    records: &mut Vec<Redo>,
+    sectors: &[LogSector],
+) -> Result<(), NoMemory>
+    ensures { OnOk result (records.new.items ≡ records.old.items ++ logs.records_at sectors.now) }
+{
+    let Some(first) = sectors.first() else {
+        return Ok(());
+    };
+    if first.parts == LogSector::PACKED {
+        push_frames(alloc, records, first, &sectors[1..])?;
+        return Ok(());
+    }
+    push_some(records, record_at(alloc, sectors)?)?;
+    Ok(())
+}
+
+// The record with sectors of its own that begins at the first of these. `None` exactly where none does, or it doesn't stand whole among them.
 fn record_at(alloc: Global, sectors: &[LogSector]) -> Result<Option<Redo>, NoMemory>
     ensures { IfOk result (λ r. r ≡ logs.record_at sectors.now) }
 {
@@ -99,7 +116,8 @@ fn used_bytes(alloc: Global, sectors: &[LogSector]) -> Result<Vec<u8>, NoMemory>
     Ok(bytes)
 }
 
-fn used(sector: &LogSector) -> &[u8]
+/// The bytes that a sector uses of its body.
+pub(crate) fn used(sector: &LogSector) -> &[u8]
     ensures { result.now ≡ take sector.now.used sector.now.body }
 {
     let used = usize::from(sector.used).min(sector.body.len());

@@ -2,3 +2,4 @@ pub mod NumbersRead
 pub mod RecordBack
 pub mod RecordRead
 pub mod RecordSteps
+pub mod FrameBack

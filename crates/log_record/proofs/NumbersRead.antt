@@ -4,8 +4,8 @@ use Rattle.std.proofs.lemmas.List.{take-append-drop, length-take, take_at, drop_
 use Rattle.std.specs.Int.{bytes_low_first}
 use Rattle.byteorder.specs.Endian.{little_bytes}
 use Rattle.byteorder.specs.Numbers.{little_number-reads_back, length-bytes_low_first}
-use Rattle.cells.proofs.Basics.{by_test, of_le, le_of}
-use Rattle.sector_definitions.specs.Bytes.{number_at, AreBytes}
+use Rattle.frang_base.proofs.Basics.{by_test, of_le, le_of}
+use Rattle.sector_bytes.specs.Bytes.{number_at, AreBytes}
 use Rattle.sector_definitions.proofs.NumberBytes.{number_again, drop_are}
 use Rattle.log_definitions.specs.Records.{Read, number_read, bytes_read}
 

@@ -5,10 +5,10 @@ use Rattle.std.proofs.lemmas.Bool.Decides.{nat_tests}
 use Rattle.std.specs.List.{AllByRecursion, list_all, flat_map}
 use Rattle.std.specs.Option.{option_and_then, option_map}
 use Rattle.byteorder.specs.Endian.{little_bytes}
-use Rattle.cells.proofs.Basics.{le_of}
+use Rattle.frang_base.proofs.Basics.{le_of}
 use Rattle.frang_base.specs.declared.change.Patch.{Patch}
 use Rattle.frang_base.specs.declared.change.Change.{Change}
-use Rattle.change_definitions.specs.Changes.{are_patches, is_change}
+use Rattle.sector_bytes.specs.Changes.{are_patches, is_change}
 use Rattle.log_definitions.specs.Records.{Read, all_read, change_bytes, change_read, patch_bytes, patch_read, record_bytes, record_fits, record_in, sectors_ascend}
 use Rattle.log_record.proofs.NumbersRead.{number_back, bytes_back}
 

@@ -3,11 +3,11 @@ use Rattle.std.proofs.Common.{◌≡◌, ℕ, zero, suc, true, Option, Some, Non
 use Rattle.std.specs.List.{flat_map}
 use Rattle.std.specs.Option.{option_and_then, option_map}
 use Rattle.byteorder.specs.Endian.{little_bytes}
-use Rattle.cells.proofs.Basics.{by_test}
+use Rattle.frang_base.proofs.Basics.{by_test}
 use Rattle.frang_base.specs.declared.change.Patch.{Patch}
 use Rattle.frang_base.specs.declared.change.Change.{Change}
-use Rattle.sector_definitions.specs.Bytes.{AreBytes}
-use Rattle.log_definitions.specs.declared.redo.Redo.{Redo}
+use Rattle.sector_bytes.specs.Bytes.{AreBytes}
+use Rattle.frang_base.specs.declared.change.Redo.{Redo}
 use Rattle.log_definitions.specs.Records.{Read, all_read, bytes_read, change_bytes, change_read, number_read, patch_bytes, patch_read, record_bytes, record_fits, record_in, whole_record, IsRecordBody}
 use Rattle.log_record.proofs.NumbersRead.{taken, number_is, bytes_is}
 use Rattle.log_record.proofs.RecordBack.{record_back}

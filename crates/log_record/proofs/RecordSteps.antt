@@ -6,10 +6,10 @@ use Rattle.std.proofs.lemmas.List.{at_drop_more}
 use Rattle.std.specs.List.{AllByRecursion, flat_map, list_all}
 use Rattle.std.specs.Option.{option_and_then, option_map}
 use Rattle.std.specs.Result.{OnErr}
-use Rattle.cells.proofs.Basics.{of_le}
+use Rattle.frang_base.proofs.Basics.{of_le}
 use Rattle.frang_base.specs.declared.change.Change.{Change}
-use Rattle.change_definitions.specs.Changes.{is_change}
-use Rattle.sector_definitions.specs.Bytes.{AreBytes}
+use Rattle.sector_bytes.specs.Changes.{is_change}
+use Rattle.sector_bytes.specs.Bytes.{AreBytes}
 use Rattle.log_definitions.specs.Records.{Read, all_read, record_bytes, record_fits, record_in, sectors_ascend, whole_record}
 use Rattle.log_record.proofs.NumbersRead.{taken}
 use Rattle.log_record.proofs.RecordBack.{is_record}

@@ -2,15 +2,14 @@
 ghost use Rattle.std.specs.Prelude.{◌≡◌, ◌&&◌, ◌≤◌, IfOk, length, nat_le, option_and_then};
 ghost use Rattle.std.specs.List.{list_all};
 ghost use Rattle.std.specs.Option.{option_copied, option_map};
-ghost use Rattle.change_definitions.specs.Changes.{is_change};
+ghost use Rattle.sector_bytes.specs.Changes.{is_change};
 ghost use Rattle.log_definitions.specs.Records.{all_read, bytes_read, change_read, number_read, patch_read, record_in, sectors_ascend};
 ghost use Rattle.log_record.specs.Heads.{head_read};
 
-use crate::{CHANGES_MAX, RECORD_BYTES_MAX};
 use byteorder::{ByteOrder, LittleEndian};
-use frang_base::{Change, NoMemory, OpNo, Patch, Patches, Sector, Text};
-use log_definitions::Redo;
-use meta_version::{Changes, is_change};
+use frang_base::limits::{RECORD_BYTES_MAX, RECORD_CHANGES_MAX};
+use frang_base::{Change, Changes, NoMemory, OpNo, Patch, Patches, Redo, Sector, Text};
+use meta_version::is_change;
 use std::alloc::Global;
 
 /// The record whose body the bytes are. `None` exactly where they are the body of none, and so wherever they are more than 4,096. The
@@ -38,7 +37,7 @@ pub fn decode(alloc: Global, bytes: &[u8]) -> Result<Option<Redo>, NoMemory>
 fn fit(changes: &[Change]) -> bool
     ensures { result ≡ (nat_le 1 (length changes.now) && nat_le (length changes.now) 32 && (list_all is_change changes.now && sectors_ascend 0 changes.now)) }
 {
-    !changes.is_empty() && changes.len() <= CHANGES_MAX && are_changes(changes)
+    !changes.is_empty() && changes.len() <= RECORD_CHANGES_MAX && are_changes(changes)
 }
 
 fn are_changes(changes: &[Change]) -> bool
@@ -56,13 +55,13 @@ fn are_changes(changes: &[Change]) -> bool
 
 // What is left to be read of a body.
 #[derive(Drop)]
-struct Unread<'a> {
-    bytes: &'a [u8],
+pub(crate) struct Unread<'a> {
+    pub(crate) bytes: &'a [u8],
 }
 
 impl<'a> Unread<'a> {
     // The next two bytes, as a number.
-    fn short(&mut self) -> Option<u16>
+    pub(crate) fn short(&mut self) -> Option<u16>
         ensures { option_map (λ x. (x, self.new.bytes.now)) result ≡ number_read 2 self.old.bytes.now }
     {
         let bytes = self.run(2)?;
@@ -70,7 +69,7 @@ impl<'a> Unread<'a> {
     }
 
     // The next eight bytes, as a number.
-    fn long(&mut self) -> Option<u64>
+    pub(crate) fn long(&mut self) -> Option<u64>
         ensures { option_map (λ x. (x, self.new.bytes.now)) result ≡ number_read 8 self.old.bytes.now }
     {
         let bytes = self.run(8)?;
@@ -78,7 +77,7 @@ impl<'a> Unread<'a> {
     }
 
     // So many bytes.
-    fn run(&mut self, count: usize) -> Option<&'a [u8]>
+    pub(crate) fn run(&mut self, count: usize) -> Option<&'a [u8]>
         ensures { option_map (λ x. (x.now, self.new.bytes.now)) result ≡ bytes_read count self.old.bytes.now }
     {
         if self.bytes.len() < count {

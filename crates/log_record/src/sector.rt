@@ -1,46 +1,41 @@
 // A sector of a log as a block, and back.
 ghost use Rattle.std.specs.Prelude.{◌≡◌, ◌<◌, ◌+◌, ◌%◌, ◌==◌, ◌&&◌, IfSome, IsTrue, drop, if◌then◌else◌, nat_le};
-ghost use Rattle.sector_definitions.specs.Bytes as spec;
+ghost use Rattle.std.specs.Str.{bytes_eq};
+ghost use Rattle.sector_bytes.specs.Bytes as spec;
 ghost use Rattle.sector_definitions.specs.LogSectors as sectors;
-ghost use Rattle.sector_definitions.specs.LogSectors.{log_sector_bytes, log_sector_fields, log_sector_fits, log_sector_in, numbered_bytes, numbered_sector_in, is_empty_sector, is_record_sector};
+ghost use Rattle.sector_definitions.specs.LogSectors.{log_sector_bytes, log_sector_fields, log_sector_fits, log_sector_in, numbered_bytes, numbered_sector_in, is_empty_sector, is_filled_sector, is_packed_sector, is_record_sector};
 
 use byteorder::{ByteOrder, LittleEndian};
+use frang_base::limits::{
+    LOG_BODY_BYTES, LOG_NUMBERS_END, LOG_SECTORS, RECORD_SECTORS_MAX, SECTOR_BYTES,
+};
 use frang_base::{Block, OpNo};
 use sector_definitions::LogSector;
-
-// The sectors before this number are those of zeros.
-const FIRST_NUMBERED: u64 = 256;
-// No sector has this number or a greater one.
-const NUMBERS_END: u64 = 1 << 63;
-// A record has at most so many sectors.
-const PARTS_MAX: u16 = 9;
-
-const BODY_BYTES: u16 = 488;
 
 /// Makes the block this sector of a log.
 pub fn sector_write(s: &LogSector, to: &mut Block)
     requires { IsTrue (log_sector_fits (s.now.seq % 256) s.now) }
     ensures { to.new ≡ log_sector_bytes s.now }
 {
-    if s.seq < FIRST_NUMBERED {
+    if s.seq < LOG_SECTORS {
         clear(to);
     } else {
         write_fields(s, to);
     }
 }
 
-#[tactic(auto, unfolding(sector_definitions::specs::Bytes::zeros))]
+#[tactic(auto, unfolding(sector_bytes::specs::Bytes::zeros))]
 fn clear(to: &mut Block)
     ensures { to.new ≡ spec.zeros 512 }
 {
-    *to = [0; 512];
+    *to = [0; SECTOR_BYTES];
 }
 
-#[tactic(auto, unfolding(sector_definitions::specs::Bytes::zeros))]
+#[tactic(auto, unfolding(sector_bytes::specs::Bytes::zeros))]
 fn is_clear(b: &Block) -> bool
-    ensures { result ≡ spec.same_bytes (spec.zeros 512) b.now }
+    ensures { result ≡ bytes_eq (spec.zeros 512) b.now }
 {
-    [0; 512] == *b
+    [0; SECTOR_BYTES] == *b
 }
 
 /// The sector of a log that the block in this slot is. `None` exactly where no such sector may stand there.
@@ -58,7 +53,7 @@ pub fn sector_read(b: &Block, slot: u8) -> Option<LogSector>
 fn write_fields(s: &LogSector, to: &mut Block)
     ensures { to.new ≡ numbered_bytes s.now }
 {
-    *to = [0; 512];
+    *to = [0; SECTOR_BYTES];
     LittleEndian::write_u64(&mut to[..8], s.seq);
     LittleEndian::write_u64(&mut to[8..16], s.op.0);
     LittleEndian::write_u16(&mut to[16..18], s.part);
@@ -81,16 +76,16 @@ fn fields(b: &Block) -> LogSector
     }
 }
 
-fn body_of(b: &Block) -> [u8; 488]
+fn body_of(b: &Block) -> [u8; LOG_BODY_BYTES]
     ensures { result ≡ drop 24 b.now }
 {
-    let mut body = [0; 488];
+    let mut body = [0; LOG_BODY_BYTES];
     body.copy_from_slice(&b[24..]);
     body
 }
 
 // The empty sector that stands in this slot as zeros.
-#[tactic(auto, unfolding(sector_definitions::specs::Bytes::zeros))]
+#[tactic(auto, unfolding(sector_bytes::specs::Bytes::zeros))]
 fn empty_sector(slot: u8) -> LogSector
     ensures { result ≡ sectors.empty_sector slot }
 {
@@ -100,7 +95,7 @@ fn empty_sector(slot: u8) -> LogSector
         part: 0,
         parts: 0,
         used: 0,
-        body: [0; 488],
+        body: [0; LOG_BODY_BYTES],
     }
 }
 
@@ -108,10 +103,10 @@ fn empty_sector(slot: u8) -> LogSector
 fn numbered_sector(b: &Block, slot: u8, s: LogSector) -> Option<LogSector>
     ensures { result ≡ numbered_sector_in slot b.now s }
 {
-    if s.seq < FIRST_NUMBERED || !fits(&s, slot) {
+    if s.seq < LOG_SECTORS || !fits(&s, slot) {
         return None;
     }
-    let mut again = [0; 512];
+    let mut again = [0; SECTOR_BYTES];
     write_fields(&s, &mut again);
     (again == *b).then_some(s)
 }
@@ -120,7 +115,9 @@ fn numbered_sector(b: &Block, slot: u8, s: LogSector) -> Option<LogSector>
 fn fits(s: &LogSector, slot: u8) -> bool
     ensures { result ≡ log_sector_fits slot s.now }
 {
-    s.seq < NUMBERS_END && s.seq % 256 == u64::from(slot) && (is_empty(s) || is_record(s))
+    s.seq < LOG_NUMBERS_END
+        && s.seq % LOG_SECTORS == u64::from(slot)
+        && (is_empty(s) || is_filled(s))
 }
 
 // All but the number is 0.
@@ -130,14 +127,35 @@ fn is_empty(s: &LogSector) -> bool
     s.op.0 == 0 && s.part == 0 && s.parts == 0 && s.used == 0 && are_zero(&s.body)
 }
 
-// The sector is a part of a record.
+// The sector has bytes of records.
+fn is_filled(s: &LogSector) -> bool
+    ensures { result ≡ is_filled_sector s.now }
+{
+    is_record(s) || is_packed(s)
+}
+
+// Frames of records follow one another in the sector.
+fn is_packed(s: &LogSector) -> bool
+    ensures { result ≡ is_packed_sector s.now }
+{
+    let used = usize::from(s.used);
+    s.seq >= LOG_SECTORS
+        && s.op.0 == 0
+        && s.parts == LogSector::PACKED
+        && 1 <= used
+        && used <= LOG_BODY_BYTES
+        && (s.part < s.used || s.part == LogSector::NONE_BEGINS)
+        && are_zero(&s.body[used..])
+}
+
+// The sector is a part of a record that has its sectors for itself.
 fn is_record(s: &LogSector) -> bool
     ensures { result ≡ is_record_sector s.now }
 {
-    s.seq >= FIRST_NUMBERED
+    s.seq >= LOG_SECTORS
         && s.op.0 >= 1
         && s.part < s.parts
-        && s.parts <= PARTS_MAX
+        && s.parts <= RECORD_SECTORS_MAX
         && uses_its_body(s)
 }
 
@@ -147,9 +165,9 @@ fn uses_its_body(s: &LogSector) -> bool
     ensures { result ≡ (if s.now.part + 1 == s.now.parts then nat_le 1 s.now.used && nat_le s.now.used 488 else s.now.used == 488) && spec.are_zero (drop s.now.used s.now.body) }
 {
     let fills = if s.part + 1 == s.parts {
-        1 <= s.used && s.used <= BODY_BYTES
+        1 <= s.used && s.used as usize <= LOG_BODY_BYTES
     } else {
-        s.used == BODY_BYTES
+        s.used as usize == LOG_BODY_BYTES
     };
     fills && are_zero(&s.body[usize::from(s.used)..])
 }

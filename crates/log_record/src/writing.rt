@@ -1,12 +1,11 @@
 // The body of a record, from its changes.
 ghost use Rattle.std.specs.Prelude.{◌≡◌, ◌+◌, ◌<◌, ◌≤◌, ◌^◌, ◌++◌, length, true, vec_len, vec_capacity, IfOk, IsTrue, OnOk, OnErr};
 ghost use Rattle.byteorder.specs.Endian.{little_bytes};
-ghost use Rattle.change_definitions.specs.Changes.{is_change};
+ghost use Rattle.sector_bytes.specs.Changes.{is_change};
 ghost use Rattle.log_definitions.specs.Records.{change_bytes, patch_bytes, record_bytes, record_fits};
 
 use byteorder::{ByteOrder, LittleEndian};
-use frang_base::{Change, NoMemory, Patch};
-use log_definitions::Redo;
+use frang_base::{Change, NoMemory, Patch, Redo};
 use std::alloc::Global;
 
 // The bytes before a record's changes, before a change's patches and before a patch's bytes.
@@ -28,7 +27,7 @@ pub fn encode(alloc: Global, redo: &Redo) -> Result<Vec<u8>, NoMemory>
 }
 
 /// Adds the body of a record behind the bytes. `NoMemory` comes only where there is no room for it; the bytes may then end with a part of it.
-pub fn push_record(body: &mut Vec<u8>, redo: &Redo) -> Result<(), NoMemory>
+pub(crate) fn push_record(body: &mut Vec<u8>, redo: &Redo) -> Result<(), NoMemory>
     requires { IsTrue (record_fits redo.now.changes) }
     ensures bytes { OnOk result (body.new.items ≡ body.old.items ++ record_bytes redo.now.changes) }
     ensures full { OnErr result (vec_capacity body.old < vec_len body.old + length (record_bytes redo.now.changes)) }

@@ -1,9 +1,9 @@
 -- What applying a change answers, and what a sector's change makes of a map of blocks.
 use Rattle.std.specs.Prelude.{ℕ, List, Option, Some, None, IsTrue, if◌then◌else◌}
 use Rattle.frang_base.specs.declared.change.Change.{Change}
-use Rattle.cells.specs.Blocks.{Block}
-use Rattle.change_definitions.specs.Changes.{is_older, changed}
-use Rattle.change_definitions.specs.SectorMaps.{adjusted}
+use Rattle.sector_bytes.specs.Blocks.{Block}
+use Rattle.sector_bytes.specs.Changes.{is_older, changed}
+use Rattle.sector_bytes.specs.SectorMaps.{adjusted}
 use Rattle.meta_version.specs.declared.block.Applied.{Applied}
 use Rattle.meta_version.specs.declared.block.Applied.TheVariants as applied
 

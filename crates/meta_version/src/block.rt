@@ -1,6 +1,7 @@
 // A block's version, and changes laid over a block.
 ghost use Rattle.std.specs.Prelude.{◌≡◌, ◌↔◌, ◌+◌, ◌≤◌, [], ◌∷◌, length, true};
-ghost use Rattle.change_definitions.specs.Changes.{version_of, with_patches, changed, applied, is_change};
+ghost use Rattle.sector_bytes.specs.Changes.{changed, applied, is_change};
+ghost use Rattle.sector_bytes.specs.Blocks.{version_of, patched};
 ghost use Rattle.meta_version.specs.Updates.{apply_answer};
 
 use byteorder::{ByteOrder, LittleEndian};
@@ -51,7 +52,7 @@ pub(crate) fn lay(block: &mut Block, change: &Change)
 // Puts a patch's bytes into a block.
 fn write(block: &mut Block, patch: &Patch)
     requires { patch.now.at + length patch.now.bytes ≤ 512 }
-    ensures { block.new ≡ with_patches block.old (patch.now ∷ []) }
+    ensures { block.new ≡ patched (patch.now ∷ []) block.old }
 {
     let at = usize::from(patch.at);
     let bytes = patch.bytes.as_slice();

@@ -4,19 +4,14 @@
 #![tactic(auto)]
 
 mod block;
-mod laws;
-mod limits;
 mod lists;
 mod plan;
 mod sector_map;
 mod sectors;
-#[cfg(test)]
-mod tests;
 mod well_formed;
 
 pub use block::{Applied, apply, version_of};
-pub use laws::versions_are_little_endian;
-pub use lists::{ByteWrites, Changes, SectorList};
+pub use lists::{ByteWrites, SectorList};
 pub use plan::Plan;
 pub use sector_map::SectorMap;
 pub use sectors::Sectors;

@@ -1,6 +1,6 @@
 // What an operation comes to, planned over cached sectors.
-use crate::{ByteWrites, Changes, SectorList};
-use frang_base::{Reply, Sector};
+use crate::{ByteWrites, SectorList};
+use frang_base::{Changes, Reply, Sector};
 
 /// What an operation comes to over the sectors that are cached.
 #[derive(Debug, Drop)]

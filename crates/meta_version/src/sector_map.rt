@@ -1,10 +1,11 @@
 // A map from sectors to values, in order of the sectors.
 ghost use Rattle.std.specs.Prelude.{◌≡◌, ◌+◌, ◌<◌, ◌≤◌, [], IsOk, OnOk, OnErr};
 ghost use Rattle.std.specs.Option.{option_copied};
+ghost use Rattle.std.specs.Ordering.{nat_cmp};
 ghost use Rattle.std.specs.List.Retain.{IsFiltered};
 ghost use Rattle.std.specs.Fn.{CalledAt};
-ghost use Rattle.change_definitions.specs.SectorMaps.{Ascend, value_at, with_value, without, room_for};
-ghost use Rattle.meta_version.specs.Places.{place_of};
+ghost use Rattle.sector_bytes.specs.SectorMaps.{Ascend, value_at, with_value, without, room_for};
+ghost use Rattle.sorted_entries.specs.Places.{place_of};
 
 use frang_base::{NoMemory, Sector};
 use std::alloc::Global;
@@ -19,7 +20,7 @@ pub struct SectorMap<T> {
 
 impl<T> Model for SectorMap<T> {
     ghost use Rattle.std.specs.Prelude.{◌-◌, vec_len, vec_capacity};
-    ghost use Rattle.change_definitions.specs.SectorMaps.{Ascend, Spacious, spacious_code};
+    ghost use Rattle.sector_bytes.specs.SectorMaps.{Ascend, Spacious, spacious_code};
 
     ghost Value = { Spacious T };
 
@@ -50,7 +51,7 @@ impl<T: Drop> SectorMap<T> {
 
     /// The sector's place, or the place where it would go.
     pub(crate) fn place(&self, sector: Sector) -> Result<usize, usize>
-        ensures place { result ≡ place_of sector.0 self.now.entries }
+        ensures place { result ≡ place_of nat_cmp sector.0 self.now.entries }
         ensures missing { OnErr result (value_at self.now.entries sector.0 ≡ None) }
     {
         self.entries

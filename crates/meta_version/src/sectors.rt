@@ -1,7 +1,7 @@
 // Sectors with their blocks.
 ghost use Rattle.std.specs.Prelude.{◌≡◌, true};
-ghost use Rattle.change_definitions.specs.Changes.{is_change};
-ghost use Rattle.change_definitions.specs.SectorMaps.{value_at};
+ghost use Rattle.sector_bytes.specs.Changes.{is_change};
+ghost use Rattle.sector_bytes.specs.SectorMaps.{value_at};
 ghost use Rattle.meta_version.specs.Updates.{IsOlder, with_change};
 
 use crate::SectorMap;

@@ -1,8 +1,8 @@
 // Which changes are well formed.
 ghost use Rattle.std.specs.Prelude.{◌≡◌, ◌+◌, ◌≤◌, ◌&&◌, nat_le, nat_lt, length};
-ghost use Rattle.change_definitions.specs.Changes.{are_patches, is_change};
+ghost use Rattle.sector_bytes.specs.Changes.{are_patches, is_change};
 
-use crate::limits::{BLOCK_BYTES, SECTORS, VERSION_BYTES};
+use frang_base::limits::{SECTOR_BYTES, SECTORS_END, VERSION_BYTES};
 use frang_base::{Change, Patch};
 
 /// The change is one that a record may hold: its sector is below 2^55, and it has patches, each with at least one byte, that
@@ -12,7 +12,7 @@ pub fn is_change(change: &Change) -> bool
 {
     // By its type a version is below 2^64, which is what the definition asks of it.
     let _version = change.version;
-    if change.sector.0 >= SECTORS || change.patches.is_empty() {
+    if change.sector.0 >= SECTORS_END || change.patches.is_empty() {
         return false;
     }
     are_patches(change.patches.as_slice())
@@ -39,6 +39,6 @@ fn is_patch(patch: &Patch, from: usize) -> bool
     let at = usize::from(patch.at);
     from <= at
         && !patch.bytes.is_empty()
-        && at <= BLOCK_BYTES
-        && patch.bytes.len() <= BLOCK_BYTES - at
+        && at <= SECTOR_BYTES
+        && patch.bytes.len() <= SECTOR_BYTES - at
 }

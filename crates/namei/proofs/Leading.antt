@@ -9,7 +9,7 @@ use Rattle.tree_definitions.specs.declared.node.Node.TheVariants.{Dir, File, Lin
 use Rattle.tree_definitions.specs.Entries.{Entries, entry_at}
 use Rattle.tree_definitions.specs.Place.{Place, Root, Taken, Free, Nowhere, place_by, place_in, below, place_from, place}
 use Rattle.tree_definitions.specs.Tree.{FileTree, node_at}
-use Rattle.disk_definitions.specs.Disks.{Sectors}
+use Rattle.sector_bytes.specs.Sectors.{Sectors}
 use Rattle.disk_definitions.specs.Store.{Store, StoredEntry, store_of}
 use Rattle.disk_definitions.specs.Naming.{Naming}
 use Rattle.pick_definitions.specs.Held.{Segments}
@@ -17,15 +17,15 @@ use Rattle.plan_definitions.specs.Ask.{Sector, Met, Needs, Has, run, looks, meet
 use Rattle.plan_definitions.specs.Walks.{Spot, AtRoot, AtName, AtGap, Lost, Walked, at_spot, walk}
 use Rattle.plan_definitions.specs.Written.{Cached, at_hand}
 use Rattle.plan_definitions.specs.Meets.{IsOfTree}
-use Rattle.plan_laws.specs.Looking.{first_missing, unless_missing}
+use Rattle.plan_definitions.specs.Missing.{first_missing, unless_missing}
 use Rattle.plan_laws.specs.Walking.{Mirrors}
 use Rattle.plan_laws.proofs.Walking.{walks_lead}
-use Rattle.look_laws.proofs.Deciding.{meets_where}
-use Rattle.look_laws.proofs.Walks.{walk_inside}
+use Rattle.plan_looks.proofs.Deciding.{meets_where}
+use Rattle.plan_looks.proofs.WalksInside.{walk_inside}
 use Rattle.dir_lookup.specs.Reading.{reading, numbered}
-use Rattle.plan_conditions.specs.OnDisk.{AreOfDisk, StandsBelow}
-use Rattle.plan_disk_laws.proofs.OfDisk.{of_tree}
-use Rattle.plan_disk_laws.proofs.AtHand.{agrees}
+use Rattle.plan_definitions.specs.OnDisk.{AreOfDisk, StandsBelow}
+use Rattle.plan_standing.proofs.OfDisk.{of_tree}
+use Rattle.plan_standing.proofs.AtHand.{agrees}
 use Rattle.namei.specs.declared.walking.Step.{Step}
 use Rattle.namei.specs.declared.walking.Step.TheVariants as step
 use Rattle.namei.specs.Leads.{birth_at, refusal_at, Leads, IsRefused, LeadsOverDisks}

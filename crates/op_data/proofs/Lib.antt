@@ -1,1 +1,14 @@
+pub mod Found
+pub mod SectorSteps
+pub mod Shown
+pub mod HeldSegments
+pub mod Cutting
+pub mod Around
+pub mod Setting
+pub mod Counting
+pub mod Resized
+pub mod Mixed
+pub mod Sectors
+pub mod Choices
+pub mod Ending
 pub mod Paths

@@ -1,20 +1,25 @@
 // The plan of an operation on file bytes.
-ghost use Rattle.std.specs.Prelude.{◌≡◌, ◌<◌, ◌^◌, ℕ, IfOk, []};
+ghost use Rattle.std.specs.Prelude.{◌≡◌, ◌<◌, ◌^◌, ℕ, IfOk};
 ghost use Rattle.plan_definitions.specs.PlanOf.{plan_of};
 ghost use Rattle.plan_definitions.specs.Written.{hand_of};
+ghost use Rattle.dir_lookup.specs.Hands.{over, seen};
 ghost use Rattle.dir_lookup.specs.Planned.{planned};
 ghost use Rattle.dir_lookup.specs.Reading.{reading};
 ghost use Rattle.plan_steps.specs.Ends.{Comes};
 ghost use Rattle.code_plan_laws.specs.CodeStands.{StandsOverDisks, IsExactOverDisks};
 ghost use Rattle.op_data.specs.Bytes.{IsOfBytes, IsOverADiskForBytes};
 
+use crate::read::read_file;
+use crate::truncate::truncate_file;
+use crate::write::write_file;
+use crate::writing::Writing;
+use dir_lookup::Hand;
 use edit_writing::finish;
-use file_reading::{read_file, truncate_file};
-use file_writing::{fill_file, write_file};
-use frang_base::{Held, NoMemory, Op, Reply};
+use frang_base::{Held, NoMemory, Op};
 use meta_version::{Plan, Sectors};
 use plan_steps::{Outcome, Stop};
 use std::alloc::Global;
+use tree_edits::Bytes;
 
 /// The plan of an operation on file bytes over the cached sectors and the bitmaps of the held segments; `all` says whether these are all segments of the
 /// disk. `Need` names the first sector that is looked at and isn't cached, and the sector of a segment that isn't held; `Segments` comes exactly where an
@@ -33,47 +38,37 @@ pub fn plan_data(
     ensures stands { (birth : ℕ) → birth < 2 ^ 64 → IfOk result (StandsOverDisks op.now birth sectors.now.entries held.now all) }
     ensures exact { (birth : ℕ) → birth < 2 ^ 64 → IfOk result (IsExactOverDisks op.now birth sectors.now.entries held.now all) }
 {
-    let ended = plan_bytes(alloc, op, sectors, held, all);
-    finish(alloc, sectors, held, ended)
+    let hand = Hand { sectors, held, all };
+    let ended = plan_bytes(alloc, op, &hand);
+    finish(alloc, &hand, ended)
 }
 
-// How the plan ends.
-pub(crate) fn plan_bytes(
-    alloc: Global,
-    op: &Op,
-    sectors: &Sectors,
-    held: &Held,
-    all: bool,
-) -> Result<Outcome, Stop>
+/// How the plan of an operation on file bytes ends over what is at hand, which needn't be of any disk: with the reply and the edits that
+/// make it, or with what it needs or is refused with.
+pub fn plan_bytes(alloc: Global, op: &Op, hand: &Hand) -> Result<Outcome, Stop>
     requires { IsOfBytes op.now }
-    ensures { (birth : ℕ) → Comes (reading (plan_of (hand_of sectors.now.entries held.now all) birth op.now) sectors.now.entries held.now) result }
+    ensures { (birth : ℕ) → Comes (over (plan_of (seen hand.now) birth op.now) hand.now) result }
 {
     match op {
         Op::Write { path, off, bytes } => {
-            write_file(alloc, sectors, held, all, path, *off, bytes.as_slice())
+            let bytes = Bytes::Text(bytes.as_slice());
+            write_file(alloc, hand, path, &Writing { off: *off, bytes })
         }
         Op::Fill {
             path,
             off,
             len,
             byte,
-        } => fill_file(alloc, sectors, held, all, path, *off, *len, *byte),
-        Op::Truncate { path, len } => truncate_file(alloc, sectors, held, path, *len),
+        } => {
+            let (len, byte) = (*len, *byte);
+            let bytes = Bytes::Same { len, byte };
+            write_file(alloc, hand, path, &Writing { off: *off, bytes })
+        }
+        Op::Truncate { path, len } => truncate_file(alloc, hand, path, *len),
         Op::Read { path, off, len } => {
-            let reply = read_file(alloc, sectors, path, *off, *len)?;
-            Ok(answer(alloc, reply))
+            let reply = read_file(alloc, hand, path, *off, *len)?;
+            Ok(Outcome::unchanged(alloc, reply))
         }
         _ => unreachable!(),
-    }
-}
-
-// A reply, and nothing is changed.
-fn answer(alloc: Global, reply: Reply) -> Outcome
-    ensures reply { result.reply ≡ reply }
-    ensures edits { result.edits.items ≡ [] }
-{
-    Outcome {
-        reply,
-        edits: Vec::new(alloc),
     }
 }

@@ -1,2 +1,7 @@
 pub mod Names
-pub mod Asked
+pub mod Choosing
+pub mod Moves
+pub mod Placing
+pub mod Rooming
+pub mod Going
+pub mod Walking

@@ -1,1 +1,4 @@
 pub mod Names
+pub mod Moving
+pub mod Places
+pub mod Rooming

@@ -2,19 +2,20 @@
 ghost use Rattle.std.specs.Prelude.{◌≡◌, ◌≤◌, IfOk, length};
 ghost use Rattle.plan_definitions.specs.PlanOf.{plan_of};
 ghost use Rattle.plan_definitions.specs.Written.{hand_of};
-ghost use Rattle.plan_conditions.specs.Allowed.{IsAllowed};
+ghost use Rattle.plan_definitions.specs.Allowed.{IsAllowed};
+ghost use Rattle.dir_lookup.specs.Hands.{over, seen};
 ghost use Rattle.dir_lookup.specs.Planned.{planned};
 ghost use Rattle.dir_lookup.specs.Reading.{reading};
 ghost use Rattle.plan_steps.specs.Ends.{Comes};
 ghost use Rattle.code_plan_laws.specs.CodeStands.{IsOverADisk, StandsOverDisks, IsExactOverDisks};
 ghost use Rattle.op_dir.specs.Names.{IsOfNames};
 
+use crate::{link_node, make, remove_directory, rename_node, unlink};
+use dir_lookup::Hand;
 use edit_writing::finish;
 use frang_base::{Held, NoMemory, Op, OpNo, Text};
 use meta_version::{Plan, Sectors};
-use op_moves::{link_node, rename_node};
-use op_names::{NewNode, make, remove_directory, unlink};
-use plan_steps::{Outcome, Stop};
+use plan_steps::{NewNode, Outcome, Stop};
 use std::alloc::Global;
 use tree_definitions::Target;
 
@@ -37,34 +38,28 @@ pub fn plan_dir(
     ensures stands { IfOk result (StandsOverDisks op.now birth.0 sectors.now.entries held.now all) }
     ensures exact { IfOk result (IsExactOverDisks op.now birth.0 sectors.now.entries held.now all) }
 {
-    let ended = plan_names(alloc, op, birth.0, sectors, held, all);
-    finish(alloc, sectors, held, ended)
+    let hand = Hand { sectors, held, all };
+    let ended = plan_names(alloc, op, birth.0, &hand);
+    finish(alloc, &hand, ended)
 }
 
-/// How the plan ends.
-pub(crate) fn plan_names(
-    alloc: Global,
-    op: &Op,
-    birth: u64,
-    sectors: &Sectors,
-    held: &Held,
-    all: bool,
-) -> Result<Outcome, Stop>
+/// How the plan of an operation on names ends. Its other refusal is want of memory.
+pub fn plan_names(alloc: Global, op: &Op, birth: u64, hand: &Hand) -> Result<Outcome, Stop>
     requires names { IsOfNames op.now }
     requires allowed { IsAllowed op.now }
-    ensures { Comes (reading (plan_of (hand_of sectors.now.entries held.now all) birth op.now) sectors.now.entries held.now) result }
+    ensures { Comes (over (plan_of (seen hand.now) birth op.now) hand.now) result }
 {
     match op {
-        Op::Create { path } => make(alloc, sectors, held, all, birth, &NewNode::File, path),
-        Op::Mkdir { path } => make(alloc, sectors, held, all, birth, &NewNode::Directory, path),
+        Op::Create { path } => make(alloc, hand, birth, &NewNode::File, path),
+        Op::Mkdir { path } => make(alloc, hand, birth, &NewNode::Directory, path),
         Op::Symlink { path, target } => {
             let node = NewNode::Link(target_of(target)?);
-            make(alloc, sectors, held, all, birth, &node, path)
+            make(alloc, hand, birth, &node, path)
         }
-        Op::Link { path, to } => link_node(alloc, sectors, held, all, path, to),
-        Op::Unlink { path } => unlink(alloc, sectors, held, path),
-        Op::Rmdir { path } => remove_directory(alloc, sectors, held, path),
-        Op::Rename { path, to } => rename_node(alloc, sectors, held, all, path, to),
+        Op::Link { path, to } => link_node(alloc, hand, path, to),
+        Op::Unlink { path } => unlink(alloc, hand, path),
+        Op::Rmdir { path } => remove_directory(alloc, hand, path),
+        Op::Rename { path, to } => rename_node(alloc, hand, path, to),
         _ => unreachable!(),
     }
 }

@@ -5,7 +5,5 @@
 
 mod names;
 mod plan;
-#[cfg(test)]
-mod tests;
 
 pub use plan::plan_look;

@@ -10,17 +10,13 @@ ghost use Rattle.op_look.specs.Looks.{ListsNames, with_name, with_place};
 ghost use Rattle.std.specs.Map.{keys_of};
 
 use dir_lookup::{entry_at, name_of, part_at};
+use frang_base::limits::{SECTOR_ENTRIES, SMALL_BLOCK_SECTORS};
 use frang_base::{Name, NameList, NoMemory};
 use meta_version::Sectors;
 use plan_steps::Stop;
 use sector_definitions::{DirEntry, DirSector, Inode};
 use std::alloc::Global;
 use std::collections::BTreeMap;
-
-// Sectors of a directory's block, and places of a sector.
-const PARTS: u32 = 8;
-
-const PLACES: u8 = 7;
 
 /// The names in a directory, in order of their bytes.
 pub(crate) fn names_in(
@@ -32,7 +28,7 @@ pub(crate) fn names_in(
     ensures { (held : Segments) → ListsNames sectors.now.entries held (stored directory.now) result }
 {
     let mut sorted: BTreeMap<Name, u64> = BTreeMap::new(alloc);
-    for j in 0..PARTS * u32::from(directory.blocks) {
+    for j in 0..SMALL_BLOCK_SECTORS * u32::from(directory.blocks) {
         let sector = part_at(sectors, directory, j)?;
         add_names(&mut sorted, &sector)?;
     }
@@ -45,7 +41,7 @@ fn add_names(sorted: &mut BTreeMap<Name, u64>, sector: &DirSector) -> Result<(),
     requires { IsTrue (directory_fits sector.now) }
     ensures { OnOk result (sorted.new.entries ≡ fold with_name sorted.old.entries (entries_of (entries_at sector.now))) }
 {
-    for place in 0..PLACES {
+    for place in 0..SECTOR_ENTRIES as u8 {
         add_name(sorted, entry_at(sector, place))?;
     }
     Ok(())

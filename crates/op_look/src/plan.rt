@@ -13,18 +13,12 @@ ghost use Rattle.code_plan_laws.specs.CodeStands.{StandsOverDisks, IsExactOverDi
 ghost use Rattle.op_look.specs.Looks.{IsLook, says};
 
 use crate::names::names_in;
-use frang_base::{NoMemory, Op, Path, Reply, Text};
-use meta_version::{ByteWrites, Changes, Plan, SectorList, Sectors};
+use frang_base::limits::{KIND_DIRECTORY, KIND_FILE, KIND_LINK};
+use frang_base::{Changes, NoMemory, Op, Path, Reply, Text};
+use meta_version::{ByteWrites, Plan, SectorList, Sectors};
 use plan_steps::{Stop, inode_of, target_of};
 use sector_definitions::Inode;
 use std::alloc::Global;
-
-// The kinds of nodes.
-const FILE: u8 = 1;
-
-const DIRECTORY: u8 = 2;
-
-const LINK: u8 = 3;
 
 /// The plan of an operation that only looks: stat, list, readlink or time. It is done with the reply, and changes nothing; or a sector is
 /// needed, the first that is looked at and isn't cached. Whatever segments are held, over every disk that stands for a tree it answers as the
@@ -93,11 +87,11 @@ fn described(inode: &Inode) -> Reply
 {
     let size = inode.size as u32;
     match inode.kind {
-        FILE => Reply::File {
+        KIND_FILE => Reply::File {
             size,
             links: u32::from(inode.links),
         },
-        DIRECTORY => Reply::Dir { entries: size },
+        KIND_DIRECTORY => Reply::Dir { entries: size },
         _ => Reply::Symlink { len: size },
     }
 }
@@ -106,7 +100,7 @@ fn list(alloc: Global, sectors: &Sectors, path: &Path) -> Result<Reply, Stop>
     ensures { (held : Segments) → Says (reading (plan_listed path.now) sectors.now.entries held) result }
 {
     let target = target_of(sectors, path)?;
-    if target.kind != DIRECTORY {
+    if target.kind != KIND_DIRECTORY {
         return Err(Stop::Refused(Reply::NotDir));
     }
     let inode = inode_of(sectors, target.inode)?;
@@ -118,7 +112,7 @@ fn read_link(alloc: Global, sectors: &Sectors, path: &Path) -> Result<Reply, Sto
     ensures { (held : Segments) → Says (reading (plan_target path.now) sectors.now.entries held) result }
 {
     let target = target_of(sectors, path)?;
-    if target.kind != LINK {
+    if target.kind != KIND_LINK {
         return Err(Stop::Refused(Reply::Inval));
     }
     let inode = inode_of(sectors, target.inode)?;
@@ -131,7 +125,7 @@ fn link_text(alloc: Global, inode: &Inode) -> Result<Text, NoMemory>
     requires { IsUsed inode.now }
     ensures { IfOk result (λ text. text ≡ (if inode.now.kind == 3 then take inode.now.size inode.now.target else [])) }
 {
-    if inode.kind == LINK {
+    if inode.kind == KIND_LINK {
         Text::of(alloc, &inode.target[..inode.size as usize])
     } else {
         Ok(Text::new(alloc))
@@ -151,8 +145,8 @@ fn timed(inode: &Inode) -> Reply
     ensures { result ≡ timed (stored inode.now) }
 {
     match inode.kind {
-        FILE => Reply::Time { run: 0, tick: 0 },
-        DIRECTORY => Reply::IsDir,
+        KIND_FILE => Reply::Time { run: 0, tick: 0 },
+        KIND_DIRECTORY => Reply::IsDir,
         _ => Reply::Inval,
     }
 }

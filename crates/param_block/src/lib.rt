@@ -1,11 +1,14 @@
-//! The parameter sector as bytes. The contracts promise that a written sector has the bytes of the grammar and that a block is read
-//! exactly where it is the sector of parameters; the laws, that each undoes the other. It stands on the definitions of sectors.
+//! The parameter sector as bytes, and back. The contracts promise that a written sector has the bytes of the definition and that a
+//! block is read exactly where it is the sector of parameters; the laws, that each undoes the other. It stands on the definitions of
+//! sectors.
 #![tactic(auto)]
 
-mod coder;
+mod grammar;
 mod laws;
-mod limits;
+mod reading;
+mod writing;
 
-pub use coder::{decode, encode};
-pub use laws::decoding_undoes_encoding;
+pub use laws::what_is_written_reads_back;
+pub use reading::decode;
 pub use sector_definitions::Param;
+pub use writing::encode;

@@ -12,7 +12,7 @@ use Rattle.std.proofs.lemmas.Map.Keys.{IsDistinct-push}
 use Rattle.std.proofs.lemmas.Map.Views.{All-map-remove_entry}
 use Rattle.std.proofs.lemmas.Cmp.{nat_eq_equiv}
 use Rattle.frang_outside.specs.declared.act.Put.{Put}
-use Rattle.lock_definitions.proofs.SortedEntries.{sorted-remove_entry}
+use Rattle.sorted_entries.proofs.Sorted.{sorted-remove_entry}
 use Rattle.petal_disk.specs.declared.ticket.Ticket.{Ticket}
 use Rattle.petal_disk.specs.Flights.{Writes, is_ticket, write_at, without, busy_with, ticket_cmp, sectors, AreFlights}
 

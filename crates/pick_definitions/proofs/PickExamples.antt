@@ -1,7 +1,7 @@
 -- Picks worked out by hand: segments 1 and 3 are held.
 use Rattle.std.proofs.Common.{◌≡◌, true, false, Some, None, [], ◌∷◌, refl}
 use Rattle.frang_base.specs.declared.bitmap.Bitmap.{Bitmap}
-use Rattle.sector_definitions.specs.Bytes.{zeros}
+use Rattle.sector_bytes.specs.Bytes.{zeros}
 use Rattle.pick_definitions.specs.Least.{least, least_from}
 use Rattle.pick_definitions.specs.Held.{Segments}
 use Rattle.pick_definitions.specs.Taken.{taken_inode, taken_small, with_states, with_inode}

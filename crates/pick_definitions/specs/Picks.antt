@@ -1,6 +1,7 @@
 -- What is picked of the held segments.
-use Rattle.std.specs.Prelude.{ℕ, zero, suc, Bool, false, not, ◌==◌, if◌then◌else◌, Option, Some, None, List, [], ◌∷◌}
+use Rattle.std.specs.Prelude.{ℕ, zero, suc, ◌*◌, Bool, false, not, ◌==◌, if◌then◌else◌, Option, Some, None, List, [], ◌∷◌}
 use Rattle.std.specs.Option.{option_map, option_and_then}
+use Rattle.frang_base.specs.declared.limits.TheConstants.{SEGMENTS_MAX, SEGMENT_BLOCKS, SEGMENT_INODES}
 use Rattle.pick_definitions.specs.declared.want.Use.{Use}
 use Rattle.pick_definitions.specs.declared.want.Use.TheVariants.{Bytes, Directory}
 use Rattle.pick_definitions.specs.Least.{least}
@@ -14,23 +15,23 @@ is_free (Some used) = not used
 -- held and in this state
 abbrev pub is_in_state : ℕ → Option ℕ → Bool
 is_in_state state None = false
-is_in_state state (Some s) = s == state
+is_in_state state (Some found) = found == state
 
 -- an inode: the least that is free
 abbrev pub picked_inode : Segments → Option ℕ
-picked_inode held = least (λ i. is_free (inode_in held i)) 4096
+picked_inode held = least (λ inode. is_free (inode_in held inode)) (SEGMENT_INODES * SEGMENTS_MAX)
 
 -- a large block: the least that is free
 abbrev pub picked_large : Segments → Option ℕ
-picked_large held = least (λ k. is_free (large_in held k)) 64
+picked_large held = least (λ segment. is_free (large_in held segment)) SEGMENTS_MAX
 
 -- the least small block in this state
 abbrev pub least_in_state : ℕ → (ℕ → Option ℕ) → Option ℕ
-least_in_state state states = least (λ b. is_in_state state (states b)) 65536
+least_in_state state states = least (λ block. is_in_state state (states block)) (SEGMENT_BLOCKS * SEGMENTS_MAX)
 
 abbrev pub or_else : Option ℕ → Option ℕ → Option ℕ
-or_else None y = y
-or_else (Some x) y = Some x
+or_else None second = second
+or_else (Some first) second = Some first
 
 -- a small block for bytes of a file: the least that is free and was never a directory's
 abbrev pub picked_bytes : Segments → Option ℕ
@@ -46,12 +47,13 @@ picked_small held Directory = picked_directory held
 
 -- the states once one block has this one
 abbrev pub with_state_at : (ℕ → Option ℕ) → ℕ → ℕ → ℕ → Option ℕ
-with_state_at states b state c = if c == b then Some state else states c
+with_state_at states block state other = if other == block then Some state else states other
 
--- n small blocks for bytes of a file, picked one after another, each taken before the next is picked; None where a pick finds none
+-- so many small blocks for bytes of a file, picked one after another, each taken before the next is picked; None where a pick finds none
 unfoldable pub picks : (ℕ → Option ℕ) → ℕ → Option (List ℕ)
 picks states zero = Some []
-picks states (suc n) = option_and_then (λ b. option_map (λ bs. b ∷ bs) (picks (with_state_at states b 1) n)) (least_in_state 0 states)
+picks states (suc more) =
+    option_and_then (λ block. option_map (λ blocks. block ∷ blocks) (picks (with_state_at states block 1) more)) (least_in_state 0 states)
 
 abbrev pub picked_many : Segments → ℕ → Option (List ℕ)
-picked_many held n = picks (state_in held) n
+picked_many held many = picks (state_in held) many

@@ -1,8 +1,5 @@
 // Laws of picks and of what is taken.
-ghost use Rattle.pick_definitions.specs.Laws.{PicksAnInode, NoInodeIsLeft, PicksALargeBlock, NoLargeBlockIsLeft, PicksForBytes, NoneIsLeftForBytes, PicksForADirectory, NoneIsLeftForADirectory};
-ghost use Rattle.pick_definitions.specs.Laws.{SmallBlockIsChanged, InodeIsMarked, LargeBlockIsMarked, SegmentsAreChanged, StatesAreChanged};
-ghost use Rattle.pick_definitions.specs.Laws.{NextInodeIsAbove, NextLargeBlockIsAbove, NextForBytesIsAbove, NextForADirectoryIsAnother};
-ghost use Rattle.pick_definitions.specs.Laws.{PicksTheLeast, PicksWhereThereAreEnough, PicksOneAfterAnother};
+ghost use Rattle.pick_definitions.specs.Laws.{PicksAnInode, NoInodeIsLeft, PicksALargeBlock, NoLargeBlockIsLeft, PicksForBytes, NoneIsLeftForBytes, PicksForADirectory, NoneIsLeftForADirectory, SmallBlockIsChanged, InodeIsMarked, LargeBlockIsMarked, SegmentsAreChanged, StatesAreChanged, NextInodeIsAbove, NextLargeBlockIsAbove, NextForBytesIsAbove, NextForADirectoryIsAnother, PicksTheLeast, PicksWhereThereAreEnough, PicksOneAfterAnother};
 
 /// A pick is held, free and of the right state, and the least such; nothing is picked only where no held segment has one. A directory gets
 /// a block that never was one only where no held block was.

@@ -1,4 +1,5 @@
 pub mod Ask
+pub mod Missing
 pub mod Walks
 pub mod Plans
 pub mod NamePlans
@@ -7,3 +8,9 @@ pub mod LookPlans
 pub mod PlanOf
 pub mod Written
 pub mod Meets
+pub mod Allowed
+pub mod FitEdits
+pub mod FitPlans
+pub mod Ready
+pub mod SmallRecords
+pub mod OnDisk

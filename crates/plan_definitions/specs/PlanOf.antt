@@ -12,19 +12,19 @@ use Rattle.plan_definitions.specs.LookPlans.{plan_described, plan_listed, plan_t
 
 -- of an operation with a path, whose new node would have this birth; an operation without one isn't planned
 abbrev pub plan_of : Hand → ℕ → Op → Ask Plan
-plan_of h birth (op.Create path) = plan_made h birth (File [] 1) path
-plan_of h birth (op.Mkdir path) = plan_made h birth (Dir [] 0) path
-plan_of h birth (op.Symlink path target) = plan_made h birth (Link target 1) path
-plan_of h birth (op.Link path to) = plan_linked h path to
-plan_of h birth (op.Unlink path) = plan_unlinked path
-plan_of h birth (op.Rmdir path) = plan_dir_removed path
-plan_of h birth (op.Rename path to) = plan_renamed h path to
-plan_of h birth (op.Write path off bytes) = plan_written h path off bytes
-plan_of h birth (op.Fill path off len byte) = plan_filled h path off len byte
-plan_of h birth (op.Truncate path len) = plan_truncated path len
-plan_of h birth (op.Read path off len) = plan_read path off len
-plan_of h birth (op.Stat path) = plan_described path
-plan_of h birth (op.List path) = plan_listed path
-plan_of h birth (op.Readlink path) = plan_target path
-plan_of h birth (op.Time path) = plan_timed path
-plan_of h birth op = refused reply.Ok []
+plan_of hand birth (op.Create path) = plan_made hand birth (File [] 1) path
+plan_of hand birth (op.Mkdir path) = plan_made hand birth (Dir [] 0) path
+plan_of hand birth (op.Symlink path target) = plan_made hand birth (Link target 1) path
+plan_of hand birth (op.Link path to) = plan_linked hand path to
+plan_of hand birth (op.Unlink path) = plan_unlinked path
+plan_of hand birth (op.Rmdir path) = plan_dir_removed path
+plan_of hand birth (op.Rename path to) = plan_renamed hand path to
+plan_of hand birth (op.Write path off bytes) = plan_written hand path off bytes
+plan_of hand birth (op.Fill path off len byte) = plan_filled hand path off len byte
+plan_of hand birth (op.Truncate path len) = plan_truncated path len
+plan_of hand birth (op.Read path off len) = plan_read path off len
+plan_of hand birth (op.Stat path) = plan_described path
+plan_of hand birth (op.List path) = plan_listed path
+plan_of hand birth (op.Readlink path) = plan_target path
+plan_of hand birth (op.Time path) = plan_timed path
+plan_of hand birth op = refused reply.Ok []

@@ -1,12 +1,13 @@
--- What a plan comes to, and what it picks of the segments that are held.
+-- What a plan comes to, and what it picks of the segments that are held. What the tenses of its names mean says NamePlans.
 use Rattle.std.specs.Prelude.{ℕ, ◌+◌, ◌*◌, ◌/◌, Bool, not, ◌&&◌, if◌then◌else◌, nat_le, nat_lt, Option, Some, None, List, [], ◌∷◌, ◌++◌, map}
 use Rattle.std.specs.Map.{keys_of}
+use Rattle.frang_base.specs.declared.limits.TheConstants.{BLOCK_ENTRIES, DIRECTORY_ENTRIES_MAX, INODE_BLOCKS_MAX, SEGMENT_BLOCKS, SMALL_BLOCK_SECTORS}
 use Rattle.frang_base.specs.declared.lock.LockId.{LockId}
 use Rattle.frang_base.specs.declared.lock.LockId.TheVariants as lock
 use Rattle.frang_base.specs.declared.lock.Mode.{Mode}
 use Rattle.frang_base.specs.declared.lock.Mode.TheVariants.{Shared, Sole}
 use Rattle.frang_base.specs.declared.reply.Reply.{Reply}
-use Rattle.cells.specs.Changes.{put}
+use Rattle.frang_base.specs.Functions.{put}
 use Rattle.disk_definitions.specs.Store.{StoredNode, StoredEntry}
 use Rattle.store_changes.specs.Edits.{Edit}
 use Rattle.store_changes.specs.Changes.{put_entry, grow}
@@ -40,13 +41,13 @@ pub data Plan : Type 0 where
 -- ---- locks
 
 abbrev pub shared_nodes : List ℕ → List Lock
-shared_nodes is = map (λ i. (lock.Node i, Shared)) is
+shared_nodes inodes = map (λ inode. (lock.Node inode, Shared)) inodes
 
 abbrev pub sole_nodes : List ℕ → List Lock
-sole_nodes is = map (λ i. (lock.Node i, Sole)) is
+sole_nodes inodes = map (λ inode. (lock.Node inode, Sole)) inodes
 
 abbrev pub sole_segments : List ℕ → List Lock
-sole_segments ks = map (λ k. (lock.Segment k, Sole)) ks
+sole_segments segments = map (λ segment. (lock.Segment segment, Sole)) segments
 
 -- ---- answers
 
@@ -59,60 +60,61 @@ refused reply touched = Got (refuse reply touched)
 
 -- an allocation that found nothing: said only where every segment is held
 abbrev pub none_left : Hand → Reply → List ℕ → Ask Plan
-none_left h reply touched =
-    Got (if h.all then Finishes (record { reply = reply; edits = []; locks = shared_nodes touched ++ sole_segments (keys_of h.held) }) else Lacks)
+none_left hand reply touched =
+    Got (if hand.all then Finishes (record { reply = reply; edits = []; locks = shared_nodes touched ++ sole_segments (keys_of hand.held) }) else Lacks)
 
 -- a look at every segment that is held, as each pick makes
 abbrev pub read_held : {A : Type 0} → Hand → Ask A → Ask A
-read_held h next = read_segments (keys_of h.held) next
+read_held hand next = read_segments (keys_of hand.held) next
 
 -- ---- room for an entry
 
--- a free place of a directory, a block that it takes, or nothing
+-- a free slot of a directory, a block that it takes, or nothing
 pub data Room : Type 0 where
-  Inside : (q : ℕ) → Room
-  InBlock : (k : ℕ) → Room
+  Inside : (slot : ℕ) → Room
+  InBlock : (block : ℕ) → Room
   NoRoom : Room
 
 abbrev pub room_in : Option ℕ → Room
 room_in None = NoRoom
-room_in (Some k) = InBlock k
+room_in (Some block) = InBlock block
 
--- a directory has at most 16 blocks
+-- the free slot that was found, or a block, where the directory may have one more
 abbrev pub room_at : Hand → StoredNode → Option Found → Ask Room
-room_at h x (Some found) = Got (Inside found.0)
-room_at h x None = if nat_lt x.blocks 16 then read_held h (Got (room_in (picked_directory h.held))) else Got NoRoom
+room_at hand directory (Some found) = Got (Inside found.0)
+room_at hand directory None = if nat_lt directory.blocks INODE_BLOCKS_MAX then read_held hand (Got (room_in (picked_directory hand.held))) else Got NoRoom
 
--- the first free place, else a block
+-- the first free slot, else a block
 abbrev pub find_room : Hand → StoredNode → Ask Room
-find_room h x = bind (search x.small is_vacant 0 (8 * x.blocks)) (room_at h x)
+find_room hand directory = bind (search directory.small is_vacant 0 (SMALL_BLOCK_SECTORS * directory.blocks)) (room_at hand directory)
 
 -- the directory with a block more
 abbrev pub with_block : StoredNode → ℕ → StoredNode
-with_block x k = record x { blocks = x.blocks + 1; small = put x.small x.blocks k }
+with_block directory block = record directory { blocks = directory.blocks + 1; small = put directory.small directory.blocks block }
 
 -- an entry comes into the room
 abbrev pub enter : ℕ → StoredNode → StoredEntry → Room → List Edit
-enter i x e (Inside q) = put_entry i x q e
-enter i x e (InBlock k) = grow i x k ++ put_entry i (with_block x k) (56 * x.blocks) e
-enter i x e NoRoom = []
+enter dir directory entry (Inside slot) = put_entry dir directory slot entry
+enter dir directory entry (InBlock block) = grow dir directory block ++ put_entry dir (with_block directory block) (BLOCK_ENTRIES * directory.blocks) entry
+enter dir directory entry NoRoom = []
 
 -- the segment of the block that was taken
 abbrev pub room_segments : Room → List ℕ
-room_segments (Inside q) = []
-room_segments (InBlock k) = (k / 1024) ∷ []
+room_segments (Inside slot) = []
+room_segments (InBlock block) = (block / SEGMENT_BLOCKS) ∷ []
 room_segments NoRoom = []
 
 -- the block was never a directory's, and isn't known to be zero
 abbrev pub must_clear : Hand → ℕ → Bool
-must_clear h k = is_in_state 0 (state_in h.held k) && not (h.zeroed k)
+must_clear hand block = is_in_state 0 (state_in hand.held block) && not (hand.zeroed block)
 
 -- done, once the block is clear; its first sector gets the entry
 abbrev pub finish_in : Hand → Room → Finish → Ask Plan
-finish_in h (Inside q) finish = Got (Finishes finish)
-finish_in h (InBlock k) finish = if must_clear h k then Got (Clears k finish.locks) else ReadDirectory k 0 (λ f. Got (Finishes finish))
-finish_in h NoRoom finish = Got (Finishes finish)
+finish_in hand (Inside slot) finish = Got (Finishes finish)
+finish_in hand (InBlock block) finish =
+    if must_clear hand block then Got (Clears block finish.locks) else ReadDirectory block 0 (λ slots. Got (Finishes finish))
+finish_in hand NoRoom finish = Got (Finishes finish)
 
--- the directory has 896 entries
+-- the directory has as many entries as it may
 abbrev pub is_full : StoredNode → Bool
-is_full x = nat_le 896 x.size
+is_full directory = nat_le DIRECTORY_ENTRIES_MAX directory.size

@@ -1,44 +1,47 @@
 -- The walk of a path over sectors: it mirrors where the names of a path lead in a tree.
 use Rattle.std.specs.Prelude.{ℕ, zero, suc, ◌+◌, ◌*◌, ◌/◌, ◌%◌, Bool, false, not, ◌==◌, if◌then◌else◌, is_some, Option, Some, None, List, [], ◌∷◌, ◌++◌}
+use Rattle.frang_base.specs.declared.limits.TheConstants.{KIND_DIRECTORY, ROOT_INODE, SECTOR_ENTRIES, SMALL_BLOCK_SECTORS}
 use Rattle.frang_base.specs.declared.reply.Reply.{Reply}
 use Rattle.frang_base.specs.declared.reply.Reply.TheVariants as reply
-use Rattle.sector_definitions.specs.Bytes.{same_bytes}
+use Rattle.std.specs.Str.{bytes_eq}
 use Rattle.disk_definitions.specs.Store.{StoredNode, StoredEntry}
 use Rattle.pick_definitions.specs.Least.{least}
 use Rattle.plan_definitions.specs.Ask.{Ask, Got, ReadInode, ReadDirectory, bind}
 
--- a place of a directory, 56 to a block, with what stands there
+-- a slot of a directory, numbered over all its blocks, with what stands there
 abbrev pub Found : Type 0
 Found = ℕ × Option StoredEntry
 
 abbrev pub or_on : {A : Type 0} → Option A → Ask (Option A) → Ask (Option A)
 or_on None rest = rest
-or_on (Some x) rest = Got (Some x)
+or_on (Some found) rest = Got (Some found)
 
--- the first of a sector's seven places that passes
+-- the first of a sector's seven slots that passes
 abbrev pub hit : (Option StoredEntry → Bool) → ℕ → (ℕ → Option StoredEntry) → Option ℕ → Option Found
-hit test j f None = None
-hit test j f (Some r) = Some (7 * j + r, f r)
+hit test sector slots None = None
+hit test sector slots (Some index) = Some (SECTOR_ENTRIES * sector + index, slots index)
 
--- the first place that passes in n sectors of a directory, from sector j on, by block, sector and place
+-- the first slot that passes in so many sectors of a directory, from one on, by block, sector and slot
 abbrev pub search : (ℕ → ℕ) → (Option StoredEntry → Bool) → ℕ → ℕ → Ask (Option Found)
-search small test j zero = Got None
-search small test j (suc n) =
-    ReadDirectory (small (j / 8)) (j % 8) (λ f. or_on (hit test j f (least (λ r. test (f r)) 7)) (search small test (j + 1) n))
+search small test sector zero = Got None
+search small test sector (suc more) =
+    ReadDirectory (small (sector / SMALL_BLOCK_SECTORS)) (sector % SMALL_BLOCK_SECTORS)
+    (λ slots. or_on (hit test sector slots (least (λ index. test (slots index)) SECTOR_ENTRIES)) (search small test (sector + 1) more))
 
 -- an entry of this name
 abbrev pub is_named : List ℕ → Option StoredEntry → Bool
 is_named name None = false
-is_named name (Some e) = same_bytes e.name name
+is_named name (Some entry) = bytes_eq entry.name name
 
 abbrev pub is_vacant : Option StoredEntry → Bool
-is_vacant e = not (is_some e)
+is_vacant entry = not (is_some entry)
 
--- the root; a name that a directory has, in place q; a name that it hasn't; or a walk that was refused. A directory is its inode's number and what stands in it
+-- where a path leads: the root; a name that a directory has, in a slot; a name that it hasn't; or nowhere, the walk refused. `dir` is the number of the
+-- directory's inode, `directory` what stands in it
 pub data Spot : Type 0 where
   AtRoot : Spot
-  AtName : (dir : ℕ) (x : StoredNode) (name : List ℕ) (q : ℕ) (e : StoredEntry) → Spot
-  AtGap : (dir : ℕ) (x : StoredNode) (name : List ℕ) → Spot
+  AtName : (dir : ℕ) (directory : StoredNode) (name : List ℕ) (slot : ℕ) (entry : StoredEntry) → Spot
+  AtGap : (dir : ℕ) (directory : StoredNode) (name : List ℕ) → Spot
   Lost : (reply : Reply) → Spot
 
 -- where a walk leads, and the directories in which it looked up a name, by their inodes
@@ -47,38 +50,42 @@ pub record Walked : Type 0 where
   pub dirs : List ℕ
 
 abbrev pub spot_by : ℕ → StoredNode → List ℕ → Option Found → Spot
-spot_by i x name None = AtGap i x name
-spot_by i x name (Some (q, None)) = AtGap i x name
-spot_by i x name (Some (q, Some e)) = AtName i x name q e
+spot_by dir directory name None = AtGap dir directory name
+spot_by dir directory name (Some (slot, None)) = AtGap dir directory name
+spot_by dir directory name (Some (slot, Some entry)) = AtName dir directory name slot entry
 
 -- a name looked up in a directory
 abbrev pub look_up : List ℕ → ℕ → StoredNode → List ℕ → Ask Walked
-look_up dirs i x name = bind (search x.small (is_named name) 0 (8 * x.blocks)) (λ found. Got (record { spot = spot_by i x name found; dirs = dirs ++ i ∷ [] }))
+look_up dirs dir directory name =
+    bind (search directory.small (is_named name) 0 (SMALL_BLOCK_SECTORS * directory.blocks))
+    (λ found. Got (record { spot = spot_by dir directory name found; dirs = dirs ++ dir ∷ [] }))
 
 -- a name below a node, which has to be a directory
 abbrev pub in_inode : List ℕ → ℕ → List ℕ → Option StoredNode → Ask Walked
-in_inode dirs i name None = Got (record { spot = Lost reply.NoEnt; dirs = dirs })
-in_inode dirs i name (Some x) = if x.kind == 2 then look_up dirs i x name else Got (record { spot = Lost reply.NotDir; dirs = dirs })
+in_inode dirs inode name None = Got (record { spot = Lost reply.NoEnt; dirs = dirs })
+in_inode dirs inode name (Some node) =
+    if node.kind == KIND_DIRECTORY then look_up dirs inode node name else Got (record { spot = Lost reply.NotDir; dirs = dirs })
 
 -- on from a name on the way, whose entry tells whether it is a directory
 abbrev pub onward : (List ℕ → ℕ → Ask Walked) → List ℕ → Spot → Ask Walked
-onward next dirs AtRoot = next dirs 0
-onward next dirs (AtName i x name q e) = if e.kind == 2 then next dirs e.inode else Got (record { spot = Lost reply.NotDir; dirs = dirs })
-onward next dirs (AtGap i x name) = Got (record { spot = Lost reply.NoEnt; dirs = dirs })
-onward next dirs (Lost r) = Got (record { spot = Lost r; dirs = dirs })
+onward next dirs AtRoot = next dirs ROOT_INODE
+onward next dirs (AtName dir directory name slot entry) =
+    if entry.kind == KIND_DIRECTORY then next dirs entry.inode else Got (record { spot = Lost reply.NotDir; dirs = dirs })
+onward next dirs (AtGap dir directory name) = Got (record { spot = Lost reply.NoEnt; dirs = dirs })
+onward next dirs (Lost answer) = Got (record { spot = Lost answer; dirs = dirs })
 
 -- the names of a path, taken from the left, from an inode on
 abbrev pub walk_from : List ℕ → ℕ → List (List ℕ) → Ask Walked
-walk_from dirs i [] = Got (record { spot = AtRoot; dirs = dirs })
-walk_from dirs i (name ∷ []) = ReadInode i (in_inode dirs i name)
-walk_from dirs i (name ∷ next ∷ names) =
-    bind (ReadInode i (in_inode dirs i name)) (λ w. onward (λ more j. walk_from more j (next ∷ names)) w.dirs w.spot)
+walk_from dirs inode [] = Got (record { spot = AtRoot; dirs = dirs })
+walk_from dirs inode (name ∷ []) = ReadInode inode (in_inode dirs inode name)
+walk_from dirs inode (name ∷ next ∷ names) =
+    bind (ReadInode inode (in_inode dirs inode name)) (λ walked. onward (λ further below. walk_from further below (next ∷ names)) walked.dirs walked.spot)
 
--- the walk of a path from the root, whose inode is 0
+-- the walk of a path from the root
 abbrev pub walk : List (List ℕ) → Ask Walked
-walk path = walk_from [] 0 path
+walk path = walk_from [] ROOT_INODE path
 
--- the node that a path names, which has to be there: its inode's number and its kind, 1 for a file, 2 for a directory, 3 for a link
+-- the node that a path names, which has to be there: its inode's number and its kind, as inodes and entries have it
 pub record Target : Type 0 where
   pub inode : ℕ
   pub kind : ℕ
@@ -86,10 +93,10 @@ pub record Target : Type 0 where
 
 -- what is done with it, or how the walk was refused
 abbrev pub at_spot : {A : Type 0} → Spot → List ℕ → (Reply → List ℕ → A) → (Target → A) → A
-at_spot AtRoot dirs refused next = next (record { inode = 0; kind = 2; dirs = dirs })
-at_spot (AtName i x name q e) dirs refused next = next (record { inode = e.inode; kind = e.kind; dirs = dirs })
-at_spot (AtGap i x name) dirs refused next = refused reply.NoEnt dirs
-at_spot (Lost r) dirs refused next = refused r dirs
+at_spot AtRoot dirs refused next = next (record { inode = ROOT_INODE; kind = KIND_DIRECTORY; dirs = dirs })
+at_spot (AtName dir directory name slot entry) dirs refused next = next (record { inode = entry.inode; kind = entry.kind; dirs = dirs })
+at_spot (AtGap dir directory name) dirs refused next = refused reply.NoEnt dirs
+at_spot (Lost answer) dirs refused next = refused answer dirs
 
 abbrev pub at_target : {A : Type 0} → Walked → (Reply → List ℕ → A) → (Target → A) → A
-at_target w refused next = at_spot w.spot w.dirs refused next
+at_target walked refused next = at_spot walked.spot walked.dirs refused next

@@ -2,6 +2,7 @@
 use Rattle.std.specs.Prelude.{ℕ, ◌+◌, ◌-◌, ◌/◌, ◌%◌, Bool, true, false, ◌==◌, if◌then◌else◌, Option, Some, None, List, [], ◌∷◌, ◌++◌, length, map, fold, slice_index, slice_set}
 use Rattle.std.specs.List.{filter_map, flat_map, list_all}
 use Rattle.std.specs.Map.{keys_of}
+use Rattle.frang_base.specs.declared.limits.TheConstants.{INODE_BLOCKS_MAX, KIND_FREE, LARGE_BLOCK_SECTORS, NAME_BYTES_MAX, SECTOR_BYTES, SECTOR_ENTRIES, SEGMENT_BLOCKS, SEGMENT_INODES, SMALL_BLOCK_SECTORS, TARGET_BYTES_MAX}
 use Rattle.frang_base.specs.declared.bitmap.Bitmap.{Bitmap}
 use Rattle.frang_base.specs.declared.change.Patch.{Patch}
 use Rattle.frang_base.specs.declared.change.Change.{Change}
@@ -9,16 +10,17 @@ use Rattle.sector_definitions.specs.declared.region.Region.TheVariants as region
 use Rattle.sector_definitions.specs.declared.inode.Inode.{Inode}
 use Rattle.sector_definitions.specs.declared.directory.DirEntry.{DirEntry}
 use Rattle.sector_definitions.specs.declared.directory.DirSector.{DirSector}
-use Rattle.sector_definitions.specs.Bytes.{zeros, same_bytes}
+use Rattle.sector_bytes.specs.Bytes.{zeros}
+use Rattle.std.specs.Str.{bytes_eq}
 use Rattle.sector_definitions.specs.Regions.{sector_of}
 use Rattle.sector_definitions.specs.Inodes.{inode_bytes, inode_in}
 use Rattle.sector_definitions.specs.Directories.{directory_bytes, directory_fields, directory_in}
 use Rattle.sector_definitions.specs.Bitmaps.{bitmap_bytes, bitmap_fields}
-use Rattle.sector_definitions.specs.Patches.{patches_of}
-use Rattle.change_definitions.specs.Changes.{changed}
-use Rattle.change_definitions.specs.SectorMaps.{value_at, with_value}
+use Rattle.sector_bytes.specs.Patches.{patches_of}
+use Rattle.sector_bytes.specs.Changes.{changed}
+use Rattle.sector_bytes.specs.SectorMaps.{value_at, with_value}
 use Rattle.tree_definitions.specs.Numbers.{below}
-use Rattle.disk_definitions.specs.Disks.{Sectors}
+use Rattle.sector_bytes.specs.Sectors.{Sectors}
 use Rattle.disk_definitions.specs.Store.{StoredNode, StoredEntry, Use, stored_node, entry_in}
 use Rattle.disk_definitions.specs.Store.Use.{Fresh, Bytes, Empty, Entries}
 use Rattle.disk_definitions.specs.Standing.{version_at}
@@ -33,27 +35,38 @@ use Rattle.plan_definitions.specs.Plans.{Hand}
 
 -- the bytes, and zeros up to this length
 abbrev pub padded : ℕ → List ℕ → List ℕ
-padded n bytes = bytes ++ zeros (n - length bytes)
+padded count bytes = bytes ++ zeros (count - length bytes)
 
 -- an inode in use, or a free one
 abbrev pub inode_with : ℕ → Option StoredNode → Inode
-inode_with version None = record { version = version; kind = 0; links = 0; blocks = 0; size = 0; birth = 0; small = zeros 16; large = 0; target = zeros 384 }
-inode_with version (Some x) = record {
+inode_with version None =
+    record {
+      version = version;
+      kind = KIND_FREE;
+      links = 0;
+      blocks = 0;
+      size = 0;
+      birth = 0;
+      small = zeros INODE_BLOCKS_MAX;
+      large = 0;
+      target = zeros TARGET_BYTES_MAX;
+    }
+inode_with version (Some node) = record {
   version = version;
-  kind = x.kind;
-  links = x.links;
-  blocks = x.blocks;
-  size = x.size;
-  birth = x.birth;
-  small = map x.small (below 16);
-  large = x.large;
-  target = padded 384 x.target;
+  kind = node.kind;
+  links = node.links;
+  blocks = node.blocks;
+  size = node.size;
+  birth = node.birth;
+  small = map node.small (below INODE_BLOCKS_MAX);
+  large = node.large;
+  target = padded TARGET_BYTES_MAX node.target;
 }
 
--- an entry, or a free place
+-- an entry, or a free slot
 abbrev pub place_with : Option StoredEntry → DirEntry
-place_with None = record { inode = 0; len = 0; kind = 0; name = zeros 64 }
-place_with (Some e) = record { inode = e.inode; len = length e.name; kind = e.kind; name = padded 64 e.name }
+place_with None = record { inode = 0; len = 0; kind = KIND_FREE; name = zeros NAME_BYTES_MAX }
+place_with (Some entry) = record { inode = entry.inode; len = length entry.name; kind = entry.kind; name = padded NAME_BYTES_MAX entry.name }
 
 abbrev pub state_of : Use → ℕ
 state_of Fresh = 0
@@ -61,33 +74,33 @@ state_of Bytes = 1
 state_of Empty = 2
 state_of Entries = 3
 
--- a directory's sector with this in one of its places
+-- a directory's sector with this in one of its slots
 abbrev pub with_place : DirSector → ℕ → Option StoredEntry → DirSector
-with_place x p e = record x { entries = slice_set x.entries p (place_with e) }
+with_place sector slot entry = record sector { entries = slice_set sector.entries slot (place_with entry) }
 
 -- ---- the sectors after edits, whose versions stay
 
 abbrev pub edit_sector : Edit → ℕ
-edit_sector (SetInode i x) = sector_of (region.Inode i)
-edit_sector (SetBit i b) = sector_of (region.Segment (i / 64))
-edit_sector (SetUse k u) = sector_of (region.Segment (k / 1024))
-edit_sector (SetPlace k p e) = sector_of (region.Small k (p / 7))
-edit_sector (SetLarge g b) = sector_of (region.Segment g)
-edit_sector (SetBytes k part bytes) = sector_of (region.Small k part)
-edit_sector (SetLargeBytes g part bytes) = sector_of (region.Large g part)
+edit_sector (SetInode inode stored_node) = sector_of (region.Inode inode)
+edit_sector (SetBit inode used) = sector_of (region.Segment (inode / SEGMENT_INODES))
+edit_sector (SetUse block_number state) = sector_of (region.Segment (block_number / SEGMENT_BLOCKS))
+edit_sector (SetPlace block_number slot entry) = sector_of (region.Small block_number (slot / SECTOR_ENTRIES))
+edit_sector (SetLarge segment used) = sector_of (region.Segment segment)
+edit_sector (SetBytes block_number part bytes) = sector_of (region.Small block_number part)
+edit_sector (SetLargeBytes segment part bytes) = sector_of (region.Large segment part)
 
 -- the block of that sector after the edit; its version is still the old one
 abbrev pub edited_block : List ℕ → ℕ → Edit → List ℕ
-edited_block block version (SetInode i x) = inode_bytes (inode_with version x)
-edited_block block version (SetBit i b) = bitmap_bytes (with_inode (bitmap_fields block) (i % 64) b)
-edited_block block version (SetUse k u) = bitmap_bytes (with_state (bitmap_fields block) (k % 1024) (state_of u))
-edited_block block version (SetPlace k p e) = directory_bytes (with_place (directory_fields block) (p % 7) e)
-edited_block block version (SetLarge g b) = bitmap_bytes (with_large (bitmap_fields block) b)
-edited_block block version (SetBytes k part bytes) = map bytes (below 512)
-edited_block block version (SetLargeBytes g part bytes) = map bytes (below 512)
+edited_block block version (SetInode inode node) = inode_bytes (inode_with version node)
+edited_block block version (SetBit inode used) = bitmap_bytes (with_inode (bitmap_fields block) (inode % SEGMENT_INODES) used)
+edited_block block version (SetUse block_number state) = bitmap_bytes (with_state (bitmap_fields block) (block_number % SEGMENT_BLOCKS) (state_of state))
+edited_block block version (SetPlace block_number slot entry) = directory_bytes (with_place (directory_fields block) (slot % SECTOR_ENTRIES) entry)
+edited_block block version (SetLarge segment used) = bitmap_bytes (with_large (bitmap_fields block) used)
+edited_block block version (SetBytes block_number part bytes) = map bytes (below SECTOR_BYTES)
+edited_block block version (SetLargeBytes segment part bytes) = map bytes (below SECTOR_BYTES)
 
 abbrev pub edited_sectors : Sectors → Edit → Sectors
-edited_sectors sectors e sector = if sector == edit_sector e then edited_block (sectors sector) (version_at sectors sector) e else sectors sector
+edited_sectors sectors edit sector = if sector == edit_sector edit then edited_block (sectors sector) (version_at sectors sector) edit else sectors sector
 
 abbrev pub all_edited : Sectors → List Edit → Sectors
 all_edited sectors edits = fold edited_sectors sectors edits
@@ -96,24 +109,24 @@ all_edited sectors edits = fold edited_sectors sectors edits
 
 -- an edit of a sector with a version
 abbrev pub is_metadata : Edit → Bool
-is_metadata (SetBytes k part bytes) = false
-is_metadata (SetLargeBytes g part bytes) = false
-is_metadata e = true
+is_metadata (SetBytes block part bytes) = false
+is_metadata (SetLargeBytes segment part bytes) = false
+is_metadata edit = true
 
 abbrev pub metadata_sector : Edit → Option ℕ
-metadata_sector e = if is_metadata e then Some (edit_sector e) else None
+metadata_sector edit = if is_metadata edit then Some (edit_sector edit) else None
 
 -- numbers ascending, each once
 abbrev pub with_number : List (ℕ × ℕ) → ℕ → List (ℕ × ℕ)
-with_number sorted n = with_value sorted n 0
+with_number sorted number = with_value sorted number 0
 
 abbrev pub ascending : List ℕ → List ℕ
-ascending ns = keys_of (fold with_number [] ns)
+ascending numbers = keys_of (fold with_number [] numbers)
 
 -- the change of a sector, where one of its bytes changes: the longest runs of new bytes, and the next version
 abbrev pub change_by : ℕ → ℕ → List Patch → Option Change
 change_by sector version [] = None
-change_by sector version (p ∷ ps) = Some (record { sector = record { 0 = sector }; version = version; patches = p ∷ ps })
+change_by sector version (patch ∷ patches) = Some (record { sector = record { 0 = sector }; version = version; patches = patch ∷ patches })
 
 abbrev pub change_of : Sectors → Sectors → ℕ → Option Change
 change_of old new sector = change_by sector (version_at old sector + 1) (patches_of (old sector) (new sector))
@@ -124,15 +137,15 @@ changes_of sectors edits = filter_map (change_of sectors (all_edited sectors edi
 -- ---- bytes of files
 
 abbrev pub byte_write : Edit → Option (ℕ × List ℕ)
-byte_write e = if is_metadata e then None else Some (edit_sector e, edited_block [] 0 e)
+byte_write edit = if is_metadata edit then None else Some (edit_sector edit, edited_block [] 0 edit)
 
 abbrev pub byte_writes : List Edit → List (ℕ × List ℕ)
 byte_writes edits = filter_map byte_write edits
 
 -- the sectors of the blocks of file bytes that are given back, ascending
 abbrev pub sectors_given_back : Edit → List ℕ
-sectors_given_back (SetUse k Fresh) = map (λ part. sector_of (region.Small k part)) (below 8)
-sectors_given_back (SetLarge g false) = map (λ part. sector_of (region.Large g part)) (below 2048)
+sectors_given_back (SetUse block Fresh) = map (λ part. sector_of (region.Small block part)) (below SMALL_BLOCK_SECTORS)
+sectors_given_back (SetLarge segment false) = map (λ part. sector_of (region.Large segment part)) (below LARGE_BLOCK_SECTORS)
 sectors_given_back _ = []
 
 abbrev pub freed_sectors : List Edit → List ℕ
@@ -141,10 +154,10 @@ freed_sectors edits = ascending (flat_map sectors_given_back edits)
 -- ---- the disk with them
 
 abbrev pub with_change : Sectors → Change → Sectors
-with_change sectors c sector = if sector == c.sector.0 then changed (sectors sector) c else sectors sector
+with_change sectors change sector = if sector == change.sector.0 then changed (sectors sector) change else sectors sector
 
 abbrev pub with_bytes : Sectors → ℕ × List ℕ → Sectors
-with_bytes sectors w sector = if sector == w.0 then w.1 else sectors sector
+with_bytes sectors written sector = if sector == written.0 then written.1 else sectors sector
 
 abbrev pub laid_over : Sectors → List Change → List (ℕ × List ℕ) → Sectors
 laid_over sectors changes bytes = fold with_bytes (fold with_change sectors changes) bytes
@@ -156,14 +169,14 @@ abbrev pub Cached : Type 0
 Cached = List (ℕ × List ℕ)
 
 abbrev pub inode_at_hand : Cached → ℕ → Option (Option StoredNode)
-inode_at_hand cached i = said (value_at cached (sector_of (region.Inode i)))
+inode_at_hand cached inode = said (value_at cached (sector_of (region.Inode inode)))
   where
     said : Option (List ℕ) → Option (Option StoredNode)
     said None = None
     said (Some block) = Some (stored_node (inode_in block))
 
 abbrev pub directory_at_hand : Cached → ℕ → ℕ → Option (ℕ → Option StoredEntry)
-directory_at_hand cached k part = said (value_at cached (sector_of (region.Small k part)))
+directory_at_hand cached block_number part = said (value_at cached (sector_of (region.Small block_number part)))
   where
     said : Option (List ℕ) → Option (ℕ → Option StoredEntry)
     said None = None
@@ -177,19 +190,19 @@ bytes_at_hand cached sector = said (value_at cached sector)
     said (Some block) = Some (slice_index block)
 
 abbrev pub is_held : Segments → ℕ → Bool
-is_held held k = is_there (bitmap_of held k)
+is_held held segment = is_there (bitmap_of held segment)
   where
     is_there : Option Bitmap → Bool
     is_there None = false
-    is_there (Some x) = true
+    is_there (Some bitmap) = true
 
 abbrev pub at_hand : Cached → Segments → AtHand
 at_hand cached held = record {
   inode = inode_at_hand cached;
   directory = directory_at_hand cached;
   segment = is_held held;
-  bytes = λ k part. bytes_at_hand cached (sector_of (region.Small k part));
-  large = λ g part. bytes_at_hand cached (sector_of (region.Large g part));
+  bytes = λ block part. bytes_at_hand cached (sector_of (region.Small block part));
+  large = λ segment part. bytes_at_hand cached (sector_of (region.Large segment part));
 }
 
 -- the eight sectors of a small block are cached as zero
@@ -198,21 +211,21 @@ is_zero_at_hand cached sector = is_zero (value_at cached sector)
   where
     is_zero : Option (List ℕ) → Bool
     is_zero None = false
-    is_zero (Some block) = same_bytes (zeros 512) block
+    is_zero (Some block) = bytes_eq (zeros SECTOR_BYTES) block
 
 abbrev pub is_zeroed : Cached → ℕ → Bool
-is_zeroed cached k = list_all (λ part. is_zero_at_hand cached (sector_of (region.Small k part))) (below 8)
+is_zeroed cached block = list_all (λ part. is_zero_at_hand cached (sector_of (region.Small block part))) (below SMALL_BLOCK_SECTORS)
 
 -- the sectors of the held segments, by their bitmaps
 abbrev pub segment_sectors : Segments → Cached
-segment_sectors held = map (λ h. (sector_of (region.Segment h.0), bitmap_bytes h.1)) held
+segment_sectors held = map (λ one. (sector_of (region.Segment one.0), bitmap_bytes one.1)) held
 
 -- the held segments and the cached sectors as sectors of a disk; those that are neither are asked for by nobody
 abbrev pub sectors_at_hand : Cached → Segments → Sectors
 sectors_at_hand cached held sector = or_cached (value_at (segment_sectors held) sector)
   where
     or_zeros : Option (List ℕ) → List ℕ
-    or_zeros None = zeros 512
+    or_zeros None = zeros SECTOR_BYTES
     or_zeros (Some block) = block
 
     or_cached : Option (List ℕ) → List ℕ

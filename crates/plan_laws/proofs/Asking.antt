@@ -2,7 +2,8 @@
 use Rattle.std.proofs.Common.{◌≡◌, ℕ, Bool, true, false, Option, Some, None, List, [], ◌∷◌, ◌++◌, map, refl, sym, ◌∙◌, ap, is_some, if◌then◌else◌}
 use Rattle.disk_definitions.specs.Store.{Store}
 use Rattle.plan_definitions.specs.Ask.{Sector, InodeAt, DirectoryAt, SegmentAt, BytesAt, LargeAt, Ask, Got, ReadInode, ReadDirectory, ReadSegment, ReadBytes, ReadLarge, AtHand, Met, Needs, Has, IsOf, bind, seven, part_of, run, looks, meet, or_needs, read_segments}
-use Rattle.plan_laws.specs.Looking.{AllSayTheSame, first_missing, unless_missing, GoesOn, MeetsItsValue, GoesByWhatItLooksAt, SegmentsAreLookedAt}
+use Rattle.plan_definitions.specs.Missing.{first_missing, unless_missing}
+use Rattle.plan_laws.specs.Looking.{AllSayTheSame, GoesOn, MeetsItsValue, GoesByWhatItLooksAt, SegmentsAreLookedAt}
 
 pub run-bind : {A B : Type 0} (p : Ask A) (f : A → Ask B) (s : Store) → run (bind p f) s ≡ run (f (run p s)) s
 run-bind (Got a) f s = refl

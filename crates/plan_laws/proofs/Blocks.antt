@@ -8,8 +8,8 @@ use Rattle.std.specs.BTreeMap.{is_at}
 use Rattle.std.specs.Ordering.{nat_cmp}
 use Rattle.std.specs.List.Sorted.{IsStrictlySortedBy}
 use Rattle.tree_definitions.specs.declared.node.Node.{Node}
-use Rattle.cells.specs.Changes.{put}
-use Rattle.cells.proofs.Basics.{by_test, at_put, put_same, put_other}
+use Rattle.frang_base.specs.Functions.{put}
+use Rattle.frang_base.proofs.Basics.{by_test, at_put, put_same, put_other}
 use Rattle.tree_laws.proofs.Pairs.{birth_exact, tie, self}
 use Rattle.pick_definitions.specs.Least.{count}
 use Rattle.pick_definitions.proofs.Counts.{count_none, count_less_one}

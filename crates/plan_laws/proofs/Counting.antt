@@ -4,8 +4,8 @@ use Rattle.std.specs.declared.cmp.Ordering.{Ordering}
 use Rattle.std.specs.Map.{lookup, keys_of}
 use Rattle.std.specs.BTreeMap.{is_at}
 use Rattle.std.specs.List.Sorted.{IsStrictlySortedBy}
-use Rattle.cells.specs.Changes.{put}
-use Rattle.cells.proofs.Basics.{by_test, at_put, put_same, put_other}
+use Rattle.frang_base.specs.Functions.{put}
+use Rattle.frang_base.proofs.Basics.{by_test, at_put, put_same, put_other}
 use Rattle.tree_laws.proofs.Pairs.{IsExact, tie, self, none_below}
 use Rattle.pick_definitions.specs.Least.{count, one_if}
 use Rattle.pick_definitions.proofs.Counts.{count_zero, count_more, count_none, count_less_one}

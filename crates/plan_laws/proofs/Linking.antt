@@ -26,7 +26,7 @@ use Rattle.plan_definitions.specs.Plans.{Hand, Room, enter, find_room, finish_in
 use Rattle.plan_definitions.specs.Plans.Room.{Inside, InBlock, NoRoom}
 use Rattle.plan_definitions.specs.NamePlans.{linked_by, linking_in, linking_node, linking_to, linking}
 use Rattle.plan_definitions.specs.Meets.{IsOfTree, IsHandOf, FinishMeets}
-use Rattle.plan_laws.specs.Planned.{LinkIsPlanned}
+use Rattle.plan_laws.specs.NamesPlanned.{LinkIsPlanned}
 use Rattle.plan_laws.proofs.Asking.{run-bind}
 use Rattle.plan_laws.proofs.Cases.{inode_by, has_inode, by_spot}
 use Rattle.plan_laws.proofs.Refusing.{Meets, passes, refuse_meets, none_meets}

@@ -10,7 +10,7 @@ use Rattle.tree_definitions.specs.Entries.{Entries, entry_at, with_entry}
 use Rattle.tree_definitions.specs.Tree.{FileTree, node_at, with_node, grown, inodes_full, lacks_block}
 use Rattle.tree_definitions.specs.Place.{Free, place}
 use Rattle.tree_definitions.specs.Apply.{says, named, made}
-use Rattle.cells.proofs.Basics.{put_same}
+use Rattle.frang_base.proofs.Basics.{put_same}
 use Rattle.tree_laws.specs.WellFormed.{IsWellFormed, IsNew, put as put_node}
 use Rattle.tree_laws.proofs.Nodes.{node_with}
 use Rattle.tree_laws.proofs.Keeping.{names_nodes}
@@ -29,7 +29,7 @@ use Rattle.plan_definitions.specs.Plans.{Hand, Room, enter, find_room, finish_in
 use Rattle.plan_definitions.specs.Plans.Room.{Inside, InBlock, NoRoom}
 use Rattle.plan_definitions.specs.NamePlans.{made_by, making_in, making_with, making, plan_made}
 use Rattle.plan_definitions.specs.Meets.{IsOfTree, IsHandOf, FinishMeets}
-use Rattle.plan_laws.specs.Planned.{CreateIsPlanned, MkdirIsPlanned, SymlinkIsPlanned}
+use Rattle.plan_laws.specs.NamesPlanned.{CreateIsPlanned, MkdirIsPlanned, SymlinkIsPlanned}
 use Rattle.plan_laws.proofs.Asking.{run-bind, run-segments}
 use Rattle.plan_laws.proofs.Cases.{inode_by, has_inode, by_spot}
 use Rattle.plan_laws.proofs.Refusing.{Meets, passes, refuse_meets, none_meets}

@@ -38,7 +38,7 @@ use Rattle.plan_laws.proofs.Tests.{same_inode_test, kind_test}
 
 -- what is moved, by the naming
 abbrev pub moving_of : Naming → ℕ → ℕ → Entries → List ℕ → ℕ → Moving
-moving_of n from blocks entries name b = record { dir = n.inode from; x = inode_by n from (Dir entries blocks); q = n.spot from name; entry = entry_of n name b }
+moving_of n from blocks entries name b = record { dir = n.inode from; directory = inode_by n from (Dir entries blocks); slot = n.spot from name; entry = entry_of n name b }
 
 -- the tree with the name moved
 pub moved_is : (tree : FileTree) (from fblocks : ℕ) (fentries : Entries) (name : List ℕ) (to blocks : ℕ) (entries : Entries) (new : List ℕ) (b : ℕ) → node_at tree from ≡ Some (Dir fentries fblocks) →
@@ -62,11 +62,11 @@ module _ (h : Hand) (s : Store) (tree : FileTree) (n : Naming) (of : IsOfTree s 
   mid = with_node tree from (Dir (without_entry fentries name) fblocks)
 
   abbrev t : Store
-  t = edited_all s (take_entry m.dir m.x m.q)
+  t = edited_all s (take_entry m.dir m.directory m.slot)
 
   first : IsStage t tree.segments (node_at mid) n
   first =
-      let r = loses s tree.segments (node_at tree) n (stage_of s tree n of) from fblocks m.x fentries (without_entry fentries name) name (has_inode s (node_at tree) n of.pictures from (Dir fentries fblocks) fis)
+      let r = loses s tree.segments (node_at tree) n (stage_of s tree n of) from fblocks m.directory fentries (without_entry fentries name) name (has_inode s (node_at tree) n of.pictures from (Dir fentries fblocks) fis)
       (names_go fentries name (of.well_formed.names from fentries fblocks fis) (ap is_some fhad)) in
       restage t tree.segments (put_node (node_at tree) from (Some (Dir (without_entry fentries name) fblocks))) (node_at mid) n r.0 (node_with tree from (Dir (without_entry fentries name) fblocks))
 
@@ -153,7 +153,7 @@ module _ (h : Hand) (s : Store) (tree : FileTree) (n : Naming) (of : IsOfTree s 
         where
           of_end : IsWellFormed (one_link_fewer end old (Some node)) → FinishMeets s (says (one_link_fewer end old (Some node)) reply.Ok) (moved_onto_by m (n.inode to) x new (n.spot to new) (n.inode old) (inode_by n old node) dirs)
           of_end well =
-              let takes = take_entry m.dir m.x m.q in
+              let takes = take_entry m.dir m.directory m.slot in
               let puts = replace_entry x (n.spot to new) (entry_of n new b) in
               let less = fewer (n.inode old) (inode_by n old node) in
               let edits : edited_all s (takes ++ puts ++ less) ≡ edited_all u less = edited_append s (takes ++ puts) less ∙ ap (λ z. edited_all z less) (edited_append s takes puts) in

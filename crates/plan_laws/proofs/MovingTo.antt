@@ -46,13 +46,13 @@ module _ (h : Hand) (s : Store) (tree : FileTree) (n : Naming) (of : IsOfTree s 
     renamed = Dir (with_entry (without_entry fentries name) new b) fblocks
 
     abbrev t : Store
-    t = edited_all s (replace_entry m.x m.q (entry_of n new b))
+    t = edited_all s (replace_entry m.directory m.slot (entry_of n new b))
 
     abbrev end : FileTree
     end = with_node (with_node tree from left) from renamed
 
     in_place : IsStage t tree.segments (put_node (node_at tree) from (Some renamed)) (named_at n from new (n.spot from name))
-    in_place = (replaces s tree.segments (node_at tree) n (stage_of s tree n of) from fblocks b m.x fentries (with_entry (without_entry fentries name) new b) name new (has_inode s (node_at tree) n of.pictures from (Dir fentries fblocks) fis)
+    in_place = (replaces s tree.segments (node_at tree) n (stage_of s tree n of) from fblocks b m.directory fentries (with_entry (without_entry fentries name) new b) name new (has_inode s (node_at tree) n of.pictures from (Dir fentries fblocks) fis)
         (names_move fentries name new b (of.well_formed.names from fentries fblocks fis) (ap is_some fhad) absent)).0
 
     same_nodes : (c : ℕ) → node_at end c ≡ put_node (node_at tree) from (Some renamed) c
@@ -112,15 +112,15 @@ module _ (h : Hand) (s : Store) (tree : FileTree) (n : Naming) (of : IsOfTree s 
           let at = put_node (node_at tree) to (Some more) in
           let r = enters s tree.segments (node_at tree) n (stage_of s tree n of) to b blocks entries (has_inode s (node_at tree) n of.pictures to (Dir entries blocks) is) new absent room takes in
           let k = r.naming in
-          let f = still s t (node_at tree) n k to from (Some more) (Dir fentries fblocks) m.x of.pictures r.stage.pictures r.others apart (has_inode s (node_at tree) n of.pictures from (Dir fentries fblocks) fis) in
+          let f = still s t (node_at tree) n k to from (Some more) (Dir fentries fblocks) m.directory of.pictures r.stage.pictures r.others apart (has_inode s (node_at tree) n of.pictures from (Dir fentries fblocks) fis) in
           let spot : k.spot from name ≡ n.spot from name = ap (λ g. g name) (r.others.spot from apart) in
-          let l = loses t tree.segments at k r.stage from fblocks m.x fentries (without_entry fentries name) name f.1 (names_go fentries name (of.well_formed.names from fentries fblocks fis) (ap is_some fhad)) in
-          let takes_name : take_entry (k.inode from) m.x (k.spot from name) ≡ take_entry m.dir m.x m.q = ap₂ (λ i q. take_entry i m.x q) f.0 spot in
-          let edits : edited_all s (entry ++ take_entry m.dir m.x m.q) ≡ edited_all t (take_entry (k.inode from) m.x (k.spot from name)) = edited_append s entry (take_entry m.dir m.x m.q) ∙ ap (edited_all t) (sym takes_name) in
+          let l = loses t tree.segments at k r.stage from fblocks m.directory fentries (without_entry fentries name) name f.1 (names_go fentries name (of.well_formed.names from fentries fblocks fis) (ap is_some fhad)) in
+          let takes_name : take_entry (k.inode from) m.directory (k.spot from name) ≡ take_entry m.dir m.directory m.slot = ap₂ (λ i q. take_entry i m.directory q) f.0 spot in
+          let edits : edited_all s (entry ++ take_entry m.dir m.directory m.slot) ≡ edited_all t (take_entry (k.inode from) m.directory (k.spot from name)) = edited_append s entry (take_entry m.dir m.directory m.slot) ∙ ap (edited_all t) (sym takes_name) in
           record {
             answer = refl;
             naming = k;
-            tree = subst (λ z. IsOfTree z last k) (sym edits) (of_stage (edited_all t (take_entry (k.inode from) m.x (k.spot from name))) tree.segments (put_node at from (Some left)) k last l.0 last_nodes well refl of.few);
+            tree = subst (λ z. IsOfTree z last k) (sym edits) (of_stage (edited_all t (take_entry (k.inode from) m.directory (k.spot from name))) tree.segments (put_node at from (Some left)) k last l.0 last_nodes well refl of.few);
           }
 
       room_case : (room : Room) → IsRoomFor h s tree n to entries blocks room → Meets h s (if lacks_block tree entries blocks then says tree reply.NoDirBlock else says last reply.Ok) (run (moving_in h m (n.inode to) x new dirs room) s)

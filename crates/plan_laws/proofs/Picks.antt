@@ -3,7 +3,7 @@ use Rattle.std.proofs.Common.{ℕ, ◌≡◌, ◌≢◌, ◌<◌, ◌≤◌, ◌
 use Rattle.std.proofs.lemmas.Bool.Decides.{nat_tests}
 use Rattle.std.specs.Option.{option_map}
 use Rattle.frang_base.specs.declared.bitmap.Bitmap.{Bitmap}
-use Rattle.cells.proofs.Basics.{of_gt, of_le}
+use Rattle.frang_base.proofs.Basics.{of_gt, of_le}
 use Rattle.sector_definitions.specs.Bitmaps.{inode_bit, block_state}
 use Rattle.tree_definitions.specs.Tree.{FileTree, inodes_full, blocks_full, count_of, small_blocks}
 use Rattle.disk_definitions.specs.Store.{Store, use_by, is_unused}

@@ -7,7 +7,7 @@ use Rattle.std.specs.Map.{keys_of}
 use Rattle.tree_definitions.specs.declared.node.Node.TheVariants.{Dir}
 use Rattle.tree_definitions.specs.Entries.{Entries, entry_at}
 use Rattle.tree_definitions.specs.Tree.{must_grow}
-use Rattle.cells.proofs.Basics.{of_le, of_gt}
+use Rattle.frang_base.proofs.Basics.{of_le, of_gt}
 use Rattle.tree_laws.proofs.Pairs.{name_exact}
 use Rattle.disk_definitions.specs.Store.{Store, StoredEntry}
 use Rattle.disk_definitions.specs.Naming.{Naming, Nodes, Pictures, find_in, room_in, first_blocks, entry_of, place_of, dir_place}

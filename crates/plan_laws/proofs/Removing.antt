@@ -27,7 +27,7 @@ use Rattle.plan_definitions.specs.Plans.{Hand, refused}
 use Rattle.plan_definitions.specs.Plans.Plan.{Finishes}
 use Rattle.plan_definitions.specs.NamePlans.{fewer, fewer_segments, finish_over, removed_by, unlinking_node, unlinking, removing_node, removing}
 use Rattle.plan_definitions.specs.Meets.{IsOfTree, FinishMeets, PlanMeets}
-use Rattle.plan_laws.specs.Planned.{UnlinkIsPlanned, RmdirIsPlanned}
+use Rattle.plan_laws.specs.NamesPlanned.{UnlinkIsPlanned, RmdirIsPlanned}
 use Rattle.plan_laws.proofs.Asking.{run-bind, run-segments}
 use Rattle.plan_laws.proofs.Cases.{inode_by, has_inode, by_spot}
 use Rattle.plan_laws.proofs.Refusing.{Meets, refuse_meets}

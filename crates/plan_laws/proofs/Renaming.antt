@@ -18,7 +18,7 @@ use Rattle.plan_definitions.specs.Plans.{Hand, Plan, refused}
 use Rattle.plan_definitions.specs.NamePlans.{Moving, goes_through as passes_moved, moving_onto, moving_to, renaming_to, renaming, plan_renamed}
 use Rattle.plan_definitions.specs.Meets.{IsOfTree, IsHandOf}
 use Rattle.plan_laws.specs.Walking.{Mirrors}
-use Rattle.plan_laws.specs.Planned.{RenameIsPlanned}
+use Rattle.plan_laws.specs.NamesPlanned.{RenameIsPlanned}
 use Rattle.plan_laws.proofs.Asking.{run-bind}
 use Rattle.plan_laws.proofs.Cases.{inode_by, by_spot}
 use Rattle.plan_laws.proofs.Refusing.{Meets, refuse_meets}

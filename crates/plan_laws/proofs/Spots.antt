@@ -6,7 +6,7 @@ use Rattle.tree_definitions.specs.declared.node.Node.{Node}
 use Rattle.tree_definitions.specs.declared.node.Node.TheVariants.{Dir, File, Link}
 use Rattle.tree_definitions.specs.Entries.{Entries, entry_at}
 use Rattle.tree_definitions.specs.Place.{Place, Nowhere, place_by, place_in, walked_by}
-use Rattle.cells.proofs.Basics.{of_lt}
+use Rattle.frang_base.proofs.Basics.{of_lt}
 use Rattle.tree_laws.proofs.Sameness.{text_sound, text_same}
 use Rattle.disk_definitions.specs.Store.{Store, StoredNode, StoredEntry}
 use Rattle.disk_definitions.specs.Naming.{Naming, Nodes, Pictures, find_in, room_in, first_blocks, inode_of, entry_of, place_of, dir_place}

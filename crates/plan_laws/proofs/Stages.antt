@@ -6,7 +6,7 @@ use Rattle.tree_definitions.specs.declared.node.Node.TheVariants.{Dir, File, Lin
 use Rattle.tree_definitions.specs.Entries.{Entries}
 use Rattle.tree_definitions.specs.Tree.{FileTree, node_at}
 use Rattle.tree_definitions.specs.Apply.{is_dir}
-use Rattle.cells.proofs.Basics.{at_put}
+use Rattle.frang_base.proofs.Basics.{at_put}
 use Rattle.tree_laws.specs.WellFormed.{IsWellFormed, put as put_node}
 use Rattle.tree_laws.proofs.Nodes.{each_but, put_same as node_same, put_other as node_other}
 use Rattle.tree_laws.proofs.Places.{dir_is_some}

@@ -15,14 +15,6 @@ use Rattle.plan_definitions.specs.Meets.{IsOfTree}
 use Rattle.plan_laws.proofs.Counting.{count_keys}
 use Rattle.plan_laws.proofs.Blocks.{IsBlockOf, count_blocks}
 
-same_blocks : (x : Node) → small_blocks x ≡ blocks_of (Some x)
-same_blocks (Dir entries blocks) = omega arith
-same_blocks (File cells links) = zero_more (small_blocks_of (length cells))
-  where
-    zero_more : (n : ℕ) → 0 + n ≡ n
-    zero_more n = omega arith
-same_blocks (Link target links) = refl
-
 free_if : (b : Bool) → is_unused (if b then Empty else Fresh) ≡ true
 free_if true = refl
 free_if false = refl
@@ -41,7 +33,7 @@ module _ (s : Store) (tree : FileTree) (n : Naming) (of : IsOfTree s tree n) whe
   taken k = not (is_unused (s.use_of k))
 
   owned_at : (b j : ℕ) (x : Node) → node_at tree b ≡ Some x → j < small_blocks x → j < blocks_of (node_at tree b)
-  owned_at b j x is l = rw is (subst (λ z. j < z) (same_blocks x) l)
+  owned_at b j x is l = rw is l
 
   use_at : (b j : ℕ) (x : Node) → node_at tree b ≡ Some x → j < small_blocks x → is_unused (s.use_of (n.block b j)) ≡ false
   use_at b j x is l =
@@ -61,7 +53,7 @@ module _ (s : Store) (tree : FileTree) (n : Naming) (of : IsOfTree s tree n) whe
       let r = of.pictures.owners k o.0 o.1 i in
       let some : is_some (node_at tree o.0) ≡ true = there (node_at tree o.0) o.1 r.1 in
       let x = a_some (node_at tree o.0) some in
-      record { birth = o.0; index = o.1; node = x.0; is = x.1; below = subst (λ z. o.1 < z) (sym (same_blocks x.0)) (subst (λ z. o.1 < blocks_of z) x.1 r.1); at = r.0 }
+      record { birth = o.0; index = o.1; node = x.0; is = x.1; below = subst (λ z. o.1 < blocks_of z) x.1 r.1; at = r.0 }
     where
       there : (x : Option Node) (j : ℕ) → j < blocks_of x → is_some x ≡ true
       there None j l = absurd (omega arith)

@@ -1,3 +1,5 @@
 pub mod Looking
 pub mod Walking
-pub mod Planned
+pub mod NamesPlanned
+pub mod FilesPlanned
+pub mod Locks

@@ -1,3 +1,11 @@
 pub mod AtHand
 pub mod Targets
 pub mod Stopping
+pub mod Below
+pub mod Needed
+pub mod Bounds
+pub mod Finding
+pub mod Leading
+pub mod Editing
+pub mod Ending
+pub mod Through

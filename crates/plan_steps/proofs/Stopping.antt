@@ -1,5 +1,5 @@
 -- What ends the search for a node or an inode ends each plan that goes on with it.
-use Rattle.std.proofs.Common.{◌≡◌, ◌==◌, ℕ, cond, eq-eqb, ne_eqb, Err, List, refl, sym, ap, ◌∙◌}
+use Rattle.std.proofs.Common.{◌≡◌, ◌==◌, ℕ, cond, eq-eqb, ne_eqb, Err, List, ap, ◌∙◌}
 use Rattle.disk_definitions.specs.Store.{StoredNode}
 use Rattle.pick_definitions.specs.Held.{Segments}
 use Rattle.plan_definitions.specs.Ask.{Ask, ReadInode}

@@ -1,5 +1,5 @@
 -- What the code's edits are in the definitions of changes.
-use Rattle.std.specs.Prelude.{ℕ, List, map, slice_index}
+use Rattle.std.specs.Prelude.{List, map, slice_index}
 use Rattle.std.specs.Option.{option_map}
 use Rattle.bitmap_block.specs.States.{state_number}
 use Rattle.disk_definitions.specs.Store.{use_by, stored, entered}

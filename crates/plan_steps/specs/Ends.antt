@@ -1,5 +1,5 @@
 -- How a plan over cached sectors ends, as the code has it. Its locks are the definitions' alone.
-use Rattle.std.specs.Prelude.{◌≡◌, ℕ, Result, Ok, Err, List, []}
+use Rattle.std.specs.Prelude.{◌≡◌, Result, Ok, Err, List, []}
 use Rattle.frang_base.specs.declared.reply.Reply.{Reply}
 use Rattle.store_changes.specs.Edits.{Edit}
 use Rattle.plan_definitions.specs.Plans.{Plan, Lock, Lacks as LacksSegments, Clears, Finishes}

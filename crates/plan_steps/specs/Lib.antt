@@ -1,3 +1,7 @@
 pub mod Targets
 pub mod Edits
 pub mod Ends
+pub mod Nodes
+pub mod Outcomes
+pub mod Rooms
+pub mod Spots

@@ -1,7 +1,11 @@
 // What an operation changes.
+ghost use Rattle.std.specs.Prelude.{◌≡◌, ◌++◌, ◌∷◌, [], OnOk};
+ghost use Rattle.plan_steps.specs.Edits.{edit_of, edits_of};
+
 use bitmap_block::BlockState;
-use frang_base::{Block, Reply};
+use frang_base::{Block, NoMemory, Reply};
 use sector_definitions::{DirEntry, Inode};
+use std::alloc::Global;
 
 /// The change of one thing of a disk. Blocks are numbered over all segments, small ones and large ones apart.
 #[derive(Debug, Drop)]
@@ -51,4 +55,25 @@ pub enum Edit {
 pub struct Outcome {
     pub reply: Reply,
     pub edits: Vec<Edit>,
+}
+
+impl Outcome {
+    /// An answer that changes nothing. It takes no memory.
+    pub fn unchanged(alloc: Global, reply: Reply) -> Self
+        ensures reply { result.reply ≡ reply }
+        ensures edits { result.edits.items ≡ [] }
+    {
+        Outcome {
+            reply,
+            edits: Vec::new(alloc),
+        }
+    }
+}
+
+/// Adds an edit at the end.
+pub fn push(edits: &mut Vec<Edit>, edit: Edit) -> Result<(), NoMemory>
+    ensures ok { OnOk result (edits_of edits.new.items ≡ edits_of edits.old.items ++ edit_of edit ∷ []) }
+{
+    edits.push(edit)?;
+    Ok(())
 }

@@ -11,8 +11,9 @@ pub enum Stop {
     Segments,
     /// This small block has to be cleared first.
     Clear { block: u32 },
-    /// The operation is answered with this reply, and changes nothing.
+    /// The operation is refused with this reply, and changes nothing.
     Refused(Reply),
+    /// The allocator has no memory left.
     NoMemory,
 }
 

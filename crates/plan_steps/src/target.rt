@@ -7,14 +7,10 @@ ghost use Rattle.plan_steps.specs.Targets.{FindsInode, FindsTarget, target_at, t
 
 use crate::stop::Stop;
 use dir_lookup::{Refusal, Spot, inode_at, walk_spot};
+use frang_base::limits::{KIND_DIRECTORY, ROOT_INODE};
 use frang_base::{Path, Reply};
 use meta_version::Sectors;
 use sector_definitions::Inode;
-
-// The inode and the kind of the root.
-const ROOT: u32 = 0;
-
-const DIRECTORY: u8 = 2;
 
 /// A node by its inode's number and its kind, as its entry has it.
 #[derive(Clone, Copy, Debug, PartialEq, Eq)]
@@ -40,8 +36,8 @@ fn target_at(spot: &Spot) -> Result<Target, Refusal>
 {
     match spot {
         Spot::AtRoot => Ok(Target {
-            inode: ROOT,
-            kind: DIRECTORY,
+            inode: ROOT_INODE,
+            kind: KIND_DIRECTORY,
         }),
         Spot::AtName { found, .. } => Ok(Target {
             inode: found.entry.inode,

@@ -5,8 +5,9 @@ ghost use Rattle.std.specs.List.{flat_map};
 ghost use Rattle.tree_definitions.specs.SaidLines.{hex_digit, hex_byte, spaced, bytes_text, run_point};
 
 use frang_base::{Name, NoMemory};
-use std::alloc::Global;
+use itoa::Buffer;
 
+/// Adds words as they are. After `NoMemory` nothing was added.
 pub fn write_words(words: &[u8], to: &mut Vec<u8>) -> Result<(), NoMemory>
     ensures { OnOk result (to.new.items ≡ to.old.items ++ words.now) }
 {
@@ -14,15 +15,15 @@ pub fn write_words(words: &[u8], to: &mut Vec<u8>) -> Result<(), NoMemory>
     Ok(())
 }
 
-pub fn write_number(alloc: Global, n: u64, to: &mut Vec<u8>) -> Result<(), NoMemory>
+/// Adds a number in decimal digits. After `NoMemory` nothing was added.
+pub fn write_number(n: u64, to: &mut Vec<u8>) -> Result<(), NoMemory>
     ensures { OnOk result (to.new.items ≡ to.old.items ++ decimal n) }
 {
-    let text = format!(in alloc; "{n}")?;
-    to.extend_from_slice(text.as_bytes())?;
+    to.extend_from_slice(Buffer::new().format(n).as_bytes())?;
     Ok(())
 }
 
-// A blank, and then words.
+/// Adds a blank, and then words. After `NoMemory` a blank may stand at the end.
 pub fn write_after_blank(words: &[u8], to: &mut Vec<u8>) -> Result<(), NoMemory>
     ensures { OnOk result (to.new.items ≡ to.old.items ++ spaced words.now) }
 {
@@ -31,30 +32,30 @@ pub fn write_after_blank(words: &[u8], to: &mut Vec<u8>) -> Result<(), NoMemory>
     Ok(())
 }
 
-// A blank, and then a number.
-pub fn write_count(alloc: Global, n: u32, to: &mut Vec<u8>) -> Result<(), NoMemory>
+/// Adds a blank, and then a number. After `NoMemory` a blank may stand at the end.
+pub fn write_count(n: u32, to: &mut Vec<u8>) -> Result<(), NoMemory>
     ensures { OnOk result (to.new.items ≡ to.old.items ++ spaced (decimal n)) }
 {
     to.push(b' ')?;
-    write_number(alloc, u64::from(n), to)
+    write_number(u64::from(n), to)
 }
 
 // Words, and then a number.
-pub fn write_numbered(alloc: Global, words: &[u8], n: u32, to: &mut Vec<u8>) -> Result<(), NoMemory>
+pub fn write_numbered(words: &[u8], n: u32, to: &mut Vec<u8>) -> Result<(), NoMemory>
     ensures { OnOk result (to.new.items ≡ to.old.items ++ (words.now ++ decimal n)) }
 {
     write_words(words, to)?;
-    write_number(alloc, u64::from(n), to)
+    write_number(u64::from(n), to)
 }
 
 // A run, and a line or a tick of it.
 #[tactic(auto, unfolding(tree_definitions::specs::SaidLines::run_point))]
-pub fn write_point(alloc: Global, run: u64, n: u64, to: &mut Vec<u8>) -> Result<(), NoMemory>
+pub fn write_point(run: u64, n: u64, to: &mut Vec<u8>) -> Result<(), NoMemory>
     ensures { OnOk result (to.new.items ≡ to.old.items ++ run_point run n) }
 {
-    write_number(alloc, run, to)?;
+    write_number(run, to)?;
     to.push(b'.')?;
-    write_number(alloc, n, to)
+    write_number(n, to)
 }
 
 fn hex_digit(d: u8) -> u8
@@ -64,7 +65,8 @@ fn hex_digit(d: u8) -> u8
     if d < 10 { b'0' + d } else { b'a' - 10 + d }
 }
 
-fn write_hex(bytes: &[u8], to: &mut Vec<u8>) -> Result<(), NoMemory>
+/// Adds bytes by two lower-case hexadecimal digits each. After `NoMemory` some of the digits may stand at the end.
+pub fn write_hex(bytes: &[u8], to: &mut Vec<u8>) -> Result<(), NoMemory>
     ensures { OnOk result (to.new.items ≡ to.old.items ++ flat_map hex_byte bytes.now) }
 {
     for byte in bytes {

@@ -3,22 +3,15 @@
 ghost use Rattle.std.specs.Prelude.{◌≡◌, ◌==◌, ◌<◌, IfOk, IfSome};
 ghost use Rattle.std.specs.Option.{option_copied};
 ghost use Rattle.std.specs.List.{list_all, slice_split};
-ghost use Rattle.frang_base.specs.Name.{is_name};
+ghost use Rattle.frang_base.specs.Name.{is_name, is_target_byte, is_target};
 ghost use Rattle.frang_base.specs.PathText.{parts_left};
 ghost use Rattle.script_definitions.specs.Numerals.{number_in, count_at};
-ghost use Rattle.script_definitions.specs.SaidReading.{is_end, sole_part, sole, some_bytes, two_counts, server_at, who_at, log_at, point_at, op_at, hex_value, byte_at, hex_bytes, names_of, is_target_byte, is_target, is_path_text};
+ghost use Rattle.script_definitions.specs.SaidReading.{is_end, sole_part, sole, some_bytes, two_counts, server_at, who_at, log_at, point_at, op_at, hex_value, byte_at, hex_bytes, names_of, is_path_text};
 
+use frang_base::limits::{LOGS, SERVERS, TARGET_BYTES_MAX};
 use frang_base::{Name, NameList, NoMemory, OpNo, ServerId, Text, cut};
 use script_definitions::{count, number_within};
 use std::alloc::Global;
-
-const SERVER_MAX: u8 = 15;
-
-const LOG_MAX: u8 = 255;
-
-const TARGET_BYTES_MAX: usize = 384;
-// An operation number is its run times this, plus its line.
-const LINES_OF_A_RUN: u64 = 1 << 32;
 
 // Whether no part is left.
 #[tactic(auto, using(script_definitions::proofs::PartsLaws::end_of_split))]
@@ -59,7 +52,7 @@ fn byte_within(part: &[u8], high: u8) -> Option<u8>
 pub fn server(part: &[u8]) -> Option<ServerId>
     ensures { result ≡ server_at part.now }
 {
-    Some(ServerId(byte_within(part, SERVER_MAX)?))
+    Some(ServerId(byte_within(part, (SERVERS - 1) as u8)?))
 }
 
 // A server, or `-` for the host.
@@ -75,7 +68,7 @@ pub fn who(part: &[u8]) -> Option<ServerId>
 pub fn log(part: &[u8]) -> Option<ServerId>
     ensures { result ≡ log_at part.now }
 {
-    Some(ServerId(byte_within(part, LOG_MAX)?))
+    Some(ServerId(byte_within(part, (LOGS - 1) as u8)?))
 }
 
 // Two counts with a dot between them.
@@ -89,7 +82,7 @@ pub fn op_number(part: &[u8]) -> Option<OpNo>
     ensures { result ≡ op_at part.now }
 {
     let (run, line) = point(part)?;
-    Some(OpNo(u64::from(run) * LINES_OF_A_RUN + u64::from(line)))
+    Some(OpNo::of(run, line))
 }
 
 fn hex_value(digit: u8) -> Option<u8>
@@ -177,6 +170,7 @@ fn are_target_bytes(text: &[u8]) -> bool
     text.iter().all(|byte| *byte > b' ' && *byte != 127)
 }
 
+/// Whether a text is one that a symbolic link may have as its target.
 pub fn is_target(text: &[u8]) -> bool
     ensures { result ≡ is_target text.now }
 {

@@ -6,7 +6,6 @@ use crate::number::{
     write_after_blank, write_bytes, write_count, write_names, write_point, write_words,
 };
 use frang_base::{NoMemory, Reply};
-use std::alloc::Global;
 
 /// The first words of a reply, before its numbers, names or bytes.
 pub fn reply_word(reply: &Reply) -> &'static [u8]
@@ -45,32 +44,32 @@ pub fn reply_word(reply: &Reply) -> &'static [u8]
 }
 
 // What follows the first words.
-fn write_contents(alloc: Global, reply: &Reply, to: &mut Vec<u8>) -> Result<(), NoMemory>
+fn write_contents(reply: &Reply, to: &mut Vec<u8>) -> Result<(), NoMemory>
     ensures { OnOk result (to.new.items ≡ to.old.items ++ contents_text reply.now) }
 {
     match reply {
         Reply::Shown(bytes) => write_bytes(bytes.as_slice(), to),
         Reply::File { size, links } => {
-            write_count(alloc, *size, to)?;
-            write_count(alloc, *links, to)
+            write_count(*size, to)?;
+            write_count(*links, to)
         }
-        Reply::Dir { entries } => write_count(alloc, *entries, to),
-        Reply::Symlink { len } => write_count(alloc, *len, to),
+        Reply::Dir { entries } => write_count(*entries, to),
+        Reply::Symlink { len } => write_count(*len, to),
         Reply::Names(names) => write_names(names.as_slice(), to),
         Reply::Target(target) => write_after_blank(target.as_slice(), to),
         Reply::Time { run, tick } => {
             to.push(b' ')?;
-            write_point(alloc, u64::from(*run), u64::from(*tick), to)
+            write_point(u64::from(*run), u64::from(*tick), to)
         }
-        Reply::NoBlock { m } => write_count(alloc, *m, to),
+        Reply::NoBlock { m } => write_count(*m, to),
         _ => Ok(()),
     }
 }
 
 // Adds a reply.
-pub fn write_reply(alloc: Global, reply: &Reply, to: &mut Vec<u8>) -> Result<(), NoMemory>
+pub fn write_reply(reply: &Reply, to: &mut Vec<u8>) -> Result<(), NoMemory>
     ensures { OnOk result (to.new.items ≡ to.old.items ++ reply_text reply.now) }
 {
     write_words(reply_word(reply), to)?;
-    write_contents(alloc, reply, to)
+    write_contents(reply, to)
 }

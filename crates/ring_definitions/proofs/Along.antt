@@ -2,7 +2,7 @@
 use Rattle.std.proofs.Common.{◌≡◌, ℕ, zero, suc, ◌+◌, ◌<◌, Some, List, [], ◌∷◌, ◌++◌, length, take, map, sym, ◌∙◌, subst, arith}
 use Rattle.std.specs.List.{slice_get}
 use Rattle.std.proofs.lemmas.List.{map-append, length-map}
-use Rattle.cells.proofs.Basics.{some_same}
+use Rattle.frang_base.proofs.Basics.{some_same}
 use Rattle.tree_definitions.specs.Numbers.{below}
 use Rattle.sector_definitions.proofs.Lists.{length_below}
 

@@ -10,7 +10,7 @@ use Rattle.log_definitions.proofs.EndLaws.{numbered_of, slot_of_number, sealed_n
 use Rattle.log_definitions.proofs.ReadingLaws.{length-sectors_read, sector_read_at}
 use Rattle.ring_definitions.specs.RingRuns.{log_at}
 use Rattle.ring_definitions.proofs.Standing.{IsFlown, IsStanding}
-use Rattle.ring_definitions.proofs.Good.{IsHeld, IsGood}
+use Rattle.ring_definitions.proofs.Good.{IsGood}
 
 module _ (slots : Slots) (low : 255 ≤ log_end slots) (high : log_end slots < 2 ^ 62) (sealed : is_sealed slots ≡ true) where
   abbrev pub end : ℕ
@@ -76,28 +76,32 @@ module _ (slots : Slots) (low : 255 ≤ log_end slots) (high : log_end slots < 2
 
   pub good_first : IsGood end before (log_at slots)
   good_first = record {
+    rest = [];
     standing = standing_first (end + 0) (nothing end);
     flags = tt;
-    follow = tt;
+    packed = tt;
+    laid = (refl, refl);
     ends = twice end;
     bound = small end high;
-    waiting = rest end;
-    edge = refl;
-    named = All-nil (IsHeld end end []);
+    waiting = none end;
+    given = same end;
     kept = near end;
   }
     where
       nothing : (n : ℕ) → n + 0 ≡ n
       nothing n = omega arith
 
-      twice : (n : ℕ) → n + 0 + 0 ≡ n
+      twice : (n : ℕ) → n + 0 + 0 ≡ n + 0
       twice n = omega arith
 
       small : (n : ℕ) → n < 2 ^ 62 → n + 0 + 0 < 2 ^ 63
       small n h = omega arith
 
+      same : (n : ℕ) → n ≤ n + 0
+      same n = omega arith
+
       near : (n : ℕ) → n + 0 + 0 ≤ n + 192
       near n = omega arith
 
-      rest : (n : ℕ) → [] ≡ drop {A = LogSector} (n + 0 - n) []
-      rest n = let z : n + 0 - n ≡ 0 = omega arith in sym (ap (λ k. drop {A = LogSector} k []) z)
+      none : (n : ℕ) → [] ≡ drop {A = LogSector} (n + 0 - n) []
+      none n = let z : n + 0 - n ≡ 0 = omega arith in sym (ap (λ k. drop {A = LogSector} k []) z)

@@ -1,5 +1,5 @@
 -- The end of the log of a ring: an issued number, not below the acknowledged ones, and no greater number stands.
-use Rattle.std.proofs.Common.{◌≡◌, ℕ, ◌+◌, ◌-◌, ◌%◌, ◌<◌, ◌≤◌, true, false, is_some, Option, Some, None, List, ◌++◌, length, refl, sym, ◌∙◌, subst, arith, nat_le}
+use Rattle.std.proofs.Common.{◌≡◌, ℕ, ◌+◌, ◌-◌, ◌%◌, ◌<◌, ◌≤◌, true, false, is_some, Option, Some, None, List, ◌++◌, length, refl, sym, ap, ◌∙◌, subst, arith, nat_le}
 use Rattle.std.specs.List.{slice_get, list_all}
 use Rattle.std.proofs.lemmas.Bool.{false_from_ne_true}
 use Rattle.sector_definitions.specs.declared.log_sector.LogSector.{LogSector}
@@ -8,9 +8,10 @@ use Rattle.log_definitions.specs.Logs.{Slots, sector_numbered, stands, is_end, n
 use Rattle.log_definitions.proofs.EndLaws.{numbered_is, sector_of_number, end_from, end_stands, end_is_below, log_end_is_one, all_numbers_below}
 use Rattle.ring_definitions.specs.Rings.{sent}
 use Rattle.ring_definitions.specs.RingRuns.{LogState, EndsWithin}
-use Rattle.ring_definitions.proofs.Shown.{not_past}
+use Rattle.ring_definitions.proofs.Shown.{not_past, got_behind}
+use Rattle.ring_definitions.proofs.Along.{along_at}
+use Rattle.ring_definitions.proofs.Packed.{IsPacked}
 use Rattle.ring_definitions.proofs.Standing.{flies, found_flying, IsFlown, IsStanding}
-use Rattle.ring_definitions.proofs.PlacedRecords.{sectors_of}
 use Rattle.ring_definitions.proofs.Good.{IsGood}
 
 module _ (a : ℕ) (all : List LogSector) (slots : Slots) (flying : List LogSector) (reached issued : ℕ) (s : IsStanding a all slots flying reached issued) where
@@ -93,11 +94,22 @@ module _ (a : ℕ) (all : List LogSector) (slots : Slots) (flying : List LogSect
           let no : Some x.0 ≡ None = sym x.1 ∙ none in
           cc
 
-pub ends_within : (end : ℕ) (before : List LogSector) (w : LogState) → IsGood end before w → EndsWithin w
-ends_within end before w g = record {
-  not_below = not_below (end - 191) (before ++ sectors_of end w.placed) w.slots w.flying w.ring.reached (sent w.ring) g.standing;
-  not_above = not_above (end - 191) (before ++ sectors_of end w.placed) w.slots w.flying w.ring.reached (sent w.ring) g.standing;
-  numbers = all_issued (end - 191) (before ++ sectors_of end w.placed) w.slots w.flying w.ring.reached (sent w.ring) g.standing;
+-- the numbers of the sectors that wait follow those that are issued
+waiting_follow : (end : ℕ) (before : List LogSector) (w : LogState) → 255 ≤ end → IsGood end before w → (k : ℕ) (x : LogSector) → slice_get w.ring.waiting k ≡ Some x → x.seq ≡ sent w.ring + 1 + k
+waiting_follow end before w low g k x e =
+    (along_at IsPacked (end + 1) g.rest (sent w.ring - end + k) x g.packed (sym (got_behind (sent w.ring - end) g.rest k) ∙ ap (λ xs. slice_get xs k) (sym g.waiting) ∙ e)).seq
+    ∙ at (sent w.ring) w.ring.reached g.standing.low g.standing.order
+  where
+    at : (s r : ℕ) → end - 191 + 191 ≤ r → r ≤ s → end + 1 + (s - end + k) ≡ s + 1 + k
+    at s r h l = omega arith
+
+pub ends_within : (end : ℕ) (before : List LogSector) (w : LogState) → 255 ≤ end → IsGood end before w → EndsWithin w
+ends_within end before w low g = record {
+  not_below = not_below (end - 191) (before ++ g.rest) w.slots w.flying w.ring.reached (sent w.ring) g.standing;
+  not_above = not_above (end - 191) (before ++ g.rest) w.slots w.flying w.ring.reached (sent w.ring) g.standing;
+  numbers = all_issued (end - 191) (before ++ g.rest) w.slots w.flying w.ring.reached (sent w.ring) g.standing;
   window = g.standing.window;
   kept = g.kept;
+  given = g.given;
+  waits = waiting_follow end before w low g;
 }

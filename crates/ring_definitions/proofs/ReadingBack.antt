@@ -1,18 +1,17 @@
 -- What the log of a ring reads as: the records before it and those appended up to the log's end, without some of the first.
-use Rattle.std.proofs.Common.{◌≡◌, ℕ, zero, suc, ◌+◌, ◌-◌, ◌<◌, ◌≤◌, ⊎_elim, true, List, ◌++◌, length, take, drop, map, refl, sym, ap, ◌∙◌, subst, arith, length-append}
+use Rattle.std.proofs.Common.{◌≡◌, ℕ, zero, suc, ◌+◌, ◌-◌, ◌<◌, ◌≤◌, ⊎_elim, max, true, List, [], ◌++◌, length, take, drop, map, refl, sym, ap, ◌∙◌, subst, arith, length-append}
 use Rattle.std.specs.List.{slice_get}
 use Rattle.std.proofs.Math.Seq.{take-append-add}
 use Rattle.std.proofs.lemmas.Bool.{cases_lt}
 use Rattle.std.proofs.lemmas.List.{take-map, drop-take}
 use Rattle.sector_definitions.specs.declared.log_sector.LogSector.{LogSector}
 use Rattle.log_definitions.specs.Logs.{Slots, sector_numbered, window, log_end, sectors_read, records_among}
-use Rattle.log_definitions.proofs.ReadingLaws.{begun, begun_more, begun-append, starts_anew, records_among-drop, records_among-append}
+use Rattle.log_definitions.proofs.ReadingLaws.{begun, begun_more, begun-append, begun_behind, starts_anew, records_among-drop, records_among-append}
 use Rattle.ring_definitions.specs.Rings.{sent}
 use Rattle.ring_definitions.specs.RingRuns.{Placed, LogState, ReadsBack}
 use Rattle.ring_definitions.proofs.Shown.{given, read_run}
-use Rattle.ring_definitions.proofs.OneRecord.{begun_behind}
-use Rattle.ring_definitions.proofs.PlacedRecords.{sectors_of, Follow, last_placed, IsEdge, up_to, redo_of, length-sectors_of}
-use Rattle.ring_definitions.proofs.PlacedReads.{placed_start, up_to_first, up_to_grows, read_placed, begun_placed}
+use Rattle.ring_definitions.proofs.Laid.{IsLaid}
+use Rattle.ring_definitions.proofs.LaidReads.{redo_of, up_to, begun_by, up_to_first, up_to_grows, laid_rising, laid_start, read_laid, begun_laid}
 use Rattle.ring_definitions.proofs.Good.{IsGood}
 use Rattle.ring_definitions.proofs.Ending.{not_below, not_above, end_sectors}
 
@@ -55,38 +54,35 @@ sectors_up_to end before rest slots e size low more within each =
 
 -- ---- the records
 
-module _ (end : ℕ) (before : List LogSector) (placed : List Placed) (follow : Follow end placed) where
-  abbrev rest : List LogSector
-  rest = sectors_of end placed
-
+module _ (end : ℕ) (before rest : List LogSector) (placed : List Placed) (laid : IsLaid end [] end rest placed) where
   -- of the sectors up to a number
   records_up_to : (j : ℕ) → records_among (before ++ take j rest) ≡ records_among before ++ map redo_of (up_to (end + j) placed)
-  records_up_to j = records_among-append before (take j rest) (placed_start end j placed follow) ∙ ap (λ rs. records_among before ++ rs) (read_placed end j placed follow)
+  records_up_to j = records_among-append before (take j rest) (laid_start end end j rest placed laid) ∙ ap (λ rs. records_among before ++ rs) (read_laid end end j [] rest placed laid)
 
   -- those are a prefix of all
   prefix_of_all : (j : ℕ) → records_among before ++ map redo_of (up_to (end + j) placed) ≡ take (length (records_among before) + length (up_to (end + j) placed)) (records_among before ++ map redo_of placed)
   prefix_of_all j =
-      ap (λ rs. records_among before ++ rs) (ap (map redo_of) (up_to_first (end + j) end placed follow) ∙ sym (take-map redo_of (length (up_to (end + j) placed)) placed))
+      ap (λ rs. records_among before ++ rs) (ap (map redo_of) (up_to_first (end + j) (max (end + 1) end) placed (laid_rising end end [] rest placed laid)) ∙ sym (take-map redo_of (length (up_to (end + j) placed)) placed))
       ∙ sym (take-append-add (records_among before) (map redo_of placed) (length (up_to (end + j) placed)))
 
   -- of the first sectors no more begin than were before and are given up
-  begun_up_to : (j n : ℕ) → length before ≡ 192 → IsEdge n end placed → end + j ≤ n + 192 → begun (before ++ take j rest) j ≤ length (records_among before) + length (up_to n placed)
-  begun_up_to j n size edge near = ⊎_elim few many (cases_lt (length before) j)
+  begun_up_to : (j n : ℕ) → length before ≡ 192 → end + j ≤ n + 192 → begun (before ++ take j rest) j ≤ length (records_among before) + length (begun_by n placed)
+  begun_up_to j n size near = ⊎_elim few many (cases_lt (length before) j)
     where
       starts : starts_anew (take j rest) ≡ true
-      starts = placed_start end j placed follow
+      starts = laid_start end end j rest placed laid
 
-      many : j ≤ length before → begun (before ++ take j rest) j ≤ length (records_among before) + length (up_to n placed)
+      many : j ≤ length before → begun (before ++ take j rest) j ≤ length (records_among before) + length (begun_by n placed)
       many h =
           let a : begun (before ++ take j rest) j ≤ begun (before ++ take j rest) (length before) = begun_more (before ++ take j rest) j (length before) h in
           let b : begun (before ++ take j rest) (length before) ≡ length (records_among before) = begun-append before (take j rest) starts in
           omega arith
 
-      few : length before < j → begun (before ++ take j rest) j ≤ length (records_among before) + length (up_to n placed)
+      few : length before < j → begun (before ++ take j rest) j ≤ length (records_among before) + length (begun_by n placed)
       few h =
           let split : j ≡ length before + (j - length before) = omega arith in
           let a : begun (before ++ take j rest) j ≡ length (records_among before) + begun (take j rest) (j - length before) = ap (begun (before ++ take j rest)) split ∙ begun_behind before (take j rest) (j - length before) starts in
-          let b : begun (take j rest) (j - length before) ≤ length (up_to n placed) = begun_placed end j (j - length before) n placed follow edge (behind (length before) size h) in
+          let b : begun (take j rest) (j - length before) ≤ length (begun_by n placed) = begun_laid end end j (j - length before) n [] rest placed laid (behind (length before) size h) in
           omega arith
         where
           behind : (b : ℕ) → b ≡ 192 → b < j → end + (j - b) ≤ n
@@ -100,7 +96,7 @@ module _ (slots : Slots) (w : LogState) (low : 255 ≤ log_end slots) (size : le
   before = sectors_read slots end
 
   abbrev all : List LogSector
-  all = sectors_of end w.placed
+  all = g.rest
 
   abbrev e : ℕ
   e = log_end w.slots
@@ -128,10 +124,10 @@ module _ (slots : Slots) (w : LogState) (low : 255 ≤ log_end slots) (size : le
       at m e h = omega arith
 
   within : e ≤ end + length all
-  within = at e (sent w.ring) (length w.ring.waiting) (last_placed end w.placed) (end + length all) sent_above g.ends (length-sectors_of end w.placed g.follow)
+  within = at e (sent w.ring) (length w.ring.waiting) (end + length all) sent_above g.ends
     where
-      at : (e s a l m : ℕ) → e ≤ s → s + a ≡ l → m ≡ l → e ≤ m
-      at e s a l m h k f = omega arith
+      at : (e s a m : ℕ) → e ≤ s → s + a ≡ m → e ≤ m
+      at e s a m h k = omega arith
 
   near : end + gone_on ≤ w.ring.given_up + 192
   near = at (end + gone_on) e (sent w.ring) (length w.ring.waiting) (w.ring.given_up + 192) whole sent_above g.kept
@@ -148,10 +144,10 @@ module _ (slots : Slots) (w : LogState) (low : 255 ≤ log_end slots) (size : le
     missing = begun (before ++ take gone_on all) gone_on;
     reads =
         ap records_among sectors_are ∙ records_among-drop gone_on (before ++ take gone_on all)
-        ∙ ap (drop (begun (before ++ take gone_on all) gone_on)) (records_up_to end before w.placed g.follow gone_on ∙ prefix_of_all end before w.placed g.follow gone_on);
+        ∙ ap (drop (begun (before ++ take gone_on all) gone_on)) (records_up_to end before all w.placed g.laid gone_on ∙ prefix_of_all end before all w.placed g.laid gone_on);
     reached = at (length (records_among before)) (length (up_to w.ring.reached w.placed)) (length (up_to (end + gone_on) w.placed))
         (up_to_grows w.ring.reached (end + gone_on) w.placed (subst (λ n. w.ring.reached ≤ n) (sym whole) reached_below));
-    given_up = begun_up_to end before w.placed g.follow gone_on w.ring.given_up size g.edge near;
+    given_up = begun_up_to end before all w.placed g.laid gone_on w.ring.given_up size near;
   }
     where
       at : (a b c : ℕ) → b ≤ c → a + b ≤ a + c

@@ -5,7 +5,7 @@ use Rattle.std.proofs.lemmas.Bool.{cases_eq, both_ways, or_cases, eqb-true, eq-e
 use Rattle.std.proofs.lemmas.List.Elements.{All-head, All-tail, All-push, All-weaker, All-filter}
 use Rattle.std.proofs.lemmas.List.Folds.{list_any_at}
 use Rattle.std.proofs.lemmas.Option.{slice_get_within}
-use Rattle.cells.proofs.Basics.{some_same}
+use Rattle.frang_base.proofs.Basics.{some_same}
 use Rattle.sector_definitions.specs.declared.log_sector.LogSector.{LogSector}
 use Rattle.sector_definitions.specs.LogSectors.{log_sector_bytes, log_sector_in}
 use Rattle.log_definitions.specs.Logs.{Slots, numbered, sector_numbered}
@@ -51,28 +51,26 @@ not_numbered n (Some x) h = cond-false (x.seq == n) (Some x) None (ne_eqb x.seq 
 numbered_own : (x : LogSector) → numbered x.seq (Some x) ≡ Some x
 numbered_own x = cond-true (x.seq == x.seq) (Some x) None (eq-eqb x.seq x.seq refl)
 
--- ---- the list of all grows
+-- ---- sectors that aren't issued become others
 
-longer_flown : (a : ℕ) (all more : List LogSector) (reached sent : ℕ) (x : LogSector) → IsFlown a all reached sent x → IsFlown a (all ++ more) reached sent x
-longer_flown a all more reached sent x f = record { low = f.low; high = f.high; same = before_end all more (x.seq - a) (slice_get_within all (x.seq - a) x f.same) ∙ f.same; reads = f.reads }
+module _ (a : ℕ) (all other : List LogSector) (reached sent : ℕ) (same : (k : ℕ) → k ≤ sent - a → slice_get other k ≡ slice_get all k) where
+  within : (n : ℕ) → n ≤ sent → n - a ≤ sent - a
+  within n h = omega arith
 
-pub longer : (a : ℕ) (all more : List LogSector) (slots : Slots) (flying : List LogSector) (reached sent : ℕ) → IsStanding a all slots flying reached sent → IsStanding a (all ++ more) slots flying reached sent
-longer a all more slots flying reached sent s = record {
-  low = s.low;
-  order = s.order;
-  window = s.window;
-  known = within (length all) (length more) (length (all ++ more)) (length-append all more) s.known;
-  flown = All-weaker (IsFlown a all reached sent) (IsFlown a (all ++ more) reached sent) (longer_flown a all more reached sent) flying s.flown;
-  gone = s.gone;
-  there = λ n l h f. s.there n l h f ∙ sym (before_end all more (n - a) (place n (length all) l h s.low s.known));
-  numbers = s.numbers;
-}
-  where
-    within : (l m k : ℕ) → k ≡ l + m → sent < a + l → sent < a + k
-    within l m k e h = omega arith
+  other_flown : (x : LogSector) → IsFlown a all reached sent x → IsFlown a other reached sent x
+  other_flown x f = record { low = f.low; high = f.high; same = same (x.seq - a) (within x.seq f.high) ∙ f.same; reads = f.reads }
 
-    place : (n l : ℕ) → reached < n + 192 → n ≤ sent → a + 191 ≤ reached → sent < a + l → n - a < l
-    place n l g h low known = omega arith
+  pub with_others : (slots : Slots) (flying : List LogSector) → sent < a + length other → IsStanding a all slots flying reached sent → IsStanding a other slots flying reached sent
+  with_others slots flying known s = record {
+    low = s.low;
+    order = s.order;
+    window = s.window;
+    known = known;
+    flown = All-weaker (IsFlown a all reached sent) (IsFlown a other reached sent) other_flown flying s.flown;
+    gone = s.gone;
+    there = λ n l h f. s.there n l h f ∙ sym (same (n - a) (within n h));
+    numbers = s.numbers;
+  }
 
 -- ---- a sector is issued
 

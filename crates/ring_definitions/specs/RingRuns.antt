@@ -1,15 +1,16 @@
 -- Every run of calls on a ring over a disk that takes the issued sectors in any order, or never; and what its log then reads as.
-use Rattle.std.specs.Prelude.{◌≡◌, ◌≤◌, ◌<◌, ℕ, ◌+◌, ◌-◌, ◌^◌, Bool, true, not, ◌&&◌, ◌==◌, if◌then◌else◌, nat_le, nat_lt, List, [], ◌∷◌, ◌++◌, length, take, drop, map, IsTrue}
-use Rattle.std.specs.List.{list_all, list_any, filter}
+use Rattle.std.specs.Prelude.{◌≡◌, ◌≤◌, ◌<◌, ℕ, ◌+◌, ◌-◌, ◌^◌, Bool, true, not, ◌&&◌, ◌==◌, if◌then◌else◌, nat_le, nat_lt, Some, List, [], ◌∷◌, ◌++◌, length, take, drop, map, IsTrue}
+use Rattle.std.specs.List.{list_all, list_any, filter, slice_get}
 use Rattle.sector_definitions.specs.declared.log_sector.LogSector.{LogSector}
-use Rattle.log_definitions.specs.declared.redo.Redo.{Redo}
+use Rattle.frang_base.specs.declared.change.Redo.{Redo}
 use Rattle.log_definitions.specs.Logs.{Slots, numbers_in, log_end, log_records, is_sealed}
 use Rattle.log_definitions.specs.Arriving.{with_sector}
-use Rattle.ring_definitions.specs.Rings.{Ring, ring_at, is_record, sectors_needed, sent, last, free, appended, issued, acked, reclaimed}
+use Rattle.ring_definitions.specs.Rings.{Ring, ring_at, is_record, need, begins, sent, last, free, appended, issued, acked, reclaimed}
 
--- a record of the ring, with its last number
+-- a record of the ring, with the numbers of the sectors in which it begins and ends
 pub record Placed : Type 0 where
   pub redo : Redo
+  pub first : ℕ
   pub last : ℕ
 
 -- the slots of the log on the disk, the ring, the sectors that are issued and didn't arrive, and all records that were appended, the oldest first
@@ -41,7 +42,7 @@ is_flying w number = list_any (is_numbered number) w.flying
 -- what may happen: a record that fits and finds room; the issue of a sector that waits, no more than 64 past the acknowledged ones; the arrival of one
 -- on its way; an acknowledgement of one that was issued and arrived
 abbrev pub may_happen : LogState → LogEvent → Bool
-may_happen w (Append redo) = is_record redo && nat_le (sectors_needed redo) (free w.ring) && nat_lt (last w.ring) (2 ^ 63 - 16)
+may_happen w (Append redo) = is_record redo && nat_le (need w.ring redo) (free w.ring) && nat_lt (last w.ring) (2 ^ 63 - 16)
 may_happen w Issue = nat_lt 0 (length w.ring.waiting) && nat_lt (length w.ring.above) 64
 may_happen w (Arrive number) = is_flying w number
 may_happen w (Acknowledge number) = nat_le number (sent w.ring) && not (is_flying w number)
@@ -54,7 +55,7 @@ with_arrived number slots (x ∷ xs) = with_arrived number (if is_numbered numbe
 
 -- after it
 abbrev pub after_log_event : LogState → LogEvent → LogState
-after_log_event w (Append redo) = record w { ring = appended w.ring redo; placed = w.placed ++ record { redo = redo; last = last w.ring + sectors_needed redo } ∷ [] }
+after_log_event w (Append redo) = record w { ring = appended w.ring redo; placed = w.placed ++ record { redo = redo; first = begins w.ring; last = last w.ring + need w.ring redo } ∷ [] }
 after_log_event w Issue = record w { ring = issued w.ring; flying = w.flying ++ take 1 w.ring.waiting }
 after_log_event w (Arrive number) = record w { slots = with_arrived number w.slots w.flying; flying = filter (λ x. not (is_numbered number x)) w.flying }
 after_log_event w (Acknowledge number) = record w { ring = acked w.ring number }
@@ -73,6 +74,10 @@ after_log_events w (e ∷ es) = after_log_events (after_log_event w e) es
 abbrev pub placed_up_to : ℕ → LogState → List Placed
 placed_up_to number w = filter (λ p. nat_le p.last number) w.placed
 
+-- the records that begin at this number or before it
+abbrev pub placed_from : ℕ → LogState → List Placed
+placed_from number w = filter (λ p. nat_le p.first number) w.placed
+
 -- all records: those that the log held at first, and then those that were appended
 abbrev pub all_records : Slots → LogState → List Redo
 all_records slots w = log_records slots ++ map (λ p. p.redo) w.placed
@@ -84,7 +89,7 @@ pub record ReadsBack (slots : Slots) (w : LogState) : Type 0 where
   pub missing : ℕ
   pub reads : log_records w.slots ≡ drop missing (take prefix (all_records slots w))
   pub reached : length (log_records slots) + length (placed_up_to w.ring.reached w) ≤ prefix
-  pub given_up : missing ≤ length (log_records slots) + length (placed_up_to w.ring.given_up w)
+  pub given_up : missing ≤ length (log_records slots) + length (placed_from w.ring.given_up w)
 
 -- of every run from a sealed log with an end
 abbrev pub RingsReadBack : Type 0
@@ -92,13 +97,16 @@ RingsReadBack =
     (slots : Slots) (events : List LogEvent) → 255 ≤ log_end slots → log_end slots < 2 ^ 62 → IsTrue (is_sealed slots)
     → IsTrue (may_all_happen (log_at slots) events) → ReadsBack slots (after_log_events (log_at slots) events)
 
--- and what its core rests on: the end of the log is an issued number, not below the acknowledged ones, and no greater number stands in a slot
+-- and what its core rests on: the end of the log is an issued number, not below the acknowledged ones, no greater number stands in a slot, and the numbers
+-- of the sectors that wait follow those that are issued
 pub record EndsWithin (w : LogState) : Type 0 where
   pub not_below : w.ring.reached ≤ log_end w.slots
   pub not_above : log_end w.slots ≤ sent w.ring
   pub numbers : IsTrue (list_all (λ n. nat_le n (sent w.ring)) (numbers_in w.slots))
   pub window : sent w.ring ≤ w.ring.reached + 64
   pub kept : last w.ring ≤ w.ring.given_up + 192
+  pub given : w.ring.given_up ≤ sent w.ring
+  pub waits : (k : ℕ) (x : LogSector) → slice_get w.ring.waiting k ≡ Some x → x.seq ≡ sent w.ring + 1 + k
 
 abbrev pub RingsEndWithin : Type 0
 RingsEndWithin =

@@ -1,49 +1,71 @@
 -- The log of a server in memory: a ring of records that aren't given up, the numbers of their sectors, and which of these are issued and acknowledged.
 -- A number is a sector's place in the log, counted on for ever; sector n lies in slot n % 256.
-use Rattle.std.specs.Prelude.{ℕ, ◌+◌, ◌-◌, ◌*◌, ◌/◌, ◌^◌, Bool, true, false, not, ◌&&◌, ◌==◌, if◌then◌else◌, nat_le, nat_lt, max, Option, Some, None, Result, Ok, Err, List, [], ◌∷◌, ◌++◌, length, take, drop, map, fold, slice_set, unwrap_or}
+use Rattle.std.specs.Prelude.{ℕ, zero, suc, ◌+◌, ◌-◌, ◌/◌, ◌^◌, Bool, true, false, not, ◌&&◌, ◌==◌, if◌then◌else◌, nat_le, nat_lt, min, max, Option, Some, None, Result, Ok, Err, List, [], ◌∷◌, ◌++◌, length, take, drop, map, fold, slice_set, unwrap_or}
 use Rattle.std.specs.List.{list_any, filter, find}
 use Rattle.std.specs.Option.{option_map}
 use Rattle.frang_base.specs.declared.sector.Sector.{Sector}
 use Rattle.sector_definitions.specs.declared.log_sector.LogSector.{LogSector}
-use Rattle.sector_definitions.specs.Bytes.{zeros}
-use Rattle.sector_definitions.specs.LogSectors.{log_sector_bytes}
-use Rattle.change_definitions.specs.SectorMaps.{value_at, with_value}
-use Rattle.tree_definitions.specs.Numbers.{below}
-use Rattle.log_definitions.specs.declared.redo.Redo.{Redo}
-use Rattle.log_definitions.specs.Records.{record_bytes, record_fits}
+use Rattle.sector_bytes.specs.Bytes.{zeros}
+use Rattle.sector_definitions.specs.LogSectors.{log_sector_bytes, none_begins, packed_mark}
+use Rattle.sector_bytes.specs.SectorMaps.{value_at, with_value}
+use Rattle.frang_base.specs.declared.change.Redo.{Redo}
+use Rattle.log_definitions.specs.Frames.{frame_bytes}
+use Rattle.log_definitions.specs.Records.{record_fits}
 use Rattle.ring_definitions.specs.declared.ring.Named.{Named}
 use Rattle.ring_definitions.specs.declared.ring.RingFault.{RingFault}
 use Rattle.ring_definitions.specs.declared.ring.RingFault.TheVariants.{Full}
 use Rattle.ring_definitions.specs.declared.ring.Unwritten.{Unwritten}
 
--- ---- the sectors of a record
+-- ---- packed sectors
 
 -- a record that may stand in a log: its changes fit a body, and its operation has a number, which takes 8 bytes as each value of its type does
 abbrev pub is_record : Redo → Bool
 is_record redo = nat_le 1 redo.op.0 && nat_lt redo.op.0 (2 ^ 64) && record_fits redo.changes
 
--- how many sectors a record takes: 488 bytes of its body in each
-abbrev pub sectors_needed : Redo → ℕ
-sectors_needed redo = (length (record_bytes redo.changes) + 487) / 488
+-- a packed sector with these bytes, and the place where the first frame begins that begins in it
+abbrev pub packed_sector : ℕ → ℕ → List ℕ → LogSector
+packed_sector number part bytes =
+    record { seq = number; op = record { 0 = 0 }; part = part; parts = packed_mark; used = length bytes; body = bytes ++ zeros (488 - length bytes) }
 
--- the bytes of its body that one part has
-abbrev pub piece : List ℕ → ℕ → List ℕ
-piece body part = take 488 (drop (488 * part) body)
+-- so many packed sectors with these bytes one behind the other, the first with this number and part; in the others no frame begins
+abbrev pub cut : ℕ → ℕ → ℕ → List ℕ → List LogSector
+cut zero first part bytes = []
+cut (suc n) first part bytes = packed_sector first part (take 488 bytes) ∷ cut n (first + 1) none_begins (drop 488 bytes)
 
--- one part of a record whose first sector has this number
-abbrev pub part_sector : ℕ → Redo → ℕ → LogSector
-part_sector first redo part =
-    let bytes = piece (record_bytes redo.changes) part in
-    record { seq = first + part; op = redo.op; part = part; parts = sectors_needed redo; used = length bytes; body = bytes ++ zeros (488 - length bytes) }
+-- how many sectors so many bytes take
+abbrev pub sectors_for : ℕ → ℕ
+sectors_for n = (n + 487) / 488
 
--- the sectors of a record, the first with this number
-abbrev pub record_sectors : ℕ → Redo → List LogSector
-record_sectors first redo = map (part_sector first redo) (below (sectors_needed redo))
+abbrev pub packed_sectors : ℕ → ℕ → List ℕ → List LogSector
+packed_sectors first part bytes = cut (sectors_for (length bytes)) first part bytes
+
+-- for how many bytes the last of the sectors that wait has room: while it isn't full and isn't issued it is open, and takes further frames
+abbrev pub open_room : List LogSector → ℕ
+open_room [] = 0
+open_room (x ∷ []) = 488 - x.used
+open_room (x ∷ y ∷ ys) = open_room (y ∷ ys)
+
+-- a packed sector with these bytes behind its own, at which a frame begins
+abbrev pub filled : LogSector → List ℕ → LogSector
+filled x bytes =
+    record x { part = (if x.part == none_begins then x.used else x.part); used = x.used + length bytes; body = take x.used x.body ++ bytes ++ drop (x.used + length bytes) x.body }
+
+-- the last sector that waits, and those behind it, with a frame more; the next sector has this number
+abbrev pub put_on : ℕ → LogSector → List ℕ → List LogSector
+put_on next x frame =
+    if x.used == 488 then x ∷ packed_sectors next 0 frame
+    else filled x (take (488 - x.used) frame) ∷ packed_sectors next none_begins (drop (488 - x.used) frame)
+
+-- the sectors that wait, with a frame more
+abbrev pub framed : ℕ → List LogSector → List ℕ → List LogSector
+framed next [] frame = packed_sectors next 0 frame
+framed next (x ∷ []) frame = put_on next x frame
+framed next (x ∷ y ∷ ys) frame = x ∷ framed next (y ∷ ys) frame
 
 -- ---- the ring
 
 pub record Ring : Type 0 where
-  pub given_up : ℕ  -- the last number of the records that were given up; at first the end of the log
+  pub given_up : ℕ  -- the records that begin at it or before it are given up; at first the end of the log
   pub reached : ℕ  -- every number up to it is acknowledged
   pub above : List Bool  -- of each number issued above it, ascending: whether it is acknowledged
   pub waiting : List LogSector  -- the sectors that aren't issued, ascending by number
@@ -65,22 +87,30 @@ last r = sent r + length r.waiting
 abbrev pub free : Ring → ℕ
 free r = 192 - (last r - r.given_up)
 
--- what a record names, with its last number
+-- how many sectors a record newly begins: none where the open one has room for its frame
+abbrev pub need : Ring → Redo → ℕ
+need r redo = sectors_for (length (frame_bytes redo) - open_room r.waiting)
+
+-- the number of the sector in which the next record begins
+abbrev pub begins : Ring → ℕ
+begins r = if open_room r.waiting == 0 then last r + 1 else last r
+
+-- what a record names, with the number of the sector in which it begins
 abbrev pub names_of : ℕ → Redo → List Named
-names_of number redo = map (λ c. record { sector = c.sector; version = c.version; last = number }) redo.changes
+names_of number redo = map (λ c. record { sector = c.sector; version = c.version; first = number }) redo.changes
 
 -- the ring with a record more
 abbrev pub appended : Ring → Redo → Ring
 appended r redo = record r {
-  waiting = r.waiting ++ record_sectors (last r + 1) redo;
-  named = r.named ++ names_of (last r + sectors_needed redo) redo;
+  waiting = framed (last r + 1) r.waiting (frame_bytes redo);
+  named = r.named ++ names_of (begins r) redo;
 }
 
--- `append`: refused exactly where the record needs more sectors than are free; else its last number
+-- `append`: refused exactly where the record needs more sectors than are free; else the number of the sector with its last byte
 abbrev pub append_answer : Ring → Redo → Result ℕ RingFault
-append_answer r redo = if nat_lt (free r) (sectors_needed redo) then Err (Full (sectors_needed redo) (free r)) else Ok (last r + sectors_needed redo)
+append_answer r redo = if nat_lt (free r) (need r redo) then Err (Full (need r redo) (free r)) else Ok (last r + need r redo)
 
--- `next_sector`: the first sector that isn't issued, where its number isn't more than 64 past the one up to which all are acknowledged
+-- `next_sector`: the first sector that isn't issued, which may be the open one, where its number isn't more than 64 past the one up to which all are acknowledged
 abbrev pub first_waiting : ℕ → List LogSector → Option (ℕ × List ℕ)
 first_waiting number [] = None
 first_waiting number (x ∷ xs) = Some (number, log_sector_bytes x)
@@ -88,7 +118,7 @@ first_waiting number (x ∷ xs) = Some (number, log_sector_bytes x)
 abbrev pub next_sector : Ring → Option (ℕ × List ℕ)
 next_sector r = if nat_lt (length r.above) 64 then first_waiting (sent r + 1) r.waiting else None
 
--- after the first waiting sector is issued
+-- after the first waiting sector is issued, which closes it
 abbrev pub issued : Ring → Ring
 issued r = record r { above = r.above ++ false ∷ []; waiting = drop 1 r.waiting }
 
@@ -104,9 +134,13 @@ acked r number = if nat_lt r.reached number then passed r r.reached (slice_set r
 
 -- ---- giving up
 
--- it belongs to the oldest records up to 64 sectors: those that end within the oldest 64 numbers
+-- the last of the oldest 64 numbers, or of those that are issued: what stands in the open sector isn't given up
+abbrev pub oldest_end : Ring → ℕ
+oldest_end r = min (r.given_up + 64) (sent r)
+
+-- it belongs to the oldest records: those that begin in these numbers
 abbrev pub is_oldest : Ring → Named → Bool
-is_oldest r x = nat_le x.last (r.given_up + 64)
+is_oldest r x = nat_le x.first (oldest_end r)
 
 -- what the oldest records name
 abbrev pub oldest : Ring → List Named
@@ -123,14 +157,9 @@ oldest_versions r = fold with_named [] (oldest r)
 abbrev pub is_known : List (Sector × ℕ) → Named → Bool
 is_known disk x = list_any (λ d. d.0.0 == x.sector.0 && nat_le x.version d.1) disk
 
--- the last number of what is named, or this one
-abbrev pub last_of : ℕ → List Named → ℕ
-last_of number [] = number
-last_of number (x ∷ xs) = last_of x.last xs
-
 -- the ring without its oldest records
 abbrev pub reclaimed : Ring → Ring
-reclaimed r = record r { given_up = last_of r.given_up (oldest r); named = filter (λ x. not (is_oldest r x)) r.named }
+reclaimed r = record r { given_up = oldest_end r; named = filter (λ x. not (is_oldest r x)) r.named }
 
 -- `reclaim`: refused exactly where a sector that the oldest records name isn't known to stand on the disk, by the first such
 abbrev pub unwritten : Ring → List (Sector × ℕ) → Option Unwritten

@@ -16,7 +16,8 @@ use Rattle.tree_definitions.specs.SaidLines.{hex_byte}
 use Rattle.script_definitions.specs.Numerals.{is_numeral}
 use Rattle.script_definitions.specs.ScriptFaults.{◌>>=◌}
 use Rattle.script_definitions.specs.ScriptWords.{words_of, is_some_word, byte_at, asked_of}
-use Rattle.script_definitions.specs.ScriptText.{is_text, is_comment, is_skipped, judged, is_halt, with_line, fault_at, numbered, after_line, script_from, script_of}
+use Rattle.script_definitions.specs.ScriptText.{is_text, is_comment, is_skipped, judged, with_line, fault_at, numbered, after_line, script_from, script_of}
+use Rattle.tree_definitions.specs.Transcript.{is_halt}
 use Rattle.script_definitions.specs.ScriptPrinted.{path_text, op_words, line_words, line_text}
 use Rattle.script_definitions.specs.ScriptGrammar.{IsProperOp, IsProperWhat, OpSpelled, WhatSpelled, IsCommand, AreLines, IsScriptText}
 use Rattle.script_definitions.specs.declared.asked.Asked.{Asked}

@@ -6,7 +6,8 @@ use Rattle.std.proofs.lemmas.Bool.{and_parts, not-true, ltb-false, le-ltb}
 use Rattle.std.proofs.lemmas.List.Splits.{slice_split-cons_yes}
 use Rattle.frang_base.specs.declared.script.Line.{Line}
 use Rattle.script_definitions.specs.ScriptWords.{words_of}
-use Rattle.script_definitions.specs.ScriptText.{judged, is_halt, with_line, fault_at, numbered, after_line, script_from, script_of}
+use Rattle.script_definitions.specs.ScriptText.{judged, with_line, fault_at, numbered, after_line, script_from, script_of}
+use Rattle.tree_definitions.specs.Transcript.{is_halt}
 use Rattle.script_definitions.specs.ScriptPrinted.{line_words, line_text, printed_from, printed}
 use Rattle.script_definitions.specs.declared.asked.Asked.{Asked}
 use Rattle.script_definitions.specs.declared.fault.LineFault.{LineFault}

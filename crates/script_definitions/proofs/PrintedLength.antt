@@ -10,7 +10,8 @@ use Rattle.frang_base.specs.declared.op.What.{What}
 use Rattle.frang_base.specs.declared.op.What.TheVariants.{Server, Host}
 use Rattle.frang_base.specs.declared.script.Line.{Line}
 use Rattle.script_definitions.specs.ScriptWords.{is_blank, is_some_word, words_of, byte_at}
-use Rattle.script_definitions.specs.ScriptText.{judged, is_halt, fault_at, numbered, after_line, script_from, script_of}
+use Rattle.script_definitions.specs.ScriptText.{judged, fault_at, numbered, after_line, script_from, script_of}
+use Rattle.tree_definitions.specs.Transcript.{is_halt}
 use Rattle.script_definitions.specs.ScriptPrinted.{op_words, line_words, line_text, printed_from, printed}
 use Rattle.script_definitions.specs.ScriptGrammar.{OpSpelled, WhatSpelled}
 use Rattle.script_definitions.specs.declared.asked.Asked.{Asked}

@@ -8,7 +8,7 @@ use Rattle.std.proofs.lemmas.Bool.{and_parts, and_from, leb-true, eqb-true, lt-l
 use Rattle.std.proofs.lemmas.List.{take-append-drop, drop_more, drop_all}
 use Rattle.std.proofs.lemmas.List.Splits.{join_with_byte-slice_split}
 use Rattle.std.proofs.lemmas.Slice.Eq.{bytes_eq-Decides}
-use Rattle.frang_base.specs.Name.{is_name}
+use Rattle.frang_base.specs.Name.{is_name, is_target}
 use Rattle.frang_base.specs.declared.reply.Reply.{Reply}
 use Rattle.frang_base.specs.declared.reply.Reply.TheVariants as reply
 use Rattle.frang_base.specs.declared.said.Said.{Said}
@@ -17,7 +17,7 @@ use Rattle.frang_base.specs.declared.sector.ServerId.{ServerId}
 use Rattle.frang_base.specs.declared.sector.OpNo.{OpNo}
 use Rattle.tree_definitions.specs.SaidLines.{hex_digit, hex_byte, reply_word, run_point, who_text, run_line, said_text, said_line}
 use Rattle.script_definitions.specs.Numerals.{number_in, count_at}
-use Rattle.script_definitions.specs.SaidReading.{IsWho, IsNodeKind, is_target, is_path_text, IsProperReply, IsProperSaid, parts_of, sole, first_of_parts, is_end, at_end, server_at, who_at, log_at, two_counts, point_at, op_at, hex_value, byte_at, hex_bytes, some_bytes, shown_of, names_of, target_at, state_replies, place_replies, limit_replies, reply_among, first_some, plain_at, full_at, nospace_of, short_reply_from, reply_from, reply_of, answer_of, by_of, recovering_of, keeps_of, recovered_of, note_from, kind_from, node_from, said_from, said_in, without_feed, said_of}
+use Rattle.script_definitions.specs.SaidReading.{IsWho, IsNodeKind, is_path_text, IsProperReply, IsProperSaid, parts_of, sole, first_of_parts, is_end, at_end, server_at, who_at, log_at, two_counts, point_at, op_at, hex_value, byte_at, hex_bytes, some_bytes, shown_of, names_of, target_at, state_replies, place_replies, limit_replies, reply_among, first_some, plain_at, full_at, nospace_of, short_reply_from, reply_from, reply_of, answer_of, by_of, recovering_of, keeps_of, recovered_of, note_from, kind_from, node_from, said_from, said_in, without_feed, said_of}
 use Rattle.script_definitions.proofs.NumeralLaws.{number_in-Some}
 use Rattle.script_definitions.proofs.SaidWritten.{text_low, nothing_follows, said_of_line, who_low, file_kind, dir_kind, reply_parts, kind_parts, said_parts, said_joined}
 

@@ -7,7 +7,7 @@ use Rattle.std.specs.Fmt.{decimal}
 use Rattle.std.proofs.lemmas.Bool.{and_parts, and_from, ltb-true, ltb-false, leb-true, le-leb, lt-leb, and_right, ne_eqb, lt-ltb, eqb-true, false_from_ne_true}
 use Rattle.std.proofs.lemmas.List.{take_at, get_or_at, length_push}
 use Rattle.std.proofs.lemmas.List.Splits.{join_with_byte-slice_split}
-use Rattle.frang_base.specs.Name.{is_name, is_name_byte, is_dots}
+use Rattle.frang_base.specs.Name.{is_name, is_name_byte, is_dots, is_target, is_target_byte}
 use Rattle.frang_base.specs.declared.reply.Reply.{Reply}
 use Rattle.frang_base.specs.declared.reply.Reply.TheVariants as reply
 use Rattle.frang_base.specs.declared.said.Said.{Said}
@@ -16,7 +16,7 @@ use Rattle.frang_base.specs.declared.sector.ServerId.{ServerId}
 use Rattle.frang_base.specs.declared.sector.OpNo.{OpNo}
 use Rattle.tree_definitions.specs.SaidLines.{hex_digit, hex_byte, spaced, reply_word, run_point, reply_text, who_text, run_line, keeps_text, node_text, said_text, said_line}
 use Rattle.script_definitions.specs.Numerals.{is_digit, is_numeral, count_at}
-use Rattle.script_definitions.specs.SaidReading.{IsWho, is_target, is_target_byte, is_path_text, IsProperReply, IsNodeKind, IsProperSaid, parts_of, sole, first_of_parts, server_at, who_at, log_at, two_counts, point_at, op_at, hex_value, byte_at, hex_bytes, shown_of, reply_of, answer_of, note_from, kind_from, node_from, said_from, said_in, without_feed, said_of}
+use Rattle.script_definitions.specs.SaidReading.{IsWho, is_path_text, IsProperReply, IsNodeKind, IsProperSaid, parts_of, sole, first_of_parts, server_at, who_at, log_at, two_counts, point_at, op_at, hex_value, byte_at, hex_bytes, shown_of, reply_of, answer_of, note_from, kind_from, node_from, said_from, said_in, without_feed, said_of}
 use Rattle.script_definitions.proofs.NumeralLaws.{IsPlain-decimal, numeral-decimal, number_in-decimal}
 use Rattle.script_definitions.proofs.PartsLaws.{HasFirst, part_alone}
 use Rattle.script_definitions.proofs.Splitting.{is_free, all_weaker, all_append, split_before, split_alone, split_join, joined, all_joined}

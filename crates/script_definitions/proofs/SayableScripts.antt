@@ -14,10 +14,11 @@ use Rattle.frang_base.specs.declared.op.What.{What}
 use Rattle.frang_base.specs.declared.op.What.TheVariants.{Server, Host}
 use Rattle.frang_base.specs.declared.script.Line.{Line}
 use Rattle.script_definitions.specs.ScriptWords.{is_blank, is_some_word, words_of}
-use Rattle.script_definitions.specs.ScriptText.{is_control, is_halt, script_of}
+use Rattle.script_definitions.specs.ScriptText.{is_control, script_of}
+use Rattle.tree_definitions.specs.Transcript.{is_halt}
 use Rattle.script_definitions.specs.ScriptPrinted.{path_text}
 use Rattle.script_definitions.specs.ScriptGrammar.{IsProperOp, IsProperWhat, OpSpelled, WhatSpelled, IsCommand, AreLines}
-use Rattle.script_definitions.specs.SaidReading.{is_target, is_target_byte}
+use Rattle.frang_base.specs.Name.{is_target, is_target_byte}
 use Rattle.script_definitions.specs.Sayable.{IsSayableOp, IsSayableWhat, IsSayableLine}
 use Rattle.script_definitions.specs.declared.asked.Asked.{Asked}
 use Rattle.script_definitions.proofs.Splitting.{all_weaker}

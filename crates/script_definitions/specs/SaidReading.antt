@@ -2,7 +2,7 @@
 use Rattle.std.specs.Prelude.{◌≡◌, ◌≤◌, ◌<◌, ◌^◌, ℕ, ◌+◌, ◌*◌, Bool, true, false, not, ◌-◌, ◌&&◌, ◌==◌, if◌then◌else◌, nat_lt, nat_le, ◌⊎◌, List, [], ◌∷◌, length, take, slice_index, codes, Option, Some, None, option_and_then, option_map, find, IsTrue}
 use Rattle.std.specs.List.{list_all, slice_split}
 use Rattle.std.specs.Str.{bytes_eq}
-use Rattle.frang_base.specs.Name.{is_name}
+use Rattle.frang_base.specs.Name.{is_name, is_target}
 use Rattle.frang_base.specs.declared.reply.Reply.{Reply}
 use Rattle.frang_base.specs.declared.reply.Reply.TheVariants as reply
 use Rattle.frang_base.specs.declared.said.Said.{Said}
@@ -15,14 +15,6 @@ use Rattle.script_definitions.specs.Numerals.{number_in, count_at}
 -- a server, 0 to 15, or the host
 abbrev pub IsWho : ℕ → Type 0
 IsWho server = (server ≤ 15) ⊎ (server ≡ 255)
-
--- bytes of a target: above the blank, and not the delete byte
-abbrev pub is_target_byte : ℕ → Bool
-is_target_byte b = nat_lt 32 b && not (b == 127)
-
--- 1 to 384 such bytes
-abbrev pub is_target : List ℕ → Bool
-is_target text = nat_lt 0 (length text) && nat_le (length text) 384 && list_all is_target_byte text
 
 -- `/` alone, or `/` before each of some names
 abbrev pub is_path_text : List ℕ → Bool

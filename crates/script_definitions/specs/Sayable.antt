@@ -2,7 +2,7 @@
 use Rattle.std.specs.Prelude.{◌≡◌, ◌<◌, ◌^◌, ℕ, true, ◌⊎◌, Option, Some, None, List}
 use Rattle.std.specs.List.{All, list_all}
 use Rattle.std.specs.Map.{keys_of, values_of}
-use Rattle.frang_base.specs.Name.{is_name}
+use Rattle.frang_base.specs.Name.{is_name, is_target}
 use Rattle.frang_base.specs.declared.op.Op.{Op}
 use Rattle.frang_base.specs.declared.op.Op.TheVariants as op
 use Rattle.frang_base.specs.declared.op.What.{What}
@@ -23,7 +23,7 @@ use Rattle.tree_definitions.specs.Entries.{Entries}
 use Rattle.tree_definitions.specs.Tree.{FileTree}
 use Rattle.tree_definitions.specs.Apply.{Answer, Plain, Shows, Applied}
 use Rattle.tree_definitions.specs.History.{Settled, Stays, InDoubt}
-use Rattle.script_definitions.specs.SaidReading.{is_target, is_path_text}
+use Rattle.script_definitions.specs.SaidReading.{is_path_text}
 
 -- a cell in doubt, or one with a byte
 abbrev pub IsSayableCell : Cell → Type 0

@@ -3,10 +3,9 @@ use Rattle.std.specs.Prelude.{ℕ, ◌+◌, Bool, true, false, not, ◌&&◌, �
 use Rattle.std.specs.List.{list_any}
 use Rattle.std.specs.Str.{is_utf8}
 use Rattle.std.specs.Str.Lines.{lines}
-use Rattle.frang_base.specs.declared.op.HostOp.TheVariants as host
-use Rattle.frang_base.specs.declared.op.What.{What}
-use Rattle.frang_base.specs.declared.op.What.TheVariants.{Host}
+use Rattle.frang_base.specs.declared.limits.TheConstants.{SCRIPT_BYTES_MAX, SCRIPT_LINES_MAX}
 use Rattle.frang_base.specs.declared.script.Line.{Line}
+use Rattle.tree_definitions.specs.Transcript.{is_halt}
 use Rattle.script_definitions.specs.ScriptFaults.{kind_of, ◌>>=◌}
 use Rattle.script_definitions.specs.ScriptWords.{words_of, asked_of}
 use Rattle.script_definitions.specs.declared.asked.Asked.{Asked}
@@ -39,11 +38,6 @@ judged halted line =
     else (if halted then Err fault.AfterHalt
     else asked_of (words_of line) >>= λ asked. Ok (Some asked)))
 
--- a `halt`
-abbrev pub is_halt : What → Bool
-is_halt (Host host.Halt) = true
-is_halt _ = false
-
 -- a line of the script before the others
 abbrev pub with_line : Line → Result (List Line) ScriptFault → Result (List Line) ScriptFault
 with_line line (Ok script) = Ok (line ∷ script)
@@ -67,9 +61,9 @@ after_line number halted (Ok (Some asked)) rest = with_line (record { number = n
 abbrev pub script_from : ℕ → Bool → List (List ℕ) → Result (List Line) ScriptFault
 script_from number halted [] = Ok []
 script_from number halted (line ∷ lines) =
-    if nat_lt 65536 number then Err (fault_at number fault.TooManyLines)
+    if nat_lt SCRIPT_LINES_MAX number then Err (fault_at number fault.TooManyLines)
     else after_line number halted (numbered number (judged halted line)) (λ h. script_from (number + 1) h lines)
 
 -- the script of these bytes, or its first bad line
 abbrev pub script_of : List ℕ → Result (List Line) ScriptFault
-script_of bytes = if nat_lt 1048576 (length bytes) then Err (fault_at 0 fault.ScriptTooLong) else script_from 1 false (lines bytes)
+script_of bytes = if nat_lt SCRIPT_BYTES_MAX (length bytes) then Err (fault_at 0 fault.ScriptTooLong) else script_from 1 false (lines bytes)

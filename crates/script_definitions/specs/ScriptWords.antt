@@ -2,6 +2,7 @@
 use Rattle.std.specs.Prelude.{ℕ, ◌+◌, ◌-◌, ◌*◌, Bool, true, false, ◌&&◌, ◌||◌, ◌==◌, if◌then◌else◌, nat_lt, nat_le, List, [], ◌∷◌, length, codes, filter, find, Option, Some, None, Result, Ok, Err}
 use Rattle.std.specs.List.{list_all, slice_split}
 use Rattle.std.specs.Str.{bytes_eq}
+use Rattle.frang_base.specs.declared.limits.TheConstants.{FILE_BYTES_MAX, LINE_TICKS_MAX, READ_BYTES_MAX, TARGET_BYTES_MAX, WRITE_BYTES_MAX}
 use Rattle.frang_base.specs.PathText.{path_of}
 use Rattle.frang_base.specs.declared.fault.PathFault.{PathFault}
 use Rattle.frang_base.specs.declared.op.Op.{Op}
@@ -159,7 +160,7 @@ unfoldable pub symlink_of : List (List ℕ) → Result Op LineFault
 symlink_of words = do
   w ← two_words words
   path ← path_at w.0
-  target ← text_at 384 w.1
+  target ← text_at TARGET_BYTES_MAX w.1
   Ok (op.Symlink path target)
 
 unfoldable pub write_of : List (List ℕ) → Result Op LineFault
@@ -167,7 +168,7 @@ write_of words = do
   w ← three_words words
   path ← path_at w.0
   off ← offset_at w.1
-  text ← text_at 512 w.2
+  text ← text_at WRITE_BYTES_MAX w.2
   Ok (op.Write path off text)
 
 unfoldable pub fill_of : List (List ℕ) → Result Op LineFault
@@ -175,7 +176,7 @@ fill_of words = do
   w ← four_words words
   path ← path_at w.0
   off ← offset_at w.1
-  len ← number_at 1 1114112 w.2
+  len ← number_at 1 FILE_BYTES_MAX w.2
   byte ← byte_at w.3
   Ok (op.Fill path off len byte)
 
@@ -191,7 +192,7 @@ read_of words = do
   w ← three_words words
   path ← path_at w.0
   off ← offset_at w.1
-  len ← number_at 1 4096 w.2
+  len ← number_at 1 READ_BYTES_MAX w.2
   Ok (op.Read path off len)
 
 -- a count of writes, 1 to 1,000,000
@@ -237,7 +238,7 @@ abbrev pub host_op_of : List ℕ → List (List ℕ) → Result HostOp LineFault
 host_op_of text words =
     if bytes_eq text (codes "barrier") then (no_words words >>= λ u. Ok host.Barrier)
     else (if bytes_eq text (codes "halt") then (no_words words >>= λ u. Ok host.Halt)
-    else (if bytes_eq text (codes "tick") then (one_word words >>= number_at 1 10000 >>= λ n. Ok (host.Tick n))
+    else (if bytes_eq text (codes "tick") then (one_word words >>= number_at 1 LINE_TICKS_MAX >>= λ n. Ok (host.Tick n))
     else Err fault.UnknownWord))
 
 -- the server that a word of digits names

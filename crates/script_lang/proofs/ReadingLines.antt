@@ -5,7 +5,8 @@ use Rattle.frang_base.specs.declared.script.Line.{Line}
 use Rattle.script_definitions.specs.declared.asked.Asked.{Asked}
 use Rattle.script_definitions.specs.declared.fault.LineFault.TheVariants as fault
 use Rattle.script_definitions.specs.declared.fault.ScriptFault.{ScriptFault}
-use Rattle.script_definitions.specs.ScriptText.{judged, is_halt, numbered, fault_at, with_line, after_line, script_from}
+use Rattle.script_definitions.specs.ScriptText.{judged, numbered, fault_at, with_line, after_line, script_from}
+use Rattle.tree_definitions.specs.Transcript.{is_halt}
 
 -- the lines so far, and what the others give
 abbrev pub behind_lines : List Line → Result (List Line) ScriptFault → Result (List Line) ScriptFault

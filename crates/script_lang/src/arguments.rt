@@ -1,7 +1,6 @@
 // The words that follow a server's word, one by one.
 ghost use Rattle.std.specs.Prelude.{◌≡◌, ◌<◌, IfSome, IfOk};
-ghost use Rattle.script_definitions.specs.ScriptWords.{or_fault, path_at, number_at, offset_at, text_at, digit_value, byte_at, path_alone, paths};
-ghost use Rattle.script_definitions.specs.ScriptWords.{words_of};
+ghost use Rattle.script_definitions.specs.ScriptWords.{or_fault, path_at, number_at, offset_at, text_at, digit_value, byte_at, path_alone, paths, words_of};
 ghost use Rattle.script_lang.specs.Answers.{Gives};
 
 use crate::refusal::Refusal;

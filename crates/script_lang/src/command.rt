@@ -1,126 +1,114 @@
 // What a line asks.
 ghost use Rattle.std.specs.Prelude.{◌≡◌};
 ghost use Rattle.std.specs.List.{list_all};
+ghost use Rattle.std.specs.Str.{bytes_eq};
 ghost use Rattle.script_definitions.specs.Numerals.{is_digit};
-ghost use Rattle.script_definitions.specs.ScriptWords.{words_of, word_among, path_words, longer_words, bare_words, server_word, symlink_of, write_of, fill_of, truncate_of, read_of, writes_of, crash_of, op_with, op_of, host_op_of, server_of, server_line, host_line, asked_of};
+ghost use Rattle.script_definitions.specs.ScriptWords.{words_of, word_text, word_among, server_word, symlink_of, write_of, fill_of, truncate_of, read_of, writes_of, crash_of, op_with, op_of, host_op_of, server_of, server_line, host_line, asked_of};
 ghost use Rattle.script_lang.specs.Answers.{Gives};
 ghost use Rattle.script_lang.specs.Words.{alone};
 
 use crate::arguments::{byte, number, offset, path, path_alone, paths, text};
 use crate::refusal::Refusal;
 use crate::words::{four_words, next_word, no_words, one_word, three_words, two_words};
+use frang_base::limits::{
+    FILE_BYTES_MAX, LINE_TICKS_MAX, READ_BYTES_MAX, SERVERS, TARGET_BYTES_MAX, WRITE_BYTES_MAX,
+};
 use frang_base::{HostOp, Op, ServerId, What};
 use script_definitions::{Asked, LineFault, ServerWord, number_within};
 use std::alloc::Global;
 
-const TARGET_BYTES_MAX: usize = 384;
-
-const TEXT_BYTES_MAX: usize = 512;
-
-const FILE_BYTES_MAX: u32 = 1_114_112;
-
-const READ_BYTES_MAX: u32 = 4096;
-
+// The greatest number of a write at which a server may be told to die.
 const WRITES_MAX: u32 = 1_000_000;
 
-const TICKS_MAX: u32 = 10_000;
+// Words that a path follows alone.
+const PATH_WORDS: [ServerWord; 8] = [
+    ServerWord::Create,
+    ServerWord::Mkdir,
+    ServerWord::Unlink,
+    ServerWord::Rmdir,
+    ServerWord::Stat,
+    ServerWord::List,
+    ServerWord::Readlink,
+    ServerWord::Time,
+];
 
-const SERVER_MAX: u32 = 15;
+// Words that a path and more follow.
+const LONGER_WORDS: [ServerWord; 7] = [
+    ServerWord::Link,
+    ServerWord::Rename,
+    ServerWord::Symlink,
+    ServerWord::Write,
+    ServerWord::Fill,
+    ServerWord::Truncate,
+    ServerWord::Read,
+];
 
-// A word that a path follows alone.
-fn path_word(word: &[u8]) -> Option<ServerWord>
-    ensures { result ≡ word_among path_words word.now }
+// Words that no path follows.
+const BARE_WORDS: [ServerWord; 6] = [
+    ServerWord::Sync,
+    ServerWord::Mount,
+    ServerWord::Unmount,
+    ServerWord::Crash,
+    ServerWord::Cut,
+    ServerWord::Stall,
+];
+
+fn word_text(word: ServerWord) -> &'static [u8]
+    ensures { result.now ≡ word_text word }
 {
-    if word == b"create".as_slice() {
-        return Some(ServerWord::Create);
+    match word {
+        ServerWord::Create => b"create",
+        ServerWord::Mkdir => b"mkdir",
+        ServerWord::Unlink => b"unlink",
+        ServerWord::Rmdir => b"rmdir",
+        ServerWord::Stat => b"stat",
+        ServerWord::List => b"list",
+        ServerWord::Readlink => b"readlink",
+        ServerWord::Time => b"time",
+        ServerWord::Link => b"link",
+        ServerWord::Rename => b"rename",
+        ServerWord::Symlink => b"symlink",
+        ServerWord::Write => b"write",
+        ServerWord::Fill => b"fill",
+        ServerWord::Truncate => b"truncate",
+        ServerWord::Read => b"read",
+        ServerWord::Sync => b"sync",
+        ServerWord::Mount => b"mount",
+        ServerWord::Unmount => b"unmount",
+        ServerWord::Crash => b"crash",
+        ServerWord::Cut => b"cut",
+        ServerWord::Stall => b"stall",
     }
-    if word == b"mkdir".as_slice() {
-        return Some(ServerWord::Mkdir);
-    }
-    if word == b"unlink".as_slice() {
-        return Some(ServerWord::Unlink);
-    }
-    if word == b"rmdir".as_slice() {
-        return Some(ServerWord::Rmdir);
-    }
-    if word == b"stat".as_slice() {
-        return Some(ServerWord::Stat);
-    }
-    if word == b"list".as_slice() {
-        return Some(ServerWord::List);
-    }
-    if word == b"readlink".as_slice() {
-        return Some(ServerWord::Readlink);
-    }
-    if word == b"time".as_slice() {
-        return Some(ServerWord::Time);
+}
+
+fn has_text(word: ServerWord, text: &[u8]) -> bool
+    ensures { result ≡ bytes_eq text.now (word_text word) }
+{
+    text == word_text(word)
+}
+
+// The one of these words that has this text.
+fn word_among(words: &[ServerWord], text: &[u8]) -> Option<ServerWord>
+    ensures { result ≡ word_among words.now text.now }
+{
+    for word in words {
+        if has_text(*word, text) {
+            return Some(*word);
+        }
     }
     None
 }
 
-// A word that a path and more follow.
-fn longer_word(word: &[u8]) -> Option<ServerWord>
-    ensures { result ≡ word_among longer_words word.now }
+fn server_word(text: &[u8]) -> Option<ServerWord>
+    ensures { result ≡ server_word text.now }
 {
-    if word == b"link".as_slice() {
-        return Some(ServerWord::Link);
-    }
-    if word == b"rename".as_slice() {
-        return Some(ServerWord::Rename);
-    }
-    if word == b"symlink".as_slice() {
-        return Some(ServerWord::Symlink);
-    }
-    if word == b"write".as_slice() {
-        return Some(ServerWord::Write);
-    }
-    if word == b"fill".as_slice() {
-        return Some(ServerWord::Fill);
-    }
-    if word == b"truncate".as_slice() {
-        return Some(ServerWord::Truncate);
-    }
-    if word == b"read".as_slice() {
-        return Some(ServerWord::Read);
-    }
-    None
-}
-
-// A word that no path follows.
-fn bare_word(word: &[u8]) -> Option<ServerWord>
-    ensures { result ≡ word_among bare_words word.now }
-{
-    if word == b"sync".as_slice() {
-        return Some(ServerWord::Sync);
-    }
-    if word == b"mount".as_slice() {
-        return Some(ServerWord::Mount);
-    }
-    if word == b"unmount".as_slice() {
-        return Some(ServerWord::Unmount);
-    }
-    if word == b"crash".as_slice() {
-        return Some(ServerWord::Crash);
-    }
-    if word == b"cut".as_slice() {
-        return Some(ServerWord::Cut);
-    }
-    if word == b"stall".as_slice() {
-        return Some(ServerWord::Stall);
-    }
-    None
-}
-
-fn server_word(word: &[u8]) -> Option<ServerWord>
-    ensures { result ≡ server_word word.now }
-{
-    if let Some(found) = path_word(word) {
+    if let Some(found) = word_among(&PATH_WORDS, text) {
         return Some(found);
     }
-    if let Some(found) = longer_word(word) {
+    if let Some(found) = word_among(&LONGER_WORDS, text) {
         return Some(found);
     }
-    bare_word(word)
+    word_among(&BARE_WORDS, text)
 }
 
 #[tactic(auto, unfolding(script_definitions::specs::ScriptWords::symlink_of))]
@@ -140,7 +128,7 @@ fn write(alloc: Global, words: &[u8]) -> Result<Op, Refusal>
     let (at, off, bytes) = three_words(words)?;
     let path = path(alloc, at)?;
     let off = offset(off)?;
-    let bytes = text(alloc, bytes, TEXT_BYTES_MAX)?;
+    let bytes = text(alloc, bytes, WRITE_BYTES_MAX)?;
     Ok(Op::Write { path, off, bytes })
 }
 
@@ -151,7 +139,7 @@ fn fill(alloc: Global, words: &[u8]) -> Result<Op, Refusal>
     let (at, off, len, digits) = four_words(words)?;
     let path = path(alloc, at)?;
     let off = offset(off)?;
-    let len = number(len, 1, FILE_BYTES_MAX)?;
+    let len = number(len, 1, FILE_BYTES_MAX as u32)?;
     let byte = byte(digits)?;
     Ok(Op::Fill {
         path,
@@ -178,7 +166,7 @@ fn read(alloc: Global, words: &[u8]) -> Result<Op, Refusal>
     let (at, off, len) = three_words(words)?;
     let path = path(alloc, at)?;
     let off = offset(off)?;
-    let len = number(len, 1, READ_BYTES_MAX)?;
+    let len = number(len, 1, READ_BYTES_MAX as u32)?;
     Ok(Op::Read { path, off, len })
 }
 
@@ -205,7 +193,7 @@ fn crash(words: &[u8]) -> Result<Op, LineFault>
 fn server(word: &[u8]) -> Result<ServerId, LineFault>
     ensures { result ≡ server_of word.now }
 {
-    match number_within(word, 0, SERVER_MAX) {
+    match number_within(word, 0, SERVERS as u32 - 1) {
         Some(number) => Ok(ServerId(number as u8)),
         None => Err(LineFault::BadServer),
     }
@@ -274,7 +262,7 @@ fn host_op(word: &[u8], words: &[u8]) -> Result<HostOp, LineFault>
         return Ok(HostOp::Halt);
     }
     if word == b"tick".as_slice() {
-        let n = number(one_word(words)?, 1, TICKS_MAX)?;
+        let n = number(one_word(words)?, 1, LINE_TICKS_MAX as u32)?;
         return Ok(HostOp::Tick { n });
     }
     Err(LineFault::UnknownWord)

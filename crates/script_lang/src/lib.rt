@@ -8,10 +8,6 @@ mod command;
 mod print;
 mod refusal;
 mod script;
-#[cfg(test)]
-mod sizes;
-#[cfg(test)]
-mod tests;
 mod words;
 
 pub use print::print_script;

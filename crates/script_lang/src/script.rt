@@ -6,19 +6,17 @@ ghost use Rattle.std.specs.Str.Lines.{lines};
 ghost use Rattle.script_definitions.specs.ScriptWords.{is_blank, words_of};
 ghost use Rattle.frang_base.specs.declared.script.Line.{Line};
 ghost use Rattle.script_definitions.specs.ScriptGrammar.{IsScriptText};
-ghost use Rattle.script_definitions.specs.ScriptText.{is_control, is_text, is_comment, is_skipped, judged, is_halt, fault_at, numbered, script_from, script_of};
+ghost use Rattle.script_definitions.specs.ScriptText.{is_control, is_text, is_comment, is_skipped, judged, fault_at, numbered, script_from, script_of};
+ghost use Rattle.tree_definitions.specs.Transcript.{is_halt};
 ghost use Rattle.script_lang.specs.Answers.{Gives, GivesNumbered, IfBad};
 
 use crate::command::asked;
 use crate::refusal::{ReadFault, Refusal};
 use crate::words::{is_blank, next_line, next_word};
+use frang_base::limits::{SCRIPT_BYTES_MAX, SCRIPT_LINES_MAX};
 use frang_base::{HostOp, Line, Script, What};
 use script_definitions::{Asked, LineFault, ScriptFault};
 use std::alloc::Global;
-
-const SCRIPT_BYTES_MAX: usize = 1_048_576;
-
-const LINES_MAX: u32 = 65_536;
 
 fn is_control(byte: u8) -> bool
     ensures { result ≡ is_control byte }
@@ -138,7 +136,7 @@ fn read_lines(alloc: Global, bytes: &[u8]) -> Result<Script, ReadFault>
     let mut rest = bytes;
     while let Some((line, after)) = next_line(rest) {
         number += 1;
-        if number > LINES_MAX {
+        if number > SCRIPT_LINES_MAX {
             return Err(ReadFault::Bad(fault_at(number, LineFault::TooManyLines)));
         }
         rest = after;

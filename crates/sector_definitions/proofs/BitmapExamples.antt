@@ -1,7 +1,7 @@
 -- Bitmap segments: the first of a fresh disk, bits and states at their places, and blocks that are no segment's sector.
 use Rattle.std.proofs.Common.{◌≡◌, ℕ, true, false, Some, None, List, [], ◌∷◌, ◌++◌, take, drop, set, refl}
 use Rattle.frang_base.specs.declared.bitmap.Bitmap.{Bitmap}
-use Rattle.sector_definitions.specs.Bytes.{zeros}
+use Rattle.sector_bytes.specs.Bytes.{zeros}
 use Rattle.sector_definitions.specs.Bitmaps.{bitmap_bytes, bitmap_in, inode_bit, block_state}
 
 -- only the root is in use

@@ -4,7 +4,7 @@ use Rattle.std.proofs.lemmas.List.{take_at, get_or_at}
 use Rattle.byteorder.specs.Endian.{little_bytes}
 use Rattle.byteorder.specs.Numbers.{little_number-reads_back}
 use Rattle.frang_base.specs.declared.bitmap.Bitmap.{Bitmap}
-use Rattle.sector_definitions.specs.Bytes.{zeros}
+use Rattle.sector_bytes.specs.Bytes.{zeros}
 use Rattle.sector_definitions.specs.Bitmaps.{large_byte, bitmap_bytes, bitmap_fields, bitmap_in, IsBitmapSector}
 use Rattle.sector_definitions.proofs.Readings.{read_back, read_is}
 

@@ -6,7 +6,7 @@ use Rattle.std.proofs.lemmas.Bool.{and_parts, or_cases, both_ways}
 use Rattle.std.specs.List.{between, list_all, slice_get}
 use Rattle.std.specs.Option.{option_map}
 use Rattle.sector_definitions.specs.declared.directory.DirEntry.{DirEntry}
-use Rattle.sector_definitions.specs.Bytes.{same_bytes}
+use Rattle.std.specs.Str.{bytes_eq}
 use Rattle.sector_definitions.specs.Directories.{is_free_place, is_used_place, entry_fits, entry_fields, entries_in, name_in, place_of_name}
 use Rattle.sector_definitions.proofs.Readings.{and_l, and_r}
 
@@ -41,28 +41,28 @@ not_first false None h = (refl, refl)
 not_first false (Some n) h = (cc, cc)
 
 -- the name isn't among the entries so far and the next
-pub name_passed : (name : List ℕ) (xs : List DirEntry) (e : DirEntry) → place_of_name name xs ≡ None → same_bytes (name_in e) name ≡ false
+pub name_passed : (name : List ℕ) (xs : List DirEntry) (e : DirEntry) → place_of_name name xs ≡ None → bytes_eq (name_in e) name ≡ false
     → place_of_name name (xs ++ e ∷ []) ≡ None
 name_passed name [] e h f = rw f refl
 name_passed name (x ∷ xs) e h f =
-    let p = not_first (same_bytes (name_in x) name) (place_of_name name xs) h in
+    let p = not_first (bytes_eq (name_in x) name) (place_of_name name xs) h in
     rw (p.0, name_passed name xs e p.1 f) refl
 
 -- the name isn't among the entries so far, and is the next one's
-pub name_found : (name : List ℕ) (xs : List DirEntry) (e : DirEntry) (ys : List DirEntry) → place_of_name name xs ≡ None → same_bytes (name_in e) name ≡ true
+pub name_found : (name : List ℕ) (xs : List DirEntry) (e : DirEntry) (ys : List DirEntry) → place_of_name name xs ≡ None → bytes_eq (name_in e) name ≡ true
     → place_of_name name (xs ++ e ∷ ys) ≡ Some (length xs)
 name_found name [] e ys h t = rw t refl
 name_found name (x ∷ xs) e ys h t =
-    let p = not_first (same_bytes (name_in x) name) (place_of_name name xs) h in
+    let p = not_first (bytes_eq (name_in x) name) (place_of_name name xs) h in
     rw (p.0, name_found name xs e ys p.1 t) refl
 
 -- what the comparison of a name said
-compared_is : (e : DirEntry) (name a b : List ℕ) (r s : Bool) → a ≡ name_in e → b ≡ name → r ≡ same_bytes a b → r ≡ s → same_bytes (name_in e) name ≡ s
+compared_is : (e : DirEntry) (name a b : List ℕ) (r s : Bool) → a ≡ name_in e → b ≡ name → r ≡ bytes_eq a b → r ≡ s → bytes_eq (name_in e) name ≡ s
 compared_is e name a b r s p q test is = cc
 
 -- the entry at a place is the first of its name, where none before it is
 pub found_there : (name : List ℕ) (es : List DirEntry) (d : DirEntry) (k : ℕ) (a b : List ℕ) (r : Bool) → k < length es
-    → place_of_name name (take k es) ≡ None → a ≡ name_in (get_or es k d) → b ≡ name → r ≡ same_bytes a b → r ≡ true
+    → place_of_name name (take k es) ≡ None → a ≡ name_in (get_or es k d) → b ≡ name → r ≡ bytes_eq a b → r ≡ true
     → Some k ≡ place_of_name name es
 found_there name es d k a b r below none is named test alike =
     let e = get_or es k d in
@@ -72,7 +72,7 @@ found_there name es d k a b r below none is named test alike =
 
 -- no entry so far has the name, where the next hasn't
 pub passed_there : (name : List ℕ) (es : List DirEntry) (d : DirEntry) (k : ℕ) (a b : List ℕ) (r : Bool) → k < length es
-    → place_of_name name (take k es) ≡ None → a ≡ name_in (get_or es k d) → b ≡ name → r ≡ same_bytes a b → r ≡ false
+    → place_of_name name (take k es) ≡ None → a ≡ name_in (get_or es k d) → b ≡ name → r ≡ bytes_eq a b → r ≡ false
     → place_of_name name (take (k + 1) es) ≡ None
 passed_there name es d k a b r below none is named test apart =
     let e = get_or es k d in

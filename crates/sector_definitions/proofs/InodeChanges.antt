@@ -1,13 +1,14 @@
 -- Patches between two inodes make the new one's sector of the old one's.
 use Rattle.std.proofs.Common.{◌≡◌, ◌≤◌, length, sym, ap, ◌∙◌, arith}
 use Rattle.frang_base.specs.declared.change.Change.{Change}
-use Rattle.cells.specs.Blocks.{patched, spelling, edited}
+use Rattle.sector_bytes.specs.Blocks.{patched, spelling}
+use Rattle.sector_bytes.specs.Changes.{changed}
 use Rattle.sector_definitions.specs.declared.inode.Inode.{Inode}
 use Rattle.sector_definitions.specs.Inodes.{inode_bytes}
-use Rattle.sector_definitions.specs.Patches.{patches_of}
+use Rattle.sector_bytes.specs.Patches.{patches_of}
 use Rattle.sector_definitions.specs.Ranges.{InodeRange}
 use Rattle.sector_definitions.proofs.InodeLaws.{length_inode_bytes}
-use Rattle.sector_definitions.proofs.PatchLaws.{patches_laid, edited_by_patches, spelled_version}
+use Rattle.sector_bytes.proofs.PatchLaws.{patches_laid, edited_by_patches, spelled_version}
 
 same_length : (old new : Inode) → InodeRange old → InodeRange new → length (inode_bytes old) ≡ length (inode_bytes new)
 same_length old new r s = length_inode_bytes old r ∙ sym (length_inode_bytes new s)
@@ -20,6 +21,6 @@ pub inode_patched : (old new : Inode) → InodeRange old → InodeRange new → 
 inode_patched old new r s = patches_laid (inode_bytes old) (inode_bytes new) (long old r) (same_length old new r s)
 
 -- a change with them and with the new version makes the new one's block
-pub inode_edited : (x : Change) (old new : Inode) → InodeRange old → InodeRange new → x.patches ≡ patches_of (inode_bytes old) (inode_bytes new) → x.version ≡ new.version → edited x (inode_bytes old) ≡ inode_bytes new
+pub inode_edited : (x : Change) (old new : Inode) → InodeRange old → InodeRange new → x.patches ≡ patches_of (inode_bytes old) (inode_bytes new) → x.version ≡ new.version → changed (inode_bytes old) x ≡ inode_bytes new
 inode_edited x old new r s p v =
     edited_by_patches x (inode_bytes old) (inode_bytes new) (long old r) (same_length old new r s) p (ap (spelling 7) v ∙ spelled_version new.version s.version)

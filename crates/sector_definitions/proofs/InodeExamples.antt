@@ -1,7 +1,7 @@
 -- Inode sectors, byte for byte: that of a fresh root, one of each kind, and for each condition a neighbour that breaks it alone.
 use Rattle.std.proofs.Common.{◌≡◌, ℕ, ◌+◌, ◌-◌, true, false, Some, None, List, [], ◌∷◌, ◌++◌, replicate, refl}
 use Rattle.sector_definitions.specs.declared.inode.Inode.{Inode}
-use Rattle.sector_definitions.specs.Bytes.{zeros}
+use Rattle.sector_bytes.specs.Bytes.{zeros}
 use Rattle.sector_definitions.specs.Inodes.{inode_bytes, inode_fits, inode_in}
 
 -- the inode may stand on the disk

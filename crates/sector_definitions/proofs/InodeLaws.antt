@@ -6,7 +6,7 @@ use Rattle.byteorder.specs.Endian.{little_number, little_bytes, IsRead}
 use Rattle.byteorder.specs.Numbers.{little_number-reads_back, little_from-take}
 use Rattle.tree_definitions.specs.Tree.{small_blocks_of}
 use Rattle.sector_definitions.specs.declared.inode.Inode.{Inode}
-use Rattle.sector_definitions.specs.Bytes.{number_at, zeros}
+use Rattle.sector_bytes.specs.Bytes.{number_at, zeros}
 use Rattle.sector_definitions.specs.Inodes.{inode_bytes, inode_fits, inode_fields, inode_in, IsInodeSector, numbers_in}
 use Rattle.sector_definitions.specs.Ranges.{InodeRange}
 use Rattle.sector_definitions.proofs.WrittenFields.{length_zeros}

@@ -1,6 +1,5 @@
 pub mod WrittenFields
 pub mod Readings
-pub mod PatchLaws
 pub mod Chosen
 pub mod Lists
 pub mod NumberBytes

@@ -4,7 +4,7 @@ use Rattle.std.proofs.Math.Seq.{take-suc, get_or-append_seam}
 use Rattle.std.proofs.lemmas.Bool.{and_from, cases_lt}
 use Rattle.std.proofs.lemmas.List.{map-append, take_all, length-map, get_or-map, get_or_append_left}
 use Rattle.tree_definitions.specs.Numbers.{below}
-use Rattle.sector_definitions.specs.Bytes.{are_zero}
+use Rattle.sector_bytes.specs.Bytes.{are_zero}
 
 pub length_below : (n : ℕ) → length (below n) ≡ n
 length_below zero = refl

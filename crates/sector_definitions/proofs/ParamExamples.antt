@@ -1,7 +1,7 @@
 -- Parameter sectors, byte for byte: that of a fresh disk of 16 segments, and neighbours that are none.
 use Rattle.std.proofs.Common.{◌≡◌, ℕ, Some, None, List, [], ◌∷◌, ◌++◌, refl}
 use Rattle.sector_definitions.specs.declared.param.Param.{Param}
-use Rattle.sector_definitions.specs.Bytes.{zeros}
+use Rattle.sector_bytes.specs.Bytes.{zeros}
 use Rattle.sector_definitions.specs.Params.{param_bytes, param_in}
 
 -- a sector with these bytes behind the mark, and zeros

@@ -5,7 +5,7 @@ use Rattle.std.proofs.lemmas.Bool.Decides.{nat_tests}
 use Rattle.byteorder.specs.Endian.{little_bytes}
 use Rattle.byteorder.specs.Numbers.{little_number-reads_back}
 use Rattle.sector_definitions.specs.declared.param.Param.{Param}
-use Rattle.sector_definitions.specs.Bytes.{zeros}
+use Rattle.sector_bytes.specs.Bytes.{zeros}
 use Rattle.sector_definitions.specs.Params.{param_bytes, param_fits, param_fields, param_in, IsParamSector}
 use Rattle.sector_definitions.proofs.Readings.{read_back, read_is}
 

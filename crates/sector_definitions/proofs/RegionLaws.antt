@@ -4,7 +4,7 @@ use Rattle.std.proofs.lemmas.Nat.{div-add-mod', div-mul-add, mod-mul-add}
 use Rattle.std.proofs.lemmas.Bool.Decides.{nat_tests}
 use Rattle.frang_base.specs.declared.lock.LockId.{LockId}
 use Rattle.frang_base.specs.declared.lock.LockId.TheVariants as lock
-use Rattle.cells.proofs.Basics.{by_test, by_some, eq_of, le_of, of_ne, of_lt, of_le}
+use Rattle.frang_base.proofs.Basics.{by_test, by_some, eq_of, le_of, of_ne, of_lt, of_le}
 use Rattle.sector_definitions.specs.declared.region.Region.{Region}
 use Rattle.sector_definitions.specs.declared.region.Region.TheVariants as region
 use Rattle.sector_definitions.specs.Regions.{logs_from, bitmaps_from, inodes_from, small_blocks_from, large_blocks_from, log_stride, large_stride, sector_of, log_at, large_at, is_among, region_of, is_in_range, free_cover}

@@ -3,7 +3,7 @@ use Rattle.std.proofs.Common.{◌≡◌, ℕ, zero, suc, ◌+◌, ◌≤◌, tru
 use Rattle.std.proofs.lemmas.List.{take_at, take_all, drop_all, append-nil, length-take-le, length-replicate}
 use borrow.Rule.Slice.PartMut.{mid_of, post_of, put_mid, same_len_mid}
 use Rattle.byteorder.specs.Endian.{little_number}
-use Rattle.sector_definitions.specs.Bytes.{zeros, number_at, are_zero}
+use Rattle.sector_bytes.specs.Bytes.{zeros, number_at, are_zero}
 
 -- bytes that were put at a place behind what was done
 pub wrote : (done xs ys bs : List ℕ) (a k n m : ℕ) → a ≤ length xs → take a xs ≡ done → ys ≡ bs ++ drop n (mid_of a k xs) → length bs ≡ n → m ≡ a + n → take m (put_mid a k xs ys) ≡ done ++ bs

@@ -2,7 +2,8 @@
 use Rattle.std.specs.Prelude.{ℕ, ◌+◌, ◌-◌, ◌*◌, ◌/◌, ◌%◌, ◌^◌, Bool, true, false, ◌&&◌, ◌==◌, ◌≡◌, if◌then◌else◌, nat_le, Option, Some, None, List, [], ◌∷◌, ◌++◌, take, drop, slice_index, IsTrue}
 use Rattle.byteorder.specs.Endian.{little_bytes}
 use Rattle.frang_base.specs.declared.bitmap.Bitmap.{Bitmap}
-use Rattle.sector_definitions.specs.Bytes.{number_at, zeros, same_bytes}
+use Rattle.sector_bytes.specs.Bytes.{number_at, zeros}
+use Rattle.std.specs.Str.{bytes_eq}
 
 -- 1 where the large block is in use
 abbrev pub large_byte : Bool → ℕ
@@ -23,7 +24,7 @@ IsBitmapSector block x = block ≡ bitmap_bytes x
 
 -- the segment whose sector the block is
 abbrev pub bitmap_in : List ℕ → Option Bitmap
-bitmap_in block = if same_bytes (bitmap_bytes (bitmap_fields block)) block then Some (bitmap_fields block) else None
+bitmap_in block = if bytes_eq (bitmap_bytes (bitmap_fields block)) block then Some (bitmap_fields block) else None
 
 -- inode j of the segment is in use
 abbrev pub inode_bit : Bitmap → ℕ → Bool

@@ -6,7 +6,9 @@ use Rattle.byteorder.specs.Endian.{little_bytes}
 use Rattle.frang_base.specs.Name.{is_name}
 use Rattle.sector_definitions.specs.declared.directory.DirEntry.{DirEntry}
 use Rattle.sector_definitions.specs.declared.directory.DirSector.{DirSector}
-use Rattle.sector_definitions.specs.Bytes.{number_at, are_zero, same_bytes}
+use Rattle.sector_bytes.specs.Bytes.{number_at, are_zero}
+use Rattle.std.specs.Str.{bytes_eq}
+use Rattle.frang_base.specs.declared.limits.TheConstants.{KIND_FILE, KIND_LINK, NAME_BYTES_MAX, SECTOR_ENTRIES, VERSION_BYTES}
 
 -- the bytes of an entry, field by field
 abbrev pub entry_bytes : DirEntry → List ℕ
@@ -22,14 +24,14 @@ is_free_place e = e.inode == 0 && e.len == 0 && e.kind == 0 && are_zero e.name
 
 -- an entry: a name with the kind of its node
 abbrev pub is_used_place : DirEntry → Bool
-is_used_place e = nat_le 1 e.kind && nat_le e.kind 3 && nat_le e.len 64 && is_name (name_in e) && are_zero (drop e.len e.name)
+is_used_place e = nat_le KIND_FILE e.kind && nat_le e.kind KIND_LINK && nat_le e.len NAME_BYTES_MAX && is_name (name_in e) && are_zero (drop e.len e.name)
 
 abbrev pub entry_fits : DirEntry → Bool
 entry_fits e = is_free_place e || is_used_place e
 
 -- what stands at the places of an entry's fields
 abbrev pub entry_fields : List ℕ → DirEntry
-entry_fields bytes = record { inode = number_at 4 0 bytes; len = slice_index bytes 4; kind = slice_index bytes 5; name = take 64 (drop 6 bytes) }
+entry_fields bytes = record { inode = number_at 4 0 bytes; len = slice_index bytes 4; kind = slice_index bytes 5; name = take NAME_BYTES_MAX (drop 6 bytes) }
 
 -- so many entries from the first byte on
 abbrev pub entries_in : ℕ → List ℕ → List DirEntry
@@ -45,7 +47,7 @@ directory_fits x = list_all entry_fits x.entries
 
 -- what stands at the places of a sector's fields
 abbrev pub directory_fields : List ℕ → DirSector
-directory_fields block = record { version = number_at 8 0 block; entries = entries_in 7 (drop 8 block) }
+directory_fields block = record { version = number_at 8 0 block; entries = entries_in SECTOR_ENTRIES (drop VERSION_BYTES block) }
 
 -- the block is this sector of a directory
 abbrev pub IsDirectorySector : List ℕ → DirSector → Type 0
@@ -54,9 +56,9 @@ IsDirectorySector block x = (block ≡ directory_bytes x) × IsTrue (directory_f
 -- the sector of a directory that the block is
 abbrev pub directory_in : List ℕ → Option DirSector
 directory_in block =
-    if directory_fits (directory_fields block) && same_bytes (directory_bytes (directory_fields block)) block then Some (directory_fields block) else None
+    if directory_fits (directory_fields block) && bytes_eq (directory_bytes (directory_fields block)) block then Some (directory_fields block) else None
 
 -- the place of the first entry of this name
 abbrev pub place_of_name : List ℕ → List DirEntry → Option ℕ
 place_of_name name [] = None
-place_of_name name (e ∷ entries) = if same_bytes (name_in e) name then Some 0 else option_map suc (place_of_name name entries)
+place_of_name name (e ∷ entries) = if bytes_eq (name_in e) name then Some 0 else option_map suc (place_of_name name entries)

@@ -1,6 +1,4 @@
-pub mod Bytes
 pub mod Regions
-pub mod Patches
 pub mod Params
 pub mod Inodes
 pub mod Ranges

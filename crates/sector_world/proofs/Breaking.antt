@@ -1,11 +1,12 @@
 -- A put fails, and leaves the old sector or the new one.
 use Rattle.std.proofs.Common.{true, false, ⊎_elim, ℕ, ◌<◌, ◌≤◌, ◌≡◌, ◌≢◌, ◌⊎◌, inl, inr, Some, None, sym, ◌∙◌, ap, subst, arith}
 use Rattle.frang_base.specs.declared.lock.Mode.TheVariants.{Sole}
-use Rattle.cells.specs.Blocks.{Block, version}
-use Rattle.cells.specs.Changes.{redo_all, put}
-use Rattle.cells.specs.Histories.{settled}
-use Rattle.cells.specs.OnDisk.{OnDisk}
-use Rattle.cells.proofs.Basics.{at_put, put_other}
+use Rattle.sector_bytes.specs.Blocks.{Block, version_of}
+use Rattle.sector_bytes.specs.Replays.{redo_all}
+use Rattle.frang_base.specs.Functions.{put}
+use Rattle.sector_histories.specs.Histories.{settled}
+use Rattle.sector_histories.specs.OnDisk.{OnDisk}
+use Rattle.frang_base.proofs.Basics.{at_put, put_other}
 use Rattle.sector_world.specs.World.{World, Phase, Slot, Flight, Rescue, cover}
 use Rattle.sector_world.specs.World.Phase.{Off, Up, Dead}
 use Rattle.sector_world.specs.Guards.{to_replay, CanLand}
@@ -82,7 +83,7 @@ module _ (w : World) (s : ℕ) (f : Flight) (can : CanLand w s f) (g : Logged w)
       let place : (s' : ℕ) → OnDisk (after w (BreakNew s f)).opening (after w (BreakNew s f)).durable s' (Pending (after w (BreakNew s f)) s') ((after w (BreakNew s f)).disk s') (settled (after w (BreakNew s f)).history) = broken_place in
       let flights : (s' : ℕ) (f' : Flight) → (after w (BreakNew s f)).flight s' ≡ Some f' → (after w (BreakNew s f)).now ≤ f'.stamp → FlightOk (after w (BreakNew s f)) s' f' = λ t k. at_put (λ x. x ≡ Some k → w.now ≤ k.stamp → FlightOk (after w (BreakNew s f)) t k) w.flight s None t (λ e i n. absurd (cc))
       (λ n i l. let q : FlightOk w t k = g.flights t k i l in let z = left_flight w f.by t k q in
-      record { place = z.place; lease = z.lease; sole = z.sole; named = z.named; source = z.source; higher = subst (λ x. (version x) < (version k.block)) (sym (put_other w.disk s f.block t n)) q.higher }) in
+      record { place = z.place; lease = z.lease; sole = z.sole; named = z.named; source = z.source; higher = subst (λ x. (version_of x) < (version_of k.block)) (sym (put_other w.disk s f.block t n)) q.higher }) in
       let rescued : (r' : Rescue) → (after w (BreakNew s f)).rescue ≡ Some r' → RescueOk (after w (BreakNew s f)) r' = λ r e. let l = left_is f.by w.rescue r e in let q : RescueOk w r = g.rescued r l.0 in
       record {
         dead = q.dead;

@@ -3,16 +3,16 @@ use Rattle.std.proofs.Common.{true, false, List, ◌∷◌, Bool, IsTrue, IsSome
 use Rattle.frang_base.specs.declared.lock.LockId.{LockId}
 use Rattle.frang_base.specs.declared.lock.Mode.{Mode}
 use Rattle.frang_base.specs.declared.lock.Mode.TheVariants.{Sole}
-use Rattle.cells.specs.Blocks.{Block, zeros}
-use Rattle.cells.specs.Changes.{put}
-use Rattle.cells.specs.Histories.{Fill, Commit, Item, doubt_step, in_doubt, settled, Writes, reaches, is_logged}
-use Rattle.cells.specs.Histories.Fill.{Written, Freed}
-use Rattle.cells.specs.Histories.Item.{Done}
-use Rattle.cells.specs.Bytes.{filled, turned, value, is_free_by, is_free, Known, OnData}
-use Rattle.cells.specs.Bytes.OnData.{here, newer}
-use Rattle.cells.specs.Seen.{moved}
-use Rattle.cells.proofs.Basics.{of_lt, of_eq, true_or, at_put, put_same, put_other}
-use Rattle.cells.proofs.Bytes.{none_writes, writes_reach, data_map, data_in_place}
+use Rattle.sector_bytes.specs.Blocks.{Block, zero_block}
+use Rattle.frang_base.specs.Functions.{put}
+use Rattle.sector_histories.specs.Histories.{Fill, Commit, Item, doubt_step, in_doubt, settled, Writes, reaches, is_logged}
+use Rattle.sector_histories.specs.Histories.Fill.{Written, Freed}
+use Rattle.sector_histories.specs.Histories.Item.{Done}
+use Rattle.sector_histories.specs.Bytes.{filled, turned, value, is_free_by, is_free, Known, OnData}
+use Rattle.sector_histories.specs.Bytes.OnData.{here, newer}
+use Rattle.sector_histories.specs.Seen.{moved}
+use Rattle.frang_base.proofs.Basics.{of_lt, of_eq, true_or, at_put, put_same, put_other}
+use Rattle.sector_histories.proofs.Bytes.{none_writes, writes_reach, data_map, data_in_place, free_before}
 use Rattle.sector_world.specs.World.{World, Phase, Page, ByteFlight, cover}
 use Rattle.sector_world.specs.World.Phase.{Off, Up, Dead}
 use Rattle.sector_world.specs.World.Page.{NoPage, CleanPage, DirtyPage, FreedPage}
@@ -21,7 +21,6 @@ use Rattle.sector_world.specs.Steps.{after, page_done, truth_filled}
 use Rattle.sector_world.specs.Steps.Event.{Do}
 use Rattle.sector_world.specs.Logged.{Logged}
 use Rattle.sector_world.specs.Bytes.{IsLoose, CoversPage, PendingBytes, PageHeld, PageUnlessUp, IsCopyPage, IsDiskPage, IsMarked, ByteFlightOk, Bytes}
-use Rattle.cells.proofs.Bytes.{free_before}
 use Rattle.sector_world.proofs.BytesLanding.{other_page}
 use Rattle.sector_world.proofs.Doing.{do_sole, reaches_held}
 
@@ -177,7 +176,7 @@ module _ (w : World) (a : Commit) (can : CanDo w a) (k : Logged w) (g : Bytes w)
 
   -- a sector that becomes one with versions isn't loose, and isn't written as bytes
   claim_tight : (t : ℕ) → a.claims t ≡ true → IsLoose (w.phase a.by) (w.page a.by t) → ⊥
-  claim_tight t e = clean_loose (w.phase a.by) (w.page a.by t) zeros can.up (can.claims t e).cleared
+  claim_tight t e = clean_loose (w.phase a.by) (w.page a.by t) zero_block can.up (can.claims t e).cleared
 
   claim_plain : (t : ℕ) → a.claims t ≡ true → Writes t a → ⊥
   claim_plain t e i = claims_logged w.logged a (settled w.history) t e (can.plain t i)

@@ -2,17 +2,17 @@
 use Rattle.std.proofs.Common.{true, false, List, [], ◌∷◌, Bool, ⊎_elim, ℕ, ◌<◌, ◌≤◌, ◌≡◌, ◌≢◌, inl, inr, Option, Some, None, nat_eq, refl, sym, ◌∙◌, ap, subst, arith}
 use Rattle.frang_base.specs.declared.lock.Mode.{Mode}
 use Rattle.frang_base.specs.declared.lock.Mode.TheVariants.{Shared, Sole}
-use Rattle.cells.specs.Blocks.{Block}
-use Rattle.cells.specs.Changes.{put}
-use Rattle.cells.specs.Histories.{Item, Entry, kept, survives, in_doubt, synced_of, recovered, settled, Each, Writes}
-use Rattle.cells.specs.Histories.Entry.{Did, Recovered, Synced, Mounted}
-use Rattle.cells.specs.Bytes.{is_free, Known, OnData}
-use Rattle.cells.specs.Bytes.OnData.{here, marked}
-use Rattle.cells.specs.Seen.{Alters}
-use Rattle.cells.proofs.Basics.{by_test, eq_of, le_or_lt, at_put, put_other}
-use Rattle.cells.proofs.Histories.{each_map}
-use Rattle.cells.proofs.Seen.{each_kept_with}
-use Rattle.cells.proofs.Bytes.{survives_up, free_kept, known_kept, doubt_kept, finish_known, recovered_known, agree_kept, data_kept}
+use Rattle.sector_bytes.specs.Blocks.{Block}
+use Rattle.frang_base.specs.Functions.{put}
+use Rattle.sector_histories.specs.Histories.{Item, Entry, kept, survives, in_doubt, synced_of, recovered, settled, Each, Writes}
+use Rattle.sector_histories.specs.Histories.Entry.{Did, Recovered, Synced, Mounted}
+use Rattle.sector_histories.specs.Bytes.{is_free, Known, OnData}
+use Rattle.sector_histories.specs.Bytes.OnData.{here, marked}
+use Rattle.sector_histories.specs.Seen.{Alters, Unsynced}
+use Rattle.frang_base.proofs.Basics.{by_test, eq_of, le_or_lt, at_put, put_other}
+use Rattle.sector_histories.proofs.Histories.{each_map}
+use Rattle.sector_histories.proofs.Seen.{each_kept_with}
+use Rattle.sector_histories.proofs.Bytes.{survives_up, free_kept, known_kept, doubt_kept, finish_known, recovered_known, agree_kept, data_kept}
 use Rattle.sector_world.specs.World.{World, Phase, Page, ByteFlight, Rescue, cover}
 use Rattle.sector_world.specs.World.Phase.{Off, Up, Dead}
 use Rattle.sector_world.specs.World.Page.{NoPage, CleanPage, DirtyPage, FreedPage}
@@ -21,7 +21,6 @@ use Rattle.sector_world.specs.Steps.{after, truth_left}
 use Rattle.sector_world.specs.Steps.Event.{Finish}
 use Rattle.sector_world.specs.Logged.{Logged, RescueOk}
 use Rattle.sector_world.specs.Bytes.{IsLoose, PendingBytes, PageHeld, PageUnlessUp, IsCopyPage, IsMarked, ByteFlightOk, Bytes}
-use Rattle.cells.specs.Seen.{Unsynced}
 use Rattle.sector_world.proofs.Reaching.{sole_held}
 use Rattle.sector_world.proofs.Recovering.{sole_or_not}
 use Rattle.sector_world.proofs.Finishing.{k, lost_sole, not_dead, other_holds}

@@ -2,14 +2,15 @@
 use Rattle.std.proofs.Common.{true, false, List, Bool, ⊎_elim, le_refl, le_trans, ℕ, ◌-◌, ◌≤◌, ◌≡◌, ◌≢◌, ◌⊎◌, ◌&&◌, inl, inr, Option, Some, None, nat_le, refl, sym, ◌∙◌, ap, subst, arith}
 use Rattle.frang_base.specs.declared.lock.Mode.{Mode}
 use Rattle.frang_base.specs.declared.lock.Mode.TheVariants.{Sole}
-use Rattle.cells.specs.Blocks.{Block, zeros, same_block}
-use Rattle.cells.specs.Changes.{put, put2}
-use Rattle.cells.specs.Histories.{Commit, Item, in_doubt, settled}
-use Rattle.cells.specs.Bytes.{is_free, Known, AllWritten, OnData}
-use Rattle.cells.specs.Bytes.OnData.{here}
-use Rattle.cells.proofs.Basics.{by_test, le_of, or_equal, some_same, at_put, put_same, at_put2}
-use Rattle.cells.proofs.Blocks.{same_block_is}
-use Rattle.cells.proofs.Bytes.{data_map, data_durable}
+use Rattle.sector_bytes.specs.Blocks.{Block, zero_block}
+use Rattle.std.specs.Str.{bytes_eq}
+use Rattle.frang_base.specs.Functions.{put, put2}
+use Rattle.sector_histories.specs.Histories.{Commit, Item, in_doubt, settled}
+use Rattle.sector_histories.specs.Bytes.{is_free, Known, AllWritten, OnData}
+use Rattle.sector_histories.specs.Bytes.OnData.{here}
+use Rattle.frang_base.proofs.Basics.{by_test, le_of, or_equal, some_same, at_put, put_same, at_put2}
+use Rattle.sector_bytes.proofs.SameBytes.{same_bytes_is}
+use Rattle.sector_histories.proofs.Bytes.{data_map, data_durable}
 use Rattle.sector_world.specs.World.{World, Phase, Page, ByteFlight, cover}
 use Rattle.sector_world.specs.World.Phase.{Off, Up, Dead}
 use Rattle.sector_world.specs.World.Page.{NoPage, CleanPage, DirtyPage, FreedPage}
@@ -72,17 +73,17 @@ covers_last (FreedPage k) last op doubt free m c = le_trans c m.0
 
 pub bytes_clear : (w : World) (a s : ℕ) → CanClear w a s → Logged w → Bytes w → Bytes (after w (Clear a s))
 bytes_clear w a s can k g =
-    let new : Page = DirtyPage zeros (w.last a) in
-    let loose : (b t : ℕ) → IsLoose (w.phase b) (w.page b t) → IsLoose (w.phase b) (put2 w.page a s (DirtyPage zeros (w.last a)) b t) = λ b t z.
-    at_put2 (λ x. IsLoose (w.phase b) x) w.page a s (DirtyPage zeros (w.last a)) b t (λ e f. subst (λ p. IsLoose p (DirtyPage zeros (w.last a))) (sym (ap w.phase e ∙ can.up)) tt) (λ o. z) in
+    let new : Page = DirtyPage zero_block (w.last a) in
+    let loose : (b t : ℕ) → IsLoose (w.phase b) (w.page b t) → IsLoose (w.phase b) (put2 w.page a s (DirtyPage zero_block (w.last a)) b t) = λ b t z.
+    at_put2 (λ x. IsLoose (w.phase b) x) w.page a s (DirtyPage zero_block (w.last a)) b t (λ e f. subst (λ p. IsLoose p (DirtyPage zero_block (w.last a))) (sym (ap w.phase e ∙ can.up)) tt) (λ o. z) in
     let pend : (t : ℕ) (c : Commit) (h : List Item) → PendingBytes w t c h → PendingBytes (after w (Clear a s)) t c h = λ t c h p. record {
       sole = p.sole;
       read = p.read;
       loose = loose c.by t p.loose;
       wrote = λ i. (
         (p.wrote i).0,
-        at_put2 (λ x. CoversPage (w.phase c.by) x c.op) w.page a s (DirtyPage zeros (w.last a)) c.by t
-            (λ e f. subst (λ q. CoversPage q (DirtyPage zeros (w.last a)) c.op) (sym (ap w.phase e ∙ can.up))
+        at_put2 (λ x. CoversPage (w.phase c.by) x c.op) w.page a s (DirtyPage zero_block (w.last a)) c.by t
+            (λ e f. subst (λ q. CoversPage q (DirtyPage zero_block (w.last a)) c.op) (sym (ap w.phase e ∙ can.up))
             (covers_last (w.page a t) (w.last a) c.op (in_doubt a (w.synced a) (settled w.history) t) (is_free w.first (settled w.history) t) (g.dirtied a t)
             (subst (λ q. CoversPage q (w.page a t) c.op) (ap w.phase e ∙ can.up) (subst (λ x. CoversPage (w.phase c.by) (w.page x t) c.op) e (p.wrote i).1))))
             (λ o. (p.wrote i).1),
@@ -92,21 +93,21 @@ bytes_clear w a s can k g =
     data_map w.first w.durable w.durable t (PendingBytes w t) (PendingBytes (after w (Clear a s)) t) v (λ d. le_refl (w.durable d)) (λ c h i p. pend t c h p) (settled w.history) o in
     let held : w.holds a (cover w s) ≢ None = sole_held (w.holds a (cover w s)) can.held in
     record {
-      not_up = λ b t. at_put2 (λ x. PageUnlessUp (w.phase b) x) w.page a s (DirtyPage zeros (w.last a)) b t (λ e f. up_ok (w.phase b) (DirtyPage zeros (w.last a)) (ap w.phase e ∙ can.up)) (λ o. g.not_up b t);
-      held = λ b t. at_put2 (λ x. PageHeld x (w.holds b (cover w t))) w.page a s (DirtyPage zeros (w.last a)) b t
+      not_up = λ b t. at_put2 (λ x. PageUnlessUp (w.phase b) x) w.page a s (DirtyPage zero_block (w.last a)) b t (λ e f. up_ok (w.phase b) (DirtyPage zero_block (w.last a)) (ap w.phase e ∙ can.up)) (λ o. g.not_up b t);
+      held = λ b t. at_put2 (λ x. PageHeld x (w.holds b (cover w t))) w.page a s (DirtyPage zero_block (w.last a)) b t
           (λ e f. subst (λ x. w.holds x (cover w t) ≡ Some Sole) (sym e) (subst (λ x. w.holds a (cover w x) ≡ Some Sole) (sym f) can.held)) (λ o. g.held b t);
-      copies = λ b t. at_put2 (λ x. IsCopyPage x (put w.truth s zeros t)) w.page a s (DirtyPage zeros (w.last a)) b t
-          (λ e f. sym (ap (put w.truth s zeros) f ∙ put_same w.truth s zeros))
-          (λ o. at_put (λ v. IsCopyPage (w.page b t) v) w.truth s zeros t
-          (λ i. other_page (λ x. IsCopyPage x zeros) (w.page b t) (w.holds b (cover w t))
+      copies = λ b t. at_put2 (λ x. IsCopyPage x (put w.truth s zero_block t)) w.page a s (DirtyPage zero_block (w.last a)) b t
+          (λ e f. sym (ap (put w.truth s zero_block) f ∙ put_same w.truth s zero_block))
+          (λ o. at_put (λ v. IsCopyPage (w.page b t) v) w.truth s zero_block t
+          (λ i. other_page (λ x. IsCopyPage x zero_block) (w.page b t) (w.holds b (cover w t))
           (λ n. o (sym (k.apart a b (cover w t) (subst (λ x. w.holds a (cover w x) ≡ Some Sole) (sym i) can.held) n)) i) (g.held b t) tt)
           (λ i. g.copies b t));
-      clean = λ b t. at_put2 (λ x. IsDiskPage x (w.bytes t)) w.page a s (DirtyPage zeros (w.last a)) b t (λ e f. tt) (λ o. g.clean b t);
-      dirtied = λ b t. at_put2 (λ x. IsMarked x (w.last b) (in_doubt b (w.synced b) (settled w.history) t) (is_free w.first (settled w.history) t)) w.page a s (DirtyPage zeros (w.last a)) b t
+      clean = λ b t. at_put2 (λ x. IsDiskPage x (w.bytes t)) w.page a s (DirtyPage zero_block (w.last a)) b t (λ e f. tt) (λ o. g.clean b t);
+      dirtied = λ b t. at_put2 (λ x. IsMarked x (w.last b) (in_doubt b (w.synced b) (settled w.history) t) (is_free w.first (settled w.history) t)) w.page a s (DirtyPage zero_block (w.last a)) b t
           (λ e f. (subst (λ x. w.last a ≤ w.last x) (sym e) (le_refl (w.last a)), inr (ap (λ x. is_free w.first (settled w.history) x) f ∙ can.free))) (λ o. g.dirtied b t);
-      knows = λ t. at_put (λ v. Known w.first t v (settled w.history)) w.truth s zeros t
+      knows = λ t. at_put (λ v. Known w.first t v (settled w.history)) w.truth s zero_block t
           (λ e u fr i. let z : is_free w.first (settled w.history) t ≡ true = ap (λ x. is_free w.first (settled w.history) x) e ∙ can.free in absurd (cc)) (λ n. g.knows t);
-      still = λ t fr f. at_put (λ v. w.bytes t ≡ v) w.truth s zeros t
+      still = λ t fr f. at_put (λ v. w.bytes t ≡ v) w.truth s zero_block t
           (λ e. let z : is_free w.first (settled w.history) t ≡ true = ap (λ x. is_free w.first (settled w.history) x) e ∙ can.free in absurd (cc))
           (λ n. g.still t fr (λ b h z. f b h (loose b t z)));
       place = λ t. goes t (w.bytes t) (g.place t);
@@ -210,8 +211,8 @@ landed_or acked f NoPage = inl refl
 landed_or acked f (CleanPage b) = inl refl
 landed_or acked f (FreedPage m) = inl refl
 landed_or acked f (DirtyPage b m) =
-    by_test (λ y. (y ≡ DirtyPage b m) ⊎ ((mark : ℕ) × (DirtyPage b m ≡ DirtyPage f mark) × (mark ≤ acked) × (y ≡ CleanPage f))) (CleanPage b) (DirtyPage b m) (same_block b f && nat_le m acked)
-    (λ e. let p = and_both (same_block b f) (nat_le m acked) e in let q : b ≡ f = same_block_is b f p.0 in inr (m, ap (λ x. DirtyPage x m) q, le_of m acked p.1, ap CleanPage q))
+    by_test (λ y. (y ≡ DirtyPage b m) ⊎ ((mark : ℕ) × (DirtyPage b m ≡ DirtyPage f mark) × (mark ≤ acked) × (y ≡ CleanPage f))) (CleanPage b) (DirtyPage b m) (bytes_eq b f && nat_le m acked)
+    (λ e. let p = and_both (bytes_eq b f) (nat_le m acked) e in let q : b ≡ f = same_bytes_is b f p.0 in inr (m, ap (λ x. DirtyPage x m) q, le_of m acked p.1, ap CleanPage q))
     (λ e. inl refl)
 
 dirty_up : (p : Phase) (x : Page) (block : Block) (mark : ℕ) → x ≡ DirtyPage block mark → PageUnlessUp p x → p ≡ Up

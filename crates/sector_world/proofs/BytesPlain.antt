@@ -3,12 +3,12 @@ use Rattle.std.proofs.Common.{List, Bool, if◌then◌else◌, le_refl, le_trans
 use Rattle.frang_base.specs.declared.lock.LockId.{LockId}
 use Rattle.frang_base.specs.declared.lock.Mode.{Mode}
 use Rattle.frang_base.specs.declared.lock.Mode.TheVariants.{Sole}
-use Rattle.cells.specs.Blocks.{Block}
-use Rattle.cells.specs.Changes.{put, put_lock}
-use Rattle.cells.specs.Histories.{Commit, Item, in_doubt, synced_of, settled}
-use Rattle.cells.specs.Bytes.{is_free, OnData}
-use Rattle.cells.proofs.Basics.{by_test, at_put, put_other, at_lock}
-use Rattle.cells.proofs.Bytes.{data_map}
+use Rattle.sector_bytes.specs.Blocks.{Block}
+use Rattle.frang_base.specs.Functions.{put, put_lock}
+use Rattle.sector_histories.specs.Histories.{Commit, Item, in_doubt, synced_of, settled}
+use Rattle.sector_histories.specs.Bytes.{is_free, OnData}
+use Rattle.frang_base.proofs.Basics.{by_test, at_put, put_other, at_lock}
+use Rattle.sector_histories.proofs.Bytes.{data_map}
 use Rattle.sector_world.specs.World.{World, Phase, Page, ByteFlight, cover}
 use Rattle.sector_world.specs.World.Phase.{Off, Up, Dead}
 use Rattle.sector_world.specs.World.Page.{NoPage, CleanPage, DirtyPage, FreedPage}

@@ -1,20 +1,19 @@
 -- The death of a server.
 use Rattle.std.proofs.Common.{⊎_elim, le_refl, ℕ, ◌<◌, ◌≤◌, ◌≡◌, ◌≢◌, inl, inr, Option, Some, None, nat_eq, refl, ◌∙◌, ap, false}
 use Rattle.frang_base.specs.declared.lock.LockId.{LockId}
-use Rattle.cells.specs.Blocks.{Block}
-use Rattle.cells.specs.Changes.{put}
-use Rattle.cells.specs.Histories.{settled}
-use Rattle.cells.specs.OnDisk.{OnDisk}
-use Rattle.cells.proofs.Basics.{by_test, ne_of, at_put}
-use Rattle.cells.proofs.Histories.{on_disk_map}
+use Rattle.sector_bytes.specs.Blocks.{Block}
+use Rattle.frang_base.specs.Functions.{put}
+use Rattle.sector_histories.specs.Histories.{settled}
+use Rattle.sector_histories.specs.OnDisk.{OnDisk}
+use Rattle.frang_base.proofs.Basics.{by_test, ne_of, at_put}
+use Rattle.sector_histories.proofs.Histories.{on_disk_map}
 use Rattle.sector_world.proofs.Leases.{well_before}
 use Rattle.sector_world.specs.World.{World, Rescue, cover, Flight}
 use Rattle.sector_world.specs.World.Phase.{Off, Up, Dead}
 use Rattle.sector_world.specs.World.Slot.{Absent}
 use Rattle.sector_world.specs.Steps.{after, rescue_left}
 use Rattle.sector_world.specs.Steps.Event.{Crash}
-use Rattle.sector_world.specs.Logged.{now_of, IsCopy}
-use Rattle.sector_world.specs.Logged.{Logged, IsNewer, Covers, Pending, HeldIf, IsAhead, NoneIfOff, AbsentUnlessUp, Agrees, FlightOk, RescueOk}
+use Rattle.sector_world.specs.Logged.{now_of, IsCopy, Logged, IsNewer, Covers, Pending, HeldIf, IsAhead, NoneIfOff, AbsentUnlessUp, Agrees, FlightOk, RescueOk}
 
 -- a recovery that is still under way isn't the dead server's
 pub left_is : (a : ℕ) (o : Option Rescue) (r : Rescue) → rescue_left a o ≡ Some r → (o ≡ Some r) × (r.by ≢ a)

@@ -4,25 +4,27 @@ use Rattle.frang_base.specs.declared.change.Change.{Change}
 use Rattle.frang_base.specs.declared.lock.LockId.{LockId}
 use Rattle.frang_base.specs.declared.lock.Mode.{Mode}
 use Rattle.frang_base.specs.declared.lock.Mode.TheVariants.{Sole}
-use Rattle.cells.specs.Blocks.{Block, version, edited}
-use Rattle.cells.specs.Changes.{change_at, forced, redo_all, up_to, has_lock, put}
-use Rattle.cells.specs.Histories.{Commit, Item, redo_of, settled, logical, own, Each, Changes, reaches, Named}
-use Rattle.cells.specs.Histories.Item.{Done}
-use Rattle.cells.specs.OnDisk.{Raises, OnDisk}
-use Rattle.cells.specs.OnDisk.OnDisk.{pending}
-use Rattle.cells.specs.Seen.{moved, Alters, IsLost, SawNone}
-use Rattle.cells.proofs.Basics.{of_lt, of_eq, of_ne, at_put}
-use Rattle.cells.proofs.Blocks.{edited_version}
-use Rattle.cells.proofs.Histories.{each_map, on_disk_map, disk_version}
-use Rattle.cells.proofs.Removals.{named_keep}
+use Rattle.sector_bytes.specs.Blocks.{Block, version_of}
+use Rattle.sector_bytes.specs.Changes.{changed as changed_block}
+use Rattle.sector_bytes.specs.Replays.{change_at, forced, redo_all, up_to}
+use Rattle.frang_base.specs.Locks.{has_lock}
+use Rattle.frang_base.specs.Functions.{put}
+use Rattle.sector_histories.specs.Histories.{Commit, Item, redo_of, settled, logical, own, Each, Changes, reaches, Named}
+use Rattle.sector_histories.specs.Histories.Item.{Done}
+use Rattle.sector_histories.specs.OnDisk.{Raises, OnDisk}
+use Rattle.sector_histories.specs.OnDisk.OnDisk.{pending}
+use Rattle.sector_histories.specs.Seen.{moved, Alters, IsLost, SawNone}
+use Rattle.frang_base.proofs.Basics.{of_lt, of_eq, of_ne, at_put}
+use Rattle.sector_bytes.proofs.ChangeLaws.{version-changed}
+use Rattle.sector_histories.proofs.Histories.{each_map, on_disk_map, disk_version}
+use Rattle.sector_histories.proofs.Removals.{named_keep}
 use Rattle.sector_world.specs.World.{World, Phase, Slot, Flight, Rescue, cover}
 use Rattle.sector_world.specs.World.Phase.{Off, Up, Dead}
 use Rattle.sector_world.specs.World.Slot.{Absent, Clean, Dirty}
 use Rattle.sector_world.specs.Guards.{Based, Owned, MovesOwned, to_replay, CanDo}
 use Rattle.sector_world.specs.Steps.{after, changed}
 use Rattle.sector_world.specs.Steps.Event.{Do}
-use Rattle.sector_world.specs.Logged.{now_of, IsCopy}
-use Rattle.sector_world.specs.Logged.{Logged, IsNewer, Covers, Pending, HeldIf, IsAhead, AbsentUnlessUp, Agrees, FlightOk, ToldOk, RescueOk}
+use Rattle.sector_world.specs.Logged.{now_of, IsCopy, Logged, IsNewer, Covers, Pending, HeldIf, IsAhead, AbsentUnlessUp, Agrees, FlightOk, ToldOk, RescueOk}
 
 held_changed : (o : Option Change) (op : ℕ) (x : Slot) (m : Option Mode) → Owned o m → HeldIf x m → HeldIf (changed o op x) m
 held_changed None op x m q h = h
@@ -87,8 +89,8 @@ covers_old (Some y) older op last a s h Up (Dirty z mark) l m c = let n : mark �
 raises_based : (o : Option Change) (x : Slot) (block : Block) → Based o x → IsCopy x block → Raises o block
 raises_based None x block b i = tt
 raises_based (Some y) Absent block b i = absurd b
-raises_based (Some y) (Clean z) block b i = subst (λ r. (version r) < y.version) i b
-raises_based (Some y) (Dirty z mark) block b i = subst (λ r. (version r) < y.version) i b
+raises_based (Some y) (Clean z) block b i = subst (λ r. (version_of r) < y.version) i b
+raises_based (Some y) (Dirty z mark) block b i = subst (λ r. (version_of r) < y.version) i b
 
 -- a write in flight is older than a change made now
 agrees_changed : (o : Option Change) (op : ℕ) (p : Phase) (x : Slot) (f : Block) → Based o x → Agrees p x f → Agrees p (changed o op x) f
@@ -98,14 +100,14 @@ agrees_changed o op Up Absent f b g = absurd g
 agrees_changed o op Up (Clean z) f b g = absurd g
 agrees_changed None op Up (Dirty z mark) f b g = g
 agrees_changed (Some y) op Up (Dirty z mark) f b g =
-    let v : version (edited y z) ≡ y.version = edited_version y z in
-    inr (⊎_elim (λ i. let u : version z ≡ version f = ap version i in omega arith) (λ i. omega arith) g)
+    let v : version_of (changed_block z y) ≡ y.version = version-changed z y in
+    inr (⊎_elim (λ i. let u : version_of z ≡ version_of f = ap version_of i in omega arith) (λ i. omega arith) g)
 
-newer_changed : (o : Option Change) (op : ℕ) (x : Slot) (old now : Block) → version old ≤ version now → IsCopy x now → Based o x → IsNewer old x → IsNewer old (changed o op x)
+newer_changed : (o : Option Change) (op : ℕ) (x : Slot) (old now : Block) → version_of old ≤ version_of now → IsCopy x now → Based o x → IsNewer old x → IsNewer old (changed o op x)
 newer_changed None op x old now le i b n = n
 newer_changed (Some y) op Absent old now le i b n = tt
-newer_changed (Some y) op (Clean z) old now le i b n = let m : version z ≡ version now = ap version i in let v : version (edited y z) ≡ y.version = edited_version y z in omega arith
-newer_changed (Some y) op (Dirty z mark) old now le i b n = let m : version z ≡ version now = ap version i in let v : version (edited y z) ≡ y.version = edited_version y z in omega arith
+newer_changed (Some y) op (Clean z) old now le i b n = let m : version_of z ≡ version_of now = ap version_of i in let v : version_of (changed_block z y) ≡ y.version = version-changed z y in omega arith
+newer_changed (Some y) op (Dirty z mark) old now le i b n = let m : version_of z ≡ version_of now = ap version_of i in let v : version_of (changed_block z y) ≡ y.version = version-changed z y in omega arith
 
 moves_sole : (o : Option LockId) (lock : LockId) (c b : ℕ) (holds : ℕ → LockId → Option Mode) → MovesOwned o (holds c lock) (holds c) → (holds c lock ≡ Some Sole → b ≡ c) → holds b lock ≡ Some Sole → holds b (moved o lock) ≡ Some Sole
 moves_sole None lock c b holds m f h = h
@@ -247,7 +249,7 @@ module _ (w : World) (c : Commit) (can : CanDo w c) (g : Logged w) where
         higher = q.higher;
         lease = q.lease;
         sole = do_sole f.behalf s q.sole;
-        named = do_named f.behalf s (version f.block) q.named;
+        named = do_named f.behalf s (version_of f.block) q.named;
         source = ⊎_elim (λ o. inl (record {
           same = o.same;
           agrees = at_slot (λ x. Agrees (w.phase f.by) x f.block) f.by s

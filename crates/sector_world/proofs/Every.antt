@@ -1,9 +1,9 @@
 -- All events, and every run.
 use Rattle.std.proofs.Common.{true, false, le_refl, arith, ℕ, ◌≡◌, Bool, List, [], ◌∷◌, Some, None, if◌then◌else◌, refl}
 use Rattle.frang_base.specs.declared.lock.LockId.{LockId}
-use Rattle.cells.specs.Blocks.{Block, zeros}
-use Rattle.cells.specs.OnDisk.OnDisk.{in_place}
-use Rattle.cells.specs.Bytes.OnData.{here}
+use Rattle.sector_bytes.specs.Blocks.{Block, zero_block}
+use Rattle.sector_histories.specs.OnDisk.OnDisk.{in_place}
+use Rattle.sector_histories.specs.Bytes.OnData.{here}
 use Rattle.sector_world.specs.World.{World, start}
 use Rattle.sector_world.specs.Steps.{Event, Can, after, Run}
 use Rattle.sector_world.specs.Steps.Event.{Tick, Leave, Renew, Mount, Unmount, Take, Give, Lower, Do, Reach, Ack, Sync, Reclaim, Crash, Begin, Look, Finish, Fetch, Issue, Replay, Land, Fade, Break, BreakNew, FetchBytes, Clear, IssueBytes, LandBytes, FadeBytes, BreakBytes, BreakBytesNew, Settle}
@@ -28,12 +28,12 @@ use Rattle.sector_world.proofs.BytesDoing.{bytes_do}
 use Rattle.sector_world.proofs.BytesFinishing.{bytes_finish}
 use Rattle.sector_world.proofs.Versioned.{kinds_tick, kinds_give, kinds_lower, kinds_crash, kinds_reach, kinds_do, kinds_finish, kinds_fetch, kinds_clear, kinds_settle, kinds_issue, kinds_fade, kinds_break, kinds_land, kinds_break_new}
 
-some_is : (l b : Bool) (x u : Block) → (if l then None else (if b then Some x else None)) ≡ Some u → u ≡ (if l then zeros else x)
+some_is : (l b : Bool) (x u : Block) → (if l then None else (if b then Some x else None)) ≡ Some u → u ≡ (if l then zero_block else x)
 some_is true b x u e = cc
 some_is false true x u e = cc
 some_is false false x u e = cc
 
-none_logged : (b : Bool) (x : Block) → b ≡ false → (if b then x else zeros) ≡ zeros
+none_logged : (b : Bool) (x : Block) → b ≡ false → (if b then x else zero_block) ≡ zero_block
 none_logged true x e = cc
 none_logged false x e = refl
 

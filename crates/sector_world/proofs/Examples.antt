@@ -5,11 +5,15 @@ use Rattle.frang_base.specs.declared.lock.LockId.{LockId}
 use Rattle.frang_base.specs.declared.lock.LockId.TheVariants.{Node}
 use Rattle.frang_base.specs.declared.lock.Mode.{Mode}
 use Rattle.frang_base.specs.declared.lock.Mode.TheVariants.{Shared, Sole}
-use Rattle.cells.specs.Blocks.{zeros}
-use Rattle.cells.specs.Changes.{change_at, has_lock, same_lock, put_lock}
-use Rattle.cells.specs.Histories.{Fill, redo_of}
-use Rattle.cells.specs.Histories.Fill.{Written, Freed}
-use Rattle.cells.proofs.Basics.{by_test, at_put, at_put2, at_lock, eq_of, lock_of}
+use Rattle.sector_bytes.specs.Bytes.{zeros}
+use Rattle.sector_bytes.specs.Blocks.{zero_block}
+use Rattle.sector_bytes.specs.Changes.{changed}
+use Rattle.sector_bytes.specs.Replays.{change_at}
+use Rattle.frang_base.specs.Locks.{has_lock, same_lock}
+use Rattle.frang_base.specs.Functions.{put_lock}
+use Rattle.sector_histories.specs.Histories.{Fill, redo_of}
+use Rattle.sector_histories.specs.Histories.Fill.{Written, Freed}
+use Rattle.frang_base.proofs.Basics.{by_test, at_put, at_put2, at_lock, eq_of, lock_of}
 use Rattle.sector_world.specs.World.{World}
 use Rattle.sector_world.specs.World.Slot.{Absent, Clean}
 use Rattle.sector_world.specs.World.Page.{CleanPage}
@@ -18,7 +22,7 @@ use Rattle.sector_world.specs.Guards.{Fits, Based, Owned, MovesOwned, Shows, Non
 use Rattle.sector_world.specs.Steps.{Event, after, Run}
 use Rattle.sector_world.specs.Steps.Event.{Tick, Renew, Mount, Take, Do, Reach, Ack, Sync, Crash, Begin, Look, Finish, Fetch, Issue, Replay, Land, Fade, FetchBytes, Clear, IssueBytes, LandBytes}
 use Rattle.sector_world.specs.Steps.Run.{stays, goes}
-use Rattle.sector_world.specs.Examples.{releasing, change_again, released_cover, retaking, IsRetakenRun, freeing, IsFreedRun, begin, change, changed, deed, ticks, done, rescue, wanted, placed, write, recovery, IsLostRun, IsKeptRun, IsTwiceRun, IsLateRun, bytes, scribble, reading, IsReadRun, change_8, claim, IsClaimedRun}
+use Rattle.sector_world.specs.Examples.{releasing, change_again, released_cover, retaking, IsRetakenRun, freeing, IsFreedRun, begin, change, new_block, deed, ticks, done, rescue, wanted, placed, write, recovery, IsLostRun, IsKeptRun, IsTwiceRun, IsLateRun, bytes, scribble, reading, IsReadRun, change_8, claim, IsClaimedRun}
 
 tick_run : (n : ℕ) (w v : World) (es : List Event) → Run (record w { now = w.now + n }) es v → Run w (ticks n es) v
 tick_run zero w v es r = subst (λ n. Run (record w { now = n }) es v) (add-zero w.now) r
@@ -43,6 +47,7 @@ node_five : (s : ℕ) → 5 ≡ s → Node 5 ≡ Node s
 node_five s e = cc
 
 can_deed : CanDo ready deed
+unfolding zeros
 can_deed = record {
   up = refl;
   number = lit< tt;
@@ -51,7 +56,7 @@ can_deed = record {
   looked = λ s. at_five (λ o. IsTrue (if is_some o then true else false) → ready.holds 0 (Node s) ≢ None) s (λ e i. sole_held (ready.holds 0 (Node s)) (here_sole 0 (Node s) refl (node_five s e))) (λ i. cc);
   owned = λ s. at_five (λ o. Owned o (ready.holds 0 (Node s))) s (λ e. here_sole 0 (Node s) refl (node_five s e)) tt;
   based = λ s. at_five (λ o. Based o (ready.slot 0 s)) s
-      (λ e. at_put2 (λ x. Based (Some change) x) (λ d k. Absent) 0 5 (Clean zeros) 0 s (λ i j. lit< tt) (λ n. absurd (n refl (sym e)))) tt;
+      (λ e. at_put2 (λ x. Based (Some change) x) (λ d k. Absent) 0 5 (Clean zero_block) 0 s (λ i j. lit< tt) (λ n. absurd (n refl (sym e)))) tt;
   moves = λ s. tt;
   claims = λ s e. absurd (cc);
   named = λ s. at_five (λ o. IsSome o → nat_lt s 8 ≡ true) s (λ e i. subst (λ x. nat_lt x 8 ≡ true) e refl) (λ i. cc);
@@ -97,7 +102,7 @@ abbrev kept_late : World
 kept_late = record (after synced (Crash 0)) { now = 32 }
 
 abbrev recovered : ℕ → World → World
-recovered b w = after (after (after (after (after w (Begin 0 b)) (Look (rescue b) 5)) (Replay (wanted b) 5 changed)) (Land 5 (write b (w.expiry b - 15)))) (Finish (placed b))
+recovered b w = after (after (after (after (after w (Begin 0 b)) (Look (rescue b) 5)) (Replay (wanted b) 5 new_block)) (Land 5 (write b (w.expiry b - 15)))) (Finish (placed b))
 
 -- the log names no other sector
 no_name : (s : ℕ) → s ≢ 5 → NoneNames (redo_of deed ∷ []) s
@@ -107,7 +112,7 @@ pub kept_world : World
 kept_world = recovered 1 (after kept_late (Renew 1))
 
 pub is_kept : IsKeptRun kept_world
-unfolding kept_world
+unfolding kept_world zeros changed
 is_kept = record {
   run = done_run (Reach 0 1 ∷ Ack 0 1 ∷ Sync 0 ∷ Crash 0 ∷ ticks 31 (Renew 1 ∷ recovery 1 47)) (recovered 1 (after kept_late (Renew 1)))
       (goes (record { more = omega arith; there = omega arith; lease = omega arith })
@@ -130,7 +135,7 @@ abbrev twice_first : World
 twice_first = record (after (after did (Reach 0 1)) (Crash 0)) { now = 32 }
 
 abbrev twice_fallen : World
-twice_fallen = after (after (after (after (after twice_first (Renew 1)) (Begin 0 1)) (Look (rescue 1) 5)) (Replay (wanted 1) 5 changed)) (Crash 1)
+twice_fallen = after (after (after (after (after twice_first (Renew 1)) (Begin 0 1)) (Look (rescue 1) 5)) (Replay (wanted 1) 5 new_block)) (Crash 1)
 
 abbrev twice_second : World
 twice_second = record twice_fallen { now = 63 }
@@ -139,13 +144,13 @@ pub twice_world : World
 twice_world = recovered 2 (after (after twice_second (Renew 2)) (Fade 5 (write 1 47)))
 
 pub is_twice : IsTwiceRun twice_world
-unfolding twice_world
+unfolding twice_world zeros changed
 is_twice = record {
-  run = done_run (Reach 0 1 ∷ Crash 0 ∷ ticks 31 (Renew 1 ∷ Begin 0 1 ∷ Look (rescue 1) 5 ∷ Replay (wanted 1) 5 changed ∷ Crash 1 ∷ ticks 31 (Renew 2 ∷ Fade 5 (write 1 47) ∷ recovery 2 78)))
+  run = done_run (Reach 0 1 ∷ Crash 0 ∷ ticks 31 (Renew 1 ∷ Begin 0 1 ∷ Look (rescue 1) 5 ∷ Replay (wanted 1) 5 new_block ∷ Crash 1 ∷ ticks 31 (Renew 2 ∷ Fade 5 (write 1 47) ∷ recovery 2 78)))
       (recovered 2 (after (after twice_second (Renew 2)) (Fade 5 (write 1 47))))
       (goes (record { more = omega arith; there = omega arith; lease = omega arith })
       (goes refl
-      (tick_run 31 (after (after did (Reach 0 1)) (Crash 0)) (recovered 2 (after (after twice_second (Renew 2)) (Fade 5 (write 1 47)))) (Renew 1 ∷ Begin 0 1 ∷ Look (rescue 1) 5 ∷ Replay (wanted 1) 5 changed ∷ Crash 1 ∷ ticks 31 (Renew 2 ∷ Fade 5 (write 1 47) ∷ recovery 2 78))
+      (tick_run 31 (after (after did (Reach 0 1)) (Crash 0)) (recovered 2 (after (after twice_second (Renew 2)) (Fade 5 (write 1 47)))) (Renew 1 ∷ Begin 0 1 ∷ Look (rescue 1) 5 ∷ Replay (wanted 1) 5 new_block ∷ Crash 1 ∷ ticks 31 (Renew 2 ∷ Fade 5 (write 1 47) ∷ recovery 2 78))
       (goes (record { up = refl; later = lit< tt })
       (goes (record { dead = refl; ended = lit< tt; given_up = lit< tt; up = refl })
       (goes refl
@@ -165,7 +170,7 @@ is_twice = record {
 }
 
 abbrev sent : World
-sent = after (after (after did (Reach 0 1)) (Ack 0 1)) (Issue 0 5 changed 1)
+sent = after (after (after did (Reach 0 1)) (Ack 0 1)) (Issue 0 5 new_block 1)
 
 pub late_world : World
 late_world = after (record sent { now = 17 }) (Fade 5 (write 0 16))
@@ -173,7 +178,7 @@ late_world = after (record sent { now = 17 }) (Fade 5 (write 0 16))
 pub is_late : IsLateRun late_world
 unfolding late_world
 is_late = record {
-  run = done_run (Reach 0 1 ∷ Ack 0 1 ∷ Issue 0 5 changed 1 ∷ ticks 16 (Fade 5 (write 0 16) ∷ [])) (after (record sent { now = 17 }) (Fade 5 (write 0 16)))
+  run = done_run (Reach 0 1 ∷ Ack 0 1 ∷ Issue 0 5 new_block 1 ∷ ticks 16 (Fade 5 (write 0 16) ∷ [])) (after (record sent { now = 17 }) (Fade 5 (write 0 16)))
       (goes (record { more = omega arith; there = omega arith; lease = omega arith })
       (goes (record { there = omega arith })
       (goes (record { well = refl; up = refl; dirty = refl; log_first = omega arith; alone = refl })
@@ -227,8 +232,8 @@ shared_holds l f = at_lock (λ m. m ≢ None) doubt_world.holds 1 (Node 9) (Some
 
 shows_nine : (s : ℕ) → Shows (reading.shown s) (shared.page 1 s)
 shows_nine s =
-    by_test (λ o. Shows o (shared.page 1 s)) (Some zeros) None (nat_eq s 9)
-    (λ e. at_put2 (λ x. Shows (Some zeros) x) doubt_world.page 1 9 (CleanPage zeros) 1 s (λ i j. refl) (λ n. absurd (n refl (eq_of s 9 e))))
+    by_test (λ o. Shows o (shared.page 1 s)) (Some zero_block) None (nat_eq s 9)
+    (λ e. at_put2 (λ x. Shows (Some zero_block) x) doubt_world.page 1 9 (CleanPage zero_block) 1 s (λ i j. refl) (λ n. absurd (n refl (eq_of s 9 e))))
     (λ e. tt)
 
 can_read : CanDo shared reading
@@ -275,7 +280,7 @@ is_read = record {
 }
 
 abbrev cleared : World
-cleared = after (after (after (after (after (after (after begin (Mount 0)) (Take 0 (Node 8) Sole)) (Take 0 (Node 5) Sole)) (Clear 0 8)) (IssueBytes 0 8 zeros 0)) (LandBytes 8 (record { by = 0; stamp = 16; block = zeros }))) (Fetch 0 8)
+cleared = after (after (after (after (after (after (after begin (Mount 0)) (Take 0 (Node 8) Sole)) (Take 0 (Node 5) Sole)) (Clear 0 8)) (IssueBytes 0 8 zero_block 0)) (LandBytes 8 (record { by = 0; stamp = 16; block = zero_block }))) (Fetch 0 8)
 
 two_locks : (l : LockId) → IsTrue (has_lock l (Node 8 ∷ Node 5 ∷ [])) → (Node 8 ≡ l) ⊎ (Node 5 ≡ l)
 two_locks l i = by_test (λ b. b ≡ true → (Node 8 ≡ l) ⊎ (Node 5 ≡ l)) true (has_lock l (Node 5 ∷ [])) (same_lock (Node 8) l) (λ e j. inl (lock_of (Node 8) l e)) (λ e j. inr (one_lock 5 l j)) i
@@ -290,9 +295,11 @@ node_eight : (s : ℕ) → 8 ≡ s → Node 8 ≡ Node s
 node_eight s e = cc
 
 claim_eight : (s : ℕ) → 8 ≡ s → CanClaim cleared claim s
+unfolding zeros
 claim_eight s e = subst (λ x. CanClaim cleared claim x) e (record { fresh = refl; free = refl; cleared = refl; moved = refl })
 
 can_claim : CanDo cleared claim
+unfolding zeros
 can_claim = record {
   up = refl;
   number = lit< tt;
@@ -301,7 +308,7 @@ can_claim = record {
   looked = λ s. at_eight (λ o. IsTrue (if is_some o then true else false) → cleared.holds 0 (Node s) ≢ None) s (λ e i. sole_held (cleared.holds 0 (Node s)) (cleared_sole (Node s) (inl (node_eight s e)))) (λ i. cc);
   owned = λ s. at_eight (λ o. Owned o (cleared.holds 0 (Node s))) s (λ e. cleared_sole (Node s) (inl (node_eight s e))) tt;
   based = λ s. at_eight (λ o. Based o (cleared.slot 0 s)) s
-      (λ e. at_put2 (λ x. Based (Some change_8) x) (λ d k. Absent) 0 8 (Clean zeros) 0 s (λ i j. lit< tt) (λ n. absurd (n refl (sym e)))) tt;
+      (λ e. at_put2 (λ x. Based (Some change_8) x) (λ d k. Absent) 0 8 (Clean zero_block) 0 s (λ i j. lit< tt) (λ n. absurd (n refl (sym e)))) tt;
   moves = λ s. by_test (λ o. MovesOwned o (cleared.holds 0 (Node s)) (cleared.holds 0)) (Some (Node 5)) None (nat_eq s 8)
       (λ e. (cleared_sole (Node s) (inl (node_eight s (sym (eq_of s 8 e)))), refl)) (λ e. tt);
   claims = λ s e. claim_eight s (sym (eq_of s 8 e));
@@ -419,6 +426,7 @@ at_moved : (P : Option LockId → Type 0) (l : LockId) (s : ℕ) → (5 ≡ s �
 at_moved P l s f n = by_test P (Some l) None (nat_eq s 5) (λ e. f (sym (eq_of s 5 e))) (λ e. n)
 
 can_release : CanDo both_taken releasing
+unfolding zeros
 can_release = record {
   up = refl;
   number = lit< tt;
@@ -427,7 +435,7 @@ can_release = record {
   looked = λ s. at_five (λ o. IsTrue (if is_some o then true else false) → both_taken.holds 0 (Node s) ≢ None) s (λ e i. sole_held (both_taken.holds 0 (Node s)) (pair_sole (Node s) (inl (node_five s e)))) (λ i. cc);
   owned = λ s. at_five (λ o. Owned o (both_taken.holds 0 (Node s))) s (λ e. pair_sole (Node s) (inl (node_five s e))) tt;
   based = λ s. at_five (λ o. Based o (both_taken.slot 0 s)) s
-      (λ e. at_put2 (λ x. Based (Some change) x) (λ d k. Absent) 0 5 (Clean zeros) 0 s (λ i j. lit< tt) (λ n. absurd (n refl (sym e)))) tt;
+      (λ e. at_put2 (λ x. Based (Some change) x) (λ d k. Absent) 0 5 (Clean zero_block) 0 s (λ i j. lit< tt) (λ n. absurd (n refl (sym e)))) tt;
   moves = λ s. at_moved (λ o. MovesOwned o (both_taken.holds 0 (Node s)) (both_taken.holds 0)) (Node 6) s (λ e. (pair_sole (Node s) (inl (node_five s e)), refl)) tt;
   claims = λ s e. absurd (cc);
   named = λ s. at_five (λ o. IsSome o → nat_lt s 8 ≡ true) s (λ e i. subst (λ x. nat_lt x 8 ≡ true) e refl) (λ i. absurd (cc));
@@ -447,6 +455,7 @@ six : (s : ℕ) → 5 ≡ s → Node 6 ≡ released_cover s
 six s e = subst (λ x. Node 6 ≡ released_cover x) e refl
 
 can_retake : CanDo released retaking
+unfolding zeros changed
 can_retake = record {
   up = refl;
   number = lit< tt;

@@ -3,16 +3,19 @@ use Rattle.std.proofs.Common.{true, List, [], ◌∷◌, IsTrue, ⊎_elim, le_re
 use Rattle.frang_base.specs.declared.lock.LockId.{LockId}
 use Rattle.frang_base.specs.declared.lock.Mode.{Mode}
 use Rattle.frang_base.specs.declared.lock.Mode.TheVariants.{Sole}
-use Rattle.cells.specs.Blocks.{Block, version}
-use Rattle.cells.specs.Changes.{Redo, redo_all, up_to, has_lock, put}
-use Rattle.cells.specs.Histories.{Commit, Item, kept, survives, settled, logical, own, Each, Changes, Moves, Named, IsLast}
-use Rattle.cells.specs.OnDisk.{AllDurable, OnDisk}
-use Rattle.cells.specs.OnDisk.OnDisk.{in_place, passed}
-use Rattle.cells.specs.Seen.{Alters}
-use Rattle.cells.proofs.Basics.{le_of, le_or_lt, or_equal, at_put, put_other}
-use Rattle.cells.proofs.Histories.{each_map, rising_kept, kept_logical, replayed_is, on_disk_map, on_disk_kept}
-use Rattle.cells.proofs.Removals.{survives_own, survives_low, ops_kept, own_none, own_kept, all_durable_kept, last_kept}
-use Rattle.cells.proofs.Seen.{unseen_kept, unmet_kept, cover_kept, each_kept_with}
+use Rattle.sector_bytes.specs.Blocks.{Block, version_of}
+use Rattle.frang_base.specs.declared.change.Redo.{Redo}
+use Rattle.sector_bytes.specs.Replays.{redo_all, up_to}
+use Rattle.frang_base.specs.Locks.{has_lock}
+use Rattle.frang_base.specs.Functions.{put}
+use Rattle.sector_histories.specs.Histories.{Commit, Item, kept, survives, settled, logical, own, Each, Changes, Moves, Named, IsLast}
+use Rattle.sector_histories.specs.OnDisk.{AllDurable, OnDisk}
+use Rattle.sector_histories.specs.OnDisk.OnDisk.{in_place, passed}
+use Rattle.sector_histories.specs.Seen.{Alters}
+use Rattle.frang_base.proofs.Basics.{le_of, le_or_lt, or_equal, at_put, put_other}
+use Rattle.sector_histories.proofs.Histories.{each_map, rising_kept, kept_logical, replayed_is, on_disk_map, on_disk_kept}
+use Rattle.sector_histories.proofs.Removals.{survives_own, survives_low, ops_kept, own_none, own_kept, all_durable_kept, last_kept}
+use Rattle.sector_histories.proofs.Seen.{unseen_kept, unmet_kept, cover_kept, each_kept_with}
 use Rattle.sector_world.specs.World.{World, Phase, Slot, Flight, Rescue, cover}
 use Rattle.sector_world.specs.World.Phase.{Off, Up, Dead}
 use Rattle.sector_world.specs.World.Slot.{Absent, Clean, Dirty}
@@ -20,8 +23,7 @@ use Rattle.sector_world.specs.World.Told.{Wanted}
 use Rattle.sector_world.specs.Guards.{NoneNames, to_replay, CanFinish}
 use Rattle.sector_world.specs.Steps.{after}
 use Rattle.sector_world.specs.Steps.Event.{Finish}
-use Rattle.sector_world.specs.Logged.{now_of, IsCopy}
-use Rattle.sector_world.specs.Logged.{Logged, Covers, Pending, HeldIf, IsAhead, NoneIfOff, AbsentUnlessUp, Agrees, FlightOk, ToldOk, RescueOk}
+use Rattle.sector_world.specs.Logged.{now_of, IsCopy, Logged, Covers, Pending, HeldIf, IsAhead, NoneIfOff, AbsentUnlessUp, Agrees, FlightOk, ToldOk, RescueOk}
 use Rattle.sector_world.proofs.Reaching.{sole_held}
 use Rattle.sector_world.proofs.Recovering.{sole_or_not}
 
@@ -176,7 +178,7 @@ module _ (w : World) (r : Rescue) (can : CanFinish w r) (g : Logged w) where
       ⊎_elim
       (λ o. let u : f.stamp ≤ w.expiry f.by = q.lease in let v : w.expiry r.dead < w.now = k.ended in let z : w.expiry f.by ≡ w.expiry r.dead = ap w.expiry (o.same ∙ i) in absurd (omega arith))
       (λ o. let t : r.told s ≡ Wanted f.block = o.told r can.going (sym i) in
-      ⊎_elim (λ m. cc) (λ m. none_named (to_replay w r.dead) s (version f.block) m (subst (λ x. Named (to_replay w x) s (version f.block)) i q.named)) (can.all s))
+      ⊎_elim (λ m. cc) (λ m. none_named (to_replay w r.dead) s (version_of f.block) m (subst (λ x. Named (to_replay w x) s (version_of f.block)) i q.named)) (can.all s))
       q.source in
       let held : w.holds f.behalf (cover w s) ≢ None = sole_held (w.holds f.behalf (cover w s)) q.sole in
       record {
@@ -184,7 +186,7 @@ module _ (w : World) (r : Rescue) (can : CanFinish w r) (g : Logged w) where
         higher = q.higher;
         lease = q.lease;
         sole = other_holds f.behalf s other held ∙ q.sole;
-        named = subst (λ x. Named (up_to (w.durable f.behalf) x) s (version f.block)) (sym (put_other w.log r.dead [] f.behalf other)) q.named;
+        named = subst (λ x. Named (up_to (w.durable f.behalf) x) s (version_of f.block)) (sym (put_other w.log r.dead [] f.behalf other)) q.named;
         source = ⊎_elim
             (λ o. inl (record {
               same = o.same;

@@ -3,16 +3,18 @@ use Rattle.std.proofs.Common.{true, false, zero, suc, List, [], ◌∷◌, Bool,
 use Rattle.frang_base.specs.declared.change.Change.{Change}
 use Rattle.frang_base.specs.declared.lock.Mode.{Mode}
 use Rattle.frang_base.specs.declared.lock.Mode.TheVariants.{Sole}
-use Rattle.cells.proofs.Basics.{by_keep, le_or_lt}
-use Rattle.cells.proofs.Histories.{AtMost, each_map, each_map2, in_place_or, own_by}
+use Rattle.frang_base.proofs.Basics.{by_keep, le_or_lt}
+use Rattle.sector_histories.proofs.Histories.{AtMost, each_map, each_map2, in_place_or, own_by}
 use Rattle.sector_world.specs.World.Phase.{Off, Up, Dead}
 use Rattle.sector_world.specs.Logged.{Pending, NoneIfOff, FlightOk}
 use Rattle.sector_world.specs.Bytes.{ByteFlightOk}
-use Rattle.cells.specs.Blocks.{Block, version, zeros}
-use Rattle.cells.specs.Changes.{Redo, change_at, redo_all, keep_if, up_to}
-use Rattle.cells.specs.Histories.{Item, settled, own, is_own, redo_of, logical, is_logged, Each, Changes}
-use Rattle.cells.specs.Histories.Item.{Done, Doubt}
-use Rattle.cells.specs.Bytes.{Known}
+use Rattle.sector_bytes.specs.Blocks.{Block, version_of, zero_block}
+use Rattle.frang_base.specs.declared.change.Redo.{Redo}
+use Rattle.sector_bytes.specs.Replays.{change_at, redo_all, up_to}
+use Rattle.frang_base.specs.Functions.{keep_if}
+use Rattle.sector_histories.specs.Histories.{Item, settled, own, is_own, redo_of, logical, is_logged, Each, Changes}
+use Rattle.sector_histories.specs.Histories.Item.{Done, Doubt}
+use Rattle.sector_histories.specs.Bytes.{Known}
 use Rattle.sector_world.specs.World.{World, Phase, Flight, ByteFlight, cover, has_version, block_at}
 use Rattle.sector_world.specs.Guards.{NoneNames, to_replay}
 use Rattle.sector_world.specs.Kinds.{Claimed, Good}
@@ -41,7 +43,7 @@ own_names d f s (Doubt m ∷ h) e = own_names d f s h e
 
 up_names : (k s : ℕ) (rs : List Redo) → NoneNames rs s → NoneNames (up_to k rs) s
 up_names k s [] n = tt
-up_names k s (r ∷ rs) n = none_at (nat_le r.op k) r (up_to k rs) s n.0 (up_names k s rs n.1)
+up_names k s (r ∷ rs) n = none_at (nat_le r.op.0 k) r (up_to k rs) s n.0 (up_names k s rs n.1)
 
 none_off : (p : Phase) (m : Option Mode) → p ≡ Off → NoneIfOff p m → m ≡ None
 none_off Off m e n = n
@@ -108,14 +110,14 @@ module _ (w : World) (g : Good w) where
   in_flight_bytes : (s : ℕ) (f : ByteFlight) → w.byte_flight s ≡ Some f → (f.stamp < w.now) ⊎ (w.holds f.by (cover w s) ≡ Some Sole)
   in_flight_bytes s f e = ⊎_elim (λ l. inr (let q : ByteFlightOk w s f = g.bytes.flights s f e l in q.sole)) (λ l. inl l) (le_or_lt w.now f.stamp)
 
-  records : (d s : ℕ) → EachNames (λ x. (x.version ≤ version (block_at w s)) ⊎ (w.holds d (cover w s) ≡ Some Sole)) (w.log d) s
+  records : (d s : ℕ) → EachNames (λ x. (x.version ≤ version_of (block_at w s)) ⊎ (w.holds d (cover w s) ≡ Some Sole)) (w.log d) s
   records d s =
-      subst (λ l. EachNames (λ x. (x.version ≤ version (block_at w s)) ⊎ (w.holds d (cover w s) ≡ Some Sole)) l s) (sym (g.logged.logs d))
-      (names_own d (w.floor d) s (λ x. (x.version ≤ version (block_at w s)) ⊎ (w.holds d (cover w s) ≡ Some Sole)) (settled w.history)
-      (each_map2 (λ c. Pending w s c ⊎ AtMost (change_at c.changes s) (version (w.disk s))) (λ c. Changes s c → has_version w s ≡ true)
-      (λ c. c.by ≡ d → (x : Change) → change_at c.changes s ≡ Some x → (x.version ≤ version (block_at w s)) ⊎ (w.holds d (cover w s) ≡ Some Sole))
+      subst (λ l. EachNames (λ x. (x.version ≤ version_of (block_at w s)) ⊎ (w.holds d (cover w s) ≡ Some Sole)) l s) (sym (g.logged.logs d))
+      (names_own d (w.floor d) s (λ x. (x.version ≤ version_of (block_at w s)) ⊎ (w.holds d (cover w s) ≡ Some Sole)) (settled w.history)
+      (each_map2 (λ c. Pending w s c ⊎ AtMost (change_at c.changes s) (version_of (w.disk s))) (λ c. Changes s c → has_version w s ≡ true)
+      (λ c. c.by ≡ d → (x : Change) → change_at c.changes s ≡ Some x → (x.version ≤ version_of (block_at w s)) ⊎ (w.holds d (cover w s) ≡ Some Sole))
       (λ c m v e x i. ⊎_elim (λ p. inr (ap (λ y. w.holds y (cover w s)) (sym e) ∙ p.sole))
-      (λ a. inl (subst (λ y. x.version ≤ version y) (sym (version_at s (v (subst IsSome (sym i) refl)))) (subst (λ o. AtMost o (version (w.disk s))) i a))) m)
+      (λ a. inl (subst (λ y. x.version ≤ version_of y) (sym (version_at s (v (subst IsSome (sym i) refl)))) (subst (λ o. AtMost o (version_of (w.disk s))) i a))) m)
       (settled w.history)
       (in_place_or w.opening w.durable s (Pending w s) (w.disk s) (settled w.history) (g.logged.place s) (g.logged.rising s))
       (claimed_now w.logged s (settled w.history) (g.kinds.claimed s))))
@@ -144,7 +146,7 @@ module _ (w : World) (g : Good w) where
   }
 
   -- the sectors with versions of the replayed disk, with zeros for the others, are the logical ones of what is left
-  pub with_versions_is : (s : ℕ) → (if is_logged w.logged (left w w.servers) s then replayed w w.servers s else zeros) ≡ logical w.opening (left w w.servers) s
+  pub with_versions_is : (s : ℕ) → (if is_logged w.logged (left w w.servers) s then replayed w w.servers s else zero_block) ≡ logical w.opening (left w w.servers) s
   with_versions_is s =
       ⊎_elim
       (λ e. rw e (left_replayed s e))

@@ -2,15 +2,17 @@
 use Rattle.std.proofs.Common.{true, false, if◌then◌else◌, ⊎_elim, le_refl, ℕ, ◌<◌, ◌≤◌, ◌≡◌, ◌≢◌, ◌⊎◌, inl, inr, Option, Some, None, nat_eq, refl, sym, ◌∙◌, ap, subst, arith}
 use Rattle.frang_base.specs.declared.lock.Mode.{Mode}
 use Rattle.frang_base.specs.declared.lock.Mode.TheVariants.{Sole}
-use Rattle.cells.specs.Blocks.{Block, version, same_block}
-use Rattle.cells.specs.Changes.{change_at, redo_all, up_to, put}
-use Rattle.cells.specs.Histories.{settled}
-use Rattle.cells.specs.OnDisk.{OnDisk}
-use Rattle.cells.specs.OnDisk.OnDisk.{in_place}
-use Rattle.cells.proofs.Basics.{by_test, eq_of, ne_of, some_same, at_put, put_same, put_other, at_put2}
-use Rattle.cells.proofs.Blocks.{same_block_is, same_block_refl}
-use Rattle.cells.proofs.Histories.{AtMost, each_map, all_skipped, on_disk_map, in_place_or}
-use Rattle.cells.proofs.More.{all_settled, redo_twice}
+use Rattle.sector_bytes.specs.Blocks.{Block, version_of}
+use Rattle.std.specs.Str.{bytes_eq}
+use Rattle.sector_bytes.specs.Replays.{change_at, redo_all, up_to}
+use Rattle.frang_base.specs.Functions.{put}
+use Rattle.sector_histories.specs.Histories.{settled}
+use Rattle.sector_histories.specs.OnDisk.{OnDisk}
+use Rattle.sector_histories.specs.OnDisk.OnDisk.{in_place}
+use Rattle.frang_base.proofs.Basics.{by_test, eq_of, ne_of, some_same, at_put, put_same, put_other, at_put2}
+use Rattle.sector_bytes.proofs.SameBytes.{same_bytes_is, same_bytes_refl}
+use Rattle.sector_histories.proofs.Histories.{AtMost, each_map, all_skipped, on_disk_map, in_place_or}
+use Rattle.sector_histories.proofs.More.{all_settled, redo_twice}
 use Rattle.sector_world.specs.World.{World, Phase, Slot, Flight, Told, Rescue, cover}
 use Rattle.sector_world.specs.World.Phase.{Off, Up, Dead}
 use Rattle.sector_world.specs.World.Slot.{Absent, Clean, Dirty}
@@ -18,8 +20,7 @@ use Rattle.sector_world.specs.World.Told.{Unread, Wanted, InPlace}
 use Rattle.sector_world.specs.Guards.{to_replay, CanLand}
 use Rattle.sector_world.specs.Steps.{after, landed, rescue_landed}
 use Rattle.sector_world.specs.Steps.Event.{Land}
-use Rattle.sector_world.specs.Logged.{now_of, IsCopy}
-use Rattle.sector_world.specs.Logged.{Logged, IsNewer, Covers, Pending, HeldIf, IsAhead, AbsentUnlessUp, Agrees, FlightOk, ToldOk, RescueOk}
+use Rattle.sector_world.specs.Logged.{now_of, IsCopy, Logged, IsNewer, Covers, Pending, HeldIf, IsAhead, AbsentUnlessUp, Agrees, FlightOk, ToldOk, RescueOk}
 use Rattle.sector_world.proofs.Reaching.{sole_held}
 
 landed_not_up : (p : Phase) (f : Block) (x : Slot) → AbsentUnlessUp p x → AbsentUnlessUp p (landed f x)
@@ -32,8 +33,8 @@ landed_or : (f : Block) (x : Slot) → (landed f x ≡ x) ⊎ ((mark : ℕ) × (
 landed_or f Absent = inl refl
 landed_or f (Clean z) = inl refl
 landed_or f (Dirty z m) =
-    by_test (λ y. (y ≡ Dirty z m) ⊎ ((mark : ℕ) × (Dirty z m ≡ Dirty f mark) × (y ≡ Clean f))) (Clean z) (Dirty z m) (same_block z f)
-    (λ e. let q : z ≡ f = same_block_is z f e in inr (m, ap (λ x. Dirty x m) q, ap Clean q)) (λ e. inl refl)
+    by_test (λ y. (y ≡ Dirty z m) ⊎ ((mark : ℕ) × (Dirty z m ≡ Dirty f mark) × (y ≡ Clean f))) (Clean z) (Dirty z m) (bytes_eq z f)
+    (λ e. let q : z ≡ f = same_bytes_is z f e in inr (m, ap (λ x. Dirty x m) q, ap Clean q)) (λ e. inl refl)
 
 -- a slot that stays is not what came: it has a newer block
 landed_newer : (p : Phase) (f : Block) (x : Slot) → AbsentUnlessUp p x → (p ≡ Up → Agrees p x f) → IsNewer f (landed f x)
@@ -42,8 +43,8 @@ landed_newer p f (Clean z) n g = tt
 landed_newer Off f (Dirty z m) n g = cc
 landed_newer Dead f (Dirty z m) n g = cc
 landed_newer Up f (Dirty z m) n g =
-    by_test (λ y. IsNewer f y) (Clean z) (Dirty z m) (same_block z f) (λ e. tt)
-    (λ e. ⊎_elim (λ q. let r : same_block z f ≡ true = subst (λ x. same_block z x ≡ true) q (same_block_refl z) in absurd (cc)) (λ q. q) (g refl))
+    by_test (λ y. IsNewer f y) (Clean z) (Dirty z m) (bytes_eq z f) (λ e. tt)
+    (λ e. ⊎_elim (λ q. let r : bytes_eq z f ≡ true = subst (λ x. bytes_eq z x ≡ true) q (same_bytes_refl z) in absurd (cc)) (λ q. q) (g refl))
 
 pub newer_free : (x : Slot) (mode : Option Mode) (new : Block) → HeldIf x mode → (mode ≡ Some Sole → ⊥) → IsNewer new x
 newer_free Absent mode new i n = tt
@@ -72,13 +73,13 @@ pub other_replay : (w : World) → Logged w → (d s : ℕ) (block : Block) → 
 other_replay w g d s block n o =
     ap (λ l. redo_all (up_to (w.durable d) l) s block) (g.logs d)
     ∙ all_skipped d (w.floor d) (w.durable d) s block (settled w.history)
-    (each_map (λ c. Pending w s c ⊎ AtMost (change_at c.changes s) (version block)) (λ c. c.by ≡ d → AtMost (change_at c.changes s) (version block))
+    (each_map (λ c. Pending w s c ⊎ AtMost (change_at c.changes s) (version_of block)) (λ c. c.by ≡ d → AtMost (change_at c.changes s) (version_of block))
     (λ c m e. ⊎_elim (λ p. absurd (n (ap (λ x. w.holds x (cover w s)) (sym e) ∙ p.sole))) (λ a. a) m)
     (settled w.history) (in_place_or w.opening w.durable s (Pending w s) block (settled w.history) o (g.rising s)))
 
 pub told_other : (t : Told) (old new : Block) (new' : Block) → new ≡ old → ToldOk t old new → ToldOk t new' new'
 told_other Unread old new new' e k = tt
-told_other (Wanted z) old new new' e k = let u : (version old) < (version new) = k.1 in let v : (version new) ≡ (version old) = ap version e in absurd (omega arith)
+told_other (Wanted z) old new new' e k = let u : (version_of old) < (version_of new) = k.1 in let v : (version_of new) ≡ (version_of old) = ap version_of e in absurd (omega arith)
 told_other InPlace old new new' e k = refl
 
 module _ (w : World) (s : ℕ) (f : Flight) (can : CanLand w s f) (g : Logged w) where
@@ -149,7 +150,7 @@ module _ (w : World) (s : ℕ) (f : Flight) (can : CanLand w s f) (g : Logged w)
       let q : FlightOk w t h = g.flights t h e l in
       record {
         place = land_other t h.block n q.place;
-        higher = subst (λ x. (version x) < (version h.block)) (sym (put_other w.disk s f.block t n)) q.higher;
+        higher = subst (λ x. (version_of x) < (version_of h.block)) (sym (put_other w.disk s f.block t n)) q.higher;
         lease = q.lease;
         sole = q.sole;
         named = q.named;

@@ -1,11 +1,11 @@
 -- The history stays legal, through all removals.
 use Rattle.std.proofs.Common.{◌≡◌, ◌≢◌, List, [], ◌∷◌, IsTrue, refl, sym, ◌∙◌, subst}
-use Rattle.cells.specs.Blocks.{Block}
-use Rattle.cells.specs.Histories.{Commit, settled, survives}
-use Rattle.cells.specs.Histories.Item.{Done}
-use Rattle.cells.specs.Plans.{Plan, looks, IsFramed, Legal}
-use Rattle.cells.proofs.Plans.{legal_kept}
-use Rattle.cells.proofs.Seen.{clear_survives}
+use Rattle.sector_bytes.specs.Blocks.{Block}
+use Rattle.sector_histories.specs.Histories.{Commit, settled, survives}
+use Rattle.sector_histories.specs.Histories.Item.{Done}
+use Rattle.sector_histories.specs.Plans.{Plan, looks, IsFramed, Legal}
+use Rattle.sector_histories.proofs.Plans.{legal_kept}
+use Rattle.sector_histories.proofs.Seen.{clear_survives}
 use Rattle.sector_world.specs.World.{World, Slot}
 use Rattle.sector_world.specs.World.Slot.{Absent, Clean, Dirty}
 use Rattle.sector_world.specs.Steps.{Event, after, Run}

@@ -3,21 +3,21 @@ use Rattle.std.proofs.Common.{IsTrue, if◌then◌else◌, ⊎_elim, le_refl, �
 use Rattle.frang_base.specs.declared.lock.LockId.{LockId}
 use Rattle.frang_base.specs.declared.lock.Mode.{Mode}
 use Rattle.frang_base.specs.declared.lock.Mode.TheVariants.{Shared, Sole}
-use Rattle.cells.specs.Blocks.{Block}
-use Rattle.cells.specs.Changes.{same_lock, has_lock, put_lock}
-use Rattle.cells.specs.Histories.{Commit, settled, Each}
-use Rattle.cells.specs.OnDisk.{OnDisk}
-use Rattle.cells.specs.Seen.{Alters}
-use Rattle.cells.proofs.Basics.{by_test, some_same, lock_of, lock_not, at_put, at_put2, at_lock}
-use Rattle.cells.proofs.Histories.{each_map, each_map2, on_disk_map, all_in_place}
+use Rattle.sector_bytes.specs.Blocks.{Block}
+use Rattle.frang_base.specs.Locks.{same_lock, has_lock}
+use Rattle.frang_base.specs.Functions.{put_lock}
+use Rattle.sector_histories.specs.Histories.{Commit, settled, Each}
+use Rattle.sector_histories.specs.OnDisk.{OnDisk}
+use Rattle.sector_histories.specs.Seen.{Alters}
+use Rattle.frang_base.proofs.Basics.{by_test, some_same, lock_of, lock_not, at_put, at_put2, at_lock}
+use Rattle.sector_histories.proofs.Histories.{each_map, each_map2, on_disk_map, all_in_place}
 use Rattle.sector_world.specs.World.{World, Phase, Slot, Flight, cover}
 use Rattle.sector_world.specs.World.Phase.{Off, Up, Dead}
 use Rattle.sector_world.specs.World.Slot.{Absent, Clean, Dirty}
 use Rattle.sector_world.specs.Guards.{Fits, NotDirty, CanTake, CanGive, CanFetch}
 use Rattle.sector_world.specs.Steps.{after}
 use Rattle.sector_world.specs.Steps.Event.{Take, Give, Lower, Fetch}
-use Rattle.sector_world.specs.Logged.{now_of, IsCopy}
-use Rattle.sector_world.specs.Logged.{Logged, IsNewer, Covers, Pending, HeldIf, IsAhead, NoneIfOff, AbsentUnlessUp, Agrees, FlightOk}
+use Rattle.sector_world.specs.Logged.{now_of, IsCopy, Logged, IsNewer, Covers, Pending, HeldIf, IsAhead, NoneIfOff, AbsentUnlessUp, Agrees, FlightOk}
 
 fits_sole_none : (m : Option Mode) → Fits Sole m → m ≢ None → ⊥
 fits_sole_none None f n = n refl

@@ -1,9 +1,9 @@
 -- There is one disk, and writes come to it in order.
 use Rattle.std.proofs.Common.{true, false, Bool, if◌then◌else◌, ⊎_elim, le_trans, ℕ, ◌<◌, ◌≤◌, ◌≡◌, ◌⊎◌, inl, inr, None, refl, sym, ◌∙◌, ap, subst, arith}
-use Rattle.cells.specs.Blocks.{Block, version, zeros}
-use Rattle.cells.specs.Changes.{put}
-use Rattle.cells.specs.Histories.{Commit, settled, survives}
-use Rattle.cells.proofs.Basics.{by_some, of_eq, of_ne, or_equal}
+use Rattle.sector_bytes.specs.Blocks.{Block, version_of, zero_block}
+use Rattle.frang_base.specs.Functions.{put}
+use Rattle.sector_histories.specs.Histories.{Commit, settled, survives}
+use Rattle.frang_base.proofs.Basics.{by_some, of_eq, of_ne, or_equal}
 use Rattle.sector_world.specs.World.{World, Flight, ByteFlight, Rescue, has_version, block_at}
 use Rattle.sector_world.specs.Guards.{CanLand, CanLandBytes, CanDo, CanFinish}
 use Rattle.sector_world.specs.Steps.{Event, Can, after}
@@ -20,7 +20,7 @@ true_or_false true = inl refl
 true_or_false false = inr refl
 
 -- the sector of the disk that has no version is zeros on its other side
-plain_zeros : (w : World) → Good w → (s : ℕ) → has_version w s ≡ false → w.disk s ≡ zeros
+plain_zeros : (w : World) → Good w → (s : ℕ) → has_version w s ≡ false → w.disk s ≡ zero_block
 plain_zeros w g s e =
     unchanged_place w.opening w.durable s (Pending w s) (w.disk s) (settled w.history) (plain_unchanged w.logged s (settled w.history) e (g.kinds.claimed s)) (g.logged.place s)
     ∙ g.kinds.zero s (plain_first w.logged s (settled w.history) e)
@@ -32,7 +32,7 @@ flight_versioned w g s f can =
     (λ e. let q : FlightOk w s f = g.logged.flights s f can.there can.early in
     let same : f.block ≡ w.opening s = unchanged_place w.opening w.durable s (Pending w s) f.block (settled w.history) (plain_unchanged w.logged s (settled w.history) e (g.kinds.claimed s)) q.place in
     let old : w.disk s ≡ w.opening s = unchanged_place w.opening w.durable s (Pending w s) (w.disk s) (settled w.history) (plain_unchanged w.logged s (settled w.history) e (g.kinds.claimed s)) (g.logged.place s) in
-    let u : version (w.disk s) < version f.block = q.higher in let v : version (w.disk s) ≡ version f.block = ap version (old ∙ sym same) in absurd (omega arith))
+    let u : version_of (w.disk s) < version_of f.block = q.higher in let v : version_of (w.disk s) ≡ version_of f.block = ap version_of (old ∙ sym same) in absurd (omega arith))
     (true_or_false (has_version w s))
 
 -- no recovery of a server begins while its lease lasts

@@ -3,25 +3,26 @@ use Rattle.std.proofs.Common.{IsTrue, le_trans, ℕ, ◌-◌, ◌<◌, ◌≤◌
 use Rattle.frang_base.specs.declared.lock.LockId.{LockId}
 use Rattle.frang_base.specs.declared.lock.Mode.{Mode}
 use Rattle.frang_base.specs.declared.lock.Mode.TheVariants.{Sole}
-use Rattle.cells.specs.Blocks.{Block, version}
-use Rattle.cells.specs.Changes.{redo_all, up_to, has_lock, put}
-use Rattle.cells.specs.Histories.{settled, own, Named}
-use Rattle.cells.specs.OnDisk.{AllDurable, OnDisk}
-use Rattle.cells.specs.OnDisk.OnDisk.{in_place}
-use Rattle.cells.specs.Seen.{Alters, Unsynced}
-use Rattle.cells.proofs.Basics.{some_same, at_put}
-use Rattle.cells.proofs.Histories.{each_map, on_disk_map, all_durable}
-use Rattle.cells.proofs.Removals.{last_named}
-use Rattle.cells.proofs.More.{last_pending, named_more}
-use Rattle.cells.proofs.Seen.{unseen_more, unmet_more, unsynced_more}
+use Rattle.sector_bytes.specs.Blocks.{Block, version_of}
+use Rattle.sector_bytes.specs.Replays.{redo_all, up_to}
+use Rattle.frang_base.specs.Locks.{has_lock}
+use Rattle.frang_base.specs.Functions.{put}
+use Rattle.sector_histories.specs.Histories.{settled, own, Named}
+use Rattle.sector_histories.specs.OnDisk.{AllDurable, OnDisk}
+use Rattle.sector_histories.specs.OnDisk.OnDisk.{in_place}
+use Rattle.sector_histories.specs.Seen.{Alters, Unsynced}
+use Rattle.frang_base.proofs.Basics.{some_same, at_put}
+use Rattle.sector_histories.proofs.Histories.{each_map, on_disk_map, all_durable}
+use Rattle.sector_histories.proofs.Removals.{last_named}
+use Rattle.sector_histories.proofs.More.{last_pending, named_more}
+use Rattle.sector_histories.proofs.Seen.{unseen_more, unmet_more, unsynced_more}
 use Rattle.sector_world.specs.World.{World, Slot, Flight, cover}
 use Rattle.sector_world.specs.World.Phase.{Up}
 use Rattle.sector_world.specs.World.Slot.{Dirty}
 use Rattle.sector_world.specs.Guards.{to_replay, CanReach, CanAck, CanSync, CanIssue}
 use Rattle.sector_world.specs.Steps.{after}
 use Rattle.sector_world.specs.Steps.Event.{Reach, Ack, Sync, Issue, Fade}
-use Rattle.sector_world.specs.Logged.{now_of, IsCopy}
-use Rattle.sector_world.specs.Logged.{Logged, IsNewer, Covers, Pending, HeldIf, IsAhead, FlightOk, ToldOk, RescueOk}
+use Rattle.sector_world.specs.Logged.{now_of, IsCopy, Logged, IsNewer, Covers, Pending, HeldIf, IsAhead, FlightOk, ToldOk, RescueOk}
 
 module _ (w : World) (d k : ℕ) (can : CanReach w d k) (g : Logged w) where
   reach_up : (e : ℕ) → w.durable e ≤ put w.durable d k e
@@ -66,7 +67,7 @@ module _ (w : World) (d k : ℕ) (can : CanReach w d k) (g : Logged w) where
           lease = q.lease;
           sole = q.sole;
           source = q.source;
-          named = named_more (w.log f.behalf) (w.durable f.behalf) (put w.durable d k f.behalf) s (version f.block) (reach_up f.behalf) q.named;
+          named = named_more (w.log f.behalf) (w.durable f.behalf) (put w.durable d k f.behalf) s (version_of f.block) (reach_up f.behalf) q.named;
         };
     rescued = λ r e. let q : RescueOk w r = g.rescued r e in
         record {
@@ -112,7 +113,7 @@ module _ (w : World) (a s : ℕ) (block : Block) (mark : ℕ) (can : CanIssue w 
   issue_ahead : IsAhead (w.last a) s a (settled w.history) (Dirty block mark)
   issue_ahead = subst (λ x. IsAhead (w.last a) s a (settled w.history) x) can.dirty (g.ahead a s)
 
-  issue_newer : (version (w.disk s)) < (version block)
+  issue_newer : (version_of (w.disk s)) < (version_of block)
   issue_newer = subst (IsNewer (w.disk s)) can.dirty (g.newer a s can.well)
 
   issue_mark : mark ≤ w.durable a
@@ -126,13 +127,13 @@ module _ (w : World) (a s : ℕ) (block : Block) (mark : ℕ) (can : CanIssue w 
       let r : w.durable c.by ≡ w.durable a = ap w.durable e in omega arith)
       (settled w.history) (g.place s)
 
-  issue_named : Named (to_replay w a) s (version block)
+  issue_named : Named (to_replay w a) s (version_of block)
   issue_named =
-      let less : (version (w.disk s)) < (version (now_of w s)) = subst (λ x. (version (w.disk s)) < (version x)) issue_now issue_newer in
+      let less : (version_of (w.disk s)) < (version_of (now_of w s)) = subst (λ x. (version_of (w.disk s)) < (version_of x)) issue_now issue_newer in
       let p = last_pending w.opening w.durable s a mark (Pending w s) (w.disk s) (settled w.history) issue_ahead.1 less (g.place s) in
       let fl : w.floor a < mark = subst (λ x. w.floor a < x) p.3 (subst (λ x. w.floor x < p.0.op) p.2 p.1.above) in
-      subst (λ l. Named (up_to (w.durable a) l) s (version block)) (sym (g.logs a))
-      (subst (λ x. Named (up_to (w.durable a) (own a (w.floor a) (settled w.history))) s (version x)) (sym issue_now)
+      subst (λ l. Named (up_to (w.durable a) l) s (version_of block)) (sym (g.logs a))
+      (subst (λ x. Named (up_to (w.durable a) (own a (w.floor a) (settled w.history))) s (version_of x)) (sym issue_now)
       (last_named w.opening s a mark (w.floor a) (w.durable a) fl issue_mark (settled w.history) issue_ahead.1))
 
   issue_flight : FlightOk (after w (Issue a s block mark)) s (record { by = a; behalf = a; stamp = w.expiry a - 15; block = block })

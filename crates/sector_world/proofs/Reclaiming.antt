@@ -2,14 +2,16 @@
 use Rattle.std.proofs.Common.{true, false, List, [], ◌∷◌, Bool, ⊎_elim, le_refl, ℕ, ◌<◌, ◌≤◌, ◌≡◌, ◌&&◌, inl, Option, Some, None, nat_lt, nat_le, refl, sym, ◌∙◌, ap, subst, arith}
 use Rattle.std.proofs.lemmas.Bool.Decides.{nat_tests}
 use Rattle.frang_base.specs.declared.change.Change.{Change}
-use Rattle.cells.specs.Blocks.{Block, version}
-use Rattle.cells.specs.Changes.{Redo, change_at, redo_all, keep_if, up_to, above, put}
-use Rattle.cells.specs.Histories.{Commit, Item, redo_of, settled, is_own, own, Each, Named}
-use Rattle.cells.specs.Histories.Item.{Done, Doubt}
-use Rattle.cells.specs.OnDisk.{OnDisk}
-use Rattle.cells.proofs.Basics.{of_lt, of_eq, of_ne, le_or_lt, or_equal, at_put, by_keep}
-use Rattle.cells.proofs.Removals.{named_keep}
-use Rattle.cells.proofs.More.{IsAbove, on_disk_more}
+use Rattle.sector_bytes.specs.Blocks.{Block, version_of}
+use Rattle.frang_base.specs.declared.change.Redo.{Redo}
+use Rattle.sector_bytes.specs.Replays.{change_at, redo_all, up_to, above}
+use Rattle.frang_base.specs.Functions.{keep_if, put}
+use Rattle.sector_histories.specs.Histories.{Commit, Item, redo_of, settled, is_own, own, Each, Named}
+use Rattle.sector_histories.specs.Histories.Item.{Done, Doubt}
+use Rattle.sector_histories.specs.OnDisk.{OnDisk}
+use Rattle.frang_base.proofs.Basics.{of_lt, of_eq, of_ne, le_or_lt, or_equal, at_put, by_keep}
+use Rattle.sector_histories.proofs.Removals.{named_keep}
+use Rattle.sector_histories.proofs.More.{IsAbove, on_disk_more}
 use Rattle.sector_world.specs.World.{World, Flight, Rescue}
 use Rattle.sector_world.specs.Guards.{IsBelow, AreBelow, CanReclaim}
 use Rattle.sector_world.specs.Steps.{after}
@@ -30,7 +32,7 @@ own_and a k f c le =
     (λ n. rw (of_ne c.by a n))
     (or_equal c.by a)
 
-above_keep : (k : ℕ) (b : Bool) (r : Redo) (rs : List Redo) → above k (keep_if b r rs) ≡ keep_if (b && nat_lt k r.op) r (above k rs)
+above_keep : (k : ℕ) (b : Bool) (r : Redo) (rs : List Redo) → above k (keep_if b r rs) ≡ keep_if (b && nat_lt k r.op.0) r (above k rs)
 above_keep k true r rs = refl
 above_keep k false r rs = refl
 
@@ -61,38 +63,38 @@ named_not_below None x v n e f l b = cc
 named_not_below (Some y) x v n e f l b = let q : y.version ≡ x.version = ap (λ z. z.version) (let m : y ≡ x = cc in m) in omega arith
 
 drop_named : (j : ℕ) (b : Bool) (r : Redo) (rs : List Redo) (s v : ℕ) → Named (up_to j rs) s v → Named (up_to j (keep_if b r rs)) s v
-drop_named j true r rs s v n = named_keep (nat_le r.op j) r (up_to j rs) s v n
+drop_named j true r rs s v n = named_keep (nat_le r.op.0 j) r (up_to j rs) s v n
 drop_named j false r rs s v n = n
 
 -- a record that names a sector with a version that isn't on the disk yet isn't given up
 named_above : (j k : ℕ) (rs : List Redo) (s n v : ℕ) → AreBelow k rs s n → n < v → Named (up_to j rs) s v → Named (up_to j (above k rs)) s v
 named_above j k [] s n v b l m = m
 named_above j k (r ∷ rs) s n v b l m =
-    by_keep (λ x. Named x s v → Named (up_to j (keep_if (nat_lt k r.op) r (above k rs))) s v) (nat_le r.op j) r (up_to j rs)
+    by_keep (λ x. Named x s v → Named (up_to j (keep_if (nat_lt k r.op.0) r (above k rs))) s v) (nat_le r.op.0 j) r (up_to j rs)
     (λ e q. ⊎_elim
     (λ x. ⊎_elim
     (λ i. absurd (named_not_below (change_at r.changes s) x.0 v n x.1 x.2 l (b.0 i)))
-    (λ i. rw (of_lt k r.op i, e) (inl x))
-    (le_or_lt r.op k))
-    (λ x. drop_named j (nat_lt k r.op) r (above k rs) s v (named_above j k rs s n v b.1 l x)) q)
-    (λ e q. drop_named j (nat_lt k r.op) r (above k rs) s v (named_above j k rs s n v b.1 l q)) m
+    (λ i. rw (of_lt k r.op.0 i, e) (inl x))
+    (le_or_lt r.op.0 k))
+    (λ x. drop_named j (nat_lt k r.op.0) r (above k rs) s v (named_above j k rs s n v b.1 l x)) q)
+    (λ e q. drop_named j (nat_lt k r.op.0) r (above k rs) s v (named_above j k rs s n v b.1 l q)) m
 
 below_more : (o : Option Change) (n m : ℕ) → n ≤ m → IsBelow o n → IsBelow o m
 below_more None n m l b = tt
 below_more (Some x) n m l b = omega arith
 
 module _ (w : World) (a k : ℕ) (can : CanReclaim w a k) (g : Logged w) where
-  written : (s : ℕ) → Each (λ c. c.by ≡ a → w.floor a < c.op → c.op ≤ k → IsBelow (change_at c.changes s) (version (w.disk s))) (settled w.history)
-  written s = below_each a (w.floor a) k s (version (w.disk s)) (settled w.history) (subst (λ l. AreBelow k l s (version (w.disk s))) (g.logs a) (can.written s))
+  written : (s : ℕ) → Each (λ c. c.by ≡ a → w.floor a < c.op → c.op ≤ k → IsBelow (change_at c.changes s) (version_of (w.disk s))) (settled w.history)
+  written s = below_each a (w.floor a) k s (version_of (w.disk s)) (settled w.history) (subst (λ l. AreBelow k l s (version_of (w.disk s))) (g.logs a) (can.written s))
 
-  reclaim_goes : (s : ℕ) (block : Block) → (version (w.disk s)) ≤ (version block) → OnDisk w.opening w.durable s (Pending w s) block (settled w.history) → OnDisk w.opening w.durable s (Pending (after w (Reclaim a k)) s) block (settled w.history)
+  reclaim_goes : (s : ℕ) (block : Block) → (version_of (w.disk s)) ≤ (version_of block) → OnDisk w.opening w.durable s (Pending w s) block (settled w.history) → OnDisk w.opening w.durable s (Pending (after w (Reclaim a k)) s) block (settled w.history)
   reclaim_goes s block le o =
-      on_disk_more w.opening w.durable s (Pending w s) (Pending (after w (Reclaim a k)) s) (λ c. c.by ≡ a → w.floor a < c.op → c.op ≤ k → IsBelow (change_at c.changes s) (version (w.disk s))) block
+      on_disk_more w.opening w.durable s (Pending w s) (Pending (after w (Reclaim a k)) s) (λ c. c.by ≡ a → w.floor a < c.op → c.op ≤ k → IsBelow (change_at c.changes s) (version_of (w.disk s))) block
       (λ c b i n p. record {
         sole = p.sole;
         covered = p.covered;
         above = at_put (λ x. x < c.op) w.floor a k c.by
-            (λ e. ⊎_elim (λ l. absurd (above_not_below (change_at c.changes s) (version block) n (below_more (change_at c.changes s) (version (w.disk s)) (version block) le (b e (subst (λ x. w.floor x < c.op) e p.above) l))))
+            (λ e. ⊎_elim (λ l. absurd (above_not_below (change_at c.changes s) (version_of block) n (below_more (change_at c.changes s) (version_of (w.disk s)) (version_of block) le (b e (subst (λ x. w.floor x < c.op) e p.above) l))))
             (λ l. l) (le_or_lt c.op k))
             (λ e. p.above);
       })
@@ -103,17 +105,17 @@ module _ (w : World) (a k : ℕ) (can : CanReclaim w a k) (g : Logged w) where
       (λ e. at_put (λ x. above k (w.log a) ≡ own d x (settled w.history)) w.floor a k d
       (λ i. ap (above k) (g.logs a) ∙ above_own a (w.floor a) k can.more (settled w.history) ∙ ap (λ x. own x k (settled w.history)) (sym e)) (λ n. absurd (n e)))
       (λ n. at_put (λ x. w.log d ≡ own d x (settled w.history)) w.floor a k d (λ i. absurd (n i)) (λ i. g.logs d)) in
-      let place : (s' : ℕ) → OnDisk (after w (Reclaim a k)).opening (after w (Reclaim a k)).durable s' (Pending (after w (Reclaim a k)) s') ((after w (Reclaim a k)).disk s') (settled (after w (Reclaim a k)).history) = λ s. reclaim_goes s (w.disk s) (le_refl (version (w.disk s))) (g.place s) in
+      let place : (s' : ℕ) → OnDisk (after w (Reclaim a k)).opening (after w (Reclaim a k)).durable s' (Pending (after w (Reclaim a k)) s') ((after w (Reclaim a k)).disk s') (settled (after w (Reclaim a k)).history) = λ s. reclaim_goes s (w.disk s) (le_refl (version_of (w.disk s))) (g.place s) in
       let floored : (d' : ℕ) → (after w (Reclaim a k)).floor d' ≤ (after w (Reclaim a k)).last d' = λ e. at_put (λ x. x ≤ w.last e) w.floor a k e (λ i. subst (λ x. k ≤ w.last x) (sym i) can.there) (λ n. g.floored e) in
       let flights : (s' : ℕ) (f' : Flight) → (after w (Reclaim a k)).flight s' ≡ Some f' → (after w (Reclaim a k)).now ≤ f'.stamp → FlightOk (after w (Reclaim a k)) s' f' = λ s f e n. let q : FlightOk w s f = g.flights s f e n in
       record {
-        place = reclaim_goes s f.block (let u : (version (w.disk s)) < (version f.block) = q.higher in omega arith) q.place;
+        place = reclaim_goes s f.block (let u : (version_of (w.disk s)) < (version_of f.block) = q.higher in omega arith) q.place;
         higher = q.higher;
         lease = q.lease;
         sole = q.sole;
         source = q.source;
-        named = at_put (λ x. Named (up_to (w.durable f.behalf) x) s (version f.block)) w.log a (above k (w.log a)) f.behalf
-            (λ i. named_above (w.durable f.behalf) k (w.log a) s (version (w.disk s)) (version f.block) (can.written s) q.higher (subst (λ x. Named (up_to (w.durable f.behalf) (w.log x)) s (version f.block)) i q.named))
+        named = at_put (λ x. Named (up_to (w.durable f.behalf) x) s (version_of f.block)) w.log a (above k (w.log a)) f.behalf
+            (λ i. named_above (w.durable f.behalf) k (w.log a) s (version_of (w.disk s)) (version_of f.block) (can.written s) q.higher (subst (λ x. Named (up_to (w.durable f.behalf) (w.log x)) s (version_of f.block)) i q.named))
             (λ i. q.named);
       } in
       let rescued : (r' : Rescue) → (after w (Reclaim a k)).rescue ≡ Some r' → RescueOk (after w (Reclaim a k)) r' = λ r e. let q : RescueOk w r = g.rescued r e in

@@ -3,13 +3,15 @@ use Rattle.std.proofs.Common.{List, ⊎_elim, ℕ, ◌-◌, ◌<◌, ◌≤◌, 
 use Rattle.std.proofs.lemmas.Bool.Decides.{nat_tests}
 use Rattle.frang_base.specs.declared.lock.Mode.{Mode}
 use Rattle.frang_base.specs.declared.lock.Mode.TheVariants.{Shared, Sole}
-use Rattle.cells.specs.Blocks.{Block, version}
-use Rattle.cells.specs.Changes.{Redo, redo_all, up_to, put}
-use Rattle.cells.specs.Histories.{settled, Named}
-use Rattle.cells.specs.OnDisk.{OnDisk}
-use Rattle.cells.proofs.Basics.{by_test, of_lt, some_same, at_put, put_same, put_other}
-use Rattle.cells.proofs.Removals.{redo_named}
-use Rattle.cells.proofs.More.{replay_place}
+use Rattle.sector_bytes.specs.Blocks.{Block, version_of}
+use Rattle.frang_base.specs.declared.change.Redo.{Redo}
+use Rattle.sector_bytes.specs.Replays.{redo_all, up_to}
+use Rattle.frang_base.specs.Functions.{put}
+use Rattle.sector_histories.specs.Histories.{settled, Named}
+use Rattle.sector_histories.specs.OnDisk.{OnDisk}
+use Rattle.frang_base.proofs.Basics.{by_test, of_lt, some_same, at_put, put_same, put_other}
+use Rattle.sector_histories.proofs.Removals.{redo_named}
+use Rattle.sector_histories.proofs.More.{replay_place}
 use Rattle.sector_world.specs.World.{World, Rescue, cover, Flight}
 use Rattle.sector_world.specs.World.Phase.{Dead}
 use Rattle.sector_world.specs.World.Told.{Unread, Wanted, InPlace}
@@ -46,12 +48,12 @@ logged_begin w d b can g = let begun : (d' b' : ℕ) → (after w (Begin d b)).t
 
 found_ok : (rs : List Redo) (s : ℕ) (old : Block) → ToldOk (found old (redo_all rs s old)) old (redo_all rs s old)
 found_ok rs s old =
-    by_test (λ x. ToldOk x old (redo_all rs s old)) (Wanted (redo_all rs s old)) InPlace (nat_lt (version old) (version (redo_all rs s old)))
-    (λ e. (refl, let m : (version old) < (version (redo_all rs s old)) = grind (arith, nat_tests) in m))
-    (λ e. ⊎_elim (λ i. i) (λ i. let u : (version old) < (version (redo_all rs s old)) = i.0 in let m : (version (redo_all rs s old)) ≤ (version old) = grind (arith, nat_tests) in absurd (omega arith)) (redo_named rs s old))
+    by_test (λ x. ToldOk x old (redo_all rs s old)) (Wanted (redo_all rs s old)) InPlace (nat_lt (version_of old) (version_of (redo_all rs s old)))
+    (λ e. (refl, let m : (version_of old) < (version_of (redo_all rs s old)) = grind (arith, nat_tests) in m))
+    (λ e. ⊎_elim (λ i. i) (λ i. let u : (version_of old) < (version_of (redo_all rs s old)) = i.0 in let m : (version_of (redo_all rs s old)) ≤ (version_of old) = grind (arith, nat_tests) in absurd (omega arith)) (redo_named rs s old))
 
-found_wanted : (old new block : Block) → block ≡ new → (version old) < (version new) → found old new ≡ Wanted block
-found_wanted old new block e l = rw (of_lt (version old) (version new) l) (ap Wanted (sym e))
+found_wanted : (old new block : Block) → block ≡ new → (version_of old) < (version_of new) → found old new ≡ Wanted block
+found_wanted old new block e l = rw (of_lt (version_of old) (version_of new) l) (ap Wanted (sym e))
 
 pub logged_look : (w : World) (r : Rescue) (s : ℕ) → w.rescue ≡ Some r → Logged w → Logged (after w (Look r s))
 logged_look w r s going g =
@@ -108,8 +110,8 @@ module _ (w : World) (r : Rescue) (s : ℕ) (block : Block) (can : CanReplay w r
   redo_sole : w.holds r.dead (cover w s) ≡ Some Sole
   redo_sole = ⊎_elim (λ e. e)
       (λ n. let same : redo_all (to_replay w r.dead) s (w.disk s) ≡ w.disk s = other_replay w g r.dead s (w.disk s) n (g.place s) in
-      let u : (version (w.disk s)) < (version (redo_all (to_replay w r.dead) s (w.disk s))) = redo_block.1 in
-      let v : (version (redo_all (to_replay w r.dead) s (w.disk s))) ≡ (version (w.disk s)) = ap (λ x. (version x)) same in absurd (omega arith))
+      let u : (version_of (w.disk s)) < (version_of (redo_all (to_replay w r.dead) s (w.disk s))) = redo_block.1 in
+      let v : (version_of (redo_all (to_replay w r.dead) s (w.disk s))) ≡ (version_of (w.disk s)) = ap (λ x. (version_of x)) same in absurd (omega arith))
       (sole_or_not (w.holds r.dead (cover w s)))
 
   redo_flight : FlightOk (after w (Replay r s block)) s (record { by = r.by; behalf = r.dead; stamp = w.expiry r.by - 15; block = block })
@@ -119,12 +121,12 @@ module _ (w : World) (r : Rescue) (s : ℕ) (block : Block) (can : CanReplay w r
         (replay_place w.opening w.durable s r.dead (w.floor r.dead) (Pending w s) (w.disk s)
         (λ c p. let e : c.by ≡ r.dead = g.apart c.by r.dead (cover w s) p.sole (sole_held (w.holds r.dead (cover w s)) redo_sole) in (e, subst (λ x. w.floor x < c.op) e p.above))
         (settled w.history) g.ops (g.rising s) (g.place s)));
-    higher = subst (λ x. (version (w.disk s)) < (version x)) (sym redo_block.0) redo_block.1;
+    higher = subst (λ x. (version_of (w.disk s)) < (version_of x)) (sym redo_block.0) redo_block.1;
     lease = omega arith;
     sole = redo_sole;
-    named = subst (λ x. Named (to_replay w r.dead) s (version x)) (sym redo_block.0)
-        (⊎_elim (λ same. let u : (version (w.disk s)) < (version (redo_all (to_replay w r.dead) s (w.disk s))) = redo_block.1 in
-        let v : (version (redo_all (to_replay w r.dead) s (w.disk s))) ≡ (version (w.disk s)) = ap (λ x. (version x)) same in absurd (omega arith))
+    named = subst (λ x. Named (to_replay w r.dead) s (version_of x)) (sym redo_block.0)
+        (⊎_elim (λ same. let u : (version_of (w.disk s)) < (version_of (redo_all (to_replay w r.dead) s (w.disk s))) = redo_block.1 in
+        let v : (version_of (redo_all (to_replay w r.dead) s (w.disk s))) ≡ (version_of (w.disk s)) = ap (λ x. (version_of x)) same in absurd (omega arith))
         (λ m. m.1) (redo_named (to_replay w r.dead) s (w.disk s)));
     source = inr (record {
       taker = k.taker;

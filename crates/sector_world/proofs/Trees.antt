@@ -1,13 +1,13 @@
 -- The sectors stand for the tree of the history, and the replayed disk for the tree that is left.
 use Rattle.std.proofs.Common.{ℕ, zero, suc, ◌≡◌, ◌≢◌, Bool, true, List, [], ◌∷◌, sym, ◌∙◌, ap, subst}
 use Rattle.std.proofs.Math.Path.{fun_ext}
-use Rattle.cells.specs.Blocks.{Block}
-use Rattle.cells.specs.Changes.{change_at, forced}
-use Rattle.cells.specs.Histories.{Commit, Item, settled, survives, kept, logical, Each}
-use Rattle.cells.specs.Histories.Item.{Done, Doubt}
-use Rattle.cells.specs.Plans.{Plan, Legal}
-use Rattle.cells.proofs.Basics.{by_keep}
-use Rattle.cells.proofs.Histories.{each_kept}
+use Rattle.sector_bytes.specs.Blocks.{Block}
+use Rattle.sector_bytes.specs.Replays.{change_at, forced}
+use Rattle.sector_histories.specs.Histories.{Commit, Item, settled, survives, kept, logical, Each}
+use Rattle.sector_histories.specs.Histories.Item.{Done, Doubt}
+use Rattle.sector_histories.specs.Plans.{Plan, Legal}
+use Rattle.frang_base.proofs.Basics.{by_keep}
+use Rattle.sector_histories.proofs.Histories.{each_kept}
 use Rattle.sector_world.specs.World.{World}
 use Rattle.sector_world.specs.Steps.{Event, after, Run}
 use Rattle.sector_world.specs.Steps.Event.{Tick, Leave, Renew, Mount, Unmount, Take, Give, Lower, Do, Reach, Ack, Sync, Reclaim, Crash, Begin, Look, Finish, Fetch, Issue, Replay, Land, Fade, Break, BreakNew, FetchBytes, Clear, IssueBytes, LandBytes, FadeBytes, BreakBytes, BreakBytesNew, Settle}

@@ -3,16 +3,18 @@ use Rattle.std.proofs.Common.{true, false, List, [], ◌∷◌, Bool, IsTrue, Is
 use Rattle.frang_base.specs.declared.lock.LockId.{LockId}
 use Rattle.frang_base.specs.declared.lock.Mode.{Mode}
 use Rattle.frang_base.specs.declared.lock.Mode.TheVariants.{Sole}
-use Rattle.cells.specs.Blocks.{Block, zeros}
-use Rattle.cells.specs.Changes.{change_at, same_lock, put, put2}
-use Rattle.cells.specs.Histories.{Fill, Commit, Item, kept, survives, settled, Each, Changes, Moves, Writes, touches, OpsRise, is_logged}
-use Rattle.cells.specs.Histories.Item.{Done, Doubt}
-use Rattle.cells.specs.Bytes.{is_free_by, is_free, AllWritten}
-use Rattle.cells.specs.Seen.{Alters}
-use Rattle.cells.proofs.Basics.{by_test, le_or_lt, or_equal, at_put, at_put2}
-use Rattle.cells.proofs.Histories.{each_map, each_map2, each_kept}
-use Rattle.cells.proofs.Removals.{survives_low}
-use Rattle.cells.proofs.Bytes.{survives_up, none_writes, free_kept, data_in_place}
+use Rattle.sector_bytes.specs.Blocks.{Block, zero_block}
+use Rattle.sector_bytes.specs.Replays.{change_at}
+use Rattle.frang_base.specs.Locks.{same_lock}
+use Rattle.frang_base.specs.Functions.{put, put2}
+use Rattle.sector_histories.specs.Histories.{Fill, Commit, Item, kept, survives, settled, Each, Changes, Moves, Writes, touches, OpsRise, is_logged, logical}
+use Rattle.sector_histories.specs.Histories.Item.{Done, Doubt}
+use Rattle.sector_histories.specs.Bytes.{is_free_by, is_free, AllWritten}
+use Rattle.sector_histories.specs.Seen.{Alters, Unseen, IsLost}
+use Rattle.frang_base.proofs.Basics.{by_test, le_or_lt, or_equal, at_put, at_put2, by_keep}
+use Rattle.sector_histories.proofs.Histories.{each_map, each_map2, each_kept, unchanged}
+use Rattle.sector_histories.proofs.Removals.{survives_low}
+use Rattle.sector_histories.proofs.Bytes.{survives_up, none_writes, free_kept, data_in_place}
 use Rattle.sector_world.specs.World.{World, Page, ByteFlight, Rescue, cover, has_version}
 use Rattle.sector_world.specs.World.Page.{NoPage, CleanPage, DirtyPage}
 use Rattle.sector_world.specs.Guards.{MovesOwned, CanDo, CanReach, CanFetchBytes, CanClear, CanIssueBytes, CanLandBytes, CanSettle}
@@ -20,12 +22,8 @@ use Rattle.sector_world.specs.Steps.{after, page_done, page_lowered, page_landed
 use Rattle.sector_world.specs.Steps.Event.{Tick, Give, Lower, Do, Reach, Crash, Finish, FetchBytes, Clear, IssueBytes, LandBytes, FadeBytes, BreakBytes, BreakBytesNew, Settle}
 use Rattle.sector_world.specs.Logged.{Logged}
 use Rattle.sector_world.specs.Bytes.{IsLoose, PendingBytes, IsDiskPage, ByteFlightOk, Bytes}
-use Rattle.cells.specs.OnDisk.{OnDisk}
-use Rattle.cells.specs.OnDisk.OnDisk.{in_place, pending, passed}
-use Rattle.cells.specs.Histories.{logical}
-use Rattle.cells.specs.Seen.{Unseen, IsLost}
-use Rattle.cells.proofs.Basics.{by_keep}
-use Rattle.cells.proofs.Histories.{unchanged}
+use Rattle.sector_histories.specs.OnDisk.{OnDisk}
+use Rattle.sector_histories.specs.OnDisk.OnDisk.{in_place, pending, passed}
 use Rattle.sector_world.specs.Kinds.{Claimed, Kinds}
 use Rattle.sector_world.proofs.Reaching.{sole_held}
 use Rattle.sector_world.proofs.BytesLanding.{other_page}
@@ -154,7 +152,7 @@ module _ (w : World) (a : Commit) (can : CanDo w a) (l : Logged w) (k : Bytes w)
   claim_sole s e = moved_sole (a.moves s) (w.holds a.by (cover w s)) (w.holds a.by) (can.moves s) (can.claims s e).moved
 
   claim_clean : (s : ℕ) → a.claims s ≡ true → IsLoose (w.phase a.by) (w.page a.by s) → ⊥
-  claim_clean s e = clean_loose (w.phase a.by) (w.page a.by s) zeros can.up (can.claims s e).cleared
+  claim_clean s e = clean_loose (w.phase a.by) (w.page a.by s) zero_block can.up (can.claims s e).cleared
 
   claim_alone : (b s : ℕ) → a.claims s ≡ true → w.holds b (cover w s) ≡ Some Sole → IsLoose (w.phase b) (w.page b s) → ⊥
   claim_alone b s e h z = claim_clean s e (subst (λ x. IsLoose (w.phase x) (w.page x s)) (l.apart b a.by (cover w s) h (sole_held (w.holds a.by (cover w s)) (claim_sole s e))) z)
@@ -240,7 +238,7 @@ pub kinds_fetch : (w : World) (a s : ℕ) → CanFetchBytes w a s → Kinds w �
 kinds_fetch w a s can g = record { zero = g.zero; claimed = g.claimed; moving = g.moving; landed = g.landed; cleared = g.cleared; empty = page_put w a s (CleanPage (w.bytes s)) can.plain g }
 
 pub kinds_clear : (w : World) (a s : ℕ) → CanClear w a s → Kinds w → Kinds (after w (Clear a s))
-kinds_clear w a s can g = record { zero = g.zero; claimed = g.claimed; moving = g.moving; landed = g.landed; cleared = g.cleared; empty = page_put w a s (DirtyPage zeros (w.last a)) can.plain g }
+kinds_clear w a s can g = record { zero = g.zero; claimed = g.claimed; moving = g.moving; landed = g.landed; cleared = g.cleared; empty = page_put w a s (DirtyPage zero_block (w.last a)) can.plain g }
 
 true_or_false : (b : Bool) → (b ≡ true → ⊥) → b ≡ false
 true_or_false true n = absurd (n refl)
@@ -275,10 +273,10 @@ kinds_break w s f g = kinds_fade w s f g
 pub landed_plain : (w : World) (s : ℕ) (f : ByteFlight) → CanLandBytes w s f → Kinds w → has_version w s ≡ false
 landed_plain w s f can g = true_or_false (has_version w s) (λ v. g.landed s f v can.there can.in_time)
 
-landed_cleared : (w : World) (s : ℕ) (f : ByteFlight) → CanLandBytes w s f → Kinds w → (t : ℕ) → has_version w t ≡ true → w.logged t ≡ false → (put w.bytes s f.block t ≡ zeros) × (is_free w.first (settled w.history) t ≡ true) × AllWritten w.durable t (settled w.history)
+landed_cleared : (w : World) (s : ℕ) (f : ByteFlight) → CanLandBytes w s f → Kinds w → (t : ℕ) → has_version w t ≡ true → w.logged t ≡ false → (put w.bytes s f.block t ≡ zero_block) × (is_free w.first (settled w.history) t ≡ true) × AllWritten w.durable t (settled w.history)
 landed_cleared w s f can g t v n =
     let c = g.cleared t v n in
-    (at_put (λ x. x ≡ zeros) w.bytes s f.block t (λ e. let q : has_version w s ≡ false = landed_plain w s f can g in let z : has_version w s ≡ true = ap (has_version w) (sym e) ∙ v in absurd (cc)) (λ i. c.0), c.1, c.2)
+    (at_put (λ x. x ≡ zero_block) w.bytes s f.block t (λ e. let q : has_version w s ≡ false = landed_plain w s f can g in let z : has_version w s ≡ true = ap (has_version w) (sym e) ∙ v in absurd (cc)) (λ i. c.0), c.1, c.2)
 
 pub kinds_land : (w : World) (s : ℕ) (f : ByteFlight) → CanLandBytes w s f → Kinds w → Kinds (after w (LandBytes s f))
 kinds_land w s f can g = record {

@@ -1,13 +1,14 @@
 -- What holds after every run, and at each event.
 use Rattle.std.specs.Prelude.{ℕ, zero, suc, true, false, ◌≡◌, ◌≢◌, ◌<◌, ◌≤◌, ◌⊎◌, List, [], ◌∷◌, Option, Some, None, nat_eq, if◌then◌else◌}
-use Rattle.cells.specs.Blocks.{Block, version}
-use Rattle.cells.specs.Changes.{Redo, change_at, redo_all}
+use Rattle.sector_bytes.specs.Blocks.{Block, version_of}
+use Rattle.frang_base.specs.declared.change.Redo.{Redo}
+use Rattle.sector_bytes.specs.Replays.{change_at, redo_all}
 use Rattle.frang_base.specs.declared.change.Change.{Change}
 use Rattle.frang_base.specs.declared.lock.LockId.{LockId}
 use Rattle.frang_base.specs.declared.lock.Mode.TheVariants.{Sole}
-use Rattle.cells.specs.Histories.{Item, settled, recovered, logical, OpsRise, Named, is_logged}
-use Rattle.cells.specs.Bytes.{Known, Agree}
-use Rattle.cells.specs.Seen.{Unmet, Unseen, Unsynced, Kept}
+use Rattle.sector_histories.specs.Histories.{Item, settled, recovered, logical, OpsRise, Named, is_logged}
+use Rattle.sector_histories.specs.Bytes.{Known, Agree}
+use Rattle.sector_histories.specs.Seen.{Unmet, Unseen, Unsynced, Kept}
 use Rattle.sector_world.specs.World.{World, Flight, ByteFlight, cover, block_at, has_version}
 use Rattle.sector_world.specs.World.Phase.{Off}
 use Rattle.sector_world.specs.Guards.{to_replay}
@@ -31,8 +32,8 @@ left w (suc n) = recovered n (w.durable n) (w.synced n) (left w n)
 -- where it is on behalf of another, its server was the last to begin that one's recovery, which isn't over.
 pub record IsOrdered (w : World) (s : ℕ) (f : Flight) : Type 0 where
   pub versioned : has_version w s ≡ true
-  pub higher : version (block_at w s) < version f.block
-  pub named : Named (to_replay w f.behalf) s (version f.block)
+  pub higher : version_of (block_at w s) < version_of f.block
+  pub named : Named (to_replay w f.behalf) s (version_of f.block)
   pub leased : w.now ≤ w.expiry f.by
   pub untaken : w.taker f.by ≡ None
   pub taken : f.by ≢ f.behalf → w.taker f.behalf ≡ Some f.by
@@ -86,7 +87,7 @@ pub record Holds (w : World) : Type 0 where
   pub in_flight : (s : ℕ) (f : Flight) → w.flight s ≡ Some f → (f.stamp < w.now) ⊎ (w.holds f.behalf (cover w s) ≡ Some Sole)
   pub in_flight_bytes : (s : ℕ) (f : ByteFlight) → w.byte_flight s ≡ Some f → (f.stamp < w.now) ⊎ (w.holds f.by (cover w s) ≡ Some Sole)
   -- each sector that a record of a log names has at least the named version on the disk, or the log's server holds its cover alone
-  pub records : (d s : ℕ) → EachNames (λ x. (x.version ≤ version (block_at w s)) ⊎ (w.holds d (cover w s) ≡ Some Sole)) (w.log d) s
+  pub records : (d s : ℕ) → EachNames (λ x. (x.version ≤ version_of (block_at w s)) ⊎ (w.holds d (cover w s) ≡ Some Sole)) (w.log d) s
   -- each cached sector is the logical one, each cached page what a read shows, and the clean ones are the disk's
   pub coherent : (a s : ℕ) → IsCopy (w.slot a s) (now_of w s)
   pub coherent_bytes : (a s : ℕ) → IsCopyPage (w.page a s) (w.truth s)

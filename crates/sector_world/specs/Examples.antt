@@ -7,13 +7,15 @@ use Rattle.frang_base.specs.declared.lock.LockId.TheVariants.{Node}
 use Rattle.frang_base.specs.declared.lock.Mode.TheVariants.{Shared, Sole}
 use Rattle.frang_base.specs.declared.op.Op.TheVariants as op
 use Rattle.frang_base.specs.declared.reply.Reply.TheVariants as reply
-use Rattle.cells.specs.Blocks.{Block, zeros, edited}
-use Rattle.cells.specs.Changes.{put, has_lock}
-use Rattle.cells.specs.Bytes.{value, is_free}
-use Rattle.cells.specs.Seen.{moved}
-use Rattle.cells.specs.Histories.{Commit, Item, settled}
-use Rattle.cells.specs.Histories.Fill.{Written, Freed}
-use Rattle.cells.specs.Histories.Item.{Done, Doubt}
+use Rattle.sector_bytes.specs.Blocks.{Block, zero_block}
+use Rattle.sector_bytes.specs.Changes.{changed}
+use Rattle.frang_base.specs.Functions.{put}
+use Rattle.frang_base.specs.Locks.{has_lock}
+use Rattle.sector_histories.specs.Bytes.{value, is_free}
+use Rattle.sector_histories.specs.Seen.{moved}
+use Rattle.sector_histories.specs.Histories.{Commit, Item, settled}
+use Rattle.sector_histories.specs.Histories.Fill.{Written, Freed}
+use Rattle.sector_histories.specs.Histories.Item.{Done, Doubt}
 use Rattle.sector_world.specs.World.{World, Flight, Rescue, start, cover, has_version}
 use Rattle.sector_world.specs.World.Page.{NoPage, FreedPage}
 use Rattle.sector_world.specs.World.Slot.{Dirty}
@@ -23,15 +25,15 @@ use Rattle.sector_world.specs.Steps.Event.{Tick, Renew, Mount, Take, Do, Reach, 
 
 -- three servers and a disk of zeros
 abbrev pub begin : World
-begin = start 3 (λ s. zeros) (λ s. nat_lt s 8) (λ s. nat_eq s 9) (λ s. Node s)
+begin = start 3 (λ s. zero_block) (λ s. nat_lt s 8) (λ s. nat_eq s 9) (λ s. Node s)
 
 -- sector 5 gets version 1
 abbrev pub change : Change
 change = record { sector = record { 0 = 5 }; version = 1; patches = [] }
 
 -- sector 5 after the change
-abbrev pub changed : Block
-changed = edited change zeros
+abbrev pub new_block : Block
+new_block = changed zero_block change
 
 -- an operation of server 0 that changes sector 5
 abbrev pub deed : Commit
@@ -67,19 +69,19 @@ rescue b = record { dead = 0; by = b; told = λ s. Unread }
 
 -- a recovery by b has found sector 5 to be written, and has written it
 abbrev pub wanted : ℕ → Rescue
-wanted b = record { dead = 0; by = b; told = put (λ s. Unread) 5 (Wanted changed) }
+wanted b = record { dead = 0; by = b; told = put (λ s. Unread) 5 (Wanted new_block) }
 
 -- and has written it
 abbrev pub placed : ℕ → Rescue
-placed b = record { dead = 0; by = b; told = put (put (λ s. Unread) 5 (Wanted changed)) 5 InPlace }
+placed b = record { dead = 0; by = b; told = put (put (λ s. Unread) 5 (Wanted new_block)) 5 InPlace }
 
 -- the write of sector 5 by b on behalf of server 0, with this stamp
 abbrev pub write : ℕ → ℕ → Flight
-write b stamp = record { by = b; behalf = 0; stamp = stamp; block = changed }
+write b stamp = record { by = b; behalf = 0; stamp = stamp; block = new_block }
 
 -- server b recovers server 0's log; the write in flight has this stamp
 abbrev pub recovery : ℕ → ℕ → List Event
-recovery b stamp = Begin 0 b ∷ Look (rescue b) 5 ∷ Replay (wanted b) 5 changed ∷ Land 5 (write b stamp) ∷ Finish (placed b) ∷ []
+recovery b stamp = Begin 0 b ∷ Look (rescue b) 5 ∷ Replay (wanted b) 5 new_block ∷ Land 5 (write b stamp) ∷ Finish (placed b) ∷ []
 
 -- no operation is left
 abbrev pub IsEmpty : List Item → Type 0
@@ -95,7 +97,7 @@ lost = done (Crash 0 ∷ ticks 31 (Begin 0 1 ∷ Finish (rescue 1) ∷ []))
 pub record IsLostRun (w : World) : Type 0 where
   pub run : Run begin lost w
   pub none : IsEmpty (settled w.history)
-  pub disk : w.disk 5 ≡ zeros
+  pub disk : w.disk 5 ≡ zero_block
 
 -- a synced one is kept: the recovery writes it
 abbrev pub kept : List Event
@@ -105,28 +107,28 @@ kept = done (Reach 0 1 ∷ Ack 0 1 ∷ Sync 0 ∷ Crash 0 ∷ ticks 31 (Renew 1 
 pub record IsKeptRun (w : World) : Type 0 where
   pub run : Run begin kept w
   pub there : (m : ℕ → Bool) × (settled w.history ≡ Doubt m ∷ Done deed ∷ [])
-  pub disk : w.disk 5 ≡ changed
+  pub disk : w.disk 5 ≡ new_block
 
 -- the recoverer dies with its write in flight, which comes late, and a second one recovers
 abbrev pub twice : List Event
-twice = done (Reach 0 1 ∷ Crash 0 ∷ ticks 31 (Renew 1 ∷ Begin 0 1 ∷ Look (rescue 1) 5 ∷ Replay (wanted 1) 5 changed ∷ Crash 1
+twice = done (Reach 0 1 ∷ Crash 0 ∷ ticks 31 (Renew 1 ∷ Begin 0 1 ∷ Look (rescue 1) 5 ∷ Replay (wanted 1) 5 new_block ∷ Crash 1
     ∷ ticks 31 (Renew 2 ∷ Fade 5 (write 1 47) ∷ recovery 2 78)))
 
 -- the run leads here, where the operation is left and the disk has its change
 pub record IsTwiceRun (w : World) : Type 0 where
   pub run : Run begin twice w
   pub there : (m : ℕ → Bool) × (settled w.history ≡ Doubt m ∷ Done deed ∷ [])
-  pub disk : w.disk 5 ≡ changed
+  pub disk : w.disk 5 ≡ new_block
 
 -- a write comes late: the sector stays dirty, and the disk as it was
 abbrev pub late : List Event
-late = done (Reach 0 1 ∷ Ack 0 1 ∷ Issue 0 5 changed 1 ∷ ticks 16 (Fade 5 (write 0 16) ∷ []))
+late = done (Reach 0 1 ∷ Ack 0 1 ∷ Issue 0 5 new_block 1 ∷ ticks 16 (Fade 5 (write 0 16) ∷ []))
 
 -- the run leads here
 pub record IsLateRun (w : World) : Type 0 where
   pub run : Run begin late w
-  pub dirty : w.slot 0 5 ≡ Dirty changed 1
-  pub disk : w.disk 5 ≡ zeros
+  pub dirty : w.slot 0 5 ≡ Dirty new_block 1
+  pub disk : w.disk 5 ≡ zero_block
 
 -- an operation of server 0 that writes bytes to sector 9
 abbrev pub bytes : Block
@@ -165,7 +167,7 @@ reading = record {
   moves = λ s. None;
   writes = λ s. None;
   sees = λ s. has_lock (Node s) (Node 9 ∷ []);
-  shown = λ s. if nat_eq s 9 then Some zeros else None;
+  shown = λ s. if nat_eq s 9 then Some zero_block else None;
   uses = Node 9 ∷ [];
   alone = [];
 }
@@ -183,7 +185,7 @@ pub record IsReadRun (v w : World) : Type 0 where
   pub doubt : Run begin doubted v
   pub unknown : value v.first (settled v.history) 9 ≡ None
   pub run : Run v read w
-  pub known : value w.first (settled w.history) 9 ≡ Some zeros
+  pub known : value w.first (settled w.history) 9 ≡ Some zero_block
 
 -- an operation of server 0 that makes sector 8 one with versions, under another lock, once zeros are written there
 abbrev pub change_8 : Change
@@ -210,7 +212,7 @@ claim = record {
 
 -- zeros are written to sector 8, and come, before the operation
 abbrev pub claimed : List Event
-claimed = Mount 0 ∷ Take 0 (Node 8) Sole ∷ Take 0 (Node 5) Sole ∷ Clear 0 8 ∷ IssueBytes 0 8 zeros 0 ∷ LandBytes 8 (record { by = 0; stamp = 16; block = zeros }) ∷ Fetch 0 8 ∷ Do claim ∷ []
+claimed = Mount 0 ∷ Take 0 (Node 8) Sole ∷ Take 0 (Node 5) Sole ∷ Clear 0 8 ∷ IssueBytes 0 8 zero_block 0 ∷ LandBytes 8 (record { by = 0; stamp = 16; block = zero_block }) ∷ Fetch 0 8 ∷ Do claim ∷ []
 
 -- the run leads here, where sector 8 has a version, another cover, and no page
 pub record IsClaimedRun (w : World) : Type 0 where
@@ -301,4 +303,4 @@ retaken = Mount 0 ∷ Take 0 (Node 5) Sole ∷ Take 0 (Node 6) Sole ∷ Fetch 0 
 pub record IsRetakenRun (w : World) : Type 0 where
   pub run : Run begin retaken w
   pub moved : cover w 5 ≡ Node 5
-  pub dirty : w.slot 0 5 ≡ Dirty (edited change_again changed) 2
+  pub dirty : w.slot 0 5 ≡ Dirty (changed new_block change_again) 2

@@ -1,14 +1,17 @@
 -- When each event may happen.
 use Rattle.std.specs.Prelude.{true, false, Bool, ℕ, ◌≡◌, ◌≢◌, ◌<◌, ◌≤◌, ◌+◌, ◌⊎◌, List, [], ◌∷◌, Option, Some, None, IsTrue}
+use Rattle.frang_base.specs.declared.limits.TheConstants.{LEASE_TICKS}
 use Rattle.frang_base.specs.declared.change.Change.{Change}
 use Rattle.frang_base.specs.declared.lock.LockId.{LockId}
 use Rattle.frang_base.specs.declared.lock.Mode.{Mode}
 use Rattle.frang_base.specs.declared.lock.Mode.TheVariants.{Shared, Sole}
-use Rattle.cells.specs.Blocks.{Block, version, zeros}
-use Rattle.cells.specs.Changes.{Redo, change_at, up_to, has_lock}
-use Rattle.cells.specs.Histories.{Commit, settled, is_logged, touches, Changes, Moves, Writes}
-use Rattle.cells.specs.Histories.Item.{Done}
-use Rattle.cells.specs.Bytes.{is_free}
+use Rattle.sector_bytes.specs.Blocks.{Block, version_of, zero_block}
+use Rattle.frang_base.specs.declared.change.Redo.{Redo}
+use Rattle.sector_bytes.specs.Replays.{change_at, up_to}
+use Rattle.frang_base.specs.Locks.{has_lock}
+use Rattle.sector_histories.specs.Histories.{Commit, settled, is_logged, touches, Changes, Moves, Writes}
+use Rattle.sector_histories.specs.Histories.Item.{Done}
+use Rattle.sector_histories.specs.Bytes.{is_free}
 use Rattle.sector_world.specs.World.{World, Slot, Page, Flight, ByteFlight, Rescue, cover, has_version}
 use Rattle.sector_world.specs.World.Phase.{Off, Up, Dead}
 use Rattle.sector_world.specs.World.Slot.{Absent, Clean, Dirty}
@@ -47,8 +50,8 @@ DirtyIfFree (FreedPage mark) free = Unit {0}
 abbrev pub Based : Option Change → Slot → Type 0
 Based None slot = Unit {0}
 Based (Some x) Absent = ⊥
-Based (Some x) (Clean block) = version block < x.version
-Based (Some x) (Dirty block mark) = version block < x.version
+Based (Some x) (Clean block) = version_of block < x.version
+Based (Some x) (Dirty block mark) = version_of block < x.version
 
 -- a changed sector is held by this server alone
 abbrev pub Owned : Option Change → Option Mode → Type 0
@@ -76,7 +79,7 @@ IsBelow (Some x) n = x.version ≤ n
 -- so is each of these records up to k
 abbrev pub AreBelow : ℕ → List Redo → ℕ → ℕ → Type 0
 AreBelow k [] s n = Unit {0}
-AreBelow k (r ∷ rs) s n = (r.op ≤ k → IsBelow (change_at r.changes s) n) × AreBelow k rs s n
+AreBelow k (r ∷ rs) s n = (r.op.0 ≤ k → IsBelow (change_at r.changes s) n) × AreBelow k rs s n
 
 -- no record names the sector
 abbrev pub NoneNames : List Redo → ℕ → Type 0
@@ -90,7 +93,7 @@ to_replay w d = up_to (w.durable d) (w.log d)
 -- an up server's lease grows
 pub record CanRenew (w : World) (a : ℕ) : Type 0 where
   pub up : w.phase a ≡ Up
-  pub later : w.expiry a < w.now + 30
+  pub later : w.expiry a < w.now + LEASE_TICKS
 
 -- a server that is off, and whose log is replayed with the others, mounts
 pub record CanMount (w : World) (a : ℕ) : Type 0 where
@@ -129,7 +132,7 @@ pub record CanLower (w : World) (a : ℕ) (l : LockId) : Type 0 where
 pub record CanClaim (w : World) (c : Commit) (s : ℕ) : Type 0 where
   pub fresh : has_version w s ≡ false
   pub free : is_free w.first (settled w.history) s ≡ true
-  pub cleared : w.page c.by s ≡ CleanPage zeros
+  pub cleared : w.page c.by s ≡ CleanPage zero_block
   pub moved : Moves s c
 
 -- an operation is done over what its server has cached
@@ -174,7 +177,7 @@ pub record CanReclaim (w : World) (a k : ℕ) : Type 0 where
   pub up : w.phase a ≡ Up
   pub more : w.floor a ≤ k
   pub there : k ≤ w.last a
-  pub written : (s : ℕ) → AreBelow k (w.log a) s (version (w.disk s))
+  pub written : (s : ℕ) → AreBelow k (w.log a) s (version_of (w.disk s))
 
 -- a dead server's lease has ended, and so has the hold on its log of who took it before
 pub record CanBegin (w : World) (d b : ℕ) : Type 0 where

@@ -1,9 +1,9 @@
 -- What every step keeps of which sectors have versions, and all that every step keeps.
 use Rattle.std.specs.Prelude.{true, false, Bool, ℕ, ◌≤◌, ◌≡◌, List, [], ◌∷◌, Some}
-use Rattle.cells.specs.Blocks.{zeros}
-use Rattle.cells.specs.Histories.{Item, settled, is_logged, Each, Changes, Moves}
-use Rattle.cells.specs.Histories.Item.{Done, Doubt}
-use Rattle.cells.specs.Bytes.{is_free, AllWritten}
+use Rattle.sector_bytes.specs.Blocks.{zero_block}
+use Rattle.sector_histories.specs.Histories.{Item, settled, is_logged, Each, Changes, Moves}
+use Rattle.sector_histories.specs.Histories.Item.{Done, Doubt}
+use Rattle.sector_histories.specs.Bytes.{is_free, AllWritten}
 use Rattle.sector_world.specs.World.{World, ByteFlight, has_version}
 use Rattle.sector_world.specs.World.Page.{NoPage}
 use Rattle.sector_world.specs.Logged.{Logged}
@@ -19,12 +19,12 @@ Claimed first s (Doubt m ∷ h) = Claimed first s h
 -- free, and each operation that ever wrote its bytes is durable.
 abbrev pub Kinds : World → Type 0
 Kinds w = record {
-  zero : (s : ℕ) → w.logged s ≡ false → w.opening s ≡ zeros;
+  zero : (s : ℕ) → w.logged s ≡ false → w.opening s ≡ zero_block;
   claimed : (s : ℕ) → Claimed w.logged s (settled w.history);
   moving : (s : ℕ) → Each (λ c. c.claims s ≡ true → Moves s c) (settled w.history);
   empty : (a s : ℕ) → has_version w s ≡ true → w.page a s ≡ NoPage;
   landed : (s : ℕ) (f : ByteFlight) → has_version w s ≡ true → w.byte_flight s ≡ Some f → w.now ≤ f.stamp → ⊥;
-  cleared : (s : ℕ) → has_version w s ≡ true → w.logged s ≡ false → (w.bytes s ≡ zeros) × (is_free w.first (settled w.history) s ≡ true) × AllWritten w.durable s (settled w.history);
+  cleared : (s : ℕ) → has_version w s ≡ true → w.logged s ≡ false → (w.bytes s ≡ zero_block) × (is_free w.first (settled w.history) s ≡ true) × AllWritten w.durable s (settled w.history);
 }
 
 -- what every step keeps

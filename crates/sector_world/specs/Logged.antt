@@ -1,13 +1,15 @@
 -- What every step keeps of the sectors with versions.
 use Rattle.std.specs.Prelude.{false, IsTrue, ℕ, ◌<◌, ◌≤◌, ◌≡◌, ◌≢◌, ◌⊎◌, ◌+◌, List, Option, Some, None}
+use Rattle.frang_base.specs.declared.limits.TheConstants.{LEASE_TICKS}
 use Rattle.frang_base.specs.declared.lock.LockId.{LockId}
 use Rattle.frang_base.specs.declared.lock.Mode.{Mode}
 use Rattle.frang_base.specs.declared.lock.Mode.TheVariants.{Sole}
-use Rattle.cells.specs.Blocks.{Block, version}
-use Rattle.cells.specs.Changes.{has_lock, redo_all}
-use Rattle.cells.specs.Histories.{Commit, Item, settled, logical, own, Each, OpsRise, Named, IsLast}
-use Rattle.cells.specs.OnDisk.{Rising, OnDisk}
-use Rattle.cells.specs.Seen.{Unmet, Alters, Unseen, Unsynced, Kept}
+use Rattle.sector_bytes.specs.Blocks.{Block, version_of}
+use Rattle.frang_base.specs.Locks.{has_lock}
+use Rattle.sector_bytes.specs.Replays.{redo_all}
+use Rattle.sector_histories.specs.Histories.{Commit, Item, settled, logical, own, Each, OpsRise, Named, IsLast}
+use Rattle.sector_histories.specs.OnDisk.{Rising, OnDisk}
+use Rattle.sector_histories.specs.Seen.{Unmet, Alters, Unseen, Unsynced, Kept}
 use Rattle.sector_world.specs.World.{World, Phase, Slot, Flight, Told, Rescue, cover}
 use Rattle.sector_world.specs.World.Phase.{Off, Up, Dead}
 use Rattle.sector_world.specs.World.Slot.{Absent, Clean, Dirty}
@@ -56,7 +58,7 @@ IsAhead last s a h (Dirty block mark) = (mark ≤ last) × IsLast s a mark h
 abbrev pub IsNewer : Block → Slot → Type 0
 IsNewer old Absent = Unit {0}
 IsNewer old (Clean block) = Unit {0}
-IsNewer old (Dirty block mark) = version old < version block
+IsNewer old (Dirty block mark) = version_of old < version_of block
 
 -- who is off holds no lock
 abbrev pub NoneIfOff : Phase → Option Mode → Type 0
@@ -76,7 +78,7 @@ Agrees Off slot f = ⊥
 Agrees Dead slot f = Unit {0}
 Agrees Up Absent f = ⊥
 Agrees Up (Clean block) f = ⊥
-Agrees Up (Dirty block mark) f = (block ≡ f) ⊎ (version f < version block)
+Agrees Up (Dirty block mark) f = (block ≡ f) ⊎ (version_of f < version_of block)
 
 -- a write in flight is its server's own
 abbrev pub IsOwn : World → ℕ → Flight → Type 0
@@ -99,17 +101,17 @@ IsRescue w s f = record {
 abbrev pub FlightOk : World → ℕ → Flight → Type 0
 FlightOk w s f = record {
   place : OnDisk w.opening w.durable s (Pending w s) f.block (settled w.history);
-  higher : version (w.disk s) < version f.block;
+  higher : version_of (w.disk s) < version_of f.block;
   lease : f.stamp ≤ w.expiry f.by;
   sole : w.holds f.behalf (cover w s) ≡ Some Sole;
-  named : Named (to_replay w f.behalf) s (version f.block);
+  named : Named (to_replay w f.behalf) s (version_of f.block);
   source : IsOwn w s f ⊎ IsRescue w s f;
 }
 
 -- what a recovery has found is what a replay makes of the disk's sector
 abbrev pub ToldOk : Told → Block → Block → Type 0
 ToldOk Unread old new = Unit {0}
-ToldOk (Wanted block) old new = (block ≡ new) × (version old < version new)
+ToldOk (Wanted block) old new = (block ≡ new) × (version_of old < version_of new)
 ToldOk InPlace old new = new ≡ old
 
 -- the recovery under way is of a dead server whose lease ended, by one that is up and took the log last
@@ -129,7 +131,7 @@ Logged w = record {
   logs : (d : ℕ) → w.log d ≡ own d (w.floor d) (settled w.history);
   apart : (a b : ℕ) (l : LockId) → w.holds a l ≡ Some Sole → w.holds b l ≢ None → a ≡ b;
   known : (a : ℕ) → w.phase a ≢ Off → a < w.servers;
-  leases : (a : ℕ) → w.expiry a ≤ w.now + 30;
+  leases : (a : ℕ) → w.expiry a ≤ w.now + LEASE_TICKS;
   begun : (d b : ℕ) → w.taker d ≡ Some b → (w.phase d ≡ Dead) × (w.expiry d < w.now);
   off_free : (a : ℕ) (l : LockId) → NoneIfOff (w.phase a) (w.holds a l);
   rested : (a : ℕ) → w.phase a ≡ Off → w.last a ≤ w.durable a;

@@ -4,11 +4,15 @@ use Rattle.frang_base.specs.declared.change.Change.{Change}
 use Rattle.frang_base.specs.declared.lock.LockId.{LockId}
 use Rattle.frang_base.specs.declared.lock.Mode.{Mode}
 use Rattle.frang_base.specs.declared.lock.Mode.TheVariants.{Shared, Sole}
-use Rattle.cells.specs.Blocks.{Block, version, zeros, same_block}
-use Rattle.cells.specs.Changes.{change_at, forced, redo_all, above, put, put2, put_lock, same_lock}
-use Rattle.cells.specs.Histories.{Fill, Commit, redo_of}
-use Rattle.cells.specs.Histories.Fill.{Written, Freed}
-use Rattle.cells.specs.Histories.Entry.{Did, Recovered, Synced, Mounted}
+use Rattle.sector_bytes.specs.Blocks.{Block, version_of, zero_block}
+use Rattle.std.specs.Str.{bytes_eq}
+use Rattle.frang_base.specs.declared.limits.TheConstants.{LEASE_TICKS, MARGIN_TICKS}
+use Rattle.sector_bytes.specs.Replays.{change_at, forced, redo_all, above}
+use Rattle.frang_base.specs.Functions.{put, put2, put_lock}
+use Rattle.frang_base.specs.Locks.{same_lock}
+use Rattle.sector_histories.specs.Histories.{Fill, Commit, redo_of}
+use Rattle.sector_histories.specs.Histories.Fill.{Written, Freed}
+use Rattle.sector_histories.specs.Histories.Entry.{Did, Recovered, Synced, Mounted}
 use Rattle.sector_world.specs.World.{World, Slot, Page, Flight, ByteFlight, Told, Rescue, cover}
 use Rattle.sector_world.specs.World.Phase.{Off, Up, Dead}
 use Rattle.sector_world.specs.World.Slot.{Absent, Clean, Dirty}
@@ -97,7 +101,7 @@ changed (Some x) op (Dirty block mark) = Dirty (forced (Some x) block) op
 abbrev pub landed : Block → Slot → Slot
 landed block Absent = Absent
 landed block (Clean old) = Clean old
-landed block (Dirty old mark) = if same_block old block then Clean old else Dirty old mark
+landed block (Dirty old mark) = if bytes_eq old block then Clean old else Dirty old mark
 
 -- the recovery after a write on behalf of d came to the disk
 abbrev pub rescue_landed : ℕ → ℕ → Option Rescue → Option Rescue
@@ -116,7 +120,7 @@ extended a moment (Some r) until = if nat_eq r.by a then put until r.dead moment
 
 -- what is found of a sector: a replay makes this of what the disk has
 abbrev pub found : Block → Block → Told
-found old new = if nat_lt (version old) (version new) then Wanted new else InPlace
+found old new = if nat_lt (version_of old) (version_of new) then Wanted new else InPlace
 
 -- the page after an operation: none where the sector becomes one with versions
 abbrev pub page_filled : Option Fill → ℕ → Page → Page
@@ -145,7 +149,7 @@ page_lowered (FreedPage mark) = NoPage
 abbrev pub page_landed : ℕ → Block → Page → Page
 page_landed acked block NoPage = NoPage
 page_landed acked block (CleanPage old) = CleanPage old
-page_landed acked block (DirtyPage old mark) = if same_block old block && nat_le mark acked then CleanPage old else DirtyPage old mark
+page_landed acked block (DirtyPage old mark) = if bytes_eq old block && nat_le mark acked then CleanPage old else DirtyPage old mark
 page_landed acked block (FreedPage mark) = FreedPage mark
 
 -- of a sector that a dead server held alone the disk's bytes count from the end of its recovery on
@@ -159,10 +163,10 @@ abbrev pub after : World → Event → World
 after w Tick = record w { now = w.now + 1 }
 -- a recovery isn't gone on with
 after w Leave = record w { rescue = None }
-after w (Renew a) = record w { expiry = put w.expiry a (w.now + 30); until = extended a (w.now + 30) w.rescue w.until }
+after w (Renew a) = record w { expiry = put w.expiry a (w.now + LEASE_TICKS); until = extended a (w.now + LEASE_TICKS) w.rescue w.until }
 after w (Mount a) = record w {
   phase = put w.phase a Up;
-  expiry = put w.expiry a (w.now + 30);
+  expiry = put w.expiry a (w.now + LEASE_TICKS);
   sick = put w.sick a false;
   synced = put w.synced a (w.last a);
   history = Mounted a (w.last a) ∷ w.history;
@@ -212,8 +216,8 @@ after w (Finish r) = record w {
   history = Recovered r.dead (w.durable r.dead) ∷ w.history;
 }
 after w (Fetch a s) = record w { slot = put2 w.slot a s (Clean (w.disk s)) }
-after w (Issue a s block mark) = record w { flight = put w.flight s (Some (record { by = a; behalf = a; stamp = w.expiry a - 15; block = block })) }
-after w (Replay r s block) = record w { flight = put w.flight s (Some (record { by = r.by; behalf = r.dead; stamp = w.expiry r.by - 15; block = block })) }
+after w (Issue a s block mark) = record w { flight = put w.flight s (Some (record { by = a; behalf = a; stamp = w.expiry a - MARGIN_TICKS; block = block })) }
+after w (Replay r s block) = record w { flight = put w.flight s (Some (record { by = r.by; behalf = r.dead; stamp = w.expiry r.by - MARGIN_TICKS; block = block })) }
 after w (Land s f) = record w {
   disk = put w.disk s f.block;
   flight = put w.flight s None;
@@ -225,8 +229,8 @@ after w (Fade s f) = record w { flight = put w.flight s None }
 after w (Break s f) = record w { flight = put w.flight s None; sick = put w.sick f.by true; rescue = rescue_left f.by w.rescue }
 after w (BreakNew s f) = record w { disk = put w.disk s f.block; flight = put w.flight s None; sick = put w.sick f.by true; rescue = rescue_left f.by w.rescue }
 after w (FetchBytes a s) = record w { page = put2 w.page a s (CleanPage (w.bytes s)) }
-after w (Clear a s) = record w { page = put2 w.page a s (DirtyPage zeros (w.last a)); truth = put w.truth s zeros }
-after w (IssueBytes a s block mark) = record w { byte_flight = put w.byte_flight s (Some (record { by = a; stamp = w.expiry a - 15; block = block })) }
+after w (Clear a s) = record w { page = put2 w.page a s (DirtyPage zero_block (w.last a)); truth = put w.truth s zero_block }
+after w (IssueBytes a s block mark) = record w { byte_flight = put w.byte_flight s (Some (record { by = a; stamp = w.expiry a - MARGIN_TICKS; block = block })) }
 after w (LandBytes s f) = record w {
   bytes = put w.bytes s f.block;
   byte_flight = put w.byte_flight s None;

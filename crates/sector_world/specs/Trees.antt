@@ -3,11 +3,11 @@
 use Rattle.std.specs.Prelude.{ℕ, ◌≡◌, ◌≢◌, Bool, true, List, [], ◌∷◌, if◌then◌else◌}
 use Rattle.frang_base.specs.declared.op.Op.{Op}
 use Rattle.frang_base.specs.declared.reply.Reply.{Reply}
-use Rattle.cells.specs.Blocks.{Block, zeros}
-use Rattle.cells.specs.Changes.{change_at, forced}
-use Rattle.cells.specs.Histories.{Commit, Item, settled, is_logged, Each}
-use Rattle.cells.specs.Histories.Item.{Done, Doubt}
-use Rattle.cells.specs.Plans.{Plan}
+use Rattle.sector_bytes.specs.Blocks.{Block, zero_block}
+use Rattle.sector_bytes.specs.Replays.{change_at, forced}
+use Rattle.sector_histories.specs.Histories.{Commit, Item, settled, is_logged, Each}
+use Rattle.sector_histories.specs.Histories.Item.{Done, Doubt}
+use Rattle.sector_histories.specs.Plans.{Plan}
 use Rattle.sector_world.specs.World.{World}
 use Rattle.sector_world.specs.Steps.{Event, after}
 use Rattle.sector_world.specs.Steps.Event.{Do}
@@ -70,11 +70,11 @@ Answers apply first (Doubt m ∷ h) = Answers apply first h
 
 -- the sectors with versions of a disk, after these operations, and zeros for the others
 abbrev pub with_versions : World → List Item → (ℕ → Block) → ℕ → Block
-with_versions w h disk s = if is_logged w.logged h s then disk s else zeros
+with_versions w h disk s = if is_logged w.logged h s then disk s else zero_block
 
 -- the sectors with versions of the first disk, and zeros for the others
 abbrev pub first_disk : (ℕ → Bool) → (ℕ → Block) → ℕ → Block
-first_disk logged disk s = if logged s then disk s else zeros
+first_disk logged disk s = if logged s then disk s else zero_block
 
 -- what holds of trees after a run
 pub record Stand (Tree : Type 0) (stands : (ℕ → Block) → Tree → Bool) (apply : Apply Tree) (first : Tree) (w : World) : Type 0 where

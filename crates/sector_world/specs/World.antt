@@ -3,10 +3,10 @@
 use Rattle.std.specs.Prelude.{ℕ, Bool, true, List, [], Option, Some, None, if◌then◌else◌}
 use Rattle.frang_base.specs.declared.lock.LockId.{LockId}
 use Rattle.frang_base.specs.declared.lock.Mode.{Mode}
-use Rattle.cells.specs.Blocks.{Block, zeros}
-use Rattle.cells.specs.Changes.{Redo}
-use Rattle.cells.specs.Histories.{Entry, settled, is_logged}
-use Rattle.cells.specs.Seen.{cover_of}
+use Rattle.sector_bytes.specs.Blocks.{Block, zero_block}
+use Rattle.frang_base.specs.declared.change.Redo.{Redo}
+use Rattle.sector_histories.specs.Histories.{Entry, settled, is_logged}
+use Rattle.sector_histories.specs.Seen.{cover_of}
 
 -- a server isn't mounted, is mounted, or died and isn't recovered
 pub data Phase : Type 0 where
@@ -95,7 +95,7 @@ pub record World : Type 0 where
 abbrev pub start : ℕ → (ℕ → Block) → (ℕ → Bool) → (ℕ → Bool) → (ℕ → LockId) → World
 start servers disk logged of_files home = record {
   servers = servers;
-  opening = λ s. if logged s then disk s else zeros;
+  opening = λ s. if logged s then disk s else zero_block;
   logged = logged;
   first = λ s. if logged s then None else (if of_files s then Some (disk s) else None);
   home = home;
@@ -112,11 +112,11 @@ start servers disk logged of_files home = record {
   taker = λ d. None;
   until = λ d. 0;
   rescue = None;
-  disk = λ s. if logged s then disk s else zeros;
+  disk = λ s. if logged s then disk s else zero_block;
   slot = λ d s. Absent;
   flight = λ s. None;
-  bytes = λ s. if logged s then zeros else disk s;
-  truth = λ s. if logged s then zeros else disk s;
+  bytes = λ s. if logged s then zero_block else disk s;
+  truth = λ s. if logged s then zero_block else disk s;
   page = λ d s. NoPage;
   byte_flight = λ s. None;
   synced = λ d. 0;

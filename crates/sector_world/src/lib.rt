@@ -6,9 +6,9 @@
 
 ghost use Rattle.std.specs.Prelude.{◌≡◌, ℕ, List, Bool, true};
 ghost use Rattle.frang_base.specs.declared.lock.LockId.{LockId};
-ghost use Rattle.cells.specs.Blocks.{Block, zeros};
-ghost use Rattle.cells.specs.Histories.{settled};
-ghost use Rattle.cells.specs.Plans.{Plan, IsFramed, Legal};
+ghost use Rattle.sector_bytes.specs.Blocks.{Block, zero_block};
+ghost use Rattle.sector_histories.specs.Histories.{settled};
+ghost use Rattle.sector_histories.specs.Plans.{Plan, IsFramed, Legal};
 ghost use Rattle.sector_world.specs.World.{World, start};
 ghost use Rattle.sector_world.specs.Steps.{Event, Run, Can, after};
 ghost use Rattle.sector_world.specs.Kinds.{Good};

@@ -14,7 +14,7 @@ use Rattle.tree_definitions.specs.Apply.{is_dir}
 use Rattle.tree_laws.specs.WellFormed.{IsWellFormed}
 use Rattle.tree_laws.proofs.Keeping.{names_nodes}
 use Rattle.sector_definitions.specs.declared.param.Param.{Param}
-use Rattle.disk_definitions.specs.Disks.{Sectors}
+use Rattle.sector_bytes.specs.Sectors.{Sectors}
 use Rattle.disk_definitions.specs.Store.{Store, StoredNode, store_of}
 use Rattle.disk_definitions.specs.Standing.{StandsFor}
 use Rattle.standing_laws.specs.ReadTree.{place_at, byte_at, cells_to, entries_to, read_node, tree_in, read_tree}

@@ -12,7 +12,7 @@ use Rattle.std.proofs.lemmas.Map.Entries.{sum_by-insert_entry}
 use Rattle.tree_definitions.specs.declared.node.Node.{Node}
 use Rattle.tree_definitions.specs.declared.node.Node.TheVariants.{Dir, File, Link}
 use Rattle.tree_definitions.specs.Tree.{node_at, small_blocks, large_blocks, small_blocks_of, large_blocks_of}
-use Rattle.sector_definitions.specs.Inodes.{is_target_byte}
+use Rattle.frang_base.specs.Name.{is_target_byte}
 use Rattle.disk_definitions.specs.Store.{Store, StoredNode, Use, store_of}
 use Rattle.disk_definitions.specs.Store.Use.{Fresh}
 use Rattle.standing_laws.specs.Below.{all_below, are_distinct}
@@ -28,8 +28,8 @@ use Rattle.standing_laws.proofs.PicturedBlocks.{in_slot, few, in_large}
 use Rattle.standing_laws.proofs.SoundStanding.{disk_range}
 
 taken_small : (s : Store) (x : StoredNode) → Shape x → small_blocks (read_node s x) ≡ x.blocks
-taken_small s x (OfFile f) = ap small_blocks (read_file s x f.kind) ∙ ap (λ n. 0 + small_blocks_of n) (length_cells (byte_at s x) x.size) ∙ (let b : x.blocks ≡ small_blocks_of x.size = f.blocks in let e : 0 + small_blocks_of x.size ≡ x.blocks = omega arith in e)
-taken_small s x (OfDir f) = ap small_blocks (read_dir s x f.kind) ∙ (let e : x.blocks + 0 ≡ x.blocks = omega arith in e)
+taken_small s x (OfFile f) = ap small_blocks (read_file s x f.kind) ∙ ap small_blocks_of (length_cells (byte_at s x) x.size) ∙ sym f.blocks
+taken_small s x (OfDir f) = ap small_blocks (read_dir s x f.kind)
 taken_small s x (OfLink f) = ap small_blocks (read_link s x f.kind) ∙ sym f.blocks
 
 one_large : (x : StoredNode) (b : Bool) → nat_lt 0 x.large ≡ b → one_if (large_in (Some x)) ≡ cond b 1 0

@@ -16,7 +16,7 @@ use Rattle.tree_laws.specs.WellFormed.{NamesAscend, IsRooted, LinksAreNames, IsW
 use Rattle.tree_laws.proofs.Pairs.{name_exact, birth_exact}
 use Rattle.tree_laws.proofs.Balance.{one_other}
 use Rattle.sector_definitions.proofs.ParamLaws.{few_segments}
-use Rattle.disk_definitions.specs.Disks.{Sectors}
+use Rattle.sector_bytes.specs.Sectors.{Sectors}
 use Rattle.disk_definitions.specs.Store.{Store, StoredNode, StoredEntry, Use, store_of, segment_at, bit_in, large_in}
 use Rattle.disk_definitions.specs.Store.Use.{Fresh}
 use Rattle.disk_definitions.specs.Naming.{Nodes}

@@ -21,28 +21,23 @@ use Rattle.tree_laws.proofs.Pairs.{name_exact, birth_exact}
 use Rattle.tree_laws.proofs.Balance.{one_own, one_other}
 use Rattle.tree_laws.proofs.Keeping.{names_nodes}
 use Rattle.tree_laws.proofs.Nodes.{each_but}
-use Rattle.disk_definitions.specs.Store.{Store, StoredNode, StoredEntry}
+use Rattle.disk_definitions.specs.Store.{Store, StoredNode, StoredEntry, store_of}
 use Rattle.disk_definitions.specs.Naming.{Naming, Nodes, Pictures, kind_of, blocks_of, has_large, room_in, find_in, cell_in, first_blocks, entry_of, place_of, dir_place, file_byte, Allows}
-use Rattle.disk_definitions.specs.Standing.{IsReached, reached_from}
+use Rattle.disk_definitions.specs.Standing.{IsReached, reached_from, StandsFor}
 use Rattle.standing_laws.specs.Below.{all_below}
 use Rattle.standing_laws.specs.ReadTree.{place_at, byte_at, cells_to, entries_to, read_node, tree_in}
-use Rattle.standing_laws.specs.Soundness.{has_kind, entry_agrees, entries_agree, directory_agrees, node_agrees, links_agree}
-use Rattle.standing_laws.specs.Renaming.{CellsAgree, EntriesAgree, SameNode}
+use Rattle.standing_laws.specs.Soundness.{has_kind, entry_agrees, entries_agree, directory_agrees, node_agrees, links_agree, IsConsistent, IsSound}
+use Rattle.standing_laws.specs.Renaming.{CellsAgree, EntriesAgree, SameNode, IsRenaming}
 use Rattle.standing_laws.proofs.Bounded.{all_from}
 use Rattle.standing_laws.proofs.Entered.{StandsAt, found_at, at_found, sorted_to}
 use Rattle.standing_laws.proofs.Sums.{Meets, Correspond, equal_sums, zero_sum}
 use Rattle.standing_laws.proofs.NodesRead.{node_read, births_read}
-use Rattle.standing_laws.proofs.Shapes.{Shape}
+use Rattle.standing_laws.proofs.Shapes.{Shape, disk_shape}
 use Rattle.standing_laws.proofs.Pictured.{IsInRange, length_cells, cell_at}
 use Rattle.standing_laws.proofs.Stored.{made_by, made_kind, made_blocks, made_small, made_large, Has, of_birth, of_inode, one_inode}
 use Rattle.sector_definitions.specs.declared.param.Param.{Param}
-use Rattle.disk_definitions.specs.Disks.{Sectors}
-use Rattle.disk_definitions.specs.Store.{store_of}
-use Rattle.disk_definitions.specs.Standing.{StandsFor}
-use Rattle.standing_laws.specs.Soundness.{IsConsistent, IsSound}
-use Rattle.standing_laws.specs.Renaming.{IsRenaming}
+use Rattle.sector_bytes.specs.Sectors.{Sectors}
 use Rattle.standing_laws.specs.Laws.{StandingIsSound}
-use Rattle.standing_laws.proofs.Shapes.{disk_shape}
 use Rattle.standing_laws.proofs.SoundStanding.{disk_range}
 use Rattle.standing_laws.proofs.StandingBlocks.{bits_agree, blocks_once, uses_agree, blocks_listed, blocks_cleared, larges_once, larges_marked, larges_listed, inode_some}
 use Rattle.standing_laws.proofs.StandingNames.{back_of, first_is, named, entries, entries_read, names_sum, nodes_agree}

@@ -1,10 +1,11 @@
 -- What a disk that stands for a tree shows by itself, fact by fact, each of them a test.
 use Rattle.std.specs.Prelude.{◌≡◌, ◌≤◌, ℕ, zero, suc, ◌+◌, ◌-◌, ◌*◌, ◌/◌, ◌%◌, Bool, true, false, not, ◌&&◌, ◌||◌, ◌==◌, if◌then◌else◌, nat_lt, Option, Some, None, length, is_some}
+use Rattle.frang_base.specs.declared.limits.TheConstants.{BLOCK_ENTRIES, INODE_BLOCKS_MAX, KIND_DIRECTORY, KIND_LINK, SEGMENT_BLOCKS, SEGMENT_INODES}
 use Rattle.tree_definitions.specs.Entries.{Entries, entry_at}
 use Rattle.tree_definitions.specs.Tree.{FileTree, node_at}
 use Rattle.tree_definitions.specs.Apply.{links_of}
 use Rattle.tree_laws.specs.WellFormed.{one_at, names_of}
-use Rattle.disk_definitions.specs.Disks.{Sectors}
+use Rattle.sector_bytes.specs.Sectors.{Sectors}
 use Rattle.disk_definitions.specs.Store.{Store, StoredNode, StoredEntry, Use, store_of, is_unused}
 use Rattle.disk_definitions.specs.Store.Use.{Fresh, Bytes, Empty, Entries as OfEntries}
 use Rattle.disk_definitions.specs.Standing.{IsInGrammar, HasVersionsUpTo, IsReached}
@@ -27,7 +28,7 @@ block_in (Some x) j = if nat_lt j x.blocks then Some (x.small j) else None
 
 -- the small blocks of all inodes in a row, 16 places an inode
 abbrev pub block_at : Store → ℕ → Option ℕ
-block_at s t = block_in (s.inode (t / 16)) (t % 16)
+block_at s t = block_in (s.inode (t / INODE_BLOCKS_MAX)) (t % INODE_BLOCKS_MAX)
 
 -- a directory's block holds entries, a file's bytes
 abbrev pub is_used_for : ℕ → Use → Bool
@@ -45,7 +46,7 @@ use_agrees s (Some x) j = if nat_lt j x.blocks then is_used_for x.kind (s.use_of
 abbrev pub is_cleared : Store → ℕ → Use → Bool
 is_cleared s k Fresh = true
 is_cleared s k Bytes = true
-is_cleared s k Empty = all_below 56 (λ p. not (is_some (s.place k p)))
+is_cleared s k Empty = all_below BLOCK_ENTRIES (λ p. not (is_some (s.place k p)))
 is_cleared s k OfEntries = true
 
 -- the large block of an inode
@@ -77,12 +78,12 @@ entries_agree s place n = all_below n (λ q. entry_agrees s (entries_to place q)
 
 -- a directory has as many entries as its size says
 abbrev pub directory_agrees : Store → StoredNode → Bool
-directory_agrees s x = entries_agree s (place_at s x) (56 * x.blocks) && length (entries_to (place_at s x) (56 * x.blocks)) == x.size
+directory_agrees s x = entries_agree s (place_at s x) (BLOCK_ENTRIES * x.blocks) && length (entries_to (place_at s x) (BLOCK_ENTRIES * x.blocks)) == x.size
 
 -- what a directory or a link holds is as long as its size says
 abbrev pub node_agrees : Store → Option StoredNode → Bool
 node_agrees s None = true
-node_agrees s (Some x) = if x.kind == 2 then directory_agrees s x else (if x.kind == 3 then length x.target == x.size else true)
+node_agrees s (Some x) = if x.kind == KIND_DIRECTORY then directory_agrees s x else (if x.kind == KIND_LINK then length x.target == x.size else true)
 
 -- a node is named as often as it has links; the root is never named
 abbrev pub links_agree : FileTree → ℕ → Bool
@@ -90,16 +91,16 @@ links_agree tree i = names_of tree i + one_at 0 i == links_of (node_at tree i)
 
 -- what the disk says by itself
 pub record IsConsistent (segments : ℕ) (s : Store) : Type 0 where
-  pub bits : all_below (64 * segments) (bit_agrees s) ≡ true
-  pub once : are_distinct (block_at s) (1024 * segments) ≡ true
-  pub uses : all_below (1024 * segments) (λ t. use_agrees s (s.inode (t / 16)) (t % 16)) ≡ true
-  pub listed : all_below (1024 * segments) (λ k. lists (block_at s) (1024 * segments) k || is_unused (s.use_of k)) ≡ true
-  pub cleared : all_below (1024 * segments) (λ k. is_cleared s k (s.use_of k)) ≡ true
-  pub large_once : are_distinct (large_at s) (64 * segments) ≡ true
-  pub large_marked : all_below (64 * segments) (λ i. is_marked s (large_at s i)) ≡ true
-  pub large_listed : all_below segments (λ g. lists (large_at s) (64 * segments) g || not (s.large_bit g)) ≡ true
-  pub nodes : all_below (64 * segments) (λ i. node_agrees s (s.inode i)) ≡ true
-  pub links : all_below (64 * segments) (links_agree (tree_in segments s)) ≡ true
+  pub bits : all_below (SEGMENT_INODES * segments) (bit_agrees s) ≡ true
+  pub once : are_distinct (block_at s) (SEGMENT_BLOCKS * segments) ≡ true
+  pub uses : all_below (SEGMENT_BLOCKS * segments) (λ t. use_agrees s (s.inode (t / INODE_BLOCKS_MAX)) (t % INODE_BLOCKS_MAX)) ≡ true
+  pub listed : all_below (SEGMENT_BLOCKS * segments) (λ k. lists (block_at s) (SEGMENT_BLOCKS * segments) k || is_unused (s.use_of k)) ≡ true
+  pub cleared : all_below (SEGMENT_BLOCKS * segments) (λ k. is_cleared s k (s.use_of k)) ≡ true
+  pub large_once : are_distinct (large_at s) (SEGMENT_INODES * segments) ≡ true
+  pub large_marked : all_below (SEGMENT_INODES * segments) (λ i. is_marked s (large_at s i)) ≡ true
+  pub large_listed : all_below segments (λ g. lists (large_at s) (SEGMENT_INODES * segments) g || not (s.large_bit g)) ≡ true
+  pub nodes : all_below (SEGMENT_INODES * segments) (λ i. node_agrees s (s.inode i)) ≡ true
+  pub links : all_below (SEGMENT_INODES * segments) (links_agree (tree_in segments s)) ≡ true
   pub rooted : has_kind (s.inode 0) 2 ≡ true
   pub reached : IsReached (node_at (tree_in segments s))
 

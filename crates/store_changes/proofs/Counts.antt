@@ -5,7 +5,7 @@ use Rattle.std.proofs.lemmas.Option.{slice_get_within}
 use Rattle.tree_definitions.specs.declared.cells.Cell.{Cell}
 use Rattle.tree_definitions.specs.declared.node.Node.{Node}
 use Rattle.tree_definitions.specs.declared.node.Node.TheVariants.{Dir, File, Link}
-use Rattle.cells.proofs.Basics.{of_lt}
+use Rattle.frang_base.proofs.Basics.{of_lt}
 use Rattle.disk_definitions.specs.Store.{Store, Use}
 use Rattle.disk_definitions.specs.Store.Use.{Bytes, Empty, Entries}
 use Rattle.disk_definitions.specs.Standing.{IsMetadata}

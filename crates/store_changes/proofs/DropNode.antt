@@ -3,7 +3,7 @@ use Rattle.std.proofs.Common.{ℕ, ◌+◌, ◌*◌, ◌/◌, ◌%◌, ◌<◌, 
 use Rattle.std.proofs.lemmas.Bool.Decides.{nat_tests}
 use Rattle.tree_definitions.specs.declared.node.Node.{Node}
 use Rattle.tree_definitions.specs.declared.node.Node.TheVariants.{Dir, File, Link}
-use Rattle.cells.proofs.Basics.{by_test, eq_of, ne_of, at_put, put_same, put_other}
+use Rattle.frang_base.proofs.Basics.{by_test, eq_of, ne_of, at_put, put_same, put_other}
 use Rattle.tree_laws.specs.WellFormed.{put as put_node}
 use Rattle.disk_definitions.specs.Store.{Store, StoredEntry}
 use Rattle.disk_definitions.specs.Store.Use.{Empty}

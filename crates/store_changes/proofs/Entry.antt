@@ -4,8 +4,8 @@ use Rattle.std.proofs.lemmas.Bool.Decides.{nat_tests}
 use Rattle.tree_definitions.specs.declared.node.Node.{Node}
 use Rattle.tree_definitions.specs.declared.node.Node.TheVariants.{Dir}
 use Rattle.tree_definitions.specs.Entries.{Entries, entry_at}
-use Rattle.cells.specs.Changes.{put}
-use Rattle.cells.proofs.Basics.{of_lt, at_put, put_same, put_other}
+use Rattle.frang_base.specs.Functions.{put}
+use Rattle.frang_base.proofs.Basics.{of_lt, at_put, put_same, put_other}
 use Rattle.tree_laws.specs.WellFormed.{put as put_node}
 use Rattle.tree_laws.proofs.Nodes.{each_but}
 use Rattle.disk_definitions.specs.Store.{Store, StoredNode, StoredEntry}

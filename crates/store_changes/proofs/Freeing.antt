@@ -4,8 +4,8 @@ use Rattle.std.proofs.Math.Path.{fun_ext}
 use Rattle.std.proofs.lemmas.Bool.Decides.{nat_tests}
 use Rattle.tree_definitions.specs.declared.node.Node.{Node}
 use Rattle.tree_definitions.specs.declared.node.Node.TheVariants.{Dir, File, Link}
-use Rattle.cells.specs.Changes.{put}
-use Rattle.cells.proofs.Basics.{eq_of, ne_of, of_lt, at_put, put_other}
+use Rattle.frang_base.specs.Functions.{put}
+use Rattle.frang_base.proofs.Basics.{eq_of, ne_of, of_lt, at_put, put_other}
 use Rattle.disk_definitions.specs.Store.{Store, Use}
 use Rattle.disk_definitions.specs.Naming.{Naming, Nodes, Pictures, kind_of, blocks_of, has_large, first_blocks, inode_of}
 use Rattle.store_changes.specs.Edits.{edited, edited_all}

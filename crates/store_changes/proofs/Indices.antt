@@ -5,7 +5,7 @@ use Rattle.std.proofs.lemmas.Bool.Decides.{nat_tests}
 use Rattle.tree_definitions.specs.declared.cells.Cell.{Cell}
 use Rattle.tree_definitions.specs.declared.node.Node.TheVariants.{File}
 use Rattle.tree_definitions.specs.Tree.{small_blocks_of}
-use Rattle.cells.proofs.Basics.{by_test, eq_of, ne_of, of_lt}
+use Rattle.frang_base.proofs.Basics.{by_test, eq_of, ne_of, of_lt}
 use Rattle.disk_definitions.specs.Store.{Store, is_unused}
 use Rattle.disk_definitions.specs.Naming.{Naming, Nodes, Pictures, has_large}
 use Rattle.store_changes.specs.Resizing.{index_in, index_of, is_large_of, HasBlocks}

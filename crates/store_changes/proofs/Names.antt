@@ -5,7 +5,7 @@ use Rattle.std.specs.Cmp.Lexicographic.{slice_cmp}
 use Rattle.std.specs.BTreeMap.{is_at}
 use Rattle.std.proofs.lemmas.Bool.{both_ways}
 use Rattle.tree_definitions.specs.Entries.{entry_at, without_entry}
-use Rattle.cells.proofs.Basics.{by_test}
+use Rattle.frang_base.proofs.Basics.{by_test}
 use Rattle.tree_laws.proofs.Pairs.{tie, self, name_exact, found_put, found_other, found_left, found_removed, length_put, length_kept, length_removed}
 use Rattle.store_changes.specs.Namings.{put_name}
 use Rattle.store_changes.specs.Laws.{NamesCome, NamesGo, NamesMove, NamesAreTaken}

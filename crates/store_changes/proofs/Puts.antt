@@ -2,8 +2,8 @@
 use Rattle.std.proofs.Common.{ℕ, ◌/◌, ◌%◌, ◌≡◌, ◌≢◌, [], ◌∷◌, nat_eq, if◌then◌else◌, refl, arith}
 use Rattle.std.proofs.Math.Path.{fun_ext}
 use Rattle.std.proofs.lemmas.Bool.Decides.{nat_tests}
-use Rattle.cells.specs.Changes.{put, put2}
-use Rattle.cells.proofs.Basics.{by_test, eq_of}
+use Rattle.frang_base.specs.Functions.{put, put2}
+use Rattle.frang_base.proofs.Basics.{by_test, eq_of}
 use Rattle.store_changes.specs.Laws.{EditsGoOn}
 use Rattle.store_changes.specs.Edits.{put_part, edited}
 

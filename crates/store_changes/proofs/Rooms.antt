@@ -3,7 +3,7 @@ use Rattle.std.proofs.Common.{ℕ, ◌+◌, ◌*◌, ◌/◌, ◌%◌, ◌<◌, 
 use Rattle.std.proofs.Math.Nat.{div-add-mod}
 use Rattle.tree_definitions.specs.declared.node.Node.{Node}
 use Rattle.tree_definitions.specs.declared.node.Node.TheVariants.{Dir, File, Link}
-use Rattle.cells.specs.Changes.{put2}
+use Rattle.frang_base.specs.Functions.{put2}
 use Rattle.disk_definitions.specs.Store.{Store, StoredEntry}
 use Rattle.disk_definitions.specs.Store.Use.{Entries}
 use Rattle.disk_definitions.specs.Naming.{Naming, Nodes, Pictures, blocks_of, room_in, use_by, use_for, dir_place}

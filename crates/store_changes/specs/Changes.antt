@@ -1,8 +1,9 @@
 -- The changes of which operations are made, each a short list of edits. They go by what stands on the disk: inodes with their numbers,
 -- small blocks, and places of a directory, of which each block has 56.
 use Rattle.std.specs.Prelude.{ℕ, zero, suc, ◌+◌, ◌-◌, ◌/◌, ◌%◌, true, false, ◌==◌, if◌then◌else◌, Some, None, List, [], ◌∷◌, ◌++◌}
+use Rattle.frang_base.specs.declared.limits.TheConstants.{BLOCK_ENTRIES}
 use Rattle.tree_definitions.specs.declared.node.Node.{Node}
-use Rattle.cells.specs.Changes.{put}
+use Rattle.frang_base.specs.Functions.{put}
 use Rattle.disk_definitions.specs.Store.{StoredNode, StoredEntry, Use}
 use Rattle.disk_definitions.specs.Store.Use.{Fresh, Empty, Entries}
 use Rattle.disk_definitions.specs.Naming.{inode_of}
@@ -15,15 +16,15 @@ new_node i stamp node = SetInode i (Some (inode_of stamp (λ j. 0) 0 node)) ∷ 
 
 -- place q of a directory, which is in inode i, gets an entry
 abbrev pub put_entry : ℕ → StoredNode → ℕ → StoredEntry → List Edit
-put_entry i x q e = SetInode i (Some (record x { size = x.size + 1 })) ∷ SetPlace (x.small (q / 56)) (q % 56) (Some e) ∷ []
+put_entry i x q e = SetInode i (Some (record x { size = x.size + 1 })) ∷ SetPlace (x.small (q / BLOCK_ENTRIES)) (q % BLOCK_ENTRIES) (Some e) ∷ []
 
 -- place q loses its entry
 abbrev pub take_entry : ℕ → StoredNode → ℕ → List Edit
-take_entry i x q = SetInode i (Some (record x { size = x.size - 1 })) ∷ SetPlace (x.small (q / 56)) (q % 56) None ∷ []
+take_entry i x q = SetInode i (Some (record x { size = x.size - 1 })) ∷ SetPlace (x.small (q / BLOCK_ENTRIES)) (q % BLOCK_ENTRIES) None ∷ []
 
 -- place q gets another entry
 abbrev pub replace_entry : StoredNode → ℕ → StoredEntry → List Edit
-replace_entry x q e = SetPlace (x.small (q / 56)) (q % 56) (Some e) ∷ []
+replace_entry x q e = SetPlace (x.small (q / BLOCK_ENTRIES)) (q % BLOCK_ENTRIES) (Some e) ∷ []
 
 -- a directory gets block k
 abbrev pub grow : ℕ → StoredNode → ℕ → List Edit

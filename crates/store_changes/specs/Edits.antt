@@ -1,11 +1,12 @@
 -- The change of one thing of a store, and of several one after another.
 use Rattle.std.specs.Prelude.{ℕ, ◌/◌, ◌%◌, Bool, ◌==◌, if◌then◌else◌, Option, List, [], ◌∷◌}
-use Rattle.cells.specs.Changes.{put, put2}
+use Rattle.frang_base.specs.declared.limits.TheConstants.{SECTOR_BYTES}
+use Rattle.frang_base.specs.Functions.{put, put2}
 use Rattle.disk_definitions.specs.Store.{Store, StoredNode, StoredEntry, Use}
 
 -- f with these 512 values in a part of k
 abbrev pub put_part : (ℕ → ℕ → ℕ) → ℕ → ℕ → (ℕ → ℕ) → ℕ → ℕ → ℕ
-put_part f k part bytes i j = if i == k then (if j / 512 == part then bytes (j % 512) else f i j) else f i j
+put_part f k part bytes i j = if i == k then (if j / SECTOR_BYTES == part then bytes (j % SECTOR_BYTES) else f i j) else f i j
 
 -- an inode or its bit; the use of a small block; a place for an entry; a large block's bit; 512 bytes of a small block, which has 8 parts,
 -- or of a large one, which has 2,048

@@ -4,12 +4,13 @@ use Rattle.std.specs.Ordering.{nat_cmp}
 use Rattle.std.specs.Cmp.Lexicographic.{slice_cmp}
 use Rattle.std.specs.List.Sorted.{IsStrictlySortedBy}
 use Rattle.std.specs.Map.{keys_of}
+use Rattle.frang_base.specs.declared.limits.TheConstants.{BLOCK_ENTRIES, FILE_BYTES_MAX, KIND_FILE, SMALL_BLOCK_BYTES}
 use Rattle.tree_definitions.specs.declared.cells.Cell.{Cell}
 use Rattle.tree_definitions.specs.declared.node.Node.{Node}
 use Rattle.tree_definitions.specs.declared.node.Node.TheVariants.{Dir, File, Link}
 use Rattle.tree_definitions.specs.Entries.{Entries, entry_at, with_entry, without_entry}
 use Rattle.tree_definitions.specs.Apply.{is_dir}
-use Rattle.cells.specs.Changes.{put}
+use Rattle.frang_base.specs.Functions.{put}
 use Rattle.tree_laws.specs.WellFormed.{put as put_node}
 use Rattle.disk_definitions.specs.Store.{Store, StoredNode, is_unused}
 use Rattle.disk_definitions.specs.Store.Use.{Fresh, Bytes}
@@ -78,7 +79,7 @@ pub record HasInode (s : Store) (at : Nodes) (n : Naming) (b : ℕ) (node : Node
 
 -- place q of a directory of so many blocks is free
 pub record IsFreePlace (s : Store) (n : Naming) (d blocks q : ℕ) : Type 0 where
-  pub inside : q < 56 * blocks
+  pub inside : q < BLOCK_ENTRIES * blocks
   pub vacant : dir_place s n d q ≡ None
 
 abbrev pub EntriesCome : Type 0
@@ -92,7 +93,7 @@ EntriesGo = (s : Store) (at : Nodes) (n : Naming) (d blocks : ℕ) (x : StoredNo
 -- a free block of which no place has an entry; of one that was a directory's that is so
 pub record IsFreeBlock (s : Store) (k : ℕ) : Type 0 where
   pub free : is_unused (s.use_of k) ≡ true
-  pub clear : s.use_of k ≡ Fresh → (p : ℕ) → p < 56 → s.place k p ≡ None
+  pub clear : s.use_of k ≡ Fresh → (p : ℕ) → p < BLOCK_ENTRIES → s.place k p ≡ None
 
 abbrev pub DirectoriesGrow : Type 0
 DirectoriesGrow = (s : Store) (at : Nodes) (n : Naming) (d blocks : ℕ) (x : StoredNode) (entries : Entries) (k : ℕ) → Pictures s at n → HasInode s at n d (Dir entries blocks) x → IsFreeBlock s k →
@@ -131,7 +132,7 @@ LinksChange = (s : Store) (at : Nodes) (n : Naming) (b links : ℕ) (x : StoredN
 
 -- no file is longer than its blocks reach: 65,536 bytes in small blocks and 1,048,576 in a large one
 abbrev pub FilesFit : Nodes → Type 0
-FilesFit at = (b links : ℕ) (cells : List Cell) → at b ≡ Some (File cells links) → length cells ≤ 1114112
+FilesFit at = (b links : ℕ) (cells : List Cell) → at b ≡ Some (File cells links) → length cells ≤ FILE_BYTES_MAX
 
 -- stores that say the same where it counts: of places those of blocks that are or were a directory's, of bytes those of blocks in use for bytes
 pub record SaysTheSame (s t : Store) : Type 0 where
@@ -139,13 +140,13 @@ pub record SaysTheSame (s t : Store) : Type 0 where
   pub bit : (i : ℕ) → t.bit i ≡ s.bit i
   pub uses : (k : ℕ) → t.use_of k ≡ s.use_of k
   pub large_bits : (g : ℕ) → t.large_bit g ≡ s.large_bit g
-  pub places : (k p : ℕ) → p < 56 → IsMetadata (s.use_of k) → t.place k p ≡ s.place k p
-  pub bytes : (k j : ℕ) → j < 4096 → s.use_of k ≡ Bytes → t.byte k j ≡ s.byte k j
+  pub places : (k p : ℕ) → p < BLOCK_ENTRIES → IsMetadata (s.use_of k) → t.place k p ≡ s.place k p
+  pub bytes : (k j : ℕ) → j < SMALL_BLOCK_BYTES → s.use_of k ≡ Bytes → t.byte k j ≡ s.byte k j
   pub large_bytes : (g j : ℕ) → j < 1048576 → s.large_bit g ≡ true → t.large_byte g j ≡ s.large_byte g j
 
 -- files fit where the inodes that picture them have such sizes
 abbrev pub FilesFitBySizes : Type 0
-FilesFitBySizes = (s : Store) (at : Nodes) (n : Naming) → Pictures s at n → ((i : ℕ) (x : StoredNode) → s.inode i ≡ Some x → x.kind ≡ 1 → x.size ≤ 1114112) → FilesFit at
+FilesFitBySizes = (s : Store) (at : Nodes) (n : Naming) → Pictures s at n → ((i : ℕ) (x : StoredNode) → s.inode i ≡ Some x → x.kind ≡ KIND_FILE → x.size ≤ FILE_BYTES_MAX) → FilesFit at
 
 abbrev pub PicturesGoByWhatCounts : Type 0
 PicturesGoByWhatCounts = (s t : Store) (at : Nodes) (n : Naming) → Pictures s at n → FilesFit at → SaysTheSame s t → Pictures t at n

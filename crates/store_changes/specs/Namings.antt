@@ -4,7 +4,7 @@ use Rattle.std.specs.Prelude.{◌≡◌, ◌≢◌, ℕ, Bool, true, false, ◌=
 use Rattle.std.specs.Ordering.{nat_cmp}
 use Rattle.std.specs.Cmp.Lexicographic.{slice_cmp}
 use Rattle.std.specs.BTreeMap.{is_at}
-use Rattle.cells.specs.Changes.{put}
+use Rattle.frang_base.specs.Functions.{put}
 use Rattle.disk_definitions.specs.Naming.{Naming, Nodes}
 
 -- f with this value at a name

@@ -1,10 +1,11 @@
 -- A file gets other cells, with other blocks where it is longer or shorter.
 use Rattle.std.specs.Prelude.{◌≡◌, ℕ, zero, suc, ◌-◌, ◌/◌, ◌%◌, ◌<◌, ◌≤◌, Bool, true, false, ◌==◌, ◌&&◌, if◌then◌else◌, nat_lt, Option, Some, None, List, length, is_some}
 use Rattle.std.specs.List.{slice_get}
+use Rattle.frang_base.specs.declared.limits.TheConstants.{BLOCK_ENTRIES, SMALL_BLOCK_BYTES, SMALL_BYTES_MAX}
 use Rattle.tree_definitions.specs.declared.cells.Cell.{Cell}
 use Rattle.tree_definitions.specs.declared.node.Node.TheVariants.{File}
 use Rattle.tree_definitions.specs.Tree.{small_blocks_of}
-use Rattle.cells.specs.Changes.{put}
+use Rattle.frang_base.specs.Functions.{put}
 use Rattle.disk_definitions.specs.Store.{Store}
 use Rattle.disk_definitions.specs.Store.Use.{Fresh, Bytes}
 use Rattle.disk_definitions.specs.Standing.{IsMetadata}
@@ -19,7 +20,7 @@ index_in block (suc n) k = if block n == k then Some n else index_in block n k
 
 -- the cells take a large block, and this is it
 abbrev pub is_large_of : List Cell → ℕ → ℕ → Bool
-is_large_of cells large g = nat_lt 65536 (length cells) && g == large
+is_large_of cells large g = nat_lt SMALL_BYTES_MAX (length cells) && g == large
 
 -- which of the file's small blocks has this number
 abbrev pub index_of : List Cell → (ℕ → ℕ) → ℕ → Option ℕ
@@ -42,15 +43,15 @@ named_resized n b cells block large = record n {
 
 -- a byte of a file with these blocks
 abbrev pub byte_at : Store → (ℕ → ℕ) → ℕ → ℕ → ℕ
-byte_at s block large j = if nat_lt j 65536 then s.byte (block (j / 4096)) (j % 4096) else s.large_byte large (j - 65536)
+byte_at s block large j = if nat_lt j SMALL_BYTES_MAX then s.byte (block (j / SMALL_BLOCK_BYTES)) (j % SMALL_BLOCK_BYTES) else s.large_byte large (j - SMALL_BYTES_MAX)
 
 -- blocks for the new cells: of those that the file has it keeps what it needs, and the others were free and differ
 pub record HasBlocks (s : Store) (n : Naming) (b : ℕ) (old new : List Cell) (block : ℕ → ℕ) (large : ℕ) : Type 0 where
   pub kept : (j : ℕ) → j < small_blocks_of (length old) → j < small_blocks_of (length new) → block j ≡ n.block b j
   pub fresh : (j : ℕ) → small_blocks_of (length old) ≤ j → j < small_blocks_of (length new) → s.use_of (block j) ≡ Fresh
   pub apart : (i j : ℕ) → small_blocks_of (length old) ≤ i → i < small_blocks_of (length new) → small_blocks_of (length old) ≤ j → j < small_blocks_of (length new) → block i ≡ block j → i ≡ j
-  pub large_kept : 65536 < length old → 65536 < length new → large ≡ n.large b
-  pub large_free : length old ≤ 65536 → 65536 < length new → s.large_bit large ≡ false
+  pub large_kept : SMALL_BYTES_MAX < length old → SMALL_BYTES_MAX < length new → large ≡ n.large b
+  pub large_free : length old ≤ SMALL_BYTES_MAX → SMALL_BYTES_MAX < length new → s.large_bit large ≡ false
 
 -- the stores before and after a file gets other cells, by their values: its inode has the new size and blocks, those that it has no more are
 -- free, each byte is allowed by its cell, and all else is the same where it counts
@@ -59,8 +60,8 @@ pub record IsResized (s t : Store) (n : Naming) (b : ℕ) (cells : List Cell) (l
   pub bit : (i : ℕ) → t.bit i ≡ s.bit i
   pub uses : (k : ℕ) → t.use_of k ≡ (if is_some (index_of cells block k) then Bytes else (if is_owned_by b (n.owner k) then Fresh else s.use_of k))
   pub large_bits : (g : ℕ) → t.large_bit g ≡ (if is_large_of cells large g then true else (if is_of b (n.large_owner g) then false else s.large_bit g))
-  pub places : (k p : ℕ) → p < 56 → IsMetadata (t.use_of k) → t.place k p ≡ s.place k p
-  pub bytes : (k j : ℕ) → j < 4096 → t.use_of k ≡ Bytes → index_of cells block k ≡ None → t.byte k j ≡ s.byte k j
+  pub places : (k p : ℕ) → p < BLOCK_ENTRIES → IsMetadata (t.use_of k) → t.place k p ≡ s.place k p
+  pub bytes : (k j : ℕ) → j < SMALL_BLOCK_BYTES → t.use_of k ≡ Bytes → index_of cells block k ≡ None → t.byte k j ≡ s.byte k j
   pub large_bytes : (g j : ℕ) → j < 1048576 → t.large_bit g ≡ true → is_large_of cells large g ≡ false → t.large_byte g j ≡ s.large_byte g j
   pub allowed : (j : ℕ) (c : Cell) → slice_get cells j ≡ Some c → Allows c (byte_at t block large j)
 

@@ -4,3 +4,4 @@ pub mod AppliedExamples
 pub mod HistoryExamples
 pub mod TranscriptExamples
 pub mod SaidExamples
+pub mod NodeBlocks

@@ -1,6 +1,7 @@
 -- What an operation answers and what it makes of the tree: its refusals in their order, and then its effect.
 use Rattle.std.specs.Prelude.{ℕ, ◌+◌, ◌-◌, ◌*◌, Bool, true, false, not, ◌&&◌, ◌==◌, if◌then◌else◌, nat_lt, nat_le, max, Option, Some, None, List, [], ◌∷◌, ◌++◌, length, map, take, drop, replicate}
 use Rattle.std.specs.List.{list_any}
+use Rattle.frang_base.specs.declared.limits.TheConstants.{FILE_BYTES_MAX, LINKS_MAX, SEGMENT_BLOCKS}
 use Rattle.frang_base.specs.declared.op.Op.{Op}
 use Rattle.frang_base.specs.declared.op.Op.TheVariants as op
 use Rattle.frang_base.specs.declared.reply.Reply.{Reply}
@@ -69,7 +70,7 @@ linked_to tree birth Root = says tree reply.Exist
 linked_to tree birth (Nowhere r) = says tree r
 linked_to tree birth (Taken dir entries blocks name old) = says tree reply.Exist
 linked_to tree birth (Free dir entries blocks name) =
-    if nat_le 1000 (links_of (node_at tree birth)) then says tree reply.MLink
+    if nat_le LINKS_MAX (links_of (node_at tree birth)) then says tree reply.MLink
     else (if entries_full entries then says tree reply.DirFull
     else (if lacks_block tree entries blocks then says tree reply.NoDirBlock
     else says (named (one_link_more tree birth (node_at tree birth)) dir entries blocks name birth) reply.Ok))
@@ -206,9 +207,9 @@ abbrev pub written : FileTree → ℕ → ℕ → List Cell → ℕ → ℕ → 
 written tree m birth cells links off len put =
     let size = max (length cells) (off + len) in
     if nat_lt (length cells) off then says tree reply.BadOffset
-    else (if nat_lt 1114112 (off + len) then says tree reply.TooBig
+    else (if nat_lt FILE_BYTES_MAX (off + len) then says tree reply.TooBig
     else (if nat_lt (large_blocks_of (length cells)) (large_blocks_of size) && larges_full tree then says tree reply.NoLarge
-    else (if nat_lt (1024 * tree.segments - m) (count_of file_blocks tree + (small_blocks_of size - small_blocks_of (length cells))) then says tree (reply.NoBlock m)
+    else (if nat_lt (SEGMENT_BLOCKS * tree.segments - m) (count_of file_blocks tree + (small_blocks_of size - small_blocks_of (length cells))) then says tree (reply.NoBlock m)
     else says (with_node tree birth (File (put cells) links)) reply.Ok)))
 
 -- truncate

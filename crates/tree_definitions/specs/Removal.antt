@@ -1,6 +1,7 @@
 -- What a recovery removes from a history and which cells it leaves in doubt; the settled history, and what must be kept.
 use Rattle.std.specs.Prelude.{ℕ, ◌+◌, ◌-◌, ◌*◌, ◌/◌, Bool, true, false, not, ◌&&◌, ◌||◌, ◌==◌, if◌then◌else◌, IsTrue, min, nat_lt, Option, Some, None, List, [], ◌∷◌, ◌++◌, length, map, filter}
 use Rattle.std.specs.List.{list_any, flat_map}
+use Rattle.frang_base.specs.declared.limits.TheConstants.{SECTOR_BYTES}
 use Rattle.frang_base.specs.declared.op.Op.{Op}
 use Rattle.frang_base.specs.declared.op.Op.TheVariants as op
 use Rattle.frang_base.specs.declared.reply.Reply.{Reply}
@@ -43,9 +44,9 @@ left server keeps tree (s ∷ rest) =
     if begins_removal server keeps tree s rest then filter (λ t. not (is_of server t)) rest
     else s ∷ left server keeps (after tree s) rest
 
--- bytes from one offset to another meet a sector of 512 bytes; where there are none, they meet none
+-- bytes from one offset to another meet a sector; where there are none, they meet none
 abbrev pub meets : ℕ → ℕ → ℕ → Bool
-meets sector from to = nat_lt from to && nat_lt from (512 * (sector + 1)) && nat_lt (512 * sector) to
+meets sector from to = nat_lt from to && nat_lt from (SECTOR_BYTES * (sector + 1)) && nat_lt (SECTOR_BYTES * sector) to
 
 -- bytes of this file, from one offset to another, meet a sector of the file with this birth
 abbrev pub meets_in : ℕ → ℕ → Option (ℕ × (List Cell × ℕ)) → ℕ → ℕ → Bool
@@ -79,11 +80,11 @@ is_doubtful server birth sector before tree (Stays e ∷ rest) = is_doubtful ser
 
 -- the cells of one sector of a file of this size
 abbrev pub sector_cells : ℕ → ℕ → ℕ → CellRun
-sector_cells birth size sector = record { birth = birth; from = 512 * sector; count = min 512 (size - 512 * sector) }
+sector_cells birth size sector = record { birth = birth; from = SECTOR_BYTES * sector; count = min SECTOR_BYTES (size - SECTOR_BYTES * sector) }
 
 -- the sectors of a file as runs of cells, those that the test wants
 abbrev pub file_sectors : (ℕ → ℕ → Bool) → ℕ → Node → List CellRun
-file_sectors wanted birth (File cells links) = map (sector_cells birth (length cells)) (filter (wanted birth) (below ((length cells + 511) / 512)))
+file_sectors wanted birth (File cells links) = map (sector_cells birth (length cells)) (filter (wanted birth) (below ((length cells + (SECTOR_BYTES - 1)) / SECTOR_BYTES)))
 file_sectors wanted birth (Dir entries blocks) = []
 file_sectors wanted birth (Link target links) = []
 

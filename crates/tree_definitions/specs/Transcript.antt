@@ -28,12 +28,12 @@ Faults = ℕ → ℕ → Bool
 abbrev pub no_faults : Faults
 no_faults place server = false
 
--- where a server stands by the lines said
-pub data Standing : Type 0 where
-  Off : Standing
-  Up : Standing
-  Stalled : Standing
-  Dead : Standing
+-- the phase of a server, by the lines said
+pub data Phase : Type 0 where
+  Off : Phase
+  Up : Phase
+  Stalled : Phase
+  Dead : Phase
 
 -- whether a server owes `expired`: its mount ended by its lease and no unmount was answered since. Where a fault may have ended a
 -- stalled mount it may owe, until it answers
@@ -44,7 +44,7 @@ pub data Debt : Type 0 where
 
 -- what the lines said tell of a server
 pub record ServerState : Type 0 where
-  pub standing : Standing
+  pub phase : Phase
   pub debt : Debt
   -- in its present mount a `crash k`, `cut k` or `stall` was answered `ok`
   pub may_die : Bool
@@ -55,25 +55,25 @@ pub record ServerState : Type 0 where
 
 -- off, at first
 abbrev pub first_state : ServerState
-first_state = record { standing = Off; debt = Free; may_die = false; just_died = false; under_recovery = false }
+first_state = record { phase = Off; debt = Free; may_die = false; just_died = false; under_recovery = false }
 
 -- it is up
-abbrev pub is_up : Standing → Bool
+abbrev pub is_up : Phase → Bool
 is_up Up = true
 is_up _ = false
 
 -- it is off
-abbrev pub is_off : Standing → Bool
+abbrev pub is_off : Phase → Bool
 is_off Off = true
 is_off _ = false
 
 -- it is stalled
-abbrev pub is_stalled : Standing → Bool
+abbrev pub is_stalled : Phase → Bool
 is_stalled Stalled = true
 is_stalled _ = false
 
 -- it is dead
-abbrev pub is_dead : Standing → Bool
+abbrev pub is_dead : Phase → Bool
 is_dead Dead = true
 is_dead _ = false
 
@@ -121,8 +121,8 @@ debt_after Owes o r = if is_unmount o then Free else Owes
 debt_after MayOwe o r = if is_expired r then Owes else Free
 
 -- `mounted` leads up, a `stall` answered `ok` stalls, an `unmount` answered `ok` leads off; a dead server that answers one stays dead
-abbrev pub standing_after : Standing → Op → Reply → Standing
-standing_after now o r =
+abbrev pub phase_after : Phase → Op → Reply → Phase
+phase_after now o r =
     if is_mounted r then Up
     else (if is_up now && is_ok r && is_stall o then Stalled
     else (if is_up now && is_ok r && is_unmount o then Off else now))
@@ -130,7 +130,7 @@ standing_after now o r =
 -- a server after an answer of its own
 abbrev pub after_answer : ServerState → Op → Reply → ServerState
 after_answer state o r = record {
-  standing = standing_after state.standing o r;
+  phase = phase_after state.phase o r;
   debt = debt_after state.debt o r;
   may_die = not (is_mounted r) && (state.may_die || (calls_death o && is_ok r));
   just_died = false;
@@ -148,19 +148,19 @@ after_line state None r = state
 after_line state (Some line) r = after_asked state line.what r
 
 -- the death of a stalled mount leaves a debt, unless a fault made it
-abbrev pub debt_of_death : Standing → Bool → Debt
+abbrev pub debt_of_death : Phase → Bool → Debt
 debt_of_death now faulted = if is_stalled now then (if faulted then MayOwe else Owes) else Free
 
 -- a server after its death
 abbrev pub after_death : ServerState → Bool → ServerState
-after_death state faulted = record { standing = Dead; debt = debt_of_death state.standing faulted; may_die = false; just_died = true; under_recovery = false }
+after_death state faulted = record { phase = Dead; debt = debt_of_death state.phase faulted; may_die = false; just_died = true; under_recovery = false }
 
 -- a server after a line that was said
 abbrev pub after_said : List Line → ℕ → Bool → ServerState → Said → ServerState
 after_said script server faulted state (said.Answer s number r) = if s.0 == server then after_line state (line_of script number) r else state
 after_said script server faulted state (said.Dead s) = if s.0 == server then after_death state faulted else state
 after_said script server faulted state (said.Recovering s by) = if s.0 == server then record state { under_recovery = true } else state
-after_said script server faulted state (said.Recovered s kept) = if s.0 == server then record state { standing = Off } else state
+after_said script server faulted state (said.Recovered s kept) = if s.0 == server then record state { phase = Off } else state
 after_said script server faulted state _ = state
 
 -- a server after lines, the first of which has this place
@@ -243,7 +243,7 @@ is_own o r = is_path_op o || (may_be_ok o && is_ok r)
 
 -- a mount is answered `mounted` by a server that is off, `already` by one that is up or as the first answer after a death, and `io`
 -- where a get or put of it has failed
-abbrev pub may_mount : Standing → Bool → Bool → Reply → Bool
+abbrev pub may_mount : Phase → Bool → Bool → Reply → Bool
 may_mount now just_died faulted r = (is_off now && is_mounted r) || ((is_up now || just_died) && is_already r) || (faulted && is_io r)
 
 -- a server that is off or dead answers `down`; as its first answer after a death also `ok` to a crash, and `io` where a get or put of
@@ -251,8 +251,8 @@ may_mount now just_died faulted r = (is_off now && is_mounted r) || ((is_up now 
 abbrev pub may_refuse : Bool → Bool → Op → Reply → Bool
 may_refuse just_died faulted o r = is_down r || (just_died && ((is_crash o && is_ok r) || (faulted && is_io r)))
 
--- by standing: a stalled server answers nothing
-abbrev pub may_answer_by : Standing → Bool → Bool → Op → Reply → Bool
+-- by phase: a stalled server answers nothing
+abbrev pub may_answer_by : Phase → Bool → Bool → Op → Reply → Bool
 may_answer_by Off just_died faulted o r = if is_mount o then may_mount Off just_died faulted r else may_refuse just_died faulted o r
 may_answer_by Up just_died faulted o r = if is_mount o then may_mount Up just_died faulted r else is_own o r
 may_answer_by Stalled just_died faulted o r = false
@@ -264,9 +264,9 @@ may_owe o r = if is_unmount o then is_ok r else is_expired r
 
 -- by debt: who may owe answers either way
 abbrev pub may_answer_owing : Debt → ServerState → Bool → Op → Reply → Bool
-may_answer_owing Free state faulted o r = may_answer_by state.standing state.just_died faulted o r
+may_answer_owing Free state faulted o r = may_answer_by state.phase state.just_died faulted o r
 may_answer_owing Owes state faulted o r = may_owe o r
-may_answer_owing MayOwe state faulted o r = may_owe o r || may_answer_by state.standing state.just_died faulted o r
+may_answer_owing MayOwe state faulted o r = may_owe o r || may_answer_by state.phase state.just_died faulted o r
 
 -- the reply that a server may give
 abbrev pub may_answer : ServerState → Bool → Op → Reply → Bool
@@ -298,26 +298,26 @@ is_crash_line (Some line) = asks_crash line.what
 abbrev pub may_die_now : List Line → Faults → List Said → ℕ → Bool
 may_die_now script faults saids server =
     let state = state_of script faults server saids in
-    (is_up state.standing || is_stalled state.standing)
+    (is_up state.phase || is_stalled state.phase)
     && (state.may_die || is_crash_line (next_line server script saids) || faults (length saids) server)
 
 -- a dead server may be recovered by one that is up or by the host, which is 255
 abbrev pub may_recover : List Line → Faults → List Said → ℕ → ℕ → Bool
 may_recover script faults saids server by =
-    is_dead (state_of script faults server saids).standing && (by == 255 || is_up (state_of script faults by saids).standing)
+    is_dead (state_of script faults server saids).phase && (by == 255 || is_up (state_of script faults by saids).phase)
 
 -- a recovery may be done where one has begun since the death
 abbrev pub may_be_recovered : List Line → Faults → List Said → ℕ → Bool
 may_be_recovered script faults saids server =
-    let state = state_of script faults server saids in is_dead state.standing && state.under_recovery
+    let state = state_of script faults server saids in is_dead state.phase && state.under_recovery
 
 -- neither stalled nor dead
-abbrev pub is_settled : Standing → Bool
+abbrev pub is_settled : Phase → Bool
 is_settled now = is_off now || is_up now
 
 -- no server, 0 to 15, is stalled or dead
 abbrev pub all_settled : List Line → Faults → List Said → Bool
-all_settled script faults saids = list_all (λ server. is_settled (state_of script faults server saids).standing) (below 16)
+all_settled script faults saids = list_all (λ server. is_settled (state_of script faults server saids).phase) (below 16)
 
 -- how many lines of the tree are said
 abbrev pub nodes_said : List Said → ℕ
@@ -356,7 +356,7 @@ IsTranscript script opening faults saids = MaySayAll script opening faults [] sa
 
 -- whether a stop of everything would find operations of a server that its log alone could keep
 abbrev pub is_mounted_or_dead : List Line → List Said → ℕ → Bool
-is_mounted_or_dead script saids server = not (is_off (state_of script no_faults server saids).standing)
+is_mounted_or_dead script saids server = not (is_off (state_of script no_faults server saids).phase)
 
 -- the history that a stop leaves: a recovery more of each server that is up, stalled or dead, ascending, by the greatest operation
 -- number of its log; from the first line of the tree on there is none

@@ -1,5 +1,6 @@
 // The bytes of a file, of which some may be in doubt.
 ghost use Rattle.std.specs.Prelude.{◌≡◌, ◌≤◌, ◌+◌, ◌-◌, ◌++◌, [], length, map, take, drop, replicate, OnOk, OnErr};
+ghost use Rattle.frang_base.specs.declared.limits.TheConstants.{FILE_BYTES_MAX};
 ghost use Rattle.tree_definitions.specs.Apply.{overwritten};
 ghost use Rattle.tree_definitions.specs.History.{doubted_cells};
 
@@ -22,13 +23,14 @@ pub struct Cells {
 
 impl Model for Cells {
     ghost use Rattle.std.specs.Prelude.{List, ◌≤◌, length};
+    ghost use Rattle.frang_base.specs.declared.limits.TheConstants.{FILE_BYTES_MAX};
     ghost use Rattle.tree_definitions.specs.declared.cells.Cell.{Cell};
 
     ghost Value = { List Cell };
 
     ghost view = { λ c. c.cells.items };
 
-    ghost invariant = { λ c. length c.cells.items ≤ 1114112 };
+    ghost invariant = { λ c. length c.cells.items ≤ FILE_BYTES_MAX };
 }
 
 // Lengthens cells up to an end, where they are fewer.
@@ -75,7 +77,7 @@ impl Cells {
     /// The number of cells: at most those of 16 small blocks and a large one.
     pub fn len(&self) -> usize
         ensures len { result ≡ length self.now }
-        ensures small { result ≤ 1114112 }
+        ensures small { result ≤ FILE_BYTES_MAX }
     {
         self.cells.len()
     }
@@ -100,7 +102,7 @@ impl Cells {
     #[tactic(auto, using(crate::proofs::CellLaws::overwritten_padded))]
     pub fn overwrite(&mut self, off: usize, bytes: &[u8]) -> Result<(), NoMemory>
         requires begins { off ≤ length self.old }
-        requires ends { off + length bytes.now ≤ 1114112 }
+        requires ends { off + length bytes.now ≤ FILE_BYTES_MAX }
         ensures ok { OnOk result (self.new ≡ overwritten self.old off (map Cell.Byte bytes.now)) }
         ensures err { OnErr result (self.new ≡ self.old) }
     {
@@ -114,7 +116,7 @@ impl Cells {
     #[tactic(auto, using(crate::proofs::CellLaws::overwritten_padded))]
     pub fn fill(&mut self, off: usize, len: usize, byte: u8) -> Result<(), NoMemory>
         requires begins { off ≤ length self.old }
-        requires ends { off + len ≤ 1114112 }
+        requires ends { off + len ≤ FILE_BYTES_MAX }
         ensures ok { OnOk result (self.new ≡ overwritten self.old off (replicate len (Cell.Byte byte))) }
         ensures err { OnErr result (self.new ≡ self.old) }
     {

@@ -1,5 +1,6 @@
 // The entries of a directory.
 ghost use Rattle.std.specs.Prelude.{◌≡◌, ◌≤◌, ◌<◌, [], length, IsSome, OnOk, OnErr};
+ghost use Rattle.frang_base.specs.declared.limits.TheConstants.{DIRECTORY_ENTRIES_MAX};
 ghost use Rattle.tree_definitions.specs.Entries.{entry_at, with_entry, without_entry};
 
 use frang_base::{Name, NoMemory};
@@ -16,12 +17,13 @@ pub struct Entries {
 
 impl Model for Entries {
     ghost use Rattle.std.specs.Prelude.{List, ℕ, ◌≤◌, length};
+    ghost use Rattle.frang_base.specs.declared.limits.TheConstants.{DIRECTORY_ENTRIES_MAX};
 
     ghost Value = { List (List ℕ × ℕ) };
 
     ghost view = { λ e. e.map.entries };
 
-    ghost invariant = { λ e. length e.map.entries ≤ 896 };
+    ghost invariant = { λ e. length e.map.entries ≤ DIRECTORY_ENTRIES_MAX };
 }
 
 impl Entries {
@@ -37,7 +39,7 @@ impl Entries {
     /// The number of entries, at most 896.
     pub fn len(&self) -> usize
         ensures len { result ≡ length self.now }
-        ensures small { result ≤ 896 }
+        ensures small { result ≤ DIRECTORY_ENTRIES_MAX }
     {
         self.map.len()
     }
@@ -51,7 +53,7 @@ impl Entries {
 
     /// Gives a name a node. After `NoMemory` the entries are as before.
     pub fn insert(&mut self, name: Name, birth: u64) -> Result<(), NoMemory>
-        requires { length self.old < 896 }
+        requires { length self.old < DIRECTORY_ENTRIES_MAX }
         ensures ok { OnOk result (self.new ≡ with_entry self.old name birth) }
         ensures err { OnErr result (self.new ≡ self.old) }
     {
@@ -73,7 +75,7 @@ impl Entries {
     /// Removes a name, if it is there.
     pub fn remove(&mut self, name: &Name)
         ensures is { self.new ≡ without_entry self.old name.now }
-        ensures shorter { IsSome (entry_at self.old name.now) → length self.new < 896 }
+        ensures shorter { IsSome (entry_at self.old name.now) → length self.new < DIRECTORY_ENTRIES_MAX }
     {
         self.map.remove(name);
     }

@@ -1,5 +1,6 @@
 // The target of a symbolic link.
 ghost use Rattle.std.specs.Prelude.{◌≡◌, ◌≤◌, length};
+ghost use Rattle.frang_base.specs.declared.limits.TheConstants.{TARGET_BYTES_MAX};
 
 use frang_base::Text;
 use std::alloc::AllocError;
@@ -13,18 +14,19 @@ pub struct Target {
 
 impl Model for Target {
     ghost use Rattle.std.specs.Prelude.{List, ℕ, ◌≤◌, length};
+    ghost use Rattle.frang_base.specs.declared.limits.TheConstants.{TARGET_BYTES_MAX};
 
     ghost Value = { List ℕ };
 
     ghost view = { λ t. t.text };
 
-    ghost invariant = { λ t. length t.text ≤ 384 };
+    ghost invariant = { λ t. length t.text ≤ TARGET_BYTES_MAX };
 }
 
 impl Target {
     /// The target of this text.
     pub fn of(text: Text) -> Self
-        requires { length text ≤ 384 }
+        requires { length text ≤ TARGET_BYTES_MAX }
         ensures { result ≡ text }
     {
         Target { text }
@@ -33,7 +35,7 @@ impl Target {
     /// The number of bytes, at most 384.
     pub fn len(&self) -> usize
         ensures len { result ≡ length self.now }
-        ensures small { result ≤ 384 }
+        ensures small { result ≤ TARGET_BYTES_MAX }
     {
         self.text.len()
     }

@@ -10,6 +10,7 @@ use Rattle.std.proofs.lemmas.List.Sums.{sum_by-cons}
 use Rattle.tree_definitions.specs.declared.cells.Cell.{Cell}
 use Rattle.tree_definitions.specs.declared.node.Node.{Node}
 use Rattle.tree_definitions.specs.declared.node.Node.TheVariants.{Dir, File, Link}
+use Rattle.tree_definitions.proofs.NodeBlocks.{small_blocks_are}
 use Rattle.tree_definitions.specs.Tree.{FileTree, node_at, file_blocks, dir_blocks, large_blocks, small_blocks, small_blocks_of, large_blocks_of}
 use Rattle.tree_definitions.specs.History.{doubted_cells}
 use Rattle.tree_edits.specs.declared.counts.Blocks.{Blocks}
@@ -23,7 +24,7 @@ small_blocks_both [] = refl
 small_blocks_both (n ∷ nodes) =
     let rest = small_blocks_both nodes in
     let values = values_of nodes in
-    omega (arith, rest, sum_by-cons small_blocks n.1 values, sum_by-cons dir_blocks n.1 values, sum_by-cons file_blocks n.1 values)
+    omega (arith, rest, small_blocks_are n.1, sum_by-cons small_blocks n.1 values, sum_by-cons dir_blocks n.1 values, sum_by-cons file_blocks n.1 values)
 
 module _ (tree : FileTree) (taken before after : Blocks) (birth : ℕ) (nodes : List (ℕ × Node)) where
   pub can_count : IsCounted taken tree → before ≡ blocks_in tree.nodes birth → after ≡ blocks_in nodes birth → HasRoom tree birth (blocks_in nodes birth) → CanCount taken before after

@@ -14,6 +14,7 @@ use Rattle.std.proofs.lemmas.Map.Made.{lookup-map_values}
 use Rattle.tree_definitions.specs.declared.cells.Cell.{Cell}
 use Rattle.tree_definitions.specs.declared.node.Node.{Node}
 use Rattle.tree_definitions.specs.declared.node.Node.TheVariants.{Dir, File, Link}
+use Rattle.tree_definitions.proofs.NodeBlocks.{small_blocks_are}
 use Rattle.tree_definitions.specs.Tree.{FileTree, node_at, with_node, count_of, dir_blocks, file_blocks, small_blocks, large_blocks, small_blocks_of, large_blocks_of}
 use Rattle.tree_definitions.specs.History.{doubted, doubted_file, doubted_cells, file_of, CellRun}
 use Rattle.tree_definitions.specs.Touched.{other_room}
@@ -105,7 +106,7 @@ room_same t u bt bu seg same =
     record {
       segments = seg;
       nodes = sym (rooms_long t.nodes) ∙ ap length e ∙ rooms_long u.nodes;
-      small = count_same t u e small_blocks (λ r. r.0 + r.1.0) (λ x. refl);
+      small = count_same t u e small_blocks (λ r. r.0 + r.1.0) small_blocks_are;
       large = count_same t u e large_blocks (λ r. r.1.1) (λ x. refl);
       files = count_same t u e file_blocks (λ r. r.1.0) (λ x. refl);
       dirs = count_same t u e dir_blocks (λ r. r.0) (λ x. refl);
@@ -143,11 +144,8 @@ doubted_room t (run ∷ runs) b = doubted_room (doubted_file t (file_of run.birt
 
 -- nodes of one kind that take the same room
 one_kind : (x y : Node) → kind_of x ≡ kind_of y → small_blocks x ≡ small_blocks y → large_blocks x ≡ large_blocks y → room x ≡ room y
-one_kind (Dir es n) (Dir fs m) k s l = ap (λ i. (i, (0, 0))) (let e : n + 0 ≡ m + 0 = s in let f : n ≡ m = omega arith in f)
-one_kind (File cs n) (File ds m) k s l = ap₂ (λ i j. (0, (i, j))) (let e : 0 + small_blocks_of (length cs) ≡ 0 + small_blocks_of (length ds) = s in let f : small_blocks_of (length cs) ≡ small_blocks_of (length ds) = plain (small_blocks_of (length cs)) (small_blocks_of (length ds)) e in f) l
-  where
-    plain : (a b : ℕ) → 0 + a ≡ 0 + b → a ≡ b
-    plain a b e = omega arith
+one_kind (Dir es n) (Dir fs m) k s l = ap (λ i. (i, (0, 0))) s
+one_kind (File cs n) (File ds m) k s l = ap₂ (λ i j. (0, (i, j))) s l
 one_kind (Link t n) (Link u m) k s l = refl
 one_kind (Dir es n) (File ds m) k s l = absurd (cc)
 one_kind (Dir es n) (Link ds m) k s l = absurd (cc)

@@ -29,9 +29,6 @@ fn line_of(script: &[Line], number: u32) -> Option<&Line>
     script.iter().find(|line| line.number == number)
 }
 
-// An operation is numbered by its run times this, plus its line.
-const LINES_OF_A_RUN: u64 = 1 << 32;
-
 // Adds what an answer tells, where it is to a line of a server.
 fn push_answer(
     line: Option<&Line>,
@@ -48,7 +45,7 @@ fn push_answer(
     };
     match &line.what {
         What::Server(op) => {
-            let number = OpNo(u64::from(run) * LINES_OF_A_RUN + u64::from(number));
+            let number = OpNo::of(run, number);
             items.push(Item::Did(Entry {
                 server,
                 number,

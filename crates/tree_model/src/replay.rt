@@ -1,7 +1,7 @@
 // The tree after an entry.
 ghost use Rattle.std.specs.Prelude.{◌≡◌, OnOk, OnErr, IsTrue};
 ghost use Rattle.std.specs.List.{list_all};
-ghost use Rattle.script_definitions.specs.SaidReading.{is_target_byte, is_target};
+ghost use Rattle.frang_base.specs.Name.{is_target_byte, is_target};
 ghost use Rattle.tree_definitions.specs.History.{may_be_ok, leaves_tree, tree_after};
 ghost use Rattle.file_tree.specs.CanApply.{CanApply};
 ghost use Rattle.tree_model.specs.Replayed.{after_reading, after_redo, is_within, item_within, all_within};

@@ -1,1 +1,1 @@
-pub mod RecordParts
+pub mod WaitingSectors

@@ -1,17 +1,24 @@
 -- What holds of the parts of every ring in memory.
-use Rattle.std.specs.Prelude.{ℕ, ◌+◌, ◌<◌, ◌≤◌, ◌%◌, ◌^◌, Bool, List, length, IsTrue}
+use Rattle.std.specs.Prelude.{ℕ, ◌+◌, ◌<◌, ◌≤◌, ◌^◌, Bool, ◌&&◌, nat_lt, List, [], ◌∷◌, length, IsTrue}
 use Rattle.std.specs.List.{list_all}
 use Rattle.sector_definitions.specs.declared.log_sector.LogSector.{LogSector}
-use Rattle.sector_definitions.specs.LogSectors.{log_sector_fits}
+use Rattle.sector_definitions.specs.LogSectors.{is_packed_sector}
+use Rattle.ring_definitions.specs.Rings.{filled}
 
--- the sector may stand in the slot of its number
-abbrev pub fits_its_slot : LogSector → Bool
-fits_its_slot x = log_sector_fits (x.seq % 256) x
+-- a packed sector with a number that a log may have
+abbrev pub is_waiting : LogSector → Bool
+is_waiting x = nat_lt x.seq (2 ^ 63) && is_packed_sector x
 
--- the numbers stay in their range, the waiting sectors may stand in their slots, and there is room for 64 issued numbers and for the body of any record
+-- the numbers stay in their range, the waiting sectors are packed ones, and there is room for 64 issued numbers and for the frame of any record
 pub record IsKept (reached : ℕ) (above : List Bool) (waiting : List LogSector) (window room : ℕ) : Type 0 where
   pub first : 255 ≤ reached
   pub numbers : reached + length above + length waiting < 2 ^ 63
-  pub fits : IsTrue (list_all fits_its_slot waiting)
+  pub fits : IsTrue (list_all is_waiting waiting)
   pub issues : 64 ≤ window
-  pub bodies : 4096 ≤ room
+  pub frames : 4106 ≤ room
+
+-- the sectors with these bytes on the last one
+abbrev pub filled_last : List LogSector → List ℕ → List LogSector
+filled_last [] bytes = []
+filled_last (x ∷ []) bytes = filled x bytes ∷ []
+filled_last (x ∷ y ∷ ys) bytes = x ∷ filled_last (y ∷ ys) bytes

@@ -3,21 +3,17 @@ ghost use Rattle.std.specs.Prelude.{◌≡◌, ◌+◌, ◌≤◌, [], ◌++◌,
 ghost use Rattle.std.specs.List.{filter};
 ghost use Rattle.std.specs.Option.{option_map};
 ghost use Rattle.ring_definitions.specs.Rings as rings;
-ghost use Rattle.ring_definitions.specs.Rings.{names_of, last_of, with_named};
+ghost use Rattle.ring_definitions.specs.Rings.{names_of, with_named};
 
-use frang_base::{NoMemory, Sector};
-use log_record::Redo;
+use frang_base::{NoMemory, Redo, Sector};
 use ring_definitions::{Named, Unwritten};
 use std::alloc::Global;
 use std::collections::BTreeMap;
 
-// The oldest records end within so many numbers behind those that are given up.
-const OLDEST: u64 = 64;
-
-/// Adds what a record names behind the rest, with its last number. There is room.
-pub(crate) fn put_names(named: &mut Vec<Named>, redo: &Redo, last: u64)
+/// Adds what a record names behind the rest, with the number of the sector in which it begins. There is room.
+pub(crate) fn put_names(named: &mut Vec<Named>, redo: &Redo, first: u64)
     requires { vec_len named.old + length redo.now.changes ≤ vec_capacity named.old }
-    ensures items { named.new.items ≡ named.old.items ++ names_of last redo.now }
+    ensures items { named.new.items ≡ named.old.items ++ names_of first redo.now }
     ensures len { vec_len named.new ≡ vec_len named.old + length redo.now.changes }
     ensures capacity { vec_capacity named.old ≤ vec_capacity named.new }
 {
@@ -26,7 +22,7 @@ pub(crate) fn put_names(named: &mut Vec<Named>, redo: &Redo, last: u64)
         let name = Named {
             sector: change.sector,
             version: change.version,
-            last,
+            first,
         };
         match named.push(name) {
             Ok(()) => {}
@@ -35,11 +31,11 @@ pub(crate) fn put_names(named: &mut Vec<Named>, redo: &Redo, last: u64)
     }
 }
 
-// It belongs to the oldest records.
-fn is_oldest(given_up: u64, x: &Named) -> bool
-    ensures { result ≡ nat_le x.now.last (given_up + 64) }
+// It belongs to the records that begin up to this number.
+fn is_oldest(end: u64, x: &Named) -> bool
+    ensures { result ≡ nat_le x.now.first end }
 {
-    x.last <= given_up.saturating_add(OLDEST)
+    x.first <= end
 }
 
 // The sector is known to stand on the disk in that version or a later one.
@@ -50,50 +46,37 @@ fn is_known(disk: &[(Sector, u64)], x: &Named) -> bool
         .any(|known| known.0.0 == x.sector.0 && x.version <= known.1)
 }
 
-/// The first sector of the oldest records that isn't known to be written.
-pub(crate) fn unwritten(given_up: u64, named: &[Named], disk: &[(Sector, u64)]) -> Option<Unwritten>
-    ensures { result ≡ option_map (λ x. record { sector = x.sector }) (find (λ x. not (rings.is_known disk.now x)) (filter (λ x. nat_le x.last (given_up + 64)) named.now)) }
+/// The first sector named in the records that begin up to this number which isn't known to be written.
+pub(crate) fn unwritten(end: u64, named: &[Named], disk: &[(Sector, u64)]) -> Option<Unwritten>
+    ensures { result ≡ option_map (λ x. record { sector = x.sector }) (find (λ x. not (rings.is_known disk.now x)) (filter (λ x. nat_le x.first end) named.now)) }
 {
     let x = named
         .iter()
-        .filter(|x| is_oldest(given_up, x))
+        .filter(|x| is_oldest(end, x))
         .find(|x| !is_known(disk, x))?;
     Some(Unwritten { sector: x.sector })
 }
 
-/// The last number of the oldest records, or that which is given up.
-pub(crate) fn last_of_oldest(given_up: u64, named: &[Named]) -> u64
-    ensures { result ≡ last_of given_up (filter (λ x. nat_le x.last (given_up + 64)) named.now) }
-{
-    let mut last = given_up;
-    for x in named {
-        if is_oldest(given_up, x) {
-            last = x.last;
-        }
-    }
-    last
-}
-
-/// Takes out what the oldest records name.
-pub(crate) fn drop_oldest(given_up: u64, named: &mut Vec<Named>)
-    ensures items { named.new.items ≡ filter (λ x. not (nat_le x.last (given_up + 64))) named.old.items }
+/// Takes out what the records name that begin up to this number.
+pub(crate) fn drop_oldest(end: u64, named: &mut Vec<Named>)
+    ensures items { named.new.items ≡ filter (λ x. not (nat_le x.first end)) named.old.items }
     ensures capacity { vec_capacity named.new ≡ vec_capacity named.old }
     ensures len { vec_len named.new ≤ vec_len named.old }
 {
-    named.retain(|x| !is_oldest(given_up, x));
+    named.retain(|x| !is_oldest(end, x));
 }
 
-/// The sectors that the oldest records name, each with its greatest version there.
+/// The sectors that the records name which begin up to this number, each with its greatest version there.
 pub(crate) fn oldest_versions(
     alloc: Global,
-    given_up: u64,
+    end: u64,
     named: &[Named],
 ) -> Result<BTreeMap<u64, u64>, NoMemory>
-    ensures { IfOk result (λ m. m.entries ≡ fold with_named [] (filter (λ x. nat_le x.last (given_up + 64)) named.now)) }
+    ensures { IfOk result (λ m. m.entries ≡ fold with_named [] (filter (λ x. nat_le x.first end) named.now)) }
 {
     let mut versions = BTreeMap::new(alloc);
     for x in named {
-        if is_oldest(given_up, x) {
+        if is_oldest(end, x) {
             note(&mut versions, x)?;
         }
     }

@@ -6,19 +6,17 @@ ghost use Rattle.ring_definitions.specs.Rings.{is_record, append_answer, ring_at
 ghost use Rattle.wal_ring.specs.SpaciousRings.{HasRoom, KeepsRoom, KeepsRoomBut};
 ghost use Rattle.wal_ring.specs.Outcomes.{AppendOutcome, ReserveOutcome, ReclaimOutcome};
 
-use crate::names::{drop_oldest, last_of_oldest, listed, oldest_versions, put_names, unwritten};
-use crate::parts::{put_sectors, sectors_needed};
-use frang_base::{Block, NoMemory, Sector};
-use log_record::{LogSector, RECORD_BYTES_MAX, Redo, push_record, sector_write};
+use crate::names::{drop_oldest, listed, oldest_versions, put_names, unwritten};
+use crate::packing::{frame_length, open_room, put_frame};
+use frang_base::limits::{
+    LOG_BODY_BYTES, LOG_IN_FLIGHT_MAX, LOG_QUARTER, LOG_WINDOW, SECTOR_BYTES,
+};
+use frang_base::{Block, NoMemory, Redo, Sector};
+use log_record::{FRAME_BYTES_MAX, LogSector, push_frame, sector_write};
 use ring_definitions::{Named, RingFault, Unwritten};
 use std::alloc::Global;
 use std::collections::VecDeque;
 use std::marker::Model;
-
-// So many numbers past the one up to which all are acknowledged may be issued.
-const ISSUES: usize = 64;
-// So many numbers may be given that aren't given up.
-const NUMBERS: u64 = 192;
 
 /// The log of a server in memory: its records that aren't given up, whose sectors have numbers that go on for ever, and which of these are issued and
 /// acknowledged. Contracts see the ring of the definitions, and for how many more sectors of its log and names of sectors there is room.
@@ -29,8 +27,8 @@ pub struct Ring {
     above: VecDeque<bool>,
     waiting: VecDeque<LogSector>,
     named: Vec<Named>,
-    // The body of a record while it is cut into sectors.
-    body: Vec<u8>,
+    // The frame of a record while it is put on sectors.
+    frame: Vec<u8>,
     alloc: Global,
 }
 
@@ -48,7 +46,7 @@ impl Model for Ring {
       names = vec_capacity r.named - vec_len r.named;
     } };
 
-    ghost invariant = { λ r. IsKept r.reached r.above.items r.waiting.items (deque_capacity r.above) (vec_capacity r.body) };
+    ghost invariant = { λ r. IsKept r.reached r.above.items r.waiting.items (deque_capacity r.above) (vec_capacity r.frame) };
 }
 
 impl Ring {
@@ -61,16 +59,17 @@ impl Ring {
         Ok(Ring {
             given_up: end,
             reached: end,
-            above: VecDeque::with_capacity(alloc, ISSUES)?,
+            above: VecDeque::with_capacity(alloc, LOG_IN_FLIGHT_MAX)?,
             waiting: VecDeque::new(alloc),
             named: Vec::new(alloc),
-            body: Vec::with_capacity(alloc, RECORD_BYTES_MAX)?,
+            frame: Vec::with_capacity(alloc, FRAME_BYTES_MAX)?,
             alloc,
         })
     }
 
-    /// Appends a record, and answers the last number of its sectors. `Full` comes exactly where it needs more sectors than are free, and `NoMemory` only
-    /// where enough are free and there is no room. After both the ring is as before.
+    /// Appends a record, and answers the number of the sector with its last byte. The last sector may then be open and takes further records, until it is
+    /// full or issued. `Full` comes exactly where the record newly begins more sectors than are free, and `NoMemory` only where enough are free and there is no
+    /// room. After both the ring is as before.
     pub fn append(&mut self, redo: &Redo) -> Result<u64, RingFault>
         requires record { IsTrue (is_record redo.now) }
         requires numbers { rings.last self.old.ring < 2 ^ 63 - 16 }
@@ -89,20 +88,20 @@ impl Ring {
         requires numbers { rings.last self.old.ring < 2 ^ 63 - 16 }
         requires room { HasRoom self.old redo.now }
         ensures ring { self.new.ring ≡ appended self.old.ring redo.now }
-        ensures answer { result ≡ rings.last self.old.ring + rings.sectors_needed redo.now }
+        ensures answer { result ≡ rings.last self.old.ring + rings.need self.old.ring redo.now }
         ensures last { result ≡ rings.last self.new.ring }
         ensures room { KeepsRoomBut redo.now self.old self.new }
     {
-        let before = self.last();
-        let last = before + u64::from(sectors_needed(redo));
-        self.body.clear();
-        match push_record(&mut self.body, redo) {
+        let first = self.begins();
+        let next = self.last() + 1;
+        self.frame.clear();
+        match push_frame(&mut self.frame, redo) {
             Ok(()) => {}
             Err(NoMemory) => unreachable!(),
         }
-        put_sectors(&mut self.waiting, before + 1, redo, &self.body);
-        put_names(&mut self.named, redo, last);
-        last
+        put_frame(&mut self.waiting, next, &self.frame);
+        put_names(&mut self.named, redo, first);
+        self.last()
     }
 
     // The last number issued.
@@ -120,19 +119,46 @@ impl Ring {
         self.sent() + self.waiting.len() as u64
     }
 
+    // The number of the sector in which the next record begins.
+    fn begins(&self) -> u64
+        ensures { result ≡ rings.begins self.now.ring }
+    {
+        if open_room(&self.waiting) == 0 {
+            self.last() + 1
+        } else {
+            self.last()
+        }
+    }
+
+    // The records that begin up to this number are the oldest: those in the oldest 64 numbers, as far as these are issued.
+    fn oldest_end(&self) -> u64
+        ensures { result ≡ rings.oldest_end self.now.ring }
+    {
+        self.given_up.saturating_add(LOG_QUARTER).min(self.sent())
+    }
+
+    // How many sectors a record newly begins.
+    fn need(&self, redo: &Redo) -> u32
+        requires { IsTrue (is_record redo.now) }
+        ensures { result ≡ rings.need self.now.ring redo.now }
+    {
+        let rest = frame_length(redo).saturating_sub(open_room(&self.waiting));
+        rest.div_ceil(LOG_BODY_BYTES) as u32
+    }
+
     // How many numbers are free.
     fn free(&self) -> u32
         ensures { result ≡ rings.free self.now.ring }
     {
-        NUMBERS.saturating_sub(self.last().saturating_sub(self.given_up)) as u32
+        LOG_WINDOW.saturating_sub(self.last().saturating_sub(self.given_up)) as u32
     }
 
-    /// How many sectors a record needs, and how many are free: what `Full` would show. It takes no memory.
+    /// How many sectors a record newly begins, and how many are free: what `Full` would show. It takes no memory.
     pub fn room(&self, redo: &Redo) -> Result<(u32, u32), NoMemory>
         requires { IsTrue (is_record redo.now) }
-        ensures { result ≡ Ok (rings.sectors_needed redo.now, rings.free self.now.ring) }
+        ensures { result ≡ Ok (rings.need self.now.ring redo.now, rings.free self.now.ring) }
     {
-        Ok((u32::from(sectors_needed(redo)), self.free()))
+        Ok((self.need(redo), self.free()))
     }
 
     /// Makes room for a record, so that its append as the next call takes no memory. Nothing else changes, whatever the answer. `Full` comes exactly as in
@@ -144,7 +170,7 @@ impl Ring {
         ensures sure { HasRoom self.old redo.now → IsOk (append_answer self.old.ring redo.now) → IsOk result }
         ensures room { KeepsRoom self.old self.new }
     {
-        let (need, free) = (u32::from(sectors_needed(redo)), self.free());
+        let (need, free) = (self.need(redo), self.free());
         if need > free {
             return Err(RingFault::Full { need, free });
         }
@@ -165,21 +191,21 @@ impl Ring {
         Ok(())
     }
 
-    /// The next sector to be issued, with its number. `None` exactly where all are issued, or the number is more than 64 past the one up to which all are
+    /// The next sector to be issued, which may be the open one, with its number. `None` exactly where all are issued, or the number is more than 64 past the one up to which all are
     /// acknowledged.
     pub fn next_sector(&self) -> Option<(u64, Block)>
         ensures { result ≡ rings.next_sector self.now.ring }
     {
-        if self.above.len() >= ISSUES {
+        if self.above.len() >= LOG_IN_FLIGHT_MAX {
             return None;
         }
         let sector = self.waiting.front()?;
-        let mut block = [0; 512];
+        let mut block = [0; SECTOR_BYTES];
         sector_write(sector, &mut block);
         Some((self.sent() + 1, block))
     }
 
-    /// The sector that `next_sector` gives with this number is issued. It takes no memory.
+    /// The sector that `next_sector` gave with this number since the last append is issued, and takes no further records. It takes no memory.
     pub fn issued(&mut self, seq: u64)
         requires { IsSomeAnd (rings.next_sector self.old.ring) (λ x. x.0 ≡ seq) }
         ensures ring { self.new.ring ≡ rings.issued self.old.ring }
@@ -222,23 +248,24 @@ impl Ring {
     pub fn oldest(&self) -> Result<Vec<(Sector, u64)>, NoMemory>
         ensures { IfOk result (λ list. map (λ entry. (entry.0.0, entry.1)) list.items ≡ oldest_versions self.now.ring) }
     {
-        let versions = oldest_versions(self.alloc, self.given_up, &self.named)?;
+        let versions = oldest_versions(self.alloc, self.oldest_end(), &self.named)?;
         listed(self.alloc, &versions)
     }
 
-    /// Gives up the oldest records up to 64 sectors, whose changes all stand on the disk: `disk` names versions that are known to stand there. `Unwritten`
+    /// Gives up the records that begin in the oldest 64 numbers, as far as these are issued, whose changes all stand on the disk: `disk` names versions that
+    /// are known to stand there. `Unwritten`
     /// comes exactly where a sector named in these records has no such version, or a lesser one than the record's, and names the first such; the ring is
     /// then as before. It takes no memory.
     pub fn reclaim(&mut self, disk: &[(Sector, u64)]) -> Result<(), Unwritten>
         ensures outcome { ReclaimOutcome disk.now self.old.ring self.new.ring result }
         ensures room { KeepsRoom self.old self.new }
     {
-        if let Some(fault) = unwritten(self.given_up, &self.named, disk) {
+        let end = self.oldest_end();
+        if let Some(fault) = unwritten(end, &self.named, disk) {
             return Err(fault);
         }
-        let given_up = self.given_up;
-        self.given_up = last_of_oldest(given_up, &self.named);
-        drop_oldest(given_up, &mut self.named);
+        self.given_up = end;
+        drop_oldest(end, &mut self.named);
         Ok(())
     }
 }

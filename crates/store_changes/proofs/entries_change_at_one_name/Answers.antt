@@ -1,8 +1,5 @@
 -- By the lemmas over plain variables.
-use Rattle.store_changes.proofs.Names.{names_come}
-use Rattle.store_changes.proofs.Names.{names_go}
-use Rattle.store_changes.proofs.Names.{names_move}
-use Rattle.store_changes.proofs.Names.{names_are_taken}
+use Rattle.store_changes.proofs.Names.{names_come, names_go, names_move, names_are_taken}
 use Rattle.store_changes.proofs.entries_change_at_one_name.Goals as goal
 
 pub returns-clause-comes : goal.returns-clause-comes

@@ -1,6 +1,4 @@
 -- By the laws of one bit.
-use Rattle.std.proofs.Common.{◌≡◌, ◌∙◌, ℕ, if◌then◌else◌, ◌==◌, Bool, ap, sym}
-use Rattle.sector_definitions.specs.Bitmaps.{inode_bit}
 use Rattle.sector_definitions.proofs.Bits.{bit_set, bit_cleared}
 use Rattle.bitmap_block.proofs.inodes.with_inode.Goals as goal
 

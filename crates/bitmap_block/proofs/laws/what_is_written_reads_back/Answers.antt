@@ -1,12 +1,11 @@
 -- By the laws of the definition.
-use Rattle.sector_definitions.proofs.BitmapLaws.{bitmap_back, bitmap_read, bitmap_once}
+use Rattle.sector_definitions.proofs.BitmapLaws.{bitmap_back, bitmap_read, bitmap_found, bitmap_once}
 use Rattle.bitmap_block.proofs.laws.what_is_written_reads_back.Goals as goal
 
-pub returns-clause-back : goal.returns-clause-back
-returns-clause-back c = bitmap_back
-
-pub returns-clause-read : goal.returns-clause-read
-returns-clause-read c = bitmap_read
-
-pub returns-clause-once : goal.returns-clause-once
-returns-clause-once c = bitmap_once
+pub returns : goal.returns
+returns c = record {
+  back = λ x h. bitmap_back x h.0 h.1 h.2;
+  read = bitmap_read;
+  found = λ block x h. bitmap_found block x h.0 h.1 h.2;
+  once = λ block x y h g. bitmap_once block x y h.0 h.1 h.2 g.0 g.1 g.2;
+}

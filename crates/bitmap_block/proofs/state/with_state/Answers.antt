@@ -1,5 +1,5 @@
 -- By the laws of the states in a byte.
-use Rattle.std.proofs.Common.{◌≡◌, ℕ, length, arith}
+use Rattle.std.proofs.Common.{◌≡◌, length, arith}
 use Rattle.sector_definitions.proofs.Digits.{state_replaced}
 use Rattle.bitmap_block.proofs.state.with_state.Goals as goal
 

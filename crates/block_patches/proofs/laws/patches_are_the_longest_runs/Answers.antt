@@ -1,6 +1,6 @@
 -- The laws of the definition, at blocks of 512 bytes.
 use Rattle.std.proofs.Common.{arith}
-use Rattle.sector_definitions.proofs.PatchLaws.{patches_apart, patches_new}
+use Rattle.sector_bytes.proofs.PatchLaws.{patches_apart, patches_new}
 use Rattle.block_patches.proofs.laws.patches_are_the_longest_runs.Goals as goal
 
 pub returns : goal.returns

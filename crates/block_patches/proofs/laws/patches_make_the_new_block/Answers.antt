@@ -1,6 +1,6 @@
 -- The laws of the definition, at blocks of 512 bytes.
 use Rattle.std.proofs.Common.{sym, ◌∙◌, arith}
-use Rattle.sector_definitions.proofs.PatchLaws.{patches_laid, edited_by_patches, no_patches}
+use Rattle.sector_bytes.proofs.PatchLaws.{patches_laid, edited_by_patches, no_patches}
 use Rattle.block_patches.proofs.laws.patches_make_the_new_block.Goals as goal
 
 pub returns : goal.returns

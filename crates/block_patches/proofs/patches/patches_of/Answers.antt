@@ -1,5 +1,5 @@
 -- Each turn adds the run at its place.
-use Rattle.sector_definitions.specs.Patches.{patches_of}
+use Rattle.sector_bytes.specs.Patches.{patches_of}
 use Rattle.block_patches.proofs.RunLaws.{turn}
 use Rattle.block_patches.proofs.patches.patches_of.Goals as goal
 

@@ -1,6 +1,6 @@
 -- The patches so far, and the runs in what is left.
 use Rattle.std.proofs.Common.{◌-◌, ◌≡◌, ◌++◌, drop}
-use Rattle.sector_definitions.specs.Patches.{patches_of, runs_from}
+use Rattle.sector_bytes.specs.Patches.{patches_of, runs_from}
 use Rattle.block_patches.proofs.patches.patches_of.Given as goal
 
 abbrev pub invariant-loop-at : goal.invariant-loop-at

@@ -1,8 +1,8 @@
 -- What stands at the sector is what the change makes of it.
 use Rattle.std.proofs.Common.{ap, ◌∙◌}
 use Rattle.std.specs.Option.{option_map}
-use Rattle.change_definitions.specs.Changes.{changed}
-use Rattle.change_definitions.proofs.MapLaws.{value_at-adjusted}
+use Rattle.sector_bytes.specs.Changes.{changed}
+use Rattle.sector_bytes.proofs.MapLaws.{value_at-adjusted}
 use Rattle.clerk_cache.specs.Changing.{dirty}
 use Rattle.clerk_cache.proofs.laws.a_change_leaves_its_sector_dirty.Goals as goal
 

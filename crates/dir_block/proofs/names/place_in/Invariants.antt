@@ -1,6 +1,5 @@
 -- No entry so far has the name.
-use Rattle.std.proofs.Common.{◌≡◌, take}
-use Rattle.std.proofs.Common.{None}
+use Rattle.std.proofs.Common.{◌≡◌, take, None}
 use Rattle.sector_definitions.specs.Directories.{place_of_name}
 use Rattle.dir_block.proofs.names.place_in.Given as goal
 

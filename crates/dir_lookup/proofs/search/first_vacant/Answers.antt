@@ -1,5 +1,5 @@
 -- Sector after sector.
-use Rattle.std.proofs.Common.{◌≡◌, ◌*◌, ◌<◌, ◌≤◌, ℕ, Bool, Option, Some, None, Err, slice_index, sym, ap, ◌∙◌, arith, rules}
+use Rattle.std.proofs.Common.{◌≡◌, ◌*◌, ◌<◌, ◌≤◌, ℕ, Bool, Option, Err, slice_index, sym, ap, ◌∙◌, arith, rules}
 use Rattle.std.specs.Option.{option_map}
 use Rattle.disk_definitions.specs.Store.{StoredEntry}
 use Rattle.plan_definitions.specs.Walks as walks

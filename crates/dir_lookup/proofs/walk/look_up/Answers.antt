@@ -12,21 +12,21 @@ pub returns-in_err-found : goal.returns-in_err-found
 returns-in_err-found c dirs held =
     let need = c.in_err-found.field-0.0 in
     let e : c.from_residual.result ≡ Err need = search rules in
-    ap (read_of (λ s. walked_in dirs c.args.number (spot_of s))) e
-    ∙ looked_up dirs c.args.number (stored c.args.directory.now) c.args.name.now c.args.sectors.now.entries held (Lacks need.0.0)
+    ap (read_of (λ s. walked_in dirs c.args.directory.now.number (spot_of s))) e
+    ∙ looked_up dirs c.args.directory.now.number (stored c.args.directory.now.inode) c.args.name.now c.args.sectors.now.entries held (Lacks need.0.0)
     (said_err (option_map found_at) c.first_named.result need _ c.in_err-found.was (c.first_named.ensures held))
 
 pub returns-in-Some : goal.returns-in-Some
 returns-in-Some c dirs held =
     let f = c.in-Some.found in
-    let x = stored c.args.directory.now in
-    ap (λ n. Gives (record { spot = AtName c.args.number x n f.place (entered f.entry); dirs = dirs ++ c.args.number ∷ [] })) c.copy-name.ensures
-    ∙ looked_up dirs c.args.number x c.args.name.now c.args.sectors.now.entries held (Gives (Some (found_at f)))
+    let x = stored c.args.directory.now.inode in
+    ap (λ n. Gives (record { spot = AtName c.args.directory.now.number x n f.place (entered f.entry); dirs = dirs ++ c.args.directory.now.number ∷ [] })) c.copy-name.ensures
+    ∙ looked_up dirs c.args.directory.now.number x c.args.name.now c.args.sectors.now.entries held (Gives (Some (found_at f)))
     (sym (ap (λ o. Gives (option_map found_at o)) c.in-Some.is) ∙ said_ok (option_map found_at) c.first_named.result c.in_ok-found.found _ c.in_ok-found.was (c.first_named.ensures held))
 
 pub returns-in-None : goal.returns-in-None
 returns-in-None c dirs held =
-    let x = stored c.args.directory.now in
-    ap (λ n. Gives (record { spot = AtGap c.args.number x n; dirs = dirs ++ c.args.number ∷ [] })) c.copy-name.ensures
-    ∙ looked_up dirs c.args.number x c.args.name.now c.args.sectors.now.entries held (Gives None)
+    let x = stored c.args.directory.now.inode in
+    ap (λ n. Gives (record { spot = AtGap c.args.directory.now.number x n; dirs = dirs ++ c.args.directory.now.number ∷ [] })) c.copy-name.ensures
+    ∙ looked_up dirs c.args.directory.now.number x c.args.name.now c.args.sectors.now.entries held (Gives None)
     (sym (ap (λ o. Gives (option_map found_at o)) c.in-None.is) ∙ said_ok (option_map found_at) c.first_named.result c.in_ok-found.found _ c.in_ok-found.was (c.first_named.ensures held))

@@ -1,6 +1,6 @@
 -- The bytes are added at the end.
 use Rattle.std.proofs.Common.{◌≡◌, ◌-◌, ◌*◌, ◌<◌, ◌≤◌, length, min, sym, ◌∙◌, ap, subst, rules, arith, le_refl}
-use Rattle.disk_definitions.specs.Disks.{sectors_of}
+use Rattle.sector_bytes.specs.Sectors.{sectors_of}
 use Rattle.disk_definitions.specs.Store.{stored}
 use Rattle.standing_laws.specs.ReadTree.{byte_at}
 use Rattle.standing_laws.proofs.Pictured.{length_cells}

@@ -1,6 +1,6 @@
 -- By the state of the block.
 use Rattle.std.proofs.Common.{sym, ◌∙◌, ap}
-use Rattle.disk_definitions.specs.Disks.{sectors_of}
+use Rattle.sector_bytes.specs.Sectors.{sectors_of}
 use Rattle.disk_reading.specs.Seen.{use_of_state}
 use Rattle.disk_reading.specs.Fits.{block_fits}
 use Rattle.disk_reading.proofs.grammar.block_fits.Goals as goal

@@ -1,5 +1,5 @@
 use Rattle.std.proofs.Common.{◌≡◌}
-use Rattle.disk_definitions.specs.Disks.{sectors_of}
+use Rattle.sector_bytes.specs.Sectors.{sectors_of}
 use Rattle.standing_laws.specs.Below.{all_below}
 use Rattle.disk_reading.specs.Fits.{segment_fits}
 use Rattle.disk_reading.proofs.grammar.segments_fit.Given as goal

@@ -1,5 +1,5 @@
 -- What is listed lies below.
-use Rattle.disk_definitions.specs.Disks.{sectors_of}
+use Rattle.sector_bytes.specs.Sectors.{sectors_of}
 use Rattle.standing_laws.proofs.SoundStanding.{disk_range}
 use Rattle.disk_reading.specs.Seen.{store_in}
 use Rattle.disk_reading.proofs.Assembled.{blocks_below, larges_below}

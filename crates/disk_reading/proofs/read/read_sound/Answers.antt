@@ -1,7 +1,7 @@
 -- Each test that fails shows that the disk isn't sound, and all of them together that it is.
 use Rattle.std.proofs.Common.{◌≡◌, ◌*◌, true, false, sym, ◌∙◌, ap, subst, MatchBool}
 use Rattle.std.proofs.lemmas.Bool.{both_ways}
-use Rattle.disk_definitions.specs.Disks.{sectors_of}
+use Rattle.sector_bytes.specs.Sectors.{sectors_of}
 use Rattle.disk_definitions.specs.Standing.{IsReached}
 use Rattle.standing_laws.specs.Below.{all_below}
 use Rattle.standing_laws.specs.ReadTree.{nodes_to}

@@ -1,8 +1,8 @@
 -- The sector that is decoded is that of the inode.
 use Rattle.std.proofs.Common.{◌∙◌, ap}
 use Rattle.sector_definitions.specs.Inodes.{inode_in}
-use Rattle.disk_definitions.specs.Disks.{sectors_of}
+use Rattle.sector_bytes.specs.Sectors.{sectors_of}
 use Rattle.disk_reading.proofs.sectors.inode_at.Goals as goal
 
 pub returns : goal.returns
-returns c = c.decode.ensures ∙ ap inode_in (c.get.ensures ∙ ap (sectors_of c.args.disk.now) c.inode_sector.ensures)
+returns c = c.decode.ensures ∙ ap inode_in (c.get.ensures ∙ ap (sectors_of c.args.disk.now) c.sector_of.ensures)

@@ -1,7 +1,8 @@
 -- The sector is set where it is older and a replay changes it, and else nothing is.
 use Rattle.std.proofs.Common.{◌≤◌, Result, Ok, Err, OnOk, sym, ap, ◌∙◌, subst}
-use Rattle.change_definitions.specs.Changes.{applied, version_of}
-use Rattle.disk_definitions.specs.Disks.{sectors_of}
+use Rattle.sector_bytes.specs.Changes.{applied}
+use Rattle.sector_bytes.specs.Blocks.{version_of}
+use Rattle.sector_bytes.specs.Sectors.{sectors_of}
 use Rattle.disk_replay.proofs.LaidChanges.{none_laid, none_newer, set_laid}
 use Rattle.disk_replay.proofs.apply.apply_change.Goals as goal
 

@@ -1,7 +1,7 @@
 -- The first of what is left is laid in each turn.
 use Rattle.std.proofs.Common.{◌≡◌, ◌+◌, [], ◌∷◌, drop, sym, ap, ◌∙◌, arith}
 use Rattle.std.proofs.lemmas.List.{at_drop_more, drop_all}
-use Rattle.disk_definitions.specs.Disks.{sectors_of}
+use Rattle.sector_bytes.specs.Sectors.{sectors_of}
 use Rattle.disk_replay.specs.Laid.{with_changes}
 use Rattle.disk_replay.proofs.LaidChanges.{all_laid, laid_first}
 use Rattle.disk_replay.proofs.apply.apply_changes.Goals as goal

@@ -2,7 +2,7 @@
 use Rattle.std.proofs.Common.{[], sym, ap, ◌∙◌}
 use Rattle.std.specs.Prelude.{slice_index_or}
 use Rattle.std.proofs.lemmas.List.Elements.{All-same}
-use Rattle.disk_definitions.specs.Disks.{sectors_of}
+use Rattle.sector_bytes.specs.Sectors.{sectors_of}
 use Rattle.log_definitions.specs.Logs.{Slots, log_records}
 use Rattle.log_definitions.specs.Replay.{slots_of}
 use Rattle.disk_replay.specs.Laid.{HoldsChanges}

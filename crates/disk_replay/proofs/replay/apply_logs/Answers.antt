@@ -1,7 +1,7 @@
 -- One log more in each turn.
 use Rattle.std.proofs.Common.{◌+◌, ◌++◌, sym, ap, ◌∙◌}
 use Rattle.std.proofs.lemmas.List.Elements.{All-same}
-use Rattle.disk_definitions.specs.Disks.{sectors_of}
+use Rattle.sector_bytes.specs.Sectors.{sectors_of}
 use Rattle.disk_replay.specs.Laid.{changes_below, changes_in, with_changes, HoldsChanges}
 use Rattle.disk_replay.proofs.LaidChanges.{laid_more, nothing_laid}
 use Rattle.disk_replay.proofs.ReplayedDisk.{next_log, no_logs}

@@ -2,7 +2,7 @@
 use Rattle.std.proofs.Common.{◌≡◌, sym, ap, ◌∙◌}
 use Rattle.sector_definitions.specs.Params.{param_in}
 use Rattle.sector_definitions.proofs.ParamLaws.{few_segments}
-use Rattle.disk_definitions.specs.Disks.{sectors_of}
+use Rattle.sector_bytes.specs.Sectors.{sectors_of}
 use Rattle.disk_replay.proofs.ReplayedDisk.{all_replayed, not_replayed}
 use Rattle.disk_replay.proofs.replay.replayed.Goals as goal
 use Rattle.disk_replay.proofs.replay.replayed.Goals.{in-Some+in_ok-apply_logs, in_default}

@@ -1,16 +1,16 @@
 -- By the block of the sector.
 use Rattle.std.proofs.Common.{◌≡◌, ◌<◌, ◌-◌, ◌^◌, IfOk, subst, sym}
-use Rattle.sector_definitions.specs.Bytes.{number_at}
+use Rattle.sector_bytes.specs.Bytes.{number_at}
 use Rattle.disk_definitions.specs.Standing.{version_at}
-use Rattle.plan_definitions.specs.Written.{sectors_at_hand}
 use Rattle.plan_steps.specs.Edits.{edits_of}
+use Rattle.edit_writing.specs.Sectors.{at_hand}
 use Rattle.edit_writing.proofs.Changed.{below_test, same_change}
 use Rattle.edit_writing.proofs.changes.change_of.Goals as goal
 
 pub change_between-requires : goal.change_between-requires
-change_between-requires c = subst (λ block. number_at 8 0 block < 2 ^ 64 - 1) (sym c.block_at_hand-old.ensures) (below_test (version_at (sectors_at_hand c.args.sectors.now.entries c.args.held.now) c.args.sector.0) (2 ^ 64 - 1) c.requires.version)
+change_between-requires c = subst (λ block. number_at 8 0 block < 2 ^ 64 - 1) (sym c.block_at_hand-old.ensures) (below_test (version_at (at_hand c.args.hand.now) c.args.sector.0) (2 ^ 64 - 1) c.requires.version)
 
 pub returns : goal.returns
 returns c =
-    let same = same_change (sectors_at_hand c.args.sectors.now.entries c.args.held.now) (edits_of c.args.edits.now) c.args.sector.0 c.block_at_hand-old.result c.edited-new.result c.block_at_hand-old.ensures c.edited-new.ensures in
+    let same = same_change (at_hand c.args.hand.now) (edits_of c.args.edits.now) c.args.sector.0 c.block_at_hand-old.result c.edited-new.result c.block_at_hand-old.ensures c.edited-new.ensures in
     subst (λ x. IfOk c.change_between.result (λ change. change ≡ x)) same c.change_between.ensures

@@ -3,20 +3,20 @@ use Rattle.std.proofs.Common.{◌∙◌, ap}
 use Rattle.std.specs.List.{filter_map}
 use Rattle.std.specs.Map.{keys_of}
 use Rattle.plan_definitions.specs.Written as written
-use Rattle.plan_definitions.specs.Written.{all_edited, sectors_at_hand}
+use Rattle.plan_definitions.specs.Written.{all_edited}
 use Rattle.plan_steps.specs.Edits.{edits_of}
-use Rattle.edit_writing.specs.Sectors.{has_next_version}
+use Rattle.edit_writing.specs.Sectors.{at_hand, has_next_version}
 use Rattle.edit_writing.proofs.Changed.{key_passes, turn_some, turn_none}
 use Rattle.edit_writing.proofs.changes.changes_at.Goals as goal
 use Rattle.edit_writing.proofs.changes.changes_at.Goals.{in-Some+in_ok-push, in_default}
 
 pub change_of-requires-clause-version : goal.change_of-requires-clause-version
 change_of-requires-clause-version c =
-    key_passes (has_next_version (sectors_at_hand c.args.sectors.now.entries c.args.held.now)) c.args.numbers.now c.loop-number.number-index c.loop-number-test.true c.requires.versions
+    key_passes (has_next_version (at_hand c.args.hand.now)) c.args.numbers.now c.loop-number.number-index c.loop-number-test.true c.requires.versions
 
 pub loop-number-preserved : goal.loop-number-preserved
 loop-number-preserved c =
-    let old = sectors_at_hand c.args.sectors.now.entries c.args.held.now in
+    let old = at_hand c.args.hand.now in
     let f = written.change_of old (all_edited old (edits_of c.args.edits.now)) in
     let all = filter_map f (keys_of c.args.numbers.now) in
     let done = c.loop-number.changes.items in

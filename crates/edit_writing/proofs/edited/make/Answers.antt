@@ -1,6 +1,6 @@
 -- By the edit.
 use Rattle.std.proofs.Common.{◌∙◌}
-use Rattle.sector_definitions.specs.Bytes.{number_at}
+use Rattle.sector_bytes.specs.Bytes.{number_at}
 use Rattle.edit_writing.proofs.Made.{bytes_made, state_made}
 use Rattle.edit_writing.proofs.edited.make.Goals as goal
 

@@ -1,5 +1,5 @@
-use Rattle.std.proofs.Common.{◌≡◌, ◌+◌, Some, List, length, sym, ◌∙◌, subst, arith, rules}
-use Rattle.std.specs.List.{All, slice_get}
+use Rattle.std.proofs.Common.{◌≡◌, ◌+◌, length, sym, ◌∙◌, subst, arith, rules}
+use Rattle.std.specs.List.{All}
 use Rattle.frang_base.specs.declared.said.Said.TheVariants.{End}
 use Rattle.tree_definitions.specs.TreeLines.{tree_lines}
 use Rattle.script_definitions.specs.SaidReading.{IsProperSaid}

@@ -1,5 +1,5 @@
 use Rattle.std.proofs.Common.{◌≡◌, suc, true, false, length, ap, arith, rules}
-use Rattle.sector_definitions.specs.Bytes.{are_zero}
+use Rattle.sector_bytes.specs.Bytes.{are_zero}
 use Rattle.image_file.specs.Entries.{written_blocks}
 use Rattle.image_file.proofs.CountingWritten.{fewer_blocks, same_blocks}
 use Rattle.image_file.proofs.write.count_blocks.Goals as goal

@@ -1,6 +1,6 @@
 -- The patches are those between the written blocks.
 use Rattle.sector_definitions.specs.Inodes.{inode_bytes}
-use Rattle.sector_definitions.proofs.PatchLaws.{same_patches}
+use Rattle.sector_bytes.proofs.PatchLaws.{same_patches}
 use Rattle.inode_block.proofs.differences.patches.Goals as goal
 
 pub returns : goal.returns

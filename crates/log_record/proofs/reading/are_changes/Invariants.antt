@@ -1,6 +1,6 @@
 use Rattle.std.proofs.Common.{◌≡◌, ◌&&◌, drop}
 use Rattle.std.specs.List.{list_all}
-use Rattle.change_definitions.specs.Changes.{is_change}
+use Rattle.sector_bytes.specs.Changes.{is_change}
 use Rattle.log_definitions.specs.Records.{sectors_ascend}
 use Rattle.log_record.proofs.reading.are_changes.Given as goal
 

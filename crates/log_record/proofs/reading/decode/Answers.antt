@@ -3,9 +3,9 @@ use Rattle.std.proofs.Common.{◌≡◌, ◌≤◌, ◌&&◌, nat_le, true, List
 use Rattle.std.specs.List.{list_all}
 use Rattle.std.specs.Option.{option_map}
 use Rattle.frang_base.specs.declared.change.Change.{Change}
-use Rattle.change_definitions.specs.Changes.{is_change}
-use Rattle.sector_definitions.specs.Bytes.{AreBytes}
-use Rattle.log_definitions.specs.declared.redo.Redo.{Redo}
+use Rattle.sector_bytes.specs.Changes.{is_change}
+use Rattle.sector_bytes.specs.Bytes.{AreBytes}
+use Rattle.frang_base.specs.declared.change.Redo.{Redo}
 use Rattle.log_definitions.specs.Records.{sectors_ascend}
 use Rattle.log_record.proofs.NumbersRead.{taken}
 use Rattle.log_record.proofs.RecordRead.{changes_read}

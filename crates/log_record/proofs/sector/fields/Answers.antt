@@ -3,7 +3,7 @@ use Rattle.std.proofs.Common.{◌≡◌, ◌≤◌, ℕ, List, length, drop, ref
 use Rattle.std.proofs.lemmas.Slice.{between_to_end}
 use Rattle.std.specs.List.{between}
 use Rattle.byteorder.specs.Endian.{little_number}
-use Rattle.sector_definitions.specs.Bytes.{number_at}
+use Rattle.sector_bytes.specs.Bytes.{number_at}
 use Rattle.sector_definitions.specs.LogSectors.{log_sector_fields}
 use Rattle.log_record.proofs.sector.fields.Goals as goal
 

@@ -1,8 +1,9 @@
 -- One patch after the other, and then the version.
-use Rattle.std.proofs.Common.{rules, ◌≤◌, length, ◌∷◌, [], ◌+◌, drop, ap, sym, ◌∙◌, subst}
+use Rattle.std.proofs.Common.{rules, List, ◌≤◌, length, ◌∷◌, [], ◌+◌, drop, ap, sym, ◌∙◌, subst}
 use Rattle.std.proofs.lemmas.List.{drop_all}
-use Rattle.change_definitions.specs.Changes.{with_patches}
-use Rattle.meta_version.proofs.BlockBytes.{FitFrom, all_fit, next_fits, rest_fit, one_more, none_left, versioned}
+use Rattle.frang_base.specs.declared.change.Patch.{Patch}
+use Rattle.sector_bytes.specs.Blocks.{patched}
+use Rattle.meta_version.proofs.BlockBytes.{FitFrom, all_fit, next_fits, rest_fit, one_more, versioned}
 use Rattle.meta_version.proofs.block.lay.Goals as goal
 
 pub loop-patch-init : goal.loop-patch-init
@@ -22,7 +23,7 @@ loop-patch-preserved c =
     let patches = c.as_slice-patch-items.result.now in
     let i = c.loop-patch.patch-index in
     let patch = c.patch-item.result in record {
-      rest = ap (λ block. with_patches block (drop (i + 1) patches)) (c.write.ensures ∙ ap (λ p. with_patches c.loop-patch.block (p ∷ [])) c.patch-item.is)
+      rest = ap (λ block. patched (drop (i + 1) patches) block) (c.write.ensures ∙ ap (λ p. patched (p ∷ []) c.loop-patch.block) c.patch-item.is)
           ∙ one_more c.loop-patch.block patches i patch c.loop-patch-test.true
           ∙ c.loop-patch.invariant.rest;
       fit = rest_fit patches i patch c.loop-patch-test.true c.loop-patch.invariant.fit;
@@ -31,8 +32,7 @@ loop-patch-preserved c =
 pub returns : goal.returns
 returns c =
     let patches = c.as_slice-patch-items.result.now in
-    let laid = sym (none_left c.loop-patch.block)
-    ∙ ap (with_patches c.loop-patch.block) (sym (drop_all c.loop-patch.patch-index patches c.loop-patch-test.false))
+    let laid = ap (λ (ps : List Patch). patched ps c.loop-patch.block) (sym (drop_all c.loop-patch.patch-index patches c.loop-patch-test.false))
     ∙ c.loop-patch.invariant.rest
-    ∙ ap (with_patches c.args.block.now) c.as_slice-patch-items.ensures in
+    ∙ ap (λ (ps : List Patch). patched ps c.args.block.now) c.as_slice-patch-items.ensures in
     c.write_u64.ensures ∙ versioned c.args.block.now c.loop-patch.block c.args.change.now laid c.requires

@@ -1,5 +1,5 @@
 use Rattle.std.proofs.Common.{◌≡◌, drop}
-use Rattle.change_definitions.specs.Changes.{are_patches}
+use Rattle.sector_bytes.specs.Changes.{are_patches}
 use Rattle.meta_version.proofs.well_formed.are_patches.Given as goal
 
 abbrev pub invariant-loop-patch : goal.invariant-loop-patch

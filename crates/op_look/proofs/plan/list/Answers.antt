@@ -24,8 +24,8 @@ returns-in_err-target c held =
     let e : c.from_residual.result ≡ Err c.in_err-target.field-0.0 = search rules in
     subst (Says p) (sym e) (target_stops cached held path next c.in_err-target.field-0.0 (subst (FindsTarget cached held path) c.in_err-target.was (c.target_of.ensures held)))
 
-pub returns-then-target-ne-DIRECTORY : goal.returns-then-target-ne-DIRECTORY
-returns-then-target-ne-DIRECTORY c held =
+pub returns-then-target-ne-KIND_DIRECTORY : goal.returns-then-target-ne-KIND_DIRECTORY
+returns-then-target-ne-KIND_DIRECTORY c held =
     let cached = c.args.sectors.now.entries in
     let path = c.args.path.now in
     let p = reading (looks.plan_listed path) cached held in
@@ -33,7 +33,7 @@ returns-then-target-ne-DIRECTORY c held =
     let next : Target → Ask Plan = λ t. if t.kind == 2 then looks.at_inode inner t else refused reply.NotDir t.dirs in
     let u = c.in_ok-target.target in
     let t = subst (FindsTarget cached held path) c.in_ok-target.was (c.target_of.ensures held) in
-    answers p reply.NotDir t.0 (t.1 next ∙ of_another u.kind 2 (looks.at_inode inner (record (node_of u) { dirs = t.0 })) (refused reply.NotDir t.0) cached held c.if-target-ne-DIRECTORY.true)
+    answers p reply.NotDir t.0 (t.1 next ∙ of_another u.kind 2 (looks.at_inode inner (record (node_of u) { dirs = t.0 })) (refused reply.NotDir t.0) cached held c.if-target-ne-KIND_DIRECTORY.true)
 
 pub returns-in_err-inode : goal.returns-in_err-inode
 returns-in_err-inode c held =
@@ -45,7 +45,7 @@ returns-in_err-inode c held =
     let u = c.in_ok-target.target in
     let t = subst (FindsTarget cached held path) c.in_ok-target.was (c.target_of.ensures held) in
     let touched = t.0 ++ u.inode ∷ [] in
-    let q = t.1 next ∙ of_kind u.kind 2 (looks.at_inode inner (record (node_of u) { dirs = t.0 })) (refused reply.NotDir t.0) cached held c.if-target-ne-DIRECTORY.false in
+    let q = t.1 next ∙ of_kind u.kind 2 (looks.at_inode inner (record (node_of u) { dirs = t.0 })) (refused reply.NotDir t.0) cached held c.if-target-ne-KIND_DIRECTORY.false in
     let e : c.from_residual-in_err-inode.result ≡ Err c.in_err-inode.field-0.0 = search rules in
     subst (Says p) (sym e) (inode_stops cached held p u.inode inner touched c.in_err-inode.field-0.0 q (subst (FindsInode cached held u.inode) c.in_err-inode.was (c.inode_of.ensures.finds held)))
 
@@ -59,7 +59,7 @@ returns-in_err-names c held =
     let u = c.in_ok-target.target in
     let t = subst (FindsTarget cached held path) c.in_ok-target.was (c.target_of.ensures held) in
     let touched = t.0 ++ u.inode ∷ [] in
-    let q = t.1 next ∙ of_kind u.kind 2 (looks.at_inode inner (record (node_of u) { dirs = t.0 })) (refused reply.NotDir t.0) cached held c.if-target-ne-DIRECTORY.false in
+    let q = t.1 next ∙ of_kind u.kind 2 (looks.at_inode inner (record (node_of u) { dirs = t.0 })) (refused reply.NotDir t.0) cached held c.if-target-ne-KIND_DIRECTORY.false in
     let i = subst (FindsInode cached held u.inode) c.in_ok-inode.was (c.inode_of.ensures.finds held) in
     let e : c.from_residual-in_err-names.result ≡ Err c.in_err-names.field-0.0 = search rules in
     subst (Says p) (sym e) (names_stop cached held p (stored c.in_ok-inode.inode) touched c.in_err-names.field-0.0 (q ∙ i inner touched) (subst (ListsNames cached held (stored c.in_ok-inode.inode)) c.in_err-names.was (c.names_in.ensures held)))
@@ -74,7 +74,7 @@ returns c held =
     let u = c.in_ok-target.target in
     let t = subst (FindsTarget cached held path) c.in_ok-target.was (c.target_of.ensures held) in
     let touched = t.0 ++ u.inode ∷ [] in
-    let q = t.1 next ∙ of_kind u.kind 2 (looks.at_inode inner (record (node_of u) { dirs = t.0 })) (refused reply.NotDir t.0) cached held c.if-target-ne-DIRECTORY.false in
+    let q = t.1 next ∙ of_kind u.kind 2 (looks.at_inode inner (record (node_of u) { dirs = t.0 })) (refused reply.NotDir t.0) cached held c.if-target-ne-KIND_DIRECTORY.false in
     let i = subst (FindsInode cached held u.inode) c.in_ok-inode.was (c.inode_of.ensures.finds held) in
     let names = subst (ListsNames cached held (stored c.in_ok-inode.inode)) c.in_ok-names.was (c.names_in.ensures held) in
     answers p (reply.Names c.in_ok-names.names) touched (q ∙ i inner touched ∙ names touched)

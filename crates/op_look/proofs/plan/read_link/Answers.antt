@@ -23,8 +23,8 @@ returns-in_err-target c held =
     let e : c.from_residual.result ≡ Err c.in_err-target.field-0.0 = search rules in
     subst (Says p) (sym e) (target_stops cached held path next c.in_err-target.field-0.0 (subst (FindsTarget cached held path) c.in_err-target.was (c.target_of.ensures held)))
 
-pub returns-then-target-ne-LINK : goal.returns-then-target-ne-LINK
-returns-then-target-ne-LINK c held =
+pub returns-then-target-ne-KIND_LINK : goal.returns-then-target-ne-KIND_LINK
+returns-then-target-ne-KIND_LINK c held =
     let cached = c.args.sectors.now.entries in
     let path = c.args.path.now in
     let p = reading (looks.plan_target path) cached held in
@@ -32,7 +32,7 @@ returns-then-target-ne-LINK c held =
     let next : Target → Ask Plan = λ t. if t.kind == 3 then looks.at_inode inner t else refused reply.Inval t.dirs in
     let u = c.in_ok-target.target in
     let t = subst (FindsTarget cached held path) c.in_ok-target.was (c.target_of.ensures held) in
-    answers p reply.Inval t.0 (t.1 next ∙ of_another u.kind 3 (looks.at_inode inner (record (node_of u) { dirs = t.0 })) (refused reply.Inval t.0) cached held c.if-target-ne-LINK.true)
+    answers p reply.Inval t.0 (t.1 next ∙ of_another u.kind 3 (looks.at_inode inner (record (node_of u) { dirs = t.0 })) (refused reply.Inval t.0) cached held c.if-target-ne-KIND_LINK.true)
 
 pub returns-in_err-inode : goal.returns-in_err-inode
 returns-in_err-inode c held =
@@ -44,7 +44,7 @@ returns-in_err-inode c held =
     let u = c.in_ok-target.target in
     let t = subst (FindsTarget cached held path) c.in_ok-target.was (c.target_of.ensures held) in
     let touched = t.0 ++ u.inode ∷ [] in
-    let q = t.1 next ∙ of_kind u.kind 3 (looks.at_inode inner (record (node_of u) { dirs = t.0 })) (refused reply.Inval t.0) cached held c.if-target-ne-LINK.false in
+    let q = t.1 next ∙ of_kind u.kind 3 (looks.at_inode inner (record (node_of u) { dirs = t.0 })) (refused reply.Inval t.0) cached held c.if-target-ne-KIND_LINK.false in
     let e : c.from_residual-in_err-inode.result ≡ Err c.in_err-inode.field-0.0 = search rules in
     subst (Says p) (sym e) (inode_stops cached held p u.inode inner touched c.in_err-inode.field-0.0 q (subst (FindsInode cached held u.inode) c.in_err-inode.was (c.inode_of.ensures.finds held)))
 
@@ -58,6 +58,6 @@ returns c held =
     let u = c.in_ok-target.target in
     let t = subst (FindsTarget cached held path) c.in_ok-target.was (c.target_of.ensures held) in
     let touched = t.0 ++ u.inode ∷ [] in
-    let q = t.1 next ∙ of_kind u.kind 3 (looks.at_inode inner (record (node_of u) { dirs = t.0 })) (refused reply.Inval t.0) cached held c.if-target-ne-LINK.false in
+    let q = t.1 next ∙ of_kind u.kind 3 (looks.at_inode inner (record (node_of u) { dirs = t.0 })) (refused reply.Inval t.0) cached held c.if-target-ne-KIND_LINK.false in
     let i = subst (FindsInode cached held u.inode) c.in_ok-inode.was (c.inode_of.ensures.finds held) in
     answers p (reply.Target c.in_ok-text.text) touched (q ∙ i inner touched ∙ ap (λ text. Gives (refuse (reply.Target text) touched)) (sym c.in_ok-text.ensures))

@@ -1,3 +1,4 @@
+-- What is written, and then the digits of the bytes that are left, is the text of all bytes.
 use Rattle.std.proofs.Common.{◌≡◌, ◌++◌, drop}
 use Rattle.std.specs.List.{flat_map}
 use Rattle.tree_definitions.specs.SaidLines.{hex_byte}

@@ -1,3 +1,4 @@
+-- All parts are names if those are that are left.
 use Rattle.std.proofs.Common.{◌≡◌, ◌==◌, length}
 use Rattle.std.specs.List.{list_all, slice_split}
 use Rattle.std.specs.Option.{option_copied}

@@ -1,3 +1,4 @@
+-- Two digits more that are a byte.
 use Rattle.std.proofs.Common.{◌≡◌, ◌∙◌, ◌++◌, ◌∷◌, ◌≤◌, [], Some, length, get_or, arith, rules}
 use Rattle.std.proofs.lemmas.Grind.{common_steps}
 use Rattle.script_definitions.specs.SaidReading.{byte_at}

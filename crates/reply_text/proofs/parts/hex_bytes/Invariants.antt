@@ -1,3 +1,4 @@
+-- The bytes so far, before those of the digits that are left, are the bytes of all digits.
 use Rattle.std.proofs.Common.{◌≡◌, ◌++◌, length}
 use Rattle.std.specs.Option.{option_map}
 use Rattle.script_definitions.specs.SaidReading.{hex_bytes}

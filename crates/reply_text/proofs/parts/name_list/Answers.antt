@@ -1,3 +1,4 @@
+-- One part more that is a name.
 use Rattle.std.proofs.Common.{◌≡◌, ◌∙◌, ◌++◌, ◌∷◌, [], ap, cond, Some, None, rules}
 use Rattle.std.specs.Option.{option_copied}
 use Rattle.frang_base.specs.Name.{is_name}

@@ -1,3 +1,4 @@
+-- The names so far, before those of the parts that are left, are the names of all parts.
 use Rattle.std.proofs.Common.{◌≡◌, ◌++◌, length}
 use Rattle.std.specs.Option.{option_copied, option_map}
 use Rattle.frang_base.specs.PathText.{parts_left}

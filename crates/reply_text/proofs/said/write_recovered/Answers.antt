@@ -1,3 +1,4 @@
+-- The words, the number and what is kept, one after the other, are the line.
 use Rattle.std.proofs.Common.{append_assoc}
 use Rattle.reply_text.proofs.said.write_recovered.Goals as goal
 

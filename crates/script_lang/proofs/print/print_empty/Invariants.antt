@@ -1,3 +1,4 @@
+-- As many line feeds are printed as turns are done.
 use Rattle.std.proofs.Common.{◌≡◌, ◌++◌, replicate}
 use Rattle.script_lang.proofs.print.print_empty.Given as goal
 

@@ -1,3 +1,4 @@
+-- What is printed, and then the lines that are left, is the text of all lines.
 use Rattle.std.proofs.Common.{◌≡◌, ◌++◌, drop}
 use Rattle.script_definitions.specs.ScriptPrinted.{printed_from}
 use Rattle.script_lang.proofs.print.print_lines.Given as goal

@@ -1,3 +1,4 @@
+-- What is printed, and then the names that are left, is the text of all names.
 use Rattle.std.proofs.Common.{◌≡◌, ◌∷◌, ◌++◌, drop}
 use Rattle.std.specs.List.{flat_map}
 use Rattle.script_lang.proofs.print.print_names.Given as goal

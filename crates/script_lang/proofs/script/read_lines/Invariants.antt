@@ -1,3 +1,4 @@
+-- The lines so far, before what the others give, are what all lines give; and they are few.
 use Rattle.std.proofs.Common.{◌≡◌, ◌+◌, ◌≤◌, false, length}
 use Rattle.std.specs.Str.Lines.{lines}
 use Rattle.script_definitions.specs.ScriptText.{script_from}

@@ -1,3 +1,4 @@
+-- The words of what is left are those of the text.
 use Rattle.std.proofs.Common.{◌≡◌, length}
 use Rattle.std.specs.Option.{option_copied}
 use Rattle.script_definitions.specs.ScriptWords.{words_of}

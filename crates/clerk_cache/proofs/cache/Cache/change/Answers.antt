@@ -1,6 +1,6 @@
 -- The block is changed first, and then the rest.
 use Rattle.std.proofs.Common.{ap, sym, ◌∙◌, subst}
-use Rattle.change_definitions.specs.Changes.{changed}
+use Rattle.sector_bytes.specs.Changes.{changed}
 use Rattle.clerk_cache.specs.Cached.{block_at}
 use Rattle.meta_version.specs.Updates.{IsOlder}
 use Rattle.clerk_cache.proofs.Joining.{block_at-joined, kept_changed}

@@ -1,8 +1,8 @@
 -- Both maps lose the sectors under the lock.
 use Rattle.std.proofs.Common.{◌≡◌, rules, not, filter, sym, ap, ◌∙◌, subst}
 use Rattle.std.proofs.lemmas.Fn.{filter_same}
-use Rattle.change_definitions.specs.SectorMaps.{Ascend}
-use Rattle.change_definitions.proofs.MapLaws.{ascend_some}
+use Rattle.sector_bytes.specs.SectorMaps.{Ascend}
+use Rattle.sector_bytes.proofs.MapLaws.{ascend_some}
 use Rattle.clerk_cache.specs.Dropping.{dropped}
 use Rattle.clerk_cache.specs.Kept.{joined, is_sector_under, is_state_under}
 use Rattle.clerk_cache.proofs.Dropped.{joined-dropped, kept_dropped}

@@ -1,6 +1,6 @@
 -- Both maps lose the sector.
 use Rattle.std.proofs.Common.{ap, ◌∙◌}
-use Rattle.change_definitions.specs.SectorMaps.{without}
+use Rattle.sector_bytes.specs.SectorMaps.{without}
 use Rattle.clerk_cache.specs.Kept.{joined}
 use Rattle.clerk_cache.proofs.Joining.{kept_without, joined-without}
 use Rattle.clerk_cache.proofs.cache.Cache.forget.Goals as goal

@@ -1,6 +1,6 @@
 -- Both maps have room for the sector, and take it.
 use Rattle.std.proofs.Common.{ap, ◌∙◌, arith}
-use Rattle.change_definitions.specs.SectorMaps.{with_value, room_for}
+use Rattle.sector_bytes.specs.SectorMaps.{with_value, room_for}
 use Rattle.clerk_cache.specs.Kept.{joined, cached_of}
 use Rattle.clerk_cache.proofs.Joining.{kept_with, joined-with}
 use Rattle.clerk_cache.proofs.Rooms.{block_room, state_room}

@@ -1,6 +1,6 @@
 -- One map takes the state of a sector that it has.
 use Rattle.std.proofs.Common.{IsSome, sym, ap, ◌∙◌, subst, arith}
-use Rattle.change_definitions.specs.SectorMaps.{value_at, adjusted}
+use Rattle.sector_bytes.specs.SectorMaps.{value_at, adjusted}
 use Rattle.clerk_cache.specs.Kept.{joined, cached_of, AreAlike}
 use Rattle.clerk_cache.proofs.Joining.{alike-states, joined-states, set_there}
 use Rattle.clerk_cache.proofs.Rooms.{state_room, room_there}

@@ -10,6 +10,6 @@ pub returns : goal.returns
 returns c = record {
   ok = answers_applied c.args.number c.args.op.now c.args.self.now (record { mounted = c.args.self.now.mounted; tree = c.apply.new.self; dir_blocks = c.max-self.result }) c.in_ok-reply.reply
       c.requires.ready c.requires.mounted c.requires.path c.requires.sayable c.in_ok-reply.ensures.proper
-      (ap (λ n. apply c.args.self.now.tree c.args.op.now (4294967296 + n) c.args.self.now.dir_blocks) (sym c.from.ensures) ∙ c.in_ok-reply.ensures.ok) refl
+      (ap (λ n. apply c.args.self.now.tree c.args.op.now n c.args.self.now.dir_blocks) (sym c.of-birth.ensures) ∙ c.in_ok-reply.ensures.ok) refl
       (c.max-self.ensures ∙ ap (λ n. max c.args.self.now.dir_blocks n) c.dir_blocks.ensures);
 }

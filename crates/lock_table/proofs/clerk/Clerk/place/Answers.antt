@@ -4,19 +4,20 @@ use Rattle.std.proofs.lemmas.Fn.{always_returns_same}
 use Rattle.std.specs.List.Sorted.{IsStrictlySortedBy}
 use Rattle.std.specs.Map.{keys_of}
 use Rattle.lock_definitions.specs.Order.{lock_cmp}
-use Rattle.lock_table.specs.Place.{place_of}
-use Rattle.lock_table.proofs.Places.{searched, missing}
+use Rattle.sorted_entries.specs.Places.{place_of}
+use Rattle.sorted_entries.proofs.Places.{searched, missing}
+use Rattle.lock_definitions.proofs.LockOrder.{locks}
 use Rattle.lock_table.proofs.clerk.Clerk.place.Goals as goal
 
 pub returns-clause-place : goal.returns-clause-place
 returns-clause-place c =
     let facts = c.binary_search_by.ensures in
     let by_key = facts.position (λ entry. lock_cmp entry.0 c.args.lock) (always_returns_same _ _ _ (λ a r g called. search rules)) in
-    searched c.args.lock c.deref.result.now (subst (λ claims. IsStrictlySortedBy lock_cmp (keys_of claims)) (sym c.deref.ensures.value) c.self.invariant.ordered) _ facts.bound by_key
-    ∙ ap (place_of c.args.lock) c.deref.ensures.value ∙ ap (λ kept. place_of c.args.lock kept.claims) c.self.view_is
+    searched locks c.args.lock c.deref.result.now (subst (λ claims. IsStrictlySortedBy lock_cmp (keys_of claims)) (sym c.deref.ensures.value) c.self.invariant.ordered) _ facts.bound by_key
+    ∙ ap (place_of lock_cmp c.args.lock) c.deref.ensures.value ∙ ap (λ kept. place_of lock_cmp c.args.lock kept.claims) c.self.view_is
 
 pub returns-clause-missing : goal.returns-clause-missing
 returns-clause-missing c =
     let place = returns-clause-place c in
     let sorted = subst (λ kept. IsStrictlySortedBy lock_cmp (keys_of kept.claims)) c.self.view_is c.self.invariant.ordered in
-    missing c.args.lock c.args.self.now.claims sorted _ place
+    missing locks c.args.lock c.args.self.now.claims sorted _ place

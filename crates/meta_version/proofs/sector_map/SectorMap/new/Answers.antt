@@ -1,6 +1,6 @@
 -- No entries ascend.
 use Rattle.std.proofs.Common.{sym, subst}
-use Rattle.change_definitions.specs.SectorMaps.{Ascend}
+use Rattle.sector_bytes.specs.SectorMaps.{Ascend}
 use Rattle.meta_version.proofs.SectorPlaces.{ascend_none}
 use Rattle.meta_version.proofs.sector_map.SectorMap.new.Goals as goal
 

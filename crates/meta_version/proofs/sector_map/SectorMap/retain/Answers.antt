@@ -1,7 +1,7 @@
 -- What is kept of entries that ascend ascends.
 use Rattle.std.proofs.Common.{sym, subst}
-use Rattle.change_definitions.specs.SectorMaps.{Ascend}
-use Rattle.change_definitions.proofs.MapLaws.{ascend_some}
+use Rattle.sector_bytes.specs.SectorMaps.{Ascend}
+use Rattle.sector_bytes.proofs.MapLaws.{ascend_some}
 use Rattle.meta_version.proofs.sector_map.SectorMap.retain.Goals as goal
 
 pub invariant_of-self : goal.invariant_of-self

@@ -1,9 +1,0 @@
-pub mod Basics
-pub mod Blocks
-pub mod Histories
-pub mod Removals
-pub mod More
-pub mod Seen
-pub mod Plans
-pub mod Bytes
-pub mod Laws

@@ -1,8 +1,0 @@
-pub mod Blocks
-pub mod Changes
-pub mod Histories
-pub mod Bytes
-pub mod OnDisk
-pub mod Seen
-pub mod Plans
-pub mod Laws

@@ -1,4 +1,0 @@
-pub mod ChangeLaws
-pub mod MapLaws
-pub mod ChangeExamples
-pub mod MapExamples

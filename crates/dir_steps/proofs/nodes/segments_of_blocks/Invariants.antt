@@ -1,8 +1,0 @@
--- The segments of the blocks so far are held.
-use Rattle.std.proofs.Common.{◌≡◌, ◌/◌, None, map, slice_index}
-use Rattle.tree_definitions.specs.Numbers.{below}
-use Rattle.dir_steps.specs.Rooms.{needed}
-use Rattle.dir_steps.proofs.nodes.segments_of_blocks.Given as goal
-
-abbrev pub invariant-loop-n : goal.invariant-loop-n
-invariant-loop-n l = None ≡ needed l.held (map (λ n. slice_index l.inode.small n / 1024) (below l.n))

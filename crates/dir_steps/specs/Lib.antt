@@ -1,4 +1,0 @@
-pub mod Nodes
-pub mod Outcomes
-pub mod Rooms
-pub mod Spots

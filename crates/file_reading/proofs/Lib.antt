@@ -1,5 +1,0 @@
-pub mod Found
-pub mod SectorSteps
-pub mod Shown
-pub mod HeldSegments
-pub mod Cutting

@@ -1,9 +1,0 @@
--- The first bytes are set.
-use Rattle.std.proofs.Common.{◌≡◌, length, ◌+◌, ◌*◌, slice_index}
-use Rattle.plan_definitions.specs.FilePlans.{byte_over}
-use Rattle.file_writing.specs.Writings.{writing_of}
-use Rattle.file_writing.proofs.Setting.{SetBelow}
-use Rattle.file_writing.proofs.source.Writing.mixed.Given as goal
-
-abbrev pub invariant-loop-r : goal.invariant-loop-r
-invariant-loop-r l = record { size : length l.block ≡ 512; set : SetBelow l.block (λ i. byte_over (writing_of l.self) (512 * l.t + i) (slice_index l.around i)) (slice_index l.around) l.r }

@@ -1,0 +1,115 @@
+// Segments of the allocation bitmap.
+use crate::builders::{Piece, are_runs, block_of, with};
+use bitmap_block::{
+    Bitmap, BlockState, decode, encode, inode_in_use, patches, state_of, with_inode, with_state,
+};
+use frang_base::limits::SECTOR_BYTES;
+use std::test::Fail;
+
+// A segment of which only the root is in use.
+fn fresh() -> Bitmap {
+    Bitmap {
+        version: 1,
+        inodes: 1,
+        states: [0; 256],
+        large: false,
+    }
+}
+
+const FRESH: [Piece; 2] = [(0, b"\x01"), (8, b"\x01")];
+
+// Inodes 0, 9 and 63, the large block, and eight blocks in each state from either end.
+fn busy() -> Bitmap {
+    let mut states = [0; 256];
+    states[0] = 0b11_10_01_00;
+    states[1] = 0b00_01_10_11;
+    states[255] = 0b10_00_00_00;
+    Bitmap {
+        version: 258,
+        inodes: 1 << 63 | 1 << 9 | 1,
+        states,
+        large: true,
+    }
+}
+
+const BUSY: [Piece; 5] = [
+    (0, b"\x02\x01"),
+    (8, b"\x01\x02"),
+    (15, b"\x80"),
+    (16, b"\xe4\x1b"),
+    (271, b"\x80\x01"),
+];
+
+#[test]
+fn segments_are_written_as_worked_out_by_hand(rt: HostRuntime) {
+    let mut block = [7; SECTOR_BYTES];
+    for (segment, worked) in [(fresh(), block_of(&FRESH)), (busy(), block_of(&BUSY))] {
+        encode(&segment, &mut block);
+        assert!(rt; block == worked);
+        assert!(rt; decode(&block) == Some(segment));
+    }
+}
+
+#[test]
+fn other_blocks_are_refused(rt: HostRuntime) {
+    let busy = block_of(&BUSY);
+    for (at, byte) in [(272, 2), (272, 255), (273, 1), (400, 9), (511, 1)] {
+        assert!(rt;
+            decode(&with(&busy, at, byte)).is_none(),
+            "byte {byte} at {at}"
+        );
+    }
+}
+
+#[test]
+fn bits_and_states_stand_at_their_places(rt: HostRuntime) {
+    let segment = busy();
+    for (j, used) in [(0, true), (1, false), (8, false), (9, true), (63, true)] {
+        assert!(rt; inode_in_use(&segment, j) == used, "inode {j}");
+    }
+    let states = [
+        (0, BlockState::Unused),
+        (1, BlockState::FileBytes),
+        (2, BlockState::FormerDirectory),
+        (3, BlockState::Directory),
+        (4, BlockState::Directory),
+        (5, BlockState::FormerDirectory),
+        (6, BlockState::FileBytes),
+        (7, BlockState::Unused),
+        (1023, BlockState::FormerDirectory),
+    ];
+    for (j, state) in states {
+        assert!(rt; state_of(&segment, j) == state, "block {j}");
+    }
+}
+
+#[test]
+fn one_bit_or_state_is_changed(rt: HostRuntime) {
+    let segment = with_inode(&with_inode(&busy(), 9, false), 1, true);
+    assert!(rt; segment.inodes == 1 << 63 | 2 | 1);
+    let segment = with_state(&segment, 1, BlockState::Directory);
+    let segment = with_state(&segment, 3, BlockState::Unused);
+    let segment = with_state(&segment, 1022, BlockState::FileBytes);
+    let mut states = busy().states;
+    states[0] = 0b00_10_11_00;
+    states[255] = 0b10_01_00_00;
+    assert!(rt; segment.states == states);
+}
+
+#[test]
+fn what_changes_of_a_segment(rt: HostRuntime) -> Result<(), Fail> {
+    let changed = with_state(&with_inode(&busy(), 8, true), 1023, BlockState::Directory);
+    let last = Bitmap {
+        version: 300,
+        large: false,
+        ..changed
+    };
+    let found = patches(rt.alloc(), &busy(), &last)?;
+    assert!(rt; are_runs(&found, &[(9, b"\x03"), (271, b"\xc0\0")]));
+    let newer = Bitmap {
+        version: 2,
+        ..fresh()
+    };
+    assert!(rt; patches(rt.alloc(), &fresh(), &newer)?.is_empty());
+    Ok(())
+}

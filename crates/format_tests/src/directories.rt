@@ -1,0 +1,126 @@
+// Sectors of directories.
+use crate::builders::{Piece, are_runs, block_of, with};
+use dir_block::{DirEntry, DirSector, decode, encode, find, patches};
+use frang_base::Name;
+use frang_base::limits::{KIND_DIRECTORY, KIND_FILE, KIND_FREE, KIND_LINK, SECTOR_BYTES};
+use std::test::Fail;
+
+const FREE: DirEntry = DirEntry {
+    inode: 0,
+    len: 0,
+    kind: KIND_FREE,
+    name: [0; 64],
+};
+
+const EMPTY: DirSector = DirSector {
+    version: 3,
+    entries: [FREE; 7],
+};
+
+const EMPTY_BLOCK: [Piece; 1] = [(0, b"\x03")];
+
+// An entry whose name is one byte, so often.
+fn entry(inode: u32, kind: u8, byte: u8, len: u8) -> DirEntry {
+    let mut name = [0; 64];
+    for place in name.iter_mut().take(usize::from(len)) {
+        *place = byte;
+    }
+    DirEntry {
+        inode,
+        len,
+        kind,
+        name,
+    }
+}
+
+// `b`, `aa` and `a` behind a free place, and `a` once more at the end.
+fn several() -> DirSector {
+    let mut sector = EMPTY;
+    sector.entries[1] = entry(258, KIND_FILE, b'b', 1);
+    sector.entries[2] = entry(7, KIND_DIRECTORY, b'a', 2);
+    sector.entries[3] = entry(8, KIND_LINK, b'a', 1);
+    sector.entries[6] = entry(9, KIND_FILE, b'a', 1);
+    sector
+}
+
+const SEVERAL: [Piece; 5] = [
+    (0, b"\x03"),
+    (80, b"\x02\x01\0\0\x01\x01b"),
+    (152, b"\x07\0\0\0\x02\x02aa"),
+    (224, b"\x08\0\0\0\x01\x03a"),
+    (440, b"\x09\0\0\0\x01\x01a"),
+];
+
+#[test]
+fn sectors_are_read_as_worked_out_by_hand(rt: HostRuntime) {
+    assert!(rt; decode(&block_of(&SEVERAL)) == Some(several()));
+    assert!(rt; decode(&block_of(&EMPTY_BLOCK)) == Some(EMPTY));
+    let mut written = [7; SECTOR_BYTES];
+    for block in [block_of(&SEVERAL), block_of(&EMPTY_BLOCK)] {
+        if let Some(read) = decode(&block) {
+            encode(&read, &mut written);
+            assert!(rt; written == block);
+        }
+    }
+}
+
+#[test]
+fn other_sectors_are_refused(rt: HostRuntime) {
+    let changes = [
+        ("no kind", 85, 0),
+        ("a fourth kind", 85, 4),
+        ("no name", 84, 0),
+        ("a shorter name", 156, 1),
+        ("a longer name", 84, 2),
+        ("a name of 65 bytes", 84, 65),
+        ("a slash", 86, b'/'),
+        ("a dot alone", 86, b'.'),
+        ("a byte behind the name", 149, 1),
+        ("a byte behind the entry", 150, 1),
+        ("another byte behind the entry", 151, 1),
+        ("a free place with a number", 8, 1),
+        ("a free place with a length", 12, 1),
+        ("a free place with a kind", 13, 1),
+        ("a free place with a name", 14, b'a'),
+        ("the last byte", 511, 1),
+    ];
+    let several = block_of(&SEVERAL);
+    for (what, at, byte) in changes {
+        assert!(rt; decode(&with(&several, at, byte)).is_none(), "{what}");
+    }
+}
+
+#[test]
+fn the_first_entry_of_a_name_is_found(rt: HostRuntime) {
+    let names = [
+        (b"a".as_slice(), Some(3)),
+        (b"aa".as_slice(), Some(2)),
+        (b"b".as_slice(), Some(1)),
+        (b"aaa".as_slice(), None),
+        (b"c".as_slice(), None),
+    ];
+    let sector = several();
+    for (bytes, place) in names {
+        let name = Name::of(bytes);
+        assert!(rt; name.is_some());
+        assert!(rt; name.and_then(|name| find(&sector, &name)) == place);
+    }
+}
+
+#[test]
+fn what_changes_of_a_directory(rt: HostRuntime) -> Result<(), Fail> {
+    // `a` goes from place 3, and the name at the end is `c` instead.
+    let changed: [Piece; 4] = [
+        (0, b"\x04"),
+        (80, b"\x02\x01\0\0\x01\x01b"),
+        (152, b"\x07\0\0\0\x02\x02aa"),
+        (440, b"\x09\0\0\0\x01\x01c"),
+    ];
+    let (old, new) = (decode(&block_of(&SEVERAL)), decode(&block_of(&changed)));
+    assert!(rt; old.is_some() && new.is_some());
+    if let (Some(old), Some(new)) = (&old, &new) {
+        let found = patches(rt.alloc(), old, new)?;
+        assert!(rt; are_runs(&found, &[(224, b"\0"), (228, b"\0\0\0"), (446, b"c")]));
+    }
+    Ok(())
+}

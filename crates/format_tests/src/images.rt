@@ -1,0 +1,190 @@
+// Images: that of the fresh disk of 16 segments, and what one change makes of it.
+use crate::builders::{Piece, fresh_disk, lay};
+use frang_base::Sector;
+use frang_base::limits::SECTOR_BYTES;
+use image_file::{ImageRead, read_image, write_image};
+use std::alloc::{AllocError, Global};
+use std::test::Fail;
+
+// The bytes of the fresh image that aren't zero: mark and count, the parameters, the first segment, the root.
+const FRESH: [Piece; 8] = [
+    (0, b"FRANGIM1\x03"),
+    (24, b"FRANGPAR\x01\0\0\0\x10\0\0\0\x01"),
+    (540, b"\x01"),
+    (544, b"\x01"),
+    (552, b"\x01"),
+    (1059, b"\x80\x02"),
+    (1064, b"\x01"),
+    (1072, b"\x02\0\x01"),
+];
+
+// The bytes of the fresh image.
+const FRESH_LEN: usize = 1576;
+
+// The first slot of the first log.
+const LOG: Sector = Sector(2_147_483_648);
+
+// The place and the kind of a fault, 0 and 0 where there is none.
+type Fault = (u64, u8);
+
+fn lay_all(image: &mut Vec<u8>, pieces: &[Piece]) {
+    for piece in pieces {
+        lay(image, *piece);
+    }
+}
+
+fn zero_from_to(image: &mut Vec<u8>, from: usize, to: usize) {
+    for place in from..to {
+        if let Some(there) = image.get_mut(place) {
+            *there = 0;
+        }
+    }
+}
+
+fn front(image: &[u8], len: usize) -> &[u8] {
+    if len < image.len() {
+        &image[..len]
+    } else {
+        image
+    }
+}
+
+fn fresh(alloc: Global) -> Result<Vec<u8>, AllocError> {
+    let mut image = vec![in alloc; 0; FRESH_LEN]?;
+    lay_all(&mut image, &FRESH);
+    Ok(image)
+}
+
+fn fault_in(alloc: Global, image: &[u8]) -> Fault {
+    match read_image(alloc, image) {
+        Err(ImageRead::Bad { at, kind }) => (at, kind),
+        _ => (0, 0),
+    }
+}
+
+// The fault of the fresh image with these bytes in place of its own.
+fn fault_after(alloc: Global, pieces: &[Piece]) -> Result<Fault, AllocError> {
+    let mut image = fresh(alloc)?;
+    lay_all(&mut image, pieces);
+    Ok(fault_in(alloc, &image))
+}
+
+#[test]
+fn the_fresh_disk_has_this_image(rt: HostRuntime) -> Result<(), Fail> {
+    let mut disk = fresh_disk(rt.alloc())?;
+    disk.set(LOG, [0; SECTOR_BYTES])?;
+    let mut image = Vec::new(rt.alloc());
+    write_image(&disk, &mut image)?;
+    let worked = fresh(rt.alloc())?;
+    assert!(rt; image.as_slice() == worked.as_slice());
+    Ok(())
+}
+
+#[test]
+fn the_fresh_image_is_read(rt: HostRuntime) -> Result<(), Fail> {
+    let worked = fresh(rt.alloc())?;
+    let disk = read_image(rt.alloc(), &worked)?;
+    assert!(rt; disk.len() == 3 && disk.get(Sector(10_737_418_240))[8] == 2);
+    let mut again = Vec::new(rt.alloc());
+    write_image(&disk, &mut again)?;
+    assert!(rt; again.as_slice() == worked.as_slice());
+    Ok(())
+}
+
+#[test]
+fn bytes_that_end_early_or_late(rt: HostRuntime) -> Result<(), Fail> {
+    // How many bytes there are, and the fault.
+    let cases = [
+        (0, (0, 1)),
+        (15, (0, 1)),
+        (16, (16, 1)),
+        (535, (16, 1)),
+        (536, (536, 1)),
+        (1575, (1056, 1)),
+        (1577, (1576, 6)),
+    ];
+    let mut longer = fresh(rt.alloc())?;
+    longer.push(0)?;
+    for (len, fault) in cases {
+        assert!(rt;
+            fault_in(rt.alloc(), front(&longer, len)) == fault,
+            "{len} bytes"
+        );
+    }
+    Ok(())
+}
+
+#[test]
+fn the_greatest_count(rt: HostRuntime) -> Result<(), Fail> {
+    let mut image = fresh(rt.alloc())?;
+    lay(&mut image, (8, &[255; 8]));
+    assert!(rt; fault_in(rt.alloc(), &image) == (1576, 1));
+    zero_from_to(&mut image, 8, 16);
+    assert!(rt; fault_in(rt.alloc(), front(&image, 16)) == (16, 7));
+    Ok(())
+}
+
+#[test]
+fn some_bytes_changed(rt: HostRuntime) -> Result<(), Fail> {
+    // A place, the bytes that stand there instead, and the fault.
+    let changes: [(usize, &'static [u8], Fault); 22] = [
+        (0, b"\0", (0, 2)),
+        (7, b"2", (0, 2)),
+        (8, b"\0", (16, 6)),
+        (8, b"\x01", (536, 6)),
+        (8, b"\x02", (1056, 6)),
+        (8, b"\x04", (1576, 1)),
+        (8, b"\xff", (1576, 1)),
+        (16, b"\x01", (16, 7)),
+        (24, b"\0", (16, 7)),
+        (36, b"\x41", (16, 7)),
+        (36, b"\x01", (0, 0)),
+        (40, b"\xff\xff\xff\xff", (16, 7)),
+        (40, b"\xfe\xff\xff\xff", (0, 0)),
+        (536, b"\x0f", (0, 0)),
+        (536, b"\x10", (536, 4)),
+        (540, b"\0", (536, 3)),
+        (1055, b"\x01", (536, 7)),
+        (1059, b"\0\x01", (1056, 3)),
+        (1060, b"\x01", (1056, 4)),
+        (1060, b"\0", (1056, 3)),
+        (1063, b"\x01", (1056, 4)),
+        (1072, b"\x04", (1056, 7)),
+    ];
+    for (place, bytes, fault) in changes {
+        assert!(rt;
+            fault_after(rt.alloc(), &[(place, bytes)])? == fault,
+            "at {place}"
+        );
+    }
+    Ok(())
+}
+
+#[test]
+fn sectors_out_of_order(rt: HostRuntime) -> Result<(), Fail> {
+    let exchanged: [Piece; 7] = [
+        (539, b"\x80\x02"),
+        (544, b"\x01"),
+        (552, b"\x02"),
+        (554, b"\x01"),
+        (1059, b"\0\x01"),
+        (1072, b"\x01"),
+        (1074, b"\0"),
+    ];
+    assert!(rt; fault_after(rt.alloc(), &exchanged)? == (1056, 3));
+    Ok(())
+}
+
+#[test]
+fn sectors_of_zeros(rt: HostRuntime) -> Result<(), Fail> {
+    let clear: [Piece; 2] = [(544, b"\0"), (552, b"\0")];
+    assert!(rt; fault_after(rt.alloc(), &clear)? == (536, 5));
+    let clear_in_no_region: [Piece; 3] = [(536, b"\x10"), (544, b"\0"), (552, b"\0")];
+    assert!(rt; fault_after(rt.alloc(), &clear_in_no_region)? == (536, 4));
+    let mut image = fresh(rt.alloc())?;
+    zero_from_to(&mut image, 24, 536);
+    assert!(rt; fault_in(rt.alloc(), &image) == (16, 5));
+    lay(&mut image, (16, b"\x01"));
+    assert!(rt; fault_in(rt.alloc(), &image) == (16, 5));
+    Ok(())
+}

@@ -1,0 +1,119 @@
+// Inodes and their sectors.
+ghost use Rattle.std.specs.Prelude.{◌≤◌, IsTrue};
+ghost use Rattle.sector_definitions.specs.Inodes.{inode_fits};
+
+use crate::builders::{Piece, are_runs, block_of, with};
+use frang_base::limits::{
+    KIND_DIRECTORY, KIND_FILE, KIND_LINK, LINKS_MAX, SECTOR_BYTES, SMALL_BLOCK_BYTES,
+};
+use inode_block::{Inode, decode, encode, patches};
+use std::test::Fail;
+
+// The root of a fresh disk.
+fn root() -> Inode {
+    Inode {
+        version: 1,
+        kind: KIND_DIRECTORY,
+        links: 1,
+        blocks: 0,
+        size: 0,
+        birth: 0,
+        small: [0; 16],
+        large: 0,
+        target: [0; 384],
+    }
+}
+
+// A link to `/a` of three names, made by line 3 of run 1.
+const LINK: [Piece; 5] = [
+    (0, b"\x05"),
+    (8, b"\x03\0\x03"),
+    (16, b"\x02"),
+    (24, b"\x03\0\0\0\x01"),
+    (128, b"/a"),
+];
+
+// A file of so many bytes in small block 9, with so many names.
+fn file(version: u64, links: u16, size: u64) -> Inode
+    requires links { (1 ≤ links) × (links ≤ LINKS_MAX) }
+    requires size { (1 ≤ size) × (size ≤ SMALL_BLOCK_BYTES) }
+    ensures { IsTrue (inode_fits result) }
+{
+    let mut small = [0; 16];
+    small[0] = 9;
+    Inode {
+        version,
+        kind: KIND_FILE,
+        links,
+        blocks: 1,
+        size,
+        birth: 1,
+        small,
+        large: 0,
+        target: [0; 384],
+    }
+}
+
+#[test]
+fn a_fresh_root_begins_with_its_version_kind_and_link(rt: HostRuntime) {
+    let mut block = [7; SECTOR_BYTES];
+    encode(&root(), &mut block);
+    assert!(rt; block == block_of(&[(0, b"\x01\0\0\0\0\0\0\0\x02\0\x01")]));
+    assert!(rt; decode(&block) == Some(root()));
+}
+
+#[test]
+fn a_link_is_read_field_by_field(rt: HostRuntime) {
+    let mut target = [0; 384];
+    target[0] = b'/';
+    target[1] = b'a';
+    let link = Inode {
+        version: 5,
+        kind: KIND_LINK,
+        links: 3,
+        blocks: 0,
+        size: 2,
+        birth: 4_294_967_299,
+        small: [0; 16],
+        large: 0,
+        target,
+    };
+    assert!(rt; decode(&block_of(&LINK)) == Some(link));
+}
+
+#[test]
+fn a_link_with_one_byte_changed(rt: HostRuntime) {
+    // A place, the byte that stands there instead, and whether the block is then an inode's.
+    let cases = [
+        (0, 6, true),
+        (8, 4, false),
+        (9, 1, false),
+        (10, 0, false),
+        (12, 1, false),
+        (14, 1, false),
+        (16, 3, false),
+        (17, 2, false),
+        (32, 1, false),
+        (96, 1, false),
+        (100, 1, false),
+        (128, 0x20, false),
+        (128, 0x7F, false),
+        (129, 0xFF, true),
+        (130, b'b', false),
+        (511, 1, false),
+    ];
+    let link = block_of(&LINK);
+    for (at, byte, fits) in cases {
+        assert!(rt;
+            decode(&with(&link, at, byte)).is_some() == fits,
+            "byte {at}"
+        );
+    }
+}
+
+#[test]
+fn what_changes_of_a_file_that_grows_and_gets_a_name(rt: HostRuntime) -> Result<(), Fail> {
+    let patches = patches(rt.alloc(), &file(1, 1, 255), &file(2, 2, 513))?;
+    assert!(rt; are_runs(&patches, &[(10, b"\x02"), (16, b"\x01\x02")]));
+    Ok(())
+}

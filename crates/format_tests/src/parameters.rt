@@ -1,0 +1,45 @@
+// The parameter sector.
+use crate::builders::{FRESH_PARAMETERS, block_of, with};
+use frang_base::limits::SECTOR_BYTES;
+use param_block::{Param, decode, encode};
+
+#[test]
+fn parameters_of_a_fresh_disk_of_16_segments(rt: HostRuntime) {
+    let param = Param {
+        format: 1,
+        segments: 16,
+        run: 1,
+    };
+    let mut block = [7; SECTOR_BYTES];
+    encode(&param, &mut block);
+    assert!(rt; block == block_of(&FRESH_PARAMETERS));
+    assert!(rt; block[..4] == [0x46, 0x52, 0x41, 0x4E]);
+    assert!(rt; decode(&block) == Some(param));
+}
+
+#[test]
+fn parameters_with_one_byte_changed(rt: HostRuntime) {
+    // A place, the byte that stands there instead, and whether the block is then a parameter sector.
+    let cases = [
+        (0, 0x66, false),
+        (7, 0x53, false),
+        (8, 2, false),
+        (11, 1, false),
+        (12, 0, false),
+        (12, 1, true),
+        (12, 64, true),
+        (12, 65, false),
+        (15, 1, false),
+        (16, 0, false),
+        (19, 255, true),
+        (20, 1, false),
+        (511, 1, false),
+    ];
+    let fresh = block_of(&FRESH_PARAMETERS);
+    for (at, byte, fits) in cases {
+        assert!(rt;
+            decode(&with(&fresh, at, byte)).is_some() == fits,
+            "byte {at}"
+        );
+    }
+}

@@ -1,0 +1,56 @@
+//! The program as a function of the runtime: it makes the real files, the real outside and the open gate, and calls `frang` with the
+//! words after the program's name. Its contracts promise that the status of the process is that of the call. Each program of the
+//! repository that stands for `frang` is this call alone. It stands on the top layer.
+#![tactic(auto)]
+
+ghost use Rattle.std.specs.Prelude.{◌≡◌};
+ghost use Rattle.std.specs.Process.{exit_status};
+
+use frang_outside::{DirFiles, NoGate, StdOutside};
+use frang_top::{COMMANDS, Status, frang};
+use std::alloc::Global;
+use std::env;
+use std::process::ExitCode;
+use std::rt::Runtime;
+
+fn exit_code(status: &Status) -> ExitCode
+    ensures { exit_status result ≡ status.now.code }
+{
+    ExitCode::from(status.code)
+}
+
+// Says on standard error what a status means: a line of numbers, a line of words, which is left out where memory is short, and where the
+// words were no command each command.
+fn explain<R: Runtime>(alloc: Global, rt: &R, status: &Status) -> anyhow::Result<()> {
+    let code = status.code;
+    let line = status.line;
+    let at = status.at;
+    if code == 0 {
+        return Ok(());
+    }
+    eprintln!(rt; "frang: status {code} line {line} at {at}")?;
+    if let Ok(sentence) = status.sentence(alloc) {
+        eprintln!(rt; "frang: {sentence}")?;
+    }
+    if code == 2 {
+        for command in COMMANDS {
+            eprintln!(rt; "frang {command}")?;
+        }
+    }
+    Ok(())
+}
+
+/// Does what the words after the program's name ask, and gives the status with which the process is to end. Where it isn't 0, its line
+/// of numbers stands on standard error, and below it what it means in words. An error comes where the arguments can't be had, or where
+/// standard error takes no line.
+pub fn run_program<R: Runtime + Send>(alloc: Global, rt: &R) -> anyhow::Result<ExitCode> {
+    let mut words = Vec::new(alloc);
+    for word in env::args(rt)?.skip(1) {
+        words.push(String::from_str(alloc, word.as_str())?)?;
+    }
+    let mut files = DirFiles::new(rt.clone()?);
+    let out = StdOutside::new(alloc, rt.clone()?);
+    let (status, _) = frang(alloc, &words, &mut files, out, &NoGate);
+    explain(alloc, rt, &status)?;
+    Ok(exit_code(&status))
+}

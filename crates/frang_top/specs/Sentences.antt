@@ -1,0 +1,56 @@
+-- What a status means, in words.
+use Rattle.std.specs.Prelude.{ℕ, ◌==◌, if◌then◌else◌, Option, Some, None, List, ◌++◌, codes}
+use Rattle.std.specs.Fmt.{decimal}
+use Rattle.script_definitions.specs.ScriptFaults.{kind_of}
+use Rattle.script_definitions.specs.declared.fault.LineFault.{LineFault}
+use Rattle.script_definitions.specs.declared.fault.LineFault.TheVariants as fault
+use Rattle.frang_top.specs.declared.outcome.Status.{Status}
+
+-- the fault whose kind has this number
+abbrev pub fault_with : ℕ → Option LineFault
+fault_with kind =
+    if kind == kind_of fault.NotText then Some fault.NotText
+    else (if kind == kind_of fault.UnknownWord then Some fault.UnknownWord
+    else (if kind == kind_of fault.MissingWord then Some fault.MissingWord
+    else (if kind == kind_of fault.ExtraWord then Some fault.ExtraWord
+    else (if kind == kind_of fault.BadNumber then Some fault.BadNumber
+    else (if kind == kind_of fault.BadPath then Some fault.BadPath
+    else (if kind == kind_of fault.BadServer then Some fault.BadServer
+    else (if kind == kind_of fault.TooManyLines then Some fault.TooManyLines
+    else (if kind == kind_of fault.ScriptTooLong then Some fault.ScriptTooLong
+    else (if kind == kind_of fault.TextTooLong then Some fault.TextTooLong
+    else (if kind == kind_of fault.AfterHalt then Some fault.AfterHalt
+    else None))))))))))
+
+abbrev pub fault_words : LineFault → List ℕ
+fault_words fault.NotText = codes "not UTF-8, or a word with a control character"
+fault_words fault.UnknownWord = codes "an unknown word where a command must stand"
+fault_words fault.MissingWord = codes "a word is missing"
+fault_words fault.ExtraWord = codes "a word too many"
+fault_words fault.BadNumber = codes "not a number, or out of range"
+fault_words fault.BadPath = codes "not a path"
+fault_words fault.BadServer = codes "not a server, which are 0 to 15"
+fault_words fault.TooManyLines = codes "more than 65536 lines"
+fault_words fault.ScriptTooLong = codes "more than 1048576 bytes"
+fault_words fault.TextTooLong = codes "a text of more than 512 bytes, or a target of more than 384"
+fault_words fault.AfterHalt = codes "a command after halt"
+
+abbrev pub words_for : Option LineFault → List ℕ
+words_for (Some f) = fault_words f
+words_for None = codes "a form that isn't built yet"
+
+-- the words for the kind of a script's first fault, by its number
+abbrev pub kind_words : ℕ → List ℕ
+kind_words kind = words_for (fault_with kind)
+
+-- what a status means
+abbrev pub sentence : Status → List ℕ
+sentence s =
+    if s.code == 0 then codes "all was done"
+    else (if s.code == 1 then codes "line " ++ decimal s.line ++ codes ": " ++ kind_words s.at
+    else (if s.code == 2 then codes "the words are no command; the commands are"
+    else (if s.code == 3 then codes "want of memory"
+    else (if s.code == 4 then codes "the script can't be read"
+    else (if s.code == 5 then codes "a line can't be said, after " ++ decimal s.at ++ codes " lines"
+    else (if s.code == 8 then codes "the script has more than " ++ decimal s.at ++ codes " bytes"
+    else codes "an unknown status"))))))

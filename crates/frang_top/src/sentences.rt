@@ -1,0 +1,84 @@
+// What a status means, in words.
+ghost use Rattle.std.specs.Prelude.{◌≡◌, IfOk, string_bytes};
+ghost use Rattle.frang_top.specs.Sentences.{fault_with, fault_words, kind_words, sentence};
+
+use crate::outcome::Status;
+use frang_base::NoMemory;
+use script_definitions::LineFault;
+use std::alloc::Global;
+
+/// The commands of the program, a line each: the words, and what they ask.
+pub const COMMANDS: [&str; 1] = [
+    "run SCRIPT [--segments S]  answers a script on a fresh disk of S segments, 1 to 64 (else 16)",
+];
+
+// The fault whose kind has this number.
+fn fault_with(kind: u64) -> Option<LineFault>
+    ensures { result ≡ fault_with kind }
+{
+    match kind {
+        1 => Some(LineFault::NotText),
+        2 => Some(LineFault::UnknownWord),
+        3 => Some(LineFault::MissingWord),
+        4 => Some(LineFault::ExtraWord),
+        5 => Some(LineFault::BadNumber),
+        6 => Some(LineFault::BadPath),
+        7 => Some(LineFault::BadServer),
+        8 => Some(LineFault::TooManyLines),
+        9 => Some(LineFault::ScriptTooLong),
+        10 => Some(LineFault::TextTooLong),
+        11 => Some(LineFault::AfterHalt),
+        _ => None,
+    }
+}
+
+fn fault_words(fault: LineFault) -> &'static str
+    ensures { result.now ≡ fault_words fault }
+{
+    match fault {
+        LineFault::NotText => "not UTF-8, or a word with a control character",
+        LineFault::UnknownWord => "an unknown word where a command must stand",
+        LineFault::MissingWord => "a word is missing",
+        LineFault::ExtraWord => "a word too many",
+        LineFault::BadNumber => "not a number, or out of range",
+        LineFault::BadPath => "not a path",
+        LineFault::BadServer => "not a server, which are 0 to 15",
+        LineFault::TooManyLines => "more than 65536 lines",
+        LineFault::ScriptTooLong => "more than 1048576 bytes",
+        LineFault::TextTooLong => "a text of more than 512 bytes, or a target of more than 384",
+        LineFault::AfterHalt => "a command after halt",
+    }
+}
+
+// The words for the kind of a script's first fault, by its number.
+fn kind_words(kind: u64) -> &'static str
+    ensures { result.now ≡ kind_words kind }
+{
+    match fault_with(kind) {
+        Some(fault) => fault_words(fault),
+        None => "a form that isn't built yet",
+    }
+}
+
+impl Status {
+    /// What the status means, in one line of words without a line feed: for a bad script its first bad line and the fault, for a line that
+    /// wasn't said the number of lines that were.
+    pub fn sentence(&self, alloc: Global) -> Result<String, NoMemory>
+        ensures { IfOk result (λ text. string_bytes text ≡ sentence self.now) }
+    {
+        let line = self.line;
+        let at = self.at;
+        let words = kind_words(at);
+        let text = match self.code {
+            0 => format!(in alloc; "all was done")?,
+            1 => format!(in alloc; "line {line}: {words}")?,
+            2 => format!(in alloc; "the words are no command; the commands are")?,
+            3 => format!(in alloc; "want of memory")?,
+            4 => format!(in alloc; "the script can't be read")?,
+            5 => format!(in alloc; "a line can't be said, after {at} lines")?,
+            8 => format!(in alloc; "the script has more than {at} bytes")?,
+            _ => format!(in alloc; "an unknown status")?,
+        };
+        Ok(text)
+    }
+}

@@ -1,6 +1,0 @@
--- The laws of patches, at the bytes of inodes.
-use Rattle.sector_definitions.proofs.InodeChanges.{inode_patched, inode_edited}
-use Rattle.inode_block.proofs.laws.changes_make_the_new_inode.Goals as goal
-
-pub returns : goal.returns
-returns c = record { laid = inode_patched; edited = inode_edited }

@@ -1,6 +1,0 @@
--- The laws of the definition.
-use Rattle.sector_definitions.proofs.InodeLaws.{inode_back, inode_read, inode_found, inode_once}
-use Rattle.inode_block.proofs.laws.decoding_undoes_encoding.Goals as goal
-
-pub returns : goal.returns
-returns c = record { back = inode_back; read = inode_read; found = inode_found; once = inode_once }

@@ -1,0 +1,17 @@
+-- The bytes of a sector more, until enough are there or none go on.
+use Rattle.std.proofs.Common.{◌≡◌, ◌++◌, [], length, take, min, sym, ap, ◌∙◌}
+use Rattle.sector_definitions.specs.declared.log_sector.LogSector.{LogSector}
+use Rattle.log_definitions.specs.Frames.{frame_most}
+use Rattle.log_definitions.specs.Logs.{bytes_on}
+use Rattle.log_reading.proofs.Steps.{bytes_more}
+use Rattle.log_reading.proofs.frames.push_bytes_on.Goals as goal
+
+pub loop-sector-preserved : goal.loop-sector-preserved
+loop-sector-preserved c =
+    let sectors = c.args.sectors.now in
+    let left = c.loop-sector.left in
+    let used = c.used-run.result.now in
+    let none : LogSector = record { seq = 0; op = record { 0 = 0 }; part = 0; parts = 0; used = 0; body = [] } in
+    bytes_more sectors c.loop-sector.sector-index left none c.loop-sector.bytes.items c.extend_from_slice.new.self.items (take c.min.result used)
+    (c.args.bytes.now.items ++ take frame_most (bytes_on sectors)) c.loop-sector-test.true (sym c.goes_on.ensures ∙ c.if-not-goes_on.false)
+    (ap (λ n. take n used) c.min.ensures ∙ ap (λ bs. take (min (length bs) left) bs) c.used-run.ensures) c.in_ok-extend_from_slice.ensures.items c.loop-sector.invariant

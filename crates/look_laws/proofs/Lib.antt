@@ -1,5 +1,0 @@
-pub mod Deciding
-pub mod Walks
-pub mod Names
-pub mod Files
-pub mod AllPlans

@@ -1,6 +1,0 @@
--- By what is at hand where it looks.
-use Rattle.look_laws.proofs.Deciding.{meets_where}
-use Rattle.look_laws.proofs.what_is_at_hand_decides.Goals as goal
-
-pub returns : goal.returns
-returns c = record { met = meets_where }

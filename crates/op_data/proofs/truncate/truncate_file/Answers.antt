@@ -1,0 +1,23 @@
+-- The plan of a truncate goes on with the inode of the file.
+use Rattle.std.proofs.Common.{◌≡◌, Err, subst, sym, rules}
+use Rattle.plan_definitions.specs.FilePlans.{cutting, plan_truncated}
+use Rattle.dir_lookup.specs.Hands.{over}
+use Rattle.plan_steps.specs.Ends.{Comes}
+use Rattle.op_data.specs.Files.{FindsFile}
+use Rattle.op_data.proofs.Found.{ends_plan}
+use Rattle.op_data.proofs.truncate.truncate_file.Goals as goal
+
+pub returns-in_err-file : goal.returns-in_err-file
+returns-in_err-file c =
+    let hand = c.args.hand.now in
+    let path = c.args.path.now in
+    let e : c.from_residual.result ≡ Err c.in_err-file.field-0.0 = search rules in
+    subst (Comes (over (plan_truncated path c.args.len) hand)) (sym e)
+    (ends_plan hand path (cutting c.args.len) c.in_err-file.field-0.0 (subst (FindsFile hand path) c.in_err-file.was c.file_of.ensures.finds))
+
+pub returns : goal.returns
+returns c =
+    let hand = c.args.hand.now in
+    let path = c.args.path.now in
+    let f = subst (FindsFile hand path) c.in_ok-file.was c.file_of.ensures.finds in
+    subst (λ p. Comes p c.cut.result) (sym (f.1 (cutting c.args.len))) (c.cut.ensures f.0)

@@ -1,0 +1,18 @@
+-- By where the path leads.
+use Rattle.std.proofs.Common.{◌≡◌, Err, rules}
+use Rattle.plan_definitions.specs.NamePlans.{making}
+use Rattle.dir_lookup.specs.Hands.{seen}
+use Rattle.plan_steps.specs.Nodes.{node_of}
+use Rattle.op_dir.proofs.Walking.{walk_goes, walk_stops}
+use Rattle.op_dir.proofs.making.make.Goals as goal
+
+pub returns-in_err-spot : goal.returns-in_err-spot
+returns-in_err-spot c =
+    let hand = c.args.hand.now in
+    let e : c.from_residual.result ≡ Err c.in_err-spot.field-0.0 = search rules in
+    walk_stops hand c.args.path.now (making (seen hand) c.args.birth (node_of c.args.node.now)) c.from_residual.result c.in_err-spot.field-0.0 e (c.in_err-spot.ensures.finds hand.held.now)
+
+pub returns : goal.returns
+returns c =
+    let hand = c.args.hand.now in
+    walk_goes hand c.args.path.now (making (seen hand) c.args.birth (node_of c.args.node.now)) c.make_at.result c.in_ok-spot.spot (c.in_ok-spot.ensures.finds hand.held.now) c.make_at.ensures

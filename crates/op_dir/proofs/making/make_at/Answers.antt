@@ -1,0 +1,64 @@
+-- By where the path leads.
+use Rattle.std.proofs.Common.{◌≡◌, ℕ, List, Err, subst, sym, ap, ◌∙◌, rules}
+use Rattle.frang_base.specs.declared.reply.Reply.TheVariants as reply
+use Rattle.disk_definitions.specs.Store.{stored}
+use Rattle.plan_definitions.specs.Plans.{Plan, refuse}
+use Rattle.plan_definitions.specs.NamePlans.{made_by, making}
+use Rattle.dir_lookup.specs.Reading.{Read, Gives, reading}
+use Rattle.dir_lookup.specs.declared.spot.Spot.{Spot}
+use Rattle.dir_lookup.specs.Spots.{spot_of}
+use Rattle.plan_steps.specs.Ends.{Comes}
+use Rattle.dir_lookup.specs.Hands.{seen}
+use Rattle.plan_steps.specs.Nodes.{node_of}
+use Rattle.plan_steps.specs.Rooms.{room_in}
+use Rattle.plan_steps.proofs.Ending.{comes_done, stops_as, refuses}
+use Rattle.op_dir.proofs.making.make_at.Goals as goal
+
+pub returns-in_err-place-in-AtGap : goal.returns-in_err-place-in-AtGap
+returns-in_err-place-in-AtGap c dirs =
+    let cached = c.args.hand.now.sectors.now.entries in
+    let held = c.args.hand.now.held.now in
+    let node = node_of c.args.node.now in
+    let birth : ℕ = c.args.birth in
+    let plan : Spot → Read Plan = λ s. reading (making (seen c.args.hand.now) birth node dirs (spot_of s)) cached held in
+    let stop = c.in_err-place-in-AtGap.field-0.0 in
+    let e : c.from_residual.result ≡ Err stop = search rules in
+    subst (Comes (plan c.args.spot.now)) (sym e)
+    (stops_as (plan c.args.spot.now) _ stop (ap plan c.in-AtGap.is) (c.in_err-place-in-AtGap.ensures.finds c.in-AtGap.directory.number birth c.in-AtGap.name node dirs))
+
+pub returns-in_ok-made-in-AtGap : goal.returns-in_ok-made-in-AtGap
+returns-in_ok-made-in-AtGap c dirs =
+    let cached = c.args.hand.now.sectors.now.entries in
+    let held = c.args.hand.now.held.now in
+    let node = node_of c.args.node.now in
+    let birth : ℕ = c.args.birth in
+    let plan : Spot → Read Plan = λ s. reading (making (seen c.args.hand.now) birth node dirs (spot_of s)) cached held in
+    let i : ℕ = c.in-AtGap.directory.number in
+    let x = stored c.in-AtGap.directory.inode in
+    let name : List ℕ = c.in-AtGap.name in
+    let place = c.in_ok-place-in-AtGap.place in
+    let d = c.in_ok-made-in-AtGap.ensures in
+    comes_done (plan c.args.spot.now) (made_by i x name birth node dirs place.inode (room_in place.room)) c.in_ok-made-in-AtGap.field-0
+    (ap plan c.in-AtGap.is ∙ c.in_ok-place-in-AtGap.ensures.finds i birth name node dirs)
+    d.reply d.edits
+
+pub returns-in-AtRoot : goal.returns-in-AtRoot
+returns-in-AtRoot c dirs =
+    let cached = c.args.hand.now.sectors.now.entries in
+    let held = c.args.hand.now.held.now in
+    let plan : Spot → Read Plan = λ s. reading (making (seen c.args.hand.now) c.args.birth (node_of c.args.node.now) dirs (spot_of s)) cached held in
+    refuses (plan c.args.spot.now) reply.Exist dirs (ap plan c.in-AtRoot.is)
+
+pub returns-in-AtName : goal.returns-in-AtName
+returns-in-AtName c dirs =
+    let cached = c.args.hand.now.sectors.now.entries in
+    let held = c.args.hand.now.held.now in
+    let plan : Spot → Read Plan = λ s. reading (making (seen c.args.hand.now) c.args.birth (node_of c.args.node.now) dirs (spot_of s)) cached held in
+    refuses (plan c.args.spot.now) reply.Exist dirs (ap plan c.in-AtName.is)
+
+pub returns-in-Lost : goal.returns-in-Lost
+returns-in-Lost c dirs =
+    let cached = c.args.hand.now.sectors.now.entries in
+    let held = c.args.hand.now.held.now in
+    let plan : Spot → Read Plan = λ s. reading (making (seen c.args.hand.now) c.args.birth (node_of c.args.node.now) dirs (spot_of s)) cached held in
+    refuses (plan c.args.spot.now) c.reply.result dirs (ap plan c.in-Lost.is ∙ ap (λ r. Gives (refuse r dirs)) (sym c.reply.ensures))

@@ -1,0 +1,56 @@
+-- By whether the directory is full, and by what is picked.
+use Rattle.std.proofs.Common.{◌≡◌, true, false, ℕ, Some, None, Err, subst, sym, ◌∙◌, rules}
+use Rattle.frang_base.specs.declared.reply.Reply.TheVariants as reply
+use Rattle.pick_definitions.specs.Picks.{picked_inode}
+use Rattle.disk_definitions.specs.Store.{stored}
+use Rattle.plan_definitions.specs.Ask.{bind}
+use Rattle.plan_definitions.specs.Walks.{AtGap}
+use Rattle.plan_definitions.specs.Plans.{find_room, is_full, none_left, shared_nodes}
+use Rattle.plan_definitions.specs.NamePlans.{making, making_in}
+use Rattle.dir_lookup.specs.Reading.{reading}
+use Rattle.dir_lookup.specs.Hands.{seen}
+use Rattle.plan_steps.proofs.Ending.{stops_as}
+use Rattle.op_dir.specs.Places.{FindsPlace}
+use Rattle.op_dir.proofs.Placing.{full, picking}
+use Rattle.op_dir.proofs.making.place_for.Goals as goal
+
+pub returns-then-is_full-clause-finds : goal.returns-then-is_full-clause-finds
+returns-then-is_full-clause-finds c i birth name node dirs =
+    let x = stored c.args.directory.now in
+    let f : is_full x ≡ true = sym c.is_full.ensures ∙ c.if-is_full.true in
+    (shared_nodes dirs, full c.args.hand.now.sectors.now.entries c.args.hand.now.held.now c.args.hand.now.all x i birth name node dirs f)
+
+pub returns-in_err-room-in-Some-clause-finds : goal.returns-in_err-room-in-Some-clause-finds
+returns-in_err-room-in-Some-clause-finds c =
+    let cached = c.args.hand.now.sectors.now.entries in
+    let held = c.args.hand.now.held.now in
+    let h = seen c.args.hand.now in
+    let x = stored c.args.directory.now in
+    let j : ℕ = c.in-Some.inode in
+    let f : is_full x ≡ false = sym c.is_full.ensures ∙ c.if-is_full.false in
+    let p : picked_inode held ≡ Some j = sym c.pick_inode.ensures ∙ c.in-Some.is in
+    let stop = c.in_err-room-in-Some.field-0.0 in
+    let e : c.from_residual.result ≡ Err stop = search rules in
+    subst (FindsPlace c.args.hand.now x) (sym e)
+    (λ i birth name node dirs. stops_as (reading (making h birth node dirs (AtGap i x name)) cached held) (reading (bind (find_room h x) (making_in h i x name birth node dirs j)) cached held) stop
+    (picking cached held c.args.hand.now.all x i birth name node dirs (Some j) f p) (c.in_err-room-in-Some.ensures.finds i birth name node dirs))
+
+pub returns-in_ok-room-in-Some-clause-finds : goal.returns-in_ok-room-in-Some-clause-finds
+returns-in_ok-room-in-Some-clause-finds c i birth name node dirs =
+    let held = c.args.hand.now.held.now in
+    let x = stored c.args.directory.now in
+    let j : ℕ = c.in-Some.inode in
+    let f : is_full x ≡ false = sym c.is_full.ensures ∙ c.if-is_full.false in
+    let p : picked_inode held ≡ Some j = sym c.pick_inode.ensures ∙ c.in-Some.is in
+    picking c.args.hand.now.sectors.now.entries held c.args.hand.now.all x i birth name node dirs (Some j) f p ∙ c.in_ok-room-in-Some.ensures.finds i birth name node dirs
+
+pub returns-in-None-clause-finds : goal.returns-in-None-clause-finds
+returns-in-None-clause-finds c i birth name node dirs =
+    let cached = c.args.hand.now.sectors.now.entries in
+    let held = c.args.hand.now.held.now in
+    let h = seen c.args.hand.now in
+    let x = stored c.args.directory.now in
+    let f : is_full x ≡ false = sym c.is_full.ensures ∙ c.if-is_full.false in
+    let p : picked_inode held ≡ None = sym c.pick_inode.ensures ∙ c.in-None.is in
+    stops_as (reading (making h birth node dirs (AtGap i x name)) cached held) (reading (none_left h reply.NoInode dirs) cached held) c.nothing_left.result
+    (picking cached held c.args.hand.now.all x i birth name node dirs None f p) (c.nothing_left.ensures dirs)

@@ -1,0 +1,84 @@
+-- By where the second path leads, and by whether its walk passed the moved directory.
+use Rattle.std.proofs.Common.{◌≡◌, ℕ, List, true, false, sym, ap, ◌∙◌}
+use Rattle.frang_base.specs.declared.reply.Reply.TheVariants as reply
+use Rattle.disk_definitions.specs.Store.{stored, entered}
+use Rattle.plan_definitions.specs.Plans.{Plan, refuse, refused}
+use Rattle.plan_definitions.specs.NamePlans.{goes_through, moving_onto, moving_to, renaming_to}
+use Rattle.dir_lookup.specs.Reading.{Read, Gives, reading}
+use Rattle.dir_lookup.specs.declared.spot.Spot.{Spot}
+use Rattle.dir_lookup.specs.Spots.{spot_of}
+use Rattle.dir_lookup.specs.Hands.{seen}
+use Rattle.plan_steps.proofs.Ending.{comes_as, refuses}
+use Rattle.op_dir.specs.Moving.{moving_of}
+use Rattle.op_dir.proofs.Choosing.{if_not, if_so}
+use Rattle.op_dir.proofs.renaming.rename_to.Goals as goal
+
+pub returns-then-through : goal.returns-then-through
+returns-then-through c to_dirs dirs through =
+    let cached = c.args.hand.now.sectors.now.entries in
+    let held = c.args.hand.now.held.now in
+    let h = seen c.args.hand.now in
+    let m = moving_of c.args.from.now in
+    let plan : Spot → Read Plan = λ s. reading (renaming_to h m to_dirs dirs (spot_of s)) cached held in
+    let g : goes_through m to_dirs ≡ true = sym through ∙ c.if-through.true in
+    let e = entered c.in-AtName.found.entry in
+    let name : List ℕ = c.in-AtName.name in
+    refuses (plan c.args.spot.now) reply.Inval dirs
+    (ap plan c.in-AtName.is
+    ∙ if_so (goes_through m to_dirs) (refused reply.Inval dirs) (moving_onto m c.in-AtName.directory.number (stored c.in-AtName.directory.inode) name c.in-AtName.found.place e dirs) cached held g)
+
+pub returns-else-through : goal.returns-else-through
+returns-else-through c to_dirs dirs through =
+    let cached = c.args.hand.now.sectors.now.entries in
+    let held = c.args.hand.now.held.now in
+    let h = seen c.args.hand.now in
+    let m = moving_of c.args.from.now in
+    let plan : Spot → Read Plan = λ s. reading (renaming_to h m to_dirs dirs (spot_of s)) cached held in
+    let g : goes_through m to_dirs ≡ false = sym through ∙ c.if-through.false in
+    let e = entered c.in-AtName.found.entry in
+    let name : List ℕ = c.in-AtName.name in
+    let p = moving_onto m c.in-AtName.directory.number (stored c.in-AtName.directory.inode) name c.in-AtName.found.place e dirs in
+    comes_as (plan c.args.spot.now) (reading p cached held) c.move_onto.result
+    (ap plan c.in-AtName.is ∙ if_not (goes_through m to_dirs) (refused reply.Inval dirs) p cached held g) (c.move_onto.ensures dirs)
+
+pub returns-then-through-2 : goal.returns-then-through-2
+returns-then-through-2 c to_dirs dirs through =
+    let cached = c.args.hand.now.sectors.now.entries in
+    let held = c.args.hand.now.held.now in
+    let h = seen c.args.hand.now in
+    let m = moving_of c.args.from.now in
+    let plan : Spot → Read Plan = λ s. reading (renaming_to h m to_dirs dirs (spot_of s)) cached held in
+    let g : goes_through m to_dirs ≡ true = sym through ∙ c.if-through-2.true in
+    let name : List ℕ = c.in-AtGap.name in
+    refuses (plan c.args.spot.now) reply.Inval dirs
+    (ap plan c.in-AtGap.is
+    ∙ if_so (goes_through m to_dirs) (refused reply.Inval dirs) (moving_to h m c.in-AtGap.directory.number (stored c.in-AtGap.directory.inode) name dirs) cached held g)
+
+pub returns-else-through-2 : goal.returns-else-through-2
+returns-else-through-2 c to_dirs dirs through =
+    let cached = c.args.hand.now.sectors.now.entries in
+    let held = c.args.hand.now.held.now in
+    let h = seen c.args.hand.now in
+    let m = moving_of c.args.from.now in
+    let plan : Spot → Read Plan = λ s. reading (renaming_to h m to_dirs dirs (spot_of s)) cached held in
+    let g : goes_through m to_dirs ≡ false = sym through ∙ c.if-through-2.false in
+    let name : List ℕ = c.in-AtGap.name in
+    let p = moving_to h m c.in-AtGap.directory.number (stored c.in-AtGap.directory.inode) name dirs in
+    comes_as (plan c.args.spot.now) (reading p cached held) c.move_to.result
+    (ap plan c.in-AtGap.is ∙ if_not (goes_through m to_dirs) (refused reply.Inval dirs) p cached held g) (c.move_to.ensures dirs)
+
+pub returns-in-AtRoot : goal.returns-in-AtRoot
+returns-in-AtRoot c to_dirs dirs through =
+    let cached = c.args.hand.now.sectors.now.entries in
+    let held = c.args.hand.now.held.now in
+    let m = moving_of c.args.from.now in
+    let plan : Spot → Read Plan = λ s. reading (renaming_to (seen c.args.hand.now) m to_dirs dirs (spot_of s)) cached held in
+    refuses (plan c.args.spot.now) reply.Inval dirs (ap plan c.in-AtRoot.is)
+
+pub returns-in-Lost : goal.returns-in-Lost
+returns-in-Lost c to_dirs dirs through =
+    let cached = c.args.hand.now.sectors.now.entries in
+    let held = c.args.hand.now.held.now in
+    let m = moving_of c.args.from.now in
+    let plan : Spot → Read Plan = λ s. reading (renaming_to (seen c.args.hand.now) m to_dirs dirs (spot_of s)) cached held in
+    refuses (plan c.args.spot.now) c.reply.result dirs (ap plan c.in-Lost.is ∙ ap (λ r. Gives (refuse r dirs)) (sym c.reply.ensures))

@@ -1,4 +1,0 @@
-pub mod Choosing
-pub mod Rooming
-pub mod Moves
-pub mod Going

@@ -1,0 +1,13 @@
+-- A reading compares the block with the bytes of what it found.
+use Rattle.std.proofs.Common.{sym, ◌∙◌}
+use Rattle.sector_definitions.specs.Params.{param_bytes, param_fits, param_fields}
+use Rattle.sector_definitions.proofs.Readings.{reads_none, reads_same}
+use Rattle.param_block.proofs.reading.decode.Goals as goal
+
+pub returns-then-not-fits : goal.returns-then-not-fits
+returns-then-not-fits c = reads_none param_bytes param_fits c.args.from.now (param_fields c.args.from.now) c.fields-value.result c.fields-value.ensures (sym c.if-not-fits.ensures)
+
+pub returns : goal.returns
+returns c =
+    c.then_some.ensures
+    ∙ reads_same param_bytes param_fits c.args.from.now c.block_of.result (param_fields c.args.from.now) c.fields-value.result c.eq.result c.fields-value.ensures (sym c.if-not-fits.ensures) c.block_of.ensures c.eq.ensures

@@ -1,4 +1,0 @@
-pub mod Allowed
-pub mod FitPlans
-pub mod SmallRecords
-pub mod OnDisk

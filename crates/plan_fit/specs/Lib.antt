@@ -1,0 +1,4 @@
+pub mod FitNames
+pub mod FitFiles
+pub mod FitDisks
+pub mod SmallPlans

@@ -1,0 +1,155 @@
+-- The inode, the uses and the large block of a file that gets other cells.
+use Rattle.std.proofs.Common.{ℕ, ◌≡◌, ◌≢◌, ◌<◌, ◌≤◌, ◌+◌, ◌-◌, ◌==◌, ◌&&◌, Bool, true, false, nat_lt, if◌then◌else◌, Option, Some, None, List, [], length, slice_index, refl, sym, ◌∙◌, ap, subst, arith, is_some, eq-eqb}
+use Rattle.std.proofs.Math.Path.{fun_ext}
+use Rattle.std.proofs.lemmas.Bool.Decides.{nat_tests}
+use Rattle.tree_definitions.specs.declared.cells.Cell.{Cell}
+use Rattle.tree_definitions.specs.declared.node.Node.TheVariants.{File}
+use Rattle.tree_definitions.specs.Tree.{small_blocks_of}
+use Rattle.frang_base.specs.Functions.{put}
+use Rattle.frang_base.proofs.Basics.{eq_of, at_put}
+use Rattle.disk_definitions.specs.Store.{Store, StoredNode}
+use Rattle.disk_definitions.specs.Store.Use.{Bytes}
+use Rattle.disk_definitions.specs.Naming.{Naming, Nodes, Pictures, first_blocks, has_large, blocks_of, inode_of, use_for}
+use Rattle.store_changes.specs.Namings.{is_of}
+use Rattle.store_changes.specs.Resizing.{index_of, HasBlocks}
+use Rattle.store_changes.proofs.Kept.{inode_is}
+use Rattle.store_changes.proofs.Indices.{index_hit, own_index}
+use Rattle.plan_definitions.specs.FilePlans.{small_after, large_after, resized}
+use Rattle.plan_laws.proofs.Among.{same_if}
+
+-- ---- the inode
+
+-- an inode of a file by its size, blocks and large block
+abbrev shaped : ℕ → ℕ → ℕ → (ℕ → ℕ) → ℕ → StoredNode
+shaped stamp links size small large = record { kind = 1; links = links; size = size; birth = stamp; blocks = small_blocks_of size; small = small; large = large; target = [] }
+
+module _ (stamp links large before : ℕ) (block own : ℕ → ℕ) (old new : List Cell) where
+  abbrev x : StoredNode
+  x = inode_of stamp own before (File old links)
+
+  abbrev y : StoredNode
+  y = inode_of stamp block large (File new links)
+
+  abbrev count : ℕ
+  count = small_blocks_of (length new)
+
+  abbrev had : ℕ
+  had = small_blocks_of (length old)
+
+  -- the blocks that stay, the blocks that were picked, and the large block
+  pub record IsSized (picks : List ℕ) (more : Option ℕ) : Type 0 where
+    pub kept : (j : ℕ) → j < count → j < had → block j ≡ own j
+    pub picked : (j : ℕ) → j < count → had ≤ j → block j ≡ slice_index picks (j - had)
+    pub large_is : 65536 < length new → large_after x more (length new) ≡ large + 1
+
+  module _ (picks : List ℕ) (more : Option ℕ) (sized : IsSized picks more) where
+    small_is : (j : ℕ) → small_after x picks count j ≡ first_blocks count block j
+    small_is j = go (nat_lt j count) refl
+      where
+        inner : (c : Bool) → nat_lt j had ≡ c → j < count → (if c then (if c then own j else 0) else slice_index picks (j - had)) ≡ block j
+        inner true e l = sym (sized.kept j l (grind (arith, nat_tests)))
+        inner false e l = sym (sized.picked j l (grind (arith, nat_tests)))
+
+        go : (c : Bool) → nat_lt j count ≡ c → (if c then (if nat_lt j had then (if nat_lt j had then own j else 0) else slice_index picks (j - had)) else 0) ≡ (if c then block j else 0)
+        go true e = inner (nat_lt j had) refl (grind (arith, nat_tests))
+        go false e = refl
+
+    large_as : large_after x more (length new) ≡ (if nat_lt 65536 (length new) then large + 1 else 0)
+    large_as = go (nat_lt 65536 (length new)) refl
+      where
+        go : (c : Bool) → nat_lt 65536 (length new) ≡ c → large_after x more (length new) ≡ (if c then large + 1 else 0)
+        go true e = sized.large_is (grind (arith, nat_tests))
+        go false e = rw e refl
+
+    pub resized_is : resized x (length new) picks more ≡ y
+    resized_is = let smalls : small_after x picks count ≡ first_blocks count block = fun_ext small_is in (λ i. shaped stamp links (length new) (smalls i) (large_as i))
+
+  -- of the same size
+  pub same_size : ((j : ℕ) → j < count → j < had → block j ≡ own j) → (65536 < length new → 65536 < length old → large ≡ before) → length new ≡ length old → y ≡ x
+  same_size kept same e =
+      let counts : had ≡ count = ap small_blocks_of (sym e) in
+      let smalls : first_blocks count block ≡ first_blocks count own = fun_ext small in
+      let larges : (if nat_lt 65536 (length new) then large + 1 else 0) ≡ (if nat_lt 65536 (length new) then before + 1 else 0) = big (nat_lt 65536 (length new)) refl in
+      (λ i. shaped stamp links (length new) (smalls i) (larges i)) ∙ (λ i. shaped stamp links (e i) (first_blocks (small_blocks_of (e i)) own) (if nat_lt 65536 (e i) then before + 1 else 0))
+    where
+      small : (j : ℕ) → first_blocks count block j ≡ first_blocks count own j
+      small j = go (nat_lt j count) refl
+        where
+          go : (c : Bool) → nat_lt j count ≡ c → (if c then block j else 0) ≡ (if c then own j else 0)
+          go true q = let l : j < count = grind (arith, nat_tests) in kept j l (subst (λ k. j < small_blocks_of k) e l)
+          go false q = refl
+
+      big : (c : Bool) → nat_lt 65536 (length new) ≡ c → (if c then large + 1 else 0) ≡ (if c then before + 1 else 0)
+      big true q = let l : 65536 < length new = grind (arith, nat_tests) in ap (λ k. k + 1) (same l (subst (λ k. 65536 < k) e l))
+      big false q = refl
+
+-- ---- what stands where
+
+module _ (s : Store) (at : Nodes) (n : Naming) (g : Pictures s at n) (b links large : ℕ) (old new : List Cell) (block : ℕ → ℕ) (is : at b ≡ Some (File old links)) (has : HasBlocks s n b old new block large) where
+  -- the inode is written only where its size changes
+  pub inode_set : (j : ℕ) → (if length new == length old then s.inode j else put s.inode (n.inode b) (Some (inode_of (n.stamp b) block large (File new links))) j) ≡ put s.inode (n.inode b) (Some (inode_of (n.stamp b) block large (File new links))) j
+  inode_set j = go (length new == length old) refl
+    where
+      go : (c : Bool) → length new == length old ≡ c → (if c then s.inode j else put s.inode (n.inode b) (Some (inode_of (n.stamp b) block large (File new links))) j) ≡ put s.inode (n.inode b) (Some (inode_of (n.stamp b) block large (File new links))) j
+      go false e = refl
+      go true e = at_put (λ o. s.inode j ≡ o) s.inode (n.inode b) (Some (inode_of (n.stamp b) block large (File new links))) j
+          (λ i. ap s.inode i ∙ inode_is s at n g b (File old links) is
+          ∙ ap Some (sym (same_size (n.stamp b) links large (n.large b) block (n.block b) old new (λ k l m. has.kept k m l) (λ l m. has.large_kept m l) (eq_of (length new) (length old) e))))
+          (λ i. refl)
+
+  -- a block that the file had and has
+  pub mine : (k i : ℕ) → i < small_blocks_of (length old) → n.block b i ≡ k → n.owner k ≡ Some (b, i)
+  mine k i l e = ap n.owner (sym e) ∙ g.owned b i (rw is l)
+
+  pub mine_one : (k i j : ℕ) → i < small_blocks_of (length old) → n.block b i ≡ k → n.owner k ≡ Some (b, j) → i ≡ j
+  mine_one k i j l e o = second (b, i) (b, j) (sym (mine k i l e) ∙ o)
+    where
+      second : (v w : ℕ × ℕ) → Some v ≡ Some w → v.1 ≡ w.1
+      second v w h = let u : v ≡ w = cc in ap (λ z. z.1) u
+
+  pub not_mine : (k i c j : ℕ) → c ≢ b → i < small_blocks_of (length old) → n.owner k ≡ Some (c, j) → n.block b i ≢ k
+  not_mine k i c j f l o e = f (first (c, j) (b, i) (sym o ∙ mine k i l e))
+    where
+      first : (v w : ℕ × ℕ) → Some v ≡ Some w → v.0 ≡ w.0
+      first v w h = let u : v ≡ w = cc in ap (λ z. z.0) u
+
+  pub mine_used : (k j : ℕ) → n.owner k ≡ Some (b, j) → s.use_of k ≡ Bytes
+  mine_used k j o = g.uses k ∙ ap (use_for (n.was k) at) o ∙ rw is refl
+
+  pub mine_below : (k j : ℕ) → n.owner k ≡ Some (b, j) → (n.block b j ≡ k) × (j < small_blocks_of (length old))
+  mine_below k j o = let r = g.owners k b j o in (r.0, subst (λ z. j < blocks_of z) is r.1)
+
+  pub index_at : (k j : ℕ) → j < small_blocks_of (length new) → block j ≡ k → index_of new block k ≡ Some j
+  index_at k j l e = subst (λ z. index_of new block z ≡ Some j) e (own_index s at n g b links large old new block is has j l)
+
+  pub index_none : (k : ℕ) → ((j : ℕ) → j < small_blocks_of (length new) → block j ≢ k) → index_of new block k ≡ None
+  index_none k none = go (index_of new block k) refl
+    where
+      go : (o : Option ℕ) → index_of new block k ≡ o → o ≡ None
+      go None e = refl
+      go (Some j) e = let r = index_hit block (small_blocks_of (length new)) k j e in absurd (none j r.1 r.0)
+
+  -- the large block is the file's exactly where it has one and this is it
+  is_of_some : (o : Option ℕ) → is_of b o ≡ true → o ≡ Some b
+  is_of_some None e = absurd (cc)
+  is_of_some (Some c) e = ap Some (eq_of c b e)
+
+  both_of : (p q : Bool) → (p && q) ≡ true → (p ≡ true) × (q ≡ true)
+  both_of true q e = (refl, e)
+  both_of false q e = absurd (cc)
+
+  abbrev is_its : ℕ → Bool
+  is_its k = nat_lt 65536 (length old) && k == n.large b
+
+  its_owner : (k : ℕ) → is_its k ≡ true → n.large_owner k ≡ Some b
+  its_owner k e =
+      let r = both_of (nat_lt 65536 (length old)) (k == n.large b) e in
+      ap n.large_owner (eq_of k (n.large b) r.1) ∙ g.larges b (ap has_large is ∙ r.0)
+
+  pub large_owned : (k : ℕ) → is_of b (n.large_owner k) ≡ is_its k
+  large_owned k = same_if (is_of b (n.large_owner k)) (is_its k)
+      (λ e. let r = g.large_owners k b (is_of_some (n.large_owner k) e) in let l : nat_lt 65536 (length old) ≡ true = subst (λ z. has_large z ≡ true) is r.1 in rw (l, eq-eqb k (n.large b) (sym r.0)) refl)
+      (λ e. ap (is_of b) (its_owner k e) ∙ eq-eqb b b refl)
+
+  pub large_used : (k : ℕ) → is_its k ≡ true → s.large_bit k ≡ true
+  large_used k e = g.large_bits k ∙ ap is_some (its_owner k e)

@@ -1,0 +1,11 @@
+pub mod Deciding
+pub mod WalksInside
+pub mod NamesInside
+pub mod FilesInside
+pub mod AllInside
+pub mod Within
+pub mod Searched
+pub mod Edited
+pub mod NamesLooked
+pub mod FilesLooked
+pub mod AllLooked

@@ -1,0 +1,16 @@
+// Where a path leads, and whether its walk looks up a name in a directory.
+ghost use Rattle.std.specs.Prelude.{IfOk};
+ghost use Rattle.pick_definitions.specs.Held.{Segments};
+ghost use Rattle.plan_steps.specs.Spots.{FindsPassing, IsStanding};
+
+use dir_lookup::{Need, Spot, walk_passing};
+use frang_base::Path;
+use meta_version::Sectors;
+
+/// Where a path leads, and whether its walk looks up a name in the directory of this inode.
+pub fn walk_passes(sectors: &Sectors, path: &Path, inode: u32) -> Result<(Spot, bool), Need>
+    ensures finds { (held : Segments) → FindsPassing sectors.now.entries held path.now inode result }
+    ensures stands { IfOk result (λ p. IsStanding p.0) }
+{
+    walk_passing(sectors, path.as_slice(), inode)
+}

@@ -1,0 +1,52 @@
+// Calls of the program over files and an outside in memory, and what they say.
+use frang_base::NoMemory;
+use frang_outside::{Act, MemFiles, MemOutside, NoGate};
+use frang_top::{Status, frang};
+use std::alloc::{AllocError, Global};
+
+pub const DONE: Status = Status {
+    code: 0,
+    line: 0,
+    at: 0,
+};
+
+pub fn words_of(alloc: Global, words: &[&str]) -> Result<Vec<String>, AllocError> {
+    let mut made = Vec::new(alloc);
+    for word in words {
+        made.push(String::from_str(alloc, word)?)?;
+    }
+    Ok(made)
+}
+
+// The lines said, one after another.
+pub fn lines_said(alloc: Global, acts: &[Act]) -> Result<Vec<u8>, NoMemory> {
+    let mut text = Vec::new(alloc);
+    for act in acts {
+        if let Act::Said(line) = act {
+            text.extend_from_slice(line.as_slice())?;
+        }
+    }
+    Ok(text)
+}
+
+// How a call ended, how many acts it made, and the lines that it said.
+#[derive(Drop)]
+pub struct Told {
+    pub status: Status,
+    pub acts: usize,
+    pub text: Vec<u8>,
+}
+
+// What a call with these words tells where the file `s` holds this script.
+pub fn tell(alloc: Global, words: &[&str], script: &[u8]) -> Result<Told, NoMemory> {
+    let mut files = MemFiles::new(alloc);
+    files.put_file("s", script)?;
+    let words = words_of(alloc, words)?;
+    let (status, out) = frang(alloc, &words, &mut files, MemOutside::new(alloc), &NoGate);
+    let acts = out.acts();
+    Ok(Told {
+        status,
+        acts: acts.len(),
+        text: lines_said(alloc, acts)?,
+    })
+}

@@ -1,4 +1,0 @@
-pub mod Fit
-pub mod Says
-pub mod Ready
-pub mod Laws

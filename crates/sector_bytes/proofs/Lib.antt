@@ -1,0 +1,6 @@
+pub mod SameBytes
+pub mod ChangeLaws
+pub mod PatchLaws
+pub mod MapLaws
+mod ChangeExamples
+mod MapExamples

@@ -1,0 +1,6 @@
+pub mod Histories
+pub mod Removals
+pub mod More
+pub mod Seen
+pub mod Plans
+pub mod Bytes

@@ -1,0 +1,16 @@
+//! Tests of what the servers keep in memory: sectors with versions, the cache, the order of writes, locks, leases and writes in flight. It holds
+//! nothing else, so that no crate with proofs is proved once more for its tests.
+#![tactic(auto)]
+
+#[cfg(test)]
+mod builders;
+#[cfg(test)]
+mod caches;
+#[cfg(test)]
+mod flights;
+#[cfg(test)]
+mod leases;
+#[cfg(test)]
+mod locks;
+#[cfg(test)]
+mod versions;

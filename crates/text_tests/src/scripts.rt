@@ -1,0 +1,485 @@
+// Scripts by hand: what each line asks, and the first fault of each bad one.
+use crate::forms::{add, add_number, add_text};
+use frang_base::{HostOp, Line, NoMemory, Op, Path, Script, What};
+use script_lang::{ReadFault, ScriptFault, read_script};
+use std::alloc::Global;
+use std::process::Abort;
+use std::test::Fail;
+
+// A blank, and the names of a path in brackets.
+fn names(path: &Path, to: &mut Vec<u8>) -> Result<(), NoMemory> {
+    add(b" [", to)?;
+    for (i, name) in path.as_slice().iter().enumerate() {
+        if i > 0 {
+            to.push(b'|')?;
+        }
+        add(name.as_slice(), to)?;
+    }
+    add(b"]", to)
+}
+
+fn at(form: &[u8], path: &Path, to: &mut Vec<u8>) -> Result<(), NoMemory> {
+    add_text(form, to)?;
+    names(path, to)
+}
+
+fn at_two(form: &[u8], path: &Path, other: &Path, to: &mut Vec<u8>) -> Result<(), NoMemory> {
+    at(form, path, to)?;
+    names(other, to)
+}
+
+fn counted(alloc: Global, form: &[u8], n: u32, to: &mut Vec<u8>) -> Result<(), NoMemory> {
+    add_text(form, to)?;
+    add_number(alloc, u64::from(n), to)
+}
+
+// What names two nodes, or one with a text or numbers.
+fn longer_op(alloc: Global, op: &Op, to: &mut Vec<u8>) -> Result<(), NoMemory> {
+    match op {
+        Op::Link { path, to: other } => at_two(b"Link", path, other, to),
+        Op::Rename { path, to: other } => at_two(b"Rename", path, other, to),
+        Op::Symlink { path, target } => {
+            at(b"Symlink", path, to)?;
+            add_text(target.as_slice(), to)
+        }
+        Op::Write { path, off, bytes } => {
+            at(b"Write", path, to)?;
+            add_number(alloc, u64::from(*off), to)?;
+            add_text(bytes.as_slice(), to)
+        }
+        Op::Truncate { path, len } => {
+            at(b"Truncate", path, to)?;
+            add_number(alloc, u64::from(*len), to)
+        }
+        _ => Ok(()),
+    }
+}
+
+fn bytes_op(alloc: Global, op: &Op, to: &mut Vec<u8>) -> Result<(), NoMemory> {
+    match op {
+        Op::Fill {
+            path,
+            off,
+            len,
+            byte,
+        } => {
+            at(b"Fill", path, to)?;
+            add_number(alloc, u64::from(*off), to)?;
+            add_number(alloc, u64::from(*len), to)?;
+            add_number(alloc, u64::from(*byte), to)
+        }
+        Op::Read { path, off, len } => {
+            at(b"Read", path, to)?;
+            add_number(alloc, u64::from(*off), to)?;
+            add_number(alloc, u64::from(*len), to)
+        }
+        _ => longer_op(alloc, op, to),
+    }
+}
+
+fn server_op(alloc: Global, op: &Op, to: &mut Vec<u8>) -> Result<(), NoMemory> {
+    match op {
+        Op::Create { path } => at(b"Create", path, to),
+        Op::Mkdir { path } => at(b"Mkdir", path, to),
+        Op::Unlink { path } => at(b"Unlink", path, to),
+        Op::Rmdir { path } => at(b"Rmdir", path, to),
+        Op::Stat { path } => at(b"Stat", path, to),
+        Op::List { path } => at(b"List", path, to),
+        Op::Readlink { path } => at(b"Readlink", path, to),
+        Op::Time { path } => at(b"Time", path, to),
+        Op::Sync => add_text(b"Sync", to),
+        Op::Mount => add_text(b"Mount", to),
+        Op::Unmount => add_text(b"Unmount", to),
+        Op::Crash => add_text(b"Crash", to),
+        Op::CrashAt { k } => counted(alloc, b"CrashAt", *k, to),
+        Op::CutAt { k } => counted(alloc, b"CutAt", *k, to),
+        Op::Stall => add_text(b"Stall", to),
+        _ => bytes_op(alloc, op, to),
+    }
+}
+
+fn host_op(alloc: Global, op: &HostOp, to: &mut Vec<u8>) -> Result<(), NoMemory> {
+    match op {
+        HostOp::Barrier => add_text(b"Barrier", to),
+        HostOp::Tick { n } => counted(alloc, b"Tick", *n, to),
+        HostOp::Halt => add_text(b"Halt", to),
+    }
+}
+
+// A line by its number, who is asked, and the names of the forms.
+fn line(alloc: Global, line: &Line, to: &mut Vec<u8>) -> Result<(), NoMemory> {
+    let front = format!(in alloc; "{} {}", line.number, line.who.0)?;
+    to.extend_from_slice(front.as_bytes())?;
+    match &line.what {
+        What::Server(op) => server_op(alloc, op, to),
+        What::Host(op) => host_op(alloc, op, to),
+    }
+}
+
+fn described(alloc: Global, script: &Script) -> Result<Vec<u8>, NoMemory> {
+    let mut text = Vec::new(alloc);
+    for one in script.as_slice() {
+        line(alloc, one, &mut text)?;
+        text.push(b'\n')?;
+    }
+    Ok(text)
+}
+
+fn expect_read(rt: &impl Abort, alloc: Global, script: &[u8], wanted: &[u8]) -> Result<(), Fail> {
+    let text = match read_script(alloc, script) {
+        Ok(script) => described(alloc, &script)?,
+        Err(_) => Vec::new(alloc),
+    };
+    assert_eq!(rt; text.as_slice(), wanted);
+    Ok(())
+}
+
+fn expect_bad(rt: &impl Abort, alloc: Global, script: &[u8], line: u32, kind: u8) {
+    let wanted = ReadFault::Bad(ScriptFault { line, kind });
+    match read_script(alloc, script) {
+        Ok(_) => assert!(rt; false, "line {line}, kind {kind}"),
+        Err(fault) => assert_eq!(rt; fault, wanted),
+    }
+}
+
+// All of these lines are bad alone, with this kind.
+fn expect_all_bad(rt: &impl Abort, alloc: Global, scripts: &str, kind: u8) {
+    for script in scripts.lines() {
+        expect_bad(rt, alloc, script.as_bytes(), 1, kind);
+    }
+}
+
+const EACH_COMMAND: &str = "0 mount
+15 unmount
+9 sync
+10 stall
+0 create /a
+0 mkdir /a/b
+0 unlink /a
+0 rmdir /
+0 stat /
+0 list /a/b/c
+0 readlink /a
+0 time /a
+0 link /a /b/c
+0 rename /a /
+0 symlink /a t
+0 write /a 0 hello
+0 fill /a 5 9 0a
+0 truncate /a 7
+0 read /a 2 3
+0 crash
+0 crash 3
+0 cut 4
+barrier
+tick 5
+halt
+";
+
+const EACH_COMMAND_READ: &str = "1 0 Mount
+2 15 Unmount
+3 9 Sync
+4 10 Stall
+5 0 Create [a]
+6 0 Mkdir [a|b]
+7 0 Unlink [a]
+8 0 Rmdir []
+9 0 Stat []
+10 0 List [a|b|c]
+11 0 Readlink [a]
+12 0 Time [a]
+13 0 Link [a] [b|c]
+14 0 Rename [a] []
+15 0 Symlink [a] t
+16 0 Write [a] 0 hello
+17 0 Fill [a] 5 9 10
+18 0 Truncate [a] 7
+19 0 Read [a] 2 3
+20 0 Crash
+21 0 CrashAt 3
+22 0 CutAt 4
+23 255 Barrier
+24 255 Tick 5
+25 255 Halt
+";
+
+const BOUNDS: &str = "0 symlink /a /b/../c
+0 write /a 4294967295 x
+0 fill /a 0 1 00
+0 fill /a 4294967295 1114112 fF
+0 fill /a 0 1 9A
+0 truncate /a 0
+0 truncate /a 4294967295
+0 read /a 0 1
+0 read /a 4294967295 4096
+0 crash 1
+0 crash 1000000
+0 cut 1
+0 cut 1000000
+tick 1
+tick 10000
+0 create /...
+0 create /.a/b.
+0 create /#
+0 create /\u{e9}
+0 write /a 0 \u{2603}";
+
+const BOUNDS_READ: &str = "1 0 Symlink [a] /b/../c
+2 0 Write [a] 4294967295 x
+3 0 Fill [a] 0 1 0
+4 0 Fill [a] 4294967295 1114112 255
+5 0 Fill [a] 0 1 154
+6 0 Truncate [a] 0
+7 0 Truncate [a] 4294967295
+8 0 Read [a] 0 1
+9 0 Read [a] 4294967295 4096
+10 0 CrashAt 1
+11 0 CrashAt 1000000
+12 0 CutAt 1
+13 0 CutAt 1000000
+14 255 Tick 1
+15 255 Tick 10000
+16 0 Create [...]
+17 0 Create [.a|b.]
+18 0 Create [#]
+19 0 Create [\u{e9}]
+20 0 Write [a] 0 \u{2603}
+";
+
+#[test]
+fn each_command_is_read_to_its_bounds(rt: HostRuntime) -> Result<(), Fail> {
+    let alloc = rt.alloc();
+    let commands = EACH_COMMAND.as_bytes();
+    expect_read(&rt, alloc, commands, EACH_COMMAND_READ.as_bytes())?;
+    expect_read(&rt, alloc, BOUNDS.as_bytes(), BOUNDS_READ.as_bytes())
+}
+
+#[test]
+fn lines_are_counted_and_words_parted(rt: HostRuntime) -> Result<(), Fail> {
+    let rows = [
+        ("", ""),
+        ("\n\n", ""),
+        ("0 mount", "1 0 Mount\n"),
+        ("0 mount\r\n", "1 0 Mount\n"),
+        ("0 write /a 0 x\r\n", "1 0 Write [a] 0 x\n"),
+        ("\r\n0 sync\r\n", "2 0 Sync\n"),
+        (" \t0\t \tmount\t \n", "1 0 Mount\n"),
+        ("\t0 create\t/a", "1 0 Create [a]\n"),
+        ("\n\n0 mount\n", "3 0 Mount\n"),
+        ("# 0 mount\n0 sync\n", "2 0 Sync\n"),
+        ("#\n#\u{1}\u{7f}\n", ""),
+        (" \t \n0 mount\n\n0 sync", "2 0 Mount\n4 0 Sync\n"),
+        (
+            "1 mount\n0 mount\nbarrier\n",
+            "1 1 Mount\n2 0 Mount\n3 255 Barrier\n",
+        ),
+        ("halt\n\n# after the end\n \t", "1 255 Halt\n"),
+    ];
+    for (script, wanted) in rows {
+        expect_read(&rt, rt.alloc(), script.as_bytes(), wanted.as_bytes())?;
+    }
+    Ok(())
+}
+
+const UNKNOWN_WORDS: &str = "mount
+Barrier
+-1 mount
++1 mount
+0x mount
+ # 0 mount
+\u{feff}0 mount
+0 Create /a
+0 creat /a
+0 barrier
+0 tick 1";
+
+const NO_SERVERS: &str = "16 mount
+00 mount
+01 mount
+015 mount
+255 mount
+18446744073709551616 mount";
+
+#[test]
+fn bad_words_are_refused(rt: HostRuntime) {
+    expect_all_bad(&rt, rt.alloc(), UNKNOWN_WORDS, 2);
+    expect_all_bad(&rt, rt.alloc(), NO_SERVERS, 7);
+}
+
+const TOO_FEW_WORDS: &str = "0
+0 create
+0 time
+0 link /a
+0 rename
+0 symlink /a
+0 write /a 0
+0 fill /a 0 1
+0 truncate /a
+0 read /a 0
+0 cut
+tick";
+
+const TOO_MANY_WORDS: &str = "0 mount 0
+0 unmount 0
+0 sync 0
+0 stall 1
+0 create /a /b
+0 link /a /b /c
+0 symlink /a t u
+0 write /a 0 two words
+0 fill /a 0 1 00 0
+0 truncate /a 0 0
+0 read /a 0 1 1
+0 crash 1 1
+0 cut 1 1
+barrier x
+halt x
+tick 1 1";
+
+#[test]
+fn words_are_counted(rt: HostRuntime) {
+    expect_all_bad(&rt, rt.alloc(), TOO_FEW_WORDS, 3);
+    expect_all_bad(&rt, rt.alloc(), TOO_MANY_WORDS, 4);
+}
+
+const BAD_NUMBERS: &str = "0 truncate /a x1
+0 truncate /a 01
+0 truncate /a 00
+0 truncate /a -1
+0 truncate /a +1
+0 truncate /a 1e3
+0 truncate /a 4294967296
+0 truncate /a 18446744073709551616
+0 write /a 4294967296 x
+0 fill /a 4294967296 1 00
+0 fill /a 0 0 00
+0 fill /a 0 1114113 00
+0 fill /a 0 1 0
+0 fill /a 0 1 000
+0 fill /a 0 1 g0
+0 fill /a 0 1 0G
+0 read /a 4294967296 1
+0 read /a 0 0
+0 read /a 0 4097
+0 crash 0
+0 crash 1000001
+0 crash 01
+0 cut 0
+0 cut 1000001
+tick 0
+tick 10001
+tick 01";
+
+const BAD_PATHS: &str = "0 create a
+0 create //
+0 create /a/
+0 create /a//b
+0 create /.
+0 create /..
+0 create /a/../b
+0 link a /b
+0 rename /a b";
+
+#[test]
+fn bad_arguments_are_refused(rt: HostRuntime) {
+    expect_all_bad(&rt, rt.alloc(), BAD_NUMBERS, 5);
+    expect_all_bad(&rt, rt.alloc(), BAD_PATHS, 6);
+}
+
+#[test]
+fn the_first_bad_line_counts(rt: HostRuntime) {
+    let rows = [
+        ("0 mount\n0 truncate /a x1\n", 2, 5),
+        ("0 mount\n0 nonsense\n16 mount\n", 2, 2),
+        ("\n#\n\n0\nmount\n", 4, 3),
+        ("\r\n\r\nbarrier x\r\n", 3, 4),
+        ("halt\n0 mount\n", 2, 11),
+        ("halt\n\n# x\nhalt\n", 4, 11),
+    ];
+    for (script, line, kind) in rows {
+        expect_bad(&rt, rt.alloc(), script.as_bytes(), line, kind);
+    }
+}
+
+// Each of these lines has several faults, of which that of the table comes first.
+const BYTES_FIRST: &str = "16 \u{1}
+nonsense \u{1}
+0 nonsense \u{1}
+0 create \u{1}/a /b
+0 truncate /\u{1} x";
+
+const SERVER_FIRST: &str = "16 nonsense
+16
+16 mount x
+16 create a";
+
+const WORD_FIRST: &str = "nonsense a b c
+0 nonsense
+0 nonsense a b c d e";
+
+const FEW_WORDS_FIRST: &str = "0 link a
+0 fill a x
+0 truncate a";
+
+const MANY_WORDS_FIRST: &str = "0 create a b
+0 truncate a x y
+0 crash x y
+tick x y";
+
+const PATH_FIRST: &str = "0 truncate a x
+0 fill a x 0 zz
+0 read a x y";
+
+const NUMBER_FIRST: &str = "0 fill /a x 0 zz";
+
+#[test]
+fn faults_of_a_line_have_an_order(rt: HostRuntime) {
+    expect_all_bad(&rt, rt.alloc(), BYTES_FIRST, 1);
+    expect_all_bad(&rt, rt.alloc(), SERVER_FIRST, 7);
+    expect_all_bad(&rt, rt.alloc(), WORD_FIRST, 2);
+    expect_all_bad(&rt, rt.alloc(), FEW_WORDS_FIRST, 3);
+    expect_all_bad(&rt, rt.alloc(), MANY_WORDS_FIRST, 4);
+    expect_all_bad(&rt, rt.alloc(), PATH_FIRST, 6);
+    expect_all_bad(&rt, rt.alloc(), NUMBER_FIRST, 5);
+}
+
+#[test]
+fn after_halt_bad_bytes_come_first(rt: HostRuntime) {
+    let rows = [
+        ("halt\n0 create /\u{7f}\n", 2, 1),
+        ("halt\n16 mount", 2, 11),
+        ("halt\nnonsense", 2, 11),
+        ("halt\n0 nonsense", 2, 11),
+        ("halt\n0 create", 2, 11),
+        ("halt\n0 create /a /b", 2, 11),
+        ("halt\n0 create a", 2, 11),
+    ];
+    for (script, line, kind) in rows {
+        expect_bad(&rt, rt.alloc(), script.as_bytes(), line, kind);
+    }
+}
+
+#[test]
+fn bytes_that_are_no_text_are_refused(rt: HostRuntime) {
+    let rows = [
+        b"\xff\n".as_slice(),
+        b"0 create /\xc3\n".as_slice(),
+        b"0 create /\xc3(\n".as_slice(),
+        b"0 create /\xc0\x80\n".as_slice(),
+        b"0 create /\xed\xa0\x80\n".as_slice(),
+        b"0 create /\xf4\x90\x80\x80\n".as_slice(),
+        b"0 create /\x80\n".as_slice(),
+        b"0 mount\xff\n".as_slice(),
+        b"0 create /a\x00\n".as_slice(),
+        b"0 create /a\x1f\n".as_slice(),
+        b"0 create /a\x7f\n".as_slice(),
+        b"0\x0bmount\n".as_slice(),
+        b"0 mount\r".as_slice(),
+        b"0 mount\r\r\n".as_slice(),
+        b"0 mount\r \n".as_slice(),
+        b"\r".as_slice(),
+    ];
+    for script in rows {
+        expect_bad(&rt, rt.alloc(), script, 1, 1);
+    }
+}
