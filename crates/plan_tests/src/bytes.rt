@@ -175,230 +175,233 @@ fn differs(alloc: Global, rows: &[Row]) -> Result<Option<(usize, String)>, NoMem
     Ok(None)
 }
 
+static WRITTEN: &[Row] = &[
+    (
+        Asked::Write("/a", 1, "XY"),
+        Hold::Nothing,
+        false,
+        "Ok, 12884901904=6858596c6f(7f*507)",
+    ),
+    (
+        Asked::Write("/a", 0, "world"),
+        Hold::Nothing,
+        false,
+        "Ok, 12884901904=776f726c64(00*507)",
+    ),
+    (
+        Asked::Write("/a", 5, "!!"),
+        Hold::Nothing,
+        false,
+        "Ok, 10737418241 v4 16:07, 12884901904=68656c6c6f2121(7f*505)",
+    ),
+    (
+        Asked::Write("/b", 4090, "0123456789"),
+        Hold::Both,
+        false,
+        "Ok, 4294967296 v256 17:5b, 10737418242 v256 12:02 16:0410 36:06, 12884901951=(62*506)303132333435, \
+         12884901936=36373839(00*508)",
+    ),
+    (
+        Asked::Write("/e", 0, "hi"),
+        Hold::Both,
+        true,
+        "Ok, 4294967296 v256 17:5b, 10737418243 v2 12:01 16:02 32:06, 12884901936=6869(00*510)",
+    ),
+    (
+        Asked::Write("/e", 0, "hi"),
+        Hold::FirstFull,
+        true,
+        "Ok, 4294967297 v8 20:01, 10737418243 v2 12:01 16:02 32:1004, 12884910208=6869(00*510)",
+    ),
+    (
+        Asked::Write("/g", 65537, "Z"),
+        Hold::Nothing,
+        false,
+        "Ok, 289910292480=795a(7f*510)",
+    ),
+    (Asked::Write("/a", 5, ""), Hold::Nothing, false, "Ok"),
+    (
+        Asked::Fill("/a", 4, 600, 0x2e),
+        Hold::Nothing,
+        false,
+        "Ok, 10737418241 v4 16:5c02, 12884901904=68656c6c(2e*508), 12884901905=(2e*92)(00*420)",
+    ),
+    (
+        Asked::Fill("/e", 0, 5000, 0xff),
+        Hold::Both,
+        false,
+        "Ok, 4294967296 v256 17:5b01, 10737418243 v2 12:02 16:8813 32:06 36:08, 12884901936=(ff*512), \
+         12884901937=(ff*512), 12884901938=(ff*512), 12884901939=(ff*512), 12884901940=(ff*512), \
+         12884901941=(ff*512), 12884901942=(ff*512), 12884901943=(ff*512), 12884901952=(ff*512), \
+         12884901953=(ff*392)(00*120)",
+    ),
+    (
+        Asked::Fill("/k", 61430, 4110, 0x2e),
+        Hold::Both,
+        true,
+        "Ok, 4294967296 v256 17:5b 272:01, 10737418244 v7 12:10 16:040001 92:06 96:01, \
+         12884902135=(6b*502)(2e*10), 12884901936=(2e*512), 12884901937=(2e*512), 12884901938=(2e*512), \
+         12884901939=(2e*512), 12884901940=(2e*512), 12884901941=(2e*512), 12884901942=(2e*512), \
+         12884901943=(2e*512), 287762808832=(2e*4)(00*508)",
+    ),
+    (
+        Asked::Fill("/g", 65538, 1000, 0x2e),
+        Hold::Nothing,
+        false,
+        "Ok, 10737418305 v512 16:ea03, 289910292480=797a(2e*510), 289910292481=(2e*490)(00*22)",
+    ),
+];
+
 #[test]
 fn bytes_are_written_as_worked_out_by_hand(rt: HostRuntime) -> Result<(), Fail> {
-    let rows = [
-        (
-            Asked::Write("/a", 1, "XY"),
-            Hold::Nothing,
-            false,
-            "Ok, 12884901904=6858596c6f(7f*507)",
-        ),
-        (
-            Asked::Write("/a", 0, "world"),
-            Hold::Nothing,
-            false,
-            "Ok, 12884901904=776f726c64(00*507)",
-        ),
-        (
-            Asked::Write("/a", 5, "!!"),
-            Hold::Nothing,
-            false,
-            "Ok, 10737418241 v4 16:07, 12884901904=68656c6c6f2121(7f*505)",
-        ),
-        (
-            Asked::Write("/b", 4090, "0123456789"),
-            Hold::Both,
-            false,
-            "Ok, 4294967296 v256 17:5b, 10737418242 v256 12:02 16:0410 36:06, 12884901951=(62*506)303132333435, \
-             12884901936=36373839(00*508)",
-        ),
-        (
-            Asked::Write("/e", 0, "hi"),
-            Hold::Both,
-            true,
-            "Ok, 4294967296 v256 17:5b, 10737418243 v2 12:01 16:02 32:06, 12884901936=6869(00*510)",
-        ),
-        (
-            Asked::Write("/e", 0, "hi"),
-            Hold::FirstFull,
-            true,
-            "Ok, 4294967297 v8 20:01, 10737418243 v2 12:01 16:02 32:1004, 12884910208=6869(00*510)",
-        ),
-        (
-            Asked::Write("/g", 65537, "Z"),
-            Hold::Nothing,
-            false,
-            "Ok, 289910292480=795a(7f*510)",
-        ),
-        (Asked::Write("/a", 5, ""), Hold::Nothing, false, "Ok"),
-        (
-            Asked::Fill("/a", 4, 600, 0x2e),
-            Hold::Nothing,
-            false,
-            "Ok, 10737418241 v4 16:5c02, 12884901904=68656c6c(2e*508), 12884901905=(2e*92)(00*420)",
-        ),
-        (
-            Asked::Fill("/e", 0, 5000, 0xff),
-            Hold::Both,
-            false,
-            "Ok, 4294967296 v256 17:5b01, 10737418243 v2 12:02 16:8813 32:06 36:08, 12884901936=(ff*512), \
-             12884901937=(ff*512), 12884901938=(ff*512), 12884901939=(ff*512), 12884901940=(ff*512), \
-             12884901941=(ff*512), 12884901942=(ff*512), 12884901943=(ff*512), 12884901952=(ff*512), \
-             12884901953=(ff*392)(00*120)",
-        ),
-        (
-            Asked::Fill("/k", 61430, 4110, 0x2e),
-            Hold::Both,
-            true,
-            "Ok, 4294967296 v256 17:5b 272:01, 10737418244 v7 12:10 16:040001 92:06 96:01, \
-             12884902135=(6b*502)(2e*10), 12884901936=(2e*512), 12884901937=(2e*512), 12884901938=(2e*512), \
-             12884901939=(2e*512), 12884901940=(2e*512), 12884901941=(2e*512), 12884901942=(2e*512), \
-             12884901943=(2e*512), 287762808832=(2e*4)(00*508)",
-        ),
-        (
-            Asked::Fill("/g", 65538, 1000, 0x2e),
-            Hold::Nothing,
-            false,
-            "Ok, 10737418305 v512 16:ea03, 289910292480=797a(2e*510), 289910292481=(2e*490)(00*22)",
-        ),
-    ];
-    assert_eq!(rt; differs(rt.alloc(), &rows)?, None);
+    assert_eq!(rt; differs(rt.alloc(), WRITTEN)?, None);
     Ok(())
 }
+
+static CUT: &[Row] = &[
+    (
+        Asked::Truncate("/a", 0),
+        Hold::Both,
+        false,
+        "Ok, 4294967296 v256 16:8a, 10737418241 v4 12:00 16:00 32:00, freed 12884901904..12884901911",
+    ),
+    (
+        Asked::Truncate("/b", 100),
+        Hold::Nothing,
+        false,
+        "Ok, 10737418242 v256 16:6400",
+    ),
+    (
+        Asked::Truncate("/k", 57345),
+        Hold::Nothing,
+        false,
+        "Ok, 10737418244 v7 16:01e0",
+    ),
+    (
+        Asked::Truncate("/k", 57344),
+        Hold::Both,
+        true,
+        "Ok, 4294967296 v256 23:05, 10737418244 v7 12:0e 17:e0 88:00, freed 12884902128..12884902135",
+    ),
+    (
+        Asked::Truncate("/g", 65537),
+        Hold::Nothing,
+        false,
+        "Ok, 10737418305 v512 16:01",
+    ),
+    (
+        Asked::Truncate("/g", 65536),
+        Hold::Both,
+        false,
+        "Ok, 4294967297 v8 272:00, 10737418305 v512 16:00 96:00, freed 289910292480..289910294527",
+    ),
+    (
+        Asked::Truncate("/g", 0),
+        Hold::Both,
+        false,
+        "Ok, 4294967297 v8 16:00000000 272:00, 10737418305 v512 12:00 16:00 18:00 33:00 36:0000 40:0000 \
+         44:0000 48:0000 52:0000 56:0000 60:0000 64:0000 68:0000 72:0000 76:0000 80:0000 84:0000 88:0000 \
+         92:0000 96:00, freed 12884910080..12884910207, freed 289910292480..289910294527",
+    ),
+    (Asked::Truncate("/a", 5), Hold::Nothing, false, "Ok"),
+    (Asked::Truncate("/a", 6), Hold::Both, true, "BadOffset"),
+    (
+        Asked::Truncate("/a", 0),
+        Hold::Nothing,
+        false,
+        "needs 4294967296",
+    ),
+    (
+        Asked::Truncate("/g", 65536),
+        Hold::Nothing,
+        false,
+        "needs 4294967297",
+    ),
+];
 
 #[test]
 fn files_are_cut_as_worked_out_by_hand(rt: HostRuntime) -> Result<(), Fail> {
-    let rows = [
-        (
-            Asked::Truncate("/a", 0),
-            Hold::Both,
-            false,
-            "Ok, 4294967296 v256 16:8a, 10737418241 v4 12:00 16:00 32:00, freed 12884901904..12884901911",
-        ),
-        (
-            Asked::Truncate("/b", 100),
-            Hold::Nothing,
-            false,
-            "Ok, 10737418242 v256 16:6400",
-        ),
-        (
-            Asked::Truncate("/k", 57345),
-            Hold::Nothing,
-            false,
-            "Ok, 10737418244 v7 16:01e0",
-        ),
-        (
-            Asked::Truncate("/k", 57344),
-            Hold::Both,
-            true,
-            "Ok, 4294967296 v256 23:05, 10737418244 v7 12:0e 17:e0 88:00, freed 12884902128..12884902135",
-        ),
-        (
-            Asked::Truncate("/g", 65537),
-            Hold::Nothing,
-            false,
-            "Ok, 10737418305 v512 16:01",
-        ),
-        (
-            Asked::Truncate("/g", 65536),
-            Hold::Both,
-            false,
-            "Ok, 4294967297 v8 272:00, 10737418305 v512 16:00 96:00, freed 289910292480..289910294527",
-        ),
-        (
-            Asked::Truncate("/g", 0),
-            Hold::Both,
-            false,
-            "Ok, 4294967297 v8 16:00000000 272:00, 10737418305 v512 12:00 16:00 18:00 33:00 36:0000 40:0000 \
-             44:0000 48:0000 52:0000 56:0000 60:0000 64:0000 68:0000 72:0000 76:0000 80:0000 84:0000 88:0000 \
-             92:0000 96:00, freed 12884910080..12884910207, freed 289910292480..289910294527",
-        ),
-        (Asked::Truncate("/a", 5), Hold::Nothing, false, "Ok"),
-        (Asked::Truncate("/a", 6), Hold::Both, true, "BadOffset"),
-        (
-            Asked::Truncate("/a", 0),
-            Hold::Nothing,
-            false,
-            "needs 4294967296",
-        ),
-        (
-            Asked::Truncate("/g", 65536),
-            Hold::Nothing,
-            false,
-            "needs 4294967297",
-        ),
-    ];
-    assert_eq!(rt; differs(rt.alloc(), &rows)?, None);
+    assert_eq!(rt; differs(rt.alloc(), CUT)?, None);
     Ok(())
 }
 
+static READ: &[Row] = &[
+    (
+        Asked::Read("/a", 0, 100),
+        Hold::Nothing,
+        false,
+        "Shown 68656c6c6f",
+    ),
+    (
+        Asked::Read("/b", 3583, 3),
+        Hold::Nothing,
+        false,
+        "Shown 796262",
+    ),
+    (
+        Asked::Read("/b", 4000, 100),
+        Hold::Nothing,
+        false,
+        "Shown (62*90)",
+    ),
+    (
+        Asked::Read("/g", 65535, 9),
+        Hold::Nothing,
+        false,
+        "Shown 70797a",
+    ),
+    (Asked::Read("/a", 5, 1), Hold::Nothing, false, "Shown "),
+    (Asked::Read("/a", 6, 1), Hold::Nothing, false, "BadOffset"),
+    (
+        Asked::Read("/b", 0, 1),
+        Hold::Nothing,
+        false,
+        "needs 12884901944",
+    ),
+    (
+        Asked::Write("/b", 100, "x"),
+        Hold::Both,
+        true,
+        "needs 12884901944",
+    ),
+    (
+        Asked::Write("/e", 0, "hi"),
+        Hold::Nothing,
+        false,
+        "segments",
+    ),
+    (
+        Asked::Write("/e", 0, "hi"),
+        Hold::Full,
+        true,
+        "NoBlock { m: 2015 }",
+    ),
+    (
+        Asked::Fill("/k", 61440, 4100, 0),
+        Hold::FirstFull,
+        false,
+        "segments",
+    ),
+    (
+        Asked::Fill("/k", 61440, 4100, 0),
+        Hold::FirstFull,
+        true,
+        "NoLarge",
+    ),
+    (Asked::Write("/a", 6, "x"), Hold::Both, true, "BadOffset"),
+    (
+        Asked::Fill("/a", 5, 1_114_108, 0),
+        Hold::Both,
+        true,
+        "TooBig",
+    ),
+    (Asked::Write("/d", 0, "x"), Hold::Both, true, "IsDir"),
+    (Asked::Write("/l", 0, "x"), Hold::Both, true, "Inval"),
+    (Asked::Write("/z", 0, "x"), Hold::Both, true, "NoEnt"),
+];
+
 #[test]
 fn files_are_read_and_refused_as_worked_out_by_hand(rt: HostRuntime) -> Result<(), Fail> {
-    let rows = [
-        (
-            Asked::Read("/a", 0, 100),
-            Hold::Nothing,
-            false,
-            "Shown 68656c6c6f",
-        ),
-        (
-            Asked::Read("/b", 3583, 3),
-            Hold::Nothing,
-            false,
-            "Shown 796262",
-        ),
-        (
-            Asked::Read("/b", 4000, 100),
-            Hold::Nothing,
-            false,
-            "Shown (62*90)",
-        ),
-        (
-            Asked::Read("/g", 65535, 9),
-            Hold::Nothing,
-            false,
-            "Shown 70797a",
-        ),
-        (Asked::Read("/a", 5, 1), Hold::Nothing, false, "Shown "),
-        (Asked::Read("/a", 6, 1), Hold::Nothing, false, "BadOffset"),
-        (
-            Asked::Read("/b", 0, 1),
-            Hold::Nothing,
-            false,
-            "needs 12884901944",
-        ),
-        (
-            Asked::Write("/b", 100, "x"),
-            Hold::Both,
-            true,
-            "needs 12884901944",
-        ),
-        (
-            Asked::Write("/e", 0, "hi"),
-            Hold::Nothing,
-            false,
-            "segments",
-        ),
-        (
-            Asked::Write("/e", 0, "hi"),
-            Hold::Full,
-            true,
-            "NoBlock { m: 2015 }",
-        ),
-        (
-            Asked::Fill("/k", 61440, 4100, 0),
-            Hold::FirstFull,
-            false,
-            "segments",
-        ),
-        (
-            Asked::Fill("/k", 61440, 4100, 0),
-            Hold::FirstFull,
-            true,
-            "NoLarge",
-        ),
-        (Asked::Write("/a", 6, "x"), Hold::Both, true, "BadOffset"),
-        (
-            Asked::Fill("/a", 5, 1_114_108, 0),
-            Hold::Both,
-            true,
-            "TooBig",
-        ),
-        (Asked::Write("/d", 0, "x"), Hold::Both, true, "IsDir"),
-        (Asked::Write("/l", 0, "x"), Hold::Both, true, "Inval"),
-        (Asked::Write("/z", 0, "x"), Hold::Both, true, "NoEnt"),
-    ];
-    assert_eq!(rt; differs(rt.alloc(), &rows)?, None);
+    assert_eq!(rt; differs(rt.alloc(), READ)?, None);
     Ok(())
 }

@@ -9,12 +9,15 @@ use op_look::plan_look;
 use std::alloc::Global;
 use std::test::Fail;
 
+// What is asked of a path, by a letter, and what is told.
+type Row = (u8, &'static str, &'static str);
+
 // The sector of small block 0.
 const BLOCKS: u64 = 12_884_901_888;
 
 // Inodes 0 to 3, blocks 0 and 1. The root has six entries in block 0; the file /a, which is /B and /d/x too, of five bytes in block 2; the
 // directory /d with one entry in block 1; and the link /l to `a/b`. The inodes of the file /m and of the directory /n aren't cached.
-const SECTORS: [(u64, &'static [Piece]); 7] = [
+static SECTORS: [(u64, &'static [Piece]); 7] = [
     (
         10_737_418_240,
         &[(0, &[9]), (8, &[2, 0, 1, 0, 1, 0, 0, 0, 6])],
@@ -84,7 +87,7 @@ fn look_of(letter: u8, path: Path) -> Op
 fn differs(
     alloc: Global,
     sectors: &Sectors,
-    rows: &[(u8, &'static str, &'static str)],
+    rows: &[Row],
 ) -> Result<Option<(usize, String)>, NoMemory> {
     for (place, (letter, path, want)) in rows.iter().enumerate() {
         let look = look_of(*letter, path_of(alloc, path)?);
@@ -96,54 +99,56 @@ fn differs(
     Ok(None)
 }
 
+static LOOKS: &[Row] = &[
+    (b's', "/", "dir 6"),
+    (b's', "/a", "file 5 3"),
+    (b's', "/B", "file 5 3"),
+    (b's', "/d", "dir 1"),
+    (b's', "/l", "link 3"),
+    (b's', "/d/x", "file 5 3"),
+    (b's', "/x", "NoEnt"),
+    (b's', "/x/y", "NoEnt"),
+    (b's', "/d/y", "NoEnt"),
+    (b's', "/a/x", "NotDir"),
+    (b's', "/l/x", "NotDir"),
+    (b's', "/m", "needs 10737418244"),
+    (b's', "/m/x", "NotDir"),
+    (b's', "/n/x", "needs 10737418246"),
+    (b'l', "/", "names B a d l m n"),
+    (b'l', "/d", "names x"),
+    (b'l', "/a", "NotDir"),
+    (b'l', "/m", "NotDir"),
+    (b'l', "/n", "needs 10737418246"),
+    (b'l', "/x", "NoEnt"),
+    (b'r', "/l", "to a/b"),
+    (b'r', "/a", "Inval"),
+    (b'r', "/n", "Inval"),
+    (b'r', "/", "Inval"),
+    (b't', "/a", "time 0 0"),
+    (b't', "/d", "IsDir"),
+    (b't', "/l", "Inval"),
+    (b't', "/a/b", "NotDir"),
+];
+
 #[test]
 fn looks_at_a_small_disk(rt: HostRuntime) -> Result<(), Fail> {
     let sectors = disk(rt.alloc())?;
-    let rows = [
-        (b's', "/", "dir 6"),
-        (b's', "/a", "file 5 3"),
-        (b's', "/B", "file 5 3"),
-        (b's', "/d", "dir 1"),
-        (b's', "/l", "link 3"),
-        (b's', "/d/x", "file 5 3"),
-        (b's', "/x", "NoEnt"),
-        (b's', "/x/y", "NoEnt"),
-        (b's', "/d/y", "NoEnt"),
-        (b's', "/a/x", "NotDir"),
-        (b's', "/l/x", "NotDir"),
-        (b's', "/m", "needs 10737418244"),
-        (b's', "/m/x", "NotDir"),
-        (b's', "/n/x", "needs 10737418246"),
-        (b'l', "/", "names B a d l m n"),
-        (b'l', "/d", "names x"),
-        (b'l', "/a", "NotDir"),
-        (b'l', "/m", "NotDir"),
-        (b'l', "/n", "needs 10737418246"),
-        (b'l', "/x", "NoEnt"),
-        (b'r', "/l", "to a/b"),
-        (b'r', "/a", "Inval"),
-        (b'r', "/n", "Inval"),
-        (b'r', "/", "Inval"),
-        (b't', "/a", "time 0 0"),
-        (b't', "/d", "IsDir"),
-        (b't', "/l", "Inval"),
-        (b't', "/a/b", "NotDir"),
-    ];
-    let differing = differs(rt.alloc(), &sectors, &rows)?;
+    let differing = differs(rt.alloc(), &sectors, LOOKS)?;
     assert_eq!(rt; differing, None);
     Ok(())
 }
+
+static ASKED_FOR: &[Row] = &[
+    (b's', "/d/x", "file 5 3"),
+    (b's', "/d/y", "needs 12884901903"),
+    (b'l', "/d", "needs 12884901903"),
+];
 
 #[test]
 fn a_sector_that_is_not_cached_is_asked_for(rt: HostRuntime) -> Result<(), Fail> {
     let mut sectors = disk(rt.alloc())?;
     sectors.remove(Sector(BLOCKS + 15));
-    let rows = [
-        (b's', "/d/x", "file 5 3"),
-        (b's', "/d/y", "needs 12884901903"),
-        (b'l', "/d", "needs 12884901903"),
-    ];
-    let differing = differs(rt.alloc(), &sectors, &rows)?;
+    let differing = differs(rt.alloc(), &sectors, ASKED_FOR)?;
     assert_eq!(rt; differing, None);
     Ok(())
 }

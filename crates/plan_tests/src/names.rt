@@ -190,380 +190,400 @@ fn differs(alloc: Global, rows: &[Row]) -> Result<Option<(usize, String)>, NoMem
     Ok(None)
 }
 
+static MADE: &[Row] = &[
+    (
+        Act::Create("/a"),
+        WHOLE,
+        "Ok i8:1,1,0,0 b8:true i0:2,1,10,1 p4.2:a,8,1",
+    ),
+    (
+        Act::Mkdir("/a"),
+        WHOLE,
+        "Ok i8:2,1,0,0 b8:true i0:2,1,10,1 p4.2:a,8,2",
+    ),
+    (
+        Act::Symlink("/a", "xy"),
+        WHOLE,
+        "Ok i8:3,1,2,0 b8:true i0:2,1,10,1 p4.2:a,8,3",
+    ),
+    (
+        Act::Create("/d/a"),
+        WHOLE,
+        "Ok i8:1,1,0,0 b8:true i2:2,1,3,1 p5.2:a,8,1",
+    ),
+    (
+        Act::Create("/e/a"),
+        (Hold::First, false, 0),
+        "Ok i8:1,1,0,0 b8:true i4:2,1,1,1 p6.0:a,8,1",
+    ),
+    (
+        Act::Create("/w/a"),
+        WHOLE,
+        "Ok i8:1,1,0,0 b8:true u0:Directory i6:2,1,56,2 i6:2,1,57,2 p0.0:a,8,1",
+    ),
+    (
+        Act::Create("/w/a"),
+        (Hold::Former, true, 0),
+        "Ok i8:1,1,0,0 b8:true u24:Directory i6:2,1,56,2 i6:2,1,57,2 p24.0:a,8,1",
+    ),
+    (
+        Act::Create("/w/a"),
+        (Hold::First, true, 12884901891),
+        "clear 0",
+    ),
+    (
+        Act::Create("/w/a"),
+        (Hold::Former, true, 12884902080),
+        "needs 12884902080",
+    ),
+    (Act::Create("/w/a"), (Hold::NoBlock, true, 0), "NoDirBlock"),
+    (Act::Create("/w/a"), (Hold::NoBlock, false, 0), "segments"),
+    (Act::Create("/a"), (Hold::NoInode, true, 0), "NoInode"),
+    (Act::Create("/a"), (Hold::NoInode, false, 0), "segments"),
+    (Act::Create("/a"), (Hold::Nothing, false, 0), "segments"),
+    (Act::Create("/f"), WHOLE, "Exist"),
+    (Act::Mkdir("/"), WHOLE, "Exist"),
+    (Act::Create("/n/a"), WHOLE, "NoEnt"),
+    (Act::Create("/f/a"), WHOLE, "NotDir"),
+    (Act::Create("/v/a"), WHOLE, "DirFull"),
+    (
+        Act::Create("/a"),
+        (Hold::First, true, 10737418248),
+        "needs 10737418248",
+    ),
+    (
+        Act::Create("/a"),
+        (Hold::First, true, 10737418240),
+        "needs 10737418240",
+    ),
+    (
+        Act::Create("/a"),
+        (Hold::First, true, 12884901920),
+        "needs 12884901920",
+    ),
+];
+
 #[test]
 fn nodes_are_made_as_worked_out_by_hand(rt: HostRuntime) -> Result<(), Fail> {
-    let rows = [
-        (
-            Act::Create("/a"),
-            WHOLE,
-            "Ok i8:1,1,0,0 b8:true i0:2,1,10,1 p4.2:a,8,1",
-        ),
-        (
-            Act::Mkdir("/a"),
-            WHOLE,
-            "Ok i8:2,1,0,0 b8:true i0:2,1,10,1 p4.2:a,8,2",
-        ),
-        (
-            Act::Symlink("/a", "xy"),
-            WHOLE,
-            "Ok i8:3,1,2,0 b8:true i0:2,1,10,1 p4.2:a,8,3",
-        ),
-        (
-            Act::Create("/d/a"),
-            WHOLE,
-            "Ok i8:1,1,0,0 b8:true i2:2,1,3,1 p5.2:a,8,1",
-        ),
-        (
-            Act::Create("/e/a"),
-            (Hold::First, false, 0),
-            "Ok i8:1,1,0,0 b8:true i4:2,1,1,1 p6.0:a,8,1",
-        ),
-        (
-            Act::Create("/w/a"),
-            WHOLE,
-            "Ok i8:1,1,0,0 b8:true u0:Directory i6:2,1,56,2 i6:2,1,57,2 p0.0:a,8,1",
-        ),
-        (
-            Act::Create("/w/a"),
-            (Hold::Former, true, 0),
-            "Ok i8:1,1,0,0 b8:true u24:Directory i6:2,1,56,2 i6:2,1,57,2 p24.0:a,8,1",
-        ),
-        (
-            Act::Create("/w/a"),
-            (Hold::First, true, 12884901891),
-            "clear 0",
-        ),
-        (
-            Act::Create("/w/a"),
-            (Hold::Former, true, 12884902080),
-            "needs 12884902080",
-        ),
-        (Act::Create("/w/a"), (Hold::NoBlock, true, 0), "NoDirBlock"),
-        (Act::Create("/w/a"), (Hold::NoBlock, false, 0), "segments"),
-        (Act::Create("/a"), (Hold::NoInode, true, 0), "NoInode"),
-        (Act::Create("/a"), (Hold::NoInode, false, 0), "segments"),
-        (Act::Create("/a"), (Hold::Nothing, false, 0), "segments"),
-        (Act::Create("/f"), WHOLE, "Exist"),
-        (Act::Mkdir("/"), WHOLE, "Exist"),
-        (Act::Create("/n/a"), WHOLE, "NoEnt"),
-        (Act::Create("/f/a"), WHOLE, "NotDir"),
-        (Act::Create("/v/a"), WHOLE, "DirFull"),
-        (
-            Act::Create("/a"),
-            (Hold::First, true, 10737418248),
-            "needs 10737418248",
-        ),
-        (
-            Act::Create("/a"),
-            (Hold::First, true, 10737418240),
-            "needs 10737418240",
-        ),
-        (
-            Act::Create("/a"),
-            (Hold::First, true, 12884901920),
-            "needs 12884901920",
-        ),
-    ];
-    let differing = differs(rt.alloc(), &rows)?;
+    let differing = differs(rt.alloc(), MADE)?;
     assert_eq!(rt; differing, None);
     Ok(())
 }
+
+static REMOVED: &[Row] = &[
+    (
+        Act::Unlink("/f"),
+        (Hold::Nothing, false, 0),
+        "Ok i0:2,1,8,1 p4.0:- i1:1,1,0,0",
+    ),
+    (
+        Act::Unlink("/d/g"),
+        WHOLE,
+        "Ok i2:2,1,1,1 p5.0:- i1:1,1,0,0",
+    ),
+    (
+        Act::Unlink("/l"),
+        WHOLE,
+        "Ok i0:2,1,8,1 p4.3:- i3:- b3:false",
+    ),
+    (
+        Act::Unlink("/l"),
+        (Hold::Nothing, false, 0),
+        "needs 4294967296",
+    ),
+    (Act::Unlink("/h"), WHOLE, "needs 4294967297"),
+    (
+        Act::Unlink("/h"),
+        (Hold::Two, true, 0),
+        "Ok i0:2,1,8,1 p4.5:- u23:Unused u22:Unused u21:Unused u20:Unused u19:Unused u18:Unused u17:Unused u16:Unused \
+         u15:Unused u14:Unused u13:Unused u12:Unused u11:Unused u10:Unused u9:Unused u8:Unused g1:false i5:- b5:false",
+    ),
+    (Act::Unlink("/d"), WHOLE, "IsDir"),
+    (Act::Unlink("/"), WHOLE, "IsDir"),
+    (Act::Unlink("/n"), WHOLE, "NoEnt"),
+    (Act::Unlink("/f/x"), WHOLE, "NotDir"),
+    (
+        Act::Unlink("/f"),
+        (Hold::First, true, 10737418241),
+        "needs 10737418241",
+    ),
+    (
+        Act::Rmdir("/e"),
+        WHOLE,
+        "Ok i0:2,1,8,1 p4.4:- u6:FormerDirectory i4:- b4:false",
+    ),
+    (
+        Act::Rmdir("/e"),
+        (Hold::Nothing, false, 0),
+        "needs 4294967296",
+    ),
+    (Act::Rmdir("/d"), WHOLE, "NotEmpty"),
+    (Act::Rmdir("/f"), WHOLE, "NotDir"),
+    (Act::Rmdir("/"), WHOLE, "Inval"),
+    (Act::Rmdir("/n"), WHOLE, "NoEnt"),
+];
 
 #[test]
 fn names_are_removed_as_worked_out_by_hand(rt: HostRuntime) -> Result<(), Fail> {
-    let rows = [
-        (
-            Act::Unlink("/f"),
-            (Hold::Nothing, false, 0),
-            "Ok i0:2,1,8,1 p4.0:- i1:1,1,0,0",
-        ),
-        (
-            Act::Unlink("/d/g"),
-            WHOLE,
-            "Ok i2:2,1,1,1 p5.0:- i1:1,1,0,0",
-        ),
-        (
-            Act::Unlink("/l"),
-            WHOLE,
-            "Ok i0:2,1,8,1 p4.3:- i3:- b3:false",
-        ),
-        (
-            Act::Unlink("/l"),
-            (Hold::Nothing, false, 0),
-            "needs 4294967296",
-        ),
-        (Act::Unlink("/h"), WHOLE, "needs 4294967297"),
-        (
-            Act::Unlink("/h"),
-            (Hold::Two, true, 0),
-            "Ok i0:2,1,8,1 p4.5:- u23:Unused u22:Unused u21:Unused u20:Unused u19:Unused u18:Unused u17:Unused u16:Unused \
-             u15:Unused u14:Unused u13:Unused u12:Unused u11:Unused u10:Unused u9:Unused u8:Unused g1:false i5:- b5:false",
-        ),
-        (Act::Unlink("/d"), WHOLE, "IsDir"),
-        (Act::Unlink("/"), WHOLE, "IsDir"),
-        (Act::Unlink("/n"), WHOLE, "NoEnt"),
-        (Act::Unlink("/f/x"), WHOLE, "NotDir"),
-        (
-            Act::Unlink("/f"),
-            (Hold::First, true, 10737418241),
-            "needs 10737418241",
-        ),
-        (
-            Act::Rmdir("/e"),
-            WHOLE,
-            "Ok i0:2,1,8,1 p4.4:- u6:FormerDirectory i4:- b4:false",
-        ),
-        (
-            Act::Rmdir("/e"),
-            (Hold::Nothing, false, 0),
-            "needs 4294967296",
-        ),
-        (Act::Rmdir("/d"), WHOLE, "NotEmpty"),
-        (Act::Rmdir("/f"), WHOLE, "NotDir"),
-        (Act::Rmdir("/"), WHOLE, "Inval"),
-        (Act::Rmdir("/n"), WHOLE, "NoEnt"),
-    ];
-    let differing = differs(rt.alloc(), &rows)?;
+    let differing = differs(rt.alloc(), REMOVED)?;
     assert_eq!(rt; differing, None);
     Ok(())
 }
+
+static LINKED: &[Row] = &[
+    (
+        Act::Link("/f", "/a"),
+        WHOLE,
+        "Ok i1:1,3,0,0 i0:2,1,10,1 p4.2:a,1,1",
+    ),
+    (
+        Act::Link("/h", "/d/a"),
+        WHOLE,
+        "Ok i5:1,2,65537,16 i2:2,1,3,1 p5.2:a,5,1",
+    ),
+    (
+        Act::Link("/l", "/e/a"),
+        WHOLE,
+        "Ok i3:3,2,1,0 i4:2,1,1,1 p6.0:a,3,3",
+    ),
+    (
+        Act::Link("/f", "/w/a"),
+        WHOLE,
+        "Ok i1:1,3,0,0 u0:Directory i6:2,1,56,2 i6:2,1,57,2 p0.0:a,1,1",
+    ),
+    (
+        Act::Link("/f", "/d/s/a"),
+        WHOLE,
+        "Ok i1:1,3,0,0 u0:Directory i10:2,1,0,1 i10:2,1,1,1 p0.0:a,1,1",
+    ),
+    (Act::Link("/m", "/a"), WHOLE, "MLink"),
+    (Act::Link("/m", "/v/a"), WHOLE, "MLink"),
+    (Act::Link("/f", "/v/a"), WHOLE, "DirFull"),
+    (Act::Link("/d", "/a"), WHOLE, "IsDir"),
+    (Act::Link("/", "/a"), WHOLE, "IsDir"),
+    (Act::Link("/n", "/a"), WHOLE, "NoEnt"),
+    (Act::Link("/f/x", "/a"), WHOLE, "NotDir"),
+    (Act::Link("/f", "/d"), WHOLE, "Exist"),
+    (Act::Link("/f", "/"), WHOLE, "Exist"),
+    (Act::Link("/f", "/n/a"), WHOLE, "NoEnt"),
+    (Act::Link("/f", "/h/a"), WHOLE, "NotDir"),
+    (Act::Link("/o", "/a"), WHOLE, "NoEnt"),
+];
 
 #[test]
 fn links_are_made_as_worked_out_by_hand(rt: HostRuntime) -> Result<(), Fail> {
-    let rows = [
-        (
-            Act::Link("/f", "/a"),
-            WHOLE,
-            "Ok i1:1,3,0,0 i0:2,1,10,1 p4.2:a,1,1",
-        ),
-        (
-            Act::Link("/h", "/d/a"),
-            WHOLE,
-            "Ok i5:1,2,65537,16 i2:2,1,3,1 p5.2:a,5,1",
-        ),
-        (
-            Act::Link("/l", "/e/a"),
-            WHOLE,
-            "Ok i3:3,2,1,0 i4:2,1,1,1 p6.0:a,3,3",
-        ),
-        (
-            Act::Link("/f", "/w/a"),
-            WHOLE,
-            "Ok i1:1,3,0,0 u0:Directory i6:2,1,56,2 i6:2,1,57,2 p0.0:a,1,1",
-        ),
-        (
-            Act::Link("/f", "/d/s/a"),
-            WHOLE,
-            "Ok i1:1,3,0,0 u0:Directory i10:2,1,0,1 i10:2,1,1,1 p0.0:a,1,1",
-        ),
-        (Act::Link("/m", "/a"), WHOLE, "MLink"),
-        (Act::Link("/m", "/v/a"), WHOLE, "MLink"),
-        (Act::Link("/f", "/v/a"), WHOLE, "DirFull"),
-        (Act::Link("/d", "/a"), WHOLE, "IsDir"),
-        (Act::Link("/", "/a"), WHOLE, "IsDir"),
-        (Act::Link("/n", "/a"), WHOLE, "NoEnt"),
-        (Act::Link("/f/x", "/a"), WHOLE, "NotDir"),
-        (Act::Link("/f", "/d"), WHOLE, "Exist"),
-        (Act::Link("/f", "/"), WHOLE, "Exist"),
-        (Act::Link("/f", "/n/a"), WHOLE, "NoEnt"),
-        (Act::Link("/f", "/h/a"), WHOLE, "NotDir"),
-        (Act::Link("/o", "/a"), WHOLE, "NoEnt"),
-    ];
-    let differing = differs(rt.alloc(), &rows)?;
+    let differing = differs(rt.alloc(), LINKED)?;
     assert_eq!(rt; differing, None);
     Ok(())
 }
+
+// What is told where the new name takes a block that was a directory's.
+const TAKES_A_FORMER_BLOCK: &str =
+    "Ok i1:1,3,0,0 u24:Directory i6:2,1,56,2 i6:2,1,57,2 p24.0:a,1,1";
+
+static LINKED_BY_WHAT_IS_AT_HAND: &[Row] = &[
+    (
+        Act::Link("/f", "/w/a"),
+        (Hold::Former, true, 0),
+        TAKES_A_FORMER_BLOCK,
+    ),
+    (
+        Act::Link("/f", "/w/a"),
+        (Hold::First, true, 12884901891),
+        "clear 0",
+    ),
+    (
+        Act::Link("/f", "/w/a"),
+        (Hold::Former, true, 12884902080),
+        "needs 12884902080",
+    ),
+    (
+        Act::Link("/f", "/w/a"),
+        (Hold::NoBlock, true, 0),
+        "NoDirBlock",
+    ),
+    (
+        Act::Link("/f", "/w/a"),
+        (Hold::NoBlock, false, 0),
+        "segments",
+    ),
+    (
+        Act::Link("/f", "/w/a"),
+        (Hold::Nothing, false, 0),
+        "segments",
+    ),
+    (
+        Act::Link("/f", "/a"),
+        (Hold::Nothing, false, 0),
+        "Ok i1:1,3,0,0 i0:2,1,10,1 p4.2:a,1,1",
+    ),
+    (
+        Act::Link("/f", "/a"),
+        (Hold::First, true, 10737418241),
+        "needs 10737418241",
+    ),
+    (
+        Act::Link("/f", "/d/a"),
+        (Hold::First, true, 10737418242),
+        "needs 10737418242",
+    ),
+];
 
 #[test]
 fn links_go_by_what_is_at_hand(rt: HostRuntime) -> Result<(), Fail> {
-    let former = "Ok i1:1,3,0,0 u24:Directory i6:2,1,56,2 i6:2,1,57,2 p24.0:a,1,1";
-    let rows = [
-        (Act::Link("/f", "/w/a"), (Hold::Former, true, 0), former),
-        (
-            Act::Link("/f", "/w/a"),
-            (Hold::First, true, 12884901891),
-            "clear 0",
-        ),
-        (
-            Act::Link("/f", "/w/a"),
-            (Hold::Former, true, 12884902080),
-            "needs 12884902080",
-        ),
-        (
-            Act::Link("/f", "/w/a"),
-            (Hold::NoBlock, true, 0),
-            "NoDirBlock",
-        ),
-        (
-            Act::Link("/f", "/w/a"),
-            (Hold::NoBlock, false, 0),
-            "segments",
-        ),
-        (
-            Act::Link("/f", "/w/a"),
-            (Hold::Nothing, false, 0),
-            "segments",
-        ),
-        (
-            Act::Link("/f", "/a"),
-            (Hold::Nothing, false, 0),
-            "Ok i1:1,3,0,0 i0:2,1,10,1 p4.2:a,1,1",
-        ),
-        (
-            Act::Link("/f", "/a"),
-            (Hold::First, true, 10737418241),
-            "needs 10737418241",
-        ),
-        (
-            Act::Link("/f", "/d/a"),
-            (Hold::First, true, 10737418242),
-            "needs 10737418242",
-        ),
-    ];
-    let differing = differs(rt.alloc(), &rows)?;
+    let differing = differs(rt.alloc(), LINKED_BY_WHAT_IS_AT_HAND)?;
     assert_eq!(rt; differing, None);
     Ok(())
 }
+
+static MOVED: &[Row] = &[
+    (Act::Rename("/f", "/a"), WHOLE, "Ok p4.0:a,1,1"),
+    (Act::Rename("/l", "/a"), WHOLE, "Ok p4.3:a,3,3"),
+    (Act::Rename("/d/g", "/d/b"), WHOLE, "Ok p5.0:b,1,1"),
+    (
+        Act::Rename("/f", "/d/a"),
+        WHOLE,
+        "Ok i2:2,1,3,1 p5.2:a,1,1 i0:2,1,8,1 p4.0:-",
+    ),
+    (
+        Act::Rename("/d/g", "/a"),
+        WHOLE,
+        "Ok i0:2,1,10,1 p4.2:a,1,1 i2:2,1,1,1 p5.0:-",
+    ),
+    (
+        Act::Rename("/d", "/e/a"),
+        WHOLE,
+        "Ok i4:2,1,1,1 p6.0:a,2,2 i0:2,1,8,1 p4.1:-",
+    ),
+    (
+        Act::Rename("/f", "/w/a"),
+        WHOLE,
+        "Ok u0:Directory i6:2,1,56,2 i6:2,1,57,2 p0.0:a,1,1 i0:2,1,8,1 p4.0:-",
+    ),
+    (Act::Rename("/f", "/v/a"), WHOLE, "DirFull"),
+    (Act::Rename("/d", "/d/s"), WHOLE, "Inval"),
+    (Act::Rename("/d", "/d/a"), WHOLE, "Inval"),
+    (Act::Rename("/d", "/d/s/a"), WHOLE, "Inval"),
+    (Act::Rename("/d", "/d/n/a"), WHOLE, "NoEnt"),
+    (Act::Rename("/", "/a"), WHOLE, "Inval"),
+    (Act::Rename("/n", "/"), WHOLE, "Inval"),
+    (Act::Rename("/n", "/a"), WHOLE, "NoEnt"),
+    (Act::Rename("/f/x", "/a"), WHOLE, "NotDir"),
+    (Act::Rename("/f", "/n/a"), WHOLE, "NoEnt"),
+    (Act::Rename("/f", "/h/a"), WHOLE, "NotDir"),
+];
 
 #[test]
 fn names_are_moved_as_worked_out_by_hand(rt: HostRuntime) -> Result<(), Fail> {
-    let rows = [
-        (Act::Rename("/f", "/a"), WHOLE, "Ok p4.0:a,1,1"),
-        (Act::Rename("/l", "/a"), WHOLE, "Ok p4.3:a,3,3"),
-        (Act::Rename("/d/g", "/d/b"), WHOLE, "Ok p5.0:b,1,1"),
-        (
-            Act::Rename("/f", "/d/a"),
-            WHOLE,
-            "Ok i2:2,1,3,1 p5.2:a,1,1 i0:2,1,8,1 p4.0:-",
-        ),
-        (
-            Act::Rename("/d/g", "/a"),
-            WHOLE,
-            "Ok i0:2,1,10,1 p4.2:a,1,1 i2:2,1,1,1 p5.0:-",
-        ),
-        (
-            Act::Rename("/d", "/e/a"),
-            WHOLE,
-            "Ok i4:2,1,1,1 p6.0:a,2,2 i0:2,1,8,1 p4.1:-",
-        ),
-        (
-            Act::Rename("/f", "/w/a"),
-            WHOLE,
-            "Ok u0:Directory i6:2,1,56,2 i6:2,1,57,2 p0.0:a,1,1 i0:2,1,8,1 p4.0:-",
-        ),
-        (Act::Rename("/f", "/v/a"), WHOLE, "DirFull"),
-        (Act::Rename("/d", "/d/s"), WHOLE, "Inval"),
-        (Act::Rename("/d", "/d/a"), WHOLE, "Inval"),
-        (Act::Rename("/d", "/d/s/a"), WHOLE, "Inval"),
-        (Act::Rename("/d", "/d/n/a"), WHOLE, "NoEnt"),
-        (Act::Rename("/", "/a"), WHOLE, "Inval"),
-        (Act::Rename("/n", "/"), WHOLE, "Inval"),
-        (Act::Rename("/n", "/a"), WHOLE, "NoEnt"),
-        (Act::Rename("/f/x", "/a"), WHOLE, "NotDir"),
-        (Act::Rename("/f", "/n/a"), WHOLE, "NoEnt"),
-        (Act::Rename("/f", "/h/a"), WHOLE, "NotDir"),
-    ];
-    let differing = differs(rt.alloc(), &rows)?;
+    let differing = differs(rt.alloc(), MOVED)?;
     assert_eq!(rt; differing, None);
     Ok(())
 }
+
+static REPLACED: &[Row] = &[
+    (
+        Act::Rename("/h", "/f"),
+        WHOLE,
+        "Ok i0:2,1,8,1 p4.5:- p4.0:f,5,1 i1:1,1,0,0",
+    ),
+    (
+        Act::Rename("/h", "/d/g"),
+        WHOLE,
+        "Ok i0:2,1,8,1 p4.5:- p5.0:g,5,1 i1:1,1,0,0",
+    ),
+    (
+        Act::Rename("/f", "/l"),
+        WHOLE,
+        "Ok i0:2,1,8,1 p4.0:- p4.3:l,1,1 i3:- b3:false",
+    ),
+    (
+        Act::Rename("/d", "/e"),
+        WHOLE,
+        "Ok i0:2,1,8,1 p4.1:- p4.4:e,2,2 u6:FormerDirectory i4:- b4:false",
+    ),
+    (
+        Act::Rename("/d/s", "/e"),
+        WHOLE,
+        "Ok i2:2,1,1,1 p5.1:- p4.4:e,10,2 u6:FormerDirectory i4:- b4:false",
+    ),
+    (Act::Rename("/d/g", "/f"), WHOLE, "Ok"),
+    (Act::Rename("/f", "/f"), WHOLE, "Ok"),
+    (Act::Rename("/d", "/d"), WHOLE, "Ok"),
+    (Act::Rename("/e", "/d"), WHOLE, "NotEmpty"),
+    (Act::Rename("/d", "/f"), WHOLE, "NotDir"),
+    (Act::Rename("/f", "/d"), WHOLE, "IsDir"),
+    (Act::Rename("/f", "/o"), WHOLE, "NoEnt"),
+];
 
 #[test]
 fn names_are_replaced_as_worked_out_by_hand(rt: HostRuntime) -> Result<(), Fail> {
-    let rows = [
-        (
-            Act::Rename("/h", "/f"),
-            WHOLE,
-            "Ok i0:2,1,8,1 p4.5:- p4.0:f,5,1 i1:1,1,0,0",
-        ),
-        (
-            Act::Rename("/h", "/d/g"),
-            WHOLE,
-            "Ok i0:2,1,8,1 p4.5:- p5.0:g,5,1 i1:1,1,0,0",
-        ),
-        (
-            Act::Rename("/f", "/l"),
-            WHOLE,
-            "Ok i0:2,1,8,1 p4.0:- p4.3:l,1,1 i3:- b3:false",
-        ),
-        (
-            Act::Rename("/d", "/e"),
-            WHOLE,
-            "Ok i0:2,1,8,1 p4.1:- p4.4:e,2,2 u6:FormerDirectory i4:- b4:false",
-        ),
-        (
-            Act::Rename("/d/s", "/e"),
-            WHOLE,
-            "Ok i2:2,1,1,1 p5.1:- p4.4:e,10,2 u6:FormerDirectory i4:- b4:false",
-        ),
-        (Act::Rename("/d/g", "/f"), WHOLE, "Ok"),
-        (Act::Rename("/f", "/f"), WHOLE, "Ok"),
-        (Act::Rename("/d", "/d"), WHOLE, "Ok"),
-        (Act::Rename("/e", "/d"), WHOLE, "NotEmpty"),
-        (Act::Rename("/d", "/f"), WHOLE, "NotDir"),
-        (Act::Rename("/f", "/d"), WHOLE, "IsDir"),
-        (Act::Rename("/f", "/o"), WHOLE, "NoEnt"),
-    ];
-    let differing = differs(rt.alloc(), &rows)?;
+    let differing = differs(rt.alloc(), REPLACED)?;
     assert_eq!(rt; differing, None);
     Ok(())
 }
 
+// What is told where the long file is replaced, whose blocks all become free.
+const FREES_THE_LONG_FILE: &str =
+    "Ok i0:2,1,8,1 p4.0:- p4.5:h,1,1 u23:Unused u22:Unused u21:Unused u20:Unused u19:Unused u18:Unused u17:Unused u16:Unused \
+                u15:Unused u14:Unused u13:Unused u12:Unused u11:Unused u10:Unused u9:Unused u8:Unused g1:false i5:- b5:false";
+
+static MOVED_BY_WHAT_IS_AT_HAND: &[Row] = &[
+    (
+        Act::Rename("/f", "/h"),
+        (Hold::Two, true, 0),
+        FREES_THE_LONG_FILE,
+    ),
+    (Act::Rename("/f", "/h"), WHOLE, "needs 4294967297"),
+    (
+        Act::Rename("/f", "/h"),
+        (Hold::Nothing, false, 0),
+        "needs 4294967296",
+    ),
+    (
+        Act::Rename("/f", "/a"),
+        (Hold::Nothing, false, 0),
+        "Ok p4.0:a,1,1",
+    ),
+    (
+        Act::Rename("/f", "/w/a"),
+        (Hold::NoBlock, true, 0),
+        "NoDirBlock",
+    ),
+    (
+        Act::Rename("/f", "/w/a"),
+        (Hold::NoBlock, false, 0),
+        "segments",
+    ),
+    (
+        Act::Rename("/f", "/w/a"),
+        (Hold::First, true, 12884901891),
+        "clear 0",
+    ),
+    (
+        Act::Rename("/f", "/w/a"),
+        (Hold::Former, true, 12884902080),
+        "needs 12884902080",
+    ),
+    (
+        Act::Rename("/f", "/h"),
+        (Hold::First, true, 10737418245),
+        "needs 10737418245",
+    ),
+    (
+        Act::Rename("/f", "/a"),
+        (Hold::First, true, 12884901920),
+        "needs 12884901920",
+    ),
+    (
+        Act::Rename("/f", "/d/a"),
+        (Hold::First, true, 10737418242),
+        "needs 10737418242",
+    ),
+];
+
 #[test]
 fn moves_go_by_what_is_at_hand(rt: HostRuntime) -> Result<(), Fail> {
-    let long =
-        "Ok i0:2,1,8,1 p4.0:- p4.5:h,1,1 u23:Unused u22:Unused u21:Unused u20:Unused u19:Unused u18:Unused u17:Unused u16:Unused \
-                u15:Unused u14:Unused u13:Unused u12:Unused u11:Unused u10:Unused u9:Unused u8:Unused g1:false i5:- b5:false";
-    let rows = [
-        (Act::Rename("/f", "/h"), (Hold::Two, true, 0), long),
-        (Act::Rename("/f", "/h"), WHOLE, "needs 4294967297"),
-        (
-            Act::Rename("/f", "/h"),
-            (Hold::Nothing, false, 0),
-            "needs 4294967296",
-        ),
-        (
-            Act::Rename("/f", "/a"),
-            (Hold::Nothing, false, 0),
-            "Ok p4.0:a,1,1",
-        ),
-        (
-            Act::Rename("/f", "/w/a"),
-            (Hold::NoBlock, true, 0),
-            "NoDirBlock",
-        ),
-        (
-            Act::Rename("/f", "/w/a"),
-            (Hold::NoBlock, false, 0),
-            "segments",
-        ),
-        (
-            Act::Rename("/f", "/w/a"),
-            (Hold::First, true, 12884901891),
-            "clear 0",
-        ),
-        (
-            Act::Rename("/f", "/w/a"),
-            (Hold::Former, true, 12884902080),
-            "needs 12884902080",
-        ),
-        (
-            Act::Rename("/f", "/h"),
-            (Hold::First, true, 10737418245),
-            "needs 10737418245",
-        ),
-        (
-            Act::Rename("/f", "/a"),
-            (Hold::First, true, 12884901920),
-            "needs 12884901920",
-        ),
-        (
-            Act::Rename("/f", "/d/a"),
-            (Hold::First, true, 10737418242),
-            "needs 10737418242",
-        ),
-    ];
-    let differing = differs(rt.alloc(), &rows)?;
+    let differing = differs(rt.alloc(), MOVED_BY_WHAT_IS_AT_HAND)?;
     assert_eq!(rt; differing, None);
     Ok(())
 }

@@ -145,113 +145,115 @@ fn differs(alloc: Global, rows: &[Row]) -> Result<Option<(usize, String)>, NoMem
     Ok(None)
 }
 
+static SHOWN: &[Row] = &[
+    (Asked::Read("/a", 0, 5), Hold::Nothing, "Shown 68656c6c6f"),
+    (Asked::Read("/a", 0, 100), Hold::Nothing, "Shown 68656c6c6f"),
+    (Asked::Read("/a", 1, 3), Hold::Nothing, "Shown 656c6c"),
+    (Asked::Read("/a", 0, 0), Hold::Nothing, "Shown "),
+    (Asked::Read("/a", 5, 5), Hold::Nothing, "Shown "),
+    (Asked::Read("/a", 6, 0), Hold::Nothing, "BadOffset"),
+    (Asked::Read("/b", 511, 2), Hold::Nothing, "Shown 595a"),
+    (Asked::Read("/b", 598, 10), Hold::Nothing, "Shown 0045"),
+    (Asked::Read("/b", 600, 1), Hold::Nothing, "Shown "),
+    (Asked::Read("/b", 601, 1), Hold::Nothing, "BadOffset"),
+    (Asked::Read("/c", 510, 2), Hold::Nothing, "Shown 004b"),
+    (
+        Asked::Read("/c", 511, 2),
+        Hold::Nothing,
+        "needs 12884901921",
+    ),
+    (Asked::Read("/c", 1024, 0), Hold::Nothing, "Shown "),
+    (Asked::Read("/c", 4095, 2), Hold::Nothing, "Shown 4d4e"),
+    (Asked::Read("/c", 4998, 9), Hold::Nothing, "Shown 004c"),
+    (Asked::Read("/e", 0, 9), Hold::Nothing, "Shown "),
+    (Asked::Read("/g", 65535, 2), Hold::Nothing, "Shown 5051"),
+    (Asked::Read("/g", 65998, 5), Hold::Nothing, "Shown 0052"),
+    (Asked::Read("/g", 0, 1), Hold::Nothing, "needs 12884901952"),
+    (Asked::Read("/d", 0, 1), Hold::Nothing, "IsDir"),
+    (Asked::Read("/l", 0, 1), Hold::Nothing, "Inval"),
+    (Asked::Read("/n", 0, 1), Hold::Nothing, "Inval"),
+    (Asked::Read("/", 0, 1), Hold::Nothing, "IsDir"),
+    (Asked::Read("/x", 0, 1), Hold::Nothing, "NoEnt"),
+    (Asked::Read("/a/x", 0, 1), Hold::Nothing, "NotDir"),
+    (Asked::Read("/m", 0, 1), Hold::Nothing, "needs 10737418248"),
+];
+
 #[test]
 fn reads_show_the_bytes(rt: HostRuntime) -> Result<(), Fail> {
-    let rows = [
-        (Asked::Read("/a", 0, 5), Hold::Nothing, "Shown 68656c6c6f"),
-        (Asked::Read("/a", 0, 100), Hold::Nothing, "Shown 68656c6c6f"),
-        (Asked::Read("/a", 1, 3), Hold::Nothing, "Shown 656c6c"),
-        (Asked::Read("/a", 0, 0), Hold::Nothing, "Shown "),
-        (Asked::Read("/a", 5, 5), Hold::Nothing, "Shown "),
-        (Asked::Read("/a", 6, 0), Hold::Nothing, "BadOffset"),
-        (Asked::Read("/b", 511, 2), Hold::Nothing, "Shown 595a"),
-        (Asked::Read("/b", 598, 10), Hold::Nothing, "Shown 0045"),
-        (Asked::Read("/b", 600, 1), Hold::Nothing, "Shown "),
-        (Asked::Read("/b", 601, 1), Hold::Nothing, "BadOffset"),
-        (Asked::Read("/c", 510, 2), Hold::Nothing, "Shown 004b"),
-        (
-            Asked::Read("/c", 511, 2),
-            Hold::Nothing,
-            "needs 12884901921",
-        ),
-        (Asked::Read("/c", 1024, 0), Hold::Nothing, "Shown "),
-        (Asked::Read("/c", 4095, 2), Hold::Nothing, "Shown 4d4e"),
-        (Asked::Read("/c", 4998, 9), Hold::Nothing, "Shown 004c"),
-        (Asked::Read("/e", 0, 9), Hold::Nothing, "Shown "),
-        (Asked::Read("/g", 65535, 2), Hold::Nothing, "Shown 5051"),
-        (Asked::Read("/g", 65998, 5), Hold::Nothing, "Shown 0052"),
-        (Asked::Read("/g", 0, 1), Hold::Nothing, "needs 12884901952"),
-        (Asked::Read("/d", 0, 1), Hold::Nothing, "IsDir"),
-        (Asked::Read("/l", 0, 1), Hold::Nothing, "Inval"),
-        (Asked::Read("/n", 0, 1), Hold::Nothing, "Inval"),
-        (Asked::Read("/", 0, 1), Hold::Nothing, "IsDir"),
-        (Asked::Read("/x", 0, 1), Hold::Nothing, "NoEnt"),
-        (Asked::Read("/a/x", 0, 1), Hold::Nothing, "NotDir"),
-        (Asked::Read("/m", 0, 1), Hold::Nothing, "needs 10737418248"),
-    ];
-    assert_eq!(rt; differs(rt.alloc(), &rows)?, None);
+    assert_eq!(rt; differs(rt.alloc(), SHOWN)?, None);
     Ok(())
 }
 
+static FREED: &[Row] = &[
+    (Asked::Truncate("/a", 5), Hold::Nothing, "Ok"),
+    (Asked::Truncate("/a", 6), Hold::Both, "BadOffset"),
+    (
+        Asked::Truncate("/a", 3),
+        Hold::Nothing,
+        "Ok inode 1 3 1 2 0 0",
+    ),
+    (Asked::Truncate("/a", 0), Hold::Nothing, "needs 4294967296"),
+    (
+        Asked::Truncate("/a", 0),
+        Hold::First,
+        "Ok u2:Unused inode 1 0 0 0 0 0",
+    ),
+    (
+        Asked::Truncate("/c", 4097),
+        Hold::Nothing,
+        "Ok inode 5 4097 2 4 0 0",
+    ),
+    (Asked::Truncate("/c", 4096), Hold::First, "needs 4294967297"),
+    (
+        Asked::Truncate("/c", 4096),
+        Hold::Both,
+        "Ok u1030:Unused inode 5 4096 1 4 0 0",
+    ),
+    (Asked::Truncate("/c", 0), Hold::First, "needs 4294967297"),
+    (
+        Asked::Truncate("/c", 0),
+        Hold::Both,
+        "Ok u4:Unused u1030:Unused inode 5 0 0 0 0 0",
+    ),
+    (Asked::Truncate("/e", 0), Hold::Nothing, "Ok"),
+    (Asked::Truncate("/e", 1), Hold::Nothing, "BadOffset"),
+    (Asked::Truncate("/g", 66000), Hold::Nothing, "Ok"),
+    (
+        Asked::Truncate("/g", 65537),
+        Hold::Nothing,
+        "Ok inode 6 65537 16 8 23 2",
+    ),
+    (
+        Asked::Truncate("/g", 65536),
+        Hold::First,
+        "needs 4294967297",
+    ),
+    (
+        Asked::Truncate("/g", 65536),
+        Hold::Both,
+        "Ok g1:false inode 6 65536 16 8 23 0",
+    ),
+    (
+        Asked::Truncate("/g", 61440),
+        Hold::Nothing,
+        "needs 4294967296",
+    ),
+    (
+        Asked::Truncate("/g", 61440),
+        Hold::Both,
+        "Ok u23:Unused g1:false inode 6 61440 15 8 0 0",
+    ),
+    (Asked::Truncate("/d", 0), Hold::Both, "IsDir"),
+    (Asked::Truncate("/l", 0), Hold::Both, "Inval"),
+    (Asked::Truncate("/n", 0), Hold::Both, "Inval"),
+    (Asked::Truncate("/", 0), Hold::Both, "IsDir"),
+    (Asked::Truncate("/x", 0), Hold::Both, "NoEnt"),
+    (Asked::Truncate("/a/x", 0), Hold::Both, "NotDir"),
+    (Asked::Truncate("/m", 0), Hold::Both, "needs 10737418248"),
+];
+
 #[test]
 fn truncates_free_what_is_past_the_end(rt: HostRuntime) -> Result<(), Fail> {
-    let rows = [
-        (Asked::Truncate("/a", 5), Hold::Nothing, "Ok"),
-        (Asked::Truncate("/a", 6), Hold::Both, "BadOffset"),
-        (
-            Asked::Truncate("/a", 3),
-            Hold::Nothing,
-            "Ok inode 1 3 1 2 0 0",
-        ),
-        (Asked::Truncate("/a", 0), Hold::Nothing, "needs 4294967296"),
-        (
-            Asked::Truncate("/a", 0),
-            Hold::First,
-            "Ok u2:Unused inode 1 0 0 0 0 0",
-        ),
-        (
-            Asked::Truncate("/c", 4097),
-            Hold::Nothing,
-            "Ok inode 5 4097 2 4 0 0",
-        ),
-        (Asked::Truncate("/c", 4096), Hold::First, "needs 4294967297"),
-        (
-            Asked::Truncate("/c", 4096),
-            Hold::Both,
-            "Ok u1030:Unused inode 5 4096 1 4 0 0",
-        ),
-        (Asked::Truncate("/c", 0), Hold::First, "needs 4294967297"),
-        (
-            Asked::Truncate("/c", 0),
-            Hold::Both,
-            "Ok u4:Unused u1030:Unused inode 5 0 0 0 0 0",
-        ),
-        (Asked::Truncate("/e", 0), Hold::Nothing, "Ok"),
-        (Asked::Truncate("/e", 1), Hold::Nothing, "BadOffset"),
-        (Asked::Truncate("/g", 66000), Hold::Nothing, "Ok"),
-        (
-            Asked::Truncate("/g", 65537),
-            Hold::Nothing,
-            "Ok inode 6 65537 16 8 23 2",
-        ),
-        (
-            Asked::Truncate("/g", 65536),
-            Hold::First,
-            "needs 4294967297",
-        ),
-        (
-            Asked::Truncate("/g", 65536),
-            Hold::Both,
-            "Ok g1:false inode 6 65536 16 8 23 0",
-        ),
-        (
-            Asked::Truncate("/g", 61440),
-            Hold::Nothing,
-            "needs 4294967296",
-        ),
-        (
-            Asked::Truncate("/g", 61440),
-            Hold::Both,
-            "Ok u23:Unused g1:false inode 6 61440 15 8 0 0",
-        ),
-        (Asked::Truncate("/d", 0), Hold::Both, "IsDir"),
-        (Asked::Truncate("/l", 0), Hold::Both, "Inval"),
-        (Asked::Truncate("/n", 0), Hold::Both, "Inval"),
-        (Asked::Truncate("/", 0), Hold::Both, "IsDir"),
-        (Asked::Truncate("/x", 0), Hold::Both, "NoEnt"),
-        (Asked::Truncate("/a/x", 0), Hold::Both, "NotDir"),
-        (Asked::Truncate("/m", 0), Hold::Both, "needs 10737418248"),
-    ];
-    assert_eq!(rt; differs(rt.alloc(), &rows)?, None);
+    assert_eq!(rt; differs(rt.alloc(), FREED)?, None);
     Ok(())
 }

@@ -116,182 +116,184 @@ fn differs(alloc: Global, rows: &[Row]) -> Result<Option<(usize, String)>, NoMem
     Ok(None)
 }
 
+static WRITTEN: &[Row] = &[
+    (
+        Asked::Write("/a", 1, "XY"),
+        Hold::Nothing,
+        false,
+        "Ok 2.0 6158596465(00*507)",
+    ),
+    (
+        Asked::Write("/a", 0, "vwxyz"),
+        Hold::Nothing,
+        false,
+        "Ok 2.0 767778797a(00*507)",
+    ),
+    (
+        Asked::Write("/a", 5, "ff"),
+        Hold::Nothing,
+        false,
+        "Ok inode 1 7 1 2 0 0 2.0 61626364656666(00*505)",
+    ),
+    (
+        Asked::Write("/a", 6, "x"),
+        Hold::Nothing,
+        false,
+        "BadOffset",
+    ),
+    (Asked::Write("/a", 5, ""), Hold::Nothing, false, "Ok"),
+    (
+        Asked::Write("/e", 0, "hi"),
+        Hold::Few,
+        false,
+        "Ok u4:FileBytes inode 2 2 1 4 0 0 4.0 6869(00*510)",
+    ),
+    (
+        Asked::Write("/e", 0, "hi"),
+        Hold::Nothing,
+        false,
+        "segments",
+    ),
+    (Asked::Write("/e", 0, "hi"), Hold::Full, false, "segments"),
+    (
+        Asked::Write("/e", 0, "hi"),
+        Hold::Full,
+        true,
+        "NoBlock { m: 2 }",
+    ),
+    (Asked::Write("/e", 1, "hi"), Hold::Few, false, "BadOffset"),
+    (Asked::Write("/d", 0, "x"), Hold::Few, false, "IsDir"),
+    (Asked::Write("/", 0, "x"), Hold::Few, false, "IsDir"),
+    (Asked::Write("/l", 0, "x"), Hold::Few, false, "Inval"),
+    (Asked::Write("/z", 0, "x"), Hold::Few, false, "NoEnt"),
+    (Asked::Write("/f", 0, "x"), Hold::Few, false, "NoEnt"),
+    (Asked::Write("/a/b", 0, "x"), Hold::Few, false, "NotDir"),
+    (
+        Asked::Write("/m", 0, "x"),
+        Hold::Few,
+        false,
+        "needs 10737418246",
+    ),
+    (Asked::Write("/x", 0, "x"), Hold::Few, false, "Inval"),
+    (
+        Asked::Write("/g", 65_536, "AB"),
+        Hold::Nothing,
+        false,
+        "Ok large 3.0 4142(00*510)",
+    ),
+    (
+        Asked::Write("/g", 65_537, "B"),
+        Hold::Nothing,
+        false,
+        "Ok large 3.0 7942(07*510)",
+    ),
+    (
+        Asked::Write("/g", 65_538, "C"),
+        Hold::Nothing,
+        false,
+        "Ok inode 5 65539 16 16 31 4 large 3.0 797a43(07*509)",
+    ),
+    (
+        Asked::Write("/k", 65_536, "Q"),
+        Hold::Few,
+        false,
+        "Ok g0:true inode 8 65537 16 32 47 1 large 0.0 51(00*511)",
+    ),
+    (Asked::Write("/k", 65_536, "Q"), Hold::Full, true, "NoLarge"),
+    (
+        Asked::Write("/k", 65_536, "Q"),
+        Hold::Full,
+        false,
+        "segments",
+    ),
+    (
+        Asked::Write("/k", 65_535, "Q"),
+        Hold::Full,
+        false,
+        "needs 12884902271",
+    ),
+];
+
 #[test]
 fn writes_to_a_small_disk(rt: HostRuntime) -> Result<(), Fail> {
-    let rows = [
-        (
-            Asked::Write("/a", 1, "XY"),
-            Hold::Nothing,
-            false,
-            "Ok 2.0 6158596465(00*507)",
-        ),
-        (
-            Asked::Write("/a", 0, "vwxyz"),
-            Hold::Nothing,
-            false,
-            "Ok 2.0 767778797a(00*507)",
-        ),
-        (
-            Asked::Write("/a", 5, "ff"),
-            Hold::Nothing,
-            false,
-            "Ok inode 1 7 1 2 0 0 2.0 61626364656666(00*505)",
-        ),
-        (
-            Asked::Write("/a", 6, "x"),
-            Hold::Nothing,
-            false,
-            "BadOffset",
-        ),
-        (Asked::Write("/a", 5, ""), Hold::Nothing, false, "Ok"),
-        (
-            Asked::Write("/e", 0, "hi"),
-            Hold::Few,
-            false,
-            "Ok u4:FileBytes inode 2 2 1 4 0 0 4.0 6869(00*510)",
-        ),
-        (
-            Asked::Write("/e", 0, "hi"),
-            Hold::Nothing,
-            false,
-            "segments",
-        ),
-        (Asked::Write("/e", 0, "hi"), Hold::Full, false, "segments"),
-        (
-            Asked::Write("/e", 0, "hi"),
-            Hold::Full,
-            true,
-            "NoBlock { m: 2 }",
-        ),
-        (Asked::Write("/e", 1, "hi"), Hold::Few, false, "BadOffset"),
-        (Asked::Write("/d", 0, "x"), Hold::Few, false, "IsDir"),
-        (Asked::Write("/", 0, "x"), Hold::Few, false, "IsDir"),
-        (Asked::Write("/l", 0, "x"), Hold::Few, false, "Inval"),
-        (Asked::Write("/z", 0, "x"), Hold::Few, false, "NoEnt"),
-        (Asked::Write("/f", 0, "x"), Hold::Few, false, "NoEnt"),
-        (Asked::Write("/a/b", 0, "x"), Hold::Few, false, "NotDir"),
-        (
-            Asked::Write("/m", 0, "x"),
-            Hold::Few,
-            false,
-            "needs 10737418246",
-        ),
-        (Asked::Write("/x", 0, "x"), Hold::Few, false, "Inval"),
-        (
-            Asked::Write("/g", 65_536, "AB"),
-            Hold::Nothing,
-            false,
-            "Ok large 3.0 4142(00*510)",
-        ),
-        (
-            Asked::Write("/g", 65_537, "B"),
-            Hold::Nothing,
-            false,
-            "Ok large 3.0 7942(07*510)",
-        ),
-        (
-            Asked::Write("/g", 65_538, "C"),
-            Hold::Nothing,
-            false,
-            "Ok inode 5 65539 16 16 31 4 large 3.0 797a43(07*509)",
-        ),
-        (
-            Asked::Write("/k", 65_536, "Q"),
-            Hold::Few,
-            false,
-            "Ok g0:true inode 8 65537 16 32 47 1 large 0.0 51(00*511)",
-        ),
-        (Asked::Write("/k", 65_536, "Q"), Hold::Full, true, "NoLarge"),
-        (
-            Asked::Write("/k", 65_536, "Q"),
-            Hold::Full,
-            false,
-            "segments",
-        ),
-        (
-            Asked::Write("/k", 65_535, "Q"),
-            Hold::Full,
-            false,
-            "needs 12884902271",
-        ),
-    ];
-    assert_eq!(rt; differs(rt.alloc(), &rows)?, None);
+    assert_eq!(rt; differs(rt.alloc(), WRITTEN)?, None);
     Ok(())
 }
 
+static FILLED: &[Row] = &[
+    (
+        Asked::Fill("/e", 0, 513, 5),
+        Hold::Few,
+        false,
+        "Ok u4:FileBytes inode 2 513 1 4 0 0 4.0 (05*512) 4.1 05(00*511)",
+    ),
+    (
+        Asked::Fill("/e", 0, 4097, 5),
+        Hold::Few,
+        false,
+        "Ok u4:FileBytes u6:FileBytes inode 2 4097 2 4 0 0 4.0 (05*512) 4.1 (05*512) 4.2 (05*512) 4.3 \
+         (05*512) 4.4 (05*512) 4.5 (05*512) 4.6 (05*512) 4.7 (05*512) 6.0 05(00*511)",
+    ),
+    (
+        Asked::Fill("/e", 0, 12_289, 5),
+        Hold::Few,
+        true,
+        "NoBlock { m: 2 }",
+    ),
+    (
+        Asked::Fill("/e", 0, 12_289, 5),
+        Hold::Few,
+        false,
+        "segments",
+    ),
+    (
+        Asked::Fill("/a", 5, 1_114_107, 0),
+        Hold::Nothing,
+        false,
+        "segments",
+    ),
+    (
+        Asked::Fill("/a", 5, 1_114_108, 0),
+        Hold::Nothing,
+        false,
+        "TooBig",
+    ),
+    (
+        Asked::Fill("/a", 5, u32::MAX, 0),
+        Hold::Nothing,
+        false,
+        "TooBig",
+    ),
+    (
+        Asked::Fill("/a", 6, u32::MAX, 0),
+        Hold::Nothing,
+        false,
+        "BadOffset",
+    ),
+    (
+        Asked::Fill("/a", 4, 600, 9),
+        Hold::Nothing,
+        false,
+        "Ok inode 1 604 1 2 0 0 2.0 61626364(09*508) 2.1 (09*92)(00*420)",
+    ),
+    (
+        Asked::Fill("/a", 1, 3, 7),
+        Hold::Nothing,
+        false,
+        "Ok 2.0 6107070765(00*507)",
+    ),
+    (Asked::Fill("/a", 0, 0, 7), Hold::Nothing, false, "Ok"),
+    (
+        Asked::Fill("/k", 65_536, 1, 8),
+        Hold::Few,
+        false,
+        "Ok g0:true inode 8 65537 16 32 47 1 large 0.0 08(00*511)",
+    ),
+    (Asked::Fill("/d", 0, 0, 8), Hold::Few, false, "IsDir"),
+];
+
 #[test]
 fn fills_of_a_small_disk(rt: HostRuntime) -> Result<(), Fail> {
-    let rows = [
-        (
-            Asked::Fill("/e", 0, 513, 5),
-            Hold::Few,
-            false,
-            "Ok u4:FileBytes inode 2 513 1 4 0 0 4.0 (05*512) 4.1 05(00*511)",
-        ),
-        (
-            Asked::Fill("/e", 0, 4097, 5),
-            Hold::Few,
-            false,
-            "Ok u4:FileBytes u6:FileBytes inode 2 4097 2 4 0 0 4.0 (05*512) 4.1 (05*512) 4.2 (05*512) 4.3 \
-             (05*512) 4.4 (05*512) 4.5 (05*512) 4.6 (05*512) 4.7 (05*512) 6.0 05(00*511)",
-        ),
-        (
-            Asked::Fill("/e", 0, 12_289, 5),
-            Hold::Few,
-            true,
-            "NoBlock { m: 2 }",
-        ),
-        (
-            Asked::Fill("/e", 0, 12_289, 5),
-            Hold::Few,
-            false,
-            "segments",
-        ),
-        (
-            Asked::Fill("/a", 5, 1_114_107, 0),
-            Hold::Nothing,
-            false,
-            "segments",
-        ),
-        (
-            Asked::Fill("/a", 5, 1_114_108, 0),
-            Hold::Nothing,
-            false,
-            "TooBig",
-        ),
-        (
-            Asked::Fill("/a", 5, u32::MAX, 0),
-            Hold::Nothing,
-            false,
-            "TooBig",
-        ),
-        (
-            Asked::Fill("/a", 6, u32::MAX, 0),
-            Hold::Nothing,
-            false,
-            "BadOffset",
-        ),
-        (
-            Asked::Fill("/a", 4, 600, 9),
-            Hold::Nothing,
-            false,
-            "Ok inode 1 604 1 2 0 0 2.0 61626364(09*508) 2.1 (09*92)(00*420)",
-        ),
-        (
-            Asked::Fill("/a", 1, 3, 7),
-            Hold::Nothing,
-            false,
-            "Ok 2.0 6107070765(00*507)",
-        ),
-        (Asked::Fill("/a", 0, 0, 7), Hold::Nothing, false, "Ok"),
-        (
-            Asked::Fill("/k", 65_536, 1, 8),
-            Hold::Few,
-            false,
-            "Ok g0:true inode 8 65537 16 32 47 1 large 0.0 08(00*511)",
-        ),
-        (Asked::Fill("/d", 0, 0, 8), Hold::Few, false, "IsDir"),
-    ];
-    assert_eq!(rt; differs(rt.alloc(), &rows)?, None);
+    assert_eq!(rt; differs(rt.alloc(), FILLED)?, None);
     Ok(())
 }

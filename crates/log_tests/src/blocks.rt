@@ -1,0 +1,42 @@
+// Blocks of a log, field by field.
+use frang_base::Block;
+use frang_base::limits::{LOG_BODY_BYTES, LOG_SECTORS, SECTOR_BYTES};
+
+/// A part of a record as an older program wrote it, with these bytes in its body, as many as there is room for.
+pub(crate) fn part_block(number: u64, op: u64, part: u16, parts: u16, bytes: &[u8]) -> Block {
+    let used = bytes.len().min(LOG_BODY_BYTES);
+    let mut block = [0; SECTOR_BYTES];
+    block[..8].copy_from_slice(&number.to_le_bytes());
+    block[8..16].copy_from_slice(&op.to_le_bytes());
+    block[16..18].copy_from_slice(&part.to_le_bytes());
+    block[18..20].copy_from_slice(&parts.to_le_bytes());
+    block[20..22].copy_from_slice(&(used as u16).to_le_bytes());
+    block[24..24 + used].copy_from_slice(&bytes[..used]);
+    block
+}
+
+/// A packed sector with these bytes in its body, as many as there is room for, of which the first frame begins at this place.
+pub(crate) fn packed_block(number: u64, begins: u16, bytes: &[u8]) -> Block {
+    part_block(number, 0, begins, 65_535, bytes)
+}
+
+/// The empty sector of this number.
+pub(crate) fn empty_block(number: u64) -> Block {
+    if number < LOG_SECTORS {
+        [0; SECTOR_BYTES]
+    } else {
+        part_block(number, 0, 0, 0, &[])
+    }
+}
+
+/// Puts a block into a slot, where there is one.
+pub(crate) fn put(slots: &mut [Block], slot: usize, block: Block) {
+    if let Some(place) = slots.get_mut(slot) {
+        *place = block;
+    }
+}
+
+/// The slot of a number.
+pub(crate) fn slot_of(number: u64) -> usize {
+    (number % LOG_SECTORS) as usize
+}

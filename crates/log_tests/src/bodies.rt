@@ -1,0 +1,130 @@
+// The bodies of records worked out by hand, and for each rule a neighbour that breaks it alone.
+use frang_base::{NoMemory, OpNo, Sector};
+use log_record::{decode, encode};
+use std::alloc::Global;
+use std::test::Fail;
+
+// Two changes. Sector 5 becomes version 3, bytes 8 and 9 become 1 and 0 and byte 16 becomes 7; sector 258 becomes version 2^56, and
+// byte 511 becomes 9.
+const BODY: [u8; 54] = [
+    2, 0, 5, 0, 0, 0, 0, 0, 0, 0, 3, 0, 0, 0, 0, 0, 0, 0, 2, 0, 8, 0, 2, 0, 1, 0, 16, 0, 1, 0, 7,
+    2, 1, 0, 0, 0, 0, 0, 0, 0, 0, 0, 0, 0, 0, 0, 1, 1, 0, 255, 1, 1, 0, 9,
+];
+
+// The first bytes of the body, zeros where there are no more, and these bytes put at their places.
+fn edited(alloc: Global, len: usize, edits: &[(usize, u8)]) -> Result<Vec<u8>, NoMemory> {
+    let mut bytes = Vec::new(alloc);
+    bytes.extend_from_slice(&BODY)?;
+    bytes.resize(len, 0)?;
+    for (at, byte) in edits {
+        if let Some(place) = bytes.get_mut(*at) {
+            *place = *byte;
+        }
+    }
+    Ok(bytes)
+}
+
+// So many changes of a patch each, of sectors from 0 on, each with so many bytes, and the last with more.
+fn long(alloc: Global, count: u8, len: u16, more: u16) -> Result<Vec<u8>, NoMemory> {
+    let mut bytes = Vec::new(alloc);
+    bytes.extend_from_slice(&[count, 0])?;
+    for sector in 0..count {
+        let len = len.saturating_add(if sector.saturating_add(1) == count {
+            more
+        } else {
+            0
+        });
+        bytes.extend_from_slice(&[sector, 0, 0, 0, 0, 0, 0, 0])?;
+        bytes.extend_from_slice(&[1, 0, 0, 0, 0, 0, 0, 0, 1, 0, 8, 0])?;
+        bytes.extend_from_slice(&len.to_le_bytes())?;
+        for _ in 0..len {
+            bytes.push(sector)?;
+        }
+    }
+    Ok(bytes)
+}
+
+// The bytes as a record, written again.
+fn again(alloc: Global, bytes: &[u8]) -> Result<Option<Vec<u8>>, NoMemory> {
+    let Some(redo) = decode(alloc, bytes)? else {
+        return Ok(None);
+    };
+    Ok(Some(encode(alloc, &redo)?))
+}
+
+#[test]
+fn bodies_are_read_and_written_as_worked_out_by_hand(rt: HostRuntime) -> Result<(), Fail> {
+    let rows = [
+        ("as it is", 54, [].as_slice(), true),
+        ("no bytes", 0, [].as_slice(), false),
+        ("half a number", 1, [].as_slice(), false),
+        ("no changes", 2, [(0, 0)].as_slice(), false),
+        ("one change", 31, [(0, 1)].as_slice(), true),
+        ("a change too few", 54, [(0, 3)].as_slice(), false),
+        ("a byte left over", 55, [].as_slice(), false),
+        ("a byte cut off", 53, [].as_slice(), false),
+        (
+            "the sector before",
+            54,
+            [(31, 4), (32, 0)].as_slice(),
+            false,
+        ),
+        ("the same sector", 54, [(31, 5), (32, 0)].as_slice(), false),
+        ("the next sector", 54, [(31, 6), (32, 0)].as_slice(), true),
+        ("the last sector", 54, [(37, 127)].as_slice(), true),
+        ("no sector", 54, [(37, 128)].as_slice(), false),
+        ("no patches", 49, [(47, 0)].as_slice(), false),
+        ("in the version", 54, [(20, 7)].as_slice(), false),
+        ("touching", 54, [(26, 10)].as_slice(), true),
+        ("overlapping", 54, [(26, 9)].as_slice(), false),
+        ("descending patches", 54, [(20, 20)].as_slice(), false),
+        ("a patch of no bytes", 53, [(51, 0)].as_slice(), false),
+        ("up to the end", 55, [(49, 254), (51, 2)].as_slice(), true),
+        ("past the end", 55, [(51, 2)].as_slice(), false),
+        ("behind the end", 54, [(49, 0), (50, 2)].as_slice(), false),
+    ];
+    for (what, len, edits, read) in rows {
+        let bytes = edited(rt.alloc(), len, edits)?;
+        let written = again(rt.alloc(), &bytes)?;
+        assert_eq!(rt; written, read.then_some(bytes), "{what}");
+    }
+    let rows = [
+        (32, 1, 0, 738, true),
+        (33, 1, 0, 761, false),
+        (8, 489, 6, 4_096, true),
+        (8, 489, 7, 4_097, false),
+    ];
+    for (count, len, more, all, read) in rows {
+        let bytes = long(rt.alloc(), count, len, more)?;
+        assert_eq!(rt; bytes.len(), all);
+        let written = again(rt.alloc(), &bytes)?;
+        assert_eq!(rt;
+            written,
+            read.then_some(bytes),
+            "{count} changes, {all} bytes"
+        );
+    }
+    Ok(())
+}
+
+#[test]
+fn fields_stand_at_their_places(rt: HostRuntime) -> Result<(), Fail> {
+    let redo = decode(rt.alloc(), &BODY)?.expect(&rt, "a record");
+    assert_eq!(rt; redo.op, OpNo(0));
+    let changes = redo.changes.into_vec();
+    let [first, second] = changes.as_slice() else {
+        panic!(rt; "not two changes");
+    };
+    assert_eq!(rt; (first.sector, first.version), (Sector(5), 3));
+    assert_eq!(rt; (second.sector, second.version), (Sector(258), 1 << 56));
+    let [one, other] = first.patches.as_slice() else {
+        panic!(rt; "not two patches");
+    };
+    assert_eq!(rt; (one.at, one.bytes.as_slice()), (8, [1, 0].as_slice()));
+    assert_eq!(rt; (other.at, other.bytes.as_slice()), (16, [7].as_slice()));
+    let [last] = second.patches.as_slice() else {
+        panic!(rt; "not one patch");
+    };
+    assert_eq!(rt; (last.at, last.bytes.as_slice()), (511, [9].as_slice()));
+    Ok(())
+}

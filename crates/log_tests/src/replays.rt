@@ -1,0 +1,188 @@
+// Disks with logs whose replay was worked out by hand.
+use crate::blocks::{packed_block, part_block};
+use disk_definitions::Disk;
+use disk_replay::{greatest, replayed};
+use frang_base::{Block, NoMemory, OpNo, Sector, ServerId};
+use std::alloc::Global;
+use std::test::Fail;
+
+const PARAMETERS: u64 = 0;
+
+const LOG_0: u64 = 2_147_483_648;
+
+const LOG_255: u64 = 4_286_578_688;
+
+const SEGMENT_0: u64 = 4_294_967_296;
+
+const SEGMENT_16: u64 = 4_294_967_312;
+
+const INODE_1: u64 = 10_737_418_241;
+
+const INODE_2: u64 = 10_737_418_242;
+
+const BLOCK_0: u64 = 12_884_901_888;
+
+const LARGE_0: u64 = 287_762_808_832;
+
+// The first bytes of a sector, with zeros behind them.
+type Row = (u64, &'static [u8]);
+
+// A change by one patch of one byte: the sector, the version, the byte's place and its value.
+type OneByte = (u64, u64, u16, u8);
+
+// A disk of 16 segments in its first run: the sectors that are set, but for the logs.
+static BEFORE: [Row; 5] = [
+    (PARAMETERS, b"FRANGPAR\x01\0\0\0\x10\0\0\0\x01"),
+    (SEGMENT_0, b"\x01\0\0\0\0\0\0\0\x05\x06"),
+    (INODE_1, b"\x01\0\0\0\0\0\0\0\x01\x02\x03\x04"),
+    (INODE_2, b"\x05\0\0\0\0\0\0\0\x07"),
+    (LARGE_0, b"bytes"),
+];
+
+// The first record of log 0. Replays change its third, fifth and seventh sector, but the sixth is as new.
+static MANY: [OneByte; 8] = [
+    (PARAMETERS, u64::MAX, 16, 2),
+    (LOG_0 + 9, 9, 8, 1),
+    (SEGMENT_0, 2, 8, 0x20),
+    (SEGMENT_16, 9, 8, 1),
+    (INODE_1, 2, 8, 0x21),
+    (INODE_2, 5, 8, 1),
+    (BLOCK_0, 1, 511, 0x22),
+    (LARGE_0, u64::MAX, 8, 1),
+];
+
+// What those sectors and the logs hold once all is replayed. Inode 1 was changed by three records, in their order.
+static AFTER: [Row; 10] = [
+    (PARAMETERS, b"FRANGPAR\x01\0\0\0\x10\0\0\0\x01"),
+    (LOG_0, b""),
+    (LOG_0 + 1, b""),
+    (LOG_0 + 9, b""),
+    (LOG_255, b""),
+    (SEGMENT_0, b"\x02\0\0\0\0\0\0\0\x20\x06"),
+    (SEGMENT_16, b""),
+    (INODE_1, b"\x04\0\0\0\0\0\0\0\x21\x23\x24\x04"),
+    (INODE_2, b"\x05\0\0\0\0\0\0\0\x07"),
+    (LARGE_0, b"bytes"),
+];
+
+fn block_of(bytes: &[u8]) -> Block {
+    let mut block = [0; 512];
+    for (there, byte) in block.iter_mut().zip(bytes) {
+        *there = *byte;
+    }
+    block
+}
+
+// The body of a record of these changes, fewer than 256.
+fn body(alloc: Global, changes: &[OneByte]) -> Result<Vec<u8>, NoMemory> {
+    let mut bytes = Vec::new(alloc);
+    bytes.extend_from_slice(&[changes.len().min(255) as u8, 0])?;
+    for (sector, version, place, byte) in changes {
+        bytes.extend_from_slice(&sector.to_le_bytes())?;
+        bytes.extend_from_slice(&version.to_le_bytes())?;
+        bytes.extend_from_slice(&[1, 0])?;
+        bytes.extend_from_slice(&place.to_le_bytes())?;
+        bytes.extend_from_slice(&[1, 0, *byte])?;
+    }
+    Ok(bytes)
+}
+
+// The record of an operation, alone in the sector of a log with this number.
+fn record(alloc: Global, number: u64, op: u64, changes: &[OneByte]) -> Result<Block, NoMemory> {
+    let body = body(alloc, changes)?;
+    Ok(part_block(number, op, 0, 1, &body))
+}
+
+// The disk with two records in log 0 and one in log 255, as an older program wrote them.
+fn with_logs(alloc: Global) -> Result<Disk, NoMemory> {
+    let mut disk = Disk::new(alloc);
+    for (sector, bytes) in &BEFORE {
+        disk.set(Sector(*sector), block_of(bytes))?;
+    }
+    disk.set(Sector(LOG_0), record(alloc, 256, 5, &MANY)?)?;
+    let second = record(alloc, 257, 4, &[(INODE_1, 3, 9, 0x23)])?;
+    disk.set(Sector(LOG_0 + 1), second)?;
+    let other = record(alloc, 256, 9, &[(INODE_1, 4, 10, 0x24)])?;
+    disk.set(Sector(LOG_255), other)?;
+    Ok(disk)
+}
+
+// The frame of a record.
+fn push_frame(
+    alloc: Global,
+    bytes: &mut Vec<u8>,
+    op: u64,
+    changes: &[OneByte],
+) -> Result<(), NoMemory> {
+    let body = body(alloc, changes)?;
+    bytes.extend_from_slice(&op.to_le_bytes())?;
+    bytes.extend_from_slice(&(body.len().min(4096) as u16).to_le_bytes())?;
+    bytes.extend_from_slice(&body)?;
+    Ok(())
+}
+
+// The same disk, the records of log 0 packed in one sector.
+fn with_packed_log(alloc: Global) -> Result<Disk, NoMemory> {
+    let mut disk = with_logs(alloc)?;
+    let mut bytes = Vec::new(alloc);
+    push_frame(alloc, &mut bytes, 5, &MANY)?;
+    push_frame(alloc, &mut bytes, 4, &[(INODE_1, 3, 9, 0x23)])?;
+    disk.set(Sector(LOG_0), packed_block(256, 0, &bytes))?;
+    disk.set(Sector(LOG_0 + 1), [0; 512])?;
+    Ok(disk)
+}
+
+// The first of the sectors that isn't as in its row.
+fn first_other(disk: &Disk, rows: &[Row]) -> Option<u64> {
+    for (sector, bytes) in rows {
+        if disk.get(Sector(*sector)) != block_of(bytes) {
+            return Some(*sector);
+        }
+    }
+    None
+}
+
+// The greatest operations of the disk's logs and what its replay, and the replay of that, hold are as worked out.
+fn is_replayed(alloc: Global, disk: &Disk) -> Result<bool, NoMemory> {
+    for (server, op) in [(0, 5), (7, 0), (255, 9)] {
+        if greatest(alloc, disk, ServerId(server))? != OpNo(op) {
+            return Ok(false);
+        }
+    }
+    let once = replayed(alloc, disk)?;
+    let twice = replayed(alloc, &once)?;
+    let block = once.get(Sector(BLOCK_0));
+    Ok(
+        first_other(&once, &AFTER).is_none()
+            && first_other(&twice, &AFTER).is_none()
+            && block[..8] == [1, 0, 0, 0, 0, 0, 0, 0]
+            && block[511] == 0x22
+            && twice.get(Sector(BLOCK_0)) == block
+            && greatest(alloc, &once, ServerId(0))? == OpNo(0),
+    )
+}
+
+#[test]
+fn logs_are_replayed_in_their_order(rt: HostRuntime) -> Result<(), Fail> {
+    let older = with_logs(rt.alloc())?;
+    assert!(rt; is_replayed(rt.alloc(), &older)?, "an older program's");
+    let packed = with_packed_log(rt.alloc())?;
+    assert!(rt; is_replayed(rt.alloc(), &packed)?, "packed");
+    Ok(())
+}
+
+#[test]
+fn without_parameters_no_change_is_made(rt: HostRuntime) -> Result<(), Fail> {
+    let mut disk = with_logs(rt.alloc())?;
+    disk.set(Sector(PARAMETERS), block_of(b"FRANGPAR\x02"))?;
+    let once = replayed(rt.alloc(), &disk)?;
+    assert_eq!(rt; first_other(&once, &BEFORE[1..]), None);
+    let rows = [
+        (PARAMETERS, b"FRANGPAR\x02".as_slice()),
+        (LOG_0, b"".as_slice()),
+        (LOG_255, b"".as_slice()),
+        (BLOCK_0, b"".as_slice()),
+    ];
+    assert_eq!(rt; first_other(&once, &rows), None);
+    Ok(())
+}

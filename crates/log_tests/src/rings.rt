@@ -1,0 +1,306 @@
+// A run of a ring worked out by hand: what each call answers, and what is then reached, free and named.
+ghost use Rattle.std.specs.Prelude.{◌≡◌, ◌<◌, ◌≤◌, ◌^◌, length, true, IfOk, IsTrue};
+ghost use Rattle.sector_bytes.specs.Changes.{is_change};
+ghost use Rattle.log_definitions.specs.Records.{change_bytes};
+ghost use Rattle.ring_definitions.specs.Rings as rings;
+ghost use Rattle.ring_definitions.specs.Rings.{is_record};
+
+use frang_base::{Change, Changes, NoMemory, OpNo, Patch, Patches, Redo, Sector, Text};
+use log_record::{LogSector, sector_read};
+use std::alloc::Global;
+use std::test::Fail;
+use wal_ring::{Ring, RingFault};
+
+// A ring, with the last numbers that were issued and given, by which its calls are allowed.
+#[derive(Drop)]
+struct Run {
+    ring: Ring,
+    sent: u64,
+    last: u64,
+    ghost numbers: { (sent ≡ rings.sent ring.ring) × (last ≡ rings.last ring.ring) },
+}
+
+// What is done with a ring.
+#[derive(Clone, Copy)]
+enum Step<'a> {
+    // A record of this operation names this sector, in this version, and the one behind it, in version 1, each with so many bytes.
+    Append(u64, u64, u64, usize),
+    // A record of so many bytes is appended again and again, until it is refused.
+    Fill(usize),
+    Room,
+    Issue,
+    // Sectors are issued until none may be.
+    IssueAll,
+    Acknowledge(u64),
+    Oldest,
+    Reclaim(&'a [(Sector, u64)]),
+}
+
+impl Run {
+    // Makes room for a record and appends it, which then takes no memory.
+    fn append(&mut self, redo: &Redo) -> Result<u64, RingFault>
+        requires { IsTrue (is_record redo.now) }
+    {
+        if self.last >= 1 << 62 {
+            return Err(RingFault::NoMemory);
+        }
+        self.ring.reserve(redo)?;
+        match self.ring.append(redo) {
+            Ok(number) => {
+                self.last = number;
+                Ok(number)
+            }
+            Err(_) => unreachable!(),
+        }
+    }
+
+    fn fill(&mut self, redo: &Redo) -> Result<u64, RingFault>
+        requires { IsTrue (is_record redo.now) }
+    {
+        for _ in 0..2000 {
+            self.append(redo)?;
+        }
+        Ok(0)
+    }
+
+    fn issue(&mut self) -> Option<LogSector> {
+        let (seq, block) = self.ring.next_sector()?;
+        self.ring.issued(seq);
+        self.sent = seq;
+        sector_read(&block, (seq % 256) as u8)
+    }
+
+    // The last number that is issued.
+    fn issue_all(&mut self) -> u64 {
+        for _ in 0..200 {
+            if self.issue().is_none() {
+                break;
+            }
+        }
+        self.sent
+    }
+
+    // What is then reached.
+    fn acked(&mut self, seq: u64) -> Option<u64> {
+        if seq > self.sent {
+            return None;
+        }
+        self.ring.acked(seq);
+        Some(self.ring.reached())
+    }
+
+    // What the step answers, in words.
+    fn answer(&mut self, alloc: Global, step: Step) -> Result<String, NoMemory> {
+        let small = record_of(alloc, 1, 1, 1, 1)?;
+        Ok(match step {
+            Step::Append(op, sector, version, len) => {
+                let redo = record_of(alloc, op, sector, version, len)?;
+                format!(in alloc; "{:?}", self.append(&redo))?
+            }
+            Step::Fill(len) => {
+                let redo = record_of(alloc, 1, 1, 1, len)?;
+                format!(in alloc; "{:?}", self.fill(&redo))?
+            }
+            Step::Room => format!(in alloc; "{:?}", self.ring.room(&small)?)?,
+            Step::Issue => match self.issue() {
+                Some(x) => words(alloc, &x)?,
+                None => format!(in alloc; "none")?,
+            },
+            Step::IssueAll => format!(in alloc; "{:?}", self.issue_all())?,
+            Step::Acknowledge(seq) => format!(in alloc; "{:?}", self.acked(seq))?,
+            Step::Oldest => format!(in alloc; "{:?}", self.ring.oldest()?)?,
+            Step::Reclaim(disk) => format!(in alloc; "{:?}", self.ring.reclaim(disk))?,
+        })
+    }
+}
+
+// The number of a packed sector, the place where the first frame begins in it and how many bytes it uses.
+fn words(alloc: Global, x: &LogSector) -> Result<String, NoMemory> {
+    let (seq, op) = (x.seq, x.op.0);
+    let (part, parts, used) = (x.part, x.parts, x.used);
+    if op != 0 || parts != LogSector::PACKED {
+        return Ok(format!(in alloc; "{seq} isn't packed")?);
+    }
+    Ok(format!(in alloc; "{seq}: from {part}, {used} bytes")?)
+}
+
+fn run_at(alloc: Global, end: u64) -> Result<Run, NoMemory>
+    requires first { 255 ≤ end }
+    requires small { end < 2 ^ 62 }
+{
+    Ok(Run {
+        ring: Ring::at(alloc, end)?,
+        sent: end,
+        last: end,
+    })
+}
+
+// A change of a sector to this version, of so many bytes.
+fn change_of(alloc: Global, sector: u64, version: u64, len: usize) -> Result<Change, NoMemory>
+    requires sector { sector < 2 ^ 55 }
+    requires some { 1 ≤ len }
+    requires few { len ≤ 400 }
+    ensures formed { IfOk result (λ c. is_change c ≡ true) }
+    ensures sector { IfOk result (λ c. c.sector.0 ≡ sector) }
+    ensures short { IfOk result (λ c. length (change_bytes c) ≤ 422) }
+{
+    let mut patches = Patches::new(alloc);
+    let bytes = Text::of(alloc, &[7; 400][..len])?;
+    patches.push(Patch { at: 8, bytes })?;
+    Ok(Change {
+        sector: Sector(sector),
+        version,
+        patches,
+    })
+}
+
+// A record of two changes. It is one that may stand in a log.
+fn record_of(
+    alloc: Global,
+    op: u64,
+    sector: u64,
+    version: u64,
+    len: usize,
+) -> Result<Redo, NoMemory>
+    ensures { IfOk result (λ redo. IsTrue (is_record redo)) }
+{
+    let sector = sector.min(1 << 50);
+    let len = len.max(1).min(400);
+    let first = change_of(alloc, sector, version, len)?;
+    let second = change_of(alloc, sector + 1, 1, len)?;
+    let changes = Changes::from_vec(vec![in alloc; first, second]?);
+    let op = OpNo(op.max(1));
+    Ok(Redo { op, changes })
+}
+
+// The first answer that isn't as worked out, with the place of its row.
+fn differs(
+    alloc: Global,
+    end: u64,
+    rows: &[(Step, &str)],
+) -> Result<Option<(usize, String)>, NoMemory>
+    requires first { 255 ≤ end }
+    requires small { end < 2 ^ 62 }
+{
+    let mut run = run_at(alloc, end)?;
+    for (row, (step, said)) in rows.iter().enumerate() {
+        let answer = run.answer(alloc, *step)?;
+        if answer.as_str() != *said {
+            return Ok(Some((row, answer)));
+        }
+    }
+    Ok(None)
+}
+
+const DISK: [(Sector, u64); 3] = [(Sector(5), 1), (Sector(6), 2), (Sector(7), 1)];
+
+const OLDER: [(Sector, u64); 3] = [(Sector(5), 1), (Sector(6), 1), (Sector(7), 1)];
+
+#[test]
+fn a_ring_answers_as_worked_out_by_hand(rt: HostRuntime) -> Result<(), Fail> {
+    let rows = [
+        (Step::Append(1, 5, 1, 1), "Ok(256)"),
+        (Step::Room, "(0, 191)"),
+        // 430 bytes of its frame have room behind the first one
+        (Step::Append(2, 6, 2, 400), "Ok(257)"),
+        (Step::Room, "(0, 190)"),
+        (Step::Issue, "256: from 0, 488 bytes"),
+        (Step::Room, "(0, 190)"),
+        (Step::Issue, "257: from 65535, 426 bytes"),
+        (Step::Room, "(1, 190)"),
+        (Step::Issue, "none"),
+        (Step::Acknowledge(257), "Some(255)"),
+        (Step::Acknowledge(256), "Some(257)"),
+        (Step::Acknowledge(257), "Some(257)"),
+        (
+            Step::Oldest,
+            "[(Sector(5), 1), (Sector(6), 2), (Sector(7), 1)]",
+        ),
+        (
+            Step::Reclaim(&OLDER),
+            "Err(Unwritten { sector: Sector(6) })",
+        ),
+        (
+            Step::Reclaim(&DISK[..2]),
+            "Err(Unwritten { sector: Sector(7) })",
+        ),
+        (Step::Reclaim(&DISK), "Ok(())"),
+        (Step::Oldest, "[]"),
+        (Step::Room, "(1, 192)"),
+        // 1,615 frames of 58 bytes have room, and 26 bytes are left
+        (Step::Append(3, 8, 1, 1), "Ok(258)"),
+        (Step::Fill(1), "Err(Full { need: 1, free: 0 })"),
+        (Step::Append(4, 8, 2, 400), "Err(Full { need: 2, free: 0 })"),
+        (Step::IssueAll, "321"),
+        (Step::Acknowledge(321), "Some(257)"),
+        (Step::Issue, "none"),
+        (Step::Acknowledge(258), "Some(258)"),
+        (Step::IssueAll, "322"),
+        (
+            Step::Oldest,
+            "[(Sector(1), 1), (Sector(2), 1), (Sector(8), 1), (Sector(9), 1)]",
+        ),
+    ];
+    assert_eq!(rt; differs(rt.alloc(), 255, &rows)?, None);
+    Ok(())
+}
+
+#[test]
+fn the_oldest_quarter_is_given_up_as_far_as_it_is_issued(rt: HostRuntime) -> Result<(), Fail> {
+    let disk = [
+        (Sector(1), 1),
+        (Sector(2), 1),
+        (Sector(8), 1),
+        (Sector(9), 1),
+    ];
+    let rows = [
+        (Step::Append(1, 8, 1, 1), "Ok(256)"),
+        // 109 frames of 856 bytes have room behind it, and 334 bytes are left
+        (Step::Fill(400), "Err(Full { need: 2, free: 0 })"),
+        (Step::Reclaim(&[]), "Ok(())"),
+        (Step::Room, "(0, 0)"),
+        (Step::IssueAll, "319"),
+        (Step::Reclaim(&[]), "Err(Unwritten { sector: Sector(8) })"),
+        (Step::Room, "(0, 0)"),
+        (Step::Reclaim(&disk), "Ok(())"),
+        (Step::Room, "(0, 64)"),
+        (Step::Oldest, "[]"),
+        (Step::Append(2, 1, 2, 400), "Ok(449)"),
+    ];
+    assert_eq!(rt; differs(rt.alloc(), 255, &rows)?, None);
+    Ok(())
+}
+
+#[test]
+fn a_reclaim_leaves_the_open_sector(rt: HostRuntime) -> Result<(), Fail> {
+    let rows = [
+        (Step::Append(1, 5, 1, 1), "Ok(256)"),
+        (Step::Issue, "256: from 0, 58 bytes"),
+        (Step::Append(2, 6, 1, 1), "Ok(257)"),
+        (Step::Append(3, 8, 1, 1), "Ok(257)"),
+        (Step::Oldest, "[(Sector(5), 1), (Sector(6), 1)]"),
+        (Step::Reclaim(&DISK), "Ok(())"),
+        (Step::Oldest, "[]"),
+        (Step::Room, "(0, 191)"),
+        (Step::Append(4, 8, 2, 1), "Ok(257)"),
+        (Step::Issue, "257: from 0, 174 bytes"),
+        (
+            Step::Oldest,
+            "[(Sector(6), 1), (Sector(7), 1), (Sector(8), 2), (Sector(9), 1)]",
+        ),
+    ];
+    assert_eq!(rt; differs(rt.alloc(), 255, &rows)?, None);
+    Ok(())
+}
+
+#[test]
+fn a_full_ring_whose_last_sector_is_closed_refuses_one_more(rt: HostRuntime) -> Result<(), Fail> {
+    // each frame fills its sector
+    let rows = [
+        (Step::Fill(216), "Err(Full { need: 1, free: 0 })"),
+        (Step::Room, "(1, 0)"),
+        (Step::Issue, "256: from 0, 488 bytes"),
+    ];
+    assert_eq!(rt; differs(rt.alloc(), 255, &rows)?, None);
+    Ok(())
+}
