@@ -94,31 +94,47 @@ fn other_blocks_are_refused(rt: HostRuntime) {
     }
 }
 
+// A packed sector in which the first frame begins at this place, with so many bytes in use and an operation, of which a packed one has none.
+fn packed(begins: u16, used: u16, op: u8) -> Block {
+    let [begins, begins_high] = begins.to_le_bytes();
+    let [used, used_high] = used.to_le_bytes();
+    block_of(&[
+        (0, 2),
+        (1, 1),
+        (8, op),
+        (16, begins),
+        (17, begins_high),
+        (18, 255),
+        (19, 255),
+        (20, used),
+        (21, used_high),
+        (24, 9),
+    ])
+}
+
+// Where the first frame begins, how many bytes are in use, the operation, and whether it is a sector.
+static PACKED: &[(u16, u16, u8, bool)] = &[
+    (0, 1, 0, true),
+    (487, 488, 0, true),
+    (65_535, 488, 0, true),
+    (1, 1, 0, false),
+    (488, 488, 0, false),
+    (0, 0, 0, false),
+    (0, 489, 0, false),
+    (0, 1, 5, false),
+];
+
 #[test]
 fn packed_sectors_are_read(rt: HostRuntime) {
-    for (begins, used, op, read) in [
-        (0, 1, 0, true),
-        (487, 488, 0, true),
-        (65_535, 488, 0, true),
-        (1, 1, 0, false),
-        (488, 488, 0, false),
-        (0, 0, 0, false),
-        (0, 489, 0, false),
-        (0, 1, 5, false),
-    ] {
-        let mut block = block_of(&ONLY_PART);
-        block[8..16].copy_from_slice(&u64::to_le_bytes(op));
-        block[16..18].copy_from_slice(&u16::to_le_bytes(begins));
-        block[18..20].copy_from_slice(&[255, 255]);
-        block[20..22].copy_from_slice(&u16::to_le_bytes(used));
-        let found = sector_read(&block, 2);
+    for (begins, used, op, read) in PACKED {
+        let found = sector_read(&packed(*begins, *used, *op), 2);
         assert_eq!(rt;
             found.is_some(),
-            read,
+            *read,
             "from {begins}, {used} bytes, operation {op}"
         );
         if let Some(sector) = found {
-            assert!(rt; sector.parts == LogSector::PACKED && sector.used == used);
+            assert!(rt; sector.parts == LogSector::PACKED && sector.used == *used);
         }
     }
 }
