@@ -143,7 +143,7 @@ doubt_kept b n s d k ne (Done a ∷ h) e =
     gone false true false un old new n f e = cc
     gone false false own un old new n f e = f e
 
-kept_id : (keep : Commit → Bool) (h : List Item) → Each (λ a. keep a ≡ true) h → kept keep h ≡ h
+pub kept_id : (keep : Commit → Bool) (h : List Item) → Each (λ a. keep a ≡ true) h → kept keep h ≡ h
 kept_id keep [] e = refl
 kept_id keep (Done a ∷ h) e = rw (e.0, kept_id keep h e.1)
 kept_id keep (Doubt m ∷ h) e = ap (λ x. Doubt m ∷ x) (kept_id keep h e)

@@ -18,6 +18,7 @@ pub data Fill : Type 0 where
 pub record Commit : Type 0 where
   pub by : ℕ  -- its server
   pub op : ℕ  -- its number
+  pub hint : List ℕ  -- what its server chose and the sectors don't say: the segments from which it might take
   pub asked : Op
   pub reply : Reply  -- without the bytes that it shows
   pub blocks : ℕ  -- how many directory blocks it counted
@@ -25,6 +26,8 @@ pub record Commit : Type 0 where
   pub changes : List Change
   pub claims : ℕ → Bool  -- the sectors that it makes ones with versions
   pub moves : ℕ → Option LockId  -- the sectors that it moved under other locks
+  pub reads : List ℕ  -- the sectors of bytes that it read
+  pub makes : ℕ → Option (Option Block → Fill)  -- what it makes of sectors of bytes, by the bytes that it read there
   pub writes : ℕ → Option Fill  -- the sectors of bytes that it wrote or freed
   pub sees : ℕ → Bool  -- the sectors of bytes under the locks that it used
   pub shown : ℕ → Option Block  -- the bytes that it showed

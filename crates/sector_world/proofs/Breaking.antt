@@ -1,25 +1,32 @@
 -- A put fails, and leaves the old sector or the new one.
-use Rattle.std.proofs.Common.{true, false, ⊎_elim, ℕ, ◌<◌, ◌≤◌, ◌≡◌, ◌≢◌, ◌⊎◌, inl, inr, Some, None, sym, ◌∙◌, ap, subst, arith}
+use Rattle.std.proofs.Common.{true, false, ⊎_elim, ℕ, ◌<◌, ◌≤◌, ◌≡◌, ◌≢◌, ◌⊎◌, inl, inr, Option, Some, None, nat_eq, sym, ◌∙◌, ap, subst, arith}
 use Rattle.frang_base.specs.declared.lock.Mode.TheVariants.{Sole}
 use Rattle.sector_bytes.specs.Blocks.{Block, version_of}
 use Rattle.sector_bytes.specs.Replays.{redo_all}
 use Rattle.frang_base.specs.Functions.{put}
 use Rattle.sector_histories.specs.Histories.{settled}
 use Rattle.sector_histories.specs.OnDisk.{OnDisk}
-use Rattle.frang_base.proofs.Basics.{at_put, put_other}
+use Rattle.frang_base.proofs.Basics.{by_test, ne_of, at_put, put_other}
 use Rattle.sector_world.specs.World.{World, Phase, Slot, Flight, Rescue, cover}
 use Rattle.sector_world.specs.World.Phase.{Off, Up, Dead}
 use Rattle.sector_world.specs.Guards.{to_replay, CanLand}
-use Rattle.sector_world.specs.Steps.{after, rescue_left}
+use Rattle.sector_world.specs.Steps.{after, rescue_broken}
 use Rattle.sector_world.specs.Steps.Event.{Break, BreakNew}
 use Rattle.sector_world.specs.Logged.{Logged, IsNewer, Pending, AbsentUnlessUp, FlightOk, ToldOk, RescueOk}
-use Rattle.sector_world.proofs.Crashing.{left_is}
 use Rattle.sector_world.proofs.Leases.{well_before}
 use Rattle.sector_world.proofs.Landing.{newer_free, other_replay, told_other}
 use Rattle.sector_world.proofs.Reaching.{sole_held}
 
+-- a recovery that is still under way is of another log
+broken_is : (d : ℕ) (o : Option Rescue) (r : Rescue) → rescue_broken d o ≡ Some r → (o ≡ Some r) × (r.dead ≢ d)
+broken_is d None r e = absurd (cc)
+broken_is d (Some q) r e =
+    by_test (λ x. x ≡ Some r → (Some q ≡ Some r) × (r.dead ≢ d)) None (Some q) (nat_eq q.dead d)
+    (λ i j. absurd (cc))
+    (λ i j. let same : q ≡ r = cc in (j, λ k. ne_of q.dead d i (ap (λ x. x.dead) same ∙ k))) e
+
 -- a flight that is left: what a recovery wants is asked less often
-left_flight : (w : World) (a s : ℕ) (f : Flight) → FlightOk w s f → FlightOk (record w { rescue = rescue_left a w.rescue }) s f
+left_flight : (w : World) (a s : ℕ) (f : Flight) → FlightOk w s f → FlightOk (record w { rescue = rescue_broken a w.rescue }) s f
 left_flight w a s f q = record {
   place = q.place;
   higher = q.higher;
@@ -27,13 +34,13 @@ left_flight w a s f q = record {
   sole = q.sole;
   named = q.named;
   source = ⊎_elim (λ o. inl (record { same = o.same; agrees = o.agrees }))
-      (λ o. inr (record { taker = o.taker; dead = o.dead; until = o.until; told = λ r i j. o.told r (left_is a w.rescue r i).0 j; rescuer = λ r i j. o.rescuer r (left_is a w.rescue r i).0 j })) q.source;
+      (λ o. inr (record { taker = o.taker; dead = o.dead; until = o.until; told = λ r i j. o.told r (broken_is a w.rescue r i).0 j; rescuer = λ r i j. o.rescuer r (broken_is a w.rescue r i).0 j })) q.source;
 }
 
 pub logged_break : (w : World) (s : ℕ) (f : Flight) → Logged w → Logged (after w (Break s f))
 logged_break w s f g = let newer : (a' s' : ℕ) → (after w (Break s f)).sick a' ≡ false → IsNewer ((after w (Break s f)).disk s') ((after w (Break s f)).slot a' s') = λ b t k. g.newer b t (well_before w f.by b k).0 in
-    let flights : (s' : ℕ) (f' : Flight) → (after w (Break s f)).flight s' ≡ Some f' → (after w (Break s f)).now ≤ f'.stamp → FlightOk (after w (Break s f)) s' f' = λ t k. at_put (λ x. x ≡ Some k → w.now ≤ k.stamp → FlightOk (after w (Break s f)) t k) w.flight s None t (λ e i n. absurd (cc)) (λ n i l. left_flight w f.by t k (g.flights t k i l)) in
-    let rescued : (r' : Rescue) → (after w (Break s f)).rescue ≡ Some r' → RescueOk (after w (Break s f)) r' = λ r e. g.rescued r (left_is f.by w.rescue r e).0 in
+    let flights : (s' : ℕ) (f' : Flight) → (after w (Break s f)).flight s' ≡ Some f' → (after w (Break s f)).now ≤ f'.stamp → FlightOk (after w (Break s f)) s' f' = λ t k. at_put (λ x. x ≡ Some k → w.now ≤ k.stamp → FlightOk (after w (Break s f)) t k) w.flight s None t (λ e i n. absurd (cc)) (λ n i l. left_flight w f.behalf t k (g.flights t k i l)) in
+    let rescued : (r' : Rescue) → (after w (Break s f)).rescue ≡ Some r' → RescueOk (after w (Break s f)) r' = λ r e. g.rescued r (broken_is f.behalf w.rescue r e).0 in
     search
 
 module _ (w : World) (s : ℕ) (f : Flight) (can : CanLand w s f) (g : Logged w) where
@@ -66,13 +73,9 @@ module _ (w : World) (s : ℕ) (f : Flight) (can : CanLand w s f) (g : Logged w)
   broken_place t = at_put (λ x. OnDisk w.opening w.durable t (Pending w t) x (settled w.history)) w.disk s f.block t
       (λ e. subst (λ x. OnDisk w.opening w.durable x (Pending w x) f.block (settled w.history)) (sym e) ok.place) (λ n. g.place t)
 
-  broken_told : (r : Rescue) → w.rescue ≡ Some r → r.by ≢ f.by → ToldOk (r.told s) f.block (redo_all (to_replay w r.dead) s f.block)
-  broken_told r e n =
+  broken_told : (r : Rescue) → w.rescue ≡ Some r → r.dead ≢ f.behalf → ToldOk (r.told s) f.block (redo_all (to_replay w r.dead) s f.block)
+  broken_told r e other =
       let q : RescueOk w r = g.rescued r e in
-      let other : r.dead ≢ f.behalf = λ i. ⊎_elim
-      (λ o. let u : f.stamp ≤ w.expiry f.by = ok.lease in let v : w.expiry r.dead < w.now = q.ended in let z : w.expiry f.by ≡ w.expiry r.dead = ap w.expiry (o.same ∙ sym i) in
-      let y : w.now ≤ f.stamp = can.early in absurd (omega arith))
-      (λ o. n (o.rescuer r e i)) ok.source in
       let j : w.holds r.dead (cover w s) ≡ Some Sole → ⊥ = λ m. other (g.apart r.dead f.behalf (cover w s) m (sole_held (w.holds f.behalf (cover w s)) ok.sole)) in
       let new : redo_all (to_replay w r.dead) s f.block ≡ f.block = other_replay w g r.dead s f.block j ok.place in
       let old : redo_all (to_replay w r.dead) s (w.disk s) ≡ w.disk s = other_replay w g r.dead s (w.disk s) j (g.place s) in
@@ -82,9 +85,9 @@ module _ (w : World) (s : ℕ) (f : Flight) (can : CanLand w s f) (g : Logged w)
   logged_break_new = let newer : (a' s' : ℕ) → (after w (BreakNew s f)).sick a' ≡ false → IsNewer ((after w (BreakNew s f)).disk s') ((after w (BreakNew s f)).slot a' s') = broken_newer in
       let place : (s' : ℕ) → OnDisk (after w (BreakNew s f)).opening (after w (BreakNew s f)).durable s' (Pending (after w (BreakNew s f)) s') ((after w (BreakNew s f)).disk s') (settled (after w (BreakNew s f)).history) = broken_place in
       let flights : (s' : ℕ) (f' : Flight) → (after w (BreakNew s f)).flight s' ≡ Some f' → (after w (BreakNew s f)).now ≤ f'.stamp → FlightOk (after w (BreakNew s f)) s' f' = λ t k. at_put (λ x. x ≡ Some k → w.now ≤ k.stamp → FlightOk (after w (BreakNew s f)) t k) w.flight s None t (λ e i n. absurd (cc))
-      (λ n i l. let q : FlightOk w t k = g.flights t k i l in let z = left_flight w f.by t k q in
+      (λ n i l. let q : FlightOk w t k = g.flights t k i l in let z = left_flight w f.behalf t k q in
       record { place = z.place; lease = z.lease; sole = z.sole; named = z.named; source = z.source; higher = subst (λ x. (version_of x) < (version_of k.block)) (sym (put_other w.disk s f.block t n)) q.higher }) in
-      let rescued : (r' : Rescue) → (after w (BreakNew s f)).rescue ≡ Some r' → RescueOk (after w (BreakNew s f)) r' = λ r e. let l = left_is f.by w.rescue r e in let q : RescueOk w r = g.rescued r l.0 in
+      let rescued : (r' : Rescue) → (after w (BreakNew s f)).rescue ≡ Some r' → RescueOk (after w (BreakNew s f)) r' = λ r e. let l = broken_is f.behalf w.rescue r e in let q : RescueOk w r = g.rescued r l.0 in
       record {
         dead = q.dead;
         taker = q.taker;
@@ -97,9 +100,8 @@ module _ (w : World) (s : ℕ) (f : Flight) (can : CanLand w s f) (g : Logged w)
       } in
       search
 
--- a put of bytes failed: the server's recovery is over, and it issues no more
-pub logged_bytes_break : (w : World) (a : ℕ) → Logged w → Logged (record w { sick = put w.sick a true; rescue = rescue_left a w.rescue })
-logged_bytes_break w a g = let newer : (a' s' : ℕ) → (record w { sick = put w.sick a true; rescue = rescue_left a w.rescue }).sick a' ≡ false → IsNewer ((record w { sick = put w.sick a true; rescue = rescue_left a w.rescue }).disk s') ((record w { sick = put w.sick a true; rescue = rescue_left a w.rescue }).slot a' s') = λ b t k. g.newer b t (well_before w a b k).0 in
-    let flights : (s' : ℕ) (f' : Flight) → (record w { sick = put w.sick a true; rescue = rescue_left a w.rescue }).flight s' ≡ Some f' → (record w { sick = put w.sick a true; rescue = rescue_left a w.rescue }).now ≤ f'.stamp → FlightOk (record w { sick = put w.sick a true; rescue = rescue_left a w.rescue }) s' f' = λ t k i l. left_flight w a t k (g.flights t k i l) in
-    let rescued : (r' : Rescue) → (record w { sick = put w.sick a true; rescue = rescue_left a w.rescue }).rescue ≡ Some r' → RescueOk (record w { sick = put w.sick a true; rescue = rescue_left a w.rescue }) r' = λ r e. g.rescued r (left_is a w.rescue r e).0 in
+-- a get or a put of bytes failed: the server issues no more
+pub logged_fail : (w : World) (a : ℕ) → Logged w → Logged (record w { sick = put w.sick a true })
+logged_fail w a g =
+    let newer : (a' s' : ℕ) → put w.sick a true a' ≡ false → IsNewer (w.disk s') (w.slot a' s') = λ b t k. g.newer b t (well_before w a b k).0 in
     search

@@ -310,4 +310,5 @@ module _ (w : World) (a : Commit) (can : CanDo w a) (k : Logged w) (g : Bytes w)
     counted = g.counted;
     flights = do_flight;
     live = ((λ s u v t sh fr e. g.knows s u fr e ∙ sym (shows_truth (a.shown s) (w.page a.by s) v (w.truth s) sh (can.shows s) (g.copies a.by s))), g.live);
+    by_plan = (record { shown = can.reads; noticed = can.noticed; made = can.makes }, g.by_plan);
   }

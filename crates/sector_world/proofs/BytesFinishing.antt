@@ -8,9 +8,10 @@ use Rattle.sector_histories.specs.Histories.{Item, Entry, kept, survives, in_dou
 use Rattle.sector_histories.specs.Histories.Entry.{Did, Recovered, Synced, Mounted}
 use Rattle.sector_histories.specs.Bytes.{is_free, Known, OnData}
 use Rattle.sector_histories.specs.Bytes.OnData.{here, marked}
+use Rattle.sector_histories.specs.Plans.{IsByPlan}
 use Rattle.sector_histories.specs.Seen.{Alters, Unsynced}
 use Rattle.frang_base.proofs.Basics.{by_test, eq_of, le_or_lt, at_put, put_other}
-use Rattle.sector_histories.proofs.Histories.{each_map}
+use Rattle.sector_histories.proofs.Histories.{each_map, each_kept}
 use Rattle.sector_histories.proofs.Seen.{each_kept_with}
 use Rattle.sector_histories.proofs.Bytes.{survives_up, free_kept, known_kept, doubt_kept, finish_known, recovered_known, agree_kept, data_kept}
 use Rattle.sector_world.specs.World.{World, Phase, Page, ByteFlight, Rescue, cover}
@@ -181,4 +182,5 @@ module _ (w : World) (r : Rescue) (can : CanFinish w r) (l : Logged w) (g : Byte
     counted = g.counted;
     flights = finish_flight;
     live = agree_kept w.first r.dead (w.durable r.dead) (settled w.history) l.ops (l.unseen r.dead) g.live;
+    by_plan = each_kept IsByPlan (survives r.dead (w.durable r.dead)) (settled w.history) g.by_plan;
   }

@@ -56,6 +56,7 @@ bytes_fetch w a s can k g =
           let n : f.by ≡ a → t ≢ s = λ i j. tight f.by t i j q.loose in
           record { place = goes t f.block q.place; sole = q.sole; lease = q.lease; loose = rw (page f.by t n) q.loose };
       live = g.live;
+      by_plan = g.by_plan;
     }
 
 -- who doesn't hold a sector's lock has no page of it
@@ -115,6 +116,7 @@ bytes_clear w a s can k g =
       counted = g.counted;
       flights = λ t f e z. let q : ByteFlightOk w t f = g.flights t f e z in record { place = goes t f.block q.place; sole = q.sole; lease = q.lease; loose = loose f.by t q.loose };
       live = g.live;
+      by_plan = g.by_plan;
     }
 
 covered_mark : (x : Page) (block : Block) (mark op : ℕ) → x ≡ DirtyPage block mark → CoversPage Up x op → op ≤ mark
@@ -164,6 +166,7 @@ bytes_issue w a s block mark can k g =
       counted = g.counted;
       flights = flights;
       live = g.live;
+      by_plan = g.by_plan;
     }
 
 -- a page becomes clean that the disk has
@@ -199,6 +202,7 @@ bytes_settle w a s block mark can k g =
           let n : t ≢ s = λ i. can.alone f (subst (λ x. w.byte_flight x ≡ Some f) i e) z in
           record { place = goes t f.block n q.place; sole = q.sole; lease = q.lease; loose = rw (page f.by t (λ i. n)) q.loose };
       live = g.live;
+      by_plan = g.by_plan;
     }
 
 and_both : (a b : Bool) → (a && b) ≡ true → (a ≡ true) × (b ≡ true)
@@ -301,6 +305,7 @@ module _ (w : World) (s : ℕ) (f : ByteFlight) (can : CanLandBytes w s f) (k : 
         (λ n i z. let q : ByteFlightOk w t h = g.flights t h i z in
         record { place = land_other t h.block n q.place; sole = q.sole; lease = q.lease; loose = at_page (λ x. IsLoose (w.phase h.by) x) h.by t q.loose (λ e j. absurd (n j)) });
     live = g.live;
+    by_plan = g.by_plan;
   }
 
   -- a put failed and left the new sector
@@ -321,4 +326,5 @@ module _ (w : World) (s : ℕ) (f : ByteFlight) (can : CanLandBytes w s f) (k : 
     counted = g.counted;
     flights = λ t h. at_put (λ x. x ≡ Some h → w.now ≤ h.stamp → ByteFlightOk w t h) w.byte_flight s None t (λ e i n. absurd (cc)) (λ n. g.flights t h);
     live = g.live;
+    by_plan = g.by_plan;
   }

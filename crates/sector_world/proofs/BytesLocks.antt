@@ -143,6 +143,7 @@ module _ (w : World) (a : ℕ) (l : LockId) (can : CanGive w a l) (k : Logged w)
         let n : f.by ≡ a → cover w t ≢ l = λ i j. can.landed_bytes t f j e z i in
         record { place = goes t f.block q.place; sole = sole f.by (cover w t) n q.sole; lease = q.lease; loose = at_page (λ x. IsLoose (w.phase f.by) x) f.by t (λ i j. absurd (n i j)) (λ o. q.loose) };
     live = g.live;
+    by_plan = g.by_plan;
   }
 
 pub bytes_give : (w : World) (a : ℕ) (l : LockId) → CanGive w a l → Logged w → Bytes w → Bytes (after w (Give a l))
@@ -177,6 +178,7 @@ bytes_sync w a can k g =
       counted = λ d. by_test (λ x. x ≡ (if nat_eq d a then w.last a else synced_of d w.history)) (w.last a) (w.synced d) (nat_eq d a) (λ e. rw e) (λ e. rw (e, g.counted d));
       flights = λ t f e l. let q : ByteFlightOk w t f = g.flights t f e l in record { place = goes t f.block q.place; sole = q.sole; lease = q.lease; loose = q.loose };
       live = g.live;
+      by_plan = g.by_plan;
     }
   where
     free_marked : (x : Page) (last : ℕ) (old new free : Bool) → DirtyIfFree x free → IsMarked x last old free → IsMarked x last new free

@@ -32,7 +32,7 @@ bytes_renew w a can g =
     search
 
 -- who is off holds no lock alone
-off_none : (p : Phase) (m : Option Mode) → p ≡ Off → NoneIfOff p m → m ≡ Some Sole → ⊥
+pub off_none : (p : Phase) (m : Option Mode) → p ≡ Off → NoneIfOff p m → m ≡ Some Sole → ⊥
 off_none Off m e n s = cc
 off_none Up m e n s = cc
 off_none Dead m e n s = cc
@@ -63,6 +63,7 @@ bytes_mount w a can l g =
           let ne : f.by ≢ a = sole f.by s q.sole in
           record { place = goes s f.block q.place; sole = q.sole; lease = rw (put_other w.expiry a (w.now + 30) f.by ne) q.lease; loose = rw (put_other w.phase a Up f.by ne) q.loose };
       live = g.live;
+      by_plan = g.by_plan;
     }
   where
     off_marked : (p : Phase) (x : Page) (last : ℕ) (doubt free : Bool) → p ≡ Off → PageUnlessUp p x → IsMarked x last doubt free
@@ -100,6 +101,7 @@ bytes_unmount w a can g =
           let ne : f.by ≢ a = sole f.by s q.sole in
           record { place = goes s f.block q.place; sole = q.sole; lease = q.lease; loose = rw (put_other w.phase a Off f.by ne) q.loose };
       live = g.live;
+      by_plan = g.by_plan;
     }
   where
     free_page : (x : Page) (m : Option Mode) → m ≡ None → PageHeld x m → x ≡ NoPage
@@ -133,6 +135,7 @@ bytes_take w a l mode can g =
       flights = λ t f e n. let q : ByteFlightOk w t f = g.flights t f e n in
           record { place = goes t f.block q.place; sole = sole f.by (cover w t) q.sole; lease = q.lease; loose = q.loose };
       live = g.live;
+      by_plan = g.by_plan;
     }
   where
     held_more : (x : Page) (old : Option Mode) → old ≢ Some Sole → PageHeld x old → PageHeld x (Some mode)
@@ -159,6 +162,7 @@ bytes_reach w d k can g =
       counted = g.counted;
       flights = λ t f e n. let q : ByteFlightOk w t f = g.flights t f e n in record { place = goes t f.block q.place; sole = q.sole; lease = q.lease; loose = q.loose };
       live = g.live;
+      by_plan = g.by_plan;
     }
 
 pub bytes_fade : (w : World) (s : ℕ) (f : ByteFlight) → Bytes w → Bytes (after w (FadeBytes s f))
@@ -197,4 +201,5 @@ bytes_crash w a up g =
       counted = g.counted;
       flights = λ t f e n. let q : ByteFlightOk w t f = g.flights t f e n in record { place = goes t f.block q.place; sole = q.sole; lease = q.lease; loose = loose f.by t q.loose };
       live = g.live;
+      by_plan = g.by_plan;
     }

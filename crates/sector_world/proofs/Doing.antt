@@ -278,6 +278,7 @@ module _ (w : World) (c : Commit) (can : CanDo w c) (g : Logged w) where
     apart = g.apart;
     known = g.known;
     leases = g.leases;
+    ends = g.ends;
     begun = g.begun;
     off_free = g.off_free;
     rested = λ b e. at_put (λ x. x ≤ w.durable b) w.last c.by c.op b (λ i. let p : w.phase b ≡ Up = ap w.phase i ∙ can.up in absurd (cc)) (λ n. g.rested b e);

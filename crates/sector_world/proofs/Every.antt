@@ -6,7 +6,7 @@ use Rattle.sector_histories.specs.OnDisk.OnDisk.{in_place}
 use Rattle.sector_histories.specs.Bytes.OnData.{here}
 use Rattle.sector_world.specs.World.{World, start}
 use Rattle.sector_world.specs.Steps.{Event, Can, after, Run}
-use Rattle.sector_world.specs.Steps.Event.{Tick, Leave, Renew, Mount, Unmount, Take, Give, Lower, Do, Reach, Ack, Sync, Reclaim, Crash, Begin, Look, Finish, Fetch, Issue, Replay, Land, Fade, Break, BreakNew, FetchBytes, Clear, IssueBytes, LandBytes, FadeBytes, BreakBytes, BreakBytesNew, Settle}
+use Rattle.sector_world.specs.Steps.Event.{Tick, Leave, Fail, Renew, Mount, Unmount, Take, Give, Lower, Do, Reach, Ack, Sync, Reclaim, Crash, Begin, Look, Finish, Fetch, Issue, Replay, Land, Fade, Break, BreakNew, FetchBytes, Clear, IssueBytes, LandBytes, FadeBytes, BreakBytes, BreakBytesNew, Settle}
 use Rattle.sector_world.specs.Steps.Run.{stays, goes}
 use Rattle.sector_world.specs.Logged.{Logged}
 use Rattle.sector_world.specs.Bytes.{Bytes}
@@ -20,7 +20,7 @@ use Rattle.sector_world.proofs.Reclaiming.{logged_reclaim}
 use Rattle.sector_world.proofs.Crashing.{logged_crash}
 use Rattle.sector_world.proofs.Recovering.{logged_begin, logged_look, logged_replay}
 use Rattle.sector_world.proofs.Finishing.{logged_finish}
-use Rattle.sector_world.proofs.Breaking.{logged_break, logged_break_new, logged_bytes_break}
+use Rattle.sector_world.proofs.Breaking.{logged_break, logged_break_new, logged_fail}
 use Rattle.sector_world.proofs.BytesPlain.{bytes_tick, bytes_renew, bytes_mount, bytes_unmount, bytes_take, bytes_reach, bytes_fade, bytes_break, bytes_crash}
 use Rattle.sector_world.proofs.BytesLocks.{bytes_give, bytes_lower, bytes_sync}
 use Rattle.sector_world.proofs.BytesLanding.{bytes_fetch, bytes_clear, bytes_issue, bytes_settle, bytes_land, bytes_break_new}
@@ -44,6 +44,7 @@ module _ (servers : ℕ) (disk : ℕ → Block) (logged of_files : ℕ → Bool)
     apart = λ a b s e n. absurd (cc);
     known = λ a n. absurd (n refl);
     leases = λ a. omega arith;
+    ends = λ d. omega arith;
     begun = λ d b e. absurd (cc);
     off_free = λ a s. refl;
     rested = λ a e. le_refl 0;
@@ -83,6 +84,7 @@ module _ (servers : ℕ) (disk : ℕ → Block) (logged of_files : ℕ → Bool)
     counted = λ d. refl;
     flights = λ s f e n. absurd (cc);
     live = tt;
+    by_plan = tt;
   }
 
   kinds_start : Kinds (start servers disk logged of_files home)
@@ -101,6 +103,7 @@ module _ (servers : ℕ) (disk : ℕ → Block) (logged of_files : ℕ → Bool)
 pub good_step : (w : World) (e : Event) → Can w e → Good w → Good (after w e)
 good_step w Tick can g = record { logged = logged_tick w g.logged; bytes = bytes_tick w g.bytes; kinds = kinds_tick w g.kinds }
 good_step w Leave can g = record { logged = logged_leave w g.logged; bytes = g.bytes; kinds = g.kinds }
+good_step w (Fail a) can g = record { logged = logged_fail w a g.logged; bytes = g.bytes; kinds = g.kinds }
 good_step w (Renew a) can g = record { logged = logged_renew w a can g.logged; bytes = bytes_renew w a can g.bytes; kinds = g.kinds }
 good_step w (Mount a) can g = record { logged = logged_mount w a can g.logged; bytes = bytes_mount w a can g.logged g.bytes; kinds = g.kinds }
 good_step w (Unmount a) can g = record { logged = logged_unmount w a can g.logged; bytes = bytes_unmount w a can g.bytes; kinds = g.kinds }
@@ -128,8 +131,8 @@ good_step w (Clear a s) can g = record { logged = g.logged; bytes = bytes_clear 
 good_step w (IssueBytes a s block mark) can g = record { logged = g.logged; bytes = bytes_issue w a s block mark can g.logged g.bytes; kinds = kinds_issue w a s block mark can g.kinds }
 good_step w (LandBytes s f) can g = record { logged = g.logged; bytes = bytes_land w s f can g.logged g.bytes; kinds = kinds_land w s f can g.kinds }
 good_step w (FadeBytes s f) can g = record { logged = g.logged; bytes = bytes_fade w s f g.bytes; kinds = kinds_fade w s f g.kinds }
-good_step w (BreakBytes s f) can g = record { logged = logged_bytes_break w f.by g.logged; bytes = bytes_break w s f g.bytes; kinds = kinds_break w s f g.kinds }
-good_step w (BreakBytesNew s f) can g = record { logged = logged_bytes_break w f.by g.logged; bytes = bytes_break_new w s f can g.logged g.bytes; kinds = kinds_break_new w s f can g.kinds }
+good_step w (BreakBytes s f) can g = record { logged = logged_fail w f.by g.logged; bytes = bytes_break w s f g.bytes; kinds = kinds_break w s f g.kinds }
+good_step w (BreakBytesNew s f) can g = record { logged = logged_fail w f.by g.logged; bytes = bytes_break_new w s f can g.logged g.bytes; kinds = kinds_break_new w s f can g.kinds }
 good_step w (Settle a s block mark) can g = record { logged = g.logged; bytes = bytes_settle w a s block mark can g.logged g.bytes; kinds = kinds_settle w a s block mark can g.kinds }
 
 pub good_run : (w : World) (events : List Event) (v : World) → Run w events v → Good w → Good v

@@ -1,5 +1,5 @@
 -- The runs of the examples.
-use Rattle.std.proofs.Common.{if◌then◌else◌, ℕ, zero, suc, ◌+◌, ◌-◌, ◌≡◌, ◌≢◌, ◌⊎◌, ⊎_elim, inl, inr, true, false, List, [], ◌∷◌, Option, Some, None, IsTrue, IsSome, is_some, nat_eq, nat_lt, refl, sym, subst, arith, lit<, add-zero}
+use Rattle.std.proofs.Common.{Bool, if◌then◌else◌, ℕ, zero, suc, ◌+◌, ◌-◌, ◌≡◌, ◌≢◌, ◌⊎◌, ⊎_elim, inl, inr, true, false, List, [], ◌∷◌, Option, Some, None, IsTrue, IsSome, is_some, nat_eq, nat_lt, refl, sym, subst, arith, lit<, add-zero}
 use Rattle.frang_base.specs.declared.change.Change.{Change}
 use Rattle.frang_base.specs.declared.lock.LockId.{LockId}
 use Rattle.frang_base.specs.declared.lock.LockId.TheVariants.{Node}
@@ -10,23 +10,34 @@ use Rattle.sector_bytes.specs.Blocks.{zero_block}
 use Rattle.sector_bytes.specs.Changes.{changed}
 use Rattle.sector_bytes.specs.Replays.{change_at}
 use Rattle.frang_base.specs.Locks.{has_lock, same_lock}
-use Rattle.frang_base.specs.Functions.{put_lock}
-use Rattle.sector_histories.specs.Histories.{Fill, redo_of}
+use Rattle.frang_base.specs.Functions.{put, put_lock}
+use Rattle.sector_histories.specs.Histories.{Fill, reaches, redo_of}
 use Rattle.sector_histories.specs.Histories.Fill.{Written, Freed}
+use Rattle.sector_histories.specs.Plans.{made_of}
 use Rattle.frang_base.proofs.Basics.{by_test, at_put, at_put2, at_lock, eq_of, lock_of}
-use Rattle.sector_world.specs.World.{World}
+use Rattle.sector_world.specs.World.{World, Phase}
+use Rattle.sector_world.specs.World.Phase.{Off, Up, Dead}
 use Rattle.sector_world.specs.World.Slot.{Absent, Clean}
-use Rattle.sector_world.specs.World.Page.{CleanPage}
+use Rattle.sector_world.specs.World.Page.{NoPage, CleanPage}
 use Rattle.sector_world.specs.World.Told.{InPlace}
-use Rattle.sector_world.specs.Guards.{Fits, Based, Owned, MovesOwned, Shows, NoneNames, CanClaim, CanDo}
+use Rattle.sector_world.specs.Guards.{NotDirty, NoDirtyPage, Fits, Based, Owned, MovesOwned, Shows, NoneNames, CanClaim, CanDo}
 use Rattle.sector_world.specs.Steps.{Event, after, Run}
-use Rattle.sector_world.specs.Steps.Event.{Tick, Renew, Mount, Take, Do, Reach, Ack, Sync, Crash, Begin, Look, Finish, Fetch, Issue, Replay, Land, Fade, FetchBytes, Clear, IssueBytes, LandBytes}
+use Rattle.sector_world.specs.Steps.Event.{Tick, Fail, Renew, Mount, Take, Do, Reach, Ack, Sync, Crash, Begin, Look, Finish, Fetch, Issue, Replay, Land, Fade, FetchBytes, Clear, IssueBytes, LandBytes}
 use Rattle.sector_world.specs.Steps.Run.{stays, goes}
-use Rattle.sector_world.specs.Examples.{releasing, change_again, released_cover, retaking, IsRetakenRun, freeing, IsFreedRun, begin, change, new_block, deed, ticks, done, rescue, wanted, placed, write, recovery, IsLostRun, IsKeptRun, IsTwiceRun, IsLateRun, bytes, scribble, reading, IsReadRun, change_8, claim, IsClaimedRun}
+use Rattle.sector_world.specs.Examples.{releasing, change_again, released_cover, retaking, IsRetakenRun, freeing, IsFreedRun, begin, change, new_block, deed, ticks, done, rescue, wanted, placed, write, recovery, IsLostRun, IsKeptRun, IsFailedRun, second_rescue, IsHandedRun, IsTwiceRun, IsLateRun, bytes, scribble, reading, IsReadRun, change_8, claim, IsClaimedRun}
 
 tick_run : (n : ℕ) (w v : World) (es : List Event) → Run (record w { now = w.now + n }) es v → Run w (ticks n es) v
 tick_run zero w v es r = subst (λ n. Run (record w { now = n }) es v) (add-zero w.now) r
 tick_run (suc n) w v es r = goes tt (tick_run n (after w Tick) v es (let e : w.now + suc n ≡ w.now + 1 + n = omega arith in subst (λ n. Run (record w { now = n }) es v) e r))
+
+-- what is made of bytes without a look at them
+fill_if : (b : Bool) (x : Fill) → (if b then Some x else None) ≡ made_of (if b then Some (λ shown. x) else None) None
+fill_if true x = refl
+fill_if false x = refl
+
+some_if : {X : Type 0} (b : Bool) (x : X) → is_some (if b then Some x else None) ≡ (if b then true else false)
+some_if true x = refl
+some_if false x = refl
 
 abbrev ready : World
 ready = after (after (after (after (after begin (Mount 0)) (Mount 1)) (Mount 2)) (Take 0 (Node 5) Sole)) (Fetch 0 5)
@@ -64,6 +75,9 @@ can_deed = record {
   sees = λ s. refl;
   written = λ s i. absurd (cc);
   shows = λ s. tt;
+  reads = λ s. refl;
+  noticed = λ s i. absurd (cc);
+  makes = λ s. refl;
 }
 
 abbrev did : World
@@ -93,6 +107,69 @@ is_lost = record {
       (goes (record { dead = refl; ended = lit< tt; given_up = lit< tt; up = refl }) (goes (record { going = refl; all = λ s. inr tt }) stays))));
   none = tt;
   disk = refl;
+}
+
+pub failed_world : World
+failed_world = after (after (after (after lost_late (Begin 0 1)) (Fail 1)) (Renew 1)) (Finish (rescue 1))
+
+abbrev mounted : ℕ → Phase
+mounted = put (put (put (λ d. Off) 0 Up) 1 Up) 2 Up
+
+-- nobody is dead once server 0 is recovered
+none_dead : (a : ℕ) → put (put mounted 0 Dead) 0 Off a ≢ Dead
+none_dead a =
+    at_put (λ p. p ≢ Dead) (put mounted 0 Dead) 0 Off a (λ e i. cc)
+    (λ n. at_put (λ p. p ≢ Dead) mounted 0 Dead a (λ e. absurd (n e))
+    (λ n. at_put (λ p. p ≢ Dead) (put (put (λ d. Off) 0 Up) 1 Up) 2 Up a (λ e i. cc)
+    (λ n. at_put (λ p. p ≢ Dead) (put (λ d. Off) 0 Up) 1 Up a (λ e i. cc)
+    (λ n. at_put (λ p. p ≢ Dead) (λ d. Off) 0 Up a (λ e i. cc) (λ n i. cc)))))
+
+none_dirty : (a s : ℕ) → NotDirty (fallen.slot a s)
+none_dirty a s =
+    at_put (λ f. NotDirty (f s)) did.slot 0 (λ t. Absent) a (λ e. tt)
+    (λ n. at_put (λ f. NotDirty (f s)) ready.slot 0 (did.slot 0) a (λ e. absurd (n e))
+    (λ n. at_put2 (λ x. NotDirty x) (λ d k. Absent) 0 5 (Clean zero_block) a s (λ i j. tt) (λ n. tt)))
+
+none_dirty_bytes : (a s : ℕ) → NoDirtyPage (fallen.page a s)
+none_dirty_bytes a s =
+    at_put (λ f. NoDirtyPage (f s)) did.page 0 (λ t. NoPage) a (λ e. tt)
+    (λ n. at_put (λ f. NoDirtyPage (f s)) ready.page 0 (did.page 0) a (λ e. absurd (n e)) (λ n. tt))
+
+pub is_failed : IsFailedRun failed_world
+unfolding failed_world
+is_failed = record {
+  run = done_run (Crash 0 ∷ ticks 31 (Begin 0 1 ∷ Fail 1 ∷ Renew 1 ∷ Finish (rescue 1) ∷ [])) (after (after (after (after lost_late (Begin 0 1)) (Fail 1)) (Renew 1)) (Finish (rescue 1)))
+      (goes refl (tick_run 31 fallen (after (after (after (after lost_late (Begin 0 1)) (Fail 1)) (Renew 1)) (Finish (rescue 1))) (Begin 0 1 ∷ Fail 1 ∷ Renew 1 ∷ Finish (rescue 1) ∷ [])
+      (goes (record { dead = refl; ended = lit< tt; given_up = lit< tt; up = refl })
+      (goes tt
+      (goes (record { up = refl; later = lit< tt })
+      (goes (record { going = refl; all = λ s. inr tt }) stays))))));
+  sick = refl;
+  quiet = record { alive = none_dead; clean = none_dirty; clean_bytes = none_dirty_bytes };
+}
+
+pub renewed_world : World
+renewed_world = after (after lost_late (Begin 0 1)) (Renew 1)
+
+abbrev handed_fallen : World
+handed_fallen = after (after (after lost_late (Begin 0 1)) (Renew 1)) (Crash 1)
+
+pub handed_world : World
+handed_world = after (after (record handed_fallen { now = 63 }) (Begin 1 2)) (Finish second_rescue)
+
+pub is_handed : IsHandedRun renewed_world handed_world
+unfolding renewed_world handed_world
+is_handed = record {
+  run = done_run (Crash 0 ∷ ticks 31 (Begin 0 1 ∷ Renew 1 ∷ [])) (after (after lost_late (Begin 0 1)) (Renew 1))
+      (goes refl (tick_run 31 fallen (after (after lost_late (Begin 0 1)) (Renew 1)) (Begin 0 1 ∷ Renew 1 ∷ [])
+      (goes (record { dead = refl; ended = lit< tt; given_up = lit< tt; up = refl })
+      (goes (record { up = refl; later = lit< tt }) stays))));
+  held = (refl, refl);
+  next = goes refl (tick_run 31 handed_fallen (after (after (record handed_fallen { now = 63 }) (Begin 1 2)) (Finish second_rescue)) (Begin 1 2 ∷ Finish second_rescue ∷ [])
+      (goes (record { dead = refl; ended = lit< tt; given_up = lit< tt; up = refl })
+      (goes (record { going = refl; all = λ s. inr tt }) stays)));
+  gone = (refl, refl);
+  dead = refl;
 }
 
 abbrev synced : World
@@ -216,6 +293,9 @@ can_scribble = record {
   sees = λ s. refl;
   written = λ s. at_nine (λ o. IsSome o → held.holds 0 (Node s) ≡ Some Sole) s (λ e i. nine_sole (Node s) (node_nine s e)) (λ i. absurd (cc));
   shows = λ s. tt;
+  reads = λ s. refl;
+  noticed = λ s i. absurd (cc);
+  makes = λ s. fill_if (nat_eq s 9) (Written bytes);
 }
 
 abbrev scribbled : World
@@ -232,8 +312,8 @@ shared_holds l f = at_lock (λ m. m ≢ None) doubt_world.holds 1 (Node 9) (Some
 
 shows_nine : (s : ℕ) → Shows (reading.shown s) (shared.page 1 s)
 shows_nine s =
-    by_test (λ o. Shows o (shared.page 1 s)) (Some zero_block) None (nat_eq s 9)
-    (λ e. at_put2 (λ x. Shows (Some zero_block) x) doubt_world.page 1 9 (CleanPage zero_block) 1 s (λ i j. refl) (λ n. absurd (n refl (eq_of s 9 e))))
+    by_test (λ o. Shows o (shared.page 1 s)) (Some zero_block) None (nat_eq 9 s)
+    (λ e. at_put2 (λ x. Shows (Some zero_block) x) doubt_world.page 1 9 (CleanPage zero_block) 1 s (λ i j. refl) (λ n. absurd (n refl (sym (eq_of 9 s e)))))
     (λ e. tt)
 
 can_read : CanDo shared reading
@@ -252,6 +332,9 @@ can_read = record {
   sees = λ s. refl;
   written = λ s i. absurd (cc);
   shows = shows_nine;
+  reads = λ s. some_if (nat_eq 9 s) zero_block;
+  noticed = λ s. by_test (λ o. IsSome o → IsTrue (reaches reading s)) (Some zero_block) None (nat_eq 9 s) (λ e i. subst (λ x. IsTrue (reaches reading x)) (eq_of 9 s e) refl) (λ e i. absurd (cc));
+  makes = λ s. refl;
 }
 
 -- nobody holds a lock after the recovery
@@ -317,6 +400,9 @@ can_claim = record {
   sees = λ s. refl;
   written = λ s i. absurd (cc);
   shows = λ s. tt;
+  reads = λ s. refl;
+  noticed = λ s i. absurd (cc);
+  makes = λ s. refl;
 }
 
 pub claimed_world : World
@@ -362,6 +448,9 @@ can_write = record {
   sees = λ s. refl;
   written = λ s. at_nine (λ o. IsSome o → both_held.holds 0 (Node s) ≡ Some Sole) s (λ e i. both_sole (Node s) (inl (node_nine s e))) (λ i. absurd (cc));
   shows = λ s. tt;
+  reads = λ s. refl;
+  noticed = λ s i. absurd (cc);
+  makes = λ s. fill_if (nat_eq s 9) (Written bytes);
 }
 
 abbrev flying : World
@@ -389,6 +478,9 @@ can_free = record {
   sees = λ s. refl;
   written = λ s. at_freed (λ o. IsSome o → flying.holds 0 (Node s) ≡ Some Sole) Freed s (λ e i. both_sole (Node s) (inl (node_nine s e))) (λ i. absurd (cc));
   shows = λ s. tt;
+  reads = λ s. refl;
+  noticed = λ s i. absurd (cc);
+  makes = λ s. fill_if (nat_eq s 9) Freed;
 }
 
 pub freed_world : World
@@ -443,6 +535,9 @@ can_release = record {
   sees = λ s. refl;
   written = λ s i. absurd (cc);
   shows = λ s. tt;
+  reads = λ s. refl;
+  noticed = λ s i. absurd (cc);
+  makes = λ s. refl;
 }
 
 abbrev released : World
@@ -471,6 +566,9 @@ can_retake = record {
   sees = λ s. refl;
   written = λ s i. absurd (cc);
   shows = λ s. tt;
+  reads = λ s. refl;
+  noticed = λ s i. absurd (cc);
+  makes = λ s. refl;
 }
 
 pub retaken_world : World

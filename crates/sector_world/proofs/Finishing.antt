@@ -1,5 +1,5 @@
 -- A recovery ends: the dead server's locks are given back, and what was not durable is gone for good.
-use Rattle.std.proofs.Common.{true, List, [], ◌∷◌, IsTrue, ⊎_elim, le_refl, le_of_eq, ℕ, ◌<◌, ◌≤◌, ◌≡◌, ◌≢◌, inl, inr, Option, Some, None, refl, sym, ◌∙◌, ap, subst, arith}
+use Rattle.std.proofs.Common.{true, List, [], ◌∷◌, IsTrue, ⊎_elim, le_refl, le_of_eq, ℕ, ◌<◌, ◌≤◌, ◌≡◌, ◌+◌, ◌≢◌, inl, inr, Option, Some, None, nat_eq, refl, sym, ◌∙◌, ap, subst, arith}
 use Rattle.frang_base.specs.declared.lock.LockId.{LockId}
 use Rattle.frang_base.specs.declared.lock.Mode.{Mode}
 use Rattle.frang_base.specs.declared.lock.Mode.TheVariants.{Sole}
@@ -12,7 +12,7 @@ use Rattle.sector_histories.specs.Histories.{Commit, Item, kept, survives, settl
 use Rattle.sector_histories.specs.OnDisk.{AllDurable, OnDisk}
 use Rattle.sector_histories.specs.OnDisk.OnDisk.{in_place, passed}
 use Rattle.sector_histories.specs.Seen.{Alters}
-use Rattle.frang_base.proofs.Basics.{le_of, le_or_lt, or_equal, at_put, put_other}
+use Rattle.frang_base.proofs.Basics.{by_test, eq_of, le_of, le_or_lt, or_equal, at_put, put_other}
 use Rattle.sector_histories.proofs.Histories.{each_map, rising_kept, kept_logical, replayed_is, on_disk_map, on_disk_kept}
 use Rattle.sector_histories.proofs.Removals.{survives_own, survives_low, ops_kept, own_none, own_kept, all_durable_kept, last_kept}
 use Rattle.sector_histories.proofs.Seen.{unseen_kept, unmet_kept, cover_kept, each_kept_with}
@@ -21,7 +21,7 @@ use Rattle.sector_world.specs.World.Phase.{Off, Up, Dead}
 use Rattle.sector_world.specs.World.Slot.{Absent, Clean, Dirty}
 use Rattle.sector_world.specs.World.Told.{Wanted}
 use Rattle.sector_world.specs.Guards.{NoneNames, to_replay, CanFinish}
-use Rattle.sector_world.specs.Steps.{after}
+use Rattle.sector_world.specs.Steps.{after, dropped, held_until}
 use Rattle.sector_world.specs.Steps.Event.{Finish}
 use Rattle.sector_world.specs.Logged.{now_of, IsCopy, Logged, Covers, Pending, HeldIf, IsAhead, NoneIfOff, AbsentUnlessUp, Agrees, FlightOk, ToldOk, RescueOk}
 use Rattle.sector_world.proofs.Reaching.{sole_held}
@@ -60,6 +60,22 @@ none_named (r ∷ rs) s v n m = ⊎_elim (λ x. let a = n.0 in let b = x.1 in cc
 
 abbrev pub rest : World → ℕ → List Item
 rest w d = kept (survives d (w.durable d)) (settled w.history)
+
+-- the holds on other logs that the dead server had go with its locks
+dropped_is : (a : ℕ) (o : Option ℕ) (b : ℕ) → dropped a o ≡ Some b → o ≡ Some b
+dropped_is a None b e = absurd (cc)
+dropped_is a (Some c) b e = by_test (λ x. x ≡ Some b → Some c ≡ Some b) None (Some c) (nat_eq c a) (λ i j. absurd (cc)) (λ i j. j) e
+
+dropped_other : (a : ℕ) (o : Option ℕ) (b : ℕ) → o ≡ Some b → b ≢ a → dropped a o ≡ Some b
+dropped_other a o b e n = subst (λ x. dropped a x ≡ Some b) (sym e) (by_test (λ x. x ≡ Some b) None (Some b) (nat_eq b a) (λ i. absurd (n (eq_of b a i))) (λ i. refl))
+
+until_most : (o : Option ℕ) (m n : ℕ) → m ≤ n → held_until o m ≤ n
+until_most None m n le = omega arith
+until_most (Some b) m n le = le
+
+until_held : (o : Option ℕ) (b m : ℕ) → o ≡ Some b → held_until o m ≡ m
+until_held None b m e = absurd (cc)
+until_held (Some c) b m e = refl
 
 module _ (w : World) (r : Rescue) (can : CanFinish w r) (g : Logged w) where
   pub k : RescueOk w r
@@ -181,6 +197,9 @@ module _ (w : World) (r : Rescue) (can : CanFinish w r) (g : Logged w) where
       ⊎_elim (λ m. cc) (λ m. none_named (to_replay w r.dead) s (version_of f.block) m (subst (λ x. Named (to_replay w x) s (version_of f.block)) i q.named)) (can.all s))
       q.source in
       let held : w.holds f.behalf (cover w s) ≢ None = sole_held (w.holds f.behalf (cover w s)) q.sole in
+      let still_held : w.taker f.behalf ≡ Some f.by → dropped r.dead (put w.taker r.dead None f.behalf) ≡ Some f.by = λ t.
+      dropped_other r.dead (put w.taker r.dead None f.behalf) f.by (put_other w.taker r.dead None f.behalf other ∙ t)
+      (λ i. let u : f.stamp ≤ w.expiry f.by = q.lease in let v : w.expiry r.dead < w.now = k.ended in let z : w.expiry f.by ≡ w.expiry r.dead = ap w.expiry i in absurd (omega arith)) in
       record {
         place = finish_goes s f.block (not_dead f.behalf s other held) q.place;
         higher = q.higher;
@@ -193,8 +212,8 @@ module _ (w : World) (r : Rescue) (can : CanFinish w r) (g : Logged w) where
               agrees = at_put (λ x. Agrees x (w.slot f.by s) f.block) w.phase r.dead Off f.by (λ i. absurd (other (sym o.same ∙ i))) (λ i. o.agrees);
             }))
             (λ o. inr (record {
-              taker = put_other w.taker r.dead None f.behalf other ∙ o.taker;
-              until = o.until;
+              taker = still_held o.taker;
+              until = subst (λ x. f.stamp ≤ x) (sym (until_held (dropped r.dead (put w.taker r.dead None f.behalf)) f.by (w.until f.behalf) (still_held o.taker))) o.until;
               dead = at_put (λ x. x ≡ Dead) w.phase r.dead Off f.behalf (λ i. absurd (other i)) (λ i. o.dead);
               told = λ x i j. absurd (cc);
               rescuer = λ x i j. absurd (cc);
@@ -210,7 +229,8 @@ module _ (w : World) (r : Rescue) (can : CanFinish w r) (g : Logged w) where
         (λ n m. at_put (λ f. f l ≢ None → a ≡ b) w.holds r.dead (λ t. None) b (λ e i. absurd (i refl)) (λ e i. g.apart a b l m i));
     known = λ b. at_put (λ p. p ≢ Off → b < w.servers) w.phase r.dead Off b (λ e n. absurd (n refl)) (λ n. g.known b);
     leases = g.leases;
-    begun = λ d b. at_put (λ o. o ≡ Some b → (put w.phase r.dead Off d ≡ Dead) × (w.expiry d < w.now)) w.taker r.dead None d (λ i j. absurd (cc)) (λ n j. let q = g.begun d b j in (put_other w.phase r.dead Off d n ∙ q.0, q.1));
+    ends = λ d. until_most (dropped r.dead (put w.taker r.dead None d)) (w.until d) (w.now + 30) (g.ends d);
+    begun = λ d b e. at_put (λ o. o ≡ Some b → (put w.phase r.dead Off d ≡ Dead) × (w.expiry d < w.now)) w.taker r.dead None d (λ i j. absurd (cc)) (λ n j. let q = g.begun d b j in (put_other w.phase r.dead Off d n ∙ q.0, q.1)) (dropped_is r.dead (put w.taker r.dead None d) b e);
     off_free = λ b l. at_put (λ p. NoneIfOff p (put w.holds r.dead (λ t. None) b l)) w.phase r.dead Off b
         (λ e. at_put (λ f. f l ≡ None) w.holds r.dead (λ t. None) b (λ i. refl) (λ n. absurd (n e)))
         (λ n. at_put (λ f. NoneIfOff (w.phase b) (f l)) w.holds r.dead (λ t. None) b (λ i. absurd (n i)) (λ i. g.off_free b l));

@@ -22,7 +22,7 @@ use Rattle.sector_world.specs.Claims.{EachNames, Holds, replayed, left}
 use Rattle.sector_world.proofs.Finishing.{none_replay}
 use Rattle.sector_world.proofs.Versioned.{logged_skip, plain_unchanged, plain_first, unchanged_logical}
 use Rattle.sector_world.proofs.Recoverable.{replay_disk, recoverable}
-use Rattle.sector_world.proofs.Left.{fine_left, left_logged, left_is, still_free, on_disk}
+use Rattle.sector_world.proofs.Left.{fine_left, left_logged, left_is, still_free, on_disk, off_rested}
 
 true_or_false : (b : Bool) → (b ≡ true) ⊎ (b ≡ false)
 true_or_false true = inl refl
@@ -134,6 +134,8 @@ module _ (w : World) (g : Good w) where
     clean_bytes = g.bytes.clean;
     known = g.bytes.knows;
     agree = g.bytes.live;
+    by_plan = g.bytes.by_plan;
+    left_by_plan = (fine_left w g w.servers).by_plan;
     recoverable = left_replayed;
     on_disk = bytes_there;
     on_replayed = bytes_replayed;
@@ -142,6 +144,7 @@ module _ (w : World) (g : Good w) where
     unseen = g.logged.unseen;
     unmet = g.logged.unmet;
     unsynced = g.logged.unsynced;
+    rested = off_rested w g;
     was_kept = g.logged.was_kept;
   }
 

@@ -1,5 +1,5 @@
 -- The clock and the leases, mounting and unmounting.
-use Rattle.std.proofs.Common.{true, false, ⊎_elim, le_refl, le_trans, ℕ, ◌+◌, ◌<◌, ◌≤◌, ◌≡◌, ◌≢◌, inl, inr, Option, Some, None, nat_eq, refl, sym, ◌∙◌, ap, subst, arith}
+use Rattle.std.proofs.Common.{true, false, ⊎_elim, le_refl, le_trans, ℕ, ◌+◌, ◌<◌, ◌≤◌, ◌≡◌, ◌≢◌, inl, inr, Option, Some, None, nat_eq, if◌then◌else◌, refl, sym, ◌∙◌, ap, subst, arith}
 use Rattle.frang_base.specs.declared.lock.Mode.{Mode}
 use Rattle.frang_base.specs.declared.lock.LockId.{LockId}
 use Rattle.sector_bytes.specs.Blocks.{Block}
@@ -13,7 +13,7 @@ use Rattle.sector_world.specs.World.{World, Phase, Slot, Flight, Rescue, cover}
 use Rattle.sector_world.specs.World.Phase.{Off, Up, Dead}
 use Rattle.sector_world.specs.World.Slot.{Absent, Clean, Dirty}
 use Rattle.sector_world.specs.Guards.{CanRenew, CanMount, CanUnmount}
-use Rattle.sector_world.specs.Steps.{after, extended}
+use Rattle.sector_world.specs.Steps.{after, is_taker, extended}
 use Rattle.sector_world.specs.Steps.Event.{Leave, Tick, Renew, Mount, Unmount}
 use Rattle.sector_world.specs.Logged.{Logged, IsNewer, Covers, Pending, HeldIf, NoneIfOff, AbsentUnlessUp, Agrees, FlightOk, RescueOk}
 
@@ -23,6 +23,7 @@ logged_tick w g =
     let rescued : (r : Rescue) → w.rescue ≡ Some r → RescueOk (after w Tick) r = λ r e. let q : RescueOk w r = g.rescued r e in
     record { dead = q.dead; taker = q.taker; ended = (let m : w.expiry r.dead < w.now = q.ended in omega arith); up = q.up; until = q.until; told = q.told } in
     let leases : (a : ℕ) → w.expiry a ≤ w.now + 1 + 30 = λ a. let m : w.expiry a ≤ w.now + 30 = g.leases a in omega arith in
+    let ends : (d : ℕ) → w.until d ≤ w.now + 1 + 30 = λ d. let m : w.until d ≤ w.now + 30 = g.ends d in omega arith in
     let begun : (d b : ℕ) → w.taker d ≡ Some b → (w.phase d ≡ Dead) × (w.expiry d < w.now + 1) = λ d b e. let q = g.begun d b e in (q.0, let m : w.expiry d < w.now = q.1 in omega arith) in
     search
 
@@ -49,26 +50,26 @@ phases_differ : (p : ℕ → Phase) (a b : ℕ) → p a ≡ Up → p b ≡ Dead 
 phases_differ p a b u d e = let q : p a ≡ p b = ap p (sym e) in cc
 
 -- the hold on a log isn't cut short
-extended_up : (a moment : ℕ) (o : Option Rescue) (until : ℕ → ℕ) → ((r : Rescue) → o ≡ Some r → r.by ≡ a → until r.dead ≤ moment) → (d : ℕ) → until d ≤ extended a moment o until d
-extended_up a moment None until f d = omega arith
-extended_up a moment (Some r) until f d =
-    by_test (λ x. until d ≤ x d) (put until r.dead moment) until (nat_eq r.by a)
-    (λ e. at_put (λ x. until d ≤ x) until r.dead moment d (λ i. subst (λ x. until x ≤ moment) (sym i) (f r refl (eq_of r.by a e))) (λ n. omega arith))
-    (λ e. omega arith)
+extended_up : (a moment : ℕ) (taker : ℕ → Option ℕ) (until : ℕ → ℕ) (d : ℕ) → until d ≤ moment → until d ≤ extended a moment taker until d
+extended_up a moment taker until d f = by_test (λ x. until d ≤ x) moment (until d) (is_taker a (taker d)) (λ e. f) (λ e. le_refl (until d))
 
-extended_own : (a moment : ℕ) (r : Rescue) (expiry until : ℕ → ℕ) → until r.dead ≡ expiry r.by → extended a moment (Some r) until r.dead ≡ put expiry a moment r.by
-extended_own a moment r expiry until h =
-    by_test (λ x. x r.dead ≡ put expiry a moment r.by) (put until r.dead moment) until (nat_eq r.by a)
-    (λ e. put_same until r.dead moment ∙ sym (subst (λ x. put expiry a moment x ≡ moment) (sym (eq_of r.by a e)) (put_same expiry a moment)))
-    (λ e. h ∙ sym (put_other expiry a moment r.by (ne_of r.by a e)))
+extended_most : (a moment : ℕ) (taker : ℕ → Option ℕ) (until : ℕ → ℕ) (d : ℕ) → until d ≤ moment → extended a moment taker until d ≤ moment
+extended_most a moment taker until d f = by_test (λ x. x ≤ moment) moment (until d) (is_taker a (taker d)) (λ e. le_refl moment) (λ e. f)
+
+extended_own : (a moment d b : ℕ) (taker : ℕ → Option ℕ) (expiry until : ℕ → ℕ) → taker d ≡ Some b → until d ≡ expiry b → extended a moment taker until d ≡ put expiry a moment b
+extended_own a moment d b taker expiry until t h =
+    subst (λ o. (if is_taker a o then moment else until d) ≡ put expiry a moment b) (sym t)
+    (by_test (λ x. x ≡ put expiry a moment b) moment (until d) (nat_eq b a)
+    (λ e. sym (subst (λ x. put expiry a moment x ≡ moment) (sym (eq_of b a e)) (put_same expiry a moment)))
+    (λ e. h ∙ sym (put_other expiry a moment b (ne_of b a e))))
 
 pub longer : (w : World) (a : ℕ) → w.expiry a < w.now + 30 → (d : ℕ) → w.expiry d ≤ put w.expiry a (w.now + 30) d
 longer w a less d = at_put (λ x. w.expiry d ≤ x) w.expiry a (w.now + 30) d (λ e. let q : w.expiry d ≡ w.expiry a = ap w.expiry e in omega arith) (λ n. omega arith)
 
 pub logged_renew : (w : World) (a : ℕ) → CanRenew w a → Logged w → Logged (after w (Renew a))
 logged_renew w a can g =
-    let held : (d : ℕ) → w.until d ≤ extended a (w.now + 30) w.rescue w.until d =
-    extended_up a (w.now + 30) w.rescue w.until (λ r e i. let z : w.expiry a < w.now + 30 = can.later in let u : w.until r.dead ≡ w.expiry r.by = (g.rescued r e).until in let v : w.expiry r.by ≡ w.expiry a = ap w.expiry i in omega arith) in
+    let held : (d : ℕ) → w.until d ≤ extended a (w.now + 30) w.taker w.until d = λ d. extended_up a (w.now + 30) w.taker w.until d (g.ends d) in
+    let ends : (d' : ℕ) → (after w (Renew a)).until d' ≤ (after w (Renew a)).now + 30 = λ d. extended_most a (w.now + 30) w.taker w.until d (g.ends d) in
     let flights : (s : ℕ) (f : Flight) → w.flight s ≡ Some f → w.now ≤ f.stamp → FlightOk (after w (Renew a)) s f = λ s f e n.
     let q : FlightOk w s f = g.flights s f e n in
     record {
@@ -87,7 +88,7 @@ logged_renew w a can g =
       taker = q.taker;
       ended = at_put (λ x. x < w.now) w.expiry a (w.now + 30) r.dead (λ i. absurd (phases_differ w.phase a r.dead can.up q.dead i)) (λ n. q.ended);
       up = q.up;
-      until = subst (λ o. extended a (w.now + 30) o w.until r.dead ≡ put w.expiry a (w.now + 30) r.by) (sym e) (extended_own a (w.now + 30) r w.expiry w.until q.until);
+      until = extended_own a (w.now + 30) r.dead r.by w.taker w.expiry w.until q.taker q.until;
       told = q.told;
     } in
     let leases : (a' : ℕ) → (after w (Renew a)).expiry a' ≤ (after w (Renew a)).now + 30 = λ b. at_put (λ x. x ≤ w.now + 30) w.expiry a (w.now + 30) b (λ e. le_refl (w.now + 30)) (λ n. g.leases b) in

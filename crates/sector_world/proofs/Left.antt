@@ -12,18 +12,25 @@ use Rattle.frang_base.proofs.Basics.{by_test, of_le, of_lt, of_eq, of_ne, le_or_
 use Rattle.sector_histories.proofs.Histories.{each_map, each_kept}
 use Rattle.sector_histories.proofs.Seen.{each_kept_with, unseen_kept, clear_survives}
 use Rattle.sector_histories.proofs.Removals.{survives_low, ops_kept}
-use Rattle.sector_histories.proofs.Bytes.{survives_up, free_kept, known_kept, known_past, known_marked, writes_reach, doubt_kept, finish_known, recovered_known, agree_kept, data_kept}
+use Rattle.sector_histories.proofs.Bytes.{survives_up, kept_id, free_kept, known_kept, known_past, known_marked, writes_reach, doubt_kept, finish_known, recovered_known, agree_kept, data_kept}
 use Rattle.sector_world.specs.World.{World, Phase, Page, cover, has_version}
 use Rattle.sector_world.specs.World.Phase.{Off, Up, Dead}
 use Rattle.sector_world.specs.Bytes.{IsLoose, PendingBytes}
 use Rattle.sector_bytes.specs.Replays.{change_at, forced}
 use Rattle.frang_base.specs.Functions.{keep_if}
-use Rattle.sector_histories.specs.Plans.{Plan, IsFramed, Legal}
+use Rattle.sector_histories.specs.Plans.{Plan, IsFramed, IsByPlan, Legal}
 use Rattle.sector_histories.proofs.Plans.{legal_kept}
 use Rattle.sector_world.specs.Kinds.{Claimed, Good}
-use Rattle.sector_world.specs.Claims.{left}
+use Rattle.sector_world.specs.Claims.{left_by, left}
 use Rattle.sector_world.proofs.Reaching.{sole_held}
+use Rattle.sector_world.proofs.BytesPlain.{off_none}
 use Rattle.sector_world.proofs.Versioned.{logged_less, claimed_kept}
+
+-- what holds of the list that a recovery leaves, and of the list before where none is needed, holds of the list that is left
+pub by_phase : (P : List Item → Type 0) (p : Phase) (d k n : ℕ) (h : List Item) → (p ≡ Off → P h) → P (recovered d k n h) → P (left_by p d k n h)
+by_phase P Off d k n h off on = off refl
+by_phase P Up d k n h off on = on
+by_phase P Dead d k n h off on = on
 
 -- what all the lists have that recoveries leave
 pub record Fine (w : World) (h : List Item) : Type 0 where
@@ -33,6 +40,7 @@ pub record Fine (w : World) (h : List Item) : Type 0 where
   pub firm : (s : ℕ) → Each (λ a. Alters s a → w.durable a.by < a.op → w.holds a.by (cover w s) ≡ Some Sole) h
   pub claimed : (s : ℕ) → Claimed w.logged s h
   pub moving : (s : ℕ) → Each (λ c. c.claims s ≡ true → Moves s c) h
+  pub by_plan : Each IsByPlan h
 
 fine_recovered : (w : World) (d n : ℕ) (h : List Item) → Fine w h → Fine w (recovered d (w.durable d) n h)
 fine_recovered w d n h f = record {
@@ -42,16 +50,20 @@ fine_recovered w d n h f = record {
   firm = λ s. each_kept (λ a. Alters s a → w.durable a.by < a.op → w.holds a.by (cover w s) ≡ Some Sole) (survives d (w.durable d)) h (f.firm s);
   claimed = λ s. claimed_kept w.logged s d (w.durable d) h f.ops (f.unseen d) (f.moving s) (f.claimed s);
   moving = λ s. each_kept (λ c. c.claims s ≡ true → Moves s c) (survives d (w.durable d)) h (f.moving s);
+  by_plan = each_kept IsByPlan (survives d (w.durable d)) h f.by_plan;
 }
 
 pub fine_left : (w : World) → Good w → (n : ℕ) → Fine w (left w n)
-fine_left w g zero = record { ops = g.logged.ops; live = g.bytes.live; unseen = g.logged.unseen; firm = g.logged.firm; claimed = g.kinds.claimed; moving = g.kinds.moving }
-fine_left w g (suc n) = fine_recovered w n (w.synced n) (left w n) (fine_left w g n)
+fine_left w g zero = record { ops = g.logged.ops; live = g.bytes.live; unseen = g.logged.unseen; firm = g.logged.firm; claimed = g.kinds.claimed; moving = g.kinds.moving; by_plan = g.bytes.by_plan }
+fine_left w g (suc n) =
+    by_phase (Fine w) (w.phase n) n (w.durable n) (w.synced n) (left w n) (λ off. fine_left w g n) (fine_recovered w n (w.synced n) (left w n) (fine_left w g n))
 
 -- a sector that has a version after all recoveries has one now
 pub left_logged : (w : World) (n s : ℕ) → is_logged w.logged (left w n) s ≡ true → has_version w s ≡ true
 left_logged w zero s e = e
-left_logged w (suc n) s e = left_logged w n s (logged_less w.logged s (survives n (w.durable n)) (left w n) e)
+left_logged w (suc n) s e =
+    by_phase (λ h. is_logged w.logged h s ≡ true → has_version w s ≡ true) (w.phase n) n (w.durable n) (w.synced n) (left w n)
+    (λ off. left_logged w n s) (λ v. left_logged w n s (logged_less w.logged s (survives n (w.durable n)) (left w n) v)) e
 
 -- the operations alone, without the marks of doubt
 abbrev pub bare : List Item → List Item
@@ -126,19 +138,44 @@ below_next durable n c =
     lt_or : (a b : ℕ) → (a < b) ⊎ (b ≤ a)
     lt_or a b = grind arith
 
-left_below : (w : World) (n : ℕ) → bare (left w n) ≡ kept (below w.durable n) (bare (settled w.history))
-left_below w zero = sym (all_kept (bare (settled w.history)))
+-- the operations of a server that is off are durable
+below_rested : (durable : ℕ → ℕ) (n : ℕ) (c : Commit) → (c.by ≡ n → c.op ≤ durable n) → below durable n c ≡ below durable (suc n) c
+below_rested durable n c f = and_all (below durable n c) (survives n (durable n) c) (survives_low n (durable n) c f) ∙ below_next durable n c
+  where
+    and_all : (a b : Bool) → b ≡ true → a ≡ (a && b)
+    and_all true b e = sym e
+    and_all false b e = refl
+
+left_below : (w : World) → Good w → (n : ℕ) → bare (left w n) ≡ kept (below w.durable n) (bare (settled w.history))
+left_below w g zero = sym (all_kept (bare (settled w.history)))
   where
     all_kept : (h : List Item) → kept (below w.durable 0) h ≡ h
     all_kept [] = refl
     all_kept (Done c ∷ h) = let a : nat_lt c.by 0 ≡ false = grind (arith, nat_tests) in rw (a, all_kept h)
     all_kept (Doubt m ∷ h) = ap (λ x. Doubt m ∷ x) (all_kept h)
-left_below w (suc n) =
-    bare_kept (survives n (w.durable n)) (left w n)
-    ∙ ap (kept (survives n (w.durable n))) (left_below w n)
+left_below w g (suc n) =
+    by_phase (λ h. bare h ≡ kept (below w.durable (suc n)) (bare (settled w.history))) (w.phase n) n (w.durable n) (w.synced n) (left w n)
+    (λ off. left_below w g n
+    ∙ kept_same (below w.durable n) (below w.durable (suc n)) (bare (settled w.history))
+    (each_bare (λ c. below w.durable n c ≡ below w.durable (suc n) c) (settled w.history)
+    (each_map (λ c. c.op ≤ w.last c.by) (λ c. below w.durable n c ≡ below w.durable (suc n) c)
+    (λ c m. below_rested w.durable n c
+    (λ e. let q : w.last c.by ≤ w.durable c.by = g.logged.rested c.by (ap w.phase e ∙ off) in let z : w.durable c.by ≡ w.durable n = ap w.durable e in omega arith))
+    (settled w.history) g.logged.below)))
+    (bare_kept (survives n (w.durable n)) (left w n)
+    ∙ ap (kept (survives n (w.durable n))) (left_below w g n)
     ∙ kept_two (below w.durable n) (survives n (w.durable n)) (bare (settled w.history))
     ∙ kept_same (λ c. below w.durable n c && survives n (w.durable n) c) (below w.durable (suc n)) (bare (settled w.history))
-    (each_always (λ c. (below w.durable n c && survives n (w.durable n) c) ≡ below w.durable (suc n) c) (below_next w.durable n) (bare (settled w.history)))
+    (each_always (λ c. (below w.durable n c && survives n (w.durable n) c) ≡ below w.durable (suc n) c) (below_next w.durable n) (bare (settled w.history))))
+
+-- a recovery of a server that is off would remove nothing
+pub off_rested : (w : World) → Good w → (d : ℕ) → w.phase d ≡ Off → kept (survives d (w.durable d)) (settled w.history) ≡ settled w.history
+off_rested w g d off =
+    kept_id (survives d (w.durable d)) (settled w.history)
+    (each_map (λ c. c.op ≤ w.last c.by) (λ c. survives d (w.durable d) c ≡ true)
+    (λ c m. survives_low d (w.durable d) c
+    (λ e. let q : w.last c.by ≤ w.durable c.by = g.logged.rested c.by (ap w.phase e ∙ off) in let z : w.durable c.by ≡ w.durable d = ap w.durable e in omega arith))
+    (settled w.history) g.logged.below)
 
 phase_or : (p : Phase) → (p ≡ Off) ⊎ (p ≢ Off)
 phase_or Off = inl refl
@@ -150,7 +187,7 @@ pub left_is : (w : World) → Good w → (s : ℕ) → logical w.opening (left w
 left_is w g s =
     sym (bare_logical w.opening (left w w.servers) s)
     ∙ ap (λ h. logical w.opening h s)
-    (left_below w w.servers
+    (left_below w g w.servers
     ∙ kept_same (below w.durable w.servers) (is_left w.durable) (bare (settled w.history))
     (each_bare (λ c. below w.durable w.servers c ≡ is_left w.durable c) (settled w.history)
     (each_map (λ c. c.op ≤ w.last c.by) (λ c. below w.durable w.servers c ≡ is_left w.durable c)
@@ -168,7 +205,8 @@ left_is w g s =
 pub legal_left : (plan : Plan) → IsFramed plan → (w : World) → Good w → Legal plan w.opening (settled w.history) → (n : ℕ) → Legal plan w.opening (left w n)
 legal_left plan frame w g l zero = l
 legal_left plan frame w g l (suc n) =
-    legal_kept plan w.opening (survives n (w.durable n)) frame (left w n) (clear_survives n (w.durable n) (left w n) (fine_left w g n).ops ((fine_left w g n).unseen n)) (legal_left plan frame w g l n)
+    by_phase (Legal plan w.opening) (w.phase n) n (w.durable n) (w.synced n) (left w n) (λ off. legal_left plan frame w g l n)
+    (legal_kept plan w.opening (survives n (w.durable n)) frame (left w n) (clear_survives n (w.durable n) (left w n) (fine_left w g n).ops ((fine_left w g n).unseen n)) (legal_left plan frame w g l n))
 
 module _ (w : World) (g : Good w) (s : ℕ) where
   durable_stay : (d : ℕ) (h : List Item) → AllWritten w.durable s h → Each (λ a. Writes s a → survives d (w.durable d) a ≡ true) h
@@ -183,6 +221,7 @@ module _ (w : World) (g : Good w) (s : ℕ) where
   still_known v k a zero = (k, a)
   still_known v k a (suc n) =
       let r = still_known v k a n in
+      by_phase (λ h. Known w.first s v h × AllWritten w.durable s h) (w.phase n) n (w.durable n) (w.synced n) (left w n) (λ off. r)
       (in_place_on n (left w n) v (fine_left w g n) r.1 r.0, each_kept (λ a. Writes s a → a.op ≤ w.durable a.by) (survives n (w.durable n)) (left w n) r.1)
 
   -- a free sector whose writes are durable stays free
@@ -190,6 +229,7 @@ module _ (w : World) (g : Good w) (s : ℕ) where
   still_free f a zero = (f, a)
   still_free f a (suc n) =
       let r = still_free f a n in
+      by_phase (λ h. (is_free w.first h s ≡ true) × AllWritten w.durable s h) (w.phase n) n (w.durable n) (w.synced n) (left w n) (λ off. r)
       (free_kept w.first s (survives n (w.durable n)) (left w n) (durable_stay n (left w n) r.1) ∙ r.0, each_kept (λ a. Writes s a → a.op ≤ w.durable a.by) (survives n (w.durable n)) (left w n) r.1)
 
   -- before its holder's log is recovered a sector's bytes keep their place, after that they are known
@@ -198,7 +238,17 @@ module _ (w : World) (g : Good w) (s : ℕ) where
   before_or_after d e zero = inl (omega arith, g.bytes.place s)
   before_or_after d e (suc n) =
       let f : Fine w (left w n) = fine_left w g n in
-      ⊎_elim
+      by_phase
+      (λ h. ((suc n ≤ d) × OnData w.first w.durable s (PendingBytes w s) (w.bytes s) h) ⊎ ((d < suc n) × Known w.first s (w.bytes s) h × AllWritten w.durable s h))
+      (w.phase n) n (w.durable n) (w.synced n) (left w n)
+      (λ off. ⊎_elim
+      (λ m. ⊎_elim (λ l. inl (l, m.1))
+      (λ l. let i : n ≡ d = (let x : n ≤ d = m.0 in omega arith) in
+      absurd (off_none (w.phase n) (w.holds n (cover w s)) off (g.logged.off_free n (cover w s)) (ap (λ x. w.holds x (cover w s)) i ∙ e)))
+      (le_or_lt (suc n) d))
+      (λ m. inr ((let x : d < n = m.0 in omega arith), m.1, m.2))
+      (before_or_after d e n))
+      (⊎_elim
       (λ m. ⊎_elim
       (λ l. let other : w.holds n (cover w s) ≡ Some Sole → ⊥ = (λ q. let z : n ≡ d = g.logged.apart n d (cover w s) q (sole_held (w.holds d (cover w s)) e) in absurd (omega arith)) in
       inl (
@@ -231,7 +281,7 @@ module _ (w : World) (g : Good w) (s : ℕ) where
       ))
       (le_or_lt (suc n) d))
       (λ m. inr ((let x : d < n = m.0 in omega arith), in_place_on n (left w n) (w.bytes s) f m.2 m.1, each_kept (λ a. Writes s a → a.op ≤ w.durable a.by) (survives n (w.durable n)) (left w n) m.2))
-      (before_or_after d e n)
+      (before_or_after d e n))
 
   someone : (h : List Item) → OnData w.first w.durable s (PendingBytes w s) (w.bytes s) h → ((b : ℕ) × (w.holds b (cover w s) ≡ Some Sole) × IsLoose (w.phase b) (w.page b s)) ⊎ (Known w.first s (w.bytes s) h × AllWritten w.durable s h)
   someone h (here k a) = inr (k, a)

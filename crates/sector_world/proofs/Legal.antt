@@ -1,15 +1,15 @@
 -- The history stays legal, through all removals.
-use Rattle.std.proofs.Common.{◌≡◌, ◌≢◌, List, [], ◌∷◌, IsTrue, refl, sym, ◌∙◌, subst}
+use Rattle.std.proofs.Common.{◌≡◌, ◌≢◌, List, [], ◌∷◌, refl, ◌∙◌}
 use Rattle.sector_bytes.specs.Blocks.{Block}
 use Rattle.sector_histories.specs.Histories.{Commit, settled, survives}
 use Rattle.sector_histories.specs.Histories.Item.{Done}
-use Rattle.sector_histories.specs.Plans.{Plan, looks, IsFramed, Legal}
+use Rattle.sector_histories.specs.Plans.{Plan, outcome_of, IsFramed, Legal}
 use Rattle.sector_histories.proofs.Plans.{legal_kept}
 use Rattle.sector_histories.proofs.Seen.{clear_survives}
 use Rattle.sector_world.specs.World.{World, Slot}
 use Rattle.sector_world.specs.World.Slot.{Absent, Clean, Dirty}
 use Rattle.sector_world.specs.Steps.{Event, after, Run}
-use Rattle.sector_world.specs.Steps.Event.{Tick, Leave, Renew, Mount, Unmount, Take, Give, Lower, Do, Reach, Ack, Sync, Reclaim, Crash, Begin, Look, Finish, Fetch, Issue, Replay, Land, Fade, Break, BreakNew, FetchBytes, Clear, IssueBytes, LandBytes, FadeBytes, BreakBytes, BreakBytesNew, Settle}
+use Rattle.sector_world.specs.Steps.Event.{Tick, Leave, Fail, Renew, Mount, Unmount, Take, Give, Lower, Do, Reach, Ack, Sync, Reclaim, Crash, Begin, Look, Finish, Fetch, Issue, Replay, Land, Fade, Break, BreakNew, FetchBytes, Clear, IssueBytes, LandBytes, FadeBytes, BreakBytes, BreakBytesNew, Settle}
 use Rattle.sector_world.specs.Steps.Run.{stays, goes}
 use Rattle.sector_world.specs.Logged.{now_of, IsCopy}
 use Rattle.sector_world.specs.Kinds.{Good}
@@ -24,8 +24,8 @@ copy_block (Dirty z mark) other block n i = i
 
 legal_do : (plan : Plan) → IsFramed plan → (w : World) (c : Commit) → IsPlanned plan w c → Good w → Legal plan w.opening (settled w.history) → Legal plan w.opening (Done c ∷ settled w.history)
 legal_do plan frame w c p g l = (
-  p.outcome ∙ frame c.op c.asked (λ s. cached (w.opening s) (w.slot c.by s)) (now_of w)
-      (λ s t. copy_block (w.slot c.by s) (w.opening s) (now_of w s) (p.there s (subst (λ o. IsTrue (looks o s)) (sym p.outcome) t)) (g.logged.copies c.by s)),
+  frame c.hint c.op c.asked (λ s. cached (w.opening s) (w.slot c.by s)) (now_of w) (outcome_of c) p.outcome
+      (λ s t. copy_block (w.slot c.by s) (w.opening s) (now_of w s) (p.there s t) (g.logged.copies c.by s)),
   l,
 )
 
@@ -34,6 +34,7 @@ legal_step plan frame w (Do c) p g l = legal_do plan frame w c p g l
 legal_step plan frame w (Finish r) p g l = legal_kept plan w.opening (survives r.dead (w.durable r.dead)) frame (settled w.history) (clear_survives r.dead (w.durable r.dead) (settled w.history) g.logged.ops (g.logged.unseen r.dead)) l
 legal_step plan frame w Tick p g l = l
 legal_step plan frame w Leave p g l = l
+legal_step plan frame w (Fail a) p g l = l
 legal_step plan frame w (Renew a) p g l = l
 legal_step plan frame w (Mount a) p g l = l
 legal_step plan frame w (Unmount a) p g l = l
@@ -73,6 +74,7 @@ legal_good plan frame w g l = record { live = l; left = legal_left plan frame w 
 opening_step : (w : World) (e : Event) → (after w e).opening ≡ w.opening
 opening_step w Tick = refl
 opening_step w Leave = refl
+opening_step w (Fail a) = refl
 opening_step w (Renew a) = refl
 opening_step w (Mount a) = refl
 opening_step w (Unmount a) = refl

@@ -22,3 +22,4 @@ pub mod Holding
 pub mod Legal
 pub mod Trees
 pub mod Examples
+pub mod Quiet

@@ -7,7 +7,7 @@ use Rattle.frang_base.proofs.Basics.{by_some, of_eq, of_ne, or_equal}
 use Rattle.sector_world.specs.World.{World, Flight, ByteFlight, Rescue, has_version, block_at}
 use Rattle.sector_world.specs.Guards.{CanLand, CanLandBytes, CanDo, CanFinish}
 use Rattle.sector_world.specs.Steps.{Event, Can, after}
-use Rattle.sector_world.specs.Steps.Event.{Tick, Leave, Renew, Mount, Unmount, Take, Give, Lower, Do, Reach, Ack, Sync, Reclaim, Crash, Begin, Look, Finish, Fetch, Issue, Replay, Land, Fade, Break, BreakNew, FetchBytes, Clear, IssueBytes, LandBytes, FadeBytes, BreakBytes, BreakBytesNew, Settle}
+use Rattle.sector_world.specs.Steps.Event.{Tick, Leave, Fail, Renew, Mount, Unmount, Take, Give, Lower, Do, Reach, Ack, Sync, Reclaim, Crash, Begin, Look, Finish, Fetch, Issue, Replay, Land, Fade, Break, BreakNew, FetchBytes, Clear, IssueBytes, LandBytes, FadeBytes, BreakBytes, BreakBytesNew, Settle}
 use Rattle.sector_world.specs.Logged.{Logged, Pending, FlightOk}
 use Rattle.sector_world.specs.Bytes.{ByteFlightOk, IsDiskPage}
 use Rattle.sector_world.specs.Kinds.{Kinds, Good}
@@ -62,6 +62,7 @@ orderly_good w g (LandBytes s f) can = plain w g s f can
 orderly_good w g (BreakBytesNew s f) can = plain w g s f can
 orderly_good w g Tick can = tt
 orderly_good w g Leave can = tt
+orderly_good w g (Fail a) can = tt
 orderly_good w g (Renew a) can = tt
 orderly_good w g (Mount a) can = tt
 orderly_good w g (Unmount a) can = tt
@@ -137,6 +138,7 @@ one_disk_good w g (LandBytes t f) can s = bytes_came (has_version w s) t s f.blo
 one_disk_good w g (BreakBytesNew t f) can s = bytes_came (has_version w s) t s f.block w.disk w.bytes (λ e. ap (has_version w) (sym e) ∙ landed_plain w t f can g.kinds)
 one_disk_good w g Tick can s = refl
 one_disk_good w g Leave can s = refl
+one_disk_good w g (Fail a) can s = refl
 one_disk_good w g (Renew a) can s = refl
 one_disk_good w g (Mount a) can s = refl
 one_disk_good w g (Unmount a) can s = refl

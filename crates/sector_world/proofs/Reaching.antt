@@ -37,6 +37,7 @@ module _ (w : World) (d k : ℕ) (can : CanReach w d k) (g : Logged w) where
     apart = g.apart;
     known = g.known;
     leases = g.leases;
+    ends = g.ends;
     begun = g.begun;
     off_free = g.off_free;
     rested = λ e i. le_trans (g.rested e i) (reach_up e);

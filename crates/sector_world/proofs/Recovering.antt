@@ -1,5 +1,5 @@
 -- A recovery beside live servers: it begins, looks at sectors, and writes them.
-use Rattle.std.proofs.Common.{List, ⊎_elim, ℕ, ◌-◌, ◌<◌, ◌≤◌, ◌≡◌, ◌≢◌, ◌⊎◌, inl, inr, Option, Some, None, nat_lt, refl, sym, ◌∙◌, ap, subst, arith}
+use Rattle.std.proofs.Common.{List, ⊎_elim, ℕ, ◌+◌, ◌-◌, ◌<◌, ◌≤◌, ◌≡◌, ◌≢◌, ◌⊎◌, inl, inr, Option, Some, None, nat_lt, refl, sym, ◌∙◌, ap, subst, arith}
 use Rattle.std.proofs.lemmas.Bool.Decides.{nat_tests}
 use Rattle.frang_base.specs.declared.lock.Mode.{Mode}
 use Rattle.frang_base.specs.declared.lock.Mode.TheVariants.{Shared, Sole}
@@ -23,7 +23,8 @@ use Rattle.sector_world.proofs.Reaching.{sole_held, at_flight}
 use Rattle.sector_world.proofs.Landing.{other_replay}
 
 pub logged_begin : (w : World) (d b : ℕ) → CanBegin w d b → Logged w → Logged (after w (Begin d b))
-logged_begin w d b can g = let begun : (d' b' : ℕ) → (after w (Begin d b)).taker d' ≡ Some b' → ((after w (Begin d b)).phase d' ≡ Dead) × ((after w (Begin d b)).expiry d' < (after w (Begin d b)).now) = λ e x. at_put (λ o. o ≡ Some x → (w.phase e ≡ Dead) × (w.expiry e < w.now)) w.taker d (Some b) e (λ i j. (ap w.phase i ∙ can.dead, subst (λ y. w.expiry y < w.now) (sym i) can.ended)) (λ n. g.begun e x) in
+logged_begin w d b can g = let ends : (d' : ℕ) → (after w (Begin d b)).until d' ≤ (after w (Begin d b)).now + 30 = λ e. at_put (λ x. x ≤ w.now + 30) w.until d (w.expiry b) e (λ i. g.leases b) (λ n. g.ends e) in
+    let begun : (d' b' : ℕ) → (after w (Begin d b)).taker d' ≡ Some b' → ((after w (Begin d b)).phase d' ≡ Dead) × ((after w (Begin d b)).expiry d' < (after w (Begin d b)).now) = λ e x. at_put (λ o. o ≡ Some x → (w.phase e ≡ Dead) × (w.expiry e < w.now)) w.taker d (Some b) e (λ i j. (ap w.phase i ∙ can.dead, subst (λ y. w.expiry y < w.now) (sym i) can.ended)) (λ n. g.begun e x) in
     let flights : (s' : ℕ) (f' : Flight) → (after w (Begin d b)).flight s' ≡ Some f' → (after w (Begin d b)).now ≤ f'.stamp → FlightOk (after w (Begin d b)) s' f' = λ s f e n. let q : FlightOk w s f = g.flights s f e n in
     record {
       place = q.place;

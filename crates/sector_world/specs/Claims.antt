@@ -6,12 +6,13 @@ use Rattle.sector_bytes.specs.Replays.{change_at, redo_all}
 use Rattle.frang_base.specs.declared.change.Change.{Change}
 use Rattle.frang_base.specs.declared.lock.LockId.{LockId}
 use Rattle.frang_base.specs.declared.lock.Mode.TheVariants.{Sole}
-use Rattle.sector_histories.specs.Histories.{Item, settled, recovered, logical, OpsRise, Named, is_logged}
-use Rattle.sector_histories.specs.Bytes.{Known, Agree}
+use Rattle.sector_histories.specs.Histories.{Item, settled, kept, survives, recovered, logical, Each, OpsRise, Named, is_logged}
+use Rattle.sector_histories.specs.Bytes.{Known, Agree, is_free}
+use Rattle.sector_histories.specs.Plans.{IsByPlan}
 use Rattle.sector_histories.specs.Seen.{Unmet, Unseen, Unsynced, Kept}
-use Rattle.sector_world.specs.World.{World, Flight, ByteFlight, cover, block_at, has_version}
-use Rattle.sector_world.specs.World.Phase.{Off}
-use Rattle.sector_world.specs.Guards.{to_replay}
+use Rattle.sector_world.specs.World.{World, Phase, Flight, ByteFlight, cover, block_at, has_version}
+use Rattle.sector_world.specs.World.Phase.{Off, Up, Dead}
+use Rattle.sector_world.specs.Guards.{to_replay, NotDirty, NoDirtyPage}
 use Rattle.sector_world.specs.Steps.{Event, after}
 use Rattle.sector_world.specs.Steps.Event.{Land, BreakNew, LandBytes, BreakBytesNew}
 use Rattle.sector_world.specs.Logged.{now_of, IsCopy}
@@ -22,10 +23,16 @@ abbrev pub replayed : World → ℕ → ℕ → Block
 replayed w zero s = block_at w s
 replayed w (suc n) s = redo_all (to_replay w n) s (replayed w n s)
 
--- what is left of the settled history if the logs of the servers below n were recovered now, in their order
+-- what a recovery of d's log would leave now; a server that is off has nothing to recover, and nothing of it comes into doubt
+abbrev pub left_by : Phase → ℕ → ℕ → ℕ → List Item → List Item
+left_by Off d k n h = h
+left_by Up d k n h = recovered d k n h
+left_by Dead d k n h = recovered d k n h
+
+-- what is left of the settled history if the logs of the servers below n that aren't off were recovered now, in their order
 abbrev pub left : World → ℕ → List Item
 left w zero = settled w.history
-left w (suc n) = recovered n (w.durable n) (w.synced n) (left w n)
+left w (suc n) = left_by (w.phase n) n (w.durable n) (w.synced n) (left w n)
 
 -- A write of a sector with a version comes to the disk in order: the version rises; a durable record of the log on whose
 -- behalf it comes names it with this version; it comes within its server's lease, with no recovery of its server begun; and
@@ -95,6 +102,9 @@ pub record Holds (w : World) : Type 0 where
   -- what is known of bytes is what a read shows, and each read of the settled history showed the bytes that were known
   pub known : (s : ℕ) → Known w.first s (w.truth s) (settled w.history)
   pub agree : Agree w.first (settled w.history)
+  -- what each operation read and made of bytes is what its plan said, also without what recoveries of all logs would remove
+  pub by_plan : Each IsByPlan (settled w.history)
+  pub left_by_plan : Each IsByPlan (left w w.servers)
   -- the disk with all logs replayed is the logical disk of what recoveries of all logs would leave
   pub recoverable : (s : ℕ) → is_logged w.logged (left w w.servers) s ≡ true → replayed w w.servers s ≡ logical w.opening (left w w.servers) s
   -- the disk, with no replay and with one, has all bytes that recoveries of all logs would leave known
@@ -106,5 +116,18 @@ pub record Holds (w : World) : Type 0 where
   pub unseen : (d : ℕ) → Unseen d (w.durable d) (settled w.history)
   pub unmet : (d : ℕ) → Unmet d (w.durable d) (settled w.history)
   pub unsynced : (d : ℕ) → Unsynced d (w.durable d) w.history
+  -- of a server that is off it would remove nothing
+  pub rested : (d : ℕ) → w.phase d ≡ Off → kept (survives d (w.durable d)) (settled w.history) ≡ settled w.history
   -- and so was what each recovery removed
   pub was_kept : Kept w.history
+
+-- no server is dead, and none has anything dirty
+pub record IsQuiet (w : World) : Type 0 where
+  pub alive : (a : ℕ) → w.phase a ≢ Dead
+  pub clean : (a s : ℕ) → NotDirty (w.slot a s)
+  pub clean_bytes : (a s : ℕ) → NoDirtyPage (w.page a s)
+
+-- then the disk has what was done: each sector with a version is the logical one, and the bytes are those that a read shows
+pub record IsSettled (w : World) : Type 0 where
+  pub sectors : (s : ℕ) → w.disk s ≡ now_of w s
+  pub bytes : (s : ℕ) → is_free w.first (settled w.history) s ≡ false → w.bytes s ≡ w.truth s

@@ -17,11 +17,13 @@ use Rattle.sector_histories.specs.Histories.{Commit, Item, settled}
 use Rattle.sector_histories.specs.Histories.Fill.{Written, Freed}
 use Rattle.sector_histories.specs.Histories.Item.{Done, Doubt}
 use Rattle.sector_world.specs.World.{World, Flight, Rescue, start, cover, has_version}
+use Rattle.sector_world.specs.World.Phase.{Dead}
 use Rattle.sector_world.specs.World.Page.{NoPage, FreedPage}
 use Rattle.sector_world.specs.World.Slot.{Dirty}
 use Rattle.sector_world.specs.World.Told.{Unread, Wanted, InPlace}
 use Rattle.sector_world.specs.Steps.{Event, Run}
-use Rattle.sector_world.specs.Steps.Event.{Tick, Renew, Mount, Take, Do, Reach, Ack, Sync, Crash, Begin, Look, Finish, Fetch, Issue, Replay, Land, Fade, FetchBytes, Clear, IssueBytes, LandBytes}
+use Rattle.sector_world.specs.Claims.{IsQuiet}
+use Rattle.sector_world.specs.Steps.Event.{Tick, Fail, Renew, Mount, Take, Do, Reach, Ack, Sync, Crash, Begin, Look, Finish, Fetch, Issue, Replay, Land, Fade, FetchBytes, Clear, IssueBytes, LandBytes}
 
 -- three servers and a disk of zeros
 abbrev pub begin : World
@@ -40,6 +42,7 @@ abbrev pub deed : Commit
 deed = record {
   by = 0;
   op = 1;
+  hint = [];
   asked = op.Sync;
   reply = reply.Ok;
   blocks = 0;
@@ -47,6 +50,8 @@ deed = record {
   changes = change ∷ [];
   claims = λ s. false;
   moves = λ s. None;
+  reads = [];
+  makes = λ s. None;
   writes = λ s. None;
   sees = λ s. has_lock (Node s) (Node 5 ∷ []);
   shown = λ s. None;
@@ -120,6 +125,36 @@ pub record IsTwiceRun (w : World) : Type 0 where
   pub there : (m : ℕ → Bool) × (settled w.history ≡ Doubt m ∷ Done deed ∷ [])
   pub disk : w.disk 5 ≡ new_block
 
+-- a recoverer whose get failed still renews its lease and ends the recovery
+abbrev pub failed : List Event
+failed = done (Crash 0 ∷ ticks 31 (Begin 0 1 ∷ Fail 1 ∷ Renew 1 ∷ Finish (rescue 1) ∷ []))
+
+-- the run leads here, where nothing is on the way
+pub record IsFailedRun (w : World) : Type 0 where
+  pub run : Run begin failed w
+  pub sick : w.sick 1 ≡ true
+  pub quiet : IsQuiet w
+
+-- a recoverer renews its lease
+abbrev pub renewed : List Event
+renewed = done (Crash 0 ∷ ticks 31 (Begin 0 1 ∷ Renew 1 ∷ []))
+
+-- the recovery of server 1's log by server 2
+abbrev pub second_rescue : Rescue
+second_rescue = record { dead = 1; by = 2; told = λ s. Unread }
+
+-- and dies, and is recovered
+abbrev pub handed : List Event
+handed = Crash 1 ∷ ticks 31 (Begin 1 2 ∷ Finish second_rescue ∷ [])
+
+-- its hold on server 0's log is extended with its lease, and gone once it is recovered itself
+pub record IsHandedRun (v w : World) : Type 0 where
+  pub run : Run begin renewed v
+  pub held : (v.taker 0 ≡ Some 1) × (v.until 0 ≡ 62)
+  pub next : Run v handed w
+  pub gone : (w.taker 0 ≡ None) × (w.until 0 ≡ 0)
+  pub dead : w.phase 0 ≡ Dead
+
 -- a write comes late: the sector stays dirty, and the disk as it was
 abbrev pub late : List Event
 late = done (Reach 0 1 ∷ Ack 0 1 ∷ Issue 0 5 new_block 1 ∷ ticks 16 (Fade 5 (write 0 16) ∷ []))
@@ -139,6 +174,7 @@ abbrev pub scribble : Commit
 scribble = record {
   by = 0;
   op = 1;
+  hint = [];
   asked = op.Sync;
   reply = reply.Ok;
   blocks = 0;
@@ -146,6 +182,8 @@ scribble = record {
   changes = [];
   claims = λ s. false;
   moves = λ s. None;
+  reads = [];
+  makes = λ s. if nat_eq s 9 then Some (λ shown. Written bytes) else None;
   writes = λ s. if nat_eq s 9 then Some (Written bytes) else None;
   sees = λ s. has_lock (Node s) (Node 9 ∷ []);
   shown = λ s. None;
@@ -158,6 +196,7 @@ abbrev pub reading : Commit
 reading = record {
   by = 1;
   op = 2;
+  hint = [];
   asked = op.Sync;
   reply = reply.Ok;
   blocks = 0;
@@ -165,9 +204,11 @@ reading = record {
   changes = [];
   claims = λ s. false;
   moves = λ s. None;
+  reads = 9 ∷ [];
+  makes = λ s. None;
   writes = λ s. None;
   sees = λ s. has_lock (Node s) (Node 9 ∷ []);
-  shown = λ s. if nat_eq s 9 then Some zero_block else None;
+  shown = λ s. if nat_eq 9 s then Some zero_block else None;
   uses = Node 9 ∷ [];
   alone = [];
 }
@@ -196,6 +237,7 @@ abbrev pub claim : Commit
 claim = record {
   by = 0;
   op = 1;
+  hint = [];
   asked = op.Sync;
   reply = reply.Ok;
   blocks = 0;
@@ -203,6 +245,8 @@ claim = record {
   changes = change_8 ∷ [];
   claims = λ s. nat_eq s 8;
   moves = λ s. if nat_eq s 8 then Some (Node 5) else None;
+  reads = [];
+  makes = λ s. None;
   writes = λ s. None;
   sees = λ s. has_lock (Node s) (Node 8 ∷ Node 5 ∷ []);
   shown = λ s. None;
@@ -226,6 +270,7 @@ abbrev pub freeing : Commit
 freeing = record {
   by = 0;
   op = 2;
+  hint = [];
   asked = op.Sync;
   reply = reply.Ok;
   blocks = 0;
@@ -233,6 +278,8 @@ freeing = record {
   changes = [];
   claims = λ s. false;
   moves = λ s. if nat_eq s 9 then Some (Node 5) else None;
+  reads = [];
+  makes = λ s. if nat_eq s 9 then Some (λ shown. Freed) else None;
   writes = λ s. if nat_eq s 9 then Some Freed else None;
   sees = λ s. has_lock (Node s) (Node 9 ∷ Node 5 ∷ []);
   shown = λ s. None;
@@ -256,6 +303,7 @@ abbrev pub releasing : Commit
 releasing = record {
   by = 0;
   op = 1;
+  hint = [];
   asked = op.Sync;
   reply = reply.Ok;
   blocks = 0;
@@ -263,6 +311,8 @@ releasing = record {
   changes = change ∷ [];
   claims = λ s. false;
   moves = λ s. if nat_eq s 5 then Some (Node 6) else None;
+  reads = [];
+  makes = λ s. None;
   writes = λ s. None;
   sees = λ s. has_lock (Node s) (Node 5 ∷ Node 6 ∷ []);
   shown = λ s. None;
@@ -281,6 +331,7 @@ abbrev pub retaking : Commit
 retaking = record {
   by = 0;
   op = 2;
+  hint = [];
   asked = op.Sync;
   reply = reply.Ok;
   blocks = 0;
@@ -288,6 +339,8 @@ retaking = record {
   changes = change_again ∷ [];
   claims = λ s. false;
   moves = λ s. if nat_eq s 5 then Some (Node 5) else None;
+  reads = [];
+  makes = λ s. None;
   writes = λ s. None;
   sees = λ s. has_lock (released_cover s) (Node 5 ∷ Node 6 ∷ []);
   shown = λ s. None;

@@ -1,5 +1,5 @@
 -- When each event may happen.
-use Rattle.std.specs.Prelude.{true, false, Bool, ℕ, ◌≡◌, ◌≢◌, ◌<◌, ◌≤◌, ◌+◌, ◌⊎◌, List, [], ◌∷◌, Option, Some, None, IsTrue}
+use Rattle.std.specs.Prelude.{true, false, Bool, ℕ, ◌≡◌, ◌≢◌, ◌<◌, ◌≤◌, ◌+◌, ◌⊎◌, List, [], ◌∷◌, Option, Some, None, IsTrue, IsSome, is_some}
 use Rattle.frang_base.specs.declared.limits.TheConstants.{LEASE_TICKS}
 use Rattle.frang_base.specs.declared.change.Change.{Change}
 use Rattle.frang_base.specs.declared.lock.LockId.{LockId}
@@ -8,10 +8,12 @@ use Rattle.frang_base.specs.declared.lock.Mode.TheVariants.{Shared, Sole}
 use Rattle.sector_bytes.specs.Blocks.{Block, version_of, zero_block}
 use Rattle.frang_base.specs.declared.change.Redo.{Redo}
 use Rattle.sector_bytes.specs.Replays.{change_at, up_to}
+use Rattle.frang_base.specs.Functions.{member}
 use Rattle.frang_base.specs.Locks.{has_lock}
-use Rattle.sector_histories.specs.Histories.{Commit, settled, is_logged, touches, Changes, Moves, Writes}
+use Rattle.sector_histories.specs.Histories.{Commit, settled, is_logged, touches, reaches, Changes, Moves, Writes}
 use Rattle.sector_histories.specs.Histories.Item.{Done}
 use Rattle.sector_histories.specs.Bytes.{is_free}
+use Rattle.sector_histories.specs.Plans.{made_of}
 use Rattle.sector_world.specs.World.{World, Slot, Page, Flight, ByteFlight, Rescue, cover, has_version}
 use Rattle.sector_world.specs.World.Phase.{Off, Up, Dead}
 use Rattle.sector_world.specs.World.Slot.{Absent, Clean, Dirty}
@@ -155,6 +157,10 @@ pub record CanDo (w : World) (c : Commit) : Type 0 where
   pub sees : (s : ℕ) → c.sees s ≡ has_lock (cover w s) c.uses
   pub written : (s : ℕ) → Writes s c → w.holds c.by (cover w s) ≡ Some Sole
   pub shows : (s : ℕ) → Shows (c.shown s) (w.page c.by s)
+  -- the bytes by the plan: it shows those that the plan reads, counts as a look where it does, and makes of them what the plan says
+  pub reads : (s : ℕ) → is_some (c.shown s) ≡ member s c.reads
+  pub noticed : (s : ℕ) → IsSome (c.shown s) → IsTrue (reaches c s)
+  pub makes : (s : ℕ) → c.writes s ≡ made_of (c.makes s) (c.shown s)
 
 -- a part of the log may come to the disk as long as the lease lasts, also of a dead server
 pub record CanReach (w : World) (d k : ℕ) : Type 0 where
@@ -199,7 +205,7 @@ pub record CanFetch (w : World) (a s : ℕ) : Type 0 where
   pub held : w.holds a (cover w s) ≢ None
   pub absent : w.slot a s ≡ Absent
 
--- a dirty sector whose record is known to be on the disk, by a server no put of which failed, with no write of it in flight
+-- a dirty sector whose record is known to be on the disk, by a server no call of which failed, with no write of it in flight
 pub record CanIssue (w : World) (a s : ℕ) (block : Block) (mark : ℕ) : Type 0 where
   pub well : w.sick a ≡ false
   pub up : w.phase a ≡ Up

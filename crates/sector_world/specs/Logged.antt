@@ -132,6 +132,7 @@ Logged w = record {
   apart : (a b : ℕ) (l : LockId) → w.holds a l ≡ Some Sole → w.holds b l ≢ None → a ≡ b;
   known : (a : ℕ) → w.phase a ≢ Off → a < w.servers;
   leases : (a : ℕ) → w.expiry a ≤ w.now + LEASE_TICKS;
+  ends : (d : ℕ) → w.until d ≤ w.now + LEASE_TICKS;
   begun : (d b : ℕ) → w.taker d ≡ Some b → (w.phase d ≡ Dead) × (w.expiry d < w.now);
   off_free : (a : ℕ) (l : LockId) → NoneIfOff (w.phase a) (w.holds a l);
   rested : (a : ℕ) → w.phase a ≡ Off → w.last a ≤ w.durable a;

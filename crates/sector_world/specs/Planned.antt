@@ -1,5 +1,5 @@
 -- Runs whose operations are planned over what their servers have cached.
-use Rattle.std.specs.Prelude.{ℕ, ◌≡◌, ◌≢◌, List, [], ◌∷◌, IsTrue}
+use Rattle.std.specs.Prelude.{ℕ, ◌≡◌, ◌≢◌, List, [], ◌∷◌, Some, IsTrue}
 use Rattle.sector_bytes.specs.Blocks.{Block}
 use Rattle.sector_histories.specs.Histories.{Commit, settled, touches}
 use Rattle.sector_histories.specs.Plans.{Plan, outcome_of, Legal}
@@ -17,7 +17,7 @@ cached other (Dirty block mark) = block
 
 -- the operation is what the plan says over the cached sectors, and looks at no other
 pub record IsPlanned (plan : Plan) (w : World) (c : Commit) : Type 0 where
-  pub outcome : outcome_of c ≡ plan c.op c.asked (λ s. cached (w.opening s) (w.slot c.by s))
+  pub outcome : plan c.hint c.op c.asked (λ s. cached (w.opening s) (w.slot c.by s)) ≡ Some (outcome_of c)
   pub there : (s : ℕ) → IsTrue (touches c s) → w.slot c.by s ≢ Absent
 
 -- if the event is an operation, it is planned

@@ -24,6 +24,7 @@ use Rattle.sector_world.specs.Guards.{to_replay, CanRenew, CanMount, CanUnmount,
 pub data Event : Type 0 where
   Tick : Event
   Leave : Event
+  Fail : (a : ℕ) → Event
   Renew : (a : ℕ) → Event
   Mount : (a : ℕ) → Event
   Unmount : (a : ℕ) → Event
@@ -59,6 +60,7 @@ pub data Event : Type 0 where
 abbrev pub Can : World → Event → Type 0
 Can w Tick = Unit {0}
 Can w Leave = Unit {0}
+Can w (Fail a) = Unit {0}
 Can w (Renew a) = CanRenew w a
 Can w (Mount a) = CanMount w a
 Can w (Unmount a) = CanUnmount w a
@@ -108,15 +110,34 @@ abbrev pub rescue_landed : ℕ → ℕ → Option Rescue → Option Rescue
 rescue_landed d s None = None
 rescue_landed d s (Some r) = Some (record { dead = r.dead; by = r.by; told = if nat_eq r.dead d then put r.told s InPlace else r.told })
 
--- the recovery after its server died, or a put of it failed
+-- the recovery after its server died
 abbrev pub rescue_left : ℕ → Option Rescue → Option Rescue
 rescue_left a None = None
 rescue_left a (Some r) = if nat_eq r.by a then None else Some r
 
+-- the recovery after a put on behalf of d failed: it is over where the log is d's
+abbrev pub rescue_broken : ℕ → Option Rescue → Option Rescue
+rescue_broken d None = None
+rescue_broken d (Some r) = if nat_eq r.dead d then None else Some r
+
+-- the log is held by this server
+abbrev pub is_taker : ℕ → Option ℕ → Bool
+is_taker a None = false
+is_taker a (Some b) = nat_eq b a
+
 -- the holds on logs after a server renewed its lease to this moment
-abbrev pub extended : ℕ → ℕ → Option Rescue → (ℕ → ℕ) → ℕ → ℕ
-extended a moment None until = until
-extended a moment (Some r) until = if nat_eq r.by a then put until r.dead moment else until
+abbrev pub extended : ℕ → ℕ → (ℕ → Option ℕ) → (ℕ → ℕ) → ℕ → ℕ
+extended a moment taker until d = if is_taker a (taker d) then moment else until d
+
+-- who holds a log once this server holds none
+abbrev pub dropped : ℕ → Option ℕ → Option ℕ
+dropped a None = None
+dropped a (Some b) = if nat_eq b a then None else Some b
+
+-- until when a log is held, where it is
+abbrev pub held_until : Option ℕ → ℕ → ℕ
+held_until None moment = 0
+held_until (Some b) moment = moment
 
 -- what is found of a sector: a replay makes this of what the disk has
 abbrev pub found : Block → Block → Told
@@ -163,7 +184,9 @@ abbrev pub after : World → Event → World
 after w Tick = record w { now = w.now + 1 }
 -- a recovery isn't gone on with
 after w Leave = record w { rescue = None }
-after w (Renew a) = record w { expiry = put w.expiry a (w.now + LEASE_TICKS); until = extended a (w.now + LEASE_TICKS) w.rescue w.until }
+-- a get failed: the server issues no more in this mount
+after w (Fail a) = record w { sick = put w.sick a true }
+after w (Renew a) = record w { expiry = put w.expiry a (w.now + LEASE_TICKS); until = extended a (w.now + LEASE_TICKS) w.taker w.until }
 after w (Mount a) = record w {
   phase = put w.phase a Up;
   expiry = put w.expiry a (w.now + LEASE_TICKS);
@@ -211,7 +234,8 @@ after w (Finish r) = record w {
   acked = put w.acked r.dead (w.durable r.dead);
   last = put w.last r.dead (w.durable r.dead);
   truth = λ s. truth_left (w.holds r.dead (cover w s)) (w.bytes s) (w.truth s);
-  taker = put w.taker r.dead None;
+  taker = λ d. dropped r.dead (put w.taker r.dead None d);
+  until = λ d. held_until (dropped r.dead (put w.taker r.dead None d)) (w.until d);
   rescue = None;
   history = Recovered r.dead (w.durable r.dead) ∷ w.history;
 }
@@ -226,8 +250,8 @@ after w (Land s f) = record w {
 }
 after w (Fade s f) = record w { flight = put w.flight s None }
 -- a put failed, and left the old sector or the new one
-after w (Break s f) = record w { flight = put w.flight s None; sick = put w.sick f.by true; rescue = rescue_left f.by w.rescue }
-after w (BreakNew s f) = record w { disk = put w.disk s f.block; flight = put w.flight s None; sick = put w.sick f.by true; rescue = rescue_left f.by w.rescue }
+after w (Break s f) = record w { flight = put w.flight s None; sick = put w.sick f.by true; rescue = rescue_broken f.behalf w.rescue }
+after w (BreakNew s f) = record w { disk = put w.disk s f.block; flight = put w.flight s None; sick = put w.sick f.by true; rescue = rescue_broken f.behalf w.rescue }
 after w (FetchBytes a s) = record w { page = put2 w.page a s (CleanPage (w.bytes s)) }
 after w (Clear a s) = record w { page = put2 w.page a s (DirtyPage zero_block (w.last a)); truth = put w.truth s zero_block }
 after w (IssueBytes a s block mark) = record w { byte_flight = put w.byte_flight s (Some (record { by = a; stamp = w.expiry a - MARGIN_TICKS; block = block })) }
@@ -237,8 +261,8 @@ after w (LandBytes s f) = record w {
   page = put2 w.page f.by s (page_landed (w.acked f.by) f.block (w.page f.by s));
 }
 after w (FadeBytes s f) = record w { byte_flight = put w.byte_flight s None }
-after w (BreakBytes s f) = record w { byte_flight = put w.byte_flight s None; sick = put w.sick f.by true; rescue = rescue_left f.by w.rescue }
-after w (BreakBytesNew s f) = record w { bytes = put w.bytes s f.block; byte_flight = put w.byte_flight s None; sick = put w.sick f.by true; rescue = rescue_left f.by w.rescue }
+after w (BreakBytes s f) = record w { byte_flight = put w.byte_flight s None; sick = put w.sick f.by true }
+after w (BreakBytesNew s f) = record w { bytes = put w.bytes s f.block; byte_flight = put w.byte_flight s None; sick = put w.sick f.by true }
 after w (Settle a s block mark) = record w { page = put2 w.page a s (CleanPage block) }
 
 -- The events lead from one world to another, each when it may happen.

@@ -60,8 +60,8 @@ pub record World : Type 0 where
   pub logged : ℕ → Bool
   pub first : ℕ → Option Block
   pub home : ℕ → LockId
-  -- the clock, the end of each server's lease, its phase, and whether it may issue no writes: it isn't up, or a put of it failed in
-  -- this mount
+  -- the clock, the end of each server's lease, its phase, and whether it may issue no writes: it isn't up, or a get or a put of it
+  -- failed in this mount
   pub now : ℕ
   pub expiry : ℕ → ℕ
   pub phase : ℕ → Phase

@@ -2,6 +2,7 @@
 use Rattle.sector_world.proofs.Every.{good_start, good_step}
 use Rattle.sector_world.proofs.Holding.{holds_good}
 use Rattle.sector_world.proofs.OneDisk.{orderly_good, one_disk_good}
+use Rattle.sector_world.proofs.Quiet.{quiet_good}
 use Rattle.sector_world.proofs.Legal.{legal_step, legal_good}
 use Rattle.sector_world.proofs.every_event.Goals as goal
 
@@ -19,6 +20,9 @@ returns-clause-orderly c = orderly_good
 
 pub returns-clause-one_disk : goal.returns-clause-one_disk
 returns-clause-one_disk c = one_disk_good
+
+pub returns-clause-quiet : goal.returns-clause-quiet
+returns-clause-quiet c = quiet_good
 
 pub returns-clause-legal : goal.returns-clause-legal
 returns-clause-legal c = legal_step

@@ -3,6 +3,7 @@ use Rattle.sector_world.specs.World.{start}
 use Rattle.sector_world.proofs.Every.{good_start, good_run}
 use Rattle.sector_world.proofs.Holding.{holds_good}
 use Rattle.sector_world.proofs.OneDisk.{orderly_good, one_disk_good}
+use Rattle.sector_world.proofs.Quiet.{quiet_good}
 use Rattle.sector_world.proofs.Legal.{legal_run, legal_good}
 use Rattle.sector_world.proofs.every_run.Goals as goal
 
@@ -14,6 +15,9 @@ returns-clause-orderly c = λ servers disk logged files home events w r e can. o
 
 pub returns-clause-one_disk : goal.returns-clause-one_disk
 returns-clause-one_disk c = λ servers disk logged files home events w r e can s. one_disk_good w (good_run (start servers disk logged files home) events w r (good_start servers disk logged files home)) e can s
+
+pub returns-clause-quiet : goal.returns-clause-quiet
+returns-clause-quiet c = λ servers disk logged files home events w r q. quiet_good w (good_run (start servers disk logged files home) events w r (good_start servers disk logged files home)) q
 
 pub returns-clause-legal : goal.returns-clause-legal
 returns-clause-legal c = λ plan frame servers disk logged files home events w r p.

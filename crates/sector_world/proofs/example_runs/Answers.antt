@@ -1,5 +1,5 @@
 -- The runs, step by step.
-use Rattle.sector_world.proofs.Examples.{lost_world, is_lost, kept_world, is_kept, twice_world, is_twice, late_world, is_late, before_read, after_read, is_read, claimed_world, is_claimed, freed_world, is_freed, retaken_world, is_retaken}
+use Rattle.sector_world.proofs.Examples.{lost_world, is_lost, kept_world, is_kept, failed_world, is_failed, renewed_world, handed_world, is_handed, twice_world, is_twice, late_world, is_late, before_read, after_read, is_read, claimed_world, is_claimed, freed_world, is_freed, retaken_world, is_retaken}
 use Rattle.sector_world.proofs.example_runs.Goals as goal
 
 pub returns-clause-lost : goal.returns-clause-lost
@@ -7,6 +7,12 @@ returns-clause-lost c = (lost_world, is_lost)
 
 pub returns-clause-kept : goal.returns-clause-kept
 returns-clause-kept c = (kept_world, is_kept)
+
+pub returns-clause-failed : goal.returns-clause-failed
+returns-clause-failed c = (failed_world, is_failed)
+
+pub returns-clause-handed : goal.returns-clause-handed
+returns-clause-handed c = (renewed_world, handed_world, is_handed)
 
 pub returns-clause-twice : goal.returns-clause-twice
 returns-clause-twice c = (twice_world, is_twice)
