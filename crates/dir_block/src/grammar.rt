@@ -7,6 +7,7 @@ ghost use Rattle.sector_definitions.specs.Directories.{directory_fits, name_in};
 
 use frang_base::Name;
 use frang_base::limits::{KIND_FILE, KIND_LINK, NAME_BYTES_MAX};
+use sector_bytes::are_zero;
 use sector_definitions::{DirEntry, DirSector};
 
 /// Whether each place of the sector is free or has an entry in the grammar.
@@ -47,10 +48,4 @@ fn names(entry: &DirEntry) -> bool
 {
     let (name, rest) = entry.name.split_at(usize::from(entry.len));
     Name::of(name).is_some() && are_zero(rest)
-}
-
-fn are_zero(bytes: &[u8]) -> bool
-    ensures { result ≡ zero.are_zero bytes.now }
-{
-    bytes.iter().all(|byte| *byte == 0)
 }

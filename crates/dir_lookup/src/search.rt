@@ -1,6 +1,7 @@
 // The first place of a directory that passes a test.
 ghost use Rattle.std.specs.Prelude.{◌≡◌, ◌≤◌, ◌<◌, ◌*◌, ◌/◌, ◌%◌, ℕ, IfOk, IfSome, IsTrue, length, slice_index};
 ghost use Rattle.std.specs.Option.{option_map};
+ghost use Rattle.frang_base.specs.declared.limits.TheConstants.{INODE_BLOCKS_MAX, SECTOR_ENTRIES, SMALL_BLOCK_SECTORS, SMALL_SECTORS_MAX};
 ghost use Rattle.pick_definitions.specs.Least.{least};
 ghost use Rattle.sector_definitions.specs.Directories.{directory_fits};
 ghost use Rattle.plan_definitions.specs.Ask.{Got, ReadDirectory};
@@ -26,8 +27,8 @@ pub struct Found {
 
 /// The first entry of this name in a directory of at most 16 blocks. `None` exactly where the name isn't there.
 pub fn first_named(sectors: &Sectors, directory: &Inode, name: &Name) -> Result<Option<Found>, Need>
-    requires { directory.now.blocks ≤ 16 }
-    ensures { Reads (option_map found_at) (search (slice_index directory.now.small) (is_named name.now) 0 (8 * directory.now.blocks)) sectors.now.entries result }
+    requires { directory.now.blocks ≤ INODE_BLOCKS_MAX }
+    ensures { Reads (option_map found_at) (search (slice_index directory.now.small) (is_named name.now) 0 (SMALL_BLOCK_SECTORS * directory.now.blocks)) sectors.now.entries result }
 {
     for j in 0..SMALL_BLOCK_SECTORS * u32::from(directory.blocks) {
         let sector = part_at(sectors, directory, j)?;
@@ -40,8 +41,8 @@ pub fn first_named(sectors: &Sectors, directory: &Inode, name: &Name) -> Result<
 
 /// The first free place of a directory of at most 16 blocks. `None` exactly where there is none.
 pub fn first_vacant(sectors: &Sectors, directory: &Inode) -> Result<Option<u32>, Need>
-    requires { directory.now.blocks ≤ 16 }
-    ensures { Reads (option_map vacant_at) (search (slice_index directory.now.small) is_vacant 0 (8 * directory.now.blocks)) sectors.now.entries result }
+    requires { directory.now.blocks ≤ INODE_BLOCKS_MAX }
+    ensures { Reads (option_map vacant_at) (search (slice_index directory.now.small) is_vacant 0 (SMALL_BLOCK_SECTORS * directory.now.blocks)) sectors.now.entries result }
 {
     for j in 0..SMALL_BLOCK_SECTORS * u32::from(directory.blocks) {
         let sector = part_at(sectors, directory, j)?;
@@ -54,8 +55,8 @@ pub fn first_vacant(sectors: &Sectors, directory: &Inode) -> Result<Option<u32>,
 
 /// Sector `j` of a directory, 8 to a block.
 pub fn part_at(sectors: &Sectors, directory: &Inode, j: u32) -> Result<DirSector, Need>
-    requires { j < 128 }
-    ensures reads { Reads entries_at (ReadDirectory (slice_index directory.now.small (j / 8)) (j % 8) Got) sectors.now.entries result }
+    requires { j < SMALL_SECTORS_MAX }
+    ensures reads { Reads entries_at (ReadDirectory (slice_index directory.now.small (j / SMALL_BLOCK_SECTORS)) (j % SMALL_BLOCK_SECTORS) Got) sectors.now.entries result }
     ensures fits { IfOk result (λ x. IsTrue (directory_fits x)) }
 {
     directory_at(
@@ -67,8 +68,8 @@ pub fn part_at(sectors: &Sectors, directory: &Inode, j: u32) -> Result<DirSector
 
 // The first entry of the name in sector `j` of a directory.
 fn named_in(sector: &DirSector, name: &Name, j: u32) -> Option<Found>
-    requires { j < 128 }
-    ensures { option_map found_at result ≡ hit (is_named name.now) j (entries_at sector.now) (least (λ r. is_named name.now (entries_at sector.now r)) 7) }
+    requires { j < SMALL_SECTORS_MAX }
+    ensures { option_map found_at result ≡ hit (is_named name.now) j (entries_at sector.now) (least (λ r. is_named name.now (entries_at sector.now r)) SECTOR_ENTRIES) }
 {
     match named_place(sector, name) {
         Some(place) => {
@@ -84,8 +85,8 @@ fn named_in(sector: &DirSector, name: &Name, j: u32) -> Option<Found>
 
 // The first place with the name.
 fn named_place(sector: &DirSector, name: &Name) -> Option<u8>
-    ensures is { result ≡ least (λ r. is_named name.now (entries_at sector.now r)) 7 }
-    ensures place { IfSome result (λ r. r < 7) }
+    ensures is { result ≡ least (λ r. is_named name.now (entries_at sector.now r)) SECTOR_ENTRIES }
+    ensures place { IfSome result (λ r. r < SECTOR_ENTRIES) }
 {
     // By their types a name has bytes, so that no free place has it, and a sector has seven places.
     let _bytes = name.len();
@@ -94,14 +95,14 @@ fn named_place(sector: &DirSector, name: &Name) -> Option<u8>
 }
 
 fn places_are_seven(entries: &[DirEntry; 7])
-    ensures { length entries.now ≡ 7 }
+    ensures { length entries.now ≡ SECTOR_ENTRIES }
 {}
 
 // The first free place in sector `j` of a directory.
 fn vacant_in(sector: &DirSector, j: u32) -> Option<u32>
-    requires j { j < 128 }
+    requires j { j < SMALL_SECTORS_MAX }
     requires fits { IsTrue (directory_fits sector.now) }
-    ensures { option_map vacant_at result ≡ hit is_vacant j (entries_at sector.now) (least (λ r. is_vacant (entries_at sector.now r)) 7) }
+    ensures { option_map vacant_at result ≡ hit is_vacant j (entries_at sector.now) (least (λ r. is_vacant (entries_at sector.now r)) SECTOR_ENTRIES) }
 {
     match vacant_place(sector) {
         Some(place) => Some(SECTOR_ENTRIES * j + place),
@@ -112,8 +113,8 @@ fn vacant_in(sector: &DirSector, j: u32) -> Option<u32>
 // The first free place.
 fn vacant_place(sector: &DirSector) -> Option<u32>
     requires { IsTrue (directory_fits sector.now) }
-    ensures is { result ≡ least (λ r. is_vacant (entries_at sector.now r)) 7 }
-    ensures place { IfSome result (λ r. r < 7) }
+    ensures is { result ≡ least (λ r. is_vacant (entries_at sector.now r)) SECTOR_ENTRIES }
+    ensures place { IfSome result (λ r. r < SECTOR_ENTRIES) }
 {
     for place in 0..SECTOR_ENTRIES {
         let vacant = is_vacant(sector, place);
@@ -126,7 +127,7 @@ fn vacant_place(sector: &DirSector) -> Option<u32>
 
 fn is_vacant(sector: &DirSector, place: u32) -> bool
     requires fits { IsTrue (directory_fits sector.now) }
-    requires place { place < 7 }
+    requires place { place < SECTOR_ENTRIES }
     ensures { result ≡ is_vacant (entries_at sector.now place) }
 {
     match entry_at(sector, place as u8) {

@@ -2,6 +2,7 @@
 ghost use Rattle.std.specs.Prelude.{◌≡◌, ◌<◌, true, IfOk, IfSome, IsTrue};
 ghost use Rattle.std.specs.List.{list_all};
 ghost use Rattle.std.specs.Option.{option_map};
+ghost use Rattle.frang_base.specs.declared.limits.TheConstants.{SECTOR_ENTRIES};
 ghost use Rattle.sector_bytes.specs.SectorMaps.{value_at};
 ghost use Rattle.sector_definitions.specs.Directories.{directory_fits, directory_in, is_free_place, name_in};
 ghost use Rattle.sector_definitions.specs.Inodes.{inode_in};
@@ -87,7 +88,7 @@ fn no_entries() -> DirSector
 /// The entry at a place of a sector, 0 to 6. `None` exactly where the place is free.
 pub fn entry_at(sector: &DirSector, place: u8) -> Option<DirEntry>
     requires fits { IsTrue (directory_fits sector.now) }
-    requires place { place < 7 }
+    requires place { place < SECTOR_ENTRIES }
     ensures is { option_map entered result ≡ entries_at sector.now place }
     ensures proper { IfSome result IsProper }
 {

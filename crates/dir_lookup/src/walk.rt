@@ -1,5 +1,6 @@
 // The walk of a path over cached sectors.
 ghost use Rattle.std.specs.Prelude.{◌≡◌, ◌≤◌, ◌||◌, ℕ, Some, List, []};
+ghost use Rattle.frang_base.specs.declared.limits.TheConstants.{INODE_BLOCKS_MAX};
 ghost use Rattle.pick_definitions.specs.Held.{Segments};
 ghost use Rattle.disk_definitions.specs.Store.{stored};
 ghost use Rattle.plan_definitions.specs.Ask.{Got, ReadInode, bind};
@@ -15,7 +16,7 @@ use meta_version::Sectors;
 
 /// A name looked up in a directory of at most 16 blocks.
 pub fn look_up(sectors: &Sectors, directory: &NumberedInode, name: &Name) -> Result<Spot, Need>
-    requires { directory.now.inode.blocks ≤ 16 }
+    requires { directory.now.inode.blocks ≤ INODE_BLOCKS_MAX }
     ensures { (dirs : List ℕ) → Reads (λ s. walked_in dirs directory.now.number (spot_of s)) (walks.look_up dirs directory.now.number (stored directory.now.inode) name.now) sectors.now.entries result }
 {
     let found = first_named(sectors, &directory.inode, name)?;
@@ -46,7 +47,7 @@ pub fn step(sectors: &Sectors, number: u32, name: &Name) -> Result<Spot, Need>
 
 // A name below a node, which has to be a directory.
 fn below(sectors: &Sectors, node: &NumberedInode, name: &Name) -> Result<Spot, Need>
-    requires { node.now.inode.blocks ≤ 16 }
+    requires { node.now.inode.blocks ≤ INODE_BLOCKS_MAX }
     ensures { (dirs : List ℕ) → Reads (λ s. walked_in dirs node.now.number (spot_of s)) (walks.in_inode dirs node.now.number name.now (Some (stored node.now.inode))) sectors.now.entries result }
 {
     if node.inode.kind == KIND_DIRECTORY {

@@ -145,13 +145,13 @@ zero_small_block : image_in (second 12884901888 (replicate 512 0)) ≡ Err (faul
 unfolding zeros
 zero_small_block = refl
 
-zero_parameters : image_in (image_with ((0, replicate 512 0) ∷ [])) ≡ Err (fault 16 OfZeros)
+-- ---- grammars
+
+zero_parameters : image_in (image_with ((0, replicate 512 0) ∷ [])) ≡ Err (fault 16 BadSector)
 zero_parameters = refl
 
-zeros_first_elsewhere : image_in (image_with ((1, replicate 512 0) ∷ [])) ≡ Err (fault 16 OfZeros)
+zeros_first_elsewhere : image_in (image_with ((1, replicate 512 0) ∷ [])) ≡ Err (fault 16 BadSector)
 zeros_first_elsewhere = refl
-
--- ---- grammars
 
 first_is_sector_1 : image_in (image_with ((1, parameters 16 1) ∷ (4294967296, fresh_segment) ∷ [])) ≡ Err (fault 16 BadSector)
 first_is_sector_1 = refl

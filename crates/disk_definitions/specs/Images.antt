@@ -1,5 +1,5 @@
 -- Images of disks: a mark, the number of sectors, and an entry for each sector that isn't zero, ascending. Bytes that are no image have a first fault.
-use Rattle.std.specs.Prelude.{ℕ, zero, suc, ◌+◌, ◌^◌, Bool, true, false, not, ◌&&◌, ◌==◌, ◌≡◌, if◌then◌else◌, nat_le, nat_lt, Option, Some, None, Result, Ok, Err, List, [], ◌∷◌, ◌++◌, length, take, drop, is_some, codes}
+use Rattle.std.specs.Prelude.{ℕ, zero, suc, ◌+◌, Bool, true, false, not, ◌&&◌, ◌==◌, ◌≡◌, if◌then◌else◌, nat_le, nat_lt, Option, Some, None, Result, Ok, Err, List, [], ◌∷◌, ◌++◌, length, take, drop, is_some, codes}
 use Rattle.std.specs.List.{filter, flat_map, All}
 use Rattle.std.specs.List.Sorted.{IsStrictlySortedBy}
 use Rattle.std.specs.Map.{keys_of}
@@ -10,7 +10,7 @@ use Rattle.sector_definitions.specs.declared.region.Region.{Region}
 use Rattle.sector_definitions.specs.declared.region.Region.TheVariants as region
 use Rattle.sector_bytes.specs.Bytes.{number_at, are_zero}
 use Rattle.std.specs.Str.{bytes_eq}
-use Rattle.frang_base.specs.declared.limits.TheConstants.{SECTOR_BYTES}
+use Rattle.frang_base.specs.declared.limits.TheConstants.{RUNS_MAX, SECTOR_BYTES}
 use Rattle.sector_definitions.specs.Regions.{region_of}
 use Rattle.sector_definitions.specs.Params.{param_in}
 use Rattle.sector_definitions.specs.LogSectors.{log_sector_in}
@@ -62,7 +62,7 @@ image_text blocks = image_with (sectors_written blocks)
 -- another run may follow the run of these parameters
 abbrev pub may_run_again : Option Param → Bool
 may_run_again None = false
-may_run_again (Some p) = nat_lt (p.run + 1) (2 ^ 32)
+may_run_again (Some p) = nat_lt (p.run + 1) (RUNS_MAX + 1)
 
 -- what may stand in a region: blocks of files and directories have any bytes
 abbrev pub block_fits : Region → List ℕ → Bool
@@ -107,11 +107,9 @@ block_flaw (Some region) block = if are_zero block then Some OfZeros else (if bl
 abbrev pub entry_flaw : ℕ → ℕ → ℕ × List ℕ → Option ImageFlaw
 entry_flaw segments before e = if nat_le e.0 before then Some OutOfOrder else block_flaw (region_of segments e.0) e.1
 
--- the first flaw of the first entry, from which the segments are known: it is the parameter sector
+-- the flaw of the first entry, from which the segments are known: it isn't the parameter sector, whatever else is wrong with it
 abbrev pub first_flaw : ℕ × List ℕ → Option ImageFlaw
-first_flaw e =
-    if are_zero e.1 then Some OfZeros
-    else (if e.0 == 0 && block_fits region.Param e.1 then None else Some BadSector)
+first_flaw e = if e.0 == 0 && block_fits region.Param e.1 then None else Some BadSector
 
 -- an entry before others
 abbrev pub with_entry : ℕ × List ℕ → Result Blocks ImageFault → Result Blocks ImageFault

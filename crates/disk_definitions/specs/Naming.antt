@@ -1,15 +1,15 @@
 -- A store is the picture of a tree under a naming: which inode, blocks and places its nodes and names have. A naming is given in both
 -- directions, so that nothing has to be said of what differs or has one owner. It is total: the values of births that are gone don't matter.
-use Rattle.std.specs.Prelude.{◌≡◌, ℕ, ◌+◌, ◌*◌, ◌-◌, ◌/◌, ◌%◌, ◌<◌, Bool, true, false, if◌then◌else◌, nat_lt, Option, Some, None, List, [], ◌∷◌, length, is_some}
+use Rattle.std.specs.Prelude.{◌≡◌, ℕ, ◌+◌, ◌*◌, ◌/◌, ◌%◌, ◌<◌, Bool, true, false, if◌then◌else◌, nat_lt, Option, Some, None, List, [], ◌∷◌, length, is_some}
 use Rattle.std.specs.List.{slice_get}
-use Rattle.frang_base.specs.declared.limits.TheConstants.{BLOCK_ENTRIES, KIND_DIRECTORY, KIND_FILE, KIND_LINK, SMALL_BLOCK_BYTES, SMALL_BYTES_MAX}
+use Rattle.frang_base.specs.declared.limits.TheConstants.{BLOCK_ENTRIES, KIND_DIRECTORY, KIND_FILE, KIND_LINK, SMALL_BYTES_MAX}
 use Rattle.tree_definitions.specs.declared.cells.Cell.{Cell}
 use Rattle.tree_definitions.specs.declared.cells.Cell.TheVariants as cell
 use Rattle.tree_definitions.specs.declared.node.Node.{Node}
 use Rattle.tree_definitions.specs.declared.node.Node.TheVariants.{Dir, File, Link}
 use Rattle.tree_definitions.specs.Entries.{entry_at}
 use Rattle.tree_definitions.specs.Tree.{dir_blocks, small_blocks, small_blocks_of}
-use Rattle.disk_definitions.specs.Store.{Store, StoredNode, StoredEntry, Use}
+use Rattle.disk_definitions.specs.Store.{Store, StoredNode, StoredEntry, Use, byte_at}
 use Rattle.disk_definitions.specs.Store.Use.{Fresh, Bytes, Empty, Entries}
 
 -- nodes by their births
@@ -117,9 +117,9 @@ place_of place block q = place (block (q / BLOCK_ENTRIES)) (q % BLOCK_ENTRIES)
 abbrev pub dir_place : Store → Naming → ℕ → ℕ → Option StoredEntry
 dir_place s n d = place_of s.place (n.block d)
 
--- a byte of a file: the first 65,536 stand in small blocks, the others in the large one
+-- a byte of a file
 abbrev pub file_byte : Store → Naming → ℕ → ℕ → ℕ
-file_byte s n b j = if nat_lt j SMALL_BYTES_MAX then s.byte (n.block b (j / SMALL_BLOCK_BYTES)) (j % SMALL_BLOCK_BYTES) else s.large_byte (n.large b) (j - SMALL_BYTES_MAX)
+file_byte s n b j = byte_at s (n.block b) (n.large b) j
 
 -- a byte that a cell allows: a doubtful cell allows any
 abbrev pub Allows : Cell → ℕ → Type 0

@@ -1,8 +1,8 @@
 -- What the sectors of a disk say, without their versions: the inodes in use, the bits and states of the bitmaps, the entries of
 -- directories by their places, the bytes of blocks. Numbers past the disk's segments say nothing.
-use Rattle.std.specs.Prelude.{ℕ, ◌+◌, ◌*◌, ◌/◌, ◌%◌, Bool, true, false, ◌==◌, ◌&&◌, if◌then◌else◌, nat_lt, Option, Some, None, List, [], ◌∷◌, take, slice_index}
+use Rattle.std.specs.Prelude.{ℕ, ◌+◌, ◌-◌, ◌*◌, ◌/◌, ◌%◌, Bool, true, false, ◌==◌, ◌&&◌, if◌then◌else◌, nat_lt, Option, Some, None, List, [], ◌∷◌, take, slice_index}
 use Rattle.std.specs.List.{slice_get}
-use Rattle.frang_base.specs.declared.limits.TheConstants.{KIND_LINK, SECTOR_BYTES, SECTOR_ENTRIES, SEGMENT_BLOCKS, SEGMENT_INODES}
+use Rattle.frang_base.specs.declared.limits.TheConstants.{KIND_LINK, SECTOR_BYTES, SECTOR_ENTRIES, SEGMENT_BLOCKS, SEGMENT_INODES, SMALL_BLOCK_BYTES, SMALL_BYTES_MAX}
 use Rattle.frang_base.specs.declared.bitmap.Bitmap.{Bitmap}
 use Rattle.sector_definitions.specs.declared.region.Region.TheVariants as region
 use Rattle.sector_definitions.specs.declared.inode.Inode.{Inode}
@@ -53,6 +53,10 @@ pub record Store : Type 0 where
   pub large_bit : ℕ → Bool
   pub byte : ℕ → ℕ → ℕ  -- by small block, and byte below 4,096
   pub large_byte : ℕ → ℕ → ℕ  -- by large block, and byte below 1,048,576
+
+-- a byte of a file with these blocks: the first 65,536 stand in small blocks, the others in the large one
+abbrev pub byte_at : Store → (ℕ → ℕ) → ℕ → ℕ → ℕ
+byte_at s block large j = if nat_lt j SMALL_BYTES_MAX then s.byte (block (j / SMALL_BLOCK_BYTES)) (j % SMALL_BLOCK_BYTES) else s.large_byte large (j - SMALL_BYTES_MAX)
 
 -- the node of an inode in use
 abbrev pub stored : Inode → StoredNode

@@ -4,5 +4,4 @@ pub mod LogsApart
 pub mod ReplayedDisk
 pub mod FittingRecords
 pub mod ReadSlots
-pub mod ZeroLogs
 pub mod Copied

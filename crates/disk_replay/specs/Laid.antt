@@ -1,6 +1,7 @@
 -- The words of a replay as its steps speak of them: changes laid over a disk, and the disk without its logs.
 use Rattle.std.specs.Prelude.{◌≡◌, ℕ, Bool, true, List, fold, if◌then◌else◌}
 use Rattle.std.specs.List.{All, flat_map}
+use Rattle.frang_base.specs.declared.limits.TheConstants.{SECTOR_BYTES, SEGMENTS_MAX}
 use Rattle.frang_base.specs.declared.change.Change.{Change}
 use Rattle.sector_bytes.specs.Bytes.{zeros}
 use Rattle.sector_definitions.specs.Regions.{region_of}
@@ -13,7 +14,7 @@ use Rattle.log_definitions.specs.Replay.{slots_of, is_log, is_replayed, with_cha
 
 -- the sector is one of a log
 unfoldable pub is_logged : ℕ → Bool
-is_logged sector = is_log (region_of 64 sector)
+is_logged sector = is_log (region_of SEGMENTS_MAX sector)
 
 -- the sector is one that a replay changes, on a disk of so many segments
 unfoldable pub is_changed : ℕ → ℕ → Bool
@@ -37,4 +38,4 @@ with_changes segments sectors changes = fold (with_change segments) sectors chan
 
 -- the disk with all its logs zero
 unfoldable pub without_logs : Sectors → Sectors
-without_logs sectors sector = if is_logged sector then zeros 512 else sectors sector
+without_logs sectors sector = if is_logged sector then zeros SECTOR_BYTES else sectors sector

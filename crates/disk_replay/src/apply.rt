@@ -1,6 +1,7 @@
 // The changes of records, laid over a disk.
 ghost use Rattle.std.specs.Prelude.{◌≡◌, ◌≤◌, ◌∷◌, [], OnOk, true};
 ghost use Rattle.std.specs.List.{All};
+ghost use Rattle.frang_base.specs.declared.limits.TheConstants.{SEGMENTS_MAX};
 ghost use Rattle.sector_bytes.specs.Changes.{is_change};
 ghost use Rattle.sector_bytes.specs.Sectors.{sectors_of, SameSectors};
 ghost use Rattle.disk_replay.specs.Laid.{changes_in, is_changed, with_changes, HoldsChanges};
@@ -16,7 +17,7 @@ pub(crate) fn apply_records(
     segments: u32,
     records: &[Redo],
 ) -> Result<(), NoMemory>
-    requires segments { segments ≤ 64 }
+    requires segments { segments ≤ SEGMENTS_MAX }
     requires changes { All HoldsChanges records.now }
     ensures { OnOk result (SameSectors (sectors_of disk.new) (with_changes segments (sectors_of disk.old) (changes_in records.now))) }
 {
@@ -28,7 +29,7 @@ pub(crate) fn apply_records(
 
 // Lays changes over the disk, in order.
 fn apply_changes(disk: &mut Disk, segments: u32, changes: &[Change]) -> Result<(), NoMemory>
-    requires segments { segments ≤ 64 }
+    requires segments { segments ≤ SEGMENTS_MAX }
     requires changes { All (λ c. is_change c ≡ true) changes.now }
     ensures { OnOk result (SameSectors (sectors_of disk.new) (with_changes segments (sectors_of disk.old) changes.now)) }
 {
@@ -40,7 +41,7 @@ fn apply_changes(disk: &mut Disk, segments: u32, changes: &[Change]) -> Result<(
 
 // Lays a change over the disk: over a sector that a replay changes, where it is older than the change.
 fn apply_change(disk: &mut Disk, segments: u32, change: &Change) -> Result<(), NoMemory>
-    requires segments { segments ≤ 64 }
+    requires segments { segments ≤ SEGMENTS_MAX }
     requires change { is_change change.now ≡ true }
     ensures { OnOk result (SameSectors (sectors_of disk.new) (with_changes segments (sectors_of disk.old) (change.now ∷ []))) }
 {
@@ -57,7 +58,7 @@ fn apply_change(disk: &mut Disk, segments: u32, change: &Change) -> Result<(), N
 // Whether a replay changes the sector, on a disk of so many segments.
 #[tactic(auto, unfolding(crate::specs::Laid::is_changed))]
 fn is_changed(segments: u32, sector: Sector) -> bool
-    requires { segments ≤ 64 }
+    requires { segments ≤ SEGMENTS_MAX }
     ensures { result ≡ is_changed segments sector.0 }
 {
     matches!(

@@ -1,5 +1,5 @@
-//! The disk after its logs are replayed, and the greatest operation that a log holds. The contracts promise the sectors of the definition
-//! and the operation of the definition, for any disk. A log none of whose sectors was set is passed over, since it holds no record. It
+//! The disk after its logs are replayed, the records that a log holds, and its greatest operation. The contracts promise the sectors, the
+//! records and the operation of the definition, for any disk. A log none of whose sectors was set is passed over, since it holds no record. It
 //! stands on the definitions of logs, on their reading, and on changes that are applied only where the block is older.
 #![tactic(auto)]
 
@@ -7,5 +7,5 @@ mod apply;
 mod records;
 mod replay;
 
-pub use records::greatest;
+pub use records::{greatest, records_of};
 pub use replay::replayed;

@@ -1,6 +1,7 @@
 // What the log of a server holds.
 ghost use Rattle.std.specs.Prelude.{◌≡◌, ◌<◌, ℕ, IfOk, [], length, slice_index_or, false};
 ghost use Rattle.std.specs.List.{All};
+ghost use Rattle.frang_base.specs.declared.limits.TheConstants.{LOG_SECTORS};
 ghost use Rattle.sector_bytes.specs.Bytes.{zeros};
 ghost use Rattle.sector_bytes.specs.Sectors.{sectors_of};
 ghost use Rattle.log_definitions.specs.Logs.{log_records};
@@ -25,12 +26,8 @@ pub fn greatest(alloc: Global, disk: &Disk, server: ServerId) -> Result<OpNo, No
     Ok(greatest_operation(&records))
 }
 
-/// The records of a server's log, in order.
-pub(crate) fn records_of(
-    alloc: Global,
-    disk: &Disk,
-    server: ServerId,
-) -> Result<Vec<Redo>, NoMemory>
+/// The records of a server's log, in order. The server is any from 0 to 255.
+pub fn records_of(alloc: Global, disk: &Disk, server: ServerId) -> Result<Vec<Redo>, NoMemory>
     ensures records { IfOk result (λ v. v.items ≡ log_records (replays.slots_of (sectors_of disk.now) server.0)) }
     ensures changes { IfOk result (λ v. All HoldsChanges v.items) }
 {
@@ -44,7 +41,7 @@ pub(crate) fn records_of(
 
 // Whether a sector of the server's log was set.
 fn is_set(disk: &Disk, server: ServerId) -> bool
-    ensures { result ≡ false → (slot : ℕ) → slot < 256 → replays.slots_of (sectors_of disk.now) server.0 slot ≡ zeros 512 }
+    ensures { result ≡ false → (slot : ℕ) → slot < LOG_SECTORS → replays.slots_of (sectors_of disk.now) server.0 slot ≡ zeros 512 }
 {
     let first = slot_sector(server, 0).0;
     disk.as_map()
@@ -55,8 +52,8 @@ fn is_set(disk: &Disk, server: ServerId) -> bool
 
 // The blocks of the server's log, by slot.
 fn slots_of(alloc: Global, disk: &Disk, server: ServerId) -> Result<Vec<Block>, NoMemory>
-    ensures slots { IfOk result (λ v. (slot : ℕ) → slot < 256 → slice_index_or v.items slot [] ≡ replays.slots_of (sectors_of disk.now) server.0 slot) }
-    ensures len { IfOk result (λ v. length v.items ≡ 256) }
+    ensures slots { IfOk result (λ v. (slot : ℕ) → slot < LOG_SECTORS → slice_index_or v.items slot [] ≡ replays.slots_of (sectors_of disk.now) server.0 slot) }
+    ensures len { IfOk result (λ v. length v.items ≡ LOG_SECTORS) }
 {
     let mut slots = Vec::with_capacity(alloc, LOG_SECTORS as usize)?;
     for slot in 0..LOG_SECTORS {

@@ -1,5 +1,6 @@
 // The disk after its logs are replayed.
 ghost use Rattle.std.specs.Prelude.{◌≡◌, ◌≤◌, ℕ, IfOk, OnOk};
+ghost use Rattle.frang_base.specs.declared.limits.TheConstants.{LOGS, SEGMENTS_MAX};
 ghost use Rattle.sector_bytes.specs.Sectors.{sectors_of, SameSectors};
 ghost use Rattle.log_definitions.specs.Replay.{replayed};
 ghost use Rattle.disk_replay.specs.Laid as laid;
@@ -29,8 +30,8 @@ pub fn replayed(alloc: Global, disk: &Disk) -> Result<Disk, NoMemory>
 
 // Lays the changes of a disk's logs over its copy.
 fn apply_logs(alloc: Global, disk: &Disk, segments: u32, copy: &mut Disk) -> Result<(), NoMemory>
-    requires { segments ≤ 64 }
-    ensures { OnOk result (SameSectors (sectors_of copy.new) (with_changes segments (sectors_of copy.old) (changes_below (sectors_of disk.now) 256))) }
+    requires { segments ≤ SEGMENTS_MAX }
+    ensures { OnOk result (SameSectors (sectors_of copy.new) (with_changes segments (sectors_of copy.old) (changes_below (sectors_of disk.now) LOGS))) }
 {
     for server in 0..LOGS {
         let records = records_of(alloc, disk, ServerId(server as u8))?;

@@ -1,7 +1,9 @@
 -- One sector by the edits that are of it, and which versions have a next one.
 use Rattle.std.specs.Prelude.{ℕ, ◌-◌, ◌^◌, Bool, IsTrue, ◌==◌, nat_lt, if◌then◌else◌, Option, Some, None, Result, Ok, Err, List}
 use Rattle.std.specs.List.{filter_map, list_all}
-use Rattle.sector_bytes.specs.Bytes.{number_at, zeros}
+use Rattle.frang_base.specs.declared.limits.TheConstants.{SECTOR_BYTES}
+use Rattle.sector_bytes.specs.Blocks.{version_of}
+use Rattle.sector_bytes.specs.Bytes.{zeros}
 use Rattle.sector_bytes.specs.Sectors.{Sectors}
 use Rattle.disk_definitions.specs.Standing.{version_at}
 use Rattle.store_changes.specs.Edits.{Edit}
@@ -17,12 +19,12 @@ at_hand hand = sectors_at_hand hand.sectors.now.entries hand.held.now
 
 -- the block, or zeros where there is none
 abbrev pub block_or_zeros : Option (List ℕ) → List ℕ
-block_or_zeros None = zeros 512
+block_or_zeros None = zeros SECTOR_BYTES
 block_or_zeros (Some block) = block
 
 -- the block of a sector after an edit, which may be of another sector
 abbrev pub edited_at : ℕ → List ℕ → Edit → List ℕ
-edited_at sector block e = if sector == edit_sector e then edited_block block (number_at 8 0 block) e else block
+edited_at sector block e = if sector == edit_sector e then edited_block block (version_of block) e else block
 
 -- the version of a sector is below the largest number of eight bytes, so it has a next one
 abbrev pub has_next_version : Sectors → ℕ → Bool

@@ -2,7 +2,7 @@
 ghost use Rattle.std.specs.Prelude.{◌≡◌, ◌+◌, ◌-◌, ◌<◌, ◌^◌, [], IfOk, IsTrue, fold};
 ghost use Rattle.std.specs.List.{filter_map, list_all};
 ghost use Rattle.std.specs.Map.{keys_of};
-ghost use Rattle.sector_bytes.specs.Bytes.{number_at};
+ghost use Rattle.sector_bytes.specs.Blocks.{version_of};
 ghost use Rattle.sector_bytes.specs.Patches.{patches_of};
 ghost use Rattle.pick_definitions.specs.Held.{AreSegments};
 ghost use Rattle.plan_definitions.specs.Written as written;
@@ -101,8 +101,8 @@ fn change_between(
     old: &Block,
     new: &Block,
 ) -> Result<Option<Change>, NoMemory>
-    requires { number_at 8 0 old.now < 2 ^ 64 - 1 }
-    ensures { IfOk result (λ change. change ≡ change_by sector.0 (number_at 8 0 old.now + 1) (patches_of old.now new.now)) }
+    requires { version_of old.now < 2 ^ 64 - 1 }
+    ensures { IfOk result (λ change. change ≡ change_by sector.0 (version_of old.now + 1) (patches_of old.now new.now)) }
 {
     let patches = patches_of(alloc, old, new)?;
     if patches.is_empty() {

@@ -1,8 +1,9 @@
 // The sector of an edit, and its block once the edit is made.
 ghost use Rattle.std.specs.Prelude.{◌≡◌, ◌/◌, ◌%◌, None, length};
 ghost use Rattle.std.specs.Option.{option_map};
+ghost use Rattle.frang_base.specs.declared.limits.TheConstants.{SECTOR_BYTES, SECTOR_ENTRIES, SEGMENT_BLOCKS, SEGMENT_INODES};
+ghost use Rattle.sector_bytes.specs.Blocks.{version_of};
 ghost use Rattle.sector_definitions.specs.Bitmaps.{bitmap_bytes, bitmap_fields};
-ghost use Rattle.sector_bytes.specs.Bytes.{number_at};
 ghost use Rattle.sector_definitions.specs.Directories.{directory_bytes, directory_fields};
 ghost use Rattle.sector_definitions.specs.Inodes.{inode_bytes};
 ghost use Rattle.disk_definitions.specs.Store.{stored, entered};
@@ -61,7 +62,7 @@ pub(crate) fn is_metadata(edit: &Edit) -> bool
 
 /// Makes an edit in the block of its sector, whose version stays.
 pub(crate) fn make(edit: &Edit, block: &mut Block)
-    ensures { block.new ≡ edited_block block.old (number_at 8 0 block.old) (edit_of edit.now) }
+    ensures { block.new ≡ edited_block block.old (version_of block.old) (edit_of edit.now) }
 {
     match edit {
         Edit::Inode { inode, .. } => set_inode(block, inode),
@@ -76,14 +77,14 @@ pub(crate) fn make(edit: &Edit, block: &mut Block)
 /// A copy of a block, which says how long it is.
 pub(crate) fn copy_of(bytes: &Block) -> Block
     ensures same { result ≡ bytes.now }
-    ensures long { length bytes.now ≡ 512 }
+    ensures long { length bytes.now ≡ SECTOR_BYTES }
 {
     *bytes
 }
 
 // The inode's sector gets this inode, or a free one.
 fn set_inode(block: &mut Block, inode: &Option<Inode>)
-    ensures { block.new ≡ inode_bytes (written.inode_with (number_at 8 0 block.old) (option_map stored inode.now)) }
+    ensures { block.new ≡ inode_bytes (written.inode_with (version_of block.old) (option_map stored inode.now)) }
 {
     let version = LittleEndian::read_u64(block);
     inode_block::encode(&inode_with(version, inode), block);
@@ -91,7 +92,7 @@ fn set_inode(block: &mut Block, inode: &Option<Inode>)
 
 // The segment has an inode in use or free.
 fn set_bit(block: &mut Block, number: u32, used: bool)
-    ensures { block.new ≡ bitmap_bytes (with_inode (bitmap_fields block.old) (number % 64) used) }
+    ensures { block.new ≡ bitmap_bytes (with_inode (bitmap_fields block.old) (number % SEGMENT_INODES) used) }
 {
     let bitmap = bitmap_block::fields(block);
     bitmap_block::encode(&mark_inode(bitmap, number % SEGMENT_INODES, used), block);
@@ -99,7 +100,7 @@ fn set_bit(block: &mut Block, number: u32, used: bool)
 
 // The segment has a small block in this state.
 fn set_state(block: &mut Block, number: u32, state: BlockState)
-    ensures { block.new ≡ bitmap_bytes (with_state (bitmap_fields block.old) (number % 1024) (state_number state)) }
+    ensures { block.new ≡ bitmap_bytes (with_state (bitmap_fields block.old) (number % SEGMENT_BLOCKS) (state_number state)) }
 {
     let bitmap = bitmap_block::fields(block);
     bitmap_block::encode(&mark_block(bitmap, number % SEGMENT_BLOCKS, state), block);
@@ -107,7 +108,7 @@ fn set_state(block: &mut Block, number: u32, state: BlockState)
 
 // The sector of a directory has this entry at a place of its block, or nothing.
 fn set_place(block: &mut Block, place: u32, entry: &Option<DirEntry>)
-    ensures { block.new ≡ directory_bytes (with_place (directory_fields block.old) (place % 7) (option_map entered entry.now)) }
+    ensures { block.new ≡ directory_bytes (with_place (directory_fields block.old) (place % SECTOR_ENTRIES) (option_map entered entry.now)) }
 {
     let mut sector = dir_block::fields(block);
     sector.entries[(place % SECTOR_ENTRIES) as usize] = place_with(entry);

@@ -1,6 +1,7 @@
 // What edits put into a sector, field by field.
 ghost use Rattle.std.specs.Prelude.{◌≡◌, ◌≤◌, Some, None, length};
 ghost use Rattle.std.specs.Option.{option_map};
+ghost use Rattle.frang_base.specs.declared.limits.TheConstants.{INODE_BLOCKS_MAX, NAME_BYTES_MAX, TARGET_BYTES_MAX};
 ghost use Rattle.sector_bytes.specs.Bytes.{zeros};
 ghost use Rattle.disk_definitions.specs.Store.{stored, entered};
 ghost use Rattle.plan_definitions.specs.Written.{inode_with, padded, place_with};
@@ -49,28 +50,28 @@ fn free_inode(version: u64) -> Inode
 
 #[tactic(auto, unfolding(sector_bytes::specs::Bytes::zeros))]
 fn no_blocks() -> [u32; 16]
-    ensures { result ≡ zeros 16 }
+    ensures { result ≡ zeros INODE_BLOCKS_MAX }
 {
     [0; INODE_BLOCKS_MAX as usize]
 }
 
 #[tactic(auto, unfolding(sector_bytes::specs::Bytes::zeros))]
 fn no_target() -> [u8; 384]
-    ensures { result ≡ zeros 384 }
+    ensures { result ≡ zeros TARGET_BYTES_MAX }
 {
     [0; TARGET_BYTES_MAX]
 }
 
 #[tactic(auto, unfolding(sector_bytes::specs::Bytes::zeros))]
 fn no_name() -> [u8; 64]
-    ensures { result ≡ zeros 64 }
+    ensures { result ≡ zeros NAME_BYTES_MAX }
 {
     [0; NAME_BYTES_MAX]
 }
 
 // The target of a link, and zeros.
 fn target_of(inode: &Inode) -> [u8; 384]
-    ensures { result ≡ padded 384 ((stored inode.now).target) }
+    ensures { result ≡ padded TARGET_BYTES_MAX ((stored inode.now).target) }
 {
     let mut target = no_target();
     pad(target_bytes(inode), &mut target);
@@ -80,7 +81,7 @@ fn target_of(inode: &Inode) -> [u8; 384]
 // The target of a link; nothing of any other inode.
 fn target_bytes(inode: &Inode) -> &[u8]
     ensures is { result.now ≡ (stored inode.now).target }
-    ensures within { length result.now ≤ 384 }
+    ensures within { length result.now ≤ TARGET_BYTES_MAX }
 {
     if inode.kind == KIND_LINK {
         &inode.target[..inode.size.min(TARGET_BYTES_MAX as u64) as usize]

@@ -10,6 +10,7 @@ use frang_base::limits::{
     BLOCK_ENTRIES, FILE_BYTES_MAX, INODE_BLOCKS_MAX, KIND_DIRECTORY, KIND_FILE, KIND_FREE,
     KIND_LINK, LINKS_MAX, SMALL_BLOCK_BYTES, SMALL_BYTES_MAX, TARGET_BYTES_MAX,
 };
+use sector_bytes::are_zero;
 use sector_definitions::Inode;
 
 /// Whether the inode is in the grammar of its kind.
@@ -106,12 +107,6 @@ fn is_target_byte(b: u8) -> bool
     ensures { result ≡ is_target_byte b }
 {
     b > b' ' && b != 0x7F
-}
-
-fn are_zero(bytes: &[u8]) -> bool
-    ensures { result ≡ are_zero bytes.now }
-{
-    bytes.iter().all(|b| *b == 0)
 }
 
 fn are_zero_numbers(numbers: &[u32]) -> bool

@@ -1,5 +1,6 @@
 // Laws of inodes and their sectors.
 ghost use Rattle.std.specs.Prelude.{◌≡◌, ◌<◌, ◌^◌, List, ℕ, Some, IsTrue, length, slice_index};
+ghost use Rattle.frang_base.specs.declared.limits.TheConstants.{INODE_BLOCKS_MAX, TARGET_BYTES_MAX};
 ghost use Rattle.frang_base.specs.declared.change.Change.{Change};
 ghost use Rattle.sector_bytes.specs.Changes.{changed};
 ghost use Rattle.sector_bytes.specs.Blocks.{patched};
@@ -32,7 +33,7 @@ fn numbers_are_in_range(numbers: &[u32])
 {}
 
 fn small_blocks_are_16(numbers: &[u32; 16])
-    ensures { length numbers.now ≡ 16 }
+    ensures { length numbers.now ≡ INODE_BLOCKS_MAX }
 {}
 
 fn targets_are_long(target: &[u8; TARGET_BYTES_MAX])

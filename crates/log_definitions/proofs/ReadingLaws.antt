@@ -14,6 +14,11 @@ use Rattle.log_definitions.specs.Frames.{frame_most, frames_among}
 use Rattle.sector_definitions.specs.LogSectors.{is_packed, packed_mark}
 use Rattle.log_definitions.proofs.EndLaws.{sector_of_number, end_is_high, end_stands}
 
+-- no frame begins among no bytes
+pub none_left : (n : ℕ) (bytes : List ℕ) → frames_among n 0 bytes ≡ []
+none_left zero bytes = refl
+none_left (suc n) bytes = refl
+
 -- ---- records that begin among the first sectors
 
 -- how many records begin among the first k sectors

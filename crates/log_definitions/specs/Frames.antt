@@ -2,6 +2,7 @@
 use Rattle.std.specs.Prelude.{ℕ, zero, suc, ◌+◌, ◌-◌, ◌&&◌, ◌==◌, if◌then◌else◌, nat_le, Option, Some, None, List, [], ◌∷◌, ◌++◌, length, option_and_then}
 use Rattle.std.specs.List.{cons_option}
 use Rattle.std.specs.Option.{option_map}
+use Rattle.frang_base.specs.declared.limits.TheConstants.{RECORD_BYTES_MAX}
 use Rattle.byteorder.specs.Endian.{little_bytes}
 use Rattle.frang_base.specs.declared.change.Redo.{Redo}
 use Rattle.log_definitions.specs.Records.{Read, bytes_read, number_read, record_bytes, record_in}
@@ -14,17 +15,21 @@ frame_bytes redo = little_bytes 8 redo.op.0 ++ little_bytes 2 (length (record_by
 abbrev pub Frame : Type 0
 Frame = ℕ × List ℕ
 
+-- the bytes of a frame before the body
+abbrev pub frame_head : ℕ
+frame_head = 10
+
 -- the bytes of its frame
 abbrev pub frame_length : Frame → ℕ
-frame_length frame = 10 + length frame.1
+frame_length frame = frame_head + length frame.1
 
 -- no frame has more
 abbrev pub frame_most : ℕ
-frame_most = 4106
+frame_most = frame_head + RECORD_BYTES_MAX
 
 -- a body of so many bytes, 1 to 4,096
 abbrev pub body_read : ℕ → List ℕ → Read (List ℕ)
-body_read n bytes = if nat_le 1 n && nat_le n 4096 then bytes_read n bytes else None
+body_read n bytes = if nat_le 1 n && nat_le n RECORD_BYTES_MAX then bytes_read n bytes else None
 
 -- the first frame of these bytes, where they have a whole one
 unfoldable pub frame_read : List ℕ → Read Frame

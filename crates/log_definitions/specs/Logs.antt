@@ -2,6 +2,7 @@
 use Rattle.std.specs.Prelude.{ℕ, zero, suc, ◌+◌, ◌-◌, ◌%◌, Bool, true, not, ◌&&◌, ◌==◌, if◌then◌else◌, nat_le, max, Option, Some, None, is_some, List, [], ◌∷◌, ◌++◌, length, take, drop, map, fold}
 use Rattle.std.specs.List.{list_all, filter, filter_map, cons_option}
 use Rattle.std.specs.Option.{option_map}
+use Rattle.frang_base.specs.declared.limits.TheConstants.{LOG_SECTORS, LOG_WINDOW}
 use Rattle.sector_definitions.specs.declared.log_sector.LogSector.{LogSector}
 use Rattle.sector_definitions.specs.LogSectors.{is_packed, log_sector_in}
 use Rattle.tree_definitions.specs.Numbers.{below}
@@ -19,25 +20,25 @@ numbered n None = None
 numbered n (Some x) = if x.seq == n then Some x else None
 
 abbrev pub sector_numbered : Slots → ℕ → Option LogSector
-sector_numbered slots n = numbered n (log_sector_in (n % 256) (slots (n % 256)))
+sector_numbered slots n = numbered n (log_sector_in (n % LOG_SECTORS) (slots (n % LOG_SECTORS)))
 
 abbrev pub stands : Slots → ℕ → Bool
 stands slots n = is_some (sector_numbered slots n)
 
 -- the 192 numbers up to an end
 unfoldable pub window : ℕ → List ℕ
-window end = map (λ k. end - 191 + k) (below 192)
+window end = map (λ k. end - (LOG_WINDOW - 1) + k) (below LOG_WINDOW)
 
 -- all of them stand in their slots
 abbrev pub is_end : Slots → ℕ → Bool
-is_end slots end = nat_le 191 end && list_all (stands slots) (window end)
+is_end slots end = nat_le (LOG_WINDOW - 1) end && list_all (stands slots) (window end)
 
 -- the numbers that stand in the slots
 abbrev pub seq_of : LogSector → ℕ
 seq_of x = x.seq
 
 unfoldable pub numbers_in : Slots → List ℕ
-numbers_in slots = filter_map (λ slot. option_map seq_of (log_sector_in slot (slots slot))) (below 256)
+numbers_in slots = filter_map (λ slot. option_map seq_of (log_sector_in slot (slots slot))) (below LOG_SECTORS)
 
 -- the end of a log: the greatest number of which it and the 191 before it stand in their slots; 0 where there is none
 unfoldable pub log_end : Slots → ℕ

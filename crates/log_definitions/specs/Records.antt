@@ -2,6 +2,7 @@
 use Rattle.std.specs.Prelude.{ℕ, zero, suc, ◌+◌, Bool, true, ◌&&◌, ◌≡◌, if◌then◌else◌, nat_le, Option, Some, None, List, [], ◌∷◌, ◌++◌, length, take, drop, IsTrue}
 use Rattle.std.specs.List.{list_all, flat_map}
 use Rattle.std.specs.Option.{option_and_then, option_map}
+use Rattle.frang_base.specs.declared.limits.TheConstants.{RECORD_BYTES_MAX, RECORD_CHANGES_MAX}
 use Rattle.byteorder.specs.Endian.{little_bytes}
 use Rattle.frang_base.specs.declared.change.Patch.{Patch}
 use Rattle.frang_base.specs.declared.change.Change.{Change}
@@ -28,7 +29,7 @@ sectors_ascend from (c ∷ changes) = nat_le from c.sector.0 && sectors_ascend (
 -- a record has 1 to 32 changes, each well formed, in ascending order of their sectors, and at most 4,096 bytes
 abbrev pub record_fits : List Change → Bool
 record_fits changes =
-    nat_le 1 (length changes) && nat_le (length changes) 32 && list_all is_change changes && sectors_ascend 0 changes && nat_le (length (record_bytes changes)) 4096
+    nat_le 1 (length changes) && nat_le (length changes) RECORD_CHANGES_MAX && list_all is_change changes && sectors_ascend 0 changes && nat_le (length (record_bytes changes)) RECORD_BYTES_MAX
 
 -- the bytes are the body of a record with these changes
 abbrev pub IsRecordBody : List ℕ → List Change → Type 0

@@ -1,6 +1,7 @@
 -- The disk after all logs are replayed: the logs in order, their records in order, each change where its sector is older; then the logs are zero.
 use Rattle.std.specs.Prelude.{ℕ, Bool, true, false, ◌&&◌, ◌==◌, if◌then◌else◌, Option, Some, None, List, fold}
 use Rattle.std.specs.List.{flat_map}
+use Rattle.frang_base.specs.declared.limits.TheConstants.{LOGS, SECTOR_BYTES, SEGMENTS_MAX}
 use Rattle.frang_base.specs.declared.change.Change.{Change}
 use Rattle.sector_definitions.specs.declared.region.Region.{Region}
 use Rattle.sector_definitions.specs.declared.region.Region.TheVariants as region
@@ -34,7 +35,7 @@ with_change segments sectors c sector = if sector == c.sector.0 && is_replayed (
 
 -- all changes of the logs, in their order
 abbrev pub logged_changes : Sectors → List Change
-logged_changes sectors = flat_map (λ server. flat_map (λ r. r.changes) (log_records (slots_of sectors server))) (below 256)
+logged_changes sectors = flat_map (λ server. flat_map (λ r. r.changes) (log_records (slots_of sectors server))) (below LOGS)
 
 -- the changes laid over the disk, none where its parameters aren't in their grammar
 abbrev pub with_logs : Option Param → Sectors → Sectors
@@ -48,4 +49,4 @@ is_log _ = false
 
 -- the replayed disk: the changes are made, and then all logs are zero
 abbrev pub replayed : Sectors → Sectors
-replayed sectors sector = if is_log (region_of 64 sector) then zeros 512 else with_logs (param_in (sectors 0)) sectors sector
+replayed sectors sector = if is_log (region_of SEGMENTS_MAX sector) then zeros SECTOR_BYTES else with_logs (param_in (sectors 0)) sectors sector

@@ -12,7 +12,7 @@ use Rattle.log_definitions.proofs.EndLaws.{sector_of_number, numbers_are_below, 
 use Rattle.log_definitions.proofs.ReadingLaws.{begun, records_among-drop, starts_anew, records_among-append, no_records, length-sectors_read, sector_read_at}
 use Rattle.log_definitions.proofs.ArrivingLaws.{empty_arrived, others_stay, one_number}
 use Rattle.log_definitions.proofs.SameLogs.{sectors_same}
-use Rattle.log_laws.specs.Sealing.{IsWithin64, is_behind_gap, IsSealedFrom}
+use Rattle.log_laws.specs.Sealing.{IsWithinFlight, is_behind_gap, IsSealedFrom}
 
 -- ---- the log while it is being sealed
 
@@ -46,7 +46,7 @@ kept_all slots end (n ∷ numbers) w high all kept =
     kept_all slots end numbers (with_sector w (empty_sector n)) high p.1 (kept_more slots end n w high gap.0 gap.1 kept)
 
 -- whichever of the sectors behind the gap have arrived
-pub sealing_kept : (slots : Slots) (numbers : List ℕ) → log_end slots < 2 ^ 62 → IsWithin64 slots → list_all (is_behind_gap (log_end slots)) numbers ≡ true
+pub sealing_kept : (slots : Slots) (numbers : List ℕ) → log_end slots < 2 ^ 62 → IsWithinFlight slots → list_all (is_behind_gap (log_end slots)) numbers ≡ true
     → IsKept slots (log_end slots) (with_sectors slots (map empty_sector numbers))
 sealing_kept slots numbers high within all =
     kept_all slots (log_end slots) numbers slots high all (record { same = λ n from to. refl; bound = numbers_are_below slots (log_end slots + 64) within })
@@ -77,7 +77,7 @@ records_kept slots w low kept =
     ap (λ end. records_among (sectors_read w end)) (end_kept slots w low kept)
     ∙ ap records_among (sectors_same w slots (log_end slots) (λ n a. let r = window_among (log_end slots) n (omega arith) a in kept.same n (omega arith) (omega arith)))
 
-pub within_kept : (slots w : Slots) → 255 ≤ log_end slots → IsKept slots (log_end slots) w → IsWithin64 w
+pub within_kept : (slots w : Slots) → 255 ≤ log_end slots → IsKept slots (log_end slots) w → IsWithinFlight w
 within_kept slots w low kept = all_numbers_below w (log_end w + 64) (λ n s. let e = end_kept slots w low kept in let h = kept.bound n s in omega arith)
 
 -- ---- all behind the gap have arrived

@@ -1,5 +1,6 @@
 -- What the end of a log is.
-use Rattle.std.specs.Prelude.{◌≡◌, ◌≤◌, ◌<◌, ℕ, true, []}
+use Rattle.std.specs.Prelude.{◌-◌, ◌≡◌, ◌≤◌, ◌<◌, ℕ, true, []}
+use Rattle.frang_base.specs.declared.limits.TheConstants.{LOG_SECTORS, SECTOR_BYTES}
 use Rattle.sector_bytes.specs.Bytes.{zeros}
 use Rattle.log_definitions.specs.Logs.{Slots, is_end, log_end, log_records}
 
@@ -9,4 +10,4 @@ TheEndIsTheGreatest = (slots : Slots) → ((end : ℕ) → is_end slots end ≡ 
 
 -- a log of zeros
 abbrev pub ZeroLogsEnd : Type 0
-ZeroLogsEnd = (log_end (λ slot. zeros 512) ≡ 255) × (log_records (λ slot. zeros 512) ≡ [])
+ZeroLogsEnd = (log_end (λ slot. zeros SECTOR_BYTES) ≡ LOG_SECTORS - 1) × (log_records (λ slot. zeros SECTOR_BYTES) ≡ [])

@@ -1,5 +1,6 @@
 -- What a replay of all logs leaves.
 use Rattle.std.specs.Prelude.{◌≡◌, ◌≤◌, ◌<◌, ℕ, Option, []}
+use Rattle.frang_base.specs.declared.limits.TheConstants.{LOGS}
 use Rattle.sector_definitions.specs.declared.param.Param.{Param}
 use Rattle.sector_bytes.specs.Blocks.{version_of}
 use Rattle.sector_bytes.specs.Sectors.{Sectors}
@@ -16,4 +17,4 @@ ReplayLowersNoVersion = (p : Option Param) (sectors : Sectors) (sector : ℕ) �
 
 -- no log holds a record afterwards
 abbrev pub LogsAreZeroAfterwards : Type 0
-LogsAreZeroAfterwards = (sectors : Sectors) (server : ℕ) → server < 256 → log_records (slots_of (replayed sectors) server) ≡ []
+LogsAreZeroAfterwards = (sectors : Sectors) (server : ℕ) → server < LOGS → log_records (slots_of (replayed sectors) server) ≡ []

@@ -10,6 +10,7 @@ use Rattle.frang_base.specs.declared.change.Redo.{Redo}
 use Rattle.log_definitions.specs.Records.{Read}
 use Rattle.log_definitions.specs.Frames.{Frame, frame_length, frame_read, framed_record, next_frames, frames_among}
 use Rattle.log_definitions.specs.Logs.{goes_on, bytes_on, records_at, records_among}
+use Rattle.log_definitions.proofs.ReadingLaws.{none_left}
 use Rattle.log_reading.specs.Decoded.{Decoded, sector_with}
 use Rattle.log_reading.proofs.Windows.{numbers_from, sectors_more, with_sector}
 
@@ -101,10 +102,6 @@ bytes_stop xs i left d before all h stops e =
     take_nothing (suc n) = refl
 
 -- ---- frames
-
-none_left : (n : ℕ) (bytes : List ℕ) → frames_among n 0 bytes ≡ []
-none_left zero bytes = refl
-none_left (suc n) bytes = refl
 
 -- as many frames as there are bytes are enough
 frames_enough : (n m left : ℕ) (bytes : List ℕ) → left ≤ n → left ≤ m → frames_among n left bytes ≡ frames_among m left bytes

@@ -1,7 +1,8 @@
 -- The words of a log's definition over what stands in its slots, where each slot is read once.
-use Rattle.std.specs.Prelude.{ℕ, zero, suc, ◌%◌, Bool, true, false, ◌&&◌, nat_le, max, is_some, Option, Some, None, List, [], map, fold, slice_index_or}
+use Rattle.std.specs.Prelude.{◌-◌, ℕ, zero, suc, ◌%◌, Bool, true, false, ◌&&◌, nat_le, max, is_some, Option, Some, None, List, [], map, fold, slice_index_or}
 use Rattle.std.specs.List.{list_all, filter, filter_map}
 use Rattle.std.specs.Option.{option_map}
+use Rattle.frang_base.specs.declared.limits.TheConstants.{LOG_SECTORS, LOG_WINDOW}
 use Rattle.sector_definitions.specs.declared.log_sector.LogSector.{LogSector}
 use Rattle.sector_definitions.specs.LogSectors.{log_sector_in}
 use Rattle.tree_definitions.specs.Numbers.{below}
@@ -12,15 +13,15 @@ abbrev pub Decoded : Type 0
 Decoded = List (Option LogSector)
 
 unfoldable pub decoded : Slots → Decoded
-decoded slots = map (λ slot. log_sector_in slot (slots slot)) (below 256)
+decoded slots = map (λ slot. log_sector_in slot (slots slot)) (below LOG_SECTORS)
 
 -- the sector of this number, where it stands in its slot
 abbrev pub sector_with : Decoded → ℕ → Option LogSector
-sector_with sectors n = numbered n (slice_index_or sectors (n % 256) None)
+sector_with sectors n = numbered n (slice_index_or sectors (n % LOG_SECTORS) None)
 
 -- the 192 numbers up to this one stand in their slots
 unfoldable pub is_full : Decoded → ℕ → Bool
-is_full sectors end = nat_le 191 end && list_all (λ n. is_some (sector_with sectors n)) (window end)
+is_full sectors end = nat_le (LOG_WINDOW - 1) end && list_all (λ n. is_some (sector_with sectors n)) (window end)
 
 -- the numbers that stand in the slots
 abbrev pub numbers_of : Decoded → List ℕ

@@ -1,6 +1,7 @@
 // Where a log ends, and its sectors up to there.
 ghost use Rattle.std.specs.Prelude.{◌≡◌, ◌%◌, ◌<◌, ◌^◌, IfOk, length};
 ghost use Rattle.std.specs.Option.{option_copied};
+ghost use Rattle.frang_base.specs.declared.limits.TheConstants.{LOG_SECTORS};
 ghost use Rattle.log_reading.specs.Decoded as spec;
 ghost use Rattle.log_reading.specs.Decoded.{end_of, is_full, sector_with};
 
@@ -11,7 +12,7 @@ use std::alloc::Global;
 
 // The greatest number of which it and the 191 before it stand in their slots, 0 where there is none.
 pub(crate) fn log_end(sectors: &[Option<LogSector>]) -> u64
-    requires { length sectors.now ≡ 256 }
+    requires { length sectors.now ≡ LOG_SECTORS }
     ensures { result ≡ end_of sectors.now }
 {
     let mut end = 0;
@@ -27,7 +28,7 @@ pub(crate) fn log_end(sectors: &[Option<LogSector>]) -> u64
 
 // The number and the 191 before it stand in their slots.
 fn is_full(sectors: &[Option<LogSector>], end: u64) -> bool
-    requires { length sectors.now ≡ 256 }
+    requires { length sectors.now ≡ LOG_SECTORS }
     ensures { result ≡ is_full sectors.now end }
 {
     if end < LOG_WINDOW - 1 {
@@ -47,7 +48,7 @@ pub(crate) fn sectors_up_to(
     sectors: &[Option<LogSector>],
     end: u64,
 ) -> Result<Vec<LogSector>, NoMemory>
-    requires { length sectors.now ≡ 256 }
+    requires { length sectors.now ≡ LOG_SECTORS }
     ensures { IfOk result (λ v. v.items ≡ spec.sectors_up_to sectors.now end) }
 {
     let mut read = Vec::new(alloc);
@@ -64,7 +65,7 @@ pub(crate) fn sectors_up_to(
 
 // The sector of this number, where it stands in its slot.
 fn sector_numbered(sectors: &[Option<LogSector>], number: u64) -> Option<&LogSector>
-    requires { length sectors.now ≡ 256 }
+    requires { length sectors.now ≡ LOG_SECTORS }
     ensures { option_copied result ≡ sector_with sectors.now number }
 {
     match &sectors[(number % LOG_SECTORS) as usize] {

@@ -1,5 +1,6 @@
 // A log, from its sectors.
 ghost use Rattle.std.specs.Prelude.{◌≡◌, IfOk, length, slice_index_or, []};
+ghost use Rattle.frang_base.specs.declared.limits.TheConstants.{LOG_SECTORS};
 ghost use Rattle.log_definitions.specs.Logs as logs;
 ghost use Rattle.log_reading.specs.Decoded.{decoded};
 
@@ -15,7 +16,7 @@ use std::alloc::Global;
 /// before it stand in their slots, 0 where there is none. The records are those that stand whole in these 192 numbers,
 /// in sectors of their own or packed.
 pub fn read_log(alloc: Global, slots: &[Block]) -> Result<(u64, Vec<Redo>), NoMemory>
-    requires { length slots.now ≡ 256 }
+    requires { length slots.now ≡ LOG_SECTORS }
     ensures end { IfOk result (λ r. r.0 ≡ logs.log_end (λ slot. slice_index_or slots.now slot [])) }
     ensures records { IfOk result (λ r. r.1.items ≡ logs.log_records (λ slot. slice_index_or slots.now slot [])) }
 {
@@ -28,9 +29,9 @@ pub fn read_log(alloc: Global, slots: &[Block]) -> Result<(u64, Vec<Redo>), NoMe
 
 // What stands in each slot.
 fn sectors_of(alloc: Global, slots: &[Block]) -> Result<Vec<Option<LogSector>>, NoMemory>
-    requires { length slots.now ≡ 256 }
+    requires { length slots.now ≡ LOG_SECTORS }
     ensures all { IfOk result (λ v. v.items ≡ decoded (λ slot. slice_index_or slots.now slot [])) }
-    ensures len { IfOk result (λ v. length v.items ≡ 256) }
+    ensures len { IfOk result (λ v. length v.items ≡ LOG_SECTORS) }
 {
     let mut sectors = Vec::new(alloc);
     for slot in 0..LOG_SECTORS as usize {

@@ -1,5 +1,6 @@
 // Laws of the coders of records and of sectors.
 ghost use Rattle.std.specs.Prelude.{◌≡◌, ◌<◌, ℕ, List, Some, IsTrue, slice_index};
+ghost use Rattle.frang_base.specs.declared.limits.TheConstants.{LOG_SECTORS};
 ghost use Rattle.log_definitions.specs.Records.{record_bytes, record_fits, record_in, IsRecordBody};
 ghost use Rattle.frang_base.specs.declared.change.Change.{Change};
 ghost use Rattle.log_record.specs.Fields.{FillsItsFields};
@@ -9,7 +10,7 @@ ghost use Rattle.sector_definitions.specs.declared.log_sector.LogSector.{LogSect
 /// What was written of a sector reads back in its slot, a block in a slot is what it is read as, and at most one sector.
 pub fn what_is_written_reads_back()
     ensures back { (slot : ℕ) (x : LogSector) → FillsItsFields x → IsTrue (log_sector_fits slot x) → log_sector_in slot (log_sector_bytes x) ≡ Some x }
-    ensures read { (slot : ℕ) (block : List ℕ) (x : LogSector) → slot < 256 → log_sector_in slot block ≡ Some x → IsLogSector slot block x }
+    ensures read { (slot : ℕ) (block : List ℕ) (x : LogSector) → slot < LOG_SECTORS → log_sector_in slot block ≡ Some x → IsLogSector slot block x }
     ensures once { (slot : ℕ) (block : List ℕ) (x y : LogSector) → FillsItsFields x → FillsItsFields y → IsLogSector slot block x → IsLogSector slot block y → x ≡ y }
 {}
 

@@ -2,6 +2,7 @@
 ghost use Rattle.std.specs.Prelude.{◌≡◌, ◌&&◌, ◌≤◌, IfOk, length, nat_le, option_and_then};
 ghost use Rattle.std.specs.List.{list_all};
 ghost use Rattle.std.specs.Option.{option_copied, option_map};
+ghost use Rattle.frang_base.specs.declared.limits.TheConstants.{RECORD_CHANGES_MAX};
 ghost use Rattle.sector_bytes.specs.Changes.{is_change};
 ghost use Rattle.log_definitions.specs.Records.{all_read, bytes_read, change_read, number_read, patch_read, record_in, sectors_ascend};
 ghost use Rattle.log_record.specs.Heads.{head_read};
@@ -35,7 +36,7 @@ pub fn decode(alloc: Global, bytes: &[u8]) -> Result<Option<Redo>, NoMemory>
 
 // There are 1 to 32 changes, each well formed, and their sectors ascend.
 fn fit(changes: &[Change]) -> bool
-    ensures { result ≡ (nat_le 1 (length changes.now) && nat_le (length changes.now) 32 && (list_all is_change changes.now && sectors_ascend 0 changes.now)) }
+    ensures { result ≡ (nat_le 1 (length changes.now) && nat_le (length changes.now) RECORD_CHANGES_MAX && (list_all is_change changes.now && sectors_ascend 0 changes.now)) }
 {
     !changes.is_empty() && changes.len() <= RECORD_CHANGES_MAX && are_changes(changes)
 }

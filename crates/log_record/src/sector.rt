@@ -1,6 +1,6 @@
 // A sector of a log as a block, and back.
 ghost use Rattle.std.specs.Prelude.{◌≡◌, ◌<◌, ◌+◌, ◌%◌, ◌==◌, ◌&&◌, IfSome, IsTrue, drop, if◌then◌else◌, nat_le};
-ghost use Rattle.std.specs.Str.{bytes_eq};
+ghost use Rattle.frang_base.specs.declared.limits.TheConstants.{LOG_BODY_BYTES, LOG_SECTORS};
 ghost use Rattle.sector_bytes.specs.Bytes as spec;
 ghost use Rattle.sector_definitions.specs.LogSectors as sectors;
 ghost use Rattle.sector_definitions.specs.LogSectors.{log_sector_bytes, log_sector_fields, log_sector_fits, log_sector_in, numbered_bytes, numbered_sector_in, is_empty_sector, is_filled_sector, is_packed_sector, is_record_sector};
@@ -10,32 +10,19 @@ use frang_base::limits::{
     LOG_BODY_BYTES, LOG_NUMBERS_END, LOG_SECTORS, RECORD_SECTORS_MAX, SECTOR_BYTES,
 };
 use frang_base::{Block, OpNo};
+use sector_bytes::{are_zero, is_zero_block, zero_block};
 use sector_definitions::LogSector;
 
 /// Makes the block this sector of a log.
 pub fn sector_write(s: &LogSector, to: &mut Block)
-    requires { IsTrue (log_sector_fits (s.now.seq % 256) s.now) }
+    requires { IsTrue (log_sector_fits (s.now.seq % LOG_SECTORS) s.now) }
     ensures { to.new ≡ log_sector_bytes s.now }
 {
     if s.seq < LOG_SECTORS {
-        clear(to);
+        *to = zero_block();
     } else {
         write_fields(s, to);
     }
-}
-
-#[tactic(auto, unfolding(sector_bytes::specs::Bytes::zeros))]
-fn clear(to: &mut Block)
-    ensures { to.new ≡ spec.zeros 512 }
-{
-    *to = [0; SECTOR_BYTES];
-}
-
-#[tactic(auto, unfolding(sector_bytes::specs::Bytes::zeros))]
-fn is_clear(b: &Block) -> bool
-    ensures { result ≡ bytes_eq (spec.zeros 512) b.now }
-{
-    [0; SECTOR_BYTES] == *b
 }
 
 /// The sector of a log that the block in this slot is. `None` exactly where no such sector may stand there.
@@ -43,7 +30,7 @@ pub fn sector_read(b: &Block, slot: u8) -> Option<LogSector>
     ensures value { result ≡ log_sector_in slot b.now }
     ensures fits { IfSome result (λ x. IsTrue (log_sector_fits slot x)) }
 {
-    if is_clear(b) {
+    if is_zero_block(b) {
         return Some(empty_sector(slot));
     }
     numbered_sector(b, slot, fields(b))
@@ -162,7 +149,7 @@ fn is_record(s: &LogSector) -> bool
 // Every part but the last uses the whole body, the last at least one byte, and zeros follow.
 fn uses_its_body(s: &LogSector) -> bool
     requires { s.now.part < s.now.parts }
-    ensures { result ≡ (if s.now.part + 1 == s.now.parts then nat_le 1 s.now.used && nat_le s.now.used 488 else s.now.used == 488) && spec.are_zero (drop s.now.used s.now.body) }
+    ensures { result ≡ (if s.now.part + 1 == s.now.parts then nat_le 1 s.now.used && nat_le s.now.used LOG_BODY_BYTES else s.now.used == LOG_BODY_BYTES) && spec.are_zero (drop s.now.used s.now.body) }
 {
     let fills = if s.part + 1 == s.parts {
         1 <= s.used && s.used as usize <= LOG_BODY_BYTES
@@ -170,10 +157,4 @@ fn uses_its_body(s: &LogSector) -> bool
         s.used as usize == LOG_BODY_BYTES
     };
     fills && are_zero(&s.body[usize::from(s.used)..])
-}
-
-fn are_zero(bytes: &[u8]) -> bool
-    ensures { result ≡ spec.are_zero bytes.now }
-{
-    bytes.iter().all(|byte| *byte == 0)
 }

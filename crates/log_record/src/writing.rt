@@ -1,5 +1,6 @@
 // The body of a record, from its changes.
 ghost use Rattle.std.specs.Prelude.{◌≡◌, ◌+◌, ◌<◌, ◌≤◌, ◌^◌, ◌++◌, length, true, vec_len, vec_capacity, IfOk, IsTrue, OnOk, OnErr};
+ghost use Rattle.frang_base.specs.declared.limits.TheConstants.{RECORD_BYTES_MAX, SECTOR_BYTES};
 ghost use Rattle.byteorder.specs.Endian.{little_bytes};
 ghost use Rattle.sector_bytes.specs.Changes.{is_change};
 ghost use Rattle.log_definitions.specs.Records.{change_bytes, patch_bytes, record_bytes, record_fits};
@@ -55,7 +56,7 @@ fn push_change(body: &mut Vec<u8>, change: &Change) -> Result<(), NoMemory>
 }
 
 fn push_patch(body: &mut Vec<u8>, patch: &Patch) -> Result<(), NoMemory>
-    requires { length patch.now.bytes ≤ 512 }
+    requires { length patch.now.bytes ≤ SECTOR_BYTES }
     ensures bytes { OnOk result (body.new.items ≡ body.old.items ++ patch_bytes patch.now) }
     ensures full { OnErr result (vec_capacity body.old < vec_len body.old + length (patch_bytes patch.now)) }
     ensures capacity { vec_capacity body.old ≤ vec_capacity body.new }
@@ -79,7 +80,7 @@ pub fn record_length(redo: &Redo) -> usize
 }
 
 fn change_length(change: &Change) -> usize
-    requires { length (change_bytes change.now) ≤ 4096 }
+    requires { length (change_bytes change.now) ≤ RECORD_BYTES_MAX }
     ensures { result ≡ length (change_bytes change.now) }
 {
     let mut bytes = CHANGE_HEAD;

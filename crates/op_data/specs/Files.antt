@@ -1,5 +1,6 @@
 -- The file that a path names, as every plan of a file goes on with it, and where its sectors lie.
 use Rattle.std.specs.Prelude.{◌≡◌, ◌≤◌, ℕ, ◌-◌, ◌/◌, ◌%◌, if◌then◌else◌, nat_lt, Result, Ok, Err, List}
+use Rattle.frang_base.specs.declared.limits.TheConstants.{FILE_BYTES_MAX, KIND_FILE, SMALL_BLOCK_SECTORS, SMALL_SECTORS_MAX}
 use Rattle.tree_definitions.specs.Tree.{small_blocks_of}
 use Rattle.sector_definitions.specs.declared.inode.Inode.{Inode}
 use Rattle.sector_definitions.specs.declared.region.Region.{Region}
@@ -17,9 +18,9 @@ use Rattle.plan_steps.specs.declared.stop.Stop.TheVariants as stop
 
 -- the inode of a file, whose small blocks are those of its size
 pub record IsFile (x : Inode) : Type 0 where
-  pub kind : x.kind ≡ 1
+  pub kind : x.kind ≡ KIND_FILE
   pub blocks : x.blocks ≡ small_blocks_of x.size
-  pub size : x.size ≤ 1114112
+  pub size : x.size ≤ FILE_BYTES_MAX
 
 -- each plan of the file that the path names goes on with its inode, or is refused, or needs the sector
 abbrev pub FindsFile : Hand → List (List ℕ) → Result NumberedInode Stop → Type 0
@@ -34,7 +35,7 @@ FindsFile hand path (Err stop.NoMemory) = ⊥
 
 -- where a sector of a file lies
 abbrev pub place_of : StoredNode → ℕ → Region
-place_of x t = if nat_lt t 128 then region.Small (x.small (t / 8)) (t % 8) else region.Large (x.large - 1) (t - 128)
+place_of x t = if nat_lt t SMALL_SECTORS_MAX then region.Small (x.small (t / SMALL_BLOCK_SECTORS)) (t % SMALL_BLOCK_SECTORS) else region.Large (x.large - 1) (t - SMALL_SECTORS_MAX)
 
 -- n sectors of the file from sector t on have these bytes, or one of them is needed
 abbrev pub ReadsSectors : Hand → StoredNode → ℕ → ℕ → Result (List ℕ) Stop → Type 0

@@ -1,6 +1,7 @@
 -- What the code writes in the definitions of plans, and what its steps come to.
 use Rattle.std.specs.Prelude.{◌≡◌, ℕ, ◌-◌, ◌/◌, Bool, if◌then◌else◌, Result, Ok, Err, List, [], ◌∷◌, ◌++◌, length, slice_index}
 use Rattle.std.specs.Global.{Vec}
+use Rattle.frang_base.specs.declared.limits.TheConstants.{SECTOR_BYTES}
 use Rattle.disk_definitions.specs.Store.{StoredNode}
 use Rattle.store_changes.specs.Edits.{Edit}
 use Rattle.plan_definitions.specs.Ask.{Ask}
@@ -42,7 +43,7 @@ WritesSector hand w x y t (Err need) = (next : List Edit → Ask Plan) → over 
 
 -- the sectors that the bytes meet, with edits before theirs
 abbrev pub write_behind : Writing → StoredNode → StoredNode → List Edit → (List Edit → Ask Plan) → Ask Plan
-write_behind w x y before next = write_sectors w x y (w.off / 512) (sectors_met w.off w.len) (λ more. next (before ++ more))
+write_behind w x y before next = write_sectors w x y (w.off / SECTOR_BYTES) (sectors_met w.off w.len) (λ more. next (before ++ more))
 
 -- their edits come behind those that were there, or a sector is needed
 abbrev pub WritesSectors : Hand → Writing → StoredNode → StoredNode → List CodeEdit → Result (Vec CodeEdit) Stop → Type 0

@@ -3,7 +3,6 @@ ghost use Rattle.std.specs.Prelude.{◌≡◌, ◌≤◌, ◌<◌, ◌+◌};
 ghost use Rattle.frang_base.specs.declared.limits.TheConstants.{FILE_BYTES_MAX, LARGE_BLOCK_SECTORS, SMALL_SECTORS_MAX};
 ghost use Rattle.disk_definitions.specs.Store.{stored};
 ghost use Rattle.plan_definitions.specs.FilePlans.{end_of};
-ghost use Rattle.sector_bytes.specs.Bytes as bytes;
 ghost use Rattle.op_data.specs.Writings.{FindsAround, WritesSector, WritesSectors, writing_of};
 
 use crate::file::sector_bytes;
@@ -13,6 +12,7 @@ use dir_lookup::{Hand, Need};
 use frang_base::Block;
 use frang_base::limits::SECTOR_BYTES;
 use plan_steps::{Edit, Stop, push};
+use sector_bytes::zero_block;
 use sector_definitions::Inode;
 
 /// Adds the edits of the bytes. `old` is the inode as it is, and `new` as it will be.
@@ -58,13 +58,6 @@ fn bytes_around(hand: &Hand, writing: &Writing, old: &Inode, t: u32) -> Result<B
     if writing.keeps_bytes(old.size, t) {
         sector_bytes(hand, old, t)
     } else {
-        Ok(zeros())
+        Ok(zero_block())
     }
-}
-
-#[tactic(auto, unfolding(sector_bytes::specs::Bytes::zeros))]
-fn zeros() -> Block
-    ensures { result ≡ bytes.zeros 512 }
-{
-    [0; SECTOR_BYTES]
 }

@@ -1,6 +1,6 @@
 // The plan of a read.
 ghost use Rattle.std.specs.Prelude.{◌≡◌, ◌≤◌, ◌<◌, ◌+◌, ◌-◌, ◌*◌, ◌%◌, ℕ, List, length, take, drop, IfOk};
-ghost use Rattle.frang_base.specs.declared.limits.TheConstants.{FILE_BYTES_MAX, LARGE_BLOCK_SECTORS, SMALL_SECTORS_MAX};
+ghost use Rattle.frang_base.specs.declared.limits.TheConstants.{FILE_BYTES_MAX, LARGE_BLOCK_SECTORS, SECTOR_BYTES, SMALL_SECTORS_MAX};
 ghost use Rattle.disk_definitions.specs.Store.{stored};
 ghost use Rattle.plan_definitions.specs.FilePlans.{plan_read, sectors_met, showing};
 ghost use Rattle.dir_lookup.specs.Hands.{over};
@@ -49,7 +49,7 @@ fn show(alloc: Global, hand: &Hand, inode: &Inode, off: u32, len: u32) -> Result
 
 // So many of the bytes from a place on.
 fn part_of(alloc: Global, bytes: &[u8], from: u32, count: u32) -> Result<Text, NoMemory>
-    requires from { from < 512 }
+    requires from { from < SECTOR_BYTES }
     requires count { count ≤ FILE_BYTES_MAX }
     requires within { 0 < count → from + count ≤ length bytes.now }
     ensures { IfOk result (λ text. text ≡ take count (drop from bytes.now)) }
@@ -65,7 +65,7 @@ fn part_of(alloc: Global, bytes: &[u8], from: u32, count: u32) -> Result<Text, N
 fn sectors_met(off: u32, len: u32) -> u32
     requires { off + len ≤ FILE_BYTES_MAX }
     ensures is { result ≡ sectors_met off len }
-    ensures room { 0 < len → off % 512 + len ≤ 512 * result }
+    ensures room { 0 < len → off % SECTOR_BYTES + len ≤ SECTOR_BYTES * result }
 {
     if len == 0 {
         0
@@ -79,7 +79,7 @@ fn bytes_of(alloc: Global, hand: &Hand, inode: &Inode, first: u32, end: u32) -> 
     requires forth { first ≤ end }
     requires within { end ≤ SMALL_SECTORS_MAX + LARGE_BLOCK_SECTORS }
     ensures reads { ReadsSectors hand.now (stored inode.now) first (end - first) result }
-    ensures length { IfOk result (λ bytes. length bytes ≡ 512 * (end - first)) }
+    ensures length { IfOk result (λ bytes. length bytes ≡ SECTOR_BYTES * (end - first)) }
 {
     let mut bytes = Text::new(alloc);
     for t in first..end {

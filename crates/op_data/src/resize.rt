@@ -1,5 +1,6 @@
 // The inode of a file that has another size, and the edits that take blocks for it.
 ghost use Rattle.std.specs.Prelude.{◌≡◌, ◌≤◌, ◌<◌, ◌-◌, ◌++◌, IfOk, IfSome, OnOk, length, map, slice_index};
+ghost use Rattle.frang_base.specs.declared.limits.TheConstants.{INODE_BLOCKS_MAX, SEGMENTS_MAX};
 ghost use Rattle.disk_definitions.specs.Store.Use.{Bytes};
 ghost use Rattle.disk_definitions.specs.Store.{stored};
 ghost use Rattle.store_changes.specs.Edits.Edit.{SetUse};
@@ -30,7 +31,7 @@ pub(crate) struct NewBlocks<'a> {
 pub(crate) fn resized(inode: &Inode, size: u64, more: &NewBlocks) -> Inode
     requires file { IsFile inode.now }
     requires picks { small_blocks_of size - inode.now.blocks ≤ length more.now.small.now }
-    requires large { IfSome more.now.large (λ g. g < 64) }
+    requires large { IfSome more.now.large (λ g. g < SEGMENTS_MAX) }
     ensures { stored result ≡ resized (stored inode.now) size more.now.small.now more.now.large }
 {
     let blocks = blocks_of(size);
@@ -46,7 +47,7 @@ pub(crate) fn resized(inode: &Inode, size: u64, more: &NewBlocks) -> Inode
 // Its small blocks.
 fn small_after(inode: &Inode, picks: &[u32], blocks: u16) -> [u32; 16]
     requires picks { blocks - inode.now.blocks ≤ length picks.now }
-    requires few { blocks ≤ 16 }
+    requires few { blocks ≤ INODE_BLOCKS_MAX }
     ensures { slice_index result ≡ small_after (stored inode.now) picks.now blocks }
 {
     let mut small = [0; INODE_BLOCKS_MAX as usize];
@@ -59,7 +60,7 @@ fn small_after(inode: &Inode, picks: &[u32], blocks: u16) -> [u32; 16]
 // Its small block `n`.
 fn small_at(inode: &Inode, picks: &[u32], blocks: u16, n: u16) -> u32
     requires picks { blocks - inode.now.blocks ≤ length picks.now }
-    requires few { blocks ≤ 16 }
+    requires few { blocks ≤ INODE_BLOCKS_MAX }
     requires n { n < blocks }
     ensures { result ≡ small_after (stored inode.now) picks.now blocks n }
 {
@@ -72,7 +73,7 @@ fn small_at(inode: &Inode, picks: &[u32], blocks: u16, n: u16) -> u32
 
 // Its large block plus 1, or 0.
 fn large_after(inode: &Inode, large: Option<u32>, size: u64) -> u32
-    requires { IfSome large (λ g. g < 64) }
+    requires { IfSome large (λ g. g < SEGMENTS_MAX) }
     ensures { result ≡ large_after (stored inode.now) large size }
 {
     if size <= SMALL_BYTES_MAX {

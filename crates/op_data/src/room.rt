@@ -1,5 +1,6 @@
 // How many blocks are or were directories'.
 ghost use Rattle.std.specs.Prelude.{◌≡◌, ◌≤◌, ◌<◌, ◌+◌, ◌*◌, ◌==◌, ◌||◌};
+ghost use Rattle.frang_base.specs.declared.limits.TheConstants.{SEGMENT_BLOCKS};
 ghost use Rattle.pick_definitions.specs.Least.{count};
 ghost use Rattle.pick_definitions.specs.Held.{state_in};
 ghost use Rattle.pick_definitions.specs.Picks.{is_in_state};
@@ -23,8 +24,8 @@ pub(crate) fn directory_blocks(held: &Held) -> u32
 
 // Those of segment `k`.
 fn directory_blocks_at(held: &Held, k: u32) -> u32
-    ensures is { result ≡ count (λ j. is_in_state 2 (state_in held.now (1024 * k + j)) || is_in_state 3 (state_in held.now (1024 * k + j))) 1024 }
-    ensures few { result ≤ 1024 }
+    ensures is { result ≡ count (λ j. is_in_state 2 (state_in held.now (SEGMENT_BLOCKS * k + j)) || is_in_state 3 (state_in held.now (SEGMENT_BLOCKS * k + j))) SEGMENT_BLOCKS }
+    ensures few { result ≤ SEGMENT_BLOCKS }
 {
     match held.get(k) {
         Some(bitmap) => directory_blocks_in(bitmap),
@@ -33,8 +34,8 @@ fn directory_blocks_at(held: &Held, k: u32) -> u32
 }
 
 fn directory_blocks_in(bitmap: &Bitmap) -> u32
-    ensures is { result ≡ count (λ j. block_state bitmap.now j == 2 || block_state bitmap.now j == 3) 1024 }
-    ensures few { result ≤ 1024 }
+    ensures is { result ≡ count (λ j. block_state bitmap.now j == 2 || block_state bitmap.now j == 3) SEGMENT_BLOCKS }
+    ensures few { result ≤ SEGMENT_BLOCKS }
 {
     let mut blocks = 0;
     for j in 0..SEGMENT_BLOCKS {
@@ -44,7 +45,7 @@ fn directory_blocks_in(bitmap: &Bitmap) -> u32
 }
 
 fn is_directory_block(bitmap: &Bitmap, j: u32) -> bool
-    requires { j < 1024 }
+    requires { j < SEGMENT_BLOCKS }
     ensures { result ≡ (block_state bitmap.now j == 2 || block_state bitmap.now j == 3) }
 {
     match state_of(bitmap, j) {

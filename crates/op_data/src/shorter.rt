@@ -1,5 +1,6 @@
 // What a file keeps and gives up when it gets shorter.
 ghost use Rattle.std.specs.Prelude.{◌≡◌, ◌≤◌, ◌<◌, ◌*◌, ℕ, nat_lt, if◌then◌else◌, slice_index, [], None};
+ghost use Rattle.frang_base.specs.declared.limits.TheConstants.{INODE_BLOCKS_MAX};
 ghost use Rattle.tree_definitions.specs.Tree.{small_blocks_of};
 ghost use Rattle.disk_definitions.specs.Store.{stored};
 ghost use Rattle.plan_definitions.specs.FilePlans.{blocks_between, large_after, large_cut, large_segment, resized};
@@ -49,14 +50,14 @@ pub(crate) fn shortened(inode: &Inode, len: u32) -> Inode
 /// The small blocks that a file of this size has: at most 16.
 pub(crate) fn blocks_of(size: u64) -> u16
     ensures is { result ≡ small_blocks_of size }
-    ensures few { result ≤ 16 }
+    ensures few { result ≤ INODE_BLOCKS_MAX }
 {
     small_blocks_of(size as usize) as u16
 }
 
 // The first so many, and zeros.
 fn first_of(small: &[u32; 16], count: u16) -> [u32; 16]
-    requires { count ≤ 16 }
+    requires { count ≤ INODE_BLOCKS_MAX }
     ensures { (n : ℕ) → slice_index result n ≡ (if nat_lt n count then slice_index small.now n else 0) }
 {
     let mut first = *small;

@@ -1,6 +1,6 @@
 // The plans of write and fill.
 ghost use Rattle.std.specs.Prelude.{◌≡◌, ◌≤◌, ◌<◌, ◌-◌, ◌==◌, ◌&&◌, IfSome, List, length, max, nat_lt, ℕ};
-ghost use Rattle.frang_base.specs.declared.limits.TheConstants.{FILE_BYTES_MAX, SEGMENTS_MAX};
+ghost use Rattle.frang_base.specs.declared.limits.TheConstants.{FILE_BYTES_MAX, SEGMENTS_MAX, SMALL_BYTES_MAX};
 ghost use Rattle.tree_definitions.specs.Tree.{small_blocks_of};
 ghost use Rattle.disk_definitions.specs.Store.{stored};
 ghost use Rattle.plan_definitions.specs.FilePlans as plans;
@@ -66,7 +66,7 @@ fn write(
 
 // Whether bytes up to this end need a large block that the file hasn't.
 fn needs_large(file: &NumberedInode, end: u64) -> bool
-    ensures { result ≡ (nat_lt 65536 end && file.now.inode.large == 0) }
+    ensures { result ≡ (nat_lt SMALL_BYTES_MAX end && file.now.inode.large == 0) }
 {
     end > SMALL_BYTES_MAX && file.inode.large == 0
 }

@@ -1,5 +1,6 @@
 -- The name that is moved, as the code has it.
 use Rattle.std.specs.Prelude.{◌<◌, ◌*◌}
+use Rattle.frang_base.specs.declared.limits.TheConstants.{BLOCK_ENTRIES}
 use Rattle.disk_definitions.specs.Store.{stored, entered}
 use Rattle.plan_definitions.specs.NamePlans.{Moving}
 use Rattle.plan_steps.specs.Nodes.{IsDirectory}
@@ -12,4 +13,4 @@ moving_of m = record { dir = m.directory.number; directory = stored m.directory.
 -- the place is one of a directory
 pub record IsNamed (m : Named) : Type 0 where
   pub directory : IsDirectory m.directory.inode
-  pub place : m.found.place < 56 * m.directory.inode.blocks
+  pub place : m.found.place < BLOCK_ENTRIES * m.directory.inode.blocks

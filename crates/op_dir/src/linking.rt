@@ -1,5 +1,6 @@
 // Second names of files and links.
 ghost use Rattle.std.specs.Prelude.{◌≡◌, ◌++◌, ◌+◌, ◌<◌, ℕ, List, Some, nat_le};
+ghost use Rattle.frang_base.specs.declared.limits.TheConstants.{LINKS_MAX};
 ghost use Rattle.disk_definitions.specs.Store.{stored};
 ghost use Rattle.store_changes.specs.Changes.{relink};
 ghost use Rattle.plan_definitions.specs.Ask.{bind};
@@ -101,7 +102,7 @@ fn link_in(
 
 // The node has as many names as one may have.
 fn has_all_links(node: &Inode) -> bool
-    ensures { result ≡ nat_le 1000 (stored node.now).links }
+    ensures { result ≡ nat_le LINKS_MAX (stored node.now).links }
 {
     node.links >= LINKS_MAX
 }
@@ -116,7 +117,7 @@ fn linked(
 ) -> Result<Outcome, NoMemory>
     requires directory { IsDirectory directory.now.inode }
     requires room { IsRoomOf directory.now.inode room.now }
-    requires links { node.now.inode.links < 1000 }
+    requires links { node.now.inode.links < LINKS_MAX }
     ensures { Does (relink node.now.number (stored node.now.inode) (node.now.inode.links + 1) ++ plans.enter directory.now.number (stored directory.now.inode) (record { name = name.now; inode = node.now.number; kind = node.now.inode.kind }) (room_in room.now)) result }
 {
     let entry = entry_for(name, node.number, node.inode.kind);

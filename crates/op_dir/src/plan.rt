@@ -1,5 +1,6 @@
 // The plan of an operation on names.
 ghost use Rattle.std.specs.Prelude.{◌≡◌, ◌≤◌, IfOk, length};
+ghost use Rattle.frang_base.specs.declared.limits.TheConstants.{TARGET_BYTES_MAX};
 ghost use Rattle.plan_definitions.specs.PlanOf.{plan_of};
 ghost use Rattle.plan_definitions.specs.Written.{hand_of};
 ghost use Rattle.plan_definitions.specs.Allowed.{IsAllowed};
@@ -66,7 +67,7 @@ pub fn plan_names(alloc: Global, op: &Op, birth: u64, hand: &Hand) -> Result<Out
 
 // A target of its own with these bytes.
 fn target_of(text: &Text) -> Result<Target, NoMemory>
-    requires { length text.now ≤ 384 }
+    requires { length text.now ≤ TARGET_BYTES_MAX }
     ensures { IfOk result (λ target. target ≡ text.now) }
 {
     Ok(Target::of(text.try_copy()?))

@@ -8,6 +8,7 @@ ghost use Rattle.plan_definitions.specs.LookPlans.{entries_of};
 ghost use Rattle.dir_lookup.specs.Stored.{IsProper, entries_at};
 ghost use Rattle.op_look.specs.Looks.{ListsNames, with_name, with_place};
 ghost use Rattle.std.specs.Map.{keys_of};
+ghost use Rattle.frang_base.specs.declared.limits.TheConstants.{INODE_BLOCKS_MAX};
 
 use dir_lookup::{entry_at, name_of, part_at};
 use frang_base::limits::{SECTOR_ENTRIES, SMALL_BLOCK_SECTORS};
@@ -24,7 +25,7 @@ pub(crate) fn names_in(
     sectors: &Sectors,
     directory: &Inode,
 ) -> Result<NameList, Stop>
-    requires { directory.now.blocks ≤ 16 }
+    requires { directory.now.blocks ≤ INODE_BLOCKS_MAX }
     ensures { (held : Segments) → ListsNames sectors.now.entries held (stored directory.now) result }
 {
     let mut sorted: BTreeMap<Name, u64> = BTreeMap::new(alloc);

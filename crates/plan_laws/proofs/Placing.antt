@@ -12,14 +12,14 @@ use Rattle.tree_definitions.specs.Tree.{FileTree, node_at, with_node, small_bloc
 use Rattle.tree_definitions.specs.Apply.{says, overwritten}
 use Rattle.frang_base.proofs.Basics.{eq_of, of_lt, of_ge}
 use Rattle.tree_laws.specs.WellFormed.{IsWellFormed}
-use Rattle.disk_definitions.specs.Store.{Store, StoredNode, Use, is_unused}
+use Rattle.disk_definitions.specs.Store.{Store, StoredNode, Use, byte_at, is_unused}
 use Rattle.disk_definitions.specs.Store.Use.{Fresh, Bytes}
 use Rattle.disk_definitions.specs.Naming.{Naming, inode_of, Allows}
 use Rattle.store_changes.specs.Edits.{Edit, edited_all}
 use Rattle.store_changes.specs.Edits.Edit.{SetUse, SetLarge}
 use Rattle.store_changes.specs.Namings.{is_owned_by, is_of}
 use Rattle.store_changes.specs.Laws.{FilesFit}
-use Rattle.store_changes.specs.Resizing.{index_of, is_large_of, byte_at, named_resized, HasBlocks, IsResized}
+use Rattle.store_changes.specs.Resizing.{index_of, is_large_of, named_resized, HasBlocks, IsResized}
 use Rattle.store_changes.proofs.Puts.{edited_append}
 use Rattle.store_changes.proofs.Indices.{index_hit}
 use Rattle.plan_definitions.specs.Ask.{Got, run}

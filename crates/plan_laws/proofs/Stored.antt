@@ -5,9 +5,8 @@ use Rattle.tree_definitions.specs.declared.cells.Cell.{Cell}
 use Rattle.tree_definitions.specs.declared.node.Node.TheVariants.{File}
 use Rattle.tree_definitions.specs.Tree.{small_blocks_of}
 use Rattle.frang_base.proofs.Basics.{of_lt, of_ge}
-use Rattle.disk_definitions.specs.Store.{Store}
+use Rattle.disk_definitions.specs.Store.{Store, byte_at}
 use Rattle.disk_definitions.specs.Naming.{first_blocks, inode_of}
-use Rattle.store_changes.specs.Resizing.{byte_at}
 use Rattle.plan_laws.proofs.Bytes.{stored_byte}
 
 module _ (s : Store) (stamp links large : ℕ) (block : ℕ → ℕ) (cells : List Cell) where

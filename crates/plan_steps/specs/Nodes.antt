@@ -1,5 +1,6 @@
 -- The nodes that come, and what the code has to know of the inodes that it changes.
 use Rattle.std.specs.Prelude.{◌≡◌, ◌≤◌, []}
+use Rattle.frang_base.specs.declared.limits.TheConstants.{FILE_BYTES_MAX, INODE_BLOCKS_MAX, KIND_DIRECTORY}
 use Rattle.sector_definitions.specs.declared.inode.Inode.{Inode}
 use Rattle.tree_definitions.specs.declared.node.Node.{Node}
 use Rattle.tree_definitions.specs.declared.node.Node.TheVariants.{Dir, File, Link}
@@ -14,6 +15,6 @@ node_of (new.Link target) = Link target 1
 
 -- the inode of a directory, and the bounds of its fields
 pub record IsDirectory (x : Inode) : Type 0 where
-  pub kind : x.kind ≡ 2
-  pub blocks : x.blocks ≤ 16
-  pub size : x.size ≤ 1114112
+  pub kind : x.kind ≡ KIND_DIRECTORY
+  pub blocks : x.blocks ≤ INODE_BLOCKS_MAX
+  pub size : x.size ≤ FILE_BYTES_MAX

@@ -1,5 +1,6 @@
 -- Room for an entry as the code has it, and what comes of the block that it takes.
 use Rattle.std.specs.Prelude.{◌≡◌, ◌<◌, ◌*◌, ℕ, if◌then◌else◌, Option, Some, None, Result, Ok, Err, List, [], ◌∷◌}
+use Rattle.frang_base.specs.declared.limits.TheConstants.{BLOCK_ENTRIES, INODE_BLOCKS_MAX}
 use Rattle.sector_definitions.specs.declared.inode.Inode.{Inode}
 use Rattle.pick_definitions.specs.Held.{Segments}
 use Rattle.plan_definitions.specs.Plans.{Finish, Room, Inside, InBlock, NoRoom, Finishes, finish_in}
@@ -28,8 +29,8 @@ room_of (Some r) = room_in r
 
 -- the room is one of this directory: a place in its blocks, or one more block
 abbrev pub IsRoomOf : Inode → CodeRoom → Type 0
-IsRoomOf x (room.Inside q) = q < 56 * x.blocks
-IsRoomOf x (room.InBlock k) = x.blocks < 16
+IsRoomOf x (room.Inside q) = q < BLOCK_ENTRIES * x.blocks
+IsRoomOf x (room.InBlock k) = x.blocks < INODE_BLOCKS_MAX
 
 -- each plan that goes on once the block of the room is clear is done, or ends so
 abbrev pub ClearsRoom : {A : Type 0} → Hand → Room → Result A Stop → Type 0

@@ -1,5 +1,6 @@
 -- Where a path leads, as every plan of a name goes on with it.
 use Rattle.std.specs.Prelude.{◌≡◌, ◌<◌, ◌*◌, ℕ, Bool, Result, Ok, Err, List}
+use Rattle.frang_base.specs.declared.limits.TheConstants.{BLOCK_ENTRIES}
 use Rattle.pick_definitions.specs.Held.{Segments}
 use Rattle.plan_definitions.specs.Ask.{Ask, bind}
 use Rattle.plan_definitions.specs.Walks.{Spot, walk}
@@ -17,7 +18,7 @@ use Rattle.plan_steps.specs.Nodes.{IsDirectory}
 -- a directory with a name in one of its places, or a directory without the name
 abbrev pub IsStanding : CodeSpot → Type 0
 IsStanding spot.AtRoot = Unit {0}
-IsStanding (spot.AtName directory name found) = IsDirectory directory.inode × (found.place < 56 * directory.inode.blocks)
+IsStanding (spot.AtName directory name found) = IsDirectory directory.inode × (found.place < BLOCK_ENTRIES * directory.inode.blocks)
 IsStanding (spot.AtGap directory name) = IsDirectory directory.inode
 IsStanding (spot.Lost r) = Unit {0}
 

@@ -1,15 +1,13 @@
 // Small blocks that are cached as zero.
 ghost use Rattle.std.specs.Prelude.{◌≡◌};
-ghost use Rattle.sector_bytes.specs.Bytes.{zeros};
-ghost use Rattle.std.specs.Str.{bytes_eq};
 ghost use Rattle.sector_definitions.specs.Regions.{sector_of};
 ghost use Rattle.sector_definitions.specs.declared.region.Region.TheVariants as region;
 ghost use Rattle.plan_definitions.specs.Written.{is_zero_at_hand, is_zeroed};
 
-use frang_base::Block;
-use frang_base::limits::{SECTOR_BYTES, SMALL_BLOCK_SECTORS};
+use frang_base::limits::SMALL_BLOCK_SECTORS;
 use frang_layout::{Region, sector_of};
 use meta_version::Sectors;
+use sector_bytes::is_zero_block;
 
 /// Whether all eight sectors of a small block are cached, and hold zeros.
 pub fn is_zeroed(sectors: &Sectors, block: u32) -> bool
@@ -29,14 +27,7 @@ fn is_zero_part(sectors: &Sectors, block: u32, part: u8) -> bool
     ensures { result ≡ is_zero_at_hand sectors.now.entries (sector_of (region.Small block part)) }
 {
     match sectors.get(sector_of(&Region::Small { block, part })) {
-        Some(bytes) => is_zero(bytes),
+        Some(bytes) => is_zero_block(bytes),
         None => false,
     }
-}
-
-#[tactic(auto, unfolding(sector_bytes::specs::Bytes::zeros))]
-fn is_zero(bytes: &Block) -> bool
-    ensures { result ≡ bytes_eq (zeros 512) bytes.now }
-{
-    [0; SECTOR_BYTES] == *bytes
 }

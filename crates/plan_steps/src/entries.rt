@@ -1,6 +1,7 @@
 // Entries of directories that come, go, or are replaced.
 ghost use Rattle.std.specs.Prelude.{◌≡◌, ◌<◌, ◌+◌, ◌*◌, ◌/◌, ◌%◌, ◌++◌, ◌∷◌, [], OnOk, slice_index};
 ghost use Rattle.std.specs.Option.{option_map};
+ghost use Rattle.frang_base.specs.declared.limits.TheConstants.{BLOCK_ENTRIES, INODE_BLOCKS_MAX};
 ghost use Rattle.disk_definitions.specs.Store.{stored, entered};
 ghost use Rattle.store_changes.specs.Edits.{SetPlace};
 ghost use Rattle.store_changes.specs.Changes as changes;
@@ -60,7 +61,7 @@ pub fn enter(
 // The directory with a block more.
 fn with_block(directory: &Inode, block: u32) -> Inode
     requires directory { IsDirectory directory.now }
-    requires room { directory.now.blocks < 16 }
+    requires room { directory.now.blocks < INODE_BLOCKS_MAX }
     ensures stored { stored result ≡ plans.with_block (stored directory.now) block }
     ensures directory { IsDirectory result }
     ensures blocks { result.blocks ≡ directory.now.blocks + 1 }
@@ -74,7 +75,7 @@ fn with_block(directory: &Inode, block: u32) -> Inode
 // The directory gets a block.
 fn grow(edits: &mut Vec<Edit>, directory: &NumberedInode, block: u32) -> Result<(), NoMemory>
     requires directory { IsDirectory directory.now.inode }
-    requires room { directory.now.inode.blocks < 16 }
+    requires room { directory.now.inode.blocks < INODE_BLOCKS_MAX }
     ensures ok { OnOk result (edits_of edits.new.items ≡ edits_of edits.old.items ++ changes.grow directory.now.number (stored directory.now.inode) block) }
 {
     let inode = with_block(&directory.inode, block);
@@ -102,7 +103,7 @@ fn put_entry(
     entry: &DirEntry,
 ) -> Result<(), NoMemory>
     requires directory { IsDirectory directory.now.inode }
-    requires place { place < 56 * directory.now.inode.blocks }
+    requires place { place < BLOCK_ENTRIES * directory.now.inode.blocks }
     ensures ok { OnOk result (edits_of edits.new.items ≡ edits_of edits.old.items ++ changes.put_entry directory.now.number (stored directory.now.inode) place (entered entry.now)) }
 {
     let mut inode = directory.inode;
@@ -124,7 +125,7 @@ pub fn take_entry(
     place: u32,
 ) -> Result<(), NoMemory>
     requires directory { IsDirectory directory.now.inode }
-    requires place { place < 56 * directory.now.inode.blocks }
+    requires place { place < BLOCK_ENTRIES * directory.now.inode.blocks }
     ensures ok { OnOk result (edits_of edits.new.items ≡ edits_of edits.old.items ++ changes.take_entry directory.now.number (stored directory.now.inode) place) }
 {
     let mut inode = directory.inode;
@@ -147,7 +148,7 @@ pub fn replace_entry(
     entry: &DirEntry,
 ) -> Result<(), NoMemory>
     requires directory { IsDirectory directory.now }
-    requires place { place < 56 * directory.now.blocks }
+    requires place { place < BLOCK_ENTRIES * directory.now.blocks }
     ensures ok { OnOk result (edits_of edits.new.items ≡ edits_of edits.old.items ++ changes.replace_entry (stored directory.now) place (entered entry.now)) }
 {
     set_place(edits, directory, place, Some(*entry))
@@ -161,8 +162,8 @@ fn set_place(
     entry: Option<DirEntry>,
 ) -> Result<(), NoMemory>
     requires directory { IsDirectory directory.now }
-    requires place { place < 56 * directory.now.blocks }
-    ensures ok { OnOk result (edits_of edits.new.items ≡ edits_of edits.old.items ++ SetPlace (slice_index directory.now.small (place / 56)) (place % 56) (option_map entered entry) ∷ []) }
+    requires place { place < BLOCK_ENTRIES * directory.now.blocks }
+    ensures ok { OnOk result (edits_of edits.new.items ≡ edits_of edits.old.items ++ SetPlace (slice_index directory.now.small (place / BLOCK_ENTRIES)) (place % BLOCK_ENTRIES) (option_map entered entry) ∷ []) }
 {
     push(
         edits,

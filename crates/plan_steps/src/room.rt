@@ -1,5 +1,6 @@
 // Room for an entry in a directory.
 ghost use Rattle.std.specs.Prelude.{ℕ, List, ◌≡◌, IfOk, IfSome, if◌then◌else◌, nat_lt};
+ghost use Rattle.frang_base.specs.declared.limits.TheConstants.{INODE_BLOCKS_MAX};
 ghost use Rattle.pick_definitions.specs.Held.{state_in};
 ghost use Rattle.pick_definitions.specs.Picks.{is_in_state, picked_directory};
 ghost use Rattle.disk_definitions.specs.Store.{stored};
@@ -63,7 +64,7 @@ pub fn nothing_left(hand: &Hand, reply: Reply) -> Stop
 
 // A block for a directory that has fewer than 16.
 fn more_room(held: &Held, directory: &Inode) -> Option<Room>
-    ensures finds { room_of result ≡ (if nat_lt directory.now.blocks 16 then plans.room_in (picked_directory held.now) else NoRoom) }
+    ensures finds { room_of result ≡ (if nat_lt directory.now.blocks INODE_BLOCKS_MAX then plans.room_in (picked_directory held.now) else NoRoom) }
     ensures room { IfSome result (IsRoomOf directory.now) }
 {
     if u32::from(directory.blocks) < INODE_BLOCKS_MAX {

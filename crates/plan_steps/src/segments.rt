@@ -1,5 +1,6 @@
 // Whether the segments are held that a node needs when it goes.
 ghost use Rattle.std.specs.Prelude.{◌≡◌, ◌-◌, ◌/◌, ◌==◌, ◌∷◌, [], if◌then◌else◌, map, slice_index};
+ghost use Rattle.frang_base.specs.declared.limits.TheConstants.{SEGMENT_BLOCKS};
 ghost use Rattle.tree_definitions.specs.Numbers.{below};
 ghost use Rattle.disk_definitions.specs.Store.{stored};
 ghost use Rattle.plan_definitions.specs.NamePlans as plans;
@@ -39,7 +40,7 @@ fn segments_of_node(held: &Held, node: &NumberedInode) -> Result<(), Need>
 // That the segments of the small blocks are held.
 fn segments_of_blocks(held: &Held, inode: &Inode) -> Result<(), Need>
     requires { IsUsed inode.now }
-    ensures { missing_of result ≡ needed held.now (map (λ n. slice_index inode.now.small n / 1024) (below inode.now.blocks)) }
+    ensures { missing_of result ≡ needed held.now (map (λ n. slice_index inode.now.small n / SEGMENT_BLOCKS) (below inode.now.blocks)) }
 {
     for n in 0..usize::from(inode.blocks) {
         segment_held(held, inode.small[n] / SEGMENT_BLOCKS)?;

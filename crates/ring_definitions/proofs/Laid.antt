@@ -249,6 +249,26 @@ begun_more over x bytes (q ∷ ps) p few some all b =
     less : (o u l : ℕ) → o < u → o < u + l
     less o u l h = omega arith
 
+-- a sector in front, with the records that begin in it
+in_front : (from till : ℕ) (over : List ℕ) (x : LogSector) (xs ys : List LogSector) (ps : List Placed) (p : Placed) (laid : IsLaid from over till (x ∷ xs) ps) → IsLaid (from + 1) laid.past laid.end ys (laid.later ++ p ∷ [])
+    → IsLaid from over till (x ∷ ys) (ps ++ p ∷ [])
+in_front from till over x xs ys ps p laid rest = record {
+  here = laid.here;
+  later = laid.later ++ p ∷ [];
+  past = laid.past;
+  end = laid.end;
+  split = ap (λ qs. qs ++ p ∷ []) laid.split ∙ append_assoc laid.here laid.later (p ∷ []);
+  bytes = laid.bytes;
+  packed = laid.packed;
+  used = laid.used;
+  some = laid.some;
+  few = laid.few;
+  part = laid.part;
+  row = laid.row;
+  runs = laid.runs;
+  rest = rest;
+}
+
 module _ (from till : ℕ) (over : List ℕ) (x : LogSector) (ps : List Placed) (p : Placed) (packed : IsPacked (from + 1) x) (laid : IsLaid from over till (x ∷ []) ps) (new : IsNew (from + 1) (488 - x.used) p) where
   abbrev room : ℕ
   room = 488 - x.used
@@ -269,26 +289,12 @@ module _ (from till : ℕ) (over : List ℕ) (x : LogSector) (ps : List Placed) 
   over_alone e = ap length (sym (append-nil over)) ∙ ap (λ qs. length (over ++ frames qs)) (sym e) ∙ ap length here_bytes ∙ laid.used
 
   put_full : (x.used ≡ 488) → IsLaid from over till (x ∷ packed_sectors (from + 1 + 1) 0 frame) (ps ++ p ∷ [])
-  put_full e = record {
-    here = laid.here;
-    later = laid.later ++ p ∷ [];
-    past = laid.past;
-    end = laid.end;
-    split = ap (λ qs. qs ++ p ∷ []) laid.split ∙ append_assoc laid.here laid.later (p ∷ []);
-    bytes = laid.bytes;
-    packed = laid.packed;
-    used = laid.used;
-    some = laid.some;
-    few = laid.few;
-    part = laid.part;
-    row = laid.row;
-    runs = laid.runs;
-    rest = new_laid (from + 1) laid.end laid.past laid.later p nothing_past laid.rest.1 laid.runs (record {
-      first = new.first ∙ ap (λ k. if k == 0 then from + 1 + 1 else from + 1) none;
-      last = new.last ∙ ap (λ k. from + 1 + sectors_for (length frame - k)) none;
-      framed = new.framed;
-    });
-  }
+  put_full e = in_front from till over x [] (packed_sectors (from + 1 + 1) 0 frame) ps p laid
+      (new_laid (from + 1) laid.end laid.past laid.later p nothing_past laid.rest.1 laid.runs (record {
+        first = new.first ∙ ap (λ k. if k == 0 then from + 1 + 1 else from + 1) none;
+        last = new.last ∙ ap (λ k. from + 1 + sectors_for (length frame - k)) none;
+        framed = new.framed;
+      }))
     where
       at : (u : ℕ) → u ≡ 488 → 488 - u ≡ 0
       at u e = omega arith
@@ -364,26 +370,6 @@ module _ (from till : ℕ) (over : List ℕ) (x : LogSector) (ps : List Placed) 
   put_laid : IsLaid from over till (put_on (from + 1 + 1) x frame) (ps ++ p ∷ [])
   put_laid = by_test (λ xs. IsLaid from over till xs (ps ++ p ∷ [])) (x ∷ packed_sectors (from + 1 + 1) 0 frame) (filled x (take room frame) ∷ packed_sectors (from + 1 + 1) none_begins (drop room frame)) (x.used == 488)
       (λ t. put_full (eqb-true x.used 488 t)) (λ t. put_open (eqb-false x.used 488 t))
-
--- a sector in front, with the records that begin in it
-in_front : (from till : ℕ) (over : List ℕ) (x : LogSector) (xs ys : List LogSector) (ps : List Placed) (p : Placed) (laid : IsLaid from over till (x ∷ xs) ps) → IsLaid (from + 1) laid.past laid.end ys (laid.later ++ p ∷ [])
-    → IsLaid from over till (x ∷ ys) (ps ++ p ∷ [])
-in_front from till over x xs ys ps p laid rest = record {
-  here = laid.here;
-  later = laid.later ++ p ∷ [];
-  past = laid.past;
-  end = laid.end;
-  split = ap (λ qs. qs ++ p ∷ []) laid.split ∙ append_assoc laid.here laid.later (p ∷ []);
-  bytes = laid.bytes;
-  packed = laid.packed;
-  used = laid.used;
-  some = laid.some;
-  few = laid.few;
-  part = laid.part;
-  row = laid.row;
-  runs = laid.runs;
-  rest = rest;
-}
 
 -- behind sectors of which some wait
 pub framed_laid : (from till last : ℕ) (over : List ℕ) (xs ys : List LogSector) (ps : List Placed) (p : Placed) → last ≡ from + length (xs ++ ys) → Along IsPacked (from + 1) (xs ++ ys)

@@ -11,7 +11,7 @@ use Rattle.frang_base.specs.declared.change.Redo.{Redo}
 use Rattle.log_definitions.specs.Records.{record_bytes, record_in}
 use Rattle.log_definitions.specs.Frames.{Frame, frame_bytes, frame_length, frame_most, frame_read, framed_record, next_frames, frames_among}
 use Rattle.log_definitions.specs.Logs.{goes_on, bytes_on, bytes_begun, frames_of, record_at, records_at, records_among}
-use Rattle.log_definitions.proofs.ReadingLaws.{begun, starts_anew}
+use Rattle.log_definitions.proofs.ReadingLaws.{begun, none_left, starts_anew}
 use Rattle.log_record.proofs.RecordBack.{record_back}
 use Rattle.log_record.proofs.FrameBack.{IsFramed, few_bytes, length-frame_bytes, frame_back, frame_cut}
 use Rattle.ring_definitions.specs.RingRuns.{Placed}
@@ -149,10 +149,6 @@ goes_short from till (suc t) over (x ∷ xs) ps laid runs some h =
     at (q ∷ qs) e row deeper = let b : max (from + 1) till ≡ from + 1 = row.0.before in absurd (omega arith)
 
 -- ---- the records that begin in a sector
-
-none_left : (n : ℕ) (bytes : List ℕ) → frames_among n 0 bytes ≡ []
-none_left zero bytes = refl
-none_left (suc n) bytes = refl
 
 -- a whole frame is read as its record
 one_frame : (n left : ℕ) (p : Placed) (rest : List ℕ) → IsFramed p.redo → 1 ≤ left → frames_among (suc n) left (frame_of p ++ rest) ≡ p.redo ∷ frames_among n (left - length (frame_of p)) rest

@@ -1,6 +1,7 @@
 -- Every run of calls on a ring over a disk that takes the issued sectors in any order, or never; and what its log then reads as.
 use Rattle.std.specs.Prelude.{◌≡◌, ◌≤◌, ◌<◌, ℕ, ◌+◌, ◌-◌, ◌^◌, Bool, true, not, ◌&&◌, ◌==◌, if◌then◌else◌, nat_le, nat_lt, Some, List, [], ◌∷◌, ◌++◌, length, take, drop, map, IsTrue}
 use Rattle.std.specs.List.{list_all, list_any, filter, slice_get}
+use Rattle.frang_base.specs.declared.limits.TheConstants.{LOG_IN_FLIGHT_MAX, LOG_NUMBERS_END, LOG_SECTORS, LOG_WINDOW}
 use Rattle.sector_definitions.specs.declared.log_sector.LogSector.{LogSector}
 use Rattle.frang_base.specs.declared.change.Redo.{Redo}
 use Rattle.log_definitions.specs.Logs.{Slots, numbers_in, log_end, log_records, is_sealed}
@@ -42,8 +43,8 @@ is_flying w number = list_any (is_numbered number) w.flying
 -- what may happen: a record that fits and finds room; the issue of a sector that waits, no more than 64 past the acknowledged ones; the arrival of one
 -- on its way; an acknowledgement of one that was issued and arrived
 abbrev pub may_happen : LogState → LogEvent → Bool
-may_happen w (Append redo) = is_record redo && nat_le (need w.ring redo) (free w.ring) && nat_lt (last w.ring) (2 ^ 63 - 16)
-may_happen w Issue = nat_lt 0 (length w.ring.waiting) && nat_lt (length w.ring.above) 64
+may_happen w (Append redo) = is_record redo && nat_le (need w.ring redo) (free w.ring) && nat_lt (last w.ring) (LOG_NUMBERS_END - 16)
+may_happen w Issue = nat_lt 0 (length w.ring.waiting) && nat_lt (length w.ring.above) LOG_IN_FLIGHT_MAX
 may_happen w (Arrive number) = is_flying w number
 may_happen w (Acknowledge number) = nat_le number (sent w.ring) && not (is_flying w number)
 may_happen w GiveUp = true
@@ -94,7 +95,7 @@ pub record ReadsBack (slots : Slots) (w : LogState) : Type 0 where
 -- of every run from a sealed log with an end
 abbrev pub RingsReadBack : Type 0
 RingsReadBack =
-    (slots : Slots) (events : List LogEvent) → 255 ≤ log_end slots → log_end slots < 2 ^ 62 → IsTrue (is_sealed slots)
+    (slots : Slots) (events : List LogEvent) → LOG_SECTORS - 1 ≤ log_end slots → log_end slots < 2 ^ 62 → IsTrue (is_sealed slots)
     → IsTrue (may_all_happen (log_at slots) events) → ReadsBack slots (after_log_events (log_at slots) events)
 
 -- and what its core rests on: the end of the log is an issued number, not below the acknowledged ones, no greater number stands in a slot, and the numbers
@@ -103,12 +104,12 @@ pub record EndsWithin (w : LogState) : Type 0 where
   pub not_below : w.ring.reached ≤ log_end w.slots
   pub not_above : log_end w.slots ≤ sent w.ring
   pub numbers : IsTrue (list_all (λ n. nat_le n (sent w.ring)) (numbers_in w.slots))
-  pub window : sent w.ring ≤ w.ring.reached + 64
-  pub kept : last w.ring ≤ w.ring.given_up + 192
+  pub window : sent w.ring ≤ w.ring.reached + LOG_IN_FLIGHT_MAX
+  pub kept : last w.ring ≤ w.ring.given_up + LOG_WINDOW
   pub given : w.ring.given_up ≤ sent w.ring
   pub waits : (k : ℕ) (x : LogSector) → slice_get w.ring.waiting k ≡ Some x → x.seq ≡ sent w.ring + 1 + k
 
 abbrev pub RingsEndWithin : Type 0
 RingsEndWithin =
-    (slots : Slots) (events : List LogEvent) → 255 ≤ log_end slots → log_end slots < 2 ^ 62 → IsTrue (is_sealed slots)
+    (slots : Slots) (events : List LogEvent) → LOG_SECTORS - 1 ≤ log_end slots → log_end slots < 2 ^ 62 → IsTrue (is_sealed slots)
     → IsTrue (may_all_happen (log_at slots) events) → EndsWithin (after_log_events (log_at slots) events)

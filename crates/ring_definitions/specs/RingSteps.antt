@@ -1,6 +1,7 @@
 -- Rings behind a log, a step at a time: what is good stays good at each call and each arrival, and reads back. So who keeps a ring need carry no list of
 -- what happened to it.
-use Rattle.std.specs.Prelude.{◌≡◌, ◌≤◌, ◌<◌, ℕ, ◌^◌, List, IsTrue}
+use Rattle.std.specs.Prelude.{◌-◌, ◌≡◌, ◌≤◌, ◌<◌, ℕ, ◌^◌, List, IsTrue}
+use Rattle.frang_base.specs.declared.limits.TheConstants.{LOG_SECTORS}
 use Rattle.log_definitions.specs.Logs.{Slots, log_end, is_sealed}
 use Rattle.ring_definitions.specs.RingRuns.{LogState, LogEvent, log_at, may_happen, may_all_happen, after_log_event, after_log_events, ReadsBack, EndsWithin}
 
@@ -9,11 +10,11 @@ pub record IsSameState (v w : LogState) : Type 0 where
   pub ring : v.ring ≡ w.ring
   pub flying : v.flying ≡ w.flying
   pub placed : v.placed ≡ w.placed
-  pub slots : (slot : ℕ) → slot < 256 → v.slots slot ≡ w.slots slot
+  pub slots : (slot : ℕ) → slot < LOG_SECTORS → v.slots slot ≡ w.slots slot
 
 -- a ring and its log behind these slots, as some run leaves them. Cite the laws below and not what it is made of.
 pub record IsGoodLog (slots : Slots) (w : LogState) : Type 0 where
-  pub low : 255 ≤ log_end slots
+  pub low : LOG_SECTORS - 1 ≤ log_end slots
   pub high : log_end slots < 2 ^ 62
   pub sealed : IsTrue (is_sealed slots)
   pub events : List LogEvent
@@ -22,7 +23,7 @@ pub record IsGoodLog (slots : Slots) (w : LogState) : Type 0 where
 
 -- a ring behind a sealed log with an end is good
 abbrev pub RingsBegin : Type 0
-RingsBegin = (slots : Slots) → 255 ≤ log_end slots → log_end slots < 2 ^ 62 → IsTrue (is_sealed slots) → IsGoodLog slots (log_at slots)
+RingsBegin = (slots : Slots) → LOG_SECTORS - 1 ≤ log_end slots → log_end slots < 2 ^ 62 → IsTrue (is_sealed slots) → IsGoodLog slots (log_at slots)
 
 -- it stays so at each event that may happen
 abbrev pub RingsStep : Type 0

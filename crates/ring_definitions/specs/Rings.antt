@@ -3,6 +3,7 @@
 use Rattle.std.specs.Prelude.{ℕ, zero, suc, ◌+◌, ◌-◌, ◌/◌, ◌^◌, Bool, true, false, not, ◌&&◌, ◌==◌, if◌then◌else◌, nat_le, nat_lt, min, max, Option, Some, None, Result, Ok, Err, List, [], ◌∷◌, ◌++◌, length, take, drop, map, fold, slice_set, unwrap_or}
 use Rattle.std.specs.List.{list_any, filter, find}
 use Rattle.std.specs.Option.{option_map}
+use Rattle.frang_base.specs.declared.limits.TheConstants.{LOG_BODY_BYTES, LOG_IN_FLIGHT_MAX, LOG_QUARTER, LOG_WINDOW}
 use Rattle.frang_base.specs.declared.sector.Sector.{Sector}
 use Rattle.sector_definitions.specs.declared.log_sector.LogSector.{LogSector}
 use Rattle.sector_bytes.specs.Bytes.{zeros}
@@ -25,16 +26,16 @@ is_record redo = nat_le 1 redo.op.0 && nat_lt redo.op.0 (2 ^ 64) && record_fits 
 -- a packed sector with these bytes, and the place where the first frame begins that begins in it
 abbrev pub packed_sector : ℕ → ℕ → List ℕ → LogSector
 packed_sector number part bytes =
-    record { seq = number; op = record { 0 = 0 }; part = part; parts = packed_mark; used = length bytes; body = bytes ++ zeros (488 - length bytes) }
+    record { seq = number; op = record { 0 = 0 }; part = part; parts = packed_mark; used = length bytes; body = bytes ++ zeros (LOG_BODY_BYTES - length bytes) }
 
 -- so many packed sectors with these bytes one behind the other, the first with this number and part; in the others no frame begins
 abbrev pub cut : ℕ → ℕ → ℕ → List ℕ → List LogSector
 cut zero first part bytes = []
-cut (suc n) first part bytes = packed_sector first part (take 488 bytes) ∷ cut n (first + 1) none_begins (drop 488 bytes)
+cut (suc n) first part bytes = packed_sector first part (take LOG_BODY_BYTES bytes) ∷ cut n (first + 1) none_begins (drop LOG_BODY_BYTES bytes)
 
 -- how many sectors so many bytes take
 abbrev pub sectors_for : ℕ → ℕ
-sectors_for n = (n + 487) / 488
+sectors_for n = (n + (LOG_BODY_BYTES - 1)) / LOG_BODY_BYTES
 
 abbrev pub packed_sectors : ℕ → ℕ → List ℕ → List LogSector
 packed_sectors first part bytes = cut (sectors_for (length bytes)) first part bytes
@@ -42,7 +43,7 @@ packed_sectors first part bytes = cut (sectors_for (length bytes)) first part by
 -- for how many bytes the last of the sectors that wait has room: while it isn't full and isn't issued it is open, and takes further frames
 abbrev pub open_room : List LogSector → ℕ
 open_room [] = 0
-open_room (x ∷ []) = 488 - x.used
+open_room (x ∷ []) = LOG_BODY_BYTES - x.used
 open_room (x ∷ y ∷ ys) = open_room (y ∷ ys)
 
 -- a packed sector with these bytes behind its own, at which a frame begins
@@ -53,8 +54,8 @@ filled x bytes =
 -- the last sector that waits, and those behind it, with a frame more; the next sector has this number
 abbrev pub put_on : ℕ → LogSector → List ℕ → List LogSector
 put_on next x frame =
-    if x.used == 488 then x ∷ packed_sectors next 0 frame
-    else filled x (take (488 - x.used) frame) ∷ packed_sectors next none_begins (drop (488 - x.used) frame)
+    if x.used == LOG_BODY_BYTES then x ∷ packed_sectors next 0 frame
+    else filled x (take (LOG_BODY_BYTES - x.used) frame) ∷ packed_sectors next none_begins (drop (LOG_BODY_BYTES - x.used) frame)
 
 -- the sectors that wait, with a frame more
 abbrev pub framed : ℕ → List LogSector → List ℕ → List LogSector
@@ -85,7 +86,7 @@ last r = sent r + length r.waiting
 
 -- 192 less the numbers that aren't given up
 abbrev pub free : Ring → ℕ
-free r = 192 - (last r - r.given_up)
+free r = LOG_WINDOW - (last r - r.given_up)
 
 -- how many sectors a record newly begins: none where the open one has room for its frame
 abbrev pub need : Ring → Redo → ℕ
@@ -116,7 +117,7 @@ first_waiting number [] = None
 first_waiting number (x ∷ xs) = Some (number, log_sector_bytes x)
 
 abbrev pub next_sector : Ring → Option (ℕ × List ℕ)
-next_sector r = if nat_lt (length r.above) 64 then first_waiting (sent r + 1) r.waiting else None
+next_sector r = if nat_lt (length r.above) LOG_IN_FLIGHT_MAX then first_waiting (sent r + 1) r.waiting else None
 
 -- after the first waiting sector is issued, which closes it
 abbrev pub issued : Ring → Ring
@@ -136,7 +137,7 @@ acked r number = if nat_lt r.reached number then passed r r.reached (slice_set r
 
 -- the last of the oldest 64 numbers, or of those that are issued: what stands in the open sector isn't given up
 abbrev pub oldest_end : Ring → ℕ
-oldest_end r = min (r.given_up + 64) (sent r)
+oldest_end r = min (r.given_up + LOG_QUARTER) (sent r)
 
 -- it belongs to the oldest records: those that begin in these numbers
 abbrev pub is_oldest : Ring → Named → Bool

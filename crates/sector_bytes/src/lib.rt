@@ -1,13 +1,15 @@
 //! What every layer means by a block, the bytes of a sector: zeros, its version, patches laid over it, a change applied to it, a
 //! replay of records, the patches between two blocks, and maps from sectors to blocks and other values. The contracts are laws: a
 //! well-formed change keeps a block's length and sets its version, one applied twice is applied once.
-//! Its code is the block of zeros. It stands on the base types.
+//! Its code is the block of zeros, and tests for zeros. It stands on the base types.
 #![tactic(auto)]
 
 ghost use Rattle.std.specs.Prelude.{◌≡◌, ◌<◌, ◌≤◌, ◌^◌, ℕ, List, true, length, take, drop};
 ghost use Rattle.std.specs.Int.{w64, to_le_bytes, from_le_bytes};
+ghost use Rattle.std.specs.Str.{bytes_eq};
 ghost use Rattle.frang_base.specs.declared.change.Change.{Change};
 ghost use Rattle.frang_base.specs.declared.limits.TheConstants.{SECTOR_BYTES, VERSION_BYTES};
+ghost use Rattle.sector_bytes.specs.Bytes.{are_zero};
 ghost use Rattle.sector_bytes.specs.Blocks.{Block, version_of, patched, spelling, zero_block};
 ghost use Rattle.sector_bytes.specs.Changes.{changed, applied, is_change, Fit};
 
@@ -20,6 +22,21 @@ pub fn zero_block() -> Block
     ensures { result ≡ zero_block }
 {
     [0; SECTOR_BYTES]
+}
+
+/// Whether a block is the block of zeros.
+#[tactic(auto, unfolding(crate::specs::Bytes::zeros))]
+pub fn is_zero_block(block: &Block) -> bool
+    ensures { result ≡ bytes_eq zero_block block.now }
+{
+    [0; SECTOR_BYTES] == *block
+}
+
+/// Whether all bytes are 0.
+pub fn are_zero(bytes: &[u8]) -> bool
+    ensures { result ≡ are_zero bytes.now }
+{
+    bytes.iter().all(|byte| *byte == 0)
 }
 
 /// A version is the number that std reads from the first eight bytes, the lowest first, and one below 2^64 is spelled as std

@@ -7,7 +7,7 @@ use Rattle.tree_definitions.specs.declared.node.Node.TheVariants.{Dir, File}
 use Rattle.frang_base.specs.Functions.{put}
 use Rattle.frang_base.proofs.Basics.{at_put}
 use Rattle.tree_laws.specs.WellFormed.{put as put_node}
-use Rattle.disk_definitions.specs.Store.{Store, StoredNode}
+use Rattle.disk_definitions.specs.Store.{Store, StoredNode, byte_at}
 use Rattle.disk_definitions.specs.Store.Use.{Fresh, Bytes, Entries}
 use Rattle.disk_definitions.specs.Naming.{Naming, Nodes, Pictures, find_in, inode_of, Allows}
 use Rattle.store_changes.specs.Edits.{edited_all}
@@ -15,7 +15,7 @@ use Rattle.store_changes.specs.Changes.{new_node, grow, put_entry}
 use Rattle.store_changes.specs.Namings.{named_new, named_block, named_at}
 use Rattle.store_changes.specs.Edits.Edit.{SetInode, SetUse, SetBytes}
 use Rattle.store_changes.specs.Laws.{FilesFit}
-use Rattle.store_changes.specs.Resizing.{index_of, named_resized, byte_at, HasBlocks, IsResized}
+use Rattle.store_changes.specs.Resizing.{index_of, named_resized, HasBlocks, IsResized}
 use Rattle.store_changes.proofs.Resize.{files_are_resized}
 use Rattle.store_changes.proofs.Puts.{put_part_other}
 use Rattle.store_changes.proofs.Names.{names_come}

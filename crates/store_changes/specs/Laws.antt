@@ -4,7 +4,7 @@ use Rattle.std.specs.Ordering.{nat_cmp}
 use Rattle.std.specs.Cmp.Lexicographic.{slice_cmp}
 use Rattle.std.specs.List.Sorted.{IsStrictlySortedBy}
 use Rattle.std.specs.Map.{keys_of}
-use Rattle.frang_base.specs.declared.limits.TheConstants.{BLOCK_ENTRIES, FILE_BYTES_MAX, KIND_FILE, SMALL_BLOCK_BYTES}
+use Rattle.frang_base.specs.declared.limits.TheConstants.{BLOCK_ENTRIES, FILE_BYTES_MAX, KIND_FILE, LARGE_BLOCK_SECTORS, SECTOR_BYTES, SMALL_BLOCK_BYTES}
 use Rattle.tree_definitions.specs.declared.cells.Cell.{Cell}
 use Rattle.tree_definitions.specs.declared.node.Node.{Node}
 use Rattle.tree_definitions.specs.declared.node.Node.TheVariants.{Dir, File, Link}
@@ -142,7 +142,7 @@ pub record SaysTheSame (s t : Store) : Type 0 where
   pub large_bits : (g : ℕ) → t.large_bit g ≡ s.large_bit g
   pub places : (k p : ℕ) → p < BLOCK_ENTRIES → IsMetadata (s.use_of k) → t.place k p ≡ s.place k p
   pub bytes : (k j : ℕ) → j < SMALL_BLOCK_BYTES → s.use_of k ≡ Bytes → t.byte k j ≡ s.byte k j
-  pub large_bytes : (g j : ℕ) → j < 1048576 → s.large_bit g ≡ true → t.large_byte g j ≡ s.large_byte g j
+  pub large_bytes : (g j : ℕ) → j < LARGE_BLOCK_SECTORS * SECTOR_BYTES → s.large_bit g ≡ true → t.large_byte g j ≡ s.large_byte g j
 
 -- files fit where the inodes that picture them have such sizes
 abbrev pub FilesFitBySizes : Type 0

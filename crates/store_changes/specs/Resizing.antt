@@ -1,12 +1,12 @@
 -- A file gets other cells, with other blocks where it is longer or shorter.
-use Rattle.std.specs.Prelude.{◌≡◌, ℕ, zero, suc, ◌-◌, ◌/◌, ◌%◌, ◌<◌, ◌≤◌, Bool, true, false, ◌==◌, ◌&&◌, if◌then◌else◌, nat_lt, Option, Some, None, List, length, is_some}
+use Rattle.std.specs.Prelude.{◌*◌, ◌≡◌, ℕ, zero, suc, ◌<◌, ◌≤◌, Bool, true, false, ◌==◌, ◌&&◌, if◌then◌else◌, nat_lt, Option, Some, None, List, length, is_some}
 use Rattle.std.specs.List.{slice_get}
-use Rattle.frang_base.specs.declared.limits.TheConstants.{BLOCK_ENTRIES, SMALL_BLOCK_BYTES, SMALL_BYTES_MAX}
+use Rattle.frang_base.specs.declared.limits.TheConstants.{BLOCK_ENTRIES, LARGE_BLOCK_SECTORS, SECTOR_BYTES, SMALL_BLOCK_BYTES, SMALL_BYTES_MAX}
 use Rattle.tree_definitions.specs.declared.cells.Cell.{Cell}
 use Rattle.tree_definitions.specs.declared.node.Node.TheVariants.{File}
 use Rattle.tree_definitions.specs.Tree.{small_blocks_of}
 use Rattle.frang_base.specs.Functions.{put}
-use Rattle.disk_definitions.specs.Store.{Store}
+use Rattle.disk_definitions.specs.Store.{Store, byte_at}
 use Rattle.disk_definitions.specs.Store.Use.{Fresh, Bytes}
 use Rattle.disk_definitions.specs.Standing.{IsMetadata}
 use Rattle.disk_definitions.specs.Naming.{Naming, Nodes, Pictures, inode_of, Allows}
@@ -41,10 +41,6 @@ named_resized n b cells block large = record n {
   large_owner = λ g. if is_large_of cells large g then Some b else (if is_of b (n.large_owner g) then None else n.large_owner g);
 }
 
--- a byte of a file with these blocks
-abbrev pub byte_at : Store → (ℕ → ℕ) → ℕ → ℕ → ℕ
-byte_at s block large j = if nat_lt j SMALL_BYTES_MAX then s.byte (block (j / SMALL_BLOCK_BYTES)) (j % SMALL_BLOCK_BYTES) else s.large_byte large (j - SMALL_BYTES_MAX)
-
 -- blocks for the new cells: of those that the file has it keeps what it needs, and the others were free and differ
 pub record HasBlocks (s : Store) (n : Naming) (b : ℕ) (old new : List Cell) (block : ℕ → ℕ) (large : ℕ) : Type 0 where
   pub kept : (j : ℕ) → j < small_blocks_of (length old) → j < small_blocks_of (length new) → block j ≡ n.block b j
@@ -62,7 +58,7 @@ pub record IsResized (s t : Store) (n : Naming) (b : ℕ) (cells : List Cell) (l
   pub large_bits : (g : ℕ) → t.large_bit g ≡ (if is_large_of cells large g then true else (if is_of b (n.large_owner g) then false else s.large_bit g))
   pub places : (k p : ℕ) → p < BLOCK_ENTRIES → IsMetadata (t.use_of k) → t.place k p ≡ s.place k p
   pub bytes : (k j : ℕ) → j < SMALL_BLOCK_BYTES → t.use_of k ≡ Bytes → index_of cells block k ≡ None → t.byte k j ≡ s.byte k j
-  pub large_bytes : (g j : ℕ) → j < 1048576 → t.large_bit g ≡ true → is_large_of cells large g ≡ false → t.large_byte g j ≡ s.large_byte g j
+  pub large_bytes : (g j : ℕ) → j < LARGE_BLOCK_SECTORS * SECTOR_BYTES → t.large_bit g ≡ true → is_large_of cells large g ≡ false → t.large_byte g j ≡ s.large_byte g j
   pub allowed : (j : ℕ) (c : Cell) → slice_get cells j ≡ Some c → Allows c (byte_at t block large j)
 
 abbrev pub FilesAreResized : Type 0

@@ -1,21 +1,23 @@
 -- What holds of the parts of every ring in memory.
-use Rattle.std.specs.Prelude.{ℕ, ◌+◌, ◌<◌, ◌≤◌, ◌^◌, Bool, ◌&&◌, nat_lt, List, [], ◌∷◌, length, IsTrue}
+use Rattle.std.specs.Prelude.{◌-◌, ℕ, ◌+◌, ◌<◌, ◌≤◌, Bool, ◌&&◌, nat_lt, List, [], ◌∷◌, length, IsTrue}
 use Rattle.std.specs.List.{list_all}
+use Rattle.frang_base.specs.declared.limits.TheConstants.{LOG_IN_FLIGHT_MAX, LOG_NUMBERS_END, LOG_SECTORS}
 use Rattle.sector_definitions.specs.declared.log_sector.LogSector.{LogSector}
 use Rattle.sector_definitions.specs.LogSectors.{is_packed_sector}
+use Rattle.log_definitions.specs.Frames.{frame_most}
 use Rattle.ring_definitions.specs.Rings.{filled}
 
 -- a packed sector with a number that a log may have
 abbrev pub is_waiting : LogSector → Bool
-is_waiting x = nat_lt x.seq (2 ^ 63) && is_packed_sector x
+is_waiting x = nat_lt x.seq LOG_NUMBERS_END && is_packed_sector x
 
 -- the numbers stay in their range, the waiting sectors are packed ones, and there is room for 64 issued numbers and for the frame of any record
 pub record IsKept (reached : ℕ) (above : List Bool) (waiting : List LogSector) (window room : ℕ) : Type 0 where
-  pub first : 255 ≤ reached
-  pub numbers : reached + length above + length waiting < 2 ^ 63
+  pub first : LOG_SECTORS - 1 ≤ reached
+  pub numbers : reached + length above + length waiting < LOG_NUMBERS_END
   pub fits : IsTrue (list_all is_waiting waiting)
-  pub issues : 64 ≤ window
-  pub frames : 4106 ≤ room
+  pub issues : LOG_IN_FLIGHT_MAX ≤ window
+  pub frames : frame_most ≤ room
 
 -- the sectors with these bytes on the last one
 abbrev pub filled_last : List LogSector → List ℕ → List LogSector

@@ -1,10 +1,11 @@
 // Packed sectors that wait to be issued, and a frame more on them.
-ghost use Rattle.std.specs.Prelude.{◌≡◌, ◌<◌, ◌+◌, ◌-◌, ◌≤◌, ◌^◌, ◌++◌, ◌/◌, ◌⊎◌, length, IsTrue};
+ghost use Rattle.std.specs.Prelude.{◌≡◌, ◌<◌, ◌+◌, ◌-◌, ◌≤◌, ◌++◌, ◌/◌, ◌⊎◌, length, IsTrue};
 ghost use Rattle.std.specs.List.{list_all};
 ghost use Rattle.std.specs.VecDeque.{deque_len, deque_capacity};
+ghost use Rattle.frang_base.specs.declared.limits.TheConstants.{LOG_BODY_BYTES, LOG_NUMBERS_END, LOG_SECTORS};
 ghost use Rattle.sector_bytes.specs.Bytes.{zeros};
 ghost use Rattle.sector_definitions.specs.LogSectors.{is_packed_sector, none_begins};
-ghost use Rattle.log_definitions.specs.Frames.{frame_bytes};
+ghost use Rattle.log_definitions.specs.Frames.{frame_bytes, frame_most};
 ghost use Rattle.ring_definitions.specs.Rings as rings;
 ghost use Rattle.ring_definitions.specs.Rings.{is_record, sectors_for, packed_sectors, framed};
 ghost use Rattle.wal_ring.specs.Kept.{is_waiting, filled_last};
@@ -18,7 +19,7 @@ use std::collections::VecDeque;
 pub(crate) fn frame_length(redo: &Redo) -> usize
     requires { IsTrue (is_record redo.now) }
     ensures bytes { result ≡ length (frame_bytes redo.now) }
-    ensures few { result ≤ 4106 }
+    ensures few { result ≤ frame_most }
 {
     FRAME_HEAD + record_length(redo)
 }
@@ -26,7 +27,7 @@ pub(crate) fn frame_length(redo: &Redo) -> usize
 /// For how many bytes the last of the sectors that wait has room.
 pub(crate) fn open_room(waiting: &VecDeque<LogSector>) -> usize
     ensures room { result ≡ rings.open_room waiting.now.items }
-    ensures few { result ≤ 488 }
+    ensures few { result ≤ LOG_BODY_BYTES }
 {
     match waiting.back() {
         Some(last) => LOG_BODY_BYTES.saturating_sub(usize::from(last.used)),
@@ -38,9 +39,9 @@ pub(crate) fn open_room(waiting: &VecDeque<LogSector>) -> usize
 /// for them.
 pub(crate) fn put_frame(waiting: &mut VecDeque<LogSector>, next: u64, frame: &[u8])
     requires some { 1 ≤ length frame.now }
-    requires few { length frame.now ≤ 4106 }
-    requires next { 256 ≤ next }
-    requires numbers { next + 10 < 2 ^ 63 }
+    requires few { length frame.now ≤ frame_most }
+    requires next { LOG_SECTORS ≤ next }
+    requires numbers { next + 10 < LOG_NUMBERS_END }
     requires room { deque_len waiting.old + sectors_for (length frame.now - rings.open_room waiting.old.items) ≤ deque_capacity waiting.old }
     requires fits { IsTrue (list_all is_waiting waiting.old.items) }
     ensures items { waiting.new.items ≡ framed next waiting.old.items frame.now }
@@ -80,7 +81,7 @@ fn fill_last(waiting: &mut VecDeque<LogSector>, bytes: &[u8])
 // The sector with these bytes behind its own, at which a frame begins.
 fn filled(sector: LogSector, bytes: &[u8]) -> LogSector
     requires some { 1 ≤ length bytes.now }
-    requires room { sector.used + length bytes.now ≤ 488 }
+    requires room { sector.used + length bytes.now ≤ LOG_BODY_BYTES }
     requires fits { IsTrue (is_waiting sector) }
     ensures sector { result ≡ rings.filled sector bytes.now }
     ensures fits { IsTrue (is_waiting result) }
@@ -102,9 +103,9 @@ fn filled(sector: LogSector, bytes: &[u8]) -> LogSector
 // Adds packed sectors with these bytes behind those that wait, the first with this number and part. There is room for them.
 fn put_sectors(waiting: &mut VecDeque<LogSector>, first: u64, part: u16, bytes: &[u8])
     requires part { (part ≡ 0) ⊎ (part ≡ none_begins) }
-    requires few { length bytes.now ≤ 4106 }
-    requires first { 256 ≤ first }
-    requires numbers { first + 10 < 2 ^ 63 }
+    requires few { length bytes.now ≤ frame_most }
+    requires first { LOG_SECTORS ≤ first }
+    requires numbers { first + 10 < LOG_NUMBERS_END }
     requires room { deque_len waiting.old + sectors_for (length bytes.now) ≤ deque_capacity waiting.old }
     requires fits { IsTrue (list_all is_waiting waiting.old.items) }
     ensures items { waiting.new.items ≡ waiting.old.items ++ packed_sectors first part bytes.now }
@@ -131,9 +132,9 @@ fn put_sectors(waiting: &mut VecDeque<LogSector>, first: u64, part: u16, bytes: 
 fn packed_sector(number: u64, part: u16, bytes: &[u8]) -> LogSector
     requires part { (part ≡ 0) ⊎ (part ≡ none_begins) }
     requires some { 1 ≤ length bytes.now }
-    requires few { length bytes.now ≤ 488 }
-    requires first { 256 ≤ number }
-    requires numbers { number < 2 ^ 63 }
+    requires few { length bytes.now ≤ LOG_BODY_BYTES }
+    requires first { LOG_SECTORS ≤ number }
+    requires numbers { number < LOG_NUMBERS_END }
     ensures sector { result ≡ rings.packed_sector number part bytes.now }
     ensures fits { IsTrue (is_waiting result) }
 {
@@ -150,8 +151,8 @@ fn packed_sector(number: u64, part: u16, bytes: &[u8]) -> LogSector
 // The bytes, and zeros behind them.
 #[tactic(auto, unfolding(sector_bytes::specs::Bytes::zeros))]
 fn padded(bytes: &[u8]) -> [u8; LOG_BODY_BYTES]
-    requires { length bytes.now ≤ 488 }
-    ensures { result ≡ bytes.now ++ zeros (488 - length bytes.now) }
+    requires { length bytes.now ≤ LOG_BODY_BYTES }
+    ensures { result ≡ bytes.now ++ zeros (LOG_BODY_BYTES - length bytes.now) }
 {
     let mut body = [0; LOG_BODY_BYTES];
     body[..bytes.len()].copy_from_slice(bytes);

@@ -1,6 +1,7 @@
 // The ring.
 ghost use Rattle.std.specs.Prelude.{◌≡◌, ◌+◌, ◌-◌, ◌<◌, ◌≤◌, ◌^◌, map, Ok, IfOk, IsOk, OnOk, IsSomeAnd, IsTrue};
 ghost use Rattle.std.specs.VecDeque.{deque_len, deque_capacity};
+ghost use Rattle.frang_base.specs.declared.limits.TheConstants.{LOG_NUMBERS_END, LOG_SECTORS};
 ghost use Rattle.ring_definitions.specs.Rings as rings;
 ghost use Rattle.ring_definitions.specs.Rings.{is_record, append_answer, ring_at, appended, passed, oldest_versions};
 ghost use Rattle.wal_ring.specs.SpaciousRings.{HasRoom, KeepsRoom, KeepsRoomBut};
@@ -52,7 +53,7 @@ impl Model for Ring {
 impl Ring {
     /// A ring that goes on behind the end of a log: the next number is `end` + 1. It has room for no record yet.
     pub fn at(alloc: Global, end: u64) -> Result<Ring, NoMemory>
-        requires first { 255 ≤ end }
+        requires first { LOG_SECTORS - 1 ≤ end }
         requires small { end < 2 ^ 62 }
         ensures { IfOk result (λ r. r.ring ≡ ring_at end) }
     {
@@ -72,7 +73,7 @@ impl Ring {
     /// room. After both the ring is as before.
     pub fn append(&mut self, redo: &Redo) -> Result<u64, RingFault>
         requires record { IsTrue (is_record redo.now) }
-        requires numbers { rings.last self.old.ring < 2 ^ 63 - 16 }
+        requires numbers { rings.last self.old.ring < LOG_NUMBERS_END - 16 }
         ensures outcome { AppendOutcome redo.now self.old self.new result }
         ensures sure { HasRoom self.old redo.now → result ≡ append_answer self.old.ring redo.now }
         ensures last { IfOk result (λ number. rings.last self.new.ring ≡ number) }
@@ -85,7 +86,7 @@ impl Ring {
     // Appends a record for which there is room.
     fn put(&mut self, redo: &Redo) -> u64
         requires record { IsTrue (is_record redo.now) }
-        requires numbers { rings.last self.old.ring < 2 ^ 63 - 16 }
+        requires numbers { rings.last self.old.ring < LOG_NUMBERS_END - 16 }
         requires room { HasRoom self.old redo.now }
         ensures ring { self.new.ring ≡ appended self.old.ring redo.now }
         ensures answer { result ≡ rings.last self.old.ring + rings.need self.old.ring redo.now }
@@ -114,7 +115,7 @@ impl Ring {
     // The last number given.
     fn last(&self) -> u64
         ensures number { result ≡ rings.last self.now.ring }
-        ensures first { 255 ≤ result }
+        ensures first { LOG_SECTORS - 1 ≤ result }
     {
         self.sent() + self.waiting.len() as u64
     }
@@ -272,7 +273,7 @@ impl Ring {
 
 // Passes the numbers that are acknowledged without a gap: takes them off, and answers the number that is then reached.
 fn pass(mut reached: u64, above: &mut VecDeque<bool>) -> u64
-    requires { reached + deque_len above.old < 2 ^ 63 }
+    requires { reached + deque_len above.old < LOG_NUMBERS_END }
     ensures passes { (ring : rings.Ring) → passed ring reached above.old.items ≡ record ring { reached = result; above = above.new.items } }
     ensures rises { reached ≤ result }
     ensures numbers { result + deque_len above.new ≡ reached + deque_len above.old }

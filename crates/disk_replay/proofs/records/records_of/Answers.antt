@@ -5,14 +5,14 @@ use Rattle.std.proofs.lemmas.List.Elements.{All-same}
 use Rattle.sector_bytes.specs.Sectors.{sectors_of}
 use Rattle.log_definitions.specs.Logs.{Slots, log_records}
 use Rattle.log_definitions.specs.Replay.{slots_of}
+use Rattle.log_definitions.proofs.SameLogs.{zero_log_records}
 use Rattle.disk_replay.specs.Laid.{HoldsChanges}
 use Rattle.disk_replay.proofs.FittingRecords.{log_holds}
 use Rattle.disk_replay.proofs.ReadSlots.{same_records}
-use Rattle.disk_replay.proofs.ZeroLogs.{no_records}
 use Rattle.disk_replay.proofs.records.records_of.Goals as goal
 
 pub returns-then-not-is_set-clause-records : goal.returns-then-not-is_set-clause-records
-returns-then-not-is_set-clause-records c = c.new.ensures.items ∙ sym (no_records (slots_of (sectors_of c.args.disk.now) c.args.server.0) (c.is_set.ensures c.if-not-is_set.true))
+returns-then-not-is_set-clause-records c = c.new.ensures.items ∙ sym (zero_log_records (slots_of (sectors_of c.args.disk.now) c.args.server.0) (c.is_set.ensures c.if-not-is_set.true))
 
 pub returns-clause-records : goal.returns-clause-records
 returns-clause-records c =

@@ -11,4 +11,4 @@ returns-then-keeps_bytes c =
 
 pub returns-else-keeps_bytes : goal.returns-else-keeps_bytes
 returns-else-keeps_bytes c =
-    around_zeros c.args.hand.now (writing_of c.args.writing.now) (stored c.args.old.now) c.args.t (sym c.keeps_bytes.ensures ∙ c.if-keeps_bytes.false) c.zeros.result c.zeros.ensures
+    around_zeros c.args.hand.now (writing_of c.args.writing.now) (stored c.args.old.now) c.args.t (sym c.keeps_bytes.ensures ∙ c.if-keeps_bytes.false) c.zero_block.result c.zero_block.ensures
