@@ -1,21 +1,21 @@
 -- Which sectors are dirty under a lock, and what is left when its sectors are dropped.
-use Rattle.std.proofs.Common.{◌≡◌, ℕ, Bool, true, false, not, if◌then◌else◌, List, [], ◌∷◌, filter, find, Option, Some, None, Result, Ok, Err, IfOk, refl, sym, ap, ◌∙◌, subst}
+use Rattle.std.proofs.Common.{◌≡◌, ℕ, Bool, true, false, not, is_some, if◌then◌else◌, List, [], ◌∷◌, filter, find, Option, Some, None, Result, Ok, Err, IfOk, refl, sym, ap, ◌∙◌, subst}
 use Rattle.std.proofs.lemmas.Cmp.{nat_cmp_total}
 use Rattle.std.specs.Cmp.{nat_cmp_is}
 use Rattle.std.specs.List.{AllByRecursion, filter_map}
 use Rattle.std.specs.List.Sorted.{IsStrictlySortedBy}
 use Rattle.std.specs.BTreeMap.{is_at}
-use Rattle.std.specs.Option.{option_map, option_map_or}
+use Rattle.std.specs.Option.{option_map}
 use Rattle.std.specs.Ordering.{nat_cmp, on, ordering_reverse, is_eq}
 use Rattle.std.specs.declared.cmp.Ordering.TheVariants.{Less, Equal}
 use Rattle.frang_base.specs.declared.lock.LockId.{LockId}
 use Rattle.sector_bytes.specs.SectorMaps.{value_at, Ascend}
-use Rattle.sector_bytes.proofs.MapLaws.{AllAbove}
+use Rattle.sector_bytes.proofs.MapLaws.{AllAbove, absent}
 use Rattle.clerk_cache.specs.declared.state.SectorState.{SectorState}
 use Rattle.clerk_cache.specs.Cached.{Contents, mark_of, marks_of}
 use Rattle.clerk_cache.specs.Dropping.{is_dirty_under, first_dirty, dropped}
-use Rattle.clerk_cache.specs.Kept.{cached_of, joined, AreAlike, AreKept, is_state_under, is_state_dirty_under, first_dirty_state, is_sector_under, state_mark, state_marks}
-use Rattle.clerk_cache.proofs.Joining.{Blocks, States}
+use Rattle.clerk_cache.specs.Kept.{cached_of, joined, AreAlike, AreKept, is_state_under, is_state_dirty_under, first_dirty_state, state_mark, state_marks}
+use Rattle.clerk_cache.proofs.Joining.{Blocks, States, states_ascend}
 
 -- ---- keys
 
@@ -77,68 +77,105 @@ marks_ascend (entry ∷ contents) sorted = go entry.1.mark (marks_ascend content
 -- ---- the sectors under a lock taken out of both maps
 
 module _ (lock : LockId) where
+  -- the states that aren't under the lock
+  abbrev pub left : States → States
+  left states = filter (λ entry. not (is_state_under lock entry.1)) states
+
+  above_left : (low : ℕ) (states : States) → AllAbove low states → AllAbove low (left states)
+  above_left low [] all = tt
+  above_left low (s ∷ states) all = go (is_state_under lock s.1) (above_left low states all.1)
+    where
+      go : (t : Bool) → AllAbove low (left states) → AllAbove low (if not t then s ∷ left states else left states)
+      go true rest = rest
+      go false rest = (all.0, rest)
+
   -- a state below all of the sectors says nothing of them
   low_state : (state : ℕ × SectorState) (states : States) (blocks : Blocks) → AllAbove state.0 blocks
-      → filter (λ entry. not (is_sector_under lock (state ∷ states) entry.0)) blocks ≡ filter (λ entry. not (is_sector_under lock states entry.0)) blocks
+      → filter (λ entry. is_some (value_at (left (state ∷ states)) entry.0)) blocks ≡ filter (λ entry. is_some (value_at (left states) entry.0)) blocks
   low_state state states [] all = refl
   low_state state states (b ∷ blocks) all =
-      let here = ap (λ t. not (option_map_or (λ s. is_state_under lock s) (if t then Some state.1 else value_at states b.0) false)) (above_is_other state.0 b.0 all.0) in
+      let here = past (is_state_under lock state.1) in
       let rest = low_state state states blocks all.1 in
       (λ i. if here i then b ∷ rest i else rest i)
+    where
+      past : (t : Bool) → is_some (value_at (if not t then state ∷ left states else left states) b.0) ≡ is_some (value_at (left states) b.0)
+      past true = refl
+      past false = ap (λ u. is_some (if u then Some state.1 else value_at (left states) b.0)) (above_is_other state.0 b.0 all.0)
 
-  -- the state of the first sector is the first one
-  first_state : (b : ℕ × List ℕ) (s : ℕ × SectorState) (states : States) → b.0 ≡ s.0 → is_sector_under lock (s ∷ states) b.0 ≡ is_state_under lock s.1
-  first_state b s states same =
-      ap (λ key. option_map_or (λ s. is_state_under lock s) (if is_at (nat_cmp b.0) key then Some s.1 else value_at states b.0) false) (sym same)
-      ∙ ap (λ t. option_map_or (λ s. is_state_under lock s) (if t then Some s.1 else value_at states b.0) false) (itself b.0)
+  -- the first sector is left where its state isn't under the lock
+  first_state : (b : ℕ × List ℕ) (s : ℕ × SectorState) (states : States) → b.0 ≡ s.0 → AllAbove b.0 states → is_some (value_at (left (s ∷ states)) b.0) ≡ not (is_state_under lock s.1)
+  first_state b s states same all = go (is_state_under lock s.1)
+    where
+      go : (t : Bool) → is_some (value_at (if not t then s ∷ left states else left states) b.0) ≡ not t
+      go true = ap is_some (absent b.0 (left states) (above_left b.0 states all))
+      go false = ap (λ key. is_some (if is_at (nat_cmp b.0) key then Some s.1 else value_at (left states) b.0)) (sym same)
+          ∙ ap (λ u. is_some (if u then Some s.1 else value_at (left states) b.0)) (itself b.0)
 
-  step : (b : ℕ × List ℕ) (s : ℕ × SectorState) (blocks : Blocks) (states : States) → b.0 ≡ s.0 → AllAbove b.0 blocks
-      → filter (λ entry. not (is_sector_under lock (s ∷ states) entry.0)) (b ∷ blocks)
-      ≡ (if not (is_state_under lock s.1) then b ∷ filter (λ entry. not (is_sector_under lock states entry.0)) blocks else filter (λ entry. not (is_sector_under lock states entry.0)) blocks)
-  step b s blocks states same all =
-      let here = ap not (first_state b s states same) in
+  step : (b : ℕ × List ℕ) (s : ℕ × SectorState) (blocks : Blocks) (states : States) → b.0 ≡ s.0 → AllAbove b.0 blocks → AllAbove b.0 states
+      → filter (λ entry. is_some (value_at (left (s ∷ states)) entry.0)) (b ∷ blocks)
+      ≡ (if not (is_state_under lock s.1) then b ∷ filter (λ entry. is_some (value_at (left states) entry.0)) blocks else filter (λ entry. is_some (value_at (left states) entry.0)) blocks)
+  step b s blocks states same all above =
+      let here = first_state b s states same above in
       let rest = low_state s states blocks (subst (λ key. AllAbove key blocks) same all) in
       (λ i. if here i then b ∷ rest i else rest i)
 
-  pub joined-dropped : (blocks : Blocks) (states : States) → AreAlike blocks states → Ascend blocks
-      → joined (filter (λ entry. not (is_sector_under lock states entry.0)) blocks) (filter (λ entry. not (is_state_under lock entry.1)) states) ≡ dropped lock (joined blocks states)
+  pub joined-dropped : (blocks : Blocks) (states : States) → AreAlike blocks states → Ascend blocks → Ascend states
+      → joined (filter (λ entry. is_some (value_at (left states) entry.0)) blocks) (left states) ≡ dropped lock (joined blocks states)
   unfolding IsStrictlySortedBy
-  joined-dropped [] [] alike sorted = refl
-  joined-dropped [] (s ∷ states) alike sorted = elim alike [ ]
-  joined-dropped (b ∷ blocks) [] alike sorted = elim alike [ ]
-  joined-dropped (b ∷ blocks) (s ∷ states) alike sorted =
-      ap (λ bs. joined bs (filter (λ entry. not (is_state_under lock entry.1)) (s ∷ states))) (step b s blocks states alike.0 sorted.0)
-      ∙ go (is_state_under lock s.1) (joined-dropped blocks states alike.1 sorted.1)
+  joined-dropped [] [] alike sorted ascend = refl
+  joined-dropped [] (s ∷ states) alike sorted ascend = elim alike [ ]
+  joined-dropped (b ∷ blocks) [] alike sorted ascend = elim alike [ ]
+  joined-dropped (b ∷ blocks) (s ∷ states) alike sorted ascend =
+      ap (λ bs. joined bs (left (s ∷ states))) (step b s blocks states alike.0 sorted.0 (subst (λ key. AllAbove key states) (sym alike.0) ascend.0))
+      ∙ go (is_state_under lock s.1) (joined-dropped blocks states alike.1 sorted.1 ascend.1)
     where
-      go : (t : Bool) → joined (filter (λ entry. not (is_sector_under lock states entry.0)) blocks) (filter (λ entry. not (is_state_under lock entry.1)) states) ≡ dropped lock (joined blocks states)
-          → joined (if not t then b ∷ filter (λ entry. not (is_sector_under lock states entry.0)) blocks else filter (λ entry. not (is_sector_under lock states entry.0)) blocks)
-          (if not t then s ∷ filter (λ entry. not (is_state_under lock entry.1)) states else filter (λ entry. not (is_state_under lock entry.1)) states)
+      go : (t : Bool) → joined (filter (λ entry. is_some (value_at (left states) entry.0)) blocks) (left states) ≡ dropped lock (joined blocks states)
+          → joined (if not t then b ∷ filter (λ entry. is_some (value_at (left states) entry.0)) blocks else filter (λ entry. is_some (value_at (left states) entry.0)) blocks)
+          (if not t then s ∷ left states else left states)
           ≡ (if not t then (b.0, cached_of b.1 s.1) ∷ dropped lock (joined blocks states) else dropped lock (joined blocks states))
       go true rest = rest
       go false rest = ap (λ tail. (b.0, cached_of b.1 s.1) ∷ tail) rest
 
-  pub alike-dropped : (blocks : Blocks) (states : States) → AreAlike blocks states → Ascend blocks
-      → AreAlike (filter (λ entry. not (is_sector_under lock states entry.0)) blocks) (filter (λ entry. not (is_state_under lock entry.1)) states)
+  pub alike-dropped : (blocks : Blocks) (states : States) → AreAlike blocks states → Ascend blocks → Ascend states
+      → AreAlike (filter (λ entry. is_some (value_at (left states) entry.0)) blocks) (left states)
   unfolding IsStrictlySortedBy
-  alike-dropped [] [] alike sorted = tt
-  alike-dropped [] (s ∷ states) alike sorted = elim alike [ ]
-  alike-dropped (b ∷ blocks) [] alike sorted = elim alike [ ]
-  alike-dropped (b ∷ blocks) (s ∷ states) alike sorted =
-      subst (λ bs. AreAlike bs (filter (λ entry. not (is_state_under lock entry.1)) (s ∷ states))) (sym (step b s blocks states alike.0 sorted.0))
-      (go (is_state_under lock s.1) (alike-dropped blocks states alike.1 sorted.1))
+  alike-dropped [] [] alike sorted ascend = tt
+  alike-dropped [] (s ∷ states) alike sorted ascend = elim alike [ ]
+  alike-dropped (b ∷ blocks) [] alike sorted ascend = elim alike [ ]
+  alike-dropped (b ∷ blocks) (s ∷ states) alike sorted ascend =
+      subst (λ bs. AreAlike bs (left (s ∷ states))) (sym (step b s blocks states alike.0 sorted.0 (subst (λ key. AllAbove key states) (sym alike.0) ascend.0)))
+      (go (is_state_under lock s.1) (alike-dropped blocks states alike.1 sorted.1 ascend.1))
     where
-      go : (t : Bool) → AreAlike (filter (λ entry. not (is_sector_under lock states entry.0)) blocks) (filter (λ entry. not (is_state_under lock entry.1)) states)
-          → AreAlike (if not t then b ∷ filter (λ entry. not (is_sector_under lock states entry.0)) blocks else filter (λ entry. not (is_sector_under lock states entry.0)) blocks)
-          (if not t then s ∷ filter (λ entry. not (is_state_under lock entry.1)) states else filter (λ entry. not (is_state_under lock entry.1)) states)
+      go : (t : Bool) → AreAlike (filter (λ entry. is_some (value_at (left states) entry.0)) blocks) (left states)
+          → AreAlike (if not t then b ∷ filter (λ entry. is_some (value_at (left states) entry.0)) blocks else filter (λ entry. is_some (value_at (left states) entry.0)) blocks)
+          (if not t then s ∷ left states else left states)
       go true rest = rest
       go false rest = (alike.0, rest)
 
+  above_filter : (p : ℕ → Bool) (low : ℕ) (blocks : Blocks) → AllAbove low blocks → AllAbove low (filter (λ entry. p entry.0) blocks)
+  above_filter p low [] all = tt
+  above_filter p low (b ∷ blocks) all = go (p b.0) (above_filter p low blocks all.1)
+    where
+      go : (t : Bool) → AllAbove low (filter (λ entry. p entry.0) blocks) → AllAbove low (if t then b ∷ filter (λ entry. p entry.0) blocks else filter (λ entry. p entry.0) blocks)
+      go true rest = (all.0, rest)
+      go false rest = rest
+
+  ascend_filter : (p : ℕ → Bool) (blocks : Blocks) → Ascend blocks → Ascend (filter (λ entry. p entry.0) blocks)
+  unfolding IsStrictlySortedBy
+  ascend_filter p [] sorted = tt
+  ascend_filter p (b ∷ blocks) sorted = go (p b.0) (ascend_filter p blocks sorted.1)
+    where
+      go : (t : Bool) → Ascend (filter (λ entry. p entry.0) blocks) → Ascend (if t then b ∷ filter (λ entry. p entry.0) blocks else filter (λ entry. p entry.0) blocks)
+      go true rest = (above_filter p b.0 blocks sorted.0, rest)
+      go false rest = rest
+
   pub kept_dropped : (blocks new_blocks : Blocks) (states new_states : States) → AreKept blocks states
-      → new_blocks ≡ filter (λ entry. not (is_sector_under lock states entry.0)) blocks → new_states ≡ filter (λ entry. not (is_state_under lock entry.1)) states → Ascend new_blocks → AreKept new_blocks new_states
-  kept_dropped blocks new_blocks states new_states kept a b sorted = record {
-    alike = subst (λ bs. AreAlike bs new_states) (sym a) (subst (λ ss. AreAlike (filter (λ entry. not (is_sector_under lock states entry.0)) blocks) ss) (sym b) (alike-dropped blocks states kept.alike kept.ordered));
-    ordered = sorted;
-  }
+      → new_blocks ≡ filter (λ entry. is_some (value_at new_states entry.0)) blocks → new_states ≡ left states → AreKept new_blocks new_states
+  kept_dropped blocks new_blocks states new_states kept a b =
+      let is : new_blocks ≡ filter (λ entry. is_some (value_at (left states) entry.0)) blocks = a ∙ ap (λ ss. filter (λ entry. is_some (value_at ss entry.0)) blocks) b in record {
+        alike = subst (λ bs. AreAlike bs new_states) (sym is) (subst (λ ss. AreAlike (filter (λ entry. is_some (value_at (left states) entry.0)) blocks) ss) (sym b) (alike-dropped blocks states kept.alike kept.ordered (states_ascend kept)));
+        ordered = subst Ascend (sym a) (ascend_filter (λ sector. is_some (value_at new_states sector)) blocks kept.ordered);
+      }
 
 -- a fact of what an answer holds, and what follows from it
 pub if_ok : {T E : Type 0} {P Q : T → Type 0} (r : Result T E) → ((x : T) → P x → Q x) → IfOk r P → IfOk r Q

@@ -200,6 +200,9 @@ ascend_states [] (s ∷ states) alike = elim alike [ ]
 ascend_states (b ∷ blocks) [] alike = elim alike [ ]
 ascend_states (b ∷ blocks) (s ∷ states) alike = λ i. alike.0 i ∷ ascend_states blocks states alike.1 i
 
+pub states_ascend : {blocks : Blocks} {states : States} → AreKept blocks states → Ascend states
+states_ascend {blocks} {states} kept = subst (IsStrictlySortedBy nat_cmp) (ascend_states blocks states kept.alike) kept.ordered
+
 set_over : (states : States) (sector : ℕ) (state : SectorState) → Ascend states → (o : Option SectorState) → value_at states sector ≡ o → IsSome o → with_value states sector state ≡ adjusted (λ s. state) states sector
 set_over states sector state sorted (Some old) is some = with_value_there (λ s. state) states sector old sorted is
 set_over states sector state sorted None is some = absurd (false≢true some)

@@ -1,7 +1,7 @@
 -- How a cache keeps its contents: the blocks and the rest in two maps of the same sectors.
-use Rattle.std.specs.Prelude.{◌≡◌, ℕ, min, Bool, false, ◌&&◌, is_some, List, [], ◌∷◌, find, Option}
+use Rattle.std.specs.Prelude.{◌≡◌, ℕ, min, Bool, ◌&&◌, is_some, List, [], ◌∷◌, find, Option}
 use Rattle.std.specs.List.{filter_map}
-use Rattle.std.specs.Option.{option_map, option_map_or}
+use Rattle.std.specs.Option.{option_map}
 use Rattle.frang_base.specs.declared.lock.LockId.{LockId}
 use Rattle.sector_bytes.specs.Blocks.{Block}
 use Rattle.frang_base.specs.Locks.{same_lock}
@@ -43,10 +43,6 @@ is_state_dirty_under lock state = is_state_under lock state && is_some state.mar
 -- the first sector that is under the lock and dirty
 abbrev pub first_dirty_state : LockId → List (ℕ × SectorState) → Option ℕ
 first_dirty_state lock states = option_map (λ entry. entry.0) (find (λ entry. is_state_dirty_under lock entry.1) states)
-
--- the sector is there, and under the lock
-abbrev pub is_sector_under : LockId → List (ℕ × SectorState) → ℕ → Bool
-is_sector_under lock states sector = option_map_or (λ state. is_state_under lock state) (value_at states sector) false
 
 -- a sector's mark, where it is dirty
 abbrev pub state_mark : ℕ × SectorState → Option Mark

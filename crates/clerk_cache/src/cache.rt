@@ -1,20 +1,22 @@
 // The cached sectors.
-ghost use Rattle.std.specs.Prelude.{◌≡◌, ◌+◌, ◌<◌, ◌≤◌, [], not, is_some, true, IsOk, IsSome, IfOk, OnOk};
+ghost use Rattle.std.specs.Prelude.{◌≡◌, ◌+◌, ◌<◌, ◌≤◌, [], not, is_some, true, None, IsOk, IsSome, IfOk, OnOk};
 ghost use Rattle.std.specs.List.Sorted.{IsStrictlySortedBy};
 ghost use Rattle.std.specs.Option.{option_copied, option_map};
 ghost use Rattle.std.specs.Ordering.{nat_cmp, on};
 ghost use Rattle.sector_bytes.specs.Changes.{is_change};
 ghost use Rattle.sector_bytes.specs.SectorMaps.{value_at, with_value, without, adjusted, room_for};
 ghost use Rattle.meta_version.specs.Updates.{IsOlder};
+ghost use Rattle.flush_order.specs.Marks.{next_reached, sector_reached};
 ghost use Rattle.clerk_cache.specs.Cached.{block_at, cover_at, blocks_of, marks_of};
-ghost use Rattle.clerk_cache.specs.Kept.{cached_of, state_at, is_state_under, is_state_dirty_under, first_dirty_state, is_sector_under, state_marks};
+ghost use Rattle.clerk_cache.specs.Kept.{cached_of, state_at, is_state_dirty_under, first_dirty_state, state_marks};
 ghost use Rattle.clerk_cache.specs.Changing.{clean, dirty, holds, with_change, with_written, with_cover};
 ghost use Rattle.clerk_cache.specs.Dropping.{first_dirty, dropped, DropOutcome};
 
-use crate::state::SectorState;
+use crate::state::{SectorState, is_under};
+use crate::states::States;
 use flush_order::Mark;
 use frang_base::{Block, Change, LockId, NoMemory, Sector};
-use meta_version::{SectorMap, Sectors};
+use meta_version::Sectors;
 use std::alloc::Global;
 use std::marker::Model;
 
@@ -23,7 +25,7 @@ use std::marker::Model;
 #[derive(Debug, Drop)]
 pub struct Cache {
     sectors: Sectors,
-    states: SectorMap<SectorState>,
+    states: States,
     alloc: Global,
 }
 
@@ -46,13 +48,6 @@ pub struct Dirty {
     pub sector: Sector,
 }
 
-// The sector of this state is under the lock.
-fn is_under(state: &SectorState, lock: LockId) -> bool
-    ensures { result ≡ is_state_under lock state.now }
-{
-    state.cover == lock
-}
-
 // The sector of this state is under the lock and dirty.
 fn is_dirty_under(state: &SectorState, lock: LockId) -> bool
     ensures { result ≡ is_state_dirty_under lock state.now }
@@ -68,13 +63,13 @@ fn first_dirty(states: &[(u64, SectorState)], lock: LockId) -> Option<u64>
     Some(entry.0)
 }
 
-// The sector is in the map, and under the lock.
-fn is_sector_under(states: &SectorMap<SectorState>, sector: u64, lock: LockId) -> bool
-    ensures { result ≡ is_sector_under lock states.now.entries sector }
+// The sector of a mark, where it is reached.
+fn sector_reached(mark: Option<Mark>, reached: u64) -> Option<Sector>
+    ensures { result ≡ sector_reached reached mark }
 {
-    match states.get(Sector(sector)) {
-        Some(state) => is_under(state, lock),
-        None => false,
+    match mark {
+        Some(mark) if mark.mark <= reached => Some(mark.sector),
+        _ => None,
     }
 }
 
@@ -98,8 +93,8 @@ impl Cache {
         ensures { result.entries ≡ [] }
     {
         Cache {
-            sectors: SectorMap::new(alloc),
-            states: SectorMap::new(alloc),
+            sectors: Sectors::new(alloc),
+            states: States::new(alloc),
             alloc,
         }
     }
@@ -133,7 +128,7 @@ impl Cache {
     fn state(&self, sector: Sector) -> Option<SectorState>
         ensures { result ≡ state_at self.now.entries sector.0 }
     {
-        self.states.get(sector).copied()
+        self.states.get(sector)
     }
 
     /// The lock that covers a sector. `None` exactly where the sector isn't cached.
@@ -248,6 +243,13 @@ impl Cache {
         marks_of(self.alloc, self.states.entries())
     }
 
+    /// The dirty sector with the least mark, of one mark the least sector, where that mark is at most `reached`. It takes no memory.
+    pub fn next_dirty(&self, reached: u64) -> Option<Sector>
+        ensures { result ≡ next_reached (marks_of self.now.entries) reached }
+    {
+        sector_reached(self.states.first_mark(), reached)
+    }
+
     /// No sector under this lock is dirty: exactly then `drop_cover` answers `Ok`.
     pub fn is_clean(&self, lock: LockId) -> bool
         ensures { result ≡ not (is_some (first_dirty lock self.now.entries)) }
@@ -267,15 +269,14 @@ impl Cache {
         }
     }
 
-    // Drops the sectors under a lock, dirty ones too.
+    // Drops the sectors under a lock, of which none is dirty.
     fn drop_all(&mut self, lock: LockId)
+        requires { first_dirty lock self.old.entries ≡ None }
         ensures entries { self.new.entries ≡ dropped lock self.old.entries }
         ensures spare { self.old.spare ≤ self.new.spare }
     {
-        let states = &self.states;
-        self.sectors
-            .retain(|entry| !is_sector_under(states, entry.0, lock));
-        self.states.retain(|entry| !is_under(&entry.1, lock));
+        self.states.drop_clean(lock);
+        self.sectors.keep_those_of(self.states.map());
     }
 
     /// Drops all sectors under a lock from the cache. `Dirty` comes exactly where one of them is dirty, and names the first such;

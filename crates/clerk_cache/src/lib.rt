@@ -1,11 +1,14 @@
 //! The sectors that one server has cached. Contracts see a map from sectors to their blocks, each with the lock that covers it and,
 //! where it is dirty, its mark: up to which number the log must stand before it may be written. They promise that a lock's cover is
-//! dropped only clean, and exactly where nothing under it is dirty. It stands on the map of sectors and on the order of writes.
+//! dropped only clean, and exactly where nothing under it is dirty. The dirty sectors lie in order of their marks too, so the one
+//! that may be written next is found at once. It stands on the map of sectors and on the order of writes.
 #![tactic(auto)]
 
 mod cache;
 mod laws;
+mod mark_set;
 mod state;
+mod states;
 
 pub use cache::{Cache, Dirty};
 pub use laws::{a_change_leaves_its_sector_dirty, covers_are_dropped_clean};

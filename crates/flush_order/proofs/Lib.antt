@@ -1,1 +1,2 @@
+pub mod MarkOrder
 pub mod MarkExamples

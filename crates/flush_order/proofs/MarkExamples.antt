@@ -2,7 +2,7 @@
 use Rattle.std.proofs.Common.{◌≡◌, ℕ, Some, None, List, [], ◌∷◌, refl}
 use Rattle.frang_base.specs.declared.sector.Sector.{Sector}
 use Rattle.flush_order.specs.declared.Mark.{Mark}
-use Rattle.flush_order.specs.Marks.{first_reached}
+use Rattle.flush_order.specs.Marks.{first_reached, next_reached}
 
 abbrev sector : ℕ → Sector
 sector s = record { 0 = s }
@@ -28,3 +28,17 @@ first_is_reached = refl
 
 nothing_dirty : first_reached [] 300 ≡ None
 nothing_dirty = refl
+
+-- of the same marks, the least first
+least_is_reached : next_reached dirty 257 ≡ Some (sector 9)
+least_is_reached = refl
+
+least_of_two : next_reached dirty 258 ≡ Some (sector 9)
+least_of_two = refl
+
+none_is_reached : next_reached dirty 256 ≡ None
+none_is_reached = refl
+
+-- of one number the lesser sector
+first_of_one_number : next_reached (record { sector = sector 7; mark = 258 } ∷ record { sector = sector 6; mark = 258 } ∷ []) 258 ≡ Some (sector 6)
+first_of_one_number = refl

@@ -1,13 +1,17 @@
 //! Which dirty sector may be written: log first. A sector that was changed in memory has as its mark the number of the last log
 //! sector that names the change, and may be written once the log stands on the disk up to there. The contract promises the first
-//! such sector of a list, and that there is none where it says none. It stands on the base types.
+//! such sector of a list, and that there is none where it says none; over marks in order it is the sector with the least mark. It
+//! stands on the base types and on sorted entries.
 #![tactic(auto)]
 
 ghost use Rattle.std.specs.Prelude.{◌≡◌, ◌↔◌, ◌<◌, None};
 ghost use Rattle.std.specs.List.{All};
 ghost use Rattle.flush_order.specs.Marks.{first_reached};
 
+mod laws;
+
 use frang_base::Sector;
+pub use laws::the_first_in_order_is_the_least;
 
 /// A dirty sector, and the number of the log's last sector that must be acknowledged before it may be written.
 #[derive(Clone, Copy, Debug, PartialEq, Eq)]

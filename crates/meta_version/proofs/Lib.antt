@@ -1,3 +1,4 @@
 pub mod SectorPlaces
+pub mod Opening
 pub mod BlockBytes
 pub mod UpdateExamples

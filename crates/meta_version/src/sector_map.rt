@@ -1,5 +1,5 @@
 // A map from sectors to values, in order of the sectors.
-ghost use Rattle.std.specs.Prelude.{◌≡◌, ◌+◌, ◌<◌, ◌≤◌, [], IsOk, OnOk, OnErr};
+ghost use Rattle.std.specs.Prelude.{◌≡◌, ◌+◌, ◌<◌, ◌≤◌, [], is_some, IsOk, OnOk, OnErr};
 ghost use Rattle.std.specs.Option.{option_copied};
 ghost use Rattle.std.specs.Ordering.{nat_cmp};
 ghost use Rattle.std.specs.List.Retain.{IsFiltered};
@@ -66,6 +66,13 @@ impl<T: Drop> SectorMap<T> {
             Ok(at) => Some(&self.entries[at].1),
             Err(_) => None,
         }
+    }
+
+    /// Whether a sector is set.
+    pub fn has(&self, sector: Sector) -> bool
+        ensures { result ≡ is_some (value_at self.now.entries sector.0) }
+    {
+        self.get(sector).is_some()
     }
 
     /// Makes room for `n` more entries. Nothing else changes, whatever the answer. It takes no memory where there is that room.

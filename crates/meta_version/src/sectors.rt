@@ -1,17 +1,186 @@
-// Sectors with their blocks.
-ghost use Rattle.std.specs.Prelude.{◌≡◌, true};
-ghost use Rattle.sector_bytes.specs.Changes.{is_change};
-ghost use Rattle.sector_bytes.specs.SectorMaps.{value_at};
+// Sectors with their blocks, which lie apart from the numbers of the sectors.
+ghost use Rattle.std.specs.Prelude.{◌≡◌, ◌+◌, ◌<◌, ◌≤◌, [], filter, is_some, IsOk, IsSome, OnOk, OnErr, length, true, vec_len};
+ghost use Rattle.std.specs.List.{slice_get};
+ghost use Rattle.std.specs.Option.{option_copied, option_map};
+ghost use Rattle.sector_bytes.specs.Changes.{changed, is_change};
+ghost use Rattle.sector_bytes.specs.SectorMaps.{Ascend, value_at, with_value, without, room_for};
 ghost use Rattle.meta_version.specs.Updates.{IsOlder, with_change};
+ghost use Rattle.meta_version.specs.Boxes.{opened};
+ghost use Rattle.std.specs.Box.{box_value};
 
 use crate::SectorMap;
 use crate::block::lay;
-use frang_base::{Block, Change};
+use frang_base::limits::SECTOR_BYTES;
+use frang_base::{Block, Change, NoMemory, Sector};
+use std::alloc::Global;
+use std::marker::Model;
 
-/// Sectors with their blocks.
-pub type Sectors = SectorMap<Block>;
+/// Sectors with their blocks. Contracts see them as entries, a sector's number with its block, ascending by sector, and for how
+/// many more there is room. A look-up takes time logarithmic in the number of entries, and what is inserted moves no blocks.
+#[derive(Debug, Drop)]
+pub struct Sectors {
+    blocks: SectorMap<Box<Block>>,
+    // Boxes for blocks to come; what they hold doesn't count.
+    blank: Vec<Box<Block>>,
+    alloc: Global,
+}
 
-impl SectorMap<Block> {
+impl Model for Sectors {
+    ghost use Rattle.std.specs.Prelude.{List, ℕ, min, vec_len};
+    ghost use Rattle.sector_bytes.specs.SectorMaps.{Spacious};
+    ghost use Rattle.std.specs.Box.{box_value};
+    ghost use Rattle.meta_version.specs.Boxes.{opened};
+
+    ghost Value = { Spacious (List ℕ) };
+
+    ghost view = { λ sectors. record { entries = opened sectors.blocks.entries box_value; spare = min sectors.blocks.spare (vec_len sectors.blank) } };
+}
+
+// Writes a block over what the box holds.
+fn overwrite(kept: &mut Box<Block>, block: Block)
+    ensures { kept.new.value ≡ block }
+{
+    **kept = block;
+}
+
+// Lays a change over the block in the box.
+fn lay_in(kept: &mut Box<Block>, change: &Change)
+    requires { is_change change.now ≡ true }
+    ensures { kept.new.value ≡ changed kept.old.value change.now }
+{
+    lay(&mut **kept, change);
+}
+
+// Adds boxes until there are `n`.
+fn fill(blank: &mut Vec<Box<Block>>, alloc: Global, n: usize) -> Result<(), NoMemory>
+    ensures ok { OnOk result (n ≤ vec_len blank.new) }
+    ensures sure { n ≤ vec_len blank.old → IsOk result }
+    ensures more { vec_len blank.old ≤ vec_len blank.new }
+{
+    for _ in blank.len()..n {
+        blank.push(Box::new(alloc, [0; SECTOR_BYTES])?)?;
+    }
+    Ok(())
+}
+
+impl SectorMap<Box<Block>> {
+    // Writes a block over that of a sector that is set.
+    fn write(&mut self, sector: Sector, block: Block)
+        requires { IsSome (value_at self.old.entries sector.0) }
+        ensures entries { opened self.new.entries box_value ≡ with_value (opened self.old.entries box_value) sector.0 block }
+        ensures spare { self.new.spare ≡ self.old.spare }
+    {
+        match self.place(sector) {
+            Ok(at) => overwrite(&mut self.entries[at].1, block),
+            Err(_) => unreachable!(),
+        }
+    }
+
+    // Lays a change over the block of its sector, which is set.
+    fn lay(&mut self, change: &Change)
+        requires well_formed { is_change change.now ≡ true }
+        requires there { IsSome (value_at self.old.entries change.now.sector.0) }
+        ensures entries { opened self.new.entries box_value ≡ with_change (opened self.old.entries box_value) change.now }
+        ensures spare { self.new.spare ≡ self.old.spare }
+    {
+        match self.place(change.sector) {
+            Ok(at) => lay_in(&mut self.entries[at].1, change),
+            Err(_) => unreachable!(),
+        }
+    }
+}
+
+impl Sectors {
+    /// No sectors. It takes no memory.
+    pub fn new(alloc: Global) -> Self
+        ensures { result.entries ≡ [] }
+    {
+        Sectors {
+            blocks: SectorMap::new(alloc),
+            blank: Vec::new(alloc),
+            alloc,
+        }
+    }
+
+    /// How many sectors are set.
+    pub fn count(&self) -> usize
+        ensures count { result ≡ length self.now.entries }
+        ensures ordered { Ascend self.now.entries }
+    {
+        self.blocks.entries().len()
+    }
+
+    /// The sector at a place, counted from 0 and ascending, with its block. `None` exactly where the place isn't below `count`.
+    pub fn at(&self, i: usize) -> Option<(Sector, &Block)>
+        ensures { option_map (λ entry. (entry.0.0, entry.1.now)) result ≡ slice_get self.now.entries i }
+    {
+        match self.blocks.entries().get(i) {
+            Some(entry) => Some((Sector(entry.0), &*entry.1)),
+            None => None,
+        }
+    }
+
+    /// The block of a sector. `None` exactly where the sector isn't set.
+    pub fn get(&self, sector: Sector) -> Option<&Block>
+        ensures { option_copied result ≡ value_at self.now.entries sector.0 }
+    {
+        match self.blocks.get(sector) {
+            Some(kept) => Some(&**kept),
+            None => None,
+        }
+    }
+
+    /// Makes room for `n` more sectors. Nothing else changes, whatever the answer. It takes no memory where there is that room.
+    pub fn reserve(&mut self, n: usize) -> Result<(), NoMemory>
+        ensures entries { self.new.entries ≡ self.old.entries }
+        ensures ok { OnOk result (n ≤ self.new.spare) }
+        ensures sure { n ≤ self.old.spare → IsOk result }
+        ensures spare { self.old.spare ≤ self.new.spare }
+    {
+        self.blocks.reserve(n)?;
+        fill(&mut self.blank, self.alloc, n)
+    }
+
+    /// Sets a sector that is set, or for which there is room. It takes no memory.
+    pub fn put(&mut self, sector: Sector, block: Block)
+        requires { room_for self.old.entries sector.0 ≤ self.old.spare }
+        ensures entries { self.new.entries ≡ with_value self.old.entries sector.0 block }
+        ensures spare { self.new.spare + room_for self.old.entries sector.0 ≡ self.old.spare }
+    {
+        match self.blocks.get(sector) {
+            Some(_) => self.blocks.write(sector, block),
+            None => self.add(sector, block),
+        }
+    }
+
+    // Sets a sector that isn't set.
+    fn add(&mut self, sector: Sector, block: Block)
+        requires new { value_at self.old.entries sector.0 ≡ None }
+        requires room { 0 < self.old.spare }
+        ensures entries { self.new.entries ≡ with_value self.old.entries sector.0 block }
+        ensures spare { self.new.spare + 1 ≡ self.old.spare }
+    {
+        match self.blank.pop() {
+            Some(mut kept) => {
+                overwrite(&mut kept, block);
+                self.blocks.put(sector, kept);
+            }
+            None => unreachable!(),
+        }
+    }
+
+    /// Sets a sector. After `NoMemory` the sectors are as before; it doesn't come where there is room.
+    pub fn set(&mut self, sector: Sector, block: Block) -> Result<(), NoMemory>
+        ensures ok { OnOk result (self.new.entries ≡ with_value self.old.entries sector.0 block) }
+        ensures err { OnErr result (self.new.entries ≡ self.old.entries) }
+        ensures sure { 0 < self.old.spare → IsOk result }
+        ensures spare { self.old.spare ≤ self.new.spare + 1 }
+    {
+        self.reserve(1)?;
+        self.put(sector, block);
+        Ok(())
+    }
+
     /// Lays a change over the block of its sector, which is set and older than the change. All other sectors stay. It takes no memory.
     pub fn change(&mut self, change: &Change)
         requires well_formed { is_change change.now ≡ true }
@@ -19,9 +188,22 @@ impl SectorMap<Block> {
         ensures entries { self.new.entries ≡ with_change self.old.entries change.now }
         ensures spare { self.new.spare ≡ self.old.spare }
     {
-        match self.place(change.sector) {
-            Ok(at) => lay(&mut self.entries[at].1, change),
-            Err(_) => unreachable!(),
-        }
+        self.blocks.lay(change);
+    }
+
+    /// The sector isn't set afterwards, and all others stay. It takes no memory.
+    pub fn remove(&mut self, sector: Sector)
+        ensures entries { self.new.entries ≡ without self.old.entries sector.0 }
+        ensures spare { self.old.spare ≤ self.new.spare }
+    {
+        self.blocks.remove(sector);
+    }
+
+    /// Keeps the sectors that are set in the other map too. It takes no memory.
+    pub fn keep_those_of<T: Drop>(&mut self, other: &SectorMap<T>)
+        ensures entries { self.new.entries ≡ filter (λ entry. is_some (value_at other.now.entries entry.0)) self.old.entries }
+        ensures spare { self.old.spare ≤ self.new.spare }
+    {
+        self.blocks.retain(|entry| other.has(Sector(entry.0)));
     }
 }

@@ -1,6 +1,6 @@
 -- Writes stay in order and of sectors of their own when one is added or taken out.
-use Rattle.std.proofs.Common.{◌≡◌, ℕ, zero, suc, ◌+◌, ◌<◌, ◌≤◌, nat_lt, ◌==◌, Bool, true, false, not, ◌||◌, if◌then◌else◌, List, [], ◌∷◌, ◌++◌, length, get_or, Some, None, refl, sym, ap, ◌∙◌, subst, arith}
-use Rattle.std.specs.List.{All, AllByRecursion, IsDistinct, list_any, find, remove, position, position_or_len}
+use Rattle.std.proofs.Common.{◌≡◌, ℕ, ◌+◌, ◌<◌, ◌==◌, Bool, true, false, ◌||◌, if◌then◌else◌, List, [], ◌∷◌, ◌++◌, Some, None, refl, sym, ap, ◌∙◌, subst, arith}
+use Rattle.std.specs.List.{All, AllByRecursion, IsDistinct, list_any, find}
 use Rattle.std.specs.List.Sorted.{IsStrictlySortedBy}
 use Rattle.std.specs.Map.{keys_of}
 use Rattle.std.specs.Option.{option_map}
@@ -14,7 +14,7 @@ use Rattle.std.proofs.lemmas.Cmp.{nat_eq_equiv}
 use Rattle.frang_outside.specs.declared.act.Put.{Put}
 use Rattle.sorted_entries.proofs.Sorted.{sorted-remove_entry}
 use Rattle.petal_disk.specs.declared.ticket.Ticket.{Ticket}
-use Rattle.petal_disk.specs.Flights.{Writes, is_ticket, write_at, without, busy_with, ticket_cmp, sectors, AreFlights}
+use Rattle.petal_disk.specs.Flights.{Writes, is_ticket, without, busy_with, ticket_cmp, sectors, AreFlights}
 
 -- nothing in flight
 pub AreFlights-none : (next : ℕ) → AreFlights (record { writes = []; next = next; room = 0 })
@@ -30,7 +30,7 @@ all_pushed P (k ∷ keys) key all last = (all.0, all_pushed P keys key all.1 las
 below_is_less : (a b : Ticket) → a.0 < b.0 → ticket_cmp a b ≡ Less
 below_is_less a b below = grind (arith, nat_tests)
 
-sorted_push : (keys : List Ticket) (key : Ticket) → IsStrictlySortedBy ticket_cmp keys → All (λ t. t.0 < key.0) keys → IsStrictlySortedBy ticket_cmp (keys ++ key ∷ [])
+pub sorted_push : (keys : List Ticket) (key : Ticket) → IsStrictlySortedBy ticket_cmp keys → All (λ t. t.0 < key.0) keys → IsStrictlySortedBy ticket_cmp (keys ++ key ∷ [])
 unfolding IsStrictlySortedBy
 sorted_push [] key sorted below = (tt, tt)
 sorted_push (k ∷ keys) key sorted below =
@@ -81,68 +81,3 @@ module _ (t : ℕ) where
     given = All-map-remove_entry (is_ticket t) (λ w. w.0) (λ ticket. ticket.0 < next) writes are.given;
     apart = apart_left writes are.apart;
   }
-
-  -- ---- the place of a ticket
-
-  pub record IsPlace (writes : Writes) (at : ℕ) : Type 0 where
-    pub inside : at < length writes
-    pub removes : remove writes at ≡ without writes t
-    pub value : (d : Ticket × Put) → write_at writes t ≡ Some (get_or writes at d).1
-
-  abbrev Place : Writes → ℕ
-  Place writes = position_or_len (λ write. is_ticket t write.0) writes
-
-  further : (write : Ticket × Put) (writes : Writes) (at : ℕ) → is_ticket t write.0 ≡ false → IsPlace writes at → IsPlace (write ∷ writes) (suc at)
-  further write writes at is place = record {
-    inside = omega (arith, place.inside);
-    removes = ap (λ rest. write ∷ rest) place.removes ∙ sym (ap (λ b. if b then writes else write ∷ without writes t) is);
-    value = λ d. ap (λ b. if b then Some write.1 else write_at writes t) is ∙ place.value d;
-  }
-
-  first : (write : Ticket × Put) (writes : Writes) → is_ticket t write.0 ≡ true → IsPlace (write ∷ writes) zero
-  first write writes is = record {
-    inside = omega arith;
-    removes = sym (ap (λ b. if b then writes else write ∷ without writes t) is);
-    value = λ d. ap (λ b. if b then Some write.1 else write_at writes t) is;
-  }
-
-  place_there : (writes : Writes) → Place writes < length writes → IsPlace writes (Place writes)
-  place_there [] inside = absurd (omega arith)
-  place_there (write ∷ writes) inside = go (is_ticket t write.0) refl (place_there writes)
-    where
-      go : (b : Bool) → is_ticket t write.0 ≡ b → (Place writes < length writes → IsPlace writes (Place writes)) → IsPlace (write ∷ writes) (Place (write ∷ writes))
-      go true is rest = subst (λ b. IsPlace (write ∷ writes) (if not b then 1 + Place writes else 0)) (sym is) (first write writes is)
-      go false is rest =
-          let one : suc (Place writes) ≡ 1 + Place writes = omega arith in
-          let within : 1 + Place writes < length writes + 1 = subst (λ b. (if not b then 1 + Place writes else 0) < length writes + 1) is (omega (arith, inside)) in
-          subst (λ b. IsPlace (write ∷ writes) (if not b then 1 + Place writes else 0)) (sym is) (subst (IsPlace (write ∷ writes)) one (further write writes (Place writes) is (rest (omega arith))))
-
-  nowhere : (writes : Writes) → length writes ≤ Place writes → write_at writes t ≡ None
-  nowhere [] past = refl
-  nowhere (write ∷ writes) past = go (is_ticket t write.0) refl (nowhere writes)
-    where
-      go : (b : Bool) → is_ticket t write.0 ≡ b → (length writes ≤ Place writes → write_at writes t ≡ None) → write_at (write ∷ writes) t ≡ None
-      go true is rest =
-          let none : length writes + 1 ≤ 0 = subst (λ b. length writes + 1 ≤ (if not b then 1 + Place writes else 0)) is (omega (arith, past)) in
-          absurd (omega arith)
-      go false is rest =
-          let within : length writes + 1 ≤ 1 + Place writes = subst (λ b. length writes + 1 ≤ (if not b then 1 + Place writes else 0)) is (omega (arith, past)) in
-          ap (λ b. if b then Some write.1 else write_at writes t) is ∙ rest (omega arith)
-
-  -- a place that was found is the ticket's, and a ticket without one isn't in flight
-  pub found : (writes : Writes) (at : ℕ) → position (λ write. is_ticket t write.0) writes ≡ Some at → IsPlace writes at
-  found writes at e = go (nat_lt (Place writes) (length writes)) refl
-    where
-      go : (b : Bool) → nat_lt (Place writes) (length writes) ≡ b → IsPlace writes at
-      go true is = subst (IsPlace writes) (same (sym (ap (λ b. if b then Some (Place writes) else None) is) ∙ e)) (place_there writes (grind (arith, nat_tests)))
-        where
-          same : Some (Place writes) ≡ Some at → Place writes ≡ at
-          same e = cc
-      go false is = cc (sym (ap (λ b. if b then Some (Place writes) else None) is) ∙ e)
-
-  pub missing : (writes : Writes) → position (λ write. is_ticket t write.0) writes ≡ None → write_at writes t ≡ None
-  missing writes e = go (nat_lt (Place writes) (length writes)) refl
-    where
-      go : (b : Bool) → nat_lt (Place writes) (length writes) ≡ b → write_at writes t ≡ None
-      go true is = cc (sym (ap (λ b. if b then Some (Place writes) else None) is) ∙ e)
-      go false is = nowhere writes (grind (arith, nat_tests))

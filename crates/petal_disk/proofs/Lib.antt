@@ -1,1 +1,3 @@
 pub mod InFlight
+pub mod Indexing
+pub mod TicketOrder

@@ -1,39 +1,46 @@
 // The writes in flight.
-ghost use Rattle.std.specs.Prelude.{◌≡◌, ◌≢◌, ◌⊎◌, ◌<◌, [], Err, IsSome, IfSome, IfOk, OnOk, OnErr, length};
-ghost use Rattle.std.specs.List.{slice_get, position};
-ghost use Rattle.std.specs.Option.{option_map};
+ghost use Rattle.std.specs.Prelude.{◌≡◌, ◌≢◌, ◌⊎◌, ◌+◌, ◌<◌, ◌≤◌, ◌++◌, ◌∷◌, [], Err, None, IsOk, IsSome, IfSome, OnOk, OnErr, length};
+ghost use Rattle.std.specs.List.{All, slice_get};
+ghost use Rattle.std.specs.Map.{keys_of};
+ghost use Rattle.std.specs.Option.{option_copied, option_map};
 ghost use Rattle.lock_definitions.specs.Lease.{IsInTime};
 ghost use Rattle.frang_outside.specs.Outside.{NoneFell};
-ghost use Rattle.petal_disk.specs.Flights.{AreFlights, IsSame, is_ticket, write_at, without, busy_with};
+ghost use Rattle.petal_disk.specs.Flights.{AreFlights, IsSame, write_at, without, busy_with};
 ghost use Rattle.petal_disk.specs.Arriving.{IssueOutcome, ArriveOutcome, arriving, left_by};
 
+use crate::by_ticket::WritesByTicket;
 use crate::{Arrived, IssueFault, Ticket};
-use frang_base::{NoMemory, Sector};
+use frang_base::NoMemory;
 use frang_outside::{Outside, Put, PutFault, Taken};
+use meta_version::SectorMap;
 use std::alloc::Global;
 use std::marker::Model;
 
 /// The writes in flight, seen as the list of them with their tickets, ascending, the ticket of the next one, and for how many
-/// more there is room. Room counts memory and the tickets that are left: the last value of `u64` isn't given.
+/// more there is room. Room counts memory and the tickets that are left: the last value of `u64` isn't given. A write is found by
+/// its ticket, and by its sector, in time logarithmic in their number, and where one is issued or gone no other block moves.
 #[derive(Debug, Drop)]
 pub struct Flight {
-    writes: Vec<(Ticket, Put)>,
+    writes: WritesByTicket,
+    // The ticket of each sector's write.
+    tickets: SectorMap<Ticket>,
     next: u64,
 }
 
 impl Model for Flight {
-    ghost use Rattle.std.specs.Prelude.{◌-◌, ◌^◌, min, vec_len, vec_capacity};
-    ghost use Rattle.petal_disk.specs.Flights.{Flights, AreFlights};
+    ghost use Rattle.std.specs.Prelude.{◌-◌, ◌^◌, min};
+    ghost use Rattle.petal_disk.specs.Flights.{Flights};
+    ghost use Rattle.petal_disk.specs.Keeping.{AreKept};
 
     ghost Value = { Flights };
 
     ghost view = { λ flight. record {
-      writes = flight.writes.items;
+      writes = flight.writes.writes;
       next = flight.next;
-      room = min (vec_capacity flight.writes - vec_len flight.writes) (2 ^ 64 - 1 - flight.next);
+      room = min (min flight.writes.spare flight.tickets.spare) (2 ^ 64 - 1 - flight.next);
     } };
 
-    ghost invariant = { λ flight. AreFlights (record { writes = flight.writes.items; next = flight.next; room = 0 }) };
+    ghost invariant = { λ flight. AreKept flight.writes.writes flight.next flight.tickets.entries };
 }
 
 impl Flight {
@@ -43,22 +50,25 @@ impl Flight {
         ensures next { result.next ≡ 0 }
     {
         Flight {
-            writes: Vec::new(alloc),
+            writes: WritesByTicket::new(alloc),
+            tickets: SectorMap::new(alloc),
             next: 0,
         }
     }
 
-    /// Makes room for one more write. Nothing else changes, whatever the answer. It answers `NoMemory` also where all tickets
-    /// were given.
+    /// Makes room for one more write, so that the next issue isn't refused for memory. Nothing else changes, whatever the answer.
+    /// It takes no memory where there is that room. It answers `NoMemory` also where all tickets were given.
     pub fn reserve(&mut self) -> Result<(), NoMemory>
         ensures same { IsSame self.old self.new }
         ensures ok { OnOk result (0 < self.new.room) }
+        ensures sure { 0 < self.old.room → IsOk result }
+        ensures room { self.old.room ≤ self.new.room }
     {
         if self.next == u64::MAX {
             return Err(NoMemory);
         }
-        self.writes.reserve(1)?;
-        Ok(())
+        self.writes.reserve()?;
+        self.tickets.reserve(1)
     }
 
     /// How many writes are in flight.
@@ -66,27 +76,29 @@ impl Flight {
         ensures count { result ≡ length self.now.writes }
         ensures flights { AreFlights self.now }
     {
-        self.writes.len()
+        self.writes.count()
     }
 
     /// The write at a place, counted from 0 and ascending by ticket. `None` exactly where the place isn't below `count`.
     pub fn at(&self, i: usize) -> Option<(Ticket, &Put)>
         ensures { option_map (λ write. (write.0, write.1.now)) result ≡ slice_get self.now.writes i }
     {
-        let (ticket, put) = self.writes.get(i)?;
-        Some((*ticket, put))
+        self.writes.at(i)
     }
 
-    // The ticket of the write of this sector that is in flight.
-    fn busy_with(&self, sector: Sector) -> Option<Ticket>
-        ensures { result ≡ busy_with self.now.writes sector.0 }
+    /// The write with the least ticket, which was issued first of those in flight. `None` exactly where nothing is in flight.
+    pub fn first(&self) -> Option<(Ticket, &Put)>
+        ensures write { option_map (λ write. (write.0, write.1.now)) result ≡ slice_get self.now.writes 0 }
+        ensures least { IfSome result (λ write. All (λ ticket. write.0.0 ≤ ticket.0) (keys_of self.now.writes)) }
     {
-        for (ticket, write) in &self.writes {
-            if write.sector.0 == sector.0 {
-                return Some(*ticket);
-            }
-        }
-        None
+        self.writes.at(0)
+    }
+
+    /// The write with this ticket. `None` exactly where it isn't in flight.
+    pub fn get(&self, t: Ticket) -> Option<&Put>
+        ensures { option_copied result ≡ write_at self.now.writes t.0 }
+    {
+        self.writes.get(t)
     }
 
     /// Puts a write in flight, and gives its ticket, the next one. `Busy` comes exactly where a write of this sector is in flight,
@@ -94,38 +106,46 @@ impl Flight {
     pub fn issue(&mut self, put: Put) -> Result<Ticket, IssueFault>
         ensures outcome { IssueOutcome self.old self.new put result }
         ensures sure { 0 < self.old.room → result ≢ Err IssueFault.NoMemory }
+        ensures room { self.old.room ≤ self.new.room + 1 }
+        ensures refused { OnErr result (self.old.room ≤ self.new.room) }
     {
-        if let Some(ticket) = self.busy_with(put.sector) {
-            return Err(IssueFault::Busy { ticket });
+        if let Some(ticket) = self.tickets.get(put.sector) {
+            return Err(IssueFault::Busy { ticket: *ticket });
         }
-        if self.next == u64::MAX {
-            return Err(IssueFault::NoMemory);
+        match self.reserve() {
+            Ok(()) => Ok(self.add(put)),
+            Err(NoMemory) => Err(IssueFault::NoMemory),
         }
+    }
+
+    // Puts a write in flight, of whose sector none is, and for which there is room.
+    fn add(&mut self, put: Put) -> Ticket
+        requires free { busy_with self.old.writes put.sector.0 ≡ None }
+        requires room { 0 < self.old.room }
+        ensures ticket { result.0 ≡ self.old.next }
+        ensures writes { self.new.writes ≡ self.old.writes ++ (result, put) ∷ [] }
+        ensures next { self.new.next ≡ self.old.next + 1 }
+        ensures left { self.old.room ≤ self.new.room + 1 }
+    {
         let ticket = Ticket(self.next);
-        match self.writes.push((ticket, put)) {
-            Ok(()) => {}
-            Err(_) => return Err(IssueFault::NoMemory),
-        }
+        self.tickets.put(put.sector, ticket);
+        self.writes.push(ticket, put);
         self.next += 1;
-        Ok(ticket)
+        ticket
     }
 
-    // The place of the write with this ticket.
-    fn place(&self, t: Ticket) -> Option<usize>
-        ensures { result ≡ position (λ write. is_ticket t.0 write.0) self.now.writes }
-    {
-        self.writes.iter().position(|(ticket, _)| ticket.0 == t.0)
-    }
-
-    /// A write in flight is lost.
+    /// A write in flight is lost. It takes no memory.
     pub fn lose(&mut self, t: Ticket)
         requires { IsSome (write_at self.old.writes t.0) }
         ensures writes { self.new.writes ≡ without self.old.writes t.0 }
         ensures next { self.new.next ≡ self.old.next }
+        ensures room { self.old.room ≤ self.new.room }
     {
-        match self.place(t) {
-            Some(at) => {
-                let _ = self.writes.remove(at);
+        match self.writes.get(t) {
+            Some(put) => {
+                let sector = put.sector;
+                self.tickets.remove(sector);
+                self.writes.remove(t);
             }
             None => unreachable!(),
         }
@@ -133,7 +153,7 @@ impl Flight {
 
     /// A write in flight arrives at this tick: the outside is called once, with the put whose `now` is the tick, and its answer is
     /// handed on. `Late` comes exactly where the put's stamp is below the tick, also where the outside would have failed. After
-    /// `NoMemory` the write is still in flight; after the other answers it isn't.
+    /// `NoMemory` the write is still in flight; after the other answers it isn't. It takes no memory beside the outside's.
     pub fn arrive<O: Outside>(&mut self, t: Ticket, now: u64, out: &mut O) -> Arrived
         requires { IsSome (write_at self.old.writes t.0) }
         ensures counts { NoneFell (O.state out.old) (O.state out.new) }
@@ -142,6 +162,7 @@ impl Flight {
         ensures late { IfSome (write_at self.old.writes t.0) (λ put. put.stamp < now → (result ≡ Arrived.Late put.stamp now) ⊎ (result ≡ Arrived.NoMemory)) }
         ensures writes { self.new.writes ≡ left_by result self.old.writes t.0 }
         ensures next { self.new.next ≡ self.old.next }
+        ensures room { self.old.room ≤ self.new.room }
     {
         let put = self.arriving(t, now);
         let arrived = put_once(&put, out);
@@ -156,11 +177,8 @@ impl Flight {
         requires { IsSome (write_at self.now.writes t.0) }
         ensures { IfSome (write_at self.now.writes t.0) (λ put. result ≡ arriving put now) }
     {
-        match self.place(t) {
-            Some(at) => Put {
-                now,
-                ..self.writes[at].1
-            },
+        match self.writes.get(t) {
+            Some(put) => Put { now, ..*put },
             None => unreachable!(),
         }
     }

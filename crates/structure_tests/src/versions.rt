@@ -92,12 +92,13 @@ fn a_patch_ends_within_its_block(rt: HostRuntime) -> Result<(), Fail> {
 
 // The sector at a place.
 fn sector_at(sectors: &Sectors, i: usize) -> Option<u64> {
-    sectors.entries().get(i).map(|entry| entry.0)
+    let (sector, _) = sectors.at(i)?;
+    Some(sector.0)
 }
 
 #[test]
 fn sectors_are_kept_in_order(rt: HostRuntime) -> Result<(), Fail> {
-    let mut sectors: Sectors = SectorMap::new(rt.alloc());
+    let mut sectors = Sectors::new(rt.alloc());
     sectors.set(Sector(9), [9; 512])?;
     sectors.set(Sector(4), [4; 512])?;
     sectors.reserve(1)?;
@@ -110,9 +111,12 @@ fn sectors_are_kept_in_order(rt: HostRuntime) -> Result<(), Fail> {
     assert!(rt; sectors.get(Sector(9)) == Some(&[8; 512]));
     sectors.remove(Sector(4));
     assert!(rt; sectors.get(Sector(4)).is_none());
-    sectors.retain(|entry| entry.0 != 9);
+    let mut others: SectorMap<u8> = SectorMap::new(rt.alloc());
+    others.set(Sector(4), 0)?;
+    others.set(Sector(6), 0)?;
+    sectors.keep_those_of(&others);
+    assert!(rt; sectors.count() == 1);
     assert!(rt; sector_at(&sectors, 0) == Some(6));
-    assert!(rt; sector_at(&sectors, 1).is_none());
     Ok(())
 }
 
@@ -130,7 +134,7 @@ fn try_change(sectors: &mut Sectors, change: &Change) -> bool {
 
 #[test]
 fn a_set_sector_is_changed(rt: HostRuntime) -> Result<(), Fail> {
-    let mut sectors: Sectors = SectorMap::new(rt.alloc());
+    let mut sectors = Sectors::new(rt.alloc());
     let change = change_to(rt.alloc(), 516)?;
     assert!(rt; !try_change(&mut sectors, &change));
     sectors.set(Sector(6), block_of(OLD))?;

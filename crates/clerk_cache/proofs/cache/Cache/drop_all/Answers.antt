@@ -1,28 +1,23 @@
--- Both maps lose the sectors under the lock.
-use Rattle.std.proofs.Common.{◌≡◌, rules, not, filter, sym, ap, ◌∙◌, subst}
-use Rattle.std.proofs.lemmas.Fn.{filter_same}
-use Rattle.sector_bytes.specs.SectorMaps.{Ascend}
-use Rattle.sector_bytes.proofs.MapLaws.{ascend_some}
-use Rattle.clerk_cache.specs.Dropping.{dropped}
-use Rattle.clerk_cache.specs.Kept.{joined, is_sector_under, is_state_under}
-use Rattle.clerk_cache.proofs.Dropped.{joined-dropped, kept_dropped}
+-- Both maps lose the sectors under the lock, which are clean.
+use Rattle.std.proofs.Common.{◌≡◌, filter, is_some, sym, ap, ◌∙◌}
+use Rattle.sector_bytes.specs.SectorMaps.{value_at}
+use Rattle.clerk_cache.specs.Dropping.{first_dirty, dropped}
+use Rattle.clerk_cache.specs.Kept.{joined}
+use Rattle.clerk_cache.proofs.Joining.{states_ascend}
+use Rattle.clerk_cache.proofs.Dropped.{first_dirty-joined, joined-dropped, kept_dropped}
 use Rattle.clerk_cache.proofs.cache.Cache.drop_all.Goals as goal
 
--- what is left of the blocks
-blocks_left : (c : goal.After-retain-2) → c.retain.new.self.entries ≡ filter (λ entry. not (is_sector_under c.args.lock c.self.inside.states.entries entry.0)) c.self.inside.sectors.entries
-blocks_left c = filter_same _ (λ entry. not (is_sector_under c.args.lock c.self.inside.states.entries entry.0)) _ (λ x b f called. search rules) _ _ c.retain.ensures.filtered
-
--- what is left of the states
-states_left : (c : goal.After-retain-2) → c.retain-2.new.self.entries ≡ filter (λ entry. not (is_state_under c.args.lock entry.1)) c.self.inside.states.entries
-states_left c = filter_same _ (λ entry. not (is_state_under c.args.lock entry.1)) _ (λ x b f called. search rules) _ _ c.retain-2.ensures.filtered
+pub drop_clean-requires : goal.drop_clean-requires
+drop_clean-requires c = first_dirty-joined c.args.lock _ _ c.self.invariant.alike ∙ ap (λ cache. first_dirty c.args.lock cache.entries) c.self.view_is ∙ c.requires
 
 pub invariant_of-self : goal.invariant_of-self
 invariant_of-self c =
-    kept_dropped c.args.lock c.self.inside.sectors.entries c.retain.new.self.entries c.self.inside.states.entries c.retain-2.new.self.entries c.self.invariant (blocks_left c) (states_left c)
-    (subst Ascend (sym c.retain.ensures.filtered.4) (ascend_some c.retain.ensures.filtered.0 c.self.inside.sectors.entries c.self.invariant.ordered))
+    kept_dropped c.args.lock c.self.inside.sectors.entries c.keep_those_of.new.self.entries c.self.inside.states.entries c.drop_clean.new.self.entries c.self.invariant
+    (c.keep_those_of.ensures.entries ∙ ap (λ states. filter (λ entry. is_some (value_at states entry.0)) c.self.inside.sectors.entries) c.map.ensures) c.drop_clean.ensures.entries
 
 pub returns-clause-entries : goal.returns-clause-entries
 returns-clause-entries c =
-    (λ i. joined (blocks_left c i) (states_left c i))
-    ∙ joined-dropped c.args.lock c.self.inside.sectors.entries c.self.inside.states.entries c.self.invariant.alike c.self.invariant.ordered
+    ap (λ blocks. joined blocks c.drop_clean.new.self.entries) (c.keep_those_of.ensures.entries ∙ ap (λ states. filter (λ entry. is_some (value_at states entry.0)) c.self.inside.sectors.entries) c.map.ensures)
+    ∙ ap (λ states. joined (filter (λ entry. is_some (value_at states entry.0)) c.self.inside.sectors.entries) states) c.drop_clean.ensures.entries
+    ∙ joined-dropped c.args.lock c.self.inside.sectors.entries c.self.inside.states.entries c.self.invariant.alike c.self.invariant.ordered (states_ascend c.self.invariant)
     ∙ ap (λ cache. dropped c.args.lock cache.entries) c.self.view_is

@@ -10,6 +10,10 @@ returns-in-Some-clause-outcome c =
     let found = c.in-Some.ensures ∙ ap (first_dirty_state c.args.lock) c.entries.ensures.entries ∙ first_dirty-joined c.args.lock _ _ c.self.invariant.alike ∙ ap (λ cache. first_dirty c.args.lock cache.entries) c.self.view_is in
     (sym found, refl)
 
+pub drop_all-requires : goal.drop_all-requires
+drop_all-requires c =
+    sym (c.in_default.ensures ∙ ap (first_dirty_state c.args.lock) c.entries.ensures.entries ∙ first_dirty-joined c.args.lock _ _ c.self.invariant.alike ∙ ap (λ cache. first_dirty c.args.lock cache.entries) c.self.view_is)
+
 pub returns-clause-outcome : goal.returns-clause-outcome
 returns-clause-outcome c =
     let found = c.in_default.ensures ∙ ap (first_dirty_state c.args.lock) c.entries.ensures.entries ∙ first_dirty-joined c.args.lock _ _ c.self.invariant.alike ∙ ap (λ cache. first_dirty c.args.lock cache.entries) c.self.view_is in

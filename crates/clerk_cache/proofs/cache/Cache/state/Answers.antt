@@ -5,4 +5,4 @@ use Rattle.clerk_cache.proofs.Joining.{state_at-joined}
 use Rattle.clerk_cache.proofs.cache.Cache.state.Goals as goal
 
 pub returns : goal.returns
-returns c = c.copied.ensures ∙ c.get.ensures ∙ state_at-joined _ _ c.args.sector.0 c.self.invariant.alike ∙ ap (λ cache. state_at cache.entries c.args.sector.0) c.self.view_is
+returns c = c.get.ensures ∙ state_at-joined _ _ c.args.sector.0 c.self.invariant.alike ∙ ap (λ cache. state_at cache.entries c.args.sector.0) c.self.view_is

@@ -1,7 +1,15 @@
-use Rattle.std.proofs.Common.{sym, subst}
-use Rattle.petal_disk.specs.Flights.{AreFlights}
+-- Nothing is in flight, and no sector has a ticket.
+use Rattle.std.proofs.Common.{sym, ap, ◌∙◌, subst}
+use Rattle.sector_bytes.specs.SectorMaps.{Ascend, value_at}
+use Rattle.meta_version.proofs.SectorPlaces.{ascend_none}
+use Rattle.petal_disk.specs.declared.ticket.Ticket.{Ticket}
+use Rattle.petal_disk.specs.Flights.{AreFlights, busy_with}
 use Rattle.petal_disk.proofs.InFlight.{AreFlights-none}
 use Rattle.petal_disk.proofs.flight.Flight.new.Goals as goal
 
 pub invariant_of-result : goal.invariant_of-result
-invariant_of-result c = subst (λ writes. AreFlights (record { writes = writes; next = 0; room = 0 })) (sym c.new.ensures.items) (AreFlights-none 0)
+invariant_of-result c = record {
+  flights = subst (λ writes. AreFlights (record { writes = writes; next = 0; room = 0 })) (sym c.new.ensures) (AreFlights-none 0);
+  ordered = subst Ascend (sym c.new-2.ensures) (ascend_none Ticket);
+  index = λ sector. ap (λ entries. value_at entries sector) c.new-2.ensures ∙ sym (ap (λ writes. busy_with writes sector) c.new.ensures);
+}
