@@ -1,4 +1,6 @@
 pub mod Finds
+pub mod Walking
+pub mod WalkReturns
 pub mod Targets
 pub mod Rooms
 pub mod Moves

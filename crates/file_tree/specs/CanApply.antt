@@ -5,6 +5,7 @@ use Rattle.frang_base.specs.declared.op.Op.TheVariants as op
 use Rattle.frang_base.specs.Name.{is_target}
 use Rattle.tree_definitions.specs.Tree.{FileTree}
 use Rattle.tree_definitions.specs.Apply.{apply}
+use Rattle.tree_definitions.specs.Perform.{Step, Goes, Stops, resolved}
 use Rattle.file_tree.specs.Sure.{shows_sure}
 
 -- one with a path; a target is one that scripts may have, and a read shows no cell in doubt
@@ -19,6 +20,15 @@ CanApply tree (op.CrashAt k) = ⊥
 CanApply tree (op.CutAt k) = ⊥
 CanApply tree op.Stall = ⊥
 CanApply tree _ = Unit {0}
+
+-- what it comes to may be applied
+abbrev pub CanGo : FileTree → Step → Type 0
+CanGo tree (Goes o) = CanApply tree o
+CanGo tree (Stops reply) = Unit {0}
+
+-- one with paths that may lead through links
+abbrev pub CanPerform : FileTree → Op → Type 0
+CanPerform tree o = CanGo tree (resolved tree o).step
 
 -- an operation that makes, moves or removes names
 abbrev pub names : Op → Bool

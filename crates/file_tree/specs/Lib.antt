@@ -1,4 +1,5 @@
 pub mod Places
+pub mod Walks
 pub mod Reached
 pub mod Replies
 pub mod Sure

@@ -16,6 +16,7 @@ reply_of refusal.NoEnt = reply.NoEnt
 reply_of refusal.NotDir = reply.NotDir
 reply_of refusal.IsDir = reply.IsDir
 reply_of refusal.Inval = reply.Inval
+reply_of refusal.Loop = reply.Loop
 
 -- the place that a place of the code is
 abbrev pub spot_of : Place → Spot

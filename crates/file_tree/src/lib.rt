@@ -9,12 +9,16 @@ mod doubts;
 mod lines;
 mod looks;
 mod names;
+mod perform;
 mod place;
 mod reach;
 mod rename;
+mod resolve;
 mod shows;
 mod tree;
 
-pub use place::FileAt;
+pub use perform::{Resolved, Step};
+pub use place::{FileAt, Refusal};
+pub use resolve::{Walk, WalkEnd};
 pub use shows::cells_show;
 pub use tree::Tree;

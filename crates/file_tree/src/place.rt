@@ -26,6 +26,7 @@ pub enum Refusal {
     NotDir,
     IsDir,
     Inval,
+    Loop,
 }
 
 impl Refusal {
@@ -40,6 +41,7 @@ impl Refusal {
             Refusal::NotDir => Reply::NotDir,
             Refusal::IsDir => Reply::IsDir,
             Refusal::Inval => Reply::Inval,
+            Refusal::Loop => Reply::Loop,
         }
     }
 }

@@ -67,6 +67,9 @@ pub const PATH_NAMES_MAX: usize = 32;
 /// The bytes that the text of a path has at most.
 pub const PATH_BYTES_MAX: usize = 1024;
 
+/// The symbolic links that one walk follows at most.
+pub const LINKS_FOLLOWED_MAX: usize = 8;
+
 /// The bytes that the target of a symbolic link has at most.
 pub const TARGET_BYTES_MAX: usize = 384;
 

@@ -13,29 +13,34 @@ use Rattle.frang_base.specs.declared.said.Said.{Said}
 use Rattle.tree_definitions.specs.declared.node.Node.TheVariants.{Dir}
 use Rattle.tree_definitions.specs.Tree.{FileTree, fresh, count_of, dir_blocks}
 use Rattle.tree_definitions.specs.Apply.{Answer, Plain, Shows, apply, is_path_op}
-use Rattle.tree_definitions.specs.History.{agrees, applied, after_read, is_answer, leaves_tree, may_tell}
+use Rattle.tree_definitions.specs.Perform.{Step, Goes, Stops, resolved, perform}
+use Rattle.tree_definitions.specs.History.{agrees, applied, after_step, is_answer, leaves_tree, may_tell}
 use Rattle.tree_definitions.specs.Live.{number_of}
 use Rattle.tree_definitions.specs.Transcript.{Off, Up, after_answer, is_mount, is_own, may_answer, may_mount, may_refuse}
 use Rattle.tree_laws.specs.WellFormed.{BirthsAscend}
 use Rattle.tree_laws.proofs.FreshLaws.{fresh_well}
-use Rattle.tree_laws.proofs.OrderLaws.{births_apply, segments_apply}
+use Rattle.tree_laws.proofs.OrderLaws.{births_perform, segments_perform}
+use Rattle.tree_laws.proofs.Resolving.{IsOf, Shaped, resolved_is}
 use Rattle.script_definitions.specs.SaidReading.{IsProperReply, IsProperSaid}
 use Rattle.script_definitions.specs.Sayable.{IsNodeOf, IsAppliedOf, IsAnswerOf, IsSayableOp, IsSureCell, IsSureTree, IsTreeReply}
 use Rattle.script_definitions.proofs.SayableTrees.{apply_sayable}
-use Rattle.file_tree.specs.CanApply.{CanApply}
+use Rattle.script_definitions.proofs.SayablePaths.{StepIs, resolved_sayable, perform_sayable}
+use Rattle.file_tree.specs.CanApply.{CanApply, CanGo, CanPerform}
 use Rattle.file_tree.specs.Proper.{AreProper}
 use Rattle.file_tree.specs.Replies.{answer_of, gives}
 use Rattle.file_tree.specs.Sure.{is_sure, shows_sure}
-use Rattle.script_definitions.specs.ScriptGrammar.{IsProperOp}
 use Rattle.frang_top.specs.declared.server.Server.{Server}
 use Rattle.frang_top.specs.Answering.{Answers, IsFirst, IsReady, entry_of, state_with}
 use Rattle.frang_top.proofs.HistoryLaws.{both}
-use Rattle.frang_top.proofs.Applying.{agrees_self, told_may, told_same, tree_applies, tree_own, tree_state}
-use Rattle.frang_top.proofs.Reading.{read_same}
+use Rattle.frang_top.proofs.Applying.{agrees_self, told_may, told_step, tree_applies, tree_own, tree_state}
+use Rattle.frang_top.proofs.Reading.{shown_same}
 
 -- an operation applied to a tree of bytes
 pub sure_applied : (tree : FileTree) (o : Op) (birth m : ℕ) → IsSureTree tree → IsSayableOp o → IsAppliedOf IsSureCell m (apply tree o birth m)
 sure_applied tree o birth m sure can = apply_sayable IsSureCell (λ b small. small) m tree o birth sure can
+
+pub sure_performed : (tree : FileTree) (o : Op) (birth m : ℕ) → IsSureTree tree → IsSayableOp o → IsAppliedOf IsSureCell m (perform tree o birth m)
+sure_performed tree o birth m sure can = perform_sayable IsSureCell (λ b small. small) m tree o birth sure can
 
 -- bytes of cells are bytes
 shown_small : (bytes : List ℕ) → All IsSureCell (map Byte bytes) → All (λ b. b < 256) bytes
@@ -80,27 +85,27 @@ own_up o m r path own = ap (λ b. cond b (may_mount Up false false r) (is_own o 
 
 -- an operation over a path, on a server that is mounted
 pub answers_applied : (number : ℕ) (o : Op) (before after : Server) (r : Reply) → IsReady before → before.mounted ≡ true → is_path_op o ≡ true → IsSayableOp o → IsProperReply r
-    → apply before.tree o (number_of 1 number) before.dir_blocks ≡ gives after.tree r → after.mounted ≡ before.mounted → after.dir_blocks ≡ max before.dir_blocks (count_of dir_blocks after.tree)
+    → perform before.tree o (number_of 1 number) before.dir_blocks ≡ gives after.tree r → after.mounted ≡ before.mounted → after.dir_blocks ≡ max before.dir_blocks (count_of dir_blocks after.tree)
     → Answers number o before r after
 answers_applied number o before after r ready up path can proper is mounted most =
     let m = before.dir_blocks in
     let e = entry_of number o r in
-    let sure = sure_applied before.tree o (number_of 1 number) m ready.sure can in
+    let sure = sure_performed before.tree o (number_of 1 number) m ready.sure can in
     let own : IsTreeReply m r = reply_of m r (subst (λ a. IsAnswerOf IsSureCell m a.answer) is sure.answer) in
-    let told : applied before.tree e ≡ gives after.tree r = told_same before.tree after.tree o (number_of 1 number) m r ready.counted is in
+    let told : applied before.tree e ≡ gives after.tree r = told_step before.tree after.tree (resolved before.tree o).step (number_of 1 number) m r ready.counted is in
     let answered : is_answer before.tree e ≡ true = both _ _ path (ap (λ a. agrees a.answer r) told ∙ agrees_self r) in
     let stays = tree_state o m r path own in
     record {
       may = ap (λ u. may_answer (state_with u) false o r) up ∙ own_up o m r path own;
       state_is = ap (λ u. after_answer (state_with u) o r) up ∙ stays ∙ ap state_with (sym (mounted ∙ up));
       fits_where = λ ever high. fits_by _ _ _ answered (told_may before.tree m ever r own ready.counted high);
-      tree_is = sym (second _ _ before.tree _ (tree_applies o m r path own) answered ∙ ap (λ a. after_read a.tree o r) told ∙ read_same before.tree after.tree o r (number_of 1 number) m ready.births is);
-      segments = ap (λ a. a.tree.segments) (sym is) ∙ segments_apply before.tree o (number_of 1 number) m ready.births;
+      tree_is = sym (second _ _ before.tree _ (tree_applies o m r path own) answered ∙ ap (λ a. after_step a.tree (resolved before.tree o).step r) told ∙ shown_same before.tree after.tree (resolved before.tree o).step r (number_of 1 number) m ready.births is);
+      segments = ap (λ a. a.tree.segments) (sym is) ∙ segments_perform before.tree o (number_of 1 number) m ready.births;
       counts = or_left _ _ (ap (λ a. agrees a.answer r) is ∙ agrees_self r);
       most = most;
       ready = record {
         counted = subst (λ n. count_of dir_blocks after.tree ≤ n) (sym most) (omega arith);
-        births = subst BirthsAscend (ap (λ a. a.tree) is) (births_apply before.tree o (number_of 1 number) m ready.births);
+        births = subst BirthsAscend (ap (λ a. a.tree) is) (births_perform before.tree o (number_of 1 number) m ready.births);
         sure = subst IsSureTree (ap (λ a. a.tree) is) sure.tree;
       };
       proper = proper;
@@ -113,7 +118,7 @@ answers_plain number o before after r ready may state leaves same most proper = 
   may = may;
   state_is = state;
   fits_where = λ ever high. or_right (is_answer before.tree (entry_of number o r) && may_tell before.tree ever r) (leaves_tree o r) leaves;
-  tree_is = same ∙ sym (ap (λ b. cond b before.tree (cond (is_answer before.tree (entry_of number o r)) (after_read (applied before.tree (entry_of number o r)).tree o r) before.tree)) leaves);
+  tree_is = same ∙ sym (ap (λ b. cond b before.tree (cond (is_answer before.tree (entry_of number o r)) (after_step (applied before.tree (entry_of number o r)).tree (resolved before.tree o).step r) before.tree)) leaves);
   segments = ap (λ t. t.segments) same;
   counts = or_right _ (leaves_tree o r) leaves;
   most = most ∙ most_stays (count_of dir_blocks before.tree) before.dir_blocks ready.counted ∙ ap (λ t. max before.dir_blocks (count_of dir_blocks t)) (sym same);
@@ -168,17 +173,52 @@ shows_answer : (a : Answer) → IsAnswerOf IsSureCell 0 a → shows_sure a ≡ t
 shows_answer (Plain r) h = refl
 shows_answer (Shows cells) h = shows_bytes cells h
 
-pub can_apply : (tree : FileTree) (o : Op) → IsSureTree tree → IsProperOp o → IsSayableOp o → is_path_op o ≡ true → CanApply tree o
-can_apply tree (op.Symlink path target) sure proper can path-op = can.1
-can_apply tree (op.Read path off len) sure proper can path-op = shows_answer (apply tree (op.Read path off len) 0 0).answer (sure_applied tree (op.Read path off len) 0 0 sure can).answer
-can_apply tree op.Sync sure proper can h = cc
-can_apply tree op.Mount sure proper can h = cc
-can_apply tree op.Unmount sure proper can h = cc
-can_apply tree op.Crash sure proper can h = cc
-can_apply tree (op.CrashAt k) sure proper can h = cc
-can_apply tree (op.CutAt k) sure proper can h = cc
-can_apply tree op.Stall sure proper can h = cc
-can_apply tree o sure proper can h = tt
+can_apply : (tree : FileTree) (o : Op) → IsSureTree tree → IsSayableOp o → is_path_op o ≡ true → CanApply tree o
+can_apply tree (op.Symlink path target) sure can path-op = can.1
+can_apply tree (op.Read path off len) sure can path-op = shows_answer (apply tree (op.Read path off len) 0 0).answer (sure_applied tree (op.Read path off len) 0 0 sure can).answer
+can_apply tree op.Sync sure can h = cc
+can_apply tree op.Mount sure can h = cc
+can_apply tree op.Unmount sure can h = cc
+can_apply tree op.Crash sure can h = cc
+can_apply tree (op.CrashAt k) sure can h = cc
+can_apply tree (op.CutAt k) sure can h = cc
+can_apply tree op.Stall sure can h = cc
+can_apply tree o sure can h = tt
+
+-- an operation over whatever paths is one over paths
+abbrev HasPath : Op → Type 0
+HasPath o = is_path_op o ≡ true
+
+path_shaped : (o : Op) → HasPath o → Shaped HasPath o
+path_shaped (op.Create path) h = λ p. refl
+path_shaped (op.Mkdir path) h = λ p. refl
+path_shaped (op.Symlink path target) h = λ p. refl
+path_shaped (op.Link path to) h = λ p q. refl
+path_shaped (op.Unlink path) h = λ p. refl
+path_shaped (op.Rmdir path) h = λ p. refl
+path_shaped (op.Rename path to) h = λ p q. refl
+path_shaped (op.Write path off bytes) h = λ p. refl
+path_shaped (op.Fill path off len byte) h = λ p. refl
+path_shaped (op.Truncate path len) h = λ p. refl
+path_shaped (op.Read path off len) h = λ p. refl
+path_shaped (op.Stat path) h = λ p. refl
+path_shaped (op.List path) h = λ p. refl
+path_shaped (op.Readlink path) h = λ p. refl
+path_shaped (op.Time path) h = λ p. refl
+path_shaped op.Sync h = cc
+path_shaped op.Mount h = cc
+path_shaped op.Unmount h = cc
+path_shaped op.Crash h = cc
+path_shaped (op.CrashAt k) h = cc
+path_shaped (op.CutAt k) h = cc
+path_shaped op.Stall h = cc
+
+can_go : (tree : FileTree) (s : Step) → IsSureTree tree → StepIs 0 tree s → IsOf HasPath s → CanGo tree s
+can_go tree (Goes o) sure can path = can_apply tree o sure can path
+can_go tree (Stops r) sure can path = tt
+
+pub can_perform : (tree : FileTree) (o : Op) → IsSureTree tree → IsSayableOp o → is_path_op o ≡ true → CanPerform tree o
+can_perform tree o sure can path = can_go tree (resolved tree o).step sure (resolved_sayable 0 tree o can) (resolved_is HasPath tree o (path_shaped o path))
 
 -- an operation that isn't a mount
 pub other_op : (o : Op) → (o ≡ op.Mount → ⊥) → is_mount o ≡ false

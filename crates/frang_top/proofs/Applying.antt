@@ -13,6 +13,7 @@ use Rattle.tree_definitions.specs.declared.node.Node.TheVariants.{Dir, File, Lin
 use Rattle.tree_definitions.specs.Tree.{FileTree, node_at, with_node, count_of, dir_blocks, file_blocks, small_blocks_of, large_blocks_of, larges_full}
 use Rattle.tree_definitions.specs.Place.{Place, Root, Taken, Free, Nowhere, place}
 use Rattle.tree_definitions.specs.Apply.{Plain, Applied, says, is_path_op, if_file, at_file, written, overwritten, apply}
+use Rattle.tree_definitions.specs.Perform.{Step, Goes, Stops, perform_step}
 use Rattle.tree_definitions.specs.SaidLines.{reply_word}
 use Rattle.tree_definitions.specs.Touched.{is_ok, is_mounted, is_stall, is_unmount}
 use Rattle.tree_definitions.specs.History.{may_be_ok, same_reply, contents_are, agrees, cells_show, may_tell, told_blocks, leaves_tree}
@@ -173,6 +174,11 @@ told_same tree after (op.Fill path off len byte) birth m r low is =
     (λ b cells links h. written_told tree after m b cells links off len (λ old. overwritten old off (replicate len (Byte byte))) r low h) is
 told_same tree after (op.Create path) birth m r low is = is
 told_same tree after o birth m r low is = is
+
+-- where links are followed too
+pub told_step : (tree after : FileTree) (s : Step) (birth m : ℕ) (r : Reply) → count_of dir_blocks tree ≤ m → perform_step tree s birth m ≡ gives after r → perform_step tree s birth (told_blocks tree r) ≡ gives after r
+told_step tree after (Goes o) birth m r low is = told_same tree after o birth m r low is
+told_step tree after (Stops q) birth m r low is = is
 
 -- the number that it tells may be told
 pub told_may : (tree : FileTree) (m ever : ℕ) (r : Reply) → IsTreeReply m r → count_of dir_blocks tree ≤ m → m ≤ ever → may_tell tree ever r ≡ true

@@ -20,7 +20,8 @@ use Rattle.tree_definitions.specs.declared.node.Node.TheVariants.{Dir, File, Lin
 use Rattle.tree_definitions.specs.Tree.{FileTree, node_at, with_node}
 use Rattle.tree_definitions.specs.Place.{Place, Root, Taken, Free, Nowhere, place}
 use Rattle.tree_definitions.specs.Apply.{Plain, Shows, Applied, says, if_file, at_file, overwritten, shown, apply}
-use Rattle.tree_definitions.specs.History.{after_read, with_shown, file_at, file_of}
+use Rattle.tree_definitions.specs.Perform.{Step, Goes, Stops, perform_step}
+use Rattle.tree_definitions.specs.History.{after_read, after_step, with_shown, file_at, file_of}
 use Rattle.tree_laws.specs.WellFormed.{BirthsAscend}
 use Rattle.file_tree.specs.Replies.{gives}
 
@@ -97,3 +98,8 @@ read_same tree after (op.Read path off len) (reply.Shown bytes) birth m births i
     ap (λ t. with_shown t (file_at t (place t path)) off bytes) parts.0 ∙ parts.1 ∙ sym parts.0
 read_same tree after (op.Read path off len) r birth m births is = refl
 read_same tree after o r birth m births is = refl
+
+-- where links are followed too
+pub shown_same : (tree after : FileTree) (s : Step) (r : Reply) (birth m : ℕ) → BirthsAscend tree → perform_step tree s birth m ≡ gives after r → after_step after s r ≡ after
+shown_same tree after (Goes o) r birth m births is = read_same tree after o r birth m births is
+shown_same tree after (Stops q) r birth m births is = refl

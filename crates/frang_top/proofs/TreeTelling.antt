@@ -23,7 +23,7 @@ use Rattle.tree_definitions.specs.Removal.{is_legal, keeps, tree_of}
 use Rattle.tree_definitions.specs.History.{Opening}
 use Rattle.tree_definitions.specs.Live.{line_of}
 use Rattle.tree_definitions.specs.Numbers.{below}
-use Rattle.tree_definitions.specs.Transcript.{no_faults, ServerState, first_state, state_of, after_said, after_line, after_asked, is_settled, is_node, is_end, is_over, are_answered, all_settled, nodes_said, live_tree, MaySay}
+use Rattle.tree_definitions.specs.Transcript.{no_faults, ServerState, first_state, state_of, after_said, after_line, after_asked, is_settled, is_node, is_end, is_over, halts, are_answered, all_settled, nodes_said, live_tree, MaySay}
 use Rattle.frang_top.specs.DirectoryBlocks.{counts_blocks}
 use Rattle.frang_top.specs.Run.{history_of, IsRun, said_act, saids_of}
 use Rattle.frang_top.specs.declared.server.Server.{Server as Serving}
@@ -169,12 +169,13 @@ told_end o script lines told after now says =
     let proper : All IsProperSaid saids = proper-push now.saids said.End now.proper tt in
     let answered : are_answered script saids ≡ true = are_answered-push script now.saids said.End now.answered in
     let ended : list_any is_end saids ≡ true = list_any-append is_end now.saids (said.End ∷ []) ∙ or_true (list_any is_end now.saids) in
+    let over : is_over script saids ≡ true = ap (λ e. list_any (halts script) saids || e) ended ∙ or_true (list_any (halts script) saids) in
     record {
       always = always_says o script after saids acts_are proper (always-push o script now.saids said.End now.always run);
       whole = λ acts is.
           (let said = says_run o script acts saids (acts_are acts is) proper run in
           let back : saids ≡ saids_of acts = sym (ap saids_of (acts_are acts is) ∙ read_back saids proper) in
-          record { says = said.says; run = said.run; answered = ap (are_answered script) (sym back) ∙ answered; ended = ap (list_any is_end) (sym back) ∙ ended });
+          record { says = said.says; run = said.run; answered = ap (are_answered script) (sym back) ∙ answered; over = ap (is_over script) (sym back) ∙ over });
     }
   where
     or_true : (b : Bool) → b || true ≡ true

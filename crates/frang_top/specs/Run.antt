@@ -1,6 +1,6 @@
 -- What holds of the record at every moment of a run, and at its end. The lines said are a function of the record.
 use Rattle.std.specs.Prelude.{◌≡◌, ℕ, true, Option, Some, None, List, [], map, take}
-use Rattle.std.specs.List.{list_any, filter_map}
+use Rattle.std.specs.List.{filter_map}
 use Rattle.frang_base.specs.declared.said.Said.{Said}
 use Rattle.frang_base.specs.declared.script.Line.{Line}
 use Rattle.frang_outside.specs.declared.act.Act.{Act}
@@ -10,7 +10,7 @@ use Rattle.tree_definitions.specs.SaidLines.{said_line}
 use Rattle.tree_definitions.specs.History.{Opening}
 use Rattle.tree_definitions.specs.Live.{live_history}
 use Rattle.tree_definitions.specs.Removal.{IsLegal, Keeps}
-use Rattle.tree_definitions.specs.Transcript.{IsTranscript, no_faults, are_answered, is_end}
+use Rattle.tree_definitions.specs.Transcript.{IsTranscript, no_faults, are_answered, is_over}
 use Rattle.script_definitions.specs.SaidReading.{said_of}
 use Rattle.frang_top.specs.DirectoryBlocks.{counts_blocks}
 
@@ -52,12 +52,12 @@ pub record SaysRun (opening : Opening) (script : List Line) (acts : List Act) : 
 abbrev pub AlwaysSaysRun : Opening → List Line → Option (List Act) → Type 0
 AlwaysSaysRun opening script told = (acts : List Act) → told ≡ Some acts → (k : ℕ) → SaysRun opening script (take k acts)
 
--- the whole of a run: every line is answered, and the tree and the end are said
+-- the whole of a run: every line is answered, and it is over: the tree and the end are said, where no halt was answered
 pub record IsWhole (opening : Opening) (script : List Line) (acts : List Act) : Type 0 where
   pub says : AreSays acts
   pub run : IsRun opening script (saids_of acts)
   pub answered : are_answered script (saids_of acts) ≡ true
-  pub ended : list_any is_end (saids_of acts) ≡ true
+  pub over : is_over script (saids_of acts) ≡ true
 
 -- the record, where it is told, is a whole run
 abbrev pub EndsWhole : Opening → List Line → Option (List Act) → Type 0

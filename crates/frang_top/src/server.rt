@@ -47,7 +47,7 @@ impl Server {
         ensures ok { IfOk result (λ r. Answers number op.now self.old r self.new) }
     {
         let birth = OpNo::of(FIRST_RUN, number);
-        let reply = self.tree.apply(op, birth, self.dir_blocks)?;
+        let reply = self.tree.perform(op, birth, self.dir_blocks)?;
         self.dir_blocks = self.dir_blocks.max(self.tree.dir_blocks());
         Ok(reply)
     }

@@ -26,7 +26,7 @@ mkdir /d : exist
 create /d/a : ok
 mkdir /d/e : ok
 symlink /d/l t : ok
-create /d/l/x : notdir
+create /d/l/x : noent
 create /d/e/f/g : noent
 create /d/a/b/c : notdir
 stat / : dir 2
@@ -37,12 +37,12 @@ stat /d/l : link 1
 stat /x : noent
 stat /x/y : noent
 stat /a/x : notdir
-stat /d/l/x : notdir
+stat /d/l/x : noent
 list / : names a d
 list /d : names a e l
 list /d/e : names
 list /a : notdir
-list /d/l : notdir
+list /d/l : noent
 list /x : noent
 list /a/x : notdir
 readlink /d/l : target t
@@ -66,7 +66,7 @@ link /a / : exist
 link /a /a : exist
 link /a /d : exist
 link /a /x/y : noent
-link /a /l/y : notdir
+link /a /l/y : noent
 link /a /a/y : notdir
 link /a /b : ok
 stat /a : file 0 2
@@ -119,7 +119,7 @@ rename /x /y/z : noent
 rename /f/x /y : notdir
 rename /f /x/y : noent
 rename /f /f/y : notdir
-rename /f /l/y : notdir
+rename /f /l/y : noent
 rename /f /f : ok
 mkdir /d : ok
 rename /d /d/x : inval
@@ -165,20 +165,20 @@ mkdir /d : ok
 symlink /l abc : ok
 write / 0 x : isdir
 write /d 0 x : isdir
-write /l 0 x : inval
+write /l 0 x : noent
 write /x 0 x : noent
 write /f/x 0 x : notdir
 fill / 0 1 00 : isdir
 fill /d 0 1 00 : isdir
-fill /l 0 1 00 : inval
+fill /l 0 1 00 : noent
 fill /x 0 1 00 : noent
 truncate / 0 : isdir
 truncate /d 0 : isdir
-truncate /l 0 : inval
+truncate /l 0 : noent
 truncate /x 0 : noent
 read / 0 1 : isdir
 read /d 0 1 : isdir
-read /l 0 1 : inval
+read /l 0 1 : noent
 read /x 0 1 : noent
 read /f/x 0 1 : notdir
 read /f 0 1 : data
@@ -241,6 +241,68 @@ mount : mounted
 stat /a : file 0 1
 mount : already";
 
+// Links are followed on the way, and at the end by what writes, reads or lists; a target goes from the root or from its directory.
+const FOLLOWED: &str = "mount : mounted
+mkdir /d : ok
+create /d/f : ok
+write /d/f 0 hi : ok
+symlink /l d : ok
+symlink /m /l/f : ok
+read /m 0 2 : data 6869
+stat /m : link 4
+symlink /o o : ok
+read /o 0 1 : loop
+list /l : names f
+rename /d /l/e : inval
+write /m 2 gh : ok
+fill /l/f 4 1 21 : ok
+truncate /m 4 : ok
+read /d/f 0 9 : data 68696768
+create /l/x : ok
+list /d : names f x
+symlink /d/k x : ok
+write /l/k 0 z : ok
+stat /d/x : file 1 1
+symlink /d/p a//b : ok
+read /d/p 0 1 : noent
+stat /d/p/x : noent
+list /m : notdir
+write /l 0 x : isdir
+symlink /r / : ok
+list /r/l/.x : noent
+stat /r/r/d : dir 4
+rename /r/d/x /d/y : ok
+rename /d/y /l/y : ok
+link /d/y /o/y : loop
+link /d /o/y : isdir
+link /x /o/y : noent
+rename / /o/y : inval
+rename /o/y / : inval
+rename /x /o/y : noent
+unlink /m : ok
+stat /d/f : file 4 1
+readlink /l : target d
+mkdir /l : exist
+rmdir /l : notdir";
+
+// Eight links are followed, and the ninth isn't.
+const CHAIN: &str = "mount : mounted
+create /f : ok
+symlink /c1 /f : ok
+symlink /c2 /c1 : ok
+symlink /c3 /c2 : ok
+symlink /c4 /c3 : ok
+symlink /c5 /c4 : ok
+symlink /c6 /c5 : ok
+symlink /c7 /c6 : ok
+symlink /c8 /c7 : ok
+symlink /c9 /c8 : ok
+read /c8 0 1 : data
+read /c9 0 1 : loop
+read /f/x 0 1 : notdir
+read /c7/x 0 1 : notdir
+stat /c9 : link 3";
+
 // One segment has 64 inodes and one large block, and a file's end is looked at before its blocks.
 const ONE_SEGMENT: &str = "mount : mounted
 create /f : ok
@@ -283,7 +345,7 @@ fn expect_table(rt: &impl Abort, alloc: Global, words: &[&str], table: &str) -> 
 
 #[test]
 fn lines_are_answered_by_what_comes_first(rt: HostRuntime) -> Result<(), Fail> {
-    for table in [NAMES, LINKS, MOVES, BYTES, MOUNTS] {
+    for table in [NAMES, LINKS, MOVES, BYTES, MOUNTS, FOLLOWED, CHAIN] {
         expect_table(&rt, rt.alloc(), &["run", "s"], table)?;
     }
     Ok(())

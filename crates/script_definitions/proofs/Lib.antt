@@ -11,6 +11,7 @@ pub mod LinesLaws
 pub mod PrintedLaws
 pub mod PrintedLength
 pub mod SayableTrees
+pub mod SayablePaths
 pub mod SayableLines
 pub mod SayableHistories
 pub mod SayableScripts

@@ -23,11 +23,13 @@ use Rattle.tree_definitions.specs.declared.node.Node.TheVariants.{Dir, File, Lin
 use Rattle.tree_definitions.specs.Tree.{FileTree, fresh, node_at}
 use Rattle.tree_definitions.specs.Place.{Place, Root, Taken, Free, Nowhere, place}
 use Rattle.tree_definitions.specs.Apply.{overwritten}
+use Rattle.tree_definitions.specs.Perform.{Step, Goes, Stops, resolved}
 use Rattle.tree_definitions.specs.Removal.{is_of, begins_removal, left, doubtful, recovered, settled_from, settled, tree_of}
 use Rattle.tree_definitions.specs.Live.{line_of, number_of, item_of_what, item_of_line, item_of, live_history}
-use Rattle.tree_definitions.specs.History.{Opening, told_blocks, applied, is_answer, leaves_tree, file_of, file_at, with_shown, after_read, tree_after, CellRun, Settled, Stays, InDoubt, doubted_cells, doubted_file, doubted, after, after_all}
+use Rattle.tree_definitions.specs.History.{Opening, told_blocks, applied, is_answer, leaves_tree, file_of, file_at, with_shown, after_read, after_step, tree_after, CellRun, Settled, Stays, InDoubt, doubted_cells, doubted_file, doubted, after, after_all}
 use Rattle.script_definitions.specs.Sayable.{IsSayableCell, IsNodeIfOf, IsSayableNode, IsSayableTree, IsSayableReply, IsSayableWhat, IsSayableLine, IsSayableEntry, IsSayableItem, IsSayableStep, HasSayableReply}
-use Rattle.script_definitions.proofs.SayableTrees.{either, put_sayable, found_sayable, over_sayable, bytes_sayable, apply_sayable}
+use Rattle.script_definitions.proofs.SayableTrees.{either, put_sayable, found_sayable, over_sayable, bytes_sayable}
+use Rattle.script_definitions.proofs.SayablePaths.{perform_sayable}
 
 byte_sayable : (b : ℕ) → b < 256 → IsSayableCell (Byte b)
 byte_sayable b h = h
@@ -59,10 +61,14 @@ read_sayable tree (op.Read path off len) (reply.Shown bytes) h k = with_shown_sa
 read_sayable tree (op.Read path off len) _ h k = h
 read_sayable tree _ r h k = h
 
+read_step_sayable : (tree : FileTree) (s : Step) (r : Reply) → IsSayableTree tree → IsSayableReply r → IsSayableTree (after_step tree s r)
+read_step_sayable tree (Goes o) r h k = read_sayable tree o r h k
+read_step_sayable tree (Stops q) r h k = h
+
 pub entry_sayable : (tree : FileTree) (e : Entry) → IsSayableTree tree → IsSayableEntry e → IsSayableTree (tree_after tree e)
 entry_sayable tree e h k =
     either IsSayableTree (leaves_tree e.op e.reply) _ _ h
-    (either IsSayableTree (is_answer tree e) _ _ (read_sayable (applied tree e).tree e.op e.reply (apply_sayable IsSayableCell byte_sayable (told_blocks tree e.reply) tree e.op e.number.0 h k.0).tree k.1) h)
+    (either IsSayableTree (is_answer tree e) _ _ (read_step_sayable (applied tree e).tree (resolved tree e.op).step e.reply (perform_sayable IsSayableCell byte_sayable (told_blocks tree e.reply) tree e.op e.number.0 h k.0).tree k.1) h)
 
 -- cells in doubt
 doubt_sayable : (cells : List Cell) (from count : ℕ) → All IsSayableCell cells → All IsSayableCell (doubted_cells cells from count)

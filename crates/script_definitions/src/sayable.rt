@@ -12,6 +12,7 @@ ghost use Rattle.tree_definitions.specs.declared.history.Item.{Item};
 ghost use Rattle.tree_definitions.specs.Apply.{apply};
 ghost use Rattle.tree_definitions.specs.History.{Opening};
 ghost use Rattle.tree_definitions.specs.Live.{live_history};
+ghost use Rattle.tree_definitions.specs.Perform.{perform};
 ghost use Rattle.tree_definitions.specs.Removal.{tree_of};
 ghost use Rattle.tree_definitions.specs.Tree.{FileTree, fresh};
 ghost use Rattle.tree_definitions.specs.TreeLines.{tree_lines};
@@ -25,9 +26,10 @@ pub fn scripts_ask_what_can_be_said()
     ensures { (bytes : List ℕ) (script : List Line) → script_of bytes ≡ Ok script → All IsSayableLine script }
 {}
 
-/// Such an operation, applied to a tree that can be said, leaves one, and its answer can be said.
+/// Such an operation, applied to a tree that can be said, leaves one, and its answer can be said; so too where links are followed.
 pub fn what_is_applied_can_be_said()
-    ensures { (tree : FileTree) (op : Op) (birth m : ℕ) → IsSayableTree tree → IsSayableOp op → IsSayableApplied m (apply tree op birth m) }
+    ensures performed { (tree : FileTree) (op : Op) (birth m : ℕ) → IsSayableTree tree → IsSayableOp op → IsSayableApplied m (perform tree op birth m) }
+    ensures applied { (tree : FileTree) (op : Op) (birth m : ℕ) → IsSayableTree tree → IsSayableOp op → IsSayableApplied m (apply tree op birth m) }
 {}
 
 /// The fresh tree can be said, and so can what a history of such operations and replies leaves of one that can; the live history is

@@ -10,9 +10,10 @@ use Rattle.frang_base.specs.declared.reply.Reply.TheVariants as reply
 use Rattle.frang_base.specs.declared.said.Said.{Said}
 use Rattle.frang_base.specs.declared.said.Said.TheVariants as said
 use Rattle.frang_base.specs.declared.script.Line.{Line}
+use Rattle.tree_definitions.specs.Resolve.{resolve}
 use Rattle.tree_definitions.specs.History.{Opening, fresh_opening}
 use Rattle.tree_definitions.specs.Live.{live_history}
-use Rattle.tree_definitions.specs.Transcript.{Faults, no_faults, MaySay, IsTranscript, left_history}
+use Rattle.tree_definitions.specs.Transcript.{Faults, no_faults, MaySay, IsTranscript, io_answers, unexplained_deaths, left_history}
 use Rattle.tree_definitions.proofs.Sketch.{a, by, recovery}
 
 abbrev asks : ℕ → ℕ → Op → Line
@@ -35,6 +36,9 @@ recovering server by = said.Recovering (record { 0 = server }) (record { 0 = by 
 
 abbrev recovered : ℕ → ℕ → Said
 recovered server kept = said.Recovered (record { 0 = server }) (record { 0 = kept })
+
+abbrev renewed : ℕ → Said
+renewed server = said.Renewed (record { 0 = server })
 
 abbrev opening : Opening
 opening = fresh_opening 16
@@ -62,6 +66,7 @@ abbrev first_said : List Said
 first_said = answer 1 0 reply.Mounted ∷ answer 2 0 reply.Ok ∷ answer 3 0 reply.Ok ∷ []
 
 a_file_is_made : IsTranscript first opening no_faults (first_said ++ tree ++ said.End ∷ [])
+unfolding resolve
 a_file_is_made = (refl, (refl, (refl, ((refl, refl), ((refl, refl), ((refl, refl), tt))))))
 
 the_empty_script : IsTranscript [] opening no_faults (said.Node (codes "/") 2 0 0 ∷ said.End ∷ [])
@@ -215,6 +220,90 @@ it_owes_after_the_recovery_too = refl
 no_expired_without_a_stall : MayNot armed (answer 1 0 reply.Mounted ∷ answer 2 0 reply.Ok ∷ dead 0 ∷ []) (answer 3 0 reply.Expired)
 no_expired_without_a_stall = λ h. cc
 
+-- a stalled server goes on under a new lease
+renewed_after_a_stall : May stall stalled (renewed 0)
+renewed_after_a_stall = refl
+
+not_renewed_while_up : MayNot stall (answer 1 0 reply.Mounted ∷ []) (renewed 0)
+not_renewed_while_up = λ h. cc
+
+not_renewed_twice : MayNot stall (stalled ++ renewed 0 ∷ []) (renewed 0)
+not_renewed_twice = λ h. cc
+
+it_answers_again : May stall (stalled ++ renewed 0 ∷ []) (answer 3 0 reply.NoEnt)
+it_answers_again = refl
+
+-- it dies only where it may be dirty: a line that may change the tree was answered, or a recovery by it began, in this mount
+a_clean_server_outlives_its_lease : MayNot stall stalled (dead 0)
+a_clean_server_outlives_its_lease = λ h. cc
+
+abbrev dirty : Op → List Line
+dirty o = asks 1 0 op.Mount ∷ asks 2 0 o ∷ asks 3 0 op.Stall ∷ asks 4 0 op.Unmount ∷ asks 5 0 op.Mount ∷ asks 6 0 op.Stall ∷ []
+
+abbrev dirty_said : Reply → List Said
+dirty_said r = answer 1 0 reply.Mounted ∷ answer 2 0 r ∷ answer 3 0 reply.Ok ∷ []
+
+a_dirty_server_dies : May (dirty (op.Create a)) (dirty_said reply.Ok) (dead 0)
+a_dirty_server_dies = refl
+
+a_refused_change_is_enough : May (dirty (op.Rmdir a)) (dirty_said reply.NoEnt) (dead 0)
+a_refused_change_is_enough = refl
+
+a_look_is_not : MayNot (dirty (op.Stat a)) (dirty_said reply.NoEnt) (dead 0)
+a_look_is_not = λ h. cc
+
+no_death_while_up_and_dirty : MayNot (dirty (op.Create a)) (answer 1 0 reply.Mounted ∷ answer 2 0 reply.Ok ∷ []) (dead 0)
+no_death_while_up_and_dirty = λ h. cc
+
+an_earlier_mount_is_not : MayNot (dirty (op.Create a)) (dirty_said reply.Ok ++ renewed 0 ∷ answer 4 0 reply.Ok ∷ answer 5 0 reply.Mounted ∷ answer 6 0 reply.Ok ∷ []) (dead 0)
+an_earlier_mount_is_not = λ h. cc
+
+a_fault_ends_a_clean_stall : MaySay stall opening (faults_from 2) stalled (dead 0)
+a_fault_ends_a_clean_stall = refl
+
+-- the server 1 recovers the server 0, and stalls
+abbrev recoverer : List Line
+recoverer = asks 1 0 op.Mount ∷ asks 2 1 op.Mount ∷ asks 3 0 op.Crash ∷ asks 4 1 op.Stall ∷ []
+
+abbrev recoverer_said : List Said
+recoverer_said = answer 1 0 reply.Mounted ∷ answer 2 1 reply.Mounted ∷ dead 0 ∷ recovering 0 1 ∷ answer 4 1 reply.Ok ∷ []
+
+a_recoverer_may_be_dirty : May recoverer recoverer_said (dead 1)
+a_recoverer_may_be_dirty = refl
+
+-- of an armed server the arming outlives the stall
+abbrev armed_stall : List Line
+armed_stall = asks 1 0 op.Mount ∷ asks 2 0 (op.CrashAt 1) ∷ asks 3 0 op.Stall ∷ []
+
+an_armed_server_dies_stalled : May armed_stall (answer 1 0 reply.Mounted ∷ answer 2 0 reply.Ok ∷ answer 3 0 reply.Ok ∷ []) (dead 0)
+an_armed_server_dies_stalled = refl
+
+-- notes of a backup or of a lock table stand wherever lines go on, and change nothing
+a_note_of_a_backup : May first [] (said.Backup 1)
+a_note_of_a_backup = refl
+
+a_note_of_the_locks : May first (first_said) (said.Locks 3)
+a_note_of_the_locks = refl
+
+a_note_changes_nothing : May first (said.Backup 1 ∷ answer 1 0 reply.Mounted ∷ said.Locks 1 ∷ []) (answer 2 0 reply.Ok)
+a_note_changes_nothing = refl
+
+no_note_in_the_tree : MayNot first (first_said ++ said.Node (codes "/") 2 1 0 ∷ []) (said.Backup 1)
+no_note_in_the_tree = λ h. cc
+
+no_note_after_a_halt : MayNot (asks 1 0 op.Mount ∷ host_asks 2 host.Halt ∷ []) (answer 1 0 reply.Mounted ∷ host_ok 2 ∷ []) (said.Locks 1)
+no_note_after_a_halt = λ h. cc
+
+-- deaths that nothing but a fault explains, and answers `io`, are counted
+one_death_by_a_fault : unexplained_deaths stall 0 (stalled ++ dead 0 ∷ []) ≡ 1
+one_death_by_a_fault = refl
+
+a_crash_is_explained : unexplained_deaths crash 0 (answer 1 0 reply.Mounted ∷ dead 0 ∷ answer 2 0 reply.Ok ∷ []) ≡ 0
+a_crash_is_explained = refl
+
+its_io_answers : io_answers 0 (answer 1 0 reply.Io ∷ answer 1 1 reply.Io ∷ answer 2 0 reply.Ok ∷ []) ≡ 1
+its_io_answers = refl
+
 -- where a fault may have ended the stalled mount, it owes or not, and stays with what it said
 may_owe : MaySay stall opening (faults_from 2) (stalled ++ dead 0 ∷ []) (answer 3 0 reply.Expired)
 may_owe = refl
@@ -236,12 +325,15 @@ no_tree_while_a_server_is_dead : MayNot (asks 1 0 op.Mount ∷ asks 2 0 op.Crash
 no_tree_while_a_server_is_dead = λ (h, e). cc
 
 the_root_first : MayNot first first_said (said.Node (codes "/a") 1 0 1)
+unfolding resolve
 the_root_first = λ (h, e). cc
 
 no_end_before_the_tree : MayNot first (first_said ++ said.Node (codes "/") 2 1 0 ∷ []) said.End
+unfolding resolve
 no_end_before_the_tree = λ (h, e). cc
 
 nothing_after_the_end : MayNot first (first_said ++ tree ++ said.End ∷ []) said.End
+unfolding resolve
 nothing_after_the_end = λ (h, e). cc
 
 no_death_in_the_tree : MaySay first opening (faults_from 0) (first_said ++ said.Node (codes "/") 2 1 0 ∷ []) (dead 0) → ⊥

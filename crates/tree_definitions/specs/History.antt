@@ -12,7 +12,8 @@ use Rattle.tree_definitions.specs.declared.node.Node.{Node}
 use Rattle.tree_definitions.specs.declared.node.Node.TheVariants.{Dir, File, Link}
 use Rattle.tree_definitions.specs.Tree.{FileTree, fresh, node_at, with_node, count_of, dir_blocks}
 use Rattle.tree_definitions.specs.Place.{Place, Root, Taken, Free, Nowhere, place}
-use Rattle.tree_definitions.specs.Apply.{Answer, Plain, Shows, Applied, apply, is_path_op, overwritten}
+use Rattle.tree_definitions.specs.Apply.{Answer, Plain, Shows, Applied, is_path_op, overwritten}
+use Rattle.tree_definitions.specs.Perform.{Step, Goes, Stops, resolved, perform}
 use Rattle.tree_definitions.specs.SaidLines.{reply_word}
 
 -- where a run begins: its tree, the number of small blocks that are or were a directory's, and its number
@@ -113,9 +114,9 @@ abbrev pub may_tell : FileTree → ℕ → Reply → Bool
 may_tell tree ever (reply.NoBlock m) = nat_le (count_of dir_blocks tree) m && nat_le m ever
 may_tell tree ever _ = true
 
--- an entry's operation, applied where the entry stands
+-- an entry's operation, performed where the entry stands
 abbrev pub applied : FileTree → Entry → Applied
-applied tree e = apply tree e.op e.number.0 (told_blocks tree e.reply)
+applied tree e = perform tree e.op e.number.0 (told_blocks tree e.reply)
 
 -- the entry's reply is its operation's answer
 abbrev pub is_answer : FileTree → Entry → Bool
@@ -169,11 +170,16 @@ abbrev pub after_read : FileTree → Op → Reply → FileTree
 after_read tree (op.Read path off len) (reply.Shown bytes) = with_shown tree (file_at tree (place tree path)) off bytes
 after_read tree op reply = tree
 
+-- the same by what an operation comes to
+abbrev pub after_step : FileTree → Step → Reply → FileTree
+after_step tree (Goes o) reply = after_read tree o reply
+after_step tree (Stops r) reply = tree
+
 -- the tree after an entry; one that doesn't fit leaves it
 abbrev pub tree_after : FileTree → Entry → FileTree
 tree_after tree e =
     if leaves_tree e.op e.reply then tree
-    else (if is_answer tree e then after_read (applied tree e).tree e.op e.reply else tree)
+    else (if is_answer tree e then after_step (applied tree e).tree (resolved tree e.op).step e.reply else tree)
 
 -- some cells of a file, from an offset on
 pub record CellRun : Type 0 where

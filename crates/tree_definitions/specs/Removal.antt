@@ -15,6 +15,7 @@ use Rattle.tree_definitions.specs.declared.node.Node.TheVariants.{Dir, File, Lin
 use Rattle.tree_definitions.specs.Tree.{FileTree}
 use Rattle.tree_definitions.specs.Numbers.{below}
 use Rattle.tree_definitions.specs.Place.{place}
+use Rattle.tree_definitions.specs.Perform.{Step, Goes, Stops, resolved}
 use Rattle.tree_definitions.specs.History.{Opening, file_at, CellRun, Settled, Stays, InDoubt, after, after_all, legal_from}
 use Rattle.tree_definitions.specs.Touched.{touches, changes_shape, is_seen, is_synced, stalled_after, is_mounted, is_ok, is_sync, shape_of}
 
@@ -65,11 +66,16 @@ writes tree (op.Fill path off len byte) reply.Ok birth sector = meets_in birth s
 writes tree (op.Truncate path len) reply.Ok birth sector = meets_in birth sector (file_at tree (place tree path)) len (size_of (file_at tree (place tree path)))
 writes tree op r birth sector = false
 
+-- the same by what an operation comes to
+abbrev pub step_writes : FileTree → Step → Reply → ℕ → ℕ → Bool
+step_writes tree (Goes o) r birth sector = writes tree o r birth sector
+step_writes tree (Stops reply) r birth sector = false
+
 -- whether a sector is in doubt after one entry more: the last that wrote into it is the server since its last mount, and since then no sync
 -- of it was answered `ok` and no other server touched the file
 abbrev pub doubtful_after : ℕ → ℕ → ℕ → Bool → FileTree → Entry → List Settled → Bool
 doubtful_after server birth sector before tree e rest =
-    if writes tree e.op e.reply birth sector then e.server.0 == server && not (list_any (mounts server) rest)
+    if step_writes tree (resolved tree e.op).step e.reply birth sector then e.server.0 == server && not (list_any (mounts server) rest)
     else (if e.server.0 == server then before && not (is_sync e.op && is_ok e.reply) else before && not (touches tree e birth))
 
 -- whether a sector is in doubt at the end of a list

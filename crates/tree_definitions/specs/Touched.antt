@@ -13,6 +13,7 @@ use Rattle.tree_definitions.specs.declared.node.Node.{Node}
 use Rattle.tree_definitions.specs.declared.node.Node.TheVariants.{Dir, File, Link}
 use Rattle.tree_definitions.specs.Tree.{FileTree, node_at, small_blocks, large_blocks}
 use Rattle.tree_definitions.specs.Place.{Place, Root, Taken, Free, Nowhere, place, walked}
+use Rattle.tree_definitions.specs.Perform.{Step, Goes, Stops, resolved}
 use Rattle.tree_definitions.specs.History.{applied, is_answer, Settled, Stays, InDoubt, after}
 
 -- equal cells
@@ -107,7 +108,7 @@ abbrev pub then_walked : FileTree → List ℕ → List (List ℕ) → List ℕ
 then_walked tree [] to = []
 then_walked tree (birth ∷ births) to = walked tree to
 
--- the directories in which the walks of an operation look a name up, in the order of its refusals
+-- the directories in which the walks of an operation over paths without links look a name up, in the order of its refusals
 abbrev pub looked_in : FileTree → Op → List ℕ
 looked_in tree (op.Create path) = walked tree path
 looked_in tree (op.Mkdir path) = walked tree path
@@ -145,9 +146,14 @@ further tree (op.Truncate path len) r = reached tree file_node (place tree path)
 further tree (op.Readlink path) r = reached tree link_node (place tree path)
 further tree op r = []
 
--- an entry touches the node of a birth: it changes it, looks a name up in it, or reaches it last
+-- the nodes that an operation over paths without links looks in or reaches last, by its reply
+abbrev pub visited : FileTree → Step → Reply → List ℕ
+visited tree (Goes o) r = looked_in tree o ++ further tree o r
+visited tree (Stops reply) r = []
+
+-- an entry touches the node of a birth: it changes it, looks a name up in it, follows it as a link, or reaches it last
 abbrev pub touches : FileTree → Entry → ℕ → Bool
-touches tree e birth = is_answer tree e && (changes tree e birth || list_any (λ b. b == birth) (looked_in tree e.op ++ further tree e.op e.reply))
+touches tree e birth = is_answer tree e && (changes tree e birth || list_any (λ b. b == birth) ((resolved tree e.op).trail ++ visited tree (resolved tree e.op).step e.reply))
 
 -- a later entry of another server touches one of these nodes
 abbrev pub touched_later : ℕ → List ℕ → FileTree → List Settled → Bool

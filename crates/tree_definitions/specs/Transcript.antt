@@ -1,5 +1,5 @@
 -- Which lines may be said, and when: a well-formed transcript of a script.
-use Rattle.std.specs.Prelude.{◌≡◌, ℕ, ◌+◌, Bool, true, false, not, ◌&&◌, ◌||◌, ◌==◌, if◌then◌else◌, IsTrue, nat_lt, Option, Some, None, List, [], ◌∷◌, ◌++◌, length, filter, slice_get}
+use Rattle.std.specs.Prelude.{◌≡◌, ◌≤◌, ℕ, ◌+◌, Bool, true, false, not, ◌&&◌, ◌||◌, ◌==◌, if◌then◌else◌, IsTrue, nat_lt, Option, Some, None, List, [], ◌∷◌, ◌++◌, length, filter, slice_get}
 use Rattle.std.specs.List.{list_any, list_all}
 use Rattle.frang_base.specs.declared.op.Op.{Op}
 use Rattle.frang_base.specs.declared.op.Op.TheVariants as op
@@ -24,6 +24,12 @@ use Rattle.tree_definitions.specs.TreeLines.{tree_lines}
 abbrev pub Faults : Type 0
 Faults = ℕ → ℕ → Bool
 
+-- the faults of a call, of which all prefixes of a record tell alike: what has risen by a place has by each later one, and only the counts
+-- of these servers rose in the call
+pub record AreFaultsOf (rose : ℕ → Type 0) (faults : Faults) : Type 0 where
+  pub stay : (early late server : ℕ) → early ≤ late → faults early server ≡ true → faults late server ≡ true
+  pub counted : (place server : ℕ) → faults place server ≡ true → rose server
+
 -- no count ever rises
 abbrev pub no_faults : Faults
 no_faults place server = false
@@ -46,7 +52,7 @@ pub data Debt : Type 0 where
 pub record ServerState : Type 0 where
   pub phase : Phase
   pub debt : Debt
-  -- in its present mount a `crash k`, `cut k` or `stall` was answered `ok`
+  -- in its present mount a `crash k` or `cut k` was answered `ok`
   pub may_die : Bool
   -- it has answered nothing since its last death
   pub just_died : Bool
@@ -91,8 +97,21 @@ is_crash _ = false
 abbrev pub calls_death : Op → Bool
 calls_death (op.CrashAt k) = true
 calls_death (op.CutAt k) = true
-calls_death op.Stall = true
 calls_death _ = false
+
+-- may change the tree
+abbrev pub may_change : Op → Bool
+may_change (op.Create path) = true
+may_change (op.Mkdir path) = true
+may_change (op.Link path to) = true
+may_change (op.Symlink path target) = true
+may_change (op.Unlink path) = true
+may_change (op.Rmdir path) = true
+may_change (op.Rename path to) = true
+may_change (op.Write path off bytes) = true
+may_change (op.Fill path off len byte) = true
+may_change (op.Truncate path len) = true
+may_change _ = false
 
 -- the reply `expired`
 abbrev pub is_expired : Reply → Bool
@@ -147,6 +166,10 @@ abbrev pub after_line : ServerState → Option Line → Reply → ServerState
 after_line state None r = state
 after_line state (Some line) r = after_asked state line.what r
 
+-- a server after its lease was renewed
+abbrev pub after_renewal : ServerState → ServerState
+after_renewal state = record state { phase = Up }
+
 -- the death of a stalled mount leaves a debt, unless a fault made it
 abbrev pub debt_of_death : Phase → Bool → Debt
 debt_of_death now faulted = if is_stalled now then (if faulted then MayOwe else Owes) else Free
@@ -161,6 +184,7 @@ after_said script server faulted state (said.Answer s number r) = if s.0 == serv
 after_said script server faulted state (said.Dead s) = if s.0 == server then after_death state faulted else state
 after_said script server faulted state (said.Recovering s by) = if s.0 == server then record state { under_recovery = true } else state
 after_said script server faulted state (said.Recovered s kept) = if s.0 == server then record state { phase = Off } else state
+after_said script server faulted state (said.Renewed s) = if s.0 == server then after_renewal state else state
 after_said script server faulted state _ = state
 
 -- a server after lines, the first of which has this place
@@ -294,12 +318,48 @@ abbrev pub is_crash_line : Option Line → Bool
 is_crash_line None = false
 is_crash_line (Some line) = asks_crash line.what
 
+-- a server that is up or stalled is in a mount that may end
+abbrev pub is_in_mount : Phase → Bool
+is_in_mount now = is_up now || is_stalled now
+
+-- whether a line asks what may change the tree
+abbrev pub asks_change : What → Bool
+asks_change (Server o) = may_change o
+asks_change (Host h) = false
+
+abbrev pub is_change_line : Option Line → Bool
+is_change_line None = false
+is_change_line (Some line) = asks_change line.what
+
+-- whether a server may have something to lose, after a line that was said: since its last `mounted` a line of it that may change the tree
+-- was answered, or a recovery by it began
+abbrev pub dirty_after : List Line → ℕ → Bool → Said → Bool
+dirty_after script server dirty (said.Answer s number r) = if s.0 == server then not (is_mounted r) && (dirty || is_change_line (line_of script number)) else dirty
+dirty_after script server dirty (said.Recovering s by) = dirty || by.0 == server
+dirty_after script server dirty _ = dirty
+
+-- the same after lines
+abbrev pub dirty_from : List Line → ℕ → Bool → List Said → Bool
+dirty_from script server dirty [] = dirty
+dirty_from script server dirty (s ∷ saids) = dirty_from script server (dirty_after script server dirty s) saids
+
+-- whether it may, after the lines said
+abbrev pub may_be_dirty : List Line → ℕ → List Said → Bool
+may_be_dirty script server saids = dirty_from script server false saids
+
+-- the lines said call for a death: it was armed, its next line is a crash, or it is stalled and may be dirty
+abbrev pub is_called_for : ServerState → Option Line → Bool → Bool
+is_called_for state next dirty = state.may_die || is_crash_line next || (is_stalled state.phase && dirty)
+
 -- a server may die where it is up or stalled, and its death was called for, or a get or put of it has failed
 abbrev pub may_die_now : List Line → Faults → List Said → ℕ → Bool
 may_die_now script faults saids server =
     let state = state_of script faults server saids in
-    (is_up state.phase || is_stalled state.phase)
-    && (state.may_die || is_crash_line (next_line server script saids) || faults (length saids) server)
+    is_in_mount state.phase && (is_called_for state (next_line server script saids) (may_be_dirty script server saids) || faults (length saids) server)
+
+-- a stalled server may go on under a new lease
+abbrev pub may_be_renewed : List Line → Faults → List Said → ℕ → Bool
+may_be_renewed script faults saids server = is_stalled (state_of script faults server saids).phase
 
 -- a dead server may be recovered by one that is up or by the host, which is 255
 abbrev pub may_recover : List Line → Faults → List Said → ℕ → ℕ → Bool
@@ -339,10 +399,10 @@ MaySay script opening faults before (said.Node path kind size links) =
 MaySay script opening faults before said.End =
     IsTrue (not (is_over script before) && are_answered script before && all_settled script faults before)
     × (nodes_said before ≡ length (live_tree script opening before))
-MaySay script opening faults before (said.Renewed s) = ⊥
+MaySay script opening faults before (said.Renewed s) = IsTrue (goes_on script before && may_be_renewed script faults before s.0)
 MaySay script opening faults before (said.Redo number) = ⊥
-MaySay script opening faults before (said.Backup line) = ⊥
-MaySay script opening faults before (said.Locks line) = ⊥
+MaySay script opening faults before (said.Backup line) = IsTrue (goes_on script before)
+MaySay script opening faults before (said.Locks line) = IsTrue (goes_on script before)
 MaySay script opening faults before (said.Shown text) = ⊥
 
 -- each line may be said after those before it
@@ -353,6 +413,34 @@ MaySayAll script opening faults before (x ∷ xs) = MaySay script opening faults
 -- a well-formed transcript
 abbrev pub IsTranscript : List Line → Opening → Faults → List Said → Type 0
 IsTranscript script opening faults saids = MaySayAll script opening faults [] saids
+
+-- a line is an `io` of a server
+abbrev pub is_io_of : ℕ → Said → Bool
+is_io_of server (said.Answer s number r) = s.0 == server && is_io r
+is_io_of server _ = false
+
+-- the `io` answers of a server
+abbrev pub io_answers : ℕ → List Said → ℕ
+io_answers server saids = length (filter (is_io_of server) saids)
+
+-- a line is the death of a server that the lines said before it don't call for
+abbrev pub is_unexplained : List Line → ℕ → List Said → Said → Bool
+is_unexplained script server before (said.Dead s) = s.0 == server && not (may_die_now script no_faults before server)
+is_unexplained script server before _ = false
+
+-- the deaths of a server that nothing but a fault explains, from some lines on
+abbrev pub unexplained_from : List Line → ℕ → List Said → List Said → ℕ
+unexplained_from script server before [] = 0
+unexplained_from script server before (s ∷ saids) = (if is_unexplained script server before s then 1 else 0) + unexplained_from script server (before ++ s ∷ []) saids
+
+-- the deaths of a server that nothing but a fault explains
+abbrev pub unexplained_deaths : List Line → ℕ → List Said → ℕ
+unexplained_deaths script server saids = unexplained_from script server [] saids
+
+-- of each server the `io` answers are at most what its count of faults rose by, and so are its deaths that nothing else explains
+pub record AreWithinFaults (script : List Line) (rise : ℕ → ℕ) (saids : List Said) : Type 0 where
+  pub answers : (server : ℕ) → io_answers server saids ≤ rise server
+  pub deaths : (server : ℕ) → unexplained_deaths script server saids ≤ rise server
 
 -- whether a stop of everything would find operations of a server that its log alone could keep
 abbrev pub is_mounted_or_dead : List Line → List Said → ℕ → Bool

@@ -12,10 +12,10 @@ use Rattle.tree_definitions.specs.declared.node.Node.{Node}
 use Rattle.tree_definitions.specs.declared.node.Node.TheVariants.{Dir, File, Link}
 use Rattle.tree_definitions.specs.Tree.{FileTree, node_at}
 use Rattle.tree_definitions.specs.Place.{Place, Root, Taken, Free, Nowhere, place}
-use Rattle.tree_definitions.specs.Apply.{overwritten, is_path_op}
-use Rattle.tree_definitions.specs.History.{applied, is_answer, agrees, told_blocks, leaves_tree, tree_after, after_read, with_shown, file_at, file_of}
-use Rattle.tree_definitions.specs.Touched.{touches, changes, same_where, looked_in, further, reached, file_node}
-use Rattle.tree_laws.specs.Refusals.{is_look}
+use Rattle.tree_definitions.specs.Apply.{apply, overwritten, is_path_op}
+use Rattle.tree_definitions.specs.Perform.{Step, Goes, Stops, resolved, perform_step}
+use Rattle.tree_definitions.specs.History.{applied, is_answer, agrees, told_blocks, leaves_tree, tree_after, after_read, after_step, with_shown, file_at, file_of}
+use Rattle.tree_definitions.specs.Touched.{touches, changes, same_where, looked_in, further, visited, reached, file_node}
 use Rattle.tree_laws.specs.WellFormed.{IsNew, IsWalkable}
 use Rattle.tree_laws.specs.Touching.{SameKinds, wants_room, AgreeWhereTouched, DoesAlike, OfDirectory, OfFile, OfLink}
 use Rattle.tree_laws.proofs.Sameness.{differs_or_not, where_same}
@@ -24,7 +24,8 @@ use Rattle.tree_laws.proofs.Refusals.{looks_leave}
 use Rattle.tree_laws.specs.Rooms.{SameRoom}
 use Rattle.tree_laws.proofs.Rooms.{same_told}
 use Rattle.tree_laws.proofs.Likeness.{Likeness, Like, Near, like_equal, overwritten_like, agrees_like, equal, equal_nodes, equal_answers}
-use Rattle.tree_laws.proofs.Joint.{Both, Joint, Alike, joint_none, joint_put, joint_near, Matches}
+use Rattle.tree_laws.proofs.Joint.{Both, Joint, Alike, joint_none, joint_put, joint_near, Matches, both_say}
+use Rattle.tree_laws.proofs.Following.{resolved_same}
 use Rattle.tree_laws.proofs.Asking.{Grounds}
 use Rattle.tree_laws.proofs.Applying.{AgreeOn, walks, in_left, in_right, apply_matches}
 use Rattle.tree_laws.proofs.Looking.{looked_same, further_same}
@@ -39,24 +40,39 @@ module _ (L : Likeness) (one two : FileTree) (e : Entry) (walk_one : IsWalkable 
   pub grounds : Grounds one two
   grounds = record { births_one = walk_one.births; births_two = walk_two.births; alive_one = walk_one.entries; alive_two = walk_two.entries; root_one = walk_one.rooted; root_two = walk_two.rooted; kinds = kinds }
 
-  looked_agrees : (b : ℕ) → is_in b (looked_in one e.op) ≡ true → Near L one two b
-  looked_agrees b i = near b (looked_is_touched one e b answered (in_left b (looked_in one e.op) (further one e.op e.reply) i))
+  trail_agrees : (b : ℕ) → is_in b (resolved one e.op).trail ≡ true → Near L one two b
+  trail_agrees b i = near b (looked_is_touched one e b answered (in_left b (resolved one e.op).trail (visited one (resolved one e.op).step e.reply) i))
 
-  further_agrees : (b : ℕ) → is_in b (further one e.op e.reply) ≡ true → Near L one two b
-  further_agrees b i = near b (looked_is_touched one e b answered (in_right b (looked_in one e.op) (further one e.op e.reply) i))
+  visited_agrees : (b : ℕ) → is_in b (visited one (resolved one e.op).step e.reply) ≡ true → Near L one two b
+  visited_agrees b i = near b (looked_is_touched one e b answered (in_right b (resolved one e.op).trail (visited one (resolved one e.op).step e.reply) i))
+
+  -- the entry comes to the same operation in both trees
+  pub same_way : resolved two e.op ≡ resolved one e.op
+  same_way = resolved_same L one two grounds e.op trail_agrees
 
   left_or_near : (b : ℕ) → Near L one two b ⊎ (node_at (applied one e).tree b ≡ node_at one b)
   left_or_near b = ⊎_elim (λ d. inl (near b (changed_is_touched one e b answered d))) (λ s. inr (sym s)) (differs_or_not one (applied one e).tree b)
 
-  pub agree_on : AgreeOn L one two e.op e.reply (applied one e)
-  agree_on = record { looked = looked_agrees; further = further_agrees; left = left_or_near; told = (and_parts (is_path_op e.op) (agrees (applied one e).answer e.reply) answered).1 }
+  pub agree_on : (o : Op) → (resolved one e.op).step ≡ Goes o → AgreeOn L one two o e.reply (apply one o e.number.0 (told_blocks one e.reply))
+  agree_on o i =
+      let seen = λ (b : ℕ) (j : is_in b (visited one (Goes o) e.reply) ≡ true). visited_agrees b (subst (λ z. is_in b (visited one z e.reply) ≡ true) (sym i) j) in
+      record {
+        looked = λ b j. seen b (in_left b (looked_in one o) (further one o e.reply) j);
+        further = λ b j. seen b (in_right b (looked_in one o) (further one o e.reply) j);
+        left = subst (λ z. (b : ℕ) → Near L one two b ⊎ (node_at (perform_step one z e.number.0 (told_blocks one e.reply)).tree b ≡ node_at one b)) i left_or_near;
+        told = subst (λ z. agrees (perform_step one z e.number.0 (told_blocks one e.reply)).answer e.reply ≡ true) i (and_parts (is_path_op e.op) (agrees (applied one e).answer e.reply) answered).1;
+      }
+
+  matched : (s : Step) → (resolved one e.op).step ≡ s → Matches L one two (perform_step one s e.number.0 (told_blocks one e.reply)) (perform_step two s e.number.0 (told_blocks two e.reply))
+  matched (Goes o) i = apply_matches L one two grounds e.number.0 new_one new_two (told_blocks one e.reply) (told_blocks two e.reply) (λ s. same_told one two s e.reply) e.reply o (agree_on o i)
+  matched (Stops r) i = both_say L one two r
 
   by_room : Roomy one two e → Matches L one two (applied one e) (applied two e) → Alike L one two (applied one e) (applied two e)
   by_room (inl p) m = m.alike p.0 p.1
   by_room (inr s) m = m.roomy s
 
   pub alike : Alike L one two (applied one e) (applied two e)
-  alike = by_room room (apply_matches L one two grounds e.number.0 new_one new_two (told_blocks one e.reply) (told_blocks two e.reply) (λ s. same_told one two s e.reply) e.reply e.op agree_on)
+  alike = by_room room (subst (λ z. Matches L one two (applied one e) (perform_step two z.step e.number.0 (told_blocks two e.reply))) (sym same_way) (matched (resolved one e.op).step refl))
 
   pub answered_two : is_answer two e ≡ true
   answered_two = let p = and_parts (is_path_op e.op) (agrees (applied one e).answer e.reply) answered in and_from (is_path_op e.op) (agrees (applied two e).answer e.reply) p.0 (agrees_like L (applied one e).answer (applied two e).answer e.reply alike.answer p.1)
@@ -100,26 +116,38 @@ module _ (L : Likeness) (one two : FileTree) (e : Entry) (walk_one : IsWalkable 
       subst (λ z. Joint L one two (with_shown one (Some f) off bytes) (with_shown two z off bytes)) (sym l.1)
       (joint_put L one two one two (joint_none L one two) f.0 (File (overwritten f.1.0 off new) f.1.1) (File (overwritten l.0 off new) f.1.1) (same f refl) (overwritten l.0 off new, refl, overwritten_like L f.1.0 l.0 off new l.2))
 
-  read_joint : (o : Op) (r : Reply) → e.op ≡ o → e.reply ≡ r → Joint L one two (applied one e).tree (applied two e).tree → Joint L one two (after_read (applied one e).tree o r) (after_read (applied two e).tree o r)
+  read_joint : (o : Op) (r : Reply) → (resolved one e.op).step ≡ Goes o → e.reply ≡ r → Joint L one two (apply one o e.number.0 (told_blocks one e.reply)).tree (apply two o e.number.0 (told_blocks two e.reply)).tree
+      → Joint L one two (after_read (apply one o e.number.0 (told_blocks one e.reply)).tree o r) (after_read (apply two o e.number.0 (told_blocks two e.reply)).tree o r)
   read_joint (op.Read path off len) (reply.Shown bytes) i j h =
-      let look_one : (applied one e).tree ≡ one = looks_leave one e.op e.number.0 (told_blocks one e.reply) (ap is_look i) in
-      let look_two : (applied two e).tree ≡ two = looks_leave two e.op e.number.0 (told_blocks two e.reply) (ap is_look i) in
-      let looked = subst (λ o. (b : ℕ) → is_in b (looked_in one o) ≡ true → Near L one two b) i looked_agrees in
-      let found = subst (λ o. (b : ℕ) → is_in b (further one o e.reply) ≡ true → Near L one two b) i further_agrees in
-      let walk = walks L one two grounds path looked in
+      let look_one = looks_leave one (op.Read path off len) e.number.0 (told_blocks one e.reply) refl in
+      let look_two = looks_leave two (op.Read path off len) e.number.0 (told_blocks two e.reply) refl in
+      let on = agree_on (op.Read path off len) i in
+      let found = on.further in
+      let walk = walks L one two grounds path on.looked in
       let file : LikeFile (file_at one (place one path)) (file_at two (place two path)) = subst (λ p. LikeFile (file_at one (place one path)) (file_at two p)) (sym walk.place) (file_at_like (place one path) (place_stands one path) (subst (Stands two) walk.place (place_stands two path)) found) in
-      subst (λ t. Joint L one two (with_shown t (file_at t (place t path)) off bytes) (after_read (applied two e).tree (op.Read path off len) (reply.Shown bytes))) (sym look_one)
+      subst (λ t. Joint L one two (with_shown t (file_at t (place t path)) off bytes) (after_read (apply two (op.Read path off len) e.number.0 (told_blocks two e.reply)).tree (op.Read path off len) (reply.Shown bytes))) (sym look_one)
       (subst (λ t. Joint L one two (with_shown one (file_at one (place one path)) off bytes) (with_shown t (file_at t (place t path)) off bytes)) (sym look_two)
       (with_shown_joint (file_at one (place one path)) (file_at two (place two path)) off bytes file (λ f k. found f.0 (file_at_reached one (place one path) f k))))
   read_joint (op.Read path off len) _ i j h = h
   read_joint _ r i j h = h
 
+  step_joint : (s : Step) → (resolved one e.op).step ≡ s → Joint L one two (perform_step one s e.number.0 (told_blocks one e.reply)).tree (perform_step two s e.number.0 (told_blocks two e.reply)).tree
+      → Joint L one two (after_step (perform_step one s e.number.0 (told_blocks one e.reply)).tree s e.reply) (after_step (perform_step two s e.number.0 (told_blocks two e.reply)).tree s e.reply)
+  step_joint (Goes o) i h = read_joint o e.reply i refl h
+  step_joint (Stops r) i h = h
+
+  shown_joint : Joint L one two (after_step (applied one e).tree (resolved one e.op).step e.reply) (after_step (applied two e).tree (resolved two e.op).step e.reply)
+  shown_joint =
+      let m = told_blocks two e.reply in
+      subst (λ z. Joint L one two (after_step (applied one e).tree (resolved one e.op).step e.reply) (after_step (perform_step two z.step e.number.0 m).tree z.step e.reply)) (sym same_way)
+      (step_joint (resolved one e.op).step refl (subst (λ z. Joint L one two (applied one e).tree (perform_step two z.step e.number.0 m).tree) same_way alike.nodes))
+
   pub after_joint : Joint L one two (tree_after one e) (tree_after two e)
   after_joint = go (leaves_tree e.op e.reply) (is_answer one e) (is_answer two e) answered answered_two
     where
-      go : (l a c : Bool) → a ≡ true → c ≡ true → Joint L one two (cond l one (cond a (after_read (applied one e).tree e.op e.reply) one)) (cond l two (cond c (after_read (applied two e).tree e.op e.reply) two))
+      go : (l a c : Bool) → a ≡ true → c ≡ true → Joint L one two (cond l one (cond a (after_step (applied one e).tree (resolved one e.op).step e.reply) one)) (cond l two (cond c (after_step (applied two e).tree (resolved two e.op).step e.reply) two))
       go true a c i j = joint_none L one two
-      go false true true i j = read_joint e.op e.reply refl refl alike.nodes
+      go false true true i j = shown_joint
       go false true false i j = absurd (cc)
       go false false c i j = absurd (cc)
 
@@ -136,7 +164,7 @@ module _ (one two : FileTree) (e : Entry) (walk_one : IsWalkable one) (walk_two 
   both : Alike equal one two (applied one e) (applied two e)
   both = alike equal one two e walk_one walk_two kinds new_one new_two answered room near_by
 
-  agreed : AgreeOn equal one two e.op e.reply (applied one e)
+  agreed : (o : Op) → (resolved one e.op).step ≡ Goes o → AgreeOn equal one two o e.reply (apply one o e.number.0 (told_blocks one e.reply))
   agreed = agree_on equal one two e walk_one walk_two kinds new_one new_two answered room near_by
 
   told_two : is_answer two e ≡ true
@@ -152,9 +180,18 @@ module _ (one two : FileTree) (e : Entry) (walk_one : IsWalkable one) (walk_two 
   changed_same b = ap₂ (λ x y. x && y) (answered ∙ sym told_two)
       (differs_alike (node_at one b) (node_at two b) (node_at (applied one e).tree b) (node_at (applied two e).tree b) (both.nodes.each b) (where_same (node_at one b)) (where_same (node_at two b)))
 
+  way : resolved two e.op ≡ resolved one e.op
+  way = same_way equal one two e walk_one walk_two kinds new_one new_two answered room near_by
+
+  visited_same : (s : Step) → (resolved one e.op).step ≡ s → visited two s e.reply ≡ visited one s e.reply
+  visited_same (Goes o) i =
+      let a = agreed o i in
+      ap₂ (λ w v. w ++ v) (looked_same equal one two ground e.reply (apply one o e.number.0 (told_blocks one e.reply)) o a) (further_same equal one two ground o e.reply e.number.0 (told_blocks one e.reply) a)
+  visited_same (Stops r) i = refl
+
   touched_same : (b : ℕ) → touches one e b ≡ touches two e b
   touched_same b = ap₂ (λ x y. x && y) (answered ∙ sym told_two)
-      (ap₂ (λ c l. c || is_in b l) (changed_same b) (ap₂ (λ w v. w ++ v) (sym (looked_same equal one two ground e.reply (applied one e) e.op agreed)) (sym (further_same equal one two ground e.op e.reply e.number.0 (told_blocks one e.reply) agreed))))
+      (ap₂ (λ c l. c || is_in b l) (changed_same b) (ap (λ v. (resolved one e.op).trail ++ v) (sym (visited_same (resolved one e.op).step refl)) ∙ ap (λ z. z.trail ++ visited two z.step e.reply) (sym way)))
 
   stays_by : (b : ℕ) → Both equal (node_at one b) (node_at two b) (node_at (tree_after one e) b) (node_at (tree_after two e) b) → node_at (tree_after one e) b ≡ node_at one b → node_at (tree_after two e) b ≡ node_at two b
   stays_by b (inl p) s = sym (equal_nodes (node_at (tree_after one e) b) (node_at (tree_after two e) b) p.1) ∙ s ∙ equal_nodes (node_at one b) (node_at two b) p.0

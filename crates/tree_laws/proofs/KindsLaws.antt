@@ -7,13 +7,14 @@ use Rattle.frang_base.specs.declared.op.Op.TheVariants as op
 use Rattle.tree_definitions.specs.declared.node.Node.TheVariants.{Dir, File, Link}
 use Rattle.tree_definitions.specs.Tree.{FileTree}
 use Rattle.tree_definitions.specs.Apply.{apply}
+use Rattle.tree_definitions.specs.Perform.{perform}
 use Rattle.tree_definitions.specs.History.{Settled, Stays, InDoubt, after, after_all, tree_after, doubted}
 use Rattle.tree_laws.specs.WellFormed.{IsWellFormed, IsNew, AreNew, numbers_of}
 use Rattle.tree_laws.specs.Touching.{Kind, HasKinds, SameKinds}
 use Rattle.tree_laws.specs.Kinds.{MakesToldKind, MakeToldKinds, kind_made, kind_by, kind_or, kinds_along}
 use Rattle.tree_laws.proofs.Balance.{Limits, AreAllowed}
 use Rattle.tree_laws.proofs.WellFormedLaws.{Makes, apply_well}
-use Rattle.tree_laws.proofs.StepsLaws.{tree_after_well, doubted_well, after_keeps, are_new_after}
+use Rattle.tree_laws.proofs.StepsLaws.{perform_well, tree_after_well, doubted_well, after_keeps, are_new_after}
 
 -- kinds that are told
 abbrev told : (ℕ → Kind) → Limits
@@ -40,6 +41,9 @@ kinds_agree kinds one two h g b x y i j = h b x i ∙ sym (g b y j)
 
 pub apply_keeps_kinds : (kinds : ℕ → Kind) (t : FileTree) (o : Op) (b m : ℕ) → IsWellFormed t → IsNew t b → HasKinds kinds t → MakesToldKind kinds o b → HasKinds kinds (apply t o b m).tree
 apply_keeps_kinds kinds t o b m w new h may = within_told kinds (apply t o b m).tree (apply_well (told kinds) t (record { well = w; allowed = told_within kinds t h }) o b m new (makes_told kinds o b may)).allowed
+
+pub perform_keeps_kinds : (kinds : ℕ → Kind) (t : FileTree) (o : Op) (b m : ℕ) → IsWellFormed t → IsNew t b → HasKinds kinds t → MakesToldKind kinds o b → HasKinds kinds (perform t o b m).tree
+perform_keeps_kinds kinds t o b m w new h may = within_told kinds (perform t o b m).tree (perform_well (told kinds) t (record { well = w; allowed = told_within kinds t h }) o b m new (makes_told kinds o b may)).allowed
 
 pub after_keeps_kinds : (kinds : ℕ → Kind) (t : FileTree) (s : Settled) (list : List Settled) → IsWellFormed t → AreNew t (s ∷ list) → HasKinds kinds t → MakeToldKinds kinds (s ∷ list) → HasKinds kinds (after t s)
 after_keeps_kinds kinds t (Stays e) list w n h may = within_told kinds (tree_after t e) (tree_after_well (told kinds) t e (record { well = w; allowed = told_within kinds t h }) n.absent.0 (makes_told kinds e.op e.number.0 may.0)).allowed

@@ -20,9 +20,12 @@ pub mod StepsLaws
 pub mod KindsLaws
 pub mod FreshLaws
 pub mod Refusals
+pub mod Resolving
+pub mod Following
 pub mod HistoryLaws
 pub mod TranscriptLaws
 pub mod SettlingLaws
+pub mod DoubtLaws
 pub mod CountLaws
 pub mod ShapeLaws
 pub mod Vagueness

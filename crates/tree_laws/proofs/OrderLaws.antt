@@ -12,7 +12,8 @@ use Rattle.tree_definitions.specs.Entries.{Entries, with_entry, without_entry}
 use Rattle.tree_definitions.specs.Tree.{FileTree, node_at, with_node, without_node, grown}
 use Rattle.tree_definitions.specs.Place.{Place, Root, Taken, Free, Nowhere, place}
 use Rattle.tree_definitions.specs.Apply.{Applied, says, named, made, one_link_more, one_link_fewer, linked_to, linked, unlinked, dir_removed, moved, name_gone, name_set, room_made, moved_onto, moved_to, renamed_to, renamed_from, renamed, if_file, at_file, written, truncated, overwritten, apply}
-use Rattle.tree_definitions.specs.History.{applied, is_answer, told_blocks, leaves_tree, after_read, with_shown, file_at, file_of, CellRun, Settled, Stays, InDoubt, doubted, doubted_file, doubted_cells, after, after_all}
+use Rattle.tree_definitions.specs.Perform.{Step, Goes, Stops, resolved, perform, perform_step}
+use Rattle.tree_definitions.specs.History.{applied, is_answer, told_blocks, leaves_tree, after_read, after_step, with_shown, file_at, file_of, CellRun, Settled, Stays, InDoubt, doubted, doubted_file, doubted_cells, after, after_all}
 use Rattle.tree_laws.specs.Refusals.{is_look}
 use Rattle.tree_laws.specs.WellFormed.{BirthsAscend}
 use Rattle.tree_laws.proofs.Nodes.{ascend_with, ascend_without}
@@ -212,6 +213,17 @@ read_ascends t (op.Read path off len) (reply.Shown bytes) births = shown_ascends
 read_ascends t (op.Read path off len) _ births = births
 read_ascends t _ r births = births
 
+step_births : (t : FileTree) (s : Step) (b m : ℕ) → BirthsAscend t → BirthsAscend (perform_step t s b m).tree
+step_births t (Goes o) b m births = births_apply t o b m births
+step_births t (Stops r) b m births = births
+
+pub births_perform : (t : FileTree) (o : Op) (b m : ℕ) → BirthsAscend t → BirthsAscend (perform t o b m).tree
+births_perform t o b m births = step_births t (resolved t o).step b m births
+
+step_ascends : (t : FileTree) (s : Step) (r : Reply) → BirthsAscend t → BirthsAscend (after_step t s r)
+step_ascends t (Goes o) r births = read_ascends t o r births
+step_ascends t (Stops q) r births = births
+
 doubt_ascends : (t : FileTree) (o : Option (ℕ × (List Cell × ℕ))) (from count : ℕ) → BirthsAscend t → BirthsAscend (doubted_file t o from count)
 doubt_ascends t None from count births = births
 doubt_ascends t (Some f) from count births = ascend_with t f.0 (File (doubted_cells f.1.0 from count) f.1.1) births
@@ -224,9 +236,9 @@ pub births_after : (t : FileTree) (s : Settled) → BirthsAscend t → BirthsAsc
 births_after t (InDoubt runs) births = doubted_ascends t runs births
 births_after t (Stays e) births = go (leaves_tree e.op e.reply) (is_answer t e)
   where
-    go : (l a : Bool) → BirthsAscend (cond l t (cond a (after_read (applied t e).tree e.op e.reply) t))
+    go : (l a : Bool) → BirthsAscend (cond l t (cond a (after_step (applied t e).tree (resolved t e.op).step e.reply) t))
     go true a = births
-    go false true = read_ascends (applied t e).tree e.op e.reply (births_apply t e.op e.number.0 (told_blocks t e.reply) births)
+    go false true = step_ascends (applied t e).tree (resolved t e.op).step e.reply (births_perform t e.op e.number.0 (told_blocks t e.reply) births)
     go false false = births
 
 pub births_after_all : (t : FileTree) (list : List Settled) → BirthsAscend t → BirthsAscend (after_all t list)
@@ -243,6 +255,17 @@ read_segments t (op.Read path off len) (reply.Shown bytes) = shown_segments t (f
 read_segments t (op.Read path off len) _ = refl
 read_segments t _ r = refl
 
+step_segments : (t : FileTree) (s : Step) (b m : ℕ) → BirthsAscend t → (perform_step t s b m).tree.segments ≡ t.segments
+step_segments t (Goes o) b m births = segments_apply t o b m births
+step_segments t (Stops r) b m births = refl
+
+pub segments_perform : (t : FileTree) (o : Op) (b m : ℕ) → BirthsAscend t → (perform t o b m).tree.segments ≡ t.segments
+segments_perform t o b m births = step_segments t (resolved t o).step b m births
+
+read_step_segments : (t : FileTree) (s : Step) (r : Reply) → (after_step t s r).segments ≡ t.segments
+read_step_segments t (Goes o) r = read_segments t o r
+read_step_segments t (Stops q) r = refl
+
 doubt_segments : (t : FileTree) (o : Option (ℕ × (List Cell × ℕ))) (from count : ℕ) → (doubted_file t o from count).segments ≡ t.segments
 doubt_segments t None from count = refl
 doubt_segments t (Some f) from count = refl
@@ -255,7 +278,7 @@ pub segments_after : (t : FileTree) (s : Settled) → BirthsAscend t → (after 
 segments_after t (InDoubt runs) births = doubted_segments t runs
 segments_after t (Stays e) births = go (leaves_tree e.op e.reply) (is_answer t e)
   where
-    go : (l a : Bool) → (cond l t (cond a (after_read (applied t e).tree e.op e.reply) t)).segments ≡ t.segments
+    go : (l a : Bool) → (cond l t (cond a (after_step (applied t e).tree (resolved t e.op).step e.reply) t)).segments ≡ t.segments
     go true a = refl
-    go false true = read_segments (applied t e).tree e.op e.reply ∙ segments_apply t e.op e.number.0 (told_blocks t e.reply) births
+    go false true = read_step_segments (applied t e).tree (resolved t e.op).step e.reply ∙ segments_perform t e.op e.number.0 (told_blocks t e.reply) births
     go false false = refl

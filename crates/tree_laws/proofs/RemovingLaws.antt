@@ -19,7 +19,8 @@ use Rattle.tree_definitions.specs.declared.node.Node.TheVariants.{Dir, File, Lin
 use Rattle.tree_definitions.specs.Tree.{FileTree, node_at, with_node, count_of, dir_blocks}
 use Rattle.tree_definitions.specs.Place.{Place, Root, Taken, Free, Nowhere, place}
 use Rattle.tree_definitions.specs.Apply.{Plain, Shows, Applied, says, apply, at_file, if_file, shown, overwritten, is_path_op}
-use Rattle.tree_definitions.specs.History.{applied, is_answer, agrees, told_blocks, may_tell, leaves_tree, fits, tree_after, after_read, with_shown, file_at, file_of, Settled, Stays, InDoubt, CellRun, doubted, after, grows, may_stand, legal_from}
+use Rattle.tree_definitions.specs.Perform.{Step, Goes, Stops, resolved, perform_step}
+use Rattle.tree_definitions.specs.History.{applied, is_answer, agrees, told_blocks, may_tell, leaves_tree, fits, tree_after, after_read, after_step, with_shown, file_at, file_of, Settled, Stays, InDoubt, CellRun, doubted, after, grows, may_stand, legal_from}
 use Rattle.tree_definitions.specs.Touched.{touches, changes, changed, births, differs, is_nospace, touched_later, refused_later, other_room, changes_room, is_seen, is_synced, stalled_after}
 use Rattle.tree_definitions.specs.Removal.{begins_removal, left, keeps_known, none_known, recovered, doubtful, is_lost, mounts}
 use Rattle.tree_laws.specs.WellFormed.{IsWellFormed, AreNew, numbers_of}
@@ -41,7 +42,7 @@ use Rattle.tree_laws.proofs.OrderLaws.{segments_after}
 use Rattle.tree_laws.proofs.Alike.{Roomy, answered_two, after_joint}
 use Rattle.tree_laws.proofs.FreshLaws.{walkable}
 use Rattle.tree_laws.proofs.StepsLaws.{file_at_is, after_keeps, are_new_after}
-use Rattle.tree_laws.proofs.KindsLaws.{kinds_agree, apply_keeps_kinds, after_keeps_kinds, kinds_can_be_told}
+use Rattle.tree_laws.proofs.KindsLaws.{kinds_agree, perform_keeps_kinds, after_keeps_kinds, kinds_can_be_told}
 use Rattle.tree_laws.proofs.SettlingLaws.{lost_is_of}
 use Rattle.tree_laws.proofs.HistoryLaws.{legal-push, and-true}
 
@@ -137,6 +138,10 @@ read_sharper t (op.Read path off len) (reply.Shown bytes) n m b told =
 read_sharper t (op.Read path off len) _ n m b told = like_same vague (node_at (apply t (op.Read path off len) n m).tree b)
 read_sharper t o r n m b told = like_same vague (node_at (apply t o n m).tree b)
 
+step_sharper : (t : FileTree) (s : Step) (r : Reply) (n m b : ℕ) → agrees (perform_step t s n m).answer r ≡ true → Like vague (node_at (after_step (perform_step t s n m).tree s r) b) (node_at (perform_step t s n m).tree b)
+step_sharper t (Goes o) r n m b told = read_sharper t o r n m b told
+step_sharper t (Stops q) r n m b told = like_same vague (node_at t b)
+
 sharper_after : (t : FileTree) (e : Entry) (b : ℕ) → changes t e b ≡ false → Like vague (node_at (tree_after t e) b) (node_at t b)
 sharper_after t e b h = go (leaves_tree e.op e.reply) (is_answer t e) refl
   where
@@ -144,13 +149,13 @@ sharper_after t e b h = go (leaves_tree e.op e.reply) (is_answer t e) refl
     unchanged true d i h = h
     unchanged false d i h = absurd (cc)
 
-    go : (l a : Bool) → is_answer t e ≡ a → Like vague (node_at (cond l t (cond a (after_read (applied t e).tree e.op e.reply) t)) b) (node_at t b)
+    go : (l a : Bool) → is_answer t e ≡ a → Like vague (node_at (cond l t (cond a (after_step (applied t e).tree (resolved t e.op).step e.reply) t)) b) (node_at t b)
     go true a i = like_same vague (node_at t b)
     go false false i = like_same vague (node_at t b)
     go false true i =
         let same : node_at t b ≡ node_at (applied t e).tree b = alike_at t (applied t e).tree b (unchanged (is_answer t e) (differs t (applied t e).tree b) i h) in
-        subst (Like vague (node_at (after_read (applied t e).tree e.op e.reply) b)) (sym same)
-        (read_sharper t e.op e.reply e.number.0 (told_blocks t e.reply) b (and_parts (is_path_op e.op) (agrees (applied t e).answer e.reply) i).1)
+        subst (Like vague (node_at (after_step (applied t e).tree (resolved t e.op).step e.reply) b)) (sym same)
+        (step_sharper t (resolved t e.op).step e.reply e.number.0 (told_blocks t e.reply) b (and_parts (is_path_op e.op) (agrees (applied t e).answer e.reply) i).1)
 
 -- ---- tests along a list
 not_in_left : (b : ℕ) (xs ys : List ℕ) → is_in b (xs ++ ys) ≡ false → is_in b xs ≡ false
@@ -269,16 +274,16 @@ module _ (server : ℕ) (kinds : ℕ → Kind) where
     removed_room h b = go (changes t e b) refl
       where
         kinds_new : HasKinds kinds (applied t e).tree
-        kinds_new = apply_keeps_kinds kinds t e.op e.number.0 (told_blocks t e.reply) a.well_t a.new_t.absent.0 a.kinds_t a.told.0
+        kinds_new = perform_keeps_kinds kinds t e.op e.number.0 (told_blocks t e.reply) a.well_t a.new_t.absent.0 a.kinds_t a.told.0
 
         acted : other_room (node_at t b) (node_at (applied t e).tree b) ≡ false → room_of (node_at (applied t e).tree b) ≡ room_of (node_at t b)
         acted h = sym (room_stays (node_at t b) (node_at (applied t e).tree b) (kinds_agree kinds t (applied t e).tree a.kinds_t kinds_new b) h)
 
-        by_steps : (l c : Bool) → is_answer t e ≡ c → room_of (node_at (applied t e).tree b) ≡ room_of (node_at t b) → room_of (node_at (cond l t (cond c (after_read (applied t e).tree e.op e.reply) t)) b) ≡ room_of (node_at t b)
+        by_steps : (l c : Bool) → is_answer t e ≡ c → room_of (node_at (applied t e).tree b) ≡ room_of (node_at t b) → room_of (node_at (cond l t (cond c (after_step (applied t e).tree (resolved t e.op).step e.reply) t)) b) ≡ room_of (node_at t b)
         by_steps true c i r = refl
         by_steps false false i r = refl
-        by_steps false true i r = like_room (node_at (after_read (applied t e).tree e.op e.reply) b) (node_at (applied t e).tree b)
-            (read_sharper t e.op e.reply e.number.0 (told_blocks t e.reply) b (and_parts (is_path_op e.op) (agrees (applied t e).answer e.reply) i).1) ∙ r
+        by_steps false true i r = like_room (node_at (after_step (applied t e).tree (resolved t e.op).step e.reply) b) (node_at (applied t e).tree b)
+            (step_sharper t (resolved t e.op).step e.reply e.number.0 (told_blocks t e.reply) b (and_parts (is_path_op e.op) (agrees (applied t e).answer e.reply) i).1) ∙ r
 
         go : (c : Bool) → changes t e b ≡ c → room_of (node_at (tree_after t e) b) ≡ room_of (node_at t b)
         go false i = like_room (node_at (tree_after t e) b) (node_at t b) (sharper_after t e b i)
@@ -353,7 +358,7 @@ module _ (server : ℕ) (kinds : ℕ → Kind) where
     -- one that leaves the tree
     kept_still : (more : ℕ) → leaves_tree e.op e.reply ≡ true → Kept more
     kept_still more i =
-        let still = λ (z : FileTree). ap (λ l. cond l z (cond (is_answer z e) (after_read (applied z e).tree e.op e.reply) z)) i in
+        let still = λ (z : FileTree). ap (λ l. cond l z (cond (is_answer z e) (after_step (applied z e).tree (resolved z e.op).step e.reply) z)) i in
         record {
           fits_on = ap (λ l. (is_answer u e && may_tell u more e.reply) || l) i ∙ true_last (is_answer u e && may_tell u more e.reply);
           near_on = λ b h. subst (λ z. Near vague z (tree_after u e) b) (sym (still t)) (subst (λ z. Near vague t z b) (sym (still u)) (a.near b h));

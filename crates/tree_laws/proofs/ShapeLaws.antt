@@ -17,12 +17,14 @@ use Rattle.tree_definitions.specs.Entries.{Entries}
 use Rattle.tree_definitions.specs.Tree.{FileTree, node_at, dir_blocks}
 use Rattle.tree_definitions.specs.Place.{Place, Root, Taken, Free, Nowhere, place}
 use Rattle.tree_definitions.specs.Apply.{Applied, Plain, Shows, says, apply, at_file, if_file, shown, overwritten, is_path_op}
-use Rattle.tree_definitions.specs.History.{applied, is_answer, agrees, cells_show, cell_shows, told_blocks, leaves_tree, tree_after, after_read, with_shown, file_at, file_of}
-use Rattle.tree_definitions.specs.Touched.{touches, changes, differs, node_shape, shape_of, looked_in, further}
+use Rattle.tree_definitions.specs.Perform.{Step, Goes, Stops, resolved, perform_step}
+use Rattle.tree_definitions.specs.History.{applied, is_answer, agrees, cells_show, cell_shows, told_blocks, leaves_tree, tree_after, after_read, after_step, with_shown, file_at, file_of}
+use Rattle.tree_definitions.specs.Touched.{touches, changes, differs, node_shape, shape_of, visited}
 use Rattle.tree_laws.specs.Refusals.{is_look}
 use Rattle.tree_laws.specs.WellFormed.{IsWellFormed, IsNew, BirthsAscend}
 use Rattle.tree_laws.proofs.Pairs.{birth_exact, seen_kept}
 use Rattle.tree_laws.proofs.Refusals.{looks_leave}
+use Rattle.tree_laws.proofs.Resolving.{IsOf, Looks, resolved_looks, performed_looks_leave}
 use Rattle.tree_laws.proofs.Sameness.{no_difference}
 use Rattle.tree_laws.proofs.Balance.{Limits, Within}
 use Rattle.tree_laws.proofs.WellFormedLaws.{Makes, apply_well}
@@ -59,10 +61,10 @@ and_false false b h = refl
 
 pub looks_change_nothing : (t : FileTree) (e : Entry) (b : ℕ) → is_look e.op ≡ true → changes t e b ≡ false
 looks_change_nothing t e b h = and_false (is_answer t e) (differs t (applied t e).tree b)
-    (no_difference t (applied t e).tree b (ap (λ u. node_at u b) (sym (looks_leave t e.op e.number.0 (told_blocks t e.reply) h))))
+    (no_difference t (applied t e).tree b (ap (λ u. node_at u b) (sym (performed_looks_leave t e.op e.number.0 (told_blocks t e.reply) h))))
 
 pub no_path_touches_nothing : (t : FileTree) (e : Entry) (b : ℕ) → is_path_op e.op ≡ false → touches t e b ≡ false
-no_path_touches_nothing t e b h = ap (λ a. a && agrees (applied t e).answer e.reply && (changes t e b || list_any (λ c. c == b) (looked_in t e.op ++ further t e.op e.reply))) h
+no_path_touches_nothing t e b h = ap (λ a. a && agrees (applied t e).answer e.reply && (changes t e b || list_any (λ c. c == b) ((resolved t e.op).trail ++ visited t (resolved t e.op).step e.reply))) h
 
 -- ---- the shape
 pub doubt_alike : (xs ys : List Cell) → length xs ≡ length ys → map (λ c. Doubtful) xs ≡ map (λ c. Doubtful) ys
@@ -128,10 +130,14 @@ read_shape t (op.Readlink path) r b m births h told = ap shape_of (looks_leave t
 read_shape t (op.Time path) r b m births h told = ap shape_of (looks_leave t (op.Time path) b m refl)
 read_shape t _ r b m births h told = absurd (cc)
 
+step_shape : (t : FileTree) (s : Step) (r : Reply) (b m : ℕ) → BirthsAscend t → IsOf Looks s → agrees (perform_step t s b m).answer r ≡ true → shape_of (after_step (perform_step t s b m).tree s r) ≡ shape_of t
+step_shape t (Goes o) r b m births h told = read_shape t o r b m births h told
+step_shape t (Stops q) r b m births h told = refl
+
 pub looks_leave_the_shape : (t : FileTree) (e : Entry) → BirthsAscend t → is_look e.op ≡ true → shape_of (tree_after t e) ≡ shape_of t
 looks_leave_the_shape t e births h = go (leaves_tree e.op e.reply) (is_answer t e) refl
   where
-    go : (l a : Bool) → is_answer t e ≡ a → shape_of (cond l t (cond a (after_read (applied t e).tree e.op e.reply) t)) ≡ shape_of t
+    go : (l a : Bool) → is_answer t e ≡ a → shape_of (cond l t (cond a (after_step (applied t e).tree (resolved t e.op).step e.reply) t)) ≡ shape_of t
     go true a i = refl
     go false false i = refl
-    go false true i = read_shape t e.op e.reply e.number.0 (told_blocks t e.reply) births h (and_parts (is_path_op e.op) (agrees (applied t e).answer e.reply) i).1
+    go false true i = step_shape t (resolved t e.op).step e.reply e.number.0 (told_blocks t e.reply) births (resolved_looks t e.op h) (and_parts (is_path_op e.op) (agrees (applied t e).answer e.reply) i).1

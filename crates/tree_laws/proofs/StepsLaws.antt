@@ -15,10 +15,12 @@ use Rattle.tree_definitions.specs.declared.node.Node.TheVariants.{Dir, File, Lin
 use Rattle.tree_definitions.specs.Tree.{FileTree, node_at}
 use Rattle.tree_definitions.specs.Place.{Place, Root, Taken, Free, Nowhere, place}
 use Rattle.tree_definitions.specs.Apply.{apply, overwritten}
-use Rattle.tree_definitions.specs.History.{applied, is_answer, told_blocks, leaves_tree, tree_after, after_read, with_shown, file_at, file_of, CellRun, Settled, Stays, InDoubt, doubted, doubted_file, doubted_cells, after, after_all}
+use Rattle.tree_definitions.specs.Perform.{Step, Goes, Stops, resolved, perform, perform_step}
+use Rattle.tree_definitions.specs.History.{applied, is_answer, told_blocks, leaves_tree, tree_after, after_read, after_step, with_shown, file_at, file_of, CellRun, Settled, Stays, InDoubt, doubted, doubted_file, doubted_cells, after, after_all}
 use Rattle.tree_laws.specs.WellFormed.{IsWellFormed, IsNew, numbers_of, AreNew}
 use Rattle.tree_laws.proofs.Balance.{Limits, Within, Well, AreAllowed}
 use Rattle.tree_laws.proofs.WellFormedLaws.{Makes, apply_well, recelled_well}
+use Rattle.tree_laws.proofs.Resolving.{IsOf, Shaped, resolved_is}
 
 -- the file of a place is a file of the tree
 file_of_is : (t : FileTree) (b : ℕ) (o : Option Node) (f : ℕ × (List Cell × ℕ)) → node_at t b ≡ o → file_of b o ≡ Some f → node_at t f.0 ≡ Some (File f.1.0 f.1.1)
@@ -33,7 +35,39 @@ file_at_is t (Taken dir es n name b) f h = file_of_is t b (node_at t b) f refl h
 file_at_is t (Free dir es n name) f h = cc
 file_at_is t (Nowhere r) f h = cc
 
+-- what an operation may make, it may whatever its paths are
+makes_shaped : (A : Limits) (o : Op) (b : ℕ) → Makes A o b → Shaped (λ q. Makes A q b) o
+makes_shaped A (op.Create path) b h = λ p. h
+makes_shaped A (op.Mkdir path) b h = λ p. h
+makes_shaped A (op.Symlink path target) b h = λ p. h
+makes_shaped A (op.Link path to) b h = λ p q. tt
+makes_shaped A (op.Unlink path) b h = λ p. tt
+makes_shaped A (op.Rmdir path) b h = λ p. tt
+makes_shaped A (op.Rename path to) b h = λ p q. tt
+makes_shaped A (op.Write path off bytes) b h = λ p. tt
+makes_shaped A (op.Fill path off len byte) b h = λ p. tt
+makes_shaped A (op.Truncate path len) b h = λ p. tt
+makes_shaped A (op.Read path off len) b h = λ p. tt
+makes_shaped A (op.Stat path) b h = λ p. tt
+makes_shaped A (op.List path) b h = λ p. tt
+makes_shaped A (op.Readlink path) b h = λ p. tt
+makes_shaped A (op.Time path) b h = λ p. tt
+makes_shaped A op.Sync b h = tt
+makes_shaped A op.Mount b h = tt
+makes_shaped A op.Unmount b h = tt
+makes_shaped A op.Crash b h = tt
+makes_shaped A (op.CrashAt k) b h = tt
+makes_shaped A (op.CutAt k) b h = tt
+makes_shaped A op.Stall b h = tt
+
 module _ (A : Limits) where
+  step_well : (t : FileTree) → Well A t → (s : Step) (b m : ℕ) → IsNew t b → IsOf (λ q. Makes A q b) s → Well A (perform_step t s b m).tree
+  step_well t w (Goes o) b m new may = apply_well A t w o b m new may
+  step_well t w (Stops r) b m new may = w
+
+  pub perform_well : (t : FileTree) → Well A t → (o : Op) (b m : ℕ) → IsNew t b → Makes A o b → Well A (perform t o b m).tree
+  perform_well t w o b m new may = step_well t w (resolved t o).step b m new (resolved_is (λ q. Makes A q b) t o (makes_shaped A o b may))
+
   shown_well : (t : FileTree) → Well A t → (o : Option (ℕ × (List Cell × ℕ))) → ((f : ℕ × (List Cell × ℕ)) → o ≡ Some f → node_at t f.0 ≡ Some (File f.1.0 f.1.1)) → (off : ℕ) (bytes : List ℕ) → Well A (with_shown t o off bytes)
   shown_well t w None is off bytes = w
   shown_well t w (Some f) is off bytes = recelled_well A t w f.0 f.1.0 (overwritten f.1.0 off (map Byte bytes)) f.1.1 (is f refl)
@@ -43,12 +77,16 @@ module _ (A : Limits) where
   read_well t w (op.Read path off len) _ = w
   read_well t w _ r = w
 
+  read_step_well : (t : FileTree) → Well A t → (s : Step) (r : Reply) → Well A (after_step t s r)
+  read_step_well t w (Goes o) r = read_well t w o r
+  read_step_well t w (Stops q) r = w
+
   pub tree_after_well : (t : FileTree) (e : Entry) → Well A t → IsNew t e.number.0 → Makes A e.op e.number.0 → Well A (tree_after t e)
   tree_after_well t e w new may = go (leaves_tree e.op e.reply) (is_answer t e)
     where
-      go : (l a : Bool) → Well A (cond l t (cond a (after_read (applied t e).tree e.op e.reply) t))
+      go : (l a : Bool) → Well A (cond l t (cond a (after_step (applied t e).tree (resolved t e.op).step e.reply) t))
       go true a = w
-      go false true = read_well (applied t e).tree (apply_well A t w e.op e.number.0 (told_blocks t e.reply) new may) e.op e.reply
+      go false true = read_step_well (applied t e).tree (perform_well t w e.op e.number.0 (told_blocks t e.reply) new may) (resolved t e.op).step e.reply
       go false false = w
 
   doubted_file_well : (t : FileTree) → Well A t → (o : Option (ℕ × (List Cell × ℕ))) → ((f : ℕ × (List Cell × ℕ)) → o ≡ Some f → node_at t f.0 ≡ Some (File f.1.0 f.1.1)) → (from count : ℕ) → Well A (doubted_file t o from count)
@@ -80,6 +118,9 @@ makes_any _ b = tt
 
 pub apply_keeps : (t : FileTree) (o : Op) (b m : ℕ) → IsWellFormed t → IsNew t b → IsWellFormed (apply t o b m).tree
 apply_keeps t o b m w new = (apply_well anything t (well_any t w) o b m new (makes_any o b)).well
+
+pub perform_keeps : (t : FileTree) (o : Op) (b m : ℕ) → IsWellFormed t → IsNew t b → IsWellFormed (perform t o b m).tree
+perform_keeps t o b m w new = (perform_well anything t (well_any t w) o b m new (makes_any o b)).well
 
 pub tree_after_keeps : (t : FileTree) (e : Entry) → IsWellFormed t → IsNew t e.number.0 → IsWellFormed (tree_after t e)
 tree_after_keeps t e w new = (tree_after_well anything t e (well_any t w) new (makes_any e.op e.number.0)).well

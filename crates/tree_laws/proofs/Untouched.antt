@@ -12,19 +12,20 @@ use Rattle.tree_definitions.specs.declared.node.Node.TheVariants.{Dir, File, Lin
 use Rattle.tree_definitions.specs.Tree.{FileTree, node_at}
 use Rattle.tree_definitions.specs.Place.{Place, Root, Taken, Free, Nowhere, place}
 use Rattle.tree_definitions.specs.Apply.{apply, overwritten}
-use Rattle.tree_definitions.specs.History.{applied, is_answer, told_blocks, leaves_tree, tree_after, after_read, with_shown, file_at, file_of}
-use Rattle.tree_definitions.specs.Touched.{touches, changes, differs, looked_in, further, reached, reached_if, file_node}
+use Rattle.tree_definitions.specs.Perform.{Step, Goes, Stops, resolved, perform_step}
+use Rattle.tree_definitions.specs.History.{applied, is_answer, told_blocks, leaves_tree, tree_after, after_read, after_step, with_shown, file_at, file_of}
+use Rattle.tree_definitions.specs.Touched.{touches, changes, differs, looked_in, further, visited, reached, reached_if, file_node}
 use Rattle.tree_laws.proofs.Nodes.{with_other}
 use Rattle.tree_laws.proofs.Sameness.{alike_at}
 use Rattle.tree_laws.proofs.Places.{is_in, head_is_in}
 use Rattle.tree_laws.proofs.Refusals.{looks_leave}
 use Rattle.tree_laws.proofs.Applying.{in_right}
 
--- what an entry looks in, and the further node, are touched
-pub looked_is_touched : (tree : FileTree) (e : Entry) (b : ℕ) → is_answer tree e ≡ true → is_in b (looked_in tree e.op ++ further tree e.op e.reply) ≡ true → touches tree e b ≡ true
+-- what an entry's walks go through, what it looks in, and the further node, are touched
+pub looked_is_touched : (tree : FileTree) (e : Entry) (b : ℕ) → is_answer tree e ≡ true → is_in b ((resolved tree e.op).trail ++ visited tree (resolved tree e.op).step e.reply) ≡ true → touches tree e b ≡ true
 looked_is_touched tree e b answered h = go (is_answer tree e) (changes tree e b) answered
   where
-    go : (a c : Bool) → a ≡ true → a && (c || is_in b (looked_in tree e.op ++ further tree e.op e.reply)) ≡ true
+    go : (a c : Bool) → a ≡ true → a && (c || is_in b ((resolved tree e.op).trail ++ visited tree (resolved tree e.op).step e.reply)) ≡ true
     go true true i = refl
     go true false i = h
     go false c i = cc
@@ -32,8 +33,8 @@ looked_is_touched tree e b answered h = go (is_answer tree e) (changes tree e b)
 pub changed_is_touched : (tree : FileTree) (e : Entry) (b : ℕ) → is_answer tree e ≡ true → differs tree (applied tree e).tree b ≡ true → touches tree e b ≡ true
 changed_is_touched tree e b answered h = go (is_answer tree e) answered
   where
-    go : (a : Bool) → a ≡ true → a && (a && differs tree (applied tree e).tree b || is_in b (looked_in tree e.op ++ further tree e.op e.reply)) ≡ true
-    go true i = ap (λ d. d || is_in b (looked_in tree e.op ++ further tree e.op e.reply)) h
+    go : (a : Bool) → a ≡ true → a && (a && differs tree (applied tree e).tree b || is_in b ((resolved tree e.op).trail ++ visited tree (resolved tree e.op).step e.reply)) ≡ true
+    go true i = ap (λ d. d || is_in b ((resolved tree e.op).trail ++ visited tree (resolved tree e.op).step e.reply)) h
     go false i = cc
 
 -- an untouched node isn't changed, nor looked in, nor the further one
@@ -43,7 +44,7 @@ untouched_parts true false l i h = (refl, h)
 untouched_parts false d l i h = absurd (cc)
 
 pub untouched_is_left : (tree : FileTree) (e : Entry) (b : ℕ) → is_answer tree e ≡ true → touches tree e b ≡ false → node_at (applied tree e).tree b ≡ node_at tree b
-untouched_is_left tree e b answered h = sym (alike_at tree (applied tree e).tree b (untouched_parts (is_answer tree e) (differs tree (applied tree e).tree b) (is_in b (looked_in tree e.op ++ further tree e.op e.reply)) answered h).0)
+untouched_is_left tree e b answered h = sym (alike_at tree (applied tree e).tree b (untouched_parts (is_answer tree e) (differs tree (applied tree e).tree b) (is_in b ((resolved tree e.op).trail ++ visited tree (resolved tree e.op).step e.reply)) answered h).0)
 
 -- the file that a read shows
 file_reached : (b : ℕ) (o : Option Node) (f : ℕ × (List Cell × ℕ)) → file_of b o ≡ Some f → is_in f.0 (reached_if file_node b o) ≡ true
@@ -78,12 +79,16 @@ not_in_right b xs ys h = go (is_in b ys) refl
     go true e = let w : is_in b (xs ++ ys) ≡ true = in_right b xs ys e in cc
     go false e = e
 
+step_leaves : (tree : FileTree) (s : Step) (r : Reply) (b birth m : ℕ) → is_in b (visited tree s r) ≡ false → node_at (after_step (perform_step tree s birth m).tree s r) b ≡ node_at (perform_step tree s birth m).tree b
+step_leaves tree (Goes o) r b birth m h = read_leaves tree o r b birth m (not_in_right b (looked_in tree o) (further tree o r) h)
+step_leaves tree (Stops q) r b birth m h = refl
+
 pub untouched_stays : (tree : FileTree) (e : Entry) (b : ℕ) → touches tree e b ≡ false → node_at (tree_after tree e) b ≡ node_at tree b
 untouched_stays tree e b h = go (leaves_tree e.op e.reply) (is_answer tree e) refl
   where
-    go : (l a : Bool) → is_answer tree e ≡ a → node_at (cond l tree (cond a (after_read (applied tree e).tree e.op e.reply) tree)) b ≡ node_at tree b
+    go : (l a : Bool) → is_answer tree e ≡ a → node_at (cond l tree (cond a (after_step (applied tree e).tree (resolved tree e.op).step e.reply) tree)) b ≡ node_at tree b
     go true a i = refl
     go false false i = refl
     go false true i =
-        let p = untouched_parts (is_answer tree e) (differs tree (applied tree e).tree b) (is_in b (looked_in tree e.op ++ further tree e.op e.reply)) i h in
-        read_leaves tree e.op e.reply b e.number.0 (told_blocks tree e.reply) (not_in_right b (looked_in tree e.op) (further tree e.op e.reply) p.1) ∙ untouched_is_left tree e b i h
+        let p = untouched_parts (is_answer tree e) (differs tree (applied tree e).tree b) (is_in b ((resolved tree e.op).trail ++ visited tree (resolved tree e.op).step e.reply)) i h in
+        step_leaves tree (resolved tree e.op).step e.reply b e.number.0 (told_blocks tree e.reply) (not_in_right b (resolved tree e.op).trail (visited tree (resolved tree e.op).step e.reply) p.1) ∙ untouched_is_left tree e b i h

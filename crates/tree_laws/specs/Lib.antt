@@ -1,10 +1,12 @@
 pub mod Refusals
+pub mod Following
 pub mod Histories
 pub mod Prefixes
 pub mod WellFormed
 pub mod Touching
 pub mod Kinds
 pub mod Settling
+pub mod Doubts
 pub mod Counts
 pub mod Removing
 pub mod Whole

@@ -4,6 +4,7 @@ use Rattle.frang_base.specs.declared.op.Op.{Op}
 use Rattle.frang_base.specs.declared.op.Op.TheVariants as op
 use Rattle.tree_definitions.specs.Tree.{FileTree}
 use Rattle.tree_definitions.specs.Apply.{Answer, Plain, Shows, apply}
+use Rattle.tree_definitions.specs.Perform.{perform}
 use Rattle.tree_definitions.specs.Touched.{is_ok}
 
 -- an answer is `ok`
@@ -27,3 +28,11 @@ RefusalsLeaveTheTree = (tree : FileTree) (op : Op) (birth m : ℕ) → says_ok (
 -- a look leaves the tree, whatever it is answered
 abbrev pub LooksLeaveTheTree : Type 0
 LooksLeaveTheTree = (tree : FileTree) (op : Op) (birth m : ℕ) → is_look op ≡ true → (apply tree op birth m).tree ≡ tree
+
+-- an answer other than `ok` leaves the tree, where links are followed too
+abbrev pub PerformedRefusalsLeaveTheTree : Type 0
+PerformedRefusalsLeaveTheTree = (tree : FileTree) (op : Op) (birth m : ℕ) → says_ok (perform tree op birth m).answer ≡ false → (perform tree op birth m).tree ≡ tree
+
+-- and so does a look
+abbrev pub PerformedLooksLeaveTheTree : Type 0
+PerformedLooksLeaveTheTree = (tree : FileTree) (op : Op) (birth m : ℕ) → is_look op ≡ true → (perform tree op birth m).tree ≡ tree

@@ -12,6 +12,7 @@ use Rattle.tree_definitions.specs.declared.node.Node.TheVariants.{Dir, File, Lin
 use Rattle.tree_definitions.specs.Entries.{Entries, entry_at}
 use Rattle.tree_definitions.specs.Tree.{FileTree, fresh, node_at, with_node, without_node, count_of}
 use Rattle.tree_definitions.specs.Apply.{apply, is_dir, links_of}
+use Rattle.tree_definitions.specs.Perform.{perform}
 use Rattle.tree_definitions.specs.History.{Settled, Stays, InDoubt, after, after_all, tree_after}
 
 -- at this birth this node, or none, and elsewhere the nodes as they are
@@ -103,6 +104,10 @@ FreshIsWellFormed = (segments : ℕ) → IsWellFormed (fresh segments)
 -- an operation at a new birth leaves a well-formed tree so
 abbrev pub ApplyKeepsWellFormed : Type 0
 ApplyKeepsWellFormed = (tree : FileTree) (op : Op) (birth m : ℕ) → IsWellFormed tree → IsNew tree birth → IsWellFormed (apply tree op birth m).tree
+
+-- and so does one whose paths lead through links
+abbrev pub PerformKeepsWellFormed : Type 0
+PerformKeepsWellFormed = (tree : FileTree) (op : Op) (birth m : ℕ) → IsWellFormed tree → IsNew tree birth → IsWellFormed (perform tree op birth m).tree
 
 -- the steps of a list with new numbers leave a well-formed tree so
 abbrev pub StepsKeepWellFormed : Type 0

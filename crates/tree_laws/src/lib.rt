@@ -6,18 +6,29 @@
 ghost use Rattle.tree_laws.specs.Histories.{EntrySettles, RecoverySettles, EntryActs, EntryIsLegal, EntryKeeps, RecoveryKeeps, StepsFollow, LegalByParts};
 ghost use Rattle.tree_laws.specs.Prefixes.{PrefixesAreTranscripts, EachMayBeSaid, GoesOnByALine, LineAdds};
 ghost use Rattle.tree_laws.specs.Kinds.{ToldKindsAgree, ApplyKeepsKinds, StepsKeepKinds, KindsCanBeTold};
-ghost use Rattle.tree_laws.specs.WellFormed.{FindsWhatWasPut, MissesWhatWasTaken, ApplyKeepsOrder, StepsKeepOrder, FreshIsWellFormed, ApplyKeepsWellFormed, StepKeepsWellFormed, StepsKeepWellFormed, LaterNumbersStayNew, NodesComeByNumbers, WellFormedIsWalkable};
+ghost use Rattle.tree_laws.specs.WellFormed.{FindsWhatWasPut, MissesWhatWasTaken, ApplyKeepsOrder, StepsKeepOrder, FreshIsWellFormed, ApplyKeepsWellFormed, PerformKeepsWellFormed, StepKeepsWellFormed, StepsKeepWellFormed, LaterNumbersStayNew, NodesComeByNumbers, WellFormedIsWalkable};
 ghost use Rattle.tree_laws.specs.Settling.{SettledIsOfHistory, SettlesToItself, RecoveryRemovesASuffix, LostIsOfTheServer};
+ghost use Rattle.tree_laws.specs.Doubts.{DoubtHasALastWrite, ALastWriteLeavesDoubt};
 ghost use Rattle.tree_laws.specs.Counts.{MakesOneNode, FreesAtMostOneNode, KeepsTheNodes, BlocksNeverFall, LooksChangeNothing, LooksLeaveTheShape, NoPathTouchesNothing};
 ghost use Rattle.tree_laws.specs.Removing.{UnseenCanGo, RecoveryLeavesLegal};
 ghost use Rattle.tree_laws.specs.Whole.{SettledNumbersAreNew, HistoriesStayWellFormed, RecoveryIsLegal, LegalIsOfWhatIsLeft};
 ghost use Rattle.tree_laws.specs.Touching.{GoesByWhatItTouches, GoesAlikeInSameRoom, UntouchedStays};
-ghost use Rattle.tree_laws.specs.Refusals.{RefusalsLeaveTheTree, LooksLeaveTheTree};
+ghost use Rattle.tree_laws.specs.Refusals.{RefusalsLeaveTheTree, LooksLeaveTheTree, PerformedRefusalsLeaveTheTree, PerformedLooksLeaveTheTree};
+ghost use Rattle.tree_laws.specs.Following.{WalksFindWhatIsThere, WalksGoByTheirTrail};
 
-/// An answer other than `ok` leaves the tree, and a look leaves it whatever it is answered.
+/// An answer other than `ok` leaves the tree, and a look leaves it whatever it is answered; so too where links are followed.
 pub fn a_refusal_leaves_the_tree()
     ensures refusals { RefusalsLeaveTheTree }
     ensures looks { LooksLeaveTheTree }
+    ensures performed { PerformedRefusalsLeaveTheTree }
+    ensures performed_looks { PerformedLooksLeaveTheTree }
+{}
+
+/// A walk through links finds what is there, and an operation comes to the same in every tree that agrees on the directories and links
+/// that its walks went through, where nodes of one birth are of one kind.
+pub fn links_lead_to_what_is_there()
+    ensures found { WalksFindWhatIsThere }
+    ensures trail { WalksGoByTheirTrail }
 {}
 
 /// Births that ascend go on ascending, so that no two nodes have the same, and a node is found where it was put and nowhere else.
@@ -33,6 +44,7 @@ pub fn births_stay_distinct()
 pub fn trees_stay_well_formed()
     ensures fresh { FreshIsWellFormed }
     ensures apply { ApplyKeepsWellFormed }
+    ensures perform { PerformKeepsWellFormed }
     ensures step { StepKeepsWellFormed }
     ensures steps { StepsKeepWellFormed }
     ensures numbers { LaterNumbersStayNew }
@@ -94,6 +106,13 @@ pub fn what_is_settled_is_of_the_history()
     ensures whole { SettlesToItself }
     ensures removed { RecoveryRemovesASuffix }
     ensures lost { LostIsOfTheServer }
+{}
+
+/// A sector of a file is in doubt exactly where the last write into it is the server's since its last mount, with no later sync of that server
+/// and no later touch of the file by another.
+pub fn doubt_is_left_by_a_last_write()
+    ensures has { DoubtHasALastWrite }
+    ensures leaves { ALastWriteLeavesDoubt }
 {}
 
 /// What begins a transcript is one, and each line adds to the live history what it says.

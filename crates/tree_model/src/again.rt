@@ -1,15 +1,17 @@
 // Operations done again on the tree that they stand at, and whether they are answered as before.
-ghost use Rattle.std.specs.Prelude.{◌≡◌, Some, None, if◌then◌else◌, IfOk, IsTrue};
+ghost use Rattle.std.specs.Prelude.{◌≡◌, ℕ, true, Some, None, if◌then◌else◌, IfOk, IsTrue};
 ghost use Rattle.tree_definitions.specs.Place.{place};
-ghost use Rattle.tree_definitions.specs.Apply.{at_file, shown};
+ghost use Rattle.tree_definitions.specs.Apply.{apply, at_file, is_path_op, shown};
+ghost use Rattle.tree_definitions.specs.Perform.{perform_step};
 ghost use Rattle.tree_definitions.specs.History.{agrees, applied, is_answer, shows, told_blocks};
 ghost use Rattle.file_tree.specs.CanApply.{CanApply};
-ghost use Rattle.tree_model.specs.Replayed.{is_within};
+ghost use Rattle.file_tree.specs.Walks.{step_by};
+ghost use Rattle.tree_model.specs.Replayed.{done_by, is_within, IsPathStep};
 
 use crate::Tree;
 use crate::agree::same_reply;
-use file_tree::cells_show;
-use frang_base::{Name, NoMemory, Op, Reply};
+use file_tree::{Step, cells_show};
+use frang_base::{Name, NoMemory, Op, OpNo, Reply};
 use tree_definitions::{Cell, Entry};
 
 // The number of small blocks that are or were a directory's: the one said, else those of the tree.
@@ -44,32 +46,85 @@ fn reads(tree: &Tree, path: &[Name], off: u32, len: u32, reply: &Reply) -> bool
 // The tree after a read, where its reply is its answer.
 fn read_answered(
     tree: &Tree,
-    entry: &Entry,
     path: &[Name],
     off: u32,
     len: u32,
+    reply: &Reply,
 ) -> Result<Option<Tree>, NoMemory>
-    requires { entry.now.op ≡ Op.Read path.now off len }
-    ensures { IfOk result (λ next. next ≡ (if is_answer tree.now entry.now then Some (applied tree.now entry.now).tree else None)) }
+    ensures { (number m : ℕ) → IfOk result (λ next. next ≡ done_by (apply tree.now (Op.Read path.now off len) number m) reply.now) }
 {
-    if !reads(tree, path, off, len, &entry.reply) {
+    if !reads(tree, path, off, len, reply) {
         return Ok(None);
     }
     Ok(Some(tree.try_copy()?))
 }
 
-/// The tree after an operation that is no read, where its reply is its answer.
-pub fn done_again(tree: &Tree, entry: &Entry) -> Result<Option<Tree>, NoMemory>
-    requires { CanApply tree.now entry.now.op }
-    ensures { IfOk result (λ next. next ≡ (if is_answer tree.now entry.now then Some (applied tree.now entry.now).tree else None)) }
+/// The tree after an operation over paths without links that is no read, where its reply is its answer.
+pub fn done_again(
+    tree: &Tree,
+    op: &Op,
+    number: OpNo,
+    reply: &Reply,
+) -> Result<Option<Tree>, NoMemory>
+    requires { CanApply tree.now op.now }
+    ensures { IfOk result (λ next. next ≡ done_by (apply tree.now op.now number.0 (told_blocks tree.now reply.now)) reply.now) }
 {
-    let m = told_blocks(tree, &entry.reply);
+    let m = told_blocks(tree, reply);
     let mut next = tree.try_copy()?;
-    let reply = next.apply(&entry.op, entry.number, m)?;
-    if !same_reply(&reply, &entry.reply) {
+    let answer = next.apply(op, number, m)?;
+    if !same_reply(&answer, reply) {
         return Ok(None);
     }
     Ok(Some(next))
+}
+
+// The tree after an operation over paths without links, where its reply is its answer.
+fn op_answered(tree: &Tree, op: &Op, number: OpNo, reply: &Reply) -> Result<Option<Tree>, NoMemory>
+    requires has_path { is_path_op op.now ≡ true }
+    requires within { is_within op.now ≡ true }
+    ensures { IfOk result (λ next. next ≡ done_by (apply tree.now op.now number.0 (told_blocks tree.now reply.now)) reply.now) }
+{
+    match op {
+        Op::Read { path, off, len } => read_answered(tree, path.as_slice(), *off, *len, reply),
+        _ => done_again(tree, op, number, reply),
+    }
+}
+
+// The tree after what an operation comes to, where its reply is its answer.
+fn step_answered(
+    tree: &Tree,
+    step: &Step,
+    number: OpNo,
+    reply: &Reply,
+) -> Result<Option<Tree>, NoMemory>
+    requires { IsPathStep (step_by step.now) }
+    ensures { IfOk result (λ next. next ≡ done_by (perform_step tree.now (step_by step.now) number.0 (told_blocks tree.now reply.now)) reply.now) }
+{
+    match step {
+        Step::Goes(op) => op_answered(tree, op, number, reply),
+        Step::Stops(refusal) => {
+            if !same_reply(&refusal.reply(), reply) {
+                return Ok(None);
+            }
+            Ok(Some(tree.try_copy()?))
+        }
+    }
+}
+
+/// Whether an operation has a path.
+pub fn is_path_op(op: &Op) -> bool
+    ensures { result ≡ is_path_op op.now }
+{
+    !matches!(
+        op,
+        Op::Sync
+            | Op::Mount
+            | Op::Unmount
+            | Op::Crash
+            | Op::CrashAt { .. }
+            | Op::CutAt { .. }
+            | Op::Stall
+    )
 }
 
 /// The tree after an entry's operation, where the entry's reply is its answer.
@@ -77,15 +132,9 @@ pub fn answered(tree: &Tree, entry: &Entry) -> Result<Option<Tree>, NoMemory>
     requires { IsTrue (is_within entry.now.op) }
     ensures { IfOk result (λ next. next ≡ (if is_answer tree.now entry.now then Some (applied tree.now entry.now).tree else None)) }
 {
-    match &entry.op {
-        Op::Read { path, off, len } => read_answered(tree, entry, path.as_slice(), *off, *len),
-        Op::Sync
-        | Op::Mount
-        | Op::Unmount
-        | Op::Crash
-        | Op::CrashAt { .. }
-        | Op::CutAt { .. }
-        | Op::Stall => Ok(None),
-        _ => done_again(tree, entry),
+    if !is_path_op(&entry.op) {
+        return Ok(None);
     }
+    let resolved = tree.resolved(&entry.op)?;
+    step_answered(tree, &resolved.step, entry.number, &entry.reply)
 }

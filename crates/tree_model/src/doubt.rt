@@ -3,13 +3,15 @@ ghost use Rattle.std.specs.Prelude.{◌≡◌, IfOk, IsTrue, false};
 ghost use Rattle.tree_definitions.specs.Place.{place};
 ghost use Rattle.tree_definitions.specs.History.{file_at};
 ghost use Rattle.tree_definitions.specs.Touched.{is_ok, is_sync};
-ghost use Rattle.tree_definitions.specs.Removal.{meets, meets_in, size_of, writes, doubtful_after, is_doubtful};
+ghost use Rattle.tree_definitions.specs.Removal.{meets, meets_in, size_of, writes, step_writes, doubtful_after, is_doubtful};
+ghost use Rattle.file_tree.specs.Walks.{step_by};
 ghost use Rattle.tree_model.specs.Replayed.{is_within};
 ghost use Rattle.tree_model.specs.Steps.{entry_of, doubtful_by};
 
 use crate::Tree;
-use crate::steps::{SECTOR_BYTES, Step, any_mounts};
+use crate::steps::{SECTOR_BYTES, Step as Settled, any_mounts};
 use crate::touch::touches;
+use file_tree::Step;
 use frang_base::{Name, NoMemory, Op, Reply, ServerId};
 use tree_definitions::Entry;
 
@@ -82,19 +84,30 @@ fn writes(tree: &Tree, op: &Op, reply: &Reply, sought: &Sought) -> bool
     }
 }
 
+// Whether what an operation comes to, answered so, meets a sector.
+fn step_writes(tree: &Tree, step: &Step, reply: &Reply, sought: &Sought) -> bool
+    ensures { result ≡ step_writes tree.now (step_by step.now) reply.now sought.now.birth sought.now.sector }
+{
+    match step {
+        Step::Goes(op) => writes(tree, op, reply, sought),
+        Step::Stops(_) => false,
+    }
+}
+
 // Whether a sector is in doubt after an entry more, before some further steps.
 fn doubtful_after(
     sought: &Sought,
     before: bool,
     tree: &Tree,
     entry: &Entry,
-    rest: &[Step],
+    rest: &[Settled],
 ) -> Result<bool, NoMemory>
     requires { IsTrue (is_within entry.now.op) }
     ensures { IfOk result (λ it. it ≡ doubtful_after sought.now.server.0 sought.now.birth sought.now.sector before tree.now entry.now rest.now) }
 {
     let own = entry.server.0 == sought.server.0;
-    if writes(tree, &entry.op, &entry.reply, sought) {
+    let resolved = tree.resolved(&entry.op)?;
+    if step_writes(tree, &resolved.step, &entry.reply, sought) {
         return Ok(own && !any_mounts(sought.server, rest));
     }
     if own {
@@ -108,8 +121,8 @@ fn doubtful_by(
     sought: &Sought,
     before: bool,
     tree: &Tree,
-    step: &Step,
-    rest: &[Step],
+    step: &Settled,
+    rest: &[Settled],
 ) -> Result<bool, NoMemory>
     ensures { IfOk result (λ it. it ≡ doubtful_by sought.now.server.0 sought.now.birth sought.now.sector before tree.now (entry_of step.now) rest.now) }
 {
@@ -120,7 +133,7 @@ fn doubtful_by(
 }
 
 /// Whether a sector is in doubt at the end of a list of steps.
-pub fn is_doubtful(sought: &Sought, opening: &Tree, list: &[Step]) -> Result<bool, NoMemory>
+pub fn is_doubtful(sought: &Sought, opening: &Tree, list: &[Settled]) -> Result<bool, NoMemory>
     ensures { IfOk result (λ it. it ≡ is_doubtful sought.now.server.0 sought.now.birth sought.now.sector false opening.now list.now) }
 {
     let mut tree = opening.try_copy()?;

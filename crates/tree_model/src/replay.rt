@@ -1,18 +1,20 @@
 // The tree after an entry.
-ghost use Rattle.std.specs.Prelude.{◌≡◌, OnOk, OnErr, IsTrue};
+ghost use Rattle.std.specs.Prelude.{◌≡◌, true, OnOk, OnErr, IsTrue};
 ghost use Rattle.std.specs.List.{list_all};
 ghost use Rattle.frang_base.specs.Name.{is_target_byte, is_target};
+ghost use Rattle.tree_definitions.specs.Apply.{is_path_op};
+ghost use Rattle.tree_definitions.specs.Perform.{Goes};
 ghost use Rattle.tree_definitions.specs.History.{may_be_ok, leaves_tree, tree_after};
 ghost use Rattle.file_tree.specs.CanApply.{CanApply};
-ghost use Rattle.tree_model.specs.Replayed.{after_reading, after_redo, is_within, item_within, all_within};
+ghost use Rattle.tree_model.specs.Replayed.{after_reading, after_redo, after_step_redo, is_within, item_within, all_within, IsPathStep};
+ghost use Rattle.file_tree.specs.Walks.{step_by};
 
-use crate::again::done_again;
+use crate::again::{done_again, is_path_op};
 use crate::{History, Tree};
-use frang_base::{Name, NoMemory, Op, Reply};
+use file_tree::Step;
+use frang_base::limits::TARGET_BYTES_MAX;
+use frang_base::{Name, NoMemory, Op, OpNo, Reply};
 use tree_definitions::{Entry, Item};
-
-/// Bytes of a symbolic link's target, at most.
-const TARGET_BYTES_MAX: usize = 384;
 
 fn may_be_ok(op: &Op) -> bool
     ensures { result ≡ may_be_ok op.now }
@@ -50,15 +52,38 @@ fn read_again(
     }
 }
 
-// An operation done again; one that is answered otherwise than before leaves the tree.
-fn redo(tree: &mut Tree, entry: &Entry) -> Result<(), NoMemory>
-    requires { CanApply tree.old entry.now.op }
-    ensures ok { OnOk result (tree.new ≡ after_redo tree.old entry.now) }
+// An operation over paths without links, done again; one that is answered otherwise than before leaves the tree.
+fn redo(tree: &mut Tree, op: &Op, number: OpNo, reply: &Reply) -> Result<(), NoMemory>
+    requires { CanApply tree.old op.now }
+    ensures ok { OnOk result (tree.new ≡ after_redo tree.old op.now number.0 reply.now) }
 {
-    if let Some(next) = done_again(tree, entry)? {
+    if let Some(next) = done_again(tree, op, number, reply)? {
         *tree = next;
     }
     Ok(())
+}
+
+// An operation over paths without links, done again, a read too.
+fn redo_op(tree: &mut Tree, op: &Op, number: OpNo, reply: &Reply) -> Result<(), NoMemory>
+    requires has_path { is_path_op op.now ≡ true }
+    requires within { is_within op.now ≡ true }
+    ensures ok { OnOk result (tree.new ≡ after_step_redo tree.old (Goes op.now) number.0 reply.now) }
+{
+    match op {
+        Op::Read { path, off, len } => read_again(tree, path.as_slice(), *off, *len, reply),
+        _ => redo(tree, op, number, reply),
+    }
+}
+
+// What an operation comes to, done again.
+fn redo_step(tree: &mut Tree, step: &Step, number: OpNo, reply: &Reply) -> Result<(), NoMemory>
+    requires { IsPathStep (step_by step.now) }
+    ensures ok { OnOk result (tree.new ≡ after_step_redo tree.old (step_by step.now) number.0 reply.now) }
+{
+    match step {
+        Step::Goes(op) => redo_op(tree, op, number, reply),
+        Step::Stops(_) => Ok(()),
+    }
 }
 
 /// The tree after an entry. One that doesn't fit leaves it.
@@ -66,22 +91,11 @@ pub fn tree_after(tree: &mut Tree, entry: &Entry) -> Result<(), NoMemory>
     requires { IsTrue (is_within entry.now.op) }
     ensures ok { OnOk result (tree.new ≡ tree_after tree.old entry.now) }
 {
-    if leaves_tree(&entry.op, &entry.reply) {
+    if leaves_tree(&entry.op, &entry.reply) || !is_path_op(&entry.op) {
         return Ok(());
     }
-    match &entry.op {
-        Op::Read { path, off, len } => {
-            read_again(tree, path.as_slice(), *off, *len, &entry.reply)
-        }
-        Op::Sync
-        | Op::Mount
-        | Op::Unmount
-        | Op::Crash
-        | Op::CrashAt { .. }
-        | Op::CutAt { .. }
-        | Op::Stall => Ok(()),
-        _ => redo(tree, entry),
-    }
+    let resolved = tree.resolved(&entry.op)?;
+    redo_step(tree, &resolved.step, entry.number, &entry.reply)
 }
 
 fn is_target_byte(byte: u8) -> bool

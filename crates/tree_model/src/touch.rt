@@ -2,7 +2,9 @@
 ghost use Rattle.std.specs.Prelude.{◌≡◌, ◌==◌, ◌++◌, ◌||◌, ℕ, List, IfOk, IsTrue};
 ghost use Rattle.std.specs.List.{list_any};
 ghost use Rattle.tree_definitions.specs.Place.{place, walked};
-ghost use Rattle.tree_definitions.specs.Touched.{reached, looked_in, then_walked, further, differs, touches, changes_shape};
+ghost use Rattle.tree_definitions.specs.Touched.{reached, looked_in, then_walked, further, visited, differs, touches, changes_shape};
+ghost use Rattle.tree_definitions.specs.Perform.{resolved};
+ghost use Rattle.file_tree.specs.Walks.{step_by, resolved_by};
 ghost use Rattle.frang_base.specs.declared.reply.Reply.{Reply as TheReply};
 ghost use Rattle.tree_model.specs.Replayed.{is_within};
 ghost use Rattle.tree_model.specs.Kinds.{is_kind};
@@ -10,6 +12,7 @@ ghost use Rattle.tree_model.specs.Kinds.{is_kind};
 use crate::Tree;
 use crate::again::answered;
 use crate::compare::{differ_in_shape, differs};
+use file_tree::{Resolved, Step};
 use frang_base::{Name, NoMemory, Op, Reply};
 use tree_definitions::{Entry, Node};
 
@@ -171,27 +174,52 @@ fn reaches_further(tree: &Tree, op: &Op, reply: &Reply, birth: u64) -> bool
     }
 }
 
-// Whether an entry looks a name up in the node of a birth, or reaches it last.
-fn visits(tree: &Tree, entry: &Entry, birth: u64) -> bool
-    ensures { result ≡ list_any (λ b. b == birth) (looked_in tree.now entry.now.op ++ further tree.now entry.now.op entry.now.reply) }
+// Whether an operation over paths without links looks a name up in the node of a birth, or reaches it last.
+fn step_visits(tree: &Tree, step: &Step, reply: &Reply, birth: u64) -> bool
+    ensures { result ≡ list_any (λ b. b == birth) (visited tree.now (step_by step.now) reply.now) }
 {
-    looks_in(tree, &entry.op, birth) || reaches_further(tree, &entry.op, &entry.reply, birth)
+    match step {
+        Step::Goes(op) => looks_in(tree, op, birth) || reaches_further(tree, op, reply, birth),
+        Step::Stops(_) => false,
+    }
+}
+
+// Whether births have this one.
+fn has(births: &[u64], birth: u64) -> bool
+    ensures { result ≡ list_any (λ b. b == birth) births.now }
+{
+    births.iter().any(|b| *b == birth)
+}
+
+// Whether the walks of what an operation comes to go through the node of a birth, or that operation visits it.
+fn goes_through(tree: &Tree, resolved: &Resolved, reply: &Reply, birth: u64) -> bool
+    ensures { result ≡ list_any (λ b. b == birth) ((resolved_by resolved.now).trail ++ visited tree.now (resolved_by resolved.now).step reply.now) }
+{
+    has(&resolved.trail, birth) || step_visits(tree, &resolved.step, reply, birth)
+}
+
+// Whether an entry's walks go through the node of a birth, or it looks a name up in it, or reaches it last.
+fn visits(tree: &Tree, entry: &Entry, birth: u64) -> Result<bool, NoMemory>
+    ensures { IfOk result (λ it. it ≡ list_any (λ b. b == birth) ((resolved tree.now entry.now.op).trail ++ visited tree.now (resolved tree.now entry.now.op).step entry.now.reply)) }
+{
+    let resolved = tree.resolved(&entry.op)?;
+    Ok(goes_through(tree, &resolved, &entry.reply, birth))
 }
 
 // Whether an entry, done with this tree after it, changes the node of a birth or visits it.
-fn touches_by(tree: &Tree, next: &Tree, entry: &Entry, birth: u64) -> bool
-    ensures { result ≡ (differs tree.now next.now birth || list_any (λ b. b == birth) (looked_in tree.now entry.now.op ++ further tree.now entry.now.op entry.now.reply)) }
+fn touches_by(tree: &Tree, next: &Tree, entry: &Entry, birth: u64) -> Result<bool, NoMemory>
+    ensures { IfOk result (λ it. it ≡ (differs tree.now next.now birth || list_any (λ b. b == birth) ((resolved tree.now entry.now.op).trail ++ visited tree.now (resolved tree.now entry.now.op).step entry.now.reply))) }
 {
-    differs(tree, next, birth) || visits(tree, entry, birth)
+    Ok(differs(tree, next, birth) || visits(tree, entry, birth)?)
 }
 
-/// Whether an entry touches the node of a birth: changes it, looks a name up in it, or reaches it last.
+/// Whether an entry touches the node of a birth: changes it, goes through it on a walk, or reaches it last.
 pub fn touches(tree: &Tree, entry: &Entry, birth: u64) -> Result<bool, NoMemory>
     requires { IsTrue (is_within entry.now.op) }
     ensures { IfOk result (λ it. it ≡ touches tree.now entry.now birth) }
 {
     match answered(tree, entry)? {
-        Some(next) => Ok(touches_by(tree, &next, entry, birth)),
+        Some(next) => touches_by(tree, &next, entry, birth),
         None => Ok(false),
     }
 }

@@ -13,7 +13,8 @@ use Rattle.tree_definitions.specs.declared.node.Node.TheVariants.{Dir}
 use Rattle.tree_definitions.specs.Tree.{FileTree, fresh, node_at}
 use Rattle.tree_definitions.specs.Place.{Place, Taken, place}
 use Rattle.tree_definitions.specs.Apply.{overwritten}
-use Rattle.tree_definitions.specs.History.{applied, is_answer, told_blocks, leaves_tree, tree_after, after_read, with_shown, file_at, file_of, CellRun, Stays, InDoubt, doubted, doubted_file, doubted_cells, after}
+use Rattle.tree_definitions.specs.Perform.{Step, Goes, Stops, resolved, perform_step}
+use Rattle.tree_definitions.specs.History.{applied, is_answer, told_blocks, leaves_tree, tree_after, after_read, after_step, with_shown, file_at, file_of, CellRun, Stays, InDoubt, doubted, doubted_file, doubted_cells, after}
 use Rattle.tree_laws.specs.WellFormed.{IsWellFormed, IsNew}
 use Rattle.tree_laws.proofs.Pairs.{birth_exact, tie}
 use Rattle.tree_laws.proofs.StepsLaws.{file_at_is, after_keeps, are_new_after}
@@ -43,12 +44,20 @@ read_reached t (op.Read path off len) (reply.Shown bytes) reached = shown_reache
 read_reached t (op.Read path off len) _ reached = reached
 read_reached t _ r reached = reached
 
+step_makes_reached : (t : FileTree) (s : Step) (b m : ℕ) → IsWellFormed t → IsReached (node_at t) → IsNew t b → IsReached (node_at (perform_step t s b m).tree)
+step_makes_reached t (Goes o) b m w reached new = apply_keeps_reached t o b m w reached new
+step_makes_reached t (Stops r) b m w reached new = reached
+
+read_step_reached : (t : FileTree) (s : Step) (r : Reply) → IsReached (node_at t) → IsReached (node_at (after_step t s r))
+read_step_reached t (Goes o) r reached = read_reached t o r reached
+read_step_reached t (Stops q) r reached = reached
+
 entry_reached : (t : FileTree) (e : Entry) → IsWellFormed t → IsReached (node_at t) → IsNew t e.number.0 → IsReached (node_at (tree_after t e))
 entry_reached t e w reached new = go (leaves_tree e.op e.reply) (is_answer t e)
   where
-    go : (l a : Bool) → IsReached (node_at (cond l t (cond a (after_read (applied t e).tree e.op e.reply) t)))
+    go : (l a : Bool) → IsReached (node_at (cond l t (cond a (after_step (applied t e).tree (resolved t e.op).step e.reply) t)))
     go true a = reached
-    go false true = read_reached (applied t e).tree e.op e.reply (apply_keeps_reached t e.op e.number.0 (told_blocks t e.reply) w reached new)
+    go false true = read_step_reached (applied t e).tree (resolved t e.op).step e.reply (step_makes_reached t (resolved t e.op).step e.number.0 (told_blocks t e.reply) w reached new)
     go false false = reached
 
 -- cells come into doubt; a file of the tree is one at a place of it

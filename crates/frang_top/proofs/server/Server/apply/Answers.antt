@@ -1,15 +1,15 @@
-use Rattle.std.proofs.Common.{◌+◌, ap, refl, sym, ◌∙◌, max}
-use Rattle.tree_definitions.specs.Apply.{apply}
-use Rattle.frang_top.proofs.Answered.{answers_applied, can_apply}
+use Rattle.std.proofs.Common.{ap, refl, sym, ◌∙◌, max}
+use Rattle.tree_definitions.specs.Perform.{perform}
+use Rattle.frang_top.proofs.Answered.{answers_applied, can_perform}
 use Rattle.frang_top.proofs.server.Server.apply.Goals as goal
 
-pub apply-requires : goal.apply-requires
-apply-requires c = can_apply c.args.self.now.tree c.args.op.now c.requires.ready.sure c.requires.proper c.requires.sayable c.requires.path
+pub perform-requires : goal.perform-requires
+perform-requires c = can_perform c.args.self.now.tree c.args.op.now c.requires.ready.sure c.requires.sayable c.requires.path
 
 pub returns : goal.returns
 returns c = record {
-  ok = answers_applied c.args.number c.args.op.now c.args.self.now (record { mounted = c.args.self.now.mounted; tree = c.apply.new.self; dir_blocks = c.max-self.result }) c.in_ok-reply.reply
+  ok = answers_applied c.args.number c.args.op.now c.args.self.now (record { mounted = c.args.self.now.mounted; tree = c.perform.new.self; dir_blocks = c.max-self.result }) c.in_ok-reply.reply
       c.requires.ready c.requires.mounted c.requires.path c.requires.sayable c.in_ok-reply.ensures.proper
-      (ap (λ n. apply c.args.self.now.tree c.args.op.now n c.args.self.now.dir_blocks) (sym c.of-birth.ensures) ∙ c.in_ok-reply.ensures.ok) refl
+      (ap (λ n. perform c.args.self.now.tree c.args.op.now n c.args.self.now.dir_blocks) (sym c.of-birth.ensures) ∙ c.in_ok-reply.ensures.ok) refl
       (c.max-self.ensures ∙ ap (λ n. max c.args.self.now.dir_blocks n) c.dir_blocks.ensures);
 }
