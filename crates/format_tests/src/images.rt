@@ -183,8 +183,8 @@ fn sectors_of_zeros(rt: HostRuntime) -> Result<(), Fail> {
     assert!(rt; fault_after(rt.alloc(), &clear_in_no_region)? == (536, 4));
     let mut image = fresh(rt.alloc())?;
     zero_from_to(&mut image, 24, 536);
-    assert!(rt; fault_in(rt.alloc(), &image) == (16, 5));
+    assert!(rt; fault_in(rt.alloc(), &image) == (16, 7));
     lay(&mut image, (16, b"\x01"));
-    assert!(rt; fault_in(rt.alloc(), &image) == (16, 5));
+    assert!(rt; fault_in(rt.alloc(), &image) == (16, 7));
     Ok(())
 }

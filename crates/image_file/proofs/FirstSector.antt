@@ -12,11 +12,12 @@ use Rattle.frang_base.proofs.Basics.{by_test, eq_of, of_ge}
 use Rattle.sector_definitions.specs.declared.param.Param.{Param}
 use Rattle.sector_bytes.specs.Bytes.{zeros, are_zero, AreBytes}
 use Rattle.sector_definitions.specs.Params.{param_in}
+use Rattle.sector_definitions.proofs.ParamLaws.{param_read}
 use Rattle.sector_definitions.proofs.NumberBytes.{drop_are}
 use Rattle.sector_bytes.specs.Sectors.{sectors_of}
 use Rattle.disk_definitions.specs.declared.image.ImageFault.{ImageFault}
 use Rattle.disk_definitions.specs.declared.image.ImageFlaw.{ImageFlaw}
-use Rattle.disk_definitions.specs.declared.image.ImageFlaw.TheVariants.{Cut, OfZeros, BadSector}
+use Rattle.disk_definitions.specs.declared.image.ImageFlaw.TheVariants.{Cut, BadSector}
 use Rattle.disk_definitions.specs.Images.{Blocks, image_entry, entry_in, IsImaged, may_run_again, first_flaw, fault, judged, entries_in, segments_by, sectors_in}
 use Rattle.image_file.specs.Laws.{ReadsBack}
 use Rattle.image_file.proofs.EntryBytes.{IsEntry, length_entry, entry_reads, behind_entry, entry_again, read_entry}
@@ -55,28 +56,31 @@ first_of ((suc n, b) ∷ es) p s e =
 
 -- ---- its flaw
 
-first_may_have : (s : ℕ) (block : List ℕ) → are_zero block ≡ false → MayHave (first_flaw (s, block))
-first_may_have s block z =
-    subst (λ (b : Bool). MayHave (cond b (Some OfZeros) (cond (nat_eq s 0 && may_run_again (param_in block)) None (Some BadSector)))) (sym z)
-    (by_test MayHave None (Some BadSector) (nat_eq s 0 && may_run_again (param_in block)) (λ t. tt) (λ t. tt))
+first_may_have : (s : ℕ) (block : List ℕ) → MayHave (first_flaw (s, block))
+first_may_have s block = by_test MayHave None (Some BadSector) (nat_eq s 0 && may_run_again (param_in block)) (λ t. tt) (λ t. tt)
 
-first_fits : (block : List ℕ) → are_zero block ≡ false → may_run_again (param_in block) ≡ true → first_flaw (0, block) ≡ None
-first_fits block z f =
-    ap (λ (b : Bool). cond b (Some OfZeros) (cond (may_run_again (param_in block)) None (Some BadSector))) z
-    ∙ ap (λ (b : Bool). cond b None (Some BadSector)) f
+first_fits : (block : List ℕ) → may_run_again (param_in block) ≡ true → first_flaw (0, block) ≡ None
+first_fits block f = ap (λ (b : Bool). cond b None (Some BadSector)) f
 
 record FirstFits (s : ℕ) (block : List ℕ) : Type 0 where
   zero_th : s ≡ 0
   written : are_zero block ≡ false
   fits : may_run_again (param_in block) ≡ true
 
+-- where another run may follow there are parameters
+may_run : (o : Option Param) → may_run_again o ≡ true → (p : Param) × (o ≡ Some p)
+may_run None h = cc
+may_run (Some p) h = (p, refl)
+
+-- the parameter sector begins with its mark, and so isn't zero
+marked : (block : List ℕ) → may_run_again (param_in block) ≡ true → are_zero block ≡ false
+marked block f = let m = may_run (param_in block) f in ap are_zero (param_read block m.0 m.1).0
+
 first_flawless : (s : ℕ) (block : List ℕ) → first_flaw (s, block) ≡ None → FirstFits s block
 first_flawless s block =
-    by_test (λ (o : Option ImageFlaw). o ≡ None → FirstFits s block) (Some OfZeros) _ (are_zero block)
-    (λ z e. cc)
-    (λ z. by_test (λ (o : Option ImageFlaw). o ≡ None → FirstFits s block) None (Some BadSector) (nat_eq s 0 && may_run_again (param_in block))
-    (λ t e. let parts = and_parts (nat_eq s 0) (may_run_again (param_in block)) t in record { zero_th = eq_of s 0 parts.0; written = z; fits = parts.1 })
-    (λ t e. cc))
+    by_test (λ (o : Option ImageFlaw). o ≡ None → FirstFits s block) None (Some BadSector) (nat_eq s 0 && may_run_again (param_in block))
+    (λ t e. let parts = and_parts (nat_eq s 0) (may_run_again (param_in block)) t in record { zero_th = eq_of s 0 parts.0; written = marked block parts.1; fits = parts.1 })
+    (λ t e. cc)
 
 -- ---- it and the others
 
@@ -103,7 +107,7 @@ pub sectors_read_back : (es : Blocks) → AscendAll es → ReadsBack es (sectors
 sectors_read_back [] h = tt
 sectors_read_back ((s, block) ∷ es) h =
     rw (first_step (length es) s block (flat_map image_entry es) h.0)
-    (judged_reads 16 (first_flaw (s, block)) (s, block) _ es (first_may_have s block h.1)
+    (judged_reads 16 (first_flaw (s, block)) (s, block) _ es (first_may_have s block)
     (entries_read_back (segments_by (param_in block)) 0 536 es (ascend_from 0 s es (omega arith) h.2)))
 
 pub sectors_found : (block : List ℕ) (es : Blocks) (p : Param) → param_in block ≡ Some p → may_run_again (param_in block) ≡ true → are_zero block ≡ false → IsEntry (0, block) → Ascend 0 es
@@ -111,7 +115,7 @@ pub sectors_found : (block : List ℕ) (es : Blocks) (p : Param) → param_in bl
 sectors_found block es p e f z w a i =
     let segments : segments_by (param_in block) ≡ p.segments = ap segments_by e in
     first_step (length es) 0 block (flat_map image_entry es) w
-    ∙ rw (first_fits block z f, segments, entries_found p.segments 0 536 es a i) refl
+    ∙ rw (first_fits block f, segments, entries_found p.segments 0 536 es a i) refl
 
 pub record Sectors (count : ℕ) (bytes : List ℕ) (es : Blocks) : Type 0 where
   pub block : List ℕ
@@ -126,11 +130,6 @@ pub record Sectors (count : ℕ) (bytes : List ℕ) (es : Blocks) : Type 0 where
   pub each : AllByRecursion (IsImaged param.segments) others
   pub long : suc (length others) ≡ count
   pub text : bytes ≡ image_entry (0, block) ++ flat_map image_entry others
-
--- where another run may follow there are parameters
-may_run : (o : Option Param) → may_run_again o ≡ true → (p : Param) × (o ≡ Some p)
-may_run None h = cc
-may_run (Some p) h = (p, refl)
 
 sectors_by : (count : ℕ) (bytes : List ℕ) (e : ℕ × List ℕ) (es others : Blocks) → e.0 ≡ 0 → es ≡ e ∷ others → bytes ≡ image_entry e ++ drop 520 bytes → IsEntry e → are_zero e.1 ≡ false
     → may_run_again (param_in e.1) ≡ true → Entries (segments_by (param_in e.1)) 0 count (drop 520 bytes) others → Sectors (suc count) bytes es

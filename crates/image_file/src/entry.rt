@@ -91,9 +91,6 @@ pub fn first_param(first: &Entry<'_>) -> Result<Param, ImageFlaw>
     ensures found { MatchResult result (λ param. (first_flaw (entry_of first.now) ≡ None) × (param_in first.now.block.now ≡ Some param)) (λ flaw. first_flaw (entry_of first.now) ≡ Some flaw) }
     ensures segments { IfOk result (λ param. HasSegments param.segments) }
 {
-    if is_zero(first.block) {
-        return Err(ImageFlaw::OfZeros);
-    }
     match param_block::decode(first.block) {
         Some(param) if first.sector == 0 && param.run < u32::MAX => Ok(param),
         _ => Err(ImageFlaw::BadSector),

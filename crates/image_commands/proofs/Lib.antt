@@ -1,0 +1,3 @@
+pub mod SayLaws
+pub mod LineLaws
+pub mod EndLaws

@@ -1,0 +1,163 @@
+// The commands on images.
+ghost use Rattle.std.specs.Prelude.{◌≡◌, []};
+ghost use Rattle.std.specs.Option.{option_map};
+ghost use Rattle.image_commands.specs.Saying.{Says};
+ghost use Rattle.image_commands.specs.Lines.{IsLog, IsTree};
+ghost use Rattle.image_commands.specs.Ends.{Ends, EndsRecovery, OnlySaves};
+ghost use Rattle.image_commands.specs.Steps.{RecoversDisk, SavesAfter, SavesDisk, SaysAndSaves, SaysLines};
+
+use crate::end::ImageEnd;
+use crate::lines::{Recovery, log_said, recovery_of, tree_said};
+use crate::read::read_disk;
+use crate::say::say_all;
+use disk_definitions::Disk;
+use frang_base::{NoMemory, Said};
+use frang_outside::{FileFault, Files, Outside};
+use image_file::write_image;
+use std::alloc::Global;
+
+// Says the lines of a disk, where it has some.
+fn say_lines<O: Outside>(
+    alloc: Global,
+    lines: Result<Option<Vec<Said>>, NoMemory>,
+    out: &mut O,
+) -> ImageEnd
+    requires { Says (O.state out.old).acts [] }
+    ensures { SaysLines (O.state out.old) (O.state out.new) lines result }
+{
+    match lines {
+        Ok(Some(lines)) => say_all(alloc, &lines, out),
+        Ok(None) => ImageEnd::BadImage { at: 0, kind: 8 },
+        Err(_) => ImageEnd::NoMemory,
+    }
+}
+
+/// Says the lines of the tree for which the disk of an image stands once its logs are replayed, and the end.
+pub fn tree<F: Files, O: Outside>(
+    alloc: Global,
+    image: &str,
+    files: &mut F,
+    out: &mut O,
+) -> ImageEnd
+    requires { Says (O.state out.old).acts [] }
+    ensures ends { Ends IsTree image.now (F.state files.old) (F.state files.new) (O.state out.old) (O.state out.new) result }
+    ensures untouched { (F.state files.new).holds ≡ (F.state files.old).holds }
+{
+    match read_disk(alloc, image, files) {
+        Ok(disk) => say_lines(alloc, tree_said(alloc, &disk), out),
+        Err(end) => end,
+    }
+}
+
+/// Says a line for each record of a log of an image's disk, in order, and the end. The server is any from 0 to 255.
+pub fn log<F: Files, O: Outside>(
+    alloc: Global,
+    image: &str,
+    server: u8,
+    files: &mut F,
+    out: &mut O,
+) -> ImageEnd
+    requires { Says (O.state out.old).acts [] }
+    ensures ends { Ends (IsLog server) image.now (F.state files.old) (F.state files.new) (O.state out.old) (O.state out.new) result }
+    ensures untouched { (F.state files.new).holds ≡ (F.state files.old).holds }
+{
+    match read_disk(alloc, image, files) {
+        Ok(disk) => say_lines(alloc, log_said(alloc, &disk, server), out),
+        Err(end) => end,
+    }
+}
+
+// Writes the image of a disk into a file.
+fn save_disk<F: Files>(alloc: Global, save: &str, disk: &Disk, files: &mut F) -> ImageEnd
+    ensures { SavesDisk (F.state files.old) (F.state files.new) save.now disk.now result }
+{
+    let mut bytes = Vec::new(alloc);
+    match write_image(disk, &mut bytes) {
+        Ok(()) => {}
+        Err(_) => return ImageEnd::NoMemory,
+    }
+    match files.write(save, &bytes) {
+        Ok(()) => ImageEnd::Done,
+        Err(FileFault::Failed) => ImageEnd::WriteFailed,
+        Err(FileFault::TooLong) => unreachable!(),
+        Err(FileFault::NoMemory) => ImageEnd::NoMemory,
+    }
+}
+
+// Writes the image of a disk into a file, where all was done before.
+fn save_after<F: Files>(
+    alloc: Global,
+    before: ImageEnd,
+    save: &str,
+    disk: &Disk,
+    files: &mut F,
+) -> ImageEnd
+    ensures { SavesAfter (F.state files.old) (F.state files.new) save.now disk.now before result }
+{
+    match before {
+        ImageEnd::Done => save_disk(alloc, save, disk, files),
+        ImageEnd::NoMemory => ImageEnd::NoMemory,
+        ImageEnd::ReadFailed => ImageEnd::ReadFailed,
+        ImageEnd::TooLong => ImageEnd::TooLong,
+        ImageEnd::BadImage { at, kind } => ImageEnd::BadImage { at, kind },
+        ImageEnd::Mute { said } => ImageEnd::Mute { said },
+        ImageEnd::WriteFailed => ImageEnd::WriteFailed,
+    }
+}
+
+// Says the lines of a recovery, and then saves its disk, where a name is given.
+fn say_and_save<F: Files, O: Outside>(
+    alloc: Global,
+    recovery: &Recovery,
+    save: Option<&str>,
+    files: &mut F,
+    out: &mut O,
+) -> ImageEnd
+    requires { Says (O.state out.old).acts [] }
+    ensures { SaysAndSaves (F.state files.old) (F.state files.new) (O.state out.old) (O.state out.new) recovery.now.lines.items recovery.now.disk (option_map (λ s. s.now) save.entry) result }
+{
+    let said = say_all(alloc, &recovery.lines, out);
+    match save {
+        None => said,
+        Some(save) => save_after(alloc, said, save, &recovery.disk, files),
+    }
+}
+
+// Says what a disk's recovery says, and then saves the replayed disk, where a name is given.
+fn recover_disk<F: Files, O: Outside>(
+    alloc: Global,
+    disk: &Disk,
+    save: Option<&str>,
+    files: &mut F,
+    out: &mut O,
+) -> ImageEnd
+    requires { Says (O.state out.old).acts [] }
+    ensures { RecoversDisk (F.state files.old) (F.state files.new) (O.state out.old) (O.state out.new) disk.now (option_map (λ s. s.now) save.entry) result }
+{
+    match recovery_of(alloc, disk) {
+        Ok(found) => match found {
+            Some(recovery) => say_and_save(alloc, &recovery, save, files, out),
+            None => ImageEnd::BadImage { at: 0, kind: 8 },
+        },
+        Err(_) => ImageEnd::NoMemory,
+    }
+}
+
+/// Says a line for each log of an image's disk that holds a record, ascending, then the lines of the tree for which the disk stands once
+/// its logs are replayed, and the end; and then saves the replayed disk, where a name is given for its image.
+pub fn recover<F: Files, O: Outside>(
+    alloc: Global,
+    image: &str,
+    save: Option<&str>,
+    files: &mut F,
+    out: &mut O,
+) -> ImageEnd
+    requires { Says (O.state out.old).acts [] }
+    ensures ends { EndsRecovery image.now (option_map (λ s. s.now) save.entry) (F.state files.old) (F.state files.new) (O.state out.old) (O.state out.new) result }
+    ensures saves { OnlySaves (option_map (λ s. s.now) save.entry) result (F.state files.old).holds (F.state files.new).holds }
+{
+    match read_disk(alloc, image, files) {
+        Ok(disk) => recover_disk(alloc, &disk, save, files, out),
+        Err(end) => end,
+    }
+}

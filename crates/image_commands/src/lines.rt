@@ -1,0 +1,119 @@
+// The lines of a disk.
+ghost use Rattle.std.specs.Prelude.{◌≡◌, ◌++◌, ◌∷◌, [], map, IfOk, OnOk};
+ghost use Rattle.tree_definitions.specs.TreeLines.{tree_lines};
+ghost use Rattle.sector_bytes.specs.Sectors.{sectors_of};
+ghost use Rattle.image_commands.specs.Lines.{recovered_below, recovered_by, records_in, redo_line, GivesLines, IsLog, IsTree};
+ghost use Rattle.image_commands.specs.Recovered.{GivesRecovery};
+
+use disk_definitions::Disk;
+use disk_reading::{replayed, tree_read};
+use disk_replay::records_of;
+use file_tree::Tree;
+use frang_base::limits::LOGS;
+use frang_base::{NoMemory, Redo, Said, ServerId};
+use log_reading::greatest_operation;
+use std::alloc::Global;
+
+// Lines with those of a tree behind them, and the end.
+fn with_tree(tree: &Tree, before: Vec<Said>) -> Result<Vec<Said>, NoMemory>
+    ensures { IfOk result (λ lines. lines.items ≡ before.items ++ tree_lines tree.now ++ Said.End ∷ []) }
+{
+    let mut lines = before;
+    let mut told = tree.lines()?;
+    lines.append(&mut told)?;
+    lines.push(Said::End)?;
+    Ok(lines)
+}
+
+/// The lines of the tree of a disk, once its logs are replayed, and the end. `None` exactly where it stands for no tree.
+pub fn tree_said(alloc: Global, disk: &Disk) -> Result<Option<Vec<Said>>, NoMemory>
+    ensures { IfOk result (GivesLines IsTree disk.now) }
+{
+    let new = replayed(alloc, disk)?;
+    let read = tree_read(alloc, &new)?;
+    match read {
+        None => Ok(None),
+        Some(tree) => {
+            let lines = with_tree(&tree, Vec::new(alloc))?;
+            Ok(Some(lines))
+        }
+    }
+}
+
+// The lines of records, in order.
+fn record_lines(alloc: Global, records: &[Redo]) -> Result<Vec<Said>, NoMemory>
+    ensures { IfOk result (λ lines. lines.items ≡ map redo_line records.now) }
+{
+    let mut lines = Vec::new(alloc);
+    for record in records {
+        lines.push(Said::Redo { op: record.op })?;
+    }
+    Ok(lines)
+}
+
+/// The lines of the records of a log, and the end. There always are some.
+pub fn log_said(alloc: Global, disk: &Disk, server: u8) -> Result<Option<Vec<Said>>, NoMemory>
+    ensures { IfOk result (GivesLines (IsLog server) disk.now) }
+{
+    let records = records_of(alloc, disk, ServerId(server))?;
+    let mut lines = record_lines(alloc, &records)?;
+    lines.push(Said::End)?;
+    Ok(Some(lines))
+}
+
+// Adds the line of a log, where it holds a record.
+fn push_recovered(
+    alloc: Global,
+    disk: &Disk,
+    server: u8,
+    lines: &mut Vec<Said>,
+) -> Result<(), NoMemory>
+    ensures { OnOk result (lines.new.items ≡ lines.old.items ++ recovered_by server (records_in (sectors_of disk.now) server)) }
+{
+    let records = records_of(alloc, disk, ServerId(server))?;
+    match records.as_slice() {
+        [] => Ok(()),
+        [_, ..] => {
+            lines.push(Said::Recovered {
+                server: ServerId(server),
+                keeps: greatest_operation(&records),
+            })?;
+            Ok(())
+        }
+    }
+}
+
+// The lines of the logs that hold a record, ascending.
+#[tactic(auto, using(crate::proofs::LineLaws::recovered_none, crate::proofs::LineLaws::recovered_more))]
+fn recovered_said(alloc: Global, disk: &Disk) -> Result<Vec<Said>, NoMemory>
+    ensures { IfOk result (λ lines. lines.items ≡ recovered_below (sectors_of disk.now) LOGS) }
+{
+    let mut lines = Vec::new(alloc);
+    for server in 0..LOGS {
+        push_recovered(alloc, disk, server as u8, &mut lines)?;
+    }
+    Ok(lines)
+}
+
+/// A disk once its logs are replayed, with the lines of its recovery.
+#[derive(Drop)]
+pub struct Recovery {
+    pub disk: Disk,
+    pub lines: Vec<Said>,
+}
+
+/// The replayed disk with the lines of the logs that hold a record, of its tree, and the end. `None` exactly where it stands for no tree.
+pub fn recovery_of(alloc: Global, disk: &Disk) -> Result<Option<Recovery>, NoMemory>
+    ensures { IfOk result (GivesRecovery disk.now) }
+{
+    let new = replayed(alloc, disk)?;
+    let read = tree_read(alloc, &new)?;
+    match read {
+        None => Ok(None),
+        Some(tree) => {
+            let before = recovered_said(alloc, disk)?;
+            let lines = with_tree(&tree, before)?;
+            Ok(Some(Recovery { disk: new, lines }))
+        }
+    }
+}

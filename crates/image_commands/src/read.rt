@@ -1,0 +1,49 @@
+// An image as a disk.
+ghost use Rattle.std.specs.Prelude.{◌≡◌};
+ghost use Rattle.frang_outside.specs.Files.{NoneFell};
+ghost use Rattle.disk_definitions.specs.Images.{image_in};
+ghost use Rattle.image_commands.specs.Steps.{GivesDisk, ReadsBytes, ReadsDisk};
+
+use crate::end::ImageEnd;
+use disk_definitions::Disk;
+use frang_base::limits::IMAGE_BYTES_MAX;
+use frang_outside::{FileFault, Files};
+use image_file::{ImageRead, read_image};
+use std::alloc::Global;
+
+// The bytes of a file that may be an image.
+fn read_bytes<F: Files>(alloc: Global, image: &str, files: &mut F) -> Result<Vec<u8>, ImageEnd>
+    ensures files { (F.state files.new).holds ≡ (F.state files.old).holds }
+    ensures counts { NoneFell (F.state files.old) (F.state files.new) }
+    ensures outcome { ReadsBytes (F.state files.old) (F.state files.new) image.now result }
+{
+    match files.read(alloc, image, IMAGE_BYTES_MAX) {
+        Ok(bytes) => Ok(bytes),
+        Err(FileFault::Failed) => Err(ImageEnd::ReadFailed),
+        Err(FileFault::TooLong) => Err(ImageEnd::TooLong),
+        Err(FileFault::NoMemory) => Err(ImageEnd::NoMemory),
+    }
+}
+
+// The disk whose image the bytes are.
+fn disk_of(alloc: Global, bytes: &[u8]) -> Result<Disk, ImageEnd>
+    ensures { GivesDisk (image_in bytes.now) result }
+{
+    match read_image(alloc, bytes) {
+        Ok(disk) => Ok(disk),
+        Err(ImageRead::Bad { at, kind }) => Err(ImageEnd::BadImage { at, kind }),
+        Err(ImageRead::NoMemory) => Err(ImageEnd::NoMemory),
+    }
+}
+
+/// The disk whose image the file is.
+pub fn read_disk<F: Files>(alloc: Global, image: &str, files: &mut F) -> Result<Disk, ImageEnd>
+    ensures files { (F.state files.new).holds ≡ (F.state files.old).holds }
+    ensures counts { NoneFell (F.state files.old) (F.state files.new) }
+    ensures outcome { ReadsDisk (F.state files.old) (F.state files.new) image.now result }
+{
+    match read_bytes(alloc, image, files) {
+        Ok(bytes) => disk_of(alloc, &bytes),
+        Err(end) => Err(end),
+    }
+}

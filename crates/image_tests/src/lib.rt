@@ -1,0 +1,10 @@
+//! Tests of the commands on images: a sound image with two logs whose bytes are written here, the fresh image and what one change makes of
+//! it, and the faults of files and of the outside. It promises nothing by itself; it stands on the commands on images.
+#![tactic(auto)]
+
+#[cfg(test)]
+mod builders;
+#[cfg(test)]
+mod damages;
+#[cfg(test)]
+mod logs;

@@ -1,0 +1,11 @@
+pub mod SumLaws
+pub mod Fine
+pub mod Reaching
+pub mod Wherever
+pub mod Agreeing
+pub mod Sound
+pub mod Faultless
+pub mod Standing
+pub mod ReportExamples
+pub mod Rising
+pub mod OneReport

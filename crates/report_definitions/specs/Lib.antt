@@ -1,0 +1,5 @@
+pub mod Sums
+pub mod View
+pub mod Rules
+pub mod Report
+pub mod Laws
