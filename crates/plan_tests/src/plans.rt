@@ -10,7 +10,7 @@ use crate::builders::{Act, Piece, put_sectors};
 use crate::bytes_told::written_told;
 use dir_lookup::Hand;
 use frang_base::{Bitmap, Block, Held, Name, NoMemory, Op, Path, Sector, Text, parse_path};
-use meta_version::{SectorMap, Sectors};
+use meta_version::Sectors;
 use op_dir::plan_names;
 use std::alloc::Global;
 use std::test::Fail;
@@ -152,7 +152,7 @@ fn full_sector(part: u8) -> Block
 
 // The sectors of blocks 1 to 7: zeros, and the full ones of `w`.
 fn blocks(alloc: Global) -> Result<Sectors, NoMemory> {
-    let mut sectors = SectorMap::new(alloc);
+    let mut sectors = Sectors::new(alloc);
     for sector in 12_884_901_896..12_884_901_944 {
         sectors.set(Sector(sector), [0; 512])?;
     }
