@@ -19,7 +19,7 @@ pub more_links : (tree : FileTree) (birth n : ℕ) → is_dir (node_at tree birt
 more_links tree birth n none is = go (node_at tree birth) none is
   where
     go : (o : Option Node) → is_dir o ≡ false → n ≡ links_of o + 1 → edited_by tree birth (with_links n) o ≡ one_link_more tree birth o
-    go (Some (File cells links)) h e = ap (λ k. with_node tree birth (File cells k)) e
+    go (Some (File cells links when)) h e = ap (λ k. with_node tree birth (File cells k when)) e
     go (Some (Link target links)) h e = ap (λ k. with_node tree birth (Link target k)) e
     go (Some (Dir entries blocks)) h e = cc
     go None h e = refl
@@ -27,7 +27,7 @@ more_links tree birth n none is = go (node_at tree birth) none is
 -- a directory that has a name, taken apart
 pub has_entry : (name : List ℕ) (birth : ℕ) (o : Option Node) → HasEntry name birth o → (entries : Entries) × (blocks : ℕ) × (o ≡ Some (Dir entries blocks)) × (entry_at entries name ≡ Some birth)
 has_entry name birth (Some (Dir entries blocks)) h = (entries, blocks, refl, h)
-has_entry name birth (Some (File cells links)) h = absurd h
+has_entry name birth (Some (File cells links when)) h = absurd h
 has_entry name birth (Some (Link target links)) h = absurd h
 has_entry name birth None h = absurd h
 
@@ -38,7 +38,7 @@ not_empty (e ∷ es) name birth h = omega arith
 
 pub full_dir : (name : List ℕ) (birth : ℕ) (o : Option Node) → HasEntry name birth o → has_entries o ≡ true
 full_dir name birth (Some (Dir entries blocks)) h = let some = not_empty entries name birth h in grind (arith, nat_tests, some)
-full_dir name birth (Some (File cells links)) h = absurd h
+full_dir name birth (Some (File cells links when)) h = absurd h
 full_dir name birth (Some (Link target links)) h = absurd h
 full_dir name birth None h = absurd h
 
@@ -51,14 +51,14 @@ apart_from_empty tree name birth dir old has empty same =
 -- a name is gone from its directory
 pub gone_is : (tree : FileTree) (dir : ℕ) (name : List ℕ) (birth : ℕ) (o : Option Node) → HasEntry name birth o → edited_by tree dir (without_name name) o ≡ name_gone tree dir name o
 gone_is tree dir name birth (Some (Dir entries blocks)) h = refl
-gone_is tree dir name birth (Some (File cells links)) h = absurd h
+gone_is tree dir name birth (Some (File cells links when)) h = absurd h
 gone_is tree dir name birth (Some (Link target links)) h = absurd h
 gone_is tree dir name birth None h = absurd h
 
 -- a name is set in a directory that has it
 pub set_is : (tree : FileTree) (dir : ℕ) (name : List ℕ) (birth old : ℕ) (o : Option Node) → HasEntry name old o → edited_by tree dir (with_name name birth) o ≡ name_set tree dir name birth o
 set_is tree dir name birth old (Some (Dir entries blocks)) h = refl
-set_is tree dir name birth old (Some (File cells links)) h = absurd h
+set_is tree dir name birth old (Some (File cells links when)) h = absurd h
 set_is tree dir name birth old (Some (Link target links)) h = absurd h
 set_is tree dir name birth old None h = absurd h
 
@@ -79,7 +79,7 @@ still_named tree dir to name new birth old differ what onto = ⊎_elim same othe
 
 pub names_it : (name : List ℕ) (birth : ℕ) (o : Option Node) → HasEntry name birth o → IfSome o (Names name)
 names_it name birth (Some (Dir entries blocks)) h = subst IsSome (sym h) refl
-names_it name birth (Some (File cells links)) h = absurd h
+names_it name birth (Some (File cells links when)) h = absurd h
 names_it name birth (Some (Link target links)) h = absurd h
 names_it name birth None h = absurd h
 

@@ -30,9 +30,9 @@ too_few cells bytes less = false_from_ne_true (cells_show cells bytes) (λ h. (l
 shown_ends : (cells : List Cell) (off len : ℕ) (bytes : List ℕ) → off ≤ length cells → cells_show (take len (drop off cells)) bytes ≡ true → off + length (map Byte bytes) ≤ length cells
 shown_ends cells off len bytes begins h = simp length-map (omega (arith, shows_length (take len (drop off cells)) bytes h, length-take len (drop off cells), length-drop off cells))
 
-pub shown_fits : (tree : FileTree) (birth off len links : ℕ) (bytes : List ℕ) (cells : List Cell) → node_at tree birth ≡ Some (File cells links) → off ≤ length cells → length cells ≤ 1114112 → cells_show (take len (drop off cells)) bytes ≡ true
+pub shown_fits : (tree : FileTree) (birth off len links when : ℕ) (bytes : List ℕ) (cells : List Cell) → node_at tree birth ≡ Some (File cells links when) → off ≤ length cells → length cells ≤ 1114112 → cells_show (take len (drop off cells)) bytes ≡ true
     → IfSome (node_at tree birth) (CanPut off (map Byte bytes))
-shown_fits tree birth off len links bytes cells found begins small h =
+shown_fits tree birth off len links when bytes cells found begins small h =
     let ends = shown_ends cells off len bytes begins h in
     let fits : off + length (map Byte bytes) ≤ 1114112 = omega arith in
     subst (λ o. IfSome o (CanPut off (map Byte bytes))) (sym found) (begins, fits)
@@ -41,19 +41,19 @@ shown_fits tree birth off len links bytes cells found begins small h =
 same_size : (cells new : List Cell) (off : ℕ) → off + length new ≤ length cells → length (overwritten cells off new) ≡ length cells
 same_size cells new off ends = simp (length-append, length-take, length-drop) (omega arith)
 
-pub shown_room : (tree : FileTree) (birth off len : ℕ) (bytes : List ℕ) → IsWithin tree → file_shows (file_of birth (node_at tree birth)) off len bytes ≡ true
-    → IfSome (node_at tree birth) (λ node. HasRoom tree birth (blocks_of (with_cells off (map Byte bytes) node)))
-shown_room tree birth off len bytes within h = go (node_at tree birth) refl h
+pub shown_room : (tree : FileTree) (birth at off len : ℕ) (bytes : List ℕ) → IsWithin tree → file_shows (file_of birth (node_at tree birth)) off len bytes ≡ true
+    → IfSome (node_at tree birth) (λ node. HasRoom tree birth (blocks_of (with_cells at off (map Byte bytes) node)))
+shown_room tree birth at off len bytes within h = go (node_at tree birth) refl h
   where
     new : List Cell
     new = map Byte bytes
 
-    go : (o : Option Node) → node_at tree birth ≡ o → file_shows (file_of birth o) off len bytes ≡ true → IfSome o (λ node. HasRoom tree birth (blocks_of (with_cells off new node)))
-    go (Some (File cells links)) found is =
+    go : (o : Option Node) → node_at tree birth ≡ o → file_shows (file_of birth o) off len bytes ≡ true → IfSome o (λ node. HasRoom tree birth (blocks_of (with_cells at off new node)))
+    go (Some (File cells links when)) found is =
         let begins : off ≤ length cells = grind (arith, nat_tests, is) in
         let shows : cells_show (take len (drop off cells)) bytes ≡ true = grind (arith, nat_tests, is) in
         let size = same_size cells new off (shown_ends cells off len bytes begins shows) in
-        same_room tree birth (File cells links) (File (overwritten cells off new) links) within found
+        same_room tree birth (File cells links when) (File (overwritten cells off new) links at) within found
         (ap (λ n. record { files = small_blocks_of n; dirs = 0; larges = large_blocks_of n }) size)
     go (Some (Dir entries blocks)) found is = cc
     go (Some (Link target links)) found is = cc

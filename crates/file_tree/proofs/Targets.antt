@@ -16,7 +16,7 @@ use Rattle.file_tree.specs.Proper.{odd_target, HasTarget, HasTargets}
 pub not_odd : (node : Node) → HasTarget node → odd_target node ≡ 0
 not_odd (Link target links) h = ap (λ b. cond b 0 1) h
 not_odd (Dir entries blocks) h = refl
-not_odd (File cells links) h = refl
+not_odd (File cells links when) h = refl
 
 has_target : (node : Node) → odd_target node ≡ 0 → HasTarget node
 has_target (Link target links) h = go (is_target target) h
@@ -25,7 +25,7 @@ has_target (Link target links) h = go (is_target target) h
     go true e = refl
     go false e = cc
 has_target (Dir entries blocks) h = tt
-has_target (File cells links) h = tt
+has_target (File cells links when) h = tt
 
 -- the node of a birth has one
 pub node_has_target : (tree : FileTree) (birth : ℕ) → HasTargets tree → IfSome (node_at tree birth) HasTarget
@@ -49,35 +49,35 @@ targets_after edit keeps tree birth after none is = none_after tree birth after 
 
 pub name_odd : (name : List ℕ) (node : Node) → odd_target (without_name name node) ≤ odd_target node
 name_odd name (Dir entries blocks) = omega arith
-name_odd name (File cells links) = omega arith
+name_odd name (File cells links when) = omega arith
 name_odd name (Link target links) = omega arith
 
 pub set_name_odd : (name : List ℕ) (birth : ℕ) (node : Node) → odd_target (with_name name birth node) ≤ odd_target node
 set_name_odd name birth (Dir entries blocks) = omega arith
-set_name_odd name birth (File cells links) = omega arith
+set_name_odd name birth (File cells links when) = omega arith
 set_name_odd name birth (Link target links) = omega arith
 
 pub blocks_odd : (n : ℕ) (node : Node) → odd_target (with_blocks n node) ≤ odd_target node
 blocks_odd n (Dir entries blocks) = omega arith
-blocks_odd n (File cells links) = omega arith
+blocks_odd n (File cells links when) = omega arith
 blocks_odd n (Link target links) = omega arith
 
 pub links_odd : (n : ℕ) (node : Node) → odd_target (with_links n node) ≤ odd_target node
 links_odd n (Dir entries blocks) = omega arith
-links_odd n (File cells links) = omega arith
+links_odd n (File cells links when) = omega arith
 links_odd n (Link target links) = omega arith
 
-pub cells_odd : (off : ℕ) (new : List Cell) (node : Node) → odd_target (with_cells off new node) ≤ odd_target node
-cells_odd off new (Dir entries blocks) = omega arith
-cells_odd off new (File cells links) = omega arith
-cells_odd off new (Link target links) = omega arith
+pub cells_odd : (when off : ℕ) (new : List Cell) (node : Node) → odd_target (with_cells when off new node) ≤ odd_target node
+cells_odd when off new (Dir entries blocks) = omega arith
+cells_odd when off new (File cells links before) = omega arith
+cells_odd when off new (Link target links) = omega arith
 
-pub first_odd : (len : ℕ) (node : Node) → odd_target (with_first len node) ≤ odd_target node
-first_odd len (Dir entries blocks) = omega arith
-first_odd len (File cells links) = omega arith
-first_odd len (Link target links) = omega arith
+pub first_odd : (when len : ℕ) (node : Node) → odd_target (with_first when len node) ≤ odd_target node
+first_odd when len (Dir entries blocks) = omega arith
+first_odd when len (File cells links before) = omega arith
+first_odd when len (Link target links) = omega arith
 
 pub doubt_odd : (from count : ℕ) (node : Node) → odd_target (with_doubt from count node) ≤ odd_target node
 doubt_odd from count (Dir entries blocks) = omega arith
-doubt_odd from count (File cells links) = omega arith
+doubt_odd from count (File cells links when) = omega arith
 doubt_odd from count (Link target links) = omega arith

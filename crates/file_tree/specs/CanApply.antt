@@ -11,7 +11,7 @@ use Rattle.file_tree.specs.Sure.{shows_sure}
 -- one with a path; a target is one that scripts may have, and a read shows no cell in doubt
 abbrev pub CanApply : FileTree → Op → Type 0
 CanApply tree (op.Symlink path target) = IsTrue (is_target target)
-CanApply tree (op.Read path off len) = shows_sure (apply tree (op.Read path off len) 0 0).answer ≡ true
+CanApply tree (op.Read path off len) = shows_sure (apply tree (op.Read path off len) 0 0 0).answer ≡ true
 CanApply tree op.Sync = ⊥
 CanApply tree op.Mount = ⊥
 CanApply tree op.Unmount = ⊥

@@ -12,7 +12,7 @@ use Rattle.tree_definitions.specs.Tree.{FileTree, count_of}
 abbrev pub odd_target : Node → ℕ
 odd_target (Link target links) = if is_target target then 0 else 1
 odd_target (Dir entries blocks) = 0
-odd_target (File cells links) = 0
+odd_target (File cells links when) = 0
 
 -- every symbolic link has a target
 abbrev pub HasTargets : FileTree → Type 0

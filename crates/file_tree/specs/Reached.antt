@@ -15,8 +15,8 @@ by_birth tree next (Ok birth) = next birth (node_at tree birth)
 by_birth tree next (Err refusal) = says tree (reply_of refusal)
 
 -- a file that is reached, or a refusal
-abbrev pub by_file : FileTree → (ℕ → List Cell → ℕ → Applied) → Result FileAt Refusal → Applied
-by_file tree next (Ok file) = next file.birth file.cells.now file.links
+abbrev pub by_file : FileTree → (ℕ → List Cell → ℕ → ℕ → Applied) → Result FileAt Refusal → Applied
+by_file tree next (Ok file) = next file.birth file.cells.now file.links file.when
 by_file tree next (Err refusal) = says tree (reply_of refusal)
 
 -- the birth of the node at a place, if there is one
@@ -27,5 +27,5 @@ birth_of (Free dir entries blocks name) = None
 birth_of (Nowhere reply) = None
 
 -- a file with its birth, its cells and its links
-abbrev pub file_in : FileAt → ℕ × (List Cell × ℕ)
-file_in file = (file.birth, (file.cells.now, file.links))
+abbrev pub file_in : FileAt → ℕ × (List Cell × (ℕ × ℕ))
+file_in file = (file.birth, (file.cells.now, (file.links, file.when)))

@@ -19,12 +19,21 @@ use tree_edits::Bytes;
 
 // Answers `create`: an empty file with one name.
 fn create(tree: &mut Tree, path: &[Name], birth: u64) -> Result<Reply, NoMemory>
-    ensures ok { IfOk result (λ reply. made tree.old birth (File [] 1) (place tree.old path.now) ≡ gives tree.new reply) }
+    ensures ok { IfOk result (λ reply. made tree.old birth (File [] 1 0) (place tree.old path.now) ≡ gives tree.new reply) }
     ensures err { OnErr result (tree.new ≡ tree.old) }
     ensures proper { IfOk result IsProperReply }
 {
     let cells = Cells::new(tree.alloc());
-    make(tree, path, birth, Node::File { cells, links: 1 })
+    make(
+        tree,
+        path,
+        birth,
+        Node::File {
+            cells,
+            links: 1,
+            when: 0,
+        },
+    )
 }
 
 // Answers `mkdir`: a directory without entries.
@@ -50,10 +59,11 @@ fn symlink(tree: &mut Tree, path: &[Name], birth: u64, target: &Text) -> Result<
 
 impl Tree {
     /// Does an operation, and answers it: a read by the bytes that it shows, of which none may be in doubt. A node that it makes gets
-    /// this birth; `m` is the number of small blocks that are or were a directory's. After `NoMemory` the tree is as before.
-    pub fn apply(&mut self, op: &Op, birth: OpNo, m: u32) -> Result<Reply, NoMemory>
+    /// this birth, and a file that it writes or cuts this time; `m` is the number of small blocks that are or were a directory's. After
+    /// `NoMemory` the tree is as before.
+    pub fn apply(&mut self, op: &Op, birth: OpNo, when: u64, m: u32) -> Result<Reply, NoMemory>
         requires { CanApply self.old op.now }
-        ensures ok { IfOk result (λ reply. apply self.old op.now birth.0 m ≡ gives self.new reply) }
+        ensures ok { IfOk result (λ reply. apply self.old op.now birth.0 when m ≡ gives self.new reply) }
         ensures err { OnErr result (self.new ≡ self.old) }
         ensures proper { IfOk result IsProperReply }
     {
@@ -65,22 +75,22 @@ impl Tree {
             Op::Unlink { path } => Ok(unlink(self, path.as_slice())),
             Op::Rmdir { path } => Ok(rmdir(self, path.as_slice())),
             Op::Rename { path, to } => rename(self, path.as_slice(), to.as_slice()),
-            _ => self.apply_to_bytes(op, m),
+            _ => self.apply_to_bytes(op, when, m),
         }
     }
 
     // Does an operation that writes, reads or looks.
-    fn apply_to_bytes(&mut self, op: &Op, m: u32) -> Result<Reply, NoMemory>
+    fn apply_to_bytes(&mut self, op: &Op, when: u64, m: u32) -> Result<Reply, NoMemory>
         requires can { CanApply self.old op.now }
         requires bytes { names op.now ≡ false }
-        ensures ok { (birth : ℕ) → IfOk result (λ reply. apply self.old op.now birth m ≡ gives self.new reply) }
+        ensures ok { (birth : ℕ) → IfOk result (λ reply. apply self.old op.now birth when m ≡ gives self.new reply) }
         ensures err { OnErr result (self.new ≡ self.old) }
         ensures proper { IfOk result IsProperReply }
     {
         match op {
             Op::Write { path, off, bytes } => {
                 let bytes = Bytes::Text(bytes.as_slice());
-                put_at(self, m, path.as_slice(), *off, &bytes)
+                put_at(self, when, m, path.as_slice(), *off, &bytes)
             }
             Op::Fill {
                 path,
@@ -89,9 +99,16 @@ impl Tree {
                 byte,
             } => {
                 let (len, byte) = (*len, *byte);
-                put_at(self, m, path.as_slice(), *off, &Bytes::Same { len, byte })
+                put_at(
+                    self,
+                    when,
+                    m,
+                    path.as_slice(),
+                    *off,
+                    &Bytes::Same { len, byte },
+                )
             }
-            Op::Truncate { path, len } => Ok(truncate(self, path.as_slice(), *len)),
+            Op::Truncate { path, len } => Ok(truncate(self, when, path.as_slice(), *len)),
             Op::Read { path, off, len } => read(self, path.as_slice(), *off, *len),
             Op::Stat { path } => Ok(stat(self, path.as_slice())),
             Op::List { path } => list(self, path.as_slice()),

@@ -26,7 +26,7 @@ const FILE_BYTES_MAX: usize = 1_114_112;
 // Why bytes can't be put into a file, if they can't.
 fn refused(tree: &Tree, m: u32, cells: &Cells, off: usize, len: usize) -> Option<Reply>
     requires { off + len < 2 ^ 64 }
-    ensures is { (birth links : ℕ) (put : List TheCell → List TheCell) → written tree.now m birth cells.now links off len put ≡ by_refusal tree.now result (with_node tree.now birth (File (put cells.now) links)) }
+    ensures is { (birth links when : ℕ) (put : List TheCell → List TheCell) → written tree.now m birth cells.now links when off len put ≡ by_refusal tree.now result (with_node tree.now birth (File (put cells.now) links when)) }
     ensures proper { IfSome result IsProperReply }
     ensures room { IfNone result (CanGrow tree.now (length cells.now) off len) }
 {
@@ -49,15 +49,16 @@ fn refused(tree: &Tree, m: u32, cells: &Cells, off: usize, len: usize) -> Option
     None
 }
 
-/// Answers `write` and `fill`. After `NoMemory` the tree is as before.
+/// Answers `write` and `fill`, at a time. After `NoMemory` the tree is as before.
 pub fn put_at(
     tree: &mut Tree,
+    when: u64,
     m: u32,
     path: &[Name],
     off: u32,
     bytes: &Bytes,
 ) -> Result<Reply, NoMemory>
-    ensures ok { IfOk result (λ reply. at_file tree.old (place tree.old path.now) (λ b cells links. written tree.old m b cells links off (size_of bytes.now) (λ old. overwritten old off (cells_of bytes.now))) ≡ gives tree.new reply) }
+    ensures ok { IfOk result (λ reply. at_file tree.old (place tree.old path.now) (λ b cells links old. written tree.old m b cells links when off (size_of bytes.now) (λ all. overwritten all off (cells_of bytes.now))) ≡ gives tree.new reply) }
     ensures err { OnErr result (tree.new ≡ tree.old) }
     ensures proper { IfOk result IsProperReply }
 {
@@ -70,13 +71,13 @@ pub fn put_at(
         Some(reply) => return Ok(reply),
         None => {}
     }
-    tree.put_bytes(birth, off as usize, bytes)?;
+    tree.put_bytes(birth, when, off as usize, bytes)?;
     Ok(Reply::Ok)
 }
 
-/// Answers `truncate`.
-pub fn truncate(tree: &mut Tree, path: &[Name], len: u32) -> Reply
-    ensures is { at_file tree.old (place tree.old path.now) (λ b cells links. truncated tree.old b cells links len) ≡ gives tree.new result }
+/// Answers `truncate`, at a time.
+pub fn truncate(tree: &mut Tree, when: u64, path: &[Name], len: u32) -> Reply
+    ensures is { at_file tree.old (place tree.old path.now) (λ b cells links old. truncated tree.old b cells links when len) ≡ gives tree.new result }
     ensures proper { IsProperReply result }
 {
     let file = match file_at(tree, path) {
@@ -87,7 +88,7 @@ pub fn truncate(tree: &mut Tree, path: &[Name], len: u32) -> Reply
     if file.cells.len() < len as usize {
         return Reply::BadOffset;
     }
-    tree.cut(birth, len as usize);
+    tree.cut(birth, when, len as usize);
     Reply::Ok
 }
 
@@ -122,8 +123,8 @@ fn shown(tree: &Tree, cells: &Cells, off: u32, len: u32) -> Result<Reply, NoMemo
 
 /// Answers `read`, where it shows no cell in doubt.
 pub fn read(tree: &Tree, path: &[Name], off: u32, len: u32) -> Result<Reply, NoMemory>
-    requires { shows_sure (at_file tree.now (place tree.now path.now) (λ b cells links. shown tree.now cells off len)).answer ≡ true }
-    ensures is { IfOk result (λ reply. at_file tree.now (place tree.now path.now) (λ b cells links. shown tree.now cells off len) ≡ gives tree.now reply) }
+    requires { shows_sure (at_file tree.now (place tree.now path.now) (λ b cells links at. shown tree.now cells off len)).answer ≡ true }
+    ensures is { IfOk result (λ reply. at_file tree.now (place tree.now path.now) (λ b cells links at. shown tree.now cells off len) ≡ gives tree.now reply) }
     ensures proper { IfOk result IsProperReply }
 {
     match file_at(tree, path) {

@@ -71,7 +71,7 @@ pub fn lines_from(
     }
     match nodes.get(&birth) {
         None => {}
-        Some(Node::File { cells, links }) => {
+        Some(Node::File { cells, links, .. }) => {
             lines.push(node_line(alloc, text, 1, cells.len() as u32, *links)?)?;
         }
         Some(Node::Link { target, .. }) => {

@@ -3,16 +3,16 @@ ghost use Rattle.std.specs.Prelude.{◌≡◌, IfOk, IfSome, IsTrue, map};
 ghost use Rattle.std.specs.List.{list_all};
 ghost use Rattle.std.specs.Option.{option_copied};
 ghost use Rattle.frang_base.specs.Name.{is_name};
-ghost use Rattle.frang_base.specs.declared.reply.Reply.TheVariants.{Time};
 ghost use Rattle.script_definitions.specs.SaidReading.{IsProperReply};
 ghost use Rattle.tree_definitions.specs.Tree.{FileTree};
 ghost use Rattle.tree_definitions.specs.Place.{place};
-ghost use Rattle.tree_definitions.specs.Apply.{says, at_node, at_file, described, listed, target_of};
+ghost use Rattle.tree_definitions.specs.Apply.{says, at_node, at_file, time_of, described, listed, target_of};
 ghost use Rattle.file_tree.specs.Proper.{HasTarget};
 ghost use Rattle.file_tree.specs.Replies.{gives};
 
 use crate::Tree;
 use crate::place::{file_at, reached};
+use frang_base::limits::RUN_TICKS_END;
 use frang_base::{Name, NameList, NoMemory, Reply, Text};
 use std::alloc::Global;
 use tree_definitions::{Entries, Node};
@@ -23,7 +23,7 @@ fn described(node: Option<&Node>) -> Reply
     ensures proper { IsProperReply result }
 {
     match node {
-        Some(Node::File { cells, links }) => Reply::File {
+        Some(Node::File { cells, links, .. }) => Reply::File {
             size: cells.len() as u32,
             links: *links,
         },
@@ -109,13 +109,16 @@ pub fn readlink(tree: &Tree, path: &[Name]) -> Result<Reply, NoMemory>
     }
 }
 
-/// Answers `time`: no times are kept.
+/// Answers `time`: the run and the tick of the last time at which the file was written or cut, both 0 where it never was.
 pub fn time(tree: &Tree, path: &[Name]) -> Reply
-    ensures is { at_file tree.now (place tree.now path.now) (λ b cells links. says tree.now (Time 0 0)) ≡ gives tree.now result }
+    ensures is { at_file tree.now (place tree.now path.now) (λ b cells links at. says tree.now (time_of at)) ≡ gives tree.now result }
     ensures proper { IsProperReply result }
 {
     match file_at(tree, path) {
-        Ok(_) => Reply::Time { run: 0, tick: 0 },
+        Ok(file) => Reply::Time {
+            run: (file.when / RUN_TICKS_END) as u32,
+            tick: (file.when % RUN_TICKS_END) as u32,
+        },
         Err(refusal) => refusal.reply(),
     }
 }

@@ -207,9 +207,9 @@ impl Tree {
     }
 
     /// Does an operation whose paths may lead through links, and answers it as `apply` does.
-    pub fn perform(&mut self, op: &Op, birth: OpNo, m: u32) -> Result<Reply, NoMemory>
+    pub fn perform(&mut self, op: &Op, birth: OpNo, when: u64, m: u32) -> Result<Reply, NoMemory>
         requires { CanPerform self.old op.now }
-        ensures ok { IfOk result (λ reply. perform self.old op.now birth.0 m ≡ gives self.new reply) }
+        ensures ok { IfOk result (λ reply. perform self.old op.now birth.0 when m ≡ gives self.new reply) }
         ensures err { OnErr result (self.new ≡ self.old) }
         ensures proper { IfOk result IsProperReply }
     {
@@ -218,7 +218,7 @@ impl Tree {
             trail: _trail,
         } = self.resolved(op)?;
         match step {
-            Step::Goes(over) => self.apply(&over, birth, m),
+            Step::Goes(over) => self.apply(&over, birth, when, m),
             Step::Stops(refusal) => Ok(refusal.reply()),
         }
     }

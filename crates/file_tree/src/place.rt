@@ -134,24 +134,26 @@ pub fn reached(tree: &Tree, path: &[Name]) -> Result<u64, Refusal>
     }
 }
 
-/// A file of the tree.
+/// A file of the tree, with the time of its node.
 #[derive(Drop)]
 pub struct FileAt<'t> {
     pub birth: u64,
     pub cells: &'t Cells,
     pub links: u32,
+    pub when: u64,
 }
 
 // A node that has to be a file.
 fn file_of(tree: &Tree, birth: u64) -> Result<FileAt<'_>, Refusal>
-    ensures is { (next : ℕ → List Cell → ℕ → Applied) → if_file tree.now next birth (node_at tree.now birth) ≡ by_file tree.now next result }
-    ensures there { IfOk result (λ file. node_at tree.now file.birth ≡ Some (File file.cells.now file.links)) }
+    ensures is { (next : ℕ → List Cell → ℕ → ℕ → Applied) → if_file tree.now next birth (node_at tree.now birth) ≡ by_file tree.now next result }
+    ensures there { IfOk result (λ file. node_at tree.now file.birth ≡ Some (File file.cells.now file.links file.when)) }
 {
     match tree.node(birth) {
-        Some(Node::File { cells, links }) => Ok(FileAt {
+        Some(Node::File { cells, links, when }) => Ok(FileAt {
             birth,
             cells,
             links: *links,
+            when: *when,
         }),
         Some(Node::Dir { .. }) => Err(Refusal::IsDir),
         Some(Node::Link { .. }) => Err(Refusal::Inval),
@@ -161,8 +163,8 @@ fn file_of(tree: &Tree, birth: u64) -> Result<FileAt<'_>, Refusal>
 
 /// The file at a path, or why there is none.
 pub fn file_at<'t>(tree: &'t Tree, path: &[Name]) -> Result<FileAt<'t>, Refusal>
-    ensures is { (next : ℕ → List Cell → ℕ → Applied) → at_file tree.now (place tree.now path.now) next ≡ by_file tree.now next result }
-    ensures there { IfOk result (λ file. node_at tree.now file.birth ≡ Some (File file.cells.now file.links)) }
+    ensures is { (next : ℕ → List Cell → ℕ → ℕ → Applied) → at_file tree.now (place tree.now path.now) next ≡ by_file tree.now next result }
+    ensures there { IfOk result (λ file. node_at tree.now file.birth ≡ Some (File file.cells.now file.links file.when)) }
 {
     match reached(tree, path) {
         Ok(birth) => file_of(tree, birth),

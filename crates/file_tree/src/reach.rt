@@ -18,10 +18,11 @@ fn file_of(tree: &Tree, birth: u64) -> Option<FileAt<'_>>
     ensures { option_map file_in result ≡ file_of birth (node_at tree.now birth) }
 {
     match tree.node(birth) {
-        Some(Node::File { cells, links }) => Some(FileAt {
+        Some(Node::File { cells, links, when }) => Some(FileAt {
             birth,
             cells,
             links: *links,
+            when: *when,
         }),
         Some(Node::Dir { .. } | Node::Link { .. }) | None => None,
     }
@@ -58,8 +59,8 @@ impl Tree {
 
     /// The cells that a read of a path shows, or the reply that refuses it.
     pub fn read_at(&self, path: &[Name], off: u32, len: u32) -> Result<&[Cell], Reply>
-        ensures shows { IfOk result (λ cells. (at_file self.now (place self.now path.now) (λ b cells links. shown self.now cells off len)).answer ≡ Shows cells.now) }
-        ensures refused { IfErr result (λ reply. (at_file self.now (place self.now path.now) (λ b cells links. shown self.now cells off len)).answer ≡ Plain reply) }
+        ensures shows { IfOk result (λ cells. (at_file self.now (place self.now path.now) (λ b cells links at. shown self.now cells off len)).answer ≡ Shows cells.now) }
+        ensures refused { IfErr result (λ reply. (at_file self.now (place self.now path.now) (λ b cells links at. shown self.now cells off len)).answer ≡ Plain reply) }
     {
         let file = match place::file_at(self, path) {
             Ok(file) => file,

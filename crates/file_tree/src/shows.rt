@@ -1,12 +1,13 @@
 // Bytes that a read showed.
 ghost use Rattle.std.specs.Prelude.{◌≡◌, OnOk, OnErr, IfSome, true, map};
+ghost use Rattle.std.specs.Option.{option_copied};
 ghost use Rattle.tree_definitions.specs.declared.cells.Cell.TheVariants.{Byte};
 ghost use Rattle.tree_definitions.specs.Tree.{node_at};
 ghost use Rattle.tree_definitions.specs.Place.{place};
 ghost use Rattle.tree_definitions.specs.History.{cell_shows, cells_show, file_of, file_at};
 ghost use Rattle.tree_edits.specs.Counts.{IsWithin};
 ghost use Rattle.tree_edits.specs.Edits.{CanPut};
-ghost use Rattle.file_tree.specs.Shown.{file_shows, shown_at};
+ghost use Rattle.file_tree.specs.Shown.{file_shows, node_time, shown_at};
 
 use crate::Tree;
 use crate::place::{Place, ROOT, place_from};
@@ -58,13 +59,24 @@ fn file_shows(tree: &Tree, birth: u64, off: u32, len: u32, bytes: &[u8]) -> bool
     }
 }
 
+// The time of a node, 0 where it is no file.
+fn time_of(node: Option<&Node>) -> u64
+    ensures { result ≡ node_time (option_copied node.entry) }
+{
+    match node {
+        Some(Node::File { when, .. }) => *when,
+        Some(Node::Dir { .. } | Node::Link { .. }) | None => 0,
+    }
+}
+
 // A read of a node that showed bytes: where a file's cells show them, they become them. After `NoMemory` the tree is as before.
 fn show_at(tree: &mut Tree, birth: u64, off: u32, len: u32, bytes: &[u8]) -> Result<(), NoMemory>
     ensures ok { OnOk result (tree.new ≡ shown_at tree.old (file_of birth (node_at tree.old birth)) off len bytes.now) }
     ensures err { OnErr result (tree.new ≡ tree.old) }
 {
     if file_shows(tree, birth, off, len, bytes) {
-        tree.put_bytes(birth, off as usize, &Bytes::Text(bytes))?;
+        let when = time_of(tree.node(birth));
+        tree.put_bytes(birth, when, off as usize, &Bytes::Text(bytes))?;
     }
     Ok(())
 }

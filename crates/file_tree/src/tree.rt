@@ -258,31 +258,32 @@ impl Tree {
         nodes::set_links(&mut self.nodes, birth, count);
     }
 
-    /// Bytes are put into a file. After `NoMemory` the tree is as before.
+    /// Bytes are put into a file, at a time. After `NoMemory` the tree is as before.
     pub(crate) fn put_bytes(
         &mut self,
         birth: u64,
+        when: u64,
         off: usize,
         bytes: &Bytes,
     ) -> Result<(), NoMemory>
         requires can { IfSome (node_at self.old birth) (CanPut off (cells_of bytes.now)) }
-        requires room { IfSome (node_at self.old birth) (λ node. HasRoom self.old birth (blocks_of (with_cells off (cells_of bytes.now) node))) }
-        ensures ok { OnOk result (self.new ≡ edited self.old birth (with_cells off (cells_of bytes.now))) }
+        requires room { IfSome (node_at self.old birth) (λ node. HasRoom self.old birth (blocks_of (with_cells when off (cells_of bytes.now) node))) }
+        ensures ok { OnOk result (self.new ≡ edited self.old birth (with_cells when off (cells_of bytes.now))) }
         ensures err { OnErr result (self.new ≡ self.old) }
     {
         let before = nodes::blocks_in(&self.nodes, birth);
-        nodes::put_bytes(&mut self.nodes, birth, off, bytes)?;
+        nodes::put_bytes(&mut self.nodes, birth, when, off, bytes)?;
         let after = nodes::blocks_in(&self.nodes, birth);
         self.taken = self.taken.with(before, after);
         Ok(())
     }
 
-    /// A file keeps its first bytes.
-    pub(crate) fn cut(&mut self, birth: u64, len: usize)
-        ensures { self.new ≡ edited self.old birth (with_first len) }
+    /// A file keeps its first bytes, at a time.
+    pub(crate) fn cut(&mut self, birth: u64, when: u64, len: usize)
+        ensures { self.new ≡ edited self.old birth (with_first when len) }
     {
         let before = nodes::blocks_in(&self.nodes, birth);
-        nodes::cut(&mut self.nodes, birth, len);
+        nodes::cut(&mut self.nodes, birth, when, len);
         let after = nodes::blocks_in(&self.nodes, birth);
         self.taken = self.taken.with(before, after);
     }

@@ -94,6 +94,9 @@ pub const LINE_TICKS_MAX: u64 = 10_000;
 /// The operation numbers of a run: its lines are numbered below this.
 pub const RUN_LINES_END: u64 = 1 << 32;
 
+/// The ticks of a run: a time is the number of the run times this, plus a tick below it.
+pub const RUN_TICKS_END: u64 = 1 << 32;
+
 /// The number of the last run that a disk can have.
 pub const RUNS_MAX: u64 = (1 << 32) - 1;
 

@@ -15,3 +15,4 @@ pub mod SayablePaths
 pub mod SayableLines
 pub mod SayableHistories
 pub mod SayableScripts
+pub mod TicksLaws

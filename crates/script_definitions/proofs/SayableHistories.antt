@@ -25,7 +25,7 @@ use Rattle.tree_definitions.specs.Place.{Place, Root, Taken, Free, Nowhere, plac
 use Rattle.tree_definitions.specs.Apply.{overwritten}
 use Rattle.tree_definitions.specs.Perform.{Step, Goes, Stops, resolved}
 use Rattle.tree_definitions.specs.Removal.{is_of, begins_removal, left, doubtful, recovered, settled_from, settled, tree_of}
-use Rattle.tree_definitions.specs.Live.{line_of, number_of, item_of_what, item_of_line, item_of, live_history}
+use Rattle.tree_definitions.specs.Live.{line_of, number_of, time_in, script_time, item_of_what, item_of_line, item_of, live_history}
 use Rattle.tree_definitions.specs.History.{Opening, told_blocks, applied, is_answer, leaves_tree, file_of, file_at, with_shown, after_read, after_step, tree_after, CellRun, Settled, Stays, InDoubt, doubted_cells, doubted_file, doubted, after, after_all}
 use Rattle.script_definitions.specs.Sayable.{IsSayableCell, IsNodeIfOf, IsSayableNode, IsSayableTree, IsSayableReply, IsSayableWhat, IsSayableLine, IsSayableEntry, IsSayableItem, IsSayableStep, HasSayableReply}
 use Rattle.script_definitions.proofs.SayableTrees.{either, put_sayable, found_sayable, over_sayable, bytes_sayable}
@@ -35,12 +35,12 @@ byte_sayable : (b : ℕ) → b < 256 → IsSayableCell (Byte b)
 byte_sayable b h = h
 
 -- a file that is found
-abbrev IsSayableFile : Option (ℕ × (List Cell × ℕ)) → Type 0
+abbrev IsSayableFile : Option (ℕ × (List Cell × (ℕ × ℕ))) → Type 0
 IsSayableFile None = Unit {0}
 IsSayableFile (Some file) = All IsSayableCell file.1.0
 
 file_of_sayable : (birth : ℕ) (node : Option Node) → IsNodeIfOf IsSayableCell node → IsSayableFile (file_of birth node)
-file_of_sayable birth (Some (File cells links)) h = h
+file_of_sayable birth (Some (File cells links when)) h = h
 file_of_sayable birth (Some (Dir entries blocks)) h = tt
 file_of_sayable birth (Some (Link target links)) h = tt
 file_of_sayable birth None h = tt
@@ -52,9 +52,9 @@ file_at_sayable tree (Free dir entries blocks name) h = tt
 file_at_sayable tree (Nowhere r) h = tt
 
 -- an entry
-with_shown_sayable : (tree : FileTree) (file : Option (ℕ × (List Cell × ℕ))) (off : ℕ) (bytes : List ℕ) → IsSayableTree tree → IsSayableFile file → All (λ b. b < 256) bytes → IsSayableTree (with_shown tree file off bytes)
+with_shown_sayable : (tree : FileTree) (file : Option (ℕ × (List Cell × (ℕ × ℕ)))) (off : ℕ) (bytes : List ℕ) → IsSayableTree tree → IsSayableFile file → All (λ b. b < 256) bytes → IsSayableTree (with_shown tree file off bytes)
 with_shown_sayable tree None off bytes h k l = h
-with_shown_sayable tree (Some file) off bytes h k l = put_sayable IsSayableCell byte_sayable 0 tree file.0 (File (overwritten file.1.0 off (map Byte bytes)) file.1.1) h (over_sayable IsSayableCell byte_sayable 0 file.1.0 off (map Byte bytes) k (bytes_sayable IsSayableCell byte_sayable 0 bytes l))
+with_shown_sayable tree (Some file) off bytes h k l = put_sayable IsSayableCell byte_sayable 0 tree file.0 (File (overwritten file.1.0 off (map Byte bytes)) file.1.1.0 file.1.1.1) h (over_sayable IsSayableCell byte_sayable 0 file.1.0 off (map Byte bytes) k (bytes_sayable IsSayableCell byte_sayable 0 bytes l))
 
 read_sayable : (tree : FileTree) (o : Op) (r : Reply) → IsSayableTree tree → IsSayableReply r → IsSayableTree (after_read tree o r)
 read_sayable tree (op.Read path off len) (reply.Shown bytes) h k = with_shown_sayable tree (file_at tree (place tree path)) off bytes h (file_at_sayable tree (place tree path) h) k
@@ -68,7 +68,7 @@ read_step_sayable tree (Stops q) r h k = h
 pub entry_sayable : (tree : FileTree) (e : Entry) → IsSayableTree tree → IsSayableEntry e → IsSayableTree (tree_after tree e)
 entry_sayable tree e h k =
     either IsSayableTree (leaves_tree e.op e.reply) _ _ h
-    (either IsSayableTree (is_answer tree e) _ _ (read_step_sayable (applied tree e).tree (resolved tree e.op).step e.reply (perform_sayable IsSayableCell byte_sayable (told_blocks tree e.reply) tree e.op e.number.0 h k.0).tree k.1) h)
+    (either IsSayableTree (is_answer tree e) _ _ (read_step_sayable (applied tree e).tree (resolved tree e.op).step e.reply (perform_sayable IsSayableCell byte_sayable (told_blocks tree e.reply) tree e.op e.number.0 e.when h k.0).tree k.1) h)
 
 -- cells in doubt
 doubt_sayable : (cells : List Cell) (from count : ℕ) → All IsSayableCell cells → All IsSayableCell (doubted_cells cells from count)
@@ -78,9 +78,9 @@ doubt_sayable cells from count h =
     (All-append IsSayableCell (take from cells) doubt (All-take IsSayableCell from cells h) (All-map IsSayableCell (λ c. Doubtful) (take count (drop from cells)) (λ k d l. tt)))
     (All-drop IsSayableCell (from + count) cells h)
 
-doubted_file_sayable : (tree : FileTree) (file : Option (ℕ × (List Cell × ℕ))) (from count : ℕ) → IsSayableTree tree → IsSayableFile file → IsSayableTree (doubted_file tree file from count)
+doubted_file_sayable : (tree : FileTree) (file : Option (ℕ × (List Cell × (ℕ × ℕ)))) (from count : ℕ) → IsSayableTree tree → IsSayableFile file → IsSayableTree (doubted_file tree file from count)
 doubted_file_sayable tree None from count h k = h
-doubted_file_sayable tree (Some file) from count h k = put_sayable IsSayableCell byte_sayable 0 tree file.0 (File (doubted_cells file.1.0 from count) file.1.1) h (doubt_sayable file.1.0 from count k)
+doubted_file_sayable tree (Some file) from count h k = put_sayable IsSayableCell byte_sayable 0 tree file.0 (File (doubted_cells file.1.0 from count) file.1.1.0 file.1.1.1) h (doubt_sayable file.1.0 from count k)
 
 doubted_sayable : (tree : FileTree) (runs : List CellRun) → IsSayableTree tree → IsSayableTree (doubted tree runs)
 doubted_sayable tree [] h = h
@@ -136,16 +136,16 @@ line_sayable : (script : List Line) (number : ℕ) → All IsSayableLine script 
 line_sayable [] number h = tt
 line_sayable (line ∷ script) number h = found_step (eqb line.number number) line (line_of script number) (All-head IsSayableLine line script h) (line_sayable script number (All-tail IsSayableLine line script h))
 
-what_sayable : (run : ℕ) (server : ServerId) (r : Reply) (number : ℕ) (what : What) → IsSayableWhat what → IsSayableReply r → All IsSayableItem (item_of_what run server r number what)
-what_sayable run server r number (Server o) h k = All-cons IsSayableItem (Did (record { server = server; number = record { 0 = number_of run number }; op = o; reply = r })) [] (h, k) (All-nil IsSayableItem)
-what_sayable run server r number (Host o) h k = All-nil IsSayableItem
+what_sayable : (run : ℕ) (server : ServerId) (r : Reply) (number ticks : ℕ) (what : What) → IsSayableWhat what → IsSayableReply r → All IsSayableItem (item_of_what run server r number ticks what)
+what_sayable run server r number ticks (Server o) h k = All-cons IsSayableItem (Did (record { server = server; number = record { 0 = number_of run number }; when = time_in run ticks; op = o; reply = r })) [] (h, k) (All-nil IsSayableItem)
+what_sayable run server r number ticks (Host o) h k = All-nil IsSayableItem
 
-of_line_sayable : (run : ℕ) (server : ServerId) (r : Reply) (number : ℕ) (o : Option Line) → IsSayableFound o → IsSayableReply r → All IsSayableItem (item_of_line run server r number o)
-of_line_sayable run server r number None h k = All-nil IsSayableItem
-of_line_sayable run server r number (Some line) h k = what_sayable run server r number line.what h k
+of_line_sayable : (run : ℕ) (server : ServerId) (r : Reply) (number ticks : ℕ) (o : Option Line) → IsSayableFound o → IsSayableReply r → All IsSayableItem (item_of_line run server r number ticks o)
+of_line_sayable run server r number ticks None h k = All-nil IsSayableItem
+of_line_sayable run server r number ticks (Some line) h k = what_sayable run server r number ticks line.what h k
 
 item_sayable : (script : List Line) (run : ℕ) (s : Said) → All IsSayableLine script → HasSayableReply s → All IsSayableItem (item_of script run s)
-item_sayable script run (said.Answer server line r) h k = of_line_sayable run server r line (line_of script line) (line_sayable script line h) k
+item_sayable script run (said.Answer server line r) h k = of_line_sayable run server r line (script_time script line) (line_of script line) (line_sayable script line h) k
 item_sayable script run (said.Recovered server kept) h k = All-cons IsSayableItem (Recovered server kept) [] tt (All-nil IsSayableItem)
 item_sayable script run _ h k = All-nil IsSayableItem
 

@@ -73,7 +73,7 @@ entries_lines f (e ∷ entries) h k =
 
 node_lines : (text : List ℕ) (node : Option Node) (f : List ℕ × ℕ → List Said) → IsBelow text → IsNodeIfOf IsSayableCell node → ((e : List ℕ × ℕ) → is_name e.0 ≡ true → All IsTreeLine (f e)) → All IsTreeLine (lines_with text node f)
 node_lines text None f h k more = All-nil IsTreeLine
-node_lines text (Some (File cells links)) f h k more = All-cons IsTreeLine (said.Node (lines.path_text text) 1 (length cells) links) [] (below_path text h, inl refl) (All-nil IsTreeLine)
+node_lines text (Some (File cells links when)) f h k more = All-cons IsTreeLine (said.Node (lines.path_text text) 1 (length cells) links) [] (below_path text h, inl refl) (All-nil IsTreeLine)
 node_lines text (Some (Link target links)) f h k more = All-cons IsTreeLine (said.Node (lines.path_text text) 3 (length target) 0) [] (below_path text h, inr (inr refl, refl)) (All-nil IsTreeLine)
 node_lines text (Some (Dir entries blocks)) f h k more = All-cons IsTreeLine (said.Node (lines.path_text text) 2 (length entries) 0) (flat_map f entries) (below_path text h, inr (inl refl, refl)) (entries_lines f entries k more)
 

@@ -1,7 +1,7 @@
 -- What an operation that can be said comes to once links are followed can be said: paths without links are of names, since targets that are
 -- no paths lead nowhere.
-use Rattle.std.proofs.Common.{◌≡◌, ℕ, zero, suc, ◌<◌, Bool, true, false, ◌&&◌, cond, List, [], ◌∷◌, ◌++◌, Option, Some, None, Result, Ok, Err, refl}
-use Rattle.std.specs.List.{All, list_all}
+use Rattle.std.proofs.Common.{◌≡◌, ℕ, zero, suc, ◌<◌, Bool, true, false, cond, List, [], ◌∷◌, ◌++◌, Option, Some, None, Result, Ok, Err, refl}
+use Rattle.std.specs.List.{list_all}
 use Rattle.std.proofs.lemmas.Bool.{and_parts, and_from}
 use Rattle.frang_base.specs.Name.{is_name}
 use Rattle.frang_base.specs.PathText.{path_of}
@@ -49,11 +49,11 @@ module _ (m : ℕ) (t : FileTree) where
         go true = each b target dir above [] h l
         go false = k
     at_node dir above here [] b into h k l i (Some (Dir es n)) = k
-    at_node dir above here [] b into h k l i (Some (File cells n)) = k
+    at_node dir above here [] b into h k l i (Some (File cells n w)) = k
     at_node dir above here [] b into h k l i None = k
     at_node dir above here (x ∷ xs) b into h k l i (Some (Link target links)) = each b target dir above (x ∷ xs) h l
     at_node dir above here (x ∷ xs) b into h k l i (Some (Dir es n)) = i
-    at_node dir above here (x ∷ xs) b into h k l i (Some (File cells n)) = tt
+    at_node dir above here (x ∷ xs) b into h k l i (Some (File cells n w)) = tt
     at_node dir above here (x ∷ xs) b into h k l i None = tt
 
     at_a_name : (dir : ℕ) (above here names : List (List ℕ)) (into : ℕ → Resolution) → IsSayablePath above → IsSayablePath here → IsSayablePath names → ((b : ℕ) → EndIs (into b).end) → (o : Option ℕ)
@@ -65,7 +65,7 @@ module _ (m : ℕ) (t : FileTree) where
     below : (dir : ℕ) (name : List ℕ) (above here names : List (List ℕ)) (into : ℕ → Resolution) → IsSayablePath above → IsSayablePath here → IsSayablePath names → ((b : ℕ) → EndIs (into b).end) → (o : Option Node)
         → EndIs (below_node t last (λ link target. f link target dir above names) into here dir name names o).end
     below dir name above here names into h k l i (Some (Dir es n)) = at_a_name dir above here names into h k l i (entry_at es name)
-    below dir name above here names into h k l i (Some (File cells n)) = tt
+    below dir name above here names into h k l i (Some (File cells n w)) = tt
     below dir name above here names into h k l i (Some (Link target n)) = tt
     below dir name above here names into h k l i None = tt
 
@@ -139,9 +139,9 @@ module _ (m : ℕ) (t : FileTree) where
 
 -- what is performed can be said
 module _ (C : Cell → Type 0) (byte_is : (b : ℕ) → b < 256 → C (Byte b)) (m : ℕ) (t : FileTree) where
-  step_sayable : (s : Step) (birth : ℕ) → IsTreeOf C t → StepIs m t s → IsAppliedOf C m (perform_step t s birth m)
-  step_sayable (Goes o) birth h k = apply_sayable C byte_is m t o birth h k
-  step_sayable (Stops r) birth h k = record { answer = k; tree = h }
+  step_sayable : (s : Step) (birth when : ℕ) → IsTreeOf C t → StepIs m t s → IsAppliedOf C m (perform_step t s birth when m)
+  step_sayable (Goes o) birth when h k = apply_sayable C byte_is m t o birth when h k
+  step_sayable (Stops r) birth when h k = record { answer = k; tree = h }
 
-  pub perform_sayable : (o : Op) (birth : ℕ) → IsTreeOf C t → IsSayableOp o → IsAppliedOf C m (perform t o birth m)
-  perform_sayable o birth h k = step_sayable (resolved t o).step birth h (resolved_sayable m t o k)
+  pub perform_sayable : (o : Op) (birth when : ℕ) → IsTreeOf C t → IsSayableOp o → IsAppliedOf C m (perform t o birth when m)
+  perform_sayable o birth when h k = step_sayable (resolved t o).step birth when h (resolved_sayable m t o k)

@@ -20,7 +20,7 @@ use Rattle.tree_definitions.specs.declared.node.Node.TheVariants.{Dir, File, Lin
 use Rattle.tree_definitions.specs.Entries.{Entries, entry_at, with_entry, without_entry}
 use Rattle.tree_definitions.specs.Tree.{FileTree, node_at, with_node, without_node, count_of, file_blocks, small_blocks_of, large_blocks_of, inodes_full, larges_full, entries_full, grown, lacks_block}
 use Rattle.tree_definitions.specs.Place.{Place, Root, Taken, Free, Nowhere, place_by, place_in, below, place_from, place}
-use Rattle.tree_definitions.specs.Apply.{Applied, says, named, made, is_dir, links_of, one_link_more, linked_to, linked, one_link_fewer, has_entries, unlinked, dir_removed, name_gone, name_set, moved, room_made, moved_onto, moved_to, goes_through, renamed_to, renamed_from, renamed, at_node, if_file, at_file, overwritten, written, truncated, shown, described, listed, target_of, apply}
+use Rattle.tree_definitions.specs.Apply.{Applied, says, named, made, is_dir, links_of, one_link_more, linked_to, linked, one_link_fewer, has_entries, unlinked, dir_removed, name_gone, name_set, moved, room_made, moved_onto, moved_to, goes_through, renamed_to, renamed_from, renamed, at_node, if_file, at_file, overwritten, written, truncated, shown, time_of, described, listed, target_of, apply}
 use Rattle.script_definitions.specs.Sayable.{AreSayableEntries, IsNodeOf, IsNodeIfOf, IsTreeOf, IsSayablePath, IsSayableOp, IsTreeReply, IsAppliedOf}
 
 pub either : {A : Type 0} (P : A → Type 0) (b : Bool) (x y : A) → P x → P y → P (cond b x y)
@@ -74,7 +74,7 @@ module _ (C : Cell → Type 0) (byte_is : (b : ℕ) → b < 256 → C (Byte b)) 
 
   in_sayable : (node : Option Node) (dir : ℕ) (name : List ℕ) → NodeIf node → is_name name ≡ true → IsSayablePlace (place_in node dir name)
   in_sayable (Some (Dir entries blocks)) dir name h e = by_sayable dir entries blocks name (entry_at entries name) h e
-  in_sayable (Some (File cells links)) dir name h e = tt
+  in_sayable (Some (File cells links when)) dir name h e = tt
   in_sayable (Some (Link target links)) dir name h e = tt
   in_sayable None dir name h e = tt
 
@@ -109,7 +109,7 @@ module _ (C : Cell → Type 0) (byte_is : (b : ℕ) → b < 256 → C (Byte b)) 
       (answers (named (with_node tree birth node) dir entries blocks name birth) reply.Ok (named_sayable (with_node tree birth node) dir entries blocks name birth (put_sayable tree birth node h k) q.0 q.1) tt)))
 
   more_sayable : (tree : FileTree) (birth : ℕ) (node : Option Node) → TreeOf tree → NodeIf node → TreeOf (one_link_more tree birth node)
-  more_sayable tree birth (Some (File cells links)) h k = put_sayable tree birth (File cells (links + 1)) h k
+  more_sayable tree birth (Some (File cells links when)) h k = put_sayable tree birth (File cells (links + 1) when) h k
   more_sayable tree birth (Some (Link target links)) h k = put_sayable tree birth (Link target (links + 1)) h k
   more_sayable tree birth (Some (Dir entries blocks)) h k = h
   more_sayable tree birth None h k = h
@@ -132,7 +132,7 @@ module _ (C : Cell → Type 0) (byte_is : (b : ℕ) → b < 256 → C (Byte b)) 
   linked_sayable tree (Taken dir entries blocks name birth) to h q t = either AppliedOf (is_dir (node_at tree birth)) _ _ (answers tree reply.IsDir h tt) (linked_to_sayable tree birth to h t)
 
   fewer_sayable : (tree : FileTree) (birth : ℕ) (node : Option Node) → TreeOf tree → NodeIf node → TreeOf (one_link_fewer tree birth node)
-  fewer_sayable tree birth (Some (File cells links)) h k = either TreeOf (ltb 1 links) _ _ (put_sayable tree birth (File cells (links - 1)) h k) (gone_sayable tree birth h)
+  fewer_sayable tree birth (Some (File cells links when)) h k = either TreeOf (ltb 1 links) _ _ (put_sayable tree birth (File cells (links - 1) when) h k) (gone_sayable tree birth h)
   fewer_sayable tree birth (Some (Link target links)) h k = either TreeOf (ltb 1 links) _ _ (put_sayable tree birth (Link target (links - 1)) h k) (gone_sayable tree birth h)
   fewer_sayable tree birth (Some (Dir entries blocks)) h k = gone_sayable tree birth h
   fewer_sayable tree birth None h k = h
@@ -159,13 +159,13 @@ module _ (C : Cell → Type 0) (byte_is : (b : ℕ) → b < 256 → C (Byte b)) 
   -- renames
   name_gone_sayable : (tree : FileTree) (dir : ℕ) (name : List ℕ) (node : Option Node) → TreeOf tree → NodeIf node → TreeOf (name_gone tree dir name node)
   name_gone_sayable tree dir name (Some (Dir entries blocks)) h k = put_sayable tree dir (Dir (without_entry entries name) blocks) h (entry_fewer entries name k)
-  name_gone_sayable tree dir name (Some (File cells links)) h k = h
+  name_gone_sayable tree dir name (Some (File cells links when)) h k = h
   name_gone_sayable tree dir name (Some (Link target links)) h k = h
   name_gone_sayable tree dir name None h k = h
 
   name_set_sayable : (tree : FileTree) (dir : ℕ) (name : List ℕ) (birth : ℕ) (node : Option Node) → TreeOf tree → NodeIf node → is_name name ≡ true → TreeOf (name_set tree dir name birth node)
   name_set_sayable tree dir name birth (Some (Dir entries blocks)) h k e = put_sayable tree dir (Dir (with_entry entries name birth) blocks) h (entry_more entries name birth k e)
-  name_set_sayable tree dir name birth (Some (File cells links)) h k e = h
+  name_set_sayable tree dir name birth (Some (File cells links when)) h k e = h
   name_set_sayable tree dir name birth (Some (Link target links)) h k e = h
   name_set_sayable tree dir name birth None h k e = h
 
@@ -216,13 +216,13 @@ module _ (C : Cell → Type 0) (byte_is : (b : ℕ) → b < 256 → C (Byte b)) 
   at_sayable tree (Free dir entries blocks name) next h q k = answers tree reply.NoEnt h tt
   at_sayable tree (Nowhere r) next h q k = answers tree r h q
 
-  file_sayable : (tree : FileTree) (next : ℕ → List Cell → ℕ → Applied) (birth : ℕ) (node : Option Node) → TreeOf tree → NodeIf node → ((b : ℕ) (cells : List Cell) (links : ℕ) → All C cells → AppliedOf (next b cells links)) → AppliedOf (if_file tree next birth node)
-  file_sayable tree next birth (Some (File cells links)) h k f = f birth cells links k
+  file_sayable : (tree : FileTree) (next : ℕ → List Cell → ℕ → ℕ → Applied) (birth : ℕ) (node : Option Node) → TreeOf tree → NodeIf node → ((b : ℕ) (cells : List Cell) (links when : ℕ) → All C cells → AppliedOf (next b cells links when)) → AppliedOf (if_file tree next birth node)
+  file_sayable tree next birth (Some (File cells links when)) h k f = f birth cells links when k
   file_sayable tree next birth (Some (Dir entries blocks)) h k f = answers tree reply.IsDir h tt
   file_sayable tree next birth (Some (Link target links)) h k f = answers tree reply.Inval h tt
   file_sayable tree next birth None h k f = answers tree reply.NoEnt h tt
 
-  at_file_sayable : (tree : FileTree) (path : List (List ℕ)) (next : ℕ → List Cell → ℕ → Applied) → TreeOf tree → IsSayablePath path → ((b : ℕ) (cells : List Cell) (links : ℕ) → All C cells → AppliedOf (next b cells links)) → AppliedOf (at_file tree (place tree path) next)
+  at_file_sayable : (tree : FileTree) (path : List (List ℕ)) (next : ℕ → List Cell → ℕ → ℕ → Applied) → TreeOf tree → IsSayablePath path → ((b : ℕ) (cells : List Cell) (links when : ℕ) → All C cells → AppliedOf (next b cells links when)) → AppliedOf (at_file tree (place tree path) next)
   at_file_sayable tree path next h e f = at_sayable tree (place tree path) (λ birth node. if_file tree next birth node) h (place_sayable tree 0 path h e) (λ b node k. file_sayable tree next b node h k f)
 
   pub over_sayable : (cells : List Cell) (off : ℕ) (new : List Cell) → All C cells → All C new → All C (overwritten cells off new)
@@ -234,19 +234,19 @@ module _ (C : Cell → Type 0) (byte_is : (b : ℕ) → b < 256 → C (Byte b)) 
   pub bytes_sayable : (bytes : List ℕ) → All (λ b. b < 256) bytes → All C (map Byte bytes)
   bytes_sayable bytes h = All-map C Byte bytes (λ k d l. byte_is _ (h k d l))
 
-  written_sayable : (tree : FileTree) (birth : ℕ) (cells : List Cell) (links off len : ℕ) (put : List Cell → List Cell) → TreeOf tree → All C (put cells) → AppliedOf (written tree m birth cells links off len put)
-  written_sayable tree birth cells links off len put h k =
+  written_sayable : (tree : FileTree) (birth : ℕ) (cells : List Cell) (links when off len : ℕ) (put : List Cell → List Cell) → TreeOf tree → All C (put cells) → AppliedOf (written tree m birth cells links when off len put)
+  written_sayable tree birth cells links when off len put h k =
       let size = max (length cells) (off + len) in
       either AppliedOf (ltb (length cells) off) _ _ (answers tree reply.BadOffset h tt)
       (either AppliedOf (ltb 1114112 (off + len)) _ _ (answers tree reply.TooBig h tt)
       (either AppliedOf (ltb (large_blocks_of (length cells)) (large_blocks_of size) && larges_full tree) _ _ (answers tree reply.NoLarge h tt)
       (either AppliedOf (ltb (1024 * tree.segments - m) (count_of file_blocks tree + (small_blocks_of size - small_blocks_of (length cells)))) _ _ (answers tree (reply.NoBlock m) h refl)
-      (answers (with_node tree birth (File (put cells) links)) reply.Ok (put_sayable tree birth (File (put cells) links) h k) tt))))
+      (answers (with_node tree birth (File (put cells) links when)) reply.Ok (put_sayable tree birth (File (put cells) links when) h k) tt))))
 
-  truncated_sayable : (tree : FileTree) (birth : ℕ) (cells : List Cell) (links len : ℕ) → TreeOf tree → All C cells → AppliedOf (truncated tree birth cells links len)
-  truncated_sayable tree birth cells links len h k =
+  truncated_sayable : (tree : FileTree) (birth : ℕ) (cells : List Cell) (links when len : ℕ) → TreeOf tree → All C cells → AppliedOf (truncated tree birth cells links when len)
+  truncated_sayable tree birth cells links when len h k =
       either AppliedOf (ltb (length cells) len) _ _ (answers tree reply.BadOffset h tt)
-      (answers (with_node tree birth (File (take len cells) links)) reply.Ok (put_sayable tree birth (File (take len cells) links) h (All-take C len cells k)) tt)
+      (answers (with_node tree birth (File (take len cells) links when)) reply.Ok (put_sayable tree birth (File (take len cells) links when) h (All-take C len cells k)) tt)
 
   shown_sayable : (tree : FileTree) (cells : List Cell) (off len : ℕ) → TreeOf tree → All C cells → AppliedOf (shown tree cells off len)
   shown_sayable tree cells off len h k =
@@ -254,38 +254,38 @@ module _ (C : Cell → Type 0) (byte_is : (b : ℕ) → b < 256 → C (Byte b)) 
       (record { answer = All-take C len (drop off cells) (All-drop C off cells k); tree = h })
 
   described_sayable : (tree : FileTree) (node : Option Node) → TreeOf tree → AppliedOf (described tree node)
-  described_sayable tree (Some (File cells links)) h = answers tree (reply.File (length cells) links) h tt
+  described_sayable tree (Some (File cells links when)) h = answers tree (reply.File (length cells) links) h tt
   described_sayable tree (Some (Dir entries blocks)) h = answers tree (reply.Dir (length entries)) h tt
   described_sayable tree (Some (Link target links)) h = answers tree (reply.Symlink (length target)) h tt
   described_sayable tree None h = answers tree reply.NoEnt h tt
 
   listed_sayable : (tree : FileTree) (node : Option Node) → TreeOf tree → NodeIf node → AppliedOf (listed tree node)
   listed_sayable tree (Some (Dir entries blocks)) h k = answers tree (reply.Names (map (λ e. e.0) entries)) h k
-  listed_sayable tree (Some (File cells links)) h k = answers tree reply.NotDir h tt
+  listed_sayable tree (Some (File cells links when)) h k = answers tree reply.NotDir h tt
   listed_sayable tree (Some (Link target links)) h k = answers tree reply.NotDir h tt
   listed_sayable tree None h k = answers tree reply.NoEnt h tt
 
   target_sayable : (tree : FileTree) (node : Option Node) → TreeOf tree → NodeIf node → AppliedOf (target_of tree node)
   target_sayable tree (Some (Link target links)) h k = answers tree (reply.Target target) h k
   target_sayable tree (Some (Dir entries blocks)) h k = answers tree reply.Inval h tt
-  target_sayable tree (Some (File cells links)) h k = answers tree reply.Inval h tt
+  target_sayable tree (Some (File cells links when)) h k = answers tree reply.Inval h tt
   target_sayable tree None h k = answers tree reply.NoEnt h tt
 
   -- an operation
-  pub apply_sayable : (tree : FileTree) (o : Op) (birth : ℕ) → TreeOf tree → IsSayableOp o → AppliedOf (apply tree o birth m)
-  apply_sayable tree (op.Create path) birth h k = made_sayable tree birth (File [] 1) (place tree path) h (All-nil C) (place_sayable tree 0 path h k)
-  apply_sayable tree (op.Mkdir path) birth h k = made_sayable tree birth (Dir [] 0) (place tree path) h (All-nil (λ name. is_name name ≡ true)) (place_sayable tree 0 path h k)
-  apply_sayable tree (op.Symlink path target) birth h k = made_sayable tree birth (Link target 1) (place tree path) h k.1 (place_sayable tree 0 path h k.0)
-  apply_sayable tree (op.Link path to) birth h k = linked_sayable tree (place tree path) (place tree to) h (place_sayable tree 0 path h k.0) (place_sayable tree 0 to h k.1)
-  apply_sayable tree (op.Unlink path) birth h k = unlinked_sayable tree (place tree path) h (place_sayable tree 0 path h k)
-  apply_sayable tree (op.Rmdir path) birth h k = removed_sayable tree (place tree path) h (place_sayable tree 0 path h k)
-  apply_sayable tree (op.Rename path to) birth h k = renamed_sayable tree path to h k.0 k.1
-  apply_sayable tree (op.Write path off bytes) birth h k = at_file_sayable tree path (λ b cells links. written tree m b cells links off (length bytes) (λ old. overwritten old off (map Byte bytes))) h k.0 (λ b cells links c. written_sayable tree b cells links off (length bytes) (λ old. overwritten old off (map Byte bytes)) h (over_sayable cells off (map Byte bytes) c (bytes_sayable bytes k.1)))
-  apply_sayable tree (op.Fill path off len byte) birth h k = at_file_sayable tree path (λ b cells links. written tree m b cells links off len (λ old. overwritten old off (replicate len (Byte byte)))) h k.0 (λ b cells links c. written_sayable tree b cells links off len (λ old. overwritten old off (replicate len (Byte byte))) h (over_sayable cells off (replicate len (Byte byte)) c (All-replicate C len (Byte byte) (byte_is byte k.1))))
-  apply_sayable tree (op.Truncate path len) birth h k = at_file_sayable tree path (λ b cells links. truncated tree b cells links len) h k (λ b cells links c. truncated_sayable tree b cells links len h c)
-  apply_sayable tree (op.Read path off len) birth h k = at_file_sayable tree path (λ b cells links. shown tree cells off len) h k (λ b cells links c. shown_sayable tree cells off len h c)
-  apply_sayable tree (op.Stat path) birth h k = at_sayable tree (place tree path) (λ b node. described tree node) h (place_sayable tree 0 path h k) (λ b node n. described_sayable tree node h)
-  apply_sayable tree (op.List path) birth h k = at_sayable tree (place tree path) (λ b node. listed tree node) h (place_sayable tree 0 path h k) (λ b node n. listed_sayable tree node h n)
-  apply_sayable tree (op.Readlink path) birth h k = at_sayable tree (place tree path) (λ b node. target_of tree node) h (place_sayable tree 0 path h k) (λ b node n. target_sayable tree node h n)
-  apply_sayable tree (op.Time path) birth h k = at_file_sayable tree path (λ b cells links. says tree (reply.Time 0 0)) h k (λ b cells links c. answers tree (reply.Time 0 0) h tt)
-  apply_sayable tree _ birth h k = answers tree reply.Ok h tt
+  pub apply_sayable : (tree : FileTree) (o : Op) (birth when : ℕ) → TreeOf tree → IsSayableOp o → AppliedOf (apply tree o birth when m)
+  apply_sayable tree (op.Create path) birth when h k = made_sayable tree birth (File [] 1 0) (place tree path) h (All-nil C) (place_sayable tree 0 path h k)
+  apply_sayable tree (op.Mkdir path) birth when h k = made_sayable tree birth (Dir [] 0) (place tree path) h (All-nil (λ name. is_name name ≡ true)) (place_sayable tree 0 path h k)
+  apply_sayable tree (op.Symlink path target) birth when h k = made_sayable tree birth (Link target 1) (place tree path) h k.1 (place_sayable tree 0 path h k.0)
+  apply_sayable tree (op.Link path to) birth when h k = linked_sayable tree (place tree path) (place tree to) h (place_sayable tree 0 path h k.0) (place_sayable tree 0 to h k.1)
+  apply_sayable tree (op.Unlink path) birth when h k = unlinked_sayable tree (place tree path) h (place_sayable tree 0 path h k)
+  apply_sayable tree (op.Rmdir path) birth when h k = removed_sayable tree (place tree path) h (place_sayable tree 0 path h k)
+  apply_sayable tree (op.Rename path to) birth when h k = renamed_sayable tree path to h k.0 k.1
+  apply_sayable tree (op.Write path off bytes) birth when h k = at_file_sayable tree path (λ b cells links old. written tree m b cells links when off (length bytes) (λ all. overwritten all off (map Byte bytes))) h k.0 (λ b cells links old c. written_sayable tree b cells links when off (length bytes) (λ all. overwritten all off (map Byte bytes)) h (over_sayable cells off (map Byte bytes) c (bytes_sayable bytes k.1)))
+  apply_sayable tree (op.Fill path off len byte) birth when h k = at_file_sayable tree path (λ b cells links old. written tree m b cells links when off len (λ all. overwritten all off (replicate len (Byte byte)))) h k.0 (λ b cells links old c. written_sayable tree b cells links when off len (λ all. overwritten all off (replicate len (Byte byte))) h (over_sayable cells off (replicate len (Byte byte)) c (All-replicate C len (Byte byte) (byte_is byte k.1))))
+  apply_sayable tree (op.Truncate path len) birth when h k = at_file_sayable tree path (λ b cells links old. truncated tree b cells links when len) h k (λ b cells links old c. truncated_sayable tree b cells links when len h c)
+  apply_sayable tree (op.Read path off len) birth when h k = at_file_sayable tree path (λ b cells links at. shown tree cells off len) h k (λ b cells links at c. shown_sayable tree cells off len h c)
+  apply_sayable tree (op.Stat path) birth when h k = at_sayable tree (place tree path) (λ b node. described tree node) h (place_sayable tree 0 path h k) (λ b node n. described_sayable tree node h)
+  apply_sayable tree (op.List path) birth when h k = at_sayable tree (place tree path) (λ b node. listed tree node) h (place_sayable tree 0 path h k) (λ b node n. listed_sayable tree node h n)
+  apply_sayable tree (op.Readlink path) birth when h k = at_sayable tree (place tree path) (λ b node. target_of tree node) h (place_sayable tree 0 path h k) (λ b node n. target_sayable tree node h n)
+  apply_sayable tree (op.Time path) birth when h k = at_file_sayable tree path (λ b cells links at. says tree (time_of at)) h k (λ b cells links at c. answers tree (time_of at) h tt)
+  apply_sayable tree _ birth when h k = answers tree reply.Ok h tt

@@ -6,3 +6,4 @@ pub mod ScriptText
 pub mod ScriptPrinted
 pub mod ScriptGrammar
 pub mod Sayable
+pub mod Ticks

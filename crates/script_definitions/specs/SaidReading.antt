@@ -1,5 +1,5 @@
 -- Said lines as texts: which lines can be said, and which line a text is.
-use Rattle.std.specs.Prelude.{◌≡◌, ◌≤◌, ◌<◌, ◌^◌, ℕ, ◌+◌, ◌*◌, Bool, true, false, not, ◌-◌, ◌&&◌, ◌==◌, if◌then◌else◌, nat_lt, nat_le, ◌⊎◌, List, [], ◌∷◌, length, take, slice_index, codes, Option, Some, None, option_and_then, option_map, find, IsTrue}
+use Rattle.std.specs.Prelude.{◌≡◌, ◌≤◌, ◌<◌, ◌^◌, ℕ, ◌+◌, ◌*◌, Bool, true, false, ◌-◌, ◌&&◌, ◌==◌, if◌then◌else◌, nat_lt, nat_le, ◌⊎◌, List, [], ◌∷◌, length, take, slice_index, codes, Option, Some, None, option_and_then, option_map, find, IsTrue}
 use Rattle.std.specs.List.{list_all, slice_split}
 use Rattle.std.specs.Str.{bytes_eq}
 use Rattle.frang_base.specs.Name.{is_name, is_target}

@@ -37,7 +37,7 @@ AreSayableEntries entries = All (λ name. is_name name ≡ true) (keys_of entrie
 -- a directory of names, a file of such cells, a link with a target
 abbrev pub IsNodeOf : (Cell → Type 0) → Node → Type 0
 IsNodeOf C (Dir entries blocks) = AreSayableEntries entries
-IsNodeOf C (File cells links) = All C cells
+IsNodeOf C (File cells links when) = All C cells
 IsNodeOf C (Link target links) = is_target target ≡ true
 
 -- a node that is there

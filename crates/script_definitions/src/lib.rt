@@ -9,6 +9,7 @@ mod fault;
 mod laws;
 mod number;
 mod sayable;
+mod ticks;
 mod word;
 
 pub use asked::Asked;
@@ -23,4 +24,5 @@ pub use sayable::{
     histories_leave_what_can_be_said, scripts_ask_what_can_be_said, tree_lines_can_be_said,
     what_can_be_said_is_proper, what_is_applied_can_be_said,
 };
+pub use ticks::{scripts_take_few_ticks, ticks_of};
 pub use word::ServerWord;

@@ -28,8 +28,8 @@ pub fn scripts_ask_what_can_be_said()
 
 /// Such an operation, applied to a tree that can be said, leaves one, and its answer can be said; so too where links are followed.
 pub fn what_is_applied_can_be_said()
-    ensures performed { (tree : FileTree) (op : Op) (birth m : ℕ) → IsSayableTree tree → IsSayableOp op → IsSayableApplied m (perform tree op birth m) }
-    ensures applied { (tree : FileTree) (op : Op) (birth m : ℕ) → IsSayableTree tree → IsSayableOp op → IsSayableApplied m (apply tree op birth m) }
+    ensures performed { (tree : FileTree) (op : Op) (birth when m : ℕ) → IsSayableTree tree → IsSayableOp op → IsSayableApplied m (perform tree op birth when m) }
+    ensures applied { (tree : FileTree) (op : Op) (birth when m : ℕ) → IsSayableTree tree → IsSayableOp op → IsSayableApplied m (apply tree op birth when m) }
 {}
 
 /// The fresh tree can be said, and so can what a history of such operations and replies leaves of one that can; the live history is

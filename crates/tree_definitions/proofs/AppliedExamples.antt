@@ -13,11 +13,11 @@ use Rattle.tree_definitions.proofs.Sketch.{root, a, b, d, l, da, de, dea, ax, lx
 
 -- an operation at the birth 9 is refused so
 abbrev Refused : FileTree → Op → Reply → Type 0
-Refused tree o r = apply tree o 9 0 ≡ says tree r
+Refused tree o r = apply tree o 9 0 0 ≡ says tree r
 
 -- an operation at the birth 9 is answered so, and makes this of the node of a birth
 abbrev Makes : FileTree → Op → Reply → ℕ → Option Node → Type 0
-Makes tree o r birth node = ((apply tree o 9 0).answer ≡ Plain r) × (node_at (apply tree o 9 0).tree birth ≡ node)
+Makes tree o r birth node = ((apply tree o 9 0 0).answer ≡ Plain r) × (node_at (apply tree o 9 0 0).tree birth ≡ node)
 
 -- create, mkdir, symlink
 create_root : Refused some (op.Create root) reply.Exist
@@ -41,7 +41,7 @@ create_below_a_file = refl
 create_in_a_full_directory : Refused (crowded 16 895 16 1) (op.Create b) reply.DirFull
 create_in_a_full_directory = refl
 
-create_as_the_last_entry : (apply (crowded 16 894 16 1) (op.Create b) 9 0).answer ≡ Plain reply.Ok
+create_as_the_last_entry : (apply (crowded 16 894 16 1) (op.Create b) 9 0 0).answer ≡ Plain reply.Ok
 create_as_the_last_entry = refl
 
 create_without_an_inode : Refused (fresh 0) (op.Create a) (reply.NoInode)
@@ -50,7 +50,7 @@ create_without_an_inode = refl
 create_without_a_block : Refused (record { segments = 1; nodes = (0, Dir [] 0) ∷ (1, Dir [] 1024) ∷ [] }) (op.Create a) reply.NoDirBlock
 create_without_a_block = refl
 
-create_makes_a_file : Makes some (op.Create b) reply.Ok 9 (Some (File [] 1))
+create_makes_a_file : Makes some (op.Create b) reply.Ok 9 (Some (File [] 1 0))
 create_makes_a_file = (refl, refl)
 
 create_names_it : Makes (fresh 16) (op.Create a) reply.Ok 0 (Some (Dir ((97 ∷ [], 9) ∷ []) 1))
@@ -86,10 +86,10 @@ abbrev blocks_of : Option Node → ℕ
 blocks_of (Some (Dir entries blocks)) = blocks
 blocks_of _ = 0
 
-entries_fill_a_block : blocks_of (node_at (apply (crowded 16 54 1 1) (op.Create b) 9 0).tree 0) ≡ 1
+entries_fill_a_block : blocks_of (node_at (apply (crowded 16 54 1 1) (op.Create b) 9 0 0).tree 0) ≡ 1
 entries_fill_a_block = refl
 
-one_more_takes_a_block : blocks_of (node_at (apply (crowded 16 55 1 1) (op.Create b) 9 0).tree 0) ≡ 2
+one_more_takes_a_block : blocks_of (node_at (apply (crowded 16 55 1 1) (op.Create b) 9 0 0).tree 0) ≡ 2
 one_more_takes_a_block = refl
 
 -- link
@@ -114,7 +114,7 @@ link_to_a_name_that_is_there = refl
 link_past_a_thousand : Refused (crowded 16 1 1 1000) (op.Link a b) reply.MLink
 link_past_a_thousand = refl
 
-link_the_thousandth : Makes (crowded 16 1 1 999) (op.Link a b) reply.Ok 1 (Some (File [] 1000))
+link_the_thousandth : Makes (crowded 16 1 1 999) (op.Link a b) reply.Ok 1 (Some (File [] 1000 0))
 link_the_thousandth = (refl, refl)
 
 link_into_a_full_directory : Refused (crowded 16 895 16 1) (op.Link a b) reply.DirFull
@@ -163,7 +163,7 @@ unlink_below_a_file = refl
 unlink_frees : Makes some (op.Unlink a) reply.Ok 1 None
 unlink_frees = (refl, refl)
 
-unlink_one_of_two : Makes (done some 5 (op.Link a b ∷ [])) (op.Unlink a) reply.Ok 1 (Some (File [] 1))
+unlink_one_of_two : Makes (done some 5 (op.Link a b ∷ [])) (op.Unlink a) reply.Ok 1 (Some (File [] 1 0))
 unlink_one_of_two = (refl, refl)
 
 unlink_keeps_the_blocks : Makes (done (fresh 16) 1 (op.Create a ∷ [])) (op.Unlink a) reply.Ok 0 (Some (Dir [] 1))
@@ -234,7 +234,7 @@ rename_onto_entries = refl
 rename_into_a_full_directory : Refused (crowded_below 16 896 16) (op.Rename a da) reply.DirFull
 rename_into_a_full_directory = refl
 
-rename_in_a_full_directory : (apply (crowded 16 895 16 1) (op.Rename a b) 9 0).answer ≡ Plain reply.Ok
+rename_in_a_full_directory : (apply (crowded 16 895 16 1) (op.Rename a b) 9 0 0).answer ≡ Plain reply.Ok
 rename_in_a_full_directory = refl
 
 rename_without_a_block : Refused (crowded_below 0 0 0) (op.Rename a da) reply.NoDirBlock
@@ -283,19 +283,19 @@ fill_without_a_large_block = refl
 toobig_before_no_large : Refused (record { segments = 0; nodes = some.nodes }) (op.Fill a 0 1114113 65) reply.TooBig
 toobig_before_no_large = refl
 
-no_large_before_no_block : apply (record { segments = 0; nodes = some.nodes }) (op.Fill a 0 65537 65) 9 7 ≡ says (record { segments = 0; nodes = some.nodes }) reply.NoLarge
+no_large_before_no_block : apply (record { segments = 0; nodes = some.nodes }) (op.Fill a 0 65537 65) 9 0 7 ≡ says (record { segments = 0; nodes = some.nodes }) reply.NoLarge
 no_large_before_no_block = refl
 
-fill_without_blocks : apply some (op.Fill a 0 4097 65) 9 16383 ≡ says some (reply.NoBlock 16383)
+fill_without_blocks : apply some (op.Fill a 0 4097 65) 9 0 16383 ≡ says some (reply.NoBlock 16383)
 fill_without_blocks = refl
 
-fill_with_just_enough_blocks : (apply some (op.Fill a 0 3 65) 9 16383).answer ≡ Plain reply.Ok
+fill_with_just_enough_blocks : (apply some (op.Fill a 0 3 65) 9 0 16383).answer ≡ Plain reply.Ok
 fill_with_just_enough_blocks = refl
 
-write_sets_bytes : Makes (done some 5 (op.Write a 0 (1 ∷ 2 ∷ 3 ∷ []) ∷ [])) (op.Write a 1 (7 ∷ [])) reply.Ok 1 (Some (File (Byte 1 ∷ Byte 7 ∷ Byte 3 ∷ []) 1))
+write_sets_bytes : Makes (done some 5 (op.Write a 0 (1 ∷ 2 ∷ 3 ∷ []) ∷ [])) (op.Write a 1 (7 ∷ [])) reply.Ok 1 (Some (File (Byte 1 ∷ Byte 7 ∷ Byte 3 ∷ []) 1 0))
 write_sets_bytes = (refl, refl)
 
-write_grows : Makes (done some 5 (op.Write a 0 (1 ∷ 2 ∷ []) ∷ [])) (op.Fill a 1 2 9) reply.Ok 1 (Some (File (Byte 1 ∷ Byte 9 ∷ Byte 9 ∷ []) 1))
+write_grows : Makes (done some 5 (op.Write a 0 (1 ∷ 2 ∷ []) ∷ [])) (op.Fill a 1 2 9) reply.Ok 1 (Some (File (Byte 1 ∷ Byte 9 ∷ Byte 9 ∷ []) 1 0))
 write_grows = (refl, refl)
 
 -- truncate
@@ -308,11 +308,11 @@ truncate_a_link = refl
 truncate_past_the_end : Refused some (op.Truncate a 1) reply.BadOffset
 truncate_past_the_end = refl
 
-truncate_cuts : Makes (done some 5 (op.Write a 0 (1 ∷ 2 ∷ []) ∷ [])) (op.Truncate a 1) reply.Ok 1 (Some (File (Byte 1 ∷ []) 1))
+truncate_cuts : Makes (done some 5 (op.Write a 0 (1 ∷ 2 ∷ []) ∷ [])) (op.Truncate a 1) reply.Ok 1 (Some (File (Byte 1 ∷ []) 1 0))
 truncate_cuts = (refl, refl)
 
 -- a file that was cut and grows again has none of its old bytes
-truncate_forgets : Makes (done some 5 (op.Write a 0 (1 ∷ 2 ∷ []) ∷ op.Truncate a 0 ∷ [])) (op.Fill a 0 2 9) reply.Ok 1 (Some (File (Byte 9 ∷ Byte 9 ∷ []) 1))
+truncate_forgets : Makes (done some 5 (op.Write a 0 (1 ∷ 2 ∷ []) ∷ op.Truncate a 0 ∷ [])) (op.Fill a 0 2 9) reply.Ok 1 (Some (File (Byte 9 ∷ Byte 9 ∷ []) 1 0))
 truncate_forgets = (refl, refl)
 
 -- read
@@ -325,10 +325,10 @@ read_a_link = refl
 read_past_the_end : Refused some (op.Read a 1 1) reply.BadOffset
 read_past_the_end = refl
 
-read_at_the_end : (apply some (op.Read a 0 1) 9 0).answer ≡ Shows []
+read_at_the_end : (apply some (op.Read a 0 1) 9 0 0).answer ≡ Shows []
 read_at_the_end = refl
 
-read_to_the_end : (apply (done some 5 (op.Write a 0 (1 ∷ 2 ∷ 3 ∷ []) ∷ [])) (op.Read a 1 9) 9 0).answer ≡ Shows (Byte 2 ∷ Byte 3 ∷ [])
+read_to_the_end : (apply (done some 5 (op.Write a 0 (1 ∷ 2 ∷ 3 ∷ []) ∷ [])) (op.Read a 1 9) 9 0 0).answer ≡ Shows (Byte 2 ∷ Byte 3 ∷ [])
 read_to_the_end = refl
 
 -- stat, list, readlink, time

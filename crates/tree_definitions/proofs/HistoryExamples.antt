@@ -59,7 +59,7 @@ down_leaves_the_tree : IsLegal (by 0 1 (op.Create a) reply.Down ∷ by 0 2 op.Mo
 unfolding resolve
 down_leaves_the_tree = refl
 
-io_leaves_the_tree : Ends (made ++ by 0 3 (op.Unlink a) reply.Io ∷ []) (line 2) (Some (File [] 1))
+io_leaves_the_tree : Ends (made ++ by 0 3 (op.Unlink a) reply.Io ∷ []) (line 2) (Some (File [] 1 0))
 unfolding resolve
 io_leaves_the_tree = refl
 
@@ -178,7 +178,7 @@ crashed_keeps : Keeps crashed
 unfolding resolve
 crashed_keeps = refl
 
-the_synced_one_stays : Ends crashed (line 2) (Some (File [] 1))
+the_synced_one_stays : Ends crashed (line 2) (Some (File [] 1 0))
 unfolding resolve
 the_synced_one_stays = refl
 
@@ -187,12 +187,12 @@ unfolding resolve
 the_unsynced_one_goes = refl
 
 -- what the log kept stays, though it wasn't synced
-the_log_kept_both : Ends (made ++ by 0 3 (op.Create b) reply.Ok ∷ recovery 0 (line 3) ∷ []) (line 3) (Some (File [] 1))
+the_log_kept_both : Ends (made ++ by 0 3 (op.Create b) reply.Ok ∷ recovery 0 (line 3) ∷ []) (line 3) (Some (File [] 1 0))
 unfolding resolve
 the_log_kept_both = refl
 
 -- another server's entries stay
-others_stay : Ends (apart ++ recovery 0 (line 2) ∷ []) (line 6) (Some (File [] 1))
+others_stay : Ends (apart ++ recovery 0 (line 2) ∷ []) (line 6) (Some (File [] 1 0))
 unfolding resolve
 others_stay = refl
 
@@ -201,7 +201,7 @@ unfolding resolve
 own_go = refl
 
 -- entries before the last mount stay
-mounted_again : Ends (made ++ by 0 3 op.Unmount reply.Ok ∷ by 0 4 op.Mount reply.Mounted ∷ by 0 5 (op.Create b) reply.Ok ∷ recovery 0 0 ∷ []) (line 2) (Some (File [] 1))
+mounted_again : Ends (made ++ by 0 3 op.Unmount reply.Ok ∷ by 0 4 op.Mount reply.Mounted ∷ by 0 5 (op.Create b) reply.Ok ∷ recovery 0 0 ∷ []) (line 2) (Some (File [] 1 0))
 unfolding resolve
 mounted_again = refl
 
@@ -214,42 +214,57 @@ a_look_goes_too : IsLegal (made ++ by 0 3 (op.Stat a) (reply.File 0 1) ∷ recov
 unfolding resolve
 a_look_goes_too = refl
 
--- a write into bytes that are there changes no shape: it isn't removed
+-- a write into bytes that are there has a record: one that the log kept isn't removed, and its bytes are in doubt
 abbrev written : List Item
 written = made ++ by 0 3 (op.Write a 0 (1 ∷ 2 ∷ [])) reply.Ok ∷ by 0 4 op.Sync reply.Ok ∷ by 0 5 (op.Write a 0 (7 ∷ [])) reply.Ok ∷ []
 
-a_write_stays_in_doubt : Ends (written ++ recovery 0 (line 3) ∷ []) (line 2) (Some (File (Doubtful ∷ Doubtful ∷ []) 1))
+a_write_stays_in_doubt : Ends (written ++ recovery 0 (line 5) ∷ []) (line 2) (Some (File (Doubtful ∷ Doubtful ∷ []) 1 0))
 unfolding resolve
 a_write_stays_in_doubt = refl
 
+-- one that the log lost is removed, though it changes no shape
+a_lost_write_is_removed : Ends (written ++ recovery 0 (line 3) ∷ []) (line 2) (Some (File (Byte 1 ∷ Byte 2 ∷ []) 1 0))
+unfolding resolve
+a_lost_write_is_removed = refl
+
+-- so is a truncate to the present size, and with it what its server did later
+a_lost_truncate_is_removed : Ends (written ++ by 0 6 (op.Truncate a 2) reply.Ok ∷ by 0 7 (op.Create b) reply.Ok ∷ recovery 0 (line 5) ∷ []) (line 7) None
+unfolding resolve
+a_lost_truncate_is_removed = refl
+
+-- a refused write has no record
+a_refused_write_is_not_lost : Ends (made ++ by 0 3 (op.Write a 9 (1 ∷ [])) reply.BadOffset ∷ by 0 4 op.Sync reply.Ok ∷ recovery 0 (line 2) ∷ []) (line 2) (Some (File [] 1 0))
+unfolding resolve
+a_refused_write_is_not_lost = refl
+
 -- doubt: the last write that meets a sector is the dead server's, not synced, and nobody else touched the file since
-a_synced_write_is_sure : Ends (written ++ by 0 6 op.Sync reply.Ok ∷ recovery 0 (line 3) ∷ []) (line 2) (Some (File (Byte 7 ∷ Byte 2 ∷ []) 1))
+a_synced_write_is_sure : Ends (written ++ by 0 6 op.Sync reply.Ok ∷ recovery 0 (line 5) ∷ []) (line 2) (Some (File (Byte 7 ∷ Byte 2 ∷ []) 1 0))
 unfolding resolve
 a_synced_write_is_sure = refl
 
-a_touched_file_is_sure : Ends (written ++ by 1 6 op.Mount reply.Mounted ∷ by 1 7 (op.Stat a) (reply.File 2 1) ∷ recovery 0 (line 3) ∷ []) (line 2) (Some (File (Byte 7 ∷ Byte 2 ∷ []) 1))
+a_touched_file_is_sure : Ends (written ++ by 1 6 op.Mount reply.Mounted ∷ by 1 7 (op.Stat a) (reply.File 2 1) ∷ recovery 0 (line 5) ∷ []) (line 2) (Some (File (Byte 7 ∷ Byte 2 ∷ []) 1 0))
 unfolding resolve
 a_touched_file_is_sure = refl
 
-a_look_elsewhere_leaves_doubt : Ends (written ++ by 1 6 op.Mount reply.Mounted ∷ by 1 7 (op.Stat b) reply.NoEnt ∷ recovery 0 (line 3) ∷ []) (line 2) (Some (File (Doubtful ∷ Doubtful ∷ []) 1))
+a_look_elsewhere_leaves_doubt : Ends (written ++ by 1 6 op.Mount reply.Mounted ∷ by 1 7 (op.Stat b) reply.NoEnt ∷ recovery 0 (line 5) ∷ []) (line 2) (Some (File (Doubtful ∷ Doubtful ∷ []) 1 0))
 unfolding resolve
 a_look_elsewhere_leaves_doubt = refl
 
-the_last_writer_counts : Ends (written ++ by 1 6 op.Mount reply.Mounted ∷ by 1 7 (op.Write a 1 (9 ∷ [])) reply.Ok ∷ recovery 0 (line 3) ∷ []) (line 2) (Some (File (Byte 7 ∷ Byte 9 ∷ []) 1))
+the_last_writer_counts : Ends (written ++ by 1 6 op.Mount reply.Mounted ∷ by 1 7 (op.Write a 1 (9 ∷ [])) reply.Ok ∷ recovery 0 (line 5) ∷ []) (line 2) (Some (File (Byte 7 ∷ Byte 9 ∷ []) 1 0))
 unfolding resolve
 the_last_writer_counts = refl
 
-a_truncate_writes_to_the_old_end : Ends (made ++ by 0 3 (op.Write a 0 (1 ∷ 2 ∷ [])) reply.Ok ∷ by 0 4 op.Sync reply.Ok ∷ by 0 5 (op.Truncate a 1) reply.Ok ∷ recovery 0 (line 5) ∷ []) (line 2) (Some (File (Doubtful ∷ []) 1))
+a_truncate_writes_to_the_old_end : Ends (made ++ by 0 3 (op.Write a 0 (1 ∷ 2 ∷ [])) reply.Ok ∷ by 0 4 op.Sync reply.Ok ∷ by 0 5 (op.Truncate a 1) reply.Ok ∷ recovery 0 (line 5) ∷ []) (line 2) (Some (File (Doubtful ∷ []) 1 0))
 unfolding resolve
 a_truncate_writes_to_the_old_end = refl
 
-a_truncate_to_the_present_size_writes_nothing : Ends (made ++ by 0 3 (op.Write a 0 (1 ∷ 2 ∷ [])) reply.Ok ∷ by 0 4 op.Sync reply.Ok ∷ by 0 5 (op.Truncate a 2) reply.Ok ∷ recovery 0 (line 5) ∷ []) (line 2) (Some (File (Byte 1 ∷ Byte 2 ∷ []) 1))
+a_truncate_to_the_present_size_writes_nothing : Ends (made ++ by 0 3 (op.Write a 0 (1 ∷ 2 ∷ [])) reply.Ok ∷ by 0 4 op.Sync reply.Ok ∷ by 0 5 (op.Truncate a 2) reply.Ok ∷ recovery 0 (line 5) ∷ []) (line 2) (Some (File (Byte 1 ∷ Byte 2 ∷ []) 1 0))
 unfolding resolve
 a_truncate_to_the_present_size_writes_nothing = refl
 
 -- of two sectors the one that was written comes into doubt
 abbrev two_sectors : List Item
-two_sectors = made ++ by 0 3 (op.Fill a 0 514 1) reply.Ok ∷ by 0 4 op.Sync reply.Ok ∷ by 0 5 (op.Write a 513 (7 ∷ [])) reply.Ok ∷ recovery 0 (line 3) ∷ by 0 7 op.Mount reply.Mounted ∷ []
+two_sectors = made ++ by 0 3 (op.Fill a 0 514 1) reply.Ok ∷ by 0 4 op.Sync reply.Ok ∷ by 0 5 (op.Write a 513 (7 ∷ [])) reply.Ok ∷ recovery 0 (line 5) ∷ by 0 7 op.Mount reply.Mounted ∷ []
 
 the_other_sector_is_sure : IsNotLegal (two_sectors ++ by 0 8 (op.Read a 511 1) (reply.Shown (9 ∷ [])) ∷ [])
 unfolding resolve
@@ -261,7 +276,7 @@ the_written_sector_is_in_doubt = refl
 
 -- any bytes may then be read, and afterwards the same
 abbrev reads : List ℕ → List ℕ → List Item
-reads one two = written ++ recovery 0 (line 3) ∷ by 0 7 op.Mount reply.Mounted ∷ by 0 8 (op.Read a 0 2) (reply.Shown one) ∷ by 0 9 (op.Read a 0 2) (reply.Shown two) ∷ []
+reads one two = written ++ recovery 0 (line 5) ∷ by 0 7 op.Mount reply.Mounted ∷ by 0 8 (op.Read a 0 2) (reply.Shown one) ∷ by 0 9 (op.Read a 0 2) (reply.Shown two) ∷ []
 
 reads_any : IsLegal (reads (1 ∷ 2 ∷ []) (1 ∷ 2 ∷ []))
 unfolding resolve
@@ -280,7 +295,7 @@ unfolding resolve
 reads_no_more_than_there_is = refl
 
 -- the recovery is judged in the settled list: two recoveries from the left
-twice_recovered : Ends (made ++ recovery 0 0 ∷ by 0 4 op.Mount reply.Mounted ∷ by 0 5 (op.Create a) reply.Ok ∷ by 0 6 op.Sync reply.Ok ∷ recovery 0 (line 5) ∷ []) (line 5) (Some (File [] 1))
+twice_recovered : Ends (made ++ recovery 0 0 ∷ by 0 4 op.Mount reply.Mounted ∷ by 0 5 (op.Create a) reply.Ok ∷ by 0 6 op.Sync reply.Ok ∷ recovery 0 (line 5) ∷ []) (line 5) (Some (File [] 1 0))
 unfolding resolve
 twice_recovered = refl
 

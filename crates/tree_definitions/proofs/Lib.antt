@@ -4,5 +4,6 @@ pub mod AppliedExamples
 pub mod HistoryExamples
 pub mod LinkExamples
 pub mod TranscriptExamples
+pub mod TimeExamples
 pub mod SaidExamples
 pub mod NodeBlocks

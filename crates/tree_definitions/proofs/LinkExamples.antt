@@ -30,20 +30,20 @@ in_two x y = (x ∷ []) ∷ (y ∷ []) ∷ []
 abbrev ways : FileTree
 ways = record {
   segments = 16;
-  nodes = (0, Dir ((97 ∷ [], 1) ∷ (100 ∷ [], 3) ∷ (107 ∷ [], 5) ∷ (108 ∷ [], 2) ∷ (111 ∷ [], 8) ∷ (112 ∷ [], 7) ∷ (113 ∷ [], 6) ∷ (114 ∷ [], 11) ∷ []) 1) ∷ (1, File [] 1) ∷ (2, Link (codes "t") 1)
+  nodes = (0, Dir ((97 ∷ [], 1) ∷ (100 ∷ [], 3) ∷ (107 ∷ [], 5) ∷ (108 ∷ [], 2) ∷ (111 ∷ [], 8) ∷ (112 ∷ [], 7) ∷ (113 ∷ [], 6) ∷ (114 ∷ [], 11) ∷ []) 1) ∷ (1, File [] 1 0) ∷ (2, Link (codes "t") 1)
       ∷ (3, Dir ((101 ∷ [], 4) ∷ (107 ∷ [], 9) ∷ (113 ∷ [], 10) ∷ []) 1) ∷ (4, Dir [] 0) ∷ (5, Link (codes "d") 1) ∷ (6, Link (codes "a") 1) ∷ (7, Link (codes "a//b") 1) ∷ (8, Link (codes "o") 1)
       ∷ (9, Link (codes "e") 1) ∷ (10, Link (codes "/a") 1) ∷ (11, Link (codes "/") 1) ∷ [];
 }
 
 -- an operation at the birth 20 is refused so, answered so, or makes this of the node of a birth
 abbrev Refuses : Op → Reply → Type 0
-Refuses o r = perform ways o 20 0 ≡ says ways r
+Refuses o r = perform ways o 20 0 0 ≡ says ways r
 
 abbrev Answers : Op → Answer → Type 0
-Answers o answer = (perform ways o 20 0).answer ≡ answer
+Answers o answer = (perform ways o 20 0 0).answer ≡ answer
 
 abbrev Makes : Op → ℕ → Option Node → Type 0
-Makes o birth node = node_at (perform ways o 20 0).tree birth ≡ node
+Makes o birth node = node_at (perform ways o 20 0 0).tree birth ≡ node
 
 -- refusals of walks
 a_name_that_is_not_there : Refuses (op.Create (in_two 120 121)) reply.NoEnt
@@ -87,11 +87,11 @@ a_list_follows : Answers (op.List (in_two 107 107)) (Plain (reply.Names []))
 unfolding resolve
 a_list_follows = refl
 
-a_write_follows : Makes (op.Write (in_root 113) 0 (7 ∷ [])) 1 (Some (File (Byte 7 ∷ []) 1))
+a_write_follows : Makes (op.Write (in_root 113) 0 (7 ∷ [])) 1 (Some (File (Byte 7 ∷ []) 1 0))
 unfolding resolve
 a_write_follows = refl
 
-a_fill_follows : Makes (op.Fill (in_two 107 113) 0 2 7) 1 (Some (File (Byte 7 ∷ Byte 7 ∷ []) 1))
+a_fill_follows : Makes (op.Fill (in_two 107 113) 0 2 7) 1 (Some (File (Byte 7 ∷ Byte 7 ∷ []) 1 0))
 unfolding resolve
 a_fill_follows = refl
 
@@ -115,7 +115,7 @@ a_create_does_not : Refuses (op.Create (in_root 108)) reply.Exist
 unfolding resolve
 a_create_does_not = refl
 
-an_unlink_does_not : Makes (op.Unlink (in_root 113)) 1 (Some (File [] 1))
+an_unlink_does_not : Makes (op.Unlink (in_root 113)) 1 (Some (File [] 1 0))
 unfolding resolve
 an_unlink_does_not = refl
 
@@ -215,18 +215,18 @@ the_trail_of_a_refusal = refl
 abbrev chain_from : List ℕ → FileTree
 chain_from target = record {
   segments = 16;
-  nodes = (0, Dir ((48 ∷ [], 1) ∷ (49 ∷ [], 2) ∷ (50 ∷ [], 3) ∷ (51 ∷ [], 4) ∷ (52 ∷ [], 5) ∷ (53 ∷ [], 6) ∷ (54 ∷ [], 7) ∷ (55 ∷ [], 8) ∷ (56 ∷ [], 9) ∷ (57 ∷ [], 10) ∷ []) 1) ∷ (1, File [] 1) ∷ (2, Link target 1)
+  nodes = (0, Dir ((48 ∷ [], 1) ∷ (49 ∷ [], 2) ∷ (50 ∷ [], 3) ∷ (51 ∷ [], 4) ∷ (52 ∷ [], 5) ∷ (53 ∷ [], 6) ∷ (54 ∷ [], 7) ∷ (55 ∷ [], 8) ∷ (56 ∷ [], 9) ∷ (57 ∷ [], 10) ∷ []) 1) ∷ (1, File [] 1 0) ∷ (2, Link target 1)
       ∷ (3, Link (codes "/1") 1) ∷ (4, Link (codes "/2") 1) ∷ (5, Link (codes "/3") 1) ∷ (6, Link (codes "/4") 1) ∷ (7, Link (codes "/5") 1) ∷ (8, Link (codes "/6") 1) ∷ (9, Link (codes "/7") 1) ∷ (10, Link (codes "/8") 1) ∷ [];
 }
 
 abbrev chained : FileTree
 chained = chain_from (codes "/0")
 
-eight_links_are_followed : perform chained (op.Read (in_root 56) 0 1) 20 0 ≡ record { answer = Shows []; tree = chained }
+eight_links_are_followed : perform chained (op.Read (in_root 56) 0 1) 20 0 0 ≡ record { answer = Shows []; tree = chained }
 unfolding resolve
 eight_links_are_followed = refl
 
-the_ninth_is_not : perform chained (op.Read (in_root 57) 0 1) 20 0 ≡ says chained reply.Loop
+the_ninth_is_not : perform chained (op.Read (in_root 57) 0 1) 20 0 0 ≡ says chained reply.Loop
 unfolding resolve
 the_ninth_is_not = refl
 
@@ -239,11 +239,11 @@ the_ninth_is_not_touched = refl
 abbrev broken : FileTree
 broken = chain_from (codes "a//b")
 
-no_path_as_the_eighth : perform broken (op.Read (in_root 56) 0 1) 20 0 ≡ says broken reply.NoEnt
+no_path_as_the_eighth : perform broken (op.Read (in_root 56) 0 1) 20 0 0 ≡ says broken reply.NoEnt
 unfolding resolve
 no_path_as_the_eighth = refl
 
-loop_before_no_path : perform broken (op.Read (in_root 57) 0 1) 20 0 ≡ says broken reply.Loop
+loop_before_no_path : perform broken (op.Read (in_root 57) 0 1) 20 0 0 ≡ says broken reply.Loop
 unfolding resolve
 loop_before_no_path = refl
 
@@ -295,10 +295,10 @@ its_target_alone_was_not = refl
 abbrev doubted : List Item
 doubted = by 0 1 op.Mount reply.Mounted ∷ by 0 2 (op.Create a) reply.Ok ∷ by 0 3 (op.Symlink l (codes "a")) reply.Ok ∷ by 0 4 (op.Write l 0 (7 ∷ [])) reply.Ok ∷ recovery 0 (line 4) ∷ []
 
-a_write_through_a_link_is_in_doubt : node_at (tree_of opening doubted) (line 2) ≡ Some (File (Doubtful ∷ []) 1)
+a_write_through_a_link_is_in_doubt : node_at (tree_of opening doubted) (line 2) ≡ Some (File (Doubtful ∷ []) 1 0)
 unfolding resolve
 a_write_through_a_link_is_in_doubt = refl
 
-a_read_through_a_link_fixes : node_at (tree_of opening (doubted ++ by 1 5 op.Mount reply.Mounted ∷ by 1 6 (op.Read l 0 1) (reply.Shown (9 ∷ [])) ∷ [])) (line 2) ≡ Some (File (Byte 9 ∷ []) 1)
+a_read_through_a_link_fixes : node_at (tree_of opening (doubted ++ by 1 5 op.Mount reply.Mounted ∷ by 1 6 (op.Read l 0 1) (reply.Shown (9 ∷ [])) ∷ [])) (line 2) ≡ Some (File (Byte 9 ∷ []) 1 0)
 unfolding resolve
 a_read_through_a_link_fixes = refl

@@ -9,5 +9,5 @@ none_before n = omega arith
 
 pub small_blocks_are : (node : Node) → small_blocks node ≡ dir_blocks node + file_blocks node
 small_blocks_are (Dir entries blocks) = omega arith
-small_blocks_are (File cells links) = none_before (small_blocks_of (length cells))
+small_blocks_are (File cells links when) = none_before (small_blocks_of (length cells))
 small_blocks_are (Link target links) = refl

@@ -14,18 +14,18 @@ use Rattle.tree_definitions.specs.Resolve.{resolve}
 use Rattle.tree_definitions.specs.History.{Opening, fresh_opening}
 use Rattle.tree_definitions.specs.Live.{live_history}
 use Rattle.tree_definitions.specs.Transcript.{Faults, no_faults, MaySay, IsTranscript, io_answers, unexplained_deaths, left_history}
-use Rattle.tree_definitions.proofs.Sketch.{a, by, recovery}
+use Rattle.tree_definitions.proofs.Sketch.{a, by_at, recovery}
 
-abbrev asks : ℕ → ℕ → Op → Line
+abbrev pub asks : ℕ → ℕ → Op → Line
 asks number server o = record { number = number; who = record { 0 = server }; what = Server o }
 
-abbrev host_asks : ℕ → HostOp → Line
+abbrev pub host_asks : ℕ → HostOp → Line
 host_asks number h = record { number = number; who = record { 0 = 255 }; what = Host h }
 
-abbrev answer : ℕ → ℕ → Reply → Said
+abbrev pub answer : ℕ → ℕ → Reply → Said
 answer number server r = said.Answer (record { 0 = server }) number r
 
-abbrev host_ok : ℕ → Said
+abbrev pub host_ok : ℕ → Said
 host_ok number = answer number 255 reply.Ok
 
 abbrev dead : ℕ → Said
@@ -354,13 +354,13 @@ no_report_line : MayNot first [] (said.Shown (codes "x"))
 no_report_line = λ h. h
 
 -- the live history has the servers' answers and the recoveries
-it_is_read_off : live_history parted 1 (answer 1 0 reply.Mounted ∷ host_ok 2 ∷ recovering 1 0 ∷ recovered 1 7 ∷ []) ≡ by 0 1 op.Mount reply.Mounted ∷ recovery 1 7 ∷ []
+it_is_read_off : live_history parted 1 (answer 1 0 reply.Mounted ∷ host_ok 2 ∷ recovering 1 0 ∷ recovered 1 7 ∷ []) ≡ by_at 0 0 1 op.Mount reply.Mounted ∷ recovery 1 7 ∷ []
 it_is_read_off = refl
 
 -- a stop leaves a recovery more of each server that is up, stalled or dead
 a_stop_recovers_all : left_history parted 1 (answer 1 0 reply.Mounted ∷ host_ok 2 ∷ answer 3 1 reply.Mounted ∷ []) (λ server. server + 5)
-    ≡ by 0 1 op.Mount reply.Mounted ∷ by 1 3 op.Mount reply.Mounted ∷ recovery 0 5 ∷ recovery 1 6 ∷ []
+    ≡ by_at 0 0 1 op.Mount reply.Mounted ∷ by_at 0 1 3 op.Mount reply.Mounted ∷ recovery 0 5 ∷ recovery 1 6 ∷ []
 a_stop_recovers_all = refl
 
-a_stop_in_the_tree_recovers_none : left_history (asks 1 0 op.Mount ∷ []) 1 (answer 1 0 reply.Mounted ∷ said.Node (codes "/") 2 0 0 ∷ []) (λ server. 5) ≡ by 0 1 op.Mount reply.Mounted ∷ []
+a_stop_in_the_tree_recovers_none : left_history (asks 1 0 op.Mount ∷ []) 1 (answer 1 0 reply.Mounted ∷ said.Node (codes "/") 2 0 0 ∷ []) (λ server. 5) ≡ by_at 0 0 1 op.Mount reply.Mounted ∷ []
 a_stop_in_the_tree_recovers_none = refl

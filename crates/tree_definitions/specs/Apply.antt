@@ -1,7 +1,7 @@
 -- What an operation answers and what it makes of the tree: its refusals in their order, and then its effect.
-use Rattle.std.specs.Prelude.{ℕ, ◌+◌, ◌-◌, ◌*◌, Bool, true, false, not, ◌&&◌, ◌==◌, if◌then◌else◌, nat_lt, nat_le, max, Option, Some, None, List, [], ◌∷◌, ◌++◌, length, map, take, drop, replicate}
+use Rattle.std.specs.Prelude.{ℕ, ◌+◌, ◌-◌, ◌*◌, ◌/◌, ◌%◌, Bool, true, false, not, ◌&&◌, ◌==◌, if◌then◌else◌, nat_lt, nat_le, max, Option, Some, None, List, [], ◌∷◌, ◌++◌, length, map, take, drop, replicate}
 use Rattle.std.specs.List.{list_any}
-use Rattle.frang_base.specs.declared.limits.TheConstants.{FILE_BYTES_MAX, LINKS_MAX, SEGMENT_BLOCKS}
+use Rattle.frang_base.specs.declared.limits.TheConstants.{FILE_BYTES_MAX, LINKS_MAX, RUN_TICKS_END, SEGMENT_BLOCKS}
 use Rattle.frang_base.specs.declared.op.Op.{Op}
 use Rattle.frang_base.specs.declared.op.Op.TheVariants as op
 use Rattle.frang_base.specs.declared.reply.Reply.{Reply}
@@ -46,20 +46,20 @@ made tree birth node (Free dir entries blocks name) =
 -- a directory is there
 abbrev pub is_dir : Option Node → Bool
 is_dir (Some (Dir entries blocks)) = true
-is_dir (Some (File cells links)) = false
+is_dir (Some (File cells links when)) = false
 is_dir (Some (Link target links)) = false
 is_dir None = false
 
 -- the names that a node has; a directory has one
 abbrev pub links_of : Option Node → ℕ
 links_of (Some (Dir entries blocks)) = 1
-links_of (Some (File cells links)) = links
+links_of (Some (File cells links when)) = links
 links_of (Some (Link target links)) = links
 links_of None = 0
 
 -- one link more
 abbrev pub one_link_more : FileTree → ℕ → Option Node → FileTree
-one_link_more tree birth (Some (File cells links)) = with_node tree birth (File cells (links + 1))
+one_link_more tree birth (Some (File cells links when)) = with_node tree birth (File cells (links + 1) when)
 one_link_more tree birth (Some (Link target links)) = with_node tree birth (Link target (links + 1))
 one_link_more tree birth (Some (Dir entries blocks)) = tree
 one_link_more tree birth None = tree
@@ -84,7 +84,7 @@ linked tree (Taken dir entries blocks name birth) to = if is_dir (node_at tree b
 
 -- one link fewer; at none the node is freed, and a directory is freed at once
 abbrev pub one_link_fewer : FileTree → ℕ → Option Node → FileTree
-one_link_fewer tree birth (Some (File cells links)) = if nat_lt 1 links then with_node tree birth (File cells (links - 1)) else without_node tree birth
+one_link_fewer tree birth (Some (File cells links when)) = if nat_lt 1 links then with_node tree birth (File cells (links - 1) when) else without_node tree birth
 one_link_fewer tree birth (Some (Link target links)) = if nat_lt 1 links then with_node tree birth (Link target (links - 1)) else without_node tree birth
 one_link_fewer tree birth (Some (Dir entries blocks)) = without_node tree birth
 one_link_fewer tree birth None = tree
@@ -92,7 +92,7 @@ one_link_fewer tree birth None = tree
 -- a directory with entries is there
 abbrev pub has_entries : Option Node → Bool
 has_entries (Some (Dir entries blocks)) = nat_lt 0 (length entries)
-has_entries (Some (File cells links)) = false
+has_entries (Some (File cells links when)) = false
 has_entries (Some (Link target links)) = false
 has_entries None = false
 
@@ -118,14 +118,14 @@ dir_removed tree (Taken dir entries blocks name birth) =
 -- a directory loses a name
 abbrev pub name_gone : FileTree → ℕ → List ℕ → Option Node → FileTree
 name_gone tree dir name (Some (Dir entries blocks)) = with_node tree dir (Dir (without_entry entries name) blocks)
-name_gone tree dir name (Some (File cells links)) = tree
+name_gone tree dir name (Some (File cells links when)) = tree
 name_gone tree dir name (Some (Link target links)) = tree
 name_gone tree dir name None = tree
 
 -- a directory, in whose blocks there is room, has this name for this node
 abbrev pub name_set : FileTree → ℕ → List ℕ → ℕ → Option Node → FileTree
 name_set tree dir name birth (Some (Dir entries blocks)) = with_node tree dir (Dir (with_entry entries name birth) blocks)
-name_set tree dir name birth (Some (File cells links)) = tree
+name_set tree dir name birth (Some (File cells links when)) = tree
 name_set tree dir name birth (Some (Link target links)) = tree
 name_set tree dir name birth None = tree
 
@@ -188,35 +188,35 @@ at_node tree (Free dir entries blocks name) next = says tree reply.NoEnt
 at_node tree (Nowhere r) next = says tree r
 
 -- a node that has to be a file
-abbrev pub if_file : FileTree → (ℕ → List Cell → ℕ → Applied) → ℕ → Option Node → Applied
-if_file tree next birth (Some (File cells links)) = next birth cells links
+abbrev pub if_file : FileTree → (ℕ → List Cell → ℕ → ℕ → Applied) → ℕ → Option Node → Applied
+if_file tree next birth (Some (File cells links when)) = next birth cells links when
 if_file tree next birth (Some (Dir entries blocks)) = says tree reply.IsDir
 if_file tree next birth (Some (Link target links)) = says tree reply.Inval
 if_file tree next birth None = says tree reply.NoEnt
 
 -- the file at a place
-abbrev pub at_file : FileTree → Place → (ℕ → List Cell → ℕ → Applied) → Applied
+abbrev pub at_file : FileTree → Place → (ℕ → List Cell → ℕ → ℕ → Applied) → Applied
 at_file tree p next = at_node tree p (λ birth node. if_file tree next birth node)
 
 -- cells with others in their place, from an offset on
 abbrev pub overwritten : List Cell → ℕ → List Cell → List Cell
 overwritten cells off new = take off cells ++ new ++ drop (off + length new) cells
 
--- write, fill: bytes of this length from an offset on; `put` makes the new cells of the old ones
-abbrev pub written : FileTree → ℕ → ℕ → List Cell → ℕ → ℕ → ℕ → (List Cell → List Cell) → Applied
-written tree m birth cells links off len put =
+-- write, fill: bytes of this length from an offset on, at a time; `put` makes the new cells of the old ones
+abbrev pub written : FileTree → ℕ → ℕ → List Cell → ℕ → ℕ → ℕ → ℕ → (List Cell → List Cell) → Applied
+written tree m birth cells links when off len put =
     let size = max (length cells) (off + len) in
     if nat_lt (length cells) off then says tree reply.BadOffset
     else (if nat_lt FILE_BYTES_MAX (off + len) then says tree reply.TooBig
     else (if nat_lt (large_blocks_of (length cells)) (large_blocks_of size) && larges_full tree then says tree reply.NoLarge
     else (if nat_lt (SEGMENT_BLOCKS * tree.segments - m) (count_of file_blocks tree + (small_blocks_of size - small_blocks_of (length cells))) then says tree (reply.NoBlock m)
-    else says (with_node tree birth (File (put cells) links)) reply.Ok)))
+    else says (with_node tree birth (File (put cells) links when)) reply.Ok)))
 
--- truncate
-abbrev pub truncated : FileTree → ℕ → List Cell → ℕ → ℕ → Applied
-truncated tree birth cells links len =
+-- truncate, at a time
+abbrev pub truncated : FileTree → ℕ → List Cell → ℕ → ℕ → ℕ → Applied
+truncated tree birth cells links when len =
     if nat_lt (length cells) len then says tree reply.BadOffset
-    else says (with_node tree birth (File (take len cells) links)) reply.Ok
+    else says (with_node tree birth (File (take len cells) links when)) reply.Ok
 
 -- read
 abbrev pub shown : FileTree → List Cell → ℕ → ℕ → Applied
@@ -224,9 +224,13 @@ shown tree cells off len =
     if nat_lt (length cells) off then says tree reply.BadOffset
     else record { answer = Shows (take len (drop off cells)); tree = tree }
 
+-- the two halves of a time: the run, and the tick of its script
+abbrev pub time_of : ℕ → Reply
+time_of when = reply.Time (when / RUN_TICKS_END) (when % RUN_TICKS_END)
+
 -- stat
 abbrev pub described : FileTree → Option Node → Applied
-described tree (Some (File cells links)) = says tree (reply.File (length cells) links)
+described tree (Some (File cells links when)) = says tree (reply.File (length cells) links)
 described tree (Some (Dir entries blocks)) = says tree (reply.Dir (length entries))
 described tree (Some (Link target links)) = says tree (reply.Symlink (length target))
 described tree None = says tree reply.NoEnt
@@ -234,7 +238,7 @@ described tree None = says tree reply.NoEnt
 -- list
 abbrev pub listed : FileTree → Option Node → Applied
 listed tree (Some (Dir entries blocks)) = says tree (reply.Names (map (λ e. e.0) entries))
-listed tree (Some (File cells links)) = says tree reply.NotDir
+listed tree (Some (File cells links when)) = says tree reply.NotDir
 listed tree (Some (Link target links)) = says tree reply.NotDir
 listed tree None = says tree reply.NoEnt
 
@@ -242,28 +246,28 @@ listed tree None = says tree reply.NoEnt
 abbrev pub target_of : FileTree → Option Node → Applied
 target_of tree (Some (Link target links)) = says tree (reply.Target target)
 target_of tree (Some (Dir entries blocks)) = says tree reply.Inval
-target_of tree (Some (File cells links)) = says tree reply.Inval
+target_of tree (Some (File cells links when)) = says tree reply.Inval
 target_of tree None = says tree reply.NoEnt
 
--- an operation over a path, at a birth that no node has; m is the number of small blocks that are or were a directory's.
--- `time` shows 0.0: this format keeps no times. An operation without a path isn't applied
-abbrev pub apply : FileTree → Op → ℕ → ℕ → Applied
-apply tree (op.Create path) birth m = made tree birth (File [] 1) (place tree path)
-apply tree (op.Mkdir path) birth m = made tree birth (Dir [] 0) (place tree path)
-apply tree (op.Symlink path target) birth m = made tree birth (Link target 1) (place tree path)
-apply tree (op.Link path to) birth m = linked tree (place tree path) (place tree to)
-apply tree (op.Unlink path) birth m = unlinked tree (place tree path)
-apply tree (op.Rmdir path) birth m = dir_removed tree (place tree path)
-apply tree (op.Rename path to) birth m = renamed tree path to
-apply tree (op.Write path off bytes) birth m = at_file tree (place tree path) (λ b cells links. written tree m b cells links off (length bytes) (λ old. overwritten old off (map Byte bytes)))
-apply tree (op.Fill path off len byte) birth m = at_file tree (place tree path) (λ b cells links. written tree m b cells links off len (λ old. overwritten old off (replicate len (Byte byte))))
-apply tree (op.Truncate path len) birth m = at_file tree (place tree path) (λ b cells links. truncated tree b cells links len)
-apply tree (op.Read path off len) birth m = at_file tree (place tree path) (λ b cells links. shown tree cells off len)
-apply tree (op.Stat path) birth m = at_node tree (place tree path) (λ b node. described tree node)
-apply tree (op.List path) birth m = at_node tree (place tree path) (λ b node. listed tree node)
-apply tree (op.Readlink path) birth m = at_node tree (place tree path) (λ b node. target_of tree node)
-apply tree (op.Time path) birth m = at_file tree (place tree path) (λ b cells links. says tree (reply.Time 0 0))
-apply tree op birth m = says tree reply.Ok
+-- an operation over a path, at a birth that no node has and at a time; m is the number of small blocks that are or were a directory's. A
+-- file that is written or cut gets the time; a new one has none, which is 0. An operation without a path isn't applied
+abbrev pub apply : FileTree → Op → ℕ → ℕ → ℕ → Applied
+apply tree (op.Create path) birth when m = made tree birth (File [] 1 0) (place tree path)
+apply tree (op.Mkdir path) birth when m = made tree birth (Dir [] 0) (place tree path)
+apply tree (op.Symlink path target) birth when m = made tree birth (Link target 1) (place tree path)
+apply tree (op.Link path to) birth when m = linked tree (place tree path) (place tree to)
+apply tree (op.Unlink path) birth when m = unlinked tree (place tree path)
+apply tree (op.Rmdir path) birth when m = dir_removed tree (place tree path)
+apply tree (op.Rename path to) birth when m = renamed tree path to
+apply tree (op.Write path off bytes) birth when m = at_file tree (place tree path) (λ b cells links old. written tree m b cells links when off (length bytes) (λ all. overwritten all off (map Byte bytes)))
+apply tree (op.Fill path off len byte) birth when m = at_file tree (place tree path) (λ b cells links old. written tree m b cells links when off len (λ all. overwritten all off (replicate len (Byte byte))))
+apply tree (op.Truncate path len) birth when m = at_file tree (place tree path) (λ b cells links old. truncated tree b cells links when len)
+apply tree (op.Read path off len) birth when m = at_file tree (place tree path) (λ b cells links at. shown tree cells off len)
+apply tree (op.Stat path) birth when m = at_node tree (place tree path) (λ b node. described tree node)
+apply tree (op.List path) birth when m = at_node tree (place tree path) (λ b node. listed tree node)
+apply tree (op.Readlink path) birth when m = at_node tree (place tree path) (λ b node. target_of tree node)
+apply tree (op.Time path) birth when m = at_file tree (place tree path) (λ b cells links at. says tree (time_of at))
+apply tree op birth when m = says tree reply.Ok
 
 -- an operation with a path
 abbrev pub is_path_op : Op → Bool

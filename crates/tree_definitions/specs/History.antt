@@ -116,7 +116,7 @@ may_tell tree ever _ = true
 
 -- an entry's operation, performed where the entry stands
 abbrev pub applied : FileTree → Entry → Applied
-applied tree e = perform tree e.op e.number.0 (told_blocks tree e.reply)
+applied tree e = perform tree e.op e.number.0 e.when (told_blocks tree e.reply)
 
 -- the entry's reply is its operation's answer
 abbrev pub is_answer : FileTree → Entry → Bool
@@ -146,24 +146,24 @@ leaves_tree op _ = false
 abbrev pub fits : FileTree → ℕ → Entry → Bool
 fits tree ever e = (is_answer tree e && may_tell tree ever e.reply) || leaves_tree e.op e.reply
 
--- the birth, the cells and the links of a file
-abbrev pub file_of : ℕ → Option Node → Option (ℕ × (List Cell × ℕ))
-file_of birth (Some (File cells links)) = Some (birth, (cells, links))
+-- the birth, the cells, the links and the time of a file
+abbrev pub file_of : ℕ → Option Node → Option (ℕ × (List Cell × (ℕ × ℕ)))
+file_of birth (Some (File cells links when)) = Some (birth, (cells, (links, when)))
 file_of birth (Some (Dir entries blocks)) = None
 file_of birth (Some (Link target links)) = None
 file_of birth None = None
 
 -- the file at a place
-abbrev pub file_at : FileTree → Place → Option (ℕ × (List Cell × ℕ))
+abbrev pub file_at : FileTree → Place → Option (ℕ × (List Cell × (ℕ × ℕ)))
 file_at tree Root = None
 file_at tree (Taken dir entries blocks name birth) = file_of birth (node_at tree birth)
 file_at tree (Free dir entries blocks name) = None
 file_at tree (Nowhere r) = None
 
 -- cells that were shown become the bytes shown
-abbrev pub with_shown : FileTree → Option (ℕ × (List Cell × ℕ)) → ℕ → List ℕ → FileTree
+abbrev pub with_shown : FileTree → Option (ℕ × (List Cell × (ℕ × ℕ))) → ℕ → List ℕ → FileTree
 with_shown tree None off bytes = tree
-with_shown tree (Some file) off bytes = with_node tree file.0 (File (overwritten file.1.0 off (map Byte bytes)) file.1.1)
+with_shown tree (Some file) off bytes = with_node tree file.0 (File (overwritten file.1.0 off (map Byte bytes)) file.1.1.0 file.1.1.1)
 
 -- a read turns the cells that it showed into the bytes shown
 abbrev pub after_read : FileTree → Op → Reply → FileTree
@@ -197,9 +197,9 @@ abbrev pub doubted_cells : List Cell → ℕ → ℕ → List Cell
 doubted_cells cells from count = take from cells ++ map (λ c. Doubtful) (take count (drop from cells)) ++ drop (from + count) cells
 
 -- the cells of one file come into doubt
-abbrev pub doubted_file : FileTree → Option (ℕ × (List Cell × ℕ)) → ℕ → ℕ → FileTree
+abbrev pub doubted_file : FileTree → Option (ℕ × (List Cell × (ℕ × ℕ))) → ℕ → ℕ → FileTree
 doubted_file tree None from count = tree
-doubted_file tree (Some file) from count = with_node tree file.0 (File (doubted_cells file.1.0 from count) file.1.1)
+doubted_file tree (Some file) from count = with_node tree file.0 (File (doubted_cells file.1.0 from count) file.1.1.0 file.1.1.1)
 
 -- runs of cells come into doubt
 abbrev pub doubted : FileTree → List CellRun → FileTree

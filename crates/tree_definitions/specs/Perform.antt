@@ -83,10 +83,10 @@ resolved tree (op.CutAt k) = goes (op.CutAt k)
 resolved tree op.Stall = goes op.Stall
 
 -- what an operation comes to is applied; the refusal of a walk leaves the tree
-abbrev pub perform_step : FileTree → Step → ℕ → ℕ → Applied
-perform_step tree (Goes o) birth m = apply tree o birth m
-perform_step tree (Stops reply) birth m = says tree reply
+abbrev pub perform_step : FileTree → Step → ℕ → ℕ → ℕ → Applied
+perform_step tree (Goes o) birth when m = apply tree o birth when m
+perform_step tree (Stops reply) birth when m = says tree reply
 
--- an operation whose paths may lead through links, at a birth that no node has; m as for `apply`
-abbrev pub perform : FileTree → Op → ℕ → ℕ → Applied
-perform tree o birth m = perform_step tree (resolved tree o).step birth m
+-- an operation whose paths may lead through links, at a birth that no node has and at a time; m as for `apply`
+abbrev pub perform : FileTree → Op → ℕ → ℕ → ℕ → Applied
+perform tree o birth when m = perform_step tree (resolved tree o).step birth when m

@@ -22,7 +22,7 @@ place_by dir entries blocks name None = Free dir entries blocks name
 -- a name below a node, which has to be a directory
 abbrev pub place_in : Option Node → ℕ → List ℕ → Place
 place_in (Some (Dir entries blocks)) dir name = place_by dir entries blocks name (entry_at entries name)
-place_in (Some (File cells links)) dir name = Nowhere NotDir
+place_in (Some (File cells links when)) dir name = Nowhere NotDir
 place_in (Some (Link target links)) dir name = Nowhere NotDir
 place_in None dir name = Nowhere NoEnt
 

@@ -29,9 +29,20 @@ abbrev pub is_of : ℕ → Settled → Bool
 is_of server (Stays e) = e.server.0 == server
 is_of server (InDoubt runs) = false
 
--- an entry of the server that changes the shape and has a number above the greatest of its log
+-- a `write`, `fill` or `truncate`
+abbrev pub writes_file : Op → Bool
+writes_file (op.Write path off bytes) = true
+writes_file (op.Fill path off len byte) = true
+writes_file (op.Truncate path len) = true
+writes_file _ = false
+
+-- an entry that has a record in its server's log: it changes the shape, or it is a `write`, `fill` or `truncate` answered `ok`
+abbrev pub is_recorded : FileTree → Entry → Bool
+is_recorded tree e = changes_shape tree e || (writes_file e.op && is_ok e.reply)
+
+-- a recorded entry of the server with a number above the greatest of its log
 abbrev pub is_lost : ℕ → ℕ → FileTree → Settled → Bool
-is_lost server keeps tree (Stays e) = e.server.0 == server && nat_lt keeps e.number.0 && changes_shape tree e
+is_lost server keeps tree (Stays e) = e.server.0 == server && nat_lt keeps e.number.0 && is_recorded tree e
 is_lost server keeps tree (InDoubt runs) = false
 
 -- the removal begins here: at the first lost entry after the server's last mount
@@ -50,12 +61,12 @@ abbrev pub meets : ℕ → ℕ → ℕ → Bool
 meets sector from to = nat_lt from to && nat_lt from (SECTOR_BYTES * (sector + 1)) && nat_lt (SECTOR_BYTES * sector) to
 
 -- bytes of this file, from one offset to another, meet a sector of the file with this birth
-abbrev pub meets_in : ℕ → ℕ → Option (ℕ × (List Cell × ℕ)) → ℕ → ℕ → Bool
+abbrev pub meets_in : ℕ → ℕ → Option (ℕ × (List Cell × (ℕ × ℕ))) → ℕ → ℕ → Bool
 meets_in birth sector None from to = false
 meets_in birth sector (Some file) from to = file.0 == birth && meets sector from to
 
 -- the size of a file, where there is one
-abbrev pub size_of : Option (ℕ × (List Cell × ℕ)) → ℕ
+abbrev pub size_of : Option (ℕ × (List Cell × (ℕ × ℕ))) → ℕ
 size_of None = 0
 size_of (Some file) = length file.1.0
 
@@ -90,7 +101,7 @@ sector_cells birth size sector = record { birth = birth; from = SECTOR_BYTES * s
 
 -- the sectors of a file as runs of cells, those that the test wants
 abbrev pub file_sectors : (ℕ → ℕ → Bool) → ℕ → Node → List CellRun
-file_sectors wanted birth (File cells links) = map (sector_cells birth (length cells)) (filter (wanted birth) (below ((length cells + (SECTOR_BYTES - 1)) / SECTOR_BYTES)))
+file_sectors wanted birth (File cells links when) = map (sector_cells birth (length cells)) (filter (wanted birth) (below ((length cells + (SECTOR_BYTES - 1)) / SECTOR_BYTES)))
 file_sectors wanted birth (Dir entries blocks) = []
 file_sectors wanted birth (Link target links) = []
 

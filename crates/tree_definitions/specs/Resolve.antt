@@ -51,11 +51,11 @@ at_target next false (Ok inner) dir above names = next dir above (inner ++ names
 abbrev pub at_entry : Bool → (List ℕ → Resolution) → Resolution → List (List ℕ) → ℕ → List (List ℕ) → Option Node → Resolution
 at_entry last follow into here birth [] (Some (Link target links)) = if last then follow target else ends_at here (Some birth)
 at_entry last follow into here birth [] (Some (Dir entries blocks)) = ends_at here (Some birth)
-at_entry last follow into here birth [] (Some (File cells links)) = ends_at here (Some birth)
+at_entry last follow into here birth [] (Some (File cells links when)) = ends_at here (Some birth)
 at_entry last follow into here birth [] None = ends_at here (Some birth)
 at_entry last follow into here birth (name ∷ names) (Some (Link target links)) = follow target
 at_entry last follow into here birth (name ∷ names) (Some (Dir entries blocks)) = into
-at_entry last follow into here birth (name ∷ names) (Some (File cells links)) = refused NotDir
+at_entry last follow into here birth (name ∷ names) (Some (File cells links when)) = refused NotDir
 at_entry last follow into here birth (name ∷ names) None = refused NoEnt
 
 -- a name that was looked up; one that isn't there ends the walk well where it is the last
@@ -67,7 +67,7 @@ at_name tree last follow into here (name ∷ names) None = refused NoEnt
 -- a name below a node, which has to be a directory
 abbrev pub below_node : FileTree → Bool → (ℕ → List ℕ → Resolution) → (ℕ → Resolution) → List (List ℕ) → ℕ → List ℕ → List (List ℕ) → Option Node → Resolution
 below_node tree last follow into here dir name names (Some (Dir entries blocks)) = passes dir (at_name tree last follow into here names (entry_at entries name))
-below_node tree last follow into here dir name names (Some (File cells links)) = refused NotDir
+below_node tree last follow into here dir name names (Some (File cells links when)) = refused NotDir
 below_node tree last follow into here dir name names (Some (Link target links)) = refused NotDir
 below_node tree last follow into here dir name names None = refused NoEnt
 

@@ -26,7 +26,7 @@ same_cell Doubtful Doubtful = true
 -- equal nodes
 abbrev pub same_node : Node → Node → Bool
 same_node (Dir es n) (Dir fs m) = pointwise (λ e f. pointwise nat_eq e.0 f.0 && e.1 == f.1) es fs && n == m
-same_node (File cs n) (File ds m) = pointwise same_cell cs ds && n == m
+same_node (File cs n w) (File ds m v) = pointwise same_cell cs ds && n == m && w == v
 same_node (Link s n) (Link t m) = pointwise nat_eq s t && n == m
 same_node _ _ = false
 
@@ -40,10 +40,10 @@ same_where None (Some b) = false
 -- a node without the bytes of a file
 abbrev pub node_shape : Node → Node
 node_shape (Dir entries blocks) = Dir entries blocks
-node_shape (File cells links) = File (map (λ c. Doubtful) cells) links
+node_shape (File cells links when) = File (map (λ c. Doubtful) cells) links when
 node_shape (Link target links) = Link target links
 
--- the shape of a tree: the tree without the bytes of files, with sizes, links, births and directory blocks
+-- the shape of a tree: the tree without the bytes of files, with sizes, links, times, births and directory blocks
 abbrev pub shape_of : FileTree → FileTree
 shape_of tree = record tree { nodes = map (λ n. (n.0, node_shape n.1)) tree.nodes }
 
@@ -88,12 +88,12 @@ any_node node = true
 -- a directory
 abbrev pub dir_node : Node → Bool
 dir_node (Dir entries blocks) = true
-dir_node (File cells links) = false
+dir_node (File cells links when) = false
 dir_node (Link target links) = false
 
 -- a file
 abbrev pub file_node : Node → Bool
-file_node (File cells links) = true
+file_node (File cells links when) = true
 file_node (Dir entries blocks) = false
 file_node (Link target links) = false
 
@@ -101,7 +101,7 @@ file_node (Link target links) = false
 abbrev pub link_node : Node → Bool
 link_node (Link target links) = true
 link_node (Dir entries blocks) = false
-link_node (File cells links) = false
+link_node (File cells links when) = false
 
 -- a second walk is made only where the first one reached something
 abbrev pub then_walked : FileTree → List ℕ → List (List ℕ) → List ℕ

@@ -40,25 +40,25 @@ large_blocks_of size = if nat_lt SMALL_BYTES_MAX size then 1 else 0
 -- the small blocks of a directory
 abbrev pub dir_blocks : Node → ℕ
 dir_blocks (Dir entries blocks) = blocks
-dir_blocks (File cells links) = 0
+dir_blocks (File cells links when) = 0
 dir_blocks (Link target links) = 0
 
 -- the small blocks of a file
 abbrev pub file_blocks : Node → ℕ
 file_blocks (Dir entries blocks) = 0
-file_blocks (File cells links) = small_blocks_of (length cells)
+file_blocks (File cells links when) = small_blocks_of (length cells)
 file_blocks (Link target links) = 0
 
 -- the small blocks of a node
 abbrev pub small_blocks : Node → ℕ
 small_blocks (Dir entries blocks) = blocks
-small_blocks (File cells links) = small_blocks_of (length cells)
+small_blocks (File cells links when) = small_blocks_of (length cells)
 small_blocks (Link target links) = 0
 
 -- the large blocks of a node
 abbrev pub large_blocks : Node → ℕ
 large_blocks (Dir entries blocks) = 0
-large_blocks (File cells links) = large_blocks_of (length cells)
+large_blocks (File cells links when) = large_blocks_of (length cells)
 large_blocks (Link target links) = 0
 
 -- a count over the whole tree

@@ -19,7 +19,7 @@ name_below text name = text ++ 47 ∷ name
 -- a node's own line, and then the lines of its entries
 abbrev pub lines_with : List ℕ → Option Node → (List ℕ × ℕ → List Said) → List Said
 lines_with text None entry_lines = []
-lines_with text (Some (File cells links)) entry_lines = said.Node (path_text text) 1 (length cells) links ∷ []
+lines_with text (Some (File cells links when)) entry_lines = said.Node (path_text text) 1 (length cells) links ∷ []
 lines_with text (Some (Link target links)) entry_lines = said.Node (path_text text) 3 (length target) 0 ∷ []
 lines_with text (Some (Dir entries blocks)) entry_lines = said.Node (path_text text) 2 (length entries) 0 ∷ flat_map entry_lines entries
 

@@ -84,17 +84,17 @@ module _ (edit : Node → Node) (same : (node : Node) → blocks_of (edit node) 
 
 pub name_same : (name : List ℕ) (node : Node) → blocks_of (without_name name node) ≡ blocks_of node
 name_same name (Dir entries blocks) = refl
-name_same name (File cells links) = refl
+name_same name (File cells links when) = refl
 name_same name (Link target links) = refl
 
 pub set_name_same : (name : List ℕ) (birth : ℕ) (node : Node) → blocks_of (with_name name birth node) ≡ blocks_of node
 set_name_same name birth (Dir entries blocks) = refl
-set_name_same name birth (File cells links) = refl
+set_name_same name birth (File cells links when) = refl
 set_name_same name birth (Link target links) = refl
 
 pub links_same : (n : ℕ) (node : Node) → blocks_of (with_links n node) ≡ blocks_of node
 links_same n (Dir entries blocks) = refl
-links_same n (File cells links) = refl
+links_same n (File cells links when) = refl
 links_same n (Link target links) = refl
 
 -- cells in doubt are as many
@@ -102,7 +102,7 @@ as_many : (from count : ℕ) (cells : List Cell) → length (doubted_cells cells
 as_many from count cells = simp (length-append, length-map, length-take, length-drop) (omega arith)
 
 pub doubt_same : (from count : ℕ) (node : Node) → blocks_of (with_doubt from count node) ≡ blocks_of node
-doubt_same from count (File cells links) = ap (λ n. record { files = small_blocks_of n; dirs = 0; larges = large_blocks_of n }) (as_many from count cells)
+doubt_same from count (File cells links when) = ap (λ n. record { files = small_blocks_of n; dirs = 0; larges = large_blocks_of n }) (as_many from count cells)
 doubt_same from count (Dir entries blocks) = refl
 doubt_same from count (Link target links) = refl
 
@@ -116,25 +116,25 @@ fewer_large m n h = grind (arith, nat_tests)
 first_le : (len : ℕ) (cells : List Cell) → length (take len cells) ≤ length cells
 first_le len cells = omega (arith, length-take len cells)
 
-first_files : (len : ℕ) (node : Node) → file_blocks (with_first len node) ≤ file_blocks node
-first_files len (File cells links) = fewer_small _ _ (first_le len cells)
-first_files len (Dir entries blocks) = omega arith
-first_files len (Link target links) = omega arith
+first_files : (when len : ℕ) (node : Node) → file_blocks (with_first when len node) ≤ file_blocks node
+first_files when len (File cells links before) = fewer_small _ _ (first_le len cells)
+first_files when len (Dir entries blocks) = omega arith
+first_files when len (Link target links) = omega arith
 
-first_dirs : (len : ℕ) (node : Node) → dir_blocks (with_first len node) ≤ dir_blocks node
-first_dirs len (File cells links) = omega arith
-first_dirs len (Dir entries blocks) = omega arith
-first_dirs len (Link target links) = omega arith
+first_dirs : (when len : ℕ) (node : Node) → dir_blocks (with_first when len node) ≤ dir_blocks node
+first_dirs when len (File cells links before) = omega arith
+first_dirs when len (Dir entries blocks) = omega arith
+first_dirs when len (Link target links) = omega arith
 
-first_larges : (len : ℕ) (node : Node) → large_blocks (with_first len node) ≤ large_blocks node
-first_larges len (File cells links) = fewer_large _ _ (first_le len cells)
-first_larges len (Dir entries blocks) = omega arith
-first_larges len (Link target links) = omega arith
+first_larges : (when len : ℕ) (node : Node) → large_blocks (with_first when len node) ≤ large_blocks node
+first_larges when len (File cells links before) = fewer_large _ _ (first_le len cells)
+first_larges when len (Dir entries blocks) = omega arith
+first_larges when len (Link target links) = omega arith
 
-pub cut_room : (len : ℕ) (tree : FileTree) (birth : ℕ) (nodes : List (ℕ × Node)) → IsWithin tree → IsEdited (with_first len) tree.nodes birth nodes → HasRoom tree birth (blocks_in nodes birth)
-cut_room len tree birth nodes within is =
-    shrunk_room tree birth (blocks_in nodes birth) within (edited_le file_blocks (with_first len) tree.nodes birth nodes (first_files len) is) (edited_le dir_blocks (with_first len) tree.nodes birth nodes (first_dirs len) is)
-    (edited_le large_blocks (with_first len) tree.nodes birth nodes (first_larges len) is)
+pub cut_room : (when len : ℕ) (tree : FileTree) (birth : ℕ) (nodes : List (ℕ × Node)) → IsWithin tree → IsEdited (with_first when len) tree.nodes birth nodes → HasRoom tree birth (blocks_in nodes birth)
+cut_room when len tree birth nodes within is =
+    shrunk_room tree birth (blocks_in nodes birth) within (edited_le file_blocks (with_first when len) tree.nodes birth nodes (first_files when len) is) (edited_le dir_blocks (with_first when len) tree.nodes birth nodes (first_dirs when len) is)
+    (edited_le large_blocks (with_first when len) tree.nodes birth nodes (first_larges when len) is)
 
 -- what is asked for the edited node is asked for what is there then
 pub edited_room : (edit : Node → Node) (tree : FileTree) (birth : ℕ) (nodes : List (ℕ × Node)) → IsWithin tree → IfSome (node_at tree birth) (λ node. HasRoom tree birth (blocks_of (edit node))) → IsEdited edit tree.nodes birth nodes → HasRoom tree birth (blocks_in nodes birth)

@@ -15,48 +15,48 @@ use Rattle.tree_definitions.specs.History.{doubted_cells}
 -- a directory loses a name
 abbrev pub without_name : List ℕ → Node → Node
 without_name name (Dir entries blocks) = Dir (without_entry entries name) blocks
-without_name name (File cells links) = File cells links
+without_name name (File cells links when) = File cells links when
 without_name name (Link target links) = Link target links
 
 -- a directory has this node at a name
 abbrev pub with_name : List ℕ → ℕ → Node → Node
 with_name name birth (Dir entries blocks) = Dir (with_entry entries name birth) blocks
-with_name name birth (File cells links) = File cells links
+with_name name birth (File cells links when) = File cells links when
 with_name name birth (Link target links) = Link target links
 
 -- a directory has so many blocks
 abbrev pub with_blocks : ℕ → Node → Node
 with_blocks n (Dir entries blocks) = Dir entries n
-with_blocks n (File cells links) = File cells links
+with_blocks n (File cells links when) = File cells links when
 with_blocks n (Link target links) = Link target links
 
 -- a node that is no directory has so many names
 abbrev pub with_links : ℕ → Node → Node
 with_links n (Dir entries blocks) = Dir entries blocks
-with_links n (File cells links) = File cells n
+with_links n (File cells links when) = File cells n when
 with_links n (Link target links) = Link target n
 
--- a file's cells from an offset on are these
-abbrev pub with_cells : ℕ → List Cell → Node → Node
-with_cells off new (File cells links) = File (overwritten cells off new) links
-with_cells off new (Dir entries blocks) = Dir entries blocks
-with_cells off new (Link target links) = Link target links
+-- a file's cells from an offset on are these, and its time is this
+abbrev pub with_cells : ℕ → ℕ → List Cell → Node → Node
+with_cells when off new (File cells links before) = File (overwritten cells off new) links when
+with_cells when off new (Dir entries blocks) = Dir entries blocks
+with_cells when off new (Link target links) = Link target links
 
--- a file keeps its first cells
-abbrev pub with_first : ℕ → Node → Node
-with_first len (File cells links) = File (take len cells) links
-with_first len (Dir entries blocks) = Dir entries blocks
-with_first len (Link target links) = Link target links
+-- a file keeps its first cells, and its time is this
+abbrev pub with_first : ℕ → ℕ → Node → Node
+with_first when len (File cells links before) = File (take len cells) links when
+with_first when len (Dir entries blocks) = Dir entries blocks
+with_first when len (Link target links) = Link target links
 
 -- cells of a file come into doubt
 abbrev pub with_doubt : ℕ → ℕ → Node → Node
-with_doubt from count (File cells links) = File (doubted_cells cells from count) links
+with_doubt from count (File cells links when) = File (doubted_cells cells from count) links when
 with_doubt from count (Dir entries blocks) = Dir entries blocks
 with_doubt from count (Link target links) = Link target links
 
 -- cells may be put into a file from an offset on, up to its greatest size
 abbrev pub CanPut : ℕ → List Cell → Node → Type 0
-CanPut off new (File cells links) = (off ≤ length cells) × (off + length new ≤ 1114112)
+CanPut off new (File cells links when) = (off ≤ length cells) × (off + length new ≤ 1114112)
 CanPut off new _ = Unit {0}
 
 -- a directory has the name

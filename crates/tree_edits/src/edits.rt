@@ -1,10 +1,11 @@
 // Changes of a node where it stands.
-ghost use Rattle.std.specs.Prelude.{◌≡◌, ◌<◌, ◌^◌, OnOk, OnErr};
+ghost use Rattle.std.specs.Prelude.{◌≡◌, ◌≤◌, ◌<◌, ◌+◌, ◌^◌, length, OnOk, OnErr};
+ghost use Rattle.tree_definitions.specs.Apply.{overwritten};
 ghost use Rattle.tree_edits.specs.Edits.{without_name, with_name, with_blocks, with_links, with_cells, with_first, with_doubt, CanPut, Names};
 ghost use Rattle.tree_edits.specs.Written.{cells_of, size_of};
 
 use frang_base::{Name, NoMemory};
-use tree_definitions::Node;
+use tree_definitions::{Cells, Node};
 
 /// What is written into a file: bytes, or so many times the same byte.
 #[derive(Clone, Copy, Debug)]
@@ -66,27 +67,44 @@ pub fn set_links(node: &mut Node, count: u32)
     }
 }
 
-/// Bytes are put into a file. After `NoMemory` it is as before.
-pub fn put_bytes(node: &mut Node, off: usize, bytes: &Bytes) -> Result<(), NoMemory>
+// Cells from an offset on become these bytes. After `NoMemory` they are as before.
+fn write(cells: &mut Cells, off: usize, bytes: &Bytes) -> Result<(), NoMemory>
+    requires there { off ≤ length cells.old }
+    requires fits { off + length (cells_of bytes.now) ≤ 1114112 }
+    ensures ok { OnOk result (cells.new ≡ overwritten cells.old off (cells_of bytes.now)) }
+    ensures err { OnErr result (cells.new ≡ cells.old) }
+{
+    match bytes {
+        Bytes::Text(bytes) => cells.overwrite(off, bytes),
+        Bytes::Same { len, byte } => cells.fill(off, *len as usize, *byte),
+    }
+}
+
+/// Bytes are put into a file, at a time. After `NoMemory` it is as before.
+pub fn put_bytes(node: &mut Node, at: u64, off: usize, bytes: &Bytes) -> Result<(), NoMemory>
     requires { CanPut off (cells_of bytes.now) node.old }
-    ensures ok { OnOk result (node.new ≡ with_cells off (cells_of bytes.now) node.old) }
+    ensures ok { OnOk result (node.new ≡ with_cells at off (cells_of bytes.now) node.old) }
     ensures err { OnErr result (node.new ≡ node.old) }
 {
     match node {
-        Node::File { cells, .. } => match bytes {
-            Bytes::Text(bytes) => cells.overwrite(off, bytes),
-            Bytes::Same { len, byte } => cells.fill(off, *len as usize, *byte),
-        },
+        Node::File { cells, when, .. } => {
+            write(cells, off, bytes)?;
+            *when = at;
+            Ok(())
+        }
         Node::Dir { .. } | Node::Link { .. } => Ok(()),
     }
 }
 
-/// A file keeps its first bytes.
-pub fn cut(node: &mut Node, len: usize)
-    ensures { node.new ≡ with_first len node.old }
+/// A file keeps its first bytes, at a time.
+pub fn cut(node: &mut Node, at: u64, len: usize)
+    ensures { node.new ≡ with_first at len node.old }
 {
     match node {
-        Node::File { cells, .. } => cells.truncate(len),
+        Node::File { cells, when, .. } => {
+            cells.truncate(len);
+            *when = at;
+        }
         Node::Dir { .. } | Node::Link { .. } => {}
     }
 }

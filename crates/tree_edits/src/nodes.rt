@@ -81,30 +81,31 @@ pub fn set_links(nodes: &mut BTreeMap<u64, Node>, birth: u64, count: u32)
     }
 }
 
-/// Bytes are put into a file. After `NoMemory` the nodes are as before.
+/// Bytes are put into a file, at a time. After `NoMemory` the nodes are as before.
 #[tactic(auto, using(std::proofs::lemmas::Map::Steps::set_value_same))]
 pub fn put_bytes(
     nodes: &mut BTreeMap<u64, Node>,
     birth: u64,
+    when: u64,
     off: usize,
     bytes: &Bytes,
 ) -> Result<(), NoMemory>
     requires { IfSome (get nat_cmp nodes.old birth) (CanPut off (cells_of bytes.now)) }
-    ensures ok { OnOk result (IsEdited (with_cells off (cells_of bytes.now)) nodes.old.entries birth nodes.new.entries) }
+    ensures ok { OnOk result (IsEdited (with_cells when off (cells_of bytes.now)) nodes.old.entries birth nodes.new.entries) }
     ensures err { OnErr result (nodes.new.entries ≡ nodes.old.entries) }
 {
     if let Some(node) = nodes.get_mut(&birth) {
-        edits::put_bytes(node, off, bytes)?;
+        edits::put_bytes(node, when, off, bytes)?;
     }
     Ok(())
 }
 
-/// A file keeps its first bytes.
-pub fn cut(nodes: &mut BTreeMap<u64, Node>, birth: u64, len: usize)
-    ensures { IsEdited (with_first len) nodes.old.entries birth nodes.new.entries }
+/// A file keeps its first bytes, at a time.
+pub fn cut(nodes: &mut BTreeMap<u64, Node>, birth: u64, when: u64, len: usize)
+    ensures { IsEdited (with_first when len) nodes.old.entries birth nodes.new.entries }
 {
     if let Some(node) = nodes.get_mut(&birth) {
-        edits::cut(node, len);
+        edits::cut(node, when, len);
     }
 }
 

@@ -19,13 +19,13 @@ use Rattle.tree_laws.proofs.Joint.{Matches, joint_none, joint_with, joint_withou
 -- births stay in order
 gone_ascends : (t : FileTree) (d : ℕ) (name : List ℕ) (o : Option Node) → BirthsAscend t → BirthsAscend (name_gone t d name o)
 gone_ascends t d name (Some (Dir es n)) b = ascend_with t d (Dir (without_entry es name) n) b
-gone_ascends t d name (Some (File cells links)) b = b
+gone_ascends t d name (Some (File cells links when)) b = b
 gone_ascends t d name (Some (Link target links)) b = b
 gone_ascends t d name None b = b
 
 set_ascends : (t : FileTree) (d : ℕ) (name : List ℕ) (birth : ℕ) (o : Option Node) → BirthsAscend t → BirthsAscend (name_set t d name birth o)
 set_ascends t d name birth (Some (Dir es n)) b = ascend_with t d (Dir (with_entry es name birth) n) b
-set_ascends t d name birth (Some (File cells links)) b = b
+set_ascends t d name birth (Some (File cells links when)) b = b
 set_ascends t d name birth (Some (Link target links)) b = b
 set_ascends t d name birth None b = b
 
@@ -35,10 +35,10 @@ moved_ascends t from name to new birth b =
     set_ascends gone to new birth (node_at gone to) (gone_ascends t from name (node_at t from) b)
 
 pub fewer_ascends : (t : FileTree) (d : ℕ) (o : Option Node) → BirthsAscend t → BirthsAscend (one_link_fewer t d o)
-fewer_ascends t d (Some (File cells links)) b = go (nat_lt 1 links)
+fewer_ascends t d (Some (File cells links when)) b = go (nat_lt 1 links)
   where
-    go : (c : Bool) → BirthsAscend (cond c (with_node t d (File cells (links - 1))) (without_node t d))
-    go true = ascend_with t d (File cells (links - 1)) b
+    go : (c : Bool) → BirthsAscend (cond c (with_node t d (File cells (links - 1) when)) (without_node t d))
+    go true = ascend_with t d (File cells (links - 1) when) b
     go false = ascend_without t d b
 fewer_ascends t d (Some (Link target links)) b = go (nat_lt 1 links)
   where
@@ -50,11 +50,11 @@ fewer_ascends t d None b = b
 
 -- a node with a link fewer isn't the same
 pub fewer_differs : (t : FileTree) (d : ℕ) (x : Node) → BirthsAscend t → node_at (one_link_fewer t d (Some x)) d ≢ Some x
-fewer_differs t d (File cells links) b e = go (nat_lt 1 links) refl e
+fewer_differs t d (File cells links when) b e = go (nat_lt 1 links) refl e
   where
-    go : (c : Bool) → nat_lt 1 links ≡ c → node_at (cond c (with_node t d (File cells (links - 1))) (without_node t d)) d ≡ Some (File cells links) → ⊥
-    go true i e = let l : links - 1 ≡ links = (let s : Some (File cells (links - 1)) ≡ Some (File cells links) = sym (with_same t d (File cells (links - 1))) ∙ e in cc) in let m : 1 < links = ltb-true 1 links i in omega arith
-    go false i e = let s : None ≡ Some (File cells links) = sym (without_same t d b) ∙ e in cc
+    go : (c : Bool) → nat_lt 1 links ≡ c → node_at (cond c (with_node t d (File cells (links - 1) when)) (without_node t d)) d ≡ Some (File cells links when) → ⊥
+    go true i e = let l : links - 1 ≡ links = (let s : Some (File cells (links - 1) when) ≡ Some (File cells links when) = sym (with_same t d (File cells (links - 1) when)) ∙ e in cc) in let m : 1 < links = ltb-true 1 links i in omega arith
+    go false i e = let s : None ≡ Some (File cells links when) = sym (without_same t d b) ∙ e in cc
 fewer_differs t d (Link target links) b e = go (nat_lt 1 links) refl e
   where
     go : (c : Bool) → nat_lt 1 links ≡ c → node_at (cond c (with_node t d (Link target (links - 1))) (without_node t d)) d ≡ Some (Link target links) → ⊥
@@ -65,13 +65,13 @@ fewer_differs t d (Dir es n) b e = let s : None ≡ Some (Dir es n) = sym (witho
 -- tests that go by the kind of a node
 by_kind : (a b : Option Node) → ((x y : Node) → a ≡ Some x → b ≡ Some y → kind_of x ≡ kind_of y) → is_some a ≡ true → is_some b ≡ true → is_dir a ≡ is_dir b
 by_kind (Some (Dir es n)) (Some (Dir fs m)) k s t = refl
-by_kind (Some (Dir es n)) (Some (File fs m)) k s t = absurd (let q : OfDirectory ≡ OfFile = k (Dir es n) (File fs m) refl refl in cc)
+by_kind (Some (Dir es n)) (Some (File fs m v)) k s t = absurd (let q : OfDirectory ≡ OfFile = k (Dir es n) (File fs m v) refl refl in cc)
 by_kind (Some (Dir es n)) (Some (Link fs m)) k s t = absurd (let q : OfDirectory ≡ OfLink = k (Dir es n) (Link fs m) refl refl in cc)
-by_kind (Some (File es n)) (Some (Dir fs m)) k s t = absurd (let q : OfFile ≡ OfDirectory = k (File es n) (Dir fs m) refl refl in cc)
-by_kind (Some (File es n)) (Some (File fs m)) k s t = refl
-by_kind (Some (File es n)) (Some (Link fs m)) k s t = refl
+by_kind (Some (File es n w)) (Some (Dir fs m)) k s t = absurd (let q : OfFile ≡ OfDirectory = k (File es n w) (Dir fs m) refl refl in cc)
+by_kind (Some (File es n w)) (Some (File fs m v)) k s t = refl
+by_kind (Some (File es n w)) (Some (Link fs m)) k s t = refl
 by_kind (Some (Link es n)) (Some (Dir fs m)) k s t = absurd (let q : OfLink ≡ OfDirectory = k (Link es n) (Dir fs m) refl refl in cc)
-by_kind (Some (Link es n)) (Some (File fs m)) k s t = refl
+by_kind (Some (Link es n)) (Some (File fs m v)) k s t = refl
 by_kind (Some (Link es n)) (Some (Link fs m)) k s t = refl
 by_kind None b k s t = cc
 by_kind (Some x) None k s t = cc
@@ -91,7 +91,7 @@ module _ (L : Likeness) (one two : FileTree) where
 
 -- a node with a link more isn't the same
 more_differs : (t : FileTree) (d : ℕ) (x : Node) → is_dir (Some x) ≡ false → node_at (one_link_more t d (Some x)) d ≢ Some x
-more_differs t d (File cells links) f e = let l : links + 1 ≡ links = (let s : Some (File cells (links + 1)) ≡ Some (File cells links) = sym (with_same t d (File cells (links + 1))) ∙ e in cc) in omega arith
+more_differs t d (File cells links when) f e = let l : links + 1 ≡ links = (let s : Some (File cells (links + 1) when) ≡ Some (File cells links when) = sym (with_same t d (File cells (links + 1) when)) ∙ e in cc) in omega arith
 more_differs t d (Link target links) f e = let l : links + 1 ≡ links = (let s : Some (Link target (links + 1)) ≡ Some (Link target links) = sym (with_same t d (Link target (links + 1))) ∙ e in cc) in omega arith
 more_differs t d (Dir es n) f e = absurd (cc)
 

@@ -53,18 +53,18 @@ module _ (L : Likeness) (one two : FileTree) (e : Entry) (walk_one : IsWalkable 
   left_or_near : (b : ℕ) → Near L one two b ⊎ (node_at (applied one e).tree b ≡ node_at one b)
   left_or_near b = ⊎_elim (λ d. inl (near b (changed_is_touched one e b answered d))) (λ s. inr (sym s)) (differs_or_not one (applied one e).tree b)
 
-  pub agree_on : (o : Op) → (resolved one e.op).step ≡ Goes o → AgreeOn L one two o e.reply (apply one o e.number.0 (told_blocks one e.reply))
+  pub agree_on : (o : Op) → (resolved one e.op).step ≡ Goes o → AgreeOn L one two o e.reply (apply one o e.number.0 e.when (told_blocks one e.reply))
   agree_on o i =
       let seen = λ (b : ℕ) (j : is_in b (visited one (Goes o) e.reply) ≡ true). visited_agrees b (subst (λ z. is_in b (visited one z e.reply) ≡ true) (sym i) j) in
       record {
         looked = λ b j. seen b (in_left b (looked_in one o) (further one o e.reply) j);
         further = λ b j. seen b (in_right b (looked_in one o) (further one o e.reply) j);
-        left = subst (λ z. (b : ℕ) → Near L one two b ⊎ (node_at (perform_step one z e.number.0 (told_blocks one e.reply)).tree b ≡ node_at one b)) i left_or_near;
-        told = subst (λ z. agrees (perform_step one z e.number.0 (told_blocks one e.reply)).answer e.reply ≡ true) i (and_parts (is_path_op e.op) (agrees (applied one e).answer e.reply) answered).1;
+        left = subst (λ z. (b : ℕ) → Near L one two b ⊎ (node_at (perform_step one z e.number.0 e.when (told_blocks one e.reply)).tree b ≡ node_at one b)) i left_or_near;
+        told = subst (λ z. agrees (perform_step one z e.number.0 e.when (told_blocks one e.reply)).answer e.reply ≡ true) i (and_parts (is_path_op e.op) (agrees (applied one e).answer e.reply) answered).1;
       }
 
-  matched : (s : Step) → (resolved one e.op).step ≡ s → Matches L one two (perform_step one s e.number.0 (told_blocks one e.reply)) (perform_step two s e.number.0 (told_blocks two e.reply))
-  matched (Goes o) i = apply_matches L one two grounds e.number.0 new_one new_two (told_blocks one e.reply) (told_blocks two e.reply) (λ s. same_told one two s e.reply) e.reply o (agree_on o i)
+  matched : (s : Step) → (resolved one e.op).step ≡ s → Matches L one two (perform_step one s e.number.0 e.when (told_blocks one e.reply)) (perform_step two s e.number.0 e.when (told_blocks two e.reply))
+  matched (Goes o) i = apply_matches L one two grounds e.number.0 e.when new_one new_two (told_blocks one e.reply) (told_blocks two e.reply) (λ s. same_told one two s e.reply) e.reply o (agree_on o i)
   matched (Stops r) i = both_say L one two r
 
   by_room : Roomy one two e → Matches L one two (applied one e) (applied two e) → Alike L one two (applied one e) (applied two e)
@@ -72,32 +72,32 @@ module _ (L : Likeness) (one two : FileTree) (e : Entry) (walk_one : IsWalkable 
   by_room (inr s) m = m.roomy s
 
   pub alike : Alike L one two (applied one e) (applied two e)
-  alike = by_room room (subst (λ z. Matches L one two (applied one e) (perform_step two z.step e.number.0 (told_blocks two e.reply))) (sym same_way) (matched (resolved one e.op).step refl))
+  alike = by_room room (subst (λ z. Matches L one two (applied one e) (perform_step two z.step e.number.0 e.when (told_blocks two e.reply))) (sym same_way) (matched (resolved one e.op).step refl))
 
   pub answered_two : is_answer two e ≡ true
   answered_two = let p = and_parts (is_path_op e.op) (agrees (applied one e).answer e.reply) answered in and_from (is_path_op e.op) (agrees (applied two e).answer e.reply) p.0 (agrees_like L (applied one e).answer (applied two e).answer e.reply alike.answer p.1)
 
   -- the file that a read showed
-  abbrev LikeFile : Option (ℕ × (List Cell × ℕ)) → Option (ℕ × (List Cell × ℕ)) → Type 0
+  abbrev LikeFile : Option (ℕ × (List Cell × (ℕ × ℕ))) → Option (ℕ × (List Cell × (ℕ × ℕ))) → Type 0
   LikeFile None q = q ≡ None
   LikeFile (Some f) q = (others : List Cell) × (q ≡ Some (f.0, (others, f.1.1))) × L.like f.1.0 others
 
-  file_of_like : (b : ℕ) (o q : Option Node) → node_at one b ≡ o → node_at two b ≡ q → is_some o ≡ true → is_some q ≡ true → ((f : ℕ × (List Cell × ℕ)) → file_of b o ≡ Some f → Near L one two b) → LikeFile (file_of b o) (file_of b q)
-  file_of_like b (Some (File cells links)) q i j s t same =
-      let l = subst (λ z. Like L (Some (File cells links)) z) j (subst (λ z. Like L z (node_at two b)) i (same (b, (cells, links)) refl)) in
+  file_of_like : (b : ℕ) (o q : Option Node) → node_at one b ≡ o → node_at two b ≡ q → is_some o ≡ true → is_some q ≡ true → ((f : ℕ × (List Cell × (ℕ × ℕ))) → file_of b o ≡ Some f → Near L one two b) → LikeFile (file_of b o) (file_of b q)
+  file_of_like b (Some (File cells links when)) q i j s t same =
+      let l = subst (λ z. Like L (Some (File cells links when)) z) j (subst (λ z. Like L z (node_at two b)) i (same (b, (cells, (links, when))) refl)) in
       (l.0, ap (file_of b) l.1, l.2)
   file_of_like b (Some (Dir es n)) (Some (Dir fs m)) i j s t same = refl
-  file_of_like b (Some (Dir es n)) (Some (File fs m)) i j s t same = absurd (let k : OfDirectory ≡ OfFile = kinds b (Dir es n) (File fs m) i j in cc)
+  file_of_like b (Some (Dir es n)) (Some (File fs m v)) i j s t same = absurd (let k : OfDirectory ≡ OfFile = kinds b (Dir es n) (File fs m v) i j in cc)
   file_of_like b (Some (Dir es n)) (Some (Link fs m)) i j s t same = refl
   file_of_like b (Some (Link es n)) (Some (Dir fs m)) i j s t same = refl
-  file_of_like b (Some (Link es n)) (Some (File fs m)) i j s t same = absurd (let k : OfLink ≡ OfFile = kinds b (Link es n) (File fs m) i j in cc)
+  file_of_like b (Some (Link es n)) (Some (File fs m v)) i j s t same = absurd (let k : OfLink ≡ OfFile = kinds b (Link es n) (File fs m v) i j in cc)
   file_of_like b (Some (Link es n)) (Some (Link fs m)) i j s t same = refl
   file_of_like b None q i j s t same = absurd (cc)
   file_of_like b (Some (Dir es n)) None i j s t same = absurd (cc)
   file_of_like b (Some (Link es n)) None i j s t same = absurd (cc)
 
-  birth_of : (b : ℕ) (o : Option Node) (f : ℕ × (List Cell × ℕ)) → file_of b o ≡ Some f → f.0 ≡ b
-  birth_of b (Some (File cells links)) f h = sym (ap (λ o. elim o as (λ x. ℕ) [ None ↦ b | Some g ↦ g.0 ]) h)
+  birth_of : (b : ℕ) (o : Option Node) (f : ℕ × (List Cell × (ℕ × ℕ))) → file_of b o ≡ Some f → f.0 ≡ b
+  birth_of b (Some (File cells links when)) f h = sym (ap (λ o. elim o as (λ x. ℕ) [ None ↦ b | Some g ↦ g.0 ]) h)
   birth_of b (Some (Dir es n)) f h = cc
   birth_of b (Some (Link target links)) f h = cc
   birth_of b None f h = cc
@@ -109,38 +109,38 @@ module _ (L : Likeness) (one two : FileTree) (e : Entry) (walk_one : IsWalkable 
   file_at_like (Free dir es n name) s t same = refl
   file_at_like (Nowhere r) s t same = refl
 
-  with_shown_joint : (o q : Option (ℕ × (List Cell × ℕ))) (off : ℕ) (bytes : List ℕ) → LikeFile o q → ((f : ℕ × (List Cell × ℕ)) → o ≡ Some f → Near L one two f.0) → Joint L one two (with_shown one o off bytes) (with_shown two q off bytes)
+  with_shown_joint : (o q : Option (ℕ × (List Cell × (ℕ × ℕ)))) (off : ℕ) (bytes : List ℕ) → LikeFile o q → ((f : ℕ × (List Cell × (ℕ × ℕ))) → o ≡ Some f → Near L one two f.0) → Joint L one two (with_shown one o off bytes) (with_shown two q off bytes)
   with_shown_joint None q off bytes l same = subst (λ z. Joint L one two one (with_shown two z off bytes)) (sym l) (joint_none L one two)
   with_shown_joint (Some f) q off bytes l same =
       let new = map Byte bytes in
       subst (λ z. Joint L one two (with_shown one (Some f) off bytes) (with_shown two z off bytes)) (sym l.1)
-      (joint_put L one two one two (joint_none L one two) f.0 (File (overwritten f.1.0 off new) f.1.1) (File (overwritten l.0 off new) f.1.1) (same f refl) (overwritten l.0 off new, refl, overwritten_like L f.1.0 l.0 off new l.2))
+      (joint_put L one two one two (joint_none L one two) f.0 (File (overwritten f.1.0 off new) f.1.1.0 f.1.1.1) (File (overwritten l.0 off new) f.1.1.0 f.1.1.1) (same f refl) (overwritten l.0 off new, refl, overwritten_like L f.1.0 l.0 off new l.2))
 
-  read_joint : (o : Op) (r : Reply) → (resolved one e.op).step ≡ Goes o → e.reply ≡ r → Joint L one two (apply one o e.number.0 (told_blocks one e.reply)).tree (apply two o e.number.0 (told_blocks two e.reply)).tree
-      → Joint L one two (after_read (apply one o e.number.0 (told_blocks one e.reply)).tree o r) (after_read (apply two o e.number.0 (told_blocks two e.reply)).tree o r)
+  read_joint : (o : Op) (r : Reply) → (resolved one e.op).step ≡ Goes o → e.reply ≡ r → Joint L one two (apply one o e.number.0 e.when (told_blocks one e.reply)).tree (apply two o e.number.0 e.when (told_blocks two e.reply)).tree
+      → Joint L one two (after_read (apply one o e.number.0 e.when (told_blocks one e.reply)).tree o r) (after_read (apply two o e.number.0 e.when (told_blocks two e.reply)).tree o r)
   read_joint (op.Read path off len) (reply.Shown bytes) i j h =
-      let look_one = looks_leave one (op.Read path off len) e.number.0 (told_blocks one e.reply) refl in
-      let look_two = looks_leave two (op.Read path off len) e.number.0 (told_blocks two e.reply) refl in
+      let look_one = looks_leave one (op.Read path off len) e.number.0 e.when (told_blocks one e.reply) refl in
+      let look_two = looks_leave two (op.Read path off len) e.number.0 e.when (told_blocks two e.reply) refl in
       let on = agree_on (op.Read path off len) i in
       let found = on.further in
       let walk = walks L one two grounds path on.looked in
       let file : LikeFile (file_at one (place one path)) (file_at two (place two path)) = subst (λ p. LikeFile (file_at one (place one path)) (file_at two p)) (sym walk.place) (file_at_like (place one path) (place_stands one path) (subst (Stands two) walk.place (place_stands two path)) found) in
-      subst (λ t. Joint L one two (with_shown t (file_at t (place t path)) off bytes) (after_read (apply two (op.Read path off len) e.number.0 (told_blocks two e.reply)).tree (op.Read path off len) (reply.Shown bytes))) (sym look_one)
+      subst (λ t. Joint L one two (with_shown t (file_at t (place t path)) off bytes) (after_read (apply two (op.Read path off len) e.number.0 e.when (told_blocks two e.reply)).tree (op.Read path off len) (reply.Shown bytes))) (sym look_one)
       (subst (λ t. Joint L one two (with_shown one (file_at one (place one path)) off bytes) (with_shown t (file_at t (place t path)) off bytes)) (sym look_two)
       (with_shown_joint (file_at one (place one path)) (file_at two (place two path)) off bytes file (λ f k. found f.0 (file_at_reached one (place one path) f k))))
   read_joint (op.Read path off len) _ i j h = h
   read_joint _ r i j h = h
 
-  step_joint : (s : Step) → (resolved one e.op).step ≡ s → Joint L one two (perform_step one s e.number.0 (told_blocks one e.reply)).tree (perform_step two s e.number.0 (told_blocks two e.reply)).tree
-      → Joint L one two (after_step (perform_step one s e.number.0 (told_blocks one e.reply)).tree s e.reply) (after_step (perform_step two s e.number.0 (told_blocks two e.reply)).tree s e.reply)
+  step_joint : (s : Step) → (resolved one e.op).step ≡ s → Joint L one two (perform_step one s e.number.0 e.when (told_blocks one e.reply)).tree (perform_step two s e.number.0 e.when (told_blocks two e.reply)).tree
+      → Joint L one two (after_step (perform_step one s e.number.0 e.when (told_blocks one e.reply)).tree s e.reply) (after_step (perform_step two s e.number.0 e.when (told_blocks two e.reply)).tree s e.reply)
   step_joint (Goes o) i h = read_joint o e.reply i refl h
   step_joint (Stops r) i h = h
 
   shown_joint : Joint L one two (after_step (applied one e).tree (resolved one e.op).step e.reply) (after_step (applied two e).tree (resolved two e.op).step e.reply)
   shown_joint =
       let m = told_blocks two e.reply in
-      subst (λ z. Joint L one two (after_step (applied one e).tree (resolved one e.op).step e.reply) (after_step (perform_step two z.step e.number.0 m).tree z.step e.reply)) (sym same_way)
-      (step_joint (resolved one e.op).step refl (subst (λ z. Joint L one two (applied one e).tree (perform_step two z.step e.number.0 m).tree) same_way alike.nodes))
+      subst (λ z. Joint L one two (after_step (applied one e).tree (resolved one e.op).step e.reply) (after_step (perform_step two z.step e.number.0 e.when m).tree z.step e.reply)) (sym same_way)
+      (step_joint (resolved one e.op).step refl (subst (λ z. Joint L one two (applied one e).tree (perform_step two z.step e.number.0 e.when m).tree) same_way alike.nodes))
 
   pub after_joint : Joint L one two (tree_after one e) (tree_after two e)
   after_joint = go (leaves_tree e.op e.reply) (is_answer one e) (is_answer two e) answered answered_two
@@ -164,7 +164,7 @@ module _ (one two : FileTree) (e : Entry) (walk_one : IsWalkable one) (walk_two 
   both : Alike equal one two (applied one e) (applied two e)
   both = alike equal one two e walk_one walk_two kinds new_one new_two answered room near_by
 
-  agreed : (o : Op) → (resolved one e.op).step ≡ Goes o → AgreeOn equal one two o e.reply (apply one o e.number.0 (told_blocks one e.reply))
+  agreed : (o : Op) → (resolved one e.op).step ≡ Goes o → AgreeOn equal one two o e.reply (apply one o e.number.0 e.when (told_blocks one e.reply))
   agreed = agree_on equal one two e walk_one walk_two kinds new_one new_two answered room near_by
 
   told_two : is_answer two e ≡ true
@@ -186,7 +186,7 @@ module _ (one two : FileTree) (e : Entry) (walk_one : IsWalkable one) (walk_two 
   visited_same : (s : Step) → (resolved one e.op).step ≡ s → visited two s e.reply ≡ visited one s e.reply
   visited_same (Goes o) i =
       let a = agreed o i in
-      ap₂ (λ w v. w ++ v) (looked_same equal one two ground e.reply (apply one o e.number.0 (told_blocks one e.reply)) o a) (further_same equal one two ground o e.reply e.number.0 (told_blocks one e.reply) a)
+      ap₂ (λ w v. w ++ v) (looked_same equal one two ground e.reply (apply one o e.number.0 e.when (told_blocks one e.reply)) o a) (further_same equal one two ground o e.reply e.number.0 e.when (told_blocks one e.reply) a)
   visited_same (Stops r) i = refl
 
   touched_same : (b : ℕ) → touches one e b ≡ touches two e b

@@ -52,17 +52,17 @@ module _ (L : Likeness) (one two : FileTree) (g : Grounds one two) where
   node_matches first second (Nowhere r) s t each = both_say L one two r
 
   -- of a file
-  module _ (first second : ℕ → List Cell → ℕ → Applied) (each : (b : ℕ) (cells others : List Cell) (links : ℕ) → Near L one two b → L.like cells others → Matches L one two (first b cells links) (second b others links)) where
+  module _ (first second : ℕ → List Cell → ℕ → ℕ → Applied) (each : (b : ℕ) (cells others : List Cell) (links when : ℕ) → Near L one two b → L.like cells others → Matches L one two (first b cells links when) (second b others links when)) where
     file_matches : (b : ℕ) (o q : Option Node) → node_at one b ≡ o → node_at two b ≡ q → is_some o ≡ true → is_some q ≡ true → ((x : Node) → o ≡ Some x → file_node x ≡ true → Near L one two b) → Matches L one two (if_file one first b o) (if_file two second b q)
-    file_matches b (Some (File cells links)) q i j s t same =
-        let e = same (File cells links) refl refl in
-        let l = subst (λ z. Like L (Some (File cells links)) z) j (subst (λ z. Like L z (node_at two b)) i e) in
-        subst (λ z. Matches L one two (first b cells links) (if_file two second b z)) (sym l.1) (each b cells l.0 links e l.2)
+    file_matches b (Some (File cells links when)) q i j s t same =
+        let e = same (File cells links when) refl refl in
+        let l = subst (λ z. Like L (Some (File cells links when)) z) j (subst (λ z. Like L z (node_at two b)) i e) in
+        subst (λ z. Matches L one two (first b cells links when) (if_file two second b z)) (sym l.1) (each b cells l.0 links when e l.2)
     file_matches b (Some (Dir es n)) (Some (Dir fs m)) i j s t same = both_say L one two reply.IsDir
-    file_matches b (Some (Dir es n)) (Some (File fs m)) i j s t same = absurd (let k : OfDirectory ≡ OfFile = g.kinds b (Dir es n) (File fs m) i j in cc)
+    file_matches b (Some (Dir es n)) (Some (File fs m v)) i j s t same = absurd (let k : OfDirectory ≡ OfFile = g.kinds b (Dir es n) (File fs m v) i j in cc)
     file_matches b (Some (Dir es n)) (Some (Link fs m)) i j s t same = absurd (let k : OfDirectory ≡ OfLink = g.kinds b (Dir es n) (Link fs m) i j in cc)
     file_matches b (Some (Link es n)) (Some (Dir fs m)) i j s t same = absurd (let k : OfLink ≡ OfDirectory = g.kinds b (Link es n) (Dir fs m) i j in cc)
-    file_matches b (Some (Link es n)) (Some (File fs m)) i j s t same = absurd (let k : OfLink ≡ OfFile = g.kinds b (Link es n) (File fs m) i j in cc)
+    file_matches b (Some (Link es n)) (Some (File fs m v)) i j s t same = absurd (let k : OfLink ≡ OfFile = g.kinds b (Link es n) (File fs m v) i j in cc)
     file_matches b (Some (Link es n)) (Some (Link fs m)) i j s t same = both_say L one two reply.Inval
     file_matches b None q i j s t same = absurd (cc)
     file_matches b (Some (Dir es n)) None i j s t same = absurd (cc)
@@ -81,25 +81,25 @@ module _ (L : Likeness) (one two : FileTree) (g : Grounds one two) where
       (cond (nat_lt (large_blocks_of n) (large_blocks_of size) && larges_full t) (says t reply.NoLarge)
       (cond (nat_lt (1024 * t.segments - m) (count_of file_blocks t + (small_blocks_of size - small_blocks_of n))) (says t (reply.NoBlock m)) (says u reply.Ok))))
 
-  pub written_matches : (m k : ℕ) → (SameRoom one two → m ≡ k) → (b : ℕ) (cells others : List Cell) (links off len : ℕ) (put : List Cell → List Cell) → Near L one two b → L.like cells others → L.like (put cells) (put others) → Matches L one two (written one m b cells links off len put) (written two k b others links off len put)
-  written_matches m k told b cells others links off len put same l p =
+  pub written_matches : (m k : ℕ) → (SameRoom one two → m ≡ k) → (b : ℕ) (cells others : List Cell) (links when off len : ℕ) (put : List Cell → List Cell) → Near L one two b → L.like cells others → L.like (put cells) (put others) → Matches L one two (written one m b cells links when off len put) (written two k b others links when off len put)
+  written_matches m k told b cells others links when off len put same l p =
       let n = length cells in
       let size = max n (off + len) in
-      let u = with_node one b (File (put cells) links) in
-      let v = with_node two b (File (put others) links) in
-      subst (λ i. Matches L one two (written one m b cells links off len put) (writing two k i off len v)) (L.long cells others l)
+      let u = with_node one b (File (put cells) links when) in
+      let v = with_node two b (File (put others) links when) in
+      subst (λ i. Matches L one two (written one m b cells links when off len put) (writing two k i off len v)) (L.long cells others l)
       (both_if L one two (nat_lt n off) (says one reply.BadOffset) _ (says two reply.BadOffset) _ (both_say L one two reply.BadOffset)
       (both_if L one two (nat_lt 1114112 (off + len)) (says one reply.TooBig) _ (says two reply.TooBig) _ (both_say L one two reply.TooBig)
       (if_room L one two (nat_lt (large_blocks_of n) (large_blocks_of size) && larges_full one) (nat_lt (large_blocks_of n) (large_blocks_of size) && larges_full two) reply.NoLarge reply.NoLarge _ _ refl refl (λ r. ap (λ f. nat_lt (large_blocks_of n) (large_blocks_of size) && f) (same_larges one two r)) (λ r. refl)
       (if_room L one two (nat_lt (1024 * one.segments - m) (count_of file_blocks one + (small_blocks_of size - small_blocks_of n))) (nat_lt (1024 * two.segments - k) (count_of file_blocks two + (small_blocks_of size - small_blocks_of n))) (reply.NoBlock m) (reply.NoBlock k) _ _ refl refl (λ r. same_left one two m k (small_blocks_of size - small_blocks_of n) r (told r)) (λ r. ap (λ i. reply.NoBlock i) (told r))
-      (both_do L one two u v reply.Ok (joint_put L one two one two (joint_none L one two) b (File (put cells) links) (File (put others) links) same (put others, refl, p)))))))
+      (both_do L one two u v reply.Ok (joint_put L one two one two (joint_none L one two) b (File (put cells) links when) (File (put others) links when) same (put others, refl, p)))))))
 
-  pub truncated_matches : (b : ℕ) (cells others : List Cell) (links len : ℕ) → Near L one two b → L.like cells others → Matches L one two (truncated one b cells links len) (truncated two b others links len)
-  truncated_matches b cells others links len same l =
-      let v = with_node two b (File (take len others) links) in
-      subst (λ i. Matches L one two (truncated one b cells links len) (cond (nat_lt i len) (says two reply.BadOffset) (says v reply.Ok))) (L.long cells others l)
+  pub truncated_matches : (b : ℕ) (cells others : List Cell) (links when len : ℕ) → Near L one two b → L.like cells others → Matches L one two (truncated one b cells links when len) (truncated two b others links when len)
+  truncated_matches b cells others links when len same l =
+      let v = with_node two b (File (take len others) links when) in
+      subst (λ i. Matches L one two (truncated one b cells links when len) (cond (nat_lt i len) (says two reply.BadOffset) (says v reply.Ok))) (L.long cells others l)
       (both_if L one two (nat_lt (length cells) len) (says one reply.BadOffset) _ (says two reply.BadOffset) _ (both_say L one two reply.BadOffset)
-      (both_do L one two (with_node one b (File (take len cells) links)) v reply.Ok (joint_put L one two one two (joint_none L one two) b (File (take len cells) links) (File (take len others) links) same (take len others, refl, L.taken len cells others l))))
+      (both_do L one two (with_node one b (File (take len cells) links when)) v reply.Ok (joint_put L one two one two (joint_none L one two) b (File (take len cells) links when) (File (take len others) links when) same (take len others, refl, L.taken len cells others l))))
 
   shows_both : (cells others : List Cell) → L.like cells others → Matches L one two (record { answer = Shows cells; tree = one }) (record { answer = Shows others; tree = two })
   shows_both cells others l = record { alike = λ _ _. record { answer = (others, refl, l); nodes = joint_none L one two }; roomy = λ _. record { answer = (others, refl, l); nodes = joint_none L one two } }
@@ -112,8 +112,8 @@ module _ (L : Likeness) (one two : FileTree) (g : Grounds one two) where
 
   -- of any node
   described_matches : (o q : Option Node) → Like L o q → Matches L one two (described one o) (described two q)
-  described_matches (Some (File cells links)) q l = subst (λ z. Matches L one two (described one (Some (File cells links))) (described two z)) (sym l.1)
-      (subst (λ n. Matches L one two (described one (Some (File cells links))) (says two (reply.File n links))) (L.long cells l.0 l.2) (both_say L one two (reply.File (length cells) links)))
+  described_matches (Some (File cells links when)) q l = subst (λ z. Matches L one two (described one (Some (File cells links when))) (described two z)) (sym l.1)
+      (subst (λ n. Matches L one two (described one (Some (File cells links when))) (says two (reply.File n links))) (L.long cells l.0 l.2) (both_say L one two (reply.File (length cells) links)))
   described_matches (Some (Dir es n)) q l = subst (λ z. Matches L one two (described one (Some (Dir es n))) (described two z)) (sym l) (both_say L one two (reply.Dir (length es)))
   described_matches (Some (Link target links)) q l = subst (λ z. Matches L one two (described one (Some (Link target links))) (described two z)) (sym l) (both_say L one two (reply.Symlink (length target)))
   described_matches None q l = subst (λ z. Matches L one two (described one None) (described two z)) (sym l) (both_say L one two reply.NoEnt)
@@ -128,14 +128,14 @@ module _ (L : Likeness) (one two : FileTree) (g : Grounds one two) where
   -- of a directory
   listed_matches : (b : ℕ) (o q : Option Node) → node_at one b ≡ o → node_at two b ≡ q → is_some o ≡ true → is_some q ≡ true → ((x : Node) → o ≡ Some x → dir_node x ≡ true → Near L one two b) → Matches L one two (listed one o) (listed two q)
   listed_matches b (Some (Dir es n)) q i j s t same = subst (λ z. Matches L one two (listed one (Some (Dir es n))) (listed two z)) (sym (subst (λ z. Like L (Some (Dir es n)) z) j (subst (λ z. Like L z (node_at two b)) i (same (Dir es n) refl refl)))) (both_say L one two _)
-  listed_matches b (Some (File es n)) (Some (Dir fs m)) i j s t same = absurd (let k : OfFile ≡ OfDirectory = g.kinds b (File es n) (Dir fs m) i j in cc)
-  listed_matches b (Some (File es n)) (Some (File fs m)) i j s t same = both_say L one two reply.NotDir
-  listed_matches b (Some (File es n)) (Some (Link fs m)) i j s t same = both_say L one two reply.NotDir
+  listed_matches b (Some (File es n w)) (Some (Dir fs m)) i j s t same = absurd (let k : OfFile ≡ OfDirectory = g.kinds b (File es n w) (Dir fs m) i j in cc)
+  listed_matches b (Some (File es n w)) (Some (File fs m v)) i j s t same = both_say L one two reply.NotDir
+  listed_matches b (Some (File es n w)) (Some (Link fs m)) i j s t same = both_say L one two reply.NotDir
   listed_matches b (Some (Link es n)) (Some (Dir fs m)) i j s t same = absurd (let k : OfLink ≡ OfDirectory = g.kinds b (Link es n) (Dir fs m) i j in cc)
-  listed_matches b (Some (Link es n)) (Some (File fs m)) i j s t same = both_say L one two reply.NotDir
+  listed_matches b (Some (Link es n)) (Some (File fs m v)) i j s t same = both_say L one two reply.NotDir
   listed_matches b (Some (Link es n)) (Some (Link fs m)) i j s t same = both_say L one two reply.NotDir
   listed_matches b None q i j s t same = absurd (cc)
-  listed_matches b (Some (File es n)) None i j s t same = absurd (cc)
+  listed_matches b (Some (File es n w)) None i j s t same = absurd (cc)
   listed_matches b (Some (Link es n)) None i j s t same = absurd (cc)
 
   pub list_matches : (p : Place) → Stands one p → Stands two p → ((b : ℕ) → is_in b (reached one dir_node p) ≡ true → Near L one two b) → Matches L one two (at_node one p (λ b o. listed one o)) (at_node two p (λ b o. listed two o))
@@ -145,14 +145,14 @@ module _ (L : Likeness) (one two : FileTree) (g : Grounds one two) where
   -- of a link
   target_matches : (b : ℕ) (o q : Option Node) → node_at one b ≡ o → node_at two b ≡ q → is_some o ≡ true → is_some q ≡ true → ((x : Node) → o ≡ Some x → link_node x ≡ true → Near L one two b) → Matches L one two (target_of one o) (target_of two q)
   target_matches b (Some (Link es n)) q i j s t same = subst (λ z. Matches L one two (target_of one (Some (Link es n))) (target_of two z)) (sym (subst (λ z. Like L (Some (Link es n)) z) j (subst (λ z. Like L z (node_at two b)) i (same (Link es n) refl refl)))) (both_say L one two _)
-  target_matches b (Some (File es n)) (Some (Link fs m)) i j s t same = absurd (let k : OfFile ≡ OfLink = g.kinds b (File es n) (Link fs m) i j in cc)
-  target_matches b (Some (File es n)) (Some (File fs m)) i j s t same = both_say L one two reply.Inval
-  target_matches b (Some (File es n)) (Some (Dir fs m)) i j s t same = both_say L one two reply.Inval
+  target_matches b (Some (File es n w)) (Some (Link fs m)) i j s t same = absurd (let k : OfFile ≡ OfLink = g.kinds b (File es n w) (Link fs m) i j in cc)
+  target_matches b (Some (File es n w)) (Some (File fs m v)) i j s t same = both_say L one two reply.Inval
+  target_matches b (Some (File es n w)) (Some (Dir fs m)) i j s t same = both_say L one two reply.Inval
   target_matches b (Some (Dir es n)) (Some (Link fs m)) i j s t same = absurd (let k : OfDirectory ≡ OfLink = g.kinds b (Dir es n) (Link fs m) i j in cc)
-  target_matches b (Some (Dir es n)) (Some (File fs m)) i j s t same = both_say L one two reply.Inval
+  target_matches b (Some (Dir es n)) (Some (File fs m v)) i j s t same = both_say L one two reply.Inval
   target_matches b (Some (Dir es n)) (Some (Dir fs m)) i j s t same = both_say L one two reply.Inval
   target_matches b None q i j s t same = absurd (cc)
-  target_matches b (Some (File es n)) None i j s t same = absurd (cc)
+  target_matches b (Some (File es n w)) None i j s t same = absurd (cc)
   target_matches b (Some (Dir es n)) None i j s t same = absurd (cc)
 
   pub readlink_matches : (p : Place) → Stands one p → Stands two p → ((b : ℕ) → is_in b (reached one link_node p) ≡ true → Near L one two b) → Matches L one two (at_node one p (λ b o. target_of one o)) (at_node two p (λ b o. target_of two o))

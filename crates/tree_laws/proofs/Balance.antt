@@ -51,7 +51,7 @@ pub record Limits : Type 1 where
 -- a node is within these limits
 abbrev pub Within : Limits → ℕ → Node → Type 0
 Within A b (Dir es n) = A.allowed b OfDirectory × (A.least b ≤ n)
-Within A b (File cells links) = A.allowed b OfFile
+Within A b (File cells links when) = A.allowed b OfFile
 Within A b (Link target links) = A.allowed b OfLink
 
 -- each node is

@@ -46,20 +46,20 @@ module _ (t : FileTree) where
 
   module _ (u : FileTree) (h : Holds t u) where
     holds_more : (d : ℕ) (o : Option Node) → is_some (node_at t d) ≡ true → Holds t (one_link_more u d o)
-    holds_more d (Some (File cells links)) s = holds_with t u h d (File cells (links + 1)) s
+    holds_more d (Some (File cells links when)) s = holds_with t u h d (File cells (links + 1) when) s
     holds_more d (Some (Link target links)) s = holds_with t u h d (Link target (links + 1)) s
     holds_more d (Some (Dir es n)) s = h
     holds_more d None s = h
 
     holds_gone : (d : ℕ) (name : List ℕ) (o : Option Node) → is_some (node_at t d) ≡ true → Holds t (name_gone u d name o)
     holds_gone d name (Some (Dir es n)) s = holds_with t u h d (Dir (without_entry es name) n) s
-    holds_gone d name (Some (File cells links)) s = h
+    holds_gone d name (Some (File cells links when)) s = h
     holds_gone d name (Some (Link target links)) s = h
     holds_gone d name None s = h
 
     holds_set : (d : ℕ) (name : List ℕ) (v : ℕ) (o : Option Node) → is_some (node_at t d) ≡ true → Holds t (name_set u d name v o)
     holds_set d name v (Some (Dir es n)) s = holds_with t u h d (Dir (with_entry es name v) n) s
-    holds_set d name v (Some (File cells links)) s = h
+    holds_set d name v (Some (File cells links when)) s = h
     holds_set d name v (Some (Link target links)) s = h
     holds_set d name v None s = h
 
@@ -70,11 +70,11 @@ module _ (t : FileTree) where
         (sym a ∙ h.count, (holds_with t u h d x s).count)
 
     fewer_less : (d : ℕ) (o : Option Node) → is_some (node_at t d) ≡ true → AtMostOneLess t (one_link_fewer u d o)
-    fewer_less d (Some (File cells links)) s = go (nat_lt 1 links)
+    fewer_less d (Some (File cells links when)) s = go (nat_lt 1 links)
       where
-        go : (c : Bool) → (length (cond c (with_node u d (File cells (links - 1))) (without_node u d)).nodes ≡ length t.nodes) ⊎ (length (cond c (with_node u d (File cells (links - 1))) (without_node u d)).nodes + 1 ≡ length t.nodes)
-        go true = inl (fewer_count d (File cells (links - 1)) s).1
-        go false = inr (fewer_count d (File cells (links - 1)) s).0
+        go : (c : Bool) → (length (cond c (with_node u d (File cells (links - 1) when)) (without_node u d)).nodes ≡ length t.nodes) ⊎ (length (cond c (with_node u d (File cells (links - 1) when)) (without_node u d)).nodes + 1 ≡ length t.nodes)
+        go true = inl (fewer_count d (File cells (links - 1) when) s).1
+        go false = inr (fewer_count d (File cells (links - 1) when) s).0
     fewer_less d (Some (Link target links)) s = go (nat_lt 1 links)
       where
         go : (c : Bool) → (length (cond c (with_node u d (Link target (links - 1))) (without_node u d)).nodes ≡ length t.nodes) ⊎ (length (cond c (with_node u d (Link target (links - 1))) (without_node u d)).nodes + 1 ≡ length t.nodes)
@@ -125,11 +125,11 @@ module _ (t : FileTree) (w : IsWellFormed t) where
       let two : length (named (with_node t b z) d es n name b).nodes ≡ length (with_node t b z).nodes = count_kept (with_node t b z) d (Dir (with_entry es name b) (grown es n)) (Dir es n) (ascend_with t b z w.births) (with_other t b z d far ∙ s.0) in
       made_free (entries_full es) (inodes_full t) (lacks_block t es n) (named (with_node t b z) d es n name b) e (two ∙ one)
 
-  pub makes_one : (o : Op) (b m : ℕ) → IsNew t b → makes_node o ≡ true → (apply t o b m).answer ≡ Plain reply.Ok → length (apply t o b m).tree.nodes ≡ length t.nodes + 1
-  makes_one (op.Create path) b m new h e = made_one b (File [] 1) new (place t path) (place_stands t path) (well_refused t 0 path) e
-  makes_one (op.Mkdir path) b m new h e = made_one b (Dir [] 0) new (place t path) (place_stands t path) (well_refused t 0 path) e
-  makes_one (op.Symlink path target) b m new h e = made_one b (Link target 1) new (place t path) (place_stands t path) (well_refused t 0 path) e
-  makes_one _ b m new h e = absurd (cc)
+  pub makes_one : (o : Op) (b when m : ℕ) → IsNew t b → makes_node o ≡ true → (apply t o b when m).answer ≡ Plain reply.Ok → length (apply t o b when m).tree.nodes ≡ length t.nodes + 1
+  makes_one (op.Create path) b when m new h e = made_one b (File [] 1 0) new (place t path) (place_stands t path) (well_refused t 0 path) e
+  makes_one (op.Mkdir path) b when m new h e = made_one b (Dir [] 0) new (place t path) (place_stands t path) (well_refused t 0 path) e
+  makes_one (op.Symlink path target) b when m new h e = made_one b (Link target 1) new (place t path) (place_stands t path) (well_refused t 0 path) e
+  makes_one _ b when m new h e = absurd (cc)
 
   -- what may be freed
   unlinked_less : (p : Place) → Stands t p → Less (unlinked t p)
@@ -176,11 +176,11 @@ module _ (t : FileTree) (w : IsWellFormed t) where
   all_renamed_less (n ∷ ns) [] = inl refl
   all_renamed_less (n ∷ ns) (m ∷ ms) = renamed_from_less (place t (n ∷ ns)) (m ∷ ms) (place_stands t (n ∷ ns))
 
-  pub frees_one : (o : Op) (b m : ℕ) → may_free o ≡ true → Less (apply t o b m)
-  frees_one (op.Unlink path) b m h = unlinked_less (place t path) (place_stands t path)
-  frees_one (op.Rmdir path) b m h = removed_less (place t path) (place_stands t path)
-  frees_one (op.Rename path to) b m h = all_renamed_less path to
-  frees_one _ b m h = absurd (cc)
+  pub frees_one : (o : Op) (b when m : ℕ) → may_free o ≡ true → Less (apply t o b when m)
+  frees_one (op.Unlink path) b when m h = unlinked_less (place t path) (place_stands t path)
+  frees_one (op.Rmdir path) b when m h = removed_less (place t path) (place_stands t path)
+  frees_one (op.Rename path to) b when m h = all_renamed_less path to
+  frees_one _ b when m h = absurd (cc)
 
   -- what neither makes nor frees
   linked_same : (p to : Place) → Stands t p → Stands t to → Same (linked t p to)
@@ -199,52 +199,52 @@ module _ (t : FileTree) (w : IsWellFormed t) where
           if_each Same (nat_le 1000 (links_of (node_at t b))) (says t reply.MLink) _ refl (if_each Same (entries_full fs) (says t reply.DirFull) _ refl (if_each Same (lacks_block t fs m) (says t reply.NoDirBlock) (says (named u e fs m new b) reply.Ok) refl
           (holds_with t u h e (Dir (with_entry fs new b) (grown fs m)) (dir_there e fs m q.0)).count))
 
-  file_same : (f : ℕ → List Cell → ℕ → Applied) → ((b : ℕ) (cells : List Cell) (links : ℕ) → node_at t b ≡ Some (File cells links) → Same (f b cells links)) → (b : ℕ) (o : Option Node) → node_at t b ≡ o → Same (if_file t f b o)
-  file_same f each b (Some (File cells links)) is = each b cells links is
+  file_same : (f : ℕ → List Cell → ℕ → ℕ → Applied) → ((b : ℕ) (cells : List Cell) (links when : ℕ) → node_at t b ≡ Some (File cells links when) → Same (f b cells links when)) → (b : ℕ) (o : Option Node) → node_at t b ≡ o → Same (if_file t f b o)
+  file_same f each b (Some (File cells links when)) is = each b cells links when is
   file_same f each b (Some (Dir es n)) is = refl
   file_same f each b (Some (Link target links)) is = refl
   file_same f each b None is = refl
 
-  at_file_same : (f : ℕ → List Cell → ℕ → Applied) → ((b : ℕ) (cells : List Cell) (links : ℕ) → node_at t b ≡ Some (File cells links) → Same (f b cells links)) → (p : Place) → Same (at_file t p f)
+  at_file_same : (f : ℕ → List Cell → ℕ → ℕ → Applied) → ((b : ℕ) (cells : List Cell) (links when : ℕ) → node_at t b ≡ Some (File cells links when) → Same (f b cells links when)) → (p : Place) → Same (at_file t p f)
   at_file_same f each Root = file_same f each 0 (node_at t 0) refl
   at_file_same f each (Taken d es n name b) = file_same f each b (node_at t b) refl
   at_file_same f each (Free d es n name) = refl
   at_file_same f each (Nowhere r) = refl
 
-  written_same : (m b : ℕ) (cells : List Cell) (links off len : ℕ) (put : List Cell → List Cell) → node_at t b ≡ Some (File cells links) → Same (written t m b cells links off len put)
-  written_same m b cells links off len put is =
+  written_same : (m b : ℕ) (cells : List Cell) (links old when off len : ℕ) (put : List Cell → List Cell) → node_at t b ≡ Some (File cells links old) → Same (written t m b cells links when off len put)
+  written_same m b cells links old when off len put is =
       let size = max (length cells) (off + len) in
       if_each Same (nat_lt (length cells) off) (says t reply.BadOffset) _ refl (if_each Same (nat_lt 1114112 (off + len)) (says t reply.TooBig) _ refl
       (if_each Same (nat_lt (large_blocks_of (length cells)) (large_blocks_of size) && larges_full t) (says t reply.NoLarge) _ refl
-      (if_each Same (nat_lt (1024 * t.segments - m) (count_of file_blocks t + (small_blocks_of size - small_blocks_of (length cells)))) (says t (reply.NoBlock m)) (says (with_node t b (File (put cells) links)) reply.Ok) refl
-      (count_kept t b (File (put cells) links) (File cells links) w.births is))))
+      (if_each Same (nat_lt (1024 * t.segments - m) (count_of file_blocks t + (small_blocks_of size - small_blocks_of (length cells)))) (says t (reply.NoBlock m)) (says (with_node t b (File (put cells) links when)) reply.Ok) refl
+      (count_kept t b (File (put cells) links when) (File cells links old) w.births is))))
 
-  truncated_same : (b : ℕ) (cells : List Cell) (links len : ℕ) → node_at t b ≡ Some (File cells links) → Same (truncated t b cells links len)
-  truncated_same b cells links len is = if_each Same (nat_lt (length cells) len) (says t reply.BadOffset) (says (with_node t b (File (take len cells) links)) reply.Ok) refl (count_kept t b (File (take len cells) links) (File cells links) w.births is)
+  truncated_same : (b : ℕ) (cells : List Cell) (links old when len : ℕ) → node_at t b ≡ Some (File cells links old) → Same (truncated t b cells links when len)
+  truncated_same b cells links old when len is = if_each Same (nat_lt (length cells) len) (says t reply.BadOffset) (says (with_node t b (File (take len cells) links when)) reply.Ok) refl (count_kept t b (File (take len cells) links when) (File cells links old) w.births is)
 
-  looked_same : (o : Op) (b m : ℕ) → is_look o ≡ true → Same (apply t o b m)
-  looked_same o b m h = ap (λ u. length u.nodes) (looks_leave t o b m h)
+  looked_same : (o : Op) (b when m : ℕ) → is_look o ≡ true → Same (apply t o b when m)
+  looked_same o b when m h = ap (λ u. length u.nodes) (looks_leave t o b when m h)
 
-  pub keeps_nodes : (o : Op) (b m : ℕ) → makes_node o ≡ false → may_free o ≡ false → Same (apply t o b m)
-  keeps_nodes (op.Create path) b m h g = absurd (cc)
-  keeps_nodes (op.Mkdir path) b m h g = absurd (cc)
-  keeps_nodes (op.Symlink path target) b m h g = absurd (cc)
-  keeps_nodes (op.Unlink path) b m h g = absurd (cc)
-  keeps_nodes (op.Rmdir path) b m h g = absurd (cc)
-  keeps_nodes (op.Rename path to) b m h g = absurd (cc)
-  keeps_nodes (op.Link path to) b m h g = linked_same (place t path) (place t to) (place_stands t path) (place_stands t to)
-  keeps_nodes (op.Write path off bytes) b m h g = at_file_same (λ b cells links. written t m b cells links off (length bytes) (λ old. overwritten old off (map Byte bytes))) (λ b cells links is. written_same m b cells links off (length bytes) (λ old. overwritten old off (map Byte bytes)) is) (place t path)
-  keeps_nodes (op.Fill path off len byte) b m h g = at_file_same (λ b cells links. written t m b cells links off len (λ old. overwritten old off (replicate len (Byte byte)))) (λ b cells links is. written_same m b cells links off len (λ old. overwritten old off (replicate len (Byte byte))) is) (place t path)
-  keeps_nodes (op.Truncate path len) b m h g = at_file_same (λ b cells links. truncated t b cells links len) (λ b cells links is. truncated_same b cells links len is) (place t path)
-  keeps_nodes (op.Read path off len) b m h g = looked_same (op.Read path off len) b m refl
-  keeps_nodes (op.Stat path) b m h g = looked_same (op.Stat path) b m refl
-  keeps_nodes (op.List path) b m h g = looked_same (op.List path) b m refl
-  keeps_nodes (op.Readlink path) b m h g = looked_same (op.Readlink path) b m refl
-  keeps_nodes (op.Time path) b m h g = looked_same (op.Time path) b m refl
-  keeps_nodes op.Sync b m h g = refl
-  keeps_nodes op.Mount b m h g = refl
-  keeps_nodes op.Unmount b m h g = refl
-  keeps_nodes op.Crash b m h g = refl
-  keeps_nodes (op.CrashAt k) b m h g = refl
-  keeps_nodes (op.CutAt k) b m h g = refl
-  keeps_nodes op.Stall b m h g = refl
+  pub keeps_nodes : (o : Op) (b when m : ℕ) → makes_node o ≡ false → may_free o ≡ false → Same (apply t o b when m)
+  keeps_nodes (op.Create path) b when m h g = absurd (cc)
+  keeps_nodes (op.Mkdir path) b when m h g = absurd (cc)
+  keeps_nodes (op.Symlink path target) b when m h g = absurd (cc)
+  keeps_nodes (op.Unlink path) b when m h g = absurd (cc)
+  keeps_nodes (op.Rmdir path) b when m h g = absurd (cc)
+  keeps_nodes (op.Rename path to) b when m h g = absurd (cc)
+  keeps_nodes (op.Link path to) b when m h g = linked_same (place t path) (place t to) (place_stands t path) (place_stands t to)
+  keeps_nodes (op.Write path off bytes) b when m h g = at_file_same (λ b cells links old. written t m b cells links when off (length bytes) (λ all. overwritten all off (map Byte bytes))) (λ b cells links old is. written_same m b cells links old when off (length bytes) (λ all. overwritten all off (map Byte bytes)) is) (place t path)
+  keeps_nodes (op.Fill path off len byte) b when m h g = at_file_same (λ b cells links old. written t m b cells links when off len (λ all. overwritten all off (replicate len (Byte byte)))) (λ b cells links old is. written_same m b cells links old when off len (λ all. overwritten all off (replicate len (Byte byte))) is) (place t path)
+  keeps_nodes (op.Truncate path len) b when m h g = at_file_same (λ b cells links old. truncated t b cells links when len) (λ b cells links old is. truncated_same b cells links old when len is) (place t path)
+  keeps_nodes (op.Read path off len) b when m h g = looked_same (op.Read path off len) b when m refl
+  keeps_nodes (op.Stat path) b when m h g = looked_same (op.Stat path) b when m refl
+  keeps_nodes (op.List path) b when m h g = looked_same (op.List path) b when m refl
+  keeps_nodes (op.Readlink path) b when m h g = looked_same (op.Readlink path) b when m refl
+  keeps_nodes (op.Time path) b when m h g = looked_same (op.Time path) b when m refl
+  keeps_nodes op.Sync b when m h g = refl
+  keeps_nodes op.Mount b when m h g = refl
+  keeps_nodes op.Unmount b when m h g = refl
+  keeps_nodes op.Crash b when m h g = refl
+  keeps_nodes (op.CrashAt k) b when m h g = refl
+  keeps_nodes (op.CutAt k) b when m h g = refl
+  keeps_nodes op.Stall b when m h g = refl

@@ -13,7 +13,7 @@ use Rattle.tree_definitions.specs.Entries.{Entries, entry_at}
 use Rattle.tree_definitions.specs.Tree.{FileTree, node_at}
 use Rattle.tree_definitions.specs.Apply.{is_dir}
 use Rattle.tree_definitions.specs.Resolve.{WalkEnd, At, Refused, Resolution, ends_at, refused, passes, is_absolute, target_text, at_target, at_entry, at_name, below_node, resolve_names, resolve_from, resolve}
-use Rattle.tree_definitions.specs.Perform.{Step, Resolved, by_path, is_found, after_trail, by_second, by_first, by_paths, resolved}
+use Rattle.tree_definitions.specs.Perform.{by_path, is_found, after_trail, by_second, by_first, by_paths, resolved}
 use Rattle.tree_laws.specs.WellFormed.{EntriesNameNodes, IsRooted}
 use Rattle.tree_laws.specs.Touching.{OfDirectory, OfFile, OfLink}
 use Rattle.tree_laws.specs.Following.{WalksFindWhatIsThere, WalksGoByTheirTrail}
@@ -46,11 +46,11 @@ module _ (t : FileTree) (alive : EntriesNameNodes t) (root : IsRooted t) where
         go true = each b target dir above [] s
         go false = i
     entry_found dir above here [] b into s i h (Some (Dir es n)) = i
-    entry_found dir above here [] b into s i h (Some (File cells n)) = i
+    entry_found dir above here [] b into s i h (Some (File cells n w)) = i
     entry_found dir above here [] b into s i h None = i
     entry_found dir above here (x ∷ xs) b into s i h (Some (Link target links)) = each b target dir above (x ∷ xs) s
     entry_found dir above here (x ∷ xs) b into s i h (Some (Dir es n)) = h
-    entry_found dir above here (x ∷ xs) b into s i h (Some (File cells n)) = tt
+    entry_found dir above here (x ∷ xs) b into s i h (Some (File cells n w)) = tt
     entry_found dir above here (x ∷ xs) b into s i h None = tt
 
     name_found : (dir : ℕ) (es : Entries) (n : ℕ) (name : List ℕ) (above here names : List (List ℕ)) (into : ℕ → Resolution) → node_at t dir ≡ Some (Dir es n) → ((b : ℕ) → is_some (node_at t b) ≡ true → Found t (into b).end)
@@ -64,7 +64,7 @@ module _ (t : FileTree) (alive : EntriesNameNodes t) (root : IsRooted t) where
     node_found : (dir : ℕ) (name : List ℕ) (above here names : List (List ℕ)) (into : ℕ → Resolution) → ((b : ℕ) → is_some (node_at t b) ≡ true → Found t (into b).end)
         → (o : Option Node) → node_at t dir ≡ o → Found t (below_node t last (λ link target. f link target dir above names) into here dir name names o).end
     node_found dir name above here names into on (Some (Dir es n)) is = name_found dir es n name above here names into is on (entry_at es name) refl
-    node_found dir name above here names into on (Some (File cells n)) is = tt
+    node_found dir name above here names into on (Some (File cells n w)) is = tt
     node_found dir name above here names into on (Some (Link target n)) is = tt
     node_found dir name above here names into on None is = tt
 
@@ -104,20 +104,20 @@ module _ (L : Likeness) (one two : FileTree) (g : Grounds one two) where
   -- nodes of one birth are of one kind
   dir_two : (b : ℕ) (es : Entries) (n : ℕ) → node_at one b ≡ Some (Dir es n) → (q : Option Node) → node_at two b ≡ q → is_some q ≡ true → (fs : Entries) × (m : ℕ) × (q ≡ Some (Dir fs m))
   dir_two b es n i (Some (Dir fs m)) j s = (fs, m, refl)
-  dir_two b es n i (Some (File cells links)) j s = absurd (let k : OfDirectory ≡ OfFile = g.kinds b (Dir es n) (File cells links) i j in cc)
+  dir_two b es n i (Some (File cells links when)) j s = absurd (let k : OfDirectory ≡ OfFile = g.kinds b (Dir es n) (File cells links when) i j in cc)
   dir_two b es n i (Some (Link target links)) j s = absurd (let k : OfDirectory ≡ OfLink = g.kinds b (Dir es n) (Link target links) i j in cc)
   dir_two b es n i None j s = absurd (cc)
 
-  file_two : (b : ℕ) (cells : List Cell) (n : ℕ) → node_at one b ≡ Some (File cells n) → (q : Option Node) → node_at two b ≡ q → is_some q ≡ true → (others : List Cell) × (m : ℕ) × (q ≡ Some (File others m))
-  file_two b cells n i (Some (File others m)) j s = (others, m, refl)
-  file_two b cells n i (Some (Dir fs m)) j s = absurd (let k : OfFile ≡ OfDirectory = g.kinds b (File cells n) (Dir fs m) i j in cc)
-  file_two b cells n i (Some (Link target links)) j s = absurd (let k : OfFile ≡ OfLink = g.kinds b (File cells n) (Link target links) i j in cc)
-  file_two b cells n i None j s = absurd (cc)
+  file_two : (b : ℕ) (cells : List Cell) (n w : ℕ) → node_at one b ≡ Some (File cells n w) → (q : Option Node) → node_at two b ≡ q → is_some q ≡ true → (others : List Cell) × (m : ℕ) × (v : ℕ) × (q ≡ Some (File others m v))
+  file_two b cells n w i (Some (File others m v)) j s = (others, m, v, refl)
+  file_two b cells n w i (Some (Dir fs m)) j s = absurd (let k : OfFile ≡ OfDirectory = g.kinds b (File cells n w) (Dir fs m) i j in cc)
+  file_two b cells n w i (Some (Link target links)) j s = absurd (let k : OfFile ≡ OfLink = g.kinds b (File cells n w) (Link target links) i j in cc)
+  file_two b cells n w i None j s = absurd (cc)
 
   link_two : (b : ℕ) (target : List ℕ) (n : ℕ) → node_at one b ≡ Some (Link target n) → (q : Option Node) → node_at two b ≡ q → is_some q ≡ true → (other : List ℕ) × (m : ℕ) × (q ≡ Some (Link other m))
   link_two b target n i (Some (Link other m)) j s = (other, m, refl)
   link_two b target n i (Some (Dir fs m)) j s = absurd (let k : OfLink ≡ OfDirectory = g.kinds b (Link target n) (Dir fs m) i j in cc)
-  link_two b target n i (Some (File cells links)) j s = absurd (let k : OfLink ≡ OfFile = g.kinds b (Link target n) (File cells links) i j in cc)
+  link_two b target n i (Some (File cells links when)) j s = absurd (let k : OfLink ≡ OfFile = g.kinds b (Link target n) (File cells links when) i j in cc)
   link_two b target n i None j s = absurd (cc)
 
   -- a link is followed the same way, where the first way is agreed on
@@ -133,9 +133,9 @@ module _ (L : Likeness) (one two : FileTree) (g : Grounds one two) where
     entry_same dir above here [] b into_one into_two alive (Some (Dir es n)) i s t on agree =
         let d = dir_two b es n i (node_at two b) refl t in
         ap (at_entry last (λ target. h b target dir above []) into_two here b []) d.2
-    entry_same dir above here [] b into_one into_two alive (Some (File cells n)) i s t on agree =
-        let d = file_two b cells n i (node_at two b) refl t in
-        ap (at_entry last (λ target. h b target dir above []) into_two here b []) d.2
+    entry_same dir above here [] b into_one into_two alive (Some (File cells n w)) i s t on agree =
+        let d = file_two b cells n w i (node_at two b) refl t in
+        ap (at_entry last (λ target. h b target dir above []) into_two here b []) d.3
     entry_same dir above here [] b into_one into_two alive (Some (Link target n)) i s t on agree =
         let d = link_two b target n i (node_at two b) refl t in
         ap (at_entry last (λ target. h b target dir above []) into_two here b []) d.2 ∙ go last agree
@@ -149,9 +149,9 @@ module _ (L : Likeness) (one two : FileTree) (g : Grounds one two) where
     entry_same dir above here (x ∷ xs) b into_one into_two alive (Some (Dir es n)) i s t on agree =
         let d = dir_two b es n i (node_at two b) refl t in
         ap (at_entry last (λ target. h b target dir above (x ∷ xs)) into_two here b (x ∷ xs)) d.2 ∙ on agree
-    entry_same dir above here (x ∷ xs) b into_one into_two alive (Some (File cells n)) i s t on agree =
-        let d = file_two b cells n i (node_at two b) refl t in
-        ap (at_entry last (λ target. h b target dir above (x ∷ xs)) into_two here b (x ∷ xs)) d.2
+    entry_same dir above here (x ∷ xs) b into_one into_two alive (Some (File cells n w)) i s t on agree =
+        let d = file_two b cells n w i (node_at two b) refl t in
+        ap (at_entry last (λ target. h b target dir above (x ∷ xs)) into_two here b (x ∷ xs)) d.3
     entry_same dir above here (x ∷ xs) b into_one into_two alive (Some (Link target n)) i s t on agree =
         let d = link_two b target n i (node_at two b) refl t in
         ap (at_entry last (λ target. h b target dir above (x ∷ xs)) into_two here b (x ∷ xs)) d.2 ∙ same b target d.0 n d.1 dir above (x ∷ xs) i d.2 alive agree
@@ -179,9 +179,9 @@ module _ (L : Likeness) (one two : FileTree) (g : Grounds one two) where
         let is : node_at two dir ≡ Some (Dir es n) = subst (λ z. Like L z (node_at two dir)) i (agree dir (head_is_in dir way.trail)) in
         ap (below_node two last (λ link target. h link target dir above names) into_two here dir name names) is
         ∙ ap (passes dir) (name_same dir es n name above here names into_one into_two i is on (entry_at es name) refl (agree_tail dir way.trail agree))
-    node_same dir name above here names into_one into_two t on (Some (File cells n)) i s agree =
-        let d = file_two dir cells n i (node_at two dir) refl t in
-        ap (below_node two last (λ link target. h link target dir above names) into_two here dir name names) d.2
+    node_same dir name above here names into_one into_two t on (Some (File cells n w)) i s agree =
+        let d = file_two dir cells n w i (node_at two dir) refl t in
+        ap (below_node two last (λ link target. h link target dir above names) into_two here dir name names) d.3
     node_same dir name above here names into_one into_two t on (Some (Link target n)) i s agree =
         let d = link_two dir target n i (node_at two dir) refl t in
         ap (below_node two last (λ link target. h link target dir above names) into_two here dir name names) d.2
@@ -234,7 +234,7 @@ module _ (L : Likeness) (one two : FileTree) (g : Grounds one two) where
   -- nodes of one birth that are in both trees are directories in both or in none
   kind_same : (b : ℕ) (o : Option Node) → node_at one b ≡ o → is_some o ≡ true → is_some (node_at two b) ≡ true → is_dir (node_at two b) ≡ is_dir o
   kind_same b (Some (Dir es n)) i s t = ap is_dir (dir_two b es n i (node_at two b) refl t).2
-  kind_same b (Some (File cells n)) i s t = ap is_dir (file_two b cells n i (node_at two b) refl t).2
+  kind_same b (Some (File cells n w)) i s t = ap is_dir (file_two b cells n w i (node_at two b) refl t).3
   kind_same b (Some (Link target n)) i s t = ap is_dir (link_two b target n i (node_at two b) refl t).2
   kind_same b None i s t = absurd (cc)
 

@@ -57,26 +57,26 @@ module _ (L : Likeness) (one two : FileTree) where
       joint_if d x y false e l = joint_without d e
 
       pub joint_fewer : (d : ℕ) (o q : Option Node) → Near L one two d → Like L o q → Joint L one two (one_link_fewer u d o) (one_link_fewer v d q)
-      joint_fewer d (Some (File cells links)) q e l = subst (λ z. Joint L one two (one_link_fewer u d (Some (File cells links))) (one_link_fewer v d z)) (sym l.1) (joint_if d (File cells (links - 1)) (File l.0 (links - 1)) (nat_lt 1 links) e (l.0, refl, l.2))
+      joint_fewer d (Some (File cells links when)) q e l = subst (λ z. Joint L one two (one_link_fewer u d (Some (File cells links when))) (one_link_fewer v d z)) (sym l.1) (joint_if d (File cells (links - 1) when) (File l.0 (links - 1) when) (nat_lt 1 links) e (l.0, refl, l.2))
       joint_fewer d (Some (Link target links)) q e l = subst (λ z. Joint L one two (one_link_fewer u d (Some (Link target links))) (one_link_fewer v d z)) (sym l) (joint_if d (Link target (links - 1)) (Link target (links - 1)) (nat_lt 1 links) e refl)
       joint_fewer d (Some (Dir es n)) q e l = subst (λ z. Joint L one two (one_link_fewer u d (Some (Dir es n))) (one_link_fewer v d z)) (sym l) (joint_without d e)
       joint_fewer d None q e l = subst (λ z. Joint L one two u (one_link_fewer v d z)) (sym l) j
 
     pub joint_more : (d : ℕ) (o q : Option Node) → Near L one two d → Like L o q → Joint L one two (one_link_more u d o) (one_link_more v d q)
-    joint_more d (Some (File cells links)) q e l = subst (λ z. Joint L one two (one_link_more u d (Some (File cells links))) (one_link_more v d z)) (sym l.1) (joint_put d (File cells (links + 1)) (File l.0 (links + 1)) e (l.0, refl, l.2))
+    joint_more d (Some (File cells links when)) q e l = subst (λ z. Joint L one two (one_link_more u d (Some (File cells links when))) (one_link_more v d z)) (sym l.1) (joint_put d (File cells (links + 1) when) (File l.0 (links + 1) when) e (l.0, refl, l.2))
     joint_more d (Some (Link target links)) q e l = subst (λ z. Joint L one two (one_link_more u d (Some (Link target links))) (one_link_more v d z)) (sym l) (joint_with d (Link target (links + 1)) e)
     joint_more d (Some (Dir es n)) q e l = subst (λ z. Joint L one two u (one_link_more v d z)) (sym l) j
     joint_more d None q e l = subst (λ z. Joint L one two u (one_link_more v d z)) (sym l) j
 
     pub joint_gone : (d : ℕ) (name : List ℕ) (o q : Option Node) → Near L one two d → Like L o q → Joint L one two (name_gone u d name o) (name_gone v d name q)
     joint_gone d name (Some (Dir es n)) q e l = subst (λ z. Joint L one two (name_gone u d name (Some (Dir es n))) (name_gone v d name z)) (sym l) (joint_with d (Dir (without_entry es name) n) e)
-    joint_gone d name (Some (File cells links)) q e l = subst (λ z. Joint L one two u (name_gone v d name z)) (sym l.1) j
+    joint_gone d name (Some (File cells links when)) q e l = subst (λ z. Joint L one two u (name_gone v d name z)) (sym l.1) j
     joint_gone d name (Some (Link target links)) q e l = subst (λ z. Joint L one two u (name_gone v d name z)) (sym l) j
     joint_gone d name None q e l = subst (λ z. Joint L one two u (name_gone v d name z)) (sym l) j
 
     pub joint_set : (d : ℕ) (name : List ℕ) (birth : ℕ) (o q : Option Node) → Near L one two d → Like L o q → Joint L one two (name_set u d name birth o) (name_set v d name birth q)
     joint_set d name birth (Some (Dir es n)) q e l = subst (λ z. Joint L one two (name_set u d name birth (Some (Dir es n))) (name_set v d name birth z)) (sym l) (joint_with d (Dir (with_entry es name birth) n) e)
-    joint_set d name birth (Some (File cells links)) q e l = subst (λ z. Joint L one two u (name_set v d name birth z)) (sym l.1) j
+    joint_set d name birth (Some (File cells links when)) q e l = subst (λ z. Joint L one two u (name_set v d name birth z)) (sym l.1) j
     joint_set d name birth (Some (Link target links)) q e l = subst (λ z. Joint L one two u (name_set v d name birth z)) (sym l) j
     joint_set d name birth None q e l = subst (λ z. Joint L one two u (name_set v d name birth z)) (sym l) j
 

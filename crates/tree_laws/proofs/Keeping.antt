@@ -32,7 +32,7 @@ named_once t d es n name v is at =
 
 dir_links_one : (o : Option Node) → is_dir o ≡ true → links_of o ≡ 1
 dir_links_one (Some (Dir es n)) d = refl
-dir_links_one (Some (File cells links)) d = cc
+dir_links_one (Some (File cells links when)) d = cc
 dir_links_one (Some (Link target links)) d = cc
 dir_links_one None d = cc
 
@@ -100,23 +100,23 @@ module _ (A : Limits) (t : FileTree) (x y : ℕ → ℕ) (o : Owing A t x y) whe
       (λ c far. rw (ne_eqb c d far) (ap (λ l. l + 0) (ap links_of (with_other t d u c far)))))
     where
       same_within : (z u : Node) → is_dir (Some z) ≡ false → is_dir (Some u) ≡ false → kind_of z ≡ kind_of u → Within A d z → Within A d u
-      same_within (File cells links) (File others more) f g k i = i
+      same_within (File cells links when) (File others more since) f g k i = i
       same_within (Link target links) (Link others more) f g k i = i
-      same_within (File cells links) (Link others more) f g k i = absurd (cc)
-      same_within (Link target links) (File others more) f g k i = absurd (cc)
+      same_within (File cells links when) (Link others more) f g k i = absurd (cc)
+      same_within (Link target links) (File others more when) f g k i = absurd (cc)
       same_within (Dir es n) u f g k i = absurd (cc)
-      same_within (File cells links) (Dir es n) f g k i = absurd (cc)
+      same_within (File cells links when) (Dir es n) f g k i = absurd (cc)
       same_within (Link cells links) (Dir es n) f g k i = absurd (cc)
 
       no_names : (b : ℕ) (v : Node) → is_dir (Some v) ≡ false → names_in b v ≡ 0
-      no_names b (File cells links) f = refl
+      no_names b (File cells links when) f = refl
       no_names b (Link target links) f = refl
       no_names b (Dir es n) f = absurd (cc)
 
   -- a link more
   pub link_more : (d : ℕ) (q : Option Node) → node_at t d ≡ q → is_some q ≡ true → is_dir q ≡ false → d ≢ 0 → Owing A (one_link_more t d q) (λ b. x b + one_at d b) (λ b. y b + 0)
-  link_more d (Some (File cells links)) is some plain away = restated A (with_node t d (File cells (links + 1))) _ _ (λ b. x b + one_at d b) (λ b. y b + 0)
-      (links_put d (File cells links) (File cells (links + 1)) is refl refl refl away 0 1 (omega arith)) (λ b. refl) (λ b. ap (λ z. y b + z) (both_zero (b == d)))
+  link_more d (Some (File cells links when)) is some plain away = restated A (with_node t d (File cells (links + 1) when)) _ _ (λ b. x b + one_at d b) (λ b. y b + 0)
+      (links_put d (File cells links when) (File cells (links + 1) when) is refl refl refl away 0 1 (omega arith)) (λ b. refl) (λ b. ap (λ z. y b + z) (both_zero (b == d)))
   link_more d (Some (Link target links)) is some plain away = restated A (with_node t d (Link target (links + 1))) _ _ (λ b. x b + one_at d b) (λ b. y b + 0)
       (links_put d (Link target links) (Link target (links + 1)) is refl refl refl away 0 1 (omega arith)) (λ b. refl) (λ b. ap (λ z. y b + z) (both_zero (b == d)))
   link_more d (Some (Dir es n)) is some plain away = absurd (cc)
@@ -124,11 +124,11 @@ module _ (A : Limits) (t : FileTree) (x y : ℕ → ℕ) (o : Owing A t x y) whe
 
   -- a link fewer; a directory has no entries then
   pub link_fewer : (d : ℕ) (q : Option Node) → node_at t d ≡ q → 1 ≤ links_of q → has_entries q ≡ false → d ≢ 0 → Owing A (one_link_fewer t d q) (λ b. x b + 0) (λ b. y b + one_at d b)
-  link_fewer d (Some (File cells links)) is some empty away = go (nat_lt 1 links) refl
+  link_fewer d (Some (File cells links when)) is some empty away = go (nat_lt 1 links) refl
     where
-      go : (c : Bool) → nat_lt 1 links ≡ c → Owing A (cond c (with_node t d (File cells (links - 1))) (without_node t d)) (λ b. x b + 0) (λ b. y b + one_at d b)
-      go true e = restated A (with_node t d (File cells (links - 1))) _ _ (λ b. x b + 0) (λ b. y b + one_at d b)
-          (links_put d (File cells links) (File cells (links - 1)) is refl refl refl away 1 0 (let l : 1 < links = ltb-true 1 links e in omega arith)) (λ b. ap (λ z. x b + z) (both_zero (b == d))) (λ b. refl)
+      go : (c : Bool) → nat_lt 1 links ≡ c → Owing A (cond c (with_node t d (File cells (links - 1) when)) (without_node t d)) (λ b. x b + 0) (λ b. y b + one_at d b)
+      go true e = restated A (with_node t d (File cells (links - 1) when)) _ _ (λ b. x b + 0) (λ b. y b + one_at d b)
+          (links_put d (File cells links when) (File cells (links - 1) when) is refl refl refl away 1 0 (let l : 1 < links = ltb-true 1 links e in omega arith)) (λ b. ap (λ z. x b + z) (both_zero (b == d))) (λ b. refl)
       go false e = restated A (without_node t d) _ _ (λ b. x b + 0) (λ b. y b + one_at d b)
           (node_gone A t x y o d (λ b. ap (names_at b) is) away (ap links_of is ∙ (let l : links ≤ 1 = ltb-false 1 links e in let m : links ≡ 1 = omega arith in m))) (λ b. (let z : x b ≡ x b + 0 = omega arith in z)) (λ b. refl)
   link_fewer d (Some (Link target links)) is some empty away = go (nat_lt 1 links) refl

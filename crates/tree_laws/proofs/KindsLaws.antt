@@ -22,12 +22,12 @@ told kinds = record { allowed = λ b k. k ≡ kinds b; least = λ b. 0 }
 
 told_within : (kinds : ℕ → Kind) (t : FileTree) → HasKinds kinds t → AreAllowed (told kinds) t
 told_within kinds t h b (Dir es n) is = (h b (Dir es n) is, (omega arith))
-told_within kinds t h b (File cells links) is = h b (File cells links) is
+told_within kinds t h b (File cells links when) is = h b (File cells links when) is
 told_within kinds t h b (Link target links) is = h b (Link target links) is
 
 within_told : (kinds : ℕ → Kind) (t : FileTree) → AreAllowed (told kinds) t → HasKinds kinds t
 within_told kinds t h b (Dir es n) is = (h b (Dir es n) is).0
-within_told kinds t h b (File cells links) is = h b (File cells links) is
+within_told kinds t h b (File cells links when) is = h b (File cells links when) is
 within_told kinds t h b (Link target links) is = h b (Link target links) is
 
 makes_told : (kinds : ℕ → Kind) (o : Op) (b : ℕ) → MakesToldKind kinds o b → Makes (told kinds) o b
@@ -39,11 +39,11 @@ makes_told kinds _ b h = tt
 pub kinds_agree : (kinds : ℕ → Kind) (one two : FileTree) → HasKinds kinds one → HasKinds kinds two → SameKinds one two
 kinds_agree kinds one two h g b x y i j = h b x i ∙ sym (g b y j)
 
-pub apply_keeps_kinds : (kinds : ℕ → Kind) (t : FileTree) (o : Op) (b m : ℕ) → IsWellFormed t → IsNew t b → HasKinds kinds t → MakesToldKind kinds o b → HasKinds kinds (apply t o b m).tree
-apply_keeps_kinds kinds t o b m w new h may = within_told kinds (apply t o b m).tree (apply_well (told kinds) t (record { well = w; allowed = told_within kinds t h }) o b m new (makes_told kinds o b may)).allowed
+pub apply_keeps_kinds : (kinds : ℕ → Kind) (t : FileTree) (o : Op) (b when m : ℕ) → IsWellFormed t → IsNew t b → HasKinds kinds t → MakesToldKind kinds o b → HasKinds kinds (apply t o b when m).tree
+apply_keeps_kinds kinds t o b when m w new h may = within_told kinds (apply t o b when m).tree (apply_well (told kinds) t (record { well = w; allowed = told_within kinds t h }) o b when m new (makes_told kinds o b may)).allowed
 
-pub perform_keeps_kinds : (kinds : ℕ → Kind) (t : FileTree) (o : Op) (b m : ℕ) → IsWellFormed t → IsNew t b → HasKinds kinds t → MakesToldKind kinds o b → HasKinds kinds (perform t o b m).tree
-perform_keeps_kinds kinds t o b m w new h may = within_told kinds (perform t o b m).tree (perform_well (told kinds) t (record { well = w; allowed = told_within kinds t h }) o b m new (makes_told kinds o b may)).allowed
+pub perform_keeps_kinds : (kinds : ℕ → Kind) (t : FileTree) (o : Op) (b when m : ℕ) → IsWellFormed t → IsNew t b → HasKinds kinds t → MakesToldKind kinds o b → HasKinds kinds (perform t o b when m).tree
+perform_keeps_kinds kinds t o b when m w new h may = within_told kinds (perform t o b when m).tree (perform_well (told kinds) t (record { well = w; allowed = told_within kinds t h }) o b when m new (makes_told kinds o b may)).allowed
 
 pub after_keeps_kinds : (kinds : ℕ → Kind) (t : FileTree) (s : Settled) (list : List Settled) → IsWellFormed t → AreNew t (s ∷ list) → HasKinds kinds t → MakeToldKinds kinds (s ∷ list) → HasKinds kinds (after t s)
 after_keeps_kinds kinds t (Stays e) list w n h may = within_told kinds (tree_after t e) (tree_after_well (told kinds) t e (record { well = w; allowed = told_within kinds t h }) n.absent.0 (makes_told kinds e.op e.number.0 may.0)).allowed

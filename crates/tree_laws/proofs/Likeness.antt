@@ -35,7 +35,7 @@ equal = record {
 -- nodes that are alike: files by their cells, all others where they are equal
 abbrev pub Like : Likeness → Option Node → Option Node → Type 0
 Like L (Some (Dir es n)) q = q ≡ Some (Dir es n)
-Like L (Some (File cells links)) q = (others : List Cell) × (q ≡ Some (File others links)) × L.like cells others
+Like L (Some (File cells links when)) q = (others : List Cell) × (q ≡ Some (File others links when)) × L.like cells others
 Like L (Some (Link target links)) q = q ≡ Some (Link target links)
 Like L None q = q ≡ None
 
@@ -51,7 +51,7 @@ LikeAnswer L (Shows cells) a = (others : List Cell) × (a ≡ Shows others) × L
 module _ (L : Likeness) where
   pub like_same : (o : Option Node) → Like L o o
   like_same (Some (Dir es n)) = refl
-  like_same (Some (File cells links)) = (cells, refl, L.same cells)
+  like_same (Some (File cells links when)) = (cells, refl, L.same cells)
   like_same (Some (Link target links)) = refl
   like_same None = refl
 
@@ -60,19 +60,19 @@ module _ (L : Likeness) where
 
   pub like_dir : (o q : Option Node) → is_dir o ≡ true → Like L o q → o ≡ q
   like_dir (Some (Dir es n)) q d l = sym l
-  like_dir (Some (File cells links)) q d l = absurd (cc)
+  like_dir (Some (File cells links when)) q d l = absurd (cc)
   like_dir (Some (Link target links)) q d l = absurd (cc)
   like_dir None q d l = absurd (cc)
 
   pub like_links : (o q : Option Node) → Like L o q → links_of o ≡ links_of q
   like_links (Some (Dir es n)) q l = ap links_of (sym l)
-  like_links (Some (File cells links)) q l = ap links_of (sym l.1)
+  like_links (Some (File cells links when)) q l = ap links_of (sym l.1)
   like_links (Some (Link target links)) q l = ap links_of (sym l)
   like_links None q l = ap links_of (sym l)
 
   pub like_entries : (o q : Option Node) → Like L o q → has_entries o ≡ has_entries q
   like_entries (Some (Dir es n)) q l = ap has_entries (sym l)
-  like_entries (Some (File cells links)) q l = ap has_entries (sym l.1)
+  like_entries (Some (File cells links when)) q l = ap has_entries (sym l.1)
   like_entries (Some (Link target links)) q l = ap has_entries (sym l)
   like_entries None q l = ap has_entries (sym l)
 
@@ -90,7 +90,7 @@ module _ (L : Likeness) where
 -- equal nodes and answers
 pub equal_nodes : (o q : Option Node) → Like equal o q → o ≡ q
 equal_nodes (Some (Dir es n)) q l = sym l
-equal_nodes (Some (File cells links)) q l = ap (λ c. Some (File c links)) l.2 ∙ sym l.1
+equal_nodes (Some (File cells links when)) q l = ap (λ c. Some (File c links when)) l.2 ∙ sym l.1
 equal_nodes (Some (Link target links)) q l = sym l
 equal_nodes None q l = sym l
 

@@ -39,7 +39,7 @@ link_kind OfLink = true
 
 dir_by : (x : Node) → dir_node x ≡ dir_kind (kind_of x)
 dir_by (Dir es n) = refl
-dir_by (File cells links) = refl
+dir_by (File cells links when) = refl
 dir_by (Link target links) = refl
 
 plain_by : (x : Node) → not (dir_node x) ≡ not (dir_kind (kind_of x))
@@ -47,12 +47,12 @@ plain_by x = ap not (dir_by x)
 
 file_by : (x : Node) → file_node x ≡ file_kind (kind_of x)
 file_by (Dir es n) = refl
-file_by (File cells links) = refl
+file_by (File cells links when) = refl
 file_by (Link target links) = refl
 
 link_by : (x : Node) → link_node x ≡ link_kind (kind_of x)
 link_by (Dir es n) = refl
-link_by (File cells links) = refl
+link_by (File cells links when) = refl
 link_by (Link target links) = refl
 
 -- a walk is refused as `noent` or `notdir`
@@ -71,7 +71,7 @@ well_by d es n name None = refl
 
 well_in : (o : Option Node) (d : ℕ) (name : List ℕ) → refused_well (place_in o d name) ≡ true
 well_in (Some (Dir es n)) d name = well_by d es n name (entry_at es name)
-well_in (Some (File cells links)) d name = refl
+well_in (Some (File cells links when)) d name = refl
 well_in (Some (Link target links)) d name = refl
 well_in None d name = refl
 
@@ -164,10 +164,10 @@ module _ (L : Likeness) (one two : FileTree) (g : Grounds one two) where
         (subst (λ p. is_in b (then_walked one (reached one any_node p) (m ∷ ms)) ≡ true) e
         (subst (λ l. is_in b l ≡ true) (sym (then_after_any one c (node_at one c) (m ∷ ms) (g.alive_one dir es k name c s.0 s.1))) i)))
 
-  rename_further : (path to : List (List ℕ)) (birth k : ℕ) → AgreeOn L one two (op.Rename path to) reply.NotEmpty (apply one (op.Rename path to) birth k) → reached two dir_node (place two to) ≡ reached one dir_node (place one to)
-  rename_further [] to birth k h = absurd (let z = h.told in cc)
-  rename_further (n ∷ ns) [] birth k h = absurd (let z = h.told in cc)
-  rename_further (n ∷ ns) (m ∷ ms) birth k h = reached_same (m ∷ ms) (second_walk n ns m ms h (place one (n ∷ ns)) (place_stands one (n ∷ ns)) (well_refused one 0 (n ∷ ns)) refl) dir_node dir_kind dir_by
+  rename_further : (path to : List (List ℕ)) (birth when k : ℕ) → AgreeOn L one two (op.Rename path to) reply.NotEmpty (apply one (op.Rename path to) birth when k) → reached two dir_node (place two to) ≡ reached one dir_node (place one to)
+  rename_further [] to birth when k h = absurd (let z = h.told in cc)
+  rename_further (n ∷ ns) [] birth when k h = absurd (let z = h.told in cc)
+  rename_further (n ∷ ns) (m ∷ ms) birth when k h = reached_same (m ∷ ms) (second_walk n ns m ms h (place one (n ∷ ns)) (place_stands one (n ∷ ns)) (well_refused one 0 (n ∷ ns)) refl) dir_node dir_kind dir_by
 
   link_further : (path to : List (List ℕ)) (r : Reply) → ((b : ℕ) → is_in b (walked one path) ≡ true → Near L one two b) → further two (op.Link path to) r ≡ further one (op.Link path to) r
   link_further path to reply.MLink same = reached_same path same any_node any_kind (λ x. refl)
@@ -175,31 +175,31 @@ module _ (L : Likeness) (one two : FileTree) (g : Grounds one two) where
   link_further path to reply.NoDirBlock same = reached_same path same any_node any_kind (λ x. refl)
   link_further path to _ same = refl
 
-  rename_further_by : (path to : List (List ℕ)) (r : Reply) (birth k : ℕ) → AgreeOn L one two (op.Rename path to) r (apply one (op.Rename path to) birth k) → further two (op.Rename path to) r ≡ further one (op.Rename path to) r
-  rename_further_by path to reply.NotEmpty birth k h = rename_further path to birth k h
-  rename_further_by path to _ birth k h = refl
+  rename_further_by : (path to : List (List ℕ)) (r : Reply) (birth when k : ℕ) → AgreeOn L one two (op.Rename path to) r (apply one (op.Rename path to) birth when k) → further two (op.Rename path to) r ≡ further one (op.Rename path to) r
+  rename_further_by path to reply.NotEmpty birth when k h = rename_further path to birth when k h
+  rename_further_by path to _ birth when k h = refl
 
-  pub further_same : (o : Op) (r : Reply) (birth k : ℕ) → AgreeOn L one two o r (apply one o birth k) → further two o r ≡ further one o r
-  further_same (op.Create path) r birth k h = refl
-  further_same (op.Mkdir path) r birth k h = refl
-  further_same (op.Symlink path target) r birth k h = refl
-  further_same (op.Link path to) r birth k h = link_further path to r (λ b i. h.looked b (in_left b (walked one path) (then_walked one (reached one (λ n. not (dir_node n)) (place one path)) to) i))
-  further_same (op.Unlink path) r birth k h = refl
-  further_same (op.Rmdir []) r birth k h = refl
-  further_same (op.Rmdir (n ∷ ns)) r birth k h = reached_same (n ∷ ns) h.looked dir_node dir_kind dir_by
-  further_same (op.Rename path to) r birth k h = rename_further_by path to r birth k h
-  further_same (op.Write path off bytes) r birth k h = reached_same path h.looked file_node file_kind file_by
-  further_same (op.Fill path off len byte) r birth k h = reached_same path h.looked file_node file_kind file_by
-  further_same (op.Truncate path len) r birth k h = reached_same path h.looked file_node file_kind file_by
-  further_same (op.Read path off len) r birth k h = reached_same path h.looked file_node file_kind file_by
-  further_same (op.Stat path) r birth k h = reached_same path h.looked any_node any_kind (λ x. refl)
-  further_same (op.List path) r birth k h = reached_same path h.looked dir_node dir_kind dir_by
-  further_same (op.Readlink path) r birth k h = reached_same path h.looked link_node link_kind link_by
-  further_same (op.Time path) r birth k h = reached_same path h.looked any_node any_kind (λ x. refl)
-  further_same op.Sync r birth k h = refl
-  further_same op.Mount r birth k h = refl
-  further_same op.Unmount r birth k h = refl
-  further_same op.Crash r birth k h = refl
-  further_same (op.CrashAt n) r birth k h = refl
-  further_same (op.CutAt n) r birth k h = refl
-  further_same op.Stall r birth k h = refl
+  pub further_same : (o : Op) (r : Reply) (birth when k : ℕ) → AgreeOn L one two o r (apply one o birth when k) → further two o r ≡ further one o r
+  further_same (op.Create path) r birth when k h = refl
+  further_same (op.Mkdir path) r birth when k h = refl
+  further_same (op.Symlink path target) r birth when k h = refl
+  further_same (op.Link path to) r birth when k h = link_further path to r (λ b i. h.looked b (in_left b (walked one path) (then_walked one (reached one (λ n. not (dir_node n)) (place one path)) to) i))
+  further_same (op.Unlink path) r birth when k h = refl
+  further_same (op.Rmdir []) r birth when k h = refl
+  further_same (op.Rmdir (n ∷ ns)) r birth when k h = reached_same (n ∷ ns) h.looked dir_node dir_kind dir_by
+  further_same (op.Rename path to) r birth when k h = rename_further_by path to r birth when k h
+  further_same (op.Write path off bytes) r birth when k h = reached_same path h.looked file_node file_kind file_by
+  further_same (op.Fill path off len byte) r birth when k h = reached_same path h.looked file_node file_kind file_by
+  further_same (op.Truncate path len) r birth when k h = reached_same path h.looked file_node file_kind file_by
+  further_same (op.Read path off len) r birth when k h = reached_same path h.looked file_node file_kind file_by
+  further_same (op.Stat path) r birth when k h = reached_same path h.looked any_node any_kind (λ x. refl)
+  further_same (op.List path) r birth when k h = reached_same path h.looked dir_node dir_kind dir_by
+  further_same (op.Readlink path) r birth when k h = reached_same path h.looked link_node link_kind link_by
+  further_same (op.Time path) r birth when k h = reached_same path h.looked any_node any_kind (λ x. refl)
+  further_same op.Sync r birth when k h = refl
+  further_same op.Mount r birth when k h = refl
+  further_same op.Unmount r birth when k h = refl
+  further_same op.Crash r birth when k h = refl
+  further_same (op.CrashAt n) r birth when k h = refl
+  further_same (op.CutAt n) r birth when k h = refl
+  further_same op.Stall r birth when k h = refl

@@ -34,7 +34,7 @@ ok k u b i = record { births = b; segments = i }
 
 -- no change of a node changes the number of segments
 more_segments : (t : FileTree) (d : ℕ) (o : Option Node) → (one_link_more t d o).segments ≡ t.segments
-more_segments t d (Some (File cells links)) = refl
+more_segments t d (Some (File cells links when)) = refl
 more_segments t d (Some (Link target links)) = refl
 more_segments t d (Some (Dir es n)) = refl
 more_segments t d None = refl
@@ -44,20 +44,20 @@ fewer_if t d x true = refl
 fewer_if t d x false = refl
 
 fewer_segments : (t : FileTree) (d : ℕ) (o : Option Node) → (one_link_fewer t d o).segments ≡ t.segments
-fewer_segments t d (Some (File cells links)) = fewer_if t d (File cells (links - 1)) (nat_lt 1 links)
+fewer_segments t d (Some (File cells links when)) = fewer_if t d (File cells (links - 1) when) (nat_lt 1 links)
 fewer_segments t d (Some (Link target links)) = fewer_if t d (Link target (links - 1)) (nat_lt 1 links)
 fewer_segments t d (Some (Dir es n)) = refl
 fewer_segments t d None = refl
 
 gone_segments : (t : FileTree) (d : ℕ) (name : List ℕ) (o : Option Node) → (name_gone t d name o).segments ≡ t.segments
 gone_segments t d name (Some (Dir es n)) = refl
-gone_segments t d name (Some (File cells links)) = refl
+gone_segments t d name (Some (File cells links when)) = refl
 gone_segments t d name (Some (Link target links)) = refl
 gone_segments t d name None = refl
 
 set_segments : (t : FileTree) (d : ℕ) (name : List ℕ) (b : ℕ) (o : Option Node) → (name_set t d name b o).segments ≡ t.segments
 set_segments t d name b (Some (Dir es n)) = refl
-set_segments t d name b (Some (File cells links)) = refl
+set_segments t d name b (Some (File cells links when)) = refl
 set_segments t d name b (Some (Link target links)) = refl
 set_segments t d name b None = refl
 
@@ -71,7 +71,7 @@ module _ (t : FileTree) (births : BirthsAscend t) where
   same r = record { births = births; segments = refl }
 
   more_ascends : (d : ℕ) (o : Option Node) → BirthsAscend (one_link_more t d o)
-  more_ascends d (Some (File cells links)) = ascend_with t d (File cells (links + 1)) births
+  more_ascends d (Some (File cells links when)) = ascend_with t d (File cells (links + 1) when) births
   more_ascends d (Some (Link target links)) = ascend_with t d (Link target (links + 1)) births
   more_ascends d (Some (Dir es n)) = births
   more_ascends d None = births
@@ -152,9 +152,9 @@ module _ (t : FileTree) (births : BirthsAscend t) where
   renamed_ordered (n ∷ ns) [] = same reply.Inval
   renamed_ordered (n ∷ ns) (m ∷ ms) = renamed_from_ordered (place t (n ∷ ns)) (m ∷ ms)
 
-  module _ (next : ℕ → List Cell → ℕ → Applied) (each : (b : ℕ) (cells : List Cell) (links : ℕ) → Ordered t.segments (next b cells links)) where
+  module _ (next : ℕ → List Cell → ℕ → ℕ → Applied) (each : (b : ℕ) (cells : List Cell) (links when : ℕ) → Ordered t.segments (next b cells links when)) where
     if_file_ordered : (b : ℕ) (o : Option Node) → Ordered t.segments (if_file t next b o)
-    if_file_ordered b (Some (File cells links)) = each b cells links
+    if_file_ordered b (Some (File cells links when)) = each b cells links when
     if_file_ordered b (Some (Dir es n)) = same reply.IsDir
     if_file_ordered b (Some (Link target links)) = same reply.Inval
     if_file_ordered b None = same reply.NoEnt
@@ -165,68 +165,68 @@ module _ (t : FileTree) (births : BirthsAscend t) where
     file_ordered (Free d es n name) = same reply.NoEnt
     file_ordered (Nowhere r) = same r
 
-  written_ordered : (m b : ℕ) (cells : List Cell) (links off len : ℕ) (put : List Cell → List Cell) → Ordered t.segments (written t m b cells links off len put)
-  written_ordered m b cells links off len put =
-      let segs : (with_node t b (File (put cells) links)).segments ≡ t.segments = refl in
-      let done : BirthsAscend (with_node t b (File (put cells) links)) = ascend_with t b (File (put cells) links) births in
+  written_ordered : (m b : ℕ) (cells : List Cell) (links when off len : ℕ) (put : List Cell → List Cell) → Ordered t.segments (written t m b cells links when off len put)
+  written_ordered m b cells links when off len put =
+      let segs : (with_node t b (File (put cells) links when)).segments ≡ t.segments = refl in
+      let done : BirthsAscend (with_node t b (File (put cells) links when)) = ascend_with t b (File (put cells) links when) births in
       search (either t.segments, same, ok t.segments, done, segs)
 
-  truncated_ordered : (b : ℕ) (cells : List Cell) (links len : ℕ) → Ordered t.segments (truncated t b cells links len)
-  truncated_ordered b cells links len =
-      let segs : (with_node t b (File (take len cells) links)).segments ≡ t.segments = refl in
-      let done : BirthsAscend (with_node t b (File (take len cells) links)) = ascend_with t b (File (take len cells) links) births in
+  truncated_ordered : (b : ℕ) (cells : List Cell) (links when len : ℕ) → Ordered t.segments (truncated t b cells links when len)
+  truncated_ordered b cells links when len =
+      let segs : (with_node t b (File (take len cells) links when)).segments ≡ t.segments = refl in
+      let done : BirthsAscend (with_node t b (File (take len cells) links when)) = ascend_with t b (File (take len cells) links when) births in
       search (either t.segments, same, ok t.segments, done, segs)
 
-  looked_ordered : (o : Op) (b m : ℕ) → is_look o ≡ true → Ordered t.segments (apply t o b m)
-  looked_ordered o b m h = record { births = subst BirthsAscend (sym (looks_leave t o b m h)) births; segments = ap (λ u. u.segments) (looks_leave t o b m h) }
+  looked_ordered : (o : Op) (b when m : ℕ) → is_look o ≡ true → Ordered t.segments (apply t o b when m)
+  looked_ordered o b when m h = record { births = subst BirthsAscend (sym (looks_leave t o b when m h)) births; segments = ap (λ u. u.segments) (looks_leave t o b when m h) }
 
-  apply_ordered : (o : Op) (b m : ℕ) → Ordered t.segments (apply t o b m)
-  apply_ordered (op.Create path) b m = made_ordered b (File [] 1) (place t path)
-  apply_ordered (op.Mkdir path) b m = made_ordered b (Dir [] 0) (place t path)
-  apply_ordered (op.Symlink path target) b m = made_ordered b (Link target 1) (place t path)
-  apply_ordered (op.Link path to) b m = link_ordered (place t path) (place t to)
-  apply_ordered (op.Unlink path) b m = unlinked_ordered (place t path)
-  apply_ordered (op.Rmdir path) b m = removed_ordered (place t path)
-  apply_ordered (op.Rename path to) b m = renamed_ordered path to
-  apply_ordered (op.Write path off bytes) b m = file_ordered _ (λ b cells links. written_ordered m b cells links off (length bytes) (λ old. overwritten old off (map Byte bytes))) (place t path)
-  apply_ordered (op.Fill path off len byte) b m = file_ordered _ (λ b cells links. written_ordered m b cells links off len (λ old. overwritten old off (replicate len (Byte byte)))) (place t path)
-  apply_ordered (op.Truncate path len) b m = file_ordered _ (λ b cells links. truncated_ordered b cells links len) (place t path)
-  apply_ordered (op.Read path off len) b m = looked_ordered (op.Read path off len) b m refl
-  apply_ordered (op.Stat path) b m = looked_ordered (op.Stat path) b m refl
-  apply_ordered (op.List path) b m = looked_ordered (op.List path) b m refl
-  apply_ordered (op.Readlink path) b m = looked_ordered (op.Readlink path) b m refl
-  apply_ordered (op.Time path) b m = looked_ordered (op.Time path) b m refl
-  apply_ordered _ b m = same reply.Ok
+  apply_ordered : (o : Op) (b when m : ℕ) → Ordered t.segments (apply t o b when m)
+  apply_ordered (op.Create path) b when m = made_ordered b (File [] 1 0) (place t path)
+  apply_ordered (op.Mkdir path) b when m = made_ordered b (Dir [] 0) (place t path)
+  apply_ordered (op.Symlink path target) b when m = made_ordered b (Link target 1) (place t path)
+  apply_ordered (op.Link path to) b when m = link_ordered (place t path) (place t to)
+  apply_ordered (op.Unlink path) b when m = unlinked_ordered (place t path)
+  apply_ordered (op.Rmdir path) b when m = removed_ordered (place t path)
+  apply_ordered (op.Rename path to) b when m = renamed_ordered path to
+  apply_ordered (op.Write path off bytes) b when m = file_ordered _ (λ b cells links old. written_ordered m b cells links when off (length bytes) (λ all. overwritten all off (map Byte bytes))) (place t path)
+  apply_ordered (op.Fill path off len byte) b when m = file_ordered _ (λ b cells links old. written_ordered m b cells links when off len (λ all. overwritten all off (replicate len (Byte byte)))) (place t path)
+  apply_ordered (op.Truncate path len) b when m = file_ordered _ (λ b cells links old. truncated_ordered b cells links when len) (place t path)
+  apply_ordered (op.Read path off len) b when m = looked_ordered (op.Read path off len) b when m refl
+  apply_ordered (op.Stat path) b when m = looked_ordered (op.Stat path) b when m refl
+  apply_ordered (op.List path) b when m = looked_ordered (op.List path) b when m refl
+  apply_ordered (op.Readlink path) b when m = looked_ordered (op.Readlink path) b when m refl
+  apply_ordered (op.Time path) b when m = looked_ordered (op.Time path) b when m refl
+  apply_ordered _ b when m = same reply.Ok
 
-pub births_apply : (t : FileTree) (o : Op) (b m : ℕ) → BirthsAscend t → BirthsAscend (apply t o b m).tree
-births_apply t o b m births = (apply_ordered t births o b m).births
+pub births_apply : (t : FileTree) (o : Op) (b when m : ℕ) → BirthsAscend t → BirthsAscend (apply t o b when m).tree
+births_apply t o b when m births = (apply_ordered t births o b when m).births
 
-pub segments_apply : (t : FileTree) (o : Op) (b m : ℕ) → BirthsAscend t → (apply t o b m).tree.segments ≡ t.segments
-segments_apply t o b m births = (apply_ordered t births o b m).segments
+pub segments_apply : (t : FileTree) (o : Op) (b when m : ℕ) → BirthsAscend t → (apply t o b when m).tree.segments ≡ t.segments
+segments_apply t o b when m births = (apply_ordered t births o b when m).segments
 
-shown_ascends : (t : FileTree) (o : Option (ℕ × (List Cell × ℕ))) (off : ℕ) (bytes : List ℕ) → BirthsAscend t → BirthsAscend (with_shown t o off bytes)
+shown_ascends : (t : FileTree) (o : Option (ℕ × (List Cell × (ℕ × ℕ)))) (off : ℕ) (bytes : List ℕ) → BirthsAscend t → BirthsAscend (with_shown t o off bytes)
 shown_ascends t None off bytes births = births
-shown_ascends t (Some f) off bytes births = ascend_with t f.0 (File (overwritten f.1.0 off (map Byte bytes)) f.1.1) births
+shown_ascends t (Some f) off bytes births = ascend_with t f.0 (File (overwritten f.1.0 off (map Byte bytes)) f.1.1.0 f.1.1.1) births
 
 read_ascends : (t : FileTree) (o : Op) (r : Reply) → BirthsAscend t → BirthsAscend (after_read t o r)
 read_ascends t (op.Read path off len) (reply.Shown bytes) births = shown_ascends t (file_at t (place t path)) off bytes births
 read_ascends t (op.Read path off len) _ births = births
 read_ascends t _ r births = births
 
-step_births : (t : FileTree) (s : Step) (b m : ℕ) → BirthsAscend t → BirthsAscend (perform_step t s b m).tree
-step_births t (Goes o) b m births = births_apply t o b m births
-step_births t (Stops r) b m births = births
+step_births : (t : FileTree) (s : Step) (b when m : ℕ) → BirthsAscend t → BirthsAscend (perform_step t s b when m).tree
+step_births t (Goes o) b when m births = births_apply t o b when m births
+step_births t (Stops r) b when m births = births
 
-pub births_perform : (t : FileTree) (o : Op) (b m : ℕ) → BirthsAscend t → BirthsAscend (perform t o b m).tree
-births_perform t o b m births = step_births t (resolved t o).step b m births
+pub births_perform : (t : FileTree) (o : Op) (b when m : ℕ) → BirthsAscend t → BirthsAscend (perform t o b when m).tree
+births_perform t o b when m births = step_births t (resolved t o).step b when m births
 
 step_ascends : (t : FileTree) (s : Step) (r : Reply) → BirthsAscend t → BirthsAscend (after_step t s r)
 step_ascends t (Goes o) r births = read_ascends t o r births
 step_ascends t (Stops q) r births = births
 
-doubt_ascends : (t : FileTree) (o : Option (ℕ × (List Cell × ℕ))) (from count : ℕ) → BirthsAscend t → BirthsAscend (doubted_file t o from count)
+doubt_ascends : (t : FileTree) (o : Option (ℕ × (List Cell × (ℕ × ℕ)))) (from count : ℕ) → BirthsAscend t → BirthsAscend (doubted_file t o from count)
 doubt_ascends t None from count births = births
-doubt_ascends t (Some f) from count births = ascend_with t f.0 (File (doubted_cells f.1.0 from count) f.1.1) births
+doubt_ascends t (Some f) from count births = ascend_with t f.0 (File (doubted_cells f.1.0 from count) f.1.1.0 f.1.1.1) births
 
 doubted_ascends : (t : FileTree) (runs : List CellRun) → BirthsAscend t → BirthsAscend (doubted t runs)
 doubted_ascends t [] births = births
@@ -238,7 +238,7 @@ births_after t (Stays e) births = go (leaves_tree e.op e.reply) (is_answer t e)
   where
     go : (l a : Bool) → BirthsAscend (cond l t (cond a (after_step (applied t e).tree (resolved t e.op).step e.reply) t))
     go true a = births
-    go false true = step_ascends (applied t e).tree (resolved t e.op).step e.reply (births_perform t e.op e.number.0 (told_blocks t e.reply) births)
+    go false true = step_ascends (applied t e).tree (resolved t e.op).step e.reply (births_perform t e.op e.number.0 e.when (told_blocks t e.reply) births)
     go false false = births
 
 pub births_after_all : (t : FileTree) (list : List Settled) → BirthsAscend t → BirthsAscend (after_all t list)
@@ -246,7 +246,7 @@ births_after_all t [] births = births
 births_after_all t (s ∷ list) births = births_after_all (after t s) list (births_after t s births)
 
 -- ---- the number of segments never changes
-shown_segments : (t : FileTree) (o : Option (ℕ × (List Cell × ℕ))) (off : ℕ) (bytes : List ℕ) → (with_shown t o off bytes).segments ≡ t.segments
+shown_segments : (t : FileTree) (o : Option (ℕ × (List Cell × (ℕ × ℕ)))) (off : ℕ) (bytes : List ℕ) → (with_shown t o off bytes).segments ≡ t.segments
 shown_segments t None off bytes = refl
 shown_segments t (Some f) off bytes = refl
 
@@ -255,18 +255,18 @@ read_segments t (op.Read path off len) (reply.Shown bytes) = shown_segments t (f
 read_segments t (op.Read path off len) _ = refl
 read_segments t _ r = refl
 
-step_segments : (t : FileTree) (s : Step) (b m : ℕ) → BirthsAscend t → (perform_step t s b m).tree.segments ≡ t.segments
-step_segments t (Goes o) b m births = segments_apply t o b m births
-step_segments t (Stops r) b m births = refl
+step_segments : (t : FileTree) (s : Step) (b when m : ℕ) → BirthsAscend t → (perform_step t s b when m).tree.segments ≡ t.segments
+step_segments t (Goes o) b when m births = segments_apply t o b when m births
+step_segments t (Stops r) b when m births = refl
 
-pub segments_perform : (t : FileTree) (o : Op) (b m : ℕ) → BirthsAscend t → (perform t o b m).tree.segments ≡ t.segments
-segments_perform t o b m births = step_segments t (resolved t o).step b m births
+pub segments_perform : (t : FileTree) (o : Op) (b when m : ℕ) → BirthsAscend t → (perform t o b when m).tree.segments ≡ t.segments
+segments_perform t o b when m births = step_segments t (resolved t o).step b when m births
 
 read_step_segments : (t : FileTree) (s : Step) (r : Reply) → (after_step t s r).segments ≡ t.segments
 read_step_segments t (Goes o) r = read_segments t o r
 read_step_segments t (Stops q) r = refl
 
-doubt_segments : (t : FileTree) (o : Option (ℕ × (List Cell × ℕ))) (from count : ℕ) → (doubted_file t o from count).segments ≡ t.segments
+doubt_segments : (t : FileTree) (o : Option (ℕ × (List Cell × (ℕ × ℕ)))) (from count : ℕ) → (doubted_file t o from count).segments ≡ t.segments
 doubt_segments t None from count = refl
 doubt_segments t (Some f) from count = refl
 
@@ -280,5 +280,5 @@ segments_after t (Stays e) births = go (leaves_tree e.op e.reply) (is_answer t e
   where
     go : (l a : Bool) → (cond l t (cond a (after_step (applied t e).tree (resolved t e.op).step e.reply) t)).segments ≡ t.segments
     go true a = refl
-    go false true = read_step_segments (applied t e).tree (resolved t e.op).step e.reply ∙ segments_perform t e.op e.number.0 (told_blocks t e.reply) births
+    go false true = read_step_segments (applied t e).tree (resolved t e.op).step e.reply ∙ segments_perform t e.op e.number.0 e.when (told_blocks t e.reply) births
     go false false = refl

@@ -25,7 +25,7 @@ module _ (tree : FileTree) where
 
   stands_in : (o : Option Node) (d : ℕ) (name : List ℕ) → node_at tree d ≡ o → Stands tree (place_in o d name)
   stands_in (Some (Dir es n)) d name is = stands_by d es n name (entry_at es name) is refl
-  stands_in (Some (File cells links)) d name is = tt
+  stands_in (Some (File cells links when)) d name is = tt
   stands_in (Some (Link target links)) d name is = tt
   stands_in None d name is = tt
 
@@ -85,12 +85,12 @@ module _ (L : Likeness) (one two : FileTree) (kinds : SameKinds one two) (alive_
           let is : q ≡ Some (Dir es n) = sym j ∙ subst (λ o. Like L o (node_at two b)) i (same b (head_is_in b (walked_from one c path))) in
           let rest = on c (alive_one b es n name c i at) (alive_two b es n name c (j ∙ is) at) (λ d h. same d (tail_is_in d b (walked_from one c path) h)) in
           rw (is, at) (refl, ap (λ l. b ∷ l) rest.walked, rest.place)
-  first_name path on b name (Some (File cells links)) (Some (Dir es n)) i j s t same = absurd (let k : OfFile ≡ OfDirectory = kinds b (File cells links) (Dir es n) i j in cc)
-  first_name path on b name (Some (File cells links)) (Some (File ds ms)) i j s t same = (refl, refl, refl)
-  first_name path on b name (Some (File cells links)) (Some (Link ds ms)) i j s t same = (refl, refl, refl)
-  first_name path on b name (Some (File cells links)) None i j s t same = absurd (cc)
+  first_name path on b name (Some (File cells links when)) (Some (Dir es n)) i j s t same = absurd (let k : OfFile ≡ OfDirectory = kinds b (File cells links when) (Dir es n) i j in cc)
+  first_name path on b name (Some (File cells links when)) (Some (File ds ms ws)) i j s t same = (refl, refl, refl)
+  first_name path on b name (Some (File cells links when)) (Some (Link ds ms)) i j s t same = (refl, refl, refl)
+  first_name path on b name (Some (File cells links when)) None i j s t same = absurd (cc)
   first_name path on b name (Some (Link cells links)) (Some (Dir es n)) i j s t same = absurd (let k : OfLink ≡ OfDirectory = kinds b (Link cells links) (Dir es n) i j in cc)
-  first_name path on b name (Some (Link cells links)) (Some (File ds ms)) i j s t same = (refl, refl, refl)
+  first_name path on b name (Some (Link cells links)) (Some (File ds ms ws)) i j s t same = (refl, refl, refl)
   first_name path on b name (Some (Link cells links)) (Some (Link ds ms)) i j s t same = (refl, refl, refl)
   first_name path on b name (Some (Link cells links)) None i j s t same = absurd (cc)
   first_name path on b name None q i j s t same = absurd (cc)

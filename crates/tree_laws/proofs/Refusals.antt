@@ -21,26 +21,26 @@ at_node_leaves tree next each (Taken d es n nm b) = each b (node_at tree b)
 at_node_leaves tree next each (Free d es n nm) = refl
 at_node_leaves tree next each (Nowhere r) = refl
 
-if_file_leaves : (tree : FileTree) (next : ℕ → List Cell → ℕ → Applied) → ((b : ℕ) (cells : List Cell) (links : ℕ) → (next b cells links).tree ≡ tree) → (b : ℕ) (o : Option Node) → (if_file tree next b o).tree ≡ tree
-if_file_leaves tree next each b (Some (File cells links)) = each b cells links
+if_file_leaves : (tree : FileTree) (next : ℕ → List Cell → ℕ → ℕ → Applied) → ((b : ℕ) (cells : List Cell) (links when : ℕ) → (next b cells links when).tree ≡ tree) → (b : ℕ) (o : Option Node) → (if_file tree next b o).tree ≡ tree
+if_file_leaves tree next each b (Some (File cells links when)) = each b cells links when
 if_file_leaves tree next each b (Some (Dir es n)) = refl
 if_file_leaves tree next each b (Some (Link target links)) = refl
 if_file_leaves tree next each b None = refl
 
 described_leaves : (tree : FileTree) (o : Option Node) → (described tree o).tree ≡ tree
-described_leaves tree (Some (File cells links)) = refl
+described_leaves tree (Some (File cells links when)) = refl
 described_leaves tree (Some (Dir es n)) = refl
 described_leaves tree (Some (Link target links)) = refl
 described_leaves tree None = refl
 
 listed_leaves : (tree : FileTree) (o : Option Node) → (listed tree o).tree ≡ tree
-listed_leaves tree (Some (File cells links)) = refl
+listed_leaves tree (Some (File cells links when)) = refl
 listed_leaves tree (Some (Dir es n)) = refl
 listed_leaves tree (Some (Link target links)) = refl
 listed_leaves tree None = refl
 
 target_leaves : (tree : FileTree) (o : Option Node) → (target_of tree o).tree ≡ tree
-target_leaves tree (Some (File cells links)) = refl
+target_leaves tree (Some (File cells links when)) = refl
 target_leaves tree (Some (Dir es n)) = refl
 target_leaves tree (Some (Link target links)) = refl
 target_leaves tree None = refl
@@ -52,13 +52,13 @@ shown_leaves tree cells off len = go (nat_lt (length cells) off)
     go true = refl
     go false = refl
 
-pub looks_leave : (tree : FileTree) (op : Op) (birth m : ℕ) → is_look op ≡ true → (apply tree op birth m).tree ≡ tree
-looks_leave tree (op.Read path off len) birth m h = at_node_leaves tree _ (if_file_leaves tree _ (λ b cells links. shown_leaves tree cells off len)) (place tree path)
-looks_leave tree (op.Stat path) birth m h = at_node_leaves tree _ (λ b o. described_leaves tree o) (place tree path)
-looks_leave tree (op.List path) birth m h = at_node_leaves tree _ (λ b o. listed_leaves tree o) (place tree path)
-looks_leave tree (op.Readlink path) birth m h = at_node_leaves tree _ (λ b o. target_leaves tree o) (place tree path)
-looks_leave tree (op.Time path) birth m h = at_node_leaves tree _ (if_file_leaves tree _ (λ b cells links. refl)) (place tree path)
-looks_leave tree _ birth m h = absurd (cc)
+pub looks_leave : (tree : FileTree) (op : Op) (birth when m : ℕ) → is_look op ≡ true → (apply tree op birth when m).tree ≡ tree
+looks_leave tree (op.Read path off len) birth when m h = at_node_leaves tree _ (if_file_leaves tree _ (λ b cells links when. shown_leaves tree cells off len)) (place tree path)
+looks_leave tree (op.Stat path) birth when m h = at_node_leaves tree _ (λ b o. described_leaves tree o) (place tree path)
+looks_leave tree (op.List path) birth when m h = at_node_leaves tree _ (λ b o. listed_leaves tree o) (place tree path)
+looks_leave tree (op.Readlink path) birth when m h = at_node_leaves tree _ (λ b o. target_leaves tree o) (place tree path)
+looks_leave tree (op.Time path) birth when m h = at_node_leaves tree _ (if_file_leaves tree _ (λ b cells links when. refl)) (place tree path)
+looks_leave tree _ birth when m h = absurd (cc)
 
 -- unless it says `ok`, it leaves the tree
 record Quiet (tree : FileTree) (a : Applied) : Type 0 where
@@ -129,9 +129,9 @@ module _ (tree : FileTree) where
   renamed_quiet (n ∷ ns) (m ∷ ms) = renamed_from_quiet (place tree (n ∷ ns)) (m ∷ ms)
 
   -- what is asked of a file
-  module _ (next : ℕ → List Cell → ℕ → Applied) (each : (b : ℕ) (cells : List Cell) (links : ℕ) → Quiet tree (next b cells links)) where
+  module _ (next : ℕ → List Cell → ℕ → ℕ → Applied) (each : (b : ℕ) (cells : List Cell) (links when : ℕ) → Quiet tree (next b cells links when)) where
     if_file_quiet : (b : ℕ) (o : Option Node) → Quiet tree (if_file tree next b o)
-    if_file_quiet b (Some (File cells links)) = each b cells links
+    if_file_quiet b (Some (File cells links when)) = each b cells links when
     if_file_quiet b (Some (Dir es n)) = same _
     if_file_quiet b (Some (Link target links)) = same _
     if_file_quiet b None = same _
@@ -142,32 +142,32 @@ module _ (tree : FileTree) where
     file_quiet (Free d es n nm) = same _
     file_quiet (Nowhere r) = same _
 
-  written_quiet : (m b : ℕ) (cells : List Cell) (links off len : ℕ) (put : List Cell → List Cell) → Quiet tree (written tree m b cells links off len put)
-  written_quiet m b cells links off len put = search (either, ok, same)
+  written_quiet : (m b : ℕ) (cells : List Cell) (links when off len : ℕ) (put : List Cell → List Cell) → Quiet tree (written tree m b cells links when off len put)
+  written_quiet m b cells links when off len put = search (either, ok, same)
 
-  truncated_quiet : (b : ℕ) (cells : List Cell) (links len : ℕ) → Quiet tree (truncated tree b cells links len)
-  truncated_quiet b cells links len = search (either, ok, same)
+  truncated_quiet : (b : ℕ) (cells : List Cell) (links when len : ℕ) → Quiet tree (truncated tree b cells links when len)
+  truncated_quiet b cells links when len = search (either, ok, same)
 
-look : (tree : FileTree) (op : Op) (birth m : ℕ) → is_look op ≡ true → Quiet tree (apply tree op birth m)
-look tree op birth m h = record { leaves = λ _. looks_leave tree op birth m h }
+look : (tree : FileTree) (op : Op) (birth when m : ℕ) → is_look op ≡ true → Quiet tree (apply tree op birth when m)
+look tree op birth when m h = record { leaves = λ _. looks_leave tree op birth when m h }
 
-quiet_always : (tree : FileTree) (op : Op) (birth m : ℕ) → Quiet tree (apply tree op birth m)
-quiet_always tree (op.Create path) birth m = made_quiet tree birth _ (place tree path)
-quiet_always tree (op.Mkdir path) birth m = made_quiet tree birth _ (place tree path)
-quiet_always tree (op.Symlink path target) birth m = made_quiet tree birth _ (place tree path)
-quiet_always tree (op.Link path to) birth m = linked_quiet tree (place tree path) (place tree to)
-quiet_always tree (op.Unlink path) birth m = unlinked_quiet tree (place tree path)
-quiet_always tree (op.Rmdir path) birth m = dir_removed_quiet tree (place tree path)
-quiet_always tree (op.Rename path to) birth m = renamed_quiet tree path to
-quiet_always tree (op.Write path off bytes) birth m = file_quiet tree _ (λ b cells links. written_quiet tree m b cells links off (length bytes) (λ old. overwritten old off (map Byte bytes))) (place tree path)
-quiet_always tree (op.Fill path off len byte) birth m = file_quiet tree _ (λ b cells links. written_quiet tree m b cells links off len (λ old. overwritten old off (replicate len (Byte byte)))) (place tree path)
-quiet_always tree (op.Truncate path len) birth m = file_quiet tree _ (λ b cells links. truncated_quiet tree b cells links len) (place tree path)
-quiet_always tree (op.Read path off len) birth m = look tree (op.Read path off len) birth m refl
-quiet_always tree (op.Stat path) birth m = look tree (op.Stat path) birth m refl
-quiet_always tree (op.List path) birth m = look tree (op.List path) birth m refl
-quiet_always tree (op.Readlink path) birth m = look tree (op.Readlink path) birth m refl
-quiet_always tree (op.Time path) birth m = look tree (op.Time path) birth m refl
-quiet_always tree _ birth m = same tree reply.Ok
+quiet_always : (tree : FileTree) (op : Op) (birth when m : ℕ) → Quiet tree (apply tree op birth when m)
+quiet_always tree (op.Create path) birth when m = made_quiet tree birth _ (place tree path)
+quiet_always tree (op.Mkdir path) birth when m = made_quiet tree birth _ (place tree path)
+quiet_always tree (op.Symlink path target) birth when m = made_quiet tree birth _ (place tree path)
+quiet_always tree (op.Link path to) birth when m = linked_quiet tree (place tree path) (place tree to)
+quiet_always tree (op.Unlink path) birth when m = unlinked_quiet tree (place tree path)
+quiet_always tree (op.Rmdir path) birth when m = dir_removed_quiet tree (place tree path)
+quiet_always tree (op.Rename path to) birth when m = renamed_quiet tree path to
+quiet_always tree (op.Write path off bytes) birth when m = file_quiet tree _ (λ b cells links old. written_quiet tree m b cells links when off (length bytes) (λ all. overwritten all off (map Byte bytes))) (place tree path)
+quiet_always tree (op.Fill path off len byte) birth when m = file_quiet tree _ (λ b cells links old. written_quiet tree m b cells links when off len (λ all. overwritten all off (replicate len (Byte byte)))) (place tree path)
+quiet_always tree (op.Truncate path len) birth when m = file_quiet tree _ (λ b cells links old. truncated_quiet tree b cells links when len) (place tree path)
+quiet_always tree (op.Read path off len) birth when m = look tree (op.Read path off len) birth when m refl
+quiet_always tree (op.Stat path) birth when m = look tree (op.Stat path) birth when m refl
+quiet_always tree (op.List path) birth when m = look tree (op.List path) birth when m refl
+quiet_always tree (op.Readlink path) birth when m = look tree (op.Readlink path) birth when m refl
+quiet_always tree (op.Time path) birth when m = look tree (op.Time path) birth when m refl
+quiet_always tree _ birth when m = same tree reply.Ok
 
-pub refusals_leave : (tree : FileTree) (op : Op) (birth m : ℕ) → says_ok (apply tree op birth m).answer ≡ false → (apply tree op birth m).tree ≡ tree
-refusals_leave tree op birth m = (quiet_always tree op birth m).leaves
+pub refusals_leave : (tree : FileTree) (op : Op) (birth when m : ℕ) → says_ok (apply tree op birth when m).answer ≡ false → (apply tree op birth when m).tree ≡ tree
+refusals_leave tree op birth when m = (quiet_always tree op birth when m).leaves

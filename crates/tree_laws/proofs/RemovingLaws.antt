@@ -110,37 +110,37 @@ within_file t cells off len bytes h = go (nat_lt (length cells) off) h
     go true h = absurd (not_shown bytes h)
     go false h = shown_is_sharper cells off len bytes h
 
-file_sharper : (t : FileTree) (b : ℕ) (o : Option Node) (off len : ℕ) (bytes : List ℕ) (f : ℕ × (List Cell × ℕ)) → file_of b o ≡ Some f → agrees (if_file t (λ b cells links. shown t cells off len) b o).answer (reply.Shown bytes) ≡ true → Vaguer (overwritten f.1.0 off (map Byte bytes)) f.1.0
-file_sharper t b (Some (File cells links)) off len bytes f e h = subst (λ c. Vaguer (overwritten c off (map Byte bytes)) c) (ap (λ o. elim o as (λ x. List Cell) [ None ↦ cells | Some g ↦ g.1.0 ]) e) (within_file t cells off len bytes h)
+file_sharper : (t : FileTree) (b : ℕ) (o : Option Node) (off len : ℕ) (bytes : List ℕ) (f : ℕ × (List Cell × (ℕ × ℕ))) → file_of b o ≡ Some f → agrees (if_file t (λ b cells links when. shown t cells off len) b o).answer (reply.Shown bytes) ≡ true → Vaguer (overwritten f.1.0 off (map Byte bytes)) f.1.0
+file_sharper t b (Some (File cells links when)) off len bytes f e h = subst (λ c. Vaguer (overwritten c off (map Byte bytes)) c) (ap (λ o. elim o as (λ x. List Cell) [ None ↦ cells | Some g ↦ g.1.0 ]) e) (within_file t cells off len bytes h)
 file_sharper t b (Some (Dir es n)) off len bytes f e h = cc
 file_sharper t b (Some (Link target links)) off len bytes f e h = cc
 file_sharper t b None off len bytes f e h = cc
 
-place_sharper : (t : FileTree) (p : Place) (off len : ℕ) (bytes : List ℕ) (f : ℕ × (List Cell × ℕ)) → file_at t p ≡ Some f → agrees (at_file t p (λ b cells links. shown t cells off len)).answer (reply.Shown bytes) ≡ true → Vaguer (overwritten f.1.0 off (map Byte bytes)) f.1.0
+place_sharper : (t : FileTree) (p : Place) (off len : ℕ) (bytes : List ℕ) (f : ℕ × (List Cell × (ℕ × ℕ))) → file_at t p ≡ Some f → agrees (at_file t p (λ b cells links when. shown t cells off len)).answer (reply.Shown bytes) ≡ true → Vaguer (overwritten f.1.0 off (map Byte bytes)) f.1.0
 place_sharper t Root off len bytes f e h = cc
 place_sharper t (Taken d es n name b) off len bytes f e h = file_sharper t b (node_at t b) off len bytes f e h
 place_sharper t (Free d es n name) off len bytes f e h = cc
 place_sharper t (Nowhere r) off len bytes f e h = cc
 
-shown_sharper : (t : FileTree) (o : Option (ℕ × (List Cell × ℕ))) (off : ℕ) (bytes : List ℕ) → ((f : ℕ × (List Cell × ℕ)) → o ≡ Some f → (node_at t f.0 ≡ Some (File f.1.0 f.1.1)) × Vaguer (overwritten f.1.0 off (map Byte bytes)) f.1.0) → (b : ℕ) → Like vague (node_at (with_shown t o off bytes) b) (node_at t b)
+shown_sharper : (t : FileTree) (o : Option (ℕ × (List Cell × (ℕ × ℕ)))) (off : ℕ) (bytes : List ℕ) → ((f : ℕ × (List Cell × (ℕ × ℕ))) → o ≡ Some f → (node_at t f.0 ≡ Some (File f.1.0 f.1.1.0 f.1.1.1)) × Vaguer (overwritten f.1.0 off (map Byte bytes)) f.1.0) → (b : ℕ) → Like vague (node_at (with_shown t o off bytes) b) (node_at t b)
 shown_sharper t None off bytes h b = like_same vague (node_at t b)
 shown_sharper t (Some f) off bytes h b =
-    let new = File (overwritten f.1.0 off (map Byte bytes)) f.1.1 in
+    let new = File (overwritten f.1.0 off (map Byte bytes)) f.1.1.0 f.1.1.1 in
     let g = h f refl in
     each_but (λ c. Like vague (node_at (with_node t f.0 new) c) (node_at t c)) f.0
     (subst (λ z. Like vague z (node_at t f.0)) (sym (with_same t f.0 new)) (f.1.0, g.0, g.1))
     (λ c far. like_equal vague (node_at (with_node t f.0 new) c) (node_at t c) (with_other t f.0 new c far)) b
 
-read_sharper : (t : FileTree) (o : Op) (r : Reply) (n m b : ℕ) → agrees (apply t o n m).answer r ≡ true → Like vague (node_at (after_read (apply t o n m).tree o r) b) (node_at (apply t o n m).tree b)
-read_sharper t (op.Read path off len) (reply.Shown bytes) n m b told =
-    subst (λ u. Like vague (node_at (with_shown u (file_at u (place u path)) off bytes) b) (node_at u b)) (sym (looks_leave t (op.Read path off len) n m refl))
+read_sharper : (t : FileTree) (o : Op) (r : Reply) (n when m b : ℕ) → agrees (apply t o n when m).answer r ≡ true → Like vague (node_at (after_read (apply t o n when m).tree o r) b) (node_at (apply t o n when m).tree b)
+read_sharper t (op.Read path off len) (reply.Shown bytes) n when m b told =
+    subst (λ u. Like vague (node_at (with_shown u (file_at u (place u path)) off bytes) b) (node_at u b)) (sym (looks_leave t (op.Read path off len) n when m refl))
     (shown_sharper t (file_at t (place t path)) off bytes (λ f e. (file_at_is t (place t path) f e, place_sharper t (place t path) off len bytes f e told)) b)
-read_sharper t (op.Read path off len) _ n m b told = like_same vague (node_at (apply t (op.Read path off len) n m).tree b)
-read_sharper t o r n m b told = like_same vague (node_at (apply t o n m).tree b)
+read_sharper t (op.Read path off len) _ n when m b told = like_same vague (node_at (apply t (op.Read path off len) n when m).tree b)
+read_sharper t o r n when m b told = like_same vague (node_at (apply t o n when m).tree b)
 
-step_sharper : (t : FileTree) (s : Step) (r : Reply) (n m b : ℕ) → agrees (perform_step t s n m).answer r ≡ true → Like vague (node_at (after_step (perform_step t s n m).tree s r) b) (node_at (perform_step t s n m).tree b)
-step_sharper t (Goes o) r n m b told = read_sharper t o r n m b told
-step_sharper t (Stops q) r n m b told = like_same vague (node_at t b)
+step_sharper : (t : FileTree) (s : Step) (r : Reply) (n when m b : ℕ) → agrees (perform_step t s n when m).answer r ≡ true → Like vague (node_at (after_step (perform_step t s n when m).tree s r) b) (node_at (perform_step t s n when m).tree b)
+step_sharper t (Goes o) r n when m b told = read_sharper t o r n when m b told
+step_sharper t (Stops q) r n when m b told = like_same vague (node_at t b)
 
 sharper_after : (t : FileTree) (e : Entry) (b : ℕ) → changes t e b ≡ false → Like vague (node_at (tree_after t e) b) (node_at t b)
 sharper_after t e b h = go (leaves_tree e.op e.reply) (is_answer t e) refl
@@ -155,7 +155,7 @@ sharper_after t e b h = go (leaves_tree e.op e.reply) (is_answer t e) refl
     go false true i =
         let same : node_at t b ≡ node_at (applied t e).tree b = alike_at t (applied t e).tree b (unchanged (is_answer t e) (differs t (applied t e).tree b) i h) in
         subst (Like vague (node_at (after_step (applied t e).tree (resolved t e.op).step e.reply) b)) (sym same)
-        (step_sharper t (resolved t e.op).step e.reply e.number.0 (told_blocks t e.reply) b (and_parts (is_path_op e.op) (agrees (applied t e).answer e.reply) i).1)
+        (step_sharper t (resolved t e.op).step e.reply e.number.0 e.when (told_blocks t e.reply) b (and_parts (is_path_op e.op) (agrees (applied t e).answer e.reply) i).1)
 
 -- ---- tests along a list
 not_in_left : (b : ℕ) (xs ys : List ℕ) → is_in b (xs ++ ys) ≡ false → is_in b xs ≡ false
@@ -274,7 +274,7 @@ module _ (server : ℕ) (kinds : ℕ → Kind) where
     removed_room h b = go (changes t e b) refl
       where
         kinds_new : HasKinds kinds (applied t e).tree
-        kinds_new = perform_keeps_kinds kinds t e.op e.number.0 (told_blocks t e.reply) a.well_t a.new_t.absent.0 a.kinds_t a.told.0
+        kinds_new = perform_keeps_kinds kinds t e.op e.number.0 e.when (told_blocks t e.reply) a.well_t a.new_t.absent.0 a.kinds_t a.told.0
 
         acted : other_room (node_at t b) (node_at (applied t e).tree b) ≡ false → room_of (node_at (applied t e).tree b) ≡ room_of (node_at t b)
         acted h = sym (room_stays (node_at t b) (node_at (applied t e).tree b) (kinds_agree kinds t (applied t e).tree a.kinds_t kinds_new b) h)
@@ -283,7 +283,7 @@ module _ (server : ℕ) (kinds : ℕ → Kind) where
         by_steps true c i r = refl
         by_steps false false i r = refl
         by_steps false true i r = like_room (node_at (after_step (applied t e).tree (resolved t e.op).step e.reply) b) (node_at (applied t e).tree b)
-            (step_sharper t (resolved t e.op).step e.reply e.number.0 (told_blocks t e.reply) b (and_parts (is_path_op e.op) (agrees (applied t e).answer e.reply) i).1) ∙ r
+            (step_sharper t (resolved t e.op).step e.reply e.number.0 e.when (told_blocks t e.reply) b (and_parts (is_path_op e.op) (agrees (applied t e).answer e.reply) i).1) ∙ r
 
         go : (c : Bool) → changes t e b ≡ c → room_of (node_at (tree_after t e) b) ≡ room_of (node_at t b)
         go false i = like_room (node_at (tree_after t e) b) (node_at t b) (sharper_after t e b i)

@@ -25,7 +25,7 @@ third false false true x y z w i j k = absurd (cc)
 
 entries_are_a_dir : (o : Option Node) → has_entries o ≡ true → is_dir o ≡ true
 entries_are_a_dir (Some (Dir es n)) h = refl
-entries_are_a_dir (Some (File cells links)) h = cc
+entries_are_a_dir (Some (File cells links when)) h = cc
 entries_are_a_dir (Some (Link target links)) h = cc
 entries_are_a_dir None h = cc
 

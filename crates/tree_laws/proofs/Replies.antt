@@ -1,5 +1,5 @@
 -- Replies that are equal, and answers that want room.
-use Rattle.std.proofs.Common.{ℕ, ◌≡◌, Bool, true, List, [], ◌∷◌, take, refl, sym, ◌∙◌, ap, codes, nat_eq}
+use Rattle.std.proofs.Common.{ℕ, ◌≡◌, Bool, true, List, take, refl, sym, ◌∙◌, ap, codes, nat_eq}
 use Rattle.std.specs.Cmp.Lexicographic.{pointwise}
 use Rattle.frang_base.specs.declared.reply.Reply.{Reply}
 use Rattle.frang_base.specs.declared.reply.Reply.TheVariants as reply

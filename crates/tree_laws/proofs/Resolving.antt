@@ -93,18 +93,18 @@ looks_shaped _ h = absurd (cc)
 pub resolved_looks : (t : FileTree) (o : Op) → Looks o → IsOf Looks (resolved t o).step
 resolved_looks t o h = resolved_is Looks t o (looks_shaped o h)
 
-pub step_looks_leave : (t : FileTree) (s : Step) (b m : ℕ) → IsOf Looks s → (perform_step t s b m).tree ≡ t
-step_looks_leave t (Goes o) b m h = looks_leave t o b m h
-step_looks_leave t (Stops reply) b m h = refl
+pub step_looks_leave : (t : FileTree) (s : Step) (b when m : ℕ) → IsOf Looks s → (perform_step t s b when m).tree ≡ t
+step_looks_leave t (Goes o) b when m h = looks_leave t o b when m h
+step_looks_leave t (Stops reply) b when m h = refl
 
 -- a look leaves the tree, whatever it is answered
-pub performed_looks_leave : (t : FileTree) (o : Op) (b m : ℕ) → Looks o → (perform t o b m).tree ≡ t
-performed_looks_leave t o b m h = step_looks_leave t (resolved t o).step b m (resolved_looks t o h)
+pub performed_looks_leave : (t : FileTree) (o : Op) (b when m : ℕ) → Looks o → (perform t o b when m).tree ≡ t
+performed_looks_leave t o b when m h = step_looks_leave t (resolved t o).step b when m (resolved_looks t o h)
 
-step_refusals_leave : (t : FileTree) (s : Step) (b m : ℕ) → says_ok (perform_step t s b m).answer ≡ false → (perform_step t s b m).tree ≡ t
-step_refusals_leave t (Goes o) b m h = refusals_leave t o b m h
-step_refusals_leave t (Stops reply) b m h = refl
+step_refusals_leave : (t : FileTree) (s : Step) (b when m : ℕ) → says_ok (perform_step t s b when m).answer ≡ false → (perform_step t s b when m).tree ≡ t
+step_refusals_leave t (Goes o) b when m h = refusals_leave t o b when m h
+step_refusals_leave t (Stops reply) b when m h = refl
 
 -- an answer other than `ok` leaves the tree
-pub performed_refusals_leave : (t : FileTree) (o : Op) (b m : ℕ) → says_ok (perform t o b m).answer ≡ false → (perform t o b m).tree ≡ t
-performed_refusals_leave t o b m h = step_refusals_leave t (resolved t o).step b m h
+pub performed_refusals_leave : (t : FileTree) (o : Op) (b when m : ℕ) → says_ok (perform t o b when m).answer ≡ false → (perform t o b when m).tree ≡ t
+performed_refusals_leave t o b when m h = step_refusals_leave t (resolved t o).step b when m h

@@ -117,7 +117,7 @@ pub like_room : (o q : Option Node) → Like vague o q → room_of o ≡ room_of
 like_room (Some (Dir es n)) q l = ap room_of (sym l)
 like_room (Some (Link target links)) q l = ap room_of (sym l)
 like_room None q l = ap room_of (sym l)
-like_room (Some (File cells links)) q l = ap (λ n. Some (0, (small_blocks_of n, large_blocks_of n))) (vague_long cells l.0 l.2) ∙ ap room_of (sym l.1)
+like_room (Some (File cells links when)) q l = ap (λ n. Some (0, (small_blocks_of n, large_blocks_of n))) (vague_long cells l.0 l.2) ∙ ap room_of (sym l.1)
 
 both_room : (a b c d : Option Node) → Both vague a b c d → room_of a ≡ room_of b → room_of c ≡ room_of d
 both_room a b c d (inl p) e = like_room c d p.1
@@ -130,8 +130,8 @@ doubted_long : (xs : List Cell) (from count : ℕ) → length (doubted_cells xs 
 doubted_long xs from count = simp (length-append, length-map, length-drop, length-take) (omega arith)
 
 one_doubt : (t : FileTree) (r from count : ℕ) (o : Option Node) → node_at t r ≡ o → (b : ℕ) → room_of (node_at (doubted_file t (file_of r o) from count) b) ≡ room_of (node_at t b)
-one_doubt t r from count (Some (File cells links)) is b =
-    let new = File (doubted_cells cells from count) links in
+one_doubt t r from count (Some (File cells links when)) is b =
+    let new = File (doubted_cells cells from count) links when in
     each_but (λ b. room_of (node_at (with_node t r new) b) ≡ room_of (node_at t b)) r
     (ap room_of (with_same t r new) ∙ ap (λ n. Some (0, (small_blocks_of n, large_blocks_of n))) (doubted_long cells from count) ∙ ap room_of (sym is)) (λ c far. ap room_of (with_other t r new c far)) b
 one_doubt t r from count (Some (Dir es n)) is b = refl
@@ -145,14 +145,14 @@ doubted_room t (run ∷ runs) b = doubted_room (doubted_file t (file_of run.birt
 -- nodes of one kind that take the same room
 one_kind : (x y : Node) → kind_of x ≡ kind_of y → small_blocks x ≡ small_blocks y → large_blocks x ≡ large_blocks y → room x ≡ room y
 one_kind (Dir es n) (Dir fs m) k s l = ap (λ i. (i, (0, 0))) s
-one_kind (File cs n) (File ds m) k s l = ap₂ (λ i j. (0, (i, j))) s l
+one_kind (File cs n w) (File ds m v) k s l = ap₂ (λ i j. (0, (i, j))) s l
 one_kind (Link t n) (Link u m) k s l = refl
-one_kind (Dir es n) (File ds m) k s l = absurd (cc)
+one_kind (Dir es n) (File ds m v) k s l = absurd (cc)
 one_kind (Dir es n) (Link ds m) k s l = absurd (cc)
-one_kind (File es n) (Dir ds m) k s l = absurd (cc)
-one_kind (File es n) (Link ds m) k s l = absurd (cc)
+one_kind (File es n w) (Dir ds m) k s l = absurd (cc)
+one_kind (File es n w) (Link ds m) k s l = absurd (cc)
 one_kind (Link es n) (Dir ds m) k s l = absurd (cc)
-one_kind (Link es n) (File ds m) k s l = absurd (cc)
+one_kind (Link es n) (File ds m v) k s l = absurd (cc)
 
 pub room_stays : (a b : Option Node) → ((x y : Node) → a ≡ Some x → b ≡ Some y → kind_of x ≡ kind_of y) → other_room a b ≡ false → room_of a ≡ room_of b
 room_stays (Some x) (Some y) k h =

@@ -41,20 +41,26 @@ entry_sound e f h = let p = and_parts (pointwise nat_eq e.0 f.0) (e.1 == f.1) h 
 entry_same : (e : List ℕ × ℕ) → pointwise nat_eq e.0 e.0 && e.1 == e.1 ≡ true
 entry_same e = ap₂ (λ a b. a && b) (text_same e.0) (eq-eqb e.1 e.1 refl)
 
+file_equal : {cs ds : List Cell} {n m w v : ℕ} → cs ≡ ds → n ≡ m → w ≡ v → File cs n w ≡ File ds m v
+file_equal c l t = cc
+
 node_sound : (a b : Node) → same_node a b ≡ true → a ≡ b
 node_sound (Dir es n) (Dir fs m) h = let p = and_parts (pointwise (λ e f. pointwise nat_eq e.0 f.0 && e.1 == f.1) es fs) (n == m) h in ap₂ Dir (pointwise_sound (λ e f. pointwise nat_eq e.0 f.0 && e.1 == f.1) entry_sound es fs p.0) (eqb-true n m p.1)
-node_sound (File cs n) (File ds m) h = let p = and_parts (pointwise same_cell cs ds) (n == m) h in ap₂ File (pointwise_sound same_cell cell_sound cs ds p.0) (eqb-true n m p.1)
+node_sound (File cs n w) (File ds m v) h =
+    let p = and_parts (pointwise same_cell cs ds && n == m) (w == v) h in
+    let q = and_parts (pointwise same_cell cs ds) (n == m) p.0 in
+    file_equal (pointwise_sound same_cell cell_sound cs ds q.0) (eqb-true n m q.1) (eqb-true w v p.1)
 node_sound (Link s n) (Link t m) h = let p = and_parts (pointwise nat_eq s t) (n == m) h in ap₂ Link (text_sound s t p.0) (eqb-true n m p.1)
-node_sound (Dir es n) (File ds m) h = cc
+node_sound (Dir es n) (File ds m v) h = cc
 node_sound (Dir es n) (Link ds m) h = cc
-node_sound (File es n) (Dir ds m) h = cc
-node_sound (File es n) (Link ds m) h = cc
+node_sound (File es n w) (Dir ds m) h = cc
+node_sound (File es n w) (Link ds m) h = cc
 node_sound (Link es n) (Dir ds m) h = cc
-node_sound (Link es n) (File ds m) h = cc
+node_sound (Link es n) (File ds m v) h = cc
 
 node_same : (a : Node) → same_node a a ≡ true
 node_same (Dir es n) = ap₂ (λ a b. a && b) (pointwise_same (λ e f. pointwise nat_eq e.0 f.0 && e.1 == f.1) entry_same es) (eq-eqb n n refl)
-node_same (File cs n) = ap₂ (λ a b. a && b) (pointwise_same same_cell cell_same cs) (eq-eqb n n refl)
+node_same (File cs n w) = ap₂ (λ a b. a && b) (ap₂ (λ a b. a && b) (pointwise_same same_cell cell_same cs) (eq-eqb n n refl)) (eq-eqb w w refl)
 node_same (Link s n) = ap₂ (λ a b. a && b) (text_same s) (eq-eqb n n refl)
 
 where_sound : (a b : Option Node) → same_where a b ≡ true → a ≡ b

@@ -7,8 +7,7 @@ use Rattle.tree_definitions.specs.declared.history.Item.{Item}
 use Rattle.tree_definitions.specs.declared.history.Item.TheVariants.{Did, Recovered}
 use Rattle.tree_definitions.specs.Tree.{FileTree}
 use Rattle.tree_definitions.specs.History.{Settled, Stays, InDoubt, after, after_all}
-use Rattle.tree_definitions.specs.Removal.{settled, settled_from, left, begins_removal, is_lost, is_of, mounts, recovered, doubtful}
-use Rattle.tree_definitions.specs.Touched.{changes_shape}
+use Rattle.tree_definitions.specs.Removal.{settled, settled_from, left, begins_removal, is_lost, is_of, mounts, recovered, doubtful, is_recorded}
 use Rattle.tree_laws.specs.Settling.{entries_of, entries_left, IsSublist, HasNoRecovery, LostBeforeMounts, RemovesNothing, RemovesFrom}
 
 -- ---- sublists
@@ -102,7 +101,7 @@ settles opening history h = settles_from opening [] history h
 
 -- ---- what a recovery removes
 pub lost_is_of : (server keeps : ℕ) (tree : FileTree) (s : Settled) → is_lost server keeps tree s ≡ true → is_of server s ≡ true
-lost_is_of server keeps tree (Stays e) h = (and_parts (e.server.0 == server) (nat_lt keeps e.number.0) (and_parts (e.server.0 == server && nat_lt keeps e.number.0) (changes_shape tree e) h).0).0
+lost_is_of server keeps tree (Stays e) h = (and_parts (e.server.0 == server) (nat_lt keeps e.number.0) (and_parts (e.server.0 == server && nat_lt keeps e.number.0) (is_recorded tree e) h).0).0
 lost_is_of server keeps tree (InDoubt runs) h = cc
 
 module _ (server keeps : ℕ) where

@@ -23,13 +23,13 @@ use Rattle.tree_laws.proofs.WellFormedLaws.{Makes, apply_well, recelled_well}
 use Rattle.tree_laws.proofs.Resolving.{IsOf, Shaped, resolved_is}
 
 -- the file of a place is a file of the tree
-file_of_is : (t : FileTree) (b : ℕ) (o : Option Node) (f : ℕ × (List Cell × ℕ)) → node_at t b ≡ o → file_of b o ≡ Some f → node_at t f.0 ≡ Some (File f.1.0 f.1.1)
-file_of_is t b (Some (File cells links)) f is h = let e : (b, (cells, links)) ≡ f = ap (λ o. elim o as (λ x. ℕ × (List Cell × ℕ)) [ None ↦ f | Some g ↦ g ]) h in subst (λ g. node_at t g.0 ≡ Some (File g.1.0 g.1.1)) e is
+file_of_is : (t : FileTree) (b : ℕ) (o : Option Node) (f : ℕ × (List Cell × (ℕ × ℕ))) → node_at t b ≡ o → file_of b o ≡ Some f → node_at t f.0 ≡ Some (File f.1.0 f.1.1.0 f.1.1.1)
+file_of_is t b (Some (File cells links when)) f is h = let e : (b, (cells, (links, when))) ≡ f = ap (λ o. elim o as (λ x. ℕ × (List Cell × (ℕ × ℕ))) [ None ↦ f | Some g ↦ g ]) h in subst (λ g. node_at t g.0 ≡ Some (File g.1.0 g.1.1.0 g.1.1.1)) e is
 file_of_is t b (Some (Dir es n)) f is h = cc
 file_of_is t b (Some (Link target links)) f is h = cc
 file_of_is t b None f is h = cc
 
-pub file_at_is : (t : FileTree) (p : Place) (f : ℕ × (List Cell × ℕ)) → file_at t p ≡ Some f → node_at t f.0 ≡ Some (File f.1.0 f.1.1)
+pub file_at_is : (t : FileTree) (p : Place) (f : ℕ × (List Cell × (ℕ × ℕ))) → file_at t p ≡ Some f → node_at t f.0 ≡ Some (File f.1.0 f.1.1.0 f.1.1.1)
 file_at_is t Root f h = cc
 file_at_is t (Taken dir es n name b) f h = file_of_is t b (node_at t b) f refl h
 file_at_is t (Free dir es n name) f h = cc
@@ -61,16 +61,16 @@ makes_shaped A (op.CutAt k) b h = tt
 makes_shaped A op.Stall b h = tt
 
 module _ (A : Limits) where
-  step_well : (t : FileTree) → Well A t → (s : Step) (b m : ℕ) → IsNew t b → IsOf (λ q. Makes A q b) s → Well A (perform_step t s b m).tree
-  step_well t w (Goes o) b m new may = apply_well A t w o b m new may
-  step_well t w (Stops r) b m new may = w
+  step_well : (t : FileTree) → Well A t → (s : Step) (b when m : ℕ) → IsNew t b → IsOf (λ q. Makes A q b) s → Well A (perform_step t s b when m).tree
+  step_well t w (Goes o) b when m new may = apply_well A t w o b when m new may
+  step_well t w (Stops r) b when m new may = w
 
-  pub perform_well : (t : FileTree) → Well A t → (o : Op) (b m : ℕ) → IsNew t b → Makes A o b → Well A (perform t o b m).tree
-  perform_well t w o b m new may = step_well t w (resolved t o).step b m new (resolved_is (λ q. Makes A q b) t o (makes_shaped A o b may))
+  pub perform_well : (t : FileTree) → Well A t → (o : Op) (b when m : ℕ) → IsNew t b → Makes A o b → Well A (perform t o b when m).tree
+  perform_well t w o b when m new may = step_well t w (resolved t o).step b when m new (resolved_is (λ q. Makes A q b) t o (makes_shaped A o b may))
 
-  shown_well : (t : FileTree) → Well A t → (o : Option (ℕ × (List Cell × ℕ))) → ((f : ℕ × (List Cell × ℕ)) → o ≡ Some f → node_at t f.0 ≡ Some (File f.1.0 f.1.1)) → (off : ℕ) (bytes : List ℕ) → Well A (with_shown t o off bytes)
+  shown_well : (t : FileTree) → Well A t → (o : Option (ℕ × (List Cell × (ℕ × ℕ)))) → ((f : ℕ × (List Cell × (ℕ × ℕ))) → o ≡ Some f → node_at t f.0 ≡ Some (File f.1.0 f.1.1.0 f.1.1.1)) → (off : ℕ) (bytes : List ℕ) → Well A (with_shown t o off bytes)
   shown_well t w None is off bytes = w
-  shown_well t w (Some f) is off bytes = recelled_well A t w f.0 f.1.0 (overwritten f.1.0 off (map Byte bytes)) f.1.1 (is f refl)
+  shown_well t w (Some f) is off bytes = recelled_well A t w f.0 f.1.0 (overwritten f.1.0 off (map Byte bytes)) f.1.1.0 f.1.1.1 f.1.1.1 (is f refl)
 
   read_well : (t : FileTree) → Well A t → (o : Op) (r : Reply) → Well A (after_read t o r)
   read_well t w (op.Read path off len) (reply.Shown bytes) = shown_well t w (file_at t (place t path)) (λ f h. file_at_is t (place t path) f h) off bytes
@@ -86,12 +86,12 @@ module _ (A : Limits) where
     where
       go : (l a : Bool) → Well A (cond l t (cond a (after_step (applied t e).tree (resolved t e.op).step e.reply) t))
       go true a = w
-      go false true = read_step_well (applied t e).tree (perform_well t w e.op e.number.0 (told_blocks t e.reply) new may) (resolved t e.op).step e.reply
+      go false true = read_step_well (applied t e).tree (perform_well t w e.op e.number.0 e.when (told_blocks t e.reply) new may) (resolved t e.op).step e.reply
       go false false = w
 
-  doubted_file_well : (t : FileTree) → Well A t → (o : Option (ℕ × (List Cell × ℕ))) → ((f : ℕ × (List Cell × ℕ)) → o ≡ Some f → node_at t f.0 ≡ Some (File f.1.0 f.1.1)) → (from count : ℕ) → Well A (doubted_file t o from count)
+  doubted_file_well : (t : FileTree) → Well A t → (o : Option (ℕ × (List Cell × (ℕ × ℕ)))) → ((f : ℕ × (List Cell × (ℕ × ℕ))) → o ≡ Some f → node_at t f.0 ≡ Some (File f.1.0 f.1.1.0 f.1.1.1)) → (from count : ℕ) → Well A (doubted_file t o from count)
   doubted_file_well t w None is from count = w
-  doubted_file_well t w (Some f) is from count = recelled_well A t w f.0 f.1.0 (doubted_cells f.1.0 from count) f.1.1 (is f refl)
+  doubted_file_well t w (Some f) is from count = recelled_well A t w f.0 f.1.0 (doubted_cells f.1.0 from count) f.1.1.0 f.1.1.1 f.1.1.1 (is f refl)
 
   pub doubted_well : (t : FileTree) (runs : List CellRun) → Well A t → Well A (doubted t runs)
   doubted_well t [] w = w
@@ -104,7 +104,7 @@ anything = record { allowed = λ b k. Unit {0}; least = λ b. 0 }
 
 any_within : (b : ℕ) (z : Node) → Within anything b z
 any_within b (Dir es n) = (tt, (omega arith))
-any_within b (File cells links) = tt
+any_within b (File cells links when) = tt
 any_within b (Link target links) = tt
 
 well_any : (t : FileTree) → IsWellFormed t → Well anything t
@@ -116,11 +116,11 @@ makes_any (op.Mkdir path) b = (tt, le_refl 0)
 makes_any (op.Symlink path target) b = tt
 makes_any _ b = tt
 
-pub apply_keeps : (t : FileTree) (o : Op) (b m : ℕ) → IsWellFormed t → IsNew t b → IsWellFormed (apply t o b m).tree
-apply_keeps t o b m w new = (apply_well anything t (well_any t w) o b m new (makes_any o b)).well
+pub apply_keeps : (t : FileTree) (o : Op) (b when m : ℕ) → IsWellFormed t → IsNew t b → IsWellFormed (apply t o b when m).tree
+apply_keeps t o b when m w new = (apply_well anything t (well_any t w) o b when m new (makes_any o b)).well
 
-pub perform_keeps : (t : FileTree) (o : Op) (b m : ℕ) → IsWellFormed t → IsNew t b → IsWellFormed (perform t o b m).tree
-perform_keeps t o b m w new = (perform_well anything t (well_any t w) o b m new (makes_any o b)).well
+pub perform_keeps : (t : FileTree) (o : Op) (b when m : ℕ) → IsWellFormed t → IsNew t b → IsWellFormed (perform t o b when m).tree
+perform_keeps t o b when m w new = (perform_well anything t (well_any t w) o b when m new (makes_any o b)).well
 
 pub tree_after_keeps : (t : FileTree) (e : Entry) → IsWellFormed t → IsNew t e.number.0 → IsWellFormed (tree_after t e)
 tree_after_keeps t e w new = (tree_after_well anything t e (well_any t w) new (makes_any e.op e.number.0)).well
@@ -134,12 +134,12 @@ old_or t n = record { allowed = λ b k. (is_some (node_at t b) ≡ true) ⊎ (b 
 
 old_within : (t : FileTree) (n b : ℕ) (z : Node) → node_at t b ≡ Some z → Within (old_or t n) b z
 old_within t n b (Dir es k) is = (inl (ap is_some is), (omega arith))
-old_within t n b (File cells links) is = inl (ap is_some is)
+old_within t n b (File cells links when) is = inl (ap is_some is)
 old_within t n b (Link target links) is = inl (ap is_some is)
 
 within_old : (t : FileTree) (n b : ℕ) (z : Node) → Within (old_or t n) b z → (is_some (node_at t b) ≡ true) ⊎ (b ≡ n)
 within_old t n b (Dir es k) i = i.0
-within_old t n b (File cells links) i = i
+within_old t n b (File cells links when) i = i
 within_old t n b (Link target links) i = i
 
 makes_own : (t : FileTree) (o : Op) (b : ℕ) → Makes (old_or t b) o b
@@ -164,12 +164,12 @@ old_alone t = record { allowed = λ b k. is_some (node_at t b) ≡ true; least =
 
 alone_within : (t : FileTree) (b : ℕ) (z : Node) → node_at t b ≡ Some z → Within (old_alone t) b z
 alone_within t b (Dir es k) is = (ap is_some is, (omega arith))
-alone_within t b (File cells links) is = ap is_some is
+alone_within t b (File cells links when) is = ap is_some is
 alone_within t b (Link target links) is = ap is_some is
 
 within_alone : (t : FileTree) (b : ℕ) (z : Node) → Within (old_alone t) b z → is_some (node_at t b) ≡ true
 within_alone t b (Dir es k) i = i.0
-within_alone t b (File cells links) i = i
+within_alone t b (File cells links when) i = i
 within_alone t b (Link target links) i = i
 
 pub new_stays_doubted : (t : FileTree) (runs : List CellRun) (b : ℕ) → IsWellFormed t → IsNew t b → IsNew (doubted t runs) b

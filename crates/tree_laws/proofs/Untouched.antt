@@ -47,30 +47,30 @@ pub untouched_is_left : (tree : FileTree) (e : Entry) (b : ℕ) → is_answer tr
 untouched_is_left tree e b answered h = sym (alike_at tree (applied tree e).tree b (untouched_parts (is_answer tree e) (differs tree (applied tree e).tree b) (is_in b ((resolved tree e.op).trail ++ visited tree (resolved tree e.op).step e.reply)) answered h).0)
 
 -- the file that a read shows
-file_reached : (b : ℕ) (o : Option Node) (f : ℕ × (List Cell × ℕ)) → file_of b o ≡ Some f → is_in f.0 (reached_if file_node b o) ≡ true
-file_reached b (Some (File cells links)) f h = let e : b ≡ f.0 = ap (λ o. elim o as (λ x. ℕ) [ None ↦ b | Some g ↦ g.0 ]) h in subst (λ c. is_in c (b ∷ []) ≡ true) e (head_is_in b [])
+file_reached : (b : ℕ) (o : Option Node) (f : ℕ × (List Cell × (ℕ × ℕ))) → file_of b o ≡ Some f → is_in f.0 (reached_if file_node b o) ≡ true
+file_reached b (Some (File cells links when)) f h = let e : b ≡ f.0 = ap (λ o. elim o as (λ x. ℕ) [ None ↦ b | Some g ↦ g.0 ]) h in subst (λ c. is_in c (b ∷ []) ≡ true) e (head_is_in b [])
 file_reached b (Some (Dir es n)) f h = cc
 file_reached b (Some (Link target links)) f h = cc
 file_reached b None f h = cc
 
-pub file_at_reached : (tree : FileTree) (p : Place) (f : ℕ × (List Cell × ℕ)) → file_at tree p ≡ Some f → is_in f.0 (reached tree file_node p) ≡ true
+pub file_at_reached : (tree : FileTree) (p : Place) (f : ℕ × (List Cell × (ℕ × ℕ))) → file_at tree p ≡ Some f → is_in f.0 (reached tree file_node p) ≡ true
 file_at_reached tree Root f h = cc
 file_at_reached tree (Taken dir es n name b) f h = file_reached b (node_at tree b) f h
 file_at_reached tree (Free dir es n name) f h = cc
 file_at_reached tree (Nowhere r) f h = cc
 
-shown_leaves : (tree : FileTree) (o : Option (ℕ × (List Cell × ℕ))) (off : ℕ) (bytes : List ℕ) (b : ℕ) → ((f : ℕ × (List Cell × ℕ)) → o ≡ Some f → b ≢ f.0) → node_at (with_shown tree o off bytes) b ≡ node_at tree b
+shown_leaves : (tree : FileTree) (o : Option (ℕ × (List Cell × (ℕ × ℕ)))) (off : ℕ) (bytes : List ℕ) (b : ℕ) → ((f : ℕ × (List Cell × (ℕ × ℕ))) → o ≡ Some f → b ≢ f.0) → node_at (with_shown tree o off bytes) b ≡ node_at tree b
 shown_leaves tree None off bytes b n = refl
-shown_leaves tree (Some f) off bytes b n = with_other tree f.0 (File (overwritten f.1.0 off (map Byte bytes)) f.1.1) b (n f refl)
+shown_leaves tree (Some f) off bytes b n = with_other tree f.0 (File (overwritten f.1.0 off (map Byte bytes)) f.1.1.0 f.1.1.1) b (n f refl)
 
-read_leaves : (tree : FileTree) (o : Op) (r : Reply) (b birth m : ℕ) → is_in b (further tree o r) ≡ false → node_at (after_read (apply tree o birth m).tree o r) b ≡ node_at (apply tree o birth m).tree b
-read_leaves tree (op.Read path off len) (reply.Shown bytes) b birth m h =
-    let e = looks_leave tree (op.Read path off len) birth m refl in
+read_leaves : (tree : FileTree) (o : Op) (r : Reply) (b birth when m : ℕ) → is_in b (further tree o r) ≡ false → node_at (after_read (apply tree o birth when m).tree o r) b ≡ node_at (apply tree o birth when m).tree b
+read_leaves tree (op.Read path off len) (reply.Shown bytes) b birth when m h =
+    let e = looks_leave tree (op.Read path off len) birth when m refl in
     subst (λ t. node_at (with_shown t (file_at t (place t path)) off bytes) b ≡ node_at t b) (sym e)
     (shown_leaves tree (file_at tree (place tree path)) off bytes b
     (λ f i j. let w : is_in b (reached tree file_node (place tree path)) ≡ true = subst (λ c. is_in c (reached tree file_node (place tree path)) ≡ true) (sym j) (file_at_reached tree (place tree path) f i) in cc))
-read_leaves tree (op.Read path off len) _ b birth m h = refl
-read_leaves tree _ r b birth m h = refl
+read_leaves tree (op.Read path off len) _ b birth when m h = refl
+read_leaves tree _ r b birth when m h = refl
 
 not_in_right : (b : ℕ) (xs ys : List ℕ) → is_in b (xs ++ ys) ≡ false → is_in b ys ≡ false
 not_in_right b xs ys h = go (is_in b ys) refl
@@ -79,9 +79,9 @@ not_in_right b xs ys h = go (is_in b ys) refl
     go true e = let w : is_in b (xs ++ ys) ≡ true = in_right b xs ys e in cc
     go false e = e
 
-step_leaves : (tree : FileTree) (s : Step) (r : Reply) (b birth m : ℕ) → is_in b (visited tree s r) ≡ false → node_at (after_step (perform_step tree s birth m).tree s r) b ≡ node_at (perform_step tree s birth m).tree b
-step_leaves tree (Goes o) r b birth m h = read_leaves tree o r b birth m (not_in_right b (looked_in tree o) (further tree o r) h)
-step_leaves tree (Stops q) r b birth m h = refl
+step_leaves : (tree : FileTree) (s : Step) (r : Reply) (b birth when m : ℕ) → is_in b (visited tree s r) ≡ false → node_at (after_step (perform_step tree s birth when m).tree s r) b ≡ node_at (perform_step tree s birth when m).tree b
+step_leaves tree (Goes o) r b birth when m h = read_leaves tree o r b birth when m (not_in_right b (looked_in tree o) (further tree o r) h)
+step_leaves tree (Stops q) r b birth when m h = refl
 
 pub untouched_stays : (tree : FileTree) (e : Entry) (b : ℕ) → touches tree e b ≡ false → node_at (tree_after tree e) b ≡ node_at tree b
 untouched_stays tree e b h = go (leaves_tree e.op e.reply) (is_answer tree e) refl
@@ -91,4 +91,4 @@ untouched_stays tree e b h = go (leaves_tree e.op e.reply) (is_answer tree e) re
     go false false i = refl
     go false true i =
         let p = untouched_parts (is_answer tree e) (differs tree (applied tree e).tree b) (is_in b ((resolved tree e.op).trail ++ visited tree (resolved tree e.op).step e.reply)) i h in
-        step_leaves tree (resolved tree e.op).step e.reply b e.number.0 (told_blocks tree e.reply) (not_in_right b (resolved tree e.op).trail (visited tree (resolved tree e.op).step e.reply) p.1) ∙ untouched_is_left tree e b i h
+        step_leaves tree (resolved tree e.op).step e.reply b e.number.0 e.when (told_blocks tree e.reply) (not_in_right b (resolved tree e.op).trail (visited tree (resolved tree e.op).step e.reply) p.1) ∙ untouched_is_left tree e b i h

@@ -81,7 +81,7 @@ pub vague_nodes_trans : (a b c : Option Node) → Like vague a b → Like vague 
 vague_nodes_trans (Some (Dir es n)) b c l k = subst (λ z. Like vague z c) l k
 vague_nodes_trans (Some (Link target links)) b c l k = subst (λ z. Like vague z c) l k
 vague_nodes_trans None b c l k = subst (λ z. Like vague z c) l k
-vague_nodes_trans (Some (File cells links)) b c l k =
+vague_nodes_trans (Some (File cells links when)) b c l k =
     let m = subst (λ z. Like vague z c) l.1 k in (m.0, m.1, vague_trans cells l.0 m.0 l.2 m.2)
 
 -- bytes that were shown are sharper than the cells
@@ -125,16 +125,16 @@ doubted_like xs ys from count l =
 
 module _ (t u : FileTree) (r from count : ℕ) where
   doubt_here : (o q : Option Node) → node_at t r ≡ o → node_at u r ≡ q → Like vague o q → Like vague (node_at (doubted_file t (file_of r o) from count) r) (node_at (doubted_file u (file_of r q) from count) r)
-  doubt_here (Some (File cells links)) q i j l =
-      subst (λ z. Like vague (node_at (with_node t r (File (doubted_cells cells from count) links)) r) (node_at (doubted_file u (file_of r z) from count) r)) (sym l.1)
-      (subst (λ z. Like vague z (node_at (with_node u r (File (doubted_cells l.0 from count) links)) r)) (sym (with_same t r (File (doubted_cells cells from count) links)))
-      (doubted_cells l.0 from count, with_same u r (File (doubted_cells l.0 from count) links), doubted_like cells l.0 from count l.2))
+  doubt_here (Some (File cells links when)) q i j l =
+      subst (λ z. Like vague (node_at (with_node t r (File (doubted_cells cells from count) links when)) r) (node_at (doubted_file u (file_of r z) from count) r)) (sym l.1)
+      (subst (λ z. Like vague z (node_at (with_node u r (File (doubted_cells l.0 from count) links when)) r)) (sym (with_same t r (File (doubted_cells cells from count) links when)))
+      (doubted_cells l.0 from count, with_same u r (File (doubted_cells l.0 from count) links when), doubted_like cells l.0 from count l.2))
   doubt_here (Some (Dir es n)) q i j l = subst (λ z. Like vague (node_at t r) (node_at (doubted_file u (file_of r z) from count) r)) (sym l) (subst (λ z. Like vague z (node_at u r)) (sym i) (j ∙ l))
   doubt_here (Some (Link target links)) q i j l = subst (λ z. Like vague (node_at t r) (node_at (doubted_file u (file_of r z) from count) r)) (sym l) (subst (λ z. Like vague z (node_at u r)) (sym i) (j ∙ l))
   doubt_here None q i j l = subst (λ z. Like vague (node_at t r) (node_at (doubted_file u (file_of r z) from count) r)) (sym l) (subst (λ z. Like vague z (node_at u r)) (sym i) (j ∙ l))
 
 doubt_other : (t : FileTree) (r from count : ℕ) (o : Option Node) (b : ℕ) → b ≢ r → node_at (doubted_file t (file_of r o) from count) b ≡ node_at t b
-doubt_other t r from count (Some (File cells links)) b far = with_other t r (File (doubted_cells cells from count) links) b far
+doubt_other t r from count (Some (File cells links when)) b far = with_other t r (File (doubted_cells cells from count) links when) b far
 doubt_other t r from count (Some (Dir es n)) b far = refl
 doubt_other t r from count (Some (Link target links)) b far = refl
 doubt_other t r from count None b far = refl

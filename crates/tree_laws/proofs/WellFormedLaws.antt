@@ -136,7 +136,7 @@ module _ (A : Limits) (t : FileTree) (w : Well A t) where
         (λ e. name_given (one_link_more t b (node_at t b)) b h to fs m new (more_other (node_at t b) to far ∙ q.0) q.1)))
       where
         more_other : (o : Option Node) (c : ℕ) → c ≢ b → node_at (one_link_more t b o) c ≡ node_at t c
-        more_other (Some (File cells links)) c far = with_other t b (File cells (links + 1)) c far
+        more_other (Some (File cells links when)) c far = with_other t b (File cells (links + 1) when) c far
         more_other (Some (Link target links)) c far = with_other t b (Link target (links + 1)) c far
         more_other (Some (Dir es n)) c far = refl
         more_other None c far = refl
@@ -151,7 +151,7 @@ module _ (A : Limits) (t : FileTree) (w : Well A t) where
         paid A (one_link_fewer u b (node_at t b)) _ _ f (λ c. (let z : one_at c b ≡ one_at b c = one_sym c b in omega arith))
 
     plain_empty : (o : Option Node) → is_dir o ≡ false → has_entries o ≡ false
-    plain_empty (Some (File cells links)) f = refl
+    plain_empty (Some (File cells links when)) f = refl
     plain_empty (Some (Link target links)) f = refl
     plain_empty (Some (Dir es n)) f = absurd (cc)
     plain_empty None f = refl
@@ -169,7 +169,7 @@ module _ (A : Limits) (t : FileTree) (w : Well A t) where
 
         as_dir : (o : Option Node) → is_dir o ≡ true → (fs : Entries) × (m : ℕ) × (o ≡ Some (Dir fs m))
         as_dir (Some (Dir fs m)) e = (fs, m, refl)
-        as_dir (Some (File cells links)) e = absurd (cc)
+        as_dir (Some (File cells links when)) e = absurd (cc)
         as_dir (Some (Link target links)) e = absurd (cc)
         as_dir None e = absurd (cc)
 
@@ -212,36 +212,36 @@ module _ (A : Limits) (t : FileTree) (w : Well A t) where
     renamed_to_well path (Taken to fs m new old) q = if_well A (goes_through t path b) (says t reply.Inval) _ (λ e. w) (λ e. onto_well to fs m new old q)
     renamed_to_well path (Free to fs m new) q = if_well A (goes_through t path b) (says t reply.Inval) _ (λ e. w) (λ e. moved_to_well to fs m new q)
 
-  -- a file gets other cells
-  pub recelled_well : (b : ℕ) (cells new : List Cell) (links : ℕ) → node_at t b ≡ Some (File cells links) → Well A (with_node t b (File new links))
-  recelled_well b cells new links is =
+  -- a file gets other cells, at another time
+  pub recelled_well : (b : ℕ) (cells new : List Cell) (links old when : ℕ) → node_at t b ≡ Some (File cells links old) → Well A (with_node t b (File new links when))
+  recelled_well b cells new links old when is =
       let away : b ≢ 0 = λ e. (let r : is_dir (node_at t 0) ≡ true = w.well.rooted in let z : is_dir (node_at t 0) ≡ false = ap is_dir (ap (node_at t) (sym e) ∙ is) in cc) in
-      let h = links_put A t none_owed none_owed start b (File cells links) (File new links) is refl refl refl away 0 0 refl in
-      paid A (with_node t b (File new links)) _ _ h (λ c. refl)
+      let h = links_put A t none_owed none_owed start b (File cells links old) (File new links when) is refl refl refl away 0 0 refl in
+      paid A (with_node t b (File new links when)) _ _ h (λ c. refl)
 
-  file_well : (f : ℕ → List Cell → ℕ → Applied) → ((b : ℕ) (cells : List Cell) (links : ℕ) → node_at t b ≡ Some (File cells links) → Well A (f b cells links).tree) → (b : ℕ) (o : Option Node) → node_at t b ≡ o → Well A (if_file t f b o).tree
-  file_well f each b (Some (File cells links)) is = each b cells links is
+  file_well : (f : ℕ → List Cell → ℕ → ℕ → Applied) → ((b : ℕ) (cells : List Cell) (links when : ℕ) → node_at t b ≡ Some (File cells links when) → Well A (f b cells links when).tree) → (b : ℕ) (o : Option Node) → node_at t b ≡ o → Well A (if_file t f b o).tree
+  file_well f each b (Some (File cells links when)) is = each b cells links when is
   file_well f each b (Some (Dir es n)) is = w
   file_well f each b (Some (Link target links)) is = w
   file_well f each b None is = w
 
-  at_file_well : (f : ℕ → List Cell → ℕ → Applied) → ((b : ℕ) (cells : List Cell) (links : ℕ) → node_at t b ≡ Some (File cells links) → Well A (f b cells links).tree) → (p : Place) → Well A (at_file t p f).tree
+  at_file_well : (f : ℕ → List Cell → ℕ → ℕ → Applied) → ((b : ℕ) (cells : List Cell) (links when : ℕ) → node_at t b ≡ Some (File cells links when) → Well A (f b cells links when).tree) → (p : Place) → Well A (at_file t p f).tree
   at_file_well f each Root = file_well f each 0 (node_at t 0) refl
   at_file_well f each (Taken dir es n name b) = file_well f each b (node_at t b) refl
   at_file_well f each (Free dir es n name) = w
   at_file_well f each (Nowhere r) = w
 
-  written_well : (m b : ℕ) (cells : List Cell) (links off len : ℕ) (put : List Cell → List Cell) → node_at t b ≡ Some (File cells links) → Well A (written t m b cells links off len put).tree
-  written_well m b cells links off len put is =
+  written_well : (m b : ℕ) (cells : List Cell) (links old when off len : ℕ) (put : List Cell → List Cell) → node_at t b ≡ Some (File cells links old) → Well A (written t m b cells links when off len put).tree
+  written_well m b cells links old when off len put is =
       let size = max (length cells) (off + len) in
       if_well A (nat_lt (length cells) off) (says t reply.BadOffset) _ (λ e. w)
       (λ e. if_well A (nat_lt 1114112 (off + len)) (says t reply.TooBig) _ (λ e. w)
       (λ e. if_well A (nat_lt (large_blocks_of (length cells)) (large_blocks_of size) && larges_full t) (says t reply.NoLarge) _ (λ e. w)
-      (λ e. if_well A (nat_lt (1024 * t.segments - m) (count_of file_blocks t + (small_blocks_of size - small_blocks_of (length cells)))) (says t (reply.NoBlock m)) (says (with_node t b (File (put cells) links)) reply.Ok) (λ e. w)
-      (λ e. recelled_well b cells (put cells) links is))))
+      (λ e. if_well A (nat_lt (1024 * t.segments - m) (count_of file_blocks t + (small_blocks_of size - small_blocks_of (length cells)))) (says t (reply.NoBlock m)) (says (with_node t b (File (put cells) links when)) reply.Ok) (λ e. w)
+      (λ e. recelled_well b cells (put cells) links old when is))))
 
-  truncated_well : (b : ℕ) (cells : List Cell) (links len : ℕ) → node_at t b ≡ Some (File cells links) → Well A (truncated t b cells links len).tree
-  truncated_well b cells links len is = if_well A (nat_lt (length cells) len) (says t reply.BadOffset) (says (with_node t b (File (take len cells) links)) reply.Ok) (λ e. w) (λ e. recelled_well b cells (take len cells) links is)
+  truncated_well : (b : ℕ) (cells : List Cell) (links old when len : ℕ) → node_at t b ≡ Some (File cells links old) → Well A (truncated t b cells links when len).tree
+  truncated_well b cells links old when len is = if_well A (nat_lt (length cells) len) (says t reply.BadOffset) (says (with_node t b (File (take len cells) links when)) reply.Ok) (λ e. w) (λ e. recelled_well b cells (take len cells) links old when is)
 
   linked_well : (p to : Place) → Stands t p → Stands t to → Well A (linked t p to).tree
   linked_well Root to s q = w
@@ -272,29 +272,29 @@ module _ (A : Limits) (t : FileTree) (w : Well A t) where
   renamed_well (n ∷ ns) [] = w
   renamed_well (n ∷ ns) (m ∷ ms) = renamed_from_well (place t (n ∷ ns)) (m ∷ ms) (place_stands t (n ∷ ns))
 
-  looked_well : (o : Op) (b m : ℕ) → is_look o ≡ true → Well A (apply t o b m).tree
-  looked_well o b m h = subst (λ u. Well A u) (sym (looks_leave t o b m h)) w
+  looked_well : (o : Op) (b when m : ℕ) → is_look o ≡ true → Well A (apply t o b when m).tree
+  looked_well o b when m h = subst (λ u. Well A u) (sym (looks_leave t o b when m h)) w
 
-  pub apply_well : (o : Op) (b m : ℕ) → IsNew t b → Makes A o b → Well A (apply t o b m).tree
-  apply_well (op.Create path) b m new may = made_well b (File [] 1) new (λ c. refl) (λ es n e. cc) refl may (place t path) (place_stands t path)
-  apply_well (op.Mkdir path) b m new may = made_well b (Dir [] 0) new (λ c. refl) (λ es n e. (let i : [] ≡ es = cc in subst (λ l. IsStrictlySortedBy (slice_cmp nat_cmp) (keys_of l)) i none_sorted)) refl may (place t path) (place_stands t path)
-  apply_well (op.Symlink path target) b m new may = made_well b (Link target 1) new (λ c. refl) (λ es n e. cc) refl may (place t path) (place_stands t path)
-  apply_well (op.Link path to) b m new may = linked_well (place t path) (place t to) (place_stands t path) (place_stands t to)
-  apply_well (op.Unlink path) b m new may = unlink_well (place t path) (place_stands t path)
-  apply_well (op.Rmdir path) b m new may = rmdir_well (place t path) (place_stands t path)
-  apply_well (op.Rename path to) b m new may = renamed_well path to
-  apply_well (op.Write path off bytes) b m new may = at_file_well (λ b cells links. written t m b cells links off (length bytes) (λ old. overwritten old off (map Byte bytes))) (λ b cells links is. written_well m b cells links off (length bytes) (λ old. overwritten old off (map Byte bytes)) is) (place t path)
-  apply_well (op.Fill path off len byte) b m new may = at_file_well (λ b cells links. written t m b cells links off len (λ old. overwritten old off (replicate len (Byte byte)))) (λ b cells links is. written_well m b cells links off len (λ old. overwritten old off (replicate len (Byte byte))) is) (place t path)
-  apply_well (op.Truncate path len) b m new may = at_file_well (λ b cells links. truncated t b cells links len) (λ b cells links is. truncated_well b cells links len is) (place t path)
-  apply_well (op.Read path off len) b m new may = looked_well (op.Read path off len) b m refl
-  apply_well (op.Stat path) b m new may = looked_well (op.Stat path) b m refl
-  apply_well (op.List path) b m new may = looked_well (op.List path) b m refl
-  apply_well (op.Readlink path) b m new may = looked_well (op.Readlink path) b m refl
-  apply_well (op.Time path) b m new may = looked_well (op.Time path) b m refl
-  apply_well op.Sync b m new may = w
-  apply_well op.Mount b m new may = w
-  apply_well op.Unmount b m new may = w
-  apply_well op.Crash b m new may = w
-  apply_well (op.CrashAt k) b m new may = w
-  apply_well (op.CutAt k) b m new may = w
-  apply_well op.Stall b m new may = w
+  pub apply_well : (o : Op) (b when m : ℕ) → IsNew t b → Makes A o b → Well A (apply t o b when m).tree
+  apply_well (op.Create path) b when m new may = made_well b (File [] 1 0) new (λ c. refl) (λ es n e. cc) refl may (place t path) (place_stands t path)
+  apply_well (op.Mkdir path) b when m new may = made_well b (Dir [] 0) new (λ c. refl) (λ es n e. (let i : [] ≡ es = cc in subst (λ l. IsStrictlySortedBy (slice_cmp nat_cmp) (keys_of l)) i none_sorted)) refl may (place t path) (place_stands t path)
+  apply_well (op.Symlink path target) b when m new may = made_well b (Link target 1) new (λ c. refl) (λ es n e. cc) refl may (place t path) (place_stands t path)
+  apply_well (op.Link path to) b when m new may = linked_well (place t path) (place t to) (place_stands t path) (place_stands t to)
+  apply_well (op.Unlink path) b when m new may = unlink_well (place t path) (place_stands t path)
+  apply_well (op.Rmdir path) b when m new may = rmdir_well (place t path) (place_stands t path)
+  apply_well (op.Rename path to) b when m new may = renamed_well path to
+  apply_well (op.Write path off bytes) b when m new may = at_file_well (λ b cells links old. written t m b cells links when off (length bytes) (λ all. overwritten all off (map Byte bytes))) (λ b cells links old is. written_well m b cells links old when off (length bytes) (λ all. overwritten all off (map Byte bytes)) is) (place t path)
+  apply_well (op.Fill path off len byte) b when m new may = at_file_well (λ b cells links old. written t m b cells links when off len (λ all. overwritten all off (replicate len (Byte byte)))) (λ b cells links old is. written_well m b cells links old when off len (λ all. overwritten all off (replicate len (Byte byte))) is) (place t path)
+  apply_well (op.Truncate path len) b when m new may = at_file_well (λ b cells links old. truncated t b cells links when len) (λ b cells links old is. truncated_well b cells links old when len is) (place t path)
+  apply_well (op.Read path off len) b when m new may = looked_well (op.Read path off len) b when m refl
+  apply_well (op.Stat path) b when m new may = looked_well (op.Stat path) b when m refl
+  apply_well (op.List path) b when m new may = looked_well (op.List path) b when m refl
+  apply_well (op.Readlink path) b when m new may = looked_well (op.Readlink path) b when m refl
+  apply_well (op.Time path) b when m new may = looked_well (op.Time path) b when m refl
+  apply_well op.Sync b when m new may = w
+  apply_well op.Mount b when m new may = w
+  apply_well op.Unmount b when m new may = w
+  apply_well op.Crash b when m new may = w
+  apply_well (op.CrashAt k) b when m new may = w
+  apply_well (op.CutAt k) b when m new may = w
+  apply_well op.Stall b when m new may = w

@@ -29,20 +29,20 @@ may_free _ = false
 
 -- what makes a node and is answered `ok` makes one
 abbrev pub MakesOneNode : Type 0
-MakesOneNode = (tree : FileTree) (o : Op) (birth m : ℕ) → IsWellFormed tree → IsNew tree birth → makes_node o ≡ true → (apply tree o birth m).answer ≡ Plain reply.Ok → length (apply tree o birth m).tree.nodes ≡ length tree.nodes + 1
+MakesOneNode = (tree : FileTree) (o : Op) (birth when m : ℕ) → IsWellFormed tree → IsNew tree birth → makes_node o ≡ true → (apply tree o birth when m).answer ≡ Plain reply.Ok → length (apply tree o birth when m).tree.nodes ≡ length tree.nodes + 1
 
 -- what may free a node frees at most one
 abbrev pub FreesAtMostOneNode : Type 0
-FreesAtMostOneNode = (tree : FileTree) (o : Op) (birth m : ℕ) → IsWellFormed tree → may_free o ≡ true → (length (apply tree o birth m).tree.nodes ≡ length tree.nodes) ⊎ (length (apply tree o birth m).tree.nodes + 1 ≡ length tree.nodes)
+FreesAtMostOneNode = (tree : FileTree) (o : Op) (birth when m : ℕ) → IsWellFormed tree → may_free o ≡ true → (length (apply tree o birth when m).tree.nodes ≡ length tree.nodes) ⊎ (length (apply tree o birth when m).tree.nodes + 1 ≡ length tree.nodes)
 
 -- no other operation changes the number of nodes
 abbrev pub KeepsTheNodes : Type 0
-KeepsTheNodes = (tree : FileTree) (o : Op) (birth m : ℕ) → IsWellFormed tree → makes_node o ≡ false → may_free o ≡ false → length (apply tree o birth m).tree.nodes ≡ length tree.nodes
+KeepsTheNodes = (tree : FileTree) (o : Op) (birth when m : ℕ) → IsWellFormed tree → makes_node o ≡ false → may_free o ≡ false → length (apply tree o birth when m).tree.nodes ≡ length tree.nodes
 
 -- the blocks of a directory never become fewer while it lives
 abbrev pub BlocksNeverFall : Type 0
-BlocksNeverFall = (tree : FileTree) (o : Op) (birth m : ℕ) → IsWellFormed tree → IsNew tree birth → (dir : ℕ) (before now : Entries) (blocks grown : ℕ)
-    → node_at tree dir ≡ Some (Dir before blocks) → node_at (apply tree o birth m).tree dir ≡ Some (Dir now grown) → blocks ≤ grown
+BlocksNeverFall = (tree : FileTree) (o : Op) (birth when m : ℕ) → IsWellFormed tree → IsNew tree birth → (dir : ℕ) (before now : Entries) (blocks grown : ℕ)
+    → node_at tree dir ≡ Some (Dir before blocks) → node_at (apply tree o birth when m).tree dir ≡ Some (Dir now grown) → blocks ≤ grown
 
 -- a look changes no node
 abbrev pub LooksChangeNothing : Type 0

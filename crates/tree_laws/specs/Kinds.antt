@@ -49,7 +49,7 @@ ToldKindsAgree = (kinds : ℕ → Kind) (one two : FileTree) → HasKinds kinds 
 
 -- an operation that makes the told kind leaves the kinds told
 abbrev pub ApplyKeepsKinds : Type 0
-ApplyKeepsKinds = (kinds : ℕ → Kind) (tree : FileTree) (o : Op) (birth m : ℕ) → IsWellFormed tree → IsNew tree birth → HasKinds kinds tree → MakesToldKind kinds o birth → HasKinds kinds (apply tree o birth m).tree
+ApplyKeepsKinds = (kinds : ℕ → Kind) (tree : FileTree) (o : Op) (birth when m : ℕ) → IsWellFormed tree → IsNew tree birth → HasKinds kinds tree → MakesToldKind kinds o birth → HasKinds kinds (apply tree o birth when m).tree
 
 -- so does a list of steps
 abbrev pub StepsKeepKinds : Type 0

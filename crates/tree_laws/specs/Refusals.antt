@@ -23,16 +23,16 @@ is_look _ = false
 
 -- an answer other than `ok` leaves the tree
 abbrev pub RefusalsLeaveTheTree : Type 0
-RefusalsLeaveTheTree = (tree : FileTree) (op : Op) (birth m : ℕ) → says_ok (apply tree op birth m).answer ≡ false → (apply tree op birth m).tree ≡ tree
+RefusalsLeaveTheTree = (tree : FileTree) (op : Op) (birth when m : ℕ) → says_ok (apply tree op birth when m).answer ≡ false → (apply tree op birth when m).tree ≡ tree
 
 -- a look leaves the tree, whatever it is answered
 abbrev pub LooksLeaveTheTree : Type 0
-LooksLeaveTheTree = (tree : FileTree) (op : Op) (birth m : ℕ) → is_look op ≡ true → (apply tree op birth m).tree ≡ tree
+LooksLeaveTheTree = (tree : FileTree) (op : Op) (birth when m : ℕ) → is_look op ≡ true → (apply tree op birth when m).tree ≡ tree
 
 -- an answer other than `ok` leaves the tree, where links are followed too
 abbrev pub PerformedRefusalsLeaveTheTree : Type 0
-PerformedRefusalsLeaveTheTree = (tree : FileTree) (op : Op) (birth m : ℕ) → says_ok (perform tree op birth m).answer ≡ false → (perform tree op birth m).tree ≡ tree
+PerformedRefusalsLeaveTheTree = (tree : FileTree) (op : Op) (birth when m : ℕ) → says_ok (perform tree op birth when m).answer ≡ false → (perform tree op birth when m).tree ≡ tree
 
 -- and so does a look
 abbrev pub PerformedLooksLeaveTheTree : Type 0
-PerformedLooksLeaveTheTree = (tree : FileTree) (op : Op) (birth m : ℕ) → is_look op ≡ true → (perform tree op birth m).tree ≡ tree
+PerformedLooksLeaveTheTree = (tree : FileTree) (op : Op) (birth when m : ℕ) → is_look op ≡ true → (perform tree op birth when m).tree ≡ tree

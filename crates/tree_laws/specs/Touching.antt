@@ -19,7 +19,7 @@ pub data Kind : Type 0 where
 -- of what kind a node is
 abbrev pub kind_of : Node → Kind
 kind_of (Dir entries blocks) = OfDirectory
-kind_of (File cells links) = OfFile
+kind_of (File cells links when) = OfFile
 kind_of (Link target links) = OfLink
 
 -- where both trees have a node of a birth, it is of one kind

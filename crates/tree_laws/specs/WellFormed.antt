@@ -38,7 +38,7 @@ one_at birth b = if b == birth then 1 else 0
 -- how many entries of a node have this birth
 abbrev pub names_in : ℕ → Node → ℕ
 names_in birth (Dir entries blocks) = sum_by (one_at birth) (values_of entries)
-names_in birth (File cells links) = 0
+names_in birth (File cells links when) = 0
 names_in birth (Link target links) = 0
 
 -- how many entries of the tree have this birth
@@ -91,7 +91,7 @@ MissesWhatWasTaken = (tree : FileTree) (birth b : ℕ) → BirthsAscend tree →
 
 -- births stay in order, whatever is applied, at whatever birth
 abbrev pub ApplyKeepsOrder : Type 0
-ApplyKeepsOrder = (tree : FileTree) (o : Op) (birth m : ℕ) → BirthsAscend tree → BirthsAscend (apply tree o birth m).tree
+ApplyKeepsOrder = (tree : FileTree) (o : Op) (birth when m : ℕ) → BirthsAscend tree → BirthsAscend (apply tree o birth when m).tree
 
 -- and whatever list of steps follows, legal or not
 abbrev pub StepsKeepOrder : Type 0
@@ -103,11 +103,11 @@ FreshIsWellFormed = (segments : ℕ) → IsWellFormed (fresh segments)
 
 -- an operation at a new birth leaves a well-formed tree so
 abbrev pub ApplyKeepsWellFormed : Type 0
-ApplyKeepsWellFormed = (tree : FileTree) (op : Op) (birth m : ℕ) → IsWellFormed tree → IsNew tree birth → IsWellFormed (apply tree op birth m).tree
+ApplyKeepsWellFormed = (tree : FileTree) (op : Op) (birth when m : ℕ) → IsWellFormed tree → IsNew tree birth → IsWellFormed (apply tree op birth when m).tree
 
 -- and so does one whose paths lead through links
 abbrev pub PerformKeepsWellFormed : Type 0
-PerformKeepsWellFormed = (tree : FileTree) (op : Op) (birth m : ℕ) → IsWellFormed tree → IsNew tree birth → IsWellFormed (perform tree op birth m).tree
+PerformKeepsWellFormed = (tree : FileTree) (op : Op) (birth when m : ℕ) → IsWellFormed tree → IsNew tree birth → IsWellFormed (perform tree op birth when m).tree
 
 -- the steps of a list with new numbers leave a well-formed tree so
 abbrev pub StepsKeepWellFormed : Type 0

@@ -28,8 +28,8 @@ shapes_same [] (d ∷ ds) = grind (arith, nat_tests)
 shapes_same (c ∷ cs) [] = grind (arith, nat_tests)
 shapes_same (c ∷ cs) (d ∷ ds) = shapes_same cs ds ∙ grind (arith, nat_tests)
 
-pub files_same : (cs ds : List Cell) (n m : ℕ) → same_node (node_shape (File cs n)) (node_shape (File ds m)) ≡ (nat_eq (length cs) (length ds) && nat_eq n m)
-files_same cs ds n m = ap (λ b. b && nat_eq n m) (shapes_same cs ds)
+pub files_same : (cs ds : List Cell) (n m w v : ℕ) → same_node (node_shape (File cs n w)) (node_shape (File ds m v)) ≡ (nat_eq (length cs) (length ds) && nat_eq n m && nat_eq w v)
+files_same cs ds n m w v = ap (λ b. b && nat_eq n m && nat_eq w v) (shapes_same cs ds)
 
 -- the shape of a node is that of the tree
 pub node_at_shape : (tree : FileTree) (birth : ℕ) → node_at (shape_of tree) birth ≡ option_map node_shape (node_at tree birth)

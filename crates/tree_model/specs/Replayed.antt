@@ -25,14 +25,14 @@ abbrev pub done_by : Applied → Reply → Option FileTree
 done_by a r = if agrees a.answer r then Some a.tree else None
 
 -- after an operation that is done again: one that is answered otherwise leaves the tree
-abbrev pub after_redo : FileTree → Op → ℕ → Reply → FileTree
-after_redo tree o number r = let a = apply tree o number (told_blocks tree r) in if agrees a.answer r then a.tree else tree
+abbrev pub after_redo : FileTree → Op → ℕ → ℕ → Reply → FileTree
+after_redo tree o number when r = let a = apply tree o number when (told_blocks tree r) in if agrees a.answer r then a.tree else tree
 
 -- what an operation comes to, done again
-abbrev pub after_step_redo : FileTree → Step → ℕ → Reply → FileTree
-after_step_redo tree (Goes (op.Read path off len)) number r = after_reading tree path off len r
-after_step_redo tree (Goes o) number r = after_redo tree o number r
-after_step_redo tree (Stops q) number r = tree
+abbrev pub after_step_redo : FileTree → Step → ℕ → ℕ → Reply → FileTree
+after_step_redo tree (Goes (op.Read path off len)) number when r = after_reading tree path off len r
+after_step_redo tree (Goes o) number when r = after_redo tree o number when r
+after_step_redo tree (Stops q) number when r = tree
 
 -- an operation whose target, where it has one, is in the grammar of scripts
 abbrev pub is_within : Op → Bool

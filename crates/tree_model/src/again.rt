@@ -35,7 +35,7 @@ fn shows(cells: &[Cell], reply: &Reply) -> bool
 
 // Whether a read of a path is answered so.
 fn reads(tree: &Tree, path: &[Name], off: u32, len: u32, reply: &Reply) -> bool
-    ensures { result ≡ agrees (at_file tree.now (place tree.now path.now) (λ b cells links. shown tree.now cells off len)).answer reply.now }
+    ensures { result ≡ agrees (at_file tree.now (place tree.now path.now) (λ b cells links at. shown tree.now cells off len)).answer reply.now }
 {
     match tree.read_at(path, off, len) {
         Ok(cells) => shows(cells, reply),
@@ -51,7 +51,7 @@ fn read_answered(
     len: u32,
     reply: &Reply,
 ) -> Result<Option<Tree>, NoMemory>
-    ensures { (number m : ℕ) → IfOk result (λ next. next ≡ done_by (apply tree.now (Op.Read path.now off len) number m) reply.now) }
+    ensures { (number when m : ℕ) → IfOk result (λ next. next ≡ done_by (apply tree.now (Op.Read path.now off len) number when m) reply.now) }
 {
     if !reads(tree, path, off, len, reply) {
         return Ok(None);
@@ -64,14 +64,15 @@ pub fn done_again(
     tree: &Tree,
     op: &Op,
     number: OpNo,
+    when: u64,
     reply: &Reply,
 ) -> Result<Option<Tree>, NoMemory>
     requires { CanApply tree.now op.now }
-    ensures { IfOk result (λ next. next ≡ done_by (apply tree.now op.now number.0 (told_blocks tree.now reply.now)) reply.now) }
+    ensures { IfOk result (λ next. next ≡ done_by (apply tree.now op.now number.0 when (told_blocks tree.now reply.now)) reply.now) }
 {
     let m = told_blocks(tree, reply);
     let mut next = tree.try_copy()?;
-    let answer = next.apply(op, number, m)?;
+    let answer = next.apply(op, number, when, m)?;
     if !same_reply(&answer, reply) {
         return Ok(None);
     }
@@ -79,14 +80,20 @@ pub fn done_again(
 }
 
 // The tree after an operation over paths without links, where its reply is its answer.
-fn op_answered(tree: &Tree, op: &Op, number: OpNo, reply: &Reply) -> Result<Option<Tree>, NoMemory>
+fn op_answered(
+    tree: &Tree,
+    op: &Op,
+    number: OpNo,
+    when: u64,
+    reply: &Reply,
+) -> Result<Option<Tree>, NoMemory>
     requires has_path { is_path_op op.now ≡ true }
     requires within { is_within op.now ≡ true }
-    ensures { IfOk result (λ next. next ≡ done_by (apply tree.now op.now number.0 (told_blocks tree.now reply.now)) reply.now) }
+    ensures { IfOk result (λ next. next ≡ done_by (apply tree.now op.now number.0 when (told_blocks tree.now reply.now)) reply.now) }
 {
     match op {
         Op::Read { path, off, len } => read_answered(tree, path.as_slice(), *off, *len, reply),
-        _ => done_again(tree, op, number, reply),
+        _ => done_again(tree, op, number, when, reply),
     }
 }
 
@@ -95,13 +102,14 @@ fn step_answered(
     tree: &Tree,
     step: &Step,
     number: OpNo,
+    when: u64,
     reply: &Reply,
 ) -> Result<Option<Tree>, NoMemory>
     requires { IsPathStep (step_by step.now) }
-    ensures { IfOk result (λ next. next ≡ done_by (perform_step tree.now (step_by step.now) number.0 (told_blocks tree.now reply.now)) reply.now) }
+    ensures { IfOk result (λ next. next ≡ done_by (perform_step tree.now (step_by step.now) number.0 when (told_blocks tree.now reply.now)) reply.now) }
 {
     match step {
-        Step::Goes(op) => op_answered(tree, op, number, reply),
+        Step::Goes(op) => op_answered(tree, op, number, when, reply),
         Step::Stops(refusal) => {
             if !same_reply(&refusal.reply(), reply) {
                 return Ok(None);
@@ -136,5 +144,5 @@ pub fn answered(tree: &Tree, entry: &Entry) -> Result<Option<Tree>, NoMemory>
         return Ok(None);
     }
     let resolved = tree.resolved(&entry.op)?;
-    step_answered(tree, &resolved.step, entry.number, &entry.reply)
+    step_answered(tree, &resolved.step, entry.number, entry.when, &entry.reply)
 }

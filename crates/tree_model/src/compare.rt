@@ -32,12 +32,13 @@ fn same_node(a: &Node, b: &Node) -> bool
             },
         ) => same_entries(entries, others) && *blocks == *n,
         (
-            Node::File { cells, links },
+            Node::File { cells, links, when },
             Node::File {
                 cells: others,
                 links: n,
+                when: at,
             },
-        ) => same_cells(cells, others) && *links == *n,
+        ) => same_cells(cells, others) && *links == *n && *when == *at,
         (
             Node::Link { target, links },
             Node::Link {
@@ -55,12 +56,13 @@ fn same_shape(a: &Node, b: &Node) -> bool
 {
     match (a, b) {
         (
-            Node::File { cells, links },
+            Node::File { cells, links, when },
             Node::File {
                 cells: others,
                 links: n,
+                when: at,
             },
-        ) => cells.len() == others.len() && *links == *n,
+        ) => cells.len() == others.len() && *links == *n && *when == *at,
         _ => same_node(a, b),
     }
 }

@@ -10,7 +10,7 @@ ghost use Rattle.tree_model.specs.Steps.{entry_of, doubtful_by};
 
 use crate::Tree;
 use crate::steps::{SECTOR_BYTES, Step as Settled, any_mounts};
-use crate::touch::touches;
+use crate::touch::{is_ok, touches};
 use file_tree::Step;
 use frang_base::{Name, NoMemory, Op, Reply, ServerId};
 use tree_definitions::Entry;
@@ -48,12 +48,6 @@ fn size_at(tree: &Tree, path: &[Name]) -> usize
         Some(file) => file.cells.len(),
         None => 0,
     }
-}
-
-fn is_ok(reply: &Reply) -> bool
-    ensures { result ≡ is_ok reply.now }
-{
-    matches!(reply, Reply::Ok)
 }
 
 fn is_sync(op: &Op) -> bool

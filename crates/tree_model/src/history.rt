@@ -1,8 +1,12 @@
 // The history that is read off the lines said.
-ghost use Rattle.std.specs.Prelude.{◌≡◌, ◌++◌, IfOk, OnOk, OnErr};
+ghost use Rattle.std.specs.Prelude.{◌≡◌, ◌<◌, ◌++◌, IfOk, OnOk, OnErr};
+ghost use Rattle.frang_base.specs.declared.limits.TheConstants.{RUN_TICKS_END};
 ghost use Rattle.std.specs.Option.{option_copied};
+ghost use Rattle.script_definitions.specs.Ticks.{all_ticks};
 ghost use Rattle.tree_definitions.specs.Live.{item_of, item_of_line, line_of, live_history, drop_after};
 
+use crate::times::script_time;
+use frang_base::limits::RUN_TICKS_END;
 use frang_base::{Line, NoMemory, OpNo, Reply, Said, Script, ServerId, What};
 use std::alloc::Global;
 use std::marker::Model;
@@ -35,10 +39,12 @@ fn push_answer(
     run: u32,
     server: ServerId,
     number: u32,
+    ticks: u64,
     reply: &Reply,
     items: &mut Vec<Item>,
 ) -> Result<(), NoMemory>
-    ensures { OnOk result (items.new.items ≡ items.old.items ++ item_of_line run server reply.now number (option_copied line.entry)) }
+    requires { ticks < RUN_TICKS_END }
+    ensures { OnOk result (items.new.items ≡ items.old.items ++ item_of_line run server reply.now number ticks (option_copied line.entry)) }
 {
     let Some(line) = line else {
         return Ok(());
@@ -49,6 +55,7 @@ fn push_answer(
             items.push(Item::Did(Entry {
                 server,
                 number,
+                when: u64::from(run) * RUN_TICKS_END + ticks,
                 op: op.try_copy()?,
                 reply: reply.try_copy()?,
             }))?;
@@ -60,6 +67,7 @@ fn push_answer(
 
 // Adds what a said line tells.
 fn push_item(script: &[Line], run: u32, said: &Said, items: &mut Vec<Item>) -> Result<(), NoMemory>
+    requires { all_ticks script.now < RUN_TICKS_END }
     ensures { OnOk result (items.new.items ≡ items.old.items ++ item_of script.now run said.now) }
 {
     match said {
@@ -67,7 +75,15 @@ fn push_item(script: &[Line], run: u32, said: &Said, items: &mut Vec<Item>) -> R
             server,
             line,
             reply,
-        } => push_answer(line_of(script, *line), run, *server, *line, reply, items),
+        } => push_answer(
+            line_of(script, *line),
+            run,
+            *server,
+            *line,
+            script_time(script, *line),
+            reply,
+            items,
+        ),
         Said::Recovered { server, keeps } => {
             items.push(Item::Recovered {
                 server: *server,
@@ -88,13 +104,14 @@ fn push_item(script: &[Line], run: u32, said: &Said, items: &mut Vec<Item>) -> R
 }
 
 impl History {
-    /// The history that is read off the lines said of a script, in a run of this number.
+    /// The history that is read off the lines said of a script that has times, in a run of this number.
     pub fn live(
         alloc: Global,
         script: &Script,
         run: u32,
         said: &[Said],
     ) -> Result<History, NoMemory>
+        requires { all_ticks script.now < RUN_TICKS_END }
         ensures { IfOk result (λ history. history ≡ live_history script.now run said.now) }
     {
         let mut items = Vec::new(alloc);

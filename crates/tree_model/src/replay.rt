@@ -53,35 +53,41 @@ fn read_again(
 }
 
 // An operation over paths without links, done again; one that is answered otherwise than before leaves the tree.
-fn redo(tree: &mut Tree, op: &Op, number: OpNo, reply: &Reply) -> Result<(), NoMemory>
+fn redo(tree: &mut Tree, op: &Op, number: OpNo, when: u64, reply: &Reply) -> Result<(), NoMemory>
     requires { CanApply tree.old op.now }
-    ensures ok { OnOk result (tree.new ≡ after_redo tree.old op.now number.0 reply.now) }
+    ensures ok { OnOk result (tree.new ≡ after_redo tree.old op.now number.0 when reply.now) }
 {
-    if let Some(next) = done_again(tree, op, number, reply)? {
+    if let Some(next) = done_again(tree, op, number, when, reply)? {
         *tree = next;
     }
     Ok(())
 }
 
 // An operation over paths without links, done again, a read too.
-fn redo_op(tree: &mut Tree, op: &Op, number: OpNo, reply: &Reply) -> Result<(), NoMemory>
+fn redo_op(tree: &mut Tree, op: &Op, number: OpNo, when: u64, reply: &Reply) -> Result<(), NoMemory>
     requires has_path { is_path_op op.now ≡ true }
     requires within { is_within op.now ≡ true }
-    ensures ok { OnOk result (tree.new ≡ after_step_redo tree.old (Goes op.now) number.0 reply.now) }
+    ensures ok { OnOk result (tree.new ≡ after_step_redo tree.old (Goes op.now) number.0 when reply.now) }
 {
     match op {
         Op::Read { path, off, len } => read_again(tree, path.as_slice(), *off, *len, reply),
-        _ => redo(tree, op, number, reply),
+        _ => redo(tree, op, number, when, reply),
     }
 }
 
 // What an operation comes to, done again.
-fn redo_step(tree: &mut Tree, step: &Step, number: OpNo, reply: &Reply) -> Result<(), NoMemory>
+fn redo_step(
+    tree: &mut Tree,
+    step: &Step,
+    number: OpNo,
+    when: u64,
+    reply: &Reply,
+) -> Result<(), NoMemory>
     requires { IsPathStep (step_by step.now) }
-    ensures ok { OnOk result (tree.new ≡ after_step_redo tree.old (step_by step.now) number.0 reply.now) }
+    ensures ok { OnOk result (tree.new ≡ after_step_redo tree.old (step_by step.now) number.0 when reply.now) }
 {
     match step {
-        Step::Goes(op) => redo_op(tree, op, number, reply),
+        Step::Goes(op) => redo_op(tree, op, number, when, reply),
         Step::Stops(_) => Ok(()),
     }
 }
@@ -95,7 +101,7 @@ pub fn tree_after(tree: &mut Tree, entry: &Entry) -> Result<(), NoMemory>
         return Ok(());
     }
     let resolved = tree.resolved(&entry.op)?;
-    redo_step(tree, &resolved.step, entry.number, &entry.reply)
+    redo_step(tree, &resolved.step, entry.number, entry.when, &entry.reply)
 }
 
 fn is_target_byte(byte: u8) -> bool

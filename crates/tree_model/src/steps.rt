@@ -10,7 +10,7 @@ ghost use Rattle.tree_model.specs.Steps.{entry_of};
 
 use crate::Tree;
 use crate::replay::tree_after;
-use crate::touch::changes_shape;
+use crate::touch::is_recorded;
 use frang_base::{NoMemory, OpNo, Reply, ServerId};
 use std::alloc::AllocError;
 use std::marker::Model;
@@ -162,8 +162,8 @@ impl<'h> Step<'h> {
         }
     }
 
-    /// Whether it is an entry of a server that changes the shape of the tree that it stands at, with a number above the greatest of
-    /// the server's log.
+    /// Whether it is an entry of a server that has a record, from the tree that it stands at, with a number above the greatest of the
+    /// server's log.
     pub fn is_lost(&self, server: ServerId, keeps: OpNo, tree: &Tree) -> Result<bool, NoMemory>
         ensures { IfOk result (λ lost. lost ≡ is_lost server.0 keeps.0 tree.now self.now) }
     {
@@ -171,7 +171,7 @@ impl<'h> Step<'h> {
             What::Stays(entry) => Ok(
                 entry.server.0 == server.0
                     && keeps.0 < entry.number.0
-                    && changes_shape(tree, *entry)?,
+                    && is_recorded(tree, *entry)?,
             ),
             What::InDoubt(_) => Ok(false),
         }

@@ -2,7 +2,8 @@
 ghost use Rattle.std.specs.Prelude.{◌≡◌, ◌==◌, ◌++◌, ◌||◌, ℕ, List, IfOk, IsTrue};
 ghost use Rattle.std.specs.List.{list_any};
 ghost use Rattle.tree_definitions.specs.Place.{place, walked};
-ghost use Rattle.tree_definitions.specs.Touched.{reached, looked_in, then_walked, further, visited, differs, touches, changes_shape};
+ghost use Rattle.tree_definitions.specs.Touched.{is_ok, reached, looked_in, then_walked, further, visited, differs, touches, changes_shape};
+ghost use Rattle.tree_definitions.specs.Removal.{writes_file, is_recorded};
 ghost use Rattle.tree_definitions.specs.Perform.{resolved};
 ghost use Rattle.file_tree.specs.Walks.{step_by, resolved_by};
 ghost use Rattle.frang_base.specs.declared.reply.Reply.{Reply as TheReply};
@@ -16,8 +17,8 @@ use file_tree::{Resolved, Step};
 use frang_base::{Name, NoMemory, Op, Reply};
 use tree_definitions::{Entry, Node};
 
-/// Whether an entry changes more than the bytes of files.
-pub fn changes_shape(tree: &Tree, entry: &Entry) -> Result<bool, NoMemory>
+// Whether an entry changes more than the bytes of files.
+fn changes_shape(tree: &Tree, entry: &Entry) -> Result<bool, NoMemory>
     requires { IsTrue (is_within entry.now.op) }
     ensures { IfOk result (λ it. it ≡ changes_shape tree.now entry.now) }
 {
@@ -25,6 +26,29 @@ pub fn changes_shape(tree: &Tree, entry: &Entry) -> Result<bool, NoMemory>
         Some(next) => Ok(differ_in_shape(tree, &next)),
         None => Ok(false),
     }
+}
+
+/// Whether a reply is `ok`.
+pub fn is_ok(reply: &Reply) -> bool
+    ensures { result ≡ is_ok reply.now }
+{
+    matches!(reply, Reply::Ok)
+}
+
+// Whether an operation is a write, fill or truncate.
+fn writes_file(op: &Op) -> bool
+    ensures { result ≡ writes_file op.now }
+{
+    matches!(op, Op::Write { .. } | Op::Fill { .. } | Op::Truncate { .. })
+}
+
+/// Whether an entry has a record in its server's log: it changes more than the bytes of files, or is a write, fill or truncate that was
+/// answered `ok`.
+pub fn is_recorded(tree: &Tree, entry: &Entry) -> Result<bool, NoMemory>
+    requires { IsTrue (is_within entry.now.op) }
+    ensures { IfOk result (λ it. it ≡ is_recorded tree.now entry.now) }
+{
+    Ok(changes_shape(tree, entry)? || (writes_file(&entry.op) && is_ok(&entry.reply)))
 }
 
 /// A kind of node that an operation reaches.

@@ -11,15 +11,15 @@ pub returns-in-Some-clause-ok : goal.returns-in-Some-clause-ok
 returns-in-Some-clause-ok c =
     let put = λ (old : List Cell). overwritten old c.args.off (cells_of c.args.bytes.now) in
     let file = c.in-Ok.file in
-    c.in-Ok.ensures.is (λ b cells links. written c.args.tree.now c.args.m b cells links c.args.off (size_of c.args.bytes.now) put)
-    ∙ ap (λ len. written c.args.tree.now c.args.m file.birth file.cells.now file.links c.args.off len put) (sym c.count_of.ensures.is)
-    ∙ c.in-Some.ensures.is file.birth file.links put
+    c.in-Ok.ensures.is (λ b cells links old. written c.args.tree.now c.args.m b cells links c.args.when c.args.off (size_of c.args.bytes.now) put)
+    ∙ ap (λ len. written c.args.tree.now c.args.m file.birth file.cells.now file.links c.args.when c.args.off len put) (sym c.count_of.ensures.is)
+    ∙ c.in-Some.ensures.is file.birth file.links c.args.when put
 
 pub returns-clause-ok : goal.returns-clause-ok
 returns-clause-ok c =
     let put = λ (old : List Cell). overwritten old c.args.off (cells_of c.args.bytes.now) in
     let file = c.in-Ok.file in
-    c.in-Ok.ensures.is (λ b cells links. written c.args.tree.now c.args.m b cells links c.args.off (size_of c.args.bytes.now) put)
-    ∙ ap (λ len. written c.args.tree.now c.args.m file.birth file.cells.now file.links c.args.off len put) (sym c.count_of.ensures.is)
-    ∙ c.in-None.ensures.is file.birth file.links put
-    ∙ ap (λ tree. gives tree reply.Ok) (ap (edited_by c.args.tree.now file.birth (with_cells c.args.off (cells_of c.args.bytes.now))) (sym c.in-Ok.ensures.there) ∙ sym c.in_ok-put_bytes.ensures.ok)
+    c.in-Ok.ensures.is (λ b cells links old. written c.args.tree.now c.args.m b cells links c.args.when c.args.off (size_of c.args.bytes.now) put)
+    ∙ ap (λ len. written c.args.tree.now c.args.m file.birth file.cells.now file.links c.args.when c.args.off len put) (sym c.count_of.ensures.is)
+    ∙ c.in-None.ensures.is file.birth file.links c.args.when put
+    ∙ ap (λ tree. gives tree reply.Ok) (ap (edited_by c.args.tree.now file.birth (with_cells c.args.when c.args.off (cells_of c.args.bytes.now))) (sym c.in-Ok.ensures.there) ∙ sym c.in_ok-put_bytes.ensures.ok)

@@ -12,10 +12,10 @@ returns-then-not-same_reply c =
     let n = c.args.number.0 in
     let answer = c.args.reply.now in
     let next = c.apply.new.self in
-    let is : apply tree o n (told_blocks tree answer) ≡ gives next c.in_ok-answer.answer
-    = ap (λ t. apply t o n (told_blocks tree answer)) (sym c.in_ok-next.ensures) ∙ ap (apply c.in_ok-next.next o n) (sym c.told_blocks-m.ensures) ∙ c.in_ok-answer.ensures.ok in
+    let is : apply tree o n c.args.when (told_blocks tree answer) ≡ gives next c.in_ok-answer.answer
+    = ap (λ t. apply t o n c.args.when (told_blocks tree answer)) (sym c.in_ok-next.ensures) ∙ ap (apply c.in_ok-next.next o n c.args.when) (sym c.told_blocks-m.ensures) ∙ c.in_ok-answer.ensures.ok in
     let same : same_reply c.in_ok-answer.answer answer ≡ false = cc in
-    done_again_is (apply tree o n (told_blocks tree answer)) next c.in_ok-answer.answer answer false is same
+    done_again_is (apply tree o n c.args.when (told_blocks tree answer)) next c.in_ok-answer.answer answer false is same
 
 pub returns : goal.returns
 returns c =
@@ -24,7 +24,7 @@ returns c =
     let n = c.args.number.0 in
     let answer = c.args.reply.now in
     let next = c.apply.new.self in
-    let is : apply tree o n (told_blocks tree answer) ≡ gives next c.in_ok-answer.answer
-    = ap (λ t. apply t o n (told_blocks tree answer)) (sym c.in_ok-next.ensures) ∙ ap (apply c.in_ok-next.next o n) (sym c.told_blocks-m.ensures) ∙ c.in_ok-answer.ensures.ok in
+    let is : apply tree o n c.args.when (told_blocks tree answer) ≡ gives next c.in_ok-answer.answer
+    = ap (λ t. apply t o n c.args.when (told_blocks tree answer)) (sym c.in_ok-next.ensures) ∙ ap (apply c.in_ok-next.next o n c.args.when) (sym c.told_blocks-m.ensures) ∙ c.in_ok-answer.ensures.ok in
     let same : same_reply c.in_ok-answer.answer answer ≡ true = cc in
-    done_again_is (apply tree o n (told_blocks tree answer)) next c.in_ok-answer.answer answer true is same
+    done_again_is (apply tree o n c.args.when (told_blocks tree answer)) next c.in_ok-answer.answer answer true is same

@@ -12,5 +12,5 @@ returns-in-Read c =
     let number = c.args.number.0 in
     let answer = c.args.reply.now in
     let is : c.args.op.now ≡ op.Read c.as_slice.result.now c.in-Read.off c.in-Read.len = c.in-Read.is ∙ ap (λ p. op.Read p c.in-Read.off c.in-Read.len) (sym c.as_slice.ensures) in
-    subst (λ (o : Op). IfOk c.read_answered.result (λ next. next ≡ done_by (apply tree o number (told_blocks tree answer)) answer)) (sym is)
-    (c.read_answered.ensures number (told_blocks tree answer))
+    subst (λ (o : Op). IfOk c.read_answered.result (λ next. next ≡ done_by (apply tree o number c.args.when (told_blocks tree answer)) answer)) (sym is)
+    (c.read_answered.ensures number c.args.when (told_blocks tree answer))

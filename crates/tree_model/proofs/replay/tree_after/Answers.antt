@@ -18,7 +18,7 @@ pub returns : goal.returns
 returns c =
     let tree = c.args.tree.now in
     let e = c.args.entry.now in
-    let is : after_step_redo tree (step_by c.in_ok-resolved.resolved.step) e.number.0 e.reply ≡ tree_after tree e =
-    ap (λ (r : Resolved). after_step_redo tree r.step e.number.0 e.reply) c.in_ok-resolved.ensures
+    let is : after_step_redo tree (step_by c.in_ok-resolved.resolved.step) e.number.0 e.when e.reply ≡ tree_after tree e =
+    ap (λ (r : Resolved). after_step_redo tree r.step e.number.0 e.when e.reply) c.in_ok-resolved.ensures
     ∙ redone tree e (sym c.leaves_tree.ensures ∙ c.if-leaves_tree.false) (sym c.is_path_op.ensures ∙ c.if-not-is_path_op.false) in
     record { ok = subst (λ t. OnOk c.redo_step.result (c.redo_step.new.tree ≡ t)) is c.redo_step.ensures.ok }

@@ -1,0 +1,12 @@
+pub mod Changed
+pub mod Editing
+pub mod Shapes
+pub mod OwnReplies
+pub mod Sharper
+pub mod Doing
+pub mod LeavingLaws
+pub mod RecoveringLaws
+pub mod RecordingLaws
+pub mod LeavingExamples
+pub mod SeeingLaws
+pub mod SyncingLaws

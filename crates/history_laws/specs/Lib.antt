@@ -1,0 +1,4 @@
+pub mod Seeing
+pub mod Syncing
+pub mod Leaving
+pub mod Recording
