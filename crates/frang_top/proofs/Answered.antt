@@ -15,7 +15,7 @@ use Rattle.tree_definitions.specs.Tree.{FileTree, fresh, count_of, dir_blocks}
 use Rattle.tree_definitions.specs.Apply.{Answer, Plain, Shows, apply, is_path_op}
 use Rattle.tree_definitions.specs.Perform.{Step, Goes, Stops, resolved, perform}
 use Rattle.tree_definitions.specs.History.{agrees, applied, after_step, is_answer, leaves_tree, may_tell}
-use Rattle.tree_definitions.specs.Live.{number_of}
+use Rattle.tree_definitions.specs.Live.{number_of, time_in}
 use Rattle.tree_definitions.specs.Transcript.{Off, Up, after_answer, is_mount, is_own, may_answer, may_mount, may_refuse}
 use Rattle.tree_laws.specs.WellFormed.{BirthsAscend}
 use Rattle.tree_laws.proofs.FreshLaws.{fresh_well}
@@ -36,11 +36,11 @@ use Rattle.frang_top.proofs.Applying.{agrees_self, told_may, told_step, tree_app
 use Rattle.frang_top.proofs.Reading.{shown_same}
 
 -- an operation applied to a tree of bytes
-pub sure_applied : (tree : FileTree) (o : Op) (birth m : ℕ) → IsSureTree tree → IsSayableOp o → IsAppliedOf IsSureCell m (apply tree o birth m)
-sure_applied tree o birth m sure can = apply_sayable IsSureCell (λ b small. small) m tree o birth sure can
+pub sure_applied : (tree : FileTree) (o : Op) (birth when m : ℕ) → IsSureTree tree → IsSayableOp o → IsAppliedOf IsSureCell m (apply tree o birth when m)
+sure_applied tree o birth when m sure can = apply_sayable IsSureCell (λ b small. small) m tree o birth when sure can
 
-pub sure_performed : (tree : FileTree) (o : Op) (birth m : ℕ) → IsSureTree tree → IsSayableOp o → IsAppliedOf IsSureCell m (perform tree o birth m)
-sure_performed tree o birth m sure can = perform_sayable IsSureCell (λ b small. small) m tree o birth sure can
+pub sure_performed : (tree : FileTree) (o : Op) (birth when m : ℕ) → IsSureTree tree → IsSayableOp o → IsAppliedOf IsSureCell m (perform tree o birth when m)
+sure_performed tree o birth when m sure can = perform_sayable IsSureCell (λ b small. small) m tree o birth when sure can
 
 -- bytes of cells are bytes
 shown_small : (bytes : List ℕ) → All IsSureCell (map Byte bytes) → All (λ b. b < 256) bytes
@@ -85,27 +85,29 @@ own_up o m r path own = ap (λ b. cond b (may_mount Up false false r) (is_own o 
 
 -- an operation over a path, on a server that is mounted
 pub answers_applied : (number : ℕ) (o : Op) (before after : Server) (r : Reply) → IsReady before → before.mounted ≡ true → is_path_op o ≡ true → IsSayableOp o → IsProperReply r
-    → perform before.tree o (number_of 1 number) before.dir_blocks ≡ gives after.tree r → after.mounted ≡ before.mounted → after.dir_blocks ≡ max before.dir_blocks (count_of dir_blocks after.tree)
+    → perform before.tree o (number_of 1 number) (time_in 1 before.ticks) before.dir_blocks ≡ gives after.tree r → after.ticks ≡ before.ticks → after.mounted ≡ before.mounted → after.dir_blocks ≡ max before.dir_blocks (count_of dir_blocks after.tree)
     → Answers number o before r after
-answers_applied number o before after r ready up path can proper is mounted most =
+answers_applied number o before after r ready up path can proper is still mounted most =
     let m = before.dir_blocks in
-    let e = entry_of number o r in
-    let sure = sure_performed before.tree o (number_of 1 number) m ready.sure can in
+    let e = entry_of number before.ticks o r in
+    let when = time_in 1 before.ticks in
+    let sure = sure_performed before.tree o (number_of 1 number) when m ready.sure can in
     let own : IsTreeReply m r = reply_of m r (subst (λ a. IsAnswerOf IsSureCell m a.answer) is sure.answer) in
-    let told : applied before.tree e ≡ gives after.tree r = told_step before.tree after.tree (resolved before.tree o).step (number_of 1 number) m r ready.counted is in
+    let told : applied before.tree e ≡ gives after.tree r = told_step before.tree after.tree (resolved before.tree o).step (number_of 1 number) when m r ready.counted is in
     let answered : is_answer before.tree e ≡ true = both _ _ path (ap (λ a. agrees a.answer r) told ∙ agrees_self r) in
     let stays = tree_state o m r path own in
     record {
       may = ap (λ u. may_answer (state_with u) false o r) up ∙ own_up o m r path own;
       state_is = ap (λ u. after_answer (state_with u) o r) up ∙ stays ∙ ap state_with (sym (mounted ∙ up));
       fits_where = λ ever high. fits_by _ _ _ answered (told_may before.tree m ever r own ready.counted high);
-      tree_is = sym (second _ _ before.tree _ (tree_applies o m r path own) answered ∙ ap (λ a. after_step a.tree (resolved before.tree o).step r) told ∙ shown_same before.tree after.tree (resolved before.tree o).step r (number_of 1 number) m ready.births is);
-      segments = ap (λ a. a.tree.segments) (sym is) ∙ segments_perform before.tree o (number_of 1 number) m ready.births;
+      tree_is = sym (second _ _ before.tree _ (tree_applies o m r path own) answered ∙ ap (λ a. after_step a.tree (resolved before.tree o).step r) told ∙ shown_same before.tree after.tree (resolved before.tree o).step r (number_of 1 number) when m ready.births is);
+      ticks = still;
+      segments = ap (λ a. a.tree.segments) (sym is) ∙ segments_perform before.tree o (number_of 1 number) when m ready.births;
       counts = or_left _ _ (ap (λ a. agrees a.answer r) is ∙ agrees_self r);
       most = most;
       ready = record {
         counted = subst (λ n. count_of dir_blocks after.tree ≤ n) (sym most) (omega arith);
-        births = subst BirthsAscend (ap (λ a. a.tree) is) (births_perform before.tree o (number_of 1 number) m ready.births);
+        births = subst BirthsAscend (ap (λ a. a.tree) is) (births_perform before.tree o (number_of 1 number) when m ready.births);
         sure = subst IsSureTree (ap (λ a. a.tree) is) sure.tree;
       };
       proper = proper;
@@ -113,13 +115,14 @@ answers_applied number o before after r ready up path can proper is mounted most
 
 -- an operation that changes no tree
 answers_plain : (number : ℕ) (o : Op) (before after : Server) (r : Reply) → IsReady before → may_answer (state_with before.mounted) false o r ≡ true → after_answer (state_with before.mounted) o r ≡ state_with after.mounted
-    → leaves_tree o r ≡ true → after.tree ≡ before.tree → after.dir_blocks ≡ before.dir_blocks → IsProperReply r → Answers number o before r after
-answers_plain number o before after r ready may state leaves same most proper = record {
+    → leaves_tree o r ≡ true → after.tree ≡ before.tree → after.dir_blocks ≡ before.dir_blocks → after.ticks ≡ before.ticks → IsProperReply r → Answers number o before r after
+answers_plain number o before after r ready may state leaves same most still proper = record {
   may = may;
   state_is = state;
-  fits_where = λ ever high. or_right (is_answer before.tree (entry_of number o r) && may_tell before.tree ever r) (leaves_tree o r) leaves;
-  tree_is = same ∙ sym (ap (λ b. cond b before.tree (cond (is_answer before.tree (entry_of number o r)) (after_step (applied before.tree (entry_of number o r)).tree (resolved before.tree o).step r) before.tree)) leaves);
+  fits_where = λ ever high. or_right (is_answer before.tree (entry_of number before.ticks o r) && may_tell before.tree ever r) (leaves_tree o r) leaves;
+  tree_is = same ∙ sym (ap (λ b. cond b before.tree (cond (is_answer before.tree (entry_of number before.ticks o r)) (after_step (applied before.tree (entry_of number before.ticks o r)).tree (resolved before.tree o).step r) before.tree)) leaves);
   segments = ap (λ t. t.segments) same;
+  ticks = still;
   counts = or_right _ (leaves_tree o r) leaves;
   most = most ∙ most_stays (count_of dir_blocks before.tree) before.dir_blocks ready.counted ∙ ap (λ t. max before.dir_blocks (count_of dir_blocks t)) (sym same);
   ready = record {
@@ -132,11 +135,11 @@ answers_plain number o before after r ready may state leaves same most proper = 
 
 pub answers_already : (number : ℕ) (before : Server) → IsReady before → before.mounted ≡ true → Answers number op.Mount before reply.Already before
 answers_already number before ready up =
-    answers_plain number op.Mount before before reply.Already ready (ap (λ u. may_answer (state_with u) false op.Mount reply.Already) up) (ap (λ u. after_answer (state_with u) op.Mount reply.Already) up ∙ ap state_with (sym up)) refl refl refl tt
+    answers_plain number op.Mount before before reply.Already ready (ap (λ u. may_answer (state_with u) false op.Mount reply.Already) up) (ap (λ u. after_answer (state_with u) op.Mount reply.Already) up ∙ ap state_with (sym up)) refl refl refl refl tt
 
 pub answers_mounted : (number : ℕ) (before : Server) → IsReady before → before.mounted ≡ false → Answers number op.Mount before reply.Mounted (record before { mounted = true })
 answers_mounted number before ready off =
-    answers_plain number op.Mount before (record before { mounted = true }) reply.Mounted ready (ap (λ u. may_answer (state_with u) false op.Mount reply.Mounted) off) (ap (λ u. after_answer (state_with u) op.Mount reply.Mounted) off) refl refl refl tt
+    answers_plain number op.Mount before (record before { mounted = true }) reply.Mounted ready (ap (λ u. may_answer (state_with u) false op.Mount reply.Mounted) off) (ap (λ u. after_answer (state_with u) op.Mount reply.Mounted) off) refl refl refl refl tt
 
 down_may : (o : Op) → is_mount o ≡ false → may_answer (state_with false) false o reply.Down ≡ true
 down_may o other = ap (λ b. cond b (may_mount Off false false reply.Down) (may_refuse false false o reply.Down)) other
@@ -150,15 +153,15 @@ down_state o = refl
 pub answers_down : (number : ℕ) (o : Op) (before : Server) → IsReady before → before.mounted ≡ false → is_mount o ≡ false → Answers number o before reply.Down before
 answers_down number o before ready off other =
     answers_plain number o before before reply.Down ready (ap (λ u. may_answer (state_with u) false o reply.Down) off ∙ down_may o other)
-    (ap (λ u. after_answer (state_with u) o reply.Down) off ∙ down_state o ∙ ap state_with (sym off)) refl refl refl tt
+    (ap (λ u. after_answer (state_with u) o reply.Down) off ∙ down_state o ∙ ap state_with (sym off)) refl refl refl refl tt
 
 pub answers_sync : (number : ℕ) (before : Server) → IsReady before → before.mounted ≡ true → Answers number op.Sync before reply.Ok before
 answers_sync number before ready up =
-    answers_plain number op.Sync before before reply.Ok ready (ap (λ u. may_answer (state_with u) false op.Sync reply.Ok) up) (ap (λ u. after_answer (state_with u) op.Sync reply.Ok) up ∙ ap state_with (sym up)) refl refl refl tt
+    answers_plain number op.Sync before before reply.Ok ready (ap (λ u. may_answer (state_with u) false op.Sync reply.Ok) up) (ap (λ u. after_answer (state_with u) op.Sync reply.Ok) up ∙ ap state_with (sym up)) refl refl refl refl tt
 
 pub answers_unmount : (number : ℕ) (before : Server) → IsReady before → before.mounted ≡ true → Answers number op.Unmount before reply.Ok (record before { mounted = false })
 answers_unmount number before ready up =
-    answers_plain number op.Unmount before (record before { mounted = false }) reply.Ok ready (ap (λ u. may_answer (state_with u) false op.Unmount reply.Ok) up) (ap (λ u. after_answer (state_with u) op.Unmount reply.Ok) up) refl refl refl tt
+    answers_plain number op.Unmount before (record before { mounted = false }) reply.Ok ready (ap (λ u. may_answer (state_with u) false op.Unmount reply.Ok) up) (ap (λ u. after_answer (state_with u) op.Unmount reply.Ok) up) refl refl refl refl tt
 
 -- what may be applied to a tree of bytes
 shows_bytes : (cells : List Cell) → All IsSureCell cells → list_all is_sure cells ≡ true
@@ -175,7 +178,7 @@ shows_answer (Shows cells) h = shows_bytes cells h
 
 can_apply : (tree : FileTree) (o : Op) → IsSureTree tree → IsSayableOp o → is_path_op o ≡ true → CanApply tree o
 can_apply tree (op.Symlink path target) sure can path-op = can.1
-can_apply tree (op.Read path off len) sure can path-op = shows_answer (apply tree (op.Read path off len) 0 0).answer (sure_applied tree (op.Read path off len) 0 0 sure can).answer
+can_apply tree (op.Read path off len) sure can path-op = shows_answer (apply tree (op.Read path off len) 0 0 0).answer (sure_applied tree (op.Read path off len) 0 0 0 sure can).answer
 can_apply tree op.Sync sure can h = cc
 can_apply tree op.Mount sure can h = cc
 can_apply tree op.Unmount sure can h = cc

@@ -114,9 +114,9 @@ no_more : (s m k x : ℕ) → k ≤ m → nat_lt (1024 * s - m) x ≡ false → 
 no_more s m k x low h = grind (arith, nat_tests, low, h)
 
 -- the number that a refusal tells is the one that was given; else fewer blocks change nothing
-written_told : (tree after : FileTree) (m birth : ℕ) (cells : List Cell) (links off len : ℕ) (put : List Cell → List Cell) (r : Reply) → count_of dir_blocks tree ≤ m
-    → written tree m birth cells links off len put ≡ gives after r → written tree (told_blocks tree r) birth cells links off len put ≡ gives after r
-written_told tree after m birth cells links off len put r low is =
+written_told : (tree after : FileTree) (m birth : ℕ) (cells : List Cell) (links when off len : ℕ) (put : List Cell → List Cell) (r : Reply) → count_of dir_blocks tree ≤ m
+    → written tree m birth cells links when off len put ≡ gives after r → written tree (told_blocks tree r) birth cells links when off len put ≡ gives after r
+written_told tree after m birth cells links when off len put r low is =
     go (nat_lt (length cells) off) (nat_lt 1114112 (off + len)) (nat_lt (large_blocks_of (length cells)) (large_blocks_of size) && larges_full tree) (nat_lt (1024 * tree.segments - m) need) refl is
   where
     size : ℕ
@@ -126,7 +126,7 @@ written_told tree after m birth cells links off len put r low is =
     need = count_of file_blocks tree + (small_blocks_of size - small_blocks_of (length cells))
 
     done : Applied
-    done = says (with_node tree birth (File (put cells) links)) reply.Ok
+    done = says (with_node tree birth (File (put cells) links when)) reply.Ok
 
     room : ℕ → Applied
     room k = cond {A = Applied} (nat_lt (1024 * tree.segments - k) need) (says tree (reply.NoBlock k)) done
@@ -148,12 +148,12 @@ written_told tree after m birth cells links off len put r low is =
     go false false true d e h = h
     go false false false d e h = last d e h
 
-file_told : (tree after : FileTree) (next other : ℕ → List Cell → ℕ → Applied) (r : Reply) (p : Place)
-    → ((b : ℕ) (cells : List Cell) (links : ℕ) → next b cells links ≡ gives after r → other b cells links ≡ gives after r) → at_file tree p next ≡ gives after r → at_file tree p other ≡ gives after r
+file_told : (tree after : FileTree) (next other : ℕ → List Cell → ℕ → ℕ → Applied) (r : Reply) (p : Place)
+    → ((b : ℕ) (cells : List Cell) (links at : ℕ) → next b cells links at ≡ gives after r → other b cells links at ≡ gives after r) → at_file tree p next ≡ gives after r → at_file tree p other ≡ gives after r
 file_told tree after next other r p each is = go p is
   where
     node : (b : ℕ) (o : Option Node) → if_file tree next b o ≡ gives after r → if_file tree other b o ≡ gives after r
-    node b (Some (File cells links)) h = each b cells links h
+    node b (Some (File cells links when)) h = each b cells links when h
     node b (Some (Dir entries blocks)) h = h
     node b (Some (Link target links)) h = h
     node b None h = h
@@ -165,20 +165,20 @@ file_told tree after next other r p each is = go p is
     go (Nowhere q) h = h
 
 -- the operation, applied with the number that its reply tells, is answered so
-pub told_same : (tree after : FileTree) (o : Op) (birth m : ℕ) (r : Reply) → count_of dir_blocks tree ≤ m → apply tree o birth m ≡ gives after r → apply tree o birth (told_blocks tree r) ≡ gives after r
-told_same tree after (op.Write path off bytes) birth m r low is =
-    file_told tree after _ (λ b cells links. written tree (told_blocks tree r) b cells links off (length bytes) (λ old. overwritten old off (map Byte bytes))) r (place tree path)
-    (λ b cells links h. written_told tree after m b cells links off (length bytes) (λ old. overwritten old off (map Byte bytes)) r low h) is
-told_same tree after (op.Fill path off len byte) birth m r low is =
-    file_told tree after _ (λ b cells links. written tree (told_blocks tree r) b cells links off len (λ old. overwritten old off (replicate len (Byte byte)))) r (place tree path)
-    (λ b cells links h. written_told tree after m b cells links off len (λ old. overwritten old off (replicate len (Byte byte))) r low h) is
-told_same tree after (op.Create path) birth m r low is = is
-told_same tree after o birth m r low is = is
+pub told_same : (tree after : FileTree) (o : Op) (birth when m : ℕ) (r : Reply) → count_of dir_blocks tree ≤ m → apply tree o birth when m ≡ gives after r → apply tree o birth when (told_blocks tree r) ≡ gives after r
+told_same tree after (op.Write path off bytes) birth when m r low is =
+    file_told tree after _ (λ b cells links old. written tree (told_blocks tree r) b cells links when off (length bytes) (λ all. overwritten all off (map Byte bytes))) r (place tree path)
+    (λ b cells links old h. written_told tree after m b cells links when off (length bytes) (λ all. overwritten all off (map Byte bytes)) r low h) is
+told_same tree after (op.Fill path off len byte) birth when m r low is =
+    file_told tree after _ (λ b cells links old. written tree (told_blocks tree r) b cells links when off len (λ all. overwritten all off (replicate len (Byte byte)))) r (place tree path)
+    (λ b cells links old h. written_told tree after m b cells links when off len (λ all. overwritten all off (replicate len (Byte byte))) r low h) is
+told_same tree after (op.Create path) birth when m r low is = is
+told_same tree after o birth when m r low is = is
 
 -- where links are followed too
-pub told_step : (tree after : FileTree) (s : Step) (birth m : ℕ) (r : Reply) → count_of dir_blocks tree ≤ m → perform_step tree s birth m ≡ gives after r → perform_step tree s birth (told_blocks tree r) ≡ gives after r
-told_step tree after (Goes o) birth m r low is = told_same tree after o birth m r low is
-told_step tree after (Stops q) birth m r low is = is
+pub told_step : (tree after : FileTree) (s : Step) (birth when m : ℕ) (r : Reply) → count_of dir_blocks tree ≤ m → perform_step tree s birth when m ≡ gives after r → perform_step tree s birth when (told_blocks tree r) ≡ gives after r
+told_step tree after (Goes o) birth when m r low is = told_same tree after o birth when m r low is
+told_step tree after (Stops q) birth when m r low is = is
 
 -- the number that it tells may be told
 pub told_may : (tree : FileTree) (m ever : ℕ) (r : Reply) → IsTreeReply m r → count_of dir_blocks tree ≤ m → m ≤ ever → may_tell tree ever r ≡ true

@@ -65,12 +65,9 @@ pub always_says : (o : Opening) (script : List Line) (told : Option (List Act)) 
 always_says o script told saids acts_are proper always acts is k =
     says_run o script (take k acts) (take k saids) (ap (take k) (acts_are acts is) ∙ take-map said_act k saids) (All-take IsProperSaid k saids proper) (always k)
 
-pub acts_count : (told : Option (List Act)) (saids : List Said) → Told told saids → (acts : List Act) → told ≡ Some acts → length acts ≡ length saids
-acts_count told saids acts_are acts is = ap length (acts_are acts is) ∙ mapped saids
-  where
-    mapped : (s : List Said) → length (map said_act s) ≡ length s
-    mapped [] = refl
-    mapped (x ∷ s) = ap suc (mapped s)
+-- as many lines are said
+lines_count : (told : Option (List Act)) (saids : List Said) → Told told saids → All IsProperSaid saids → (acts : List Act) → told ≡ Some acts → length (saids_of acts) ≡ length saids
+lines_count told saids acts_are proper acts is = ap (λ l. length (saids_of l)) (acts_are acts is) ∙ ap length (read_back saids proper)
 
 pub at_index : {A : Type 0} (xs : List A) (i : ℕ) (x : A) → i < length xs → x ≡ get_or xs i x → slice_get xs i ≡ Some x
 at_index [] i x in_range is = absurd (omega arith)
@@ -82,11 +79,11 @@ pub refused : (old new : State) (act : Act) (n : ℕ) (fault : RunFault) → Say
 refused old new act n NoMemory says = says
 refused old new act n (Mute m) says = says.0
 
-pub stops : (old mid new : State) (act : Act) (n : ℕ) (fault : RunFault) (saids : List Said) → Told mid.acts saids → length saids ≡ n → NoneFell old mid → SaysOne mid new act n (Err fault) → StopsBy old new (Err fault)
-stops old mid new act n NoMemory saids acts_are count fell says = tt
-stops old mid new act n (Mute m) saids acts_are count fell says = record {
+pub stops : (old mid new : State) (act : Act) (n : ℕ) (fault : RunFault) (saids : List Said) → Told mid.acts saids → All IsProperSaid saids → length saids ≡ n → NoneFell old mid → SaysOne mid new act n (Err fault) → StopsBy old new (Err fault)
+stops old mid new act n NoMemory saids acts_are proper count fell says = tt
+stops old mid new act n (Mute m) saids acts_are proper count fell says = record {
   rose = (let before : old.say_faults ≤ mid.say_faults = fell.says in let now : Rose mid.say_faults new.say_faults = says.2 in let r : Rose old.say_faults new.say_faults = omega arith in r);
-  after = λ acts is. acts_count mid.acts saids acts_are acts (sym says.0 ∙ is) ∙ count ∙ sym says.1;
+  after = λ acts is. lines_count mid.acts saids acts_are proper acts (sym says.0 ∙ is) ∙ count ∙ sym says.1;
 }
 
 pub fell-trans : (old mid new : State) → NoneFell old mid → NoneFell mid new → NoneFell old new

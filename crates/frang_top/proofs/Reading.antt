@@ -73,33 +73,33 @@ shown_bytes tree after cells off len bytes false is =
     (sym cells_are, sym (ap (λ a. a.tree) is))
 
 shown_at : (tree after : FileTree) (off len : ℕ) (bytes : List ℕ) (b : ℕ) (o : Option Node) → BirthsAscend tree → node_at tree b ≡ o
-    → if_file tree (λ b cells links. shown tree cells off len) b o ≡ gives after (reply.Shown bytes) → (after ≡ tree) × (with_shown tree (file_of b o) off bytes ≡ tree)
-shown_at tree after off len bytes b (Some (File cells links)) births found is =
+    → if_file tree (λ b cells links at. shown tree cells off len) b o ≡ gives after (reply.Shown bytes) → (after ≡ tree) × (with_shown tree (file_of b o) off bytes ≡ tree)
+shown_at tree after off len bytes b (Some (File cells links when)) births found is =
     let parts = shown_bytes tree after cells off len bytes (nat_lt (length cells) off) is in (
       parts.1,
-      ap (λ new. with_node tree b (File (overwritten cells off new) links)) parts.0
-          ∙ ap (λ new. with_node tree b (File new links)) (over_same cells off len) ∙ put_same_node tree b (File cells links) births found,
+      ap (λ new. with_node tree b (File (overwritten cells off new) links when)) parts.0
+          ∙ ap (λ new. with_node tree b (File new links when)) (over_same cells off len) ∙ put_same_node tree b (File cells links when) births found,
     )
 shown_at tree after off len bytes b (Some (Dir entries blocks)) births found is = let bad : Plain reply.IsDir ≡ Shows (map Byte bytes) = ap (λ a. a.answer) is in cc
 shown_at tree after off len bytes b (Some (Link target links)) births found is = let bad : Plain reply.Inval ≡ Shows (map Byte bytes) = ap (λ a. a.answer) is in cc
 shown_at tree after off len bytes b None births found is = let bad : Plain reply.NoEnt ≡ Shows (map Byte bytes) = ap (λ a. a.answer) is in cc
 
 shown_place : (tree after : FileTree) (off len : ℕ) (bytes : List ℕ) (p : Place) → BirthsAscend tree
-    → at_file tree p (λ b cells links. shown tree cells off len) ≡ gives after (reply.Shown bytes) → (after ≡ tree) × (with_shown tree (file_at tree p) off bytes ≡ tree)
+    → at_file tree p (λ b cells links at. shown tree cells off len) ≡ gives after (reply.Shown bytes) → (after ≡ tree) × (with_shown tree (file_at tree p) off bytes ≡ tree)
 shown_place tree after off len bytes Root births is = ((shown_at tree after off len bytes 0 (node_at tree 0) births refl is).0, refl)
 shown_place tree after off len bytes (Taken dir entries blocks name b) births is = shown_at tree after off len bytes b (node_at tree b) births refl is
 shown_place tree after off len bytes (Free dir entries blocks name) births is = let bad : Plain reply.NoEnt ≡ Shows (map Byte bytes) = ap (λ a. a.answer) is in cc
 shown_place tree after off len bytes (Nowhere r) births is = let bad : Plain r ≡ Shows (map Byte bytes) = ap (λ a. a.answer) is in cc
 
 -- what a read makes of the tree after it
-pub read_same : (tree after : FileTree) (o : Op) (r : Reply) (birth m : ℕ) → BirthsAscend tree → apply tree o birth m ≡ gives after r → after_read after o r ≡ after
-read_same tree after (op.Read path off len) (reply.Shown bytes) birth m births is =
+pub read_same : (tree after : FileTree) (o : Op) (r : Reply) (birth when m : ℕ) → BirthsAscend tree → apply tree o birth when m ≡ gives after r → after_read after o r ≡ after
+read_same tree after (op.Read path off len) (reply.Shown bytes) birth when m births is =
     let parts = shown_place tree after off len bytes (place tree path) births is in
     ap (λ t. with_shown t (file_at t (place t path)) off bytes) parts.0 ∙ parts.1 ∙ sym parts.0
-read_same tree after (op.Read path off len) r birth m births is = refl
-read_same tree after o r birth m births is = refl
+read_same tree after (op.Read path off len) r birth when m births is = refl
+read_same tree after o r birth when m births is = refl
 
 -- where links are followed too
-pub shown_same : (tree after : FileTree) (s : Step) (r : Reply) (birth m : ℕ) → BirthsAscend tree → perform_step tree s birth m ≡ gives after r → after_step after s r ≡ after
-shown_same tree after (Goes o) r birth m births is = read_same tree after o r birth m births is
-shown_same tree after (Stops q) r birth m births is = refl
+pub shown_same : (tree after : FileTree) (s : Step) (r : Reply) (birth when m : ℕ) → BirthsAscend tree → perform_step tree s birth when m ≡ gives after r → after_step after s r ≡ after
+shown_same tree after (Goes o) r birth when m births is = read_same tree after o r birth when m births is
+shown_same tree after (Stops q) r birth when m births is = refl

@@ -1,13 +1,14 @@
 -- The lines of a script that can be answered: their numbers ascend, and each is found by its number and by its server.
-use Rattle.std.proofs.Common.{◌≡◌, inl, inr, ℕ, zero, suc, ◌+◌, ◌<◌, ◌≤◌, Bool, true, false, not, cond, Option, Some, None, List, [], ◌∷◌, length, take, refl, sym, ◌∙◌, ap, subst, arith, eqb, eq-eqb, nat_eq, nat_lt}
+use Rattle.std.proofs.Common.{◌≡◌, inl, inr, ℕ, zero, suc, ◌+◌, ◌<◌, ◌≤◌, Bool, true, false, not, ◌&&◌, ◌||◌, cond, Option, Some, None, List, [], ◌∷◌, ◌++◌, length, take, refl, sym, ◌∙◌, ap, subst, arith, eqb, eq-eqb, nat_eq, nat_lt}
 use Rattle.std.specs.Prelude.{Result, Ok, Err}
 use Rattle.std.proofs.lemmas.Bool.{ne_eqb}
 use Rattle.std.proofs.lemmas.Bool.Decides.{nat_tests}
-use Rattle.std.specs.List.{All, slice_get, find, filter}
+use Rattle.std.specs.List.{All, slice_get, find, filter, list_any}
+use Rattle.std.proofs.lemmas.List.Sums.{sum_by-take-le, sum_by_push}
 use Rattle.std.proofs.lemmas.List.Elements.{All-head, All-tail}
 use Rattle.frang_base.specs.declared.said.Said.{Said}
 use Rattle.frang_base.specs.declared.script.Line.{Line}
-use Rattle.tree_definitions.specs.Live.{line_of}
+use Rattle.tree_definitions.specs.Live.{line_of, script_time, ticks_of}
 use Rattle.tree_definitions.specs.Transcript.{lines_before, are_answered, is_halt}
 use Rattle.script_definitions.specs.declared.fault.ScriptFault.{ScriptFault}
 use Rattle.script_definitions.specs.ScriptGrammar.{AreLines}
@@ -15,7 +16,9 @@ use Rattle.script_definitions.specs.ScriptText.{script_of}
 use Rattle.script_definitions.specs.Sayable.{IsSayableLine}
 use Rattle.script_definitions.proofs.SayableScripts.{script_sayable}
 use Rattle.script_definitions.proofs.JudgedLaws.{text_sound}
-use Rattle.frang_top.specs.Built.{IsBuiltLine, AreBuilt, is_built_line, first_unbuilt, unless_unbuilt, built_by, built_script_of}
+use Rattle.script_definitions.proofs.TicksLaws.{few_ticks}
+use Rattle.script_definitions.specs.Ticks.{all_ticks}
+use Rattle.frang_top.specs.Built.{IsBuiltLine, AreBuilt, CanRun, is_halting, halts_last, is_built_line, first_unbuilt, unless_unbuilt, built_by, built_script_of}
 use Rattle.frang_top.proofs.HistoryLaws.{both, left, right}
 
 -- a line whose number is at least n, and so at least m
@@ -45,18 +48,51 @@ lines_built n halted (text ∷ lines) script (small, inr (asked, rest, is, on, a
     let first : IsBuiltLine n line = record { number = omega arith; small = small; proper = asks.2.0; sayable = All-head IsSayableLine line rest said; built = parts.0 } in
     subst (AreBuilt n) (sym is) (first, lines_built (n + 1) (is_halt asked.what) lines rest more parts.1 (All-tail IsSayableLine line rest said))
 
+-- only the last line of a text halts
+after_halt : (n : ℕ) (lines : List (List ℕ)) (script : List Line) → AreLines n true lines script → script ≡ []
+after_halt n [] script is = is
+after_halt n (text ∷ lines) script (small, inl skipped) = after_halt (n + 1) lines script skipped.1
+after_halt n (text ∷ lines) script (small, inr (asked, rest, is, on, asks, more)) = cc
+
+last_more : (line : Line) (rest : List Line) → (is_halting line ≡ true → rest ≡ []) → halts_last rest ≡ true → halts_last (line ∷ rest) ≡ true
+last_more line [] none all = refl
+last_more line (next ∷ rest) none all = go (is_halting line) refl
+  where
+    go : (b : Bool) → is_halting line ≡ b → not b && halts_last (next ∷ rest) ≡ true
+    go true is = let bad : next ∷ rest ≡ [] = none is in cc
+    go false is = all
+
+lines_last : (n : ℕ) (halted : Bool) (lines : List (List ℕ)) (script : List Line) → AreLines n halted lines script → halts_last script ≡ true
+lines_last n halted [] script is = subst (λ s. halts_last s ≡ true) (sym is) refl
+lines_last n halted (text ∷ lines) script (small, inl skipped) = lines_last (n + 1) halted lines script skipped.1
+lines_last n halted (text ∷ lines) script (small, inr (asked, rest, is, on, asks, more)) =
+    let line : Line = record { number = n; who = asked.who; what = asked.what } in
+    subst (λ s. halts_last s ≡ true) (sym is) (last_more line rest (λ h. after_halt (n + 1) lines rest (subst (λ b. AreLines (n + 1) b lines rest) h more)) (lines_last (n + 1) (is_halt asked.what) lines rest more))
+
+-- so none halts before a line
+pub none_halts : (script : List Line) (i : ℕ) (line : Line) → halts_last script ≡ true → slice_get script i ≡ Some line → list_any is_halting (take i script) ≡ false
+none_halts [] i line last at = cc
+none_halts (l ∷ ls) zero line last at = refl
+none_halts (l ∷ []) (suc i) line last at = cc
+none_halts (l ∷ m ∷ ls) (suc i) line last at = go (is_halting l) (left _ _ last) (none_halts (m ∷ ls) i line (right _ _ last) at)
+  where
+    go : (b : Bool) → not b ≡ true → list_any is_halting (take i (m ∷ ls)) ≡ false → b || list_any is_halting (take i (m ∷ ls)) ≡ false
+    go true goes rest = cc
+    go false goes rest = rest
+
 -- what was read can be answered
 by_first : (script given : List Line) (o : Option Line) → unless_unbuilt script o ≡ Ok given → (o ≡ None) × (script ≡ given)
 by_first script given None is = let same : Ok script ≡ Ok given = is in (refl, cc)
 by_first script given (Some line) is = cc
 
-read_first : (bytes : List ℕ) (given : List Line) (read : Result (List Line) ScriptFault) → script_of bytes ≡ read → built_by read ≡ Ok given → AreBuilt 1 given
+read_first : (bytes : List ℕ) (given : List Line) (read : Result (List Line) ScriptFault) → script_of bytes ≡ read → built_by read ≡ Ok given → CanRun given
 read_first bytes given (Ok script) is built =
     let parts = by_first script given (first_unbuilt script) built in
-    subst (AreBuilt 1) parts.1 (lines_built 1 false _ script (text_sound bytes script is).1 parts.0 (script_sayable bytes script is))
+    let lines = (text_sound bytes script is).1 in
+    subst CanRun parts.1 (record { built = lines_built 1 false _ script lines parts.0 (script_sayable bytes script is); last = lines_last 1 false _ script lines; few = few_ticks bytes script is })
 read_first bytes given (Err fault) is built = cc
 
-pub read_built : (bytes : List ℕ) (script : List Line) → built_script_of bytes ≡ Ok script → AreBuilt 1 script
+pub read_built : (bytes : List ℕ) (script : List Line) → built_script_of bytes ≡ Ok script → CanRun script
 read_built bytes script built = read_first bytes script (script_of bytes) refl built
 
 pub built_at : (n : ℕ) (script : List Line) (i : ℕ) (line : Line) → AreBuilt n script → slice_get script i ≡ Some line → IsBuiltLine n line
@@ -128,3 +164,27 @@ before_answered p n (l ∷ ls) (suc i) line saids all at was = go (p l) (nat_lt 
 pub filter_all : (xs : List Line) → filter (λ l. true) xs ≡ xs
 filter_all [] = refl
 filter_all (x ∷ xs) = ap (λ ys. x ∷ ys) (filter_all xs)
+
+-- the lines before the number of one are those that stand before it
+before_is : (n : ℕ) (script : List Line) (i : ℕ) (line : Line) → AreBuilt n script → slice_get script i ≡ Some line → lines_before line.number script ≡ take i script
+before_is n [] i line all at = cc
+before_is n (l ∷ ls) zero line all at =
+    let same : l ≡ line = cc in
+    let low : line.number ≤ l.number = omega (arith, ap (λ x. x.number) same) in
+    let own : AreBuilt l.number (l ∷ ls) = (record { number = omega arith; small = all.0.small; proper = all.0.proper; sayable = all.0.sayable; built = all.0.built }, all.1) in
+    ap (lines_before line.number) (sym (filter_all (l ∷ ls))) ∙ none_before (λ x. true) l.number line.number (l ∷ ls) own low
+before_is n (l ∷ ls) (suc i) line all at =
+    let later : l.number + 1 ≤ line.number = (built_at (l.number + 1) ls i line all.1 at).number in
+    let before : nat_lt l.number line.number ≡ true = grind (arith, nat_tests, later) in
+    ap (λ b. cond b (l ∷ lines_before line.number ls) (lines_before line.number ls)) before ∙ ap (λ xs. l ∷ xs) (before_is (l.number + 1) ls i line all.1 at)
+
+-- so its time is their ticks
+pub time_at : (script : List Line) (i : ℕ) (line : Line) → AreBuilt 1 script → slice_get script i ≡ Some line → script_time script line.number ≡ all_ticks (take i script)
+time_at script i line all at = ap all_ticks (before_is 1 script i line all at)
+
+-- the ticks of the first lines are no more than those of all
+pub few_taken : (script : List Line) (i : ℕ) → all_ticks (take i script) ≤ all_ticks script
+few_taken script i = sum_by-take-le (λ (l : Line). ticks_of l.what) script i
+
+pub ticks-push : (lines : List Line) (line : Line) → all_ticks (lines ++ line ∷ []) ≡ all_ticks lines + ticks_of line.what
+ticks-push lines line = sum_by_push (λ (l : Line). ticks_of l.what) lines line

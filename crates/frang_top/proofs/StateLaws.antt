@@ -45,6 +45,19 @@ any-push f saids x none not_x = list_any-append f saids (x ∷ []) ∙ neither _
 pub over-push : (script : List Line) (saids : List Said) (x : Said) → is_over script saids ≡ false → halts script x ≡ false → is_end x ≡ false → is_over script (saids ++ x ∷ []) ≡ false
 over-push script saids x goes_on no_halt no_end = neither _ _ (any-push (halts script) saids x (or_left _ _ goes_on) no_halt) (any-push is_end saids x (or_right _ _ goes_on) no_end)
 
+over-by : (halted was ended : Bool) → halted || ended ≡ false → (halted || (was || false)) || (ended || (false || false)) ≡ was
+over-by true was ended none = cc
+over-by false true ended none = refl
+over-by false false true none = cc
+over-by false false false none = refl
+
+-- an answer ends everything where it is to a halt
+pub over-more : (script : List Line) (saids : List Said) (x : Said) → is_over script saids ≡ false → is_end x ≡ false → is_over script (saids ++ x ∷ []) ≡ halts script x
+over-more script saids x goes_on no_end =
+    ap (λ b. b || list_any is_end (saids ++ x ∷ [])) (list_any-append (halts script) saids (x ∷ []))
+    ∙ ap (λ b. (list_any (halts script) saids || (halts script x || false)) || b) (list_any-append is_end saids (x ∷ []) ∙ ap (λ e. list_any is_end saids || (e || false)) no_end)
+    ∙ over-by (list_any (halts script) saids) (halts script x) (list_any is_end saids) goes_on
+
 -- an answer stays one
 pub answered-push : (number : ℕ) (saids : List Said) (x : Said) → list_any (answers number) saids ≡ true → list_any (answers number) (saids ++ x ∷ []) ≡ true
 answered-push number saids x was = list_any-append (answers number) saids (x ∷ []) ∙ ap (λ b. b || (answers number x || false)) was

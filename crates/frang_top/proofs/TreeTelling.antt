@@ -1,5 +1,5 @@
 -- A run that tells its tree, and its end.
-use Rattle.std.proofs.Common.{◌≡◌, ℕ, zero, suc, ◌+◌, ◌≤◌, cond, nat_eq, Bool, true, false, ◌&&◌, ◌||◌, not, Option, Some, None, List, [], ◌∷◌, ◌++◌, length, refl, sym, ◌∙◌, ap, subst, arith, length-append, append-nil}
+use Rattle.std.proofs.Common.{◌≡◌, ℕ, zero, suc, ◌+◌, ◌≤◌, cond, nat_eq, Bool, true, false, ◌&&◌, ◌||◌, not, Option, Some, None, List, [], ◌∷◌, ◌++◌, length, take, refl, sym, ◌∙◌, ap, subst, arith, length-append, append-nil}
 use Rattle.std.specs.List.{All, slice_get, filter, list_any, list_all, flat_map}
 use Rattle.std.proofs.lemmas.List.{take_all}
 use Rattle.std.proofs.lemmas.Bool.{ne_eqb}
@@ -25,11 +25,11 @@ use Rattle.tree_definitions.specs.Live.{line_of}
 use Rattle.tree_definitions.specs.Numbers.{below}
 use Rattle.tree_definitions.specs.Transcript.{no_faults, ServerState, first_state, state_of, after_said, after_line, after_asked, is_settled, is_node, is_end, is_over, halts, are_answered, all_settled, nodes_said, live_tree, MaySay}
 use Rattle.frang_top.specs.DirectoryBlocks.{counts_blocks}
-use Rattle.frang_top.specs.Run.{history_of, IsRun, said_act, saids_of}
+use Rattle.frang_top.specs.Run.{history_of, IsRun, EndsWhole, said_act, saids_of}
 use Rattle.frang_top.specs.declared.server.Server.{Server as Serving}
 use Rattle.frang_top.specs.Answering.{state_with}
-use Rattle.frang_top.specs.Built.{AreBuilt, is_built, is_built_line}
-use Rattle.frang_top.specs.Running.{Follows, IsAt}
+use Rattle.frang_top.specs.Built.{AreBuilt, is_built, is_built_line, is_halting}
+use Rattle.frang_top.specs.Running.{Follows, IsAt, Told}
 use Rattle.script_definitions.specs.SaidReading.{IsProperSaid}
 use Rattle.frang_top.specs.Telling.{IsTelling, IsDone}
 use Rattle.tree_laws.proofs.TranscriptLaws.{live-push}
@@ -51,7 +51,7 @@ nodes_only f (e ∷ es) each = append_all (f e) (flat_map f es) (each e) (nodes_
 
 nodes_with : (text : List ℕ) (o : Option Node) (f : List ℕ × ℕ → List Said) → ((e : List ℕ × ℕ) → list_all is_node (f e) ≡ true) → list_all is_node (lines_with text o f) ≡ true
 nodes_with text None f each = refl
-nodes_with text (Some (File cells links)) f each = refl
+nodes_with text (Some (File cells links when)) f each = refl
 nodes_with text (Some (Link target links)) f each = refl
 nodes_with text (Some (Dir entries blocks)) f each = nodes_only f entries each
 
@@ -97,10 +97,11 @@ settled_all o script server told built now = all_true (λ k. is_settled (state_o
     each (suc k) = ap (λ st. is_settled st.phase) (follows_stays script (suc k) 0 first_state script now.saids follows (λ j l r st at. leaves script l r k st (line_of-number 1 script j l built at) (built_at 1 script j l built at).built))
 
 -- every line is answered, and the tree is to be told
-pub begun : (o : Opening) (script : List Line) (server : Serving) (told : Option (List Act)) (lines : List Said) → AreBuilt 1 script → IsAt o script (length script) server told → lines ≡ tree_lines server.tree → All IsProperSaid lines
+pub begun : (o : Opening) (script : List Line) (server : Serving) (told : Option (List Act)) (lines : List Said) → AreBuilt 1 script → IsAt o script (length script) server told → list_any is_halting script ≡ false → lines ≡ tree_lines server.tree → All IsProperSaid lines
     → IsTelling o script lines 0 told
-begun o script server told lines built now are proper =
-    let follows : Follows script now.saids = subst (λ ls. Follows ls now.saids) (take_all (length script) script (let e : length script ≤ length script = omega arith in e)) now.follows in
+begun o script server told lines built now on are proper =
+    let all : take (length script) script ≡ script = take_all (length script) script (let e : length script ≤ length script = omega arith in e) in
+    let follows : Follows script now.saids = subst (λ ls. Follows ls now.saids) all now.follows in
     record {
       saids = now.saids;
       acts = now.acts;
@@ -110,11 +111,25 @@ begun o script server told lines built now are proper =
       count = follows_count script now.saids follows ∙ (let e : length script ≡ length script + 0 = omega arith in e);
       answered = follows_answered script now.saids follows;
       settled = settled_all o script server told built now;
-      goes_on = now.goes_on;
+      goes_on = now.over ∙ ap (list_any is_halting) all ∙ on;
       nodes = ap length (follows_nodes script now.saids follows);
       lines_are = are ∙ ap tree_lines now.tree_is;
       lines_proper = proper;
     }
+
+-- a whole run, where these lines are all that is said
+whole_by : (o : Opening) (script : List Line) (told : Option (List Act)) (saids : List Said) → Told told saids → All IsProperSaid saids → IsRun o script saids → are_answered script saids ≡ true → is_over script saids ≡ true → EndsWhole o script told
+whole_by o script told saids acts_are proper run answered over acts is =
+    let said = says_run o script acts saids (acts_are acts is) proper run in
+    let back : saids ≡ saids_of acts = sym (ap saids_of (acts_are acts is) ∙ read_back saids proper) in
+    record { says = said.says; run = said.run; answered = ap (are_answered script) (sym back) ∙ answered; over = ap (is_over script) (sym back) ∙ over }
+
+-- every line is answered, the last one a halt, after which nothing is said
+pub halted : (o : Opening) (script : List Line) (server : Serving) (told : Option (List Act)) → IsAt o script (length script) server told → list_any is_halting script ≡ true → EndsWhole o script told
+halted o script server told now halts =
+    let all : take (length script) script ≡ script = take_all (length script) script (let e : length script ≤ length script = omega arith in e) in
+    let follows : Follows script now.saids = subst (λ ls. Follows ls now.saids) all now.follows in
+    whole_by o script told now.saids now.acts now.proper now.run (follows_answered script now.saids follows) (now.over ∙ ap (list_any is_halting) all ∙ halts)
 
 -- what may be said of the tree
 tree_goes : (script : List Line) (saids : List Said) → is_over script saids ≡ false → are_answered script saids ≡ true → all_settled script no_faults saids ≡ true → not (is_over script saids) && are_answered script saids && all_settled script no_faults saids ≡ true
@@ -172,10 +187,7 @@ told_end o script lines told after now says =
     let over : is_over script saids ≡ true = ap (λ e. list_any (halts script) saids || e) ended ∙ or_true (list_any (halts script) saids) in
     record {
       always = always_says o script after saids acts_are proper (always-push o script now.saids said.End now.always run);
-      whole = λ acts is.
-          (let said = says_run o script acts saids (acts_are acts is) proper run in
-          let back : saids ≡ saids_of acts = sym (ap saids_of (acts_are acts is) ∙ read_back saids proper) in
-          record { says = said.says; run = said.run; answered = ap (are_answered script) (sym back) ∙ answered; over = ap (is_over script) (sym back) ∙ over });
+      whole = whole_by o script after saids acts_are proper run answered over;
     }
   where
     or_true : (b : Bool) → b || true ≡ true

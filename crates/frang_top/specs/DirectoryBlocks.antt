@@ -19,7 +19,7 @@ most_after tree most (s ∷ ss) = most_after (after tree s) (most_with most (aft
 
 -- a reply is what its operation is answered where so many blocks are or were a directory's
 abbrev pub answers_at : FileTree → ℕ → Entry → Bool
-answers_at tree most e = agrees (perform tree e.op e.number.0 most).answer e.reply || leaves_tree e.op e.reply
+answers_at tree most e = agrees (perform tree e.op e.number.0 e.when most).answer e.reply || leaves_tree e.op e.reply
 
 abbrev pub step_answers_at : FileTree → ℕ → Settled → Bool
 step_answers_at tree most (Stays e) = answers_at tree most e

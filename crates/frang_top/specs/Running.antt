@@ -1,6 +1,6 @@
 -- Where a run stands between two of its lines.
-use Rattle.std.specs.Prelude.{◌≡◌, ◌≤◌, ℕ, false, Option, Some, List, [], ◌∷◌, map, take}
-use Rattle.std.specs.List.{All}
+use Rattle.std.specs.Prelude.{◌≡◌, ◌≤◌, ℕ, Option, Some, List, [], ◌∷◌, map, take}
+use Rattle.std.specs.List.{All, list_any}
 use Rattle.frang_base.specs.declared.said.Said.{Said}
 use Rattle.frang_base.specs.declared.said.Said.TheVariants as said
 use Rattle.frang_base.specs.declared.script.Line.{Line}
@@ -12,6 +12,8 @@ use Rattle.tree_laws.specs.Histories.{ever_after}
 use Rattle.script_definitions.specs.SaidReading.{IsProperSaid}
 use Rattle.frang_top.specs.declared.server.Server.{Server}
 use Rattle.frang_top.specs.Answering.{state_with, IsReady}
+use Rattle.script_definitions.specs.Ticks.{all_ticks}
+use Rattle.frang_top.specs.Built.{is_halting}
 use Rattle.frang_top.specs.DirectoryBlocks.{most_blocks}
 use Rattle.frang_top.specs.Run.{history_of, IsRun, said_act}
 
@@ -39,12 +41,13 @@ pub record IsAt (opening : Opening) (script : List Line) (i : ℕ) (server : Ser
   pub acts : Told told saids
   pub follows : Follows (take i script) saids
   pub proper : All IsProperSaid saids
-  pub goes_on : is_over script saids ≡ false
+  pub over : is_over script saids ≡ list_any is_halting (take i script)
   pub state_is : state_of script no_faults 0 saids ≡ state_with server.mounted
   pub tree_is : server.tree ≡ tree_of opening (history_of opening script saids)
   pub most : server.dir_blocks ≡ most_blocks opening (history_of opening script saids)
   pub blocks : server.dir_blocks ≤ ever_of opening script saids
   pub ready : IsReady server
+  pub ticks : server.ticks ≡ all_ticks (take i script)
   pub segments : server.tree.segments ≡ opening.tree.segments
   pub run : IsRun opening script saids
   pub always : Always opening script saids

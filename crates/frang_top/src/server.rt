@@ -1,26 +1,40 @@
 // The one server of the scripts that are answered so far, over a tree in memory.
-ghost use Rattle.std.specs.Prelude.{◌≡◌, ◌≤◌, ℕ, IfOk, true};
-ghost use Rattle.frang_base.specs.declared.limits.TheConstants.{SEGMENTS_MAX};
+ghost use Rattle.std.specs.Prelude.{◌≡◌, ◌≤◌, ◌<◌, ◌+◌, ℕ, IfOk, true};
+ghost use Rattle.frang_base.specs.declared.limits.TheConstants.{RUN_TICKS_END, SEGMENTS_MAX};
 ghost use Rattle.tree_definitions.specs.Apply.{is_path_op};
+ghost use Rattle.tree_definitions.specs.Live.{ticks_of, time_in};
 ghost use Rattle.frang_base.specs.declared.op.Op.TheVariants as op;
+ghost use Rattle.frang_base.specs.declared.reply.Reply.TheVariants as reply;
 ghost use Rattle.script_definitions.specs.Sayable.{IsSayableOp};
 ghost use Rattle.script_definitions.specs.ScriptGrammar.{IsProperOp};
 ghost use Rattle.frang_top.specs.Built.{is_built_op, IsBuiltLine};
-ghost use Rattle.frang_top.specs.Answering.{Answers, IsFirst, IsReady, Replies};
+ghost use Rattle.frang_top.specs.Answering.{Answers, IsFirst, IsReady, Replies, after_ticks};
 
 use file_tree::Tree;
+use frang_base::limits::RUN_TICKS_END;
 use frang_base::{Line, NoMemory, Op, OpNo, Reply, What};
+use script_definitions::ticks_of;
 use std::alloc::Global;
 
 // The run of a fresh disk.
 const FIRST_RUN: u32 = 1;
 
-/// A server: whether it is mounted, the tree, and how many small blocks are or were a directory's.
+/// A server: whether it is mounted, the tree, how many small blocks are or were a directory's, and how many ticks the lines before let
+/// pass.
 #[derive(Debug, Drop)]
 pub struct Server {
     pub mounted: bool,
     pub tree: Tree,
     pub dir_blocks: u32,
+    pub ticks: u64,
+}
+
+// The time of a line of the first run, after so many ticks.
+fn time_after(ticks: u64) -> u64
+    requires { ticks < RUN_TICKS_END }
+    ensures { result ≡ time_in 1 ticks }
+{
+    u64::from(FIRST_RUN) * RUN_TICKS_END + ticks
 }
 
 impl Server {
@@ -34,6 +48,7 @@ impl Server {
             mounted: false,
             tree: Tree::fresh(alloc, segments)?,
             dir_blocks: 0,
+            ticks: 0,
         })
     }
 
@@ -44,10 +59,12 @@ impl Server {
         requires path { is_path_op op.now ≡ true }
         requires proper { IsProperOp op.now }
         requires sayable { IsSayableOp op.now }
+        requires time { self.old.ticks < RUN_TICKS_END }
         ensures ok { IfOk result (λ r. Answers number op.now self.old r self.new) }
     {
         let birth = OpNo::of(FIRST_RUN, number);
-        let reply = self.tree.perform(op, birth, self.dir_blocks)?;
+        let when = time_after(self.ticks);
+        let reply = self.tree.perform(op, birth, when, self.dir_blocks)?;
         self.dir_blocks = self.dir_blocks.max(self.tree.dir_blocks());
         Ok(reply)
     }
@@ -70,6 +87,7 @@ impl Server {
         requires built { is_built_op op.now ≡ true }
         requires proper { IsProperOp op.now }
         requires sayable { IsSayableOp op.now }
+        requires time { self.old.ticks < RUN_TICKS_END }
         ensures ok { IfOk result (λ r. Answers number op.now self.old r self.new) }
     {
         if let Op::Mount = op {
@@ -88,16 +106,27 @@ impl Server {
         }
     }
 
-    /// The reply to a line of server 0 or to a barrier.
+    // Answers a line of the host, which lets its ticks pass.
+    fn pass(&mut self, what: &What) -> Reply
+        requires { self.old.ticks + ticks_of what.now < RUN_TICKS_END }
+        ensures is { result ≡ reply.Ok }
+        ensures after { self.new ≡ after_ticks self.old what.now }
+    {
+        self.ticks += u64::from(ticks_of(what));
+        Reply::Ok
+    }
+
+    /// The reply to a line of server 0 or of the host.
     pub fn reply_to(&mut self, line: &Line) -> Result<Reply, NoMemory>
         requires ready { IsReady self.old }
         requires built { IsBuiltLine 0 line.now }
+        requires time { self.old.ticks + ticks_of line.now.what < RUN_TICKS_END }
         ensures ok { IfOk result (λ r. Replies line.now self.old r self.new) }
     {
         let number = line.number;
         match &line.what {
             What::Server(op) => self.answer(op, number),
-            What::Host(_) => Ok(Reply::Ok),
+            What::Host(_) => Ok(self.pass(&line.what)),
         }
     }
 }

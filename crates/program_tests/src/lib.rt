@@ -16,3 +16,5 @@ mod refusals;
 mod rows;
 #[cfg(test)]
 mod sentences;
+#[cfg(test)]
+mod times;

@@ -7,7 +7,7 @@ use frang_base::{
 use reply_text::write_line;
 use std::alloc::Global;
 use std::test::Fail;
-use tree_model::History;
+use tree_model::{History, has_times};
 
 fn create_a(alloc: Global) -> Result<Op, NoMemory> {
     let mut path = Path::new(alloc);
@@ -66,7 +66,7 @@ fn lists_are_copied(rt: HostRuntime) -> Result<(), Fail> {
 // Applies a create.
 fn apply_create(tree: &mut Tree, op: &Op, birth: u64) -> Result<Reply, NoMemory> {
     match op {
-        Op::Create { .. } => tree.apply(op, OpNo(birth), 0),
+        Op::Create { .. } => tree.apply(op, OpNo(birth), 0, 0),
         _ => Ok(Reply::Down),
     }
 }
@@ -123,7 +123,9 @@ fn a_history_leaves_a_tree(rt: HostRuntime) -> Result<(), Fail> {
         answer(2, Reply::Ok),
         answer(3, Reply::Exist),
     ];
-    let mut history = History::live(alloc, &script(alloc)?, 1, &said)?;
+    let script = script(alloc)?;
+    assert!(rt; has_times(&script));
+    let mut history = History::live(alloc, &script, 1, &said)?;
     let text = left_tree(alloc, &history)?;
     assert_eq!(rt; text.as_slice(), b"= / dir 1\n= /a file 0 1\n".as_slice());
     history.drop_after(ServerId(0), OpNo(0))?;

@@ -6,7 +6,7 @@ use script_lang::read_script;
 use std::alloc::Global;
 use std::test::Fail;
 use tree_definitions::{Cell, Node};
-use tree_model::History;
+use tree_model::{History, has_times};
 
 // What was made after the sync is lost.
 const UNSYNCED: &str = "0 mount : mounted
@@ -24,7 +24,7 @@ const READ: &str = "0 mount : mounted
 0 sync : ok
 0 fill /a 0 10 42 : ok
 0 crash : ok
-! recovered 0 keeps 1.4
+! recovered 0 keeps 1.6
 1 read /a 0 4 : data 42414242";
 
 // A server that looked at the file has waited for its bytes.
@@ -36,7 +36,26 @@ const TOUCHED: &str = "0 mount : mounted
 0 fill /a 0 10 42 : ok
 1 stat /a : file 600 1
 0 crash : ok
-! recovered 0 keeps 1.4";
+! recovered 0 keeps 1.6";
+
+// A fill that the log lost is removed, though it leaves the size.
+const LOST_FILL: &str = "0 mount : mounted
+0 create /a : ok
+0 fill /a 0 600 41 : ok
+0 sync : ok
+0 fill /a 0 10 42 : ok
+0 crash : ok
+! recovered 0 keeps 1.3";
+
+// So is a truncate to the same size, and what its server did after it.
+const LOST_TRUNCATE: &str = "0 mount : mounted
+0 create /a : ok
+0 fill /a 0 600 41 : ok
+0 sync : ok
+0 truncate /a 600 : ok
+0 create /b : ok
+0 crash : ok
+! recovered 0 keeps 1.3";
 
 // Each recovery removes its own server's entries. A fill that stays leaves its sector in doubt, and one that is removed does not.
 const TWO_SERVERS: &str = "0 mount : mounted
@@ -54,7 +73,7 @@ const TWO_SERVERS: &str = "0 mount : mounted
 0 crash : ok
 1 crash : ok
 ! recovered 1 keeps 1.7
-! recovered 0 keeps 1.4";
+! recovered 0 keeps 1.9";
 
 // What was done before the server's last mount stays.
 const MOUNTED_AGAIN: &str = "0 mount : mounted
@@ -121,6 +140,9 @@ fn tree_left(alloc: Global, table: &str) -> Result<Vec<u8>, NoMemory> {
     let Ok(script) = read_script(alloc, &script) else {
         return Ok(Vec::new(alloc));
     };
+    if !has_times(&script) {
+        return Ok(Vec::new(alloc));
+    }
     let history = History::live(alloc, &script, 1, &saids)?;
     if !history.has_proper_targets() {
         return Ok(Vec::new(alloc));
@@ -134,6 +156,8 @@ fn recoveries_leave_trees(rt: HostRuntime) -> Result<(), Fail> {
         (UNSYNCED, "= / dir 1\n= /a file 0 1\n\n"),
         (READ, "= / dir 1\n= /a file 600 1\nB?AA\n"),
         (TOUCHED, "= / dir 1\n= /a file 600 1\nBAAA\n"),
+        (LOST_FILL, "= / dir 1\n= /a file 600 1\nAAAA\n"),
+        (LOST_TRUNCATE, "= / dir 1\n= /a file 600 1\nAAAA\n"),
         (
             TWO_SERVERS,
             "= / dir 2\n= /a file 600 1\n= /b file 600 1\nAA??\nBBBB\n",

@@ -143,9 +143,8 @@ fn a_bad_script_says_nothing(rt: HostRuntime) -> Result<(), Fail> {
         (b"0 crash 3\n".as_slice(), 1, 12),
         (b"0 cut 1\n".as_slice(), 1, 12),
         (b"0 stall\n".as_slice(), 1, 12),
-        (b"0 time /a\n".as_slice(), 1, 12),
-        (b"barrier\ntick 1\n".as_slice(), 2, 12),
-        (b"halt\n".as_slice(), 1, 12),
+        (b"barrier\ntick 1\n1 sync\n".as_slice(), 3, 12),
+        (b"halt\nbarrier\n".as_slice(), 2, 11),
         (b"0 crash\n0 create a\n".as_slice(), 2, 6),
     ] {
         expect_status(&rt, alloc, &["run", "s"], file, (1, line, kind))?;

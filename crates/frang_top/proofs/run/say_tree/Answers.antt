@@ -19,7 +19,7 @@ loop-j-init g c =
     let lines_are : c.deref-line-items.result.now ≡ tree_lines c.args.server.now.tree = c.deref-line-items.ensures.value ∙ c.in_ok-lines.ensures.is in
     let proper : All IsProperSaid c.deref-line-items.result.now = subst (All IsProperSaid) (sym c.deref-line-items.ensures.value) (all_proper c.in_ok-lines.lines.items c.in_ok-lines.ensures.proper) in
     record {
-      telling = begun (opening_of c.args.server.now) c.args.script.now c.args.server.now _ c.deref-line-items.result.now c.requires.built c.requires.done lines_are proper;
+      telling = begun (opening_of c.args.server.now) c.args.script.now c.args.server.now _ c.deref-line-items.result.now c.requires.script.built c.requires.done c.requires.goes_on lines_are proper;
       counts = search rules;
     }
 
@@ -31,7 +31,7 @@ returns-in-Err-clause-always g c =
 pub returns-in-Err-clause-stops : goal.returns-in-Err-clause-stops
 returns-in-Err-clause-stops g c =
     stops (g.O.Outside.state c.args.out.now) (g.O.Outside.state c.loop-j.out) (g.O.Outside.state c.say_one.new.out) (said_act c.line-item.result) (length c.args.script.now + c.loop-j.j) c.in-Err.fault
-    c.loop-j.invariant.telling.saids c.loop-j.invariant.telling.acts c.loop-j.invariant.telling.count c.loop-j.invariant.counts c.in-Err.ensures.outcome
+    c.loop-j.invariant.telling.saids c.loop-j.invariant.telling.acts c.loop-j.invariant.telling.proper c.loop-j.invariant.telling.count c.loop-j.invariant.counts c.in-Err.ensures.outcome
 
 pub loop-j-preserved : goal.loop-j-preserved
 loop-j-preserved g c = record {
@@ -58,4 +58,4 @@ returns-clause-always g c =
 pub returns-clause-stops : goal.returns-clause-stops
 returns-clause-stops g c =
     stops (g.O.Outside.state c.args.out.now) (g.O.Outside.state c.loop-j.out) (g.O.Outside.state c.say_one-2.new.out) (said_act End) _ c.in-Err-say_one.fault
-    c.loop-j.invariant.telling.saids c.loop-j.invariant.telling.acts (omega (arith, c.loop-j.invariant.telling.count)) c.loop-j.invariant.counts c.in-Err-say_one.ensures.outcome
+    c.loop-j.invariant.telling.saids c.loop-j.invariant.telling.acts c.loop-j.invariant.telling.proper (omega (arith, c.loop-j.invariant.telling.count)) c.loop-j.invariant.counts c.in-Err-say_one.ensures.outcome
