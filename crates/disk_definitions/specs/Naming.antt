@@ -31,7 +31,7 @@ pub record Naming : Type 0 where
 -- 1 for a file, 2 for a directory, 3 for a link
 abbrev pub kind_of : Node → ℕ
 kind_of (Dir entries blocks) = KIND_DIRECTORY
-kind_of (File cells links) = KIND_FILE
+kind_of (File cells links when) = KIND_FILE
 kind_of (Link target links) = KIND_LINK
 
 -- the small blocks of a node
@@ -43,7 +43,7 @@ blocks_of (Some node) = small_blocks node
 abbrev pub has_large : Option Node → Bool
 has_large None = false
 has_large (Some (Dir entries blocks)) = false
-has_large (Some (File cells links)) = nat_lt SMALL_BYTES_MAX (length cells)
+has_large (Some (File cells links when)) = nat_lt SMALL_BYTES_MAX (length cells)
 has_large (Some (Link target links)) = false
 
 -- the blocks of a directory
@@ -55,14 +55,14 @@ room_in (Some node) = dir_blocks node
 abbrev pub find_in : Option Node → List ℕ → Option ℕ
 find_in None name = None
 find_in (Some (Dir entries blocks)) name = entry_at entries name
-find_in (Some (File cells links)) name = None
+find_in (Some (File cells links when)) name = None
 find_in (Some (Link target links)) name = None
 
 -- a cell of a file
 abbrev pub cell_in : Option Node → ℕ → Option Cell
 cell_in None j = None
 cell_in (Some (Dir entries blocks)) j = None
-cell_in (Some (File cells links)) j = slice_get cells j
+cell_in (Some (File cells links when)) j = slice_get cells j
 cell_in (Some (Link target links)) j = None
 
 -- the first so many of the blocks, and 0 after them
@@ -72,8 +72,8 @@ first_blocks count block j = if nat_lt j count then block j else 0
 -- the inode of a node with these blocks
 abbrev pub inode_of : ℕ → (ℕ → ℕ) → ℕ → Node → StoredNode
 inode_of stamp block large (Dir entries blocks) =
-    record { kind = KIND_DIRECTORY; links = 1; size = length entries; birth = stamp; blocks = blocks; small = first_blocks blocks block; large = 0; target = [] }
-inode_of stamp block large (File cells links) = record {
+    record { kind = KIND_DIRECTORY; links = 1; size = length entries; birth = stamp; blocks = blocks; small = first_blocks blocks block; large = 0; when = 0; target = [] }
+inode_of stamp block large (File cells links when) = record {
   kind = KIND_FILE;
   links = links;
   size = length cells;
@@ -81,10 +81,11 @@ inode_of stamp block large (File cells links) = record {
   blocks = small_blocks_of (length cells);
   small = first_blocks (small_blocks_of (length cells)) block;
   large = if nat_lt SMALL_BYTES_MAX (length cells) then large + 1 else 0;
+  when = when;
   target = [];
 }
 inode_of stamp block large (Link target links) =
-    record { kind = KIND_LINK; links = links; size = length target; birth = stamp; blocks = 0; small = first_blocks 0 block; large = 0; target = target }
+    record { kind = KIND_LINK; links = links; size = length target; birth = stamp; blocks = 0; small = first_blocks 0 block; large = 0; when = 0; target = target }
 
 abbrev pub inode_by : Naming → ℕ → Option Node → Option StoredNode
 inode_by n b None = None
@@ -98,7 +99,7 @@ inode_for n at (Some b) = inode_by n b (at b)
 abbrev pub use_by : Option Node → Use
 use_by None = Fresh
 use_by (Some (Dir entries blocks)) = Entries
-use_by (Some (File cells links)) = Bytes
+use_by (Some (File cells links when)) = Bytes
 use_by (Some (Link target links)) = Fresh
 
 -- what a small block is used for, by its owner

@@ -14,7 +14,8 @@ use Rattle.sector_definitions.specs.Directories.{directory_in, is_free_place, na
 use Rattle.sector_definitions.specs.Bitmaps.{bitmap_in, inode_bit, block_state}
 use Rattle.sector_bytes.specs.Sectors.{Sectors}
 
--- an inode in use: its kind is 1 for a file, 2 for a directory, 3 for a link; the first `blocks` of its small blocks are in use
+-- an inode in use: its kind is 1 for a file, 2 for a directory, 3 for a link; the first `blocks` of its small blocks are in use; `when` is the time of a
+-- file's last write
 pub record StoredNode : Type 0 where
   pub kind : ℕ
   pub links : ℕ
@@ -23,6 +24,7 @@ pub record StoredNode : Type 0 where
   pub blocks : ℕ
   pub small : ℕ → ℕ
   pub large : ℕ
+  pub when : ℕ
   pub target : List ℕ
 
 -- an entry of a directory: a name with the inode and the kind of its node
@@ -60,7 +62,7 @@ byte_at s block large j = if nat_lt j SMALL_BYTES_MAX then s.byte (block (j / SM
 
 -- the node of an inode in use
 abbrev pub stored : Inode → StoredNode
-stored x = record { kind = x.kind; links = x.links; size = x.size; birth = x.birth; blocks = x.blocks; small = slice_index x.small; large = x.large; target = if x.kind == KIND_LINK then take x.size x.target else [] }
+stored x = record { kind = x.kind; links = x.links; size = x.size; birth = x.birth; blocks = x.blocks; small = slice_index x.small; large = x.large; when = x.when; target = if x.kind == KIND_LINK then take x.size x.target else [] }
 
 -- the node of an inode, where it isn't free
 abbrev pub stored_node : Option Inode → Option StoredNode

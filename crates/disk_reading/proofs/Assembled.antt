@@ -1,12 +1,12 @@
 -- The tests together say that a disk is sound.
-use Rattle.std.proofs.Common.{◌==◌, ◌≡◌, ℕ, ◌+◌, ◌*◌, ◌/◌, ◌%◌, ◌<◌, ◌≤◌, ⊎_elim, Bool, true, false, not, ◌&&◌, ◌||◌, Option, Some, None, List, length, is_some, cond, refl, sym, ◌∙◌, ap, subst, arith, MatchBool, Result, Ok, Err}
+use Rattle.std.proofs.Common.{◌==◌, ◌≡◌, ℕ, ◌*◌, ◌/◌, ◌%◌, ◌<◌, ⊎_elim, Bool, true, false, not, ◌&&◌, ◌||◌, Option, Some, None, List, length, cond, refl, sym, ◌∙◌, ap, subst, MatchBool, Result, Ok, Err}
 use Rattle.std.specs.Prelude.{IfOk}
 use Rattle.std.specs.Option.{option_map}
 use Rattle.std.specs.List.Sorted.{IsStrictlySortedBy}
-use Rattle.std.specs.Map.{keys_of, values_of}
+use Rattle.std.specs.Map.{keys_of}
 use Rattle.std.specs.Ordering.{nat_cmp}
 use Rattle.std.specs.Cmp.Lexicographic.{slice_cmp}
-use Rattle.std.proofs.lemmas.Bool.{and_parts, and_from, cases_lt, cases_Bool, both_ways, cond-true}
+use Rattle.std.proofs.lemmas.Bool.{and_parts, and_from, cases_lt, both_ways, cond-true}
 use Rattle.tree_definitions.specs.declared.node.Node.{Node}
 use Rattle.tree_definitions.specs.declared.node.Node.TheVariants.{Dir, File, Link}
 use Rattle.tree_definitions.specs.Entries.{Entries, entry_at}
@@ -14,21 +14,20 @@ use Rattle.sector_bytes.specs.Sectors.{Sectors}
 use Rattle.disk_definitions.specs.Store.{Store, StoredNode, store_of, is_unused}
 use Rattle.disk_definitions.specs.Standing.{IsReached}
 use Rattle.standing_laws.specs.Below.{all_below, lists, are_distinct}
-use Rattle.standing_laws.specs.ReadTree.{place_at, entries_to, read_node, nodes_to, tree_in, byte_at, cells_to}
-use Rattle.standing_laws.specs.Soundness.{bit_agrees, block_at, use_agrees, is_cleared, is_marked, large_at, has_kind, entries_agree, directory_agrees, node_agrees, links_agree, IsConsistent, IsSound}
+use Rattle.standing_laws.specs.ReadTree.{place_at, entries_to, read_node, nodes_to}
+use Rattle.standing_laws.specs.Soundness.{bit_agrees, block_at, use_agrees, is_cleared, is_marked, large_at, has_kind, entries_agree, directory_agrees, node_agrees, IsSound}
 use Rattle.standing_laws.proofs.Bounded.{all_at}
 use Rattle.standing_laws.proofs.Entered.{StandsAt, found_at, new_name, sorted_to}
 use Rattle.standing_laws.proofs.NodesRead.{node_read}
 use Rattle.standing_laws.proofs.Pictured.{IsInRange, cells_of}
-use Rattle.standing_laws.proofs.SoundStanding.{disk_range}
 use Rattle.standing_laws.proofs.RoomLaws.{small_below, large_below}
 use Rattle.disk_reading.specs.Fits.{sectors_fit}
 use Rattle.disk_reading.specs.Marks.{IsBelow}
 use Rattle.disk_reading.specs.Names.{is_linked}
-use Rattle.disk_reading.specs.Reach.{AreNamedBelow, NamesAscendIn, has_value, names_at, nodes_at}
+use Rattle.disk_reading.specs.Reach.{AreNamedBelow, NamesAscendIn, names_at, nodes_at}
 use Rattle.disk_reading.specs.Tests.{marks_agree, owners_agree, IsSoundReading}
 use Rattle.disk_reading.proofs.NamesFound.{value_named}
-use Rattle.disk_reading.proofs.Tested.{Fits, fits_at, fits_from}
+use Rattle.disk_reading.proofs.Tested.{fits_at, fits_from}
 
 -- the parts of the tests
 pub record Marks (most segments : ℕ) (s : Store) (sectors : Sectors) : Type 0 where
@@ -76,7 +75,7 @@ module _ (segments : ℕ) (s : Store) (range : IsInRange segments s) where
   dir_of : (x : StoredNode) (es : Entries) (k : ℕ) → read_node s x ≡ Dir es k → (x.kind == 2 ≡ true) × (es ≡ entries_to (place_at s x) (56 * x.blocks))
   dir_of x es k h = go (x.kind == 2) (x.kind == 1) h
     where
-      go : (t u : Bool) → cond t (Dir (entries_to (place_at s x) (56 * x.blocks)) x.blocks) (cond u (File (cells_of s x) x.links) (Link x.target x.links)) ≡ Dir es k → (t ≡ true) × (es ≡ entries_to (place_at s x) (56 * x.blocks))
+      go : (t u : Bool) → cond t (Dir (entries_to (place_at s x) (56 * x.blocks)) x.blocks) (cond u (File (cells_of s x) x.links x.when) (Link x.target x.links)) ≡ Dir es k → (t ≡ true) × (es ≡ entries_to (place_at s x) (56 * x.blocks))
       go true u h = (refl, (let q : entries_to (place_at s x) (56 * x.blocks) ≡ es = cc in sym q))
       go false true h = absurd (cc)
       go false false h = absurd (cc)
@@ -103,7 +102,7 @@ module _ (segments : ℕ) (s : Store) (range : IsInRange segments s) where
     where
       go : (o : Option Node) → at b ≡ o → names_at o v ≡ true → v < 64 * segments
       go None e h = absurd (cc)
-      go (Some (File cells links)) e h = absurd (cc)
+      go (Some (File cells links when)) e h = absurd (cc)
       go (Some (Link target links)) e h = absurd (cc)
       go (Some (Dir es k)) e h =
           let t = read_dir_at b es k e in

@@ -1,5 +1,5 @@
 -- The bytes of a file, sector by sector.
-use Rattle.std.proofs.Common.{◌≡◌, ℕ, zero, suc, ◌+◌, ◌-◌, ◌*◌, ◌/◌, ◌%◌, ◌<◌, ◌≤◌, Bool, true, false, List, [], ◌∷◌, ◌++◌, length, map, take, drop, cond, refl, sym, ◌∙◌, ap, subst, arith, nat_lt, slice_index, lt-ltb, le-ltb, append_assoc, append-nil, ⊎_elim, get_or-take, length-take, min}
+use Rattle.std.proofs.Common.{◌≡◌, ℕ, suc, ◌+◌, ◌-◌, ◌*◌, ◌/◌, ◌%◌, ◌<◌, ◌≤◌, List, [], ◌∷◌, ◌++◌, length, map, take, drop, sym, ◌∙◌, ap, subst, arith, nat_lt, slice_index, lt-ltb, le-ltb, append_assoc, append-nil, ⊎_elim, get_or-take, length-take, min}
 use Rattle.std.proofs.lemmas.Bool.{cases_lt, cond-true, cond-false}
 use Rattle.std.proofs.lemmas.List.{take_all, drop_all}
 use Rattle.tree_definitions.specs.declared.cells.Cell.{Cell}

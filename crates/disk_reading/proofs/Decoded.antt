@@ -1,8 +1,7 @@
 -- What decoded sectors say of a store.
-use Rattle.std.proofs.Common.{◌==◌, ◌≡◌, ℕ, ◌+◌, ◌*◌, ◌/◌, ◌%◌, ◌<◌, ◌≤◌, Bool, true, false, not, ◌&&◌, ◌||◌, ⊎_elim, Option, Some, None, List, take, cond, refl, sym, ◌∙◌, ap, nat_lt, nat_le, nat_eq, slice_index, eqb-true, leb-true, lt-ltb, le-ltb, ne_eqb}
-use Rattle.std.specs.Option.{option_map}
+use Rattle.std.proofs.Common.{◌==◌, ◌≡◌, ℕ, ◌*◌, ◌/◌, ◌%◌, ◌<◌, ◌≤◌, Bool, true, false, ◌&&◌, ◌||◌, ⊎_elim, Option, Some, None, List, cond, refl, sym, ◌∙◌, ap, nat_lt, nat_le, leb-true, lt-ltb, le-ltb, ne_eqb}
 use Rattle.std.specs.List.{slice_get}
-use Rattle.std.proofs.lemmas.Bool.{or_cases, cond-true, cond-false, and_right, both_ways, false_from_ne_true, cases_Bool}
+use Rattle.std.proofs.lemmas.Bool.{or_cases, cond-true, cond-false, and_right, both_ways}
 use Rattle.sector_definitions.specs.declared.inode.Inode.{Inode}
 use Rattle.sector_definitions.specs.declared.directory.DirEntry.{DirEntry}
 use Rattle.sector_definitions.specs.declared.directory.DirSector.{DirSector}

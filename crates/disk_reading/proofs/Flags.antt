@@ -1,8 +1,8 @@
 -- One number more among those that are flagged.
-use Rattle.std.proofs.Common.{◌==◌, ◌≡◌, ◌≢◌, ℕ, zero, suc, ◌+◌, ◌<◌, ◌≤◌, ⊎_elim, Bool, true, false, not, ◌&&◌, ◌||◌, Option, Some, None, List, [], ◌∷◌, ◌++◌, take, drop, length, replicate, set, get_or, cond, refl, sym, ◌∙◌, ap, subst, arith, eq-eqb, ne_eqb, length-set, get_or-set_same, get_or-set_other}
-use Rattle.std.proofs.lemmas.Bool.{cases_eq, and_from, and_right, or_left, or_right, not_from_false, not_from_true, both_ways}
+use Rattle.std.proofs.Common.{◌==◌, ◌≡◌, ℕ, zero, suc, ◌+◌, ◌<◌, ⊎_elim, Bool, true, false, not, ◌&&◌, ◌||◌, Option, Some, None, List, [], ◌∷◌, ◌++◌, take, length, replicate, get_or, refl, sym, ◌∙◌, ap, subst, arith, eq-eqb, ne_eqb, length-set, get_or-set_same, get_or-set_other}
+use Rattle.std.proofs.lemmas.Bool.{cases_eq, and_from, or_right, not_from_false, not_from_true, both_ways}
 use Rattle.standing_laws.specs.Below.{all_below, holds, lists, is_new, are_distinct}
-use Rattle.standing_laws.proofs.Bounded.{all_more, any_more, lists_from, all_at}
+use Rattle.standing_laws.proofs.Bounded.{all_more, any_more, all_at}
 use Rattle.disk_reading.specs.Marks.{flag_at, has_flag, flagged, AreFlags, IsBelow}
 
 -- what isn't flagged is new

@@ -1,5 +1,5 @@
 -- A count that stops at its greatest, against a smaller number.
-use Rattle.std.proofs.Common.{◌==◌, ◌≡◌, ℕ, ◌+◌, ◌-◌, ◌^◌, ◌<◌, Bool, true, false, min, sym, ◌∙◌, ap, ⊎_elim, arith, eq-eqb, ne_eqb}
+use Rattle.std.proofs.Common.{◌==◌, ◌≡◌, ℕ, ◌+◌, ◌<◌, min, sym, ◌∙◌, ⊎_elim, arith, eq-eqb, ne_eqb}
 use Rattle.std.proofs.lemmas.Bool.{cases_eq}
 
 pub capped : (n o l : ℕ) → l < 4294967296 → (min (min n 18446744073709551615 + o) 18446744073709551615 == l) ≡ (n + o == l)

@@ -1,5 +1,5 @@
 -- What an inode in use says of its blocks.
-use Rattle.std.proofs.Common.{◌≡◌, ℕ, ◌-◌, ◌<◌, Bool, true, false, Option, Some, None, cond, refl, sym, ◌∙◌, ap, nat_lt, slice_index, ◌≤◌, le-ltb, lt-ltb, ⊎_elim, arith}
+use Rattle.std.proofs.Common.{◌≡◌, ℕ, ◌-◌, ◌<◌, Bool, true, false, Option, Some, None, sym, ◌∙◌, ap, nat_lt, slice_index, ◌≤◌, le-ltb, lt-ltb, ⊎_elim, arith}
 use Rattle.std.proofs.lemmas.Bool.{cond-true, cond-false, cases_lt, both_ways, false_from_ne_true}
 use Rattle.standing_laws.specs.Below.{all_below}
 use Rattle.standing_laws.proofs.Bounded.{all_at}

@@ -1,8 +1,8 @@
 -- What stands among the values of a directory's entries has a name there.
-use Rattle.std.proofs.Common.{◌==◌, ◌≡◌, ◌≢◌, ℕ, Bool, true, false, ◌&&◌, ◌||◌, ⊎_elim, Option, Some, None, List, [], ◌∷◌, cond, refl, sym, ◌∙◌, ap, eqb-true}
-use Rattle.std.specs.List.{list_any, list_all}
+use Rattle.std.proofs.Common.{◌==◌, ◌≡◌, ◌≢◌, ℕ, Bool, true, false, ⊎_elim, Some, None, List, [], ◌∷◌, cond, sym, ◌∙◌, ap, eqb-true}
+use Rattle.std.specs.List.{list_all}
 use Rattle.std.specs.List.Sorted.{IsStrictlySortedBy}
-use Rattle.std.specs.Map.{lookup, keys_of, values_of}
+use Rattle.std.specs.Map.{keys_of, values_of}
 use Rattle.std.specs.BTreeMap.{is_at}
 use Rattle.std.specs.Ordering.{nat_cmp}
 use Rattle.std.specs.Cmp.Lexicographic.{slice_cmp}

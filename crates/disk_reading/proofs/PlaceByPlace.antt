@@ -1,5 +1,5 @@
 -- One place, and one inode, more of what is read.
-use Rattle.std.proofs.Common.{◌==◌, ◌≡◌, ◌≢◌, ℕ, zero, suc, ◌+◌, ◌*◌, ◌<◌, ◌≤◌, ⊎_elim, Bool, true, false, not, ◌&&◌, ◌||◌, Option, Some, None, List, length, is_some, take, min, cond, refl, sym, ◌∙◌, ap, subst, arith, eq-eqb, ne_eqb, length-take}
+use Rattle.std.proofs.Common.{◌==◌, ◌≡◌, ◌≢◌, ℕ, suc, ◌+◌, ◌*◌, ◌<◌, ◌≤◌, ⊎_elim, true, false, not, ◌||◌, Option, Some, None, List, length, is_some, take, min, cond, refl, sym, ◌∙◌, ap, arith, eq-eqb, ne_eqb, length-take}
 use Rattle.std.specs.Ordering.{nat_cmp}
 use Rattle.std.specs.Cmp.Lexicographic.{slice_cmp}
 use Rattle.std.proofs.lemmas.Bool.{and_parts, and_from, and_left, and_right, or_cases, not-true, cond-true, cond-false, both_ways, false_from_ne_true}
@@ -9,9 +9,8 @@ use Rattle.tree_definitions.specs.declared.cells.Cell.{Cell}
 use Rattle.tree_definitions.specs.declared.node.Node.TheVariants.{Dir, File, Link}
 use Rattle.tree_definitions.specs.Entries.{Entries, entry_at}
 use Rattle.tree_laws.proofs.Pairs.{name_exact, length_put}
-use Rattle.disk_definitions.specs.Store.{Store, StoredNode, StoredEntry, stored}
-use Rattle.standing_laws.specs.Below.{all_below}
-use Rattle.standing_laws.specs.ReadTree.{place_at, with_place, entries_to, byte_at, cells_to, read_node}
+use Rattle.disk_definitions.specs.Store.{Store, StoredEntry, stored}
+use Rattle.standing_laws.specs.ReadTree.{place_at, with_place, entries_to, byte_at, cells_to}
 use Rattle.standing_laws.specs.Soundness.{has_kind, entry_agrees, entries_agree, directory_agrees, node_agrees}
 use Rattle.standing_laws.proofs.Bounded.{all_more, all_at}
 use Rattle.standing_laws.proofs.Shapes.{file_shape, dir_shape, link_shape}
@@ -101,10 +100,10 @@ module _ (s : Store) (x : Inode) where
   pub dir_other_size : (es : Entries) → x.kind ≡ 2 → es ≡ entries_to places (56 * x.blocks) → length es ≢ x.size → node_agrees s (Some (stored x)) ≡ false
   dir_other_size es k e n = as_dir k ∙ and_right (entries_agree s places (56 * x.blocks)) (length (entries_to places (56 * x.blocks)) == x.size) (ne_eqb (length (entries_to places (56 * x.blocks))) x.size (λ z. n (ap length e ∙ z)))
 
-  pub file_node : (cells : List Cell) → x.kind ≡ 1 → cells ≡ cells_to (byte_at s (stored x)) x.size → IsNode s (stored x) (Some (File cells x.links))
+  pub file_node : (cells : List Cell) → x.kind ≡ 1 → cells ≡ cells_to (byte_at s (stored x)) x.size → IsNode s (stored x) (Some (File cells x.links x.when))
   file_node cells k e = (
     cond-false (x.kind == 2) (directory_agrees s (stored x)) (cond (x.kind == 3) (length (stored x).target == x.size) true) (ap (λ k. k == 2) k) ∙ cond-false (x.kind == 3) (length (stored x).target == x.size) true (ap (λ k. k == 3) k),
-    ap (λ c. File c x.links) e ∙ sym (read_file s (stored x) k),
+    ap (λ c. File c x.links x.when) e ∙ sym (read_file s (stored x) k),
   )
 
   pub link_node : (target : List ℕ) → is_link_inode x ≡ true → length x.target ≡ 384 → target ≡ take x.size x.target → IsNode s (stored x) (Some (Link target x.links))

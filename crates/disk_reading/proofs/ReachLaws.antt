@@ -1,5 +1,5 @@
 -- Flags that grow stay flags of what is reached, and closed flags are all of it.
-use Rattle.std.proofs.Common.{◌==◌, ◌&&◌, ◌||◌, not, MatchBool, eq-eqb, ◌≡◌, ℕ, zero, suc, ◌+◌, ◌<◌, ◌≤◌, ⊎_elim, Bool, true, false, Option, Some, None, List, [], ◌∷◌, is_some, length, set, get_or, sum_by, cond, refl, sym, ◌∙◌, ap, subst, arith}
+use Rattle.std.proofs.Common.{◌==◌, ◌&&◌, not, MatchBool, eq-eqb, ◌≡◌, ℕ, zero, suc, ◌+◌, ◌<◌, ◌≤◌, ⊎_elim, Bool, true, false, Option, Some, None, List, [], ◌∷◌, is_some, length, cond, refl, sym, ◌∙◌, ap, subst, arith}
 use Rattle.std.specs.Option.{option_and_then}
 use Rattle.disk_definitions.specs.Naming.{Nodes, find_in}
 use Rattle.disk_definitions.specs.Standing.{reached_from, IsReached, IsReachedAt}
@@ -38,7 +38,7 @@ flag_within (x ∷ flags) (suc k) h = let l : k < length flags = flag_within fla
 named_found : (at : Nodes) → NamesAscendIn at → (d v : ℕ) (o : Option Node) → at d ≡ o → names_at o v ≡ true → (name : List ℕ) × (find_in (at d) name ≡ Some v)
 named_found at sorted d v None e h = absurd (cc)
 named_found at sorted d v (Some (Dir es k)) e h = let r = value_named es v (sorted d es k e) h in (r.0, ap (λ o. find_in o r.0) e ∙ r.1)
-named_found at sorted d v (Some (File cells links)) e h = absurd (cc)
+named_found at sorted d v (Some (File cells links when)) e h = absurd (cc)
 named_found at sorted d v (Some (Link target links)) e h = absurd (cc)
 
 module _ (at : Nodes) (sorted : NamesAscendIn at) (before : List Bool) (i : ℕ) (flags : List Bool) (s : HasSpread at before i flags) where
@@ -111,7 +111,7 @@ some_missing p (x ∷ xs) h = go (p x) refl h (some_missing p xs)
 not_closed_at : (flags : List Bool) (o : Option Node) → names_flagged flags o ≡ false → (v : ℕ) × (names_at o v ≡ true) × (flag_at flags v ≡ false)
 not_closed_at flags None h = absurd (cc)
 not_closed_at flags (Some (Dir es k)) h = some_missing (flag_at flags) (values_of es) h
-not_closed_at flags (Some (File cells links)) h = absurd (cc)
+not_closed_at flags (Some (File cells links when)) h = absurd (cc)
 not_closed_at flags (Some (Link target links)) h = absurd (cc)
 
 one_fails : (n : ℕ) (test : ℕ → Bool) → all_below n test ≡ false → (i : ℕ) × (i < n) × (test i ≡ false)
@@ -135,7 +135,7 @@ closed_names flags at h d b name f e =
     go : (o : Option Node) → names_flagged flags o ≡ true → find_in o name ≡ Some b → flag_at flags b ≡ true
     go None t e = absurd (cc)
     go (Some (Dir es k)) t e = named_all (flag_at flags) es name b t e
-    go (Some (File cells links)) t e = absurd (cc)
+    go (Some (File cells links when)) t e = absurd (cc)
     go (Some (Link target links)) t e = absurd (cc)
 
 -- keys that are found, and all of them

@@ -1,22 +1,19 @@
 -- The tree of a sound disk can be held, and is what reading the disk gives.
-use Rattle.std.proofs.Common.{◌≡◌, ℕ, ◌+◌, ◌*◌, ◌<◌, ◌≤◌, Bool, true, false, ◌&&◌, Option, Some, None, List, [], ◌∷◌, length, sum_by, cond, refl, sym, ◌∙◌, ap, subst, arith, nat_lt, nat_le, leb-true, lt-ltb, le-leb}
+use Rattle.std.proofs.Common.{◌≡◌, ℕ, ◌+◌, ◌*◌, ◌≤◌, Bool, true, false, ◌&&◌, Some, None, List, length, cond, refl, sym, ◌∙◌, subst, arith, nat_lt, nat_le, leb-true, lt-ltb, le-leb}
 use Rattle.std.specs.List.{list_all}
-use Rattle.std.specs.Map.{lookup, values_of}
 use Rattle.std.specs.Ordering.{nat_cmp}
 use Rattle.std.proofs.lemmas.Bool.{and_parts, and_from, cond-true}
 use Rattle.tree_definitions.specs.declared.node.Node.{Node}
 use Rattle.tree_definitions.specs.declared.node.Node.TheVariants.{Dir, File, Link}
-use Rattle.tree_definitions.specs.Tree.{FileTree, node_at, count_of, small_blocks, file_blocks, dir_blocks, large_blocks}
+use Rattle.tree_definitions.specs.Tree.{FileTree, node_at, count_of, small_blocks, file_blocks, dir_blocks}
 use Rattle.tree_laws.proofs.Pairs.{birth_exact}
 use Rattle.frang_base.specs.Name.{is_target, is_target_byte}
 use Rattle.sector_definitions.specs.declared.param.Param.{Param}
 use Rattle.std.specs.Str.{bytes_eq}
 use Rattle.sector_definitions.specs.Params.{param_in, param_fits, param_fields, param_bytes}
 use Rattle.sector_definitions.proofs.Readings.{and_l, and_r}
-use Rattle.sector_definitions.proofs.ParamLaws.{few_segments}
 use Rattle.sector_bytes.specs.Sectors.{Sectors}
 use Rattle.disk_definitions.specs.Store.{store_of}
-use Rattle.disk_definitions.specs.Standing.{StandsFor}
 use Rattle.tree_edits.specs.Counts.{IsWithin}
 use Rattle.tree_edits.proofs.Counting.{small_blocks_both}
 use Rattle.file_tree.specs.Proper.{odd_target, HasTargets}
@@ -61,7 +58,7 @@ module _ (most segments : ℕ) (sectors : Sectors) (few : segments ≤ 64) (soun
     where
       weighs : (b : ℕ) (node : Node) → node_at tree b ≡ Some node → odd_target node ≡ 0
       weighs b (Dir es k) h = refl
-      weighs b (File cells links) h = refl
+      weighs b (File cells links when) h = refl
       weighs b (Link target links) h =
           let t = fits.targets b target links h in
           cond-true (is_target target) 0 1 (and_from (nat_lt 0 (length target) && nat_le (length target) 384) (list_all is_target_byte target) (and_from (nat_lt 0 (length target)) (nat_le (length target) 384) (lt-ltb 0 (length target) t.0) (le-leb (length target) 384 t.1)) t.2)

@@ -1,15 +1,12 @@
 -- Where the bytes of a file lie, sector by sector.
-use Rattle.std.specs.Prelude.{◌≡◌, ◌≤◌, ◌<◌, ℕ, ◌-◌, ◌*◌, ◌/◌, ◌%◌, Bool, true, false, if◌then◌else◌, nat_lt, Option, Some, None, List}
+use Rattle.std.specs.Prelude.{◌≡◌, ℕ, ◌-◌, ◌/◌, ◌%◌, true, false, if◌then◌else◌, nat_lt, Option, Some, None}
 use Rattle.frang_base.specs.declared.limits.TheConstants.{SMALL_BLOCK_SECTORS, SMALL_SECTORS_MAX}
 use Rattle.sector_definitions.specs.declared.region.Region.TheVariants as region
 use Rattle.sector_definitions.specs.Regions.{sector_of}
 use Rattle.tree_definitions.specs.Entries.{Entries}
 use Rattle.disk_definitions.specs.Store.{Store, StoredNode, StoredEntry}
-use Rattle.standing_laws.specs.ReadTree.{entries_to, read_node, nodes_to}
-use Rattle.sector_definitions.specs.declared.inode.Inode.{Inode}
-use Rattle.sector_definitions.specs.Inodes.{inode_fits}
+use Rattle.standing_laws.specs.ReadTree.{entries_to, read_node}
 use Rattle.tree_definitions.specs.declared.node.Node.{Node}
-use Rattle.standing_laws.specs.Below.{all_below}
 use Rattle.standing_laws.specs.Soundness.{entries_agree, node_agrees}
 
 -- the sector of 512 bytes of a file, counted from its start: the first 128 stand in small blocks, the others in the large one

@@ -1,8 +1,5 @@
 -- Flags for numbers that are listed, and counts of names.
-use Rattle.std.specs.Prelude.{◌≡◌, ◌<◌, ℕ, ◌-◌, ◌^◌, Bool, true, false, Option, Some, None, List, length, min, slice_index_or, slice_set, sum_by}
-use Rattle.std.specs.Map.{values_of}
-use Rattle.tree_definitions.specs.declared.node.Node.{Node}
-use Rattle.tree_laws.specs.WellFormed.{names_in}
+use Rattle.std.specs.Prelude.{◌≡◌, ◌<◌, ℕ, Bool, true, false, Option, Some, None, List, length, slice_index_or, slice_set}
 use Rattle.standing_laws.specs.Below.{lists, are_distinct}
 
 -- the flag of a number

@@ -1,5 +1,5 @@
 -- Which nodes are reached from the root, as flags.
-use Rattle.std.specs.Prelude.{◌≡◌, ◌<◌, ◌≤◌, ℕ, ◌+◌, Bool, true, false, not, ◌||◌, ◌==◌, if◌then◌else◌, List, [], ◌∷◌, length, Option, Some, None, is_some}
+use Rattle.std.specs.Prelude.{◌≡◌, ◌<◌, ℕ, ◌+◌, Bool, true, false, not, ◌||◌, ◌==◌, List, [], ◌∷◌, length, Option, Some, None}
 use Rattle.std.specs.List.{list_any, list_all}
 use Rattle.std.specs.Map.{lookup, keys_of, values_of}
 use Rattle.std.specs.List.Sorted.{IsStrictlySortedBy}
@@ -26,7 +26,7 @@ has_value xs k = list_any (λ v. v == k) xs
 abbrev pub names_at : Option Node → ℕ → Bool
 names_at None k = false
 names_at (Some (Dir entries blocks)) k = has_value (values_of entries) k
-names_at (Some (File cells links)) k = false
+names_at (Some (File cells links when)) k = false
 names_at (Some (Link target links)) k = false
 
 -- each birth with a flag is reached
@@ -53,7 +53,7 @@ NamesAscendIn at = (d : ℕ) (entries : Entries) (blocks : ℕ) → at d ≡ Som
 abbrev pub names_flagged : List Bool → Option Node → Bool
 names_flagged flags None = true
 names_flagged flags (Some (Dir entries blocks)) = list_all (flag_at flags) (values_of entries)
-names_flagged flags (Some (File cells links)) = true
+names_flagged flags (Some (File cells links when)) = true
 names_flagged flags (Some (Link target links)) = true
 
 -- what has a flag names nothing without one

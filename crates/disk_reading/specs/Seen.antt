@@ -1,5 +1,5 @@
 -- What decoded sectors are in a store.
-use Rattle.std.specs.Prelude.{ℕ, Option, Some, None, List}
+use Rattle.std.specs.Prelude.{ℕ, List}
 use Rattle.bitmap_block.specs.declared.state.BlockState.{BlockState}
 use Rattle.bitmap_block.specs.declared.state.BlockState.TheVariants as state
 use Rattle.sector_bytes.specs.Sectors.{sectors_of}

@@ -137,7 +137,8 @@ fn read_node(
     }
     if inode.kind == KIND_FILE {
         let cells = read_cells(alloc, disk, segments, inode)?;
-        return Ok(Some(Node::File { cells, links }));
+        let when = inode.when;
+        return Ok(Some(Node::File { cells, links, when }));
     }
     let target = read_target(alloc, inode)?;
     Ok(Some(Node::Link { target, links }))

@@ -62,8 +62,8 @@ pub(crate) fn read_sound(
     all_reached(alloc, nodes, SEGMENT_INODES * segments)
 }
 
-/// The tree that a disk stands for. The birth of each node is the number of its inode, and no cell is doubtful. `None` exactly where the
-/// disk stands for no tree.
+/// The tree that a disk stands for. The birth of each node is the number of its inode, the time of a file is the one that its inode has,
+/// and no cell is doubtful. `None` exactly where the disk stands for no tree.
 pub fn tree_read(alloc: Global, disk: &Disk) -> Result<Option<Tree>, NoMemory>
     ensures { IfOk result (IsReading (sectors_of disk.now)) }
 {

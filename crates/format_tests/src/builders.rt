@@ -23,7 +23,7 @@ pub const SEGMENT: u64 = 4_294_967_296;
 pub const ROOT: u64 = 10_737_418_240;
 
 /// The parameter sector of a fresh disk of 16 segments.
-pub const FRESH_PARAMETERS: [Piece; 1] = [(0, b"FRANGPAR\x01\0\0\0\x10\0\0\0\x01")];
+pub const FRESH_PARAMETERS: [Piece; 1] = [(0, b"FRANGPAR\x02\0\0\0\x10\0\0\0\x01")];
 
 // A disk of 16 segments in its first run, with the root alone. Its sectors stand from the last to the first.
 const FRESH: [SectorPiece; 6] = [
@@ -32,7 +32,7 @@ const FRESH: [SectorPiece; 6] = [
     (ROOT, 10, b"\x01"),
     (SEGMENT, 0, b"\x01"),
     (SEGMENT, 8, b"\x01"),
-    (PARAMETERS, 0, b"FRANGPAR\x01\0\0\0\x10\0\0\0\x01"),
+    (PARAMETERS, 0, b"FRANGPAR\x02\0\0\0\x10\0\0\0\x01"),
 ];
 
 /// Puts the bytes of a piece in place of those that stand there.

@@ -111,6 +111,29 @@ fn names_are_read_in_order(rt: HostRuntime) -> Result<(), Fail> {
 }
 
 #[test]
+fn a_disk_without_times_is_read(rt: HostRuntime) -> Result<(), Fail> {
+    let mut disk = fresh_disk(rt.alloc())?;
+    change(&mut disk, (PARAMETERS, 8, b"\x01"))?;
+    assert!(rt; stands_for(rt.alloc(), &disk, &[("/", 2, 0, 0)])?);
+    Ok(())
+}
+
+#[test]
+fn a_file_with_a_time_is_read(rt: HostRuntime) -> Result<(), Fail> {
+    let mut disk = with_four_names(rt.alloc())?;
+    change(&mut disk, (INODE_1, 100, b"\x09\0\0\0\x01"))?;
+    let wanted = [
+        ("/", 2, 4, 0),
+        ("/a", 1, 3, 2),
+        ("/b", 1, 3, 2),
+        ("/d", 2, 0, 0),
+        ("/l", 3, 2, 0),
+    ];
+    assert!(rt; stands_for(rt.alloc(), &disk, &wanted)?);
+    Ok(())
+}
+
+#[test]
 fn a_block_that_was_a_directory_is_clear(rt: HostRuntime) -> Result<(), Fail> {
     let mut disk = fresh_disk(rt.alloc())?;
     change(&mut disk, (SEGMENT, 17, b"\x08"))?;
@@ -124,10 +147,14 @@ fn a_block_that_was_a_directory_is_clear(rt: HostRuntime) -> Result<(), Fail> {
 
 #[test]
 fn a_disk_that_breaks_a_condition_stands_for_none(rt: HostRuntime) -> Result<(), Fail> {
-    let broken: [(&'static str, SectorPiece); 18] = [
+    let broken: [(&'static str, SectorPiece); 22] = [
         ("no parameters", (PARAMETERS, 0, b"f")),
+        ("a format before the first", (PARAMETERS, 8, b"\0")),
+        ("a format past the newest", (PARAMETERS, 8, b"\x03")),
         ("no segments", (PARAMETERS, 12, b"\0")),
         ("an inode not in its grammar", (INODE_1, 9, b"\x01")),
+        ("a directory with a time", (INODE_2, 100, b"\x01")),
+        ("a link with a time", (INODE_3, 107, b"\x01")),
         ("an entry not in its grammar", (BLOCK_0, 78, b"\x01")),
         ("a version that the run has not", (ROOT, 2, b"\x02")),
         ("the bit of a free inode", (SEGMENT, 8, b"\x1f")),

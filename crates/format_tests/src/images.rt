@@ -9,7 +9,7 @@ use std::test::Fail;
 // The bytes of the fresh image that aren't zero: mark and count, the parameters, the first segment, the root.
 const FRESH: [Piece; 8] = [
     (0, b"FRANGIM1\x03"),
-    (24, b"FRANGPAR\x01\0\0\0\x10\0\0\0\x01"),
+    (24, b"FRANGPAR\x02\0\0\0\x10\0\0\0\x01"),
     (540, b"\x01"),
     (544, b"\x01"),
     (552, b"\x01"),
@@ -127,7 +127,7 @@ fn the_greatest_count(rt: HostRuntime) -> Result<(), Fail> {
 #[test]
 fn some_bytes_changed(rt: HostRuntime) -> Result<(), Fail> {
     // A place, the bytes that stand there instead, and the fault.
-    let changes: [(usize, &'static [u8], Fault); 22] = [
+    let changes: [(usize, &'static [u8], Fault); 27] = [
         (0, b"\0", (0, 2)),
         (7, b"2", (0, 2)),
         (8, b"\0", (16, 6)),
@@ -137,6 +137,9 @@ fn some_bytes_changed(rt: HostRuntime) -> Result<(), Fail> {
         (8, b"\xff", (1576, 1)),
         (16, b"\x01", (16, 7)),
         (24, b"\0", (16, 7)),
+        (32, b"\0", (16, 7)),
+        (32, b"\x01", (0, 0)),
+        (32, b"\x03", (16, 7)),
         (36, b"\x41", (16, 7)),
         (36, b"\x01", (0, 0)),
         (40, b"\xff\xff\xff\xff", (16, 7)),
@@ -150,6 +153,8 @@ fn some_bytes_changed(rt: HostRuntime) -> Result<(), Fail> {
         (1060, b"\0", (1056, 3)),
         (1063, b"\x01", (1056, 4)),
         (1072, b"\x04", (1056, 7)),
+        (1164, b"\x01", (1056, 7)),
+        (1171, b"\x01", (1056, 7)),
     ];
     for (place, bytes, fault) in changes {
         assert!(rt;

@@ -20,6 +20,7 @@ fn root() -> Inode {
         birth: 0,
         small: [0; 16],
         large: 0,
+        when: 0,
         target: [0; 384],
     }
 }
@@ -33,8 +34,18 @@ const LINK: [Piece; 5] = [
     (128, b"/a"),
 ];
 
-// A file of so many bytes in small block 9, with so many names.
-fn file(version: u64, links: u16, size: u64) -> Inode
+// A file of 258 bytes in small block 9, made by line 1 of run 2 and last written in run 3 at tick 513.
+const TIMED: [Piece; 6] = [
+    (0, b"\x04"),
+    (8, b"\x01\0\x01\0\x01\0\0\0\x02\x01"),
+    (24, b"\x01\0\0\0\x02"),
+    (32, b"\x09"),
+    (100, b"\x01\x02"),
+    (104, b"\x03"),
+];
+
+// A file of so many bytes in small block 9, with so many names, last written at this time.
+fn file(version: u64, links: u16, size: u64, when: u64) -> Inode
     requires links { (1 ≤ links) × (links ≤ LINKS_MAX) }
     requires size { (1 ≤ size) × (size ≤ SMALL_BLOCK_BYTES) }
     ensures { IsTrue (inode_fits result) }
@@ -50,6 +61,7 @@ fn file(version: u64, links: u16, size: u64) -> Inode
         birth: 1,
         small,
         large: 0,
+        when,
         target: [0; 384],
     }
 }
@@ -76,6 +88,7 @@ fn a_link_is_read_field_by_field(rt: HostRuntime) {
         birth: 4_294_967_299,
         small: [0; 16],
         large: 0,
+        when: 0,
         target,
     };
     assert!(rt; decode(&block_of(&LINK)) == Some(link));
@@ -96,6 +109,8 @@ fn a_link_with_one_byte_changed(rt: HostRuntime) {
         (32, 1, false),
         (96, 1, false),
         (100, 1, false),
+        (107, 1, false),
+        (108, 1, false),
         (128, 0x20, false),
         (128, 0x7F, false),
         (129, 0xFF, true),
@@ -112,8 +127,65 @@ fn a_link_with_one_byte_changed(rt: HostRuntime) {
 }
 
 #[test]
+fn a_file_with_its_time(rt: HostRuntime) {
+    let mut timed = file(4, 1, 258, 12_884_902_401);
+    timed.birth = 8_589_934_593;
+    let mut block = [7; SECTOR_BYTES];
+    encode(&timed, &mut block);
+    assert!(rt; block == block_of(&TIMED));
+    assert!(rt; decode(&block_of(&TIMED)) == Some(timed));
+}
+
+#[test]
+fn a_timed_file_with_one_byte_changed(rt: HostRuntime) {
+    // A place, the byte that stands there instead, and the time that the file then has, if the block is an inode's.
+    let cases = [
+        (100, 0, Some(12_884_902_400)),
+        (104, 0, Some(513)),
+        (107, 255, Some(18_374_686_492_556_526_081)),
+        (108, 1, None),
+        (127, 1, None),
+        (128, 1, None),
+        (8, 0, None),
+        (8, 2, None),
+        (8, 3, None),
+    ];
+    let timed = block_of(&TIMED);
+    for (at, byte, time) in cases {
+        let found = decode(&with(&timed, at, byte));
+        assert!(rt; found.map(|inode| inode.when) == time, "byte {at}");
+    }
+}
+
+#[test]
+fn only_files_have_a_time(rt: HostRuntime) {
+    let root = block_of(&[(0, b"\x01"), (8, b"\x02\0\x01")]);
+    for at in 100..108 {
+        assert!(rt;
+            decode(&with(&root, at, 1)).is_none(),
+            "byte {at} of the root"
+        );
+        assert!(rt;
+            decode(&with(&block_of(&[]), at, 1)).is_none(),
+            "byte {at} of a free inode"
+        );
+        assert!(rt;
+            decode(&with(&block_of(&LINK), at, 1)).is_none(),
+            "byte {at} of a link"
+        );
+    }
+}
+
+#[test]
 fn what_changes_of_a_file_that_grows_and_gets_a_name(rt: HostRuntime) -> Result<(), Fail> {
-    let patches = patches(rt.alloc(), &file(1, 1, 255), &file(2, 2, 513))?;
-    assert!(rt; are_runs(&patches, &[(10, b"\x02"), (16, b"\x01\x02")]));
+    let old = file(1, 1, 255, 4_294_967_297);
+    let new = file(2, 2, 513, 4_294_967_298);
+    let patches = patches(rt.alloc(), &old, &new)?;
+    assert!(rt;
+        are_runs(
+            &patches,
+            &[(10, b"\x02"), (16, b"\x01\x02"), (100, b"\x02")]
+        )
+    );
     Ok(())
 }

@@ -6,7 +6,7 @@ use param_block::{Param, decode, encode};
 #[test]
 fn parameters_of_a_fresh_disk_of_16_segments(rt: HostRuntime) {
     let param = Param {
-        format: 1,
+        format: 2,
         segments: 16,
         run: 1,
     };
@@ -18,12 +18,30 @@ fn parameters_of_a_fresh_disk_of_16_segments(rt: HostRuntime) {
 }
 
 #[test]
+fn parameters_of_a_disk_without_times(rt: HostRuntime) {
+    let param = Param {
+        format: 1,
+        segments: 3,
+        run: 258,
+    };
+    let worked = block_of(&[(0, b"FRANGPAR\x01\0\0\0\x03\0\0\0\x02\x01")]);
+    let mut block = [7; SECTOR_BYTES];
+    encode(&param, &mut block);
+    assert!(rt; block == worked);
+    assert!(rt; decode(&worked) == Some(param));
+}
+
+#[test]
 fn parameters_with_one_byte_changed(rt: HostRuntime) {
     // A place, the byte that stands there instead, and whether the block is then a parameter sector.
     let cases = [
         (0, 0x66, false),
         (7, 0x53, false),
-        (8, 2, false),
+        (8, 0, false),
+        (8, 1, true),
+        (8, 3, false),
+        (8, 255, false),
+        (9, 1, false),
         (11, 1, false),
         (12, 0, false),
         (12, 1, true),

@@ -1,6 +1,6 @@
 // The patches between two blocks.
-use crate::builders::{are_runs, block_of};
-use block_patches::patches_of;
+use crate::builders::{Run, are_runs, block_of, lay};
+use block_patches::{patches_of, patches_with};
 use std::test::Fail;
 
 #[test]
@@ -29,5 +29,50 @@ fn no_patches_where_only_the_version_differs(rt: HostRuntime) -> Result<(), Fail
     let mut new = old;
     new[0] = 8;
     assert!(rt; patches_of(rt.alloc(), &old, &new)?.is_empty());
+    Ok(())
+}
+
+#[test]
+fn forced_places_are_patched_where_nothing_differs(rt: HostRuntime) -> Result<(), Fail> {
+    // The forced places, and the one run of a block of sevens that stays as it is.
+    let cases: [(usize, usize, &'static [Run]); 7] = [
+        (100, 108, &[(100, b"\x07\x07\x07\x07\x07\x07\x07\x07")]),
+        (6, 10, &[(8, b"\x07\x07")]),
+        (510, 512, &[(510, b"\x07\x07")]),
+        (511, 600, &[(511, b"\x07")]),
+        (0, 8, &[]),
+        (100, 100, &[]),
+        (101, 100, &[]),
+    ];
+    let block = [7; 512];
+    for (from, to, runs) in cases {
+        let found = patches_with(rt.alloc(), &block, &block, &(from..to))?;
+        assert!(rt; are_runs(&found, runs), "from {from} to {to}");
+    }
+    Ok(())
+}
+
+#[test]
+fn forced_places_join_what_differs(rt: HostRuntime) -> Result<(), Fail> {
+    // Bytes of the new block, and the runs where the places 100 to 103 are forced over zeros.
+    let cases: [(&'static [Run], &'static [Run]); 5] = [
+        (&[(102, b"\x05")], &[(100, b"\0\0\x05\0")]),
+        (&[(99, b"\x05")], &[(99, b"\x05\0\0\0\0")]),
+        (&[(104, b"\x05")], &[(100, b"\0\0\0\0\x05")]),
+        (
+            &[(98, b"\x05"), (105, b"\x06")],
+            &[(98, b"\x05"), (100, b"\0\0\0\0"), (105, b"\x06")],
+        ),
+        (&[(0, b"\x05")], &[(100, b"\0\0\0\0")]),
+    ];
+    for (bytes, runs) in cases {
+        let old = block_of(&[]);
+        let mut new = old;
+        for (at, there) in bytes {
+            lay(&mut new, (usize::from(*at), *there));
+        }
+        let found = patches_with(rt.alloc(), &old, &new, &(100..104))?;
+        assert!(rt; are_runs(&found, runs), "{} runs", runs.len());
+    }
     Ok(())
 }

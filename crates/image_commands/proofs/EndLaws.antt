@@ -1,5 +1,5 @@
 -- From what was read and what was said to how a command ends.
-use Rattle.std.proofs.Common.{◌≡◌, ◌⊎◌, inl, inr, ⊎_elim, ℕ, ◌<◌, ◌≤◌, Option, Some, None, Result, Ok, Err, List, [], length, take, refl, sym, ◌∙◌, ap, subst, arith}
+use Rattle.std.proofs.Common.{◌≡◌, inl, inr, ⊎_elim, ℕ, ◌≤◌, Option, Some, None, Result, Ok, Err, List, [], length, refl, sym, ◌∙◌, ap, subst, arith}
 use Rattle.std.specs.Prelude.{IfOk, Vec}
 use Rattle.std.proofs.lemmas.List.{take_all}
 use Rattle.std.specs.declared.alloc.Global.{Global}
@@ -9,7 +9,7 @@ use Rattle.frang_base.specs.declared.said.Said.{Said}
 use Rattle.frang_outside.specs.Outside.{State, Rose}
 use Rattle.frang_outside.specs.Files.{State as FilesState, Holds, IsFile, OthersStay}
 use Rattle.sector_bytes.specs.Sectors.{SameSectors, sectors_of}
-use Rattle.disk_definitions.specs.Images.{Blocks, image_in, image_text}
+use Rattle.disk_definitions.specs.Images.{Blocks, image_in}
 use Rattle.image_file.specs.declared.refusal.ImageRead.TheVariants as refused
 use Rattle.image_file.specs.Answers.{GivesImage}
 use Rattle.log_definitions.specs.Replay.{replayed}
@@ -17,7 +17,7 @@ use Rattle.image_commands.specs.declared.end.ImageEnd.{ImageEnd}
 use Rattle.image_commands.specs.declared.end.ImageEnd.TheVariants as end
 use Rattle.image_commands.specs.Saying.{Says, SaysSome, SaysAll}
 use Rattle.image_commands.specs.Lines.{IsRecovery, GivesLines}
-use Rattle.image_commands.specs.Ends.{IsImageOf, IsNoImage, HasNoLines, Tells, Ends, IsSaved, EndsSaving, EndsRecovery, MaySave, OnlySaves}
+use Rattle.image_commands.specs.Ends.{IsImageOf, Ends, EndsSaving, EndsRecovery, MaySave, OnlySaves}
 use Rattle.image_commands.specs.Steps.{ReadsBytes, GivesDisk, ReadsDisk, SaysLines, SavesDisk, SavesAfter, SaysAndSaves, RecoversDisk}
 
 -- what holds of a file's bytes holds of the file

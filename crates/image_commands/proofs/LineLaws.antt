@@ -1,5 +1,5 @@
 -- The lines of logs one by one, and those of the tree of the replayed disk.
-use Rattle.std.proofs.Common.{◌≡◌, ℕ, ◌+◌, Option, Some, None, List, ◌∷◌, [], ◌++◌, refl, sym, ap, ◌∙◌, subst, add-one, append-nil}
+use Rattle.std.proofs.Common.{◌≡◌, ℕ, ◌+◌, Some, None, List, ◌∷◌, [], ◌++◌, refl, sym, ap, ◌∙◌, subst, add-one, append-nil}
 use Rattle.std.specs.List.{flat_map}
 use Rattle.std.proofs.lemmas.List.Concat.{flat_map-append}
 use Rattle.frang_base.specs.declared.said.Said.{Said}

@@ -1,5 +1,5 @@
 -- One line more that was said, and what is said where one isn't.
-use Rattle.std.proofs.Common.{◌≡◌, ◌⊎◌, inl, inr, ℕ, zero, suc, ◌+◌, ◌<◌, ◌≤◌, Option, Some, None, List, [], ◌∷◌, ◌++◌, length, map, take, refl, sym, ◌∙◌, ap, subst, arith, get_or}
+use Rattle.std.proofs.Common.{◌≡◌, ℕ, zero, suc, ◌+◌, ◌<◌, ◌≤◌, Option, Some, None, List, [], ◌∷◌, ◌++◌, length, take, refl, sym, ◌∙◌, ap, subst, arith, get_or}
 use Rattle.std.specs.Prelude.{Err}
 use Rattle.std.specs.List.{slice_get}
 use Rattle.std.proofs.lemmas.List.{take_all, map-append}
@@ -10,7 +10,7 @@ use Rattle.frang_outside.specs.declared.outside.SayFault.TheVariants.{Failed, No
 use Rattle.frang_outside.specs.Outside.{State, Rose, NoneFell, told_more}
 use Rattle.image_commands.specs.declared.end.ImageEnd.TheVariants as end
 use Rattle.image_commands.specs.Steps.{stopped_by}
-use Rattle.image_commands.specs.Saying.{said_act, Says, SaysSome, SaysOne, SaysAll}
+use Rattle.image_commands.specs.Saying.{said_act, Says, SaysOne, SaysAll}
 
 pub at_index : {A : Type 0} (xs : List A) (i : ℕ) (x : A) → i < length xs → x ≡ get_or xs i x → slice_get xs i ≡ Some x
 at_index [] i x in_range is = absurd (omega arith)

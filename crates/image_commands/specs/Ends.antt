@@ -1,5 +1,5 @@
 -- How commands on images end, and why.
-use Rattle.std.specs.Prelude.{◌≡◌, ◌⊎◌, ◌≤◌, ◌<◌, ℕ, Option, Some, None, Result, Ok, Err, List, [], length, take}
+use Rattle.std.specs.Prelude.{◌≡◌, ◌⊎◌, ◌≤◌, ◌<◌, ℕ, Option, Some, None, Ok, Err, List, [], length, take}
 use Rattle.frang_base.specs.declared.limits.TheConstants.{IMAGE_BYTES_MAX}
 use Rattle.frang_base.specs.declared.said.Said.{Said}
 use Rattle.frang_outside.specs.Outside.{State, Rose}

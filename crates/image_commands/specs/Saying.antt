@@ -1,5 +1,5 @@
 -- Which lines a record says.
-use Rattle.std.specs.Prelude.{◌≡◌, ◌≤◌, ◌<◌, ℕ, Option, Some, None, Result, Ok, Err, List, [], ◌∷◌, map, take, length}
+use Rattle.std.specs.Prelude.{◌≡◌, ◌≤◌, ◌<◌, ℕ, Option, Some, Result, Ok, Err, List, map, take, length}
 use Rattle.frang_base.specs.declared.said.Said.{Said}
 use Rattle.frang_outside.specs.declared.act.Act.{Act}
 use Rattle.frang_outside.specs.declared.act.Act.TheVariants as act

@@ -12,7 +12,7 @@ use Rattle.sector_bytes.specs.Sectors.{SameSectors, sectors_of}
 use Rattle.log_definitions.specs.Replay.{replayed}
 use Rattle.image_commands.specs.Lines.{IsRecovery}
 use Rattle.disk_definitions.specs.declared.image.ImageFault.{ImageFault}
-use Rattle.disk_definitions.specs.Images.{Blocks, image_in, image_text}
+use Rattle.disk_definitions.specs.Images.{Blocks, image_text}
 use Rattle.image_file.specs.declared.refusal.ImageRead.TheVariants as refused
 use Rattle.image_file.specs.Answers.{GivesImage}
 use Rattle.image_commands.specs.declared.end.ImageEnd.{ImageEnd}

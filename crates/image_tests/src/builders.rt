@@ -10,7 +10,7 @@ pub type Piece = (usize, &'static [u8]);
 /// The bytes of the fresh image of one segment that aren't zero: mark and count, the parameters, the segment, the root.
 pub static FRESH: [Piece; 8] = [
     (0, b"FRANGIM1\x03"),
-    (24, b"FRANGPAR\x01\0\0\0\x01\0\0\0\x01"),
+    (24, b"FRANGPAR\x02\0\0\0\x01\0\0\0\x01"),
     (540, b"\x01"),
     (544, b"\x01"),
     (552, b"\x01"),

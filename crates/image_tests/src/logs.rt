@@ -47,7 +47,7 @@ static SECOND_RECORD: [Piece; 12] = [
     (1188, b"\x50\0\x07\0\x02\0\0\0\x01\x01b"),
 ];
 
-// What stands around them.
+// What stands around them, on a disk of format 1.
 static FRAME: [Piece; 8] = [
     (0, b"FRANGIM1\x05"),
     (24, b"FRANGPAR\x01\0\0\0\x01\0\0\0\x01"),

@@ -30,6 +30,7 @@ fn is_free(x: &Inode) -> bool
         && x.birth == 0
         && are_zero_numbers(&x.small)
         && x.large == 0
+        && x.when == 0
         && are_zero(&x.target)
 }
 
@@ -59,6 +60,7 @@ fn is_directory(x: &Inode) -> bool
         && x.size <= u64::from(BLOCK_ENTRIES) * u64::from(x.blocks)
         && ends_blocks(x)
         && x.large == 0
+        && x.when == 0
         && are_zero(&x.target)
 }
 
@@ -71,6 +73,7 @@ fn is_link(x: &Inode) -> bool
         && x.blocks == 0
         && are_zero_numbers(&x.small)
         && x.large == 0
+        && x.when == 0
         && 1 <= x.size
         && x.size <= TARGET_BYTES_MAX as u64
         && is_target(&x.target, x.size as usize)

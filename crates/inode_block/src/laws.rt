@@ -23,6 +23,7 @@ pub fn inodes_are_in_range(value: &Inode)
     let _size = value.size;
     let _birth = value.birth;
     let _large = value.large;
+    let _when = value.when;
     numbers_are_in_range(&value.small);
     small_blocks_are_16(&value.small);
     targets_are_long(&value.target);

@@ -33,6 +33,7 @@ fn fields(from: &Block) -> Inode
         birth: LittleEndian::read_u64(&from[24..]),
         small: read_small(from),
         large: LittleEndian::read_u32(&from[96..]),
+        when: LittleEndian::read_u64(&from[100..]),
         target: read_target(from),
     }
 }

@@ -14,7 +14,8 @@ pub fn encode(value: &Inode, to: &mut Block)
     write_head(value, &mut to[..32]);
     LittleEndian::write_u32_into(&value.small, &mut to[32..96]);
     LittleEndian::write_u32(&mut to[96..], value.large);
-    to[100..128].copy_from_slice(&[0; 28]);
+    LittleEndian::write_u64(&mut to[100..], value.when);
+    to[108..128].copy_from_slice(&[0; 20]);
     to[128..].copy_from_slice(&value.target);
 }
 

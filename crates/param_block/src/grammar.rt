@@ -3,16 +3,14 @@ ghost use Rattle.std.specs.Prelude.{◌≡◌};
 ghost use Rattle.sector_definitions.specs.Params.{param_fits};
 
 use frang_base::limits::SEGMENTS_MAX;
-use sector_definitions::Param;
+use sector_definitions::{FORMAT_NEWEST, Param};
 
-/// The one format.
-const FORMAT: u32 = 1;
-
-/// Whether the parameters are in the grammar: of the one format, with 1 to the most segments, and in a run from the first on.
+/// Whether the parameters are in the grammar: of a format that is read, with 1 to the most segments, and in a run from the first on.
 pub(crate) fn fits(value: &Param) -> bool
     ensures { result ≡ param_fits value.now }
 {
-    value.format == FORMAT
+    1 <= value.format
+        && value.format <= FORMAT_NEWEST
         && 1 <= value.segments
         && value.segments <= SEGMENTS_MAX
         && 1 <= value.run

@@ -1,30 +1,30 @@
 -- On a consistent disk each sector is fine.
-use Rattle.std.proofs.Common.{◌==◌, ◌≡◌, ◌≢◌, ℕ, zero, suc, ◌+◌, ◌*◌, ◌/◌, ◌%◌, ◌<◌, ◌≤◌, ◌⊎◌, inl, inr, ⊎_elim, Bool, true, false, not, ◌&&◌, ◌||◌, Option, Some, None, List, [], ◌∷◌, is_some, length, cond, refl, sym, ◌∙◌, ap, subst, arith, nat_lt, nat_le, eqb-true, eq-eqb, ne_eqb, ltb-true, lt-ltb, le-leb}
-use Rattle.std.proofs.lemmas.Bool.{and_parts, and_from, or_cases, or_left, or_right, not-true, not_from_false, both_ways, cond-true, cond-false, cases_lt}
+use Rattle.std.proofs.Common.{◌==◌, ◌≡◌, ℕ, ◌+◌, ◌*◌, ◌/◌, ◌%◌, ◌<◌, ◌≤◌, ⊎_elim, Bool, true, false, not, ◌&&◌, ◌||◌, Option, Some, None, List, is_some, cond, refl, sym, ◌∙◌, ap, subst, arith, nat_lt, nat_le, eqb-true, eq-eqb, ne_eqb, lt-ltb, le-leb}
+use Rattle.std.proofs.lemmas.Bool.{and_from, or_cases, or_left, or_right, not-true, not_from_false, both_ways, cond-true, cond-false, cases_lt}
 use Rattle.tree_definitions.specs.declared.node.Node.{Node}
 use Rattle.tree_definitions.specs.declared.node.Node.TheVariants.{Dir, File, Link}
 use Rattle.tree_definitions.specs.Tree.{FileTree, node_at}
 use Rattle.tree_definitions.specs.Apply.{links_of}
-use Rattle.tree_definitions.specs.Entries.{Entries, entry_at}
+use Rattle.tree_definitions.specs.Entries.{entry_at}
 use Rattle.tree_laws.specs.WellFormed.{one_at, names_of}
 use Rattle.tree_reach.proofs.Walks.{carried}
-use Rattle.disk_definitions.specs.Store.{Store, StoredNode, StoredEntry, Use, is_unused}
+use Rattle.disk_definitions.specs.Store.{Store, StoredNode, Use, is_unused}
 use Rattle.disk_definitions.specs.Store.Use.{Fresh, Bytes, Empty, Entries as OfEntries}
 use Rattle.disk_definitions.specs.Naming.{Nodes, find_in}
 use Rattle.disk_definitions.specs.Standing.{IsMetadata}
 use Rattle.standing_laws.specs.Below.{all_below, holds, lists, is_new}
-use Rattle.standing_laws.specs.ReadTree.{place_at, entries_to, read_node, tree_in}
-use Rattle.standing_laws.specs.Soundness.{agree, bit_agrees, block_in, block_at, is_used_for, use_agrees, is_cleared, large_in, large_at, is_marked, has_kind, entries_agree, node_agrees, links_agree, IsConsistent}
-use Rattle.standing_laws.proofs.Bounded.{all_at, all_from, lists_at, lists_from, holds_at, holds_from}
+use Rattle.standing_laws.specs.ReadTree.{place_at, tree_in}
+use Rattle.standing_laws.specs.Soundness.{agree, bit_agrees, block_in, block_at, is_used_for, use_agrees, is_cleared, large_in, large_at, is_marked, has_kind, entries_agree, links_agree, IsConsistent}
+use Rattle.standing_laws.proofs.Bounded.{all_at, all_from, lists_at, holds_at, holds_from}
 use Rattle.standing_laws.proofs.Entered.{found_at, new_name}
 use Rattle.standing_laws.proofs.RoomLaws.{small_below, large_below}
 use Rattle.standing_laws.proofs.Shapes.{Shape, OfFile, OfDir, OfLink}
 use Rattle.standing_laws.proofs.SoundStanding.{is_directory}
 use Rattle.standing_laws.proofs.Pictured.{IsInRange, read_file, read_dir, read_link, at_some, agreed, dir_size}
-use Rattle.standing_laws.proofs.PicturedBlocks.{place_is, in_slot, slot_in, few}
+use Rattle.standing_laws.proofs.PicturedBlocks.{place_is, in_slot, few}
 use Rattle.report_definitions.specs.Sums.{first_below}
-use Rattle.report_definitions.specs.View.{View, entry_of, named_by, names, leads, IsReach}
-use Rattle.report_definitions.specs.Rules.{used, used_large, directory_block, is_new_in, is_new_name, names_well, entries_of, names_by, names_to, counts_agree, is_root_fine, is_count_fine, is_named_once, is_within, is_first_within, are_blocks_fine, is_bit_fine, are_bits_fine, is_sector_fine, are_entries_fine, kind_at, is_use_fine_by, is_use_fine, are_parts_fine, is_block_fine, is_segment_fine, is_mark_fine}
+use Rattle.report_definitions.specs.View.{View, names, IsReach}
+use Rattle.report_definitions.specs.Rules.{used, used_large, directory_block, is_new_in, is_new_name, names_well, entries_of, names_to, counts_agree, is_root_fine, is_count_fine, is_named_once, is_within, is_first_within, is_bit_fine, is_sector_fine, are_entries_fine, kind_at, is_use_fine_by, is_use_fine, are_parts_fine, is_block_fine, is_segment_fine, is_mark_fine}
 use Rattle.report_definitions.proofs.SumLaws.{first_at, first_none}
 use Rattle.report_definitions.proofs.Fine.{IsFine}
 use Rattle.report_definitions.proofs.Reaching.{names_from, reached_used}
@@ -71,7 +71,7 @@ module _ (v : View) (r : ℕ → Bool) (reach : IsReach v.store r) (range : IsIn
     where
       go : (o : Option Node) → nodes a ≡ o → find_in o name ≡ Some b → r b ≡ true
       go None e i = absurd (cc)
-      go (Some (File cells links)) e i = absurd (cc)
+      go (Some (File cells links when)) e i = absurd (cc)
       go (Some (Link target links)) e i = absurd (cc)
       go (Some (Dir es k)) e i =
           let d = is_directory v.segments s range shapes c a es k e in

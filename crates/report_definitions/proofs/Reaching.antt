@@ -1,11 +1,11 @@
 -- What directories name, and how what is reached is used.
-use Rattle.std.proofs.Common.{◌==◌, ◌≡◌, ℕ, zero, suc, ◌+◌, ◌*◌, ◌<◌, ◌≤◌, ◌⊎◌, inl, inr, ⊎_elim, Bool, true, false, ◌&&◌, Option, Some, None, List, [], ◌∷◌, is_some, cond, refl, sym, ◌∙◌, ap, subst, arith, nat_lt, eqb-true, eq-eqb, ltb-true, lt-ltb, le-ltb}
+use Rattle.std.proofs.Common.{◌==◌, ◌≡◌, ℕ, ◌*◌, ◌<◌, ◌≤◌, ◌⊎◌, inl, inr, ⊎_elim, Bool, true, false, ◌&&◌, Option, Some, None, List, [], ◌∷◌, cond, refl, sym, ◌∙◌, ap, subst, arith, nat_lt, eqb-true, eq-eqb, ltb-true, lt-ltb, le-ltb}
 use Rattle.std.proofs.lemmas.Bool.{and_parts, and_from, and_right, cond-true, cond-false}
 use Rattle.disk_definitions.specs.Store.{Store, StoredNode, StoredEntry}
 use Rattle.standing_laws.specs.ReadTree.{place_at}
 use Rattle.standing_laws.specs.Soundness.{has_kind}
 use Rattle.standing_laws.proofs.Bounded.{lists_at, lists_from}
-use Rattle.report_definitions.specs.View.{View, entry_in, entry_of, named_by, names, leads, IsReach}
+use Rattle.report_definitions.specs.View.{entry_in, entry_of, named_by, names, leads, IsReach}
 
 pub has_some : (o : Option StoredNode) (kind : ℕ) → has_kind o kind ≡ true → (x : StoredNode) × (o ≡ Some x) × (x.kind ≡ kind)
 has_some None kind h = absurd (cc)

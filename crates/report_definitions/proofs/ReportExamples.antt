@@ -1,15 +1,15 @@
 -- What the rules say of small stores, by computation: each kind of fault with its neighbour that is none.
-use Rattle.std.proofs.Common.{◌==◌, ◌≡◌, ℕ, zero, suc, ◌&&◌, Bool, true, false, Option, Some, None, List, [], ◌∷◌, ◌++◌, cond, refl, nat_lt}
+use Rattle.std.proofs.Common.{◌==◌, ◌≡◌, ℕ, zero, suc, true, false, Option, Some, None, List, [], ◌∷◌, cond, refl, nat_lt}
 use Rattle.std.specs.Prelude.{codes}
-use Rattle.disk_definitions.specs.Store.{Store, StoredNode, StoredEntry, Use}
+use Rattle.disk_definitions.specs.Store.{Store, StoredNode, StoredEntry}
 use Rattle.disk_definitions.specs.Store.Use.{Fresh, Bytes, Empty, Entries as OfEntries}
-use Rattle.report_definitions.specs.Sums.{first_below, Fault, gathered}
+use Rattle.report_definitions.specs.Sums.{first_below, gathered}
 use Rattle.report_definitions.specs.View.{View, entry_of, named_by, names, leads}
-use Rattle.report_definitions.specs.Rules.{directory_block, is_root_fine, is_new_name, names_well, entries_of, names_by, is_first_within, is_bit_fine, is_use_fine_by, are_parts_fine}
+use Rattle.report_definitions.specs.Rules.{is_root_fine, is_new_name, names_well, entries_of, names_by, is_first_within, is_bit_fine, is_use_fine_by, are_parts_fine}
 use Rattle.report_definitions.specs.Report.{fault_unless, is_nothing}
 
 abbrev node : ℕ → ℕ → ℕ → ℕ → StoredNode
-node kind links size blocks = record { kind = kind; links = links; size = size; birth = 0; blocks = blocks; small = λ j. j; large = 0; target = [] }
+node kind links size blocks = record { kind = kind; links = links; size = size; birth = 0; blocks = blocks; small = λ j. j; large = 0; when = 0; target = [] }
 
 abbrev entry : List ℕ → ℕ → ℕ → StoredEntry
 entry name inode kind = record { name = name; inode = inode; kind = kind }

@@ -1,8 +1,7 @@
 -- A disk each sector of which is fine is consistent.
-use Rattle.std.proofs.Common.{◌==◌, ◌≡◌, ◌≢◌, ℕ, zero, suc, ◌+◌, ◌*◌, ◌/◌, ◌%◌, ◌<◌, ◌≤◌, ◌⊎◌, inl, inr, ⊎_elim, Bool, true, false, not, ◌&&◌, ◌||◌, Option, Some, None, List, [], ◌∷◌, is_some, length, cond, refl, sym, ◌∙◌, ap, subst, arith, nat_lt, nat_le, eqb-true, eq-eqb, ne_eqb, ltb-true, leb-true, lt-ltb}
+use Rattle.std.proofs.Common.{◌==◌, ◌≡◌, ℕ, ◌+◌, ◌*◌, ◌/◌, ◌%◌, ◌<◌, ◌≤◌, ◌⊎◌, inl, inr, ⊎_elim, Bool, true, false, not, ◌&&◌, ◌||◌, Option, Some, None, List, [], ◌∷◌, is_some, length, cond, refl, sym, ◌∙◌, ap, subst, arith, nat_lt, nat_le, eqb-true, eq-eqb, ne_eqb, ltb-true, leb-true}
 use Rattle.std.specs.Option.{option_map}
 use Rattle.std.proofs.lemmas.Bool.{and_parts, and_from, or_cases, or_left, or_right, not-true, not_from_false, both_ways, cond-true, cond-false, cases_lt}
-use Rattle.tree_definitions.specs.declared.node.Node.TheVariants.{Dir, File, Link}
 use Rattle.tree_definitions.specs.Tree.{FileTree, node_at}
 use Rattle.tree_definitions.specs.Apply.{links_of}
 use Rattle.tree_laws.specs.WellFormed.{one_at, names_of}
@@ -14,17 +13,17 @@ use Rattle.disk_definitions.specs.Standing.{IsReached, IsReachedAt, IsMetadata}
 use Rattle.standing_laws.specs.Below.{all_below, holds, lists, is_new, are_distinct}
 use Rattle.standing_laws.specs.ReadTree.{place_at, entries_to, read_node, tree_in}
 use Rattle.standing_laws.specs.Soundness.{agree, bit_agrees, block_in, block_at, is_used_for, use_agrees, is_cleared, large_in, large_at, is_marked, has_kind, entries_agree, directory_agrees, node_agrees, links_agree, IsConsistent}
-use Rattle.standing_laws.proofs.Bounded.{all_at, all_from, any_at, lists_at, lists_from, holds_at, holds_from, distinct_at}
+use Rattle.standing_laws.proofs.Bounded.{all_at, all_from, any_at, lists_from, holds_at, holds_from, distinct_at}
 use Rattle.standing_laws.proofs.NodesRead.{node_read}
 use Rattle.standing_laws.proofs.Shapes.{Shape, OfFile, OfDir, OfLink}
 use Rattle.standing_laws.proofs.Pictured.{IsInRange, read_file, read_dir, read_link}
 use Rattle.standing_laws.proofs.PicturedBlocks.{place_is, in_slot, slot_in, few}
 use Rattle.report_definitions.specs.Sums.{first_below}
 use Rattle.report_definitions.specs.View.{View, entry_of, named_by, names, leads, IsReach}
-use Rattle.report_definitions.specs.Rules.{used, used_large, directory_block, is_new_in, is_new_name, names_well, entries_of, names_by, names_to, counts_agree, is_count_fine, is_named_once, is_within, is_first_within, is_bit_fine, kind_at, is_use_fine_by, is_use_fine, are_parts_fine, is_block_fine}
-use Rattle.report_definitions.proofs.SumLaws.{sum_at, count_some, sum_zero, count_zero, first_at, first_none, first_some}
+use Rattle.report_definitions.specs.Rules.{used, used_large, directory_block, is_new_in, is_new_name, names_well, entries_of, names_by, names_to, counts_agree, is_within, is_first_within, is_bit_fine, kind_at, is_use_fine_by, is_use_fine, are_parts_fine, is_block_fine}
+use Rattle.report_definitions.proofs.SumLaws.{sum_at, count_some, sum_zero, count_zero, first_at, first_some}
 use Rattle.report_definitions.proofs.Fine.{IsFine}
-use Rattle.report_definitions.proofs.Reaching.{Named, named_at, named_entry, last_step, reached_used}
+use Rattle.report_definitions.proofs.Reaching.{named_at, named_entry, last_step, reached_used}
 use Rattle.report_definitions.proofs.Wherever.{block_of_directory, wherever_at, in_row_of_64, in_row_of_1024, in_row_of_16}
 use Rattle.report_definitions.proofs.Agreeing.{IsFineAt, zero_both, agree_where_fine, found_entry, entries_are, names_are}
 

@@ -1,5 +1,5 @@
 -- The report of a disk has no faults exactly where the disk stands for a tree.
-use Rattle.std.proofs.Common.{◌==◌, ◌≡◌, ◌↔◌, ℕ, ◌-◌, ◌*◌, ◌<◌, ◌≤◌, IsTrue, Bool, true, false, ◌&&◌, Option, Some, None, List, [], is_some, length, length-drop, take, drop, cond, refl, sym, ◌∙◌, ap, subst, arith, nat_lt, nat_le, leb-true, le-leb, eq-eqb, min}
+use Rattle.std.proofs.Common.{◌==◌, ◌≡◌, ℕ, ◌-◌, ◌*◌, ◌<◌, ◌≤◌, Bool, true, false, ◌&&◌, Option, Some, None, List, [], is_some, length, length-drop, take, drop, cond, refl, sym, ◌∙◌, ap, subst, arith, nat_lt, nat_le, leb-true, le-leb, eq-eqb, min}
 use Rattle.std.proofs.lemmas.Bool.{and_parts, and_from, cond-true}
 use Rattle.std.proofs.lemmas.Bool.Decides.{nat_tests}
 use Rattle.std.proofs.lemmas.List.{length-take}
@@ -12,18 +12,17 @@ use Rattle.sector_definitions.specs.Inodes.{inode_in, inode_fields, inode_fits, 
 use Rattle.sector_definitions.proofs.ParamLaws.{param_read}
 use Rattle.sector_bytes.specs.Sectors.{Sectors}
 use Rattle.std.specs.Str.{bytes_eq}
-use Rattle.tree_definitions.specs.Tree.{FileTree}
-use Rattle.disk_definitions.specs.Store.{Store, StoredNode, store_of, stored, stored_node, segment_at, directory_at}
-use Rattle.disk_definitions.specs.Standing.{StandsFor, IsMetadata, IsInGrammar, HasVersionsUpTo, version_at}
+use Rattle.disk_definitions.specs.Store.{StoredNode, stored, stored_node, segment_at}
+use Rattle.disk_definitions.specs.Standing.{IsMetadata, version_at}
 use Rattle.standing_laws.specs.ReadTree.{read_tree}
 use Rattle.standing_laws.specs.Soundness.{IsSound}
 use Rattle.standing_laws.proofs.Shapes.{Shape, OfFile, OfDir, OfLink, disk_shape}
 use Rattle.standing_laws.proofs.SoundStanding.{disk_range, sound_stands}
 use Rattle.standing_laws.proofs.StandingTree.{standing_is_sound}
 use Rattle.report_definitions.specs.View.{View, view_of, IsReach}
-use Rattle.report_definitions.specs.Report.{Report, IsReport, faults_of, view_by}
+use Rattle.report_definitions.specs.Report.{Report, faults_of, view_by}
 use Rattle.report_definitions.specs.Laws.{AreBlocks, StandsForSome, NoFaultsWhereItStands}
-use Rattle.report_definitions.proofs.Fine.{IsFine, fine_where_none, none_where_fine}
+use Rattle.report_definitions.proofs.Fine.{fine_where_none, none_where_fine}
 use Rattle.report_definitions.proofs.Sound.{consistent, segment_fit, inode_fit, part_fits}
 use Rattle.report_definitions.proofs.Faultless.{all_fine}
 

@@ -1,6 +1,6 @@
 -- Sums, counts and lists over the numbers below a bound: what one number adds, what is first, and when nothing is gathered.
-use Rattle.std.proofs.Common.{◌≡◌, ℕ, zero, suc, ◌+◌, ◌<◌, ◌≤◌, ◌⊎◌, inl, inr, ⊎_elim, Bool, true, false, Option, Some, None, List, [], ◌∷◌, ◌++◌, cond, refl, sym, ◌∙◌, ap, arith}
-use Rattle.std.proofs.lemmas.Bool.{cases_lt, cond-true, cond-false, both_ways}
+use Rattle.std.proofs.Common.{◌≡◌, ℕ, zero, suc, ◌<◌, ◌≤◌, ◌⊎◌, inl, inr, ⊎_elim, Bool, true, false, Option, Some, None, List, [], ◌∷◌, ◌++◌, cond, refl, sym, ◌∙◌, ap, arith}
+use Rattle.std.proofs.lemmas.Bool.{cases_lt, both_ways}
 use Rattle.standing_laws.proofs.Bounded.{last_or_before}
 use Rattle.report_definitions.specs.Sums.{sum_below, count_below, or_else, first_below, Fault, gathered}
 

@@ -3,7 +3,7 @@ use Rattle.std.proofs.Common.{◌≡◌, ◌-◌, ◌^◌, true, false, List, �
 use Rattle.frang_base.specs.declared.change.Patch.{Patch}
 use Rattle.frang_base.specs.declared.change.Change.{Change}
 use Rattle.sector_bytes.specs.Blocks.{Block, version_of, patched}
-use Rattle.sector_bytes.specs.Changes.{changed, is_older, applied, is_change}
+use Rattle.sector_bytes.specs.Changes.{changed, applied, is_change}
 
 -- version 515, and then the bytes 8 to 11
 abbrev block : Block

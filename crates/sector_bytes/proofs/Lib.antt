@@ -3,4 +3,5 @@ pub mod ChangeLaws
 pub mod PatchLaws
 pub mod MapLaws
 mod ChangeExamples
+mod PatchExamples
 mod MapExamples

@@ -1,7 +1,7 @@
 -- The sectors of a disk, by their numbers.
 use Rattle.std.specs.Prelude.{ℕ, ◌≡◌, List}
 use Rattle.std.specs.Option.{unwrap_or}
-use Rattle.sector_bytes.specs.Blocks.{Block, zero_block}
+use Rattle.sector_bytes.specs.Blocks.{zero_block}
 use Rattle.sector_bytes.specs.SectorMaps.{value_at}
 
 -- the block of each sector

@@ -1,5 +1,5 @@
 -- A bit that is set or cleared: it is so, and the others stay.
-use Rattle.std.proofs.Common.{◌≡◌, ◌≢◌, ℕ, ◌*◌, ◌^◌, ◌%◌, ◌<◌, ◌-◌, Bool, true, false, ◌==◌, if◌then◌else◌, ap, bit_and, bit_or, w64, arith}
+use Rattle.std.proofs.Common.{◌≡◌, ℕ, ◌*◌, ◌^◌, ◌%◌, ◌<◌, true, false, ◌==◌, if◌then◌else◌, ap, bit_and, bit_or, w64}
 use Rattle.std.proofs.lemmas.Nat.Bits.{bit_at_set_same, bit_at_set_other, bit_at_clear_same, bit_at_clear_other}
 use Rattle.std.specs.Int.{bit_at, bit_not}
 use Rattle.sector_definitions.proofs.Chosen.{chosen}

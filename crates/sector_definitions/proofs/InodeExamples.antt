@@ -1,8 +1,8 @@
 -- Inode sectors, byte for byte: that of a fresh root, one of each kind, and for each condition a neighbour that breaks it alone.
-use Rattle.std.proofs.Common.{◌≡◌, ℕ, ◌+◌, ◌-◌, true, false, Some, None, List, [], ◌∷◌, ◌++◌, replicate, refl}
+use Rattle.std.proofs.Common.{◌≡◌, ℕ, ◌-◌, true, false, Some, None, List, [], ◌∷◌, ◌++◌, replicate, refl}
 use Rattle.sector_definitions.specs.declared.inode.Inode.{Inode}
 use Rattle.sector_bytes.specs.Bytes.{zeros}
-use Rattle.sector_definitions.specs.Inodes.{inode_bytes, inode_fits, inode_in}
+use Rattle.sector_definitions.specs.Inodes.{inode_bytes, inode_fits, inode_in, is_time_place}
 
 -- the inode may stand on the disk
 abbrev Fits : Inode → Type 0
@@ -17,7 +17,7 @@ padded used all xs = xs ++ replicate (all - used) 0
 
 -- the root of a fresh disk
 abbrev fresh_root : Inode
-fresh_root = record { version = 1; kind = 2; links = 1; blocks = 0; size = 0; birth = 0; small = replicate 16 0; large = 0; target = replicate 384 0 }
+fresh_root = record { version = 1; kind = 2; links = 1; blocks = 0; size = 0; birth = 0; small = replicate 16 0; large = 0; when = 0; target = replicate 384 0 }
 
 -- its bytes
 abbrev fresh_root_bytes : List ℕ
@@ -33,7 +33,7 @@ fresh_root_is_read = refl
 
 -- a free inode
 abbrev free : Inode
-free = record { version = 9; kind = 0; links = 0; blocks = 0; size = 0; birth = 0; small = replicate 16 0; large = 0; target = replicate 384 0 }
+free = record { version = 9; kind = 0; links = 0; blocks = 0; size = 0; birth = 0; small = replicate 16 0; large = 0; when = 0; target = replicate 384 0 }
 
 zeros_are_free : inode_in (replicate 512 0) ≡ Some (record free { version = 0 })
 unfolding zeros
@@ -41,44 +41,68 @@ zeros_are_free = refl
 
 -- a file of 4,097 bytes in the small blocks 5 and 258
 abbrev file : Inode
-file = record { version = 3; kind = 1; links = 2; blocks = 2; size = 4097; birth = 4294967299; small = padded 2 16 (5 ∷ 258 ∷ []); large = 0; target = replicate 384 0 }
+file = record { version = 3; kind = 1; links = 2; blocks = 2; size = 4097; birth = 4294967299; small = padded 2 16 (5 ∷ 258 ∷ []); large = 0; when = 0; target = replicate 384 0 }
 
--- its bytes, but for byte 9, byte 14 and byte 100
-abbrev file_bytes : ℕ → ℕ → ℕ → List ℕ
-file_bytes a b c =
-    3 ∷ 0 ∷ 0 ∷ 0 ∷ 0 ∷ 0 ∷ 0 ∷ 0 ∷ 1 ∷ a ∷ 2 ∷ 0 ∷ 2 ∷ 0 ∷ b ∷ 0 ∷ 1 ∷ 16 ∷ 0 ∷ 0 ∷ 0 ∷ 0 ∷ 0 ∷ 0 ∷ 3 ∷ 0 ∷ 0 ∷ 0 ∷ 1 ∷ 0 ∷ 0 ∷ 0 ∷ 5 ∷ 0 ∷ 0 ∷ 0 ∷ 2 ∷ 1 ∷ 0 ∷ 0 ∷ replicate 60 0 ++ c ∷ replicate 411 0
+-- its bytes, but for byte 9, byte 14 and the bytes 100 to 127
+abbrev file_bytes : ℕ → ℕ → List ℕ → List ℕ
+file_bytes a b rest =
+    3 ∷ 0 ∷ 0 ∷ 0 ∷ 0 ∷ 0 ∷ 0 ∷ 0 ∷ 1 ∷ a ∷ 2 ∷ 0 ∷ 2 ∷ 0 ∷ b ∷ 0 ∷ 1 ∷ 16 ∷ 0 ∷ 0 ∷ 0 ∷ 0 ∷ 0 ∷ 0 ∷ 3 ∷ 0 ∷ 0 ∷ 0 ∷ 1 ∷ 0 ∷ 0 ∷ 0 ∷ 5 ∷ 0 ∷ 0 ∷ 0 ∷ 2 ∷ 1 ∷ 0 ∷ 0 ∷ replicate 60 0 ++ rest ++ replicate 384 0
 
-file_is_written : inode_bytes file ≡ file_bytes 0 0 0
+file_is_written : inode_bytes file ≡ file_bytes 0 0 (replicate 28 0)
 unfolding zeros
 file_is_written = refl
 
-file_is_read : inode_in (file_bytes 0 0 0) ≡ Some file
+file_is_read : inode_in (file_bytes 0 0 (replicate 28 0)) ≡ Some file
 unfolding zeros
 file_is_read = refl
 
-byte_9_isnt_zero : inode_in (file_bytes 1 0 0) ≡ None
+byte_9_isnt_zero : inode_in (file_bytes 1 0 (replicate 28 0)) ≡ None
 unfolding zeros
 byte_9_isnt_zero = refl
 
-byte_14_isnt_zero : inode_in (file_bytes 0 1 0) ≡ None
+byte_14_isnt_zero : inode_in (file_bytes 0 1 (replicate 28 0)) ≡ None
 unfolding zeros
 byte_14_isnt_zero = refl
 
-byte_100_isnt_zero : inode_in (file_bytes 0 0 1) ≡ None
+byte_108_isnt_zero : inode_in (file_bytes 0 0 (replicate 8 0 ++ 1 ∷ replicate 19 0)) ≡ None
 unfolding zeros
-byte_100_isnt_zero = refl
+byte_108_isnt_zero = refl
+
+byte_127_isnt_zero : inode_in (file_bytes 0 0 (replicate 27 0 ++ 1 ∷ [])) ≡ None
+unfolding zeros
+byte_127_isnt_zero = refl
+
+-- the file, last written in run 3 at tick 7
+abbrev timed_file : Inode
+timed_file = record file { when = 12884901895 }
+
+timed_file_is_written : inode_bytes timed_file ≡ file_bytes 0 0 (7 ∷ 0 ∷ 0 ∷ 0 ∷ 3 ∷ 0 ∷ 0 ∷ 0 ∷ replicate 20 0)
+unfolding zeros
+timed_file_is_written = refl
+
+timed_file_is_read : inode_in (file_bytes 0 0 (7 ∷ 0 ∷ 0 ∷ 0 ∷ 3 ∷ 0 ∷ 0 ∷ 0 ∷ replicate 20 0)) ≡ Some timed_file
+unfolding zeros
+timed_file_is_read = refl
+
+latest_time_is_read : inode_in (file_bytes 0 0 (replicate 8 255 ++ replicate 20 0)) ≡ Some (record file { when = 18446744073709551615 })
+unfolding zeros
+latest_time_is_read = refl
+
+-- the bytes of a time are 100 to 107
+time_places : is_time_place 99 ∷ is_time_place 100 ∷ is_time_place 107 ∷ is_time_place 108 ∷ [] ≡ false ∷ true ∷ true ∷ false ∷ []
+time_places = refl
 
 -- a file of 65,537 bytes in 16 small blocks and large block 3
 abbrev long_file : Inode
-long_file = record { version = 3; kind = 1; links = 1; blocks = 16; size = 65537; birth = 7; small = replicate 16 5; large = 4; target = replicate 384 0 }
+long_file = record { version = 3; kind = 1; links = 1; blocks = 16; size = 65537; birth = 7; small = replicate 16 5; large = 4; when = 0; target = replicate 384 0 }
 
 -- a directory of 56 entries in one block
 abbrev directory : Inode
-directory = record { version = 4; kind = 2; links = 1; blocks = 1; size = 56; birth = 8; small = padded 1 16 (6 ∷ []); large = 0; target = replicate 384 0 }
+directory = record { version = 4; kind = 2; links = 1; blocks = 1; size = 56; birth = 8; small = padded 1 16 (6 ∷ []); large = 0; when = 0; target = replicate 384 0 }
 
 -- a symbolic link to `/a`
 abbrev link : Inode
-link = record { version = 5; kind = 3; links = 1; blocks = 0; size = 2; birth = 9; small = replicate 16 0; large = 0; target = padded 2 384 (47 ∷ 97 ∷ []) }
+link = record { version = 5; kind = 3; links = 1; blocks = 0; size = 2; birth = 9; small = replicate 16 0; large = 0; when = 0; target = padded 2 384 (47 ∷ 97 ∷ []) }
 
 -- free inodes have nothing but a version
 free_fits : Fits free
@@ -102,6 +126,9 @@ free_with_a_small_block = refl
 free_with_a_large_block : Refused (record free { large = 1 })
 free_with_a_large_block = refl
 
+free_with_a_time : Refused (record free { when = 1 })
+free_with_a_time = refl
+
 free_with_a_target : Refused (record free { target = replicate 383 0 ++ 1 ∷ [] })
 free_with_a_target = refl
 
@@ -114,6 +141,9 @@ file_fits = refl
 
 long_file_fits : Fits long_file
 long_file_fits = refl
+
+timed_file_fits : Fits timed_file
+timed_file_fits = refl
 
 file_without_links : Refused (record file { links = 0 })
 file_without_links = refl
@@ -188,6 +218,9 @@ directory_block_past_those_in_use = refl
 directory_with_a_large_block : Refused (record directory { large = 1 })
 directory_with_a_large_block = refl
 
+directory_with_a_time : Refused (record directory { when = 1 })
+directory_with_a_time = refl
+
 directory_with_a_target : Refused (record directory { target = 47 ∷ replicate 383 0 })
 directory_with_a_target = refl
 
@@ -212,6 +245,9 @@ link_with_a_small_block = refl
 
 link_with_a_large_block : Refused (record link { large = 1 })
 link_with_a_large_block = refl
+
+link_with_a_time : Refused (record link { when = 4294967296 })
+link_with_a_time = refl
 
 link_to_nothing : Refused (record link { size = 0; target = replicate 384 0 })
 link_to_nothing = refl

@@ -1,5 +1,5 @@
 -- Inode sectors: what was written reads back, and a block is the sector of at most one inode.
-use Rattle.std.proofs.Common.{◌≡◌, ℕ, zero, suc, ◌+◌, ◌-◌, ◌*◌, ◌^◌, ◌<◌, ◌≤◌, IsTrue, Some, List, [], ◌∷◌, ◌++◌, length, take, drop, slice_index, refl, sym, ap, ◌∙◌, append_assoc, arith, length-append}
+use Rattle.std.proofs.Common.{◌≡◌, ℕ, zero, suc, ◌-◌, ◌*◌, ◌^◌, ◌<◌, ◌≤◌, IsTrue, Some, List, [], ◌∷◌, ◌++◌, length, take, drop, slice_index, refl, sym, ap, ◌∙◌, append_assoc, arith, length-append}
 use Rattle.std.specs.List.{flat_map}
 use Rattle.std.proofs.lemmas.List.{drop_at, drop-drop, drop-take, take-append-drop}
 use Rattle.byteorder.specs.Endian.{little_number, little_bytes, IsRead}
@@ -13,15 +13,17 @@ use Rattle.sector_definitions.proofs.WrittenFields.{length_zeros}
 use Rattle.sector_definitions.proofs.Readings.{read_back, read_is}
 
 -- an inode of these fields
-abbrev inode : (version kind links blocks size birth : ℕ) (small : List ℕ) (large : ℕ) (target : List ℕ) → Inode
-inode version kind links blocks size birth small large target = record { version = version; kind = kind; links = links; blocks = blocks; size = size; birth = birth; small = small; large = large; target = target }
+abbrev inode : (version kind links blocks size birth : ℕ) (small : List ℕ) (large when : ℕ) (target : List ℕ) → Inode
+inode version kind links blocks size birth small large when target =
+    record { version = version; kind = kind; links = links; blocks = blocks; size = size; birth = birth; small = small; large = large; when = when; target = target }
 
 -- inodes with the same fields are one
-same_inode : (a b c d e f : ℕ) (g : List ℕ) (h : ℕ) (i : List ℕ) (a' b' c' d' e' f' : ℕ) (g' : List ℕ) (h' : ℕ) (i' : List ℕ) → a ≡ a' → b ≡ b' → c ≡ c' → d ≡ d' → e ≡ e' → f ≡ f' → g ≡ g' → h ≡ h' → i ≡ i' → inode a b c d e f g h i ≡ inode a' b' c' d' e' f' g' h' i'
-same_inode a b c d e f g h i a' b' c' d' e' f' g' h' i' q1 q2 q3 q4 q5 q6 q7 q8 q9 = cc
+same_inode : (a b c d e f : ℕ) (g : List ℕ) (h i : ℕ) (j : List ℕ) (a' b' c' d' e' f' : ℕ) (g' : List ℕ) (h' i' : ℕ) (j' : List ℕ)
+    → a ≡ a' → b ≡ b' → c ≡ c' → d ≡ d' → e ≡ e' → f ≡ f' → g ≡ g' → h ≡ h' → i ≡ i' → j ≡ j' → inode a b c d e f g h i j ≡ inode a' b' c' d' e' f' g' h' i' j'
+same_inode a b c d e f g h i j a' b' c' d' e' f' g' h' i' j' q1 q2 q3 q4 q5 q6 q7 q8 q9 q10 = cc
 
-pub same_fields : (x y : Inode) → x.version ≡ y.version → x.kind ≡ y.kind → x.links ≡ y.links → x.blocks ≡ y.blocks → x.size ≡ y.size → x.birth ≡ y.birth → x.small ≡ y.small → x.large ≡ y.large → x.target ≡ y.target → x ≡ y
-same_fields x y = same_inode x.version x.kind x.links x.blocks x.size x.birth x.small x.large x.target y.version y.kind y.links y.blocks y.size y.birth y.small y.large y.target
+pub same_fields : (x y : Inode) → x.version ≡ y.version → x.kind ≡ y.kind → x.links ≡ y.links → x.blocks ≡ y.blocks → x.size ≡ y.size → x.birth ≡ y.birth → x.small ≡ y.small → x.large ≡ y.large → x.when ≡ y.when → x.target ≡ y.target → x ≡ y
+same_fields x y = same_inode x.version x.kind x.links x.blocks x.size x.birth x.small x.large x.when x.target y.version y.kind y.links y.blocks y.size y.birth y.small y.large y.when y.target
 
 -- numbers of four bytes each read back
 numbers_back : (xs rest : List ℕ) → ((i : ℕ) → slice_index xs i < 2 ^ 32) → numbers_in (length xs) (flat_map (little_bytes 4) xs ++ rest) ≡ xs
@@ -36,13 +38,13 @@ length_numbers (x ∷ xs) = let h = length_numbers xs in omega arith
 
 -- what stands behind the birth, and behind the small blocks
 abbrev pub large_and_target : Inode → List ℕ
-large_and_target x = little_bytes 4 x.large ++ zeros 28 ++ x.target
+large_and_target x = little_bytes 4 x.large ++ little_bytes 8 x.when ++ zeros 20 ++ x.target
 
-from_small : (xs ls zs ts : List ℕ) → ((xs ++ ls) ++ zs) ++ ts ≡ xs ++ ((ls ++ zs) ++ ts)
-from_small xs ls zs ts = rw (append_assoc xs ls zs, append_assoc xs (ls ++ zs) ts) refl
+from_small : (xs ls ws zs ts : List ℕ) → (((xs ++ ls) ++ ws) ++ zs) ++ ts ≡ xs ++ (((ls ++ ws) ++ zs) ++ ts)
+from_small xs ls ws zs ts = rw (append_assoc xs ls ws, append_assoc xs (ls ++ ws) zs, append_assoc xs ((ls ++ ws) ++ zs) ts) refl
 
 pub behind_birth : (x : Inode) → drop 32 (inode_bytes x) ≡ flat_map (little_bytes 4) x.small ++ large_and_target x
-behind_birth x = from_small (flat_map (little_bytes 4) x.small) (little_bytes 4 x.large) (zeros 28) x.target
+behind_birth x = from_small (flat_map (little_bytes 4) x.small) (little_bytes 4 x.large) (little_bytes 8 x.when) (zeros 20) x.target
 
 pub behind_small : (x : Inode) → length x.small ≡ 16 → drop 64 (drop 32 (inode_bytes x)) ≡ large_and_target x
 behind_small x h = ap (drop 64) (behind_birth x) ∙ drop_at (flat_map (little_bytes 4) x.small) (large_and_target x) 64 (length_numbers x.small ∙ ap (λ (n : ℕ). 4 * n) h)
@@ -52,11 +54,20 @@ small_back x r =
     ap (numbers_in 16) (behind_birth x) ∙ ap (λ (n : ℕ). numbers_in n (flat_map (little_bytes 4) x.small ++ large_and_target x)) (sym r.small_len) ∙ numbers_back x.small (large_and_target x) r.small
 
 large_back : (x : Inode) → InodeRange x → number_at 4 96 (inode_bytes x) ≡ x.large
-large_back x r = ap (little_number 4) (sym (drop-drop 64 32 (inode_bytes x)) ∙ behind_small x r.small_len) ∙ little_number-reads_back 4 x.large (zeros 28 ++ x.target) r.large
+large_back x r = ap (little_number 4) (sym (drop-drop 64 32 (inode_bytes x)) ∙ behind_small x r.small_len) ∙ little_number-reads_back 4 x.large (little_bytes 8 x.when ++ zeros 20 ++ x.target) r.large
+
+when_back : (x : Inode) → InodeRange x → number_at 8 100 (inode_bytes x) ≡ x.when
+when_back x r =
+    ap (little_number 8) (sym (drop-drop 68 32 (inode_bytes x)) ∙ sym (drop-drop 4 64 (drop 32 (inode_bytes x))) ∙ ap (drop 4) (behind_small x r.small_len))
+    ∙ little_number-reads_back 8 x.when (zeros 20 ++ x.target) r.when
+
+-- large block, time and zeros
+length_middle : (large when : ℕ) → length (little_bytes 4 large ++ little_bytes 8 when ++ zeros 20) ≡ 32
+length_middle large when = omega (arith, length_zeros 20)
 
 target_back : (x : Inode) → InodeRange x → drop 128 (inode_bytes x) ≡ x.target
 target_back x r =
-    sym (drop-drop 96 32 (inode_bytes x)) ∙ sym (drop-drop 32 64 (drop 32 (inode_bytes x))) ∙ ap (drop 32) (behind_small x r.small_len) ∙ drop_at (little_bytes 4 x.large ++ zeros 28) x.target 32 (length-append (little_bytes 4 x.large) (zeros 28) ∙ ap (λ (n : ℕ). 4 + n) (length_zeros 28))
+    sym (drop-drop 96 32 (inode_bytes x)) ∙ sym (drop-drop 32 64 (drop 32 (inode_bytes x))) ∙ ap (drop 32) (behind_small x r.small_len) ∙ drop_at (little_bytes 4 x.large ++ little_bytes 8 x.when ++ zeros 20) x.target 32 (length_middle x.large x.when)
 
 -- the fields of its bytes
 pub fields_of_inode_bytes : (x : Inode) → InodeRange x → inode_fields (inode_bytes x) ≡ x
@@ -68,7 +79,7 @@ fields_of_inode_bytes x r =
     (little_number-reads_back 2 x.blocks [] r.blocks)
     (little_number-reads_back 8 x.size [] r.size)
     (little_number-reads_back 8 x.birth [] r.birth)
-    (small_back x r) (large_back x r) (target_back x r)
+    (small_back x r) (large_back x r) (when_back x r) (target_back x r)
 
 -- what was written reads back
 pub inode_back : (x : Inode) → InodeRange x → IsTrue (inode_fits x) → inode_in (inode_bytes x) ≡ Some x
@@ -94,9 +105,8 @@ length_inode_bytes x r =
       ap length (behind_birth x) ∙ length-append (flat_map (little_bytes 4) x.small) (large_and_target x),
       length_numbers x.small,
       r.small_len,
-      length-append (little_bytes 4 x.large ++ zeros 28) x.target,
-      length-append (little_bytes 4 x.large) (zeros 28),
-      length_zeros 28,
+      length-append (little_bytes 4 x.large ++ little_bytes 8 x.when ++ zeros 20) x.target,
+      length_middle x.large x.when,
       r.target_len,
     )
 

@@ -1,7 +1,6 @@
 -- Sectors of logs: empty ones, parts of records that have sectors of their own, and packed ones. A sector of zeros in slot j is the empty sector numbered j; any other one has its number in its first bytes.
-use Rattle.std.specs.Prelude.{ℕ, ◌+◌, ◌%◌, Bool, ◌&&◌, ◌||◌, ◌==◌, ◌≡◌, if◌then◌else◌, nat_le, nat_lt, Option, Some, None, List, [], ◌∷◌, ◌++◌, drop, IsTrue}
+use Rattle.std.specs.Prelude.{ℕ, ◌+◌, ◌%◌, Bool, ◌&&◌, ◌||◌, ◌==◌, ◌≡◌, if◌then◌else◌, nat_le, nat_lt, Option, Some, None, List, ◌∷◌, ◌++◌, drop, IsTrue}
 use Rattle.byteorder.specs.Endian.{little_bytes}
-use Rattle.frang_base.specs.declared.sector.OpNo.{OpNo}
 use Rattle.sector_definitions.specs.declared.log_sector.LogSector.{LogSector}
 use Rattle.sector_bytes.specs.Bytes.{number_at, zeros, are_zero}
 use Rattle.std.specs.Str.{bytes_eq}

@@ -1,7 +1,8 @@
 -- The parameter sector.
-use Rattle.std.specs.Prelude.{◌+◌, ℕ, Bool, ◌&&◌, ◌==◌, ◌≡◌, if◌then◌else◌, nat_le, nat_lt, Option, Some, None, List, [], ◌∷◌, ◌++◌, IsTrue, codes}
+use Rattle.std.specs.Prelude.{◌+◌, ℕ, Bool, ◌&&◌, ◌≡◌, if◌then◌else◌, nat_le, nat_lt, Option, Some, None, List, ◌++◌, IsTrue, codes}
 use Rattle.byteorder.specs.Endian.{little_bytes}
 use Rattle.sector_definitions.specs.declared.param.Param.{Param}
+use Rattle.sector_definitions.specs.declared.param.TheConstants.{FORMAT_NEWEST}
 use Rattle.sector_bytes.specs.Bytes.{number_at, zeros}
 use Rattle.std.specs.Str.{bytes_eq}
 use Rattle.frang_base.specs.declared.limits.TheConstants.{RUNS_MAX, SEGMENTS_MAX}
@@ -10,9 +11,9 @@ use Rattle.frang_base.specs.declared.limits.TheConstants.{RUNS_MAX, SEGMENTS_MAX
 abbrev pub param_bytes : Param → List ℕ
 param_bytes p = codes "FRANGPAR" ++ little_bytes 4 p.format ++ little_bytes 4 p.segments ++ little_bytes 4 p.run ++ zeros 492
 
--- the format is 1, there are 1 to 64 segments, and the run is at least 1
+-- the format is one of those that are read, there are 1 to 64 segments, and the run is at least 1
 abbrev pub param_fits : Param → Bool
-param_fits p = p.format == 1 && nat_le 1 p.segments && nat_le p.segments SEGMENTS_MAX && nat_le 1 p.run && nat_lt p.run (RUNS_MAX + 1)
+param_fits p = nat_le 1 p.format && nat_le p.format FORMAT_NEWEST && nat_le 1 p.segments && nat_le p.segments SEGMENTS_MAX && nat_le 1 p.run && nat_lt p.run (RUNS_MAX + 1)
 
 -- what stands at the places of its fields
 abbrev pub param_fields : List ℕ → Param

@@ -14,4 +14,5 @@ pub record InodeRange (x : Inode) : Type 0 where
   pub small : (i : ℕ) → slice_index x.small i < 2 ^ 32
   pub small_len : length x.small ≡ INODE_BLOCKS_MAX
   pub large : x.large < 2 ^ 32
+  pub when : x.when < 2 ^ 64
   pub target_len : length x.target ≡ TARGET_BYTES_MAX

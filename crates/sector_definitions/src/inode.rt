@@ -18,6 +18,9 @@ pub struct Inode {
     pub small: [u32; 16],
     /// The large block plus 1, or 0 where there is none.
     pub large: u32,
+    /// The time of a file's last write, fill or truncate: the run's number times 2^32 plus the tick of the script. 0 for a file that
+    /// was never written, and for everything but a file.
+    pub when: u64,
     /// The bytes of a link's target, and zeros.
     pub target: [u8; 384],
 }

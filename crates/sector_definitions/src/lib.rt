@@ -12,5 +12,5 @@ mod region;
 pub use directory::{DirEntry, DirSector};
 pub use inode::Inode;
 pub use log_sector::LogSector;
-pub use param::Param;
+pub use param::{FORMAT_NEWEST, Param};
 pub use region::Region;

@@ -1,6 +1,6 @@
 -- What tests of the numbers below a bound tell of each number.
-use Rattle.std.proofs.Common.{◌≡◌, ◌≢◌, ℕ, zero, suc, ◌+◌, ◌<◌, ◌≤◌, ◌⊎◌, inl, inr, ⊎_elim, Bool, true, false, not, ◌&&◌, ◌||◌, Option, Some, None, is_some, cond, refl, sym, ◌∙◌, ap, subst, arith, eqb-true, eq-eqb, ne_eqb}
-use Rattle.std.proofs.lemmas.Bool.{and_parts, and_from, or_cases, or_left, or_right, cases_eq, cases_order, cases_Bool, not-true, not_from_false, false_from_ne_true, cond-true, cond-false, both_ways}
+use Rattle.std.proofs.Common.{◌≡◌, ℕ, zero, suc, ◌+◌, ◌<◌, ◌⊎◌, inl, inr, ⊎_elim, Bool, true, false, not, ◌&&◌, ◌||◌, Option, Some, None, refl, sym, ◌∙◌, ap, arith, eqb-true, eq-eqb}
+use Rattle.std.proofs.lemmas.Bool.{and_parts, and_from, or_cases, or_left, or_right, cases_eq, cases_order, not-true, not_from_false, false_from_ne_true, cond-true, cond-false, both_ways}
 use Rattle.standing_laws.specs.Below.{all_below, any_below, find_below, holds, lists, is_new, are_distinct}
 
 pub last_or_before : (i n : ℕ) → i < suc n → (i ≡ n) ⊎ (i < n)

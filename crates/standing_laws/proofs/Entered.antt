@@ -1,15 +1,14 @@
 -- What is found among the entries that are read off a directory's places, and that they are in order.
-use Rattle.std.proofs.Common.{◌≡◌, ◌≢◌, ℕ, zero, suc, ◌+◌, ◌<◌, ◌≤◌, ◌⊎◌, inl, inr, ⊎_elim, Bool, true, false, not, Option, Some, None, List, [], ◌∷◌, is_some, length, cond, refl, sym, ◌∙◌, ap, subst, arith}
+use Rattle.std.proofs.Common.{◌≡◌, ◌≢◌, ℕ, zero, suc, ◌<◌, ◌⊎◌, inl, inr, ⊎_elim, true, false, not, Option, Some, None, List, [], is_some, refl, sym, ◌∙◌, ap, subst, arith}
 use Rattle.std.proofs.lemmas.Bool.{cases_Bool, cases_order, both_ways, not-true, and_parts}
 use Rattle.std.specs.List.Sorted.{IsStrictlySortedBy}
 use Rattle.std.specs.Map.{keys_of}
 use Rattle.std.specs.BTreeMap.{is_at}
 use Rattle.std.specs.Ordering.{nat_cmp}
 use Rattle.std.specs.Cmp.Lexicographic.{slice_cmp}
-use Rattle.tree_definitions.specs.Entries.{Entries, entry_at, with_entry}
-use Rattle.tree_laws.proofs.Pairs.{tie, self, name_exact, found_put, found_other, sorted_put, length_put}
+use Rattle.tree_definitions.specs.Entries.{Entries, entry_at}
+use Rattle.tree_laws.proofs.Pairs.{tie, self, name_exact, found_put, found_other, sorted_put}
 use Rattle.disk_definitions.specs.Store.{Store, StoredEntry}
-use Rattle.standing_laws.specs.Below.{all_below}
 use Rattle.standing_laws.specs.ReadTree.{with_place, entries_to}
 use Rattle.standing_laws.specs.Soundness.{entry_agrees, entries_agree, has_kind}
 use Rattle.standing_laws.proofs.Bounded.{last_or_before, all_at}

@@ -1,8 +1,7 @@
 -- A disk stands for one tree, but for births: two trees that become the one that is read become each other.
-use Rattle.std.proofs.Common.{◌==◌, ◌≡◌, ◌≢◌, ℕ, ◌*◌, ◌<◌, Bool, true, false, Option, Some, None, List, is_some, length, cond, refl, sym, ◌∙◌, ap, subst, get_or, unwrap_or}
+use Rattle.std.proofs.Common.{◌==◌, ◌≡◌, ℕ, ◌*◌, ◌<◌, Bool, true, false, Option, Some, None, List, is_some, length, cond, refl, sym, ◌∙◌, ap, subst, get_or}
 use Rattle.std.specs.Option.{option_map}
 use Rattle.std.specs.List.{slice_get}
-use Rattle.std.proofs.lemmas.Bool.{both_ways}
 use Rattle.std.proofs.lemmas.Option.{slice_get_within, slice_get-get_or}
 use Rattle.tree_definitions.specs.declared.cells.Cell.{Cell}
 use Rattle.tree_definitions.specs.declared.cells.Cell.TheVariants as cell
@@ -13,11 +12,8 @@ use Rattle.tree_definitions.specs.Tree.{FileTree, node_at}
 use Rattle.tree_definitions.specs.Apply.{is_dir}
 use Rattle.tree_laws.specs.WellFormed.{IsWellFormed}
 use Rattle.tree_laws.proofs.Keeping.{names_nodes}
-use Rattle.sector_definitions.specs.declared.param.Param.{Param}
-use Rattle.sector_bytes.specs.Sectors.{Sectors}
 use Rattle.disk_definitions.specs.Store.{Store, StoredNode, store_of}
-use Rattle.disk_definitions.specs.Standing.{StandsFor}
-use Rattle.standing_laws.specs.ReadTree.{place_at, byte_at, cells_to, entries_to, read_node, tree_in, read_tree}
+use Rattle.standing_laws.specs.ReadTree.{place_at, byte_at, entries_to, read_node, tree_in, read_tree}
 use Rattle.standing_laws.specs.Renaming.{CellsAgree, EntriesAgree, SameNode, IsRenaming}
 use Rattle.standing_laws.specs.Laws.{AllBytes, HasBytes, ReadingHasNoDoubt, StandsForOne}
 use Rattle.standing_laws.proofs.NodesRead.{node_read}
@@ -29,7 +25,7 @@ use Rattle.standing_laws.proofs.StandingTree.{standing_renamed}
 pub read_bytes : (s : Store) (x : StoredNode) → HasBytes (read_node s x)
 read_bytes s x = go (x.kind == 2) (x.kind == 1)
   where
-    go : (a b : Bool) → HasBytes (cond a (Dir (entries_to (place_at s x) (56 * x.blocks)) x.blocks) (cond b (File (cells_of s x) x.links) (Link x.target x.links)))
+    go : (a b : Bool) → HasBytes (cond a (Dir (entries_to (place_at s x) (56 * x.blocks)) x.blocks) (cond b (File (cells_of s x) x.links x.when) (Link x.target x.links)))
     go true b = tt
     go false true = λ j c e. (byte_at s x j, cell_at (byte_at s x) x.size j c e)
     go false false = tt
@@ -79,28 +75,28 @@ module _ (to back too home : ℕ → ℕ) where
 
   same_dirs : (es : Entries) (k : ℕ) (x y : Node) → SameNode to x (Dir es k) → SameNode too y (Dir es k) → ((fs : Entries) (n : ℕ) → y ≡ Dir fs n → (name : List ℕ) (v : ℕ) → entry_at fs name ≡ Some v → home (too v) ≡ v) → SameNode (λ b. home (to b)) x y
   same_dirs es k (Dir one n) (Dir two m) p q again = (same_entries one two es p.0 q.0 (again two m refl), p.1 ∙ sym q.1)
-  same_dirs es k (Dir one n) (File cells links) p q again = absurd q
+  same_dirs es k (Dir one n) (File cells links when) p q again = absurd q
   same_dirs es k (Dir one n) (Link target links) p q again = absurd q
-  same_dirs es k (File cells links) y p q again = absurd p
+  same_dirs es k (File cells links when) y p q again = absurd p
   same_dirs es k (Link target links) y p q again = absurd p
 
-  same_files : (cells : List Cell) (links : ℕ) (x y : Node) → SameNode to x (File cells links) → SameNode too y (File cells links) → AllBytes cells → SameNode (λ b. home (to b)) x y
-  same_files cells links (File one n) (File two m) p q bytes = (same_cells one two cells p.0 q.0 bytes, p.1 ∙ sym q.1)
-  same_files cells links (File one n) (Dir es k) p q bytes = absurd q
-  same_files cells links (File one n) (Link target l) p q bytes = absurd q
-  same_files cells links (Dir es k) y p q bytes = absurd p
-  same_files cells links (Link target l) y p q bytes = absurd p
+  same_files : (cells : List Cell) (links when : ℕ) (x y : Node) → SameNode to x (File cells links when) → SameNode too y (File cells links when) → AllBytes cells → SameNode (λ b. home (to b)) x y
+  same_files cells links when (File one n w) (File two m v) p q bytes = (same_cells one two cells p.0 q.0 bytes, p.1 ∙ sym q.1, p.2 ∙ sym q.2)
+  same_files cells links when (File one n w) (Dir es k) p q bytes = absurd q
+  same_files cells links when (File one n w) (Link target l) p q bytes = absurd q
+  same_files cells links when (Dir es k) y p q bytes = absurd p
+  same_files cells links when (Link target l) y p q bytes = absurd p
 
   same_links : (target : List ℕ) (links : ℕ) (x y : Node) → SameNode to x (Link target links) → SameNode too y (Link target links) → SameNode (λ b. home (to b)) x y
   same_links target links (Link one n) (Link two m) p q = (p.0 ∙ sym q.0, p.1 ∙ sym q.1)
   same_links target links (Link one n) (Dir es k) p q = absurd q
-  same_links target links (Link one n) (File cells l) p q = absurd q
+  same_links target links (Link one n) (File cells l when) p q = absurd q
   same_links target links (Dir es k) y p q = absurd p
-  same_links target links (File cells l) y p q = absurd p
+  same_links target links (File cells l when) y p q = absurd p
 
   same_nodes : (x y z : Node) → SameNode to x z → SameNode too y z → HasBytes z → ((fs : Entries) (n : ℕ) → y ≡ Dir fs n → (name : List ℕ) (v : ℕ) → entry_at fs name ≡ Some v → home (too v) ≡ v) → SameNode (λ b. home (to b)) x y
   same_nodes x y (Dir es k) p q bytes again = same_dirs es k x y p q again
-  same_nodes x y (File cells links) p q bytes again = same_files cells links x y p q bytes
+  same_nodes x y (File cells links when) p q bytes again = same_files cells links when x y p q bytes
   same_nodes x y (Link target links) p q bytes again = same_links target links x y p q
 
   -- trees that become one tree of bytes become each other

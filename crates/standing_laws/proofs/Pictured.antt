@@ -1,5 +1,5 @@
 -- A consistent store is the picture of the tree that is read off it, with each node's birth its inode.
-use Rattle.std.proofs.Common.{◌==◌, ◌≡◌, ◌≢◌, ℕ, zero, suc, ◌+◌, ◌-◌, ◌*◌, ◌/◌, ◌%◌, ◌<◌, ◌≤◌, ◌⊎◌, inl, inr, ⊎_elim, Bool, true, false, not, ◌&&◌, ◌||◌, Option, Some, None, List, [], ◌∷◌, ◌++◌, is_some, length, length-append, get_or, cond, refl, sym, ◌∙◌, ap, subst, arith, nat_lt, eqb-true, ltb-true, lt-ltb, unwrap_or}
+use Rattle.std.proofs.Common.{◌==◌, ◌≡◌, ℕ, zero, suc, ◌+◌, ◌-◌, ◌*◌, ◌/◌, ◌%◌, ◌<◌, ◌≤◌, ⊎_elim, Bool, true, false, Option, Some, None, List, [], ◌∷◌, ◌++◌, is_some, length, length-append, get_or, cond, refl, sym, ◌∙◌, ap, subst, arith, nat_lt, eqb-true, unwrap_or}
 use Rattle.std.specs.Option.{option_map}
 use Rattle.std.specs.List.{slice_get}
 use Rattle.std.specs.BTreeMap.{is_at}
@@ -8,21 +8,19 @@ use Rattle.std.specs.Cmp.Lexicographic.{slice_cmp}
 use Rattle.std.proofs.Math.Seq.{get_or-append_seam}
 use Rattle.std.proofs.lemmas.List.{get_or_append_left}
 use Rattle.std.proofs.lemmas.Option.{slice_get_within, get_or_from_slice_get}
-use Rattle.std.proofs.lemmas.Bool.{and_parts, or_cases, cases_lt, cases_Bool, cond-true, cond-false, both_ways, not-true, false_from_ne_true}
-use Rattle.std.proofs.lemmas.Nat.{div-mul-add, mod-mul-add, div-add-mod', div_below, mod_below}
+use Rattle.std.proofs.lemmas.Bool.{and_parts, cases_lt, cond-true, cond-false, both_ways}
 use Rattle.tree_definitions.specs.declared.cells.Cell.{Cell}
 use Rattle.tree_definitions.specs.declared.cells.Cell.TheVariants as cell
 use Rattle.tree_definitions.specs.declared.node.Node.{Node}
 use Rattle.tree_definitions.specs.declared.node.Node.TheVariants.{Dir, File, Link}
 use Rattle.tree_definitions.specs.Tree.{FileTree, node_at, small_blocks_of}
-use Rattle.disk_definitions.specs.Store.{Store, StoredNode, StoredEntry, Use, is_unused}
+use Rattle.disk_definitions.specs.Store.{Store, StoredNode, StoredEntry, Use}
 use Rattle.disk_definitions.specs.Store.Use.{Fresh, Bytes, Empty, Entries as OfEntries}
-use Rattle.disk_definitions.specs.Naming.{Naming, Nodes, Pictures, kind_of, blocks_of, has_large, room_in, find_in, cell_in, first_blocks, inode_of, inode_by, inode_for, use_by, use_for, entry_of, place_of, dir_place, file_byte, Allows}
-use Rattle.standing_laws.specs.Below.{all_below, find_below, holds, lists, are_distinct}
+use Rattle.disk_definitions.specs.Naming.{Naming, Nodes, kind_of, first_blocks, inode_of, inode_by, inode_for}
+use Rattle.standing_laws.specs.Below.{find_below, holds}
 use Rattle.standing_laws.specs.ReadTree.{place_at, byte_at, cells_to, entries_to, read_node, tree_in}
-use Rattle.standing_laws.specs.Soundness.{agree, bit_agrees, block_in, block_at, is_used_for, use_agrees, is_cleared, large_in, large_at, is_marked, has_kind, directory_agrees, entries_agree, node_agrees, IsConsistent}
-use Rattle.standing_laws.proofs.Bounded.{last_or_before, all_at, find_at, find_none, find_only, lists_at, lists_from, holds_at, holds_from, distinct_at}
-use Rattle.standing_laws.proofs.Entered.{StandsAt, found_at, at_found, new_name, one_spot}
+use Rattle.standing_laws.specs.Soundness.{agree, bit_agrees, block_at, large_at, directory_agrees, entries_agree, node_agrees, IsConsistent}
+use Rattle.standing_laws.proofs.Bounded.{last_or_before, all_at}
 use Rattle.standing_laws.proofs.NodesRead.{node_read}
 use Rattle.standing_laws.proofs.Shapes.{Shape, OfFile, OfDir, OfLink, IsFileShape, IsDirShape, IsLinkShape}
 
@@ -39,14 +37,14 @@ by_link k a b c e = subst (λ k. cond (k == 2) a (cond (k == 1) b c) ≡ c) (sym
 abbrev pub cells_of : Store → StoredNode → List Cell
 cells_of s x = cells_to (byte_at s x) x.size
 
-pub read_file : (s : Store) (x : StoredNode) → x.kind ≡ 1 → read_node s x ≡ File (cells_of s x) x.links
-read_file s x e = by_file x.kind (Dir (entries_to (place_at s x) (56 * x.blocks)) x.blocks) (File (cells_of s x) x.links) (Link x.target x.links) e
+pub read_file : (s : Store) (x : StoredNode) → x.kind ≡ 1 → read_node s x ≡ File (cells_of s x) x.links x.when
+read_file s x e = by_file x.kind (Dir (entries_to (place_at s x) (56 * x.blocks)) x.blocks) (File (cells_of s x) x.links x.when) (Link x.target x.links) e
 
 pub read_dir : (s : Store) (x : StoredNode) → x.kind ≡ 2 → read_node s x ≡ Dir (entries_to (place_at s x) (56 * x.blocks)) x.blocks
-read_dir s x e = by_dir x.kind (Dir (entries_to (place_at s x) (56 * x.blocks)) x.blocks) (File (cells_of s x) x.links) (Link x.target x.links) e
+read_dir s x e = by_dir x.kind (Dir (entries_to (place_at s x) (56 * x.blocks)) x.blocks) (File (cells_of s x) x.links x.when) (Link x.target x.links) e
 
 pub read_link : (s : Store) (x : StoredNode) → x.kind ≡ 3 → read_node s x ≡ Link x.target x.links
-read_link s x e = by_link x.kind (Dir (entries_to (place_at s x) (56 * x.blocks)) x.blocks) (File (cells_of s x) x.links) (Link x.target x.links) e
+read_link s x e = by_link x.kind (Dir (entries_to (place_at s x) (56 * x.blocks)) x.blocks) (File (cells_of s x) x.links x.when) (Link x.target x.links) e
 
 -- as many cells as bytes, each of them its byte
 pub length_cells : (f : ℕ → ℕ) (n : ℕ) → length (cells_to f n) ≡ n
@@ -64,7 +62,7 @@ cell_at f n j c e = sym (get_or_from_slice_get (cells_to f n) j c c e) ∙ byte_
 
 -- ---- the naming
 abbrev pub nothing : StoredNode
-nothing = record { kind = 0; links = 0; size = 0; birth = 0; blocks = 0; small = λ j. 0; large = 0; target = [] }
+nothing = record { kind = 0; links = 0; size = 0; birth = 0; blocks = 0; small = λ j. 0; large = 0; when = 0; target = [] }
 
 -- the node of an inode, or nothing
 abbrev pub at_inode : Store → ℕ → StoredNode
@@ -153,19 +151,19 @@ module _ (segments : ℕ) (s : Store) (range : IsInRange segments s) (shapes : (
       let a : (length x.target == x.size) ≡ true = sym (cond-true (x.kind == 3) (length x.target == x.size) true (ap (λ k. k == 3) k)) ∙ sym (cond-false (x.kind == 2) (directory_agrees s x) (cond (x.kind == 3) (length x.target == x.size) true) (ap (λ k. k == 2) k)) ∙ h in
       eqb-true (length x.target) x.size a
 
-  file_again : (x : StoredNode) → IsFileShape x → inode_of x.birth x.small (x.large - 1) (File (cells_of s x) x.links) ≡ x
+  file_again : (x : StoredNode) → IsFileShape x → inode_of x.birth x.small (x.large - 1) (File (cells_of s x) x.links x.when) ≡ x
   file_again x f =
       let l : length (cells_of s x) ≡ x.size = length_cells (byte_at s x) x.size in
       let b : small_blocks_of (length (cells_of s x)) ≡ x.blocks = ap small_blocks_of l ∙ sym f.blocks in
       let m : first_blocks (small_blocks_of (length (cells_of s x))) x.small ≡ x.small = ap (λ n. first_blocks n x.small) b ∙ sym f.small in
       let g : cond (nat_lt 65536 (length (cells_of s x))) (x.large - 1 + 1) 0 ≡ x.large = ap (λ n. cond (nat_lt 65536 n) (x.large - 1 + 1) 0) l ∙ sym f.large in
-      λ i. record { kind = sym f.kind i; links = x.links; size = l i; birth = x.birth; blocks = b i; small = m i; large = g i; target = sym f.target i }
+      λ i. record { kind = sym f.kind i; links = x.links; size = l i; birth = x.birth; blocks = b i; small = m i; large = g i; when = x.when; target = sym f.target i }
 
   dir_again : (x : StoredNode) → IsDirShape x → length (entries_to (place_at s x) (56 * x.blocks)) ≡ x.size → inode_of x.birth x.small (x.large - 1) (Dir (entries_to (place_at s x) (56 * x.blocks)) x.blocks) ≡ x
-  dir_again x f l = λ i. record { kind = sym f.kind i; links = sym f.links i; size = l i; birth = x.birth; blocks = x.blocks; small = sym f.small i; large = sym f.large i; target = sym f.target i }
+  dir_again x f l = λ i. record { kind = sym f.kind i; links = sym f.links i; size = l i; birth = x.birth; blocks = x.blocks; small = sym f.small i; large = sym f.large i; when = sym f.when i; target = sym f.target i }
 
   link_again : (x : StoredNode) → IsLinkShape x → length x.target ≡ x.size → inode_of x.birth x.small (x.large - 1) (Link x.target x.links) ≡ x
-  link_again x f l = λ i. record { kind = sym f.kind i; links = x.links; size = l i; birth = x.birth; blocks = sym f.blocks i; small = sym f.small i; large = sym f.large i; target = x.target }
+  link_again x f l = λ i. record { kind = sym f.kind i; links = x.links; size = l i; birth = x.birth; blocks = sym f.blocks i; small = sym f.small i; large = sym f.large i; when = sym f.when i; target = x.target }
 
   again : (x : StoredNode) → Shape x → node_agrees s (Some x) ≡ true → inode_of x.birth x.small (x.large - 1) (read_node s x) ≡ x
   again x (OfFile f) h = ap (inode_of x.birth x.small (x.large - 1)) (read_file s x f.kind) ∙ file_again x f

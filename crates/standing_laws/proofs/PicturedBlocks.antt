@@ -1,31 +1,18 @@
 -- The blocks of a consistent store are those of the tree that is read off it.
-use Rattle.std.proofs.Common.{◌==◌, ◌≡◌, ◌≢◌, ℕ, zero, suc, ◌+◌, ◌-◌, ◌*◌, ◌/◌, ◌%◌, ◌<◌, ◌≤◌, ◌⊎◌, inl, inr, ⊎_elim, Bool, true, false, not, ◌&&◌, ◌||◌, Option, Some, None, List, [], ◌∷◌, ◌++◌, is_some, length, length-append, get_or, cond, refl, sym, ◌∙◌, ap, subst, arith, nat_lt, eqb-true, ltb-true, lt-ltb, unwrap_or}
+use Rattle.std.proofs.Common.{◌==◌, ◌≡◌, ℕ, ◌+◌, ◌-◌, ◌*◌, ◌/◌, ◌%◌, ◌<◌, ◌≤◌, ⊎_elim, Bool, true, false, not, ◌||◌, Option, Some, None, is_some, cond, refl, sym, ◌∙◌, ap, subst, arith, nat_lt, ltb-true, lt-ltb}
 use Rattle.std.specs.Option.{option_map}
-use Rattle.std.specs.List.{slice_get}
-use Rattle.std.specs.BTreeMap.{is_at}
-use Rattle.std.specs.Ordering.{nat_cmp}
-use Rattle.std.specs.Cmp.Lexicographic.{slice_cmp}
-use Rattle.std.proofs.Math.Seq.{get_or-append_seam}
-use Rattle.std.proofs.lemmas.List.{get_or_append_left}
-use Rattle.std.proofs.lemmas.Option.{slice_get_within, get_or_from_slice_get}
-use Rattle.std.proofs.lemmas.Bool.{and_parts, or_cases, cases_lt, cases_Bool, cond-true, cond-false, both_ways, not-true, false_from_ne_true}
-use Rattle.std.proofs.lemmas.Nat.{div-mul-add, mod-mul-add, div-add-mod', div_below, mod_below}
-use Rattle.tree_definitions.specs.declared.cells.Cell.{Cell}
-use Rattle.tree_definitions.specs.declared.cells.Cell.TheVariants as cell
-use Rattle.tree_definitions.specs.declared.node.Node.{Node}
-use Rattle.tree_definitions.specs.declared.node.Node.TheVariants.{Dir, File, Link}
-use Rattle.tree_definitions.specs.Tree.{FileTree, node_at, small_blocks_of}
+use Rattle.std.proofs.lemmas.Bool.{or_cases, cases_lt, cond-true, both_ways, not-true}
+use Rattle.std.proofs.lemmas.Nat.{div-mul-add, mod-mul-add, div-add-mod'}
+use Rattle.tree_definitions.specs.Tree.{small_blocks_of}
 use Rattle.disk_definitions.specs.Store.{Store, StoredNode, StoredEntry, Use, is_unused}
 use Rattle.disk_definitions.specs.Store.Use.{Fresh, Bytes, Empty, Entries as OfEntries}
-use Rattle.disk_definitions.specs.Naming.{Naming, Nodes, Pictures, kind_of, blocks_of, has_large, room_in, find_in, cell_in, first_blocks, inode_of, inode_by, inode_for, use_by, use_for, entry_of, place_of, dir_place, file_byte, Allows}
-use Rattle.standing_laws.specs.Below.{all_below, find_below, holds, lists, are_distinct}
-use Rattle.standing_laws.specs.ReadTree.{place_at, byte_at, cells_to, entries_to, read_node, tree_in}
-use Rattle.standing_laws.specs.Soundness.{agree, bit_agrees, block_in, block_at, is_used_for, use_agrees, is_cleared, large_in, large_at, is_marked, has_kind, directory_agrees, entries_agree, node_agrees, IsConsistent}
-use Rattle.standing_laws.proofs.Bounded.{last_or_before, all_at, find_at, find_none, find_only, lists_at, lists_from, holds_at, holds_from, distinct_at}
-use Rattle.standing_laws.proofs.Entered.{StandsAt, found_at, at_found, new_name, one_spot}
-use Rattle.standing_laws.proofs.NodesRead.{node_read}
-use Rattle.standing_laws.proofs.Shapes.{Shape, OfFile, OfDir, OfLink, IsFileShape, IsDirShape, IsLinkShape}
-use Rattle.standing_laws.proofs.Pictured.{IsInRange, nothing, at_inode, naming_of, slot_pair, is_emptied, cells_of, length_cells, read_file, read_dir, read_link, tree, at, n, at_some, at_none, node, below, known}
+use Rattle.disk_definitions.specs.Naming.{Naming, Nodes, blocks_of, has_large, use_by, use_for}
+use Rattle.standing_laws.specs.Below.{find_below, holds, lists}
+use Rattle.standing_laws.specs.ReadTree.{byte_at, read_node}
+use Rattle.standing_laws.specs.Soundness.{block_in, block_at, is_used_for, use_agrees, is_cleared, large_in, large_at, is_marked, IsConsistent}
+use Rattle.standing_laws.proofs.Bounded.{all_at, find_at, find_none, find_only, lists_at, holds_at, holds_from, distinct_at}
+use Rattle.standing_laws.proofs.Shapes.{Shape, OfFile, OfDir, OfLink}
+use Rattle.standing_laws.proofs.Pictured.{IsInRange, naming_of, slot_pair, is_emptied, length_cells, read_file, read_dir, read_link, at, at_some, at_none, node, below}
 
 -- the place of index j of inode b
 pub place_is : (b j : ℕ) → j < 16 → ((b * 16 + j) / 16 ≡ b) × ((b * 16 + j) % 16 ≡ j)

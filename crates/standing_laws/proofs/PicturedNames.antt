@@ -1,33 +1,22 @@
 -- The names and bytes of a consistent store are those of the tree that is read off it: it is the tree's picture.
-use Rattle.std.proofs.Common.{◌==◌, ◌≡◌, ◌≢◌, ℕ, zero, suc, ◌+◌, ◌-◌, ◌*◌, ◌/◌, ◌%◌, ◌<◌, ◌≤◌, ◌⊎◌, inl, inr, ⊎_elim, Bool, true, false, not, ◌&&◌, ◌||◌, Option, Some, None, List, [], ◌∷◌, ◌++◌, is_some, length, length-append, get_or, cond, refl, sym, ◌∙◌, ap, subst, arith, nat_lt, eqb-true, ltb-true, lt-ltb, unwrap_or}
-use Rattle.std.specs.Option.{option_map}
-use Rattle.std.specs.List.{slice_get}
+use Rattle.std.proofs.Common.{◌≡◌, ℕ, ◌*◌, ◌<◌, true, Option, Some, None, List, is_some, refl, sym, ◌∙◌, ap, subst, arith, eqb-true, unwrap_or}
 use Rattle.std.specs.BTreeMap.{is_at}
 use Rattle.std.specs.Ordering.{nat_cmp}
 use Rattle.std.specs.Cmp.Lexicographic.{slice_cmp}
-use Rattle.std.proofs.Math.Seq.{get_or-append_seam}
-use Rattle.std.proofs.lemmas.List.{get_or_append_left}
-use Rattle.std.proofs.lemmas.Option.{slice_get_within, get_or_from_slice_get}
-use Rattle.std.proofs.lemmas.Bool.{and_parts, or_cases, cases_lt, cases_Bool, cond-true, cond-false, both_ways, not-true, false_from_ne_true}
-use Rattle.std.proofs.lemmas.Nat.{div-mul-add, mod-mul-add, div-add-mod', div_below, mod_below}
 use Rattle.tree_definitions.specs.declared.cells.Cell.{Cell}
 use Rattle.tree_definitions.specs.declared.cells.Cell.TheVariants as cell
 use Rattle.tree_definitions.specs.declared.node.Node.{Node}
 use Rattle.tree_definitions.specs.declared.node.Node.TheVariants.{Dir, File, Link}
-use Rattle.tree_definitions.specs.Tree.{FileTree, node_at, small_blocks_of}
-use Rattle.disk_definitions.specs.Store.{Store, StoredNode, StoredEntry, Use, is_unused}
-use Rattle.disk_definitions.specs.Store.Use.{Fresh, Bytes, Empty, Entries as OfEntries}
-use Rattle.disk_definitions.specs.Naming.{Naming, Nodes, Pictures, kind_of, blocks_of, has_large, room_in, find_in, cell_in, first_blocks, inode_of, inode_by, inode_for, use_by, use_for, entry_of, place_of, dir_place, file_byte, Allows}
-use Rattle.standing_laws.specs.Below.{all_below, find_below, holds, lists, are_distinct}
-use Rattle.standing_laws.specs.ReadTree.{place_at, byte_at, cells_to, entries_to, read_node, tree_in}
-use Rattle.standing_laws.specs.Soundness.{agree, bit_agrees, block_in, block_at, is_used_for, use_agrees, is_cleared, large_in, large_at, is_marked, has_kind, directory_agrees, entries_agree, node_agrees, IsConsistent}
-use Rattle.standing_laws.proofs.Bounded.{last_or_before, all_at, find_at, find_none, find_only, lists_at, lists_from, holds_at, holds_from, distinct_at}
+use Rattle.disk_definitions.specs.Store.{Store, StoredNode, StoredEntry}
+use Rattle.disk_definitions.specs.Naming.{Naming, Nodes, Pictures, room_in, find_in, cell_in, entry_of, dir_place, file_byte, Allows}
+use Rattle.standing_laws.specs.Below.{find_below}
+use Rattle.standing_laws.specs.ReadTree.{place_at, byte_at, entries_to, read_node}
+use Rattle.standing_laws.specs.Soundness.{has_kind, entries_agree, IsConsistent}
+use Rattle.standing_laws.proofs.Bounded.{find_only}
 use Rattle.standing_laws.proofs.Entered.{StandsAt, found_at, at_found, new_name, one_spot}
-use Rattle.standing_laws.proofs.NodesRead.{node_read}
-use Rattle.standing_laws.proofs.Shapes.{Shape, OfFile, OfDir, OfLink, IsFileShape, IsDirShape, IsLinkShape}
+use Rattle.standing_laws.proofs.Shapes.{Shape, OfFile, OfDir, OfLink}
 use Rattle.tree_laws.proofs.Pairs.{tie, self, name_exact}
-use Rattle.tree_definitions.specs.Entries.{Entries, entry_at}
-use Rattle.standing_laws.proofs.Pictured.{IsInRange, nothing, at_inode, naming_of, is_named, cells_of, cell_at, read_file, read_dir, read_link, tree, at, n, at_some, at_none, node, below, known, agreed, dir_size, inodes_are, bits_are, numbered_are, whose_are, kinds_are}
+use Rattle.standing_laws.proofs.Pictured.{IsInRange, nothing, at_inode, naming_of, is_named, cells_of, cell_at, read_file, read_dir, read_link, at, at_some, at_none, node, agreed, dir_size, inodes_are, bits_are, numbered_are, whose_are, kinds_are}
 use Rattle.standing_laws.proofs.PicturedBlocks.{owned_are, owners_are, uses_are, emptied_are, larges_are, large_owners_are, large_bits_are}
 
 named_at : (o : Option StoredEntry) (name : List ℕ) → is_named o name ≡ true → (e : StoredEntry) × (o ≡ Some e) × (e.name ≡ name)
@@ -63,7 +52,7 @@ module _ (segments : ℕ) (s : Store) (range : IsInRange segments s) (shapes : (
   directory d never = go (s.inode d) refl
     where
       shaped : (x : StoredNode) → s.inode d ≡ Some x → Shape x → (x : StoredNode) × IsDirectory d x
-      shaped x e (OfFile f) = absurd (let z : nodes d ≡ Some (File (cells_of s x) x.links) = its_node d x e ∙ ap (λ y. Some y) (read_file s x f.kind) in never (ap room_in z) (λ name. ap (λ o. find_in o name) z))
+      shaped x e (OfFile f) = absurd (let z : nodes d ≡ Some (File (cells_of s x) x.links x.when) = its_node d x e ∙ ap (λ y. Some y) (read_file s x f.kind) in never (ap room_in z) (λ name. ap (λ o. find_in o name) z))
       shaped x e (OfDir f) = (x, (e, f.kind, its_node d x e ∙ ap (λ y. Some y) (read_dir s x f.kind)))
       shaped x e (OfLink f) = absurd (let z : nodes d ≡ Some (Link x.target x.links) = its_node d x e ∙ ap (λ y. Some y) (read_link s x f.kind) in never (ap room_in z) (λ name. ap (λ o. find_in o name) z))
 
@@ -118,7 +107,7 @@ module _ (segments : ℕ) (s : Store) (range : IsInRange segments s) (shapes : (
 
       shaped : (x : StoredNode) → s.inode b ≡ Some x → Shape x → Allows v (file_byte s m b j)
       shaped x e (OfFile f) =
-          let z : nodes b ≡ Some (File (cells_of s x) x.links) = its_node b x e ∙ ap (λ y. Some y) (read_file s x f.kind) in
+          let z : nodes b ≡ Some (File (cells_of s x) x.links x.when) = its_node b x e ∙ ap (λ y. Some y) (read_file s x f.kind) in
           let g : v ≡ cell.Byte (byte_at s x j) = cell_at (byte_at s x) x.size j v (sym (ap (λ o. cell_in o j) z) ∙ h) in
           subst (λ v. Allows v (file_byte s m b j)) (sym g) (file_byte_is b x e j)
       shaped x e (OfDir f) = none (Some (Dir (entries_to (place_at s x) (56 * x.blocks)) x.blocks)) (its_node b x e ∙ ap (λ y. Some y) (read_dir s x f.kind)) refl

@@ -1,5 +1,5 @@
 -- The tree of a sound disk takes no more of it than there is.
-use Rattle.std.proofs.Common.{◌==◌, ◌≡◌, ◌≢◌, ℕ, zero, suc, ◌+◌, ◌-◌, ◌*◌, ◌/◌, ◌%◌, ◌<◌, ◌≤◌, ◌⊎◌, inl, inr, ⊎_elim, Bool, true, false, not, Option, Some, None, List, [], ◌∷◌, is_some, length, min, sum_by, cond, refl, sym, ◌∙◌, ap, subst, arith, nat_lt, ltb-true, ltb-false, lt-ltb, unwrap_or}
+use Rattle.std.proofs.Common.{◌≡◌, ℕ, zero, suc, ◌+◌, ◌-◌, ◌*◌, ◌/◌, ◌%◌, ◌<◌, ◌≤◌, ⊎_elim, Bool, true, false, Option, Some, None, List, is_some, length, min, sum_by, cond, refl, sym, ◌∙◌, ap, subst, arith, nat_lt, ltb-true, ltb-false, lt-ltb, unwrap_or}
 use Rattle.std.specs.Option.{option_map}
 use Rattle.std.specs.List.{list_all}
 use Rattle.std.specs.Map.{lookup, values_of}
@@ -10,12 +10,12 @@ use Rattle.std.proofs.lemmas.Bool.{cases_lt, cond-true, cond-false, both_ways}
 use Rattle.std.proofs.lemmas.Nat.{div-mul-add, mod-mul-add}
 use Rattle.std.proofs.lemmas.Map.Entries.{sum_by-insert_entry}
 use Rattle.tree_definitions.specs.declared.node.Node.{Node}
-use Rattle.tree_definitions.specs.declared.node.Node.TheVariants.{Dir, File, Link}
+use Rattle.tree_definitions.specs.declared.node.Node.TheVariants.{File, Link}
 use Rattle.tree_definitions.specs.Tree.{node_at, small_blocks, large_blocks, small_blocks_of, large_blocks_of}
 use Rattle.frang_base.specs.Name.{is_target_byte}
 use Rattle.disk_definitions.specs.Store.{Store, StoredNode, Use, store_of}
 use Rattle.disk_definitions.specs.Store.Use.{Fresh}
-use Rattle.standing_laws.specs.Below.{all_below, are_distinct}
+use Rattle.standing_laws.specs.Below.{all_below}
 use Rattle.standing_laws.specs.ReadTree.{byte_at, read_node, with_inode, nodes_to, tree_in}
 use Rattle.standing_laws.specs.Soundness.{block_in, block_at, is_used_for, use_agrees, large_in, large_at, is_marked, IsConsistent}
 use Rattle.standing_laws.specs.Room.{FitsDisk, SoundFits}
@@ -24,7 +24,7 @@ use Rattle.standing_laws.proofs.Counted.{one_if, how_many, at_most, how_same, ho
 use Rattle.standing_laws.proofs.NodesRead.{births_to, past}
 use Rattle.standing_laws.proofs.Shapes.{Shape, OfFile, OfDir, OfLink, disk_shape}
 use Rattle.standing_laws.proofs.Pictured.{IsInRange, cells_of, length_cells, read_file, read_dir, read_link, known, at_some, agreed, link_size}
-use Rattle.standing_laws.proofs.PicturedBlocks.{in_slot, few, in_large}
+use Rattle.standing_laws.proofs.PicturedBlocks.{in_slot, few}
 use Rattle.standing_laws.proofs.SoundStanding.{disk_range}
 
 taken_small : (s : Store) (x : StoredNode) → Shape x → small_blocks (read_node s x) ≡ x.blocks
@@ -126,7 +126,7 @@ module _ (segments : ℕ) (s : Store) (range : IsInRange segments s) (shapes : (
       shaped k.0 k.1 (shapes b k.0 k.1)
     where
       shaped : (x : StoredNode) → s.inode b ≡ Some x → Shape x → (1 ≤ length target) × (length target ≤ 384) × (list_all is_target_byte target ≡ true)
-      shaped x e (OfFile f) = absurd (let z : Some (File (cells_of s x) x.links) ≡ Some (Link target links) = sym (at_some segments s range shapes c b x e ∙ ap (λ y. Some y) (read_file s x f.kind)) ∙ h in cc)
+      shaped x e (OfFile f) = absurd (let z : Some (File (cells_of s x) x.links x.when) ≡ Some (Link target links) = sym (at_some segments s range shapes c b x e ∙ ap (λ y. Some y) (read_file s x f.kind)) ∙ h in cc)
       shaped x e (OfDir f) = absurd (let z = sym (at_some segments s range shapes c b x e ∙ ap (λ y. Some y) (read_dir s x f.kind)) ∙ h in cc)
       shaped x e (OfLink f) =
           let z : Some (Link x.target x.links) ≡ Some (Link target links) = sym (at_some segments s range shapes c b x e ∙ ap (λ y. Some y) (read_link s x f.kind)) ∙ h in

@@ -1,8 +1,8 @@
 -- What the grammar of inodes says of the nodes that are stored in them.
 use Rattle.sector_definitions.specs.Regions.{sector_of}
 use Rattle.sector_definitions.specs.declared.region.Region.TheVariants as region
-use Rattle.std.proofs.Common.{◌==◌, ◌≡◌, ◌≢◌, ℕ, zero, suc, ◌+◌, ◌-◌, ◌*◌, ◌/◌, ◌<◌, ◌≤◌, ◌⊎◌, inl, inr, ⊎_elim, Bool, true, false, not, ◌||◌, Option, Some, None, List, [], ◌∷◌, is_some, length, take, drop, min, cond, refl, sym, ◌∙◌, ap, subst, arith, nat_lt, nat_le, slice_index, get_or, get_or-drop, nat_eq, eqb-true, ltb-true, ltb-false, leb-true, lt-ltb, le-ltb, le_refl}
-use Rattle.std.proofs.lemmas.Bool.{and_parts, or_cases, cases_lt, cases_Bool, cond-true, cond-false, both_ways}
+use Rattle.std.proofs.Common.{◌==◌, ◌≡◌, ℕ, zero, suc, ◌+◌, ◌-◌, ◌*◌, ◌<◌, ◌≤◌, ⊎_elim, Bool, true, false, ◌||◌, Option, Some, None, List, [], ◌∷◌, take, drop, cond, refl, sym, ◌∙◌, ap, subst, arith, nat_lt, nat_le, slice_index, get_or-drop, nat_eq, eqb-true, ltb-true, leb-true, lt-ltb, le-ltb}
+use Rattle.std.proofs.lemmas.Bool.{and_parts, or_cases, cases_lt, cond-true, cond-false, both_ways}
 use Rattle.std.specs.List.{list_all}
 use Rattle.sector_definitions.specs.declared.inode.Inode.{Inode}
 use Rattle.sector_bytes.specs.Bytes.{are_zero}
@@ -25,19 +25,23 @@ pub record IsFileShape (x : StoredNode) : Type 0 where
   pub has : nat_lt 65536 x.size ≡ nat_lt 0 x.large
   pub target : x.target ≡ []
 
+-- a directory: it has one link, and no large block, no time and no target
 pub record IsDirShape (x : StoredNode) : Type 0 where
   pub kind : x.kind ≡ 2
   pub few : x.blocks ≤ 16
   pub links : x.links ≡ 1
   pub small : x.small ≡ first_blocks x.blocks x.small
   pub large : x.large ≡ 0
+  pub when : x.when ≡ 0
   pub target : x.target ≡ []
 
+-- a link: it has no blocks and no time, and a target
 pub record IsLinkShape (x : StoredNode) : Type 0 where
   pub kind : x.kind ≡ 3
   pub blocks : x.blocks ≡ 0
   pub small : x.small ≡ first_blocks 0 x.small
   pub large : x.large ≡ 0
+  pub when : x.when ≡ 0
   pub size : (1 ≤ x.size) × (x.size ≤ 384)
   pub bytes : list_all is_target_byte x.target ≡ true
 
@@ -70,7 +74,7 @@ large_is size large h = go (nat_lt 65536 size) h
     go false h = let e : large ≡ 0 = eqb-true large 0 h in (e, sym (ap (nat_lt 0) e))
 
 abbrev stored : Inode → StoredNode
-stored x = record { kind = x.kind; links = x.links; size = x.size; birth = x.birth; blocks = x.blocks; small = slice_index x.small; large = x.large; target = cond (x.kind == 3) (take x.size x.target) [] }
+stored x = record { kind = x.kind; links = x.links; size = x.size; birth = x.birth; blocks = x.blocks; small = slice_index x.small; large = x.large; when = x.when; target = cond (x.kind == 3) (take x.size x.target) [] }
 
 untargeted : (k : ℕ) (t : List ℕ) (c : ℕ) → c == 3 ≡ false → k ≡ c → cond (k == 3) t [] ≡ []
 untargeted k t c h e = subst (λ k. cond (k == 3) t [] ≡ []) (sym e) (cond-false (c == 3) t [] h)
@@ -100,12 +104,14 @@ dir_shape x h =
     let few : nat_le x.blocks 16 ≡ true = search (and_l, and_r) depth 12 in
     let ends : ends_blocks x ≡ true = search (and_l, and_r) depth 12 in
     let large : x.large == 0 ≡ true = search (and_l, and_r) depth 12 in
+    let never : x.when == 0 ≡ true = search (and_l, and_r) depth 12 in
     record {
       kind = eqb-true x.kind 2 kind;
       few = leb-true x.blocks 16 few;
       links = eqb-true x.links 1 links;
       small = first_of x.small x.blocks ends;
       large = eqb-true x.large 0 large;
+      when = eqb-true x.when 0 never;
       target = untargeted x.kind (take x.size x.target) 2 refl (eqb-true x.kind 2 kind);
     }
 
@@ -115,6 +121,7 @@ link_shape x h =
     let blocks : x.blocks == 0 ≡ true = search (and_l, and_r) depth 12 in
     let none : are_zero x.small ≡ true = search (and_l, and_r) depth 12 in
     let large : x.large == 0 ≡ true = search (and_l, and_r) depth 12 in
+    let never : x.when == 0 ≡ true = search (and_l, and_r) depth 12 in
     let some : nat_le 1 x.size ≡ true = search (and_l, and_r) depth 12 in
     let few : nat_le x.size 384 ≡ true = search (and_l, and_r) depth 12 in
     let bytes : list_all is_target_byte (take x.size x.target) ≡ true = search (and_l, and_r) depth 12 in
@@ -125,6 +132,7 @@ link_shape x h =
       blocks = eqb-true x.blocks 0 blocks;
       small = first_of x.small 0 none;
       large = eqb-true x.large 0 large;
+      when = eqb-true x.when 0 never;
     }
 
 -- an inode that isn't free is a file, a directory or a link

@@ -1,12 +1,10 @@
 -- A sound disk stands for the tree that is read off it.
-use Rattle.std.proofs.Common.{◌==◌, ◌≡◌, ◌≢◌, ℕ, zero, suc, ◌+◌, ◌-◌, ◌*◌, ◌/◌, ◌%◌, ◌^◌, ◌<◌, ◌≤◌, ◌⊎◌, inl, inr, ⊎_elim, true, false, not, ◌||◌, Option, Some, None, List, [], ◌∷◌, is_some, length, cond, refl, sym, ◌∙◌, ap, subst, arith, nat_lt, eqb-true, ltb-true, lt-ltb, le-ltb, eq-eqb, unwrap_or}
-use Rattle.std.specs.Option.{option_map}
-use Rattle.std.specs.Map.{lookup, keys_of}
-use Rattle.std.specs.BTreeMap.{is_at}
+use Rattle.std.proofs.Common.{◌≡◌, ◌≢◌, ℕ, ◌+◌, ◌*◌, ◌/◌, ◌%◌, ◌<◌, ◌≤◌, ⊎_elim, true, Option, Some, None, List, is_some, refl, sym, ◌∙◌, ap, subst, arith, nat_lt, eqb-true, le-ltb}
+use Rattle.std.specs.Map.{keys_of}
 use Rattle.std.specs.Ordering.{nat_cmp}
 use Rattle.std.specs.Cmp.Lexicographic.{slice_cmp}
 use Rattle.std.specs.List.Sorted.{IsStrictlySortedBy}
-use Rattle.std.proofs.lemmas.Bool.{and_left, cases_lt, cond-true, cond-false, both_ways}
+use Rattle.std.proofs.lemmas.Bool.{and_left, cases_lt, cond-false, both_ways}
 use Rattle.tree_definitions.specs.declared.node.Node.{Node}
 use Rattle.tree_definitions.specs.declared.node.Node.TheVariants.{Dir, File, Link}
 use Rattle.tree_definitions.specs.Entries.{Entries, entry_at}
@@ -17,19 +15,19 @@ use Rattle.tree_laws.proofs.Pairs.{name_exact, birth_exact}
 use Rattle.tree_laws.proofs.Balance.{one_other}
 use Rattle.sector_definitions.proofs.ParamLaws.{few_segments}
 use Rattle.sector_bytes.specs.Sectors.{Sectors}
-use Rattle.disk_definitions.specs.Store.{Store, StoredNode, StoredEntry, Use, store_of, segment_at, bit_in, large_in}
+use Rattle.disk_definitions.specs.Store.{Store, StoredNode, store_of, segment_at, bit_in, large_in}
 use Rattle.disk_definitions.specs.Store.Use.{Fresh}
 use Rattle.disk_definitions.specs.Naming.{Nodes}
 use Rattle.disk_definitions.specs.Standing.{StandsFor}
-use Rattle.standing_laws.specs.ReadTree.{place_at, entries_to, read_node, tree_in, read_tree}
-use Rattle.standing_laws.specs.Soundness.{has_kind, entries_agree, links_agree, IsConsistent, IsSound}
-use Rattle.standing_laws.specs.Laws.{StandsByInodes, IsSoundDisk, SoundStands}
+use Rattle.standing_laws.specs.ReadTree.{place_at, entries_to, tree_in, read_tree}
+use Rattle.standing_laws.specs.Soundness.{has_kind, links_agree, IsConsistent}
+use Rattle.standing_laws.specs.Laws.{SoundStands}
 use Rattle.standing_laws.proofs.Bounded.{all_at}
-use Rattle.standing_laws.proofs.Entered.{StandsAt, found_at, new_name, sorted_to}
+use Rattle.standing_laws.proofs.Entered.{found_at, new_name, sorted_to}
 use Rattle.standing_laws.proofs.Sums.{zero_sum}
 use Rattle.standing_laws.proofs.NodesRead.{births_read}
 use Rattle.standing_laws.proofs.Shapes.{Shape, OfFile, OfDir, OfLink, disk_shape}
-use Rattle.standing_laws.proofs.Pictured.{IsInRange, cells_of, naming_of, read_file, read_dir, read_link, at, at_some, at_none, known, below, agreed, dir_size}
+use Rattle.standing_laws.proofs.Pictured.{IsInRange, cells_of, naming_of, read_file, read_dir, read_link, at_some, at_none, known, below, agreed, dir_size}
 use Rattle.standing_laws.proofs.PicturedNames.{pictures}
 
 -- what lies past the segments of a disk says nothing
@@ -55,7 +53,7 @@ module _ (segments : ℕ) (s : Store) (range : IsInRange segments s) (shapes : (
       shaped t.0 t.1 (shapes d t.0 t.1)
     where
       shaped : (x : StoredNode) → s.inode d ≡ Some x → Shape x → (x : StoredNode) × (s.inode d ≡ Some x) × (x.kind ≡ 2) × (es ≡ entries_to (place_at s x) (56 * x.blocks)) × (k ≡ x.blocks)
-      shaped x e (OfFile f) = absurd (let z : Some (File (cells_of s x) x.links) ≡ Some (Dir es k) = sym (at_some segments s range shapes c d x e ∙ ap (λ y. Some y) (read_file s x f.kind)) ∙ h in cc)
+      shaped x e (OfFile f) = absurd (let z : Some (File (cells_of s x) x.links x.when) ≡ Some (Dir es k) = sym (at_some segments s range shapes c d x e ∙ ap (λ y. Some y) (read_file s x f.kind)) ∙ h in cc)
       shaped x e (OfDir f) =
           let z : Some (Dir (entries_to (place_at s x) (56 * x.blocks)) x.blocks) ≡ Some (Dir es k) = sym (at_some segments s range shapes c d x e ∙ ap (λ y. Some y) (read_dir s x f.kind)) ∙ h in
           let p : entries_to (place_at s x) (56 * x.blocks) ≡ es = cc in
@@ -85,7 +83,7 @@ module _ (segments : ℕ) (s : Store) (range : IsInRange segments s) (shapes : (
       never c kind h q = both_ways (has_kind (s.inode c) kind) (ap (λ o. has_kind o kind) (ap s.inode q ∙ e)) h
 
       weighs : (d : ℕ) (x : Node) → nodes d ≡ Some x → names_in b x ≡ 0
-      weighs d (File cells links) h = refl
+      weighs d (File cells links when) h = refl
       weighs d (Link target links) h = refl
       weighs d (Dir es k) h = zero_sum (slice_cmp nat_cmp) name_exact (one_at b) es (names_ascend d es k h) (λ name v i. (let u = names_used d es k name v h i in one_other b v (never v u.0 u.1)))
 

@@ -1,10 +1,10 @@
 -- In a store that pictures a tree bits, blocks and large blocks agree with the inodes.
-use Rattle.std.proofs.Common.{◌==◌, ◌≡◌, ◌≢◌, ℕ, zero, suc, ◌+◌, ◌-◌, ◌*◌, ◌/◌, ◌%◌, ◌<◌, ◌≤◌, ◌⊎◌, inl, inr, ⊎_elim, Bool, true, false, not, ◌&&◌, ◌||◌, Option, Some, None, List, [], ◌∷◌, is_some, length, cond, refl, sym, ◌∙◌, ap, subst, arith, nat_lt, eqb-true, ltb-true, lt-ltb, unwrap_or}
-use Rattle.std.proofs.lemmas.Bool.{cases_lt, cond-true, cond-false, both_ways, not_from_false, or_left, or_right, false_from_ne_true}
-use Rattle.std.proofs.lemmas.Nat.{div-mul-add, mod-mul-add, div-add-mod'}
+use Rattle.std.proofs.Common.{◌≡◌, ℕ, ◌+◌, ◌-◌, ◌*◌, ◌/◌, ◌%◌, ◌<◌, ◌≤◌, ⊎_elim, Bool, true, false, not, ◌||◌, Option, Some, None, is_some, refl, sym, ◌∙◌, ap, subst, arith, nat_lt, ltb-true, lt-ltb}
+use Rattle.std.proofs.lemmas.Bool.{cases_lt, cond-true, cond-false, both_ways, not_from_false, or_left, or_right}
+use Rattle.std.proofs.lemmas.Nat.{div-add-mod'}
 use Rattle.tree_definitions.specs.declared.node.Node.{Node}
 use Rattle.tree_definitions.specs.declared.node.Node.TheVariants.{Dir, File, Link}
-use Rattle.disk_definitions.specs.Store.{Store, StoredNode, StoredEntry, Use, is_unused}
+use Rattle.disk_definitions.specs.Store.{Store, StoredNode, Use, is_unused}
 use Rattle.disk_definitions.specs.Store.Use.{Fresh, Bytes, Empty, Entries as OfEntries}
 use Rattle.disk_definitions.specs.Naming.{Naming, Nodes, Pictures, kind_of, blocks_of, has_large, inode_for, use_by, use_for}
 use Rattle.standing_laws.specs.Below.{all_below, lists, are_distinct}
@@ -13,7 +13,7 @@ use Rattle.standing_laws.proofs.Bounded.{all_from, lists_from, distinct_from}
 use Rattle.standing_laws.proofs.Shapes.{Shape}
 use Rattle.standing_laws.proofs.Pictured.{IsInRange}
 use Rattle.standing_laws.proofs.PicturedBlocks.{place_is, in_slot, slot_in, few, in_large}
-use Rattle.standing_laws.proofs.Stored.{made_by, made_kind, made_blocks, made_small, made_large, large_made, Has, of_birth, of_inode, one_inode}
+use Rattle.standing_laws.proofs.Stored.{made_by, made_kind, made_blocks, made_small, made_large, large_made, of_birth, of_inode}
 
 agree_same : (a b : Bool) → a ≡ b → agree a b ≡ true
 agree_same true b e = sym e
@@ -21,7 +21,7 @@ agree_same false b e = ap not (sym e)
 
 used_for : (y : Node) (j : ℕ) → j < blocks_of (Some y) → is_used_for (kind_of y) (use_by (Some y)) ≡ true
 used_for (Dir es k) j l = refl
-used_for (File cells links) j l = refl
+used_for (File cells links when) j l = refl
 used_for (Link target links) j l = absurd (omega arith)
 
 unused_free : (was : Bool) (at : Nodes) → is_unused (use_for was at None) ≡ true

@@ -1,39 +1,28 @@
 -- In a store that pictures a tree the nodes and names are those of the tree that is read off it, with inodes for births.
-use Rattle.std.proofs.Common.{◌==◌, ◌≡◌, ◌≢◌, ℕ, zero, suc, ◌+◌, ◌-◌, ◌*◌, ◌/◌, ◌%◌, ◌<◌, ◌≤◌, ◌⊎◌, inl, inr, ⊎_elim, Bool, true, false, not, ◌&&◌, Option, Some, None, List, [], ◌∷◌, is_some, length, min, sum_by, cond, refl, sym, ◌∙◌, ap, subst, arith, nat_lt, eqb-true, eq-eqb, ltb-true, lt-ltb, unwrap_or}
+use Rattle.std.proofs.Common.{◌==◌, ◌≡◌, ℕ, suc, ◌+◌, ◌*◌, ◌/◌, ◌%◌, ◌<◌, true, false, not, Option, Some, None, List, [], ◌∷◌, is_some, length, sum_by, refl, sym, ◌∙◌, ap, subst, arith, eq-eqb, unwrap_or}
 use Rattle.std.specs.Option.{option_map}
-use Rattle.std.specs.List.{slice_get}
-use Rattle.std.specs.Map.{lookup, keys_of, values_of}
-use Rattle.std.specs.BTreeMap.{is_at}
+use Rattle.std.specs.Map.{values_of}
 use Rattle.std.specs.Ordering.{nat_cmp}
 use Rattle.std.specs.Cmp.Lexicographic.{slice_cmp}
-use Rattle.std.proofs.lemmas.Bool.{cases_lt, cases_Bool, cond-true, cond-false, both_ways, not_from_false, and_from, false_from_ne_true}
+use Rattle.std.proofs.lemmas.Bool.{both_ways, not_from_false, and_from, false_from_ne_true}
 use Rattle.std.proofs.lemmas.List.Sums.{sum_by-cons}
-use Rattle.tree_definitions.specs.declared.cells.Cell.{Cell}
-use Rattle.tree_definitions.specs.declared.cells.Cell.TheVariants as cell
 use Rattle.tree_definitions.specs.declared.node.Node.{Node}
 use Rattle.tree_definitions.specs.declared.node.Node.TheVariants.{Dir, File, Link}
 use Rattle.tree_definitions.specs.Entries.{Entries, entry_at}
-use Rattle.tree_definitions.specs.Tree.{FileTree, node_at, small_blocks_of}
-use Rattle.tree_definitions.specs.Apply.{links_of, is_dir}
-use Rattle.tree_laws.specs.WellFormed.{IsWellFormed, IsWalkable, one_at, names_in, names_of}
-use Rattle.tree_laws.proofs.Pairs.{name_exact, birth_exact}
-use Rattle.tree_laws.proofs.Balance.{one_own, one_other}
+use Rattle.tree_definitions.specs.Tree.{FileTree, node_at}
+use Rattle.tree_laws.specs.WellFormed.{IsWellFormed}
+use Rattle.tree_laws.proofs.Pairs.{name_exact}
 use Rattle.tree_laws.proofs.Keeping.{names_nodes}
-use Rattle.tree_laws.proofs.Nodes.{each_but}
 use Rattle.disk_definitions.specs.Store.{Store, StoredNode, StoredEntry}
-use Rattle.disk_definitions.specs.Naming.{Naming, Nodes, Pictures, kind_of, blocks_of, has_large, room_in, find_in, cell_in, first_blocks, entry_of, place_of, dir_place, file_byte, Allows}
-use Rattle.disk_definitions.specs.Standing.{IsReached, reached_from}
+use Rattle.disk_definitions.specs.Naming.{Naming, Nodes, Pictures, room_in, find_in, entry_of, dir_place}
 use Rattle.standing_laws.specs.Below.{all_below}
-use Rattle.standing_laws.specs.ReadTree.{place_at, byte_at, cells_to, entries_to, read_node, tree_in}
-use Rattle.standing_laws.specs.Soundness.{has_kind, entry_agrees, entries_agree, directory_agrees, node_agrees, links_agree}
-use Rattle.standing_laws.specs.Renaming.{CellsAgree, EntriesAgree, SameNode}
+use Rattle.standing_laws.specs.ReadTree.{place_at, entries_to, tree_in}
+use Rattle.standing_laws.specs.Soundness.{has_kind, entry_agrees, entries_agree, directory_agrees, node_agrees}
 use Rattle.standing_laws.proofs.Bounded.{all_from}
 use Rattle.standing_laws.proofs.Entered.{StandsAt, found_at, at_found, sorted_to}
-use Rattle.standing_laws.proofs.Sums.{Meets, Correspond, equal_sums, zero_sum}
-use Rattle.standing_laws.proofs.NodesRead.{node_read, births_read}
-use Rattle.standing_laws.proofs.Shapes.{Shape}
-use Rattle.standing_laws.proofs.Pictured.{IsInRange, length_cells, byte_in}
-use Rattle.standing_laws.proofs.Stored.{made_by, made_kind, made_blocks, made_small, made_large, Has, of_birth, of_inode, one_inode}
+use Rattle.standing_laws.proofs.Sums.{Meets, equal_sums}
+use Rattle.standing_laws.proofs.Pictured.{IsInRange}
+use Rattle.standing_laws.proofs.Stored.{made_by, made_kind, made_small, of_birth, of_inode}
 
 -- the birth that an inode stands for, where it is in use
 abbrev pub back_of : Naming → ℕ → ℕ
@@ -69,7 +58,7 @@ module _ (segments : ℕ) (s : Store) (range : IsInRange segments s) (t : FileTr
       go : (o : Option Node) → at d ≡ o → find_in o name ≡ Some v → is_some (at v) ≡ true
       go None f e = absurd (cc)
       go (Some (Dir es k)) f e = names_nodes t w d es k name v f e
-      go (Some (File cells links)) f e = absurd (cc)
+      go (Some (File cells links when)) f e = absurd (cc)
       go (Some (Link target links)) f e = absurd (cc)
 
   entry_kind : (v : ℕ) → is_some (at v) ≡ true → has_kind (s.inode (n.inode v)) (n.kind v) ≡ true
@@ -171,7 +160,7 @@ module _ (segments : ℕ) (s : Store) (range : IsInRange segments s) (t : FileTr
 
   made_agrees : (b : ℕ) (y : Node) → at b ≡ Some y → node_agrees s (Some (made_by n b y)) ≡ true
   made_agrees b (Dir es k) e = dir_agrees b es k e
-  made_agrees b (File cells links) e = refl
+  made_agrees b (File cells links when) e = refl
   made_agrees b (Link target links) e = eq-eqb (length target) (length target) refl
 
   pub nodes_agree : all_below (64 * segments) (λ i. node_agrees s (s.inode i)) ≡ true

@@ -1,46 +1,37 @@
 -- A disk that stands for a tree is sound, and the tree that is read off it is the same but for births.
-use Rattle.std.proofs.Common.{◌==◌, ◌≡◌, ◌≢◌, ℕ, zero, suc, ◌+◌, ◌-◌, ◌*◌, ◌/◌, ◌%◌, ◌<◌, ◌≤◌, ◌⊎◌, inl, inr, ⊎_elim, Bool, true, false, not, ◌&&◌, Option, Some, None, List, [], ◌∷◌, is_some, length, min, sum_by, cond, refl, sym, ◌∙◌, ap, subst, arith, nat_lt, eqb-true, eq-eqb, ltb-true, lt-ltb, le-ltb, unwrap_or}
+use Rattle.std.proofs.Common.{◌≡◌, ℕ, ◌+◌, ◌-◌, ◌*◌, ◌/◌, ◌%◌, ◌<◌, ⊎_elim, true, Option, Some, None, List, [], ◌∷◌, is_some, length, refl, sym, ◌∙◌, ap, subst, arith, nat_lt, eq-eqb, lt-ltb, le-ltb, unwrap_or}
 use Rattle.std.specs.Option.{option_map, option_and_then}
 use Rattle.std.proofs.lemmas.Option.{slice_get_within}
-use Rattle.std.specs.List.{slice_get}
-use Rattle.std.specs.Map.{lookup, keys_of, values_of}
-use Rattle.std.specs.BTreeMap.{is_at}
 use Rattle.std.specs.Ordering.{nat_cmp}
 use Rattle.std.specs.Cmp.Lexicographic.{slice_cmp}
-use Rattle.std.proofs.lemmas.Bool.{cases_eq, cases_lt, cases_Bool, cond-true, cond-false, both_ways, not_from_false, and_from, false_from_ne_true}
-use Rattle.std.proofs.lemmas.List.Sums.{sum_by-cons}
+use Rattle.std.proofs.lemmas.Bool.{cases_eq, cases_lt, cond-true, cond-false, both_ways}
 use Rattle.tree_definitions.specs.declared.cells.Cell.{Cell}
 use Rattle.tree_definitions.specs.declared.cells.Cell.TheVariants as cell
 use Rattle.tree_definitions.specs.declared.node.Node.{Node}
 use Rattle.tree_definitions.specs.declared.node.Node.TheVariants.{Dir, File, Link}
-use Rattle.tree_definitions.specs.Entries.{Entries, entry_at}
 use Rattle.tree_definitions.specs.Tree.{FileTree, node_at, small_blocks_of}
 use Rattle.tree_definitions.specs.Apply.{links_of, is_dir}
-use Rattle.tree_laws.specs.WellFormed.{IsWellFormed, IsWalkable, one_at, names_in, names_of}
+use Rattle.tree_laws.specs.WellFormed.{IsWellFormed, one_at, names_in, names_of}
 use Rattle.tree_laws.proofs.Pairs.{name_exact, birth_exact}
 use Rattle.tree_laws.proofs.Balance.{one_own, one_other}
-use Rattle.tree_laws.proofs.Keeping.{names_nodes}
-use Rattle.tree_laws.proofs.Nodes.{each_but}
-use Rattle.disk_definitions.specs.Store.{Store, StoredNode, StoredEntry, store_of}
-use Rattle.disk_definitions.specs.Naming.{Naming, Nodes, Pictures, kind_of, blocks_of, has_large, room_in, find_in, cell_in, first_blocks, entry_of, place_of, dir_place, file_byte, Allows}
+use Rattle.disk_definitions.specs.Store.{Store, StoredNode, store_of}
+use Rattle.disk_definitions.specs.Naming.{Naming, Nodes, Pictures, find_in, cell_in, file_byte}
 use Rattle.disk_definitions.specs.Standing.{IsReached, reached_from, StandsFor}
 use Rattle.standing_laws.specs.Below.{all_below}
-use Rattle.standing_laws.specs.ReadTree.{place_at, byte_at, cells_to, entries_to, read_node, tree_in}
-use Rattle.standing_laws.specs.Soundness.{has_kind, entry_agrees, entries_agree, directory_agrees, node_agrees, links_agree, IsConsistent, IsSound}
-use Rattle.standing_laws.specs.Renaming.{CellsAgree, EntriesAgree, SameNode, IsRenaming}
+use Rattle.standing_laws.specs.ReadTree.{byte_at, read_node, tree_in}
+use Rattle.standing_laws.specs.Soundness.{has_kind, links_agree}
+use Rattle.standing_laws.specs.Renaming.{SameNode, IsRenaming}
 use Rattle.standing_laws.proofs.Bounded.{all_from}
-use Rattle.standing_laws.proofs.Entered.{StandsAt, found_at, at_found, sorted_to}
-use Rattle.standing_laws.proofs.Sums.{Meets, Correspond, equal_sums, zero_sum}
+use Rattle.standing_laws.proofs.Sums.{Meets, equal_sums, zero_sum}
 use Rattle.standing_laws.proofs.NodesRead.{node_read, births_read}
-use Rattle.standing_laws.proofs.Shapes.{Shape, disk_shape}
+use Rattle.standing_laws.proofs.Shapes.{disk_shape}
 use Rattle.standing_laws.proofs.Pictured.{IsInRange, length_cells, cell_at}
-use Rattle.standing_laws.proofs.Stored.{made_by, made_kind, made_blocks, made_small, made_large, Has, of_birth, of_inode, one_inode}
-use Rattle.sector_definitions.specs.declared.param.Param.{Param}
+use Rattle.standing_laws.proofs.Stored.{made_by, made_small, made_large, Has, of_birth, of_inode, one_inode}
 use Rattle.sector_bytes.specs.Sectors.{Sectors}
 use Rattle.standing_laws.specs.Laws.{StandingIsSound}
 use Rattle.standing_laws.proofs.SoundStanding.{disk_range}
-use Rattle.standing_laws.proofs.StandingBlocks.{bits_agree, blocks_once, uses_agree, blocks_listed, blocks_cleared, larges_once, larges_marked, larges_listed, inode_some}
-use Rattle.standing_laws.proofs.StandingNames.{back_of, first_is, named, entries, entries_read, names_sum, nodes_agree}
+use Rattle.standing_laws.proofs.StandingBlocks.{bits_agree, blocks_once, uses_agree, blocks_listed, blocks_cleared, larges_once, larges_marked, larges_listed}
+use Rattle.standing_laws.proofs.StandingNames.{back_of, named, entries_read, names_sum, nodes_agree}
 
 -- a byte of the small blocks lies in a block of its file
 in_small : (size j : ℕ) → j < size → j < 65536 → j / 4096 < small_blocks_of size
@@ -73,18 +64,18 @@ module _ (segments : ℕ) (s : Store) (range : IsInRange segments s) (t : FileTr
           ((x, h), r ∙ ap (read_node s) h.is)
 
   -- ---- the same nodes
-  byte_is : (b : ℕ) (cells : List Cell) (links j : ℕ) → j < length cells → byte_at s (made_by n b (File cells links)) j ≡ file_byte s n b j
-  byte_is b cells links j l = ⊎_elim
-      (λ m. cond-true (nat_lt j 65536) _ _ (lt-ltb j 65536 m) ∙ ap (λ k. s.byte k (j % 4096)) (made_small n b (File cells links) (j / 4096) (in_small (length cells) j l m)) ∙ sym (cond-true (nat_lt j 65536) _ _ (lt-ltb j 65536 m)))
-      (λ m. (let g : (made_by n b (File cells links)).large ≡ n.large b + 1 = made_large n b (File cells links) (lt-ltb 65536 (length cells) (omega arith)) in
-      let k : (made_by n b (File cells links)).large - 1 ≡ n.large b = omega arith in
+  byte_is : (b : ℕ) (cells : List Cell) (links when j : ℕ) → j < length cells → byte_at s (made_by n b (File cells links when)) j ≡ file_byte s n b j
+  byte_is b cells links when j l = ⊎_elim
+      (λ m. cond-true (nat_lt j 65536) _ _ (lt-ltb j 65536 m) ∙ ap (λ k. s.byte k (j % 4096)) (made_small n b (File cells links when) (j / 4096) (in_small (length cells) j l m)) ∙ sym (cond-true (nat_lt j 65536) _ _ (lt-ltb j 65536 m)))
+      (λ m. (let g : (made_by n b (File cells links when)).large ≡ n.large b + 1 = made_large n b (File cells links when) (lt-ltb 65536 (length cells) (omega arith)) in
+      let k : (made_by n b (File cells links when)).large - 1 ≡ n.large b = omega arith in
       cond-false (nat_lt j 65536) _ _ (le-ltb j 65536 m) ∙ ap (λ g. s.large_byte g (j - 65536)) k ∙ sym (cond-false (nat_lt j 65536) _ _ (le-ltb j 65536 m)))) (cases_lt j 65536)
 
   same_node : (b : ℕ) (y : Node) → at b ≡ Some y → SameNode n.inode y (read_node s (made_by n b y))
   same_node b (Dir es k) e = (entries_read segments s range t w n p b es k e, refl)
   same_node b (Link target links) e = (refl, refl)
-  same_node b (File cells links) e =
-      let x = made_by n b (File cells links) in (
+  same_node b (File cells links when) e =
+      let x = made_by n b (File cells links when) in (
         (
           sym (length_cells (byte_at s x) (length cells)),
           λ j u v h k. (
@@ -92,8 +83,9 @@ module _ (segments : ℕ) (s : Store) (range : IsInRange segments s) (t : FileTr
               let a : file_byte s n b j ≡ u = p.bytes b j (cell.Byte u) (ap (λ o. cell_in o j) e ∙ h) in
               let c : cell.Byte v ≡ cell.Byte (byte_at s x j) = cell_at (byte_at s x) (length cells) j (cell.Byte v) k in
               let d : v ≡ byte_at s x j = cc in
-              sym (d ∙ byte_is b cells links j l ∙ a)),
+              sym (d ∙ byte_is b cells links when j l ∙ a)),
         ),
+        refl,
         refl,
       )
 
@@ -120,7 +112,7 @@ module _ (segments : ℕ) (s : Store) (range : IsInRange segments s) (t : FileTr
       (λ ne. one_other b a ne ∙ sym (one_other (n.inode b) (n.inode a) (λ q. ne (one_inode s at n p a b h k q)))) (cases_eq a b)
 
   names_same : (b : ℕ) → is_some (at b) ≡ true → (d : ℕ) (y : Node) → at d ≡ Some y → names_in b y ≡ names_in (n.inode b) (read_node s (made_by n d y))
-  names_same b h d (File cells links) e = refl
+  names_same b h d (File cells links when) e = refl
   names_same b h d (Link target links) e = refl
   names_same b h d (Dir es k) e = names_sum segments s range t w n p d es k e (one_at b) (one_at (n.inode b)) (λ name v i. one_same v b (named segments s range t w n p d v name (ap (λ o. find_in o name) e ∙ i)) h)
 
@@ -138,7 +130,7 @@ module _ (segments : ℕ) (s : Store) (range : IsInRange segments s) (t : FileTr
 
   links_same : (b : ℕ) (y : Node) → links_of (Some (read_node s (made_by n b y))) ≡ links_of (Some y)
   links_same b (Dir es k) = refl
-  links_same b (File cells links) = refl
+  links_same b (File cells links when) = refl
   links_same b (Link target links) = refl
 
   -- what is free has no name
@@ -146,7 +138,7 @@ module _ (segments : ℕ) (s : Store) (range : IsInRange segments s) (t : FileTr
   free_names i f = zero_sum nat_cmp birth_exact (names_in i) (tree_in segments s).nodes (births_read s segments) (λ d z e. (let m = made_read d z e in ap (names_in i) m.1 ∙ none m.0.1.birth m.0.1.node m.0.1.found))
     where
       none : (d : ℕ) (y : Node) → at d ≡ Some y → names_in i (read_node s (made_by n d y)) ≡ 0
-      none d (File cells links) e = refl
+      none d (File cells links when) e = refl
       none d (Link target links) e = refl
       none d (Dir es k) e = sym (names_sum segments s range t w n p d es k e (λ v. 0) (one_at i) (λ name v h. sym (one_other i (n.inode v) (λ q. free v (named segments s range t w n p d v name (ap (λ o. find_in o name) e ∙ h)) q)))) ∙ zero_sum (slice_cmp nat_cmp) name_exact (λ v. 0) es (w.names d es k e) (λ name v h. refl)
         where
@@ -198,7 +190,7 @@ module _ (segments : ℕ) (s : Store) (range : IsInRange segments s) (t : FileTr
         go : (o : Option Node) → at 0 ≡ o → is_dir o ≡ true → has_kind (s.inode 0) 2 ≡ true
         go None e h = absurd (cc)
         go (Some (Dir es k)) e h = ap (λ i. has_kind (s.inode i) 2) (sym root) ∙ ap (λ o. has_kind o 2) (of_birth s at n p 0 (Dir es k) e)
-        go (Some (File cells links)) e h = absurd (cc)
+        go (Some (File cells links when)) e h = absurd (cc)
         go (Some (Link target links)) e h = absurd (cc)
 
     -- names lead to the inodes of the nodes that they lead to
@@ -208,7 +200,7 @@ module _ (segments : ℕ) (s : Store) (range : IsInRange segments s) (t : FileTr
         go : (o : Option Node) → at a ≡ o → find_in o name ≡ Some v → find_in (read (n.inode a)) name ≡ Some (n.inode v)
         go None e h = absurd (cc)
         go (Some (Dir es k)) e h = ap (λ o. find_in o name) (read_made a (Dir es k) e) ∙ entries_read segments s range t w n p a es k e name ∙ ap (option_map n.inode) h
-        go (Some (File cells links)) e h = absurd (cc)
+        go (Some (File cells links when)) e h = absurd (cc)
         go (Some (Link target links)) e h = absurd (cc)
 
     reach_read : (names : List (List ℕ)) (a b : ℕ) → reached_from at a names ≡ Some b → reached_from read (n.inode a) names ≡ Some (n.inode b)

@@ -21,7 +21,7 @@ AllBytes cells = (j : ℕ) (c : Cell) → slice_get cells j ≡ Some c → (v : 
 -- no cell of the node is doubtful
 abbrev pub HasBytes : Node → Type 0
 HasBytes (Dir entries blocks) = Unit {0}
-HasBytes (File cells links) = AllBytes cells
+HasBytes (File cells links when) = AllBytes cells
 HasBytes (Link target links) = Unit {0}
 
 -- no cell of the tree is doubtful

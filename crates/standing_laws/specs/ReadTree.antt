@@ -1,5 +1,5 @@
 -- The tree that is read off a disk: a node for each inode in use, whose birth is the inode's number.
-use Rattle.std.specs.Prelude.{ℕ, zero, suc, ◌+◌, ◌-◌, ◌*◌, ◌/◌, ◌%◌, ◌==◌, if◌then◌else◌, nat_lt, Option, Some, None, List, [], ◌∷◌, ◌++◌}
+use Rattle.std.specs.Prelude.{ℕ, zero, suc, ◌-◌, ◌*◌, ◌/◌, ◌%◌, ◌==◌, if◌then◌else◌, nat_lt, Option, Some, None, List, [], ◌∷◌, ◌++◌}
 use Rattle.std.specs.Ordering.{nat_cmp}
 use Rattle.std.specs.BTreeMap.{insert_entry}
 use Rattle.frang_base.specs.declared.limits.TheConstants.{BLOCK_ENTRIES, KIND_DIRECTORY, KIND_FILE, SEGMENT_INODES, SMALL_BLOCK_BYTES, SMALL_BYTES_MAX}
@@ -40,7 +40,7 @@ cells_to byte (suc n) = cells_to byte n ++ cell.Byte (byte n) ∷ []
 abbrev pub read_node : Store → StoredNode → Node
 read_node s x =
     if x.kind == KIND_DIRECTORY then Dir (entries_to (place_at s x) (BLOCK_ENTRIES * x.blocks)) x.blocks
-    else (if x.kind == KIND_FILE then File (cells_to (byte_at s x) x.size) x.links else Link x.target x.links)
+    else (if x.kind == KIND_FILE then File (cells_to (byte_at s x) x.size) x.links x.when else Link x.target x.links)
 
 -- the nodes with that of an inode
 abbrev pub with_inode : Store → List (ℕ × Node) → ℕ → Option StoredNode → List (ℕ × Node)

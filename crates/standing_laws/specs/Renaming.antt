@@ -1,5 +1,5 @@
 -- Trees that are the same but for the births of their nodes.
-use Rattle.std.specs.Prelude.{◌≡◌, ℕ, true, Option, Some, None, List, length, is_some}
+use Rattle.std.specs.Prelude.{◌≡◌, ℕ, true, Some, List, length, is_some}
 use Rattle.std.specs.List.{slice_get}
 use Rattle.std.specs.Option.{option_map}
 use Rattle.tree_definitions.specs.declared.cells.Cell.{Cell}
@@ -17,16 +17,16 @@ CellsAgree one two = (length one ≡ length two) × ((j x y : ℕ) → slice_get
 abbrev pub EntriesAgree : (ℕ → ℕ) → Entries → Entries → Type 0
 EntriesAgree to one two = (name : List ℕ) → entry_at two name ≡ option_map to (entry_at one name)
 
--- nodes of one kind with the same links, blocks, cells, target and names
+-- nodes of one kind with the same links, blocks, cells, time, target and names
 abbrev pub SameNode : (ℕ → ℕ) → Node → Node → Type 0
 SameNode to (Dir entries blocks) (Dir others room) = EntriesAgree to entries others × (blocks ≡ room)
-SameNode to (Dir entries blocks) (File cells links) = ⊥
+SameNode to (Dir entries blocks) (File cells links when) = ⊥
 SameNode to (Dir entries blocks) (Link target links) = ⊥
-SameNode to (File cells links) (Dir others room) = ⊥
-SameNode to (File cells links) (File bytes names) = CellsAgree cells bytes × (links ≡ names)
-SameNode to (File cells links) (Link target names) = ⊥
+SameNode to (File cells links when) (Dir others room) = ⊥
+SameNode to (File cells links when) (File bytes names since) = CellsAgree cells bytes × (links ≡ names) × (when ≡ since)
+SameNode to (File cells links when) (Link target names) = ⊥
 SameNode to (Link target links) (Dir others room) = ⊥
-SameNode to (Link target links) (File bytes names) = ⊥
+SameNode to (Link target links) (File bytes names since) = ⊥
 SameNode to (Link target links) (Link other names) = (target ≡ other) × (links ≡ names)
 
 -- the births of the first tree become those of the second, one by one, the root's the root's, and the nodes are the same

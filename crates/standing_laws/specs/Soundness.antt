@@ -1,5 +1,5 @@
 -- What a disk that stands for a tree shows by itself, fact by fact, each of them a test.
-use Rattle.std.specs.Prelude.{◌≡◌, ◌≤◌, ℕ, zero, suc, ◌+◌, ◌-◌, ◌*◌, ◌/◌, ◌%◌, Bool, true, false, not, ◌&&◌, ◌||◌, ◌==◌, if◌then◌else◌, nat_lt, Option, Some, None, length, is_some}
+use Rattle.std.specs.Prelude.{◌≡◌, ℕ, ◌+◌, ◌-◌, ◌*◌, ◌/◌, ◌%◌, Bool, true, false, not, ◌&&◌, ◌||◌, ◌==◌, if◌then◌else◌, nat_lt, Option, Some, None, length, is_some}
 use Rattle.frang_base.specs.declared.limits.TheConstants.{BLOCK_ENTRIES, INODE_BLOCKS_MAX, KIND_DIRECTORY, KIND_LINK, SEGMENT_BLOCKS, SEGMENT_INODES}
 use Rattle.tree_definitions.specs.Entries.{Entries, entry_at}
 use Rattle.tree_definitions.specs.Tree.{FileTree, node_at}
@@ -9,7 +9,7 @@ use Rattle.sector_bytes.specs.Sectors.{Sectors}
 use Rattle.disk_definitions.specs.Store.{Store, StoredNode, StoredEntry, Use, store_of, is_unused}
 use Rattle.disk_definitions.specs.Store.Use.{Fresh, Bytes, Empty, Entries as OfEntries}
 use Rattle.disk_definitions.specs.Standing.{IsInGrammar, HasVersionsUpTo, IsReached}
-use Rattle.standing_laws.specs.Below.{all_below, any_below, lists, are_distinct}
+use Rattle.standing_laws.specs.Below.{all_below, lists, are_distinct}
 use Rattle.standing_laws.specs.ReadTree.{place_at, entries_to, tree_in}
 
 -- both or neither

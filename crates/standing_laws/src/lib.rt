@@ -19,7 +19,7 @@ pub fn a_disk_that_stands_is_sound()
 {}
 
 /// A disk stands for at most one tree, up to the births of its nodes: they are renamed one by one, the root's to the root's, and the nodes
-/// are the same in names, kinds, links, sizes, blocks and targets, and in the cells that are bytes in both.
+/// are the same in names, kinds, links, sizes, blocks, times and targets, and in the cells that are bytes in both.
 pub fn a_disk_stands_for_one_tree()
     ensures one { StandsForOne }
 {}

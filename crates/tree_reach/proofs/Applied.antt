@@ -39,13 +39,13 @@ if_keeps false x y onyes onno = onno refl
 
 plain_empty : (o : Option Node) → is_dir o ≡ false → has_entries o ≡ false
 plain_empty (Some (Dir es n)) d = absurd (cc)
-plain_empty (Some (File cells links)) d = refl
+plain_empty (Some (File cells links when)) d = refl
 plain_empty (Some (Link target links)) d = refl
 plain_empty None d = refl
 
 dir_gone : (u : FileTree) (b : ℕ) (o : Option Node) → not (is_dir o) ≡ false → one_link_fewer u b o ≡ without_node u b
 dir_gone u b (Some (Dir es n)) d = refl
-dir_gone u b (Some (File cells links)) d = absurd (cc)
+dir_gone u b (Some (File cells links when)) d = absurd (cc)
 dir_gone u b (Some (Link target links)) d = absurd (cc)
 dir_gone u b None d = absurd (cc)
 
@@ -188,63 +188,63 @@ module _ (t : FileTree) (w : IsWellFormed t) (reached : IsReached (node_at t)) w
   renamed_keeps (name ∷ names) (new ∷ news) = renamed_from_keeps (place t (name ∷ names)) (place_stands t (name ∷ names)) (new ∷ news)
 
   -- ---- bytes
-  file_keeps : (b : ℕ) (cells others : List Cell) (links : ℕ) → node_at t b ≡ Some (File cells links) → (r : Reply) → Keeps (says (with_node t b (File others links)) r)
-  file_keeps b cells others links is r u = cells_reached t b cells others links is reached
+  file_keeps : (b : ℕ) (cells others : List Cell) (links old when : ℕ) → node_at t b ≡ Some (File cells links old) → (r : Reply) → Keeps (says (with_node t b (File others links when)) r)
+  file_keeps b cells others links old when is r u = cells_reached t b cells others links old when is reached
 
-  if_file_keeps : (next : ℕ → List Cell → ℕ → Applied) → ((b : ℕ) (cells : List Cell) (links : ℕ) → node_at t b ≡ Some (File cells links) → Keeps (next b cells links)) → (b : ℕ) (o : Option Node) → node_at t b ≡ o → Keeps (if_file t next b o)
-  if_file_keeps next each b (Some (File cells links)) i = each b cells links i
+  if_file_keeps : (next : ℕ → List Cell → ℕ → ℕ → Applied) → ((b : ℕ) (cells : List Cell) (links when : ℕ) → node_at t b ≡ Some (File cells links when) → Keeps (next b cells links when)) → (b : ℕ) (o : Option Node) → node_at t b ≡ o → Keeps (if_file t next b o)
+  if_file_keeps next each b (Some (File cells links when)) i = each b cells links when i
   if_file_keeps next each b (Some (Dir es n)) i = says_keeps reply.IsDir
   if_file_keeps next each b (Some (Link target links)) i = says_keeps reply.Inval
   if_file_keeps next each b None i = says_keeps reply.NoEnt
 
-  at_file_keeps : (next : ℕ → List Cell → ℕ → Applied) → ((b : ℕ) (cells : List Cell) (links : ℕ) → node_at t b ≡ Some (File cells links) → Keeps (next b cells links)) → (p : Place) → Keeps (at_file t p next)
+  at_file_keeps : (next : ℕ → List Cell → ℕ → ℕ → Applied) → ((b : ℕ) (cells : List Cell) (links when : ℕ) → node_at t b ≡ Some (File cells links when) → Keeps (next b cells links when)) → (p : Place) → Keeps (at_file t p next)
   at_file_keeps next each Root = if_file_keeps next each 0 (node_at t 0) refl
   at_file_keeps next each (Taken dir es n name b) = if_file_keeps next each b (node_at t b) refl
   at_file_keeps next each (Free dir es n name) = says_keeps reply.NoEnt
   at_file_keeps next each (Nowhere r) = says_keeps r
 
-  written_keeps : (m b : ℕ) (cells : List Cell) (links off len : ℕ) (put : List Cell → List Cell) → node_at t b ≡ Some (File cells links) → Keeps (written t m b cells links off len put)
-  written_keeps m b cells links off len put is =
+  written_keeps : (m b : ℕ) (cells : List Cell) (links old when off len : ℕ) (put : List Cell → List Cell) → node_at t b ≡ Some (File cells links old) → Keeps (written t m b cells links when off len put)
+  written_keeps m b cells links old when off len put is =
       if_keeps (nat_lt (length cells) off) (says t reply.BadOffset) _ (λ e. says_keeps reply.BadOffset) (λ e.
       if_keeps (nat_lt 1114112 (off + len)) (says t reply.TooBig) _ (λ e. says_keeps reply.TooBig) (λ e.
       if_keeps (nat_lt (large_blocks_of (length cells)) (large_blocks_of (max (length cells) (off + len))) && larges_full t) (says t reply.NoLarge) _ (λ e. says_keeps reply.NoLarge) (λ e.
       if_keeps (nat_lt (1024 * t.segments - m) (count_of file_blocks t + (small_blocks_of (max (length cells) (off + len)) - small_blocks_of (length cells)))) (says t (reply.NoBlock m)) _ (λ e. says_keeps (reply.NoBlock m)) (λ e.
-      file_keeps b cells (put cells) links is reply.Ok))))
+      file_keeps b cells (put cells) links old when is reply.Ok))))
 
-  truncated_keeps : (b : ℕ) (cells : List Cell) (links len : ℕ) → node_at t b ≡ Some (File cells links) → Keeps (truncated t b cells links len)
-  truncated_keeps b cells links len is = if_keeps (nat_lt (length cells) len) (says t reply.BadOffset) _ (λ e. says_keeps reply.BadOffset) (λ e. file_keeps b cells (take len cells) links is reply.Ok)
+  truncated_keeps : (b : ℕ) (cells : List Cell) (links old when len : ℕ) → node_at t b ≡ Some (File cells links old) → Keeps (truncated t b cells links when len)
+  truncated_keeps b cells links old when len is = if_keeps (nat_lt (length cells) len) (says t reply.BadOffset) _ (λ e. says_keeps reply.BadOffset) (λ e. file_keeps b cells (take len cells) links old when is reply.Ok)
 
   -- ---- all
-  look_keeps : (o : Op) (birth m : ℕ) → (apply t o birth m).tree ≡ t → Keeps (apply t o birth m)
-  look_keeps o birth m same u = subst (λ t. IsReached (node_at t)) (sym same) reached
+  look_keeps : (o : Op) (birth when m : ℕ) → (apply t o birth when m).tree ≡ t → Keeps (apply t o birth when m)
+  look_keeps o birth when m same u = subst (λ t. IsReached (node_at t)) (sym same) reached
 
-  op_keeps : (o : Op) (birth m : ℕ) → IsNew t birth → Keeps (apply t o birth m)
-  op_keeps (op.Create path) birth m new = made_keeps birth (File [] 1) new (omega arith) (place t path) (place_stands t path)
-  op_keeps (op.Mkdir path) birth m new = made_keeps birth (Dir [] 0) new (omega arith) (place t path) (place_stands t path)
-  op_keeps (op.Symlink path target) birth m new = made_keeps birth (Link target 1) new (omega arith) (place t path) (place_stands t path)
-  op_keeps (op.Link path to) birth m new = linked_keeps (place t path) (place t to) (place_stands t to)
-  op_keeps (op.Unlink path) birth m new = unlinked_keeps (place t path) (place_stands t path)
-  op_keeps (op.Rmdir path) birth m new = dir_removed_keeps (place t path) (place_stands t path)
-  op_keeps (op.Rename path to) birth m new = renamed_keeps path to
-  op_keeps (op.Write path off bytes) birth m new =
-      at_file_keeps (λ b cells links. written t m b cells links off (length bytes) (λ old. overwritten old off (map Byte bytes)))
-      (λ b cells links is. written_keeps m b cells links off (length bytes) (λ old. overwritten old off (map Byte bytes)) is) (place t path)
-  op_keeps (op.Fill path off len byte) birth m new =
-      at_file_keeps (λ b cells links. written t m b cells links off len (λ old. overwritten old off (replicate len (Byte byte))))
-      (λ b cells links is. written_keeps m b cells links off len (λ old. overwritten old off (replicate len (Byte byte))) is) (place t path)
-  op_keeps (op.Truncate path len) birth m new = at_file_keeps (λ b cells links. truncated t b cells links len) (λ b cells links is. truncated_keeps b cells links len is) (place t path)
-  op_keeps (op.Read path off len) birth m new = look_keeps (op.Read path off len) birth m (looks_leave t (op.Read path off len) birth m refl)
-  op_keeps (op.Stat path) birth m new = look_keeps (op.Stat path) birth m (looks_leave t (op.Stat path) birth m refl)
-  op_keeps (op.List path) birth m new = look_keeps (op.List path) birth m (looks_leave t (op.List path) birth m refl)
-  op_keeps (op.Readlink path) birth m new = look_keeps (op.Readlink path) birth m (looks_leave t (op.Readlink path) birth m refl)
-  op_keeps (op.Time path) birth m new = look_keeps (op.Time path) birth m (looks_leave t (op.Time path) birth m refl)
-  op_keeps op.Sync birth m new = says_keeps reply.Ok
-  op_keeps op.Mount birth m new = says_keeps reply.Ok
-  op_keeps op.Unmount birth m new = says_keeps reply.Ok
-  op_keeps op.Crash birth m new = says_keeps reply.Ok
-  op_keeps (op.CrashAt k) birth m new = says_keeps reply.Ok
-  op_keeps (op.CutAt k) birth m new = says_keeps reply.Ok
-  op_keeps op.Stall birth m new = says_keeps reply.Ok
+  op_keeps : (o : Op) (birth when m : ℕ) → IsNew t birth → Keeps (apply t o birth when m)
+  op_keeps (op.Create path) birth when m new = made_keeps birth (File [] 1 0) new (omega arith) (place t path) (place_stands t path)
+  op_keeps (op.Mkdir path) birth when m new = made_keeps birth (Dir [] 0) new (omega arith) (place t path) (place_stands t path)
+  op_keeps (op.Symlink path target) birth when m new = made_keeps birth (Link target 1) new (omega arith) (place t path) (place_stands t path)
+  op_keeps (op.Link path to) birth when m new = linked_keeps (place t path) (place t to) (place_stands t to)
+  op_keeps (op.Unlink path) birth when m new = unlinked_keeps (place t path) (place_stands t path)
+  op_keeps (op.Rmdir path) birth when m new = dir_removed_keeps (place t path) (place_stands t path)
+  op_keeps (op.Rename path to) birth when m new = renamed_keeps path to
+  op_keeps (op.Write path off bytes) birth when m new =
+      at_file_keeps (λ b cells links old. written t m b cells links when off (length bytes) (λ all. overwritten all off (map Byte bytes)))
+      (λ b cells links old is. written_keeps m b cells links old when off (length bytes) (λ all. overwritten all off (map Byte bytes)) is) (place t path)
+  op_keeps (op.Fill path off len byte) birth when m new =
+      at_file_keeps (λ b cells links old. written t m b cells links when off len (λ all. overwritten all off (replicate len (Byte byte))))
+      (λ b cells links old is. written_keeps m b cells links old when off len (λ all. overwritten all off (replicate len (Byte byte))) is) (place t path)
+  op_keeps (op.Truncate path len) birth when m new = at_file_keeps (λ b cells links old. truncated t b cells links when len) (λ b cells links old is. truncated_keeps b cells links old when len is) (place t path)
+  op_keeps (op.Read path off len) birth when m new = look_keeps (op.Read path off len) birth when m (looks_leave t (op.Read path off len) birth when m refl)
+  op_keeps (op.Stat path) birth when m new = look_keeps (op.Stat path) birth when m (looks_leave t (op.Stat path) birth when m refl)
+  op_keeps (op.List path) birth when m new = look_keeps (op.List path) birth when m (looks_leave t (op.List path) birth when m refl)
+  op_keeps (op.Readlink path) birth when m new = look_keeps (op.Readlink path) birth when m (looks_leave t (op.Readlink path) birth when m refl)
+  op_keeps (op.Time path) birth when m new = look_keeps (op.Time path) birth when m (looks_leave t (op.Time path) birth when m refl)
+  op_keeps op.Sync birth when m new = says_keeps reply.Ok
+  op_keeps op.Mount birth when m new = says_keeps reply.Ok
+  op_keeps op.Unmount birth when m new = says_keeps reply.Ok
+  op_keeps op.Crash birth when m new = says_keeps reply.Ok
+  op_keeps (op.CrashAt k) birth when m new = says_keeps reply.Ok
+  op_keeps (op.CutAt k) birth when m new = says_keeps reply.Ok
+  op_keeps op.Stall birth when m new = says_keeps reply.Ok
 
-pub apply_keeps_reached : (t : FileTree) (o : Op) (birth m : ℕ) → IsWellFormed t → IsReached (node_at t) → IsNew t birth → IsReached (node_at (apply t o birth m).tree)
-apply_keeps_reached t o birth m w reached new = op_keeps t w reached o birth m new (apply_keeps t o birth m w new)
+pub apply_keeps_reached : (t : FileTree) (o : Op) (birth when m : ℕ) → IsWellFormed t → IsReached (node_at t) → IsNew t birth → IsReached (node_at (apply t o birth when m).tree)
+apply_keeps_reached t o birth when m w reached new = op_keeps t w reached o birth when m new (apply_keeps t o birth when m w new)

@@ -87,7 +87,7 @@ pub more_dirs : (t : FileTree) (b : ℕ) → SameDirs t (one_link_more t b (node
 more_dirs t b = go (node_at t b) refl
   where
     go : (o : Option Node) → node_at t b ≡ o → SameDirs t (one_link_more t b o)
-    go (Some (File cells links)) i = record { dirs = kind_kept t b (File cells (links + 1)) (sym (ap is_dir i)) }
+    go (Some (File cells links when)) i = record { dirs = kind_kept t b (File cells (links + 1) when) (sym (ap is_dir i)) }
     go (Some (Link target links)) i = record { dirs = kind_kept t b (Link target (links + 1)) (sym (ap is_dir i)) }
     go (Some (Dir es n)) i = record { dirs = λ c. refl }
     go None i = record { dirs = λ c. refl }
@@ -99,41 +99,41 @@ plain_finds t b x plain none c m = elim (cases_eq c b) [
   | inr a ↦ finds_there t b x c m a
 ]
 
--- a file has other cells
-pub cells_reached : (t : FileTree) (b : ℕ) (cells others : List Cell) (links : ℕ) → node_at t b ≡ Some (File cells links) → IsReached (node_at t) → IsReached (node_at (with_node t b (File others links)))
-cells_reached t b cells others links is = same_reached t (with_node t b (File others links)) (plain_finds t b (File others links) refl (λ m. ap (λ o. find_in o m) is))
+-- a file has other cells, and maybe another time
+pub cells_reached : (t : FileTree) (b : ℕ) (cells others : List Cell) (links old when : ℕ) → node_at t b ≡ Some (File cells links old) → IsReached (node_at t) → IsReached (node_at (with_node t b (File others links when)))
+cells_reached t b cells others links old when is = same_reached t (with_node t b (File others links when)) (plain_finds t b (File others links when) refl (λ m. ap (λ o. find_in o m) is))
     (λ c there. elim (cases_eq c b) [
       | inl e ↦ ap is_some (ap (node_at t) e ∙ is)
-      | inr a ↦ ap is_some (sym (with_other t b (File others links) c a)) ∙ there
+      | inr a ↦ ap is_some (sym (with_other t b (File others links when) c a)) ∙ there
     ])
 
 pub more_finds : (t : FileTree) (b c : ℕ) (m : List ℕ) → finds (one_link_more t b (node_at t b)) c m ≡ finds t c m
 more_finds t b c m = go (node_at t b) refl
   where
     go : (o : Option Node) → node_at t b ≡ o → finds (one_link_more t b o) c m ≡ finds t c m
-    go (Some (File cells links)) i = plain_finds t b (File cells (links + 1)) refl (λ m. ap (λ o. find_in o m) i) c m
+    go (Some (File cells links when)) i = plain_finds t b (File cells (links + 1) when) refl (λ m. ap (λ o. find_in o m) i) c m
     go (Some (Link target links)) i = plain_finds t b (Link target (links + 1)) refl (λ m. ap (λ o. find_in o m) i) c m
     go (Some (Dir es n)) i = refl
     go None i = refl
 
 pub more_else : (t : FileTree) (b : ℕ) (o : Option Node) (c : ℕ) → c ≢ b → node_at (one_link_more t b o) c ≡ node_at t c
-more_else t b (Some (File cells links)) c n = with_other t b (File cells (links + 1)) c n
+more_else t b (Some (File cells links when)) c n = with_other t b (File cells (links + 1) when) c n
 more_else t b (Some (Link target links)) c n = with_other t b (Link target (links + 1)) c n
 more_else t b (Some (Dir es k)) c n = refl
 more_else t b None c n = refl
 
 pub more_links : (t : FileTree) (b : ℕ) (o : Option Node) → HaveLinks t → HaveLinks (one_link_more t b o)
-more_links t b (Some (File cells links)) have = links_with t b (File cells (links + 1)) have (omega arith)
+more_links t b (Some (File cells links when)) have = links_with t b (File cells (links + 1) when) have (omega arith)
 more_links t b (Some (Link target links)) have = links_with t b (Link target (links + 1)) have (omega arith)
 more_links t b (Some (Dir es n)) have = have
 more_links t b None have = have
 
 -- ---- a link fewer: elsewhere all stays, and there is no directory then
 pub fewer_else : (u : FileTree) (b : ℕ) (o : Option Node) (c : ℕ) → c ≢ b → node_at (one_link_fewer u b o) c ≡ node_at u c
-fewer_else u b (Some (File cells links)) c n = either (nat_lt 1 links)
+fewer_else u b (Some (File cells links when)) c n = either (nat_lt 1 links)
   where
-    either : (t : Bool) → node_at (cond t (with_node u b (File cells (links - 1))) (without_node u b)) c ≡ node_at u c
-    either true = with_other u b (File cells (links - 1)) c n
+    either : (t : Bool) → node_at (cond t (with_node u b (File cells (links - 1) when)) (without_node u b)) c ≡ node_at u c
+    either true = with_other u b (File cells (links - 1) when) c n
     either false = without_other u b c n
 fewer_else u b (Some (Link target links)) c n = either (nat_lt 1 links)
   where
@@ -144,10 +144,10 @@ fewer_else u b (Some (Dir es k)) c n = without_other u b c n
 fewer_else u b None c n = refl
 
 pub fewer_here : (u : FileTree) (b : ℕ) (o : Option Node) → BirthsAscend u → is_some o ≡ true → is_dir (node_at (one_link_fewer u b o) b) ≡ false
-fewer_here u b (Some (File cells links)) births s = either (nat_lt 1 links)
+fewer_here u b (Some (File cells links when)) births s = either (nat_lt 1 links)
   where
-    either : (t : Bool) → is_dir (node_at (cond t (with_node u b (File cells (links - 1))) (without_node u b)) b) ≡ false
-    either true = ap is_dir (with_same u b (File cells (links - 1)))
+    either : (t : Bool) → is_dir (node_at (cond t (with_node u b (File cells (links - 1) when)) (without_node u b)) b) ≡ false
+    either true = ap is_dir (with_same u b (File cells (links - 1) when))
     either false = ap is_dir (without_same u b births)
 fewer_here u b (Some (Link target links)) births s = either (nat_lt 1 links)
   where
@@ -158,10 +158,10 @@ fewer_here u b (Some (Dir es k)) births s = ap is_dir (without_same u b births)
 fewer_here u b None births s = absurd (cc)
 
 pub fewer_links : (u : FileTree) (b : ℕ) (o : Option Node) → BirthsAscend u → HaveLinks u → HaveLinks (one_link_fewer u b o)
-fewer_links u b (Some (File cells links)) births have = go (nat_lt 1 links) refl
+fewer_links u b (Some (File cells links when)) births have = go (nat_lt 1 links) refl
   where
-    go : (t : Bool) → nat_lt 1 links ≡ t → HaveLinks (cond t (with_node u b (File cells (links - 1))) (without_node u b))
-    go true e = links_with u b (File cells (links - 1)) have (let l : 1 < links = ltb-true 1 links e in omega arith)
+    go : (t : Bool) → nat_lt 1 links ≡ t → HaveLinks (cond t (with_node u b (File cells (links - 1) when)) (without_node u b))
+    go true e = links_with u b (File cells (links - 1) when) have (let l : 1 < links = ltb-true 1 links e in omega arith)
     go false e = links_without u b births have
 fewer_links u b (Some (Link target links)) births have = go (nat_lt 1 links) refl
   where
@@ -175,6 +175,6 @@ fewer_links u b None births have = have
 pub no_entries : (o : Option Node) (m : List ℕ) → has_entries o ≡ false → find_in o m ≡ None
 no_entries (Some (Dir [] n)) m h = refl
 no_entries (Some (Dir (e ∷ es) n)) m h = absurd (let l : length (e ∷ es) ≤ 0 = ltb-false 0 (length (e ∷ es)) h in omega arith)
-no_entries (Some (File cells links)) m h = refl
+no_entries (Some (File cells links when)) m h = refl
 no_entries (Some (Link target links)) m h = refl
 no_entries None m h = refl

@@ -35,7 +35,7 @@ module _ (t : FileTree) where
   -- a walk from what is no directory leads nowhere
   no_place : (v : ℕ) (name : List ℕ) (o : Option Node) → is_dir o ≡ false → (r : Reply) × (place_in o v name ≡ Nowhere r)
   no_place v name (Some (Dir es n)) d = absurd (cc)
-  no_place v name (Some (File cells links)) d = (NotDir, refl)
+  no_place v name (Some (File cells links when)) d = (NotDir, refl)
   no_place v name (Some (Link target links)) d = (NotDir, refl)
   no_place v name None d = (NoEnt, refl)
 
@@ -52,7 +52,7 @@ module _ (t : FileTree) where
 
       go : (o : Option Node) → node_at t v ≡ o → (es : Entries) × (n : ℕ) × (node_at t v ≡ Some (Dir es n))
       go (Some (Dir es n)) i = (es, n, i)
-      go (Some (File cells links)) i = absurd (lost (ap is_dir i))
+      go (Some (File cells links when)) i = absurd (lost (ap is_dir i))
       go (Some (Link target links)) i = absurd (lost (ap is_dir i))
       go None i = absurd (lost (ap is_dir i))
 
@@ -89,7 +89,7 @@ module _ (t : FileTree) where
         go : (o : Option ℕ) → place_by a es n name o ≡ p → a ≡ to
         go (Some d) e = subst (λ q. LeadsTo q to) (sym e) l
         go None e = subst (λ q. LeadsTo q to) (sym e) l
-    last_name a name (Some (File cells links)) e = absurd (subst (λ q. LeadsTo q to) (sym e) l)
+    last_name a name (Some (File cells links when)) e = absurd (subst (λ q. LeadsTo q to) (sym e) l)
     last_name a name (Some (Link target links)) e = absurd (subst (λ q. LeadsTo q to) (sym e) l)
     last_name a name None e = absurd (subst (λ q. LeadsTo q to) (sym e) l)
 
@@ -110,6 +110,6 @@ module _ (t : FileTree) where
             → (o : Option Node) → node_at t a ≡ o → below (place_in o a name) (λ c. place_from t c (next ∷ names)) ≡ p
             → IsClear b (walked_by (place_in o a name) a (λ c. walked_from t c (next ∷ names))) → IsReachedAt (node_at u) to
         go on (Some (Dir es n)) i e h = entry on es n (entry_at es name) (ap (λ o. find_in o name) i) e h
-        go on (Some (File cells links)) i e h = absurd (subst (λ q. LeadsTo q to) (sym e) l)
+        go on (Some (File cells links when)) i e h = absurd (subst (λ q. LeadsTo q to) (sym e) l)
         go on (Some (Link target links)) i e h = absurd (subst (λ q. LeadsTo q to) (sym e) l)
         go on None i e h = absurd (subst (λ q. LeadsTo q to) (sym e) l)

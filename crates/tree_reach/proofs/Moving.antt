@@ -35,7 +35,7 @@ module _ (g : FileTree) (to : ℕ) (new : List ℕ) (b : ℕ) (have : HaveLinks 
     links_with g to (Dir (with_entry fs new b) k) have (omega arith),
     ascend_with g to (Dir (with_entry fs new b) k) births,
   )
-  set_in (Some (File cells links)) i d = absurd (cc)
+  set_in (Some (File cells links when)) i d = absurd (cc)
   set_in (Some (Link target links)) i d = absurd (cc)
   set_in None i d = absurd (cc)
 

@@ -66,5 +66,5 @@ name_there t b w l =
         let c = counted (slice_cmp nat_cmp) name_exact (one_at b) es (w.names d es n is) l in
         let q : c.1 ≡ b = one_means b c.1 c.3 in
         (d, c.0, ap (λ o. find_in o c.0) is ∙ c.2 ∙ ap Some q)
-    in_node d (File cells links) is l = absurd (omega arith)
+    in_node d (File cells links when) is l = absurd (omega arith)
     in_node d (Link target links) is l = absurd (omega arith)

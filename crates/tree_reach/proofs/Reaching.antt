@@ -34,7 +34,7 @@ dirs_reached t u ways b r = carried (node_at t) (λ b. is_dir (node_at u b) ≡ 
 
 is_what : (o : Option Node) → is_some o ≡ true → (is_dir o ≡ true) ⊎ (is_dir o ≡ false)
 is_what (Some (Dir es n)) s = inl refl
-is_what (Some (File cells links)) s = inr refl
+is_what (Some (File cells links when)) s = inr refl
 is_what (Some (Link target links)) s = inr refl
 is_what None s = absurd (cc)
 
@@ -58,7 +58,7 @@ same_reached t u names nodes reached b there = carried (node_at t) (IsReachedAt 
 -- ---- links
 dir_link : (o : Option Node) → is_dir o ≡ true → 1 ≤ links_of o
 dir_link (Some (Dir es n)) d = omega arith
-dir_link (Some (File cells links)) d = absurd (cc)
+dir_link (Some (File cells links when)) d = absurd (cc)
 dir_link (Some (Link target links)) d = absurd (cc)
 dir_link None d = absurd (cc)
 
@@ -70,7 +70,7 @@ reached_links t w reached b there = carried (node_at t) (λ b. 1 ≤ links_of (n
       where
         go : (o : Option Node) → node_at t c ≡ o → find_in o m ≡ Some d → 1 ≤ links_of (node_at t d)
         go (Some (Dir es n)) i f = has_links t w c es n m d i f
-        go (Some (File cells links)) i f = absurd (cc)
+        go (Some (File cells links when)) i f = absurd (cc)
         go (Some (Link target links)) i f = absurd (cc)
         go None i f = absurd (cc)
 

@@ -35,18 +35,18 @@ fresh_reached segments b there = go (is_at (nat_cmp b) 0) refl there
 shown_reached : (t : FileTree) (p : Place) (off : ℕ) (bytes : List ℕ) → IsReached (node_at t) → IsReached (node_at (with_shown t (file_at t p) off bytes))
 shown_reached t p off bytes reached = go (file_at t p) refl
   where
-    go : (o : Option (ℕ × (List Cell × ℕ))) → file_at t p ≡ o → IsReached (node_at (with_shown t o off bytes))
+    go : (o : Option (ℕ × (List Cell × (ℕ × ℕ)))) → file_at t p ≡ o → IsReached (node_at (with_shown t o off bytes))
     go None i = reached
-    go (Some f) i = cells_reached t f.0 f.1.0 (overwritten f.1.0 off (map Byte bytes)) f.1.1 (file_at_is t p f i) reached
+    go (Some f) i = cells_reached t f.0 f.1.0 (overwritten f.1.0 off (map Byte bytes)) f.1.1.0 f.1.1.1 f.1.1.1 (file_at_is t p f i) reached
 
 read_reached : (t : FileTree) (o : Op) (r : Reply) → IsReached (node_at t) → IsReached (node_at (after_read t o r))
 read_reached t (op.Read path off len) (reply.Shown bytes) reached = shown_reached t (place t path) off bytes reached
 read_reached t (op.Read path off len) _ reached = reached
 read_reached t _ r reached = reached
 
-step_makes_reached : (t : FileTree) (s : Step) (b m : ℕ) → IsWellFormed t → IsReached (node_at t) → IsNew t b → IsReached (node_at (perform_step t s b m).tree)
-step_makes_reached t (Goes o) b m w reached new = apply_keeps_reached t o b m w reached new
-step_makes_reached t (Stops r) b m w reached new = reached
+step_makes_reached : (t : FileTree) (s : Step) (b when m : ℕ) → IsWellFormed t → IsReached (node_at t) → IsNew t b → IsReached (node_at (perform_step t s b when m).tree)
+step_makes_reached t (Goes o) b when m w reached new = apply_keeps_reached t o b when m w reached new
+step_makes_reached t (Stops r) b when m w reached new = reached
 
 read_step_reached : (t : FileTree) (s : Step) (r : Reply) → IsReached (node_at t) → IsReached (node_at (after_step t s r))
 read_step_reached t (Goes o) r reached = read_reached t o r reached
@@ -57,16 +57,16 @@ entry_reached t e w reached new = go (leaves_tree e.op e.reply) (is_answer t e)
   where
     go : (l a : Bool) → IsReached (node_at (cond l t (cond a (after_step (applied t e).tree (resolved t e.op).step e.reply) t)))
     go true a = reached
-    go false true = read_step_reached (applied t e).tree (resolved t e.op).step e.reply (step_makes_reached t (resolved t e.op).step e.number.0 (told_blocks t e.reply) w reached new)
+    go false true = read_step_reached (applied t e).tree (resolved t e.op).step e.reply (step_makes_reached t (resolved t e.op).step e.number.0 e.when (told_blocks t e.reply) w reached new)
     go false false = reached
 
 -- cells come into doubt; a file of the tree is one at a place of it
 doubt_reached : (t : FileTree) (b from count : ℕ) → IsReached (node_at t) → IsReached (node_at (doubted_file t (file_of b (node_at t b)) from count))
 doubt_reached t b from count reached = go (file_of b (node_at t b)) refl
   where
-    go : (o : Option (ℕ × (List Cell × ℕ))) → file_of b (node_at t b) ≡ o → IsReached (node_at (doubted_file t o from count))
+    go : (o : Option (ℕ × (List Cell × (ℕ × ℕ)))) → file_of b (node_at t b) ≡ o → IsReached (node_at (doubted_file t o from count))
     go None i = reached
-    go (Some f) i = cells_reached t f.0 f.1.0 (doubted_cells f.1.0 from count) f.1.1 (file_at_is t (Taken 0 [] 0 [] b) f i) reached
+    go (Some f) i = cells_reached t f.0 f.1.0 (doubted_cells f.1.0 from count) f.1.1.0 f.1.1.1 f.1.1.1 (file_at_is t (Taken 0 [] 0 [] b) f i) reached
 
 doubted_reached : (t : FileTree) (runs : List CellRun) → IsReached (node_at t) → IsReached (node_at (doubted t runs))
 doubted_reached t [] reached = reached

@@ -42,12 +42,12 @@ carried at P step p b r = carried_from at P step r.0 0 b p r.1
 -- only a directory that has entries has names
 pub named_by_dir : (o : Option Node) (name : List ℕ) (b : ℕ) → find_in o name ≡ Some b → is_dir o ≡ true
 named_by_dir (Some (Dir es n)) name b f = refl
-named_by_dir (Some (File cells links)) name b f = absurd (cc)
+named_by_dir (Some (File cells links when)) name b f = absurd (cc)
 named_by_dir (Some (Link target links)) name b f = absurd (cc)
 named_by_dir None name b f = absurd (cc)
 
 pub no_names_alone : (o : Option Node) (name : List ℕ) → is_dir o ≡ false → find_in o name ≡ None
 no_names_alone (Some (Dir es n)) name f = absurd (cc)
-no_names_alone (Some (File cells links)) name f = refl
+no_names_alone (Some (File cells links when)) name f = refl
 no_names_alone (Some (Link target links)) name f = refl
 no_names_alone None name f = refl

@@ -10,7 +10,7 @@ use Rattle.disk_definitions.specs.Standing.{IsReached}
 -- an operation at a new birth leaves each node of a well-formed tree reached
 abbrev pub ApplyKeepsReached : Type 0
 ApplyKeepsReached =
-    (tree : FileTree) (operation : Op) (birth ever_directories : ℕ) → IsWellFormed tree → IsReached (node_at tree) → IsNew tree birth → IsReached (node_at (apply tree operation birth ever_directories).tree)
+    (tree : FileTree) (operation : Op) (birth when ever_directories : ℕ) → IsWellFormed tree → IsReached (node_at tree) → IsNew tree birth → IsReached (node_at (apply tree operation birth when ever_directories).tree)
 
 -- each node of the fresh tree is reached
 abbrev pub FreshIsReached : Type 0

@@ -1,5 +1,5 @@
 -- The bytes are added at the end.
-use Rattle.std.proofs.Common.{◌≡◌, ◌-◌, ◌*◌, ◌<◌, ◌≤◌, length, min, sym, ◌∙◌, ap, subst, rules, arith, le_refl}
+use Rattle.std.proofs.Common.{◌≡◌, ◌-◌, ◌*◌, length, min, ◌∙◌, ap, rules, arith}
 use Rattle.sector_bytes.specs.Sectors.{sectors_of}
 use Rattle.disk_definitions.specs.Store.{stored}
 use Rattle.standing_laws.specs.ReadTree.{byte_at}

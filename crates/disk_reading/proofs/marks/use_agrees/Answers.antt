@@ -1,7 +1,7 @@
 -- By the inode in use.
-use Rattle.std.proofs.Common.{◌≡◌, ◌-◌, ◌/◌, ◌%◌, ◌<◌, Some, sym, ◌∙◌, ap, rules, slice_index}
+use Rattle.std.proofs.Common.{◌≡◌, ◌/◌, ◌%◌, Some, sym, ◌∙◌, ap, rules}
 use Rattle.std.specs.Option.{option_map}
-use Rattle.disk_definitions.specs.Store.{Store, StoredNode, stored}
+use Rattle.disk_definitions.specs.Store.{stored}
 use Rattle.standing_laws.specs.Soundness.{is_used_for}
 use Rattle.disk_reading.specs.Seen.{store_in}
 use Rattle.disk_reading.proofs.Marked.{use_then, use_else}

@@ -1,5 +1,5 @@
 -- By the inode in use.
-use Rattle.std.proofs.Common.{◌≡◌, Some, sym, ◌∙◌, ap, rules}
+use Rattle.std.proofs.Common.{◌≡◌, Some, sym, ◌∙◌, ap}
 use Rattle.std.specs.Option.{option_map}
 use Rattle.disk_definitions.specs.Store.{stored}
 use Rattle.disk_reading.specs.Seen.{store_in}

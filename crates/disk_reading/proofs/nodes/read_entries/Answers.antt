@@ -1,5 +1,5 @@
 -- One place more.
-use Rattle.std.proofs.Common.{◌≡◌, ◌+◌, ◌*◌, ◌/◌, ◌%◌, ◌<◌, true, false, sym, ◌∙◌, ap, rules}
+use Rattle.std.proofs.Common.{◌≡◌, ◌+◌, ◌*◌, ◌<◌, true, false, sym, ◌∙◌, rules}
 use Rattle.std.specs.Option.{option_map}
 use Rattle.disk_definitions.specs.Store.{stored, entered}
 use Rattle.standing_laws.specs.ReadTree.{place_at, with_place}

@@ -1,9 +1,9 @@
 -- The flags are those of what is listed.
-use Rattle.std.proofs.Common.{◌≡◌, ◌*◌, true, drop, length, not, ◌||◌, ◌∙◌, ap, rules}
+use Rattle.std.proofs.Common.{◌≡◌, ◌*◌, true, drop, length, ◌||◌, ◌∙◌, ap, rules}
 use Rattle.disk_definitions.specs.Store.{is_unused}
 use Rattle.standing_laws.specs.Below.{all_below}
 use Rattle.standing_laws.specs.Soundness.{block_at}
-use Rattle.disk_reading.specs.Marks.{flag_at, AreFlags}
+use Rattle.disk_reading.specs.Marks.{flag_at}
 use Rattle.disk_reading.specs.Seen.{store_in}
 use Rattle.disk_reading.proofs.Flags.{flags_all, kept}
 use Rattle.disk_reading.proofs.owners.blocks_agree.Goals as goal

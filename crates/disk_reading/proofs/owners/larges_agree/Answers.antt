@@ -2,7 +2,7 @@
 use Rattle.std.proofs.Common.{◌≡◌, ◌*◌, true, drop, length, not, ◌||◌, ◌∙◌, ap, rules}
 use Rattle.standing_laws.specs.Below.{all_below}
 use Rattle.standing_laws.specs.Soundness.{large_at}
-use Rattle.disk_reading.specs.Marks.{flag_at, AreFlags}
+use Rattle.disk_reading.specs.Marks.{flag_at}
 use Rattle.disk_reading.specs.Seen.{store_in}
 use Rattle.disk_reading.proofs.Flags.{flags_all, kept}
 use Rattle.disk_reading.proofs.owners.larges_agree.Goals as goal

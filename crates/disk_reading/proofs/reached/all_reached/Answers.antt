@@ -3,7 +3,6 @@ use Rattle.std.proofs.Common.{◌≡◌, ◌<◌, true, false, length, drop, set
 use Rattle.std.specs.List.{list_all}
 use Rattle.std.specs.Map.{keys_of}
 use Rattle.disk_reading.specs.Marks.{flag_at}
-use Rattle.disk_reading.specs.Reach.{HasClosed, nodes_at}
 use Rattle.disk_reading.proofs.Flags.{kept}
 use Rattle.disk_reading.proofs.ReachLaws.{reached_told}
 use Rattle.disk_reading.proofs.reached.all_reached.Goals as goal

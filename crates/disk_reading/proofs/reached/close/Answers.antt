@@ -1,5 +1,5 @@
 -- Each round leaves fewer without a flag.
-use Rattle.std.proofs.Common.{◌≡◌, false, sym, ◌∙◌, subst, rules}
+use Rattle.std.proofs.Common.{◌≡◌, false, sym, ◌∙◌, subst}
 use Rattle.disk_reading.specs.Reach.{AreNamedBelow, nodes_at, is_closed}
 use Rattle.disk_reading.proofs.ReachLaws.{spread_falls}
 use Rattle.disk_reading.proofs.reached.close.Goals as goal

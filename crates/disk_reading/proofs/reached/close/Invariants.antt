@@ -1,4 +1,3 @@
-use Rattle.std.proofs.Common.{◌≡◌, true, length}
 use Rattle.disk_reading.specs.Reach.{IsOnTheWay, nodes_at, unflagged}
 use Rattle.disk_reading.proofs.reached.close.Given as goal
 

@@ -1,4 +1,4 @@
-use Rattle.std.proofs.Common.{◌==◌, map}
+use Rattle.std.proofs.Common.{map}
 use Rattle.disk_reading.specs.Reach.{AreFlaggedOn, has_value}
 use Rattle.disk_reading.proofs.reached.reach_entries.Given as goal
 

@@ -1,4 +1,3 @@
-use Rattle.std.proofs.Common.{◌≡◌}
 use Rattle.disk_reading.specs.Reach.{HasSpread, nodes_at}
 use Rattle.disk_reading.proofs.reached.spread.Given as goal
 

@@ -1,5 +1,5 @@
 -- Each test that fails shows that the disk isn't sound, and all of them together that it is.
-use Rattle.std.proofs.Common.{◌≡◌, ◌*◌, true, false, sym, ◌∙◌, ap, subst, MatchBool}
+use Rattle.std.proofs.Common.{◌≡◌, ◌*◌, sym, ◌∙◌, ap, subst, MatchBool}
 use Rattle.std.proofs.lemmas.Bool.{both_ways}
 use Rattle.sector_bytes.specs.Sectors.{sectors_of}
 use Rattle.disk_definitions.specs.Standing.{IsReached}

@@ -1,5 +1,5 @@
 -- A place whose kind isn't 0 has an entry.
-use Rattle.std.proofs.Common.{◌≡◌, ◌*◌, ◌/◌, ◌%◌, ◌<◌, Some, length, true, false, rules, arith, eq-eqb, ne_eqb, get_or, []}
+use Rattle.std.proofs.Common.{◌≡◌, ◌*◌, ◌/◌, ◌%◌, ◌<◌, Some, length, true, false, rules, eq-eqb, ne_eqb, get_or, []}
 use Rattle.std.specs.List.{slice_get}
 use Rattle.std.proofs.lemmas.Option.{slice_get-get_or}
 use Rattle.sector_definitions.specs.declared.region.Region.TheVariants as region

@@ -1,5 +1,5 @@
 -- An inode whose kind isn't 0 is in use.
-use Rattle.std.proofs.Common.{◌≡◌, ◌*◌, ◌<◌, Some, sym, ◌∙◌, rules, arith}
+use Rattle.std.proofs.Common.{◌≡◌, ◌*◌, ◌<◌, Some, sym, ◌∙◌, rules}
 use Rattle.sector_definitions.specs.declared.region.Region.TheVariants as region
 use Rattle.sector_definitions.specs.Regions.{sector_of}
 use Rattle.sector_definitions.specs.Inodes.{inode_in}

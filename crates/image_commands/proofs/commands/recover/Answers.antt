@@ -1,5 +1,4 @@
 -- By what was read, said and saved.
-use Rattle.std.proofs.Common.{◌≡◌, ◌≤◌}
 use Rattle.std.specs.Option.{option_map}
 use Rattle.image_commands.proofs.EndLaws.{only_saves, recovers_ends, recovers_saves, recovery_unread}
 use Rattle.image_commands.proofs.commands.recover.Goals as goal

@@ -1,5 +1,5 @@
 -- By the recovery of the disk.
-use Rattle.std.proofs.Common.{◌≡◌, ◌⊎◌, inl, inr, refl, subst}
+use Rattle.std.proofs.Common.{inl, inr, refl, subst}
 use Rattle.image_commands.specs.Recovered.{GivesRecovery}
 use Rattle.image_commands.proofs.commands.recover_disk.Goals as goal
 

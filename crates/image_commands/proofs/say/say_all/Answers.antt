@@ -1,5 +1,5 @@
 -- One line more in each turn; a refused one ends it.
-use Rattle.std.proofs.Common.{refl, sym, subst, arith, rules, take}
+use Rattle.std.proofs.Common.{sym, subst, arith, rules}
 use Rattle.image_commands.specs.Saying.{said_act, SaysAll}
 use Rattle.image_commands.proofs.SayLaws.{at_index, fell-trans, says_more, stopped_so, said_all}
 use Rattle.image_commands.proofs.say.say_all.Goals as goal

@@ -15,4 +15,5 @@ returns c =
     (read_at 8 24 488 c.read_u64-3.result from c.told-from c.read_u64-3.ensures)
     c.read_small.ensures
     (read_at 4 96 416 c.read_u32.result from c.told-from c.read_u32.ensures)
+    (read_at 8 100 412 c.read_u64-4.result from c.told-from c.read_u64-4.ensures)
     c.read_target.ensures
