@@ -1,11 +1,10 @@
 -- The words over what stands in the slots are those of a log's definition.
-use Rattle.std.proofs.Common.{◌≡◌, ℕ, zero, suc, ◌%◌, ◌<◌, Bool, ◌&&◌, if◌then◌else◌, nat_le, is_some, Option, Some, None, List, [], ◌∷◌, get_or, map, refl, ap, ◌∙◌, arith}
+use Rattle.std.proofs.Common.{◌≡◌, ℕ, zero, suc, ◌%◌, ◌<◌, Bool, ◌&&◌, if◌then◌else◌, nat_le, is_some, Option, None, List, [], ◌∷◌, get_or, map, refl, ap, ◌∙◌, arith}
 use Rattle.std.proofs.Math.Nat.{mod-lt}
 use Rattle.std.specs.Prelude.{max, fold}
 use Rattle.std.specs.List.{list_all, filter, filter_map, cons_option}
 use Rattle.std.specs.Option.{option_map}
 use Rattle.std.proofs.lemmas.List.{get_or-map}
-use Rattle.sector_definitions.specs.declared.log_sector.LogSector.{LogSector}
 use Rattle.sector_definitions.specs.LogSectors.{log_sector_in}
 use Rattle.tree_definitions.specs.Numbers.{below}
 use Rattle.sector_definitions.proofs.Lists.{length_below, below_at}

@@ -1,5 +1,5 @@
 -- The words of a log's definition over what stands in its slots, where each slot is read once.
-use Rattle.std.specs.Prelude.{◌-◌, ℕ, zero, suc, ◌%◌, Bool, true, false, ◌&&◌, nat_le, max, is_some, Option, Some, None, List, [], map, fold, slice_index_or}
+use Rattle.std.specs.Prelude.{◌-◌, ℕ, zero, suc, ◌%◌, Bool, ◌&&◌, nat_le, max, is_some, Option, None, List, [], map, fold, slice_index_or}
 use Rattle.std.specs.List.{list_all, filter, filter_map}
 use Rattle.std.specs.Option.{option_map}
 use Rattle.frang_base.specs.declared.limits.TheConstants.{LOG_SECTORS, LOG_WINDOW}

@@ -1,5 +1,5 @@
 -- Frames read back, whatever follows them, and the first bytes of one hold none.
-use Rattle.std.proofs.Common.{◌≡◌, ℕ, ◌+◌, ◌-◌, ◌^◌, ◌<◌, ◌≤◌, ⊎_elim, Bool, true, false, ◌&&◌, cond, if◌then◌else◌, nat_le, Option, Some, None, List, ◌++◌, length, take, drop, refl, sym, ap, ◌∙◌, arith}
+use Rattle.std.proofs.Common.{◌≡◌, ℕ, ◌+◌, ◌-◌, ◌^◌, ◌<◌, ◌≤◌, ⊎_elim, Bool, true, false, ◌&&◌, cond, if◌then◌else◌, nat_le, Some, None, List, ◌++◌, length, take, drop, refl, ap, ◌∙◌, arith}
 use Rattle.std.proofs.lemmas.Bool.{and_from, cond-true, cond-false, cases_lt}
 use Rattle.std.proofs.lemmas.List.{length-take, length-drop, drop-take}
 use Rattle.std.specs.Option.{option_and_then, option_map}
@@ -9,7 +9,7 @@ use Rattle.frang_base.proofs.Basics.{of_le, of_gt}
 use Rattle.sector_bytes.specs.Bytes.{number_at}
 use Rattle.frang_base.specs.declared.change.Redo.{Redo}
 use Rattle.log_definitions.specs.Records.{Read, bytes_read, number_read, record_bytes, record_fits}
-use Rattle.log_definitions.specs.Frames.{Frame, frame_bytes, body_read, frame_read}
+use Rattle.log_definitions.specs.Frames.{frame_bytes, body_read, frame_read}
 use Rattle.log_record.proofs.NumbersRead.{number_back, bytes_back}
 use Rattle.log_record.proofs.RecordBack.{goes_on, is_record}
 

@@ -1,5 +1,5 @@
 -- What stays true of a ring and its log in every run: which sectors stand, wait and fly, and what the ring keeps of its records.
-use Rattle.std.proofs.Common.{◌≡◌, ℕ, ◌+◌, ◌-◌, ◌^◌, min, ◌<◌, ◌≤◌, ◌⊎◌, inl, inr, true, false, nat_lt, List, [], ◌∷◌, ◌++◌, length, drop, slice_set, sym, ap, ◌∙◌, subst, arith}
+use Rattle.std.proofs.Common.{◌≡◌, ℕ, ◌+◌, ◌-◌, ◌^◌, min, ◌<◌, ◌≤◌, ◌⊎◌, inl, inr, true, false, nat_lt, List, [], ◌++◌, length, drop, slice_set, sym, ap, ◌∙◌, subst, arith}
 use Rattle.std.proofs.lemmas.Bool.{ltb-true, cases_eq, cond_both}
 use Rattle.std.proofs.lemmas.List.{length-set}
 use Rattle.sector_definitions.specs.declared.log_sector.LogSector.{LogSector}

@@ -1,10 +1,10 @@
 -- Rings behind a log stay good at each event, and what is good reads back.
-use Rattle.std.proofs.Common.{◌≡◌, ℕ, ◌+◌, ◌-◌, ◌^◌, ◌<◌, ◌≤◌, true, false, not, ◌&&◌, nat_le, nat_lt, is_some, List, [], ◌∷◌, ◌++◌, length, take, refl, sym, ap, ◌∙◌, subst, cond, Bool, arith, if◌then◌else◌, ◌%◌, ◌==◌}
+use Rattle.std.proofs.Common.{◌≡◌, ℕ, ◌+◌, ◌-◌, ◌^◌, ◌<◌, ◌≤◌, true, false, not, ◌&&◌, nat_le, nat_lt, is_some, List, [], ◌∷◌, ◌++◌, length, take, refl, sym, ap, ◌∙◌, subst, cond, Bool, if◌then◌else◌, ◌%◌, ◌==◌}
 use Rattle.std.specs.List.{filter, list_any}
 use Rattle.std.proofs.lemmas.Bool.{and_parts, and_from}
 use Rattle.sector_definitions.specs.declared.log_sector.LogSector.{LogSector}
 use Rattle.sector_definitions.specs.LogSectors.{log_sector_bytes}
-use Rattle.log_definitions.specs.Logs.{Slots, log_end, is_sealed, sectors_read, stands}
+use Rattle.log_definitions.specs.Logs.{Slots, log_end, is_sealed, sectors_read}
 use Rattle.log_definitions.specs.Arriving.{with_sector}
 use Rattle.log_definitions.proofs.EndLaws.{numbers_are_below, all_numbers_below}
 use Rattle.log_definitions.proofs.SameLogs.{log_end_same, log_records_same, sector_same}

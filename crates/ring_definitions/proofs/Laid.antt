@@ -1,19 +1,18 @@
 -- Records that are laid over packed sectors, frame behind frame: which begin in each sector, and what runs on into the next.
-use Rattle.std.proofs.Common.{◌≡◌, ◌==◌, ℕ, zero, suc, ◌+◌, ◌-◌, ◌*◌, ◌/◌, ◌%◌, ◌^◌, min, max, ◌<◌, ◌≤◌, ◌⊎◌, inl, inr, ⊎_elim, Bool, true, false, if◌then◌else◌, cond, List, [], ◌∷◌, ◌++◌, length, take, drop, refl, sym, ap, ◌∙◌, subst, arith, length-append, append_assoc, append-nil, take-append-drop}
+use Rattle.std.proofs.Common.{◌≡◌, ◌==◌, ℕ, zero, suc, ◌+◌, ◌-◌, ◌/◌, min, max, ◌<◌, ◌≤◌, if◌then◌else◌, List, [], ◌∷◌, ◌++◌, length, take, drop, refl, sym, ap, ◌∙◌, subst, arith, length-append, append_assoc, append-nil, take-append-drop}
 use Rattle.std.specs.List.{flat_map}
 use Rattle.std.proofs.lemmas.Bool.{eqb-true, eqb-false, eq-eqb, ne_eqb, cond-true, cond-false}
-use Rattle.std.proofs.lemmas.List.{length-take, length-drop}
+use Rattle.std.proofs.lemmas.List.{length-drop}
 use Rattle.frang_base.proofs.Basics.{by_test}
 use Rattle.sector_definitions.specs.declared.log_sector.LogSector.{LogSector}
 use Rattle.sector_definitions.specs.LogSectors.{none_begins, packed_mark}
-use Rattle.frang_base.specs.declared.change.Redo.{Redo}
 use Rattle.log_definitions.specs.Records.{record_bytes}
 use Rattle.log_definitions.specs.Frames.{frame_bytes}
-use Rattle.log_record.proofs.FrameBack.{IsFramed, some_bytes, length-frame_bytes}
-use Rattle.ring_definitions.specs.Rings.{packed_sector, cut, sectors_for, packed_sectors, open_room, filled, put_on, framed}
+use Rattle.log_record.proofs.FrameBack.{IsFramed, length-frame_bytes}
+use Rattle.ring_definitions.specs.Rings.{cut, sectors_for, packed_sectors, open_room, filled, put_on, framed}
 use Rattle.ring_definitions.specs.RingRuns.{Placed}
 use Rattle.ring_definitions.proofs.Along.{Along}
-use Rattle.ring_definitions.proofs.Packed.{IsPacked, used_of, used_packed, used_filled, length-used, taken_some, taken_fits, first_size, rest_size, rest_count, some_left}
+use Rattle.ring_definitions.proofs.Packed.{IsPacked, used_of, used_packed, used_filled, taken_some, taken_fits, first_size, rest_size, rest_count, some_left}
 
 abbrev pub frame_of : Placed → List ℕ
 frame_of p = frame_bytes p.redo

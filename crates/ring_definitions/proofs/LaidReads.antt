@@ -1,5 +1,5 @@
 -- What packed sectors read as: the first of them read as the records that end there, and in each sector begin those that are laid there.
-use Rattle.std.proofs.Common.{◌≡◌, ◌==◌, ℕ, zero, suc, ◌+◌, ◌-◌, min, max, ◌<◌, ◌≤◌, ◌⊎◌, inl, inr, ⊎_elim, Bool, true, false, not, if◌then◌else◌, cond, nat_le, Option, Some, None, List, [], ◌∷◌, ◌++◌, length, take, drop, map, refl, sym, ap, ◌∙◌, subst, arith, length-append, append_assoc, append-nil}
+use Rattle.std.proofs.Common.{◌≡◌, ◌==◌, ℕ, zero, suc, ◌+◌, ◌-◌, min, max, ◌<◌, ◌≤◌, ⊎_elim, Bool, true, false, not, cond, nat_le, Some, List, [], ◌∷◌, ◌++◌, length, take, drop, map, refl, sym, ap, ◌∙◌, subst, arith, length-append, append_assoc, append-nil}
 use Rattle.std.specs.List.{filter, cons_option}
 use Rattle.std.specs.Option.{option_map}
 use Rattle.std.proofs.Math.Seq.{take-append-add}
@@ -8,15 +8,15 @@ use Rattle.std.proofs.lemmas.List.{length-take, length-map, take_all, drop_all, 
 use Rattle.sector_definitions.specs.declared.log_sector.LogSector.{LogSector}
 use Rattle.sector_definitions.specs.LogSectors.{is_packed, none_begins, packed_mark}
 use Rattle.frang_base.specs.declared.change.Redo.{Redo}
-use Rattle.log_definitions.specs.Records.{record_bytes, record_in}
-use Rattle.log_definitions.specs.Frames.{Frame, frame_bytes, frame_length, frame_most, frame_read, framed_record, next_frames, frames_among}
+use Rattle.log_definitions.specs.Records.{record_bytes}
+use Rattle.log_definitions.specs.Frames.{frame_most, frame_read, framed_record, next_frames, frames_among}
 use Rattle.log_definitions.specs.Logs.{goes_on, bytes_on, bytes_begun, frames_of, record_at, records_at, records_among}
 use Rattle.log_definitions.proofs.ReadingLaws.{begun, none_left, starts_anew}
 use Rattle.log_record.proofs.RecordBack.{record_back}
 use Rattle.log_record.proofs.FrameBack.{IsFramed, few_bytes, length-frame_bytes, frame_back, frame_cut}
 use Rattle.ring_definitions.specs.RingRuns.{Placed}
 use Rattle.ring_definitions.proofs.Packed.{used_of}
-use Rattle.ring_definitions.proofs.Laid.{frame_of, frames, some_frame, BeginsIn, IsRow, IsBegun, Runs, IsFirst, IsLaid}
+use Rattle.ring_definitions.proofs.Laid.{frame_of, frames, some_frame, IsRow, IsBegun, Runs, IsLaid}
 
 abbrev pub redo_of : Placed → Redo
 redo_of p = p.redo

@@ -12,7 +12,7 @@ use Rattle.ring_definitions.specs.declared.ring.Named.{Named}
 use Rattle.ring_definitions.specs.declared.ring.RingFault.TheVariants.{Full}
 use Rattle.ring_definitions.specs.RingRuns.{LogEvent, log_at, may_all_happen, after_log_events}
 use Rattle.ring_definitions.specs.RingRuns.LogEvent.{Append, Issue, Arrive, Acknowledge, GiveUp}
-use Rattle.ring_definitions.specs.Rings.{Ring, ring_at, is_record, need, packed_sector, last, free, appended, append_answer, next_sector, issued, acked, oldest_versions, reclaimed, unwritten}
+use Rattle.ring_definitions.specs.Rings.{Ring, ring_at, is_record, need, packed_sector, free, appended, append_answer, next_sector, issued, acked, oldest_versions, reclaimed, unwritten}
 
 -- a record of one short change of a sector
 abbrev redo : ℕ → ℕ → Redo

@@ -1,5 +1,5 @@
 -- The slots of a log in which sectors arrive: in the window of numbers that may stand, each that isn't on its way stands.
-use Rattle.std.proofs.Common.{◌≡◌, ◌≢◌, ◌==◌, ℕ, ◌+◌, ◌-◌, ◌%◌, ◌<◌, ◌≤◌, ◌⊎◌, inl, inr, Bool, true, false, not, ◌||◌, if◌then◌else◌, Option, Some, None, List, [], ◌∷◌, ◌++◌, length, get_or, cond, refl, sym, ap, ◌∙◌, subst, arith, length-append}
+use Rattle.std.proofs.Common.{◌≡◌, ◌≢◌, ◌==◌, ℕ, ◌+◌, ◌-◌, ◌%◌, ◌<◌, ◌≤◌, ◌⊎◌, inl, inr, Bool, true, false, not, ◌||◌, if◌then◌else◌, Option, Some, None, List, [], ◌∷◌, ◌++◌, length, get_or, cond, refl, sym, ap, ◌∙◌, subst, arith}
 use Rattle.std.specs.List.{slice_get, All, list_any, filter}
 use Rattle.std.proofs.lemmas.Bool.{cases_eq, both_ways, or_cases, eqb-true, eq-eqb, ne_eqb, cond-true, cond-false}
 use Rattle.std.proofs.lemmas.List.Elements.{All-head, All-tail, All-push, All-weaker, All-filter}
@@ -11,7 +11,6 @@ use Rattle.sector_definitions.specs.LogSectors.{log_sector_bytes, log_sector_in}
 use Rattle.log_definitions.specs.Logs.{Slots, numbered, sector_numbered}
 use Rattle.log_definitions.specs.Arriving.{with_sector}
 use Rattle.ring_definitions.specs.RingRuns.{is_numbered, with_arrived}
-use Rattle.ring_definitions.proofs.Shown.{before_end}
 
 -- a sector of this number is among those on their way
 abbrev pub flies : List LogSector → ℕ → Bool

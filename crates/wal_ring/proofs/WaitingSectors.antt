@@ -1,8 +1,8 @@
 -- Packed sectors that wait: what a frame puts on them, a sector at a time, and that each may stand in its slot.
-use Rattle.std.proofs.Common.{◌≡◌, ◌==◌, ℕ, zero, suc, ◌+◌, ◌-◌, ◌/◌, ◌%◌, ◌^◌, min, ◌<◌, ◌≤◌, ◌⊎◌, inl, inr, ⊎_elim, Bool, true, false, ◌&&◌, nat_le, nat_lt, IsTrue, if◌then◌else◌, List, [], ◌∷◌, ◌++◌, length, take, drop, get_or, refl, sym, ap, ◌∙◌, subst, arith, append_assoc, length-append, append-nil}
+use Rattle.std.proofs.Common.{◌≡◌, ◌==◌, ℕ, suc, ◌+◌, ◌-◌, ◌/◌, ◌%◌, ◌^◌, min, ◌<◌, ◌≤◌, ◌⊎◌, inl, inr, ⊎_elim, true, ◌&&◌, nat_le, nat_lt, IsTrue, List, [], ◌∷◌, ◌++◌, length, take, drop, get_or, refl, sym, ap, ◌∙◌, arith, append_assoc}
 use Rattle.std.specs.List.{list_all}
 use Rattle.std.proofs.lemmas.Bool.{and_parts, and_from, cases_lt, cond-true, cond-false, eq-eqb, ne_eqb, ltb-true, lt-ltb}
-use Rattle.std.proofs.lemmas.List.{length-drop, length-take, take_all, drop_all}
+use Rattle.std.proofs.lemmas.List.{length-drop, take_all, drop_all}
 use Rattle.std.proofs.lemmas.List.Folds.{list_all-append}
 use Rattle.sector_definitions.specs.declared.log_sector.LogSector.{LogSector}
 use Rattle.sector_definitions.specs.LogSectors.{is_packed_sector, log_sector_fits, none_begins}
@@ -11,8 +11,8 @@ use Rattle.frang_base.specs.declared.change.Redo.{Redo}
 use Rattle.log_definitions.specs.Frames.{frame_bytes}
 use Rattle.log_definitions.specs.Records.{record_bytes, record_fits}
 use Rattle.log_record.proofs.FrameBack.{IsFramed, few_bytes, length-frame_bytes}
-use Rattle.ring_definitions.specs.Rings.{is_record, packed_sector, cut, sectors_for, packed_sectors, open_room, filled, put_on, framed}
-use Rattle.ring_definitions.proofs.Packed.{IsPacked, one_packed, one_filled}
+use Rattle.ring_definitions.specs.Rings.{is_record, packed_sector, cut, sectors_for, packed_sectors, open_room, filled, framed}
+use Rattle.ring_definitions.proofs.Packed.{one_packed, one_filled}
 use Rattle.wal_ring.specs.Kept.{is_waiting, filled_last}
 
 -- ---- a sector that waits

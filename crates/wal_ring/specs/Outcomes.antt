@@ -1,5 +1,5 @@
 -- What each answer of a call on a ring says of the ring before and after it.
-use Rattle.std.specs.Prelude.{◌≡◌, ℕ, Option, Some, None, Result, Ok, Err, List, IsOk}
+use Rattle.std.specs.Prelude.{◌≡◌, ℕ, Some, None, Result, Ok, Err, List, IsOk}
 use Rattle.frang_base.specs.declared.sector.Sector.{Sector}
 use Rattle.frang_base.specs.declared.change.Redo.{Redo}
 use Rattle.ring_definitions.specs.declared.ring.RingFault.{RingFault}

@@ -1,5 +1,5 @@
 -- The bytes of a sector more, until enough are there or none go on.
-use Rattle.std.proofs.Common.{◌≡◌, ◌++◌, [], length, take, min, sym, ap, ◌∙◌}
+use Rattle.std.proofs.Common.{◌++◌, [], length, take, min, sym, ap, ◌∙◌}
 use Rattle.sector_definitions.specs.declared.log_sector.LogSector.{LogSector}
 use Rattle.log_definitions.specs.Frames.{frame_most}
 use Rattle.log_definitions.specs.Logs.{bytes_on}

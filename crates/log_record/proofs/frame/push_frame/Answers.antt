@@ -1,5 +1,5 @@
 -- What is written is the head of the frame and then the record.
-use Rattle.std.proofs.Common.{◌≡◌, ◌++◌, length, ap, ◌∙◌, append_assoc, Result, Ok, Err, OnOk}
+use Rattle.std.proofs.Common.{◌++◌, length, ap, ◌∙◌, append_assoc, Result, Ok, Err, OnOk}
 use Rattle.byteorder.specs.Endian.{little_bytes}
 use Rattle.log_definitions.specs.Records.{record_bytes}
 use Rattle.log_record.proofs.frame.push_frame.Goals as goal

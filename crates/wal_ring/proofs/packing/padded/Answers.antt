@@ -1,5 +1,5 @@
 -- What lies behind the bytes are zeros.
-use Rattle.std.proofs.Common.{length, ◌++◌, ap, ◌∙◌}
+use Rattle.std.proofs.Common.{length, ◌++◌, ap}
 use Rattle.std.proofs.lemmas.List.{drop-replicate}
 use Rattle.sector_bytes.specs.Bytes.{zeros}
 use Rattle.wal_ring.proofs.packing.padded.Goals as goal

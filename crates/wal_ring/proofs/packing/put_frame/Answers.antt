@@ -1,5 +1,5 @@
 -- A frame begins a sector of its own behind full ones, and else goes on the last one.
-use Rattle.std.proofs.Common.{◌≡◌, ◌-◌, min, ◌≤◌, ◌++◌, length, take, drop, sym, ap, ◌∙◌, arith}
+use Rattle.std.proofs.Common.{min, ◌≤◌, ◌++◌, length, take, drop, sym, ap, ◌∙◌, arith}
 use Rattle.sector_definitions.specs.LogSectors.{none_begins}
 use Rattle.ring_definitions.specs.Rings.{open_room, packed_sectors}
 use Rattle.wal_ring.specs.Kept.{filled_last}
