@@ -1,12 +1,11 @@
 -- The code's plan needs, lacks and clears exactly where the definitions' does.
-use Rattle.std.proofs.Common.{◌≡◌, ◌↔◌, ℕ, Bool, true, false, Option, Some, None, List, refl, sym, ap, ◌∙◌, subst}
+use Rattle.std.proofs.Common.{◌≡◌, ◌↔◌, ℕ, Bool, true, false, Option, Some, None, List, refl, sym, ap, subst}
 use Rattle.std.specs.Option.{option_map}
 use Rattle.frang_base.specs.declared.op.Op.{Op}
 use Rattle.frang_base.specs.declared.sector.Sector.{Sector as CodeSector}
 use Rattle.meta_version.specs.declared.plan.Plan.{Plan as CodePlan}
 use Rattle.meta_version.specs.declared.plan.Plan.TheVariants as code
 use Rattle.tree_definitions.specs.Tree.{FileTree}
-use Rattle.sector_bytes.specs.Sectors.{Sectors}
 use Rattle.disk_definitions.specs.Store.{Store, store_of}
 use Rattle.pick_definitions.specs.Held.{Segments}
 use Rattle.pick_definitions.specs.Picks.{picked_directory}
@@ -23,7 +22,6 @@ use Rattle.dir_lookup.specs.Planned.{planned}
 use Rattle.plan_space.specs.Wants.{Wants, wants}
 use Rattle.plan_space.specs.Exact.{FindsNothing}
 use Rattle.plan_space.proofs.AllPlans.{lacks_exactly, clears_exactly}
-use Rattle.plan_definitions.specs.OnDisk.{AreOfDisk, StandsBelow}
 use Rattle.plan_standing.proofs.OfDisk.{of_tree, is_hand}
 use Rattle.plan_standing.proofs.Zeroed.{zero_places}
 use Rattle.plan_standing.proofs.AtHand.{agrees}
@@ -73,16 +71,16 @@ module _ (cached : Cached) (held : Segments) (all : Bool) (tree : FileTree) (o :
   is_exact missing = record { need = needs missing; segments = segments missing; clear = cleared missing }
 
 pub planned_exact : PlannedIsExact
-planned_exact o birth cached held all disk tree of below =
+planned_exact o birth when cached held all disk tree of below =
     let s : Store = store_of tree.segments disk in
     let h : Hand = hand_of cached held all in
-    let plan : Ask Plan = plan_of h birth o in
+    let plan : Ask Plan = plan_of h birth when o in
     let hand : IsHandOf h s tree.segments = is_hand disk tree below cached held all of (λ k p e l. zero_places cached disk of.as_cached tree.segments k p e l) in
     let missing : Option Sector = first_missing (at_hand cached held) (looks plan s) in
     let e : meet plan (at_hand cached held) ≡ unless_missing missing (run plan s) =
-    meets_where plan (at_hand cached held) s (agrees cached held tree.segments disk of.as_cached below.whole (looks plan s) (all_inside o h s tree below.stands.naming birth (of_tree disk tree below) hand)) in
+    meets_where plan (at_hand cached held) s (agrees cached held tree.segments disk of.as_cached below.whole (looks plan s) (all_inside o h s tree below.stands.naming birth when (of_tree disk tree below) hand)) in
     subst (λ p. CodeIsExact cached held all tree o missing (planned cached held (numbered p))) (sym e)
     (is_exact cached held all tree o (run plan s)
-    (lacks_exactly o h s tree below.stands.naming birth (of_tree disk tree below))
-    (clears_exactly o h s tree below.stands.naming birth (of_tree disk tree below))
+    (lacks_exactly o h s tree below.stands.naming birth when (of_tree disk tree below))
+    (clears_exactly o h s tree below.stands.naming birth when (of_tree disk tree below))
     missing)

@@ -1,5 +1,5 @@
 -- The code's plan stands as the definitions' does.
-use Rattle.std.proofs.Common.{◌≡◌, ℕ, Bool, Option, Some, None, List, [], ◌∷◌, map, refl, sym, ap, ap₂, ◌∙◌, subst}
+use Rattle.std.proofs.Common.{◌≡◌, ℕ, Bool, Option, List, [], ◌∷◌, map, refl, sym, ap, subst}
 use Rattle.std.specs.Option.{option_map}
 use Rattle.sector_bytes.specs.Sectors.{Sectors}
 use Rattle.disk_definitions.specs.Standing.{StandsFor}
@@ -34,5 +34,5 @@ by_met cached held all disk a missing (Has (Finishes f)) m = (
 )
 
 pub planned_stands : PlannedStands
-planned_stands o birth cached held all p small disk tree m allowed of below new count =
-    by_met cached held all disk _ _ (meet (plan_of (hand_of cached held all) birth o) (at_hand cached held)) (all_stand o p cached held all disk tree birth m allowed of below new small count)
+planned_stands o birth when cached held all p small timely disk tree m allowed of below new count =
+    by_met cached held all disk _ _ (meet (plan_of (hand_of cached held all) birth when o) (at_hand cached held)) (all_stand o p cached held all disk tree birth when m allowed of below new small timely count)

@@ -2,36 +2,31 @@
 use Rattle.std.proofs.Common.{◌≡◌, ℕ, ◌+◌, ◌-◌, ◌/◌, ◌*◌, ◌^◌, ◌<◌, ◌≤◌, Bool, true, false, nat_lt, Option, Some, None, List, [], ◌∷◌, if◌then◌else◌, is_some, refl, sym, ap, ◌∙◌, subst, arith}
 use Rattle.std.specs.List.{AllByRecursion, list_all, filter_map, cons_option}
 use Rattle.std.proofs.lemmas.Bool.Decides.{nat_tests}
-use Rattle.frang_base.specs.declared.op.Op.{Op}
 use Rattle.frang_base.specs.declared.bitmap.Bitmap.{Bitmap}
-use Rattle.sector_definitions.specs.declared.region.Region.TheVariants as region
 use Rattle.sector_bytes.specs.Bytes.{number_at}
-use Rattle.sector_definitions.specs.Regions.{sector_of}
-use Rattle.tree_definitions.specs.Tree.{FileTree, node_at}
 use Rattle.sector_bytes.specs.Sectors.{Sectors}
 use Rattle.disk_definitions.specs.Store.{Store, store_of}
 use Rattle.disk_definitions.specs.Standing.{version_at}
 use Rattle.store_changes.specs.Edits.{Edit, edited_all}
 use Rattle.store_changes.specs.Edits.Edit.{SetInode, SetBit, SetUse, SetPlace, SetLarge, SetBytes, SetLargeBytes}
-use Rattle.pick_definitions.specs.Held.{Segments, AreSegments, bitmap_of}
-use Rattle.plan_definitions.specs.Ask.{Sector, Ask, Met, run, looks, meet}
+use Rattle.pick_definitions.specs.Held.{Segments, bitmap_of}
+use Rattle.plan_definitions.specs.Ask.{Sector, Ask, run, looks, meet}
 use Rattle.plan_definitions.specs.Plans.{Hand, Plan, Finish, Finishes}
 use Rattle.plan_definitions.specs.PlanOf.{plan_of}
-use Rattle.plan_definitions.specs.Written.{hand_of, Cached, at_hand, sectors_at_hand, edit_sector, is_metadata, metadata_sector}
+use Rattle.plan_definitions.specs.Written.{hand_of, at_hand, sectors_at_hand, edit_sector, is_metadata, metadata_sector}
 use Rattle.plan_definitions.specs.Missing.{first_missing, unless_missing}
 use Rattle.plan_looks.proofs.Deciding.{meets_where}
 use Rattle.plan_looks.proofs.AllInside.{all_inside}
-use Rattle.dir_lookup.specs.Reading.{Read, Lacks, Gives, numbered}
+use Rattle.dir_lookup.specs.Reading.{Gives, numbered}
 use Rattle.plan_definitions.specs.FitEdits.{AreFit, IsFitEdit, MeetsUse}
 use Rattle.plan_definitions.specs.Ready.{IsReady}
 use Rattle.plan_definitions.specs.FitPlans.{PlanIsFit, IsFitFinish}
-use Rattle.plan_standing.proofs.OfDisk.{few, of_tree, is_hand}
-use Rattle.plan_standing.proofs.Zeroed.{zero_places}
+use Rattle.plan_standing.proofs.OfDisk.{few, of_tree}
 use Rattle.plan_standing.proofs.AtHand.{agrees}
 use Rattle.plan_standing.proofs.Edited.{where_edited, hand}
 use Rattle.plan_standing.proofs.Operations.{all_fit}
 use Rattle.plan_standing.proofs.Written.{fit_store, ready}
-use Rattle.code_plan_laws.specs.CodeStands.{IsOverADisk, HasNextVersions, HoldsSegments}
+use Rattle.code_plan_laws.specs.CodeStands.{HasNextVersions, HoldsSegments}
 
 some_held : (held : Segments) (k : ℕ) (x : Bitmap) → bitmap_of held k ≡ Some x → is_some (bitmap_of held k) ≡ true
 some_held held k x e = ap is_some e
@@ -47,8 +42,8 @@ module _ (most segments : ℕ) (sectors : Sectors) (edits : List Edit) (r : IsRe
 
   -- the sector of a fit edit has a bounded version
   bounded : (e : Edit) → is_metadata e ≡ true → IsFitEdit segments e → MeetsUse end e → version_at sectors (edit_sector e) ≤ most
-  bounded (SetInode i None) m f u = r.versions.inodes i f
-  bounded (SetInode i (Some x)) m f u = r.versions.inodes i f.0
+  bounded (SetInode i None dated) m f u = r.versions.inodes i f
+  bounded (SetInode i (Some x) dated) m f u = r.versions.inodes i f.0
   bounded (SetBit i b) m f u = let l : i < 64 * segments = f in r.versions.bitmaps (i / 64) (omega arith)
   bounded (SetUse k v) m f u = let l : k < 1024 * segments = f in r.versions.bitmaps (k / 1024) (omega arith)
   bounded (SetPlace k p None) m f u = let l : p < 56 = f.1 in r.directory_versions k (p / 7) f.0 (omega arith) u
@@ -75,17 +70,17 @@ given (Some x) p f e = absurd (cc)
 given None p f e = (refl, cc)
 
 pub next_versions : HasNextVersions
-next_versions o birth cached held all f p small d e =
+next_versions o birth when cached held all f p small timely d e =
     let s : Store = store_of d.tree.segments d.disk in
     let h : Hand = hand_of cached held all in
-    let plan : Ask Plan = plan_of h birth o in
-    let at = hand o cached held all d.disk d.tree birth d.at_hand d.stands in
+    let plan : Ask Plan = plan_of h birth when o in
+    let at = hand o cached held all d.disk d.tree birth when d.at_hand d.stands in
     let missing : Option Sector = first_missing (at_hand cached held) (looks plan s) in
     let is : meet plan (at_hand cached held) ≡ unless_missing missing (run plan s) =
-    meets_where plan (at_hand cached held) s (agrees cached held d.tree.segments d.disk d.at_hand.as_cached d.stands.whole (looks plan s) (all_inside o h s d.tree d.stands.stands.naming birth (of_tree d.disk d.tree d.stands) at)) in
+    meets_where plan (at_hand cached held) s (agrees cached held d.tree.segments d.disk d.at_hand.as_cached d.stands.whole (looks plan s) (all_inside o h s d.tree d.stands.stands.naming birth when (of_tree d.disk d.tree d.stands) at)) in
     let g = given missing (run plan s) f (sym (ap numbered is) ∙ e) in
     let fits : IsFitFinish h d.tree.segments s f =
-    subst (PlanIsFit h d.tree.segments s) g.1 (all_fit o p h s d.tree d.stands.stands.naming birth (of_tree d.disk d.tree d.stands) at (fit_store cached held all d.disk d.tree d.at_hand d.stands) small d.allowed) in
+    subst (PlanIsFit h d.tree.segments s) g.1 (all_fit o p h s d.tree d.stands.stands.naming birth when (of_tree d.disk d.tree d.stands) at (fit_store cached held all d.disk d.tree d.at_hand d.stands) small timely d.allowed) in
     let r = ready cached held all d.disk d.tree d.at_hand d.stands f fits in
     all_below d.stands.most d.tree.segments d.disk f.edits r (sectors_at_hand cached held) f.edits fits.edits
-    (where_edited o cached held all d.disk d.tree birth d.at_hand d.stands g.0 f g.1 f.edits (λ e h. h))
+    (where_edited o cached held all d.disk d.tree birth when d.at_hand d.stands g.0 f g.1 f.edits (λ e h. h))

@@ -48,16 +48,16 @@ CodeStands cached held all disk a missing plan.Segments = (missing ≡ None) × 
 CodeStands cached held all disk a missing (plan.Clear k) = (missing ≡ None) × (must_clear (hand_of cached held all) k ≡ true)
 CodeStands cached held all disk a missing (plan.Done reply changes bytes freed) = (missing ≡ None) × DoneStands disk a reply changes bytes
 
--- so it is of this plan of an operation at a new birth, over every disk that stands for a tree and of which the sectors and bitmaps are
-abbrev pub StandsOverDisks : Op → ℕ → Cached → Segments → Bool → CodePlan → Type 0
-StandsOverDisks o birth cached held all p = (disk : Sectors) (tree : FileTree) (m : ℕ) → IsAllowed o → AreOfDisk cached held all tree.segments disk → StandsBelow disk tree → IsNew tree birth →
+-- so it is of this plan of an operation at a new birth and a time, over every disk that stands for a tree and of which the sectors and bitmaps are
+abbrev pub StandsOverDisks : Op → ℕ → ℕ → Cached → Segments → Bool → CodePlan → Type 0
+StandsOverDisks o birth when cached held all p = (disk : Sectors) (tree : FileTree) (m : ℕ) → IsAllowed o → AreOfDisk cached held all tree.segments disk → StandsBelow disk tree → IsNew tree birth →
     m ≡ directory_blocks_in (store_of tree.segments disk) tree.segments →
-    CodeStands cached held all disk (apply tree o birth m) (first_missing (at_hand cached held) (looks (plan_of (hand_of cached held all) birth o) (store_of tree.segments disk))) p
+    CodeStands cached held all disk (apply tree o birth when m) (first_missing (at_hand cached held) (looks (plan_of (hand_of cached held all) birth when o) (store_of tree.segments disk))) p
 
 -- the definitions' plan, as the code has it, is such a one
 abbrev pub PlannedStands : Type 0
-PlannedStands = (o : Op) (birth : ℕ) (cached : Cached) (held : Segments) (all : Bool) → HasPath o → birth < 2 ^ 64 →
-    StandsOverDisks o birth cached held all (planned cached held (reading (plan_of (hand_of cached held all) birth o) cached held))
+PlannedStands = (o : Op) (birth when : ℕ) (cached : Cached) (held : Segments) (all : Bool) → HasPath o → birth < 2 ^ 64 → when < 2 ^ 64 →
+    StandsOverDisks o birth when cached held all (planned cached held (reading (plan_of (hand_of cached held all) birth when o) cached held))
 
 -- ---- exactly where
 
@@ -74,14 +74,14 @@ pub record CodeIsExact (cached : Cached) (held : Segments) (all : Bool) (tree : 
   pub clear : (k : ℕ) → (p ≡ plan.Clear k) ↔ TakesBy tree o missing (λ w. (w.grows ≡ true) × (FindsNothing held w → ⊥) × (picked_directory held ≡ Some k) × (must_clear (hand_of cached held all) k ≡ true))
 
 -- so it is of this plan over every such disk
-abbrev pub IsExactOverDisks : Op → ℕ → Cached → Segments → Bool → CodePlan → Type 0
-IsExactOverDisks o birth cached held all p = (disk : Sectors) (tree : FileTree) → AreOfDisk cached held all tree.segments disk → StandsBelow disk tree →
-    CodeIsExact cached held all tree o (first_missing (at_hand cached held) (looks (plan_of (hand_of cached held all) birth o) (store_of tree.segments disk))) p
+abbrev pub IsExactOverDisks : Op → ℕ → ℕ → Cached → Segments → Bool → CodePlan → Type 0
+IsExactOverDisks o birth when cached held all p = (disk : Sectors) (tree : FileTree) → AreOfDisk cached held all tree.segments disk → StandsBelow disk tree →
+    CodeIsExact cached held all tree o (first_missing (at_hand cached held) (looks (plan_of (hand_of cached held all) birth when o) (store_of tree.segments disk))) p
 
 -- the definitions' plan, as the code has it, is such a one
 abbrev pub PlannedIsExact : Type 0
-PlannedIsExact = (o : Op) (birth : ℕ) (cached : Cached) (held : Segments) (all : Bool) →
-    IsExactOverDisks o birth cached held all (planned cached held (reading (plan_of (hand_of cached held all) birth o) cached held))
+PlannedIsExact = (o : Op) (birth when : ℕ) (cached : Cached) (held : Segments) (all : Bool) →
+    IsExactOverDisks o birth when cached held all (planned cached held (reading (plan_of (hand_of cached held all) birth when o) cached held))
 
 -- ---- versions
 
@@ -96,8 +96,8 @@ pub record IsOverADisk (o : Op) (birth : ℕ) (cached : Cached) (held : Segments
 
 -- each sector with a version that the edits of a finished plan change has a version below the largest number of eight bytes
 abbrev pub HasNextVersions : Type 0
-HasNextVersions = (o : Op) (birth : ℕ) (cached : Cached) (held : Segments) (all : Bool) (f : Finish) → HasPath o → birth < 2 ^ 64 → IsOverADisk o birth cached held all →
-    reading (plan_of (hand_of cached held all) birth o) cached held ≡ Gives (Finishes f) →
+HasNextVersions = (o : Op) (birth when : ℕ) (cached : Cached) (held : Segments) (all : Bool) (f : Finish) → HasPath o → birth < 2 ^ 64 → when < 2 ^ 64 → IsOverADisk o birth cached held all →
+    reading (plan_of (hand_of cached held all) birth when o) cached held ≡ Gives (Finishes f) →
     list_all (λ sector. nat_lt (version_at (sectors_at_hand cached held) sector) (2 ^ 64 - 1)) (filter_map metadata_sector f.edits) ≡ true
 
 -- each held segment of a disk is one of the 64 that a disk may have

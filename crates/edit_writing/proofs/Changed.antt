@@ -1,5 +1,6 @@
 -- The change of a sector by its own block, and the versions of the sectors that are changed.
 use Rattle.std.proofs.Common.{◌≡◌, ◌<◌, ◌+◌, ◌++◌, ℕ, Bool, true, Option, Some, None, List, [], ◌∷◌, fold, length, drop, slice_index_or, nat_lt, arith, drop-cons, add-one, append_assoc, append-nil, refl, sym, subst, ap, ◌∙◌}
+use Rattle.std.proofs.Math.Path.{fun_ext}
 use Rattle.std.proofs.lemmas.Bool.Decides.{nat_tests}
 use Rattle.std.proofs.lemmas.List.Elements.{All-nil, All-head, All-tail, All-drop}
 use Rattle.std.proofs.lemmas.List.{drop-map}
@@ -9,22 +10,24 @@ use Rattle.std.specs.List.{All, cons_option, filter_map, list_all}
 use Rattle.std.specs.Map.{keys_of}
 use Rattle.std.specs.Ordering.{nat_cmp}
 use Rattle.sector_bytes.specs.Bytes.{number_at}
-use Rattle.sector_bytes.specs.Patches.{patches_of}
+use Rattle.sector_bytes.specs.Patches.{patches_with}
 use Rattle.sector_bytes.specs.Sectors.{Sectors}
 use Rattle.disk_definitions.specs.Standing.{version_at}
 use Rattle.store_changes.specs.Edits.{Edit}
-use Rattle.plan_definitions.specs.Written.{all_edited, change_by, change_of, edited_sectors, with_number}
+use Rattle.plan_definitions.specs.Written.{all_edited, change_by, change_of, edited_sectors, forced_in, with_number}
 use Rattle.edit_writing.specs.Sectors.{edited_at}
 
 all_edited_at : (sectors : Sectors) (edits : List Edit) (sector : ℕ) → all_edited sectors edits sector ≡ fold (edited_at sector) (sectors sector) edits
 all_edited_at sectors [] sector = refl
 all_edited_at sectors (e ∷ edits) sector = all_edited_at (edited_sectors sectors e) edits sector
 
-pub same_change : (sectors : Sectors) (edits : List Edit) (sector : ℕ) (old new : List ℕ) → old ≡ sectors sector → new ≡ fold (edited_at sector) old edits
-    → change_by sector (number_at 8 0 old + 1) (patches_of old new) ≡ change_of sectors (all_edited sectors edits) sector
-same_change sectors edits sector old new o n =
-    ap (λ (b : List ℕ). change_by sector (number_at 8 0 b + 1) (patches_of b new)) o
-    ∙ ap (λ (b : List ℕ). change_by sector (version_at sectors sector + 1) (patches_of (sectors sector) b)) (n ∙ ap (λ (b : List ℕ). fold (edited_at sector) b edits) o ∙ sym (all_edited_at sectors edits sector))
+pub same_change : (sectors : Sectors) (edits : List Edit) (sector : ℕ) (old new : List ℕ) (forced : ℕ → Bool) → ((at : ℕ) → forced at ≡ forced_in edits sector at)
+    → old ≡ sectors sector → new ≡ fold (edited_at sector) old edits
+    → change_by sector (number_at 8 0 old + 1) (patches_with forced old new) ≡ change_of edits sectors (all_edited sectors edits) sector
+same_change sectors edits sector old new forced f o n =
+    ap (λ (b : List ℕ). change_by sector (number_at 8 0 b + 1) (patches_with forced b new)) o
+    ∙ ap (λ (b : List ℕ). change_by sector (version_at sectors sector + 1) (patches_with forced (sectors sector) b)) (n ∙ ap (λ (b : List ℕ). fold (edited_at sector) b edits) o ∙ sym (all_edited_at sectors edits sector))
+    ∙ ap (λ (p : ℕ → Bool). change_by sector (version_at sectors sector + 1) (patches_with p (sectors sector) (all_edited sectors edits sector))) (fun_ext f)
 
 -- what holds of each number holds of each once they are put in order
 numbers_all : (test : ℕ → Bool) (m : List (ℕ × ℕ)) (ns : List ℕ) → All (λ n. test n ≡ true) (keys_of m) → All (λ n. test n ≡ true) ns → All (λ n. test n ≡ true) (keys_of (fold with_number m ns))

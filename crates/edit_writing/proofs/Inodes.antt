@@ -7,7 +7,7 @@ use Rattle.disk_definitions.specs.Store.{stored}
 use Rattle.plan_definitions.specs.Written.{inode_with, padded}
 
 pub same_inode : (version : ℕ) (x : Inode) (target : List ℕ) → length x.small ≡ 16 → target ≡ padded 384 ((stored x).target)
-    → ◌≡◌ {A = Inode} (record { version = version; kind = x.kind; links = x.links; blocks = x.blocks; size = x.size; birth = x.birth; small = x.small; large = x.large; target = target }) (inode_with version (Some (stored x)))
+    → ◌≡◌ {A = Inode} (record { version = version; kind = x.kind; links = x.links; blocks = x.blocks; size = x.size; birth = x.birth; small = x.small; large = x.large; when = x.when; target = target }) (inode_with version (Some (stored x)))
 same_inode version x target e h =
-    ap (λ (s : List ℕ). record { version = version; kind = x.kind; links = x.links; blocks = x.blocks; size = x.size; birth = x.birth; small = s; large = x.large; target = target }) (sym (all_numbers x.small 16 e))
-    ∙ ap (λ (t : List ℕ). record { version = version; kind = x.kind; links = x.links; blocks = x.blocks; size = x.size; birth = x.birth; small = map (slice_index x.small) (below 16); large = x.large; target = t }) h
+    ap (λ (s : List ℕ). record { version = version; kind = x.kind; links = x.links; blocks = x.blocks; size = x.size; birth = x.birth; small = s; large = x.large; when = x.when; target = target }) (sym (all_numbers x.small 16 e))
+    ∙ ap (λ (t : List ℕ). record { version = version; kind = x.kind; links = x.links; blocks = x.blocks; size = x.size; birth = x.birth; small = map (slice_index x.small) (below 16); large = x.large; when = x.when; target = t }) h

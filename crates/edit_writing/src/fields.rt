@@ -44,6 +44,7 @@ fn free_inode(version: u64) -> Inode
         birth: 0,
         small: no_blocks(),
         large: 0,
+        when: 0,
         target: no_target(),
     }
 }

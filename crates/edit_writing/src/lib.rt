@@ -6,6 +6,7 @@
 mod at_hand;
 mod bytes;
 mod changes;
+mod dated;
 mod edited;
 mod ended;
 mod fields;

@@ -26,22 +26,22 @@ from_place xs from (suc n) l =
     ∙ ap (λ (x : ℕ). take n (drop from xs) ++ x ∷ []) (sym (get_or-drop from xs n 0))
     ∙ sym (take-suc (drop from xs) n 0 d)
 
-module _ (len i : ℕ) (touched : List ℕ) (x : StoredNode) (hand : Hand) where
-  pub past_the_end : x.size < len → IsDone reply.BadOffset [] (over (cutting len i touched x) hand)
+module _ (when len i : ℕ) (touched : List ℕ) (x : StoredNode) (hand : Hand) where
+  pub past_the_end : x.size < len → IsDone reply.BadOffset [] (over (cutting when len i touched x) hand)
   past_the_end l =
       let t : nat_lt x.size len ≡ true = grind (arith, nat_tests) in
-      (shared_nodes touched, ap (λ (b : Bool). over (cond b (refused reply.BadOffset touched) (finish_over (cut_segments x len) (cut_by i touched x len))) hand) t)
+      (shared_nodes touched, ap (λ (b : Bool). over (cond b (refused reply.BadOffset touched) (finish_over (cut_segments x len) (cut_by when i touched x len))) hand) t)
 
-  within : len ≤ x.size → over (cutting len i touched x) hand ≡ over (finish_over (cut_segments x len) (cut_by i touched x len)) hand
+  within : len ≤ x.size → over (cutting when len i touched x) hand ≡ over (finish_over (cut_segments x len) (cut_by when i touched x len)) hand
   within l =
       let t : nat_lt x.size len ≡ false = grind (arith, nat_tests) in
-      ap (λ (b : Bool). over (cond b (refused reply.BadOffset touched) (finish_over (cut_segments x len) (cut_by i touched x len))) hand) t
+      ap (λ (b : Bool). over (cond b (refused reply.BadOffset touched) (finish_over (cut_segments x len) (cut_by when i touched x len))) hand) t
 
   pub cut_done : (edits : List Edit) → len ≤ x.size → ((finish : Finish) → over (finish_over (cut_segments x len) finish) hand ≡ Gives (Finishes finish))
-      → edits ≡ (cut_by i touched x len).edits → IsDone reply.Ok edits (over (cutting len i touched x) hand)
+      → edits ≡ (cut_by when i touched x len).edits → IsDone reply.Ok edits (over (cutting when len i touched x) hand)
   cut_done edits l h e =
-      let finish = cut_by i touched x len in
+      let finish = cut_by when i touched x len in
       (finish.locks, within l ∙ h finish ∙ ap (λ (edits : List Edit). Gives (Finishes (record { reply = reply.Ok; edits = edits; locks = finish.locks }))) (sym e))
 
-  pub cut_lacks : (s : ℕ) → len ≤ x.size → ((finish : Finish) → over (finish_over (cut_segments x len) finish) hand ≡ Lacks s) → over (cutting len i touched x) hand ≡ Lacks s
-  cut_lacks s l h = within l ∙ h (cut_by i touched x len)
+  pub cut_lacks : (s : ℕ) → len ≤ x.size → ((finish : Finish) → over (finish_over (cut_segments x len) finish) hand ≡ Lacks s) → over (cutting when len i touched x) hand ≡ Lacks s
+  cut_lacks s l h = within l ∙ h (cut_by when i touched x len)

@@ -9,7 +9,7 @@ use Rattle.store_changes.specs.Edits.{Edit}
 use Rattle.store_changes.specs.Edits.Edit.{SetUse}
 use Rattle.plan_definitions.specs.Ask.{Ask, Got}
 use Rattle.plan_definitions.specs.Plans.{Lock, Plan, Finishes, shared_nodes, sole_nodes, sole_segments}
-use Rattle.plan_definitions.specs.FilePlans.{Writing, end_of, large_segment, large_taken, resized, sectors_met, size_edits, write_sectors, writing_in, written_by}
+use Rattle.plan_definitions.specs.FilePlans.{Writing, end_of, file_dated, large_segment, large_taken, resized, sectors_met, write_sectors, writing_in, written_by}
 use Rattle.dir_lookup.specs.Hands.{over}
 use Rattle.dir_lookup.specs.declared.hand.Hand.{Hand}
 use Rattle.plan_steps.specs.Edits.{edits_of}
@@ -20,7 +20,7 @@ use Rattle.plan_steps.specs.declared.stop.Stop.TheVariants as stop
 use Rattle.op_data.specs.Writings.{WritesSectors, write_behind}
 
 module _ (hand : Hand) (w : Writing) (i : ℕ) (touched : List ℕ) (x y : StoredNode) (picks : List ℕ) (large : Option ℕ) (items : List CodeEdit)
-    (same : y ≡ resized x (max x.size (end_of w)) picks large) (is : edits_of items ≡ map (λ k. SetUse k Bytes) picks ++ (large_taken large ++ size_edits i x y)) where
+    (same : y ≡ resized x w.when (max x.size (end_of w)) picks large) (is : edits_of items ≡ map (λ k. SetUse k Bytes) picks ++ (large_taken large ++ file_dated i y)) where
   -- the locks of the finished plan
   locks : List Lock
   locks = shared_nodes touched ++ sole_nodes (i ∷ []) ++ sole_segments (map (λ k. k / 1024) picks ++ large_segment large)
@@ -32,13 +32,13 @@ module _ (hand : Hand) (w : Writing) (i : ℕ) (touched : List ℕ) (x y : Store
   joined : (a b c d : List Edit) → a ++ b ++ c ++ d ≡ (a ++ (b ++ c)) ++ d
   joined a b c d = simp append_assoc
 
-  written : (bytes : List Edit) → Got (Finishes (written_by i x y picks large touched bytes)) ≡ done (edits_of items ++ bytes)
+  written : (bytes : List Edit) → Got (Finishes (written_by i y picks large touched bytes)) ≡ done (edits_of items ++ bytes)
   unfolding done locks
-  written bytes = ap done (joined (map (λ k. SetUse k Bytes) picks) (large_taken large) (size_edits i x y) bytes ∙ ap (λ before. before ++ bytes) (sym is))
+  written bytes = ap done (joined (map (λ k. SetUse k Bytes) picks) (large_taken large) (file_dated i y) bytes ∙ ap (λ before. before ++ bytes) (sym is))
 
   behind : over (writing_in w i touched x picks large) hand ≡ over (write_behind w x y (edits_of items) done) hand
   behind =
-      ap (λ y. over (write_sectors w x y (w.off / 512) (sectors_met w.off w.len) (λ bytes. Got (Finishes (written_by i x y picks large touched bytes)))) hand) (sym same)
+      ap (λ y. over (write_sectors w x y (w.off / 512) (sectors_met w.off w.len) (λ bytes. Got (Finishes (written_by i y picks large touched bytes)))) hand) (sym same)
       ∙ ap (λ g. over (write_sectors w x y (w.off / 512) (sectors_met w.off w.len) g) hand) (fun_ext written)
 
   pub sectors_stop : (e : Stop) → WritesSectors hand w x y items (Err e) → Stops (over (writing_in w i touched x picks large) hand) e

@@ -1,5 +1,5 @@
 -- What the code writes in the definitions of plans, and what its steps come to.
-use Rattle.std.specs.Prelude.{◌≡◌, ℕ, ◌-◌, ◌/◌, Bool, if◌then◌else◌, Result, Ok, Err, List, [], ◌∷◌, ◌++◌, length, slice_index}
+use Rattle.std.specs.Prelude.{◌≡◌, ℕ, ◌-◌, ◌/◌, if◌then◌else◌, Result, Ok, Err, List, [], ◌∷◌, ◌++◌, slice_index}
 use Rattle.std.specs.Global.{Vec}
 use Rattle.frang_base.specs.declared.limits.TheConstants.{SECTOR_BYTES}
 use Rattle.disk_definitions.specs.Store.{StoredNode}
@@ -27,7 +27,7 @@ byte_of (bytes.Same len byte) i = byte
 
 -- what is written, as the definitions have it
 abbrev pub writing_of : CodeWriting → Writing
-writing_of w = record { off = w.off; len = size_of w.bytes; byte = λ j. byte_of w.bytes (j - w.off) }
+writing_of w = record { off = w.off; len = size_of w.bytes; when = w.when; byte = λ j. byte_of w.bytes (j - w.off) }
 
 -- what stands around the bytes in a sector, or the sector is needed
 abbrev pub FindsAround : Hand → Writing → StoredNode → ℕ → Result (List ℕ) Need → Type 0

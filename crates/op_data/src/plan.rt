@@ -22,37 +22,40 @@ use std::alloc::Global;
 use tree_edits::Bytes;
 
 /// The plan of an operation on file bytes over the cached sectors and the bitmaps of the held segments; `all` says whether these are all segments of the
-/// disk. `Need` names the first sector that is looked at and isn't cached, and the sector of a segment that isn't held; `Segments` comes exactly where an
+/// disk. `when` is the time of the operation, its run in the upper 32 bits and the tick of the run in the lower ones, which a file that is written or cut
+/// gets. `Need` names the first sector that is looked at and isn't cached, and the sector of a segment that isn't held; `Segments` comes exactly where an
 /// allocation finds nothing and not all segments are held; `Done` has the reply, the changes and the bytes that make it, and the sectors of the blocks
 /// that are freed. The sectors and the bitmaps have to be those of one disk that stands for a tree. Its one refusal is want of memory.
 pub fn plan_data(
     alloc: Global,
     op: &Op,
+    when: u64,
     sectors: &Sectors,
     held: &Held,
     all: bool,
 ) -> Result<Plan, NoMemory>
     requires bytes { IsOfBytes op.now }
     requires disk { IsOverADiskForBytes op.now sectors.now.entries held.now all }
-    ensures is { (birth : ℕ) → IfOk result (λ plan. plan ≡ planned sectors.now.entries held.now (reading (plan_of (hand_of sectors.now.entries held.now all) birth op.now) sectors.now.entries held.now)) }
-    ensures stands { (birth : ℕ) → birth < 2 ^ 64 → IfOk result (StandsOverDisks op.now birth sectors.now.entries held.now all) }
-    ensures exact { (birth : ℕ) → birth < 2 ^ 64 → IfOk result (IsExactOverDisks op.now birth sectors.now.entries held.now all) }
+    ensures is { (birth : ℕ) → IfOk result (λ plan. plan ≡ planned sectors.now.entries held.now (reading (plan_of (hand_of sectors.now.entries held.now all) birth when op.now) sectors.now.entries held.now)) }
+    ensures stands { (birth : ℕ) → birth < 2 ^ 64 → IfOk result (StandsOverDisks op.now birth when sectors.now.entries held.now all) }
+    ensures exact { (birth : ℕ) → birth < 2 ^ 64 → IfOk result (IsExactOverDisks op.now birth when sectors.now.entries held.now all) }
 {
     let hand = Hand { sectors, held, all };
-    let ended = plan_bytes(alloc, op, &hand);
+    let ended = plan_bytes(alloc, op, when, &hand);
     finish(alloc, &hand, ended)
 }
 
-/// How the plan of an operation on file bytes ends over what is at hand, which needn't be of any disk: with the reply and the edits that
-/// make it, or with what it needs or is refused with.
-pub fn plan_bytes(alloc: Global, op: &Op, hand: &Hand) -> Result<Outcome, Stop>
+/// How the plan of an operation on file bytes, at the time `when`, ends over what is at hand, which needn't be of any disk: with the reply and
+/// the edits that make it, or with what it needs or is refused with. A file that is written or cut always has its inode among the edits.
+pub fn plan_bytes(alloc: Global, op: &Op, when: u64, hand: &Hand) -> Result<Outcome, Stop>
     requires { IsOfBytes op.now }
-    ensures { (birth : ℕ) → Comes (over (plan_of (seen hand.now) birth op.now) hand.now) result }
+    ensures { (birth : ℕ) → Comes (over (plan_of (seen hand.now) birth when op.now) hand.now) result }
 {
     match op {
         Op::Write { path, off, bytes } => {
+            let off = *off;
             let bytes = Bytes::Text(bytes.as_slice());
-            write_file(alloc, hand, path, &Writing { off: *off, bytes })
+            write_file(alloc, hand, path, &Writing { off, when, bytes })
         }
         Op::Fill {
             path,
@@ -60,11 +63,11 @@ pub fn plan_bytes(alloc: Global, op: &Op, hand: &Hand) -> Result<Outcome, Stop>
             len,
             byte,
         } => {
-            let (len, byte) = (*len, *byte);
+            let (off, len, byte) = (*off, *len, *byte);
             let bytes = Bytes::Same { len, byte };
-            write_file(alloc, hand, path, &Writing { off: *off, bytes })
+            write_file(alloc, hand, path, &Writing { off, when, bytes })
         }
-        Op::Truncate { path, len } => truncate_file(alloc, hand, path, *len),
+        Op::Truncate { path, len } => truncate_file(alloc, hand, path, when, *len),
         Op::Read { path, off, len } => {
             let reply = read_file(alloc, hand, path, *off, *len)?;
             Ok(Outcome::unchanged(alloc, reply))

@@ -1,17 +1,16 @@
-// The inode of a file that has another size, and the edits that take blocks for it.
+// The inode of a file that is written, and the edits that take blocks for it.
 ghost use Rattle.std.specs.Prelude.{◌≡◌, ◌≤◌, ◌<◌, ◌-◌, ◌++◌, IfOk, IfSome, OnOk, length, map, slice_index};
 ghost use Rattle.frang_base.specs.declared.limits.TheConstants.{INODE_BLOCKS_MAX, SEGMENTS_MAX};
 ghost use Rattle.disk_definitions.specs.Store.Use.{Bytes};
 ghost use Rattle.disk_definitions.specs.Store.{stored};
 ghost use Rattle.store_changes.specs.Edits.Edit.{SetUse};
 ghost use Rattle.tree_definitions.specs.Tree.{small_blocks_of};
-ghost use Rattle.plan_definitions.specs.FilePlans.{large_after, large_taken, resized, size_edits, small_after};
+ghost use Rattle.plan_definitions.specs.FilePlans.{file_dated, large_after, large_taken, resized, small_after};
 ghost use Rattle.plan_steps.specs.Edits.{edits_of};
 ghost use Rattle.op_data.specs.Files.{IsFile};
 
 use crate::shorter::blocks_of;
 use bitmap_alloc::BlockState;
-use dir_lookup::NumberedInode;
 use frang_base::NoMemory;
 use frang_base::limits::{INODE_BLOCKS_MAX, SMALL_BYTES_MAX};
 use plan_steps::{Edit, push};
@@ -27,12 +26,12 @@ pub(crate) struct NewBlocks<'a> {
     pub large: Option<u32>,
 }
 
-/// The inode of a file with another size and these blocks more.
-pub(crate) fn resized(inode: &Inode, size: u64, more: &NewBlocks) -> Inode
+/// The inode of a file that is written at the time `when`, with its size then and these blocks more.
+pub(crate) fn resized(inode: &Inode, when: u64, size: u64, more: &NewBlocks) -> Inode
     requires file { IsFile inode.now }
     requires picks { small_blocks_of size - inode.now.blocks ≤ length more.now.small.now }
     requires large { IfSome more.now.large (λ g. g < SEGMENTS_MAX) }
-    ensures { stored result ≡ resized (stored inode.now) size more.now.small.now more.now.large }
+    ensures { stored result ≡ resized (stored inode.now) when size more.now.small.now more.now.large }
 {
     let blocks = blocks_of(size);
     Inode {
@@ -40,6 +39,7 @@ pub(crate) fn resized(inode: &Inode, size: u64, more: &NewBlocks) -> Inode
         blocks,
         small: small_after(inode, more.small, blocks),
         large: large_after(inode, more.large, size),
+        when,
         ..*inode
     }
 }
@@ -85,19 +85,19 @@ fn large_after(inode: &Inode, large: Option<u32>, size: u64) -> u32
     }
 }
 
-/// The edits of all but the bytes: the blocks are taken, and the inode is written where its size changes.
+/// The edits of all but the bytes: the blocks are taken, and the file's inode is written.
 pub(crate) fn taken(
     alloc: Global,
-    file: &NumberedInode,
+    number: u32,
     new: &Inode,
     more: &NewBlocks,
 ) -> Result<Vec<Edit>, NoMemory>
-    ensures { IfOk result (λ v. edits_of v.items ≡ map (λ k. SetUse k Bytes) more.now.small.now ++ (large_taken more.now.large ++ size_edits file.now.number (stored file.now.inode) (stored new.now))) }
+    ensures { IfOk result (λ v. edits_of v.items ≡ map (λ k. SetUse k Bytes) more.now.small.now ++ (large_taken more.now.large ++ file_dated number (stored new.now))) }
 {
     let mut edits = Vec::new(alloc);
     add_picks(&mut edits, more.small)?;
     add_large(&mut edits, more.large)?;
-    add_inode(&mut edits, file, new)?;
+    add_inode(&mut edits, number, new)?;
     Ok(edits)
 }
 
@@ -123,14 +123,18 @@ fn add_large(edits: &mut Vec<Edit>, large: Option<u32>) -> Result<(), NoMemory>
     Ok(())
 }
 
-// The inode, where its size changes.
-fn add_inode(edits: &mut Vec<Edit>, file: &NumberedInode, new: &Inode) -> Result<(), NoMemory>
-    ensures { OnOk result (edits_of edits.new.items ≡ edits_of edits.old.items ++ size_edits file.now.number (stored file.now.inode) (stored new.now)) }
+/// The inode of a file that is written or cut. Its time goes into the change even where nothing else of it does.
+pub(crate) fn add_inode(edits: &mut Vec<Edit>, number: u32, new: &Inode) -> Result<(), NoMemory>
+    ensures { OnOk result (edits_of edits.new.items ≡ edits_of edits.old.items ++ file_dated number (stored new.now)) }
 {
-    if new.size != file.inode.size {
-        let number = file.number;
-        let inode = Some(*new);
-        push(edits, Edit::Inode { number, inode })?;
-    }
-    Ok(())
+    let inode = Some(*new);
+    let dated = true;
+    push(
+        edits,
+        Edit::Inode {
+            number,
+            inode,
+            dated,
+        },
+    )
 }

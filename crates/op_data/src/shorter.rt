@@ -31,11 +31,11 @@ pub(crate) fn large_past(inode: &Inode, len: u32) -> Option<u32>
     }
 }
 
-/// The file's inode once it has `len` bytes.
-pub(crate) fn shortened(inode: &Inode, len: u32) -> Inode
+/// The file's inode once it is cut to `len` bytes, at the time `when`.
+pub(crate) fn shortened(inode: &Inode, when: u64, len: u32) -> Inode
     requires file { IsFile inode.now }
     requires len { len ≤ inode.now.size }
-    ensures { stored result ≡ resized (stored inode.now) len [] None }
+    ensures { stored result ≡ resized (stored inode.now) when len [] None }
 {
     let blocks = blocks_of(u64::from(len));
     Inode {
@@ -43,6 +43,7 @@ pub(crate) fn shortened(inode: &Inode, len: u32) -> Inode
         blocks,
         small: first_of(&inode.small, blocks),
         large: large_kept(inode, len),
+        when,
         ..*inode
     }
 }

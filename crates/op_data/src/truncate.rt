@@ -2,13 +2,14 @@
 ghost use Rattle.std.specs.Prelude.{◌≡◌, ◌≤◌, ◌++◌, ℕ, List, IfOk, OnOk, map, false, [], None};
 ghost use Rattle.store_changes.specs.Edits.{SetLarge, SetUse};
 ghost use Rattle.disk_definitions.specs.Store.{Fresh, stored};
-ghost use Rattle.plan_definitions.specs.FilePlans.{cut_by, cutting, large_segment, plan_truncated, resized, size_edits};
+ghost use Rattle.plan_definitions.specs.FilePlans.{cut_by, cutting, large_segment, plan_truncated};
 ghost use Rattle.dir_lookup.specs.Hands.{over};
 ghost use Rattle.plan_steps.specs.Edits.{edits_of};
 ghost use Rattle.plan_steps.specs.Ends.{Comes};
 ghost use Rattle.op_data.specs.Files.{IsFile};
 
 use crate::file::file_of;
+use crate::resize::add_inode;
 use crate::segments::all_held;
 use crate::shorter::{blocks_past, large_past, shortened};
 use bitmap_block::BlockState;
@@ -17,23 +18,31 @@ use frang_base::{NoMemory, Path, Reply};
 use plan_steps::{Edit, Outcome, Stop, push};
 use std::alloc::Global;
 
-/// A file gets `len` bytes, at most as many as it has: the blocks past its end are free, and its inode has the new size. `Refused` where
-/// the path or the length is refused; `Need` where a sector isn't cached, or a segment that changes isn't held.
+/// A file gets `len` bytes, at most as many as it has, at the time `when`: the blocks past its end are free, and its inode has the new
+/// size and the time. `Refused` where the path or the length is refused; `Need` where a sector isn't cached, or a segment that changes
+/// isn't held.
 pub(crate) fn truncate_file(
     alloc: Global,
     hand: &Hand,
     path: &Path,
+    when: u64,
     len: u32,
 ) -> Result<Outcome, Stop>
-    ensures { Comes (over (plan_truncated path.now len) hand.now) result }
+    ensures { Comes (over (plan_truncated when path.now len) hand.now) result }
 {
     let file = file_of(hand, path)?;
-    cut(alloc, hand, &file, len)
+    cut(alloc, hand, &file, when, len)
 }
 
-fn cut(alloc: Global, hand: &Hand, file: &NumberedInode, len: u32) -> Result<Outcome, Stop>
+fn cut(
+    alloc: Global,
+    hand: &Hand,
+    file: &NumberedInode,
+    when: u64,
+    len: u32,
+) -> Result<Outcome, Stop>
     requires { IsFile file.now.inode }
-    ensures { (touched : List ℕ) → Comes (over (cutting len file.now.number touched (stored file.now.inode)) hand.now) result }
+    ensures { (touched : List ℕ) → Comes (over (cutting when len file.now.number touched (stored file.now.inode)) hand.now) result }
 {
     if u64::from(len) > file.inode.size {
         return Err(Stop::Refused(Reply::BadOffset));
@@ -41,7 +50,7 @@ fn cut(alloc: Global, hand: &Hand, file: &NumberedInode, len: u32) -> Result<Out
     let blocks = blocks_past(&file.inode, len);
     let large = large_past(&file.inode, len);
     all_held(hand.held, blocks, large)?;
-    let edits = cut_edits(alloc, file, len)?;
+    let edits = cut_edits(alloc, file, when, len)?;
     Ok(Outcome {
         reply: Reply::Ok,
         edits,
@@ -49,14 +58,19 @@ fn cut(alloc: Global, hand: &Hand, file: &NumberedInode, len: u32) -> Result<Out
 }
 
 // The edits of a cut, block after block and then the inode.
-fn cut_edits(alloc: Global, file: &NumberedInode, len: u32) -> Result<Vec<Edit>, NoMemory>
+fn cut_edits(
+    alloc: Global,
+    file: &NumberedInode,
+    when: u64,
+    len: u32,
+) -> Result<Vec<Edit>, NoMemory>
     requires file { IsFile file.now.inode }
     requires len { len ≤ file.now.inode.size }
-    ensures { IfOk result (λ edits. edits_of edits.items ≡ (cut_by file.now.number [] (stored file.now.inode) len).edits) }
+    ensures { IfOk result (λ edits. edits_of edits.items ≡ (cut_by when file.now.number [] (stored file.now.inode) len).edits) }
 {
     let mut edits = small_freed(alloc, blocks_past(&file.inode, len))?;
     add_large(&mut edits, large_past(&file.inode, len))?;
-    add_size(&mut edits, file, len)?;
+    add_inode(&mut edits, file.number, &shortened(&file.inode, when, len))?;
     Ok(edits)
 }
 
@@ -81,18 +95,4 @@ fn add_large(edits: &mut Vec<Edit>, large: Option<u32>) -> Result<(), NoMemory>
         Some(block) => push(edits, Edit::Large { block, used: false }),
         None => Ok(()),
     }
-}
-
-// The inode is written only where its size changes.
-fn add_size(edits: &mut Vec<Edit>, file: &NumberedInode, len: u32) -> Result<(), NoMemory>
-    requires file { IsFile file.now.inode }
-    requires len { len ≤ file.now.inode.size }
-    ensures { OnOk result (edits_of edits.new.items ≡ edits_of edits.old.items ++ size_edits file.now.number (stored file.now.inode) (resized (stored file.now.inode) len [] None)) }
-{
-    if u64::from(len) == file.inode.size {
-        return Ok(());
-    }
-    let inode = Some(shortened(&file.inode, len));
-    let number = file.number;
-    push(edits, Edit::Inode { number, inode })
 }

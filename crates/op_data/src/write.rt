@@ -116,8 +116,8 @@ fn write_in(
     ensures { (touched : List ℕ) → Comes (over (writing_in (writing_of writing.now) file.now.number touched (stored file.now.inode) more.now.small.now more.now.large) hand.now) result }
 {
     let size = file.inode.size.max(writing.end());
-    let new = resized(&file.inode, size, more);
-    let edits = taken(alloc, file, &new, more)?;
+    let new = resized(&file.inode, writing.when, size, more);
+    let edits = taken(alloc, file.number, &new, more)?;
     let edits = add_sectors(edits, hand, writing, &file.inode, &new)?;
     Ok(Outcome {
         reply: Reply::Ok,

@@ -12,6 +12,8 @@ use tree_edits::{Bytes, count_of};
 #[derive(Clone, Copy, Debug)]
 pub(crate) struct Writing<'a> {
     pub off: u32,
+    /// The time at which they are written, which becomes the file's.
+    pub when: u64,
     pub bytes: Bytes<'a>,
 }
 

@@ -1,5 +1,5 @@
 // The plan of an operation on names.
-ghost use Rattle.std.specs.Prelude.{◌≡◌, ◌≤◌, IfOk, length};
+ghost use Rattle.std.specs.Prelude.{◌≡◌, ◌≤◌, ◌<◌, ◌^◌, ℕ, IfOk, length};
 ghost use Rattle.frang_base.specs.declared.limits.TheConstants.{TARGET_BYTES_MAX};
 ghost use Rattle.plan_definitions.specs.PlanOf.{plan_of};
 ghost use Rattle.plan_definitions.specs.Written.{hand_of};
@@ -24,7 +24,8 @@ use tree_definitions::Target;
 /// whether these are all segments of the disk. `Need` names the first sector that is looked at and isn't cached, and the sector of a segment that isn't
 /// held; `Segments` comes exactly where an allocation finds nothing and not all segments are held; `Clear` exactly where a directory takes a block that
 /// was never a directory's and isn't cached as zero; `Done` has the reply with the changes that make it and what is freed, and no bytes. The sectors and
-/// the bitmaps have to be those of one disk that stands for a tree. Its one refusal is want of memory.
+/// the bitmaps have to be those of one disk that stands for a tree. At any time the plan is the same, since names give no times. Its one refusal is want of
+/// memory.
 pub fn plan_dir(
     alloc: Global,
     op: &Op,
@@ -35,20 +36,20 @@ pub fn plan_dir(
 ) -> Result<Plan, NoMemory>
     requires names { IsOfNames op.now }
     requires disk { IsOverADisk op.now birth.0 sectors.now.entries held.now all }
-    ensures is { IfOk result (λ plan. plan ≡ planned sectors.now.entries held.now (reading (plan_of (hand_of sectors.now.entries held.now all) birth.0 op.now) sectors.now.entries held.now)) }
-    ensures stands { IfOk result (StandsOverDisks op.now birth.0 sectors.now.entries held.now all) }
-    ensures exact { IfOk result (IsExactOverDisks op.now birth.0 sectors.now.entries held.now all) }
+    ensures is { (when : ℕ) → IfOk result (λ plan. plan ≡ planned sectors.now.entries held.now (reading (plan_of (hand_of sectors.now.entries held.now all) birth.0 when op.now) sectors.now.entries held.now)) }
+    ensures stands { (when : ℕ) → when < 2 ^ 64 → IfOk result (StandsOverDisks op.now birth.0 when sectors.now.entries held.now all) }
+    ensures exact { (when : ℕ) → when < 2 ^ 64 → IfOk result (IsExactOverDisks op.now birth.0 when sectors.now.entries held.now all) }
 {
     let hand = Hand { sectors, held, all };
     let ended = plan_names(alloc, op, birth.0, &hand);
     finish(alloc, &hand, ended)
 }
 
-/// How the plan of an operation on names ends. Its other refusal is want of memory.
+/// How the plan of an operation on names ends, at any time. Its other refusal is want of memory.
 pub fn plan_names(alloc: Global, op: &Op, birth: u64, hand: &Hand) -> Result<Outcome, Stop>
     requires names { IsOfNames op.now }
     requires allowed { IsAllowed op.now }
-    ensures { Comes (over (plan_of (seen hand.now) birth op.now) hand.now) result }
+    ensures { (when : ℕ) → Comes (over (plan_of (seen hand.now) birth when op.now) hand.now) result }
 {
     match op {
         Op::Create { path } => make(alloc, hand, birth, &NewNode::File, path),

@@ -13,7 +13,7 @@ ghost use Rattle.code_plan_laws.specs.CodeStands.{StandsOverDisks, IsExactOverDi
 ghost use Rattle.op_look.specs.Looks.{IsLook, says};
 
 use crate::names::names_in;
-use frang_base::limits::{KIND_DIRECTORY, KIND_FILE, KIND_LINK};
+use frang_base::limits::{KIND_DIRECTORY, KIND_FILE, KIND_LINK, RUN_TICKS_END};
 use frang_base::{Changes, NoMemory, Op, Path, Reply, Text};
 use meta_version::{ByteWrites, Plan, SectorList, Sectors};
 use plan_steps::{Stop, inode_of, target_of};
@@ -25,9 +25,9 @@ use std::alloc::Global;
 /// tree does. Its one refusal is want of memory.
 pub fn plan_look(alloc: Global, op: &Op, sectors: &Sectors) -> Result<Plan, NoMemory>
     requires { IsLook op.now }
-    ensures is { (h : Hand) (birth : ℕ) (held : Segments) → IfOk result (λ plan. plan ≡ planned sectors.now.entries held (reading (plan_of h birth op.now) sectors.now.entries held)) }
-    ensures stands { (birth : ℕ) (held : Segments) (all : Bool) → birth < 2 ^ 64 → IfOk result (StandsOverDisks op.now birth sectors.now.entries held all) }
-    ensures exact { (birth : ℕ) (held : Segments) (all : Bool) → birth < 2 ^ 64 → IfOk result (IsExactOverDisks op.now birth sectors.now.entries held all) }
+    ensures is { (h : Hand) (birth when : ℕ) (held : Segments) → IfOk result (λ plan. plan ≡ planned sectors.now.entries held (reading (plan_of h birth when op.now) sectors.now.entries held)) }
+    ensures stands { (birth when : ℕ) (held : Segments) (all : Bool) → birth < 2 ^ 64 → when < 2 ^ 64 → IfOk result (StandsOverDisks op.now birth when sectors.now.entries held all) }
+    ensures exact { (birth when : ℕ) (held : Segments) (all : Bool) → birth < 2 ^ 64 → when < 2 ^ 64 → IfOk result (IsExactOverDisks op.now birth when sectors.now.entries held all) }
 {
     ended_look(alloc, op, sectors)
 }
@@ -35,7 +35,7 @@ pub fn plan_look(alloc: Global, op: &Op, sectors: &Sectors) -> Result<Plan, NoMe
 // The plan, as the look ended.
 fn ended_look(alloc: Global, op: &Op, sectors: &Sectors) -> Result<Plan, NoMemory>
     requires { IsLook op.now }
-    ensures { (h : Hand) (birth : ℕ) (held : Segments) → IfOk result (λ plan. plan ≡ planned sectors.now.entries held (reading (plan_of h birth op.now) sectors.now.entries held)) }
+    ensures { (h : Hand) (birth when : ℕ) (held : Segments) → IfOk result (λ plan. plan ≡ planned sectors.now.entries held (reading (plan_of h birth when op.now) sectors.now.entries held)) }
 {
     match look(alloc, op, sectors) {
         Ok(reply) => Ok(done(alloc, reply)),
@@ -61,7 +61,7 @@ fn done(alloc: Global, reply: Reply) -> Plan
 
 fn look(alloc: Global, op: &Op, sectors: &Sectors) -> Result<Reply, Stop>
     requires { IsLook op.now }
-    ensures { (h : Hand) (birth : ℕ) (held : Segments) → Says (reading (plan_of h birth op.now) sectors.now.entries held) result }
+    ensures { (h : Hand) (birth when : ℕ) (held : Segments) → Says (reading (plan_of h birth when op.now) sectors.now.entries held) result }
 {
     match op {
         Op::Stat { path } => describe(sectors, path),
@@ -140,12 +140,16 @@ fn time(sectors: &Sectors, path: &Path) -> Result<Reply, Stop>
     Ok(timed(&inode))
 }
 
-// When a node was last written. This format keeps no times, so of a file it is 0.0.
+// When a file was last written or cut: the run, and the tick of that run. Other nodes have no time.
 fn timed(inode: &Inode) -> Reply
     ensures { result ≡ timed (stored inode.now) }
 {
+    let when = inode.when;
     match inode.kind {
-        KIND_FILE => Reply::Time { run: 0, tick: 0 },
+        KIND_FILE => Reply::Time {
+            run: (when / RUN_TICKS_END) as u32,
+            tick: (when % RUN_TICKS_END) as u32,
+        },
         KIND_DIRECTORY => Reply::IsDir,
         _ => Reply::Inval,
     }

@@ -1,6 +1,6 @@
 -- Plans over a small disk of one segment, by hand: the root has the file /a (inode 1, two links), the directory /d (inode 2, empty, without blocks) and the
 -- second name /b of inode 1, in block 0; block 1 was a directory's.
-use Rattle.std.specs.Prelude.{◌≡◌, ℕ, true, false, ◌==◌, if◌then◌else◌, Option, Some, None, List, [], ◌∷◌, replicate, refl}
+use Rattle.std.specs.Prelude.{◌≡◌, ℕ, true, false, ◌==◌, if◌then◌else◌, Option, Some, None, List, [], ◌∷◌, replicate, refl, map}
 use Rattle.frang_base.specs.declared.bitmap.Bitmap.{Bitmap}
 use Rattle.frang_base.specs.declared.lock.LockId.TheVariants as lock
 use Rattle.frang_base.specs.declared.lock.Mode.TheVariants.{Shared, Sole}
@@ -17,6 +17,12 @@ use Rattle.plan_definitions.specs.Ask.Sector.{InodeAt, DirectoryAt, SegmentAt}
 use Rattle.plan_definitions.specs.Ask.Met.{Needs}
 use Rattle.plan_definitions.specs.Plans.{Hand, Plan, Lock}
 use Rattle.plan_definitions.specs.Plans.Plan.{Lacks, Clears, Finishes}
+use Rattle.sector_definitions.specs.declared.region.Region.TheVariants as region
+use Rattle.sector_definitions.specs.Regions.{sector_of}
+use Rattle.store_changes.specs.Edits.{Edit}
+use Rattle.store_changes.specs.Edits.Edit.{SetInode, SetPlace}
+use Rattle.plan_definitions.specs.FilePlans.{small_after}
+use Rattle.plan_definitions.specs.Written.{forced_in, change_of}
 use Rattle.plan_definitions.specs.PlanOf.{plan_of}
 
 abbrev a : List ℕ
@@ -32,7 +38,7 @@ abbrev x : List ℕ
 x = 120 ∷ []
 
 abbrev node : ℕ → ℕ → ℕ → ℕ → StoredNode
-node kind links size blocks = record { kind = kind; links = links; size = size; birth = 0; blocks = blocks; small = λ n. 0; large = 0; target = [] }
+node kind links size blocks = record { kind = kind; links = links; size = size; birth = 0; blocks = blocks; small = λ n. 0; large = 0; when = 0; target = [] }
 
 abbrev inodes : ℕ → Option StoredNode
 inodes i = if i == 0 then Some (node 2 1 3 1) else (if i == 1 then Some (node 1 2 0 0) else (if i == 2 then Some (node 2 1 0 0) else None))
@@ -76,10 +82,10 @@ locks_of (Clears k locks) = locks
 locks_of (Finishes f) = f.locks
 
 abbrev said : Op → Option Reply
-said o = reply_of (run (plan_of hand 4294967299 o) store)
+said o = reply_of (run (plan_of hand 4294967299 70 o) store)
 
 abbrev seen : Op → List Sector
-seen o = looks (plan_of hand 4294967299 o) store
+seen o = looks (plan_of hand 4294967299 70 o) store
 
 -- ---- refusals
 
@@ -128,7 +134,7 @@ unfolding least.least least.least_from picks.picks
 two_names_of_one_node = refl
 
 -- without segments nothing can be picked, which is no refusal
-nothing_is_picked_of_no_segments : run (plan_of empty_hand 4294967299 (op.Create (x ∷ []))) store ≡ Lacks
+nothing_is_picked_of_no_segments : run (plan_of empty_hand 4294967299 70 (op.Create (x ∷ []))) store ≡ Lacks
 unfolding least.least least.least_from picks.picks
 nothing_is_picked_of_no_segments = refl
 
@@ -155,18 +161,18 @@ block_that_was_a_directorys = refl
 -- ---- locks
 
 mkdir_takes :
-    locks_of (run (plan_of hand 4294967299 (op.Mkdir (d ∷ x ∷ []))) store) ≡
+    locks_of (run (plan_of hand 4294967299 70 (op.Mkdir (d ∷ x ∷ []))) store) ≡
     (lock.Node 0, Shared) ∷ (lock.Node 2, Shared) ∷ (lock.Node 2, Sole) ∷ (lock.Node 3, Sole) ∷ (lock.Segment 0, Sole) ∷ (lock.Segment 0, Sole) ∷ []
 unfolding least.least least.least_from picks.picks
 mkdir_takes = refl
 
 -- another link stays, so no segment is taken
-unlink_takes : locks_of (run (plan_of hand 4294967299 (op.Unlink (a ∷ []))) store) ≡ (lock.Node 0, Shared) ∷ (lock.Node 0, Sole) ∷ (lock.Node 1, Sole) ∷ []
+unlink_takes : locks_of (run (plan_of hand 4294967299 70 (op.Unlink (a ∷ []))) store) ≡ (lock.Node 0, Shared) ∷ (lock.Node 0, Sole) ∷ (lock.Node 1, Sole) ∷ []
 unfolding least.least least.least_from picks.picks
 unlink_takes = refl
 
 rmdir_takes :
-    locks_of (run (plan_of hand 4294967299 (op.Rmdir (d ∷ []))) store) ≡
+    locks_of (run (plan_of hand 4294967299 70 (op.Rmdir (d ∷ []))) store) ≡
     (lock.Node 0, Shared) ∷ (lock.Node 0, Sole) ∷ (lock.Node 2, Sole) ∷ (lock.Segment 0, Sole) ∷ []
 unfolding least.least least.least_from picks.picks
 rmdir_takes = refl
@@ -176,7 +182,7 @@ rmdir_takes = refl
 abbrev nothing_at_hand : AtHand
 nothing_at_hand = record { inode = λ i. None; directory = λ k part. None; segment = λ k. false; bytes = λ k part. None; large = λ g part. None }
 
-the_root_is_needed_first : meet (plan_of hand 4294967299 (op.Stat (a ∷ []))) nothing_at_hand ≡ Needs (InodeAt 0)
+the_root_is_needed_first : meet (plan_of hand 4294967299 70 (op.Stat (a ∷ []))) nothing_at_hand ≡ Needs (InodeAt 0)
 unfolding least.least least.least_from picks.picks
 the_root_is_needed_first = refl
 
@@ -200,7 +206,7 @@ unfolding least.least least.least_from picks.picks
 first_byte_is_seen = refl
 
 first_byte_takes :
-    locks_of (run (plan_of hand 4294967299 (op.Write (a ∷ []) 0 (7 ∷ []))) store) ≡
+    locks_of (run (plan_of hand 4294967299 70 (op.Write (a ∷ []) 0 (7 ∷ []))) store) ≡
     (lock.Node 0, Shared) ∷ (lock.Node 1, Shared) ∷ (lock.Node 1, Sole) ∷ (lock.Segment 0, Sole) ∷ []
 unfolding least.least least.least_from picks.picks
 first_byte_takes = refl
@@ -208,3 +214,39 @@ first_byte_takes = refl
 nothing_is_shown_of_an_empty_file : said (op.Read (a ∷ []) 0 10) ≡ Some (reply.Shown [])
 unfolding least.least least.least_from picks.picks
 nothing_is_shown_of_an_empty_file = refl
+
+-- ---- times
+
+abbrev edits_of : Plan → List Edit
+edits_of Lacks = []
+edits_of (Clears k locks) = []
+edits_of (Finishes f) = f.edits
+
+-- a file that is cut to the size that it has gets the time, in an edit of its inode that names it
+a_cut_gives_the_time : edits_of (run (plan_of hand 4294967299 70 (op.Truncate (a ∷ []) 0)) store) ≡ SetInode 1 (Some (record (node 1 2 0 0) { small = small_after (node 1 2 0 0) [] 0; when = 70 })) true ∷ []
+unfolding least.least least.least_from picks.picks
+a_cut_gives_the_time = refl
+
+a_second_name_does_not : edits_of (run (plan_of hand 4294967299 70 (op.Unlink (a ∷ []))) store) ≡ SetInode 0 (Some (node 2 1 2 1)) false ∷ SetPlace 0 0 None ∷ SetInode 1 (Some (node 1 1 0 0)) false ∷ []
+unfolding least.least least.least_from picks.picks
+a_second_name_does_not = refl
+
+never_written : said (op.Time (a ∷ [])) ≡ Some (reply.Time 0 0)
+unfolding least.least least.least_from picks.picks
+never_written = refl
+
+time_of_a_directory : said (op.Time (d ∷ [])) ≡ Some reply.IsDir
+unfolding least.least least.least_from picks.picks
+time_of_a_directory = refl
+
+-- the places 100 to 107 of the inode's sector count as changed, and no others, and those of no other sector
+the_time_is_forced : map (forced_in (SetInode 1 None true ∷ []) (sector_of (region.Inode 1))) (99 ∷ 100 ∷ 107 ∷ 108 ∷ []) ≡ false ∷ true ∷ true ∷ false ∷ []
+the_time_is_forced = refl
+
+not_by_another_edit : forced_in (SetInode 1 None false ∷ SetInode 2 None true ∷ []) (sector_of (region.Inode 1)) 100 ≡ false
+not_by_another_edit = refl
+
+-- the change of a sector that stays: one patch of its eight bytes
+the_time_alone : change_of (SetInode 1 None true ∷ []) (λ s. replicate 512 0) (λ s. replicate 512 0) (sector_of (region.Inode 1))
+    ≡ Some (record { sector = record { 0 = sector_of (region.Inode 1) }; version = 1; patches = record { at = 100; bytes = replicate 8 0 } ∷ [] })
+the_time_alone = refl

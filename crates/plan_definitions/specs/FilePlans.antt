@@ -49,10 +49,11 @@ set_sector node sector bytes =
 
 -- ---- write and fill
 
--- so many bytes, each by its place in the file, from an offset on
+-- so many bytes, each by its place in the file, from an offset on, and the time at which they are written
 pub record Writing : Type 0 where
   pub off : ℕ
   pub len : ℕ
+  pub when : ℕ
   pub byte : ℕ → ℕ
 
 abbrev pub end_of : Writing → ℕ
@@ -86,7 +87,7 @@ write_sectors piece node new sector (suc rest) next =
 abbrev pub sectors_met : ℕ → ℕ → ℕ
 sectors_met off len = if len == 0 then 0 else (off + len - 1) / SECTOR_BYTES + 1 - off / SECTOR_BYTES
 
--- the inode with another size: blocks are added behind those that stay, the others are no longer its own
+-- the inode with another size and time: blocks are added behind those that stay, the others are no longer its own
 abbrev pub small_after : StoredNode → List ℕ → ℕ → ℕ → ℕ
 small_after node picks blocks index =
     if nat_lt index blocks then (if nat_lt index node.blocks then node.small index else slice_index picks (index - node.blocks)) else 0
@@ -98,9 +99,9 @@ large_after node large size = if nat_lt SMALL_BYTES_MAX size then large_or large
     large_or None = node.large
     large_or (Some segment) = segment + 1
 
-abbrev pub resized : StoredNode → ℕ → List ℕ → Option ℕ → StoredNode
-resized node size picks large =
-    record node { size = size; blocks = small_blocks_of size; small = small_after node picks (small_blocks_of size); large = large_after node large size }
+abbrev pub resized : StoredNode → ℕ → ℕ → List ℕ → Option ℕ → StoredNode
+resized node when size picks large =
+    record node { size = size; blocks = small_blocks_of size; small = small_after node picks (small_blocks_of size); large = large_after node large size; when = when }
 
 abbrev pub large_taken : Option ℕ → List Edit
 large_taken None = []
@@ -110,23 +111,23 @@ abbrev pub large_segment : Option ℕ → List ℕ
 large_segment None = []
 large_segment (Some segment) = segment ∷ []
 
--- the inode is written only where its size changes; then it has all blocks that it needs
-abbrev pub size_edits : ℕ → StoredNode → StoredNode → List Edit
-size_edits inode node new = if new.size == node.size then [] else SetInode inode (Some new) ∷ []
+-- the inode of a file that is written or cut; its time goes into the change even where it stays, so that each such line has a record
+abbrev pub file_dated : ℕ → StoredNode → List Edit
+file_dated inode new = SetInode inode (Some new) true ∷ []
 
-abbrev pub written_by : ℕ → StoredNode → StoredNode → List ℕ → Option ℕ → List ℕ → List Edit → Finish
-written_by inode node new picks large touched bytes = record {
+abbrev pub written_by : ℕ → StoredNode → List ℕ → Option ℕ → List ℕ → List Edit → Finish
+written_by inode new picks large touched bytes = record {
   reply = reply.Ok;
-  edits = map (λ block. SetUse block Bytes) picks ++ large_taken large ++ size_edits inode node new ++ bytes;
+  edits = map (λ block. SetUse block Bytes) picks ++ large_taken large ++ file_dated inode new ++ bytes;
   locks = shared_nodes touched ++ sole_nodes (inode ∷ []) ++ sole_segments (map (λ block. block / SEGMENT_BLOCKS) picks ++ large_segment large);
 }
 
 -- with all blocks at hand
 abbrev pub writing_in : Writing → ℕ → List ℕ → StoredNode → List ℕ → Option ℕ → Ask Plan
 writing_in piece inode touched node picks large =
-    let new = resized node (max node.size (end_of piece)) picks large in
+    let new = resized node piece.when (max node.size (end_of piece)) picks large in
     write_sectors piece node new (piece.off / SECTOR_BYTES) (sectors_met piece.off piece.len)
-    (λ bytes. Got (Finishes (written_by inode node new picks large touched bytes)))
+    (λ bytes. Got (Finishes (written_by inode new picks large touched bytes)))
 
 -- the small blocks that are or were a directory's, in the held segments
 abbrev pub directory_blocks : Segments → ℕ
@@ -155,11 +156,12 @@ writing hand piece inode touched node =
     else (if nat_lt SMALL_BYTES_MAX (end_of piece) && node.large == 0 then read_held hand (writing_large hand piece inode touched node (picked_large hand.held))
     else writing_small hand piece inode touched node None))
 
-abbrev pub plan_written : Hand → List (List ℕ) → ℕ → List ℕ → Ask Plan
-plan_written hand path off bytes = plan_of_file path (writing hand (record { off = off; len = length bytes; byte = λ index. slice_index bytes (index - off) }))
+abbrev pub plan_written : Hand → ℕ → List (List ℕ) → ℕ → List ℕ → Ask Plan
+plan_written hand when path off bytes =
+    plan_of_file path (writing hand (record { off = off; len = length bytes; when = when; byte = λ index. slice_index bytes (index - off) }))
 
-abbrev pub plan_filled : Hand → List (List ℕ) → ℕ → ℕ → ℕ → Ask Plan
-plan_filled hand path off len byte = plan_of_file path (writing hand (record { off = off; len = len; byte = λ index. byte }))
+abbrev pub plan_filled : Hand → ℕ → List (List ℕ) → ℕ → ℕ → ℕ → Ask Plan
+plan_filled hand when path off len byte = plan_of_file path (writing hand (record { off = off; len = len; when = when; byte = λ index. byte }))
 
 -- ---- truncate
 
@@ -174,20 +176,20 @@ large_cut node len = if not (node.large == 0) && nat_le len SMALL_BYTES_MAX then
 abbrev pub cut_segments : StoredNode → ℕ → List ℕ
 cut_segments node len = map (λ block. block / SEGMENT_BLOCKS) (blocks_between node (small_blocks_of len) node.blocks) ++ large_cut node len
 
-abbrev pub cut_by : ℕ → List ℕ → StoredNode → ℕ → Finish
-cut_by inode touched node len = record {
+abbrev pub cut_by : ℕ → ℕ → List ℕ → StoredNode → ℕ → Finish
+cut_by when inode touched node len = record {
   reply = reply.Ok;
   edits = map (λ block. SetUse block Fresh) (blocks_between node (small_blocks_of len) node.blocks)
-      ++ map (λ segment. SetLarge segment false) (large_cut node len) ++ size_edits inode node (resized node len [] None);
+      ++ map (λ segment. SetLarge segment false) (large_cut node len) ++ file_dated inode (resized node when len [] None);
   locks = shared_nodes touched ++ sole_nodes (inode ∷ []) ++ sole_segments (cut_segments node len);
 }
 
-abbrev pub cutting : ℕ → ℕ → List ℕ → StoredNode → Ask Plan
-cutting len inode touched node =
-    if nat_lt node.size len then refused reply.BadOffset touched else finish_over (cut_segments node len) (cut_by inode touched node len)
+abbrev pub cutting : ℕ → ℕ → ℕ → List ℕ → StoredNode → Ask Plan
+cutting when len inode touched node =
+    if nat_lt node.size len then refused reply.BadOffset touched else finish_over (cut_segments node len) (cut_by when inode touched node len)
 
-abbrev pub plan_truncated : List (List ℕ) → ℕ → Ask Plan
-plan_truncated path len = plan_of_file path (cutting len)
+abbrev pub plan_truncated : ℕ → List (List ℕ) → ℕ → Ask Plan
+plan_truncated when path len = plan_of_file path (cutting when len)
 
 -- ---- read
 

@@ -19,6 +19,7 @@ pub record IsFitNode (node : StoredNode) : Type 0 where
   pub small : (index : ℕ) → node.small index < 2 ^ 32
   pub past : (index : ℕ) → INODE_BLOCKS_MAX ≤ index → node.small index ≡ 0
   pub large : node.large < 2 ^ 32
+  pub when : node.when < 2 ^ 64
   pub target : length node.target ≡ (if node.kind == KIND_LINK then node.size else 0)
 
 -- an entry that may stand in a place
@@ -30,8 +31,8 @@ pub record IsFitEntry (entry : StoredEntry) : Type 0 where
 
 -- what the edit writes may stand on a disk of so many segments
 abbrev pub IsFitEdit : ℕ → Edit → Type 0
-IsFitEdit segments (SetInode inode None) = inode < SEGMENT_INODES * segments
-IsFitEdit segments (SetInode inode (Some node)) = (inode < SEGMENT_INODES * segments) × IsFitNode node
+IsFitEdit segments (SetInode inode None dated) = inode < SEGMENT_INODES * segments
+IsFitEdit segments (SetInode inode (Some node) dated) = (inode < SEGMENT_INODES * segments) × IsFitNode node
 IsFitEdit segments (SetBit inode used) = inode < SEGMENT_INODES * segments
 IsFitEdit segments (SetUse block state) = block < SEGMENT_BLOCKS * segments
 IsFitEdit segments (SetPlace block slot None) = (block < SEGMENT_BLOCKS * segments) × (slot < BLOCK_ENTRIES)

@@ -34,6 +34,6 @@ PlanIsFit hand segments store (Finishes finish) = IsFitFinish hand segments stor
 -- so it is of the plan of an operation over the disk of a tree
 abbrev pub HasFitPlan : Op → Type 0
 HasFitPlan operation =
-    (hand : Hand) (store : Store) (tree : FileTree) (naming : Naming) (birth : ℕ) → IsOfTree store tree naming → IsHandOf hand store tree.segments →
-    IsFitStore tree.segments store → birth < 2 ^ 64 → IsAllowed operation →
-    PlanIsFit hand tree.segments store (run (plan_of hand birth operation) store)
+    (hand : Hand) (store : Store) (tree : FileTree) (naming : Naming) (birth when : ℕ) → IsOfTree store tree naming → IsHandOf hand store tree.segments →
+    IsFitStore tree.segments store → birth < 2 ^ 64 → when < 2 ^ 64 → IsAllowed operation →
+    PlanIsFit hand tree.segments store (run (plan_of hand birth when operation) store)

@@ -8,6 +8,7 @@ use Rattle.frang_base.specs.declared.reply.Reply.TheVariants as reply
 use Rattle.tree_definitions.specs.Entries.{with_entry}
 use Rattle.tree_definitions.specs.Numbers.{below}
 use Rattle.disk_definitions.specs.Store.{StoredNode, StoredEntry}
+use Rattle.tree_definitions.specs.Apply.{time_of}
 use Rattle.plan_definitions.specs.Ask.{Ask, ReadInode, ReadDirectory, bind}
 use Rattle.plan_definitions.specs.Walks.{Target, walk, at_target}
 use Rattle.plan_definitions.specs.Plans.{Plan, refused}
@@ -60,9 +61,9 @@ plan_target path =
     plan_of_node path
     (λ target. if target.kind == KIND_LINK then at_inode (λ touched node. refused (reply.Target node.target) touched) target else refused reply.Inval target.dirs)
 
--- this format keeps no times: of a file 0.0. The node is touched whatever its kind
+-- what `time` says of a file. The node is touched whatever its kind
 abbrev pub timed : StoredNode → Reply
-timed node = if node.kind == KIND_FILE then reply.Time 0 0 else (if node.kind == KIND_DIRECTORY then reply.IsDir else reply.Inval)
+timed node = if node.kind == KIND_FILE then time_of node.when else (if node.kind == KIND_DIRECTORY then reply.IsDir else reply.Inval)
 
 abbrev pub plan_timed : List (List ℕ) → Ask Plan
 plan_timed path = plan_of_node path (at_inode (λ touched node. refused (timed node) touched))

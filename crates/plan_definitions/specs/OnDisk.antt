@@ -62,9 +62,9 @@ MetStands cached held all sectors applied missing (Has plan) = (missing ≡ None
 -- so it is of the plan of an operation over a disk that stands for a tree; `ever_directories` is the number of its small blocks that are or were a directory's
 abbrev pub StandsWhenPlanned : Op → Type 0
 StandsWhenPlanned operation =
-    (cached : Cached) (held : Segments) (all : Bool) (sectors : Sectors) (tree : FileTree) (birth ever_directories : ℕ) → IsAllowed operation →
+    (cached : Cached) (held : Segments) (all : Bool) (sectors : Sectors) (tree : FileTree) (birth when ever_directories : ℕ) → IsAllowed operation →
     AreOfDisk cached held all tree.segments sectors → StandsBelow sectors tree →
-    IsNew tree birth → birth < 2 ^ 64 → ever_directories ≡ directory_blocks_in (store_of tree.segments sectors) tree.segments →
-    let plan = plan_of (hand_of cached held all) birth operation in
-    MetStands cached held all sectors (apply tree operation birth ever_directories)
+    IsNew tree birth → birth < 2 ^ 64 → when < 2 ^ 64 → ever_directories ≡ directory_blocks_in (store_of tree.segments sectors) tree.segments →
+    let plan = plan_of (hand_of cached held all) birth when operation in
+    MetStands cached held all sectors (apply tree operation birth when ever_directories)
     (first_missing (at_hand cached held) (looks plan (store_of tree.segments sectors))) (meet plan (at_hand cached held))

@@ -10,21 +10,21 @@ use Rattle.plan_definitions.specs.NamePlans.{plan_made, plan_linked, plan_unlink
 use Rattle.plan_definitions.specs.FilePlans.{plan_written, plan_filled, plan_truncated, plan_read}
 use Rattle.plan_definitions.specs.LookPlans.{plan_described, plan_listed, plan_target, plan_timed}
 
--- of an operation with a path, whose new node would have this birth; an operation without one isn't planned
-abbrev pub plan_of : Hand → ℕ → Op → Ask Plan
-plan_of hand birth (op.Create path) = plan_made hand birth (File [] 1) path
-plan_of hand birth (op.Mkdir path) = plan_made hand birth (Dir [] 0) path
-plan_of hand birth (op.Symlink path target) = plan_made hand birth (Link target 1) path
-plan_of hand birth (op.Link path to) = plan_linked hand path to
-plan_of hand birth (op.Unlink path) = plan_unlinked path
-plan_of hand birth (op.Rmdir path) = plan_dir_removed path
-plan_of hand birth (op.Rename path to) = plan_renamed hand path to
-plan_of hand birth (op.Write path off bytes) = plan_written hand path off bytes
-plan_of hand birth (op.Fill path off len byte) = plan_filled hand path off len byte
-plan_of hand birth (op.Truncate path len) = plan_truncated path len
-plan_of hand birth (op.Read path off len) = plan_read path off len
-plan_of hand birth (op.Stat path) = plan_described path
-plan_of hand birth (op.List path) = plan_listed path
-plan_of hand birth (op.Readlink path) = plan_target path
-plan_of hand birth (op.Time path) = plan_timed path
-plan_of hand birth op = refused reply.Ok []
+-- of an operation with a path at a time, whose new node would have this birth; an operation without one isn't planned
+abbrev pub plan_of : Hand → ℕ → ℕ → Op → Ask Plan
+plan_of hand birth when (op.Create path) = plan_made hand birth (File [] 1 0) path
+plan_of hand birth when (op.Mkdir path) = plan_made hand birth (Dir [] 0) path
+plan_of hand birth when (op.Symlink path target) = plan_made hand birth (Link target 1) path
+plan_of hand birth when (op.Link path to) = plan_linked hand path to
+plan_of hand birth when (op.Unlink path) = plan_unlinked path
+plan_of hand birth when (op.Rmdir path) = plan_dir_removed path
+plan_of hand birth when (op.Rename path to) = plan_renamed hand path to
+plan_of hand birth when (op.Write path off bytes) = plan_written hand when path off bytes
+plan_of hand birth when (op.Fill path off len byte) = plan_filled hand when path off len byte
+plan_of hand birth when (op.Truncate path len) = plan_truncated when path len
+plan_of hand birth when (op.Read path off len) = plan_read path off len
+plan_of hand birth when (op.Stat path) = plan_described path
+plan_of hand birth when (op.List path) = plan_listed path
+plan_of hand birth when (op.Readlink path) = plan_target path
+plan_of hand birth when (op.Time path) = plan_timed path
+plan_of hand birth when op = refused reply.Ok []

@@ -27,5 +27,5 @@ PlanIsSmall most segments sectors (Finishes finish) = IsReady most segments sect
 -- so it is of the plan of an operation over whatever disk in its grammar on which its edits may be made
 abbrev pub HasSmallPlan : Op → Type 0
 HasSmallPlan operation =
-    (hand : Hand) (most segments : ℕ) (sectors : Sectors) (birth : ℕ) → IsFitStore segments (store_of segments sectors) →
-    PlanIsSmall most segments sectors (run (plan_of hand birth operation) (store_of segments sectors))
+    (hand : Hand) (most segments : ℕ) (sectors : Sectors) (birth when : ℕ) → IsFitStore segments (store_of segments sectors) →
+    PlanIsSmall most segments sectors (run (plan_of hand birth when operation) (store_of segments sectors))

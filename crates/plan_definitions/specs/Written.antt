@@ -1,6 +1,6 @@
 -- What edits write: the changes of a record, bytes of files, and the sectors that are freed; and the disk with these laid over it.
-use Rattle.std.specs.Prelude.{ℕ, ◌+◌, ◌-◌, ◌/◌, ◌%◌, Bool, true, false, ◌==◌, if◌then◌else◌, Option, Some, None, List, [], ◌∷◌, ◌++◌, length, map, fold, slice_index, slice_set}
-use Rattle.std.specs.List.{filter_map, flat_map, list_all}
+use Rattle.std.specs.Prelude.{ℕ, ◌+◌, ◌-◌, ◌/◌, ◌%◌, Bool, true, false, ◌==◌, ◌&&◌, if◌then◌else◌, Option, Some, None, List, [], ◌∷◌, ◌++◌, length, map, fold, slice_index, slice_set}
+use Rattle.std.specs.List.{filter_map, flat_map, list_all, list_any}
 use Rattle.std.specs.Map.{keys_of}
 use Rattle.frang_base.specs.declared.limits.TheConstants.{INODE_BLOCKS_MAX, KIND_FREE, LARGE_BLOCK_SECTORS, NAME_BYTES_MAX, SECTOR_BYTES, SECTOR_ENTRIES, SEGMENT_BLOCKS, SEGMENT_INODES, SMALL_BLOCK_SECTORS, TARGET_BYTES_MAX}
 use Rattle.frang_base.specs.declared.bitmap.Bitmap.{Bitmap}
@@ -13,10 +13,10 @@ use Rattle.sector_definitions.specs.declared.directory.DirSector.{DirSector}
 use Rattle.sector_bytes.specs.Bytes.{zeros}
 use Rattle.std.specs.Str.{bytes_eq}
 use Rattle.sector_definitions.specs.Regions.{sector_of}
-use Rattle.sector_definitions.specs.Inodes.{inode_bytes, inode_in}
+use Rattle.sector_definitions.specs.Inodes.{inode_bytes, inode_in, is_time_place}
 use Rattle.sector_definitions.specs.Directories.{directory_bytes, directory_fields, directory_in}
 use Rattle.sector_definitions.specs.Bitmaps.{bitmap_bytes, bitmap_fields}
-use Rattle.sector_bytes.specs.Patches.{patches_of}
+use Rattle.sector_bytes.specs.Patches.{patches_with}
 use Rattle.sector_bytes.specs.Changes.{changed}
 use Rattle.sector_bytes.specs.SectorMaps.{value_at, with_value}
 use Rattle.tree_definitions.specs.Numbers.{below}
@@ -49,6 +49,7 @@ inode_with version None =
       birth = 0;
       small = zeros INODE_BLOCKS_MAX;
       large = 0;
+      when = 0;
       target = zeros TARGET_BYTES_MAX;
     }
 inode_with version (Some node) = record {
@@ -60,6 +61,7 @@ inode_with version (Some node) = record {
   birth = node.birth;
   small = map node.small (below INODE_BLOCKS_MAX);
   large = node.large;
+  when = node.when;
   target = padded TARGET_BYTES_MAX node.target;
 }
 
@@ -81,7 +83,7 @@ with_place sector slot entry = record sector { entries = slice_set sector.entrie
 -- ---- the sectors after edits, whose versions stay
 
 abbrev pub edit_sector : Edit → ℕ
-edit_sector (SetInode inode stored_node) = sector_of (region.Inode inode)
+edit_sector (SetInode inode stored_node dated) = sector_of (region.Inode inode)
 edit_sector (SetBit inode used) = sector_of (region.Segment (inode / SEGMENT_INODES))
 edit_sector (SetUse block_number state) = sector_of (region.Segment (block_number / SEGMENT_BLOCKS))
 edit_sector (SetPlace block_number slot entry) = sector_of (region.Small block_number (slot / SECTOR_ENTRIES))
@@ -91,7 +93,7 @@ edit_sector (SetLargeBytes segment part bytes) = sector_of (region.Large segment
 
 -- the block of that sector after the edit; its version is still the old one
 abbrev pub edited_block : List ℕ → ℕ → Edit → List ℕ
-edited_block block version (SetInode inode node) = inode_bytes (inode_with version node)
+edited_block block version (SetInode inode node dated) = inode_bytes (inode_with version node)
 edited_block block version (SetBit inode used) = bitmap_bytes (with_inode (bitmap_fields block) (inode % SEGMENT_INODES) used)
 edited_block block version (SetUse block_number state) = bitmap_bytes (with_state (bitmap_fields block) (block_number % SEGMENT_BLOCKS) (state_of state))
 edited_block block version (SetPlace block_number slot entry) = directory_bytes (with_place (directory_fields block) (slot % SECTOR_ENTRIES) entry)
@@ -123,16 +125,25 @@ with_number sorted number = with_value sorted number 0
 abbrev pub ascending : List ℕ → List ℕ
 ascending numbers = keys_of (fold with_number [] numbers)
 
--- the change of a sector, where one of its bytes changes: the longest runs of new bytes, and the next version
+-- the change of a sector, where one of its bytes changes or counts as changed: the longest runs of these, and the next version
 abbrev pub change_by : ℕ → ℕ → List Patch → Option Change
 change_by sector version [] = None
 change_by sector version (patch ∷ patches) = Some (record { sector = record { 0 = sector }; version = version; patches = patch ∷ patches })
 
-abbrev pub change_of : Sectors → Sectors → ℕ → Option Change
-change_of old new sector = change_by sector (version_at old sector + 1) (patches_of (old sector) (new sector))
+-- the edit puts an inode with its time into this sector
+abbrev pub dates : ℕ → Edit → Bool
+dates sector (SetInode inode stored_node true) = sector == sector_of (region.Inode inode)
+dates sector _ = false
+
+-- the places of a sector that count as changed even where they stay: the time of a file that is written
+abbrev pub forced_in : List Edit → ℕ → ℕ → Bool
+forced_in edits sector at = is_time_place at && list_any (dates sector) edits
+
+abbrev pub change_of : List Edit → Sectors → Sectors → ℕ → Option Change
+change_of edits old new sector = change_by sector (version_at old sector + 1) (patches_with (forced_in edits sector) (old sector) (new sector))
 
 abbrev pub changes_of : Sectors → List Edit → List Change
-changes_of sectors edits = filter_map (change_of sectors (all_edited sectors edits)) (ascending (filter_map metadata_sector edits))
+changes_of sectors edits = filter_map (change_of edits sectors (all_edited sectors edits)) (ascending (filter_map metadata_sector edits))
 
 -- ---- bytes of files
 

@@ -34,12 +34,12 @@ module _ (h : Hand) (s : Store) (tree : FileTree) (n : Naming) (of : IsOfTree s 
   each_node : (dirs : List ℕ) (b : ℕ) (node : Node) → node_at tree b ≡ Some node → Fits h tree.segments s (at_file next (record { inode = n.inode b; kind = kind_of node; dirs = dirs }))
   each_node dirs b (Dir entries blocks) is = refuse_fits h tree.segments s reply.IsDir dirs
   each_node dirs b (Link target links) is = refuse_fits h tree.segments s reply.Inval dirs
-  each_node dirs b (File cells links) is =
+  each_node dirs b (File cells links when) is =
       let touched = dirs ++ n.inode b ∷ [] in
-      let there = inode_is s (node_at tree) n of.pictures b (File cells links) is in
-      let may = fit.nodes (n.inode b) (inode_by n b (File cells links)) there in
+      let there = inode_is s (node_at tree) n of.pictures b (File cells links when) is in
+      let may = fit.nodes (n.inode b) (inode_by n b (File cells links when)) there in
       subst (λ o. Fits h tree.segments s (with_file (next (n.inode b) touched) touched o)) (sym there)
-      (each (n.inode b) touched (inode_by n b (File cells links)) (record { number = may.0; fit = may.1; kind = refl; owns = owns s tree n of b links cells is }))
+      (each (n.inode b) touched (inode_by n b (File cells links when)) (record { number = may.0; fit = may.1; kind = refl; owns = owns s tree n of b links when cells is }))
 
   at_birth : (b : ℕ) (o : Option Node) → node_at tree b ≡ o → is_some o ≡ true → (dirs : List ℕ) → Fits h tree.segments s (at_file next (record { inode = n.inode b; kind = n.kind b; dirs = dirs }))
   at_birth b None e some dirs = absurd (cc)

@@ -19,21 +19,21 @@ use Rattle.plan_fit.proofs.EditBudgets.{node_few}
 use Rattle.plan_fit.proofs.NameBudgets.{MakesSmall, HasFewBlocks, refuse_small, made_path_small, linked_path_small, unlinked_small, dir_removed_small, renamed_small}
 use Rattle.plan_fit.proofs.FileBudgets.{writing_makes_small, cutting_small, showing_small, node_small, file_small, inode_small, listing_small, by_kind}
 
-module _ (h : Hand) (birth : ℕ) (s : Store) (nodes : HasFewBlocks s) where
+module _ (h : Hand) (birth when : ℕ) (s : Store) (nodes : HasFewBlocks s) where
   write_small : (path : List (List ℕ)) (w : Writing) → MakesSmall (run (plan_of_file path (writing h w)) s)
   write_small path w = node_small s (at_file (writing h w)) (file_small s nodes (writing h w) (λ i touched x few. writing_makes_small s h w i touched x)) path
 
-  all_small : (o : Op) → MakesSmall (run (plan_of h birth o) s)
-  all_small (op.Create path) = made_path_small h s birth (File [] 1) path
+  all_small : (o : Op) → MakesSmall (run (plan_of h birth when o) s)
+  all_small (op.Create path) = made_path_small h s birth (File [] 1 0) path
   all_small (op.Mkdir path) = made_path_small h s birth (Dir [] 0) path
   all_small (op.Symlink path target) = made_path_small h s birth (Link target 1) path
   all_small (op.Link path to) = linked_path_small h s path to
   all_small (op.Unlink path) = unlinked_small s nodes path
   all_small (op.Rmdir path) = dir_removed_small s nodes path
   all_small (op.Rename path to) = renamed_small h s nodes path to
-  all_small (op.Write path off bytes) = write_small path (record { off = off; len = length bytes; byte = λ j. slice_index bytes (j - off) })
-  all_small (op.Fill path off len byte) = write_small path (record { off = off; len = len; byte = λ j. byte })
-  all_small (op.Truncate path len) = node_small s (at_file (cutting len)) (file_small s nodes (cutting len) (cutting_small s len)) path
+  all_small (op.Write path off bytes) = write_small path (record { off = off; len = length bytes; when = when; byte = λ j. slice_index bytes (j - off) })
+  all_small (op.Fill path off len byte) = write_small path (record { off = off; len = len; when = when; byte = λ j. byte })
+  all_small (op.Truncate path len) = node_small s (at_file (cutting when len)) (file_small s nodes (cutting when len) (cutting_small s when len)) path
   all_small (op.Read path off len) = node_small s (at_file (showing off len)) (file_small s nodes (showing off len) (λ i touched x few. showing_small s off len i touched x)) path
   all_small (op.Stat path) = node_small s (at_inode (λ touched x. refused (described x) touched)) (inode_small s (λ touched x. refused (described x) touched) (λ touched x. refuse_small (described x) touched)) path
   all_small (op.List path) = node_small s (λ t. if t.kind == 2 then at_inode listing t else refused reply.NotDir t.dirs) (by_kind s (at_inode listing) 2 reply.NotDir (inode_small s listing (listing_small s))) path
@@ -54,5 +54,5 @@ by_plan most segments sectors (Clears k locks) m = tt
 by_plan most segments sectors (Finishes f) m = λ ready. small_record most segments sectors f.edits m ready
 
 pub small_records : PlansMakeSmallRecords
-small_records o h most segments sectors birth fit =
-    by_plan most segments sectors (run (plan_of h birth o) (store_of segments sectors)) (all_small h birth (store_of segments sectors) (λ i x e. node_few x (fit.nodes i x e).1) o)
+small_records o h most segments sectors birth when fit =
+    by_plan most segments sectors (run (plan_of h birth when o) (store_of segments sectors)) (all_small h birth when (store_of segments sectors) (λ i x e. node_few x (fit.nodes i x e).1) o)

@@ -13,12 +13,12 @@ use Rattle.frang_base.specs.declared.change.Patch.{Patch}
 use Rattle.frang_base.specs.declared.change.Change.{Change}
 use Rattle.sector_bytes.specs.SectorMaps.{with_value, Ascend}
 use Rattle.log_definitions.specs.Records.{change_bytes}
-use Rattle.sector_bytes.specs.Patches.{patches_of}
+use Rattle.sector_bytes.specs.Patches.{patches_with}
 use Rattle.sector_bytes.specs.Sectors.{Sectors}
 use Rattle.disk_definitions.specs.Standing.{version_at}
 use Rattle.disk_definitions.specs.Store.{store_of}
 use Rattle.store_changes.specs.Edits.{Edit}
-use Rattle.plan_definitions.specs.Written.{edit_sector, all_edited, is_metadata, metadata_sector, with_number, change_by, change_of, changes_of}
+use Rattle.plan_definitions.specs.Written.{edit_sector, all_edited, is_metadata, metadata_sector, with_number, change_by, forced_in, change_of, changes_of}
 use Rattle.plan_records.specs.Says.{Says}
 use Rattle.plan_definitions.specs.Ready.{store_after, IsReady}
 use Rattle.plan_records.proofs.LaidOver.{by_bool, filter_none, filter_some, named, named_true, named_false, named_ascend, changes}
@@ -80,30 +80,30 @@ all_named all (e ∷ es) ks within r = by_bool (is_metadata e)
 
 -- ---- the changes
 
-length_changes : (old new : Sectors) (ks : List (ℕ × ℕ)) → length (changes old new ks) ≤ length ks
-length_changes old new [] = omega arith
-length_changes old new (k ∷ ks) =
-    let rest = length_changes old new ks in
-    by_some (λ o. change_of old new k.0 ≡ o → length (changes old new (k ∷ ks)) ≤ length (k ∷ ks)) (change_of old new k.0)
-    (λ e f. let a = ap length (filter_none (change_of old new) k.0 (keys_of ks) f) in omega arith)
-    (λ c e f. let a = ap length (filter_some (change_of old new) k.0 (keys_of ks) c f) in omega arith) refl
+length_changes : (all : List Edit) (old new : Sectors) (ks : List (ℕ × ℕ)) → length (changes all old new ks) ≤ length ks
+length_changes all old new [] = omega arith
+length_changes all old new (k ∷ ks) =
+    let rest = length_changes all old new ks in
+    by_some (λ o. change_of all old new k.0 ≡ o → length (changes all old new (k ∷ ks)) ≤ length (k ∷ ks)) (change_of all old new k.0)
+    (λ e f. let a = ap length (filter_none (change_of all old new) k.0 (keys_of ks) f) in omega arith)
+    (λ c e f. let a = ap length (filter_some (change_of all old new) k.0 (keys_of ks) c f) in omega arith) refl
 
 change_cost : (sector version : ℕ) (ps : List Patch) (c : Change) → change_by sector version ps ≡ Some c → cost c.patches ≡ cost ps
 change_cost sector version [] c e = absurd cc
 change_cost sector version (p ∷ ps) c e = let same : record { sector = record { 0 = sector }; version = version; patches = p ∷ ps } ≡ c = cc in sym (ap (λ (x : Change). cost x.patches) same)
 
-module _ (old new : Sectors) (es : List Edit) (each : (s : ℕ) → names s es ≡ true → 18 + cost (patches_of (old s) (new s)) ≤ charge es s) where
-  bytes_of_changes : (ks : List (ℕ × ℕ)) → AreNamed es ks → length (flat_map change_bytes (changes old new ks)) ≤ total (charge es) ks
+module _ (all : List Edit) (old new : Sectors) (es : List Edit) (each : (s : ℕ) → names s es ≡ true → 18 + cost (patches_with (forced_in all s) (old s) (new s)) ≤ charge es s) where
+  bytes_of_changes : (ks : List (ℕ × ℕ)) → AreNamed es ks → length (flat_map change_bytes (changes all old new ks)) ≤ total (charge es) ks
   bytes_of_changes [] n = omega arith
   bytes_of_changes (k ∷ ks) n =
       let rest = bytes_of_changes ks n.1 in
       let one = each k.0 n.0 in
-      by_some (λ o. change_of old new k.0 ≡ o → length (flat_map change_bytes (changes old new (k ∷ ks))) ≤ total (charge es) (k ∷ ks)) (change_of old new k.0)
-      (λ e f. let a = ap (λ (cs : List Change). length (flat_map change_bytes cs)) (filter_none (change_of old new) k.0 (keys_of ks) f) in omega arith)
-      (λ c e f. let a = ap (λ (cs : List Change). length (flat_map change_bytes cs)) (filter_some (change_of old new) k.0 (keys_of ks) c f) in
-      let b = length-append (change_bytes c) (flat_map change_bytes (changes old new ks)) in
+      by_some (λ o. change_of all old new k.0 ≡ o → length (flat_map change_bytes (changes all old new (k ∷ ks))) ≤ total (charge es) (k ∷ ks)) (change_of all old new k.0)
+      (λ e f. let a = ap (λ (cs : List Change). length (flat_map change_bytes cs)) (filter_none (change_of all old new) k.0 (keys_of ks) f) in omega arith)
+      (λ c e f. let a = ap (λ (cs : List Change). length (flat_map change_bytes cs)) (filter_some (change_of all old new) k.0 (keys_of ks) c f) in
+      let b = length-append (change_bytes c) (flat_map change_bytes (changes all old new ks)) in
       let l = length_change c in
-      let p = change_cost k.0 (version_at old k.0 + 1) (patches_of (old k.0) (new k.0)) c f in
+      let p = change_cost k.0 (version_at old k.0 + 1) (patches_with (forced_in all k.0) (old k.0) (new k.0)) c f in
       omega arith) refl
 
 -- ---- the record
@@ -118,7 +118,7 @@ module _ (most segments : ℕ) (sectors : Sectors) (edits : List Edit) (h : IsRe
     in_large = λ g j l m u. refl;
   }
 
-  each_sector : (s : ℕ) → names s edits ≡ true → 18 + cost (patches_of (sectors s) (all_edited sectors edits s)) ≤ charge edits s
+  each_sector : (s : ℕ) → names s edits ≡ true → 18 + cost (patches_with (forced_in edits s) (sectors s) (all_edited sectors edits s)) ≤ charge edits s
   each_sector = sector_cost segments (store_after segments sectors edits) (store_of segments sectors) sectors edits h.few h.whole start h.fit
 
 pub small_record : (most segments : ℕ) (sectors : Sectors) (edits : List Edit) → AreSmall edits → IsReady most segments sectors edits → IsSmall sectors edits
@@ -129,9 +129,9 @@ small_record most segments sectors edits small h =
     let cs : List Change = changes_of sectors edits in
     let none : Ascend (named [] []) = tt in
     let asc = named_ascend [] (filter_map metadata_sector edits) none in
-    let a = length_changes sectors new sorted in
+    let a = length_changes edits sectors new sorted in
     let b = length_named edits [] in
-    let c = bytes_of_changes sectors new edits (each_sector most segments sectors edits h) sorted (all_named edits edits [] (λ s q. q) tt) in
+    let c = bytes_of_changes edits sectors new edits (each_sector most segments sectors edits h) sorted (all_named edits edits [] (λ s q. q) tt) in
     let d = total_charge edits sorted asc in
     let few : namings edits ≤ 32 = small.few in
     let short : 2 + budget edits ≤ 4096 = small.short in

@@ -1,10 +1,10 @@
 -- Edits of uses, of large blocks and of the inode of a file fit, each with the others.
-use Rattle.std.proofs.Common.{ℕ, suc, ◌<◌, ◌*◌, ◌==◌, Bool, true, false, if◌then◌else◌, Some, List, [], ◌∷◌, ◌++◌, length, map, slice_index, arith}
+use Rattle.std.proofs.Common.{ℕ, suc, ◌<◌, ◌*◌, Bool, true, false, if◌then◌else◌, List, [], ◌∷◌, ◌++◌, length, map, slice_index, arith}
 use Rattle.disk_definitions.specs.Store.{Store, StoredNode, Use}
 use Rattle.disk_definitions.specs.Standing.{IsMetadata}
 use Rattle.store_changes.specs.Edits.{Edit}
-use Rattle.store_changes.specs.Edits.Edit.{SetInode, SetUse, SetLarge}
-use Rattle.plan_definitions.specs.FilePlans.{size_edits}
+use Rattle.store_changes.specs.Edits.Edit.{SetUse, SetLarge}
+use Rattle.plan_definitions.specs.FilePlans.{file_dated}
 use Rattle.plan_definitions.specs.FitEdits.{IsFitNode, AreFit}
 
 module _ (g : ℕ) (end : Store) where
@@ -20,12 +20,8 @@ module _ (g : ℕ) (end : Store) where
   larges_fit v [] f = tt
   larges_fit v (k ∷ ks) f = ((f 0 (omega arith), tt), larges_fit v ks (λ i l. f (suc i) (omega arith)))
 
-  pub size_fits : (i : ℕ) (x y : StoredNode) → i < 64 * g → IsFitNode y → AreFit g end (size_edits i x y)
-  size_fits i x y l fit = go (y.size == x.size)
-    where
-      go : (b : Bool) → AreFit g end (if b then [] else SetInode i (Some y) ∷ [])
-      go true = tt
-      go false = (((l, fit), tt), tt)
+  pub dated_fits : (i : ℕ) (y : StoredNode) → i < 64 * g → IsFitNode y → AreFit g end (file_dated i y)
+  dated_fits i y l fit = (((l, fit), tt), tt)
 
 -- a use for bytes, or none, is no directory's
 pub no_directory : (u v : Use) (b : Bool) → (IsMetadata u → ⊥) → IsMetadata (if b then u else v) → IsMetadata v

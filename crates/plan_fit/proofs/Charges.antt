@@ -5,7 +5,7 @@ use Rattle.frang_base.proofs.Basics.{of_eq, of_ne, eq_of}
 use Rattle.sector_definitions.specs.declared.region.Region.{Region}
 use Rattle.sector_definitions.specs.declared.region.Region.TheVariants as region
 use Rattle.sector_definitions.specs.Regions.{sector_of, is_in_range}
-use Rattle.sector_bytes.specs.Patches.{patches_of}
+use Rattle.sector_bytes.specs.Patches.{patches_with}
 use Rattle.sector_definitions.proofs.RegionLaws.{region_once}
 use Rattle.sector_definitions.proofs.Readings.{and_l, and_r}
 use Rattle.sector_bytes.specs.Sectors.{Sectors}
@@ -13,11 +13,12 @@ use Rattle.disk_definitions.specs.Store.{Store}
 use Rattle.disk_definitions.specs.Standing.{IsMetadata}
 use Rattle.store_changes.specs.Edits.{Edit, edited}
 use Rattle.store_changes.specs.Edits.Edit.{SetInode, SetBit, SetUse, SetPlace, SetLarge, SetBytes, SetLargeBytes}
-use Rattle.plan_definitions.specs.Written.{edit_sector, edited_sectors, all_edited, is_metadata}
+use Rattle.plan_definitions.specs.Written.{edit_sector, edited_sectors, all_edited, is_metadata, dates, forced_in}
 use Rattle.plan_definitions.specs.FitEdits.{IsFitEdit, MeetsUse, AreFit}
 use Rattle.plan_records.specs.Says.{Says}
 use Rattle.plan_records.proofs.Kept.{edit_region, edit_sector_is, edit_in_range, edited_here, edited_else, in_segment, in_small}
 use Rattle.plan_records.proofs.EditLaws.{not_both, fit_place, each}
+use Rattle.plan_records.proofs.LaidOver.{Undated, none_forced, not_dated}
 use Rattle.plan_fit.proofs.Differing.{differing, between, same_bytes}
 use Rattle.plan_fit.proofs.PatchCosts.{cost, cost_by_bytes, cost_at_most}
 use Rattle.plan_fit.proofs.EditCosts.{is_partial, most_in, part_differs}
@@ -26,7 +27,7 @@ use Rattle.plan_fit.proofs.EditCosts.{is_partial, most_in, part_differs}
 
 -- it sets this inode
 abbrev pub sets_inode : ℕ → Edit → Bool
-sets_inode i (SetInode j x) = i == j
+sets_inode i (SetInode j x dated) = i == j
 sets_inode i e = false
 
 -- one of the edits sets this inode
@@ -36,7 +37,7 @@ sets_later i (e ∷ es) = sets_inode i e || sets_later i es
 
 -- what an edit adds to the record, where these come after it: an inode's sector counts at the last edit that sets it
 abbrev pub price : Edit → List Edit → ℕ
-price (SetInode i x) es = if sets_later i es then 0 else 1280
+price (SetInode i x dated) es = if sets_later i es then 0 else 1280
 price (SetBit i b) es = 58
 price (SetUse k u) es = 23
 price (SetPlace k p e) es = 378
@@ -76,7 +77,7 @@ charge_more e es s = omega arith
 
 -- an inode's sector
 inode_price : (i : ℕ) (e : Edit) (es : List Edit) → sets_inode i e ≡ true → sets_later i es ≡ false → (sector_of (region.Inode i) ≡ edit_sector e) × (price e es ≡ 1280)
-inode_price i (SetInode j x) es h g = let same : i ≡ j = eq_of i j h in (ap (λ (k : ℕ). sector_of (region.Inode k)) same, ap (λ (t : Bool). if t then 0 else 1280) (ap (λ (k : ℕ). sets_later k es) (sym same) ∙ g))
+inode_price i (SetInode j x dated) es h g = let same : i ≡ j = eq_of i j h in (ap (λ (k : ℕ). sector_of (region.Inode k)) same, ap (λ (t : Bool). if t then 0 else 1280) (ap (λ (k : ℕ). sets_later k es) (sym same) ∙ g))
 inode_price i (SetBit j b) es h g = absurd cc
 inode_price i (SetUse k u) es h g = absurd cc
 inode_price i (SetPlace k p o) es h g = absurd cc
@@ -101,8 +102,22 @@ abbrev pub Partly : ℕ → List Edit → Type 0
 Partly s [] = Unit {0}
 Partly s (e ∷ es) = (s ≡ edit_sector e → is_partial e ≡ true) × Partly s es
 
+-- so none of them puts an inode with its time there
+parts_undated : (es : List Edit) (s : ℕ) → Partly s es → Undated s es
+parts_undated [] s p = tt
+parts_undated (e ∷ es) s p = (one e p.0, parts_undated es s p.1)
+  where
+    one : (e : Edit) → (s ≡ edit_sector e → is_partial e ≡ true) → dates s e ≡ false
+    one (SetInode i x dated) p = not_dated (SetInode i x dated) s (λ m q. let t = p q in absurd cc)
+    one (SetBit i b) p = refl
+    one (SetUse k u) p = refl
+    one (SetPlace k r o) p = refl
+    one (SetLarge g b) p = refl
+    one (SetBytes k part bytes) p = refl
+    one (SetLargeBytes g part bytes) p = refl
+
 part_price : (e : Edit) (es : List Edit) → is_partial e ≡ true → price e es ≡ 18 + 5 * most_in e
-part_price (SetInode i x) es t = absurd cc
+part_price (SetInode i x dated) es t = absurd cc
 part_price (SetBit i b) es t = refl
 part_price (SetUse k u) es t = refl
 part_price (SetPlace k p o) es t = refl
@@ -173,7 +188,7 @@ partly segments end r (e ∷ es) few inside fit to =
     (λ q. to e fit.0.1 (region_once segments (edit_region e) r few (edit_in_range segments e fit.0.0) inside (sym (edit_sector_is e) ∙ sym q)), partly segments end r es few inside fit.1 to)
 
 segment_partial : (end : Store) (k : ℕ) (e : Edit) → MeetsUse end e → edit_region e ≡ region.Segment k → is_partial e ≡ true
-segment_partial end k (SetInode i x) u q = absurd cc
+segment_partial end k (SetInode i x dated) u q = absurd cc
 segment_partial end k (SetBit i b) u q = refl
 segment_partial end k (SetUse i x) u q = refl
 segment_partial end k (SetPlace i p o) u q = refl
@@ -182,7 +197,7 @@ segment_partial end k (SetBytes i part bytes) u q = absurd cc
 segment_partial end k (SetLargeBytes g part bytes) u q = absurd cc
 
 directory_partial : (end : Store) (k p : ℕ) → IsMetadata (end.use_of k) → (e : Edit) → MeetsUse end e → edit_region e ≡ region.Small k p → is_partial e ≡ true
-directory_partial end k p d (SetInode i x) u q = absurd cc
+directory_partial end k p d (SetInode i x dated) u q = absurd cc
 directory_partial end k p d (SetBit i b) u q = refl
 directory_partial end k p d (SetUse i x) u q = refl
 directory_partial end k p d (SetPlace i r o) u q = refl
@@ -193,21 +208,21 @@ directory_partial end k p d (SetLargeBytes g part bytes) u q = absurd cc
 -- ---- the change of a sector
 
 module _ (segments : ℕ) (end st : Store) (sectors : Sectors) (es : List Edit) (few : segments ≤ 64) (long : (s : ℕ) → length (sectors s) ≡ 512) (h : Says segments end sectors st) (fit : AreFit segments end es) where
-  part_cost : (s : ℕ) → names s es ≡ true → Partly s es → 18 + cost (patches_of (sectors s) (all_edited sectors es s)) ≤ charge es s
+  part_cost : (s : ℕ) → names s es ≡ true → Partly s es → 18 + cost (patches_with (forced_in es s) (sectors s) (all_edited sectors es s)) ≤ charge es s
   part_cost s named p =
       let a = part_changes segments end st sectors es s few h fit p in
-      let b = cost_by_bytes (sectors s) (all_edited sectors es s) in
+      let b = cost_by_bytes (forced_in es s) (λ at. none_forced es s at (parts_undated es s p)) (sectors s) (all_edited sectors es s) in
       let c : front (names s es) ≡ 18 = ap front named in
       omega arith
 
-  region_cost : (s : ℕ) (r : Region) → s ≡ sector_of r → is_in_range segments r ≡ true → names s es ≡ true → ((e : Edit) → MeetsUse end e → edit_region e ≡ r → is_partial e ≡ true) → 18 + cost (patches_of (sectors s) (all_edited sectors es s)) ≤ charge es s
+  region_cost : (s : ℕ) (r : Region) → s ≡ sector_of r → is_in_range segments r ≡ true → names s es ≡ true → ((e : Edit) → MeetsUse end e → edit_region e ≡ r → is_partial e ≡ true) → 18 + cost (patches_with (forced_in es s) (sectors s) (all_edited sectors es s)) ≤ charge es s
   region_cost s r at inside named to = part_cost s named (subst (λ (k : ℕ). Partly k es) (sym at) (partly segments end r es few inside fit to))
 
-  by_writer : (s : ℕ) (e : Edit) → names s es ≡ true → is_metadata e ≡ true → s ≡ edit_sector e → IsFitEdit segments e → MeetsUse end e → ((i : ℕ) → sets_inode i e ≡ true → sets_later i es ≡ true) → 18 + cost (patches_of (sectors s) (all_edited sectors es s)) ≤ charge es s
-  by_writer s (SetInode i x) named m at f u inodes =
+  by_writer : (s : ℕ) (e : Edit) → names s es ≡ true → is_metadata e ≡ true → s ≡ edit_sector e → IsFitEdit segments e → MeetsUse end e → ((i : ℕ) → sets_inode i e ≡ true → sets_later i es ≡ true) → 18 + cost (patches_with (forced_in es s) (sectors s) (all_edited sectors es s)) ≤ charge es s
+  by_writer s (SetInode i x dated) named m at f u inodes =
       let a : 1280 ≤ charge es (sector_of (region.Inode i)) = inode_charge es i (inodes i (of_eq i i refl)) in
       let b : charge es s ≡ charge es (sector_of (region.Inode i)) = ap (charge es) at in
-      let c = cost_at_most (sectors s) (all_edited sectors es s) (long s) in
+      let c = cost_at_most (forced_in es s) (sectors s) (all_edited sectors es s) (long s) in
       omega arith
   by_writer s (SetBit i b) named m at f u inodes = region_cost s (region.Segment (i / 64)) at (in_segment segments (i / 64) (omega arith)) named (segment_partial end (i / 64))
   by_writer s (SetUse k v) named m at f u inodes = region_cost s (region.Segment (k / 1024)) at (in_segment segments (k / 1024) (omega arith)) named (segment_partial end (k / 1024))
@@ -219,5 +234,5 @@ module _ (segments : ℕ) (end st : Store) (sectors : Sectors) (es : List Edit) 
   by_writer s (SetBytes k part bytes) named m at f u inodes = absurd cc
   by_writer s (SetLargeBytes g part bytes) named m at f u inodes = absurd cc
 
-  pub sector_cost : (s : ℕ) → names s es ≡ true → 18 + cost (patches_of (sectors s) (all_edited sectors es s)) ≤ charge es s
+  pub sector_cost : (s : ℕ) → names s es ≡ true → 18 + cost (patches_with (forced_in es s) (sectors s) (all_edited sectors es s)) ≤ charge es s
   sector_cost s named = let w = writer segments end s es fit named in by_writer s w.edit named w.metadata w.here w.fit w.meets w.inodes

@@ -13,7 +13,7 @@ use Rattle.plan_definitions.specs.Ask.{Got}
 use Rattle.plan_definitions.specs.Plans.{Hand, refused}
 use Rattle.plan_definitions.specs.Plans.Plan.{Finishes}
 use Rattle.plan_definitions.specs.NamePlans.{finish_over}
-use Rattle.plan_definitions.specs.FilePlans.{resized, size_edits, blocks_between, large_cut, cut_segments, cut_by, cutting}
+use Rattle.plan_definitions.specs.FilePlans.{resized, file_dated, blocks_between, large_cut, cut_segments, cut_by, cutting}
 use Rattle.plan_laws.proofs.Asking.{run-segments}
 use Rattle.plan_definitions.specs.FitEdits.{IsFitNode}
 use Rattle.plan_laws.proofs.Among.{is_among}
@@ -22,18 +22,18 @@ use Rattle.plan_definitions.specs.FitPlans.{IsFitFinish}
 use Rattle.plan_fit.specs.FitFiles.{TruncateFits}
 use Rattle.plan_fit.proofs.Refused.{Fits, refuse_fits}
 use Rattle.plan_fit.proofs.FileNodes.{fit_file, resized_fits}
-use Rattle.plan_fit.proofs.Changes.{fit_join, uses_fit, larges_fit, size_fits, no_directory}
+use Rattle.plan_fit.proofs.Changes.{fit_join, uses_fit, larges_fit, dated_fits, no_directory}
 use Rattle.plan_fit.proofs.Aimed.{IsFile, file_fits}
 
-module _ (h : Hand) (g : ℕ) (s : Store) (i : ℕ) (touched : List ℕ) (x : StoredNode) (file : IsFile g s i x) (len : ℕ) where
+module _ (h : Hand) (g : ℕ) (s : Store) (i : ℕ) (touched : List ℕ) (x : StoredNode) (file : IsFile g s i x) (when len : ℕ) (late : when < 2 ^ 64) where
   abbrev gone : List ℕ
   gone = blocks_between x (small_blocks_of len) x.blocks
 
   abbrev y : StoredNode
-  y = resized x len [] None
+  y = resized x when len [] None
 
   abbrev end : Store
-  end = edited_all s (cut_by i touched x len).edits
+  end = edited_all s (cut_by when i touched x len).edits
 
   gone_within : (j : ℕ) → j < length gone → slice_index gone j < 1024 * g
   gone_within j l =
@@ -63,23 +63,23 @@ module _ (h : Hand) (g : ℕ) (s : Store) (i : ℕ) (touched : List ℕ) (x : St
     y_fits : IsFitNode y
     y_fits =
         let f = fit_file x file.fit file.kind in
-        resized_fits x len [] None file.fit file.kind (let m : x.size ≤ 1114112 = f.size in omega arith) (λ j. omega arith) (large_most (nat_lt 65536 len))
+        resized_fits x when len [] None file.fit file.kind late (let m : x.size ≤ 1114112 = f.size in omega arith) (λ j. omega arith) (large_most (nat_lt 65536 len))
         (large_by (nat_lt 65536 len) refl (nat_lt 65536 x.size) refl f.large)
 
-    cut_fits : IsFitFinish h g s (cut_by i touched x len)
+    cut_fits : IsFitFinish h g s (cut_by when i touched x len)
     cut_fits = record {
-      edits = fit_join g end (map (λ k. SetUse k Fresh) gone ++ map (λ k. SetLarge k false) (large_cut x len)) (size_edits i x y)
+      edits = fit_join g end (map (λ k. SetUse k Fresh) gone ++ map (λ k. SetLarge k false) (large_cut x len)) (file_dated i y)
           (fit_join g end (map (λ k. SetUse k Fresh) gone) (map (λ k. SetLarge k false) (large_cut x len)) (uses_fit g end Fresh gone gone_within) (larges_fit g end false (large_cut x len) large_within))
-          (size_fits g end i x y file.number y_fits);
-      clear = λ k m. inl (no_directory Fresh (s.use_of k) (is_among k gone) (λ z. z) (subst IsMetadata ((all_set s Fresh gone false (large_cut x len) i x y).uses k) m));
+          (dated_fits g end i y file.number y_fits);
+      clear = λ k m. inl (no_directory Fresh (s.use_of k) (is_among k gone) (λ z. z) (subst IsMetadata ((all_set s Fresh gone false (large_cut x len) i y).uses k) m));
     }
 
-  cutting_fits : Fits h g s (cutting len i touched x)
+  cutting_fits : Fits h g s (cutting when len i touched x)
   cutting_fits = go (nat_lt x.size len) refl
     where
-      go : (b : Bool) → nat_lt x.size len ≡ b → Fits h g s (if b then refused reply.BadOffset touched else finish_over (cut_segments x len) (cut_by i touched x len))
+      go : (b : Bool) → nat_lt x.size len ≡ b → Fits h g s (if b then refused reply.BadOffset touched else finish_over (cut_segments x len) (cut_by when i touched x len))
       go true e = refuse_fits h g s reply.BadOffset touched
-      go false e = rw (run-segments (cut_segments x len) (Got (Finishes (cut_by i touched x len))) s) (cut_fits (grind (arith, nat_tests)))
+      go false e = rw (run-segments (cut_segments x len) (Got (Finishes (cut_by when i touched x len))) s) (cut_fits (grind (arith, nat_tests)))
 
 pub truncate_fits : TruncateFits
-truncate_fits path len h s tree n birth of hand fit small allowed = file_fits h s tree n of fit (cutting len) (λ i touched x file. cutting_fits h tree.segments s i touched x file len) path
+truncate_fits path len h s tree n birth when of hand fit small late allowed = file_fits h s tree n of fit (cutting when len) (λ i touched x file. cutting_fits h tree.segments s i touched x file when len late) path

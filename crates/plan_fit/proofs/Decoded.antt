@@ -14,6 +14,7 @@ pub record IsDecoded (x : Inode) : Type 0 where
   pub small : (j : ℕ) → slice_index x.small j < 2 ^ 32
   pub small_len : length x.small ≡ 16
   pub large : x.large < 2 ^ 32
+  pub when : x.when < 2 ^ 64
   pub target_len : length x.target ≡ 384
 
 length_numbers_in : (n : ℕ) (bytes : List ℕ) → length (numbers_in n bytes) ≡ n
@@ -29,6 +30,10 @@ numbers_fit [] rest h j = omega arith
 numbers_fit (x ∷ xs) rest h zero = let first : little_number 4 (little_bytes 4 x ++ (flat_map (little_bytes 4) xs ++ rest)) ≡ x = cc in fits_four x (flat_map (little_bytes 4) xs ++ rest) first
 numbers_fit (x ∷ xs) rest h (suc j) = let others : numbers_in (length xs) (flat_map (little_bytes 4) xs ++ rest) ≡ xs = cc in numbers_fit xs rest others j
 
+-- from its time on
+time_at : (x : Inode) → length x.small ≡ 16 → drop 100 (inode_bytes x) ≡ little_bytes 8 x.when ++ zeros 20 ++ x.target
+time_at x count = sym (drop-drop 68 32 (inode_bytes x)) ∙ sym (drop-drop 4 64 (drop 32 (inode_bytes x))) ∙ ap (drop 4) (behind_small x count)
+
 pub decoded : (block : List ℕ) (x : Inode) → inode_in block ≡ Some x → length block ≡ 512 → IsDecoded x
 decoded block x h whole =
     let from : inode_fields block ≡ x = fields_read inode_bytes inode_fits block (inode_fields block) x h in
@@ -40,6 +45,7 @@ decoded block x h whole =
       birth = fits_eight x.birth [] (ap (λ (y : Inode). y.birth) is);
       small = numbers_fit x.small (large_and_target x) (ap (λ (n : ℕ). numbers_in n (flat_map (little_bytes 4) x.small ++ large_and_target x)) count ∙ sym (ap (numbers_in 16) (behind_birth x)) ∙ smalls);
       small_len = count;
-      large = fits_four x.large (zeros 28 ++ x.target) (sym (ap (little_number 4) (sym (drop-drop 64 32 (inode_bytes x)) ∙ behind_small x count)) ∙ larges);
+      large = fits_four x.large (little_bytes 8 x.when ++ zeros 20 ++ x.target) (sym (ap (little_number 4) (sym (drop-drop 64 32 (inode_bytes x)) ∙ behind_small x count)) ∙ larges);
+      when = fits_eight x.when (zeros 20 ++ x.target) (sym (ap (little_number 8) (time_at x count)) ∙ ap (λ (y : Inode). y.when) is);
       target_len = sym (ap (λ (y : Inode). length y.target) from) ∙ length-drop 128 block ∙ omega (arith, whole);
     }

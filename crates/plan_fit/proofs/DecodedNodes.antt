@@ -83,7 +83,7 @@ has_target x l h free = ⊎_elim
 fit_again : (x : Inode) → IsDecoded x → inode_fits x ≡ true → is_free_inode x ≡ false → IsFitNode (stored x)
 fit_again x d h free =
     let t = has_target x d.target_len h free in
-    let same : inode_with x.version (Some (stored x)) ≡ x = same_fields (inode_with x.version (Some (stored x))) x refl refl refl refl refl refl (all_numbers x.small 16 d.small_len) refl t.again in
+    let same : inode_with x.version (Some (stored x)) ≡ x = same_fields (inode_with x.version (Some (stored x))) x refl refl refl refl refl refl (all_numbers x.small 16 d.small_len) refl refl t.again in
     record {
       fits = ap inode_fits same ∙ h;
       used = t.some;
@@ -91,6 +91,7 @@ fit_again x d h free =
       small = d.small;
       past = λ j l. small_past x.small j (omega (arith, d.small_len));
       large = d.large;
+      when = d.when;
       target = t.size;
     }
 

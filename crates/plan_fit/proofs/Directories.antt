@@ -18,7 +18,7 @@ untargeted = zeros_are_zero 384
 
 -- the inode of a directory
 abbrev pub directory : ℕ → ℕ → ℕ → (ℕ → ℕ) → StoredNode
-directory size birth blocks small = record { kind = 2; links = 1; size = size; birth = birth; blocks = blocks; small = small; large = 0; target = [] }
+directory size birth blocks small = record { kind = 2; links = 1; size = size; birth = birth; blocks = blocks; small = small; large = 0; when = 0; target = [] }
 
 directory_reads : (x : Inode) → is_directory_inode x ≡ true → (x.blocks ≤ 16) × (x.size ≤ 56 * x.blocks)
 directory_reads x h =
@@ -42,5 +42,6 @@ directory_fits size birth blocks small old numbers few room ends =
       small = numbers;
       past = λ j l. ends j (omega arith);
       large = omega arith;
+      when = omega arith;
       target = refl;
     }

@@ -44,7 +44,7 @@ dearer false true h = omega arith
 dearer false false h = omega arith
 
 price_more : (e : Edit) (xs ys : List Edit) → price e (xs ++ ys) ≤ price e xs
-price_more (SetInode i x) xs ys = dearer (sets_later i xs) (sets_later i (xs ++ ys)) (sets_more i xs ys)
+price_more (SetInode i x dated) xs ys = dearer (sets_later i xs) (sets_later i (xs ++ ys)) (sets_more i xs ys)
 price_more (SetBit i b) xs ys = omega arith
 price_more (SetUse k u) xs ys = omega arith
 price_more (SetPlace k p e) xs ys = omega arith
@@ -112,7 +112,7 @@ weaker es n m k l a b w = let c : namings es ≤ n = w.few in let d : budget es 
 
 drop_within : (j : ℕ) (y : StoredNode) → y.blocks ≤ 16 → AreWithin (drop_node j y) 19 1729
 drop_within j y few =
-    let last : List Edit = SetInode j None ∷ SetBit j false ∷ [] in
+    let last : List Edit = SetInode j None false ∷ SetBit j false ∷ [] in
     let uses = uses_within y.small (freed y.kind) y.blocks in
     let end : AreWithin last 2 1338 = record { few = omega arith; short = omega arith } in
     let more = within_join (large_gone y.large) last 1 23 2 1338 (gone_within y.large) end in

@@ -31,7 +31,7 @@ use Rattle.plan_fit.proofs.PatchCosts.{length_little}
 
 -- it writes a part of its sector
 abbrev pub is_partial : Edit → Bool
-is_partial (SetInode i x) = false
+is_partial (SetInode i x dated) = false
 is_partial (SetBit i b) = true
 is_partial (SetUse k u) = true
 is_partial (SetPlace k p e) = true
@@ -41,7 +41,7 @@ is_partial (SetLargeBytes g part bytes) = false
 
 -- so many bytes at most
 abbrev pub most_in : Edit → ℕ
-most_in (SetInode i x) = 0
+most_in (SetInode i x dated) = 0
 most_in (SetBit i b) = 8
 most_in (SetUse k u) = 1
 most_in (SetPlace k p e) = 72
@@ -127,7 +127,7 @@ module _ (segments : ℕ) (end s : Store) (sectors : Sectors) (h : Says segments
   in_segment k f n l each = let x = a_some (segment_at sectors k) (h.in_segments.grammar k l) in segment_differs (sectors (sector_of (region.Segment k))) x.0 f n x.1 (each x.0)
 
   pub part_differs : (e : Edit) → IsFitEdit segments e → MeetsUse end e → is_partial e ≡ true → differing (sectors (edit_sector e)) (edited_block (sectors (edit_sector e)) (version_at sectors (edit_sector e)) e) ≤ most_in e
-  part_differs (SetInode i x) fit meets t = absurd cc
+  part_differs (SetInode i x dated) fit meets t = absurd cc
   part_differs (SetBit i b) fit meets t = in_segment (i / 64) (λ x. with_inode x (i % 64) b) 8 (omega arith) (λ x. bit_differs x (i % 64) b)
   part_differs (SetUse k u) fit meets t = in_segment (k / 1024) (λ x. with_state x (k % 1024) (state_of u)) 1 (omega arith) (λ x. use_differs x (k % 1024) (state_of u))
   part_differs (SetPlace k p o) fit meets t =

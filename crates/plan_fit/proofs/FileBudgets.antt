@@ -11,7 +11,7 @@ use Rattle.sector_definitions.proofs.InodeLaws.{few_blocks}
 use Rattle.disk_definitions.specs.Store.{Store, StoredNode, StoredEntry}
 use Rattle.disk_definitions.specs.Store.Use.{Fresh, Bytes}
 use Rattle.store_changes.specs.Edits.{Edit}
-use Rattle.store_changes.specs.Edits.Edit.{SetInode, SetUse, SetLarge, SetBytes, SetLargeBytes}
+use Rattle.store_changes.specs.Edits.Edit.{SetUse, SetLarge, SetBytes, SetLargeBytes}
 use Rattle.pick_definitions.specs.Picks.{picked_many, picked_large}
 use Rattle.pick_definitions.proofs.ManyLaws.{picks_the_least}
 use Rattle.plan_definitions.specs.Ask.{Ask, Got, ReadInode, ReadBytes, ReadLarge, run, seven}
@@ -20,7 +20,7 @@ use Rattle.plan_definitions.specs.Walks.Spot.{AtRoot, AtName, AtGap, Lost}
 use Rattle.plan_definitions.specs.Plans.{Hand, Plan, refused, read_held}
 use Rattle.plan_definitions.specs.Plans.Plan.{Finishes}
 use Rattle.plan_definitions.specs.NamePlans.{finish_over}
-use Rattle.plan_definitions.specs.FilePlans.{Writing, end_of, keeps_bytes, sectors_met, mixed, directory_blocks, set_sector, read_sector, write_sector, write_sectors, resized, large_taken, size_edits, written_by, writing_in, writing_picked, writing_small, writing_large, writing, blocks_between, large_cut, cut_segments, cut_by, cutting, read_sectors, showing, at_file, with_file}
+use Rattle.plan_definitions.specs.FilePlans.{Writing, end_of, keeps_bytes, sectors_met, mixed, directory_blocks, set_sector, read_sector, write_sector, write_sectors, resized, large_taken, file_dated, written_by, writing_in, writing_picked, writing_small, writing_large, writing, blocks_between, large_cut, cut_segments, cut_by, cutting, read_sectors, showing, at_file, with_file}
 use Rattle.plan_definitions.specs.LookPlans.{plan_of_node, with_inode, at_inode, entries_of, read_entries, listing, sorted_names}
 use Rattle.plan_laws.proofs.Asking.{run-bind, run-segments}
 use Rattle.plan_fit.proofs.Bounds.{AreSmall}
@@ -29,12 +29,8 @@ use Rattle.plan_fit.proofs.NameBudgets.{MakesSmall, HasFewBlocks, refuse_small, 
 
 -- ---- edits
 
-size_within : (i : ℕ) (x y : StoredNode) → AreWithin (size_edits i x y) 1 1280
-size_within i x y = go (y.size == x.size)
-  where
-    go : (b : Bool) → AreWithin (if b then [] else SetInode i (Some y) ∷ []) 1 1280
-    go true = record { few = omega arith; short = omega arith }
-    go false = record { few = omega arith; short = omega arith }
+dated_within : (i : ℕ) (y : StoredNode) → AreWithin (file_dated i y) 1 1280
+dated_within i y = record { few = omega arith; short = omega arith }
 
 taken_within : (o : Option ℕ) → AreWithin (large_taken o) 1 23
 taken_within None = record { few = omega arith; short = omega arith }
@@ -94,37 +90,37 @@ module _ (s : Store) where
       entries_read small n (j + 1) (λ more. next (entries_of f ++ more)) (λ more. each (entries_of f ++ more))
 
   -- ---- truncate
-  cut_small : (i : ℕ) (touched : List ℕ) (x : StoredNode) (len : ℕ) → x.blocks ≤ 16 → AreSmall (cut_by i touched x len).edits
-  cut_small i touched x len few =
+  cut_small : (when i : ℕ) (touched : List ℕ) (x : StoredNode) (len : ℕ) → x.blocks ≤ 16 → AreSmall (cut_by when i touched x len).edits
+  cut_small when i touched x len few =
       let ks = blocks_between x (small_blocks_of len) x.blocks in
       let long : length ks ≡ x.blocks - small_blocks_of len = length_between x (small_blocks_of len) x.blocks in
       let smalls = map (λ k. SetUse k Fresh) ks in
       let larges = map (λ g. SetLarge g false) (large_cut x len) in
-      let node = size_edits i x (resized x len [] None) in
+      let node = file_dated i (resized x when len [] None) in
       small_within ((smalls ++ larges) ++ node) ((length ks + 1) + 1) ((23 * length ks + 23) + 1280) (omega arith) (omega arith)
-      (within_join (smalls ++ larges) node (length ks + 1) (23 * length ks + 23) 1 1280 (within_join smalls larges (length ks) (23 * length ks) 1 23 (states_within Fresh ks) (large_within x len)) (size_within i x (resized x len [] None)))
+      (within_join (smalls ++ larges) node (length ks + 1) (23 * length ks + 23) 1 1280 (within_join smalls larges (length ks) (23 * length ks) 1 23 (states_within Fresh ks) (large_within x len)) (dated_within i (resized x when len [] None)))
 
-  pub cutting_small : (len i : ℕ) (touched : List ℕ) (x : StoredNode) → x.blocks ≤ 16 → MakesSmall (run (cutting len i touched x) s)
-  cutting_small len i touched x few = go (nat_lt x.size len)
+  pub cutting_small : (when len i : ℕ) (touched : List ℕ) (x : StoredNode) → x.blocks ≤ 16 → MakesSmall (run (cutting when len i touched x) s)
+  cutting_small when len i touched x few = go (nat_lt x.size len)
     where
-      go : (b : Bool) → MakesSmall (run (if b then refused reply.BadOffset touched else finish_over (cut_segments x len) (cut_by i touched x len)) s)
+      go : (b : Bool) → MakesSmall (run (if b then refused reply.BadOffset touched else finish_over (cut_segments x len) (cut_by when i touched x len)) s)
       go true = refuse_small reply.BadOffset touched
-      go false = rw (run-segments (cut_segments x len) (Got (Finishes (cut_by i touched x len))) s) (cut_small i touched x len few)
+      go false = rw (run-segments (cut_segments x len) (Got (Finishes (cut_by when i touched x len))) s) (cut_small when i touched x len few)
 
   -- ---- write and fill
   module _ (h : Hand) (w : Writing) (i : ℕ) (touched : List ℕ) (x : StoredNode) where
-    written_small : (y : StoredNode) (picks : List ℕ) (o : Option ℕ) (bytes : List Edit) → length picks ≤ 16 → AreWithin bytes 0 0 → AreSmall (written_by i x y picks o touched bytes).edits
+    written_small : (y : StoredNode) (picks : List ℕ) (o : Option ℕ) (bytes : List Edit) → length picks ≤ 16 → AreWithin bytes 0 0 → AreSmall (written_by i y picks o touched bytes).edits
     written_small y picks o bytes few none =
         let smalls = map (λ k. SetUse k Bytes) picks in
         let n = length picks in
-        small_within (((smalls ++ large_taken o) ++ size_edits i x y) ++ bytes) (((n + 1) + 1) + 0) (((23 * n + 23) + 1280) + 0) (omega arith) (omega arith)
-        (within_join ((smalls ++ large_taken o) ++ size_edits i x y) bytes ((n + 1) + 1) ((23 * n + 23) + 1280) 0 0
-        (within_join (smalls ++ large_taken o) (size_edits i x y) (n + 1) (23 * n + 23) 1 1280 (within_join smalls (large_taken o) n (23 * n) 1 23 (states_within Bytes picks) (taken_within o)) (size_within i x y)) none)
+        small_within (((smalls ++ large_taken o) ++ file_dated i y) ++ bytes) (((n + 1) + 1) + 0) (((23 * n + 23) + 1280) + 0) (omega arith) (omega arith)
+        (within_join ((smalls ++ large_taken o) ++ file_dated i y) bytes ((n + 1) + 1) ((23 * n + 23) + 1280) 0 0
+        (within_join (smalls ++ large_taken o) (file_dated i y) (n + 1) (23 * n + 23) 1 1280 (within_join smalls (large_taken o) n (23 * n) 1 23 (states_within Bytes picks) (taken_within o)) (dated_within i y)) none)
 
     in_small : (picks : List ℕ) (o : Option ℕ) → length picks ≤ 16 → MakesSmall (run (writing_in w i touched x picks o) s)
     in_small picks o few =
-        let y = resized x (max x.size (end_of w)) picks o in
-        sectors_written w x y (sectors_met w.off w.len) (w.off / 512) (λ bytes. Got (Finishes (written_by i x y picks o touched bytes))) (λ bytes none. written_small y picks o bytes few none)
+        let y = resized x w.when (max x.size (end_of w)) picks o in
+        sectors_written w x y (sectors_met w.off w.len) (w.off / 512) (λ bytes. Got (Finishes (written_by i y picks o touched bytes))) (λ bytes none. written_small y picks o bytes few none)
 
     picked_small : (o : Option ℕ) (more : ℕ) (p : Option (List ℕ)) → more ≤ 16 → picked_many h.held more ≡ p → MakesSmall (run (writing_picked h w i touched x o p) s)
     picked_small o more None l e = none_small h s (reply.NoBlock (directory_blocks h.held)) touched

@@ -1,4 +1,4 @@
--- The inode of a file with another size may stand in its sector.
+-- The inode of a file with another size and time may stand in its sector.
 use Rattle.std.proofs.Common.{◌≡◌, ℕ, ◌-◌, ◌^◌, ◌<◌, ◌≤◌, ⊎_elim, Bool, true, false, ◌||◌, ◌==◌, nat_lt, nat_le, if◌then◌else◌, Option, Some, List, slice_index, refl, ◌∙◌, arith, eqb-true, leb-true}
 use Rattle.std.proofs.lemmas.Bool.{and_from, or_cases}
 use Rattle.std.proofs.lemmas.Bool.Decides.{nat_tests}
@@ -60,7 +60,7 @@ fit_file x fit k =
     let p = file_parts (inode_with 0 (Some x)) (file_of (inode_with 0 (Some x)) fit.fits k) in
     record { some = p.0; most = p.1; size = p.2; blocks = p.3; large = p.4; target = p.5 }
 
--- ---- the inode with another size
+-- ---- the inode with another size and time
 
 file_fits : (y : Inode) → y.kind ≡ 1 → 1 ≤ y.links → y.links ≤ 1000 → y.size ≤ 1114112 → y.blocks ≡ small_blocks_of y.size → ends_blocks y ≡ true → goes_by_size y.size y.large ≡ true → are_zero y.target ≡ true → inode_fits y ≡ true
 file_fits y kind some most size blocks last large target =
@@ -74,11 +74,11 @@ file_fits y kind some most size blocks last large target =
     among true b c d e = refl
     among false b c d e = rw e refl
 
-module _ (x : StoredNode) (size : ℕ) (picks : List ℕ) (o : Option ℕ) where
-  small_past : (j : ℕ) → small_blocks_of size ≤ j → (resized x size picks o).small j ≡ 0
+module _ (x : StoredNode) (when size : ℕ) (picks : List ℕ) (o : Option ℕ) where
+  small_past : (j : ℕ) → small_blocks_of size ≤ j → (resized x when size picks o).small j ≡ 0
   small_past j l = rw (of_ge j (small_blocks_of size) l) refl
 
-  small_most : ((j : ℕ) → x.small j < 2 ^ 32) → ((j : ℕ) → slice_index picks j < 2 ^ 32) → (j : ℕ) → (resized x size picks o).small j < 2 ^ 32
+  small_most : ((j : ℕ) → x.small j < 2 ^ 32) → ((j : ℕ) → slice_index picks j < 2 ^ 32) → (j : ℕ) → (resized x when size picks o).small j < 2 ^ 32
   small_most own new j = go (nat_lt j (small_blocks_of size)) (nat_lt j x.blocks)
     where
       go : (b c : Bool) → (if b then (if c then x.small j else slice_index picks (j - x.blocks)) else 0) < 2 ^ 32
@@ -86,15 +86,16 @@ module _ (x : StoredNode) (size : ℕ) (picks : List ℕ) (o : Option ℕ) where
       go true false = new (j - x.blocks)
       go false c = omega arith
 
-  pub resized_fits : IsFitNode x → x.kind ≡ 1 → size ≤ 1114112 → ((j : ℕ) → slice_index picks j < 2 ^ 32) → large_after x o size < 2 ^ 32 → goes_by_size size (large_after x o size) ≡ true → IsFitNode (resized x size picks o)
-  resized_fits fit k most new large by_size =
+  pub resized_fits : IsFitNode x → x.kind ≡ 1 → when < 2 ^ 64 → size ≤ 1114112 → ((j : ℕ) → slice_index picks j < 2 ^ 32) → large_after x o size < 2 ^ 32 → goes_by_size size (large_after x o size) ≡ true → IsFitNode (resized x when size picks o)
+  resized_fits fit k late most new large by_size =
       let f = fit_file x fit k in
       record {
-        fits = file_fits (inode_with 0 (Some (resized x size picks o))) k f.some f.most most refl (ends_at (resized x size picks o).small (small_blocks_of size) small_past) by_size f.target;
+        fits = file_fits (inode_with 0 (Some (resized x when size picks o))) k f.some f.most most refl (ends_at (resized x when size picks o).small (small_blocks_of size) small_past) by_size f.target;
         used = fit.used;
         birth = fit.birth;
         small = small_most fit.small new;
         past = λ j l. small_past j (omega arith);
         large = large;
+        when = late;
         target = fit.target ∙ rw k refl;
       }

@@ -114,7 +114,7 @@ module _ (h : Hand) (s : Store) (tree : FileTree) (n : Naming) (of : IsOfTree s 
           linking_to_fits to names dirs b r.0 r.1 (subst (λ k. k ≢ 2) kind (ne_of (n.kind b) 2 e))
 
 pub link_fits : LinkIsFit
-link_fits path to h s tree n birth of hand fit old allowed =
+link_fits path to h s tree n birth when of hand fit old late allowed =
     let w = run (walk path) s in
     rw (run-bind (walk path) (λ w. linking h to w.dirs w.spot) s)
     (by_spot s (node_at tree) n of.pictures (λ v p. PlanIsFit h tree.segments s (run (linking h to w.dirs v) s))

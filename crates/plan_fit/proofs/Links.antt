@@ -38,13 +38,14 @@ link_relinked x links h a b =
     let blocks : x.blocks == 0 ≡ true = search (and_l, and_r) depth 12 in
     let none : are_zero x.small ≡ true = search (and_l, and_r) depth 12 in
     let large : x.large == 0 ≡ true = search (and_l, and_r) depth 12 in
+    let when : x.when == 0 ≡ true = search (and_l, and_r) depth 12 in
     let least : nat_le 1 x.size ≡ true = search (and_l, and_r) depth 12 in
     let most : nat_le x.size 384 ≡ true = search (and_l, and_r) depth 12 in
     let bytes : list_all is_target_byte (take x.size x.target) ≡ true = search (and_l, and_r) depth 12 in
     let rest : are_zero (drop x.size x.target) ≡ true = search (and_l, and_r) depth 12 in
     let some : nat_le 1 links ≡ true = grind (arith, nat_tests) in
     let few : nat_le links 1000 ≡ true = grind (arith, nat_tests) in
-    rw (kind, some, few, blocks, none, large, least, most, bytes, rest) refl
+    rw (kind, some, few, blocks, none, large, when, least, most, bytes, rest) refl
 
 directory_kind : (x : Inode) → is_directory_inode x ≡ true → x.kind ≡ 2
 directory_kind x h = let kind : x.kind == 2 ≡ true = search (and_l, and_r) depth 12 in eqb-true x.kind 2 kind
@@ -86,6 +87,7 @@ relinked_fits x links h plain a b = record {
   small = h.small;
   past = h.past;
   large = h.large;
+  when = h.when;
   target = h.target;
 }
 
@@ -101,8 +103,8 @@ no_blocks j = go (nat_lt j 0)
 few_blocks : (j : ℕ) → first_blocks 0 (λ j. 0) j < 2 ^ 32
 few_blocks j = subst (λ k. k < 2 ^ 32) (sym (no_blocks j)) (omega arith)
 
-pub new_file : (birth : ℕ) → birth < 2 ^ 64 → IsFitNode (inode_of birth (λ j. 0) 0 (File [] 1))
-new_file birth old = record { fits = rw untargeted refl; used = omega arith; birth = old; small = few_blocks; past = λ j l. no_blocks j; large = omega arith; target = refl }
+pub new_file : (birth : ℕ) → birth < 2 ^ 64 → IsFitNode (inode_of birth (λ j. 0) 0 (File [] 1 0))
+new_file birth old = record { fits = rw untargeted refl; used = omega arith; birth = old; small = few_blocks; past = λ j l. no_blocks j; large = omega arith; when = omega arith; target = refl }
 
 pub new_directory : (birth : ℕ) → birth < 2 ^ 64 → IsFitNode (inode_of birth (λ j. 0) 0 (Dir [] 0))
 new_directory birth old = directory_fits 0 birth 0 (first_blocks 0 (λ j. 0)) old few_blocks (omega arith) (omega arith) (λ j l. no_blocks j)
@@ -118,4 +120,4 @@ new_link birth target old h =
     let rest = zeros (384 - length target) in
     let bytes : list_all is_target_byte (take (length target) (target ++ rest)) ≡ true = ap (list_all is_target_byte) (take_at target rest (length target) refl) ∙ h.bytes in
     let past : are_zero (drop (length target) (target ++ rest)) ≡ true = ap are_zero (drop_past target rest) ∙ zeros_are_zero (384 - length target) in
-    record { fits = rw (least, most, bytes, past) refl; used = omega arith; birth = old; small = few_blocks; past = λ j l. no_blocks j; large = omega arith; target = refl }
+    record { fits = rw (least, most, bytes, past) refl; used = omega arith; birth = old; small = few_blocks; past = λ j l. no_blocks j; large = omega arith; when = omega arith; target = refl }

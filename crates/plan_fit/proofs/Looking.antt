@@ -58,22 +58,22 @@ module _ (h : Hand) (segments : ℕ) (s : Store) where
       go false false = refuse_fits h segments s reply.Inval t.dirs
 
 pub stat_fits : StatFits
-stat_fits path h s tree n birth of hand fit small allowed =
+stat_fits path h s tree n birth when of hand fit small late allowed =
     node_fits h tree.segments s (at_inode (λ touched x. refused (described x) touched)) (inode_fits h tree.segments s (λ touched x. refused (described x) touched) (λ touched x. refuse_fits h tree.segments s (described x) touched)) path
 
 pub time_fits : TimeFits
-time_fits path h s tree n birth of hand fit small allowed =
+time_fits path h s tree n birth when of hand fit small late allowed =
     node_fits h tree.segments s (at_inode (λ touched x. refused (timed x) touched)) (inode_fits h tree.segments s (λ touched x. refused (timed x) touched) (λ touched x. refuse_fits h tree.segments s (timed x) touched)) path
 
 pub list_fits : ListFits
-list_fits path h s tree n birth of hand fit small allowed =
+list_fits path h s tree n birth when of hand fit small late allowed =
     node_fits h tree.segments s (λ t. if t.kind == 2 then at_inode listing t else refused reply.NotDir t.dirs)
     (by_kind h tree.segments s (at_inode listing) 2 reply.NotDir (inode_fits h tree.segments s listing (listing_fits h tree.segments s))) path
 
 pub readlink_fits : ReadlinkFits
-readlink_fits path h s tree n birth of hand fit small allowed =
+readlink_fits path h s tree n birth when of hand fit small late allowed =
     node_fits h tree.segments s (λ t. if t.kind == 3 then at_inode (λ touched x. refused (reply.Target x.target) touched) t else refused reply.Inval t.dirs)
     (by_kind h tree.segments s (at_inode (λ touched x. refused (reply.Target x.target) touched)) 3 reply.Inval (inode_fits h tree.segments s (λ touched x. refused (reply.Target x.target) touched) (λ touched x. refuse_fits h tree.segments s (reply.Target x.target) touched))) path
 
 pub read_fits : ReadFits
-read_fits path off len h s tree n birth of hand fit small allowed = node_fits h tree.segments s (at_file (showing off len)) (read_file_fits h tree.segments s off len) path
+read_fits path off len h s tree n birth when of hand fit small late allowed = node_fits h tree.segments s (at_file (showing off len)) (read_file_fits h tree.segments s off len) path

@@ -95,10 +95,10 @@ made_fit h s tree n of hand fit birth node whole path names =
     w.spot (place tree path) (walks_lead s tree n path of).0 (walk_named s path names))
 
 pub create_fits : CreateIsFit
-create_fits path h s tree n birth of hand fit old allowed = made_fit h s tree n of hand fit birth (File [] 1) (new_file birth old) path allowed
+create_fits path h s tree n birth when of hand fit old late allowed = made_fit h s tree n of hand fit birth (File [] 1 0) (new_file birth old) path allowed
 
 pub mkdir_fits : MkdirIsFit
-mkdir_fits path h s tree n birth of hand fit old allowed = made_fit h s tree n of hand fit birth (Dir [] 0) (new_directory birth old) path allowed
+mkdir_fits path h s tree n birth when of hand fit old late allowed = made_fit h s tree n of hand fit birth (Dir [] 0) (new_directory birth old) path allowed
 
 pub symlink_fits : SymlinkIsFit
-symlink_fits path target h s tree n birth of hand fit old allowed = made_fit h s tree n of hand fit birth (Link target 1) (new_link birth target old allowed.1) path allowed.0
+symlink_fits path target h s tree n birth when of hand fit old late allowed = made_fit h s tree n of hand fit birth (Link target 1) (new_link birth target old allowed.1) path allowed.0

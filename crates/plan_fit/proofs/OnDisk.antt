@@ -30,7 +30,7 @@ beyond count block j l = rw (of_ge j count l) refl
 
 pub kind_known : (node : Node) → (1 ≤ kind_of node) × (kind_of node ≤ 3)
 kind_known (Dir entries blocks) = (omega arith, omega arith)
-kind_known (File cells links) = (omega arith, omega arith)
+kind_known (File cells links when) = (omega arith, omega arith)
 kind_known (Link target links) = (omega arith, omega arith)
 
 module _ (s : Store) (tree : FileTree) (n : Naming) (of : IsOfTree s tree n) where
@@ -52,24 +52,24 @@ module _ (s : Store) (tree : FileTree) (n : Naming) (of : IsOfTree s tree n) whe
   directory_use : (d blocks : ℕ) (entries : Entries) → node_at tree d ≡ Some (Dir entries blocks) → (j : ℕ) → j < blocks → s.use_of (first_blocks blocks (n.block d) j) ≡ OfEntries
   directory_use d blocks entries is j l = ap s.use_of (within blocks (n.block d) j l) ∙ owned_use d j (Dir entries blocks) is l
 
-  file_use : (b links : ℕ) (cells : List Cell) → node_at tree b ≡ Some (File cells links) → (j : ℕ) → j < small_blocks_of (length cells) → s.use_of (first_blocks (small_blocks_of (length cells)) (n.block b) j) ≡ Bytes
-  file_use b links cells is j l = ap s.use_of (within (small_blocks_of (length cells)) (n.block b) j l) ∙ owned_use b j (File cells links) is l
+  file_use : (b links when : ℕ) (cells : List Cell) → node_at tree b ≡ Some (File cells links when) → (j : ℕ) → j < small_blocks_of (length cells) → s.use_of (first_blocks (small_blocks_of (length cells)) (n.block b) j) ≡ Bytes
+  file_use b links when cells is j l = ap s.use_of (within (small_blocks_of (length cells)) (n.block b) j l) ∙ owned_use b j (File cells links when) is l
 
   small_on_disk : (b : ℕ) (node : Node) → node_at tree b ≡ Some node → (j : ℕ) → j < (inode_by n b node).blocks → (inode_by n b node).small j < 1024 * tree.segments
   small_on_disk b (Dir entries blocks) is j l = entries_in_disk (first_blocks blocks (n.block b) j) (directory_use b blocks entries is j l)
-  small_on_disk b (File cells links) is j l = bytes_in_disk (first_blocks (small_blocks_of (length cells)) (n.block b) j) (file_use b links cells is j l)
+  small_on_disk b (File cells links when) is j l = bytes_in_disk (first_blocks (small_blocks_of (length cells)) (n.block b) j) (file_use b links when cells is j l)
   small_on_disk b (Link target links) is j l = absurd (let m : j < 0 = l in omega arith)
 
   -- once the node goes, its blocks are directories' as they were
   pub freed_alike : (b : ℕ) (node : Node) → node_at tree b ≡ Some node → (j : ℕ) → j < (inode_by n b node).blocks → is_directory_use (freed (inode_by n b node).kind) ≡ is_directory_use (s.use_of ((inode_by n b node).small j))
   freed_alike b (Dir entries blocks) is j l = sym (ap is_directory_use (directory_use b blocks entries is j l))
-  freed_alike b (File cells links) is j l = sym (ap is_directory_use (file_use b links cells is j l))
+  freed_alike b (File cells links when) is j l = sym (ap is_directory_use (file_use b links when cells is j l))
   freed_alike b (Link target links) is j l = absurd (let m : j < 0 = l in omega arith)
 
   large_on_disk : (b : ℕ) (node : Node) → node_at tree b ≡ Some node → (inode_by n b node).large == 0 ≡ false → (inode_by n b node).large - 1 < tree.segments
   large_on_disk b (Dir entries blocks) is e = absurd (cc)
   large_on_disk b (Link target links) is e = absurd (cc)
-  large_on_disk b (File cells links) is e = go (nat_lt 65536 (length cells)) refl e
+  large_on_disk b (File cells links when) is e = go (nat_lt 65536 (length cells)) refl e
     where
       go : (c : Bool) → nat_lt 65536 (length cells) ≡ c → (if c then n.large b + 1 else 0) == 0 ≡ false → (if c then n.large b + 1 else 0) - 1 < tree.segments
       go false h e = absurd (cc)

@@ -15,9 +15,9 @@ pub record OwnsBlocks (segments : ℕ) (s : Store) (x : StoredNode) : Type 0 whe
   pub smalls : (j : ℕ) → j < x.blocks → (x.small j < 1024 * segments) × (s.use_of (x.small j) ≡ Bytes)
   pub larges : 0 < x.large → (x.large - 1 < segments) × (s.large_bit (x.large - 1) ≡ true)
 
-module _ (s : Store) (tree : FileTree) (n : Naming) (of : IsOfTree s tree n) (b links : ℕ) (cells : List Cell) (is : node_at tree b ≡ Some (File cells links)) where
+module _ (s : Store) (tree : FileTree) (n : Naming) (of : IsOfTree s tree n) (b links when : ℕ) (cells : List Cell) (is : node_at tree b ≡ Some (File cells links when)) where
   abbrev x : StoredNode
-  x = inode_by n b (File cells links)
+  x = inode_by n b (File cells links when)
 
   small_at : (j : ℕ) → j < small_blocks_of (length cells) → x.small j ≡ n.block b j
   small_at j l = rw (of_lt j (small_blocks_of (length cells)) l) refl

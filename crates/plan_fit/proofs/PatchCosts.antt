@@ -1,4 +1,4 @@
--- How many bytes the patches of a block take in a record: five for each byte that differs at most, and never more than 1,262.
+-- How many bytes the patches of a block take in a record: five for each byte that differs at most, where none is forced, and never more than 1,262.
 use Rattle.std.proofs.Common.{◌≡◌, ℕ, ◌+◌, ◌*◌, ◌≤◌, Bool, true, false, ◌&&◌, ◌==◌, nat_le, if◌then◌else◌, List, [], ◌∷◌, ◌++◌, length, drop, refl, arith, length-append, leb-true}
 use Rattle.std.specs.List.{flat_map}
 use Rattle.std.proofs.lemmas.Bool.{and_parts}
@@ -7,8 +7,8 @@ use Rattle.byteorder.specs.Numbers.{length-bytes_low_first}
 use Rattle.frang_base.specs.declared.change.Patch.{Patch}
 use Rattle.frang_base.specs.declared.change.Change.{Change}
 use Rattle.log_definitions.specs.Records.{patch_bytes, change_bytes}
-use Rattle.sector_bytes.specs.Patches.{joined, runs_from, patches_of, are_apart}
-use Rattle.sector_bytes.proofs.PatchLaws.{patches_apart}
+use Rattle.sector_bytes.specs.Patches.{joined, runs_from, patches_with, are_apart}
+use Rattle.sector_bytes.proofs.PatchLaws.{forced_patches_apart}
 use Rattle.plan_fit.proofs.Differing.{differing, dropped}
 
 -- four bytes beside those of each patch
@@ -55,17 +55,20 @@ joined_cost at b (p ∷ ps) = go (p.at == at + 1)
     go true = omega arith
     go false = omega arith
 
-runs_cost : (old new : List ℕ) (at : ℕ) → cost (runs_from at old new) ≤ 5 * differing old new
-runs_cost [] new at = omega arith
-runs_cost (a ∷ old) [] at = omega arith
-runs_cost (a ∷ old) (b ∷ new) at = go (runs_cost old new (at + 1)) (a == b)
-  where
-    go : cost (runs_from (at + 1) old new) ≤ 5 * differing old new → (t : Bool) → cost (if t then runs_from (at + 1) old new else joined at b (runs_from (at + 1) old new)) ≤ 5 * ((if t then 0 else 1) + differing old new)
-    go l true = omega arith
-    go l false = let m = joined_cost at b (runs_from (at + 1) old new) in omega arith
+module _ (forced : ℕ → Bool) (none : (at : ℕ) → forced at ≡ false) where
+  runs_cost : (old new : List ℕ) (at : ℕ) → cost (runs_from forced at old new) ≤ 5 * differing old new
+  runs_cost [] new at = omega arith
+  runs_cost (a ∷ old) [] at = omega arith
+  runs_cost (a ∷ old) (b ∷ new) at = rw (none at) (go (runs_cost old new (at + 1)) (a == b))
+    where
+      go : cost (runs_from forced (at + 1) old new) ≤ 5 * differing old new → (t : Bool)
+          → cost (if t then runs_from forced (at + 1) old new else joined at b (runs_from forced (at + 1) old new)) ≤ 5 * ((if t then 0 else 1) + differing old new)
+      go l true = omega arith
+      go l false = let m = joined_cost at b (runs_from forced (at + 1) old new) in omega arith
 
-pub cost_by_bytes : (old new : List ℕ) → cost (patches_of old new) ≤ 5 * differing old new
-cost_by_bytes old new = let l = runs_cost (drop 8 old) (drop 8 new) 8 in let m = dropped 8 old new in omega arith
+  -- where no place is forced
+  pub cost_by_bytes : (old new : List ℕ) → cost (patches_with forced old new) ≤ 5 * differing old new
+  cost_by_bytes old new = let l = runs_cost (drop 8 old) (drop 8 new) 8 in let m = dropped 8 old new in omega arith
 
 -- patches that don't touch have a byte between them
 apart_cost : (ps : List Patch) (from to : ℕ) → from ≤ to + 1 → are_apart from to ps ≡ true → 2 * cost ps + 5 * from ≤ 5 * (to + 1)
@@ -81,5 +84,6 @@ apart_cost (p ∷ ps) from to l h =
     let rest : 2 * cost ps + 5 * (end + 1) ≤ 5 * (to + 1) = apart_cost ps (end + 1) to (omega arith) a.1 in
     omega arith
 
-pub cost_at_most : (old new : List ℕ) → length old ≡ 512 → cost (patches_of old new) ≤ 1262
-cost_at_most old new long = let l = apart_cost (patches_of old new) 8 512 (omega arith) (patches_apart old new long) in omega arith
+-- whatever places are forced
+pub cost_at_most : (forced : ℕ → Bool) (old new : List ℕ) → length old ≡ 512 → cost (patches_with forced old new) ≤ 1262
+cost_at_most forced old new long = let l = apart_cost (patches_with forced old new) 8 512 (omega arith) (forced_patches_apart forced old new long) in omega arith

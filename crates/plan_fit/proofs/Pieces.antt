@@ -86,8 +86,8 @@ module _ (segments : ℕ) (end : Store) where
   module _ (i : ℕ) (x : StoredNode) (on : IsOnDisk segments i x) where
     drop_node_fits : AreFit segments end (drop_node i x)
     drop_node_fits =
-        fit_join segments end (uses_to x.small (freed x.kind) x.blocks) (large_gone x.large ++ (SetInode i None ∷ SetBit i false ∷ [])) (uses_fit x.small (freed x.kind) x.blocks on.small)
-        (fit_join segments end (large_gone x.large) (SetInode i None ∷ SetBit i false ∷ []) (large_fits x.large on.large) ((on.inode, tt), ((on.inode, tt), tt)))
+        fit_join segments end (uses_to x.small (freed x.kind) x.blocks) (large_gone x.large ++ (SetInode i None false ∷ SetBit i false ∷ [])) (uses_fit x.small (freed x.kind) x.blocks on.small)
+        (fit_join segments end (large_gone x.large) (SetInode i None false ∷ SetBit i false ∷ []) (large_fits x.large on.large) ((on.inode, tt), ((on.inode, tt), tt)))
 
     pub fewer_fits : (is_last x ≡ false → x.kind ≢ 2) → AreFit segments end (fewer i x)
     fewer_fits plain = go (is_last x) refl

@@ -13,7 +13,7 @@ use Rattle.store_changes.proofs.Puts.{edited_append}
 use Rattle.plan_definitions.specs.Ask.{Ask, Got}
 use Rattle.plan_definitions.specs.Plans.{Hand, Plan}
 use Rattle.plan_definitions.specs.Plans.Plan.{Finishes}
-use Rattle.plan_definitions.specs.FilePlans.{Writing, end_of, sectors_met, mixed, resized, large_after, large_taken, large_segment, size_edits, written_by, write_sectors, writing_in}
+use Rattle.plan_definitions.specs.FilePlans.{Writing, end_of, sectors_met, mixed, resized, large_after, large_taken, large_segment, file_dated, written_by, write_sectors, writing_in}
 use Rattle.plan_definitions.specs.FitEdits.{IsFitNode, AreFit}
 use Rattle.plan_laws.proofs.Among.{is_among, among_at, listed}
 use Rattle.plan_laws.proofs.Setting.{IsSet, set_edits, all_set}
@@ -22,7 +22,7 @@ use Rattle.plan_laws.proofs.Written.{met_some}
 use Rattle.plan_definitions.specs.FitPlans.{PlanIsFit, IsFitFinish}
 use Rattle.plan_fit.proofs.Refused.{Fits}
 use Rattle.plan_fit.proofs.FileNodes.{goes_by_size, resized_fits}
-use Rattle.plan_fit.proofs.Changes.{fit_join, uses_fit, size_fits, no_directory}
+use Rattle.plan_fit.proofs.Changes.{fit_join, uses_fit, dated_fits, no_directory}
 use Rattle.plan_fit.proofs.Aimed.{IsFile}
 
 -- blocks that are picked: so many, and all of the disk
@@ -48,19 +48,19 @@ large_end g x size bit old l owned (Some k) t at =
     let a : is_among k (k ∷ []) ≡ true = ap (λ v. v || false) (eq-eqb k k refl) in
     rw (of_lt 65536 size l, z) (t, at k ∙ rw a refl)
 
-module _ (h : Hand) (g : ℕ) (few : g ≤ 64) (s : Store) (i : ℕ) (touched : List ℕ) (x : StoredNode) (file : IsFile g s i x) (w : Writing) (size : ℕ) (longer : end_of w ≤ size) (most : size ≤ 1114112)
+module _ (h : Hand) (g : ℕ) (few : g ≤ 64) (s : Store) (i : ℕ) (touched : List ℕ) (x : StoredNode) (file : IsFile g s i x) (w : Writing) (size : ℕ) (late : w.when < 2 ^ 64) (longer : end_of w ≤ size) (most : size ≤ 1114112)
     (picks : List ℕ) (are : ArePicks g (small_blocks_of size - x.blocks) picks) (o : Option ℕ) (takes : TakesLarge g x size o) where
   abbrev y : StoredNode
-  y = resized x size picks o
+  y = resized x w.when size picks o
 
   abbrev bytes : List Edit
   bytes = sector_edits w x y s (w.off / 512) (sectors_met w.off w.len)
 
   abbrev mid : Store
-  mid = edited_all s (set_edits Bytes picks true (large_segment o) i x y)
+  mid = edited_all s (set_edits Bytes picks true (large_segment o) i y)
 
   abbrev end : Store
-  end = edited_all s (written_by i x y picks o touched bytes).edits
+  end = edited_all s (written_by i y picks o touched bytes).edits
 
   -- ---- the inode
   picks_most : (j : ℕ) → slice_index picks j < 2 ^ 32
@@ -83,14 +83,14 @@ module _ (h : Hand) (g : ℕ) (few : g ≤ 64) (s : Store) (i : ℕ) (touched : 
   large_by (Some k) t false e = rw e refl
 
   y_fits : IsFitNode y
-  y_fits = resized_fits x size picks o file.fit file.kind most picks_most (large_most o takes (nat_lt 65536 size) refl) (large_by o takes (nat_lt 65536 size) refl)
+  y_fits = resized_fits x w.when size picks o file.fit file.kind late most picks_most (large_most o takes (nat_lt 65536 size) refl) (large_by o takes (nat_lt 65536 size) refl)
 
   -- ---- what is in use at the end
   end_is : end ≡ edited_all mid bytes
-  end_is = ap (λ l. edited_all s (map (λ k. SetUse k Bytes) picks ++ l ++ size_edits i x y ++ bytes)) (taken_is o) ∙ edited_append s (set_edits Bytes picks true (large_segment o) i x y) bytes
+  end_is = ap (λ l. edited_all s (map (λ k. SetUse k Bytes) picks ++ l ++ file_dated i y ++ bytes)) (taken_is o) ∙ edited_append s (set_edits Bytes picks true (large_segment o) i y) bytes
 
-  set : IsSet s mid Bytes picks true (large_segment o) i x y
-  set = all_set s Bytes picks true (large_segment o) i x y
+  set : IsSet s mid Bytes picks true (large_segment o) i y
+  set = all_set s Bytes picks true (large_segment o) i y
 
   use_at : (k : ℕ) → end.use_of k ≡ (if is_among k picks then Bytes else s.use_of k)
   use_at k = ap (λ (z : Store). z.use_of k) end_is ∙ ap (λ f. f k) (bytes_only w x y s (sectors_met w.off w.len) (w.off / 512) mid).use_of ∙ set.uses k
@@ -155,20 +155,20 @@ module _ (h : Hand) (g : ℕ) (few : g ≤ 64) (s : Store) (i : ℕ) (touched : 
   large_fits None t = tt
   large_fits (Some k) t = ((t, tt), tt)
 
-  written_fits : IsFitFinish h g s (written_by i x y picks o touched bytes)
+  written_fits : IsFitFinish h g s (written_by i y picks o touched bytes)
   written_fits = record {
-    edits = fit_join g end (map (λ k. SetUse k Bytes) picks ++ large_taken o ++ size_edits i x y) bytes
-        (fit_join g end (map (λ k. SetUse k Bytes) picks ++ large_taken o) (size_edits i x y)
-        (fit_join g end (map (λ k. SetUse k Bytes) picks) (large_taken o) (uses_fit g end Bytes picks are.within) (large_fits o takes)) (size_fits g end i x y file.number y_fits))
+    edits = fit_join g end (map (λ k. SetUse k Bytes) picks ++ large_taken o ++ file_dated i y) bytes
+        (fit_join g end (map (λ k. SetUse k Bytes) picks ++ large_taken o) (file_dated i y)
+        (fit_join g end (map (λ k. SetUse k Bytes) picks) (large_taken o) (uses_fit g end Bytes picks are.within) (large_fits o takes)) (dated_fits g end i y file.number y_fits))
         (sectors_fit (sectors_met w.off w.len) (w.off / 512) met_below);
     clear = λ k m. inl (no_directory Bytes (s.use_of k) (is_among k picks) (λ z. z) (subst IsMetadata (use_at k) m));
   }
 
   -- the plan with a file of this size after it
   abbrev plan_to : ℕ → Ask Plan
-  plan_to k = write_sectors w x (resized x k picks o) (w.off / 512) (sectors_met w.off w.len) (λ bytes. Got (Finishes (written_by i x (resized x k picks o) picks o touched bytes)))
+  plan_to k = write_sectors w x (resized x w.when k picks o) (w.off / 512) (sectors_met w.off w.len) (λ bytes. Got (Finishes (written_by i (resized x w.when k picks o) picks o touched bytes)))
 
   pub in_fits : size ≡ max x.size (end_of w) → Fits h g s (writing_in w i touched x picks o)
   in_fits e =
       subst (λ k. Fits h g s (plan_to k)) e
-      (subst (PlanIsFit h g s) (sym (run-writes w x y s (w.off / 512) (sectors_met w.off w.len) (λ bytes. Got (Finishes (written_by i x y picks o touched bytes))))) written_fits)
+      (subst (PlanIsFit h g s) (sym (run-writes w x y s (w.off / 512) (sectors_met w.off w.len) (λ bytes. Got (Finishes (written_by i y picks o touched bytes))))) written_fits)

@@ -36,7 +36,7 @@ no_directory k c e d f = d (sym e ∙ f)
 -- a directory has one link
 pub not_last : (n : Naming) (b : ℕ) (node : Node) → is_last (inode_by n b node) ≡ false → (inode_by n b node).kind ≢ 2
 not_last n b (Dir entries blocks) e = absurd (cc)
-not_last n b (File cells links) e = no_directory 1 1 refl (omega arith)
+not_last n b (File cells links when) e = no_directory 1 1 refl (omega arith)
 not_last n b (Link target links) e = no_directory 3 3 refl (omega arith)
 
 module _ (h : Hand) (s : Store) (tree : FileTree) (n : Naming) (of : IsOfTree s tree n) (fit : IsFitStore tree.segments s) (dirs : List ℕ)
@@ -100,7 +100,7 @@ module _ (h : Hand) (s : Store) (tree : FileTree) (n : Naming) (of : IsOfTree s 
       go false = refuse_fits h tree.segments s reply.NotDir dirs
 
 pub unlink_fits : UnlinkIsFit
-unlink_fits path h s tree n birth of hand fit old allowed =
+unlink_fits path h s tree n birth when of hand fit old late allowed =
     let w = run (walk path) s in
     rw (run-bind (walk path) (λ w. unlinking w.dirs w.spot) s)
     (by_spot s (node_at tree) n of.pictures (λ v p. PlanIsFit h tree.segments s (run (unlinking w.dirs v) s))
@@ -111,7 +111,7 @@ unlink_fits path h s tree n birth of hand fit old allowed =
     w.spot (place tree path) (walks_lead s tree n path of).0)
 
 pub rmdir_fits : RmdirIsFit
-rmdir_fits path h s tree n birth of hand fit old allowed =
+rmdir_fits path h s tree n birth when of hand fit old late allowed =
     let w = run (walk path) s in
     rw (run-bind (walk path) (λ w. removing w.dirs w.spot) s)
     (by_spot s (node_at tree) n of.pictures (λ v p. PlanIsFit h tree.segments s (run (removing w.dirs v) s))

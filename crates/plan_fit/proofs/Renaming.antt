@@ -57,9 +57,9 @@ module _ (h : Hand) (s : Store) (tree : FileTree) (n : Naming) (of : IsOfTree s 
       w.spot (place tree to) (walks_lead s tree n to of).0 (walk_named s to names))
 
 pub rename_fits : RenameIsFit
-rename_fits [] to h s tree n birth of hand fit old allowed = refuse_fits h tree.segments s reply.Inval []
-rename_fits (name ∷ names) [] h s tree n birth of hand fit old allowed = refuse_fits h tree.segments s reply.Inval []
-rename_fits (name ∷ names) (next ∷ more) h s tree n birth of hand fit old allowed =
+rename_fits [] to h s tree n birth when of hand fit old late allowed = refuse_fits h tree.segments s reply.Inval []
+rename_fits (name ∷ names) [] h s tree n birth when of hand fit old late allowed = refuse_fits h tree.segments s reply.Inval []
+rename_fits (name ∷ names) (next ∷ more) h s tree n birth when of hand fit old late allowed =
     let w = run (walk (name ∷ names)) s in
     rw (run-bind (walk (name ∷ names)) (λ w. renaming h (next ∷ more) w.dirs w.spot) s)
     (by_spot s (node_at tree) n of.pictures (λ v p. PlanIsFit h tree.segments s (run (renaming h (next ∷ more) w.dirs v) s))

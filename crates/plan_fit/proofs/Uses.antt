@@ -40,10 +40,10 @@ keeps_uses small u (suc m) s h =
     let one = one_use s (small m) u (h m (omega arith)) in
     keeps_both s t (edited_all t (uses_to small u m)) one (keeps_uses small u m t (λ j l. h j (omega arith) ∙ sym (one (small j))))
 
-keeps_rest : (s : Store) (large i : ℕ) → KeepsDirectories s (edited_all s (large_gone large ++ (SetInode i None ∷ SetBit i false ∷ [])))
+keeps_rest : (s : Store) (large i : ℕ) → KeepsDirectories s (edited_all s (large_gone large ++ (SetInode i None false ∷ SetBit i false ∷ [])))
 keeps_rest s large i = go (large == 0)
   where
-    go : (b : Bool) → KeepsDirectories s (edited_all s ((if b then [] else SetLarge (large - 1) false ∷ []) ++ (SetInode i None ∷ SetBit i false ∷ [])))
+    go : (b : Bool) → KeepsDirectories s (edited_all s ((if b then [] else SetLarge (large - 1) false ∷ []) ++ (SetInode i None false ∷ SetBit i false ∷ [])))
     go true = λ k. refl
     go false = λ k. refl
 
@@ -51,7 +51,7 @@ module _ (s : Store) (i : ℕ) (x : StoredNode) (h : (j : ℕ) → j < x.blocks 
   keeps_dropped : KeepsDirectories s (edited_all s (drop_node i x))
   keeps_dropped k =
       let uses = uses_to x.small (freed x.kind) x.blocks in
-      let rest = large_gone x.large ++ (SetInode i None ∷ SetBit i false ∷ []) in
+      let rest = large_gone x.large ++ (SetInode i None false ∷ SetBit i false ∷ []) in
       let t = edited_all s uses in
       ap (λ (z : Store). is_directory_use (z.use_of k)) (edited_append s uses rest) ∙ keeps_both s t (edited_all t rest) (keeps_uses x.small (freed x.kind) x.blocks s h) (keeps_rest t x.large i) k
 

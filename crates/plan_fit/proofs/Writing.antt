@@ -1,5 +1,5 @@
 -- The plans of write and fill fit the disk.
-use Rattle.std.proofs.Common.{ℕ, ◌≡◌, ◌<◌, ◌≤◌, ◌-◌, ◌==◌, ◌&&◌, Bool, true, false, nat_lt, max, if◌then◌else◌, Option, Some, None, List, [], length, slice_index, refl, sym, arith}
+use Rattle.std.proofs.Common.{ℕ, ◌≡◌, ◌<◌, ◌≤◌, ◌-◌, ◌^◌, ◌==◌, ◌&&◌, Bool, true, false, nat_lt, max, if◌then◌else◌, Option, Some, None, List, [], length, slice_index, refl, sym, arith}
 use Rattle.std.proofs.lemmas.Bool.Decides.{nat_tests}
 use Rattle.std.specs.Map.{keys_of}
 use Rattle.frang_base.specs.declared.reply.Reply.TheVariants as reply
@@ -18,7 +18,7 @@ use Rattle.plan_fit.proofs.FileNodes.{fit_file}
 use Rattle.plan_fit.proofs.Aimed.{IsFile, file_fits}
 use Rattle.plan_fit.proofs.Placing.{ArePicks, TakesLarge, in_fits}
 
-module _ (h : Hand) (s : Store) (tree : FileTree) (n : Naming) (of : IsOfTree s tree n) (hand : IsHandOf h s tree.segments) (w : Writing) (i : ℕ) (touched : List ℕ) (x : StoredNode) (file : IsFile tree.segments s i x) where
+module _ (h : Hand) (s : Store) (tree : FileTree) (n : Naming) (of : IsOfTree s tree n) (hand : IsHandOf h s tree.segments) (w : Writing) (late : w.when < 2 ^ 64) (i : ℕ) (touched : List ℕ) (x : StoredNode) (file : IsFile tree.segments s i x) where
   abbrev g : ℕ
   g = tree.segments
 
@@ -48,7 +48,7 @@ module _ (h : Hand) (s : Store) (tree : FileTree) (n : Naming) (of : IsOfTree s 
     most = let f = fit_file x file.fit file.kind in let m : x.size ≤ 1114112 = f.size in omega (arith, inside)
 
     placed : (picks : List ℕ) → ArePicks g more picks → (o : Option ℕ) → Takes o → Fits h g s (writing_in w i touched x picks o)
-    placed picks are o takes = in_fits h g of.few s i touched x file w size longer most picks are o takes refl
+    placed picks are o takes = in_fits h g of.few s i touched x file w size late longer most picks are o takes refl
 
     picked_fits : (o : Option ℕ) → Takes o → (p : Option (List ℕ)) → picked_many h.held more ≡ p → Fits h g s (writing_picked h w i touched x o p)
     picked_fits o takes None e = none_fits h g s (reply.NoBlock (directory_blocks h.held)) touched
@@ -89,11 +89,11 @@ module _ (h : Hand) (s : Store) (tree : FileTree) (n : Naming) (of : IsOfTree s 
       go false false e = sized_fits (grind (arith, nat_tests)) (nat_lt 65536 (end_of w) && x.large == 0) refl
 
 pub write_fits : WriteFits
-write_fits path off bytes h s tree n birth of hand fit small allowed =
-    let w : Writing = record { off = off; len = length bytes; byte = λ j. slice_index bytes (j - off) } in
-    file_fits h s tree n of fit (writing h w) (λ i touched x file. writing_fits h s tree n of hand w i touched x file) path
+write_fits path off bytes h s tree n birth when of hand fit small late allowed =
+    let w : Writing = record { off = off; len = length bytes; when = when; byte = λ j. slice_index bytes (j - off) } in
+    file_fits h s tree n of fit (writing h w) (λ i touched x file. writing_fits h s tree n of hand w late i touched x file) path
 
 pub fill_fits : FillFits
-fill_fits path off len byte h s tree n birth of hand fit small allowed =
-    let w : Writing = record { off = off; len = len; byte = λ j. byte } in
-    file_fits h s tree n of fit (writing h w) (λ i touched x file. writing_fits h s tree n of hand w i touched x file) path
+fill_fits path off len byte h s tree n birth when of hand fit small late allowed =
+    let w : Writing = record { off = off; len = len; when = when; byte = λ j. byte } in
+    file_fits h s tree n of fit (writing h w) (λ i touched x file. writing_fits h s tree n of hand w late i touched x file) path

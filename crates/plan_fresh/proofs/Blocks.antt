@@ -47,7 +47,7 @@ root_reads = refl
 
 -- a free inode
 abbrev free_inode : Inode
-free_inode = record { version = 0; kind = 0; links = 0; blocks = 0; size = 0; birth = 0; small = zeros 16; large = 0; target = zeros 384 }
+free_inode = record { version = 0; kind = 0; links = 0; blocks = 0; size = 0; birth = 0; small = zeros 16; large = 0; when = 0; target = zeros 384 }
 
 pub free_reads : inode_in (zeros 512) ≡ Some free_inode
 unfolding zeros
@@ -60,7 +60,7 @@ unfolding zeros
 none_stored = refl
 
 abbrev node : (ℕ → ℕ) → StoredNode
-node small = record { kind = 2; links = 1; size = 0; birth = 0; blocks = 0; small = small; large = 0; target = [] }
+node small = record { kind = 2; links = 1; size = 0; birth = 0; blocks = 0; small = small; large = 0; when = 0; target = [] }
 
 pub root_stored : stored_node (inode_in (inode_bytes root_inode)) ≡ Some (inode_of 0 (λ j. 0) 0 (Dir [] 0))
 root_stored =

@@ -5,6 +5,7 @@ use Rattle.frang_base.specs.declared.bitmap.Bitmap.{Bitmap}
 use Rattle.frang_base.specs.declared.op.Op.{Op}
 use Rattle.tree_definitions.specs.Tree.{fresh}
 use Rattle.sector_definitions.specs.declared.param.Param.{Param}
+use Rattle.sector_definitions.specs.declared.param.TheConstants.{FORMAT_NEWEST}
 use Rattle.sector_definitions.specs.declared.inode.Inode.{Inode}
 use Rattle.sector_definitions.specs.declared.region.Region.TheVariants as region
 use Rattle.sector_bytes.specs.Bytes.{zeros}
@@ -17,9 +18,9 @@ use Rattle.plan_definitions.specs.Allowed.{IsAllowed}
 use Rattle.plan_definitions.specs.OnDisk.{StandsBelow}
 use Rattle.code_plan_laws.specs.CodeStands.{IsOverADisk}
 
--- the parameters of a fresh disk of so many segments: format 1, run 1
+-- the parameters of a fresh disk of so many segments: the newest format, run 1
 abbrev pub fresh_param : ℕ → Param
-fresh_param segments = record { format = 1; segments = segments; run = 1 }
+fresh_param segments = record { format = FORMAT_NEWEST; segments = segments; run = 1 }
 
 -- the first segment of a fresh disk: its first inode is in use, version 1
 abbrev pub first_bitmap : Bitmap
@@ -28,7 +29,7 @@ first_bitmap = record { version = 1; inodes = 1; states = zeros 256; large = fal
 -- the root's inode on a fresh disk: a directory without entries and blocks, birth 0, version 1
 abbrev pub root_inode : Inode
 root_inode =
-    record { version = 1; kind = KIND_DIRECTORY; links = 1; blocks = 0; size = 0; birth = 0; small = zeros INODE_BLOCKS_MAX; large = 0; target = zeros TARGET_BYTES_MAX }
+    record { version = 1; kind = KIND_DIRECTORY; links = 1; blocks = 0; size = 0; birth = 0; small = zeros INODE_BLOCKS_MAX; large = 0; when = 0; target = zeros TARGET_BYTES_MAX }
 
 -- the sectors of a fresh disk that aren't zero: the parameters, the first segment, the root's inode
 abbrev pub fresh_sectors : ℕ → List (ℕ × List ℕ)

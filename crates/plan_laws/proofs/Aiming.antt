@@ -42,7 +42,7 @@ module _ (h : Hand) (s : Store) (tree : FileTree) (n : Naming) (of : IsOfTree s 
     at_root : (o : Option Node) → node_at tree 0 ≡ o → is_dir o ≡ true → (dirs : List ℕ) → Meets h s (then_tree 0 o) (run (next (record { inode = 0; kind = 2; dirs = dirs })) s)
     at_root None e some dirs = absurd (cc)
     at_root (Some (Dir entries blocks)) e some dirs = subst (λ i. Meets h s (then_tree 0 (Some (Dir entries blocks))) (run (next (record { inode = i; kind = 2; dirs = dirs })) s)) of.root (each dirs 0 (Dir entries blocks) e)
-    at_root (Some (File cells links)) e some dirs = absurd (cc)
+    at_root (Some (File cells links when)) e some dirs = absurd (cc)
     at_root (Some (Link target links)) e some dirs = absurd (cc)
 
     pub node_meets : (path : List (List ℕ)) → Meets h s (at_node tree (place tree path) then_tree) (run (plan_of_node path next) s)
@@ -57,14 +57,14 @@ module _ (h : Hand) (s : Store) (tree : FileTree) (n : Naming) (of : IsOfTree s 
         w.spot (place tree path) (walks_lead s tree n path of).0)
 
   -- of a path that has to name a file
-  module _ (next : ℕ → List ℕ → StoredNode → Ask Plan) (then_tree : ℕ → List Cell → ℕ → Applied)
-      (each : (touched : List ℕ) (b links : ℕ) (cells : List Cell) → node_at tree b ≡ Some (File cells links) → Meets h s (then_tree b cells links) (run (next (n.inode b) touched (inode_by n b (File cells links))) s)) where
+  module _ (next : ℕ → List ℕ → StoredNode → Ask Plan) (then_tree : ℕ → List Cell → ℕ → ℕ → Applied)
+      (each : (touched : List ℕ) (b links when : ℕ) (cells : List Cell) → node_at tree b ≡ Some (File cells links when) → Meets h s (then_tree b cells links when) (run (next (n.inode b) touched (inode_by n b (File cells links when))) s)) where
     each_node : (dirs : List ℕ) (b : ℕ) (node : Node) → node_at tree b ≡ Some node → Meets h s (if_file tree then_tree b (Some node)) (run (at_file next (target_of dirs b (kind_of node))) s)
     each_node dirs b (Dir entries blocks) is = λ well. refuse_meets h s tree n of reply.IsDir dirs
     each_node dirs b (Link target links) is = λ well. refuse_meets h s tree n of reply.Inval dirs
-    each_node dirs b (File cells links) is =
+    each_node dirs b (File cells links when) is =
         let touched = dirs ++ n.inode b ∷ [] in
-        subst (λ o. Meets h s (then_tree b cells links) (run (with_file (next (n.inode b) touched) touched o) s)) (sym (inode_is s (node_at tree) n of.pictures b (File cells links) is)) (each touched b links cells is)
+        subst (λ o. Meets h s (then_tree b cells links when) (run (with_file (next (n.inode b) touched) touched o) s)) (sym (inode_is s (node_at tree) n of.pictures b (File cells links when) is)) (each touched b links when cells is)
 
     pub file_meets : (path : List (List ℕ)) → Meets h s (tree_at_file tree (place tree path) then_tree) (run (plan_of_file path next) s)
     file_meets path = node_meets (at_file next) (λ b node. if_file tree then_tree b node) each_node path

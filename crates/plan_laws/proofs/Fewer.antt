@@ -24,9 +24,9 @@ pub record IsOnTheWay (t : Store) (segments : ℕ) (at : Nodes) : Type 0 where
   pub stage : IsStage t segments at naming
 
 pub segments_fewer : (tree : FileTree) (b : ℕ) (o : Option Node) → (one_link_fewer tree b o).segments ≡ tree.segments
-segments_fewer tree b (Some (File cells links)) = go (nat_lt 1 links)
+segments_fewer tree b (Some (File cells links when)) = go (nat_lt 1 links)
   where
-    go : (c : Bool) → (if c then with_node tree b (File cells (links - 1)) else without_node tree b).segments ≡ tree.segments
+    go : (c : Bool) → (if c then with_node tree b (File cells (links - 1) when) else without_node tree b).segments ≡ tree.segments
     go true = refl
     go false = refl
 segments_fewer tree b (Some (Link target links)) = go (nat_lt 1 links)
@@ -53,10 +53,10 @@ module _ (s : Store) (segments : ℕ) (tree : FileTree) (n : Naming) (stage : Is
       let r = drops s segments (node_at tree) n stage b (inode_by n b node) node (has node is) bare away in
       record { naming = named_less n b (kind_of node); stage = restage (edited_all s (drop_node (n.inode b) (inode_by n b node))) segments (put_node (node_at tree) b None) (node_at (without_node tree b)) (named_less n b (kind_of node)) r.0 (λ c. node_without tree b c births) }
 
-  file_less : (cells : List Cell) (links : ℕ) → node_at tree b ≡ Some (File cells links) → IsOnTheWay (edited_all s (relink (n.inode b) (inode_by n b (File cells links)) (links - 1))) segments (node_at (with_node tree b (File cells (links - 1))))
-  file_less cells links is =
-      let r = relinks s segments (node_at tree) n stage b (links - 1) (inode_by n b (File cells links)) (File cells links) (has (File cells links) is) refl in
-      record { naming = n; stage = restage (edited_all s (relink (n.inode b) (inode_by n b (File cells links)) (links - 1))) segments (put_node (node_at tree) b (Some (File cells (links - 1)))) (node_at (with_node tree b (File cells (links - 1)))) n r.0 (node_with tree b (File cells (links - 1))) }
+  file_less : (cells : List Cell) (links when : ℕ) → node_at tree b ≡ Some (File cells links when) → IsOnTheWay (edited_all s (relink (n.inode b) (inode_by n b (File cells links when)) (links - 1))) segments (node_at (with_node tree b (File cells (links - 1) when)))
+  file_less cells links when is =
+      let r = relinks s segments (node_at tree) n stage b (links - 1) (inode_by n b (File cells links when)) (File cells links when) (has (File cells links when) is) refl in
+      record { naming = n; stage = restage (edited_all s (relink (n.inode b) (inode_by n b (File cells links when)) (links - 1))) segments (put_node (node_at tree) b (Some (File cells (links - 1) when))) (node_at (with_node tree b (File cells (links - 1) when))) n r.0 (node_with tree b (File cells (links - 1) when)) }
 
   link_less : (target : List ℕ) (links : ℕ) → node_at tree b ≡ Some (Link target links) → IsOnTheWay (edited_all s (relink (n.inode b) (inode_by n b (Link target links)) (links - 1))) segments (node_at (with_node tree b (Link target (links - 1))))
   link_less target links is =
@@ -65,12 +65,12 @@ module _ (s : Store) (segments : ℕ) (tree : FileTree) (n : Naming) (stage : Is
 
   pub fewer_leads : (node : Node) → node_at tree b ≡ Some node → HasNoNames node → IsOnTheWay (edited_all s (fewer (n.inode b) (inode_by n b node))) segments (node_at (one_link_fewer tree b (Some node)))
   fewer_leads (Dir entries blocks) is bare = gone (Dir entries blocks) is bare
-  fewer_leads (File cells links) is bare = rw (one_left links) (go (nat_le links 1))
+  fewer_leads (File cells links when) is bare = rw (one_left links) (go (nat_le links 1))
     where
-      go : (c : Bool) → IsOnTheWay (edited_all s (if c then drop_node (n.inode b) (inode_by n b (File cells links)) else relink (n.inode b) (inode_by n b (File cells links)) (links - 1))) segments
-          (node_at (if not c then with_node tree b (File cells (links - 1)) else without_node tree b))
-      go true = gone (File cells links) is bare
-      go false = file_less cells links is
+      go : (c : Bool) → IsOnTheWay (edited_all s (if c then drop_node (n.inode b) (inode_by n b (File cells links when)) else relink (n.inode b) (inode_by n b (File cells links when)) (links - 1))) segments
+          (node_at (if not c then with_node tree b (File cells (links - 1) when) else without_node tree b))
+      go true = gone (File cells links when) is bare
+      go false = file_less cells links when is
   fewer_leads (Link target links) is bare = rw (one_left links) (go (nat_le links 1))
     where
       go : (c : Bool) → IsOnTheWay (edited_all s (if c then drop_node (n.inode b) (inode_by n b (Link target links)) else relink (n.inode b) (inode_by n b (Link target links)) (links - 1))) segments

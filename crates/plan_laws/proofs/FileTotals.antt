@@ -47,13 +47,13 @@ uses_counted s n = three_parts (λ k. is_fresh (s.use_of k)) (λ k. is_bytes (s.
 
 file_owns : (x : Node) (j : ℕ) → j < file_blocks x → (j < blocks_of (Some x)) × (use_by (Some x) ≡ Bytes)
 file_owns (Dir entries blocks) j l = absurd (omega arith)
-file_owns (File cells links) j l = (l, refl)
+file_owns (File cells links when) j l = (l, refl)
 file_owns (Link target links) j l = absurd (omega arith)
 
 owned_by_file : (x : Option Node) (j : ℕ) → j < blocks_of x → is_bytes (use_by x) ≡ true → (y : Node) × (x ≡ Some y) × (j < file_blocks y)
 owned_by_file None j l e = absurd (cc)
 owned_by_file (Some (Dir entries blocks)) j l e = absurd (cc)
-owned_by_file (Some (File cells links)) j l e = (File cells links, refl, l)
+owned_by_file (Some (File cells links when)) j l e = (File cells links when, refl, l)
 owned_by_file (Some (Link target links)) j l e = absurd (cc)
 
 not_bytes : (b : Bool) → is_bytes (if b then Empty else Fresh) ≡ true → ⊥
@@ -62,7 +62,7 @@ not_bytes false e = cc
 
 has_one : (x : Node) (j : ℕ) → j < large_blocks x → (j ≡ 0) × (has_large (Some x) ≡ true)
 has_one (Dir entries blocks) j l = absurd (omega arith)
-has_one (File cells links) j l = go (nat_lt 65536 (length cells)) l
+has_one (File cells links when) j l = go (nat_lt 65536 (length cells)) l
   where
     go : (c : Bool) → j < (if c then 1 else 0) → (j ≡ 0) × (c ≡ true)
     go true l = (omega arith, refl)
@@ -72,7 +72,7 @@ has_one (Link target links) j l = absurd (omega arith)
 one_had : (x : Option Node) → has_large x ≡ true → (y : Node) × (x ≡ Some y) × (0 < large_blocks y)
 one_had None e = absurd (cc)
 one_had (Some (Dir entries blocks)) e = absurd (cc)
-one_had (Some (File cells links)) e = (File cells links, refl, rw e (omega arith))
+one_had (Some (File cells links when)) e = (File cells links when, refl, rw e (omega arith))
 one_had (Some (Link target links)) e = absurd (cc)
 
 module _ (s : Store) (tree : FileTree) (n : Naming) (of : IsOfTree s tree n) where

@@ -33,7 +33,7 @@ overwritten_long cells new off inside =
 -- a node that is no longer than its blocks reach
 abbrev IsFit : Node → Type 0
 IsFit (Dir entries blocks) = Unit {0}
-IsFit (File cells links) = length cells ≤ 1114112
+IsFit (File cells links when) = length cells ≤ 1114112
 IsFit (Link target links) = Unit {0}
 
 -- all of them, and births in order
@@ -41,24 +41,24 @@ record AreFit (t : FileTree) : Type 0 where
   births : BirthsAscend t
   fit : FilesFit (node_at t)
 
-file_fit : (x : Node) (cells : List Cell) (links : ℕ) → IsFit x → Some x ≡ Some (File cells links) → length cells ≤ 1114112
-file_fit x cells links f e = let z : x ≡ File cells links = cc in subst IsFit z f
+file_fit : (x : Node) (cells : List Cell) (links when : ℕ) → IsFit x → Some x ≡ Some (File cells links when) → length cells ≤ 1114112
+file_fit x cells links when f e = let z : x ≡ File cells links when = cc in subst IsFit z f
 
 fit_at : (t : FileTree) → AreFit t → (b : ℕ) (x : Node) → node_at t b ≡ Some x → IsFit x
 fit_at t are b (Dir entries blocks) e = tt
-fit_at t are b (File cells links) e = are.fit b links cells e
+fit_at t are b (File cells links when) e = are.fit b links when cells e
 fit_at t are b (Link target links) e = tt
 
 fit_with : (t : FileTree) (d : ℕ) (x : Node) → AreFit t → IsFit x → AreFit (with_node t d x)
 fit_with t d x are f = record {
   births = ascend_with t d x are.births;
-  fit = λ b links cells. each_but (λ c. node_at (with_node t d x) c ≡ Some (File cells links) → length cells ≤ 1114112) d
-      (λ e. file_fit x cells links f (sym (with_same t d x) ∙ e)) (λ c far e. are.fit c links cells (sym (with_other t d x c far) ∙ e)) b;
+  fit = λ b links when cells. each_but (λ c. node_at (with_node t d x) c ≡ Some (File cells links when) → length cells ≤ 1114112) d
+      (λ e. file_fit x cells links when f (sym (with_same t d x) ∙ e)) (λ c far e. are.fit c links when cells (sym (with_other t d x c far) ∙ e)) b;
 }
 
 fit_without : (t : FileTree) (d : ℕ) → AreFit t → FilesFit (node_at (without_node t d))
-fit_without t d are b links cells = each_but (λ c. node_at (without_node t d) c ≡ Some (File cells links) → length cells ≤ 1114112) d
-    (λ e. absurd (let z : None ≡ Some (File cells links) = sym (without_same t d are.births) ∙ e in cc)) (λ c far e. are.fit c links cells (sym (without_other t d c far) ∙ e)) b
+fit_without t d are b links when cells = each_but (λ c. node_at (without_node t d) c ≡ Some (File cells links when) → length cells ≤ 1114112) d
+    (λ e. absurd (let z : None ≡ Some (File cells links when) = sym (without_same t d are.births) ∙ e in cc)) (λ c far e. are.fit c links when cells (sym (without_other t d c far) ∙ e)) b
 
 -- whichever of two
 choose : (c : Bool) (a b : Applied) → FilesFit (node_at a.tree) → FilesFit (node_at b.tree) → FilesFit (node_at (if c then a else b).tree)
@@ -82,7 +82,7 @@ module _ (t : FileTree) (are : AreFit t) where
   more_fit : (b : ℕ) (o : Option Node) → node_at t b ≡ o → AreFit (one_link_more t b o)
   more_fit b None e = are
   more_fit b (Some (Dir es k)) e = are
-  more_fit b (Some (File cells links)) e = fit_with t b (File cells (links + 1)) are (are.fit b links cells e)
+  more_fit b (Some (File cells links when)) e = fit_with t b (File cells (links + 1) when) are (are.fit b links when cells e)
   more_fit b (Some (Link target links)) e = fit_with t b (Link target (links + 1)) are tt
 
   linked_to_fit : (b : ℕ) (p : Place) → FilesFit (node_at (linked_to t b p).tree)
@@ -104,10 +104,10 @@ module _ (t : FileTree) (are : AreFit t) where
   fewer_fit : (b : ℕ) (o : Option Node) → ((x : Node) → o ≡ Some x → IsFit x) → FilesFit (node_at (one_link_fewer t b o))
   fewer_fit b None f = stays
   fewer_fit b (Some (Dir es k)) f = fit_without t b are
-  fewer_fit b (Some (File cells links)) f = go (nat_lt 1 links)
+  fewer_fit b (Some (File cells links when)) f = go (nat_lt 1 links)
     where
-      go : (c : Bool) → FilesFit (node_at (if c then with_node t b (File cells (links - 1)) else without_node t b))
-      go true = (fit_with t b (File cells (links - 1)) are (f (File cells links) refl)).fit
+      go : (c : Bool) → FilesFit (node_at (if c then with_node t b (File cells (links - 1) when) else without_node t b))
+      go true = (fit_with t b (File cells (links - 1) when) are (f (File cells links when) refl)).fit
       go false = fit_without t b are
   fewer_fit b (Some (Link target links)) f = go (nat_lt 1 links)
     where
@@ -118,13 +118,13 @@ module _ (t : FileTree) (are : AreFit t) where
   gone_fit : (d : ℕ) (name : List ℕ) (o : Option Node) → AreFit (name_gone t d name o)
   gone_fit d name None = are
   gone_fit d name (Some (Dir es k)) = fit_with t d (Dir (without_entry es name) k) are tt
-  gone_fit d name (Some (File cells links)) = are
+  gone_fit d name (Some (File cells links when)) = are
   gone_fit d name (Some (Link target links)) = are
 
   set_fit : (d : ℕ) (name : List ℕ) (b : ℕ) (o : Option Node) → AreFit (name_set t d name b o)
   set_fit d name b None = are
   set_fit d name b (Some (Dir es k)) = fit_with t d (Dir (with_entry es name b) k) are tt
-  set_fit d name b (Some (File cells links)) = are
+  set_fit d name b (Some (File cells links when)) = are
   set_fit d name b (Some (Link target links)) = are
 
 module _ (t : FileTree) (are : AreFit t) where
@@ -189,12 +189,12 @@ module _ (t : FileTree) (are : AreFit t) where
   renamed_fit (name ∷ names) (new ∷ news) = renamed_from_fit (place t (name ∷ names)) (new ∷ news)
 
   -- an operation on a file
-  module _ (next : ℕ → List Cell → ℕ → Applied) (each : (b : ℕ) (cells : List Cell) (links : ℕ) → node_at t b ≡ Some (File cells links) → FilesFit (node_at (next b cells links).tree)) where
+  module _ (next : ℕ → List Cell → ℕ → ℕ → Applied) (each : (b : ℕ) (cells : List Cell) (links when : ℕ) → node_at t b ≡ Some (File cells links when) → FilesFit (node_at (next b cells links when).tree)) where
     one_file : (b : ℕ) (o : Option Node) → node_at t b ≡ o → FilesFit (node_at (if_file t next b o).tree)
     one_file b None e = are.fit
     one_file b (Some (Dir es k)) e = are.fit
     one_file b (Some (Link target links)) e = are.fit
-    one_file b (Some (File cells links)) e = each b cells links e
+    one_file b (Some (File cells links when)) e = each b cells links when e
 
     file_case : (p : Place) → FilesFit (node_at (at_file t p next).tree)
     file_case Root = one_file 0 (node_at t 0) refl
@@ -202,64 +202,64 @@ module _ (t : FileTree) (are : AreFit t) where
     file_case (Free d es k name) = are.fit
     file_case (Nowhere r) = are.fit
 
-  truncated_fit : (len b : ℕ) (cells : List Cell) (links : ℕ) → node_at t b ≡ Some (File cells links) → FilesFit (node_at (truncated t b cells links len).tree)
-  truncated_fit len b cells links e = choose (nat_lt (length cells) len) (says t reply.BadOffset) (says (with_node t b (File (take len cells) links)) reply.Ok) are.fit
-      (fit_with t b (File (take len cells) links) are (subst (λ z. z ≤ 1114112) (sym (length-take len cells)) (least len (length cells) (are.fit b links cells e)))).fit
+  truncated_fit : (when len b : ℕ) (cells : List Cell) (links old : ℕ) → node_at t b ≡ Some (File cells links old) → FilesFit (node_at (truncated t b cells links when len).tree)
+  truncated_fit when len b cells links old e = choose (nat_lt (length cells) len) (says t reply.BadOffset) (says (with_node t b (File (take len cells) links when)) reply.Ok) are.fit
+      (fit_with t b (File (take len cells) links when) are (subst (λ z. z ≤ 1114112) (sym (length-take len cells)) (least len (length cells) (are.fit b links old cells e)))).fit
     where
       least : (a c : ℕ) → c ≤ 1114112 → min a c ≤ 1114112
       least a c l = omega arith
 
-  written_fit : (m off len : ℕ) (new : List Cell) → length new ≡ len → (b : ℕ) (cells : List Cell) (links : ℕ) → node_at t b ≡ Some (File cells links) →
-      FilesFit (node_at (written t m b cells links off len (λ old. overwritten old off new)).tree)
-  written_fit m off len new long b cells links e = by_start (nat_lt (length cells) off) refl (nat_lt 1114112 (off + len)) refl
+  written_fit : (m when off len : ℕ) (new : List Cell) → length new ≡ len → (b : ℕ) (cells : List Cell) (links before : ℕ) → node_at t b ≡ Some (File cells links before) →
+      FilesFit (node_at (written t m b cells links when off len (λ all. overwritten all off new)).tree)
+  written_fit m when off len new long b cells links before e = by_start (nat_lt (length cells) off) refl (nat_lt 1114112 (off + len)) refl
     where
       most : (a c : ℕ) → a ≤ 1114112 → c ≤ 1114112 → max a c ≤ 1114112
       most a c l m = omega arith
 
-      done : off ≤ length cells → off + len ≤ 1114112 → FilesFit (node_at (with_node t b (File (overwritten cells off new) links)))
-      done l k = (fit_with t b (File (overwritten cells off new) links) are (subst (λ z. z ≤ 1114112) (sym (overwritten_long cells new off l ∙ ap (λ z. max (length cells) (off + z)) long)) (most (length cells) (off + len) (are.fit b links cells e) k))).fit
+      done : off ≤ length cells → off + len ≤ 1114112 → FilesFit (node_at (with_node t b (File (overwritten cells off new) links when)))
+      done l k = (fit_with t b (File (overwritten cells off new) links when) are (subst (λ z. z ≤ 1114112) (sym (overwritten_long cells new off l ∙ ap (λ z. max (length cells) (off + z)) long)) (most (length cells) (off + len) (are.fit b links before cells e) k))).fit
 
       by_start : (c : Bool) → nat_lt (length cells) off ≡ c → (d : Bool) → nat_lt 1114112 (off + len) ≡ d →
           FilesFit (node_at (if c then says t reply.BadOffset else (if d then says t reply.TooBig
           else (if nat_lt (large_blocks_of (length cells)) (large_blocks_of (max (length cells) (off + len))) && larges_full t then says t reply.NoLarge
           else (if nat_lt (1024 * t.segments - m) (count_of file_blocks t + (small_blocks_of (max (length cells) (off + len)) - small_blocks_of (length cells))) then says t (reply.NoBlock m)
-          else says (with_node t b (File (overwritten cells off new) links)) reply.Ok)))).tree)
+          else says (with_node t b (File (overwritten cells off new) links when)) reply.Ok)))).tree)
       by_start true i d j = are.fit
       by_start false i true j = are.fit
       by_start false i false j =
           let size = max (length cells) (off + len) in
-          let last = says (with_node t b (File (overwritten cells off new) links)) reply.Ok in
+          let last = says (with_node t b (File (overwritten cells off new) links when)) reply.Ok in
           choose (nat_lt (large_blocks_of (length cells)) (large_blocks_of size) && larges_full t) (says t reply.NoLarge) (if nat_lt (1024 * t.segments - m) (count_of file_blocks t + (small_blocks_of size - small_blocks_of (length cells))) then says t (reply.NoBlock m) else last) are.fit
           (choose (nat_lt (1024 * t.segments - m) (count_of file_blocks t + (small_blocks_of size - small_blocks_of (length cells)))) (says t (reply.NoBlock m)) last are.fit (done (grind (arith, nat_tests)) (grind (arith, nat_tests))))
 
-  look_fit : (o : Op) (birth m : ℕ) → is_look o ≡ true → FilesFit (node_at (apply t o birth m).tree)
-  look_fit o birth m e = subst (λ z. FilesFit (node_at z)) (sym (looks_leave t o birth m e)) are.fit
+  look_fit : (o : Op) (birth when m : ℕ) → is_look o ≡ true → FilesFit (node_at (apply t o birth when m).tree)
+  look_fit o birth when m e = subst (λ z. FilesFit (node_at z)) (sym (looks_leave t o birth when m e)) are.fit
 
 none_long : 0 ≤ 1114112
 none_long = omega arith
 
 pub files_stay_fit : FilesStayFit
-files_stay_fit t o birth m well fit = by_op o
+files_stay_fit t o birth when m well fit = by_op o
   where
     are : AreFit t
     are = record { births = well.births; fit = fit }
 
-    by_op : (o : Op) → FilesFit (node_at (apply t o birth m).tree)
-    by_op (op.Create path) = made_fit t are birth (File [] 1) (place t path) none_long
+    by_op : (o : Op) → FilesFit (node_at (apply t o birth when m).tree)
+    by_op (op.Create path) = made_fit t are birth (File [] 1 0) (place t path) none_long
     by_op (op.Mkdir path) = made_fit t are birth (Dir [] 0) (place t path) tt
     by_op (op.Symlink path target) = made_fit t are birth (Link target 1) (place t path) tt
     by_op (op.Link path to) = linked_fit t are (place t path) (place t to)
     by_op (op.Unlink path) = unlinked_fit t are (place t path)
     by_op (op.Rmdir path) = removed_fit t are (place t path)
     by_op (op.Rename path to) = renamed_fit t are path to
-    by_op (op.Write path off bytes) = file_case t are (λ b cells links. written t m b cells links off (length bytes) (λ old. overwritten old off (map cell.Byte bytes))) (written_fit t are m off (length bytes) (map cell.Byte bytes) (length-map bytes cell.Byte)) (place t path)
-    by_op (op.Fill path off len byte) = file_case t are (λ b cells links. written t m b cells links off len (λ old. overwritten old off (replicate len (cell.Byte byte)))) (written_fit t are m off len (replicate len (cell.Byte byte)) (length-replicate len (cell.Byte byte))) (place t path)
-    by_op (op.Truncate path len) = file_case t are (λ b cells links. truncated t b cells links len) (truncated_fit t are len) (place t path)
-    by_op (op.Read path off len) = look_fit t are (op.Read path off len) birth m refl
-    by_op (op.Stat path) = look_fit t are (op.Stat path) birth m refl
-    by_op (op.List path) = look_fit t are (op.List path) birth m refl
-    by_op (op.Readlink path) = look_fit t are (op.Readlink path) birth m refl
-    by_op (op.Time path) = look_fit t are (op.Time path) birth m refl
+    by_op (op.Write path off bytes) = file_case t are (λ b cells links old. written t m b cells links when off (length bytes) (λ all. overwritten all off (map cell.Byte bytes))) (written_fit t are m when off (length bytes) (map cell.Byte bytes) (length-map bytes cell.Byte)) (place t path)
+    by_op (op.Fill path off len byte) = file_case t are (λ b cells links old. written t m b cells links when off len (λ all. overwritten all off (replicate len (cell.Byte byte)))) (written_fit t are m when off len (replicate len (cell.Byte byte)) (length-replicate len (cell.Byte byte))) (place t path)
+    by_op (op.Truncate path len) = file_case t are (λ b cells links old. truncated t b cells links when len) (truncated_fit t are when len) (place t path)
+    by_op (op.Read path off len) = look_fit t are (op.Read path off len) birth when m refl
+    by_op (op.Stat path) = look_fit t are (op.Stat path) birth when m refl
+    by_op (op.List path) = look_fit t are (op.List path) birth when m refl
+    by_op (op.Readlink path) = look_fit t are (op.Readlink path) birth when m refl
+    by_op (op.Time path) = look_fit t are (op.Time path) birth when m refl
     by_op op.Sync = fit
     by_op op.Mount = fit
     by_op op.Unmount = fit

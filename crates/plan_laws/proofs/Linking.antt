@@ -37,17 +37,17 @@ use Rattle.plan_laws.proofs.Walking.{walks_lead}
 -- what an inode says of its node
 pub links_are : (n : Naming) (b : ℕ) (node : Node) → links_of (Some node) ≡ (inode_by n b node).links
 links_are n b (Dir entries blocks) = refl
-links_are n b (File cells links) = refl
+links_are n b (File cells links when) = refl
 links_are n b (Link target links) = refl
 
 pub kind_are : (n : Naming) (b : ℕ) (node : Node) → (inode_by n b node).kind ≡ kind_of node
 kind_are n b (Dir entries blocks) = refl
-kind_are n b (File cells links) = refl
+kind_are n b (File cells links when) = refl
 kind_are n b (Link target links) = refl
 
 one_more : (tree : FileTree) (b : ℕ) (node : Node) → is_dir (Some node) ≡ false → one_link_more tree b (Some node) ≡ with_node tree b (with_links (links_of (Some node) + 1) node)
 one_more tree b (Dir entries blocks) plain = absurd (cc)
-one_more tree b (File cells links) plain = refl
+one_more tree b (File cells links when) plain = refl
 one_more tree b (Link target links) plain = refl
 
 module _ (h : Hand) (s : Store) (tree : FileTree) (n : Naming) (of : IsOfTree s tree n) (hand : IsHandOf h s tree.segments) (dirs : List ℕ)
@@ -160,7 +160,7 @@ module _ (h : Hand) (s : Store) (tree : FileTree) (n : Naming) (of : IsOfTree s 
       Meets h s (if is_dir o then says tree reply.IsDir else linked_to tree b (place tree to)) (run (if n.kind b == 2 then refused reply.IsDir dirs else bind (walk to) (λ w. linking_to h (n.inode b) (dirs ++ w.dirs) w.spot)) s)
   by_node b None e some = absurd (cc)
   by_node b (Some (Dir es k)) e some = rw (of.pictures.kinds b (Dir es k) e) (λ well. refuse_meets h s tree n of reply.IsDir dirs)
-  by_node b (Some (File cells links)) e some = rw (of.pictures.kinds b (File cells links) e) (linked_to_meets b (File cells links) e refl)
+  by_node b (Some (File cells links when)) e some = rw (of.pictures.kinds b (File cells links when) e) (linked_to_meets b (File cells links when) e refl)
   by_node b (Some (Link target links)) e some = rw (of.pictures.kinds b (Link target links) e) (linked_to_meets b (Link target links) e refl)
 
   pub name_meets : (d blocks : ℕ) (entries : Entries) (name : List ℕ) (b : ℕ) → node_at tree d ≡ Some (Dir entries blocks) → entry_at entries name ≡ Some b →
@@ -168,7 +168,7 @@ module _ (h : Hand) (s : Store) (tree : FileTree) (n : Naming) (of : IsOfTree s 
   name_meets d blocks entries name b is had = by_node b (node_at tree b) refl (names_nodes tree of.well_formed d entries blocks name b is had)
 
 pub link_planned : LinkIsPlanned
-link_planned path to h s tree n birth m of hand new =
+link_planned path to h s tree n birth when m of hand new =
     let w = run (walk path) s in
     rw (run-bind (walk path) (λ w. linking h to w.dirs w.spot) s)
     (by_spot s (node_at tree) n of.pictures (λ v p. Meets h s (linked tree p (place tree to)) (run (linking h to w.dirs v) s))
@@ -176,4 +176,4 @@ link_planned path to h s tree n birth m of hand new =
     (λ r well. refuse_meets h s tree n of r w.dirs)
     (name_meets h s tree n of hand to w.dirs)
     (λ d blocks entries name is absent well. refuse_meets h s tree n of reply.NoEnt w.dirs)
-    w.spot (place tree path) (walks_lead s tree n path of).0 (apply_keeps tree (op.Link path to) birth m of.well_formed new))
+    w.spot (place tree path) (walks_lead s tree n path of).0 (apply_keeps tree (op.Link path to) birth when m of.well_formed new))

@@ -102,9 +102,9 @@ module _ (h : Hand) (s : Store) (tree : FileTree) (n : Naming) (of : IsOfTree s 
   listed_meets : (dirs : List ℕ) (b : ℕ) (node : Node) → node_at tree b ≡ Some node →
       Meets h s (listed tree (Some node)) (run (if kind_of node == 2 then at_inode listing (target_of h s tree n of dirs b (kind_of node)) else refused reply.NotDir dirs) s)
   listed_meets dirs b (Dir entries blocks) is = at_inode_meets h s tree n of listing (listed tree (Some (Dir entries blocks))) b 2 (Dir entries blocks) is (λ touched well. listing_meets b blocks entries is touched) dirs
-  listed_meets dirs b (File cells links) is = λ well. refuse_meets h s tree n of reply.NotDir dirs
+  listed_meets dirs b (File cells links when) is = λ well. refuse_meets h s tree n of reply.NotDir dirs
   listed_meets dirs b (Link target links) is = λ well. refuse_meets h s tree n of reply.NotDir dirs
 
 pub list_planned : ListIsPlanned
-list_planned path h s tree n birth m of hand new =
-    node_meets h s tree n of (λ t. if t.kind == 2 then at_inode listing t else refused reply.NotDir t.dirs) (λ b node. listed tree node) (listed_meets h s tree n of) path (apply_keeps tree (op.List path) birth m of.well_formed new)
+list_planned path h s tree n birth when m of hand new =
+    node_meets h s tree n of (λ t. if t.kind == 2 then at_inode listing t else refused reply.NotDir t.dirs) (λ b node. listed tree node) (listed_meets h s tree n of) path (apply_keeps tree (op.List path) birth when m of.well_formed new)

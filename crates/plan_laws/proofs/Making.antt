@@ -78,7 +78,7 @@ module _ (h : Hand) (s : Store) (tree : FileTree) (n : Naming) (of : IsOfTree s 
         where
           unnamed : (c : ℕ) (w : List ℕ) (o : Option Node) → node_at tree c ≡ o → find_in o w ≡ Some birth → ⊥
           unnamed c w (Some (Dir es k)) i e = let z : is_some (node_at tree birth) ≡ true = names_nodes tree of.well_formed c es k w birth i e in let y : is_some (node_at tree birth) ≡ false = ap is_some new in cc
-          unnamed c w (Some (File cells links)) i e = cc
+          unnamed c w (Some (File cells links when)) i e = cc
           unnamed c w (Some (Link target links)) i e = cc
           unnamed c w None i e = cc
 
@@ -142,10 +142,10 @@ made_meets h s tree n of hand birth node new bare path =
     w.spot (place tree path) (walks_lead s tree n path of).0)
 
 pub create_planned : CreateIsPlanned
-create_planned path h s tree n birth m of hand new = made_meets h s tree n of hand birth (File [] 1) new refl path (apply_keeps tree (op.Create path) birth m of.well_formed new)
+create_planned path h s tree n birth when m of hand new = made_meets h s tree n of hand birth (File [] 1 0) new refl path (apply_keeps tree (op.Create path) birth when m of.well_formed new)
 
 pub mkdir_planned : MkdirIsPlanned
-mkdir_planned path h s tree n birth m of hand new = made_meets h s tree n of hand birth (Dir [] 0) new (refl, refl) path (apply_keeps tree (op.Mkdir path) birth m of.well_formed new)
+mkdir_planned path h s tree n birth when m of hand new = made_meets h s tree n of hand birth (Dir [] 0) new (refl, refl) path (apply_keeps tree (op.Mkdir path) birth when m of.well_formed new)
 
 pub symlink_planned : SymlinkIsPlanned
-symlink_planned path target h s tree n birth m of hand new = made_meets h s tree n of hand birth (Link target 1) new tt path (apply_keeps tree (op.Symlink path target) birth m of.well_formed new)
+symlink_planned path target h s tree n birth when m of hand new = made_meets h s tree n of hand birth (Link target 1) new tt path (apply_keeps tree (op.Symlink path target) birth when m of.well_formed new)

@@ -188,9 +188,9 @@ module _ (h : Hand) (s : Store) (tree : FileTree) (n : Naming) (of : IsOfTree s 
   by_node (Some (Dir es j)) e some other =
       subst (λ o. Replaces (if nat_lt 0 (length es) then says tree reply.NotEmpty else says (one_link_fewer (moved tree from name to new b) old (Some (Dir es j))) reply.Ok) (replacing_node m (n.inode to) x new (n.spot to new) (n.inode old) dirs o))
       (sym (inode_is s (node_at tree) n of.pictures old (Dir es j) e)) (by_size es j e other (nat_lt 0 (length es)) refl)
-  by_node (Some (File cells links)) e some other =
-      subst (λ o. Replaces (says (one_link_fewer (moved tree from name to new b) old (Some (File cells links))) reply.Ok) (replacing_node m (n.inode to) x new (n.spot to new) (n.inode old) dirs o))
-      (sym (inode_is s (node_at tree) n of.pictures old (File cells links) e)) (replaced (File cells links) e (λ w. refl) other)
+  by_node (Some (File cells links when)) e some other =
+      subst (λ o. Replaces (says (one_link_fewer (moved tree from name to new b) old (Some (File cells links when))) reply.Ok) (replacing_node m (n.inode to) x new (n.spot to new) (n.inode old) dirs o))
+      (sym (inode_is s (node_at tree) n of.pictures old (File cells links when) e)) (replaced (File cells links when) e (λ w. refl) other)
   by_node (Some (Link chars links)) e some other =
       subst (λ o. Replaces (says (one_link_fewer (moved tree from name to new b) old (Some (Link chars links))) reply.Ok) (replacing_node m (n.inode to) x new (n.spot to new) (n.inode old) dirs o))
       (sym (inode_is s (node_at tree) n of.pictures old (Link chars links) e)) (replaced (Link chars links) e (λ w. refl) other)

@@ -25,7 +25,7 @@ use Rattle.store_changes.proofs.Indices.{index_hit}
 use Rattle.plan_definitions.specs.Ask.{Got, run}
 use Rattle.plan_definitions.specs.Plans.{Hand, Plan}
 use Rattle.plan_definitions.specs.Plans.Plan.{Finishes}
-use Rattle.plan_definitions.specs.FilePlans.{Writing, end_of, sectors_met, large_after, resized, large_taken, large_segment, size_edits, written_by, writing_in}
+use Rattle.plan_definitions.specs.FilePlans.{Writing, end_of, sectors_met, large_after, resized, large_taken, large_segment, file_dated, written_by, writing_in}
 use Rattle.plan_definitions.specs.Meets.{IsOfTree, IsHandOf, FinishMeets, PlanMeets}
 use Rattle.plan_laws.proofs.Cases.{inode_by}
 use Rattle.plan_laws.proofs.Totals.{in_range}
@@ -35,7 +35,7 @@ use Rattle.plan_laws.proofs.Counting.{false_if}
 use Rattle.plan_laws.proofs.Among.{is_among, among_at, at_among, listed}
 use Rattle.plan_laws.proofs.Setting.{IsSet, set_edits, all_set}
 use Rattle.plan_laws.proofs.Sizing.{AreWithin, resized_tree}
-use Rattle.plan_laws.proofs.Sized.{resized_is, inode_set, mine, mine_used, mine_below, index_at, large_owned, large_used}
+use Rattle.plan_laws.proofs.Sized.{resized_is, mine, mine_used, mine_below, index_at, large_owned, large_used}
 use Rattle.plan_laws.proofs.Taking.{ArePicked}
 use Rattle.plan_laws.proofs.Overwriting.{size_is, before_is, within_is, behind_is}
 use Rattle.plan_laws.proofs.Sectors.{sector_edits, run-writes, bytes_only, byte_other, large_other}
@@ -69,10 +69,10 @@ large_set (Some g) had needs k own bit new old its = go had needs (new g refl) (
     go true needs q e = absurd (let z : true ≡ false = q.0 in cc)
     go false false q e = absurd (let z : false ≡ true = q.1 in cc)
 
-module _ (h : Hand) (s : Store) (tree : FileTree) (n : Naming) (of : IsOfTree s tree n) (hand : IsHandOf h s tree.segments) (fit : FilesFit (node_at tree)) (touched : List ℕ) (b links : ℕ) (old fresh : List Cell) (is : node_at tree b ≡ Some (File old links))
+module _ (h : Hand) (s : Store) (tree : FileTree) (n : Naming) (of : IsOfTree s tree n) (hand : IsHandOf h s tree.segments) (fit : FilesFit (node_at tree)) (touched : List ℕ) (b links since : ℕ) (old fresh : List Cell) (is : node_at tree b ≡ Some (File old links since))
     (w : Writing) (inside : w.off ≤ length old) (size : length fresh ≡ w.len) (cells : (i : ℕ) → i < w.len → slice_get fresh i ≡ Some (cell.Byte (w.byte (w.off + i)))) where
   abbrev x : StoredNode
-  x = inode_by n b (File old links)
+  x = inode_by n b (File old links since)
 
   abbrev pub new : List Cell
   new = overwritten old w.off fresh
@@ -105,7 +105,7 @@ module _ (h : Hand) (s : Store) (tree : FileTree) (n : Naming) (of : IsOfTree s 
     large = large_by (n.large b) o
 
     abbrev y : StoredNode
-    y = inode_of (n.stamp b) block large (File new links)
+    y = inode_of (n.stamp b) block large (File new links w.when)
 
     own_block : (j : ℕ) → j < had → block j ≡ n.block b j
     own_block j l = rw (of_lt j had l) refl
@@ -153,11 +153,11 @@ module _ (h : Hand) (s : Store) (tree : FileTree) (n : Naming) (of : IsOfTree s 
         subst (λ z. Uses (s.use_of k) z (index_of new block k) (is_owned_by b (n.owner k))) (sym e) (subst (λ z. Uses (s.use_of k) p z (is_owned_by b (n.owner k))) (sym f) (subst (λ z. Uses (s.use_of k) p i z) (sym q) u))
 
     no_index : (k j : ℕ) → j < count → block j ≡ k → index_of new block k ≡ None → ⊥
-    no_index k j l e none = let z : Some j ≡ None = sym (index_at s (node_at tree) n of.pictures b links large old new block is has k j l e) ∙ none in cc
+    no_index k j l e none = let z : Some j ≡ None = sym (index_at s (node_at tree) n of.pictures b links since large old new block is has k j l e) ∙ none in cc
 
     owned : (k : ℕ) (q : Option (ℕ × ℕ)) → n.owner k ≡ q → is_owned_by b q ≡ true → (j : ℕ) × (j < had) × (n.block b j ≡ k)
     owned k None e v = absurd (cc)
-    owned k (Some (c, j)) e v = let r = mine_below s (node_at tree) n of.pictures b links large old new block is has k j (e ∙ ap (λ z. Some (z, j)) (eq_of c b v)) in (j, r.1, r.0)
+    owned k (Some (c, j)) e v = let r = mine_below s (node_at tree) n of.pictures b links since large old new block is has k j (e ∙ ap (λ z. Some (z, j)) (eq_of c b v)) in (j, r.1, r.0)
 
     same_use : (u : Use) (p v : Bool) (j : ℕ) → u ≡ Bytes → Uses u p (Some j) v
     same_use u true v j e = refl
@@ -166,7 +166,7 @@ module _ (h : Hand) (s : Store) (tree : FileTree) (n : Naming) (of : IsOfTree s 
     pub uses_written : (k : ℕ) (i : Option ℕ) → index_of new block k ≡ i → Uses (s.use_of k) (is_among k picks) (index_of new block k) (is_owned_by b (n.owner k))
     uses_written k (Some j) e = ⊎_elim
         (λ l. uses_by k (is_among k picks) (Some j) (is_owned_by b (n.owner k)) refl e refl (same_use (s.use_of k) (is_among k picks) (is_owned_by b (n.owner k)) j
-        (mine_used s (node_at tree) n of.pictures b links large old new block is has k j (mine s (node_at tree) n of.pictures b links large old new block is has k j l (sym (own_block j l) ∙ hit.0)))))
+        (mine_used s (node_at tree) n of.pictures b links since large old new block is has k j (mine s (node_at tree) n of.pictures b links since large old new block is has k j l (sym (own_block j l) ∙ hit.0)))))
         (λ l. uses_by k true (Some j) (is_owned_by b (n.owner k)) (among_picks k j l hit.1 hit.0) e refl refl)
         (cases_lt j had)
       where
@@ -179,7 +179,7 @@ module _ (h : Hand) (s : Store) (tree : FileTree) (n : Naming) (of : IsOfTree s 
 
     -- ---- the store with the inode and blocks, and then with the bytes
     abbrev mid : Store
-    mid = edited_all s (set_edits Bytes picks true (large_segment o) (n.inode b) x y)
+    mid = edited_all s (set_edits Bytes picks true (large_segment o) (n.inode b) y)
 
     abbrev pub bytes : List Edit
     bytes = sector_edits w x y s (w.off / 512) (sectors_met w.off w.len)
@@ -187,8 +187,8 @@ module _ (h : Hand) (s : Store) (tree : FileTree) (n : Naming) (of : IsOfTree s 
     abbrev pub t : Store
     t = edited_all mid bytes
 
-    set : IsSet s mid Bytes picks true (large_segment o) (n.inode b) x y
-    set = all_set s Bytes picks true (large_segment o) (n.inode b) x y
+    set : IsSet s mid Bytes picks true (large_segment o) (n.inode b) y
+    set = all_set s Bytes picks true (large_segment o) (n.inode b) y
 
     fits : end_of w ≤ length new
     fits = let e : length new ≡ max (length old) (end_of w) = new_size in omega arith
@@ -198,8 +198,8 @@ module _ (h : Hand) (s : Store) (tree : FileTree) (n : Naming) (of : IsOfTree s 
 
     one : (i j : ℕ) → i < y.blocks → j < y.blocks → y.small i ≡ y.small j → i ≡ j
     one i j li lj e =
-        let a : index_of new block (block j) ≡ Some i = index_at s (node_at tree) n of.pictures b links large old new block is has (block j) i li (sym (small_at i li) ∙ e ∙ small_at j lj) in
-        let c : index_of new block (block j) ≡ Some j = index_at s (node_at tree) n of.pictures b links large old new block is has (block j) j lj refl in
+        let a : index_of new block (block j) ≡ Some i = index_at s (node_at tree) n of.pictures b links since large old new block is has (block j) i li (sym (small_at i li) ∙ e ∙ small_at j lj) in
+        let c : index_of new block (block j) ≡ Some j = index_at s (node_at tree) n of.pictures b links since large old new block is has (block j) j lj refl in
         let z : Some i ≡ Some j = sym a ∙ c in cc
 
     in_small : (v k : ℕ) → 512 * v < k → v < 128 → v / 8 < small_blocks_of k
@@ -211,9 +211,9 @@ module _ (h : Hand) (s : Store) (tree : FileTree) (n : Naming) (of : IsOfTree s 
     -- ---- bytes
     same_before : (j : ℕ) → j < length old → stored_byte mid y j ≡ stored_byte s x j
     same_before j l =
-        let a : stored_byte mid y j ≡ byte_at mid block large j = stored_is mid (n.stamp b) links large block new j (omega (arith, longer)) in
+        let a : stored_byte mid y j ≡ byte_at mid block large j = stored_is mid (n.stamp b) links w.when large block new j (omega (arith, longer)) in
         let c : byte_at mid block large j ≡ byte_at s block large j = ap₂ (λ f v. if nat_lt j 65536 then f (block (j / 4096)) (j % 4096) else v large (j - 65536)) set.byte set.large_byte in
-        a ∙ c ∙ go (nat_lt j 65536) refl ∙ sym (stored_is s (n.stamp b) links (n.large b) (n.block b) old j l)
+        a ∙ c ∙ go (nat_lt j 65536) refl ∙ sym (stored_is s (n.stamp b) links since (n.large b) (n.block b) old j l)
       where
         go : (v : Bool) → nat_lt j 65536 ≡ v → (if v then s.byte (block (j / 4096)) (j % 4096) else s.large_byte large (j - 65536)) ≡ (if v then s.byte (n.block b (j / 4096)) (j % 4096) else s.large_byte (n.large b) (j - 65536))
         go true e = let m : j < 65536 = grind (arith, nat_tests) in ap (λ k. s.byte k (j % 4096)) (own_block (j / 4096) (omega arith))
@@ -223,7 +223,7 @@ module _ (h : Hand) (s : Store) (tree : FileTree) (n : Naming) (of : IsOfTree s 
     old_allowed j c e out =
         let l : j < length old = slice_get_within old j c e in
         let q : stored_byte t y j ≡ stored_byte s x j = byte_old w x y s mid one (λ v. in_small v (length new)) fits j (omega (arith, longer)) l (same_before j l) out in
-        subst (Allows c) (sym (q ∙ stored_is s (n.stamp b) links (n.large b) (n.block b) old j l)) (of.pictures.bytes b j c (rw is e))
+        subst (Allows c) (sym (q ∙ stored_is s (n.stamp b) links since (n.large b) (n.block b) old j l)) (of.pictures.bytes b j c (rw is e))
 
     new_allowed : (j : ℕ) (c : Cell) → slice_get new j ≡ Some c → w.off ≤ j → j < end_of w → Allows c (stored_byte t y j)
     new_allowed j c e lo hi =
@@ -242,7 +242,7 @@ module _ (h : Hand) (s : Store) (tree : FileTree) (n : Naming) (of : IsOfTree s 
     allowed : (j : ℕ) (c : Cell) → slice_get new j ≡ Some c → Allows c (byte_at t block large j)
     allowed j c e =
         let l : j < length new = slice_get_within new j c e in
-        subst (Allows c) (stored_is t (n.stamp b) links large block new j l)
+        subst (Allows c) (stored_is t (n.stamp b) links w.when large block new j l)
         (⊎_elim
         (λ a. old_allowed j c (sym (before_is old fresh w.off inside j a) ∙ e) (inl a))
         (λ a. ⊎_elim (λ d. new_allowed j c e a d) (λ d. old_allowed j c (sym (behind j d) ∙ e) (inr d)) (cases_lt j (end_of w)))
@@ -265,14 +265,14 @@ module _ (h : Hand) (s : Store) (tree : FileTree) (n : Naming) (of : IsOfTree s 
 
     large_written : (k : ℕ) → (if is_among k (large_segment o) then true else s.large_bit k) ≡ (if is_large_of new large k then true else (if is_of b (n.large_owner k) then false else s.large_bit k))
     large_written k =
-        large_set o (nat_lt 65536 (length old)) (nat_lt 65536 (length new)) k (n.large b) (s.large_bit k) (takes_large o takes) (needs_large o takes) (large_used s (node_at tree) n of.pictures b links large old new block is has k)
-        ∙ ap (λ v. if is_large_of new large k then true else (if v then false else s.large_bit k)) (sym (large_owned s (node_at tree) n of.pictures b links large old new block is has k))
+        large_set o (nat_lt 65536 (length old)) (nat_lt 65536 (length new)) k (n.large b) (s.large_bit k) (takes_large o takes) (needs_large o takes) (large_used s (node_at tree) n of.pictures b links since large old new block is has k)
+        ∙ ap (λ v. if is_large_of new large k then true else (if v then false else s.large_bit k)) (sym (large_owned s (node_at tree) n of.pictures b links since large old new block is has k))
 
-    pub after : IsResized s t n b new links block large
+    pub after : IsResized s t n b new links w.when block large
     after =
         let only = bytes_only w x y s (sectors_met w.off w.len) (w.off / 512) mid in
         record {
-          inode = λ j. ap (λ f. f j) only.inode ∙ set.inode j ∙ inode_set s (node_at tree) n of.pictures b links large old new block is has j;
+          inode = λ j. ap (λ f. f j) only.inode ∙ set.inode j;
           bit = λ j. ap (λ f. f j) (only.bit ∙ set.bit);
           uses = λ k. ap (λ f. f k) only.use_of ∙ set.uses k ∙ uses_written k (index_of new block k) refl;
           large_bits = λ k. ap (λ f. f k) only.large_bit ∙ set.larges k ∙ large_written k;
@@ -291,13 +291,13 @@ module _ (h : Hand) (s : Store) (tree : FileTree) (n : Naming) (of : IsOfTree s 
             let z : is_large_of new large k ≡ true = ap (λ v. v && k == large) q ∙ eq-eqb k large (sym e ∙ i) in cc
 
     large_within : (q : Option ℕ) → TakesLarge q → 65536 < length new → large_by (n.large b) q < tree.segments
-    large_within None t l = of.larges (n.large b) (large_used s (node_at tree) n of.pictures b links large old new block is has (n.large b) (rw (of_lt 65536 (length old) (t l), eq-eqb (n.large b) (n.large b) refl) refl))
+    large_within None t l = of.larges (n.large b) (large_used s (node_at tree) n of.pictures b links since large old new block is has (n.large b) (rw (of_lt 65536 (length old) (t l), eq-eqb (n.large b) (n.large b) refl) refl))
     large_within (Some g) t l = t.3
 
     pub blocks_within : AreWithin tree.segments new block large
     blocks_within = record {
       smalls = λ j l. ⊎_elim
-          (λ i. in_range s tree n of (block j) (ap is_unused (ap s.use_of (own_block j i) ∙ mine_used s (node_at tree) n of.pictures b links large old new block is has (n.block b j) j (mine s (node_at tree) n of.pictures b links large old new block is has (n.block b j) j i refl))))
+          (λ i. in_range s tree n of (block j) (ap is_unused (ap s.use_of (own_block j i) ∙ mine_used s (node_at tree) n of.pictures b links since large old new block is has (n.block b j) j (mine s (node_at tree) n of.pictures b links since large old new block is has (n.block b j) j i refl))))
           (λ i. subst (λ k. k < 1024 * tree.segments) (sym (pick_block j i)) (picked.within (j - had) (omega arith)))
           (cases_lt j had);
       larges = large_within o takes;
@@ -307,24 +307,24 @@ module _ (h : Hand) (s : Store) (tree : FileTree) (n : Naming) (of : IsOfTree s 
     sized_large None t l = rw (of_lt 65536 (length new) l, of_lt 65536 (length old) (t l)) refl
     sized_large (Some g) t l = rw (of_lt 65536 (length new) l) refl
 
-    y_is : resized x (length new) picks o ≡ y
-    y_is = resized_is (n.stamp b) links large (n.large b) block (n.block b) old new picks o (record { kept = λ j l m. own_block j m; picked = λ j l m. pick_block j m; large_is = sized_large o takes })
+    y_is : resized x w.when (length new) picks o ≡ y
+    y_is = resized_is (n.stamp b) links since w.when large (n.large b) block (n.block b) old new picks o (record { kept = λ j l m. own_block j m; picked = λ j l m. pick_block j m; large_is = sized_large o takes })
 
-    finish : IsWellFormed (with_node tree b (File new links)) → FinishMeets s (says (with_node tree b (File new links)) reply.Ok) (written_by (n.inode b) x y picks o touched bytes)
+    finish : IsWellFormed (with_node tree b (File new links w.when)) → FinishMeets s (says (with_node tree b (File new links w.when)) reply.Ok) (written_by (n.inode b) y picks o touched bytes)
     finish well = record {
       answer = refl;
       naming = named_resized n b new block large;
-      tree = subst (λ z. IsOfTree z (with_node tree b (File new links)) (named_resized n b new block large)) (sym edits)
-          (resized_tree s t tree n of b links large old new block is has after blocks_within fit well);
+      tree = subst (λ z. IsOfTree z (with_node tree b (File new links w.when)) (named_resized n b new block large)) (sym edits)
+          (resized_tree s t tree n of b links since w.when large old new block is has after blocks_within fit well);
     }
       where
-        edits : edited_all s (written_by (n.inode b) x y picks o touched bytes).edits ≡ t
-        edits = ap (λ l. edited_all s (map (λ k. SetUse k Bytes) picks ++ l ++ size_edits (n.inode b) x y ++ bytes)) (taken_is o) ∙ edited_append s (set_edits Bytes picks true (large_segment o) (n.inode b) x y) bytes
+        edits : edited_all s (written_by (n.inode b) y picks o touched bytes).edits ≡ t
+        edits = ap (λ l. edited_all s (map (λ k. SetUse k Bytes) picks ++ l ++ file_dated (n.inode b) y ++ bytes)) (taken_is o) ∙ edited_append s (set_edits Bytes picks true (large_segment o) (n.inode b) y) bytes
 
-    pub writing_in_meets : IsWellFormed (with_node tree b (File new links)) → PlanMeets h s (says (with_node tree b (File new links)) reply.Ok) (run (writing_in w (n.inode b) touched x picks o) s)
+    pub writing_in_meets : IsWellFormed (with_node tree b (File new links w.when)) → PlanMeets h s (says (with_node tree b (File new links w.when)) reply.Ok) (run (writing_in w (n.inode b) touched x picks o) s)
     writing_in_meets well =
-        let shape : resized x (max (length old) (end_of w)) picks o ≡ y = ap (λ k. resized x k picks o) (sym new_size) ∙ y_is in
-        let plan : StoredNode → Plan = λ v. Finishes (written_by (n.inode b) x v picks o touched (sector_edits w x v s (w.off / 512) (sectors_met w.off w.len))) in
+        let shape : resized x w.when (max (length old) (end_of w)) picks o ≡ y = ap (λ k. resized x w.when k picks o) (sym new_size) ∙ y_is in
+        let plan : StoredNode → Plan = λ v. Finishes (written_by (n.inode b) v picks o touched (sector_edits w x v s (w.off / 512) (sectors_met w.off w.len))) in
         let e : run (writing_in w (n.inode b) touched x picks o) s ≡ plan y =
-        run-writes w x (resized x (max (length old) (end_of w)) picks o) s (w.off / 512) (sectors_met w.off w.len) (λ bytes. Got (Finishes (written_by (n.inode b) x (resized x (max (length old) (end_of w)) picks o) picks o touched bytes))) ∙ ap plan shape in
-        subst (PlanMeets h s (says (with_node tree b (File new links)) reply.Ok)) (sym e) (finish well)
+        run-writes w x (resized x w.when (max (length old) (end_of w)) picks o) s (w.off / 512) (sectors_met w.off w.len) (λ bytes. Got (Finishes (written_by (n.inode b) (resized x w.when (max (length old) (end_of w)) picks o) picks o touched bytes))) ∙ ap plan shape in
+        subst (PlanMeets h s (says (with_node tree b (File new links w.when)) reply.Ok)) (sym e) (finish well)

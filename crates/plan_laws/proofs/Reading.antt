@@ -42,16 +42,16 @@ cut_out f off len = go (len == 0) refl
         ∙ ap (take len) (values_drop f (off % 512) (512 * (off / 512)) (len + left) ∙ ap (λ k. values f k (len + left)) b)
         ∙ values_take f len off left
 
-module _ (h : Hand) (s : Store) (tree : FileTree) (n : Naming) (of : IsOfTree s tree n) (off len : ℕ) (touched : List ℕ) (b links : ℕ) (cells : List Cell) (is : node_at tree b ≡ Some (File cells links)) where
+module _ (h : Hand) (s : Store) (tree : FileTree) (n : Naming) (of : IsOfTree s tree n) (off len : ℕ) (touched : List ℕ) (b links when : ℕ) (cells : List Cell) (is : node_at tree b ≡ Some (File cells links when)) where
   abbrev x : StoredNode
-  x = inode_by n b (File cells links)
+  x = inode_by n b (File cells links when)
 
   allowed : (j : ℕ) (c : Cell) → slice_get (take len (drop off cells)) j ≡ Some c → Allows c (stored_byte s x (off + j))
   allowed j c e =
       let d : slice_get (drop off cells) j ≡ Some c = get_take len (drop off cells) j c e in
       let i : slice_get cells (off + j) ≡ Some c = sym (get_drop off cells j) ∙ d in
       let l : off + j < length cells = slice_get_within cells (off + j) c i in
-      subst (Allows c) (sym (stored_is s (n.stamp b) links (n.large b) (n.block b) cells (off + j) l)) (of.pictures.bytes b (off + j) c (rw is i))
+      subst (Allows c) (sym (stored_is s (n.stamp b) links when (n.large b) (n.block b) cells (off + j) l)) (of.pictures.bytes b (off + j) c (rw is i))
 
   shown_allowed : AllAllow (take len (drop off cells)) (values (stored_byte s x) off (min len (length cells - off)))
   shown_allowed =
@@ -77,5 +77,5 @@ module _ (h : Hand) (s : Store) (tree : FileTree) (n : Naming) (of : IsOfTree s 
       go false well = bytes_are
 
 pub read_planned : ReadIsPlanned
-read_planned path off len h s tree n birth m of hand new =
-    file_meets h s tree n of (showing off len) (λ b cells links. shown tree cells off len) (λ touched b links cells is. showing_meets h s tree n of off len touched b links cells is) path (apply_keeps tree (op.Read path off len) birth m of.well_formed new)
+read_planned path off len h s tree n birth when m of hand new =
+    file_meets h s tree n of (showing off len) (λ b cells links when. shown tree cells off len) (λ touched b links when cells is. showing_meets h s tree n of off len touched b links when cells is) path (apply_keeps tree (op.Read path off len) birth when m of.well_formed new)

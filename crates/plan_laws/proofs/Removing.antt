@@ -94,7 +94,7 @@ module _ (h : Hand) (s : Store) (tree : FileTree) (n : Naming) (of : IsOfTree s 
   by_node : (o : Option Node) → node_at tree b ≡ o → Unlinks (n.kind b == 2) (if is_dir o then says tree reply.IsDir else says (one_link_fewer mid b o) reply.Ok)
   by_node None e = absurd (let z : is_some (node_at tree b) ≡ false = ap is_some e in let y : is_some (node_at tree b) ≡ true = there in cc)
   by_node (Some (Dir es k)) e = rw (kind_is (Dir es k) e) (λ well. refuse_meets h s tree n of reply.IsDir dirs)
-  by_node (Some (File cells links)) e = rw (kind_is (File cells links) e) (unlinks (File cells links) e refl (λ m. refl))
+  by_node (Some (File cells links when)) e = rw (kind_is (File cells links when) e) (unlinks (File cells links when) e refl (λ m. refl))
   by_node (Some (Link target links)) e = rw (kind_is (Link target links) e) (unlinks (Link target links) e refl (λ m. refl))
 
   pub unlink_meets : Meets h s (unlinked tree (Taken d entries blocks name b)) (run (unlinking dirs (AtName (n.inode d) x name (n.spot d name) (entry_of n name b))) s)
@@ -131,14 +131,14 @@ module _ (h : Hand) (s : Store) (tree : FileTree) (n : Naming) (of : IsOfTree s 
   by_directory (Some (Dir es k)) e = rw (kind_is (Dir es k) e)
       (subst (λ o. Meets h s (if nat_lt 0 (length es) then says tree reply.NotEmpty else says (without_node mid b) reply.Ok) (run (removing_node (n.inode d) x (n.spot d name) (n.inode b) dirs o) s)) (sym (read (Dir es k) e))
       (removes es k e (nat_lt 0 (length es)) refl))
-  by_directory (Some (File cells links)) e = rw (kind_is (File cells links) e) (λ well. refuse_meets h s tree n of reply.NotDir dirs)
+  by_directory (Some (File cells links when)) e = rw (kind_is (File cells links when) e) (λ well. refuse_meets h s tree n of reply.NotDir dirs)
   by_directory (Some (Link target links)) e = rw (kind_is (Link target links) e) (λ well. refuse_meets h s tree n of reply.NotDir dirs)
 
   pub rmdir_meets : Meets h s (dir_removed tree (Taken d entries blocks name b)) (run (removing dirs (AtName (n.inode d) x name (n.spot d name) (entry_of n name b))) s)
   rmdir_meets = by_directory (node_at tree b) refl
 
 pub unlink_planned : UnlinkIsPlanned
-unlink_planned path h s tree n birth m of hand new =
+unlink_planned path h s tree n birth when m of hand new =
     let w = run (walk path) s in
     rw (run-bind (walk path) (λ w. unlinking w.dirs w.spot) s)
     (by_spot s (node_at tree) n of.pictures (λ v p. Meets h s (unlinked tree p) (run (unlinking w.dirs v) s))
@@ -146,10 +146,10 @@ unlink_planned path h s tree n birth m of hand new =
     (λ r well. refuse_meets h s tree n of r w.dirs)
     (λ d blocks entries name b is had. unlink_meets h s tree n of w.dirs d blocks entries name b is had)
     (λ d blocks entries name is absent well. refuse_meets h s tree n of reply.NoEnt w.dirs)
-    w.spot (place tree path) (walks_lead s tree n path of).0 (apply_keeps tree (op.Unlink path) birth m of.well_formed new))
+    w.spot (place tree path) (walks_lead s tree n path of).0 (apply_keeps tree (op.Unlink path) birth when m of.well_formed new))
 
 pub rmdir_planned : RmdirIsPlanned
-rmdir_planned path h s tree n birth m of hand new =
+rmdir_planned path h s tree n birth when m of hand new =
     let w = run (walk path) s in
     rw (run-bind (walk path) (λ w. removing w.dirs w.spot) s)
     (by_spot s (node_at tree) n of.pictures (λ v p. Meets h s (dir_removed tree p) (run (removing w.dirs v) s))
@@ -157,4 +157,4 @@ rmdir_planned path h s tree n birth m of hand new =
     (λ r well. refuse_meets h s tree n of r w.dirs)
     (λ d blocks entries name b is had. rmdir_meets h s tree n of w.dirs d blocks entries name b is had)
     (λ d blocks entries name is absent well. refuse_meets h s tree n of reply.NoEnt w.dirs)
-    w.spot (place tree path) (walks_lead s tree n path of).0 (apply_keeps tree (op.Rmdir path) birth m of.well_formed new))
+    w.spot (place tree path) (walks_lead s tree n path of).0 (apply_keeps tree (op.Rmdir path) birth when m of.well_formed new))

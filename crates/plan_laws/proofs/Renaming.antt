@@ -83,4 +83,4 @@ renamed_meets h s tree n of hand (name ∷ names) (new ∷ news) =
     w.spot (place tree (name ∷ names)) (walks_lead s tree n (name ∷ names) of).0)
 
 pub rename_planned : RenameIsPlanned
-rename_planned path to h s tree n birth m of hand new = renamed_meets h s tree n of hand path to (apply_keeps tree (op.Rename path to) birth m of.well_formed new)
+rename_planned path to h s tree n birth when m of hand new = renamed_meets h s tree n of hand path to (apply_keeps tree (op.Rename path to) birth when m of.well_formed new)

@@ -1,11 +1,11 @@
--- The store after some blocks get one use, some large blocks are taken or given back, and an inode gets another size.
-use Rattle.std.proofs.Common.{ℕ, ◌≡◌, ◌==◌, ◌||◌, Bool, true, false, nat_eq, if◌then◌else◌, Some, List, [], ◌∷◌, ◌++◌, map, refl, sym, ◌∙◌, ap, subst}
+-- The store after some blocks get one use, some large blocks are taken or given back, and an inode is another.
+use Rattle.std.proofs.Common.{ℕ, ◌≡◌, ◌||◌, Bool, true, false, nat_eq, if◌then◌else◌, Some, List, [], ◌∷◌, ◌++◌, map, refl, sym, ◌∙◌, ap, subst}
 use Rattle.frang_base.specs.Functions.{put}
 use Rattle.disk_definitions.specs.Store.{Store, StoredNode, Use}
 use Rattle.store_changes.specs.Edits.{Edit, edited, edited_all}
-use Rattle.store_changes.specs.Edits.Edit.{SetInode, SetUse, SetLarge}
+use Rattle.store_changes.specs.Edits.Edit.{SetUse, SetLarge}
 use Rattle.store_changes.proofs.Puts.{edited_append}
-use Rattle.plan_definitions.specs.FilePlans.{size_edits}
+use Rattle.plan_definitions.specs.FilePlans.{file_dated}
 use Rattle.plan_laws.proofs.Among.{is_among}
 
 -- one place and then others with the same value
@@ -46,24 +46,9 @@ module _ (v : Bool) where
   larges_else [] s = (record { bit = refl; place = refl; byte = refl; large_byte = refl }, refl, refl)
   larges_else (c ∷ cs) s = let r = larges_else cs (edited s (SetLarge c v)) in (record { bit = r.0.bit; place = r.0.place; byte = r.0.byte; large_byte = r.0.large_byte }, r.1, r.2)
 
-module _ (i : ℕ) (x y : StoredNode) where
-  size_set : (s : Store) (j : ℕ) → (edited_all s (size_edits i x y)).inode j ≡ (if y.size == x.size then s.inode j else put s.inode i (Some y) j)
-  size_set s j = go (y.size == x.size)
-    where
-      go : (b : Bool) → (edited_all s (if b then [] else SetInode i (Some y) ∷ [])).inode j ≡ (if b then s.inode j else put s.inode i (Some y) j)
-      go true = refl
-      go false = refl
-
-  size_else : (s : Store) → IsElse s (edited_all s (size_edits i x y)) × ((edited_all s (size_edits i x y)).use_of ≡ s.use_of) × ((edited_all s (size_edits i x y)).large_bit ≡ s.large_bit)
-  size_else s = go (y.size == x.size)
-    where
-      go : (b : Bool) → IsElse s (edited_all s (if b then [] else SetInode i (Some y) ∷ [])) × ((edited_all s (if b then [] else SetInode i (Some y) ∷ [])).use_of ≡ s.use_of) × ((edited_all s (if b then [] else SetInode i (Some y) ∷ [])).large_bit ≡ s.large_bit)
-      go true = (record { bit = refl; place = refl; byte = refl; large_byte = refl }, refl, refl)
-      go false = (record { bit = refl; place = refl; byte = refl; large_byte = refl }, refl, refl)
-
 -- what stands where
-pub record IsSet (s t : Store) (u : Use) (ks : List ℕ) (v : Bool) (gs : List ℕ) (i : ℕ) (x y : StoredNode) : Type 0 where
-  pub inode : (j : ℕ) → t.inode j ≡ (if y.size == x.size then s.inode j else put s.inode i (Some y) j)
+pub record IsSet (s t : Store) (u : Use) (ks : List ℕ) (v : Bool) (gs : List ℕ) (i : ℕ) (y : StoredNode) : Type 0 where
+  pub inode : (j : ℕ) → t.inode j ≡ put s.inode i (Some y) j
   pub uses : (k : ℕ) → t.use_of k ≡ (if is_among k ks then u else s.use_of k)
   pub larges : (g : ℕ) → t.large_bit g ≡ (if is_among g gs then v else s.large_bit g)
   pub bit : t.bit ≡ s.bit
@@ -71,26 +56,25 @@ pub record IsSet (s t : Store) (u : Use) (ks : List ℕ) (v : Bool) (gs : List �
   pub byte : t.byte ≡ s.byte
   pub large_byte : t.large_byte ≡ s.large_byte
 
-abbrev pub set_edits : Use → List ℕ → Bool → List ℕ → ℕ → StoredNode → StoredNode → List Edit
-set_edits u ks v gs i x y = map (λ k. SetUse k u) ks ++ map (λ g. SetLarge g v) gs ++ size_edits i x y
+abbrev pub set_edits : Use → List ℕ → Bool → List ℕ → ℕ → StoredNode → List Edit
+set_edits u ks v gs i y = map (λ k. SetUse k u) ks ++ map (λ g. SetLarge g v) gs ++ file_dated i y
 
-pub all_set : (s : Store) (u : Use) (ks : List ℕ) (v : Bool) (gs : List ℕ) (i : ℕ) (x y : StoredNode) → IsSet s (edited_all s (set_edits u ks v gs i x y)) u ks v gs i x y
-all_set s u ks v gs i x y =
+pub all_set : (s : Store) (u : Use) (ks : List ℕ) (v : Bool) (gs : List ℕ) (i : ℕ) (y : StoredNode) → IsSet s (edited_all s (set_edits u ks v gs i y)) u ks v gs i y
+all_set s u ks v gs i y =
     let mid = edited_all s (uses_to u ks) in
     let late = edited_all mid (larges_to v gs) in
-    let last = edited_all late (size_edits i x y) in
+    let last = edited_all late (file_dated i y) in
     let first = uses_else u ks s in
     let second = larges_else v gs mid in
-    let third = size_else i x y late in
-    let e : edited_all s (set_edits u ks v gs i x y) ≡ last =
-    edited_append s (uses_to u ks ++ larges_to v gs) (size_edits i x y) ∙ ap (λ z. edited_all z (size_edits i x y)) (edited_append s (uses_to u ks) (larges_to v gs)) in
+    let e : edited_all s (set_edits u ks v gs i y) ≡ last =
+    edited_append s (uses_to u ks ++ larges_to v gs) (file_dated i y) ∙ ap (λ z. edited_all z (file_dated i y)) (edited_append s (uses_to u ks) (larges_to v gs)) in
     let inodes : late.inode ≡ s.inode = second.1 ∙ first.1 in
-    subst (λ t. IsSet s t u ks v gs i x y) (sym e) (record {
-      inode = λ j. size_set i x y late j ∙ ap (λ f. if y.size == x.size then f j else put f i (Some y) j) inodes;
-      uses = λ k. ap (λ f. f k) (third.1 ∙ second.2) ∙ uses_set u ks s k;
-      larges = λ g. ap (λ f. f g) third.2 ∙ larges_set v gs mid g ∙ ap (λ f. if is_among g gs then v else f g) first.2;
-      bit = third.0.bit ∙ second.0.bit ∙ first.0.bit;
-      place = third.0.place ∙ second.0.place ∙ first.0.place;
-      byte = third.0.byte ∙ second.0.byte ∙ first.0.byte;
-      large_byte = third.0.large_byte ∙ second.0.large_byte ∙ first.0.large_byte;
+    subst (λ t. IsSet s t u ks v gs i y) (sym e) (record {
+      inode = λ j. ap (λ f. put f i (Some y) j) inodes;
+      uses = λ k. ap (λ f. f k) second.2 ∙ uses_set u ks s k;
+      larges = λ g. larges_set v gs mid g ∙ ap (λ f. if is_among g gs then v else f g) first.2;
+      bit = second.0.bit ∙ first.0.bit;
+      place = second.0.place ∙ first.0.place;
+      byte = second.0.byte ∙ first.0.byte;
+      large_byte = second.0.large_byte ∙ first.0.large_byte;
     })

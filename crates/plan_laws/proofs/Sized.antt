@@ -5,30 +5,28 @@ use Rattle.std.proofs.lemmas.Bool.Decides.{nat_tests}
 use Rattle.tree_definitions.specs.declared.cells.Cell.{Cell}
 use Rattle.tree_definitions.specs.declared.node.Node.TheVariants.{File}
 use Rattle.tree_definitions.specs.Tree.{small_blocks_of}
-use Rattle.frang_base.specs.Functions.{put}
-use Rattle.frang_base.proofs.Basics.{eq_of, at_put}
+use Rattle.frang_base.proofs.Basics.{eq_of}
 use Rattle.disk_definitions.specs.Store.{Store, StoredNode}
 use Rattle.disk_definitions.specs.Store.Use.{Bytes}
 use Rattle.disk_definitions.specs.Naming.{Naming, Nodes, Pictures, first_blocks, has_large, blocks_of, inode_of, use_for}
 use Rattle.store_changes.specs.Namings.{is_of}
 use Rattle.store_changes.specs.Resizing.{index_of, HasBlocks}
-use Rattle.store_changes.proofs.Kept.{inode_is}
 use Rattle.store_changes.proofs.Indices.{index_hit, own_index}
 use Rattle.plan_definitions.specs.FilePlans.{small_after, large_after, resized}
 use Rattle.plan_laws.proofs.Among.{same_if}
 
 -- ---- the inode
 
--- an inode of a file by its size, blocks and large block
-abbrev shaped : ℕ → ℕ → ℕ → (ℕ → ℕ) → ℕ → StoredNode
-shaped stamp links size small large = record { kind = 1; links = links; size = size; birth = stamp; blocks = small_blocks_of size; small = small; large = large; target = [] }
+-- an inode of a file by its time, size, blocks and large block
+abbrev shaped : ℕ → ℕ → ℕ → ℕ → (ℕ → ℕ) → ℕ → StoredNode
+shaped stamp links when size small large = record { kind = 1; links = links; size = size; birth = stamp; blocks = small_blocks_of size; small = small; large = large; when = when; target = [] }
 
-module _ (stamp links large before : ℕ) (block own : ℕ → ℕ) (old new : List Cell) where
+module _ (stamp links since when large before : ℕ) (block own : ℕ → ℕ) (old new : List Cell) where
   abbrev x : StoredNode
-  x = inode_of stamp own before (File old links)
+  x = inode_of stamp own before (File old links since)
 
   abbrev y : StoredNode
-  y = inode_of stamp block large (File new links)
+  y = inode_of stamp block large (File new links when)
 
   abbrev count : ℕ
   count = small_blocks_of (length new)
@@ -61,42 +59,12 @@ module _ (stamp links large before : ℕ) (block own : ℕ → ℕ) (old new : L
         go true e = sized.large_is (grind (arith, nat_tests))
         go false e = rw e refl
 
-    pub resized_is : resized x (length new) picks more ≡ y
-    resized_is = let smalls : small_after x picks count ≡ first_blocks count block = fun_ext small_is in (λ i. shaped stamp links (length new) (smalls i) (large_as i))
-
-  -- of the same size
-  pub same_size : ((j : ℕ) → j < count → j < had → block j ≡ own j) → (65536 < length new → 65536 < length old → large ≡ before) → length new ≡ length old → y ≡ x
-  same_size kept same e =
-      let counts : had ≡ count = ap small_blocks_of (sym e) in
-      let smalls : first_blocks count block ≡ first_blocks count own = fun_ext small in
-      let larges : (if nat_lt 65536 (length new) then large + 1 else 0) ≡ (if nat_lt 65536 (length new) then before + 1 else 0) = big (nat_lt 65536 (length new)) refl in
-      (λ i. shaped stamp links (length new) (smalls i) (larges i)) ∙ (λ i. shaped stamp links (e i) (first_blocks (small_blocks_of (e i)) own) (if nat_lt 65536 (e i) then before + 1 else 0))
-    where
-      small : (j : ℕ) → first_blocks count block j ≡ first_blocks count own j
-      small j = go (nat_lt j count) refl
-        where
-          go : (c : Bool) → nat_lt j count ≡ c → (if c then block j else 0) ≡ (if c then own j else 0)
-          go true q = let l : j < count = grind (arith, nat_tests) in kept j l (subst (λ k. j < small_blocks_of k) e l)
-          go false q = refl
-
-      big : (c : Bool) → nat_lt 65536 (length new) ≡ c → (if c then large + 1 else 0) ≡ (if c then before + 1 else 0)
-      big true q = let l : 65536 < length new = grind (arith, nat_tests) in ap (λ k. k + 1) (same l (subst (λ k. 65536 < k) e l))
-      big false q = refl
+    pub resized_is : resized x when (length new) picks more ≡ y
+    resized_is = let smalls : small_after x picks count ≡ first_blocks count block = fun_ext small_is in (λ i. shaped stamp links when (length new) (smalls i) (large_as i))
 
 -- ---- what stands where
 
-module _ (s : Store) (at : Nodes) (n : Naming) (g : Pictures s at n) (b links large : ℕ) (old new : List Cell) (block : ℕ → ℕ) (is : at b ≡ Some (File old links)) (has : HasBlocks s n b old new block large) where
-  -- the inode is written only where its size changes
-  pub inode_set : (j : ℕ) → (if length new == length old then s.inode j else put s.inode (n.inode b) (Some (inode_of (n.stamp b) block large (File new links))) j) ≡ put s.inode (n.inode b) (Some (inode_of (n.stamp b) block large (File new links))) j
-  inode_set j = go (length new == length old) refl
-    where
-      go : (c : Bool) → length new == length old ≡ c → (if c then s.inode j else put s.inode (n.inode b) (Some (inode_of (n.stamp b) block large (File new links))) j) ≡ put s.inode (n.inode b) (Some (inode_of (n.stamp b) block large (File new links))) j
-      go false e = refl
-      go true e = at_put (λ o. s.inode j ≡ o) s.inode (n.inode b) (Some (inode_of (n.stamp b) block large (File new links))) j
-          (λ i. ap s.inode i ∙ inode_is s at n g b (File old links) is
-          ∙ ap Some (sym (same_size (n.stamp b) links large (n.large b) block (n.block b) old new (λ k l m. has.kept k m l) (λ l m. has.large_kept m l) (eq_of (length new) (length old) e))))
-          (λ i. refl)
-
+module _ (s : Store) (at : Nodes) (n : Naming) (g : Pictures s at n) (b links since large : ℕ) (old new : List Cell) (block : ℕ → ℕ) (is : at b ≡ Some (File old links since)) (has : HasBlocks s n b old new block large) where
   -- a block that the file had and has
   pub mine : (k i : ℕ) → i < small_blocks_of (length old) → n.block b i ≡ k → n.owner k ≡ Some (b, i)
   mine k i l e = ap n.owner (sym e) ∙ g.owned b i (rw is l)
@@ -120,7 +88,7 @@ module _ (s : Store) (at : Nodes) (n : Naming) (g : Pictures s at n) (b links la
   mine_below k j o = let r = g.owners k b j o in (r.0, subst (λ z. j < blocks_of z) is r.1)
 
   pub index_at : (k j : ℕ) → j < small_blocks_of (length new) → block j ≡ k → index_of new block k ≡ Some j
-  index_at k j l e = subst (λ z. index_of new block z ≡ Some j) e (own_index s at n g b links large old new block is has j l)
+  index_at k j l e = subst (λ z. index_of new block z ≡ Some j) e (own_index s at n g b links since large old new block is has j l)
 
   pub index_none : (k : ℕ) → ((j : ℕ) → j < small_blocks_of (length new) → block j ≢ k) → index_of new block k ≡ None
   index_none k none = go (index_of new block k) refl

@@ -21,8 +21,8 @@ pub record AreWithin (segments : ℕ) (new : List Cell) (block : ℕ → ℕ) (l
   pub smalls : (j : ℕ) → j < small_blocks_of (length new) → block j < 1024 * segments
   pub larges : 65536 < length new → large < segments
 
-module _ (s t : Store) (tree : FileTree) (n : Naming) (of : IsOfTree s tree n) (b links large : ℕ) (old new : List Cell) (block : ℕ → ℕ) (is : node_at tree b ≡ Some (File old links))
-    (has : HasBlocks s n b old new block large) (after : IsResized s t n b new links block large) (are : AreWithin tree.segments new block large) where
+module _ (s t : Store) (tree : FileTree) (n : Naming) (of : IsOfTree s tree n) (b links before when large : ℕ) (old new : List Cell) (block : ℕ → ℕ) (is : node_at tree b ≡ Some (File old links before))
+    (has : HasBlocks s n b old new block large) (after : IsResized s t n b new links when block large) (are : AreWithin tree.segments new block large) where
   abbrev m : Naming
   m = named_resized n b new block large
 
@@ -54,8 +54,8 @@ module _ (s t : Store) (tree : FileTree) (n : Naming) (of : IsOfTree s tree n) (
     larges = λ g h. larges_within g (is_large_of new large g) refl (n.large_owner g) refl h;
   }
 
-  pub resized_tree : FilesFit (node_at tree) → IsWellFormed (with_node tree b (File new links)) → IsOfTree t (with_node tree b (File new links)) m
+  pub resized_tree : FilesFit (node_at tree) → IsWellFormed (with_node tree b (File new links when)) → IsOfTree t (with_node tree b (File new links when)) m
   resized_tree fit well =
-      let leads = files_are_resized s t (node_at tree) n b links old new block large of.pictures fit is has after in
-      of_stage t tree.segments (put_node (node_at tree) b (Some (File new links))) m (with_node tree b (File new links))
-      (moved_on s t tree.segments (node_at tree) n m b (File new links) stage leads within (ap is_some is)) (node_with tree b (File new links)) well refl of.few
+      let leads = files_are_resized s t (node_at tree) n b links before when old new block large of.pictures fit is has after in
+      of_stage t tree.segments (put_node (node_at tree) b (Some (File new links when))) m (with_node tree b (File new links when))
+      (moved_on s t tree.segments (node_at tree) n m b (File new links when) stage leads within (ap is_some is)) (node_with tree b (File new links when)) well refl of.few

@@ -98,9 +98,9 @@ module _ (s : Store) (at : Nodes) (n : Naming) (g : Pictures s at n) where
   in_inode_leads dirs d name (Some (Dir entries blocks)) e h =
       subst (λ z. LeadsTo s at n dirs (run (in_inode dirs (n.inode d) name z) s) (place_in (Some (Dir entries blocks)) d name) (walked_by (place_in (Some (Dir entries blocks)) d name) d (λ b. [])))
       (sym (inode_is s at n g d (Dir entries blocks) e)) (look_up_leads d blocks entries e name dirs)
-  in_inode_leads dirs d name (Some (File cells links)) e h =
+  in_inode_leads dirs d name (Some (File cells links when)) e h =
       subst (λ z. LeadsTo s at n dirs (run (in_inode dirs (n.inode d) name z) s) (Nowhere reply.NotDir) [])
-      (sym (inode_is s at n g d (File cells links) e)) (record { spot = refl; dirs = sym (append-nil dirs) })
+      (sym (inode_is s at n g d (File cells links when) e)) (record { spot = refl; dirs = sym (append-nil dirs) })
   in_inode_leads dirs d name (Some (Link target links)) e h =
       subst (λ z. LeadsTo s at n dirs (run (in_inode dirs (n.inode d) name z) s) (Nowhere reply.NotDir) [])
       (sym (inode_is s at n g d (Link target links) e)) (record { spot = refl; dirs = sym (append-nil dirs) })

@@ -44,7 +44,7 @@ pub record IsStage (s : Store) (segments : ℕ) (at : Nodes) (n : Naming) : Type
 used : (x : Option Node) (j : ℕ) → j < blocks_of x → use_by x ≢ Fresh
 used None j l e = omega arith
 used (Some (Dir entries blocks)) j l e = cc
-used (Some (File cells links)) j l e = cc
+used (Some (File cells links when)) j l e = cc
 used (Some (Link target links)) j l e = omega arith
 
 pub nobodys : (s : Store) (at : Nodes) (n : Naming) → Pictures s at n → (k : ℕ) → s.use_of k ≡ Fresh → (n.owner k ≡ None) × (n.was k ≡ false)

@@ -9,8 +9,8 @@ use Rattle.disk_definitions.specs.Store.{Store, byte_at}
 use Rattle.disk_definitions.specs.Naming.{first_blocks, inode_of}
 use Rattle.plan_laws.proofs.Bytes.{stored_byte}
 
-module _ (s : Store) (stamp links large : ℕ) (block : ℕ → ℕ) (cells : List Cell) where
-  small_case : (j : ℕ) → j < length cells → j < 65536 → stored_byte s (inode_of stamp block large (File cells links)) j ≡ s.byte (block (j / 4096)) (j % 4096)
+module _ (s : Store) (stamp links when large : ℕ) (block : ℕ → ℕ) (cells : List Cell) where
+  small_case : (j : ℕ) → j < length cells → j < 65536 → stored_byte s (inode_of stamp block large (File cells links when)) j ≡ s.byte (block (j / 4096)) (j % 4096)
   small_case j l m =
       let low : j / 512 < 128 = omega arith in
       let index : j / 512 / 8 ≡ j / 4096 = omega arith in
@@ -20,7 +20,7 @@ module _ (s : Store) (stamp links large : ℕ) (block : ℕ → ℕ) (cells : Li
       let part : j % 512 < 512 = omega arith in
       rw (of_lt (j / 512) 128 low, of_lt (j % 512) 512 part) (ap₂ (λ k r. s.byte k r) (ap (first_blocks (small_blocks_of (length cells)) block) index ∙ own) rest)
 
-  large_case : (j : ℕ) → j < length cells → 65536 ≤ j → stored_byte s (inode_of stamp block large (File cells links)) j ≡ s.large_byte large (j - 65536)
+  large_case : (j : ℕ) → j < length cells → 65536 ≤ j → stored_byte s (inode_of stamp block large (File cells links when)) j ≡ s.large_byte large (j - 65536)
   large_case j l m =
       let high : 128 ≤ j / 512 = omega arith in
       let rest : 512 * (j / 512 - 128) + j % 512 ≡ j - 65536 = omega arith in
@@ -29,9 +29,9 @@ module _ (s : Store) (stamp links large : ℕ) (block : ℕ → ℕ) (cells : Li
       let part : j % 512 < 512 = omega arith in
       rw (of_ge (j / 512) 128 high, of_lt 65536 (length cells) more, of_lt (j % 512) 512 part) (ap₂ (λ k r. s.large_byte k r) less rest)
 
-  pub stored_is : (j : ℕ) → j < length cells → stored_byte s (inode_of stamp block large (File cells links)) j ≡ byte_at s block large j
+  pub stored_is : (j : ℕ) → j < length cells → stored_byte s (inode_of stamp block large (File cells links when)) j ≡ byte_at s block large j
   stored_is j l = go (nat_lt j 65536) refl
     where
-      go : (b : Bool) → nat_lt j 65536 ≡ b → stored_byte s (inode_of stamp block large (File cells links)) j ≡ byte_at s block large j
+      go : (b : Bool) → nat_lt j 65536 ≡ b → stored_byte s (inode_of stamp block large (File cells links when)) j ≡ byte_at s block large j
       go true e = small_case j l (grind (arith, nat_tests)) ∙ sym (rw e refl)
       go false e = large_case j l (grind (arith, nat_tests)) ∙ sym (rw e refl)

@@ -26,7 +26,7 @@ module _ (s : Store) (at : Nodes) (n : Naming) (g : Pictures s at n) where
   pub kind_test : (b : ℕ) (o : Option Node) → at b ≡ o → is_some o ≡ true → nat_eq (n.kind b) 2 ≡ is_dir o
   kind_test b None e some = absurd (cc)
   kind_test b (Some (Dir entries blocks)) e some = ap (λ k. nat_eq k 2) (g.kinds b (Dir entries blocks) e)
-  kind_test b (Some (File cells links)) e some = ap (λ k. nat_eq k 2) (g.kinds b (File cells links) e)
+  kind_test b (Some (File cells links when)) e some = ap (λ k. nat_eq k 2) (g.kinds b (File cells links when) e)
   kind_test b (Some (Link target links)) e some = ap (λ k. nat_eq k 2) (g.kinds b (Link target links) e)
 
   -- there are nodes of these births
@@ -57,7 +57,7 @@ module _ (s : Store) (tree : FileTree) (n : Naming) (g : Pictures s (node_at tre
   in_node : (d : ℕ) (o : Option Node) (name : List ℕ) (next : ℕ → List ℕ) → node_at tree d ≡ o → ((b : ℕ) → Are (next b)) → Are (walked_by (place_in o d name) d next)
   in_node d None name next e f = tt
   in_node d (Some (Dir entries blocks)) name next e f = by_birth d blocks entries name (entry_at entries name) next (ap is_some e) f
-  in_node d (Some (File cells links)) name next e f = tt
+  in_node d (Some (File cells links when)) name next e f = tt
   in_node d (Some (Link target links)) name next e f = tt
 
   pub walked_are : (path : List (List ℕ)) (d : ℕ) → Are (walked_from tree d path)

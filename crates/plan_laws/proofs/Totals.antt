@@ -1,10 +1,9 @@
 -- As many inodes and small blocks of a disk are in use as its tree has.
-use Rattle.std.proofs.Common.{ℕ, ◌≡◌, ◌<◌, ◌≤◌, ◌+◌, ◌*◌, Bool, true, false, not, nat_lt, if◌then◌else◌, Option, Some, None, length, refl, sym, ◌∙◌, ap, subst, arith, is_some}
+use Rattle.std.proofs.Common.{ℕ, ◌≡◌, ◌<◌, ◌≤◌, ◌*◌, Bool, true, false, not, nat_lt, if◌then◌else◌, Option, Some, None, length, refl, sym, ◌∙◌, ap, subst, arith, is_some}
 use Rattle.std.proofs.lemmas.Bool.Decides.{nat_tests}
 use Rattle.std.specs.Ordering.{nat_cmp}
 use Rattle.tree_definitions.specs.declared.node.Node.{Node}
-use Rattle.tree_definitions.specs.declared.node.Node.TheVariants.{Dir, File, Link}
-use Rattle.tree_definitions.specs.Tree.{FileTree, node_at, count_of, small_blocks, small_blocks_of}
+use Rattle.tree_definitions.specs.Tree.{FileTree, node_at, count_of, small_blocks}
 use Rattle.tree_laws.proofs.Pairs.{birth_exact}
 use Rattle.disk_definitions.specs.Store.{Store, is_unused}
 use Rattle.disk_definitions.specs.Store.Use.{Fresh, Empty}

@@ -38,7 +38,7 @@ use Rattle.plan_laws.proofs.Counting.{false_if}
 use Rattle.plan_laws.proofs.Among.{is_among, among_at, at_among}
 use Rattle.plan_laws.proofs.Setting.{IsSet, all_set}
 use Rattle.plan_laws.proofs.Sizing.{AreWithin, resized_tree}
-use Rattle.plan_laws.proofs.Sized.{resized_is, inode_set, mine, mine_one, not_mine, mine_used, mine_below, index_at, index_none, large_owned, large_used}
+use Rattle.plan_laws.proofs.Sized.{resized_is, mine, mine_one, not_mine, mine_used, mine_below, index_at, index_none, large_owned, large_used}
 
 -- the large block that is given back
 cut_large : (had : Bool) (k own len : ℕ) (bit : Bool) → (nat_lt 65536 len ≡ true → had ≡ true) → ((had && k == own) ≡ true → bit ≡ true) →
@@ -63,13 +63,13 @@ cut_large true k own len bit some its = go (nat_lt 65536 len) refl (nat_eq k own
     go false e true q = let low : nat_le len 65536 ≡ true = grind (arith, nat_tests) in rw (positive, low, less, q) refl
     go false e false q = let low : nat_le len 65536 ≡ true = grind (arith, nat_tests) in rw (positive, low, less, q) refl
 
-module _ (h : Hand) (s : Store) (tree : FileTree) (n : Naming) (of : IsOfTree s tree n) (fit : FilesFit (node_at tree)) (touched : List ℕ) (b links : ℕ) (old new : List Cell) (is : node_at tree b ≡ Some (File old links))
+module _ (h : Hand) (s : Store) (tree : FileTree) (n : Naming) (of : IsOfTree s tree n) (fit : FilesFit (node_at tree)) (touched : List ℕ) (b links since when : ℕ) (old new : List Cell) (is : node_at tree b ≡ Some (File old links since))
     (shorter : length new ≤ length old) (part : (j : ℕ) (c : Cell) → slice_get new j ≡ Some c → slice_get old j ≡ Some c) where
   abbrev x : StoredNode
-  x = inode_by n b (File old links)
+  x = inode_by n b (File old links since)
 
   abbrev y : StoredNode
-  y = inode_of (n.stamp b) (n.block b) (n.large b) (File new links)
+  y = inode_of (n.stamp b) (n.block b) (n.large b) (File new links when)
 
   abbrev from : ℕ
   from = small_blocks_of (length new)
@@ -114,33 +114,33 @@ module _ (h : Hand) (s : Store) (tree : FileTree) (n : Naming) (of : IsOfTree s 
   fewer = omega (arith, shorter)
 
   index_has_none : (k : ℕ) → ((j : ℕ) → j < from → n.block b j ≢ k) → index_of new (n.block b) k ≡ None
-  index_has_none = index_none s (node_at tree) n of.pictures b links (n.large b) old new (n.block b) is has
+  index_has_none = index_none s (node_at tree) n of.pictures b links since (n.large b) old new (n.block b) is has
 
   uses_cut : (k : ℕ) (o : Option (ℕ × ℕ)) → n.owner k ≡ o → Uses (s.use_of k) (is_among k gone) (index_of new (n.block b) k) (n.owner k)
   uses_cut k None e =
-      let none : (j : ℕ) → j < to → n.block b j ≢ k = λ j l i. (let y : ℕ × ℕ = (b, j) in let z : Some y ≡ None = sym (mine s (node_at tree) n of.pictures b links (n.large b) old new (n.block b) is has k j l i) ∙ e in cc) in
+      let none : (j : ℕ) → j < to → n.block b j ≢ k = λ j l i. (let y : ℕ × ℕ = (b, j) in let z : Some y ≡ None = sym (mine s (node_at tree) n of.pictures b links since (n.large b) old new (n.block b) is has k j l i) ∙ e in cc) in
       uses_by k false None None (gone_none k (λ j lo hi. none j hi)) (index_has_none k (λ j l. none j (omega (arith, fewer)))) e refl
   uses_cut k (Some (c, j)) e = by_owner (nat_eq c b) refl
     where
       other : nat_eq c b ≡ false → (i : ℕ) → i < to → n.block b i ≢ k
-      other q i l = not_mine s (node_at tree) n of.pictures b links (n.large b) old new (n.block b) is has k i c j (ne_of c b q) l e
+      other q i l = not_mine s (node_at tree) n of.pictures b links since (n.large b) old new (n.block b) is has k i c j (ne_of c b q) l e
 
       own : nat_eq c b ≡ true → n.owner k ≡ Some (b, j)
       own q = e ∙ ap (λ z. Some (z, j)) (eq_of c b q)
 
       one : nat_eq c b ≡ true → (i : ℕ) → i < to → n.block b i ≡ k → i ≡ j
-      one q i l w = mine_one s (node_at tree) n of.pictures b links (n.large b) old new (n.block b) is has k i j l w (own q)
+      one q i l w = mine_one s (node_at tree) n of.pictures b links since (n.large b) old new (n.block b) is has k i j l w (own q)
 
       below_case : nat_eq c b ≡ true → j < from → Uses (s.use_of k) (is_among k gone) (index_of new (n.block b) k) (n.owner k)
       below_case q l =
-          let r = mine_below s (node_at tree) n of.pictures b links (n.large b) old new (n.block b) is has k j (own q) in
+          let r = mine_below s (node_at tree) n of.pictures b links since (n.large b) old new (n.block b) is has k j (own q) in
           uses_by k false (Some j) (Some (b, j)) (gone_none k (λ i lo hi w. (let z : i ≡ j = one q i hi w in omega arith)))
-          (index_at s (node_at tree) n of.pictures b links (n.large b) old new (n.block b) is has k j l r.0) (own q)
-          (mine_used s (node_at tree) n of.pictures b links (n.large b) old new (n.block b) is has k j (own q))
+          (index_at s (node_at tree) n of.pictures b links since (n.large b) old new (n.block b) is has k j l r.0) (own q)
+          (mine_used s (node_at tree) n of.pictures b links since (n.large b) old new (n.block b) is has k j (own q))
 
       above_case : nat_eq c b ≡ true → from ≤ j → Uses (s.use_of k) (is_among k gone) (index_of new (n.block b) k) (n.owner k)
       above_case q l =
-          let r = mine_below s (node_at tree) n of.pictures b links (n.large b) old new (n.block b) is has k j (own q) in
+          let r = mine_below s (node_at tree) n of.pictures b links since (n.large b) old new (n.block b) is has k j (own q) in
           uses_by k true None (Some (b, j)) (gone_has k j l r.1 r.0) (index_has_none k (λ i m w. (let z : i ≡ j = one q i (omega (arith, fewer)) w in omega arith))) (own q)
           (ap (λ v. if v then Fresh else s.use_of k) (sym (eq-eqb b b refl)))
 
@@ -151,29 +151,29 @@ module _ (h : Hand) (s : Store) (tree : FileTree) (n : Naming) (of : IsOfTree s 
 
   -- ---- the edits
   abbrev edits : List Edit
-  edits = (cut_by (n.inode b) touched x (length new)).edits
+  edits = (cut_by when (n.inode b) touched x (length new)).edits
 
   abbrev t : Store
   t = edited_all s edits
 
-  y_is : resized x (length new) [] None ≡ y
-  y_is = resized_is (n.stamp b) links (n.large b) (n.large b) (n.block b) (n.block b) old new [] None (record {
+  y_is : resized x when (length new) [] None ≡ y
+  y_is = resized_is (n.stamp b) links since when (n.large b) (n.large b) (n.block b) (n.block b) old new [] None (record {
     kept = λ j l m. refl;
     picked = λ j l m. absurd (omega (arith, fewer));
     large_is = λ l. let longer : 65536 < length old = omega (arith, shorter) in rw (of_lt 65536 (length new) l, of_lt 65536 (length old) longer) refl;
   })
 
-  set : IsSet s t Fresh gone false (large_cut x (length new)) (n.inode b) x y
-  set = subst (λ z. IsSet s t Fresh gone false (large_cut x (length new)) (n.inode b) x z) y_is (all_set s Fresh gone false (large_cut x (length new)) (n.inode b) x (resized x (length new) [] None))
+  set : IsSet s t Fresh gone false (large_cut x (length new)) (n.inode b) y
+  set = subst (λ z. IsSet s t Fresh gone false (large_cut x (length new)) (n.inode b) z) y_is (all_set s Fresh gone false (large_cut x (length new)) (n.inode b) (resized x when (length new) [] None))
 
-  after : IsResized s t n b new links (n.block b) (n.large b)
+  after : IsResized s t n b new links when (n.block b) (n.large b)
   after = record {
-    inode = λ j. set.inode j ∙ inode_set s (node_at tree) n of.pictures b links (n.large b) old new (n.block b) is has j;
+    inode = λ j. set.inode j;
     bit = λ j. ap (λ f. f j) set.bit;
     uses = λ k. set.uses k ∙ uses_cut k (n.owner k) refl;
     large_bits = λ k. set.larges k ∙ cut_large (nat_lt 65536 (length old)) k (n.large b) (length new) (s.large_bit k) (λ e. (let l : 65536 < length new = grind (arith, nat_tests) in of_lt 65536 (length old) (omega (arith, shorter))))
-        (large_used s (node_at tree) n of.pictures b links (n.large b) old new (n.block b) is has k)
-        ∙ ap (λ v. if nat_lt 65536 (length new) && k == n.large b then true else (if v then false else s.large_bit k)) (sym (large_owned s (node_at tree) n of.pictures b links (n.large b) old new (n.block b) is has k));
+        (large_used s (node_at tree) n of.pictures b links since (n.large b) old new (n.block b) is has k)
+        ∙ ap (λ v. if nat_lt 65536 (length new) && k == n.large b then true else (if v then false else s.large_bit k)) (sym (large_owned s (node_at tree) n of.pictures b links since (n.large b) old new (n.block b) is has k));
     places = λ k p l i. ap (λ f. f k p) set.place;
     bytes = λ k j l u i. ap (λ f. f k j) set.byte;
     large_bytes = λ k j l u i. ap (λ f. f k j) set.large_byte;
@@ -183,7 +183,7 @@ module _ (h : Hand) (s : Store) (tree : FileTree) (n : Naming) (of : IsOfTree s 
   own_within : AreWithin tree.segments new (n.block b) (n.large b)
   own_within = record {
     smalls = λ j l. in_range j l;
-    larges = λ l. of.larges (n.large b) (large_used s (node_at tree) n of.pictures b links (n.large b) old new (n.block b) is has (n.large b) (let longer : 65536 < length old = omega (arith, shorter) in rw (of_lt 65536 (length old) longer, eq-eqb (n.large b) (n.large b) refl) refl));
+    larges = λ l. of.larges (n.large b) (large_used s (node_at tree) n of.pictures b links since (n.large b) old new (n.block b) is has (n.large b) (let longer : 65536 < length old = omega (arith, shorter) in rw (of_lt 65536 (length old) longer, eq-eqb (n.large b) (n.large b) refl) refl));
   }
     where
       in_range : (j : ℕ) → j < from → n.block b j < 1024 * tree.segments
@@ -191,33 +191,33 @@ module _ (h : Hand) (s : Store) (tree : FileTree) (n : Naming) (of : IsOfTree s 
         where
           outside : s.use_of (n.block b j) ≡ Fresh → ⊥
           outside e = let m : j < to = omega (arith, fewer) in
-              let u : s.use_of (n.block b j) ≡ Bytes = mine_used s (node_at tree) n of.pictures b links (n.large b) old new (n.block b) is has (n.block b j) j (mine s (node_at tree) n of.pictures b links (n.large b) old new (n.block b) is has (n.block b j) j m refl) in
+              let u : s.use_of (n.block b j) ≡ Bytes = mine_used s (node_at tree) n of.pictures b links since (n.large b) old new (n.block b) is has (n.block b j) j (mine s (node_at tree) n of.pictures b links since (n.large b) old new (n.block b) is has (n.block b j) j m refl) in
               let z : Fresh ≡ Bytes = sym e ∙ u in cc
 
-  pub cut_meets : IsWellFormed (with_node tree b (File new links)) → FinishMeets s (says (with_node tree b (File new links)) reply.Ok) (cut_by (n.inode b) touched x (length new))
+  pub cut_meets : IsWellFormed (with_node tree b (File new links when)) → FinishMeets s (says (with_node tree b (File new links when)) reply.Ok) (cut_by when (n.inode b) touched x (length new))
   cut_meets well = record {
     answer = refl;
     naming = named_resized n b new (n.block b) (n.large b);
-    tree = resized_tree s t tree n of b links (n.large b) old new (n.block b) is has after own_within fit well;
+    tree = resized_tree s t tree n of b links since when (n.large b) old new (n.block b) is has after own_within fit well;
   }
 
-module _ (h : Hand) (s : Store) (tree : FileTree) (n : Naming) (of : IsOfTree s tree n) (fit : FilesFit (node_at tree)) (len : ℕ) (touched : List ℕ) (b links : ℕ) (cells : List Cell) (is : node_at tree b ≡ Some (File cells links)) where
+module _ (h : Hand) (s : Store) (tree : FileTree) (n : Naming) (of : IsOfTree s tree n) (fit : FilesFit (node_at tree)) (when len : ℕ) (touched : List ℕ) (b links since : ℕ) (cells : List Cell) (is : node_at tree b ≡ Some (File cells links since)) where
   abbrev file : StoredNode
-  file = inode_by n b (File cells links)
+  file = inode_by n b (File cells links since)
 
-  cutting_meets : Meets h s (truncated tree b cells links len) (run (cutting len (n.inode b) touched file) s)
+  cutting_meets : Meets h s (truncated tree b cells links when len) (run (cutting when len (n.inode b) touched file) s)
   cutting_meets = go (nat_lt (length cells) len) refl
     where
-      go : (c : Bool) → nat_lt (length cells) len ≡ c → Meets h s (if c then says tree reply.BadOffset else says (with_node tree b (File (take len cells) links)) reply.Ok)
-          (run (if c then refused reply.BadOffset touched else finish_over (cut_segments file len) (cut_by (n.inode b) touched file len)) s)
+      go : (c : Bool) → nat_lt (length cells) len ≡ c → Meets h s (if c then says tree reply.BadOffset else says (with_node tree b (File (take len cells) links when)) reply.Ok)
+          (run (if c then refused reply.BadOffset touched else finish_over (cut_segments file len) (cut_by when (n.inode b) touched file len)) s)
       go true e well = refuse_meets h s tree n of reply.BadOffset touched
       go false e well =
           let l : len ≤ length cells = grind (arith, nat_tests) in
           let size : length (take len cells) ≡ len = length-take-le len cells l in
-          rw (run-segments (cut_segments file len) (Got (Finishes (cut_by (n.inode b) touched file len))) s)
-          (subst (λ k. FinishMeets s (says (with_node tree b (File (take len cells) links)) reply.Ok) (cut_by (n.inode b) touched file k)) size
-          (cut_meets h s tree n of fit touched b links cells (take len cells) is (rw size l) (λ j c. get_take len cells j c) well))
+          rw (run-segments (cut_segments file len) (Got (Finishes (cut_by when (n.inode b) touched file len))) s)
+          (subst (λ k. FinishMeets s (says (with_node tree b (File (take len cells) links when)) reply.Ok) (cut_by when (n.inode b) touched file k)) size
+          (cut_meets h s tree n of fit touched b links since when cells (take len cells) is (rw size l) (λ j c. get_take len cells j c) well))
 
 pub truncate_planned : TruncateIsPlanned
-truncate_planned path len h s tree n birth m of hand new files =
-    file_meets h s tree n of (cutting len) (λ b cells links. truncated tree b cells links len) (λ touched b links cells is. cutting_meets h s tree n of files.fit len touched b links cells is) path (apply_keeps tree (op.Truncate path len) birth m of.well_formed new)
+truncate_planned path len h s tree n birth when m of hand new files =
+    file_meets h s tree n of (cutting when len) (λ b cells links old. truncated tree b cells links when len) (λ touched b links since cells is. cutting_meets h s tree n of files.fit when len touched b links since cells is) path (apply_keeps tree (op.Truncate path len) birth when m of.well_formed new)

@@ -36,7 +36,7 @@ looked_up d blocks entries name (Some b) = tt
 pub place_not_root : (o : Option Node) (d : ℕ) (name : List ℕ) → IsNotRoot (place_in o d name)
 place_not_root None d name = tt
 place_not_root (Some (Dir entries blocks)) d name = looked_up d blocks entries name (entry_at entries name)
-place_not_root (Some (File cells links)) d name = tt
+place_not_root (Some (File cells links when)) d name = tt
 place_not_root (Some (Link target links)) d name = tt
 
 module _ (s : Store) (tree : FileTree) (n : Naming) (of : IsOfTree s tree n) where
@@ -48,9 +48,9 @@ module _ (s : Store) (tree : FileTree) (n : Naming) (of : IsOfTree s tree n) whe
       (place_from tree b (name ∷ names) ≡ Nowhere reply.NotDir) × (walked_from tree b (name ∷ names) ≡ [])
   not_dir b name names None e h f = absurd (cc)
   not_dir b name names (Some (Dir entries blocks)) e h f = absurd (let k : n.kind b ≡ 2 = of.pictures.kinds b (Dir entries blocks) e in let z : nat_eq (n.kind b) 2 ≡ true = ap (λ k. nat_eq k 2) k in cc)
-  not_dir b name [] (Some (File cells links)) e h f = rw e (refl, refl)
+  not_dir b name [] (Some (File cells links when)) e h f = rw e (refl, refl)
   not_dir b name [] (Some (Link target links)) e h f = rw e (refl, refl)
-  not_dir b name (v ∷ names) (Some (File cells links)) e h f = rw e (refl, refl)
+  not_dir b name (v ∷ names) (Some (File cells links when)) e h f = rw e (refl, refl)
   not_dir b name (v ∷ names) (Some (Link target links)) e h f = rw e (refl, refl)
 
   -- on from a name, whose directories were `dirs` and then `more`

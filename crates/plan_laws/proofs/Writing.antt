@@ -55,28 +55,28 @@ get_replicate c zero i l = absurd (omega arith)
 get_replicate c (suc n) zero l = refl
 get_replicate c (suc n) (suc i) l = get_replicate c n i (omega arith)
 
-module _ (h : Hand) (s : Store) (tree : FileTree) (n : Naming) (of : IsOfTree s tree n) (hand : IsHandOf h s tree.segments) (m : ℕ) (files : HasFiles s tree m) (touched : List ℕ) (b links : ℕ) (old fresh : List Cell) (is : node_at tree b ≡ Some (File old links))
+module _ (h : Hand) (s : Store) (tree : FileTree) (n : Naming) (of : IsOfTree s tree n) (hand : IsHandOf h s tree.segments) (m : ℕ) (files : HasFiles s tree m) (touched : List ℕ) (b links since : ℕ) (old fresh : List Cell) (is : node_at tree b ≡ Some (File old links since))
     (w : Writing) (size : length fresh ≡ w.len) (cells : (i : ℕ) → i < w.len → slice_get fresh i ≡ Some (cell.Byte (w.byte (w.off + i)))) where
   abbrev x : StoredNode
-  x = inode_by n b (File old links)
+  x = inode_by n b (File old links since)
 
   abbrev more : ℕ
   more = small_blocks_of (max (length old) (end_of w)) - small_blocks_of (length old)
 
   abbrev done : Applied
-  done = says (with_node tree b (File (overwritten old w.off fresh) links)) reply.Ok
+  done = says (with_node tree b (File (overwritten old w.off fresh) links w.when)) reply.Ok
 
   abbrev with_blocks : Applied
   with_blocks = if lacks h s tree n of hand m more then says tree (reply.NoBlock m) else done
 
   module _ (inside : w.off ≤ length old) where
     abbrev Takes : Option ℕ → Type 0
-    Takes o = TakesLarge h s tree n of hand files.fit touched b links old fresh is w inside size cells o
+    Takes o = TakesLarge h s tree n of hand files.fit touched b links since old fresh is w inside size cells o
 
     in_place : (o : Option ℕ) → Takes o → (picks : List ℕ) → ArePicked h s tree n of hand picks more → Meets h s done (run (writing_in w (n.inode b) touched x picks o) s)
     in_place o takes picks picked well =
-        let e : max (length old) (end_of w) ≡ length (overwritten old w.off fresh) = sym (new_size h s tree n of hand files.fit touched b links old fresh is w inside size cells) in
-        writing_in_meets h s tree n of hand files.fit touched b links old fresh is w inside size cells picks o (subst (λ k. ArePicked h s tree n of hand picks (small_blocks_of k - small_blocks_of (length old))) e picked) takes well
+        let e : max (length old) (end_of w) ≡ length (overwritten old w.off fresh) = sym (new_size h s tree n of hand files.fit touched b links since old fresh is w inside size cells) in
+        writing_in_meets h s tree n of hand files.fit touched b links since old fresh is w inside size cells picks o (subst (λ k. ArePicked h s tree n of hand picks (small_blocks_of k - small_blocks_of (length old))) e picked) takes well
 
     none_found : picked_many h.held more ≡ None → PlanMeets h s with_blocks (run (none_left h (reply.NoBlock (directory_blocks h.held)) touched) s)
     none_found e = go h.all refl
@@ -118,7 +118,7 @@ module _ (h : Hand) (s : Store) (tree : FileTree) (n : Naming) (of : IsOfTree s 
         go false p false q e = absurd (cc)
 
     new_is : length (overwritten old w.off fresh) ≡ max (length old) (end_of w)
-    new_is = new_size h s tree n of hand files.fit touched b links old fresh is w inside size cells
+    new_is = new_size h s tree n of hand files.fit touched b links since old fresh is w inside size cells
 
     needs_none : needs ≡ false → Takes None
     needs_none e l = go (nat_lt 65536 (end_of w)) refl (nat_lt 65536 (length old)) refl e
@@ -156,7 +156,7 @@ module _ (h : Hand) (s : Store) (tree : FileTree) (n : Naming) (of : IsOfTree s 
   abbrev plan_then : Ask Plan
   plan_then = if nat_lt 65536 (end_of w) && x.large == 0 then read_held h (writing_large h w (n.inode b) touched x (picked_large h.held)) else writing_small h w (n.inode b) touched x None
 
-  pub writing_meets : Meets h s (written tree m b old links w.off w.len (λ old. overwritten old w.off fresh)) (run (writing h w (n.inode b) touched x) s)
+  pub writing_meets : Meets h s (written tree m b old links w.when w.off w.len (λ all. overwritten all w.off fresh)) (run (writing h w (n.inode b) touched x) s)
   writing_meets = go (nat_lt (length old) w.off) refl (nat_lt 1114112 (end_of w))
     where
       go : (c : Bool) → nat_lt (length old) w.off ≡ c → (d : Bool) → Meets h s (if c then says tree reply.BadOffset else (if d then says tree reply.TooBig else tree_then))
@@ -166,16 +166,16 @@ module _ (h : Hand) (s : Store) (tree : FileTree) (n : Naming) (of : IsOfTree s 
       go false e false = sized_meets (grind (arith, nat_tests))
 
 pub write_planned : WriteIsPlanned
-write_planned path off bytes h s tree n birth m of hand new files =
-    let w : Writing = record { off = off; len = length bytes; byte = λ j. slice_index bytes (j - off) } in
-    file_meets h s tree n of (writing h w) (λ b cells links. written tree m b cells links off (length bytes) (λ old. overwritten old off (map cell.Byte bytes)))
-    (λ touched b links cells is. writing_meets h s tree n of hand m files touched b links cells (map cell.Byte bytes) is w (length-map bytes cell.Byte)
+write_planned path off bytes h s tree n birth when m of hand new files =
+    let w : Writing = record { off = off; len = length bytes; when = when; byte = λ j. slice_index bytes (j - off) } in
+    file_meets h s tree n of (writing h w) (λ b cells links old. written tree m b cells links when off (length bytes) (λ all. overwritten all off (map cell.Byte bytes)))
+    (λ touched b links since cells is. writing_meets h s tree n of hand m files touched b links since cells (map cell.Byte bytes) is w (length-map bytes cell.Byte)
     (λ i l. let e : off + i - off ≡ i = omega arith in get_index cell.Byte bytes i l ∙ ap (λ k. Some (cell.Byte (slice_index bytes k))) (sym e)))
-    path (apply_keeps tree (op.Write path off bytes) birth m of.well_formed new)
+    path (apply_keeps tree (op.Write path off bytes) birth when m of.well_formed new)
 
 pub fill_planned : FillIsPlanned
-fill_planned path off len byte h s tree n birth m of hand new files =
-    let w : Writing = record { off = off; len = len; byte = λ j. byte } in
-    file_meets h s tree n of (writing h w) (λ b cells links. written tree m b cells links off len (λ old. overwritten old off (replicate len (cell.Byte byte))))
-    (λ touched b links cells is. writing_meets h s tree n of hand m files touched b links cells (replicate len (cell.Byte byte)) is w (length-replicate len (cell.Byte byte)) (λ i l. get_replicate (cell.Byte byte) len i l))
-    path (apply_keeps tree (op.Fill path off len byte) birth m of.well_formed new)
+fill_planned path off len byte h s tree n birth when m of hand new files =
+    let w : Writing = record { off = off; len = len; when = when; byte = λ j. byte } in
+    file_meets h s tree n of (writing h w) (λ b cells links old. written tree m b cells links when off len (λ all. overwritten all off (replicate len (cell.Byte byte))))
+    (λ touched b links since cells is. writing_meets h s tree n of hand m files touched b links since cells (replicate len (cell.Byte byte)) is w (length-replicate len (cell.Byte byte)) (λ i l. get_replicate (cell.Byte byte) len i l))
+    path (apply_keeps tree (op.Fill path off len byte) birth when m of.well_formed new)

@@ -38,9 +38,9 @@ pub record HasFiles (store : Store) (tree : FileTree) (ever_directories : ℕ) :
 -- over the disk of a tree of such files the plan of this operation meets what it does to the tree
 abbrev pub IsPlannedForFiles : Op → Type 0
 IsPlannedForFiles operation =
-    (hand : Hand) (store : Store) (tree : FileTree) (naming : Naming) (birth ever_directories : ℕ) → IsOfTree store tree naming →
+    (hand : Hand) (store : Store) (tree : FileTree) (naming : Naming) (birth when ever_directories : ℕ) → IsOfTree store tree naming →
     IsHandOf hand store tree.segments → IsNew tree birth → HasFiles store tree ever_directories →
-    PlanMeets hand store (apply tree operation birth ever_directories) (run (plan_of hand birth operation) store)
+    PlanMeets hand store (apply tree operation birth when ever_directories) (run (plan_of hand birth when operation) store)
 
 abbrev pub TruncateIsPlanned : Type 0
 TruncateIsPlanned = (path : List (List ℕ)) (len : ℕ) → IsPlannedForFiles (op.Truncate path len)
@@ -54,5 +54,5 @@ FillIsPlanned = (path : List (List ℕ)) (off len byte : ℕ) → IsPlannedForFi
 -- an operation makes no file longer than its blocks reach
 abbrev pub FilesStayFit : Type 0
 FilesStayFit =
-    (tree : FileTree) (operation : Op) (birth ever_directories : ℕ) → IsWellFormed tree → FilesFit (node_at tree) →
-    FilesFit (node_at (apply tree operation birth ever_directories).tree)
+    (tree : FileTree) (operation : Op) (birth when ever_directories : ℕ) → IsWellFormed tree → FilesFit (node_at tree) →
+    FilesFit (node_at (apply tree operation birth when ever_directories).tree)

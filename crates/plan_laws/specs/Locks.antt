@@ -26,7 +26,7 @@ IsSole locks lock_id = Contains locks (lock_id, Sole)
 -- an inode is written under its node's lock, the bits and states of a segment under that segment's. What stands in blocks is under the lock of the
 -- node that has them, which goes by a naming and isn't said here
 abbrev pub IsCovered : List Lock → Edit → Type 0
-IsCovered locks (SetInode inode stored_node) = IsSole locks (lock.Node inode)
+IsCovered locks (SetInode inode stored_node dated) = IsSole locks (lock.Node inode)
 IsCovered locks (SetBit inode used) = IsSole locks (lock.Segment (inode / SEGMENT_INODES))
 IsCovered locks (SetUse block state) = IsSole locks (lock.Segment (block / SEGMENT_BLOCKS))
 IsCovered locks (SetLarge segment used) = IsSole locks (lock.Segment segment)
@@ -54,7 +54,7 @@ PlanIsCovered hand (Finishes finish) = FinishIsCovered hand finish
 
 -- over any disk, of a tree or not
 abbrev pub IsCoveredPlan : Op → Type 0
-IsCoveredPlan operation = (hand : Hand) (store : Store) (birth : ℕ) → PlanIsCovered hand (run (plan_of hand birth operation) store)
+IsCoveredPlan operation = (hand : Hand) (store : Store) (birth when : ℕ) → PlanIsCovered hand (run (plan_of hand birth when operation) store)
 
 abbrev pub LocksCover : Type 0
 LocksCover = (operation : Op) → IsCoveredPlan operation
@@ -67,7 +67,7 @@ AreHeld inodes (Finishes finish) = (inode : ℕ) → Contains inodes inode → C
 
 -- so the directories in which the walk of this path looks up its names
 abbrev pub HoldsItsWalk : List (List ℕ) → Op → Type 0
-HoldsItsWalk path operation = (hand : Hand) (store : Store) (birth : ℕ) → AreHeld (run (walk path) store).dirs (run (plan_of hand birth operation) store)
+HoldsItsWalk path operation = (hand : Hand) (store : Store) (birth when : ℕ) → AreHeld (run (walk path) store).dirs (run (plan_of hand birth when operation) store)
 
 -- of looks and of file bytes
 pub record WalksAreHeld : Type 0 where

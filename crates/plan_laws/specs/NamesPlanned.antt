@@ -17,9 +17,9 @@ use Rattle.plan_definitions.specs.Meets.{IsOfTree, IsHandOf, PlanMeets}
 -- `fill` alone go by
 abbrev pub IsPlanned : Op → Type 0
 IsPlanned operation =
-    (hand : Hand) (store : Store) (tree : FileTree) (naming : Naming) (birth ever_directories : ℕ) → IsOfTree store tree naming →
+    (hand : Hand) (store : Store) (tree : FileTree) (naming : Naming) (birth when ever_directories : ℕ) → IsOfTree store tree naming →
     IsHandOf hand store tree.segments → IsNew tree birth →
-    PlanMeets hand store (apply tree operation birth ever_directories) (run (plan_of hand birth operation) store)
+    PlanMeets hand store (apply tree operation birth when ever_directories) (run (plan_of hand birth when operation) store)
 
 abbrev pub CreateIsPlanned : Type 0
 CreateIsPlanned = (path : List (List ℕ)) → IsPlanned (op.Create path)

@@ -21,44 +21,44 @@ use Rattle.plan_looks.proofs.NamesLooked.{Goes, made_path_looked, link_looked, u
 use Rattle.plan_looks.proofs.FilesLooked.{cutting_looked, writing_looked, showing_looked, listing_looked, file_looked, at_inode_looked, by_kind, node_looked}
 
 module _ (all : List Sector) (h : Hand) (s : Store) where
-  abbrev Ends : ℕ → Op → Type 0
-  Ends birth o = Goes all h s (plan_of h birth o)
+  abbrev Ends : ℕ → ℕ → Op → Type 0
+  Ends birth when o = Goes all h s (plan_of h birth when o)
 
   write_looked : (w : Writing) (path : List (List ℕ)) → Goes all h s (plan_of_file path (writing h w))
   write_looked w path = node_looked all h s (at_file (writing h w)) (file_looked all h s (writing h w) (writing_looked all h s w)) path
 
-  plan_looked : (o : Op) (birth : ℕ) → Ends birth o
-  plan_looked (op.Create path) birth = made_path_looked all h s birth (File [] 1) path
-  plan_looked (op.Mkdir path) birth = made_path_looked all h s birth (Dir [] 0) path
-  plan_looked (op.Symlink path target) birth = made_path_looked all h s birth (Link target 1) path
-  plan_looked (op.Link path to) birth = link_looked all h s path to
-  plan_looked (op.Unlink path) birth = unlink_looked all h s path
-  plan_looked (op.Rmdir path) birth = rmdir_looked all h s path
-  plan_looked (op.Rename path to) birth = rename_looked all h s path to
-  plan_looked (op.Write path off bytes) birth = write_looked (record { off = off; len = length bytes; byte = λ j. slice_index bytes (j - off) }) path
-  plan_looked (op.Fill path off len byte) birth = write_looked (record { off = off; len = len; byte = λ j. byte }) path
-  plan_looked (op.Truncate path len) birth = node_looked all h s (at_file (cutting len)) (file_looked all h s (cutting len) (cutting_looked all h s len)) path
-  plan_looked (op.Read path off len) birth = node_looked all h s (at_file (showing off len)) (file_looked all h s (showing off len) (λ i touched x c. showing_looked all h s off len i touched x)) path
-  plan_looked (op.Stat path) birth = node_looked all h s (at_inode (λ touched x. refused (described x) touched)) (at_inode_looked all h s (λ touched x. refused (described x) touched) (λ touched x w. tt)) path
-  plan_looked (op.Time path) birth = node_looked all h s (at_inode (λ touched x. refused (timed x) touched)) (at_inode_looked all h s (λ touched x. refused (timed x) touched) (λ touched x w. tt)) path
-  plan_looked (op.List path) birth = node_looked all h s (λ t. if t.kind == 2 then at_inode listing t else refused reply.NotDir t.dirs) (by_kind all h s (at_inode listing) 2 reply.NotDir (at_inode_looked all h s listing (listing_looked all h s))) path
-  plan_looked (op.Readlink path) birth =
+  plan_looked : (o : Op) (birth when : ℕ) → Ends birth when o
+  plan_looked (op.Create path) birth when = made_path_looked all h s birth (File [] 1 0) path
+  plan_looked (op.Mkdir path) birth when = made_path_looked all h s birth (Dir [] 0) path
+  plan_looked (op.Symlink path target) birth when = made_path_looked all h s birth (Link target 1) path
+  plan_looked (op.Link path to) birth when = link_looked all h s path to
+  plan_looked (op.Unlink path) birth when = unlink_looked all h s path
+  plan_looked (op.Rmdir path) birth when = rmdir_looked all h s path
+  plan_looked (op.Rename path to) birth when = rename_looked all h s path to
+  plan_looked (op.Write path off bytes) birth when = write_looked (record { off = off; len = length bytes; when = when; byte = λ j. slice_index bytes (j - off) }) path
+  plan_looked (op.Fill path off len byte) birth when = write_looked (record { off = off; len = len; when = when; byte = λ j. byte }) path
+  plan_looked (op.Truncate path len) birth when = node_looked all h s (at_file (cutting when len)) (file_looked all h s (cutting when len) (cutting_looked all h s when len)) path
+  plan_looked (op.Read path off len) birth when = node_looked all h s (at_file (showing off len)) (file_looked all h s (showing off len) (λ i touched x c. showing_looked all h s off len i touched x)) path
+  plan_looked (op.Stat path) birth when = node_looked all h s (at_inode (λ touched x. refused (described x) touched)) (at_inode_looked all h s (λ touched x. refused (described x) touched) (λ touched x w. tt)) path
+  plan_looked (op.Time path) birth when = node_looked all h s (at_inode (λ touched x. refused (timed x) touched)) (at_inode_looked all h s (λ touched x. refused (timed x) touched) (λ touched x w. tt)) path
+  plan_looked (op.List path) birth when = node_looked all h s (λ t. if t.kind == 2 then at_inode listing t else refused reply.NotDir t.dirs) (by_kind all h s (at_inode listing) 2 reply.NotDir (at_inode_looked all h s listing (listing_looked all h s))) path
+  plan_looked (op.Readlink path) birth when =
       node_looked all h s (λ t. if t.kind == 3 then at_inode (λ touched x. refused (reply.Target x.target) touched) t else refused reply.Inval t.dirs)
       (by_kind all h s (at_inode (λ touched x. refused (reply.Target x.target) touched)) 3 reply.Inval (at_inode_looked all h s (λ touched x. refused (reply.Target x.target) touched) (λ touched x w. tt))) path
-  plan_looked op.Sync birth = λ w. tt
-  plan_looked op.Mount birth = λ w. tt
-  plan_looked op.Unmount birth = λ w. tt
-  plan_looked op.Crash birth = λ w. tt
-  plan_looked (op.CrashAt k) birth = λ w. tt
-  plan_looked (op.CutAt k) birth = λ w. tt
-  plan_looked op.Stall birth = λ w. tt
+  plan_looked op.Sync birth when = λ w. tt
+  plan_looked op.Mount birth when = λ w. tt
+  plan_looked op.Unmount birth when = λ w. tt
+  plan_looked op.Crash birth when = λ w. tt
+  plan_looked (op.CrashAt k) birth when = λ w. tt
+  plan_looked (op.CutAt k) birth when = λ w. tt
+  plan_looked op.Stall birth when = λ w. tt
 
   each : (es : List Edit) (e : Edit) → AreLooked all es → Contains es e → IsLooked all e
   each [] e a c = absurd (let z : c.0 < 0 = c.1 in omega arith)
   each (d ∷ es) e a c = ⊎_elim (λ q. subst (IsLooked all) q a.0) (λ i. each es e a.1 i) (has_cases d e es c)
 
   one : (e : Edit) → IsLooked all e → is_metadata e ≡ true → Contains all (edited_at e)
-  one (SetInode i x) c m = c
+  one (SetInode i x dated) c m = c
   one (SetBit i b) c m = c
   one (SetUse k u) c m = c
   one (SetPlace k p e) c m = c
@@ -67,6 +67,6 @@ module _ (all : List Sector) (h : Hand) (s : Store) where
   one (SetLargeBytes g part bytes) c m = absurd (cc)
 
 pub edits_are_looked_at : EditsAreLookedAt
-edits_are_looked_at o h s birth f p e c m =
-    let all = looks (plan_of h birth o) s in
-    one all h s e (each all h s f.edits e (subst (PlanLooked all) p (plan_looked all h s o birth (λ x d. d))) c) m
+edits_are_looked_at o h s birth when f p e c m =
+    let all = looks (plan_of h birth when o) s in
+    one all h s e (each all h s f.edits e (subst (PlanLooked all) p (plan_looked all h s o birth when (λ x d. d))) c) m

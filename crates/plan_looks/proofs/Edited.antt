@@ -20,7 +20,7 @@ use Rattle.plan_looks.proofs.Searched.{RoomLooked}
 module _ (all : List Sector) where
   -- the sector of an edit, where it has a version, was looked at
   abbrev pub IsLooked : Edit → Type 0
-  IsLooked (SetInode i x) = Contains all (InodeAt i)
+  IsLooked (SetInode i x dated) = Contains all (InodeAt i)
   IsLooked (SetBit i b) = Contains all (SegmentAt (i / 64))
   IsLooked (SetUse k u) = Contains all (SegmentAt (k / 1024))
   IsLooked (SetPlace k p e) = Contains all (DirectoryAt k (p / 7))
@@ -72,9 +72,9 @@ module _ (all : List Sector) where
   drop_looked j y c f =
       let smalls = map (λ n. y.small n / 1024) (below y.blocks) in
       let large = if y.large == 0 then [] else (y.large - 1) ∷ [] in
-      join (uses_to y.small (freed y.kind) y.blocks) (large_gone y.large ++ (SetInode j None ∷ SetBit j false ∷ []))
+      join (uses_to y.small (freed y.kind) y.blocks) (large_gone y.large ++ (SetInode j None false ∷ SetBit j false ∷ []))
       (uses_looked y.small (freed y.kind) y.blocks (λ n l. f (y.small n / 1024) (has_more (j / 64) (y.small n / 1024) (smalls ++ large) (Contains-append_left smalls large (y.small n / 1024) (map_has (λ n. y.small n / 1024) (below y.blocks) n (below_has y.blocks n l))))))
-      (join (large_gone y.large) (SetInode j None ∷ SetBit j false ∷ []) (large_looked y.large (λ k d. f k (has_more (j / 64) k (smalls ++ large) (Contains-append_right smalls large k d)))) (c, (f (j / 64) (has_head (j / 64) (smalls ++ large)), tt)))
+      (join (large_gone y.large) (SetInode j None false ∷ SetBit j false ∷ []) (large_looked y.large (λ k d. f k (has_more (j / 64) k (smalls ++ large) (Contains-append_right smalls large k d)))) (c, (f (j / 64) (has_head (j / 64) (smalls ++ large)), tt)))
 
   pub fewer_looked : (j : ℕ) (y : StoredNode) → Contains all (InodeAt j) → ((k : ℕ) → Contains (fewer_segments j y) k → Contains all (SegmentAt k)) → AreLooked (fewer j y)
   fewer_looked j y c = go (is_last y)

@@ -60,8 +60,8 @@ module _ (segments : ℕ) (s : Store) where
   module _ (h : Hand) (w : Writing) (i : ℕ) (touched : List ℕ) (x : StoredNode) where
     in_inside : (picks : List ℕ) (large : Option ℕ) → AreInside segments (looks (writing_in w i touched x picks large) s)
     in_inside picks large =
-        let y = resized x (max x.size (end_of w)) picks large in
-        writes_inside w x y (sectors_met w.off w.len) (w.off / 512) (λ bytes. Got (Finishes (written_by i x y picks large touched bytes))) (λ bytes. tt)
+        let y = resized x w.when (max x.size (end_of w)) picks large in
+        writes_inside w x y (sectors_met w.off w.len) (w.off / 512) (λ bytes. Got (Finishes (written_by i y picks large touched bytes))) (λ bytes. tt)
 
     picked_inside : (large : Option ℕ) (o : Option (List ℕ)) → AreInside segments (looks (writing_picked h w i touched x large o) s)
     picked_inside large None = tt
@@ -90,12 +90,12 @@ module _ (segments : ℕ) (s : Store) where
         go false false true = segments_inside segments s (keys_of h.held) (writing_large h w i touched x (picked_large h.held)) (large_inside (picked_large h.held))
         go false false false = small_inside None
 
-  pub cutting_inside : (len i : ℕ) (touched : List ℕ) (x : StoredNode) → AreInside segments (looks (cutting len i touched x) s)
-  cutting_inside len i touched x = go (nat_lt x.size len)
+  pub cutting_inside : (when len i : ℕ) (touched : List ℕ) (x : StoredNode) → AreInside segments (looks (cutting when len i touched x) s)
+  cutting_inside when len i touched x = go (nat_lt x.size len)
     where
-      go : (b : Bool) → AreInside segments (looks (if b then refused reply.BadOffset touched else finish_over (cut_segments x len) (cut_by i touched x len)) s)
+      go : (b : Bool) → AreInside segments (looks (if b then refused reply.BadOffset touched else finish_over (cut_segments x len) (cut_by when i touched x len)) s)
       go true = tt
-      go false = segments_inside segments s (cut_segments x len) (Got (Finishes (cut_by i touched x len))) tt
+      go false = segments_inside segments s (cut_segments x len) (Got (Finishes (cut_by when i touched x len))) tt
 
   pub showing_inside : (off len i : ℕ) (touched : List ℕ) (x : StoredNode) → AreInside segments (looks (showing off len i touched x) s)
   showing_inside off len i touched x = go (min len (x.size - off)) (nat_lt x.size off)
@@ -126,7 +126,7 @@ module _ (s : Store) (tree : FileTree) (n : Naming) (of : IsOfTree s tree n) whe
           root_kind : (o : Option Node) → node_at tree 0 ≡ o → is_dir o ≡ true → 2 ≡ n.kind 0
           root_kind None e r = absurd (cc)
           root_kind (Some (Dir entries blocks)) e r = sym (of.pictures.kinds 0 (Dir entries blocks) e)
-          root_kind (Some (File cells links)) e r = absurd (cc)
+          root_kind (Some (File cells links when)) e r = absurd (cc)
           root_kind (Some (Link target links)) e r = absurd (cc)
 
       at_end : (dirs : List ℕ) → AllIn (looks (at_spot (run (walk path) s).spot dirs refused next) s)
@@ -155,7 +155,7 @@ module _ (s : Store) (tree : FileTree) (n : Naming) (of : IsOfTree s tree n) whe
 
       of_node : (node : Node) → node_at tree b ≡ Some node → AllIn (looks (with_inode listing touched (Some (inode_by n b node))) s)
       of_node (Dir entries blocks) e = listed blocks (rw e refl) (λ es. refused (reply.Names (sorted_names es)) touched) (λ es. tt)
-      of_node (File cells links) e = listed (small_blocks_of (length cells)) (rw e refl) (λ es. refused (reply.Names (sorted_names es)) touched) (λ es. tt)
+      of_node (File cells links when) e = listed (small_blocks_of (length cells)) (rw e refl) (λ es. refused (reply.Names (sorted_names es)) touched) (λ es. tt)
       of_node (Link target links) e = listed 0 (rw e refl) (λ es. refused (reply.Names (sorted_names es)) touched) (λ es. tt)
 
   pub list_then : (t : Target) (b : ℕ) → is_some (node_at tree b) ≡ true → t.inode ≡ n.inode b → t.kind ≡ n.kind b → AllIn (looks (at_inode listing t) s)

@@ -8,7 +8,7 @@ use Rattle.frang_base.specs.declared.reply.Reply.{Reply}
 use Rattle.tree_definitions.specs.Tree.{small_blocks_of}
 use Rattle.disk_definitions.specs.Store.{Store, StoredNode, Use}
 use Rattle.disk_definitions.specs.Store.Use.{Fresh, Bytes}
-use Rattle.store_changes.specs.Edits.Edit.{SetInode, SetUse, SetLarge, SetBytes, SetLargeBytes}
+use Rattle.store_changes.specs.Edits.Edit.{SetUse, SetLarge, SetBytes, SetLargeBytes}
 use Rattle.pick_definitions.specs.Picks.{picked_many, picked_large}
 use Rattle.plan_definitions.specs.Ask.{Sector, InodeAt, SegmentAt, Ask, Got, ReadInode, run, looks}
 use Rattle.plan_definitions.specs.Walks.{Target, Spot, walk, at_spot, at_target}
@@ -16,7 +16,7 @@ use Rattle.plan_definitions.specs.Walks.Spot.{AtRoot, AtName, AtGap, Lost}
 use Rattle.plan_definitions.specs.Plans.{Hand, Plan, refused, read_held}
 use Rattle.plan_definitions.specs.Plans.Plan.{Finishes}
 use Rattle.plan_definitions.specs.NamePlans.{finish_over}
-use Rattle.plan_definitions.specs.FilePlans.{Writing, end_of, sectors_met, mixed, directory_blocks, resized, large_taken, large_segment, size_edits, written_by, writing_in, writing_picked, writing_small, writing_large, writing, blocks_between, large_cut, cut_segments, cut_by, cutting, read_sectors, showing, at_file, with_file}
+use Rattle.plan_definitions.specs.FilePlans.{Writing, end_of, sectors_met, mixed, directory_blocks, resized, large_taken, large_segment, file_dated, written_by, writing_in, writing_picked, writing_small, writing_large, writing, blocks_between, large_cut, cut_segments, cut_by, cutting, read_sectors, showing, at_file, with_file}
 use Rattle.plan_definitions.specs.LookPlans.{plan_of_node, with_inode, at_inode, listing, sorted_names}
 use Rattle.plan_laws.proofs.Asking.{run-segments}
 use Rattle.plan_laws.proofs.Bytes.{run-sectors}
@@ -29,12 +29,8 @@ use Rattle.plan_looks.proofs.Edited.{AreLooked, PlanLooked, join}
 use Rattle.plan_looks.proofs.NamesLooked.{Goes, none_looked, over_looked, on}
 
 module _ (all : List Sector) where
-  size_looked : (i : ℕ) (x y : StoredNode) → Contains all (InodeAt i) → AreLooked all (size_edits i x y)
-  size_looked i x y c = go (y.size == x.size)
-    where
-      go : (b : Bool) → AreLooked all (if b then [] else SetInode i (Some y) ∷ [])
-      go true = tt
-      go false = (c, tt)
+  file_looked_at : (i : ℕ) (y : StoredNode) → Contains all (InodeAt i) → AreLooked all (file_dated i y)
+  file_looked_at i y c = (c, tt)
 
   taken_looked : (o : Option ℕ) → ((g : ℕ) → Contains (large_segment o) g → Contains all (SegmentAt g)) → AreLooked all (large_taken o)
   taken_looked None f = tt
@@ -62,35 +58,35 @@ module _ (all : List Sector) where
     Ends p = Goes all h s p
 
     -- ---- truncate
-    pub cutting_looked : (len i : ℕ) (touched : List ℕ) (x : StoredNode) → Contains all (InodeAt i) → Ends (cutting len i touched x)
-    cutting_looked len i touched x c = go (nat_lt x.size len)
+    pub cutting_looked : (when len i : ℕ) (touched : List ℕ) (x : StoredNode) → Contains all (InodeAt i) → Ends (cutting when len i touched x)
+    cutting_looked when len i touched x c = go (nat_lt x.size len)
       where
         cut : List ℕ
         cut = blocks_between x (small_blocks_of len) x.blocks
 
-        edits : ((k : ℕ) → Contains (cut_segments x len) k → Contains all (SegmentAt k)) → AreLooked all (cut_by i touched x len).edits
+        edits : ((k : ℕ) → Contains (cut_segments x len) k → Contains all (SegmentAt k)) → AreLooked all (cut_by when i touched x len).edits
         edits f =
             let segments = map (λ k. k / 1024) cut in
-            join all (map (λ k. SetUse k Fresh) cut ++ map (λ g. SetLarge g false) (large_cut x len)) (size_edits i x (resized x len [] None))
+            join all (map (λ k. SetUse k Fresh) cut ++ map (λ g. SetLarge g false) (large_cut x len)) (file_dated i (resized x when len [] None))
             (join all (map (λ k. SetUse k Fresh) cut) (map (λ g. SetLarge g false) (large_cut x len))
             (states_looked Fresh cut (λ k d. f (k / 1024) (Contains-append_left segments (large_cut x len) (k / 1024) (map_has (λ k. k / 1024) cut k d))))
             (larges_looked false (large_cut x len) (λ g d. f g (Contains-append_right segments (large_cut x len) g d))))
-            (size_looked i x (resized x len [] None) c)
+            (file_looked_at i (resized x when len [] None) c)
 
-        go : (b : Bool) → Ends (if b then refused reply.BadOffset touched else finish_over (cut_segments x len) (cut_by i touched x len))
+        go : (b : Bool) → Ends (if b then refused reply.BadOffset touched else finish_over (cut_segments x len) (cut_by when i touched x len))
         go true w = tt
-        go false w = over_looked all h s (cut_segments x len) (cut_by i touched x len) edits w
+        go false w = over_looked all h s (cut_segments x len) (cut_by when i touched x len) edits w
 
     -- ---- write and fill
     module _ (w : Writing) (i : ℕ) (touched : List ℕ) (x : StoredNode) (own : Contains all (InodeAt i)) where
       in_looked : (picks : List ℕ) (o : Option ℕ) → ((k : ℕ) → Contains picks k → Contains all (SegmentAt (k / 1024))) → ((g : ℕ) → Contains (large_segment o) g → Contains all (SegmentAt g)) →
           PlanLooked all (run (writing_in w i touched x picks o) s)
       in_looked picks o f g =
-          let y = resized x (max x.size (end_of w)) picks o in
+          let y = resized x w.when (max x.size (end_of w)) picks o in
           let bytes = sector_edits w x y s (w.off / 512) (sectors_met w.off w.len) in
-          subst (PlanLooked all) (sym (run-writes w x y s (w.off / 512) (sectors_met w.off w.len) (λ bytes. Got (Finishes (written_by i x y picks o touched bytes)))))
-          (join all (map (λ k. SetUse k Bytes) picks ++ large_taken o ++ size_edits i x y) bytes
-          (join all (map (λ k. SetUse k Bytes) picks ++ large_taken o) (size_edits i x y) (join all (map (λ k. SetUse k Bytes) picks) (large_taken o) (states_looked Bytes picks f) (taken_looked o g)) (size_looked i x y own))
+          subst (PlanLooked all) (sym (run-writes w x y s (w.off / 512) (sectors_met w.off w.len) (λ bytes. Got (Finishes (written_by i y picks o touched bytes)))))
+          (join all (map (λ k. SetUse k Bytes) picks ++ large_taken o ++ file_dated i y) bytes
+          (join all (map (λ k. SetUse k Bytes) picks ++ large_taken o) (file_dated i y) (join all (map (λ k. SetUse k Bytes) picks) (large_taken o) (states_looked Bytes picks f) (taken_looked o g)) (file_looked_at i y own))
           (bytes_looked w x y s (sectors_met w.off w.len) (w.off / 512)))
 
       module _ (o : Option ℕ) (g : (k : ℕ) → Contains (large_segment o) k → Contains all (SegmentAt k)) where

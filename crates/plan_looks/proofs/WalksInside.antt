@@ -54,7 +54,7 @@ module _ (s : Store) (tree : FileTree) (n : Naming) (of : IsOfTree s tree n) whe
   block_used k b j None is own l e = omega arith
   block_used k b j (Some (Link target links)) is own l e = omega arith
   block_used k b j (Some (Dir entries blocks)) is own l e = let used : s.use_of k ≡ OfEntries = of.pictures.uses k ∙ ap (use_for (n.was k) (node_at tree)) own ∙ rw is refl in let z : OfEntries ≡ Fresh = sym used ∙ e in cc
-  block_used k b j (Some (File cells links)) is own l e = let used : s.use_of k ≡ OfBytes = of.pictures.uses k ∙ ap (use_for (n.was k) (node_at tree)) own ∙ rw is refl in let z : OfBytes ≡ Fresh = sym used ∙ e in cc
+  block_used k b j (Some (File cells links when)) is own l e = let used : s.use_of k ≡ OfBytes = of.pictures.uses k ∙ ap (use_for (n.was k) (node_at tree)) own ∙ rw is refl in let z : OfBytes ≡ Fresh = sym used ∙ e in cc
 
   pub block_inside : (b j : ℕ) → j < blocks_of (node_at tree b) → n.block b j < 1024 * tree.segments
   block_inside b j l = ⊎_elim (λ below. below) (λ above. absurd (block_used (n.block b j) b j (node_at tree b) refl (of.pictures.owned b j l) l (of.blocks (n.block b j) above))) (cases_lt (n.block b j) (1024 * tree.segments))
@@ -70,7 +70,7 @@ module _ (s : Store) (tree : FileTree) (n : Naming) (of : IsOfTree s tree n) whe
       let x = inode_by n d (Dir entries blocks) in
       inside_bind tree.segments (search x.small (is_named name) 0 (8 * blocks)) (λ found. Got (record { spot = spot_by (n.inode d) x name found; dirs = dirs ++ n.inode d ∷ [] })) s
       (directory_inside d blocks entries is (is_named name)) tt
-  below_inside dirs d name (File cells links) is = tt
+  below_inside dirs d name (File cells links when) is = tt
   below_inside dirs d name (Link target links) is = tt
 
   step_inside : (dirs : List ℕ) (d : ℕ) (name : List ℕ) (o : Option Node) → node_at tree d ≡ o → is_some o ≡ true → Inside (looks (ReadInode (n.inode d) (in_inode dirs (n.inode d) name)) s)

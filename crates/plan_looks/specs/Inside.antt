@@ -26,9 +26,9 @@ AreInside segments (sector ∷ sectors) = IsInside segments sector × AreInside 
 -- so are all sectors that the plan of an operation looks at, over the disk of a tree
 abbrev pub PlansLookInside : Type 0
 PlansLookInside =
-    (operation : Op) (hand : Hand) (store : Store) (tree : FileTree) (naming : Naming) (birth : ℕ) → IsOfTree store tree naming →
+    (operation : Op) (hand : Hand) (store : Store) (tree : FileTree) (naming : Naming) (birth when : ℕ) → IsOfTree store tree naming →
     IsHandOf hand store tree.segments →
-    AreInside tree.segments (looks (plan_of hand birth operation) store)
+    AreInside tree.segments (looks (plan_of hand birth when operation) store)
 
 -- what is at hand of a sector is the disk's; of a segment nothing is seen
 abbrev pub AgreesAt : AtHand → Store → Sector → Type 0

@@ -14,7 +14,7 @@ use Rattle.plan_definitions.specs.Written.{is_metadata}
 
 -- the sector that an edit changes
 abbrev pub edited_at : Edit → Sector
-edited_at (SetInode inode stored_node) = InodeAt inode
+edited_at (SetInode inode stored_node dated) = InodeAt inode
 edited_at (SetBit inode used) = SegmentAt (inode / SEGMENT_INODES)
 edited_at (SetUse block state) = SegmentAt (block / SEGMENT_BLOCKS)
 edited_at (SetPlace block slot entry) = DirectoryAt block (slot / SECTOR_ENTRIES)
@@ -25,6 +25,6 @@ edited_at (SetLargeBytes segment part bytes) = LargeAt segment part
 -- over any disk, of a tree or not: each edit of a sector with a version is of a sector that the plan looked at
 abbrev pub EditsAreLookedAt : Type 0
 EditsAreLookedAt =
-    (operation : Op) (hand : Hand) (store : Store) (birth : ℕ) (finish : Finish) → run (plan_of hand birth operation) store ≡ Finishes finish →
+    (operation : Op) (hand : Hand) (store : Store) (birth when : ℕ) (finish : Finish) → run (plan_of hand birth when operation) store ≡ Finishes finish →
     (edit : Edit) → Contains finish.edits edit → is_metadata edit ≡ true →
-    Contains (looks (plan_of hand birth operation) store) (edited_at edit)
+    Contains (looks (plan_of hand birth when operation) store) (edited_at edit)

@@ -15,7 +15,7 @@ use Rattle.disk_definitions.specs.Standing.{IsMetadata, IsInGrammar, HasVersions
 use Rattle.store_changes.specs.Edits.{Edit}
 use Rattle.store_changes.specs.Laws.{SaysTheSame}
 use Rattle.store_changes.proofs.Free.{a_some}
-use Rattle.plan_definitions.specs.Written.{all_edited}
+use Rattle.plan_definitions.specs.Written.{all_edited, forced_in}
 use Rattle.plan_records.specs.Says.{Says}
 use Rattle.plan_definitions.specs.Ready.{store_after, disk_after, IsReady, RisesByOne}
 use Rattle.plan_records.specs.Laws.{RecordsAreWritten}
@@ -65,7 +65,7 @@ module _ (most segments : ℕ) (sectors : Sectors) (edits : List Edit) (h : IsRe
   next : (s : ℕ) → length (new s) ≡ 512 → sectors s ≡ versioned (version_at sectors s) (sectors s) → version_at sectors s ≤ most → Misses false s edits → IsNext (version_at sectors s) (disk s) (new s)
   next s long same low n =
       let last : most + 1 < 2 ^ 64 = h.last in
-      subst (λ (b : List ℕ). IsNext (version_at sectors s) b (new s)) (sym (metadata_laid sectors edits s (h.whole s) n)) (made_is (sectors s) (new s) s (version_at sectors s) (h.whole s) long (omega arith) same)
+      subst (λ (b : List ℕ). IsNext (version_at sectors s) b (new s)) (sym (metadata_laid sectors edits s (h.whole s) n)) (made_is (forced_in edits s) (sectors s) (new s) s (version_at sectors s) (h.whole s) long (omega arith) same)
 
   segment_next : (k : ℕ) → k < segments → IsNext (version_at sectors (sector_of (region.Segment k))) (disk (sector_of (region.Segment k))) (new (sector_of (region.Segment k)))
   segment_next k l =

@@ -80,19 +80,19 @@ module _ (segments : ℕ) (end : Store) (sectors : Sectors) (s : Store) (few : s
       let small : x.0.version < 2 ^ 64 = inode_version (sectors (sector_of (region.Inode i))) x.0 x.1 in
       subst (λ (n : ℕ). n < 2 ^ 64) (sym (ap (number_at 8 0) (inode_read (sectors (sector_of (region.Inode i))) x.0 x.1).0 ∙ version_back x.0.version [] small)) small
 
-pub fit_inode : (segments i : ℕ) (x : Option StoredNode) → IsFitEdit segments (SetInode i x) → (i < 64 * segments) × MayStand x
-fit_inode segments i None h = (h, tt)
-fit_inode segments i (Some x) h = h
+pub fit_inode : (segments i : ℕ) (x : Option StoredNode) (dated : Bool) → IsFitEdit segments (SetInode i x dated) → (i < 64 * segments) × MayStand x
+fit_inode segments i None dated h = (h, tt)
+fit_inode segments i (Some x) dated h = h
 
 pub fit_place : (segments k p : ℕ) (o : Option StoredEntry) → IsFitEdit segments (SetPlace k p o) → (k < 1024 * segments) × (p < 56) × MayEnter o
 fit_place segments k p None h = (h.0, h.1, tt)
 fit_place segments k p (Some e) h = h
 
 module _ (segments : ℕ) (end s : Store) (sectors : Sectors) (few : segments ≤ 64) (h : Says segments end sectors s) where
-  inode_written : (i : ℕ) (x : Option StoredNode) → IsFitEdit segments (SetInode i x) → Says segments end (edited_sectors sectors (SetInode i x)) (edited s (SetInode i x))
-  inode_written i x fit =
-      let e : Edit = SetInode i x in
-      let f = fit_inode segments i x fit in
+  inode_written : (i : ℕ) (x : Option StoredNode) (dated : Bool) → IsFitEdit segments (SetInode i x dated) → Says segments end (edited_sectors sectors (SetInode i x dated)) (edited s (SetInode i x dated))
+  inode_written i x dated fit =
+      let e : Edit = SetInode i x dated in
+      let f = fit_inode segments i x dated fit in
       record {
         in_segments = same_segments segments end sectors s few h e fit (λ k g. cc);
         in_inodes = inode_set segments sectors (edited_sectors sectors e) i (version_at sectors (sector_of (region.Inode i))) x s.inode f.0 (inode_small segments end sectors s few h e fit i f.0) f.1 (edited_here sectors e)
@@ -172,7 +172,7 @@ module _ (segments : ℕ) (end s : Store) (sectors : Sectors) (few : segments �
       }
 
 pub each : EachEditIsWritten
-each segments end s sectors (SetInode i x) few h fit meets = inode_written segments end s sectors few h i x fit
+each segments end s sectors (SetInode i x dated) few h fit meets = inode_written segments end s sectors few h i x dated fit
 each segments end s sectors (SetBit i b) few h fit meets = bit_written segments end s sectors few h i b fit
 each segments end s sectors (SetUse k u) few h fit meets = use_written segments end s sectors few h k u fit
 each segments end s sectors (SetPlace k p e) few h fit meets = place_written segments end s sectors few h k p e fit meets

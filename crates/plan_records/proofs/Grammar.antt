@@ -128,7 +128,8 @@ inode_versioned block x v h fits =
     let same : inode_fields (inode_bytes y) ≡ y = same_fields (inode_fields (inode_bytes y)) y
     (version_back v [] fits)
     (ap (λ (z : Inode). z.kind) is) (ap (λ (z : Inode). z.links) is) (ap (λ (z : Inode). z.blocks) is) (ap (λ (z : Inode). z.size) is)
-    (ap (λ (z : Inode). z.birth) is) (ap (λ (z : Inode). z.small) is) (ap (λ (z : Inode). z.large) is) (ap (λ (z : Inode). z.target) is) in
+    (ap (λ (z : Inode). z.birth) is) (ap (λ (z : Inode). z.small) is) (ap (λ (z : Inode). z.large) is) (ap (λ (z : Inode). z.when) is)
+    (ap (λ (z : Inode). z.target) is) in
     ap (λ (b : List ℕ). inode_in (versioned v b)) read.0 ∙ read_back inode_bytes inode_fits (inode_fields (inode_bytes y)) y same read.1
 
 pub bitmap_versioned : (block : List ℕ) (x : Bitmap) (v : ℕ) → bitmap_in block ≡ Some x → v < 2 ^ 64 → bitmap_in (versioned v block) ≡ Some (record x { version = v })

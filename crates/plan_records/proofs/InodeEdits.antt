@@ -125,6 +125,7 @@ module _ (v : ℕ) (x : StoredNode) (h : IsFitNode x) where
         small = λ j. listed_small x.small j (h.small j);
         small_len = length_listed x.small 16;
         large = h.large;
+        when = h.when;
         target_len = length_padded 384 x.target target_most;
       }
 
@@ -144,8 +145,8 @@ module _ (v : ℕ) (x : StoredNode) (h : IsFitNode x) where
 
   node_back : stored_node (Some (inode_with v (Some x))) ≡ Some x
   node_back =
-      ap (λ (t : Bool). if t then None else Some (record { kind = x.kind; links = x.links; size = x.size; birth = x.birth; blocks = x.blocks; small = slice_index (map x.small (below 16)); large = x.large; target = if x.kind == 3 then take x.size (padded 384 x.target) else [] })) (not_free (inode_with v (Some x)) h.used)
-      ∙ (λ i. Some (record { kind = x.kind; links = x.links; size = x.size; birth = x.birth; blocks = x.blocks; small = small_back i; large = x.large; target = target_back i }))
+      ap (λ (t : Bool). if t then None else Some (record { kind = x.kind; links = x.links; size = x.size; birth = x.birth; blocks = x.blocks; small = slice_index (map x.small (below 16)); large = x.large; when = x.when; target = if x.kind == 3 then take x.size (padded 384 x.target) else [] })) (not_free (inode_with v (Some x)) h.used)
+      ∙ (λ i. Some (record { kind = x.kind; links = x.links; size = x.size; birth = x.birth; blocks = x.blocks; small = small_back i; large = x.large; when = x.when; target = target_back i }))
 
 -- what is written of an inode: one that fits, or a free one
 abbrev pub MayStand : Option StoredNode → Type 0
@@ -173,6 +174,7 @@ free_range v fits = record {
   small = zeros_small 16;
   small_len = length_zeros 16;
   large = omega arith;
+  when = omega arith;
   target_len = length_zeros 384;
 }
 

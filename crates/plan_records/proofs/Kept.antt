@@ -37,7 +37,7 @@ is_less i n e = grind (arith, nat_tests)
 -- ---- where an edit writes
 
 abbrev pub edit_region : Edit → Region
-edit_region (SetInode i x) = region.Inode i
+edit_region (SetInode i x dated) = region.Inode i
 edit_region (SetBit i b) = region.Segment (i / 64)
 edit_region (SetUse k u) = region.Segment (k / 1024)
 edit_region (SetPlace k p e) = region.Small k (p / 7)
@@ -46,7 +46,7 @@ edit_region (SetBytes k part bytes) = region.Small k part
 edit_region (SetLargeBytes g part bytes) = region.Large g part
 
 pub edit_sector_is : (e : Edit) → edit_sector e ≡ sector_of (edit_region e)
-edit_sector_is (SetInode i x) = refl
+edit_sector_is (SetInode i x dated) = refl
 edit_sector_is (SetBit i b) = refl
 edit_sector_is (SetUse k u) = refl
 edit_sector_is (SetPlace k p e) = refl
@@ -67,8 +67,8 @@ pub in_large : (segments g part : ℕ) → g < segments → part < 2048 → is_i
 in_large segments g part l m = and_from (nat_lt g segments) (nat_lt part 2048) (of_lt g segments l) (of_lt part 2048 m)
 
 pub edit_in_range : (segments : ℕ) (e : Edit) → IsFitEdit segments e → is_in_range segments (edit_region e) ≡ true
-edit_in_range segments (SetInode i None) h = in_inode segments i h
-edit_in_range segments (SetInode i (Some x)) h = in_inode segments i h.0
+edit_in_range segments (SetInode i None dated) h = in_inode segments i h
+edit_in_range segments (SetInode i (Some x) dated) h = in_inode segments i h.0
 edit_in_range segments (SetBit i b) h = in_segment segments (i / 64) (omega arith)
 edit_in_range segments (SetUse k u) h = in_segment segments (k / 1024) (omega arith)
 edit_in_range segments (SetPlace k p None) h = let m : p < 56 = h.1 in in_small segments k (p / 7) h.0 (omega arith)

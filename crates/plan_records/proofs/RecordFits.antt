@@ -1,5 +1,5 @@
 -- The changes of edits are well formed, and their sectors ascend.
-use Rattle.std.proofs.Common.{◌≡◌, ℕ, ◌+◌, ◌*◌, ◌/◌, ◌^◌, ◌<◌, ◌≤◌, true, ◌&&◌, nat_le, nat_lt, Some, List, [], ◌∷◌, length, refl, sym, ap, ◌∙◌, subst, arith, leb-true}
+use Rattle.std.proofs.Common.{◌≡◌, ℕ, ◌+◌, ◌*◌, ◌/◌, ◌^◌, ◌<◌, ◌≤◌, Bool, true, ◌&&◌, nat_le, nat_lt, Some, List, [], ◌∷◌, length, refl, sym, ap, ◌∙◌, subst, arith, leb-true}
 use Rattle.std.specs.List.{filter_map, list_all}
 use Rattle.std.specs.List.Sorted.{IsStrictlySortedBy}
 use Rattle.std.specs.Map.{keys_of}
@@ -17,13 +17,13 @@ use Rattle.sector_bytes.proofs.MapLaws.{AllAbove}
 use Rattle.log_definitions.specs.Records.{record_bytes, sectors_ascend}
 use Rattle.sector_definitions.specs.declared.region.Region.TheVariants as region
 use Rattle.sector_definitions.specs.Regions.{sector_of}
-use Rattle.sector_bytes.specs.Patches.{patches_of, are_apart}
-use Rattle.sector_bytes.proofs.PatchLaws.{patches_apart}
+use Rattle.sector_bytes.specs.Patches.{patches_with, are_apart}
+use Rattle.sector_bytes.proofs.PatchLaws.{forced_patches_apart}
 use Rattle.sector_bytes.specs.Sectors.{Sectors}
 use Rattle.disk_definitions.specs.Standing.{version_at}
 use Rattle.store_changes.specs.Edits.{Edit}
 use Rattle.store_changes.specs.Edits.Edit.{SetInode, SetBit, SetUse, SetPlace, SetLarge, SetBytes, SetLargeBytes}
-use Rattle.plan_definitions.specs.Written.{edit_sector, all_edited, is_metadata, metadata_sector, with_number, change_by, change_of, changes_of}
+use Rattle.plan_definitions.specs.Written.{edit_sector, all_edited, is_metadata, metadata_sector, with_number, change_by, forced_in, change_of, changes_of}
 use Rattle.plan_definitions.specs.FitEdits.{IsFitEdit, MeetsUse, AreFit}
 use Rattle.plan_definitions.specs.Ready.{store_after, IsReady}
 use Rattle.plan_records.specs.Laws.{RecordsFit}
@@ -46,8 +46,8 @@ apart_patches (p ∷ ps) from start l h =
     (and_from (nat_le start p.at && nat_lt 0 (length p.bytes)) (nat_le end 512) (and_from (nat_le start p.at) (nat_lt 0 (length p.bytes)) (of_le start p.at (omega arith)) (of_lt 0 (length p.bytes) (omega arith))) b.1)
     (apart_patches ps (end + 1) end (omega arith) a.1)
 
-change_is : (old new : List ℕ) (k v : ℕ) (c : Change) → length old ≡ 512 → k < 2 ^ 55 → v < 2 ^ 64 → change_by k v (patches_of old new) ≡ Some c → is_change c ≡ true
-change_is old new k v c long small fits e = go (patches_of old new) (patches_apart old new long) e
+change_is : (forced : ℕ → Bool) (old new : List ℕ) (k v : ℕ) (c : Change) → length old ≡ 512 → k < 2 ^ 55 → v < 2 ^ 64 → change_by k v (patches_with forced old new) ≡ Some c → is_change c ≡ true
+change_is forced old new k v c long small fits e = go (patches_with forced old new) (forced_patches_apart forced old new long) e
   where
     go : (ps : List Patch) → are_apart 8 512 ps ≡ true → change_by k v ps ≡ Some c → is_change c ≡ true
     go [] h f = absurd cc
@@ -98,32 +98,32 @@ record IsChangeable (sectors : Sectors) (k : ℕ) : Type 0 where
   small : k < 2 ^ 55
   fits : version_at sectors k + 1 < 2 ^ 64
 
-are_changes : (old new : Sectors) (sorted : List (ℕ × ℕ)) → ((k : ℕ) → length (old k) ≡ 512) → Keys (IsChangeable old) sorted → list_all is_change (changes old new sorted) ≡ true
-are_changes old new [] long h = refl
-are_changes old new (k ∷ sorted) long h =
-    let rest = are_changes old new sorted long h.1 in
-    by_some (λ o. change_of old new k.0 ≡ o → list_all is_change (changes old new (k ∷ sorted)) ≡ true) (change_of old new k.0)
-    (λ e f. ap (list_all is_change) (filter_none (change_of old new) k.0 (keys_of sorted) f) ∙ rest)
-    (λ c e f. ap (list_all is_change) (filter_some (change_of old new) k.0 (keys_of sorted) c f)
-    ∙ and_from (is_change c) (list_all is_change (changes old new sorted)) (change_is (old k.0) (new k.0) k.0 (version_at old k.0 + 1) c (long k.0) h.0.small h.0.fits f) rest) refl
+are_changes : (edits : List Edit) (old new : Sectors) (sorted : List (ℕ × ℕ)) → ((k : ℕ) → length (old k) ≡ 512) → Keys (IsChangeable old) sorted → list_all is_change (changes edits old new sorted) ≡ true
+are_changes edits old new [] long h = refl
+are_changes edits old new (k ∷ sorted) long h =
+    let rest = are_changes edits old new sorted long h.1 in
+    by_some (λ o. change_of edits old new k.0 ≡ o → list_all is_change (changes edits old new (k ∷ sorted)) ≡ true) (change_of edits old new k.0)
+    (λ e f. ap (list_all is_change) (filter_none (change_of edits old new) k.0 (keys_of sorted) f) ∙ rest)
+    (λ c e f. ap (list_all is_change) (filter_some (change_of edits old new) k.0 (keys_of sorted) c f)
+    ∙ and_from (is_change c) (list_all is_change (changes edits old new sorted)) (change_is (forced_in edits k.0) (old k.0) (new k.0) k.0 (version_at old k.0 + 1) c (long k.0) h.0.small h.0.fits f) rest) refl
 
-ascend_changes : (old new : Sectors) (sorted : List (ℕ × ℕ)) (from : ℕ) → Ascend sorted → Keys (λ k. from ≤ k) sorted → sectors_ascend from (changes old new sorted) ≡ true
+ascend_changes : (edits : List Edit) (old new : Sectors) (sorted : List (ℕ × ℕ)) (from : ℕ) → Ascend sorted → Keys (λ k. from ≤ k) sorted → sectors_ascend from (changes edits old new sorted) ≡ true
 unfolding IsStrictlySortedBy
-ascend_changes old new [] from asc h = refl
-ascend_changes old new (k ∷ sorted) from asc h =
-    by_some (λ o. change_of old new k.0 ≡ o → sectors_ascend from (changes old new (k ∷ sorted)) ≡ true) (change_of old new k.0)
-    (λ e f. ap (sectors_ascend from) (filter_none (change_of old new) k.0 (keys_of sorted) f) ∙ ascend_changes old new sorted from asc.1 h.1)
-    (λ c e f. ap (sectors_ascend from) (filter_some (change_of old new) k.0 (keys_of sorted) c f)
-    ∙ (let here : c.sector.0 ≡ k.0 = change_sector k.0 (version_at old k.0 + 1) (patches_of (old k.0) (new k.0)) c f in
-    and_from (nat_le from c.sector.0) (sectors_ascend (c.sector.0 + 1) (changes old new sorted)) (of_le from c.sector.0 (let l = h.0 in omega arith))
-    (ap (λ (n : ℕ). sectors_ascend (n + 1) (changes old new sorted)) here ∙ ascend_changes old new sorted (k.0 + 1) asc.1 (above_keys k.0 sorted asc.0)))) refl
+ascend_changes edits old new [] from asc h = refl
+ascend_changes edits old new (k ∷ sorted) from asc h =
+    by_some (λ o. change_of edits old new k.0 ≡ o → sectors_ascend from (changes edits old new (k ∷ sorted)) ≡ true) (change_of edits old new k.0)
+    (λ e f. ap (sectors_ascend from) (filter_none (change_of edits old new) k.0 (keys_of sorted) f) ∙ ascend_changes edits old new sorted from asc.1 h.1)
+    (λ c e f. ap (sectors_ascend from) (filter_some (change_of edits old new) k.0 (keys_of sorted) c f)
+    ∙ (let here : c.sector.0 ≡ k.0 = change_sector k.0 (version_at old k.0 + 1) (patches_with (forced_in edits k.0) (old k.0) (new k.0)) c f in
+    and_from (nat_le from c.sector.0) (sectors_ascend (c.sector.0 + 1) (changes edits old new sorted)) (of_le from c.sector.0 (let l = h.0 in omega arith))
+    (ap (λ (n : ℕ). sectors_ascend (n + 1) (changes edits old new sorted)) here ∙ ascend_changes edits old new sorted (k.0 + 1) asc.1 (above_keys k.0 sorted asc.0)))) refl
 
 module _ (most segments : ℕ) (sectors : Sectors) (edits : List Edit) (h : IsReady most segments sectors edits) where
   changeable : (k : ℕ) → k < 2 ^ 55 → version_at sectors k ≤ most → IsChangeable sectors k
   changeable k small low = let last : most + 1 < 2 ^ 64 = h.last in record { small = small; fits = omega arith }
 
   one_named : (e : Edit) → IsFitEdit segments e → MeetsUse (store_after segments sectors edits) e → is_metadata e ≡ true → IsChangeable sectors (edit_sector e)
-  one_named (SetInode i x) fit meets m = let few = h.few in let l : i < 64 * segments = (fit_inode segments i x fit).0 in changeable (sector_of (region.Inode i)) (omega arith) (h.versions.inodes i l)
+  one_named (SetInode i x dated) fit meets m = let few = h.few in let l : i < 64 * segments = (fit_inode segments i x dated fit).0 in changeable (sector_of (region.Inode i)) (omega arith) (h.versions.inodes i l)
   one_named (SetBit i b) fit meets m = let few = h.few in let l : i / 64 < segments = omega arith in changeable (sector_of (region.Segment (i / 64))) (omega arith) (h.versions.bitmaps (i / 64) l)
   one_named (SetUse k u) fit meets m = let few = h.few in let l : k / 1024 < segments = omega arith in changeable (sector_of (region.Segment (k / 1024))) (omega arith) (h.versions.bitmaps (k / 1024) l)
   one_named (SetPlace k p o) fit meets m =
@@ -152,8 +152,8 @@ records_fit most segments sectors edits h some few short =
     let new : Sectors = all_edited sectors edits in
     let sorted : List (ℕ × ℕ) = named [] edits in
     let none : Ascend (named [] []) = tt in
-    let good = are_changes sectors new sorted h.whole (named_keys (IsChangeable sectors) [] edits tt (all_named most segments sectors edits h edits h.fit)) in
-    let rise = ascend_changes sectors new sorted 0 (named_ascend [] (filter_map metadata_sector edits) none) (anywhere sorted) in
+    let good = are_changes edits sectors new sorted h.whole (named_keys (IsChangeable sectors) [] edits tt (all_named most segments sectors edits h edits h.fit)) in
+    let rise = ascend_changes edits sectors new sorted 0 (named_ascend [] (filter_map metadata_sector edits) none) (anywhere sorted) in
     and_from (nat_le 1 (length cs) && nat_le (length cs) 32 && list_all is_change cs && sectors_ascend 0 cs) (nat_le (length (record_bytes cs)) 4096)
     (and_from (nat_le 1 (length cs) && nat_le (length cs) 32 && list_all is_change cs) (sectors_ascend 0 cs)
     (and_from (nat_le 1 (length cs) && nat_le (length cs) 32) (list_all is_change cs) (and_from (nat_le 1 (length cs)) (nat_le (length cs) 32) (of_le 1 (length cs) some) (of_le (length cs) 32 few)) good) rise)

@@ -1,5 +1,5 @@
 -- A versioned sector with its change is the new one with the old version or the next.
-use Rattle.std.proofs.Common.{◌≡◌, ℕ, ◌+◌, ◌*◌, ◌^◌, ◌<◌, ◌≤◌, Some, List, [], ◌∷◌, ◌++◌, length, take, drop, refl, sym, ap, ◌∙◌, arith, length-append}
+use Rattle.std.proofs.Common.{◌≡◌, ℕ, ◌+◌, ◌*◌, ◌^◌, ◌<◌, ◌≤◌, Bool, Some, List, [], ◌∷◌, ◌++◌, length, take, drop, refl, sym, ap, ◌∙◌, arith, length-append}
 use Rattle.std.specs.List.{flat_map}
 use Rattle.std.proofs.lemmas.List.{drop_at, length-take-le}
 use Rattle.byteorder.specs.Endian.{little_bytes}
@@ -14,9 +14,9 @@ use Rattle.sector_bytes.specs.Bytes.{number_at, zeros}
 use Rattle.sector_definitions.specs.Bitmaps.{bitmap_in, bitmap_bytes, large_byte}
 use Rattle.sector_definitions.specs.Directories.{directory_in, directory_bytes, entry_bytes}
 use Rattle.sector_definitions.specs.Inodes.{inode_in, inode_bytes}
-use Rattle.sector_bytes.specs.Patches.{patches_of}
+use Rattle.sector_bytes.specs.Patches.{patches_with}
 use Rattle.sector_definitions.proofs.WrittenFields.{length_zeros}
-use Rattle.sector_bytes.proofs.PatchLaws.{patches_laid, no_patches, spelled_version}
+use Rattle.sector_bytes.proofs.PatchLaws.{forced_patches_laid, no_forced_patches, spelled_version}
 use Rattle.sector_definitions.proofs.BitmapLaws.{bitmap_read}
 use Rattle.sector_definitions.proofs.DirectoryLaws.{AreStorable, directory_read}
 use Rattle.sector_definitions.proofs.InodeLaws.{inode_read}
@@ -72,19 +72,19 @@ pub record IsNext (v : ℕ) (block new : List ℕ) : Type 0 where
   pub rises : v ≤ version
   pub most : version ≤ v + 1
 
-pub made_is : (old new : List ℕ) (s v : ℕ) → length old ≡ 512 → length new ≡ 512 → v + 1 < 2 ^ 64 → old ≡ versioned v old → IsNext v (made old (change_by s (v + 1) (patches_of old new))) new
+pub made_is : (forced : ℕ → Bool) (old new : List ℕ) (s v : ℕ) → length old ≡ 512 → length new ≡ 512 → v + 1 < 2 ^ 64 → old ≡ versioned v old → IsNext v (made old (change_by s (v + 1) (patches_with forced old new))) new
 unfolding changed
-made_is old new s v long longer fits same = go (patches_of old new) refl
+made_is forced old new s v long longer fits same = go (patches_with forced old new) refl
   where
-    go : (ps : List Patch) → patches_of old new ≡ ps → IsNext v (made old (change_by s (v + 1) ps)) new
+    go : (ps : List Patch) → patches_with forced old new ≡ ps → IsNext v (made old (change_by s (v + 1) ps)) new
     go [] e = record {
       version = v;
-      is = same ∙ ap (λ (b : List ℕ). little_bytes 8 v ++ b) ((no_patches old new (omega arith) (long ∙ sym longer)).0 e);
+      is = same ∙ ap (λ (b : List ℕ). little_bytes 8 v ++ b) ((no_forced_patches forced old new (omega arith) (long ∙ sym longer)).0 e).0;
       rises = omega arith;
       most = omega arith;
     }
     go (p ∷ ps) e =
-        let rest : drop 8 (patched (p ∷ ps) old) ≡ drop 8 new = ap (λ (qs : List Patch). drop 8 (patched qs old)) (sym e) ∙ ap (drop 8) (patches_laid old new (omega arith) (long ∙ sym longer)) ∙ drop_at (take 8 old) (drop 8 new) 8 (length-take-le 8 old (omega arith)) in
+        let rest : drop 8 (patched (p ∷ ps) old) ≡ drop 8 new = ap (λ (qs : List Patch). drop 8 (patched qs old)) (sym e) ∙ ap (drop 8) (forced_patches_laid forced old new (omega arith) (long ∙ sym longer)) ∙ drop_at (take 8 old) (drop 8 new) 8 (length-take-le 8 old (omega arith)) in
         record {
           version = v + 1;
           is = ap (λ (b : List ℕ). b ++ drop 8 (patched (p ∷ ps) old)) (spelled_version (v + 1) (omega arith)) ∙ ap (λ (b : List ℕ). little_bytes 8 (v + 1) ++ b) rest;

@@ -19,18 +19,18 @@ use Rattle.plan_space.proofs.Linking.{linked_outcome}
 use Rattle.plan_space.proofs.Moving.{renamed_outcome}
 use Rattle.plan_space.proofs.Writing.{bytes_outcome}
 
-module _ (h : Hand) (s : Store) (tree : FileTree) (n : Naming) (birth : ℕ) (of : IsOfTree s tree n) where
-  pub outcome : (o : Op) → Outcome h (wants tree o) (run (plan_of h birth o) s)
-  outcome (op.Create path) = made_outcome h s tree n of birth (File [] 1) path
+module _ (h : Hand) (s : Store) (tree : FileTree) (n : Naming) (birth when : ℕ) (of : IsOfTree s tree n) where
+  pub outcome : (o : Op) → Outcome h (wants tree o) (run (plan_of h birth when o) s)
+  outcome (op.Create path) = made_outcome h s tree n of birth (File [] 1 0) path
   outcome (op.Mkdir path) = made_outcome h s tree n of birth (Dir [] 0) path
   outcome (op.Symlink path target) = made_outcome h s tree n of birth (Link target 1) path
   outcome (op.Link path to) = linked_outcome h s tree n of path to
   outcome (op.Unlink path) = unlink_plain s path
   outcome (op.Rmdir path) = rmdir_plain s path
   outcome (op.Rename path to) = renamed_outcome h s tree n of path to
-  outcome (op.Write path off bytes) = bytes_outcome h s tree n of (record { off = off; len = length bytes; byte = λ j. slice_index bytes (j - off) }) path
-  outcome (op.Fill path off len byte) = bytes_outcome h s tree n of (record { off = off; len = len; byte = λ j. byte }) path
-  outcome (op.Truncate path len) = truncate_plain s path len
+  outcome (op.Write path off bytes) = bytes_outcome h s tree n of (record { off = off; len = length bytes; when = when; byte = λ j. slice_index bytes (j - off) }) path
+  outcome (op.Fill path off len byte) = bytes_outcome h s tree n of (record { off = off; len = len; when = when; byte = λ j. byte }) path
+  outcome (op.Truncate path len) = truncate_plain s when path len
   outcome (op.Read path off len) = read_plain s path off len
   outcome (op.Stat path) = stat_plain s path
   outcome (op.List path) = list_plain s path
@@ -45,10 +45,10 @@ module _ (h : Hand) (s : Store) (tree : FileTree) (n : Naming) (birth : ℕ) (of
   outcome op.Stall = refl
 
 pub lacks_exactly : LacksExactly
-lacks_exactly o h s tree n birth of = lacks_by h (wants tree o) (run (plan_of h birth o) s) (outcome h s tree n birth of o)
+lacks_exactly o h s tree n birth when of = lacks_by h (wants tree o) (run (plan_of h birth when o) s) (outcome h s tree n birth when of o)
 
 pub clears_exactly : ClearsExactly
-clears_exactly o h s tree n birth of k = clears_by h k (wants tree o) (run (plan_of h birth o) s) (outcome h s tree n birth of o)
+clears_exactly o h s tree n birth when of k = clears_by h k (wants tree o) (run (plan_of h birth when o) s) (outcome h s tree n birth when of o)
 
 pub says_full_exactly : SaysFullExactly
-says_full_exactly o h s tree n birth of = full_by h (wants tree o) (run (plan_of h birth o) s) (outcome h s tree n birth of o)
+says_full_exactly o h s tree n birth when of = full_by h (wants tree o) (run (plan_of h birth when o) s) (outcome h s tree n birth when of o)

@@ -83,7 +83,7 @@ module _ (h : Hand) (s : Store) (tree : FileTree) (n : Naming) (of : IsOfTree s 
       Outcome h (if is_dir o then None else wants_second tree b (place tree to)) (run (if n.kind b == 2 then refused reply.IsDir dirs else bind (walk to) (λ w. linking_to h (n.inode b) (dirs ++ w.dirs) w.spot)) s)
   by_node b None e some = absurd (cc)
   by_node b (Some (Dir es k)) e some = rw (of.pictures.kinds b (Dir es k) e) refl
-  by_node b (Some (File cells links)) e some = rw (of.pictures.kinds b (File cells links) e) (to_outcome b (File cells links) e)
+  by_node b (Some (File cells links when)) e some = rw (of.pictures.kinds b (File cells links when) e) (to_outcome b (File cells links when) e)
   by_node b (Some (Link target links)) e some = rw (of.pictures.kinds b (Link target links) e) (to_outcome b (Link target links) e)
 
   pub name_outcome : (d blocks : ℕ) (entries : Entries) (name : List ℕ) (b : ℕ) → node_at tree d ≡ Some (Dir entries blocks) → entry_at entries name ≡ Some b →

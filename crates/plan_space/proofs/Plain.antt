@@ -2,6 +2,7 @@
 use Rattle.std.proofs.Common.{ℕ, ◌≡◌, ◌-◌, ◌*◌, ◌/◌, ◌%◌, ◌==◌, ◌&&◌, not, Bool, true, false, nat_lt, min, if◌then◌else◌, Option, Some, None, List, [], ◌∷◌, ◌++◌, take, drop, refl, sym, subst}
 use Rattle.frang_base.specs.declared.reply.Reply.{Reply}
 use Rattle.frang_base.specs.declared.reply.Reply.TheVariants as reply
+use Rattle.tree_definitions.specs.Apply.{time_of}
 use Rattle.disk_definitions.specs.Store.{Store, StoredNode, StoredEntry}
 use Rattle.plan_definitions.specs.Ask.{Ask, Got, ReadInode, run}
 use Rattle.plan_definitions.specs.Walks.{Spot, Target, walk, at_spot, at_target}
@@ -130,7 +131,7 @@ module _ (s : Store) where
   timed_plain : (x : StoredNode) → says_full (timed x) ≡ false
   timed_plain x = go (x.kind == 1) (x.kind == 2)
     where
-      go : (a b : Bool) → says_full (if a then reply.Time 0 0 else (if b then reply.IsDir else reply.Inval)) ≡ false
+      go : (a b : Bool) → says_full (if a then time_of x.when else (if b then reply.IsDir else reply.Inval)) ≡ false
       go true b = refl
       go false true = refl
       go false false = refl
@@ -161,15 +162,15 @@ module _ (s : Store) where
       go true = refl
       go false = let k = min len (x.size - off) in subst IsPlain (sym (run-sectors s x (off / 512) (sectors_met off k) (λ bytes. refused (reply.Shown (take k (drop (off % 512) bytes))) touched))) refl
 
-  cutting_plain : (len i : ℕ) (touched : List ℕ) (x : StoredNode) → IsPlain (run (cutting len i touched x) s)
-  cutting_plain len i touched x = go (nat_lt x.size len)
+  cutting_plain : (when len i : ℕ) (touched : List ℕ) (x : StoredNode) → IsPlain (run (cutting when len i touched x) s)
+  cutting_plain when len i touched x = go (nat_lt x.size len)
     where
-      go : (b : Bool) → IsPlain (run (if b then refused reply.BadOffset touched else finish_over (cut_segments x len) (cut_by i touched x len)) s)
+      go : (b : Bool) → IsPlain (run (if b then refused reply.BadOffset touched else finish_over (cut_segments x len) (cut_by when i touched x len)) s)
       go true = refl
-      go false = rw (run-segments (cut_segments x len) (Got (Finishes (cut_by i touched x len))) s) refl
+      go false = rw (run-segments (cut_segments x len) (Got (Finishes (cut_by when i touched x len))) s) refl
 
   pub read_plain : (path : List (List ℕ)) (off len : ℕ) → IsPlain (run (plan_read path off len) s)
   read_plain path off len = node_plain (at_file (showing off len)) (file_plain (showing off len) (showing_plain off len)) path
 
-  pub truncate_plain : (path : List (List ℕ)) (len : ℕ) → IsPlain (run (plan_truncated path len) s)
-  truncate_plain path len = node_plain (at_file (cutting len)) (file_plain (cutting len) (cutting_plain len)) path
+  pub truncate_plain : (when : ℕ) (path : List (List ℕ)) (len : ℕ) → IsPlain (run (plan_truncated when path len) s)
+  truncate_plain when path len = node_plain (at_file (cutting when len)) (file_plain (cutting when len) (cutting_plain when len)) path

@@ -1,5 +1,5 @@
 -- What the plans of write and fill come to: a large block first, and then the small ones.
-use Rattle.std.proofs.Common.{ℕ, ◌≡◌, ◌+◌, ◌-◌, ◌/◌, ◌==◌, ◌&&◌, not, Bool, true, false, nat_lt, max, if◌then◌else◌, inl, inr, Option, Some, None, List, [], ◌∷◌, ◌++◌, length, refl, sym, ◌∙◌, subst, arith, is_some}
+use Rattle.std.proofs.Common.{ℕ, ◌≡◌, ◌-◌, ◌/◌, ◌==◌, ◌&&◌, not, Bool, true, false, nat_lt, max, if◌then◌else◌, inl, inr, Option, Some, None, List, [], ◌∷◌, ◌++◌, length, refl, sym, ◌∙◌, subst, arith, is_some}
 use Rattle.std.proofs.lemmas.Bool.Decides.{nat_tests}
 use Rattle.std.specs.Map.{keys_of}
 use Rattle.frang_base.specs.declared.reply.Reply.TheVariants as reply
@@ -30,9 +30,9 @@ use Rattle.plan_space.specs.Exact.{FindsNothing}
 use Rattle.plan_space.proofs.Outcomes.{Outcome, none_outcome}
 use Rattle.plan_space.proofs.Rooms.{none_wanted}
 
-module _ (h : Hand) (s : Store) (n : Naming) (b links : ℕ) (old : List Cell) (w : Writing) (touched : List ℕ) where
+module _ (h : Hand) (s : Store) (n : Naming) (b links since : ℕ) (old : List Cell) (w : Writing) (touched : List ℕ) where
   abbrev x : StoredNode
-  x = inode_by n b (File old links)
+  x = inode_by n b (File old links since)
 
   abbrev more : ℕ
   more = small_blocks_of (max (length old) (end_of w)) - small_blocks_of (length old)
@@ -50,8 +50,8 @@ module _ (h : Hand) (s : Store) (n : Naming) (b links : ℕ) (old : List Cell) (
 
     in_place : (o : Option ℕ) (picks : List ℕ) → (picked_many h.held more ≡ None → ⊥) → Outcome h (Some (takes c)) (run (writing_in w (n.inode b) touched x picks o) s)
     in_place o picks small =
-        let y = resized x (max x.size (end_of w)) picks o in
-        subst (Outcome h (Some (takes c))) (sym (run-writes w x y s (w.off / 512) (sectors_met w.off w.len) (λ bytes. Got (Finishes (written_by (n.inode b) x y picks o touched bytes)))))
+        let y = resized x w.when (max x.size (end_of w)) picks o in
+        subst (Outcome h (Some (takes c))) (sym (run-writes w x y s (w.off / 512) (sectors_met w.off w.len) (λ bytes. Got (Finishes (written_by (n.inode b) y picks o touched bytes)))))
         (inr (all_found small, (refl, λ k t z. absurd (let y : false ≡ true = t in cc))))
 
     picked_case : (o : Option ℕ) (p : Option (List ℕ)) → picked_many h.held more ≡ p → Outcome h (Some (takes c)) (run (writing_picked h w (n.inode b) touched x o p) s)
@@ -101,11 +101,11 @@ module _ (h : Hand) (s : Store) (tree : FileTree) (n : Naming) (of : IsOfTree s 
   by_node dirs b None e some = absurd (cc)
   by_node dirs b (Some (Dir es k)) e some = rw (of.pictures.kinds b (Dir es k) e) refl
   by_node dirs b (Some (Link target links)) e some = rw (of.pictures.kinds b (Link target links) e) refl
-  by_node dirs b (Some (File cells links)) e some =
+  by_node dirs b (Some (File cells links when)) e some =
       let touched = dirs ++ n.inode b ∷ [] in
-      rw (of.pictures.kinds b (File cells links) e)
-      (subst (λ o. Outcome h (wants_written (length cells) w.off w.len) (run (with_file (writing h w (n.inode b) touched) touched o) s)) (sym (inode_is s (node_at tree) n of.pictures b (File cells links) e))
-      (writing_outcome h s n b links cells w touched))
+      rw (of.pictures.kinds b (File cells links when) e)
+      (subst (λ o. Outcome h (wants_written (length cells) w.off w.len) (run (with_file (writing h w (n.inode b) touched) touched o) s)) (sym (inode_is s (node_at tree) n of.pictures b (File cells links when) e))
+      (writing_outcome h s n b links when cells w touched))
 
   pub bytes_outcome : (path : List (List ℕ)) → Outcome h (wants_bytes tree (place tree path) w.off w.len) (run (plan_of_file path (writing h w)) s)
   bytes_outcome path =

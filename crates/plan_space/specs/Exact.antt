@@ -24,8 +24,8 @@ FindsNothing held wanted =
 
 -- what holds of the plan of each operation over the disk of a tree, whatever is held
 abbrev pub OfEachPlan : (Hand → FileTree → Op → Plan → Type 0) → Type 0
-OfEachPlan Holds = (operation : Op) (hand : Hand) (store : Store) (tree : FileTree) (naming : Naming) (birth : ℕ) → IsOfTree store tree naming →
-    Holds hand tree operation (run (plan_of hand birth operation) store)
+OfEachPlan Holds = (operation : Op) (hand : Hand) (store : Store) (tree : FileTree) (naming : Naming) (birth when : ℕ) → IsOfTree store tree naming →
+    Holds hand tree operation (run (plan_of hand birth when operation) store)
 
 -- it lacks segments exactly where not all are held and an allocation finds nothing in them
 abbrev pub LacksExactly : Type 0

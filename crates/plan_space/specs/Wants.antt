@@ -75,7 +75,7 @@ wants_written size off len =
 
 -- write, fill: of a node, which has to be a file
 abbrev pub wants_in : Option Node → ℕ → ℕ → Option Wants
-wants_in (Some (File cells links)) off len = wants_written (length cells) off len
+wants_in (Some (File cells links when)) off len = wants_written (length cells) off len
 wants_in (Some (Dir entries blocks)) off len = None
 wants_in (Some (Link target links)) off len = None
 wants_in None off len = None

@@ -27,8 +27,8 @@ use Rattle.plan_standing.proofs.SameChanges.{same_changes}
 use Rattle.plan_standing.proofs.Edited.{hand, where_edited}
 use Rattle.plan_standing.proofs.Written.{fit_store, files_fit_now, finish_stands}
 
-module _ (o : Op) (planned : IsPlannedForFiles o) (fit : HasFitPlan o) (cached : Cached) (held : Segments) (all : Bool) (sectors : Sectors) (tree : FileTree) (birth m : ℕ) (allowed : IsAllowed o) (of : AreOfDisk cached held all tree.segments sectors)
-    (below : StandsBelow sectors tree) (new : IsNew tree birth) (small_birth : birth < 2 ^ 64) (count : m ≡ directory_blocks_in (store_of tree.segments sectors) tree.segments) where
+module _ (o : Op) (planned : IsPlannedForFiles o) (fit : HasFitPlan o) (cached : Cached) (held : Segments) (all : Bool) (sectors : Sectors) (tree : FileTree) (birth when m : ℕ) (allowed : IsAllowed o) (of : AreOfDisk cached held all tree.segments sectors)
+    (below : StandsBelow sectors tree) (new : IsNew tree birth) (small_birth : birth < 2 ^ 64) (small_time : when < 2 ^ 64) (count : m ≡ directory_blocks_in (store_of tree.segments sectors) tree.segments) where
   abbrev s : Store
   s = store_of tree.segments sectors
 
@@ -36,31 +36,31 @@ module _ (o : Op) (planned : IsPlannedForFiles o) (fit : HasFitPlan o) (cached :
   h = hand_of cached held all
 
   abbrev plan : Ask Plan
-  plan = plan_of h birth o
+  plan = plan_of h birth when o
 
   abbrev c : AtHand
   c = at_hand cached held
 
   abbrev at : IsHandOf h s tree.segments
-  at = hand o cached held all sectors tree birth of below
+  at = hand o cached held all sectors tree birth when of below
 
-  by_plan : first_missing c (looks plan s) ≡ None → (p : Plan) → run plan s ≡ p → PlanMeets h s (apply tree o birth m) p → PlanIsFit h tree.segments s p → PlanIsSmall below.most tree.segments sectors p → PlanStands cached held all sectors (apply tree o birth m) p
+  by_plan : first_missing c (looks plan s) ≡ None → (p : Plan) → run plan s ≡ p → PlanMeets h s (apply tree o birth when m) p → PlanIsFit h tree.segments s p → PlanIsSmall below.most tree.segments sectors p → PlanStands cached held all sectors (apply tree o birth when m) p
   by_plan none Lacks is meets fits small = meets
   by_plan none (Clears k locks) is meets fits small = meets
   by_plan none (Finishes f) is meets fits small =
-      finish_stands cached held all sectors tree of below f fits o birth m new meets small (same_changes (sectors_at_hand cached held) sectors f.edits (where_edited o cached held all sectors tree birth of below none f is f.edits (λ e h. h)))
+      finish_stands cached held all sectors tree of below f fits o birth when m new meets small (same_changes (sectors_at_hand cached held) sectors f.edits (where_edited o cached held all sectors tree birth when of below none f is f.edits (λ e h. h)))
 
-  by_missing : (x : Option Sector) → first_missing c (looks plan s) ≡ x → MetStands cached held all sectors (apply tree o birth m) x (unless_missing x (run plan s))
+  by_missing : (x : Option Sector) → first_missing c (looks plan s) ≡ x → MetStands cached held all sectors (apply tree o birth when m) x (unless_missing x (run plan s))
   by_missing (Some sector) e = refl
   by_missing None e = (
     refl,
     by_plan e (run plan s) refl
-        (planned h s tree below.stands.naming birth m (of_tree sectors tree below) at new (record { fit = files_fit_now cached held all sectors tree of below; directories = count }))
-        (fit h s tree below.stands.naming birth (of_tree sectors tree below) at (fit_store cached held all sectors tree of below) small_birth allowed)
-        (small_records o h below.most tree.segments sectors birth (fit_store cached held all sectors tree of below)),
+        (planned h s tree below.stands.naming birth when m (of_tree sectors tree below) at new (record { fit = files_fit_now cached held all sectors tree of below; directories = count }))
+        (fit h s tree below.stands.naming birth when (of_tree sectors tree below) at (fit_store cached held all sectors tree of below) small_birth small_time allowed)
+        (small_records o h below.most tree.segments sectors birth when (fit_store cached held all sectors tree of below)),
   )
 
-  pub one_stands : MetStands cached held all sectors (apply tree o birth m) (first_missing c (looks plan s)) (meet plan c)
-  one_stands = subst (MetStands cached held all sectors (apply tree o birth m) (first_missing c (looks plan s)))
-      (sym (meets_where plan c s (agrees cached held tree.segments sectors of.as_cached below.whole (looks plan s) (all_inside o h s tree below.stands.naming birth (of_tree sectors tree below) at))))
+  pub one_stands : MetStands cached held all sectors (apply tree o birth when m) (first_missing c (looks plan s)) (meet plan c)
+  one_stands = subst (MetStands cached held all sectors (apply tree o birth when m) (first_missing c (looks plan s)))
+      (sym (meets_where plan c s (agrees cached held tree.segments sectors of.as_cached below.whole (looks plan s) (all_inside o h s tree below.stands.naming birth when (of_tree sectors tree below) at))))
       (by_missing (first_missing c (looks plan s)) refl)

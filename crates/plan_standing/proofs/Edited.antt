@@ -21,7 +21,7 @@ use Rattle.plan_standing.proofs.OfDisk.{is_hand}
 use Rattle.plan_standing.proofs.Zeroed.{zero_places}
 use Rattle.plan_standing.proofs.Held.{edit_is, none_missing}
 
-module _ (o : Op) (cached : Cached) (held : Segments) (all : Bool) (sectors : Sectors) (tree : FileTree) (birth : ℕ) (of : AreOfDisk cached held all tree.segments sectors) (below : StandsBelow sectors tree) where
+module _ (o : Op) (cached : Cached) (held : Segments) (all : Bool) (sectors : Sectors) (tree : FileTree) (birth when : ℕ) (of : AreOfDisk cached held all tree.segments sectors) (below : StandsBelow sectors tree) where
   abbrev s : Store
   s = store_of tree.segments sectors
 
@@ -29,7 +29,7 @@ module _ (o : Op) (cached : Cached) (held : Segments) (all : Bool) (sectors : Se
   h = hand_of cached held all
 
   abbrev plan : Ask Plan
-  plan = plan_of h birth o
+  plan = plan_of h birth when o
 
   abbrev c : AtHand
   c = at_hand cached held
@@ -42,6 +42,6 @@ module _ (o : Op) (cached : Cached) (held : Segments) (all : Bool) (sectors : Se
       AllByRecursion (λ e. is_metadata e ≡ true → sectors_at_hand cached held (edit_sector e) ≡ sectors (edit_sector e)) edits
   where_edited none f is [] among = tt
   where_edited none f is (e ∷ edits) among = (
-    λ i. edit_is cached held all tree.segments sectors of e i (none_missing c (looks plan s) none (edited_at e) (edits_are_looked_at o h s birth f is e (among e (has_head e edits)) i)),
+    λ i. edit_is cached held all tree.segments sectors of e i (none_missing c (looks plan s) none (edited_at e) (edits_are_looked_at o h s birth when f is e (among e (has_head e edits)) i)),
     where_edited none f is edits (λ d h. among d (has_more e d edits h)),
   )

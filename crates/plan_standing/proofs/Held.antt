@@ -97,7 +97,7 @@ module _ (cached : Cached) (held : Segments) (all : Bool) (segments : ℕ) (sect
   directory_is k part (Some block) e h = cached_is (sector_of (region.Small k part)) block e
 
   pub edit_is : (e : Edit) → is_metadata e ≡ true → is_at_hand (at_hand cached held) (edited_at e) ≡ true → sectors_at_hand cached held (edit_sector e) ≡ sectors (edit_sector e)
-  edit_is (SetInode i x) m h = inode_is i (value_at cached (sector_of (region.Inode i))) refl h
+  edit_is (SetInode i x dated) m h = inode_is i (value_at cached (sector_of (region.Inode i))) refl h
   edit_is (SetBit i b) m h = segment_is (i / 64) h
   edit_is (SetUse k u) m h = segment_is (k / 1024) h
   edit_is (SetPlace k p o) m h = directory_is k (p / 7) (value_at cached (sector_of (region.Small k (p / 7)))) refl h

@@ -25,11 +25,11 @@ use Rattle.plan_standing.specs.Laws.{HasPath, PlansStand}
 use Rattle.plan_standing.proofs.AllPlans.{one_stands}
 
 of_names : (o : Op) → IsPlanned o → HasFitPlan o → StandsWhenPlanned o
-of_names o planned fit cached held all sectors tree birth m allowed of below new small count =
-    one_stands o (λ h s tree n birth m of hand new files. planned h s tree n birth m of hand new) fit cached held all sectors tree birth m allowed of below new small count
+of_names o planned fit cached held all sectors tree birth when m allowed of below new small timely count =
+    one_stands o (λ h s tree n birth when m of hand new files. planned h s tree n birth when m of hand new) fit cached held all sectors tree birth when m allowed of below new small timely count
 
 of_files : (o : Op) → IsPlannedForFiles o → HasFitPlan o → StandsWhenPlanned o
-of_files o planned fit cached held all sectors tree birth m allowed of below new small count = one_stands o planned fit cached held all sectors tree birth m allowed of below new small count
+of_files o planned fit cached held all sectors tree birth when m allowed of below new small timely count = one_stands o planned fit cached held all sectors tree birth when m allowed of below new small timely count
 
 -- each has fit edits
 pub all_fit : (o : Op) → HasPath o → HasFitPlan o

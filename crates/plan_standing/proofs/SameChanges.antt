@@ -7,11 +7,11 @@ use Rattle.std.specs.declared.cmp.Ordering.{Ordering}
 use Rattle.std.specs.declared.cmp.Ordering.TheVariants.{Less, Equal, Greater}
 use Rattle.std.specs.Map.{keys_of}
 use Rattle.sector_bytes.specs.Bytes.{number_at}
-use Rattle.sector_bytes.specs.Patches.{patches_of}
+use Rattle.sector_bytes.specs.Patches.{patches_with}
 use Rattle.sector_bytes.specs.Sectors.{Sectors}
 use Rattle.disk_definitions.specs.Standing.{version_at}
 use Rattle.store_changes.specs.Edits.{Edit}
-use Rattle.plan_definitions.specs.Written.{edit_sector, edited_block, edited_sectors, all_edited, is_metadata, metadata_sector, with_number, ascending, change_by, change_of, changes_of}
+use Rattle.plan_definitions.specs.Written.{forced_in, edit_sector, edited_block, edited_sectors, all_edited, is_metadata, metadata_sector, with_number, ascending, change_by, change_of, changes_of}
 
 module _ (a b : Sectors) where
   -- the edits go by what the sector holds
@@ -27,12 +27,12 @@ module _ (a b : Sectors) where
   abbrev Agree : List ℕ → Type 0
   Agree ns = AllByRecursion (λ n. a n ≡ b n) ns
 
-  changes_same : (edits : List Edit) (ns : List ℕ) → Agree ns → filter_map (change_of a (all_edited a edits)) ns ≡ filter_map (change_of b (all_edited b edits)) ns
+  changes_same : (edits : List Edit) (ns : List ℕ) → Agree ns → filter_map (change_of edits a (all_edited a edits)) ns ≡ filter_map (change_of edits b (all_edited b edits)) ns
   changes_same edits [] h = refl
   changes_same edits (n ∷ ns) h = ap₂ (λ o more. cons_option o more) here (changes_same edits ns h.1)
     where
-      here : change_of a (all_edited a edits) n ≡ change_of b (all_edited b edits) n
-      here = ap₂ (λ old new. change_by n (number_at 8 0 old + 1) (patches_of old new)) h.0 (edited_same edits a b n h.0)
+      here : change_of edits a (all_edited a edits) n ≡ change_of edits b (all_edited b edits) n
+      here = ap₂ (λ old new. change_by n (number_at 8 0 old + 1) (patches_with (forced_in edits n) old new)) h.0 (edited_same edits a b n h.0)
 
   -- a number among the sorted ones is one of those that were put there
   keys_agree : (sorted : List (ℕ × ℕ)) (n : ℕ) → Agree (keys_of sorted) → a n ≡ b n → Agree (keys_of (with_number sorted n))

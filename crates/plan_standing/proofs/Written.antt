@@ -57,7 +57,7 @@ small_run block p e = go (param_fits (param_fields block) && bytes_eq (param_byt
 
 -- no edit writes the parameter sector
 not_param : (kind : Bool) (end : Store) (e : Edit) → NotTo kind region.Param end e
-not_param kind end (SetInode i x) f u q = cc
+not_param kind end (SetInode i x dated) f u q = cc
 not_param kind end (SetBit i b) f u q = cc
 not_param kind end (SetUse k x) f u q = cc
 not_param kind end (SetPlace k p o) f u q = cc
@@ -131,15 +131,15 @@ module _ (cached : Cached) (held : Segments) (all : Bool) (sectors : Sectors) (t
         let n = misses segments end false region.Param f.edits (few sectors tree below) refl fit.edits (not_param false end) in
         bytes_laid sectors f.edits 0 m ∙ all_else sectors f.edits 0 m n
 
-    module _ (o : Op) (birth m : ℕ) (new : IsNew tree birth) (meets : FinishMeets s (apply tree o birth m) f) where
+    module _ (o : Op) (birth when m : ℕ) (new : IsNew tree birth) (meets : FinishMeets s (apply tree o birth when m) f) where
       abbrev a : Applied
-      a = apply tree o birth m
+      a = apply tree o birth when m
 
       abbrev is : IsWritten below.most segments sectors f.edits
       is = written below.most segments sectors f.edits ready
 
       picture : Pictures (store_of segments (disk_after sectors f.edits)) (node_at a.tree) meets.naming
-      picture = pictures_go_by_what_counts end (store_of segments (disk_after sectors f.edits)) (node_at a.tree) meets.naming meets.tree.pictures (files_stay_fit tree o birth m stands.well_formed files_fit_now) is.says
+      picture = pictures_go_by_what_counts end (store_of segments (disk_after sectors f.edits)) (node_at a.tree) meets.naming meets.tree.pictures (files_stay_fit tree o birth when m stands.well_formed files_fit_now) is.says
 
       bound : (v : ℕ) → v ≤ below.most + 1 → v ≤ 131072 * stands.param.run
       bound v l = let b : below.most < 131072 * stands.param.run = below.below in omega arith
@@ -148,7 +148,7 @@ module _ (cached : Cached) (held : Segments) (all : Bool) (sectors : Sectors) (t
       after_stands = record {
         param = stands.param;
         parameters = ap param_in param_stays ∙ stands.parameters;
-        segments = segments_apply tree o birth m stands.well_formed.births ∙ stands.segments;
+        segments = segments_apply tree o birth when m stands.well_formed.births ∙ stands.segments;
         grammar = subst (λ k. IsInGrammar k (disk_after sectors f.edits)) stands.segments is.grammar;
         versions = subst (λ k. HasVersionsUpTo (131072 * stands.param.run) k (disk_after sectors f.edits)) stands.segments (record {
           bitmaps = λ k l. bound (version_at (disk_after sectors f.edits) (sector_of (region.Segment k))) (is.versions.bitmaps k l);
@@ -156,7 +156,7 @@ module _ (cached : Cached) (held : Segments) (all : Bool) (sectors : Sectors) (t
           directories = λ k p lk lp u. bound (version_at (disk_after sectors f.edits) (sector_of (region.Small k p))) (is.versions.directories k p lk lp u);
         });
         well_formed = meets.tree.well_formed;
-        reached = apply_keeps_reached tree o birth m stands.well_formed stands.reached new;
+        reached = apply_keeps_reached tree o birth when m stands.well_formed stands.reached new;
         naming = meets.naming;
         picture = subst (λ k. Pictures (store_of k (disk_after sectors f.edits)) (node_at a.tree) meets.naming) stands.segments picture;
         root = meets.tree.root;

@@ -8,7 +8,7 @@ use Rattle.plan_steps.specs.declared.edit.Edit.{Edit as CodeEdit}
 use Rattle.plan_steps.specs.declared.edit.Edit.TheVariants as edit
 
 abbrev pub edit_of : CodeEdit → Edit
-edit_of (edit.Inode i x) = SetInode i (option_map stored x)
+edit_of (edit.Inode i x dated) = SetInode i (option_map stored x) dated
 edit_of (edit.Bit i used) = SetBit i used
 edit_of (edit.Use k state) = SetUse k (use_by (state_number state))
 edit_of (edit.Place k p e) = SetPlace k p (option_map entered e)

@@ -9,7 +9,7 @@ use Rattle.plan_steps.specs.declared.nodes.NewNode.TheVariants as new
 
 -- an empty file, an empty directory, or a link
 abbrev pub node_of : NewNode → Node
-node_of new.File = File [] 1
+node_of new.File = File [] 1 0
 node_of new.Directory = Dir [] 0
 node_of (new.Link target) = Link target 1
 

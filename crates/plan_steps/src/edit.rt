@@ -10,10 +10,12 @@ use std::alloc::Global;
 /// The change of one thing of a disk. Blocks are numbered over all segments, small ones and large ones apart.
 #[derive(Debug, Drop)]
 pub enum Edit {
-    /// An inode, in use or free. Its version counts for nothing.
+    /// An inode, in use or free. Its version counts for nothing. Where it is `dated`, the inode's time goes into the change of its
+    /// sector even where it stays: so it is with a file that is written or cut.
     Inode {
         number: u32,
         inode: Option<Inode>,
+        dated: bool,
     },
     /// Whether the bitmap has an inode in use.
     Bit {

@@ -91,6 +91,7 @@ fn grow(edits: &mut Vec<Edit>, directory: &NumberedInode, block: u32) -> Result<
         Edit::Inode {
             number: directory.number,
             inode: Some(inode),
+            dated: false,
         },
     )
 }
@@ -113,6 +114,7 @@ fn put_entry(
         Edit::Inode {
             number: directory.number,
             inode: Some(inode),
+            dated: false,
         },
     )?;
     set_place(edits, &directory.inode, place, Some(*entry))
@@ -135,6 +137,7 @@ pub fn take_entry(
         Edit::Inode {
             number: directory.number,
             inode: Some(inode),
+            dated: false,
         },
     )?;
     set_place(edits, &directory.inode, place, None)

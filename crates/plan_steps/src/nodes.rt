@@ -55,6 +55,7 @@ pub fn new_node(
         Edit::Inode {
             number,
             inode: Some(inode),
+            dated: false,
         },
     )?;
     mark(edits, number, true)
@@ -74,7 +75,7 @@ fn inode_for(birth: u64, node: &NewNode) -> Inode
 // The inode of an empty file or directory.
 fn bare(kind: u8, birth: u64) -> Inode
     requires { kind ≤ 2 }
-    ensures { stored result ≡ record { kind = kind; links = 1; size = 0; birth = birth; blocks = 0; small = λ j. 0; large = 0; target = [] } }
+    ensures { stored result ≡ record { kind = kind; links = 1; size = 0; birth = birth; blocks = 0; small = λ j. 0; large = 0; when = 0; target = [] } }
 {
     Inode {
         version: 0,
@@ -85,6 +86,7 @@ fn bare(kind: u8, birth: u64) -> Inode
         birth,
         small: [0; 16],
         large: 0,
+        when: 0,
         target: [0; 384],
     }
 }
@@ -103,6 +105,7 @@ fn link(birth: u64, target: &Target) -> Inode
         birth,
         small: [0; 16],
         large: 0,
+        when: 0,
         target: bytes,
     }
 }
@@ -127,6 +130,7 @@ pub fn relink(edits: &mut Vec<Edit>, node: &NumberedInode, links: u16) -> Result
         Edit::Inode {
             number: node.number,
             inode: Some(inode),
+            dated: false,
         },
     )
 }
@@ -205,13 +209,14 @@ fn drop_large(edits: &mut Vec<Edit>, inode: &Inode) -> Result<(), NoMemory>
 
 // The inode is free.
 fn drop_inode(edits: &mut Vec<Edit>, number: u32) -> Result<(), NoMemory>
-    ensures ok { OnOk result (edits_of edits.new.items ≡ edits_of edits.old.items ++ SetInode number None ∷ SetBit number false ∷ []) }
+    ensures ok { OnOk result (edits_of edits.new.items ≡ edits_of edits.old.items ++ SetInode number None false ∷ SetBit number false ∷ []) }
 {
     push(
         edits,
         Edit::Inode {
             number,
             inode: None,
+            dated: false,
         },
     )?;
     mark(edits, number, false)

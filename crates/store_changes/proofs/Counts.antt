@@ -18,19 +18,19 @@ use Rattle.store_changes.proofs.Rooms.{dir_use}
 pub cell_block : (x : Option Node) (j : ℕ) (c : Cell) → cell_in x j ≡ Some c → j < 65536 → (j / 4096 < blocks_of x) × (use_by x ≡ Bytes)
 cell_block None j c e l = absurd (cc)
 cell_block (Some (Dir entries blocks)) j c e l = absurd (cc)
-cell_block (Some (File cells links)) j c e l = let w : j < length cells = slice_get_within cells j c e in (omega arith, refl)
+cell_block (Some (File cells links when)) j c e l = let w : j < length cells = slice_get_within cells j c e in (omega arith, refl)
 cell_block (Some (Link target links)) j c e l = absurd (cc)
 
 pub cell_large : (x : Option Node) (j : ℕ) (c : Cell) → cell_in x j ≡ Some c → 65536 ≤ j → has_large x ≡ true
 cell_large None j c e l = absurd (cc)
 cell_large (Some (Dir entries blocks)) j c e l = absurd (cc)
-cell_large (Some (File cells links)) j c e l = let w : j < length cells = slice_get_within cells j c e in of_lt 65536 (length cells) (omega arith)
+cell_large (Some (File cells links when)) j c e l = let w : j < length cells = slice_get_within cells j c e in of_lt 65536 (length cells) (omega arith)
 cell_large (Some (Link target links)) j c e l = absurd (cc)
 
-pub cell_fits : (x : Option Node) (j : ℕ) (c : Cell) → ((links : ℕ) (cells : List Cell) → x ≡ Some (File cells links) → length cells ≤ 1114112) → cell_in x j ≡ Some c → j < 1114112
+pub cell_fits : (x : Option Node) (j : ℕ) (c : Cell) → ((links when : ℕ) (cells : List Cell) → x ≡ Some (File cells links when) → length cells ≤ 1114112) → cell_in x j ≡ Some c → j < 1114112
 cell_fits None j c fit e = absurd (cc)
 cell_fits (Some (Dir entries blocks)) j c fit e = absurd (cc)
-cell_fits (Some (File cells links)) j c fit e = let w : j < length cells = slice_get_within cells j c e in let f : length cells ≤ 1114112 = fit links cells refl in omega arith
+cell_fits (Some (File cells links when)) j c fit e = let w : j < length cells = slice_get_within cells j c e in let f : length cells ≤ 1114112 = fit links when cells refl in omega arith
 cell_fits (Some (Link target links)) j c fit e = absurd (cc)
 
 pub below_56 : (q : ℕ) → q % 56 < 56
@@ -89,4 +89,4 @@ pub pictures_go_by_what_counts : PicturesGoByWhatCounts
 pictures_go_by_what_counts s t at n g fit same = by_what_counts s t at n g fit same
 
 pub files_fit : FilesFitBySizes
-files_fit s at n g sizes b links cells is = sizes (n.inode b) (inode_of (n.stamp b) (n.block b) (n.large b) (File cells links)) (inode_is s at n g b (File cells links) is) refl
+files_fit s at n g sizes b links when cells is = sizes (n.inode b) (inode_of (n.stamp b) (n.block b) (n.large b) (File cells links when)) (inode_is s at n g b (File cells links when) is) refl

@@ -57,7 +57,7 @@ module _ (s : Store) (at : Nodes) (n : Naming) (g : Pictures s at n) (b : ℕ) (
 
   dir_room : (x : Node) → freed (kind_of x) ≡ Empty → blocks_of (Some x) ≡ room_in (Some x)
   dir_room (Dir entries blocks) e = refl
-  dir_room (File cells links) e = absurd (cc)
+  dir_room (File cells links when) e = absurd (cc)
   dir_room (Link target links) e = absurd (cc)
 
   no_entry : (k p j : ℕ) → p < 56 → n.owner k ≡ Some (b, j) → freed (kind_of x) ≡ Empty → (o : Option StoredEntry) → s.place k p ≡ o → o ≡ None

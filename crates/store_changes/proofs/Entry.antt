@@ -38,11 +38,11 @@ stored_is s at n g d node x is e = some_node x (inode_of (n.stamp d) (n.block d)
 
 -- the edits by the naming
 put_is : (i stamp large blocks q : ℕ) (block : ℕ → ℕ) (e : StoredEntry) (old new : Entries) → q < 56 * blocks → length new ≡ length old + 1 →
-    put_entry i (inode_of stamp block large (Dir old blocks)) q e ≡ SetInode i (Some (inode_of stamp block large (Dir new blocks))) ∷ SetPlace (block (q / 56)) (q % 56) (Some e) ∷ []
+    put_entry i (inode_of stamp block large (Dir old blocks)) q e ≡ SetInode i (Some (inode_of stamp block large (Dir new blocks))) false ∷ SetPlace (block (q / 56)) (q % 56) (Some e) ∷ []
 put_is i stamp large blocks q block e old new l one = rw (of_lt (q / 56) blocks (which_block q blocks l), one) refl
 
 take_is : (i stamp large blocks q : ℕ) (block : ℕ → ℕ) (old new : Entries) → q < 56 * blocks → length old ≡ length new + 1 →
-    take_entry i (inode_of stamp block large (Dir old blocks)) q ≡ SetInode i (Some (inode_of stamp block large (Dir new blocks))) ∷ SetPlace (block (q / 56)) (q % 56) None ∷ []
+    take_entry i (inode_of stamp block large (Dir old blocks)) q ≡ SetInode i (Some (inode_of stamp block large (Dir new blocks))) false ∷ SetPlace (block (q / 56)) (q % 56) None ∷ []
 take_is i stamp large blocks q block old new l one = let e : length old - 1 ≡ length new = omega arith in rw (of_lt (q / 56) blocks (which_block q blocks l), e) refl
 
 module _ (s : Store) (at : Nodes) (n : Naming) (g : Pictures s at n) (d blocks : ℕ) (name : List ℕ) (old new : Entries) (is : at d ≡ Some (Dir old blocks)) where
@@ -61,7 +61,7 @@ module _ (s : Store) (at : Nodes) (n : Naming) (g : Pictures s at n) (d blocks :
     m = named_at n d name q
 
     abbrev t : Store
-    t = edited_all s (SetInode (n.inode d) (Some (inode_of (n.stamp d) (n.block d) (n.large d) (Dir new blocks))) ∷ SetPlace (n.block d (q / 56)) (q % 56) (Some (entry_of n name b)) ∷ [])
+    t = edited_all s (SetInode (n.inode d) (Some (inode_of (n.stamp d) (n.block d) (n.large d) (Dir new blocks))) false ∷ SetPlace (n.block d (q / 56)) (q % 56) (Some (entry_of n name b)) ∷ [])
 
     room : q < 56 * room_in (at d)
     room = rw is inside
@@ -131,7 +131,7 @@ module _ (s : Store) (at : Nodes) (n : Naming) (g : Pictures s at n) (d blocks :
     r = n.spot d name
 
     abbrev u : Store
-    u = edited_all s (SetInode (n.inode d) (Some (inode_of (n.stamp d) (n.block d) (n.large d) (Dir new blocks))) ∷ SetPlace (n.block d (r / 56)) (r % 56) None ∷ [])
+    u = edited_all s (SetInode (n.inode d) (Some (inode_of (n.stamp d) (n.block d) (n.large d) (Dir new blocks))) false ∷ SetPlace (n.block d (r / 56)) (r % 56) None ∷ [])
 
     stood : (r < 56 * room_in (at d)) × (dir_place s n d r ≡ Some (entry_of n name b))
     stood = g.names d b name (rw is had)
@@ -181,7 +181,7 @@ module _ (s : Store) (at : Nodes) (n : Naming) (g : Pictures s at n) (d blocks :
 
 pub entries_come : EntriesCome
 entries_come s at n d blocks x old new name b q g dir more free =
-    let l : put_entry (n.inode d) x q (entry_of n name b) ≡ SetInode (n.inode d) (Some (inode_of (n.stamp d) (n.block d) (n.large d) (Dir new blocks))) ∷ SetPlace (n.block d (q / 56)) (q % 56) (Some (entry_of n name b)) ∷ [] =
+    let l : put_entry (n.inode d) x q (entry_of n name b) ≡ SetInode (n.inode d) (Some (inode_of (n.stamp d) (n.block d) (n.large d) (Dir new blocks))) false ∷ SetPlace (n.block d (q / 56)) (q % 56) (Some (entry_of n name b)) ∷ [] =
     ap (λ x. put_entry (n.inode d) x q (entry_of n name b)) (stored_is s at n g d (Dir old blocks) x dir.is dir.inode) ∙ put_is (n.inode d) (n.stamp d) (n.large d) blocks q (n.block d) (entry_of n name b) old new free.inside more.one in
     subst (λ l. Leads s (edited_all s l) at n (named_at n d name q) d (Some (Dir new blocks))) (sym l)
     (record {
@@ -193,7 +193,7 @@ pub entries_go : EntriesGo
 entries_go s at n d blocks x old new name g dir less =
     let b = a_some (entry_at old name) less.had in
     let inside : n.spot d name < 56 * blocks = subst (λ y. n.spot d name < 56 * room_in y) dir.is (g.names d b.0 name (rw dir.is b.1)).0 in
-    let l : take_entry (n.inode d) x (n.spot d name) ≡ SetInode (n.inode d) (Some (inode_of (n.stamp d) (n.block d) (n.large d) (Dir new blocks))) ∷ SetPlace (n.block d (n.spot d name / 56)) (n.spot d name % 56) None ∷ [] =
+    let l : take_entry (n.inode d) x (n.spot d name) ≡ SetInode (n.inode d) (Some (inode_of (n.stamp d) (n.block d) (n.large d) (Dir new blocks))) false ∷ SetPlace (n.block d (n.spot d name / 56)) (n.spot d name % 56) None ∷ [] =
     ap (λ x. take_entry (n.inode d) x (n.spot d name)) (stored_is s at n g d (Dir old blocks) x dir.is dir.inode) ∙ take_is (n.inode d) (n.stamp d) (n.large d) blocks (n.spot d name) (n.block d) old new inside less.one in
     subst (λ l. Leads s (edited_all s l) at n n d (Some (Dir new blocks))) (sym l)
     (record {

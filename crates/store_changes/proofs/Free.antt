@@ -18,7 +18,7 @@ a_some (Some x) e = (x, refl)
 pub in_use : (x : Option Node) (j : ℕ) → j < blocks_of x → is_unused (use_by x) ≡ false
 in_use None j l = absurd (omega arith)
 in_use (Some (Dir entries blocks)) j l = refl
-in_use (Some (File cells links)) j l = refl
+in_use (Some (File cells links when)) j l = refl
 in_use (Some (Link target links)) j l = absurd (omega arith)
 
 pub no_owner : (s : Store) (at : Nodes) (n : Naming) → Pictures s at n → (k : ℕ) → is_unused (s.use_of k) ≡ true → n.owner k ≡ None

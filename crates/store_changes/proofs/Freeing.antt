@@ -51,9 +51,9 @@ large_only large false s = ((refl, refl, refl, refl, refl), refl)
 large_only large true s = subst (λ l. IsElseSame s (edited_all s l) × ((edited_all s l).use_of ≡ s.use_of)) (sym (gone_is large)) ((refl, refl, refl, refl, refl), refl)
 
 drop_is : (i stamp large : ℕ) (block : ℕ → ℕ) (x : Node) →
-    drop_node i (inode_of stamp block large x) ≡ uses_to (first_blocks (blocks_of (Some x)) block) (freed (kind_of x)) (blocks_of (Some x)) ++ (large_gone (if has_large (Some x) then large + 1 else 0) ++ (SetInode i None ∷ SetBit i false ∷ []))
+    drop_node i (inode_of stamp block large x) ≡ uses_to (first_blocks (blocks_of (Some x)) block) (freed (kind_of x)) (blocks_of (Some x)) ++ (large_gone (if has_large (Some x) then large + 1 else 0) ++ (SetInode i None false ∷ SetBit i false ∷ []))
 drop_is i stamp large block (Dir entries blocks) = refl
-drop_is i stamp large block (File cells links) = refl
+drop_is i stamp large block (File cells links when) = refl
 drop_is i stamp large block (Link target links) = refl
 
 module _ (s : Store) (at : Nodes) (n : Naming) (g : Pictures s at n) (b : ℕ) (x : Node) (is : at b ≡ Some x) where
@@ -76,7 +76,7 @@ module _ (s : Store) (at : Nodes) (n : Naming) (g : Pictures s at n) (b : ℕ) (
   late = edited_all mid (large_gone large)
 
   abbrev t : Store
-  t = edited_all s (uses_to small u m ++ (large_gone large ++ (SetInode (n.inode b) None ∷ SetBit (n.inode b) false ∷ [])))
+  t = edited_all s (uses_to small u m ++ (large_gone large ++ (SetInode (n.inode b) None false ∷ SetBit (n.inode b) false ∷ [])))
 
   inside : (j : ℕ) → j < m → j < blocks_of (at b)
   inside j l = rw is l
@@ -125,8 +125,8 @@ module _ (s : Store) (at : Nodes) (n : Naming) (g : Pictures s at n) (b : ℕ) (
   freed_is =
       let first = uses_only small u m s in
       let then_large = large_only (n.large b) (has_large (Some x)) mid in
-      let last : t ≡ edited_all late (SetInode (n.inode b) None ∷ SetBit (n.inode b) false ∷ []) =
-      edited_append s (uses_to small u m) (large_gone large ++ (SetInode (n.inode b) None ∷ SetBit (n.inode b) false ∷ [])) ∙ edited_append mid (large_gone large) (SetInode (n.inode b) None ∷ SetBit (n.inode b) false ∷ []) in
+      let last : t ≡ edited_all late (SetInode (n.inode b) None false ∷ SetBit (n.inode b) false ∷ []) =
+      edited_append s (uses_to small u m) (large_gone large ++ (SetInode (n.inode b) None false ∷ SetBit (n.inode b) false ∷ [])) ∙ edited_append mid (large_gone large) (SetInode (n.inode b) None false ∷ SetBit (n.inode b) false ∷ []) in
       let inodes : put late.inode (n.inode b) None ≡ put s.inode (n.inode b) None = ap (λ f. put f (n.inode b) None) (then_large.0.0 ∙ first.0.0) in
       let bits : put late.bit (n.inode b) false ≡ put s.bit (n.inode b) false = ap (λ f. put f (n.inode b) false) (then_large.0.1 ∙ first.0.1) in
       let uses : late.use_of ≡ (dropped s n b x).use_of = fun_ext (λ k. ap (λ f. f k) then_large.1 ∙ use_case k (n.owner k) refl) in

@@ -1,5 +1,5 @@
 -- A directory gets a block.
-use Rattle.std.proofs.Common.{⊎_elim, ◌⊎◌, ◌↔◌, ◌-◌, ℕ, ◌+◌, ◌*◌, ◌/◌, ◌%◌, ◌<◌, ◌≤◌, ◌≡◌, ◌≢◌, true, List, Some, None, refl, sym, ◌∙◌, ap, subst, arith, is_some, [], ◌∷◌, length}
+use Rattle.std.proofs.Common.{⊎_elim, ◌⊎◌, ◌↔◌, ◌-◌, ℕ, ◌+◌, ◌*◌, ◌/◌, ◌%◌, ◌<◌, ◌≤◌, ◌≡◌, ◌≢◌, true, false, List, Some, None, refl, sym, ◌∙◌, ap, subst, arith, is_some, [], ◌∷◌, length}
 use Rattle.std.proofs.Math.Path.{fun_ext}
 use Rattle.std.proofs.lemmas.Bool.Decides.{nat_tests}
 use Rattle.tree_definitions.specs.declared.node.Node.TheVariants.{Dir}
@@ -26,9 +26,9 @@ put_first f n k = fun_ext (λ j. grind (arith, nat_tests))
 
 -- the edits by the naming
 grow_is : (i stamp large blocks k : ℕ) (block : ℕ → ℕ) (entries : Entries) →
-    grow i (inode_of stamp block large (Dir entries blocks)) k ≡ SetUse k OfEntries ∷ SetInode i (Some (inode_of stamp (put block blocks k) large (Dir entries (blocks + 1)))) ∷ []
+    grow i (inode_of stamp block large (Dir entries blocks)) k ≡ SetUse k OfEntries ∷ SetInode i (Some (inode_of stamp (put block blocks k) large (Dir entries (blocks + 1)))) false ∷ []
 grow_is i stamp large blocks k block entries =
-    ap (λ f. SetUse k OfEntries ∷ SetInode i (Some (record { kind = 2; links = 1; size = length entries; birth = stamp; blocks = blocks + 1; small = f; large = 0; target = [] })) ∷ []) (put_first block blocks k)
+    ap (λ f. SetUse k OfEntries ∷ SetInode i (Some (record { kind = 2; links = 1; size = length entries; birth = stamp; blocks = blocks + 1; small = f; large = 0; when = 0; target = [] })) false ∷ []) (put_first block blocks k)
 
 module _ (s : Store) (at : Nodes) (n : Naming) (g : Pictures s at n) (d blocks k : ℕ) (entries : Entries) (is : at d ≡ Some (Dir entries blocks))
     (free : n.owner k ≡ None) (clear : (p : ℕ) → p < 56 → s.place k p ≡ None) where
@@ -39,7 +39,7 @@ module _ (s : Store) (at : Nodes) (n : Naming) (g : Pictures s at n) (d blocks k
   to = put_node at d (Some (Dir entries (blocks + 1)))
 
   abbrev t : Store
-  t = edited_all s (SetUse k OfEntries ∷ SetInode (n.inode d) (Some (inode_of (n.stamp d) (put (n.block d) blocks k) (n.large d) (Dir entries (blocks + 1)))) ∷ [])
+  t = edited_all s (SetUse k OfEntries ∷ SetInode (n.inode d) (Some (inode_of (n.stamp d) (put (n.block d) blocks k) (n.large d) (Dir entries (blocks + 1)))) false ∷ [])
 
   there : is_some (at d) ≡ true
   there = rw is refl
@@ -121,7 +121,7 @@ module _ (s : Store) (at : Nodes) (n : Naming) (g : Pictures s at n) (d blocks k
 pub directories_grow : DirectoriesGrow
 directories_grow s at n d blocks x entries k g dir block =
     let free : n.owner k ≡ None = no_owner s at n g k block.free in
-    let l : grow (n.inode d) x k ≡ SetUse k OfEntries ∷ SetInode (n.inode d) (Some (inode_of (n.stamp d) (put (n.block d) blocks k) (n.large d) (Dir entries (blocks + 1)))) ∷ [] =
+    let l : grow (n.inode d) x k ≡ SetUse k OfEntries ∷ SetInode (n.inode d) (Some (inode_of (n.stamp d) (put (n.block d) blocks k) (n.large d) (Dir entries (blocks + 1)))) false ∷ [] =
     ap (λ x. grow (n.inode d) x k) (stored_is s at n g d (Dir entries blocks) x dir.is dir.inode) ∙ grow_is (n.inode d) (n.stamp d) (n.large d) blocks k (n.block d) entries in
     subst (λ l. Leads s (edited_all s l) at n (named_block n d blocks k) d (Some (Dir entries (blocks + 1)))) (sym l)
     (record {

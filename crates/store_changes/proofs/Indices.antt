@@ -26,7 +26,7 @@ index_found block (suc n) j l one =
     (λ t. ap (λ x. Some x) (one n (omega arith) (eq_of (block n) (block j) t)))
     (λ t. let f : n ≢ j = λ e. ne_of (block n) (block j) t (ap block e) in index_found block n j (grind arith) (λ i h. one i (omega arith)))
 
-module _ (s : Store) (at : Nodes) (n : Naming) (g : Pictures s at n) (b links large : ℕ) (old new : List Cell) (block : ℕ → ℕ) (is : at b ≡ Some (File old links)) (has : HasBlocks s n b old new block large) where
+module _ (s : Store) (at : Nodes) (n : Naming) (g : Pictures s at n) (b links was large : ℕ) (old new : List Cell) (block : ℕ → ℕ) (is : at b ≡ Some (File old links was)) (has : HasBlocks s n b old new block large) where
   abbrev before : ℕ
   before = small_blocks_of (length old)
 

@@ -22,7 +22,7 @@ HasNothing x = (blocks_of x ≡ 0) × (has_large x ≡ false) × (room_in x ≡ 
 
 pub has_nothing : (x : Node) → IsBare x → HasNothing (Some x)
 has_nothing (Dir entries blocks) bare = subst (λ l. HasNothing (Some (Dir l blocks))) (sym bare.0) (bare.1, refl, bare.1, λ m. refl, λ j. refl)
-has_nothing (File cells links) bare = subst (λ l. HasNothing (Some (File l links))) (sym bare) (refl, refl, refl, λ m. refl, λ j. refl)
+has_nothing (File cells links when) bare = subst (λ l. HasNothing (Some (File l links when))) (sym bare) (refl, refl, refl, λ m. refl, λ j. refl)
 has_nothing (Link target links) bare = (refl, refl, refl, λ m. refl, λ j. refl)
 
 no_blocks : (f g : ℕ → ℕ) → first_blocks 0 f ≡ first_blocks 0 g
@@ -32,12 +32,12 @@ no_blocks f g = fun_ext (λ j. grind (arith, nat_tests))
 bare_inode : (stamp large : ℕ) (block : ℕ → ℕ) (x : Node) → IsBare x → inode_of stamp (λ j. 0) 0 x ≡ inode_of stamp block large x
 bare_inode stamp large block (Dir entries blocks) bare =
     subst (λ k. inode_of stamp (λ j. 0) 0 (Dir entries k) ≡ inode_of stamp block large (Dir entries k)) (sym bare.1)
-    (ap (λ f. record { kind = 2; links = 1; size = length entries; birth = stamp; blocks = 0; small = f; large = 0; target = [] }) (no_blocks (λ j. 0) block))
-bare_inode stamp large block (File cells links) bare =
-    subst (λ k. inode_of stamp (λ j. 0) 0 (File k links) ≡ inode_of stamp block large (File k links)) (sym bare)
-    (ap (λ f. record { kind = 1; links = links; size = 0; birth = stamp; blocks = 0; small = f; large = 0; target = [] }) (no_blocks (λ j. 0) block))
+    (ap (λ f. record { kind = 2; links = 1; size = length entries; birth = stamp; blocks = 0; small = f; large = 0; when = 0; target = [] }) (no_blocks (λ j. 0) block))
+bare_inode stamp large block (File cells links when) bare =
+    subst (λ k. inode_of stamp (λ j. 0) 0 (File k links when) ≡ inode_of stamp block large (File k links when)) (sym bare)
+    (ap (λ f. record { kind = 1; links = links; size = 0; birth = stamp; blocks = 0; small = f; large = 0; when = when; target = [] }) (no_blocks (λ j. 0) block))
 bare_inode stamp large block (Link target links) bare =
-    ap (λ f. record { kind = 3; links = links; size = length target; birth = stamp; blocks = 0; small = f; large = 0; target = target }) (no_blocks (λ j. 0) block)
+    ap (λ f. record { kind = 3; links = links; size = length target; birth = stamp; blocks = 0; small = f; large = 0; when = 0; target = target }) (no_blocks (λ j. 0) block)
 
 module _ (s : Store) (at : Nodes) (n : Naming) (g : Pictures s at n) (b i stamp : ℕ) (x : Node) (may : MayCome s at b i x) where
   abbrev m : Naming

@@ -27,15 +27,15 @@ pub record AreAlike (x y : Node) : Type 0 where
 
 alike : (links : ℕ) (x : Node) → AreAlike x (with_links links x)
 alike links (Dir entries blocks) = record { kinds = refl; blocks = refl; larges = refl; rooms = refl; names = λ m. refl; cells = λ j. refl; uses = refl }
-alike links (File cells old) = record { kinds = refl; blocks = refl; larges = refl; rooms = refl; names = λ m. refl; cells = λ j. refl; uses = refl }
+alike links (File cells old when) = record { kinds = refl; blocks = refl; larges = refl; rooms = refl; names = λ m. refl; cells = λ j. refl; uses = refl }
 alike links (Link target old) = record { kinds = refl; blocks = refl; larges = refl; rooms = refl; names = λ m. refl; cells = λ j. refl; uses = refl }
 
-relink_is : (i stamp large links : ℕ) (block : ℕ → ℕ) (x : Node) → is_dir (Some x) ≡ false → relink i (inode_of stamp block large x) links ≡ SetInode i (Some (inode_of stamp block large (with_links links x))) ∷ []
+relink_is : (i stamp large links : ℕ) (block : ℕ → ℕ) (x : Node) → is_dir (Some x) ≡ false → relink i (inode_of stamp block large x) links ≡ SetInode i (Some (inode_of stamp block large (with_links links x))) false ∷ []
 relink_is i stamp large links block (Dir entries blocks) e = absurd (cc)
-relink_is i stamp large links block (File cells old) e = refl
+relink_is i stamp large links block (File cells old when) e = refl
 relink_is i stamp large links block (Link target old) e = refl
 
-pub relinked : (s : Store) (at : Nodes) (n : Naming) → Pictures s at n → (b : ℕ) (x y : Node) → at b ≡ Some x → AreAlike x y → Pictures (edited_all s (SetInode (n.inode b) (Some (inode_of (n.stamp b) (n.block b) (n.large b) y)) ∷ [])) (put_node at b (Some y)) n
+pub relinked : (s : Store) (at : Nodes) (n : Naming) → Pictures s at n → (b : ℕ) (x y : Node) → at b ≡ Some x → AreAlike x y → Pictures (edited_all s (SetInode (n.inode b) (Some (inode_of (n.stamp b) (n.block b) (n.large b) y)) false ∷ [])) (put_node at b (Some y)) n
 relinked s at n g b x y is alike = record {
   inodes = set_inode s at n g b y (rw is refl);
   bits = g.bits;
@@ -56,7 +56,7 @@ relinked s at n g b x y is alike = record {
 
 pub links_change : LinksChange
 links_change s at n b links x node g has file =
-    let l : relink (n.inode b) x links ≡ SetInode (n.inode b) (Some (inode_of (n.stamp b) (n.block b) (n.large b) (with_links links node))) ∷ [] =
+    let l : relink (n.inode b) x links ≡ SetInode (n.inode b) (Some (inode_of (n.stamp b) (n.block b) (n.large b) (with_links links node))) false ∷ [] =
     ap (λ x. relink (n.inode b) x links) (stored_is s at n g b node x has.is has.inode) ∙ relink_is (n.inode b) (n.stamp b) (n.large b) links (n.block b) node file in
     subst (λ l. Leads s (edited_all s l) at n n b (Some (with_links links node))) (sym l)
     (record { pictures = relinked s at n g b node (with_links links node) has.is (alike links node); others = keeps_all at b n })

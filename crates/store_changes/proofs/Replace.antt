@@ -81,7 +81,7 @@ module _ (s : Store) (at : Nodes) (n : Naming) (g : Pictures s at n) (d a b bloc
   inode_stays : (o : Option ℕ) → inode_for n at o ≡ inode_for m to o
   inode_stays None = refl
   inode_stays (Some c) = at_put (λ o. inode_by n c (at c) ≡ inode_by n c o) at d (Some (Dir new blocks)) c
-      (λ e. ap (inode_by n c) (ap at e ∙ is) ∙ ap (λ z. Some (record { kind = 2; links = 1; size = z; birth = n.stamp c; blocks = blocks; small = first_blocks blocks (n.block c); large = 0; target = [] })) (sym instead.same))
+      (λ e. ap (inode_by n c) (ap at e ∙ is) ∙ ap (λ z. Some (record { kind = 2; links = 1; size = z; birth = n.stamp c; blocks = blocks; small = first_blocks blocks (n.block c); large = 0; when = 0; target = [] })) (sym instead.same))
       (λ e. refl)
 
   pub replaced_pictured : Pictures t to m

@@ -12,7 +12,7 @@ use Rattle.store_changes.proofs.Puts.{put2_other}
 pub room_le : (x : Option Node) → room_in x ≤ blocks_of x
 room_le None = omega arith
 room_le (Some (Dir entries blocks)) = omega arith
-room_le (Some (File cells links)) = omega arith
+room_le (Some (File cells links when)) = omega arith
 room_le (Some (Link target links)) = omega arith
 
 pub which_block : (q k : ℕ) → q < 56 * k → q / 56 < k
@@ -39,7 +39,7 @@ other_place s at n g v d q c p lq lp apart = put2_other s.place (n.block d (q / 
 use_dir : (x : Option Node) (q : ℕ) → q < 56 * room_in x → use_by x ≡ Entries
 use_dir None q l = absurd (omega arith)
 use_dir (Some (Dir entries blocks)) q l = refl
-use_dir (Some (File cells links)) q l = absurd (omega arith)
+use_dir (Some (File cells links when)) q l = absurd (omega arith)
 use_dir (Some (Link target links)) q l = absurd (omega arith)
 
 -- a directory's block is in use as one

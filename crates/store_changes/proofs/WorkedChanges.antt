@@ -63,10 +63,10 @@ root_comes = (nodes_come empty (λ b. None) unnamed 0 0 0 (Dir [] 0) nothing (re
 
 -- a file of birth 7 comes, in inode 1
 abbrev filed : Store
-filed = edited_all rooted (new_node 1 7 (File [] 1))
+filed = edited_all rooted (new_node 1 7 (File [] 1 0))
 
 abbrev file_at : Nodes
-file_at = put_node root_at 7 (Some (File [] 1))
+file_at = put_node root_at 7 (Some (File [] 1 0))
 
 abbrev file_named : Naming
 file_named = named_new root_named 7 1 7 1
@@ -75,7 +75,7 @@ no_names : (d : ℕ) (name : List ℕ) → find_in (root_at d) name ≡ None
 no_names d name = at_put (λ o. find_in o name ≡ None) (λ b. None) 0 (Some (Dir [] 0)) d (λ e. refl) (λ e. refl)
 
 file_comes : Pictures filed file_at file_named
-file_comes = (nodes_come rooted root_at root_named 7 1 7 (File [] 1) root_comes
+file_comes = (nodes_come rooted root_at root_named 7 1 7 (File [] 1 0) root_comes
     (record { new = refl; unnamed = λ d name e. absurd (let z : find_in (root_at d) name ≡ None = no_names d name in cc); free = refl; bare = refl })).pictures
 
 -- the root gets block 3
@@ -99,12 +99,12 @@ name_comes = (entries_come grown (put_node file_at 0 (Some (Dir [] 1))) (named_b
 what_stands : (entered.place 3 0 ≡ Some (record { name = 97 ∷ []; inode = 1; kind = 1 })) × (entered.bit 1 ≡ true) × (entered.use_of 3 ≡ Entries) × (entered.place 3 1 ≡ None)
 what_stands = (refl, refl, refl, refl)
 
--- the file, before it has its name, gets two cells in block 4
+-- the file, before it has its name, gets two cells in block 4 and the time 70
 abbrev cells : List Cell
 cells = cell.Byte 5 ∷ cell.Doubtful ∷ []
 
 abbrev written : Store
-written = edited_all filed (SetUse 4 Bytes ∷ SetBytes 4 0 (λ j. 5) ∷ SetInode 1 (Some (inode_of 7 (λ j. 4) 0 (File cells 1))) ∷ [])
+written = edited_all filed (SetUse 4 Bytes ∷ SetBytes 4 0 (λ j. 5) ∷ SetInode 1 (Some (inode_of 7 (λ j. 4) 0 (File cells 1 70))) true ∷ [])
 
 has_blocks : HasBlocks filed file_named 7 [] cells (λ j. 4) 0
 has_blocks = record {
@@ -120,7 +120,7 @@ allowed_bytes zero c e = subst (λ c. Allows c 5) (let i : cell.Byte 5 ≡ c = c
 allowed_bytes (suc zero) c e = subst (λ c. Allows c (byte_at written (λ j. 4) 0 1)) (let i : cell.Doubtful ≡ c = cc in i) tt
 allowed_bytes (suc (suc j)) c e = absurd (cc)
 
-is_written : IsResized filed written file_named 7 cells 1 (λ j. 4) 0
+is_written : IsResized filed written file_named 7 cells 1 70 (λ j. 4) 0
 is_written = record {
   inode = λ i. refl;
   bit = λ i. refl;
@@ -133,9 +133,9 @@ is_written = record {
 }
 
 small_files : FilesFit file_at
-small_files b links xs is = at_put (λ o. o ≡ Some (File xs links) → length xs ≤ 1114112) root_at 7 (Some (File [] 1)) b
+small_files b links when xs is = at_put (λ o. o ≡ Some (File xs links when) → length xs ≤ 1114112) root_at 7 (Some (File [] 1 0)) b
     (λ e i. let q : [] ≡ xs = cc in subst (λ ys. length ys ≤ 1114112) q (omega arith))
-    (λ e. at_put (λ o. o ≡ Some (File xs links) → length xs ≤ 1114112) (λ b. None) 0 (Some (Dir [] 0)) b (λ e i. absurd (cc)) (λ e i. absurd (cc))) is
+    (λ e. at_put (λ o. o ≡ Some (File xs links when) → length xs ≤ 1114112) (λ b. None) 0 (Some (Dir [] 0)) b (λ e i. absurd (cc)) (λ e i. absurd (cc))) is
 
-file_is_written : Pictures written (put_node file_at 7 (Some (File cells 1))) (named_resized file_named 7 cells (λ j. 4) 0)
-file_is_written = (files_are_resized filed written file_at file_named 7 1 [] cells (λ j. 4) 0 file_comes small_files refl has_blocks is_written).pictures
+file_is_written : Pictures written (put_node file_at 7 (Some (File cells 1 70))) (named_resized file_named 7 cells (λ j. 4) 0)
+file_is_written = (files_are_resized filed written file_at file_named 7 1 0 70 [] cells (λ j. 4) 0 file_comes small_files refl has_blocks is_written).pictures

@@ -12,15 +12,15 @@ use Rattle.store_changes.specs.Edits.Edit.{SetInode, SetBit, SetUse, SetPlace, S
 
 -- a node without blocks comes to stand in inode i
 abbrev pub new_node : ℕ → ℕ → Node → List Edit
-new_node i stamp node = SetInode i (Some (inode_of stamp (λ j. 0) 0 node)) ∷ SetBit i true ∷ []
+new_node i stamp node = SetInode i (Some (inode_of stamp (λ j. 0) 0 node)) false ∷ SetBit i true ∷ []
 
 -- place q of a directory, which is in inode i, gets an entry
 abbrev pub put_entry : ℕ → StoredNode → ℕ → StoredEntry → List Edit
-put_entry i x q e = SetInode i (Some (record x { size = x.size + 1 })) ∷ SetPlace (x.small (q / BLOCK_ENTRIES)) (q % BLOCK_ENTRIES) (Some e) ∷ []
+put_entry i x q e = SetInode i (Some (record x { size = x.size + 1 })) false ∷ SetPlace (x.small (q / BLOCK_ENTRIES)) (q % BLOCK_ENTRIES) (Some e) ∷ []
 
 -- place q loses its entry
 abbrev pub take_entry : ℕ → StoredNode → ℕ → List Edit
-take_entry i x q = SetInode i (Some (record x { size = x.size - 1 })) ∷ SetPlace (x.small (q / BLOCK_ENTRIES)) (q % BLOCK_ENTRIES) None ∷ []
+take_entry i x q = SetInode i (Some (record x { size = x.size - 1 })) false ∷ SetPlace (x.small (q / BLOCK_ENTRIES)) (q % BLOCK_ENTRIES) None ∷ []
 
 -- place q gets another entry
 abbrev pub replace_entry : StoredNode → ℕ → StoredEntry → List Edit
@@ -28,11 +28,11 @@ replace_entry x q e = SetPlace (x.small (q / BLOCK_ENTRIES)) (q % BLOCK_ENTRIES)
 
 -- a directory gets block k
 abbrev pub grow : ℕ → StoredNode → ℕ → List Edit
-grow i x k = SetUse k Entries ∷ SetInode i (Some (record x { blocks = x.blocks + 1; small = put x.small x.blocks k })) ∷ []
+grow i x k = SetUse k Entries ∷ SetInode i (Some (record x { blocks = x.blocks + 1; small = put x.small x.blocks k })) false ∷ []
 
 -- a node gets so many links
 abbrev pub relink : ℕ → StoredNode → ℕ → List Edit
-relink i x links = SetInode i (Some (record x { links = links })) ∷ []
+relink i x links = SetInode i (Some (record x { links = links })) false ∷ []
 
 -- what the blocks of a node of this kind are used for when it goes
 abbrev pub freed : ℕ → Use
@@ -49,4 +49,4 @@ large_gone large = if large == 0 then [] else SetLarge (large - 1) false ∷ []
 
 -- a node goes, with its blocks
 abbrev pub drop_node : ℕ → StoredNode → List Edit
-drop_node i x = uses_to x.small (freed x.kind) x.blocks ++ (large_gone x.large ++ (SetInode i None ∷ SetBit i false ∷ []))
+drop_node i x = uses_to x.small (freed x.kind) x.blocks ++ (large_gone x.large ++ (SetInode i None false ∷ SetBit i false ∷ []))

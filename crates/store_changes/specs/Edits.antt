@@ -8,10 +8,10 @@ use Rattle.disk_definitions.specs.Store.{Store, StoredNode, StoredEntry, Use}
 abbrev pub put_part : (ℕ → ℕ → ℕ) → ℕ → ℕ → (ℕ → ℕ) → ℕ → ℕ → ℕ
 put_part f k part bytes i j = if i == k then (if j / SECTOR_BYTES == part then bytes (j % SECTOR_BYTES) else f i j) else f i j
 
--- an inode or its bit; the use of a small block; a place for an entry; a large block's bit; 512 bytes of a small block, which has 8 parts,
+-- an inode, whose time goes into the change of its sector even where it stays if it is `dated`, or its bit; the use of a small block; a place for an entry; a large block's bit; 512 bytes of a small block, which has 8 parts,
 -- or of a large one, which has 2,048
 pub data Edit : Type 0 where
-  SetInode : (i : ℕ) (x : Option StoredNode) → Edit
+  SetInode : (i : ℕ) (x : Option StoredNode) (dated : Bool) → Edit
   SetBit : (i : ℕ) (b : Bool) → Edit
   SetUse : (k : ℕ) (u : Use) → Edit
   SetPlace : (k p : ℕ) (e : Option StoredEntry) → Edit
@@ -20,7 +20,7 @@ pub data Edit : Type 0 where
   SetLargeBytes : (g part : ℕ) (bytes : ℕ → ℕ) → Edit
 
 abbrev pub edited : Store → Edit → Store
-edited s (SetInode i x) = record s { inode = put s.inode i x }
+edited s (SetInode i x dated) = record s { inode = put s.inode i x }
 edited s (SetBit i b) = record s { bit = put s.bit i b }
 edited s (SetUse k u) = record s { use_of = put s.use_of k u }
 edited s (SetPlace k p e) = record s { place = put2 s.place k p e }

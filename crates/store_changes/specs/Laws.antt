@@ -32,7 +32,7 @@ pub record Leads (s t : Store) (at : Nodes) (n m : Naming) (b : ℕ) (node : Opt
 -- a node without blocks and bytes
 abbrev pub IsBare : Node → Type 0
 IsBare (Dir entries blocks) = (entries ≡ []) × (blocks ≡ 0)
-IsBare (File cells links) = cells ≡ []
+IsBare (File cells links when) = cells ≡ []
 IsBare (Link target links) = Unit {0}
 
 -- a bare node may come at a birth that is new and has no name, into an inode that is free
@@ -123,7 +123,7 @@ EntriesAreReplaced = (s : Store) (at : Nodes) (n : Naming) (d blocks : ℕ) (x :
 -- a file or a link with so many links
 abbrev pub with_links : ℕ → Node → Node
 with_links links (Dir entries blocks) = Dir entries blocks
-with_links links (File cells old) = File cells links
+with_links links (File cells old when) = File cells links when
 with_links links (Link target old) = Link target links
 
 abbrev pub LinksChange : Type 0
@@ -132,7 +132,7 @@ LinksChange = (s : Store) (at : Nodes) (n : Naming) (b links : ℕ) (x : StoredN
 
 -- no file is longer than its blocks reach: 65,536 bytes in small blocks and 1,048,576 in a large one
 abbrev pub FilesFit : Nodes → Type 0
-FilesFit at = (b links : ℕ) (cells : List Cell) → at b ≡ Some (File cells links) → length cells ≤ FILE_BYTES_MAX
+FilesFit at = (b links when : ℕ) (cells : List Cell) → at b ≡ Some (File cells links when) → length cells ≤ FILE_BYTES_MAX
 
 -- stores that say the same where it counts: of places those of blocks that are or were a directory's, of bytes those of blocks in use for bytes
 pub record SaysTheSame (s t : Store) : Type 0 where

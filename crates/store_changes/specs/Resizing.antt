@@ -1,4 +1,4 @@
--- A file gets other cells, with other blocks where it is longer or shorter.
+-- A file gets other cells and another time, with other blocks where it is longer or shorter.
 use Rattle.std.specs.Prelude.{◌*◌, ◌≡◌, ℕ, zero, suc, ◌<◌, ◌≤◌, Bool, true, false, ◌==◌, ◌&&◌, if◌then◌else◌, nat_lt, Option, Some, None, List, length, is_some}
 use Rattle.std.specs.List.{slice_get}
 use Rattle.frang_base.specs.declared.limits.TheConstants.{BLOCK_ENTRIES, LARGE_BLOCK_SECTORS, SECTOR_BYTES, SMALL_BLOCK_BYTES, SMALL_BYTES_MAX}
@@ -49,10 +49,10 @@ pub record HasBlocks (s : Store) (n : Naming) (b : ℕ) (old new : List Cell) (b
   pub large_kept : SMALL_BYTES_MAX < length old → SMALL_BYTES_MAX < length new → large ≡ n.large b
   pub large_free : length old ≤ SMALL_BYTES_MAX → SMALL_BYTES_MAX < length new → s.large_bit large ≡ false
 
--- the stores before and after a file gets other cells, by their values: its inode has the new size and blocks, those that it has no more are
+-- the stores before and after a file gets other cells and another time, by their values: its inode has the new size, blocks and time, those that it has no more are
 -- free, each byte is allowed by its cell, and all else is the same where it counts
-pub record IsResized (s t : Store) (n : Naming) (b : ℕ) (cells : List Cell) (links : ℕ) (block : ℕ → ℕ) (large : ℕ) : Type 0 where
-  pub inode : (i : ℕ) → t.inode i ≡ put s.inode (n.inode b) (Some (inode_of (n.stamp b) block large (File cells links))) i
+pub record IsResized (s t : Store) (n : Naming) (b : ℕ) (cells : List Cell) (links when : ℕ) (block : ℕ → ℕ) (large : ℕ) : Type 0 where
+  pub inode : (i : ℕ) → t.inode i ≡ put s.inode (n.inode b) (Some (inode_of (n.stamp b) block large (File cells links when))) i
   pub bit : (i : ℕ) → t.bit i ≡ s.bit i
   pub uses : (k : ℕ) → t.use_of k ≡ (if is_some (index_of cells block k) then Bytes else (if is_owned_by b (n.owner k) then Fresh else s.use_of k))
   pub large_bits : (g : ℕ) → t.large_bit g ≡ (if is_large_of cells large g then true else (if is_of b (n.large_owner g) then false else s.large_bit g))
@@ -62,8 +62,8 @@ pub record IsResized (s t : Store) (n : Naming) (b : ℕ) (cells : List Cell) (l
   pub allowed : (j : ℕ) (c : Cell) → slice_get cells j ≡ Some c → Allows c (byte_at t block large j)
 
 abbrev pub FilesAreResized : Type 0
-FilesAreResized = (s t : Store) (at : Nodes) (n : Naming) (b links : ℕ) (old new : List Cell) (block : ℕ → ℕ) (large : ℕ) → Pictures s at n → FilesFit at → at b ≡ Some (File old links) → HasBlocks s n b old new block large → IsResized s t n b new links block large →
-    Leads s t at n (named_resized n b new block large) b (Some (File new links))
+FilesAreResized = (s t : Store) (at : Nodes) (n : Naming) (b links before when : ℕ) (old new : List Cell) (block : ℕ → ℕ) (large : ℕ) → Pictures s at n → FilesFit at → at b ≡ Some (File old links before) → HasBlocks s n b old new block large → IsResized s t n b new links when block large →
+    Leads s t at n (named_resized n b new block large) b (Some (File new links when))
 
 -- a file that gets no longer does with the blocks that it has
 abbrev pub OwnBlocksDo : Type 0

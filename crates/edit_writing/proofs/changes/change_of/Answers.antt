@@ -1,5 +1,5 @@
 -- By the block of the sector.
-use Rattle.std.proofs.Common.{◌≡◌, ◌<◌, ◌-◌, ◌^◌, IfOk, subst, sym}
+use Rattle.std.proofs.Common.{◌≡◌, ◌<◌, ◌-◌, ◌^◌, ◌&&◌, IfOk, nat_le, nat_lt, subst, sym}
 use Rattle.sector_bytes.specs.Bytes.{number_at}
 use Rattle.disk_definitions.specs.Standing.{version_at}
 use Rattle.plan_steps.specs.Edits.{edits_of}
@@ -12,5 +12,5 @@ change_between-requires c = subst (λ block. number_at 8 0 block < 2 ^ 64 - 1) (
 
 pub returns : goal.returns
 returns c =
-    let same = same_change (at_hand c.args.hand.now) (edits_of c.args.edits.now) c.args.sector.0 c.block_at_hand-old.result c.edited-new.result c.block_at_hand-old.ensures c.edited-new.ensures in
+    let same = same_change (at_hand c.args.hand.now) (edits_of c.args.edits.now) c.args.sector.0 c.block_at_hand-old.result c.edited-new.result (λ at. nat_le c.forced_in.result.start at && nat_lt at c.forced_in.result.end) c.forced_in.ensures c.block_at_hand-old.ensures c.edited-new.ensures in
     subst (λ x. IfOk c.change_between.result (λ change. change ≡ x)) same c.change_between.ensures

@@ -16,8 +16,9 @@ change_of-requires-clause-version c =
 
 pub loop-number-preserved : goal.loop-number-preserved
 loop-number-preserved c =
+    let edits = edits_of c.args.edits.now in
     let old = at_hand c.args.hand.now in
-    let f = written.change_of old (all_edited old (edits_of c.args.edits.now)) in
+    let f = written.change_of edits old (all_edited old edits) in
     let all = filter_map f (keys_of c.args.numbers.now) in
     let done = c.loop-number.changes.items in
     let new = c.match-branch-2.changes.items in

@@ -10,6 +10,7 @@ use Rattle.edit_writing.proofs.changes.changes_at.Given as goal
 
 abbrev pub invariant-loop-number : goal.invariant-loop-number
 invariant-loop-number l =
+    let edits = edits_of l.edits in
     let old = at_hand l.hand in
-    let new = all_edited old (edits_of l.edits) in
-    l.changes.items ++ filter_map (written.change_of old new) (keys_of (drop l.number-index l.numbers)) ≡ filter_map (written.change_of old new) (keys_of l.numbers)
+    let new = all_edited old edits in
+    l.changes.items ++ filter_map (written.change_of edits old new) (keys_of (drop l.number-index l.numbers)) ≡ filter_map (written.change_of edits old new) (keys_of l.numbers)

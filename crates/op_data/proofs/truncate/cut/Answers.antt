@@ -7,13 +7,13 @@ use Rattle.dir_lookup.specs.Hands.{over}
 use Rattle.plan_steps.specs.declared.stop.Stop.TheVariants as stop
 use Rattle.plan_steps.specs.Edits.{edits_of}
 use Rattle.plan_steps.specs.Ends.{Comes}
-use Rattle.plan_steps.specs.Rooms.{LooksOver, missing_of, needed}
+use Rattle.plan_steps.specs.Rooms.{LooksOver, needed}
 use Rattle.plan_steps.proofs.Needed.{looks_over}
 use Rattle.op_data.proofs.Cutting.{cut_done, cut_lacks, past_the_end}
 use Rattle.op_data.proofs.truncate.cut.Goals as goal
 
 pub returns-then-from-file : goal.returns-then-from-file
-returns-then-from-file c touched = past_the_end c.args.len c.args.file.now.number touched (stored c.args.file.now.inode) c.args.hand.now (omega arith)
+returns-then-from-file c touched = past_the_end c.args.when c.args.len c.args.file.now.number touched (stored c.args.file.now.inode) c.args.hand.now (omega arith)
 
 pub returns-in_err-all_held : goal.returns-in_err-all_held
 returns-in_err-all_held c touched =
@@ -27,7 +27,7 @@ returns-in_err-all_held c touched =
     let need = c.in_err-all_held.field-0.0 in
     let e : c.from_residual.result ≡ Err (stop.Need need.0) = search rules in
     let h = subst (LooksOver hand (cut_segments x len)) c.in_err-all_held.was (looks_over hand (cut_segments x len) c.all_held.result (c.all_held.ensures ∙ ap (needed hand.held.now) s)) in
-    subst (Comes (over (cutting len c.args.file.now.number touched x) hand)) (sym e) (cut_lacks len c.args.file.now.number touched x hand need.0.0 (omega arith) h)
+    subst (Comes (over (cutting c.args.when len c.args.file.now.number touched x) hand)) (sym e) (cut_lacks c.args.when len c.args.file.now.number touched x hand need.0.0 (omega arith) h)
 
 pub returns : goal.returns
 returns c touched =
@@ -39,4 +39,4 @@ returns c touched =
     ap (λ blocks. map (λ k. k / 1024) blocks ++ large_segment c.large_past-large.result) c.blocks_past-blocks.ensures
     ∙ ap (λ large. map (λ k. k / 1024) (blocks_between x (small_blocks_of len) x.blocks) ++ large) c.large_past-large.ensures in
     let h = subst (LooksOver hand (cut_segments x len)) c.in_ok-all_held.was (looks_over hand (cut_segments x len) c.all_held.result (c.all_held.ensures ∙ ap (needed hand.held.now) s)) in
-    cut_done len c.args.file.now.number touched x hand (edits_of c.in_ok-edits.edits.items) (omega arith) h c.in_ok-edits.ensures
+    cut_done c.args.when len c.args.file.now.number touched x hand (edits_of c.in_ok-edits.edits.items) (omega arith) h c.in_ok-edits.ensures

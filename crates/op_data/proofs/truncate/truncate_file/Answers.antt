@@ -12,12 +12,12 @@ returns-in_err-file c =
     let hand = c.args.hand.now in
     let path = c.args.path.now in
     let e : c.from_residual.result ≡ Err c.in_err-file.field-0.0 = search rules in
-    subst (Comes (over (plan_truncated path c.args.len) hand)) (sym e)
-    (ends_plan hand path (cutting c.args.len) c.in_err-file.field-0.0 (subst (FindsFile hand path) c.in_err-file.was c.file_of.ensures.finds))
+    subst (Comes (over (plan_truncated c.args.when path c.args.len) hand)) (sym e)
+    (ends_plan hand path (cutting c.args.when c.args.len) c.in_err-file.field-0.0 (subst (FindsFile hand path) c.in_err-file.was c.file_of.ensures.finds))
 
 pub returns : goal.returns
 returns c =
     let hand = c.args.hand.now in
     let path = c.args.path.now in
     let f = subst (FindsFile hand path) c.in_ok-file.was c.file_of.ensures.finds in
-    subst (λ p. Comes p c.cut.result) (sym (f.1 (cutting c.args.len))) (c.cut.ensures f.0)
+    subst (λ p. Comes p c.cut.result) (sym (f.1 (cutting c.args.when c.args.len))) (c.cut.ensures f.0)

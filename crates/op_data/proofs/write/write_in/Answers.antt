@@ -16,7 +16,7 @@ returns-in_err-edits-2 c touched =
     let y = stored c.resized-new.result in
     let items = c.in_ok-edits.edits.items in
     let size : c.max-size.result ≡ max x.size (end_of w) = search rules in
-    let same : y ≡ resized x (max x.size (end_of w)) c.args.more.now.small.now c.args.more.now.large = c.resized-new.ensures ∙ ap (λ size. resized x size c.args.more.now.small.now c.args.more.now.large) size in
+    let same : y ≡ resized x w.when (max x.size (end_of w)) c.args.more.now.small.now c.args.more.now.large = c.resized-new.ensures ∙ ap (λ size. resized x w.when size c.args.more.now.small.now c.args.more.now.large) size in
     let e : c.from_residual-in_err-edits-2.result ≡ Err c.in_err-edits-2.field-0.0 = search rules in
     subst (Comes (over (writing_in w c.args.file.now.number touched x c.args.more.now.small.now c.args.more.now.large) hand)) (sym e)
     (sectors_stop hand w c.args.file.now.number touched x y c.args.more.now.small.now c.args.more.now.large items same c.in_ok-edits.ensures c.in_err-edits-2.field-0.0
@@ -30,6 +30,6 @@ returns c touched =
     let y = stored c.resized-new.result in
     let items = c.in_ok-edits.edits.items in
     let size : c.max-size.result ≡ max x.size (end_of w) = search rules in
-    let same : y ≡ resized x (max x.size (end_of w)) c.args.more.now.small.now c.args.more.now.large = c.resized-new.ensures ∙ ap (λ size. resized x size c.args.more.now.small.now c.args.more.now.large) size in
+    let same : y ≡ resized x w.when (max x.size (end_of w)) c.args.more.now.small.now c.args.more.now.large = c.resized-new.ensures ∙ ap (λ size. resized x w.when size c.args.more.now.small.now c.args.more.now.large) size in
     all_written hand w c.args.file.now.number touched x y c.args.more.now.small.now c.args.more.now.large items same c.in_ok-edits.ensures c.in_ok-edits-2.edits
     (subst (WritesSectors hand w x y items) c.in_ok-edits-2.was c.add_sectors.ensures)

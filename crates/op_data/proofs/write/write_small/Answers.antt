@@ -1,5 +1,5 @@
 -- By what is picked.
-use Rattle.std.proofs.Common.{◌≡◌, ◌-◌, ℕ, Some, None, max, refl, subst, rules, arith}
+use Rattle.std.proofs.Common.{◌≡◌, ◌-◌, ℕ, Some, None, max, subst, rules, arith}
 use Rattle.frang_base.specs.declared.reply.Reply.TheVariants as reply
 use Rattle.tree_definitions.specs.Tree.{small_blocks_of}
 use Rattle.pick_definitions.specs.Picks.{picked_many}

@@ -5,9 +5,9 @@ use Rattle.op_look.proofs.Paths.{has_path}
 use Rattle.op_look.proofs.plan.plan_look.Goals as goal
 
 pub returns-clause-stands : goal.returns-clause-stands
-returns-clause-stands c birth held all small =
-    stands_if c.args.op.now birth c.args.sectors.now.entries held all (has_path c.args.op.now c.requires) small c.ended_look.result (c.ended_look.ensures (hand_of c.args.sectors.now.entries held all) birth held)
+returns-clause-stands c birth when held all small fits =
+    stands_if c.args.op.now birth when c.args.sectors.now.entries held all (has_path c.args.op.now c.requires) small fits c.ended_look.result (c.ended_look.ensures (hand_of c.args.sectors.now.entries held all) birth when held)
 
 pub returns-clause-exact : goal.returns-clause-exact
-returns-clause-exact c birth held all small =
-    exact_if c.args.op.now birth c.args.sectors.now.entries held all (has_path c.args.op.now c.requires) small c.ended_look.result (c.ended_look.ensures (hand_of c.args.sectors.now.entries held all) birth held)
+returns-clause-exact c birth when held all small fits =
+    exact_if c.args.op.now birth when c.args.sectors.now.entries held all (has_path c.args.op.now c.requires) small fits c.ended_look.result (c.ended_look.ensures (hand_of c.args.sectors.now.entries held all) birth when held)
