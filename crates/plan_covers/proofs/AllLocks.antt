@@ -24,13 +24,13 @@ locks_cover (op.Stat path) = stat_covered path
 locks_cover (op.List path) = list_covered path
 locks_cover (op.Readlink path) = readlink_covered path
 locks_cover (op.Time path) = time_covered path
-locks_cover op.Sync = λ h s birth. refuse_covered h reply.Ok [] refl
-locks_cover op.Mount = λ h s birth. refuse_covered h reply.Ok [] refl
-locks_cover op.Unmount = λ h s birth. refuse_covered h reply.Ok [] refl
-locks_cover op.Crash = λ h s birth. refuse_covered h reply.Ok [] refl
-locks_cover (op.CrashAt k) = λ h s birth. refuse_covered h reply.Ok [] refl
-locks_cover (op.CutAt k) = λ h s birth. refuse_covered h reply.Ok [] refl
-locks_cover op.Stall = λ h s birth. refuse_covered h reply.Ok [] refl
+locks_cover op.Sync = λ h s birth when. refuse_covered h reply.Ok [] refl
+locks_cover op.Mount = λ h s birth when. refuse_covered h reply.Ok [] refl
+locks_cover op.Unmount = λ h s birth when. refuse_covered h reply.Ok [] refl
+locks_cover op.Crash = λ h s birth when. refuse_covered h reply.Ok [] refl
+locks_cover (op.CrashAt k) = λ h s birth when. refuse_covered h reply.Ok [] refl
+locks_cover (op.CutAt k) = λ h s birth when. refuse_covered h reply.Ok [] refl
+locks_cover op.Stall = λ h s birth when. refuse_covered h reply.Ok [] refl
 
 pub walks_are_held : WalksAreHeld
 walks_are_held = record {

@@ -174,19 +174,19 @@ module _ (h : Hand) (s : Store) (tree : FileTree) (n : Naming) (of : IsOfTree s 
       rw (run-bind (walk (name ∷ names)) (λ w. renaming h (new ∷ news) w.dirs w.spot) s) (renaming_changed (new ∷ news) w.dirs w.spot (place tree (name ∷ names)) (walks_lead s tree n (name ∷ names) of).0 d)
 
   -- ---- a file
-  module _ (next : ℕ → List Cell → ℕ → Applied) (each : (b links : ℕ) (cells : List Cell) → OnlyAt tree (next b cells links).tree (b ∷ [])) where
+  module _ (next : ℕ → List Cell → ℕ → ℕ → Applied) (each : (b links when : ℕ) (cells : List Cell) → OnlyAt tree (next b cells links when).tree (b ∷ [])) where
     by_node : (b : ℕ) (o : Option Node) → node_at tree b ≡ o → Differs (if_file tree next b o) → Contains (if n.kind b == 1 then n.inode b ∷ [] else []) i
     by_node b None e d = same d
     by_node b (Some (Dir entries blocks)) e d = same d
     by_node b (Some (Link target links)) e d = same d
-    by_node b (Some (File cells links)) e d = rw (of.pictures.kinds b (File cells links) e)
-        (⊎_elim (λ p. subst (λ z. Contains (n.inode b ∷ []) (n.inode z)) p (has_head (n.inode b) [])) (λ z. absurd (not_in_none c z)) (has_cases b c [] (is_among tree (next b cells links).tree (b ∷ []) c (each b links cells) d)))
+    by_node b (Some (File cells links when)) e d = rw (of.pictures.kinds b (File cells links when) e)
+        (⊎_elim (λ p. subst (λ z. Contains (n.inode b ∷ []) (n.inode z)) p (has_head (n.inode b) [])) (λ z. absurd (not_in_none c z)) (has_cases b c [] (is_among tree (next b cells links when).tree (b ∷ []) c (each b links when cells) d)))
 
     at_root : (o : Option Node) → is_dir o ≡ true → Differs (if_file tree next 0 o) → Contains [] i
     at_root None r d = same d
     at_root (Some (Dir entries blocks)) r d = same d
     at_root (Some (Link target links)) r d = same d
-    at_root (Some (File cells links)) r d = absurd (cc)
+    at_root (Some (File cells links when)) r d = absurd (cc)
 
     pub file_nodes : (v : Spot) (p : Place) → Mirrors s (node_at tree) n v p → Differs (at_file tree p next) → Contains (spot_target (is_kind 1) v) i
     file_nodes = by_spot s (node_at tree) n of.pictures (λ v p. Differs (at_file tree p next) → Contains (spot_target (is_kind 1) v) i)

@@ -55,7 +55,7 @@ made_only t birth node d blocks entries name =
 -- ---- link
 
 more_only : (t : FileTree) (b : ℕ) (o : Option Node) → OnlyAt t (one_link_more t b o) (b ∷ [])
-more_only t b (Some (File cells links)) = only_with t b (File cells _)
+more_only t b (Some (File cells links when)) = only_with t b (File cells _ when)
 more_only t b (Some (Link target links)) = only_with t b (Link target _)
 more_only t b (Some (Dir entries blocks)) = only_same t (b ∷ [])
 more_only t b None = only_same t (b ∷ [])
@@ -75,10 +75,10 @@ linked_only t b d blocks entries name =
 -- ---- unlink, rmdir
 
 fewer_only : (t : FileTree) (b : ℕ) (o : Option Node) → OnlyAt t (one_link_fewer t b o) (b ∷ [])
-fewer_only t b (Some (File cells links)) = go (nat_lt 1 links)
+fewer_only t b (Some (File cells links when)) = go (nat_lt 1 links)
   where
-    go : (c : Bool) → OnlyAt t (if c then with_node t b (File cells (links - 1)) else without_node t b) (b ∷ [])
-    go true = only_with t b (File cells (links - 1))
+    go : (c : Bool) → OnlyAt t (if c then with_node t b (File cells (links - 1) when) else without_node t b) (b ∷ [])
+    go true = only_with t b (File cells (links - 1) when)
     go false = only_without t b
 fewer_only t b (Some (Link target links)) = go (nat_lt 1 links)
   where
@@ -107,13 +107,13 @@ removed_only t d blocks entries name b =
 
 gone_only : (t : FileTree) (d : ℕ) (name : List ℕ) (o : Option Node) → OnlyAt t (name_gone t d name o) (d ∷ [])
 gone_only t d name (Some (Dir entries blocks)) = only_with t d (Dir (without_entry entries name) blocks)
-gone_only t d name (Some (File cells links)) = only_same t (d ∷ [])
+gone_only t d name (Some (File cells links when)) = only_same t (d ∷ [])
 gone_only t d name (Some (Link target links)) = only_same t (d ∷ [])
 gone_only t d name None = only_same t (d ∷ [])
 
 set_only : (t : FileTree) (d : ℕ) (name : List ℕ) (b : ℕ) (o : Option Node) → OnlyAt t (name_set t d name b o) (d ∷ [])
 set_only t d name b (Some (Dir entries blocks)) = only_with t d (Dir (with_entry entries name b) blocks)
-set_only t d name b (Some (File cells links)) = only_same t (d ∷ [])
+set_only t d name b (Some (File cells links when)) = only_same t (d ∷ [])
 set_only t d name b (Some (Link target links)) = only_same t (d ∷ [])
 set_only t d name b None = only_same t (d ∷ [])
 

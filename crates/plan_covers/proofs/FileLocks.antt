@@ -11,14 +11,15 @@ use Rattle.tree_definitions.specs.Tree.{small_blocks_of}
 use Rattle.disk_definitions.specs.Store.{Store, StoredNode}
 use Rattle.disk_definitions.specs.Store.Use.{Fresh, Bytes}
 use Rattle.store_changes.specs.Edits.{Edit}
-use Rattle.store_changes.specs.Edits.Edit.{SetInode, SetUse, SetLarge, SetBytes, SetLargeBytes}
+use Rattle.store_changes.specs.Edits.Edit.{SetUse, SetLarge, SetBytes, SetLargeBytes}
 use Rattle.pick_definitions.specs.Picks.{picked_many, picked_large}
 use Rattle.plan_definitions.specs.Ask.{Ask, Got, ReadInode, run}
 use Rattle.plan_definitions.specs.Walks.{Target}
 use Rattle.plan_definitions.specs.Plans.{Hand, Lock, Plan, refused, read_held, shared_nodes, sole_nodes, sole_segments}
 use Rattle.plan_definitions.specs.Plans.Plan.{Finishes}
+use Rattle.tree_definitions.specs.Apply.{time_of}
 use Rattle.plan_definitions.specs.NamePlans.{finish_over}
-use Rattle.plan_definitions.specs.FilePlans.{Writing, end_of, sectors_met, mixed, directory_blocks, set_sector, resized, large_taken, large_segment, size_edits, written_by, writing_in, writing_picked, writing_small, writing_large, writing, blocks_between, large_cut, cut_segments, cut_by, cutting, read_sectors, showing, at_file, with_file}
+use Rattle.plan_definitions.specs.FilePlans.{Writing, end_of, sectors_met, mixed, directory_blocks, set_sector, resized, large_taken, large_segment, file_dated, written_by, writing_in, writing_picked, writing_small, writing_large, writing, blocks_between, large_cut, cut_segments, cut_by, cutting, read_sectors, showing, at_file, with_file}
 use Rattle.plan_definitions.specs.LookPlans.{with_inode, at_inode, described, timed, listing, sorted_names}
 use Rattle.plan_laws.proofs.Asking.{run-segments}
 use Rattle.plan_laws.specs.Locks.{IsSole, says_full, FinishIsCovered, PlanIsCovered, IsCoveredPlan}
@@ -28,12 +29,8 @@ use Rattle.plan_laws.proofs.Sectors.{old_sector, sector_edits, run-writes}
 use Rattle.plan_laws.proofs.Covering.{has_head, map_has, node_sole, segment_sole, Covers, covers_join, uses_covered, larges_covered, refuse_covered, none_covered, node_covered}
 
 -- the inode is written under the node's lock
-size_covered : (locks : List Lock) (i : ℕ) (x y : StoredNode) → IsSole locks (lock.Node i) → Covers locks (size_edits i x y)
-size_covered locks i x y sole = go (y.size == x.size)
-  where
-    go : (b : Bool) → Covers locks (if b then [] else SetInode i (Some y) ∷ [])
-    go true = tt
-    go false = (sole, tt)
+file_covered_at : (locks : List Lock) (i : ℕ) (y : StoredNode) → IsSole locks (lock.Node i) → Covers locks (file_dated i y)
+file_covered_at locks i y sole = (sole, tt)
 
 large_covered : (locks : List Lock) (o : Option ℕ) → ((g : ℕ) → Contains (large_segment o) g → IsSole locks (lock.Segment g)) → Covers locks (large_taken o)
 large_covered locks None f = tt
@@ -52,43 +49,43 @@ sectors_covered locks w x y s (suc n) t = sector_covered locks y t (mixed w t (o
 
 module _ (h : Hand) (s : Store) where
   -- ---- truncate
-  cut_covered : (i : ℕ) (touched : List ℕ) (x : StoredNode) (len : ℕ) → FinishIsCovered h (cut_by i touched x len)
-  cut_covered i touched x len =
-      let f = cut_by i touched x len in
+  cut_covered : (when i : ℕ) (touched : List ℕ) (x : StoredNode) (len : ℕ) → FinishIsCovered h (cut_by when i touched x len)
+  cut_covered when i touched x len =
+      let f = cut_by when i touched x len in
       let cut = blocks_between x (small_blocks_of len) x.blocks in
       let segment : (k : ℕ) → Contains (cut_segments x len) k → IsSole f.locks (lock.Segment k) = segment_sole (shared_nodes touched ++ sole_nodes (i ∷ [])) (cut_segments x len) in
       let smalls : Covers f.locks (map (λ k. SetUse k Fresh) cut) = uses_covered f.locks Fresh cut (λ k c. segment (k / 1024) (Contains-append_left (map (λ k. k / 1024) cut) (large_cut x len) (k / 1024) (map_has (λ k. k / 1024) cut k c))) in
       let larges : Covers f.locks (map (λ g. SetLarge g false) (large_cut x len)) = larges_covered f.locks false (large_cut x len) (λ g c. segment g (Contains-append_right (map (λ k. k / 1024) cut) (large_cut x len) g c)) in
-      let node : Covers f.locks (size_edits i x (resized x len [] None)) = size_covered f.locks i x (resized x len [] None) (node_sole (shared_nodes touched) (i ∷ []) (sole_segments (cut_segments x len)) i (has_head i [])) in
-      record { edits = covers_join f.locks (map (λ k. SetUse k Fresh) cut ++ map (λ g. SetLarge g false) (large_cut x len)) (size_edits i x (resized x len [] None)) (covers_join f.locks (map (λ k. SetUse k Fresh) cut) (map (λ g. SetLarge g false) (large_cut x len)) smalls larges) node; full = λ e. absurd (cc) }
+      let node : Covers f.locks (file_dated i (resized x when len [] None)) = file_covered_at f.locks i (resized x when len [] None) (node_sole (shared_nodes touched) (i ∷ []) (sole_segments (cut_segments x len)) i (has_head i [])) in
+      record { edits = covers_join f.locks (map (λ k. SetUse k Fresh) cut ++ map (λ g. SetLarge g false) (large_cut x len)) (file_dated i (resized x when len [] None)) (covers_join f.locks (map (λ k. SetUse k Fresh) cut) (map (λ g. SetLarge g false) (large_cut x len)) smalls larges) node; full = λ e. absurd (cc) }
 
-  cutting_covered : (len i : ℕ) (touched : List ℕ) (x : StoredNode) → PlanIsCovered h (run (cutting len i touched x) s)
-  cutting_covered len i touched x = go (nat_lt x.size len)
+  cutting_covered : (when len i : ℕ) (touched : List ℕ) (x : StoredNode) → PlanIsCovered h (run (cutting when len i touched x) s)
+  cutting_covered when len i touched x = go (nat_lt x.size len)
     where
-      go : (b : Bool) → PlanIsCovered h (run (if b then refused reply.BadOffset touched else finish_over (cut_segments x len) (cut_by i touched x len)) s)
+      go : (b : Bool) → PlanIsCovered h (run (if b then refused reply.BadOffset touched else finish_over (cut_segments x len) (cut_by when i touched x len)) s)
       go true = refuse_covered h reply.BadOffset touched refl
-      go false = rw (run-segments (cut_segments x len) (Got (Finishes (cut_by i touched x len))) s) (cut_covered i touched x len)
+      go false = rw (run-segments (cut_segments x len) (Got (Finishes (cut_by when i touched x len))) s) (cut_covered when i touched x len)
 
   -- ---- write and fill
   module _ (w : Writing) (i : ℕ) (touched : List ℕ) (x : StoredNode) where
-    written_covered : (y : StoredNode) (picks : List ℕ) (o : Option ℕ) (bytes : List Edit) → ((locks : List Lock) → Covers locks bytes) → FinishIsCovered h (written_by i x y picks o touched bytes)
+    written_covered : (y : StoredNode) (picks : List ℕ) (o : Option ℕ) (bytes : List Edit) → ((locks : List Lock) → Covers locks bytes) → FinishIsCovered h (written_by i y picks o touched bytes)
     written_covered y picks o bytes covered =
-        let f = written_by i x y picks o touched bytes in
+        let f = written_by i y picks o touched bytes in
         let all = map (λ k. k / 1024) picks ++ large_segment o in
         let segment : (k : ℕ) → Contains all k → IsSole f.locks (lock.Segment k) = segment_sole (shared_nodes touched ++ sole_nodes (i ∷ [])) all in
         let smalls : Covers f.locks (map (λ k. SetUse k Bytes) picks) = uses_covered f.locks Bytes picks (λ k c. segment (k / 1024) (Contains-append_left (map (λ k. k / 1024) picks) (large_segment o) (k / 1024) (map_has (λ k. k / 1024) picks k c))) in
         let larges : Covers f.locks (large_taken o) = large_covered f.locks o (λ g c. segment g (Contains-append_right (map (λ k. k / 1024) picks) (large_segment o) g c)) in
-        let node : Covers f.locks (size_edits i x y) = size_covered f.locks i x y (node_sole (shared_nodes touched) (i ∷ []) (sole_segments all) i (has_head i [])) in
+        let node : Covers f.locks (file_dated i y) = file_covered_at f.locks i y (node_sole (shared_nodes touched) (i ∷ []) (sole_segments all) i (has_head i [])) in
         record {
-          edits = covers_join f.locks (map (λ k. SetUse k Bytes) picks ++ large_taken o ++ size_edits i x y) bytes
-              (covers_join f.locks (map (λ k. SetUse k Bytes) picks ++ large_taken o) (size_edits i x y) (covers_join f.locks (map (λ k. SetUse k Bytes) picks) (large_taken o) smalls larges) node) (covered f.locks);
+          edits = covers_join f.locks (map (λ k. SetUse k Bytes) picks ++ large_taken o ++ file_dated i y) bytes
+              (covers_join f.locks (map (λ k. SetUse k Bytes) picks ++ large_taken o) (file_dated i y) (covers_join f.locks (map (λ k. SetUse k Bytes) picks) (large_taken o) smalls larges) node) (covered f.locks);
           full = λ e. absurd (cc);
         }
 
     in_covered : (picks : List ℕ) (o : Option ℕ) → PlanIsCovered h (run (writing_in w i touched x picks o) s)
     in_covered picks o =
-        let y = resized x (max x.size (end_of w)) picks o in
-        subst (PlanIsCovered h) (sym (run-writes w x y s (w.off / 512) (sectors_met w.off w.len) (λ bytes. Got (Finishes (written_by i x y picks o touched bytes)))))
+        let y = resized x w.when (max x.size (end_of w)) picks o in
+        subst (PlanIsCovered h) (sym (run-writes w x y s (w.off / 512) (sectors_met w.off w.len) (λ bytes. Got (Finishes (written_by i y picks o touched bytes)))))
         (written_covered y picks o (sector_edits w x y s (w.off / 512) (sectors_met w.off w.len)) (λ locks. sectors_covered locks w x y s (sectors_met w.off w.len) (w.off / 512)))
 
     picked_covered : (o : Option ℕ) (p : Option (List ℕ)) → PlanIsCovered h (run (writing_picked h w i touched x o p) s)
@@ -169,8 +166,8 @@ module _ (h : Hand) (s : Store) where
   timed_covered : (touched : List ℕ) (x : StoredNode) → PlanIsCovered h (run (refused (timed x) touched) s)
   timed_covered touched x = go (x.kind == 1) (x.kind == 2)
     where
-      go : (a b : Bool) → PlanIsCovered h (run (refused (if a then reply.Time 0 0 else (if b then reply.IsDir else reply.Inval)) touched) s)
-      go true b = refuse_covered h (reply.Time 0 0) touched refl
+      go : (a b : Bool) → PlanIsCovered h (run (refused (if a then time_of x.when else (if b then reply.IsDir else reply.Inval)) touched) s)
+      go true b = refuse_covered h (time_of x.when) touched refl
       go false true = refuse_covered h reply.IsDir touched refl
       go false false = refuse_covered h reply.Inval touched refl
 
@@ -186,31 +183,31 @@ module _ (h : Hand) (s : Store) where
       go false = refuse_covered h r t.dirs fine
 
 pub stat_covered : (path : List (List ℕ)) → IsCoveredPlan (op.Stat path)
-stat_covered path h s birth = node_covered s h (at_inode (λ touched x. refused (described x) touched)) (inode_covered h s (λ touched x. refused (described x) touched) (described_covered h s)) path
+stat_covered path h s birth when = node_covered s h (at_inode (λ touched x. refused (described x) touched)) (inode_covered h s (λ touched x. refused (described x) touched) (described_covered h s)) path
 
 pub time_covered : (path : List (List ℕ)) → IsCoveredPlan (op.Time path)
-time_covered path h s birth = node_covered s h (at_inode (λ touched x. refused (timed x) touched)) (inode_covered h s (λ touched x. refused (timed x) touched) (timed_covered h s)) path
+time_covered path h s birth when = node_covered s h (at_inode (λ touched x. refused (timed x) touched)) (inode_covered h s (λ touched x. refused (timed x) touched) (timed_covered h s)) path
 
 pub list_covered : (path : List (List ℕ)) → IsCoveredPlan (op.List path)
-list_covered path h s birth = node_covered s h (λ t. if t.kind == 2 then at_inode listing t else refused reply.NotDir t.dirs) (by_kind h s (at_inode listing) 2 reply.NotDir refl (inode_covered h s listing (listing_covered h s))) path
+list_covered path h s birth when = node_covered s h (λ t. if t.kind == 2 then at_inode listing t else refused reply.NotDir t.dirs) (by_kind h s (at_inode listing) 2 reply.NotDir refl (inode_covered h s listing (listing_covered h s))) path
 
 pub readlink_covered : (path : List (List ℕ)) → IsCoveredPlan (op.Readlink path)
-readlink_covered path h s birth =
+readlink_covered path h s birth when =
     node_covered s h (λ t. if t.kind == 3 then at_inode (λ touched x. refused (reply.Target x.target) touched) t else refused reply.Inval t.dirs)
     (by_kind h s (at_inode (λ touched x. refused (reply.Target x.target) touched)) 3 reply.Inval refl (inode_covered h s (λ touched x. refused (reply.Target x.target) touched) (λ touched x. refuse_covered h (reply.Target x.target) touched refl))) path
 
 pub read_covered : (path : List (List ℕ)) (off len : ℕ) → IsCoveredPlan (op.Read path off len)
-read_covered path off len h s birth = node_covered s h (at_file (showing off len)) (file_covered h s (showing off len) (showing_covered h s off len)) path
+read_covered path off len h s birth when = node_covered s h (at_file (showing off len)) (file_covered h s (showing off len) (showing_covered h s off len)) path
 
 pub truncate_covered : (path : List (List ℕ)) (len : ℕ) → IsCoveredPlan (op.Truncate path len)
-truncate_covered path len h s birth = node_covered s h (at_file (cutting len)) (file_covered h s (cutting len) (cutting_covered h s len)) path
+truncate_covered path len h s birth when = node_covered s h (at_file (cutting when len)) (file_covered h s (cutting when len) (cutting_covered h s when len)) path
 
 pub write_covered : (path : List (List ℕ)) (off : ℕ) (bytes : List ℕ) → IsCoveredPlan (op.Write path off bytes)
-write_covered path off bytes h s birth =
-    let w : Writing = record { off = off; len = length bytes; byte = λ j. slice_index bytes (j - off) } in
+write_covered path off bytes h s birth when =
+    let w : Writing = record { off = off; len = length bytes; when = when; byte = λ j. slice_index bytes (j - off) } in
     node_covered s h (at_file (writing h w)) (file_covered h s (writing h w) (writing_covered h s w)) path
 
 pub fill_covered : (path : List (List ℕ)) (off len byte : ℕ) → IsCoveredPlan (op.Fill path off len byte)
-fill_covered path off len byte h s birth =
-    let w : Writing = record { off = off; len = len; byte = λ j. byte } in
+fill_covered path off len byte h s birth when =
+    let w : Writing = record { off = off; len = len; when = when; byte = λ j. byte } in
     node_covered s h (at_file (writing h w)) (file_covered h s (writing h w) (writing_covered h s w)) path

@@ -11,11 +11,11 @@ use Rattle.disk_definitions.specs.Store.{Store, StoredNode, StoredEntry, Use}
 use Rattle.disk_definitions.specs.Store.Use.{Fresh}
 use Rattle.disk_definitions.specs.Naming.{Naming}
 use Rattle.store_changes.specs.Edits.{Edit}
-use Rattle.store_changes.specs.Edits.Edit.{SetInode, SetUse, SetLarge}
+use Rattle.store_changes.specs.Edits.Edit.{SetUse, SetLarge}
 use Rattle.plan_definitions.specs.Ask.{DirectoryAt, BytesAt, LargeAt, Ask, ReadBytes, ReadLarge, part_of, seven, run, looks}
 use Rattle.plan_definitions.specs.Plans.{Hand, Lock, Plan, refused, shared_nodes, sole_nodes, sole_segments}
 use Rattle.plan_definitions.specs.NamePlans.{finish_over}
-use Rattle.plan_definitions.specs.FilePlans.{Writing, end_of, keeps_bytes, mixed, read_sector, set_sector, write_sector, write_sectors, sectors_met, resized, large_taken, large_segment, size_edits, blocks_between, large_cut, cut_segments, cut_by, cutting, read_sectors, showing}
+use Rattle.plan_definitions.specs.FilePlans.{Writing, end_of, keeps_bytes, mixed, read_sector, set_sector, write_sector, write_sectors, sectors_met, resized, large_taken, large_segment, file_dated, blocks_between, large_cut, cut_segments, cut_by, cutting, read_sectors, showing}
 use Rattle.plan_definitions.specs.LookPlans.{listing, read_entries, entries_of, sorted_names}
 use Rattle.plan_laws.specs.Locks.{IsSole}
 use Rattle.plan_laws.proofs.Covering.{has_head, has_more, map_has, node_sole, segment_sole}
@@ -43,12 +43,8 @@ met_before off len v = go (len == 0) refl
 module _ (h : Hand) (s : Store) (n : Naming) (disk : DiskStands h s n) where
   -- ---- edits
 
-  pub size_fits : (locks : List Lock) (i : ℕ) (x y : StoredNode) → s.inode i ≡ Some x → IsSole locks (lock.Node i) → EditsFit h s n locks (size_edits i x y)
-  size_fits locks i x y is sole = go (y.size == x.size)
-    where
-      go : (b : Bool) → EditsFit h s n locks (if b then [] else SetInode i (Some y) ∷ [])
-      go true = tt
-      go false = (subst (IsSole locks) (sym (disk.nodes i x is).own) sole, tt)
+  pub file_fits : (locks : List Lock) (i : ℕ) (x y : StoredNode) → s.inode i ≡ Some x → IsSole locks (lock.Node i) → EditsFit h s n locks (file_dated i y)
+  file_fits locks i x y is sole = (subst (IsSole locks) (sym (disk.nodes i x is).own) sole, tt)
 
   pub taken_fits : (locks : List Lock) (o : Option ℕ) → ((g : ℕ) → Contains (large_segment o) g → IsSole locks (lock.Segment g)) → EditsFit h s n locks (large_taken o)
   taken_fits locks None f = tt
@@ -147,28 +143,28 @@ module _ (h : Hand) (s : Store) (n : Naming) (disk : DiskStands h s n) where
     listing_fine = entries_fine (8 * x.blocks) 0 (λ entries. refused (reply.Names (sorted_names entries)) touched) (omega arith) (λ entries. refuse_fine h s n touched touched (reply.Names (sorted_names entries)) (λ i c. c))
 
     -- ---- truncate
-    pub cutting_fine : (len : ℕ) → Ends (cutting len i touched x)
-    cutting_fine len = go (nat_lt x.size len)
+    pub cutting_fine : (when len : ℕ) → Ends (cutting when len i touched x)
+    cutting_fine when len = go (nat_lt x.size len)
       where
-        segment : (k : ℕ) → Contains (cut_segments x len) k → IsSole (cut_by i touched x len).locks (lock.Segment k)
+        segment : (k : ℕ) → Contains (cut_segments x len) k → IsSole (cut_by when i touched x len).locks (lock.Segment k)
         segment = segment_sole (shared_nodes touched ++ sole_nodes (i ∷ [])) (cut_segments x len)
 
-        fits : FinishFits h s n touched (cut_by i touched x len)
+        fits : FinishFits h s n touched (cut_by when i touched x len)
         fits =
-            let locks = (cut_by i touched x len).locks in
+            let locks = (cut_by when i touched x len).locks in
             let segments = map (λ k. k / 1024) (blocks_between x (small_blocks_of len) x.blocks) in
             let smalls = map (λ k. SetUse k Fresh) (blocks_between x (small_blocks_of len) x.blocks) in
             let larges = map (λ g. SetLarge g false) (large_cut x len) in
             let own : IsSole locks (lock.Node i) = node_sole (shared_nodes touched) (i ∷ []) (sole_segments (cut_segments x len)) i (has_head i []) in
             record {
               nodes = first_held touched (sole_nodes (i ∷ [])) (sole_segments (cut_segments x len));
-              edits = join h s n locks (smalls ++ larges) (size_edits i x (resized x len [] None))
+              edits = join h s n locks (smalls ++ larges) (file_dated i (resized x when len [] None))
                   (join h s n locks smalls larges
                   (states_fit locks Fresh (blocks_between x (small_blocks_of len) x.blocks) (λ k d. segment (k / 1024) (Contains-append_left segments (large_cut x len) (k / 1024) (map_has (λ k. k / 1024) (blocks_between x (small_blocks_of len) x.blocks) k d))))
                   (larges_fit locks false (large_cut x len) (λ g d. segment g (Contains-append_right segments (large_cut x len) g d))))
-                  (size_fits locks i x (resized x len [] None) is own);
+                  (file_fits locks i x (resized x when len [] None) is own);
             }
 
-        go : (b : Bool) → Ends (if b then refused reply.BadOffset touched else finish_over (cut_segments x len) (cut_by i touched x len))
+        go : (b : Bool) → Ends (if b then refused reply.BadOffset touched else finish_over (cut_segments x len) (cut_by when i touched x len))
         go true = refuse_fine h s n touched touched reply.BadOffset (λ i c. c)
-        go false = over h s n touched (cut_segments x len) (cut_by i touched x len) segment fits
+        go false = over h s n touched (cut_segments x len) (cut_by when i touched x len) segment fits

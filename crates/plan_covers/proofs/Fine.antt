@@ -49,7 +49,7 @@ held_key (x ∷ xs) k c = go (held_key xs k) (is_at (nat_cmp k) x.0) refl
 module _ (h : Hand) (s : Store) (n : Naming) where
   -- an edit is under a lock that is held alone, and bytes keep off directories
   abbrev pub EditFits : List Lock → Edit → Type 0
-  EditFits locks (SetInode i x) = IsSole locks (inode_cover i (n.birth i))
+  EditFits locks (SetInode i x dated) = IsSole locks (inode_cover i (n.birth i))
   EditFits locks (SetBit i b) = IsSole locks (lock.Segment (i / 64))
   EditFits locks (SetUse k u) = IsSole locks (lock.Segment (k / 1024))
   EditFits locks (SetPlace k p e) = IsSole locks (small_cover n k (n.owner k))

@@ -47,9 +47,9 @@ drop_covered : (locks : List Lock) (j : ℕ) (y : StoredNode) → IsSole locks (
 drop_covered locks j y sole f =
     let smalls = map (λ n. y.small n / 1024) (below y.blocks) in
     let large = if y.large == 0 then [] else (y.large - 1) ∷ [] in
-    covers_join locks (uses_to y.small (freed y.kind) y.blocks) (large_gone y.large ++ (SetInode j None ∷ SetBit j false ∷ []))
+    covers_join locks (uses_to y.small (freed y.kind) y.blocks) (large_gone y.large ++ (SetInode j None false ∷ SetBit j false ∷ []))
     (uses_gone locks y.small (freed y.kind) y.blocks (λ n l. f (y.small n / 1024) (has_more (j / 64) (y.small n / 1024) (smalls ++ large) (Contains-append_left smalls large (y.small n / 1024) (map_has (λ n. y.small n / 1024) (below y.blocks) n (below_has y.blocks n l))))))
-    (covers_join locks (large_gone y.large) (SetInode j None ∷ SetBit j false ∷ []) (large_is_gone locks y.large (λ k c. f k (has_more (j / 64) k (smalls ++ large) (Contains-append_right smalls large k c)))) (sole, (f (j / 64) (has_head (j / 64) (smalls ++ large)), tt)))
+    (covers_join locks (large_gone y.large) (SetInode j None false ∷ SetBit j false ∷ []) (large_is_gone locks y.large (λ k c. f k (has_more (j / 64) k (smalls ++ large) (Contains-append_right smalls large k c)))) (sole, (f (j / 64) (has_head (j / 64) (smalls ++ large)), tt)))
 
 fewer_covered : (locks : List Lock) (j : ℕ) (y : StoredNode) → IsSole locks (lock.Node j) → ((k : ℕ) → Contains (fewer_segments j y) k → IsSole locks (lock.Segment k)) → Covers locks (fewer j y)
 fewer_covered locks j y sole = go (is_last y)
@@ -263,25 +263,25 @@ module _ (h : Hand) (s : Store) where
       rw (run-bind (walk to) (λ w. renaming_to h m w.dirs (dirs ++ w.dirs) w.spot) s) (renaming_to_covered m w.dirs (dirs ++ w.dirs) w.spot (walk_fine s to))
 
 pub create_covered : (path : List (List ℕ)) → IsCoveredPlan (op.Create path)
-create_covered path h s birth = made_path_covered h s birth (File [] 1) path
+create_covered path h s birth when = made_path_covered h s birth (File [] 1 0) path
 
 pub mkdir_covered : (path : List (List ℕ)) → IsCoveredPlan (op.Mkdir path)
-mkdir_covered path h s birth = made_path_covered h s birth (Dir [] 0) path
+mkdir_covered path h s birth when = made_path_covered h s birth (Dir [] 0) path
 
 pub symlink_covered : (path : List (List ℕ)) (target : List ℕ) → IsCoveredPlan (op.Symlink path target)
-symlink_covered path target h s birth = made_path_covered h s birth (Link target 1) path
+symlink_covered path target h s birth when = made_path_covered h s birth (Link target 1) path
 
 pub link_covered : (path to : List (List ℕ)) → IsCoveredPlan (op.Link path to)
-link_covered path to h s birth = let w = run (walk path) s in rw (run-bind (walk path) (λ w. linking h to w.dirs w.spot) s) (linking_covered h s to w.dirs w.spot (walk_fine s path))
+link_covered path to h s birth when = let w = run (walk path) s in rw (run-bind (walk path) (λ w. linking h to w.dirs w.spot) s) (linking_covered h s to w.dirs w.spot (walk_fine s path))
 
 pub unlink_covered : (path : List (List ℕ)) → IsCoveredPlan (op.Unlink path)
-unlink_covered path h s birth = let w = run (walk path) s in rw (run-bind (walk path) (λ w. unlinking w.dirs w.spot) s) (unlinking_covered h s w.dirs w.spot (walk_fine s path))
+unlink_covered path h s birth when = let w = run (walk path) s in rw (run-bind (walk path) (λ w. unlinking w.dirs w.spot) s) (unlinking_covered h s w.dirs w.spot (walk_fine s path))
 
 pub rmdir_covered : (path : List (List ℕ)) → IsCoveredPlan (op.Rmdir path)
-rmdir_covered path h s birth = let w = run (walk path) s in rw (run-bind (walk path) (λ w. removing w.dirs w.spot) s) (removing_covered h s w.dirs w.spot (walk_fine s path))
+rmdir_covered path h s birth when = let w = run (walk path) s in rw (run-bind (walk path) (λ w. removing w.dirs w.spot) s) (removing_covered h s w.dirs w.spot (walk_fine s path))
 
 pub rename_covered : (path to : List (List ℕ)) → IsCoveredPlan (op.Rename path to)
-rename_covered [] to h s birth = refuse_covered h reply.Inval [] refl
-rename_covered (name ∷ names) [] h s birth = refuse_covered h reply.Inval [] refl
-rename_covered (name ∷ names) (new ∷ news) h s birth =
+rename_covered [] to h s birth when = refuse_covered h reply.Inval [] refl
+rename_covered (name ∷ names) [] h s birth when = refuse_covered h reply.Inval [] refl
+rename_covered (name ∷ names) (new ∷ news) h s birth when =
     let w = run (walk (name ∷ names)) s in rw (run-bind (walk (name ∷ names)) (λ w. renaming h (new ∷ news) w.dirs w.spot) s) (renaming_covered h s (new ∷ news) w.dirs w.spot (walk_fine s (name ∷ names)))

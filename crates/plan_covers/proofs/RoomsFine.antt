@@ -62,9 +62,9 @@ module _ (h : Hand) (s : Store) (n : Naming) (disk : DiskStands h s n) where
   drop_fits locks j y is sole f =
       let smalls = map (λ n. y.small n / 1024) (below y.blocks) in
       let large = if y.large == 0 then [] else (y.large - 1) ∷ [] in
-      join h s n locks (uses_to y.small (freed y.kind) y.blocks) (large_gone y.large ++ (SetInode j None ∷ SetBit j false ∷ []))
+      join h s n locks (uses_to y.small (freed y.kind) y.blocks) (large_gone y.large ++ (SetInode j None false ∷ SetBit j false ∷ []))
       (uses_fit locks y.small (freed y.kind) y.blocks (λ i l. f (y.small i / 1024) (has_more (j / 64) (y.small i / 1024) (smalls ++ large) (Contains-append_left smalls large (y.small i / 1024) (map_has (λ n. y.small n / 1024) (below y.blocks) i (below_has y.blocks i l))))))
-      (join h s n locks (large_gone y.large) (SetInode j None ∷ SetBit j false ∷ []) (gone_fits locks y.large (λ k d. f k (has_more (j / 64) k (smalls ++ large) (Contains-append_right smalls large k d))))
+      (join h s n locks (large_gone y.large) (SetInode j None false ∷ SetBit j false ∷ []) (gone_fits locks y.large (λ k d. f k (has_more (j / 64) k (smalls ++ large) (Contains-append_right smalls large k d))))
       (own_sole locks j y is sole, (f (j / 64) (has_head (j / 64) (smalls ++ large)), tt)))
 
   pub fewer_fits : (locks : List Lock) (j : ℕ) (y : StoredNode) → s.inode j ≡ Some y → IsSole locks (lock.Node j) → ((k : ℕ) → Contains (fewer_segments j y) k → IsSole locks (lock.Segment k)) → EditsFit h s n locks (fewer j y)

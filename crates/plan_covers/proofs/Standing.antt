@@ -59,7 +59,7 @@ module _ (s : Store) (at : Nodes) (n : Naming) (g : Pictures s at n) where
       by_node : (b j : ℕ) (o : Option Node) → at b ≡ o → n.owner k ≡ Some (b, j) → is_unused (use_by o) ≡ true → j < blocks_of o → ⊥
       by_node b j None p q e l = omega arith
       by_node b j (Some (Dir entries blocks)) p q e l = absurd (cc)
-      by_node b j (Some (File cells links)) p q e l = absurd (cc)
+      by_node b j (Some (File cells links when)) p q e l = absurd (cc)
       by_node b j (Some (Link target links)) p q e l = omega arith
 
       go : (o : Option (ℕ × ℕ)) → n.owner k ≡ o → n.owner k ≡ None
@@ -88,7 +88,7 @@ module _ (s : Store) (at : Nodes) (n : Naming) (g : Pictures s at n) where
   file_uses : (b : ℕ) (node : Node) → at b ≡ Some node → kind_of node ≡ 1 → (m k : ℕ) → m < blocks_of (Some node) → k ≡ n.block b m → is_directory_use (s.use_of k) ≡ false
   file_uses b (Dir entries blocks) is one m k l e = absurd (omega arith)
   file_uses b (Link target links) is one m k l e = absurd (omega arith)
-  file_uses b (File cells links) is one m k l e =
+  file_uses b (File cells links when) is one m k l e =
       let o : n.owner k ≡ Some (b, m) = ap n.owner e ∙ g.owned b m (rw is l) in
       let u : s.use_of k ≡ use_by (at b) = g.uses k ∙ ap (use_for (n.was k) at) o in
       ap is_directory_use (u ∙ ap use_by is)
@@ -106,14 +106,14 @@ module _ (s : Store) (at : Nodes) (n : Naming) (g : Pictures s at n) where
     large = λ f. absurd (f refl);
     file = λ e. absurd (omega arith);
   }
-  node_stands b (File cells links) is = record {
-    own = own_is b (File cells links) is;
-    small = λ m l. block_is b (File cells links) is m (first_blocks count (n.block b) m) l (first_is count (n.block b) m l);
+  node_stands b (File cells links when) is = record {
+    own = own_is b (File cells links when) is;
+    small = λ m l. block_is b (File cells links when) is m (first_blocks count (n.block b) m) l (first_is count (n.block b) m l);
     large = by_size (nat_lt 65536 (length cells)) refl;
     file = λ e. record {
       blocks = refl;
       large = λ l. longer (nat_lt 65536 (length cells)) (of_lt 65536 (length cells) l);
-      uses = λ m l. file_uses b (File cells links) is refl m (first_blocks count (n.block b) m) l (first_is count (n.block b) m l);
+      uses = λ m l. file_uses b (File cells links when) is refl m (first_blocks count (n.block b) m) l (first_is count (n.block b) m l);
     };
   }
     where
@@ -121,7 +121,7 @@ module _ (s : Store) (at : Nodes) (n : Naming) (g : Pictures s at n) where
       count = small_blocks_of (length cells)
 
       by_size : (c : Bool) → nat_lt 65536 (length cells) ≡ c → (if c then n.large b + 1 else 0) ≢ 0 → large_cover n ((if c then n.large b + 1 else 0) - 1) (n.large_owner ((if c then n.large b + 1 else 0) - 1)) ≡ lock.Node (n.inode b)
-      by_size true e f = large_is b (File cells links) is e (n.large b + 1 - 1) (omega arith)
+      by_size true e f = large_is b (File cells links when) is e (n.large b + 1 - 1) (omega arith)
       by_size false e f = absurd (f refl)
 
       longer : (c : Bool) → c ≡ true → (if c then n.large b + 1 else 0) ≢ 0
@@ -155,7 +155,7 @@ module _ (s : Store) (at : Nodes) (n : Naming) (g : Pictures s at n) where
     where
       same : (node : Node) → (inode_of (n.stamp b) (n.block b) (n.large b) node).kind ≡ kind_of node
       same (Dir entries blocks) = refl
-      same (File cells links) = refl
+      same (File cells links when) = refl
       same (Link target links) = refl
 
 module _ (h : Hand) (s : Store) (tree : FileTree) (n : Naming) (of : IsOfTree s tree n) (hand : IsHandOf h s tree.segments) where
@@ -180,7 +180,7 @@ module _ (h : Hand) (s : Store) (tree : FileTree) (n : Naming) (of : IsOfTree s 
           subst (λ i. HasKind s i e.kind) (sym a) (subst (HasKind s (n.inode b)) (sym k) (named b (node_at tree b) refl (there b f)))
 
       by_node : (d : ℕ) (node : Node) → node_at tree d ≡ Some node → x ≡ inode_of (n.stamp d) (n.block d) (n.large d) node → HasKind s e.inode e.kind
-      by_node d (File cells links) is y = absurd (let k : x.kind ≡ 1 = ap (λ x. x.kind) y in omega arith)
+      by_node d (File cells links when) is y = absurd (let k : x.kind ≡ 1 = ap (λ x. x.kind) y in omega arith)
       by_node d (Link target links) is y = absurd (let k : x.kind ≡ 3 = ap (λ x. x.kind) y in omega arith)
       by_node d (Dir entries blocks) is y =
           let size : q < 56 * blocks = subst (λ k. q < 56 * k) (ap (λ x. x.blocks) y) l in
@@ -201,7 +201,7 @@ module _ (h : Hand) (s : Store) (tree : FileTree) (n : Naming) (of : IsOfTree s 
     where
       root_stands : (o : Option Node) → node_at tree 0 ≡ o → is_dir o ≡ true → HasKind s 0 2
       root_stands None p e = absurd (cc)
-      root_stands (Some (File cells links)) p e = absurd (cc)
+      root_stands (Some (File cells links when)) p e = absurd (cc)
       root_stands (Some (Link target links)) p e = absurd (cc)
       root_stands (Some (Dir entries blocks)) p e = subst (λ i. HasKind s i 2) of.root (subst (HasKind s (n.inode 0)) (g.kinds 0 (Dir entries blocks) p) (kind_at s (node_at tree) n g 0 (Dir entries blocks) p))
 

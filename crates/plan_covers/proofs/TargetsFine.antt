@@ -74,8 +74,8 @@ module _ (h : Hand) (s : Store) (n : Naming) (disk : DiskStands h s n) where
   pub write_fine : (w : Writing) (path : List (List ℕ)) → Fine h s n (node_touched (is_kind 1) path) (plan_of_file path (writing h w))
   write_fine w path = node_fine (is_kind 1) (at_file (writing h w)) (file_fine (writing h w) (λ i touched x is c file. writing_fine h s n disk touched i x is c file w)) path
 
-  pub truncate_fine : (path : List (List ℕ)) (len : ℕ) → Fine h s n (node_touched (is_kind 1) path) (plan_of_file path (cutting len))
-  truncate_fine path len = node_fine (is_kind 1) (at_file (cutting len)) (file_fine (cutting len) (λ i touched x is c file. cutting_fine h s n disk touched i x is c len)) path
+  pub truncate_fine : (when : ℕ) (path : List (List ℕ)) (len : ℕ) → Fine h s n (node_touched (is_kind 1) path) (plan_of_file path (cutting when len))
+  truncate_fine when path len = node_fine (is_kind 1) (at_file (cutting when len)) (file_fine (cutting when len) (λ i touched x is c file. cutting_fine h s n disk touched i x is c when len)) path
 
   pub read_fine : (path : List (List ℕ)) (off len : ℕ) → Fine h s n (node_touched (is_kind 1) path) (plan_of_file path (showing off len))
   read_fine path off len = node_fine (is_kind 1) (at_file (showing off len)) (file_fine (showing off len) (λ i touched x is c file. showing_fine h s n disk touched i x is c file off len)) path

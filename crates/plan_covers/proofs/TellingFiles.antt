@@ -19,18 +19,18 @@ use Rattle.plan_covers.proofs.Targets.{is_kind, target_of, spot_target}
 use Rattle.plan_covers.proofs.Telling.{Tells, Alone, empty_alone, refuse_alone, none_alone}
 
 module _ (h : Hand) (s : Store) where
-  pub cutting_alone : (len i : ℕ) (touched : List ℕ) (x : StoredNode) → Tells (Alone (i ∷ [])) (run (cutting len i touched x) s)
-  cutting_alone len i touched x = go (nat_lt x.size len)
+  pub cutting_alone : (when len i : ℕ) (touched : List ℕ) (x : StoredNode) → Tells (Alone (i ∷ [])) (run (cutting when len i touched x) s)
+  cutting_alone when len i touched x = go (nat_lt x.size len)
     where
-      go : (b : Bool) → Tells (Alone (i ∷ [])) (run (if b then refused reply.BadOffset touched else finish_over (cut_segments x len) (cut_by i touched x len)) s)
+      go : (b : Bool) → Tells (Alone (i ∷ [])) (run (if b then refused reply.BadOffset touched else finish_over (cut_segments x len) (cut_by when i touched x len)) s)
       go true = refuse_alone (i ∷ []) reply.BadOffset touched refl
-      go false = rw (run-segments (cut_segments x len) (Got (Finishes (cut_by i touched x len))) s) (λ ok k c. node_sole (shared_nodes touched) (i ∷ []) (sole_segments (cut_segments x len)) k c)
+      go false = rw (run-segments (cut_segments x len) (Got (Finishes (cut_by when i touched x len))) s) (λ ok k c. node_sole (shared_nodes touched) (i ∷ []) (sole_segments (cut_segments x len)) k c)
 
   module _ (w : Writing) (i : ℕ) (touched : List ℕ) (x : StoredNode) where
     in_alone : (picks : List ℕ) (o : Option ℕ) → Tells (Alone (i ∷ [])) (run (writing_in w i touched x picks o) s)
     in_alone picks o =
-        let y = resized x (max x.size (end_of w)) picks o in
-        subst (Tells (Alone (i ∷ []))) (sym (run-writes w x y s (w.off / 512) (sectors_met w.off w.len) (λ bytes. Got (Finishes (written_by i x y picks o touched bytes)))))
+        let y = resized x w.when (max x.size (end_of w)) picks o in
+        subst (Tells (Alone (i ∷ []))) (sym (run-writes w x y s (w.off / 512) (sectors_met w.off w.len) (λ bytes. Got (Finishes (written_by i y picks o touched bytes)))))
         (λ ok k c. node_sole (shared_nodes touched) (i ∷ []) (sole_segments (map (λ k. k / 1024) picks ++ large_segment o)) k c)
 
     picked_alone : (o : Option ℕ) (p : Option (List ℕ)) → Tells (Alone (i ∷ [])) (run (writing_picked h w i touched x o p) s)

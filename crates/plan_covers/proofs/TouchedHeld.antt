@@ -38,19 +38,19 @@ use Rattle.plan_covers.proofs.AllFine.{touched, plan_fine}
 
 -- kinds of nodes, as the tree and as the disk has them
 file_fit : (node : Node) → file_node node ≡ true → is_kind 1 (kind_of node) ≡ true
-file_fit (File cells links) e = refl
+file_fit (File cells links when) e = refl
 file_fit (Dir entries blocks) e = absurd (cc)
 file_fit (Link target links) e = absurd (cc)
 
 pub dir_fit : (node : Node) → dir_node node ≡ true → is_kind 2 (kind_of node) ≡ true
 dir_fit (Dir entries blocks) e = refl
-dir_fit (File cells links) e = absurd (cc)
+dir_fit (File cells links when) e = absurd (cc)
 dir_fit (Link target links) e = absurd (cc)
 
 link_fit : (node : Node) → link_node node ≡ true → is_kind 3 (kind_of node) ≡ true
 link_fit (Link target links) e = refl
 link_fit (Dir entries blocks) e = absurd (cc)
-link_fit (File cells links) e = absurd (cc)
+link_fit (File cells links when) e = absurd (cc)
 
 held_one : (j i : ℕ) (f : Finish) → j ≡ i → (has : (k : ℕ) → Contains (j ∷ []) k → IsHeld f.locks (lock.Node k)) → (k : ℕ) → Contains (i ∷ []) k → IsHeld f.locks (lock.Node k)
 held_one j i f e has k c = has k (subst (λ z. Contains (z ∷ []) k) (sym e) c)
@@ -91,15 +91,15 @@ module _ (h : Hand) (s : Store) (tree : FileTree) (n : Naming) (of : IsOfTree s 
       (onto_node (new ∷ news) w.dirs (n.inode c) (in_touched h s tree n of dir_node (is_kind 2) dir_fit (new ∷ news) c d) w.spot (walk_quiet is_not_empty refl refl s (name ∷ names)))
 
   -- ---- operation by operation
-  module _ (disk : DiskStands h s n) (birth : ℕ) (f : Finish) where
+  module _ (disk : DiskStands h s n) (birth when : ℕ) (f : Finish) where
     abbrev Ends : Op → Type 0
-    Ends o = run (plan_of h birth o) s ≡ Finishes f
+    Ends o = run (plan_of h birth when o) s ≡ Finishes f
 
     abbrev Goal : ℕ → Type 0
     Goal b = IsHeld f.locks (lock.Node (n.inode b))
 
     of_touched : (o : Op) → Ends o → (b : ℕ) → Contains (touched h s n disk o) (n.inode b) → Goal b
-    of_touched o p b c = subst (λ v. PlanHolds v (lock.Node (n.inode b))) p ((plan_fine h s n disk o birth).nodes (n.inode b) c)
+    of_touched o p b c = subst (λ v. PlanHolds v (lock.Node (n.inode b))) p ((plan_fine h s n disk o birth when).nodes (n.inode b) c)
 
     last : (path : List (List ℕ)) (wanted : Node → Bool) (k : ℕ → Bool) → ((node : Node) → wanted node ≡ true → k (kind_of node) ≡ true) → (b : ℕ) → Contains (reached tree wanted (place tree path)) b →
         Contains ((run (walk path) s).dirs ++ spot_target k (run (walk path) s).spot) (n.inode b)
@@ -138,6 +138,6 @@ module _ (h : Hand) (s : Store) (tree : FileTree) (n : Naming) (of : IsOfTree s 
     further_held op.Stall p b c = absurd (not_in_none b c)
 
 pub walks_are_held : WalkedNodesAreHeld
-walks_are_held o h s tree n birth f of hand p b c =
+walks_are_held o h s tree n birth when f of hand p b c =
     let disk = disk_stands h s tree n of hand in
-    ⊎_elim (λ d. of_touched h s tree n of disk birth f o p b (walked_touched h s tree n of disk o b d)) (λ d. further_held h s tree n of disk birth f o p b d) (either (looked_in tree o) (further tree o f.reply) b c)
+    ⊎_elim (λ d. of_touched h s tree n of disk birth when f o p b (walked_touched h s tree n of disk o b d)) (λ d. further_held h s tree n of disk birth when f o p b d) (either (looked_in tree o) (further tree o f.reply) b c)

@@ -48,18 +48,18 @@ module _ (h : Hand) (s : Store) (dirs : List ℕ) where
   first_of_three touched b c has i d =
       Contains-append_left (shared_nodes touched ++ b) c (lock.Node i, Shared) (Contains-append_left (shared_nodes touched) b (lock.Node i, Shared) (shared_has touched i (has i d)))
 
-  cutting_held : (len i : ℕ) (touched : List ℕ) (x : StoredNode) → Has touched → AreHeld dirs (run (cutting len i touched x) s)
-  cutting_held len i touched x has = go (nat_lt x.size len)
+  cutting_held : (when len i : ℕ) (touched : List ℕ) (x : StoredNode) → Has touched → AreHeld dirs (run (cutting when len i touched x) s)
+  cutting_held when len i touched x has = go (nat_lt x.size len)
     where
-      go : (b : Bool) → AreHeld dirs (run (if b then refused reply.BadOffset touched else finish_over (cut_segments x len) (cut_by i touched x len)) s)
+      go : (b : Bool) → AreHeld dirs (run (if b then refused reply.BadOffset touched else finish_over (cut_segments x len) (cut_by when i touched x len)) s)
       go true = refuse_held reply.BadOffset touched has
-      go false = rw (run-segments (cut_segments x len) (Got (Finishes (cut_by i touched x len))) s) (first_of_three touched (sole_nodes (i ∷ [])) (sole_segments (cut_segments x len)) has)
+      go false = rw (run-segments (cut_segments x len) (Got (Finishes (cut_by when i touched x len))) s) (first_of_three touched (sole_nodes (i ∷ [])) (sole_segments (cut_segments x len)) has)
 
   module _ (w : Writing) (i : ℕ) (touched : List ℕ) (x : StoredNode) (has : Has touched) where
     in_held : (picks : List ℕ) (o : Option ℕ) → AreHeld dirs (run (writing_in w i touched x picks o) s)
     in_held picks o =
-        let y = resized x (max x.size (end_of w)) picks o in
-        subst (AreHeld dirs) (sym (run-writes w x y s (w.off / 512) (sectors_met w.off w.len) (λ bytes. Got (Finishes (written_by i x y picks o touched bytes)))))
+        let y = resized x w.when (max x.size (end_of w)) picks o in
+        subst (AreHeld dirs) (sym (run-writes w x y s (w.off / 512) (sectors_met w.off w.len) (λ bytes. Got (Finishes (written_by i y picks o touched bytes)))))
         (first_of_three touched (sole_nodes (i ∷ [])) (sole_segments (map (λ k. k / 1024) picks ++ large_segment o)) has)
 
     picked_held : (o : Option ℕ) (p : Option (List ℕ)) → AreHeld dirs (run (writing_picked h w i touched x o p) s)
@@ -156,32 +156,32 @@ node_held h s path next each =
     subst (AreHeld (run (walk path) s).dirs) (sym (run-bind (walk path) (λ w. at_target w refused next) s)) (spot_held h s (run (walk path) s).dirs next each (run (walk path) s).spot)
 
 pub stat_held : (path : List (List ℕ)) → HoldsItsWalk path (op.Stat path)
-stat_held path h s birth = node_held h s path (at_inode (λ touched x. refused (described x) touched)) (inode_held h s (run (walk path) s).dirs (λ touched x. refused (described x) touched) (λ touched x. refuse_held h s (run (walk path) s).dirs (described x) touched))
+stat_held path h s birth when = node_held h s path (at_inode (λ touched x. refused (described x) touched)) (inode_held h s (run (walk path) s).dirs (λ touched x. refused (described x) touched) (λ touched x. refuse_held h s (run (walk path) s).dirs (described x) touched))
 
 pub time_held : (path : List (List ℕ)) → HoldsItsWalk path (op.Time path)
-time_held path h s birth = node_held h s path (at_inode (λ touched x. refused (timed x) touched)) (inode_held h s (run (walk path) s).dirs (λ touched x. refused (timed x) touched) (λ touched x. refuse_held h s (run (walk path) s).dirs (timed x) touched))
+time_held path h s birth when = node_held h s path (at_inode (λ touched x. refused (timed x) touched)) (inode_held h s (run (walk path) s).dirs (λ touched x. refused (timed x) touched) (λ touched x. refuse_held h s (run (walk path) s).dirs (timed x) touched))
 
 pub list_held : (path : List (List ℕ)) → HoldsItsWalk path (op.List path)
-list_held path h s birth = node_held h s path (λ t. if t.kind == 2 then at_inode listing t else refused reply.NotDir t.dirs) (by_kind h s (run (walk path) s).dirs (at_inode listing) 2 reply.NotDir (inode_held h s (run (walk path) s).dirs listing (listing_held h s (run (walk path) s).dirs)))
+list_held path h s birth when = node_held h s path (λ t. if t.kind == 2 then at_inode listing t else refused reply.NotDir t.dirs) (by_kind h s (run (walk path) s).dirs (at_inode listing) 2 reply.NotDir (inode_held h s (run (walk path) s).dirs listing (listing_held h s (run (walk path) s).dirs)))
 
 pub readlink_held : (path : List (List ℕ)) → HoldsItsWalk path (op.Readlink path)
-readlink_held path h s birth =
+readlink_held path h s birth when =
     node_held h s path (λ t. if t.kind == 3 then at_inode (λ touched x. refused (reply.Target x.target) touched) t else refused reply.Inval t.dirs)
     (by_kind h s (run (walk path) s).dirs (at_inode (λ touched x. refused (reply.Target x.target) touched)) 3 reply.Inval
     (inode_held h s (run (walk path) s).dirs (λ touched x. refused (reply.Target x.target) touched) (λ touched x. refuse_held h s (run (walk path) s).dirs (reply.Target x.target) touched)))
 
 pub reads_held : (path : List (List ℕ)) (off len : ℕ) → HoldsItsWalk path (op.Read path off len)
-reads_held path off len h s birth = node_held h s path (at_file (showing off len)) (file_held h s (run (walk path) s).dirs (showing off len) (showing_held h s (run (walk path) s).dirs off len))
+reads_held path off len h s birth when = node_held h s path (at_file (showing off len)) (file_held h s (run (walk path) s).dirs (showing off len) (showing_held h s (run (walk path) s).dirs off len))
 
 pub truncate_held : (path : List (List ℕ)) (len : ℕ) → HoldsItsWalk path (op.Truncate path len)
-truncate_held path len h s birth = node_held h s path (at_file (cutting len)) (file_held h s (run (walk path) s).dirs (cutting len) (cutting_held h s (run (walk path) s).dirs len))
+truncate_held path len h s birth when = node_held h s path (at_file (cutting when len)) (file_held h s (run (walk path) s).dirs (cutting when len) (cutting_held h s (run (walk path) s).dirs when len))
 
 pub write_held : (path : List (List ℕ)) (off : ℕ) (bytes : List ℕ) → HoldsItsWalk path (op.Write path off bytes)
-write_held path off bytes h s birth =
-    let w : Writing = record { off = off; len = length bytes; byte = λ j. slice_index bytes (j - off) } in
+write_held path off bytes h s birth when =
+    let w : Writing = record { off = off; len = length bytes; when = when; byte = λ j. slice_index bytes (j - off) } in
     node_held h s path (at_file (writing h w)) (file_held h s (run (walk path) s).dirs (writing h w) (writing_held h s (run (walk path) s).dirs w))
 
 pub fill_held : (path : List (List ℕ)) (off len byte : ℕ) → HoldsItsWalk path (op.Fill path off len byte)
-fill_held path off len byte h s birth =
-    let w : Writing = record { off = off; len = len; byte = λ j. byte } in
+fill_held path off len byte h s birth when =
+    let w : Writing = record { off = off; len = len; when = when; byte = λ j. byte } in
     node_held h s path (at_file (writing h w)) (file_held h s (run (walk path) s).dirs (writing h w) (writing_held h s (run (walk path) s).dirs w))

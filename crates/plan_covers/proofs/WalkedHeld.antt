@@ -54,7 +54,7 @@ module _ (h : Hand) (s : Store) (tree : FileTree) (n : Naming) (of : IsOfTree s 
   root_kind : (o : Option Node) → node_at tree 0 ≡ o → is_dir o ≡ true → n.kind 0 ≡ 2
   root_kind None e d = absurd (cc)
   root_kind (Some (Dir entries blocks)) e d = of.pictures.kinds 0 (Dir entries blocks) e
-  root_kind (Some (File cells links)) e d = absurd (cc)
+  root_kind (Some (File cells links when)) e d = absurd (cc)
   root_kind (Some (Link target links)) e d = absurd (cc)
 
   -- the node that is reached, by its inode
@@ -86,13 +86,13 @@ module _ (h : Hand) (s : Store) (tree : FileTree) (n : Naming) (of : IsOfTree s 
       by_node : (b : ℕ) (o : Option Node) → node_at tree b ≡ o → (c : ℕ) → Contains (then_walked tree (reached_if (λ x. not (dir_node x)) b o) to) c → Contains (if n.kind b == 2 then [] else (run (walk to) s).dirs) (n.inode c)
       by_node b None e c d = absurd (not_in_none c d)
       by_node b (Some (Dir entries blocks)) e c d = absurd (not_in_none c d)
-      by_node b (Some (File cells links)) e c d = rw (of.pictures.kinds b (File cells links) e) (in_dirs to c d)
+      by_node b (Some (File cells links when)) e c d = rw (of.pictures.kinds b (File cells links when) e) (in_dirs to c d)
       by_node b (Some (Link target links)) e c d = rw (of.pictures.kinds b (Link target links) e) (in_dirs to c d)
 
       at_root : (o : Option Node) → is_dir o ≡ true → (c : ℕ) → Contains (then_walked tree (reached_if (λ x. not (dir_node x)) 0 o) to) c → ⊥
       at_root None r c d = not_in_none c d
       at_root (Some (Dir entries blocks)) r c d = not_in_none c d
-      at_root (Some (File cells links)) r c d = absurd (cc)
+      at_root (Some (File cells links when)) r c d = absurd (cc)
       at_root (Some (Link target links)) r c d = absurd (cc)
 
       pub link_second : (v : Spot) (p : Place) → Mirrors s (node_at tree) n v p → (c : ℕ) → Contains (then_walked tree (reached tree (λ x. not (dir_node x)) p) to) c → Contains (link_dirs h s n disk to v) (n.inode c)
@@ -124,7 +124,7 @@ module _ (h : Hand) (s : Store) (tree : FileTree) (n : Naming) (of : IsOfTree s 
       where
         dir_fit : (node : Node) → dir_node node ≡ true → is_kind 2 (kind_of node) ≡ true
         dir_fit (Dir entries blocks) e = refl
-        dir_fit (File cells links) e = absurd (cc)
+        dir_fit (File cells links when) e = absurd (cc)
         dir_fit (Link target links) e = absurd (cc)
 
     -- ---- operation by operation

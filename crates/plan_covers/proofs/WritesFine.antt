@@ -17,14 +17,14 @@ use Rattle.pick_definitions.proofs.ManyLaws.{picks_the_least}
 use Rattle.plan_definitions.specs.Ask.{Ask, Got}
 use Rattle.plan_definitions.specs.Plans.{Hand, Lock, Plan, refused, read_held, shared_nodes, sole_nodes, sole_segments}
 use Rattle.plan_definitions.specs.Plans.Plan.{Finishes}
-use Rattle.plan_definitions.specs.FilePlans.{Writing, end_of, set_sector, sectors_met, directory_blocks, resized, large_taken, large_segment, size_edits, written_by, writing_in, writing_picked, writing_small, writing_large, writing}
+use Rattle.plan_definitions.specs.FilePlans.{Writing, end_of, set_sector, sectors_met, directory_blocks, resized, large_taken, large_segment, file_dated, written_by, writing_in, writing_picked, writing_small, writing_large, writing}
 use Rattle.plan_definitions.specs.Meets.{is_directory_use}
 use Rattle.plan_laws.specs.Locks.{IsSole}
 use Rattle.plan_laws.proofs.Covering.{has_head, map_has, node_sole, segment_sole}
 use Rattle.plan_covers.specs.Covers.{small_cover, large_cover}
 use Rattle.plan_covers.proofs.Standing.{IsFileNode, DiskStands}
 use Rattle.plan_covers.proofs.Fine.{first_held, EditFits, EditsFit, join, Fine, FinishFits, past_held, refuse_fine, none_fine, done}
-use Rattle.plan_covers.proofs.FilesFine.{index_in, in_small, met_before, size_fits, taken_fits, states_fit, writes_fine}
+use Rattle.plan_covers.proofs.FilesFine.{index_in, in_small, met_before, file_fits, taken_fits, states_fit, writes_fine}
 
 module _ (h : Hand) (s : Store) (n : Naming) (disk : DiskStands h s n) (touched : List ℕ) (i : ℕ) (x : StoredNode) (is : s.inode i ≡ Some x) (held : Contains touched i) (file : IsFileNode s x) (w : Writing) where
   abbrev Ends : Ask Plan → Type 0
@@ -45,7 +45,7 @@ module _ (h : Hand) (s : Store) (n : Naming) (disk : DiskStands h s n) (touched 
 
   module _ (picks : List ℕ) (o : Option ℕ) (are : ArePicks picks) (one : IsPick o) where
     abbrev y : StoredNode
-    y = resized x size picks o
+    y = resized x w.when size picks o
 
     abbrev locks : List Lock
     locks = shared_nodes touched ++ sole_nodes (i ∷ []) ++ sole_segments (map (λ k. k / 1024) picks ++ large_segment o)
@@ -76,7 +76,7 @@ module _ (h : Hand) (s : Store) (n : Naming) (disk : DiskStands h s n) (touched 
             let f = are.free k c in
             (subst (λ o. IsSole locks (small_cover n k o)) (sym f.0) (pick_segment k c), f.1)
 
-    large_of : (o : Option ℕ) → IsPick o → ((g : ℕ) → Contains (large_segment o) g → IsSole locks (lock.Segment g)) → 65536 < end_of w → IsSole locks (large_cover n ((resized x size picks o).large - 1) (n.large_owner ((resized x size picks o).large - 1)))
+    large_of : (o : Option ℕ) → IsPick o → ((g : ℕ) → Contains (large_segment o) g → IsSole locks (lock.Segment g)) → 65536 < end_of w → IsSole locks (large_cover n ((resized x w.when size picks o).large - 1) (n.large_owner ((resized x w.when size picks o).large - 1)))
     large_of None one f l = rw (of_lt 65536 size (omega arith)) (subst (IsSole locks) (sym ((disk.nodes i x is).large (one l))) own)
     large_of (Some g) one f l =
         let e : g ≡ g + 1 - 1 = omega arith in
@@ -92,18 +92,18 @@ module _ (h : Hand) (s : Store) (n : Naming) (disk : DiskStands h s n) (touched 
         go true e = small_fits (t / 8) (in_small t size (omega arith) (grind (arith, nat_tests)))
         go false e = let high : 128 ≤ t = grind (arith, nat_tests) in large_fits (omega arith)
 
-    written_fits : (bytes : List Edit) → EditsFit h s n locks bytes → FinishFits h s n touched (written_by i x y picks o touched bytes)
+    written_fits : (bytes : List Edit) → EditsFit h s n locks bytes → FinishFits h s n touched (written_by i y picks o touched bytes)
     written_fits bytes fit = record {
       nodes = first_held touched (sole_nodes (i ∷ [])) (sole_segments (map (λ k. k / 1024) picks ++ large_segment o));
-      edits = join h s n locks (map (λ k. SetUse k Bytes) picks ++ large_taken o ++ size_edits i x y) bytes
-          (join h s n locks (map (λ k. SetUse k Bytes) picks ++ large_taken o) (size_edits i x y)
+      edits = join h s n locks (map (λ k. SetUse k Bytes) picks ++ large_taken o ++ file_dated i y) bytes
+          (join h s n locks (map (λ k. SetUse k Bytes) picks ++ large_taken o) (file_dated i y)
           (join h s n locks (map (λ k. SetUse k Bytes) picks) (large_taken o) (states_fit h s n disk locks Bytes picks pick_segment) (taken_fits h s n disk locks o (λ g c. segment g (Contains-append_right (map (λ k. k / 1024) picks) (large_segment o) g c))))
-          (size_fits h s n disk locks i x y is own)) fit;
+          (file_fits h s n disk locks i x y is own)) fit;
     }
 
     in_fine : Ends (writing_in w i touched x picks o)
-    in_fine = writes_fine h s n disk touched i x is held file w y locks sets (sectors_met w.off w.len) (w.off / 512) (λ bytes. Got (Finishes (written_by i x y picks o touched bytes))) (λ v a b. met_before w.off w.len v b a)
-        (λ bytes fit. done h s n touched (written_by i x y picks o touched bytes) (written_fits bytes fit))
+    in_fine = writes_fine h s n disk touched i x is held file w y locks sets (sectors_met w.off w.len) (w.off / 512) (λ bytes. Got (Finishes (written_by i y picks o touched bytes))) (λ v a b. met_before w.off w.len v b a)
+        (λ bytes fit. done h s n touched (written_by i y picks o touched bytes) (written_fits bytes fit))
 
   module _ (o : Option ℕ) (one : IsPick o) where
     picked_fine : (m : ℕ) (p : Option (List ℕ)) → small_blocks_of size ≤ x.blocks + m → picked_many h.held m ≡ p → Ends (writing_picked h w i touched x o p)

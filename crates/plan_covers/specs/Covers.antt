@@ -51,8 +51,8 @@ cover_of naming (LargeAt segment part) = large_cover naming segment (naming.larg
 -- over the disk of a tree each edit of a finished plan, of file bytes too, is of a sector whose lock is held alone
 abbrev pub EditsAreCovered : Type 0
 EditsAreCovered =
-    (operation : Op) (hand : Hand) (store : Store) (tree : FileTree) (naming : Naming) (birth : ℕ) (finish : Finish) → IsOfTree store tree naming →
-    IsHandOf hand store tree.segments → run (plan_of hand birth operation) store ≡ Finishes finish →
+    (operation : Op) (hand : Hand) (store : Store) (tree : FileTree) (naming : Naming) (birth when : ℕ) (finish : Finish) → IsOfTree store tree naming →
+    IsHandOf hand store tree.segments → run (plan_of hand birth when operation) store ≡ Finishes finish →
     (edit : Edit) → Contains finish.edits edit → IsSole finish.locks (cover_of naming (edited_at edit))
 
 -- a lock is held, in either mode
@@ -73,24 +73,24 @@ IsHeldSegment hand _ = ⊥
 -- over the disk of a tree each sector that a plan looks at is under one of its locks, or is that of a segment at hand
 abbrev pub LooksAreCovered : Type 0
 LooksAreCovered =
-    (operation : Op) (hand : Hand) (store : Store) (tree : FileTree) (naming : Naming) (birth : ℕ) → IsOfTree store tree naming →
+    (operation : Op) (hand : Hand) (store : Store) (tree : FileTree) (naming : Naming) (birth when : ℕ) → IsOfTree store tree naming →
     IsHandOf hand store tree.segments →
-    (sector : Sector) → Contains (looks (plan_of hand birth operation) store) sector →
-    PlanHolds (run (plan_of hand birth operation) store) (cover_of naming sector) ⊎ IsHeldSegment hand sector
+    (sector : Sector) → Contains (looks (plan_of hand birth when operation) store) sector →
+    PlanHolds (run (plan_of hand birth when operation) store) (cover_of naming sector) ⊎ IsHeldSegment hand sector
 
 -- over the disk of a tree the bytes of a finished plan go into small blocks that are no directory's and never were one's
 abbrev pub BytesKeepOffDirectories : Type 0
 BytesKeepOffDirectories =
-    (operation : Op) (hand : Hand) (store : Store) (tree : FileTree) (naming : Naming) (birth : ℕ) (finish : Finish) → IsOfTree store tree naming →
-    IsHandOf hand store tree.segments → run (plan_of hand birth operation) store ≡ Finishes finish →
+    (operation : Op) (hand : Hand) (store : Store) (tree : FileTree) (naming : Naming) (birth when : ℕ) (finish : Finish) → IsOfTree store tree naming →
+    IsHandOf hand store tree.segments → run (plan_of hand birth when operation) store ≡ Finishes finish →
     (block part : ℕ) (bytes : ℕ → ℕ) → Contains finish.edits (SetBytes block part bytes) → is_directory_use (store.use_of block) ≡ false
 
 -- over the disk of a tree a finished plan holds, in either mode, each node in which the operation's walks look up a name, and the one further node
 -- that the operation touches by its reply
 abbrev pub WalkedNodesAreHeld : Type 0
 WalkedNodesAreHeld =
-    (operation : Op) (hand : Hand) (store : Store) (tree : FileTree) (naming : Naming) (birth : ℕ) (finish : Finish) → IsOfTree store tree naming →
-    IsHandOf hand store tree.segments → run (plan_of hand birth operation) store ≡ Finishes finish →
+    (operation : Op) (hand : Hand) (store : Store) (tree : FileTree) (naming : Naming) (birth when : ℕ) (finish : Finish) → IsOfTree store tree naming →
+    IsHandOf hand store tree.segments → run (plan_of hand birth when operation) store ≡ Finishes finish →
     (node : ℕ) → Contains (looked_in tree operation ++ further tree operation finish.reply) node → IsHeld finish.locks (lock.Node (naming.inode node))
 
 -- an operation that changes the bytes of a file
@@ -104,8 +104,8 @@ changes_bytes _ = false
 -- blocks that are or were a directory's, which `write` and `fill` alone go by
 abbrev pub ChangedNodesAreHeldAlone : Type 0
 ChangedNodesAreHeldAlone =
-    (operation : Op) (hand : Hand) (store : Store) (tree : FileTree) (naming : Naming) (birth ever_directories : ℕ) (finish : Finish) →
+    (operation : Op) (hand : Hand) (store : Store) (tree : FileTree) (naming : Naming) (birth when ever_directories : ℕ) (finish : Finish) →
     IsOfTree store tree naming → IsHandOf hand store tree.segments → IsNew tree birth →
-    (changes_bytes operation ≡ true → HasFiles store tree ever_directories) → run (plan_of hand birth operation) store ≡ Finishes finish →
-    (node : ℕ) → is_some (node_at tree node) ≡ true → node_at (apply tree operation birth ever_directories).tree node ≢ node_at tree node →
+    (changes_bytes operation ≡ true → HasFiles store tree ever_directories) → run (plan_of hand birth when operation) store ≡ Finishes finish →
+    (node : ℕ) → is_some (node_at tree node) ≡ true → node_at (apply tree operation birth when ever_directories).tree node ≢ node_at tree node →
     IsSole finish.locks (lock.Node (naming.inode node))
