@@ -1,6 +1,5 @@
 -- A walk over sectors of a disk leads where the tree's walk does.
-use Rattle.std.proofs.Common.{◌≡◌, ◌↔◌, ℕ, Bool, Option, Some, None, List, [], ◌∷◌, refl, sym, ap, subst, ◌∙◌}
-use Rattle.std.specs.Option.{option_map}
+use Rattle.std.proofs.Common.{◌≡◌, ℕ, Option, Some, None, List, [], ◌∷◌, sym, ap, subst, ◌∙◌}
 use Rattle.frang_base.specs.declared.reply.Reply.{Reply}
 use Rattle.frang_base.specs.declared.reply.Reply.TheVariants as reply
 use Rattle.frang_base.specs.declared.sector.Sector.{Sector as CodeSector}
@@ -9,11 +8,10 @@ use Rattle.tree_definitions.specs.declared.node.Node.TheVariants.{Dir, File, Lin
 use Rattle.tree_definitions.specs.Entries.{Entries, entry_at}
 use Rattle.tree_definitions.specs.Place.{Place, Root, Taken, Free, Nowhere, place_by, place_in, below, place_from, place}
 use Rattle.tree_definitions.specs.Tree.{FileTree, node_at}
-use Rattle.sector_bytes.specs.Sectors.{Sectors}
 use Rattle.disk_definitions.specs.Store.{Store, StoredEntry, store_of}
 use Rattle.disk_definitions.specs.Naming.{Naming}
 use Rattle.pick_definitions.specs.Held.{Segments}
-use Rattle.plan_definitions.specs.Ask.{Sector, Met, Needs, Has, run, looks, meet, number_of}
+use Rattle.plan_definitions.specs.Ask.{Sector, run, looks, meet, number_of}
 use Rattle.plan_definitions.specs.Walks.{Spot, AtRoot, AtName, AtGap, Lost, Walked, at_spot, walk}
 use Rattle.plan_definitions.specs.Written.{Cached, at_hand}
 use Rattle.plan_definitions.specs.Meets.{IsOfTree}
@@ -23,7 +21,6 @@ use Rattle.plan_laws.proofs.Walking.{walks_lead}
 use Rattle.plan_looks.proofs.Deciding.{meets_where}
 use Rattle.plan_looks.proofs.WalksInside.{walk_inside}
 use Rattle.dir_lookup.specs.Reading.{reading, numbered}
-use Rattle.plan_definitions.specs.OnDisk.{AreOfDisk, StandsBelow}
 use Rattle.plan_standing.proofs.OfDisk.{of_tree}
 use Rattle.plan_standing.proofs.AtHand.{agrees}
 use Rattle.namei.specs.declared.walking.Step.{Step}
@@ -40,7 +37,7 @@ named_case d blocks entries name (Some b) = tt
 node_case : (o : Option Node) (d : ℕ) (name : List ℕ) → IsRefused (place_in o d name)
 node_case None d name = tt
 node_case (Some (Dir entries blocks)) d name = named_case d blocks entries name (entry_at entries name)
-node_case (Some (File cells links)) d name = tt
+node_case (Some (File cells links when)) d name = tt
 node_case (Some (Link target links)) d name = tt
 
 on_case : (p : Place) (next : ℕ → Place) → IsRefused p → ((b : ℕ) → IsRefused (next b)) → IsRefused (below p next)

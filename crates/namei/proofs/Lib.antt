@@ -1,2 +1,5 @@
 pub mod WalkAnswers
 pub mod Leading
+pub mod NameSteps
+pub mod LinkSteps
+pub mod Agreeing

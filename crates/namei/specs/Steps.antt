@@ -1,5 +1,5 @@
 -- What a walk answers.
-use Rattle.std.specs.Prelude.{ℕ, []}
+use Rattle.std.specs.Prelude.{[]}
 use Rattle.frang_base.specs.declared.reply.Reply.{Reply}
 use Rattle.frang_base.specs.declared.reply.Reply.TheVariants as reply
 use Rattle.plan_definitions.specs.Walks.{Spot, Walked, at_spot, at_target}

@@ -2,6 +2,10 @@
 //! that is needed and isn't cached. It stands on the reading of cached sectors.
 #![tactic(auto)]
 
+mod onward;
+mod resolving;
+mod targets;
 mod walking;
 
+pub use resolving::{Resolved, resolve};
 pub use walking::{Step, walk};

@@ -1,0 +1,11 @@
+pub mod Looked
+pub mod Names
+pub mod Links
+pub mod Comes
+pub mod Running
+pub mod Planned
+pub mod Allowed
+pub mod Inside
+pub mod Covered
+pub mod OnDisk
+pub mod Ways

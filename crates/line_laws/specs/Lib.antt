@@ -1,0 +1,5 @@
+pub mod Resolutions
+pub mod Planned
+pub mod Covered
+pub mod OnDisk
+pub mod Places

@@ -1,0 +1,19 @@
+-- By the spot of the name.
+use Rattle.std.proofs.Common.{[], sym, ap, ◌∙◌}
+use Rattle.dir_lookup.specs.Spots.{spot_of, walked_in}
+use Rattle.dir_lookup.proofs.Steps.{said_ok, said_err}
+use Rattle.namei.specs.Resolutions.{next_as}
+use Rattle.namei.proofs.NameSteps.{over, spot_step, need_step}
+use Rattle.namei.proofs.onward.next_at.Goals as goal
+
+pub returns-in-Ok : goal.returns-in-Ok
+returns-in-Ok c held follow into here =
+    let cached = c.args.sectors.now.entries in
+    spot_step cached held c.args.last follow into here c.args.names.now c.args.dir c.args.name.now (spot_of c.in-Ok.spot)
+    (said_ok (λ s. walked_in [] c.args.dir (spot_of s)) c.step.result c.in-Ok.spot _ c.in-Ok.is (c.step.ensures [] held))
+    ∙ ap (λ n. next_as n (λ i. over cached held (follow i)) (λ i. over cached held (into i)) here) (sym c.at_spot.ensures)
+
+pub returns-in-Err : goal.returns-in-Err
+returns-in-Err c held follow into here =
+    need_step c.args.sectors.now.entries held c.args.last follow into here c.args.names.now c.args.dir c.args.name.now c.in-Err.need.0.0
+    (said_err (λ s. walked_in [] c.args.dir (spot_of s)) c.step.result c.in-Err.need _ c.in-Err.is (c.step.ensures [] held))

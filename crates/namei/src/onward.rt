@@ -1,0 +1,81 @@
+// How a walk goes on from a name, where links are followed.
+ghost use Rattle.std.specs.Prelude.{◌≡◌, ℕ, List};
+ghost use Rattle.pick_definitions.specs.Held.{Segments};
+ghost use Rattle.disk_definitions.specs.Store.{entered};
+ghost use Rattle.plan_definitions.specs.Ask.{Ask, ReadInode};
+ghost use Rattle.line_definitions.specs.Resolving as lines;
+ghost use Rattle.dir_lookup.specs.Reading.{reading};
+ghost use Rattle.dir_lookup.specs.Spots.{spot_of};
+ghost use Rattle.namei.specs.Resolutions.{resolved_as, next_as, spot_as, entry_as, gap_as};
+
+use dir_lookup::{Refusal, Spot, step};
+use frang_base::limits::{KIND_DIRECTORY, KIND_LINK};
+use frang_base::{Name, Sector};
+use meta_version::Sectors;
+use sector_definitions::DirEntry;
+
+// How a walk goes on: a sector is needed first, it ends at the name, it goes into a directory, it follows a link, or it is refused.
+#[derive(Clone, Copy, Debug)]
+pub(crate) enum Next {
+    Need(Sector),
+    Ends,
+    Into(u32),
+    Follows(u32),
+    Stays(Refusal),
+}
+
+// At a name of a directory, before the names that are left.
+pub(crate) fn next_at(sectors: &Sectors, last: bool, dir: u32, name: &Name, names: &[Name]) -> Next
+    ensures { (held : Segments) (follow into : ℕ → Ask lines.Resolution) (here : List (List ℕ)) → resolved_as (reading (ReadInode dir (lines.below_inode last follow into here dir name.now names.now)) sectors.now.entries held) ≡ next_as result (λ i. resolved_as (reading (follow i) sectors.now.entries held)) (λ i. resolved_as (reading (into i) sectors.now.entries held)) here }
+{
+    match step(sectors, dir, name) {
+        Ok(spot) => at_spot(last, &spot, names),
+        Err(need) => Next::Need(need.0),
+    }
+}
+
+// At the spot of a name. No name leads to the root.
+fn at_spot(last: bool, spot: &Spot, names: &[Name]) -> Next
+    ensures { result ≡ spot_as last names.now (spot_of spot.now) }
+{
+    match spot {
+        Spot::AtName { found, .. } => at_entry(last, &found.entry, names),
+        Spot::AtGap { .. } => at_gap(names),
+        Spot::Lost(refusal) => Next::Stays(*refusal),
+        Spot::AtRoot => Next::Stays(Refusal::NoEnt),
+    }
+}
+
+// At an entry: a link that is the last name is followed only where that is asked.
+fn at_entry(last: bool, entry: &DirEntry, names: &[Name]) -> Next
+    ensures { result ≡ entry_as last names.now (entered entry.now) }
+{
+    match names {
+        [] => {
+            if last && entry.kind == KIND_LINK {
+                Next::Follows(entry.inode)
+            } else {
+                Next::Ends
+            }
+        }
+        [_, ..] => {
+            if entry.kind == KIND_LINK {
+                Next::Follows(entry.inode)
+            } else if entry.kind == KIND_DIRECTORY {
+                Next::Into(entry.inode)
+            } else {
+                Next::Stays(Refusal::NotDir)
+            }
+        }
+    }
+}
+
+// At a name that isn't there.
+fn at_gap(names: &[Name]) -> Next
+    ensures { result ≡ gap_as names.now }
+{
+    match names {
+        [] => Next::Ends,
+        [_, ..] => Next::Stays(Refusal::NoEnt),
+    }
+}
