@@ -1,4 +1,7 @@
-pub mod Changed
+pub mod Chosen
+pub mod Claiming
 pub mod InPlace
-pub mod KeptLists
-pub mod ClaimPlaces
+pub mod Keeping
+pub mod Lists
+pub mod Retained
+pub mod Viewing

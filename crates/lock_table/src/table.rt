@@ -1,13 +1,15 @@
 // The lock table.
-ghost use Rattle.std.specs.Prelude.{◌≡◌, ◌<◌, ◌++◌, IsOk, IsSome, IfOk, OnOk, OnErr};
-ghost use Rattle.std.specs.Option.{option_map, option_to_list};
-ghost use Rattle.lock_definitions.specs.Locks.{no_locks, claim_of, held, is_wished, AreLocks};
-ghost use Rattle.lock_definitions.specs.Calls.{holders, want_answer, wanted, released, downgraded, is_wished_by_other, asked_for, revokes, log_taken_by, log_answer, taken, extended, cleared};
-ghost use Rattle.lock_table.specs.Table.{HasRoom};
+ghost use Rattle.std.specs.Prelude.{◌≡◌, ◌↔◌, ◌≢◌, ◌<◌, [], IsOk, IsSome, IsTrue, IfOk, OnOk, OnErr};
+ghost use Rattle.std.specs.List.{slice_get};
+ghost use Rattle.std.specs.Option.{option_copied};
+ghost use Rattle.lock_definitions.specs.Locks.{no_locks, claim_of, held, AreLocks};
+ghost use Rattle.lock_definitions.specs.Calls.{want_answer, answered, wanted, released, downgraded, revokes, log_taken_by, log_answer, taken, extended, cleared};
+ghost use Rattle.lock_table.specs.Table.{HasRoom, KeepsRoom};
 
-use crate::clerks::Clerks;
+use crate::claims::Claims;
+use crate::lock_map::unreserved;
 use crate::logs::Logs;
-use crate::modes::{answered, asked_of, clashes, given_up, is_wished_in, shared};
+use crate::modes::{answered, given_up, shared};
 use frang_base::limits::SERVERS;
 use frang_base::{LockId, Mode, NoMemory, ServerId};
 use lock_definitions::{AskedFor, Claim, LogHold, LogTaken, Wanted};
@@ -15,37 +17,36 @@ use std::alloc::Global;
 use std::marker::Model;
 
 /// A lock table, seen as its locks, by the definitions of locks, and the room for further claims. Servers are 0 to 15; a taker of
-/// logs may also be the host.
+/// logs may also be the host. A lock is found in time logarithmic in their number, and what a server is asked for lies ready.
 #[derive(Debug, Drop)]
 pub struct LockTable {
     alloc: Global,
-    clerks: Clerks,
+    claims: Claims,
+    // The lock for whose next want there is a place, also where nobody claims it.
+    reserved: Option<LockId>,
     logs: Logs,
 }
 
 impl Model for LockTable {
-    ghost use Rattle.lock_definitions.specs.Locks.{AreLocks};
-    ghost use Rattle.lock_table.specs.Table.{Table, table_of, locks_of};
+    ghost use Rattle.lock_table.specs.Table.{Table, table_of, IsTable};
 
     ghost Value = { Table };
 
-    ghost view = { λ table. table_of table.clerks table.logs };
+    ghost view = { λ table. table_of table.claims table.reserved table.logs };
 
-    ghost invariant = { λ table. AreLocks (locks_of table.clerks table.logs) };
+    ghost invariant = { λ table. IsTable table.claims.entries table.reserved table.logs };
 }
 
-// Adds a lock to those that are asked for, where it is.
-fn push_asked(
-    all: &mut Vec<(LockId, AskedFor)>,
-    lock: LockId,
-    asked: Option<AskedFor>,
-) -> Result<(), NoMemory>
-    ensures { OnOk result (all.new.items ≡ all.old.items ++ option_to_list (option_map (λ asked. (lock, asked)) asked)) }
+// The answer to a want that these holders stand against.
+fn answer_to(holders: u32) -> Wanted
+    ensures granted { holders ≡ 0 → result ≡ Wanted.Granted }
+    ensures waits { (holders ≡ 0 → ⊥) → result ≡ Wanted.Wait holders }
 {
-    if let Some(asked) = asked {
-        all.push((lock, asked))?;
+    if holders == 0 {
+        Wanted::Granted
+    } else {
+        Wanted::Wait { holders }
     }
-    Ok(())
 }
 
 impl LockTable {
@@ -55,7 +56,8 @@ impl LockTable {
     {
         LockTable {
             alloc,
-            clerks: Clerks::new(alloc),
+            claims: Claims::new(alloc),
+            reserved: None,
             logs: Logs::new(),
         }
     }
@@ -65,7 +67,7 @@ impl LockTable {
         ensures claim { result ≡ claim_of self.now.locks server.0 lock }
         ensures state { AreLocks self.now.locks }
     {
-        self.clerks.claim(server, lock)
+        self.claims.claim(server, lock)
     }
 
     /// The mode in which a server holds a lock. `None` exactly where it doesn't hold it.
@@ -74,32 +76,6 @@ impl LockTable {
         ensures state { AreLocks self.now.locks }
     {
         self.claim(server, lock).held
-    }
-
-    // A bit for each other server that holds the lock in a mode that conflicts.
-    #[tactic(auto, unfolding(lock_definitions::specs::Servers::server_bits))]
-    fn holders(&self, server: ServerId, lock: LockId, mode: Mode) -> u32
-        ensures { result ≡ holders self.now.locks server.0 lock mode }
-    {
-        let mut holders = 0;
-        for other in 0..SERVERS as u8 {
-            if other != server.0 && clashes(mode, self.held(ServerId(other), lock)) {
-                holders |= 1 << other;
-            }
-        }
-        holders
-    }
-
-    // What a want is answered.
-    fn answer(&self, server: ServerId, lock: LockId, mode: Mode) -> Wanted
-        ensures { result ≡ want_answer self.now.locks server.0 lock mode }
-    {
-        let holders = self.holders(server, lock, mode);
-        if holders == 0 {
-            Wanted::Granted
-        } else {
-            Wanted::Wait { holders }
-        }
     }
 
     /// A server, 0 to 15, wants a lock in a mode. It waits exactly where another server holds the lock and one of the two modes is
@@ -112,77 +88,86 @@ impl LockTable {
         ensures err { OnErr result (self.new.locks ≡ self.old.locks) }
         ensures sure { HasRoom self.old server.0 lock → IsOk result }
     {
-        let answer = self.answer(server, lock, mode);
-        let claim = answered(answer, mode, self.claim(server, lock));
-        self.clerks.set(server, lock, claim)?;
+        let claimed = self.claims.place(lock)?;
+        let answer = answer_to(claimed.holders(server, mode));
+        let claim = answered(answer, mode, claimed.claim(server));
+        self.claims.change(server, lock, claimed, claim, Some(lock));
+        self.reserved = unreserved(self.reserved, lock);
         Ok(answer)
     }
 
-    /// Makes room for a want of this server, 0 to 15, for this lock. Nothing else changes, whatever the answer.
+    /// Makes room for a want of this server, 0 to 15, for this lock, as the next call. Nothing else changes, whatever the answer. It
+    /// takes no memory where there is that room.
     pub fn reserve(&mut self, server: ServerId, lock: LockId) -> Result<(), NoMemory>
         requires { server.0 < SERVERS }
         ensures locks { self.new.locks ≡ self.old.locks }
         ensures ok { OnOk result (HasRoom self.new server.0 lock) }
+        ensures sure { HasRoom self.old server.0 lock → IsOk result }
     {
-        self.clerks.reserve(server)
+        let _ = self.claims.place(lock)?;
+        self.claims.free(self.reserved, Some(lock));
+        self.reserved = Some(lock);
+        Ok(())
     }
 }
 
 impl LockTable {
-    // Whether another server's wish for the lock in this mode is noted.
-    #[tactic(auto, unfolding(lock_definitions::specs::Servers::any_server))]
-    fn is_wished_by_other(&self, server: ServerId, lock: LockId, mode: Mode) -> bool
-        ensures { result ≡ is_wished_by_other self.now.locks server.0 lock mode }
-    {
-        let mut wished = false;
-        for other in 0..SERVERS as u8 {
-            wished |= other != server.0 && is_wished_in(self.claim(ServerId(other), lock), mode);
-        }
-        wished
-    }
-
-    // What a server is asked for, if a noted wish of another server conflicts with its hold.
-    fn asked_for(&self, server: ServerId, lock: LockId) -> Option<AskedFor>
-        ensures { result ≡ asked_for self.now.locks server.0 lock }
-    {
-        let for_shared = self.is_wished_by_other(server, lock, Mode::Shared);
-        let for_sole = self.is_wished_by_other(server, lock, Mode::Sole);
-        asked_of(self.held(server, lock), for_shared, for_sole)
-    }
-
     /// The locks of a server that a noted wish of another server conflicts with, ascending, each with what is asked for:
     /// `Downgrade` exactly where the server holds the lock sole and a shared one is wished.
     pub fn revokes(&self, server: ServerId) -> Result<Vec<(LockId, AskedFor)>, NoMemory>
         ensures { IfOk result (λ asked. asked.items ≡ revokes self.now.locks server.0) }
     {
-        let mut all = Vec::new(self.alloc);
-        for (lock, _) in self.clerks.claims(server) {
-            push_asked(&mut all, *lock, self.asked_for(server, *lock))?;
-        }
-        Ok(all)
+        Ok(Vec::from_slice(self.alloc, self.asked(server))?)
     }
 
-    /// A server gives up a lock that it holds. It takes no memory.
+    // The same, as it lies.
+    fn asked(&self, server: ServerId) -> &[(LockId, AskedFor)]
+        ensures { result.now ≡ revokes self.now.locks server.0 }
+    {
+        self.claims.asked(server)
+    }
+
+    /// Whether some lock of a server is asked for: exactly where `revokes` lists one. It takes no memory.
+    pub fn is_asked(&self, server: ServerId) -> bool
+        ensures { IsTrue result ↔ (revokes self.now.locks server.0 ≢ []) }
+    {
+        !self.asked(server).is_empty()
+    }
+
+    /// The first that `revokes` lists for a server. `None` exactly where it lists nothing. It takes no memory.
+    pub fn first_asked(&self, server: ServerId) -> Option<(LockId, AskedFor)>
+        ensures { result ≡ slice_get (revokes self.now.locks server.0) 0 }
+    {
+        self.asked(server).first().copied()
+    }
+
+    /// A server gives up a lock that it holds. It takes no memory, and leaves the room that there was.
     pub fn release(&mut self, server: ServerId, lock: LockId)
         requires { IsSome (held self.old.locks server.0 lock) }
-        ensures { self.new.locks ≡ released self.old.locks server.0 lock }
+        ensures locks { self.new.locks ≡ released self.old.locks server.0 lock }
+        ensures room { KeepsRoom self.old self.new }
     {
-        let claim = given_up(self.claim(server, lock));
-        self.clerks.change(server, lock, claim);
+        let claimed = self.claims.claimed(lock);
+        let claim = given_up(claimed.claim(server));
+        self.claims
+            .change(server, lock, claimed, claim, self.reserved);
     }
 
-    /// A server that holds a lock sole holds it shared from now on. It takes no memory.
+    /// A server that holds a lock sole holds it shared from now on. It takes no memory, and leaves the room that there was.
     pub fn downgrade(&mut self, server: ServerId, lock: LockId)
         requires { held self.old.locks server.0 lock ≡ Some Mode.Sole }
-        ensures { self.new.locks ≡ downgraded self.old.locks server.0 lock }
+        ensures locks { self.new.locks ≡ downgraded self.old.locks server.0 lock }
+        ensures room { KeepsRoom self.old self.new }
     {
-        let claim = shared(self.claim(server, lock));
-        self.clerks.change(server, lock, claim);
+        let claimed = self.claims.claimed(lock);
+        let claim = shared(claimed.claim(server));
+        self.claims
+            .change(server, lock, claimed, claim, self.reserved);
     }
 
     /// The log of a dead server is taken until the taker's lease ends at the tick `expiry`. `LogTaken` comes exactly where another
     /// taker has it, whose expiry isn't below `now`; it shows that taker and expiry, and the holds are as before. It takes no
-    /// memory.
+    /// memory, and leaves the room that there was.
     pub fn take_log(
         &mut self,
         dead: ServerId,
@@ -192,6 +177,7 @@ impl LockTable {
     ) -> Result<(), LogTaken>
         ensures answer { result ≡ log_answer (log_taken_by self.old.locks dead.0 by.0 now) }
         ensures after { self.new.locks ≡ taken self.old.locks dead.0 by.0 now expiry }
+        ensures room { KeepsRoom self.old self.new }
     {
         match self.logs.hold_against(dead, by, now) {
             Some(hold) => Err(LogTaken {
@@ -205,18 +191,22 @@ impl LockTable {
         }
     }
 
-    /// A taker's lease was renewed: each log that it has taken is its own until the tick `expiry`. It takes no memory.
+    /// A taker's lease was renewed: each log that it has taken is its own until the tick `expiry`. It takes no memory, and
+    /// leaves the room that there was.
     pub fn extend(&mut self, by: ServerId, expiry: u64)
-        ensures { self.new.locks ≡ extended self.old.locks by.0 expiry }
+        ensures locks { self.new.locks ≡ extended self.old.locks by.0 expiry }
+        ensures room { KeepsRoom self.old self.new }
     {
         self.logs.extend(by, expiry);
     }
 
-    /// Every lock, wish and log hold of a dead server is gone, and the hold on its log. It takes no memory.
+    /// Every lock, wish and log hold of a dead server is gone, and the hold on its log. It takes no memory, and leaves
+    /// the room that there was.
     pub fn clear(&mut self, dead: ServerId)
-        ensures { self.new.locks ≡ cleared self.old.locks dead.0 }
+        ensures locks { self.new.locks ≡ cleared self.old.locks dead.0 }
+        ensures room { KeepsRoom self.old self.new }
     {
-        self.clerks.clear(dead);
+        self.claims.end_all(dead, self.reserved);
         self.logs.clear(dead);
     }
 }
