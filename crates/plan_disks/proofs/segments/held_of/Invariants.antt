@@ -1,0 +1,6 @@
+-- The segments so far have low numbers.
+use Rattle.plan_disks.proofs.HeldSegments.{AreLow}
+use Rattle.plan_disks.proofs.segments.held_of.Given as goal
+
+abbrev pub invariant-loop-segment : goal.invariant-loop-segment
+invariant-loop-segment l = AreLow l.held

@@ -1,0 +1,25 @@
+// Replies in words, as answers say them.
+use frang_base::{NoMemory, Reply, Said, ServerId};
+use reply_text::write_line;
+use std::alloc::Global;
+
+// The bytes `0 0 ` before the reply to line 0 of server 0.
+const BEFORE_REPLY: usize = 4;
+
+/// The words of a reply. Its one refusal is want of memory.
+pub(crate) fn reply_told(alloc: Global, reply: &Reply) -> Result<String, NoMemory> {
+    let mut line = Vec::new(alloc);
+    let answer = Said::Answer {
+        line: 0,
+        server: ServerId(0),
+        reply: reply.try_copy()?,
+    };
+    write_line(alloc, &answer, &mut line)?;
+    let mut told = String::new(alloc);
+    for byte in line.iter().skip(BEFORE_REPLY) {
+        if *byte != b'\n' {
+            told.push(char::from(*byte))?;
+        }
+    }
+    Ok(told)
+}

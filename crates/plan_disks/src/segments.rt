@@ -1,0 +1,49 @@
+// Held segments of the bitmap.
+ghost use Rattle.std.specs.Prelude.{IfOk};
+ghost use Rattle.pick_definitions.specs.Held.{AreSegments};
+
+use crate::disks::{Piece, lay};
+use frang_base::limits::SEGMENTS_MAX;
+use frang_base::{Bitmap, Held, NoMemory};
+use std::alloc::Global;
+
+/// A segment of the bitmap.
+#[derive(Clone, Copy, Debug)]
+pub struct Segment {
+    pub number: u32,
+    pub version: u64,
+    /// Bit j is inode j of the segment, 1 in use.
+    pub inodes: u64,
+    /// The states of small blocks, four a byte, where no piece of `states` has them.
+    pub others: u8,
+    pub states: &'static [Piece],
+    pub large: bool,
+}
+
+/// These segments, held. Those past the most that a disk has are left out. Its one refusal is want of memory.
+#[tactic(auto, using(crate::proofs::HeldSegments::none_low, crate::proofs::HeldSegments::one_more, crate::proofs::HeldSegments::are_segments))]
+pub fn held_of(alloc: Global, segments: &[Segment]) -> Result<Held, NoMemory>
+    ensures { IfOk result AreSegments }
+{
+    let mut held = Held::new(alloc);
+    for segment in segments {
+        let number = segment.number;
+        if number < SEGMENTS_MAX {
+            held.set(number, bitmap_of(segment))?;
+        }
+    }
+    Ok(held)
+}
+
+fn bitmap_of(segment: &Segment) -> Bitmap {
+    let mut states = [segment.others; 256];
+    for piece in segment.states {
+        lay(&mut states, piece);
+    }
+    Bitmap {
+        version: segment.version,
+        inodes: segment.inodes,
+        states,
+        large: segment.large,
+    }
+}
