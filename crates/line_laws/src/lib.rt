@@ -1,6 +1,7 @@
 //! Laws of lines whose paths may lead through symbolic links, over a disk that is the picture of a tree: a path leads over sectors where the tree's
-//! does, an operation comes to the same, and its plan meets what the tree performs. Each is the contract of a public function with an empty body. It
-//! stands on the definitions of lines and on the laws of plans.
+//! does, an operation comes to the same, and its plan meets what the tree performs; a line looks inside the disk, its locks cover what it looks at,
+//! edits, visits and changes, and its plan stands on the disk. Each is the contract of a public function with an empty body. It stands on the
+//! definitions of lines, and on the laws of plans over paths without links.
 #![tactic(auto)]
 
 ghost use Rattle.line_laws.specs.Resolutions.{ResolutionsLeadAsTheTreeDoes, LinesComeToWhatTheTreeHas};

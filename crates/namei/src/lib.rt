@@ -1,5 +1,6 @@
-//! The walk of a path over cached sectors. The contract promises the inode that the path names, why there is none, or the first sector
-//! that is needed and isn't cached. It stands on the reading of cached sectors.
+//! The walks of a path over cached sectors. Of a walk without links the contract promises the inode that the path names, why there is none, or the
+//! first sector that is needed and isn't cached; of one through links the path without links that leads to the same place, how the walk is refused, or
+//! that sector. It stands on the reading of cached sectors, and on the laws of lines over the disk of a tree.
 #![tactic(auto)]
 
 mod onward;

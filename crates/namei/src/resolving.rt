@@ -20,7 +20,7 @@ use std::alloc::Global;
 pub enum Resolved {
     /// This sector isn't cached, and is the first that is needed.
     Need(Sector),
-    /// The path leads where this one leads without a link on the way. Every name of it but the last is a directory's.
+    /// The path leads where this one leads, on whose way there is no link: every name of it but the last is a directory's.
     At(Path),
     /// A name on the way isn't there, or a link's target is no path.
     NoEnt,
@@ -30,8 +30,10 @@ pub enum Resolved {
     Loop,
 }
 
-/// Where a path leads from the root, whose inode is 0; whether its last name is followed where it is a link's. A chain of links takes time
-/// proportional to its length. Its one refusal is want of memory.
+/// Where a path leads from the root, whose inode is 0, once links are followed, the last name's too where `last` is true. Over every disk that stands
+/// for a tree and of which the sectors are, it leads where the tree's walk does: `Need` names the first sector that it looks at and that isn't cached,
+/// `At` the path to which the tree's walk leads, and `NoEnt`, `NotDir` and `Loop` come exactly where the tree has them. It takes time proportional to
+/// the names that are walked, those of the links' targets included. Its one refusal is want of memory.
 pub fn resolve(
     alloc: Global,
     path: &Path,
@@ -57,63 +59,55 @@ fn from_root(
     requires { root ≡ 0 }
     ensures { (held : Segments) → IfOk result (λ r. r ≡ resolved_as (reading (lines.resolve last path.now) sectors.now.entries held)) }
 {
+    let ground = Ground {
+        alloc,
+        sectors,
+        last,
+    };
     let above = Path::new(alloc);
     let names = path.as_slice();
-    walk_on(alloc, sectors, LINKS_FOLLOWED_MAX, last, root, above, names)
+    walk_on(&ground, LINKS_FOLLOWED_MAX, root, above, names)
+}
+
+// What a walk goes over: the cached sectors, and whether the last name is followed.
+#[derive(Clone, Copy)]
+struct Ground<'a> {
+    alloc: Global,
+    sectors: &'a Sectors,
+    last: bool,
 }
 
 // A walk from a directory on, whose own path is `above`, with so many links left to follow.
 fn walk_on(
-    alloc: Global,
-    sectors: &Sectors,
+    ground: &Ground,
     left: usize,
-    last: bool,
     dir: u32,
     above: Path,
     names: &[Name],
 ) -> Result<Resolved, NoMemory>
-    ensures { (held : Segments) → IfOk result (λ r. r ≡ resolved_as (reading (lines.resolve_from left last dir above names.now) sectors.now.entries held)) }
+    ensures { (held : Segments) → IfOk result (λ r. r ≡ resolved_as (reading (lines.resolve_from left ground.now.last dir above names.now) ground.now.sectors.now.entries held)) }
 {
     let (name, rest) = match names {
         [] => return Ok(Resolved::At(above)),
         [name, rest @ ..] => (name, rest),
     };
-    match next_at(sectors, last, dir, name, rest) {
+    match next_at(ground.sectors, ground.last, dir, name, rest) {
         Next::Need(sector) => Ok(Resolved::Need(sector)),
         Next::Ends => Ok(Resolved::At(with_name(above, name)?)),
         Next::Stays(refusal) => Ok(refused(refusal)),
-        Next::Into(inode) => {
-            let here = with_name(above, name)?;
-            walk_on(alloc, sectors, left, last, inode, here, rest)
-        }
+        Next::Into(inode) => walk_on(ground, left, inode, with_name(above, name)?, rest),
         Next::Follows(link) => {
             if left == 0 {
                 return Ok(Resolved::Loop);
             }
-            match way_at(alloc, sectors, link, rest)? {
+            match way_at(ground.alloc, ground.sectors, link, rest)? {
                 Way::Need(sector) => Ok(Resolved::Need(sector)),
                 Way::Nowhere => Ok(Resolved::NoEnt),
-                Way::FromRoot(names) => {
-                    let root = Path::new(alloc);
-                    walk_on(
-                        alloc,
-                        sectors,
-                        left - 1,
-                        last,
-                        ROOT_INODE,
-                        root,
-                        names.as_slice(),
-                    )
+                Way::FromRoot(way) => {
+                    let root = Path::new(ground.alloc);
+                    walk_on(ground, left - 1, ROOT_INODE, root, way.as_slice())
                 }
-                Way::FromHere(names) => walk_on(
-                    alloc,
-                    sectors,
-                    left - 1,
-                    last,
-                    dir,
-                    above,
-                    names.as_slice(),
-                ),
+                Way::FromHere(way) => walk_on(ground, left - 1, dir, above, way.as_slice()),
             }
         }
     }
