@@ -102,6 +102,8 @@ fn dirty_sectors_ascend(rt: HostRuntime) -> Result<(), Fail> {
     let marks = cache.dirty()?;
     assert!(rt; marks.first().map(|mark| mark.sector) == Some(Sector(3)));
     assert!(rt; marks.last().map(|mark| mark.sector) == Some(Sector(5)));
+    assert!(rt; cache.next_dirty(256).is_none());
+    assert!(rt; cache.next_dirty(258) == Some(Sector(5)));
     cache.forget(Sector(3));
     assert!(rt; cache.get(Sector(3)).is_none());
     assert!(rt; cache.dirty()?.len() == 1);

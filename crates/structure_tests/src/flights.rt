@@ -1,6 +1,7 @@
 // Writes in flight over a disk in memory: each way in which one ends, and that they are those of a plain list.
 ghost use Rattle.std.specs.Prelude.{◌<◌, IfSome, vec_len};
 
+use crate::draws::Draws;
 use frang_base::{NoMemory, Sector, ServerId};
 use frang_outside::{FaultyOutside, MemOutside, Outside, Put, PutFault, Taken};
 use petal_disk::{Arrived, Flight, IssueFault, Ticket};
@@ -129,23 +130,6 @@ fn put_once(put: &Put, out: &mut FaultyOutside) -> Arrived {
     }
 }
 
-// Numbers drawn one after another.
-#[derive(Debug, Drop)]
-struct Draws {
-    state: u64,
-}
-
-impl Draws {
-    // The next number, below 2^31.
-    fn draw(&mut self) -> u64 {
-        self.state = self
-            .state
-            .wrapping_mul(6364136223846793005)
-            .wrapping_add(1442695040888963407);
-        self.state >> 33
-    }
-}
-
 // A flight and the plain list of what is in flight, each with an outside of its own.
 #[derive(Debug, Drop)]
 struct Both {
@@ -250,7 +234,7 @@ impl Both {
 #[test]
 fn the_writes_in_flight_are_those_of_a_plain_list(rt: HostRuntime) -> Result<(), Fail> {
     let mut both = Both::new(rt.alloc())?;
-    let mut draws = Draws { state: 1 };
+    let mut draws = Draws::of(1);
     for i in 0..10_000u32 {
         assert!(rt; both.call(&mut draws), "the answers of call {i}");
         assert!(rt;

@@ -7,10 +7,18 @@ mod builders;
 #[cfg(test)]
 mod caches;
 #[cfg(test)]
+mod draws;
+#[cfg(test)]
 mod flights;
 #[cfg(test)]
 mod leases;
 #[cfg(test)]
 mod locks;
+#[cfg(test)]
+mod plain_cache;
+#[cfg(test)]
+mod plain_sectors;
+#[cfg(test)]
+mod plain_table;
 #[cfg(test)]
 mod versions;

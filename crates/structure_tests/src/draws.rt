@@ -1,0 +1,22 @@
+// Numbers that are drawn.
+
+/// A generator of numbers below 2^31; the same state gives the same numbers.
+#[derive(Debug, Drop)]
+pub(crate) struct Draws {
+    state: u64,
+}
+
+impl Draws {
+    pub(crate) fn of(state: u64) -> Draws {
+        Draws { state }
+    }
+
+    /// The next number.
+    pub(crate) fn draw(&mut self) -> u64 {
+        self.state = self
+            .state
+            .wrapping_mul(6_364_136_223_846_793_005)
+            .wrapping_add(1_442_695_040_888_963_407);
+        self.state >> 33
+    }
+}
