@@ -1,0 +1,15 @@
+pub mod Shaping
+pub mod Telling
+pub mod ChangedNames
+pub mod Entering
+pub mod Making
+pub mod Removing
+pub mod Renaming
+pub mod Aiming
+pub mod Filing
+pub mod AllTold
+pub mod Recording
+pub mod Changing
+pub mod Recorded
+pub mod Stopping
+pub mod LinesRecorded
