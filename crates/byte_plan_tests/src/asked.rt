@@ -12,7 +12,7 @@ use plan_disks::{
 use std::alloc::Global;
 
 /// An operation on file bytes, with its path, and an offset, a length, a text or a byte.
-#[derive(Clone, Copy, Debug)]
+#[derive(Clone, Copy)]
 pub(crate) enum Asked {
     Write(&'static str, u32, &'static str),
     Fill(&'static str, u32, u32, u8),

@@ -9,7 +9,7 @@ use std::alloc::Global;
 use std::test::Fail;
 
 // An operation that only looks, with its path.
-#[derive(Clone, Copy, Debug)]
+#[derive(Clone, Copy)]
 enum Look {
     Stat(&'static str),
     List(&'static str),

@@ -14,7 +14,7 @@ use plan_disks::{
 use std::alloc::Global;
 
 /// An operation on names, with its path, and with a second path or a target.
-#[derive(Clone, Copy, Debug)]
+#[derive(Clone, Copy)]
 pub(crate) enum Act {
     Create(&'static str),
     Mkdir(&'static str),

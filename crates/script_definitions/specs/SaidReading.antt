@@ -3,6 +3,7 @@ use Rattle.std.specs.Prelude.{◌≡◌, ◌≤◌, ◌<◌, ◌^◌, ℕ, ◌+�
 use Rattle.std.specs.List.{list_all, slice_split}
 use Rattle.std.specs.Str.{bytes_eq}
 use Rattle.frang_base.specs.Name.{is_name, is_target}
+use Rattle.frang_base.specs.declared.limits.TheConstants.{RUN_LINES_END}
 use Rattle.frang_base.specs.declared.reply.Reply.{Reply}
 use Rattle.frang_base.specs.declared.reply.Reply.TheVariants as reply
 use Rattle.frang_base.specs.declared.said.Said.{Said}
@@ -103,7 +104,7 @@ point_at part = two_counts (slice_split (λ b. b == 46) part)
 
 -- an operation number, by its run and its line
 abbrev pub op_at : List ℕ → Option OpNo
-op_at part = option_map (λ p. record { 0 = p.0 * 4294967296 + p.1 }) (point_at part)
+op_at part = option_map (λ p. record { 0 = p.0 * RUN_LINES_END + p.1 }) (point_at part)
 
 -- a lower-case hexadecimal digit
 abbrev pub hex_value : ℕ → Option ℕ
