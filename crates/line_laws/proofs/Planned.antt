@@ -10,8 +10,9 @@ use Rattle.tree_laws.specs.WellFormed.{IsNew}
 use Rattle.disk_definitions.specs.Store.{Store}
 use Rattle.disk_definitions.specs.Naming.{Naming}
 use Rattle.plan_definitions.specs.Plans.{Hand, Plan, Lacks, Clears, Finishes}
-use Rattle.plan_definitions.specs.Meets.{IsOfTree, IsHandOf, PlanMeets}
+use Rattle.plan_definitions.specs.Meets.{IsOfTree, IsHandOf}
 use Rattle.plan_laws.specs.FilesPlanned.{HasFiles, IsPlannedForFiles}
+use Rattle.plan_laws.specs.Keeping.{PlanKeeps}
 use Rattle.plan_laws.proofs.Making.{create_planned, mkdir_planned, symlink_planned}
 use Rattle.plan_laws.proofs.Removing.{unlink_planned, rmdir_planned}
 use Rattle.plan_laws.proofs.Linking.{link_planned}
@@ -52,17 +53,17 @@ all_planned (op.CutAt k) h s tree n birth when m of hand new files = refuse_meet
 all_planned op.Stall h s tree n birth when m of hand new files = refuse_meets h s tree n of reply.Ok []
 
 -- more locks do no harm
-trail_meets : (h : Hand) (s : Store) (a : Applied) (trail : List ℕ) (p : Plan) → PlanMeets h s a p → PlanMeets h s a (with_trail trail p)
-trail_meets h s a trail Lacks m = m
-trail_meets h s a trail (Clears k locks) m = m
-trail_meets h s a trail (Finishes f) m = record { answer = m.answer; naming = m.naming; tree = m.tree }
+trail_meets : (h : Hand) (s : Store) (tree : FileTree) (n : Naming) (a : Applied) (trail : List ℕ) (p : Plan) → PlanKeeps h s tree n a p → PlanKeeps h s tree n a (with_trail trail p)
+trail_meets h s tree n a trail Lacks m = m
+trail_meets h s tree n a trail (Clears k locks) m = m
+trail_meets h s tree n a trail (Finishes f) m = record { meets = record { answer = m.meets.answer; naming = m.meets.naming; tree = m.meets.tree }; inodes = m.inodes }
 
 step_meets : (h : Hand) (s : Store) (tree : FileTree) (n : Naming) (birth when m : ℕ) → IsOfTree s tree n → IsHandOf h s tree.segments → IsNew tree birth → HasFiles s tree m →
-    (trail : List ℕ) (step : Step) → PlanMeets h s (perform_step tree step birth when m) (step_plan h s birth when trail step)
-step_meets h s tree n birth when m of hand new files trail (Goes o) = trail_meets h s _ trail _ (all_planned o h s tree n birth when m of hand new files)
+    (trail : List ℕ) (step : Step) → PlanKeeps h s tree n (perform_step tree step birth when m) (step_plan h s birth when trail step)
+step_meets h s tree n birth when m of hand new files trail (Goes o) = trail_meets h s tree n _ trail _ (all_planned o h s tree n birth when m of hand new files)
 step_meets h s tree n birth when m of hand new files trail (Stops r) = refuse_meets h s tree n of r trail
 
 pub lines_planned : LinesArePlannedAsTheTreePerforms
 lines_planned o h s tree n birth when m of hand new files =
     let w = resolved tree o in
-    subst (PlanMeets h s (perform_step tree w.step birth when m)) (sym (run_performed h s birth when tree n of o)) (step_meets h s tree n birth when m of hand new files (map n.inode w.trail) w.step)
+    subst (PlanKeeps h s tree n (perform_step tree w.step birth when m)) (sym (run_performed h s birth when tree n of o)) (step_meets h s tree n birth when m of hand new files (map n.inode w.trail) w.step)

@@ -9,8 +9,9 @@ use Rattle.disk_definitions.specs.Naming.{Naming}
 use Rattle.plan_definitions.specs.Allowed.{IsAllowed}
 use Rattle.plan_definitions.specs.Ask.{run}
 use Rattle.plan_definitions.specs.Plans.{Hand}
-use Rattle.plan_definitions.specs.Meets.{IsOfTree, IsHandOf, PlanMeets}
+use Rattle.plan_definitions.specs.Meets.{IsOfTree, IsHandOf}
 use Rattle.plan_laws.specs.FilesPlanned.{HasFiles}
+use Rattle.plan_laws.specs.Keeping.{PlanKeeps}
 use Rattle.line_definitions.specs.Lines.{resolved, plan_of_line}
 
 -- what a line comes to may be asked of a plan
@@ -22,9 +23,10 @@ StepIsAllowed (Stops reply) = Unit {0}
 abbrev pub LinesStayAllowed : Type 0
 LinesStayAllowed = (operation : Op) (store : Store) → IsAllowed operation → StepIsAllowed (run (resolved operation) store).step
 
--- over the disk of a tree of files that fit into their blocks the plan of a line meets what its operation does to the tree, links followed
+-- over the disk of a tree of files that fit into their blocks the plan of a line meets what its operation does to the tree, links followed, and each node
+-- that stays keeps its inode
 abbrev pub LinesArePlannedAsTheTreePerforms : Type 0
 LinesArePlannedAsTheTreePerforms =
     (operation : Op) (hand : Hand) (store : Store) (tree : FileTree) (naming : Naming) (birth when ever_directories : ℕ) → IsOfTree store tree naming →
     IsHandOf hand store tree.segments → IsNew tree birth → HasFiles store tree ever_directories →
-    PlanMeets hand store (perform tree operation birth when ever_directories) (run (plan_of_line hand birth when operation) store)
+    PlanKeeps hand store tree naming (perform tree operation birth when ever_directories) (run (plan_of_line hand birth when operation) store)

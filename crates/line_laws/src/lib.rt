@@ -25,7 +25,8 @@ pub fn resolved_paths_are_places()
 {}
 
 /// Over the disk of a tree whose files fit into their blocks, the plan of a line answers as the tree does when it performs the operation, links
-/// followed, and its edits lead to a disk of the tree after it. Whatever the disk, a line that may be asked of a plan comes to an operation that may.
+/// followed, and its edits lead to a disk of the tree after it, by a naming that keeps the inodes of the nodes that stay. Whatever the disk, a line that
+/// may be asked of a plan comes to an operation that may.
 pub fn lines_are_planned_as_the_tree_performs()
     ensures planned { LinesArePlannedAsTheTreePerforms }
     ensures allowed { LinesStayAllowed }

@@ -19,7 +19,8 @@ use Rattle.plan_definitions.specs.Plans.{Hand, Finish}
 use Rattle.plan_definitions.specs.Plans.Plan.{Finishes}
 use Rattle.plan_definitions.specs.FilePlans.{Writing, writing, cutting}
 use Rattle.plan_definitions.specs.PlanOf.{plan_of}
-use Rattle.plan_definitions.specs.Meets.{IsOfTree, IsHandOf, FinishMeets, PlanMeets}
+use Rattle.plan_definitions.specs.Meets.{IsOfTree, IsHandOf, FinishMeets}
+use Rattle.plan_laws.specs.Keeping.{FinishKeeps, PlanKeeps}
 use Rattle.plan_laws.proofs.Making.{create_planned, mkdir_planned, symlink_planned}
 use Rattle.plan_laws.proofs.Linking.{link_planned}
 use Rattle.plan_laws.proofs.Removing.{unlink_planned, rmdir_planned}
@@ -56,11 +57,11 @@ module _ (h : Hand) (s : Store) (tree : FileTree) (n : Naming) (birth when m : �
   abbrev Goal : Op → Type 0
   Goal o = run (plan_of h birth when o) s ≡ Finishes f → node_at (apply tree o birth when m).tree b ≢ node_at tree b → IsSole f.locks (lock.Node (n.inode b))
 
-  by_answer : (o : Op) → PlanMeets h s (apply tree o birth when m) (run (plan_of h birth when o) s) → (node_at (apply tree o birth when m).tree b ≢ node_at tree b → Tells (Alone (n.inode b ∷ [])) (run (plan_of h birth when o) s)) → Goal o
+  by_answer : (o : Op) → PlanKeeps h s tree n (apply tree o birth when m) (run (plan_of h birth when o) s) → (node_at (apply tree o birth when m).tree b ≢ node_at tree b → Tells (Alone (n.inode b ∷ [])) (run (plan_of h birth when o) s)) → Goal o
   by_answer o planned tells p d =
-      let meets : FinishMeets s (apply tree o birth when m) f = subst (PlanMeets h s (apply tree o birth when m)) p planned in
+      let keeps : FinishKeeps s tree n (apply tree o birth when m) f = subst (PlanKeeps h s tree n (apply tree o birth when m)) p planned in
       let alone : Alone (n.inode b ∷ []) f = subst (Tells (Alone (n.inode b ∷ []))) p (tells d) in
-      go meets alone (says_ok (apply tree o birth when m).answer) refl
+      go keeps.meets alone (says_ok (apply tree o birth when m).answer) refl
     where
       go : FinishMeets s (apply tree o birth when m) f → Alone (n.inode b ∷ []) f → (c : Bool) → says_ok (apply tree o birth when m).answer ≡ c → IsSole f.locks (lock.Node (n.inode b))
       go meets alone true e = alone (ok_of (apply tree o birth when m).answer f.reply meets.answer e) (n.inode b) (has_head (n.inode b) [])

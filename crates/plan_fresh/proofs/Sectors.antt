@@ -25,7 +25,7 @@ none_of s a b c x y z p q r =
     ∙ ap (λ (t : Bool). if t then Some z else None) (apart s c r)
 
 -- three sectors have blocks, and all others zeros
-elsewhere : (segments s : ℕ) → s ≢ 0 → s ≢ bitmaps_from → s ≢ inodes_from → fresh_disk segments s ≡ zeros 512
+pub elsewhere : (segments s : ℕ) → s ≢ 0 → s ≢ bitmaps_from → s ≢ inodes_from → fresh_disk segments s ≡ zeros 512
 elsewhere segments s p q r =
     ap (λ (o : Option (List ℕ)). unwrap_or o (zeros 512)) (none_of s 0 bitmaps_from inodes_from (param_bytes (fresh_param segments)) (bitmap_bytes first_bitmap) (inode_bytes root_inode) p q r)
 

@@ -30,7 +30,7 @@ module _ (segments : ℕ) (some : 1 ≤ segments) (few : segments ≤ 64) where
     directories = λ k p l m d. absurd (no_metadata k d);
   }
 
-  versions : (most : ℕ) → 1 ≤ most → HasVersionsUpTo most segments disk
+  pub versions : (most : ℕ) → 1 ≤ most → HasVersionsUpTo most segments disk
   versions most more = record {
     bitmaps = λ k l. each_segment (λ b. number_at 8 0 b ≤ most) segments (let v = first_version in omega arith) (let v = zero_version in omega arith) k (omega arith);
     inodes = λ i l. each_inode (λ b. number_at 8 0 b ≤ most) segments (let v = root_version in omega arith) (let v = zero_version in omega arith) i;

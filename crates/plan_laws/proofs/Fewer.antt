@@ -18,10 +18,11 @@ use Rattle.plan_definitions.specs.NamePlans.{fewer}
 use Rattle.plan_laws.proofs.Cases.{inode_by, has_inode}
 use Rattle.plan_laws.proofs.Stages.{IsStage, relinks, drops, restage}
 
--- a store that is on the way, and its naming
-pub record IsOnTheWay (t : Store) (segments : ℕ) (at : Nodes) : Type 0 where
+-- a store that is on the way, and its naming, which keeps the inodes of another
+pub record IsOnTheWay (t : Store) (segments : ℕ) (at : Nodes) (n : Naming) : Type 0 where
   pub naming : Naming
   pub stage : IsStage t segments at naming
+  pub inodes : (c : ℕ) → naming.inode c ≡ n.inode c
 
 pub segments_fewer : (tree : FileTree) (b : ℕ) (o : Option Node) → (one_link_fewer tree b o).segments ≡ tree.segments
 segments_fewer tree b (Some (File cells links when)) = go (nat_lt 1 links)
@@ -48,32 +49,32 @@ module _ (s : Store) (segments : ℕ) (tree : FileTree) (n : Naming) (stage : Is
   has : (node : Node) → node_at tree b ≡ Some node → HasInode s (node_at tree) n b node (inode_by n b node)
   has node is = has_inode s (node_at tree) n stage.pictures b node is
 
-  gone : (node : Node) → node_at tree b ≡ Some node → HasNoNames node → IsOnTheWay (edited_all s (drop_node (n.inode b) (inode_by n b node))) segments (node_at (without_node tree b))
+  gone : (node : Node) → node_at tree b ≡ Some node → HasNoNames node → IsOnTheWay (edited_all s (drop_node (n.inode b) (inode_by n b node))) segments (node_at (without_node tree b)) n
   gone node is bare =
       let r = drops s segments (node_at tree) n stage b (inode_by n b node) node (has node is) bare away in
-      record { naming = named_less n b (kind_of node); stage = restage (edited_all s (drop_node (n.inode b) (inode_by n b node))) segments (put_node (node_at tree) b None) (node_at (without_node tree b)) (named_less n b (kind_of node)) r.0 (λ c. node_without tree b c births) }
+      record { naming = named_less n b (kind_of node); stage = restage (edited_all s (drop_node (n.inode b) (inode_by n b node))) segments (put_node (node_at tree) b None) (node_at (without_node tree b)) (named_less n b (kind_of node)) r.0 (λ c. node_without tree b c births); inodes = λ c. refl }
 
-  file_less : (cells : List Cell) (links when : ℕ) → node_at tree b ≡ Some (File cells links when) → IsOnTheWay (edited_all s (relink (n.inode b) (inode_by n b (File cells links when)) (links - 1))) segments (node_at (with_node tree b (File cells (links - 1) when)))
+  file_less : (cells : List Cell) (links when : ℕ) → node_at tree b ≡ Some (File cells links when) → IsOnTheWay (edited_all s (relink (n.inode b) (inode_by n b (File cells links when)) (links - 1))) segments (node_at (with_node tree b (File cells (links - 1) when))) n
   file_less cells links when is =
       let r = relinks s segments (node_at tree) n stage b (links - 1) (inode_by n b (File cells links when)) (File cells links when) (has (File cells links when) is) refl in
-      record { naming = n; stage = restage (edited_all s (relink (n.inode b) (inode_by n b (File cells links when)) (links - 1))) segments (put_node (node_at tree) b (Some (File cells (links - 1) when))) (node_at (with_node tree b (File cells (links - 1) when))) n r.0 (node_with tree b (File cells (links - 1) when)) }
+      record { naming = n; stage = restage (edited_all s (relink (n.inode b) (inode_by n b (File cells links when)) (links - 1))) segments (put_node (node_at tree) b (Some (File cells (links - 1) when))) (node_at (with_node tree b (File cells (links - 1) when))) n r.0 (node_with tree b (File cells (links - 1) when)); inodes = λ c. refl }
 
-  link_less : (target : List ℕ) (links : ℕ) → node_at tree b ≡ Some (Link target links) → IsOnTheWay (edited_all s (relink (n.inode b) (inode_by n b (Link target links)) (links - 1))) segments (node_at (with_node tree b (Link target (links - 1))))
+  link_less : (target : List ℕ) (links : ℕ) → node_at tree b ≡ Some (Link target links) → IsOnTheWay (edited_all s (relink (n.inode b) (inode_by n b (Link target links)) (links - 1))) segments (node_at (with_node tree b (Link target (links - 1)))) n
   link_less target links is =
       let r = relinks s segments (node_at tree) n stage b (links - 1) (inode_by n b (Link target links)) (Link target links) (has (Link target links) is) refl in
-      record { naming = n; stage = restage (edited_all s (relink (n.inode b) (inode_by n b (Link target links)) (links - 1))) segments (put_node (node_at tree) b (Some (Link target (links - 1)))) (node_at (with_node tree b (Link target (links - 1)))) n r.0 (node_with tree b (Link target (links - 1))) }
+      record { naming = n; stage = restage (edited_all s (relink (n.inode b) (inode_by n b (Link target links)) (links - 1))) segments (put_node (node_at tree) b (Some (Link target (links - 1)))) (node_at (with_node tree b (Link target (links - 1)))) n r.0 (node_with tree b (Link target (links - 1))); inodes = λ c. refl }
 
-  pub fewer_leads : (node : Node) → node_at tree b ≡ Some node → HasNoNames node → IsOnTheWay (edited_all s (fewer (n.inode b) (inode_by n b node))) segments (node_at (one_link_fewer tree b (Some node)))
+  pub fewer_leads : (node : Node) → node_at tree b ≡ Some node → HasNoNames node → IsOnTheWay (edited_all s (fewer (n.inode b) (inode_by n b node))) segments (node_at (one_link_fewer tree b (Some node))) n
   fewer_leads (Dir entries blocks) is bare = gone (Dir entries blocks) is bare
   fewer_leads (File cells links when) is bare = rw (one_left links) (go (nat_le links 1))
     where
       go : (c : Bool) → IsOnTheWay (edited_all s (if c then drop_node (n.inode b) (inode_by n b (File cells links when)) else relink (n.inode b) (inode_by n b (File cells links when)) (links - 1))) segments
-          (node_at (if not c then with_node tree b (File cells (links - 1) when) else without_node tree b))
+          (node_at (if not c then with_node tree b (File cells (links - 1) when) else without_node tree b)) n
       go true = gone (File cells links when) is bare
       go false = file_less cells links when is
   fewer_leads (Link target links) is bare = rw (one_left links) (go (nat_le links 1))
     where
       go : (c : Bool) → IsOnTheWay (edited_all s (if c then drop_node (n.inode b) (inode_by n b (Link target links)) else relink (n.inode b) (inode_by n b (Link target links)) (links - 1))) segments
-          (node_at (if not c then with_node tree b (Link target (links - 1)) else without_node tree b))
+          (node_at (if not c then with_node tree b (Link target (links - 1)) else without_node tree b)) n
       go true = gone (Link target links) is bare
       go false = link_less target links is

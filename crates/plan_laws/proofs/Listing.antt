@@ -20,7 +20,8 @@ use Rattle.store_changes.proofs.Free.{a_some}
 use Rattle.plan_definitions.specs.Ask.{run}
 use Rattle.plan_definitions.specs.Plans.{Hand, refused, refuse}
 use Rattle.plan_definitions.specs.LookPlans.{at_inode, sorted_names, listing}
-use Rattle.plan_definitions.specs.Meets.{IsOfTree, PlanMeets}
+use Rattle.plan_definitions.specs.Meets.{IsOfTree}
+use Rattle.plan_laws.specs.Keeping.{PlanKeeps}
 use Rattle.plan_laws.proofs.Spots.{as_inode}
 use Rattle.plan_laws.proofs.Cases.{inode_by}
 use Rattle.plan_laws.proofs.Refusing.{Meets, refuse_meets}
@@ -93,14 +94,14 @@ module _ (h : Hand) (s : Store) (tree : FileTree) (n : Naming) (of : IsOfTree s 
     names_are = same_keys (slice_cmp nat_cmp) name_exact (put_in_order [] all) entries (ordered all [] none_ordered) (of.well_formed.names d entries blocks is)
         (λ m. in_order_has m all [] ∙ same_if (has_name m all) (is_some (entry_at entries m)) (is_named m) (has_named m))
 
-    pub listing_meets : (touched : List ℕ) → PlanMeets h s (listed tree (Some (Dir entries blocks))) (run (listing touched (inode_by n d (Dir entries blocks))) s)
+    pub listing_meets : (touched : List ℕ) → PlanKeeps h s tree n (listed tree (Some (Dir entries blocks))) (run (listing touched (inode_by n d (Dir entries blocks))) s)
     listing_meets touched =
         let e : run (listing touched (inode_by n d (Dir entries blocks))) s ≡ refuse (reply.Names (map (λ e. e.0) entries)) touched =
         run-entries s (first_blocks blocks (n.block d)) 0 (8 * blocks) (λ entries. refused (reply.Names (sorted_names entries)) touched) ∙ ap (λ l. refuse (reply.Names l) touched) names_are in
-        subst (PlanMeets h s (listed tree (Some (Dir entries blocks)))) (sym e) (refuse_meets h s tree n of (reply.Names (map (λ e. e.0) entries)) touched)
+        subst (PlanKeeps h s tree n (listed tree (Some (Dir entries blocks)))) (sym e) (refuse_meets h s tree n of (reply.Names (map (λ e. e.0) entries)) touched)
 
   listed_meets : (dirs : List ℕ) (b : ℕ) (node : Node) → node_at tree b ≡ Some node →
-      Meets h s (listed tree (Some node)) (run (if kind_of node == 2 then at_inode listing (target_of h s tree n of dirs b (kind_of node)) else refused reply.NotDir dirs) s)
+      Meets h s tree n (listed tree (Some node)) (run (if kind_of node == 2 then at_inode listing (target_of h s tree n of dirs b (kind_of node)) else refused reply.NotDir dirs) s)
   listed_meets dirs b (Dir entries blocks) is = at_inode_meets h s tree n of listing (listed tree (Some (Dir entries blocks))) b 2 (Dir entries blocks) is (λ touched well. listing_meets b blocks entries is touched) dirs
   listed_meets dirs b (File cells links when) is = λ well. refuse_meets h s tree n of reply.NotDir dirs
   listed_meets dirs b (Link target links) is = λ well. refuse_meets h s tree n of reply.NotDir dirs

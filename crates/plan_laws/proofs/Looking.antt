@@ -19,7 +19,7 @@ use Rattle.plan_laws.proofs.Aiming.{target_of, at_inode_meets, node_meets}
 
 module _ (h : Hand) (s : Store) (tree : FileTree) (n : Naming) (of : IsOfTree s tree n) where
   described_meets : (dirs : List ℕ) (b : ℕ) (node : Node) → node_at tree b ≡ Some node →
-      Meets h s (tree_described tree (Some node)) (run (at_inode (λ touched x. refused (described x) touched) (target_of h s tree n of dirs b (kind_of node))) s)
+      Meets h s tree n (tree_described tree (Some node)) (run (at_inode (λ touched x. refused (described x) touched) (target_of h s tree n of dirs b (kind_of node))) s)
   described_meets dirs b (Dir entries blocks) is = at_inode_meets h s tree n of (λ touched x. refused (described x) touched) (tree_described tree (Some (Dir entries blocks))) b 2 (Dir entries blocks) is
       (λ touched well. refuse_meets h s tree n of (reply.Dir (length entries)) touched) dirs
   described_meets dirs b (File cells links when) is = at_inode_meets h s tree n of (λ touched x. refused (described x) touched) (tree_described tree (Some (File cells links when))) b 1 (File cells links when) is
@@ -28,14 +28,14 @@ module _ (h : Hand) (s : Store) (tree : FileTree) (n : Naming) (of : IsOfTree s 
       (λ touched well. refuse_meets h s tree n of (reply.Symlink (length target)) touched) dirs
 
   target_meets : (dirs : List ℕ) (b : ℕ) (node : Node) → node_at tree b ≡ Some node →
-      Meets h s (tree_target tree (Some node)) (run (let t = target_of h s tree n of dirs b (kind_of node) in if t.kind == 3 then at_inode (λ touched x. refused (reply.Target x.target) touched) t else refused reply.Inval t.dirs) s)
+      Meets h s tree n (tree_target tree (Some node)) (run (let t = target_of h s tree n of dirs b (kind_of node) in if t.kind == 3 then at_inode (λ touched x. refused (reply.Target x.target) touched) t else refused reply.Inval t.dirs) s)
   target_meets dirs b (Dir entries blocks) is = λ well. refuse_meets h s tree n of reply.Inval dirs
   target_meets dirs b (File cells links when) is = λ well. refuse_meets h s tree n of reply.Inval dirs
   target_meets dirs b (Link target links) is = at_inode_meets h s tree n of (λ touched x. refused (reply.Target x.target) touched) (tree_target tree (Some (Link target links))) b 3 (Link target links) is
       (λ touched well. refuse_meets h s tree n of (reply.Target target) touched) dirs
 
   timed_meets : (dirs : List ℕ) (b : ℕ) (node : Node) → node_at tree b ≡ Some node →
-      Meets h s (if_file tree (λ b cells links at. says tree (time_of at)) b (Some node)) (run (at_inode (λ touched x. refused (timed x) touched) (target_of h s tree n of dirs b (kind_of node))) s)
+      Meets h s tree n (if_file tree (λ b cells links at. says tree (time_of at)) b (Some node)) (run (at_inode (λ touched x. refused (timed x) touched) (target_of h s tree n of dirs b (kind_of node))) s)
   timed_meets dirs b (Dir entries blocks) is = at_inode_meets h s tree n of (λ touched x. refused (timed x) touched) (says tree reply.IsDir) b 2 (Dir entries blocks) is (λ touched well. refuse_meets h s tree n of reply.IsDir touched) dirs
   timed_meets dirs b (File cells links when) is = at_inode_meets h s tree n of (λ touched x. refused (timed x) touched) (says tree (time_of when)) b 1 (File cells links when) is (λ touched well. refuse_meets h s tree n of (time_of when) touched) dirs
   timed_meets dirs b (Link target links) is = at_inode_meets h s tree n of (λ touched x. refused (timed x) touched) (says tree reply.Inval) b 3 (Link target links) is (λ touched well. refuse_meets h s tree n of reply.Inval touched) dirs

@@ -10,9 +10,9 @@ use Rattle.tree_definitions.specs.Entries.{Entries, entry_at, with_entry}
 use Rattle.tree_definitions.specs.Tree.{FileTree, node_at, with_node, grown, inodes_full, lacks_block}
 use Rattle.tree_definitions.specs.Place.{Free, place}
 use Rattle.tree_definitions.specs.Apply.{says, named, made}
-use Rattle.frang_base.proofs.Basics.{put_same}
+use Rattle.frang_base.proofs.Basics.{put_same, put_other}
 use Rattle.tree_laws.specs.WellFormed.{IsWellFormed, IsNew, put as put_node}
-use Rattle.tree_laws.proofs.Nodes.{node_with}
+use Rattle.tree_laws.proofs.Nodes.{node_with, put_other as node_other}
 use Rattle.tree_laws.proofs.Keeping.{names_nodes}
 use Rattle.tree_laws.proofs.StepsLaws.{apply_keeps}
 use Rattle.disk_definitions.specs.Store.{Store, StoredNode, StoredEntry}
@@ -28,7 +28,8 @@ use Rattle.plan_definitions.specs.Walks.{AtGap, walk}
 use Rattle.plan_definitions.specs.Plans.{Hand, Room, enter, find_room, finish_in, must_clear, refused, read_held}
 use Rattle.plan_definitions.specs.Plans.Room.{Inside, InBlock, NoRoom}
 use Rattle.plan_definitions.specs.NamePlans.{made_by, making_in, making_with, making, plan_made}
-use Rattle.plan_definitions.specs.Meets.{IsOfTree, IsHandOf, FinishMeets}
+use Rattle.plan_definitions.specs.Meets.{IsOfTree, IsHandOf}
+use Rattle.plan_laws.specs.Keeping.{FinishKeeps}
 use Rattle.plan_laws.specs.NamesPlanned.{CreateIsPlanned, MkdirIsPlanned, SymlinkIsPlanned}
 use Rattle.plan_laws.proofs.Asking.{run-bind, run-segments}
 use Rattle.plan_laws.proofs.Cases.{inode_by, has_inode, by_spot}
@@ -48,6 +49,10 @@ module _ (h : Hand) (s : Store) (tree : FileTree) (n : Naming) (of : IsOfTree s 
 
     apart : d ≢ birth
     apart e = let z : Some (Dir entries blocks) ≡ None = sym is ∙ ap (node_at tree) e ∙ new in cc
+
+    -- a node that is there is another
+    far : (c : ℕ) → is_some (node_at tree c) ≡ true → c ≢ birth
+    far c there q = let z : is_some (node_at tree birth) ≡ true = subst (λ b. is_some (node_at tree b) ≡ true) q there in let y : is_some (node_at tree birth) ≡ false = ap is_some new in cc
 
     -- the nodes that the two changes lead to are the new tree's
     same_nodes : (b : ℕ) → node_at result b ≡ put_node (put_node (node_at tree) birth (Some node)) d (Some (Dir (with_entry entries name birth) (grown entries blocks))) b
@@ -93,48 +98,51 @@ module _ (h : Hand) (s : Store) (tree : FileTree) (n : Naming) (of : IsOfTree s 
           let edits : edited_all t (enter (m.inode d) (inode_by m d (Dir entries blocks)) (entry_of m name birth) room) ≡ edited_all t (enter (n.inode d) x entry room) = rw (r.0, same, e) refl in
           subst (λ z. HasEntered z tree.segments mid m d (Dir (with_entry entries name birth) (grown entries blocks))) edits made
 
-      finished : (room : Room) → TakesEntry t tree.segments m d entries blocks room → IsWellFormed result → FinishMeets s (says result reply.Ok) (made_by (n.inode d) x name birth node dirs j room)
+      finished : (room : Room) → TakesEntry t tree.segments m d entries blocks room → IsWellFormed result → FinishKeeps s tree n (says result reply.Ok) (made_by (n.inode d) x name birth node dirs j room)
       finished room takes well =
           let r = entered room takes in
           let edits : edited_all s (new_node j birth node ++ enter (n.inode d) x entry room) ≡ edited_all t (enter (n.inode d) x entry room) = edited_append s (new_node j birth node) (enter (n.inode d) x entry room) in
           record {
-            answer = refl;
-            naming = r.naming;
-            tree = subst (λ z. IsOfTree z result r.naming) (sym edits)
-                (of_stage (edited_all t (enter (n.inode d) x entry room)) tree.segments (put_node mid d (Some (Dir (with_entry entries name birth) (grown entries blocks)))) r.naming result r.stage same_nodes well refl of.few);
+            meets = record {
+              answer = refl;
+              naming = r.naming;
+              tree = subst (λ z. IsOfTree z result r.naming) (sym edits)
+                  (of_stage (edited_all t (enter (n.inode d) x entry room)) tree.segments (put_node mid d (Some (Dir (with_entry entries name birth) (grown entries blocks)))) r.naming result r.stage same_nodes well refl of.few);
+            };
+            inodes = λ c there stays. r.others.inode c (ap is_some (node_other (node_at tree) birth (Some node) c (far c there)) ∙ there) ∙ put_other n.inode birth j c (far c there);
           }
 
-      room_case : (room : Room) → IsRoomFor h s tree n d entries blocks room → Meets h s (if lacks_block tree entries blocks then says tree reply.NoDirBlock else says result reply.Ok) (run (making_in h (n.inode d) x name birth node dirs j room) s)
+      room_case : (room : Room) → IsRoomFor h s tree n d entries blocks room → Meets h s tree n (if lacks_block tree entries blocks then says tree reply.NoDirBlock else says result reply.Ok) (run (making_in h (n.inode d) x name birth node dirs j room) s)
       room_case NoRoom r = λ well. none_meets h s tree n of reply.NoDirBlock dirs (lacks_block tree entries blocks) (says result reply.Ok) (λ all. lacks_by_blocks tree entries blocks true r.0 (r.1 all))
-      room_case (Inside q) r = passes h s (lacks_block tree entries blocks) (says tree reply.NoDirBlock) (says result reply.Ok) (run (making_in h (n.inode d) x name birth node dirs j (Inside q)) s) (lacks_none_inside tree entries blocks r.1)
+      room_case (Inside q) r = passes h s tree n (lacks_block tree entries blocks) (says tree reply.NoDirBlock) (says result reply.Ok) (run (making_in h (n.inode d) x name birth node dirs j (Inside q)) s) (lacks_none_inside tree entries blocks r.1)
           (finished (Inside q) (record { inside = r.0.inside; vacant = r.0.vacant }, r.1))
-      room_case (InBlock k) r = passes h s (lacks_block tree entries blocks) (says tree reply.NoDirBlock) (says result reply.Ok) (run (making_in h (n.inode d) x name birth node dirs j (InBlock k)) s) (lacks_by_blocks tree entries blocks false r.0 r.2)
+      room_case (InBlock k) r = passes h s tree n (lacks_block tree entries blocks) (says tree reply.NoDirBlock) (says result reply.Ok) (run (making_in h (n.inode d) x name birth node dirs j (InBlock k)) s) (lacks_by_blocks tree entries blocks false r.0 r.2)
           (by_clear (must_clear h k) refl)
         where
-          by_clear : (c : Bool) → must_clear h k ≡ c → Meets h s (says result reply.Ok) (run (finish_in h (InBlock k) (made_by (n.inode d) x name birth node dirs j (InBlock k))) s)
+          by_clear : (c : Bool) → must_clear h k ≡ c → Meets h s tree n (says result reply.Ok) (run (finish_in h (InBlock k) (made_by (n.inode d) x name birth node dirs j (InBlock k))) s)
           by_clear true e well = rw e e
           by_clear false e well = rw e (finished (InBlock k) (r.0, record { free = (r.3 e).free; clear = (r.3 e).clear }, r.1) well)
 
-    inode_case : (o : Option ℕ) → nat_le 896 (length entries) ≡ false → picked_inode h.held ≡ o → Meets h s (if inodes_full tree then says tree reply.NoInode else (if lacks_block tree entries blocks then says tree reply.NoDirBlock else says result reply.Ok)) (run (making_with h (n.inode d) x name birth node dirs o) s)
+    inode_case : (o : Option ℕ) → nat_le 896 (length entries) ≡ false → picked_inode h.held ≡ o → Meets h s tree n (if inodes_full tree then says tree reply.NoInode else (if lacks_block tree entries blocks then says tree reply.NoDirBlock else says result reply.Ok)) (run (making_with h (n.inode d) x name birth node dirs o) s)
     inode_case None few e = λ well. none_meets h s tree n of reply.NoInode dirs (inodes_full tree) (if lacks_block tree entries blocks then says tree reply.NoDirBlock else says result reply.Ok) (inode_none h s tree n of hand e)
     inode_case (Some j) few e = rw (run-bind (find_room h x) (making_in h (n.inode d) x name birth node dirs j) s)
-        (passes h s (inodes_full tree) (says tree reply.NoInode) (if lacks_block tree entries blocks then says tree reply.NoDirBlock else says result reply.Ok) (run (making_in h (n.inode d) x name birth node dirs j (run (find_room h x) s)) s)
+        (passes h s tree n (inodes_full tree) (says tree reply.NoInode) (if lacks_block tree entries blocks then says tree reply.NoDirBlock else says result reply.Ok) (run (making_in h (n.inode d) x name birth node dirs j (run (find_room h x) s)) s)
         (inode_some h s tree n of hand j e).2 (room_case j e (run (find_room h x) s) (room_found h s tree n of hand d blocks entries is few)))
 
-    pub gap_meets : Meets h s (made tree birth node (Free d entries blocks name)) (run (making h birth node dirs (AtGap (n.inode d) x name)) s)
+    pub gap_meets : Meets h s tree n (made tree birth node (Free d entries blocks name)) (run (making h birth node dirs (AtGap (n.inode d) x name)) s)
     gap_meets = by_size (nat_le 896 (length entries)) refl
       where
-        by_size : (c : Bool) → nat_le 896 (length entries) ≡ c → Meets h s (if c then says tree reply.DirFull else (if inodes_full tree then says tree reply.NoInode else (if lacks_block tree entries blocks then says tree reply.NoDirBlock else says result reply.Ok)))
+        by_size : (c : Bool) → nat_le 896 (length entries) ≡ c → Meets h s tree n (if c then says tree reply.DirFull else (if inodes_full tree then says tree reply.NoInode else (if lacks_block tree entries blocks then says tree reply.NoDirBlock else says result reply.Ok)))
             (run (if c then refused reply.DirFull dirs else read_held h (making_with h (n.inode d) x name birth node dirs (picked_inode h.held))) s)
         by_size true few = λ well. refuse_meets h s tree n of reply.DirFull dirs
         by_size false few = rw (run-segments (keys_of h.held) (making_with h (n.inode d) x name birth node dirs (picked_inode h.held)) s) (inode_case (picked_inode h.held) few refl)
 
 pub made_meets : (h : Hand) (s : Store) (tree : FileTree) (n : Naming) → IsOfTree s tree n → IsHandOf h s tree.segments → (birth : ℕ) (node : Node) → IsNew tree birth → IsBare node → (path : List (List ℕ)) →
-    Meets h s (made tree birth node (place tree path)) (run (plan_made h birth node path) s)
+    Meets h s tree n (made tree birth node (place tree path)) (run (plan_made h birth node path) s)
 made_meets h s tree n of hand birth node new bare path =
     let w = run (walk path) s in
     rw (run-bind (walk path) (λ w. making h birth node w.dirs w.spot) s)
-    (by_spot s (node_at tree) n of.pictures (λ v p. Meets h s (made tree birth node p) (run (making h birth node w.dirs v) s))
+    (by_spot s (node_at tree) n of.pictures (λ v p. Meets h s tree n (made tree birth node p) (run (making h birth node w.dirs v) s))
     (λ well. refuse_meets h s tree n of reply.Exist w.dirs)
     (λ r well. refuse_meets h s tree n of r w.dirs)
     (λ d blocks entries name b is had well. refuse_meets h s tree n of reply.Exist w.dirs)

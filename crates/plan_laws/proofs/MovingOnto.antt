@@ -28,7 +28,8 @@ use Rattle.plan_definitions.specs.Ask.{Ask, Got, ReadInode, run}
 use Rattle.plan_definitions.specs.Plans.{Hand, Plan, refused}
 use Rattle.plan_definitions.specs.Plans.Plan.{Finishes}
 use Rattle.plan_definitions.specs.NamePlans.{Moving, fewer, fewer_segments, finish_over, moved_onto_by, replacing_node, moving_onto}
-use Rattle.plan_definitions.specs.Meets.{IsOfTree, FinishMeets}
+use Rattle.plan_definitions.specs.Meets.{IsOfTree}
+use Rattle.plan_laws.specs.Keeping.{FinishKeeps}
 use Rattle.plan_laws.proofs.Asking.{run-segments}
 use Rattle.plan_laws.proofs.Cases.{inode_by, has_inode}
 use Rattle.plan_laws.proofs.Refusing.{Meets, refuse_meets}
@@ -141,27 +142,30 @@ module _ (h : Hand) (s : Store) (tree : FileTree) (n : Naming) (of : IsOfTree s 
       still_there : node_at end old ≡ Some node
       still_there = with_other mid to (Dir (with_entry g.left new b) blocks) old not_to ∙ with_other tree from (Dir (without_entry fentries name) fblocks) old not_from ∙ at
 
-      third : IsOnTheWay (edited_all u (fewer (n.inode old) (inode_by n old node))) tree.segments (node_at (one_link_fewer end old (Some node)))
+      third : IsOnTheWay (edited_all u (fewer (n.inode old) (inode_by n old node))) tree.segments (node_at (one_link_fewer end old (Some node))) k
       third = fewer_leads u tree.segments end k second
           (ascend_with mid to (Dir (with_entry g.left new b) blocks) (ascend_with tree from (Dir (without_entry fentries name) fblocks) of.well_formed.births))
           old (never_root tree of.well_formed to entries blocks new old is had) node still_there bare
 
       finished : IsWellFormed (one_link_fewer (moved tree from name to new b) old (Some node)) →
-          FinishMeets s (says (one_link_fewer (moved tree from name to new b) old (Some node)) reply.Ok) (moved_onto_by m (n.inode to) x new (n.spot to new) (n.inode old) (inode_by n old node) dirs)
-      finished = subst (λ r. IsWellFormed (one_link_fewer r old (Some node)) → FinishMeets s (says (one_link_fewer r old (Some node)) reply.Ok) (moved_onto_by m (n.inode to) x new (n.spot to new) (n.inode old) (inode_by n old node) dirs))
+          FinishKeeps s tree n (says (one_link_fewer (moved tree from name to new b) old (Some node)) reply.Ok) (moved_onto_by m (n.inode to) x new (n.spot to new) (n.inode old) (inode_by n old node) dirs)
+      finished = subst (λ r. IsWellFormed (one_link_fewer r old (Some node)) → FinishKeeps s tree n (says (one_link_fewer r old (Some node)) reply.Ok) (moved_onto_by m (n.inode to) x new (n.spot to new) (n.inode old) (inode_by n old node) dirs))
           (sym result_is) of_end
         where
-          of_end : IsWellFormed (one_link_fewer end old (Some node)) → FinishMeets s (says (one_link_fewer end old (Some node)) reply.Ok) (moved_onto_by m (n.inode to) x new (n.spot to new) (n.inode old) (inode_by n old node) dirs)
+          of_end : IsWellFormed (one_link_fewer end old (Some node)) → FinishKeeps s tree n (says (one_link_fewer end old (Some node)) reply.Ok) (moved_onto_by m (n.inode to) x new (n.spot to new) (n.inode old) (inode_by n old node) dirs)
           of_end well =
               let takes = take_entry m.dir m.directory m.slot in
               let puts = replace_entry x (n.spot to new) (entry_of n new b) in
               let less = fewer (n.inode old) (inode_by n old node) in
               let edits : edited_all s (takes ++ puts ++ less) ≡ edited_all u less = edited_append s (takes ++ puts) less ∙ ap (λ z. edited_all z less) (edited_append s takes puts) in
               record {
-                answer = refl;
-                naming = third.naming;
-                tree = subst (λ z. IsOfTree z (one_link_fewer end old (Some node)) third.naming) (sym edits)
-                    (of_stage (edited_all u less) tree.segments (node_at (one_link_fewer end old (Some node))) third.naming (one_link_fewer end old (Some node)) third.stage (λ c. refl) well (segments_fewer end old (Some node)) of.few);
+                meets = record {
+                  answer = refl;
+                  naming = third.naming;
+                  tree = subst (λ z. IsOfTree z (one_link_fewer end old (Some node)) third.naming) (sym edits)
+                      (of_stage (edited_all u less) tree.segments (node_at (one_link_fewer end old (Some node))) third.naming (one_link_fewer end old (Some node)) third.stage (λ c. refl) well (segments_fewer end old (Some node)) of.few);
+                };
+                inodes = λ c there stays. third.inodes c;
               }
 
   no_names : (es : Entries) → nat_lt 0 (length es) ≡ false → es ≡ []
@@ -169,7 +173,7 @@ module _ (h : Hand) (s : Store) (tree : FileTree) (n : Naming) (of : IsOfTree s 
   no_names (a ∷ es) e = absurd (let l : 0 < length (a ∷ es) = omega arith in grind (arith, nat_tests))
 
   abbrev Replaces : Applied → Ask Plan → Type 0
-  Replaces a p = Meets h s a (run p s)
+  Replaces a p = Meets h s tree n a (run p s)
 
   replaced : (node : Node) → node_at tree old ≡ Some node → HasNoNames node → old ≢ b →
       Replaces (says (one_link_fewer (moved tree from name to new b) old (Some node)) reply.Ok) (finish_over (fewer_segments (n.inode old) (inode_by n old node)) (moved_onto_by m (n.inode to) x new (n.spot to new) (n.inode old) (inode_by n old node) dirs))

@@ -23,7 +23,8 @@ use Rattle.plan_definitions.specs.Plans.{Hand, Plan, Room, enter, find_room, fin
 use Rattle.plan_definitions.specs.Plans.Plan.{Finishes}
 use Rattle.plan_definitions.specs.Plans.Room.{Inside, InBlock, NoRoom}
 use Rattle.plan_definitions.specs.NamePlans.{Moving, moved_within, moved_between, moving_in, moving_to}
-use Rattle.plan_definitions.specs.Meets.{IsOfTree, IsHandOf, FinishMeets}
+use Rattle.plan_definitions.specs.Meets.{IsOfTree, IsHandOf}
+use Rattle.plan_laws.specs.Keeping.{FinishKeeps}
 use Rattle.plan_laws.proofs.Asking.{run-bind}
 use Rattle.plan_laws.proofs.Cases.{inode_by, has_inode}
 use Rattle.plan_laws.proofs.Refusing.{Meets, passes, refuse_meets, none_meets}
@@ -63,12 +64,15 @@ module _ (h : Hand) (s : Store) (tree : FileTree) (n : Naming) (of : IsOfTree s 
     result_is : moved tree from name from new b ≡ end
     result_is = moved_is tree from fblocks fentries name from fblocks (without_entry fentries name) new b fis (with_same tree from left)
 
-    pub within_meets : Meets h s (says (moved tree from name from new b) reply.Ok) (Finishes (moved_within m new dirs))
-    within_meets = subst (λ r. Meets h s (says r reply.Ok) (Finishes (moved_within m new dirs))) (sym result_is)
+    pub within_meets : Meets h s tree n (says (moved tree from name from new b) reply.Ok) (Finishes (moved_within m new dirs))
+    within_meets = subst (λ r. Meets h s tree n (says r reply.Ok) (Finishes (moved_within m new dirs))) (sym result_is)
         (λ well. record {
-          answer = refl;
-          naming = named_at n from new (n.spot from name);
-          tree = of_stage t tree.segments (put_node (node_at tree) from (Some renamed)) (named_at n from new (n.spot from name)) end in_place same_nodes well refl of.few;
+          meets = record {
+            answer = refl;
+            naming = named_at n from new (n.spot from name);
+            tree = of_stage t tree.segments (put_node (node_at tree) from (Some renamed)) (named_at n from new (n.spot from name)) end in_place same_nodes well refl of.few;
+          };
+          inodes = λ c there stays. refl;
         })
 
   -- ---- from one directory to another
@@ -105,7 +109,7 @@ module _ (h : Hand) (s : Store) (tree : FileTree) (n : Naming) (of : IsOfTree s 
           ∙ ap (λ f. put_node f from (Some left) c) (put_twice (node_at tree) to (Some roomy) (Some more))
 
       -- the new name comes, and the old one goes
-      finished : (room : Room) → TakesEntry s tree.segments n to entries blocks room → IsWellFormed last → FinishMeets s (says last reply.Ok) (moved_between m (n.inode to) x new dirs room)
+      finished : (room : Room) → TakesEntry s tree.segments n to entries blocks room → IsWellFormed last → FinishKeeps s tree n (says last reply.Ok) (moved_between m (n.inode to) x new dirs room)
       finished room takes well =
           let entry = enter (n.inode to) x (entry_of n new b) room in
           let t = edited_all s entry in
@@ -118,29 +122,32 @@ module _ (h : Hand) (s : Store) (tree : FileTree) (n : Naming) (of : IsOfTree s 
           let takes_name : take_entry (k.inode from) m.directory (k.spot from name) ≡ take_entry m.dir m.directory m.slot = ap₂ (λ i q. take_entry i m.directory q) f.0 spot in
           let edits : edited_all s (entry ++ take_entry m.dir m.directory m.slot) ≡ edited_all t (take_entry (k.inode from) m.directory (k.spot from name)) = edited_append s entry (take_entry m.dir m.directory m.slot) ∙ ap (edited_all t) (sym takes_name) in
           record {
-            answer = refl;
-            naming = k;
-            tree = subst (λ z. IsOfTree z last k) (sym edits) (of_stage (edited_all t (take_entry (k.inode from) m.directory (k.spot from name))) tree.segments (put_node at from (Some left)) k last l.0 last_nodes well refl of.few);
+            meets = record {
+              answer = refl;
+              naming = k;
+              tree = subst (λ z. IsOfTree z last k) (sym edits) (of_stage (edited_all t (take_entry (k.inode from) m.directory (k.spot from name))) tree.segments (put_node at from (Some left)) k last l.0 last_nodes well refl of.few);
+            };
+            inodes = λ c there stays. r.others.inode c there;
           }
 
-      room_case : (room : Room) → IsRoomFor h s tree n to entries blocks room → Meets h s (if lacks_block tree entries blocks then says tree reply.NoDirBlock else says last reply.Ok) (run (moving_in h m (n.inode to) x new dirs room) s)
+      room_case : (room : Room) → IsRoomFor h s tree n to entries blocks room → Meets h s tree n (if lacks_block tree entries blocks then says tree reply.NoDirBlock else says last reply.Ok) (run (moving_in h m (n.inode to) x new dirs room) s)
       room_case NoRoom r = λ well. none_meets h s tree n of reply.NoDirBlock dirs (lacks_block tree entries blocks) (says last reply.Ok) (λ all. lacks_by_blocks tree entries blocks true r.0 (r.1 all))
-      room_case (Inside q) r = passes h s (lacks_block tree entries blocks) (says tree reply.NoDirBlock) (says last reply.Ok) (run (moving_in h m (n.inode to) x new dirs (Inside q)) s) (lacks_none_inside tree entries blocks r.1) (finished (Inside q) r)
-      room_case (InBlock k) r = passes h s (lacks_block tree entries blocks) (says tree reply.NoDirBlock) (says last reply.Ok) (run (moving_in h m (n.inode to) x new dirs (InBlock k)) s) (lacks_by_blocks tree entries blocks false r.0 r.2)
+      room_case (Inside q) r = passes h s tree n (lacks_block tree entries blocks) (says tree reply.NoDirBlock) (says last reply.Ok) (run (moving_in h m (n.inode to) x new dirs (Inside q)) s) (lacks_none_inside tree entries blocks r.1) (finished (Inside q) r)
+      room_case (InBlock k) r = passes h s tree n (lacks_block tree entries blocks) (says tree reply.NoDirBlock) (says last reply.Ok) (run (moving_in h m (n.inode to) x new dirs (InBlock k)) s) (lacks_by_blocks tree entries blocks false r.0 r.2)
           (by_clear (must_clear h k) refl)
         where
-          by_clear : (c : Bool) → must_clear h k ≡ c → Meets h s (says last reply.Ok) (run (finish_in h (InBlock k) (moved_between m (n.inode to) x new dirs (InBlock k))) s)
+          by_clear : (c : Bool) → must_clear h k ≡ c → Meets h s tree n (says last reply.Ok) (run (finish_in h (InBlock k) (moved_between m (n.inode to) x new dirs (InBlock k))) s)
           by_clear true e well = rw e e
           by_clear false e well = rw e (finished (InBlock k) (r.0, r.3 e, r.1) well)
 
-      by_size : (c : Bool) → nat_le 896 (length entries) ≡ c → Meets h s (if c then says tree reply.DirFull else (if lacks_block tree entries blocks then says tree reply.NoDirBlock else says last reply.Ok))
+      by_size : (c : Bool) → nat_le 896 (length entries) ≡ c → Meets h s tree n (if c then says tree reply.DirFull else (if lacks_block tree entries blocks then says tree reply.NoDirBlock else says last reply.Ok))
           (run (if c then refused reply.DirFull dirs else bind (find_room h x) (moving_in h m (n.inode to) x new dirs)) s)
       by_size true few = λ well. refuse_meets h s tree n of reply.DirFull dirs
       by_size false few = rw (run-bind (find_room h x) (moving_in h m (n.inode to) x new dirs) s) (room_case (run (find_room h x) s) (room_found h s tree n of hand to blocks entries is few))
 
-      between_meets : Meets h s (if nat_le 896 (length entries) then says tree reply.DirFull else (if lacks_block tree entries blocks then says tree reply.NoDirBlock else says (moved room_tree from name to new b) reply.Ok))
+      between_meets : Meets h s tree n (if nat_le 896 (length entries) then says tree reply.DirFull else (if lacks_block tree entries blocks then says tree reply.NoDirBlock else says (moved room_tree from name to new b) reply.Ok))
           (run (if nat_le 896 (length entries) then refused reply.DirFull dirs else bind (find_room h x) (moving_in h m (n.inode to) x new dirs)) s)
-      between_meets = subst (λ r. Meets h s (if nat_le 896 (length entries) then says tree reply.DirFull else (if lacks_block tree entries blocks then says tree reply.NoDirBlock else says r reply.Ok))
+      between_meets = subst (λ r. Meets h s tree n (if nat_le 896 (length entries) then says tree reply.DirFull else (if lacks_block tree entries blocks then says tree reply.NoDirBlock else says r reply.Ok))
           (run (if nat_le 896 (length entries) then refused reply.DirFull dirs else bind (find_room h x) (moving_in h m (n.inode to) x new dirs)) s)) (sym last_is) (by_size (nat_le 896 (length entries)) refl)
 
     -- the same directory, or another
@@ -161,13 +168,13 @@ module _ (h : Hand) (s : Store) (tree : FileTree) (n : Naming) (of : IsOfTree s 
         entries_of (Some (Dir es k)) = es
         entries_of _ = []
 
-    by_test : (one : Bool) → nat_eq from to ≡ one → Meets h s (tested one) (run (planned one) s)
+    by_test : (one : Bool) → nat_eq from to ≡ one → Meets h s tree n (tested one) (run (planned one) s)
     by_test true e =
         let i : from ≡ to = eqb-true from to e in
-        subst (λ c. Meets h s (says (moved tree from name c new b) reply.Ok) (Finishes (moved_within m new dirs))) i (within_meets (ap (λ l. entry_at l new) (same_entries i) ∙ absent))
+        subst (λ c. Meets h s tree n (says (moved tree from name c new b) reply.Ok) (Finishes (moved_within m new dirs))) i (within_meets (ap (λ l. entry_at l new) (same_entries i) ∙ absent))
     by_test false e = between_meets (eqb-false from to e)
 
-    pub to_meets : Meets h s (moved_to tree from name b to entries blocks new) (run (moving_to h m (n.inode to) x new dirs) s)
+    pub to_meets : Meets h s tree n (moved_to tree from name b to entries blocks new) (run (moving_to h m (n.inode to) x new dirs) s)
     to_meets =
         let e : nat_eq (n.inode to) (n.inode from) ≡ nat_eq from to = same_inode_test s (node_at tree) n of.pictures to from (ap is_some is) (ap is_some fis) ∙ same_order to from in
-        subst (λ c. Meets h s (tested (nat_eq from to)) (run (planned c) s)) (sym e) (by_test (nat_eq from to) refl)
+        subst (λ c. Meets h s tree n (tested (nat_eq from to)) (run (planned c) s)) (sym e) (by_test (nat_eq from to) refl)

@@ -26,7 +26,8 @@ use Rattle.plan_definitions.specs.Ask.{Got, run}
 use Rattle.plan_definitions.specs.Plans.{Hand, Plan}
 use Rattle.plan_definitions.specs.Plans.Plan.{Finishes}
 use Rattle.plan_definitions.specs.FilePlans.{Writing, end_of, sectors_met, large_after, resized, large_taken, large_segment, file_dated, written_by, writing_in}
-use Rattle.plan_definitions.specs.Meets.{IsOfTree, IsHandOf, FinishMeets, PlanMeets}
+use Rattle.plan_definitions.specs.Meets.{IsOfTree, IsHandOf}
+use Rattle.plan_laws.specs.Keeping.{FinishKeeps, PlanKeeps}
 use Rattle.plan_laws.proofs.Cases.{inode_by}
 use Rattle.plan_laws.proofs.Totals.{in_range}
 use Rattle.plan_laws.proofs.Bytes.{stored_byte}
@@ -310,21 +311,24 @@ module _ (h : Hand) (s : Store) (tree : FileTree) (n : Naming) (of : IsOfTree s 
     y_is : resized x w.when (length new) picks o ≡ y
     y_is = resized_is (n.stamp b) links since w.when large (n.large b) block (n.block b) old new picks o (record { kept = λ j l m. own_block j m; picked = λ j l m. pick_block j m; large_is = sized_large o takes })
 
-    finish : IsWellFormed (with_node tree b (File new links w.when)) → FinishMeets s (says (with_node tree b (File new links w.when)) reply.Ok) (written_by (n.inode b) y picks o touched bytes)
+    finish : IsWellFormed (with_node tree b (File new links w.when)) → FinishKeeps s tree n (says (with_node tree b (File new links w.when)) reply.Ok) (written_by (n.inode b) y picks o touched bytes)
     finish well = record {
-      answer = refl;
-      naming = named_resized n b new block large;
-      tree = subst (λ z. IsOfTree z (with_node tree b (File new links w.when)) (named_resized n b new block large)) (sym edits)
-          (resized_tree s t tree n of b links since w.when large old new block is has after blocks_within fit well);
+      meets = record {
+        answer = refl;
+        naming = named_resized n b new block large;
+        tree = subst (λ z. IsOfTree z (with_node tree b (File new links w.when)) (named_resized n b new block large)) (sym edits)
+            (resized_tree s t tree n of b links since w.when large old new block is has after blocks_within fit well);
+      };
+      inodes = λ c there stays. refl;
     }
       where
         edits : edited_all s (written_by (n.inode b) y picks o touched bytes).edits ≡ t
         edits = ap (λ l. edited_all s (map (λ k. SetUse k Bytes) picks ++ l ++ file_dated (n.inode b) y ++ bytes)) (taken_is o) ∙ edited_append s (set_edits Bytes picks true (large_segment o) (n.inode b) y) bytes
 
-    pub writing_in_meets : IsWellFormed (with_node tree b (File new links w.when)) → PlanMeets h s (says (with_node tree b (File new links w.when)) reply.Ok) (run (writing_in w (n.inode b) touched x picks o) s)
+    pub writing_in_meets : IsWellFormed (with_node tree b (File new links w.when)) → PlanKeeps h s tree n (says (with_node tree b (File new links w.when)) reply.Ok) (run (writing_in w (n.inode b) touched x picks o) s)
     writing_in_meets well =
         let shape : resized x w.when (max (length old) (end_of w)) picks o ≡ y = ap (λ k. resized x w.when k picks o) (sym new_size) ∙ y_is in
         let plan : StoredNode → Plan = λ v. Finishes (written_by (n.inode b) v picks o touched (sector_edits w x v s (w.off / 512) (sectors_met w.off w.len))) in
         let e : run (writing_in w (n.inode b) touched x picks o) s ≡ plan y =
         run-writes w x (resized x w.when (max (length old) (end_of w)) picks o) s (w.off / 512) (sectors_met w.off w.len) (λ bytes. Got (Finishes (written_by (n.inode b) (resized x w.when (max (length old) (end_of w)) picks o) picks o touched bytes))) ∙ ap plan shape in
-        subst (PlanMeets h s (says (with_node tree b (File new links w.when)) reply.Ok)) (sym e) (finish well)
+        subst (PlanKeeps h s tree n (says (with_node tree b (File new links w.when)) reply.Ok)) (sym e) (finish well)

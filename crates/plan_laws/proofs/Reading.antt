@@ -17,7 +17,8 @@ use Rattle.disk_definitions.specs.Naming.{Naming, Allows}
 use Rattle.plan_definitions.specs.Ask.{run}
 use Rattle.plan_definitions.specs.Plans.{Hand, refused, refuse}
 use Rattle.plan_definitions.specs.FilePlans.{sectors_met, read_sectors, showing}
-use Rattle.plan_definitions.specs.Meets.{IsOfTree, PlanMeets, AllAllow}
+use Rattle.plan_definitions.specs.Meets.{IsOfTree, AllAllow}
+use Rattle.plan_laws.specs.Keeping.{PlanKeeps}
 use Rattle.plan_laws.proofs.Cases.{inode_by}
 use Rattle.plan_laws.proofs.Refusing.{Meets, refuse_meets}
 use Rattle.plan_laws.specs.FilesPlanned.{ReadIsPlanned}
@@ -58,20 +59,20 @@ module _ (h : Hand) (s : Store) (tree : FileTree) (n : Naming) (of : IsOfTree s 
       let size : length (take len (drop off cells)) ≡ min len (length cells - off) = length-take len (drop off cells) ∙ ap (min len) (length-drop off cells) in
       subst (λ k. AllAllow (take len (drop off cells)) (values (stored_byte s x) off k)) size (all_allow (stored_byte s x) (take len (drop off cells)) off allowed)
 
-  pub showing_meets : Meets h s (shown tree cells off len) (run (showing off len (n.inode b) touched x) s)
+  pub showing_meets : Meets h s tree n (shown tree cells off len) (run (showing off len (n.inode b) touched x) s)
   showing_meets = go (nat_lt (length cells) off)
     where
       k : ℕ
       k = min len (length cells - off)
 
-      bytes_are : PlanMeets h s (record { answer = Shows (take len (drop off cells)); tree = tree })
+      bytes_are : PlanKeeps h s tree n (record { answer = Shows (take len (drop off cells)); tree = tree })
           (run (read_sectors x (off / 512) (sectors_met off k) (λ bytes. refused (reply.Shown (take k (drop (off % 512) bytes))) touched)) s)
       bytes_are =
           let e : run (read_sectors x (off / 512) (sectors_met off k) (λ bytes. refused (reply.Shown (take k (drop (off % 512) bytes))) touched)) s ≡ refuse (reply.Shown (values (stored_byte s x) off k)) touched =
           run-sectors s x (off / 512) (sectors_met off k) (λ bytes. refused (reply.Shown (take k (drop (off % 512) bytes))) touched) ∙ ap (λ l. refuse (reply.Shown l) touched) (cut_out (stored_byte s x) off k) in
-          subst (PlanMeets h s (record { answer = Shows (take len (drop off cells)); tree = tree })) (sym e) (record { answer = shown_allowed; naming = n; tree = of })
+          subst (PlanKeeps h s tree n (record { answer = Shows (take len (drop off cells)); tree = tree })) (sym e) (record { meets = record { answer = shown_allowed; naming = n; tree = of }; inodes = λ c there stays. refl })
 
-      go : (c : Bool) → Meets h s (if c then says tree reply.BadOffset else record { answer = Shows (take len (drop off cells)); tree = tree })
+      go : (c : Bool) → Meets h s tree n (if c then says tree reply.BadOffset else record { answer = Shows (take len (drop off cells)); tree = tree })
           (run (if c then refused reply.BadOffset touched else (let k = min len (length cells - off) in read_sectors x (off / 512) (sectors_met off k) (λ bytes. refused (reply.Shown (take k (drop (off % 512) bytes))) touched))) s)
       go true well = refuse_meets h s tree n of reply.BadOffset touched
       go false well = bytes_are

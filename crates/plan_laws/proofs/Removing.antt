@@ -26,7 +26,8 @@ use Rattle.plan_definitions.specs.Walks.{AtName, walk}
 use Rattle.plan_definitions.specs.Plans.{Hand, refused}
 use Rattle.plan_definitions.specs.Plans.Plan.{Finishes}
 use Rattle.plan_definitions.specs.NamePlans.{fewer, fewer_segments, finish_over, removed_by, unlinking_node, unlinking, removing_node, removing}
-use Rattle.plan_definitions.specs.Meets.{IsOfTree, FinishMeets, PlanMeets}
+use Rattle.plan_definitions.specs.Meets.{IsOfTree}
+use Rattle.plan_laws.specs.Keeping.{FinishKeeps, PlanKeeps}
 use Rattle.plan_laws.specs.NamesPlanned.{UnlinkIsPlanned, RmdirIsPlanned}
 use Rattle.plan_laws.proofs.Asking.{run-bind, run-segments}
 use Rattle.plan_laws.proofs.Cases.{inode_by, has_inode, by_spot}
@@ -59,16 +60,19 @@ module _ (h : Hand) (s : Store) (tree : FileTree) (n : Naming) (of : IsOfTree s 
       restage t tree.segments (put_node (node_at tree) d (Some (Dir (without_entry entries name) blocks))) (node_at mid) n r.0 (node_with tree d (Dir (without_entry entries name) blocks))
 
   removed : (node : Node) → node_at tree b ≡ Some node → b ≢ d → HasNoNames node → IsWellFormed (one_link_fewer mid b (Some node)) →
-      FinishMeets s (says (one_link_fewer mid b (Some node)) reply.Ok) (removed_by (n.inode d) x (n.spot d name) (n.inode b) (inode_by n b node) dirs)
+      FinishKeeps s tree n (says (one_link_fewer mid b (Some node)) reply.Ok) (removed_by (n.inode d) x (n.spot d name) (n.inode b) (inode_by n b node) dirs)
   removed node e apart bare well =
       let result = one_link_fewer mid b (Some node) in
       let r = fewer_leads t tree.segments mid n name_gone (ascend_with tree d (Dir (without_entry entries name) blocks) of.well_formed.births) b away node (with_other tree d (Dir (without_entry entries name) blocks) b apart ∙ e) bare in
       let edits = edited_append s (take_entry (n.inode d) x (n.spot d name)) (fewer (n.inode b) (inode_by n b node)) in
       record {
-        answer = refl;
-        naming = r.naming;
-        tree = subst (λ z. IsOfTree z result r.naming) (sym edits)
-            (of_stage (edited_all t (fewer (n.inode b) (inode_by n b node))) tree.segments (node_at result) r.naming result r.stage (λ c. refl) well (segments_fewer mid b (Some node)) of.few);
+        meets = record {
+          answer = refl;
+          naming = r.naming;
+          tree = subst (λ z. IsOfTree z result r.naming) (sym edits)
+              (of_stage (edited_all t (fewer (n.inode b) (inode_by n b node))) tree.segments (node_at result) r.naming result r.stage (λ c. refl) well (segments_fewer mid b (Some node)) of.few);
+        };
+        inodes = λ c there stays. r.inodes c;
       }
 
   -- what the inode of the node says
@@ -80,14 +84,14 @@ module _ (h : Hand) (s : Store) (tree : FileTree) (n : Naming) (of : IsOfTree s 
 
   -- of unlink
   abbrev Unlinks : Bool → Applied → Type 0
-  Unlinks c a = Meets h s a (run (if c then refused reply.IsDir dirs else ReadInode (n.inode b) (unlinking_node (n.inode d) x (n.spot d name) (n.inode b) dirs)) s)
+  Unlinks c a = Meets h s tree n a (run (if c then refused reply.IsDir dirs else ReadInode (n.inode b) (unlinking_node (n.inode d) x (n.spot d name) (n.inode b) dirs)) s)
 
   not_itself : (node : Node) → node_at tree b ≡ Some node → is_dir (Some node) ≡ false → b ≢ d
   not_itself node e plain i = let z : Some node ≡ Some (Dir entries blocks) = sym e ∙ ap (node_at tree) i ∙ is in let y : is_dir (Some node) ≡ true = ap is_dir z in cc
 
   unlinks : (node : Node) → node_at tree b ≡ Some node → is_dir (Some node) ≡ false → HasNoNames node → Unlinks false (says (one_link_fewer mid b (Some node)) reply.Ok)
   unlinks node e plain bare well =
-      subst (λ o. PlanMeets h s (says (one_link_fewer mid b (Some node)) reply.Ok) (run (unlinking_node (n.inode d) x (n.spot d name) (n.inode b) dirs o) s)) (sym (read node e))
+      subst (λ o. PlanKeeps h s tree n (says (one_link_fewer mid b (Some node)) reply.Ok) (run (unlinking_node (n.inode d) x (n.spot d name) (n.inode b) dirs o) s)) (sym (read node e))
       (rw (run-segments (fewer_segments (n.inode b) (inode_by n b node)) (Got (Finishes (removed_by (n.inode d) x (n.spot d name) (n.inode b) (inode_by n b node) dirs))) s)
       (removed node e (not_itself node e plain) bare well))
 
@@ -97,12 +101,12 @@ module _ (h : Hand) (s : Store) (tree : FileTree) (n : Naming) (of : IsOfTree s 
   by_node (Some (File cells links when)) e = rw (kind_is (File cells links when) e) (unlinks (File cells links when) e refl (λ m. refl))
   by_node (Some (Link target links)) e = rw (kind_is (Link target links) e) (unlinks (Link target links) e refl (λ m. refl))
 
-  pub unlink_meets : Meets h s (unlinked tree (Taken d entries blocks name b)) (run (unlinking dirs (AtName (n.inode d) x name (n.spot d name) (entry_of n name b))) s)
+  pub unlink_meets : Meets h s tree n (unlinked tree (Taken d entries blocks name b)) (run (unlinking dirs (AtName (n.inode d) x name (n.spot d name) (entry_of n name b))) s)
   unlink_meets = by_node (node_at tree b) refl
 
   -- of rmdir
   abbrev Removes : Bool → Applied → Type 0
-  Removes c a = Meets h s a (run (if c then ReadInode (n.inode b) (removing_node (n.inode d) x (n.spot d name) (n.inode b) dirs) else refused reply.NotDir dirs) s)
+  Removes c a = Meets h s tree n a (run (if c then ReadInode (n.inode b) (removing_node (n.inode d) x (n.spot d name) (n.inode b) dirs) else refused reply.NotDir dirs) s)
 
   no_names : (es : Entries) → nat_lt 0 (length es) ≡ false → es ≡ []
   no_names [] e = refl
@@ -119,7 +123,7 @@ module _ (h : Hand) (s : Store) (tree : FileTree) (n : Naming) (of : IsOfTree s 
       entries_of _ = []
 
   removes : (es : Entries) (k : ℕ) → node_at tree b ≡ Some (Dir es k) → (c : Bool) → nat_lt 0 (length es) ≡ c →
-      Meets h s (if c then says tree reply.NotEmpty else says (without_node mid b) reply.Ok)
+      Meets h s tree n (if c then says tree reply.NotEmpty else says (without_node mid b) reply.Ok)
       (run (if c then refused reply.NotEmpty (dirs ++ n.inode b ∷ []) else finish_over (fewer_segments (n.inode b) (inode_by n b (Dir es k))) (removed_by (n.inode d) x (n.spot d name) (n.inode b) (inode_by n b (Dir es k)) dirs)) s)
   removes es k e true i = λ well. refuse_meets h s tree n of reply.NotEmpty (dirs ++ n.inode b ∷ [])
   removes es k e false i =
@@ -129,19 +133,19 @@ module _ (h : Hand) (s : Store) (tree : FileTree) (n : Naming) (of : IsOfTree s 
   by_directory : (o : Option Node) → node_at tree b ≡ o → Removes (n.kind b == 2) (if not (is_dir o) then says tree reply.NotDir else (if has_entries o then says tree reply.NotEmpty else says (without_node mid b) reply.Ok))
   by_directory None e = absurd (let z : is_some (node_at tree b) ≡ false = ap is_some e in let y : is_some (node_at tree b) ≡ true = there in cc)
   by_directory (Some (Dir es k)) e = rw (kind_is (Dir es k) e)
-      (subst (λ o. Meets h s (if nat_lt 0 (length es) then says tree reply.NotEmpty else says (without_node mid b) reply.Ok) (run (removing_node (n.inode d) x (n.spot d name) (n.inode b) dirs o) s)) (sym (read (Dir es k) e))
+      (subst (λ o. Meets h s tree n (if nat_lt 0 (length es) then says tree reply.NotEmpty else says (without_node mid b) reply.Ok) (run (removing_node (n.inode d) x (n.spot d name) (n.inode b) dirs o) s)) (sym (read (Dir es k) e))
       (removes es k e (nat_lt 0 (length es)) refl))
   by_directory (Some (File cells links when)) e = rw (kind_is (File cells links when) e) (λ well. refuse_meets h s tree n of reply.NotDir dirs)
   by_directory (Some (Link target links)) e = rw (kind_is (Link target links) e) (λ well. refuse_meets h s tree n of reply.NotDir dirs)
 
-  pub rmdir_meets : Meets h s (dir_removed tree (Taken d entries blocks name b)) (run (removing dirs (AtName (n.inode d) x name (n.spot d name) (entry_of n name b))) s)
+  pub rmdir_meets : Meets h s tree n (dir_removed tree (Taken d entries blocks name b)) (run (removing dirs (AtName (n.inode d) x name (n.spot d name) (entry_of n name b))) s)
   rmdir_meets = by_directory (node_at tree b) refl
 
 pub unlink_planned : UnlinkIsPlanned
 unlink_planned path h s tree n birth when m of hand new =
     let w = run (walk path) s in
     rw (run-bind (walk path) (λ w. unlinking w.dirs w.spot) s)
-    (by_spot s (node_at tree) n of.pictures (λ v p. Meets h s (unlinked tree p) (run (unlinking w.dirs v) s))
+    (by_spot s (node_at tree) n of.pictures (λ v p. Meets h s tree n (unlinked tree p) (run (unlinking w.dirs v) s))
     (λ well. refuse_meets h s tree n of reply.IsDir w.dirs)
     (λ r well. refuse_meets h s tree n of r w.dirs)
     (λ d blocks entries name b is had. unlink_meets h s tree n of w.dirs d blocks entries name b is had)
@@ -152,7 +156,7 @@ pub rmdir_planned : RmdirIsPlanned
 rmdir_planned path h s tree n birth when m of hand new =
     let w = run (walk path) s in
     rw (run-bind (walk path) (λ w. removing w.dirs w.spot) s)
-    (by_spot s (node_at tree) n of.pictures (λ v p. Meets h s (dir_removed tree p) (run (removing w.dirs v) s))
+    (by_spot s (node_at tree) n of.pictures (λ v p. Meets h s tree n (dir_removed tree p) (run (removing w.dirs v) s))
     (λ well. refuse_meets h s tree n of reply.Inval w.dirs)
     (λ r well. refuse_meets h s tree n of r w.dirs)
     (λ d blocks entries name b is had. rmdir_meets h s tree n of w.dirs d blocks entries name b is had)

@@ -43,16 +43,16 @@ module _ (h : Hand) (s : Store) (tree : FileTree) (n : Naming) (of : IsOfTree s 
       ap (list_any (λ i. nat_eq i (n.inode b))) e ∙ passes_test s (node_at tree) n of.pictures b there (walked tree path) (walked_are s tree n of.pictures path 0) in
       ap₂ (λ t u. t && u) k l
 
-  by_through : (ds : List ℕ) (a : Applied) (p : Ask Plan) → ds ≡ map n.inode (walked tree path) → Meets h s a (run p s) →
-      Meets h s (if goes_through tree path b then says tree reply.Inval else a) (run (if passes_moved m ds then refused reply.Inval dirs else p) s)
-  by_through ds a p e meets = subst (λ c. Meets h s (if goes_through tree path b then says tree reply.Inval else a) (run (if c then refused reply.Inval dirs else p) s)) (sym (through_is ds e)) (go (goes_through tree path b))
+  by_through : (ds : List ℕ) (a : Applied) (p : Ask Plan) → ds ≡ map n.inode (walked tree path) → Meets h s tree n a (run p s) →
+      Meets h s tree n (if goes_through tree path b then says tree reply.Inval else a) (run (if passes_moved m ds then refused reply.Inval dirs else p) s)
+  by_through ds a p e meets = subst (λ c. Meets h s tree n (if goes_through tree path b then says tree reply.Inval else a) (run (if c then refused reply.Inval dirs else p) s)) (sym (through_is ds e)) (go (goes_through tree path b))
     where
-      go : (c : Bool) → Meets h s (if c then says tree reply.Inval else a) (run (if c then refused reply.Inval dirs else p) s)
+      go : (c : Bool) → Meets h s tree n (if c then says tree reply.Inval else a) (run (if c then refused reply.Inval dirs else p) s)
       go true = λ well. refuse_meets h s tree n of reply.Inval dirs
       go false = meets
 
-  pub target_meets : (ds : List ℕ) → ds ≡ map n.inode (walked tree path) → (v : Spot) (p : Place) → Mirrors s (node_at tree) n v p → Meets h s (renamed_to tree from name b path p) (run (renaming_to h m ds dirs v) s)
-  target_meets ds e = by_spot s (node_at tree) n of.pictures (λ v p. Meets h s (renamed_to tree from name b path p) (run (renaming_to h m ds dirs v) s))
+  pub target_meets : (ds : List ℕ) → ds ≡ map n.inode (walked tree path) → (v : Spot) (p : Place) → Mirrors s (node_at tree) n v p → Meets h s tree n (renamed_to tree from name b path p) (run (renaming_to h m ds dirs v) s)
+  target_meets ds e = by_spot s (node_at tree) n of.pictures (λ v p. Meets h s tree n (renamed_to tree from name b path p) (run (renaming_to h m ds dirs v) s))
       (λ well. refuse_meets h s tree n of reply.Inval dirs)
       (λ r well. refuse_meets h s tree n of r dirs)
       (λ to blocks entries new old is had. by_through ds (moved_onto tree from name b to new old) (moving_onto m (n.inode to) (inode_by n to (Dir entries blocks)) new (n.spot to new) (entry_of n new old) dirs) e
@@ -62,20 +62,20 @@ module _ (h : Hand) (s : Store) (tree : FileTree) (n : Naming) (of : IsOfTree s 
 
 module _ (h : Hand) (s : Store) (tree : FileTree) (n : Naming) (of : IsOfTree s tree n) (hand : IsHandOf h s tree.segments) (to : List (List ℕ)) (dirs : List ℕ) where
   pub source_meets : (d blocks : ℕ) (entries : Entries) (name : List ℕ) (b : ℕ) → node_at tree d ≡ Some (Dir entries blocks) → entry_at entries name ≡ Some b →
-      Meets h s (renamed_from tree (Taken d entries blocks name b) to) (run (renaming h to dirs (AtName (n.inode d) (inode_by n d (Dir entries blocks)) name (n.spot d name) (entry_of n name b))) s)
+      Meets h s tree n (renamed_from tree (Taken d entries blocks name b) to) (run (renaming h to dirs (AtName (n.inode d) (inode_by n d (Dir entries blocks)) name (n.spot d name) (entry_of n name b))) s)
   source_meets d blocks entries name b is had =
       let w = run (walk to) s in
       let l = walks_lead s tree n to of in
       rw (run-bind (walk to) (λ w. renaming_to h (moving_of n d blocks entries name b) w.dirs (dirs ++ w.dirs) w.spot) s)
       (target_meets h s tree n of hand to (dirs ++ w.dirs) d blocks entries name b is had w.dirs l.1 w.spot (place tree to) l.0)
 
-renamed_meets : (h : Hand) (s : Store) (tree : FileTree) (n : Naming) → IsOfTree s tree n → IsHandOf h s tree.segments → (path to : List (List ℕ)) → Meets h s (renamed tree path to) (run (plan_renamed h path to) s)
+renamed_meets : (h : Hand) (s : Store) (tree : FileTree) (n : Naming) → IsOfTree s tree n → IsHandOf h s tree.segments → (path to : List (List ℕ)) → Meets h s tree n (renamed tree path to) (run (plan_renamed h path to) s)
 renamed_meets h s tree n of hand [] to = λ well. refuse_meets h s tree n of reply.Inval []
 renamed_meets h s tree n of hand (name ∷ names) [] = λ well. refuse_meets h s tree n of reply.Inval []
 renamed_meets h s tree n of hand (name ∷ names) (new ∷ news) =
     let w = run (walk (name ∷ names)) s in
     rw (run-bind (walk (name ∷ names)) (λ w. renaming h (new ∷ news) w.dirs w.spot) s)
-    (by_spot s (node_at tree) n of.pictures (λ v p. Meets h s (renamed_from tree p (new ∷ news)) (run (renaming h (new ∷ news) w.dirs v) s))
+    (by_spot s (node_at tree) n of.pictures (λ v p. Meets h s tree n (renamed_from tree p (new ∷ news)) (run (renaming h (new ∷ news) w.dirs v) s))
     (λ well. refuse_meets h s tree n of reply.Inval w.dirs)
     (λ r well. refuse_meets h s tree n of r w.dirs)
     (source_meets h s tree n of hand (new ∷ news) w.dirs)

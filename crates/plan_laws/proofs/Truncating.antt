@@ -26,7 +26,8 @@ use Rattle.plan_definitions.specs.NamePlans.{finish_over}
 use Rattle.plan_definitions.specs.Plans.{Hand, refused}
 use Rattle.plan_definitions.specs.Plans.Plan.{Finishes}
 use Rattle.plan_definitions.specs.FilePlans.{resized, blocks_between, large_cut, cut_segments, cut_by, cutting}
-use Rattle.plan_definitions.specs.Meets.{IsOfTree, FinishMeets}
+use Rattle.plan_definitions.specs.Meets.{IsOfTree}
+use Rattle.plan_laws.specs.Keeping.{FinishKeeps}
 use Rattle.plan_laws.proofs.Asking.{run-segments}
 use Rattle.plan_laws.proofs.Cases.{inode_by}
 use Rattle.plan_laws.proofs.Refusing.{Meets, refuse_meets}
@@ -194,28 +195,31 @@ module _ (h : Hand) (s : Store) (tree : FileTree) (n : Naming) (of : IsOfTree s 
               let u : s.use_of (n.block b j) ≡ Bytes = mine_used s (node_at tree) n of.pictures b links since (n.large b) old new (n.block b) is has (n.block b j) j (mine s (node_at tree) n of.pictures b links since (n.large b) old new (n.block b) is has (n.block b j) j m refl) in
               let z : Fresh ≡ Bytes = sym e ∙ u in cc
 
-  pub cut_meets : IsWellFormed (with_node tree b (File new links when)) → FinishMeets s (says (with_node tree b (File new links when)) reply.Ok) (cut_by when (n.inode b) touched x (length new))
+  pub cut_meets : IsWellFormed (with_node tree b (File new links when)) → FinishKeeps s tree n (says (with_node tree b (File new links when)) reply.Ok) (cut_by when (n.inode b) touched x (length new))
   cut_meets well = record {
-    answer = refl;
-    naming = named_resized n b new (n.block b) (n.large b);
-    tree = resized_tree s t tree n of b links since when (n.large b) old new (n.block b) is has after own_within fit well;
+    meets = record {
+      answer = refl;
+      naming = named_resized n b new (n.block b) (n.large b);
+      tree = resized_tree s t tree n of b links since when (n.large b) old new (n.block b) is has after own_within fit well;
+    };
+    inodes = λ c there stays. refl;
   }
 
 module _ (h : Hand) (s : Store) (tree : FileTree) (n : Naming) (of : IsOfTree s tree n) (fit : FilesFit (node_at tree)) (when len : ℕ) (touched : List ℕ) (b links since : ℕ) (cells : List Cell) (is : node_at tree b ≡ Some (File cells links since)) where
   abbrev file : StoredNode
   file = inode_by n b (File cells links since)
 
-  cutting_meets : Meets h s (truncated tree b cells links when len) (run (cutting when len (n.inode b) touched file) s)
+  cutting_meets : Meets h s tree n (truncated tree b cells links when len) (run (cutting when len (n.inode b) touched file) s)
   cutting_meets = go (nat_lt (length cells) len) refl
     where
-      go : (c : Bool) → nat_lt (length cells) len ≡ c → Meets h s (if c then says tree reply.BadOffset else says (with_node tree b (File (take len cells) links when)) reply.Ok)
+      go : (c : Bool) → nat_lt (length cells) len ≡ c → Meets h s tree n (if c then says tree reply.BadOffset else says (with_node tree b (File (take len cells) links when)) reply.Ok)
           (run (if c then refused reply.BadOffset touched else finish_over (cut_segments file len) (cut_by when (n.inode b) touched file len)) s)
       go true e well = refuse_meets h s tree n of reply.BadOffset touched
       go false e well =
           let l : len ≤ length cells = grind (arith, nat_tests) in
           let size : length (take len cells) ≡ len = length-take-le len cells l in
           rw (run-segments (cut_segments file len) (Got (Finishes (cut_by when (n.inode b) touched file len))) s)
-          (subst (λ k. FinishMeets s (says (with_node tree b (File (take len cells) links when)) reply.Ok) (cut_by when (n.inode b) touched file k)) size
+          (subst (λ k. FinishKeeps s tree n (says (with_node tree b (File (take len cells) links when)) reply.Ok) (cut_by when (n.inode b) touched file k)) size
           (cut_meets h s tree n of fit touched b links since when cells (take len cells) is (rw size l) (λ j c. get_take len cells j c) well))
 
 pub truncate_planned : TruncateIsPlanned

@@ -18,7 +18,8 @@ use Rattle.pick_definitions.specs.Picks.{picked_many, picked_large}
 use Rattle.plan_definitions.specs.Ask.{Ask, run}
 use Rattle.plan_definitions.specs.Plans.{Hand, Plan, refused, none_left, read_held}
 use Rattle.plan_definitions.specs.FilePlans.{Writing, end_of, directory_blocks, writing_in, writing_picked, writing_small, writing_large, writing}
-use Rattle.plan_definitions.specs.Meets.{IsOfTree, IsHandOf, PlanMeets}
+use Rattle.plan_definitions.specs.Meets.{IsOfTree, IsHandOf}
+use Rattle.plan_laws.specs.Keeping.{PlanKeeps}
 use Rattle.plan_laws.proofs.Asking.{run-segments}
 use Rattle.plan_laws.proofs.Cases.{inode_by}
 use Rattle.plan_laws.proofs.Refusing.{Meets, passes, refuse_meets, none_meets}
@@ -73,34 +74,34 @@ module _ (h : Hand) (s : Store) (tree : FileTree) (n : Naming) (of : IsOfTree s 
     abbrev Takes : Option ℕ → Type 0
     Takes o = TakesLarge h s tree n of hand files.fit touched b links since old fresh is w inside size cells o
 
-    in_place : (o : Option ℕ) → Takes o → (picks : List ℕ) → ArePicked h s tree n of hand picks more → Meets h s done (run (writing_in w (n.inode b) touched x picks o) s)
+    in_place : (o : Option ℕ) → Takes o → (picks : List ℕ) → ArePicked h s tree n of hand picks more → Meets h s tree n done (run (writing_in w (n.inode b) touched x picks o) s)
     in_place o takes picks picked well =
         let e : max (length old) (end_of w) ≡ length (overwritten old w.off fresh) = sym (new_size h s tree n of hand files.fit touched b links since old fresh is w inside size cells) in
         writing_in_meets h s tree n of hand files.fit touched b links since old fresh is w inside size cells picks o (subst (λ k. ArePicked h s tree n of hand picks (small_blocks_of k - small_blocks_of (length old))) e picked) takes well
 
-    none_found : picked_many h.held more ≡ None → PlanMeets h s with_blocks (run (none_left h (reply.NoBlock (directory_blocks h.held)) touched) s)
+    none_found : picked_many h.held more ≡ None → PlanKeeps h s tree n with_blocks (run (none_left h (reply.NoBlock (directory_blocks h.held)) touched) s)
     none_found e = go h.all refl
       where
-        go : (c : Bool) → h.all ≡ c → PlanMeets h s with_blocks (run (none_left h (reply.NoBlock (directory_blocks h.held)) touched) s)
+        go : (c : Bool) → h.all ≡ c → PlanKeeps h s tree n with_blocks (run (none_left h (reply.NoBlock (directory_blocks h.held)) touched) s)
         go true all =
             let k : directory_blocks h.held ≡ m = directories_all h s tree n of hand all ∙ sym files.directories in
-            subst (λ j. PlanMeets h s with_blocks (run (none_left h (reply.NoBlock j) touched) s)) (sym k)
+            subst (λ j. PlanKeeps h s tree n with_blocks (run (none_left h (reply.NoBlock j) touched) s)) (sym k)
             (none_meets h s tree n of (reply.NoBlock m) touched (lacks h s tree n of hand m more) done (λ a. small_none h s tree n of hand m more files.directories e a))
         go false all = rw all refl
 
-    picked_meets : (o : Option ℕ) → Takes o → (p : Option (List ℕ)) → picked_many h.held more ≡ p → Meets h s with_blocks (run (writing_picked h w (n.inode b) touched x o p) s)
+    picked_meets : (o : Option ℕ) → Takes o → (p : Option (List ℕ)) → picked_many h.held more ≡ p → Meets h s tree n with_blocks (run (writing_picked h w (n.inode b) touched x o p) s)
     picked_meets o takes None e = λ well. none_found e
     picked_meets o takes (Some picks) e =
         let r = small_some h s tree n of hand m more picks files.directories e in
-        passes h s (lacks h s tree n of hand m more) (says tree (reply.NoBlock m)) done (run (writing_in w (n.inode b) touched x picks o) s) r.1 (in_place o takes picks r.0)
+        passes h s tree n (lacks h s tree n of hand m more) (says tree (reply.NoBlock m)) done (run (writing_in w (n.inode b) touched x picks o) s) r.1 (in_place o takes picks r.0)
 
-    small_meets : (o : Option ℕ) → Takes o → Meets h s with_blocks (run (writing_small h w (n.inode b) touched x o) s)
+    small_meets : (o : Option ℕ) → Takes o → Meets h s tree n with_blocks (run (writing_small h w (n.inode b) touched x o) s)
     small_meets o takes = go (more == 0) refl
       where
-        go : (c : Bool) → more == 0 ≡ c → Meets h s with_blocks (run (if c then writing_in w (n.inode b) touched x [] o else read_held h (writing_picked h w (n.inode b) touched x o (picked_many h.held more))) s)
+        go : (c : Bool) → more == 0 ≡ c → Meets h s tree n with_blocks (run (if c then writing_in w (n.inode b) touched x [] o else read_held h (writing_picked h w (n.inode b) touched x o (picked_many h.held more))) s)
         go true e =
             let z : more ≡ 0 = grind (arith, nat_tests) in
-            passes h s (lacks h s tree n of hand m more) (says tree (reply.NoBlock m)) done (run (writing_in w (n.inode b) touched x [] o) s) (subst (λ k. lacks h s tree n of hand m k ≡ false) (sym z) (none_lacking h s tree n of hand m files.directories))
+            passes h s tree n (lacks h s tree n of hand m more) (says tree (reply.NoBlock m)) done (run (writing_in w (n.inode b) touched x [] o) s) (subst (λ k. lacks h s tree n of hand m k ≡ false) (sym z) (none_lacking h s tree n of hand m files.directories))
             (in_place o takes [] (subst (ArePicked h s tree n of hand []) (sym z) (none_picked h s tree n of hand)))
         go false e = rw (run-segments (keys_of h.held) (writing_picked h w (n.inode b) touched x o (picked_many h.held more)) s) (picked_meets o takes (picked_many h.held more) refl)
 
@@ -128,21 +129,21 @@ module _ (h : Hand) (s : Store) (tree : FileTree) (n : Naming) (of : IsOfTree s 
         go true i false q e = absurd (cc)
         go false i false q e = absurd (let a : end_of w ≤ 65536 = grind (arith, nat_tests) in let c : length old ≤ 65536 = grind (arith, nat_tests) in let d : length (overwritten old w.off fresh) ≡ max (length old) (end_of w) = new_is in omega arith)
 
-    large_meets : needs ≡ true → (p : Option ℕ) → picked_large h.held ≡ p → Meets h s (if larges_full tree then says tree reply.NoLarge else with_blocks) (run (writing_large h w (n.inode b) touched x p) s)
+    large_meets : needs ≡ true → (p : Option ℕ) → picked_large h.held ≡ p → Meets h s tree n (if larges_full tree then says tree reply.NoLarge else with_blocks) (run (writing_large h w (n.inode b) touched x p) s)
     large_meets e None i = λ well. none_meets h s tree n of reply.NoLarge touched (larges_full tree) with_blocks (λ all. large_none h s tree n of hand i all)
     large_meets e (Some g) i =
         let r = large_some h s tree n of hand g i in
         let q = needs_one e in
         let longer : 65536 < length (overwritten old w.off fresh) = (let d : length (overwritten old w.off fresh) ≡ max (length old) (end_of w) = new_is in omega (arith, q.1)) in
-        passes h s (larges_full tree) (says tree reply.NoLarge) with_blocks (run (writing_small h w (n.inode b) touched x (Some g)) s) r.2 (small_meets (Some g) (q.0, longer, r.0, r.1))
+        passes h s tree n (larges_full tree) (says tree reply.NoLarge) with_blocks (run (writing_small h w (n.inode b) touched x (Some g)) s) r.2 (small_meets (Some g) (q.0, longer, r.0, r.1))
 
-    by_need : (c : Bool) → needs ≡ c → Meets h s (if c && larges_full tree then says tree reply.NoLarge else with_blocks)
+    by_need : (c : Bool) → needs ≡ c → Meets h s tree n (if c && larges_full tree then says tree reply.NoLarge else with_blocks)
         (run (if c then read_held h (writing_large h w (n.inode b) touched x (picked_large h.held)) else writing_small h w (n.inode b) touched x None) s)
     by_need true e = rw (run-segments (keys_of h.held) (writing_large h w (n.inode b) touched x (picked_large h.held)) s) (large_meets e (picked_large h.held) refl)
     by_need false e = small_meets None (needs_none e)
 
     abbrev Goal : Bool → Bool → Type 0
-    Goal p q = Meets h s (if p && larges_full tree then says tree reply.NoLarge else with_blocks)
+    Goal p q = Meets h s tree n (if p && larges_full tree then says tree reply.NoLarge else with_blocks)
         (run (if q then read_held h (writing_large h w (n.inode b) touched x (picked_large h.held)) else writing_small h w (n.inode b) touched x None) s)
 
     pub sized_meets : Goal (nat_lt (large_blocks_of (length old)) (large_blocks_of (max (length old) (end_of w)))) (nat_lt 65536 (end_of w) && x.large == 0)
@@ -156,10 +157,10 @@ module _ (h : Hand) (s : Store) (tree : FileTree) (n : Naming) (of : IsOfTree s 
   abbrev plan_then : Ask Plan
   plan_then = if nat_lt 65536 (end_of w) && x.large == 0 then read_held h (writing_large h w (n.inode b) touched x (picked_large h.held)) else writing_small h w (n.inode b) touched x None
 
-  pub writing_meets : Meets h s (written tree m b old links w.when w.off w.len (λ all. overwritten all w.off fresh)) (run (writing h w (n.inode b) touched x) s)
+  pub writing_meets : Meets h s tree n (written tree m b old links w.when w.off w.len (λ all. overwritten all w.off fresh)) (run (writing h w (n.inode b) touched x) s)
   writing_meets = go (nat_lt (length old) w.off) refl (nat_lt 1114112 (end_of w))
     where
-      go : (c : Bool) → nat_lt (length old) w.off ≡ c → (d : Bool) → Meets h s (if c then says tree reply.BadOffset else (if d then says tree reply.TooBig else tree_then))
+      go : (c : Bool) → nat_lt (length old) w.off ≡ c → (d : Bool) → Meets h s tree n (if c then says tree reply.BadOffset else (if d then says tree reply.TooBig else tree_then))
           (run (if c then refused reply.BadOffset touched else (if d then refused reply.TooBig touched else plan_then)) s)
       go true e d = λ well. refuse_meets h s tree n of reply.BadOffset touched
       go false e true = λ well. refuse_meets h s tree n of reply.TooBig touched

@@ -11,7 +11,8 @@ use Rattle.store_changes.specs.Laws.{FilesFit}
 use Rattle.plan_definitions.specs.Ask.{run}
 use Rattle.plan_definitions.specs.Plans.{Hand}
 use Rattle.plan_definitions.specs.PlanOf.{plan_of}
-use Rattle.plan_definitions.specs.Meets.{IsOfTree, IsHandOf, PlanMeets, directory_blocks_in}
+use Rattle.plan_definitions.specs.Meets.{IsOfTree, IsHandOf, directory_blocks_in}
+use Rattle.plan_laws.specs.Keeping.{PlanKeeps}
 use Rattle.plan_laws.specs.NamesPlanned.{IsPlanned}
 
 abbrev pub StatIsPlanned : Type 0
@@ -40,7 +41,7 @@ abbrev pub IsPlannedForFiles : Op → Type 0
 IsPlannedForFiles operation =
     (hand : Hand) (store : Store) (tree : FileTree) (naming : Naming) (birth when ever_directories : ℕ) → IsOfTree store tree naming →
     IsHandOf hand store tree.segments → IsNew tree birth → HasFiles store tree ever_directories →
-    PlanMeets hand store (apply tree operation birth when ever_directories) (run (plan_of hand birth when operation) store)
+    PlanKeeps hand store tree naming (apply tree operation birth when ever_directories) (run (plan_of hand birth when operation) store)
 
 abbrev pub TruncateIsPlanned : Type 0
 TruncateIsPlanned = (path : List (List ℕ)) (len : ℕ) → IsPlannedForFiles (op.Truncate path len)

@@ -10,16 +10,17 @@ use Rattle.disk_definitions.specs.Naming.{Naming}
 use Rattle.plan_definitions.specs.Ask.{run}
 use Rattle.plan_definitions.specs.Plans.{Hand}
 use Rattle.plan_definitions.specs.PlanOf.{plan_of}
-use Rattle.plan_definitions.specs.Meets.{IsOfTree, IsHandOf, PlanMeets}
+use Rattle.plan_definitions.specs.Meets.{IsOfTree, IsHandOf}
+use Rattle.plan_laws.specs.Keeping.{PlanKeeps}
 
 -- over the disk of a tree, with segments of it at hand, the plan of this operation at a new birth meets what it does to the tree: it answers alike,
--- and its edits lead to a disk of the new tree; `ever_directories` is the number of small blocks that are or were a directory's, which `write` and
+-- and its edits lead to a disk of the new tree, each node that stays in its inode; `ever_directories` is the number of small blocks that are or were a directory's, which `write` and
 -- `fill` alone go by
 abbrev pub IsPlanned : Op → Type 0
 IsPlanned operation =
     (hand : Hand) (store : Store) (tree : FileTree) (naming : Naming) (birth when ever_directories : ℕ) → IsOfTree store tree naming →
     IsHandOf hand store tree.segments → IsNew tree birth →
-    PlanMeets hand store (apply tree operation birth when ever_directories) (run (plan_of hand birth when operation) store)
+    PlanKeeps hand store tree naming (apply tree operation birth when ever_directories) (run (plan_of hand birth when operation) store)
 
 abbrev pub CreateIsPlanned : Type 0
 CreateIsPlanned = (path : List (List ℕ)) → IsPlanned (op.Create path)

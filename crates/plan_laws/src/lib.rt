@@ -28,7 +28,7 @@ pub fn walks_lead_as_the_tree_does()
 {}
 
 /// Over the disk of a tree the plan of an operation on names answers as the tree has it, refusal by refusal, and its edits lead to a disk of the
-/// tree after the operation. It lacks segments only where not all are held, and has a block cleared only where that may be needed.
+/// tree after the operation, by a naming that keeps the inodes of the nodes that stay. It lacks segments only where not all are held, and has a block cleared only where that may be needed.
 pub fn names_are_planned_as_the_tree_has_them()
     ensures create { CreateIsPlanned }
     ensures mkdir { MkdirIsPlanned }

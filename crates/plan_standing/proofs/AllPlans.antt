@@ -10,10 +10,11 @@ use Rattle.pick_definitions.specs.Held.{Segments}
 use Rattle.plan_definitions.specs.Ask.{Sector, Ask, AtHand, run, looks, meet}
 use Rattle.plan_definitions.specs.Plans.{Hand, Plan, Lacks, Clears, Finishes}
 use Rattle.plan_definitions.specs.PlanOf.{plan_of}
-use Rattle.plan_definitions.specs.Meets.{IsHandOf, PlanMeets, directory_blocks_in}
+use Rattle.plan_definitions.specs.Meets.{IsHandOf, directory_blocks_in}
 use Rattle.plan_definitions.specs.Written.{hand_of, Cached, at_hand, sectors_at_hand}
 use Rattle.plan_definitions.specs.Missing.{first_missing, unless_missing}
 use Rattle.plan_laws.specs.FilesPlanned.{IsPlannedForFiles}
+use Rattle.plan_laws.specs.Keeping.{PlanKeeps}
 use Rattle.plan_looks.proofs.Deciding.{meets_where}
 use Rattle.plan_looks.proofs.AllInside.{all_inside}
 use Rattle.plan_fit.proofs.AllBudgets.{small_records}
@@ -44,11 +45,11 @@ module _ (o : Op) (planned : IsPlannedForFiles o) (fit : HasFitPlan o) (cached :
   abbrev at : IsHandOf h s tree.segments
   at = hand o cached held all sectors tree birth when of below
 
-  by_plan : first_missing c (looks plan s) ≡ None → (p : Plan) → run plan s ≡ p → PlanMeets h s (apply tree o birth when m) p → PlanIsFit h tree.segments s p → PlanIsSmall below.most tree.segments sectors p → PlanStands cached held all sectors (apply tree o birth when m) p
+  by_plan : first_missing c (looks plan s) ≡ None → (p : Plan) → run plan s ≡ p → PlanKeeps h s tree below.stands.naming (apply tree o birth when m) p → PlanIsFit h tree.segments s p → PlanIsSmall below.most tree.segments sectors p → PlanStands cached held all sectors (apply tree o birth when m) p
   by_plan none Lacks is meets fits small = meets
   by_plan none (Clears k locks) is meets fits small = meets
   by_plan none (Finishes f) is meets fits small =
-      finish_stands cached held all sectors tree of below f fits o birth when m new meets small (same_changes (sectors_at_hand cached held) sectors f.edits (where_edited o cached held all sectors tree birth when of below none f is f.edits (λ e h. h)))
+      finish_stands cached held all sectors tree of below f fits o birth when m new meets.meets small (same_changes (sectors_at_hand cached held) sectors f.edits (where_edited o cached held all sectors tree birth when of below none f is f.edits (λ e h. h)))
 
   by_missing : (x : Option Sector) → first_missing c (looks plan s) ≡ x → MetStands cached held all sectors (apply tree o birth when m) x (unless_missing x (run plan s))
   by_missing (Some sector) e = refl
