@@ -24,6 +24,7 @@ use Rattle.plan_definitions.specs.Meets.{IsOfTree, IsHandOf, is_directory_use, d
 use Rattle.plan_laws.proofs.Asking.{run-segments}
 use Rattle.plan_laws.proofs.Bytes.{values, values_below}
 use Rattle.plan_laws.proofs.Among.{is_among, among_at, at_among, listed}
+use Rattle.plan_laws.proofs.Setting.{set_edits}
 use Rattle.plan_laws.proofs.Sectors.{old_sector, sector_edits, run-writes, bytes_only}
 use Rattle.plan_laws.proofs.Taking.{ArePicked, none_picked, small_some, large_some}
 use Rattle.plan_covers.proofs.Standing.{IsFileNode, DiskStands, node_of}
@@ -37,16 +38,13 @@ use Rattle.plan_moves.proofs.NamesSound.{IsSoundPlan, Ends, then_sound, none_end
 
 -- ---- a file's inode, with small blocks of one use and large blocks of one bit
 
-abbrev sized_edits : Use → List ℕ → Bool → List ℕ → ℕ → StoredNode → List Edit
-sized_edits u ks v gs i y = map (λ k. SetUse k u) ks ++ map (λ g. SetLarge g v) gs ++ file_dated i y
-
-sized_changes : (u : Use) (ks : List ℕ) (v : Bool) (gs : List ℕ) (i : ℕ) (y : StoredNode) → Changes (sized_edits u ks v gs i y) i (Some y) [] false ks u gs v
+sized_changes : (u : Use) (ks : List ℕ) (v : Bool) (gs : List ℕ) (i : ℕ) (y : StoredNode) → Changes (set_edits u ks v gs i y) i (Some y) [] false ks u gs v
 sized_changes u ks v gs i y =
     subst (λ es. Changes es i (Some y) [] false ks u gs v) (sym (append_assoc (map (λ k. SetUse k u) ks) (map (λ g. SetLarge g v) gs) (file_dated i y)))
     (before_uses i (Some y) [] false u v ks gs (map (λ g. SetLarge g v) gs ++ file_dated i y) (before_larges i (Some y) [] false u v gs (file_dated i y) (inode_changes i (Some y) true u v)))
 
-sized_sound : (s : Store) (u : Use) (ks : List ℕ) (v : Bool) (gs : List ℕ) (i : ℕ) (y : StoredNode) → MayChange s i (Some y) [] ks u gs v → AreSound s (edited_all s (sized_edits u ks v gs i y)) (sized_edits u ks v gs i y)
-sized_sound s u ks v gs i y may = one_node s (edited_all s (sized_edits u ks v gs i y)) (sized_edits u ks v gs i y) i (Some y) [] false ks u gs v (sized_changes u ks v gs i y s) may
+sized_sound : (s : Store) (u : Use) (ks : List ℕ) (v : Bool) (gs : List ℕ) (i : ℕ) (y : StoredNode) → MayChange s i (Some y) [] ks u gs v → AreSound s (edited_all s (set_edits u ks v gs i y)) (set_edits u ks v gs i y)
+sized_sound s u ks v gs i y may = one_node s (edited_all s (set_edits u ks v gs i y)) (set_edits u ks v gs i y) i (Some y) [] false ks u gs v (sized_changes u ks v gs i y s) may
 
 -- ---- bytes say nothing
 

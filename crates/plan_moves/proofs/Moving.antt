@@ -39,7 +39,7 @@ module _ (s : Store) (at : Nodes) (n : Naming) (g : Pictures s at n) where
   pub free_lock : (k : ℕ) → is_unused (s.use_of k) ≡ true → small_cover n k (n.owner k) ≡ lock.Segment (k / 1024)
   free_lock k e = ap (small_cover n k) (no_owner s at n g k e)
 
-  node_has : (b j k : ℕ) (o : Option Node) → at b ≡ o → j < blocks_of o → n.block b j ≡ k → HasSmall s (n.inode b) k
+  pub node_has : (b j k : ℕ) (o : Option Node) → at b ≡ o → j < blocks_of o → n.block b j ≡ k → HasSmall s (n.inode b) k
   node_has b j k None p l e = absurd (omega arith)
   node_has b j k (Some (Link target links)) p l e = absurd (omega arith)
   node_has b j k (Some (Dir entries blocks)) p l e = record {
@@ -79,7 +79,7 @@ module _ (s : Store) (at : Nodes) (n : Naming) (g : Pictures s at n) where
   pub free_large : (k : ℕ) → s.large_bit k ≡ false → large_cover n k (n.large_owner k) ≡ lock.Segment k
   free_large k e = ap (large_cover n k) (no_large_owner s at n g k e)
 
-  node_has_large : (b k : ℕ) (o : Option Node) → at b ≡ o → has_large o ≡ true → n.large b ≡ k → HasLarge s (n.inode b) k
+  pub node_has_large : (b k : ℕ) (o : Option Node) → at b ≡ o → has_large o ≡ true → n.large b ≡ k → HasLarge s (n.inode b) k
   node_has_large b k None p l e = absurd (cc)
   node_has_large b k (Some (Link target links)) p l e = absurd (cc)
   node_has_large b k (Some (Dir entries blocks)) p l e = absurd (cc)

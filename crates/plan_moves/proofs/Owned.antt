@@ -38,7 +38,7 @@ something_said {X} f (d ∷ es) e v c q = go (f d) refl (something_said f es e v
     go None p rest = rest (⊎_elim (λ i. absurd (let z : f e ≡ None = subst (λ y. f y ≡ None) i p in cc)) (λ i. i) (has_cases d e es c)) q
 
 module _ (locks : List Lock) where
-  bit_covered : (i : ℕ) (b : Bool) (e : Edit) → bit_said i e ≡ Some b → IsCovered locks e → IsSole locks (lock.Segment (i / 64))
+  pub bit_covered : (i : ℕ) (b : Bool) (e : Edit) → bit_said i e ≡ Some b → IsCovered locks e → IsSole locks (lock.Segment (i / 64))
   bit_covered i b (SetBit j c) q s = subst (λ z. IsSole locks (lock.Segment (z / 64))) (sym (eq_of i j (is_said (nat_eq i j) c b q).0)) s
   bit_covered i b (SetInode j x d) q s = absurd (cc)
   bit_covered i b (SetUse k u) q s = absurd (cc)
@@ -47,7 +47,7 @@ module _ (locks : List Lock) where
   bit_covered i b (SetBytes k part bytes) q s = absurd (cc)
   bit_covered i b (SetLargeBytes g part bytes) q s = absurd (cc)
 
-  use_covered : (k : ℕ) (u : Use) (e : Edit) → use_said k e ≡ Some u → IsCovered locks e → IsSole locks (lock.Segment (k / 1024))
+  pub use_covered : (k : ℕ) (u : Use) (e : Edit) → use_said k e ≡ Some u → IsCovered locks e → IsSole locks (lock.Segment (k / 1024))
   use_covered k u (SetUse j w) q s = subst (λ z. IsSole locks (lock.Segment (z / 1024))) (sym (eq_of k j (is_said (nat_eq k j) w u q).0)) s
   use_covered k u (SetInode j x d) q s = absurd (cc)
   use_covered k u (SetBit j c) q s = absurd (cc)
@@ -56,7 +56,7 @@ module _ (locks : List Lock) where
   use_covered k u (SetBytes j part bytes) q s = absurd (cc)
   use_covered k u (SetLargeBytes g part bytes) q s = absurd (cc)
 
-  large_covered : (g : ℕ) (b : Bool) (e : Edit) → large_said g e ≡ Some b → IsCovered locks e → IsSole locks (lock.Segment g)
+  pub large_covered : (g : ℕ) (b : Bool) (e : Edit) → large_said g e ≡ Some b → IsCovered locks e → IsSole locks (lock.Segment g)
   large_covered g b (SetLarge j c) q s = subst (λ z. IsSole locks (lock.Segment z)) (sym (eq_of g j (is_said (nat_eq g j) c b q).0)) s
   large_covered g b (SetInode j x d) q s = absurd (cc)
   large_covered g b (SetBit j c) q s = absurd (cc)

@@ -40,19 +40,19 @@ module _ (h : Hand) (s : Store) (tree : FileTree) (n : Naming) (of : IsOfTree s 
 
   pub all_told : (o : Op) → Told o
   all_told (op.Create path) =
-      by_answer h tree _ s (run (plan_of h birth when (op.Create path)) s) (create_planned path h s tree n birth when m of hand new) (plan_made_tells h s tree n of birth (File [] 1 0) path)
+      by_answer h tree n _ s (run (plan_of h birth when (op.Create path)) s) (create_planned path h s tree n birth when m of hand new) (plan_made_tells h s tree n of birth (File [] 1 0) path)
   all_told (op.Mkdir path) =
-      by_answer h tree _ s (run (plan_of h birth when (op.Mkdir path)) s) (mkdir_planned path h s tree n birth when m of hand new) (plan_made_tells h s tree n of birth (Dir [] 0) path)
+      by_answer h tree n _ s (run (plan_of h birth when (op.Mkdir path)) s) (mkdir_planned path h s tree n birth when m of hand new) (plan_made_tells h s tree n of birth (Dir [] 0) path)
   all_told (op.Symlink path target) =
-      by_answer h tree _ s (run (plan_of h birth when (op.Symlink path target)) s) (symlink_planned path target h s tree n birth when m of hand new) (plan_made_tells h s tree n of birth (Link target 1) path)
+      by_answer h tree n _ s (run (plan_of h birth when (op.Symlink path target)) s) (symlink_planned path target h s tree n birth when m of hand new) (plan_made_tells h s tree n of birth (Link target 1) path)
   all_told (op.Link path to) =
-      by_answer h tree _ s (run (plan_of h birth when (op.Link path to)) s) (link_planned path to h s tree n birth when m of hand new) (plan_linked_tells h s tree n of path to)
+      by_answer h tree n _ s (run (plan_of h birth when (op.Link path to)) s) (link_planned path to h s tree n birth when m of hand new) (plan_linked_tells h s tree n of path to)
   all_told (op.Unlink path) =
-      by_answer h tree _ s (run (plan_of h birth when (op.Unlink path)) s) (unlink_planned path h s tree n birth when m of hand new) (plan_unlinked_tells s tree n of path)
+      by_answer h tree n _ s (run (plan_of h birth when (op.Unlink path)) s) (unlink_planned path h s tree n birth when m of hand new) (plan_unlinked_tells s tree n of path)
   all_told (op.Rmdir path) =
-      by_answer h tree _ s (run (plan_of h birth when (op.Rmdir path)) s) (rmdir_planned path h s tree n birth when m of hand new) (plan_dir_removed_tells s tree n of path)
+      by_answer h tree n _ s (run (plan_of h birth when (op.Rmdir path)) s) (rmdir_planned path h s tree n birth when m of hand new) (plan_dir_removed_tells s tree n of path)
   all_told (op.Rename path to) =
-      by_answer h tree _ s (run (plan_of h birth when (op.Rename path to)) s) (rename_planned path to h s tree n birth when m of hand new) (plan_renamed_tells h s tree n of path to)
+      by_answer h tree n _ s (run (plan_of h birth when (op.Rename path to)) s) (rename_planned path to h s tree n birth when m of hand new) (plan_renamed_tells h s tree n of path to)
   all_told (op.Write path off bytes) = file_tells tree _ s (run (plan_of h birth when (op.Write path off bytes)) s) (written_tells s h when path off bytes)
   all_told (op.Fill path off len byte) = file_tells tree _ s (run (plan_of h birth when (op.Fill path off len byte)) s) (filled_tells s h when path off len byte)
   all_told (op.Truncate path len) = file_tells tree _ s (run (plan_of h birth when (op.Truncate path len)) s) (truncated_dates s when path len)

@@ -184,7 +184,7 @@ reached_shape at b (name ∷ names) = ap (option_and_then (λ next. reached_from
     onward (Some c) later = later c
     onward None later = refl
 
-all_reached : (at : Nodes) → IsReached at → IsReached (λ b. shaped (at b))
+pub all_reached : (at : Nodes) → IsReached at → IsReached (λ b. shaped (at b))
 all_reached at reached b some = let r = reached b (sym (some_shape (at b)) ∙ some) in (r.0, reached_shape at 0 r.0 ∙ r.1)
 
 pub disks_stand : DisksStandForShapes

@@ -10,13 +10,14 @@ use Rattle.tree_definitions.specs.Tree.{FileTree, node_at}
 use Rattle.tree_definitions.specs.Apply.{Answer, Plain, Shows, Applied}
 use Rattle.tree_definitions.specs.Touched.{is_ok}
 use Rattle.disk_definitions.specs.Store.{Store, StoredNode}
-use Rattle.disk_definitions.specs.Naming.{find_in}
+use Rattle.disk_definitions.specs.Naming.{Naming, find_in}
 use Rattle.disk_definitions.specs.Standing.{IsMetadata}
 use Rattle.store_changes.specs.Edits.{Edit, SetInode, edited_all}
 use Rattle.plan_definitions.specs.Ask.{Got, ReadDirectory, run}
 use Rattle.plan_definitions.specs.Plans.{Hand, Plan, Finish, Lacks, Clears, Finishes, Room, refuse, none_left, finish_in, must_clear, shared_nodes, sole_segments}
 use Rattle.plan_definitions.specs.Plans.Room.{Inside, InBlock, NoRoom}
-use Rattle.plan_definitions.specs.Meets.{Answers, PlanMeets}
+use Rattle.plan_definitions.specs.Meets.{Answers}
+use Rattle.plan_laws.specs.Keeping.{PlanKeeps}
 
 -- a name of a directory leads elsewhere
 pub record OtherNames (old new : FileTree) : Type 0 where
@@ -65,10 +66,10 @@ NameTells tree applied s Lacks = Unit {0}
 NameTells tree applied s (Clears block locks) = Unit {0}
 NameTells tree applied s (Finishes f) = Answers applied.answer f.reply → Tells false tree applied s f
 
-pub by_answer : (h : Hand) (tree : FileTree) (a : Applied) (s : Store) (p : Plan) → PlanMeets h s a p → NameTells tree a s p → PlanTells false tree a s p
-by_answer h tree a s Lacks meets tells = tt
-by_answer h tree a s (Clears block locks) meets tells = tt
-by_answer h tree a s (Finishes f) meets tells = tells meets.answer
+pub by_answer : (h : Hand) (tree : FileTree) (n : Naming) (a : Applied) (s : Store) (p : Plan) → PlanKeeps h s tree n a p → NameTells tree a s p → PlanTells false tree a s p
+by_answer h tree n a s Lacks meets tells = tt
+by_answer h tree n a s (Clears block locks) meets tells = tt
+by_answer h tree n a s (Finishes f) meets tells = tells meets.meets.answer
 
 pub ok_said : (a : Answer) → Answers a reply.Ok → a ≡ Plain reply.Ok
 ok_said (Plain r) said = ap Plain (sym said)
