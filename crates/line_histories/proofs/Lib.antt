@@ -1,0 +1,12 @@
+pub mod Told
+pub mod Numbers
+pub mod Laid
+pub mod Disks
+pub mod Leading
+pub mod Meeting
+pub mod Runs
+pub mod Coming
+pub mod Steps
+pub mod Given
+pub mod Filled
+pub mod Following

@@ -1,0 +1,4 @@
+pub mod Trees
+pub mod Standing
+pub mod Following
+pub mod Laws
