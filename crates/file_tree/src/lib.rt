@@ -17,7 +17,7 @@ mod resolve;
 mod shows;
 mod tree;
 
-pub use perform::{Resolved, Step};
+pub use perform::{Resolved, Step, with_path, with_paths};
 pub use place::{FileAt, Refusal};
 pub use resolve::{Walk, WalkEnd};
 pub use shows::cells_show;

@@ -27,8 +27,8 @@ pub struct Resolved {
     pub trail: Vec<u64>,
 }
 
-// An operation of one path, over another path.
-fn with_path(op: &Op, path: Path) -> Result<Op, NoMemory>
+/// An operation of one path, over another path; any other operation stays. Its one refusal is want of memory.
+pub fn with_path(op: &Op, path: Path) -> Result<Op, NoMemory>
     ensures { IfOk result (λ over. over ≡ with_path op.now path) }
 {
     match op {
@@ -110,8 +110,8 @@ fn extend(trail: &mut Vec<u64>, more: &[u64]) -> Result<(), NoMemory>
     Ok(())
 }
 
-// A link or a rename of one path to another.
-fn with_paths(op: &Op, path: Path, to: Path) -> Op
+/// A link or a rename of one path to another.
+pub fn with_paths(op: &Op, path: Path, to: Path) -> Op
     ensures { result ≡ with_paths op.now path to }
 {
     match op {

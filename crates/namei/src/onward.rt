@@ -6,7 +6,7 @@ ghost use Rattle.plan_definitions.specs.Ask.{Ask, ReadInode};
 ghost use Rattle.line_definitions.specs.Resolving as lines;
 ghost use Rattle.dir_lookup.specs.Reading.{reading};
 ghost use Rattle.dir_lookup.specs.Spots.{spot_of};
-ghost use Rattle.namei.specs.Resolutions.{resolved_as, next_as, spot_as, entry_as, gap_as};
+ghost use Rattle.namei.specs.Walks.{next_as, spot_as, entry_as, gap_as};
 
 use dir_lookup::{Refusal, Spot, step};
 use frang_base::limits::{KIND_DIRECTORY, KIND_LINK};
@@ -14,11 +14,13 @@ use frang_base::{Name, Sector};
 use meta_version::Sectors;
 use sector_definitions::DirEntry;
 
-// How a walk goes on: a sector is needed first, it ends at the name, it goes into a directory, it follows a link, or it is refused.
+// How a walk goes on: a sector is needed first; the node is no directory, so that nothing is looked up in it; or a name was looked up, and it ends there,
+// with the kind of the node that is there, goes into a directory, follows a link, or is refused.
 #[derive(Clone, Copy, Debug)]
 pub(crate) enum Next {
     Need(Sector),
-    Ends,
+    Lost(Refusal),
+    Ends(Option<u8>),
     Into(u32),
     Follows(u32),
     Stays(Refusal),
@@ -26,7 +28,7 @@ pub(crate) enum Next {
 
 // At a name of a directory, before the names that are left.
 pub(crate) fn next_at(sectors: &Sectors, last: bool, dir: u32, name: &Name, names: &[Name]) -> Next
-    ensures { (held : Segments) (follow into : ℕ → Ask lines.Resolution) (here : List (List ℕ)) → resolved_as (reading (ReadInode dir (lines.below_inode last follow into here dir name.now names.now)) sectors.now.entries held) ≡ next_as result (λ i. resolved_as (reading (follow i) sectors.now.entries held)) (λ i. resolved_as (reading (into i) sectors.now.entries held)) here }
+    ensures { (held : Segments) (follow into : ℕ → Ask lines.Resolution) (here : List (List ℕ)) → reading (ReadInode dir (lines.below_inode last follow into here dir name.now names.now)) sectors.now.entries held ≡ next_as result dir (λ i. reading (follow i) sectors.now.entries held) (λ i. reading (into i) sectors.now.entries held) here }
 {
     match step(sectors, dir, name) {
         Ok(spot) => at_spot(last, &spot, names),
@@ -41,8 +43,8 @@ fn at_spot(last: bool, spot: &Spot, names: &[Name]) -> Next
     match spot {
         Spot::AtName { found, .. } => at_entry(last, &found.entry, names),
         Spot::AtGap { .. } => at_gap(names),
-        Spot::Lost(refusal) => Next::Stays(*refusal),
-        Spot::AtRoot => Next::Stays(Refusal::NoEnt),
+        Spot::Lost(refusal) => Next::Lost(*refusal),
+        Spot::AtRoot => Next::Lost(Refusal::NoEnt),
     }
 }
 
@@ -55,7 +57,7 @@ fn at_entry(last: bool, entry: &DirEntry, names: &[Name]) -> Next
             if last && entry.kind == KIND_LINK {
                 Next::Follows(entry.inode)
             } else {
-                Next::Ends
+                Next::Ends(Some(entry.kind))
             }
         }
         [_, ..] => {
@@ -75,7 +77,7 @@ fn at_gap(names: &[Name]) -> Next
     ensures { result ≡ gap_as names.now }
 {
     match names {
-        [] => Next::Ends,
+        [] => Next::Ends(None),
         [_, ..] => Next::Stays(Refusal::NoEnt),
     }
 }

@@ -3,14 +3,15 @@ ghost use Rattle.std.specs.Prelude.{◌≡◌, ◌++◌, ◌∷◌, [], IfOk};
 ghost use Rattle.pick_definitions.specs.Held.{Segments};
 ghost use Rattle.line_definitions.specs.Resolving as lines;
 ghost use Rattle.dir_lookup.specs.Reading.{reading};
-ghost use Rattle.dir_lookup.specs.Spots.{reply_of};
-ghost use Rattle.namei.specs.Resolutions.{resolved_as, refused_as};
+ghost use Rattle.namei.specs.Resolutions.{resolved_as, end_as};
+ghost use Rattle.namei.specs.Walks.{after, end_of, read_as};
 ghost use Rattle.namei.specs.Resolves.{ResolvesOverDisks};
 
+use crate::ending::{PathEnd, Walked, leads, looped, lost, with_node};
 use crate::onward::{Next, next_at};
 use crate::targets::{Way, way_at};
 use dir_lookup::Refusal;
-use frang_base::limits::{LINKS_FOLLOWED_MAX, ROOT_INODE};
+use frang_base::limits::{KIND_DIRECTORY, LINKS_FOLLOWED_MAX, ROOT_INODE};
 use frang_base::{Name, NoMemory, Path, Sector};
 use meta_version::Sectors;
 use std::alloc::Global;
@@ -48,7 +49,7 @@ pub fn resolve(
     from_root(alloc, path, last, sectors, root)
 }
 
-// The walk from the root, as the definitions have it.
+// Where the walk from the root leads, as the definitions have it.
 fn from_root(
     alloc: Global,
     path: &Path,
@@ -59,6 +60,43 @@ fn from_root(
     requires { root ≡ 0 }
     ensures { (held : Segments) → IfOk result (λ r. r ≡ resolved_as (reading (lines.resolve last path.now) sectors.now.entries held)) }
 {
+    let walked = walk_links(alloc, path, last, sectors, root)?;
+    Ok(answer_of(walked))
+}
+
+// Where a walk leads, without its trail.
+fn answer_of(walked: Walked) -> Resolved
+    ensures { result ≡ resolved_as (read_as walked) }
+{
+    match walked {
+        Walked::Need(sector) => Resolved::Need(sector),
+        Walked::Ends(walk) => end_resolved(walk.end),
+    }
+}
+
+fn end_resolved(end: PathEnd) -> Resolved
+    ensures { result ≡ end_as (end_of end) }
+{
+    match end {
+        PathEnd::At { path, .. } => Resolved::At(path),
+        PathEnd::NoEnt => Resolved::NoEnt,
+        PathEnd::NotDir => Resolved::NotDir,
+        PathEnd::Loop => Resolved::Loop,
+    }
+}
+
+/// The walk of a path from the root, whose inode is 0, links followed, the last name's too where `last` is true: how it ends, and its trail; or the first
+/// sector that it looks at and that isn't cached. Its one refusal is want of memory.
+pub fn walk_links(
+    alloc: Global,
+    path: &Path,
+    last: bool,
+    sectors: &Sectors,
+    root: u32,
+) -> Result<Walked, NoMemory>
+    requires { root ≡ 0 }
+    ensures { (held : Segments) → IfOk result (λ w. read_as w ≡ reading (lines.resolve last path.now) sectors.now.entries held) }
+{
     let ground = Ground {
         alloc,
         sectors,
@@ -66,7 +104,8 @@ fn from_root(
     };
     let above = Path::new(alloc);
     let names = path.as_slice();
-    walk_on(&ground, LINKS_FOLLOWED_MAX, root, above, names)
+    let trail = Vec::new(alloc);
+    walk_on(&ground, LINKS_FOLLOWED_MAX, root, above, names, trail)
 }
 
 // What a walk goes over: the cached sectors, and whether the last name is followed.
@@ -77,37 +116,50 @@ struct Ground<'a> {
     last: bool,
 }
 
-// A walk from a directory on, whose own path is `above`, with so many links left to follow.
+// A walk from a directory on, whose own path is `above`, with so many links left to follow, behind a trail.
 fn walk_on(
     ground: &Ground,
     left: usize,
     dir: u32,
     above: Path,
     names: &[Name],
-) -> Result<Resolved, NoMemory>
-    ensures { (held : Segments) → IfOk result (λ r. r ≡ resolved_as (reading (lines.resolve_from left ground.now.last dir above names.now) ground.now.sectors.now.entries held)) }
+    trail: Vec<u32>,
+) -> Result<Walked, NoMemory>
+    ensures { (held : Segments) → IfOk result (λ w. read_as w ≡ after trail.items (reading (lines.resolve_from left ground.now.last dir above names.now) ground.now.sectors.now.entries held)) }
 {
     let (name, rest) = match names {
-        [] => return Ok(Resolved::At(above)),
+        [] => return Ok(leads(above, Some(KIND_DIRECTORY), trail)),
         [name, rest @ ..] => (name, rest),
     };
     match next_at(ground.sectors, ground.last, dir, name, rest) {
-        Next::Need(sector) => Ok(Resolved::Need(sector)),
-        Next::Ends => Ok(Resolved::At(with_name(above, name)?)),
-        Next::Stays(refusal) => Ok(refused(refusal)),
-        Next::Into(inode) => walk_on(ground, left, inode, with_name(above, name)?, rest),
+        Next::Need(sector) => Ok(Walked::Need(sector)),
+        Next::Lost(refusal) => Ok(lost(refusal, trail)),
+        Next::Stays(refusal) => Ok(lost(refusal, with_node(trail, dir)?)),
+        Next::Ends(kind) => {
+            let trail = with_node(trail, dir)?;
+            Ok(leads(with_name(above, name)?, kind, trail))
+        }
+        Next::Into(inode) => {
+            let trail = with_node(trail, dir)?;
+            let above = with_name(above, name)?;
+            walk_on(ground, left, inode, above, rest, trail)
+        }
         Next::Follows(link) => {
+            let holder = with_node(trail, dir)?;
             if left == 0 {
-                return Ok(Resolved::Loop);
+                return Ok(looped(holder));
             }
+            let trail = with_node(holder, link)?;
             match way_at(ground.alloc, ground.sectors, link, rest)? {
-                Way::Need(sector) => Ok(Resolved::Need(sector)),
-                Way::Nowhere => Ok(Resolved::NoEnt),
+                Way::Need(sector) => Ok(Walked::Need(sector)),
+                Way::Nowhere => Ok(lost(Refusal::NoEnt, trail)),
                 Way::FromRoot(way) => {
                     let root = Path::new(ground.alloc);
-                    walk_on(ground, left - 1, ROOT_INODE, root, way.as_slice())
+                    walk_on(ground, left - 1, ROOT_INODE, root, way.as_slice(), trail)
                 }
-                Way::FromHere(way) => walk_on(ground, left - 1, dir, above, way.as_slice()),
+                Way::FromHere(way) => {
+                    walk_on(ground, left - 1, dir, above, way.as_slice(), trail)
+                }
             }
         }
     }
@@ -120,13 +172,4 @@ fn with_name(path: Path, name: &Name) -> Result<Path, NoMemory>
     let mut longer = path;
     longer.push(name.copy())?;
     Ok(longer)
-}
-
-fn refused(refusal: Refusal) -> Resolved
-    ensures { result ≡ refused_as (reply_of refusal) }
-{
-    match refusal {
-        Refusal::NoEnt => Resolved::NoEnt,
-        Refusal::NotDir => Resolved::NotDir,
-    }
 }

@@ -9,7 +9,7 @@ ghost use Rattle.plan_definitions.specs.Ask.{Ask, ReadInode};
 ghost use Rattle.line_definitions.specs.Resolving as lines;
 ghost use Rattle.dir_lookup.specs.Reading.{reading};
 ghost use Rattle.dir_lookup.specs.Stored.{IsUsed};
-ghost use Rattle.namei.specs.Resolutions.{resolved_as, way_as, way_from};
+ghost use Rattle.namei.specs.Walks.{way_as, way_from};
 
 use dir_lookup::inode_at;
 use frang_base::limits::KIND_LINK;
@@ -35,7 +35,7 @@ pub(crate) fn way_at(
     link: u32,
     names: &[Name],
 ) -> Result<Way, NoMemory>
-    ensures { (held : Segments) (next : ℕ → List (List ℕ) → List (List ℕ) → Ask lines.Resolution) (dir : ℕ) (above : List (List ℕ)) → IfOk result (λ way. resolved_as (reading (ReadInode link (lines.with_target (λ target. lines.at_target next (is_absolute target) (path_of (target_text target)) dir above names.now))) sectors.now.entries held) ≡ way_as way (λ names. resolved_as (reading (next 0 [] names) sectors.now.entries held)) (λ names. resolved_as (reading (next dir above names) sectors.now.entries held))) }
+    ensures { (held : Segments) (next : ℕ → List (List ℕ) → List (List ℕ) → Ask lines.Resolution) (dir : ℕ) (above : List (List ℕ)) → IfOk result (λ way. reading (ReadInode link (lines.with_target (λ target. lines.at_target next (is_absolute target) (path_of (target_text target)) dir above names.now))) sectors.now.entries held ≡ way_as way (λ names. reading (next 0 [] names) sectors.now.entries held) (λ names. reading (next dir above names) sectors.now.entries held)) }
 {
     match inode_at(sectors, link) {
         Ok(Some(inode)) => way_of(alloc, target_of(&inode), names),

@@ -6,4 +6,4 @@
 mod names;
 mod plan;
 
-pub use plan::plan_look;
+pub use plan::{look, plan_look};

@@ -59,7 +59,8 @@ fn done(alloc: Global, reply: Reply) -> Plan
     }
 }
 
-fn look(alloc: Global, op: &Op, sectors: &Sectors) -> Result<Reply, Stop>
+/// How an operation that only looks ends: with its reply, or with what it needs or is refused with. Its other refusal is want of memory.
+pub fn look(alloc: Global, op: &Op, sectors: &Sectors) -> Result<Reply, Stop>
     requires { IsLook op.now }
     ensures { (h : Hand) (birth when : ℕ) (held : Segments) → Says (reading (plan_of h birth when op.now) sectors.now.entries held) result }
 {

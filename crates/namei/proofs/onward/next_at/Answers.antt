@@ -2,7 +2,7 @@
 use Rattle.std.proofs.Common.{[], sym, ap, ◌∙◌}
 use Rattle.dir_lookup.specs.Spots.{spot_of, walked_in}
 use Rattle.dir_lookup.proofs.Steps.{said_ok, said_err}
-use Rattle.namei.specs.Resolutions.{next_as}
+use Rattle.namei.specs.Walks.{next_as}
 use Rattle.namei.proofs.NameSteps.{over, spot_step, need_step}
 use Rattle.namei.proofs.onward.next_at.Goals as goal
 
@@ -11,7 +11,7 @@ returns-in-Ok c held follow into here =
     let cached = c.args.sectors.now.entries in
     spot_step cached held c.args.last follow into here c.args.names.now c.args.dir c.args.name.now (spot_of c.in-Ok.spot)
     (said_ok (λ s. walked_in [] c.args.dir (spot_of s)) c.step.result c.in-Ok.spot _ c.in-Ok.is (c.step.ensures [] held))
-    ∙ ap (λ n. next_as n (λ i. over cached held (follow i)) (λ i. over cached held (into i)) here) (sym c.at_spot.ensures)
+    ∙ ap (λ n. next_as n c.args.dir (λ i. over cached held (follow i)) (λ i. over cached held (into i)) here) (sym c.at_spot.ensures)
 
 pub returns-in-Err : goal.returns-in-Err
 returns-in-Err c held follow into here =

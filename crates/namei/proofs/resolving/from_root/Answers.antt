@@ -1,10 +1,7 @@
--- By the walk with all links left.
-use Rattle.std.proofs.Common.{◌≡◌, IfOk, subst}
-use Rattle.namei.proofs.LinkSteps.{from_root}
+-- The walk without its trail.
+use Rattle.std.proofs.Common.{ap, ◌∙◌}
+use Rattle.namei.specs.Resolutions.{resolved_as}
 use Rattle.namei.proofs.resolving.from_root.Goals as goal
 
 pub returns : goal.returns
-returns c held =
-    subst (λ w. IfOk c.walk_on.result (λ r. r ≡ w))
-    (from_root c.args.sectors.now.entries held c.args.last c.args.root c.new-above.result c.as_slice-names.result.now c.args.path.now c.requires c.new-above.ensures c.as_slice-names.ensures)
-    (c.walk_on.ensures held)
+returns c held = c.answer_of.ensures ∙ ap resolved_as (c.in_ok-walked.ensures held)

@@ -6,7 +6,7 @@ use Rattle.frang_base.specs.PathText.{path_of}
 use Rattle.tree_definitions.specs.Resolve.{is_absolute, target_text}
 use Rattle.dir_lookup.specs.Reading.{Lacks, Gives}
 use Rattle.dir_lookup.proofs.Steps.{said_ok, said_err}
-use Rattle.namei.specs.Resolutions.{way_from}
+use Rattle.namei.specs.Walks.{way_from}
 use Rattle.namei.proofs.LinkSteps.{if_ok_then, by_way, link_step}
 use Rattle.namei.proofs.targets.way_at.Goals as goal
 

@@ -1,0 +1,10 @@
+-- The first owner is the first of those that are left.
+use Rattle.std.proofs.Common.{◌≡◌, ◌-◌, ◌*◌}
+use Rattle.pick_definitions.specs.Least.{least, least_from}
+use Rattle.plan_definitions.specs.Written.{inode_at_hand}
+use Rattle.cover_lookup.specs.Covers.{has_small}
+use Rattle.cover_lookup.proofs.owners.small_owner.Given as goal
+
+abbrev pub invariant-loop-inode : goal.invariant-loop-inode
+invariant-loop-inode l =
+    least_from (λ i. has_small l.block (inode_at_hand l.sectors.entries i)) l.inode (64 * l.segments - l.inode) ≡ least (λ i. has_small l.block (inode_at_hand l.sectors.entries i)) (64 * l.segments)

@@ -1,0 +1,5 @@
+pub mod Same
+pub mod Exactly
+pub mod Once
+pub mod Found
+pub mod Sectors

@@ -1,0 +1,101 @@
+// The plan of a line.
+ghost use Rattle.std.specs.Prelude.{◌≡◌, ◌≤◌, IfOk, length};
+ghost use Rattle.frang_base.specs.declared.limits.TheConstants.{TARGET_BYTES_MAX};
+ghost use Rattle.plan_definitions.specs.PlanOf.{plan_of};
+ghost use Rattle.line_definitions.specs.Lines.{plan_of_line, plan_step};
+ghost use Rattle.dir_lookup.specs.Hands.{over, seen};
+ghost use Rattle.plan_steps.specs.Ends.{Comes};
+ghost use Rattle.line_plan.specs.Lines.{StepFits, TargetFits, step_by};
+
+use crate::walks::{Line, Resolved, Step, resolve_line};
+use dir_lookup::Hand;
+use frang_base::{NoMemory, Op, Reply, Text};
+use op_data::plan_bytes;
+use op_dir::{link_node, make, remove_directory, rename_node, unlink};
+use op_look::look;
+use plan_steps::{NewNode, Outcome, Stop};
+use std::alloc::Global;
+use tree_definitions::Target;
+
+/// How a line ends over what is at hand, which needn't be of any disk: its paths are resolved, links followed, and the operation that comes of it is
+/// planned, with the birth of its new node and the time `when`. It is done with a reply and the edits that make it; or it is refused with a reply; or it
+/// needs a sector, the first that it looks at and that isn't cached, walks included, or more segments, or a clear block. Its other refusal is want of
+/// memory. An operation without a path is refused as done. The target of a symbolic link may stand in an inode.
+pub fn plan_line(
+    alloc: Global,
+    hand: &Hand,
+    birth: u64,
+    when: u64,
+    op: &Op,
+) -> Result<Outcome, Stop>
+    requires { TargetFits op.now }
+    ensures { Comes (over (plan_of_line (seen hand.now) birth when op.now) hand.now) result }
+{
+    let line = resolve_line(alloc, op, hand.sectors)?;
+    match line {
+        Line::Need(sector) => Err(Stop::Need(sector)),
+        Line::Comes(resolved) => plan_step(alloc, hand, birth, when, resolved),
+    }
+}
+
+// How it ends once its paths are resolved.
+fn plan_step(
+    alloc: Global,
+    hand: &Hand,
+    birth: u64,
+    when: u64,
+    resolved: Resolved,
+) -> Result<Outcome, Stop>
+    requires { StepFits (step_by resolved.step) }
+    ensures { Comes (over (plan_step (seen hand.now) birth when resolved.trail.items (step_by resolved.step)) hand.now) result }
+{
+    let Resolved {
+        step,
+        trail: _trail,
+    } = resolved;
+    match step {
+        Step::Goes(over) => plan_op(alloc, hand, birth, when, &over),
+        Step::Stops(reply) => Err(Stop::Refused(reply)),
+    }
+}
+
+// How an operation over paths without links ends.
+fn plan_op(alloc: Global, hand: &Hand, birth: u64, when: u64, op: &Op) -> Result<Outcome, Stop>
+    requires { TargetFits op.now }
+    ensures { Comes (over (plan_of (seen hand.now) birth when op.now) hand.now) result }
+{
+    match op {
+        Op::Create { path } => make(alloc, hand, birth, &NewNode::File, path),
+        Op::Mkdir { path } => make(alloc, hand, birth, &NewNode::Directory, path),
+        Op::Symlink { path, target } => {
+            let node = NewNode::Link(target_of(target)?);
+            make(alloc, hand, birth, &node, path)
+        }
+        Op::Link { path, to } => link_node(alloc, hand, path, to),
+        Op::Unlink { path } => unlink(alloc, hand, path),
+        Op::Rmdir { path } => remove_directory(alloc, hand, path),
+        Op::Rename { path, to } => rename_node(alloc, hand, path, to),
+        Op::Write { .. } | Op::Fill { .. } | Op::Truncate { .. } | Op::Read { .. } => {
+            plan_bytes(alloc, op, when, hand)
+        }
+        Op::Stat { .. } | Op::List { .. } | Op::Readlink { .. } | Op::Time { .. } => {
+            let reply = look(alloc, op, hand.sectors)?;
+            Ok(Outcome::unchanged(alloc, reply))
+        }
+        Op::Sync
+        | Op::Mount
+        | Op::Unmount
+        | Op::Crash
+        | Op::CrashAt { .. }
+        | Op::CutAt { .. }
+        | Op::Stall => Err(Stop::Refused(Reply::Ok)),
+    }
+}
+
+// A target of its own with these bytes.
+fn target_of(text: &Text) -> Result<Target, NoMemory>
+    requires { length text.now ≤ TARGET_BYTES_MAX }
+    ensures { IfOk result (λ target. target ≡ text.now) }
+{
+    Ok(Target::of(text.try_copy()?))
+}

@@ -1,0 +1,156 @@
+// Lines over a small disk: the reply with the numbers of its edits and with what they move, or what is missing, with its cover.
+use crate::asked::{Act, Row, differs};
+use plan_disks::{Laid, Segment};
+use std::test::Fail;
+
+// Inode 5 is free. Blocks 4 to 6 are directories', and 8 holds bytes.
+const SEGMENT: Segment = Segment {
+    number: 0,
+    version: 1,
+    inodes: 223,
+    others: 0,
+    states: &[(1, &[63, 1])],
+    large: false,
+};
+
+// The root with the file `f` of five bytes, the directory `d` with an empty file `g`, the link `l` to `d`, the empty directory `e`, and the link `o` to
+// itself.
+static DISK: &[Laid] = &[
+    (
+        10_737_418_240,
+        1,
+        &[(8, &[2, 0, 1, 0, 1, 0, 0, 0, 5]), (32, &[4])],
+    ),
+    (
+        10_737_418_241,
+        1,
+        &[(8, &[1, 0, 1, 0, 1, 0, 0, 0, 5]), (32, &[8])],
+    ),
+    (
+        10_737_418_242,
+        1,
+        &[(8, &[2, 0, 1, 0, 1, 0, 0, 0, 1]), (32, &[5])],
+    ),
+    (
+        10_737_418_243,
+        1,
+        &[(8, &[3, 0, 1, 0, 0, 0, 0, 0, 1]), (128, b"d")],
+    ),
+    (10_737_418_244, 1, &[(8, &[1, 0, 1])]),
+    (10_737_418_245, 1, &[]),
+    (10_737_418_246, 1, &[(8, &[2, 0, 1, 0, 1]), (32, &[6])]),
+    (
+        10_737_418_247,
+        1,
+        &[(8, &[3, 0, 1, 0, 0, 0, 0, 0, 1]), (128, b"o")],
+    ),
+    (12_884_901_920, 24, &[]),
+    (
+        12_884_901_920,
+        1,
+        &[
+            (8, &[1, 0, 0, 0, 1, 1, b'f']),
+            (80, &[2, 0, 0, 0, 1, 2, b'd']),
+            (152, &[3, 0, 0, 0, 1, 3, b'l']),
+            (224, &[6, 0, 0, 0, 1, 2, b'e']),
+            (296, &[7, 0, 0, 0, 1, 3, b'o']),
+        ],
+    ),
+    (12_884_901_928, 1, &[(8, &[4, 0, 0, 0, 1, 1, b'g'])]),
+    (12_884_901_952, 1, &[(0, b"bytes")]),
+];
+
+static ROWS: &[Row] = &[
+    (
+        Act::Create("/n"),
+        0,
+        "ok i5:1,1,0,0 b5:true i0:2,1,6,1 p4.5:n,5,1, inode 5 under Node(5)",
+    ),
+    (
+        Act::Create("/l/x"),
+        0,
+        "ok i5:1,1,0,0 b5:true i2:2,1,2,1 p5.1:x,5,1, inode 5 under Node(5)",
+    ),
+    (Act::Create("/l"), 0, "exist"),
+    (Act::Create("/f/x"), 0, "notdir"),
+    (Act::Create("/o/x"), 0, "loop"),
+    (
+        Act::Create("/l/x"),
+        10_737_418_243,
+        "needs 10737418243 under Node(3)",
+    ),
+    (
+        Act::Create("/l/x"),
+        10_737_418_245,
+        "needs 10737418245 under Segment(0)",
+    ),
+    (
+        Act::Create("/l/x"),
+        12_884_901_928,
+        "needs 12884901928 under Node(2)",
+    ),
+    (
+        Act::Create("/n"),
+        12_884_901_921,
+        "needs 12884901921 under Node(0)",
+    ),
+    (
+        Act::Unlink("/f"),
+        0,
+        "ok i0:2,1,4,1 p4.0:- u8:Unused i1:- b1:false, block 8 under Segment(0), inode 1 under Segment(0)",
+    ),
+    (
+        Act::Unlink("/l/g"),
+        0,
+        "ok i2:2,1,0,1 p5.0:- i4:- b4:false, inode 4 under Segment(0)",
+    ),
+    (
+        Act::Unlink("/l"),
+        0,
+        "ok i0:2,1,4,1 p4.2:- i3:- b3:false, inode 3 under Segment(0)",
+    ),
+    (
+        Act::Rmdir("/e"),
+        0,
+        "ok i0:2,1,4,1 p4.3:- u6:FormerDirectory i6:- b6:false, block 6 under Segment(0), inode 6 under Segment(0)",
+    ),
+    (Act::Rename("/d", "/l/k"), 0, "inval"),
+    (
+        Act::Rename("/f", "/l/f"),
+        0,
+        "ok i2:2,1,2,1 p5.1:f,1,1 i0:2,1,4,1 p4.0:-",
+    ),
+    (Act::Rename("/", "/l"), 0, "inval"),
+    (
+        Act::Write("/l/g", 0, "a"),
+        0,
+        "ok u0:FileBytes i4:1,1,1,1,0,0,0 at 3.9 s0.0:61(00*511), block 0 under Node(4)",
+    ),
+    (
+        Act::Write("/f", 5, "!"),
+        0,
+        "ok i1:1,1,6,1,8,0,0 at 3.9 s8.0:627974657321(00*506)",
+    ),
+    (
+        Act::Truncate("/f", 0),
+        0,
+        "ok u8:Unused i1:1,1,0,0,0,0,0 at 3.9, block 8 under Segment(0)",
+    ),
+    (Act::Read("/o"), 0, "loop"),
+    (Act::Read("/f"), 0, "data 62"),
+    (
+        Act::Read("/f"),
+        12_884_901_952,
+        "needs 12884901952 under Node(1)",
+    ),
+    (Act::List("/l"), 0, "names g"),
+    (Act::Stat("/l"), 0, "link 1"),
+    (Act::Sync, 0, "ok"),
+];
+
+#[test]
+fn lines_end_as_worked_out(rt: HostRuntime) -> Result<(), Fail> {
+    let differs = differs(rt.alloc(), DISK, &[SEGMENT], ROWS)?;
+    assert_eq!(rt; differs, None);
+    Ok(())
+}
