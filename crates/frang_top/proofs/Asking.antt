@@ -13,7 +13,7 @@ use Rattle.frang_top.specs.declared.outcome.Outcome.TheVariants as ends
 use Rattle.frang_top.specs.Built.{built_script_of}
 use Rattle.frang_top.specs.Run.{NothingYet}
 use Rattle.frang_top.specs.Top.{AreHeld, HasFile, EndsRun, Ends, HasRun, opening_for, SaysBytes, SaysFile}
-use Rattle.frang_top.specs.Words.{Asks}
+use Rattle.command_words.specs.Commands.{Asks}
 use Rattle.frang_top.proofs.Turning.{says_nothing}
 
 -- where nothing is said, whatever the file is
@@ -86,6 +86,7 @@ module _ (asks : Asks) (files files_after : FilesState) (out after : State) wher
   of_file holds ends.ReadFailed file = absurd file.2.1
   of_file holds (ends.Mute said) file = file
   of_file holds ends.TooLong file = absurd file.2.1
+  of_file holds (ends.OnImage e) file = absurd file.2.1
 
   same_file : (told : Option Holds) (bytes : List ℕ) (P : List ℕ → Type 0) → P bytes → IsFile told asks.script (λ b. b ≡ bytes) → IsFile told asks.script P
   same_file None bytes P may is = tt

@@ -2,6 +2,7 @@
 use Rattle.std.specs.Prelude.{ℕ, ◌==◌, if◌then◌else◌, Option, Some, None, List, ◌++◌, codes}
 use Rattle.std.specs.Fmt.{decimal}
 use Rattle.script_definitions.specs.ScriptFaults.{kind_of}
+use Rattle.image_commands.specs.Sentences.{fault_sentence}
 use Rattle.script_definitions.specs.declared.fault.LineFault.{LineFault}
 use Rattle.script_definitions.specs.declared.fault.LineFault.TheVariants as fault
 use Rattle.frang_top.specs.declared.outcome.Status.{Status}
@@ -43,6 +44,10 @@ words_for None = codes "a form that isn't built yet"
 abbrev pub kind_words : ℕ → List ℕ
 kind_words kind = words_for (fault_with kind)
 
+-- the file that this number stands for
+abbrev pub file_words : ℕ → List ℕ
+file_words line = if line == 0 then codes "script" else codes "image"
+
 -- what a status means
 abbrev pub sentence : Status → List ℕ
 sentence s =
@@ -50,7 +55,9 @@ sentence s =
     else (if s.code == 1 then codes "line " ++ decimal s.line ++ codes ": " ++ kind_words s.at
     else (if s.code == 2 then codes "the words are no command; the commands are"
     else (if s.code == 3 then codes "want of memory"
-    else (if s.code == 4 then codes "the script can't be read"
+    else (if s.code == 4 then codes "the " ++ file_words s.line ++ codes " can't be read"
     else (if s.code == 5 then codes "a line can't be said, after " ++ decimal s.at ++ codes " lines"
-    else (if s.code == 8 then codes "the script has more than " ++ decimal s.at ++ codes " bytes"
-    else codes "an unknown status"))))))
+    else (if s.code == 6 then codes "image: " ++ fault_sentence s.line s.at s.sector
+    else (if s.code == 7 then codes "the image can't be written"
+    else (if s.code == 8 then codes "the " ++ (file_words s.line ++ (codes " has more than " ++ (decimal s.at ++ codes " bytes")))
+    else codes "an unknown status"))))))))

@@ -1,15 +1,19 @@
 // What a status means, in words.
 ghost use Rattle.std.specs.Prelude.{◌≡◌, IfOk, string_bytes};
-ghost use Rattle.frang_top.specs.Sentences.{fault_with, fault_words, kind_words, sentence};
+ghost use Rattle.frang_top.specs.Sentences.{fault_with, fault_words, file_words, kind_words, sentence};
 
 use crate::outcome::Status;
 use frang_base::NoMemory;
+use image_commands::fault_sentence;
 use script_definitions::LineFault;
 use std::alloc::Global;
 
 /// The commands of the program, a line each: the words, and what they ask.
-pub const COMMANDS: [&str; 1] = [
+pub const COMMANDS: [&str; 4] = [
     "run SCRIPT [--segments S]  answers a script on a fresh disk of S segments, 1 to 64 (else 16)",
+    "recover IMAGE [--save F]  says what each log keeps and the tree of the replayed disk, saves it in F",
+    "tree IMAGE  says the tree of an image's replayed disk",
+    "log IMAGE SERVER  says the records of a log, 0 to 255",
 ];
 
 // The fault whose kind has this number.
@@ -60,23 +64,37 @@ fn kind_words(kind: u64) -> &'static str
     }
 }
 
+// The file that this number stands for.
+fn file_words(line: u32) -> &'static str
+    ensures { result.now ≡ file_words line }
+{
+    if line == 0 { "script" } else { "image" }
+}
+
 impl Status {
     /// What the status means, in one line of words without a line feed: for a bad script its first bad line and the fault, for a line that
-    /// wasn't said the number of lines that were.
+    /// wasn't said the number of lines that were, for a damaged image what is wrong with it and where.
     pub fn sentence(&self, alloc: Global) -> Result<String, NoMemory>
         ensures { IfOk result (λ text. string_bytes text ≡ sentence self.now) }
     {
         let line = self.line;
         let at = self.at;
         let words = kind_words(at);
+        let file = file_words(line);
         let text = match self.code {
             0 => format!(in alloc; "all was done")?,
             1 => format!(in alloc; "line {line}: {words}")?,
             2 => format!(in alloc; "the words are no command; the commands are")?,
             3 => format!(in alloc; "want of memory")?,
-            4 => format!(in alloc; "the script can't be read")?,
+            4 => format!(in alloc; "the {file} can't be read")?,
             5 => format!(in alloc; "a line can't be said, after {at} lines")?,
-            8 => format!(in alloc; "the script has more than {at} bytes")?,
+            6 => {
+                let fault = fault_sentence(alloc, u64::from(line), at, self.sector)?;
+                let words = fault.as_str();
+                format!(in alloc; "image: {words}")?
+            }
+            7 => format!(in alloc; "the image can't be written")?,
+            8 => format!(in alloc; "the {file} has more than {at} bytes")?,
             _ => format!(in alloc; "an unknown status")?,
         };
         Ok(text)

@@ -17,7 +17,7 @@ use Rattle.image_commands.specs.declared.end.ImageEnd.{ImageEnd}
 use Rattle.image_commands.specs.declared.end.ImageEnd.TheVariants as end
 use Rattle.image_commands.specs.Saying.{Says, SaysSome, SaysAll}
 use Rattle.image_commands.specs.Lines.{IsRecovery, GivesLines}
-use Rattle.image_commands.specs.Ends.{IsImageOf, Ends, EndsSaving, EndsRecovery, MaySave, OnlySaves}
+use Rattle.image_commands.specs.Ends.{IsImageOf, sector_at, Ends, EndsSaving, EndsRecovery, MaySave, OnlySaves}
 use Rattle.image_commands.specs.Steps.{ReadsBytes, GivesDisk, ReadsDisk, SaysLines, SavesDisk, SavesAfter, SaysAndSaves, RecoversDisk}
 
 -- what holds of a file's bytes holds of the file
@@ -26,13 +26,13 @@ file_of None name bytes P f p = tt
 file_of (Some holds) name bytes P f p = (f.0, f.1, subst P (sym f.2) p)
 
 module _ (old new : FilesState) (name : List ℕ) where
-  pub disk_read : (bytes : List ℕ) (r : Result Blocks ImageEnd) → length bytes ≤ IMAGE_BYTES_MAX → IsFile old.holds name (λ now. now ≡ bytes) → GivesDisk (image_in bytes) r → ReadsDisk old new name r
+  pub disk_read : (bytes : List ℕ) (r : Result Blocks ImageEnd) → length bytes ≤ IMAGE_BYTES_MAX → IsFile old.holds name (λ now. now ≡ bytes) → GivesDisk bytes r → ReadsDisk old new name r
   disk_read bytes (Ok blocks) few f g = file_of old.holds name bytes (λ bs. (length bs ≤ IMAGE_BYTES_MAX) × (image_in bs ≡ Ok blocks)) f (few, g)
   disk_read bytes (Err end.Done) few f g = absurd g
   disk_read bytes (Err end.NoMemory) few f g = tt
   disk_read bytes (Err end.ReadFailed) few f g = absurd g
   disk_read bytes (Err end.TooLong) few f g = absurd g
-  disk_read bytes (Err (end.BadImage at kind)) few f g = file_of old.holds name bytes (λ bs. (length bs ≤ IMAGE_BYTES_MAX) × GivesImage (image_in bs) (Err (refused.Bad at kind))) f (few, g)
+  disk_read bytes (Err (end.BadImage at kind sector)) few f g = file_of old.holds name bytes (λ bs. (length bs ≤ IMAGE_BYTES_MAX) × GivesImage (image_in bs) (Err (refused.Bad at kind)) × (sector ≡ sector_at at bs)) f (few, g.0, g.1)
   disk_read bytes (Err (end.Mute said)) few f g = absurd g
   disk_read bytes (Err end.WriteFailed) few f g = absurd g
 
@@ -41,7 +41,7 @@ module _ (old new : FilesState) (name : List ℕ) where
   not_read end.NoMemory r = tt
   not_read end.ReadFailed r = r
   not_read end.TooLong r = r
-  not_read (end.BadImage at kind) r = absurd r
+  not_read (end.BadImage at kind sector) r = absurd r
   not_read (end.Mute said) r = absurd r
   not_read end.WriteFailed r = absurd r
 
@@ -52,7 +52,7 @@ module _ (T : Blocks → List Said → Type 0) (name : List ℕ) (files files_af
   ended_reading end.NoMemory r s = inl s
   ended_reading end.ReadFailed r s = (r, s)
   ended_reading end.TooLong r s = (r, s)
-  ended_reading (end.BadImage at kind) r s = (inl r, s)
+  ended_reading (end.BadImage at kind sector) r s = (inl r, s)
   ended_reading (end.Mute said) r s = absurd r
   ended_reading end.WriteFailed r s = absurd r
 
@@ -62,13 +62,13 @@ module _ (T : Blocks → List Said → Type 0) (name : List ℕ) (files files_af
   ended_saying blocks lines end.NoMemory i t s = inr (record { blocks = blocks; image = i; lines = lines; are = t; so = s })
   ended_saying blocks lines end.ReadFailed i t s = absurd s
   ended_saying blocks lines end.TooLong i t s = absurd s
-  ended_saying blocks lines (end.BadImage at kind) i t s = absurd s
+  ended_saying blocks lines (end.BadImage at kind sector) i t s = absurd s
   ended_saying blocks lines (end.Mute said) i t s = (record { blocks = blocks; image = i; lines = lines; are = t; so = (s.0, s.1) }, s.2)
   ended_saying blocks lines end.WriteFailed i t s = absurd s
 
   -- the disk that was read has no lines
-  pub ended_standing : (blocks : Blocks) → IsImageOf files.holds name blocks → ((lines : List Said) → T blocks lines → ⊥) → Says after.acts [] → Ends T name files files_after out after (end.BadImage 0 8)
-  ended_standing blocks i none s = (inr (refl, refl, record { blocks = blocks; image = i; none = none }), s)
+  pub ended_standing : (blocks : Blocks) → IsImageOf files.holds name blocks → ((lines : List Said) → T blocks lines → ⊥) → Says after.acts [] → Ends T name files files_after out after (end.BadImage 0 8 0)
+  ended_standing blocks i none s = (inr (refl, refl, refl, record { blocks = blocks; image = i; none = none }), s)
 
   pub ended_lines : (blocks : Blocks) (lines : Result (Option (Vec Said Global)) NoMemory) (e : ImageEnd) → IsImageOf files.holds name blocks → IfOk lines (GivesLines T blocks) → SaysLines out after lines e → Ends T name files files_after out after e
   ended_lines blocks (Ok (Some v)) e i g s = ended_saying blocks v.items e i g s
@@ -81,7 +81,7 @@ others_same : (holds : Option Holds) (name : List ℕ) → OthersStay holds hold
 others_same None name = refl
 others_same (Some holds) name = λ other ne. refl
 
-others_stay : (before after : Option Holds) (save : List ℕ) → after ≡ before → OthersStay before after save
+pub others_stay : (before after : Option Holds) (save : List ℕ) → after ≡ before → OthersStay before after save
 others_stay before after save q = subst (λ now. OthersStay before now save) (sym q) (others_same before save)
 
 may_save : (e : ImageEnd) (before after : Option Holds) (save : List ℕ) → after ≡ before → MaySave e before after save
@@ -89,7 +89,7 @@ may_save end.Done before after save q = others_stay before after save q
 may_save end.NoMemory before after save q = others_stay before after save q
 may_save end.ReadFailed before after save q = q
 may_save end.TooLong before after save q = q
-may_save (end.BadImage at kind) before after save q = q
+may_save (end.BadImage at kind sector) before after save q = q
 may_save (end.Mute said) before after save q = q
 may_save end.WriteFailed before after save q = others_stay before after save q
 
@@ -108,7 +108,7 @@ module _ (name : List ℕ) (files mid files_after : FilesState) (out after : Sta
       all_said lines s = record { count = length lines; few = omega arith; says = subst (Says after.acts) (sym (take_all (length lines) lines (omega arith))) s }
   saved blocks disk lines save end.ReadFailed i t same w s d = absurd d
   saved blocks disk lines save end.TooLong i t same w s d = absurd d
-  saved blocks disk lines save (end.BadImage at kind) i t same w s d = absurd d
+  saved blocks disk lines save (end.BadImage at kind sector) i t same w s d = absurd d
   saved blocks disk lines save (end.Mute said) i t same w s d = absurd d
   saved blocks disk lines save end.WriteFailed i t same w s d =
       record { blocks = blocks; image = i; lines = lines; are = t; so = (s, (let a : files.write_faults ≤ mid.write_faults = w in let b : Rose mid.write_faults files_after.write_faults = d.1 in let r : Rose files.write_faults files_after.write_faults = omega arith in r)) }
@@ -123,7 +123,7 @@ module _ (name : List ℕ) (files mid files_after : FilesState) (out after : Sta
       go end.NoMemory a d = subst (EndsSaving name save files files_after out after) (sym d.1) (ended_saying IsRecovery name files files_after out after blocks lines end.NoMemory i t a)
       go end.ReadFailed a d = absurd a
       go end.TooLong a d = absurd a
-      go (end.BadImage at kind) a d = absurd a
+      go (end.BadImage at kind sector) a d = absurd a
       go (end.Mute said) a d = subst (EndsSaving name save files files_after out after) (sym d.1) (ended_saying IsRecovery name files files_after out after blocks lines (end.Mute said) i t a)
       go end.WriteFailed a d = absurd a
 
@@ -133,7 +133,7 @@ module _ (name : List ℕ) (files mid files_after : FilesState) (out after : Sta
   kept disk save end.NoMemory d = d
   kept disk save end.ReadFailed d = absurd d
   kept disk save end.TooLong d = absurd d
-  kept disk save (end.BadImage at kind) d = absurd d
+  kept disk save (end.BadImage at kind sector) d = absurd d
   kept disk save (end.Mute said) d = absurd d
   kept disk save end.WriteFailed d = d.0
 
@@ -149,7 +149,7 @@ module _ (name : List ℕ) (files mid files_after : FilesState) (out after : Sta
       go end.NoMemory a d = same d.0
       go end.ReadFailed a d = absurd a
       go end.TooLong a d = absurd a
-      go (end.BadImage at kind) a d = absurd a
+      go (end.BadImage at kind sector) a d = absurd a
       go (end.Mute said) a d = same d.0
       go end.WriteFailed a d = absurd a
 
@@ -160,7 +160,7 @@ ended_before name (Some save) files files_after out after end.Done n m h = absur
 ended_before name (Some save) files files_after out after end.NoMemory n m h = h
 ended_before name (Some save) files files_after out after end.ReadFailed n m h = h
 ended_before name (Some save) files files_after out after end.TooLong n m h = h
-ended_before name (Some save) files files_after out after (end.BadImage at kind) n m h = h
+ended_before name (Some save) files files_after out after (end.BadImage at kind sector) n m h = h
 ended_before name (Some save) files files_after out after (end.Mute said) n m h = h
 ended_before name (Some save) files files_after out after end.WriteFailed n m h = absurd (m refl)
 
@@ -170,13 +170,13 @@ recovery_unread name save files files_after out after end.Done r s = absurd r
 recovery_unread name save files files_after out after end.NoMemory r s = ended_before name save files files_after out after end.NoMemory (λ q. cc) (λ q. cc) (inl s)
 recovery_unread name save files files_after out after end.ReadFailed r s = ended_before name save files files_after out after end.ReadFailed (λ q. cc) (λ q. cc) (r, s)
 recovery_unread name save files files_after out after end.TooLong r s = ended_before name save files files_after out after end.TooLong (λ q. cc) (λ q. cc) (r, s)
-recovery_unread name save files files_after out after (end.BadImage at kind) r s = ended_before name save files files_after out after (end.BadImage at kind) (λ q. cc) (λ q. cc) (inl r, s)
+recovery_unread name save files files_after out after (end.BadImage at kind sector) r s = ended_before name save files files_after out after (end.BadImage at kind sector) (λ q. cc) (λ q. cc) (inl r, s)
 recovery_unread name save files files_after out after (end.Mute said) r s = absurd r
 recovery_unread name save files files_after out after end.WriteFailed r s = absurd r
 
 -- where the disk has no lines
-pub recovery_none : (name : List ℕ) (save : Option (List ℕ)) (files files_after : FilesState) (out after : State) (blocks : Blocks) → IsImageOf files.holds name blocks → ((lines : List Said) → IsRecovery blocks lines → ⊥) → Says after.acts [] → EndsRecovery name save files files_after out after (end.BadImage 0 8)
-recovery_none name save files files_after out after blocks i none s = ended_before name save files files_after out after (end.BadImage 0 8) (λ q. cc) (λ q. cc) (ended_standing IsRecovery name files files_after out after blocks i none s)
+pub recovery_none : (name : List ℕ) (save : Option (List ℕ)) (files files_after : FilesState) (out after : State) (blocks : Blocks) → IsImageOf files.holds name blocks → ((lines : List Said) → IsRecovery blocks lines → ⊥) → Says after.acts [] → EndsRecovery name save files files_after out after (end.BadImage 0 8 0)
+recovery_none name save files files_after out after blocks i none s = ended_before name save files files_after out after (end.BadImage 0 8 0) (λ q. cc) (λ q. cc) (ended_standing IsRecovery name files files_after out after blocks i none s)
 
 -- where memory was short before anything was said
 pub recovery_short : (name : List ℕ) (save : Option (List ℕ)) (files files_after : FilesState) (out after : State) → Says after.acts [] → EndsRecovery name save files files_after out after end.NoMemory

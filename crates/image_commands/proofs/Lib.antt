@@ -1,3 +1,4 @@
 pub mod SayLaws
 pub mod LineLaws
 pub mod EndLaws
+pub mod AskedLaws

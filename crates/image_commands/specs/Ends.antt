@@ -1,9 +1,10 @@
 -- How commands on images end, and why.
-use Rattle.std.specs.Prelude.{◌≡◌, ◌⊎◌, ◌≤◌, ◌<◌, ℕ, Option, Some, None, Ok, Err, List, [], length, take}
+use Rattle.std.specs.Prelude.{◌≡◌, ◌⊎◌, ◌≤◌, ◌<◌, ℕ, Option, Some, None, unwrap_or, Ok, Err, List, [], length, take, drop, nat_lt, if◌then◌else◌}
 use Rattle.frang_base.specs.declared.limits.TheConstants.{IMAGE_BYTES_MAX}
 use Rattle.frang_base.specs.declared.said.Said.{Said}
 use Rattle.frang_outside.specs.Outside.{State, Rose}
 use Rattle.frang_outside.specs.Files.{State as FilesState, Holds, IsFile, OthersStay}
+use Rattle.sector_bytes.specs.Bytes.{number_at}
 use Rattle.sector_bytes.specs.Sectors.{SameSectors, sectors_of}
 use Rattle.disk_definitions.specs.Images.{Blocks, image_in, image_text}
 use Rattle.image_file.specs.declared.refusal.ImageRead.TheVariants as refused
@@ -18,9 +19,17 @@ use Rattle.image_commands.specs.Lines.{IsRecovery}
 abbrev pub IsImageOf : Option Holds → List ℕ → Blocks → Type 0
 IsImageOf holds name blocks = IsFile holds name (λ bytes. (length bytes ≤ IMAGE_BYTES_MAX) × (image_in bytes ≡ Ok blocks))
 
--- the file, where files are told, is within its limit and no image, with this first fault
-abbrev pub IsNoImage : Option Holds → List ℕ → ℕ → ℕ → Type 0
-IsNoImage holds name at kind = IsFile holds name (λ bytes. (length bytes ≤ IMAGE_BYTES_MAX) × GivesImage (image_in bytes) (Err (refused.Bad at kind)))
+-- the number that the first bytes are
+abbrev pub first_number : List ℕ → Option ℕ
+first_number bytes = if nat_lt (length bytes) 8 then None else Some (number_at 8 0 bytes)
+
+-- the number at a place of the bytes, which is that of a sector where an entry stands there; 0 where they end before
+abbrev pub sector_at : ℕ → List ℕ → ℕ
+sector_at at bytes = unwrap_or (first_number (drop at bytes)) 0
+
+-- the file, where files are told, is within its limit and no image, with this first fault, and this number at its place
+abbrev pub IsNoImage : Option Holds → List ℕ → ℕ → ℕ → ℕ → Type 0
+IsNoImage holds name at kind sector = IsFile holds name (λ bytes. (length bytes ≤ IMAGE_BYTES_MAX) × GivesImage (image_in bytes) (Err (refused.Bad at kind)) × (sector ≡ sector_at at bytes))
 
 -- the file is the image of a disk that has no such lines
 pub record HasNoLines (T : Blocks → List Said → Type 0) (holds : Option Holds) (name : List ℕ) : Type 0 where
@@ -42,7 +51,7 @@ Ends T name files files_after out after end.Done = Tells T files.holds name (λ 
 Ends T name files files_after out after end.NoMemory = Says after.acts [] ⊎ Tells T files.holds name (λ blocks lines. SaysSome after.acts lines)
 Ends T name files files_after out after end.ReadFailed = Rose files.read_faults files_after.read_faults × Says after.acts []
 Ends T name files files_after out after end.TooLong = IsFile files.holds name (λ bytes. IMAGE_BYTES_MAX < length bytes) × Says after.acts []
-Ends T name files files_after out after (end.BadImage at kind) = (IsNoImage files.holds name at kind ⊎ ((at ≡ 0) × (kind ≡ 8) × HasNoLines T files.holds name)) × Says after.acts []
+Ends T name files files_after out after (end.BadImage at kind sector) = (IsNoImage files.holds name at kind sector ⊎ ((at ≡ 0) × (kind ≡ 8) × (sector ≡ 0) × HasNoLines T files.holds name)) × Says after.acts []
 Ends T name files files_after out after (end.Mute said) =
     Tells T files.holds name (λ blocks lines. (said < length lines) × Says after.acts (take said lines)) × Rose out.say_faults after.say_faults
 Ends T name files files_after out after end.WriteFailed = ⊥

@@ -3,3 +3,5 @@ pub mod Lines
 pub mod Ends
 pub mod Steps
 pub mod Recovered
+pub mod Sentences
+pub mod Asked

@@ -11,14 +11,13 @@ use Rattle.frang_outside.specs.Files.{State as FilesState, IsFile, OthersStay}
 use Rattle.sector_bytes.specs.Sectors.{SameSectors, sectors_of}
 use Rattle.log_definitions.specs.Replay.{replayed}
 use Rattle.image_commands.specs.Lines.{IsRecovery}
-use Rattle.disk_definitions.specs.declared.image.ImageFault.{ImageFault}
-use Rattle.disk_definitions.specs.Images.{Blocks, image_text}
+use Rattle.disk_definitions.specs.Images.{Blocks, image_in, image_text}
 use Rattle.image_file.specs.declared.refusal.ImageRead.TheVariants as refused
 use Rattle.image_file.specs.Answers.{GivesImage}
 use Rattle.image_commands.specs.declared.end.ImageEnd.{ImageEnd}
 use Rattle.image_commands.specs.declared.end.ImageEnd.TheVariants as end
 use Rattle.image_commands.specs.Saying.{Says, SaysAll}
-use Rattle.image_commands.specs.Ends.{IsImageOf, IsNoImage}
+use Rattle.image_commands.specs.Ends.{IsImageOf, IsNoImage, sector_at}
 
 -- how a command ends by a say that was refused after so many lines
 abbrev pub stopped_by : ℕ → SayFault → ImageEnd
@@ -34,11 +33,11 @@ ReadsBytes old new name (Err end.TooLong) = IsFile old.holds name (λ bytes. IMA
 ReadsBytes old new name (Err _) = ⊥
 
 -- the disk whose image bytes are
-abbrev pub GivesDisk : Result Blocks ImageFault → Result Blocks ImageEnd → Type 0
-GivesDisk given (Ok blocks) = given ≡ Ok blocks
-GivesDisk given (Err end.NoMemory) = Unit {0}
-GivesDisk given (Err (end.BadImage at kind)) = GivesImage given (Err (refused.Bad at kind))
-GivesDisk given (Err _) = ⊥
+abbrev pub GivesDisk : List ℕ → Result Blocks ImageEnd → Type 0
+GivesDisk bytes (Ok blocks) = image_in bytes ≡ Ok blocks
+GivesDisk bytes (Err end.NoMemory) = Unit {0}
+GivesDisk bytes (Err (end.BadImage at kind sector)) = GivesImage (image_in bytes) (Err (refused.Bad at kind)) × (sector ≡ sector_at at bytes)
+GivesDisk bytes (Err _) = ⊥
 
 -- the disk whose image a file is
 abbrev pub ReadsDisk : FilesState → FilesState → List ℕ → Result Blocks ImageEnd → Type 0
@@ -46,13 +45,13 @@ ReadsDisk old new name (Ok blocks) = IsImageOf old.holds name blocks
 ReadsDisk old new name (Err end.NoMemory) = Unit {0}
 ReadsDisk old new name (Err end.ReadFailed) = Rose old.read_faults new.read_faults
 ReadsDisk old new name (Err end.TooLong) = IsFile old.holds name (λ bytes. IMAGE_BYTES_MAX < length bytes)
-ReadsDisk old new name (Err (end.BadImage at kind)) = IsNoImage old.holds name at kind
+ReadsDisk old new name (Err (end.BadImage at kind sector)) = IsNoImage old.holds name at kind sector
 ReadsDisk old new name (Err _) = ⊥
 
 -- the lines of a disk are said, where it has some and memory was there
 abbrev pub SaysLines : State → State → Result (Option (Vec Said Global)) NoMemory → ImageEnd → Type 0
 SaysLines old new (Ok (Some lines)) outcome = SaysAll old new lines.items outcome
-SaysLines old new (Ok None) outcome = (outcome ≡ end.BadImage 0 8) × Says new.acts []
+SaysLines old new (Ok None) outcome = (outcome ≡ end.BadImage 0 8 0) × Says new.acts []
 SaysLines old new (Err want) outcome = (outcome ≡ end.NoMemory) × Says new.acts []
 
 -- the file has the image of the disk, or it was refused; every other file stays
@@ -76,4 +75,4 @@ SaysAndSaves files files_after out after lines disk (Some save) outcome = (said 
 abbrev pub RecoversDisk : FilesState → FilesState → State → State → Blocks → Option (List ℕ) → ImageEnd → Type 0
 RecoversDisk files files_after out after blocks save outcome =
     ((lines : List Said) × (disk : Blocks) × IsRecovery blocks lines × SameSectors (sectors_of disk) (replayed (sectors_of blocks)) × SaysAndSaves files files_after out after lines disk save outcome)
-    ⊎ (Says after.acts [] × (files_after ≡ files) × ((outcome ≡ end.NoMemory) ⊎ ((outcome ≡ end.BadImage 0 8) × ((lines : List Said) → IsRecovery blocks lines → ⊥))))
+    ⊎ (Says after.acts [] × (files_after ≡ files) × ((outcome ≡ end.NoMemory) ⊎ ((outcome ≡ end.BadImage 0 8 0) × ((lines : List Said) → IsRecovery blocks lines → ⊥))))

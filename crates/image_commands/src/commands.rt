@@ -1,6 +1,7 @@
 // The commands on images.
 ghost use Rattle.std.specs.Prelude.{◌≡◌, []};
 ghost use Rattle.std.specs.Option.{option_map};
+ghost use Rattle.image_commands.specs.declared.end.ImageEnd.TheVariants as end;
 ghost use Rattle.image_commands.specs.Saying.{Says};
 ghost use Rattle.image_commands.specs.Lines.{IsLog, IsTree};
 ghost use Rattle.image_commands.specs.Ends.{Ends, EndsRecovery, OnlySaves};
@@ -16,6 +17,17 @@ use frang_outside::{FileFault, Files, Outside};
 use image_file::write_image;
 use std::alloc::Global;
 
+// The end where there is no tree for which the replayed disk stands.
+fn no_tree() -> ImageEnd
+    ensures { result ≡ end.BadImage 0 8 0 }
+{
+    ImageEnd::BadImage {
+        at: 0,
+        kind: 8,
+        sector: 0,
+    }
+}
+
 // Says the lines of a disk, where it has some.
 fn say_lines<O: Outside>(
     alloc: Global,
@@ -27,7 +39,7 @@ fn say_lines<O: Outside>(
 {
     match lines {
         Ok(Some(lines)) => say_all(alloc, &lines, out),
-        Ok(None) => ImageEnd::BadImage { at: 0, kind: 8 },
+        Ok(None) => no_tree(),
         Err(_) => ImageEnd::NoMemory,
     }
 }
@@ -99,7 +111,7 @@ fn save_after<F: Files>(
         ImageEnd::NoMemory => ImageEnd::NoMemory,
         ImageEnd::ReadFailed => ImageEnd::ReadFailed,
         ImageEnd::TooLong => ImageEnd::TooLong,
-        ImageEnd::BadImage { at, kind } => ImageEnd::BadImage { at, kind },
+        ImageEnd::BadImage { at, kind, sector } => ImageEnd::BadImage { at, kind, sector },
         ImageEnd::Mute { said } => ImageEnd::Mute { said },
         ImageEnd::WriteFailed => ImageEnd::WriteFailed,
     }
@@ -137,7 +149,7 @@ fn recover_disk<F: Files, O: Outside>(
     match recovery_of(alloc, disk) {
         Ok(found) => match found {
             Some(recovery) => say_and_save(alloc, &recovery, save, files, out),
-            None => ImageEnd::BadImage { at: 0, kind: 8 },
+            None => no_tree(),
         },
         Err(_) => ImageEnd::NoMemory,
     }

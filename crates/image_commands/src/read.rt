@@ -1,10 +1,11 @@
 // An image as a disk.
 ghost use Rattle.std.specs.Prelude.{◌≡◌};
 ghost use Rattle.frang_outside.specs.Files.{NoneFell};
-ghost use Rattle.disk_definitions.specs.Images.{image_in};
+ghost use Rattle.image_commands.specs.Ends.{first_number, sector_at};
 ghost use Rattle.image_commands.specs.Steps.{GivesDisk, ReadsBytes, ReadsDisk};
 
 use crate::end::ImageEnd;
+use byteorder::{ByteOrder, LittleEndian};
 use disk_definitions::Disk;
 use frang_base::limits::IMAGE_BYTES_MAX;
 use frang_outside::{FileFault, Files};
@@ -25,13 +26,35 @@ fn read_bytes<F: Files>(alloc: Global, image: &str, files: &mut F) -> Result<Vec
     }
 }
 
+// The number that the first bytes are.
+fn first_number(bytes: &[u8]) -> Option<u64>
+    ensures { result ≡ first_number bytes.now }
+{
+    let (number, _) = bytes.split_first_chunk::<8>()?;
+    Some(LittleEndian::read_u64(number))
+}
+
+// The number at a place of the bytes, 0 where they end before.
+fn sector_at(at: u64, bytes: &[u8]) -> u64
+    ensures { result ≡ sector_at at bytes.now }
+{
+    match bytes.get(at as usize..) {
+        Some(rest) => first_number(rest).unwrap_or(0),
+        None => 0,
+    }
+}
+
 // The disk whose image the bytes are.
 fn disk_of(alloc: Global, bytes: &[u8]) -> Result<Disk, ImageEnd>
-    ensures { GivesDisk (image_in bytes.now) result }
+    ensures { GivesDisk bytes.now result }
 {
     match read_image(alloc, bytes) {
         Ok(disk) => Ok(disk),
-        Err(ImageRead::Bad { at, kind }) => Err(ImageEnd::BadImage { at, kind }),
+        Err(ImageRead::Bad { at, kind }) => Err(ImageEnd::BadImage {
+            at,
+            kind,
+            sector: sector_at(at, bytes),
+        }),
         Err(ImageRead::NoMemory) => Err(ImageEnd::NoMemory),
     }
 }

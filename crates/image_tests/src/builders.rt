@@ -1,16 +1,16 @@
-// Images by their bytes, and what a command on one tells.
+// Images by their bytes, and what a call of the program on one tells.
 use frang_base::NoMemory;
-use frang_outside::{Act, MemFiles, MemOutside};
-use image_commands::{ImageEnd, log, recover, tree};
+use frang_outside::{Act, FileFault, Files, MemFiles, MemOutside, NoGate};
+use frang_top::{Status, frang};
 use std::alloc::{AllocError, Global};
 
 /// Bytes from a place on.
 pub type Piece = (usize, &'static [u8]);
 
-/// The bytes of the fresh image of one segment that aren't zero: mark and count, the parameters, the segment, the root.
+/// The bytes of the fresh image of 16 segments that aren't zero: mark and count, the parameters, the segment, the root.
 pub static FRESH: [Piece; 8] = [
     (0, b"FRANGIM1\x03"),
-    (24, b"FRANGPAR\x02\0\0\0\x01\0\0\0\x01"),
+    (24, b"FRANGPAR\x02\0\0\0\x10\0\0\0\x01"),
     (540, b"\x01"),
     (544, b"\x01"),
     (552, b"\x01"),
@@ -22,19 +22,59 @@ pub static FRESH: [Piece; 8] = [
 /// Its length.
 pub const FRESH_LEN: usize = 1576;
 
-/// A command on the image.
-#[derive(Clone, Copy)]
-pub enum Ask {
-    Tree,
-    Recover,
-    Log(u8),
+/// All was done.
+pub const DONE: Status = Status {
+    code: 0,
+    line: 0,
+    at: 0,
+    sector: 0,
+};
+
+/// A status of these three numbers.
+pub fn status_with(code: u8, line: u32, at: u64) -> Status {
+    Status {
+        code,
+        line,
+        at,
+        sector: 0,
+    }
 }
 
-/// How a command ended, and the lines that it said.
+/// How a call ended, and the lines that it said.
 #[derive(Drop)]
 pub struct Told {
-    pub end: ImageEnd,
+    pub status: Status,
     pub text: Vec<u8>,
+}
+
+/// Files of which nothing is told: each has these bytes, or too many where there are none, and none can be written.
+#[derive(Drop)]
+pub struct FixedFiles {
+    pub image: Option<Vec<u8>>,
+    pub write_faults: u64,
+}
+
+impl Files for FixedFiles {
+    ghost use Rattle.std.specs.Prelude.{None};
+
+    ghost state = { λ f. record { holds = None; read_faults = 0; write_faults = f.write_faults } };
+
+    fn read(&mut self, alloc: Global, _name: &str, limit: u64) -> Result<Vec<u8>, FileFault> {
+        match &self.image {
+            Some(image) => {
+                if image.len() as u64 > limit {
+                    return Err(FileFault::TooLong);
+                }
+                Ok(image.as_slice().to_vec(alloc)?)
+            }
+            None => Err(FileFault::TooLong),
+        }
+    }
+
+    fn write(&mut self, _name: &str, _bytes: &[u8]) -> Result<(), FileFault> {
+        self.write_faults = self.write_faults.saturating_add(1);
+        Err(FileFault::Failed)
+    }
 }
 
 /// Puts the bytes of pieces in place of those that stand there.
@@ -65,16 +105,26 @@ pub fn lines_said(alloc: Global, acts: &[Act]) -> Result<Vec<u8>, NoMemory> {
     Ok(text)
 }
 
-/// What a command on these bytes tells.
-pub fn tell(alloc: Global, image: &[u8], ask: Ask) -> Result<Told, NoMemory> {
+/// The words of a line, parted by spaces.
+pub fn words_of(alloc: Global, line: &str) -> Result<Vec<String>, AllocError> {
+    let mut words = Vec::new(alloc);
+    for word in line.split(' ') {
+        words.push(String::from_str(alloc, word)?)?;
+    }
+    Ok(words)
+}
+
+/// What a call with these words tells over these files.
+pub fn tell_over<F: Files>(alloc: Global, line: &str, files: &mut F) -> Result<Told, NoMemory> {
+    let words = words_of(alloc, line)?;
+    let (status, out) = frang(alloc, &words, files, MemOutside::new(alloc), &NoGate);
+    let text = lines_said(alloc, out.acts())?;
+    Ok(Told { status, text })
+}
+
+/// What a call with these words tells where the file `img` holds this image, and no other file is there.
+pub fn tell(alloc: Global, image: &[u8], line: &str) -> Result<Told, NoMemory> {
     let mut files = MemFiles::new(alloc);
     files.put_file("img", image)?;
-    let mut out = MemOutside::new(alloc);
-    let end = match ask {
-        Ask::Tree => tree(alloc, "img", &mut files, &mut out),
-        Ask::Recover => recover(alloc, "img", None, &mut files, &mut out),
-        Ask::Log(server) => log(alloc, "img", server, &mut files, &mut out),
-    };
-    let text = lines_said(alloc, out.acts())?;
-    Ok(Told { end, text })
+    tell_over(alloc, line, &mut files)
 }

@@ -1,19 +1,48 @@
-// The fresh image, and what one change makes of it: how a command ends, having said nothing.
-use crate::builders::{Ask, FRESH, FRESH_LEN, Piece, image_of, lay, tell};
+// The fresh image, and what one change makes of it: how a command ends, having said nothing, and in which words.
+use crate::builders::{DONE, FRESH, FRESH_LEN, Piece, image_of, lay, tell};
 use frang_base::NoMemory;
-use image_commands::ImageEnd;
 use std::alloc::Global;
 use std::test::Fail;
 
-// What is laid over the fresh image, and how many bytes are then kept; the place and the kind of the fault.
-type Damage = (&'static [Piece], usize, u64, u8);
+// What is laid over the fresh image, and how many bytes are then kept; the place and the kind of the fault, and its words.
+type Damage = (&'static [Piece], usize, u64, u32, &'static str);
 
-static DAMAGES: [Damage; 13] = [
-    (&[], 0, 0, 1),
-    (&[], 1575, 1056, 1),
-    (&[(0, b"\0")], FRESH_LEN, 0, 2),
-    (&[(8, b"\x04")], FRESH_LEN, 1576, 1),
-    (&[(8, b"\x02")], FRESH_LEN, 1056, 6),
+static DAMAGES: [Damage; 14] = [
+    (
+        &[],
+        0,
+        0,
+        1,
+        "image: the bytes end inside the header or an entry, at byte 0",
+    ),
+    (
+        &[],
+        1575,
+        1056,
+        1,
+        "image: the bytes end inside the header or an entry, at byte 1056",
+    ),
+    (
+        &[(0, b"\0")],
+        FRESH_LEN,
+        0,
+        2,
+        "image: the first 8 bytes aren't those of an image, at byte 0",
+    ),
+    (
+        &[(8, b"\x04")],
+        FRESH_LEN,
+        1576,
+        1,
+        "image: the bytes end inside the header or an entry, at byte 1576",
+    ),
+    (
+        &[(8, b"\x02")],
+        FRESH_LEN,
+        1056,
+        6,
+        "image: there are bytes after the last entry, at byte 1056",
+    ),
     // The segment and the root in each other's place.
     (
         &[
@@ -25,41 +54,100 @@ static DAMAGES: [Damage; 13] = [
         FRESH_LEN,
         1056,
         3,
+        "image: sector 4294967296 isn't greater than the one before, at byte 1056",
     ),
-    // A second segment, where there is one.
-    (&[(536, b"\x01")], FRESH_LEN, 536, 4),
-    (&[(544, b"\0"), (552, b"\0")], FRESH_LEN, 536, 5),
-    (&[(16, b"\x01")], FRESH_LEN, 16, 7),
+    // A segment more than there are.
+    (
+        &[(536, b"\x10")],
+        FRESH_LEN,
+        536,
+        4,
+        "image: sector 4294967312 lies in no region, at byte 536",
+    ),
+    (
+        &[(544, b"\0"), (552, b"\0")],
+        FRESH_LEN,
+        536,
+        5,
+        "image: sector 4294967296 is zeros, at byte 536",
+    ),
+    (
+        &[(16, b"\x01")],
+        FRESH_LEN,
+        16,
+        7,
+        "image: the first sector isn't that of the parameters, or has none that a run may follow, at byte 16",
+    ),
     (
         &[(24, b"\0\0\0\0\0\0\0\0\0\0\0\0\0\0\0\0\0")],
         FRESH_LEN,
         16,
         7,
+        "image: the first sector isn't that of the parameters, or has none that a run may follow, at byte 16",
     ),
     // The last run number, which no further run can raise.
-    (&[(40, b"\xff\xff\xff\xff")], FRESH_LEN, 16, 7),
-    (&[(1072, b"\x04")], FRESH_LEN, 1056, 7),
-    (&[(552, b"\x03")], FRESH_LEN, 0, 8),
+    (
+        &[(40, b"\xff\xff\xff\xff")],
+        FRESH_LEN,
+        16,
+        7,
+        "image: the first sector isn't that of the parameters, or has none that a run may follow, at byte 16",
+    ),
+    // A byte behind the bits of the segment.
+    (
+        &[(817, b"\x01")],
+        FRESH_LEN,
+        536,
+        7,
+        "image: the bitmap of sector 4294967296 isn't one, at byte 536",
+    ),
+    (
+        &[(1072, b"\x04")],
+        FRESH_LEN,
+        1056,
+        7,
+        "image: the inode of sector 10737418240 isn't one, at byte 1056",
+    ),
+    (
+        &[(552, b"\x03")],
+        FRESH_LEN,
+        0,
+        8,
+        "image: its replayed disk stands for no tree",
+    ),
 ];
 
 // The bit of an inode that isn't in use.
 static UNREACHED: [Piece; 1] = [(552, b"\x03")];
 
 fn damaged(alloc: Global, damage: &Damage) -> Result<Vec<u8>, NoMemory> {
-    let (pieces, keep, _, _) = *damage;
+    let (pieces, keep, _, _, _) = *damage;
     let mut image = image_of(alloc, FRESH_LEN, &FRESH)?;
     lay(&mut image, pieces);
     image.truncate(keep);
     Ok(image)
 }
 
+// A command tells a damage as it is.
+fn is_told(alloc: Global, words: &str, damage: &Damage) -> Result<bool, NoMemory> {
+    let (_, _, at, kind, sentence) = *damage;
+    let image = damaged(alloc, damage)?;
+    let told = tell(alloc, &image, words)?;
+    let status = told.status;
+    let said = status.sentence(alloc)?;
+    Ok(
+        status.code == 6
+            && status.line == kind
+            && status.at == at
+            && told.text.is_empty()
+            && said.as_str() == sentence,
+    )
+}
+
 // The first damage, from 1 on, that the command tells otherwise; 0 where there is none.
-fn first_other(alloc: Global, ask: Ask) -> Result<usize, NoMemory> {
+fn first_other(alloc: Global, words: &str) -> Result<usize, NoMemory> {
     for (i, damage) in DAMAGES.iter().enumerate() {
-        let (_, _, at, kind) = *damage;
-        let image = damaged(alloc, damage)?;
-        let told = tell(alloc, &image, ask)?;
-        if told.end != (ImageEnd::BadImage { at, kind }) || !told.text.is_empty() {
+        if !is_told(alloc, words, damage)? {
             return Ok(i.saturating_add(1));
         }
     }
@@ -68,8 +156,8 @@ fn first_other(alloc: Global, ask: Ask) -> Result<usize, NoMemory> {
 
 #[test]
 fn damaged_images_are_refused_where_they_are_damaged(rt: HostRuntime) -> Result<(), Fail> {
-    assert_eq!(rt; first_other(rt.alloc(), Ask::Tree)?, 0);
-    assert_eq!(rt; first_other(rt.alloc(), Ask::Recover)?, 0);
+    assert_eq!(rt; first_other(rt.alloc(), "tree img")?, 0);
+    assert_eq!(rt; first_other(rt.alloc(), "recover img --save new")?, 0);
     Ok(())
 }
 
@@ -77,8 +165,8 @@ fn damaged_images_are_refused_where_they_are_damaged(rt: HostRuntime) -> Result<
 fn a_log_is_read_also_where_no_tree_stands(rt: HostRuntime) -> Result<(), Fail> {
     let mut image = image_of(rt.alloc(), FRESH_LEN, &FRESH)?;
     lay(&mut image, &UNREACHED);
-    let told = tell(rt.alloc(), &image, Ask::Log(0))?;
-    assert!(rt; told.end == ImageEnd::Done);
+    let told = tell(rt.alloc(), &image, "log img 0")?;
+    assert!(rt; told.status == DONE);
     assert!(rt; told.text.as_slice() == b"! end\n".as_slice());
     Ok(())
 }
@@ -86,8 +174,8 @@ fn a_log_is_read_also_where_no_tree_stands(rt: HostRuntime) -> Result<(), Fail> 
 #[test]
 fn the_fresh_image_has_an_empty_root(rt: HostRuntime) -> Result<(), Fail> {
     let image = image_of(rt.alloc(), FRESH_LEN, &FRESH)?;
-    let told = tell(rt.alloc(), &image, Ask::Recover)?;
-    assert!(rt; told.end == ImageEnd::Done);
+    let told = tell(rt.alloc(), &image, "recover img")?;
+    assert!(rt; told.status == DONE);
     assert!(rt; told.text.as_slice() == b"= / dir 0\n! end\n".as_slice());
     Ok(())
 }

@@ -8,6 +8,7 @@ pub const DONE: Status = Status {
     code: 0,
     line: 0,
     at: 0,
+    sector: 0,
 };
 
 pub fn words_of(alloc: Global, words: &[&str]) -> Result<Vec<String>, AllocError> {

@@ -84,7 +84,16 @@ fn expect_status(
 ) -> Result<(), Fail> {
     let told = tell(alloc, words, file)?;
     let (code, line, at) = wanted;
-    assert_eq!(rt; told.status, Status { code, line, at });
+    let sector = 0;
+    assert_eq!(rt;
+        told.status,
+        Status {
+            code,
+            line,
+            at,
+            sector
+        }
+    );
     assert_eq!(rt; told.acts, 0);
     Ok(())
 }
@@ -99,7 +108,10 @@ fn a_call_that_is_refused_says_nothing(rt: HostRuntime) -> Result<(), Fail> {
         "walk s",
         "run s s",
         "run s --segments",
-        "run --segments 1 s",
+        "run --segments s",
+        "run s --segments 1 --segments=1",
+        "run -- s --segments 1",
+        "run s --help",
         "run s --save f",
     ] {
         let mut words = Vec::new(alloc);
@@ -126,6 +138,17 @@ fn options_have_their_form(rt: HostRuntime) -> Result<(), Fail> {
             b"",
             (2, 0, 0),
         )?;
+    }
+    for line in ["run --segments 1 s", "run -- s", "run s --segments=64"] {
+        let mut words = Vec::new(alloc);
+        for word in line.split_whitespace() {
+            words.push(word)?;
+        }
+        let told = tell(alloc, &words, b"")?;
+        assert!(rt;
+            told.status == DONE && told.text.as_slice() == b"= / dir 0\n! end\n".as_slice(),
+            "{line}"
+        );
     }
     Ok(())
 }
@@ -171,7 +194,8 @@ fn a_say_that_fails_ends_the_run(rt: HostRuntime) -> Result<(), Fail> {
             Status {
                 code: 5,
                 line: 0,
-                at
+                at,
+                sector: 0
             }
         );
         let text = lines_said(alloc, out.acts())?;

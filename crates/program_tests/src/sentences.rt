@@ -36,12 +36,22 @@ fn statuses_are_told_in_words(rt: HostRuntime) -> Result<(), Fail> {
         (2, 0, 0, "the words are no command; the commands are"),
         (3, 0, 0, "want of memory"),
         (4, 0, 0, "the script can't be read"),
+        (4, 1, 0, "the image can't be read"),
         (5, 0, 7, "a line can't be said, after 7 lines"),
+        (6, 8, 0, "image: its replayed disk stands for no tree"),
+        (7, 0, 0, "the image can't be written"),
         (8, 0, 1_048_576, "the script has more than 1048576 bytes"),
-        (6, 0, 0, "an unknown status"),
+        (8, 1, 536_870_912, "the image has more than 536870912 bytes"),
+        (9, 0, 0, "an unknown status"),
     ];
     for (code, line, at, words) in rows {
-        let sentence = Status { code, line, at }.sentence(rt.alloc())?;
+        let status = Status {
+            code,
+            line,
+            at,
+            sector: 0,
+        };
+        let sentence = status.sentence(rt.alloc())?;
         assert!(rt;
             sentence.as_str() == words,
             "status {code} at {at}: {sentence}"

@@ -1,5 +1,5 @@
 use Rattle.std.proofs.Common.{rules}
-use Rattle.frang_top.specs.Asked.{asks_of}
+use Rattle.command_words.specs.Views.{asks_of}
 use Rattle.frang_top.proofs.Asking.{bytes_run, failed_run, long_run, want_run}
 use Rattle.frang_top.proofs.top.run_command.Goals as goal
 

@@ -9,7 +9,7 @@ returns-in-Some g c =
     inl (c.in-Some.recovery.lines.items, c.in-Some.recovery.disk, gives.0, gives.1, c.say_and_save.ensures)
 
 pub returns-in-None : goal.returns-in-None
-returns-in-None g c = inr (c.requires, refl, inr (refl, subst (GivesRecovery c.args.disk.now) c.in-None.is c.in-Ok.ensures))
+returns-in-None g c = inr (c.requires, refl, inr (c.no_tree.ensures, subst (GivesRecovery c.args.disk.now) c.in-None.is c.in-Ok.ensures))
 
 pub returns-in-Err : goal.returns-in-Err
 returns-in-Err g c = inr (c.requires, refl, inl refl)

@@ -1,0 +1,42 @@
+-- What some words ask.
+use Rattle.std.specs.Prelude.{◌≡◌, Some, None, [], ◌∷◌, codes, refl}
+use Rattle.command_words.specs.Commands.{OnImage, Recover, Tree, Log, asked_by}
+
+-- a name and its option, which may stand before it
+with_a_save : asked_by (codes "recover" ∷ codes "--save" ∷ codes "new" ∷ codes "img" ∷ []) ≡ Some (OnImage (Recover (codes "img") (Some (codes "new"))))
+with_a_save = refl
+
+-- a value that begins with `-` stands after `=`
+with_a_dash : asked_by (codes "recover" ∷ codes "img" ∷ codes "--save=-new" ∷ []) ≡ Some (OnImage (Recover (codes "img") (Some (codes "-new"))))
+with_a_dash = refl
+
+no_value : asked_by (codes "recover" ∷ codes "img" ∷ codes "--save" ∷ codes "-new" ∷ []) ≡ None
+no_value = refl
+
+-- a name that begins with `-` stands after `--`, and so does a name like an option's
+after_the_options : asked_by (codes "tree" ∷ codes "--" ∷ codes "--save" ∷ []) ≡ Some (OnImage (Tree (codes "--save")))
+after_the_options = refl
+
+-- a lone `-` is a name
+a_lone_dash : asked_by (codes "tree" ∷ codes "-" ∷ []) ≡ Some (OnImage (Tree (codes "-")))
+a_lone_dash = refl
+
+-- an option of another command, one that is given twice, one that nobody has
+another_option : asked_by (codes "tree" ∷ codes "img" ∷ codes "--save" ∷ codes "new" ∷ []) ≡ None
+another_option = refl
+
+given_twice : asked_by (codes "run" ∷ codes "s" ∷ codes "--segments=2" ∷ codes "--segments=2" ∷ []) ≡ None
+given_twice = refl
+
+unknown : asked_by (codes "run" ∷ codes "--help" ∷ codes "s" ∷ []) ≡ None
+unknown = refl
+
+-- logs are 0 to 255, without a leading zero
+last_log : asked_by (codes "log" ∷ codes "img" ∷ codes "255" ∷ []) ≡ Some (OnImage (Log (codes "img") 255))
+last_log = refl
+
+no_log : asked_by (codes "log" ∷ codes "img" ∷ codes "256" ∷ []) ≡ None
+no_log = refl
+
+leading_zero : asked_by (codes "log" ∷ codes "img" ∷ codes "00" ∷ []) ≡ None
+leading_zero = refl
