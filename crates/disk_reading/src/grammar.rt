@@ -12,16 +12,18 @@ use disk_definitions::Disk;
 use frang_base::limits::{SEGMENT_BLOCKS, SEGMENT_INODES, SEGMENTS_MAX, SMALL_BLOCK_SECTORS};
 use frang_layout::{Region, sector_of};
 
+/// Whether a segment of the bitmap is in its grammar, with a version up to `most`.
 #[tactic(auto, unfolding(crate::specs::Fits::segment_fits))]
-fn segment_fits(disk: &Disk, most: u64, k: u32) -> bool
+pub fn segment_fits(disk: &Disk, most: u64, k: u32) -> bool
     ensures { result ≡ fits.segment_fits most (sectors_of disk.now) k }
 {
     let block = disk.get(sector_of(&Region::Segment(k)));
     bitmap_block::decode(&block).is_some() && LittleEndian::read_u64(&block) <= most
 }
 
+/// Whether an inode is in its grammar, with a version up to `most`.
 #[tactic(auto, unfolding(crate::specs::Fits::inode_fits))]
-fn inode_fits(disk: &Disk, most: u64, i: u32) -> bool
+pub fn inode_fits(disk: &Disk, most: u64, i: u32) -> bool
     ensures { result ≡ fits.inode_fits most (sectors_of disk.now) i }
 {
     let block = disk.get(sector_of(&Region::Inode(i)));
@@ -36,8 +38,9 @@ fn part_fits(disk: &Disk, most: u64, block: u32, part: u8) -> bool
     dir_block::decode(&bytes).is_some() && LittleEndian::read_u64(&bytes) <= most
 }
 
+/// Whether the parts of a block are sectors of a directory, with versions up to `most`.
 #[tactic(auto, using(standing_laws::proofs::Bounded::all_more))]
-fn parts_fit(disk: &Disk, most: u64, block: u32) -> bool
+pub fn parts_fit(disk: &Disk, most: u64, block: u32) -> bool
     ensures { result ≡ all_below SMALL_BLOCK_SECTORS (fits.part_fits most (sectors_of disk.now) block) }
 {
     let mut all = true;

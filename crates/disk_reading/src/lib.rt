@@ -4,14 +4,14 @@
 #![tactic(auto)]
 
 mod files;
-mod grammar;
+pub mod grammar;
 mod links;
-mod marks;
+pub mod marks;
 mod nodes;
 mod owners;
 mod reached;
 mod read;
-mod sectors;
+pub mod sectors;
 
 pub use disk_definitions::Disk;
 pub use disk_replay::{greatest, replayed};

@@ -29,7 +29,7 @@ fn bit_agrees(disk: &Disk, segments: u32, i: u32) -> bool
 }
 
 /// The small block at an index of an inode, where it has one there.
-pub(crate) fn block_at(disk: &Disk, segments: u32, t: u32) -> Option<u32>
+pub fn block_at(disk: &Disk, segments: u32, t: u32) -> Option<u32>
     requires { segments ≤ SEGMENTS_MAX }
     ensures { result ≡ sound.block_at (store_in segments disk.now) t }
 {
@@ -43,7 +43,7 @@ pub(crate) fn block_at(disk: &Disk, segments: u32, t: u32) -> Option<u32>
 }
 
 /// The large block of an inode, where it has one.
-pub(crate) fn large_at(disk: &Disk, segments: u32, i: u32) -> Option<u32>
+pub fn large_at(disk: &Disk, segments: u32, i: u32) -> Option<u32>
     requires { segments ≤ SEGMENTS_MAX }
     ensures { result ≡ sound.large_at (store_in segments disk.now) i }
 {
@@ -55,7 +55,8 @@ pub(crate) fn large_at(disk: &Disk, segments: u32, i: u32) -> Option<u32>
     }
 }
 
-fn is_used_for(kind: u8, state: BlockState) -> bool
+/// Whether a node of this kind uses a block of this state.
+pub fn is_used_for(kind: u8, state: BlockState) -> bool
     ensures { result ≡ sound.is_used_for kind (use_of_state state) }
 {
     match state {
@@ -82,7 +83,7 @@ fn use_agrees(disk: &Disk, segments: u32, t: u32) -> bool
 }
 
 /// Whether no node uses a block of this state.
-pub(crate) fn is_unused(state: BlockState) -> bool
+pub fn is_unused(state: BlockState) -> bool
     ensures { result ≡ store.is_unused (use_of_state state) }
 {
     match state {
@@ -93,8 +94,9 @@ pub(crate) fn is_unused(state: BlockState) -> bool
     }
 }
 
+/// Whether no place of a small block has an entry.
 #[tactic(auto, using(standing_laws::proofs::Bounded::all_more))]
-fn has_no_entries(disk: &Disk, segments: u32, block: u32) -> bool
+pub fn has_no_entries(disk: &Disk, segments: u32, block: u32) -> bool
     requires { segments ≤ SEGMENTS_MAX }
     ensures { result ≡ all_below BLOCK_ENTRIES (λ p. not (is_some ((store_in segments disk.now).place block p))) }
 {

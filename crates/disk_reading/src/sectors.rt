@@ -23,21 +23,21 @@ use frang_layout::{Region, sector_of};
 use sector_definitions::{DirEntry, DirSector, Inode};
 
 /// Segment `k` of the bitmap. `None` exactly where its sector isn't in its grammar.
-pub(crate) fn segment_at(disk: &Disk, k: u32) -> Option<Bitmap>
+pub fn segment_at(disk: &Disk, k: u32) -> Option<Bitmap>
     ensures { result ≡ bitmap_in (sectors_of disk.now (sector_of (region.Segment k))) }
 {
     bitmap_block::decode(&disk.get(sector_of(&Region::Segment(k))))
 }
 
 /// Inode `i`. `None` exactly where its sector isn't in its grammar.
-pub(crate) fn inode_at(disk: &Disk, i: u32) -> Option<Inode>
+pub fn inode_at(disk: &Disk, i: u32) -> Option<Inode>
     ensures { result ≡ inode_in (sectors_of disk.now (sector_of (region.Inode i))) }
 {
     inode_block::decode(&disk.get(sector_of(&Region::Inode(i))))
 }
 
 /// A part of a small block as a sector of a directory. `None` exactly where it isn't in its grammar.
-pub(crate) fn directory_at(disk: &Disk, block: u32, part: u8) -> Option<DirSector>
+pub fn directory_at(disk: &Disk, block: u32, part: u8) -> Option<DirSector>
     ensures { result ≡ directory_in (sectors_of disk.now (sector_of (region.Small block part))) }
 {
     dir_block::decode(&disk.get(sector_of(&Region::Small { block, part })))
@@ -45,7 +45,7 @@ pub(crate) fn directory_at(disk: &Disk, block: u32, part: u8) -> Option<DirSecto
 
 /// Inode `i`, where it is in use. `None` exactly where it is free, past the segments, or not in its grammar.
 #[tactic(auto, using(crate::proofs::Decoded::decoded_node), unfolding(crate::specs::Seen::store_in))]
-pub(crate) fn used_inode(disk: &Disk, segments: u32, i: u32) -> Option<Inode>
+pub fn used_inode(disk: &Disk, segments: u32, i: u32) -> Option<Inode>
     requires { segments ≤ SEGMENTS_MAX }
     ensures is { option_map stored result ≡ (store_in segments disk.now).inode i }
     ensures fits { IfSome result (λ x. inode_fits x ≡ true) }
@@ -64,7 +64,7 @@ pub(crate) fn used_inode(disk: &Disk, segments: u32, i: u32) -> Option<Inode>
 
 /// Whether the bit of inode `i` is set; past the segments it isn't.
 #[tactic(auto, unfolding(crate::specs::Seen::store_in))]
-pub(crate) fn bit_of(disk: &Disk, segments: u32, i: u32) -> bool
+pub fn bit_of(disk: &Disk, segments: u32, i: u32) -> bool
     requires { segments ≤ SEGMENTS_MAX }
     ensures { result ≡ (store_in segments disk.now).bit i }
 {
@@ -79,7 +79,7 @@ pub(crate) fn bit_of(disk: &Disk, segments: u32, i: u32) -> bool
 
 /// What a small block is used for; past the segments it is unused.
 #[tactic(auto, unfolding(crate::specs::Seen::store_in))]
-pub(crate) fn use_of(disk: &Disk, segments: u32, block: u32) -> BlockState
+pub fn use_of(disk: &Disk, segments: u32, block: u32) -> BlockState
     requires { segments ≤ SEGMENTS_MAX }
     ensures { use_of_state result ≡ (store_in segments disk.now).use_of block }
 {
@@ -94,7 +94,7 @@ pub(crate) fn use_of(disk: &Disk, segments: u32, block: u32) -> BlockState
 
 /// Whether large block `g` is in use; past the segments it isn't.
 #[tactic(auto, unfolding(crate::specs::Seen::store_in))]
-pub(crate) fn large_bit(disk: &Disk, segments: u32, g: u32) -> bool
+pub fn large_bit(disk: &Disk, segments: u32, g: u32) -> bool
     requires { segments ≤ SEGMENTS_MAX }
     ensures { result ≡ (store_in segments disk.now).large_bit g }
 {
@@ -110,7 +110,7 @@ pub(crate) fn large_bit(disk: &Disk, segments: u32, g: u32) -> bool
 /// The entry at a place of a small block, 0 to 55. `None` exactly where the place is free, the block past the segments, or the sector
 /// not in its grammar.
 #[tactic(auto, unfolding(crate::specs::Seen::store_in))]
-pub(crate) fn entry_at(disk: &Disk, segments: u32, block: u32, place: u32) -> Option<DirEntry>
+pub fn entry_at(disk: &Disk, segments: u32, block: u32, place: u32) -> Option<DirEntry>
     requires few { segments ≤ SEGMENTS_MAX }
     requires place { place < BLOCK_ENTRIES }
     ensures is { option_map entered result ≡ (store_in segments disk.now).place block place }
@@ -129,7 +129,7 @@ pub(crate) fn entry_at(disk: &Disk, segments: u32, block: u32, place: u32) -> Op
 }
 
 /// Whether inode `i` is in use and of this kind.
-pub(crate) fn has_kind(disk: &Disk, segments: u32, i: u32, kind: u8) -> bool
+pub fn has_kind(disk: &Disk, segments: u32, i: u32, kind: u8) -> bool
     requires { segments ≤ SEGMENTS_MAX }
     ensures { result ≡ sound.has_kind ((store_in segments disk.now).inode i) kind }
 {

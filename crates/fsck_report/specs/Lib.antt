@@ -1,0 +1,9 @@
+pub mod Seen
+pub mod Walks
+pub mod Users
+pub mod Directories
+pub mod Names
+pub mod Repeats
+pub mod Tables
+pub mod Told
+pub mod Entries
