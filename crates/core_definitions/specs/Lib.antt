@@ -1,0 +1,14 @@
+pub mod Settings
+pub mod Sets
+pub mod Rings
+pub mod Caches
+pub mod Logs
+pub mod Plans
+pub mod Lines
+pub mod Flights
+pub mod Recoveries
+pub mod Servers
+pub mod Writes
+pub mod Scripts
+pub mod Trees
+pub mod Cores

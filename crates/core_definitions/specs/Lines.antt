@@ -1,0 +1,158 @@
+-- The line under way of a server, and how far a line over paths has come.
+use Rattle.std.specs.Prelude.{ℕ, ◌==◌, Bool, true, false, not, ◌&&◌, if◌then◌else◌, Option, Some, None, is_some, List, [], ◌∷◌, ◌++◌, map, filter, fold}
+use Rattle.std.specs.List.{list_any}
+use Rattle.std.specs.Option.{option_map, unwrap_or}
+use Rattle.frang_base.specs.declared.lock.LockId.{LockId}
+use Rattle.frang_base.specs.declared.lock.LockId.TheVariants.{Log, Segment, Node}
+use Rattle.frang_base.specs.declared.lock.Mode.{Mode}
+use Rattle.frang_base.specs.declared.lock.Mode.TheVariants.{Shared, Sole}
+use Rattle.frang_base.specs.declared.op.Op.{Op}
+use Rattle.frang_base.specs.declared.op.What.{What}
+use Rattle.frang_base.specs.declared.op.What.TheVariants.{Server, Host}
+use Rattle.frang_base.specs.declared.reply.Reply.{Reply}
+use Rattle.frang_base.specs.declared.script.Line.{Line}
+use Rattle.tree_definitions.specs.Apply.{is_path_op}
+use Rattle.lock_definitions.specs.Locks.{Locks}
+use Rattle.sector_bytes.specs.Blocks.{Block, version_of}
+use Rattle.sector_bytes.specs.SectorMaps.{value_at}
+use Rattle.sector_definitions.specs.Regions.{sector_of}
+use Rattle.sector_definitions.specs.declared.region.Region.TheVariants as region
+use Rattle.plan_definitions.specs.Ask.{Ask, Met, Sector, number_of}
+use Rattle.plan_definitions.specs.Ask.Met.{Needs, Has}
+use Rattle.plan_definitions.specs.Plans.{Lock, Plan}
+use Rattle.plan_definitions.specs.Plans.Plan.{Lacks, Clears, Finishes}
+use Rattle.plan_definitions.specs.Written.{Cached}
+use Rattle.core_definitions.specs.Caches.{Cache}
+use Rattle.core_definitions.specs.Logs.{SlotsRead}
+use Rattle.core_definitions.specs.Plans.{Sight, Outcome, cover_of, examined, outcome_of, planned, program_of, sight_of}
+use Rattle.core_definitions.specs.Sets.{LockSet, first_set, has_lock, lacks, next_segment, segments_in, to_ask}
+use Rattle.core_definitions.specs.Settings.{Setting}
+
+-- sectors with their versions, in the order in which they were first seen
+abbrev pub Seen : Type 0
+Seen = List (ℕ × ℕ)
+
+-- the line, and the answer that is fixed for it if one is; its set and what it has seen; for a mount the slots of its log that were read, and whether a get failed under it
+pub record Under : Type 0 where
+  pub line : Line
+  pub fixed : Option Reply
+  pub set : LockSet
+  pub seen : Seen
+  pub slots : SlotsRead
+  pub get_failed : Bool
+
+-- what a line asks of its server
+abbrev pub operation_of : What → Option Op
+operation_of (Server operation) = Some operation
+operation_of (Host asked) = None
+
+-- the set of a line over paths begins as the root's lock; nothing is seen
+abbrev pub set_at_first : Op → LockSet
+set_at_first operation = if is_path_op operation then first_set else []
+
+abbrev pub under_at_first : Line → Op → Option Reply → Under
+under_at_first line operation fixed = record { line = line; fixed = fixed; set = set_at_first operation; seen = []; slots = []; get_failed = false }
+
+-- ---- what was seen
+
+-- the seen sectors are compared in their order, as far as they are cached under a cover in the set: the first with another version than the one seen has moved and ends it
+pub data Comparison : Type 0 where
+  HasMoved : Comparison
+  HasStopped : Comparison
+  HasGoneThrough : Comparison
+
+abbrev pub compared_at : ℕ → Option Block → Comparison → Comparison
+compared_at version None rest = HasStopped
+compared_at version (Some block) rest = if version_of block == version then rest else HasMoved
+
+abbrev pub compared : Seen → Cached → Comparison
+compared [] cached = HasGoneThrough
+compared (seen ∷ others) cached = compared_at seen.1 (value_at cached seen.0) (compared others cached)
+
+abbrev pub is_seen : Seen → ℕ → Bool
+is_seen seen sector = list_any (λ one. one.0 == sector) seen
+
+-- a sector that isn't seen yet is seen, behind the others, with its cached version
+abbrev pub with_seen : Cached → Seen → ℕ → Seen
+with_seen cached seen sector = if is_seen seen sector then seen else seen ++ (sector, unwrap_or (option_map version_of (value_at cached sector)) 0) ∷ []
+
+abbrev pub seen_more : Cached → Seen → List ℕ → Seen
+seen_more cached seen sectors = fold (with_seen cached) seen sectors
+
+-- ---- how far it has come
+
+-- the first of these that fits
+pub data Stage : Type 0 where
+  Asking : (need : Lock) → Stage  -- a lock of the set lacks: the least one
+  Fetching : (needs : List (ℕ × LockId)) → Stage  -- bitmaps of the set lack, or one sector that the plan needs; each with its cover
+  Moving : Stage  -- a seen sector has moved
+  Stopping : Stage  -- the comparison hasn't gone through; it never comes to this
+  Growing : (needs : List Lock) (seen : Seen) → Stage  -- the set lacks one of these locks; and what is seen then
+  Clearing : (block : ℕ) → Stage  -- the plan is `Clear`
+  Finishing : (outcome : Outcome) → Stage  -- the plan is `Done`
+
+abbrev pub bitmap_sector : ℕ → ℕ
+bitmap_sector segment = sector_of (region.Segment segment)
+
+-- the bitmaps of the segments in the set that aren't cached
+abbrev pub missing_bitmaps : LockSet → Cache → List (ℕ × LockId)
+missing_bitmaps set cache =
+    map (λ segment. (bitmap_sector segment, Segment segment)) (filter (λ segment. not (is_some (value_at cache (bitmap_sector segment)))) (segments_in set))
+
+-- a segment is needed sole and a node shared
+abbrev pub needed_mode : LockId → Mode
+needed_mode (Log log) = Shared
+needed_mode (Segment segment) = Sole
+needed_mode (Node inode) = Shared
+
+abbrev pub sole_segment : Option ℕ → List Lock
+sole_segment None = []
+sole_segment (Some segment) = (Segment segment, Sole) ∷ []
+
+-- only where the comparison has gone through
+abbrev pub once_through : Comparison → Stage → Stage
+once_through HasGoneThrough stage = stage
+once_through HasStopped stage = Stopping
+once_through HasMoved stage = Moving
+
+-- the set grows where it lacks one of the locks that the plan finds
+abbrev pub or_grown : LockSet → List Lock → Seen → Stage → Stage
+or_grown set needs seen stage = if list_any (lacks set) needs then Growing needs seen else stage
+
+-- a sector that the plan needs, with its cover: it is fetched where the cover is in the set; else the cover is found
+abbrev pub needing : Comparison → LockSet → Seen → ℕ → LockId → Stage
+needing comparison set seen sector cover =
+    if has_lock set cover then Fetching ((sector, cover) ∷ []) else once_through comparison (Growing ((cover, needed_mode cover) ∷ []) seen)
+
+-- by what the plan comes to; the next segment to join is this one
+abbrev pub stage_by : Setting → Line → Sight → LockSet → Option ℕ → Comparison → Seen → Met Plan → Stage
+stage_by setting line sight set next comparison seen (Needs sector) = needing comparison set seen (number_of sector) (cover_of setting.segments sight sector)
+stage_by setting line sight set next comparison seen (Has Lacks) = once_through comparison (Growing (sole_segment next) seen)
+stage_by setting line sight set next comparison seen (Has (Clears block locks)) = once_through comparison (or_grown set locks seen (Clearing block))
+stage_by setting line sight set next comparison seen (Has (Finishes finish)) =
+    once_through comparison (or_grown set finish.locks seen (Finishing (outcome_of setting line sight finish)))
+
+-- with the set held and the bitmaps at hand: what was seen is compared, and then the line is planned
+abbrev pub stage_over : Setting → Under → Option ℕ → Sight → Comparison → Ask Plan → Stage
+stage_over setting under next sight HasMoved program = Moving
+stage_over setting under next sight comparison program =
+    stage_by setting under.line sight under.set next comparison (seen_more sight.cached under.seen (examined setting.segments program sight)) (planned program sight)
+
+abbrev pub stage_in_sight : Setting → Under → Op → Option ℕ → Sight → Stage
+stage_in_sight setting under operation next sight =
+    stage_over setting under next sight (compared under.seen sight.cached) (program_of setting under.line operation sight)
+
+-- with the set held
+abbrev pub stage_held : Setting → Locks → ℕ → Cache → Under → Op → List (ℕ × LockId) → Stage
+stage_held setting locks server cache under operation [] =
+    stage_in_sight setting under operation (next_segment setting.segments locks server under.set) (sight_of setting.segments under.set cache)
+stage_held setting locks server cache under operation (missing ∷ others) = Fetching (missing ∷ others)
+
+abbrev pub stage_asked : Setting → Locks → ℕ → Cache → Under → Op → Option Lock → Stage
+stage_asked setting locks server cache under operation (Some need) = Asking need
+stage_asked setting locks server cache under operation None = stage_held setting locks server cache under operation (missing_bitmaps under.set cache)
+
+-- of a line over paths that is under way with an open answer, at a server that is up
+abbrev pub stage_at : Setting → Locks → ℕ → Cache → Under → Op → Stage
+stage_at setting locks server cache under operation =
+    stage_asked setting locks server cache under operation (to_ask locks server under.set)

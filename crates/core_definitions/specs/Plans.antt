@@ -1,0 +1,184 @@
+-- What a line's plan is while its set is held: what it is made over, what it examines, which lock covers each sector, and what it comes to once it is finished.
+use Rattle.std.specs.Prelude.{ℕ, ◌+◌, ◌/◌, Bool, true, false, ◌||◌, ◌&&◌, ◌==◌, if◌then◌else◌, Option, Some, None, List, [], ◌∷◌, find, filter, map}
+use Rattle.std.specs.List.{filter_map, list_all, take_while}
+use Rattle.std.specs.Option.{option_and_then, option_map, unwrap_or}
+use Rattle.frang_base.specs.declared.limits.TheConstants.{SEGMENT_BLOCKS, SEGMENT_INODES}
+use Rattle.frang_base.specs.declared.bitmap.Bitmap.{Bitmap}
+use Rattle.frang_base.specs.declared.change.Change.{Change}
+use Rattle.frang_base.specs.declared.change.Redo.{Redo}
+use Rattle.frang_base.specs.declared.lock.LockId.{LockId}
+use Rattle.frang_base.specs.declared.lock.LockId.TheVariants.{Segment, Node}
+use Rattle.frang_base.specs.declared.op.Op.{Op}
+use Rattle.frang_base.specs.declared.reply.Reply.{Reply}
+use Rattle.frang_base.specs.declared.script.Line.{Line}
+use Rattle.tree_definitions.specs.Live.{number_of as operation_number, script_time, time_in}
+use Rattle.tree_definitions.specs.Numbers.{below}
+use Rattle.sector_bytes.specs.Blocks.{Block}
+use Rattle.sector_bytes.specs.SectorMaps.{value_at}
+use Rattle.sector_definitions.specs.declared.region.Region.{Region}
+use Rattle.sector_definitions.specs.declared.region.Region.TheVariants as region
+use Rattle.sector_definitions.specs.Bitmaps.{bitmap_in}
+use Rattle.sector_definitions.specs.Inodes.{inode_in}
+use Rattle.sector_definitions.specs.Regions.{region_of, sector_of}
+use Rattle.disk_definitions.specs.Store.{StoredNode, store_of, stored_node}
+use Rattle.pick_definitions.specs.Held.{Segments, inode_in as bit_in, large_in, state_in}
+use Rattle.pick_definitions.specs.Picks.{is_free, is_in_state}
+use Rattle.store_changes.specs.Edits.{Edit}
+use Rattle.store_changes.specs.Edits.Edit.{SetBytes, SetLargeBytes}
+use Rattle.plan_definitions.specs.Ask.{Ask, AtHand, Met, Sector, InodeAt, DirectoryAt, SegmentAt, BytesAt, LargeAt, looks, meet, number_of}
+use Rattle.plan_definitions.specs.Missing.{is_at_hand}
+use Rattle.plan_definitions.specs.Plans.{Finish, Plan}
+use Rattle.plan_definitions.specs.Written.{Cached, at_hand, changes_of, edited_block, freed_sectors, hand_of, sectors_at_hand}
+use Rattle.plan_moves.specs.Moves.{is_small_of, moved_by, node_lock}
+use Rattle.line_definitions.specs.Lines.{plan_of_line}
+use Rattle.core_definitions.specs.Caches.{Cache, usable}
+use Rattle.core_definitions.specs.Sets.{LockSet, has_lock, segments_in}
+use Rattle.core_definitions.specs.Settings.{Setting}
+
+-- ---- what a plan is made over
+
+-- the cached sectors that may be used, the bitmaps of the segments in the set, and whether these are all segments of the disk
+pub record Sight : Type 0 where
+  pub cached : Cached
+  pub held : Segments
+  pub all : Bool
+
+-- a segment with its bitmap, where that is cached
+abbrev pub bitmap_at : Cached → ℕ → Option (ℕ × Bitmap)
+bitmap_at cached segment = option_map (λ bitmap. (segment, bitmap)) (option_and_then bitmap_in (value_at cached (sector_of (region.Segment segment))))
+
+-- the line is planned over the cached sectors whose cover is in the set and over the bitmaps of the segments in the set
+abbrev pub sight_over : ℕ → LockSet → Cached → Sight
+sight_over segments set cached = record {
+  cached = cached;
+  held = filter_map (bitmap_at cached) (segments_in set);
+  all = list_all (λ segment. has_lock set (Segment segment)) (below segments);
+}
+
+abbrev pub sight_of : ℕ → LockSet → Cache → Sight
+sight_of segments set cache = sight_over segments set (usable set cache)
+
+abbrev pub known_in : Sight → AtHand
+known_in sight = at_hand sight.cached sight.held
+
+-- its paths are resolved, and what the operation comes to is planned; a new node has the line's number as its birth, a file that is written the line's time
+abbrev pub program_of : Setting → Line → Op → Sight → Ask Plan
+program_of setting line operation sight =
+    plan_of_line (hand_of sight.cached sight.held sight.all) (operation_number setting.run line.number) (time_in setting.run (script_time setting.script line.number)) operation
+
+-- what it comes to, or the first sector that it needs
+abbrev pub planned : Ask Plan → Sight → Met Plan
+planned program sight = meet program (known_in sight)
+
+-- ---- what it examines
+
+-- file bytes have no version
+abbrev pub has_version : Sector → Bool
+has_version (InodeAt inode) = true
+has_version (DirectoryAt block part) = true
+has_version (SegmentAt segment) = true
+has_version (BytesAt block part) = false
+has_version (LargeAt segment part) = false
+
+-- the sectors with a version that the plan examines, in order, before the first that isn't at hand
+abbrev pub examined : ℕ → Ask Plan → Sight → List ℕ
+examined segments program sight =
+    map number_of (filter has_version (take_while (is_at_hand (known_in sight)) (looks program (store_of segments (sectors_at_hand sight.cached sight.held)))))
+
+-- ---- which lock covers a sector
+
+-- the inode that a cached sector is, where it is in use
+abbrev pub node_in : Option Region → Block → Option (ℕ × StoredNode)
+node_in (Some (region.Inode inode)) block = option_map (λ node. (inode, node)) (stored_node (inode_in block))
+node_in _ block = None
+
+-- the nodes at hand
+abbrev pub nodes_in : ℕ → Sight → List (ℕ × StoredNode)
+nodes_in segments sight = filter_map (λ entry. node_in (region_of segments entry.0) entry.1) sight.cached
+
+-- the lock of the node that has it; the segment's where none has, since then it is free
+abbrev pub cover_by : Option (ℕ × StoredNode) → ℕ → LockId
+cover_by None segment = Segment segment
+cover_by (Some node) segment = node_lock node.0
+
+-- the segment of its bit for an inode or a block that a segment in the set marks free; for any other inode its own lock, for any other block the node that has it
+abbrev pub inode_cover : Sight → ℕ → LockId
+inode_cover sight inode = if is_free (bit_in sight.held inode) then Segment (inode / SEGMENT_INODES) else node_lock inode
+
+abbrev pub is_marked_unused : Sight → ℕ → Bool
+is_marked_unused sight block = is_in_state 0 (state_in sight.held block) || is_in_state 2 (state_in sight.held block)
+
+abbrev pub small_cover : ℕ → Sight → ℕ → LockId
+small_cover segments sight block =
+    if is_marked_unused sight block then Segment (block / SEGMENT_BLOCKS)
+    else cover_by (find (λ node. is_small_of block node.1) (nodes_in segments sight)) (block / SEGMENT_BLOCKS)
+
+abbrev pub large_cover : ℕ → Sight → ℕ → LockId
+large_cover segments sight segment =
+    if is_free (large_in sight.held segment) then Segment segment
+    else cover_by (find (λ node. node.1.large == segment + 1) (nodes_in segments sight)) segment
+
+-- the cover of a sector that the plan needs
+abbrev pub cover_of : ℕ → Sight → Sector → LockId
+cover_of segments sight (SegmentAt segment) = Segment segment
+cover_of segments sight (InodeAt inode) = inode_cover sight inode
+cover_of segments sight (DirectoryAt block part) = small_cover segments sight block
+cover_of segments sight (BytesAt block part) = small_cover segments sight block
+cover_of segments sight (LargeAt segment part) = large_cover segments sight segment
+
+-- ---- a finished plan
+
+-- a sector of an inode or of a block, by its number
+abbrev pub sector_in : Option Region → Option Sector
+sector_in None = None
+sector_in (Some region.Param) = None
+sector_in (Some (region.Log server slot)) = None
+sector_in (Some (region.Segment segment)) = Some (SegmentAt segment)
+sector_in (Some (region.Inode inode)) = Some (InodeAt inode)
+sector_in (Some (region.Small block part)) = Some (BytesAt block part)
+sector_in (Some (region.Large segment part)) = Some (LargeAt segment part)
+
+-- the lock under which these edits move a sector, where they do
+abbrev pub move_by : ℕ → List Edit → ℕ → Option LockId
+move_by segments edits number = option_and_then (moved_by edits) (sector_in (region_of segments number))
+
+-- a sector of file bytes that is set, with its cover
+pub record BytesSet : Type 0 where
+  pub sector : ℕ
+  pub block : Block
+  pub cover : LockId
+
+-- the answer, the record where there are changes, the sectors of file bytes that are set and those that are freed, and the covers that move
+pub record Outcome : Type 0 where
+  pub reply : Reply
+  pub redo : Option Redo
+  pub bytes : List BytesSet
+  pub freed : List ℕ
+  pub moves : ℕ → Option LockId  -- of sectors cached or not
+
+-- the record of a line, where it changes something
+abbrev pub record_of : ℕ → List Change → Option Redo
+record_of operation [] = None
+record_of operation (change ∷ changes) = Some (record { op = record { 0 = operation }; changes = change ∷ changes })
+
+-- where an edit sets file bytes
+abbrev pub place_of : Edit → Option Sector
+place_of (SetBytes block part bytes) = Some (BytesAt block part)
+place_of (SetLargeBytes segment part bytes) = Some (LargeAt segment part)
+place_of edit = None
+
+-- they come under the lock that the edits say, or stay under the file's
+abbrev pub set_by : ℕ → Sight → List Edit → Edit → Option BytesSet
+set_by segments sight edits edit =
+    option_map
+    (λ place. record { sector = number_of place; block = edited_block [] 0 edit; cover = unwrap_or (moved_by edits place) (cover_of segments sight place) })
+    (place_of edit)
+
+abbrev pub outcome_of : Setting → Line → Sight → Finish → Outcome
+outcome_of setting line sight finish = record {
+  reply = finish.reply;
+  redo = record_of (operation_number setting.run line.number) (changes_of (sectors_at_hand sight.cached sight.held) finish.edits);
+  bytes = filter_map (set_by setting.segments sight finish.edits) finish.edits;
+  freed = freed_sectors finish.edits;
+  moves = move_by setting.segments finish.edits;
+}

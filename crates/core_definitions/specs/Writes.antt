@@ -1,0 +1,106 @@
+-- The writes that a server or the host wants: of its log, in place, and of its recovery.
+use Rattle.std.specs.Prelude.{ℕ, ◌==◌, Bool, true, false, not, ◌&&◌, ◌||◌, if◌then◌else◌, nat_le, Option, Some, None, is_some, List, [], ◌∷◌, ◌++◌, map, fold}
+use Rattle.std.specs.List.{filter_map, list_any}
+use Rattle.std.specs.Option.{option_map}
+use Rattle.frang_base.specs.Functions.{member}
+use Rattle.frang_base.specs.declared.lock.LockId.{LockId}
+use Rattle.frang_base.specs.declared.lock.Mode.TheVariants.{Shared, Sole}
+use Rattle.tree_definitions.specs.Touched.{is_sync, is_unmount}
+use Rattle.lock_definitions.specs.Locks.{Locks, claims_of, held}
+use Rattle.lock_definitions.specs.Calls.{asked_for, serves}
+use Rattle.ring_definitions.specs.Rings.{Ring, last, sent}
+use Rattle.sector_bytes.specs.Blocks.{Block}
+use Rattle.sector_bytes.specs.SectorMaps.{with_value}
+use Rattle.core_definitions.specs.Settings.{LogRules, Setting}
+use Rattle.core_definitions.specs.Logs.{is_none, log_sector}
+use Rattle.core_definitions.specs.Rings.{has_room, is_in_window, is_oldest_named, next_write}
+use Rattle.core_definitions.specs.Caches.{Cache, Dirt, Kept, is_dirty_bytes}
+use Rattle.core_definitions.specs.Lines.{Stage, Finishing}
+use Rattle.core_definitions.specs.Flights.{Purpose, OfLog, InPlace, OfRecovery}
+use Rattle.core_definitions.specs.Recoveries.{Recovery, recovery_writes}
+use Rattle.core_definitions.specs.Servers.{Server, asks}
+
+-- on whose behalf, the block, what it is of, and its mark where it has one
+pub record Write : Type 0 where
+  pub behalf : ℕ
+  pub block : Block
+  pub purpose : Purpose
+  pub mark : Option ℕ
+
+-- by sector, ascending
+abbrev pub Writes : Type 0
+Writes = List (ℕ × Write)
+
+-- ---- why a sector in place, or the log, is wanted
+
+-- the plan is `Done`, and the ring has no room for its record
+abbrev pub lacks_room : Ring → Option Stage → Bool
+lacks_room ring (Some (Finishing outcome)) = not (has_room ring outcome.redo)
+lacks_room ring _ = false
+
+-- the lock is held sole, and asked
+abbrev pub is_pressed : Locks → ℕ → LockId → Bool
+is_pressed locks number lock = serves (held locks number lock) Sole && is_some (asked_for locks number lock)
+
+abbrev pub has_pressed : Locks → ℕ → Bool
+has_pressed locks number = list_any (λ claim. is_pressed locks number claim.0) (claims_of locks number)
+
+-- a dirty sector is wanted where it stays wanted; its zeros are pending; an unmount is under way; a sync is, and it is one of file bytes; its lock is held sole and asked; or the
+-- ring has no room and its oldest records name the sector
+abbrev pub is_place_wanted : Locks → ℕ → Server → Option Stage → ℕ → Kept → Bool
+is_place_wanted locks number server stage sector kept =
+    member sector server.staying || member sector server.pending || asks is_unmount server || (asks is_sync server && is_dirty_bytes kept)
+    || is_pressed locks number kept.cover || (lacks_room server.ring stage && is_oldest_named server.ring sector)
+
+-- with each of these causes the log is wanted up to its last number
+abbrev pub is_log_wanted : Locks → ℕ → Server → Option Stage → Bool
+is_log_wanted locks number server stage =
+    not (is_none server.pending) || asks is_unmount server || asks is_sync server || has_pressed locks number || lacks_room server.ring stage
+
+-- the log is wanted up to this number
+abbrev pub log_wanted_to : Locks → ℕ → Server → Option Stage → ℕ
+log_wanted_to locks number server stage = if is_log_wanted locks number server stage then last server.ring else server.staying_log
+
+-- ---- the writes
+
+-- a dirty sector that is wanted
+abbrev pub place_write : ℕ → Bool → Kept → Option Dirt → Option Write
+place_write number wanted kept None = None
+place_write number wanted kept (Some dirt) =
+    if wanted then Some (record { behalf = number; block = kept.block; purpose = InPlace kept.cover; mark = Some dirt.mark }) else None
+
+abbrev pub place_writes : Locks → ℕ → Server → Option Stage → Writes
+place_writes locks number server stage =
+    filter_map (λ entry. option_map (λ write. (entry.0, write)) (place_write number (is_place_wanted locks number server stage entry.0 entry.1) entry.1 entry.1.dirt)) server.cache
+
+-- of the log the first number not issued, where the log is wanted up to it or further
+abbrev pub log_write : LogRules → ℕ → ℕ → Option (ℕ × Block) → Writes
+log_write logs number upto None = []
+log_write logs number upto (Some (next, block)) =
+    if nat_le next upto then (log_sector logs number next, record { behalf = number; block = block; purpose = OfLog next; mark = None }) ∷ [] else []
+
+-- those of its recovery are on behalf of the dead server, and need no mark
+abbrev pub rescue_writes : LogRules → ℕ → Option Recovery → Writes
+rescue_writes logs segments None = []
+rescue_writes logs segments (Some recovery) =
+    map (λ write. (write.0, record { behalf = recovery.dead; block = write.1; purpose = OfRecovery; mark = None })) (recovery_writes logs segments recovery)
+
+-- all that it wants written
+abbrev pub wanted_writes : Setting → Locks → ℕ → Server → Option Stage → Writes
+wanted_writes setting locks number server stage =
+    fold (λ writes entry. with_value writes entry.0 entry.1) []
+    (rescue_writes setting.logs setting.segments server.recovery ++ place_writes locks number server stage
+    ++ log_write setting.logs number (log_wanted_to locks number server stage) (next_write server.ring))
+
+-- ---- what a write waits for
+
+-- its mark is reached
+abbrev pub is_mark_reached : Ring → Option ℕ → Bool
+is_mark_reached ring None = true
+is_mark_reached ring (Some mark) = nat_le mark ring.reached
+
+-- of its log no number more than 64 past the acknowledged ones is in flight
+abbrev pub keeps_window : Ring → Purpose → Bool
+keeps_window ring (OfLog number) = is_in_window ring number
+keeps_window ring (InPlace cover) = true
+keeps_window ring OfRecovery = true

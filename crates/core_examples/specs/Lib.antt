@@ -1,0 +1,7 @@
+pub mod SmallLogs
+pub mod Driving
+pub mod Choosing
+pub mod Rows
+pub mod Deaths
+pub mod Flushes
+pub mod Orders

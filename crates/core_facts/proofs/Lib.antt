@@ -1,0 +1,5 @@
+mod Ending
+mod Timing
+pub mod Memory
+pub mod Resting
+mod Ashore
