@@ -1,0 +1,233 @@
+// A run of entries that lie in one piece of memory.
+ghost use Rattle.std.specs.Prelude.{◌≡◌, ◌+◌, ◌<◌, ◌≤◌, ◌++◌, [], length, reverse, take, drop, slice_index_or, vec_len, vec_capacity, Option, IfOk};
+ghost use Rattle.std.specs.List.{insert, remove, filter_map};
+ghost use Rattle.std.specs.List.Sorted.{IsStrictlySortedBy};
+ghost use Rattle.std.specs.Map.{keys_of};
+ghost use Rattle.sorted_entries.specs.Places.{place_of};
+ghost use Rattle.ordered_map.specs.Chunks.{overwritten, ends_below};
+ghost use Rattle.ordered_map.specs.Entries.{IsLeft, revised_entry};
+
+use std::alloc::{AllocError, Global};
+use std::marker::Model;
+
+/// How many entries a chunk holds at most.
+pub(crate) const CHUNK: usize = 256;
+
+/// Half of that: how many stay in a full chunk when it is split, and up to how many in two neighbours make them one.
+pub(crate) const HALF: usize = 128;
+
+/// A quarter of it: so many entries for each chunk but one always have room, however they lie.
+pub(crate) const QUARTER: usize = 64;
+
+/// A run of entries that lie in one piece of memory, which has room for `CHUNK` of them. Contracts see the list of them.
+#[derive(Debug, Drop)]
+pub struct Chunk<K, V> {
+    entries: Vec<(K, V)>,
+}
+
+impl<K, V> Model for Chunk<K, V> {
+    ghost use Rattle.std.specs.Prelude.{List, ◌≤◌, vec_capacity};
+    ghost use Rattle.std.specs.Coded.{coded_list, coded×};
+    ghost use Rattle.ordered_map.specs.declared.chunk.TheConstants.{CHUNK};
+
+    ghost Value = { List (K × V) };
+
+    ghost coded = { coded_list (coded× K.code V.code) };
+
+    ghost view = { λ chunk. chunk.entries.items };
+
+    ghost invariant = { λ chunk. CHUNK ≤ vec_capacity chunk.entries };
+}
+
+/// What becomes of a value that is changed where it lies.
+pub trait Edit<V> {
+    ghost edited: { Self → V → V };
+
+    fn edit(&self, value: &mut V)
+        ensures { value.new ≡ edited self.now value.old };
+}
+
+/// What becomes of entries that are looked through: each stays with another value, or goes.
+pub trait Revision<K, V> {
+    ghost revised: { Self → K → V → Option V };
+
+    /// Changes the value. Whether the entry stays.
+    fn revise(&self, key: &K, value: &mut V) -> bool
+        ensures { IsLeft (revised self.now key.now value.old) result value.new };
+}
+
+// Moves the last element of one vector to the end of another that has room.
+fn move_last<T>(from: &mut Vec<T>, to: &mut Vec<T>)
+    requires some { 0 < vec_len from.old }
+    requires room { vec_len to.old < vec_capacity to.old }
+    ensures moved { from.new.items ++ reverse to.new.items ≡ from.old.items ++ reverse to.old.items }
+    ensures from_len { vec_len from.new + 1 ≡ vec_len from.old }
+    ensures to_len { vec_len to.new ≡ vec_len to.old + 1 }
+    ensures from_capacity { vec_capacity from.new ≡ vec_capacity from.old }
+    ensures to_capacity { vec_capacity to.old ≤ vec_capacity to.new }
+{
+    match from.pop() {
+        Some(last) => match to.push(last) {
+            Ok(()) => {}
+            Err(_) => unreachable!(),
+        },
+        None => unreachable!(),
+    }
+}
+
+// Moves what lies from a place on to an empty vector that has room for it.
+fn move_above<T>(from: &mut Vec<T>, to: &mut Vec<T>, n: usize)
+    requires empty { to.old.items ≡ [] }
+    requires inside { n ≤ vec_len from.old }
+    requires room { vec_len from.old ≤ vec_capacity to.old }
+    ensures lower { from.new.items ≡ take n from.old.items }
+    ensures upper { to.new.items ≡ drop n from.old.items }
+    ensures from_capacity { vec_capacity from.new ≡ vec_capacity from.old }
+    ensures to_capacity { vec_capacity to.old ≤ vec_capacity to.new }
+{
+    for _ in n..from.len() {
+        move_last(from, to);
+    }
+    to.reverse();
+}
+
+// Puts another value in the place of one.
+fn overwrite<V: Drop>(kept: &mut V, value: V)
+    ensures { kept.new ≡ value }
+{
+    *kept = value;
+}
+
+impl<K: Drop, V: Drop> Chunk<K, V> {
+    /// A chunk without entries.
+    pub(crate) fn new(alloc: Global) -> Result<Self, AllocError>
+        ensures { IfOk result (λ chunk. chunk ≡ []) }
+    {
+        Ok(Chunk {
+            entries: Vec::with_capacity(alloc, CHUNK)?,
+        })
+    }
+
+    /// The entries, ascending by key.
+    pub fn entries(&self) -> &[(K, V)]
+        ensures { result.now ≡ self.now }
+    {
+        &self.entries
+    }
+
+    /// How many entries there are.
+    pub(crate) fn len(&self) -> usize
+        ensures { result ≡ length self.now }
+    {
+        self.entries.len()
+    }
+
+    /// The entry at a place.
+    pub(crate) fn entry(&self, at: usize) -> &(K, V)
+        requires { at < length self.now }
+        ensures { result.now ≡ slice_index_or self.now at result.now }
+    {
+        &self.entries[at]
+    }
+
+    /// Puts an entry in at a place. There is room in the chunk.
+    pub(crate) fn insert(&mut self, at: usize, key: K, value: V)
+        requires inside { at ≤ length self.old }
+        requires room { length self.old < CHUNK }
+        ensures { self.new ≡ insert self.old at (key, value) }
+    {
+        match self.entries.insert(at, (key, value)) {
+            Ok(()) => {}
+            Err(_) => unreachable!(),
+        }
+    }
+
+    /// Puts another value in the place of one.
+    pub(crate) fn write(&mut self, at: usize, value: V)
+        requires { at < length self.old }
+        ensures { self.new ≡ overwritten self.old at value }
+    {
+        overwrite(&mut self.entries[at].1, value);
+    }
+
+    /// Takes the entry at a place out.
+    pub(crate) fn remove(&mut self, at: usize)
+        requires { at < length self.old }
+        ensures { self.new ≡ remove self.old at }
+    {
+        let _ = self.entries.remove(at);
+    }
+
+    /// Takes all entries out.
+    pub(crate) fn clear(&mut self)
+        ensures { self.new ≡ [] }
+    {
+        self.entries.clear();
+    }
+
+    /// Moves all entries of another chunk to the end. There is room for them.
+    pub(crate) fn append(&mut self, upper: &mut Chunk<K, V>)
+        requires { length self.old + length upper.old ≤ CHUNK }
+        ensures all { self.new ≡ self.old ++ upper.old }
+        ensures blank { upper.new ≡ [] }
+    {
+        match self.entries.append(&mut upper.entries) {
+            Ok(()) => {}
+            Err(_) => unreachable!(),
+        }
+    }
+
+    /// Moves what lies above the first half to a blank chunk.
+    pub(crate) fn split(&mut self, upper: &mut Chunk<K, V>)
+        requires blank { upper.old ≡ [] }
+        requires half { HALF ≤ length self.old }
+        requires most { length self.old ≤ CHUNK }
+        ensures lower { self.new ≡ take HALF self.old }
+        ensures upper { upper.new ≡ drop HALF self.old }
+    {
+        move_above(&mut self.entries, &mut upper.entries, HALF);
+    }
+
+    /// Changes the value at a place.
+    pub(crate) fn change<E: Edit<V>>(&mut self, at: usize, edit: &E)
+        requires { at < length self.old }
+        ensures { (d : K × V) → self.new ≡ overwritten self.old at (E.edited edit.now (slice_index_or self.old at d).1) }
+    {
+        edit.edit(&mut self.entries[at].1);
+    }
+
+    /// Keeps each entry that a revision keeps, with the value that it gives.
+    pub(crate) fn revise<R: Revision<K, V>>(&mut self, revision: &R)
+        ensures { self.new ≡ filter_map (revised_entry (R.revised revision.now)) self.old }
+    {
+        self.entries
+            .retain_mut(|entry| revise_entry(entry, revision));
+    }
+}
+
+// Revises an entry. Whether it stays.
+fn revise_entry<K, V, R: Revision<K, V>>(entry: &mut (K, V), revision: &R) -> bool
+    ensures { IsLeft (revised_entry (R.revised revision.now) entry.old) result entry.new }
+{
+    revision.revise(&entry.0, &mut entry.1)
+}
+
+impl<K: Ord, V> Chunk<K, V> {
+    /// Whether the last key is below this one.
+    pub(crate) fn ends_below(&self, key: &K) -> bool
+        ensures { result ≡ ends_below K.cmp key.now self.now }
+    {
+        match self.entries.last() {
+            Some(entry) => key.cmp(&entry.0).is_gt(),
+            None => false,
+        }
+    }
+
+    /// The key's place, or the place where it would go.
+    pub(crate) fn place(&self, key: &K) -> Result<usize, usize>
+        requires { IsStrictlySortedBy K.cmp (keys_of self.now) }
+        ensures place { result ≡ place_of K.cmp key.now self.now }
+    {
+        self.entries.binary_search_by(|entry| entry.0.cmp(key))
+    }
+}
