@@ -29,6 +29,7 @@ const HEADER: usize = 16;
 const ENTRY: usize = 520;
 
 // A sequence of numbers that a seed gives.
+#[derive(Drop)]
 struct Dice {
     state: u64,
 }
@@ -53,6 +54,7 @@ impl Dice {
 }
 
 // An image as its entries, with the count in its header and what follows.
+#[derive(Drop)]
 struct Parts {
     entries: Vec<Vec<u8>>,
     count: u64,
@@ -202,6 +204,7 @@ fn changed(alloc: Global, image: &[u8], dice: &mut Dice) -> Result<Vec<u8>, Allo
 }
 
 // How often each status came, and each kind of a damaged image.
+#[derive(Drop)]
 struct Counts {
     codes: [u64; 10],
     kinds: [u64; 9],
