@@ -1,8 +1,7 @@
 -- What a line's plan is while its set is held: what it is made over, what it examines, which lock covers each sector, and what it comes to once it is finished.
-use Rattle.std.specs.Prelude.{ℕ, ◌+◌, ◌/◌, Bool, true, false, ◌||◌, ◌&&◌, ◌==◌, if◌then◌else◌, Option, Some, None, List, [], ◌∷◌, find, filter, map}
+use Rattle.std.specs.Prelude.{ℕ, Bool, true, false, Option, Some, None, List, [], ◌∷◌, filter, map}
 use Rattle.std.specs.List.{filter_map, list_all, take_while}
 use Rattle.std.specs.Option.{option_and_then, option_map, unwrap_or}
-use Rattle.frang_base.specs.declared.limits.TheConstants.{SEGMENT_BLOCKS, SEGMENT_INODES}
 use Rattle.frang_base.specs.declared.bitmap.Bitmap.{Bitmap}
 use Rattle.frang_base.specs.declared.change.Change.{Change}
 use Rattle.frang_base.specs.declared.change.Redo.{Redo}
@@ -15,21 +14,20 @@ use Rattle.tree_definitions.specs.Live.{number_of as operation_number, script_ti
 use Rattle.tree_definitions.specs.Numbers.{below}
 use Rattle.sector_bytes.specs.Blocks.{Block}
 use Rattle.sector_bytes.specs.SectorMaps.{value_at}
-use Rattle.sector_definitions.specs.declared.region.Region.{Region}
 use Rattle.sector_definitions.specs.declared.region.Region.TheVariants as region
 use Rattle.sector_definitions.specs.Bitmaps.{bitmap_in}
-use Rattle.sector_definitions.specs.Inodes.{inode_in}
-use Rattle.sector_definitions.specs.Regions.{region_of, sector_of}
-use Rattle.disk_definitions.specs.Store.{StoredNode, store_of, stored_node}
-use Rattle.pick_definitions.specs.Held.{Segments, inode_in as bit_in, large_in, state_in}
-use Rattle.pick_definitions.specs.Picks.{is_free, is_in_state}
+use Rattle.sector_definitions.specs.Regions.{sector_of}
+use Rattle.disk_definitions.specs.Store.{store_of}
+use Rattle.pick_definitions.specs.Held.{Segments}
 use Rattle.store_changes.specs.Edits.{Edit}
 use Rattle.store_changes.specs.Edits.Edit.{SetBytes, SetLargeBytes}
 use Rattle.plan_definitions.specs.Ask.{Ask, AtHand, Met, Sector, InodeAt, DirectoryAt, SegmentAt, BytesAt, LargeAt, looks, meet, number_of}
 use Rattle.plan_definitions.specs.Missing.{is_at_hand}
 use Rattle.plan_definitions.specs.Plans.{Finish, Plan}
 use Rattle.plan_definitions.specs.Written.{Cached, at_hand, changes_of, edited_block, freed_sectors, hand_of, sectors_at_hand}
-use Rattle.plan_moves.specs.Moves.{is_small_of, moved_by, node_lock}
+use Rattle.plan_moves.specs.CoversAtHand.{cover_at_hand}
+use Rattle.plan_moves.specs.Moves.{moved_by}
+use Rattle.plan_moves.specs.Numbered.{moves_of}
 use Rattle.line_definitions.specs.Lines.{plan_of_line}
 use Rattle.core_definitions.specs.Caches.{Cache, usable}
 use Rattle.core_definitions.specs.Sets.{LockSet, has_lock, segments_in}
@@ -87,60 +85,11 @@ examined segments program sight =
 
 -- ---- which lock covers a sector
 
--- the inode that a cached sector is, where it is in use
-abbrev pub node_in : Option Region → Block → Option (ℕ × StoredNode)
-node_in (Some (region.Inode inode)) block = option_map (λ node. (inode, node)) (stored_node (inode_in block))
-node_in _ block = None
-
--- the nodes at hand
-abbrev pub nodes_in : ℕ → Sight → List (ℕ × StoredNode)
-nodes_in segments sight = filter_map (λ entry. node_in (region_of segments entry.0) entry.1) sight.cached
-
--- the lock of the node that has it; the segment's where none has, since then it is free
-abbrev pub cover_by : Option (ℕ × StoredNode) → ℕ → LockId
-cover_by None segment = Segment segment
-cover_by (Some node) segment = node_lock node.0
-
--- the segment of its bit for an inode or a block that a segment in the set marks free; for any other inode its own lock, for any other block the node that has it
-abbrev pub inode_cover : Sight → ℕ → LockId
-inode_cover sight inode = if is_free (bit_in sight.held inode) then Segment (inode / SEGMENT_INODES) else node_lock inode
-
-abbrev pub is_marked_unused : Sight → ℕ → Bool
-is_marked_unused sight block = is_in_state 0 (state_in sight.held block) || is_in_state 2 (state_in sight.held block)
-
-abbrev pub small_cover : ℕ → Sight → ℕ → LockId
-small_cover segments sight block =
-    if is_marked_unused sight block then Segment (block / SEGMENT_BLOCKS)
-    else cover_by (find (λ node. is_small_of block node.1) (nodes_in segments sight)) (block / SEGMENT_BLOCKS)
-
-abbrev pub large_cover : ℕ → Sight → ℕ → LockId
-large_cover segments sight segment =
-    if is_free (large_in sight.held segment) then Segment segment
-    else cover_by (find (λ node. node.1.large == segment + 1) (nodes_in segments sight)) segment
-
--- the cover of a sector that the plan needs
+-- the cover of a sector that the plan needs, by the bitmaps in the set and the cached inodes
 abbrev pub cover_of : ℕ → Sight → Sector → LockId
-cover_of segments sight (SegmentAt segment) = Segment segment
-cover_of segments sight (InodeAt inode) = inode_cover sight inode
-cover_of segments sight (DirectoryAt block part) = small_cover segments sight block
-cover_of segments sight (BytesAt block part) = small_cover segments sight block
-cover_of segments sight (LargeAt segment part) = large_cover segments sight segment
+cover_of segments sight sector = cover_at_hand sight.cached sight.held segments sector
 
 -- ---- a finished plan
-
--- a sector of an inode or of a block, by its number
-abbrev pub sector_in : Option Region → Option Sector
-sector_in None = None
-sector_in (Some region.Param) = None
-sector_in (Some (region.Log server slot)) = None
-sector_in (Some (region.Segment segment)) = Some (SegmentAt segment)
-sector_in (Some (region.Inode inode)) = Some (InodeAt inode)
-sector_in (Some (region.Small block part)) = Some (BytesAt block part)
-sector_in (Some (region.Large segment part)) = Some (LargeAt segment part)
-
--- the lock under which these edits move a sector, where they do
-abbrev pub move_by : ℕ → List Edit → ℕ → Option LockId
-move_by segments edits number = option_and_then (moved_by edits) (sector_in (region_of segments number))
 
 -- a sector of file bytes that is set, with its cover
 pub record BytesSet : Type 0 where
@@ -180,5 +129,5 @@ outcome_of setting line sight finish = record {
   redo = record_of (operation_number setting.run line.number) (changes_of (sectors_at_hand sight.cached sight.held) finish.edits);
   bytes = filter_map (set_by setting.segments sight finish.edits) finish.edits;
   freed = freed_sectors finish.edits;
-  moves = move_by setting.segments finish.edits;
+  moves = moves_of setting.segments finish.edits;
 }

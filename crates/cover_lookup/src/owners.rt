@@ -2,7 +2,7 @@
 ghost use Rattle.std.specs.Prelude.{◌≡◌, ◌≤◌};
 ghost use Rattle.frang_base.specs.declared.limits.TheConstants.{SEGMENTS_MAX};
 ghost use Rattle.plan_definitions.specs.Written.{inode_at_hand};
-ghost use Rattle.cover_lookup.specs.Covers as covers;
+ghost use Rattle.plan_moves.specs.CoversAtHand as covers;
 
 use dir_lookup::inode_at;
 use edit_moves::{has_large, has_small};

@@ -33,7 +33,8 @@ use Rattle.plan_looks.specs.Looked.{edited_at}
 use Rattle.plan_moves.specs.Plans.{Planner}
 use Rattle.plan_standing.proofs.SameChanges.{same_changes}
 use Rattle.line_definitions.specs.Lines.{plan_of_line}
-use Rattle.line_commits.specs.LinePlans.{may_be_planned, held_of, hand_by, hand_on, byte_shown, store_showing, store_on, without_bytes, blocks_told, versioned, plain, moves_of, claims_of, makes_by, lock_in, sole_in, segment_lock, segment_number, outcome_by, outcome_if, outcome_over, are_segments}
+use Rattle.plan_moves.specs.Numbered.{moves_of}
+use Rattle.line_commits.specs.LinePlans.{may_be_planned, held_of, hand_by, hand_on, byte_shown, store_showing, store_on, without_bytes, blocks_told, versioned, plain, claims_of, makes_by, lock_in, sole_in, segment_lock, segment_number, outcome_by, outcome_if, outcome_over, are_segments}
 use Rattle.line_commits.specs.Planners.{IsSoundPlanner}
 use Rattle.line_commits.specs.Guards.{SoundPlansAreFramed, LinePlansAreFramed}
 use Rattle.line_commits.proofs.Lists.{has_member, filter_has}

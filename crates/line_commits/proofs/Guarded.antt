@@ -44,7 +44,8 @@ use Rattle.plan_covers.specs.Covers.{cover_of, IsHeld, PlanHolds, IsHeldSegment}
 use Rattle.plan_moves.specs.Moves.{first_said, use_said, taker_said, small_move, moved_by}
 use Rattle.plan_moves.specs.Plans.{Planner, Fills}
 use Rattle.plan_records.proofs.Kept.{is_less}
-use Rattle.line_commits.specs.LinePlans.{may_be_planned, held_of, hand_on, store_showing, store_on, versioned, plain, sector_in, sector_at, moves_of, becomes_directory, is_claimed, claims_of, fill_by, edits_in, lock_in, sole_in, segment_lock, segment_number, outcome_by, outcome_if, outcome_over, are_segments}
+use Rattle.plan_moves.specs.Numbered.{sector_in, sector_at, moves_of}
+use Rattle.line_commits.specs.LinePlans.{may_be_planned, held_of, hand_on, store_showing, store_on, versioned, plain, becomes_directory, is_claimed, claims_of, fill_by, edits_in, lock_in, sole_in, segment_lock, segment_number, outcome_by, outcome_if, outcome_over, are_segments}
 use Rattle.line_commits.specs.Planners.{IsPart, IsSoundPlanner}
 use Rattle.line_commits.specs.Guards.{IsDiskOf, IsUnder, IsSeen, IsMoved, IsClaimed, KeepsGuards, SoundPlansKeepGuards, LinePlansKeepGuards}
 use Rattle.line_commits.proofs.Lists.{member_has, filter_has, has_filter, has_map}

@@ -41,7 +41,8 @@ use Rattle.plan_moves.specs.Plans.{Planner, Fills}
 use Rattle.plan_moves.proofs.Owned.{something_said}
 use Rattle.plan_records.proofs.Kept.{edit_in_range, in_small, in_large}
 use Rattle.line_definitions.specs.Lines.{plan_of_line}
-use Rattle.line_commits.specs.LinePlans.{hand_on, store_showing, store_on, sector_in, sector_at, fill_by, edits_in, outcome_by}
+use Rattle.plan_moves.specs.Numbered.{sector_in, sector_at}
+use Rattle.line_commits.specs.LinePlans.{hand_on, store_showing, store_on, fill_by, edits_in, outcome_by}
 use Rattle.line_commits.specs.Planners.{IsSoundPlanner}
 use Rattle.line_commits.specs.Done.{IsWholeDisk}
 use Rattle.line_commits.specs.Outcomes.{IsOfAPlan}

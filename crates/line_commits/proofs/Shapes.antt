@@ -21,7 +21,8 @@ use Rattle.plan_definitions.specs.Written.{edit_sector, edited_sectors, all_edit
 use Rattle.plan_moves.specs.Moves.{first_said, bit_said, use_said, large_said, taker_said, large_taker_said, inode_move, small_move, large_move, moved_by}
 use Rattle.plan_records.proofs.LaidOver.{Misses}
 use Rattle.plan_standing.proofs.SameChanges.{edited_same}
-use Rattle.line_commits.specs.LinePlans.{without_bytes, blocks_told, sector_at, moves_of, is_claimed, claims_of, becomes_directory}
+use Rattle.plan_moves.specs.Numbered.{sector_at, moves_of}
+use Rattle.line_commits.specs.LinePlans.{without_bytes, blocks_told, is_claimed, claims_of, becomes_directory}
 use Rattle.line_commits.specs.Planners.{edit_shape}
 use Rattle.line_commits.proofs.Changes.{numbers_of, ascending_member}
 

@@ -22,7 +22,8 @@ use Rattle.plan_definitions.specs.Written.{Cached, at_hand, changes_of, hand_of,
 use Rattle.plan_moves.specs.Plans.{Planner}
 use Rattle.plan_standing.specs.Laws.{HasPath}
 use Rattle.line_definitions.specs.Lines.{plan_of_line}
-use Rattle.line_commits.specs.LinePlans.{without_bytes, blocks_told, moves_of, claims_of, lock_in, sole_in, segment_lock, sector_plan_by}
+use Rattle.plan_moves.specs.Numbered.{moves_of}
+use Rattle.line_commits.specs.LinePlans.{without_bytes, blocks_told, claims_of, lock_in, sole_in, segment_lock, sector_plan_by}
 use Rattle.line_commits.specs.Planners.{IsSoundPlanner}
 use Rattle.line_commits.specs.Guards.{IsDiskOf}
 

@@ -21,7 +21,8 @@ use Rattle.plan_definitions.specs.Meets.{IsOfTree}
 use Rattle.plan_covers.specs.Covers.{cover_of}
 use Rattle.plan_looks.specs.Inside.{IsInside}
 use Rattle.plan_moves.specs.Plans.{Planner}
-use Rattle.line_commits.specs.LinePlans.{store_on, sector_at, sector_plan_by, sector_plan}
+use Rattle.plan_moves.specs.Numbered.{sector_at}
+use Rattle.line_commits.specs.LinePlans.{store_on, sector_plan_by, sector_plan}
 use Rattle.line_commits.specs.Planners.{IsPart, IsSoundPlanner}
 
 -- the sectors of the small blocks that aren't used and never were a directory's are zeros

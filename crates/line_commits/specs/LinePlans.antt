@@ -2,7 +2,7 @@
 -- versions hold, it makes an outcome. The bytes of files aren't given: what the plan makes of them is told by the bytes that it reads.
 use Rattle.std.specs.Prelude.{ℕ, ◌%◌, Bool, false, ◌&&◌, if◌then◌else◌, nat_lt, Option, Some, None, List, [], ◌++◌, map, is_some, slice_index}
 use Rattle.std.specs.List.{filter_map, list_all}
-use Rattle.std.specs.Option.{option_map, option_and_then, unwrap_or}
+use Rattle.std.specs.Option.{option_map, unwrap_or}
 use Rattle.frang_base.specs.declared.bitmap.Bitmap.{Bitmap}
 use Rattle.frang_base.specs.declared.limits.TheConstants.{SECTOR_BYTES}
 use Rattle.frang_base.specs.declared.lock.LockId.{LockId}
@@ -22,9 +22,6 @@ use Rattle.sector_histories.specs.Histories.Fill.{Written, Freed}
 use Rattle.sector_histories.specs.Plans.{Outcome}
 use Rattle.sector_histories.specs.Plans as histories
 use Rattle.tree_definitions.specs.Numbers.{below}
-use Rattle.sector_definitions.specs.declared.region.Region.{Region}
-use Rattle.sector_definitions.specs.declared.region.Region.TheVariants as region
-use Rattle.sector_definitions.specs.Regions.{region_of}
 use Rattle.disk_definitions.specs.Store.{Store, Use, store_of, segment_at}
 use Rattle.pick_definitions.specs.Held.{Segments, bitmap_of, state_in}
 use Rattle.pick_definitions.specs.Picks.{is_in_state}
@@ -35,6 +32,7 @@ use Rattle.plan_definitions.specs.Plans.Plan.{Lacks, Clears, Finishes}
 use Rattle.plan_definitions.specs.Meets.{is_directory_use}
 use Rattle.plan_definitions.specs.Written.{byte_writes, changes_of, freed_sectors}
 use Rattle.plan_moves.specs.Moves.{first_said, use_said, moved_by}
+use Rattle.plan_moves.specs.Numbered.{sector_at, moves_of}
 use Rattle.plan_moves.specs.Plans.{Planner}
 use Rattle.line_definitions.specs.Lines.{plan_of_line}
 use Rattle.plan_shapes.specs.Stores.{with_bytes}
@@ -126,21 +124,6 @@ plain (DirectoryAt block part) = None
 plain (SegmentAt segment) = None
 plain (BytesAt block part) = Some (number_of (BytesAt block part))
 plain (LargeAt large part) = Some (number_of (LargeAt large part))
-
--- the sector with this number, on a disk of so many segments; one of a small block as a directory's
-abbrev pub sector_in : Option Region → Option Sector
-sector_in (Some (region.Segment segment)) = Some (SegmentAt segment)
-sector_in (Some (region.Inode inode)) = Some (InodeAt inode)
-sector_in (Some (region.Small block part)) = Some (DirectoryAt block part)
-sector_in (Some (region.Large large part)) = Some (LargeAt large part)
-sector_in _ = None
-
-abbrev pub sector_at : ℕ → ℕ → Option Sector
-sector_at segments number = sector_in (region_of segments number)
-
--- the lock under which edits move the sector with this number, where they move it
-abbrev pub moves_of : ℕ → List Edit → ℕ → Option LockId
-moves_of segments edits number = option_and_then (moved_by edits) (sector_at segments number)
 
 abbrev pub becomes_directory : Option Use → Bool
 becomes_directory None = false

@@ -12,7 +12,8 @@ use Rattle.disk_definitions.specs.Naming.{Naming}
 use Rattle.plan_definitions.specs.Ask.{Sector}
 use Rattle.plan_covers.specs.Covers.{cover_of}
 use Rattle.plan_moves.specs.Plans.{Planner}
-use Rattle.line_commits.specs.LinePlans.{sector_at, sector_plan_by, sector_plan}
+use Rattle.plan_moves.specs.Numbered.{sector_at}
+use Rattle.line_commits.specs.LinePlans.{sector_plan_by, sector_plan}
 use Rattle.line_commits.specs.Planners.{IsSoundPlanner}
 use Rattle.line_commits.specs.Done.{IsWholeDisk}
 

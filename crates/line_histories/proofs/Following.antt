@@ -37,7 +37,8 @@ use Rattle.plan_moves.proofs.Moving.{covers_move}
 use Rattle.plan_records.proofs.Kept.{is_less, in_small, in_large}
 use Rattle.plan_records.proofs.LaidOver.{Misses}
 use Rattle.plan_records.proofs.RecordLaws.{NotTo, misses}
-use Rattle.line_commits.specs.LinePlans.{store_on, held_of, fill_by, sector_in, sector_at, becomes_directory, is_claimed, sector_plan}
+use Rattle.plan_moves.specs.Numbered.{sector_in, sector_at}
+use Rattle.line_commits.specs.LinePlans.{store_on, held_of, fill_by, becomes_directory, is_claimed, sector_plan}
 use Rattle.line_commits.specs.Outcomes.{IsOfAPlan, fill_shape}
 use Rattle.line_commits.proofs.LinesSound.{lines_are_sound}
 use Rattle.line_commits.proofs.Outcomes.{outcomes_of_plans, makes_of_edits}

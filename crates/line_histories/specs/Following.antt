@@ -14,7 +14,8 @@ use Rattle.plan_definitions.specs.Ask.{Sector, InodeAt, DirectoryAt, SegmentAt, 
 use Rattle.plan_definitions.specs.Meets.{IsOfTree, is_directory_use}
 use Rattle.plan_covers.specs.Covers.{cover_of}
 use Rattle.line_fills.specs.Files.{HoldsBytes}
-use Rattle.line_commits.specs.LinePlans.{store_on, sector_at}
+use Rattle.plan_moves.specs.Numbered.{sector_at}
+use Rattle.line_commits.specs.LinePlans.{store_on}
 
 -- what the sectors with versions say after the history
 abbrev pub store_after : ℕ → (ℕ → Block) → List Item → Store

@@ -1,2 +1,4 @@
+pub mod CoversAtHand
 pub mod Moves
+pub mod Numbered
 pub mod Plans

@@ -3,7 +3,7 @@ use Rattle.std.proofs.Common.{◌≡◌, ◌≤◌, ◌<◌, ◌*◌, ℕ, Bool,
 use Rattle.pick_definitions.specs.Least.{least}
 use Rattle.pick_definitions.proofs.LeastLaws.{step_found, step_passed, step_end}
 use Rattle.plan_definitions.specs.Written.{inode_at_hand}
-use Rattle.cover_lookup.specs.Covers.{has_large}
+use Rattle.plan_moves.specs.CoversAtHand.{has_large}
 use Rattle.cover_lookup.proofs.Searching.{from_first}
 use Rattle.cover_lookup.proofs.owners.large_owner.Goals as goal
 

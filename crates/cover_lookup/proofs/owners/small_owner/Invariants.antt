@@ -2,7 +2,7 @@
 use Rattle.std.proofs.Common.{◌≡◌, ◌-◌, ◌*◌}
 use Rattle.pick_definitions.specs.Least.{least, least_from}
 use Rattle.plan_definitions.specs.Written.{inode_at_hand}
-use Rattle.cover_lookup.specs.Covers.{has_small}
+use Rattle.plan_moves.specs.CoversAtHand.{has_small}
 use Rattle.cover_lookup.proofs.owners.small_owner.Given as goal
 
 abbrev pub invariant-loop-inode : goal.invariant-loop-inode
