@@ -2,6 +2,10 @@ pub mod Joining
 pub mod Rooms
 pub mod Edits
 pub mod Dropped
-pub mod Marking
+pub mod Keying
+pub mod CoverOrder
+pub mod UnderLock
+pub mod Pieces
+pub mod MarkKeys
 pub mod DropLaws
 pub mod CacheExamples

@@ -18,6 +18,10 @@ is_dirty_under lock cached = is_under lock cached && is_some cached.mark
 abbrev pub first_dirty : LockId → Contents → Option ℕ
 first_dirty lock contents = option_map (λ entry. entry.0) (find (λ entry. is_dirty_under lock entry.1) contents)
 
+-- the first sector under the lock
+abbrev pub first_under : LockId → Contents → Option ℕ
+first_under lock contents = option_map (λ entry. entry.0) (find (λ entry. is_under lock entry.1) contents)
+
 -- the contents without the sectors under the lock
 abbrev pub dropped : LockId → Contents → Contents
 dropped lock contents = filter (λ entry. not (is_under lock entry.1)) contents

@@ -1,6 +1,7 @@
 pub mod Cached
 pub mod Changing
+pub mod Covers
 pub mod Dropping
+pub mod Indexing
 pub mod Kept
-pub mod MarkSets
-pub mod Marking
+pub mod Keys

@@ -1,22 +1,24 @@
 // The cached sectors.
-ghost use Rattle.std.specs.Prelude.{◌≡◌, ◌+◌, ◌<◌, ◌≤◌, [], not, is_some, true, None, IsOk, IsSome, IfOk, OnOk};
+ghost use Rattle.std.specs.Prelude.{◌≡◌, ◌+◌, ◌<◌, ◌≤◌, ◌++◌, [], not, is_some, true, IsOk, IsSome, IfOk, OnOk};
 ghost use Rattle.std.specs.List.Sorted.{IsStrictlySortedBy};
 ghost use Rattle.std.specs.Option.{option_copied, option_map};
 ghost use Rattle.std.specs.Ordering.{nat_cmp, on};
 ghost use Rattle.sector_bytes.specs.Changes.{is_change};
-ghost use Rattle.sector_bytes.specs.SectorMaps.{value_at, with_value, without, adjusted, room_for};
+ghost use Rattle.sector_bytes.specs.SectorMaps.{Ascend, value_at, with_value, without, adjusted, room_for};
 ghost use Rattle.meta_version.specs.Updates.{IsOlder};
 ghost use Rattle.flush_order.specs.Marks.{next_reached, sector_reached};
 ghost use Rattle.clerk_cache.specs.Cached.{block_at, cover_at, blocks_of, marks_of};
-ghost use Rattle.clerk_cache.specs.Kept.{cached_of, state_at, is_state_dirty_under, first_dirty_state, state_marks};
+ghost use Rattle.ordered_map.specs.Chunks.{joined};
+ghost use Rattle.clerk_cache.specs.Kept.{cached_of, state_at, state_marks};
 ghost use Rattle.clerk_cache.specs.Changing.{clean, dirty, holds, with_change, with_written, with_cover};
-ghost use Rattle.clerk_cache.specs.Dropping.{first_dirty, dropped, DropOutcome};
+ghost use Rattle.clerk_cache.specs.Dropping.{first_dirty, first_under, dropped, DropOutcome};
 
-use crate::state::{SectorState, is_under};
+use crate::state::SectorState;
 use crate::states::States;
 use flush_order::Mark;
 use frang_base::{Block, Change, LockId, NoMemory, Sector};
 use meta_version::Sectors;
+use ordered_map::Chunk;
 use std::alloc::Global;
 use std::marker::Model;
 
@@ -48,21 +50,6 @@ pub struct Dirty {
     pub sector: Sector,
 }
 
-// The sector of this state is under the lock and dirty.
-fn is_dirty_under(state: &SectorState, lock: LockId) -> bool
-    ensures { result ≡ is_state_dirty_under lock state.now }
-{
-    is_under(state, lock) && state.mark.is_some()
-}
-
-// The first sector of these that is under the lock and dirty.
-fn first_dirty(states: &[(u64, SectorState)], lock: LockId) -> Option<u64>
-    ensures { result ≡ first_dirty_state lock states.now }
-{
-    let entry = states.iter().find(|entry| is_dirty_under(&entry.1, lock))?;
-    Some(entry.0)
-}
-
 // The sector of a mark, where it is reached.
 fn sector_reached(mark: Option<Mark>, reached: u64) -> Option<Sector>
     ensures { result ≡ sector_reached reached mark }
@@ -73,16 +60,26 @@ fn sector_reached(mark: Option<Mark>, reached: u64) -> Option<Sector>
     }
 }
 
-// The dirty sectors of these, with their marks.
-fn marks_of(alloc: Global, states: &[(u64, SectorState)]) -> Result<Vec<Mark>, NoMemory>
-    ensures { IfOk result (λ marks. marks.items ≡ state_marks states.now) }
+// Adds the marks of the dirty sectors of a piece.
+fn add_marks(marks: &mut Vec<Mark>, states: &[(u64, SectorState)]) -> Result<(), NoMemory>
+    ensures { OnOk result (marks.new.items ≡ marks.old.items ++ state_marks states.now) }
 {
-    let mut marks = Vec::new(alloc);
     for entry in states {
         if let Some(mark) = entry.1.mark {
             let sector = Sector(entry.0);
             marks.push(Mark { sector, mark })?;
         }
+    }
+    Ok(())
+}
+
+// The dirty sectors of these, with their marks.
+fn marks_of(alloc: Global, pieces: &[Chunk<u64, SectorState>]) -> Result<Vec<Mark>, NoMemory>
+    ensures { IfOk result (λ marks. marks.items ≡ state_marks (joined pieces.now)) }
+{
+    let mut marks = Vec::new(alloc);
+    for piece in pieces {
+        add_marks(&mut marks, piece.entries())?;
     }
     Ok(marks)
 }
@@ -240,7 +237,7 @@ impl Cache {
         ensures marks { IfOk result (λ marks. marks.items ≡ marks_of self.now.entries) }
         ensures ordered { IfOk result (λ marks. IsStrictlySortedBy (on (λ mark. mark.sector.0) nat_cmp) marks.items) }
     {
-        marks_of(self.alloc, self.states.entries())
+        marks_of(self.alloc, self.states.pieces())
     }
 
     /// The dirty sector with the least mark, of one mark the least sector, where that mark is at most `reached`. It takes no memory.
@@ -254,7 +251,7 @@ impl Cache {
     pub fn is_clean(&self, lock: LockId) -> bool
         ensures { result ≡ not (is_some (first_dirty lock self.now.entries)) }
     {
-        first_dirty(self.states.entries(), lock).is_none()
+        self.first_dirty(lock).is_none()
     }
 
     /// Puts a cached sector under another lock. Its block and its mark stay. It takes no memory.
@@ -269,14 +266,29 @@ impl Cache {
         }
     }
 
-    // Drops the sectors under a lock, of which none is dirty.
+    // The first sector under a lock.
+    fn first_under(&self, lock: LockId) -> Option<u64>
+        ensures sector { result ≡ first_under lock self.now.entries }
+        ensures ordered { Ascend self.now.entries }
+    {
+        self.states.first_under(lock)
+    }
+
+    // The first dirty sector under a lock.
+    fn first_dirty(&self, lock: LockId) -> Option<u64>
+        ensures { result ≡ first_dirty lock self.now.entries }
+    {
+        self.states.first_dirty(lock)
+    }
+
+    // Drops the sectors under a lock.
     fn drop_all(&mut self, lock: LockId)
-        requires { first_dirty lock self.old.entries ≡ None }
         ensures entries { self.new.entries ≡ dropped lock self.old.entries }
         ensures spare { self.old.spare ≤ self.new.spare }
     {
-        self.states.drop_clean(lock);
-        self.sectors.keep_those_of(self.states.map());
+        while let Some(sector) = self.first_under(lock) {
+            self.forget(Sector(sector));
+        }
     }
 
     /// Drops all sectors under a lock from the cache. `Dirty` comes exactly where one of them is dirty, and names the first such;
@@ -285,7 +297,7 @@ impl Cache {
         ensures outcome { DropOutcome lock self.old.entries self.new.entries result }
         ensures spare { self.old.spare ≤ self.new.spare }
     {
-        if let Some(sector) = first_dirty(self.states.entries(), lock) {
+        if let Some(sector) = self.first_dirty(lock) {
             let sector = Sector(sector);
             return Err(Dirty { sector });
         }

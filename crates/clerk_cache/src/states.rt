@@ -1,65 +1,53 @@
-// What is kept beside the blocks, and the dirty sectors in order of their marks.
-ghost use Rattle.std.specs.Prelude.{◌≡◌, ◌+◌, ◌<◌, ◌≤◌, [], filter, not, length, IsOk, OnOk, None};
-ghost use Rattle.std.specs.Option.{option_copied};
-ghost use Rattle.sector_bytes.specs.SectorMaps.{Ascend, value_at, with_value, without, room_for};
-ghost use Rattle.flush_order.specs.Marks.{least};
-ghost use Rattle.clerk_cache.specs.Kept.{is_state_under, first_dirty_state, state_marks};
-ghost use Rattle.clerk_cache.specs.Marking.{marked, unmarked};
+// What is kept beside the blocks, and the sectors in order of their marks and covers.
+ghost use Rattle.std.specs.Prelude.{◌≡◌, ◌+◌, ◌<◌, ◌≤◌, [], length, IsOk, OnOk};
+ghost use Rattle.sector_bytes.specs.SectorMaps.{value_at, with_value, without, room_for};
+ghost use Rattle.flush_order.specs.Marks.{least, first_mark};
+ghost use Rattle.ordered_map.specs.Chunks.{joined};
+ghost use Rattle.clerk_cache.specs.Kept.{first_dirty_state, state_marks};
+ghost use Rattle.clerk_cache.specs.Covers.{first_under_state};
 
-use crate::mark_set::MarkSet;
-use crate::state::{SectorState, is_under};
+use crate::covered::{Covered, first_of};
+use crate::keys::{exchange, reserve, take_out};
+use crate::state::{SectorState, keys_of};
 use flush_order::Mark;
 use frang_base::{LockId, NoMemory, Sector};
-use meta_version::SectorMap;
+use ordered_map::{Chunk, OrderedMap};
 use std::alloc::Global;
 use std::marker::Model;
 
-/// What is kept of the cached sectors beside their blocks: entries ascending by sector, and for how many more there is room. The
-/// dirty ones are kept in order of their marks too.
+/// What is kept of the cached sectors beside their blocks: entries ascending by sector, and for how many more there is room. What is
+/// asked by mark or by cover is found in time logarithmic in their number.
 #[derive(Debug, Drop)]
 pub(crate) struct States {
-    states: SectorMap<SectorState>,
-    by_mark: MarkSet,
+    states: OrderedMap<u64, SectorState>,
+    // The dirty sectors with their marks.
+    marks: OrderedMap<Mark, ()>,
+    // All sectors with their covers.
+    covers: OrderedMap<Covered, ()>,
+    // The dirty sectors with their covers.
+    dirty: OrderedMap<Covered, ()>,
 }
 
 impl Model for States {
-    ghost use Rattle.std.specs.Prelude.{min, ◌-◌, length};
     ghost use Rattle.sector_bytes.specs.SectorMaps.{Spacious};
     ghost use Rattle.clerk_cache.specs.declared.state.SectorState.{SectorState};
 
     ghost Value = { Spacious SectorState };
 
-    ghost use Rattle.clerk_cache.specs.Marking.{AreMarked};
+    ghost use Rattle.clerk_cache.specs.Indexing.{states_of, AreIndexed};
 
-    ghost view = { λ s. record { entries = s.states.entries; spare = min s.states.spare (s.by_mark.most - length s.states.entries) } };
+    ghost view = { λ s. states_of s.states s.marks s.covers s.dirty };
 
-    ghost invariant = { λ s. AreMarked s.states.entries s.by_mark };
+    ghost invariant = { λ s. AreIndexed s.states.entries s.marks s.covers s.dirty };
 }
 
-// Puts the mark of a sector in, where it has one.
-fn mark(by_mark: &mut MarkSet, sector: Sector, state: SectorState)
-    requires { length by_mark.old.marks < by_mark.old.most }
-    ensures marks { by_mark.new.marks ≡ marked sector.0 state.mark by_mark.old.marks }
-    ensures most { by_mark.new.most ≡ by_mark.old.most }
+// The first of the marks.
+fn first_mark(marks: &OrderedMap<Mark, ()>) -> Option<Mark>
+    ensures { result ≡ first_mark marks.now.entries }
 {
-    if let Some(mark) = state.mark {
-        by_mark.put(Mark { sector, mark });
-    }
-}
-
-// Takes the mark of a sector out, where it has one.
-fn unmark(by_mark: &mut MarkSet, sector: Sector, state: Option<SectorState>)
-    ensures marks { by_mark.new.marks ≡ unmarked sector.0 state by_mark.old.marks }
-    ensures most { by_mark.new.most ≡ by_mark.old.most }
-{
-    match state {
-        Some(
-            SectorState {
-                mark: Some(mark),
-                ..
-            },
-        ) => by_mark.remove(Mark { sector, mark }),
-        _ => {}
+    match marks.first() {
+        Some(entry) => Some(entry.0),
+        None => None,
     }
 }
 
@@ -69,50 +57,61 @@ impl States {
         ensures { result.entries ≡ [] }
     {
         States {
-            states: SectorMap::new(alloc),
-            by_mark: MarkSet::new(alloc),
+            states: OrderedMap::new(alloc),
+            marks: OrderedMap::new(alloc),
+            covers: OrderedMap::new(alloc),
+            dirty: OrderedMap::new(alloc),
         }
     }
 
-    /// The map from the sectors.
-    pub(crate) fn map(&self) -> &SectorMap<SectorState>
-        ensures { result.now.entries ≡ self.now.entries }
+    /// What is kept, ascending by sector, in pieces that follow one another.
+    pub(crate) fn pieces(&self) -> &[Chunk<u64, SectorState>]
+        ensures { joined result.now ≡ self.now.entries }
     {
-        &self.states
-    }
-
-    /// What is kept, ascending by sector.
-    pub(crate) fn entries(&self) -> &[(u64, SectorState)]
-        ensures entries { result.now ≡ self.now.entries }
-        ensures ordered { Ascend self.now.entries }
-    {
-        self.states.entries()
+        self.states.chunks()
     }
 
     /// What is kept of a sector.
     pub(crate) fn get(&self, sector: Sector) -> Option<SectorState>
         ensures { result ≡ value_at self.now.entries sector.0 }
     {
-        self.states.get(sector).copied()
+        self.states.get(&sector.0).copied()
     }
 
     /// The least mark.
     pub(crate) fn first_mark(&self) -> Option<Mark>
         ensures { result ≡ least (state_marks self.now.entries) }
     {
-        self.by_mark.first()
+        first_mark(&self.marks)
     }
 
-    /// Makes room for `n` more sectors. Nothing else changes, whatever the answer. It takes no memory where there is that room.
+    /// The first sector under a lock.
+    pub(crate) fn first_under(&self, lock: LockId) -> Option<u64>
+        ensures { result ≡ first_under_state lock self.now.entries }
+    {
+        first_of(&self.covers, lock)
+    }
+
+    /// The first dirty sector under a lock.
+    pub(crate) fn first_dirty(&self, lock: LockId) -> Option<u64>
+        ensures { result ≡ first_dirty_state lock self.now.entries }
+    {
+        first_of(&self.dirty, lock)
+    }
+
+    /// Makes room for `n` more sectors, each of which may be dirty. Nothing else changes, whatever the answer. It takes no memory where
+    /// there is that room.
     pub(crate) fn reserve(&mut self, n: usize) -> Result<(), NoMemory>
         ensures entries { self.new.entries ≡ self.old.entries }
         ensures ok { OnOk result (n ≤ self.new.spare) }
         ensures sure { n ≤ self.old.spare → IsOk result }
         ensures spare { self.old.spare ≤ self.new.spare }
     {
-        let held = self.states.entries().len();
+        let held = self.states.count();
         self.states.reserve(n)?;
-        self.by_mark.reserve(held, n)
+        reserve(&mut self.marks, held, n)?;
+        reserve(&mut self.covers, held, n)?;
+        reserve(&mut self.dirty, held, n)
     }
 
     /// Keeps this of a sector, of which something is kept or for which there is room. It takes no memory.
@@ -121,10 +120,12 @@ impl States {
         ensures entries { self.new.entries ≡ with_value self.old.entries sector.0 state }
         ensures spare { self.new.spare + room_for self.old.entries sector.0 ≡ self.old.spare }
     {
-        let old = self.get(sector);
-        unmark(&mut self.by_mark, sector, old);
-        mark(&mut self.by_mark, sector, state);
-        self.states.put(sector, state);
+        let old = keys_of(sector, self.get(sector));
+        let new = keys_of(sector, Some(state));
+        exchange(&mut self.marks, old.mark, new.mark);
+        exchange(&mut self.covers, old.cover, new.cover);
+        exchange(&mut self.dirty, old.dirty, new.dirty);
+        self.states.put(sector.0, state);
     }
 
     /// Nothing is kept of the sector afterwards. It takes no memory.
@@ -132,17 +133,10 @@ impl States {
         ensures entries { self.new.entries ≡ without self.old.entries sector.0 }
         ensures spare { self.old.spare ≤ self.new.spare }
     {
-        let old = self.get(sector);
-        unmark(&mut self.by_mark, sector, old);
-        self.states.remove(sector);
-    }
-
-    /// Nothing is kept afterwards of the sectors under a lock, none of which is dirty. It takes no memory.
-    pub(crate) fn drop_clean(&mut self, lock: LockId)
-        requires { first_dirty_state lock self.old.entries ≡ None }
-        ensures entries { self.new.entries ≡ filter (λ entry. not (is_state_under lock entry.1)) self.old.entries }
-        ensures spare { self.old.spare ≤ self.new.spare }
-    {
-        self.states.retain(|entry| !is_under(&entry.1, lock));
+        let old = keys_of(sector, self.get(sector));
+        take_out(&mut self.marks, old.mark);
+        take_out(&mut self.covers, old.cover);
+        take_out(&mut self.dirty, old.dirty);
+        self.states.remove(&sector.0);
     }
 }

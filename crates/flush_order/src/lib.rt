@@ -12,12 +12,50 @@ mod laws;
 
 use frang_base::Sector;
 pub use laws::the_first_in_order_is_the_least;
+use std::cmp::Ordering;
 
 /// A dirty sector, and the number of the log's last sector that must be acknowledged before it may be written.
 #[derive(Clone, Copy, Debug, PartialEq, Eq)]
 pub struct Mark {
     pub sector: Sector,
     pub mark: u64,
+}
+
+/// Marks ascend by their numbers, and those of one number by their sectors.
+impl Ord for Mark {
+    ghost use Rattle.std.proofs.Common.{rules};
+    ghost use Rattle.std.specs.Cmp.Rules.{comparing};
+    ghost use Rattle.flush_order.specs.Marks.{mark_cmp};
+
+    ghost cmp = { mark_cmp };
+
+    ghost total = { Prim.search (comparing, rules) };
+
+    ghost matches_partial_cmp = { Prim.search (comparing, rules) };
+
+    ghost matches_eq = { Prim.search (comparing, rules) };
+
+    fn cmp(&self, other: &Mark) -> Ordering {
+        self.mark
+            .cmp(&other.mark)
+            .then(self.sector.0.cmp(&other.sector.0))
+    }
+}
+
+impl PartialOrd for Mark {
+    ghost use Rattle.std.proofs.Common.{rules};
+    ghost use Rattle.std.specs.Cmp.{partial_order_from_own_ties};
+    ghost use Rattle.std.specs.Cmp.Rules.{comparing};
+    ghost use Rattle.std.specs.Ordering.{as_partial_cmp};
+    ghost use Rattle.flush_order.specs.Marks.{mark_cmp};
+
+    ghost partial_cmp = { as_partial_cmp mark_cmp };
+
+    ghost laws = { partial_order_from_own_ties (Prim.search (comparing, rules)) (Prim.search (comparing, rules)) };
+
+    fn partial_cmp(&self, other: &Mark) -> Option<Ordering> {
+        Some(self.cmp(other))
+    }
 }
 
 /// The first of the dirty sectors that may be written, where the log is acknowledged up to the number `reached`: its mark is at

@@ -4,6 +4,7 @@
 #![tactic(auto)]
 
 mod block;
+mod boxes;
 mod lists;
 mod plan;
 mod sector_map;

@@ -2,8 +2,6 @@
 ghost use Rattle.std.specs.Prelude.{◌≡◌, ◌+◌, ◌<◌, ◌≤◌, [], is_some, IsOk, OnOk, OnErr};
 ghost use Rattle.std.specs.Option.{option_copied};
 ghost use Rattle.std.specs.Ordering.{nat_cmp};
-ghost use Rattle.std.specs.List.Retain.{IsFiltered};
-ghost use Rattle.std.specs.Fn.{CalledAt};
 ghost use Rattle.sector_bytes.specs.SectorMaps.{Ascend, value_at, with_value, without, room_for};
 ghost use Rattle.sorted_entries.specs.Places.{place_of};
 
@@ -11,11 +9,12 @@ use frang_base::{NoMemory, Sector};
 use std::alloc::Global;
 use std::marker::Model;
 
-/// A map from sectors to values. Contracts see it as its entries, a sector's number with its value, ascending by sector, and for
-/// how many more entries there is room. A look-up takes time logarithmic in the number of entries.
+/// A map from a few sectors to values, whose entries lie one after the other. Contracts see it as its entries, a sector's number with
+/// its value, ascending by sector, and for how many more entries there is room. A look-up takes time logarithmic in the number of
+/// entries, and an insertion moves those behind it.
 #[derive(Debug, Drop)]
 pub struct SectorMap<T> {
-    pub(crate) entries: Vec<(u64, T)>,
+    entries: Vec<(u64, T)>,
 }
 
 impl<T> Model for SectorMap<T> {
@@ -49,8 +48,8 @@ impl<T: Drop> SectorMap<T> {
         &self.entries
     }
 
-    /// The sector's place, or the place where it would go.
-    pub(crate) fn place(&self, sector: Sector) -> Result<usize, usize>
+    // The sector's place, or the place where it would go.
+    fn place(&self, sector: Sector) -> Result<usize, usize>
         ensures place { result ≡ place_of nat_cmp sector.0 self.now.entries }
         ensures missing { OnErr result (value_at self.now.entries sector.0 ≡ None) }
     {
@@ -121,14 +120,5 @@ impl<T: Drop> SectorMap<T> {
         if let Ok(at) = self.place(sector) {
             let _ = self.entries.remove(at);
         }
-    }
-
-    /// Keeps the entries of which `keep` says so. It takes no memory.
-    pub fn retain<F: FnMut(&(u64, T)) -> bool>(&mut self, keep: F)
-        requires { F.IsAlwaysCallable keep }
-        ensures filtered { IsFiltered (CalledAt F.FnMut) keep self.old.entries self.new.entries }
-        ensures spare { self.old.spare ≤ self.new.spare }
-    {
-        self.entries.retain(keep);
     }
 }

@@ -1,5 +1,5 @@
 // Sectors with their blocks, which lie apart from the numbers of the sectors.
-ghost use Rattle.std.specs.Prelude.{◌≡◌, ◌+◌, ◌<◌, ◌≤◌, [], filter, is_some, IsOk, IsSome, OnOk, OnErr, length, true, vec_len};
+ghost use Rattle.std.specs.Prelude.{◌≡◌, ◌+◌, ◌<◌, ◌≤◌, [], None, IsOk, IsSome, OnOk, OnErr, length, true, vec_len};
 ghost use Rattle.std.specs.List.{slice_get};
 ghost use Rattle.std.specs.Option.{option_copied, option_map};
 ghost use Rattle.sector_bytes.specs.Changes.{changed, is_change};
@@ -8,18 +8,20 @@ ghost use Rattle.meta_version.specs.Updates.{IsOlder, with_change};
 ghost use Rattle.meta_version.specs.Boxes.{opened};
 ghost use Rattle.std.specs.Box.{box_value};
 
-use crate::SectorMap;
 use crate::block::lay;
+use crate::boxes::Overwrite;
 use frang_base::limits::SECTOR_BYTES;
 use frang_base::{Block, Change, NoMemory, Sector};
+use ordered_map::OrderedMap;
 use std::alloc::Global;
 use std::marker::Model;
 
 /// Sectors with their blocks. Contracts see them as entries, a sector's number with its block, ascending by sector, and for how
-/// many more there is room. A look-up takes time logarithmic in the number of entries, and what is inserted moves no blocks.
+/// many more there is room. A look-up and an insertion take time logarithmic in the number of entries, and what is inserted moves no
+/// blocks.
 #[derive(Debug, Drop)]
 pub struct Sectors {
-    blocks: SectorMap<Box<Block>>,
+    blocks: OrderedMap<u64, Box<Block>>,
     // Boxes for blocks to come; what they hold doesn't count.
     blank: Vec<Box<Block>>,
     alloc: Global,
@@ -27,13 +29,15 @@ pub struct Sectors {
 
 impl Model for Sectors {
     ghost use Rattle.std.specs.Prelude.{List, ℕ, min, vec_len};
-    ghost use Rattle.sector_bytes.specs.SectorMaps.{Spacious};
+    ghost use Rattle.sector_bytes.specs.SectorMaps.{Ascend, Spacious};
     ghost use Rattle.std.specs.Box.{box_value};
     ghost use Rattle.meta_version.specs.Boxes.{opened};
 
     ghost Value = { Spacious (List ℕ) };
 
     ghost view = { λ sectors. record { entries = opened sectors.blocks.entries box_value; spare = min sectors.blocks.spare (vec_len sectors.blank) } };
+
+    ghost invariant = { λ sectors. Ascend (opened sectors.blocks.entries box_value) };
 }
 
 // Writes a block over what the box holds.
@@ -41,14 +45,6 @@ fn overwrite(kept: &mut Box<Block>, block: Block)
     ensures { kept.new.value ≡ block }
 {
     **kept = block;
-}
-
-// Lays a change over the block in the box.
-fn lay_in(kept: &mut Box<Block>, change: &Change)
-    requires { is_change change.now ≡ true }
-    ensures { kept.new.value ≡ changed kept.old.value change.now }
-{
-    lay(&mut **kept, change);
 }
 
 // Adds boxes until there are `n`.
@@ -63,30 +59,30 @@ fn fill(blank: &mut Vec<Box<Block>>, alloc: Global, n: usize) -> Result<(), NoMe
     Ok(())
 }
 
-impl SectorMap<Box<Block>> {
-    // Writes a block over that of a sector that is set.
-    fn write(&mut self, sector: Sector, block: Block)
-        requires { IsSome (value_at self.old.entries sector.0) }
-        ensures entries { opened self.new.entries box_value ≡ with_value (opened self.old.entries box_value) sector.0 block }
-        ensures spare { self.new.spare ≡ self.old.spare }
-    {
-        match self.place(sector) {
-            Ok(at) => overwrite(&mut self.entries[at].1, block),
-            Err(_) => unreachable!(),
-        }
-    }
+// Writes a block over that of a sector that is set.
+fn write(blocks: &mut OrderedMap<u64, Box<Block>>, sector: Sector, block: Block)
+    requires { IsSome (value_at blocks.old.entries sector.0) }
+    ensures entries { opened blocks.new.entries box_value ≡ with_value (opened blocks.old.entries box_value) sector.0 block }
+    ensures spare { blocks.new.spare ≡ blocks.old.spare }
+{
+    blocks.change(&sector.0, &Overwrite { block });
+}
 
-    // Lays a change over the block of its sector, which is set.
-    fn lay(&mut self, change: &Change)
-        requires well_formed { is_change change.now ≡ true }
-        requires there { IsSome (value_at self.old.entries change.now.sector.0) }
-        ensures entries { opened self.new.entries box_value ≡ with_change (opened self.old.entries box_value) change.now }
-        ensures spare { self.new.spare ≡ self.old.spare }
-    {
-        match self.place(change.sector) {
-            Ok(at) => lay_in(&mut self.entries[at].1, change),
-            Err(_) => unreachable!(),
+// Lays a change over the block of its sector, which is set.
+fn lay_over(blocks: &mut OrderedMap<u64, Box<Block>>, change: &Change)
+    requires well_formed { is_change change.now ≡ true }
+    requires there { IsSome (value_at blocks.old.entries change.now.sector.0) }
+    requires ordered { Ascend (opened blocks.old.entries box_value) }
+    ensures entries { opened blocks.new.entries box_value ≡ with_change (opened blocks.old.entries box_value) change.now }
+    ensures spare { blocks.new.spare ≡ blocks.old.spare }
+{
+    match blocks.get(&change.sector.0) {
+        Some(kept) => {
+            let mut block = **kept;
+            lay(&mut block, change);
+            write(blocks, change.sector, block);
         }
+        None => unreachable!(),
     }
 }
 
@@ -96,7 +92,7 @@ impl Sectors {
         ensures { result.entries ≡ [] }
     {
         Sectors {
-            blocks: SectorMap::new(alloc),
+            blocks: OrderedMap::new(alloc),
             blank: Vec::new(alloc),
             alloc,
         }
@@ -107,14 +103,14 @@ impl Sectors {
         ensures count { result ≡ length self.now.entries }
         ensures ordered { Ascend self.now.entries }
     {
-        self.blocks.entries().len()
+        self.blocks.count()
     }
 
     /// The sector at a place, counted from 0 and ascending, with its block. `None` exactly where the place isn't below `count`.
     pub fn at(&self, i: usize) -> Option<(Sector, &Block)>
         ensures { option_map (λ entry. (entry.0.0, entry.1.now)) result ≡ slice_get self.now.entries i }
     {
-        match self.blocks.entries().get(i) {
+        match self.blocks.at(i) {
             Some(entry) => Some((Sector(entry.0), &*entry.1)),
             None => None,
         }
@@ -124,7 +120,7 @@ impl Sectors {
     pub fn get(&self, sector: Sector) -> Option<&Block>
         ensures { option_copied result ≡ value_at self.now.entries sector.0 }
     {
-        match self.blocks.get(sector) {
+        match self.blocks.get(&sector.0) {
             Some(kept) => Some(&**kept),
             None => None,
         }
@@ -147,8 +143,8 @@ impl Sectors {
         ensures entries { self.new.entries ≡ with_value self.old.entries sector.0 block }
         ensures spare { self.new.spare + room_for self.old.entries sector.0 ≡ self.old.spare }
     {
-        match self.blocks.get(sector) {
-            Some(_) => self.blocks.write(sector, block),
+        match self.blocks.get(&sector.0) {
+            Some(_) => write(&mut self.blocks, sector, block),
             None => self.add(sector, block),
         }
     }
@@ -163,7 +159,7 @@ impl Sectors {
         match self.blank.pop() {
             Some(mut kept) => {
                 overwrite(&mut kept, block);
-                self.blocks.put(sector, kept);
+                self.blocks.put(sector.0, kept);
             }
             None => unreachable!(),
         }
@@ -188,7 +184,7 @@ impl Sectors {
         ensures entries { self.new.entries ≡ with_change self.old.entries change.now }
         ensures spare { self.new.spare ≡ self.old.spare }
     {
-        self.blocks.lay(change);
+        lay_over(&mut self.blocks, change);
     }
 
     /// The sector isn't set afterwards, and all others stay. It takes no memory.
@@ -196,14 +192,6 @@ impl Sectors {
         ensures entries { self.new.entries ≡ without self.old.entries sector.0 }
         ensures spare { self.old.spare ≤ self.new.spare }
     {
-        self.blocks.remove(sector);
-    }
-
-    /// Keeps the sectors that are set in the other map too. It takes no memory.
-    pub fn keep_those_of<T: Drop>(&mut self, other: &SectorMap<T>)
-        ensures entries { self.new.entries ≡ filter (λ entry. is_some (value_at other.now.entries entry.0)) self.old.entries }
-        ensures spare { self.old.spare ≤ self.new.spare }
-    {
-        self.blocks.retain(|entry| other.has(Sector(entry.0)));
+        self.blocks.remove(&sector.0);
     }
 }

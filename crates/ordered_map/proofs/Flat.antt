@@ -135,6 +135,17 @@ module _ {E : Type 0} where
   pub read_chunk : (chunks : List (List E)) (c : ℕ) (chunk : List E) → c < length chunks → chunk ≡ get_or chunks c chunk → chunk ≡ chunk_at chunks c
   read_chunk chunks c chunk inside is = get_or_read chunks c chunk inside is []
 
+  below_removed : (xs : List (List E)) (c j : ℕ) (d : List E) → c < j → get_or (remove xs j) c d ≡ get_or xs c d
+  below_removed [] c zero d below = absurd (omega arith)
+  below_removed [] c (suc j) d below = refl
+  below_removed (x ∷ xs) c zero d below = absurd (omega arith)
+  below_removed (x ∷ xs) zero (suc j) d below = refl
+  below_removed (x ∷ xs) (suc c) (suc j) d below = below_removed xs c j d (omega arith)
+
+  -- a chunk before one that goes stays where it is
+  pub read_below : (chunks : List (List E)) (c j : ℕ) (chunk : List E) → c < j → j < length chunks → chunk ≡ get_or (remove chunks j) c chunk → chunk ≡ chunk_at chunks c
+  read_below chunks c j chunk below inside is = read_chunk chunks c chunk (omega arith) (is ∙ below_removed chunks c j chunk below)
+
   pub blank_push : (blank : List (List E)) (x : List E) → AreBlank blank → x ≡ [] → AreBlank (blank ++ x ∷ [])
   blank_push [] x all none = (none, tt)
   blank_push (y ∷ blank) x all none = (all.0, blank_push blank x all.1 none)

@@ -11,7 +11,7 @@ use Rattle.std.specs.declared.cmp.Ordering.TheVariants.{Less, Equal, Greater}
 use Rattle.std.proofs.lemmas.Bool.{false≢true}
 use Rattle.std.proofs.lemmas.List.{drop_more}
 use Rattle.sorted_entries.specs.Places.{further, place_of}
-use Rattle.ordered_map.specs.Chunks.{joined, chunk_at, flat, shifted, at_of, ends_below, AreFilled, IsLocated, IsChunkOf}
+use Rattle.ordered_map.specs.Chunks.{joined, chunk_at, flat, shifted, at_of, ends_below, AreFilled, AreBelow, IsLocated, IsChunkOf}
 use Rattle.ordered_map.specs.Entries.{first_from, room_for}
 use Rattle.ordered_map.proofs.Spots.{by_answer, place_found, place_missed, absent, IsPlace, IsGap}
 use Rattle.ordered_map.proofs.Flat.{whole, get_within}
@@ -57,9 +57,14 @@ module _ {K V : Type 0} {cmp : K → K → Ordering} (total : IsTotalOrder cmp) 
     whole = ap (shifted (length (joined (take chunk chunks)))) within ∙ sym (placed total key chunks chunk is);
   }
 
+get_none : {E : Type 0} (xs : List E) (n : ℕ) → length xs ≤ n → None ≡ slice_get xs n
+get_none [] n past = refl
+get_none (x ∷ xs) zero past = absurd (omega arith)
+get_none (x ∷ xs) (suc n) past = get_none xs n (omega arith)
+
 module _ {K V : Type 0} (cmp : K → K → Ordering) (key : K) where
   -- the first entry that doesn't lie below is at the key's place
-  first_place : (entries : List (K × V)) → first_from cmp entries key ≡ slice_get entries (at_of (place_of cmp key entries))
+  pub first_place : (entries : List (K × V)) → first_from cmp entries key ≡ slice_get entries (at_of (place_of cmp key entries))
   first_place [] = refl
   first_place (entry ∷ entries) = go (cmp key entry.0) (first_place entries)
     where
@@ -68,6 +73,15 @@ module _ {K V : Type 0} (cmp : K → K → Ordering) (key : K) where
       go Less rest = refl
       go Equal rest = refl
       go Greater rest = rest ∙ sym (ap (slice_get (entry ∷ entries)) (at_further (place_of cmp key entries)))
+
+  -- where all lie below there is none
+  pub none_from : (entries : List (K × V)) → AreBelow cmp key entries → first_from cmp entries key ≡ None
+  none_from [] below = refl
+  none_from (entry ∷ entries) below = ap (λ o. if is_le o then Some entry else first_from cmp entries key) below.0 ∙ none_from entries below.1
+
+  -- a place beyond the last entry is that of none
+  pub past_last : (entries : List (K × V)) → length entries ≤ at_of (place_of cmp key entries) → first_from cmp entries key ≡ None
+  past_last entries past = first_place entries ∙ sym (get_none entries (at_of (place_of cmp key entries)) past)
 
   -- a chunk that doesn't end below has that place
   pub reached : (chunk : List (K × V)) → 0 < length chunk → ends_below cmp key chunk ≡ false → at_of (place_of cmp key chunk) < length chunk

@@ -5,4 +5,3 @@ pub mod Halves
 pub mod Search
 pub mod Found
 pub mod Whole
-pub mod Revised

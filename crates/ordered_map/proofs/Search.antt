@@ -114,6 +114,13 @@ module _ {K V : Type 0} {cmp : K → K → Ordering} (total : IsTotalOrder cmp) 
         all_both (λ k. cmp key k ≡ Greater) chunk (joined (take c chunks)) (below_whole chunk (sorted_first chunk (joined chunks) sorted) (ends 0 [] (omega arith)))
         (below_taken chunks c (sorted_rest chunk (joined chunks) sorted) (omega arith) (λ j d below. ends (suc j) d (omega arith)))
 
+    -- where all chunks end below, all entries lie below
+    pub all_below : (chunks : List (List (K × V))) → IsStrictlySortedBy cmp (keys_of (joined chunks)) → ((j : ℕ) (d : List (K × V)) → j < length chunks → ends_below cmp key (get_or chunks j d) ≡ true) → AreBelow cmp key (joined chunks)
+    all_below [] sorted ends = tt
+    all_below (chunk ∷ chunks) sorted ends =
+        all_both (λ k. cmp key k ≡ Greater) chunk (joined chunks) (below_whole chunk (sorted_first chunk (joined chunks) sorted) (ends 0 [] (omega arith)))
+        (all_below chunks (sorted_rest chunk (joined chunks) sorted) (λ j d below. ends (suc j) d (omega arith)))
+
     -- ---- the place
 
     skips : (before rest : List (K × V)) → AreBelow cmp key before → place_of cmp key (before ++ rest) ≡ shifted (length before) (place_of cmp key rest)

@@ -11,7 +11,8 @@ use Rattle.std.specs.declared.cmp.Ordering.TheVariants.{Less, Equal, Greater}
 use Rattle.std.proofs.lemmas.Cmp.{alike_right}
 use Rattle.std.proofs.lemmas.Bool.{false≢true}
 use Rattle.sorted_entries.specs.Places.{further, place_of}
-use Rattle.ordered_map.specs.Chunks.{overwritten, ends_below, at_of}
+use Rattle.std.specs.Option.{option_map_or}
+use Rattle.ordered_map.specs.Chunks.{overwritten, ends_below, last_key, at_of}
 
 -- another value in the place of one is another entry there
 pub overwrites : {K V : Type 0} (entries : List (K × V)) (i : ℕ) (entry : K × V) (value : V) → i < length entries → entry ≡ get_or entries i entry → set entries i (entry.0, value) ≡ overwritten entries i value
@@ -19,12 +20,19 @@ overwrites [] i entry value inside is = absurd (omega arith)
 overwrites (e ∷ entries) zero entry value inside is = ap (λ x. (x.0, value) ∷ entries) is
 overwrites (e ∷ entries) (suc i) entry value inside is = ap (λ rest. e ∷ rest) (overwrites entries i entry value (omega arith) is)
 
-pub ends_below_last : {K V : Type 0} (cmp : K → K → Ordering) (key : K) (entries : List (K × V)) (i : ℕ) (entry : K × V) → suc i ≡ length entries → entry ≡ get_or entries i entry → is_gt (cmp key entry.0) ≡ ends_below cmp key entries
-ends_below_last cmp key [] i entry last is = absurd (omega arith)
-ends_below_last cmp key (e ∷ []) zero entry last is = ap (λ x. is_gt (cmp key x.0)) is
-ends_below_last cmp key (e ∷ []) (suc i) entry last is = absurd (omega arith)
-ends_below_last cmp key (e ∷ f ∷ entries) zero entry last is = absurd (omega arith)
-ends_below_last cmp key (e ∷ f ∷ entries) (suc i) entry last is = ends_below_last cmp key (f ∷ entries) i entry (omega arith) is
+-- the last key tells whether the entries end below
+pub ends_by_last : {K V : Type 0} (cmp : K → K → Ordering) (key : K) (entries : List (K × V)) → option_map_or (λ last. is_gt (cmp key last)) (last_key entries) false ≡ ends_below cmp key entries
+ends_by_last cmp key [] = refl
+ends_by_last cmp key (e ∷ []) = refl
+ends_by_last cmp key (e ∷ f ∷ entries) = ends_by_last cmp key (f ∷ entries)
+
+-- the key of the last entry
+pub last_key_is : {K V : Type 0} (entries : List (K × V)) (i : ℕ) (entry : K × V) → suc i ≡ length entries → entry ≡ get_or entries i entry → Some entry.0 ≡ last_key entries
+last_key_is [] i entry last is = absurd (omega arith)
+last_key_is (e ∷ []) zero entry last is = ap (λ x. Some x.0) is
+last_key_is (e ∷ []) (suc i) entry last is = absurd (omega arith)
+last_key_is (e ∷ f ∷ entries) zero entry last is = absurd (omega arith)
+last_key_is (e ∷ f ∷ entries) (suc i) entry last is = last_key_is (f ∷ entries) i entry (omega arith) is
 
 -- ---- results at places
 

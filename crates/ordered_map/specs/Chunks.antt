@@ -1,5 +1,5 @@
 -- How an ordered map keeps its entries: in chunks, one after the other, none of them empty, with blank chunks beside them for what is to come.
-use Rattle.std.specs.Prelude.{◌≡◌, ℕ, zero, suc, ◌+◌, ◌-◌, ◌*◌, ◌<◌, ◌≤◌, Bool, false, List, [], ◌∷◌, ◌++◌, length, take, drop, slice_index_or, Result, Ok, Err, refl}
+use Rattle.std.specs.Prelude.{◌≡◌, ℕ, zero, suc, ◌+◌, ◌-◌, ◌*◌, ◌<◌, ◌≤◌, Bool, false, List, [], ◌∷◌, ◌++◌, length, take, drop, slice_index_or, Option, Some, None, Result, Ok, Err, refl}
 use Rattle.std.specs.Coded.{Coded, code_by, coded×, coded_list, coded_ℕ}
 use Rattle.std.specs.List.{AllByRecursion}
 use Rattle.std.specs.List.Sorted.{IsStrictlySortedBy}
@@ -44,6 +44,17 @@ abbrev pub ends_below : {K V : Type 0} → (K → K → Ordering) → K → List
 ends_below cmp key [] = false
 ends_below cmp key (entry ∷ []) = is_gt (cmp key entry.0)
 ends_below cmp key (entry ∷ next ∷ entries) = ends_below cmp key (next ∷ entries)
+
+-- the last key, where there are entries
+abbrev pub last_key : {K V : Type 0} → List (K × V) → Option K
+last_key [] = None
+last_key (entry ∷ []) = Some entry.0
+last_key (entry ∷ next ∷ entries) = last_key (next ∷ entries)
+
+-- the chunk's memory has room for all that it may hold, and the key beside its entries is their last
+pub record IsWhole {K V : Type 0} (most : ℕ) (entries : List (K × V)) (last : Option K) : Type 0 where
+  pub room : CHUNK ≤ most
+  pub key : last ≡ last_key entries
 
 -- no chunk is empty, and none holds too many
 abbrev pub AreFilled : {E : Type 0} → List (List E) → Type 0

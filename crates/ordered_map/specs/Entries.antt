@@ -1,9 +1,8 @@
 -- What contracts see of an ordered map, and what its calls make of its entries.
-use Rattle.std.specs.Prelude.{◌≡◌, ℕ, List, Bool, true, false, Option, Some, None, is_some, if◌then◌else◌, find, refl}
+use Rattle.std.specs.Prelude.{ℕ, List, Option, is_some, if◌then◌else◌, find, refl}
 use Rattle.std.specs.Coded.{Coded, code_by, coded×, coded_list, coded_ℕ}
 use Rattle.std.specs.Map.{lookup}
 use Rattle.std.specs.BTreeMap.{is_at}
-use Rattle.std.specs.Option.{option_map}
 use Rattle.std.specs.Ordering.{is_le}
 use Rattle.std.specs.declared.cmp.Ordering.{Ordering}
 
@@ -24,12 +23,3 @@ room_for cmp entries key = if is_some (lookup (is_at (cmp key)) entries) then 0 
 -- the first entry whose key isn't below this one
 abbrev pub first_from : {K V : Type 0} → (K → K → Ordering) → List (K × V) → K → Option (K × V)
 first_from cmp entries key = find (λ entry. is_le (cmp key entry.0)) entries
-
--- where something is made it stays, and else nothing does
-abbrev pub IsLeft : {V : Type 0} → Option V → Bool → V → Type 0
-IsLeft None stays left = stays ≡ false
-IsLeft (Some made) stays left = (stays ≡ true) × (left ≡ made)
-
--- the entry with what a revision makes of its value
-abbrev pub revised_entry : {K V : Type 0} → (K → V → Option V) → K × V → Option (K × V)
-revised_entry revised entry = option_map (λ value. (entry.0, value)) (revised entry.0 entry.1)

@@ -1,11 +1,12 @@
 // A run of entries that lie in one piece of memory.
-ghost use Rattle.std.specs.Prelude.{◌≡◌, ◌+◌, ◌<◌, ◌≤◌, ◌++◌, [], length, reverse, take, drop, slice_index_or, vec_len, vec_capacity, Option, IfOk};
-ghost use Rattle.std.specs.List.{insert, remove, filter_map};
+ghost use Rattle.std.specs.Prelude.{◌≡◌, ◌+◌, ◌<◌, ◌≤◌, ◌++◌, [], length, reverse, take, drop, slice_index_or, vec_len, vec_capacity, IfOk};
+ghost use Rattle.std.specs.List.{insert, remove};
 ghost use Rattle.std.specs.List.Sorted.{IsStrictlySortedBy};
 ghost use Rattle.std.specs.Map.{keys_of};
+ghost use Rattle.std.specs.Option.{option_copied};
 ghost use Rattle.sorted_entries.specs.Places.{place_of};
-ghost use Rattle.ordered_map.specs.Chunks.{overwritten, ends_below};
-ghost use Rattle.ordered_map.specs.Entries.{IsLeft, revised_entry};
+ghost use Rattle.ordered_map.specs.Chunks.{overwritten, ends_below, last_key, at_of};
+ghost use Rattle.ordered_map.specs.Entries.{first_from};
 
 use std::alloc::{AllocError, Global};
 use std::marker::Model;
@@ -23,12 +24,14 @@ pub(crate) const QUARTER: usize = 64;
 #[derive(Debug, Drop)]
 pub struct Chunk<K, V> {
     entries: Vec<(K, V)>,
+    // The last key: a search for a chunk reads it, and none of the entries.
+    last: Option<K>,
 }
 
 impl<K, V> Model for Chunk<K, V> {
-    ghost use Rattle.std.specs.Prelude.{List, ◌≤◌, vec_capacity};
+    ghost use Rattle.std.specs.Prelude.{List, vec_capacity};
     ghost use Rattle.std.specs.Coded.{coded_list, coded×};
-    ghost use Rattle.ordered_map.specs.declared.chunk.TheConstants.{CHUNK};
+    ghost use Rattle.ordered_map.specs.Chunks.{IsWhole};
 
     ghost Value = { List (K × V) };
 
@@ -36,7 +39,7 @@ impl<K, V> Model for Chunk<K, V> {
 
     ghost view = { λ chunk. chunk.entries.items };
 
-    ghost invariant = { λ chunk. CHUNK ≤ vec_capacity chunk.entries };
+    ghost invariant = { λ chunk. IsWhole (vec_capacity chunk.entries) chunk.entries.items chunk.last };
 }
 
 /// What becomes of a value that is changed where it lies.
@@ -45,15 +48,6 @@ pub trait Edit<V> {
 
     fn edit(&self, value: &mut V)
         ensures { value.new ≡ edited self.now value.old };
-}
-
-/// What becomes of entries that are looked through: each stays with another value, or goes.
-pub trait Revision<K, V> {
-    ghost revised: { Self → K → V → Option V };
-
-    /// Changes the value. Whether the entry stays.
-    fn revise(&self, key: &K, value: &mut V) -> bool
-        ensures { IsLeft (revised self.now key.now value.old) result value.new };
 }
 
 // Moves the last element of one vector to the end of another that has room.
@@ -91,6 +85,43 @@ fn move_above<T>(from: &mut Vec<T>, to: &mut Vec<T>, n: usize)
     to.reverse();
 }
 
+// Puts an element in at a place of a vector that has room.
+fn put_in<T: Drop>(xs: &mut Vec<T>, at: usize, x: T)
+    requires inside { at ≤ vec_len xs.old }
+    requires room { vec_len xs.old < vec_capacity xs.old }
+    ensures items { xs.new.items ≡ insert xs.old.items at x }
+    ensures capacity { vec_capacity xs.old ≤ vec_capacity xs.new }
+{
+    match xs.insert(at, x) {
+        Ok(()) => {}
+        Err(_) => unreachable!(),
+    }
+}
+
+// Moves all elements of one vector to the end of another that has room.
+fn move_all<T: Drop>(from: &mut Vec<T>, to: &mut Vec<T>)
+    requires room { vec_len to.old + vec_len from.old ≤ vec_capacity to.old }
+    ensures from { from.new.items ≡ [] }
+    ensures to { to.new.items ≡ to.old.items ++ from.old.items }
+    ensures from_capacity { vec_capacity from.old ≤ vec_capacity from.new }
+    ensures to_capacity { vec_capacity to.old ≤ vec_capacity to.new }
+{
+    match to.append(from) {
+        Ok(()) => {}
+        Err(_) => unreachable!(),
+    }
+}
+
+// The last key.
+fn last_key<K: Copy, V>(entries: &[(K, V)]) -> Option<K>
+    ensures { result ≡ last_key entries.now }
+{
+    match entries.last() {
+        Some(entry) => Some(entry.0),
+        None => None,
+    }
+}
+
 // Puts another value in the place of one.
 fn overwrite<V: Drop>(kept: &mut V, value: V)
     ensures { kept.new ≡ value }
@@ -98,13 +129,14 @@ fn overwrite<V: Drop>(kept: &mut V, value: V)
     *kept = value;
 }
 
-impl<K: Drop, V: Drop> Chunk<K, V> {
+impl<K: Copy + Drop, V: Drop> Chunk<K, V> {
     /// A chunk without entries.
     pub(crate) fn new(alloc: Global) -> Result<Self, AllocError>
         ensures { IfOk result (λ chunk. chunk ≡ []) }
     {
         Ok(Chunk {
             entries: Vec::with_capacity(alloc, CHUNK)?,
+            last: None,
         })
     }
 
@@ -136,10 +168,8 @@ impl<K: Drop, V: Drop> Chunk<K, V> {
         requires room { length self.old < CHUNK }
         ensures { self.new ≡ insert self.old at (key, value) }
     {
-        match self.entries.insert(at, (key, value)) {
-            Ok(()) => {}
-            Err(_) => unreachable!(),
-        }
+        put_in(&mut self.entries, at, (key, value));
+        self.last = last_key(&self.entries);
     }
 
     /// Puts another value in the place of one.
@@ -148,6 +178,7 @@ impl<K: Drop, V: Drop> Chunk<K, V> {
         ensures { self.new ≡ overwritten self.old at value }
     {
         overwrite(&mut self.entries[at].1, value);
+        self.last = last_key(&self.entries);
     }
 
     /// Takes the entry at a place out.
@@ -156,6 +187,7 @@ impl<K: Drop, V: Drop> Chunk<K, V> {
         ensures { self.new ≡ remove self.old at }
     {
         let _ = self.entries.remove(at);
+        self.last = last_key(&self.entries);
     }
 
     /// Takes all entries out.
@@ -163,6 +195,7 @@ impl<K: Drop, V: Drop> Chunk<K, V> {
         ensures { self.new ≡ [] }
     {
         self.entries.clear();
+        self.last = None;
     }
 
     /// Moves all entries of another chunk to the end. There is room for them.
@@ -171,10 +204,9 @@ impl<K: Drop, V: Drop> Chunk<K, V> {
         ensures all { self.new ≡ self.old ++ upper.old }
         ensures blank { upper.new ≡ [] }
     {
-        match self.entries.append(&mut upper.entries) {
-            Ok(()) => {}
-            Err(_) => unreachable!(),
-        }
+        move_all(&mut upper.entries, &mut self.entries);
+        upper.last = None;
+        self.last = last_key(&self.entries);
     }
 
     /// Moves what lies above the first half to a blank chunk.
@@ -186,6 +218,8 @@ impl<K: Drop, V: Drop> Chunk<K, V> {
         ensures upper { upper.new ≡ drop HALF self.old }
     {
         move_above(&mut self.entries, &mut upper.entries, HALF);
+        self.last = last_key(&self.entries);
+        upper.last = last_key(&upper.entries);
     }
 
     /// Changes the value at a place.
@@ -194,31 +228,17 @@ impl<K: Drop, V: Drop> Chunk<K, V> {
         ensures { (d : K × V) → self.new ≡ overwritten self.old at (E.edited edit.now (slice_index_or self.old at d).1) }
     {
         edit.edit(&mut self.entries[at].1);
-    }
-
-    /// Keeps each entry that a revision keeps, with the value that it gives.
-    pub(crate) fn revise<R: Revision<K, V>>(&mut self, revision: &R)
-        ensures { self.new ≡ filter_map (revised_entry (R.revised revision.now)) self.old }
-    {
-        self.entries
-            .retain_mut(|entry| revise_entry(entry, revision));
+        self.last = last_key(&self.entries);
     }
 }
 
-// Revises an entry. Whether it stays.
-fn revise_entry<K, V, R: Revision<K, V>>(entry: &mut (K, V), revision: &R) -> bool
-    ensures { IsLeft (revised_entry (R.revised revision.now) entry.old) result entry.new }
-{
-    revision.revise(&entry.0, &mut entry.1)
-}
-
-impl<K: Ord, V> Chunk<K, V> {
+impl<K: Ord + Copy, V> Chunk<K, V> {
     /// Whether the last key is below this one.
     pub(crate) fn ends_below(&self, key: &K) -> bool
         ensures { result ≡ ends_below K.cmp key.now self.now }
     {
-        match self.entries.last() {
-            Some(entry) => key.cmp(&entry.0).is_gt(),
+        match self.last {
+            Some(last) => key.cmp(&last).is_gt(),
             None => false,
         }
     }
@@ -229,5 +249,31 @@ impl<K: Ord, V> Chunk<K, V> {
         ensures place { result ≡ place_of K.cmp key.now self.now }
     {
         self.entries.binary_search_by(|entry| entry.0.cmp(key))
+    }
+
+    /// The place of the first entry whose key isn't below this one, or how many there are where all keys are.
+    pub(crate) fn place_from(&self, key: &K) -> usize
+        requires { IsStrictlySortedBy K.cmp (keys_of self.now) }
+        ensures { result ≡ at_of (place_of K.cmp key.now self.now) }
+    {
+        match self.place(key) {
+            Ok(at) => at,
+            Err(at) => at,
+        }
+    }
+}
+
+impl<K: Ord + Copy + Drop, V: Drop> Chunk<K, V> {
+    /// The first entry whose key isn't below this one.
+    pub(crate) fn first_from(&self, key: &K) -> Option<&(K, V)>
+        requires { IsStrictlySortedBy K.cmp (keys_of self.now) }
+        ensures { option_copied result ≡ first_from K.cmp self.now key.now }
+    {
+        let at = self.place_from(key);
+        if at < self.len() {
+            Some(self.entry(at))
+        } else {
+            None
+        }
     }
 }

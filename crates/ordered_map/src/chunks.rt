@@ -28,7 +28,7 @@ impl<K, V> Model for Chunks<K, V> {
     ghost invariant = { λ c. AreKept c.chunks.items c.blank.items (vec_capacity c.chunks) (vec_capacity c.blank) };
 }
 
-impl<K: Drop, V: Drop> Chunks<K, V> {
+impl<K: Copy + Drop, V: Drop> Chunks<K, V> {
     /// No chunks. It takes no memory.
     pub(crate) fn new(alloc: Global) -> Self
         ensures chunks { result.chunks ≡ [] }

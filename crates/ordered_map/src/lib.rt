@@ -8,5 +8,5 @@ mod chunk;
 mod chunks;
 mod map;
 
-pub use chunk::{Chunk, Edit, Revision};
+pub use chunk::{Chunk, Edit};
 pub use map::OrderedMap;

@@ -6,7 +6,7 @@ ghost use Rattle.std.specs.Map.{lookup, remove_entry, keys_of};
 ghost use Rattle.std.specs.BTreeMap.{insert_entry, is_at};
 ghost use Rattle.std.specs.Option.{option_copied};
 ghost use Rattle.ordered_map.specs.Chunks.{AreFilled, joined, chunk_at, flat, ends_below, AreClose, IsCloseBut, capacity, IsChunkOf, IsLocated};
-ghost use Rattle.ordered_map.specs.Entries.{room_for};
+ghost use Rattle.ordered_map.specs.Entries.{room_for, first_from};
 
 use crate::chunk::{CHUNK, Chunk, Edit, HALF, QUARTER};
 use crate::chunks::Chunks;
@@ -48,7 +48,7 @@ struct Place {
 }
 
 // The first chunk that doesn't end below the key, or as many as there are where all do.
-fn first_reaching<K: Ord, V>(chunks: &[Chunk<K, V>], key: &K) -> usize
+fn first_reaching<K: Ord + Copy, V>(chunks: &[Chunk<K, V>], key: &K) -> usize
     requires filled { AreFilled chunks.now }
     requires ordered { IsStrictlySortedBy K.cmp (keys_of (joined chunks.now)) }
     ensures bound { result ≤ length chunks.now }
@@ -58,7 +58,7 @@ fn first_reaching<K: Ord, V>(chunks: &[Chunk<K, V>], key: &K) -> usize
 }
 
 // The chunk in which a key is or would go. There are chunks.
-fn chunk_of<K: Ord, V>(chunks: &[Chunk<K, V>], key: &K) -> usize
+fn chunk_of<K: Ord + Copy, V>(chunks: &[Chunk<K, V>], key: &K) -> usize
     requires filled { AreFilled chunks.now }
     requires ordered { IsStrictlySortedBy K.cmp (keys_of (joined chunks.now)) }
     requires some { 0 < length chunks.now }
@@ -73,7 +73,7 @@ fn chunk_of<K: Ord, V>(chunks: &[Chunk<K, V>], key: &K) -> usize
 }
 
 // Where a key is or would go. `None` exactly where there are no chunks.
-fn locate<K: Ord, V>(chunks: &[Chunk<K, V>], key: &K) -> Option<Spot>
+fn locate<K: Ord + Copy, V>(chunks: &[Chunk<K, V>], key: &K) -> Option<Spot>
     requires filled { AreFilled chunks.now }
     requires ordered { IsStrictlySortedBy K.cmp (keys_of (joined chunks.now)) }
     ensures none { result ≡ None → chunks.now ≡ [] }
@@ -88,7 +88,7 @@ fn locate<K: Ord, V>(chunks: &[Chunk<K, V>], key: &K) -> Option<Spot>
 }
 
 // The entry at a place of a chunk.
-fn entry_of<K: Drop, V: Drop>(chunks: &[Chunk<K, V>], chunk: usize, at: usize) -> &(K, V)
+fn entry_of<K: Copy + Drop, V: Drop>(chunks: &[Chunk<K, V>], chunk: usize, at: usize) -> &(K, V)
     requires inside { chunk < length chunks.now }
     requires place { at < length (chunk_at chunks.now chunk) }
     ensures { result.now ≡ slice_index_or (chunk_at chunks.now chunk) at result.now }
@@ -97,7 +97,7 @@ fn entry_of<K: Drop, V: Drop>(chunks: &[Chunk<K, V>], chunk: usize, at: usize) -
 }
 
 // How many entries a chunk has.
-fn count_in<K: Drop, V: Drop>(chunks: &Chunks<K, V>, chunk: usize) -> usize
+fn count_in<K: Copy + Drop, V: Drop>(chunks: &Chunks<K, V>, chunk: usize) -> usize
     requires { chunk < length chunks.now.chunks }
     ensures count { result ≡ length (chunk_at chunks.now.chunks chunk) }
     ensures fits { chunk < usize.MAX }
@@ -106,7 +106,7 @@ fn count_in<K: Drop, V: Drop>(chunks: &Chunks<K, V>, chunk: usize) -> usize
 }
 
 // The entry at a place among all.
-fn entry_at<K: Drop, V: Drop>(chunks: &[Chunk<K, V>], i: usize) -> Option<&(K, V)>
+fn entry_at<K: Copy + Drop, V: Drop>(chunks: &[Chunk<K, V>], i: usize) -> Option<&(K, V)>
     ensures { option_copied result ≡ slice_get (joined chunks.now) i }
 {
     let mut rest = i;
@@ -120,7 +120,7 @@ fn entry_at<K: Drop, V: Drop>(chunks: &[Chunk<K, V>], i: usize) -> Option<&(K, V
 }
 
 // Splits a chunk where it is full. Where the place then is.
-fn make_way<K: Drop, V: Drop>(chunks: &mut Chunks<K, V>, chunk: usize, at: usize) -> Place
+fn make_way<K: Copy + Drop, V: Drop>(chunks: &mut Chunks<K, V>, chunk: usize, at: usize) -> Place
     requires inside { chunk < length chunks.old.chunks }
     requires place { at ≤ length (chunk_at chunks.old.chunks chunk) }
     requires filled { AreFilled chunks.old.chunks }
@@ -151,7 +151,13 @@ fn make_way<K: Drop, V: Drop>(chunks: &mut Chunks<K, V>, chunk: usize, at: usize
 }
 
 // Puts an entry in at a place.
-fn put_in<K: Drop, V: Drop>(chunks: &mut Chunks<K, V>, chunk: usize, at: usize, key: K, value: V)
+fn put_in<K: Copy + Drop, V: Drop>(
+    chunks: &mut Chunks<K, V>,
+    chunk: usize,
+    at: usize,
+    key: K,
+    value: V,
+)
     requires inside { chunk < length chunks.old.chunks }
     requires place { at ≤ length (chunk_at chunks.old.chunks chunk) }
     requires filled { AreFilled chunks.old.chunks }
@@ -167,7 +173,7 @@ fn put_in<K: Drop, V: Drop>(chunks: &mut Chunks<K, V>, chunk: usize, at: usize, 
 }
 
 // A chunk and the next one hold few entries.
-fn are_few<K: Drop, V: Drop>(chunks: &[Chunk<K, V>], chunk: usize) -> bool
+fn are_few<K: Copy + Drop, V: Drop>(chunks: &[Chunk<K, V>], chunk: usize) -> bool
     requires { chunk + 1 < length chunks.now }
     ensures few { result ≡ true → length (chunk_at chunks.now chunk) + length (chunk_at chunks.now (chunk + 1)) ≤ HALF }
     ensures many { result ≡ false → HALF < length (chunk_at chunks.now chunk) + length (chunk_at chunks.now (chunk + 1)) }
@@ -176,7 +182,7 @@ fn are_few<K: Drop, V: Drop>(chunks: &[Chunk<K, V>], chunk: usize) -> bool
 }
 
 // There is a next chunk, and the two hold few entries.
-fn is_few_with_next<K: Drop, V: Drop>(chunks: &Chunks<K, V>, chunk: usize) -> bool
+fn is_few_with_next<K: Copy + Drop, V: Drop>(chunks: &Chunks<K, V>, chunk: usize) -> bool
     requires { chunk < length chunks.now.chunks }
     ensures few { result ≡ true → (chunk + 1 < length chunks.now.chunks) × (length (chunk_at chunks.now.chunks chunk) + length (chunk_at chunks.now.chunks (chunk + 1)) ≤ HALF) }
     ensures many { result ≡ false → chunk + 1 < length chunks.now.chunks → HALF < length (chunk_at chunks.now.chunks chunk) + length (chunk_at chunks.now.chunks (chunk + 1)) }
@@ -186,7 +192,7 @@ fn is_few_with_next<K: Drop, V: Drop>(chunks: &Chunks<K, V>, chunk: usize) -> bo
 }
 
 // There is a chunk before, and the two hold few entries.
-fn is_few_with_last<K: Drop, V: Drop>(chunks: &Chunks<K, V>, chunk: usize) -> bool
+fn is_few_with_last<K: Copy + Drop, V: Drop>(chunks: &Chunks<K, V>, chunk: usize) -> bool
     requires { chunk < length chunks.now.chunks }
     ensures few { result ≡ true → (0 < chunk) × (length (chunk_at chunks.now.chunks (chunk - 1)) + length (chunk_at chunks.now.chunks (chunk - 1 + 1)) ≤ HALF) }
     ensures many { result ≡ false → 0 < chunk → HALF < length (chunk_at chunks.now.chunks (chunk - 1)) + length (chunk_at chunks.now.chunks (chunk - 1 + 1)) }
@@ -195,7 +201,7 @@ fn is_few_with_last<K: Drop, V: Drop>(chunks: &Chunks<K, V>, chunk: usize) -> bo
 }
 
 // Moves all entries of a chunk to the one before.
-fn merge_with_last<K: Drop, V: Drop>(chunks: &mut Chunks<K, V>, chunk: usize)
+fn merge_with_last<K: Copy + Drop, V: Drop>(chunks: &mut Chunks<K, V>, chunk: usize)
     requires some { 0 < chunk }
     requires inside { chunk < length chunks.old.chunks }
     requires few { length (chunk_at chunks.old.chunks (chunk - 1)) + length (chunk_at chunks.old.chunks (chunk - 1 + 1)) ≤ CHUNK }
@@ -206,7 +212,7 @@ fn merge_with_last<K: Drop, V: Drop>(chunks: &mut Chunks<K, V>, chunk: usize)
 }
 
 // Merges a chunk with a neighbour, where the two hold few entries.
-fn settle<K: Drop, V: Drop>(chunks: &mut Chunks<K, V>, chunk: usize)
+fn settle<K: Copy + Drop, V: Drop>(chunks: &mut Chunks<K, V>, chunk: usize)
     requires inside { chunk < length chunks.old.chunks }
     requires filled { AreFilled chunks.old.chunks }
     requires close { IsCloseBut chunks.old.chunks chunk }
@@ -236,7 +242,7 @@ fn blanks_for(count: usize, chunks: usize, n: usize) -> Option<usize>
 }
 
 // Takes the entry at a place out.
-fn take_out<K: Drop, V: Drop>(chunks: &mut Chunks<K, V>, chunk: usize, at: usize)
+fn take_out<K: Copy + Drop, V: Drop>(chunks: &mut Chunks<K, V>, chunk: usize, at: usize)
     requires inside { chunk < length chunks.old.chunks }
     requires place { at < length (chunk_at chunks.old.chunks chunk) }
     requires filled { AreFilled chunks.old.chunks }
@@ -255,7 +261,7 @@ fn take_out<K: Drop, V: Drop>(chunks: &mut Chunks<K, V>, chunk: usize, at: usize
     }
 }
 
-impl<K: Ord + Drop, V: Drop> OrderedMap<K, V> {
+impl<K: Ord + Copy + Drop, V: Drop> OrderedMap<K, V> {
     /// No entries. It takes no memory.
     pub fn new(alloc: Global) -> Self
         ensures entries { result.entries ≡ [] }
@@ -270,6 +276,7 @@ impl<K: Ord + Drop, V: Drop> OrderedMap<K, V> {
     /// How many entries there are.
     pub fn count(&self) -> usize
         ensures count { result ≡ length self.now.entries }
+        ensures most { self.now.spare + length self.now.entries ≤ usize.MAX }
         ensures ordered { IsStrictlySortedBy K.cmp (keys_of self.now.entries) }
     {
         self.count
@@ -307,6 +314,19 @@ impl<K: Ord + Drop, V: Drop> OrderedMap<K, V> {
         ensures { option_copied result ≡ slice_get self.now.entries 0 }
     {
         self.chunks.all().first()?.entries().first()
+    }
+
+    /// The first entry whose key isn't below this one. `None` exactly where all keys are below.
+    pub fn first_from(&self, key: &K) -> Option<&(K, V)>
+        ensures { option_copied result ≡ first_from K.cmp self.now.entries key.now }
+    {
+        let chunks = self.chunks.all();
+        let first = first_reaching(chunks, key);
+        if first < chunks.len() {
+            chunks[first].first_from(key)
+        } else {
+            None
+        }
     }
 
     /// Makes room for `n` more entries. Nothing else changes, whatever the answer. It takes no memory where there is that room.

@@ -12,6 +12,7 @@ use Rattle.std.proofs.lemmas.Map.Keys.{IsDistinct-push}
 use Rattle.std.proofs.lemmas.Map.Views.{All-map-remove_entry}
 use Rattle.std.proofs.lemmas.Cmp.{nat_eq_equiv}
 use Rattle.frang_outside.specs.declared.act.Put.{Put}
+use Rattle.sector_bytes.specs.SectorMaps.{Ascend}
 use Rattle.sorted_entries.proofs.Sorted.{sorted-remove_entry}
 use Rattle.petal_disk.specs.declared.ticket.Ticket.{Ticket}
 use Rattle.petal_disk.specs.Flights.{Writes, is_ticket, without, busy_with, ticket_cmp, sectors, AreFlights}
@@ -20,6 +21,10 @@ use Rattle.petal_disk.specs.Flights.{Writes, is_ticket, without, busy_with, tick
 pub AreFlights-none : (next : ℕ) → AreFlights (record { writes = []; next = next; room = 0 })
 unfolding IsStrictlySortedBy IsDistinct
 AreFlights-none next = record { ascending = tt; given = All-nil (λ ticket. ticket.0 < next); apart = tt }
+
+pub no_tickets : Ascend {V = Ticket} []
+unfolding IsStrictlySortedBy
+no_tickets = tt
 
 -- ---- one more
 

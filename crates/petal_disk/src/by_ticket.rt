@@ -1,15 +1,15 @@
 // Writes in order of their tickets, each in a box of its own.
-ghost use Rattle.std.specs.Prelude.{◌≡◌, ◌+◌, ◌<◌, ◌≤◌, ◌++◌, ◌∷◌, [], None, IsOk, OnOk, OnErr, length};
+ghost use Rattle.std.specs.Prelude.{◌≡◌, ◌+◌, ◌<◌, ◌≤◌, ◌++◌, ◌∷◌, [], IsOk, OnOk, length};
 ghost use Rattle.std.specs.List.{All, slice_get};
 ghost use Rattle.std.specs.Map.{keys_of};
 ghost use Rattle.std.specs.Option.{option_copied, option_map};
-ghost use Rattle.sorted_entries.specs.Places.{place_of};
-ghost use Rattle.petal_disk.specs.Flights.{ticket_cmp, write_at, without};
+ghost use Rattle.petal_disk.specs.Flights.{write_at, without};
 
 use crate::Ticket;
 use frang_base::limits::SECTOR_BYTES;
 use frang_base::{NoMemory, Sector, ServerId};
 use frang_outside::Put;
+use ordered_map::OrderedMap;
 use std::alloc::Global;
 use std::marker::Model;
 
@@ -17,28 +17,23 @@ use std::marker::Model;
 /// logarithmic in their number, and where one is taken out no block moves.
 #[derive(Debug, Drop)]
 pub(crate) struct WritesByTicket {
-    writes: Vec<(Ticket, Box<Put>)>,
+    writes: OrderedMap<Ticket, Box<Put>>,
     // Boxes for writes to come; what they hold doesn't count.
     blank: Vec<Box<Put>>,
     alloc: Global,
 }
 
 impl Model for WritesByTicket {
-    ghost use Rattle.std.specs.Prelude.{◌-◌, min, vec_len, vec_capacity};
+    ghost use Rattle.std.specs.Prelude.{min, vec_len};
     ghost use Rattle.std.specs.Box.{box_value};
-    ghost use Rattle.std.specs.List.Sorted.{IsStrictlySortedBy};
-    ghost use Rattle.std.specs.Map.{keys_of};
-    ghost use Rattle.petal_disk.specs.Flights.{ticket_cmp};
     ghost use Rattle.petal_disk.specs.Keeping.{Kept, opened};
 
     ghost Value = { Kept };
 
     ghost view = { λ kept. record {
-      writes = opened kept.writes.items box_value;
-      spare = min (vec_capacity kept.writes - vec_len kept.writes) (vec_len kept.blank);
+      writes = opened kept.writes.entries box_value;
+      spare = min kept.writes.spare (vec_len kept.blank);
     } };
-
-    ghost invariant = { λ kept. IsStrictlySortedBy ticket_cmp (keys_of kept.writes.items) };
 }
 
 // A write for a box whose content doesn't count.
@@ -66,7 +61,7 @@ impl WritesByTicket {
         ensures { result.writes ≡ [] }
     {
         WritesByTicket {
-            writes: Vec::new(alloc),
+            writes: OrderedMap::new(alloc),
             blank: Vec::new(alloc),
             alloc,
         }
@@ -76,38 +71,26 @@ impl WritesByTicket {
     pub(crate) fn count(&self) -> usize
         ensures { result ≡ length self.now.writes }
     {
-        self.writes.len()
+        self.writes.count()
     }
 
     /// The write at a place, counted from 0 and ascending by ticket. `None` exactly where the place isn't below `count`.
     pub(crate) fn at(&self, i: usize) -> Option<(Ticket, &Put)>
         ensures { option_map (λ write. (write.0, write.1.now)) result ≡ slice_get self.now.writes i }
     {
-        match self.writes.get(i) {
+        match self.writes.at(i) {
             Some(entry) => Some((entry.0, &*entry.1)),
             None => None,
         }
-    }
-
-    // The ticket's place, or the place where it would go.
-    fn place(&self, ticket: Ticket) -> Result<usize, usize>
-        ensures place { result ≡ place_of ticket_cmp ticket self.now.writes }
-        ensures missing { OnErr result (write_at self.now.writes ticket.0 ≡ None) }
-    {
-        self.writes
-            .binary_search_by(|entry| entry.0.0.cmp(&ticket.0))
     }
 
     /// The write with this ticket. `None` exactly where there is none.
     pub(crate) fn get(&self, ticket: Ticket) -> Option<&Put>
         ensures { option_copied result ≡ write_at self.now.writes ticket.0 }
     {
-        match self.place(ticket) {
-            Ok(at) => {
-                let kept = &self.writes[at].1;
-                Some(&**kept)
-            }
-            Err(_) => None,
+        match self.writes.get(&ticket) {
+            Some(kept) => Some(&**kept),
+            None => None,
         }
     }
 
@@ -136,10 +119,7 @@ impl WritesByTicket {
         match self.blank.pop() {
             Some(mut kept) => {
                 overwrite(&mut kept, put);
-                match self.writes.push((ticket, kept)) {
-                    Ok(()) => {}
-                    Err(_) => unreachable!(),
-                }
+                self.writes.put(ticket, kept);
             }
             None => unreachable!(),
         }
@@ -150,8 +130,6 @@ impl WritesByTicket {
         ensures writes { self.new.writes ≡ without self.old.writes ticket.0 }
         ensures spare { self.old.spare ≤ self.new.spare }
     {
-        if let Ok(at) = self.place(ticket) {
-            let _ = self.writes.remove(at);
-        }
+        self.writes.remove(&ticket);
     }
 }

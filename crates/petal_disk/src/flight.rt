@@ -12,7 +12,7 @@ use crate::by_ticket::WritesByTicket;
 use crate::{Arrived, IssueFault, Ticket};
 use frang_base::NoMemory;
 use frang_outside::{Outside, Put, PutFault, Taken};
-use meta_version::SectorMap;
+use ordered_map::OrderedMap;
 use std::alloc::Global;
 use std::marker::Model;
 
@@ -23,7 +23,7 @@ use std::marker::Model;
 pub struct Flight {
     writes: WritesByTicket,
     // The ticket of each sector's write.
-    tickets: SectorMap<Ticket>,
+    tickets: OrderedMap<u64, Ticket>,
     next: u64,
 }
 
@@ -51,7 +51,7 @@ impl Flight {
     {
         Flight {
             writes: WritesByTicket::new(alloc),
-            tickets: SectorMap::new(alloc),
+            tickets: OrderedMap::new(alloc),
             next: 0,
         }
     }
@@ -68,7 +68,8 @@ impl Flight {
             return Err(NoMemory);
         }
         self.writes.reserve()?;
-        self.tickets.reserve(1)
+        self.tickets.reserve(1)?;
+        Ok(())
     }
 
     /// How many writes are in flight.
@@ -109,7 +110,7 @@ impl Flight {
         ensures room { self.old.room ≤ self.new.room + 1 }
         ensures refused { OnErr result (self.old.room ≤ self.new.room) }
     {
-        if let Some(ticket) = self.tickets.get(put.sector) {
+        if let Some(ticket) = self.tickets.get(&put.sector.0) {
             return Err(IssueFault::Busy { ticket: *ticket });
         }
         match self.reserve() {
@@ -128,7 +129,7 @@ impl Flight {
         ensures left { self.old.room ≤ self.new.room + 1 }
     {
         let ticket = Ticket(self.next);
-        self.tickets.put(put.sector, ticket);
+        self.tickets.put(put.sector.0, ticket);
         self.writes.push(ticket, put);
         self.next += 1;
         ticket
@@ -144,7 +145,7 @@ impl Flight {
         match self.writes.get(t) {
             Some(put) => {
                 let sector = put.sector;
-                self.tickets.remove(sector);
+                self.tickets.remove(&sector.0);
                 self.writes.remove(t);
             }
             None => unreachable!(),

@@ -1,7 +1,7 @@
 //! The writes in flight between the servers and the disk. Contracts see them as a list, ascending by the tickets that were given
 //! for them, and promise that no two are of one sector, that an arrival calls the outside once and hands its answer on, that
 //! a write arrives in time or not at all, and that a write for which room was made is issued. They lie in order of their tickets,
-//! with the tickets in order of the sectors beside them. It stands on the map of sectors and on the trait of the outside, on no
+//! with the tickets in order of the sectors beside them. It stands on ordered maps and on the trait of the outside, on no
 //! implementation of it.
 #![tactic(auto)]
 

@@ -2,7 +2,7 @@
 use crate::builders::{change_of, small_block};
 use crate::draws::Draws;
 use frang_base::{Block, Change, NoMemory, Sector};
-use meta_version::{SectorMap, Sectors, apply, is_change, version_of};
+use meta_version::{Sectors, apply, is_change, version_of};
 use std::alloc::Global;
 use std::test::Fail;
 
@@ -95,20 +95,6 @@ impl Both {
         Ok(())
     }
 
-    // Keeps the sectors whose bits are set.
-    fn keep(&mut self, bits: u64) -> Result<(), NoMemory> {
-        let mut others: SectorMap<u8> = SectorMap::new(self.alloc);
-        for n in 0..SECTORS {
-            if (bits >> n) % 2 == 1 {
-                others.set(Sector(n), 0)?;
-            } else {
-                self.plain.remove(Sector(n));
-            }
-        }
-        self.sectors.keep_those_of(&others);
-        Ok(())
-    }
-
     // The two hold the same of a sector, in the same place.
     fn is_alike(&self, sector: Sector) -> bool {
         let Some(block) = self.plain.get(sector) else {
@@ -136,16 +122,11 @@ impl Both {
         match kind {
             0 | 1 => self.set(sector, small_block(byte % 8, byte))?,
             2 | 3 => self.put(sector, small_block(byte % 8, byte))?,
-            4 => self.remove(sector),
-            5 | 6 => {
+            4 | 5 => self.remove(sector),
+            _ => {
                 let version = u64::from(byte % 16);
                 let change = change_of(self.alloc, number, version, &[(20, &[byte])])?;
                 self.change(&change)?;
-            }
-            _ => {
-                if byte % 4 == 0 {
-                    self.keep(draws.draw())?;
-                }
             }
         }
         Ok(sector)

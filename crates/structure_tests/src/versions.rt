@@ -111,12 +111,23 @@ fn sectors_are_kept_in_order(rt: HostRuntime) -> Result<(), Fail> {
     assert!(rt; sectors.get(Sector(9)) == Some(&[8; 512]));
     sectors.remove(Sector(4));
     assert!(rt; sectors.get(Sector(4)).is_none());
-    let mut others: SectorMap<u8> = SectorMap::new(rt.alloc());
-    others.set(Sector(4), 0)?;
-    others.set(Sector(6), 0)?;
-    sectors.keep_those_of(&others);
-    assert!(rt; sectors.count() == 1);
+    assert!(rt; sectors.count() == 2);
     assert!(rt; sector_at(&sectors, 0) == Some(6));
+    Ok(())
+}
+
+#[test]
+fn a_map_of_sectors_is_in_order(rt: HostRuntime) -> Result<(), Fail> {
+    let mut map: SectorMap<u8> = SectorMap::new(rt.alloc());
+    map.set(Sector(6), 1)?;
+    map.set(Sector(4), 2)?;
+    map.reserve(1)?;
+    map.put(Sector(4), 3);
+    assert!(rt; map.entries() == [(4, 3), (6, 1)].as_slice());
+    assert!(rt; map.get(Sector(4)) == Some(&3));
+    map.remove(Sector(6));
+    assert!(rt; map.has(Sector(4)));
+    assert!(rt; !map.has(Sector(6)));
     Ok(())
 }
 

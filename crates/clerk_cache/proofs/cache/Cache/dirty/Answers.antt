@@ -11,7 +11,7 @@ use Rattle.clerk_cache.proofs.cache.Cache.dirty.Goals as goal
 
 pub returns-clause-marks : goal.returns-clause-marks
 returns-clause-marks c =
-    let view = ap state_marks c.entries.ensures.entries ∙ marks-joined _ _ c.self.invariant.alike ∙ ap (λ cache. marks_of cache.entries) c.self.view_is in
+    let view = ap state_marks c.pieces.ensures ∙ marks-joined _ _ c.self.invariant.alike ∙ ap (λ cache. marks_of cache.entries) c.self.view_is in
     if_ok c.marks_of.result (λ marks is. is ∙ view) c.marks_of.ensures
 
 pub returns-clause-ordered : goal.returns-clause-ordered

@@ -1,35 +1,75 @@
--- The sector's old mark is out before its new one goes in.
-use Rattle.std.proofs.Common.{◌≡◌, length, sym, ap, ◌∙◌, subst, arith}
+-- The sector's old keys are out before its new ones go in.
+use Rattle.std.proofs.Common.{◌≡◌, Some, length, sym, ap, ◌∙◌, subst, arith}
 use Rattle.sector_bytes.specs.SectorMaps.{Ascend, value_at, with_value, without, room_for}
 use Rattle.sector_bytes.proofs.MapLaws.{ascend_with, ascend_without}
-use Rattle.flush_order.specs.Marks.{by_mark, least, first_mark}
-use Rattle.flush_order.proofs.MarkOrder.{first_is_least}
-use Rattle.meta_version.proofs.SectorPlaces.{ascend_none}
-use Rattle.clerk_cache.specs.declared.state.SectorState.{SectorState}
-use Rattle.clerk_cache.specs.Kept.{state_marks}
-use Rattle.clerk_cache.specs.Marking.{marked, unmarked}
-use Rattle.clerk_cache.proofs.Marking.{marks-with, marks-without, room_for_mark, length-with, shorter}
+use Rattle.flush_order.specs.Marks.{mark_cmp}
+use Rattle.flush_order.proofs.MarkOrder.{marks}
+use Rattle.clerk_cache.specs.Kept.{state_mark}
+use Rattle.clerk_cache.specs.Keys.{keyed}
+use Rattle.clerk_cache.specs.Covers.{cover_cmp, cover_key, is_any, is_dirty}
+use Rattle.clerk_cache.proofs.CoverOrder.{covers, other_marks, other_covers}
+use Rattle.clerk_cache.proofs.Keying.{exchanged_keys, taken_keys, room_for_key, length-with, shorter}
 use Rattle.clerk_cache.proofs.states.States.put.Goals as goal
 
-pub mark-requires : goal.mark-requires
-mark-requires c =
-    let out : c.unmark.new.by_mark.marks ≡ by_mark (state_marks (without c.self.inside.states.entries c.args.sector.0)) =
-    c.unmark.ensures.marks ∙ ap (unmarked c.args.sector.0 c.get-old.result) c.self.invariant.same
-    ∙ marks-without c.args.sector.0 c.get-old.result c.self.inside.states.entries c.self.invariant.ascend (ap (λ map. value_at map.entries c.args.sector.0) c.self.view_is ∙ sym c.get-old.ensures) in
-    omega (arith, ap length out, room_for_mark c.args.sector.0 c.self.inside.states.entries, c.unmark.ensures.most, c.self.invariant.room, ap (λ map. room_for map.entries c.args.sector.0) c.self.view_is, c.requires, ap (λ map. map.spare) c.self.view_is)
+pub exchange-requires-clause-order : goal.exchange-requires-clause-order
+exchange-requires-clause-order c = marks
+
+pub exchange-requires-clause-room : goal.exchange-requires-clause-room
+exchange-requires-clause-room c =
+    let s = c.args.sector.0 in
+    let states = c.self.inside.states.entries in
+    let o = c.get.result in
+    let there : value_at states s ≡ o = ap (λ map. value_at map.entries s) c.self.view_is ∙ sym c.get.ensures in
+    let out = taken_keys marks state_mark s (λ state entry. other_marks s state entry) o states c.self.invariant.ascend there c.self.inside.marks.entries c.keys_of-old.result.mark c.self.invariant.marks c.keys_of-old.ensures.mark in
+    omega (arith, ap length out, room_for_key s mark_cmp state_mark states, c.self.invariant.mark_room, c.self.invariant.cover_room, c.self.invariant.dirty_room, ap (λ map. room_for map.entries s) c.self.view_is, c.requires, ap (λ map. map.spare) c.self.view_is)
+
+pub exchange-requires-2-clause-order : goal.exchange-requires-2-clause-order
+exchange-requires-2-clause-order c = covers
+
+pub exchange-requires-2-clause-room : goal.exchange-requires-2-clause-room
+exchange-requires-2-clause-room c =
+    let s = c.args.sector.0 in
+    let states = c.self.inside.states.entries in
+    let o = c.get.result in
+    let there : value_at states s ≡ o = ap (λ map. value_at map.entries s) c.self.view_is ∙ sym c.get.ensures in
+    let out = taken_keys covers (cover_key is_any) s (λ state entry other. other_covers s state entry other is_any) o states c.self.invariant.ascend there c.self.inside.covers.entries c.keys_of-old.result.cover c.self.invariant.covers c.keys_of-old.ensures.cover in
+    omega (arith, ap length out, room_for_key s cover_cmp (cover_key is_any) states, c.self.invariant.mark_room, c.self.invariant.cover_room, c.self.invariant.dirty_room, ap (λ map. room_for map.entries s) c.self.view_is, c.requires, ap (λ map. map.spare) c.self.view_is)
+
+pub exchange-requires-3-clause-order : goal.exchange-requires-3-clause-order
+exchange-requires-3-clause-order c = covers
+
+pub exchange-requires-3-clause-room : goal.exchange-requires-3-clause-room
+exchange-requires-3-clause-room c =
+    let s = c.args.sector.0 in
+    let states = c.self.inside.states.entries in
+    let o = c.get.result in
+    let there : value_at states s ≡ o = ap (λ map. value_at map.entries s) c.self.view_is ∙ sym c.get.ensures in
+    let out = taken_keys covers (cover_key is_dirty) s (λ state entry other. other_covers s state entry other is_dirty) o states c.self.invariant.ascend there c.self.inside.dirty.entries c.keys_of-old.result.dirty c.self.invariant.dirty c.keys_of-old.ensures.dirty in
+    omega (arith, ap length out, room_for_key s cover_cmp (cover_key is_dirty) states, c.self.invariant.mark_room, c.self.invariant.cover_room, c.self.invariant.dirty_room, ap (λ map. room_for map.entries s) c.self.view_is, c.requires, ap (λ map. map.spare) c.self.view_is)
 
 pub put-requires : goal.put-requires
 put-requires c = omega (arith, ap (λ map. room_for map.entries c.args.sector.0) c.self.view_is, c.requires, ap (λ map. map.spare) c.self.view_is)
 
 pub invariant_of-self : goal.invariant_of-self
 invariant_of-self c =
-    let out : c.unmark.new.by_mark.marks ≡ by_mark (state_marks (without c.self.inside.states.entries c.args.sector.0)) =
-    c.unmark.ensures.marks ∙ ap (unmarked c.args.sector.0 c.get-old.result) c.self.invariant.same
-    ∙ marks-without c.args.sector.0 c.get-old.result c.self.inside.states.entries c.self.invariant.ascend (ap (λ map. value_at map.entries c.args.sector.0) c.self.view_is ∙ sym c.get-old.ensures) in record {
-      ascend = subst Ascend (sym c.put.ensures.entries) (ascend_with c.args.sector.0 c.args.state c.self.inside.states.entries c.self.invariant.ascend);
-      same = c.mark.ensures.marks ∙ ap (marked c.args.sector.0 c.args.state.mark) out
-          ∙ sym (marks-with c.args.sector.0 c.args.state c.self.inside.states.entries c.self.invariant.ascend) ∙ ap (λ es. by_mark (state_marks es)) (sym c.put.ensures.entries);
-      room = omega (arith, ap length c.put.ensures.entries, length-with c.args.sector.0 c.args.state c.self.inside.states.entries c.self.invariant.ascend, c.unmark.ensures.most, c.mark.ensures.most, c.self.invariant.room, ap (λ map. room_for map.entries c.args.sector.0) c.self.view_is, c.requires, ap (λ map. map.spare) c.self.view_is);
+    let s = c.args.sector.0 in
+    let states = c.self.inside.states.entries in
+    let o = c.get.result in
+    let there : value_at states s ≡ o = ap (λ map. value_at map.entries s) c.self.view_is ∙ sym c.get.ensures in
+    record {
+      ascend = subst Ascend (sym c.put.ensures.entries) (ascend_with s c.args.state states c.self.invariant.ascend);
+      marks = exchanged_keys marks state_mark s (λ state entry. other_marks s state entry) o states c.self.invariant.ascend there c.self.inside.marks.entries c.keys_of-old.result.mark c.self.invariant.marks c.keys_of-old.ensures.mark
+          c.args.state c.keys_of-new.result.mark c.exchange.new.keys.entries c.keys_of-new.ensures.mark c.exchange.ensures.keys
+          ∙ ap (keyed mark_cmp state_mark) (sym c.put.ensures.entries);
+      covers = exchanged_keys covers (cover_key is_any) s (λ state entry other. other_covers s state entry other is_any) o states c.self.invariant.ascend there c.self.inside.covers.entries c.keys_of-old.result.cover c.self.invariant.covers c.keys_of-old.ensures.cover
+          c.args.state c.keys_of-new.result.cover c.exchange-2.new.keys.entries c.keys_of-new.ensures.cover c.exchange-2.ensures.keys
+          ∙ ap (keyed cover_cmp (cover_key is_any)) (sym c.put.ensures.entries);
+      dirty = exchanged_keys covers (cover_key is_dirty) s (λ state entry other. other_covers s state entry other is_dirty) o states c.self.invariant.ascend there c.self.inside.dirty.entries c.keys_of-old.result.dirty c.self.invariant.dirty c.keys_of-old.ensures.dirty
+          c.args.state c.keys_of-new.result.dirty c.exchange-3.new.keys.entries c.keys_of-new.ensures.dirty c.exchange-3.ensures.keys
+          ∙ ap (keyed cover_cmp (cover_key is_dirty)) (sym c.put.ensures.entries);
+      mark_room = omega (arith, ap length c.put.ensures.entries, length-with s c.args.state states c.self.invariant.ascend, c.exchange.ensures.most, c.self.invariant.mark_room, c.self.invariant.cover_room, c.self.invariant.dirty_room, ap (λ map. room_for map.entries s) c.self.view_is, c.requires, ap (λ map. map.spare) c.self.view_is);
+      cover_room = omega (arith, ap length c.put.ensures.entries, length-with s c.args.state states c.self.invariant.ascend, c.exchange-2.ensures.most, c.self.invariant.mark_room, c.self.invariant.cover_room, c.self.invariant.dirty_room, ap (λ map. room_for map.entries s) c.self.view_is, c.requires, ap (λ map. map.spare) c.self.view_is);
+      dirty_room = omega (arith, ap length c.put.ensures.entries, length-with s c.args.state states c.self.invariant.ascend, c.exchange-3.ensures.most, c.self.invariant.mark_room, c.self.invariant.cover_room, c.self.invariant.dirty_room, ap (λ map. room_for map.entries s) c.self.view_is, c.requires, ap (λ map. map.spare) c.self.view_is);
     }
 
 pub returns-clause-entries : goal.returns-clause-entries
@@ -37,4 +77,4 @@ returns-clause-entries c = c.put.ensures.entries ∙ ap (λ map. with_value map.
 
 pub returns-clause-spare : goal.returns-clause-spare
 returns-clause-spare c =
-    omega (arith, ap length c.put.ensures.entries, length-with c.args.sector.0 c.args.state c.self.inside.states.entries c.self.invariant.ascend, c.put.ensures.spare, c.unmark.ensures.most, c.mark.ensures.most, c.self.invariant.room, ap (λ map. room_for map.entries c.args.sector.0) c.self.view_is, c.requires, ap (λ map. map.spare) c.self.view_is)
+    omega (arith, ap length c.put.ensures.entries, length-with c.args.sector.0 c.args.state c.self.inside.states.entries c.self.invariant.ascend, c.put.ensures.spare, c.exchange.ensures.most, c.exchange-2.ensures.most, c.exchange-3.ensures.most, c.self.invariant.mark_room, c.self.invariant.cover_room, c.self.invariant.dirty_room, ap (λ map. room_for map.entries c.args.sector.0) c.self.view_is, c.requires, ap (λ map. map.spare) c.self.view_is)

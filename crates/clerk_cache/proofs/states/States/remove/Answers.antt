@@ -1,24 +1,33 @@
--- The sector and its mark are out.
-use Rattle.std.proofs.Common.{◌≡◌, length, sym, ap, ◌∙◌, subst, arith}
+-- The sector and its keys are out.
+use Rattle.std.proofs.Common.{◌≡◌, Some, length, sym, ap, ◌∙◌, subst, arith}
 use Rattle.sector_bytes.specs.SectorMaps.{Ascend, value_at, with_value, without, room_for}
 use Rattle.sector_bytes.proofs.MapLaws.{ascend_with, ascend_without}
-use Rattle.flush_order.specs.Marks.{by_mark, least, first_mark}
-use Rattle.flush_order.proofs.MarkOrder.{first_is_least}
-use Rattle.meta_version.proofs.SectorPlaces.{ascend_none}
-use Rattle.clerk_cache.specs.declared.state.SectorState.{SectorState}
-use Rattle.clerk_cache.specs.Kept.{state_marks}
-use Rattle.clerk_cache.specs.Marking.{marked, unmarked}
-use Rattle.clerk_cache.proofs.Marking.{marks-with, marks-without, room_for_mark, length-with, shorter}
+use Rattle.flush_order.specs.Marks.{mark_cmp}
+use Rattle.flush_order.proofs.MarkOrder.{marks}
+use Rattle.clerk_cache.specs.Kept.{state_mark}
+use Rattle.clerk_cache.specs.Keys.{keyed}
+use Rattle.clerk_cache.specs.Covers.{cover_cmp, cover_key, is_any, is_dirty}
+use Rattle.clerk_cache.proofs.CoverOrder.{covers, other_marks, other_covers}
+use Rattle.clerk_cache.proofs.Keying.{exchanged_keys, taken_keys, room_for_key, length-with, shorter}
 use Rattle.clerk_cache.proofs.states.States.remove.Goals as goal
 
 pub invariant_of-self : goal.invariant_of-self
 invariant_of-self c =
-    let out : c.unmark.new.by_mark.marks ≡ by_mark (state_marks (without c.self.inside.states.entries c.args.sector.0)) =
-    c.unmark.ensures.marks ∙ ap (unmarked c.args.sector.0 c.get-old.result) c.self.invariant.same
-    ∙ marks-without c.args.sector.0 c.get-old.result c.self.inside.states.entries c.self.invariant.ascend (ap (λ map. value_at map.entries c.args.sector.0) c.self.view_is ∙ sym c.get-old.ensures) in record {
-      ascend = subst Ascend (sym c.remove.ensures.entries) (ascend_without c.args.sector.0 c.self.inside.states.entries c.self.invariant.ascend);
-      same = out ∙ ap (λ es. by_mark (state_marks es)) (sym c.remove.ensures.entries);
-      room = omega (arith, ap length c.remove.ensures.entries, shorter c.args.sector.0 c.self.inside.states.entries, c.unmark.ensures.most, c.self.invariant.room);
+    let s = c.args.sector.0 in
+    let states = c.self.inside.states.entries in
+    let o = c.get.result in
+    let there : value_at states s ≡ o = ap (λ map. value_at map.entries s) c.self.view_is ∙ sym c.get.ensures in
+    record {
+      ascend = subst Ascend (sym c.remove.ensures.entries) (ascend_without s states c.self.invariant.ascend);
+      marks = c.take_out.ensures.keys ∙ taken_keys marks state_mark s (λ state entry. other_marks s state entry) o states c.self.invariant.ascend there c.self.inside.marks.entries c.keys_of-old.result.mark c.self.invariant.marks c.keys_of-old.ensures.mark
+          ∙ ap (keyed mark_cmp state_mark) (sym c.remove.ensures.entries);
+      covers = c.take_out-2.ensures.keys ∙ taken_keys covers (cover_key is_any) s (λ state entry other. other_covers s state entry other is_any) o states c.self.invariant.ascend there c.self.inside.covers.entries c.keys_of-old.result.cover c.self.invariant.covers c.keys_of-old.ensures.cover
+          ∙ ap (keyed cover_cmp (cover_key is_any)) (sym c.remove.ensures.entries);
+      dirty = c.take_out-3.ensures.keys ∙ taken_keys covers (cover_key is_dirty) s (λ state entry other. other_covers s state entry other is_dirty) o states c.self.invariant.ascend there c.self.inside.dirty.entries c.keys_of-old.result.dirty c.self.invariant.dirty c.keys_of-old.ensures.dirty
+          ∙ ap (keyed cover_cmp (cover_key is_dirty)) (sym c.remove.ensures.entries);
+      mark_room = omega (arith, ap length c.remove.ensures.entries, shorter s states, c.take_out.ensures.most, c.self.invariant.mark_room, c.self.invariant.cover_room, c.self.invariant.dirty_room);
+      cover_room = omega (arith, ap length c.remove.ensures.entries, shorter s states, c.take_out-2.ensures.most, c.self.invariant.mark_room, c.self.invariant.cover_room, c.self.invariant.dirty_room);
+      dirty_room = omega (arith, ap length c.remove.ensures.entries, shorter s states, c.take_out-3.ensures.most, c.self.invariant.mark_room, c.self.invariant.cover_room, c.self.invariant.dirty_room);
     }
 
 pub returns-clause-entries : goal.returns-clause-entries
@@ -26,4 +35,4 @@ returns-clause-entries c = c.remove.ensures.entries ∙ ap (λ map. without map.
 
 pub returns-clause-spare : goal.returns-clause-spare
 returns-clause-spare c =
-    omega (arith, ap length c.remove.ensures.entries, shorter c.args.sector.0 c.self.inside.states.entries, c.remove.ensures.spare, c.unmark.ensures.most, c.self.invariant.room, ap (λ map. map.spare) c.self.view_is)
+    omega (arith, ap length c.remove.ensures.entries, shorter c.args.sector.0 c.self.inside.states.entries, c.remove.ensures.spare, c.take_out.ensures.most, c.take_out-2.ensures.most, c.take_out-3.ensures.most, c.self.invariant.mark_room, c.self.invariant.cover_room, c.self.invariant.dirty_room, ap (λ map. map.spare) c.self.view_is)

@@ -3,20 +3,17 @@ use Rattle.std.proofs.Common.{Some, ap, sym, ◌∙◌}
 use Rattle.std.specs.List.{slice_get}
 use Rattle.std.specs.Option.{option_map}
 use Rattle.std.proofs.lemmas.Option.{slice_get-map}
-use Rattle.meta_version.proofs.Opening.{get_there, get_past}
 use Rattle.petal_disk.proofs.by_ticket.WritesByTicket.at.Goals as goal
 
 pub returns-in-Some : goal.returns-in-Some
 returns-in-Some c =
-    ap (λ put. Some (c.in-Some.entry.now.0, put)) c.deref-in-Some.ensures
-    ∙ ap (λ o. option_map (λ entry. (entry.0, entry.1.value)) o) (get_there c.deref.result.now c.args.i c.in-Some.entry.now c.in-Some.ensures.lookup.3.0 (c.in-Some.ensures.lookup.3.1 c.in-Some.entry.now))
-    ∙ ap (λ boxes. option_map (λ entry. (entry.0, entry.1.value)) (slice_get boxes c.args.i)) c.deref.ensures.value
-    ∙ sym (slice_get-map (λ entry. (entry.0, entry.1.value)) c.self.inside.writes.items c.args.i)
+    ap (λ put. Some (c.in-Some.entry.now.0, put)) c.deref.ensures
+    ∙ ap (λ o. option_map (λ entry. (entry.0, entry.1.value)) o) c.in-Some.ensures
+    ∙ sym (slice_get-map (λ entry. (entry.0, entry.1.value)) c.self.inside.writes.entries c.args.i)
     ∙ ap (λ kept. slice_get kept.writes c.args.i) c.self.view_is
 
 pub returns-in-None : goal.returns-in-None
 returns-in-None c =
-    ap (λ o. option_map (λ entry. (entry.0, entry.1.value)) o) (get_past c.deref.result.now c.args.i c.in-None.ensures.lookup.3)
-    ∙ ap (λ boxes. option_map (λ entry. (entry.0, entry.1.value)) (slice_get boxes c.args.i)) c.deref.ensures.value
-    ∙ sym (slice_get-map (λ entry. (entry.0, entry.1.value)) c.self.inside.writes.items c.args.i)
+    ap (λ o. option_map (λ entry. (entry.0, entry.1.value)) o) c.in-None.ensures
+    ∙ sym (slice_get-map (λ entry. (entry.0, entry.1.value)) c.self.inside.writes.entries c.args.i)
     ∙ ap (λ kept. slice_get kept.writes c.args.i) c.self.view_is

@@ -1,26 +1,26 @@
 -- A blank box, in which the write is put, goes to the end.
-use Rattle.std.proofs.Common.{sym, ap, ◌∙◌, subst, ◌<◌, ◌++◌, ◌∷◌, []}
+use Rattle.std.proofs.Common.{sym, ap, ◌∙◌, subst, is_some, ◌<◌, ◌++◌, ◌∷◌, [], arith}
 use Rattle.std.specs.Box.{box_value}
+use Rattle.std.specs.BTreeMap.{is_at}
 use Rattle.std.specs.List.{All}
-use Rattle.std.specs.List.Sorted.{IsStrictlySortedBy}
-use Rattle.std.specs.Map.{keys_of}
-use Rattle.std.proofs.lemmas.List.{map-append}
+use Rattle.std.specs.Map.{keys_of, lookup}
 use Rattle.petal_disk.specs.Flights.{ticket_cmp}
 use Rattle.petal_disk.specs.Keeping.{opened}
-use Rattle.petal_disk.proofs.TicketOrder.{keys-opened}
-use Rattle.petal_disk.proofs.InFlight.{sorted_push}
+use Rattle.petal_disk.proofs.TicketOrder.{inserted-opened, at_most_one}
 use Rattle.petal_disk.proofs.by_ticket.WritesByTicket.push.Goals as goal
 
-pub invariant_of-self : goal.invariant_of-self
-invariant_of-self c =
-    let boxes = c.self.inside.writes.items in
-    let below = subst (All (λ key. key.0 < c.args.ticket.0)) (ap (λ kept. keys_of kept.writes) (sym c.self.view_is) ∙ keys-opened box_value boxes) c.requires.above in
-    subst (λ items. IsStrictlySortedBy ticket_cmp (keys_of items)) (sym c.in-Ok.ensures.items)
-    (subst (IsStrictlySortedBy ticket_cmp) (sym (map-append (λ entry. entry.0) boxes _)) (sorted_push (keys_of boxes) c.args.ticket c.self.invariant below))
+pub put-requires : goal.put-requires
+put-requires c =
+    omega (arith, at_most_one (is_some (lookup (is_at (ticket_cmp c.args.ticket)) c.self.inside.writes.entries)), c.requires.room, ap (λ kept. kept.spare) c.self.view_is)
 
 pub returns-clause-writes : goal.returns-clause-writes
 returns-clause-writes c =
-    ap (λ items. opened items box_value) c.in-Ok.ensures.items
-    ∙ map-append (λ entry. (entry.0, box_value entry.1)) c.self.inside.writes.items _
-    ∙ ap (λ put. opened c.self.inside.writes.items box_value ++ (c.args.ticket, put) ∷ []) c.overwrite.ensures
+    let boxes = c.self.inside.writes.entries in
+    ap (λ entries. opened entries box_value) c.put.ensures.entries
+    ∙ inserted-opened box_value c.args.ticket c.overwrite.new.kept boxes (subst (λ kept. All (λ key. key.0 < c.args.ticket.0) (keys_of kept.writes)) (sym c.self.view_is) c.requires.above)
+    ∙ ap (λ put. opened boxes box_value ++ (c.args.ticket, put) ∷ []) c.overwrite.ensures
     ∙ ap (λ kept. kept.writes ++ (c.args.ticket, c.args.put) ∷ []) c.self.view_is
+
+pub returns-clause-spare : goal.returns-clause-spare
+returns-clause-spare c =
+    omega (arith, at_most_one (is_some (lookup (is_at (ticket_cmp c.args.ticket)) c.self.inside.writes.entries)), c.put.ensures.spare, c.in-Some.ensures.len, ap (λ kept. kept.spare) c.self.view_is)

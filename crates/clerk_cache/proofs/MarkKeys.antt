@@ -1,0 +1,22 @@
+-- The marks of the states are keys of them.
+use Rattle.std.proofs.Common.{◌≡◌, ℕ, List, [], ◌∷◌, Option, Some, None, refl, ap, ◌∙◌}
+use Rattle.std.specs.List.{filter_map, cons_option}
+use Rattle.std.specs.List.{slice_get}
+use Rattle.std.specs.Option.{option_map}
+use Rattle.flush_order.specs.declared.Mark.{Mark}
+use Rattle.flush_order.specs.Marks.{mark_cmp, by_mark, first_mark}
+use Rattle.clerk_cache.specs.Kept.{state_mark, state_marks}
+use Rattle.clerk_cache.specs.Keys.{with_key, keyed}
+use Rattle.clerk_cache.proofs.Joining.{States}
+
+pub keyed_marks : (states : States) → keyed mark_cmp state_mark states ≡ by_mark (state_marks states)
+keyed_marks [] = refl
+keyed_marks (entry ∷ states) = go (state_mark entry) (keyed_marks states)
+  where
+    go : (o : Option Mark) → keyed mark_cmp state_mark states ≡ by_mark (state_marks states) → with_key mark_cmp o (keyed mark_cmp state_mark states) ≡ by_mark (cons_option o (state_marks states))
+    go None rest = rest
+    go (Some mark) rest = ap (with_key mark_cmp (Some mark)) rest
+
+pub first_is : (marks : List (Mark × Unit {0})) → option_map (λ entry. entry.0) (slice_get marks 0) ≡ first_mark marks
+first_is [] = refl
+first_is (entry ∷ marks) = refl
