@@ -1,0 +1,27 @@
+-- The cover of a sector by what is at hand, against the cover by the naming of the disk.
+use Rattle.std.specs.Prelude.{◌≡◌, ℕ, ◌⊎◌, Bool}
+use Rattle.std.specs.List.{Contains}
+use Rattle.frang_base.specs.declared.op.Op.{Op}
+use Rattle.tree_definitions.specs.Tree.{FileTree}
+use Rattle.sector_bytes.specs.Sectors.{Sectors}
+use Rattle.pick_definitions.specs.Held.{Segments}
+use Rattle.plan_definitions.specs.Ask.{Ask, AtHand, Sector}
+use Rattle.plan_definitions.specs.Ask.Met.{Needs}
+use Rattle.plan_definitions.specs.OnDisk.{AreOfDisk, StandsBelow}
+use Rattle.plan_definitions.specs.Written.{Cached, at_hand, hand_of}
+use Rattle.plan_covers.specs.Covers.{cover_of}
+use Rattle.plan_traces.specs.Traces.{traced}
+use Rattle.line_definitions.specs.Lines.{plan_of_line}
+use Rattle.plan_moves.specs.CoversAtHand.{cover_at_hand}
+
+-- the computation looks at the sector, which is at hand, or needs it
+abbrev pub AsksFor : {A : Type 0} → Ask A → AtHand → Sector → Type 0
+AsksFor program known sector = Contains (traced program known).looked sector ⊎ ((traced program known).met ≡ Needs sector)
+
+-- over a disk that stands for a tree, of each sector for which a line asks
+abbrev pub CoversAtHandAreTrue : Type 0
+CoversAtHandAreTrue =
+    (operation : Op) (cached : Cached) (held : Segments) (all : Bool) (sectors : Sectors) (tree : FileTree) (birth when : ℕ) →
+    AreOfDisk cached held all tree.segments sectors → (below : StandsBelow sectors tree) →
+    (sector : Sector) → AsksFor (plan_of_line (hand_of cached held all) birth when operation) (at_hand cached held) sector →
+    cover_at_hand cached held tree.segments sector ≡ cover_of below.stands.naming sector

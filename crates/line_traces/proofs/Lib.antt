@@ -1,0 +1,4 @@
+pub mod Looked
+pub mod AtHand
+pub mod Lines
+mod TraceExamples
