@@ -1,0 +1,15 @@
+//! Doubt by the theorem on sectors against doubt by the rules on histories: where a recovery leaves a sector of file bytes in doubt, the rules leave the
+//! sector of the file that lies there in doubt. The law is the contract of a public function with an empty body. It stands on the rules on histories and
+//! on the histories of sectors; what is asked of a history that is told on both sides is said entry by entry.
+#![tactic(auto)]
+
+ghost use Rattle.byte_doubts.specs.Doubts.{DoubtIsTheSame, WritesTouch};
+
+/// Along a history that is told twice, as entries of the file tree and as what operations did to sectors: where the last write of a sector of bytes is a
+/// server's, above a number, and none of another server looked at it since, and a sector of a file lies there, the rules on histories leave that sector
+/// of the file in doubt for this server. The number is one up to which the server's syncs and mounts cover its operations. A write, fill or truncate
+/// answered `ok` touches the file that it meets.
+pub fn doubt_is_the_same()
+    ensures same { DoubtIsTheSame }
+    ensures touch { WritesTouch }
+{}
