@@ -160,7 +160,7 @@ steady c a new p g = changed c (record c { servers = put c.servers a new }) a ne
 
 -- ---- phases that stay
 
-begun_phase : (server : Server) (line : Option Line) → (begun_line server line).phase ≡ server.phase
+pub begun_phase : (server : Server) (line : Option Line) → (begun_line server line).phase ≡ server.phase
 begun_phase server None = refl
 begun_phase server (Some line) = go (operation_of line.what)
   where
@@ -168,7 +168,7 @@ begun_phase server (Some line) = go (operation_of line.what)
     go None = refl
     go (Some operation) = refl
 
-fetched_phase : (a : ℕ) (at : Option Stage) (sector : ℕ) (block : Block) (server : Server) → (fetched_by a at sector block server).phase ≡ server.phase
+pub fetched_phase : (a : ℕ) (at : Option Stage) (sector : ℕ) (block : Block) (server : Server) → (fetched_by a at sector block server).phase ≡ server.phase
 fetched_phase a at sector block server = go (is_off server.phase) (cover_needed at sector)
   where
     go : (b : Bool) (cover : Option LockId) → (if b then with_under server (slot_read a sector block) else cached_under server sector block cover).phase ≡ server.phase
@@ -176,7 +176,7 @@ fetched_phase a at sector block server = go (is_off server.phase) (cover_needed 
     go false None = refl
     go false (Some cover) = refl
 
-again_phase : (at : Option Stage) (server : Server) → (again_by at server).phase ≡ server.phase
+pub again_phase : (at : Option Stage) (server : Server) → (again_by at server).phase ≡ server.phase
 again_phase None server = refl
 again_phase (Some (Asking need)) server = refl
 again_phase (Some (Fetching needs)) server = refl
@@ -186,7 +186,7 @@ again_phase (Some (Growing needs seen)) server = refl
 again_phase (Some (Clearing block)) server = refl
 again_phase (Some (Finishing outcome)) server = refl
 
-acknowledged_phase : (sector : ℕ) (block : Block) (purpose : Purpose) (server : Server) → (acknowledged sector block purpose server).phase ≡ server.phase
+pub acknowledged_phase : (sector : ℕ) (block : Block) (purpose : Purpose) (server : Server) → (acknowledged sector block purpose server).phase ≡ server.phase
 acknowledged_phase sector block (OfLog number) server = refl
 acknowledged_phase sector block OfRecovery server = refl
 acknowledged_phase sector block (InPlace cover) server = go (still_has server.cache sector block)
@@ -195,7 +195,7 @@ acknowledged_phase sector block (InPlace cover) server = go (still_has server.ca
     go true = refl
     go false = refl
 
-wanting_phase : (server : Server) → (wanting_all_up server).phase ≡ server.phase
+pub wanting_phase : (server : Server) → (wanting_all_up server).phase ≡ server.phase
 wanting_phase server = go (is_up server.phase)
   where
     go : (b : Bool) → (if b then wanting_all server else server).phase ≡ server.phase
@@ -227,7 +227,7 @@ lands_clean true f r v h = absurd (false≢true h)
 lands_clean false true r v h = absurd (false≢true h)
 lands_clean false false r v h = refl
 
-clean_lands : (flights : Flights) (a : ℕ) (server : Server) → IsTrue (is_clean flights a server) → has_flights flights a ≡ false
+pub clean_lands : (flights : Flights) (a : ℕ) (server : Server) → IsTrue (is_clean flights a server) → has_flights flights a ≡ false
 clean_lands flights a server h = lands_clean (any_kept is_dirty server.cache) (has_flights flights a) (is_all_reached server.ring) (is_some server.recovery) h
 
 second_of : (x y : Bool) → IsTrue (x && y) → IsTrue y
@@ -305,7 +305,7 @@ given_ashore c a lock None g = g
 given_ashore c a lock (Some Downgrade) g = g
 given_ashore c a lock (Some Release) g = changed c (given_for c a lock (Some Release)) a _ refl (λ i h. h) (λ t. inl t) g
 
-put_phase : (servers : ℕ → Server) (a : ℕ) (new : Server) → new.phase ≡ (servers a).phase → (i : ℕ) → (put servers a new i).phase ≡ (servers i).phase
+pub put_phase : (servers : ℕ → Server) (a : ℕ) (new : Server) → new.phase ≡ (servers a).phase → (i : ℕ) → (put servers a new i).phase ≡ (servers i).phase
 put_phase servers a new p i = go (nat_eq i a) refl
   where
     go : (b : Bool) → nat_eq i a ≡ b → (if b then new else servers i).phase ≡ (servers i).phase

@@ -2,4 +2,10 @@ mod Ending
 mod Timing
 pub mod Memory
 pub mod Resting
-mod Ashore
+pub mod Ashore
+pub mod Unheld
+pub mod FlightLists
+pub mod LogFlights
+pub mod WantedWrites
+pub mod Windows
+mod Recovering

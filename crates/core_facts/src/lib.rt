@@ -1,7 +1,10 @@
 //! First facts of the core over its runs. Each is the contract of a public function with an empty body. They stand on the definitions of the core and on its laws.
 #![tactic(auto)]
 
-ghost use Rattle.core_facts.specs.Facts.{ClaimsStandOnce, WritesAreIssuedInTime, LogWritesKeepTheWindow, PutsComeInTime, NothingToDoIsTheEnd, OffHasNothing, OffHasNoFlights};
+ghost use Rattle.core_facts.specs.Facts.{ClaimsStandOnce, WritesAreIssuedInTime, LogWritesKeepTheWindow, PutsComeInTime, NothingToDoIsTheEnd};
+ghost use Rattle.core_facts.specs.Facts.{OffHasNothing, OffHasNoFlights, OffHoldsNoLock, OffWishesNoLock, OffHasTakenNoLog, RecoveriesAreOfTheDead};
+ghost use Rattle.core_facts.specs.Facts.{OneRecoveryAtMost, RingsKeepTheirWindows, LogFlightsStayInTheWindow, LogFlightsAreAtTheirSlots};
+ghost use Rattle.core_facts.specs.Facts.{LogSlotsStandOnce};
 
 /// Over every run from an opening the locks that a server has or wishes ascend, so that each stands once.
 pub fn each_claim_stands_once()
@@ -33,4 +36,28 @@ pub fn nothing_to_do_is_the_end()
 pub fn who_rests_has_nothing()
     ensures nothing { OffHasNothing }
     ensures landed { OffHasNoFlights }
+{}
+
+/// Over every run from an opening a server that is Off holds no lock, sole or shared, wishes none, and has taken no log. One that is Dead keeps its locks until
+/// its log is recovered.
+pub fn who_is_off_holds_no_lock()
+    ensures held { OffHoldsNoLock }
+    ensures wished { OffWishesNoLock }
+    ensures taken { OffHasTakenNoLog }
+{}
+
+/// Over every run from an opening a recovery that is under way by a server that is Up, or by the host, is of a server that is Dead, and there is one at most.
+pub fn one_recovery_is_under_way()
+    ensures dead { RecoveriesAreOfTheDead }
+    ensures one { OneRecoveryAtMost }
+{}
+
+/// Over every run from an opening each server's ring has at most 64 numbers issued past the one up to which all are acknowledged, and at most 192 that aren't
+/// given up. Each number of the log of its present mount that is in flight is past the acknowledged ones, by at most 64; each write of a log in flight, of an
+/// earlier mount too, is of its number's slot; and no two in flight of one server's log are of the same slot.
+pub fn logs_in_flight_keep_the_window()
+    ensures rings { RingsKeepTheirWindows }
+    ensures window { LogFlightsStayInTheWindow }
+    ensures sectors { LogFlightsAreAtTheirSlots }
+    ensures slots { LogSlotsStandOnce }
 {}

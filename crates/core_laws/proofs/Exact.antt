@@ -132,10 +132,10 @@ each_passes test [] h e i = absurd i
 each_passes test (x ∷ es) h e (inl s) = subst (λ y. IsTrue (test y)) s (of_2 (test x) (list_all test es) h).p0
 each_passes test (x ∷ es) h e (inr i) = each_passes test es (of_2 (test x) (list_all test es) h).p1 e i
 
-abbrev others : Core → List Event
+abbrev pub others : Core → List Event
 others c = before_tick c (all_parties c) ++ after_tick c (all_parties c)
 
-tick_may : (c : Core) → CanTick c → IsTrue (may_tick c (others c))
+pub tick_may : (c : Core) → CanTick c → IsTrue (may_tick c (others c))
 tick_may c can =
     all_3 (list_all (is_stale c) (others c)) (not (has_line_at_gate c)) (nat_lt c.now LAST_TICK)
     (all_pass (is_stale c) (others c) (λ e i. can.quiet e (others_only c e i))) can.gate can.clock

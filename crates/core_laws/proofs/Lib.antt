@@ -5,6 +5,7 @@ pub mod Keys
 pub mod Keeping
 mod Listing
 mod ListingEnds
-mod Exact
-mod Flying
-mod Single
+pub mod Exact
+pub mod Flying
+pub mod Single
+pub mod Along

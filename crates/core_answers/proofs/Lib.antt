@@ -1,0 +1,7 @@
+mod Reading
+mod Places
+mod Telling
+mod Answering
+mod Following
+mod Twice
+mod Counting
