@@ -7,11 +7,10 @@ use Rattle.core_steps.specs.Effects.{Deed, Made, Says}
 use Rattle.core_steps.specs.Enabled.{enabled}
 use Rattle.core_steps.specs.Events.{Event}
 use Rattle.core_steps.specs.Runs.{State, next}
-use Rattle.core_examples.specs.Driving.{Driven, Story, behind, filed_opening, hears, is_log_get, story_of}
+use Rattle.core_examples.specs.Driving.{Driven, Story, behind, filed_opening, flushing_soon, hears, is_log_get, story_of}
 
--- the servers want everything written at each tick, so that one tick is enough for a flush
 abbrev pub soon_opening : List Line → State
-soon_opening script = let s = filed_opening script in record s { core = record s.core { setting = record s.core.setting { flush_ticks = 1 } } }
+soon_opening script = flushing_soon (filed_opening script)
 
 -- ---- the choice
 

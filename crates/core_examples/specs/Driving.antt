@@ -9,6 +9,7 @@ use Rattle.sector_bytes.specs.Bytes.{zeros}
 use Rattle.sector_bytes.specs.Sectors.{Sectors, sectors_of}
 use Rattle.sector_bytes.specs.SectorMaps.{value_at}
 use Rattle.sector_definitions.specs.Bitmaps.{bitmap_bytes}
+use Rattle.sector_definitions.specs.declared.directory.DirEntry.{DirEntry}
 use Rattle.sector_definitions.specs.Directories.{directory_bytes}
 use Rattle.sector_definitions.specs.Inodes.{inode_bytes}
 use Rattle.sector_definitions.specs.Params.{param_bytes}
@@ -55,20 +56,27 @@ parameters run = param_bytes (record { format = 2; segments = 1; run = run })
 abbrev pub fresh_disk : Sectors
 fresh_disk = sectors_of ((0, parameters 1) ∷ (sector_of (region.Segment 0), segment_block 1 1 0) ∷ (sector_of (region.Inode 0), inode_block 1 2 1 0 0 []) ∷ [])
 
--- a sector of a directory with this entry in its first slot
-abbrev pub entry_block : (version inode kind : ℕ) → List ℕ → List ℕ
-entry_block version inode kind name =
-    directory_bytes
-    (record {
-      version = version;
-      entries = record { inode = inode; len = length name; kind = kind; name = name ++ zeros (64 - length name) }
-          ∷ replicate 6 (record { inode = 0; len = 0; kind = 0; name = zeros 64 });
-    })
+-- an entry of a directory; and one that is free
+abbrev pub entry : (inode kind : ℕ) → List ℕ → DirEntry
+entry inode kind name = record { inode = inode; len = length name; kind = kind; name = name ++ zeros (64 - length name) }
+
+abbrev pub free_entry : DirEntry
+free_entry = record { inode = 0; len = 0; kind = 0; name = zeros 64 }
+
+-- a sector of a directory with these entries in its first slots
+abbrev pub entries_block : (version : ℕ) → List DirEntry → List ℕ
+entries_block version entries = directory_bytes (record { version = version; entries = entries ++ replicate (7 - length entries) free_entry })
 
 -- one whose root has an empty file, which line 2 of run 1 made
 abbrev pub filed_disk : Sectors
 filed_disk = sectors_of ((0, parameters 2) ∷ (sector_of (region.Segment 0), segment_block 2 3 3) ∷ (sector_of (region.Inode 0), inode_block 2 2 1 1 0 (0 ∷ []))
-    ∷ (sector_of (region.Inode 1), inode_block 1 1 1 0 4294967298 []) ∷ (sector_of (region.Small 0 0), entry_block 1 1 1 (codes "f")) ∷ [])
+    ∷ (sector_of (region.Inode 1), inode_block 1 1 1 0 4294967298 []) ∷ (sector_of (region.Small 0 0), entries_block 1 (entry 1 1 (codes "f") ∷ [])) ∷ [])
+
+-- one whose root has two empty files, which lines 2 and 3 of run 1 made
+abbrev pub two_files_disk : Sectors
+two_files_disk = sectors_of ((0, parameters 2) ∷ (sector_of (region.Segment 0), segment_block 3 7 3) ∷ (sector_of (region.Inode 0), inode_block 3 2 1 2 0 (0 ∷ []))
+    ∷ (sector_of (region.Inode 1), inode_block 1 1 1 0 4294967298 []) ∷ (sector_of (region.Inode 2), inode_block 1 1 1 0 4294967299 [])
+    ∷ (sector_of (region.Small 0 0), entries_block 2 (entry 1 1 (codes "f") ∷ entry 2 1 (codes "g") ∷ [])) ∷ [])
 
 abbrev pub small_setting : ℕ → List Line → Setting
 small_setting run script = record { script = script; segments = 1; run = run; logs = small_logs; flush_ticks = 30 }
@@ -83,6 +91,13 @@ opening script = opening_on fresh_disk 1 script
 
 abbrev pub filed_opening : List Line → State
 filed_opening script = opening_on filed_disk 2 script
+
+abbrev pub two_files_opening : List Line → State
+two_files_opening script = opening_on two_files_disk 2 script
+
+-- the servers want everything written at each tick, so that one tick is enough for a flush
+abbrev pub flushing_soon : State → State
+flushing_soon s = record s { core = record s.core { setting = record s.core.setting { flush_ticks = 1 } } }
 
 abbrev pub line : ℕ → ℕ → Op → Line
 line number a operation = record { number = number; who = record { 0 = a }; what = Server operation }

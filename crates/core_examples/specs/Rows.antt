@@ -46,6 +46,27 @@ pub refused_runs_so : story_of refused_run ≡ record { events = refused_events;
 unfolding no_clerks no_logs any_server zeros resolve least least_from changed frame_read
 refused_runs_so = refl
 
+-- ---- a line before the mount, a second mount, an unmount and a line after it, and a halt
+
+abbrev pub ended_lines : List Line
+ended_lines =
+    line 1 0 (op.Stat ([])) ∷ line 2 0 op.Mount ∷ line 3 0 op.Mount ∷ host_line 4 host.Barrier ∷ line 5 0 op.Unmount ∷ line 6 0 (op.Stat ([])) ∷ host_line 7 host.Halt ∷ []
+
+abbrev pub ended_run : Driven
+ended_run = driven 24 (opening ended_lines)
+
+abbrev pub ended_events : List Event
+ended_events = Begin 0 ∷ Answer 0 ∷ Begin 0 ∷ Answer 0 ∷ Begin 0 ∷ Answer 0 ∷ HostLine 4 ∷ Begin 0 ∷ Answer 0 ∷ Begin 0 ∷ Answer 0 ∷ HostLine 7 ∷ []
+
+abbrev pub ended_says : List Said
+ended_says =
+    answered 0 1 reply.Down ∷ answered 0 2 reply.Mounted ∷ answered 0 3 reply.Already ∷ answered 255 4 reply.Ok ∷ answered 0 5 reply.Ok ∷ answered 0 6 reply.Down ∷
+    answered 255 7 reply.Ok ∷ []
+
+pub ended_runs_so : story_of ended_run ≡ record { events = ended_events; said_lines = ended_says }
+unfolding no_clerks no_logs any_server zeros resolve least least_from changed frame_read
+ended_runs_so = refl
+
 -- ---- a mount, a file cut, a sync, and the close
 
 abbrev pub changed_lines : List Line
