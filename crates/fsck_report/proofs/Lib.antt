@@ -8,3 +8,6 @@ pub mod PartRules
 pub mod CountRules
 pub mod Gathered
 pub mod Pushed
+pub mod Reported
+pub mod Lines
+pub mod Stands

@@ -7,3 +7,5 @@ pub mod Repeats
 pub mod Tables
 pub mod Told
 pub mod Entries
+pub mod Line
+pub mod Parts

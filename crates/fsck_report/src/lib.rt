@@ -1,21 +1,26 @@
-//! The passes of a check of a disk, so far: the tables of what is reached, how often inodes are named, who uses which block first and which
-//! parts of directories repeat a name; the rules of inodes, segments and parts of blocks by these tables; and by these rules the faults of each
-//! segment, of its inodes and of its small blocks, in order. Each contract gives exactly what a report asks. It stands on the definition of
-//! reports and on the reader of disks.
+//! The check of a disk: its report, and the report as a line of JSON. The contract promises exactly the report of the definition, for every
+//! disk with a parameter sector. Segments are checked in threads of their own; with one processor the report is the same. It stands on the
+//! definition of reports, on the reader of disks and on the replay of logs.
 #![tactic(auto)]
 
-pub mod blocks;
-pub mod counts;
-pub mod directories;
-pub mod entries;
-pub mod faults;
-pub mod flags;
-pub mod inodes;
-pub mod names;
-pub mod parts;
-pub mod reach;
-pub mod repeats;
-pub mod report;
-pub mod segments;
-pub mod tables;
-pub mod users;
+mod blocks;
+mod checking;
+mod counts;
+mod directories;
+mod entries;
+mod faults;
+mod flags;
+mod inodes;
+mod line;
+mod names;
+mod parts;
+mod reach;
+mod repeats;
+mod report;
+mod segments;
+mod tables;
+mod users;
+
+pub use checking::check;
+pub use line::report_line;
+pub use report::{Fault, Report};

@@ -7,3 +7,17 @@ pub struct Fault {
     pub sector: Sector,
     pub kind: u8,
 }
+
+/// How many nodes and blocks are reached on a disk, and its faults, ascending by sectors and kinds, each once. It stands for a tree exactly
+/// where there are none.
+#[derive(Debug, Drop)]
+pub struct Report {
+    pub segments: u32,
+    pub dirs: u32,
+    pub files: u32,
+    pub links: u32,
+    pub blocks: u32,
+    pub larges: u32,
+    pub faults: Vec<Fault>,
+    pub stands: bool,
+}
