@@ -10,11 +10,12 @@ pub record Asks : Type 0 where
   pub script : List ℕ
   pub segments : ℕ
 
--- to recover an image, by its name, and to save it where a name is given; to tell its tree; to tell a log of it
+-- to recover an image, by its name, and to save it where a name is given; to tell its tree; to tell a log of it; to tell the report of its check
 pub data ImageAsks : Type 0 where
   Recover : (image : List ℕ) (save : Option (List ℕ)) → ImageAsks
   Tree : (image : List ℕ) → ImageAsks
   Log : (image : List ℕ) (server : ℕ) → ImageAsks
+  Fsck : (image : List ℕ) → ImageAsks
 
 pub data Asked : Type 0 where
   Run : (asks : Asks) → Asked
@@ -47,13 +48,21 @@ run_by given = option_and_then (λ script. option_map (λ segments. record { scr
 abbrev pub recover_by : Given → Option ImageAsks
 recover_by given = option_map (λ image. Recover image given.save) (unless given.segments (only_place given))
 
+-- the only positional word, where no option is given
+abbrev pub only_word : Given → Option (List ℕ)
+only_word given = unless given.save (unless given.segments (only_place given))
+
 -- tree IMAGE
 abbrev pub tree_by : Given → Option ImageAsks
-tree_by given = option_map (λ image. Tree image) (unless given.save (unless given.segments (only_place given)))
+tree_by given = option_map (λ image. Tree image) (only_word given)
 
 -- log IMAGE SERVER
 abbrev pub log_by : Given → Option ImageAsks
 log_by given = option_and_then (λ image. option_map (λ server. Log image server) (log_in given.second)) (unless given.save (unless given.segments given.first))
+
+-- fsck IMAGE
+abbrev pub fsck_by : Given → Option ImageAsks
+fsck_by given = option_map (λ image. Fsck image) (only_word given)
 
 -- a command by its name
 abbrev pub image_asked : List ℕ → Given → Option ImageAsks
@@ -61,7 +70,8 @@ image_asked name given =
     if bytes_eq name (codes "recover") then recover_by given
     else (if bytes_eq name (codes "tree") then tree_by given
     else (if bytes_eq name (codes "log") then log_by given
-    else None))
+    else (if bytes_eq name (codes "fsck") then fsck_by given
+    else None)))
 
 abbrev pub asked_with : List ℕ → Given → Option Asked
 asked_with name given = if bytes_eq name (codes "run") then option_map (λ asks. Run asks) (run_by given) else option_map (λ asks. OnImage asks) (image_asked name given)

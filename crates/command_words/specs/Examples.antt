@@ -1,6 +1,6 @@
 -- What some words ask.
 use Rattle.std.specs.Prelude.{◌≡◌, Some, None, [], ◌∷◌, codes, refl}
-use Rattle.command_words.specs.Commands.{OnImage, Recover, Tree, Log, asked_by}
+use Rattle.command_words.specs.Commands.{OnImage, Recover, Tree, Log, Fsck, asked_by}
 
 -- a name and its option, which may stand before it
 with_a_save : asked_by (codes "recover" ∷ codes "--save" ∷ codes "new" ∷ codes "img" ∷ []) ≡ Some (OnImage (Recover (codes "img") (Some (codes "new"))))
@@ -40,3 +40,10 @@ no_log = refl
 
 leading_zero : asked_by (codes "log" ∷ codes "img" ∷ codes "00" ∷ []) ≡ None
 leading_zero = refl
+
+-- a check takes an image alone
+a_check : asked_by (codes "fsck" ∷ codes "img" ∷ []) ≡ Some (OnImage (Fsck (codes "img")))
+a_check = refl
+
+a_saved_check : asked_by (codes "fsck" ∷ codes "img" ∷ codes "--save=new" ∷ []) ≡ None
+a_saved_check = refl

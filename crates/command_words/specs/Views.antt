@@ -9,7 +9,7 @@ use Rattle.command_words.specs.declared.commands.ImageCommand.{ImageCommand}
 use Rattle.command_words.specs.declared.commands.ImageCommand.TheVariants as image
 use Rattle.command_words.specs.declared.commands.RunCommand.{RunCommand}
 use Rattle.command_words.specs.Given.{Given}
-use Rattle.command_words.specs.Commands.{Asked, Asks, ImageAsks, Log, OnImage, Recover, Run, Tree}
+use Rattle.command_words.specs.Commands.{Asked, Asks, Fsck, ImageAsks, Log, OnImage, Recover, Run, Tree}
 
 -- the text of a word, if there is one
 abbrev pub text_of : Option (Bor (List ℕ)) → Option (List ℕ)
@@ -32,6 +32,7 @@ abbrev pub image_asks_of : ImageCommand → ImageAsks
 image_asks_of (image.Recover name save) = Recover name.now (text_of save)
 image_asks_of (image.Tree name) = Tree name.now
 image_asks_of (image.Log name server) = Log name.now server
+image_asks_of (image.Fsck name) = Fsck name.now
 
 abbrev pub asked_of : Command → Asked
 asked_of (command.Run run) = Run (asks_of run)

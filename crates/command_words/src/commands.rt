@@ -1,7 +1,7 @@
 // What the words of a command line ask.
 ghost use Rattle.std.specs.Prelude.{◌≡◌, ◌≤◌, IfSome, map, option_map, string_bytes};
 ghost use Rattle.frang_base.specs.declared.limits.TheConstants.{SEGMENTS_MAX};
-ghost use Rattle.command_words.specs.Commands.{asked_by, asked_with, image_asked, log_by, log_in, only_place, recover_by, run_by, segments_in, tree_by, unless};
+ghost use Rattle.command_words.specs.Commands.{asked_by, asked_with, fsck_by, image_asked, log_by, log_in, only_place, only_word, recover_by, run_by, segments_in, tree_by, unless};
 ghost use Rattle.command_words.specs.Views.{HasSegments, asked_of, asks_of, given_of, image_asks_of, text_of};
 
 use crate::given::{GivenWords, given_by};
@@ -31,6 +31,10 @@ pub enum ImageCommand<'a> {
     Log {
         image: &'a str,
         server: u8,
+    },
+    /// To check its replayed disk and tell the report.
+    Fsck {
+        image: &'a str,
     },
 }
 
@@ -95,10 +99,17 @@ fn recover_by(given: GivenWords<'_>) -> Option<ImageCommand<'_>>
     })
 }
 
+// The only positional word, where no option is given.
+fn only_word(given: GivenWords<'_>) -> Option<&str>
+    ensures { text_of result ≡ only_word (given_of given.entry) }
+{
+    unless(given.save, unless(given.segments, only_place(given)))
+}
+
 fn tree_by(given: GivenWords<'_>) -> Option<ImageCommand<'_>>
     ensures { option_map image_asks_of result ≡ tree_by (given_of given.entry) }
 {
-    let image = unless(given.save, unless(given.segments, only_place(given)))?;
+    let image = only_word(given)?;
     Some(ImageCommand::Tree { image })
 }
 
@@ -108,6 +119,13 @@ fn log_by(given: GivenWords<'_>) -> Option<ImageCommand<'_>>
     let image = unless(given.save, unless(given.segments, given.first))?;
     let server = log_in(given.second)?;
     Some(ImageCommand::Log { image, server })
+}
+
+fn fsck_by(given: GivenWords<'_>) -> Option<ImageCommand<'_>>
+    ensures { option_map image_asks_of result ≡ fsck_by (given_of given.entry) }
+{
+    let image = only_word(given)?;
+    Some(ImageCommand::Fsck { image })
 }
 
 // A command on an image by its name.
@@ -120,6 +138,8 @@ fn image_asked<'a>(name: &str, given: GivenWords<'a>) -> Option<ImageCommand<'a>
         tree_by(given)
     } else if name == "log" {
         log_by(given)
+    } else if name == "fsck" {
+        fsck_by(given)
     } else {
         None
     }

@@ -9,12 +9,13 @@ use std::collections::BTreeSet;
 use std::fs;
 use std::process::ExitCode;
 use std::rt::Runtime;
+use std::thread::Threads;
 
 // The images, by their names before `.image`.
 static IMAGES: [&str; 2] = ["logs", "unreached"];
 
 // The commands on images, with what stands behind the image. What is said of `logs.image` by `log` stands in `logs.log.said`.
-static COMMANDS: [(&str, &str); 3] = [("recover", ""), ("tree", ""), ("log", "1")];
+static COMMANDS: [(&str, &str); 4] = [("recover", ""), ("tree", ""), ("log", "1"), ("fsck", "")];
 
 // The names of the scripts in this folder, in order of their bytes.
 fn script_names<R: Runtime>(rt: &R, alloc: Global) -> anyhow::Result<BTreeSet<String>> {
@@ -55,7 +56,8 @@ fn explained(alloc: Global, status: &Status) -> anyhow::Result<String> {
 }
 
 // Whether a call with these words says what the text has, and then what its status means.
-fn is_as_said<F: Files>(
+fn is_as_said<R: Threads + Sync, F: Files>(
+    rt: &R,
     alloc: Global,
     files: &mut F,
     words: &[String],
@@ -64,20 +66,26 @@ fn is_as_said<F: Files>(
     let Ok(wanted) = files.read(alloc, told, u64::MAX) else {
         return Ok(false);
     };
-    let (status, out) = frang(alloc, words, files, MemOutside::new(alloc), &NoGate);
+    let (status, out) = frang(rt, alloc, words, files, MemOutside::new(alloc), &NoGate);
     let mut text = lines_said(alloc, out.acts())?;
     text.extend_from_slice(explained(alloc, &status)?.as_bytes())?;
     Ok(text.as_slice() == wanted.as_slice())
 }
 
-fn is_run_as_said<F: Files>(alloc: Global, files: &mut F, name: &str) -> anyhow::Result<bool> {
+fn is_run_as_said<R: Threads + Sync, F: Files>(
+    rt: &R,
+    alloc: Global,
+    files: &mut F,
+    name: &str,
+) -> anyhow::Result<bool> {
     let script = format!(in alloc; "{name}.frang")?;
     let told = format!(in alloc; "{name}.said")?;
     let words = vec![in alloc; String::from_str(alloc, "run")?, script]?;
-    is_as_said(alloc, files, &words, told.as_str())
+    is_as_said(rt, alloc, files, &words, told.as_str())
 }
 
-fn is_image_as_said<F: Files>(
+fn is_image_as_said<R: Threads + Sync, F: Files>(
+    rt: &R,
     alloc: Global,
     files: &mut F,
     name: &str,
@@ -90,7 +98,7 @@ fn is_image_as_said<F: Files>(
     if !last.is_empty() {
         words.push(String::from_str(alloc, last)?)?;
     }
-    is_as_said(alloc, files, &words, told.as_str())
+    is_as_said(rt, alloc, files, &words, told.as_str())
 }
 
 // Prints whether an example is as said, and gives that.
@@ -103,7 +111,7 @@ fn report<R: Runtime>(rt: &R, example: &str, is_as_said: bool) -> anyhow::Result
     Ok(is_as_said)
 }
 
-fn are_images_as_said<R: Runtime, F: Files>(
+fn are_images_as_said<R: Runtime + Threads + Sync, F: Files>(
     rt: &R,
     alloc: Global,
     files: &mut F,
@@ -111,7 +119,7 @@ fn are_images_as_said<R: Runtime, F: Files>(
     let mut all = true;
     for name in IMAGES {
         for (command, last) in COMMANDS {
-            let same = is_image_as_said(alloc, files, name, command, last)?;
+            let same = is_image_as_said(rt, alloc, files, name, command, last)?;
             let example = format!(in alloc; "{name} {command}")?;
             all &= report(rt, example.as_str(), same)?;
         }
@@ -124,7 +132,7 @@ fn main(rt: HostRuntime) -> anyhow::Result<ExitCode> {
     let mut files = DirFiles::new(rt.clone()?);
     let mut all = true;
     for name in &script_names(&rt, alloc)? {
-        let same = is_run_as_said(alloc, &mut files, name.as_str())?;
+        let same = is_run_as_said(&rt, alloc, &mut files, name.as_str())?;
         all &= report(&rt, name.as_str(), same)?;
     }
     all &= are_images_as_said(&rt, alloc, &mut files)?;

@@ -12,6 +12,7 @@ use std::alloc::Global;
 use std::env;
 use std::process::ExitCode;
 use std::rt::Runtime;
+use std::thread::Threads;
 
 fn exit_code(status: &Status) -> ExitCode
     ensures { exit_status result ≡ status.now.code }
@@ -43,14 +44,17 @@ fn explain<R: Runtime>(alloc: Global, rt: &R, status: &Status) -> anyhow::Result
 /// Does what the words after the program's name ask, and gives the status with which the process is to end. Where it isn't 0, its line
 /// of numbers stands on standard error, and below it what it means in words. An error comes where the arguments can't be had, or where
 /// standard error takes no line.
-pub fn run_program<R: Runtime + Send>(alloc: Global, rt: &R) -> anyhow::Result<ExitCode> {
+pub fn run_program<R: Runtime + Threads + Send + Sync>(
+    alloc: Global,
+    rt: &R,
+) -> anyhow::Result<ExitCode> {
     let mut words = Vec::new(alloc);
     for word in env::args(rt)?.skip(1) {
         words.push(String::from_str(alloc, word.as_str())?)?;
     }
     let mut files = DirFiles::new(rt.clone()?);
     let out = StdOutside::new(alloc, rt.clone()?);
-    let (status, _) = frang(alloc, &words, &mut files, out, &NoGate);
+    let (status, _) = frang(rt, alloc, &words, &mut files, out, &NoGate);
     explain(alloc, rt, &status)?;
     Ok(exit_code(&status))
 }

@@ -66,13 +66,13 @@ module _ (files files_after : FilesState) (out after : State) where
   told_fine e (inr short) = inr (ap (λ x. (image_status x).code) short)
 
   told_whole : (words : List (List ℕ)) (outcome : Outcome) (asked : Option Asked) → asked_by words ≡ asked → HasRunFor asked files files_after out after outcome → IsCompleteOnImage words files files_after out after (status_of outcome)
-  told_whole words outcome None is done asks holds bytes blocks lines by told at_name short image are fine = absurd (let bad : None ≡ Some (OnImage asks) = sym is ∙ by in cc)
-  told_whole words outcome (Some (Run own)) is done asks holds bytes blocks lines by told at_name short image are fine = absurd (let bad : Some (Run own) ≡ Some (OnImage asks) = sym is ∙ by in cc)
-  told_whole words outcome (Some (OnImage own)) is done asks holds bytes blocks lines by told at_name short image are fine =
+  told_whole words outcome None is done asks holds bytes blocks by told at_name short image are fine = absurd (let bad : None ≡ Some (OnImage asks) = sym is ∙ by in cc)
+  told_whole words outcome (Some (Run own)) is done asks holds bytes blocks by told at_name short image are fine = absurd (let bad : Some (Run own) ≡ Some (OnImage asks) = sym is ∙ by in cc)
+  told_whole words outcome (Some (OnImage own)) is done asks holds bytes blocks by told at_name short image are fine =
       let some : Some (OnImage own) ≡ Some (OnImage asks) = sym is ∙ by in
       let same : own ≡ asks = cc in
       let all = subst (λ a. HasTold a files files_after out after outcome) same done in
-      subst IsFine (sym all.outcome_is) (told_fine all.ended (told_complete asks files files_after out after all.ended all.cause holds bytes blocks lines told at_name short image are fine))
+      subst IsFine (sym all.outcome_is) (told_fine all.ended (told_complete asks files files_after out after all.ended all.cause holds bytes blocks told at_name short image are fine))
 
   pub complete : (words : List (List ℕ)) (outcome : Outcome) → HasRunFor (asked_by words) files files_after out after outcome → IsComplete words files files_after out after (status_of outcome)
   complete words outcome done = run_complete words outcome (asked_by words) refl done

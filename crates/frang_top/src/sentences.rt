@@ -9,11 +9,12 @@ use script_definitions::LineFault;
 use std::alloc::Global;
 
 /// The commands of the program, a line each: the words, and what they ask.
-pub const COMMANDS: [&str; 4] = [
+pub const COMMANDS: [&str; 5] = [
     "run SCRIPT [--segments S]  answers a script on a fresh disk of S segments, 1 to 64 (else 16)",
     "recover IMAGE [--save F]  says what each log keeps and the tree of the replayed disk, saves it in F",
     "tree IMAGE  says the tree of an image's replayed disk",
     "log IMAGE SERVER  says the records of a log, 0 to 255",
+    "fsck IMAGE  says the report of the check of an image's replayed disk, as a line of JSON",
 ];
 
 // The fault whose kind has this number.

@@ -17,8 +17,8 @@ use Rattle.image_commands.specs.declared.end.ImageEnd.{ImageEnd}
 use Rattle.image_commands.specs.declared.end.ImageEnd.TheVariants as end
 use Rattle.image_commands.specs.Saying.{Says, SaysSome, SaysAll}
 use Rattle.image_commands.specs.Lines.{IsRecovery, GivesLines}
-use Rattle.image_commands.specs.Ends.{IsImageOf, sector_at, Ends, EndsSaving, EndsRecovery, MaySave, OnlySaves}
-use Rattle.image_commands.specs.Steps.{ReadsBytes, GivesDisk, ReadsDisk, SaysLines, SavesDisk, SavesAfter, SaysAndSaves, RecoversDisk}
+use Rattle.image_commands.specs.Ends.{IsImageOf, sector_at, Ends, EndsTold, EndsSaving, EndsRecovery, MaySave, OnlySaves}
+use Rattle.image_commands.specs.Steps.{ReadsBytes, GivesDisk, ReadsDisk, SaysLines, SaysTold, SavesDisk, SavesAfter, SaysAndSaves, RecoversDisk}
 
 -- what holds of a file's bytes holds of the file
 file_of : (holds : Option Holds) (name bytes : List ℕ) (P : List ℕ → Type 0) → IsFile holds name (λ now. now ≡ bytes) → P bytes → IsFile holds name P
@@ -74,6 +74,29 @@ module _ (T : Blocks → List Said → Type 0) (name : List ℕ) (files files_af
   ended_lines blocks (Ok (Some v)) e i g s = ended_saying blocks v.items e i g s
   ended_lines blocks (Ok None) e i g s = subst (Ends T name files files_after out after) (sym s.0) (ended_standing blocks i g s.1)
   ended_lines blocks (Err want) e i g s = subst (Ends T name files files_after out after) (sym s.0) (inl s.1)
+
+  -- the same of a command whose lines every disk has
+  pub told_reading : (e : ImageEnd) → ReadsDisk files files_after name (Err e) → Says after.acts [] → EndsTold T name files files_after out after e
+  told_reading end.Done r s = absurd r
+  told_reading end.NoMemory r s = inl s
+  told_reading end.ReadFailed r s = (r, s)
+  told_reading end.TooLong r s = (r, s)
+  told_reading (end.BadImage at kind sector) r s = (r, s)
+  told_reading (end.Mute said) r s = absurd r
+  told_reading end.WriteFailed r s = absurd r
+
+  told_saying : (blocks : Blocks) (lines : List Said) (e : ImageEnd) → IsImageOf files.holds name blocks → T blocks lines → SaysAll out after lines e → EndsTold T name files files_after out after e
+  told_saying blocks lines end.Done i t s = ended_saying blocks lines end.Done i t s
+  told_saying blocks lines end.NoMemory i t s = ended_saying blocks lines end.NoMemory i t s
+  told_saying blocks lines end.ReadFailed i t s = absurd s
+  told_saying blocks lines end.TooLong i t s = absurd s
+  told_saying blocks lines (end.BadImage at kind sector) i t s = absurd s
+  told_saying blocks lines (end.Mute said) i t s = ended_saying blocks lines (end.Mute said) i t s
+  told_saying blocks lines end.WriteFailed i t s = absurd s
+
+  pub told_lines : (blocks : Blocks) (lines : Result (Vec Said Global) NoMemory) (e : ImageEnd) → IsImageOf files.holds name blocks → IfOk lines (λ v. T blocks v.items) → SaysTold out after lines e → EndsTold T name files files_after out after e
+  told_lines blocks (Ok v) e i t s = told_saying blocks v.items e i t s
+  told_lines blocks (Err want) e i t s = subst (EndsTold T name files files_after out after) (sym s.0) (inl s.1)
 
 -- ---- recoveries
 

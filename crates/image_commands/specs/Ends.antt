@@ -56,6 +56,11 @@ Ends T name files files_after out after (end.Mute said) =
     Tells T files.holds name (λ blocks lines. (said < length lines) × Says after.acts (take said lines)) × Rose out.say_faults after.say_faults
 Ends T name files files_after out after end.WriteFailed = ⊥
 
+-- the same of a command whose lines every disk has: of an image that is one it isn't said that it is bad
+abbrev pub EndsTold : (Blocks → List Said → Type 0) → List ℕ → FilesState → FilesState → State → State → ImageEnd → Type 0
+EndsTold T name files files_after out after (end.BadImage at kind sector) = IsNoImage files.holds name at kind sector × Says after.acts []
+EndsTold T name files files_after out after outcome = Ends T name files files_after out after outcome
+
 -- ---- saving
 
 -- the file, where files are told, is the image of the replayed disk

@@ -14,6 +14,8 @@ use Rattle.disk_definitions.specs.Images.{Blocks}
 use Rattle.disk_definitions.specs.Standing.{StandsFor}
 use Rattle.log_definitions.specs.Logs.{log_records, greatest_operation}
 use Rattle.log_definitions.specs.Replay.{replayed, slots_of}
+use Rattle.report_definitions.specs.Report.{Report, IsReport}
+use Rattle.fsck_report.specs.Line.{report_text}
 
 -- the records of a log
 abbrev pub records_in : Sectors → ℕ → List Redo
@@ -47,6 +49,12 @@ IsRecovery blocks lines = IsTreeOf (sectors_of blocks) (recovered_below (sectors
 -- the records of a log in order, and the end
 abbrev pub IsLog : ℕ → Blocks → List Said → Type 0
 IsLog server blocks lines = lines ≡ map redo_line (records_in (sectors_of blocks) server) ++ said.End ∷ []
+
+-- the report of the check of the disk once its logs are replayed, in one line
+pub record IsCheck (blocks : Blocks) (lines : List Said) : Type 0 where
+  pub report : Report
+  pub told : IsReport (replayed (sectors_of blocks)) report
+  pub is : lines ≡ said.Shown (report_text report) ∷ []
 
 -- the lines, or that there are none
 abbrev pub GivesLines : (Blocks → List Said → Type 0) → Blocks → Option (Vec Said) → Type 0

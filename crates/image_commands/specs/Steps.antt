@@ -54,6 +54,11 @@ SaysLines old new (Ok (Some lines)) outcome = SaysAll old new lines.items outcom
 SaysLines old new (Ok None) outcome = (outcome ≡ end.BadImage 0 8 0) × Says new.acts []
 SaysLines old new (Err want) outcome = (outcome ≡ end.NoMemory) × Says new.acts []
 
+-- the lines are said, where memory was there for them
+abbrev pub SaysTold : State → State → Result (Vec Said Global) NoMemory → ImageEnd → Type 0
+SaysTold old new (Ok lines) outcome = SaysAll old new lines.items outcome
+SaysTold old new (Err want) outcome = (outcome ≡ end.NoMemory) × Says new.acts []
+
 -- the file has the image of the disk, or it was refused; every other file stays
 abbrev pub SavesDisk : FilesState → FilesState → List ℕ → Blocks → ImageEnd → Type 0
 SavesDisk old new save disk end.Done = OthersStay old.holds new.holds save × IsFile new.holds save (λ bytes. bytes ≡ image_text disk)

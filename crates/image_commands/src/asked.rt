@@ -4,14 +4,16 @@ ghost use Rattle.command_words.specs.Views.{image_asks_of};
 ghost use Rattle.image_commands.specs.Saying.{Says};
 ghost use Rattle.image_commands.specs.Asked.{EndsAsked, IsComplete, LeavesFiles, OnlyWrites, saved_by};
 
-use crate::commands::{log, recover, tree};
+use crate::commands::{fsck, log, recover, tree};
 use crate::end::ImageEnd;
 use command_words::ImageCommand;
 use frang_outside::{Files, Outside};
 use std::alloc::Global;
+use std::thread::Threads;
 
 // The command by its name.
-fn do_named<F: Files, O: Outside>(
+fn do_named<R: Threads + Sync, F: Files, O: Outside>(
+    rt: &R,
     alloc: Global,
     command: &ImageCommand<'_>,
     files: &mut F,
@@ -25,12 +27,14 @@ fn do_named<F: Files, O: Outside>(
         ImageCommand::Recover { image, save } => recover(alloc, image, save, files, out),
         ImageCommand::Tree { image } => tree(alloc, image, files, out),
         ImageCommand::Log { image, server } => log(alloc, image, server, files, out),
+        ImageCommand::Fsck { image } => fsck(rt, alloc, image, files, out),
     }
 }
 
 /// Does what is asked of an image: says its lines, and saves a recovery where that is asked. Where the image is there and good and no call
-/// fails, all is done, unless memory is short.
-pub fn do_command<F: Files, O: Outside>(
+/// fails, all is done, unless memory is short. A disk is checked in threads.
+pub fn do_command<R: Threads + Sync, F: Files, O: Outside>(
+    rt: &R,
     alloc: Global,
     command: &ImageCommand<'_>,
     files: &mut F,
@@ -42,5 +46,5 @@ pub fn do_command<F: Files, O: Outside>(
     ensures writes { OnlyWrites (saved_by (image_asks_of command.now)) (F.state files.old).holds (F.state files.new).holds }
     ensures complete { IsComplete (image_asks_of command.now) (F.state files.old) (F.state files.new) (O.state out.old) (O.state out.new) result }
 {
-    do_named(alloc, command, files, out)
+    do_named(rt, alloc, command, files, out)
 }

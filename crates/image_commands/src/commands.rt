@@ -3,12 +3,12 @@ ghost use Rattle.std.specs.Prelude.{◌≡◌, []};
 ghost use Rattle.std.specs.Option.{option_map};
 ghost use Rattle.image_commands.specs.declared.end.ImageEnd.TheVariants as end;
 ghost use Rattle.image_commands.specs.Saying.{Says};
-ghost use Rattle.image_commands.specs.Lines.{IsLog, IsTree};
-ghost use Rattle.image_commands.specs.Ends.{Ends, EndsRecovery, OnlySaves};
-ghost use Rattle.image_commands.specs.Steps.{RecoversDisk, SavesAfter, SavesDisk, SaysAndSaves, SaysLines};
+ghost use Rattle.image_commands.specs.Lines.{IsCheck, IsLog, IsTree};
+ghost use Rattle.image_commands.specs.Ends.{Ends, EndsRecovery, EndsTold, OnlySaves};
+ghost use Rattle.image_commands.specs.Steps.{RecoversDisk, SavesAfter, SavesDisk, SaysAndSaves, SaysLines, SaysTold};
 
 use crate::end::ImageEnd;
-use crate::lines::{Recovery, log_said, recovery_of, tree_said};
+use crate::lines::{Recovery, check_said, log_said, recovery_of, tree_said};
 use crate::read::read_disk;
 use crate::say::say_all;
 use disk_definitions::Disk;
@@ -16,6 +16,7 @@ use frang_base::{NoMemory, Said};
 use frang_outside::{FileFault, Files, Outside};
 use image_file::write_image;
 use std::alloc::Global;
+use std::thread::Threads;
 
 // The end where there is no tree for which the replayed disk stands.
 fn no_tree() -> ImageEnd
@@ -40,6 +41,17 @@ fn say_lines<O: Outside>(
     match lines {
         Ok(Some(lines)) => say_all(alloc, &lines, out),
         Ok(None) => no_tree(),
+        Err(_) => ImageEnd::NoMemory,
+    }
+}
+
+// Says the lines of a disk.
+fn say_told<O: Outside>(alloc: Global, lines: Result<Vec<Said>, NoMemory>, out: &mut O) -> ImageEnd
+    requires { Says (O.state out.old).acts [] }
+    ensures { SaysTold (O.state out.old) (O.state out.new) lines result }
+{
+    match lines {
+        Ok(lines) => say_all(alloc, &lines, out),
         Err(_) => ImageEnd::NoMemory,
     }
 }
@@ -70,11 +82,29 @@ pub fn log<F: Files, O: Outside>(
     out: &mut O,
 ) -> ImageEnd
     requires { Says (O.state out.old).acts [] }
-    ensures ends { Ends (IsLog server) image.now (F.state files.old) (F.state files.new) (O.state out.old) (O.state out.new) result }
+    ensures ends { EndsTold (IsLog server) image.now (F.state files.old) (F.state files.new) (O.state out.old) (O.state out.new) result }
     ensures untouched { (F.state files.new).holds ≡ (F.state files.old).holds }
 {
     match read_disk(alloc, image, files) {
-        Ok(disk) => say_lines(alloc, log_said(alloc, &disk, server), out),
+        Ok(disk) => say_told(alloc, log_said(alloc, &disk, server), out),
+        Err(end) => end,
+    }
+}
+
+/// Says the report of the check of an image's disk once its logs are replayed, in one line, whether it stands for a tree or not.
+pub fn fsck<R: Threads + Sync, F: Files, O: Outside>(
+    rt: &R,
+    alloc: Global,
+    image: &str,
+    files: &mut F,
+    out: &mut O,
+) -> ImageEnd
+    requires { Says (O.state out.old).acts [] }
+    ensures ends { EndsTold IsCheck image.now (F.state files.old) (F.state files.new) (O.state out.old) (O.state out.new) result }
+    ensures untouched { (F.state files.new).holds ≡ (F.state files.old).holds }
+{
+    match read_disk(alloc, image, files) {
+        Ok(disk) => say_told(alloc, check_said(rt, alloc, &disk), out),
         Err(end) => end,
     }
 }

@@ -1,4 +1,5 @@
-//! The commands on images: the tree that an image stands for, what its logs keep, the records of one log. Each says lines and puts nothing.
+//! The commands on images: the tree that an image stands for, what its logs keep, the records of one log, the report of its check. Each says
+//! lines and puts nothing.
 //! The contracts promise that what was said is a prefix of exactly the lines of the image's disk, at the end with all done the whole of
 //! them, and that each other end has its cause. It stands on the words of commands, on the readers of images, logs
 //! and disks, on the writer of said lines and on the traits of the outside.
@@ -13,6 +14,6 @@ mod say;
 mod sentences;
 
 pub use asked::do_command;
-pub use commands::{log, recover, tree};
+pub use commands::{fsck, log, recover, tree};
 pub use end::ImageEnd;
 pub use sentences::fault_sentence;

@@ -1,8 +1,9 @@
 // The lines of a disk.
-ghost use Rattle.std.specs.Prelude.{◌≡◌, ◌++◌, ◌∷◌, [], map, IfOk, OnOk};
+ghost use Rattle.std.specs.Prelude.{◌≡◌, ◌++◌, ◌∷◌, [], map, true, is_some, IfOk, OnOk};
 ghost use Rattle.tree_definitions.specs.TreeLines.{tree_lines};
 ghost use Rattle.sector_bytes.specs.Sectors.{sectors_of};
-ghost use Rattle.image_commands.specs.Lines.{recovered_below, recovered_by, records_in, redo_line, GivesLines, IsLog, IsTree};
+ghost use Rattle.sector_definitions.specs.Params.{param_in};
+ghost use Rattle.image_commands.specs.Lines.{recovered_below, recovered_by, records_in, redo_line, GivesLines, IsCheck, IsLog, IsTree};
 ghost use Rattle.image_commands.specs.Recovered.{GivesRecovery};
 
 use disk_definitions::Disk;
@@ -11,8 +12,10 @@ use disk_replay::records_of;
 use file_tree::Tree;
 use frang_base::limits::LOGS;
 use frang_base::{NoMemory, Redo, Said, ServerId};
+use fsck_report::{check, report_line};
 use log_reading::greatest_operation;
 use std::alloc::Global;
+use std::thread::Threads;
 
 // Lines with those of a tree behind them, and the end.
 fn with_tree(tree: &Tree, before: Vec<Said>) -> Result<Vec<Said>, NoMemory>
@@ -51,14 +54,30 @@ fn record_lines(alloc: Global, records: &[Redo]) -> Result<Vec<Said>, NoMemory>
     Ok(lines)
 }
 
-/// The lines of the records of a log, and the end. There always are some.
-pub fn log_said(alloc: Global, disk: &Disk, server: u8) -> Result<Option<Vec<Said>>, NoMemory>
-    ensures { IfOk result (GivesLines (IsLog server) disk.now) }
+/// The lines of the records of a log, and the end.
+pub fn log_said(alloc: Global, disk: &Disk, server: u8) -> Result<Vec<Said>, NoMemory>
+    ensures { IfOk result (λ lines. IsLog server disk.now lines.items) }
 {
     let records = records_of(alloc, disk, ServerId(server))?;
     let mut lines = record_lines(alloc, &records)?;
     lines.push(Said::End)?;
-    Ok(Some(lines))
+    Ok(lines)
+}
+
+/// The line of the report of the check of a disk, once its logs are replayed.
+pub fn check_said<R: Threads + Sync>(
+    rt: &R,
+    alloc: Global,
+    disk: &Disk,
+) -> Result<Vec<Said>, NoMemory>
+    requires { is_some (param_in (sectors_of disk.now 0)) ≡ true }
+    ensures { IfOk result (λ lines. IsCheck disk.now lines.items) }
+{
+    let report = check(rt, alloc, disk)?;
+    let line = report_line(alloc, &report)?;
+    let mut lines = Vec::new(alloc);
+    lines.push(Said::Shown(line))?;
+    Ok(lines)
 }
 
 // Adds the line of a log, where it holds a record.

@@ -1,6 +1,8 @@
 // An image as a disk.
-ghost use Rattle.std.specs.Prelude.{◌≡◌};
+ghost use Rattle.std.specs.Prelude.{◌≡◌, true, is_some, IfOk};
 ghost use Rattle.frang_outside.specs.Files.{NoneFell};
+ghost use Rattle.sector_bytes.specs.Sectors.{sectors_of};
+ghost use Rattle.sector_definitions.specs.Params.{param_in};
 ghost use Rattle.image_commands.specs.Ends.{first_number, sector_at};
 ghost use Rattle.image_commands.specs.Steps.{GivesDisk, ReadsBytes, ReadsDisk};
 
@@ -46,7 +48,8 @@ fn sector_at(at: u64, bytes: &[u8]) -> u64
 
 // The disk whose image the bytes are.
 fn disk_of(alloc: Global, bytes: &[u8]) -> Result<Disk, ImageEnd>
-    ensures { GivesDisk bytes.now result }
+    ensures gives { GivesDisk bytes.now result }
+    ensures parameters { IfOk result (λ disk. is_some (param_in (sectors_of disk 0)) ≡ true) }
 {
     match read_image(alloc, bytes) {
         Ok(disk) => Ok(disk),
@@ -59,11 +62,12 @@ fn disk_of(alloc: Global, bytes: &[u8]) -> Result<Disk, ImageEnd>
     }
 }
 
-/// The disk whose image the file is.
+/// The disk whose image the file is. Its first sector has parameters.
 pub fn read_disk<F: Files>(alloc: Global, image: &str, files: &mut F) -> Result<Disk, ImageEnd>
     ensures files { (F.state files.new).holds ≡ (F.state files.old).holds }
     ensures counts { NoneFell (F.state files.old) (F.state files.new) }
     ensures outcome { ReadsDisk (F.state files.old) (F.state files.new) image.now result }
+    ensures parameters { IfOk result (λ disk. is_some (param_in (sectors_of disk 0)) ≡ true) }
 {
     match read_bytes(alloc, image, files) {
         Ok(bytes) => disk_of(alloc, &bytes),

@@ -3,6 +3,7 @@ use frang_base::NoMemory;
 use frang_outside::{Act, FileFault, Files, MemFiles, MemOutside, NoGate};
 use frang_top::{Status, frang};
 use std::alloc::{AllocError, Global};
+use std::thread::Threads;
 
 /// Bytes from a place on.
 pub type Piece = (usize, &'static [u8]);
@@ -115,16 +116,26 @@ pub fn words_of(alloc: Global, line: &str) -> Result<Vec<String>, AllocError> {
 }
 
 /// What a call with these words tells over these files.
-pub fn tell_over<F: Files>(alloc: Global, line: &str, files: &mut F) -> Result<Told, NoMemory> {
+pub fn tell_over<R: Threads + Sync, F: Files>(
+    rt: &R,
+    alloc: Global,
+    line: &str,
+    files: &mut F,
+) -> Result<Told, NoMemory> {
     let words = words_of(alloc, line)?;
-    let (status, out) = frang(alloc, &words, files, MemOutside::new(alloc), &NoGate);
+    let (status, out) = frang(rt, alloc, &words, files, MemOutside::new(alloc), &NoGate);
     let text = lines_said(alloc, out.acts())?;
     Ok(Told { status, text })
 }
 
 /// What a call with these words tells where the file `img` holds this image, and no other file is there.
-pub fn tell(alloc: Global, image: &[u8], line: &str) -> Result<Told, NoMemory> {
+pub fn tell(
+    rt: &(impl Threads + Sync),
+    alloc: Global,
+    image: &[u8],
+    line: &str,
+) -> Result<Told, NoMemory> {
     let mut files = MemFiles::new(alloc);
     files.put_file("img", image)?;
-    tell_over(alloc, line, &mut files)
+    tell_over(rt, alloc, line, &mut files)
 }

@@ -3,11 +3,12 @@ use crate::builders::{DONE, FRESH, FRESH_LEN, Piece, image_of, lay, tell};
 use frang_base::NoMemory;
 use std::alloc::Global;
 use std::test::Fail;
+use std::thread::Threads;
 
 // What is laid over the fresh image, and how many bytes are then kept; the place and the kind of the fault, and its words.
 type Damage = (&'static [Piece], usize, u64, u32, &'static str);
 
-static DAMAGES: [Damage; 14] = [
+static DAMAGES: [Damage; 13] = [
     (
         &[],
         0,
@@ -108,17 +109,19 @@ static DAMAGES: [Damage; 14] = [
         7,
         "image: the inode of sector 10737418240 isn't one, at byte 1056",
     ),
-    (
-        &[(552, b"\x03")],
-        FRESH_LEN,
-        0,
-        8,
-        "image: its replayed disk stands for no tree",
-    ),
 ];
 
 // The bit of an inode that isn't in use.
 static UNREACHED: [Piece; 1] = [(552, b"\x03")];
+
+// The disk with it stands for no tree.
+static NO_TREE: [Damage; 1] = [(
+    &[(552, b"\x03")],
+    FRESH_LEN,
+    0,
+    8,
+    "image: its replayed disk stands for no tree",
+)];
 
 fn damaged(alloc: Global, damage: &Damage) -> Result<Vec<u8>, NoMemory> {
     let (pieces, keep, _, _, _) = *damage;
@@ -129,10 +132,15 @@ fn damaged(alloc: Global, damage: &Damage) -> Result<Vec<u8>, NoMemory> {
 }
 
 // A command tells a damage as it is.
-fn is_told(alloc: Global, words: &str, damage: &Damage) -> Result<bool, NoMemory> {
+fn is_told(
+    rt: &(impl Threads + Sync),
+    alloc: Global,
+    words: &str,
+    damage: &Damage,
+) -> Result<bool, NoMemory> {
     let (_, _, at, kind, sentence) = *damage;
     let image = damaged(alloc, damage)?;
-    let told = tell(alloc, &image, words)?;
+    let told = tell(rt, alloc, &image, words)?;
     let status = told.status;
     let said = status.sentence(alloc)?;
     Ok(
@@ -144,10 +152,15 @@ fn is_told(alloc: Global, words: &str, damage: &Damage) -> Result<bool, NoMemory
     )
 }
 
-// The first damage, from 1 on, that the command tells otherwise; 0 where there is none.
-fn first_other(alloc: Global, words: &str) -> Result<usize, NoMemory> {
-    for (i, damage) in DAMAGES.iter().enumerate() {
-        if !is_told(alloc, words, damage)? {
+// The first of these damages, from 1 on, that the command tells otherwise; 0 where there is none.
+fn first_other(
+    rt: &(impl Threads + Sync),
+    alloc: Global,
+    words: &str,
+    damages: &[Damage],
+) -> Result<usize, NoMemory> {
+    for (i, damage) in damages.iter().enumerate() {
+        if !is_told(rt, alloc, words, damage)? {
             return Ok(i.saturating_add(1));
         }
     }
@@ -156,25 +169,48 @@ fn first_other(alloc: Global, words: &str) -> Result<usize, NoMemory> {
 
 #[test]
 fn damaged_images_are_refused_where_they_are_damaged(rt: HostRuntime) -> Result<(), Fail> {
-    assert_eq!(rt; first_other(rt.alloc(), "tree img")?, 0);
-    assert_eq!(rt; first_other(rt.alloc(), "recover img --save new")?, 0);
+    for words in [
+        "tree img",
+        "recover img --save new",
+        "log img 0",
+        "fsck img",
+    ] {
+        assert_eq!(rt;
+            first_other(&rt, rt.alloc(), words, &DAMAGES)?,
+            0,
+            "{words}"
+        );
+    }
+    for words in ["tree img", "recover img --save new"] {
+        assert_eq!(rt;
+            first_other(&rt, rt.alloc(), words, &NO_TREE)?,
+            0,
+            "{words}"
+        );
+    }
     Ok(())
 }
 
 #[test]
-fn a_log_is_read_also_where_no_tree_stands(rt: HostRuntime) -> Result<(), Fail> {
+fn a_log_is_read_and_a_check_told_also_where_no_tree_stands(rt: HostRuntime) -> Result<(), Fail> {
     let mut image = image_of(rt.alloc(), FRESH_LEN, &FRESH)?;
     lay(&mut image, &UNREACHED);
-    let told = tell(rt.alloc(), &image, "log img 0")?;
+    let told = tell(&rt, rt.alloc(), &image, "log img 0")?;
     assert!(rt; told.status == DONE);
     assert!(rt; told.text.as_slice() == b"! end\n".as_slice());
+    let told = tell(&rt, rt.alloc(), &image, "fsck img")?;
+    assert!(rt; told.status == DONE);
+    assert!(rt;
+        told.text.as_slice()
+            == b"{\"blocks\":0,\"dirs\":1,\"faults\":[[4294967296,7]],\"files\":0,\"larges\":0,\"links\":0,\"segments\":16,\"stands\":false}\n".as_slice()
+    );
     Ok(())
 }
 
 #[test]
 fn the_fresh_image_has_an_empty_root(rt: HostRuntime) -> Result<(), Fail> {
     let image = image_of(rt.alloc(), FRESH_LEN, &FRESH)?;
-    let told = tell(rt.alloc(), &image, "recover img")?;
+    let told = tell(&rt, rt.alloc(), &image, "recover img")?;
     assert!(rt; told.status == DONE);
     assert!(rt; told.text.as_slice() == b"= / dir 0\n! end\n".as_slice());
     Ok(())

@@ -7,6 +7,7 @@ use frang_outside::{FaultyOutside, Files, MemFiles, NoGate};
 use frang_top::{Status, frang};
 use std::alloc::{AllocError, Global};
 use std::test::Fail;
+use std::thread::Threads;
 
 // Five sectors: the parameters, a sector of each log, the segment, the root.
 const LEN: usize = 2616;
@@ -83,7 +84,11 @@ const BAD_WORDS: (u8, u32, u64) = (2, 0, 0);
 
 const UNREAD: (u8, u32, u64) = (4, 1, 0);
 
-static ROWS: [Row; 29] = [
+// The report of its check.
+const REPORT: &str =
+    "{\"blocks\":1,\"dirs\":1,\"faults\":[],\"files\":2,\"larges\":0,\"links\":0,\"segments\":16,\"stands\":true}\n";
+
+static ROWS: [Row; 36] = [
     ("recover img", WHOLE, RECOVERED),
     ("recover img --save new", WHOLE, RECOVERED),
     ("recover --save new img", WHOLE, RECOVERED),
@@ -111,16 +116,23 @@ static ROWS: [Row; 29] = [
     ("recover img --save --new", BAD_WORDS, ""),
     ("recover img --save new --save=new", BAD_WORDS, ""),
     ("recover img --segments 16", BAD_WORDS, ""),
+    ("fsck img", WHOLE, REPORT),
+    ("fsck -- img", WHOLE, REPORT),
+    ("fsck", BAD_WORDS, ""),
+    ("fsck img img", BAD_WORDS, ""),
+    ("fsck img --save new", BAD_WORDS, ""),
+    ("fsck img --segments 16", BAD_WORDS, ""),
+    ("fsck none", UNREAD, ""),
     ("tree none", UNREAD, ""),
     ("log -- -img 0", UNREAD, ""),
 ];
 
 // The first row, from 1 on, whose call tells otherwise; 0 where there is none.
-fn first_other(alloc: Global) -> Result<usize, NoMemory> {
+fn first_other(rt: &(impl Threads + Sync), alloc: Global) -> Result<usize, NoMemory> {
     let image = with_logs(alloc)?;
     for (i, row) in ROWS.iter().enumerate() {
         let (words, (code, line, at), text) = *row;
-        let told = tell(alloc, &image, words)?;
+        let told = tell(rt, alloc, &image, words)?;
         if told.status != status_with(code, line, at) || told.text.as_slice() != text.as_bytes() {
             return Ok(i.saturating_add(1));
         }
@@ -130,7 +142,7 @@ fn first_other(alloc: Global) -> Result<usize, NoMemory> {
 
 #[test]
 fn logs_are_replayed_and_told_where_the_words_are_a_command(rt: HostRuntime) -> Result<(), Fail> {
-    assert_eq!(rt; first_other(rt.alloc())?, 0);
+    assert_eq!(rt; first_other(&rt, rt.alloc())?, 0);
     Ok(())
 }
 
@@ -138,7 +150,7 @@ fn logs_are_replayed_and_told_where_the_words_are_a_command(rt: HostRuntime) -> 
 fn a_saved_recovery_has_no_logs_left(rt: HostRuntime) -> Result<(), Fail> {
     let mut files = MemFiles::new(rt.alloc());
     files.put_file("img", &with_logs(rt.alloc())?)?;
-    let told = tell_over(rt.alloc(), "recover img --save=-new", &mut files)?;
+    let told = tell_over(&rt, rt.alloc(), "recover img --save=-new", &mut files)?;
     assert!(rt; told.status == DONE);
     let saved = files
         .read(rt.alloc(), "-new", 1_000_000)
@@ -146,10 +158,10 @@ fn a_saved_recovery_has_no_logs_left(rt: HostRuntime) -> Result<(), Fail> {
         .ok_or("the saved image isn't there")?;
     // The inodes and the block of the two files are three sectors more, and the logs two less.
     assert_eq!(rt; saved.len(), 3136);
-    let told = tell_over(rt.alloc(), "recover -- -new", &mut files)?;
+    let told = tell_over(&rt, rt.alloc(), "recover -- -new", &mut files)?;
     assert!(rt; told.status == DONE);
     assert!(rt; told.text.as_slice() == TREE.as_bytes());
-    let told = tell_over(rt.alloc(), "log -- -new 0", &mut files)?;
+    let told = tell_over(&rt, rt.alloc(), "log -- -new 0", &mut files)?;
     assert!(rt; told.text.as_slice() == b"! end\n".as_slice());
     Ok(())
 }
@@ -161,7 +173,7 @@ static ODD_SLOT: [Piece; 1] = [(566, b"\x01")];
 fn a_damaged_log_is_told_by_its_sector(rt: HostRuntime) -> Result<(), Fail> {
     let mut image = with_logs(rt.alloc())?;
     lay(&mut image, &ODD_SLOT);
-    let told = tell(rt.alloc(), &image, "log img 1")?;
+    let told = tell(&rt, rt.alloc(), &image, "log img 1")?;
     assert!(rt; told.text.is_empty());
     assert!(rt;
         told.status
@@ -191,7 +203,7 @@ fn a_failing_outside_ends_a_command(rt: HostRuntime) -> Result<(), Fail> {
         vec![in rt.alloc(); 3]?,
     );
     let words = words_of(rt.alloc(), "tree img")?;
-    let (status, out) = frang(rt.alloc(), &words, &mut files, out, &NoGate);
+    let (status, out) = frang(&rt, rt.alloc(), &words, &mut files, out, &NoGate);
     assert!(rt; status == status_with(5, 0, 2));
     assert!(rt;
         lines_said(rt.alloc(), out.acts())?.as_slice() == b"= / dir 2\n= /a file 0 1\n".as_slice()
@@ -207,7 +219,7 @@ fn a_file_that_cannot_be_written_or_is_too_long_ends_a_command(
         image: Some(with_logs(rt.alloc())?),
         write_faults: 0,
     };
-    let told = tell_over(rt.alloc(), "recover img --save new", &mut files)?;
+    let told = tell_over(&rt, rt.alloc(), "recover img --save new", &mut files)?;
     assert!(rt; told.status == status_with(7, 0, 0));
     assert!(rt; told.text.as_slice() == RECOVERED.as_bytes());
     assert_eq!(rt; files.write_faults, 1);
@@ -215,7 +227,7 @@ fn a_file_that_cannot_be_written_or_is_too_long_ends_a_command(
         image: None,
         write_faults: 0,
     };
-    let told = tell_over(rt.alloc(), "recover img --save new", &mut files)?;
+    let told = tell_over(&rt, rt.alloc(), "recover img --save new", &mut files)?;
     assert!(rt; told.status == status_with(8, 1, 536_870_912));
     assert!(rt; told.text.is_empty());
     assert_eq!(rt; files.write_faults, 0);

@@ -3,6 +3,7 @@ use frang_base::NoMemory;
 use frang_outside::{Act, MemFiles, MemOutside, NoGate};
 use frang_top::{Status, frang};
 use std::alloc::{AllocError, Global};
+use std::thread::Threads;
 
 pub const DONE: Status = Status {
     code: 0,
@@ -39,11 +40,23 @@ pub struct Told {
 }
 
 // What a call with these words tells where the file `s` holds this script.
-pub fn tell(alloc: Global, words: &[&str], script: &[u8]) -> Result<Told, NoMemory> {
+pub fn tell(
+    rt: &(impl Threads + Sync),
+    alloc: Global,
+    words: &[&str],
+    script: &[u8],
+) -> Result<Told, NoMemory> {
     let mut files = MemFiles::new(alloc);
     files.put_file("s", script)?;
     let words = words_of(alloc, words)?;
-    let (status, out) = frang(alloc, &words, &mut files, MemOutside::new(alloc), &NoGate);
+    let (status, out) = frang(
+        rt,
+        alloc,
+        &words,
+        &mut files,
+        MemOutside::new(alloc),
+        &NoGate,
+    );
     let acts = out.acts();
     Ok(Told {
         status,

@@ -4,10 +4,11 @@ use frang_base::{
     Line, Name, NameList, NoMemory, Op, OpNo, Patch, Patches, Path, Reply, Said, Script, ServerId,
     Text, What,
 };
+use history_reading::{History, has_times};
 use reply_text::write_line;
 use std::alloc::Global;
 use std::test::Fail;
-use tree_model::{History, has_times};
+use tree_model::{has_proper_targets, tree_left};
 
 fn create_a(alloc: Global) -> Result<Op, NoMemory> {
     let mut path = Path::new(alloc);
@@ -106,8 +107,8 @@ fn answer(line: u32, reply: Reply) -> Said {
 // What a history leaves of a fresh tree, as it is said.
 fn left_tree(alloc: Global, history: &History) -> Result<Vec<u8>, NoMemory> {
     let mut text = Vec::new(alloc);
-    if history.has_proper_targets() {
-        let tree = history.tree(&Tree::fresh(alloc, 16)?)?;
+    if has_proper_targets(history) {
+        let tree = tree_left(&Tree::fresh(alloc, 16)?, history)?;
         for line in &tree.lines()? {
             write_line(alloc, line, &mut text)?;
         }

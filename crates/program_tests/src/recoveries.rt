@@ -1,12 +1,13 @@
 // Histories with recoveries, and the trees that they leave, worked out by hand.
 use file_tree::Tree;
 use frang_base::{NoMemory, Said};
+use history_reading::{History, has_times};
 use reply_text::{read_line, write_line};
 use script_lang::read_script;
 use std::alloc::Global;
 use std::test::Fail;
 use tree_definitions::{Cell, Node};
-use tree_model::{History, has_times};
+use tree_model::{has_proper_targets, tree_left};
 
 // What was made after the sync is lost.
 const UNSYNCED: &str = "0 mount : mounted
@@ -135,7 +136,7 @@ fn picture(alloc: Global, tree: &Tree) -> Result<Vec<u8>, NoMemory> {
 }
 
 // The picture of the tree that a table leaves of a fresh one.
-fn tree_left(alloc: Global, table: &str) -> Result<Vec<u8>, NoMemory> {
+fn picture_left(alloc: Global, table: &str) -> Result<Vec<u8>, NoMemory> {
     let (script, saids) = split_table(alloc, table)?;
     let Ok(script) = read_script(alloc, &script) else {
         return Ok(Vec::new(alloc));
@@ -144,10 +145,10 @@ fn tree_left(alloc: Global, table: &str) -> Result<Vec<u8>, NoMemory> {
         return Ok(Vec::new(alloc));
     }
     let history = History::live(alloc, &script, 1, &saids)?;
-    if !history.has_proper_targets() {
+    if !has_proper_targets(&history) {
         return Ok(Vec::new(alloc));
     }
-    picture(alloc, &history.tree(&Tree::fresh(alloc, 16)?)?)
+    picture(alloc, &tree_left(&Tree::fresh(alloc, 16)?, &history)?)
 }
 
 #[test]
@@ -165,7 +166,7 @@ fn recoveries_leave_trees(rt: HostRuntime) -> Result<(), Fail> {
         (MOUNTED_AGAIN, "= / dir 1\n= /a file 0 1\n\n"),
     ];
     for (table, wanted) in rows {
-        let text = tree_left(rt.alloc(), table)?;
+        let text = picture_left(rt.alloc(), table)?;
         assert_eq!(rt; text.as_slice(), wanted.as_bytes());
     }
     Ok(())

@@ -4,6 +4,7 @@ use frang_base::NoMemory;
 use std::alloc::Global;
 use std::process::Abort;
 use std::test::Fail;
+use std::thread::Threads;
 
 // Lines of server 0 with their answers, one after another.
 const NAMES: &str = "create /a : down
@@ -335,9 +336,14 @@ fn split_table(alloc: Global, table: &str) -> Result<(Vec<u8>, Vec<u8>), NoMemor
 }
 
 // The answers begin what is said, before the lines of the tree.
-fn expect_table(rt: &impl Abort, alloc: Global, words: &[&str], table: &str) -> Result<(), Fail> {
+fn expect_table(
+    rt: &(impl Abort + Threads + Sync),
+    alloc: Global,
+    words: &[&str],
+    table: &str,
+) -> Result<(), Fail> {
     let (script, answers) = split_table(alloc, table)?;
-    let told = tell(alloc, words, &script)?;
+    let told = tell(rt, alloc, words, &script)?;
     assert!(rt; told.status == DONE && told.text.len() > answers.len());
     assert_eq!(rt; &told.text[..answers.len()], answers.as_slice());
     Ok(())

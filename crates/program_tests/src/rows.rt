@@ -6,9 +6,15 @@ use frang_top::{Status, frang};
 use std::alloc::Global;
 use std::process::Abort;
 use std::test::Fail;
+use std::thread::Threads;
 
-fn expect_run(rt: &impl Abort, alloc: Global, script: &str, wanted: &str) -> Result<(), Fail> {
-    let told = tell(alloc, &["run", "s"], script.as_bytes())?;
+fn expect_run(
+    rt: &(impl Abort + Threads + Sync),
+    alloc: Global,
+    script: &str,
+    wanted: &str,
+) -> Result<(), Fail> {
+    let told = tell(rt, alloc, &["run", "s"], script.as_bytes())?;
     assert!(rt;
         told.status == DONE && told.text.as_slice() == wanted.as_bytes(),
         "{script}"
@@ -58,7 +64,7 @@ fn a_directory_has_at_most_896_entries(rt: HostRuntime) -> Result<(), Fail> {
         let line = format!(in alloc; "0 create /n{n}\n")?;
         script.push_str(line.as_str())?;
     }
-    let told = tell(alloc, &["run", "s"], script.as_bytes())?;
+    let told = tell(&rt, alloc, &["run", "s"], script.as_bytes())?;
     assert!(rt; told.status == DONE && told.acts == 1 + 897 + 897 + 1);
     for (place, wanted) in [
         (896, b"897 0 ok".as_slice()),
@@ -76,13 +82,13 @@ fn a_directory_has_at_most_896_entries(rt: HostRuntime) -> Result<(), Fail> {
 
 // Such a call ends so and says nothing.
 fn expect_status(
-    rt: &impl Abort,
+    rt: &(impl Abort + Threads + Sync),
     alloc: Global,
     words: &[&str],
     file: &[u8],
     wanted: (u8, u32, u64),
 ) -> Result<(), Fail> {
-    let told = tell(alloc, words, file)?;
+    let told = tell(rt, alloc, words, file)?;
     let (code, line, at) = wanted;
     let sector = 0;
     assert_eq!(rt;
@@ -144,7 +150,7 @@ fn options_have_their_form(rt: HostRuntime) -> Result<(), Fail> {
         for word in line.split_whitespace() {
             words.push(word)?;
         }
-        let told = tell(alloc, &words, b"")?;
+        let told = tell(&rt, alloc, &words, b"")?;
         assert!(rt;
             told.status == DONE && told.text.as_slice() == b"= / dir 0\n! end\n".as_slice(),
             "{line}"
@@ -188,7 +194,7 @@ fn a_say_that_fails_ends_the_run(rt: HostRuntime) -> Result<(), Fail> {
     for (failing, at, wanted) in runs {
         let says = vec![in alloc; failing]?;
         let out = FaultyOutside::new(alloc, Vec::new(alloc), Vec::new(alloc), says);
-        let (status, out) = frang(alloc, &words, &mut files, out, &NoGate);
+        let (status, out) = frang(&rt, alloc, &words, &mut files, out, &NoGate);
         assert_eq!(rt;
             status,
             Status {

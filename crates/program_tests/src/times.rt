@@ -51,7 +51,7 @@ static HOSTS: [Run; 4] = [
 #[test]
 fn files_have_the_times_of_their_last_writes(rt: HostRuntime) -> Result<(), Fail> {
     for (script, wanted) in &TIMES {
-        let told = tell(rt.alloc(), &["run", "s"], script.as_bytes())?;
+        let told = tell(&rt, rt.alloc(), &["run", "s"], script.as_bytes())?;
         assert!(rt;
             told.status == DONE && told.text.as_slice() == wanted.as_bytes(),
             "{script}"
@@ -63,7 +63,7 @@ fn files_have_the_times_of_their_last_writes(rt: HostRuntime) -> Result<(), Fail
 #[test]
 fn lines_of_the_host_are_answered(rt: HostRuntime) -> Result<(), Fail> {
     for (script, wanted) in &HOSTS {
-        let told = tell(rt.alloc(), &["run", "s"], script.as_bytes())?;
+        let told = tell(&rt, rt.alloc(), &["run", "s"], script.as_bytes())?;
         assert!(rt;
             told.status == DONE && told.text.as_slice() == wanted.as_bytes(),
             "{script}"

@@ -14,7 +14,7 @@ returns-in-Ok-clause-outcome g c =
     disk_read old new c.args.image.now c.deref.result.now c.disk_of.result
     (subst (λ xs. length xs ≤ IMAGE_BYTES_MAX) (sym e) c.in-Ok.ensures.outcome.0)
     (subst (λ xs. IsFile old.holds c.args.image.now (λ now. now ≡ xs)) (sym e) c.in-Ok.ensures.outcome.1)
-    c.disk_of.ensures
+    c.disk_of.ensures.gives
 
 pub returns-in-Err-clause-outcome : goal.returns-in-Err-clause-outcome
 returns-in-Err-clause-outcome g c = not_read (g.F.Files.state c.args.files.now) (g.F.Files.state c.read_bytes.new.files) c.args.image.now c.in-Err.end c.in-Err.ensures.outcome
