@@ -2,16 +2,23 @@
 use frang_base::Block;
 use frang_base::limits::{LOG_BODY_BYTES, LOG_SECTORS, SECTOR_BYTES};
 
+// Puts bytes into a block from a place on, as many as there is room for.
+fn lay(block: &mut Block, place: usize, bytes: &[u8]) {
+    for (there, byte) in block.iter_mut().skip(place).zip(bytes) {
+        *there = *byte;
+    }
+}
+
 /// A part of a record as an older program wrote it, with these bytes in its body, as many as there is room for.
 pub(crate) fn part_block(number: u64, op: u64, part: u16, parts: u16, bytes: &[u8]) -> Block {
-    let used = bytes.len().min(LOG_BODY_BYTES);
+    let used = bytes.len().min(LOG_BODY_BYTES) as u16;
     let mut block = [0; SECTOR_BYTES];
-    block[..8].copy_from_slice(&number.to_le_bytes());
-    block[8..16].copy_from_slice(&op.to_le_bytes());
-    block[16..18].copy_from_slice(&part.to_le_bytes());
-    block[18..20].copy_from_slice(&parts.to_le_bytes());
-    block[20..22].copy_from_slice(&(used as u16).to_le_bytes());
-    block[24..24 + used].copy_from_slice(&bytes[..used]);
+    lay(&mut block, 0, &number.to_le_bytes());
+    lay(&mut block, 8, &op.to_le_bytes());
+    lay(&mut block, 16, &part.to_le_bytes());
+    lay(&mut block, 18, &parts.to_le_bytes());
+    lay(&mut block, 20, &used.to_le_bytes());
+    lay(&mut block, 24, bytes);
     block
 }
 

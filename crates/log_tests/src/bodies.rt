@@ -1,5 +1,5 @@
 // The bodies of records worked out by hand, and for each rule a neighbour that breaks it alone.
-use frang_base::{NoMemory, OpNo, Sector};
+use frang_base::{Change, NoMemory, OpNo, Patch, Sector};
 use log_record::{decode, encode};
 use std::alloc::Global;
 use std::test::Fail;
@@ -11,15 +11,24 @@ const BODY: [u8; 54] = [
     2, 1, 0, 0, 0, 0, 0, 0, 0, 0, 0, 0, 0, 0, 0, 1, 1, 0, 255, 1, 1, 0, 9,
 ];
 
+// A byte of the body, zero where there are no more, unless one of these stands at its place.
+fn byte_at(place: usize, edits: &[(usize, u8)]) -> u8 {
+    for (at, byte) in edits {
+        if *at == place {
+            return *byte;
+        }
+    }
+    match BODY.get(place) {
+        Some(byte) => *byte,
+        None => 0,
+    }
+}
+
 // The first bytes of the body, zeros where there are no more, and these bytes put at their places.
 fn edited(alloc: Global, len: usize, edits: &[(usize, u8)]) -> Result<Vec<u8>, NoMemory> {
     let mut bytes = Vec::new(alloc);
-    bytes.extend_from_slice(&BODY)?;
-    bytes.resize(len, 0)?;
-    for (at, byte) in edits {
-        if let Some(place) = bytes.get_mut(*at) {
-            *place = *byte;
-        }
+    for place in 0..len {
+        bytes.push(byte_at(place, edits))?;
     }
     Ok(bytes)
 }
@@ -107,24 +116,53 @@ fn bodies_are_read_and_written_as_worked_out_by_hand(rt: HostRuntime) -> Result<
     Ok(())
 }
 
+// The places of a change in the record and of a patch in the change, and what stands there: the sector, the version, the place and the bytes.
+type Field = (usize, usize, u64, u64, u16, &'static [u8]);
+
+static FIELDS: [Field; 3] = [
+    (0, 0, 5, 3, 8, &[1, 0]),
+    (0, 1, 5, 3, 16, &[7]),
+    (1, 0, 258, 1 << 56, 511, &[9]),
+];
+
+// How many changes there are, and how many patches in each.
+const COUNTS: [usize; 2] = [2, 1];
+
+fn has_field(changes: &[Change], field: &Field) -> bool {
+    let (place, at, sector, version, from, bytes) = *field;
+    match changes.get(place) {
+        Some(change) => {
+            change.sector == Sector(sector)
+                && change.version == version
+                && is_patch(change.patches.get(at), from, bytes)
+        }
+        None => false,
+    }
+}
+
+fn is_patch(patch: Option<&Patch>, from: u16, bytes: &[u8]) -> bool {
+    match patch {
+        Some(patch) => patch.at == from && patch.bytes.as_slice() == bytes,
+        None => false,
+    }
+}
+
+fn has_counts(changes: &[Change]) -> bool {
+    for (change, count) in changes.iter().zip(&COUNTS) {
+        if change.patches.len() != *count {
+            return false;
+        }
+    }
+    changes.len() == COUNTS.len()
+}
+
 #[test]
 fn fields_stand_at_their_places(rt: HostRuntime) -> Result<(), Fail> {
     let redo = decode(rt.alloc(), &BODY)?.expect(&rt, "a record");
-    assert_eq!(rt; redo.op, OpNo(0));
-    let changes = redo.changes.into_vec();
-    let [first, second] = changes.as_slice() else {
-        panic!(rt; "not two changes");
-    };
-    assert_eq!(rt; (first.sector, first.version), (Sector(5), 3));
-    assert_eq!(rt; (second.sector, second.version), (Sector(258), 1 << 56));
-    let [one, other] = first.patches.as_slice() else {
-        panic!(rt; "not two patches");
-    };
-    assert_eq!(rt; (one.at, one.bytes.as_slice()), (8, [1, 0].as_slice()));
-    assert_eq!(rt; (other.at, other.bytes.as_slice()), (16, [7].as_slice()));
-    let [last] = second.patches.as_slice() else {
-        panic!(rt; "not one patch");
-    };
-    assert_eq!(rt; (last.at, last.bytes.as_slice()), (511, [9].as_slice()));
+    let changes = redo.changes.as_slice();
+    assert!(rt; redo.op == OpNo(0) && has_counts(changes));
+    for field in &FIELDS {
+        assert!(rt; has_field(changes, field));
+    }
     Ok(())
 }

@@ -10,6 +10,8 @@ mod logs;
 #[cfg(test)]
 mod packed;
 #[cfg(test)]
+mod pieces;
+#[cfg(test)]
 mod replays;
 #[cfg(test)]
 mod rings;

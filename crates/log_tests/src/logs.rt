@@ -1,110 +1,7 @@
 // Logs of an older program, whose records have sectors of their own: their ends and records were worked out by hand.
-use crate::blocks::{empty_block, part_block, put, slot_of};
-use crate::packed::operations;
-use frang_base::limits::{LOG_BODY_BYTES, LOG_SECTORS, RECORD_SECTORS_MAX, SECTOR_BYTES};
-use frang_base::{Block, NoMemory, OpNo, Redo};
-use log_reading::{greatest_operation, read_log};
-use std::alloc::Global;
+use crate::pieces::Piece::{Empty, Garbage, NoBody, Part, Placed, Record};
+use crate::pieces::{Row, first_other};
 use std::test::Fail;
-
-// What is laid over a log of zeros, which holds the numbers 0 to 255.
-enum Piece {
-    // Empty sectors, from one number up to another.
-    Empty(u64, u64),
-    // All sectors of a record, from a number on: its operation, and how many parts it has.
-    Record(u64, u64, u16),
-    // One sector of a record, with a number: the operation, the part, and how many parts there are.
-    Part(u64, u64, u16, u16),
-    // The only sector of a record of this operation, whose body is that of none.
-    NoBody(u64, u64),
-    // An empty sector with a number, in any slot.
-    Placed(u64, usize),
-    // No sectors, from one slot up to another.
-    Garbage(usize, usize),
-}
-
-use Piece::{Empty, Garbage, NoBody, Part, Placed, Record};
-
-// So many changes, each of 452 bytes, so that a record of so many parts has as many.
-fn body(alloc: Global, changes: u8) -> Result<Vec<u8>, NoMemory> {
-    let mut bytes = Vec::new(alloc);
-    bytes.extend_from_slice(&[changes, 0])?;
-    for sector in 0..changes {
-        bytes.extend_from_slice(&[sector, 0, 0, 0, 0, 0, 0, 0])?;
-        bytes.extend_from_slice(&[1, 0, 0, 0, 0, 0, 0, 0, 1, 0, 8, 0])?;
-        bytes.extend_from_slice(&430_u16.to_le_bytes())?;
-        bytes.extend_from_slice(&[sector; 430])?;
-    }
-    Ok(bytes)
-}
-
-// A part of a record.
-fn part_of(alloc: Global, number: u64, op: u64, part: u16, parts: u16) -> Result<Block, NoMemory> {
-    let body = body(alloc, parts.min(RECORD_SECTORS_MAX) as u8)?;
-    let from = usize::from(part)
-        .saturating_mul(LOG_BODY_BYTES)
-        .min(body.len());
-    Ok(part_block(number, op, part, parts, &body[from..]))
-}
-
-fn lay(alloc: Global, slots: &mut [Block], piece: &Piece) -> Result<(), NoMemory> {
-    match piece {
-        Empty(first, last) => {
-            for number in *first..=*last {
-                put(slots, slot_of(number), empty_block(number));
-            }
-        }
-        Record(first, op, parts) => {
-            for part in 0..*parts {
-                let number = first.saturating_add(u64::from(part));
-                put(
-                    slots,
-                    slot_of(number),
-                    part_of(alloc, number, *op, part, *parts)?,
-                );
-            }
-        }
-        Part(number, op, part, parts) => {
-            put(
-                slots,
-                slot_of(*number),
-                part_of(alloc, *number, *op, *part, *parts)?,
-            );
-        }
-        NoBody(number, op) => put(
-            slots,
-            slot_of(*number),
-            part_block(*number, *op, 0, 1, &[1, 0, 5]),
-        ),
-        Placed(number, slot) => put(slots, *slot, part_block(*number, 0, 0, 0, &[])),
-        Garbage(first, last) => {
-            for slot in *first..=*last {
-                put(slots, slot, [7; SECTOR_BYTES]);
-            }
-        }
-    }
-    Ok(())
-}
-
-// The end of the log of these pieces, and its records.
-fn read(alloc: Global, pieces: &[Piece]) -> Result<Option<(u64, Vec<Redo>)>, NoMemory> {
-    let mut slots = vec![in alloc; [0; SECTOR_BYTES]; LOG_SECTORS as usize]?;
-    for piece in pieces {
-        lay(alloc, &mut slots, piece)?;
-    }
-    if slots.len() != LOG_SECTORS as usize {
-        return Ok(None);
-    }
-    Ok(Some(read_log(alloc, &slots)?))
-}
-
-// A log, the end that it has, and the operations of its records.
-struct Row {
-    name: &'static str,
-    pieces: &'static [Piece],
-    end: u64,
-    operations: &'static [u64],
-}
 
 static LOGS: [Row; 55] = [
     Row {
@@ -451,16 +348,6 @@ static LOGS: [Row; 55] = [
 
 #[test]
 fn logs_are_read_as_worked_out_by_hand(rt: HostRuntime) -> Result<(), Fail> {
-    for row in &LOGS {
-        let log = read(rt.alloc(), row.pieces)?.expect(&rt, "256 slots");
-        let found = operations(rt.alloc(), &log.1)?;
-        let greatest = row.operations.iter().copied().max().unwrap_or(0);
-        let is_end = log.0 == row.end;
-        assert!(rt; is_end, "{}", row.name);
-        let are_operations = found.as_slice() == row.operations;
-        assert!(rt; are_operations, "{}", row.name);
-        let is_greatest = greatest_operation(&log.1) == OpNo(greatest);
-        assert!(rt; is_greatest, "{}", row.name);
-    }
+    assert_eq!(rt; first_other(rt.alloc(), &LOGS)?, None);
     Ok(())
 }

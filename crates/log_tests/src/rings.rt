@@ -22,7 +22,7 @@ struct Run {
 
 // What is done with a ring.
 #[derive(Clone, Copy)]
-enum Step<'a> {
+enum Step {
     // A record of this operation names this sector, in this version, and the one behind it, in version 1, each with so many bytes.
     Append(u64, u64, u64, usize),
     // A record of so many bytes is appended again and again, until it is refused.
@@ -33,7 +33,7 @@ enum Step<'a> {
     IssueAll,
     Acknowledge(u64),
     Oldest,
-    Reclaim(&'a [(Sector, u64)]),
+    Reclaim(&'static [(Sector, u64)]),
 }
 
 impl Run {
@@ -174,11 +174,7 @@ fn record_of(
 }
 
 // The first answer that isn't as worked out, with the place of its row.
-fn differs(
-    alloc: Global,
-    end: u64,
-    rows: &[(Step, &str)],
-) -> Result<Option<(usize, String)>, NoMemory>
+fn differs(alloc: Global, end: u64, rows: &[Row]) -> Result<Option<(usize, String)>, NoMemory>
     requires first { 255 ≤ end }
     requires small { end < 2 ^ 62 }
 {
@@ -192,115 +188,125 @@ fn differs(
     Ok(None)
 }
 
+// What is done with a ring, and what that answers.
+type Row = (Step, &'static str);
+
 const DISK: [(Sector, u64); 3] = [(Sector(5), 1), (Sector(6), 2), (Sector(7), 1)];
 
 const OLDER: [(Sector, u64); 3] = [(Sector(5), 1), (Sector(6), 1), (Sector(7), 1)];
 
+const SHORTER: [(Sector, u64); 2] = [(Sector(5), 1), (Sector(6), 2)];
+
+const FIRST_QUARTER: [(Sector, u64); 4] = [
+    (Sector(1), 1),
+    (Sector(2), 1),
+    (Sector(8), 1),
+    (Sector(9), 1),
+];
+
+static ANSWERS: [Row; 27] = [
+    (Step::Append(1, 5, 1, 1), "Ok(256)"),
+    (Step::Room, "(0, 191)"),
+    // 430 bytes of its frame have room behind the first one
+    (Step::Append(2, 6, 2, 400), "Ok(257)"),
+    (Step::Room, "(0, 190)"),
+    (Step::Issue, "256: from 0, 488 bytes"),
+    (Step::Room, "(0, 190)"),
+    (Step::Issue, "257: from 65535, 426 bytes"),
+    (Step::Room, "(1, 190)"),
+    (Step::Issue, "none"),
+    (Step::Acknowledge(257), "Some(255)"),
+    (Step::Acknowledge(256), "Some(257)"),
+    (Step::Acknowledge(257), "Some(257)"),
+    (
+        Step::Oldest,
+        "[(Sector(5), 1), (Sector(6), 2), (Sector(7), 1)]",
+    ),
+    (
+        Step::Reclaim(&OLDER),
+        "Err(Unwritten { sector: Sector(6) })",
+    ),
+    (
+        Step::Reclaim(&SHORTER),
+        "Err(Unwritten { sector: Sector(7) })",
+    ),
+    (Step::Reclaim(&DISK), "Ok(())"),
+    (Step::Oldest, "[]"),
+    (Step::Room, "(1, 192)"),
+    // 1,615 frames of 58 bytes have room, and 26 bytes are left
+    (Step::Append(3, 8, 1, 1), "Ok(258)"),
+    (Step::Fill(1), "Err(Full { need: 1, free: 0 })"),
+    (Step::Append(4, 8, 2, 400), "Err(Full { need: 2, free: 0 })"),
+    (Step::IssueAll, "321"),
+    (Step::Acknowledge(321), "Some(257)"),
+    (Step::Issue, "none"),
+    (Step::Acknowledge(258), "Some(258)"),
+    (Step::IssueAll, "322"),
+    (
+        Step::Oldest,
+        "[(Sector(1), 1), (Sector(2), 1), (Sector(8), 1), (Sector(9), 1)]",
+    ),
+];
+
 #[test]
 fn a_ring_answers_as_worked_out_by_hand(rt: HostRuntime) -> Result<(), Fail> {
-    let rows = [
-        (Step::Append(1, 5, 1, 1), "Ok(256)"),
-        (Step::Room, "(0, 191)"),
-        // 430 bytes of its frame have room behind the first one
-        (Step::Append(2, 6, 2, 400), "Ok(257)"),
-        (Step::Room, "(0, 190)"),
-        (Step::Issue, "256: from 0, 488 bytes"),
-        (Step::Room, "(0, 190)"),
-        (Step::Issue, "257: from 65535, 426 bytes"),
-        (Step::Room, "(1, 190)"),
-        (Step::Issue, "none"),
-        (Step::Acknowledge(257), "Some(255)"),
-        (Step::Acknowledge(256), "Some(257)"),
-        (Step::Acknowledge(257), "Some(257)"),
-        (
-            Step::Oldest,
-            "[(Sector(5), 1), (Sector(6), 2), (Sector(7), 1)]",
-        ),
-        (
-            Step::Reclaim(&OLDER),
-            "Err(Unwritten { sector: Sector(6) })",
-        ),
-        (
-            Step::Reclaim(&DISK[..2]),
-            "Err(Unwritten { sector: Sector(7) })",
-        ),
-        (Step::Reclaim(&DISK), "Ok(())"),
-        (Step::Oldest, "[]"),
-        (Step::Room, "(1, 192)"),
-        // 1,615 frames of 58 bytes have room, and 26 bytes are left
-        (Step::Append(3, 8, 1, 1), "Ok(258)"),
-        (Step::Fill(1), "Err(Full { need: 1, free: 0 })"),
-        (Step::Append(4, 8, 2, 400), "Err(Full { need: 2, free: 0 })"),
-        (Step::IssueAll, "321"),
-        (Step::Acknowledge(321), "Some(257)"),
-        (Step::Issue, "none"),
-        (Step::Acknowledge(258), "Some(258)"),
-        (Step::IssueAll, "322"),
-        (
-            Step::Oldest,
-            "[(Sector(1), 1), (Sector(2), 1), (Sector(8), 1), (Sector(9), 1)]",
-        ),
-    ];
-    assert_eq!(rt; differs(rt.alloc(), 255, &rows)?, None);
+    assert_eq!(rt; differs(rt.alloc(), 255, &ANSWERS)?, None);
     Ok(())
 }
+
+static QUARTER: [Row; 11] = [
+    (Step::Append(1, 8, 1, 1), "Ok(256)"),
+    // 109 frames of 856 bytes have room behind it, and 334 bytes are left
+    (Step::Fill(400), "Err(Full { need: 2, free: 0 })"),
+    (Step::Reclaim(&[]), "Ok(())"),
+    (Step::Room, "(0, 0)"),
+    (Step::IssueAll, "319"),
+    (Step::Reclaim(&[]), "Err(Unwritten { sector: Sector(8) })"),
+    (Step::Room, "(0, 0)"),
+    (Step::Reclaim(&FIRST_QUARTER), "Ok(())"),
+    (Step::Room, "(0, 64)"),
+    (Step::Oldest, "[]"),
+    (Step::Append(2, 1, 2, 400), "Ok(449)"),
+];
 
 #[test]
 fn the_oldest_quarter_is_given_up_as_far_as_it_is_issued(rt: HostRuntime) -> Result<(), Fail> {
-    let disk = [
-        (Sector(1), 1),
-        (Sector(2), 1),
-        (Sector(8), 1),
-        (Sector(9), 1),
-    ];
-    let rows = [
-        (Step::Append(1, 8, 1, 1), "Ok(256)"),
-        // 109 frames of 856 bytes have room behind it, and 334 bytes are left
-        (Step::Fill(400), "Err(Full { need: 2, free: 0 })"),
-        (Step::Reclaim(&[]), "Ok(())"),
-        (Step::Room, "(0, 0)"),
-        (Step::IssueAll, "319"),
-        (Step::Reclaim(&[]), "Err(Unwritten { sector: Sector(8) })"),
-        (Step::Room, "(0, 0)"),
-        (Step::Reclaim(&disk), "Ok(())"),
-        (Step::Room, "(0, 64)"),
-        (Step::Oldest, "[]"),
-        (Step::Append(2, 1, 2, 400), "Ok(449)"),
-    ];
-    assert_eq!(rt; differs(rt.alloc(), 255, &rows)?, None);
+    assert_eq!(rt; differs(rt.alloc(), 255, &QUARTER)?, None);
     Ok(())
 }
+
+static OPEN: [Row; 11] = [
+    (Step::Append(1, 5, 1, 1), "Ok(256)"),
+    (Step::Issue, "256: from 0, 58 bytes"),
+    (Step::Append(2, 6, 1, 1), "Ok(257)"),
+    (Step::Append(3, 8, 1, 1), "Ok(257)"),
+    (Step::Oldest, "[(Sector(5), 1), (Sector(6), 1)]"),
+    (Step::Reclaim(&DISK), "Ok(())"),
+    (Step::Oldest, "[]"),
+    (Step::Room, "(0, 191)"),
+    (Step::Append(4, 8, 2, 1), "Ok(257)"),
+    (Step::Issue, "257: from 0, 174 bytes"),
+    (
+        Step::Oldest,
+        "[(Sector(6), 1), (Sector(7), 1), (Sector(8), 2), (Sector(9), 1)]",
+    ),
+];
 
 #[test]
 fn a_reclaim_leaves_the_open_sector(rt: HostRuntime) -> Result<(), Fail> {
-    let rows = [
-        (Step::Append(1, 5, 1, 1), "Ok(256)"),
-        (Step::Issue, "256: from 0, 58 bytes"),
-        (Step::Append(2, 6, 1, 1), "Ok(257)"),
-        (Step::Append(3, 8, 1, 1), "Ok(257)"),
-        (Step::Oldest, "[(Sector(5), 1), (Sector(6), 1)]"),
-        (Step::Reclaim(&DISK), "Ok(())"),
-        (Step::Oldest, "[]"),
-        (Step::Room, "(0, 191)"),
-        (Step::Append(4, 8, 2, 1), "Ok(257)"),
-        (Step::Issue, "257: from 0, 174 bytes"),
-        (
-            Step::Oldest,
-            "[(Sector(6), 1), (Sector(7), 1), (Sector(8), 2), (Sector(9), 1)]",
-        ),
-    ];
-    assert_eq!(rt; differs(rt.alloc(), 255, &rows)?, None);
+    assert_eq!(rt; differs(rt.alloc(), 255, &OPEN)?, None);
     Ok(())
 }
 
+// each frame fills its sector
+static CLOSED: [Row; 3] = [
+    (Step::Fill(216), "Err(Full { need: 1, free: 0 })"),
+    (Step::Room, "(1, 0)"),
+    (Step::Issue, "256: from 0, 488 bytes"),
+];
+
 #[test]
 fn a_full_ring_whose_last_sector_is_closed_refuses_one_more(rt: HostRuntime) -> Result<(), Fail> {
-    // each frame fills its sector
-    let rows = [
-        (Step::Fill(216), "Err(Full { need: 1, free: 0 })"),
-        (Step::Room, "(1, 0)"),
-        (Step::Issue, "256: from 0, 488 bytes"),
-    ];
-    assert_eq!(rt; differs(rt.alloc(), 255, &rows)?, None);
+    assert_eq!(rt; differs(rt.alloc(), 255, &CLOSED)?, None);
     Ok(())
 }

@@ -9,11 +9,12 @@ ghost use Rattle.file_tree.specs.CanApply.{CanApply};
 ghost use Rattle.tree_model.specs.Replayed.{after_reading, after_redo, after_step_redo, is_within, item_within, all_within, IsPathStep};
 ghost use Rattle.file_tree.specs.Walks.{step_by};
 
+use crate::Tree;
 use crate::again::{done_again, is_path_op};
-use crate::{History, Tree};
 use file_tree::Step;
 use frang_base::limits::TARGET_BYTES_MAX;
 use frang_base::{Name, NoMemory, Op, OpNo, Reply};
+use history_reading::History;
 use tree_definitions::{Entry, Item};
 
 fn may_be_ok(op: &Op) -> bool
@@ -140,11 +141,9 @@ fn item_within(item: &Item) -> bool
     }
 }
 
-impl History {
-    /// Whether its tree can be computed: the targets of its symbolic links are in the grammar of scripts.
-    pub fn has_proper_targets(&self) -> bool
-        ensures { result ≡ all_within self.now }
-    {
-        self.as_slice().iter().all(|item| item_within(item))
-    }
+/// Whether a history's tree can be computed: the targets of its symbolic links are in the grammar of scripts.
+pub fn has_proper_targets(history: &History) -> bool
+    ensures { result ≡ all_within history.now }
+{
+    history.as_slice().iter().all(|item| item_within(item))
 }

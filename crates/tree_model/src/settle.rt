@@ -6,10 +6,11 @@ ghost use Rattle.tree_definitions.specs.History.{after_all};
 ghost use Rattle.tree_definitions.specs.Removal.{mounts, is_of, begins_removal, left, sector_cells, file_sectors, is_doubtful, doubtful, recovered, settled, tree_from};
 ghost use Rattle.tree_model.specs.Replayed.{is_within, all_within};
 
+use crate::Tree;
 use crate::doubt::{Sought, is_doubtful};
 use crate::steps::{CellRun, SECTOR_BYTES, Step, any_mounts};
-use crate::{History, Tree};
 use frang_base::{NoMemory, OpNo, ServerId};
+use history_reading::History;
 use tree_definitions::{Item, Node};
 
 // Whether a server's removal begins at a step: what it lost, after its last mount.
@@ -170,14 +171,12 @@ fn settled<'h>(opening: &Tree, history: &'h [Item]) -> Result<Vec<Step<'h>>, NoM
     Ok(list)
 }
 
-impl History {
-    /// The tree that a history leaves of its opening's tree, once its recoveries have acted: each removes what its server's log lost,
-    /// and leaves bytes in doubt. An entry that doesn't fit where it stands leaves the tree.
-    pub fn tree(&self, opening: &Tree) -> Result<Tree, NoMemory>
-        requires { IsTrue (all_within self.now) }
-        ensures { IfOk result (λ tree. tree ≡ tree_from opening.now self.now) }
-    {
-        let steps = settled(opening, self.as_slice())?;
-        tree_at_end(opening, &steps)
-    }
+/// The tree that a history leaves of its opening's tree, once its recoveries have acted: each removes what its server's log lost,
+/// and leaves bytes in doubt. An entry that doesn't fit where it stands leaves the tree.
+pub fn tree_left(opening: &Tree, history: &History) -> Result<Tree, NoMemory>
+    requires { IsTrue (all_within history.now) }
+    ensures { IfOk result (λ tree. tree ≡ tree_from opening.now history.now) }
+{
+    let steps = settled(opening, history.as_slice())?;
+    tree_at_end(opening, &steps)
 }

@@ -2,7 +2,7 @@ use Rattle.std.proofs.Common.{◌≡◌, ◌+◌, ◌<◌, drop}
 use Rattle.frang_base.specs.declared.limits.TheConstants.{RUN_TICKS_END}
 use Rattle.tree_definitions.specs.Live.{script_time}
 use Rattle.script_definitions.specs.Ticks.{all_ticks}
-use Rattle.tree_model.proofs.times.script_time.Given as goal
+use Rattle.history_reading.proofs.times.script_time.Given as goal
 
 abbrev pub invariant-loop-line : goal.invariant-loop-line
 invariant-loop-line l = record {
