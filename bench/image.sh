@@ -1,6 +1,7 @@
 #!/usr/bin/env bash
-# Times an image of 100,000 sectors: seconds to make the disk, to write its image and to read it, and the greatest memory in kilobytes.
-# It builds a program of its own in a copy of the crates. Not part of the gate.
+# Times images. First one of 100,000 sectors: seconds to make the disk, to write its image and to read it, by a program of its own, built in a copy of the
+# crates. Then one of 725,057 sectors, which is the longest that a disk has: each command on images by the built program, beside reading the file and
+# copying it once in memory. Each with the greatest memory in kilobytes. Not part of the gate.
 set -eu
 top=$(cd "$(dirname "$0")/.." && pwd)
 work=$(mktemp -d)
@@ -59,3 +60,94 @@ END
 cd "$work/crates/image_bench"
 rt run >"$work/log" 2>&1 || { tail -n 20 "$work/log"; exit 1; }
 /usr/bin/env time -f '%e s, %M KB' ./out/image_bench
+
+cat >"$work/full_image.py" <<'END'
+# Writes the image of a disk of 64 segments in which each sector of each region has bytes: 5 directories name 4,091 files of 65,536 bytes, and 64 of
+# them have a large block besides. Every slot of every log has a number and no record.
+import struct
+import sys
+
+SEGMENTS = 64
+INODES = 64 * SEGMENTS
+BLOCKS = 1024 * SEGMENTS
+DIRECTORIES = 5
+LOGS, BITMAPS, ROWS, SMALL, LARGE = 1 << 31, 1 << 32, 5 << 31, 6 << 31, 134 << 31
+
+
+def whole(start):
+    return start.ljust(512, b"\0")
+
+
+def named(d):
+    if d == 0:
+        return range(1, 1 + 896)
+    first = 897 + 800 * (d - 1)
+    return range(first, min(first + 800, INODES))
+
+
+def entry(i):
+    name = b"n%d" % i
+    return struct.pack("<IBB64s2x", i, len(name), 2 if i < DIRECTORIES else 1, name)
+
+
+def directory(d, sector):
+    return whole(struct.pack("<Q", 1) + b"".join(entry(i) for i in named(d)[7 * sector : 7 * sector + 7]))
+
+
+def inode(i):
+    large = i - DIRECTORIES + 1 if DIRECTORIES <= i < DIRECTORIES + SEGMENTS else 0
+    kind, size = (2, len(named(i))) if i < DIRECTORIES else (1, 1114112 if large else 65536)
+    head = struct.pack("<QBxHHxxQQ", 1, kind, 1, 16, size, 0)
+    return whole(head + struct.pack("<17I", *range(16 * i, 16 * i + 16), large))
+
+
+def segment(k):
+    states = bytes(0xFF if 1024 * k + 4 * j < 16 * DIRECTORIES else 0x55 for j in range(256))
+    return whole(struct.pack("<Q", 1) + b"\xff" * 8 + states + b"\1")
+
+
+def sectors():
+    yield 0, whole(b"FRANGPAR" + struct.pack("<III", 2, SEGMENTS, 1))
+    for log in range(256):
+        for slot in range(256):
+            yield LOGS + (log << 23) + slot, whole(struct.pack("<Q", 256 + slot))
+    for k in range(SEGMENTS):
+        yield BITMAPS + k, segment(k)
+    for i in range(INODES):
+        yield ROWS + i, inode(i)
+    for b in range(BLOCKS):
+        for part in range(8):
+            block = directory(b // 16, 8 * (b % 16) + part) if b < 16 * DIRECTORIES else struct.pack("<IHH", b, part, 1) * 64
+            yield SMALL + 8 * b + part, block
+    for g in range(SEGMENTS):
+        for part in range(2048):
+            yield LARGE + (g << 31) + part, struct.pack("<IHH", g, part, 2) * 64
+
+
+with open(sys.argv[1], "wb") as out:
+    out.write(b"FRANGIM1" + struct.pack("<Q", 1 + 65536 + SEGMENTS + INODES + 8 * BLOCKS + 2048 * SEGMENTS))
+    for number, block in sectors():
+        out.write(struct.pack("<Q", number) + block)
+END
+cat >"$work/copy_once.py" <<'END'
+# The seconds of reading a file and copying it once in memory.
+import sys
+import time
+
+begun = time.perf_counter()
+with open(sys.argv[1], "rb", buffering=0) as file:
+    read = file.read()
+copy = bytearray(read)
+print(f"{time.perf_counter() - begun:.2f} s, {len(copy)} bytes")
+END
+"$top/frang" build
+python3 -I "$work/full_image.py" "$work/full.image"
+program=$top/crates/frang_cli/out/frang_cli
+echo "read and copied once:"
+for _ in 1 2 3; do python3 -I "$work/copy_once.py" "$work/full.image"; done
+for words in "fsck $work/full.image" "tree $work/full.image" "recover $work/full.image" "recover $work/full.image --save $work/new.image" "log $work/full.image 0"; do
+  echo "${words%% *}$([ "${words%--save*}" = "$words" ] || echo ' with a save'):"
+  # shellcheck disable=SC2086
+  for _ in 1 2 3; do /usr/bin/env time -f '%e s, of which user %U and system %S, %M KB' "$program" $words >"$work/said"; done
+  tail -n 1 "$work/said" | cut -c1-160
+done

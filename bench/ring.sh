@@ -7,7 +7,7 @@ top=$(cd "$(dirname "$0")/.." && pwd)
 work=$(mktemp -d)
 trap 'rm -rf "$work"' EXIT
 mkdir "$work/crates"
-for crate in frang_base tree_definitions sorted_entries sector_bytes sector_definitions meta_version log_definitions ring_definitions log_record \
+for crate in frang_base tree_definitions sorted_entries ordered_map sector_bytes sector_definitions meta_version log_definitions ring_definitions log_record \
   log_reading wal_ring; do
   cp -a "$top/crates/$crate" "$work/crates/"
   grep "^$crate:" "$top/crates.txt" >>"$work/crates.txt"

@@ -1,7 +1,8 @@
 #!/usr/bin/env bash
 # Changes sound images 10,000 times, by a seed, and does each command on each: it sees only the specified statuses, with nothing said before a
-# refusal. It prints how often each status came, and the seconds and the greatest memory in kilobytes; its own status is 1 where one is odd.
-# Words: the seed (1) and the number of images (10000). It builds a program of its own in a copy of the crates. Not part of the gate.
+# refusal, and a check that finds no fault exactly where there is a tree. It prints how often each status came, and the seconds and the greatest
+# memory in kilobytes; its own status is 1 where one is odd. Words: the seed (1) and the number of images (10000). It proves and builds a program
+# of its own in a copy of the crates, and runs that. Not part of the gate.
 set -eu
 seed=${1:-1}
 images=${2:-10000}
@@ -10,20 +11,26 @@ work=$(mktemp -d)
 trap 'rm -rf "$work"' EXIT
 cp "$top/crates.txt" "$work/crates.txt"
 cp -r "$top/crates" "$work/crates"
-echo 'image_fuzz: frang_base frang_outside frang_top anyhow' >>"$work/crates.txt"
+cp "$top/HANDLES" "$work/HANDLES"
+echo 'image_fuzz: frang_base script_definitions frang_outside frang_top anyhow' >>"$work/crates.txt"
 fuzz=$work/crates/image_fuzz
 mkdir -p "$fuzz/src" "$fuzz/specs" "$fuzz/data"
 touch "$fuzz/specs/Lib.antt"
 cp "$top/crates/example_runs/data/logs.image" "$fuzz/data/"
 cp "$top/crates/example_runs/data/logs.image" "$work/"
-printf '//! Images changed at random, and what the commands on images say of them.\n#![tactic(auto)]\n\nconst SEED: u64 = %s;\nconst IMAGES: u64 = %s;\n' "$seed" "$images" >"$fuzz/src/main.rt"
-cat >>"$fuzz/src/main.rt" <<'END_OF_PROGRAM'
+cat >"$fuzz/src/main.rt" <<'END_OF_PROGRAM'
+//! Images changed at random, and what the commands on images say of them: by a seed and a number of images, its words.
+#![tactic(auto)]
 
 use frang_base::NoMemory;
 use frang_outside::{Act, DirFiles, Files, MemFiles, MemOutside, NoGate};
 use frang_top::{Status, frang};
+use script_definitions::number_within;
 use std::alloc::{AllocError, Global};
+use std::env;
+use std::env::Env;
 use std::process::ExitCode;
+use std::thread::Threads;
 
 const HEADER: usize = 16;
 const ENTRY: usize = 520;
@@ -217,16 +224,33 @@ fn count(counts: &mut [u64], at: usize) {
     }
 }
 
+fn ends_with(said: &[u8], end: &[u8]) -> bool {
+    said.get(said.len().saturating_sub(end.len())..) == Some(end)
+}
+
+// A command whose lines every disk has.
+fn tells_always(call: &str) -> bool {
+    call.as_bytes().first() == Some(&b'l') || call.as_bytes().first() == Some(&b'f')
+}
+
+// The last bytes of what a command says.
+fn is_whole(call: &str, said: &[u8]) -> bool {
+    if call.as_bytes().first() == Some(&b'f') {
+        ends_with(said, b"\"stands\":true}\n") || ends_with(said, b"\"stands\":false}\n")
+    } else {
+        ends_with(said, b"! end\n")
+    }
+}
+
 // The status is one that the command may end with, and what it said is all or nothing.
-fn is_specified(status: &Status, len: usize, said: &[u8]) -> bool {
+fn is_specified(call: &str, status: &Status, len: usize, said: &[u8]) -> bool {
     match status.code {
-        0 => said.get(said.len().saturating_sub(6)..) == Some(b"! end\n".as_slice()),
-        3 => true,
+        0 => is_whole(call, said),
         6 => {
             said.is_empty()
                 && match status.line {
                     1..=7 => status.at <= len as u64,
-                    8 => status.at == 0,
+                    8 => status.at == 0 && !tells_always(call),
                     _ => false,
                 }
         }
@@ -244,39 +268,72 @@ fn lines_said(alloc: Global, acts: &[Act]) -> Result<Vec<u8>, NoMemory> {
     Ok(text)
 }
 
-fn tell(alloc: Global, files: &mut MemFiles, line: &str) -> Result<(Status, Vec<u8>), NoMemory> {
+fn tell(
+    rt: &(impl Threads + Sync),
+    alloc: Global,
+    files: &mut MemFiles,
+    line: &str,
+) -> Result<(Status, Vec<u8>), NoMemory> {
     let mut words = Vec::new(alloc);
     for word in line.split(' ') {
         words.push(String::from_str(alloc, word)?)?;
     }
-    let (status, out) = frang(alloc, &words, files, MemOutside::new(alloc), &NoGate);
+    let (status, out) = frang(rt, alloc, &words, files, MemOutside::new(alloc), &NoGate);
     let text = lines_said(alloc, out.acts())?;
     Ok((status, text))
 }
 
-static CALLS: [&str; 3] = ["recover image --save new", "tree image", "log image 0"];
+static CALLS: [&str; 3] = ["recover image --save new", "log image 0", "tree image"];
 
-fn try_image(alloc: Global, image: &[u8], counts: &mut Counts) -> Result<(), NoMemory> {
+fn odd(counts: &mut Counts) {
+    counts.odd = counts.odd.wrapping_add(1);
+}
+
+fn count_status(counts: &mut Counts, status: &Status) {
+    count(&mut counts.codes, status.code as usize);
+    if status.code == 6 {
+        count(&mut counts.kinds, status.line as usize);
+    }
+}
+
+fn try_image(
+    rt: &(impl Threads + Sync),
+    alloc: Global,
+    image: &[u8],
+    counts: &mut Counts,
+) -> Result<(), NoMemory> {
     let mut files = MemFiles::new(alloc);
     files.put_file("image", image)?;
+    let mut tree = 0;
     for call in CALLS {
-        let (status, said) = tell(alloc, &mut files, call)?;
-        count(&mut counts.codes, status.code as usize);
-        if status.code == 6 {
-            count(&mut counts.kinds, status.line as usize);
+        let (status, said) = tell(rt, alloc, &mut files, call)?;
+        count_status(counts, &status);
+        if !is_specified(call, &status, image.len(), &said) {
+            odd(counts);
         }
-        if !is_specified(&status, image.len(), &said) {
-            counts.odd = counts.odd.wrapping_add(1);
-        }
+        tree = status.code;
+    }
+    let (status, said) = tell(rt, alloc, &mut files, "fsck image")?;
+    count_status(counts, &status);
+    if !is_specified("fsck image", &status, image.len(), &said) {
+        odd(counts);
+    }
+    // there is a tree exactly where the check finds no fault
+    if status.code == 0 && ends_with(&said, b"\"stands\":true}\n") != (tree == 0) {
+        odd(counts);
     }
     Ok(())
 }
 
 // The image of two logs, and that of its replayed disk.
-fn sound_images(alloc: Global, logs: &[u8]) -> Result<Vec<Vec<u8>>, NoMemory> {
+fn sound_images(
+    rt: &(impl Threads + Sync),
+    alloc: Global,
+    logs: &[u8],
+) -> Result<Vec<Vec<u8>>, NoMemory> {
     let mut files = MemFiles::new(alloc);
     files.put_file("image", logs)?;
-    let _told = tell(alloc, &mut files, "recover image --save new")?;
+    let _told = tell(rt, alloc, &mut files, "recover image --save new")?;
     let mut images = Vec::new(alloc);
     images.push(logs.to_vec(alloc)?)?;
     if let Ok(new) = files.read(alloc, "new", u64::MAX) {
@@ -285,21 +342,46 @@ fn sound_images(alloc: Global, logs: &[u8]) -> Result<Vec<Vec<u8>>, NoMemory> {
     Ok(images)
 }
 
-fn try_images(alloc: Global, logs: &[u8], counts: &mut Counts) -> Result<usize, NoMemory> {
-    let images = sound_images(alloc, logs)?;
-    let mut dice = Dice { state: SEED };
-    for _ in 0..IMAGES {
+fn try_images(
+    rt: &(impl Threads + Sync),
+    alloc: Global,
+    logs: &[u8],
+    (seed, count): (u32, u32),
+    counts: &mut Counts,
+) -> Result<usize, NoMemory> {
+    let images = sound_images(rt, alloc, logs)?;
+    let mut dice = Dice {
+        state: u64::from(seed),
+    };
+    for _ in 0..count {
         let which = dice.below(images.len());
         if let Some(image) = images.get(which) {
             let image = changed(alloc, image, &mut dice)?;
-            try_image(alloc, &image, counts)?;
+            try_image(rt, alloc, &image, counts)?;
         }
     }
     Ok(images.len())
 }
 
+// The seed and the number of images, where both are given.
+fn asked(rt: &(impl Env + Alloc)) -> anyhow::Result<Option<(u32, u32)>> {
+    let mut seed = None;
+    let mut count = None;
+    for word in env::args(rt)?.skip(1) {
+        seed = count;
+        count = number_within(word.as_str().as_bytes(), 0, 4_000_000_000);
+    }
+    match (seed, count) {
+        (Some(seed), Some(count)) => Ok(Some((seed, count))),
+        _ => Ok(None),
+    }
+}
+
 fn main(rt: HostRuntime) -> anyhow::Result<ExitCode> {
     let alloc = rt.alloc();
+    let Some((seed, images)) = asked(&rt)? else {
+        return Ok(ExitCode::SUCCESS);
+    };
     let mut files = DirFiles::new(rt.clone()?);
     let Ok(logs) = files.read(alloc, "logs.image", u64::MAX) else {
         println!(rt; "no image")?;
@@ -310,11 +392,11 @@ fn main(rt: HostRuntime) -> anyhow::Result<ExitCode> {
         kinds: [0; 9],
         odd: 0,
     };
-    let Ok(sound) = try_images(alloc, &logs, &mut counts) else {
+    let Ok(sound) = try_images(&rt, alloc, &logs, (seed, images), &mut counts) else {
         println!(rt; "want of memory")?;
         return Ok(ExitCode::from(1));
     };
-    println!(rt; "{IMAGES} images from {sound} sound ones, seed {SEED}")?;
+    println!(rt; "{images} images from {sound} sound ones, seed {seed}")?;
     for (code, count) in counts.codes.iter().enumerate() {
         println!(rt; "status {code}: {count}")?;
     }
@@ -333,4 +415,4 @@ END_OF_PROGRAM
 cd "$fuzz"
 rt run >"$work/log" 2>&1 || { tail -n 20 "$work/log"; exit 1; }
 cd "$work"
-/usr/bin/env time -f '%e s, %M KB' "$fuzz/out/image_fuzz"
+/usr/bin/env time -f '%e s, %M KB' "$fuzz/out/image_fuzz" "$seed" "$images"
