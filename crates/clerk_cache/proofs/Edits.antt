@@ -29,13 +29,6 @@ state_there contents sector state e = go (value_at contents sector) refl e
     go (Some cached) is same = record { cached = cached; there = is; same = cc same }
     go None is same = cc same
 
--- no longer dirty
-pub marked_clean : (contents : Contents) (sector : ℕ) (state : SectorState) → state_at contents sector ≡ Some state
-    → adjusted (λ cached. cached_of cached.block (record state { mark = None })) contents sector ≡ adjusted (λ cached. clean cached.block cached.cover) contents sector
-marked_clean contents sector state e =
-    let kept = state_there contents sector state e in
-    adjusted_same (λ cached. cached_of cached.block (record state { mark = None })) (λ cached. clean cached.block cached.cover) contents sector kept.cached kept.there (ap (λ s. clean kept.cached.block s.cover) (sym kept.same))
-
 -- under another lock
 pub moved : (contents : Contents) (sector : ℕ) (state : SectorState) (cover : LockId) → state_at contents sector ≡ Some state
     → adjusted (λ cached. cached_of cached.block (record state { cover = cover })) contents sector ≡ with_cover contents sector cover
@@ -62,14 +55,6 @@ written_dirty contents sector block e = go (value_at contents sector) refl e
     go (Some cached) is same =
         sym (adjusted_by_nothing contents sector) ∙ adjusted_same (λ c. c) (written block) contents sector cached is (sym (ap (λ b. if b then clean cached.block cached.cover else cached) same))
     go None is same = sym (adjusted_nothing (written block) contents sector is)
-
--- a sector without a state isn't there
-pub nothing_there : (f : Cached → Cached) (contents : Contents) (sector : ℕ) → state_at contents sector ≡ None → contents ≡ adjusted f contents sector
-nothing_there f contents sector e = go (value_at contents sector) refl e
-  where
-    go : (o : Option Cached) → value_at contents sector ≡ o → option_map state_of o ≡ None → contents ≡ adjusted f contents sector
-    go (Some cached) is same = cc same
-    go None is same = sym (adjusted_nothing f contents sector is)
 
 -- ---- a change
 

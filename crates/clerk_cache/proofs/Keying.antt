@@ -126,7 +126,7 @@ module _ {K S : Type 0} {cmp : K → K → Ordering} (order : IsKeyOrder cmp) (k
         ∙ ap (λ t. with_key cmp (key (sector, state)) (keyed cmp key (if t then states else entry ∷ without states sector))) (sym (ap is_eq is)))
 
     -- the keys of all are those of the others with the sector's own
-    keyed-at : (o : Option S) (states : List (ℕ × S)) → Ascend states → value_at states sector ≡ o → keyed cmp key states ≡ with_key cmp (key_at key sector o) (keyed cmp key (without states sector))
+    pub keyed-at : (o : Option S) (states : List (ℕ × S)) → Ascend states → value_at states sector ≡ o → keyed cmp key states ≡ with_key cmp (key_at key sector o) (keyed cmp key (without states sector))
     keyed-at None states sorted is = ap (keyed cmp key) (sym (removed_nothing states sector is))
     keyed-at (Some state) states sorted is =
         ap (keyed cmp key) (sym (with_value_there (λ v. v) states sector state sorted is ∙ adjusted_by_nothing states sector)) ∙ keyed-with state states sorted

@@ -1,5 +1,5 @@
 -- How a cache keeps its contents: the blocks and the rest in two maps of the same sectors.
-use Rattle.std.specs.Prelude.{◌≡◌, ℕ, min, Bool, ◌&&◌, is_some, List, [], ◌∷◌, find, Option}
+use Rattle.std.specs.Prelude.{◌≡◌, ℕ, min, Bool, ◌&&◌, is_some, List, [], ◌∷◌, find, Option, None}
 use Rattle.std.specs.List.{filter_map}
 use Rattle.std.specs.Option.{option_map}
 use Rattle.frang_base.specs.declared.lock.LockId.{LockId}
@@ -43,6 +43,10 @@ is_state_dirty_under lock state = is_state_under lock state && is_some state.mar
 -- the first sector that is under the lock and dirty
 abbrev pub first_dirty_state : LockId → List (ℕ × SectorState) → Option ℕ
 first_dirty_state lock states = option_map (λ entry. entry.0) (find (λ entry. is_state_dirty_under lock entry.1) states)
+
+-- what is kept of a sector, not dirty
+abbrev pub cleaned : SectorState → SectorState
+cleaned state = record state { mark = None }
 
 -- a sector's mark, where it is dirty
 abbrev pub state_mark : ℕ × SectorState → Option Mark

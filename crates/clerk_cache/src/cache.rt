@@ -3,6 +3,7 @@ ghost use Rattle.std.specs.Prelude.{◌≡◌, ◌+◌, ◌<◌, ◌≤◌, ◌+
 ghost use Rattle.std.specs.List.Sorted.{IsStrictlySortedBy};
 ghost use Rattle.std.specs.Option.{option_copied, option_map};
 ghost use Rattle.std.specs.Ordering.{nat_cmp, on};
+ghost use Rattle.std.specs.Str.{bytes_eq};
 ghost use Rattle.sector_bytes.specs.Changes.{is_change};
 ghost use Rattle.sector_bytes.specs.SectorMaps.{Ascend, value_at, with_value, without, adjusted, room_for};
 ghost use Rattle.meta_version.specs.Updates.{IsOlder};
@@ -18,7 +19,7 @@ use crate::states::States;
 use flush_order::Mark;
 use frang_base::{Block, Change, LockId, NoMemory, Sector};
 use meta_version::Sectors;
-use ordered_map::Chunk;
+use ordered_map::{Chunk, Place};
 use std::alloc::Global;
 use std::marker::Model;
 
@@ -84,6 +85,13 @@ fn marks_of(alloc: Global, pieces: &[Chunk<u64, SectorState>]) -> Result<Vec<Mar
     Ok(marks)
 }
 
+// The two are the same block.
+fn is_same(a: &Block, b: &Block) -> bool
+    ensures { result ≡ bytes_eq a.now b.now }
+{
+    a == b
+}
+
 impl Cache {
     /// Nothing cached. It takes no memory.
     pub fn new(alloc: Global) -> Cache
@@ -142,16 +150,16 @@ impl Cache {
         ensures spare { self.new.spare + room_for self.old.entries sector.0 ≡ self.old.spare }
     {
         self.sectors.put(sector, block);
-        self.states.put(sector, state);
+        self.states.put(self.sectors.last_place(), sector, state);
     }
 
-    // Keeps this beside the block of a cached sector.
-    fn set_state(&mut self, sector: Sector, state: SectorState)
+    // Keeps this beside the block of a cached sector, which is looked for at a place first.
+    fn set_state(&mut self, near: Option<Place>, sector: Sector, state: SectorState)
         requires { IsSome (value_at self.old.entries sector.0) }
         ensures entries { self.new.entries ≡ adjusted (λ cached. cached_of cached.block state) self.old.entries sector.0 }
         ensures spare { self.new.spare ≡ self.old.spare }
     {
-        self.states.put(sector, state);
+        self.states.put(near, sector, state);
     }
 
     /// Caches a sector as the disk has it, under this lock. The sector is cached already, or there is room. It takes no memory.
@@ -184,7 +192,8 @@ impl Cache {
     {
         self.sectors.change(change);
         let mark = Some(mark);
-        self.set_state(change.sector, SectorState { cover, mark });
+        let near = self.sectors.last_place();
+        self.set_state(near, change.sector, SectorState { cover, mark });
     }
 
     /// The sector isn't cached afterwards, whether it was dirty or not. It takes no memory.
@@ -193,7 +202,7 @@ impl Cache {
         ensures spare { self.old.spare ≤ self.new.spare }
     {
         self.sectors.remove(sector);
-        self.states.remove(sector);
+        self.states.remove(self.sectors.last_place(), sector);
     }
 
     /// The sector was written as this block: it is no longer dirty where it still holds that block. It takes no memory.
@@ -201,35 +210,34 @@ impl Cache {
         ensures entries { self.new.entries ≡ with_written self.old.entries sector.0 block.now }
         ensures spare { self.new.spare ≡ self.old.spare }
     {
-        if self.holds(sector, block) {
-            self.mark_clean(sector);
+        match self.held_at(sector, block) {
+            Some(place) => self.mark_clean(place, sector),
+            None => {}
         }
     }
 
-    // The sector is cached with this block.
-    fn holds(&self, sector: Sector, block: &Block) -> bool
-        ensures { result ≡ holds self.now.entries sector.0 block.now }
+    // Where the sector lies, if it is cached with this block.
+    fn held_at(&self, sector: Sector, block: &Block) -> Option<Place>
+        ensures { is_some result ≡ holds self.now.entries sector.0 block.now }
     {
-        match self.sectors.get(sector) {
-            Some(held) => held == block,
-            None => false,
+        match self.sectors.find(sector) {
+            Some((place, held)) => {
+                if is_same(held, block) {
+                    Some(place)
+                } else {
+                    None
+                }
+            }
+            None => None,
         }
     }
 
-    // The sector isn't dirty afterwards, where it is cached.
-    fn mark_clean(&mut self, sector: Sector)
+    // The sector isn't dirty afterwards, where it is cached. It is looked for at a place first.
+    fn mark_clean(&mut self, place: Place, sector: Sector)
         ensures entries { self.new.entries ≡ adjusted (λ cached. clean cached.block cached.cover) self.old.entries sector.0 }
         ensures spare { self.new.spare ≡ self.old.spare }
     {
-        if let Some(state) = self.state(sector) {
-            self.set_state(
-                sector,
-                SectorState {
-                    mark: None,
-                    ..state
-                },
-            );
-        }
+        self.states.clean(Some(place), sector);
     }
 
     /// The dirty sectors with their marks, ascending by sector.
@@ -261,7 +269,7 @@ impl Cache {
         ensures spare { self.new.spare ≡ self.old.spare }
     {
         match self.state(sector) {
-            Some(state) => self.set_state(sector, SectorState { cover, ..state }),
+            Some(state) => self.set_state(None, sector, SectorState { cover, ..state }),
             None => unreachable!(),
         }
     }

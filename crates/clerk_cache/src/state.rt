@@ -1,18 +1,31 @@
 // What is kept of a cached sector beside its block.
 ghost use Rattle.std.specs.Prelude.{◌≡◌, Some};
-ghost use Rattle.clerk_cache.specs.Kept.{state_mark};
+ghost use Rattle.clerk_cache.specs.Kept.{state_mark, cleaned};
 ghost use Rattle.clerk_cache.specs.Keys.{key_at};
 ghost use Rattle.clerk_cache.specs.Covers.{cover_key, is_any, is_dirty};
 
 use crate::covered::Covered;
 use flush_order::Mark;
 use frang_base::{LockId, Sector};
+use ordered_map::Edit;
 
 /// The lock that covers a cached sector and, where it is dirty, its mark.
 #[derive(Clone, Copy, Debug, PartialEq, Eq)]
 pub(crate) struct SectorState {
     pub(crate) cover: LockId,
     pub(crate) mark: Option<u64>,
+}
+
+/// The edit that takes the mark from what is kept of a sector.
+#[derive(Clone, Copy)]
+pub(crate) struct Cleaned;
+
+impl Edit<SectorState> for Cleaned {
+    ghost edited = { λ edit state. cleaned state };
+
+    fn edit(&self, state: &mut SectorState) {
+        state.mark = None;
+    }
 }
 
 /// Where a sector lies in each of the orders in which it is kept.

@@ -1,22 +1,23 @@
 // What is kept beside the blocks, and the sectors in order of their marks and covers.
 ghost use Rattle.std.specs.Prelude.{◌≡◌, ◌+◌, ◌<◌, ◌≤◌, [], length, IsOk, OnOk};
-ghost use Rattle.sector_bytes.specs.SectorMaps.{value_at, with_value, without, room_for};
+ghost use Rattle.sector_bytes.specs.SectorMaps.{value_at, with_value, without, adjusted, room_for};
 ghost use Rattle.flush_order.specs.Marks.{least, first_mark};
 ghost use Rattle.ordered_map.specs.Chunks.{joined};
-ghost use Rattle.clerk_cache.specs.Kept.{first_dirty_state, state_marks};
+ghost use Rattle.clerk_cache.specs.Kept.{first_dirty_state, state_marks, cleaned};
 ghost use Rattle.clerk_cache.specs.Covers.{first_under_state};
 
 use crate::covered::{Covered, first_of};
 use crate::keys::{exchange, reserve, take_out};
-use crate::state::{SectorState, keys_of};
+use crate::state::{Cleaned, SectorState, keys_of};
 use flush_order::Mark;
 use frang_base::{LockId, NoMemory, Sector};
-use ordered_map::{Chunk, OrderedMap};
+use ordered_map::{Chunk, OrderedMap, Place};
 use std::alloc::Global;
 use std::marker::Model;
 
 /// What is kept of the cached sectors beside their blocks: entries ascending by sector, and for how many more there is room. What is
-/// asked by mark or by cover is found in time logarithmic in their number.
+/// asked by mark or by cover is found in time logarithmic in their number. Each edit looks for its sector at a place first, where one is
+/// given: where the sector lies in a map of the same sectors.
 #[derive(Debug, Drop)]
 pub(crate) struct States {
     states: OrderedMap<u64, SectorState>,
@@ -115,28 +116,41 @@ impl States {
     }
 
     /// Keeps this of a sector, of which something is kept or for which there is room. It takes no memory.
-    pub(crate) fn put(&mut self, sector: Sector, state: SectorState)
+    pub(crate) fn put(&mut self, near: Option<Place>, sector: Sector, state: SectorState)
         requires { room_for self.old.entries sector.0 ≤ self.old.spare }
         ensures entries { self.new.entries ≡ with_value self.old.entries sector.0 state }
         ensures spare { self.new.spare + room_for self.old.entries sector.0 ≡ self.old.spare }
     {
-        let old = keys_of(sector, self.get(sector));
+        let old = keys_of(sector, self.states.replace_near(near, sector.0, state));
         let new = keys_of(sector, Some(state));
         exchange(&mut self.marks, old.mark, new.mark);
         exchange(&mut self.covers, old.cover, new.cover);
         exchange(&mut self.dirty, old.dirty, new.dirty);
-        self.states.put(sector.0, state);
+    }
+
+    /// The sector isn't dirty afterwards, where something is kept of it. It takes no memory.
+    pub(crate) fn clean(&mut self, near: Option<Place>, sector: Sector)
+        ensures entries { self.new.entries ≡ adjusted cleaned self.old.entries sector.0 }
+        ensures spare { self.new.spare ≡ self.old.spare }
+    {
+        match self.states.update(near, &sector.0, &Cleaned) {
+            Some(state) => {
+                let old = keys_of(sector, Some(state));
+                take_out(&mut self.marks, old.mark);
+                take_out(&mut self.dirty, old.dirty);
+            }
+            None => {}
+        }
     }
 
     /// Nothing is kept of the sector afterwards. It takes no memory.
-    pub(crate) fn remove(&mut self, sector: Sector)
+    pub(crate) fn remove(&mut self, near: Option<Place>, sector: Sector)
         ensures entries { self.new.entries ≡ without self.old.entries sector.0 }
         ensures spare { self.old.spare ≤ self.new.spare }
     {
-        let old = keys_of(sector, self.get(sector));
+        let old = keys_of(sector, self.states.take_near(near, &sector.0));
         take_out(&mut self.marks, old.mark);
         take_out(&mut self.covers, old.cover);
         take_out(&mut self.dirty, old.dirty);
-        self.states.remove(&sector.0);
     }
 }

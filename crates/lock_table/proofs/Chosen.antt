@@ -208,27 +208,6 @@ module _ {V W : Type 0} (of : V → Option W) where
       go None is rest = rest ∙ ap (λ o. cons_option (option_map (λ made. (entry.0, made)) o) (chosen other entries)) (sym (none entry.1 is))
       go (Some made) is rest = λ i. cons_option (option_map (λ x. (entry.0, x)) (all.0 i)) (rest i)
 
--- what is made of the locks alone is sorted too
-pub sorted_anew : {V X : Type 0} (again : LockId → Option X) (entries : List (LockId × V)) → IsStrictlySortedBy lock_cmp (keys_of entries) → IsStrictlySortedBy lock_cmp (keys_of (filter_map (λ entry. option_map (λ made. (entry.0, made)) (again entry.0)) entries))
-unfolding IsStrictlySortedBy
-sorted_anew again [] sorted = tt
-sorted_anew {V} {X} again (entry ∷ entries) sorted = go (again entry.0) (sorted_anew again entries sorted.1)
-  where
-    Again : List (LockId × V) → List (LockId × X)
-    Again list = filter_map (λ e. option_map (λ made. (e.0, made)) (again e.0)) list
-
-    all : (P : LockId → Type 0) (list : List (LockId × V)) → AllByRecursion P (keys_of list) → AllByRecursion P (keys_of (Again list))
-    all P [] each = tt
-    all P (e ∷ list) each = some (again e.0) (all P list each.1)
-      where
-        some : (o : Option X) → AllByRecursion P (keys_of (Again list)) → AllByRecursion P (keys_of (cons_option (option_map (λ made. (e.0, made)) o) (Again list)))
-        some None rest = rest
-        some (Some made) rest = (each.0, rest)
-
-    go : (o : Option X) → IsStrictlySortedBy lock_cmp (keys_of (Again entries)) → IsStrictlySortedBy lock_cmp (keys_of (cons_option (option_map (λ made. (entry.0, made)) o) (Again entries)))
-    go None rest = rest
-    go (Some made) rest = (all (λ y. lock_cmp entry.0 y ≡ Less) entries sorted.0, rest)
-
 -- functions that make the same of each
 pub chosen-alike : {V W : Type 0} (of other : V → Option W) → ((v : V) → of v ≡ other v) → (entries : List (LockId × V)) → chosen of entries ≡ chosen other entries
 chosen-alike of other same [] = refl

@@ -5,3 +5,4 @@ pub mod Keeping
 pub mod Lists
 pub mod Retained
 pub mod Viewing
+pub mod Walking

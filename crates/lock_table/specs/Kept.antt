@@ -1,5 +1,5 @@
 -- How a lock table keeps its locks: the claims of all servers on each, and for each server the locks that it is asked for.
-use Rattle.std.specs.Prelude.{◌≡◌, ℕ, ◌<◌, ◌≤◌, ◌+◌, Bool, true, false, not, ◌||◌, if◌then◌else◌, is_some, Option, Some, None, unwrap_or, List, [], map, filter, slice_index, slice_index_or, slice_set}
+use Rattle.std.specs.Prelude.{◌≡◌, ℕ, ◌<◌, ◌≤◌, ◌+◌, Bool, true, false, not, ◌||◌, if◌then◌else◌, is_some, Option, Some, None, unwrap_or, List, [], ◌++◌, length, take, drop, map, filter, slice_index, slice_index_or, slice_set}
 use Rattle.std.specs.List.{filter_map}
 use Rattle.std.specs.List.Sorted.{IsStrictlySortedBy}
 use Rattle.std.specs.Map.{lookup, remove_entry, keys_of}
@@ -107,10 +107,11 @@ asked_anew server entries entry = option_map (λ asked. (entry.0, asked)) (asked
 abbrev pub renewed : ℕ → Entries → Asked → Asked
 renewed server entries list = filter_map (asked_anew server entries) list
 
--- where something is made it stays, and else nothing does
-abbrev pub IsLeft : {V : Type 0} → Option V → Bool → V → Type 0
-IsLeft None stays left = stays ≡ false
-IsLeft (Some made) stays left = (stays ≡ true) × (left ≡ made)
+-- the first so many locks of a list are made anew, and so many are left
+pub record IsWalked (server : ℕ) (entries : Entries) (all now : Asked) (i left : ℕ) : Type 0 where
+  pub sorted : IsStrictlySortedBy lock_cmp (keys_of now)
+  pub made : take i now ++ renewed server entries (drop i now) ≡ renewed server entries all
+  pub long : length now ≡ i + left
 
 -- the list has this of a lock, and stays where it is put there once more
 pub record IsListed (list : Asked) (lock : LockId) (asked : Option AskedFor) : Type 0 where

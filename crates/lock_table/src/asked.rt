@@ -1,43 +1,45 @@
 // The locks that one server is asked for, in order of the locks.
-ghost use Rattle.std.specs.Prelude.{◌≡◌, ◌+◌, ◌<◌, ◌≤◌, [], None, unwrap_or, IsOk, OnOk, OnErr};
-ghost use Rattle.std.specs.Map.{lookup};
-ghost use Rattle.sorted_entries.specs.Places.{place_of};
-ghost use Rattle.lock_definitions.specs.Order.{is_lock, lock_cmp};
-ghost use Rattle.lock_table.specs.Asked.{asked_by, with_made, growth};
-ghost use Rattle.lock_table.specs.Kept.{claimed_at, asked_anew, renewed, IsLeft};
+ghost use Rattle.std.specs.Prelude.{◌≡◌, ◌+◌, ◌<◌, ◌≤◌, ℕ, [], None, Some, if◌then◌else◌, is_some, length, IsOk, OnOk};
+ghost use Rattle.std.specs.List.{slice_get};
+ghost use Rattle.std.specs.List.Sorted.{IsStrictlySortedBy};
+ghost use Rattle.std.specs.Map.{lookup, keys_of};
+ghost use Rattle.ordered_map.specs.Chunks.{joined};
+ghost use Rattle.ordered_map.specs.Entries.{room_for};
+ghost use Rattle.lock_definitions.specs.Order.{lock_cmp, is_lock};
+ghost use Rattle.lock_table.specs.Asked.{Asked, asked_by, with_made, growth};
+ghost use Rattle.lock_table.specs.Kept.{claimed_at, renewed, IsWalked};
 
 use crate::lock_map::LockMap;
 use frang_base::{LockId, NoMemory, ServerId};
 use lock_definitions::AskedFor;
+use ordered_map::{Chunk, OrderedMap};
 use std::alloc::Global;
-use std::cmp::Ordering;
 use std::marker::Model;
 
-/// The locks that a server is asked for, ascending, each with what is asked, and how many more have room.
+/// The locks that a server is asked for, ascending, each with what is asked, and how many more have room. A lock is listed, and taken from
+/// the list, in time logarithmic in their number.
 #[derive(Debug, Drop)]
 pub(crate) struct AskedList {
-    asked: Vec<(LockId, AskedFor)>,
+    asked: OrderedMap<LockId, AskedFor>,
 }
 
 impl Model for AskedList {
-    ghost use Rattle.std.specs.Prelude.{◌-◌, vec_len, vec_capacity};
-    ghost use Rattle.std.specs.List.Sorted.{IsStrictlySortedBy};
-    ghost use Rattle.std.specs.Map.{keys_of};
-    ghost use Rattle.lock_definitions.specs.Order.{lock_cmp};
     ghost use Rattle.lock_table.specs.Asked.{AskedRoom};
 
     ghost Value = { AskedRoom };
 
-    ghost view = { λ list. record { asked = list.asked.items; room = vec_capacity list.asked - vec_len list.asked } };
-
-    ghost invariant = { λ list. IsStrictlySortedBy lock_cmp (keys_of list.asked.items) };
+    ghost view = { λ list. record { asked = list.asked.entries; room = list.asked.spare } };
 }
 
-// The order in which the locks lie.
-fn compare(a: &LockId, b: &LockId) -> Ordering
-    ensures { result ≡ lock_cmp a.now b.now }
+// The place after one, where the lock there is still asked for, and else the same.
+fn next_place(i: usize, asked: Option<AskedFor>) -> usize
+    requires { i < usize.MAX }
+    ensures { result ≡ (if is_some asked then i + 1 else i) }
 {
-    a.cmp(b)
+    match asked {
+        Some(_) => i + 1,
+        None => i,
+    }
 }
 
 impl AskedList {
@@ -46,24 +48,22 @@ impl AskedList {
         ensures { result.asked ≡ [] }
     {
         AskedList {
-            asked: Vec::new(alloc),
+            asked: OrderedMap::new(alloc),
         }
     }
 
-    /// What is asked for, ascending by lock.
-    pub(crate) fn asked(&self) -> &[(LockId, AskedFor)]
-        ensures { result.now ≡ self.now.asked }
+    /// What is asked for, ascending by lock, in pieces that follow one another.
+    pub(crate) fn pieces(&self) -> &[Chunk<LockId, AskedFor>]
+        ensures { joined result.now ≡ self.now.asked }
     {
-        &self.asked
+        self.asked.chunks()
     }
 
-    // The lock's place, or the place where it would go.
-    fn place(&self, lock: LockId) -> Result<usize, usize>
-        ensures place { result ≡ place_of lock_cmp lock self.now.asked }
-        ensures missing { OnErr result (lookup (is_lock lock) self.now.asked ≡ None) }
+    /// The first lock that is asked for, with what is asked.
+    pub(crate) fn first(&self) -> Option<(LockId, AskedFor)>
+        ensures { result ≡ slice_get self.now.asked 0 }
     {
-        self.asked
-            .binary_search_by(|entry| compare(&entry.0, &lock))
+        self.asked.first().copied()
     }
 
     /// Makes room for one more. Nothing else changes, whatever the answer. It takes no memory where there is room.
@@ -84,7 +84,7 @@ impl AskedList {
         ensures room { self.old.room ≤ self.new.room + growth (lookup (is_lock lock) self.old.asked) asked }
     {
         match asked {
-            Some(asked) => self.insert(lock, asked),
+            Some(made) => self.insert(lock, made),
             None => self.remove(lock),
         }
     }
@@ -102,19 +102,22 @@ impl AskedList {
         }
     }
 
+    // How many locks are asked for.
+    fn count(&self) -> usize
+        ensures count { result ≡ length self.now.asked }
+        ensures small { length self.now.asked ≤ usize.MAX }
+        ensures ordered { IsStrictlySortedBy lock_cmp (keys_of self.now.asked) }
+    {
+        self.asked.count()
+    }
+
     // The lock is asked for so.
     fn insert(&mut self, lock: LockId, asked: AskedFor)
-        requires { growth (lookup (is_lock lock) self.old.asked) (Some asked) ≤ self.old.room }
+        requires { room_for lock_cmp self.old.asked lock ≤ self.old.room }
         ensures asked { self.new.asked ≡ with_made self.old.asked lock (Some asked) }
-        ensures room { self.old.room ≤ self.new.room + growth (lookup (is_lock lock) self.old.asked) (Some asked) }
+        ensures room { self.new.room + room_for lock_cmp self.old.asked lock ≡ self.old.room }
     {
-        match self.place(lock) {
-            Ok(at) => self.asked[at] = (lock, asked),
-            Err(at) => match self.asked.insert(at, (lock, asked)) {
-                Ok(()) => {}
-                Err(_) => unreachable!(),
-            },
-        }
+        self.asked.put(lock, asked);
     }
 
     // The lock isn't asked for.
@@ -122,17 +125,26 @@ impl AskedList {
         ensures asked { self.new.asked ≡ with_made self.old.asked lock None }
         ensures room { self.old.room ≤ self.new.room }
     {
-        if let Ok(at) = self.place(lock) {
-            let _ = self.asked.remove(at);
-        }
+        self.asked.remove(&lock);
     }
 
-    /// Nothing is asked for any more. It takes no memory.
-    pub(crate) fn clear(&mut self)
-        ensures asked { self.new.asked ≡ [] }
+    // The lock at a place is asked for as its claims say, or not at all. The place of the next one.
+    fn renew_at(&mut self, i: usize, server: ServerId, claims: &LockMap) -> usize
+        requires inside { i < length self.old.asked }
+        requires small { i < usize.MAX }
+        ensures walked { (all : Asked) (left : ℕ) → IsWalked server.0 claims.now all self.old.asked i (left + 1) → IsWalked server.0 claims.now all self.new.asked result left }
+        ensures next { result ≤ i + 1 }
         ensures room { self.old.room ≤ self.new.room }
     {
-        self.asked.clear();
+        match self.asked.at(i) {
+            Some(entry) => {
+                let lock = entry.0;
+                let asked = asked_in(claims, lock, server);
+                self.put(lock, asked);
+                next_place(i, asked)
+            }
+            None => unreachable!(),
+        }
     }
 
     /// Each listed lock is asked for as its claims say, or not at all. It takes no memory.
@@ -140,21 +152,11 @@ impl AskedList {
         ensures asked { self.new.asked ≡ renewed server.0 claims.now self.old.asked }
         ensures room { self.old.room ≤ self.new.room }
     {
-        self.asked
-            .retain_mut(|entry| renew_entry(entry, claims, server));
-    }
-}
-
-// A listed lock is asked for as its claims say. Whether it is asked for at all.
-fn renew_entry(entry: &mut (LockId, AskedFor), claims: &LockMap, server: ServerId) -> bool
-    ensures { IsLeft (asked_anew server.0 claims.now entry.old) result entry.new }
-{
-    match asked_in(claims, entry.0, server) {
-        Some(asked) => {
-            entry.1 = asked;
-            true
+        let count = self.count();
+        let mut i = 0;
+        for _ in 0..count {
+            i = self.renew_at(i, server, claims);
         }
-        None => false,
     }
 }
 

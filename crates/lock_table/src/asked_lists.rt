@@ -1,5 +1,7 @@
 // The locks that each server is asked for.
 ghost use Rattle.std.specs.Prelude.{◌≡◌, ◌+◌, ◌<◌, ◌≤◌, ℕ, [], length, map, IsOk, IsTrue, OnOk, slice_index, slice_index_or, slice_set};
+ghost use Rattle.std.specs.List.{slice_get};
+ghost use Rattle.ordered_map.specs.Chunks.{joined};
 ghost use Rattle.lock_table.specs.Asked.{no_asked, asked_by, asked_kept, with_made, growth};
 ghost use Rattle.lock_table.specs.Kept.{HasSpace, KeepsSpace, KeepsSpaceBut, Fits, IsListed, AreListed, IsSameBeside, settled, renewed, renewed_all};
 
@@ -9,6 +11,7 @@ use crate::lock_map::LockMap;
 use frang_base::limits::SERVERS;
 use frang_base::{LockId, NoMemory, ServerId};
 use lock_definitions::{AskedFor, Claim};
+use ordered_map::Chunk;
 use std::alloc::Global;
 use std::array;
 use std::marker::Model;
@@ -48,13 +51,23 @@ impl AskedLists {
         }
     }
 
-    /// What a server is asked for, ascending by lock: nothing, where it isn't one of the sixteen.
-    pub(crate) fn asked(&self, server: ServerId) -> &[(LockId, AskedFor)]
-        ensures { result.now ≡ slice_index_or self.now.asked server.0 [] }
+    /// What a server is asked for, ascending by lock, in pieces that follow one another: nothing, where it isn't one of the sixteen.
+    pub(crate) fn pieces(&self, server: ServerId) -> &[Chunk<LockId, AskedFor>]
+        ensures { joined result.now ≡ slice_index_or self.now.asked server.0 [] }
     {
         match self.lists.get(server.0 as usize) {
-            Some(list) => list.asked(),
+            Some(list) => list.pieces(),
             None => &[],
+        }
+    }
+
+    /// The first lock that a server is asked for, with what is asked.
+    pub(crate) fn first(&self, server: ServerId) -> Option<(LockId, AskedFor)>
+        ensures { result ≡ slice_get (slice_index_or self.now.asked server.0 []) 0 }
+    {
+        match self.lists.get(server.0 as usize) {
+            Some(list) => list.first(),
+            None => None,
         }
     }
 

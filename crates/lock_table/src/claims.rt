@@ -1,6 +1,8 @@
 // The claims on all locks, and what each server is asked for.
 ghost use Rattle.std.specs.Prelude.{◌≡◌, ◌<◌, ◌≤◌, [], IsOk, IsSome, IfOk, OnOk, OnErr, length, slice_index_or, slice_set};
+ghost use Rattle.std.specs.List.{slice_get};
 ghost use Rattle.std.specs.List.Sorted.{IsStrictlySortedBy};
+ghost use Rattle.ordered_map.specs.Chunks.{joined};
 ghost use Rattle.std.specs.Map.{lookup, keys_of};
 ghost use Rattle.lock_definitions.specs.Order.{lock_cmp, is_lock};
 ghost use Rattle.lock_definitions.specs.Locks.{no_claim};
@@ -13,6 +15,7 @@ use crate::lock_map::{LockMap, is_reserved};
 use frang_base::limits::SERVERS;
 use frang_base::{LockId, NoMemory, ServerId};
 use lock_definitions::{AskedFor, Claim};
+use ordered_map::Chunk;
 use std::alloc::Global;
 use std::marker::Model;
 
@@ -56,11 +59,18 @@ impl Claims {
         }
     }
 
-    /// The locks that a server is asked for, ascending.
-    pub(crate) fn asked(&self, server: ServerId) -> &[(LockId, AskedFor)]
-        ensures { result.now ≡ slice_index_or (asked_lists self.now.entries) server.0 [] }
+    /// The locks that a server is asked for, ascending, in pieces that follow one another.
+    pub(crate) fn asked(&self, server: ServerId) -> &[Chunk<LockId, AskedFor>]
+        ensures { joined result.now ≡ slice_index_or (asked_lists self.now.entries) server.0 [] }
     {
-        self.asked.asked(server)
+        self.asked.pieces(server)
+    }
+
+    /// The first lock that a server is asked for, with what is asked.
+    pub(crate) fn first_asked(&self, server: ServerId) -> Option<(LockId, AskedFor)>
+        ensures { result ≡ slice_get (slice_index_or (asked_lists self.now.entries) server.0 []) 0 }
+    {
+        self.asked.first(server)
     }
 
     /// The claims on a lock that has an entry.

@@ -1,7 +1,8 @@
 // The lock table.
-ghost use Rattle.std.specs.Prelude.{◌≡◌, ◌↔◌, ◌≢◌, ◌<◌, [], IsOk, IsSome, IsTrue, IfOk, OnOk, OnErr};
+ghost use Rattle.std.specs.Prelude.{◌≡◌, ◌↔◌, ◌≢◌, ◌<◌, ◌++◌, [], IsOk, IsSome, IsTrue, IfOk, OnOk, OnErr};
 ghost use Rattle.std.specs.List.{slice_get};
 ghost use Rattle.std.specs.Option.{option_copied};
+ghost use Rattle.ordered_map.specs.Chunks.{joined};
 ghost use Rattle.lock_definitions.specs.Locks.{no_locks, claim_of, held, AreLocks};
 ghost use Rattle.lock_definitions.specs.Calls.{want_answer, answered, wanted, released, downgraded, revokes, log_taken_by, log_answer, taken, extended, cleared};
 ghost use Rattle.lock_table.specs.Table.{HasRoom, KeepsRoom};
@@ -13,6 +14,7 @@ use crate::modes::{answered, given_up, shared};
 use frang_base::limits::SERVERS;
 use frang_base::{LockId, Mode, NoMemory, ServerId};
 use lock_definitions::{AskedFor, Claim, LogHold, LogTaken, Wanted};
+use ordered_map::Chunk;
 use std::alloc::Global;
 use std::marker::Model;
 
@@ -47,6 +49,31 @@ fn answer_to(holders: u32) -> Wanted
     } else {
         Wanted::Wait { holders }
     }
+}
+
+// Adds what a piece lists.
+fn add_piece(
+    asked: &mut Vec<(LockId, AskedFor)>,
+    piece: &[(LockId, AskedFor)],
+) -> Result<(), NoMemory>
+    ensures { OnOk result (asked.new.items ≡ asked.old.items ++ piece.now) }
+{
+    asked.extend_from_slice(piece)?;
+    Ok(())
+}
+
+// What pieces that follow one another list.
+fn listed(
+    alloc: Global,
+    pieces: &[Chunk<LockId, AskedFor>],
+) -> Result<Vec<(LockId, AskedFor)>, NoMemory>
+    ensures { IfOk result (λ asked. asked.items ≡ joined pieces.now) }
+{
+    let mut asked = Vec::new(alloc);
+    for piece in pieces {
+        add_piece(&mut asked, piece.entries())?;
+    }
+    Ok(asked)
 }
 
 impl LockTable {
@@ -117,12 +144,12 @@ impl LockTable {
     pub fn revokes(&self, server: ServerId) -> Result<Vec<(LockId, AskedFor)>, NoMemory>
         ensures { IfOk result (λ asked. asked.items ≡ revokes self.now.locks server.0) }
     {
-        Ok(Vec::from_slice(self.alloc, self.asked(server))?)
+        listed(self.alloc, self.asked(server))
     }
 
     // The same, as it lies.
-    fn asked(&self, server: ServerId) -> &[(LockId, AskedFor)]
-        ensures { result.now ≡ revokes self.now.locks server.0 }
+    fn asked(&self, server: ServerId) -> &[Chunk<LockId, AskedFor>]
+        ensures { joined result.now ≡ revokes self.now.locks server.0 }
     {
         self.claims.asked(server)
     }
@@ -131,14 +158,14 @@ impl LockTable {
     pub fn is_asked(&self, server: ServerId) -> bool
         ensures { IsTrue result ↔ (revokes self.now.locks server.0 ≢ []) }
     {
-        !self.asked(server).is_empty()
+        self.first_asked(server).is_some()
     }
 
     /// The first that `revokes` lists for a server. `None` exactly where it lists nothing. It takes no memory.
     pub fn first_asked(&self, server: ServerId) -> Option<(LockId, AskedFor)>
         ensures { result ≡ slice_get (revokes self.now.locks server.0) 0 }
     {
-        self.asked(server).first().copied()
+        self.claims.first_asked(server)
     }
 
     /// A server gives up a lock that it holds. It takes no memory, and leaves the room that there was.

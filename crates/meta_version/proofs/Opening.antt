@@ -1,12 +1,13 @@
 -- An edit of a map whose values lie in boxes is the same edit of what the boxes hold.
-use Rattle.std.proofs.Common.{◌≡◌, ℕ, zero, suc, Bool, true, false, if◌then◌else◌, List, [], ◌∷◌, length, Option, Some, None, is_some, IsSome, IfSome, refl, sym, ap, ◌∙◌, subst}
+use Rattle.std.proofs.Common.{◌≡◌, ℕ, zero, suc, Bool, true, false, if◌then◌else◌, List, [], ◌∷◌, length, Option, Some, None, is_some, IsSome, IfSome, refl, sym, ap, ◌∙◌, subst, arith}
 use Rattle.std.specs.List.{slice_get}
 use Rattle.std.specs.BTreeMap.{is_at}
 use Rattle.std.specs.Option.{option_map}
 use Rattle.std.specs.Ordering.{nat_cmp, match_ordering}
 use Rattle.std.specs.declared.cmp.Ordering.{Ordering}
 use Rattle.std.specs.declared.cmp.Ordering.TheVariants.{Less, Equal, Greater}
-use Rattle.sector_bytes.specs.SectorMaps.{value_at, with_value, without, room_for}
+use Rattle.sector_bytes.specs.SectorMaps.{value_at, with_value, without, adjusted, room_for, Ascend}
+use Rattle.sector_bytes.proofs.MapLaws.{with_value_there}
 use Rattle.sector_bytes.specs.Blocks.{Block}
 use Rattle.frang_base.specs.declared.change.Change.{Change}
 use Rattle.meta_version.specs.Boxes.{opened}
@@ -66,6 +67,22 @@ module _ {B V : Type 0} (held : B → V) where
       go : (o : Option B) → IsSome o → IfSome o (λ b. new ≡ with_value entries sector (kept b)) → opened new held ≡ with_value (opened entries held) sector v
       go None none e = cc none
       go (Some b) there e = ap (λ es. opened es held) e ∙ opened-with entries sector (kept b) ∙ ap (λ x. with_value (opened entries held) sector x) (same b)
+
+  -- what is made of the value of a sector that is there
+  pub adjusted_over : (f : V → V) (entries new : List (ℕ × B)) (sector : ℕ) (kept : B → B) → ((b : B) → held (kept b) ≡ f (held b)) → Ascend (opened entries held) → IsSome (value_at entries sector)
+      → IfSome (value_at entries sector) (λ b. new ≡ with_value entries sector (kept b)) → opened new held ≡ adjusted f (opened entries held) sector
+  adjusted_over f entries new sector kept same sorted some is = go (value_at entries sector) refl some is
+    where
+      go : (o : Option B) → value_at entries sector ≡ o → IsSome o → IfSome o (λ b. new ≡ with_value entries sector (kept b)) → opened new held ≡ adjusted f (opened entries held) sector
+      go None there none e = cc none
+      go (Some b) there some e =
+          ap (λ es. opened es held) e ∙ opened-with entries sector (kept b) ∙ ap (λ x. with_value (opened entries held) sector x) (same b)
+          ∙ with_value_there f (opened entries held) sector (held b) sorted (value_at-opened entries sector ∙ ap (option_map held) there)
+
+-- a sector that takes no room is there
+pub some_unroomed : {X : Type 0} (o : Option X) → if◌then◌else◌ {A = ℕ} (is_some o) 0 1 ≡ 0 → IsSome o
+some_unroomed (Some x) none = refl
+some_unroomed None none = absurd (omega arith)
 
 -- what is older than a change is there
 pub older_there : (o : Option Block) (change : Change) → IsOlder o change → IsSome o

@@ -1,5 +1,5 @@
 // Sectors with their blocks, which lie apart from the numbers of the sectors.
-ghost use Rattle.std.specs.Prelude.{◌≡◌, ◌+◌, ◌<◌, ◌≤◌, [], None, IsOk, IsSome, OnOk, OnErr, length, true, vec_len};
+ghost use Rattle.std.specs.Prelude.{◌≡◌, ◌+◌, ◌<◌, ◌≤◌, [], None, IsOk, IsSome, OnOk, OnErr, length, true, vec_len, vec_capacity};
 ghost use Rattle.std.specs.List.{slice_get};
 ghost use Rattle.std.specs.Option.{option_copied, option_map};
 ghost use Rattle.sector_bytes.specs.Changes.{changed, is_change};
@@ -8,11 +8,10 @@ ghost use Rattle.meta_version.specs.Updates.{IsOlder, with_change};
 ghost use Rattle.meta_version.specs.Boxes.{opened};
 ghost use Rattle.std.specs.Box.{box_value};
 
-use crate::block::lay;
-use crate::boxes::Overwrite;
+use crate::boxes::{Lay, Overwrite};
 use frang_base::limits::SECTOR_BYTES;
 use frang_base::{Block, Change, NoMemory, Sector};
-use ordered_map::OrderedMap;
+use ordered_map::{OrderedMap, Place};
 use std::alloc::Global;
 use std::marker::Model;
 
@@ -41,10 +40,10 @@ impl Model for Sectors {
 }
 
 // Writes a block over what the box holds.
-fn overwrite(kept: &mut Box<Block>, block: Block)
-    ensures { kept.new.value ≡ block }
+fn overwrite(kept: &mut Box<Block>, block: &Block)
+    ensures { kept.new.value ≡ block.now }
 {
-    **kept = block;
+    **kept = *block;
 }
 
 // Adds boxes until there are `n`.
@@ -76,13 +75,28 @@ fn lay_over(blocks: &mut OrderedMap<u64, Box<Block>>, change: &Change)
     ensures entries { opened blocks.new.entries box_value ≡ with_change (opened blocks.old.entries box_value) change.now }
     ensures spare { blocks.new.spare ≡ blocks.old.spare }
 {
-    match blocks.get(&change.sector.0) {
-        Some(kept) => {
-            let mut block = **kept;
-            lay(&mut block, change);
-            write(blocks, change.sector, block);
-        }
-        None => unreachable!(),
+    blocks.change(&change.sector.0, &Lay { change });
+}
+
+// Puts a box in for a sector. The box that the sector had is a blank one from now on, for which there is a place.
+fn put_box(
+    blocks: &mut OrderedMap<u64, Box<Block>>,
+    blank: &mut Vec<Box<Block>>,
+    sector: Sector,
+    kept: Box<Block>,
+)
+    requires room { room_for blocks.old.entries sector.0 ≤ blocks.old.spare }
+    requires place { vec_len blank.old < vec_capacity blank.old }
+    ensures entries { blocks.new.entries ≡ with_value blocks.old.entries sector.0 kept }
+    ensures spare { blocks.new.spare + room_for blocks.old.entries sector.0 ≡ blocks.old.spare }
+    ensures blank { vec_len blank.new + room_for blocks.old.entries sector.0 ≡ vec_len blank.old + 1 }
+{
+    match blocks.replace(sector.0, kept) {
+        Some(old) => match blank.push(old) {
+            Ok(()) => {}
+            Err(_) => unreachable!(),
+        },
+        None => {}
     }
 }
 
@@ -126,6 +140,21 @@ impl Sectors {
         }
     }
 
+    /// The block of a sector, and the place where the sector lies. `None` exactly where the sector isn't set.
+    pub fn find(&self, sector: Sector) -> Option<(Place, &Block)>
+        ensures { option_map (λ found. found.1.now) result ≡ value_at self.now.entries sector.0 }
+    {
+        match self.blocks.find(&sector.0) {
+            Some((place, kept)) => Some((place, &**kept)),
+            None => None,
+        }
+    }
+
+    /// The place where the sector of the last edit was found. `None` where it went in anew.
+    pub fn last_place(&self) -> Option<Place> {
+        self.blocks.last_place()
+    }
+
     /// Makes room for `n` more sectors. Nothing else changes, whatever the answer. It takes no memory where there is that room.
     pub fn reserve(&mut self, n: usize) -> Result<(), NoMemory>
         ensures entries { self.new.entries ≡ self.old.entries }
@@ -143,25 +172,12 @@ impl Sectors {
         ensures entries { self.new.entries ≡ with_value self.old.entries sector.0 block }
         ensures spare { self.new.spare + room_for self.old.entries sector.0 ≡ self.old.spare }
     {
-        match self.blocks.get(&sector.0) {
-            Some(_) => write(&mut self.blocks, sector, block),
-            None => self.add(sector, block),
-        }
-    }
-
-    // Sets a sector that isn't set.
-    fn add(&mut self, sector: Sector, block: Block)
-        requires new { value_at self.old.entries sector.0 ≡ None }
-        requires room { 0 < self.old.spare }
-        ensures entries { self.new.entries ≡ with_value self.old.entries sector.0 block }
-        ensures spare { self.new.spare + 1 ≡ self.old.spare }
-    {
         match self.blank.pop() {
             Some(mut kept) => {
-                overwrite(&mut kept, block);
-                self.blocks.put(sector.0, kept);
+                overwrite(&mut kept, &block);
+                put_box(&mut self.blocks, &mut self.blank, sector, kept);
             }
-            None => unreachable!(),
+            None => write(&mut self.blocks, sector, block),
         }
     }
 

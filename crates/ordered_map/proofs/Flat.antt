@@ -87,6 +87,12 @@ module _ {E : Type 0} where
       ∙ sym (remove_within (joined (take c chunks)) (chunk_at chunks c) (joined (drop (suc c) chunks)) at below)
       ∙ ap (λ es. remove es (flat chunks c at)) (sym (whole chunks c inside))
 
+  -- a chunk that goes may change before
+  pub remove_set : (chunks : List (List E)) (c : ℕ) (x : List E) → remove (set chunks c x) c ≡ remove chunks c
+  remove_set [] c x = refl
+  remove_set (chunk ∷ chunks) zero x = refl
+  remove_set (chunk ∷ chunks) (suc c) x = ap (λ rest. chunk ∷ rest) (remove_set chunks c x)
+
   only_one : (xs : List E) (at : ℕ) → length xs ≡ 1 → at < length xs → [] ≡ remove xs at
   only_one [] at one inside = absurd (omega arith)
   only_one (x ∷ []) zero one inside = refl

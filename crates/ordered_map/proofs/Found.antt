@@ -11,11 +11,11 @@ use Rattle.std.specs.declared.cmp.Ordering.TheVariants.{Less, Equal, Greater}
 use Rattle.std.proofs.lemmas.Bool.{false≢true}
 use Rattle.std.proofs.lemmas.List.{drop_more}
 use Rattle.sorted_entries.specs.Places.{further, place_of}
-use Rattle.ordered_map.specs.Chunks.{joined, chunk_at, flat, shifted, at_of, ends_below, AreFilled, AreBelow, IsLocated, IsChunkOf}
+use Rattle.ordered_map.specs.Chunks.{joined, chunk_at, flat, shifted, at_of, ends_below, AreFilled, AreBelow, IsLocated, IsChunkOf, IsKeyAt}
 use Rattle.ordered_map.specs.Entries.{first_from, room_for}
-use Rattle.ordered_map.proofs.Spots.{by_answer, place_found, place_missed, absent, IsPlace, IsGap}
+use Rattle.ordered_map.proofs.Spots.{by_answer, place_found, place_missed, absent, lies_at, IsPlace, IsGap}
 use Rattle.ordered_map.proofs.Flat.{whole, get_within}
-use Rattle.ordered_map.proofs.Search.{placed}
+use Rattle.ordered_map.proofs.Search.{placed, sorted_chunk}
 
 at_further : (r : Result ℕ ℕ) → at_of (further r) ≡ suc (at_of r)
 at_further (Ok at) = refl
@@ -56,6 +56,30 @@ module _ {K V : Type 0} {cmp : K → K → Ordering} (total : IsTotalOrder cmp) 
     within = within;
     whole = ap (shifted (length (joined (take chunk chunks)))) within ∙ sym (placed total key chunks chunk is);
   }
+
+-- ---- a key that lies in a chunk
+
+module _ {K V : Type 0} (cmp : K → K → Ordering) (key : K) where
+  key_first : (xs after : List (K × V)) (at : ℕ) → IsKeyAt cmp key xs at → IsKeyAt cmp key (xs ++ after) at
+  key_first [] after at is = absurd is
+  key_first (x ∷ xs) after zero is = is
+  key_first (x ∷ xs) after (suc at) is = key_first xs after at is
+
+  key_rest : (before xs : List (K × V)) (at : ℕ) → IsKeyAt cmp key xs at → IsKeyAt cmp key (before ++ xs) (length before + at)
+  key_rest [] xs at is = let none : 0 + at ≡ at = omega arith in subst (λ n. IsKeyAt cmp key xs n) (sym none) is
+  key_rest (b ∷ before) xs at is =
+      let more : suc (length before) + at ≡ suc (length before + at) = omega arith in
+      subst (λ n. IsKeyAt cmp key (b ∷ (before ++ xs)) n) (sym more) (key_rest before xs at is)
+
+module _ {K V : Type 0} {cmp : K → K → Ordering} (total : IsTotalOrder cmp) (key : K) (chunks : List (List (K × V))) where
+  pub located_there : IsStrictlySortedBy cmp (keys_of (joined chunks)) → (chunk at : ℕ) → chunk < length chunks → IsKeyAt cmp key (chunk_at chunks chunk) at → IsLocated cmp key chunks chunk (Ok at)
+  located_there sorted chunk at inside is =
+      let after = joined (drop (suc chunk) chunks) in
+      let among = key_rest cmp key (joined (take chunk chunks)) (chunk_at chunks chunk ++ after) at (key_first cmp key (chunk_at chunks chunk) after at is) in record {
+        inside = inside;
+        within = sym (lies_at total key (chunk_at chunks chunk) at (sorted_chunk total key chunks chunk inside sorted) is);
+        whole = sym (lies_at total key (joined chunks) (flat chunks chunk at) sorted (subst (λ es. IsKeyAt cmp key es (flat chunks chunk at)) (sym (whole chunks chunk inside)) among));
+      }
 
 get_none : {E : Type 0} (xs : List E) (n : ℕ) → length xs ≤ n → None ≡ slice_get xs n
 get_none [] n past = refl

@@ -12,7 +12,7 @@ use Rattle.std.proofs.lemmas.Cmp.{alike_right}
 use Rattle.std.proofs.lemmas.Bool.{false≢true}
 use Rattle.sorted_entries.specs.Places.{further, place_of}
 use Rattle.std.specs.Option.{option_map_or}
-use Rattle.ordered_map.specs.Chunks.{overwritten, ends_below, last_key, at_of}
+use Rattle.ordered_map.specs.Chunks.{overwritten, ends_below, last_key, at_of, IsKeyAt}
 
 -- another value in the place of one is another entry there
 pub overwrites : {K V : Type 0} (entries : List (K × V)) (i : ℕ) (entry : K × V) (value : V) → i < length entries → entry ≡ get_or entries i entry → set entries i (entry.0, value) ≡ overwritten entries i value
@@ -34,6 +34,16 @@ last_key_is (e ∷ []) (suc i) entry last is = absurd (omega arith)
 last_key_is (e ∷ f ∷ entries) zero entry last is = absurd (omega arith)
 last_key_is (e ∷ f ∷ entries) (suc i) entry last is = last_key_is (f ∷ entries) i entry (omega arith) is
 
+-- another value leaves the last key
+pub last-overwritten : {K V : Type 0} (entries : List (K × V)) (i : ℕ) (value : V) → last_key (overwritten entries i value) ≡ last_key entries
+last-overwritten [] i value = refl
+last-overwritten (e ∷ []) zero value = refl
+last-overwritten (e ∷ []) (suc i) value = refl
+last-overwritten (e ∷ f ∷ entries) zero value = refl
+last-overwritten (e ∷ f ∷ []) (suc zero) value = refl
+last-overwritten (e ∷ f ∷ h ∷ entries) (suc zero) value = refl
+last-overwritten (e ∷ f ∷ entries) (suc (suc i)) value = last-overwritten (f ∷ entries) (suc i) value
+
 -- ---- results at places
 
 further_ok : (r : Result ℕ ℕ) (at : ℕ) → further r ≡ Ok (suc at) → r ≡ Ok at
@@ -53,6 +63,11 @@ pub by_answer : {P : Type 0} (o : Ordering) → (o ≡ Less → P) → (o ≡ Eq
 by_answer Less a b c = a refl
 by_answer Equal a b c = b refl
 by_answer Greater a b c = c refl
+
+equal_is : (o : Ordering) → is_eq o ≡ true → o ≡ Equal
+equal_is Less e = absurd (false≢true e)
+equal_is Equal e = refl
+equal_is Greater e = absurd (false≢true e)
 
 at_most_two : (o : Ordering) → ordering_index o ≤ 2
 at_most_two Less = omega arith
@@ -183,6 +198,25 @@ module _ {K V : Type 0} {cmp : K → K → Ordering} (total : IsTotalOrder cmp) 
   hit (entry ∷ entries) sorted (suc at) inside equal =
       step entry entries Greater (turned total key entry.0 Less (sym (alike_right total _ key entry.0 (equal entry)) ∙ each_at (λ y. cmp entry.0 y ≡ Less) entries sorted.0 at entry (omega arith)))
       ∙ ap further (hit entries sorted.1 at (omega arith) equal)
+
+  key_at : (entries : List (K × V)) (at : ℕ) → IsKeyAt cmp key entries at → (d : K × V) → cmp (get_or entries at d).0 key ≡ Equal
+  key_at [] at is d = absurd is
+  key_at (entry ∷ entries) zero is d = total.antisymm entry.0 key ∙ ap ordering_reverse is
+  key_at (entry ∷ entries) (suc at) is d = key_at entries at is d
+
+  pub key_within : (entries : List (K × V)) (at : ℕ) → IsKeyAt cmp key entries at → at < length entries
+  key_within [] at is = absurd is
+  key_within (entry ∷ entries) zero is = omega arith
+  key_within (entry ∷ entries) (suc at) is = omega (arith, key_within entries at is)
+
+  pub key_there : (entries : List (K × V)) (at : ℕ) (entry : K × V) → at < length entries → entry ≡ get_or entries at entry → is_eq (cmp key entry.0) ≡ true → IsKeyAt cmp key entries at
+  key_there [] at entry inside is e = absurd (omega arith)
+  key_there (x ∷ entries) zero entry inside is e = equal_is (cmp key x.0) (sym (ap (λ y. is_eq (cmp key y.0)) is) ∙ e)
+  key_there (x ∷ entries) (suc at) entry inside is e = key_there entries at entry (omega arith) is e
+
+  -- where a key lies is its place
+  pub lies_at : (entries : List (K × V)) (at : ℕ) → IsStrictlySortedBy cmp (keys_of entries) → IsKeyAt cmp key entries at → place_of cmp key entries ≡ Ok at
+  lies_at entries at sorted is = hit entries sorted at (key_within entries at is) (key_at entries at is)
 
   miss : (entries : List (K × V)) (at : ℕ) → at ≤ length entries → ((j : ℕ) (d : K × V) → j < at → cmp (get_or entries j d).0 key ≡ Less)
       → ((j : ℕ) (d : K × V) → at ≤ j → j < length entries → cmp (get_or entries j d).0 key ≡ Greater) → place_of cmp key entries ≡ Err at

@@ -6,7 +6,7 @@ use Rattle.std.specs.List.Sorted.{IsStrictlySortedBy}
 use Rattle.std.specs.Map.{keys_of}
 use Rattle.std.specs.Ordering.{is_gt}
 use Rattle.std.specs.declared.cmp.Ordering.{Ordering}
-use Rattle.std.specs.declared.cmp.Ordering.TheVariants.{Less, Greater}
+use Rattle.std.specs.declared.cmp.Ordering.TheVariants.{Less, Equal, Greater}
 use Rattle.sorted_entries.specs.Places.{place_of}
 use Rattle.ordered_map.specs.declared.chunk.TheConstants.{CHUNK, HALF, QUARTER}
 use Rattle.ordered_map.specs.Entries.{Ordered}
@@ -104,6 +104,12 @@ shifted n (Err at) = Err (n + at)
 abbrev pub at_of : Result ℕ ℕ → ℕ
 at_of (Ok at) = at
 at_of (Err at) = at
+
+-- the key is that of the entry at this place
+abbrev pub IsKeyAt : {K V : Type 0} → (K → K → Ordering) → K → List (K × V) → ℕ → Type 0
+IsKeyAt cmp key [] at = ⊥
+IsKeyAt cmp key (entry ∷ entries) zero = cmp key entry.0 ≡ Equal
+IsKeyAt cmp key (entry ∷ entries) (suc at) = IsKeyAt cmp key entries at
 
 -- the key's chunk, its place there, and with that its place among all entries
 pub record IsLocated {K V : Type 0} (cmp : K → K → Ordering) (key : K) (chunks : List (List (K × V))) (chunk : ℕ) (at : Result ℕ ℕ) : Type 0 where

@@ -1,15 +1,16 @@
 // A run of entries that lie in one piece of memory.
-ghost use Rattle.std.specs.Prelude.{◌≡◌, ◌+◌, ◌<◌, ◌≤◌, ◌++◌, [], length, reverse, take, drop, slice_index_or, vec_len, vec_capacity, IfOk};
+ghost use Rattle.std.specs.Prelude.{◌≡◌, ◌+◌, ◌<◌, ◌≤◌, ◌++◌, [], length, reverse, true, take, drop, slice_index_or, vec_len, vec_capacity, IfOk};
 ghost use Rattle.std.specs.List.{insert, remove};
 ghost use Rattle.std.specs.List.Sorted.{IsStrictlySortedBy};
 ghost use Rattle.std.specs.Map.{keys_of};
 ghost use Rattle.std.specs.Option.{option_copied};
 ghost use Rattle.sorted_entries.specs.Places.{place_of};
-ghost use Rattle.ordered_map.specs.Chunks.{overwritten, ends_below, last_key, at_of};
+ghost use Rattle.ordered_map.specs.Chunks.{overwritten, ends_below, last_key, at_of, IsKeyAt};
 ghost use Rattle.ordered_map.specs.Entries.{first_from};
 
 use std::alloc::{AllocError, Global};
 use std::marker::Model;
+use std::mem;
 
 /// How many entries a chunk holds at most.
 pub(crate) const CHUNK: usize = 256;
@@ -24,7 +25,7 @@ pub(crate) const QUARTER: usize = 64;
 #[derive(Debug, Drop)]
 pub struct Chunk<K, V> {
     entries: Vec<(K, V)>,
-    // The last key: a search for a chunk reads it, and none of the entries.
+    // The last key: a search for a chunk reads it, and none of the entries. It stays where a value alone changes.
     last: Option<K>,
 }
 
@@ -122,11 +123,12 @@ fn last_key<K: Copy, V>(entries: &[(K, V)]) -> Option<K>
     }
 }
 
-// Puts another value in the place of one.
-fn overwrite<V: Drop>(kept: &mut V, value: V)
-    ensures { kept.new ≡ value }
+// Puts another value in the place of one, and answers that one.
+fn swap_in<V>(kept: &mut V, value: V) -> V
+    ensures before { result ≡ kept.old }
+    ensures after { kept.new ≡ value }
 {
-    *kept = value;
+    mem::replace(kept, value)
 }
 
 impl<K: Copy + Drop, V: Drop> Chunk<K, V> {
@@ -172,22 +174,24 @@ impl<K: Copy + Drop, V: Drop> Chunk<K, V> {
         self.last = last_key(&self.entries);
     }
 
-    /// Puts another value in the place of one.
-    pub(crate) fn write(&mut self, at: usize, value: V)
+    /// Puts another value in the place of one, and answers that one.
+    pub(crate) fn exchange(&mut self, at: usize, value: V) -> V
         requires { at < length self.old }
-        ensures { self.new ≡ overwritten self.old at value }
+        ensures entries { self.new ≡ overwritten self.old at value }
+        ensures before { (d : K × V) → result ≡ (slice_index_or self.old at d).1 }
     {
-        overwrite(&mut self.entries[at].1, value);
-        self.last = last_key(&self.entries);
+        swap_in(&mut self.entries[at].1, value)
     }
 
-    /// Takes the entry at a place out.
-    pub(crate) fn remove(&mut self, at: usize)
+    /// Takes the entry at a place out, and answers its value.
+    pub(crate) fn take(&mut self, at: usize) -> V
         requires { at < length self.old }
-        ensures { self.new ≡ remove self.old at }
+        ensures entries { self.new ≡ remove self.old at }
+        ensures value { (d : K × V) → result ≡ (slice_index_or self.old at d).1 }
     {
-        let _ = self.entries.remove(at);
+        let entry = self.entries.remove(at);
         self.last = last_key(&self.entries);
+        entry.1
     }
 
     /// Takes all entries out.
@@ -228,7 +232,6 @@ impl<K: Copy + Drop, V: Drop> Chunk<K, V> {
         ensures { (d : K × V) → self.new ≡ overwritten self.old at (E.edited edit.now (slice_index_or self.old at d).1) }
     {
         edit.edit(&mut self.entries[at].1);
-        self.last = last_key(&self.entries);
     }
 }
 
@@ -264,6 +267,18 @@ impl<K: Ord + Copy, V> Chunk<K, V> {
 }
 
 impl<K: Ord + Copy + Drop, V: Drop> Chunk<K, V> {
+    /// The key lies at this place.
+    pub(crate) fn has_at(&self, at: usize, key: &K) -> bool
+        ensures { result ≡ true → IsKeyAt K.cmp key.now self.now at }
+    {
+        let all = self.entries();
+        if at < all.len() {
+            key.cmp(&all[at].0).is_eq()
+        } else {
+            false
+        }
+    }
+
     /// The first entry whose key isn't below this one.
     pub(crate) fn first_from(&self, key: &K) -> Option<&(K, V)>
         requires { IsStrictlySortedBy K.cmp (keys_of self.now) }

@@ -115,14 +115,15 @@ impl<K: Copy + Drop, V: Drop> Chunks<K, V> {
         self.chunks[chunk].insert(at, key, value);
     }
 
-    /// Puts another value in the place of one.
-    pub(crate) fn write(&mut self, chunk: usize, at: usize, value: V)
+    /// Puts another value in the place of one, and answers that one.
+    pub(crate) fn exchange(&mut self, chunk: usize, at: usize, value: V) -> V
         requires inside { chunk < length self.old.chunks }
         requires place { at < length (chunk_at self.old.chunks chunk) }
         ensures chunks { self.new.chunks ≡ slice_set self.old.chunks chunk (overwritten (chunk_at self.old.chunks chunk) at value) }
         ensures blank { self.new.blank ≡ self.old.blank }
+        ensures before { (d : K × V) → result ≡ (slice_index_or (chunk_at self.old.chunks chunk) at d).1 }
     {
-        self.chunks[chunk].write(at, value);
+        self.chunks[chunk].exchange(at, value)
     }
 
     /// Changes a value where it lies.
@@ -135,14 +136,15 @@ impl<K: Copy + Drop, V: Drop> Chunks<K, V> {
         self.chunks[chunk].change(at, edit);
     }
 
-    /// Takes an entry out of a chunk that has others too.
-    pub(crate) fn remove(&mut self, chunk: usize, at: usize)
+    /// Takes an entry out of a chunk, which stays also where it has no others, and answers its value.
+    pub(crate) fn take(&mut self, chunk: usize, at: usize) -> V
         requires inside { chunk < length self.old.chunks }
         requires place { at < length (chunk_at self.old.chunks chunk) }
         ensures chunks { self.new.chunks ≡ slice_set self.old.chunks chunk (remove (chunk_at self.old.chunks chunk) at) }
         ensures blank { self.new.blank ≡ self.old.blank }
+        ensures value { (d : K × V) → result ≡ (slice_index_or (chunk_at self.old.chunks chunk) at d).1 }
     {
-        self.chunks[chunk].remove(at);
+        self.chunks[chunk].take(at)
     }
 
     /// A chunk goes, with all its entries, and is a blank one from now on.

@@ -9,4 +9,4 @@ mod chunks;
 mod map;
 
 pub use chunk::{Chunk, Edit};
-pub use map::OrderedMap;
+pub use map::{OrderedMap, Place};

@@ -1,10 +1,10 @@
 // The map.
-ghost use Rattle.std.specs.Prelude.{◌≡◌, ◌+◌, ◌-◌, ◌*◌, ◌<◌, ◌≤◌, ◌++◌, [], None, length, slice_index_or, slice_set, IfSome, IsOk, IsSome, OnOk, OnErr, true, false};
+ghost use Rattle.std.specs.Prelude.{◌≡◌, ◌+◌, ◌-◌, ◌*◌, ◌<◌, ◌≤◌, ◌++◌, [], None, Ok, length, slice_index_or, slice_set, IfSome, IsOk, IsSome, OnOk, OnErr, true, false};
 ghost use Rattle.std.specs.List.{insert, remove, slice_get};
 ghost use Rattle.std.specs.List.Sorted.{IsStrictlySortedBy, IsPartitionPoint};
 ghost use Rattle.std.specs.Map.{lookup, remove_entry, keys_of};
 ghost use Rattle.std.specs.BTreeMap.{insert_entry, is_at};
-ghost use Rattle.std.specs.Option.{option_copied};
+ghost use Rattle.std.specs.Option.{option_copied, option_map};
 ghost use Rattle.ordered_map.specs.Chunks.{AreFilled, joined, chunk_at, flat, ends_below, AreClose, IsCloseBut, capacity, IsChunkOf, IsLocated};
 ghost use Rattle.ordered_map.specs.Entries.{room_for, first_from};
 
@@ -18,6 +18,8 @@ use std::marker::Model;
 pub struct OrderedMap<K: Ord, V> {
     chunks: Chunks<K, V>,
     count: usize,
+    // Where the key of the last edit was found.
+    last: Option<Place>,
 }
 
 impl<K: Ord, V> Model for OrderedMap<K, V> {
@@ -40,9 +42,10 @@ struct Spot {
     at: Result<usize, usize>,
 }
 
-/// A place in a chunk.
-#[derive(Clone, Copy)]
-struct Place {
+/// A place in a map at which a key was found. Where a map of the same keys came about by the same edits, the key lies there too: a search
+/// that is given a place looks there first. What it answers doesn't depend on the place.
+#[derive(Clone, Copy, Debug)]
+pub struct Place {
     chunk: usize,
     at: usize,
 }
@@ -85,6 +88,57 @@ fn locate<K: Ord + Copy, V>(chunks: &[Chunk<K, V>], key: &K) -> Option<Spot>
     let chunk = chunk_of(chunks, key);
     let at = chunks[chunk].place(key);
     Some(Spot { chunk, at })
+}
+
+// The key lies at this place.
+fn is_there<K: Ord + Copy + Drop, V: Drop>(chunks: &[Chunk<K, V>], key: &K, place: Place) -> bool
+    requires ordered { IsStrictlySortedBy K.cmp (keys_of (joined chunks.now)) }
+    ensures { result ≡ true → IsLocated K.cmp key.now chunks.now place.chunk (Ok place.at) }
+{
+    let chunk = place.chunk;
+    if chunk < chunks.len() {
+        chunks[chunk].has_at(place.at, key)
+    } else {
+        false
+    }
+}
+
+// Where a key is or would go, looked for at a place first. `None` exactly where there are no chunks.
+fn locate_at<K: Ord + Copy + Drop, V: Drop>(
+    chunks: &[Chunk<K, V>],
+    key: &K,
+    place: Place,
+) -> Option<Spot>
+    requires filled { AreFilled chunks.now }
+    requires ordered { IsStrictlySortedBy K.cmp (keys_of (joined chunks.now)) }
+    ensures none { result ≡ None → chunks.now ≡ [] }
+    ensures some { IfSome result (λ spot. IsLocated K.cmp key.now chunks.now spot.chunk spot.at) }
+{
+    if is_there(chunks, key, place) {
+        Some(Spot {
+            chunk: place.chunk,
+            at: Ok(place.at),
+        })
+    } else {
+        locate(chunks, key)
+    }
+}
+
+// The same, where a place may be given.
+fn locate_near<K: Ord + Copy + Drop, V: Drop>(
+    chunks: &[Chunk<K, V>],
+    key: &K,
+    near: Option<Place>,
+) -> Option<Spot>
+    requires filled { AreFilled chunks.now }
+    requires ordered { IsStrictlySortedBy K.cmp (keys_of (joined chunks.now)) }
+    ensures none { result ≡ None → chunks.now ≡ [] }
+    ensures some { IfSome result (λ spot. IsLocated K.cmp key.now chunks.now spot.chunk spot.at) }
+{
+    match near {
+        Some(place) => locate_at(chunks, key, place),
+        None => locate(chunks, key),
+    }
 }
 
 // The entry at a place of a chunk.
@@ -241,8 +295,8 @@ fn blanks_for(count: usize, chunks: usize, n: usize) -> Option<usize>
     Some((most / QUARTER + 2).saturating_sub(chunks))
 }
 
-// Takes the entry at a place out.
-fn take_out<K: Copy + Drop, V: Drop>(chunks: &mut Chunks<K, V>, chunk: usize, at: usize)
+// Takes the entry at a place out, and answers its value.
+fn take_out<K: Copy + Drop, V: Drop>(chunks: &mut Chunks<K, V>, chunk: usize, at: usize) -> V
     requires inside { chunk < length chunks.old.chunks }
     requires place { at < length (chunk_at chunks.old.chunks chunk) }
     requires filled { AreFilled chunks.old.chunks }
@@ -251,13 +305,16 @@ fn take_out<K: Copy + Drop, V: Drop>(chunks: &mut Chunks<K, V>, chunk: usize, at
     ensures filled { AreFilled chunks.new.chunks }
     ensures close { AreClose chunks.new.chunks }
     ensures all { length chunks.new.chunks + chunks.new.blank ≡ length chunks.old.chunks + chunks.old.blank }
+    ensures value { (d : K × V) → result ≡ (slice_index_or (chunk_at chunks.old.chunks chunk) at d).1 }
 {
     let count = count_in(chunks, chunk);
+    let value = chunks.take(chunk, at);
     if count == 1 {
         chunks.discard(chunk);
+        value
     } else {
-        chunks.remove(chunk, at);
         settle(chunks, chunk);
+        value
     }
 }
 
@@ -270,6 +327,7 @@ impl<K: Ord + Copy + Drop, V: Drop> OrderedMap<K, V> {
         OrderedMap {
             chunks: Chunks::new(alloc),
             count: 0,
+            last: None,
         }
     }
 
@@ -293,12 +351,28 @@ impl<K: Ord + Copy + Drop, V: Drop> OrderedMap<K, V> {
     pub fn get(&self, key: &K) -> Option<&V>
         ensures { option_copied result ≡ lookup (is_at (K.cmp key.now)) self.now.entries }
     {
+        match self.find(key) {
+            Some(found) => Some(found.1),
+            None => None,
+        }
+    }
+
+    /// The value at a key, and the place where it lies. `None` exactly where there is no entry with the key.
+    pub fn find(&self, key: &K) -> Option<(Place, &V)>
+        ensures { option_map (λ found. found.1.now) result ≡ lookup (is_at (K.cmp key.now)) self.now.entries }
+    {
         let chunks = self.chunks.all();
         let spot = locate(chunks, key)?;
+        let chunk = spot.chunk;
         match spot.at {
-            Ok(at) => Some(&entry_of(chunks, spot.chunk, at).1),
+            Ok(at) => Some((Place { chunk, at }, &entry_of(chunks, chunk, at).1)),
             Err(_) => None,
         }
+    }
+
+    /// The place where the key of the last edit was found, but for `update`. `None` where it went in anew.
+    pub fn last_place(&self) -> Option<Place> {
+        self.last
     }
 
     /// The entry at a place, counted from 0 and ascending. `None` exactly where the place isn't below `count`. It takes time
@@ -353,6 +427,50 @@ impl<K: Ord + Copy + Drop, V: Drop> OrderedMap<K, V> {
         QUARTER * all.saturating_sub(1) - self.count
     }
 
+    /// Gives a key a value, and answers the one that it had. It has one already, or there is room. It takes no memory.
+    pub fn replace(&mut self, key: K, value: V) -> Option<V>
+        requires { room_for K.cmp self.old.entries key ≤ self.old.spare }
+        ensures before { result ≡ lookup (is_at (K.cmp key)) self.old.entries }
+        ensures entries { self.new.entries ≡ insert_entry K.cmp self.old.entries key value }
+        ensures spare { self.new.spare + room_for K.cmp self.old.entries key ≡ self.old.spare }
+        ensures all { self.new.spare + length self.new.entries ≡ self.old.spare + length self.old.entries }
+    {
+        self.replace_near(None, key, value)
+    }
+
+    /// The same, looking for the key at a place first.
+    pub fn replace_near(&mut self, near: Option<Place>, key: K, value: V) -> Option<V>
+        requires { room_for K.cmp self.old.entries key ≤ self.old.spare }
+        ensures before { result ≡ lookup (is_at (K.cmp key)) self.old.entries }
+        ensures entries { self.new.entries ≡ insert_entry K.cmp self.old.entries key value }
+        ensures spare { self.new.spare + room_for K.cmp self.old.entries key ≡ self.old.spare }
+        ensures all { self.new.spare + length self.new.entries ≡ self.old.spare + length self.old.entries }
+    {
+        match locate_near(self.chunks.all(), &key, near) {
+            Some(spot) => match spot.at {
+                Ok(at) => {
+                    self.last = Some(Place {
+                        chunk: spot.chunk,
+                        at,
+                    });
+                    Some(self.chunks.exchange(spot.chunk, at, value))
+                }
+                Err(at) => {
+                    put_in(&mut self.chunks, spot.chunk, at, key, value);
+                    self.count += 1;
+                    self.last = None;
+                    None
+                }
+            },
+            None => {
+                self.chunks.begin(key, value);
+                self.count += 1;
+                self.last = None;
+                None
+            }
+        }
+    }
+
     /// Gives a key a value. It has one already, or there is room. It takes no memory.
     pub fn put(&mut self, key: K, value: V)
         requires { room_for K.cmp self.old.entries key ≤ self.old.spare }
@@ -360,19 +478,7 @@ impl<K: Ord + Copy + Drop, V: Drop> OrderedMap<K, V> {
         ensures spare { self.new.spare + room_for K.cmp self.old.entries key ≡ self.old.spare }
         ensures all { self.new.spare + length self.new.entries ≡ self.old.spare + length self.old.entries }
     {
-        match locate(self.chunks.all(), &key) {
-            Some(spot) => match spot.at {
-                Ok(at) => self.chunks.write(spot.chunk, at, value),
-                Err(at) => {
-                    put_in(&mut self.chunks, spot.chunk, at, key, value);
-                    self.count += 1;
-                }
-            },
-            None => {
-                self.chunks.begin(key, value);
-                self.count += 1;
-            }
-        }
+        let _ = self.replace(key, value);
     }
 
     /// Changes the value of a key that has one. It takes no memory.
@@ -384,10 +490,50 @@ impl<K: Ord + Copy + Drop, V: Drop> OrderedMap<K, V> {
     {
         match locate(self.chunks.all(), key) {
             Some(spot) => match spot.at {
-                Ok(at) => self.chunks.change(spot.chunk, at, edit),
+                Ok(at) => {
+                    self.last = Some(Place {
+                        chunk: spot.chunk,
+                        at,
+                    });
+                    self.chunks.change(spot.chunk, at, edit);
+                }
                 Err(_) => unreachable!(),
             },
             None => unreachable!(),
+        }
+    }
+
+    /// The key has no value afterwards, and all others keep theirs. It answers the value that the key had, and takes no memory.
+    pub fn take(&mut self, key: &K) -> Option<V>
+        ensures before { result ≡ lookup (is_at (K.cmp key.now)) self.old.entries }
+        ensures entries { self.new.entries ≡ remove_entry (is_at (K.cmp key.now)) self.old.entries }
+        ensures spare { self.old.spare ≤ self.new.spare }
+        ensures all { self.new.spare + length self.new.entries ≡ self.old.spare + length self.old.entries }
+    {
+        self.take_near(None, key)
+    }
+
+    /// The same, looking for the key at a place first.
+    pub fn take_near(&mut self, near: Option<Place>, key: &K) -> Option<V>
+        ensures before { result ≡ lookup (is_at (K.cmp key.now)) self.old.entries }
+        ensures entries { self.new.entries ≡ remove_entry (is_at (K.cmp key.now)) self.old.entries }
+        ensures spare { self.old.spare ≤ self.new.spare }
+        ensures all { self.new.spare + length self.new.entries ≡ self.old.spare + length self.old.entries }
+    {
+        match locate_near(self.chunks.all(), key, near) {
+            Some(spot) => match spot.at {
+                Ok(at) => {
+                    self.last = Some(Place {
+                        chunk: spot.chunk,
+                        at,
+                    });
+                    let value = take_out(&mut self.chunks, spot.chunk, at);
+                    self.count -= 1;
+                    Some(value)
+                }
+                Err(_) => None,
+            },
+            None => None,
         }
     }
 
@@ -397,14 +543,29 @@ impl<K: Ord + Copy + Drop, V: Drop> OrderedMap<K, V> {
         ensures spare { self.old.spare ≤ self.new.spare }
         ensures all { self.new.spare + length self.new.entries ≡ self.old.spare + length self.old.entries }
     {
-        if let Some(spot) = locate(self.chunks.all(), key) {
-            match spot.at {
+        let _ = self.take(key);
+    }
+}
+
+impl<K: Ord + Copy + Drop, V: Copy + Drop> OrderedMap<K, V> {
+    /// Changes the value of a key, where it has one, and answers what that was. It looks for the key at a place first, and takes no memory.
+    pub fn update<E: Edit<V>>(&mut self, near: Option<Place>, key: &K, edit: &E) -> Option<V>
+        ensures before { result ≡ lookup (is_at (K.cmp key.now)) self.old.entries }
+        ensures entries { IfSome result (λ value. self.new.entries ≡ insert_entry K.cmp self.old.entries key.now (E.edited edit.now value)) }
+        ensures missing { result ≡ None → self.new.entries ≡ self.old.entries }
+        ensures spare { self.new.spare ≡ self.old.spare }
+        ensures count { length self.new.entries ≡ length self.old.entries }
+    {
+        match locate_near(self.chunks.all(), key, near) {
+            Some(spot) => match spot.at {
                 Ok(at) => {
-                    take_out(&mut self.chunks, spot.chunk, at);
-                    self.count -= 1;
+                    let value = entry_of(self.chunks.all(), spot.chunk, at).1;
+                    self.chunks.change(spot.chunk, at, edit);
+                    Some(value)
                 }
-                Err(_) => {}
-            }
+                Err(_) => None,
+            },
+            None => None,
         }
     }
 }

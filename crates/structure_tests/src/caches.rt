@@ -110,26 +110,29 @@ fn dirty_sectors_ascend(rt: HostRuntime) -> Result<(), Fail> {
     Ok(())
 }
 
+static DIRTY: [Mark; 2] = [
+    Mark {
+        sector: Sector(4),
+        mark: 260,
+    },
+    Mark {
+        sector: Sector(6),
+        mark: 257,
+    },
+];
+
+// How far the log stands, and which of the dirty ones goes.
+static GOING: [(u64, Option<Sector>); 4] = [
+    (256, None),
+    (257, Some(Sector(6))),
+    (259, Some(Sector(6))),
+    (260, Some(Sector(4))),
+];
+
 #[test]
 fn the_first_in_the_list_goes(rt: HostRuntime) {
-    let dirty = [
-        Mark {
-            sector: Sector(4),
-            mark: 260,
-        },
-        Mark {
-            sector: Sector(6),
-            mark: 257,
-        },
-    ];
-    let cases = [
-        (256, None),
-        (257, Some(Sector(6))),
-        (259, Some(Sector(6))),
-        (260, Some(Sector(4))),
-    ];
-    for (reached, goes) in cases {
-        assert!(rt; may_go(&dirty, reached) == goes, "reached {reached}");
+    for (reached, goes) in &GOING {
+        assert!(rt; may_go(&DIRTY, *reached) == *goes, "reached {reached}");
     }
     assert!(rt; may_go(&[], 300).is_none());
 }

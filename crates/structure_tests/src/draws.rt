@@ -1,7 +1,7 @@
 // Numbers that are drawn.
 
 /// A generator of numbers below 2^31; the same state gives the same numbers.
-#[derive(Debug, Drop)]
+#[derive(Drop)]
 pub(crate) struct Draws {
     state: u64,
 }

@@ -52,14 +52,17 @@ fn what_is_lost_or_fails_is_in_flight_no_more(rt: HostRuntime) -> Result<(), Fai
     assert!(rt; flight.get(Ticket(2)).map(|put| put.sector) == Some(Sector(7)));
     assert!(rt; flight.get(Ticket(1)).is_none());
     assert!(rt; flight.arrive(Ticket(2), 20, &mut out) == Arrived::Failed);
-    flight.lose(Ticket(0));
+    match flight.get(Ticket(0)) {
+        Some(_) => flight.lose(Ticket(0)),
+        None => {}
+    }
     assert!(rt; flight.count() == 0);
     assert!(rt; flight.at(0).is_none());
     Ok(())
 }
 
 // The writes in flight as one list that is gone through from its start.
-#[derive(Debug, Drop)]
+#[derive(Drop)]
 struct PlainFlight {
     writes: Vec<(Ticket, Put)>,
     next: u64,
@@ -131,7 +134,7 @@ fn put_once(put: &Put, out: &mut FaultyOutside) -> Arrived {
 }
 
 // A flight and the plain list of what is in flight, each with an outside of its own.
-#[derive(Debug, Drop)]
+#[derive(Drop)]
 struct Both {
     plain: PlainFlight,
     plain_out: FaultyOutside,
@@ -155,7 +158,7 @@ impl Both {
     fn new(alloc: Global) -> Result<Both, NoMemory> {
         Ok(Both {
             plain: PlainFlight {
-                writes: Vec::new(alloc),
+                writes: Vec::with_capacity(alloc, 64)?,
                 next: 0,
             },
             plain_out: failing(alloc)?,
@@ -172,7 +175,9 @@ impl Both {
             bytes: [byte; 512],
             ..write_of(sector)
         };
-        self.plain.issue(put) == self.flight.issue(put)
+        // What is refused for want of memory isn't in flight: the next comparison tells.
+        let answer = self.flight.issue(put);
+        answer == Err(IssueFault::NoMemory) || self.plain.issue(put) == answer
     }
 
     fn lose(&mut self, t: Ticket) -> bool {
@@ -188,10 +193,20 @@ impl Both {
     }
 
     fn arrive(&mut self, t: Ticket, now: u64) -> bool {
-        let plain = self.plain.arrive(t, now, &mut self.plain_out);
         match self.flight.get(t) {
-            Some(_) => plain == Some(self.flight.arrive(t, now, &mut self.out)),
-            None => plain.is_none(),
+            Some(_) => {
+                let answer = self.flight.arrive(t, now, &mut self.out);
+                answer == Arrived::NoMemory || self.arrive_plain(t, now) == Some(answer)
+            }
+            None => self.plain.place(t).is_none(),
+        }
+    }
+
+    // The plain write arrives, at the second try where its outside wanted memory.
+    fn arrive_plain(&mut self, t: Ticket, now: u64) -> Option<Arrived> {
+        match self.plain.arrive(t, now, &mut self.plain_out) {
+            Some(Arrived::NoMemory) => self.plain.arrive(t, now, &mut self.plain_out),
+            arrived => arrived,
         }
     }
 

@@ -10,6 +10,9 @@ use std::test::Fail;
 // So many sectors are cached at most.
 const SECTORS: u64 = 16;
 
+// The plain cache never wants memory: what is refused is refused by the other, which is then as it was.
+const ROOM: usize = 32;
+
 // Marks are below this.
 const MARKS: u64 = 8;
 
@@ -254,7 +257,7 @@ impl Both {
 fn the_cache_in_order_is_the_plain_one(rt: HostRuntime) -> Result<(), Fail> {
     let alloc = rt.alloc();
     let plain = PlainCache {
-        entries: Vec::new(alloc),
+        entries: Vec::with_capacity(alloc, ROOM)?,
     };
     let cache = Cache::new(alloc);
     let mut both = Both {
@@ -264,9 +267,10 @@ fn the_cache_in_order_is_the_plain_one(rt: HostRuntime) -> Result<(), Fail> {
     };
     let mut draws = Draws::of(1);
     for i in 0..10_000u32 {
-        assert!(rt; both.call(&mut draws)?, "call {i}");
+        let same = both.call(&mut draws);
+        assert!(rt; same != Ok(false), "call {i}");
         assert!(rt; both.go_alike(), "the dirty sectors after call {i}");
-        if i % 100 == 99 {
+        if i % 100 == 99 || same == Err(NoMemory) {
             assert!(rt; both.are_alike(), "the sectors after call {i}");
         }
     }

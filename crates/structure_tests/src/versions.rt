@@ -24,52 +24,56 @@ fn try_apply(block: &mut Block, change: &Change) -> Option<Applied> {
     }
 }
 
+// A change's version, what becomes of it, and the block's first bytes then.
+static CHANGES: [(u64, Applied, [u8; 12]); 5] = [
+    (514, Applied::Skipped, OLD),
+    (515, Applied::Skipped, OLD),
+    (
+        516,
+        Applied::Applied,
+        [4, 2, 0, 0, 0, 0, 0, 0, 80, 11, 100, 101],
+    ),
+    (
+        770,
+        Applied::Applied,
+        [2, 3, 0, 0, 0, 0, 0, 0, 80, 11, 100, 101],
+    ),
+    (
+        u64::MAX,
+        Applied::Applied,
+        [255, 255, 255, 255, 255, 255, 255, 255, 80, 11, 100, 101],
+    ),
+];
+
 #[test]
 fn changes_are_made_of_older_blocks_alone(rt: HostRuntime) -> Result<(), Fail> {
-    let cases = [
-        (514, Applied::Skipped, OLD),
-        (515, Applied::Skipped, OLD),
-        (
-            516,
-            Applied::Applied,
-            [4, 2, 0, 0, 0, 0, 0, 0, 80, 11, 100, 101],
-        ),
-        (
-            770,
-            Applied::Applied,
-            [2, 3, 0, 0, 0, 0, 0, 0, 80, 11, 100, 101],
-        ),
-        (
-            u64::MAX,
-            Applied::Applied,
-            [255, 255, 255, 255, 255, 255, 255, 255, 80, 11, 100, 101],
-        ),
-    ];
-    for (version, answer, bytes) in cases {
-        let change = change_to(rt.alloc(), version)?;
+    for (version, answer, bytes) in &CHANGES {
+        let change = change_to(rt.alloc(), *version)?;
         let mut block = block_of(OLD);
         assert!(rt;
-            try_apply(&mut block, &change) == Some(answer),
+            try_apply(&mut block, &change) == Some(*answer),
             "version {version}"
         );
-        assert!(rt; block == block_of(bytes), "version {version}");
+        assert!(rt; block == block_of(*bytes), "version {version}");
     }
     Ok(())
 }
 
+// A block's first bytes, and its version.
+static VERSIONS: [([u8; 12], u64); 4] = [
+    ([0, 0, 0, 0, 0, 0, 0, 0, 9, 9, 9, 9], 0),
+    (OLD, 515),
+    ([0, 0, 0, 0, 0, 0, 0, 1, 9, 9, 9, 9], 72_057_594_037_927_936),
+    (
+        [255, 255, 255, 255, 255, 255, 255, 255, 9, 9, 9, 9],
+        u64::MAX,
+    ),
+];
+
 #[test]
 fn versions_are_read_lowest_byte_first(rt: HostRuntime) {
-    let cases = [
-        ([0, 0, 0, 0, 0, 0, 0, 0, 9, 9, 9, 9], 0),
-        (OLD, 515),
-        ([0, 0, 0, 0, 0, 0, 0, 1, 9, 9, 9, 9], 72_057_594_037_927_936),
-        (
-            [255, 255, 255, 255, 255, 255, 255, 255, 9, 9, 9, 9],
-            u64::MAX,
-        ),
-    ];
-    for (bytes, version) in cases {
-        assert!(rt; version_of(&block_of(bytes)) == version);
+    for (bytes, version) in &VERSIONS {
+        assert!(rt; version_of(&block_of(*bytes)) == *version);
     }
 }
 
@@ -96,6 +100,9 @@ fn sector_at(sectors: &Sectors, i: usize) -> Option<u64> {
     Some(sector.0)
 }
 
+// A place, and the sector there.
+static PLACES: [(usize, Option<u64>); 4] = [(0, Some(4)), (1, Some(6)), (2, Some(9)), (3, None)];
+
 #[test]
 fn sectors_are_kept_in_order(rt: HostRuntime) -> Result<(), Fail> {
     let mut sectors = Sectors::new(rt.alloc());
@@ -103,9 +110,8 @@ fn sectors_are_kept_in_order(rt: HostRuntime) -> Result<(), Fail> {
     sectors.set(Sector(4), [4; 512])?;
     sectors.reserve(1)?;
     sectors.put(Sector(6), [6; 512]);
-    let places = [(0, Some(4)), (1, Some(6)), (2, Some(9)), (3, None)];
-    for (i, sector) in places {
-        assert!(rt; sector_at(&sectors, i) == sector, "place {i}");
+    for (i, sector) in &PLACES {
+        assert!(rt; sector_at(&sectors, *i) == *sector, "place {i}");
     }
     sectors.set(Sector(9), [8; 512])?;
     assert!(rt; sectors.get(Sector(9)) == Some(&[8; 512]));

@@ -1,11 +1,22 @@
 -- The mark alone is taken from a sector that is there.
-use Rattle.std.proofs.Common.{sym, ◌∙◌}
-use Rattle.clerk_cache.proofs.Edits.{marked_clean, nothing_there}
+use Rattle.std.proofs.Common.{sym, ap, ◌∙◌, subst, arith}
+use Rattle.sector_bytes.specs.SectorMaps.{adjusted}
 use Rattle.clerk_cache.specs.Changing.{clean}
+use Rattle.clerk_cache.specs.Kept.{joined, cleaned, AreAlike}
+use Rattle.clerk_cache.proofs.Joining.{alike-states, joined-states}
 use Rattle.clerk_cache.proofs.cache.Cache.mark_clean.Goals as goal
 
-pub returns-in-Some-clause-entries : goal.returns-in-Some-clause-entries
-returns-in-Some-clause-entries c = c.set_state.ensures.entries ∙ marked_clean c.args.self.now.entries c.args.sector.0 c.in-Some.state (sym c.in-Some.ensures)
+pub invariant_of-self : goal.invariant_of-self
+invariant_of-self c = record {
+  alike = subst (AreAlike c.self.inside.sectors.entries) (sym c.clean.ensures.entries) (alike-states cleaned c.self.inside.sectors.entries c.self.inside.states.entries c.args.sector.0 c.self.invariant.alike);
+  ordered = c.self.invariant.ordered;
+}
 
-pub returns-in_default-clause-entries : goal.returns-in_default-clause-entries
-returns-in_default-clause-entries c = nothing_there (λ cached. clean cached.block cached.cover) c.args.self.now.entries c.args.sector.0 (sym c.in_default.ensures)
+pub returns-clause-entries : goal.returns-clause-entries
+returns-clause-entries c =
+    ap (joined c.self.inside.sectors.entries) c.clean.ensures.entries
+    ∙ joined-states cleaned c.self.inside.sectors.entries c.self.inside.states.entries c.args.sector.0 c.self.invariant.alike
+    ∙ ap (λ cache. adjusted (λ cached. clean cached.block cached.cover) cache.entries c.args.sector.0) c.self.view_is
+
+pub returns-clause-spare : goal.returns-clause-spare
+returns-clause-spare c = omega (arith, c.clean.ensures.spare, ap (λ cache. cache.spare) c.self.view_is)

@@ -4,4 +4,4 @@ use Rattle.lock_table.specs.Kept.{asked_lists}
 use Rattle.lock_table.proofs.claims.Claims.asked.Goals as goal
 
 pub returns : goal.returns
-returns c = c.asked.ensures ∙ ap (λ lists. get_or lists c.args.server.0 []) c.self.invariant.asked ∙ ap (λ kept. get_or (asked_lists kept.entries) c.args.server.0 []) c.self.view_is
+returns c = c.pieces.ensures ∙ ap (λ lists. get_or lists c.args.server.0 []) c.self.invariant.asked ∙ ap (λ kept. get_or (asked_lists kept.entries) c.args.server.0 []) c.self.view_is

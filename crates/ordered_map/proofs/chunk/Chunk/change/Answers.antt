@@ -1,9 +1,18 @@
--- What is made of the value at a place is the value there.
+-- What is made of the value at a place is the value there, and the last key stays.
 use Rattle.std.proofs.Common.{ap, ◌∙◌, subst, length, ◌<◌, get_or, ◌≡◌, sym}
 use Rattle.std.proofs.lemmas.List.{get_or_read}
-use Rattle.ordered_map.specs.Chunks.{overwritten}
-use Rattle.ordered_map.proofs.Spots.{overwrites}
+use Rattle.ordered_map.specs.Chunks.{overwritten, last_key}
+use Rattle.ordered_map.proofs.Spots.{overwrites, last-overwritten}
 use Rattle.ordered_map.proofs.chunk.Chunk.change.Goals as goal
+
+pub invariant_of-self : goal.invariant_of-self
+invariant_of-self g c =
+    let entries = c.self.inside.entries.items in
+    let inside : c.args.at < length entries = subst (λ es. c.args.at < length es) (sym c.self.view_is) c.requires in record {
+      room = c.self.invariant.room;
+      key = c.self.invariant.key
+          ∙ sym (ap last_key (overwrites entries c.args.at c.index_mut.result.now c.edit.new.value inside c.index_mut.ensures.value) ∙ last-overwritten entries c.args.at c.edit.new.value);
+    }
 
 pub returns : goal.returns
 returns g c d =
