@@ -1,7 +1,7 @@
 #!/usr/bin/env bash
 # Times images. First one of 100,000 sectors: seconds to make the disk, to write its image and to read it, by a program of its own, built in a copy of the
-# crates. Then one of 725,057 sectors, which is the longest that a disk has: each command on images by the built program, beside reading the file and
-# copying it once in memory. Each with the greatest memory in kilobytes. Not part of the gate.
+# crates. Then one of 725,057 sectors, which is the longest that a disk has: each command on images by the built program, in turn with a program in C that
+# reads the file and copies it once in memory. Each with the greatest memory. Not part of the gate.
 set -eu
 top=$(cd "$(dirname "$0")/.." && pwd)
 work=$(mktemp -d)
@@ -129,25 +129,74 @@ with open(sys.argv[1], "wb") as out:
     for number, block in sectors():
         out.write(struct.pack("<Q", number) + block)
 END
-cat >"$work/copy_once.py" <<'END'
-# The seconds of reading a file and copying it once in memory.
+cat >"$work/copy_once.c" <<'END'
+// Reads a file and copies it once in memory.
+#include <fcntl.h>
+#include <stdlib.h>
+#include <string.h>
+#include <sys/stat.h>
+#include <unistd.h>
+
+int main(int count, char **words) {
+  struct stat about;
+  int file = count == 2 ? open(words[1], O_RDONLY) : -1;
+  if (file < 0 || fstat(file, &about) != 0) return 1;
+  size_t size = (size_t)about.st_size, had = 0;
+  char *bytes = malloc(size), *copy = malloc(size);
+  if (bytes == NULL || copy == NULL) return 1;
+  while (had < size) {
+    ssize_t more = read(file, bytes + had, size - had);
+    if (more <= 0) return 1;
+    had += (size_t)more;
+  }
+  memcpy(copy, bytes, size);
+  return memcmp(copy + size / 2, bytes + size / 2, 8) != 0;
+}
+END
+cat >"$work/turn_about.py" <<'END'
+# Runs commands in turn, five times each, and prints of each the least seconds and the greatest memory, also as multiples of the first command's
+# seconds and of the file's bytes.
+import os
+import subprocess
 import sys
 import time
 
-begun = time.perf_counter()
-with open(sys.argv[1], "rb", buffering=0) as file:
-    read = file.read()
-copy = bytearray(read)
-print(f"{time.perf_counter() - begun:.2f} s, {len(copy)} bytes")
+program, once, image, new = sys.argv[1:]
+size = os.path.getsize(image)
+commands = {
+    "read and copied once": [once, image],
+    "fsck": [program, "fsck", image],
+    "fsck on one processor": ["taskset", "-c", "0", program, "fsck", image],
+    "tree": [program, "tree", image],
+    "recover": [program, "recover", image],
+    "recover with a save": [program, "recover", image, "--save", new],
+    "log": [program, "log", image, "0"],
+}
+
+
+def run(words):
+    begun = time.perf_counter()
+    child = subprocess.Popen(words, stdout=subprocess.PIPE)
+    said = child.stdout.read().splitlines()
+    _, status, used = os.wait4(child.pid, 0)
+    assert status == 0, (words, status)
+    return time.perf_counter() - begun, used.ru_maxrss * 1024, used.ru_utime, used.ru_stime, said[-1:]
+
+
+runs = {name: [] for name in commands}
+for _ in range(5):
+    for name, words in commands.items():
+        runs[name].append(run(words))
+least = min(runs["read and copied once"])[0]
+for name in commands:
+    seconds, _, user, system, said = min(runs[name])
+    memory = max(one[1] for one in runs[name])
+    times = " ".join(f"{one[0]:.2f}" for one in runs[name])
+    print(f"{name}: {seconds:.2f} s, {seconds / least:.2f} times (user {user:.2f}, system {system:.2f}); {memory / 1e6:.0f} MB, {memory / size:.2f} times; all: {times}")
+    for line in said:
+        print("   ", line.decode()[:160])
 END
+cc -O2 -o "$work/copy_once" "$work/copy_once.c"
 "$top/frang" build
 python3 -I "$work/full_image.py" "$work/full.image"
-program=$top/crates/frang_cli/out/frang_cli
-echo "read and copied once:"
-for _ in 1 2 3; do python3 -I "$work/copy_once.py" "$work/full.image"; done
-for words in "fsck $work/full.image" "tree $work/full.image" "recover $work/full.image" "recover $work/full.image --save $work/new.image" "log $work/full.image 0"; do
-  echo "${words%% *}$([ "${words%--save*}" = "$words" ] || echo ' with a save'):"
-  # shellcheck disable=SC2086
-  for _ in 1 2 3; do /usr/bin/env time -f '%e s, of which user %U and system %S, %M KB' "$program" $words >"$work/said"; done
-  tail -n 1 "$work/said" | cut -c1-160
-done
+python3 -I "$work/turn_about.py" "$top/crates/frang_cli/out/frang_cli" "$work/copy_once" "$work/full.image" "$work/new.image"

@@ -10,3 +10,5 @@ pub mod Tested
 pub mod Assembled
 pub mod Treed
 pub mod SectorFits
+pub mod NodeLines
+pub mod KeptSectors

@@ -1,5 +1,7 @@
 pub mod Seen
 pub mod Fits
+pub mod Kept
+pub mod Lined
 pub mod Marks
 pub mod Files
 pub mod Names

@@ -6,7 +6,7 @@ ghost use Rattle.standing_laws.specs.ReadTree.{byte_at, cells_to};
 ghost use Rattle.disk_reading.specs.Files as files;
 ghost use Rattle.disk_reading.specs.Seen.{store_in};
 
-use disk_definitions::Disk;
+use crate::decoded_disk::DecodedDisk;
 use frang_base::limits::{
     LARGE_BLOCK_SECTORS, SECTOR_BYTES, SEGMENTS_MAX, SMALL_BLOCK_SECTORS, SMALL_SECTORS_MAX,
 };
@@ -39,7 +39,7 @@ fn data_sector(inode: &Inode, part: u32) -> Sector
 // Adds the bytes of a sector of a file, up to its size.
 fn add_sector(
     cells: &mut Cells,
-    disk: &Disk,
+    disk: &DecodedDisk<'_>,
     segments: u32,
     inode: &Inode,
     part: u32,
@@ -60,7 +60,7 @@ fn add_sector(
 /// The bytes of a file.
 pub(crate) fn read_cells(
     alloc: Global,
-    disk: &Disk,
+    disk: &DecodedDisk<'_>,
     segments: u32,
     inode: &Inode,
 ) -> Result<Cells, NoMemory>

@@ -5,16 +5,16 @@ ghost use Rattle.standing_laws.specs.Below.{all_below};
 ghost use Rattle.disk_reading.specs.Seen.{store_in, use_of_state};
 ghost use Rattle.disk_reading.specs.Fits as fits;
 
+use crate::decoded_disk::DecodedDisk;
 use crate::sectors::use_of;
 use bitmap_block::BlockState;
 use byteorder::{ByteOrder, LittleEndian};
-use disk_definitions::Disk;
 use frang_base::limits::{SEGMENT_BLOCKS, SEGMENT_INODES, SEGMENTS_MAX, SMALL_BLOCK_SECTORS};
 use frang_layout::{Region, sector_of};
 
 /// Whether a segment of the bitmap is in its grammar, with a version up to `most`.
 #[tactic(auto, unfolding(crate::specs::Fits::segment_fits))]
-pub fn segment_fits(disk: &Disk, most: u64, k: u32) -> bool
+pub fn segment_fits(disk: &DecodedDisk<'_>, most: u64, k: u32) -> bool
     ensures { result ≡ fits.segment_fits most (sectors_of disk.now) k }
 {
     let block = disk.get(sector_of(&Region::Segment(k)));
@@ -23,7 +23,7 @@ pub fn segment_fits(disk: &Disk, most: u64, k: u32) -> bool
 
 /// Whether an inode is in its grammar, with a version up to `most`.
 #[tactic(auto, unfolding(crate::specs::Fits::inode_fits))]
-pub fn inode_fits(disk: &Disk, most: u64, i: u32) -> bool
+pub fn inode_fits(disk: &DecodedDisk<'_>, most: u64, i: u32) -> bool
     ensures { result ≡ fits.inode_fits most (sectors_of disk.now) i }
 {
     let block = disk.get(sector_of(&Region::Inode(i)));
@@ -31,7 +31,7 @@ pub fn inode_fits(disk: &Disk, most: u64, i: u32) -> bool
 }
 
 #[tactic(auto, unfolding(crate::specs::Fits::part_fits))]
-fn part_fits(disk: &Disk, most: u64, block: u32, part: u8) -> bool
+fn part_fits(disk: &DecodedDisk<'_>, most: u64, block: u32, part: u8) -> bool
     ensures { result ≡ fits.part_fits most (sectors_of disk.now) block part }
 {
     let bytes = disk.get(sector_of(&Region::Small { block, part }));
@@ -40,7 +40,7 @@ fn part_fits(disk: &Disk, most: u64, block: u32, part: u8) -> bool
 
 /// Whether the parts of a block are sectors of a directory, with versions up to `most`.
 #[tactic(auto, using(standing_laws::proofs::Bounded::all_more))]
-pub fn parts_fit(disk: &Disk, most: u64, block: u32) -> bool
+pub fn parts_fit(disk: &DecodedDisk<'_>, most: u64, block: u32) -> bool
     ensures { result ≡ all_below SMALL_BLOCK_SECTORS (fits.part_fits most (sectors_of disk.now) block) }
 {
     let mut all = true;
@@ -50,7 +50,7 @@ pub fn parts_fit(disk: &Disk, most: u64, block: u32) -> bool
     all
 }
 
-fn block_fits(disk: &Disk, most: u64, state: BlockState, block: u32) -> bool
+fn block_fits(disk: &DecodedDisk<'_>, most: u64, state: BlockState, block: u32) -> bool
     ensures { result ≡ fits.block_fits most (sectors_of disk.now) (use_of_state state) block }
 {
     match state {
@@ -62,7 +62,7 @@ fn block_fits(disk: &Disk, most: u64, state: BlockState, block: u32) -> bool
 }
 
 #[tactic(auto, using(standing_laws::proofs::Bounded::all_more))]
-fn segments_fit(disk: &Disk, most: u64, segments: u32) -> bool
+fn segments_fit(disk: &DecodedDisk<'_>, most: u64, segments: u32) -> bool
     requires { segments ≤ SEGMENTS_MAX }
     ensures { result ≡ all_below segments (fits.segment_fits most (sectors_of disk.now)) }
 {
@@ -74,7 +74,7 @@ fn segments_fit(disk: &Disk, most: u64, segments: u32) -> bool
 }
 
 #[tactic(auto, using(standing_laws::proofs::Bounded::all_more))]
-fn inodes_fit(disk: &Disk, most: u64, segments: u32) -> bool
+fn inodes_fit(disk: &DecodedDisk<'_>, most: u64, segments: u32) -> bool
     requires { segments ≤ SEGMENTS_MAX }
     ensures { result ≡ all_below (SEGMENT_INODES * segments) (fits.inode_fits most (sectors_of disk.now)) }
 {
@@ -86,7 +86,7 @@ fn inodes_fit(disk: &Disk, most: u64, segments: u32) -> bool
 }
 
 #[tactic(auto, using(standing_laws::proofs::Bounded::all_more))]
-fn blocks_fit(disk: &Disk, most: u64, segments: u32) -> bool
+fn blocks_fit(disk: &DecodedDisk<'_>, most: u64, segments: u32) -> bool
     requires { segments ≤ SEGMENTS_MAX }
     ensures { result ≡ all_below (SEGMENT_BLOCKS * segments) (λ k. fits.block_fits most (sectors_of disk.now) ((store_in segments disk.now).use_of k) k) }
 {
@@ -99,7 +99,7 @@ fn blocks_fit(disk: &Disk, most: u64, segments: u32) -> bool
 
 /// Whether every segment, every inode, and every sector of a block that is or was a directory's is in its grammar, with a version up
 /// to `most`.
-pub(crate) fn sectors_fit(disk: &Disk, most: u64, segments: u32) -> bool
+pub(crate) fn sectors_fit(disk: &DecodedDisk<'_>, most: u64, segments: u32) -> bool
     requires { segments ≤ SEGMENTS_MAX }
     ensures { result ≡ fits.sectors_fit most segments (store_in segments disk.now) (sectors_of disk.now) }
 {

@@ -7,16 +7,16 @@ ghost use Rattle.sector_bytes.specs.Sectors.{sectors_of};
 ghost use Rattle.disk_reading.specs.Seen.{store_in, use_of_state};
 ghost use Rattle.disk_reading.specs.Tests as tests;
 
+use crate::decoded_disk::DecodedDisk;
 use crate::grammar::sectors_fit;
 use crate::sectors::{bit_of, entry_at, has_kind, large_bit, use_of, used_inode};
 use bitmap_block::BlockState;
-use disk_definitions::Disk;
 use frang_base::limits::{
     BLOCK_ENTRIES, INODE_BLOCKS_MAX, KIND_DIRECTORY, ROOT_INODE, SEGMENT_BLOCKS, SEGMENT_INODES,
     SEGMENTS_MAX,
 };
 
-fn bit_agrees(disk: &Disk, segments: u32, i: u32) -> bool
+fn bit_agrees(disk: &DecodedDisk<'_>, segments: u32, i: u32) -> bool
     requires { segments ≤ SEGMENTS_MAX }
     ensures { result ≡ sound.bit_agrees (store_in segments disk.now) i }
 {
@@ -29,7 +29,7 @@ fn bit_agrees(disk: &Disk, segments: u32, i: u32) -> bool
 }
 
 /// The small block at an index of an inode, where it has one there.
-pub fn block_at(disk: &Disk, segments: u32, t: u32) -> Option<u32>
+pub fn block_at(disk: &DecodedDisk<'_>, segments: u32, t: u32) -> Option<u32>
     requires { segments ≤ SEGMENTS_MAX }
     ensures { result ≡ sound.block_at (store_in segments disk.now) t }
 {
@@ -43,7 +43,7 @@ pub fn block_at(disk: &Disk, segments: u32, t: u32) -> Option<u32>
 }
 
 /// The large block of an inode, where it has one.
-pub fn large_at(disk: &Disk, segments: u32, i: u32) -> Option<u32>
+pub fn large_at(disk: &DecodedDisk<'_>, segments: u32, i: u32) -> Option<u32>
     requires { segments ≤ SEGMENTS_MAX }
     ensures { result ≡ sound.large_at (store_in segments disk.now) i }
 {
@@ -67,7 +67,7 @@ pub fn is_used_for(kind: u8, state: BlockState) -> bool
     }
 }
 
-fn use_agrees(disk: &Disk, segments: u32, t: u32) -> bool
+fn use_agrees(disk: &DecodedDisk<'_>, segments: u32, t: u32) -> bool
     requires { segments ≤ SEGMENTS_MAX }
     ensures { result ≡ sound.use_agrees (store_in segments disk.now) ((store_in segments disk.now).inode (t / INODE_BLOCKS_MAX)) (t % INODE_BLOCKS_MAX) }
 {
@@ -96,7 +96,7 @@ pub fn is_unused(state: BlockState) -> bool
 
 /// Whether no place of a small block has an entry.
 #[tactic(auto, using(standing_laws::proofs::Bounded::all_more))]
-pub fn has_no_entries(disk: &Disk, segments: u32, block: u32) -> bool
+pub fn has_no_entries(disk: &DecodedDisk<'_>, segments: u32, block: u32) -> bool
     requires { segments ≤ SEGMENTS_MAX }
     ensures { result ≡ all_below BLOCK_ENTRIES (λ p. not (is_some ((store_in segments disk.now).place block p))) }
 {
@@ -107,7 +107,7 @@ pub fn has_no_entries(disk: &Disk, segments: u32, block: u32) -> bool
     all
 }
 
-fn is_cleared(disk: &Disk, segments: u32, block: u32, state: BlockState) -> bool
+fn is_cleared(disk: &DecodedDisk<'_>, segments: u32, block: u32, state: BlockState) -> bool
     requires { segments ≤ SEGMENTS_MAX }
     ensures { result ≡ sound.is_cleared (store_in segments disk.now) block (use_of_state state) }
 {
@@ -119,7 +119,7 @@ fn is_cleared(disk: &Disk, segments: u32, block: u32, state: BlockState) -> bool
     }
 }
 
-fn is_marked(disk: &Disk, segments: u32, g: Option<u32>) -> bool
+fn is_marked(disk: &DecodedDisk<'_>, segments: u32, g: Option<u32>) -> bool
     requires { segments ≤ SEGMENTS_MAX }
     ensures { result ≡ sound.is_marked (store_in segments disk.now) g }
 {
@@ -130,7 +130,7 @@ fn is_marked(disk: &Disk, segments: u32, g: Option<u32>) -> bool
 }
 
 #[tactic(auto, using(standing_laws::proofs::Bounded::all_more))]
-fn bits_agree(disk: &Disk, segments: u32) -> bool
+fn bits_agree(disk: &DecodedDisk<'_>, segments: u32) -> bool
     requires { segments ≤ SEGMENTS_MAX }
     ensures { result ≡ all_below (SEGMENT_INODES * segments) (sound.bit_agrees (store_in segments disk.now)) }
 {
@@ -142,7 +142,7 @@ fn bits_agree(disk: &Disk, segments: u32) -> bool
 }
 
 #[tactic(auto, using(standing_laws::proofs::Bounded::all_more))]
-fn uses_agree(disk: &Disk, segments: u32) -> bool
+fn uses_agree(disk: &DecodedDisk<'_>, segments: u32) -> bool
     requires { segments ≤ SEGMENTS_MAX }
     ensures { result ≡ all_below (SEGMENT_BLOCKS * segments) (λ t. sound.use_agrees (store_in segments disk.now) ((store_in segments disk.now).inode (t / INODE_BLOCKS_MAX)) (t % INODE_BLOCKS_MAX)) }
 {
@@ -154,7 +154,7 @@ fn uses_agree(disk: &Disk, segments: u32) -> bool
 }
 
 #[tactic(auto, using(standing_laws::proofs::Bounded::all_more))]
-fn blocks_cleared(disk: &Disk, segments: u32) -> bool
+fn blocks_cleared(disk: &DecodedDisk<'_>, segments: u32) -> bool
     requires { segments ≤ SEGMENTS_MAX }
     ensures { result ≡ all_below (SEGMENT_BLOCKS * segments) (λ k. sound.is_cleared (store_in segments disk.now) k ((store_in segments disk.now).use_of k)) }
 {
@@ -166,7 +166,7 @@ fn blocks_cleared(disk: &Disk, segments: u32) -> bool
 }
 
 #[tactic(auto, using(standing_laws::proofs::Bounded::all_more))]
-fn larges_marked(disk: &Disk, segments: u32) -> bool
+fn larges_marked(disk: &DecodedDisk<'_>, segments: u32) -> bool
     requires { segments ≤ SEGMENTS_MAX }
     ensures { result ≡ all_below (SEGMENT_INODES * segments) (λ i. sound.is_marked (store_in segments disk.now) (sound.large_at (store_in segments disk.now) i)) }
 {
@@ -178,7 +178,7 @@ fn larges_marked(disk: &Disk, segments: u32) -> bool
 }
 
 /// Whether the sectors are in their grammar, with versions up to `most`, and the bitmaps agree with the inodes.
-pub(crate) fn marks_agree(disk: &Disk, most: u64, segments: u32) -> bool
+pub(crate) fn marks_agree(disk: &DecodedDisk<'_>, most: u64, segments: u32) -> bool
     requires { segments ≤ SEGMENTS_MAX }
     ensures { result ≡ tests.marks_agree most segments (store_in segments disk.now) (sectors_of disk.now) }
 {

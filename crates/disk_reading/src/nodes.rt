@@ -11,9 +11,9 @@ ghost use Rattle.standing_laws.specs.Soundness as sound;
 ghost use Rattle.disk_reading.specs.Files.{AreRead, IsNode};
 ghost use Rattle.disk_reading.specs.Seen.{store_in};
 
+use crate::decoded_disk::DecodedDisk;
 use crate::files::read_cells;
 use crate::sectors::{entry_at, has_kind, used_inode};
-use disk_definitions::Disk;
 use frang_base::limits::{
     BLOCK_ENTRIES, DIRECTORY_ENTRIES_MAX, INODE_BLOCKS_MAX, KIND_DIRECTORY, KIND_FILE, KIND_FREE,
     NAME_BYTES_MAX, SEGMENT_INODES, SEGMENTS_MAX, TARGET_BYTES_MAX,
@@ -25,7 +25,12 @@ use std::collections::BTreeMap;
 use tree_definitions::{Entries, Node, Target};
 
 // The name of an entry, where it is a new one and the entry names an inode in use of its kind.
-fn agreed_name(disk: &Disk, segments: u32, entries: &Entries, entry: &DirEntry) -> Option<Name>
+fn agreed_name(
+    disk: &DecodedDisk<'_>,
+    segments: u32,
+    entries: &Entries,
+    entry: &DirEntry,
+) -> Option<Name>
     requires few { segments ≤ SEGMENTS_MAX }
     requires name { is_name (name_in entry.now) ≡ true }
     requires len { entry.now.len ≤ NAME_BYTES_MAX }
@@ -43,7 +48,7 @@ fn agreed_name(disk: &Disk, segments: u32, entries: &Entries, entry: &DirEntry) 
 // Adds the entry of a place, where there is one. False where it doesn't agree with those before it, or with the inode that it names.
 fn add_place(
     entries: &mut Entries,
-    disk: &Disk,
+    disk: &DecodedDisk<'_>,
     segments: u32,
     place: Option<DirEntry>,
 ) -> Result<bool, NoMemory>
@@ -61,11 +66,11 @@ fn add_place(
     Ok(true)
 }
 
-// The entries of a directory, in order of block, sector and place. `None` exactly where they don't agree with each other and with the
-// inodes that they name.
-fn read_entries(
+/// The entries of a directory, in order of block, sector and place. `None` exactly where they don't agree with each other and with the
+/// inodes that they name.
+pub(crate) fn read_entries(
     alloc: Global,
-    disk: &Disk,
+    disk: &DecodedDisk<'_>,
     segments: u32,
     inode: &Inode,
 ) -> Result<Option<Entries>, NoMemory>
@@ -87,7 +92,7 @@ fn read_entries(
 // A directory. `None` exactly where its entries don't agree, or aren't as many as its size says.
 fn read_directory(
     alloc: Global,
-    disk: &Disk,
+    disk: &DecodedDisk<'_>,
     segments: u32,
     inode: &Inode,
 ) -> Result<Option<Node>, NoMemory>
@@ -121,7 +126,7 @@ fn read_target(alloc: Global, inode: &Inode) -> Result<Target, NoMemory>
 // The node of an inode in use. `None` exactly where what it holds doesn't agree with the inode.
 fn read_node(
     alloc: Global,
-    disk: &Disk,
+    disk: &DecodedDisk<'_>,
     segments: u32,
     inode: &Inode,
 ) -> Result<Option<Node>, NoMemory>
@@ -148,7 +153,7 @@ fn read_node(
 fn add_inode(
     nodes: &mut BTreeMap<u64, Node>,
     alloc: Global,
-    disk: &Disk,
+    disk: &DecodedDisk<'_>,
     segments: u32,
     i: u32,
 ) -> Result<bool, NoMemory>
@@ -171,7 +176,7 @@ fn add_inode(
 pub(crate) fn add_nodes(
     nodes: &mut BTreeMap<u64, Node>,
     alloc: Global,
-    disk: &Disk,
+    disk: &DecodedDisk<'_>,
     segments: u32,
 ) -> Result<bool, NoMemory>
     requires few { segments ≤ SEGMENTS_MAX }

@@ -6,9 +6,9 @@ ghost use Rattle.standing_laws.specs.Soundness as sound;
 ghost use Rattle.disk_reading.specs.Marks.{flag_at, has_flag, flagged, AreFlags, IsBelow};
 ghost use Rattle.disk_reading.specs.Seen.{store_in};
 
+use crate::decoded_disk::DecodedDisk;
 use crate::marks::{block_at, is_unused, large_at};
 use crate::sectors::{large_bit, use_of};
-use disk_definitions::Disk;
 use frang_base::NoMemory;
 use frang_base::limits::{SEGMENT_BLOCKS, SEGMENT_INODES, SEGMENTS_MAX};
 use std::alloc::Global;
@@ -31,7 +31,7 @@ fn flag(flags: &mut [bool], number: Option<u32>) -> bool
 
 // Flags the small blocks of all inodes. False where one is met that has its flag.
 #[tactic(auto, using(crate::proofs::Flags::flags_more))]
-fn flag_blocks(disk: &Disk, segments: u32, flags: &mut [bool]) -> bool
+fn flag_blocks(disk: &DecodedDisk<'_>, segments: u32, flags: &mut [bool]) -> bool
     requires few { segments ≤ SEGMENTS_MAX }
     requires none { flags.old ≡ replicate (SEGMENT_BLOCKS * segments) false }
     requires below { (t : ℕ) → t < SEGMENT_BLOCKS * segments → IsBelow (SEGMENT_BLOCKS * segments) (sound.block_at (store_in segments disk.now) t) }
@@ -49,7 +49,7 @@ fn flag_blocks(disk: &Disk, segments: u32, flags: &mut [bool]) -> bool
 
 // Whether each block without a flag is unused.
 #[tactic(auto, using(standing_laws::proofs::Bounded::all_more))]
-fn others_unused(disk: &Disk, segments: u32, flags: &[bool]) -> bool
+fn others_unused(disk: &DecodedDisk<'_>, segments: u32, flags: &[bool]) -> bool
     requires few { segments ≤ SEGMENTS_MAX }
     requires length { length flags.now ≡ SEGMENT_BLOCKS * segments }
     ensures { result ≡ all_below (SEGMENT_BLOCKS * segments) (λ k. flag_at flags.now k || store.is_unused ((store_in segments disk.now).use_of k)) }
@@ -63,7 +63,11 @@ fn others_unused(disk: &Disk, segments: u32, flags: &[bool]) -> bool
 }
 
 /// Whether no small block is listed twice by inodes, and every block that isn't listed is unused.
-pub(crate) fn blocks_agree(alloc: Global, disk: &Disk, segments: u32) -> Result<bool, NoMemory>
+pub(crate) fn blocks_agree(
+    alloc: Global,
+    disk: &DecodedDisk<'_>,
+    segments: u32,
+) -> Result<bool, NoMemory>
     requires few { segments ≤ SEGMENTS_MAX }
     requires below { (t : ℕ) → t < SEGMENT_BLOCKS * segments → IsBelow (SEGMENT_BLOCKS * segments) (sound.block_at (store_in segments disk.now) t) }
     ensures { IfOk result (λ b. b ≡ (are_distinct (sound.block_at (store_in segments disk.now)) (SEGMENT_BLOCKS * segments) && all_below (SEGMENT_BLOCKS * segments) (λ k. lists (sound.block_at (store_in segments disk.now)) (SEGMENT_BLOCKS * segments) k || store.is_unused ((store_in segments disk.now).use_of k)))) }
@@ -77,7 +81,7 @@ pub(crate) fn blocks_agree(alloc: Global, disk: &Disk, segments: u32) -> Result<
 
 // Flags the large blocks of all inodes. False where one is met that has its flag.
 #[tactic(auto, using(crate::proofs::Flags::flags_more))]
-fn flag_larges(disk: &Disk, segments: u32, flags: &mut [bool]) -> bool
+fn flag_larges(disk: &DecodedDisk<'_>, segments: u32, flags: &mut [bool]) -> bool
     requires few { segments ≤ SEGMENTS_MAX }
     requires none { flags.old ≡ replicate segments false }
     requires below { (i : ℕ) → i < SEGMENT_INODES * segments → IsBelow segments (sound.large_at (store_in segments disk.now) i) }
@@ -95,7 +99,7 @@ fn flag_larges(disk: &Disk, segments: u32, flags: &mut [bool]) -> bool
 
 // Whether each large block without a flag is free.
 #[tactic(auto, using(standing_laws::proofs::Bounded::all_more))]
-fn others_free(disk: &Disk, segments: u32, flags: &[bool]) -> bool
+fn others_free(disk: &DecodedDisk<'_>, segments: u32, flags: &[bool]) -> bool
     requires few { segments ≤ SEGMENTS_MAX }
     requires length { length flags.now ≡ segments }
     ensures { result ≡ all_below segments (λ g. flag_at flags.now g || not ((store_in segments disk.now).large_bit g)) }
@@ -109,7 +113,11 @@ fn others_free(disk: &Disk, segments: u32, flags: &[bool]) -> bool
 }
 
 /// Whether no large block is listed twice by inodes, and every large block that isn't listed is free.
-pub(crate) fn larges_agree(alloc: Global, disk: &Disk, segments: u32) -> Result<bool, NoMemory>
+pub(crate) fn larges_agree(
+    alloc: Global,
+    disk: &DecodedDisk<'_>,
+    segments: u32,
+) -> Result<bool, NoMemory>
     requires few { segments ≤ SEGMENTS_MAX }
     requires below { (i : ℕ) → i < SEGMENT_INODES * segments → IsBelow segments (sound.large_at (store_in segments disk.now) i) }
     ensures { IfOk result (λ b. b ≡ (are_distinct (sound.large_at (store_in segments disk.now)) (SEGMENT_INODES * segments) && all_below segments (λ g. lists (sound.large_at (store_in segments disk.now)) (SEGMENT_INODES * segments) g || not ((store_in segments disk.now).large_bit g)))) }

@@ -12,8 +12,8 @@ ghost use Rattle.disk_definitions.specs.Store.{stored, entered};
 ghost use Rattle.standing_laws.specs.Soundness as sound;
 ghost use Rattle.disk_reading.specs.Seen.{store_in, use_of_state};
 
+use crate::decoded_disk::DecodedDisk;
 use bitmap_block::{BlockState, inode_in_use, state_of};
-use disk_definitions::Disk;
 use frang_base::Bitmap;
 use frang_base::limits::{
     BLOCK_ENTRIES, KIND_FREE, NAME_BYTES_MAX, SECTOR_ENTRIES, SEGMENT_BLOCKS, SEGMENT_INODES,
@@ -23,21 +23,23 @@ use frang_layout::{Region, sector_of};
 use sector_definitions::{DirEntry, DirSector, Inode};
 
 /// Segment `k` of the bitmap. `None` exactly where its sector isn't in its grammar.
-pub fn segment_at(disk: &Disk, k: u32) -> Option<Bitmap>
+#[tactic(auto, unfolding(crate::specs::Kept::segment_of))]
+pub fn segment_at(disk: &DecodedDisk<'_>, k: u32) -> Option<Bitmap>
     ensures { result ≡ bitmap_in (sectors_of disk.now (sector_of (region.Segment k))) }
 {
-    bitmap_block::decode(&disk.get(sector_of(&Region::Segment(k))))
+    disk.segment(k)
 }
 
 /// Inode `i`. `None` exactly where its sector isn't in its grammar.
-pub fn inode_at(disk: &Disk, i: u32) -> Option<Inode>
+#[tactic(auto, unfolding(crate::specs::Kept::inode_of))]
+pub fn inode_at(disk: &DecodedDisk<'_>, i: u32) -> Option<Inode>
     ensures { result ≡ inode_in (sectors_of disk.now (sector_of (region.Inode i))) }
 {
-    inode_block::decode(&disk.get(sector_of(&Region::Inode(i))))
+    disk.inode(i)
 }
 
 /// A part of a small block as a sector of a directory. `None` exactly where it isn't in its grammar.
-pub fn directory_at(disk: &Disk, block: u32, part: u8) -> Option<DirSector>
+pub fn directory_at(disk: &DecodedDisk<'_>, block: u32, part: u8) -> Option<DirSector>
     ensures { result ≡ directory_in (sectors_of disk.now (sector_of (region.Small block part))) }
 {
     dir_block::decode(&disk.get(sector_of(&Region::Small { block, part })))
@@ -45,7 +47,7 @@ pub fn directory_at(disk: &Disk, block: u32, part: u8) -> Option<DirSector>
 
 /// Inode `i`, where it is in use. `None` exactly where it is free, past the segments, or not in its grammar.
 #[tactic(auto, using(crate::proofs::Decoded::decoded_node), unfolding(crate::specs::Seen::store_in))]
-pub fn used_inode(disk: &Disk, segments: u32, i: u32) -> Option<Inode>
+pub fn used_inode(disk: &DecodedDisk<'_>, segments: u32, i: u32) -> Option<Inode>
     requires { segments ≤ SEGMENTS_MAX }
     ensures is { option_map stored result ≡ (store_in segments disk.now).inode i }
     ensures fits { IfSome result (λ x. inode_fits x ≡ true) }
@@ -64,7 +66,7 @@ pub fn used_inode(disk: &Disk, segments: u32, i: u32) -> Option<Inode>
 
 /// Whether the bit of inode `i` is set; past the segments it isn't.
 #[tactic(auto, unfolding(crate::specs::Seen::store_in))]
-pub fn bit_of(disk: &Disk, segments: u32, i: u32) -> bool
+pub fn bit_of(disk: &DecodedDisk<'_>, segments: u32, i: u32) -> bool
     requires { segments ≤ SEGMENTS_MAX }
     ensures { result ≡ (store_in segments disk.now).bit i }
 {
@@ -79,7 +81,7 @@ pub fn bit_of(disk: &Disk, segments: u32, i: u32) -> bool
 
 /// What a small block is used for; past the segments it is unused.
 #[tactic(auto, unfolding(crate::specs::Seen::store_in))]
-pub fn use_of(disk: &Disk, segments: u32, block: u32) -> BlockState
+pub fn use_of(disk: &DecodedDisk<'_>, segments: u32, block: u32) -> BlockState
     requires { segments ≤ SEGMENTS_MAX }
     ensures { use_of_state result ≡ (store_in segments disk.now).use_of block }
 {
@@ -94,7 +96,7 @@ pub fn use_of(disk: &Disk, segments: u32, block: u32) -> BlockState
 
 /// Whether large block `g` is in use; past the segments it isn't.
 #[tactic(auto, unfolding(crate::specs::Seen::store_in))]
-pub fn large_bit(disk: &Disk, segments: u32, g: u32) -> bool
+pub fn large_bit(disk: &DecodedDisk<'_>, segments: u32, g: u32) -> bool
     requires { segments ≤ SEGMENTS_MAX }
     ensures { result ≡ (store_in segments disk.now).large_bit g }
 {
@@ -110,7 +112,7 @@ pub fn large_bit(disk: &Disk, segments: u32, g: u32) -> bool
 /// The entry at a place of a small block, 0 to 55. `None` exactly where the place is free, the block past the segments, or the sector
 /// not in its grammar.
 #[tactic(auto, unfolding(crate::specs::Seen::store_in))]
-pub fn entry_at(disk: &Disk, segments: u32, block: u32, place: u32) -> Option<DirEntry>
+pub fn entry_at(disk: &DecodedDisk<'_>, segments: u32, block: u32, place: u32) -> Option<DirEntry>
     requires few { segments ≤ SEGMENTS_MAX }
     requires place { place < BLOCK_ENTRIES }
     ensures is { option_map entered result ≡ (store_in segments disk.now).place block place }
@@ -129,7 +131,7 @@ pub fn entry_at(disk: &Disk, segments: u32, block: u32, place: u32) -> Option<Di
 }
 
 /// Whether inode `i` is in use and of this kind.
-pub fn has_kind(disk: &Disk, segments: u32, i: u32, kind: u8) -> bool
+pub fn has_kind(disk: &DecodedDisk<'_>, segments: u32, i: u32, kind: u8) -> bool
     requires { segments ≤ SEGMENTS_MAX }
     ensures { result ≡ sound.has_kind ((store_in segments disk.now).inode i) kind }
 {

@@ -5,3 +5,5 @@ pub mod ReplayedDisk
 pub mod FittingRecords
 pub mod ReadSlots
 pub mod Copied
+pub mod ErasedLogs
+pub mod KeptLogs

@@ -8,4 +8,4 @@ mod records;
 mod replay;
 
 pub use records::{greatest, records_of};
-pub use replay::replayed;
+pub use replay::{replay_in_place, replayed};

@@ -1,8 +1,8 @@
--- The report of what is seen of a replayed disk is that disk's.
+-- The report of what is seen of a disk is the disk's, and a replay leaves the parameters.
 use Rattle.std.proofs.Common.{◌==◌, ◌≡◌, ℕ, ◌*◌, ◌&&◌, Option, Some, None, List, [], ◌∷◌, fold, refl, ◌∙◌, ap, subst}
 use Rattle.std.proofs.lemmas.Bool.{and_right, cond-false}
 use Rattle.frang_base.specs.declared.change.Change.{Change}
-use Rattle.sector_bytes.specs.Sectors.{Sectors, sectors_of}
+use Rattle.sector_bytes.specs.Sectors.{Sectors, SameSectors, sectors_of}
 use Rattle.sector_bytes.specs.Changes.{applied}
 use Rattle.sector_definitions.specs.declared.param.Param.{Param}
 use Rattle.sector_definitions.specs.Params.{param_in}
@@ -34,14 +34,17 @@ viewed : (most segments : ℕ) (disk : List (ℕ × List ℕ)) → view_in most 
 unfolding store_in segment_fits inode_fits
 viewed most segments disk = refl
 
-pub reported : (s : Sectors) (disk : List (ℕ × List ℕ)) (p : Param) (report : Report) → param_in (s 0) ≡ Some p → ((sector : ℕ) → sectors_of disk sector ≡ replayed s sector) → IsReportOf (view_in (131072 * p.run) p.segments disk) report → IsReport (replayed s) (told report)
-reported s disk p report e same r =
-    let all : sectors_of disk ≡ replayed s = λ i sector. same sector i in
-    let v : view_in (131072 * p.run) p.segments disk ≡ view_by p (replayed s) = viewed (131072 * p.run) p.segments disk ∙ ap (view_by p) all in
+pub reported : (disk : List (ℕ × List ℕ)) (p : Param) (report : Report) → param_in (sectors_of disk 0) ≡ Some p → IsReportOf (view_in (131072 * p.run) p.segments disk) report → IsReport (sectors_of disk) (told report)
+reported disk p report e r =
+    let v : view_in (131072 * p.run) p.segments disk ≡ view_by p (sectors_of disk) = viewed (131072 * p.run) p.segments disk in
     record {
       param = p;
-      parameters = param_kept s ∙ e;
+      parameters = e;
       reached = r.reached;
       reach = subst (λ (v : View). IsReach v.store r.reached) v r.reach;
       is = r.is ∙ ap (λ (v : View). report_by v r.reached) v;
     }
+
+-- sectors that are the same are one
+pub all_same : (a b : Sectors) → SameSectors a b → a ≡ b
+all_same a b same = λ i sector. same sector i

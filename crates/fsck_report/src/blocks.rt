@@ -14,7 +14,7 @@ ghost use Rattle.fsck_report.specs.Tables.{AreTables};
 use crate::tables::Tables;
 use bitmap_block::BlockState;
 use byteorder::{ByteOrder, LittleEndian};
-use disk_definitions::Disk;
+use disk_reading::DecodedDisk;
 use disk_reading::grammar::parts_fit;
 use disk_reading::marks::{has_no_entries, is_unused, is_used_for};
 use disk_reading::sectors::{use_of, used_inode};
@@ -24,7 +24,7 @@ use frang_base::limits::{
 use frang_layout::{Region, sector_of};
 
 // The kind of an inode, that of a free one where it isn't in use.
-fn kind_at(disk: &Disk, segments: u32, i: u32) -> u8
+fn kind_at(disk: &DecodedDisk<'_>, segments: u32, i: u32) -> u8
     requires { segments ≤ SEGMENTS_MAX }
     ensures { result ≡ rules.kind_at ((store_in segments disk.now).inode i) }
 {
@@ -35,7 +35,7 @@ fn kind_at(disk: &Disk, segments: u32, i: u32) -> u8
 }
 
 // Whether a block with a first user is marked as used for what that is, and another one as unused.
-fn is_use_fine(disk: &Disk, segments: u32, tables: &Tables, block: u32) -> bool
+fn is_use_fine(disk: &DecodedDisk<'_>, segments: u32, tables: &Tables, block: u32) -> bool
     requires few { segments ≤ SEGMENTS_MAX }
     requires tables { AreTables segments (store_in segments disk.now) tables.now }
     requires within { block < SEGMENT_BLOCKS * segments }
@@ -49,7 +49,7 @@ fn is_use_fine(disk: &Disk, segments: u32, tables: &Tables, block: u32) -> bool
 }
 
 // Whether the version of a part of a block isn't too great.
-fn is_recent(disk: &Disk, most: u64, block: u32, part: u8) -> bool
+fn is_recent(disk: &DecodedDisk<'_>, most: u64, block: u32, part: u8) -> bool
     ensures { result ≡ is_recent_at most (sectors_of disk.now) (sector_of (region.Small block part)) }
 {
     let bytes = disk.get(sector_of(&Region::Small { block, part }));
@@ -57,7 +57,7 @@ fn is_recent(disk: &Disk, most: u64, block: u32, part: u8) -> bool
 }
 
 #[tactic(auto, using(standing_laws::proofs::Bounded::all_more))]
-fn parts_recent(disk: &Disk, most: u64, block: u32) -> bool
+fn parts_recent(disk: &DecodedDisk<'_>, most: u64, block: u32) -> bool
     ensures { result ≡ all_below SMALL_BLOCK_SECTORS (λ p. is_recent_at most (sectors_of disk.now) (sector_of (region.Small block p))) }
 {
     let mut all = true;
@@ -69,7 +69,13 @@ fn parts_recent(disk: &Disk, most: u64, block: u32) -> bool
 
 // Whether the sectors of a block of this state fit.
 #[tactic(auto, unfolding(disk_reading::specs::Fits::part_fits))]
-fn are_parts_fine(disk: &Disk, most: u64, segments: u32, block: u32, state: BlockState) -> bool
+fn are_parts_fine(
+    disk: &DecodedDisk<'_>,
+    most: u64,
+    segments: u32,
+    block: u32,
+    state: BlockState,
+) -> bool
     requires { segments ≤ SEGMENTS_MAX }
     ensures { result ≡ rules.are_parts_fine (view_in most segments disk.now) block (use_of_state state) }
 {
@@ -84,7 +90,13 @@ fn are_parts_fine(disk: &Disk, most: u64, segments: u32, block: u32, state: Bloc
 }
 
 /// Whether the state of a small block agrees with its use, and its sectors fit.
-pub fn is_block_fine(disk: &Disk, most: u64, segments: u32, tables: &Tables, block: u32) -> bool
+pub fn is_block_fine(
+    disk: &DecodedDisk<'_>,
+    most: u64,
+    segments: u32,
+    tables: &Tables,
+    block: u32,
+) -> bool
     requires few { segments ≤ SEGMENTS_MAX }
     requires tables { AreTables segments (store_in segments disk.now) tables.now }
     requires within { block < SEGMENT_BLOCKS * segments }

@@ -1,5 +1,5 @@
 // The check of a disk, segment by segment in threads.
-ghost use Rattle.std.specs.Prelude.{◌≡◌, ◌↔◌, ◌≤◌, ◌<◌, ◌*◌, ◌++◌, ℕ, List, true, length, vec_len, is_some, IfOk, OnOk};
+ghost use Rattle.std.specs.Prelude.{◌≡◌, ◌↔◌, ◌≤◌, ◌<◌, ◌*◌, ◌++◌, ℕ, List, true, Some, length, vec_len, is_some, IfOk, OnOk};
 ghost use Rattle.sector_bytes.specs.Sectors.{sectors_of};
 ghost use Rattle.sector_definitions.specs.Params.{param_in};
 ghost use Rattle.log_definitions.specs.Replay.{replayed};
@@ -18,12 +18,13 @@ use crate::faults::{inode_faults, part_faults, segment_faults};
 use crate::report::{Fault, Report};
 use crate::tables::{Tables, read_tables};
 use disk_definitions::Disk;
-use disk_reading::replayed;
+use disk_reading::{DecodedDisk, replayed};
 use frang_base::limits::{
     KIND_DIRECTORY, KIND_FILE, KIND_LINK, RUN_VERSIONS_MAX, SEGMENT_BLOCKS, SEGMENT_INODES,
     SEGMENTS_MAX, SMALL_BLOCK_SECTORS,
 };
 use frang_base::{NoMemory, Sector};
+use param_block::Param;
 use std::alloc::Global;
 use std::thread::{Threads, map_indices};
 
@@ -46,7 +47,7 @@ fn append_all(faults: &mut Vec<Fault>, parts: &[Part]) -> Result<(), NoMemory>
 // The faults of a segment's own sector.
 fn segment_part(
     alloc: Global,
-    disk: &Disk,
+    disk: &DecodedDisk<'_>,
     most: u64,
     segments: u32,
     tables: &Tables,
@@ -64,7 +65,7 @@ fn segment_part(
 fn segment_parts<R: Threads + Sync>(
     rt: &R,
     alloc: Global,
-    disk: &Disk,
+    disk: &DecodedDisk<'_>,
     most: u64,
     segments: u32,
     tables: &Tables,
@@ -87,7 +88,7 @@ fn append_segments<R: Threads + Sync>(
     rt: &R,
     alloc: Global,
     faults: &mut Vec<Fault>,
-    disk: &Disk,
+    disk: &DecodedDisk<'_>,
     most: u64,
     segments: u32,
     tables: &Tables,
@@ -102,7 +103,13 @@ fn append_segments<R: Threads + Sync>(
 }
 
 // The faults of the inodes of a segment.
-fn inode_part(alloc: Global, disk: &Disk, segments: u32, tables: &Tables, k: usize) -> Part
+fn inode_part(
+    alloc: Global,
+    disk: &DecodedDisk<'_>,
+    segments: u32,
+    tables: &Tables,
+    k: usize,
+) -> Part
     requires few { segments ≤ SEGMENTS_MAX }
     requires tables { AreTables segments (store_in segments disk.now) tables.now }
     requires within { k < segments }
@@ -115,7 +122,7 @@ fn inode_part(alloc: Global, disk: &Disk, segments: u32, tables: &Tables, k: usi
 fn inode_parts<R: Threads + Sync>(
     rt: &R,
     alloc: Global,
-    disk: &Disk,
+    disk: &DecodedDisk<'_>,
     segments: u32,
     tables: &Tables,
 ) -> Result<Vec<Part>, NoMemory>
@@ -137,7 +144,7 @@ fn append_inodes<R: Threads + Sync>(
     rt: &R,
     alloc: Global,
     faults: &mut Vec<Fault>,
-    disk: &Disk,
+    disk: &DecodedDisk<'_>,
     segments: u32,
     tables: &Tables,
 ) -> Result<(), NoMemory>
@@ -153,7 +160,7 @@ fn append_inodes<R: Threads + Sync>(
 // The faults of the parts of a segment's small blocks.
 fn block_part(
     alloc: Global,
-    disk: &Disk,
+    disk: &DecodedDisk<'_>,
     most: u64,
     segments: u32,
     tables: &Tables,
@@ -171,7 +178,7 @@ fn block_part(
 fn block_parts<R: Threads + Sync>(
     rt: &R,
     alloc: Global,
-    disk: &Disk,
+    disk: &DecodedDisk<'_>,
     most: u64,
     segments: u32,
     tables: &Tables,
@@ -194,7 +201,7 @@ fn append_blocks<R: Threads + Sync>(
     rt: &R,
     alloc: Global,
     faults: &mut Vec<Fault>,
-    disk: &Disk,
+    disk: &DecodedDisk<'_>,
     most: u64,
     segments: u32,
     tables: &Tables,
@@ -212,7 +219,7 @@ fn append_blocks<R: Threads + Sync>(
 fn faults_of<R: Threads + Sync>(
     rt: &R,
     alloc: Global,
-    disk: &Disk,
+    disk: &DecodedDisk<'_>,
     most: u64,
     segments: u32,
     tables: &Tables,
@@ -242,7 +249,7 @@ fn is_nothing(faults: &[Fault]) -> bool
 fn report_of<R: Threads + Sync>(
     rt: &R,
     alloc: Global,
-    disk: &Disk,
+    disk: &DecodedDisk<'_>,
     most: u64,
     segments: u32,
 ) -> Result<Report, NoMemory>
@@ -265,6 +272,40 @@ fn report_of<R: Threads + Sync>(
     })
 }
 
+// The report of a disk with these parameters, without its logs.
+fn check_decoded<R: Threads + Sync>(
+    rt: &R,
+    alloc: Global,
+    disk: &DecodedDisk<'_>,
+    param: &Param,
+) -> Result<Report, NoMemory>
+    requires { param_in (sectors_of disk.now 0) ≡ Some param.now }
+    ensures { IfOk result (λ r. report.IsReport (sectors_of disk.now) (told r)) }
+{
+    let segments = param.segments;
+    let most = RUN_VERSIONS_MAX * u64::from(param.run);
+    report_of(rt, alloc, disk, most, segments)
+}
+
+/// The report of a disk by its sectors as they are: what its logs hold counts for nothing. It stands for a tree exactly where the report
+/// says so. Segments are checked in threads of their own; with one processor the report is the same. After `NoMemory` nothing is known.
+pub fn check_sectors<R: Threads + Sync>(
+    rt: &R,
+    alloc: Global,
+    disk: &Disk,
+) -> Result<Report, NoMemory>
+    requires { is_some (param_in (sectors_of disk.now 0)) ≡ true }
+    ensures report { IfOk result (λ r. report.IsReport (sectors_of disk.now) (told r)) }
+    ensures stands { IfOk result (λ r. (r.stands ≡ true) ↔ StandsForSome (sectors_of disk.now)) }
+{
+    let Some(param) = param_block::decode(&disk.get(Sector(0))) else {
+        unreachable!()
+    };
+    let _sectors = disk.len();
+    let decoded = DecodedDisk::of(alloc, disk, param.segments)?;
+    check_decoded(rt, alloc, &decoded, &param)
+}
+
 /// The report of a disk once its logs are replayed. It stands for a tree exactly where the report says so. Segments are checked in threads
 /// of their own; with one processor the report is the same. After `NoMemory` nothing is known.
 pub fn check<R: Threads + Sync>(rt: &R, alloc: Global, disk: &Disk) -> Result<Report, NoMemory>
@@ -272,11 +313,6 @@ pub fn check<R: Threads + Sync>(rt: &R, alloc: Global, disk: &Disk) -> Result<Re
     ensures report { IfOk result (λ r. report.IsReport (replayed (sectors_of disk.now)) (told r)) }
     ensures stands { IfOk result (λ r. (r.stands ≡ true) ↔ StandsForSome (replayed (sectors_of disk.now))) }
 {
-    let Some(param) = param_block::decode(&disk.get(Sector(0))) else {
-        unreachable!()
-    };
     let new = replayed(alloc, disk)?;
-    let _sectors = new.len();
-    let most = RUN_VERSIONS_MAX * u64::from(param.run);
-    report_of(rt, alloc, &new, most, param.segments)
+    check_sectors(rt, alloc, &new)
 }

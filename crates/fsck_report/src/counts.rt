@@ -10,13 +10,13 @@ ghost use Rattle.fsck_report.specs.Users.{AreUsers};
 
 use crate::flags::Flags;
 use crate::users::Users;
-use disk_definitions::Disk;
+use disk_reading::DecodedDisk;
 use disk_reading::sectors::has_kind;
 use frang_base::limits::{SEGMENT_INODES, SEGMENTS_MAX};
 
 /// The inodes of a kind that are reached.
 #[tactic(auto, using(crate::proofs::Counted::count_more))]
-pub fn count_of_kind(disk: &Disk, segments: u32, reached: &Flags, kind: u8) -> u32
+pub fn count_of_kind(disk: &DecodedDisk<'_>, segments: u32, reached: &Flags, kind: u8) -> u32
     requires { segments ≤ SEGMENTS_MAX }
     ensures { result ≡ reached_of_kind (stored segments (store_in segments disk.now)) (flag_at reached.now) kind }
 {

@@ -7,14 +7,14 @@ ghost use Rattle.disk_reading.specs.Seen.{store_in};
 ghost use Rattle.fsck_report.specs.Directories.{directory_row};
 
 use crate::flags::Flags;
-use disk_definitions::Disk;
+use disk_reading::DecodedDisk;
 use disk_reading::sectors::used_inode;
 use frang_base::NoMemory;
 use frang_base::limits::{INODE_BLOCKS_MAX, KIND_DIRECTORY, SEGMENT_BLOCKS, SEGMENTS_MAX};
 use std::alloc::Global;
 
 // The small block at a place of the row of all inodes, where its inode is a directory that is reached.
-fn block_of(disk: &Disk, segments: u32, reached: &Flags, t: u32) -> Option<u32>
+fn block_of(disk: &DecodedDisk<'_>, segments: u32, reached: &Flags, t: u32) -> Option<u32>
     requires few { segments ≤ SEGMENTS_MAX }
     ensures { result ≡ directory_row (store_in segments disk.now) (flag_at reached.now) t }
 {
@@ -43,7 +43,7 @@ fn flag(directories: &mut Flags, block: Option<u32>)
 /// The flags of the small blocks of directories that are reached.
 pub fn directories(
     alloc: Global,
-    disk: &Disk,
+    disk: &DecodedDisk<'_>,
     segments: u32,
     reached: &Flags,
 ) -> Result<Flags, NoMemory>

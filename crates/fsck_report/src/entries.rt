@@ -8,7 +8,7 @@ ghost use Rattle.disk_reading.specs.Seen.{store_in};
 ghost use Rattle.report_definitions.specs.View as view;
 ghost use Rattle.fsck_report.specs.Entries.{entries_in};
 
-use disk_definitions::Disk;
+use disk_reading::DecodedDisk;
 use disk_reading::sectors::{entry_at, has_kind};
 use frang_base::limits::{
     BLOCK_ENTRIES, DIRECTORY_ENTRIES_MAX, KIND_DIRECTORY, SEGMENT_INODES, SEGMENTS_MAX,
@@ -17,7 +17,12 @@ use sector_definitions::{DirEntry, Inode};
 
 /// The entry at a place of an inode in use, where that is a directory with so many places.
 #[tactic(auto, using(disk_reading::proofs::PlaceByPlace::dir_few))]
-pub fn entry_of(disk: &Disk, segments: u32, inode: &Option<Inode>, q: u32) -> Option<DirEntry>
+pub fn entry_of(
+    disk: &DecodedDisk<'_>,
+    segments: u32,
+    inode: &Option<Inode>,
+    q: u32,
+) -> Option<DirEntry>
     requires few { segments ≤ SEGMENTS_MAX }
     requires fits { IfSome inode.now (λ x. inode_fits x ≡ true) }
     ensures { option_map entered result ≡ view.entry_in (store_in segments disk.now) (option_map stored inode.now) q }
@@ -31,7 +36,7 @@ pub fn entry_of(disk: &Disk, segments: u32, inode: &Option<Inode>, q: u32) -> Op
 }
 
 /// The inode that an entry names, where that is in use and of the entry's kind.
-pub fn named_by(disk: &Disk, segments: u32, entry: Option<DirEntry>) -> Option<u32>
+pub fn named_by(disk: &DecodedDisk<'_>, segments: u32, entry: Option<DirEntry>) -> Option<u32>
     requires few { segments ≤ SEGMENTS_MAX }
     ensures is { result ≡ view.named_by (store_in segments disk.now) (option_map entered entry) }
     ensures below { IsBelow (SEGMENT_INODES * segments) result }
@@ -46,7 +51,7 @@ pub fn named_by(disk: &Disk, segments: u32, entry: Option<DirEntry>) -> Option<u
 
 /// How many entries an inode in use has, where it is a directory.
 #[tactic(auto, using(crate::proofs::Counted::count_more))]
-pub fn entries_of(disk: &Disk, segments: u32, inode: &Option<Inode>) -> u32
+pub fn entries_of(disk: &DecodedDisk<'_>, segments: u32, inode: &Option<Inode>) -> u32
     requires few { segments ≤ SEGMENTS_MAX }
     requires fits { IfSome inode.now (λ x. inode_fits x ≡ true) }
     ensures { result ≡ entries_in (store_in segments disk.now) (option_map stored inode.now) }

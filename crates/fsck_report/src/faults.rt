@@ -14,7 +14,7 @@ use crate::parts::{are_entries_fine, is_sector_fine};
 use crate::report::Fault;
 use crate::segments::{are_bits_fine, is_mark_fine, is_segment_fine};
 use crate::tables::Tables;
-use disk_definitions::Disk;
+use disk_reading::DecodedDisk;
 use frang_base::NoMemory;
 use frang_base::limits::{SEGMENT_BLOCKS, SEGMENT_INODES, SEGMENTS_MAX, SMALL_BLOCK_SECTORS};
 use frang_layout::{Region, sector_of};
@@ -35,7 +35,7 @@ fn push(faults: &mut Vec<Fault>, fine: bool, region: &Region, kind: u8) -> Resul
 /// The faults of a segment's own sector, of kinds 7 to 9, unless memory runs out.
 pub fn segment_faults(
     alloc: Global,
-    disk: &Disk,
+    disk: &DecodedDisk<'_>,
     most: u64,
     segments: u32,
     tables: &Tables,
@@ -67,7 +67,7 @@ pub fn segment_faults(
 // Adds the faults of an inode.
 fn push_inode(
     faults: &mut Vec<Fault>,
-    disk: &Disk,
+    disk: &DecodedDisk<'_>,
     segments: u32,
     tables: &Tables,
     i: u32,
@@ -88,7 +88,7 @@ fn push_inode(
 /// The faults of the inodes of a segment, in order, unless memory runs out.
 pub fn inode_faults(
     alloc: Global,
-    disk: &Disk,
+    disk: &DecodedDisk<'_>,
     segments: u32,
     tables: &Tables,
     k: u32,
@@ -108,7 +108,7 @@ pub fn inode_faults(
 // Adds the faults of a part of a small block.
 fn push_part(
     faults: &mut Vec<Fault>,
-    disk: &Disk,
+    disk: &DecodedDisk<'_>,
     most: u64,
     segments: u32,
     tables: &Tables,
@@ -140,7 +140,7 @@ fn push_part(
 // Adds the faults of the parts of a small block.
 fn push_parts(
     faults: &mut Vec<Fault>,
-    disk: &Disk,
+    disk: &DecodedDisk<'_>,
     most: u64,
     segments: u32,
     tables: &Tables,
@@ -160,7 +160,7 @@ fn push_parts(
 /// The faults of the parts of a segment's small blocks, in order, unless memory runs out.
 pub fn part_faults(
     alloc: Global,
-    disk: &Disk,
+    disk: &DecodedDisk<'_>,
     most: u64,
     segments: u32,
     tables: &Tables,

@@ -9,14 +9,14 @@ ghost use Rattle.fsck_report.specs.Tables.{AreTables};
 
 use crate::entries::entries_of;
 use crate::tables::Tables;
-use disk_definitions::Disk;
+use disk_reading::DecodedDisk;
 use disk_reading::sectors::{has_kind, used_inode};
 use frang_base::limits::{
     INODE_BLOCKS_MAX, KIND_DIRECTORY, ROOT_INODE, SEGMENT_BLOCKS, SEGMENT_INODES, SEGMENTS_MAX,
 };
 
 /// Whether an inode isn't the root's, or inode 0 is a directory.
-pub fn is_root_fine(disk: &Disk, segments: u32, i: u32) -> bool
+pub fn is_root_fine(disk: &DecodedDisk<'_>, segments: u32, i: u32) -> bool
     requires { segments ≤ SEGMENTS_MAX }
     ensures { result ≡ rules.is_root_fine (stored segments (store_in segments disk.now)) i }
 {
@@ -24,7 +24,7 @@ pub fn is_root_fine(disk: &Disk, segments: u32, i: u32) -> bool
 }
 
 // Whether a directory has as many entries as it says, and any other inode in use as many names.
-fn counts_agree(disk: &Disk, segments: u32, tables: &Tables, i: u32) -> bool
+fn counts_agree(disk: &DecodedDisk<'_>, segments: u32, tables: &Tables, i: u32) -> bool
     requires few { segments ≤ SEGMENTS_MAX }
     requires tables { AreTables segments (store_in segments disk.now) tables.now }
     requires within { i < SEGMENT_INODES * segments }
@@ -40,7 +40,7 @@ fn counts_agree(disk: &Disk, segments: u32, tables: &Tables, i: u32) -> bool
 }
 
 /// Whether an inode that is reached has as many entries or names as it says.
-pub fn is_count_fine(disk: &Disk, segments: u32, tables: &Tables, i: u32) -> bool
+pub fn is_count_fine(disk: &DecodedDisk<'_>, segments: u32, tables: &Tables, i: u32) -> bool
     requires few { segments ≤ SEGMENTS_MAX }
     requires tables { AreTables segments (store_in segments disk.now) tables.now }
     requires within { i < SEGMENT_INODES * segments }
@@ -51,7 +51,7 @@ pub fn is_count_fine(disk: &Disk, segments: u32, tables: &Tables, i: u32) -> boo
 
 /// Whether an inode is no directory, or has one name at most, and the root none.
 #[tactic(auto, using(crate::proofs::Counted::capped_once))]
-pub fn is_named_once(disk: &Disk, segments: u32, tables: &Tables, i: u32) -> bool
+pub fn is_named_once(disk: &DecodedDisk<'_>, segments: u32, tables: &Tables, i: u32) -> bool
     requires few { segments ≤ SEGMENTS_MAX }
     requires tables { AreTables segments (store_in segments disk.now) tables.now }
     requires within { i < SEGMENT_INODES * segments }
@@ -63,7 +63,7 @@ pub fn is_named_once(disk: &Disk, segments: u32, tables: &Tables, i: u32) -> boo
 }
 
 #[tactic(auto, using(standing_laws::proofs::Bounded::all_more))]
-fn are_small_fine(disk: &Disk, segments: u32, tables: &Tables, i: u32) -> bool
+fn are_small_fine(disk: &DecodedDisk<'_>, segments: u32, tables: &Tables, i: u32) -> bool
     requires few { segments ≤ SEGMENTS_MAX }
     requires tables { AreTables segments (store_in segments disk.now) tables.now }
     requires within { i < SEGMENT_INODES * segments }
@@ -77,7 +77,7 @@ fn are_small_fine(disk: &Disk, segments: u32, tables: &Tables, i: u32) -> bool
 }
 
 /// Whether the blocks of an inode that is reached are in range, and none stands before.
-pub fn are_blocks_fine(disk: &Disk, segments: u32, tables: &Tables, i: u32) -> bool
+pub fn are_blocks_fine(disk: &DecodedDisk<'_>, segments: u32, tables: &Tables, i: u32) -> bool
     requires few { segments ≤ SEGMENTS_MAX }
     requires tables { AreTables segments (store_in segments disk.now) tables.now }
     requires within { i < SEGMENT_INODES * segments }

@@ -21,6 +21,6 @@ mod segments;
 mod tables;
 mod users;
 
-pub use checking::check;
+pub use checking::{check, check_sectors};
 pub use line::report_line;
 pub use report::{Fault, Report};

@@ -8,7 +8,7 @@ ghost use Rattle.fsck_report.specs.Names.{AreNames, HaveCounted};
 
 use crate::entries::{entry_of, named_by};
 use crate::flags::Flags;
-use disk_definitions::Disk;
+use disk_reading::DecodedDisk;
 use disk_reading::sectors::used_inode;
 use frang_base::NoMemory;
 use frang_base::limits::{DIRECTORY_ENTRIES_MAX, SEGMENT_INODES, SEGMENTS_MAX};
@@ -71,7 +71,7 @@ impl Counts {
     }
 
     // Counts what an inode names.
-    fn add_names(&mut self, disk: &Disk, segments: u32, d: u32)
+    fn add_names(&mut self, disk: &DecodedDisk<'_>, segments: u32, d: u32)
         requires few { segments ≤ SEGMENTS_MAX }
         ensures { HaveCounted (names_by (store_in segments disk.now) d) self.old self.new }
     {
@@ -83,7 +83,7 @@ impl Counts {
     }
 
     // Counts what an inode names, where it is reached.
-    fn add_reached(&mut self, disk: &Disk, segments: u32, reached: &Flags, d: u32)
+    fn add_reached(&mut self, disk: &DecodedDisk<'_>, segments: u32, reached: &Flags, d: u32)
         requires few { segments ≤ SEGMENTS_MAX }
         ensures { HaveCounted (λ i. if flag_at reached.now d then names_by (store_in segments disk.now) d i else 0) self.old self.new }
     {
@@ -94,7 +94,12 @@ impl Counts {
 }
 
 /// How often each inode is named.
-pub fn names(alloc: Global, disk: &Disk, segments: u32, reached: &Flags) -> Result<Counts, NoMemory>
+pub fn names(
+    alloc: Global,
+    disk: &DecodedDisk<'_>,
+    segments: u32,
+    reached: &Flags,
+) -> Result<Counts, NoMemory>
     requires few { segments ≤ SEGMENTS_MAX }
     ensures { IfOk result (AreNames segments (store_in segments disk.now) (flag_at reached.now)) }
 {

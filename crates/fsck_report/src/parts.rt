@@ -14,13 +14,13 @@ ghost use Rattle.fsck_report.specs.Seen.{stored, view_in};
 ghost use Rattle.fsck_report.specs.Tables.{AreTables};
 
 use crate::tables::Tables;
-use disk_definitions::Disk;
+use disk_reading::DecodedDisk;
 use disk_reading::sectors::{directory_at, entry_at, has_kind};
 use frang_base::limits::{SECTOR_ENTRIES, SEGMENT_BLOCKS, SEGMENTS_MAX, SMALL_BLOCK_SECTORS};
 use sector_definitions::DirEntry;
 
 // Whether a part is in the grammar of directories, where a directory that is reached has it.
-fn reads_well(disk: &Disk, owned: bool, block: u32, part: u8) -> bool
+fn reads_well(disk: &DecodedDisk<'_>, owned: bool, block: u32, part: u8) -> bool
     ensures { result ≡ (not owned || is_some (directory_in (sectors_of disk.now (sector_of (region.Small block part))))) }
 {
     !owned || directory_at(disk, block, part).is_some()
@@ -28,7 +28,7 @@ fn reads_well(disk: &Disk, owned: bool, block: u32, part: u8) -> bool
 
 /// Whether a part is in the grammar of directories, and no name in it stands before, wherever a directory that is reached has it.
 pub fn is_sector_fine(
-    disk: &Disk,
+    disk: &DecodedDisk<'_>,
     most: u64,
     segments: u32,
     tables: &Tables,
@@ -47,7 +47,7 @@ pub fn is_sector_fine(
 }
 
 // Whether an entry names an inode in use of its kind.
-fn names_well(disk: &Disk, segments: u32, entry: Option<DirEntry>) -> bool
+fn names_well(disk: &DecodedDisk<'_>, segments: u32, entry: Option<DirEntry>) -> bool
     requires { segments ≤ SEGMENTS_MAX }
     ensures { result ≡ rules.names_well (store_in segments disk.now) (option_map entered entry) }
 {
@@ -59,7 +59,7 @@ fn names_well(disk: &Disk, segments: u32, entry: Option<DirEntry>) -> bool
 
 // Whether each entry of a part does.
 #[tactic(auto, using(standing_laws::proofs::Bounded::all_more))]
-fn all_name_well(disk: &Disk, segments: u32, block: u32, part: u8) -> bool
+fn all_name_well(disk: &DecodedDisk<'_>, segments: u32, block: u32, part: u8) -> bool
     requires few { segments ≤ SEGMENTS_MAX }
     requires part { part < SMALL_BLOCK_SECTORS }
     ensures { result ≡ all_below SECTOR_ENTRIES (λ t. rules.names_well (store_in segments disk.now) ((store_in segments disk.now).place block (SECTOR_ENTRIES * part + t))) }
@@ -73,7 +73,7 @@ fn all_name_well(disk: &Disk, segments: u32, block: u32, part: u8) -> bool
 }
 
 // Whether each entry of a part does, where a directory that is reached has it.
-fn names_fine(disk: &Disk, segments: u32, owned: bool, block: u32, part: u8) -> bool
+fn names_fine(disk: &DecodedDisk<'_>, segments: u32, owned: bool, block: u32, part: u8) -> bool
     requires few { segments ≤ SEGMENTS_MAX }
     requires part { part < SMALL_BLOCK_SECTORS }
     ensures { result ≡ (not owned || all_below SECTOR_ENTRIES (λ t. rules.names_well (store_in segments disk.now) ((store_in segments disk.now).place block (SECTOR_ENTRIES * part + t)))) }
@@ -82,7 +82,13 @@ fn names_fine(disk: &Disk, segments: u32, owned: bool, block: u32, part: u8) -> 
 }
 
 /// Whether each entry of a part names an inode in use of its kind, wherever a directory that is reached has the part.
-pub fn are_entries_fine(disk: &Disk, segments: u32, tables: &Tables, block: u32, part: u8) -> bool
+pub fn are_entries_fine(
+    disk: &DecodedDisk<'_>,
+    segments: u32,
+    tables: &Tables,
+    block: u32,
+    part: u8,
+) -> bool
     requires few { segments ≤ SEGMENTS_MAX }
     requires tables { AreTables segments (store_in segments disk.now) tables.now }
     requires within { block < SEGMENT_BLOCKS * segments }

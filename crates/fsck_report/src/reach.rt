@@ -8,7 +8,7 @@ ghost use Rattle.fsck_report.specs.Walks.{HasFlagged, IsOnTheWay};
 
 use crate::entries::{entry_of, named_by};
 use crate::flags::Flags;
-use disk_definitions::Disk;
+use disk_reading::DecodedDisk;
 use disk_reading::sectors::used_inode;
 use frang_base::NoMemory;
 use frang_base::limits::{DIRECTORY_ENTRIES_MAX, ROOT_INODE, SEGMENT_INODES, SEGMENTS_MAX};
@@ -49,7 +49,7 @@ impl Walk {
     }
 
     // Flags what an inode names.
-    fn flag_names(&mut self, disk: &Disk, segments: u32, d: u32) -> Result<(), NoMemory>
+    fn flag_names(&mut self, disk: &DecodedDisk<'_>, segments: u32, d: u32) -> Result<(), NoMemory>
         requires few { segments ≤ SEGMENTS_MAX }
         requires long { length self.old.reached ≡ SEGMENT_INODES * segments }
         ensures { OnOk result (HasFlagged (view.names (store_in segments disk.now) d) self.old.reached self.old.later.items self.new.reached self.new.later.items) }
@@ -63,7 +63,7 @@ impl Walk {
     }
 
     // Takes all that is to be taken, and what is flagged on the way.
-    fn take_all(&mut self, disk: &Disk, segments: u32) -> Result<(), NoMemory>
+    fn take_all(&mut self, disk: &DecodedDisk<'_>, segments: u32) -> Result<(), NoMemory>
         requires few { segments ≤ SEGMENTS_MAX }
         requires long { length self.old.reached ≡ SEGMENT_INODES * segments }
         requires begun { IsOnTheWay (store_in segments disk.now) self.old.reached self.old.later.items }
@@ -79,7 +79,7 @@ impl Walk {
 
 /// The flags of the inodes that are reached.
 #[tactic(auto, using(crate::proofs::Walking::begun))]
-pub fn reached(alloc: Global, disk: &Disk, segments: u32) -> Result<Flags, NoMemory>
+pub fn reached(alloc: Global, disk: &DecodedDisk<'_>, segments: u32) -> Result<Flags, NoMemory>
     requires few { segments ≤ SEGMENTS_MAX }
     requires some { 1 ≤ segments }
     ensures long { IfOk result (λ f. length f ≡ SEGMENT_INODES * segments) }

@@ -12,7 +12,7 @@ ghost use Rattle.disk_reading.specs.Seen.{store_in};
 ghost use Rattle.fsck_report.specs.Repeats.{repeat_at, repeats_in, repeats_to};
 
 use crate::flags::Flags;
-use disk_definitions::Disk;
+use disk_reading::DecodedDisk;
 use disk_reading::sectors::{entry_at, used_inode};
 use frang_base::limits::{
     BLOCK_ENTRIES, DIRECTORY_ENTRIES_MAX, INODE_BLOCKS_MAX, KIND_DIRECTORY, NAME_BYTES_MAX,
@@ -43,7 +43,7 @@ fn add_name(entries: &mut Entries, entry: &DirEntry) -> Result<bool, NoMemory>
 fn flag_place(
     repeats: &mut Flags,
     entries: &mut Entries,
-    disk: &Disk,
+    disk: &DecodedDisk<'_>,
     segments: u32,
     inode: &Inode,
     q: u32,
@@ -73,7 +73,7 @@ fn flag_place(
 fn flag_directory(
     repeats: &mut Flags,
     alloc: Global,
-    disk: &Disk,
+    disk: &DecodedDisk<'_>,
     segments: u32,
     inode: &Inode,
 ) -> Result<(), NoMemory>
@@ -93,7 +93,7 @@ fn flag_directory(
 fn flag_inode(
     repeats: &mut Flags,
     alloc: Global,
-    disk: &Disk,
+    disk: &DecodedDisk<'_>,
     segments: u32,
     d: u32,
 ) -> Result<(), NoMemory>
@@ -112,7 +112,7 @@ fn flag_inode(
 fn flag_reached(
     repeats: &mut Flags,
     alloc: Global,
-    disk: &Disk,
+    disk: &DecodedDisk<'_>,
     segments: u32,
     reached: &Flags,
     d: u32,
@@ -130,7 +130,7 @@ fn flag_reached(
 /// The flags of the parts of small blocks, 8 to a block, in which a directory that is reached has a name that stands before.
 pub fn repeats(
     alloc: Global,
-    disk: &Disk,
+    disk: &DecodedDisk<'_>,
     segments: u32,
     reached: &Flags,
 ) -> Result<Flags, NoMemory>

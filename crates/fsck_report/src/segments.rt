@@ -12,12 +12,12 @@ ghost use Rattle.fsck_report.specs.Tables.{AreTables};
 use crate::blocks::is_block_fine;
 use crate::flags::Flags;
 use crate::tables::Tables;
-use disk_definitions::Disk;
+use disk_reading::DecodedDisk;
 use disk_reading::grammar::{inode_fits, segment_fits};
 use disk_reading::sectors::{bit_of, large_bit, used_inode};
 use frang_base::limits::{SEGMENT_BLOCKS, SEGMENT_INODES, SEGMENTS_MAX};
 
-fn is_bit_fine(disk: &Disk, segments: u32, reached: &Flags, i: u32) -> bool
+fn is_bit_fine(disk: &DecodedDisk<'_>, segments: u32, reached: &Flags, i: u32) -> bool
     requires { segments ≤ SEGMENTS_MAX }
     ensures { result ≡ rules.is_bit_fine (stored segments (store_in segments disk.now)) (flag_at reached.now) i }
 {
@@ -31,7 +31,7 @@ fn is_bit_fine(disk: &Disk, segments: u32, reached: &Flags, i: u32) -> bool
 
 /// Whether the inodes of a segment that are reached have their bits, and the others are free and have none.
 #[tactic(auto, using(standing_laws::proofs::Bounded::all_more))]
-pub fn are_bits_fine(disk: &Disk, segments: u32, reached: &Flags, k: u32) -> bool
+pub fn are_bits_fine(disk: &DecodedDisk<'_>, segments: u32, reached: &Flags, k: u32) -> bool
     requires few { segments ≤ SEGMENTS_MAX }
     requires within { k < segments }
     ensures { result ≡ rules.are_bits_fine (stored segments (store_in segments disk.now)) (flag_at reached.now) k }
@@ -44,7 +44,7 @@ pub fn are_bits_fine(disk: &Disk, segments: u32, reached: &Flags, k: u32) -> boo
 }
 
 #[tactic(auto, using(standing_laws::proofs::Bounded::all_more))]
-fn inodes_fit(disk: &Disk, most: u64, k: u32) -> bool
+fn inodes_fit(disk: &DecodedDisk<'_>, most: u64, k: u32) -> bool
     requires { k < SEGMENTS_MAX }
     ensures { result ≡ all_below SEGMENT_INODES (λ j. fits.inode_fits most (sectors_of disk.now) (SEGMENT_INODES * k + j)) }
 {
@@ -56,7 +56,7 @@ fn inodes_fit(disk: &Disk, most: u64, k: u32) -> bool
 }
 
 // Whether the sector of a segment and its inodes fit.
-fn sectors_fit(disk: &Disk, most: u64, k: u32) -> bool
+fn sectors_fit(disk: &DecodedDisk<'_>, most: u64, k: u32) -> bool
     requires { k < SEGMENTS_MAX }
     ensures { result ≡ (fits.segment_fits most (sectors_of disk.now) k && all_below SEGMENT_INODES (λ j. fits.inode_fits most (sectors_of disk.now) (SEGMENT_INODES * k + j))) }
 {
@@ -64,7 +64,7 @@ fn sectors_fit(disk: &Disk, most: u64, k: u32) -> bool
 }
 
 #[tactic(auto, using(standing_laws::proofs::Bounded::all_more))]
-fn blocks_fine(disk: &Disk, most: u64, segments: u32, tables: &Tables, k: u32) -> bool
+fn blocks_fine(disk: &DecodedDisk<'_>, most: u64, segments: u32, tables: &Tables, k: u32) -> bool
     requires few { segments ≤ SEGMENTS_MAX }
     requires tables { AreTables segments (store_in segments disk.now) tables.now }
     requires within { k < segments }
@@ -78,7 +78,13 @@ fn blocks_fine(disk: &Disk, most: u64, segments: u32, tables: &Tables, k: u32) -
 }
 
 /// Whether the states of the small blocks of a segment agree with their use, and its sectors fit.
-pub fn is_segment_fine(disk: &Disk, most: u64, segments: u32, tables: &Tables, k: u32) -> bool
+pub fn is_segment_fine(
+    disk: &DecodedDisk<'_>,
+    most: u64,
+    segments: u32,
+    tables: &Tables,
+    k: u32,
+) -> bool
     requires few { segments ≤ SEGMENTS_MAX }
     requires tables { AreTables segments (store_in segments disk.now) tables.now }
     requires within { k < segments }
@@ -88,7 +94,7 @@ pub fn is_segment_fine(disk: &Disk, most: u64, segments: u32, tables: &Tables, k
 }
 
 /// Whether the large block of a segment is marked exactly where an inode that is reached has it.
-pub fn is_mark_fine(disk: &Disk, segments: u32, tables: &Tables, k: u32) -> bool
+pub fn is_mark_fine(disk: &DecodedDisk<'_>, segments: u32, tables: &Tables, k: u32) -> bool
     requires few { segments ≤ SEGMENTS_MAX }
     requires tables { AreTables segments (store_in segments disk.now) tables.now }
     requires within { k < segments }

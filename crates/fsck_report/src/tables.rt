@@ -9,7 +9,7 @@ use crate::names::{Counts, names};
 use crate::reach::reached;
 use crate::repeats::repeats;
 use crate::users::{Users, large_users, small_users};
-use disk_definitions::Disk;
+use disk_reading::DecodedDisk;
 use frang_base::NoMemory;
 use frang_base::limits::SEGMENTS_MAX;
 use std::alloc::Global;
@@ -27,7 +27,7 @@ pub struct Tables {
 }
 
 /// The tables of a disk.
-pub fn read_tables(alloc: Global, disk: &Disk, segments: u32) -> Result<Tables, NoMemory>
+pub fn read_tables(alloc: Global, disk: &DecodedDisk<'_>, segments: u32) -> Result<Tables, NoMemory>
     requires few { segments ≤ SEGMENTS_MAX }
     requires some { 1 ≤ segments }
     ensures { IfOk result (AreTables segments (store_in segments disk.now)) }

@@ -7,7 +7,7 @@ ghost use Rattle.fsck_report.specs.Seen.{stored};
 ghost use Rattle.fsck_report.specs.Users.{AreUsers, is_free, with_user};
 
 use crate::flags::Flags;
-use disk_definitions::Disk;
+use disk_reading::DecodedDisk;
 use disk_reading::marks::{block_at, large_at};
 use frang_base::NoMemory;
 use frang_base::limits::{INODE_BLOCKS_MAX, SEGMENT_BLOCKS, SEGMENT_INODES, SEGMENTS_MAX};
@@ -78,7 +78,7 @@ impl Users {
 }
 
 // The small block at a place of the row of all inodes, where its inode is reached.
-fn used(disk: &Disk, segments: u32, reached: &Flags, t: u32) -> Option<u32>
+fn used(disk: &DecodedDisk<'_>, segments: u32, reached: &Flags, t: u32) -> Option<u32>
     requires few { segments ≤ SEGMENTS_MAX }
     ensures { result ≡ rules.used (stored segments (store_in segments disk.now)) (flag_at reached.now) t }
 {
@@ -90,7 +90,7 @@ fn used(disk: &Disk, segments: u32, reached: &Flags, t: u32) -> Option<u32>
 }
 
 // The large block of an inode, where that is reached.
-fn used_large(disk: &Disk, segments: u32, reached: &Flags, i: u32) -> Option<u32>
+fn used_large(disk: &DecodedDisk<'_>, segments: u32, reached: &Flags, i: u32) -> Option<u32>
     requires few { segments ≤ SEGMENTS_MAX }
     ensures { result ≡ rules.used_large (stored segments (store_in segments disk.now)) (flag_at reached.now) i }
 {
@@ -105,7 +105,7 @@ fn used_large(disk: &Disk, segments: u32, reached: &Flags, i: u32) -> Option<u32
 #[tactic(auto, using(crate::proofs::FirstUsers::no_users))]
 pub fn small_users(
     alloc: Global,
-    disk: &Disk,
+    disk: &DecodedDisk<'_>,
     segments: u32,
     reached: &Flags,
 ) -> Result<Users, NoMemory>
@@ -123,7 +123,7 @@ pub fn small_users(
 #[tactic(auto, using(crate::proofs::FirstUsers::no_users))]
 pub fn large_users(
     alloc: Global,
-    disk: &Disk,
+    disk: &DecodedDisk<'_>,
     segments: u32,
     reached: &Flags,
 ) -> Result<Users, NoMemory>

@@ -14,6 +14,7 @@ use Rattle.disk_definitions.specs.Images.{Blocks}
 use Rattle.disk_definitions.specs.Standing.{StandsFor}
 use Rattle.log_definitions.specs.Logs.{log_records, greatest_operation}
 use Rattle.log_definitions.specs.Replay.{replayed, slots_of}
+use Rattle.disk_reading.specs.Lined.{AreLinesOf}
 use Rattle.report_definitions.specs.Report.{Report, IsReport}
 use Rattle.fsck_report.specs.Line.{report_text}
 
@@ -39,6 +40,10 @@ pub record IsTreeOf (sectors : Sectors) (before lines : List Said) : Type 0 wher
   pub tree : FileTree
   pub stands : StandsFor (replayed sectors) tree
   pub is : lines ≡ before ++ tree_lines tree ++ said.End ∷ []
+
+-- the lines of the tree for which a disk stands as it is, after some others, and the end
+abbrev pub EndsWithTree : Sectors → List Said → List Said → Type 0
+EndsWithTree sectors before lines = (told : List Said) × AreLinesOf sectors told × (lines ≡ before ++ told ++ said.End ∷ [])
 
 abbrev pub IsTree : Blocks → List Said → Type 0
 IsTree blocks lines = IsTreeOf (sectors_of blocks) [] lines

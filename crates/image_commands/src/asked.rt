@@ -24,8 +24,8 @@ fn do_named<R: Threads + Sync, F: Files, O: Outside>(
     ensures files { LeavesFiles (image_asks_of command.now) result (F.state files.old).holds (F.state files.new).holds }
 {
     match *command {
-        ImageCommand::Recover { image, save } => recover(alloc, image, save, files, out),
-        ImageCommand::Tree { image } => tree(alloc, image, files, out),
+        ImageCommand::Recover { image, save } => recover(rt, alloc, image, save, files, out),
+        ImageCommand::Tree { image } => tree(rt, alloc, image, files, out),
         ImageCommand::Log { image, server } => log(alloc, image, server, files, out),
         ImageCommand::Fsck { image } => fsck(rt, alloc, image, files, out),
     }

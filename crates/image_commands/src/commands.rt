@@ -1,6 +1,8 @@
 // The commands on images.
-ghost use Rattle.std.specs.Prelude.{◌≡◌, []};
+ghost use Rattle.std.specs.Prelude.{◌≡◌, [], true, is_some};
 ghost use Rattle.std.specs.Option.{option_map};
+ghost use Rattle.sector_bytes.specs.Sectors.{sectors_of};
+ghost use Rattle.sector_definitions.specs.Params.{param_in};
 ghost use Rattle.image_commands.specs.declared.end.ImageEnd.TheVariants as end;
 ghost use Rattle.image_commands.specs.Saying.{Says};
 ghost use Rattle.image_commands.specs.Lines.{IsCheck, IsLog, IsTree};
@@ -57,7 +59,8 @@ fn say_told<O: Outside>(alloc: Global, lines: Result<Vec<Said>, NoMemory>, out: 
 }
 
 /// Says the lines of the tree for which the disk of an image stands once its logs are replayed, and the end.
-pub fn tree<F: Files, O: Outside>(
+pub fn tree<R: Threads + Sync, F: Files, O: Outside>(
+    rt: &R,
     alloc: Global,
     image: &str,
     files: &mut F,
@@ -68,7 +71,7 @@ pub fn tree<F: Files, O: Outside>(
     ensures untouched { (F.state files.new).holds ≡ (F.state files.old).holds }
 {
     match read_disk(alloc, image, files) {
-        Ok(disk) => say_lines(alloc, tree_said(alloc, &disk), out),
+        Ok(disk) => say_lines(alloc, tree_said(rt, alloc, disk), out),
         Err(end) => end,
     }
 }
@@ -104,7 +107,7 @@ pub fn fsck<R: Threads + Sync, F: Files, O: Outside>(
     ensures untouched { (F.state files.new).holds ≡ (F.state files.old).holds }
 {
     match read_disk(alloc, image, files) {
-        Ok(disk) => say_told(alloc, check_said(rt, alloc, &disk), out),
+        Ok(disk) => say_told(alloc, check_said(rt, alloc, disk), out),
         Err(end) => end,
     }
 }
@@ -166,17 +169,19 @@ fn say_and_save<F: Files, O: Outside>(
 }
 
 // Says what a disk's recovery says, and then saves the replayed disk, where a name is given.
-fn recover_disk<F: Files, O: Outside>(
+fn recover_disk<R: Threads + Sync, F: Files, O: Outside>(
+    rt: &R,
     alloc: Global,
-    disk: &Disk,
+    disk: Disk,
     save: Option<&str>,
     files: &mut F,
     out: &mut O,
 ) -> ImageEnd
-    requires { Says (O.state out.old).acts [] }
-    ensures { RecoversDisk (F.state files.old) (F.state files.new) (O.state out.old) (O.state out.new) disk.now (option_map (λ s. s.now) save.entry) result }
+    requires says { Says (O.state out.old).acts [] }
+    requires parameters { is_some (param_in (sectors_of disk 0)) ≡ true }
+    ensures { RecoversDisk (F.state files.old) (F.state files.new) (O.state out.old) (O.state out.new) disk (option_map (λ s. s.now) save.entry) result }
 {
-    match recovery_of(alloc, disk) {
+    match recovery_of(rt, alloc, disk) {
         Ok(found) => match found {
             Some(recovery) => say_and_save(alloc, &recovery, save, files, out),
             None => no_tree(),
@@ -187,7 +192,8 @@ fn recover_disk<F: Files, O: Outside>(
 
 /// Says a line for each log of an image's disk that holds a record, ascending, then the lines of the tree for which the disk stands once
 /// its logs are replayed, and the end; and then saves the replayed disk, where a name is given for its image.
-pub fn recover<F: Files, O: Outside>(
+pub fn recover<R: Threads + Sync, F: Files, O: Outside>(
+    rt: &R,
     alloc: Global,
     image: &str,
     save: Option<&str>,
@@ -199,7 +205,7 @@ pub fn recover<F: Files, O: Outside>(
     ensures saves { OnlySaves (option_map (λ s. s.now) save.entry) result (F.state files.old).holds (F.state files.new).holds }
 {
     match read_disk(alloc, image, files) {
-        Ok(disk) => recover_disk(alloc, &disk, save, files, out),
+        Ok(disk) => recover_disk(rt, alloc, disk, save, files, out),
         Err(end) => end,
     }
 }

@@ -1,46 +1,59 @@
 // The lines of a disk.
-ghost use Rattle.std.specs.Prelude.{◌≡◌, ◌++◌, ◌∷◌, [], map, true, is_some, IfOk, OnOk};
-ghost use Rattle.tree_definitions.specs.TreeLines.{tree_lines};
+ghost use Rattle.std.specs.Prelude.{◌≡◌, ◌↔◌, ◌++◌, map, true, is_some, IfOk, OnOk};
 ghost use Rattle.sector_bytes.specs.Sectors.{sectors_of};
 ghost use Rattle.sector_definitions.specs.Params.{param_in};
-ghost use Rattle.image_commands.specs.Lines.{recovered_below, recovered_by, records_in, redo_line, GivesLines, IsCheck, IsLog, IsTree};
+ghost use Rattle.report_definitions.specs.Laws.{StandsForSome};
+ghost use Rattle.image_commands.specs.Lines.{recovered_below, recovered_by, records_in, redo_line, EndsWithTree, GivesLines, IsCheck, IsLog, IsTree};
 ghost use Rattle.image_commands.specs.Recovered.{GivesRecovery};
 
 use disk_definitions::Disk;
-use disk_reading::{replayed, tree_read};
-use disk_replay::records_of;
-use file_tree::Tree;
+use disk_reading::lines_read;
+use disk_replay::{records_of, replay_in_place};
 use frang_base::limits::LOGS;
 use frang_base::{NoMemory, Redo, Said, ServerId};
-use fsck_report::{check, report_line};
+use fsck_report::{check_sectors, report_line};
 use log_reading::greatest_operation;
 use std::alloc::Global;
 use std::thread::Threads;
 
-// Lines with those of a tree behind them, and the end.
-fn with_tree(tree: &Tree, before: Vec<Said>) -> Result<Vec<Said>, NoMemory>
-    ensures { IfOk result (λ lines. lines.items ≡ before.items ++ tree_lines tree.now ++ Said.End ∷ []) }
+// Whether a disk stands for a tree.
+fn stands<R: Threads + Sync>(rt: &R, alloc: Global, disk: &Disk) -> Result<bool, NoMemory>
+    requires { is_some (param_in (sectors_of disk.now 0)) ≡ true }
+    ensures { IfOk result (λ b. (b ≡ true) ↔ StandsForSome (sectors_of disk.now)) }
 {
+    let report = check_sectors(rt, alloc, disk)?;
+    Ok(report.stands)
+}
+
+// Lines with those of the tree of a disk behind them, and the end.
+fn with_tree(alloc: Global, disk: &Disk, before: Vec<Said>) -> Result<Vec<Said>, NoMemory>
+    requires { StandsForSome (sectors_of disk.now) }
+    ensures { IfOk result (λ lines. EndsWithTree (sectors_of disk.now) before.items lines.items) }
+{
+    let mut told = lines_read(alloc, disk)?;
     let mut lines = before;
-    let mut told = tree.lines()?;
     lines.append(&mut told)?;
     lines.push(Said::End)?;
     Ok(lines)
 }
 
 /// The lines of the tree of a disk, once its logs are replayed, and the end. `None` exactly where it stands for no tree.
-pub fn tree_said(alloc: Global, disk: &Disk) -> Result<Option<Vec<Said>>, NoMemory>
-    ensures { IfOk result (GivesLines IsTree disk.now) }
+pub fn tree_said<R: Threads + Sync>(
+    rt: &R,
+    alloc: Global,
+    disk: Disk,
+) -> Result<Option<Vec<Said>>, NoMemory>
+    requires { is_some (param_in (sectors_of disk 0)) ≡ true }
+    ensures { IfOk result (GivesLines IsTree disk) }
 {
-    let new = replayed(alloc, disk)?;
-    let read = tree_read(alloc, &new)?;
-    match read {
-        None => Ok(None),
-        Some(tree) => {
-            let lines = with_tree(&tree, Vec::new(alloc))?;
-            Ok(Some(lines))
-        }
+    let new = replay_in_place(rt, alloc, disk)?;
+    let sound = stands(rt, alloc, &new)?;
+    if !sound {
+        return Ok(None);
     }
+    let before = Vec::new(alloc);
+    let lines = with_tree(alloc, &new, before)?;
+    Ok(Some(lines))
 }
 
 // The lines of records, in order.
@@ -68,12 +81,13 @@ pub fn log_said(alloc: Global, disk: &Disk, server: u8) -> Result<Vec<Said>, NoM
 pub fn check_said<R: Threads + Sync>(
     rt: &R,
     alloc: Global,
-    disk: &Disk,
+    disk: Disk,
 ) -> Result<Vec<Said>, NoMemory>
-    requires { is_some (param_in (sectors_of disk.now 0)) ≡ true }
-    ensures { IfOk result (λ lines. IsCheck disk.now lines.items) }
+    requires { is_some (param_in (sectors_of disk 0)) ≡ true }
+    ensures { IfOk result (λ lines. IsCheck disk lines.items) }
 {
-    let report = check(rt, alloc, disk)?;
+    let new = replay_in_place(rt, alloc, disk)?;
+    let report = check_sectors(rt, alloc, &new)?;
     let line = report_line(alloc, &report)?;
     let mut lines = Vec::new(alloc);
     lines.push(Said::Shown(line))?;
@@ -122,17 +136,20 @@ pub struct Recovery {
 }
 
 /// The replayed disk with the lines of the logs that hold a record, of its tree, and the end. `None` exactly where it stands for no tree.
-pub fn recovery_of(alloc: Global, disk: &Disk) -> Result<Option<Recovery>, NoMemory>
-    ensures { IfOk result (GivesRecovery disk.now) }
+pub fn recovery_of<R: Threads + Sync>(
+    rt: &R,
+    alloc: Global,
+    disk: Disk,
+) -> Result<Option<Recovery>, NoMemory>
+    requires { is_some (param_in (sectors_of disk 0)) ≡ true }
+    ensures { IfOk result (GivesRecovery disk) }
 {
-    let new = replayed(alloc, disk)?;
-    let read = tree_read(alloc, &new)?;
-    match read {
-        None => Ok(None),
-        Some(tree) => {
-            let before = recovered_said(alloc, disk)?;
-            let lines = with_tree(&tree, before)?;
-            Ok(Some(Recovery { disk: new, lines }))
-        }
+    let before = recovered_said(alloc, &disk)?;
+    let new = replay_in_place(rt, alloc, disk)?;
+    let sound = stands(rt, alloc, &new)?;
+    if !sound {
+        return Ok(None);
     }
+    let lines = with_tree(alloc, &new, before)?;
+    Ok(Some(Recovery { disk: new, lines }))
 }

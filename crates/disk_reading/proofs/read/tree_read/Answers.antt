@@ -1,53 +1,14 @@
--- A sound disk stands for the tree of its nodes, and one that isn't sound for none.
-use Rattle.std.proofs.Common.{◌≡◌, ℕ, ◌*◌, Bool, true, false, Some, List, sym, ◌∙◌, ap, subst}
-use Rattle.frang_base.specs.declared.limits.TheConstants.{RUN_VERSIONS_MAX}
-use Rattle.tree_definitions.specs.declared.node.Node.{Node}
+-- What is decoded once is the disk.
+use Rattle.std.proofs.Common.{◌≡◌, Some, sym, ◌∙◌, ap, subst, IfOk}
 use Rattle.sector_definitions.specs.Params.{param_in}
-use Rattle.sector_definitions.proofs.ParamLaws.{few_segments}
-use Rattle.sector_bytes.specs.Sectors.{Sectors, sectors_of}
+use Rattle.sector_bytes.specs.Sectors.{sectors_of}
 use Rattle.disk_reading.specs.Reading.{IsReading}
-use Rattle.disk_reading.specs.Tests.{IsSoundReading}
-use Rattle.disk_reading.proofs.Treed.{is_within, has_targets, reading_some, reading_none}
 use Rattle.disk_reading.proofs.read.tree_read.Goals as goal
 
--- what was told of the run is told of the parameters' run
-told : {n run : ℕ} {b : Bool} (t : Bool) (segments : ℕ) (sectors : Sectors) (nodes : List (ℕ × Node)) → n ≡ run → b ≡ t
-    → IsSoundReading (RUN_VERSIONS_MAX * n) segments sectors nodes b → IsSoundReading (RUN_VERSIONS_MAX * run) segments sectors nodes t
-told {n} {run} {b} t segments sectors nodes e f h =
-    subst (IsSoundReading (RUN_VERSIONS_MAX * run) segments sectors nodes) f (subst (λ (m : ℕ). IsSoundReading (RUN_VERSIONS_MAX * m) segments sectors nodes b) e h)
+pub read_tree-requires : goal.read_tree-requires
+read_tree-requires c =
+    let e : param_in (sectors_of c.args.disk.now 0) ≡ Some c.in-Some.param = ap param_in (sym c.get.ensures) ∙ sym c.decode.ensures ∙ c.in-Some.is in
+    ap (λ es. param_in (sectors_of es 0)) c.in_ok-decoded.ensures ∙ e
 
-pub of-requires-clause-within : goal.of-requires-clause-within
-of-requires-clause-within c =
-    let sectors = sectors_of c.args.disk.now in
-    let p = c.in-Some.param in
-    let nodes = c.read_sound.new.nodes.entries in
-    let e : param_in (sectors 0) ≡ Some p = ap param_in (sym c.get.ensures) ∙ sym c.decode.ensures ∙ c.in-Some.is in
-    let r = told true p.segments sectors nodes c.from-most.ensures c.if-branch.true c.in_ok-read_sound.ensures in
-    is_within (RUN_VERSIONS_MAX * p.run) p.segments sectors (few_segments (sectors 0) p e) r.0 nodes r.1
-
-pub of-requires-clause-targets : goal.of-requires-clause-targets
-of-requires-clause-targets c =
-    let sectors = sectors_of c.args.disk.now in
-    let p = c.in-Some.param in
-    let nodes = c.read_sound.new.nodes.entries in
-    let e : param_in (sectors 0) ≡ Some p = ap param_in (sym c.get.ensures) ∙ sym c.decode.ensures ∙ c.in-Some.is in
-    let r = told true p.segments sectors nodes c.from-most.ensures c.if-branch.true c.in_ok-read_sound.ensures in
-    has_targets (RUN_VERSIONS_MAX * p.run) p.segments sectors (few_segments (sectors 0) p e) r.0 nodes r.1
-
-pub returns-then-branch : goal.returns-then-branch
-returns-then-branch c =
-    let sectors = sectors_of c.args.disk.now in
-    let p = c.in-Some.param in
-    let nodes = c.read_sound.new.nodes.entries in
-    let e : param_in (sectors 0) ≡ Some p = ap param_in (sym c.get.ensures) ∙ sym c.decode.ensures ∙ c.in-Some.is in
-    let r = told true p.segments sectors nodes c.from-most.ensures c.if-branch.true c.in_ok-read_sound.ensures in
-    subst (λ t. IsReading sectors (Some t)) (sym c.of.ensures) (reading_some sectors p e nodes r)
-
-pub returns-else-branch : goal.returns-else-branch
-returns-else-branch c =
-    let sectors = sectors_of c.args.disk.now in
-    let p = c.in-Some.param in
-    let nodes = c.read_sound.new.nodes.entries in
-    let e : param_in (sectors 0) ≡ Some p = ap param_in (sym c.get.ensures) ∙ sym c.decode.ensures ∙ c.in-Some.is in
-    let r = told false p.segments sectors nodes c.from-most.ensures c.if-branch.false c.in_ok-read_sound.ensures in
-    reading_none sectors p e nodes r
+pub returns : goal.returns
+returns c = subst (λ es. IfOk c.read_tree.result (IsReading (sectors_of es))) c.in_ok-decoded.ensures c.read_tree.ensures

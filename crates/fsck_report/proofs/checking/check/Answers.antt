@@ -1,27 +1,29 @@
--- Of the replayed disk.
-use Rattle.std.proofs.Common.{◌≡◌, ◌∙◌, ◌*◌, Some, ap, subst, sym}
-use Rattle.std.proofs.lemmas.Result.{IfOk-weaker}
+-- Of the replayed disk, which has the same parameters.
+use Rattle.std.proofs.Common.{◌≡◌, ◌↔◌, true, is_some, IfOk, ◌∙◌, ap, subst, arith, rules}
 use Rattle.sector_bytes.specs.Sectors.{sectors_of}
 use Rattle.sector_definitions.specs.Params.{param_in}
 use Rattle.log_definitions.specs.Replay.{replayed}
+use Rattle.report_definitions.specs.Laws.{StandsForSome}
 use Rattle.report_definitions.specs.Report.{IsReport}
-use Rattle.fsck_report.specs.declared.report.Report.{Report}
-use Rattle.fsck_report.specs.Seen.{view_in}
-use Rattle.fsck_report.specs.Told.{told, IsReportOf}
-use Rattle.fsck_report.proofs.Reported.{reported}
-use Rattle.fsck_report.proofs.Stands.{stands_told}
+use Rattle.fsck_report.specs.Told.{told}
+use Rattle.fsck_report.proofs.Reported.{all_same, param_kept}
 use Rattle.fsck_report.proofs.checking.check.Goals as goal
-use Rattle.fsck_report.proofs.checking.check.Goals.{After-drop-new-inside}
 
--- a report of what is seen is the disk's
-is_report : (g : _) (c : After-drop-new-inside g) (r : Report) → IsReportOf (view_in (131072 * c.from-most.result) c.in-Some.param.segments c.in_ok-new.new) r → IsReport (replayed (sectors_of c.args.disk.now)) (told r)
-is_report g c r is =
-    let e : param_in (sectors_of c.args.disk.now 0) ≡ Some c.in-Some.param = ap param_in (sym c.get.ensures) ∙ sym c.decode.ensures ∙ c.in-Some.is in
-    reported (sectors_of c.args.disk.now) c.in_ok-new.new c.in-Some.param r e c.in_ok-new.ensures (subst (λ n. IsReportOf (view_in (131072 * n) c.in-Some.param.segments c.in_ok-new.new) r) c.from-most.ensures is)
+pub check_sectors-requires : goal.check_sectors-requires
+check_sectors-requires g c =
+    let s = sectors_of c.args.disk.now in
+    let same : sectors_of c.in_ok-new.new ≡ replayed s = all_same (sectors_of c.in_ok-new.new) (replayed s) c.in_ok-new.ensures in
+    let h : is_some (param_in (sectors_of c.in_ok-new.new 0)) ≡ true = ap (λ t. is_some (param_in (t 0))) same ∙ ap is_some (param_kept s) ∙ c.requires in
+    first_of (search (rules, h), assumption h, grind (arith, h))
 
 pub returns-clause-report : goal.returns-clause-report
-returns-clause-report g c = IfOk-weaker c.report_of.result _ _ (λ r is. is_report g c r is) c.report_of.ensures
+returns-clause-report g c =
+    let s = replayed (sectors_of c.args.disk.now) in
+    let same : sectors_of c.in_ok-new.new ≡ s = all_same (sectors_of c.in_ok-new.new) s c.in_ok-new.ensures in
+    subst (λ t. IfOk c.check_sectors.result (λ r. IsReport t (told r))) same c.check_sectors.ensures.report
 
 pub returns-clause-stands : goal.returns-clause-stands
 returns-clause-stands g c =
-    IfOk-weaker c.report_of.result _ _ (λ r is. stands_told (replayed (sectors_of c.args.disk.now)) c.in_ok-new.new (told r) c.len-sectors.ensures.blocks c.in_ok-new.ensures (is_report g c r is)) c.report_of.ensures
+    let s = replayed (sectors_of c.args.disk.now) in
+    let same : sectors_of c.in_ok-new.new ≡ s = all_same (sectors_of c.in_ok-new.new) s c.in_ok-new.ensures in
+    subst (λ t. IfOk c.check_sectors.result (λ r. (r.stands ≡ true) ↔ StandsForSome t)) same c.check_sectors.ensures.stands

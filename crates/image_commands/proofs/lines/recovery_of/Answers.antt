@@ -1,24 +1,28 @@
--- By the tree that is read of the replayed disk, after the lines of its logs.
-use Rattle.std.proofs.Common.{◌∙◌, [], ◌∷◌, ◌++◌, List, ap, subst}
+-- By whether the replayed disk stands for a tree, after the lines of its logs.
+use Rattle.std.proofs.Common.{sym, ◌∙◌, subst, ◌≡◌, true, is_some, arith, rules}
+use Rattle.std.proofs.lemmas.Bool.{false≢true}
 use Rattle.frang_base.specs.declared.limits.TheConstants.{LOGS}
-use Rattle.frang_base.specs.declared.said.Said.{Said}
-use Rattle.frang_base.specs.declared.said.Said.TheVariants as said
-use Rattle.tree_definitions.specs.TreeLines.{tree_lines}
+use Rattle.sector_definitions.specs.Params.{param_in}
 use Rattle.sector_bytes.specs.Sectors.{sectors_of}
-use Rattle.disk_reading.specs.Reading.{IsReading}
-use Rattle.image_commands.specs.Lines.{recovered_below}
-use Rattle.image_commands.proofs.LineLaws.{tree_told, none_told}
+use Rattle.image_commands.specs.Lines.{recovered_below, EndsWithTree}
+use Rattle.image_commands.proofs.LineLaws.{has_param, none_told, tree_told}
 use Rattle.image_commands.proofs.lines.recovery_of.Goals as goal
 
-pub returns-in-None : goal.returns-in-None
-returns-in-None c =
-    none_told c.args.disk.now c.in_ok-new.new (recovered_below (sectors_of c.args.disk.now) LOGS) c.in_ok-new.ensures
-    (subst (IsReading (sectors_of c.in_ok-new.new)) c.in-None.is c.in_ok-read.ensures)
+pub stands-requires : goal.stands-requires
+stands-requires g c =
+    let h : is_some (param_in (sectors_of c.in_ok-new.new 0)) ≡ true = has_param c.args.disk c.in_ok-new.new (recovered_below (sectors_of c.args.disk) LOGS) c.in_ok-new.ensures c.requires in
+    first_of (search (rules, h), assumption h, grind (arith, h))
 
-pub returns-in_ok-lines-in-Some : goal.returns-in_ok-lines-in-Some
-returns-in_ok-lines-in-Some c = (
-  tree_told c.args.disk.now c.in_ok-new.new (recovered_below (sectors_of c.args.disk.now) LOGS) c.in_ok-new.ensures c.in-Some.tree c.in_ok-lines-in-Some.lines.items
-      (subst (IsReading (sectors_of c.in_ok-new.new)) c.in-Some.is c.in_ok-read.ensures)
-      (c.in_ok-lines-in-Some.ensures ∙ ap (λ (before : List Said). before ++ tree_lines c.in-Some.tree ++ said.End ∷ []) c.in_ok-before-in-Some.ensures),
+pub with_tree-requires : goal.with_tree-requires
+with_tree-requires g c = c.in_ok-sound.ensures.0 c.if-not-sound.false
+
+pub returns-then-not-sound : goal.returns-then-not-sound
+returns-then-not-sound g c =
+    none_told c.args.disk c.in_ok-new.new (recovered_below (sectors_of c.args.disk) LOGS) c.in_ok-new.ensures (λ yes. false≢true (sym c.if-not-sound.true ∙ c.in_ok-sound.ensures.1 yes))
+
+pub returns : goal.returns
+returns g c = (
+  tree_told c.args.disk c.in_ok-new.new (recovered_below (sectors_of c.args.disk) LOGS) c.in_ok-new.ensures c.in_ok-lines.lines.items
+      (subst (λ before. EndsWithTree (sectors_of c.in_ok-new.new) before c.in_ok-lines.lines.items) c.in_ok-before.ensures c.in_ok-lines.ensures),
   c.in_ok-new.ensures,
 )
