@@ -4,7 +4,7 @@ ghost use Rattle.frang_base.specs.declared.limits.TheConstants.{SEGMENTS_MAX};
 ghost use Rattle.plan_definitions.specs.Written.{inode_at_hand};
 ghost use Rattle.plan_moves.specs.CoversAtHand as covers;
 
-use dir_lookup::inode_at;
+use dir_lookup::{Looked, inode_at};
 use edit_moves::{has_large, has_small};
 use frang_base::limits::SEGMENT_INODES;
 use meta_version::Sectors;
@@ -26,7 +26,8 @@ pub(crate) fn small_owner(sectors: &Sectors, segments: u32, block: u32) -> Optio
 fn owns_small(sectors: &Sectors, number: u32, block: u32) -> bool
     ensures { result ≡ covers.has_small block (inode_at_hand sectors.now.entries number) }
 {
-    match inode_at(sectors, number) {
+    let mut looked = Looked::unasked();
+    match inode_at(sectors, number, &mut looked) {
         Ok(Some(inode)) => has_small(&inode, block),
         Ok(None) => false,
         Err(_) => false,
@@ -50,7 +51,8 @@ pub(crate) fn large_owner(sectors: &Sectors, segments: u32, block: u32) -> Optio
 fn owns_large(sectors: &Sectors, number: u32, block: u32) -> bool
     ensures { result ≡ covers.has_large block (inode_at_hand sectors.now.entries number) }
 {
-    match inode_at(sectors, number) {
+    let mut looked = Looked::unasked();
+    match inode_at(sectors, number, &mut looked) {
         Ok(Some(inode)) => has_large(&inode, block),
         Ok(None) => false,
         Err(_) => false,

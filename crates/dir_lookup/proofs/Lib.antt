@@ -4,3 +4,6 @@ pub mod Places
 pub mod Searches
 pub mod Steps
 pub mod Through
+pub mod Looking
+pub mod SearchLooks
+pub mod WalkLooks

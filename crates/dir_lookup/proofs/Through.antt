@@ -17,7 +17,7 @@ use Rattle.dir_lookup.proofs.Steps.{led_on, onward_is}
 use Rattle.dir_lookup.specs.Passing.{PassesFrom}
 
 -- ---- a name on the way
-walked_looked : (dirs : List ℕ) (i : ℕ) (s : Spot) → walked_in dirs i s ≡ record { spot = s; dirs = dirs ++ looked_in i s }
+pub walked_looked : (dirs : List ℕ) (i : ℕ) (s : Spot) → walked_in dirs i s ≡ record { spot = s; dirs = dirs ++ looked_in i s }
 walked_looked dirs i AtRoot = ap (λ dirs. record { spot = AtRoot; dirs = dirs }) (sym (append-nil dirs))
 walked_looked dirs i (AtName n x name q e) = refl
 walked_looked dirs i (AtGap n x name) = refl

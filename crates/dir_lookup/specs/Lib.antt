@@ -4,3 +4,5 @@ pub mod Stored
 pub mod Spots
 pub mod Passing
 pub mod Planned
+pub mod Looked
+pub mod Looks

@@ -4,6 +4,7 @@
 #![tactic(auto)]
 
 mod hand;
+mod looked;
 mod need;
 mod search;
 mod sectors;
@@ -11,6 +12,7 @@ mod spot;
 mod walk;
 
 pub use hand::Hand;
+pub use looked::Looked;
 pub use need::Need;
 pub use search::{Found, first_named, first_vacant, part_at};
 pub use sectors::{block_at, directory_at, entry_at, inode_at, name_of};

@@ -2,16 +2,19 @@
 ghost use Rattle.std.specs.Prelude.{◌≡◌, ◌≤◌, ◌<◌, ◌*◌, ◌/◌, ◌%◌, ℕ, IfOk, IfSome, IsTrue, length, slice_index};
 ghost use Rattle.std.specs.Option.{option_map};
 ghost use Rattle.frang_base.specs.declared.limits.TheConstants.{INODE_BLOCKS_MAX, SECTOR_ENTRIES, SMALL_BLOCK_SECTORS, SMALL_SECTORS_MAX};
+ghost use Rattle.pick_definitions.specs.Held.{Segments};
 ghost use Rattle.pick_definitions.specs.Least.{least};
 ghost use Rattle.sector_definitions.specs.Directories.{directory_fits};
 ghost use Rattle.plan_definitions.specs.Ask.{Got, ReadDirectory};
 ghost use Rattle.plan_definitions.specs.Walks.{hit, is_named, is_vacant, search};
+ghost use Rattle.dir_lookup.specs.Looked.{Adds};
+ghost use Rattle.dir_lookup.specs.Looks.{looks_of};
 ghost use Rattle.dir_lookup.specs.Reading.{Reads};
 ghost use Rattle.dir_lookup.specs.Spots.{found_at, vacant_at};
 ghost use Rattle.dir_lookup.specs.Stored.{entries_at};
 
 use crate::sectors::entry_at;
-use crate::{Need, directory_at};
+use crate::{Looked, Need, directory_at};
 use dir_block::find;
 use frang_base::Name;
 use frang_base::limits::{SECTOR_ENTRIES, SMALL_BLOCK_SECTORS};
@@ -26,12 +29,18 @@ pub struct Found {
 }
 
 /// The first entry of this name in a directory of at most 16 blocks. `None` exactly where the name isn't there.
-pub fn first_named(sectors: &Sectors, directory: &Inode, name: &Name) -> Result<Option<Found>, Need>
+pub fn first_named(
+    sectors: &Sectors,
+    directory: &Inode,
+    name: &Name,
+    looked: &mut Looked,
+) -> Result<Option<Found>, Need>
     requires { directory.now.blocks ≤ INODE_BLOCKS_MAX }
-    ensures { Reads (option_map found_at) (search (slice_index directory.now.small) (is_named name.now) 0 (SMALL_BLOCK_SECTORS * directory.now.blocks)) sectors.now.entries result }
+    ensures reads { Reads (option_map found_at) (search (slice_index directory.now.small) (is_named name.now) 0 (SMALL_BLOCK_SECTORS * directory.now.blocks)) sectors.now.entries result }
+    ensures looks { (held : Segments) → Adds looked.old looked.new (looks_of (search (slice_index directory.now.small) (is_named name.now) 0 (SMALL_BLOCK_SECTORS * directory.now.blocks)) sectors.now.entries held) }
 {
     for j in 0..SMALL_BLOCK_SECTORS * u32::from(directory.blocks) {
-        let sector = part_at(sectors, directory, j)?;
+        let sector = part_at(sectors, directory, j, looked)?;
         if let Some(found) = named_in(&sector, name, j) {
             return Ok(Some(found));
         }
@@ -40,12 +49,17 @@ pub fn first_named(sectors: &Sectors, directory: &Inode, name: &Name) -> Result<
 }
 
 /// The first free place of a directory of at most 16 blocks. `None` exactly where there is none.
-pub fn first_vacant(sectors: &Sectors, directory: &Inode) -> Result<Option<u32>, Need>
+pub fn first_vacant(
+    sectors: &Sectors,
+    directory: &Inode,
+    looked: &mut Looked,
+) -> Result<Option<u32>, Need>
     requires { directory.now.blocks ≤ INODE_BLOCKS_MAX }
-    ensures { Reads (option_map vacant_at) (search (slice_index directory.now.small) is_vacant 0 (SMALL_BLOCK_SECTORS * directory.now.blocks)) sectors.now.entries result }
+    ensures reads { Reads (option_map vacant_at) (search (slice_index directory.now.small) is_vacant 0 (SMALL_BLOCK_SECTORS * directory.now.blocks)) sectors.now.entries result }
+    ensures looks { (held : Segments) → Adds looked.old looked.new (looks_of (search (slice_index directory.now.small) is_vacant 0 (SMALL_BLOCK_SECTORS * directory.now.blocks)) sectors.now.entries held) }
 {
     for j in 0..SMALL_BLOCK_SECTORS * u32::from(directory.blocks) {
-        let sector = part_at(sectors, directory, j)?;
+        let sector = part_at(sectors, directory, j, looked)?;
         if let Some(place) = vacant_in(&sector, j) {
             return Ok(Some(place));
         }
@@ -54,15 +68,22 @@ pub fn first_vacant(sectors: &Sectors, directory: &Inode) -> Result<Option<u32>,
 }
 
 /// Sector `j` of a directory, 8 to a block.
-pub fn part_at(sectors: &Sectors, directory: &Inode, j: u32) -> Result<DirSector, Need>
+pub fn part_at(
+    sectors: &Sectors,
+    directory: &Inode,
+    j: u32,
+    looked: &mut Looked,
+) -> Result<DirSector, Need>
     requires { j < SMALL_SECTORS_MAX }
     ensures reads { Reads entries_at (ReadDirectory (slice_index directory.now.small (j / SMALL_BLOCK_SECTORS)) (j % SMALL_BLOCK_SECTORS) Got) sectors.now.entries result }
     ensures fits { IfOk result (λ x. IsTrue (directory_fits x)) }
+    ensures looks { (held : Segments) → Adds looked.old looked.new (looks_of (ReadDirectory (slice_index directory.now.small (j / SMALL_BLOCK_SECTORS)) (j % SMALL_BLOCK_SECTORS) Got) sectors.now.entries held) }
 {
     directory_at(
         sectors,
         directory.small[(j / SMALL_BLOCK_SECTORS) as usize],
         (j % SMALL_BLOCK_SECTORS) as u8,
+        looked,
     )
 }
 

@@ -7,11 +7,14 @@ ghost use Rattle.sector_bytes.specs.SectorMaps.{value_at};
 ghost use Rattle.sector_definitions.specs.Directories.{directory_fits, directory_in, is_free_place, name_in};
 ghost use Rattle.sector_definitions.specs.Inodes.{inode_in};
 ghost use Rattle.disk_definitions.specs.Store.{stored_node, entry_in, stored, entered};
+ghost use Rattle.pick_definitions.specs.Held.{Segments};
 ghost use Rattle.plan_definitions.specs.Ask.{Got, ReadInode, ReadDirectory};
+ghost use Rattle.dir_lookup.specs.Looked.{Adds};
+ghost use Rattle.dir_lookup.specs.Looks.{looks_of};
 ghost use Rattle.dir_lookup.specs.Reading.{Reads, read_of, read_or_lacks};
 ghost use Rattle.dir_lookup.specs.Stored.{IsProper, IsUsed, entries_at};
 
-use crate::Need;
+use crate::{Looked, Need};
 use frang_base::limits::KIND_FREE;
 use frang_base::{Block, Name, Sector};
 use frang_layout::{Region, sector_of};
@@ -26,12 +29,15 @@ pub fn block_at(sectors: &Sectors, sector: Sector) -> Result<&Block, Need>
     sectors.get(sector).ok_or(Need(sector))
 }
 
-/// Inode `i`, where it is in use. `None` exactly where its sector is that of a free inode, or of none.
-pub fn inode_at(sectors: &Sectors, i: u32) -> Result<Option<Inode>, Need>
+/// Inode `i`, where it is in use. `None` exactly where its sector is that of a free inode, or of none. The sector is looked at.
+pub fn inode_at(sectors: &Sectors, i: u32, looked: &mut Looked) -> Result<Option<Inode>, Need>
     ensures reads { Reads (option_map stored) (ReadInode i Got) sectors.now.entries result }
     ensures used { IfOk result (λ o. IfSome o IsUsed) }
+    ensures looks { (held : Segments) → Adds looked.old looked.new (looks_of (ReadInode i Got) sectors.now.entries held) }
 {
-    let block = block_at(sectors, sector_of(&Region::Inode(i)))?;
+    let sector = sector_of(&Region::Inode(i));
+    let block = block_at(sectors, sector)?;
+    looked.add(sector);
     Ok(used_inode(block))
 }
 
@@ -48,13 +54,21 @@ fn used_inode(block: &Block) -> Option<Inode>
     }
 }
 
-/// Part `part` of a small block as a sector of a directory. One that is no sector of a directory has no entries.
-pub fn directory_at(sectors: &Sectors, block: u32, part: u8) -> Result<DirSector, Need>
+/// Part `part` of a small block as a sector of a directory, which is looked at. One that is no sector of a directory has no entries.
+pub fn directory_at(
+    sectors: &Sectors,
+    block: u32,
+    part: u8,
+    looked: &mut Looked,
+) -> Result<DirSector, Need>
     ensures reads { Reads entries_at (ReadDirectory block part Got) sectors.now.entries result }
     ensures fits { IfOk result (λ x. IsTrue (directory_fits x)) }
+    ensures looks { (held : Segments) → Adds looked.old looked.new (looks_of (ReadDirectory block part Got) sectors.now.entries held) }
 {
-    let block = block_at(sectors, sector_of(&Region::Small { block, part }))?;
-    Ok(entries_of(block))
+    let sector = sector_of(&Region::Small { block, part });
+    let bytes = block_at(sectors, sector)?;
+    looked.add(sector);
+    Ok(entries_of(bytes))
 }
 
 // The sector of a directory that a block is, or one without entries.

@@ -1,13 +1,15 @@
 // The allocation bitmap: one segment of it, and the segments that an operation holds.
-ghost use Rattle.std.specs.Prelude.{◌≡◌, [], OnErr, OnOk};
+ghost use Rattle.std.specs.Prelude.{◌≡◌, [], OnErr, OnOk, ℕ};
 ghost use Rattle.std.specs.BTreeMap.{insert_entry, is_at};
-ghost use Rattle.std.specs.Map.{lookup};
+ghost use Rattle.std.specs.Map.{keys_of, lookup};
+ghost use Rattle.std.specs.Map.Iter.{ShowsInOrder, deref};
 ghost use Rattle.std.specs.Option.{option_copied};
 ghost use Rattle.std.specs.Ordering.{nat_cmp};
 
 use crate::NoMemory;
 use std::alloc::Global;
 use std::collections::BTreeMap;
+use std::collections::btree_map::Keys;
 use std::marker::Model;
 
 /// One segment of the allocation bitmap: which of its 64 inodes, 1,024 small blocks and one large block are in use.
@@ -61,5 +63,13 @@ impl Held {
         ensures { option_copied result ≡ lookup (is_at (nat_cmp k)) self.now }
     {
         self.bitmaps.get(&k)
+    }
+
+    /// The numbers of the held segments, ascending.
+    pub fn segments(&self) -> Keys<'_, u32, Bitmap>
+        ensures are { result ≡ keys_of self.now }
+        ensures runs { ShowsInOrder (deref {X = ℕ}) }
+    {
+        self.bitmaps.keys()
     }
 }

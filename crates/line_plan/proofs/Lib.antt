@@ -1,3 +1,4 @@
 pub mod Fitting
 pub mod Behind
 pub mod Renames
+pub mod Looking

@@ -2,13 +2,15 @@
 ghost use Rattle.std.specs.Prelude.{◌≡◌, ◌≤◌, IfOk, length};
 ghost use Rattle.frang_base.specs.declared.limits.TheConstants.{TARGET_BYTES_MAX};
 ghost use Rattle.plan_definitions.specs.PlanOf.{plan_of};
-ghost use Rattle.line_definitions.specs.Lines.{plan_of_line, plan_step};
+ghost use Rattle.line_definitions.specs.Lines.{plan_of_line, plan_step, resolved};
 ghost use Rattle.dir_lookup.specs.Hands.{over, seen};
+ghost use Rattle.dir_lookup.specs.Looked.{Adds};
+ghost use Rattle.dir_lookup.specs.Looks.{looks_of};
 ghost use Rattle.plan_steps.specs.Ends.{Comes};
-ghost use Rattle.line_plan.specs.Lines.{StepFits, TargetFits, step_by};
+ghost use Rattle.line_plan.specs.Lines.{StepFits, TargetFits, UnlessNoMemory, step_by};
 
 use crate::walks::{Line, Resolved, Step, resolve_line};
-use dir_lookup::Hand;
+use dir_lookup::{Hand, Looked};
 use frang_base::{NoMemory, Op, Reply, Text};
 use op_data::plan_bytes;
 use op_dir::{link_node, make, remove_directory, rename_node, unlink};
@@ -20,18 +22,21 @@ use tree_definitions::Target;
 /// How a line ends over what is at hand, which needn't be of any disk: its paths are resolved, links followed, and the operation that comes of it is
 /// planned, with the birth of its new node and the time `when`. It is done with a reply and the edits that make it; or it is refused with a reply; or it
 /// needs a sector, the first that it looks at and that isn't cached, walks included, or more segments, or a clear block. Its other refusal is want of
-/// memory. An operation without a path is refused as done. The target of a symbolic link may stand in an inode.
+/// memory. An operation without a path is refused as done. The target of a symbolic link may stand in an inode. What its walks through links looked at comes to
+/// `looked`, in order.
 pub fn plan_line(
     alloc: Global,
     hand: &Hand,
     birth: u64,
     when: u64,
     op: &Op,
+    looked: &mut Looked,
 ) -> Result<Outcome, Stop>
     requires { TargetFits op.now }
-    ensures { Comes (over (plan_of_line (seen hand.now) birth when op.now) hand.now) result }
+    ensures looks { UnlessNoMemory result (Adds looked.old looked.new (looks_of (resolved op.now) hand.now.sectors.now.entries hand.now.held.now)) }
+    ensures comes { Comes (over (plan_of_line (seen hand.now) birth when op.now) hand.now) result }
 {
-    let line = resolve_line(alloc, op, hand.sectors)?;
+    let line = resolve_line(alloc, op, hand.sectors, looked)?;
     match line {
         Line::Need(sector) => Err(Stop::Need(sector)),
         Line::Comes(resolved) => plan_step(alloc, hand, birth, when, resolved),

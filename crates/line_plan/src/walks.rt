@@ -3,11 +3,14 @@ ghost use Rattle.std.specs.Prelude.{◌≡◌, ◌++◌, IfOk, OnOk, true};
 ghost use Rattle.pick_definitions.specs.Held.{Segments};
 ghost use Rattle.line_definitions.specs.Lines as lines;
 ghost use Rattle.tree_definitions.specs.Perform.{Stops as DoesStop, goes};
+ghost use Rattle.dir_lookup.specs.Looked.{Adds};
+ghost use Rattle.dir_lookup.specs.Looks.{looks_of};
 ghost use Rattle.dir_lookup.specs.Reading.{Gives, reading};
 ghost use Rattle.file_tree.specs.Walks.{with_path, with_paths};
 ghost use Rattle.namei.specs.Walks.{end_of};
 ghost use Rattle.line_plan.specs.Lines.{AreWalks, IsLed, line_as, resolved_by};
 
+use dir_lookup::Looked;
 use file_tree::{with_path, with_paths};
 use frang_base::limits::{KIND_DIRECTORY, ROOT_INODE};
 use frang_base::{NoMemory, Op, Path, Reply, Sector};
@@ -37,14 +40,21 @@ pub enum Line {
     Comes(Resolved),
 }
 
-/// What a line comes to once links are followed: the walks of its paths in the order of its refusals. Its one refusal is want of memory.
-pub fn resolve_line(alloc: Global, op: &Op, sectors: &Sectors) -> Result<Line, NoMemory>
-    ensures { (held : Segments) → IfOk result (λ line. line_as line ≡ reading (lines.resolved op.now) sectors.now.entries held) }
+/// What a line comes to once links are followed: the walks of its paths in the order of its refusals. What they looked at comes to `looked`, before a sector
+/// that isn't cached too. Its one refusal is want of memory.
+pub fn resolve_line(
+    alloc: Global,
+    op: &Op,
+    sectors: &Sectors,
+    looked: &mut Looked,
+) -> Result<Line, NoMemory>
+    ensures looks { (held : Segments) → OnOk result (Adds looked.old looked.new (looks_of (lines.resolved op.now) sectors.now.entries held)) }
+    ensures comes { (held : Segments) → IfOk result (λ line. line_as line ≡ reading (lines.resolved op.now) sectors.now.entries held) }
 {
     match walks_of(op) {
         Walks::Nothing => as_it_stands(alloc, op),
-        Walks::One { path, last } => over_path(alloc, op, path, last, sectors),
-        Walks::Two { path, to, dirs } => over_paths(alloc, op, dirs, path, to, sectors),
+        Walks::One { path, last } => over_path(alloc, op, path, last, sectors, looked),
+        Walks::Two { path, to, dirs } => over_paths(alloc, op, dirs, path, to, sectors, looked),
     }
 }
 
@@ -131,10 +141,12 @@ fn over_path(
     path: &Path,
     last: bool,
     sectors: &Sectors,
+    looked: &mut Looked,
 ) -> Result<Line, NoMemory>
-    ensures { (held : Segments) → IfOk result (λ line. line_as line ≡ reading (lines.over_path last path.now (λ p. with_path op.now p)) sectors.now.entries held) }
+    ensures looks { (held : Segments) → OnOk result (Adds looked.old looked.new (looks_of (lines.over_path last path.now (λ p. with_path op.now p)) sectors.now.entries held)) }
+    ensures comes { (held : Segments) → IfOk result (λ line. line_as line ≡ reading (lines.over_path last path.now (λ p. with_path op.now p)) sectors.now.entries held) }
 {
-    let walked = walk_links(alloc, path, last, sectors, ROOT_INODE)?;
+    let walked = walk_links(alloc, path, last, sectors, ROOT_INODE, looked)?;
     match walked {
         Walked::Need(sector) => Ok(Line::Need(sector)),
         Walked::Ends(walk) => {
@@ -176,13 +188,15 @@ fn over_paths(
     path: &Path,
     to: &Path,
     sectors: &Sectors,
+    looked: &mut Looked,
 ) -> Result<Line, NoMemory>
-    ensures { (held : Segments) → IfOk result (λ line. line_as line ≡ reading (lines.over_paths dirs path.now to.now (λ p q. with_paths op.now p q)) sectors.now.entries held) }
+    ensures looks { (held : Segments) → OnOk result (Adds looked.old looked.new (looks_of (lines.over_paths dirs path.now to.now (λ p q. with_paths op.now p q)) sectors.now.entries held)) }
+    ensures comes { (held : Segments) → IfOk result (λ line. line_as line ≡ reading (lines.over_paths dirs path.now to.now (λ p q. with_paths op.now p q)) sectors.now.entries held) }
 {
-    let walked = walk_links(alloc, path, false, sectors, ROOT_INODE)?;
+    let walked = walk_links(alloc, path, false, sectors, ROOT_INODE, looked)?;
     match walked {
         Walked::Need(sector) => Ok(Line::Need(sector)),
-        Walked::Ends(walk) => over_second(alloc, op, dirs, walk, to, sectors),
+        Walked::Ends(walk) => over_second(alloc, op, dirs, walk, to, sectors, looked),
     }
 }
 
@@ -194,14 +208,16 @@ fn over_second(
     walk: Resolution,
     to: &Path,
     sectors: &Sectors,
+    looked: &mut Looked,
 ) -> Result<Line, NoMemory>
-    ensures { (held : Segments) → IfOk result (λ line. line_as line ≡ reading (lines.by_first dirs to.now (λ p q. with_paths op.now p q) (end_of walk.end) walk.trail.items) sectors.now.entries held) }
+    ensures looks { (held : Segments) → OnOk result (Adds looked.old looked.new (looks_of (lines.by_first dirs to.now (λ p q. with_paths op.now p q) (end_of walk.end) walk.trail.items) sectors.now.entries held)) }
+    ensures comes { (held : Segments) → IfOk result (λ line. line_as line ≡ reading (lines.by_first dirs to.now (λ p q. with_paths op.now p q) (end_of walk.end) walk.trail.items) sectors.now.entries held) }
 {
     let Resolution { end, trail } = walk;
     match end {
         PathEnd::At { path, kind } => {
             if is_found(dirs, kind) {
-                return to_second(alloc, op, path, trail, to, sectors);
+                return to_second(alloc, op, path, trail, to, sectors, looked);
             }
             let step = Step::Goes(with_paths(op, path, to.try_copy()?));
             Ok(Line::Comes(Resolved { step, trail }))
@@ -238,10 +254,12 @@ fn to_second(
     trail: Vec<u32>,
     to: &Path,
     sectors: &Sectors,
+    looked: &mut Looked,
 ) -> Result<Line, NoMemory>
-    ensures { (held : Segments) → IfOk result (λ line. line_as line ≡ reading (lines.by_second true trail.items to.now (λ q. with_paths op.now first q)) sectors.now.entries held) }
+    ensures looks { (held : Segments) → OnOk result (Adds looked.old looked.new (looks_of (lines.by_second true trail.items to.now (λ q. with_paths op.now first q)) sectors.now.entries held)) }
+    ensures comes { (held : Segments) → IfOk result (λ line. line_as line ≡ reading (lines.by_second true trail.items to.now (λ q. with_paths op.now first q)) sectors.now.entries held) }
 {
-    let walked = walk_links(alloc, to, false, sectors, ROOT_INODE)?;
+    let walked = walk_links(alloc, to, false, sectors, ROOT_INODE, looked)?;
     match walked {
         Walked::Need(sector) => Ok(Line::Need(sector)),
         Walked::Ends(walk) => {

@@ -3,9 +3,10 @@ ghost use Rattle.std.specs.Prelude.{IfOk};
 ghost use Rattle.line_plan.specs.Lines.{TargetFits};
 
 use cover_lookup::cover_of;
-use dir_lookup::Hand;
+use dir_lookup::{Hand, Looked};
 use edit_moves::{Move, Thing, moves_of};
 use frang_base::{NoMemory, Op, Sector, Text};
+use frang_layout::{Region, region_of};
 use line_plan::plan_line;
 use plan_disks::{Laid, Segment, ended_told, held_of, path_of, sectors_of};
 use plan_steps::Stop;
@@ -50,6 +51,57 @@ pub(crate) fn differs(
     Ok(None)
 }
 
+/// The first line whose walks didn't look where it was worked out, with the place of its row.
+pub(crate) fn looks_differ(
+    alloc: Global,
+    disk: &[Laid],
+    segments: &[Segment],
+    rows: &[Row],
+) -> Result<Option<(usize, String)>, NoMemory> {
+    for (place, row) in rows.iter().enumerate() {
+        let text = looks_told(alloc, disk, segments, row)?;
+        if text.as_str() != row.2 {
+            return Ok(Some((place, text)));
+        }
+    }
+    Ok(None)
+}
+
+// The sectors at which the walks of a line looked, in order.
+fn looks_told(
+    alloc: Global,
+    disk: &[Laid],
+    segments: &[Segment],
+    row: &Row,
+) -> Result<String, NoMemory> {
+    let (act, missing, _) = *row;
+    let mut sectors = sectors_of(alloc, disk)?;
+    sectors.remove(Sector(missing));
+    let held = held_of(alloc, segments)?;
+    let hand = Hand {
+        sectors: &sectors,
+        held: &held,
+        all: true,
+    };
+    let mut looked = Looked::new(alloc);
+    let _ended = plan_line(alloc, &hand, BIRTH, WHEN, &op_of(alloc, act)?, &mut looked);
+    let mut text = String::new(alloc);
+    for sector in &looked.sectors()? {
+        text.push_str(&sector_told(alloc, *sector)?)?;
+    }
+    Ok(text)
+}
+
+// An inode by its number, a sector of a small block by block and part.
+fn sector_told(alloc: Global, sector: Sector) -> Result<String, NoMemory> {
+    let text = match region_of(sector, 1) {
+        Some(Region::Inode(number)) => format!(in alloc; "i{number} ")?,
+        Some(Region::Small { block, part }) => format!(in alloc; "s{block}.{part} ")?,
+        _ => format!(in alloc; "? ")?,
+    };
+    Ok(text)
+}
+
 fn told(alloc: Global, disk: &[Laid], segments: &[Segment], row: &Row) -> Result<String, NoMemory> {
     let (act, missing, _) = *row;
     let mut sectors = sectors_of(alloc, disk)?;
@@ -60,7 +112,8 @@ fn told(alloc: Global, disk: &[Laid], segments: &[Segment], row: &Row) -> Result
         held: &held,
         all: true,
     };
-    let ended = plan_line(alloc, &hand, BIRTH, WHEN, &op_of(alloc, act)?);
+    let mut looked = Looked::unasked();
+    let ended = plan_line(alloc, &hand, BIRTH, WHEN, &op_of(alloc, act)?, &mut looked);
     let mut text = ended_told(alloc, &ended)?;
     match &ended {
         Ok(outcome) => {

@@ -1,5 +1,5 @@
 // Lines over a small disk: the reply with the numbers of its edits and with what they move, or what is missing, with its cover.
-use crate::asked::{Act, Row, differs};
+use crate::asked::{Act, Row, differs, looks_differ};
 use plan_disks::{Laid, Segment};
 use std::test::Fail;
 
@@ -148,9 +148,60 @@ static ROWS: &[Row] = &[
     (Act::Sync, 0, "ok"),
 ];
 
+// Where the walks of lines look: of each name the directory's inode and then its sectors up to the name, and the inode of a link that is followed. The second
+// path of a rename is walked where the first one leads to a node. A ninth link isn't looked at.
+static LOOKS: &[Row] = &[
+    (Act::Stat("/f"), 0, "i0 s4.0 "),
+    (Act::Stat("/l"), 0, "i0 s4.0 "),
+    (Act::List("/l"), 0, "i0 s4.0 i3 i0 s4.0 "),
+    (
+        Act::Create("/l/x"),
+        0,
+        "i0 s4.0 i3 i0 s4.0 i2 s5.0 s5.1 s5.2 s5.3 s5.4 s5.5 s5.6 s5.7 ",
+    ),
+    (
+        Act::Create("/n"),
+        0,
+        "i0 s4.0 s4.1 s4.2 s4.3 s4.4 s4.5 s4.6 s4.7 ",
+    ),
+    (Act::Create("/l/x"), 10_737_418_243, "i0 s4.0 "),
+    (
+        Act::Create("/l/x"),
+        12_884_901_928,
+        "i0 s4.0 i3 i0 s4.0 i2 ",
+    ),
+    (Act::Create("/n"), 12_884_901_921, "i0 s4.0 "),
+    (Act::Create("/f/x"), 0, "i0 s4.0 "),
+    (
+        Act::Create("/o/x"),
+        0,
+        "i0 s4.0 i7 i0 s4.0 i7 i0 s4.0 i7 i0 s4.0 i7 i0 s4.0 i7 i0 s4.0 i7 i0 s4.0 i7 i0 s4.0 i7 i0 s4.0 ",
+    ),
+    (
+        Act::Rename("/f", "/l/f"),
+        0,
+        "i0 s4.0 i0 s4.0 i3 i0 s4.0 i2 s5.0 s5.1 s5.2 s5.3 s5.4 s5.5 s5.6 s5.7 ",
+    ),
+    (Act::Rename("/", "/l"), 0, ""),
+    (Act::Write("/l/g", 0, "a"), 0, "i0 s4.0 i3 i0 s4.0 i2 s5.0 "),
+    (
+        Act::Unlink("/l/g"),
+        12_884_901_928,
+        "i0 s4.0 i3 i0 s4.0 i2 ",
+    ),
+    (Act::Sync, 0, ""),
+];
+
 #[test]
 fn lines_end_as_worked_out(rt: HostRuntime) -> Result<(), Fail> {
     let differs = differs(rt.alloc(), DISK, &[SEGMENT], ROWS)?;
+    assert_eq!(rt; differs, None);
+    Ok(())
+}
+
+#[test]
+fn walks_look_where_worked_out(rt: HostRuntime) -> Result<(), Fail> {
+    let differs = looks_differ(rt.alloc(), DISK, &[SEGMENT], LOOKS)?;
     assert_eq!(rt; differs, None);
     Ok(())
 }

@@ -4,11 +4,13 @@ ghost use Rattle.pick_definitions.specs.Held.{Segments};
 ghost use Rattle.disk_definitions.specs.Store.{entered};
 ghost use Rattle.plan_definitions.specs.Ask.{Ask, ReadInode};
 ghost use Rattle.line_definitions.specs.Resolving as lines;
+ghost use Rattle.dir_lookup.specs.Looks.{looks_of};
 ghost use Rattle.dir_lookup.specs.Reading.{reading};
 ghost use Rattle.dir_lookup.specs.Spots.{spot_of};
+ghost use Rattle.namei.specs.Looks.{LooksOn, next_looks};
 ghost use Rattle.namei.specs.Walks.{next_as, spot_as, entry_as, gap_as};
 
-use dir_lookup::{Refusal, Spot, step};
+use dir_lookup::{Looked, Refusal, Spot, step};
 use frang_base::limits::{KIND_DIRECTORY, KIND_LINK};
 use frang_base::{Name, Sector};
 use meta_version::Sectors;
@@ -27,10 +29,18 @@ pub(crate) enum Next {
 }
 
 // At a name of a directory, before the names that are left.
-pub(crate) fn next_at(sectors: &Sectors, last: bool, dir: u32, name: &Name, names: &[Name]) -> Next
-    ensures { (held : Segments) (follow into : ℕ → Ask lines.Resolution) (here : List (List ℕ)) → reading (ReadInode dir (lines.below_inode last follow into here dir name.now names.now)) sectors.now.entries held ≡ next_as result dir (λ i. reading (follow i) sectors.now.entries held) (λ i. reading (into i) sectors.now.entries held) here }
+pub(crate) fn next_at(
+    sectors: &Sectors,
+    last: bool,
+    dir: u32,
+    name: &Name,
+    names: &[Name],
+    looked: &mut Looked,
+) -> Next
+    ensures looks { (held : Segments) (follow into : ℕ → Ask lines.Resolution) (here : List (List ℕ)) → LooksOn looked.old looked.new (looks_of (ReadInode dir (lines.below_inode last follow into here dir name.now names.now)) sectors.now.entries held) (next_looks result (λ i. looks_of (follow i) sectors.now.entries held) (λ i. looks_of (into i) sectors.now.entries held)) }
+    ensures leads { (held : Segments) (follow into : ℕ → Ask lines.Resolution) (here : List (List ℕ)) → reading (ReadInode dir (lines.below_inode last follow into here dir name.now names.now)) sectors.now.entries held ≡ next_as result dir (λ i. reading (follow i) sectors.now.entries held) (λ i. reading (into i) sectors.now.entries held) here }
 {
-    match step(sectors, dir, name) {
+    match step(sectors, dir, name, looked) {
         Ok(spot) => at_spot(last, &spot, names),
         Err(need) => Next::Need(need.0),
     }

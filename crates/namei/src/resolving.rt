@@ -1,7 +1,9 @@
 // Where a path leads once symbolic links are followed.
-ghost use Rattle.std.specs.Prelude.{◌≡◌, ◌++◌, ◌∷◌, [], IfOk};
+ghost use Rattle.std.specs.Prelude.{◌≡◌, ◌++◌, ◌∷◌, [], IfOk, OnOk};
 ghost use Rattle.pick_definitions.specs.Held.{Segments};
 ghost use Rattle.line_definitions.specs.Resolving as lines;
+ghost use Rattle.dir_lookup.specs.Looked.{Adds};
+ghost use Rattle.dir_lookup.specs.Looks.{looks_of};
 ghost use Rattle.dir_lookup.specs.Reading.{reading};
 ghost use Rattle.namei.specs.Resolutions.{resolved_as, end_as};
 ghost use Rattle.namei.specs.Walks.{after, end_of, read_as};
@@ -10,7 +12,7 @@ ghost use Rattle.namei.specs.Resolves.{ResolvesOverDisks};
 use crate::ending::{PathEnd, Walked, leads, looped, lost, with_node};
 use crate::onward::{Next, next_at};
 use crate::targets::{Way, way_at};
-use dir_lookup::Refusal;
+use dir_lookup::{Looked, Refusal};
 use frang_base::limits::{KIND_DIRECTORY, LINKS_FOLLOWED_MAX, ROOT_INODE};
 use frang_base::{Name, NoMemory, Path, Sector};
 use meta_version::Sectors;
@@ -60,7 +62,8 @@ fn from_root(
     requires { root ≡ 0 }
     ensures { (held : Segments) → IfOk result (λ r. r ≡ resolved_as (reading (lines.resolve last path.now) sectors.now.entries held)) }
 {
-    let walked = walk_links(alloc, path, last, sectors, root)?;
+    let mut looked = Looked::unasked();
+    let walked = walk_links(alloc, path, last, sectors, root, &mut looked)?;
     Ok(answer_of(walked))
 }
 
@@ -86,16 +89,18 @@ fn end_resolved(end: PathEnd) -> Resolved
 }
 
 /// The walk of a path from the root, whose inode is 0, links followed, the last name's too where `last` is true: how it ends, and its trail; or the first
-/// sector that it looks at and that isn't cached. Its one refusal is want of memory.
+/// sector that it looks at and that isn't cached. What it looked at comes to `looked`, before a sector that isn't cached too. Its one refusal is want of memory.
 pub fn walk_links(
     alloc: Global,
     path: &Path,
     last: bool,
     sectors: &Sectors,
     root: u32,
+    looked: &mut Looked,
 ) -> Result<Walked, NoMemory>
     requires { root ≡ 0 }
-    ensures { (held : Segments) → IfOk result (λ w. read_as w ≡ reading (lines.resolve last path.now) sectors.now.entries held) }
+    ensures looks { (held : Segments) → OnOk result (Adds looked.old looked.new (looks_of (lines.resolve last path.now) sectors.now.entries held)) }
+    ensures leads { (held : Segments) → IfOk result (λ w. read_as w ≡ reading (lines.resolve last path.now) sectors.now.entries held) }
 {
     let ground = Ground {
         alloc,
@@ -105,7 +110,8 @@ pub fn walk_links(
     let above = Path::new(alloc);
     let names = path.as_slice();
     let trail = Vec::new(alloc);
-    walk_on(&ground, LINKS_FOLLOWED_MAX, root, above, names, trail)
+    let left = LINKS_FOLLOWED_MAX;
+    walk_on(&ground, left, root, above, names, trail, looked)
 }
 
 // What a walk goes over: the cached sectors, and whether the last name is followed.
@@ -124,14 +130,16 @@ fn walk_on(
     above: Path,
     names: &[Name],
     trail: Vec<u32>,
+    looked: &mut Looked,
 ) -> Result<Walked, NoMemory>
-    ensures { (held : Segments) → IfOk result (λ w. read_as w ≡ after trail.items (reading (lines.resolve_from left ground.now.last dir above names.now) ground.now.sectors.now.entries held)) }
+    ensures looks { (held : Segments) → OnOk result (Adds looked.old looked.new (looks_of (lines.resolve_from left ground.now.last dir above names.now) ground.now.sectors.now.entries held)) }
+    ensures leads { (held : Segments) → IfOk result (λ w. read_as w ≡ after trail.items (reading (lines.resolve_from left ground.now.last dir above names.now) ground.now.sectors.now.entries held)) }
 {
     let (name, rest) = match names {
         [] => return Ok(leads(above, Some(KIND_DIRECTORY), trail)),
         [name, rest @ ..] => (name, rest),
     };
-    match next_at(ground.sectors, ground.last, dir, name, rest) {
+    match next_at(ground.sectors, ground.last, dir, name, rest, looked) {
         Next::Need(sector) => Ok(Walked::Need(sector)),
         Next::Lost(refusal) => Ok(lost(refusal, trail)),
         Next::Stays(refusal) => Ok(lost(refusal, with_node(trail, dir)?)),
@@ -142,7 +150,7 @@ fn walk_on(
         Next::Into(inode) => {
             let trail = with_node(trail, dir)?;
             let above = with_name(above, name)?;
-            walk_on(ground, left, inode, above, rest, trail)
+            walk_on(ground, left, inode, above, rest, trail, looked)
         }
         Next::Follows(link) => {
             let holder = with_node(trail, dir)?;
@@ -150,15 +158,23 @@ fn walk_on(
                 return Ok(looped(holder));
             }
             let trail = with_node(holder, link)?;
-            match way_at(ground.alloc, ground.sectors, link, rest)? {
+            match way_at(ground.alloc, ground.sectors, link, rest, looked)? {
                 Way::Need(sector) => Ok(Walked::Need(sector)),
                 Way::Nowhere => Ok(lost(Refusal::NoEnt, trail)),
                 Way::FromRoot(way) => {
                     let root = Path::new(ground.alloc);
-                    walk_on(ground, left - 1, ROOT_INODE, root, way.as_slice(), trail)
+                    walk_on(
+                        ground,
+                        left - 1,
+                        ROOT_INODE,
+                        root,
+                        way.as_slice(),
+                        trail,
+                        looked,
+                    )
                 }
                 Way::FromHere(way) => {
-                    walk_on(ground, left - 1, dir, above, way.as_slice(), trail)
+                    walk_on(ground, left - 1, dir, above, way.as_slice(), trail, looked)
                 }
             }
         }

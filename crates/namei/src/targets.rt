@@ -7,11 +7,13 @@ ghost use Rattle.pick_definitions.specs.Held.{Segments};
 ghost use Rattle.disk_definitions.specs.Store.{stored};
 ghost use Rattle.plan_definitions.specs.Ask.{Ask, ReadInode};
 ghost use Rattle.line_definitions.specs.Resolving as lines;
+ghost use Rattle.dir_lookup.specs.Looks.{looks_of};
 ghost use Rattle.dir_lookup.specs.Reading.{reading};
 ghost use Rattle.dir_lookup.specs.Stored.{IsUsed};
+ghost use Rattle.namei.specs.Looks.{LooksOn, way_looks};
 ghost use Rattle.namei.specs.Walks.{way_as, way_from};
 
-use dir_lookup::inode_at;
+use dir_lookup::{Looked, inode_at};
 use frang_base::limits::KIND_LINK;
 use frang_base::{Name, NoMemory, Path, PathFault, Sector, Text, parse_path};
 use meta_version::Sectors;
@@ -34,10 +36,12 @@ pub(crate) fn way_at(
     sectors: &Sectors,
     link: u32,
     names: &[Name],
+    looked: &mut Looked,
 ) -> Result<Way, NoMemory>
-    ensures { (held : Segments) (next : ℕ → List (List ℕ) → List (List ℕ) → Ask lines.Resolution) (dir : ℕ) (above : List (List ℕ)) → IfOk result (λ way. reading (ReadInode link (lines.with_target (λ target. lines.at_target next (is_absolute target) (path_of (target_text target)) dir above names.now))) sectors.now.entries held ≡ way_as way (λ names. reading (next 0 [] names) sectors.now.entries held) (λ names. reading (next dir above names) sectors.now.entries held)) }
+    ensures looks { (held : Segments) (next : ℕ → List (List ℕ) → List (List ℕ) → Ask lines.Resolution) (dir : ℕ) (above : List (List ℕ)) → IfOk result (λ way. LooksOn looked.old looked.new (looks_of (ReadInode link (lines.with_target (λ target. lines.at_target next (is_absolute target) (path_of (target_text target)) dir above names.now))) sectors.now.entries held) (way_looks way (λ names. looks_of (next 0 [] names) sectors.now.entries held) (λ names. looks_of (next dir above names) sectors.now.entries held))) }
+    ensures leads { (held : Segments) (next : ℕ → List (List ℕ) → List (List ℕ) → Ask lines.Resolution) (dir : ℕ) (above : List (List ℕ)) → IfOk result (λ way. reading (ReadInode link (lines.with_target (λ target. lines.at_target next (is_absolute target) (path_of (target_text target)) dir above names.now))) sectors.now.entries held ≡ way_as way (λ names. reading (next 0 [] names) sectors.now.entries held) (λ names. reading (next dir above names) sectors.now.entries held)) }
 {
-    match inode_at(sectors, link) {
+    match inode_at(sectors, link, looked) {
         Ok(Some(inode)) => way_of(alloc, target_of(&inode), names),
         Ok(None) => Ok(Way::Nowhere),
         Err(need) => Ok(Way::Need(need.0)),

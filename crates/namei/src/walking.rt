@@ -1,13 +1,14 @@
 // The walk of a path.
 ghost use Rattle.std.specs.Prelude.{◌≡◌};
 ghost use Rattle.pick_definitions.specs.Held.{Segments};
+ghost use Rattle.plan_definitions.specs.Ask.{Got, bind};
 ghost use Rattle.plan_definitions.specs.Walks as walks;
-ghost use Rattle.dir_lookup.specs.Reading.{reading};
+ghost use Rattle.dir_lookup.specs.Reading.{read_of, reading};
 ghost use Rattle.dir_lookup.specs.Spots.{spot_of};
 ghost use Rattle.namei.specs.Leads.{LeadsOverDisks};
 ghost use Rattle.namei.specs.Steps.{step_at, step_of};
 
-use dir_lookup::{Refusal, Spot, walk_spot};
+use dir_lookup::{Looked, Need, Refusal, Spot, walk_spot};
 use frang_base::{Path, Sector};
 use meta_version::Sectors;
 
@@ -40,10 +41,18 @@ fn walked_step(path: &Path, sectors: &Sectors, root: u32) -> Step
     requires { root ≡ 0 }
     ensures { (held : Segments) → result ≡ step_of (reading (walks.walk path.now) sectors.now.entries held) }
 {
-    match walk_spot(sectors, path.as_slice()) {
+    match spot_at(path, sectors) {
         Ok(spot) => step_at(&spot, root),
         Err(need) => Step::Need(need.0),
     }
+}
+
+// The spot to which it leads; what it looked at isn't asked for.
+fn spot_at(path: &Path, sectors: &Sectors) -> Result<Spot, Need>
+    ensures { (held : Segments) → read_of spot_of result ≡ reading (bind (walks.walk path.now) (λ w. Got w.spot)) sectors.now.entries held }
+{
+    let mut looked = Looked::unasked();
+    walk_spot(sectors, path.as_slice(), &mut looked)
 }
 
 // The node of a spot, or why there is none.

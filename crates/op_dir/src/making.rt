@@ -15,7 +15,7 @@ ghost use Rattle.plan_steps.specs.Outcomes.{Does};
 ghost use Rattle.op_dir.specs.Places.{FindsNodeRoom, FindsPlace, IsPlaceOf};
 
 use bitmap_alloc::pick_inode;
-use dir_lookup::{Hand, NumberedInode, Spot, inode_at};
+use dir_lookup::{Hand, Looked, NumberedInode, Spot, inode_at};
 use frang_base::{Name, NoMemory, Path, Reply};
 use plan_steps::{
     NewNode, Outcome, Room, Stop, clear_room, enter, entry_for, find_room, is_full, new_node,
@@ -94,7 +94,8 @@ fn room_for_node(hand: &Hand, directory: &Inode, inode: u32) -> Result<Room, Sto
     let found = find_room(hand, directory)?;
     match found {
         Some(room) => {
-            inode_at(hand.sectors, inode)?;
+            let mut looked = Looked::unasked();
+            inode_at(hand.sectors, inode, &mut looked)?;
             clear_room(hand, &room)?;
             Ok(room)
         }

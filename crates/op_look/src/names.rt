@@ -10,7 +10,7 @@ ghost use Rattle.op_look.specs.Looks.{ListsNames, with_name, with_place};
 ghost use Rattle.std.specs.Map.{keys_of};
 ghost use Rattle.frang_base.specs.declared.limits.TheConstants.{INODE_BLOCKS_MAX};
 
-use dir_lookup::{entry_at, name_of, part_at};
+use dir_lookup::{Looked, entry_at, name_of, part_at};
 use frang_base::limits::{SECTOR_ENTRIES, SMALL_BLOCK_SECTORS};
 use frang_base::{Name, NameList, NoMemory};
 use meta_version::Sectors;
@@ -29,8 +29,9 @@ pub(crate) fn names_in(
     ensures { (held : Segments) → ListsNames sectors.now.entries held (stored directory.now) result }
 {
     let mut sorted: BTreeMap<Name, u64> = BTreeMap::new(alloc);
+    let mut looked = Looked::unasked();
     for j in 0..SMALL_BLOCK_SECTORS * u32::from(directory.blocks) {
-        let sector = part_at(sectors, directory, j)?;
+        let sector = part_at(sectors, directory, j, &mut looked)?;
         add_names(&mut sorted, &sector)?;
     }
     let names = list_of(alloc, &sorted)?;

@@ -3,7 +3,7 @@ ghost use Rattle.std.specs.Prelude.{IfOk};
 ghost use Rattle.pick_definitions.specs.Held.{Segments};
 ghost use Rattle.plan_steps.specs.Spots.{FindsPassing, IsStanding};
 
-use dir_lookup::{Need, Spot, walk_passing};
+use dir_lookup::{Looked, Need, Spot, walk_passing};
 use frang_base::Path;
 use meta_version::Sectors;
 
@@ -12,5 +12,6 @@ pub fn walk_passes(sectors: &Sectors, path: &Path, inode: u32) -> Result<(Spot, 
     ensures finds { (held : Segments) → FindsPassing sectors.now.entries held path.now inode result }
     ensures stands { IfOk result (λ p. IsStanding p.0) }
 {
-    walk_passing(sectors, path.as_slice(), inode)
+    let mut looked = Looked::unasked();
+    walk_passing(sectors, path.as_slice(), inode, &mut looked)
 }

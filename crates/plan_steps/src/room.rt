@@ -16,7 +16,7 @@ use crate::block::is_zeroed;
 use crate::stop::Stop;
 use bitmap_alloc::{Use, pick_small};
 use bitmap_block::{BlockState, state_of};
-use dir_lookup::{Hand, Need, directory_at, first_vacant};
+use dir_lookup::{Hand, Looked, Need, directory_at, first_vacant};
 use frang_base::limits::{DIRECTORY_ENTRIES_MAX, INODE_BLOCKS_MAX, SEGMENT_BLOCKS};
 use frang_base::{Held, Reply};
 use sector_definitions::Inode;
@@ -43,7 +43,8 @@ pub fn find_room(hand: &Hand, directory: &Inode) -> Result<Option<Room>, Need>
     ensures finds { read_of room_of result ≡ over (plans.find_room (seen hand.now) (stored directory.now)) hand.now }
     ensures room { IfOk result (λ r. IfSome r (IsRoomOf directory.now)) }
 {
-    let found = first_vacant(hand.sectors, directory)?;
+    let mut looked = Looked::unasked();
+    let found = first_vacant(hand.sectors, directory, &mut looked)?;
     match found {
         Some(place) => Ok(Some(Room::Inside { place })),
         None => Ok(more_room(hand.held, directory)),
@@ -91,7 +92,8 @@ fn clear_block(hand: &Hand, block: u32) -> Result<(), Stop>
     if must_clear(hand, block) {
         return Err(Stop::Clear { block });
     }
-    directory_at(hand.sectors, block, 0)?;
+    let mut looked = Looked::unasked();
+    directory_at(hand.sectors, block, 0, &mut looked)?;
     Ok(())
 }
 

@@ -6,7 +6,7 @@ ghost use Rattle.dir_lookup.specs.Stored.{IsUsed};
 ghost use Rattle.plan_steps.specs.Targets.{FindsInode, FindsTarget, target_at, target_of};
 
 use crate::stop::Stop;
-use dir_lookup::{Refusal, Spot, inode_at, walk_spot};
+use dir_lookup::{Looked, Refusal, Spot, inode_at, walk_spot};
 use frang_base::limits::{KIND_DIRECTORY, ROOT_INODE};
 use frang_base::{Path, Reply};
 use meta_version::Sectors;
@@ -23,7 +23,8 @@ pub struct Target {
 pub fn target_of(sectors: &Sectors, path: &Path) -> Result<Target, Stop>
     ensures { (held : Segments) → FindsTarget sectors.now.entries held path.now result }
 {
-    let spot = walk_spot(sectors, path.as_slice())?;
+    let mut looked = Looked::unasked();
+    let spot = walk_spot(sectors, path.as_slice(), &mut looked)?;
     match target_at(&spot) {
         Ok(target) => Ok(target),
         Err(refusal) => Err(Stop::Refused(refusal.reply())),
@@ -53,7 +54,8 @@ pub fn inode_of(sectors: &Sectors, i: u32) -> Result<Inode, Stop>
     ensures finds { (held : Segments) → FindsInode sectors.now.entries held i result }
     ensures used { IfOk result IsUsed }
 {
-    let found = inode_at(sectors, i)?;
+    let mut looked = Looked::unasked();
+    let found = inode_at(sectors, i, &mut looked)?;
     match found {
         Some(inode) => Ok(inode),
         None => Err(Stop::Refused(Reply::NoEnt)),

@@ -4,7 +4,7 @@ ghost use Rattle.pick_definitions.specs.Held.{Segments};
 ghost use Rattle.plan_steps.specs.Spots.{FindsSpot, IsStanding};
 
 use crate::stop::Stop;
-use dir_lookup::{Spot, walk_spot};
+use dir_lookup::{Looked, Spot, walk_spot};
 use frang_base::Path;
 use meta_version::Sectors;
 
@@ -13,6 +13,7 @@ pub fn walked(sectors: &Sectors, path: &Path) -> Result<Spot, Stop>
     ensures finds { (held : Segments) → FindsSpot sectors.now.entries held path.now result }
     ensures stands { IfOk result IsStanding }
 {
-    let spot = walk_spot(sectors, path.as_slice())?;
+    let mut looked = Looked::unasked();
+    let spot = walk_spot(sectors, path.as_slice(), &mut looked)?;
     Ok(spot)
 }

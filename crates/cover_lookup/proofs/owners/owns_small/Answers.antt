@@ -17,7 +17,7 @@ returns-in-Ok-None c =
     let read = said_ok (option_map stored) c.inode_at.result None _ (c.in-Ok-None.is ∙ ap Ok c.in-Ok-None.field-0-is) (c.inode_at.ensures.reads []) in
     ap (has_small c.args.block) (sym (read_is c.args.sectors.now.entries [] c.args.number None read))
 
-pub returns-in-Err : goal.returns-in-Err
-returns-in-Err c =
+pub returns : goal.returns
+returns c =
     let lack = said_err (option_map stored) c.inode_at.result c.in-Err.field-0 _ c.in-Err.is (c.inode_at.ensures.reads []) in
     ap (has_small c.args.block) (sym (lack_is c.args.sectors.now.entries [] c.args.number c.in-Err.field-0.0.0 lack))

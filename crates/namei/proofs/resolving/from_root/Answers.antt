@@ -4,4 +4,4 @@ use Rattle.namei.specs.Resolutions.{resolved_as}
 use Rattle.namei.proofs.resolving.from_root.Goals as goal
 
 pub returns : goal.returns
-returns c held = c.answer_of.ensures ∙ ap resolved_as (c.in_ok-walked.ensures held)
+returns c held = c.answer_of.ensures ∙ ap resolved_as (c.in_ok-walked.ensures.leads held)

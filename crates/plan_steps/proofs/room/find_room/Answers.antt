@@ -18,13 +18,13 @@ returns-in_err-found-clause-finds c =
     let e : c.from_residual.result ≡ Err need = search rules in
     ap (read_of room_of) e
     ∙ finding (stored c.args.directory.now) c.args.hand.now.sectors.now.entries held c.args.hand.now.all (Lacks need.0.0)
-    (said_err (option_map vacant_at) c.first_vacant.result need _ c.in_err-found.was (c.first_vacant.ensures held))
+    (said_err (option_map vacant_at) c.first_vacant.result need _ c.in_err-found.was (c.first_vacant.ensures.reads held))
 
 pub returns-in-Some-clause-finds : goal.returns-in-Some-clause-finds
 returns-in-Some-clause-finds c =
     let held = c.args.hand.now.held.now in
     finding (stored c.args.directory.now) c.args.hand.now.sectors.now.entries held c.args.hand.now.all (Gives (Some (vacant_at c.in-Some.place)))
-    (sym (ap (λ o. Gives (option_map vacant_at o)) c.in-Some.is) ∙ said_ok (option_map vacant_at) c.first_vacant.result c.in_ok-found.found _ c.in_ok-found.was (c.first_vacant.ensures held))
+    (sym (ap (λ o. Gives (option_map vacant_at o)) c.in-Some.is) ∙ said_ok (option_map vacant_at) c.first_vacant.result c.in_ok-found.found _ c.in_ok-found.was (c.first_vacant.ensures.reads held))
 
 pub returns-in-Some-clause-room : goal.returns-in-Some-clause-room
 returns-in-Some-clause-room c =
@@ -34,13 +34,13 @@ returns-in-Some-clause-room c =
     let end : ℕ = 8 * c.args.directory.now.blocks in
     let b : q < 7 * (0 + end) =
     place_inside small is_vacant c.args.hand.now.sectors.now.entries [] found end 0
-    (sym (sym (ap (λ o. Gives (option_map vacant_at o)) c.in-Some.is) ∙ said_ok (option_map vacant_at) c.first_vacant.result c.in_ok-found.found _ c.in_ok-found.was (c.first_vacant.ensures []))) in
+    (sym (sym (ap (λ o. Gives (option_map vacant_at o)) c.in-Some.is) ∙ said_ok (option_map vacant_at) c.first_vacant.result c.in_ok-found.found _ c.in_ok-found.was (c.first_vacant.ensures.reads []))) in
     omega arith
 
-pub returns-in-None-clause-finds : goal.returns-in-None-clause-finds
-returns-in-None-clause-finds c =
+pub returns-clause-finds : goal.returns-clause-finds
+returns-clause-finds c =
     let held = c.args.hand.now.held.now in
     let x = stored c.args.directory.now in
     another_block x c.args.hand.now.sectors.now.entries held c.args.hand.now.all (room_of c.more_room.result) c.more_room.ensures.finds
     ∙ finding x c.args.hand.now.sectors.now.entries held c.args.hand.now.all (Gives None)
-    (sym (ap (λ o. Gives (option_map vacant_at o)) c.in-None.is) ∙ said_ok (option_map vacant_at) c.first_vacant.result c.in_ok-found.found _ c.in_ok-found.was (c.first_vacant.ensures held))
+    (sym (ap (λ o. Gives (option_map vacant_at o)) c.in-None.is) ∙ said_ok (option_map vacant_at) c.first_vacant.result c.in_ok-found.found _ c.in_ok-found.was (c.first_vacant.ensures.reads held))

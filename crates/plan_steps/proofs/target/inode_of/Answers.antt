@@ -22,7 +22,7 @@ returns-in-Some-clause-finds c held next touched =
     finds_inode c.args.i c.args.sectors.now.entries held (Gives (Some (stored c.in-Some.inode)))
     (sym (ap (λ o. Gives (option_map stored o)) c.in-Some.is) ∙ said_ok (option_map stored) c.inode_at.result c.in_ok-found.found _ c.in_ok-found.was (c.inode_at.ensures.reads held)) next touched
 
-pub returns-in-None-clause-finds : goal.returns-in-None-clause-finds
-returns-in-None-clause-finds c held next touched =
+pub returns-clause-finds : goal.returns-clause-finds
+returns-clause-finds c held next touched =
     finds_inode c.args.i c.args.sectors.now.entries held (Gives None)
     (sym (ap (λ o. Gives (option_map stored o)) c.in-None.is) ∙ said_ok (option_map stored) c.inode_at.result c.in_ok-found.found _ c.in_ok-found.was (c.inode_at.ensures.reads held)) next touched

@@ -17,7 +17,7 @@ returns-in_err-spot-clause-finds c held =
     let need = c.in_err-spot.field-0.0 in
     let e : c.from_residual.result ≡ Err (stop.Need need.0) = search rules in
     let h : read_of spot_of c.walk_spot.result ≡ reading (bind (walk c.args.path.now) (λ w. Got w.spot)) cached held =
-    subst (λ names. read_of spot_of c.walk_spot.result ≡ reading (bind (walk names) (λ w. Got w.spot)) cached held) c.as_slice.ensures (c.walk_spot.ensures held) in
+    subst (λ names. read_of spot_of c.walk_spot.result ≡ reading (bind (walk names) (λ w. Got w.spot)) cached held) c.as_slice.ensures (c.walk_spot.ensures.reads held) in
     subst (FindsSpot cached held c.args.path.now) (sym e) (walk_lacks c.args.path.now cached held need.0.0 (said_err spot_of c.walk_spot.result need _ c.in_err-spot.was h))
 
 pub returns-clause-finds : goal.returns-clause-finds
@@ -25,7 +25,7 @@ returns-clause-finds c held =
     let cached = c.args.sectors.now.entries in
     let s = c.in_ok-spot.spot in
     let h : read_of spot_of c.walk_spot.result ≡ reading (bind (walk c.args.path.now) (λ w. Got w.spot)) cached held =
-    subst (λ names. read_of spot_of c.walk_spot.result ≡ reading (bind (walk names) (λ w. Got w.spot)) cached held) c.as_slice.ensures (c.walk_spot.ensures held) in
+    subst (λ names. read_of spot_of c.walk_spot.result ≡ reading (bind (walk names) (λ w. Got w.spot)) cached held) c.as_slice.ensures (c.walk_spot.ensures.reads held) in
     walk_leads c.args.path.now cached held (spot_of s) (said_ok spot_of c.walk_spot.result s _ c.in_ok-spot.was h)
 
 pub returns-clause-stands : goal.returns-clause-stands
@@ -34,5 +34,5 @@ returns-clause-stands c =
     let s = c.in_ok-spot.spot in
     let held : Segments = [] in
     let h : read_of spot_of c.walk_spot.result ≡ reading (bind (walk c.args.path.now) (λ w. Got w.spot)) cached held =
-    subst (λ names. read_of spot_of c.walk_spot.result ≡ reading (bind (walk names) (λ w. Got w.spot)) cached held) c.as_slice.ensures (c.walk_spot.ensures held) in
+    subst (λ names. read_of spot_of c.walk_spot.result ≡ reading (bind (walk names) (λ w. Got w.spot)) cached held) c.as_slice.ensures (c.walk_spot.ensures.reads held) in
     spot_stands c.args.path.now cached held s (said_ok spot_of c.walk_spot.result s _ c.in_ok-spot.was h)
