@@ -163,13 +163,13 @@ module _ (server : ℕ) (opening : FileTree) (list : List Settled) (b part j x :
   abbrev wanted : ℕ → ℕ → Bool
   wanted birth sector = is_doubtful server birth sector false opening list
 
-  listed : (cells : List Cell) (links when : ℕ) → node_at tree b ≡ Some (File cells links when) → j < length cells → Contains (doubtful server opening list) (sector_cells b (length cells) part)
+  pub listed : (cells : List Cell) (links when : ℕ) → node_at tree b ≡ Some (File cells links when) → j < length cells → Contains (doubtful server opening list) (sector_cells b (length cells) part)
   listed cells links when is l =
       let inside : part < (length cells + 511) / 512 = omega arith in
       in_flat (λ n. file_sectors wanted n.0 n.1) tree.nodes (b, File cells links when) (sector_cells b (length cells) part) (found_in tree.nodes b (File cells links when) is)
       (map_has (sector_cells b (length cells)) (filter (wanted b) (below ((length cells + 511) / 512))) part (in_filter (wanted b) (below ((length cells + 511) / 512)) part (below_has ((length cells + 511) / 512) part inside) doubt))
 
-  covers : (size : ℕ) → j < size → Covers (sector_cells b size part) b j
+  pub covers : (size : ℕ) → j < size → Covers (sector_cells b size part) b j
   covers size l = record { of = refl; from = lo; to = omega arith }
 
   by_cell : (o : Option Node) → node_at tree b ≡ o → cell_in o j ≡ Some (Byte x) → ((run : CellRun) → Contains (doubtful server opening list) run → Covers run b j → ⊥) → ⊥

@@ -87,13 +87,13 @@ none_if false f = refl
 
 -- ---- a finished line, between two disks
 
-record IsNext (segments : ℕ) (disk : Sectors) (tree : FileTree) (naming : Naming) (hint : List ℕ) (birth when : ℕ) (o : Op) (f : Finish) : Type 0 where
-  ever : ℕ
-  after : Naming
-  done : IsFinished o (hand_on segments disk hint) (store_on segments disk) (shape_of tree) naming after birth when ever f
-  inodes : (i : ℕ) → (store_on segments (with_changes disk f.edits)).inode i ≡ (edited_all (store_on segments disk) f.edits).inode i
-  shape : shape_of (perform (shape_of tree) o birth when ever).tree ≡ shape_of (perform tree o birth when (blocks_told f.reply)).tree
-  leads : FilesFit (node_at (shape_of (perform (shape_of tree) o birth when ever).tree)) →
+pub record IsNext (segments : ℕ) (disk : Sectors) (tree : FileTree) (naming : Naming) (hint : List ℕ) (birth when : ℕ) (o : Op) (f : Finish) : Type 0 where
+  pub ever : ℕ
+  pub after : Naming
+  pub done : IsFinished o (hand_on segments disk hint) (store_on segments disk) (shape_of tree) naming after birth when ever f
+  pub inodes : (i : ℕ) → (store_on segments (with_changes disk f.edits)).inode i ≡ (edited_all (store_on segments disk) f.edits).inode i
+  pub shape : shape_of (perform (shape_of tree) o birth when ever).tree ≡ shape_of (perform tree o birth when (blocks_told f.reply)).tree
+  pub leads : FilesFit (node_at (shape_of (perform (shape_of tree) o birth when ever).tree)) →
       IsOfTree (store_on segments (with_changes disk f.edits)) (shape_of (perform (shape_of tree) o birth when ever).tree) after
 
 module _ (disk : Sectors) (tree : FileTree) (stands : StandsForShape tree.segments disk tree) (hint : List ℕ) (birth when : ℕ) (o : Op) (may : IsAllowed o) (new : IsNew tree birth) (small_birth : birth < 2 ^ 64)
@@ -125,7 +125,7 @@ line_next count disk tree stands hint birth when o may new small_birth small_tim
     subst (λ k. run (plan_of_line (hand_on k disk hint) birth when o) (store_on k disk) ≡ Finishes f → IsNext k disk tree stands.below.stands.naming hint birth when o f) stands.as_many
     (own_next disk tree (record { well_formed = stands.well_formed; as_many = refl; below = stands.below; zeros = stands.zeros }) hint birth when o may new small_birth small_time f)
 
-fits : (segments : ℕ) (disk : Sectors) (tree : FileTree) → StandsForShape segments disk tree → FilesFit (node_at (shape_of tree))
+pub fits : (segments : ℕ) (disk : Sectors) (tree : FileTree) → StandsForShape segments disk tree → FilesFit (node_at (shape_of tree))
 fits segments disk tree stands = files_fit_now disk tree (record { well_formed = stands.well_formed; as_many = refl; below = stands.below; zeros = stands.zeros })
 
 holds : (s : Store) (tree : FileTree) (n : Naming) (b t : ℕ) (x : Sector) → LiesIn s tree n b t x → HoldsBytes s x
@@ -135,62 +135,62 @@ holds s tree n b t x lies = record { inode = n.inode b; node = lies.stored; is =
 
 module _ (segments : ℕ) (when : ℕ → ℕ) (times : AreTimes when) (opening : ℕ → Block) (start : NumberedTree) (begins : StandsNumbered segments opening start) where
   module _ (c : Commit) (h : List Item) (l : Legal (sector_plan segments when) opening (Done c ∷ h)) (d : Distinct MayTake start (Done c ∷ h)) (by : IsByPlan c) where
-    abbrev disk : Sectors
+    abbrev pub disk : Sectors
     disk = logical opening h
 
-    abbrev state : NumberedTree
+    abbrev pub state : NumberedTree
     state = tree_of (performed_numbered when) start h
 
-    abbrev to : FileTree
+    abbrev pub to : FileTree
     to = (tree_of (performed_numbered when) start (Done c ∷ h)).tree
 
-    stands_now : StandsNumbered segments disk state
+    pub stands_now : StandsNumbered segments disk state
     stands_now = (both segments when times opening start begins h l.1 d.2).0
 
-    may : MayTake c.op state
+    pub may : MayTake c.op state
     may = (both segments when times opening start begins h l.1 d.2).1 c.op d.1 d.0
 
-    stands_then : StandsNumbered segments (logical opening (Done c ∷ h)) (tree_of (performed_numbered when) start (Done c ∷ h))
+    pub stands_then : StandsNumbered segments (logical opening (Done c ∷ h)) (tree_of (performed_numbered when) start (Done c ∷ h))
     stands_then = (both segments when times opening start begins (Done c ∷ h) l d).0
 
-    fin : IsOfAPlan plan_of_line segments when c.hint c.op c.asked disk (outcome_of c)
+    pub fin : IsOfAPlan plan_of_line segments when c.hint c.op c.asked disk (outcome_of c)
     fin = outcomes_of_plans plan_of_line segments when c.hint c.op c.asked disk (outcome_of c) l.0
 
-    abbrev finish : Finish
+    abbrev pub finish : Finish
     finish = fin.comes.finish
 
-    abbrev edits : List Edit
+    abbrev pub edits : List Edit
     edits = fin.comes.finish.edits
 
-    abbrev next : Sectors
+    abbrev pub next : Sectors
     next = with_changes disk fin.comes.finish.edits
 
-    abbrev naming : Naming
+    abbrev pub naming : Naming
     naming = stands_now.stands.below.stands.naming
 
-    step : IsStep segments disk next c.hint (shape_of state.tree) stands_now.stands.below.stands.naming fin.comes.finish.edits
+    pub step : IsStep segments disk next c.hint (shape_of state.tree) stands_now.stands.below.stands.naming fin.comes.finish.edits
     step = line_step segments disk state.tree stands_now.stands c.hint c.op (when c.op) c.asked fin.allowed may.new may.small (times c.op) fin.comes.finish fin.comes.is
 
-    after : IsNext segments disk state.tree stands_now.stands.below.stands.naming c.hint c.op (when c.op) c.asked fin.comes.finish
+    pub after : IsNext segments disk state.tree stands_now.stands.below.stands.naming c.hint c.op (when c.op) c.asked fin.comes.finish
     after = line_next segments disk state.tree stands_now.stands c.hint c.op (when c.op) c.asked fin.allowed may.new may.small (times c.op) fin.comes.finish fin.comes.is
 
-    store_is : store_after segments opening (Done c ∷ h) ≡ store_on segments next
+    pub store_is : store_after segments opening (Done c ∷ h) ≡ store_on segments next
     store_is = ap (λ (q : Outcome). store_on segments (λ s. forced (change_at q.changes s) (disk s))) fin.comes.outcome
 
-    few : segments ≤ 64
+    pub few : segments ≤ 64
     few = subst (λ k. k ≤ 64) stands_now.stands.as_many step.of.few
 
     -- the shape of the tree after it
-    shape_is : shape_of (perform (shape_of state.tree) c.asked c.op (when c.op) after.ever).tree ≡ shape_of to
+    pub shape_is : shape_of (perform (shape_of state.tree) c.asked c.op (when c.op) after.ever).tree ≡ shape_of to
     shape_is = after.shape ∙ ap (λ (q : Outcome). shape_of (perform state.tree c.asked c.op (when c.op) q.blocks).tree) (sym fin.comes.outcome)
 
-    then_of : IsOfTree (store_on segments next) (shape_of to) after.after
+    pub then_of : IsOfTree (store_on segments next) (shape_of to) after.after
     then_of = subst (λ t. IsOfTree (store_on segments next) t after.after) shape_is
         (after.leads (subst (λ t. FilesFit (node_at t)) (sym shape_is) (fits segments (logical opening (Done c ∷ h)) to stands_then.stands)))
 
     -- ---- a part that lies in a sector afterwards, by any naming
     module _ (other : Naming) (of : IsOfTree (store_on segments next) (shape_of to) other) (b t : ℕ) (x : Sector) (lies : LiesIn (store_on segments next) (shape_of to) other b t x) where
-      agree : other.inode b ≡ after.after.inode b
+      pub agree : other.inode b ≡ after.after.inode b
       agree = namings_agree (store_on segments next) (shape_of to) after.after other then_of of stands_then.stands.below.stands.reached b lies.there
 
       lies_edited : LiesIn (edited_all (store_on segments disk) edits) (perform (shape_of state.tree) c.asked c.op (when c.op) after.ever).tree after.after b t x
@@ -210,7 +210,7 @@ module _ (segments : ℕ) (when : ℕ → ℕ) (times : AreTimes when) (opening 
       met : IsWritten edits x → step_writes (shape_of state.tree) (resolved (shape_of state.tree) c.asked).step finish.reply b t ≡ true
       met w = lines_meet_parts c.asked (hand_on segments disk c.hint) (store_on segments disk) (shape_of state.tree) naming after.after c.op (when c.op) after.ever finish after.done b t x lies_edited w
 
-      in_use : IsInUse segments (store_on segments next) x
+      pub in_use : IsInUse segments (store_on segments next) x
       in_use = subst (λ s. IsInUse segments s x) store_is
           (file_in_use segments (logical opening (Done c ∷ h)) to stands_then.stands x (subst (λ s. HoldsBytes s x) (sym store_is) (holds (store_on segments next) (shape_of to) other b t x lies)))
 
@@ -224,7 +224,7 @@ module _ (segments : ℕ) (when : ℕ → ℕ) (times : AreTimes when) (opening 
       written_fills : IsWritten edits x → is_some (c.writes (number_of x)) ≡ true
       written_fills w = fills ∙ has_fill edits (number_of x) (written_value edits x w)
 
-      fills_written : is_some (c.writes (number_of x)) ≡ true → IsWritten edits x
+      pub fills_written : is_some (c.writes (number_of x)) ≡ true → IsWritten edits x
       fills_written e =
           value_written segments few (store_on segments next) edits step.fit x in_use
           (has_bytes edits (number_of x) (not_given segments few (store_on segments next) edits step.fit step.small_back step.large_back x in_use) (sym fills ∙ e))
@@ -263,14 +263,14 @@ module _ (segments : ℕ) (when : ℕ → ℕ) (times : AreTimes when) (opening 
   abbrev Told : List Deed → Type 0
   Told deeds = AllTold segments when opening home first server number deeds
 
-  shape_at : (deeds : List Deed) → Told deeds → HasShape when first deeds
+  pub shape_at : (deeds : List Deed) → Told deeds → HasShape when first deeds
   shape_at [] a = refl
   shape_at (Does c e ∷ older) a = a.1
   shape_at (Says e ∷ older) a = a.1
   shape_at (Doubts m runs ∷ older) a = a.0
 
   -- by the tree with the numbers that are left
-  numbered_shape : (deeds : List Deed) → Told deeds → shape_of (tree_after first deeds) ≡ shape_of (tree_of (performed_numbered when) (numbered first numbers) (items deeds)).tree
+  pub numbered_shape : (deeds : List Deed) → Told deeds → shape_of (tree_after first deeds) ≡ shape_of (tree_of (performed_numbered when) (numbered first numbers) (items deeds)).tree
   numbered_shape deeds a = shape_at deeds a ∙ ap shape_of (sym (same_tree when first numbers (items deeds)))
 
   -- ---- an operation
@@ -328,9 +328,9 @@ module _ (segments : ℕ) (when : ℕ → ℕ) (times : AreTimes when) (opening 
       sees_it touched =
           let n = naming segments when times opening start begins c (items older) l d by in
           let of_now = (step segments when times opening start begins c (items older) l d by).of in
-          let node_used : has_lock (NodeLock (n.inode b)) c.uses ≡ true = told.uses b n (subst (λ u. IsOfTree (store_after segments opening (items older)) u n) (sym before) of_now) touched in
           let used = cover_used segments when times opening start begins c (items older) l d by lies.naming of_then b t lies.sector lies_then
-          (λ r. ap (λ lock. has_lock lock c.uses) (part_cover (store_after segments opening (items older)) (shape_of (tree_of (performed_numbered when) start (items older)).tree) n of_now b t lies.sector r) ∙ node_used) in
+          (λ r. ap (λ lock. has_lock lock c.uses) (part_cover (store_after segments opening (items older)) (shape_of (tree_of (performed_numbered when) start (items older)).tree) n of_now b t lies.sector r)
+          ∙ told.uses b n (subst (λ u. IsOfTree (store_after segments opening (items older)) u n) (sym before) of_now) (ap (λ u. is_some (node_at u b)) before ∙ r.there) touched) in
           told.sees sector (subst (λ s. has_lock (seen.cover_of home (items older) s) c.uses ≡ true) (sym lies.here)
           (covered segments when times opening start begins c (items older) l d by lies.naming of_then b t lies.sector lies_then home follow used))
 

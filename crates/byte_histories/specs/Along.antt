@@ -1,5 +1,5 @@
 -- Histories of lines as both sides tell them: where the parts of files lie, what is asked of each entry, and that doubt is the same.
-use Rattle.std.specs.Prelude.{◌≡◌, ◌≤◌, ℕ, true, false, ◌&&◌, ◌||◌, ◌==◌, Bool, Option, List, [], ◌∷◌}
+use Rattle.std.specs.Prelude.{◌≡◌, ◌≤◌, ℕ, true, false, ◌&&◌, ◌||◌, ◌==◌, Bool, Option, List, [], ◌∷◌, is_some}
 use Rattle.frang_base.specs.Locks.{has_lock}
 use Rattle.frang_base.specs.declared.lock.LockId.{LockId}
 use Rattle.frang_base.specs.declared.lock.LockId.TheVariants.{Node}
@@ -7,7 +7,7 @@ use Rattle.tree_definitions.specs.declared.history.Entry.{Entry}
 use Rattle.tree_definitions.specs.History.{is_answer}
 use Rattle.tree_definitions.specs.Removal.{is_doubtful}
 use Rattle.tree_definitions.specs.Touched.{shape_of, touches, is_mounted, is_ok, is_sync}
-use Rattle.tree_definitions.specs.Tree.{FileTree}
+use Rattle.tree_definitions.specs.Tree.{FileTree, node_at}
 use Rattle.tree_laws.specs.Doubts.{entry_writes}
 use Rattle.sector_bytes.specs.Blocks.{Block}
 use Rattle.sector_histories.specs.Histories.{Commit, Each, in_doubt}
@@ -33,7 +33,7 @@ pub record LiesAfter (segments : ℕ) (opening : ℕ → Block) (first_tree : Fi
   pub here : number ≡ number_of sector
 
 -- What is asked of an operation with its entry: they are of one server and one line, the reply is the same but for bytes, and the tree's answer; where the
--- entry touches a node, the operation uses this node's lock; and it looks at the bytes of each sector under a lock that it uses
+-- entry touches a node that is there, the operation uses this node's lock; and it looks at the bytes of each sector under a lock that it uses
 pub record IsTold (segments : ℕ) (opening : ℕ → Block) (home : ℕ → LockId) (first_tree : FileTree) (c : Commit) (e : Entry) (older : List Deed) : Type 0 where
   pub by : e.server.0 ≡ c.by
   pub asked : e.op ≡ c.asked
@@ -42,7 +42,8 @@ pub record IsTold (segments : ℕ) (opening : ℕ → Block) (home : ℕ → Loc
   pub no_mount : is_mounted e.reply ≡ false
   pub no_sync : is_sync e.op && is_ok e.reply ≡ false
   pub uses : (birth : ℕ) (naming : Naming) → IsOfTree (store_after segments opening (items older)) (shape_of (tree_after first_tree older)) naming →
-      touches (tree_after first_tree older) e birth ≡ true → has_lock (Node (naming.inode birth)) c.uses ≡ true
+      is_some (node_at (shape_of (tree_after first_tree older)) birth) ≡ true → touches (tree_after first_tree older) e birth ≡ true →
+      has_lock (Node (naming.inode birth)) c.uses ≡ true
   pub sees : (sector : ℕ) → has_lock (seen.cover_of home (items older) sector) c.uses ≡ true → c.sees sector ≡ true
 
 -- an entry that does nothing to sectors: it touches and meets nothing, leaves the tree's shape, and a sync or a mount of the server covers its operations

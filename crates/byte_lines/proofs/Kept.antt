@@ -63,7 +63,7 @@ all_shown [] (b ∷ bytes) h = absurd h
 all_shown (c ∷ cells) [] h = absurd h
 all_shown (c ∷ cells) (b ∷ bytes) h = and_from (cell_shows c b) (cells_show cells bytes) (one_shown c b h.0) (all_shown cells bytes h.1)
 
-agrees_by : (a : Answer) (r : Reply) → Answers a r → agrees a r ≡ true
+pub agrees_by : (a : Answer) (r : Reply) → Answers a r → agrees a r ≡ true
 agrees_by (Plain said) r h = subst (λ q. same_reply said q ≡ true) (sym h) (same_self said)
 agrees_by (Shows cells) (reply.Shown bytes) h = all_shown cells bytes h
 agrees_by (Shows cells) _ h = absurd h

@@ -1,5 +1,5 @@
 -- Two servers over a fresh disk, by the laws of histories.
-use Rattle.std.proofs.Common.{ℕ, ◌≡◌, ◌≢◌, ◌*◌, ◌<◌, false, nat_eq, Some, List, [], ◌∷◌, refl, sym, ◌∙◌, subst, arith, lit<}
+use Rattle.std.proofs.Common.{ℕ, ◌≡◌, ◌≢◌, false, nat_eq, Some, List, [], ◌∷◌, refl, subst, arith, lit<}
 use Rattle.frang_base.specs.declared.op.Op.TheVariants as op
 use Rattle.frang_base.specs.declared.reply.Reply.TheVariants as reply
 use Rattle.frang_base.proofs.Basics.{ne_of}
@@ -7,61 +7,27 @@ use Rattle.tree_definitions.specs.declared.node.Node.TheVariants.{Dir}
 use Rattle.tree_definitions.specs.Numbers.{below}
 use Rattle.tree_definitions.specs.Resolve.{resolve}
 use Rattle.tree_definitions.specs.Tree.{FileTree, fresh}
-use Rattle.tree_laws.proofs.FreshLaws.{fresh_well}
-use Rattle.sector_definitions.specs.declared.param.Param.{Param}
-use Rattle.sector_definitions.specs.declared.region.Region.TheVariants as region
-use Rattle.sector_definitions.specs.Regions.{sector_of}
 use Rattle.sector_histories.specs.Histories.{Item, logical, in_doubt}
 use Rattle.sector_histories.specs.Histories.Item.{Done}
 use Rattle.sector_histories.specs.Plans.{Outcome, Legal}
 use Rattle.sector_world.specs.Trees.{Answers, Distinct, tree_of}
-use Rattle.disk_definitions.specs.Standing.{HasVersionsUpTo}
-use Rattle.plan_definitions.specs.OnDisk.{StandsBelow}
-use Rattle.plan_fresh.specs.Fresh.{fresh_param, fresh_disk}
-use Rattle.plan_fresh.proofs.Blocks.{param_reads}
-use Rattle.plan_fresh.proofs.Sectors.{elsewhere}
-use Rattle.plan_fresh.proofs.Standing.{versions, fresh_stands}
+use Rattle.plan_fresh.specs.Fresh.{fresh_disk}
 use Rattle.line_commits.specs.LinePlans.{sector_plan}
 use Rattle.fresh_histories.specs.TwoServers.{number_of_line, at_zero, directory, file_below, file_beside, makes_directory, creates_below, tree_left, tree_of_all, all_three, TwoServers}
 use Rattle.line_histories.specs.Laws.{IsOfOneTree}
-use Rattle.line_histories.specs.Standing.{HasZeros, StandsForShape, StandsNumbered}
+use Rattle.line_histories.specs.Standing.{StandsForShape, StandsNumbered}
 use Rattle.line_histories.specs.Trees.{performed, AreTimes, MayNumber}
 use Rattle.line_histories.proofs.Coming.{lines_come}
 use Rattle.line_histories.proofs.Runs.{histories_of_one_tree}
+use Rattle.fresh_histories.proofs.Beginning.{fresh_begins}
 
 abbrev numbers : List ℕ
 numbers = number_of_line 1 ∷ number_of_line 2 ∷ number_of_line 3 ∷ []
 
 -- ---- the fresh disk
 
-clear : HasZeros 1 (fresh_disk 1)
-clear k p lk lp none = elsewhere 1 (sector_of (region.Small k p)) (λ e. absurd (omega arith)) (λ e. absurd (omega arith)) (λ e. absurd (omega arith))
-
-abbrev fresh_one : StandsBelow (fresh_disk 1) (fresh 1)
-fresh_one = fresh_stands 1 (omega arith) (omega arith)
-
-param_is : fresh_one.stands.param ≡ fresh_param 1
-param_is = let e : Some fresh_one.stands.param ≡ Some (fresh_param 1) = sym fresh_one.stands.parameters ∙ param_reads 1 (omega arith) (omega arith) in cc
-
-room : (k : ℕ) → k < 131072 → k < 131072 * fresh_one.stands.param.run
-room k l = subst (λ (p : Param). k < 131072 * p.run) (sym param_is) l
-
 begins : StandsNumbered 1 (fresh_disk 1) (record { tree = fresh 1; numbers = numbers })
-begins = record {
-  stands = record {
-    well_formed = fresh_well 1;
-    as_many = refl;
-    below = record {
-      stands = fresh_one.stands;
-      most = 1;
-      below = room 1 (omega arith);
-      versions = subst (λ (p : Param). HasVersionsUpTo 1 p.segments (fresh_disk 1)) (sym param_is) (versions 1 (omega arith) (omega arith) 1 (omega arith));
-      whole = fresh_one.whole;
-    };
-    zeros = clear;
-  };
-  enough = room 4 (omega arith);
-}
+begins = fresh_begins 1 (omega arith) (omega arith) numbers (omega arith)
 
 -- ---- the trees
 

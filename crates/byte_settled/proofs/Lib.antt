@@ -1,0 +1,10 @@
+pub mod Few
+pub mod Doubted
+pub mod Verdicts
+pub mod Recorded
+pub mod Lines
+pub mod Leaving
+pub mod Staying
+pub mod Histories
+pub mod Stopping
+pub mod Left

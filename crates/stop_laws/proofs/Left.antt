@@ -1,0 +1,77 @@
+-- What recoveries of all logs would leave is told twice and shown, so cells are known after it, and the replayed disk stands for its tree.
+use Rattle.std.proofs.Common.{ℕ, ◌≡◌, ◌≢◌, ◌≤◌, List, [], sym, subst, arith}
+use Rattle.tree_definitions.specs.Tree.{FileTree}
+use Rattle.sector_histories.specs.Bytes.{Agree}
+use Rattle.sector_histories.specs.Histories.{Each, settled}
+use Rattle.sector_histories.specs.Plans.{IsByPlan, Legal}
+use Rattle.sector_world.specs.Kinds.{Good}
+use Rattle.sector_world.specs.Planned.{IsLegal}
+use Rattle.sector_world.specs.Trees.{Distinct}
+use Rattle.sector_world.specs.World.{World}
+use Rattle.sector_world.specs.World.Phase.{Off}
+use Rattle.sector_world.proofs.Holding.{holds_good}
+use Rattle.line_commits.specs.LinePlans.{sector_plan}
+use Rattle.line_histories.specs.Following.{Follows}
+use Rattle.line_histories.specs.Standing.{StandsNumbered}
+use Rattle.line_histories.specs.Trees.{AreTimes, MayNumber}
+use Rattle.line_histories.proofs.Runs.{numbered}
+use Rattle.byte_doubts.specs.Deeds.{Deed, items}
+use Rattle.byte_known.specs.Known.{KnowsCells}
+use Rattle.byte_settled.specs.Happened.{Happening, on_sectors, settle}
+use Rattle.byte_settled.specs.Paired.{ArePaired, IsKeptBy}
+use Rattle.byte_settled.specs.Settling.{stopped}
+use Rattle.byte_settled.proofs.Left.{stops_leave_the_tree}
+use Rattle.byte_settled.proofs.Stopping.{IsStopped, stopped_alike}
+use Rattle.byte_all.proofs.Deeds.{all_known}
+use Rattle.stop_laws.specs.Keeping.{AreKept}
+use Rattle.stop_laws.specs.Stop.{TheDiskStandsForTheHistory}
+use Rattle.stop_laws.proofs.Alone.{above_all}
+use Rattle.stop_laws.proofs.Told.{IsRun, all_shown, all_told, twice}
+
+-- it doesn't matter of which server doubt is followed: all its operations are below the number
+some_server : ℕ
+some_server = 0
+
+module _ (segments : ℕ) (when : ℕ → ℕ) (first_tree : FileTree) (numbers : List ℕ) (w : World) (greatest : ℕ → ℕ) (h : List Happening) (times : AreTimes when)
+    (begins : StandsNumbered segments w.opening (numbered first_tree numbers)) (legal : IsLegal (sector_plan segments when) w)
+    (distinct : Distinct (MayNumber numbers) first_tree (settled w.history)) (good : Good w)
+    (follows : Follows segments w.opening w.home w.logged w.first []) (told : on_sectors h ≡ w.history) (paired : ArePaired segments when w.opening first_tree numbers h)
+    (logs : (server : ℕ) → w.phase server ≢ Off → IsKeptBy server (greatest server) (w.durable server) (settled w.history))
+    (kept : AreKept segments when w.opening w.home first_tree (settle first_tree (stopped w greatest w.servers h)))
+    (knows : KnowsCells segments w.opening w.logged w.first first_tree []) where
+  deeds : List Deed
+  deeds = settle first_tree (stopped w greatest w.servers h)
+
+  end : IsStopped when first_tree numbers w greatest h
+  end = stopped_alike segments when times first_tree numbers w greatest h begins legal distinct good told paired logs
+
+  number : ℕ
+  number = above_all (items deeds)
+
+  low : above_all (items deeds) ≤ number
+  unfolding number
+  low = omega arith
+
+  runs : IsRun segments when times w.opening first_tree numbers begins w.home w.logged w.first follows knows some_server number deeds
+  unfolding deeds
+  runs = record {
+    legal = subst (Legal (sector_plan segments when) w.opening) (sym end.alike.sectors) legal.left;
+    distinct = subst (Distinct (MayNumber numbers) first_tree) (sym end.alike.sectors) end.distinct;
+    by_plan = subst (Each IsByPlan) (sym end.alike.sectors) (holds_good w good).left_by_plan;
+    agrees = subst (Agree w.first) (sym end.alike.sectors) (holds_good w good).left_agrees;
+    lines = end.lines;
+  }
+
+  pub known : KnowsCells segments w.opening w.logged w.first first_tree (settle first_tree (stopped w greatest w.servers h))
+  unfolding deeds
+  known =
+      all_known segments when w.opening first_tree numbers w.home w.logged w.first some_server number deeds
+      (twice segments when times w.opening first_tree numbers begins w.home w.logged w.first follows knows some_server number deeds runs
+      (all_told segments when times w.opening first_tree numbers begins w.home w.logged w.first follows knows some_server number deeds low runs kept))
+      runs.agrees
+      (all_shown segments when times w.opening first_tree numbers begins w.home w.logged w.first follows knows some_server number deeds runs.legal end.lines kept) knows
+
+pub the_disk_stands : TheDiskStandsForTheHistory
+the_disk_stands segments when first_tree numbers w greatest h times begins legal distinct good follows zero_logged told paired logs kept knows =
+    stops_leave_the_tree segments when first_tree numbers w greatest h times begins legal distinct good follows zero_logged told paired logs
+    (known segments when first_tree numbers w greatest h times begins legal distinct good follows told paired logs kept knows)

@@ -1,0 +1,4 @@
+pub mod Alone
+pub mod Told
+pub mod Left
+pub mod Begun

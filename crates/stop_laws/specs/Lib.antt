@@ -1,0 +1,3 @@
+pub mod Keeping
+pub mod Stop
+pub mod Fresh

@@ -1,0 +1,33 @@
+-- What a stop of all servers leaves, with no premise on what is known of bytes but of the first disk.
+use Rattle.std.specs.Prelude.{◌≡◌, ◌≢◌, ℕ, true, List, []}
+use Rattle.tree_definitions.specs.Removal.{tree_from}
+use Rattle.tree_definitions.specs.Tree.{FileTree}
+use Rattle.sector_histories.specs.Histories.{settled}
+use Rattle.sector_world.specs.Claims.{replayed}
+use Rattle.sector_world.specs.Kinds.{Good}
+use Rattle.sector_world.specs.Planned.{IsLegal}
+use Rattle.sector_world.specs.Trees.{Distinct}
+use Rattle.sector_world.specs.World.{World}
+use Rattle.sector_world.specs.World.Phase.{Off}
+use Rattle.disk_definitions.specs.Standing.{StandsFor}
+use Rattle.line_commits.specs.LinePlans.{sector_plan}
+use Rattle.line_histories.specs.Following.{Follows}
+use Rattle.line_histories.specs.Standing.{StandsNumbered}
+use Rattle.line_histories.specs.Trees.{AreTimes, MayNumber}
+use Rattle.byte_known.specs.Known.{KnowsCells}
+use Rattle.byte_settled.specs.Happened.{Happening, on_sectors, on_tree, settle}
+use Rattle.byte_settled.specs.Paired.{ArePaired, IsKeptBy}
+use Rattle.byte_settled.specs.Settling.{stopped}
+use Rattle.stop_laws.specs.Keeping.{AreKept}
+
+-- At each moment of servers whose operations are lines, over a first disk whose cells are known: the disk with all logs replayed stands for the tree of the
+-- history with the recoveries of all logs, by the rules on histories, a cell in doubt allowing any byte. Sector 0 counts as one with a version
+abbrev pub TheDiskStandsForTheHistory : Type 0
+TheDiskStandsForTheHistory =
+    (segments : ℕ) (when : ℕ → ℕ) (first_tree : FileTree) (numbers : List ℕ) (w : World) (greatest : ℕ → ℕ) (h : List Happening) → AreTimes when →
+    StandsNumbered segments w.opening (record { tree = first_tree; numbers = numbers }) → IsLegal (sector_plan segments when) w →
+    Distinct (MayNumber numbers) first_tree (settled w.history) → Good w → Follows segments w.opening w.home w.logged w.first [] → w.logged 0 ≡ true →
+    on_sectors h ≡ w.history → ArePaired segments when w.opening first_tree numbers h →
+    ((server : ℕ) → w.phase server ≢ Off → IsKeptBy server (greatest server) (w.durable server) (settled w.history)) →
+    AreKept segments when w.opening w.home first_tree (settle first_tree (stopped w greatest w.servers h)) → KnowsCells segments w.opening w.logged w.first first_tree [] →
+    StandsFor (replayed w w.servers) (tree_from first_tree (on_tree (stopped w greatest w.servers h)))
