@@ -1,5 +1,5 @@
 -- Over every run the answers follow the script.
-use Rattle.std.proofs.Common.{◌≡◌, ℕ, ◌<◌, inl, inr, Bool, true, false, ◌&&◌, ◌==◌, cond, List, [], ◌∷◌, ◌++◌, Some, None, IsTrue, filter, length, nat_lt, refl, sym, ap, ◌∙◌, subst, arith}
+use Rattle.std.proofs.Common.{◌≡◌, ℕ, ◌<◌, inl, inr, Bool, true, false, not, ◌&&◌, ◌==◌, cond, if◌then◌else◌, find, List, [], ◌∷◌, ◌++◌, Some, None, IsTrue, filter, length, nat_lt, refl, sym, ap, ◌∙◌, subst, arith}
 use Rattle.std.proofs.lemmas.Bool.Decides.{nat_tests}
 use Rattle.std.proofs.lemmas.List.Elements.{filter_map-append}
 use Rattle.std.specs.List.{Contains, cons_option, slice_get}
@@ -34,6 +34,20 @@ note_mute line n = absurd (cc)
 first_of : (x y : Bool) → IsTrue (x && y) → IsTrue x
 first_of true y h = refl
 first_of false y h = h
+
+-- the first that passes one test and not the other doesn't pass the other
+open_one : (test marked : Line → Bool) (xs : List Line) (x : Line) → find (λ y. test y && not (marked y)) xs ≡ Some x → marked x ≡ false
+open_one test marked [] x e = absurd (cc)
+open_one test marked (y ∷ ys) x e = go (test y) (marked y) refl (λ f. open_one test marked ys x f) e
+  where
+    same_some : (a b : Line) → Some a ≡ Some b → a ≡ b
+    same_some a b e = cc
+
+    go : (t m : Bool) → marked y ≡ m → (find (λ y. test y && not (marked y)) ys ≡ Some x → marked x ≡ false) →
+        (if t && not m then Some y else find (λ y. test y && not (marked y)) ys) ≡ Some x → marked x ≡ false
+    go true false f behind e = ap marked (sym (same_some y x e)) ∙ f
+    go true true f behind e = behind e
+    go false m f behind e = behind e
 
 module _ (script : List Line) (own : Once (numbers_of script)) where
   step_told : (s v : State) → Step s v → Told script s.core (answers_in s.record_) → Told script v.core (answers_in v.record_)
@@ -152,6 +166,16 @@ module _ (setting : Setting) (disk : Sectors) (s : State) (own : HaveOwnNumbers 
       go (l ∷ ls) at =
           in_rest setting.script s.core.answered (answered_by a (answers_in s.record_)) a (l ∷ ls) at u.line
           (inl (some_line l u.line (sym (next_is setting.script s.core.answered (answered_by a (answers_in s.record_)) a (l ∷ ls) at) ∙ way.next)))
+
+  -- a line under way is its server's next, and so not answered
+  pub under_way_next : (a : ℕ) (u : Under) → IsTrue (is_server a) → (s.core.servers a).under ≡ Some u → (next_of s.core a ≡ Some u.line) × (s.core.answered u.line.number ≡ false)
+  under_way_next a u server e = (
+    ap (λ script. next_by_marks script s.core.answered a) told.script_is ∙ way.next,
+    open_one (λ line. line.who.0 == a) (λ line. s.core.answered line.number) setting.script u.line way.next,
+  )
+    where
+      way : IsUnderWay setting.script s.core.answered a u.line
+      way = told.under a server u.line (ap (option_map (λ x. x.line)) e)
 
   pub under_way_once : (a b : ℕ) (one other : Under) → IsTrue (is_server a) → IsTrue (is_server b) → (s.core.servers a).under ≡ Some one →
       (s.core.servers b).under ≡ Some other →

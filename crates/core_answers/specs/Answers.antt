@@ -1,5 +1,5 @@
 -- Which lines are answered, and when: what holds of the record of every run.
-use Rattle.std.specs.Prelude.{◌≡◌, ℕ, ◌<◌, ◌==◌, IsTrue, Option, Some, None, Ok, List, ◌++◌, filter, map}
+use Rattle.std.specs.Prelude.{◌≡◌, ℕ, ◌<◌, ◌==◌, false, IsTrue, Option, Some, None, Ok, List, ◌++◌, filter, map}
 use Rattle.std.specs.List.{Contains, filter_map}
 use Rattle.frang_base.specs.declared.said.Said.{Said}
 use Rattle.frang_base.specs.declared.said.Said.TheVariants as said
@@ -92,6 +92,12 @@ LinesAreUnderWayOnce =
     (setting : Setting) (disk : Sectors) (s : State) → HaveOwnNumbers setting.script → Run (first_state setting disk) s →
     (a b : ℕ) (one other : Under) → IsTrue (is_server a) → IsTrue (is_server b) →
     (s.core.servers a).under ≡ Some one → (s.core.servers b).under ≡ Some other → one.line.number ≡ other.line.number → a ≡ b
+
+-- and each is the next line of its server, so that it isn't answered yet
+abbrev pub LinesUnderWayAreNext : Type 0
+LinesUnderWayAreNext =
+    (setting : Setting) (disk : Sectors) (s : State) → HaveOwnNumbers setting.script → Run (first_state setting disk) s → (a : ℕ) (under : Under) → IsTrue (is_server a) →
+    (s.core.servers a).under ≡ Some under → (next_of s.core a ≡ Some under.line) × (s.core.answered under.line.number ≡ false)
 
 -- ---- and of one where two lines have one number
 

@@ -4,18 +4,19 @@
 #![tactic(auto)]
 
 ghost use Rattle.core_answers.specs.Answers.{ReadScriptsHaveOwnNumbers, LinesAreAnsweredOnce, AnswersFollowTheScript, NextLinesAreByTheRecord};
-ghost use Rattle.core_answers.specs.Answers.{LinesWaitForTheHost, HostLinesWait, LinesAreUnderWayOnce, OwnNumbersAreNeeded};
+ghost use Rattle.core_answers.specs.Answers.{LinesWaitForTheHost, HostLinesWait, LinesAreUnderWayOnce, LinesUnderWayAreNext, OwnNumbersAreNeeded};
 
 /// No two lines of a script that was read have the same number.
 pub fn read_scripts_have_own_numbers()
     ensures { ReadScriptsHaveOwnNumbers }
 {}
 
-/// Over every run from an opening no line is answered twice, and no line is under way at two servers. Without the premise it isn't so: of two servers that each
-/// have begun a line of number 1, both answer it.
+/// Over every run from an opening no line is answered twice, no line is under way at two servers, and one that is under way is its server's next and not answered.
+/// Without the premise it isn't so: of two servers that each have begun a line of number 1, both answer it.
 pub fn each_line_is_answered_once()
     ensures once { LinesAreAnsweredOnce }
     ensures under_way { LinesAreUnderWayOnce }
+    ensures next { LinesUnderWayAreNext }
     ensures needed { OwnNumbersAreNeeded }
 {}
 

@@ -1,8 +1,14 @@
 pub mod SmallLogs
 pub mod Driving
 pub mod Choosing
+pub mod Choices
 pub mod Rows
 pub mod Deaths
 pub mod Gives
 pub mod Flushes
 pub mod Orders
+pub mod Turns
+pub mod Moments
+pub mod Outcomes
+pub mod Anew
+pub mod Clears

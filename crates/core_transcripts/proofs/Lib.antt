@@ -1,29 +1,29 @@
 mod Always
-mod Walking
+pub mod Walking
 mod Planning
 mod Lining
-mod Staging
-mod Numbering
-mod Saying
-mod Fits
-mod Fitting
-mod Steady
-mod Turns
+pub mod Staging
+pub mod Numbering
+pub mod Saying
+pub mod Fits
+pub mod Fitting
+pub mod Steady
+pub mod Turns
 mod Replies
 mod Spoken
-mod Telling
+pub mod Telling
 mod Owning
-mod Happening
-mod Answering
+pub mod Happening
+pub mod Answering
 mod Committing
-mod Lives
+pub mod Lives
 mod Living
 mod Closing
-mod Dooming
-mod Turning
+pub mod Dooming
+pub mod Turning
 mod Blank
 mod Blanking
 mod Spotless
 mod Kept
-mod Rising
-mod Running
+pub mod Rising
+pub mod Running

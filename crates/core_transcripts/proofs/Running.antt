@@ -49,6 +49,11 @@ dirty_more : (script : List Line) (i : ℕ) (d : Bool) (xs ys : List Said) → d
 dirty_more script i d [] ys = refl
 dirty_more script i d (x ∷ xs) ys = dirty_more script i (dirty_after script i d x) xs ys
 
+-- a run, and a step more
+pub goes_further : (s v w : State) → Run s v → Step v w → Run s w
+goes_further s v w Stays step = Goes step Stays
+goes_further s v w (Goes {v = u} first rest) step = Goes first (goes_further u v w rest step)
+
 -- ---- what holds at every moment
 
 module _ (opening : Opening) (setting : Setting) (disk : Sectors) (numbered : IsNumbered setting.script) (f : Faults)
@@ -59,11 +64,11 @@ module _ (opening : Opening) (setting : Setting) (disk : Sectors) (numbered : Is
   abbrev SpotlessAt : List Said → Core → Type 0
   SpotlessAt saids c = Spotless (λ i. may_be_dirty setting.script i saids) c.servers c.flights
 
-  record Holds (saids : List Said) (c : Core) : Type 0 where
-    same : c.setting ≡ setting
-    said_so : EachMay Rule [] saids
-    fits : CoreFits setting.script f saids c
-    spotless : SpotlessAt saids c
+  pub record Holds (saids : List Said) (c : Core) : Type 0 where
+    pub same : c.setting ≡ setting
+    pub said_so : EachMay Rule [] saids
+    pub fits : CoreFits setting.script f saids c
+    pub spotless : SpotlessAt saids c
 
   -- ---- an event
   module _ (s : State) (before : Run (first_state setting disk) s) (h : Holds (saids_of s.record_) s.core) where
@@ -87,20 +92,20 @@ module _ (opening : Opening) (setting : Setting) (disk : Sectors) (numbered : Is
         or_left false b h = absurd (false≢true h)
 
     -- a stalled server that isn't clean may be dirty
-    lease : (a : ℕ) → IsTrue (is_server a) → IsTrue (is_still (s.core.servers a).phase) → IsTrue (not (clean_at s.core a)) → IsTrue (may_be_dirty s.core.setting.script a saids || f (length saids) a)
-    lease a server still unclean = go (may_be_dirty s.core.setting.script a saids) refl
+    pub still_is_dirty : (a : ℕ) → IsTrue (is_server a) → IsTrue (is_still (s.core.servers a).phase) → IsTrue (not (clean_at s.core a)) → IsTrue (may_be_dirty setting.script a saids)
+    still_is_dirty a server still unclean = go (may_be_dirty setting.script a saids) refl
       where
         no_line : is_changing (s.core.servers a).under ≡ false
-        no_line = still_idle (s.core.servers a) (told_of s.core.setting.script f saids s.core.answered a) still (own_fits.servers a)
+        no_line = still_idle (s.core.servers a) (told_of setting.script f saids s.core.answered a) still (h.fits.servers a)
 
         clean_so : IsBlank (s.core.servers a) (has_flights s.core.flights a) → clean_at s.core a ≡ true
         clean_so b = blank_is_clean s.core a b
 
-        go : (d : Bool) → may_be_dirty s.core.setting.script a saids ≡ d → IsTrue (d || f (length saids) a)
+        go : (d : Bool) → may_be_dirty setting.script a saids ≡ d → IsTrue d
         go true e = refl
         go false e =
             let b : IsBlank (s.core.servers a) (has_flights s.core.flights a) =
-            own_spotless a (record { mounted = or_right (is_up (s.core.servers a).phase) (is_still (s.core.servers a).phase) still; clean_ = ap (λ d. d || is_changing (s.core.servers a).under) e ∙ no_line }) in
+            h.spotless a (record { mounted = or_right (is_up (s.core.servers a).phase) (is_still (s.core.servers a).phase) still; clean_ = ap (λ d. d || is_changing (s.core.servers a).under) e ∙ no_line }) in
             absurd (not_both (clean_at s.core a) (clean_so b) unclean)
           where
             or_right : (a b : Bool) → IsTrue b → IsTrue (a || b)
@@ -110,6 +115,14 @@ module _ (opening : Opening) (setting : Setting) (disk : Sectors) (numbered : Is
             not_both : (b : Bool) → b ≡ true → IsTrue (not b) → ⊥
             not_both true e h = false≢true h
             not_both false e h = false≢true e
+
+    lease : (a : ℕ) → IsTrue (is_server a) → IsTrue (is_still (s.core.servers a).phase) → IsTrue (not (clean_at s.core a)) → IsTrue (may_be_dirty s.core.setting.script a saids || f (length saids) a)
+    lease a server still unclean =
+        or_first (may_be_dirty s.core.setting.script a saids) (f (length saids) a) (subst (λ z. IsTrue (may_be_dirty z.script a saids)) (sym h.same) (still_is_dirty a server still unclean))
+      where
+        or_first : (a b : Bool) → IsTrue a → IsTrue (a || b)
+        or_first true b h = refl
+        or_first false b h = absurd (false≢true h)
 
     event_holds : (event : Event) (heard : Heard) → Makes s event heard → CountsAt f (length saids) (failing s.core event heard) →
         Holds (saids_of (s.record_ ++ deeds_of s.core event heard)) (after s.core event heard)
@@ -232,10 +245,6 @@ module _ (opening : Opening) (setting : Setting) (disk : Sectors) (numbered : Is
     step_holds v (Peek sector) counts = h
 
   -- ---- runs
-  goes_further : (s v w : State) → Run s v → Step v w → Run s w
-  goes_further s v w Stays step = Goes step Stays
-  goes_further s v w (Goes {v = u} first rest) step = Goes first (goes_further u v w rest step)
-
   run_holds : (s v : State) → Run (first_state setting disk) s → (run : Run s v) → CountsEach f s v run → Holds (saids_of s.record_) s.core → Holds (saids_of v.record_) v.core
   run_holds s v before Stays counts h = h
   run_holds s w before (Goes {v = v} step run) counts h =
@@ -261,5 +270,8 @@ module _ (opening : Opening) (setting : Setting) (disk : Sectors) (numbered : Is
       none_saved : {P : Type 0} (d : ℕ) → None ≡ Some d → P
       none_saved d e = absurd (cc)
 
+  pub holds_of_run : (s : State) (run : Run (first_state setting disk) s) → CountsEach f (first_state setting disk) s run → Holds (saids_of s.record_) s.core
+  holds_of_run s run counts = run_holds (first_state setting disk) s Stays run counts first_holds
+
   pub said_of_run : (s : State) (run : Run (first_state setting disk) s) → CountsEach f (first_state setting disk) s run → EachMay Rule [] (saids_of s.record_)
-  said_of_run s run counts = (run_holds (first_state setting disk) s Stays run counts first_holds).said_so
+  said_of_run s run counts = (holds_of_run s run counts).said_so

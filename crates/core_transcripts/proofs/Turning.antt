@@ -50,12 +50,12 @@ use Rattle.core_transcripts.proofs.Steady.{acknowledged_steady, again_steady, fe
 use Rattle.core_transcripts.proofs.Turns.{IsDoomed, begun_fits, closed_fits, doomed_fits, failed_fits, refused_fits}
 
 -- a get isn't answered so
-abbrev NoGet : Heard → Type 0
+abbrev pub NoGet : Heard → Type 0
 NoGet (Got block) = ⊥
 NoGet GetFailed = ⊥
 NoGet heard = Unit {0}
 
-no_load : {P : Type 0} (slot : ℕ) (disk : Sectors) (heard : Heard) (o : Option Recovery) → (NoGet heard) → MayLoad disk slot o heard → P
+pub no_load : {P : Type 0} (slot : ℕ) (disk : Sectors) (heard : Heard) (o : Option Recovery) → (NoGet heard) → MayLoad disk slot o heard → P
 no_load slot disk heard None none h = absurd h
 no_load slot disk Nothing (Some r) none h = absurd h
 no_load slot disk Written (Some r) none h = absurd h
