@@ -63,7 +63,7 @@ rt run >"$work/log" 2>&1 || { tail -n 20 "$work/log"; exit 1; }
 
 cat >"$work/full_image.py" <<'END'
 # Writes the image of a disk of 64 segments in which each sector of each region has bytes: 5 directories name 4,091 files of 65,536 bytes, and 64 of
-# them have a large block besides. Every slot of every log has a number and no record.
+# them have a large block besides. Every slot of every log has a record of 20 changes, newer than the disk, so that a recovery lays 1,310,720 changes over it.
 import struct
 import sys
 
@@ -106,11 +106,20 @@ def segment(k):
     return whole(struct.pack("<Q", 1) + b"\xff" * 8 + states + b"\1")
 
 
+# A record whose changes give 20 inodes another version, and leave the rest as it is.
+def slot(log, number):
+    first = (20 * number + 64 * log) % (INODES - 20)
+    changes = b"".join(struct.pack("<QQHHHB", ROWS + first + i, 2 + number, 1, 12, 1, 16) for i in range(20))
+    body = struct.pack("<H", 20) + changes
+    frame = struct.pack("<QH", (1 << 32) + 256 * log + number, len(body)) + body
+    return whole(struct.pack("<QQHHHH", 256 + number, 0, 0, 65535, len(frame), 0) + frame)
+
+
 def sectors():
     yield 0, whole(b"FRANGPAR" + struct.pack("<III", 2, SEGMENTS, 1))
     for log in range(256):
-        for slot in range(256):
-            yield LOGS + (log << 23) + slot, whole(struct.pack("<Q", 256 + slot))
+        for number in range(256):
+            yield LOGS + (log << 23) + number, slot(log, number)
     for k in range(SEGMENTS):
         yield BITMAPS + k, segment(k)
     for i in range(INODES):

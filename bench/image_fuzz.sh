@@ -1,6 +1,6 @@
 #!/usr/bin/env bash
 # Changes sound images 10,000 times, by a seed, and does each command on each by the built program: it sees only the specified statuses, with nothing
-# said before a refusal, a check that finds no fault exactly where there is a tree, and the lines of that tree at the end of those of a recovery. It
+# said before a refusal, no more than 32 MB of memory taken, a check that finds no fault exactly where there is a tree, and the lines of that tree at the end of those of a recovery. It
 # prints how often each status came, and each kind of a damaged image; its own status is 1 where one is odd. Words: the seed (1), the number of images
 # (10000), and perhaps another build of the program, which is to say the same. Not part of the gate.
 set -eu
@@ -11,6 +11,7 @@ cat >"$work/image_fuzz.py" <<'END_OF_PROGRAM'
 import collections
 import os
 import random
+import resource
 import struct
 import subprocess
 import sys
@@ -19,6 +20,8 @@ import time
 
 HEADER, ENTRY = 16, 520
 KINDS = range(1, 8)
+# The images have some ten thousand bytes: a program that takes more than this believed a damaged number.
+MOST_BYTES = 32 << 20
 
 
 class Parts:
@@ -159,6 +162,11 @@ def do(program, words):
     return done.returncode, done.stdout, done.stderr
 
 
+# The most memory that any run took so far. (A run counts with at least what this program had when it began it.)
+def most_memory():
+    return resource.getrusage(resource.RUSAGE_CHILDREN).ru_maxrss * 1024
+
+
 # The status is one that the command may end with, and what it said is all or nothing.
 def is_specified(command, status, said, numbers, length):
     if status == 0:
@@ -219,7 +227,10 @@ def main(program, sound, seed, count, other=None):
             if ended["tree"][0] == 0 and not ended["recover"][1].endswith(ended["tree"][1]):
                 odd += 1
                 print("odd:", number, "lines")
-    print(f"{count} images, seed {seed}, {time.perf_counter() - begun:.0f} s; odd: {odd}" + (f"; unlike: {unlike}" if other else ""))
+    if most_memory() > MOST_BYTES:
+        odd += 1
+        print("odd: memory", most_memory())
+    print(f"{count} images, seed {seed}, {time.perf_counter() - begun:.0f} s; at most {most_memory() / 1e6:.0f} MB; odd: {odd}" + (f"; unlike: {unlike}" if other else ""))
     print("statuses:", " ".join(f"{code}: {codes[code]}" for code in sorted(codes)))
     print("status 6 by kind:", " ".join(f"{kind}: {kinds[kind]}" for kind in sorted(kinds)))
     return 1 if odd or unlike else 0
