@@ -2,6 +2,7 @@ pub mod SmallLogs
 pub mod Driving
 pub mod Choosing
 pub mod Choices
+pub mod Parts
 pub mod Rows
 pub mod Deaths
 pub mod Gives
@@ -12,3 +13,4 @@ pub mod Moments
 pub mod Outcomes
 pub mod Anew
 pub mod Clears
+pub mod Cleared

@@ -1,6 +1,6 @@
 -- Worked runs, computed: the events in their order and the lines said.
 use Rattle.std.specs.Prelude.{◌≡◌, ℕ, List, [], ◌∷◌, codes, refl}
-use Rattle.frang_base.specs.declared.lock.LockId.TheVariants.{Node}
+use Rattle.frang_base.specs.declared.lock.LockId.TheVariants.{Node, Segment}
 use Rattle.frang_base.specs.declared.lock.Mode.TheVariants.{Shared, Sole}
 use Rattle.frang_base.specs.declared.op.HostOp.TheVariants as host
 use Rattle.frang_base.specs.declared.op.Op.TheVariants as op
@@ -89,6 +89,32 @@ changed_says =
 pub changed_runs_so : story_of changed_run ≡ record { events = changed_events; said_lines = changed_says }
 unfolding no_clerks no_logs any_server zeros resolve least least_from changed frame_read
 changed_runs_so = refl
+
+-- ---- a mount, a file made, a sync, and the close: the root's block has room for the name, so no block is taken
+
+abbrev pub created_lines : List Line
+created_lines = line 1 0 op.Mount ∷ line 2 0 (op.Create (codes "g" ∷ [])) ∷ line 3 0 op.Sync ∷ []
+
+abbrev pub created_run : Driven
+created_run = driven 60 (filed_opening created_lines)
+
+abbrev pub created_events : List Event
+created_events =
+    Begin 0 ∷ Answer 0 ∷ Begin 0 ∷ Ask 0 (Node 0) Shared ∷ Fetch 0 10737418240 ∷ Fetch 0 12884901888 ∷ Fetch 0 12884901889 ∷ Fetch 0 12884901890 ∷
+    Fetch 0 12884901891 ∷ Fetch 0 12884901892 ∷ Fetch 0 12884901893 ∷ Fetch 0 12884901894 ∷ Fetch 0 12884901895 ∷ Again 0 ∷ Ask 0 (Segment 0) Sole ∷
+    Fetch 0 4294967296 ∷ Fetch 0 10737418242 ∷ Again 0 ∷ Ask 0 (Node 0) Sole ∷ Ask 0 (Node 2) Sole ∷ Commit 0 ∷ Begin 0 ∷ Issue 0 2147483648 ∷ Arrive 0 ∷ Answer 0 ∷
+    Close 0 ∷ Issue 0 4294967296 ∷ Issue 0 10737418240 ∷ Issue 0 10737418242 ∷ Issue 0 12884901888 ∷ Arrive 1 ∷ Arrive 2 ∷ Arrive 3 ∷ Arrive 4 ∷ Close 0 ∷
+    Read 10737418240 ∷ Read 12884901888 ∷ Read 10737418241 ∷ Read 10737418242 ∷ Read 12884901889 ∷ Read 12884901890 ∷ Read 12884901891 ∷ Read 12884901892 ∷
+    Read 12884901893 ∷ Read 12884901894 ∷ Read 12884901895 ∷ Show 0 ∷ Show 1 ∷ Show 2 ∷ End ∷ []
+
+abbrev pub created_says : List Said
+created_says =
+    answered 0 1 reply.Mounted ∷ answered 0 2 reply.Ok ∷ answered 0 3 reply.Ok ∷ said.Node (codes "/") 2 2 0 ∷ said.Node (codes "/f") 1 0 1 ∷ said.Node (codes "/g") 1 0 1 ∷
+    said.End ∷ []
+
+pub created_runs_so : story_of created_run ≡ record { events = created_events; said_lines = created_says }
+unfolding no_clerks no_logs any_server zeros resolve least least_from changed frame_read
+created_runs_so = refl
 
 -- ---- a clean server that goes on after its lease
 

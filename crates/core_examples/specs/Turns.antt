@@ -20,7 +20,7 @@ use Rattle.sector_definitions.specs.LogSectors.{log_sector_bytes}
 use Rattle.core_definitions.specs.Logs.{seal_block}
 use Rattle.core_steps.specs.Events.{Event, Begin, Ask, Fetch, Commit, Answer, Give, Issue, Arrive, Recover, Load, Look, Finish, HostLine, Close, Read, Show, End}
 use Rattle.core_steps.specs.Runs.{State}
-use Rattle.core_examples.specs.Driving.{filed_disk, host_line, line, opening, opening_on}
+use Rattle.core_examples.specs.Driving.{filed_disk, filed_opening, host_line, line, opening, opening_on}
 use Rattle.core_examples.specs.Choices.{at_tick, choices, dead, having, idle, later, two_up, up}
 
 -- the slots of a log of eight, from one on
@@ -53,6 +53,19 @@ tree_turns = (Read 10737418240 ∷ []) ∷ (Show 0 ∷ []) ∷ (End ∷ []) ∷ 
 pub the_tree_is_said_before_the_end : choices 4 idle ≡ tree_turns
 unfolding no_clerks no_logs any_server zeros
 the_tree_is_said_before_the_end = refl
+
+-- ---- no line of the tree is said before the whole tree is read
+
+-- the root's inode is read, and then each sector of its block may be
+abbrev pub read_turns : List (List Event)
+read_turns =
+    (Read 10737418240 ∷ []) ∷
+    (Read 12884901888 ∷ Read 12884901889 ∷ Read 12884901890 ∷ Read 12884901891 ∷ Read 12884901892 ∷ Read 12884901893 ∷ Read 12884901894 ∷ Read 12884901895 ∷ []) ∷ []
+
+-- the root's line could be said behind its inode; it waits
+pub the_tree_is_read_before_it_is_said : choices 2 (filed_opening []) ≡ read_turns
+unfolding no_clerks no_logs any_server zeros
+the_tree_is_read_before_it_is_said = refl
 
 -- ---- a line of the host waits for those before it
 
