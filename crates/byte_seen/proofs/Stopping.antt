@@ -27,7 +27,7 @@ use Rattle.byte_settled.specs.Paired.{ArePaired, BeginsWithARecord, IsKeptBy}
 use Rattle.byte_settled.specs.Settling.{recovers_by, stopped}
 use Rattle.byte_seen.specs.Coverage.{RecoveriesRise, recovered_to}
 use Rattle.byte_seen.specs.Events.{IsInSight}
-use Rattle.byte_seen.specs.Sight.{AllSaw}
+use Rattle.byte_seen.specs.Sight.{AllSaw, AllShowed}
 use Rattle.byte_seen.specs.Synced.{SyncsRise}
 use Rattle.byte_seen.specs.Stops.{IsAsked, StopsAreAsked}
 use Rattle.byte_seen.proofs.Covering.{distinct_kept}
@@ -97,6 +97,7 @@ module _ (segments : ℕ) (when : ℕ → ℕ) (times : AreTimes when) (first : 
     synced : (server : ℕ) → synced_of server (on_sectors now) ≡ synced_of server w.history
     kept_now : Kept (on_sectors now)
     saw : AllSaw w.home (on_sectors now)
+    showed : AllShowed w.first (on_sectors now)
     rise : RecoveriesRise (on_sectors now)
     below : (server : ℕ) → recovered_to (on_sectors now) server ≤ w.durable server
     syncs : SyncsRise (on_sectors now)
@@ -124,6 +125,7 @@ module _ (segments : ℕ) (when : ℕ → ℕ) (times : AreTimes when) (first : 
       stage.kept_now,
     );
     saw = stage.saw;
+    showed = stage.showed;
     rise = (stage.below n, stage.rise);
     below = λ server. go server (nat_eq n server) refl;
     syncs = stage.syncs;
@@ -147,6 +149,7 @@ module _ (segments : ℕ) (when : ℕ → ℕ) (times : AreTimes when) (first : 
     synced = λ server. ap (synced_of server) told;
     kept_now = subst Kept (sym told) good.logged.was_kept;
     saw = subst (AllSaw w.home) (sym told) sight.saw;
+    showed = subst (AllShowed w.first) (sym told) sight.showed;
     rise = subst RecoveriesRise (sym told) sight.rise;
     below = λ server. subst (λ e. recovered_to e server ≤ w.durable server) (sym told) (sight.below server);
     syncs = subst SyncsRise (sym told) sight.syncs;
@@ -154,7 +157,7 @@ module _ (segments : ℕ) (when : ℕ → ℕ) (times : AreTimes when) (first : 
   stages (suc n) = by_stage n (stopped w greatest n h) (stages n) (w.phase n) refl
 
   pub asked : IsAsked segments when first numbers w (stopped w greatest w.servers h)
-  asked = let last = stages w.servers in record { paired = last.paired_now; kept = last.kept_now; saw = last.saw; rise = last.rise; syncs = last.syncs }
+  asked = let last = stages w.servers in record { paired = last.paired_now; kept = last.kept_now; saw = last.saw; showed = last.showed; rise = last.rise; syncs = last.syncs }
 
 pub stops_are_asked : StopsAreAsked
 stops_are_asked segments when first numbers w greatest h times begins legal distinct good told paired logs sight =

@@ -1,9 +1,12 @@
--- A removal leaves entries that say that operations are synced right.
-use Rattle.std.proofs.Common.{ℕ, ◌≡◌, ◌≤◌, ◌&&◌, ◌==◌, not, Bool, true, false, if◌then◌else◌, nat_eq, List, [], ◌∷◌, refl, sym, ap, subst, arith, le_refl}
+-- A removal leaves entries that say that operations are synced right, and reads that agree with what was known.
+use Rattle.std.proofs.Common.{ℕ, ◌≡◌, ◌≤◌, ◌&&◌, ◌==◌, not, Bool, true, false, if◌then◌else◌, nat_eq, Option, List, [], ◌∷◌, refl, sym, ap, subst, arith, le_refl}
 use Rattle.frang_base.proofs.Basics.{by_keep, eq_of, of_eq}
 use Rattle.tree_definitions.specs.Tree.{FileTree}
 use Rattle.sector_bytes.specs.Blocks.{Block}
+use Rattle.sector_histories.specs.Bytes.{Agree}
 use Rattle.sector_histories.specs.Histories.{Each, settled, survives, synced_of}
+use Rattle.sector_histories.specs.Seen.{Kept}
+use Rattle.sector_histories.proofs.Bytes.{agree_kept}
 use Rattle.sector_histories.proofs.Histories.{each_kept, each_map}
 use Rattle.line_histories.specs.Standing.{StandsNumbered}
 use Rattle.line_histories.specs.Trees.{AreTimes}
@@ -13,6 +16,7 @@ use Rattle.byte_settled.specs.Happened.{Happening, Acts, Speaks, Mounts, Covers,
 use Rattle.byte_settled.specs.Paired.{ArePaired}
 use Rattle.byte_settled.proofs.Histories.{histories_settle_alike}
 use Rattle.byte_settled.proofs.Staying.{items_stay}
+use Rattle.byte_seen.specs.Sight.{AllShowed, HistoriesKeepReads}
 use Rattle.byte_seen.specs.Synced.{AllSaid, AllSaidAtOnce, HistoriesKeepSyncs, RemovalsKeepSyncs, SyncsRise, says_synced}
 
 pub removals_keep_syncs : RemovalsKeepSyncs
@@ -80,3 +84,19 @@ module _ (segments : ℕ) (when : ℕ → ℕ) (opening : ℕ → Block) (first_
 
 pub histories_keep_syncs : HistoriesKeepSyncs
 histories_keep_syncs segments when opening first_tree numbers h times begins paired rise once = said segments when opening first_tree numbers times begins h paired rise once
+
+-- ---- reads
+
+module _ (segments : ℕ) (when : ℕ → ℕ) (opening : ℕ → Block) (first_tree : FileTree) (numbers : List ℕ) (first : ℕ → Option Block) where
+  agrees : (h : List Happening) → ArePaired segments when opening first_tree numbers h → Kept (on_sectors h) → AllShowed first (on_sectors h) → Agree first (settled (on_sectors h))
+  agrees [] paired k showed = tt
+  agrees (Acts c e ∷ older) paired k showed = (showed.0, agrees older paired.1 k showed.1)
+  agrees (Speaks e ∷ older) paired k showed = agrees older paired.2 k showed
+  agrees (Mounts number e ∷ older) paired k showed = agrees older paired.2 k showed
+  agrees (Covers server number ∷ older) paired k showed = agrees older paired k showed
+  agrees (Recovers server greatest durable ∷ older) paired k showed =
+      agree_kept first server durable (settled (on_sectors older)) paired.0.rises k.0 (agrees older paired.1 k.3 showed)
+
+pub histories_keep_reads : HistoriesKeepReads
+histories_keep_reads segments when opening first_tree numbers first h times begins paired k showed =
+    subst (Agree first) (sym (same segments when opening first_tree numbers times begins h paired)) (agrees segments when opening first_tree numbers first h paired k showed)

@@ -6,13 +6,14 @@ use Rattle.sector_world.specs.Kinds.{Good}
 use Rattle.sector_world.specs.Steps.{Event, Can, after}
 use Rattle.sector_world.specs.World.{World, start}
 use Rattle.byte_seen.specs.Coverage.{RecoveriesRise, recovered_to}
-use Rattle.byte_seen.specs.Sight.{AllSaw}
+use Rattle.byte_seen.specs.Sight.{AllSaw, AllShowed}
 use Rattle.byte_seen.specs.Synced.{SyncsRise}
 
--- Each operation saw all that is under its locks where it happened; no recovery removed what an earlier one of the same log kept, and none would now; and syncs
--- rise
+-- Each operation saw all that is under its locks where it happened, and showed what was known; no recovery removed what an earlier one of the same log kept, and
+-- none would now; and syncs rise
 pub record IsInSight (w : World) : Type 0 where
   pub saw : AllSaw w.home w.history
+  pub showed : AllShowed w.first w.history
   pub rise : RecoveriesRise w.history
   pub below : (server : ℕ) → recovered_to w.history server ≤ w.durable server
   pub syncs : SyncsRise w.history

@@ -1,10 +1,11 @@
 -- Which operations saw each sector of bytes under a lock that they used: where each happened, and among what recoveries leave.
-use Rattle.std.specs.Prelude.{◌≡◌, ℕ, Bool, true, Option, List, [], ◌∷◌}
+use Rattle.std.specs.Prelude.{◌≡◌, ℕ, Bool, true, false, IsTrue, Option, Some, List, [], ◌∷◌}
 use Rattle.frang_base.specs.Locks.{has_lock}
 use Rattle.frang_base.specs.declared.lock.LockId.{LockId}
 use Rattle.tree_definitions.specs.Tree.{FileTree}
 use Rattle.sector_bytes.specs.Blocks.{Block}
-use Rattle.sector_histories.specs.Histories.{Commit, Each, Entry, Item, OpsRise, kept, settled, survives}
+use Rattle.sector_histories.specs.Bytes.{Agree, is_free, value}
+use Rattle.sector_histories.specs.Histories.{Commit, Each, Entry, Item, OpsRise, kept, reaches, settled, survives}
 use Rattle.sector_histories.specs.Histories.Entry.{Did, Recovered, Synced, Mounted}
 use Rattle.sector_histories.specs.Histories.Item.{Done, Doubt}
 use Rattle.sector_histories.specs.Plans.{IsByPlan, Legal}
@@ -66,3 +67,23 @@ HistoriesKeepSight =
     (segments : ℕ) (when : ℕ → ℕ) (opening : ℕ → Block) (first_tree : FileTree) (numbers : List ℕ) (home : ℕ → LockId) (logged : ℕ → Bool) (first : ℕ → Option Block)
     (h : List Happening) → Begins segments when opening first_tree numbers home logged first → ArePaired segments when opening first_tree numbers h →
     Kept (on_sectors h) → AllSaw home (on_sectors h) → AllSee home (items (settle first_tree h))
+
+-- ---- what operations showed
+
+-- each operation showed the bytes that were known where it happened
+abbrev pub AllShowed : (ℕ → Option Block) → List Entry → Type 0
+AllShowed first [] = Unit {0}
+AllShowed first (Did c ∷ older) =
+    ((sector : ℕ) (known shown : Block) → IsTrue (reaches c sector) → c.shown sector ≡ Some shown → is_free first (settled older) sector ≡ false →
+    value first (settled older) sector ≡ Some known → known ≡ shown)
+    × AllShowed first older
+AllShowed first (Recovered server durable ∷ older) = AllShowed first older
+AllShowed first (Synced server number ∷ older) = AllShowed first older
+AllShowed first (Mounted server number ∷ older) = AllShowed first older
+
+-- then the operations that are left show what is known after the older ones that are left
+abbrev pub HistoriesKeepReads : Type 0
+HistoriesKeepReads =
+    (segments : ℕ) (when : ℕ → ℕ) (opening : ℕ → Block) (first_tree : FileTree) (numbers : List ℕ) (first : ℕ → Option Block) (h : List Happening) → AreTimes when →
+    StandsNumbered segments opening (record { tree = first_tree; numbers = numbers }) → ArePaired segments when opening first_tree numbers h → Kept (on_sectors h) →
+    AllShowed first (on_sectors h) → Agree first (items (settle first_tree h))

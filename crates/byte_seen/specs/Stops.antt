@@ -16,14 +16,16 @@ use Rattle.byte_settled.specs.Paired.{ArePaired, IsKeptBy}
 use Rattle.byte_settled.specs.Settling.{stopped}
 use Rattle.byte_seen.specs.Coverage.{RecoveriesRise}
 use Rattle.byte_seen.specs.Events.{IsInSight}
-use Rattle.byte_seen.specs.Sight.{AllSaw}
+use Rattle.byte_seen.specs.Sight.{AllSaw, AllShowed}
 use Rattle.byte_seen.specs.Synced.{SyncsRise}
 
--- lines are paired, no recovery removed what was seen or met, each operation saw what was under its locks, and recoveries and syncs rise
+-- lines are paired, no recovery removed what was seen or met, each operation saw what was under its locks and showed what was
+-- known, and recoveries and syncs rise
 pub record IsAsked (segments : ℕ) (when : ℕ → ℕ) (first_tree : FileTree) (numbers : List ℕ) (w : World) (h : List Happening) : Type 0 where
   pub paired : ArePaired segments when w.opening first_tree numbers h
   pub kept : Kept (on_sectors h)
   pub saw : AllSaw w.home (on_sectors h)
+  pub showed : AllShowed w.first (on_sectors h)
   pub rise : RecoveriesRise (on_sectors h)
   pub syncs : SyncsRise (on_sectors h)
 

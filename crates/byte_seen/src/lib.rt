@@ -5,7 +5,7 @@
 
 ghost use Rattle.byte_seen.specs.Coverage.{RemovalsKeepCoverage, HistoriesKeepCoverage};
 ghost use Rattle.byte_seen.specs.Events.{StartsAreInSight, EventsKeepSight};
-ghost use Rattle.byte_seen.specs.Sight.{RemovalsKeepSight, HistoriesKeepSight};
+ghost use Rattle.byte_seen.specs.Sight.{RemovalsKeepSight, HistoriesKeepSight, HistoriesKeepReads};
 ghost use Rattle.byte_seen.specs.Stops.{StopsAreAsked};
 ghost use Rattle.byte_seen.specs.Synced.{RemovalsKeepSyncs, HistoriesKeepSyncs};
 
@@ -31,7 +31,13 @@ pub fn entries_say_what_is_synced()
     ensures histories { HistoriesKeepSyncs }
 {}
 
-/// Along each run of servers over the sectors of one disk each operation sees what is under its locks, no recovery removes what an earlier one of the same log
+/// Where each operation showed the bytes that were known when it happened: each that recoveries leave shows those that are known after the older ones that are
+/// left.
+pub fn operations_show_what_is_known()
+    ensures reads { HistoriesKeepReads }
+{}
+
+/// Along each run of servers over the sectors of one disk each operation sees what is under its locks and shows what is known, no recovery removes what an earlier one of the same log
 /// kept, and syncs rise: at the start, and through each event.
 pub fn events_keep_sight()
     ensures start { StartsAreInSight }

@@ -3,4 +3,4 @@ use Rattle.byte_seen.proofs.Stopping as stopping
 use Rattle.byte_seen.proofs.stops_are_asked.Goals as goal
 
 pub returns : goal.returns
-returns c = stopping.stops_are_asked
+returns c = record { asked = stopping.stops_are_asked }
