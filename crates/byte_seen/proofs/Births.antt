@@ -188,49 +188,49 @@ module _ (segments : ℕ) (when : ℕ → ℕ) (times : AreTimes when) (opening 
         is = covered (Done c ∷ h) m follow_then after
 
         go : (o : Option ℕ) → n.birth i ≡ o → (q : Option ℕ) → m.birth i ≡ q → (v : Option LockId) → c.moves s ≡ v → m.birth i ≡ n.birth i
-        go None no None nq v nv = nq ∙ sym no
-        go (Some b) no q nq (Some new) nv =
-            absurd (none (subst (λ k. has_lock k c.alone ≡ true) (was ∙ ap (inode_cover i) no) (g.from s new nv)))
-        go None no (Some b) nq (Some new) nv =
-            absurd (none (subst (λ k. has_lock k c.alone ≡ true) (sym (ap (λ v. seen.moved v (seen.cover_of home h s)) nv) ∙ is ∙ ap (inode_cover i) nq) (g.to s new nv)))
-        go None no (Some b) nq None nv =
+        go None was_at None is_at v goes = is_at ∙ sym was_at
+        go (Some b) was_at q is_at (Some new) goes =
+            absurd (none (subst (λ k. has_lock k c.alone ≡ true) (was ∙ ap (inode_cover i) was_at) (g.from s new goes)))
+        go None was_at (Some b) is_at (Some new) goes =
+            absurd (none (subst (λ k. has_lock k c.alone ≡ true) (sym (ap (λ v. seen.moved v (seen.cover_of home h s)) goes) ∙ is ∙ ap (inode_cover i) is_at) (g.to s new goes)))
+        go None was_at (Some b) is_at None goes =
             let same : inode_cover i (Some b) ≡ inode_cover i None =
-            sym (ap (inode_cover i) nq) ∙ sym is ∙ ap (λ v. seen.moved v (seen.cover_of home h s)) nv ∙ was ∙ ap (inode_cover i) no in
+            sym (ap (inode_cover i) is_at) ∙ sym is ∙ ap (λ v. seen.moved v (seen.cover_of home h s)) goes ∙ was ∙ ap (inode_cover i) was_at in
             absurd (let z : true ≡ false = apart_locks (Some b) None same in cc)
-        go (Some b) no None nq None nv =
+        go (Some b) was_at None is_at None goes =
             let same : inode_cover i None ≡ inode_cover i (Some b) =
-            sym (ap (inode_cover i) nq) ∙ sym is ∙ ap (λ v. seen.moved v (seen.cover_of home h s)) nv ∙ was ∙ ap (inode_cover i) no in
+            sym (ap (inode_cover i) is_at) ∙ sym is ∙ ap (λ v. seen.moved v (seen.cover_of home h s)) goes ∙ was ∙ ap (inode_cover i) was_at in
             absurd (let z : false ≡ true = apart_locks None (Some b) same in cc)
-        go (Some b) no (Some e) nq None nv =
-            ⊎_elim (λ r. nq ∙ sym r) (λ r. absurd (let z : true ≡ false = sym (ap is_some no) ∙ ap is_some r.0 in cc)) (birth_step c h l d by n m before after i e nq)
+        go (Some b) was_at (Some e) is_at None goes =
+            ⊎_elim (λ r. is_at ∙ sym r) (λ r. absurd (let z : true ≡ false = sym (ap is_some was_at) ∙ ap is_some r.0 in cc)) (birth_step c h l d by n m before after i e is_at)
 
     -- one that is the same over two histories makes the same of it, where it was the same
     pub birth_same : (c : Commit) (h g : List Item) → Legal (sector_plan segments when) opening (Done c ∷ h) → Distinct MayTake start (Done c ∷ h) →
         Legal (sector_plan segments when) opening (Done c ∷ g) → Distinct MayTake start (Done c ∷ g) → IsByPlan c →
         CoversFollow segments opening home h → CoversFollow segments opening home (Done c ∷ h) → CoversFollow segments opening home g → CoversFollow segments opening home (Done c ∷ g) →
-        (n m n' m' : Naming) → IsOf h n → IsOf (Done c ∷ h) m → IsOf g n' → IsOf (Done c ∷ g) m' → n'.birth i ≡ n.birth i → m'.birth i ≡ m.birth i
-    birth_same c h g l d l' d' by fh fch fg fcg n m n' m' of_n of_m of_n' of_m' same = go (m.birth i) refl (m'.birth i) refl
+        (n m n_g m_g : Naming) → IsOf h n → IsOf (Done c ∷ h) m → IsOf g n_g → IsOf (Done c ∷ g) m_g → n_g.birth i ≡ n.birth i → m_g.birth i ≡ m.birth i
+    birth_same c h g l d l_g d_g by fh fch fg fcg n m n_g m_g of_n of_m of_n_g of_m_g same = go (m.birth i) refl (m_g.birth i) refl
       where
-        covers : inode_cover i (m'.birth i) ≡ inode_cover i (m.birth i)
+        covers : inode_cover i (m_g.birth i) ≡ inode_cover i (m.birth i)
         covers =
-            sym (covered (Done c ∷ g) m' fcg of_m')
-            ∙ ap (λ k. seen.moved (c.moves s) k) (covered g n' fg of_n' ∙ ap (inode_cover i) same ∙ sym (covered h n fh of_n))
+            sym (covered (Done c ∷ g) m_g fcg of_m_g)
+            ∙ ap (λ k. seen.moved (c.moves s) k) (covered g n_g fg of_n_g ∙ ap (inode_cover i) same ∙ sym (covered h n fh of_n))
             ∙ covered (Done c ∷ h) m fch of_m
 
-        both_some : (b e : ℕ) → m.birth i ≡ Some b → m'.birth i ≡ Some e → m'.birth i ≡ m.birth i
-        both_some b e is is' =
+        both_some : (b e : ℕ) → m.birth i ≡ Some b → m_g.birth i ≡ Some e → m_g.birth i ≡ m.birth i
+        both_some b e is is_g =
             ⊎_elim
-            (λ old. ⊎_elim (λ old'. is' ∙ sym old' ∙ same ∙ old ∙ sym is)
-            (λ new'. absurd (let z : false ≡ true = sym (ap is_some new'.0) ∙ ap is_some same ∙ ap is_some old in cc)) (birth_step c g l' d' by n' m' of_n' of_m' i e is'))
-            (λ new. ⊎_elim (λ old'. absurd (let z : true ≡ false = sym (ap is_some old') ∙ ap is_some same ∙ ap is_some new.0 in cc))
-            (λ new'. is' ∙ ap (λ x. Some x) (new'.1 ∙ sym new.1) ∙ sym is) (birth_step c g l' d' by n' m' of_n' of_m' i e is'))
+            (λ old. ⊎_elim (λ old_g. is_g ∙ sym old_g ∙ same ∙ old ∙ sym is)
+            (λ new_g. absurd (let z : false ≡ true = sym (ap is_some new_g.0) ∙ ap is_some same ∙ ap is_some old in cc)) (birth_step c g l_g d_g by n_g m_g of_n_g of_m_g i e is_g))
+            (λ new. ⊎_elim (λ old_g. absurd (let z : true ≡ false = sym (ap is_some old_g) ∙ ap is_some same ∙ ap is_some new.0 in cc))
+            (λ new_g. is_g ∙ ap (λ x. Some x) (new_g.1 ∙ sym new.1) ∙ sym is) (birth_step c g l_g d_g by n_g m_g of_n_g of_m_g i e is_g))
             (birth_step c h l d by n m of_n of_m i b is)
 
-        go : (o : Option ℕ) → m.birth i ≡ o → (q : Option ℕ) → m'.birth i ≡ q → m'.birth i ≡ m.birth i
-        go None is None is' = is' ∙ sym is
-        go (Some b) is (Some e) is' = both_some b e is is'
-        go None is (Some e) is' = absurd (let z : true ≡ false = sym (ap is_some is') ∙ apart_locks (m'.birth i) (m.birth i) covers ∙ ap is_some is in cc)
-        go (Some b) is None is' = absurd (let z : false ≡ true = sym (ap is_some is') ∙ apart_locks (m'.birth i) (m.birth i) covers ∙ ap is_some is in cc)
+        go : (o : Option ℕ) → m.birth i ≡ o → (q : Option ℕ) → m_g.birth i ≡ q → m_g.birth i ≡ m.birth i
+        go None is None is_g = is_g ∙ sym is
+        go (Some b) is (Some e) is_g = both_some b e is is_g
+        go None is (Some e) is_g = absurd (let z : true ≡ false = sym (ap is_some is_g) ∙ apart_locks (m_g.birth i) (m.birth i) covers ∙ ap is_some is in cc)
+        go (Some b) is None is_g = absurd (let z : false ≡ true = sym (ap is_some is_g) ∙ apart_locks (m_g.birth i) (m.birth i) covers ∙ ap is_some is in cc)
 
     -- ---- a removal
 
@@ -239,22 +239,22 @@ module _ (segments : ℕ) (when : ℕ → ℕ) (times : AreTimes when) (opening 
           removing.Apart home server durable (lock.Node i) h → Legal (sector_plan segments when) opening (removing.stays home server durable h) →
           Distinct MayTake start (removing.stays home server durable h) → Each IsByPlan (removing.stays home server durable h) →
           (n m : Naming) → IsOf h n → IsOf (removing.stays home server durable h) m → m.birth i ≡ n.birth i
-      births_stay [] l d by g a l' d' by' n m of of' = births_agree (store_after segments opening []) (shape_of (tree_of (performed_numbered when) start []).tree) n m of of' (reached_at [] l d) i
-      births_stay (Doubt marked ∷ h) l d by g a l' d' by' n m of of' = births_stay h l d by g a l' d' by' n m of of'
-      births_stay (Done c ∷ h) l d by g a l' d' by' n m of of' = go (survives server durable c) refl l' d' by' of' (births_stay h l.1 d.2 by.1 g.1 a.1)
+      births_stay [] l d by g a l_left d_left by_left n m of of_left = births_agree (store_after segments opening []) (shape_of (tree_of (performed_numbered when) start []).tree) n m of of_left (reached_at [] l d) i
+      births_stay (Doubt marked ∷ h) l d by g a l_left d_left by_left n m of of_left = births_stay h l d by g a l_left d_left by_left n m of of_left
+      births_stay (Done c ∷ h) l d by g a l_left d_left by_left n m of of_left = go (survives server durable c) refl l_left d_left by_left of_left (births_stay h l.1 d.2 by.1 g.1 a.1)
         where
           go : (b : Bool) → survives server durable c ≡ b → Legal (sector_plan segments when) opening (keep_if b (Done c) (removing.stays home server durable h)) →
               Distinct MayTake start (keep_if b (Done c) (removing.stays home server durable h)) → Each IsByPlan (keep_if b (Done c) (removing.stays home server durable h)) →
               IsOf (keep_if b (Done c) (removing.stays home server durable h)) m →
               (Legal (sector_plan segments when) opening (removing.stays home server durable h) → Distinct MayTake start (removing.stays home server durable h) →
               Each IsByPlan (removing.stays home server durable h) → (x y : Naming) → IsOf h x → IsOf (removing.stays home server durable h) y → y.birth i ≡ x.birth i) → m.birth i ≡ n.birth i
-          go true is l' d' by' of' before =
+          go true is l_left d_left by_left of_left before =
               let x = named h l.1 d.2 in
-              let y = named (removing.stays home server durable h) l'.1 d'.2 in
-              birth_same c h (removing.stays home server durable h) l d l' d' by.0 (follow h l.1 d.2 by.1) (follow (Done c ∷ h) l d by)
-              (follow (removing.stays home server durable h) l'.1 d'.2 by'.1) (follow (Done c ∷ removing.stays home server durable h) l' d' by')
-              x.0 n y.0 m x.1 of y.1 of' (before l'.1 d'.2 by'.1 x.0 y.0 x.1 y.1)
-          go false is l' d' by' of' before =
+              let y = named (removing.stays home server durable h) l_left.1 d_left.2 in
+              birth_same c h (removing.stays home server durable h) l d l_left d_left by.0 (follow h l.1 d.2 by.1) (follow (Done c ∷ h) l d by)
+              (follow (removing.stays home server durable h) l_left.1 d_left.2 by_left.1) (follow (Done c ∷ removing.stays home server durable h) l_left d_left by_left)
+              x.0 n y.0 m x.1 of y.1 of_left (before l_left.1 d_left.2 by_left.1 x.0 y.0 x.1 y.1)
+          go false is l_left d_left by_left of_left before =
               let x = named h l.1 d.2 in
-              before l' d' by' x.0 m x.1 of'
+              before l_left d_left by_left x.0 m x.1 of_left
               ∙ sym (birth_stays c h l d by.0 g.0 (follow h l.1 d.2 by.1) (follow (Done c ∷ h) l d by) (a.0 (lost home server durable c is)) x.0 n x.1 of)

@@ -8,8 +8,11 @@ use Rattle.frang_base.specs.declared.lock.LockId.{LockId}
 use Rattle.frang_base.specs.declared.lock.LockId.TheVariants as lock
 use Rattle.frang_base.specs.declared.lock.Mode.TheVariants.{Sole}
 use Rattle.frang_base.proofs.Basics.{eq_of}
+use Rattle.tree_definitions.specs.declared.node.Node.{Node}
+use Rattle.tree_definitions.specs.Perform.{perform}
 use Rattle.tree_definitions.specs.Touched.{shape_of}
 use Rattle.tree_definitions.specs.Tree.{FileTree, node_at}
+use Rattle.shape_laws.proofs.Nodes.{found, shaped}
 use Rattle.sector_bytes.specs.Blocks.{Block}
 use Rattle.sector_definitions.specs.declared.region.Region.TheVariants as region
 use Rattle.sector_definitions.specs.Inodes.{inode_in}
@@ -23,6 +26,7 @@ use Rattle.sector_histories.proofs.Removals.{survives_other}
 use Rattle.sector_world.specs.Trees.{Distinct, tree_of}
 use Rattle.disk_definitions.specs.Naming.{Naming}
 use Rattle.disk_definitions.specs.Store.{Store, stored_node}
+use Rattle.store_changes.specs.Edits.{edited_all}
 use Rattle.plan_definitions.specs.Ask.{Sector, InodeAt, number_of}
 use Rattle.plan_definitions.specs.Meets.{IsOfTree}
 use Rattle.plan_laws.proofs.Covering.{map_has}
@@ -68,6 +72,10 @@ own_look : (own unsynced older : Bool) → doubt_step false true own unsynced ol
 own_look true unsynced older e = refl
 own_look false unsynced older e = absurd (cc)
 
+some_shaped : (o : Option Node) → is_some (shaped o) ≡ is_some o
+some_shaped (Some x) = refl
+some_shaped None = refl
+
 module _ (segments : ℕ) (when : ℕ → ℕ) (times : AreTimes when) (opening : ℕ → Block) (start : NumberedTree) (begins : StandsNumbered segments opening start) where
   -- after the history the part of the file of this birth lies in the sector with this number
   pub record LiesOn (birth part number : ℕ) (h : List Item) : Type 0 where
@@ -98,6 +106,25 @@ module _ (segments : ℕ) (when : ℕ → ℕ) (times : AreTimes when) (opening 
     lies_then : LiesIn next to on.naming birth part on.sector
     lies_then = subst (λ s. LiesIn s to on.naming birth part on.sector) (along.store_is segments when times opening start begins c h l d by) on.lies
 
+    -- by the edits alone
+    edited : LiesIn
+        (edited_all (store_on segments (logical opening h)) (along.edits segments when times opening start begins c h l d by))
+        (perform (shape_of (tree_of (performed_numbered when) start h).tree) c.asked c.op (when c.op) (along.after segments when times opening start begins c h l d by).ever).tree
+        (along.after segments when times opening start begins c h l d by).after birth part on.sector
+    edited =
+        let after = along.after segments when times opening start begins c h l d by in
+        let end = (perform (shape_of (tree_of (performed_numbered when) start h).tree) c.asked c.op (when c.op) after.ever).tree in
+        record {
+          there = sym (some_shaped (node_at end birth)) ∙ ap is_some (sym (found end birth))
+              ∙ ap (λ u. is_some (node_at u birth)) (along.shape_is segments when times opening start begins c h l d by) ∙ lies_then.there;
+          stored = lies_then.stored;
+          is = sym (after.inodes (after.after.inode birth))
+              ∙ ap next.inode (sym (along.agree segments when times opening start begins c h l d by on.naming of_then birth part on.sector lies_then)) ∙ lies_then.is;
+          kind = lies_then.kind;
+          below = lies_then.below;
+          here = lies_then.here;
+        }
+
     -- where the operation writes nothing there, it lay there before
     pub lies_before : is_some (c.writes number) ≡ false → LiesOn birth part number h
     lies_before none =
@@ -113,7 +140,7 @@ module _ (segments : ℕ) (when : ℕ → ℕ) (times : AreTimes when) (opening 
         ∙ some_shape (fill_by edits (number_of on.sector)) in
         let kept = lines_keep_parts c.asked (hand_on segments (logical opening h) c.hint) (store_on segments (logical opening h)) (shape_of (tree_of (performed_numbered when) start h).tree)
         naming after.after c.op (when c.op) after.ever (along.finish segments when times opening start begins c h l d by) after.done birth part on.sector
-        (along.lies_edited segments when times opening start begins c h l d by on.naming of_then birth part on.sector lies_then) in
+        edited in
         ⊎_elim
         (λ w. absurd (clash (is_some (c.writes (number_of on.sector))) (fills ∙ has_fill edits (number_of on.sector) (written_value edits on.sector w)) here))
         (λ r. record { naming = naming; of = (along.step segments when times opening start begins c h l d by).of; sector = on.sector; lies = r.0; here = on.here })
@@ -227,8 +254,8 @@ module _ (segments : ℕ) (when : ℕ → ℕ) (times : AreTimes when) (opening 
     module _ (h : List Item) (rises : OpsRise h) (unseen : Unseen server durable h) (unmet : Unmet server durable h) (g : AllGuarded home h)
         (own : (i : ℕ) → i < 64 * segments → AllOwn home (number_of (InodeAt i)) h) (a : AllSee home h)
         (l : Legal (sector_plan segments when) opening h) (d : Distinct MayTake start h) (by : Each IsByPlan h)
-        (l' : Legal (sector_plan segments when) opening (removing.stays home server durable h)) (d' : Distinct MayTake start (removing.stays home server durable h))
-        (by' : Each IsByPlan (removing.stays home server durable h))
+        (l_left : Legal (sector_plan segments when) opening (removing.stays home server durable h)) (d_left : Distinct MayTake start (removing.stays home server durable h))
+        (by_left : Each IsByPlan (removing.stays home server durable h))
         (other number : ℕ) (far : other ≢ server) (birth part sector : ℕ) (on : LiesOn birth part sector (removing.stays home server durable h))
         (doubt : in_doubt other number h sector ≡ true) where
       abbrev i : ℕ
@@ -238,25 +265,25 @@ module _ (segments : ℕ) (when : ℕ → ℕ) (times : AreTimes when) (opening 
       tree = shape_of (tree_of (performed_numbered when) start (removing.stays home server durable h)).tree
 
       as_many : tree.segments ≡ segments
-      as_many = (stands_at segments when times opening start begins (removing.stays home server durable h) l' d').as_many
+      as_many = (stands_at segments when times opening start begins (removing.stays home server durable h) l_left d_left).as_many
 
       few : segments ≤ 64
       few = subst (λ k. k ≤ 64) as_many on.of.few
 
       in_use : IsInUse segments (store_after segments opening (removing.stays home server durable h)) on.sector
       in_use = file_in_use segments (logical opening (removing.stays home server durable h)) (tree_of (performed_numbered when) start (removing.stays home server durable h)).tree
-          (stands_at segments when times opening start begins (removing.stays home server durable h) l' d') on.sector
+          (stands_at segments when times opening start begins (removing.stays home server durable h) l_left d_left) on.sector
           (record { inode = i; node = on.lies.stored; is = on.lies.is; kind = on.lies.kind; index = part; below = on.lies.below; here = on.lies.here })
 
       cover_is : seen.cover_of home (removing.stays home server durable h) sector ≡ lock.Node i
       cover_is =
           ap (seen.cover_of home (removing.stays home server durable h)) on.here
-          ∙ history_cover segments few opening home (removing.stays home server durable h) (follow (removing.stays home server durable h) l' d' by') tree on.naming on.of
+          ∙ history_cover segments few opening home (removing.stays home server durable h) (follow (removing.stays home server durable h) l_left d_left by_left) tree on.naming on.of
           (store_after segments opening (removing.stays home server durable h)) on.sector in_use
           ∙ part_cover (store_after segments opening (removing.stays home server durable h)) tree on.naming on.of birth part on.sector on.lies
 
       apart : removing.Apart home server durable (lock.Node i) h
-      apart = apart_in_doubt other number far birth part sector (lock.Node i) h rises unmet g a l' d' by' doubt on cover_is
+      apart = apart_in_doubt other number far birth part sector (lock.Node i) h rises unmet g a l_left d_left by_left doubt on cover_is
 
       owner : on.naming.birth i ≡ Some birth
       owner = on.of.pictures.numbered birth on.lies.there
@@ -266,7 +293,7 @@ module _ (segments : ℕ) (when : ℕ → ℕ) (times : AreTimes when) (opening 
 
       inode_covers : seen.cover_of home (removing.stays home server durable h) (number_of (InodeAt i)) ≡ lock.Node i
       inode_covers =
-          follow (removing.stays home server durable h) l' d' by' tree on.naming on.of (number_of (InodeAt i)) (InodeAt i) (inode_here segments i few low) ∙ ap (inode_cover i) owner
+          follow (removing.stays home server durable h) l_left d_left by_left tree on.naming on.of (number_of (InodeAt i)) (InodeAt i) (inode_here segments i few low) ∙ ap (inode_cover i) owner
 
       inode_stays : logical opening (removing.stays home server durable h) (number_of (InodeAt i)) ≡ logical opening h (number_of (InodeAt i))
       inode_stays =
@@ -283,7 +310,7 @@ module _ (segments : ℕ) (when : ℕ → ℕ) (times : AreTimes when) (opening 
       lay =
           let n = named segments when times opening start begins h l d in
           let same : n.0.birth i ≡ Some birth =
-          sym (births_stay segments when times opening start begins home few i low server durable follow h l d by g apart l' d' by' n.0 on.naming n.1 on.of) ∙ owner in
+          sym (births_stay segments when times opening start begins home few i low server durable follow h l d by g apart l_left d_left by_left n.0 on.naming n.1 on.of) ∙ owner in
           let there = n.1.pictures.whose i birth same in
           record {
             on = record {
