@@ -24,7 +24,7 @@ use Rattle.byte_seen.proofs.Covering.{all_covered_on, sees_on}
 use Rattle.byte_seen.proofs.Removing.{low_left}
 
 -- what was done by plan stays so
-all_planned : (home : ℕ → LockId) (h : List Entry) → AllSaw home h → Each IsByPlan (settled h)
+pub all_planned : (home : ℕ → LockId) (h : List Entry) → AllSaw home h → Each IsByPlan (settled h)
 all_planned home [] saw = tt
 all_planned home (Did c ∷ older) saw = (saw.1, all_planned home older saw.2)
 all_planned home (Recovered server durable ∷ older) saw = each_kept IsByPlan (survives server durable) (settled older) (all_planned home older saw)
@@ -80,9 +80,8 @@ module _ (segments : ℕ) (when : ℕ → ℕ) (opening : ℕ → Block) (first_
 
   module _ (server greatest durable : ℕ) (older : List Happening) (paired : ArePaired segments when opening first_tree numbers (Recovers server greatest durable ∷ older))
       (k : Kept (on_sectors (Recovers server greatest durable ∷ older))) (saw : AllSaw home (on_sectors older)) (rise : RecoveriesRise (on_sectors (Recovers server greatest durable ∷ older)))
-      (once : AllCoverAtOnce segments opening first_tree (Recovers server greatest durable ∷ older))
       (before : AllCovered segments opening first_tree (recovered_to (on_sectors older)) (settle first_tree older)) where
-    abbrev deeds : List Deed
+    abbrev pub deeds : List Deed
     deeds = settle first_tree older
 
     above : (other : ℕ) → recovered_to (on_sectors older) other ≤ recovered_to (on_sectors (Recovers server greatest durable ∷ older)) other
@@ -95,16 +94,17 @@ module _ (segments : ℕ) (when : ℕ → ℕ) (opening : ℕ → Block) (first_
     own_number : recovered_to (on_sectors (Recovers server greatest durable ∷ older)) server ≡ durable
     own_number = ap (λ (b : Bool). if b then durable else recovered_to (on_sectors older) server) (of_eq server server refl)
 
-    may : MayGo segments when opening first_tree numbers server durable (items deeds)
-    may = subst (MayGo segments when opening first_tree numbers server durable) (sym (same older paired.1)) (goes server greatest durable older paired.0 k.0 k.1 saw)
+    pub goes_here : MayGo segments when opening first_tree numbers server durable (items deeds)
+    goes_here = subst (MayGo segments when opening first_tree numbers server durable) (sym (same older paired.1)) (goes server greatest durable older paired.0 k.0 k.1 saw)
 
-    stays : AllCovered segments opening first_tree (recovered_to (on_sectors older)) (what_stays server durable deeds)
-    stays =
-        all_covered_on segments when opening first_tree numbers home logged first begins server durable (recovered_to (on_sectors older)) rise.0 deeds may
+    pub stays_covered : AllCovered segments opening first_tree (recovered_to (on_sectors older)) (what_stays server durable deeds)
+    stays_covered =
+        all_covered_on segments when opening first_tree numbers home logged first begins server durable (recovered_to (on_sectors older)) rise.0 deeds goes_here
         (lines_settle segments when opening first_tree numbers older begins.times begins.stands paired.1) (sees_along older paired.1 k.3 saw) before
 
-    recovers : AllCovered segments opening first_tree (recovered_to (on_sectors (Recovers server greatest durable ∷ older))) (settle first_tree (Recovers server greatest durable ∷ older))
-    recovers = (
+    recovers : AllCoverAtOnce segments opening first_tree (Recovers server greatest durable ∷ older) →
+        AllCovered segments opening first_tree (recovered_to (on_sectors (Recovers server greatest durable ∷ older))) (settle first_tree (Recovers server greatest durable ∷ older))
+    recovers once = (
       record {
         server = server;
         number = synced_of server (on_sectors older);
@@ -113,7 +113,7 @@ module _ (segments : ℕ) (when : ℕ → ℕ) (opening : ℕ → Block) (first_
             (subst (Each (λ c. c.by ≡ server → c.op ≤ durable)) (sym (items_stay server durable deeds)) (low_left server durable (items deeds)));
         covers = once.0;
       },
-      covered_more segments opening first_tree (recovered_to (on_sectors older)) (recovered_to (on_sectors (Recovers server greatest durable ∷ older))) above (what_stays server durable deeds) stays,
+      covered_more segments opening first_tree (recovered_to (on_sectors older)) (recovered_to (on_sectors (Recovers server greatest durable ∷ older))) above (what_stays server durable deeds) stays_covered,
     )
 
   pub covered_along : (h : List Happening) → ArePaired segments when opening first_tree numbers h → Kept (on_sectors h) → AllSaw home (on_sectors h) → RecoveriesRise (on_sectors h) →
@@ -124,7 +124,7 @@ module _ (segments : ℕ) (when : ℕ → ℕ) (opening : ℕ → Block) (first_
   covered_along (Mounts number e ∷ older) paired k saw rise once = covered_along older paired.2 k saw rise once
   covered_along (Covers server number ∷ older) paired k saw rise once = covered_along older paired k saw rise once
   covered_along (Recovers server greatest durable ∷ older) paired k saw rise once =
-      recovers server greatest durable older paired k saw rise once (covered_along older paired.1 k.3 saw rise.1 once.1)
+      recovers server greatest durable older paired k saw rise (covered_along older paired.1 k.3 saw rise.1 once.1) once
 
 pub histories_keep_sight : HistoriesKeepSight
 histories_keep_sight segments when opening first_tree numbers home logged first h begins paired k saw =

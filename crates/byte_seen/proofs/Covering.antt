@@ -103,11 +103,11 @@ same_tree when first numbers (Doubt m ∷ h) = same_tree when first numbers h
 
 module _ (segments : ℕ) (when : ℕ → ℕ) (opening : ℕ → Block) (first_tree : FileTree) (numbers : List ℕ) (home : ℕ → LockId) (logged : ℕ → Bool) (first : ℕ → Option Block)
     (begins : Begins segments when opening first_tree numbers home logged first) (server durable : ℕ) where
-  legal_stays : (h : List Item) → MayGo segments when opening first_tree numbers server durable h → Legal (sector_plan segments when) opening (kept (survives server durable) h)
+  pub legal_stays : (h : List Item) → MayGo segments when opening first_tree numbers server durable h → Legal (sector_plan segments when) opening (kept (survives server durable) h)
   legal_stays h may =
       legal_kept (sector_plan segments when) opening (survives server durable) (lines_framed segments when) h (clear_survives server durable h may.rises may.unseen) may.legal
 
-  distinct_stays : (h : List Item) → MayGo segments when opening first_tree numbers server durable h → Distinct (MayNumber numbers) first_tree (kept (survives server durable) h)
+  pub distinct_stays : (h : List Item) → MayGo segments when opening first_tree numbers server durable h → Distinct (MayNumber numbers) first_tree (kept (survives server durable) h)
   distinct_stays h may = distinct_kept numbers first_tree (survives server durable) h may.distinct
 
   by_plan_stays : (h : List Item) → MayGo segments when opening first_tree numbers server durable h → Each IsByPlan (kept (survives server durable) h)
