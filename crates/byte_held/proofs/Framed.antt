@@ -7,7 +7,6 @@ use Rattle.std.specs.List.{filter_map, cons_option, Contains}
 use Rattle.std.specs.Option.{option_map}
 use Rattle.frang_base.specs.Functions.{member}
 use Rattle.frang_base.proofs.Basics.{of_ge}
-use Rattle.tree_definitions.specs.declared.history.Entry.{Entry}
 use Rattle.sector_bytes.specs.Replays.{change_at}
 use Rattle.sector_bytes.specs.Sectors.{Sectors}
 use Rattle.sector_histories.specs.Histories.{Commit, touches}

@@ -75,17 +75,17 @@ module _ (segments : ℕ) (when : ℕ → ℕ) (opening : ℕ → Block) where
 
   module _ (first : FileTree) (numbers : List ℕ) where
     along : (h : List Happening) → ArePaired segments when opening first numbers h → Kept (on_sectors h) → SaidWhereItHappened segments when opening h → Said (settle first h)
-    along [] paired kept said = tt
-    along (Acts c e ∷ older) paired kept said =
-        (subst (λ h. SaysWhatItShows segments when (logical opening h) c e) (sym (items_settle first older)) said.0, along older paired.1 kept said.1)
-    along (Speaks e ∷ older) paired kept said = along older paired.2 kept said
-    along (Mounts number e ∷ older) paired kept said = along older paired.2 kept said
-    along (Covers server number ∷ older) paired kept said = along older paired kept said
-    along (Recovers server greatest durable ∷ older) paired kept said =
-        still server durable (settle first older) (settled (on_sectors older)) (items_settle first older) paired.0.legal paired.0.rises kept.0 (along older paired.1 kept.3 said)
+    along [] paired whole said = tt
+    along (Acts c e ∷ older) paired whole said =
+        (subst (λ h. SaysWhatItShows segments when (logical opening h) c e) (sym (items_settle first older)) said.0, along older paired.1 whole said.1)
+    along (Speaks e ∷ older) paired whole said = along older paired.2 whole said
+    along (Mounts number e ∷ older) paired whole said = along older paired.2 whole said
+    along (Covers server number ∷ older) paired whole said = along older paired whole said
+    along (Recovers server greatest durable ∷ older) paired whole said =
+        still server durable (settle first older) (settled (on_sectors older)) (items_settle first older) paired.0.legal paired.0.rises whole.0 (along older paired.1 whole.3 said)
 
 pub replies_stay : RepliesStay
-replies_stay segments when opening first numbers h paired kept said = along segments when opening first numbers h paired kept said
+replies_stay segments when opening first numbers h paired whole said = along segments when opening first numbers h paired whole said
 
 -- ---- at a stop
 

@@ -125,7 +125,7 @@ is_like Lacks f e = absurd (cc)
 is_like (Clears block locks) f e = absurd (cc)
 is_like (Finishes g) f e =
     let same : finish_shape g ≡ finish_shape f = cc in
-    record { finish = g; is = refl; locks = ap (λ z. z.locks) same; reply = ap (λ z. z.reply) same }
+    record { finish = g; is = refl; locks = ap (λ (z : Finish). z.locks) same; reply = ap (λ (z : Finish). z.reply) same }
 
 -- ---- an operation over sectors that stand for the shape of a tree
 
