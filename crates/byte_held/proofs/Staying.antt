@@ -1,7 +1,6 @@
 -- Replies that say what their operations showed go on saying it once others are removed that nobody saw.
-use Rattle.std.proofs.Common.{ℕ, zero, suc, ◌≡◌, ◌≢◌, ◌==◌, ◌&&◌, not, Bool, true, false, List, [], ◌∷◌, refl, sym, ◌∙◌, ap, ap₂, subst}
+use Rattle.std.proofs.Common.{ℕ, zero, suc, ◌≡◌, ◌==◌, ◌&&◌, not, Bool, true, false, List, [], ◌∷◌, refl, sym, ◌∙◌, ap, ap₂, subst}
 use Rattle.frang_base.specs.Functions.{keep_if}
-use Rattle.tree_definitions.specs.declared.history.Entry.{Entry}
 use Rattle.tree_definitions.specs.Tree.{FileTree}
 use Rattle.sector_bytes.specs.Blocks.{Block}
 use Rattle.sector_histories.specs.Histories.{Item, OpsRise, in_doubt, kept, logical, recovered, settled, survives, synced_of}

@@ -1,5 +1,5 @@
 -- An operation of a legal history of lines uses the locks of what its entry touches: by the laws of lines, over a store with the bytes of the tree.
-use Rattle.std.proofs.Common.{ℕ, ◌≡◌, ◌≢◌, ◌≤◌, ◌==◌, ◌&&◌, ◌||◌, ⊎_elim, not, Bool, true, false, Option, Some, None, List, [], ◌∷◌, ◌++◌, length, map, is_some, eqb-true, refl, sym, ◌∙◌, ap, ap₂, subst}
+use Rattle.std.proofs.Common.{ℕ, ◌≡◌, ◌≢◌, ◌≤◌, ◌==◌, ◌||◌, ⊎_elim, not, true, false, Option, Some, None, List, [], ◌∷◌, ◌++◌, map, is_some, eqb-true, refl, sym, ◌∙◌, ap, ap₂, subst}
 use Rattle.std.proofs.lemmas.Bool.{and_parts, or_cases}
 use Rattle.std.proofs.lemmas.List.{length-map}
 use Rattle.std.proofs.lemmas.List.Elements.{Contains-append_left}
@@ -35,7 +35,7 @@ use Rattle.disk_definitions.specs.Store.{Store}
 use Rattle.store_changes.specs.Laws.{FilesFit}
 use Rattle.plan_definitions.specs.Ask.{run}
 use Rattle.plan_definitions.specs.Meets.{Answers, IsOfTree, IsHandOf, directory_blocks_in}
-use Rattle.plan_definitions.specs.Plans.{Finish, Hand, Lock, Plan}
+use Rattle.plan_definitions.specs.Plans.{Finish, Hand, Plan}
 use Rattle.plan_definitions.specs.Plans.Plan.{Lacks, Clears, Finishes}
 use Rattle.plan_laws.specs.FilesPlanned.{HasFiles}
 use Rattle.plan_laws.specs.Keeping.{FinishKeeps, PlanKeeps}
@@ -51,7 +51,6 @@ use Rattle.line_commits.specs.Planners.{finish_shape, plan_shape}
 use Rattle.line_commits.proofs.AllBlind.{bytes_dont_decide}
 use Rattle.line_commits.proofs.Hands.{is_hand}
 use Rattle.line_commits.proofs.Outcomes.{outcomes_of_plans}
-use Rattle.line_histories.specs.Following.{store_after}
 use Rattle.line_histories.specs.Standing.{StandsForShape, StandsNumbered}
 use Rattle.line_histories.specs.Trees.{AreTimes, MayNumber, performed, performed_numbered}
 use Rattle.line_histories.proofs.Disks.{files_fit_now}
