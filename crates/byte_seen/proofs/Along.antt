@@ -1,24 +1,20 @@
 -- Along each history that is told twice operations see what is under their locks, and marks of doubt stay covered.
-use Rattle.std.proofs.Common.{ℕ, ◌≡◌, ◌≤◌, ◌<◌, Bool, true, false, if◌then◌else◌, nat_eq, Option, List, [], ◌∷◌, refl, sym, ◌∙◌, ap, subst, arith, le_refl}
+use Rattle.std.proofs.Common.{ℕ, ◌≡◌, ◌≤◌, Bool, true, false, if◌then◌else◌, nat_eq, Option, List, [], ◌∷◌, refl, sym, ap, subst, arith, le_refl}
 use Rattle.frang_base.specs.declared.lock.LockId.{LockId}
 use Rattle.frang_base.proofs.Basics.{eq_of, of_eq}
 use Rattle.tree_definitions.specs.Tree.{FileTree}
 use Rattle.sector_bytes.specs.Blocks.{Block}
-use Rattle.sector_histories.specs.Histories.{Each, Entry, Item, OpsRise, kept, settled, survives, synced_of}
+use Rattle.sector_histories.specs.Histories.{Each, Entry, settled, survives, synced_of}
 use Rattle.sector_histories.specs.Histories.Entry.{Did, Recovered, Synced, Mounted}
-use Rattle.sector_histories.specs.Histories.Item.{Done, Doubt}
-use Rattle.sector_histories.specs.Plans.{IsByPlan, Legal}
+use Rattle.sector_histories.specs.Plans.{IsByPlan}
 use Rattle.sector_histories.specs.Seen.{Kept, Unmet, Unseen}
 use Rattle.sector_histories.proofs.Histories.{each_kept, each_map}
-use Rattle.sector_world.specs.Trees.{Distinct}
-use Rattle.line_commits.specs.LinePlans.{sector_plan}
-use Rattle.line_histories.specs.Trees.{MayNumber}
 use Rattle.byte_doubts.specs.Deeds.{Deed, Does, Says, Doubts, items}
 use Rattle.byte_settled.specs.Happened.{Happening, Acts, Speaks, Mounts, Covers, Recovers, on_sectors, settle, what_stays}
 use Rattle.byte_settled.specs.Paired.{ArePaired, MayRecover}
 use Rattle.byte_settled.proofs.Histories.{histories_settle_alike, lines_settle}
 use Rattle.byte_settled.proofs.Staying.{items_stay}
-use Rattle.byte_seen.specs.Coverage.{AllCoverAtOnce, AllCovered, HistoriesKeepCoverage, IsCovered, RecoveriesRise, recovered_to}
+use Rattle.byte_seen.specs.Coverage.{AllCoverAtOnce, AllCovered, HistoriesKeepCoverage, RecoveriesRise, recovered_to}
 use Rattle.byte_seen.specs.Sight.{AllSaw, AllSee, Begins, HistoriesKeepSight, MayGo}
 use Rattle.byte_seen.proofs.Covering.{all_covered_on, sees_on}
 use Rattle.byte_seen.proofs.Removing.{low_left}

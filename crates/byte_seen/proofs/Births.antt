@@ -1,5 +1,5 @@
 -- Which node an inode is of goes by the lock of the inode: a removal leaves it, where nothing that is removed had the lock alone.
-use Rattle.std.proofs.Common.{ℕ, ◌≡◌, ◌≤◌, ◌<◌, ◌*◌, ◌/◌, ◌⊎◌, ⊎_elim, inl, inr, Bool, true, false, is_some, Option, Some, None, List, [], ◌∷◌, refl, sym, ◌∙◌, ap, ap₂, subst, arith}
+use Rattle.std.proofs.Common.{ℕ, ◌≡◌, ◌≤◌, ◌<◌, ◌*◌, ◌⊎◌, ⊎_elim, inl, inr, Bool, true, false, is_some, Option, Some, None, List, [], ◌∷◌, refl, sym, ◌∙◌, ap, subst, arith}
 use Rattle.frang_base.specs.Functions.{keep_if}
 use Rattle.frang_base.specs.Locks.{has_lock}
 use Rattle.frang_base.specs.declared.lock.LockId.{LockId}
@@ -34,7 +34,7 @@ use Rattle.plan_nodes.proofs.Told.{namings_agree}
 use Rattle.line_commits.specs.LinePlans.{hand_on, sector_plan, store_on}
 use Rattle.line_histories.specs.Following.{CoversFollow, store_after}
 use Rattle.line_histories.specs.Standing.{StandsForShape, StandsNumbered}
-use Rattle.line_histories.specs.Trees.{AreTimes, MayNumber, MayTake, NumberedTree, performed_numbered}
+use Rattle.line_histories.specs.Trees.{AreTimes, MayTake, NumberedTree, performed_numbered}
 use Rattle.line_histories.proofs.Disks.{blank_of}
 use Rattle.line_histories.proofs.Runs.{both}
 use Rattle.byte_parts.specs.Parts.{IsFinished}

@@ -1,12 +1,9 @@
 -- A removal leaves the marks of doubt covered: another server's parts lay where they lie, and a server's own operations before its last recovery stay.
-use Rattle.std.proofs.Common.{ℕ, ◌≡◌, ◌≢◌, ◌≤◌, ◌<◌, ◌+◌, ◌*◌, ◌&&◌, ◌||◌, ◌==◌, not, ⊎_elim, inl, inr, Bool, true, false, if◌then◌else◌, is_some, nat_eq, nat_le, nat_lt, Option, Some, List, [], ◌∷◌, refl, sym, ◌∙◌, ap, subst, arith}
-use Rattle.std.specs.List.{Contains}
+use Rattle.std.proofs.Common.{ℕ, ◌≡◌, ◌≢◌, ◌≤◌, ◌<◌, ◌&&◌, ◌||◌, ◌==◌, not, ⊎_elim, Bool, true, false, if◌then◌else◌, is_some, nat_eq, nat_le, nat_lt, Option, Some, List, [], ◌∷◌, refl, sym, ◌∙◌, ap, subst, arith}
 use Rattle.std.proofs.lemmas.Bool.Decides.{nat_tests}
 use Rattle.frang_base.specs.Functions.{keep_if}
-use Rattle.frang_base.specs.declared.limits.TheConstants.{SECTOR_BYTES}
 use Rattle.frang_base.specs.declared.lock.LockId.{LockId}
 use Rattle.frang_base.proofs.Basics.{by_keep, or_equal}
-use Rattle.tree_definitions.specs.declared.history.Entry.{Entry}
 use Rattle.tree_definitions.specs.History.{CellRun}
 use Rattle.tree_definitions.specs.Touched.{shape_of}
 use Rattle.tree_definitions.specs.Tree.{FileTree, node_at}
@@ -26,9 +23,8 @@ use Rattle.line_commits.proofs.Framed.{lines_framed}
 use Rattle.line_histories.specs.Following.{CoversFollow, store_after}
 use Rattle.line_histories.specs.Trees.{MayNumber, MayTake, performed, performed_numbered}
 use Rattle.line_histories.proofs.Runs.{numbered, take_distinct}
-use Rattle.byte_cells.specs.Cells.{Covers}
 use Rattle.byte_doubts.specs.Deeds.{Deed, Does, Says, Doubts, items, tree_after}
-use Rattle.byte_histories.specs.Along.{HasShape, LiesAfter}
+use Rattle.byte_histories.specs.Along.{LiesAfter}
 use Rattle.byte_settled.specs.Happened.{has_lost, what_stays}
 use Rattle.byte_settled.specs.Paired.{AreLines}
 use Rattle.byte_settled.proofs.Lines.{shapes_follow}

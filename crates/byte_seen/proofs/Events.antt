@@ -1,16 +1,13 @@
 -- Every event keeps sights and the order of recoveries.
-use Rattle.std.proofs.Common.{ℕ, ◌≡◌, ◌≢◌, ◌≤◌, Bool, true, false, if◌then◌else◌, nat_eq, refl, sym, ◌∙◌, subst, arith, le_refl}
-use Rattle.frang_base.specs.Locks.{has_lock}
+use Rattle.std.proofs.Common.{ℕ, ◌≡◌, ◌≤◌, Bool, true, false, if◌then◌else◌, nat_eq, refl, sym, ◌∙◌, subst, arith, le_refl}
 use Rattle.frang_base.proofs.Basics.{at_put, eq_of}
-use Rattle.sector_histories.specs.Histories.{settled, synced_of}
-use Rattle.sector_world.specs.Guards.{CanDo, CanReach}
+use Rattle.sector_histories.specs.Histories.{synced_of}
 use Rattle.sector_world.specs.Kinds.{Good}
-use Rattle.sector_world.specs.Steps.{Event, Can, after}
 use Rattle.sector_world.specs.Steps.Event.{Tick, Leave, Fail, Renew, Mount, Unmount, Take, Give, Lower, Do, Reach, Ack, Sync, Reclaim, Crash, Begin, Look, Finish, Fetch, Issue, Replay, Land, Fade, Break, BreakNew, FetchBytes, Clear, IssueBytes, LandBytes, FadeBytes, BreakBytes, BreakBytesNew, Settle}
 use Rattle.sector_world.specs.World.{World}
 use Rattle.sector_world.proofs.Every.{good_step}
 use Rattle.byte_seen.specs.Coverage.{recovered_to}
-use Rattle.byte_seen.specs.Events.{EventsKeepSight, IsInSight, StartsAreInSight}
+use Rattle.byte_seen.specs.Events.{EventsKeepSight, StartsAreInSight}
 
 pub starts_in_sight : StartsAreInSight
 starts_in_sight servers disk logged of_files home = record { saw = tt; showed = tt; rise = tt; below = λ server. omega arith; syncs = tt }

@@ -1,6 +1,6 @@
 -- Each operation of a legal history of lines has alone the locks of what it moves and of the inodes that it changes.
 use Rattle.std.proofs.Common.{ℕ, ◌≡◌, ◌≤◌, ◌<◌, ◌*◌, Bool, true, false, if◌then◌else◌, is_some, Option, Some, None, List, [], ◌∷◌, ◌++◌, map, refl, sym, ◌∙◌, ap, subst}
-use Rattle.std.specs.List.{Contains, filter_map}
+use Rattle.std.specs.List.{filter_map}
 use Rattle.frang_base.specs.Locks.{has_lock, same_lock}
 use Rattle.frang_base.specs.declared.change.Change.{Change}
 use Rattle.frang_base.specs.declared.lock.LockId.{LockId}
@@ -10,9 +10,7 @@ use Rattle.tree_definitions.specs.Tree.{FileTree}
 use Rattle.sector_bytes.specs.Blocks.{Block}
 use Rattle.sector_bytes.specs.Replays.{change_at}
 use Rattle.sector_bytes.specs.Sectors.{Sectors}
-use Rattle.sector_definitions.specs.declared.region.Region.{Region}
 use Rattle.sector_definitions.specs.declared.region.Region.TheVariants as region
-use Rattle.sector_definitions.specs.Regions.{is_in_range, sector_of}
 use Rattle.sector_definitions.proofs.RegionLaws.{region_found, region_once}
 use Rattle.sector_histories.specs.Histories.{Changes, Commit, Each, Item, logical}
 use Rattle.sector_histories.specs.Histories.Item.{Done, Doubt}
@@ -24,7 +22,6 @@ use Rattle.store_changes.specs.Edits.{Edit}
 use Rattle.store_changes.specs.Edits.Edit.{SetInode, SetBit, SetUse, SetPlace, SetLarge, SetBytes, SetLargeBytes}
 use Rattle.plan_definitions.specs.Ask.{Sector, InodeAt, number_of}
 use Rattle.plan_definitions.specs.Plans.{Lock, Finish}
-use Rattle.plan_definitions.specs.Written.{edit_sector}
 use Rattle.plan_laws.specs.Locks.{IsSole}
 use Rattle.plan_looks.specs.Looked.{edited_at}
 use Rattle.plan_covers.specs.Covers.{cover_of}

@@ -1,5 +1,5 @@
 -- A part of a file that lies in a sector in doubt after a removal of another server's operations lay there before it, with the same inode.
-use Rattle.std.proofs.Common.{ℕ, ◌≡◌, ◌≢◌, ◌≤◌, ◌<◌, ◌*◌, ◌⊎◌, ◌++◌, ⊎_elim, inl, inr, Bool, true, false, is_some, if◌then◌else◌, nat_eq, nat_lt, Option, Some, None, List, [], ◌∷◌, map, refl, sym, ◌∙◌, ap, subst}
+use Rattle.std.proofs.Common.{ℕ, ◌≡◌, ◌≢◌, ◌≤◌, ◌<◌, ◌*◌, ◌⊎◌, ◌++◌, ⊎_elim, inl, Bool, true, false, is_some, if◌then◌else◌, nat_eq, nat_lt, Option, Some, None, List, [], ◌∷◌, map, refl, sym, ◌∙◌, ap, subst}
 use Rattle.std.specs.List.{Contains}
 use Rattle.std.proofs.lemmas.List.Elements.{Contains-append_left}
 use Rattle.frang_base.specs.Functions.{keep_if}
@@ -14,7 +14,6 @@ use Rattle.tree_definitions.specs.Touched.{shape_of}
 use Rattle.tree_definitions.specs.Tree.{FileTree, node_at}
 use Rattle.shape_laws.proofs.Nodes.{found, shaped}
 use Rattle.sector_bytes.specs.Blocks.{Block}
-use Rattle.sector_definitions.specs.declared.region.Region.TheVariants as region
 use Rattle.sector_definitions.specs.Inodes.{inode_in}
 use Rattle.sector_histories.specs.Histories.{Changes, Commit, Each, Item, OpsRise, doubt_step, in_doubt, kept, logical, survives}
 use Rattle.sector_histories.specs.Histories.Item.{Done, Doubt}
@@ -22,7 +21,6 @@ use Rattle.sector_histories.specs.Plans.{IsByPlan, Legal, Outcome, outcome_of}
 use Rattle.sector_histories.specs.Seen as seen
 use Rattle.sector_histories.specs.Seen.{IsLost, Unmet, Unseen}
 use Rattle.sector_histories.proofs.Histories.{each_map, kept_logical}
-use Rattle.sector_histories.proofs.Removals.{survives_other}
 use Rattle.sector_world.specs.Trees.{Distinct, tree_of}
 use Rattle.disk_definitions.specs.Naming.{Naming}
 use Rattle.disk_definitions.specs.Store.{Store, stored_node}
@@ -32,7 +30,6 @@ use Rattle.plan_definitions.specs.Meets.{IsOfTree}
 use Rattle.plan_laws.proofs.Covering.{map_has}
 use Rattle.plan_covers.specs.Covers.{cover_of, inode_cover}
 use Rattle.line_laws.proofs.Covered.{line_edits_covered}
-use Rattle.line_fills.specs.Files.{HoldsBytes, IsWritten}
 use Rattle.line_commits.specs.LinePlans.{fill_by, hand_on, lock_in, sector_plan, segment_lock, store_on}
 use Rattle.line_commits.specs.Outcomes.{fill_shape}
 use Rattle.line_commits.proofs.LinesSound.{lines_are_sound}

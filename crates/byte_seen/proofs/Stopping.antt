@@ -3,7 +3,7 @@ use Rattle.std.proofs.Common.{ℕ, zero, suc, ◌≡◌, ◌≢◌, ◌≤◌, B
 use Rattle.frang_base.specs.Functions.{keep_if}
 use Rattle.frang_base.proofs.Basics.{by_keep, eq_of}
 use Rattle.tree_definitions.specs.Tree.{FileTree}
-use Rattle.sector_histories.specs.Histories.{Commit, Each, Item, OpsRise, kept, recovered, settled, survives, synced_of}
+use Rattle.sector_histories.specs.Histories.{Each, Item, OpsRise, kept, recovered, settled, survives, synced_of}
 use Rattle.sector_histories.specs.Histories.Item.{Done, Doubt}
 use Rattle.sector_histories.specs.Plans.{Legal}
 use Rattle.sector_histories.specs.Seen.{Kept, Unmet, Unseen, Unsynced}

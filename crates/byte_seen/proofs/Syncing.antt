@@ -17,7 +17,7 @@ use Rattle.byte_settled.specs.Paired.{ArePaired}
 use Rattle.byte_settled.proofs.Histories.{histories_settle_alike}
 use Rattle.byte_settled.proofs.Staying.{items_stay}
 use Rattle.byte_seen.specs.Sight.{AllShowed, HistoriesKeepReads}
-use Rattle.byte_seen.specs.Synced.{AllSaid, AllSaidAtOnce, HistoriesKeepSyncs, RemovalsKeepSyncs, SyncsRise, says_synced}
+use Rattle.byte_seen.specs.Synced.{AllSaid, AllSaidAtOnce, HistoriesKeepSyncs, RemovalsKeepSyncs, SyncsRise}
 
 pub removals_keep_syncs : RemovalsKeepSyncs
 removals_keep_syncs server durable synced [] all = tt

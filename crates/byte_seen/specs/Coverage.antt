@@ -1,24 +1,16 @@
 -- The cells that recoveries put into doubt cover the sectors that they marked: at once, and once later recoveries removed further operations.
-use Rattle.std.specs.Prelude.{◌≡◌, ◌≢◌, ◌≤◌, ℕ, Bool, true, if◌then◌else◌, nat_eq, Option, List, [], ◌∷◌}
+use Rattle.std.specs.Prelude.{◌≡◌, ◌≤◌, ℕ, Bool, true, if◌then◌else◌, nat_eq, Option, List, [], ◌∷◌}
 use Rattle.frang_base.specs.declared.lock.LockId.{LockId}
 use Rattle.tree_definitions.specs.History.{CellRun}
 use Rattle.tree_definitions.specs.Removal.{doubtful}
 use Rattle.tree_definitions.specs.Tree.{FileTree}
 use Rattle.sector_bytes.specs.Blocks.{Block}
-use Rattle.sector_histories.specs.Histories.{Each, Entry, in_doubt, settled, synced_of}
+use Rattle.sector_histories.specs.Histories.{Each, Entry, in_doubt, synced_of}
 use Rattle.sector_histories.specs.Histories.Entry.{Did, Recovered, Synced, Mounted}
 use Rattle.sector_histories.specs.Seen.{Kept}
-use Rattle.sector_world.specs.Kinds.{Good}
-use Rattle.sector_world.specs.Planned.{IsLegal}
-use Rattle.sector_world.specs.Trees.{Distinct}
-use Rattle.sector_world.specs.World.{World}
-use Rattle.sector_world.specs.World.Phase.{Off}
-use Rattle.line_commits.specs.LinePlans.{sector_plan}
-use Rattle.line_histories.specs.Trees.{MayNumber}
 use Rattle.byte_doubts.specs.Deeds.{Deed, Does, Says, Doubts, items, steps}
 use Rattle.byte_settled.specs.Happened.{Happening, Acts, Speaks, Mounts, Covers, Recovers, on_sectors, settle, what_stays}
-use Rattle.byte_settled.specs.Paired.{AreLines, ArePaired, IsKeptBy}
-use Rattle.byte_settled.specs.Settling.{stopped}
+use Rattle.byte_settled.specs.Paired.{AreLines, ArePaired}
 use Rattle.byte_all.specs.Cells.{CoversMarks}
 use Rattle.byte_seen.specs.Sight.{AllSaw, AllSee, Begins, MayGo}
 

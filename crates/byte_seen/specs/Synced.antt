@@ -1,5 +1,5 @@
 -- Entries that say that a server's operations are synced, as those of mounts and of syncs: each comes after none of these above the number up to which they are.
-use Rattle.std.specs.Prelude.{◌≡◌, ◌≤◌, ◌&&◌, ◌||◌, ℕ, Bool, true, Option, List, [], ◌∷◌}
+use Rattle.std.specs.Prelude.{◌≡◌, ◌≤◌, ◌&&◌, ◌||◌, ℕ, Bool, true, List, [], ◌∷◌}
 use Rattle.tree_definitions.specs.declared.history.Entry as trees
 use Rattle.tree_definitions.specs.Touched.{is_mounted, is_ok, is_sync}
 use Rattle.tree_definitions.specs.Tree.{FileTree}
