@@ -1,5 +1,5 @@
 -- A part of a file that lies in a sector in doubt after a removal of another server's operations lay there before it, with the same inode.
-use Rattle.std.proofs.Common.{ℕ, ◌≡◌, ◌≢◌, ◌≤◌, ◌<◌, ◌*◌, ◌⊎◌, ◌++◌, ⊎_elim, inl, Bool, true, false, is_some, if◌then◌else◌, nat_eq, nat_lt, Option, Some, None, List, [], ◌∷◌, map, refl, sym, ◌∙◌, ap, subst}
+use Rattle.std.proofs.Common.{ℕ, ◌≡◌, ◌≢◌, ◌≤◌, ◌<◌, ◌*◌, ◌++◌, ⊎_elim, inl, Bool, true, false, is_some, if◌then◌else◌, nat_eq, nat_lt, Option, Some, None, List, [], ◌∷◌, map, refl, sym, ◌∙◌, ap, subst}
 use Rattle.std.specs.List.{Contains}
 use Rattle.std.proofs.lemmas.List.Elements.{Contains-append_left}
 use Rattle.frang_base.specs.Functions.{keep_if}
@@ -15,7 +15,7 @@ use Rattle.tree_definitions.specs.Tree.{FileTree, node_at}
 use Rattle.shape_laws.proofs.Nodes.{found, shaped}
 use Rattle.sector_bytes.specs.Blocks.{Block}
 use Rattle.sector_definitions.specs.Inodes.{inode_in}
-use Rattle.sector_histories.specs.Histories.{Changes, Commit, Each, Item, OpsRise, doubt_step, in_doubt, kept, logical, survives}
+use Rattle.sector_histories.specs.Histories.{Changes, Commit, Each, Item, OpsRise, doubt_step, in_doubt, logical, survives}
 use Rattle.sector_histories.specs.Histories.Item.{Done, Doubt}
 use Rattle.sector_histories.specs.Plans.{IsByPlan, Legal, Outcome, outcome_of}
 use Rattle.sector_histories.specs.Seen as seen
