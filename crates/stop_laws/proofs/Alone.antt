@@ -64,14 +64,3 @@ leaving_stays first e older leaves =
 pub path_no_sync : (o : Op) → HasPath o → is_sync o ≡ false
 path_no_sync op.Sync h = absurd h
 path_no_sync o h = refl
-
--- a number above those of all operations
-abbrev pub above_all : List Item → ℕ
-above_all [] = 0
-above_all (Done c ∷ h) = c.op + above_all h
-above_all (Doubt m ∷ h) = above_all h
-
-pub all_below : (server number : ℕ) (h : List Item) → above_all h ≤ number → Each (λ c. c.by ≡ server → c.op ≤ number) h
-all_below server number [] low = tt
-all_below server number (Done c ∷ h) low = ((λ by. (let l : c.op + above_all h ≤ number = low in omega arith)), all_below server number h (let l : c.op + above_all h ≤ number = low in omega arith))
-all_below server number (Doubt m ∷ h) low = all_below server number h low

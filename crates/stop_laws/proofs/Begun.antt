@@ -8,8 +8,8 @@ use Rattle.stop_laws.specs.Fresh.{AFreshDiskStandsForTheHistory}
 use Rattle.stop_laws.proofs.Left.{the_disk_stands}
 
 pub fresh_disk_stands : AFreshDiskStandsForTheHistory
-fresh_disk_stands segments when numbers w greatest h times began legal distinct good told paired logs kept =
-    the_disk_stands segments when (fresh segments) numbers w greatest h times began.stands legal distinct good follows parameters told paired logs kept
+fresh_disk_stands segments when numbers w greatest h times began legal distinct good told paired logs sight said synced =
+    the_disk_stands segments when (fresh segments) numbers w greatest h times began.stands legal distinct good follows parameters told paired logs sight said synced
     (fresh_known segments w.opening w.logged w.first)
   where
     follows : Follows segments w.opening w.home w.logged w.first []

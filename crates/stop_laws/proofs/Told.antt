@@ -1,6 +1,7 @@
 -- Deeds of lines that the core keeps are told twice, and shown: replies are the tree's answers, deed by deed.
-use Rattle.std.proofs.Common.{ℕ, ◌≡◌, ◌≤◌, ◌+◌, ◌&&◌, Bool, false, Option, List, [], ◌∷◌, refl, ◌∙◌, ap, arith}
+use Rattle.std.proofs.Common.{ℕ, ◌≡◌, ◌≤◌, ◌+◌, ◌&&◌, Bool, false, Option, List, [], ◌∷◌, refl, ◌∙◌, ap, subst}
 use Rattle.frang_base.specs.declared.lock.LockId.{LockId}
+use Rattle.frang_base.proofs.Basics.{eq_of}
 use Rattle.tree_definitions.specs.declared.history.Entry.{Entry}
 use Rattle.tree_definitions.specs.History.{CellRun}
 use Rattle.tree_definitions.specs.Touched.{is_ok, is_sync}
@@ -26,12 +27,13 @@ use Rattle.line_histories.proofs.Runs.{numbered}
 use Rattle.byte_doubts.specs.Deeds.{Deed, Does, Says, Doubts, items, tree_after}
 use Rattle.byte_histories.specs.Along.{AllTold, HasShape, IsSaid, IsTold}
 use Rattle.byte_known.specs.Known.{IsToldTwice, KnowsCells}
+use Rattle.byte_seen.specs.Synced.{AllSaid}
 use Rattle.byte_settled.specs.Paired.{AreLines, AreOfOneLine}
 use Rattle.byte_settled.proofs.Lines.{shapes_follow}
 use Rattle.byte_all.specs.Cells.{AllShown, IsShown, having}
 use Rattle.byte_all.proofs.Deeds.{replies_are}
-use Rattle.stop_laws.specs.Keeping.{AreKept, SaysWhatItShowed}
-use Rattle.stop_laws.proofs.Alone.{above_all, all_below, leaving_stays, leaving_touches_none, leaving_writes_none, path_no_sync}
+use Rattle.stop_laws.proofs.Keeping.{AreKept, SaysWhatItShowed}
+use Rattle.stop_laws.proofs.Alone.{leaving_stays, leaving_touches_none, leaving_writes_none, path_no_sync}
 
 -- a plan that comes to the same as a finished one, but for bytes, is finished
 is_finished : (p : Plan) (f : Finish) → plan_shape p ≡ plan_shape (Finishes f) → (g : Finish) × (p ≡ Finishes g)
@@ -119,19 +121,20 @@ module _ (segments : ℕ) (when : ℕ → ℕ) (times : AreTimes when) (opening 
     sees = kept.0.sees;
   }
 
-  said_here : (e : Entry) (older : List Deed) → above_all (items older) ≤ number → IsRun (Says e ∷ older) → IsSaid first_tree server number e older
-  said_here e older low runs = record {
+  said_here : (synced : ℕ → ℕ) → synced server ≡ number → (e : Entry) (older : List Deed) → AllSaid synced (Says e ∷ older) → IsRun (Says e ∷ older) →
+      IsSaid first_tree server number e older
+  said_here synced is e older said runs = record {
     meets_none = leaving_writes_none (tree_after first_tree older) e runs.lines.0;
     touches_none = leaving_touches_none (tree_after first_tree older) e runs.lines.0;
-    covers = λ own ends. all_below server number (items older) low;
+    covers = λ own ends. subst (λ n. Each (λ c. c.by ≡ server → c.op ≤ n) (items older)) is
+        (subst (λ s. Each (λ c. c.by ≡ s → c.op ≤ synced s) (items older)) (eq_of e.server.0 server own) (said.0 ends));
   }
 
-  lower : (c : Commit) (h : List Item) → above_all (Done c ∷ h) ≤ number → above_all h ≤ number
-  lower c h low = let l : c.op + above_all h ≤ number = low in omega arith
-
-  pub all_told : (deeds : List Deed) → above_all (items deeds) ≤ number → IsRun deeds → AreKept segments when opening home first_tree deeds → Told deeds
-  all_told [] low runs kept = tt
-  all_told (Does c e ∷ older) low runs kept =
-      let before = all_told older (lower c (items older) low) (runs_before_it c e older runs) kept.2 in (told_here c e older runs kept before, shape (Does c e ∷ older) runs, before)
-  all_told (Says e ∷ older) low runs kept = (said_here e older low runs, shape (Says e ∷ older) runs, all_told older low (runs_before_saying e older runs) kept)
-  all_told (Doubts marked cells ∷ older) low runs kept = (shape (Doubts marked cells ∷ older) runs, all_told older low (runs_before_marks marked cells older runs) kept.1)
+  pub all_told : (synced : ℕ → ℕ) → synced server ≡ number → (deeds : List Deed) → AllSaid synced deeds → IsRun deeds → AreKept segments when opening home first_tree deeds → Told deeds
+  all_told synced is [] said runs kept = tt
+  all_told synced is (Does c e ∷ older) said runs kept =
+      let before = all_told synced is older said (runs_before_it c e older runs) kept.2 in (told_here c e older runs kept before, shape (Does c e ∷ older) runs, before)
+  all_told synced is (Says e ∷ older) said runs kept =
+      (said_here synced is e older said runs, shape (Says e ∷ older) runs, all_told synced is older said.1 (runs_before_saying e older runs) kept)
+  all_told synced is (Doubts marked cells ∷ older) said runs kept =
+      (shape (Doubts marked cells ∷ older) runs, all_told synced is older said (runs_before_marks marked cells older runs) kept.1)

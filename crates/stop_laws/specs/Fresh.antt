@@ -14,10 +14,12 @@ use Rattle.line_commits.specs.LinePlans.{sector_plan}
 use Rattle.line_histories.specs.Standing.{StandsNumbered}
 use Rattle.line_histories.specs.Trees.{AreTimes, MayNumber}
 use Rattle.byte_fresh.specs.Fresh.{fresh_home, fresh_logged}
-use Rattle.byte_settled.specs.Happened.{Happening, on_sectors, on_tree, settle}
+use Rattle.byte_settled.specs.Happened.{Happening, on_sectors, on_tree}
 use Rattle.byte_settled.specs.Paired.{ArePaired, IsKeptBy}
 use Rattle.byte_settled.specs.Settling.{stopped}
-use Rattle.stop_laws.specs.Keeping.{AreKept}
+use Rattle.byte_held.specs.Replies.{SaidWhereItHappened}
+use Rattle.byte_seen.specs.Events.{IsInSight}
+use Rattle.byte_seen.specs.Synced.{AllSaidAtOnce}
 
 -- servers that began over a disk of the fresh tree: its covers and kinds are those of such a disk, and no bytes are known
 pub record BeganFresh (segments : ℕ) (numbers : List ℕ) (w : World) : Type 0 where
@@ -33,5 +35,5 @@ AFreshDiskStandsForTheHistory =
     IsLegal (sector_plan segments when) w → Distinct (MayNumber numbers) (fresh segments) (settled w.history) → Good w → on_sectors h ≡ w.history →
     ArePaired segments when w.opening (fresh segments) numbers h →
     ((server : ℕ) → w.phase server ≢ Off → IsKeptBy server (greatest server) (w.durable server) (settled w.history)) →
-    AreKept segments when w.opening w.home (fresh segments) (settle (fresh segments) (stopped w greatest w.servers h)) →
+    IsInSight w → SaidWhereItHappened segments when w.opening h → AllSaidAtOnce h →
     StandsFor (replayed w w.servers) (tree_from (fresh segments) (on_tree (stopped w greatest w.servers h)))

@@ -15,10 +15,12 @@ use Rattle.line_histories.specs.Following.{Follows}
 use Rattle.line_histories.specs.Standing.{StandsNumbered}
 use Rattle.line_histories.specs.Trees.{AreTimes, MayNumber}
 use Rattle.byte_known.specs.Known.{KnowsCells}
-use Rattle.byte_settled.specs.Happened.{Happening, on_sectors, on_tree, settle}
+use Rattle.byte_settled.specs.Happened.{Happening, on_sectors, on_tree}
 use Rattle.byte_settled.specs.Paired.{ArePaired, IsKeptBy}
 use Rattle.byte_settled.specs.Settling.{stopped}
-use Rattle.stop_laws.specs.Keeping.{AreKept}
+use Rattle.byte_held.specs.Replies.{SaidWhereItHappened}
+use Rattle.byte_seen.specs.Events.{IsInSight}
+use Rattle.byte_seen.specs.Synced.{AllSaidAtOnce}
 
 -- At each moment of servers whose operations are lines, over a first disk whose cells are known: the disk with all logs replayed stands for the tree of the
 -- history with the recoveries of all logs, by the rules on histories, a cell in doubt allowing any byte. Sector 0 counts as one with a version
@@ -29,5 +31,5 @@ TheDiskStandsForTheHistory =
     Distinct (MayNumber numbers) first_tree (settled w.history) → Good w → Follows segments w.opening w.home w.logged w.first [] → w.logged 0 ≡ true →
     on_sectors h ≡ w.history → ArePaired segments when w.opening first_tree numbers h →
     ((server : ℕ) → w.phase server ≢ Off → IsKeptBy server (greatest server) (w.durable server) (settled w.history)) →
-    AreKept segments when w.opening w.home first_tree (settle first_tree (stopped w greatest w.servers h)) → KnowsCells segments w.opening w.logged w.first first_tree [] →
+    IsInSight w → SaidWhereItHappened segments when w.opening h → AllSaidAtOnce h → KnowsCells segments w.opening w.logged w.first first_tree [] →
     StandsFor (replayed w w.servers) (tree_from first_tree (on_tree (stopped w greatest w.servers h)))

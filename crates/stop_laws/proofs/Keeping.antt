@@ -1,5 +1,4 @@
--- What the core must keep of the deeds that are left, beside what is asked of the history where it happened: operations are done under the locks of what their
--- entries touch, see what is under their locks, and say what they showed; and what a recovery put into doubt covers what it marked.
+-- Of the deeds that are left operations are done under the locks of what their entries touch, see what is under their locks, and say what they showed; and what a recovery put into doubt covers what it marked.
 use Rattle.std.specs.Prelude.{◌≡◌, ℕ, true, is_some, List, [], ◌∷◌}
 use Rattle.frang_base.specs.Locks.{has_lock}
 use Rattle.frang_base.specs.declared.lock.LockId.{LockId}

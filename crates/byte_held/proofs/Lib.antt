@@ -1,0 +1,4 @@
+pub mod Framed
+pub mod Staying
+pub mod Bytes
+pub mod Uses

@@ -1,0 +1,5 @@
+pub mod Sight
+pub mod Coverage
+pub mod Synced
+pub mod Events
+pub mod Stops
