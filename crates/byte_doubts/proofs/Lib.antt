@@ -1,2 +1,3 @@
 pub mod Touching
 pub mod Lasting
+pub mod Back

@@ -4,3 +4,7 @@ pub mod Renames
 pub mod Files
 pub mod Each
 pub mod Laws
+pub mod Looked
+pub mod Owners
+pub mod Meeting
+pub mod PartLaws

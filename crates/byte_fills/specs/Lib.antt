@@ -1,1 +1,3 @@
 pub mod Sectors
+pub mod Looked
+pub mod Parts

@@ -11,7 +11,7 @@ use Rattle.plan_moves.specs.Numbered.{sector_at}
 use Rattle.line_commits.specs.LinePlans.{store_on}
 use Rattle.line_histories.specs.Following.{Follows, is_versioned}
 use Rattle.line_histories.specs.Standing.{StandsForShape}
-use Rattle.byte_known.specs.Known.{KnowsCells}
+use Rattle.byte_histories.specs.Known.{KnowsCells}
 
 -- the lock that covers a sector while only the root is in use: its own is that of the root's inode, each other that of a segment
 abbrev pub fresh_cover : Sector → LockId

@@ -3,3 +3,9 @@ pub mod Written
 pub mod Covered
 pub mod Next
 pub mod Along
+pub mod Told
+pub mod Kept
+pub mod Replayed
+pub mod Places
+pub mod Marks
+pub mod Stops

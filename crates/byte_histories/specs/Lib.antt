@@ -1,1 +1,4 @@
 pub mod Along
+pub mod Keeping
+pub mod Stop
+pub mod Known

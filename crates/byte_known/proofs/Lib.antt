@@ -1,3 +1,12 @@
-pub mod Places
+pub mod Counted
+pub mod Shaped
+pub mod Lying
+pub mod Pieces
+pub mod Values
+pub mod Showing
+pub mod Stepping
+pub mod Operation
 pub mod Marks
+pub mod Deeds
+pub mod Covering
 pub mod Stops

@@ -20,7 +20,7 @@ use Rattle.line_histories.specs.Trees.{MayNumber, performed}
 use Rattle.line_histories.proofs.Runs.{histories_of_one_tree}
 use Rattle.byte_doubts.specs.Deeds.{Deed, items, tree_after}
 use Rattle.byte_histories.specs.Along.{HasShape}
-use Rattle.byte_known.proofs.Stops.{stop_known}
+use Rattle.byte_histories.proofs.Stops.{stop_known}
 use Rattle.byte_settled.specs.Happened.{settle}
 use Rattle.byte_settled.specs.Settling.{stopped}
 use Rattle.byte_settled.specs.Stop.{StopsLeaveTheTree}

@@ -49,7 +49,7 @@ use Rattle.line_histories.proofs.Runs.{numbered, take_distinct, both, histories_
 use Rattle.line_histories.proofs.Told.{perform_told}
 use Rattle.byte_doubts.specs.Deeds.{Deed, Does, Says, Doubts, items, steps, tree_after}
 use Rattle.byte_histories.specs.Along.{HasShape}
-use Rattle.byte_lines.proofs.Told.{told_same}
+use Rattle.byte_histories.proofs.Told.{told_same}
 use Rattle.byte_settled.specs.Paired.{AreOfOneLine, AreLines}
 use Rattle.byte_settled.specs.Settling.{ShapesFollow, RecordsAreLosses}
 use Rattle.byte_settled.proofs.Doubted.{doubted_shape}

@@ -17,9 +17,9 @@ use Rattle.byte_fresh.specs.Fresh.{fresh_home, fresh_logged}
 use Rattle.byte_settled.specs.Happened.{Happening, on_sectors, on_tree}
 use Rattle.byte_settled.specs.Paired.{ArePaired, IsKeptBy}
 use Rattle.byte_settled.specs.Settling.{stopped}
-use Rattle.byte_held.specs.Replies.{SaidWhereItHappened}
-use Rattle.byte_seen.specs.Events.{IsInSight}
-use Rattle.byte_seen.specs.Synced.{AllSaidAtOnce}
+use Rattle.byte_removals.specs.Replies.{SaidWhereItHappened}
+use Rattle.byte_removals.specs.Events.{IsInSight}
+use Rattle.byte_removals.specs.Synced.{AllSaidAtOnce}
 
 -- servers that began over a disk of the fresh tree: its covers and kinds are those of such a disk, and no bytes are known
 pub record BeganFresh (segments : ℕ) (numbers : List ℕ) (w : World) : Type 0 where

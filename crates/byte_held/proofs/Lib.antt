@@ -1,4 +1,0 @@
-pub mod Framed
-pub mod Staying
-pub mod Bytes
-pub mod Uses

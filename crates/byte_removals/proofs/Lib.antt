@@ -1,0 +1,13 @@
+pub mod Framed
+pub mod Staying
+pub mod Bytes
+pub mod Uses
+pub mod Removing
+pub mod Guarded
+pub mod Births
+pub mod Parts
+pub mod Covering
+pub mod Along
+pub mod Syncing
+pub mod Events
+pub mod Stopping

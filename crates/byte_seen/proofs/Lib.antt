@@ -1,9 +1,0 @@
-pub mod Removing
-pub mod Guarded
-pub mod Births
-pub mod Parts
-pub mod Covering
-pub mod Along
-pub mod Syncing
-pub mod Events
-pub mod Stopping

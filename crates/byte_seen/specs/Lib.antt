@@ -1,5 +1,0 @@
-pub mod Sight
-pub mod Coverage
-pub mod Synced
-pub mod Events
-pub mod Stops

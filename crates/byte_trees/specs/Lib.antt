@@ -1,0 +1,4 @@
+pub mod Cells
+pub mod Sharp
+pub mod Standing
+pub mod Written
