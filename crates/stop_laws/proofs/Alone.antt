@@ -1,5 +1,5 @@
 -- An entry that leaves the tree writes nothing and touches nothing.
-use Rattle.std.proofs.Common.{ℕ, ◌≡◌, ◌≤◌, ◌+◌, ◌&&◌, ◌||◌, ◌==◌, ◌++◌, if◌then◌else◌, Bool, true, false, List, [], ◌∷◌, refl, sym, ◌∙◌, ap, subst, arith}
+use Rattle.std.proofs.Common.{ℕ, ◌≡◌, ◌&&◌, ◌||◌, ◌==◌, ◌++◌, if◌then◌else◌, Bool, true, false, List, ◌∷◌, refl, sym, ◌∙◌, ap, subst}
 use Rattle.frang_base.specs.declared.op.Op.{Op}
 use Rattle.frang_base.specs.declared.op.Op.TheVariants as op
 use Rattle.frang_base.specs.declared.reply.Reply.TheVariants as reply
@@ -13,8 +13,6 @@ use Rattle.tree_definitions.specs.Tree.{FileTree}
 use Rattle.tree_laws.specs.Doubts.{entry_writes}
 use Rattle.tree_laws.proofs.HistoryLaws.{after_all-push}
 use Rattle.history_laws.proofs.OwnReplies.{answers_are_own}
-use Rattle.sector_histories.specs.Histories.{Each, Item}
-use Rattle.sector_histories.specs.Histories.Item.{Done, Doubt}
 use Rattle.plan_standing.specs.Laws.{HasPath}
 use Rattle.byte_doubts.specs.Deeds.{Deed, Says, steps, tree_after}
 use Rattle.byte_histories.proofs.Shaped.{is_ok}

@@ -1,5 +1,5 @@
 -- What recoveries of all logs would leave is told twice and shown, so cells are known after it, and the replayed disk stands for its tree.
-use Rattle.std.proofs.Common.{ℕ, ◌≡◌, ◌≢◌, ◌≤◌, List, [], sym, subst, arith}
+use Rattle.std.proofs.Common.{ℕ, ◌≡◌, ◌≢◌, List, [], sym, subst, refl}
 use Rattle.tree_definitions.specs.Tree.{FileTree}
 use Rattle.sector_histories.specs.Bytes.{Agree}
 use Rattle.sector_histories.specs.Histories.{Each, settled, synced_of}
@@ -15,7 +15,7 @@ use Rattle.line_histories.specs.Following.{Follows}
 use Rattle.line_histories.specs.Standing.{StandsNumbered}
 use Rattle.line_histories.specs.Trees.{AreTimes, MayNumber}
 use Rattle.line_histories.proofs.Runs.{numbered}
-use Rattle.byte_doubts.specs.Deeds.{Deed, items}
+use Rattle.byte_doubts.specs.Deeds.{Deed}
 use Rattle.byte_histories.specs.Known.{KnowsCells}
 use Rattle.byte_settled.specs.Happened.{Happening, on_sectors, settle}
 use Rattle.byte_settled.specs.Paired.{ArePaired, IsKeptBy}

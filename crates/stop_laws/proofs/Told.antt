@@ -1,5 +1,5 @@
 -- Deeds of lines that the core keeps are told twice, and shown: replies are the tree's answers, deed by deed.
-use Rattle.std.proofs.Common.{ℕ, ◌≡◌, ◌≤◌, ◌+◌, ◌&&◌, Bool, false, Option, List, [], ◌∷◌, refl, ◌∙◌, ap, subst}
+use Rattle.std.proofs.Common.{ℕ, ◌≡◌, ◌≤◌, ◌&&◌, Bool, false, Option, List, [], ◌∷◌, refl, ◌∙◌, ap, subst}
 use Rattle.frang_base.specs.declared.lock.LockId.{LockId}
 use Rattle.frang_base.proofs.Basics.{eq_of}
 use Rattle.tree_definitions.specs.declared.history.Entry.{Entry}
@@ -8,7 +8,7 @@ use Rattle.tree_definitions.specs.Touched.{is_ok, is_sync}
 use Rattle.tree_definitions.specs.Tree.{FileTree}
 use Rattle.sector_bytes.specs.Blocks.{Block}
 use Rattle.sector_histories.specs.Bytes.{Agree}
-use Rattle.sector_histories.specs.Histories.{Commit, Each, Item, logical}
+use Rattle.sector_histories.specs.Histories.{Commit, Each, logical}
 use Rattle.sector_histories.specs.Histories.Item.{Done}
 use Rattle.sector_histories.specs.Plans.{IsByPlan, Legal, outcome_of}
 use Rattle.sector_world.specs.Trees.{Distinct}
