@@ -9,7 +9,10 @@ use op_data::plan_bytes;
 use plan_disks::{
     Filled, Laid, Segment, ended_told, held_of, path_of, put_filled, sectors_of, written_told,
 };
+use plan_steps::{Outcome, Stop};
 use std::alloc::Global;
+use std::process::Abort;
+use std::test::Fail;
 
 /// An operation on file bytes, with its path, and an offset, a length, a text or a byte.
 #[derive(Clone, Copy)]
@@ -42,59 +45,67 @@ pub(crate) const NOTHING: Setting = (&[], false);
 /// Tick 600 of run 3.
 pub(crate) const WHEN: u64 = 3 * 4_294_967_296 + 600;
 
-/// The first plan that isn't as worked out, with the place of its row.
-pub(crate) fn differs(
+/// Each plan is as worked out.
+pub(crate) fn expect(
+    rt: &impl Abort,
     alloc: Global,
     disk: Disk,
     telling: Telling,
     rows: &[Row],
-) -> Result<Option<(usize, String)>, NoMemory> {
+) -> Result<(), Fail> {
     let mut sectors = sectors_of(alloc, disk.0)?;
     put_filled(&mut sectors, disk.1)?;
     for (place, row) in rows.iter().enumerate() {
         let text = told(alloc, &sectors, telling, row)?;
-        if text.as_str() != row.3 {
-            return Ok(Some((place, text)));
-        }
+        assert!(rt; text.as_str() == row.3, "row {place}: {text}");
     }
-    Ok(None)
+    Ok(())
 }
 
 fn told(alloc: Global, sectors: &Sectors, telling: Telling, row: &Row) -> Result<String, NoMemory> {
     let (asked, (segments, all), when, _) = *row;
     let held = &held_of(alloc, segments)?;
     let hand = Hand { sectors, held, all };
-    let ended = plan_bytes(alloc, &op_of(alloc, asked)?, when, &hand);
+    let ended = plan(alloc, &op_of(alloc, asked)?, when, &hand);
     match telling {
         Telling::Edits => ended_told(alloc, &ended),
         Telling::Written => written_told(alloc, &hand, ended),
     }
 }
 
-// The operation on file bytes.
-fn op_of(alloc: Global, asked: Asked) -> Result<Op, NoMemory>
+/// The plan over what is at hand.
+pub(crate) fn plan(alloc: Global, op: &Op, when: u64, hand: &Hand) -> Result<Outcome, Stop>
+    requires { IsOfBytes op.now }
+{
+    plan_bytes(alloc, op, when, hand)
+}
+
+/// The operation on file bytes.
+pub(crate) fn op_of(alloc: Global, asked: Asked) -> Result<Op, NoMemory>
     ensures { IfOk result IsOfBytes }
 {
-    Ok(match asked {
-        Asked::Write(path, off, text) => Op::Write {
-            path: path_of(alloc, path)?,
-            off,
-            bytes: Text::of(alloc, text.as_bytes())?,
-        },
-        Asked::Fill(path, off, len, byte) => Op::Fill {
-            path: path_of(alloc, path)?,
-            off,
-            len,
-            byte,
-        },
-        Asked::Truncate(path, len) => Op::Truncate {
-            path: path_of(alloc, path)?,
-            len,
-        },
-        Asked::Read(path, off, len) => Op::Read {
-            path: path_of(alloc, path)?,
-            off,
-            len,
-        },
-    })
+    match asked {
+        Asked::Write(path, off, text) => {
+            let path = path_of(alloc, path)?;
+            let bytes = Text::of(alloc, text.as_bytes())?;
+            Ok(Op::Write { path, off, bytes })
+        }
+        Asked::Fill(path, off, len, byte) => {
+            let path = path_of(alloc, path)?;
+            Ok(Op::Fill {
+                path,
+                off,
+                len,
+                byte,
+            })
+        }
+        Asked::Truncate(path, len) => {
+            let path = path_of(alloc, path)?;
+            Ok(Op::Truncate { path, len })
+        }
+        Asked::Read(path, off, len) => {
+            let path = path_of(alloc, path)?;
+            Ok(Op::Read { path, off, len })
+        }
+    }
 }

@@ -1,6 +1,6 @@
 // Plans of operations on file bytes over a small disk, with the sectors that they write: all worked out by hand from the formats of sectors.
 // A file that is written or cut has its time in its record, the bytes 100 to 107 of its inode.
-use crate::asked::{Asked, NOTHING, Row, Telling, WHEN, differs};
+use crate::asked::{Asked, NOTHING, Row, Telling, WHEN, expect};
 use plan_disks::{Filled, Laid, Segment};
 use std::test::Fail;
 
@@ -41,7 +41,7 @@ const FULL_SECOND: Segment = Segment {
 // The root in small block 4, then the files /a, /b, /e, /k and /g, the directory /d and the link /l. /a has 5 bytes in block 2, /b 4,090 in
 // block 7, /e none, /k 61,440 in blocks 16 to 30, and /g 65,538 in blocks 1,024 to 1,039 and in large block 1. /d is in block 1,044. /a and
 // /g were written, /a at tick 7 of run 1.
-static LAID: &[Laid] = &[
+static LAID: [Laid; 10] = [
     (12_884_901_920, 8, &[]),
     (
         12_884_901_920,
@@ -134,7 +134,7 @@ static LAID: &[Laid] = &[
 ];
 
 // Some sectors of the files. Behind the ends of /a, /b and /g stand other bytes.
-static FILLED: &[Filled] = &[
+static FILLED: [Filled; 6] = [
     (12_884_901_904, 0x7f, &[(0, b"hello")]),
     (12_884_901_950, 0, &[(511, b"y")]),
     (
@@ -150,7 +150,7 @@ static FILLED: &[Filled] = &[
 // When /a was written.
 const A_WRITTEN: u64 = 4_294_967_296 + 7;
 
-static WRITTEN: &[Row] = &[
+static WRITTEN: [Row; 12] = [
     (
         Asked::Write("/a", 1, "XY"),
         NOTHING,
@@ -234,12 +234,16 @@ static WRITTEN: &[Row] = &[
 
 #[test]
 fn bytes_are_written_as_worked_out_by_hand(rt: HostRuntime) -> Result<(), Fail> {
-    let differing = differs(rt.alloc(), (LAID, FILLED), Telling::Written, WRITTEN)?;
-    assert_eq!(rt; differing, None);
-    Ok(())
+    expect(
+        &rt,
+        rt.alloc(),
+        (&LAID, &FILLED),
+        Telling::Written,
+        &WRITTEN,
+    )
 }
 
-static CUT: &[Row] = &[
+static CUT: [Row; 11] = [
     (
         Asked::Truncate("/a", 0),
         (&[FIRST, SECOND], false),
@@ -307,12 +311,10 @@ static CUT: &[Row] = &[
 
 #[test]
 fn files_are_cut_as_worked_out_by_hand(rt: HostRuntime) -> Result<(), Fail> {
-    let differing = differs(rt.alloc(), (LAID, FILLED), Telling::Written, CUT)?;
-    assert_eq!(rt; differing, None);
-    Ok(())
+    expect(&rt, rt.alloc(), (&LAID, &FILLED), Telling::Written, &CUT)
 }
 
-static READ: &[Row] = &[
+static READ: [Row; 17] = [
     (Asked::Read("/a", 0, 100), NOTHING, WHEN, "data 68656c6c6f"),
     (Asked::Read("/b", 3583, 3), NOTHING, WHEN, "data 796262"),
     (
@@ -385,14 +387,12 @@ static READ: &[Row] = &[
 
 #[test]
 fn files_are_read_and_refused_as_worked_out_by_hand(rt: HostRuntime) -> Result<(), Fail> {
-    let differing = differs(rt.alloc(), (LAID, FILLED), Telling::Written, READ)?;
-    assert_eq!(rt; differing, None);
-    Ok(())
+    expect(&rt, rt.alloc(), (&LAID, &FILLED), Telling::Written, &READ)
 }
 
 // With no segment held, at other times too. What the bytes 100 to 107 come to is in the record wherever a file is written or cut, also
 // where they stay.
-static TIMED: &[Row] = &[
+static TIMED: [Row; 20] = [
     // At its very time, where size and blocks stay too.
     (
         Asked::Write("/a", 1, "XY"),
@@ -493,7 +493,5 @@ static TIMED: &[Row] = &[
 
 #[test]
 fn what_is_written_or_cut_has_its_time_in_the_record(rt: HostRuntime) -> Result<(), Fail> {
-    let differing = differs(rt.alloc(), (LAID, FILLED), Telling::Written, TIMED)?;
-    assert_eq!(rt; differing, None);
-    Ok(())
+    expect(&rt, rt.alloc(), (&LAID, &FILLED), Telling::Written, &TIMED)
 }

@@ -1,14 +1,14 @@
 // A disk from before files had times, written out by hand: it is read as a tree whose files were never written, and plans are made over it as
 // over any disk. What a plan writes leads to a disk whose file has its time.
-use crate::asked::{Asked, Row, Telling, WHEN, differs};
+use crate::asked::{Asked, Row, Telling, WHEN, expect, op_of, plan};
 use dir_lookup::Hand;
 use disk_reading::{Disk, tree_read};
 use edit_writing::{byte_writes, changes_of, have_next_versions};
-use frang_base::{Change, NoMemory, Op, Sector, Text};
-use meta_version::{apply, is_change};
-use op_data::plan_bytes;
+use frang_base::{Block, Change, Changes, NoMemory, Op, Sector};
+use meta_version::{Sectors, apply, is_change};
 use op_look::plan_look;
-use plan_disks::{Laid, Segment, block_of, held_of, path_of, plan_told, sectors_of};
+use plan_disks::{Laid, Piece, Segment, block_of, held_of, path_of, plan_told, sectors_of};
+use plan_steps::Edit;
 use reply_text::write_line;
 use std::alloc::Global;
 use std::test::Fail;
@@ -26,8 +26,13 @@ const SEGMENT: Segment = Segment {
     large: false,
 };
 
+static SEGMENTS: [Segment; 1] = [SEGMENT];
+
+// The parameters of format 2 in run 3.
+static NEW_PARAMETERS: [Piece; 1] = [(0, b"FRANGPAR\x02\0\0\0\x01\0\0\0\x03")];
+
 // The root in block 0, with the file /f, whose bytes are `hello` in block 1, the directory /d and the link /l to `f`.
-static LAID: &[Laid] = &[
+static LAID: [Laid; 9] = [
     PARAMETERS,
     (4_294_967_296, 1, &[(0, &[3]), (8, &[15]), (16, &[7])]),
     (
@@ -75,7 +80,7 @@ static LAID: &[Laid] = &[
 
 fn disk(alloc: Global) -> Result<Disk, NoMemory> {
     let mut disk = Disk::new(alloc);
-    for (sector, _, pieces) in LAID {
+    for (sector, _, pieces) in &LAID {
         disk.set(Sector(*sector), block_of(0, pieces))?;
     }
     Ok(disk)
@@ -114,7 +119,7 @@ fn a_disk_of_the_first_format_is_read(rt: HostRuntime) -> Result<(), Fail> {
     Ok(())
 }
 
-static PLANNED: &[Row] = &[
+static PLANNED: [Row; 4] = [
     (
         Asked::Read("/f", 0, 9),
         (&[SEGMENT], true),
@@ -144,15 +149,17 @@ static PLANNED: &[Row] = &[
     ),
 ];
 
+// What is told of a look at the time of /f.
+fn time_told(alloc: Global) -> Result<String, NoMemory> {
+    let path = path_of(alloc, "/f")?;
+    let look = plan_look(alloc, &Op::Time { path }, &sectors_of(alloc, &LAID)?)?;
+    plan_told(alloc, &look)
+}
+
 #[test]
 fn plans_over_a_disk_of_the_first_format(rt: HostRuntime) -> Result<(), Fail> {
-    let differing = differs(rt.alloc(), (LAID, &[]), Telling::Written, PLANNED)?;
-    assert_eq!(rt; differing, None);
-    let time = Op::Time {
-        path: path_of(rt.alloc(), "/f")?,
-    };
-    let told = plan_look(rt.alloc(), &time, &sectors_of(rt.alloc(), LAID)?)?;
-    assert!(rt; plan_told(rt.alloc(), &told)?.as_str() == "time 0.0");
+    expect(&rt, rt.alloc(), (&LAID, &[]), Telling::Written, &PLANNED)?;
+    assert!(rt; time_told(rt.alloc())?.as_str() == "time 0.0");
     Ok(())
 }
 
@@ -168,32 +175,53 @@ fn make(disk: &mut Disk, changes: &[Change]) -> Result<(), NoMemory> {
     Ok(())
 }
 
-// The disk in run 3 and of format 2, once `!` is written at the end of /f by the plan over the old disk.
-fn written_disk(alloc: Global) -> Result<Disk, NoMemory> {
-    let mut disk = disk(alloc)?;
-    let parameters = block_of(0, &[(0, b"FRANGPAR\x02\0\0\0\x01\0\0\0\x03")]);
-    disk.set(Sector(0), parameters)?;
-    let (sectors, held) = (&sectors_of(alloc, LAID)?, &held_of(alloc, &[SEGMENT])?);
+// Writes the bytes on the disk.
+fn write(disk: &mut Disk, bytes: &[(Sector, Block)]) -> Result<(), NoMemory> {
+    for (sector, block) in bytes {
+        disk.set(*sector, *block)?;
+    }
+    Ok(())
+}
+
+// The changes by which the edits are made over the sectors; none where a version has no next one.
+fn changes(alloc: Global, sectors: &Sectors, edits: &[Edit]) -> Result<Changes, NoMemory> {
+    let held = &held_of(alloc, &SEGMENTS)?;
     let hand = Hand {
         sectors,
         held,
         all: true,
     };
-    let write = Op::Write {
-        path: path_of(alloc, "/f")?,
-        off: 5,
-        bytes: Text::of(alloc, b"!")?,
+    if have_next_versions(&hand, edits) {
+        changes_of(alloc, &hand, edits)
+    } else {
+        Ok(Changes::from_vec(Vec::new(alloc)))
+    }
+}
+
+// Makes on the disk what the edits change and write.
+fn make_edits(
+    alloc: Global,
+    disk: &mut Disk,
+    sectors: &Sectors,
+    edits: &[Edit],
+) -> Result<(), NoMemory> {
+    make(disk, changes(alloc, sectors, edits)?.as_slice())?;
+    write(disk, byte_writes(alloc, edits)?.as_slice())
+}
+
+// The disk in run 3 and of format 2, once `!` is written at the end of /f by the plan over the old disk.
+fn written_disk(alloc: Global) -> Result<Disk, NoMemory> {
+    let mut disk = disk(alloc)?;
+    disk.set(Sector(0), block_of(0, &NEW_PARAMETERS))?;
+    let (sectors, held) = (&sectors_of(alloc, &LAID)?, &held_of(alloc, &SEGMENTS)?);
+    let hand = Hand {
+        sectors,
+        held,
+        all: true,
     };
-    if let Ok(outcome) = plan_bytes(alloc, &write, WHEN, &hand)
-        && have_next_versions(&hand, &outcome.edits)
-    {
-        make(
-            &mut disk,
-            changes_of(alloc, &hand, &outcome.edits)?.as_slice(),
-        )?;
-        for (sector, block) in byte_writes(alloc, &outcome.edits)?.as_slice() {
-            disk.set(*sector, *block)?;
-        }
+    let op = op_of(alloc, Asked::Write("/f", 5, "!"))?;
+    if let Ok(outcome) = plan(alloc, &op, WHEN, &hand) {
+        make_edits(alloc, &mut disk, sectors, &outcome.edits)?;
     }
     Ok(disk)
 }

@@ -1,5 +1,5 @@
 // Reads and truncates over a small disk whose sectors were worked out by hand: the replies, and the edits.
-use crate::asked::{Asked, NOTHING, Row, Telling, WHEN, differs};
+use crate::asked::{Asked, NOTHING, Row, Telling, WHEN, expect};
 use plan_disks::{Laid, Segment};
 use std::test::Fail;
 
@@ -18,7 +18,7 @@ const SECOND: Segment = Segment { number: 1, ..FIRST };
 // The root in block 0, with the files /a, /b, /c, /e, /g and /m, the directory /d and the link /l. The entry of /n tells a file too, but
 // leads to the inode of the link. /a has 5 bytes in block 2, /b 600 in block 3, /c 5,000 in blocks 4 and 1,030, /e none, and /g 66,000 in
 // blocks 8 to 23 and in large block 1. The inode of /m isn't cached, nor are some sectors of the files.
-static LAID: &[Laid] = &[
+static LAID: [Laid; 20] = [
     (12_884_901_888, 8, &[]),
     (
         12_884_901_888,
@@ -89,7 +89,7 @@ static LAID: &[Laid] = &[
     (289_910_292_480, 1, &[(0, b"Q"), (463, b"R")]),
 ];
 
-static SHOWN: &[Row] = &[
+static SHOWN: [Row; 26] = [
     (Asked::Read("/a", 0, 5), NOTHING, WHEN, "data 68656c6c6f"),
     (Asked::Read("/a", 0, 100), NOTHING, WHEN, "data 68656c6c6f"),
     (Asked::Read("/a", 1, 3), NOTHING, WHEN, "data 656c6c"),
@@ -125,12 +125,10 @@ static SHOWN: &[Row] = &[
 
 #[test]
 fn reads_show_the_bytes(rt: HostRuntime) -> Result<(), Fail> {
-    let differing = differs(rt.alloc(), (LAID, &[]), Telling::Edits, SHOWN)?;
-    assert_eq!(rt; differing, None);
-    Ok(())
+    expect(&rt, rt.alloc(), (&LAID, &[]), Telling::Edits, &SHOWN)
 }
 
-static FREED: &[Row] = &[
+static FREED: [Row; 25] = [
     (
         Asked::Truncate("/a", 5),
         NOTHING,
@@ -275,7 +273,5 @@ static FREED: &[Row] = &[
 
 #[test]
 fn truncates_free_what_is_past_the_end(rt: HostRuntime) -> Result<(), Fail> {
-    let differing = differs(rt.alloc(), (LAID, &[]), Telling::Edits, FREED)?;
-    assert_eq!(rt; differing, None);
-    Ok(())
+    expect(&rt, rt.alloc(), (&LAID, &[]), Telling::Edits, &FREED)
 }

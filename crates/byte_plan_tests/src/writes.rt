@@ -1,5 +1,5 @@
 // Writes and fills over a small disk whose sectors were worked out by hand: the edits, and what is said where something is missing.
-use crate::asked::{Asked, NOTHING, Row, Telling, WHEN, differs};
+use crate::asked::{Asked, NOTHING, Row, Telling, WHEN, expect};
 use plan_disks::{Filled, Laid, Segment};
 use std::test::Fail;
 
@@ -23,7 +23,7 @@ const FULL: Segment = Segment {
 // The root in block 0. /a has the bytes `abcde` in block 2, /e is empty, /k has 65,536 bytes in blocks 32 to 47, and /g two more than these,
 // in blocks 16 to 31 and large block 3; /d is a directory, /l a link. The inode of /m isn't cached, that of /f is free, and that of /x is a
 // link's, though its entry says that it is a file's.
-static LAID: &[Laid] = &[
+static LAID: [Laid; 13] = [
     (12_884_901_888, 8, &[]),
     (
         12_884_901_888,
@@ -90,9 +90,9 @@ static LAID: &[Laid] = &[
     (12_884_901_904, 1, &[(0, b"abcde")]),
 ];
 
-static FILLED: &[Filled] = &[(294_205_259_776, 7, &[(0, b"yz")])];
+static FILLED: [Filled; 1] = [(294_205_259_776, 7, &[(0, b"yz")])];
 
-static WRITTEN: &[Row] = &[
+static WRITTEN: [Row; 25] = [
     (
         Asked::Write("/a", 1, "XY"),
         NOTHING,
@@ -207,12 +207,10 @@ static WRITTEN: &[Row] = &[
 
 #[test]
 fn writes_to_a_small_disk(rt: HostRuntime) -> Result<(), Fail> {
-    let differing = differs(rt.alloc(), (LAID, FILLED), Telling::Edits, WRITTEN)?;
-    assert_eq!(rt; differing, None);
-    Ok(())
+    expect(&rt, rt.alloc(), (&LAID, &FILLED), Telling::Edits, &WRITTEN)
 }
 
-static OF_ONE_BYTE: &[Row] = &[
+static OF_ONE_BYTE: [Row; 13] = [
     (
         Asked::Fill("/e", 0, 513, 5),
         (&[FEW], false),
@@ -281,7 +279,11 @@ static OF_ONE_BYTE: &[Row] = &[
 
 #[test]
 fn fills_of_a_small_disk(rt: HostRuntime) -> Result<(), Fail> {
-    let differing = differs(rt.alloc(), (LAID, FILLED), Telling::Edits, OF_ONE_BYTE)?;
-    assert_eq!(rt; differing, None);
-    Ok(())
+    expect(
+        &rt,
+        rt.alloc(),
+        (&LAID, &FILLED),
+        Telling::Edits,
+        &OF_ONE_BYTE,
+    )
 }
