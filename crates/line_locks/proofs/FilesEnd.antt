@@ -110,8 +110,7 @@ module _ (h : Hand) (s : Store) (n : Naming) (disk : DiskStands h s n) (back : �
           let dated = file_dated i y in
           let smalls = map (λ k. k / 1024) picks in
           let edits = uses ++ large ++ dated ++ bytes in
-          finish_ends h s before touched nodes touched (i ∷ []) (smalls ++ large_segment o) (all_touched touched nodes i e) reply.Ok edits
-          (
+          finish_ends h s before touched nodes touched (i ∷ []) (smalls ++ large_segment o) (all_touched touched nodes i e) reply.Ok edits (
             (edited_left h s nodes (uses ++ large ++ dated) bytes (lock.Node i) (edited_right h s nodes (uses ++ large) dated (lock.Node i) (has_head (lock.Node i, Sole) _)), tt),
             all_join (λ k. IsEdited h s nodes edits (lock.Segment k)) smalls (large_segment o)
                 (segments_left h s nodes (uses ++ large ++ dated) bytes smalls (segments_left h s nodes (uses ++ large) dated smalls (segments_left h s nodes uses large smalls (uses_edited h s nodes Bytes picks))))
@@ -171,8 +170,7 @@ module _ (h : Hand) (s : Store) (n : Naming) (disk : DiskStands h s n) (back : �
         let dated = file_dated i (resized x when len [] None) in
         let smalls = map (λ k. k / 1024) blocks in
         let edits = uses ++ large ++ dated in
-        finish_ends h s before touched nodes touched (i ∷ []) (smalls ++ large_cut x len) (all_touched touched nodes i e) reply.Ok edits
-        (
+        finish_ends h s before touched nodes touched (i ∷ []) (smalls ++ large_cut x len) (all_touched touched nodes i e) reply.Ok edits (
           (edited_right h s nodes (uses ++ large) dated (lock.Node i) (has_head (lock.Node i, Sole) _), tt),
           all_join (λ k. IsEdited h s nodes edits (lock.Segment k)) smalls (large_cut x len) (segments_left h s nodes (uses ++ large) dated smalls (segments_left h s nodes uses large smalls (uses_edited h s nodes Fresh blocks)))
               (segments_left h s nodes (uses ++ large) dated (large_cut x len) (segments_right h s nodes uses large (large_cut x len) (larges_edited h s nodes false (large_cut x len)))),

@@ -12,3 +12,4 @@ pub mod Trails
 pub mod Covered
 pub mod LinesEnd
 pub mod AtHand
+pub mod Numbers

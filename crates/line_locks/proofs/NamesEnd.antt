@@ -64,8 +64,7 @@ module _ (h : Hand) (s : Store) (n : Naming) (disk : DiskStands h s n) where
         let new = new_node j birth node in
         let there = enter i x entry room in
         let all = nodes ++ j ∷ [] in
-        finish_ends h s before (dirs ++ j ∷ []) all dirs (i ∷ j ∷ []) ((j / 64) ∷ room_segments room) (node_touched before dirs nodes i j e) reply.Ok (new ++ there)
-        (
+        finish_ends h s before (dirs ++ j ∷ []) all dirs (i ∷ j ∷ []) ((j / 64) ∷ room_segments room) (node_touched before dirs nodes i j e) reply.Ok (new ++ there) (
           (edited_right h s all new there (lock.Node i) (enter_node h s all i x entry room r), (edited_left h s all new there (lock.Node j) (has_head (lock.Node j, Sole) _), tt)),
           (
             edited_left h s all new there (lock.Segment (j / 64)) (has_more (lock.Node j, Sole) (lock.Segment (j / 64), Sole) _ (has_head (lock.Segment (j / 64), Sole) _)),
@@ -114,8 +113,7 @@ module _ (h : Hand) (s : Store) (n : Naming) (disk : DiskStands h s n) where
         let entry : StoredEntry = record { name = name; inode = j; kind = y.kind } in
         let new = relink j y (y.links + 1) in
         let there = enter i x entry room in
-        finish_ends h s before (dirs ++ j ∷ []) all dirs (i ∷ j ∷ []) (room_segments room) (node_touched before dirs nodes i j e) reply.Ok (new ++ there)
-        (
+        finish_ends h s before (dirs ++ j ∷ []) all dirs (i ∷ j ∷ []) (room_segments room) (node_touched before dirs nodes i j e) reply.Ok (new ++ there) (
           (edited_right h s all new there (lock.Node i) (enter_node h s all i x entry room r), (edited_left h s all new there (lock.Node j) (has_head (lock.Node j, Sole) _), tt)),
           segments_right h s all new there (room_segments room) (enter_segments h s all i x entry room),
         )
@@ -178,8 +176,7 @@ module _ (h : Hand) (s : Store) (n : Naming) (disk : DiskStands h s n) where
           let all = before ++ dirs ++ j ∷ [] in
           let taken = take_entry i x q in
           over_ends h s back made before all (fewer_segments j y) (removed_by i x q j y dirs)
-          (finish_ends h s before (dirs ++ j ∷ []) all dirs (i ∷ j ∷ []) (fewer_segments j y) (node_touched before dirs (before ++ dirs) i j refl) reply.Ok (taken ++ fewer j y)
-          (
+          (finish_ends h s before (dirs ++ j ∷ []) all dirs (i ∷ j ∷ []) (fewer_segments j y) (node_touched before dirs (before ++ dirs) i j refl) reply.Ok (taken ++ fewer j y) (
             (edited_left h s all taken (fewer j y) (lock.Node i) (has_head (lock.Node i, Sole) _), (edited_right h s all taken (fewer j y) (lock.Node j) (fewer_inode h s all j y), tt)),
             segments_right h s all taken (fewer j y) (fewer_segments j y) (fewer_segments_edited h s all j y),
           ))

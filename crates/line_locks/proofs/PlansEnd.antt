@@ -34,10 +34,7 @@ from_end_is xs ys a back e = ap (slice_index (xs ++ a ∷ ys)) at ∙ get_or-app
     at : length (xs ++ a ∷ ys) - 1 - back ≡ length xs
     at = let l : length (xs ++ a ∷ ys) ≡ length xs + length (a ∷ ys) = length-append xs (a ∷ ys) in let m : length (a ∷ ys) ≡ length ys + 1 = omega arith in omega arith
 
--- directories that end in one, between others
-pub last_between : (xs dirs front ys : List ℕ) (i : ℕ) → dirs ≡ front ++ i ∷ [] → xs ++ dirs ++ ys ≡ xs ++ front ++ i ∷ ys
-last_between xs dirs front ys i e = ap (λ l. xs ++ l ++ ys) e ∙ ap (λ l. l ++ ys) (sym (append_assoc xs front (i ∷ []))) ∙ append_assoc (xs ++ front) (i ∷ []) ys
-
+-- directories that end in one, behind others
 pub last_of : (xs dirs front : List ℕ) (i : ℕ) → dirs ≡ front ++ i ∷ [] → xs ++ dirs ≡ xs ++ front ++ i ∷ []
 last_of xs dirs front i e = ap (λ l. xs ++ l) e ∙ sym (append_assoc xs front (i ∷ []))
 

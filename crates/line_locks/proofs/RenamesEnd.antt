@@ -1,5 +1,5 @@
 -- The plan of rename ends with the locks that are found.
-use Rattle.std.proofs.Common.{ℕ, ◌≡◌, ◌<◌, ◌*◌, ◌/◌, ◌==◌, ◌&&◌, not, inl, inr, ⊎_elim, Bool, true, false, nat_lt, if◌then◌else◌, Some, List, [], ◌∷◌, ◌++◌, length, refl, sym, ap, ◌∙◌, subst}
+use Rattle.std.proofs.Common.{ℕ, ◌≡◌, ◌<◌, ◌*◌, ◌/◌, ◌%◌, ◌==◌, ◌&&◌, not, inl, inr, ⊎_elim, Bool, true, false, nat_lt, if◌then◌else◌, Some, List, [], ◌∷◌, ◌++◌, length, refl, sym, ap, ◌∙◌, subst}
 use Rattle.std.proofs.lemmas.List.{append-nil, append_assoc}
 use Rattle.std.proofs.lemmas.List.Elements.{Contains-append_left, Contains-append_right}
 use Rattle.std.specs.List.{Contains}
@@ -78,12 +78,11 @@ module _ (h : Hand) (s : Store) (n : Naming) (disk : DiskStands h s n) where
           let taken = take_entry m.dir m.directory m.slot in
           let put = replace_entry x q (renamed_entry m name) in
           let here : Contains all i = Contains-append_left nodes (j ∷ []) i (in_nodes i (Contains-append_right first second i to)) in
-          finish_ends h s before (dirs ++ j ∷ []) all dirs soles (fewer_segments j y) onto_touched reply.Ok (taken ++ put ++ fewer j y)
-          (
+          finish_ends h s before (dirs ++ j ∷ []) all dirs soles (fewer_segments j y) onto_touched reply.Ok (taken ++ put ++ fewer j y) (
             (
               edited_left h s all (taken ++ put) (fewer j y) (lock.Node m.dir) (edited_left h s all taken put (lock.Node m.dir) (has_head (lock.Node m.dir, Sole) _)),
               (
-                edited_left h s all (taken ++ put) (fewer j y) (lock.Node i) (edited_right h s all taken put (lock.Node i) (place_edited h s all i x q _ _ [] here is inside)),
+                edited_left h s all (taken ++ put) (fewer j y) (lock.Node i) (edited_right h s all taken put (lock.Node i) (place_edited h s all i x q (q % 56) (Some (renamed_entry m name)) [] here is inside)),
                 (edited_right h s all (taken ++ put) (fewer j y) (lock.Node j) (fewer_inode h s all j y), tt),
               ),
             ),
@@ -115,7 +114,7 @@ module _ (h : Hand) (s : Store) (n : Naming) (disk : DiskStands h s n) where
           looked = record { touched = dirs; are = are; held = λ i c. held_left (shared_nodes dirs) (sole_nodes (m.dir ∷ [])) (lock.Node i) (only_held dirs i c) };
           within = within_join (shared_nodes dirs) (sole_nodes (m.dir ∷ [])) (found h s nodes f) (within_shared dirs (found h s nodes f) (touched_found h s before dirs nodes f are))
               (within_nodes (m.dir ∷ []) (found h s nodes f)
-              (edit_found h s nodes f (lock.Node m.dir) (place_edited h s nodes m.dir m.directory m.slot _ _ [] (in_nodes m.dir (Contains-append_left first second m.dir from)) source old), tt));
+              (edit_found h s nodes f (lock.Node m.dir) (place_edited h s nodes m.dir m.directory m.slot (m.slot % 56) (Some (renamed_entry m name)) [] (in_nodes m.dir (Contains-append_left first second m.dir from)) source old), tt));
         }
 
     module _ (i : ℕ) (x : StoredNode) (name : List ℕ) (end : EndIn h s n disk count second i) where
@@ -126,8 +125,7 @@ module _ (h : Hand) (s : Store) (n : Naming) (disk : DiskStands h s n) where
       between_ends room r =
           let there = enter i x (renamed_entry m name) room in
           let taken = take_entry m.dir m.directory m.slot in
-          finish_ends h s before dirs nodes dirs (m.dir ∷ i ∷ []) (room_segments room) between_touched reply.Ok (there ++ taken)
-          (
+          finish_ends h s before dirs nodes dirs (m.dir ∷ i ∷ []) (room_segments room) between_touched reply.Ok (there ++ taken) (
             (edited_right h s nodes there taken (lock.Node m.dir) (has_head (lock.Node m.dir, Sole) _), (edited_left h s nodes there taken (lock.Node i) (enter_node h s nodes i x (renamed_entry m name) room r), tt)),
             segments_left h s nodes there taken (room_segments room) (enter_segments h s nodes i x (renamed_entry m name) room),
           )

@@ -1,11 +1,11 @@
 -- The locks that are found of a line are the line's, over sectors and bitmaps of a disk that stands for a tree.
-use Rattle.std.specs.Prelude.{◌≡◌, ℕ, Bool, List}
+use Rattle.std.specs.Prelude.{◌≡◌, ℕ, Bool, List, filter, map}
 use Rattle.frang_base.specs.declared.op.Op.{Op}
 use Rattle.tree_definitions.specs.Perform.{Goes}
 use Rattle.tree_definitions.specs.Tree.{FileTree}
 use Rattle.sector_bytes.specs.Sectors.{Sectors}
 use Rattle.pick_definitions.specs.Held.{Segments}
-use Rattle.plan_definitions.specs.Ask.{Ask, AtHand, Sector, meet, number_of}
+use Rattle.plan_definitions.specs.Ask.{Ask, AtHand, meet, number_of}
 use Rattle.plan_definitions.specs.Ask.Met.{Has}
 use Rattle.plan_definitions.specs.OnDisk.{AreOfDisk, StandsBelow}
 use Rattle.plan_definitions.specs.Plans.{Finish, Lock, Plan}
@@ -13,7 +13,8 @@ use Rattle.plan_definitions.specs.Plans.Plan.{Clears, Finishes}
 use Rattle.plan_definitions.specs.Written.{Cached, at_hand, hand_of}
 use Rattle.plan_traces.specs.Traces.{traced}
 use Rattle.line_definitions.specs.Lines.{plan_of_line, resolved}
-use Rattle.line_locks.specs.Found.{clear_locks, finish_locks, nodes_of, owns_at_hand}
+use Rattle.core_definitions.specs.Plans.{has_version}
+use Rattle.line_locks.specs.Found.{clear_locks, finish_locks, nodes_in, nodes_of, owns_at_hand}
 use Rattle.line_locks.specs.Same.{AreAlike}
 
 -- the nodes at whose inodes a program looked
@@ -45,3 +46,11 @@ FindsClear cached held all operation program =
 
 abbrev pub ClearLocksAreFound : Type 0
 ClearLocksAreFound = OfEachLine FindsClear
+
+-- the numbers of the sectors at which a line looked tell these nodes, also where those of file bytes are left out
+abbrev pub NumbersTellNodes : Type 0
+NumbersTellNodes =
+    (operation : Op) (cached : Cached) (held : Segments) (all : Bool) (sectors : Sectors) (tree : FileTree) (birth when : ℕ) →
+    AreOfDisk cached held all tree.segments sectors → StandsBelow sectors tree →
+    let looked = (traced (plan_of_line (hand_of cached held all) birth when operation) (at_hand cached held)).looked in
+    (nodes_in tree.segments (map number_of looked) ≡ nodes_of looked) × (nodes_in tree.segments (map number_of (filter has_version looked)) ≡ nodes_of looked)

@@ -4,14 +4,16 @@
 //! stand on the definitions of lines and of sets of locks, and on the laws of lines.
 #![tactic(auto)]
 
-ghost use Rattle.line_locks.specs.Lines.{ClearLocksAreFound, FinishLocksAreFound};
+ghost use Rattle.line_locks.specs.Lines.{ClearLocksAreFound, FinishLocksAreFound, NumbersTellNodes};
 ghost use Rattle.line_locks.specs.Same.{AlikeLocksJoinAlike, AlikeLocksLackAlike, SetsAreAlike};
 
 /// Over sectors and bitmaps of a disk that stands for a tree, each lock of a line that is finished or has a block cleared is among those that are found, in its
-/// mode or sole, and the other way round.
+/// mode or sole, and the other way round. The nodes by whose inodes they are found are told by the numbers of the sectors at which it looked, those of file
+/// bytes left out or not.
 pub fn locks_of_lines_are_found()
     ensures finished { FinishLocksAreFound }
     ensures cleared { ClearLocksAreFound }
+    ensures nodes { NumbersTellNodes }
 {}
 
 /// A set of locks grows alike by such lists, and lacks one of each or none. The set of a list is such a list too.

@@ -1,0 +1,44 @@
+-- The locks that are found are those of a line's plan, over sectors and bitmaps of a disk that stands for a tree.
+use Rattle.std.specs.Prelude.{◌≡◌, ℕ, Bool, List, []}
+use Rattle.frang_base.specs.declared.op.Op.{Op}
+use Rattle.frang_base.specs.declared.reply.Reply.{Reply}
+use Rattle.tree_definitions.specs.Perform.{Goes}
+use Rattle.tree_definitions.specs.Tree.{FileTree}
+use Rattle.sector_bytes.specs.Sectors.{Sectors}
+use Rattle.store_changes.specs.Edits.{Edit}
+use Rattle.pick_definitions.specs.Held.{Segments}
+use Rattle.plan_definitions.specs.Ask.{Ask, meet}
+use Rattle.plan_definitions.specs.Ask.Met.{Has}
+use Rattle.plan_definitions.specs.OnDisk.{AreOfDisk, StandsBelow}
+use Rattle.plan_definitions.specs.Plans.{Lock, Plan}
+use Rattle.plan_definitions.specs.Plans.Plan.{Clears, Finishes}
+use Rattle.plan_definitions.specs.Written.{Cached, at_hand, hand_of}
+use Rattle.line_definitions.specs.Lines.{plan_of_line, resolved}
+use Rattle.core_definitions.specs.Sets.{LockSet, joined_all}
+use Rattle.dir_lookup.specs.declared.hand.Hand.{Hand}
+use Rattle.line_locks.specs.Found.{nodes_in}
+use Rattle.line_locks.specs.Lines.{looked_nodes}
+
+-- so it is of each line that has looked at the nodes of these sectors, by their numbers
+abbrev pub OfEachLine : Cached → Segments → Bool → ℕ → List ℕ → (Op → Ask Plan → Type 0) → Type 0
+OfEachLine cached held all segments looked Law =
+    (operation : Op) (sectors : Sectors) (tree : FileTree) (birth when : ℕ) → tree.segments ≡ segments → AreOfDisk cached held all tree.segments sectors →
+    StandsBelow sectors tree → let program = plan_of_line (hand_of cached held all) birth when operation in
+    nodes_in tree.segments looked ≡ looked_nodes program (at_hand cached held) → Law operation program
+
+-- it is finished with this reply and these edits, and needs these locks
+abbrev pub FinishIsNeeded : Hand → ℕ → List ℕ → Reply → List Edit → LockSet → Type 0
+FinishIsNeeded hand segments looked reply edits set =
+    OfEachLine hand.sectors.now.entries hand.held.now hand.all segments looked
+    (λ operation program.
+    ((locks : List Lock) → meet program (at_hand hand.sectors.now.entries hand.held.now) ≡ Has (Finishes (record { reply = reply; edits = edits; locks = locks })) →
+    set ≡ joined_all [] locks))
+
+-- its walks come to this operation over paths without links, and it has this block cleared under these locks
+abbrev pub ClearIsNeeded : ℕ → List ℕ → Op → ℕ → LockSet → Type 0
+ClearIsNeeded segments looked over block set =
+    (cached : Cached) (held : Segments) (all : Bool) →
+    OfEachLine cached held all segments looked
+    (λ operation program.
+    ((trail : List ℕ) (locks : List Lock) → meet (resolved operation) (at_hand cached held) ≡ Has (record { step = Goes over; trail = trail }) →
+    meet program (at_hand cached held) ≡ Has (Clears block locks) → set ≡ joined_all [] locks))

@@ -1,0 +1,18 @@
+-- What the code's sectors are, with their versions.
+use Rattle.std.specs.Prelude.{ℕ, List, map}
+use Rattle.frang_base.specs.declared.sector.Sector.{Sector}
+use Rattle.core_definitions.specs.Lines.{Comparison, HasMoved, HasStopped, HasGoneThrough, Seen}
+use Rattle.plan_locks.specs.declared.seen.Comparison.{Comparison as CodeComparison}
+use Rattle.plan_locks.specs.declared.seen.Comparison.TheVariants as comparison
+
+-- the numbers of sectors
+abbrev pub numbers : List Sector → List ℕ
+numbers sectors = map (λ (sector : Sector). sector.0) sectors
+
+abbrev pub seen_as : List (Sector × ℕ) → Seen
+seen_as sectors = map (λ (one : Sector × ℕ). (one.0.0, one.1)) sectors
+
+abbrev pub comparison_of : CodeComparison → Comparison
+comparison_of comparison.HasMoved = HasMoved
+comparison_of comparison.HasStopped = HasStopped
+comparison_of comparison.HasGoneThrough = HasGoneThrough

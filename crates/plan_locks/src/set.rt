@@ -1,0 +1,86 @@
+// Sets of locks.
+ghost use Rattle.std.specs.Prelude.{◌≡◌, [], OnOk};
+ghost use Rattle.core_definitions.specs.Sets.{joined, lacks, mode_in, with_mode};
+ghost use Rattle.lock_definitions.specs.Calls.{serves};
+
+use frang_base::{LockId, Mode, NoMemory};
+use std::alloc::Global;
+use std::collections::BTreeMap;
+use std::marker::Model;
+
+/// Locks with the modes in which they are needed, each once, seen as the list of them, ascending. A lock is found in time logarithmic in their number.
+#[derive(Debug, Drop)]
+pub struct LockSet {
+    locks: BTreeMap<LockId, Mode>,
+}
+
+impl Model for LockSet {
+    ghost use Rattle.std.specs.Prelude.{List};
+    ghost use Rattle.std.specs.List.Sorted.{IsStrictlySortedBy};
+    ghost use Rattle.std.specs.Map.{keys_of};
+    ghost use Rattle.frang_base.specs.declared.lock.LockId.{LockId};
+    ghost use Rattle.frang_base.specs.declared.lock.Mode.{Mode};
+    ghost use Rattle.lock_definitions.specs.Order.{lock_cmp};
+
+    ghost Value = { List (LockId × Mode) };
+
+    ghost view = { λ set. set.locks.entries };
+
+    ghost invariant = { λ set. IsStrictlySortedBy lock_cmp (keys_of set.locks.entries) };
+}
+
+impl LockSet {
+    /// No locks. It takes no memory.
+    pub fn new(alloc: Global) -> Self
+        ensures { result ≡ [] }
+    {
+        LockSet {
+            locks: BTreeMap::new(alloc),
+        }
+    }
+
+    /// The mode in which it has a lock. `None` exactly where it hasn't the lock.
+    pub fn mode(&self, lock: LockId) -> Option<Mode>
+        ensures { result ≡ mode_in self.now lock }
+    {
+        self.locks.get(&lock).copied()
+    }
+
+    /// Whether it lacks a lock in this mode. A set that has it sole doesn't lack it shared.
+    pub fn lacks(&self, lock: LockId, mode: Mode) -> bool
+        ensures { result ≡ lacks self.now (lock, mode) }
+    {
+        !serves(self.mode(lock), mode)
+    }
+
+    /// A lock joins it, sole where both modes are needed. Its one refusal is want of memory.
+    pub fn join(&mut self, lock: LockId, mode: Mode) -> Result<(), NoMemory>
+        ensures { OnOk result (self.new ≡ joined self.old (lock, mode)) }
+    {
+        let needed = with_mode(self.mode(lock), mode);
+        let _ = self.locks.insert(lock, needed)?;
+        Ok(())
+    }
+}
+
+// A lock held so serves one who wants it so.
+fn serves(held: Option<Mode>, mode: Mode) -> bool
+    ensures { result ≡ serves held mode }
+{
+    match held {
+        None => false,
+        Some(Mode::Sole) => true,
+        Some(Mode::Shared) => mode == Mode::Shared,
+    }
+}
+
+// The mode in which a lock is needed that was needed so before.
+fn with_mode(before: Option<Mode>, mode: Mode) -> Mode
+    ensures { result ≡ with_mode before mode }
+{
+    match before {
+        Some(Mode::Sole) => Mode::Sole,
+        Some(Mode::Shared) => mode,
+        None => mode,
+    }
+}
