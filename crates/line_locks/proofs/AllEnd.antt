@@ -1,5 +1,5 @@
 -- The plan of every operation ends with the locks that are found, over the disk of a tree.
-use Rattle.std.proofs.Common.{ℕ, ◌-◌, ◌==◌, Bool, List, [], length, slice_index, if◌then◌else◌, sym}
+use Rattle.std.proofs.Common.{ℕ, ◌-◌, ◌==◌, Bool, false, List, [], length, slice_index, if◌then◌else◌, sym}
 use Rattle.std.proofs.lemmas.List.{append-nil}
 use Rattle.frang_base.specs.declared.op.Op.{Op}
 use Rattle.frang_base.specs.declared.op.Op.TheVariants as op

@@ -75,6 +75,19 @@ module _ (h : Hand) (s : Store) (nodes : List ℕ) where
   pub edited_later : (e : Edit) (edits : List Edit) (l : LockId) → IsEdited edits l → IsEdited (e ∷ edits) l
   edited_later e edits l i = sole_right (edit_locks_of (owns h s) nodes e) (edit_locks (owns h s) nodes edits) l i
 
+  -- the first edits of a list, whatever the others are
+  pub node_first : (edits : List Edit) (i : ℕ) (v : Option StoredNode) (d : Bool) (rest : List Edit) → edits ≡ SetInode i v d ∷ rest → IsEdited edits (lock.Node i)
+  node_first edits i v d rest e = subst (λ l. IsEdited l (lock.Node i)) (sym e) (inode_edited i v d rest)
+
+  pub bit_second : (edits : List Edit) (i : ℕ) (v : Option StoredNode) (d b : Bool) (rest : List Edit) → edits ≡ SetInode i v d ∷ SetBit i b ∷ rest → IsEdited edits (lock.Segment (i / 64))
+  bit_second edits i v d b rest e = subst (λ l. IsEdited l (lock.Segment (i / 64))) (sym e) (edited_later (SetInode i v d) (SetBit i b ∷ rest) (lock.Segment (i / 64)) (bit_edited i b rest))
+
+  use_first : (edits : List Edit) (k : ℕ) (u : Use) (rest : List Edit) → edits ≡ SetUse k u ∷ rest → IsEdited edits (lock.Segment (k / 1024))
+  use_first edits k u rest e = subst (λ l. IsEdited l (lock.Segment (k / 1024))) (sym e) (use_edited k u rest)
+
+  node_second : (edits : List Edit) (k : ℕ) (u : Use) (i : ℕ) (v : Option StoredNode) (d : Bool) (rest : List Edit) → edits ≡ SetUse k u ∷ SetInode i v d ∷ rest → IsEdited edits (lock.Node i)
+  node_second edits k u i v d rest e = subst (λ l. IsEdited l (lock.Node i)) (sym e) (edited_later (SetUse k u) (SetInode i v d ∷ rest) (lock.Node i) (inode_edited i v d rest))
+
   pub edited_right : (es fs : List Edit) (l : LockId) → IsEdited fs l → IsEdited (es ++ fs) l
   edited_right [] fs l i = i
   edited_right (e ∷ es) fs l i = edited_later e (es ++ fs) l (edited_right es fs l i)
@@ -105,13 +118,13 @@ module _ (h : Hand) (s : Store) (nodes : List ℕ) where
   -- ---- a room
 
   pub enter_node : (i : ℕ) (x : StoredNode) (e : StoredEntry) (room : Room) → IsRoom room → IsEdited (enter i x e room) (lock.Node i)
-  enter_node i x e (Inside q) t = has_head (lock.Node i, Sole) _
-  enter_node i x e (InBlock k) t = has_more (lock.Segment (k / 1024), Sole) (lock.Node i, Sole) _ (has_head (lock.Node i, Sole) _)
+  enter_node i x e (Inside q) t = node_first (enter i x e (Inside q)) i _ _ _ refl
+  enter_node i x e (InBlock k) t = node_second (enter i x e (InBlock k)) k _ i _ _ _ refl
   enter_node i x e NoRoom t = absurd t
 
   pub enter_segments : (i : ℕ) (x : StoredNode) (e : StoredEntry) (room : Room) → Segments (enter i x e room) (room_segments room)
   enter_segments i x e (Inside q) = tt
-  enter_segments i x e (InBlock k) = (has_head (lock.Segment (k / 1024), Sole) _, tt)
+  enter_segments i x e (InBlock k) = (use_first (enter i x e (InBlock k)) k _ _ refl, tt)
   enter_segments i x e NoRoom = tt
 
   -- ---- a node that loses a link
@@ -161,4 +174,4 @@ module _ (h : Hand) (s : Store) (nodes : List ℕ) where
     where
       go : (b : Bool) → IsEdited (if b then drop_node j y else relink j y (y.links - 1)) (lock.Node j)
       go true = drop_inode j y
-      go false = has_head (lock.Node j, Sole) _
+      go false = node_first (relink j y (y.links - 1)) j _ _ _ refl

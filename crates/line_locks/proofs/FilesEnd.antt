@@ -27,7 +27,7 @@ use Rattle.plan_laws.proofs.Covering.{has_head}
 use Rattle.plan_covers.proofs.Standing.{HasKind, DiskStands}
 use Rattle.plan_covers.proofs.WalksFine.{SpotStands}
 use Rattle.line_locks.proofs.Alike.{all_join}
-use Rattle.line_locks.proofs.Edited.{IsEdited, Segments, edited_left, edited_right, segments_left, segments_right, edited_later}
+use Rattle.line_locks.proofs.Edited.{IsEdited, Segments, edited_left, edited_right, segments_left, segments_right, edited_later, inode_edited, large_edited, use_edited}
 use Rattle.line_locks.proofs.Ending.{Ends}
 use Rattle.line_locks.proofs.PlansEnd.{AreTouched, FinishEnds, PlanEnds, finish_ends, held_ends, none_ends, over_ends, refuse_ends}
 use Rattle.line_locks.proofs.WalksEnd.{walk_then}
@@ -40,15 +40,15 @@ module _ (h : Hand) (s : Store) (nodes : List ℕ) where
 
   pub uses_edited : (u : Use) (ks : List ℕ) → Segments h s nodes (map (λ k. SetUse k u) ks) (map (λ k. k / 1024) ks)
   uses_edited u [] = tt
-  uses_edited u (k ∷ ks) = (has_head (lock.Segment (k / 1024), Sole) _, segments_later (SetUse k u) (map (λ k. SetUse k u) ks) (map (λ k. k / 1024) ks) (uses_edited u ks))
+  uses_edited u (k ∷ ks) = (use_edited h s nodes k u (map (λ k. SetUse k u) ks), segments_later (SetUse k u) (map (λ k. SetUse k u) ks) (map (λ k. k / 1024) ks) (uses_edited u ks))
 
   pub larges_edited : (b : Bool) (gs : List ℕ) → Segments h s nodes (map (λ g. SetLarge g b) gs) gs
   larges_edited b [] = tt
-  larges_edited b (g ∷ gs) = (has_head (lock.Segment g, Sole) _, segments_later (SetLarge g b) (map (λ g. SetLarge g b) gs) gs (larges_edited b gs))
+  larges_edited b (g ∷ gs) = (large_edited h s nodes g b (map (λ g. SetLarge g b) gs), segments_later (SetLarge g b) (map (λ g. SetLarge g b) gs) gs (larges_edited b gs))
 
   pub taken_edited : (o : Option ℕ) → Segments h s nodes (large_taken o) (large_segment o)
   taken_edited None = tt
-  taken_edited (Some g) = (has_head (lock.Segment g, Sole) _, tt)
+  taken_edited (Some g) = (large_edited h s nodes g true [], tt)
 
 module _ (h : Hand) (s : Store) (n : Naming) (disk : DiskStands h s n) (back : ℕ) (made : Bool) (before : List ℕ) where
   abbrev End : List ℕ → Plan → Type 0
@@ -111,7 +111,7 @@ module _ (h : Hand) (s : Store) (n : Naming) (disk : DiskStands h s n) (back : �
           let smalls = map (λ k. k / 1024) picks in
           let edits = uses ++ large ++ dated ++ bytes in
           finish_ends h s before touched nodes touched (i ∷ []) (smalls ++ large_segment o) (all_touched touched nodes i e) reply.Ok edits (
-            (edited_left h s nodes (uses ++ large ++ dated) bytes (lock.Node i) (edited_right h s nodes (uses ++ large) dated (lock.Node i) (has_head (lock.Node i, Sole) _)), tt),
+            (edited_left h s nodes (uses ++ large ++ dated) bytes (lock.Node i) (edited_right h s nodes (uses ++ large) dated (lock.Node i) (inode_edited h s nodes i (Some y) true [])), tt),
             all_join (λ k. IsEdited h s nodes edits (lock.Segment k)) smalls (large_segment o)
                 (segments_left h s nodes (uses ++ large ++ dated) bytes smalls (segments_left h s nodes (uses ++ large) dated smalls (segments_left h s nodes uses large smalls (uses_edited h s nodes Bytes picks))))
                 (segments_left h s nodes (uses ++ large ++ dated) bytes (large_segment o) (segments_left h s nodes (uses ++ large) dated (large_segment o) (segments_right h s nodes uses large (large_segment o) (taken_edited h s nodes o)))),
@@ -171,7 +171,7 @@ module _ (h : Hand) (s : Store) (n : Naming) (disk : DiskStands h s n) (back : �
         let smalls = map (λ k. k / 1024) blocks in
         let edits = uses ++ large ++ dated in
         finish_ends h s before touched nodes touched (i ∷ []) (smalls ++ large_cut x len) (all_touched touched nodes i e) reply.Ok edits (
-          (edited_right h s nodes (uses ++ large) dated (lock.Node i) (has_head (lock.Node i, Sole) _), tt),
+          (edited_right h s nodes (uses ++ large) dated (lock.Node i) (inode_edited h s nodes i (Some (resized x when len [] None)) true []), tt),
           all_join (λ k. IsEdited h s nodes edits (lock.Segment k)) smalls (large_cut x len) (segments_left h s nodes (uses ++ large) dated smalls (segments_left h s nodes uses large smalls (uses_edited h s nodes Fresh blocks)))
               (segments_left h s nodes (uses ++ large) dated (large_cut x len) (segments_right h s nodes uses large (large_cut x len) (larges_edited h s nodes false (large_cut x len)))),
         )

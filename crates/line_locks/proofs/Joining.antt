@@ -214,11 +214,11 @@ lacks_one set others l Sole h e = any_has (lacks set) others (l, Sole) h e
 
 lacks_all : (set : LockSet) (locks others : List Lock) → AreWithin locks others → list_any (lacks set) locks ≡ true → list_any (lacks set) others ≡ true
 lacks_all set [] others w e = absurd (cc)
-lacks_all set (x ∷ locks) others w e = go (lacks set x) refl e
+lacks_all set (x ∷ locks) others w e = go (lacks set x) refl (lacks_all set locks others w.1) e
   where
-    go : (b : Bool) → lacks set x ≡ b → (b || list_any (lacks set) locks) ≡ true → list_any (lacks set) others ≡ true
-    go true q e = lacks_one set others x.0 x.1 w.0 q
-    go false q e = lacks_all set locks others w.1 e
+    go : (b : Bool) → lacks set x ≡ b → (list_any (lacks set) locks ≡ true → list_any (lacks set) others ≡ true) → (b || list_any (lacks set) locks) ≡ true → list_any (lacks set) others ≡ true
+    go true q rest e = lacks_one set others x.0 x.1 w.0 q
+    go false q rest e = rest e
 
 both_ways : (a b : Bool) → (a ≡ true → b ≡ true) → (b ≡ true → a ≡ true) → a ≡ b
 both_ways true b f g = sym (f refl)

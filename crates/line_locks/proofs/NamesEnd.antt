@@ -1,5 +1,5 @@
 -- The plans of the operations on names but rename end with the locks that are found.
-use Rattle.std.proofs.Common.{ℕ, ◌≡◌, ◌<◌, ◌*◌, ◌/◌, ◌==◌, inl, inr, ⊎_elim, Bool, true, false, nat_le, nat_lt, if◌then◌else◌, Option, Some, None, List, [], ◌∷◌, ◌++◌, refl, sym, ap, ◌∙◌, subst}
+use Rattle.std.proofs.Common.{ℕ, ◌≡◌, ◌<◌, ◌+◌, ◌-◌, ◌*◌, ◌/◌, ◌==◌, inl, inr, ⊎_elim, Bool, true, false, nat_le, nat_lt, if◌then◌else◌, Option, Some, None, List, [], ◌∷◌, ◌++◌, refl, sym, ap, ◌∙◌, subst}
 use Rattle.std.proofs.lemmas.List.{append_assoc}
 use Rattle.std.proofs.lemmas.List.Elements.{Contains-append_left, Contains-append_right}
 use Rattle.std.specs.List.{Contains}
@@ -23,7 +23,7 @@ use Rattle.plan_laws.proofs.Covering.{has_head, has_more}
 use Rattle.plan_covers.proofs.Standing.{HasKind, DiskStands}
 use Rattle.plan_covers.proofs.WalksFine.{either, SpotStands}
 use Rattle.line_locks.specs.Found.{from_end}
-use Rattle.line_locks.proofs.Edited.{IsEdited, IsRoom, edited_left, edited_right, segments_right, enter_node, enter_segments, fewer_inode, fewer_segments_edited}
+use Rattle.line_locks.proofs.Edited.{IsEdited, IsRoom, bit_second, edited_left, edited_right, node_first, segments_right, enter_node, enter_segments, fewer_inode, fewer_segments_edited}
 use Rattle.line_locks.proofs.Ending.{Ends}
 use Rattle.line_locks.proofs.PlansEnd.{AreEdited, AreTouched, FinishEnds, PlanEnds, block_ends, clear_ends, finish_ends, from_end_is, held_ends, last_of, none_ends, over_ends, refuse_ends}
 use Rattle.line_locks.proofs.WalksEnd.{EndIn, SpotEnds, WalkIs, room_then, walk_then}
@@ -65,9 +65,9 @@ module _ (h : Hand) (s : Store) (n : Naming) (disk : DiskStands h s n) where
         let there = enter i x entry room in
         let all = nodes ++ j ∷ [] in
         finish_ends h s before (dirs ++ j ∷ []) all dirs (i ∷ j ∷ []) ((j / 64) ∷ room_segments room) (node_touched before dirs nodes i j e) reply.Ok (new ++ there) (
-          (edited_right h s all new there (lock.Node i) (enter_node h s all i x entry room r), (edited_left h s all new there (lock.Node j) (has_head (lock.Node j, Sole) _), tt)),
+          (edited_right h s all new there (lock.Node i) (enter_node h s all i x entry room r), (edited_left h s all new there (lock.Node j) (node_first h s all new j _ _ _ refl), tt)),
           (
-            edited_left h s all new there (lock.Segment (j / 64)) (has_more (lock.Node j, Sole) (lock.Segment (j / 64), Sole) _ (has_head (lock.Segment (j / 64), Sole) _)),
+            edited_left h s all new there (lock.Segment (j / 64)) (bit_second h s all new j _ _ _ _ refl),
             segments_right h s all new there (room_segments room) (enter_segments h s all i x entry room),
           ),
         )
@@ -114,7 +114,7 @@ module _ (h : Hand) (s : Store) (n : Naming) (disk : DiskStands h s n) where
         let new = relink j y (y.links + 1) in
         let there = enter i x entry room in
         finish_ends h s before (dirs ++ j ∷ []) all dirs (i ∷ j ∷ []) (room_segments room) (node_touched before dirs nodes i j e) reply.Ok (new ++ there) (
-          (edited_right h s all new there (lock.Node i) (enter_node h s all i x entry room r), (edited_left h s all new there (lock.Node j) (has_head (lock.Node j, Sole) _), tt)),
+          (edited_right h s all new there (lock.Node i) (enter_node h s all i x entry room r), (edited_left h s all new there (lock.Node j) (node_first h s all new j _ _ _ refl), tt)),
           segments_right h s all new there (room_segments room) (enter_segments h s all i x entry room),
         )
 
@@ -177,7 +177,7 @@ module _ (h : Hand) (s : Store) (n : Naming) (disk : DiskStands h s n) where
           let taken = take_entry i x q in
           over_ends h s back made before all (fewer_segments j y) (removed_by i x q j y dirs)
           (finish_ends h s before (dirs ++ j ∷ []) all dirs (i ∷ j ∷ []) (fewer_segments j y) (node_touched before dirs (before ++ dirs) i j refl) reply.Ok (taken ++ fewer j y) (
-            (edited_left h s all taken (fewer j y) (lock.Node i) (has_head (lock.Node i, Sole) _), (edited_right h s all taken (fewer j y) (lock.Node j) (fewer_inode h s all j y), tt)),
+            (edited_left h s all taken (fewer j y) (lock.Node i) (node_first h s all taken i _ _ _ refl), (edited_right h s all taken (fewer j y) (lock.Node j) (fewer_inode h s all j y), tt)),
             segments_right h s all taken (fewer j y) (fewer_segments j y) (fewer_segments_edited h s all j y),
           ))
 

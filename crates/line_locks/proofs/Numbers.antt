@@ -6,24 +6,30 @@ use Rattle.std.specs.List.{Contains}
 use Rattle.frang_base.proofs.Basics.{of_lt}
 use Rattle.frang_base.specs.declared.bitmap.Bitmap.{Bitmap}
 use Rattle.frang_base.specs.declared.op.Op.{Op}
+use Rattle.frang_base.specs.declared.op.Op.TheVariants as op
 use Rattle.tree_definitions.specs.Tree.{FileTree}
 use Rattle.sector_bytes.specs.Sectors.{Sectors}
+use Rattle.disk_definitions.specs.Store.{store_of}
 use Rattle.sector_definitions.specs.declared.region.Region.{Region}
 use Rattle.sector_definitions.specs.declared.region.Region.TheVariants as region
 use Rattle.sector_definitions.specs.Regions.{bitmaps_from, inodes_from, region_of, small_blocks_from, large_blocks_from, large_stride}
 use Rattle.sector_definitions.proofs.RegionLaws.{region_found, region_read}
 use Rattle.pick_definitions.specs.Held.{Segments, bitmap_of}
-use Rattle.plan_definitions.specs.Ask.{Sector, InodeAt, DirectoryAt, SegmentAt, BytesAt, LargeAt, Ask, number_of}
+use Rattle.plan_definitions.specs.Ask.{Sector, InodeAt, DirectoryAt, SegmentAt, BytesAt, LargeAt, Ask, looks, number_of}
+use Rattle.plan_definitions.specs.Missing.{is_at_hand}
 use Rattle.plan_definitions.specs.OnDisk.{AreOfDisk, StandsBelow}
 use Rattle.plan_definitions.specs.Plans.{Plan}
 use Rattle.plan_definitions.specs.Written.{Cached, at_hand, hand_of, is_held}
 use Rattle.plan_laws.proofs.Covering.{has_head, has_more}
 use Rattle.plan_looks.specs.Inside.{AreInside}
+use Rattle.plan_standing.proofs.Edited.{hand}
 use Rattle.plan_standing.proofs.OfDisk.{of_tree}
 use Rattle.plan_traces.specs.Traces.{traced}
 use Rattle.plan_traces.proofs.Traces.{traced_is_at_hand}
 use Rattle.line_definitions.specs.Lines.{plan_of_line}
-use Rattle.line_traces.proofs.Lines.{looked_inside}
+use Rattle.line_laws.proofs.Inside.{lines_inside}
+use Rattle.line_traces.proofs.Lines.{follows_disk}
+use Rattle.line_traces.proofs.Looked.{inside_first}
 use Rattle.core_definitions.specs.Plans.{has_version}
 use Rattle.line_locks.specs.Found.{nodes_in, nodes_of, with_node, with_node_in}
 use Rattle.line_locks.specs.Lines.{NumbersTellNodes}
@@ -100,7 +106,11 @@ pub numbers_tell : NumbersTellNodes
 numbers_tell o cached held all sectors tree birth when of below =
     let p = plan_of_line (hand_of cached held all) birth when o in
     let xs = (traced p (at_hand cached held)).looked in
-    let few = (of_tree sectors tree below).few in
-    let inside = looked_inside o cached held all sectors tree birth when of below in
+    let s = store_of tree.segments sectors in
+    let is_of = of_tree sectors tree below in
+    let is_hand = hand op.Sync cached held all sectors tree birth when of below in
+    let few = is_of.few in
+    let inside = subst (AreInside tree.segments) (sym (follows_disk o cached held all sectors tree birth when of below))
+    (inside_first tree.segments (is_at_hand (at_hand cached held)) (looks p s) (lines_inside o (hand_of cached held all) s tree below.stands.naming birth when is_of is_hand)) in
     let segments : (k : ℕ) → Contains xs (SegmentAt k) → k < tree.segments = λ k c. (let b = held_there held k ((traced_is_at_hand p (at_hand cached held) (SegmentAt k)).0 c) in (of.as_held k b.0 b.1).0) in
     (all_tell tree.segments few xs [] inside segments, versioned_tell tree.segments few xs [] inside segments)

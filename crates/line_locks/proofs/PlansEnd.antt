@@ -38,6 +38,12 @@ from_end_is xs ys a back e = ap (slice_index (xs ++ a ∷ ys)) at ∙ get_or-app
 pub last_of : (xs dirs front : List ℕ) (i : ℕ) → dirs ≡ front ++ i ∷ [] → xs ++ dirs ≡ xs ++ front ++ i ∷ []
 last_of xs dirs front i e = ap (λ l. xs ++ l) e ∙ sym (append_assoc xs front (i ∷ []))
 
+-- the nodes that were touched are these directories, and some of the nodes that are held alone
+pub record AreTouched (before touched nodes dirs soles : List ℕ) : Type 0 where
+  pub are : nodes ≡ before ++ touched
+  pub dirs_in : (i : ℕ) → Contains dirs i → Contains touched i
+  pub one_of : (i : ℕ) → Contains touched i → Contains dirs i ⊎ Contains soles i
+
 module _ (h : Hand) (s : Store) where
   -- the node of this inode has the small block
   abbrev pub owns : ℕ → ℕ → Bool
@@ -123,12 +129,6 @@ module _ (h : Hand) (s : Store) where
   abbrev pub AreEdited : List ℕ → List Edit → List ℕ → List ℕ → Type 0
   AreEdited nodes edits soles segments =
       AllByRecursion (λ i. IsSole (edit_locks owns nodes edits) (lock.Node i)) soles × AllByRecursion (λ k. IsSole (edit_locks owns nodes edits) (lock.Segment k)) segments
-
-  -- the nodes that were touched are these directories, and some of the nodes that are held alone
-  pub record AreTouched (before touched nodes dirs soles : List ℕ) : Type 0 where
-    pub are : nodes ≡ before ++ touched
-    pub dirs_in : (i : ℕ) → Contains dirs i → Contains touched i
-    pub one_of : (i : ℕ) → Contains touched i → Contains dirs i ⊎ Contains soles i
 
   module _ (before touched nodes dirs soles segments : List ℕ) (t : AreTouched before touched nodes dirs soles) where
     abbrev made_locks : List Lock

@@ -23,7 +23,7 @@ use Rattle.plan_covers.proofs.Standing.{HasKind, DiskStands}
 use Rattle.plan_covers.proofs.WalksFine.{either, SpotStands}
 use Rattle.line_locks.specs.Found.{from_end}
 use Rattle.line_locks.proofs.Alike.{held_left, within_join, within_nodes, within_shared}
-use Rattle.line_locks.proofs.Edited.{IsEdited, IsRoom, edited_left, edited_right, segments_left, segments_right, place_edited, enter_node, enter_segments, fewer_inode, fewer_segments_edited}
+use Rattle.line_locks.proofs.Edited.{IsEdited, IsRoom, edited_left, edited_right, node_first, segments_left, segments_right, place_edited, enter_node, enter_segments, fewer_inode, fewer_segments_edited}
 use Rattle.line_locks.proofs.Ending.{Ends}
 use Rattle.line_locks.proofs.NamesEnd.{LastIs, last_is, read_are}
 use Rattle.line_locks.proofs.PlansEnd.{AreTouched, FinishEnds, PlanEnds, block_ends, clear_ends, edit_found, finish_ends, found, from_end_is, none_ends, over_ends, refuse_ends, touched_found}
@@ -80,7 +80,7 @@ module _ (h : Hand) (s : Store) (n : Naming) (disk : DiskStands h s n) where
           let here : Contains all i = Contains-append_left nodes (j ∷ []) i (in_nodes i (Contains-append_right first second i to)) in
           finish_ends h s before (dirs ++ j ∷ []) all dirs soles (fewer_segments j y) onto_touched reply.Ok (taken ++ put ++ fewer j y) (
             (
-              edited_left h s all (taken ++ put) (fewer j y) (lock.Node m.dir) (edited_left h s all taken put (lock.Node m.dir) (has_head (lock.Node m.dir, Sole) _)),
+              edited_left h s all (taken ++ put) (fewer j y) (lock.Node m.dir) (edited_left h s all taken put (lock.Node m.dir) (node_first h s all taken m.dir _ _ _ refl)),
               (
                 edited_left h s all (taken ++ put) (fewer j y) (lock.Node i) (edited_right h s all taken put (lock.Node i) (place_edited h s all i x q (q % 56) (Some (renamed_entry m name)) [] here is inside)),
                 (edited_right h s all (taken ++ put) (fewer j y) (lock.Node j) (fewer_inode h s all j y), tt),
@@ -126,7 +126,7 @@ module _ (h : Hand) (s : Store) (n : Naming) (disk : DiskStands h s n) where
           let there = enter i x (renamed_entry m name) room in
           let taken = take_entry m.dir m.directory m.slot in
           finish_ends h s before dirs nodes dirs (m.dir ∷ i ∷ []) (room_segments room) between_touched reply.Ok (there ++ taken) (
-            (edited_right h s nodes there taken (lock.Node m.dir) (has_head (lock.Node m.dir, Sole) _), (edited_left h s nodes there taken (lock.Node i) (enter_node h s nodes i x (renamed_entry m name) room r), tt)),
+            (edited_right h s nodes there taken (lock.Node m.dir) (node_first h s nodes taken m.dir _ _ _ refl), (edited_left h s nodes there taken (lock.Node i) (enter_node h s nodes i x (renamed_entry m name) room r), tt)),
             segments_left h s nodes there taken (room_segments room) (enter_segments h s nodes i x (renamed_entry m name) room),
           )
 

@@ -53,7 +53,7 @@ owns_at_hand cached inode block = has_small block (inode_at_hand cached inode)
 -- what an edit is under: a name in a block is under its directory, one of the nodes that were looked at; the bytes of a file are under the file, whose inode
 -- is edited too
 abbrev pub edit_locks_of : (ℕ → ℕ → Bool) → List ℕ → Edit → List Lock
-edit_locks_of owns nodes (SetInode inode node dated) = sole_nodes (inode ∷ [])
+edit_locks_of owns nodes (SetInode inode stored_node dated) = sole_nodes (inode ∷ [])
 edit_locks_of owns nodes (SetBit inode used) = sole_segments ((inode / SEGMENT_INODES) ∷ [])
 edit_locks_of owns nodes (SetUse block state) = sole_segments ((block / SEGMENT_BLOCKS) ∷ [])
 edit_locks_of owns nodes (SetPlace block slot entry) = sole_nodes (filter (λ inode. owns inode block) nodes)
