@@ -25,6 +25,7 @@ pub(crate) fn join_nodes(set: &mut LockSet, nodes: &[u32]) -> Result<(), NoMemor
 }
 
 /// The locks of edits join a set, where these nodes were looked at.
+#[tactic(auto, using(crate::proofs::Joined::joined_two))]
 pub(crate) fn join_edits(
     set: &mut LockSet,
     sectors: &Sectors,

@@ -35,6 +35,7 @@ pub fn locks_of_finish(
     finish_set(alloc, hand, segments, looked, reply, edits)
 }
 
+#[tactic(auto, using(crate::proofs::Joined::joined_two, crate::proofs::Joined::joined_three))]
 fn finish_set(
     alloc: Global,
     hand: &Hand,
@@ -70,6 +71,7 @@ pub fn locks_of_clear(
     clear_set(alloc, segments, looked, over, block)
 }
 
+#[tactic(auto, using(crate::proofs::Joined::joined_two, crate::proofs::Joined::joined_three))]
 fn clear_set(
     alloc: Global,
     segments: u32,

@@ -4,7 +4,7 @@ ghost use Rattle.std.specs.Option.{option_map, unwrap_or};
 ghost use Rattle.sector_bytes.specs.Blocks.{version_of};
 ghost use Rattle.sector_bytes.specs.SectorMaps.{value_at};
 ghost use Rattle.core_definitions.specs.Lines.{compared, is_seen, seen_more, with_seen};
-ghost use Rattle.plan_locks.specs.Seen.{comparison_of, numbers};
+ghost use Rattle.plan_locks.specs.Seen.{comparison_of, numbers, seen_as};
 
 use byteorder::{ByteOrder, LittleEndian};
 use frang_base::{Block, NoMemory, Sector};
@@ -52,12 +52,7 @@ impl Seen {
     pub fn has(&self, sector: Sector) -> bool
         ensures { result ≡ is_seen self.now sector.0 }
     {
-        for (seen, _) in &self.sectors {
-            if seen.0 == sector.0 {
-                return true;
-            }
-        }
-        false
+        is_among(&self.sectors, sector)
     }
 
     /// A sector is seen, behind the others, with its cached version, where it isn't seen yet.
@@ -85,18 +80,37 @@ impl Seen {
     pub fn compare(&self, sectors: &Sectors) -> Comparison
         ensures { comparison_of result ≡ compared self.now sectors.now.entries }
     {
-        for (sector, version) in &self.sectors {
-            match sectors.get(*sector) {
-                Some(block) => {
-                    if version_of(block) != *version {
-                        return Comparison::HasMoved;
-                    }
-                }
-                None => return Comparison::HasStopped,
-            }
-        }
-        Comparison::HasGoneThrough
+        compared(&self.sectors, sectors)
     }
+}
+
+// Whether a sector is one of these.
+fn is_among(seen: &[(Sector, u64)], sector: Sector) -> bool
+    ensures { result ≡ is_seen (seen_as seen.now) sector.0 }
+{
+    for one in seen {
+        if one.0.0 == sector.0 {
+            return true;
+        }
+    }
+    false
+}
+
+// The cached sectors against these.
+fn compared(seen: &[(Sector, u64)], sectors: &Sectors) -> Comparison
+    ensures { comparison_of result ≡ compared (seen_as seen.now) sectors.now.entries }
+{
+    for one in seen {
+        match sectors.get(one.0) {
+            Some(block) => {
+                if version_of(block) != one.1 {
+                    return Comparison::HasMoved;
+                }
+            }
+            None => return Comparison::HasStopped,
+        }
+    }
+    Comparison::HasGoneThrough
 }
 
 // The version of a cached sector; 0 where it isn't cached.

@@ -1,5 +1,7 @@
 // Sets of locks.
 ghost use Rattle.std.specs.Prelude.{◌≡◌, [], OnOk};
+ghost use Rattle.std.specs.BTreeMap.{insert_entry};
+ghost use Rattle.lock_definitions.specs.Order.{lock_cmp};
 ghost use Rattle.core_definitions.specs.Sets.{joined, lacks, mode_in, with_mode};
 ghost use Rattle.lock_definitions.specs.Calls.{serves};
 
@@ -57,8 +59,22 @@ impl LockSet {
     pub fn join(&mut self, lock: LockId, mode: Mode) -> Result<(), NoMemory>
         ensures { OnOk result (self.new ≡ joined self.old (lock, mode)) }
     {
-        let needed = with_mode(self.mode(lock), mode);
-        let _ = self.locks.insert(lock, needed)?;
+        let needed = self.needed(lock, mode);
+        self.put(lock, needed)
+    }
+
+    // The mode in which a lock is needed that is needed so beside what is needed already.
+    fn needed(&self, lock: LockId, mode: Mode) -> Mode
+        ensures { result ≡ with_mode (mode_in self.now lock) mode }
+    {
+        with_mode(self.mode(lock), mode)
+    }
+
+    // It has the lock in this mode.
+    fn put(&mut self, lock: LockId, mode: Mode) -> Result<(), NoMemory>
+        ensures { OnOk result (self.new ≡ insert_entry lock_cmp self.old lock mode) }
+    {
+        let _ = self.locks.insert(lock, mode)?;
         Ok(())
     }
 }
