@@ -8,4 +8,3 @@ mod held;
 mod owners;
 
 pub use cover::cover_of;
-pub use owners::owns_small;

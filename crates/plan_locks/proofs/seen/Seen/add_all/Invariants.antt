@@ -1,8 +1,0 @@
--- What is seen so far, and the sectors that are left.
-use Rattle.std.proofs.Common.{◌≡◌, drop}
-use Rattle.core_definitions.specs.Lines.{seen_more}
-use Rattle.plan_locks.specs.Seen.{numbers}
-use Rattle.plan_locks.proofs.seen.Seen.add_all.Given as goal
-
-abbrev pub invariant-loop-sector : goal.invariant-loop-sector
-invariant-loop-sector l = seen_more l.sectors.entries l.self (numbers (drop l.sector-index l.looked)) ≡ seen_more l.sectors.entries l.initial.self (numbers l.looked)
