@@ -1,0 +1,98 @@
+-- The locks of a line, found without its plan: by the inodes at which it looked and, where it is finished, by its reply and its edits, or, where it has a
+-- block cleared, by the operation to which its walks lead.
+use Rattle.std.specs.Prelude.{ℕ, ◌-◌, ◌/◌, Bool, true, false, if◌then◌else◌, length, Option, Some, None, List, [], ◌∷◌, ◌++◌, filter, fold, slice_index}
+use Rattle.std.specs.Map.{keys_of}
+use Rattle.frang_base.specs.declared.limits.TheConstants.{SEGMENT_BLOCKS, SEGMENT_INODES}
+use Rattle.frang_base.specs.declared.op.Op.{Op}
+use Rattle.frang_base.specs.declared.op.Op.TheVariants as op
+use Rattle.frang_base.specs.declared.reply.Reply.{Reply}
+use Rattle.sector_definitions.specs.declared.region.Region.{Region}
+use Rattle.sector_definitions.specs.declared.region.Region.TheVariants as region
+use Rattle.sector_definitions.specs.Regions.{region_of}
+use Rattle.store_changes.specs.Edits.{Edit, SetInode, SetBit, SetUse, SetPlace, SetLarge, SetBytes, SetLargeBytes}
+use Rattle.pick_definitions.specs.Held.{Segments}
+use Rattle.plan_definitions.specs.Ask.{Sector, InodeAt, DirectoryAt, SegmentAt, BytesAt, LargeAt}
+use Rattle.plan_definitions.specs.Plans.{Lock, shared_nodes, sole_nodes, sole_segments}
+use Rattle.plan_definitions.specs.Written.{Cached, inode_at_hand}
+use Rattle.plan_laws.specs.Locks.{says_full}
+use Rattle.plan_moves.specs.CoversAtHand.{has_small}
+
+-- ---- nodes
+
+-- those whose inodes are among these sectors, in order
+abbrev pub nodes_of : List Sector → List ℕ
+nodes_of [] = []
+nodes_of (InodeAt inode ∷ sectors) = inode ∷ nodes_of sectors
+nodes_of (DirectoryAt block part ∷ sectors) = nodes_of sectors
+nodes_of (SegmentAt segment ∷ sectors) = nodes_of sectors
+nodes_of (BytesAt block part ∷ sectors) = nodes_of sectors
+nodes_of (LargeAt segment part ∷ sectors) = nodes_of sectors
+
+-- the same by the numbers of sectors
+abbrev pub with_node_in : List ℕ → Option Region → List ℕ
+with_node_in nodes (Some (region.Inode inode)) = nodes ++ inode ∷ []
+with_node_in nodes _ = nodes
+
+abbrev pub with_node : ℕ → List ℕ → ℕ → List ℕ
+with_node segments nodes number = with_node_in nodes (region_of segments number)
+
+abbrev pub nodes_in : ℕ → List ℕ → List ℕ
+nodes_in segments numbers = fold (with_node segments) [] numbers
+
+-- the one that lies so many before the last
+abbrev pub from_end : List ℕ → ℕ → ℕ
+from_end nodes back = slice_index nodes (length nodes - 1 - back)
+
+-- ---- a finished line: a node is needed shared where its inode was looked at, and sole where it is written; a segment is needed sole where a bit of its
+-- own is written, and each held one where an allocation found nothing
+
+-- the node of this inode is at hand and has the small block
+abbrev pub owns_at_hand : Cached → ℕ → ℕ → Bool
+owns_at_hand cached inode block = has_small block (inode_at_hand cached inode)
+
+-- what an edit is under: a name in a block is under its directory, one of the nodes that were looked at; the bytes of a file are under the file, whose inode
+-- is edited too
+abbrev pub edit_locks_of : (ℕ → ℕ → Bool) → List ℕ → Edit → List Lock
+edit_locks_of owns nodes (SetInode inode stored_node dated) = sole_nodes (inode ∷ [])
+edit_locks_of owns nodes (SetBit inode used) = sole_segments ((inode / SEGMENT_INODES) ∷ [])
+edit_locks_of owns nodes (SetUse block state) = sole_segments ((block / SEGMENT_BLOCKS) ∷ [])
+edit_locks_of owns nodes (SetPlace block slot entry) = sole_nodes (filter (λ inode. owns inode block) nodes)
+edit_locks_of owns nodes (SetLarge segment used) = sole_segments (segment ∷ [])
+edit_locks_of owns nodes (SetBytes block part bytes) = []
+edit_locks_of owns nodes (SetLargeBytes segment part bytes) = []
+
+abbrev pub edit_locks : (ℕ → ℕ → Bool) → List ℕ → List Edit → List Lock
+edit_locks owns nodes [] = []
+edit_locks owns nodes (edit ∷ edits) = edit_locks_of owns nodes edit ++ edit_locks owns nodes edits
+
+abbrev pub full_locks : Segments → Reply → List Lock
+full_locks held reply = if says_full reply then sole_segments (keys_of held) else []
+
+abbrev pub finish_locks : (ℕ → ℕ → Bool) → Segments → List ℕ → Reply → List Edit → List Lock
+finish_locks owns held nodes reply edits = shared_nodes nodes ++ edit_locks owns nodes edits ++ full_locks held reply
+
+-- ---- a line that has a block cleared: its directory and the node that gets the name, or the directory that loses it, are needed sole, and the segments of
+-- the block and of a new node
+
+-- how many nodes after the other one the last one was looked at: of a rename each name of the second path was looked up in a directory of its own
+abbrev pub nodes_behind : Op → ℕ
+nodes_behind (op.Rename path to) = length to
+nodes_behind _ = 1
+
+abbrev pub makes_node : Op → Bool
+makes_node (op.Create path) = true
+makes_node (op.Mkdir path) = true
+makes_node (op.Symlink path target) = true
+makes_node _ = false
+
+-- the segment of a new node
+abbrev pub made_segments : Bool → ℕ → List ℕ
+made_segments made inode = if made then (inode / SEGMENT_INODES) ∷ [] else []
+
+-- the first of the two, and the last node
+abbrev pub clear_soles : ℕ → ℕ → Bool → ℕ → List Lock
+clear_soles other last made block = sole_nodes (other ∷ last ∷ []) ++ sole_segments (made_segments made last ++ (block / SEGMENT_BLOCKS) ∷ [])
+
+-- of an operation over paths without links
+abbrev pub clear_locks : Op → List ℕ → ℕ → List Lock
+clear_locks operation nodes block = shared_nodes nodes ++ clear_soles (from_end nodes (nodes_behind operation)) (from_end nodes 0) (makes_node operation) block

@@ -1,0 +1,56 @@
+-- The locks that are found of a line are the line's, over sectors and bitmaps of a disk that stands for a tree.
+use Rattle.std.specs.Prelude.{◌≡◌, ℕ, Bool, List, filter, map}
+use Rattle.frang_base.specs.declared.op.Op.{Op}
+use Rattle.tree_definitions.specs.Perform.{Goes}
+use Rattle.tree_definitions.specs.Tree.{FileTree}
+use Rattle.sector_bytes.specs.Sectors.{Sectors}
+use Rattle.pick_definitions.specs.Held.{Segments}
+use Rattle.plan_definitions.specs.Ask.{Ask, AtHand, meet, number_of}
+use Rattle.plan_definitions.specs.Ask.Met.{Has}
+use Rattle.plan_definitions.specs.OnDisk.{AreOfDisk, StandsBelow}
+use Rattle.plan_definitions.specs.Plans.{Finish, Lock, Plan}
+use Rattle.plan_definitions.specs.Plans.Plan.{Clears, Finishes}
+use Rattle.plan_definitions.specs.Written.{Cached, at_hand, hand_of}
+use Rattle.plan_traces.specs.Traces.{traced}
+use Rattle.line_definitions.specs.Lines.{plan_of_line, resolved}
+use Rattle.core_definitions.specs.Plans.{has_version}
+use Rattle.line_locks.specs.Found.{clear_locks, finish_locks, nodes_in, nodes_of, owns_at_hand}
+use Rattle.line_locks.specs.Same.{AreAlike}
+
+-- the nodes at whose inodes a program looked
+abbrev pub looked_nodes : {A : Type 0} → Ask A → AtHand → List ℕ
+looked_nodes program known = nodes_of (traced program known).looked
+
+-- so it is of each line over a disk that stands for a tree
+abbrev pub OfEachLine : ((cached : Cached) (held : Segments) (all : Bool) (operation : Op) → Ask Plan → Type 0) → Type 0
+OfEachLine Law =
+    (operation : Op) (cached : Cached) (held : Segments) (all : Bool) (sectors : Sectors) (tree : FileTree) (birth when : ℕ) →
+    AreOfDisk cached held all tree.segments sectors → StandsBelow sectors tree →
+    Law cached held all operation (plan_of_line (hand_of cached held all) birth when operation)
+
+-- of a finished line they are found by its reply and its edits
+abbrev pub FindsFinish : (cached : Cached) (held : Segments) (all : Bool) (operation : Op) → Ask Plan → Type 0
+FindsFinish cached held all operation program =
+    (finish : Finish) → meet program (at_hand cached held) ≡ Has (Finishes finish) →
+    AreAlike (finish_locks (owns_at_hand cached) held (looked_nodes program (at_hand cached held)) finish.reply finish.edits) finish.locks
+
+abbrev pub FinishLocksAreFound : Type 0
+FinishLocksAreFound = OfEachLine FindsFinish
+
+-- of one that has a block cleared by the operation over paths without links to which it comes
+abbrev pub FindsClear : (cached : Cached) (held : Segments) (all : Bool) (operation : Op) → Ask Plan → Type 0
+FindsClear cached held all operation program =
+    (over : Op) (trail : List ℕ) (block : ℕ) (locks : List Lock) → meet (resolved operation) (at_hand cached held) ≡ Has (record { step = Goes over; trail = trail }) →
+    meet program (at_hand cached held) ≡ Has (Clears block locks) →
+    AreAlike (clear_locks over (looked_nodes program (at_hand cached held)) block) locks
+
+abbrev pub ClearLocksAreFound : Type 0
+ClearLocksAreFound = OfEachLine FindsClear
+
+-- the numbers of the sectors at which a line looked tell these nodes, also where those of file bytes are left out
+abbrev pub NumbersTellNodes : Type 0
+NumbersTellNodes =
+    (operation : Op) (cached : Cached) (held : Segments) (all : Bool) (sectors : Sectors) (tree : FileTree) (birth when : ℕ) →
+    AreOfDisk cached held all tree.segments sectors → StandsBelow sectors tree →
+    let looked = (traced (plan_of_line (hand_of cached held all) birth when operation) (at_hand cached held)).looked in
+    (nodes_in tree.segments (map number_of looked) ≡ nodes_of looked) × (nodes_in tree.segments (map number_of (filter has_version looked)) ≡ nodes_of looked)
