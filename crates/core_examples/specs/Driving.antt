@@ -78,11 +78,6 @@ two_files_disk = sectors_of ((0, parameters 2) ∷ (sector_of (region.Segment 0)
     ∷ (sector_of (region.Inode 1), inode_block 1 1 1 0 4294967298 []) ∷ (sector_of (region.Inode 2), inode_block 1 1 1 0 4294967299 [])
     ∷ (sector_of (region.Small 0 0), entries_block 2 (entry 1 1 (codes "f") ∷ entry 2 1 (codes "g") ∷ [])) ∷ [])
 
--- one whose root has an empty directory, which line 2 of run 1 made: it has no block yet
-abbrev pub directory_disk : Sectors
-directory_disk = sectors_of ((0, parameters 2) ∷ (sector_of (region.Segment 0), segment_block 2 3 3) ∷ (sector_of (region.Inode 0), inode_block 2 2 1 1 0 (0 ∷ []))
-    ∷ (sector_of (region.Inode 1), inode_block 1 2 1 0 4294967298 []) ∷ (sector_of (region.Small 0 0), entries_block 1 (entry 1 2 (codes "d") ∷ [])) ∷ [])
-
 abbrev pub small_setting : ℕ → List Line → Setting
 small_setting run script = record { script = script; segments = 1; run = run; logs = small_logs; flush_ticks = 30 }
 
@@ -99,9 +94,6 @@ filed_opening script = opening_on filed_disk 2 script
 
 abbrev pub two_files_opening : List Line → State
 two_files_opening script = opening_on two_files_disk 2 script
-
-abbrev pub directory_opening : List Line → State
-directory_opening script = opening_on directory_disk 2 script
 
 -- the servers want everything written at each tick, so that one tick is enough for a flush
 abbrev pub flushing_soon : State → State

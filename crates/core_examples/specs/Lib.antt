@@ -2,7 +2,6 @@ pub mod SmallLogs
 pub mod Driving
 pub mod Choosing
 pub mod Choices
-pub mod Parts
 pub mod Rows
 pub mod Deaths
 pub mod Gives
@@ -13,4 +12,3 @@ pub mod Moments
 pub mod Outcomes
 pub mod Anew
 pub mod Clears
-pub mod Cleared
