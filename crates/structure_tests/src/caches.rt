@@ -2,14 +2,40 @@
 use crate::builders::{change_of, small_block};
 use clerk_cache::{Cache, Dirty};
 use flush_order::{Mark, may_go};
-use frang_base::{Block, Change, LockId, NoMemory, Sector};
+use frang_base::{Change, LockId, NoMemory, Sector};
 use meta_version::{is_change, version_of};
 use std::alloc::Global;
+use std::process::Abort;
 use std::test::Fail;
 
 const NODE: LockId = LockId::Node(1);
 
 const SEGMENT: LockId = LockId::Segment(0);
+
+// A block by its version and its first byte after that.
+type Small = (u8, u8);
+
+// What is done with a cache, or what it answers, of a sector or of a lock.
+#[derive(Clone, Copy)]
+enum Step {
+    Holds(u64, Option<Small>),
+    // Of what plans read.
+    Shows(u64, Small),
+    IsUnder(u64, Option<LockId>),
+    // All dirty sectors.
+    Dirty(&'static [Mark]),
+    // The next one, where the log stands so far.
+    Next(u64, Option<Sector>),
+    IsClean(LockId, bool),
+    // Bytes that the disk doesn't have, with a mark, under the node.
+    SetBytes(u64, Small, u64),
+    // The same by a change, which is made or not.
+    Change(u64, Small, u64, bool),
+    Clean(u64, Small),
+    Forget(u64),
+    Move(u64, LockId),
+    DropCover(LockId, Result<(), Dirty>),
+}
 
 // A cache with the sectors 3 and 5, clean under a node.
 fn small_cache(alloc: Global) -> Result<Cache, NoMemory> {
@@ -21,93 +47,161 @@ fn small_cache(alloc: Global) -> Result<Cache, NoMemory> {
     Ok(cache)
 }
 
+fn holds(cache: &Cache, sector: Sector, held: Option<Small>) -> bool {
+    match held {
+        Some((version, byte)) => cache.get(sector) == Some(&small_block(version, byte)),
+        None => cache.get(sector).is_none(),
+    }
+}
+
+fn shows(cache: &Cache, sector: Sector, shown: Small) -> bool {
+    let (version, byte) = shown;
+    cache.sectors().get(sector) == Some(&small_block(version, byte))
+}
+
 // Changes a sector that is cached and older than the well-formed change.
-fn try_change(cache: &mut Cache, change: &Change, mark: u64, cover: LockId) -> bool {
+fn try_change(cache: &mut Cache, change: &Change, mark: u64) -> bool {
     let Some(block) = cache.get(change.sector) else {
         return false;
     };
     if !is_change(change) || change.version <= version_of(block) {
         return false;
     }
-    cache.change(change, mark, cover);
+    cache.change(change, mark, NODE);
     true
 }
 
 // Caches bytes that the disk doesn't have, under the node.
-fn put_bytes(cache: &mut Cache, sector: u64, block: Block, mark: u64) -> Result<(), NoMemory> {
+fn set_bytes(cache: &mut Cache, sector: u64, small: Small, mark: u64) -> Result<bool, NoMemory> {
+    let (version, byte) = small;
     cache.reserve(1)?;
-    cache.set_bytes(Sector(sector), block, mark, NODE);
-    Ok(())
+    cache.set_bytes(Sector(sector), small_block(version, byte), mark, NODE);
+    Ok(true)
+}
+
+fn clean(cache: &mut Cache, sector: u64, small: Small) -> bool {
+    let (version, byte) = small;
+    cache.clean(Sector(sector), &small_block(version, byte));
+    true
+}
+
+fn forget(cache: &mut Cache, sector: u64) -> bool {
+    cache.forget(Sector(sector));
+    true
 }
 
 // Puts a cached sector under another lock.
-fn try_move(cache: &mut Cache, sector: u64, cover: LockId) {
-    if cache.cover(Sector(sector)).is_some() {
-        cache.move_cover(Sector(sector), cover);
+fn try_move(cache: &mut Cache, sector: Sector, cover: LockId) -> bool {
+    if cache.cover(sector).is_some() {
+        cache.move_cover(sector, cover);
+        true
+    } else {
+        false
     }
 }
 
-#[test]
-fn a_fetched_sector_is_clean(rt: HostRuntime) -> Result<(), Fail> {
-    let cache = small_cache(rt.alloc())?;
-    assert!(rt; cache.get(Sector(3)) == Some(&small_block(1, 30)));
-    assert!(rt; cache.get(Sector(4)).is_none());
-    assert!(rt; cache.cover(Sector(5)) == Some(NODE));
-    assert!(rt; cache.cover(Sector(4)).is_none());
-    assert!(rt; cache.sectors().get(Sector(5)) == Some(&small_block(1, 50)));
-    assert!(rt; cache.dirty()?.is_empty());
-    assert!(rt; cache.is_clean(NODE));
+// The step is made, and answered so.
+fn is_answered(cache: &mut Cache, alloc: Global, step: Step) -> Result<bool, NoMemory> {
+    Ok(match step {
+        Step::Holds(sector, held) => holds(cache, Sector(sector), held),
+        Step::Shows(sector, shown) => shows(cache, Sector(sector), shown),
+        Step::IsUnder(sector, cover) => cache.cover(Sector(sector)) == cover,
+        Step::Dirty(marks) => cache.dirty()?.as_slice() == marks,
+        Step::Next(reached, next) => cache.next_dirty(reached) == next,
+        Step::IsClean(lock, is_so) => cache.is_clean(lock) == is_so,
+        Step::SetBytes(sector, small, mark) => set_bytes(cache, sector, small, mark)?,
+        Step::Change(sector, (version, byte), mark, is_made) => {
+            let change = change_of(alloc, sector, u64::from(version), &[(8, &[byte])])?;
+            try_change(cache, &change, mark) == is_made
+        }
+        Step::Clean(sector, small) => clean(cache, sector, small),
+        Step::Forget(sector) => forget(cache, sector),
+        Step::Move(sector, cover) => try_move(cache, Sector(sector), cover),
+        Step::DropCover(lock, answer) => cache.drop_cover(lock) == answer,
+    })
+}
+
+// The small cache answers each step.
+fn expect(rt: &impl Abort, alloc: Global, steps: &[Step]) -> Result<(), Fail> {
+    let mut cache = small_cache(alloc)?;
+    for (place, step) in steps.iter().enumerate() {
+        assert!(rt; is_answered(&mut cache, alloc, *step)?, "step {place}");
+    }
     Ok(())
 }
+
+static FETCHED: [Step; 7] = [
+    Step::Holds(3, Some((1, 30))),
+    Step::Holds(4, None),
+    Step::IsUnder(5, Some(NODE)),
+    Step::IsUnder(4, None),
+    Step::Shows(5, (1, 50)),
+    Step::Dirty(&[]),
+    Step::IsClean(NODE, true),
+];
+
+#[test]
+fn a_fetched_sector_is_clean(rt: HostRuntime) -> Result<(), Fail> {
+    expect(&rt, rt.alloc(), &FETCHED)
+}
+
+const CHANGED: Mark = Mark {
+    sector: Sector(3),
+    mark: 258,
+};
+
+static WRITTEN: [Step; 8] = [
+    Step::Change(3, (2, 31), 258, true),
+    Step::Change(3, (2, 31), 259, false),
+    Step::Dirty(&[CHANGED]),
+    Step::Clean(3, (1, 30)),
+    Step::IsClean(NODE, false),
+    Step::Clean(3, (2, 31)),
+    Step::IsClean(NODE, true),
+    Step::Holds(3, Some((2, 31))),
+];
 
 #[test]
 fn a_changed_sector_is_dirty_until_it_is_written(rt: HostRuntime) -> Result<(), Fail> {
-    let mut cache = small_cache(rt.alloc())?;
-    let change = change_of(rt.alloc(), 3, 2, &[(8, &[31])])?;
-    assert!(rt; try_change(&mut cache, &change, 258, NODE));
-    assert!(rt; !try_change(&mut cache, &change, 259, NODE));
-    let mark = Mark {
-        sector: Sector(3),
-        mark: 258,
-    };
-    assert!(rt; cache.dirty()?.as_slice() == [mark].as_slice());
-    cache.clean(Sector(3), &small_block(1, 30));
-    assert!(rt; !cache.is_clean(NODE));
-    cache.clean(Sector(3), &small_block(2, 31));
-    assert!(rt; cache.is_clean(NODE));
-    assert!(rt; cache.get(Sector(3)) == Some(&small_block(2, 31)));
-    Ok(())
+    expect(&rt, rt.alloc(), &WRITTEN)
 }
+
+static DROPPED: [Step; 9] = [
+    Step::SetBytes(5, (0, 51), 257),
+    Step::Move(5, SEGMENT),
+    Step::DropCover(SEGMENT, Err(Dirty { sector: Sector(5) })),
+    Step::DropCover(NODE, Ok(())),
+    Step::Holds(3, None),
+    Step::Holds(5, Some((0, 51))),
+    Step::Clean(5, (0, 51)),
+    Step::DropCover(SEGMENT, Ok(())),
+    Step::Holds(5, None),
+];
 
 #[test]
 fn a_cover_is_dropped_only_clean(rt: HostRuntime) -> Result<(), Fail> {
-    let mut cache = small_cache(rt.alloc())?;
-    put_bytes(&mut cache, 5, small_block(0, 51), 257)?;
-    try_move(&mut cache, 5, SEGMENT);
-    assert!(rt; cache.drop_cover(SEGMENT) == Err(Dirty { sector: Sector(5) }));
-    assert!(rt; cache.drop_cover(NODE) == Ok(()));
-    assert!(rt; cache.get(Sector(3)).is_none());
-    assert!(rt; cache.get(Sector(5)) == Some(&small_block(0, 51)));
-    cache.clean(Sector(5), &small_block(0, 51));
-    assert!(rt; cache.drop_cover(SEGMENT) == Ok(()));
-    assert!(rt; cache.get(Sector(5)).is_none());
-    Ok(())
+    expect(&rt, rt.alloc(), &DROPPED)
 }
+
+const SECOND: Mark = Mark {
+    sector: Sector(5),
+    mark: 257,
+};
+
+static ASCENDING: [Step; 8] = [
+    Step::SetBytes(5, (0, 51), 257),
+    Step::SetBytes(3, (0, 31), 258),
+    Step::Dirty(&[CHANGED, SECOND]),
+    Step::Next(256, None),
+    Step::Next(258, Some(Sector(5))),
+    Step::Forget(3),
+    Step::Holds(3, None),
+    Step::Dirty(&[SECOND]),
+];
 
 #[test]
 fn dirty_sectors_ascend(rt: HostRuntime) -> Result<(), Fail> {
-    let mut cache = small_cache(rt.alloc())?;
-    put_bytes(&mut cache, 5, small_block(0, 51), 257)?;
-    put_bytes(&mut cache, 3, small_block(0, 31), 258)?;
-    let marks = cache.dirty()?;
-    assert!(rt; marks.first().map(|mark| mark.sector) == Some(Sector(3)));
-    assert!(rt; marks.last().map(|mark| mark.sector) == Some(Sector(5)));
-    assert!(rt; cache.next_dirty(256).is_none());
-    assert!(rt; cache.next_dirty(258) == Some(Sector(5)));
-    cache.forget(Sector(3));
-    assert!(rt; cache.get(Sector(3)).is_none());
-    assert!(rt; cache.dirty()?.len() == 1);
-    Ok(())
+    expect(&rt, rt.alloc(), &ASCENDING)
 }
 
 static DIRTY: [Mark; 2] = [

@@ -1,4 +1,5 @@
-// Numbers that are drawn.
+// Numbers that are drawn, and what is expected of each drawn call.
+use std::process::Abort;
 
 /// A generator of numbers below 2^31; the same state gives the same numbers.
 #[derive(Drop)]
@@ -19,4 +20,9 @@ impl Draws {
             .wrapping_add(1_442_695_040_888_963_407);
         self.state >> 33
     }
+}
+
+/// The two that are called beside one another are alike, in this and after so many calls.
+pub(crate) fn expect_alike(rt: &impl Abort, are_alike: bool, what: &str, calls: u32) {
+    assert!(rt; are_alike, "{what} after {calls} calls");
 }

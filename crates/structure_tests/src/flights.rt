@@ -1,11 +1,12 @@
 // Writes in flight over a disk in memory: each way in which one ends, and that they are those of a plain list.
 ghost use Rattle.std.specs.Prelude.{◌<◌, IfSome, vec_len};
 
-use crate::draws::Draws;
+use crate::draws::{Draws, expect_alike};
 use frang_base::{NoMemory, Sector, ServerId};
 use frang_outside::{FaultyOutside, MemOutside, Outside, Put, PutFault, Taken};
 use petal_disk::{Arrived, Flight, IssueFault, Ticket};
 use std::alloc::Global;
+use std::process::Abort;
 use std::test::Fail;
 
 // A write of server 0 that may arrive until tick 20.
@@ -20,44 +21,112 @@ fn write_of(sector: u64) -> Put {
     }
 }
 
-#[test]
-fn a_write_arrives_until_its_stamp(rt: HostRuntime) -> Result<(), Fail> {
-    let mut out = MemOutside::new(rt.alloc());
-    let mut flight = Flight::new(rt.alloc());
-    flight.reserve()?;
-    assert!(rt; flight.issue(write_of(5)) == Ok(Ticket(0)));
-    assert!(rt; flight.issue(write_of(5)) == Err(IssueFault::Busy { ticket: Ticket(0) }));
-    assert!(rt; flight.arrive(Ticket(0), 20, &mut out) == Arrived::Written);
-    assert!(rt; flight.issue(write_of(5)) == Ok(Ticket(1)));
-    assert!(rt; flight.arrive(Ticket(1), 21, &mut out) == Arrived::Late { stamp: 20, now: 21 });
-    assert!(rt; flight.count() == 0);
-    Ok(())
+// What is done with writes in flight, or what they answer.
+#[derive(Clone, Copy)]
+enum Step {
+    Reserve,
+    Issue(u64, Result<Ticket, IssueFault>),
+    // A write arrives at a tick; none where it isn't in flight.
+    Arrive(u64, u64, Option<Arrived>),
+    Lose(u64),
+    Count(usize),
+    First(Option<(Ticket, Sector)>),
+    At(usize, Option<(Ticket, Sector)>),
+    Get(u64, Option<Sector>),
 }
+
+// A write arrives where it is in flight.
+fn arrive<O: Outside>(flight: &mut Flight, t: Ticket, now: u64, out: &mut O) -> Option<Arrived> {
+    match flight.get(t) {
+        Some(_) => Some(flight.arrive(t, now, out)),
+        None => None,
+    }
+}
+
+// A write is lost where it is in flight, and that is said.
+fn lose(flight: &mut Flight, t: Ticket) -> bool {
+    match flight.get(t) {
+        Some(_) => {
+            flight.lose(t);
+            true
+        }
+        None => false,
+    }
+}
+
+fn sector_of(write: Option<(Ticket, &Put)>) -> Option<(Ticket, Sector)> {
+    let (ticket, put) = write?;
+    Some((ticket, put.sector))
+}
+
+fn sector_with(flight: &Flight, t: Ticket) -> Option<Sector> {
+    let put = flight.get(t)?;
+    Some(put.sector)
+}
+
+// The step is made, and answered so.
+fn is_answered<O: Outside>(flight: &mut Flight, out: &mut O, step: Step) -> bool {
+    match step {
+        Step::Reserve => flight.reserve() == Ok(()),
+        Step::Issue(sector, answer) => flight.issue(write_of(sector)) == answer,
+        Step::Arrive(t, now, answer) => arrive(flight, Ticket(t), now, out) == answer,
+        Step::Lose(t) => lose(flight, Ticket(t)),
+        Step::Count(count) => flight.count() == count,
+        Step::First(first) => sector_of(flight.first()) == first,
+        Step::At(i, write) => sector_of(flight.at(i)) == write,
+        Step::Get(t, sector) => sector_with(flight, Ticket(t)) == sector,
+    }
+}
+
+// With nothing in flight at first each step is answered.
+fn expect<O: Outside>(rt: &impl Abort, alloc: Global, out: &mut O, steps: &[Step]) {
+    let mut flight = Flight::new(alloc);
+    for (place, step) in steps.iter().enumerate() {
+        assert!(rt; is_answered(&mut flight, out, *step), "step {place}");
+    }
+}
+
+const LATE: Arrived = Arrived::Late { stamp: 20, now: 21 };
+
+static ARRIVING: [Step; 7] = [
+    Step::Reserve,
+    Step::Issue(5, Ok(Ticket(0))),
+    Step::Issue(5, Err(IssueFault::Busy { ticket: Ticket(0) })),
+    Step::Arrive(0, 20, Some(Arrived::Written)),
+    Step::Issue(5, Ok(Ticket(1))),
+    Step::Arrive(1, 21, Some(LATE)),
+    Step::Count(0),
+];
+
+#[test]
+fn a_write_arrives_until_its_stamp(rt: HostRuntime) {
+    let mut out = MemOutside::new(rt.alloc());
+    expect(&rt, rt.alloc(), &mut out, &ARRIVING);
+}
+
+// The first two puts fail where they are in time.
+static LOST: [Step; 13] = [
+    Step::Issue(5, Ok(Ticket(0))),
+    Step::Issue(6, Ok(Ticket(1))),
+    Step::Issue(7, Ok(Ticket(2))),
+    Step::Arrive(1, 21, Some(LATE)),
+    Step::Count(2),
+    Step::At(1, Some((Ticket(2), Sector(7)))),
+    Step::First(Some((Ticket(0), Sector(5)))),
+    Step::Get(2, Some(Sector(7))),
+    Step::Get(1, None),
+    Step::Arrive(2, 20, Some(Arrived::Failed)),
+    Step::Lose(0),
+    Step::Count(0),
+    Step::At(0, None),
+];
 
 #[test]
 fn what_is_lost_or_fails_is_in_flight_no_more(rt: HostRuntime) -> Result<(), Fail> {
     let alloc = rt.alloc();
     let puts = vec![in alloc; 1, 2]?;
     let mut out = FaultyOutside::new(alloc, Vec::new(alloc), puts, Vec::new(alloc));
-    let mut flight = Flight::new(alloc);
-    assert!(rt; flight.issue(write_of(5)) == Ok(Ticket(0)));
-    assert!(rt; flight.issue(write_of(6)) == Ok(Ticket(1)));
-    assert!(rt; flight.issue(write_of(7)) == Ok(Ticket(2)));
-    assert!(rt; flight.arrive(Ticket(1), 21, &mut out) == Arrived::Late { stamp: 20, now: 21 });
-    assert!(rt; flight.count() == 2);
-    let second = flight.at(1).map(|(ticket, put)| (ticket, put.sector));
-    assert!(rt; second == Some((Ticket(2), Sector(7))));
-    let first = flight.first().map(|(ticket, put)| (ticket, put.sector));
-    assert!(rt; first == Some((Ticket(0), Sector(5))));
-    assert!(rt; flight.get(Ticket(2)).map(|put| put.sector) == Some(Sector(7)));
-    assert!(rt; flight.get(Ticket(1)).is_none());
-    assert!(rt; flight.arrive(Ticket(2), 20, &mut out) == Arrived::Failed);
-    match flight.get(Ticket(0)) {
-        Some(_) => flight.lose(Ticket(0)),
-        None => {}
-    }
-    assert!(rt; flight.count() == 0);
-    assert!(rt; flight.at(0).is_none());
+    expect(&rt, alloc, &mut out, &LOST);
     Ok(())
 }
 
@@ -183,22 +252,13 @@ impl Both {
     fn lose(&mut self, t: Ticket) -> bool {
         let held = self.plain.place(t).is_some();
         self.plain.lose(t);
-        match self.flight.get(t) {
-            Some(_) => {
-                self.flight.lose(t);
-                held
-            }
-            None => !held,
-        }
+        lose(&mut self.flight, t) == held
     }
 
     fn arrive(&mut self, t: Ticket, now: u64) -> bool {
-        match self.flight.get(t) {
-            Some(_) => {
-                let answer = self.flight.arrive(t, now, &mut self.out);
-                answer == Arrived::NoMemory || self.arrive_plain(t, now) == Some(answer)
-            }
-            None => self.plain.place(t).is_none(),
+        match arrive(&mut self.flight, t, now, &mut self.out) {
+            Some(Arrived::NoMemory) => true,
+            answer => self.arrive_plain(t, now) == answer,
         }
     }
 
@@ -250,12 +310,10 @@ impl Both {
 fn the_writes_in_flight_are_those_of_a_plain_list(rt: HostRuntime) -> Result<(), Fail> {
     let mut both = Both::new(rt.alloc())?;
     let mut draws = Draws::of(1);
-    for i in 0..10_000u32 {
-        assert!(rt; both.call(&mut draws), "the answers of call {i}");
-        assert!(rt;
-            both.is_same(i % 100 == 99),
-            "what is in flight after call {i}"
-        );
+    for i in 1..=10_000u32 {
+        let is_answered = both.call(&mut draws);
+        expect_alike(&rt, is_answered, "answers", i);
+        expect_alike(&rt, both.is_same(i % 100 == 0), "what is in flight", i);
     }
     assert!(rt; both.plain_out.acts().len() == both.out.acts().len());
     Ok(())

@@ -1,60 +1,189 @@
 // A lock table's calls by two servers, the log of a dead one, and the lists in which a server tells what it has.
-use frang_base::{LockId, Mode, ServerId};
+use frang_base::{LockId, Mode, NoMemory, ServerId};
 use lock_definitions::{LockList, LogList};
 use lock_table::{AskedFor, LockTable, LogTaken, Wanted};
+use std::alloc::Global;
+use std::process::Abort;
 use std::test::Fail;
 
-#[test]
-fn a_downgrade_lets_a_shared_wish_in(rt: HostRuntime) -> Result<(), Fail> {
-    let node = LockId::Node(1);
-    let first = ServerId(0);
-    let second = ServerId(1);
-    let mut table = LockTable::new(rt.alloc());
-    table.reserve(first, node)?;
-    assert!(rt; table.want(first, node, Mode::Sole) == Ok(Wanted::Granted));
-    assert!(rt; table.want(second, node, Mode::Shared) == Ok(Wanted::Wait { holders: 1 }));
-    assert!(rt; table.revokes(first)?.as_slice() == [(node, AskedFor::Downgrade)].as_slice());
-    assert!(rt; table.held(first, node) == Some(Mode::Sole));
-    table.downgrade(first, node);
-    assert!(rt; table.want(second, node, Mode::Shared) == Ok(Wanted::Granted));
-    assert!(rt; table.revokes(first)?.as_slice() == [].as_slice());
-    assert!(rt; table.want(second, node, Mode::Sole) == Ok(Wanted::Wait { holders: 1 }));
-    assert!(rt; table.revokes(first)?.as_slice() == [(node, AskedFor::Release)].as_slice());
-    assert!(rt; table.held(first, node) == Some(Mode::Shared));
-    table.release(first, node);
-    assert!(rt; table.want(second, node, Mode::Sole) == Ok(Wanted::Granted));
-    table.clear(second);
-    assert!(rt; table.held(second, node).is_none());
+const NODE: LockId = LockId::Node(1);
+
+// What a server does with a table, for the node, and what that answers.
+#[derive(Clone, Copy)]
+enum Step {
+    Reserve,
+    Want(Mode, Wanted),
+    Held(Option<Mode>),
+    Revokes(&'static [(LockId, AskedFor)]),
+    Downgrade,
+    Release,
+    // The log of this server is taken at a tick, until another.
+    TakeLog(ServerId, u64, u64, Result<(), LogTaken>),
+    Extend(u64),
+    Clear,
+}
+
+fn reserve(table: &mut LockTable, server: ServerId) -> Result<bool, NoMemory> {
+    if server.0 >= 16 {
+        return Ok(false);
+    }
+    table.reserve(server, NODE)?;
+    Ok(true)
+}
+
+fn wants(
+    table: &mut LockTable,
+    server: ServerId,
+    mode: Mode,
+    answer: Wanted,
+) -> Result<bool, NoMemory> {
+    if server.0 >= 16 {
+        return Ok(false);
+    }
+    Ok(table.want(server, NODE, mode)? == answer)
+}
+
+fn is_asked(
+    table: &LockTable,
+    server: ServerId,
+    asked: &[(LockId, AskedFor)],
+) -> Result<bool, NoMemory> {
+    Ok(table.revokes(server)?.as_slice() == asked)
+}
+
+fn downgrade(table: &mut LockTable, server: ServerId) -> bool {
+    match table.held(server, NODE) {
+        Some(Mode::Sole) => {
+            table.downgrade(server, NODE);
+            true
+        }
+        _ => false,
+    }
+}
+
+fn release(table: &mut LockTable, server: ServerId) -> bool {
+    match table.held(server, NODE) {
+        Some(_) => {
+            table.release(server, NODE);
+            true
+        }
+        None => false,
+    }
+}
+
+fn extend(table: &mut LockTable, server: ServerId, expiry: u64) -> bool {
+    table.extend(server, expiry);
+    true
+}
+
+fn clear(table: &mut LockTable, server: ServerId) -> bool {
+    table.clear(server);
+    true
+}
+
+// The step is made, and answered so.
+fn is_answered(table: &mut LockTable, server: ServerId, step: Step) -> Result<bool, NoMemory> {
+    Ok(match step {
+        Step::Reserve => reserve(table, server)?,
+        Step::Want(mode, answer) => wants(table, server, mode, answer)?,
+        Step::Held(held) => table.held(server, NODE) == held,
+        Step::Revokes(asked) => is_asked(table, server, asked)?,
+        Step::Downgrade => downgrade(table, server),
+        Step::Release => release(table, server),
+        Step::TakeLog(dead, now, expiry, answer) => {
+            table.take_log(dead, server, now, expiry) == answer
+        }
+        Step::Extend(expiry) => extend(table, server, expiry),
+        Step::Clear => clear(table, server),
+    })
+}
+
+// A new table answers each step.
+fn expect(rt: &impl Abort, alloc: Global, steps: &[(ServerId, Step)]) -> Result<(), Fail> {
+    let mut table = LockTable::new(alloc);
+    for (place, (server, step)) in steps.iter().enumerate() {
+        assert!(rt; is_answered(&mut table, *server, *step)?, "step {place}");
+    }
     Ok(())
 }
 
+const FIRST: ServerId = ServerId(0);
+
+const SECOND: ServerId = ServerId(1);
+
+static SHARED: [(ServerId, Step); 15] = [
+    (FIRST, Step::Reserve),
+    (FIRST, Step::Want(Mode::Sole, Wanted::Granted)),
+    (
+        SECOND,
+        Step::Want(Mode::Shared, Wanted::Wait { holders: 1 }),
+    ),
+    (FIRST, Step::Revokes(&[(NODE, AskedFor::Downgrade)])),
+    (FIRST, Step::Held(Some(Mode::Sole))),
+    (FIRST, Step::Downgrade),
+    (SECOND, Step::Want(Mode::Shared, Wanted::Granted)),
+    (FIRST, Step::Revokes(&[])),
+    (SECOND, Step::Want(Mode::Sole, Wanted::Wait { holders: 1 })),
+    (FIRST, Step::Revokes(&[(NODE, AskedFor::Release)])),
+    (FIRST, Step::Held(Some(Mode::Shared))),
+    (FIRST, Step::Release),
+    (SECOND, Step::Want(Mode::Sole, Wanted::Granted)),
+    (SECOND, Step::Clear),
+    (SECOND, Step::Held(None)),
+];
+
 #[test]
-fn a_log_is_taken_until_its_takers_lease_ends(rt: HostRuntime) {
-    let mut table = LockTable::new(rt.alloc());
-    let dead = ServerId(3);
-    let taker = ServerId(2);
-    let other = ServerId::HOST;
-    let taken_until = |expiry| Err(LogTaken { by: taker, expiry });
-    assert!(rt; table.take_log(dead, taker, 10, 40) == Ok(()));
-    assert!(rt; table.take_log(dead, other, 40, 70) == taken_until(40));
-    table.extend(taker, 50);
-    assert!(rt; table.take_log(dead, other, 50, 80) == taken_until(50));
-    assert!(rt; table.take_log(dead, taker, 50, 80) == Ok(()));
-    assert!(rt; table.take_log(dead, other, 81, 111) == Ok(()));
-    table.clear(dead);
-    assert!(rt; table.take_log(dead, taker, 81, 111) == Ok(()));
+fn a_downgrade_lets_a_shared_wish_in(rt: HostRuntime) -> Result<(), Fail> {
+    expect(&rt, rt.alloc(), &SHARED)
+}
+
+const DEAD: ServerId = ServerId(3);
+
+const TAKER: ServerId = ServerId(2);
+
+const UNTIL_40: LogTaken = LogTaken {
+    by: TAKER,
+    expiry: 40,
+};
+
+const UNTIL_50: LogTaken = LogTaken {
+    by: TAKER,
+    expiry: 50,
+};
+
+static TAKEN: [(ServerId, Step); 8] = [
+    (TAKER, Step::TakeLog(DEAD, 10, 40, Ok(()))),
+    (ServerId::HOST, Step::TakeLog(DEAD, 40, 70, Err(UNTIL_40))),
+    (TAKER, Step::Extend(50)),
+    (ServerId::HOST, Step::TakeLog(DEAD, 50, 80, Err(UNTIL_50))),
+    (TAKER, Step::TakeLog(DEAD, 50, 80, Ok(()))),
+    (ServerId::HOST, Step::TakeLog(DEAD, 81, 111, Ok(()))),
+    (DEAD, Step::Clear),
+    (TAKER, Step::TakeLog(DEAD, 81, 111, Ok(()))),
+];
+
+#[test]
+fn a_log_is_taken_until_its_takers_lease_ends(rt: HostRuntime) -> Result<(), Fail> {
+    expect(&rt, rt.alloc(), &TAKEN)
+}
+
+fn are_locks_kept(alloc: Global) -> Result<bool, NoMemory> {
+    let mut locks = LockList::new(alloc);
+    locks.push((LockId::Node(1), Mode::Sole))?;
+    locks.push((LockId::Log(0), Mode::Shared))?;
+    let is_copied = locks.try_copy()?.as_slice() == locks.as_slice();
+    Ok(is_copied && locks.get(1) == Some(&(LockId::Log(0), Mode::Shared)))
+}
+
+fn are_logs_kept(alloc: Global) -> Result<bool, NoMemory> {
+    let mut logs = LogList::new(alloc);
+    logs.push((ServerId(3), 40))?;
+    Ok(logs.try_copy()?.as_slice() == [(ServerId(3), 40)].as_slice() && logs.len() == 1)
 }
 
 #[test]
 fn lists_keep_what_is_pushed(rt: HostRuntime) -> Result<(), Fail> {
-    let mut locks = LockList::new(rt.alloc());
-    locks.push((LockId::Node(1), Mode::Sole))?;
-    locks.push((LockId::Log(0), Mode::Shared))?;
-    assert!(rt; locks.try_copy()?.as_slice() == locks.as_slice());
-    assert!(rt; locks.get(1) == Some(&(LockId::Log(0), Mode::Shared)));
-    let mut logs = LogList::new(rt.alloc());
-    logs.push((ServerId(3), 40))?;
-    assert!(rt; logs.try_copy()?.as_slice() == [(ServerId(3), 40)].as_slice());
-    assert!(rt; logs.len() == 1);
+    assert!(rt; are_locks_kept(rt.alloc())?);
+    assert!(rt; are_logs_kept(rt.alloc())?);
     Ok(())
 }

@@ -1,6 +1,6 @@
 // A cache that is searched from its front, and 10,000 drawn calls of it beside the same of the cache in order.
 use crate::builders::{change_of, small_block};
-use crate::draws::Draws;
+use crate::draws::{Draws, expect_alike};
 use clerk_cache::{Cache, Dirty};
 use frang_base::{Block, Change, LockId, NoMemory, Sector};
 use meta_version::{apply, is_change, version_of};
@@ -266,12 +266,12 @@ fn the_cache_in_order_is_the_plain_one(rt: HostRuntime) -> Result<(), Fail> {
         alloc,
     };
     let mut draws = Draws::of(1);
-    for i in 0..10_000u32 {
-        let same = both.call(&mut draws);
-        assert!(rt; same != Ok(false), "call {i}");
-        assert!(rt; both.go_alike(), "the dirty sectors after call {i}");
-        if i % 100 == 99 || same == Err(NoMemory) {
-            assert!(rt; both.are_alike(), "the sectors after call {i}");
+    for i in 1..=10_000u32 {
+        let answer = both.call(&mut draws);
+        expect_alike(&rt, answer != Ok(false), "answers", i);
+        expect_alike(&rt, both.go_alike(), "dirty sectors", i);
+        if i % 100 == 0 || answer == Err(NoMemory) {
+            expect_alike(&rt, both.are_alike(), "sectors", i);
         }
     }
     Ok(())

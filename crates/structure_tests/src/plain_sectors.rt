@@ -1,6 +1,6 @@
 // Sectors with their blocks as one list that is gone through from its start, and 10,000 drawn calls of it beside the same of those in order.
 use crate::builders::{change_of, small_block};
-use crate::draws::Draws;
+use crate::draws::{Draws, expect_alike};
 use frang_base::{Block, Change, NoMemory, Sector};
 use meta_version::{Sectors, apply, is_change, version_of};
 use std::alloc::Global;
@@ -149,13 +149,14 @@ fn the_sectors_in_order_are_the_plain_ones(rt: HostRuntime) -> Result<(), Fail> 
         alloc,
     };
     let mut draws = Draws::of(1);
-    for i in 0..10_000u32 {
-        match both.call(&mut draws) {
-            Ok(sector) => assert!(rt; both.is_alike(sector), "the sector of call {i}"),
-            Err(NoMemory) => assert!(rt; both.are_alike(), "after want of memory in call {i}"),
-        }
-        if i % 100 == 99 {
-            assert!(rt; both.are_alike(), "after call {i}");
+    for i in 1..=10_000u32 {
+        let is_alike = match both.call(&mut draws) {
+            Ok(sector) => both.is_alike(sector),
+            Err(NoMemory) => both.are_alike(),
+        };
+        expect_alike(&rt, is_alike, "the called sector", i);
+        if i % 100 == 0 {
+            expect_alike(&rt, both.are_alike(), "sectors", i);
         }
     }
     Ok(())

@@ -1,7 +1,7 @@
 // A lock table whose claims are gone through from their start, and 10,000 drawn calls of it beside the same of the table in order.
 ghost use Rattle.std.specs.Prelude.{◌≤◌, vec_len};
 
-use crate::draws::Draws;
+use crate::draws::{Draws, expect_alike};
 use frang_base::{LockId, Mode, NoMemory, ServerId};
 use lock_table::{AskedFor, LockTable, LogTaken, Wanted};
 use std::alloc::Global;
@@ -347,12 +347,10 @@ fn the_table_in_order_is_the_plain_one(rt: HostRuntime) -> Result<(), Fail> {
     };
     let mut both = Both { table, plain };
     let mut draws = Draws::of(1);
-    for i in 0..10_000 {
-        assert!(rt;
-            both.call(&mut draws) != Ok(false),
-            "the answers of call {i}"
-        );
-        assert!(rt; both.are_alike() != Ok(false), "the locks after call {i}");
+    for i in 1..=10_000 {
+        let is_answered = both.call(&mut draws) != Ok(false);
+        expect_alike(&rt, is_answered, "answers", i);
+        expect_alike(&rt, both.are_alike() != Ok(false), "locks", i);
     }
     Ok(())
 }

@@ -50,11 +50,11 @@ fn changes_are_made_of_older_blocks_alone(rt: HostRuntime) -> Result<(), Fail> {
     for (version, answer, bytes) in &CHANGES {
         let change = change_to(rt.alloc(), *version)?;
         let mut block = block_of(OLD);
+        let is_answered = try_apply(&mut block, &change) == Some(*answer);
         assert!(rt;
-            try_apply(&mut block, &change) == Some(*answer),
+            is_answered && block == block_of(*bytes),
             "version {version}"
         );
-        assert!(rt; block == block_of(*bytes), "version {version}");
     }
     Ok(())
 }
@@ -77,63 +77,107 @@ fn versions_are_read_lowest_byte_first(rt: HostRuntime) {
     }
 }
 
+// A patch's place and bytes, what becomes of its change, and the last byte of a block of zeros then.
+static PATCHES: [(u16, &[u8], Option<Applied>, u8); 4] = [
+    (511, &[7], Some(Applied::Applied), 7),
+    (511, &[7, 8], None, 0),
+    (7, &[7], None, 0),
+    (8, &[], None, 0),
+];
+
 #[test]
 fn a_patch_ends_within_its_block(rt: HostRuntime) -> Result<(), Fail> {
-    let mut block = [0; 512];
-    let change = change_of(rt.alloc(), 6, 9, &[(511, &[7])])?;
-    assert!(rt; try_apply(&mut block, &change) == Some(Applied::Applied));
-    assert!(rt; block.last() == Some(&7));
-    let refused = [
-        change_of(rt.alloc(), 6, 9, &[(511, &[7, 8])])?,
-        change_of(rt.alloc(), 6, 9, &[(7, &[7])])?,
-        change_of(rt.alloc(), 6, 9, &[(8, &[])])?,
-    ];
-    for change in &refused {
-        assert!(rt; try_apply(&mut block, change).is_none());
+    for (at, bytes, answer, last) in &PATCHES {
+        let change = change_of(rt.alloc(), 6, 9, &[(*at, *bytes)])?;
+        let mut block = [0; 512];
+        let is_answered = try_apply(&mut block, &change) == *answer;
+        assert!(rt; is_answered && block.last() == Some(last), "byte {at}");
     }
     Ok(())
 }
 
-// The sector at a place.
+// What is done with sectors, each of one byte throughout, or what they answer.
+#[derive(Clone, Copy)]
+enum Step {
+    Set(u64, u8),
+    Put(u64, u8),
+    Remove(u64),
+    Holds(u64, Option<u8>),
+    // The sector at a place.
+    At(usize, Option<u64>),
+    Count(usize),
+}
+
+fn put(sectors: &mut Sectors, sector: u64, byte: u8) -> Result<(), NoMemory> {
+    sectors.reserve(1)?;
+    sectors.put(Sector(sector), [byte; 512]);
+    Ok(())
+}
+
+fn holds(sectors: &Sectors, sector: u64, held: Option<u8>) -> bool {
+    match held {
+        Some(byte) => sectors.get(Sector(sector)) == Some(&[byte; 512]),
+        None => sectors.get(Sector(sector)).is_none(),
+    }
+}
+
 fn sector_at(sectors: &Sectors, i: usize) -> Option<u64> {
     let (sector, _) = sectors.at(i)?;
     Some(sector.0)
 }
 
-// A place, and the sector there.
-static PLACES: [(usize, Option<u64>); 4] = [(0, Some(4)), (1, Some(6)), (2, Some(9)), (3, None)];
+// The step is made, and answered so.
+fn is_answered(sectors: &mut Sectors, step: Step) -> Result<bool, NoMemory> {
+    match step {
+        Step::Set(sector, byte) => sectors.set(Sector(sector), [byte; 512])?,
+        Step::Put(sector, byte) => put(sectors, sector, byte)?,
+        Step::Remove(sector) => sectors.remove(Sector(sector)),
+        Step::Holds(sector, held) => return Ok(holds(sectors, sector, held)),
+        Step::At(i, sector) => return Ok(sector_at(sectors, i) == sector),
+        Step::Count(count) => return Ok(sectors.count() == count),
+    }
+    Ok(true)
+}
+
+static ORDERED: [Step; 13] = [
+    Step::Set(9, 9),
+    Step::Set(4, 4),
+    Step::Put(6, 6),
+    Step::At(0, Some(4)),
+    Step::At(1, Some(6)),
+    Step::At(2, Some(9)),
+    Step::At(3, None),
+    Step::Set(9, 8),
+    Step::Holds(9, Some(8)),
+    Step::Remove(4),
+    Step::Holds(4, None),
+    Step::Count(2),
+    Step::At(0, Some(6)),
+];
 
 #[test]
 fn sectors_are_kept_in_order(rt: HostRuntime) -> Result<(), Fail> {
     let mut sectors = Sectors::new(rt.alloc());
-    sectors.set(Sector(9), [9; 512])?;
-    sectors.set(Sector(4), [4; 512])?;
-    sectors.reserve(1)?;
-    sectors.put(Sector(6), [6; 512]);
-    for (i, sector) in &PLACES {
-        assert!(rt; sector_at(&sectors, *i) == *sector, "place {i}");
+    for (place, step) in ORDERED.iter().enumerate() {
+        assert!(rt; is_answered(&mut sectors, *step)?, "step {place}");
     }
-    sectors.set(Sector(9), [8; 512])?;
-    assert!(rt; sectors.get(Sector(9)) == Some(&[8; 512]));
-    sectors.remove(Sector(4));
-    assert!(rt; sectors.get(Sector(4)).is_none());
-    assert!(rt; sectors.count() == 2);
-    assert!(rt; sector_at(&sectors, 0) == Some(6));
     Ok(())
 }
 
-#[test]
-fn a_map_of_sectors_is_in_order(rt: HostRuntime) -> Result<(), Fail> {
-    let mut map: SectorMap<u8> = SectorMap::new(rt.alloc());
+fn is_map_in_order(alloc: Global) -> Result<bool, NoMemory> {
+    let mut map: SectorMap<u8> = SectorMap::new(alloc);
     map.set(Sector(6), 1)?;
     map.set(Sector(4), 2)?;
     map.reserve(1)?;
     map.put(Sector(4), 3);
-    assert!(rt; map.entries() == [(4, 3), (6, 1)].as_slice());
-    assert!(rt; map.get(Sector(4)) == Some(&3));
+    let is_set = map.entries() == [(4, 3), (6, 1)].as_slice() && map.get(Sector(4)) == Some(&3);
     map.remove(Sector(6));
-    assert!(rt; map.has(Sector(4)));
-    assert!(rt; !map.has(Sector(6)));
+    Ok(is_set && map.has(Sector(4)) && !map.has(Sector(6)))
+}
+
+#[test]
+fn a_map_of_sectors_is_in_order(rt: HostRuntime) -> Result<(), Fail> {
+    assert!(rt; is_map_in_order(rt.alloc())?);
     Ok(())
 }
 
@@ -149,31 +193,51 @@ fn try_change(sectors: &mut Sectors, change: &Change) -> bool {
     true
 }
 
-#[test]
-fn a_set_sector_is_changed(rt: HostRuntime) -> Result<(), Fail> {
-    let mut sectors = Sectors::new(rt.alloc());
-    let change = change_to(rt.alloc(), 516)?;
-    assert!(rt; !try_change(&mut sectors, &change));
+// A change is made once its sector is set, and changes no other.
+fn is_set_sector_changed(alloc: Global) -> Result<bool, NoMemory> {
+    let mut sectors = Sectors::new(alloc);
+    let change = change_to(alloc, 516)?;
+    let is_made_unset = try_change(&mut sectors, &change);
     sectors.set(Sector(6), block_of(OLD))?;
     sectors.set(Sector(7), block_of(OLD))?;
-    assert!(rt; try_change(&mut sectors, &change));
+    let is_made = try_change(&mut sectors, &change);
     let changed = block_of([4, 2, 0, 0, 0, 0, 0, 0, 80, 11, 100, 101]);
-    assert!(rt; sectors.get(Sector(6)) == Some(&changed));
-    assert!(rt; sectors.get(Sector(7)) == Some(&block_of(OLD)));
+    let is_changed = sectors.get(Sector(6)) == Some(&changed);
+    let is_kept = sectors.get(Sector(7)) == Some(&block_of(OLD));
+    Ok(!is_made_unset && is_made && is_changed && is_kept)
+}
+
+#[test]
+fn a_set_sector_is_changed(rt: HostRuntime) -> Result<(), Fail> {
+    assert!(rt; is_set_sector_changed(rt.alloc())?);
     Ok(())
+}
+
+fn are_changes_given(alloc: Global) -> Result<bool, NoMemory> {
+    let changes = Changes::from_vec(vec![in alloc; change_to(alloc, 516)?]?);
+    let is_one = changes.as_slice().len() == 1;
+    let given = changes.into_vec();
+    Ok(is_one && given.len() == 1)
+}
+
+fn are_bytes_given(alloc: Global) -> Result<bool, NoMemory> {
+    let bytes = ByteWrites::from_vec(vec![in alloc; (Sector(5), [5; 512])]?);
+    let is_one = bytes.as_slice().len() == 1;
+    let given = bytes.into_vec();
+    Ok(is_one && given.len() == 1)
+}
+
+fn are_sectors_given(alloc: Global) -> Result<bool, NoMemory> {
+    let sectors = SectorList::from_vec(vec![in alloc; Sector(8), Sector(9)]?);
+    let are_as_they_were = sectors.as_slice() == [Sector(8), Sector(9)].as_slice();
+    let given = sectors.into_vec();
+    Ok(are_as_they_were && given.len() == 2)
 }
 
 #[test]
 fn lists_give_their_vectors_back(rt: HostRuntime) -> Result<(), Fail> {
-    let alloc = rt.alloc();
-    let changes = Changes::from_vec(vec![in alloc; change_to(alloc, 516)?]?);
-    assert!(rt; changes.as_slice().len() == 1);
-    assert!(rt; changes.into_vec().len() == 1);
-    let bytes = ByteWrites::from_vec(vec![in alloc; (Sector(5), [5; 512])]?);
-    assert!(rt; bytes.as_slice().len() == 1);
-    assert!(rt; bytes.into_vec().len() == 1);
-    let sectors = SectorList::from_vec(vec![in alloc; Sector(8), Sector(9)]?);
-    assert!(rt; sectors.as_slice() == [Sector(8), Sector(9)].as_slice());
-    assert!(rt; sectors.into_vec().len() == 2);
+    assert!(rt; are_changes_given(rt.alloc())?);
+    assert!(rt; are_bytes_given(rt.alloc())?);
+    assert!(rt; are_sectors_given(rt.alloc())?);
     Ok(())
 }
