@@ -1,1 +1,4 @@
-pub mod Splits
+pub mod Rows
+pub mod Looks
+pub mod Reading
+pub mod Whole

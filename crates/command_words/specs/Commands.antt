@@ -21,48 +21,62 @@ pub data Asked : Type 0 where
   Run : (asks : Asks) → Asked
   OnImage : (asks : ImageAsks) → Asked
 
--- the second, where the first isn't given
-abbrev pub unless : Option (List ℕ) → Option (List ℕ) → Option (List ℕ)
-unless None word = word
-unless (Some other) word = None
+-- the text of a list of one
+abbrev pub only : List (List ℕ) → Option (List ℕ)
+only [] = None
+only (text ∷ []) = Some text
+only (text ∷ next ∷ rest) = None
 
--- the only positional word
-abbrev pub only_place : Given → Option (List ℕ)
-only_place given = unless given.second given.first
+-- an option's value, which it has at most once
+abbrev pub at_most_one : List (List ℕ) → Option (Option (List ℕ))
+at_most_one [] = Some None
+at_most_one (text ∷ []) = Some (Some text)
+at_most_one (text ∷ next ∷ rest) = None
+
+-- the only two texts of a list
+abbrev pub only_two : List (List ℕ) → Option (List ℕ × List ℕ)
+only_two [] = None
+only_two (text ∷ []) = None
+only_two (text ∷ next ∷ []) = Some (text, next)
+only_two (text ∷ next ∷ third ∷ rest) = None
+
+-- a word, where an option isn't given
+abbrev pub unless : List (List ℕ) → Option (List ℕ) → Option (List ℕ)
+unless [] word = word
+unless (text ∷ rest) word = None
 
 -- the segments that are asked for, else the default
 abbrev pub segments_in : Option (List ℕ) → Option ℕ
 segments_in None = Some SEGMENTS_DEFAULT
 segments_in (Some value) = number_in 1 SEGMENTS_MAX value
 
--- a log, which are 0 to 255
-abbrev pub log_in : Option (List ℕ) → Option ℕ
-log_in None = None
-log_in (Some word) = number_in 0 255 word
-
 -- run SCRIPT [--segments S]
 abbrev pub run_by : Given → Option Asks
-run_by given = option_and_then (λ script. option_map (λ segments. record { script = script; segments = segments }) (segments_in given.segments)) (unless given.save (only_place given))
+run_by given =
+    option_and_then (λ script. option_map (λ segments. record { script = script; segments = segments }) (option_and_then segments_in (at_most_one given.segments)))
+    (unless given.save (only given.places))
 
 -- recover IMAGE [--save FILE]
 abbrev pub recover_by : Given → Option ImageAsks
-recover_by given = option_map (λ image. Recover image given.save) (unless given.segments (only_place given))
+recover_by given = option_and_then (λ image. option_map (λ save. Recover image save) (at_most_one given.save)) (unless given.segments (only given.places))
 
--- the only positional word, where no option is given
-abbrev pub only_word : Given → Option (List ℕ)
-only_word given = unless given.save (unless given.segments (only_place given))
+-- a word, where no option is given
+abbrev pub bare : Given → Option (List ℕ) → Option (List ℕ)
+bare given word = unless given.save (unless given.segments word)
 
 -- tree IMAGE
 abbrev pub tree_by : Given → Option ImageAsks
-tree_by given = option_map (λ image. Tree image) (only_word given)
+tree_by given = option_map (λ image. Tree image) (bare given (only given.places))
 
--- log IMAGE SERVER
+-- log IMAGE SERVER, a log of 0 to 255
 abbrev pub log_by : Given → Option ImageAsks
-log_by given = option_and_then (λ image. option_map (λ server. Log image server) (log_in given.second)) (unless given.save (unless given.segments given.first))
+log_by given =
+    option_and_then (λ words. option_and_then (λ image. option_map (λ server. Log image server) (number_in 0 255 words.1)) (bare given (Some words.0)))
+    (only_two given.places)
 
 -- fsck IMAGE
 abbrev pub fsck_by : Given → Option ImageAsks
-fsck_by given = option_map (λ image. Fsck image) (only_word given)
+fsck_by given = option_map (λ image. Fsck image) (bare given (only given.places))
 
 -- a command by its name
 abbrev pub image_asked : List ℕ → Given → Option ImageAsks

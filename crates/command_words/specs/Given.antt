@@ -1,23 +1,29 @@
--- The words after a command's name, taken from the left: positional words, in order, and options in any place. An option is `--name value`
--- or `--name=value`, each at most once; `--` ends the options. A value or a positional word that begins with `-` and is longer than that
--- stands only after `=` or after `--`.
-use Rattle.std.specs.Prelude.{ℕ, Bool, true, false, not, ◌==◌, ◌||◌, if◌then◌else◌, nat_lt, Option, Some, None, List, [], ◌∷◌, length, codes, option_and_then}
+-- The words after a command's name, taken from the left: positional words and options, in any places. An option is `--name value` or
+-- `--name=value`; `--` ends the options. A value or a positional word that begins with `-` and is longer than that stands only after `=` or
+-- after `--`. How many words and values a command takes is seen to by the command.
+use Rattle.std.specs.Prelude.{ℕ, Bool, true, false, not, ◌==◌, ◌||◌, if◌then◌else◌, Option, Some, None, List, [], ◌∷◌, ◌++◌, codes, option_and_then, option_map}
 use Rattle.std.specs.Str.{bytes_eq}
-use Rattle.std.specs.List.{before_first, after_first, position_or_len}
-use Rattle.command_words.specs.declared.given.CommandOption.{CommandOption}
-use Rattle.command_words.specs.declared.given.CommandOption.TheVariants.{Segments, Save}
+use Rattle.std.specs.List.{after_first, before_first, list_any}
 
--- what words gave: the positional ones, the values of options, the option whose value the next word has to be, and whether options have ended
+-- an option of a command, which has a value
+pub data CommandOption : Type 0 where
+  Segments : CommandOption
+  Save : CommandOption
+
+-- what words give, each list in the words' order: the positional words, and the values of each option
 pub record Given : Type 0 where
-  pub first : Option (List ℕ)
-  pub second : Option (List ℕ)
-  pub segments : Option (List ℕ)
-  pub save : Option (List ℕ)
+  pub places : List (List ℕ)
+  pub segments : List (List ℕ)
+  pub save : List (List ℕ)
+
+-- words that were read: what they gave, the option whose value the next word has to be, and whether options have ended
+pub record Reading : Type 0 where
+  pub given : Given
   pub awaited : Option CommandOption
   pub ended : Bool
 
-abbrev pub nothing_given : Given
-nothing_given = record { first = None; second = None; segments = None; save = None; awaited = None; ended = false }
+abbrev pub nothing_read : Reading
+nothing_read = record { given = record { places = []; segments = []; save = [] }; awaited = None; ended = false }
 
 -- a word that begins with `-` and is longer than that
 abbrev pub is_dashed : List ℕ → Bool
@@ -25,81 +31,70 @@ is_dashed [] = false
 is_dashed (first ∷ []) = false
 is_dashed (first ∷ next ∷ rest) = first == 45
 
+-- one positional word more
+abbrev pub with_place : List ℕ → Given → Given
+with_place word given = record given { places = given.places ++ word ∷ [] }
+
+-- one value of an option more
+abbrev pub with_value : CommandOption → List ℕ → Given → Given
+with_value Segments value given = record given { segments = given.segments ++ value ∷ [] }
+with_value Save value given = record given { save = given.save ++ value ∷ [] }
+
 -- the option that a text names
 abbrev pub option_named : List ℕ → Option CommandOption
 option_named name =
-    if bytes_eq name (codes "--segments") then Some Segments
-    else (if bytes_eq name (codes "--save") then Some Save
+    if bytes_eq name (codes "segments") then Some Segments
+    else (if bytes_eq name (codes "save") then Some Save
     else None)
 
--- what stands before the first `=` of a word, and what stands after it, where there is one
+-- what stands before the first `=` of a text, and what stands after it, where there is one
 abbrev pub is_equals : ℕ → Bool
 is_equals b = b == 61
 
 abbrev pub name_in : List ℕ → List ℕ
-name_in word = before_first is_equals word
+name_in text = before_first is_equals text
 
 abbrev pub value_in : List ℕ → Option (List ℕ)
-value_in word = if nat_lt (position_or_len is_equals word) (length word) then Some (after_first is_equals word) else None
-
--- one positional word more, of two
-abbrev pub placed : Option (List ℕ) → Option (List ℕ) → Given → List ℕ → Option Given
-placed None second given word = Some (record given { first = Some word })
-placed (Some first) None given word = Some (record given { second = Some word })
-placed (Some first) (Some second) given word = None
-
-abbrev pub with_place : Given → List ℕ → Option Given
-with_place given word = placed given.first given.second given word
-
--- an option has its value at most once
-abbrev pub if_new : Option (List ℕ) → Given → Option Given
-if_new None given = Some given
-if_new (Some value) given = None
-
-abbrev pub with_value : Given → CommandOption → List ℕ → Option Given
-with_value given Segments value = if_new given.segments (record given { segments = Some value })
-with_value given Save value = if_new given.save (record given { save = Some value })
+value_in text = if list_any is_equals text then Some (after_first is_equals text) else None
 
 -- an option with its value behind `=` or in the next word
-abbrev pub option_given : Given → CommandOption → Option (List ℕ) → Option Given
-option_given given option (Some value) = with_value given option value
-option_given given option None = Some (record given { awaited = Some option })
+abbrev pub option_read : CommandOption → Option (List ℕ) → Reading → Reading
+option_read option (Some value) reading = record reading { given = with_value option value reading.given }
+option_read option None reading = record reading { awaited = Some option }
 
-abbrev pub with_option : Given → List ℕ → Option Given
-with_option given word = option_and_then (λ option. option_given given option (value_in word)) (option_named (name_in word))
+-- what stands behind two dashes: nothing, which ends the options, or an option
+abbrev pub behind_dashes : List ℕ → Reading → Option Reading
+behind_dashes [] reading = Some (record reading { ended = true })
+behind_dashes (first ∷ rest) reading = option_map (λ option. option_read option (value_in (first ∷ rest)) reading) (option_named (name_in (first ∷ rest)))
 
--- the value of an option that was named before
-abbrev pub with_next : Given → CommandOption → List ℕ → Option Given
-with_next given option word = if is_dashed word then None else with_value (record given { awaited = None }) option word
+-- a word that begins with `-` and is longer than that
+abbrev pub dashed_read : List ℕ → Reading → Option Reading
+dashed_read [] reading = None
+dashed_read (first ∷ []) reading = None
+dashed_read (first ∷ next ∷ rest) reading = if next == 45 then behind_dashes rest reading else None
 
 -- a word that is no option's value
-abbrev pub with_free : Given → List ℕ → Option Given
-with_free given word =
-    if given.ended || not (is_dashed word) then with_place given word
-    else (if bytes_eq word (codes "--") then Some (record given { ended = true })
-    else with_option given word)
+abbrev pub free_read : List ℕ → Reading → Option Reading
+free_read word reading = if reading.ended || not (is_dashed word) then Some (record reading { given = with_place word reading.given }) else dashed_read word reading
+
+-- the value of an option that was named before
+abbrev pub value_read : CommandOption → List ℕ → Reading → Option Reading
+value_read option word reading = if is_dashed word then None else Some (record reading { given = with_value option word reading.given; awaited = None })
 
 -- one word more
-abbrev pub by_awaited : Option CommandOption → Given → List ℕ → Option Given
-by_awaited (Some option) given word = with_next given option word
-by_awaited None given word = with_free given word
+abbrev pub word_read : Option CommandOption → List ℕ → Reading → Option Reading
+word_read (Some option) word reading = value_read option word reading
+word_read None word reading = free_read word reading
 
-abbrev pub with_word : Given → List ℕ → Option Given
-with_word given word = by_awaited given.awaited given word
-
--- words after others
-abbrev pub given_after : Given → List (List ℕ) → Option Given
-given_after given [] = Some given
-given_after given (word ∷ words) = option_and_then (λ next. given_after next words) (with_word given word)
-
--- no option lacks its value
+-- words after others, at the end of which no option lacks its value
 abbrev pub if_closed : Option CommandOption → Given → Option Given
 if_closed None given = Some given
 if_closed (Some option) given = None
 
-abbrev pub closed : Given → Option Given
-closed given = if_closed given.awaited given
+abbrev pub given_after : Reading → List (List ℕ) → Option Given
+given_after reading [] = if_closed reading.awaited reading.given
+given_after reading (word ∷ words) = option_and_then (λ next. given_after next words) (word_read reading.awaited word reading)
 
 -- what words give
 abbrev pub given_by : List (List ℕ) → Option Given
-given_by words = option_and_then closed (given_after nothing_given words)
+given_by words = given_after nothing_read words

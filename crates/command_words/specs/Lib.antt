@@ -1,4 +1,5 @@
 pub mod Given
 pub mod Commands
 pub mod Views
+pub mod Line
 pub mod Examples

@@ -1,8 +1,8 @@
 -- Words and commands of the code as the definitions have them.
-use Rattle.std.specs.Prelude.{ℕ, ◌≤◌, Option, List, option_map}
+use Rattle.std.specs.Prelude.{ℕ, ◌≤◌, Option, Some, None, List, [], map, option_map}
 use Rattle.std.specs.Borrow.{Bor}
 use Rattle.frang_base.specs.declared.limits.TheConstants.{SEGMENTS_MAX}
-use Rattle.command_words.specs.declared.given.GivenWords.{GivenWords}
+use Rattle.command_words.specs.declared.words.GivenWords.{GivenWords}
 use Rattle.command_words.specs.declared.commands.Command.{Command}
 use Rattle.command_words.specs.declared.commands.Command.TheVariants as command
 use Rattle.command_words.specs.declared.commands.ImageCommand.{ImageCommand}
@@ -15,15 +15,16 @@ use Rattle.command_words.specs.Commands.{Asked, Asks, Fsck, ImageAsks, Log, OnIm
 abbrev pub text_of : Option (Bor (List ℕ)) → Option (List ℕ)
 text_of word = option_map (λ w. w.now) word
 
+-- the texts of words, none where there are no words
+abbrev pub texts_of : Option (Bor (List (Bor (List ℕ)))) → List (List ℕ)
+texts_of None = []
+texts_of (Some words) = map (λ w. w.now) words.now
+
+abbrev pub pair_of : Option (Bor (List ℕ) × Bor (List ℕ)) → Option (List ℕ × List ℕ)
+pair_of words = option_map (λ w. (w.0.now, w.1.now)) words
+
 abbrev pub given_of : GivenWords → Given
-given_of g = record {
-  first = text_of g.first;
-  second = text_of g.second;
-  segments = text_of g.segments;
-  save = text_of g.save;
-  awaited = g.awaited;
-  ended = g.ended;
-}
+given_of g = record { places = texts_of g.places; segments = texts_of g.segments; save = texts_of g.save }
 
 abbrev pub asks_of : RunCommand → Asks
 asks_of run = record { script = run.script.now; segments = run.segments }

@@ -1,12 +1,19 @@
 // What the words of a command line ask.
-ghost use Rattle.std.specs.Prelude.{◌≡◌, ◌≤◌, IfSome, map, option_map, string_bytes};
+ghost use Rattle.std.specs.Prelude.{◌≡◌, ◌≤◌, IfOk, IfSome, map, option_map, string_bytes};
 ghost use Rattle.frang_base.specs.declared.limits.TheConstants.{SEGMENTS_MAX};
-ghost use Rattle.command_words.specs.Commands.{asked_by, asked_with, fsck_by, image_asked, log_by, log_in, only_place, only_word, recover_by, run_by, segments_in, tree_by, unless};
+ghost use Rattle.clap.specs.Words.{subcommand_rows_of};
+ghost use Rattle.command_words.specs.Commands.{asked_by, asked_with, bare, fsck_by, image_asked, log_by, recover_by, run_by, segments_in, tree_by};
+ghost use Rattle.command_words.specs.Line.{asked_entered};
 ghost use Rattle.command_words.specs.Views.{HasSegments, asked_of, asks_of, given_of, image_asks_of, text_of};
 
-use crate::given::{GivenWords, given_by};
+use crate::line::command_line;
+use crate::words::{GivenWords, at_most_one, given_in, only, only_two, unless};
+use clap::ArgMatches;
+use clap::error::ErrorKind;
+use frang_base::NoMemory;
 use frang_base::limits::{SEGMENTS_DEFAULT, SEGMENTS_MAX};
 use script_definitions::number_within;
+use std::alloc::Global;
 
 /// A script to be run on a fresh disk of so many segments, 1 to 64.
 #[derive(Clone, Copy, Debug)]
@@ -45,22 +52,6 @@ pub enum Command<'a> {
     OnImage(ImageCommand<'a>),
 }
 
-// The second, where the first isn't given.
-fn unless<'a>(other: Option<&str>, word: Option<&'a str>) -> Option<&'a str>
-    ensures { text_of result ≡ unless (text_of other.entry) (text_of word.entry) }
-{
-    match other {
-        None => word,
-        Some(_) => None,
-    }
-}
-
-fn only_place(given: GivenWords<'_>) -> Option<&str>
-    ensures { text_of result ≡ only_place (given_of given.entry) }
-{
-    unless(given.second, given.first)
-}
-
 #[tactic(auto, using(script_definitions::proofs::NumeralLaws::number_in_most))]
 fn segments_in(value: Option<&str>) -> Option<u32>
     ensures is { result ≡ segments_in (text_of value.entry) }
@@ -72,64 +63,59 @@ fn segments_in(value: Option<&str>) -> Option<u32>
     }
 }
 
-#[tactic(auto, using(script_definitions::proofs::NumeralLaws::number_in_most))]
-fn log_in(word: Option<&str>) -> Option<u8>
-    ensures { result ≡ log_in (text_of word.entry) }
-{
-    let number = number_within(word?.as_bytes(), 0, 255)?;
-    Some(number as u8)
-}
-
-fn run_by(given: GivenWords<'_>) -> Option<RunCommand<'_>>
+fn run_by<'a>(given: GivenWords<'_, 'a>) -> Option<RunCommand<'a>>
     ensures is { option_map asks_of result ≡ run_by (given_of given.entry) }
     ensures most { IfSome result (λ run. run.segments ≤ SEGMENTS_MAX) }
 {
-    let script = unless(given.save, only_place(given))?;
-    let segments = segments_in(given.segments)?;
+    let script = unless(given.save, only(given.places))?;
+    let segments = segments_in(at_most_one(given.segments)?)?;
     Some(RunCommand { script, segments })
 }
 
-fn recover_by(given: GivenWords<'_>) -> Option<ImageCommand<'_>>
+fn recover_by<'a>(given: GivenWords<'_, 'a>) -> Option<ImageCommand<'a>>
     ensures { option_map image_asks_of result ≡ recover_by (given_of given.entry) }
 {
-    let image = unless(given.segments, only_place(given))?;
-    Some(ImageCommand::Recover {
-        image,
-        save: given.save,
-    })
+    let image = unless(given.segments, only(given.places))?;
+    let save = at_most_one(given.save)?;
+    Some(ImageCommand::Recover { image, save })
 }
 
-// The only positional word, where no option is given.
-fn only_word(given: GivenWords<'_>) -> Option<&str>
-    ensures { text_of result ≡ only_word (given_of given.entry) }
+// A word, where no option is given.
+fn bare<'a>(given: GivenWords<'_, '_>, word: Option<&'a str>) -> Option<&'a str>
+    ensures { text_of result ≡ bare (given_of given.entry) (text_of word.entry) }
 {
-    unless(given.save, unless(given.segments, only_place(given)))
+    unless(given.save, unless(given.segments, word))
 }
 
-fn tree_by(given: GivenWords<'_>) -> Option<ImageCommand<'_>>
+fn tree_by<'a>(given: GivenWords<'_, 'a>) -> Option<ImageCommand<'a>>
     ensures { option_map image_asks_of result ≡ tree_by (given_of given.entry) }
 {
-    let image = only_word(given)?;
+    let image = bare(given, only(given.places))?;
     Some(ImageCommand::Tree { image })
 }
 
-fn log_by(given: GivenWords<'_>) -> Option<ImageCommand<'_>>
+#[tactic(auto, using(script_definitions::proofs::NumeralLaws::number_in_most))]
+fn log_by<'a>(given: GivenWords<'_, 'a>) -> Option<ImageCommand<'a>>
     ensures { option_map image_asks_of result ≡ log_by (given_of given.entry) }
 {
-    let image = unless(given.save, unless(given.segments, given.first))?;
-    let server = log_in(given.second)?;
-    Some(ImageCommand::Log { image, server })
+    let (image, server) = only_two(given.places)?;
+    let image = bare(given, Some(image))?;
+    let number = number_within(server.as_bytes(), 0, 255)?;
+    Some(ImageCommand::Log {
+        image,
+        server: number as u8,
+    })
 }
 
-fn fsck_by(given: GivenWords<'_>) -> Option<ImageCommand<'_>>
+fn fsck_by<'a>(given: GivenWords<'_, 'a>) -> Option<ImageCommand<'a>>
     ensures { option_map image_asks_of result ≡ fsck_by (given_of given.entry) }
 {
-    let image = only_word(given)?;
+    let image = bare(given, only(given.places))?;
     Some(ImageCommand::Fsck { image })
 }
 
 // A command on an image by its name.
-fn image_asked<'a>(name: &str, given: GivenWords<'a>) -> Option<ImageCommand<'a>>
+fn image_asked<'a>(name: &str, given: GivenWords<'_, 'a>) -> Option<ImageCommand<'a>>
     ensures { option_map image_asks_of result ≡ image_asked name.now (given_of given.entry) }
 {
     if name == "recover" {
@@ -146,7 +132,7 @@ fn image_asked<'a>(name: &str, given: GivenWords<'a>) -> Option<ImageCommand<'a>
 }
 
 // A command by its name.
-fn asked_with<'a>(name: &str, given: GivenWords<'a>) -> Option<Command<'a>>
+fn asked_with<'a>(name: &str, given: GivenWords<'_, 'a>) -> Option<Command<'a>>
     ensures is { option_map asked_of result ≡ asked_with name.now (given_of given.entry) }
     ensures segments { IfSome result (λ command. HasSegments command) }
 {
@@ -157,16 +143,36 @@ fn asked_with<'a>(name: &str, given: GivenWords<'a>) -> Option<Command<'a>>
     }
 }
 
-/// What the words after the program's name ask. `None` exactly where they are no command.
-pub fn command_of(words: &[String]) -> Option<Command<'_>>
-    ensures is { option_map asked_of result ≡ asked_by (map string_bytes words.now) }
+// What a command that `clap` met asks.
+fn asked_in<'a>(matches: &ArgMatches<'a>) -> Option<Command<'a>>
+    ensures is { option_map asked_of result ≡ asked_entered (subcommand_rows_of matches.now) }
     ensures segments { IfSome result (λ command. HasSegments command) }
 {
-    match words {
-        [] => None,
-        [name, rest @ ..] => {
-            let given = given_by(rest)?;
-            asked_with(name.as_str(), given)
+    let (name, behind) = matches.subcommand()?;
+    asked_with(name, given_in(behind))
+}
+
+// That an error isn't want of memory.
+fn no_want(kind: ErrorKind) -> Result<(), NoMemory>
+    ensures { IfOk result (λ done. kind ≡ ErrorKind.OutOfMemory → ⊥) }
+{
+    match kind {
+        ErrorKind::OutOfMemory => Err(NoMemory),
+        _ => Ok(()),
+    }
+}
+
+/// What the words after the program's name ask. `Ok(None)` exactly where they are no command, but for want of memory.
+pub fn command_of<'a>(alloc: Global, words: &'a [String]) -> Result<Option<Command<'a>>, NoMemory>
+    ensures is { IfOk result (λ asked. option_map asked_of asked ≡ asked_by (map string_bytes words.now)) }
+    ensures segments { IfOk result (λ asked. IfSome asked (λ command. HasSegments command)) }
+{
+    let line = command_line(alloc)?;
+    match line.try_get_matches_from(words) {
+        Ok(matches) => Ok(asked_in(&matches)),
+        Err(error) => {
+            no_want(error.kind())?;
+            Ok(None)
         }
     }
 }

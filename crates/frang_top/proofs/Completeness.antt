@@ -10,12 +10,16 @@ use Rattle.image_commands.specs.Asked.{IsDoneOrShort}
 use Rattle.image_commands.proofs.AskedLaws.{complete as told_complete}
 use Rattle.frang_top.specs.declared.outcome.Outcome.{Outcome}
 use Rattle.frang_top.specs.declared.outcome.Outcome.TheVariants as ends
+use Rattle.frang_top.specs.declared.outcome.Status.{Status}
 use Rattle.frang_top.specs.Built.{built_script_of}
 use Rattle.frang_top.specs.Top.{AreHeld, HasFile, Ends, EndsFile, EndsRun, HasRun, HasRunFor, HasTold, IsComplete, IsCompleteOnImage, image_status, opening_for, status_of}
 
 -- a status of all done, or of want of memory
+abbrev HasFineCode : Status → Type 0
+HasFineCode status = (status.code ≡ 0) ⊎ (status.code ≡ 3)
+
 abbrev IsFine : Outcome → Type 0
-IsFine outcome = ((status_of outcome).code ≡ 0) ⊎ ((status_of outcome).code ≡ 3)
+IsFine outcome = HasFineCode (status_of outcome)
 
 -- files that are told are those of the call
 same_files : (told : Option Holds) (holds others : Holds) → told ≡ Some holds → AreHeld told others → others ≡ holds
@@ -72,7 +76,7 @@ module _ (files files_after : FilesState) (out after : State) where
       let some : Some (OnImage own) ≡ Some (OnImage asks) = sym is ∙ by in
       let same : own ≡ asks = cc in
       let all = subst (λ a. HasTold a files files_after out after outcome) same done in
-      subst IsFine (sym all.outcome_is) (told_fine all.ended (told_complete asks files files_after out after all.ended all.cause holds bytes blocks told at_name short image are fine))
+      subst HasFineCode (sym all.status_is) (told_fine all.ended (told_complete asks files files_after out after all.ended all.cause holds bytes blocks told at_name short image are fine))
 
   pub complete : (words : List (List ℕ)) (outcome : Outcome) → HasRunFor (asked_by words) files files_after out after outcome → IsComplete words files files_after out after (status_of outcome)
   complete words outcome done = run_complete words outcome (asked_by words) refl done

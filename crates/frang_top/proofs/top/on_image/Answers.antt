@@ -5,7 +5,7 @@ use Rattle.frang_top.proofs.top.on_image.Goals as goal
 pub returns-clause-done : goal.returns-clause-done
 returns-clause-done g c = record {
   ended = c.do_command.result;
-  outcome_is = refl;
+  status_is = refl;
   cause = c.do_command.ensures.ends;
   leaves = c.do_command.ensures.files;
 }
