@@ -7,10 +7,13 @@ top=$(git -C "$(dirname "$0")" rev-parse --show-toplevel) || exit 2
 room=$(mktemp -d) || exit 2
 trap 'rm -rf "$room"' EXIT
 git clone -q "$top" "$room/clone" || exit 2
+# Some kits keep what passed before and need a flag for a run from nothing; the others have no such flag and refuse it.
+flags=()
+if rt help 2>&1 | grep -q -- --anew; then flags=(--anew); fi
 cat >"$room/cost.py" <<'PY'
 import collections, os, re, resource, subprocess, sys, time
 
-clone, log, rows = sys.argv[1], sys.argv[2], int(sys.argv[3])
+clone, log, rows, flags = sys.argv[1], sys.argv[2], int(sys.argv[3]), sys.argv[4:]
 tick = os.sysconf("SC_CLK_TCK")
 steps = {}  # (process, its start) -> (crate, kind, seconds so far)
 
@@ -51,7 +54,7 @@ def below(path):
 
 begun = time.time()
 with open(log, "wb") as out:
-    run = subprocess.Popen(["rt", "ci", "--anew"], cwd=clone, stdout=out, stderr=subprocess.STDOUT, stdin=subprocess.DEVNULL)
+    run = subprocess.Popen(["rt", "ci", *flags], cwd=clone, stdout=out, stderr=subprocess.STDOUT, stdin=subprocess.DEVNULL)
     while run.poll() is None:
         look()
         time.sleep(0.5)
@@ -84,7 +87,7 @@ with open(log, errors="replace") as it:
 sys.exit(run.returncode)
 PY
 log=$(git -C "$top" rev-parse --absolute-git-dir)/gate-cost.log
-python3 -I "$room/cost.py" "$room/clone" "$log" "${1:-0}"
+python3 -I "$room/cost.py" "$room/clone" "$log" "${1:-0}" "${flags[@]}"
 code=$?
 echo "the run's own lines: $log"
 exit $code

@@ -2,7 +2,7 @@
 ghost use Rattle.std.specs.Prelude.{IfOk};
 ghost use Rattle.op_data.specs.Bytes.{IsOfBytes};
 
-use dir_lookup::Hand;
+use dir_lookup::{Hand, Looked};
 use frang_base::{NoMemory, Op, Text};
 use meta_version::Sectors;
 use op_data::plan_bytes;
@@ -77,7 +77,8 @@ fn told(alloc: Global, sectors: &Sectors, telling: Telling, row: &Row) -> Result
 pub(crate) fn plan(alloc: Global, op: &Op, when: u64, hand: &Hand) -> Result<Outcome, Stop>
     requires { IsOfBytes op.now }
 {
-    plan_bytes(alloc, op, when, hand)
+    let mut looked = Looked::unasked();
+    plan_bytes(alloc, op, when, hand, &mut looked)
 }
 
 /// The operation on file bytes.

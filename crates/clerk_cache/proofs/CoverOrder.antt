@@ -12,7 +12,6 @@ use Rattle.frang_base.specs.declared.lock.LockId.TheVariants.{Log, Segment, Node
 use Rattle.frang_base.specs.Locks.{same_lock}
 use Rattle.lock_definitions.specs.Order.{lock_cmp}
 use Rattle.lock_definitions.proofs.LockOrder.{found_lock}
-use Rattle.flush_order.specs.declared.Mark.{Mark}
 use Rattle.flush_order.specs.Marks.{mark_cmp}
 use Rattle.sorted_entries.specs.Places.{IsKeyOrder}
 use Rattle.sector_bytes.proofs.MapLaws.{found}

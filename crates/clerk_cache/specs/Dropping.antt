@@ -1,8 +1,10 @@
 -- When a lock's cover may be dropped, and what is then left.
-use Rattle.std.specs.Prelude.{◌≡◌, ℕ, Bool, not, ◌&&◌, is_some, Option, Some, None, Result, Ok, Err, find, filter}
+use Rattle.std.specs.Prelude.{◌≡◌, ℕ, Bool, not, ◌&&◌, is_some, List, [], ◌∷◌, Option, Some, None, Result, Ok, Err, find, filter}
 use Rattle.std.specs.Option.{option_map}
 use Rattle.frang_base.specs.declared.lock.LockId.{LockId}
+use Rattle.frang_base.specs.declared.sector.Sector.{Sector}
 use Rattle.frang_base.specs.Locks.{same_lock}
+use Rattle.sector_bytes.specs.SectorMaps.{without}
 use Rattle.clerk_cache.specs.declared.cache.Dirty.{Dirty}
 use Rattle.clerk_cache.specs.Cached.{Cached, Contents}
 
@@ -21,6 +23,11 @@ first_dirty lock contents = option_map (λ entry. entry.0) (find (λ entry. is_d
 -- the first sector under the lock
 abbrev pub first_under : LockId → Contents → Option ℕ
 first_under lock contents = option_map (λ entry. entry.0) (find (λ entry. is_under lock entry.1) contents)
+
+-- the contents without these sectors
+abbrev pub forgotten : List Sector → Contents → Contents
+forgotten [] contents = contents
+forgotten (sector ∷ sectors) contents = forgotten sectors (without contents sector.0)
 
 -- the contents without the sectors under the lock
 abbrev pub dropped : LockId → Contents → Contents

@@ -12,7 +12,7 @@ ghost use Rattle.clerk_cache.specs.Cached.{block_at, cover_at, blocks_of, marks_
 ghost use Rattle.ordered_map.specs.Chunks.{joined};
 ghost use Rattle.clerk_cache.specs.Kept.{cached_of, state_at, state_marks};
 ghost use Rattle.clerk_cache.specs.Changing.{clean, dirty, holds, with_change, with_written, with_cover};
-ghost use Rattle.clerk_cache.specs.Dropping.{first_dirty, first_under, dropped, DropOutcome};
+ghost use Rattle.clerk_cache.specs.Dropping.{first_dirty, first_under, dropped, forgotten, DropOutcome};
 
 use crate::state::SectorState;
 use crate::states::States;
@@ -201,8 +201,28 @@ impl Cache {
         ensures entries { self.new.entries ≡ without self.old.entries sector.0 }
         ensures spare { self.old.spare ≤ self.new.spare }
     {
-        self.sectors.remove(sector);
+        self.forget_near(None, sector);
+    }
+
+    // The same, looking for the sector at a place first, and then from there on.
+    fn forget_near(&mut self, near: Option<Place>, sector: Sector)
+        ensures entries { self.new.entries ≡ without self.old.entries sector.0 }
+        ensures spare { self.old.spare ≤ self.new.spare }
+    {
+        self.sectors.remove_near(near, sector);
         self.states.remove(self.sectors.last_place(), sector);
+    }
+
+    /// None of these sectors is cached afterwards, whether it was dirty or not. It takes no memory. Where they ascend it is one pass: each
+    /// is looked for from where the one before it lay.
+    pub fn forget_all(&mut self, sectors: &[Sector])
+        ensures entries { self.new.entries ≡ forgotten sectors.now self.old.entries }
+        ensures spare { self.old.spare ≤ self.new.spare }
+    {
+        for sector in sectors {
+            let last = self.sectors.last_place();
+            self.forget_near(last, *sector);
+        }
     }
 
     /// The sector was written as this block: it is no longer dirty where it still holds that block. It takes no memory.
@@ -289,13 +309,14 @@ impl Cache {
         self.states.first_dirty(lock)
     }
 
-    // Drops the sectors under a lock.
+    // Drops the sectors under a lock, in one pass: they ascend, and each is looked for from where the one before it lay.
     fn drop_all(&mut self, lock: LockId)
         ensures entries { self.new.entries ≡ dropped lock self.old.entries }
         ensures spare { self.old.spare ≤ self.new.spare }
     {
         while let Some(sector) = self.first_under(lock) {
-            self.forget(Sector(sector));
+            let last = self.sectors.last_place();
+            self.forget_near(last, Sector(sector));
         }
     }
 

@@ -9,7 +9,7 @@ ghost use Rattle.lock_definitions.specs.Order.{lock_cmp};
 ghost use Rattle.clerk_cache.specs.Covers.{cover_cmp, cover_total, first_of};
 
 use frang_base::LockId;
-use ordered_map::OrderedMap;
+use ordered_map::{OrderedMap, Place};
 use std::cmp::Ordering;
 
 /// A sector with the lock that covers it. They ascend by their locks, and those of one lock by their sectors.
@@ -71,15 +71,19 @@ impl Ord for Covered {
     }
 }
 
-/// The first sector under a lock.
-pub(crate) fn first_of(covered: &OrderedMap<Covered, ()>, lock: LockId) -> Option<u64>
+/// The first sector under a lock, which is looked for from a place on first.
+pub(crate) fn first_of(
+    covered: &OrderedMap<Covered, ()>,
+    near: Option<Place>,
+    lock: LockId,
+) -> Option<u64>
     ensures { result ≡ first_of lock covered.now.entries }
 {
     let from = Covered {
         cover: lock,
         sector: 0,
     };
-    match covered.first_from(&from) {
+    match covered.first_from_near(near, &from) {
         Some(entry) => sector_under(entry.0, lock),
         None => None,
     }

@@ -4,7 +4,7 @@ ghost use Rattle.sorted_entries.specs.Places.{IsKeyOrder};
 ghost use Rattle.clerk_cache.specs.Keys.{with_key, without_key, IsApart};
 
 use frang_base::NoMemory;
-use ordered_map::OrderedMap;
+use ordered_map::{OrderedMap, Place};
 
 /// Makes room for `held` and `n` more keys in all. Nothing else changes, whatever the answer. It takes no memory where there is that
 /// room.
@@ -28,13 +28,17 @@ pub(crate) fn reserve<K: Ord + Copy + Drop>(
     }
 }
 
-/// Takes a key out, where there is one. It takes no memory.
-pub(crate) fn take_out<K: Ord + Copy + Drop>(keys: &mut OrderedMap<K, ()>, key: Option<K>)
+/// Takes a key out, where there is one. It looks for it at a place first, and takes no memory.
+pub(crate) fn take_out<K: Ord + Copy + Drop>(
+    keys: &mut OrderedMap<K, ()>,
+    near: Option<Place>,
+    key: Option<K>,
+)
     ensures keys { keys.new.entries ≡ without_key K.cmp key keys.old.entries }
     ensures most { keys.new.spare + length keys.new.entries ≡ keys.old.spare + length keys.old.entries }
 {
     if let Some(key) = key {
-        keys.remove(&key);
+        let _ = keys.take_near(near, &key);
     }
 }
 
@@ -86,6 +90,6 @@ pub(crate) fn exchange<K: Ord + Copy + Drop>(
     if are_same(old, new) {
         return;
     }
-    take_out(keys, old);
+    take_out(keys, None, old);
     put_in(keys, new);
 }

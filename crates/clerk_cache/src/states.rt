@@ -86,18 +86,18 @@ impl States {
         first_mark(&self.marks)
     }
 
-    /// The first sector under a lock.
+    /// The first sector under a lock. It is looked for first from where the last one lay that was removed.
     pub(crate) fn first_under(&self, lock: LockId) -> Option<u64>
         ensures { result ≡ first_under_state lock self.now.entries }
     {
-        first_of(&self.covers, lock)
+        first_of(&self.covers, self.covers.last_place(), lock)
     }
 
     /// The first dirty sector under a lock.
     pub(crate) fn first_dirty(&self, lock: LockId) -> Option<u64>
         ensures { result ≡ first_dirty_state lock self.now.entries }
     {
-        first_of(&self.dirty, lock)
+        first_of(&self.dirty, None, lock)
     }
 
     /// Makes room for `n` more sectors, each of which may be dirty. Nothing else changes, whatever the answer. It takes no memory where
@@ -136,21 +136,24 @@ impl States {
         match self.states.update(near, &sector.0, &Cleaned) {
             Some(state) => {
                 let old = keys_of(sector, Some(state));
-                take_out(&mut self.marks, old.mark);
-                take_out(&mut self.dirty, old.dirty);
+                let last = self.marks.last_place();
+                take_out(&mut self.marks, last, old.mark);
+                take_out(&mut self.dirty, None, old.dirty);
             }
             None => {}
         }
     }
 
-    /// Nothing is kept of the sector afterwards. It takes no memory.
+    /// Nothing is kept of the sector afterwards. Its cover is looked for first where that of the last one lay that was removed: those of
+    /// one lock follow one another. It takes no memory.
     pub(crate) fn remove(&mut self, near: Option<Place>, sector: Sector)
         ensures entries { self.new.entries ≡ without self.old.entries sector.0 }
         ensures spare { self.old.spare ≤ self.new.spare }
     {
         let old = keys_of(sector, self.states.take_near(near, &sector.0));
-        take_out(&mut self.marks, old.mark);
-        take_out(&mut self.covers, old.cover);
-        take_out(&mut self.dirty, old.dirty);
+        let last = self.covers.last_place();
+        take_out(&mut self.marks, None, old.mark);
+        take_out(&mut self.covers, last, old.cover);
+        take_out(&mut self.dirty, None, old.dirty);
     }
 }

@@ -21,6 +21,7 @@ use Rattle.sector_bytes.specs.SectorMaps.{value_at}
 use Rattle.sector_bytes.specs.Sectors.{sectors_of}
 use Rattle.tree_definitions.specs.Apply.{is_path_op}
 use Rattle.tree_definitions.specs.TreeLines.{name_below, path_text}
+use Rattle.core_definitions.specs.Settings.{LogRules}
 use Rattle.core_definitions.specs.Caches.{still_has}
 use Rattle.core_definitions.specs.Flights.{Flight, InPlace, OfLog, OfRecovery, Purpose}
 use Rattle.core_definitions.specs.Lines.{Stage, Asking, Fetching, Moving, Stopping, Growing, Clearing, Finishing, Under, operation_of}
@@ -86,15 +87,15 @@ fetched_keeps a at sector block server = go (is_off server.phase) (cover_needed 
     go false None = inl refl
     go false (Some cover) = inl refl
 
-again_keeps : (at : Option Stage) (server : Server) → Keeps server (again_by at server)
-again_keeps None server = inl refl
-again_keeps (Some (Asking need)) server = inl refl
-again_keeps (Some (Fetching needs)) server = inl refl
-again_keeps (Some Moving) server = with_under_keeps server _ (λ u. refl)
-again_keeps (Some Stopping) server = inl refl
-again_keeps (Some (Growing needs seen)) server = with_under_keeps server _ (λ u. refl)
-again_keeps (Some (Clearing block)) server = inl refl
-again_keeps (Some (Finishing outcome)) server = inl refl
+again_keeps : (logs : LogRules) (at : Option Stage) (server : Server) → Keeps server (again_by logs at server)
+again_keeps logs None server = inl refl
+again_keeps logs (Some (Asking need)) server = inl refl
+again_keeps logs (Some (Fetching needs)) server = inl refl
+again_keeps logs (Some Moving) server = with_under_keeps server _ (λ u. refl)
+again_keeps logs (Some Stopping) server = inl refl
+again_keeps logs (Some (Growing needs seen)) server = with_under_keeps server _ (λ u. refl)
+again_keeps logs (Some (Clearing block)) server = inl refl
+again_keeps logs (Some (Finishing outcome)) server = inl refl
 
 acknowledged_keeps : (sector : ℕ) (block : Block) (purpose : Purpose) (server : Server) → Keeps server (acknowledged sector block purpose server)
 acknowledged_keeps sector block (OfLog number) server = inl refl
@@ -407,7 +408,7 @@ module _ (script : List Line) (own : Once (numbers_of script)) where
   event_told s (Begin a) heard answers m t = silent script _ answers [] refl (begun_told s.core answers a m.can.can t)
   event_told s (Ask a lock mode) heard answers m t = silent script _ answers [] refl (same s.core _ answers refl refl refl t)
   event_told s (Fetch a sector) heard answers m t = silent script _ answers [] refl (fetch_told s.core answers a sector heard t)
-  event_told s (Again a) heard answers m t = silent script _ answers [] refl (steady s.core answers a _ (again_keeps (stage s.core a) (s.core.servers a)) t)
+  event_told s (Again a) heard answers m t = silent script _ answers [] refl (steady s.core answers a _ (again_keeps s.core.setting.logs (stage s.core a) (s.core.servers a)) t)
   event_told s (Clear a block) heard answers m t = silent script _ answers [] refl (steady s.core answers a _ (inl refl) t)
   event_told s (Commit a) heard answers m t = committed_told s.core answers a (stage s.core a) (s.core.servers a).under m.can.can.server refl refl t
   event_told s (Answer a) heard answers m t = answered_told s.core answers a (s.core.servers a).under (due_at s.core a) m.can.can.server refl t

@@ -1,6 +1,6 @@
 -- A worked run in which a block is cleared, computed in parts: the events in their order and the lines said.
 use Rattle.std.proofs.Common.{◌∙◌, ap}
-use Rattle.std.specs.Prelude.{◌≡◌, ℕ, Option, Some, List, [], ◌∷◌, ◌++◌, codes, drop, take, refl}
+use Rattle.std.specs.Prelude.{◌≡◌, Option, Some, None, List, [], ◌∷◌, ◌++◌, codes, refl}
 use Rattle.frang_base.specs.Functions.{put}
 use Rattle.frang_base.specs.declared.lock.LockId.{LockId}
 use Rattle.frang_base.specs.declared.lock.LockId.TheVariants.{Node, Segment}
@@ -11,22 +11,31 @@ use Rattle.frang_base.specs.declared.op.Op.TheVariants as op
 use Rattle.frang_base.specs.declared.reply.Reply.TheVariants as reply
 use Rattle.frang_base.specs.declared.said.Said.{Said}
 use Rattle.frang_base.specs.declared.script.Line.{Line}
+use Rattle.disk_definitions.specs.Store.{StoredNode, stored_node}
 use Rattle.line_definitions.specs.Resolving.{resolve}
 use Rattle.lock_definitions.specs.Locks.{no_clerks, no_logs}
 use Rattle.lock_definitions.specs.Servers.{any_server}
 use Rattle.log_definitions.specs.Frames.{frame_read}
 use Rattle.pick_definitions.specs.Least.{least, least_from}
+use Rattle.plan_definitions.specs.NamePlans.{made_by}
+use Rattle.plan_definitions.specs.Plans.{Finish}
+use Rattle.plan_definitions.specs.Plans.Room.{InBlock}
 use Rattle.sector_bytes.specs.Bytes.{zeros}
 use Rattle.sector_bytes.specs.Changes.{changed}
+use Rattle.sector_definitions.specs.Inodes.{inode_in}
+use Rattle.store_changes.specs.Edits.{Edit}
+use Rattle.tree_definitions.specs.declared.node.Node.TheVariants.{File}
 use Rattle.core_definitions.specs.Cores.{stage}
-use Rattle.core_definitions.specs.Lines.{Seen, Stage, Fetching, Growing}
+use Rattle.core_definitions.specs.Lines.{Seen, Stage, Clearing, Fetching, Finishing, Growing}
+use Rattle.core_definitions.specs.Plans.{Outcome, outcome_of, sight_of}
 use Rattle.core_definitions.specs.Servers.{Server}
 use Rattle.core_steps.specs.Events.{Event, Begin, Ask, Fetch, Again, Clear, Commit, Answer, Issue, Arrive, HostLine}
-use Rattle.core_steps.specs.LineEffects.{again_by, fetched_by}
+use Rattle.core_steps.specs.Effects.{reply_by, says_answer}
+use Rattle.core_steps.specs.LineEffects.{again_by, committed_at, fetched_by}
 use Rattle.core_steps.specs.Runs.{State}
-use Rattle.core_examples.specs.Clears.{made}
-use Rattle.core_examples.specs.Driving.{Driven, driven, host_line, line, story_of}
-use Rattle.core_clears.specs.Parts.{a_run_goes_on, behind_all, left_by, story_behind}
+use Rattle.core_examples.specs.Clears.{made, made_set}
+use Rattle.core_examples.specs.Driving.{Driven, behind, driven, host_line, inode_block, line, story_of}
+use Rattle.core_clears.specs.Parts.{OfArrival, OfIssue, WritesCome, a_run_goes_on, a_turn_goes_on, behind_all, enabled_at, first_event, left_by, left_by_one, story_behind, writes_go_on, writes_stay}
 use Rattle.core_examples.specs.Rows.{answered}
 use Rattle.core_clears.specs.Opening.{directory_opening}
 
@@ -59,22 +68,19 @@ the_bitmap_is_fetched = refl
 unfoldable pub bitmap_fetched : State
 bitmap_fetched = left_by start_events cleared_opening
 
--- ---- to the locks of the plan; from here on each plan looks for its block among all that a disk may have
+-- ---- to the locks of the plan; from here on each plan looks for its block among all that a disk may have, and is made once for all turns at which it is the same
 
-abbrev pub inode_events : List Event
-inode_events = Fetch 0 10737418242 ∷ []
-
-pub the_inode_is_fetched : (driven 1 bitmap_fetched).events ≡ inode_events
-unfolding bitmap_fetched cleared_opening no_clerks no_logs any_server zeros resolve least least_from changed frame_read
-the_inode_is_fetched = refl
-
--- how far the line has come there: it needs the sector of the inode that it picks
+-- the plan needs the sector of the inode that it picks
 abbrev pub inode_needed : Option Stage
 inode_needed = Some (Fetching ((10737418242, Segment 0) ∷ []))
 
 pub an_inode_is_needed : stage bitmap_fetched.core 0 ≡ inode_needed
 unfolding bitmap_fetched cleared_opening no_clerks no_logs any_server zeros resolve least least_from changed frame_read
 an_inode_is_needed = refl
+
+pub the_inode_is_fetched : first_event (enabled_at bitmap_fetched.core inode_needed) ≡ Some (Fetch 0 10737418242)
+unfolding bitmap_fetched cleared_opening no_clerks no_logs any_server zeros resolve least least_from changed frame_read
+the_inode_is_fetched = refl
 
 -- a state whose servers are those of another, but for the first
 abbrev pub with_first : State → State → Server → State
@@ -84,19 +90,9 @@ abbrev pub fetching : Option Stage → Server
 fetching at = fetched_by 0 at 10737418242 (bitmap_fetched.disk 10737418242) (bitmap_fetched.core.servers 0)
 
 unfoldable pub inode_fetched : State
-inode_fetched = with_first (left_by inode_events bitmap_fetched) bitmap_fetched (fetching inode_needed)
+inode_fetched = with_first (left_by_one bitmap_fetched (Fetch 0 10737418242)) bitmap_fetched (fetching inode_needed)
 
-abbrev pub again_events : List Event
-again_events = Again 0 ∷ []
-
-abbrev pub ask_events : List Event
-ask_events = Ask 0 (Node 1) Sole ∷ Ask 0 (Node 2) Sole ∷ []
-
-pub the_locks_are_asked : (driven 3 inode_fetched).events ≡ again_events ++ ask_events
-unfolding inode_fetched bitmap_fetched cleared_opening no_clerks no_logs any_server zeros resolve least least_from changed frame_read
-the_locks_are_asked = refl
-
--- how far it has come there: its plan finds these locks, and it has seen these sectors
+-- it finds these locks, and has seen these sectors
 abbrev pub made_locks_found : List (LockId × Mode)
 made_locks_found =
     (Node 0, Shared) ∷ (Node 1, Shared) ∷ (Node 0, Shared) ∷ (Node 1, Shared) ∷ (Node 1, Sole) ∷ (Node 2, Sole) ∷ (Segment 0, Sole) ∷ (Segment 0, Sole) ∷ []
@@ -111,149 +107,179 @@ pub the_locks_are_found : stage inode_fetched.core 0 ≡ locks_found
 unfolding inode_fetched bitmap_fetched cleared_opening no_clerks no_logs any_server zeros resolve least least_from changed frame_read
 the_locks_are_found = refl
 
+pub the_set_grows : first_event (enabled_at inode_fetched.core locks_found) ≡ Some (Again 0)
+unfolding inode_fetched bitmap_fetched cleared_opening no_clerks no_logs any_server zeros resolve least least_from changed frame_read
+the_set_grows = refl
+
 abbrev pub growing : Option Stage → Server
-growing at = again_by at (inode_fetched.core.servers 0)
+growing at = again_by inode_fetched.core.setting.logs at (inode_fetched.core.servers 0)
 
 unfoldable pub set_grown : State
-set_grown = with_first (left_by again_events inode_fetched) inode_fetched (growing locks_found)
+set_grown = with_first (left_by_one inode_fetched (Again 0)) inode_fetched (growing locks_found)
 
--- ---- the clear, the writes of its zeros, and their arrivals
+abbrev pub ask_events : List Event
+ask_events = Ask 0 (Node 1) Sole ∷ Ask 0 (Node 2) Sole ∷ []
 
-abbrev pub zero_events : List Event
-zero_events =
-    Clear 0 1 ∷ Issue 0 12884901896 ∷ Issue 0 12884901897 ∷ Issue 0 12884901898 ∷ Issue 0 12884901899 ∷ Issue 0 12884901900 ∷ Issue 0 12884901901 ∷
-    Issue 0 12884901902 ∷ Issue 0 12884901903 ∷ Arrive 0 ∷ Arrive 1 ∷ Arrive 2 ∷ Arrive 3 ∷ Arrive 4 ∷ Arrive 5 ∷ Arrive 6 ∷ Arrive 7 ∷ []
+pub the_locks_are_asked : (driven 2 set_grown).events ≡ ask_events
+unfolding set_grown inode_fetched bitmap_fetched cleared_opening no_clerks no_logs any_server zeros resolve least least_from changed frame_read
+the_locks_are_asked = refl
 
--- behind so many of them
-unfoldable pub clearing : ℕ → State
-clearing many = left_by (take many zero_events) (left_by ask_events set_grown)
+unfoldable pub locks_held : State
+locks_held = left_by ask_events set_grown
 
-abbrev pub next_zero_events : (many turns : ℕ) → List Event
-next_zero_events many turns = take turns (drop many zero_events)
+-- ---- the clear
 
-pub made_to_2 : (driven 2 (clearing 0)).events ≡ next_zero_events 0 2
-unfolding clearing set_grown inode_fetched bitmap_fetched cleared_opening no_clerks no_logs any_server zeros resolve least least_from changed frame_read
-made_to_2 = refl
+pub the_plan_clears_a_block : stage locks_held.core 0 ≡ Some (Clearing 1)
+unfolding locks_held set_grown inode_fetched bitmap_fetched cleared_opening no_clerks no_logs any_server zeros resolve least least_from changed frame_read
+the_plan_clears_a_block = refl
 
-pub made_to_4 : (driven 2 (clearing 2)).events ≡ next_zero_events 2 2
-unfolding clearing set_grown inode_fetched bitmap_fetched cleared_opening no_clerks no_logs any_server zeros resolve least least_from changed frame_read
-made_to_4 = refl
+pub the_block_is_cleared : first_event (enabled_at locks_held.core (Some (Clearing 1))) ≡ Some (Clear 0 1)
+unfolding locks_held set_grown inode_fetched bitmap_fetched cleared_opening no_clerks no_logs any_server zeros resolve least least_from changed frame_read
+the_block_is_cleared = refl
 
-pub made_to_6 : (driven 2 (clearing 4)).events ≡ next_zero_events 4 2
-unfolding clearing set_grown inode_fetched bitmap_fetched cleared_opening no_clerks no_logs any_server zeros resolve least least_from changed frame_read
-made_to_6 = refl
+unfoldable pub zeros_wanted : State
+zeros_wanted = left_by_one locks_held (Clear 0 1)
 
-pub made_to_8 : (driven 2 (clearing 6)).events ≡ next_zero_events 6 2
-unfolding clearing set_grown inode_fetched bitmap_fetched cleared_opening no_clerks no_logs any_server zeros resolve least least_from changed frame_read
-made_to_8 = refl
+-- ---- the line is finished then, but waits for the writes of the zeros
 
-pub made_to_10 : (driven 2 (clearing 8)).events ≡ next_zero_events 8 2
-unfolding clearing set_grown inode_fetched bitmap_fetched cleared_opening no_clerks no_logs any_server zeros resolve least least_from changed frame_read
-made_to_10 = refl
+-- what it does: the file gets inode 2, and the directory block 1
+abbrev pub made_edits : Option StoredNode → List Edit
+made_edits None = []
+made_edits (Some directory) = (made_by 1 directory (codes "x") 8589934594 (File [] 1 0) (0 ∷ 1 ∷ []) 2 (InBlock 1)).edits
 
-pub made_to_12 : (driven 2 (clearing 10)).events ≡ next_zero_events 10 2
-unfolding clearing set_grown inode_fetched bitmap_fetched cleared_opening no_clerks no_logs any_server zeros resolve least least_from changed frame_read
-made_to_12 = refl
+abbrev pub made_finish : Finish
+made_finish = record { reply = reply.Ok; edits = made_edits (stored_node (inode_in (inode_block 1 2 1 0 4294967298 []))); locks = made_locks_found }
 
-pub made_to_14 : (driven 2 (clearing 12)).events ≡ next_zero_events 12 2
-unfolding clearing set_grown inode_fetched bitmap_fetched cleared_opening no_clerks no_logs any_server zeros resolve least least_from changed frame_read
-made_to_14 = refl
+abbrev pub made_outcome : Outcome
+made_outcome = outcome_of zeros_wanted.core.setting (line 2 0 made) (sight_of 1 made_set (zeros_wanted.core.servers 0).cache) made_finish
 
-pub made_to_16 : (driven 2 (clearing 14)).events ≡ next_zero_events 14 2
-unfolding clearing set_grown inode_fetched bitmap_fetched cleared_opening no_clerks no_logs any_server zeros resolve least least_from changed frame_read
-made_to_16 = refl
+abbrev pub finished : Option Stage
+finished = Some (Finishing made_outcome)
 
-pub made_to_17 : (driven 1 (clearing 16)).events ≡ next_zero_events 16 1
-unfolding clearing set_grown inode_fetched bitmap_fetched cleared_opening no_clerks no_logs any_server zeros resolve least least_from changed frame_read
-made_to_17 = refl
+pub the_plan_is_finished : stage zeros_wanted.core 0 ≡ finished
+unfolding zeros_wanted locks_held set_grown inode_fetched bitmap_fetched cleared_opening no_clerks no_logs any_server zeros resolve least least_from changed frame_read
+the_plan_is_finished = refl
+
+-- ---- the writes of its zeros, and their arrivals
+
+abbrev pub issue_events : List Event
+issue_events =
+    Issue 0 12884901896 ∷ Issue 0 12884901897 ∷ Issue 0 12884901898 ∷ Issue 0 12884901899 ∷ Issue 0 12884901900 ∷ Issue 0 12884901901 ∷
+    Issue 0 12884901902 ∷ Issue 0 12884901903 ∷ []
+
+pub the_zeros_are_issued : WritesCome finished zeros_wanted issue_events
+unfolding zeros_wanted locks_held set_grown inode_fetched bitmap_fetched cleared_opening no_clerks no_logs any_server zeros resolve least least_from changed frame_read
+the_zeros_are_issued = (OfIssue, refl, (OfIssue, refl, (OfIssue, refl, (OfIssue, refl, (OfIssue, refl, (OfIssue, refl, (OfIssue, refl, (OfIssue, refl, tt))))))))
+
+unfoldable pub zeros_issued : State
+zeros_issued = left_by issue_events zeros_wanted
+
+abbrev pub arrive_events : List Event
+arrive_events = Arrive 0 ∷ Arrive 1 ∷ Arrive 2 ∷ Arrive 3 ∷ Arrive 4 ∷ Arrive 5 ∷ Arrive 6 ∷ Arrive 7 ∷ []
+
+pub the_zeros_arrive : WritesCome finished zeros_issued arrive_events
+unfolding zeros_issued zeros_wanted locks_held set_grown inode_fetched bitmap_fetched cleared_opening no_clerks no_logs any_server zeros resolve least least_from changed frame_read
+the_zeros_arrive = (OfArrival, refl, (OfArrival, refl, (OfArrival, refl, (OfArrival, refl, (OfArrival, refl, (OfArrival, refl, (OfArrival, refl, (OfArrival, refl, tt))))))))
+
+unfoldable pub zeros_written : State
+zeros_written = left_by arrive_events zeros_issued
 
 -- ---- and only then the commit, the sync and the halt
 
-abbrev pub end_events : List Event
-end_events = Commit 0 ∷ Begin 0 ∷ Issue 0 2147483648 ∷ Arrive 8 ∷ Answer 0 ∷ HostLine 4 ∷ []
+pub the_line_is_committed : first_event (enabled_at zeros_written.core finished) ≡ Some (Commit 0)
+unfolding zeros_written zeros_issued zeros_wanted locks_held set_grown inode_fetched bitmap_fetched cleared_opening no_clerks no_logs any_server zeros resolve least least_from changed frame_read
+the_line_is_committed = refl
 
-pub then_it_ends : story_of (driven 7 (clearing 17)) ≡ record { events = end_events; said_lines = cleared_says }
-unfolding clearing set_grown inode_fetched bitmap_fetched cleared_opening no_clerks no_logs any_server zeros resolve least least_from changed frame_read
+-- the commit of a line that has come so far
+abbrev pub committed_so : State → Option Stage → State
+committed_so s at = record { core = committed_at s.core 0 at; disk = s.disk; record_ = s.record_ ++ says_answer 0 (s.core.servers 0).under (reply_by at) }
+
+unfoldable pub line_done : State
+line_done = committed_so zeros_written finished
+
+abbrev pub end_events : List Event
+end_events = Begin 0 ∷ Issue 0 2147483648 ∷ Arrive 8 ∷ Answer 0 ∷ HostLine 4 ∷ []
+
+pub then_it_ends : story_of (driven 6 line_done) ≡ record { events = end_events; said_lines = cleared_says }
+unfolding line_done zeros_written zeros_issued zeros_wanted locks_held set_grown inode_fetched bitmap_fetched cleared_opening no_clerks no_logs any_server zeros resolve least least_from changed frame_read
 then_it_ends = refl
 
 -- ---- the parts make the run
-
-inode_leaves : left_by inode_events bitmap_fetched ≡ inode_fetched
-unfolding inode_fetched
-inode_leaves = ap (λ at. with_first (left_by inode_events bitmap_fetched) bitmap_fetched (fetching at)) an_inode_is_needed
-
-set_leaves : left_by again_events inode_fetched ≡ set_grown
-unfolding set_grown
-set_leaves = ap (λ at. with_first (left_by again_events inode_fetched) inode_fetched (growing at)) the_locks_are_found
 
 start_goes_on : driven 48 cleared_opening ≡ behind_all start_events (driven 28 bitmap_fetched)
 unfolding bitmap_fetched
 start_goes_on = a_run_goes_on start_events 28 cleared_opening the_bitmap_is_fetched
 
-inode_goes_on : driven 28 bitmap_fetched ≡ behind_all inode_events (driven 27 inode_fetched)
-inode_goes_on = a_run_goes_on inode_events 27 bitmap_fetched the_inode_is_fetched ∙ ap (λ s. behind_all inode_events (driven 27 s)) inode_leaves
+inode_leaves : left_by_one bitmap_fetched (Fetch 0 10737418242) ≡ inode_fetched
+unfolding inode_fetched
+inode_leaves = ap (λ at. with_first (left_by_one bitmap_fetched (Fetch 0 10737418242)) bitmap_fetched (fetching at)) an_inode_is_needed
 
-locks_go_on : driven 27 inode_fetched ≡ behind_all (again_events ++ ask_events) (driven 24 (clearing 0))
-unfolding clearing
-locks_go_on =
-    a_run_goes_on (again_events ++ ask_events) 24 inode_fetched the_locks_are_asked
-    ∙ ap (λ s. behind_all (again_events ++ ask_events) (driven 24 (left_by ask_events s))) set_leaves
+inode_goes_on : driven 28 bitmap_fetched ≡ behind (Fetch 0 10737418242) (driven 27 inode_fetched)
+inode_goes_on =
+    a_turn_goes_on (Fetch 0 10737418242) 27 bitmap_fetched inode_needed (record { come = an_inode_is_needed; first = the_inode_is_fetched })
+    ∙ ap (λ s. behind (Fetch 0 10737418242) (driven 27 s)) inode_leaves
 
-to_2 : driven 24 (clearing 0) ≡ behind_all (next_zero_events 0 2) (driven 22 (clearing 2))
-unfolding clearing
-to_2 = a_run_goes_on (next_zero_events 0 2) 22 (clearing 0) made_to_2
+set_leaves : left_by_one inode_fetched (Again 0) ≡ set_grown
+unfolding set_grown
+set_leaves = ap (λ at. with_first (left_by_one inode_fetched (Again 0)) inode_fetched (growing at)) the_locks_are_found
 
-to_4 : driven 22 (clearing 2) ≡ behind_all (next_zero_events 2 2) (driven 20 (clearing 4))
-unfolding clearing
-to_4 = a_run_goes_on (next_zero_events 2 2) 20 (clearing 2) made_to_4
+set_goes_on : driven 27 inode_fetched ≡ behind (Again 0) (driven 26 set_grown)
+set_goes_on =
+    a_turn_goes_on (Again 0) 26 inode_fetched locks_found (record { come = the_locks_are_found; first = the_set_grows })
+    ∙ ap (λ s. behind (Again 0) (driven 26 s)) set_leaves
 
-to_6 : driven 20 (clearing 4) ≡ behind_all (next_zero_events 4 2) (driven 18 (clearing 6))
-unfolding clearing
-to_6 = a_run_goes_on (next_zero_events 4 2) 18 (clearing 4) made_to_6
+locks_go_on : driven 26 set_grown ≡ behind_all ask_events (driven 24 locks_held)
+unfolding locks_held
+locks_go_on = a_run_goes_on ask_events 24 set_grown the_locks_are_asked
 
-to_8 : driven 18 (clearing 6) ≡ behind_all (next_zero_events 6 2) (driven 16 (clearing 8))
-unfolding clearing
-to_8 = a_run_goes_on (next_zero_events 6 2) 16 (clearing 6) made_to_8
+clear_goes_on : driven 24 locks_held ≡ behind (Clear 0 1) (driven 23 zeros_wanted)
+unfolding zeros_wanted
+clear_goes_on = a_turn_goes_on (Clear 0 1) 23 locks_held (Some (Clearing 1)) (record { come = the_plan_clears_a_block; first = the_block_is_cleared })
 
-to_10 : driven 16 (clearing 8) ≡ behind_all (next_zero_events 8 2) (driven 14 (clearing 10))
-unfolding clearing
-to_10 = a_run_goes_on (next_zero_events 8 2) 14 (clearing 8) made_to_10
+issues_go_on : driven 23 zeros_wanted ≡ behind_all issue_events (driven 15 zeros_issued)
+unfolding zeros_issued
+issues_go_on = writes_go_on issue_events 15 zeros_wanted finished the_plan_is_finished the_zeros_are_issued
 
-to_12 : driven 14 (clearing 10) ≡ behind_all (next_zero_events 10 2) (driven 12 (clearing 12))
-unfolding clearing
-to_12 = a_run_goes_on (next_zero_events 10 2) 12 (clearing 10) made_to_12
+still_finished : stage zeros_issued.core 0 ≡ finished
+unfolding zeros_issued
+still_finished = writes_stay issue_events zeros_wanted finished the_plan_is_finished the_zeros_are_issued
 
-to_14 : driven 12 (clearing 12) ≡ behind_all (next_zero_events 12 2) (driven 10 (clearing 14))
-unfolding clearing
-to_14 = a_run_goes_on (next_zero_events 12 2) 10 (clearing 12) made_to_14
+arrivals_go_on : driven 15 zeros_issued ≡ behind_all arrive_events (driven 7 zeros_written)
+unfolding zeros_written
+arrivals_go_on = writes_go_on arrive_events 7 zeros_issued finished still_finished the_zeros_arrive
 
-to_16 : driven 10 (clearing 14) ≡ behind_all (next_zero_events 14 2) (driven 8 (clearing 16))
-unfolding clearing
-to_16 = a_run_goes_on (next_zero_events 14 2) 8 (clearing 14) made_to_16
+finished_at_last : stage zeros_written.core 0 ≡ finished
+unfolding zeros_written
+finished_at_last = writes_stay arrive_events zeros_issued finished still_finished the_zeros_arrive
 
-to_17 : driven 8 (clearing 16) ≡ behind_all (next_zero_events 16 1) (driven 7 (clearing 17))
-unfolding clearing
-to_17 = a_run_goes_on (next_zero_events 16 1) 7 (clearing 16) made_to_17
+commit_leaves : left_by_one zeros_written (Commit 0) ≡ line_done
+unfolding line_done
+commit_leaves = ap (committed_so zeros_written) finished_at_last
 
-zeros_go_on : driven 24 (clearing 0) ≡ behind_all zero_events (driven 7 (clearing 17))
-zeros_go_on =
-    to_2 ∙ ap (behind_all (next_zero_events 0 2))
-    (to_4 ∙ ap (behind_all (next_zero_events 2 2))
-    (to_6 ∙ ap (behind_all (next_zero_events 4 2))
-    (to_8 ∙ ap (behind_all (next_zero_events 6 2))
-    (to_10 ∙ ap (behind_all (next_zero_events 8 2))
-    (to_12 ∙ ap (behind_all (next_zero_events 10 2))
-    (to_14 ∙ ap (behind_all (next_zero_events 12 2))
-    (to_16 ∙ ap (behind_all (next_zero_events 14 2)) to_17)))))))
+commit_goes_on : driven 7 zeros_written ≡ behind (Commit 0) (driven 6 line_done)
+commit_goes_on =
+    a_turn_goes_on (Commit 0) 6 zeros_written finished (record { come = finished_at_last; first = the_line_is_committed })
+    ∙ ap (λ s. behind (Commit 0) (driven 6 s)) commit_leaves
 
-in_parts : cleared_run ≡ behind_all start_events (behind_all inode_events (behind_all (again_events ++ ask_events) (behind_all zero_events (driven 7 (clearing 17)))))
-in_parts = start_goes_on ∙ ap (behind_all start_events) (inode_goes_on ∙ ap (behind_all inode_events) (locks_go_on ∙ ap (behind_all (again_events ++ ask_events)) zeros_go_on))
+zeros_go_on : driven 23 zeros_wanted ≡ behind_all (issue_events ++ arrive_events) (behind (Commit 0) (driven 6 line_done))
+zeros_go_on = issues_go_on ∙ ap (behind_all issue_events) (arrivals_go_on ∙ ap (behind_all arrive_events) commit_goes_on)
+
+-- from the bitmap to the end of the line
+abbrev pub line_events : List Event
+line_events = Fetch 0 10737418242 ∷ Again 0 ∷ ask_events ++ Clear 0 1 ∷ issue_events ++ arrive_events ++ Commit 0 ∷ []
+
+line_goes_on : driven 28 bitmap_fetched ≡ behind_all line_events (driven 6 line_done)
+line_goes_on =
+    inode_goes_on ∙ ap (behind (Fetch 0 10737418242))
+    (set_goes_on ∙ ap (behind (Again 0)) (locks_go_on ∙ ap (behind_all ask_events) (clear_goes_on ∙ ap (behind (Clear 0 1)) zeros_go_on)))
+
+in_parts : cleared_run ≡ behind_all start_events (behind_all line_events (driven 6 line_done))
+in_parts = start_goes_on ∙ ap (behind_all start_events) line_goes_on
 
 abbrev pub cleared_events : List Event
 cleared_events =
     Begin 0 ∷ Answer 0 ∷ Begin 0 ∷ Ask 0 (Node 0) Shared ∷ Fetch 0 10737418240 ∷ Fetch 0 12884901888 ∷ Again 0 ∷ Ask 0 (Node 1) Shared ∷ Fetch 0 10737418241 ∷
-    Again 0 ∷ Ask 0 (Segment 0) Sole ∷ Fetch 0 4294967296 ∷ inode_events ++ again_events ++ ask_events ++ zero_events ++ end_events
+    Again 0 ∷ Ask 0 (Segment 0) Sole ∷ Fetch 0 4294967296 ∷ line_events ++ end_events
 
 pub cleared_runs_so : story_of cleared_run ≡ record { events = cleared_events; said_lines = cleared_says }
-cleared_runs_so =
-    ap story_of in_parts ∙ ap (λ story. story_behind start_events (story_behind inode_events (story_behind (again_events ++ ask_events) (story_behind zero_events story)))) then_it_ends
+cleared_runs_so = ap story_of in_parts ∙ ap (λ story. story_behind start_events (story_behind line_events story)) then_it_ends

@@ -1,3 +1,4 @@
 pub mod Opening
+pub mod Stays
 pub mod Parts
 pub mod Cleared

@@ -5,10 +5,10 @@ use Rattle.frang_base.specs.declared.limits.TheConstants.{SERVERS}
 use Rattle.frang_base.specs.declared.reply.Reply.{Reply}
 use Rattle.frang_base.specs.declared.said.Said.{Said}
 use Rattle.frang_base.specs.declared.script.Line.{Line}
-use Rattle.lock_definitions.specs.Lease.{lease_expiry, write_stamp}
+use Rattle.lock_definitions.specs.Lease.{write_stamp_of}
 use Rattle.lock_definitions.specs.Locks.{Locks, no_locks}
 use Rattle.tree_definitions.specs.Numbers.{below}
-use Rattle.core_definitions.specs.Settings.{Setting}
+use Rattle.core_definitions.specs.Settings.{Setting, lease_to}
 use Rattle.core_definitions.specs.Lines.{Stage}
 use Rattle.core_definitions.specs.Flights.{Flights}
 use Rattle.core_definitions.specs.Scripts.{Marks, all_answered, host_party, next_line}
@@ -62,10 +62,10 @@ with_server c a server = record c { servers = put c.servers a server }
 
 -- until when its lease lasts; the host counts as renewed at every moment
 abbrev pub expiry_of : Core → ℕ → ℕ
-expiry_of c a = if a == host_party then lease_expiry c.now else (c.servers a).expiry
+expiry_of c a = if a == host_party then lease_to c.setting c.now else (c.servers a).expiry
 
 abbrev pub stamp_of : Core → ℕ → ℕ
-stamp_of c a = write_stamp (expiry_of c a)
+stamp_of c a = write_stamp_of c.setting.margin_ticks (expiry_of c a)
 
 -- how far its line over paths has come
 abbrev pub stage : Core → ℕ → Option Stage

@@ -49,6 +49,6 @@ log_sector logs server number = sector_of (region.Log server (slot_of logs numbe
 abbrev pub seal_block : ℕ → Block
 seal_block number = log_sector_bytes (empty_sector number)
 
--- the numbers of a seal behind an end but the first: e + 2 to e + 64
+-- the numbers of a seal behind an end but the first: over a disk's logs e + 2 to e + 64
 abbrev pub later_seals : LogRules → ℕ → List ℕ
 later_seals logs end = map (λ k. end + 2 + k) (below (logs.seals - 1))

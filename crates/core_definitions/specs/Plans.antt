@@ -1,5 +1,5 @@
 -- What a line's plan is while its set is held: what it is made over, what it examines, which lock covers each sector, and what it comes to once it is finished.
-use Rattle.std.specs.Prelude.{ℕ, Bool, true, false, Option, Some, None, List, [], ◌∷◌, filter, map}
+use Rattle.std.specs.Prelude.{ℕ, Bool, Option, Some, None, List, [], ◌∷◌, filter, map}
 use Rattle.std.specs.List.{filter_map, list_all, take_while}
 use Rattle.std.specs.Option.{option_and_then, option_map, unwrap_or}
 use Rattle.frang_base.specs.declared.bitmap.Bitmap.{Bitmap}
@@ -21,10 +21,11 @@ use Rattle.disk_definitions.specs.Store.{store_of}
 use Rattle.pick_definitions.specs.Held.{Segments}
 use Rattle.store_changes.specs.Edits.{Edit}
 use Rattle.store_changes.specs.Edits.Edit.{SetBytes, SetLargeBytes}
-use Rattle.plan_definitions.specs.Ask.{Ask, AtHand, Met, Sector, InodeAt, DirectoryAt, SegmentAt, BytesAt, LargeAt, looks, meet, number_of}
+use Rattle.plan_definitions.specs.Ask.{Ask, AtHand, Met, Sector, BytesAt, LargeAt, looks, meet, number_of}
 use Rattle.plan_definitions.specs.Missing.{is_at_hand}
 use Rattle.plan_definitions.specs.Plans.{Finish, Plan}
 use Rattle.plan_definitions.specs.Written.{Cached, at_hand, changes_of, edited_block, freed_sectors, hand_of, sectors_at_hand}
+use Rattle.plan_traces.specs.Traces.{has_version}
 use Rattle.plan_moves.specs.CoversAtHand.{cover_at_hand}
 use Rattle.plan_moves.specs.Moves.{moved_by}
 use Rattle.plan_moves.specs.Numbered.{moves_of}
@@ -69,14 +70,6 @@ abbrev pub planned : Ask Plan → Sight → Met Plan
 planned program sight = meet program (known_in sight)
 
 -- ---- what it examines
-
--- file bytes have no version
-abbrev pub has_version : Sector → Bool
-has_version (InodeAt inode) = true
-has_version (DirectoryAt block part) = true
-has_version (SegmentAt segment) = true
-has_version (BytesAt block part) = false
-has_version (LargeAt segment part) = false
 
 -- the sectors with a version that the plan examines, in order, before the first that isn't at hand
 abbrev pub examined : ℕ → Ask Plan → Sight → List ℕ

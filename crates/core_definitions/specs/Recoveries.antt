@@ -63,7 +63,7 @@ is_replay_done logs segments recovery = is_read logs recovery.slots && is_none (
 abbrev pub is_sealed_at : LogRules → Recovery → ℕ → Bool
 is_sealed_at logs recovery number = is_written recovery (log_sector logs recovery.dead number)
 
--- the numbers of the seal that are wanted: e + 2 to e + 64, all at once; once these are acknowledged, e + 1
+-- the numbers of the seal that are wanted: those from e + 2 on, all at once; once these are acknowledged, e + 1
 abbrev pub seals_from : LogRules → Recovery → ℕ → List ℕ
 seals_from logs recovery end =
     let later = later_seals logs end in

@@ -1,9 +1,7 @@
 -- The place of each party in the script: its lines are answered in their order, and the host's each after all before it.
-use Rattle.std.specs.Prelude.{ℕ, ◌==◌, Bool, true, false, not, ◌&&◌, if◌then◌else◌, nat_le, Option, Some, None, List, find}
+use Rattle.std.specs.Prelude.{ℕ, ◌==◌, Bool, false, not, ◌&&◌, if◌then◌else◌, nat_le, Option, Some, None, List, find}
 use Rattle.std.specs.List.{list_all}
-use Rattle.frang_base.specs.declared.op.HostOp.TheVariants as host
 use Rattle.frang_base.specs.declared.op.What.{What}
-use Rattle.frang_base.specs.declared.op.What.TheVariants.{Server, Host}
 use Rattle.frang_base.specs.declared.script.Line.{Line}
 use Rattle.tree_definitions.specs.Live.{ticks_of}
 use Rattle.tree_definitions.specs.Transcript.{lines_before, lines_for}
@@ -43,7 +41,3 @@ is_waited_for script answered (Some line) = earlier_answered script answered lin
 -- its ticks have passed: `tick n` lets n pass, other lines none
 abbrev pub have_passed : ℕ → What → Bool
 have_passed ticks what = nat_le (ticks_of what) ticks
-
-abbrev pub is_halt_asked : What → Bool
-is_halt_asked (Host host.Halt) = true
-is_halt_asked _ = false

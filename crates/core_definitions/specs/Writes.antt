@@ -34,9 +34,9 @@ Writes = List (ℕ × Write)
 -- ---- why a sector in place, or the log, is wanted
 
 -- the plan is `Done`, and the ring has no room for its record
-abbrev pub lacks_room : Ring → Option Stage → Bool
-lacks_room ring (Some (Finishing outcome)) = not (has_room ring outcome.redo)
-lacks_room ring _ = false
+abbrev pub lacks_room : LogRules → Ring → Option Stage → Bool
+lacks_room logs ring (Some (Finishing outcome)) = not (has_room logs ring outcome.redo)
+lacks_room logs ring _ = false
 
 -- the lock is held sole, and asked
 abbrev pub is_pressed : Locks → ℕ → LockId → Bool
@@ -47,19 +47,19 @@ has_pressed locks number = list_any (λ claim. is_pressed locks number claim.0) 
 
 -- a dirty sector is wanted where it stays wanted; its zeros are pending; an unmount is under way; a sync is, and it is one of file bytes; its lock is held sole and asked; or the
 -- ring has no room and its oldest records name the sector
-abbrev pub is_place_wanted : Locks → ℕ → Server → Option Stage → ℕ → Kept → Bool
-is_place_wanted locks number server stage sector kept =
+abbrev pub is_place_wanted : LogRules → Locks → ℕ → Server → Option Stage → ℕ → Kept → Bool
+is_place_wanted logs locks number server stage sector kept =
     member sector server.staying || member sector server.pending || asks is_unmount server || (asks is_sync server && is_dirty_bytes kept)
-    || is_pressed locks number kept.cover || (lacks_room server.ring stage && is_oldest_named server.ring sector)
+    || is_pressed locks number kept.cover || (lacks_room logs server.ring stage && is_oldest_named logs server.ring sector)
 
 -- with each of these causes the log is wanted up to its last number
-abbrev pub is_log_wanted : Locks → ℕ → Server → Option Stage → Bool
-is_log_wanted locks number server stage =
-    not (is_none server.pending) || asks is_unmount server || asks is_sync server || has_pressed locks number || lacks_room server.ring stage
+abbrev pub is_log_wanted : LogRules → Locks → ℕ → Server → Option Stage → Bool
+is_log_wanted logs locks number server stage =
+    not (is_none server.pending) || asks is_unmount server || asks is_sync server || has_pressed locks number || lacks_room logs server.ring stage
 
 -- the log is wanted up to this number
-abbrev pub log_wanted_to : Locks → ℕ → Server → Option Stage → ℕ
-log_wanted_to locks number server stage = if is_log_wanted locks number server stage then last server.ring else server.staying_log
+abbrev pub log_wanted_to : LogRules → Locks → ℕ → Server → Option Stage → ℕ
+log_wanted_to logs locks number server stage = if is_log_wanted logs locks number server stage then last server.ring else server.staying_log
 
 -- ---- the writes
 
@@ -69,9 +69,9 @@ place_write number wanted kept None = None
 place_write number wanted kept (Some dirt) =
     if wanted then Some (record { behalf = number; block = kept.block; purpose = InPlace kept.cover; mark = Some dirt.mark }) else None
 
-abbrev pub place_writes : Locks → ℕ → Server → Option Stage → Writes
-place_writes locks number server stage =
-    filter_map (λ entry. option_map (λ write. (entry.0, write)) (place_write number (is_place_wanted locks number server stage entry.0 entry.1) entry.1 entry.1.dirt)) server.cache
+abbrev pub place_writes : LogRules → Locks → ℕ → Server → Option Stage → Writes
+place_writes logs locks number server stage =
+    filter_map (λ entry. option_map (λ write. (entry.0, write)) (place_write number (is_place_wanted logs locks number server stage entry.0 entry.1) entry.1 entry.1.dirt)) server.cache
 
 -- of the log the first number not issued, where the log is wanted up to it or further
 abbrev pub log_write : LogRules → ℕ → ℕ → Option (ℕ × Block) → Writes
@@ -89,8 +89,8 @@ rescue_writes logs segments (Some recovery) =
 abbrev pub wanted_writes : Setting → Locks → ℕ → Server → Option Stage → Writes
 wanted_writes setting locks number server stage =
     fold (λ writes entry. with_value writes entry.0 entry.1) []
-    (rescue_writes setting.logs setting.segments server.recovery ++ place_writes locks number server stage
-    ++ log_write setting.logs number (log_wanted_to locks number server stage) (next_write server.ring))
+    (rescue_writes setting.logs setting.segments server.recovery ++ place_writes setting.logs locks number server stage
+    ++ log_write setting.logs number (log_wanted_to setting.logs locks number server stage) (next_write server.ring))
 
 -- ---- what a write waits for
 
@@ -99,8 +99,8 @@ abbrev pub is_mark_reached : Ring → Option ℕ → Bool
 is_mark_reached ring None = true
 is_mark_reached ring (Some mark) = nat_le mark ring.reached
 
--- of its log no number more than 64 past the acknowledged ones is in flight
-abbrev pub keeps_window : Ring → Purpose → Bool
-keeps_window ring (OfLog number) = is_in_window ring number
-keeps_window ring (InPlace cover) = true
-keeps_window ring OfRecovery = true
+-- of its log no number is in flight that is further past the acknowledged ones than the log's limit
+abbrev pub keeps_window : LogRules → Ring → Purpose → Bool
+keeps_window logs ring (OfLog number) = is_in_window logs ring number
+keeps_window logs ring (InPlace cover) = true
+keeps_window logs ring OfRecovery = true

@@ -15,7 +15,7 @@ use Rattle.sector_definitions.specs.Inodes.{inode_bytes}
 use Rattle.sector_definitions.specs.Params.{param_bytes}
 use Rattle.sector_definitions.specs.Regions.{sector_of}
 use Rattle.sector_definitions.specs.declared.region.Region.TheVariants as region
-use Rattle.core_definitions.specs.Settings.{Setting}
+use Rattle.core_definitions.specs.Settings.{Setting, setting_of}
 use Rattle.core_definitions.specs.Flights.{Flight}
 use Rattle.core_definitions.specs.Recoveries.{Recovery}
 use Rattle.core_definitions.specs.Scripts.{host_party}
@@ -78,8 +78,9 @@ two_files_disk = sectors_of ((0, parameters 2) ∷ (sector_of (region.Segment 0)
     ∷ (sector_of (region.Inode 1), inode_block 1 1 1 0 4294967298 []) ∷ (sector_of (region.Inode 2), inode_block 1 1 1 0 4294967299 [])
     ∷ (sector_of (region.Small 0 0), entries_block 2 (entry 1 1 (codes "f") ∷ entry 2 1 (codes "g") ∷ [])) ∷ [])
 
+-- over a disk of one segment with small logs
 abbrev pub small_setting : ℕ → List Line → Setting
-small_setting run script = record { script = script; segments = 1; run = run; logs = small_logs; flush_ticks = 30 }
+small_setting run script = record (setting_of script 1 run) { logs = small_logs }
 
 -- every line has passed the gate
 abbrev pub opening_on : Sectors → ℕ → List Line → State

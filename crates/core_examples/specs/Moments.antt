@@ -1,5 +1,5 @@
 -- What may happen in states stated by hand, computed: each condition of an event, where it lacks and where it holds.
-use Rattle.std.specs.Prelude.{◌≡◌, ℕ, Bool, true, false, Some, None, List, [], ◌∷◌, codes, replicate, refl}
+use Rattle.std.specs.Prelude.{◌≡◌, ℕ, Bool, true, false, Some, None, List, [], ◌∷◌, codes, refl}
 use Rattle.frang_base.specs.Functions.{put}
 use Rattle.frang_base.specs.declared.lock.LockId.TheVariants.{Node, Segment}
 use Rattle.frang_base.specs.declared.lock.Mode.TheVariants.{Shared, Sole}
@@ -71,17 +71,17 @@ none_is_issued_after_a_failure = refl
 
 -- a log whose next number waits, and of which so many before it are in flight
 abbrev pub sending : List Bool → Server
-sending above = record up { ring = record (ring_at 255) { above = above; waiting = empty_sector 319 ∷ [] }; staying_log = 320 }
+sending above = record up { ring = record (ring_at 255) { above = above; waiting = empty_sector 257 ∷ [] }; staying_log = 258 }
 
--- with 64 in flight the next one waits
-pub sixty_four_are_in_flight_at_most : open_now (having idle 0 (sending (replicate 64 false))) ≡ Close 0 ∷ []
+-- with two in flight the next one waits
+pub two_are_in_flight_at_most : open_now (having idle 0 (sending (false ∷ false ∷ []))) ≡ Close 0 ∷ []
 unfolding no_clerks no_logs any_server zeros
-sixty_four_are_in_flight_at_most = refl
+two_are_in_flight_at_most = refl
 
--- with 63 it is issued
-pub the_sixty_fourth_is_issued : open_now (having idle 0 (sending (replicate 63 false))) ≡ Issue 0 2147483655 ∷ Close 0 ∷ []
+-- with one it is issued
+pub the_second_is_issued : open_now (having idle 0 (sending (false ∷ []))) ≡ Issue 0 2147483649 ∷ Close 0 ∷ []
 unfolding no_clerks no_logs any_server zeros
-the_sixty_fourth_is_issued = refl
+the_second_is_issued = refl
 
 -- ---- Commit and Again: a log with no room
 
@@ -109,15 +109,15 @@ pub a_line_with_room_is_committed : open_now (cutting_with (ring_at 255) clean_f
 unfolding no_clerks no_logs any_server zeros resolve least least_from changed frame_read
 a_line_with_room_is_committed = refl
 
--- 192 numbers aren't given up; the oldest record names the file
+-- six numbers aren't given up; the oldest record names the file
 abbrev pub full_ring : Ring
-full_ring = record (ring_at 447) { given_up = 255; named = record { sector = record { 0 = file_sector }; version = 2; first = 256 } ∷ [] }
+full_ring = record (ring_at 261) { given_up = 255; named = record { sector = record { 0 = file_sector }; version = 2; first = 256 } ∷ [] }
 
 -- its sector is written first, and then the ring reclaims
 abbrev pub full_turns : List (List Event)
 full_turns = (Issue 0 file_sector ∷ []) ∷ (Arrive 0 ∷ []) ∷ (Again 0 ∷ []) ∷ (Commit 0 ∷ []) ∷ []
 
-pub a_full_log_reclaims_first : choices 4 (cutting_with full_ring (dirty file_block (Node 1) 447 false)) ≡ full_turns
+pub a_full_log_reclaims_first : choices 4 (cutting_with full_ring (dirty file_block (Node 1) 261 false)) ≡ full_turns
 unfolding no_clerks no_logs any_server zeros resolve least least_from changed frame_read
 a_full_log_reclaims_first = refl
 

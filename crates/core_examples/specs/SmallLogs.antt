@@ -1,4 +1,5 @@
--- Logs of eight slots, which are read as those of a disk are: a window of six numbers, and a seal of two.
+-- Logs of eight slots, which are read and written as those of a disk are, a quarter for each quarter: six numbers that aren't given up, two in flight, two given up at once, and a
+-- seal of two.
 use Rattle.std.specs.Prelude.{ℕ, ◌+◌, ◌-◌, ◌%◌, Bool, ◌==◌, if◌then◌else◌, max, nat_le, Option, Some, None, is_some, List, map, fold, filter}
 use Rattle.std.specs.List.{filter_map, list_all}
 use Rattle.std.specs.Option.{option_map}
@@ -17,6 +18,9 @@ slots_small = 8
 
 abbrev pub window_small : ℕ
 window_small = 6
+
+abbrev pub quarter_small : ℕ
+quarter_small = 2
 
 -- a number lies in its slot
 abbrev pub in_slot : ℕ → Option LogSector → Option LogSector
@@ -54,4 +58,4 @@ abbrev pub is_sealed_small : Slots → Bool
 is_sealed_small slots = list_all (λ n. nat_le n (end_small slots)) (numbers_small slots)
 
 abbrev pub small_logs : LogRules
-small_logs = record { sectors = slots_small; end = end_small; records = records_small; sealed = is_sealed_small; seals = 2 }
+small_logs = record { sectors = slots_small; end = end_small; records = records_small; sealed = is_sealed_small; seals = quarter_small; in_flight = quarter_small; room = window_small; quarter = quarter_small }

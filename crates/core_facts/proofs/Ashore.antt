@@ -19,6 +19,7 @@ use Rattle.sector_bytes.specs.Blocks.{Block}
 use Rattle.sector_bytes.specs.SectorMaps.{value_at, without}
 use Rattle.sector_bytes.specs.Sectors.{Sectors}
 use Rattle.tree_definitions.specs.Touched.{is_ok, is_unmount}
+use Rattle.tree_definitions.specs.Transcript.{is_halt}
 use Rattle.core_definitions.specs.Caches.{any_kept, is_dirty, still_has}
 use Rattle.core_definitions.specs.Flights.{Flight, Flights, InPlace, OfLog, OfRecovery, Purpose, each_of_server, has_flights, is_of_mount, left_behind, lost}
 use Rattle.core_definitions.specs.Lines.{Stage, Asking, Fetching, Moving, Stopping, Growing, Clearing, Finishing, Under, operation_of}
@@ -26,9 +27,9 @@ use Rattle.core_definitions.specs.Logs.{is_read}
 use Rattle.core_definitions.specs.Plans.{Outcome}
 use Rattle.core_definitions.specs.Recoveries.{Recovery}
 use Rattle.core_definitions.specs.Rings.{is_all_reached}
-use Rattle.core_definitions.specs.Scripts.{host_party, is_halt_asked}
+use Rattle.core_definitions.specs.Scripts.{host_party}
 use Rattle.core_definitions.specs.Servers.{Doomed, Phase, Off, Up, Still, Dead, Server, due_if, due_under, is_answering, is_clean, is_dead, is_off, is_up, own_answer, own_answer_of, wanting_all, wanting_all_up}
-use Rattle.core_definitions.specs.Settings.{Setting}
+use Rattle.core_definitions.specs.Settings.{LogRules, Setting}
 use Rattle.core_definitions.specs.Writes.{Write}
 use Rattle.core_definitions.specs.Cores.{Core, clean_at, due_at, next_of, stage, with_server, writes}
 use Rattle.core_steps.specs.Events.{Event, Begin, Ask, Fetch, Again, Clear, Commit, Answer, Give, Issue, Doom, Resume, Arrive, Lose, Die, Renew, Tick, Recover, Load, Look, Finish, HostLine, Close, Read, Show, End, Heard, Nothing, Got, GetFailed, Written, Late, PutFailed}
@@ -176,15 +177,15 @@ fetched_phase a at sector block server = go (is_off server.phase) (cover_needed 
     go false None = refl
     go false (Some cover) = refl
 
-pub again_phase : (at : Option Stage) (server : Server) → (again_by at server).phase ≡ server.phase
-again_phase None server = refl
-again_phase (Some (Asking need)) server = refl
-again_phase (Some (Fetching needs)) server = refl
-again_phase (Some Moving) server = refl
-again_phase (Some Stopping) server = refl
-again_phase (Some (Growing needs seen)) server = refl
-again_phase (Some (Clearing block)) server = refl
-again_phase (Some (Finishing outcome)) server = refl
+pub again_phase : (logs : LogRules) (at : Option Stage) (server : Server) → (again_by logs at server).phase ≡ server.phase
+again_phase logs None server = refl
+again_phase logs (Some (Asking need)) server = refl
+again_phase logs (Some (Fetching needs)) server = refl
+again_phase logs (Some Moving) server = refl
+again_phase logs (Some Stopping) server = refl
+again_phase logs (Some (Growing needs seen)) server = refl
+again_phase logs (Some (Clearing block)) server = refl
+again_phase logs (Some (Finishing outcome)) server = refl
 
 pub acknowledged_phase : (sector : ℕ) (block : Block) (purpose : Purpose) (server : Server) → (acknowledged sector block purpose server).phase ≡ server.phase
 acknowledged_phase sector block (OfLog number) server = refl
@@ -387,7 +388,7 @@ finished_ashore c by (Some recovery) e who good g =
 
 host_ashore : (c : Core) (line : Option Line) → Ashore c → Ashore (host_answered_line c line)
 host_ashore c None g = g
-host_ashore c (Some line) g = calm c (host_answered_line c (Some line)) (λ i. refl) (λ i h. go (is_halt_asked line.what) i h) g
+host_ashore c (Some line) g = calm c (host_answered_line c (Some line)) (λ i. refl) (λ i h. go (is_halt line.what) i h) g
   where
     go : (b : Bool) (i : ℕ) → has_flights c.flights i ≡ false → has_flights (if b then [] else c.flights) i ≡ false
     go true i h = refl
@@ -449,7 +450,7 @@ event_ashore : (s : State) (event : Event) (heard : Heard) → Makes s event hea
 event_ashore s (Begin a) heard m good g = steady s.core a _ (begun_phase (s.core.servers a) (next_of s.core a)) g
 event_ashore s (Ask a lock mode) heard m good g = g
 event_ashore s (Fetch a sector) heard m good g = fetch_ashore s.core a sector heard g
-event_ashore s (Again a) heard m good g = steady s.core a _ (again_phase (stage s.core a) (s.core.servers a)) g
+event_ashore s (Again a) heard m good g = steady s.core a _ (again_phase s.core.setting.logs (stage s.core a) (s.core.servers a)) g
 event_ashore s (Clear a block) heard m good g = steady s.core a _ refl g
 event_ashore s (Commit a) heard m good g = committed_ashore s.core a (stage s.core a) g
 event_ashore s (Answer a) heard m good g = answered_ashore s.core a (s.core.servers a).under (due_at s.core a) refl refl g

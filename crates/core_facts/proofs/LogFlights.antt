@@ -9,12 +9,11 @@ use Rattle.std.specs.Prelude.{slice_set}
 use Rattle.std.specs.Map.{remove_entry}
 use Rattle.std.specs.Ordering.{nat_cmp}
 use Rattle.frang_base.specs.declared.change.Redo.{Redo}
-use Rattle.frang_base.specs.declared.limits.TheConstants.{LOG_IN_FLIGHT_MAX, LOG_WINDOW}
 use Rattle.sector_definitions.specs.Regions.{sector_of}
 use Rattle.sector_definitions.specs.declared.region.Region.TheVariants as region
 use Rattle.sector_definitions.specs.declared.log_sector.LogSector.{LogSector}
 use Rattle.log_definitions.specs.Frames.{frame_bytes}
-use Rattle.ring_definitions.specs.Rings.{Ring, acked, appended, first_waiting, free, issued, last, need, passed, reclaimed, ring_at, sent}
+use Rattle.ring_definitions.specs.Rings.{Ring, acked, appended, first_waiting, free_of, issued, last, need, passed, reclaimed_of, ring_at, sent}
 use Rattle.ring_definitions.proofs.Flags.{AreFlags, IsPassed, flags_kept, flags_push, flags_set, passed_is}
 use Rattle.ring_definitions.proofs.Packed.{length-framed}
 use Rattle.sector_bytes.specs.SectorMaps.{value_at, without}
@@ -110,8 +109,8 @@ more_joined a number ticket flight (one ∷ others) away e =
 
 -- ---- a ring beside what flies
 
-pub record IsShipped (fly : ℕ → Bool) (ring : Ring) : Type 0 where
-  pub windows : KeepsWindows ring
+pub record IsShipped (logs : LogRules) (fly : ℕ → Bool) (ring : Ring) : Type 0 where
+  pub windows : KeepsWindows logs ring
   pub flags : AreFlags fly ring.reached ring.above
   pub above : (number : ℕ) → fly number ≡ true → ring.reached < number
   pub issued : (number : ℕ) → fly number ≡ true → number ≤ sent ring
@@ -121,8 +120,8 @@ was_flying true y h t = refl
 was_flying false y h t = absurd (false≢true (sym (h refl) ∙ t))
 
 -- fewer fly
-pub with_fewer : (old new : ℕ → Bool) (ring : Ring) → ((number : ℕ) → old number ≡ false → new number ≡ false) → IsShipped old ring → IsShipped new ring
-with_fewer old new ring fewer s = record {
+pub with_fewer : (logs : LogRules) (old new : ℕ → Bool) (ring : Ring) → ((number : ℕ) → old number ≡ false → new number ≡ false) → IsShipped logs old ring → IsShipped logs new ring
+with_fewer logs old new ring fewer s = record {
   windows = s.windows;
   flags = flags_kept old new ring.reached ring.above (λ n l u e. fewer n e) s.flags;
   above = λ number t. s.above number (was_flying (old number) (new number) (fewer number) t);
@@ -130,8 +129,8 @@ with_fewer old new ring fewer s = record {
 }
 
 -- a ring that begins, of which nothing flies
-pub at_first : (fly : ℕ → Bool) (end : ℕ) → ((number : ℕ) → fly number ≡ false) → IsShipped fly (ring_at end)
-at_first fly end none = record {
+pub at_first : (logs : LogRules) (fly : ℕ → Bool) (end : ℕ) → ((number : ℕ) → fly number ≡ false) → IsShipped logs fly (ring_at end)
+at_first logs fly end none = record {
   windows = record { window = omega arith; kept = omega arith; given = omega arith };
   flags = tt;
   above = λ number t. absurd (false≢true (sym (none number) ∙ t));
@@ -139,10 +138,10 @@ at_first fly end none = record {
 }
 
 -- a record more
-pub with_record : (fly : ℕ → Bool) (ring : Ring) (redo : Option Redo) → IsTrue (has_room ring redo) → IsShipped fly ring →
-    IsShipped fly (appended_some ring redo)
-with_record fly ring None room s = s
-with_record fly ring (Some redo) room s = record {
+pub with_record : (logs : LogRules) (fly : ℕ → Bool) (ring : Ring) (redo : Option Redo) → IsTrue (has_room logs ring redo) → IsShipped logs fly ring →
+    IsShipped logs fly (appended_some ring redo)
+with_record logs fly ring None room s = s
+with_record logs fly ring (Some redo) room s = record {
   windows = record { window = s.windows.window; kept = kept; given = s.windows.given };
   flags = s.flags;
   above = s.above;
@@ -152,34 +151,34 @@ with_record fly ring (Some redo) room s = record {
     fits : (needed all : ℕ) → IsTrue (nat_le needed all) → needed ≤ all
     fits needed all h = grind (arith, nat_tests, h)
 
-    within : (gone waits more low : ℕ) → gone + waits ≤ low + 192 → low ≤ gone → more ≤ 192 - (gone + waits - low) → gone + (waits + more) ≤ low + 192
-    within gone waits more low h i j = omega (arith, h, i, j)
+    within : (all gone waits more low : ℕ) → gone + waits ≤ low + all → low ≤ gone → more ≤ all - (gone + waits - low) → gone + (waits + more) ≤ low + all
+    within all gone waits more low h i j = omega (arith, h, i, j)
 
-    kept : sent ring + length (appended ring redo).waiting ≤ ring.given_up + LOG_WINDOW
+    kept : sent ring + length (appended ring redo).waiting ≤ ring.given_up + logs.room
     kept =
-        subst (λ n. sent ring + n ≤ ring.given_up + 192) (sym (length-framed (last ring + 1) ring.waiting (frame_bytes redo)))
-        (within (sent ring) (length ring.waiting) (need ring redo) ring.given_up s.windows.kept s.windows.given (fits (need ring redo) (free ring) room))
+        subst (λ n. sent ring + n ≤ ring.given_up + logs.room) (sym (length-framed (last ring + 1) ring.waiting (frame_bytes redo)))
+        (within logs.room (sent ring) (length ring.waiting) (need ring redo) ring.given_up s.windows.kept s.windows.given (fits (need ring redo) (free_of logs.room ring) room))
 
 -- the oldest records are given up
-pub without_oldest : (fly : ℕ → Bool) (ring : Ring) → IsShipped fly ring → IsShipped fly (reclaimed ring)
-without_oldest fly ring s = record {
-  windows = record { window = s.windows.window; kept = kept ring.given_up (sent ring) (last ring) s.windows.kept s.windows.given; given = given ring.given_up (sent ring) };
+pub without_oldest : (logs : LogRules) (fly : ℕ → Bool) (ring : Ring) → IsShipped logs fly ring → IsShipped logs fly (reclaimed_of logs.quarter ring)
+without_oldest logs fly ring s = record {
+  windows = record { window = s.windows.window; kept = kept logs.room logs.quarter ring.given_up (sent ring) (last ring) s.windows.kept s.windows.given; given = given logs.quarter ring.given_up (sent ring) };
   flags = s.flags;
   above = s.above;
   issued = s.issued;
 }
   where
-    kept : (low issued end : ℕ) → end ≤ low + 192 → low ≤ issued → end ≤ min (low + 64) issued + 192
-    kept low issued end h i = omega (arith, h, i)
+    kept : (all quarter low issued end : ℕ) → end ≤ low + all → low ≤ issued → end ≤ min (low + quarter) issued + all
+    kept all quarter low issued end h i = omega (arith, h, i)
 
-    given : (low issued : ℕ) → min (low + 64) issued ≤ issued
-    given low issued = omega arith
+    given : (quarter low issued : ℕ) → min (low + quarter) issued ≤ issued
+    given quarter low issued = omega arith
 
 -- the first number that waits is issued, and flies
-pub with_issued : (old new : ℕ → Bool) (ring : Ring) (number : ℕ) (block : List ℕ) → next_write ring ≡ Some (number, block) →
-    number ≤ ring.reached + LOG_IN_FLIGHT_MAX →
-    ((n : ℕ) → (n ≡ number → ⊥) → old n ≡ false → new n ≡ false) → IsShipped old ring → IsShipped new (issued ring)
-with_issued old new ring number block next inside fewer s = record {
+pub with_issued : (logs : LogRules) (old new : ℕ → Bool) (ring : Ring) (number : ℕ) (block : List ℕ) → next_write ring ≡ Some (number, block) →
+    number ≤ ring.reached + logs.in_flight →
+    ((n : ℕ) → (n ≡ number → ⊥) → old n ≡ false → new n ≡ false) → IsShipped logs old ring → IsShipped logs new (issued ring)
+with_issued logs old new ring number block next inside fewer s = record {
   windows = record { window = within; kept = all; given = given };
   flags = flags_push new ring.reached ring.above (flags_kept old new ring.reached ring.above (λ n l u e. fewer n (λ same. below n u (same ∙ is_next)) e) s.flags);
   above = λ n t. over n (flying n t);
@@ -211,10 +210,10 @@ with_issued old new ring number block next inside fewer s = record {
     below : (n : ℕ) → n ≤ ring.reached + length ring.above → n ≡ sent ring + 1 → ⊥
     below n u e = absurd (omega (arith, u, e))
 
-    within : sent (issued ring) ≤ ring.reached + LOG_IN_FLIGHT_MAX
+    within : sent (issued ring) ≤ ring.reached + logs.in_flight
     within = omega (arith, longer, is_next, inside)
 
-    all : last (issued ring) ≤ ring.given_up + LOG_WINDOW
+    all : last (issued ring) ≤ ring.given_up + logs.room
     all = omega (arith, longer, one_less, s.windows.kept)
 
     given : ring.given_up ≤ sent (issued ring)
@@ -242,8 +241,8 @@ with_issued old new ring number block next inside fewer s = record {
     up_to n (inr t) = let before : n ≤ sent ring = s.issued n t in omega (arith, before, longer)
 
 -- a number is acknowledged, which doesn't fly any more
-pub with_acknowledged : (fly : ℕ → Bool) (ring : Ring) (number : ℕ) → fly number ≡ false → IsShipped fly ring → IsShipped fly (acked ring number)
-with_acknowledged fly ring number landed s = go (nat_lt ring.reached number) refl
+pub with_acknowledged : (logs : LogRules) (fly : ℕ → Bool) (ring : Ring) (number : ℕ) → fly number ≡ false → IsShipped logs fly ring → IsShipped logs fly (acked ring number)
+with_acknowledged logs fly ring number landed s = go (nat_lt ring.reached number) refl
   where
     flags : List Bool
     flags = slice_set ring.above (number - ring.reached - 1) true
@@ -257,7 +256,7 @@ with_acknowledged fly ring number landed s = go (nat_lt ring.reached number) ref
     gone : nat_lt ring.reached number ≡ true → IsPassed fly ring ring.reached (sent ring) (passed ring ring.reached flags)
     gone e = passed_is fly ring ring.reached (sent ring) flags ends (flags_set fly ring.reached (number - ring.reached - 1) ring.above s.flags (ap fly (is_number_at e) ∙ landed))
 
-    go : (b : Bool) → nat_lt ring.reached number ≡ b → IsShipped fly (if b then passed ring ring.reached flags else ring)
+    go : (b : Bool) → nat_lt ring.reached number ≡ b → IsShipped logs fly (if b then passed ring ring.reached flags else ring)
     go false e = s
     go true e = record {
       windows = record {

@@ -15,6 +15,7 @@ use Rattle.lock_definitions.specs.declared.claim.AskedFor.TheVariants.{Release, 
 use Rattle.sector_bytes.specs.Blocks.{Block}
 use Rattle.tree_definitions.specs.Apply.{is_path_op}
 use Rattle.tree_definitions.specs.Touched.{is_ok, is_unmount}
+use Rattle.core_definitions.specs.Settings.{LogRules}
 use Rattle.core_definitions.specs.Caches.{cleaned, still_has}
 use Rattle.core_definitions.specs.Logs.{is_read}
 use Rattle.core_definitions.specs.Lines.{Stage, Asking, Fetching, Moving, Stopping, Growing, Clearing, Finishing, Under, operation_of}
@@ -227,15 +228,15 @@ fetched_mild a at sector block server up = go (is_off server.phase) refl
     go true e = unmoved a _ _ refl refl refl refl refl refl refl
     go false e = under_cover (up_rests_not server.phase (up e)) (cover_needed at sector)
 
-pub again_mild : (a : ℕ) (at : Option Stage) (server : Server) → Mild a server (again_by at server)
-again_mild a None server = self a server
-again_mild a (Some (Asking need)) server = self a server
-again_mild a (Some (Fetching needs)) server = self a server
-again_mild a (Some Moving) server = unmoved a _ _ refl refl refl refl refl refl refl
-again_mild a (Some Stopping) server = self a server
-again_mild a (Some (Growing needs seen)) server = unmoved a _ _ refl refl refl refl refl refl refl
-again_mild a (Some (Clearing block)) server = self a server
-again_mild a (Some (Finishing outcome)) server = unmoved a _ _ refl refl refl refl refl refl refl
+pub again_mild : (logs : LogRules) (a : ℕ) (at : Option Stage) (server : Server) → Mild a server (again_by logs at server)
+again_mild logs a None server = self a server
+again_mild logs a (Some (Asking need)) server = self a server
+again_mild logs a (Some (Fetching needs)) server = self a server
+again_mild logs a (Some Moving) server = unmoved a _ _ refl refl refl refl refl refl refl
+again_mild logs a (Some Stopping) server = self a server
+again_mild logs a (Some (Growing needs seen)) server = unmoved a _ _ refl refl refl refl refl refl refl
+again_mild logs a (Some (Clearing block)) server = self a server
+again_mild logs a (Some (Finishing outcome)) server = unmoved a _ _ refl refl refl refl refl refl refl
 
 pub committed_good : (c : Core) (a : ℕ) (at : Option Stage) → stage c a ≡ at → Good c → Good (committed_at c a at)
 committed_good c a None e g = g

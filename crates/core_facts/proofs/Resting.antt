@@ -276,7 +276,7 @@ event_good : (s : State) (event : Event) (heard : Heard) → Makes s event heard
 event_good s (Begin a) heard m g = put_safe s.core.servers a _ g (begun_mild a (s.core.servers a) (next_of s.core a))
 event_good s (Ask a lock mode) heard m g = g
 event_good s (Fetch a sector) heard m g = fetch_good s a sector heard m.can.can g
-event_good s (Again a) heard m g = put_safe s.core.servers a _ g (again_mild a (stage s.core a) (s.core.servers a))
+event_good s (Again a) heard m g = put_safe s.core.servers a _ g (again_mild s.core.setting.logs a (stage s.core a) (s.core.servers a))
 event_good s (Clear a block) heard m g =
     put_safe s.core.servers a _ g (busy a _ _ (up_rests_not (s.core.servers a).phase (staged s.core a (Clearing block) m.can.can.clear)) refl refl)
 event_good s (Commit a) heard m g = committed_good s.core a (stage s.core a) refl g

@@ -19,7 +19,6 @@ use Rattle.lock_definitions.specs.declared.claim.AskedFor.TheVariants.{Release, 
 use Rattle.lock_definitions.specs.declared.claim.Claim.{Claim}
 use Rattle.lock_definitions.specs.declared.claim.LogHold.{LogHold}
 use Rattle.lock_definitions.specs.Calls.{answered as wanted_by, asked_for, changed, cleared, extended, given_up, hold_extended, hold_not_by, hold_of, is_free, log_taken_by, shared, taken, want_answer}
-use Rattle.lock_definitions.specs.Lease.{lease_expiry}
 use Rattle.lock_definitions.specs.Locks.{AreClaims, AreLocks, Claims, Locks, claim_in, claims_of, held, is_no_claim, is_wished, is_wished_in, log_hold, no_claim, no_locks, no_clerks, no_logs}
 use Rattle.lock_definitions.specs.Order.{is_lock}
 use Rattle.lock_definitions.specs.Same.{AllWishesWait, SameLocks, waits}
@@ -35,7 +34,7 @@ use Rattle.core_definitions.specs.Logs.{is_read}
 use Rattle.core_definitions.specs.Recoveries.{Recovery}
 use Rattle.core_definitions.specs.Scripts.{host_party}
 use Rattle.core_definitions.specs.Servers.{Phase, Off, Up, Still, Doomed, Dead, Server, due_if, due_under, is_answering, is_off, is_up, own_answer, own_answer_of, wanting_all, wanting_all_up}
-use Rattle.core_definitions.specs.Settings.{Setting}
+use Rattle.core_definitions.specs.Settings.{Setting, lease_to}
 use Rattle.core_definitions.specs.Writes.{Write}
 use Rattle.core_definitions.specs.Cores.{Core, clean_at, due_at, expiry_of, next_of, stage, writes}
 use Rattle.core_steps.specs.Events.{Event, Begin, Ask, Fetch, Again, Clear, Commit, Answer, Give, Issue, Doom, Resume, Arrive, Lose, Die, Renew, Tick, Recover, Load, Look, Finish, HostLine, Close, Read, Show, End, Heard, Nothing, Got, GetFailed, Written, Late, PutFailed}
@@ -416,7 +415,7 @@ read_unheld c sector (PutFailed new) u = failed_unheld c host_party u
 
 ticked_unheld : (c : Core) → Unheld c → Unheld (after c Tick Nothing)
 ticked_unheld c u =
-    calm c (after c Tick Nothing) (λ i. go i ((c.now + 1) % c.setting.flush_ticks == 0)) (λ i server t b. extended_bare c.locks host_party (lease_expiry (c.now + 1)) i b) u
+    calm c (after c Tick Nothing) (λ i. go i ((c.now + 1) % c.setting.flush_ticks == 0)) (λ i server t b. extended_bare c.locks host_party (lease_to c.setting (c.now + 1)) i b) u
   where
     go : (i : ℕ) (b : Bool) → (if b then wanting_all_up (c.servers i) else c.servers i).phase ≡ (c.servers i).phase
     go i true = wanting_phase (c.servers i)
@@ -435,7 +434,7 @@ event_unheld s (Ask a lock mode) heard m are u =
     calm s.core (after s.core (Ask a lock mode) heard) (λ i. refl)
     (λ i server t b. changed_bare s.core.locks a lock (wanted_by (want_answer s.core.locks a lock mode) mode) i (apart s.core a i (staged s.core a (Asking (lock, mode)) m.can.can.least) t) b) u
 event_unheld s (Fetch a sector) heard m are u = fetch_unheld s.core a sector heard u
-event_unheld s (Again a) heard m are u = steady s.core a _ (again_phase (stage s.core a) (s.core.servers a)) u
+event_unheld s (Again a) heard m are u = steady s.core a _ (again_phase s.core.setting.logs (stage s.core a) (s.core.servers a)) u
 event_unheld s (Clear a block) heard m are u = steady s.core a _ refl u
 event_unheld s (Commit a) heard m are u = committed_unheld s.core a (stage s.core a) u
 event_unheld s (Answer a) heard m are u = answered_unheld s.core a (s.core.servers a).under (due_at s.core a) are refl refl u
@@ -448,7 +447,7 @@ event_unheld s (Arrive ticket) heard m are u = arrived_unheld s.core ticket hear
 event_unheld s (Lose ticket) heard m are u = u
 event_unheld s (Die a) heard m are u = died_unheld s.core a (s.core.servers a).phase u
 event_unheld s (Renew a) heard m are u =
-    moved s.core (after s.core (Renew a) heard) a _ refl (λ t. inl t) (λ i server t b. extended_bare s.core.locks a (lease_expiry s.core.now) i b) u
+    moved s.core (after s.core (Renew a) heard) a _ refl (λ t. inl t) (λ i server t b. extended_bare s.core.locks a (lease_to s.core.setting s.core.now) i b) u
 event_unheld s Tick heard m are u = ticked_unheld s.core u
 event_unheld s (Recover dead by) heard m are u = recover_unheld s.core dead by m.can.can u
 event_unheld s (Load by slot) heard m are u = load_unheld s.core by slot heard u

@@ -65,11 +65,11 @@ rescue_not logs segments (Some recovery) one i =
     from_map (λ write. (write.0, record { behalf = recovery.dead; block = write.1; purpose = OfRecovery; mark = None })) (recovery_writes logs segments recovery) one i in
     ap (λ w. is_of_log w.1.purpose) (sym m.is)
 
-place_not : (locks : Locks) (number : ℕ) (server : Server) (at : Option Stage) (one : ℕ × Write) → In one (place_writes locks number server at) →
+place_not : (logs : LogRules) (locks : Locks) (number : ℕ) (server : Server) (at : Option Stage) (one : ℕ × Write) → In one (place_writes logs locks number server at) →
     is_of_log one.1.purpose ≡ false
-place_not locks number server at one i =
-    from_filter (λ entry. option_map (λ write. (entry.0, write)) (place_write number (is_place_wanted locks number server at entry.0 entry.1) entry.1 entry.1.dirt)) (λ w. is_of_log w.1.purpose ≡ false)
-    (λ entry w e. go entry.0 (is_place_wanted locks number server at entry.0 entry.1) entry.1 entry.1.dirt w e) server.cache one i
+place_not logs locks number server at one i =
+    from_filter (λ entry. option_map (λ write. (entry.0, write)) (place_write number (is_place_wanted logs locks number server at entry.0 entry.1) entry.1 entry.1.dirt)) (λ w. is_of_log w.1.purpose ≡ false)
+    (λ entry w e. go entry.0 (is_place_wanted logs locks number server at entry.0 entry.1) entry.1 entry.1.dirt w e) server.cache one i
   where
     purpose_of : Option (ℕ × Write) → Bool
     purpose_of None = false
@@ -95,12 +95,12 @@ pub next_of_log : (setting : Setting) (locks : Locks) (a : ℕ) (server : Server
 next_of_log setting locks a server at sector write number e p =
     ⊎_elim
     (λ i. ⊎_elim
-    (λ j. ⊎_elim (λ k. absurd (not_log (rescue_not setting.logs setting.segments server.recovery one k))) (λ k. absurd (not_log (place_not locks a server at one k)))
+    (λ j. ⊎_elim (λ k. absurd (not_log (rescue_not setting.logs setting.segments server.recovery one k))) (λ k. absurd (not_log (place_not setting.logs locks a server at one k)))
     (in_either one rescues places j))
     (λ j. of_log (next_write server.ring) refl j)
-    (in_either one (rescues ++ places) (log_write setting.logs a (log_wanted_to locks a server at) (next_write server.ring)) i))
+    (in_either one (rescues ++ places) (log_write setting.logs a (log_wanted_to setting.logs locks a server at) (next_write server.ring)) i))
     (λ f. absurd (none f))
-    (from_fold (rescues ++ places ++ log_write setting.logs a (log_wanted_to locks a server at) (next_write server.ring)) [] sector write e)
+    (from_fold (rescues ++ places ++ log_write setting.logs a (log_wanted_to setting.logs locks a server at) (next_write server.ring)) [] sector write e)
   where
     one : ℕ × Write
     one = (sector, write)
@@ -109,7 +109,7 @@ next_of_log setting locks a server at sector write number e p =
     rescues = rescue_writes setting.logs setting.segments server.recovery
 
     places : Writes
-    places = place_writes locks a server at
+    places = place_writes setting.logs locks a server at
 
     none : None ≡ Some write → ⊥
     none f = absurd (cc)
@@ -126,9 +126,9 @@ next_of_log setting locks a server at sector write number e p =
     number_of OfRecovery = 0
 
     of_log : (next : Option (ℕ × Block)) → next_write server.ring ≡ next →
-        In {X = ℕ × Write} (sector, write) (log_write setting.logs a (log_wanted_to locks a server at) next) → IsNextOfLog setting.logs a server sector number
+        In {X = ℕ × Write} (sector, write) (log_write setting.logs a (log_wanted_to setting.logs locks a server at) next) → IsNextOfLog setting.logs a server sector number
     of_log None e i = absurd i
-    of_log (Some (n, block)) e i = go (nat_le n (log_wanted_to locks a server at)) i
+    of_log (Some (n, block)) e i = go (nat_le n (log_wanted_to setting.logs locks a server at)) i
       where
         go : (b : Bool) →
             In {X = ℕ × Write} (sector, write) (if b then (log_sector setting.logs a n, record { behalf = a; block = block; purpose = OfLog n; mark = None }) ∷ [] else []) → IsNextOfLog setting.logs a server sector number

@@ -4,7 +4,6 @@ use Rattle.std.proofs.lemmas.Bool.{false≢true}
 use Rattle.std.proofs.lemmas.Bool.Decides.{nat_tests}
 use Rattle.std.specs.List.{Contains}
 use Rattle.frang_base.specs.Functions.{put}
-use Rattle.frang_base.specs.declared.limits.TheConstants.{LOG_IN_FLIGHT_MAX}
 use Rattle.frang_base.specs.declared.lock.LockId.{LockId}
 use Rattle.frang_base.specs.declared.op.Op.{Op}
 use Rattle.frang_base.specs.declared.op.Op.TheVariants as op
@@ -19,13 +18,14 @@ use Rattle.sector_bytes.specs.Blocks.{Block}
 use Rattle.sector_bytes.specs.SectorMaps.{value_at}
 use Rattle.sector_bytes.specs.Sectors.{Sectors}
 use Rattle.tree_definitions.specs.Touched.{is_ok, is_unmount}
+use Rattle.tree_definitions.specs.Transcript.{is_halt}
 use Rattle.core_definitions.specs.Caches.{still_has}
 use Rattle.core_definitions.specs.Flights.{Flight, Flights, InPlace, OfLog, OfRecovery, Purpose, has_flights, left_behind, lost}
 use Rattle.core_definitions.specs.Lines.{Stage, Asking, Fetching, Moving, Stopping, Growing, Clearing, Finishing, Under, operation_of}
 use Rattle.core_definitions.specs.Logs.{end_of, is_read, log_sector}
 use Rattle.core_definitions.specs.Plans.{Outcome}
 use Rattle.core_definitions.specs.Recoveries.{Recovery}
-use Rattle.core_definitions.specs.Scripts.{host_party, is_halt_asked}
+use Rattle.core_definitions.specs.Scripts.{host_party}
 use Rattle.core_definitions.specs.Servers.{Phase, Off, Up, Still, Doomed, Dead, Server, due_if, due_under, is_answering, is_dead, is_off, is_up, own_answer, own_answer_of, wanting_all, wanting_all_up}
 use Rattle.core_definitions.specs.Settings.{LogRules, Setting}
 use Rattle.core_definitions.specs.Writes.{Write, keeps_window}
@@ -45,6 +45,7 @@ use Rattle.core_laws.proofs.Keys.{or_right}
 use Rattle.core_laws.proofs.Membership.{In, contains_in}
 use Rattle.core_laws.proofs.Single.{sectors_once}
 use Rattle.core_laws.proofs.Along.{along}
+use Rattle.core_laws.proofs.Kept.{setting_of_run}
 use Rattle.core_facts.proofs.Ashore.{ashore_of_run}
 use Rattle.core_facts.proofs.FlightLists.{all_changed, all_joined, all_landed, all_lost, in_flights}
 use Rattle.core_facts.proofs.LogFlights.{AllAtSlots, IsAtSlot, IsAtSlotFor, IsShipped, at_first, fewer_behind, fewer_changed, fewer_landed, fewer_lost, flies, is_log_flight, is_number, more_joined, none_flies, none_left, slot_of_found, slots_once, with_acknowledged, with_fewer, with_issued, with_record, without_oldest}
@@ -54,7 +55,7 @@ use Rattle.core_facts.proofs.WantedWrites.{IsNextOfLog, next_of_log}
 
 -- each ring beside what flies of its log, and each write of a log at the slot of its number
 record Ships (c : Core) : Type 0 where
-  shipped : (i : ℕ) → IsShipped (flies c.flights i) (c.servers i).ring
+  shipped : (i : ℕ) → IsShipped c.setting.logs (flies c.flights i) (c.servers i).ring
   slots : AllAtSlots c.setting.logs c.flights
 
 -- no number flies that didn't
@@ -62,31 +63,33 @@ abbrev NoMore : Core → Core → Type 0
 NoMore c d = (i number : ℕ) → flies c.flights i number ≡ false → flies d.flights i number ≡ false
 
 -- each ring is as before
-calm : (c d : Core) → ((i : ℕ) → (d.servers i).ring ≡ (c.servers i).ring) → NoMore c d → AllAtSlots d.setting.logs d.flights → Ships c → Ships d
-calm c d same fewer at g = record {
-  shipped = λ i. subst (IsShipped (flies d.flights i)) (sym (same i)) (with_fewer (flies c.flights i) (flies d.flights i) (c.servers i).ring (fewer i) (g.shipped i));
+calm : (c d : Core) → ((i : ℕ) → (d.servers i).ring ≡ (c.servers i).ring) → d.setting ≡ c.setting → NoMore c d → AllAtSlots d.setting.logs d.flights → Ships c → Ships d
+calm c d same set fewer at g = record {
+  shipped = λ i. subst (λ t. IsShipped t.logs (flies d.flights i) (d.servers i).ring) (sym set)
+      (subst (IsShipped c.setting.logs (flies d.flights i)) (sym (same i)) (with_fewer c.setting.logs (flies c.flights i) (flies d.flights i) (c.servers i).ring (fewer i) (g.shipped i)));
   slots = at;
 }
 
 -- one server's ring changes
-moved : (c d : Core) (a : ℕ) (new : Server) → d.servers ≡ put c.servers a new → NoMore c d → AllAtSlots d.setting.logs d.flights →
-    (IsShipped (flies d.flights a) (c.servers a).ring → IsShipped (flies d.flights a) new.ring) → Ships c → Ships d
-moved c d a new e fewer at own g = record {
-  shipped = λ i. subst (λ f. IsShipped (flies d.flights i) (f i).ring) (sym e) (go i (nat_eq i a) refl);
+moved : (c d : Core) (a : ℕ) (new : Server) → d.servers ≡ put c.servers a new → d.setting ≡ c.setting → NoMore c d → AllAtSlots d.setting.logs d.flights →
+    (IsShipped c.setting.logs (flies d.flights a) (c.servers a).ring → IsShipped c.setting.logs (flies d.flights a) new.ring) → Ships c → Ships d
+moved c d a new e set fewer at own g = record {
+  shipped = λ i. subst (λ t. IsShipped t.logs (flies d.flights i) (d.servers i).ring) (sym set)
+      (subst (λ f. IsShipped c.setting.logs (flies d.flights i) (f i).ring) (sym e) (go i (nat_eq i a) refl));
   slots = at;
 }
   where
-    kept : (i : ℕ) → IsShipped (flies d.flights i) (c.servers i).ring
-    kept i = with_fewer (flies c.flights i) (flies d.flights i) (c.servers i).ring (fewer i) (g.shipped i)
+    kept : (i : ℕ) → IsShipped c.setting.logs (flies d.flights i) (c.servers i).ring
+    kept i = with_fewer c.setting.logs (flies c.flights i) (flies d.flights i) (c.servers i).ring (fewer i) (g.shipped i)
 
-    go : (i : ℕ) (b : Bool) → nat_eq i a ≡ b → IsShipped (flies d.flights i) (if b then new else c.servers i).ring
-    go i true f = subst (λ k. IsShipped (flies d.flights k) new.ring) (sym (same_number a i f)) (own (kept a))
+    go : (i : ℕ) (b : Bool) → nat_eq i a ≡ b → IsShipped c.setting.logs (flies d.flights i) (if b then new else c.servers i).ring
+    go i true f = subst (λ k. IsShipped c.setting.logs (flies d.flights k) new.ring) (sym (same_number a i f)) (own (kept a))
     go i false f = kept i
 
 -- its ring stays, and the writes too
 steady : (c : Core) (a : ℕ) (new : Server) → new.ring ≡ (c.servers a).ring → Ships c → Ships (record c { servers = put c.servers a new })
 steady c a new p g =
-    moved c (record c { servers = put c.servers a new }) a new refl (λ i number h. h) g.slots (λ s. subst (IsShipped (flies c.flights a)) (sym p) s) g
+    moved c (record c { servers = put c.servers a new }) a new refl refl (λ i number h. h) g.slots (λ s. subst (IsShipped c.setting.logs (flies c.flights a)) (sym p) s) g
 
 -- ---- rings that stay
 
@@ -123,18 +126,18 @@ either false d e k l = l
 failed_ships : (c : Core) (a : ℕ) → Ships c → Ships (call_failed c a)
 failed_ships c a g = either (a == host_party) _ _ (record { shipped = g.shipped; slots = g.slots }) (steady c a _ refl g)
 
-again_shipped : (fly : ℕ → Bool) (at : Option Stage) (server : Server) → IsShipped fly server.ring → IsShipped fly (again_by at server).ring
-again_shipped fly None server s = s
-again_shipped fly (Some (Asking need)) server s = s
-again_shipped fly (Some (Fetching needs)) server s = s
-again_shipped fly (Some Moving) server s = s
-again_shipped fly (Some Stopping) server s = s
-again_shipped fly (Some (Growing needs seen)) server s = s
-again_shipped fly (Some (Clearing block)) server s = s
-again_shipped fly (Some (Finishing outcome)) server s = without_oldest fly server.ring s
+again_shipped : (logs : LogRules) (fly : ℕ → Bool) (at : Option Stage) (server : Server) → IsShipped logs fly server.ring → IsShipped logs fly (again_by logs at server).ring
+again_shipped logs fly None server s = s
+again_shipped logs fly (Some (Asking need)) server s = s
+again_shipped logs fly (Some (Fetching needs)) server s = s
+again_shipped logs fly (Some Moving) server s = s
+again_shipped logs fly (Some Stopping) server s = s
+again_shipped logs fly (Some (Growing needs seen)) server s = s
+again_shipped logs fly (Some (Clearing block)) server s = s
+again_shipped logs fly (Some (Finishing outcome)) server s = without_oldest logs fly server.ring s
 
 again_ships : (c : Core) (a : ℕ) → Ships c → Ships (after c (Again a) Nothing)
-again_ships c a g = moved c (after c (Again a) Nothing) a _ refl (λ i number h. h) g.slots (λ s. again_shipped (flies c.flights a) (stage c a) (c.servers a) s) g
+again_ships c a g = moved c (after c (Again a) Nothing) a _ refl refl (λ i number h. h) g.slots (λ s. again_shipped c.setting.logs (flies c.flights a) (stage c a) (c.servers a) s) g
 
 number_stays : (a number : ℕ) (outcome : Outcome) (f : Flight) → is_log_flight a number f ≡ false → is_log_flight a number (flight_after outcome f) ≡ false
 number_stays a number outcome f h = go f.present refl
@@ -160,7 +163,7 @@ slot_stays logs outcome f at = go f.present
     go true = by f.purpose refl
     go false = at
 
-committed_ships : (c : Core) (a : ℕ) (at : Option Stage) → IsTrue (has_room_for (c.servers a) (done_by at)) → Ships c → Ships (committed_at c a at)
+committed_ships : (c : Core) (a : ℕ) (at : Option Stage) → IsTrue (has_room_for c.setting.logs (c.servers a) (done_by at)) → Ships c → Ships (committed_at c a at)
 committed_ships c a None room g = g
 committed_ships c a (Some (Asking need)) room g = g
 committed_ships c a (Some (Fetching needs)) room g = g
@@ -169,9 +172,9 @@ committed_ships c a (Some Stopping) room g = g
 committed_ships c a (Some (Growing needs seen)) room g = g
 committed_ships c a (Some (Clearing block)) room g = g
 committed_ships c a (Some (Finishing outcome)) room g =
-    moved c (committed c a outcome) a _ refl (λ i number h. fewer_changed a (flight_after outcome) i number (number_stays i number outcome) c.flights h)
+    moved c (committed c a outcome) a _ refl refl (λ i number h. fewer_changed a (flight_after outcome) i number (number_stays i number outcome) c.flights h)
     (all_changed (IsAtSlot c.setting.logs) a (flight_after outcome) (slot_stays c.setting.logs outcome) c.flights g.slots)
-    (λ s. with_record (flies (committed c a outcome).flights a) (c.servers a).ring outcome.redo room s) g
+    (λ s. with_record c.setting.logs (flies (committed c a outcome).flights a) (c.servers a).ring outcome.redo room s) g
 
 -- the ring is as before; or it begins, at a server that was Off
 abbrev Rings : Server → Server → Type 0
@@ -236,7 +239,7 @@ answered_with_ships : (c : Core) (a : ℕ) (under : Under) (answer : Reply) (ope
     (is_some under.fixed ≡ false → own_answer_of c.setting.logs c.flights a (c.servers a) under operation ≡ Some answer) → Ships c → Ships (answered_with c a under answer operation)
 answered_with_ships c a under answer None rests own g = g
 answered_with_ships c a under answer (Some operation) rests own g =
-    moved c (answered_with c a under answer (Some operation)) a new refl (λ i number h. h) g.slots (by (answer_rings c a under (c.servers a) operation answer own)) g
+    moved c (answered_with c a under answer (Some operation)) a new refl refl (λ i number h. h) g.slots (by (answer_rings c a under (c.servers a) operation answer own)) g
   where
     new : Server
     new = answered_by c under (c.servers a) operation answer
@@ -245,11 +248,11 @@ answered_with_ships c a under answer (Some operation) rests own g =
     left true y h = refl
     left false y h = absurd (false≢true h)
 
-    by : Rings (c.servers a) new → IsShipped (flies c.flights a) (c.servers a).ring → IsShipped (flies c.flights a) new.ring
-    by (inl same) s = subst (IsShipped (flies c.flights a)) (sym same) s
+    by : Rings (c.servers a) new → IsShipped c.setting.logs (flies c.flights a) (c.servers a).ring → IsShipped c.setting.logs (flies c.flights a) new.ring
+    by (inl same) s = subst (IsShipped c.setting.logs (flies c.flights a)) (sym same) s
     by (inr begun) s =
-        subst (IsShipped (flies c.flights a)) (sym begun.1)
-        (at_first (flies c.flights a) begun.0 (λ number. none_flies c.flights a number (rests (left (is_off (c.servers a).phase) (is_dead (c.servers a).phase) begun.2))))
+        subst (IsShipped c.setting.logs (flies c.flights a)) (sym begun.1)
+        (at_first c.setting.logs (flies c.flights a) begun.0 (λ number. none_flies c.flights a number (rests (left (is_off (c.servers a).phase) (is_dead (c.servers a).phase) begun.2))))
 
 answered_ships : (c : Core) (a : ℕ) (under : Option Under) (answer : Option Reply) → Rests c a → (c.servers a).under ≡ under → due_at c a ≡ answer →
     Ships c → Ships (answered_under c a under answer)
@@ -265,7 +268,7 @@ answered_ships c a (Some under) (Some answer) rests u e g =
 given_ships : (c : Core) (a : ℕ) (lock : LockId) (asked : Option AskedFor) → Ships c → Ships (given_for c a lock asked)
 given_ships c a lock None g = g
 given_ships c a lock (Some Downgrade) g = record { shipped = g.shipped; slots = g.slots }
-given_ships c a lock (Some Release) g = moved c (given_for c a lock (Some Release)) a _ refl (λ i number h. h) g.slots (λ s. s) g
+given_ships c a lock (Some Release) g = moved c (given_for c a lock (Some Release)) a _ refl refl (λ i number h. h) g.slots (λ s. s) g
 
 -- ---- an issue
 
@@ -295,10 +298,10 @@ module _ (c : Core) (a sector : ℕ) (write : Write) (is : value_at (writes c a)
   joined : (i number : ℕ) → ((i ≡ a → ⊥) ⊎ (is_number number write.purpose ≡ false)) → flies c.flights i number ≡ false → flies later.flights i number ≡ false
   joined i number other h = more_joined i number c.tickets flight c.flights (away write.purpose i number other) h
 
-  inside : (number : ℕ) → write.purpose ≡ OfLog number → number ≤ (c.servers a).ring.reached + LOG_IN_FLIGHT_MAX
+  inside : (number : ℕ) → write.purpose ≡ OfLog number → number ≤ (c.servers a).ring.reached + c.setting.logs.in_flight
   inside number p =
-      within number ((c.servers a).ring.reached + LOG_IN_FLIGHT_MAX)
-      (subst (λ q. IsTrue (keeps_window (c.servers a).ring q)) p (subst (λ w. IsTrue (is_write (λ x. keeps_window (c.servers a).ring x.purpose) w)) is can.issuable.window))
+      within number ((c.servers a).ring.reached + c.setting.logs.in_flight)
+      (subst (λ q. IsTrue (keeps_window c.setting.logs (c.servers a).ring q)) p (subst (λ w. IsTrue (is_write (λ x. keeps_window c.setting.logs (c.servers a).ring x.purpose) w)) is can.issuable.window))
     where
       within : (number most : ℕ) → IsTrue (nat_le number most) → number ≤ most
       within number most h = grind (arith, nat_tests, h)
@@ -306,12 +309,12 @@ module _ (c : Core) (a sector : ℕ) (write : Write) (is : value_at (writes c a)
   next : (number : ℕ) → write.purpose ≡ OfLog number → IsNextOfLog c.setting.logs a (c.servers a) sector number
   next number p = next_of_log c.setting c.locks a (c.servers a) (stage c a) sector write number is p
 
-  own : (purpose : Purpose) → write.purpose ≡ purpose → IsShipped (flies later.flights a) (ring_after purpose (c.servers a).ring)
+  own : (purpose : Purpose) → write.purpose ≡ purpose → IsShipped c.setting.logs (flies later.flights a) (ring_after purpose (c.servers a).ring)
   own (OfLog number) p =
-      with_issued (flies c.flights a) (flies later.flights a) (c.servers a).ring number (next number p).block (next number p).next (inside number p)
+      with_issued c.setting.logs (flies c.flights a) (flies later.flights a) (c.servers a).ring number (next number p).block (next number p).next (inside number p)
       (λ n apart h. joined a n (inr (ap (is_number n) p ∙ differ number n (λ e. apart (sym e)))) h) (g.shipped a)
-  own (InPlace cover) p = with_fewer (flies c.flights a) (flies later.flights a) (c.servers a).ring (λ n h. joined a n (inr (ap (is_number n) p)) h) (g.shipped a)
-  own OfRecovery p = with_fewer (flies c.flights a) (flies later.flights a) (c.servers a).ring (λ n h. joined a n (inr (ap (is_number n) p)) h) (g.shipped a)
+  own (InPlace cover) p = with_fewer c.setting.logs (flies c.flights a) (flies later.flights a) (c.servers a).ring (λ n h. joined a n (inr (ap (is_number n) p)) h) (g.shipped a)
+  own OfRecovery p = with_fewer c.setting.logs (flies c.flights a) (flies later.flights a) (c.servers a).ring (λ n h. joined a n (inr (ap (is_number n) p)) h) (g.shipped a)
 
   at_slot : (purpose : Purpose) → write.purpose ≡ purpose → IsAtSlotFor c.setting.logs a sector purpose
   at_slot (OfLog number) p = (next number p).at
@@ -330,9 +333,9 @@ module _ (c : Core) (a sector : ℕ) (write : Write) (is : value_at (writes c a)
       apart : (i : ℕ) → nat_eq i a ≡ false → i ≡ a → ⊥
       apart i e f = absurd (grind (arith, nat_tests, e, f))
 
-      go : (i : ℕ) (b : Bool) → nat_eq i a ≡ b → IsShipped (flies later.flights i) (if b then new else c.servers i).ring
-      go i true e = subst (λ k. IsShipped (flies later.flights k) new.ring) (sym (same_number a i e)) (own write.purpose refl)
-      go i false e = with_fewer (flies c.flights i) (flies later.flights i) (c.servers i).ring (λ n h. joined i n (inl (apart i e)) h) (g.shipped i)
+      go : (i : ℕ) (b : Bool) → nat_eq i a ≡ b → IsShipped c.setting.logs (flies later.flights i) (if b then new else c.servers i).ring
+      go i true e = subst (λ k. IsShipped c.setting.logs (flies later.flights k) new.ring) (sym (same_number a i e)) (own write.purpose refl)
+      go i false e = with_fewer c.setting.logs (flies c.flights i) (flies later.flights i) (c.servers i).ring (λ n h. joined i n (inl (apart i e)) h) (g.shipped i)
 
 issued_ships : (c : Core) (a sector : ℕ) (write : Option Write) → value_at (writes c a) sector ≡ write → CanIssue c a sector → Ships c →
     Ships (issued_as c a sector write)
@@ -342,7 +345,7 @@ issued_ships c a sector (Some write) is can g = issue_ships c a sector write is 
 -- ---- an arrival
 
 landed_ships : (c : Core) (ticket : ℕ) → Ships c → Ships (landed c ticket)
-landed_ships c ticket g = calm c (landed c ticket) (λ i. refl) (λ i number h. fewer_landed ticket i number c.flights h) (all_landed (IsAtSlot c.setting.logs) ticket c.flights g.slots) g
+landed_ships c ticket g = calm c (landed c ticket) (λ i. refl) refl (λ i number h. fewer_landed ticket i number c.flights h) (all_landed (IsAtSlot c.setting.logs) ticket c.flights g.slots) g
 
 acknowledged_ring : (sector : ℕ) (block : Block) (cover : LockId) (server : Server) → (acknowledged sector block (InPlace cover) server).ring ≡ server.ring
 acknowledged_ring sector block cover server = go (still_has server.cache sector block)
@@ -356,18 +359,18 @@ module _ (c : Core) (ticket : ℕ) (flight : Flight) (is : value_at c.flights ti
   without_it = landed c ticket
 
   -- what is acknowledged of a log doesn't fly any more
-  landed_shipped : (purpose : Purpose) → flight.purpose ≡ purpose → IsShipped (flies without_it.flights flight.server) (c.servers flight.server).ring →
-      IsShipped (flies without_it.flights flight.server) (acknowledged flight.sector flight.block purpose (c.servers flight.server)).ring
+  landed_shipped : (purpose : Purpose) → flight.purpose ≡ purpose → IsShipped c.setting.logs (flies without_it.flights flight.server) (c.servers flight.server).ring →
+      IsShipped c.setting.logs (flies without_it.flights flight.server) (acknowledged flight.sector flight.block purpose (c.servers flight.server)).ring
   landed_shipped (OfLog number) p s =
-      with_acknowledged (flies without_it.flights flight.server) (c.servers flight.server).ring number
+      with_acknowledged c.setting.logs (flies without_it.flights flight.server) (c.servers flight.server).ring number
       (none_left c.setting.logs c.flights ticket flight number is p once g.slots (slot_of_found c.setting.logs c.flights ticket flight is g.slots)) s
-  landed_shipped (InPlace cover) p s = subst (IsShipped (flies without_it.flights flight.server)) (sym (acknowledged_ring flight.sector flight.block cover (c.servers flight.server))) s
+  landed_shipped (InPlace cover) p s = subst (IsShipped c.setting.logs (flies without_it.flights flight.server)) (sym (acknowledged_ring flight.sector flight.block cover (c.servers flight.server))) s
   landed_shipped OfRecovery p s = s
 
   taken_ships : Ships (taken_in without_it flight)
   taken_ships =
       either flight.present _ _
-      (moved without_it (with_server without_it flight.server (acknowledged flight.sector flight.block flight.purpose (c.servers flight.server))) flight.server _ refl (λ i number h. h)
+      (moved without_it (with_server without_it flight.server (acknowledged flight.sector flight.block flight.purpose (c.servers flight.server))) flight.server _ refl refl (λ i number h. h)
       (all_landed (IsAtSlot c.setting.logs) ticket c.flights g.slots) (landed_shipped flight.purpose refl) (landed_ships c ticket g))
       (landed_ships c ticket g)
 
@@ -390,7 +393,7 @@ died_ships : (c : Core) (a : ℕ) (phase : Phase) → Ships c → Ships (died_in
 died_ships c a Off g = g
 died_ships c a Up g = g
 died_ships c a Still g = g
-died_ships c a (Doomed fate) g = moved c (died_in c a (Doomed fate)) a _ refl (λ i number h. fewer fate.loses i number h) (at fate.loses) (λ s. s) g
+died_ships c a (Doomed fate) g = moved c (died_in c a (Doomed fate)) a _ refl refl (λ i number h. fewer fate.loses i number h) (at fate.loses) (λ s. s) g
   where
     fewer : (loses : Bool) (i number : ℕ) → flies c.flights i number ≡ false →
         flies (if loses then lost a c.flights else left_behind a c.flights) i number ≡ false
@@ -407,8 +410,8 @@ finished_ships : (c : Core) (by : ℕ) (recovery : Option Recovery) → (c.serve
     Ships (finished_from c by recovery)
 finished_ships c by None e who good rests g = g
 finished_ships c by (Some recovery) e who good rests g =
-    moved rid (finished_by c by recovery.dead) recovery.dead _ refl (λ i number h. h) g.slots
-    (λ s. at_first (flies c.flights recovery.dead) 0
+    moved rid (finished_by c by recovery.dead) recovery.dead _ refl refl (λ i number h. h) g.slots
+    (λ s. at_first c.setting.logs (flies c.flights recovery.dead) 0
     (λ number. none_flies c.flights recovery.dead number
     (rests recovery.dead dead.1 (or_right (is_off (c.servers recovery.dead).phase) (is_dead (c.servers recovery.dead).phase) dead.0))))
     (steady c by (record (c.servers by) { recovery = None }) refl g)
@@ -421,7 +424,7 @@ finished_ships c by (Some recovery) e who good rests g =
 
 host_ships : (c : Core) (line : Option Line) → Ships c → Ships (host_answered_line c line)
 host_ships c None g = g
-host_ships c (Some line) g = calm c (host_answered_line c (Some line)) (λ i. refl) (λ i number h. fewer (is_halt_asked line.what) i number h) (at (is_halt_asked line.what)) g
+host_ships c (Some line) g = calm c (host_answered_line c (Some line)) (λ i. refl) refl (λ i number h. fewer (is_halt line.what) i number h) (at (is_halt line.what)) g
   where
     fewer : (b : Bool) (i number : ℕ) → flies c.flights i number ≡ false → flies (if b then [] else c.flights) i number ≡ false
     fewer true i number h = refl
@@ -436,7 +439,8 @@ host_ships c (Some line) g = calm c (host_answered_line c (Some line)) (λ i. re
 -- the same rings and writes
 same_ships : (c d : Core) → d.servers ≡ c.servers → d.flights ≡ c.flights → d.setting ≡ c.setting → Ships c → Ships d
 same_ships c d servers flights setting g = record {
-  shipped = λ i. subst (λ fs. IsShipped (flies fs i) (d.servers i).ring) (sym flights) (subst (λ ss. IsShipped (flies c.flights i) (ss i).ring) (sym servers) (g.shipped i));
+  shipped = λ i. subst (λ t. IsShipped t.logs (flies d.flights i) (d.servers i).ring) (sym setting)
+      (subst (λ fs. IsShipped c.setting.logs (flies fs i) (d.servers i).ring) (sym flights) (subst (λ ss. IsShipped c.setting.logs (flies c.flights i) (ss i).ring) (sym servers) (g.shipped i)));
   slots = subst (λ fs. AllAtSlots d.setting.logs fs) (sym flights) (subst (λ t. AllAtSlots t.logs c.flights) (sym setting) g.slots);
 }
 
@@ -476,14 +480,14 @@ read_ships c sector Late g = failed_ships c host_party g
 read_ships c sector (PutFailed new) g = failed_ships c host_party g
 
 ticked_ships : (c : Core) → Ships c → Ships (after c Tick Nothing)
-ticked_ships c g = calm c (after c Tick Nothing) (λ i. go i ((c.now + 1) % c.setting.flush_ticks == 0)) (λ i number h. h) g.slots g
+ticked_ships c g = calm c (after c Tick Nothing) (λ i. go i ((c.now + 1) % c.setting.flush_ticks == 0)) refl (λ i number h. h) g.slots g
   where
     go : (i : ℕ) (b : Bool) → (if b then wanting_all_up (c.servers i) else c.servers i).ring ≡ (c.servers i).ring
     go i true = wanting_ring (c.servers i)
     go i false = refl
 
 close_ships : (c : Core) (a : ℕ) → Ships c → Ships (after c (Close a) Nothing)
-close_ships c a g = either (clean_at c a) _ _ (moved c _ a (off_after (c.servers a)) refl (λ i number h. h) g.slots (λ s. s) g) (steady c a (wanting_all (c.servers a)) refl g)
+close_ships c a g = either (clean_at c a) _ _ (moved c _ a (off_after (c.servers a)) refl refl (λ i number h. h) g.slots (λ s. s) g) (steady c a (wanting_all (c.servers a)) refl g)
 
 -- what is known of the state before an event
 record Known (c : Core) : Type 0 where
@@ -502,13 +506,13 @@ event_ships s (Answer a) heard m k g = answered_ships s.core a (s.core.servers a
 event_ships s (Give a lock) heard m k g = given_ships s.core a lock (asked_for s.core.locks a lock) g
 event_ships s (Issue a sector) heard m k g = issued_ships s.core a sector (value_at (writes s.core a) sector) refl m.can.can g
 event_ships s (Doom a) heard m k g = steady s.core a _ refl g
-event_ships s (Resume a) heard m k g = moved s.core (after s.core (Resume a) heard) a _ refl (λ i number h. h) g.slots (λ t. t) g
+event_ships s (Resume a) heard m k g = moved s.core (after s.core (Resume a) heard) a _ refl refl (λ i number h. h) g.slots (λ t. t) g
 event_ships s (Arrive ticket) heard m k g = arrived_ships s.core ticket heard (value_at s.core.flights ticket) refl k.once g
 event_ships s (Lose ticket) heard m k g = landed_ships s.core ticket g
 event_ships s (Die a) heard m k g = died_ships s.core a (s.core.servers a).phase g
-event_ships s (Renew a) heard m k g = moved s.core (after s.core (Renew a) heard) a _ refl (λ i number h. h) g.slots (λ t. t) g
+event_ships s (Renew a) heard m k g = moved s.core (after s.core (Renew a) heard) a _ refl refl (λ i number h. h) g.slots (λ t. t) g
 event_ships s Tick heard m k g = ticked_ships s.core g
-event_ships s (Recover dead by) heard m k g = moved s.core (after s.core (Recover dead by) heard) by _ refl (λ i number h. h) g.slots (λ t. t) g
+event_ships s (Recover dead by) heard m k g = moved s.core (after s.core (Recover dead by) heard) by _ refl refl (λ i number h. h) g.slots (λ t. t) g
 event_ships s (Load by slot) heard m k g = load_ships s.core by slot heard g
 event_ships s (Look by sector) heard m k g = look_ships s.core by sector heard g
 event_ships s (Finish by) heard m k g = finished_ships s.core by (s.core.servers by).recovery refl m.can.can.who k.good k.rests g
@@ -531,12 +535,12 @@ ships_of_run : (setting : Setting) (disk : Sectors) (s : State) → Run (first_s
 ships_of_run setting disk =
     along setting disk (λ s. Ships s.core)
     (λ s v run step g. step_ships s v step (record { good = good_of_run setting disk s run; rests = ashore_of_run setting disk s run; once = sectors_once setting disk s run }) g)
-    (record { shipped = λ i. at_first (λ number. false) 0 (λ number. refl); slots = tt })
+    (record { shipped = λ i. at_first setting.logs (λ number. false) 0 (λ number. refl); slots = tt })
 
 -- ---- in the words of the facts
 
-pub windows_kept : (setting : Setting) (disk : Sectors) (s : State) → Run (first_state setting disk) s → (a : ℕ) → KeepsWindows (s.core.servers a).ring
-windows_kept setting disk s run a = ((ships_of_run setting disk s run).shipped a).windows
+pub windows_kept : (setting : Setting) (disk : Sectors) (s : State) → Run (first_state setting disk) s → (a : ℕ) → KeepsWindows setting.logs (s.core.servers a).ring
+windows_kept setting disk s run a = subst (λ t. KeepsWindows t.logs (s.core.servers a).ring) (setting_of_run setting disk s run) ((ships_of_run setting disk s run).shipped a).windows
 
 flying_in : (flights : Flights) (one : ℕ × Flight) (number : ℕ) → In one flights → one.1.present ≡ true → one.1.purpose ≡ OfLog number →
     flies flights one.1.server number ≡ true
@@ -559,12 +563,12 @@ flying_in (x ∷ xs) one number (inr i) p q = second (is_log_flight one.1.server
 
 pub flights_within : (setting : Setting) (disk : Sectors) (s : State) → Run (first_state setting disk) s → (one : ℕ × Flight) (number : ℕ) →
     Contains s.core.flights one → one.1.present ≡ true →
-    one.1.purpose ≡ OfLog number → IsInFlightWindow (s.core.servers one.1.server).ring number
+    one.1.purpose ≡ OfLog number → IsInFlightWindow setting.logs (s.core.servers one.1.server).ring number
 flights_within setting disk s run one number c p q =
     record { above = shipped.above number fly; within = then_le number _ _ (shipped.issued number fly) shipped.windows.window }
   where
-    shipped : IsShipped (flies s.core.flights one.1.server) (s.core.servers one.1.server).ring
-    shipped = (ships_of_run setting disk s run).shipped one.1.server
+    shipped : IsShipped setting.logs (flies s.core.flights one.1.server) (s.core.servers one.1.server).ring
+    shipped = subst (λ t. IsShipped t.logs (flies s.core.flights one.1.server) (s.core.servers one.1.server).ring) (setting_of_run setting disk s run) ((ships_of_run setting disk s run).shipped one.1.server)
 
     fly : flies s.core.flights one.1.server number ≡ true
     fly = flying_in s.core.flights one number (contains_in s.core.flights one c) p q

@@ -3,7 +3,7 @@ use Rattle.std.specs.Prelude.{◌≡◌, ℕ, ◌≤◌, ◌<◌, ◌+◌, ◌==
 use Rattle.std.specs.List.{Contains, filter_map}
 use Rattle.std.specs.List.Sorted.{IsStrictlySortedBy}
 use Rattle.std.specs.Map.{keys_of}
-use Rattle.frang_base.specs.declared.limits.TheConstants.{LAST_TICK, LOG_IN_FLIGHT_MAX, LOG_WINDOW}
+use Rattle.frang_base.specs.declared.limits.TheConstants.{LAST_TICK}
 use Rattle.frang_base.specs.declared.lock.LockId.{LockId}
 use Rattle.frang_base.specs.declared.lock.Mode.{Mode}
 use Rattle.frang_outside.specs.declared.act.Taken.TheVariants as taken
@@ -62,11 +62,11 @@ ClaimsStandOnce =
 abbrev pub WritesAreIssuedInTime : Type 0
 WritesAreIssuedInTime = (c : Core) (a sector : ℕ) (write : Write) → Can c (Issue a sector) → IsInTime (flight_of c a sector write).stamp c.now
 
--- a write of a log is issued only where its number is at most 64 past the one up to which all are acknowledged
+-- a write of a log is issued only where its number is no further past the one up to which all are acknowledged than the log's limit of numbers in flight
 abbrev pub LogWritesKeepTheWindow : Type 0
 LogWritesKeepTheWindow =
     (c : Core) (a sector : ℕ) (write : Write) (number : ℕ) → Can c (Issue a sector) → value_at (writes c a) sector ≡ Some write → write.purpose ≡ OfLog number →
-    number ≤ (c.servers a).ring.reached + LOG_IN_FLIGHT_MAX
+    number ≤ (c.servers a).ring.reached + c.setting.logs.in_flight
 
 -- a put is recorded as written where it came no later than its stamp, and as late where it came after
 abbrev pub IsTimely : Deed → Type 0
@@ -121,27 +121,27 @@ OneRecoveryAtMost =
 
 -- ---- logs
 
--- at most 64 numbers are issued past the one up to which all are acknowledged, and at most 192 aren't given up
-pub record KeepsWindows (ring : Ring) : Type 0 where
-  pub window : sent ring ≤ ring.reached + LOG_IN_FLIGHT_MAX
-  pub kept : last ring ≤ ring.given_up + LOG_WINDOW
+-- no more numbers are issued past the one up to which all are acknowledged than may be in flight, and no more aren't given up than there is room for: of a disk's log 64 and 192
+pub record KeepsWindows (logs : LogRules) (ring : Ring) : Type 0 where
+  pub window : sent ring ≤ ring.reached + logs.in_flight
+  pub kept : last ring ≤ ring.given_up + logs.room
   pub given : ring.given_up ≤ sent ring
 
 -- over every run each ring does
 abbrev pub RingsKeepTheirWindows : Type 0
-RingsKeepTheirWindows = (setting : Setting) (disk : Sectors) (s : State) → Run (first_state setting disk) s → (a : ℕ) → KeepsWindows (s.core.servers a).ring
+RingsKeepTheirWindows = (setting : Setting) (disk : Sectors) (s : State) → Run (first_state setting disk) s → (a : ℕ) → KeepsWindows setting.logs (s.core.servers a).ring
 
--- not acknowledged yet, and at most 64 past the one up to which all are
-pub record IsInFlightWindow (ring : Ring) (number : ℕ) : Type 0 where
+-- not acknowledged yet, and no further past the one up to which all are than numbers may be in flight
+pub record IsInFlightWindow (logs : LogRules) (ring : Ring) (number : ℕ) : Type 0 where
   pub above : ring.reached < number
-  pub within : number ≤ ring.reached + LOG_IN_FLIGHT_MAX
+  pub within : number ≤ ring.reached + logs.in_flight
 
 -- over every run so is each number in flight of the log of a server's present mount
 abbrev pub LogFlightsStayInTheWindow : Type 0
 LogFlightsStayInTheWindow =
     (setting : Setting) (disk : Sectors) (s : State) → Run (first_state setting disk) s → (one : ℕ × Flight) (number : ℕ) →
     Contains s.core.flights one → one.1.present ≡ true →
-    one.1.purpose ≡ OfLog number → IsInFlightWindow (s.core.servers one.1.server).ring number
+    one.1.purpose ≡ OfLog number → IsInFlightWindow setting.logs (s.core.servers one.1.server).ring number
 
 -- and each write of a log is of the slot of its number
 abbrev pub LogFlightsAreAtTheirSlots : Type 0

@@ -16,7 +16,7 @@ pub fn no_write_is_issued_late()
     ensures early { WritesAreIssuedInTime }
 {}
 
-/// A write of a log is issued only where its number is at most 64 past the one up to which all are acknowledged.
+/// A write of a log is issued only where its number is no further past the one up to which all are acknowledged than the log's limit of numbers in flight, over a disk 64.
 pub fn a_log_write_keeps_the_window()
     ensures window { LogWritesKeepTheWindow }
 {}
@@ -52,9 +52,10 @@ pub fn one_recovery_is_under_way()
     ensures one { OneRecoveryAtMost }
 {}
 
-/// Over every run from an opening each server's ring has at most 64 numbers issued past the one up to which all are acknowledged, and at most 192 that aren't
-/// given up. Each number of the log of its present mount that is in flight is past the acknowledged ones, by at most 64; each write of a log in flight, of an
-/// earlier mount too, is of its number's slot; and no two in flight of one server's log are of the same slot.
+/// Over every run from an opening each server's ring has no more numbers issued past the one up to which all are acknowledged than may be in flight, and no
+/// more that aren't given up than there is room for: over a disk at most 64 and at most 192. Each number of the log of its present mount that is in flight is
+/// past the acknowledged ones, by no more than that; each write of a log in flight, of an earlier mount too, is of its number's slot; and no two in flight of
+/// one server's log are of the same slot.
 pub fn logs_in_flight_keep_the_window()
     ensures rings { RingsKeepTheirWindows }
     ensures window { LogFlightsStayInTheWindow }

@@ -6,10 +6,7 @@ use Rattle.std.specs.List.{list_any}
 use Rattle.std.specs.Option.{option_map}
 use Rattle.frang_base.specs.Functions.{put}
 use Rattle.frang_base.specs.declared.limits.TheConstants.{LAST_TICK}
-use Rattle.frang_base.specs.declared.op.HostOp.TheVariants as host
 use Rattle.frang_base.specs.declared.op.Op.{Op}
-use Rattle.frang_base.specs.declared.op.What.{What}
-use Rattle.frang_base.specs.declared.op.What.TheVariants.{Server, Host}
 use Rattle.frang_base.specs.declared.reply.Reply.{Reply}
 use Rattle.frang_base.specs.declared.reply.Reply.TheVariants as reply
 use Rattle.frang_base.specs.declared.lock.LockId.{LockId}
@@ -26,7 +23,7 @@ use Rattle.tree_definitions.specs.Transcript.{halts, is_end, is_halt, is_halt_li
 use Rattle.core_definitions.specs.Flights.{Flight}
 use Rattle.core_definitions.specs.Lines.{Stage, Asking, Fetching, Moving, Stopping, Growing, Clearing, Finishing, Under, operation_of}
 use Rattle.core_definitions.specs.Recoveries.{Recovery}
-use Rattle.core_definitions.specs.Scripts.{host_party, is_halt_asked}
+use Rattle.core_definitions.specs.Scripts.{host_party}
 use Rattle.core_definitions.specs.Servers.{Phase, Off, Up, Still, Doomed, Dead, is_off}
 use Rattle.core_definitions.specs.Writes.{Write}
 use Rattle.core_definitions.specs.Cores.{Core, clean_at, due_at, next_of, stage, writes}
@@ -53,12 +50,6 @@ or_left false b e = absurd (false≢true e)
 or_right : (a b : Bool) → b ≡ true → (a || b) ≡ true
 or_right true b e = refl
 or_right false b e = e
-
--- a halt is one for the core and for the lines said
-halt_told : (w : What) → is_halt_asked w ≡ true → is_halt w ≡ true
-halt_told (Server o) e = absurd (false≢true e)
-halt_told (Host host.Halt) e = refl
-halt_told (Host h) e = absurd (false≢true e)
 
 one_tick : (n last : ℕ) → IsTrue (nat_lt n last) → n + 1 ≤ last
 one_tick n last h = grind (arith, nat_tests, h)
@@ -199,7 +190,7 @@ module _ (c : Core) where
     reads sector (PutFailed new) disk hears e = absurd hears
 
     -- the answer to a halt
-    halted : (number : ℕ) (heard : Heard) → CanHost c number → (l : Line) → next_of c host_party ≡ Some l → is_halt_asked l.what ≡ true → Ended (HostLine number) heard
+    halted : (number : ℕ) (heard : Heard) → CanHost c number → (l : Line) → next_of c host_party ≡ Some l → is_halt l.what ≡ true → Ended (HostLine number) heard
     halted number heard can l next e =
         or_left (is_over c.setting.script (saids ++ host_line number ∷ [])) false
         (or_left (list_any (halts c.setting.script) (saids ++ host_line number ∷ [])) (list_any is_end (saids ++ host_line number ∷ []))
@@ -213,7 +204,7 @@ module _ (c : Core) where
 
         halts_so : is_halt_line (line_of c.setting.script number) ≡ true
         halts_so =
-            subst (λ n. is_halt_line (line_of c.setting.script n) ≡ true) same (ap is_halt_line (line_is c.setting.script l numbered.apart own.there) ∙ halt_told l.what e)
+            subst (λ n. is_halt_line (line_of c.setting.script n) ≡ true) same (ap is_halt_line (line_is c.setting.script l numbered.apart own.there) ∙ e)
 
     hosts : (number : ℕ) (heard : Heard) → CanHost c number → (o : Option Line) → next_of c host_party ≡ o → (host_answered_line c o).over ≡ true → Ended (HostLine number) heard
     hosts number heard can None next e = kept c itself e

@@ -12,7 +12,6 @@ use Rattle.frang_base.specs.declared.said.Said.{Said}
 use Rattle.frang_base.specs.declared.said.Said.TheVariants as said
 use Rattle.frang_base.specs.declared.script.Line.{Line}
 use Rattle.lock_definitions.specs.Calls.{asked_for, cleared}
-use Rattle.lock_definitions.specs.Lease.{lease_expiry}
 use Rattle.lock_definitions.specs.Locks.{log_hold}
 use Rattle.lock_definitions.specs.declared.claim.AskedFor.{AskedFor}
 use Rattle.lock_definitions.specs.declared.claim.AskedFor.TheVariants.{Release, Downgrade}
@@ -22,6 +21,7 @@ use Rattle.sector_bytes.specs.Sectors.{Sectors}
 use Rattle.tree_definitions.specs.Apply.{is_path_op}
 use Rattle.tree_definitions.specs.Touched.{is_ok, is_unmount}
 use Rattle.tree_definitions.specs.Transcript.{Faults, is_io, is_node, is_unexplained, may_be_dirty}
+use Rattle.core_definitions.specs.Settings.{lease_to}
 use Rattle.core_definitions.specs.Caches.{dropped}
 use Rattle.core_definitions.specs.Flights.{Flight}
 use Rattle.core_definitions.specs.Lines.{Stage, Asking, Fetching, Moving, Stopping, Growing, Clearing, Finishing, Under, operation_of}
@@ -307,10 +307,10 @@ module _ (script : List Line) (f : Faults) (c : Core) (saids : List Said) (g : C
         calls = subst (λ ss. IsTrue (called script a ss || (c.servers a).failed)) (sym (nil_right saids)) (doomed_calls script f c saids g a can (lease a can.server));
       }
 
-  resumed_paid : (a : ℕ) → CanResume c a → (i : ℕ) → Paid (said.Renewed (id_of a) ∷ []) i (put c.servers a (up_again c.now (c.servers a)) i) 0
+  resumed_paid : (a : ℕ) → CanResume c a → (i : ℕ) → Paid (said.Renewed (id_of a) ∷ []) i (put c.servers a (up_again c.setting c.now (c.servers a)) i) 0
   resumed_paid a can =
-      one_server (said.Renewed (id_of a) ∷ []) a (up_again c.now (c.servers a)) (λ i. 0)
-      (said_pays script saids (said.Renewed (id_of a)) a (key_of (c.servers a)) (key_of (up_again c.now (c.servers a))) 0 refl
+      one_server (said.Renewed (id_of a) ∷ []) a (up_again c.setting c.now (c.servers a)) (λ i. 0)
+      (said_pays script saids (said.Renewed (id_of a)) a (key_of (c.servers a)) (key_of (up_again c.setting c.now (c.servers a))) 0 refl
       (said_none (one_if (true && (c.servers a).failed)) (death_due (key_of (c.servers a))) (asked_due (key_of (c.servers a)).asked) 0 same refl) refl
       (keeps_same (one_if (true && (c.servers a).failed)) (death_due (key_of (c.servers a))) same))
       (λ i n. aside_paid i (said.Renewed (id_of a)) (numbers_turn i a n))
@@ -591,7 +591,7 @@ module _ (script : List Line) (f : Faults) (c : Core) (saids : List Said) (g : C
   event_pays (Begin a) heard disk can hears i = begun_paid a can i
   event_pays (Ask a lock mode) heard disk can hears i = still_paid i 0
   event_pays (Fetch a sector) heard disk can hears i = fetches_paid a sector heard disk hears i
-  event_pays (Again a) heard disk can hears i = steadily a (again_by (stage c a) (c.servers a)) (again_steady (stage c a) (c.servers a)) i
+  event_pays (Again a) heard disk can hears i = steadily a (again_by c.setting.logs (stage c a) (c.servers a)) (again_steady c.setting.logs (stage c a) (c.servers a)) i
   event_pays (Clear a block) heard disk can hears i = steadily a (cleared_at block (c.servers a)) refl i
   event_pays (Commit a) heard disk can hears i = commits_paid a can i
   event_pays (Answer a) heard disk can hears i = answers_paid a can i
@@ -604,7 +604,7 @@ module _ (script : List Line) (f : Faults) (c : Core) (saids : List Said) (g : C
       (arrived_paid ticket heard (value_at c.flights ticket) refl i)
   event_pays (Lose ticket) heard disk can hears i = still_paid i 0
   event_pays (Die a) heard disk can hears i = dies_paid a (c.servers a).phase refl can.doomed i
-  event_pays (Renew a) heard disk can hears i = steadily a (record (c.servers a) { expiry = lease_expiry c.now }) refl i
+  event_pays (Renew a) heard disk can hears i = steadily a (record (c.servers a) { expiry = lease_to c.setting c.now }) refl i
   event_pays Tick heard disk can hears i = same_paid i (flushed_at c (c.now + 1) i) 0 (flushed_steady ((c.now + 1) % c.setting.flush_ticks == 0) (c.servers i))
   event_pays (Recover dead by) heard disk can hears i = recovers_paid dead by can i
   event_pays (Load by slot) heard disk can hears i = loads_paid by slot heard disk hears i

@@ -3,9 +3,9 @@ use Rattle.std.proofs.Common.{ℕ, Bool, true, false, ◌&&◌, ◌||◌, ◌==�
 use Rattle.std.specs.List.{list_any}
 use Rattle.frang_base.specs.declared.lock.LockId.{LockId}
 use Rattle.lock_definitions.specs.Calls.{asked_for}
-use Rattle.lock_definitions.specs.Lease.{lease_expiry}
 use Rattle.sector_bytes.specs.SectorMaps.{value_at}
 use Rattle.tree_definitions.specs.Numbers.{below}
+use Rattle.core_definitions.specs.Settings.{lease_to}
 use Rattle.core_definitions.specs.Logs.{is_none}
 use Rattle.core_definitions.specs.Rings.{is_all_reached}
 use Rattle.core_definitions.specs.Caches.{any_kept, is_dirty_under}
@@ -111,19 +111,19 @@ begin_can c a may =
     record { server = all.p0; next = all.p1; idle = all.p2; hosts = all.p3; phase = all.p4; passed = all.p5; free = all.p6 }
 
 pub again_may : (c : Core) (a : ℕ) → CanAgain c a → IsTrue (may_again c a (stage c a))
-again_may c a can = all_3 (is_server a) (is_moved (stage c a) || is_grown (stage c a) || may_reclaim (c.servers a) (stage c a)) (not (c.servers a).failed) can.server can.cause can.well
+again_may c a can = all_3 (is_server a) (is_moved (stage c a) || is_grown (stage c a) || may_reclaim c.setting.logs (c.servers a) (stage c a)) (not (c.servers a).failed) can.server can.cause can.well
 
 pub again_can : (c : Core) (a : ℕ) → IsTrue (may_again c a (stage c a)) → CanAgain c a
 again_can c a may =
-    let all = of_3 (is_server a) (is_moved (stage c a) || is_grown (stage c a) || may_reclaim (c.servers a) (stage c a)) (not (c.servers a).failed) may in
+    let all = of_3 (is_server a) (is_moved (stage c a) || is_grown (stage c a) || may_reclaim c.setting.logs (c.servers a) (stage c a)) (not (c.servers a).failed) may in
     record { server = all.p0; cause = all.p1; well = all.p2 }
 
 pub commit_may : (c : Core) (a : ℕ) → CanCommit c a → IsTrue (may_commit c a (stage c a))
-commit_may c a can = all_4 (is_server a) (is_some (done_by (stage c a))) (is_none (c.servers a).pending) (has_room_for (c.servers a) (done_by (stage c a))) can.server can.done can.cleared can.room
+commit_may c a can = all_4 (is_server a) (is_some (done_by (stage c a))) (is_none (c.servers a).pending) (has_room_for c.setting.logs (c.servers a) (done_by (stage c a))) can.server can.done can.cleared can.room
 
 pub commit_can : (c : Core) (a : ℕ) → IsTrue (may_commit c a (stage c a)) → CanCommit c a
 commit_can c a may =
-    let all = of_4 (is_server a) (is_some (done_by (stage c a))) (is_none (c.servers a).pending) (has_room_for (c.servers a) (done_by (stage c a))) may in
+    let all = of_4 (is_server a) (is_some (done_by (stage c a))) (is_none (c.servers a).pending) (has_room_for c.setting.logs (c.servers a) (done_by (stage c a))) may in
     record { server = all.p0; done = all.p1; cleared = all.p2; room = all.p3 }
 
 pub answer_may : (c : Core) (a : ℕ) → CanAnswer c a → IsTrue (may_answer c a)
@@ -175,11 +175,11 @@ die_can c a may =
     record { server = all.p0; doomed = all.p1 }
 
 pub renew_may : (c : Core) (a : ℕ) → CanRenew c a → IsTrue (may_renew c a)
-renew_may c a can = all_3 (is_server a) (is_up (c.servers a).phase) (nat_lt (c.servers a).expiry (lease_expiry c.now)) can.server can.up can.less
+renew_may c a can = all_3 (is_server a) (is_up (c.servers a).phase) (nat_lt (c.servers a).expiry (lease_to c.setting c.now)) can.server can.up can.less
 
 pub renew_can : (c : Core) (a : ℕ) → IsTrue (may_renew c a) → CanRenew c a
 renew_can c a may =
-    let all = of_3 (is_server a) (is_up (c.servers a).phase) (nat_lt (c.servers a).expiry (lease_expiry c.now)) may in
+    let all = of_3 (is_server a) (is_up (c.servers a).phase) (nat_lt (c.servers a).expiry (lease_to c.setting c.now)) may in
     record { server = all.p0; up = all.p1; less = all.p2 }
 
 pub recover_may : (c : Core) (dead by : ℕ) → CanRecover c dead by → IsTrue (may_recover c dead by)

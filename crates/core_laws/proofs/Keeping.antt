@@ -7,14 +7,13 @@ use Rattle.frang_base.specs.declared.script.Line.{Line}
 use Rattle.lock_definitions.specs.declared.claim.AskedFor.{AskedFor}
 use Rattle.lock_definitions.specs.declared.claim.AskedFor.TheVariants.{Release, Downgrade}
 use Rattle.lock_definitions.specs.Calls.{asked_for, cleared}
-use Rattle.lock_definitions.specs.Lease.{lease_expiry}
 use Rattle.lock_definitions.specs.Locks.{AreLocks, Locks}
 use Rattle.lock_definitions.specs.Runs.{LockCall, after_calls, Want, Release as ReleaseCall, Downgrade as DowngradeCall, TakeLog, Extend, Clear as ClearCall}
 use Rattle.lock_definitions.proofs.States.{AreLocks-after_calls, AreLocks-no_locks}
 use Rattle.tree_definitions.specs.Touched.{is_unmount}
 use Rattle.sector_bytes.specs.SectorMaps.{value_at}
 use Rattle.sector_bytes.specs.Sectors.{Sectors}
-use Rattle.core_definitions.specs.Settings.{Setting}
+use Rattle.core_definitions.specs.Settings.{Setting, lease_to}
 use Rattle.core_definitions.specs.Lines.{Stage, Asking, Fetching, Moving, Stopping, Growing, Clearing, Finishing, Under, operation_of}
 use Rattle.core_definitions.specs.Flights.{Flight}
 use Rattle.core_definitions.specs.Recoveries.{Recovery}
@@ -183,8 +182,8 @@ event_keeps c (Resume a) heard = one_call c _ (ClearCall a) (le_self c.now) refl
 event_keeps c (Arrive ticket) heard = arrived_keeps c ticket heard (value_at c.flights ticket)
 event_keeps c (Lose ticket) heard = same c _ refl refl
 event_keeps c (Die a) heard = died_keeps c a (c.servers a).phase
-event_keeps c (Renew a) heard = one_call c _ (Extend a (lease_expiry c.now)) (le_self c.now) refl
-event_keeps c Tick heard = one_call c _ (Extend host_party (lease_expiry (c.now + 1))) (next_moment c.now) refl
+event_keeps c (Renew a) heard = one_call c _ (Extend a (lease_to c.setting c.now)) (le_self c.now) refl
+event_keeps c Tick heard = one_call c _ (Extend host_party (lease_to c.setting (c.now + 1))) (next_moment c.now) refl
 event_keeps c (Recover dead by) heard = one_call c _ (TakeLog dead by c.now (expiry_of c by)) (le_self c.now) refl
 event_keeps c (Load by slot) heard = load_keeps c by slot heard
 event_keeps c (Look by sector) heard = look_keeps c by sector heard

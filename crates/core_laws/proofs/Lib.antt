@@ -9,3 +9,4 @@ pub mod Exact
 pub mod Flying
 pub mod Single
 pub mod Along
+pub mod Kept

@@ -24,9 +24,9 @@ use Rattle.core_steps.specs.EndEffects.{finished_from, host_answered_line}
 use Rattle.core_steps.specs.Effects.{after}
 use Rattle.core_steps.specs.Runs.{State, Step, Event_, Enter, Hold, Flush, Relock, Note, Peek, Run, Stays, Goes, first_state}
 use Rattle.std.specs.Map.{keys_of}
+use Rattle.tree_definitions.specs.Transcript.{is_halt}
 use Rattle.core_definitions.specs.Flights.{Flights, left_behind, lost}
 use Rattle.core_definitions.specs.Plans.{Outcome}
-use Rattle.core_definitions.specs.Scripts.{is_halt_asked}
 use Rattle.core_steps.specs.LineEffects.{flight_after, purpose_after}
 use Rattle.core_steps.specs.WriteEffects.{flight_of}
 use Rattle.core_steps.specs.WriteGuards.{CanIssue}
@@ -118,7 +118,7 @@ halted false flights tickets g = g
 
 host_good : (c : Core) (line : Option Line) → Good c → Good (host_answered_line c line)
 host_good c None g = g
-host_good c (Some line) g = halted (is_halt_asked line.what) c.flights c.tickets g
+host_good c (Some line) g = halted (is_halt line.what) c.flights c.tickets g
 
 fetch_good : (c : Core) (a sector : ℕ) (heard : Heard) → Good c → Good (after c (Fetch a sector) heard)
 fetch_good c a sector (Got block) g = g

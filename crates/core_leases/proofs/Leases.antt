@@ -1,6 +1,6 @@
 -- Over every run: how long leases and the writes in flight last. Event by event; a Tick comes only where no lease can be renewed, and no write of a server that is Up, or
 -- of the host, is in flight.
-use Rattle.std.proofs.Common.{◌≡◌, ℕ, ◌≤◌, ◌⊎◌, inl, inr, Bool, true, false, ◌&&◌, ◌||◌, ◌==◌, ◌+◌, ◌-◌, ◌%◌, cond, if◌then◌else◌, IsTrue, is_some, List, [], ◌∷◌, Option, Some, None, nat_eq, nat_lt, refl, sym, ap, ◌∙◌, subst, arith}
+use Rattle.std.proofs.Common.{◌≡◌, ℕ, ◌≤◌, ◌<◌, ◌⊎◌, inl, inr, Bool, true, false, ◌&&◌, ◌||◌, ◌==◌, ◌+◌, ◌-◌, ◌%◌, cond, if◌then◌else◌, IsTrue, is_some, List, [], ◌∷◌, Option, Some, None, nat_eq, nat_lt, refl, sym, ap, ◌∙◌, subst, arith}
 use Rattle.std.proofs.lemmas.Bool.{false≢true}
 use Rattle.std.proofs.lemmas.Bool.Decides.{nat_tests}
 use Rattle.std.specs.BTreeMap.{is_at}
@@ -8,7 +8,6 @@ use Rattle.std.specs.List.{Contains}
 use Rattle.std.specs.Map.{keys_of}
 use Rattle.std.specs.Ordering.{nat_cmp}
 use Rattle.frang_base.specs.Functions.{put}
-use Rattle.frang_base.specs.declared.limits.TheConstants.{LEASE_TICKS, MARGIN_TICKS}
 use Rattle.frang_base.specs.declared.lock.LockId.{LockId}
 use Rattle.frang_base.specs.declared.op.Op.{Op}
 use Rattle.frang_base.specs.declared.op.Op.TheVariants as op
@@ -18,21 +17,22 @@ use Rattle.frang_base.specs.declared.script.Line.{Line}
 use Rattle.lock_definitions.specs.declared.claim.AskedFor.{AskedFor}
 use Rattle.lock_definitions.specs.declared.claim.AskedFor.TheVariants.{Release, Downgrade}
 use Rattle.lock_definitions.specs.Calls.{asked_for}
-use Rattle.lock_definitions.specs.Lease.{IsInTime, lease_expiry, write_stamp}
+use Rattle.lock_definitions.specs.Lease.{IsInTime, write_stamp_of}
 use Rattle.sector_bytes.specs.Blocks.{Block}
 use Rattle.sector_bytes.specs.SectorMaps.{value_at, without}
 use Rattle.sector_bytes.specs.Sectors.{Sectors}
 use Rattle.sector_bytes.proofs.MapLaws.{found}
 use Rattle.tree_definitions.specs.Touched.{is_ok, is_unmount}
+use Rattle.tree_definitions.specs.Transcript.{is_halt}
 use Rattle.core_definitions.specs.Caches.{still_has}
 use Rattle.core_definitions.specs.Flights.{Flight, Flights, InPlace, OfLog, OfRecovery, Purpose, each_of_server, has_flights, is_of_mount, left_behind, lost}
 use Rattle.core_definitions.specs.Lines.{Stage, Asking, Fetching, Moving, Stopping, Growing, Clearing, Finishing, Under, operation_of}
 use Rattle.core_definitions.specs.Logs.{is_read}
 use Rattle.core_definitions.specs.Plans.{Outcome}
 use Rattle.core_definitions.specs.Recoveries.{Recovery}
-use Rattle.core_definitions.specs.Scripts.{host_party, is_halt_asked}
+use Rattle.core_definitions.specs.Scripts.{host_party}
 use Rattle.core_definitions.specs.Servers.{Phase, Off, Up, Still, Doomed, Dead, Server, due_if, due_under, is_answering, is_dead, is_off, is_still, is_up, own_answer, own_answer_of, wanting_all, wanting_all_up}
-use Rattle.core_definitions.specs.Settings.{Setting}
+use Rattle.core_definitions.specs.Settings.{LogRules, Setting, lease_to}
 use Rattle.core_definitions.specs.Writes.{Write}
 use Rattle.core_definitions.specs.Cores.{Core, clean_at, due_at, expiry_of, next_of, stage, writes}
 use Rattle.core_steps.specs.Events.{Event, Begin, Ask, Fetch, Again, Clear, Commit, Answer, Give, Issue, Doom, Resume, Arrive, Lose, Die, Renew, Tick, Recover, Load, Look, Finish, HostLine, Close, Read, Show, End, Heard, Nothing, Got, GetFailed, Written, Late, PutFailed}
@@ -48,6 +48,7 @@ use Rattle.core_laws.specs.Laws.{AreOnce}
 use Rattle.core_laws.proofs.Along.{along}
 use Rattle.core_laws.proofs.Flying.{Once}
 use Rattle.core_laws.proofs.Guarding.{all_2}
+use Rattle.core_laws.proofs.Kept.{setting_of_run}
 use Rattle.core_laws.proofs.Keys.{or_left, or_right}
 use Rattle.core_laws.proofs.Membership.{In, contains_in, in_contains, into_map}
 use Rattle.core_laws.proofs.Single.{tickets_once}
@@ -55,17 +56,25 @@ use Rattle.core_facts.proofs.Ashore.{acknowledged_phase, again_phase, ashore_of_
 use Rattle.core_facts.proofs.FlightLists.{AllFlights, all_changed, all_flights, all_joined, all_landed, all_lost, in_flights}
 use Rattle.core_facts.proofs.Memory.{in_some, none_some, opened, same_number, works}
 
+-- what counts of a moment: until when a lease lasts that begins then, and how long before its end a write may last arrive
+record Moment : Type 0 where
+  until : ℕ
+  margin : ℕ
+
+abbrev moment_of : Core → Moment
+moment_of c = record { until = lease_to c.setting c.now; margin = c.setting.margin_ticks }
+
 -- ---- the writes in flight
 
--- a write of the server's present mount may arrive in time for at least 14 ticks from this moment
-abbrev Lasts : ℕ → ℕ → Flight → Type 0
-Lasts a now flight = flight.server ≡ a → flight.present ≡ true → now + LEASE_TICKS ≤ flight.stamp + MARGIN_TICKS + 1
+-- a write of the server's present mount may arrive in time to the margin before that, but for one tick
+abbrev Lasts : ℕ → Moment → Flight → Type 0
+Lasts a now flight = flight.server ≡ a → flight.present ≡ true → now.until ≤ flight.stamp + now.margin + 1
 
--- and for at most 15
-abbrev Ends : ℕ → Flight → Type 0
-Ends now flight = flight.stamp + MARGIN_TICKS ≤ now + LEASE_TICKS
+-- and no longer than to the margin before it
+abbrev Ends : Moment → Flight → Type 0
+Ends now flight = flight.stamp + now.margin ≤ now.until
 
-none_last : (a now : ℕ) (flights : Flights) → has_flights flights a ≡ false → AllFlights (Lasts a now) flights
+none_last : (a : ℕ) (now : Moment) (flights : Flights) → has_flights flights a ≡ false → AllFlights (Lasts a now) flights
 none_last a now [] h = tt
 none_last a now (one ∷ others) h = (here, none_last a now others (right_false (is_of_mount a one.1) (has_flights others a) h))
   where
@@ -111,25 +120,25 @@ moved_mild outcome = record { server = λ f. server f f.present; stamp = λ f. s
 behind_mild : IsMild (λ flight. record flight { present = false })
 behind_mild = record { server = λ f. refl; stamp = λ f. refl; present = λ f h. absurd (false≢true h) }
 
-mild_lasts : (change : Flight → Flight) → IsMild change → (a now : ℕ) (f : Flight) → Lasts a now f → Lasts a now (change f)
+mild_lasts : (change : Flight → Flight) → IsMild change → (a : ℕ) (now : Moment) (f : Flight) → Lasts a now f → Lasts a now (change f)
 mild_lasts change mild a now f l server present =
-    subst (λ n. now + LEASE_TICKS ≤ n + MARGIN_TICKS + 1) (sym (mild.stamp f)) (l (sym (mild.server f) ∙ server) (mild.present f present))
+    subst (λ n. now.until ≤ n + now.margin + 1) (sym (mild.stamp f)) (l (sym (mild.server f) ∙ server) (mild.present f present))
 
-mild_ends : (change : Flight → Flight) → IsMild change → (now : ℕ) (f : Flight) → Ends now f → Ends now (change f)
-mild_ends change mild now f e = subst (λ n. n + MARGIN_TICKS ≤ now + LEASE_TICKS) (sym (mild.stamp f)) e
+mild_ends : (change : Flight → Flight) → IsMild change → (now : Moment) (f : Flight) → Ends now f → Ends now (change f)
+mild_ends change mild now f e = subst (λ n. n + now.margin ≤ now.until) (sym (mild.stamp f)) e
 
 -- ---- what the core keeps
 
 record Leased (c : Core) : Type 0 where
-  up : (a : ℕ) → IsTrue (is_server a) → IsTrue (is_up (c.servers a).phase) → c.now + LEASE_TICKS ≤ (c.servers a).expiry + 1
-  most : (a : ℕ) → (c.servers a).expiry ≤ c.now + LEASE_TICKS
-  writes : (a : ℕ) → IsTrue (works a (c.servers a)) → AllFlights (Lasts a c.now) c.flights
-  stamps : AllFlights (Ends c.now) c.flights
+  up : (a : ℕ) → IsTrue (is_server a) → IsTrue (is_up (c.servers a).phase) → lease_to c.setting c.now ≤ (c.servers a).expiry + 1
+  most : (a : ℕ) → (c.servers a).expiry ≤ lease_to c.setting c.now
+  writes : (a : ℕ) → IsTrue (works a (c.servers a)) → AllFlights (Lasts a (moment_of c)) c.flights
+  stamps : AllFlights (Ends (moment_of c)) c.flights
 
 -- the writes in flight are of those before
 record AreOf (old new : Flights) : Type 0 where
-  lasts : (a now : ℕ) → AllFlights (Lasts a now) old → AllFlights (Lasts a now) new
-  ends : (now : ℕ) → AllFlights (Ends now) old → AllFlights (Ends now) new
+  lasts : (a : ℕ) (now : Moment) → AllFlights (Lasts a now) old → AllFlights (Lasts a now) new
+  ends : (now : Moment) → AllFlights (Ends now) old → AllFlights (Ends now) new
 
 same_flights : (flights : Flights) → AreOf flights flights
 same_flights flights = record { lasts = λ a now h. h; ends = λ now h. h }
@@ -150,14 +159,20 @@ landed_are : (ticket : ℕ) (flights : Flights) → AreOf flights (without fligh
 landed_are ticket flights = record { lasts = λ a now h. all_landed (Lasts a now) ticket flights h; ends = λ now h. all_landed (Ends now) ticket flights h }
 
 -- a lease begins now, and nothing of it is in flight
-abbrev Begins : ℕ → ℕ → Flights → Server → Type 0
-Begins a now flights new = (new.expiry ≡ now + LEASE_TICKS) × AllFlights (Lasts a now) flights
+abbrev Begins : ℕ → Moment → Flights → Server → Type 0
+Begins a now flights new = (new.expiry ≡ now.until) × AllFlights (Lasts a now) flights
 
-at_least : (now expiry : ℕ) → expiry ≡ now + LEASE_TICKS → now + LEASE_TICKS ≤ expiry + 1
-at_least now expiry e = omega (arith, e)
+at_least : (until expiry : ℕ) → expiry ≡ until → until ≤ expiry + 1
+at_least until expiry e = omega (arith, e)
 
-at_most : (now expiry : ℕ) → expiry ≡ now + LEASE_TICKS → expiry ≤ now + LEASE_TICKS
-at_most now expiry e = omega (arith, e)
+at_most : (until expiry : ℕ) → expiry ≡ until → expiry ≤ until
+at_most until expiry e = omega (arith, e)
+
+outlasts : (setting : Setting) → setting.margin_ticks < setting.lease_ticks
+outlasts setting = less setting.margin_ticks setting.lease_ticks setting.lease_outlasts
+  where
+    less : (x y : ℕ) → IsTrue (nat_lt x y) → x < y
+    less x y h = grind (arith, nat_tests, h)
 
 worker : (s u h : Bool) → IsTrue ((s && u) || h) → (IsTrue s × IsTrue u) ⊎ IsTrue h
 worker true true h w = inl (refl, refl)
@@ -165,8 +180,8 @@ worker true false h w = inr w
 worker false u h w = inr w
 
 -- each server as before, but for one
-module _ (c d : Core) (a : ℕ) (new : Server) (servers : d.servers ≡ put c.servers a new) (now : d.now ≡ c.now) (are : AreOf c.flights d.flights)
-    (most : new.expiry ≤ c.now + LEASE_TICKS) (own : IsTrue (is_up new.phase) → (IsTrue (is_up (c.servers a).phase) × (new.expiry ≡ (c.servers a).expiry)) ⊎ Begins a c.now d.flights new)
+module _ (c d : Core) (a : ℕ) (new : Server) (servers : d.servers ≡ put c.servers a new) (now : moment_of d ≡ moment_of c) (are : AreOf c.flights d.flights)
+    (most : new.expiry ≤ lease_to c.setting c.now) (own : IsTrue (is_up new.phase) → (IsTrue (is_up (c.servers a).phase) × (new.expiry ≡ (c.servers a).expiry)) ⊎ Begins a (moment_of c) d.flights new)
     (l : Leased c) where
   by_case : (P : ℕ → Server → Type 0) → P a new → ((i : ℕ) → P i (c.servers i)) → (i : ℕ) → P i (d.servers i)
   by_case P here there i = subst (λ f. P i (f i)) (sym servers) (go (nat_eq i a) refl)
@@ -175,48 +190,48 @@ module _ (c d : Core) (a : ℕ) (new : Server) (servers : d.servers ≡ put c.se
       go true e = subst (λ n. P n new) (sym (same_number a i e)) here
       go false e = there i
 
-  up_then : IsTrue (is_server a) → (IsTrue (is_up (c.servers a).phase) × (new.expiry ≡ (c.servers a).expiry)) ⊎ Begins a c.now d.flights new →
-      c.now + LEASE_TICKS ≤ new.expiry + 1
-  up_then server (inl stays) = subst (λ n. c.now + LEASE_TICKS ≤ n + 1) (sym stays.1) (l.up a server stays.0)
-  up_then server (inr begins) = at_least c.now new.expiry begins.0
+  up_then : IsTrue (is_server a) → (IsTrue (is_up (c.servers a).phase) × (new.expiry ≡ (c.servers a).expiry)) ⊎ Begins a (moment_of c) d.flights new →
+      lease_to c.setting c.now ≤ new.expiry + 1
+  up_then server (inl stays) = subst (λ n. lease_to c.setting c.now ≤ n + 1) (sym stays.1) (l.up a server stays.0)
+  up_then server (inr begins) = at_least (lease_to c.setting c.now) new.expiry begins.0
 
-  own_then : IsTrue (is_server a) → (IsTrue (is_up (c.servers a).phase) × (new.expiry ≡ (c.servers a).expiry)) ⊎ Begins a c.now d.flights new →
-      AllFlights (Lasts a c.now) d.flights
+  own_then : IsTrue (is_server a) → (IsTrue (is_up (c.servers a).phase) × (new.expiry ≡ (c.servers a).expiry)) ⊎ Begins a (moment_of c) d.flights new →
+      AllFlights (Lasts a (moment_of c)) d.flights
   own_then server (inl stays) =
-      are.lasts a c.now
+      are.lasts a (moment_of c)
       (l.writes a (or_left (is_server a && is_up (c.servers a).phase) (a == host_party) (all_2 (is_server a) (is_up (c.servers a).phase) server stays.0)))
   own_then server (inr begins) = begins.1
 
-  works_then : IsTrue (works a new) → AllFlights (Lasts a c.now) d.flights
+  works_then : IsTrue (works a new) → AllFlights (Lasts a (moment_of c)) d.flights
   works_then w = go (worker (is_server a) (is_up new.phase) (a == host_party) w)
     where
-      go : (IsTrue (is_server a) × IsTrue (is_up new.phase)) ⊎ IsTrue (a == host_party) → AllFlights (Lasts a c.now) d.flights
+      go : (IsTrue (is_server a) × IsTrue (is_up new.phase)) ⊎ IsTrue (a == host_party) → AllFlights (Lasts a (moment_of c)) d.flights
       go (inl t) = own_then t.0 (own t.1)
-      go (inr h) = are.lasts a c.now (l.writes a (or_right (is_server a && is_up (c.servers a).phase) (a == host_party) h))
+      go (inr h) = are.lasts a (moment_of c) (l.writes a (or_right (is_server a && is_up (c.servers a).phase) (a == host_party) h))
 
   moved : Leased d
   moved = record {
-    up = λ i server t. subst (λ n. n + LEASE_TICKS ≤ (d.servers i).expiry + 1) (sym now) (by_case (λ i s. IsTrue (is_server i) → IsTrue (is_up s.phase) → c.now + LEASE_TICKS ≤ s.expiry + 1) (λ server t. up_then server (own t)) l.up i server t);
-    most = λ i. subst (λ n. (d.servers i).expiry ≤ n + LEASE_TICKS) (sym now) (by_case (λ i s. s.expiry ≤ c.now + LEASE_TICKS) most l.most i);
-    writes = λ i w. subst (λ n. AllFlights (Lasts i n) d.flights) (sym now) (by_case (λ i s. IsTrue (works i s) → AllFlights (Lasts i c.now) d.flights) works_then (λ i w. are.lasts i c.now (l.writes i w)) i w);
-    stamps = subst (λ n. AllFlights (Ends n) d.flights) (sym now) (are.ends c.now l.stamps);
+    up = λ i server t. subst (λ n. n.until ≤ (d.servers i).expiry + 1) (sym now) (by_case (λ i s. IsTrue (is_server i) → IsTrue (is_up s.phase) → lease_to c.setting c.now ≤ s.expiry + 1) (λ server t. up_then server (own t)) l.up i server t);
+    most = λ i. subst (λ n. (d.servers i).expiry ≤ n.until) (sym now) (by_case (λ i s. s.expiry ≤ lease_to c.setting c.now) most l.most i);
+    writes = λ i w. subst (λ n. AllFlights (Lasts i n) d.flights) (sym now) (by_case (λ i s. IsTrue (works i s) → AllFlights (Lasts i (moment_of c)) d.flights) works_then (λ i w. are.lasts i (moment_of c) (l.writes i w)) i w);
+    stamps = subst (λ n. AllFlights (Ends n) d.flights) (sym now) (are.ends (moment_of c) l.stamps);
   }
 
 -- the moment and every server as before
-calm : (c d : Core) → d.now ≡ c.now → ((i : ℕ) → d.servers i ≡ c.servers i) → AreOf c.flights d.flights → Leased c → Leased d
+calm : (c d : Core) → moment_of d ≡ moment_of c → ((i : ℕ) → d.servers i ≡ c.servers i) → AreOf c.flights d.flights → Leased c → Leased d
 calm c d now same are l = record {
-  up = λ i server t. subst (λ n. n + LEASE_TICKS ≤ (d.servers i).expiry + 1) (sym now)
-      (subst (λ s. c.now + LEASE_TICKS ≤ s.expiry + 1) (sym (same i)) (l.up i server (ap (λ s. is_up s.phase) (sym (same i)) ∙ t)));
-  most = λ i. subst (λ n. (d.servers i).expiry ≤ n + LEASE_TICKS) (sym now) (subst (λ s. s.expiry ≤ c.now + LEASE_TICKS) (sym (same i)) (l.most i));
-  writes = λ i w. subst (λ n. AllFlights (Lasts i n) d.flights) (sym now) (are.lasts i c.now (l.writes i (ap (works i) (sym (same i)) ∙ w)));
-  stamps = subst (λ n. AllFlights (Ends n) d.flights) (sym now) (are.ends c.now l.stamps);
+  up = λ i server t. subst (λ n. n.until ≤ (d.servers i).expiry + 1) (sym now)
+      (subst (λ s. lease_to c.setting c.now ≤ s.expiry + 1) (sym (same i)) (l.up i server (ap (λ s. is_up s.phase) (sym (same i)) ∙ t)));
+  most = λ i. subst (λ n. (d.servers i).expiry ≤ n.until) (sym now) (subst (λ s. s.expiry ≤ lease_to c.setting c.now) (sym (same i)) (l.most i));
+  writes = λ i w. subst (λ n. AllFlights (Lasts i n) d.flights) (sym now) (are.lasts i (moment_of c) (l.writes i (ap (works i) (sym (same i)) ∙ w)));
+  stamps = subst (λ n. AllFlights (Ends n) d.flights) (sym now) (are.ends (moment_of c) l.stamps);
 }
 
 -- one server changes, but neither its phase nor its expiry
 steady : (c : Core) (a : ℕ) (new : Server) → new.phase ≡ (c.servers a).phase → new.expiry ≡ (c.servers a).expiry → Leased c →
     Leased (record c { servers = put c.servers a new })
 steady c a new p e l =
-    moved c (record c { servers = put c.servers a new }) a new refl refl (same_flights c.flights) (subst (λ n. n ≤ c.now + LEASE_TICKS) (sym e) (l.most a))
+    moved c (record c { servers = put c.servers a new }) a new refl refl (same_flights c.flights) (subst (λ n. n ≤ lease_to c.setting c.now) (sym e) (l.most a))
     (λ t. inl (ap is_up (sym p) ∙ t, e)) l
 
 either : (test : Bool) (d e : Core) → Leased d → Leased e → Leased (if test then d else e)
@@ -242,15 +257,15 @@ fetched_expiry a at sector block server = go (is_off server.phase) (cover_needed
     go false None = refl
     go false (Some cover) = refl
 
-again_expiry : (at : Option Stage) (server : Server) → (again_by at server).expiry ≡ server.expiry
-again_expiry None server = refl
-again_expiry (Some (Asking need)) server = refl
-again_expiry (Some (Fetching needs)) server = refl
-again_expiry (Some Moving) server = refl
-again_expiry (Some Stopping) server = refl
-again_expiry (Some (Growing needs seen)) server = refl
-again_expiry (Some (Clearing block)) server = refl
-again_expiry (Some (Finishing outcome)) server = refl
+again_expiry : (logs : LogRules) (at : Option Stage) (server : Server) → (again_by logs at server).expiry ≡ server.expiry
+again_expiry logs None server = refl
+again_expiry logs (Some (Asking need)) server = refl
+again_expiry logs (Some (Fetching needs)) server = refl
+again_expiry logs (Some Moving) server = refl
+again_expiry logs (Some Stopping) server = refl
+again_expiry logs (Some (Growing needs seen)) server = refl
+again_expiry logs (Some (Clearing block)) server = refl
+again_expiry logs (Some (Finishing outcome)) server = refl
 
 acknowledged_expiry : (sector : ℕ) (block : Block) (purpose : Purpose) (server : Server) → (acknowledged sector block purpose server).expiry ≡ server.expiry
 acknowledged_expiry sector block (OfLog number) server = refl
@@ -285,9 +300,9 @@ committed_leased c a (Some (Finishing outcome)) l =
     moved c (committed c a outcome) a _ refl refl (each_are a (flight_after outcome) (moved_mild outcome) c.flights) (l.most a) (λ t. inl (t, refl)) l
 
 -- a server after an answer: its expiry stays, and it was Up where it is; or its lease begins, and it was Off
-abbrev Answered : ℕ → Server → Server → Type 0
+abbrev Answered : Moment → Server → Server → Type 0
 Answered now old new =
-    ((new.expiry ≡ old.expiry) × (IsTrue (is_up new.phase) → IsTrue (is_up old.phase))) ⊎ ((new.expiry ≡ now + LEASE_TICKS) × IsTrue (is_off old.phase))
+    ((new.expiry ≡ old.expiry) × (IsTrue (is_up new.phase) → IsTrue (is_up old.phase))) ⊎ ((new.expiry ≡ now.until) × IsTrue (is_off old.phase))
 
 module _ (c : Core) (a : ℕ) (under : Under) (server : Server) where
   abbrev done : Op → Reply → Server
@@ -295,14 +310,14 @@ module _ (c : Core) (a : ℕ) (under : Under) (server : Server) where
 
   mounted_answer : (off failed read : Bool) (answer : Reply) → is_off server.phase ≡ off →
       (if off then (if failed then Some reply.Io else due_if read reply.Mounted) else None) ≡ Some answer →
-      Answered c.now server (done op.Mount answer)
+      Answered (moment_of c) server (done op.Mount answer)
   mounted_answer false failed read answer o e = absurd (none_some answer e)
-  mounted_answer true true read answer o e = subst (λ x. Answered c.now server (done op.Mount x)) (in_some reply.Io answer e) (inl (refl, λ t. t))
+  mounted_answer true true read answer o e = subst (λ x. Answered (moment_of c) server (done op.Mount x)) (in_some reply.Io answer e) (inl (refl, λ t. t))
   mounted_answer true false false answer o e = absurd (none_some answer e)
-  mounted_answer true false true answer o e = subst (λ x. Answered c.now server (done op.Mount x)) (in_some reply.Mounted answer e) (inr (refl, o))
+  mounted_answer true false true answer o e = subst (λ x. Answered (moment_of c) server (done op.Mount x)) (in_some reply.Mounted answer e) (inr (refl, o))
 
   open_answer : (operation : Op) (answer : Reply) → own_answer c.setting.logs c.flights a server under operation ≡ Some answer →
-      Answered c.now server (done operation answer)
+      Answered (moment_of c) server (done operation answer)
   open_answer (op.Create path) answer e = absurd (none_some answer e)
   open_answer (op.Mkdir path) answer e = absurd (none_some answer e)
   open_answer (op.Link path to) answer e = absurd (none_some answer e)
@@ -327,15 +342,15 @@ module _ (c : Core) (a : ℕ) (under : Under) (server : Server) where
   open_answer op.Stall answer e = inl (refl, λ t. absurd (false≢true t))
 
   answer_by : (operation : Op) (answer : Reply) → (is_some under.fixed ≡ false → own_answer c.setting.logs c.flights a server under operation ≡ Some answer) →
-      Answered c.now server (answered_by c under server operation answer)
+      Answered (moment_of c) server (answered_by c under server operation answer)
   answer_by operation answer own = go (is_some under.fixed) refl
     where
-      fixed : (test : Bool) → Answered c.now server (record (if test then record server { owes = false } else server) { under = None })
+      fixed : (test : Bool) → Answered (moment_of c) server (record (if test then record server { owes = false } else server) { under = None })
       fixed true = inl (refl, λ t. t)
       fixed false = inl (refl, λ t. t)
 
       go : (b : Bool) → is_some under.fixed ≡ b →
-          Answered c.now server (record (if b then (if is_unmount operation && is_ok answer then record server { owes = false } else server) else answered_open c under server operation answer) { under = None })
+          Answered (moment_of c) server (record (if b then (if is_unmount operation && is_ok answer then record server { owes = false } else server) else answered_open c under server operation answer) { under = None })
       go true e = fixed (is_unmount operation && is_ok answer)
       go false e = open_answer operation answer (own e)
 
@@ -351,13 +366,13 @@ answered_with_leased c a under answer (Some operation) rests own l = go (answer_
     new : Server
     new = answered_by c under (c.servers a) operation answer
 
-    go : Answered c.now (c.servers a) new → Leased (answered_with c a under answer (Some operation))
+    go : Answered (moment_of c) (c.servers a) new → Leased (answered_with c a under answer (Some operation))
     go (inl stays) =
-        moved c (answered_with c a under answer (Some operation)) a new refl refl (same_flights c.flights) (subst (λ n. n ≤ c.now + LEASE_TICKS) (sym stays.0) (l.most a))
+        moved c (answered_with c a under answer (Some operation)) a new refl refl (same_flights c.flights) (subst (λ n. n ≤ lease_to c.setting c.now) (sym stays.0) (l.most a))
         (λ t. inl (stays.1 t, stays.0)) l
     go (inr begins) =
-        moved c (answered_with c a under answer (Some operation)) a new refl refl (same_flights c.flights) (at_most c.now new.expiry begins.0)
-        (λ t. inr (begins.0, none_last a c.now c.flights (rests (or_left (is_off (c.servers a).phase) (is_dead (c.servers a).phase) begins.1)))) l
+        moved c (answered_with c a under answer (Some operation)) a new refl refl (same_flights c.flights) (at_most (lease_to c.setting c.now) new.expiry begins.0)
+        (λ t. inr (begins.0, none_last a (moment_of c) c.flights (rests (or_left (is_off (c.servers a).phase) (is_dead (c.servers a).phase) begins.1)))) l
 
 answered_leased : (c : Core) (a : ℕ) (under : Option Under) (answer : Option Reply) → Rests c a → (c.servers a).under ≡ under → due_at c a ≡ answer → Leased c →
     Leased (answered_under c a under answer)
@@ -394,41 +409,41 @@ module _ (c : Core) (a sector : ℕ) (write : Write) (who : IsTrue (is_worker c 
       go true e = (ap (λ n. (c.servers n).phase) (sym (same_number a i e)), ap (λ n. (c.servers n).expiry) (sym (same_number a i e)))
       go false e = (refl, refl)
 
-  expiry_low : c.now + LEASE_TICKS ≤ expiry_of c a + 1
+  expiry_low : lease_to c.setting c.now ≤ expiry_of c a + 1
   expiry_low = go (a == host_party) refl (worker (is_server a) (is_up (c.servers a).phase) (a == host_party) who)
     where
       self : (n : ℕ) → n ≤ n + 1
       self n = omega arith
 
       go : (h : Bool) → (a == host_party) ≡ h → (IsTrue (is_server a) × IsTrue (is_up (c.servers a).phase)) ⊎ IsTrue (a == host_party) →
-          c.now + LEASE_TICKS ≤ (if h then lease_expiry c.now else (c.servers a).expiry) + 1
-      go true e w = self (c.now + LEASE_TICKS)
+          lease_to c.setting c.now ≤ (if h then lease_to c.setting c.now else (c.servers a).expiry) + 1
+      go true e w = self (lease_to c.setting c.now)
       go false e (inl t) = l.up a t.0 t.1
       go false e (inr h) = absurd (false≢true (sym e ∙ h))
 
-  expiry_high : expiry_of c a ≤ c.now + LEASE_TICKS
+  expiry_high : expiry_of c a ≤ lease_to c.setting c.now
   expiry_high = go (a == host_party)
     where
       self : (n : ℕ) → n ≤ n
       self n = omega arith
 
-      go : (h : Bool) → (if h then lease_expiry c.now else (c.servers a).expiry) ≤ c.now + LEASE_TICKS
-      go true = self (c.now + LEASE_TICKS)
+      go : (h : Bool) → (if h then lease_to c.setting c.now else (c.servers a).expiry) ≤ lease_to c.setting c.now
+      go true = self (lease_to c.setting c.now)
       go false = l.most a
 
-  low : (now expiry : ℕ) → now + 30 ≤ expiry + 1 → now + 30 ≤ expiry - 15 + 15 + 1
-  low now expiry h = omega (arith, h)
+  low : (until margin expiry : ℕ) → until ≤ expiry + 1 → until ≤ expiry - margin + margin + 1
+  low until margin expiry h = omega (arith, h)
 
-  high : (now expiry : ℕ) → now + 30 ≤ expiry + 1 → expiry ≤ now + 30 → expiry - 15 + 15 ≤ now + 30
-  high now expiry h i = omega (arith, h, i)
+  high : (now lease margin expiry : ℕ) → margin < lease → expiry ≤ now + lease → expiry - margin + margin ≤ now + lease
+  high now lease margin expiry h i = omega (arith, h, i)
 
   issue_leased : Leased later
   issue_leased = record {
-    up = λ i server t. subst (λ n. c.now + LEASE_TICKS ≤ n + 1) (sym (same_at i).1) (l.up i server (ap is_up (sym (same_at i).0) ∙ t));
-    most = λ i. subst (λ n. n ≤ c.now + LEASE_TICKS) (sym (same_at i).1) (l.most i);
-    writes = λ i w. all_joined (Lasts i c.now) (c.tickets, put_in_flight) c.flights (λ server present. low c.now (expiry_of c a) expiry_low)
+    up = λ i server t. subst (λ n. lease_to c.setting c.now ≤ n + 1) (sym (same_at i).1) (l.up i server (ap is_up (sym (same_at i).0) ∙ t));
+    most = λ i. subst (λ n. n ≤ lease_to c.setting c.now) (sym (same_at i).1) (l.most i);
+    writes = λ i w. all_joined (Lasts i (moment_of c)) (c.tickets, put_in_flight) c.flights (λ server present. low (lease_to c.setting c.now) c.setting.margin_ticks (expiry_of c a) expiry_low)
         (l.writes i (ap (λ p. (is_server i && is_up p) || i == host_party) (sym (same_at i).0) ∙ w));
-    stamps = all_joined (Ends c.now) (c.tickets, put_in_flight) c.flights (high c.now (expiry_of c a) expiry_low expiry_high) l.stamps;
+    stamps = all_joined (Ends (moment_of c)) (c.tickets, put_in_flight) c.flights (high c.now c.setting.lease_ticks c.setting.margin_ticks (expiry_of c a) (outlasts c.setting) expiry_high) l.stamps;
   }
 
 issued_leased : (c : Core) (a sector : ℕ) (write : Option Write) → IsTrue (is_worker c a) → Leased c → Leased (issued_as c a sector write)
@@ -470,12 +485,12 @@ died_leased c a Dead l = l
 
 resumed_leased : (c : Core) (a : ℕ) → CanResume c a → Leased c → Leased (after c (Resume a) Nothing)
 resumed_leased c a can l =
-    moved c (after c (Resume a) Nothing) a _ refl refl (same_flights c.flights) (at_most c.now (c.now + LEASE_TICKS) refl)
-    (λ t. inr (refl, none_last a c.now c.flights (clean_lands c.flights a (c.servers a) can.clean))) l
+    moved c (after c (Resume a) Nothing) a _ refl refl (same_flights c.flights) (at_most (lease_to c.setting c.now) (lease_to c.setting c.now) refl)
+    (λ t. inr (refl, none_last a (moment_of c) c.flights (clean_lands c.flights a (c.servers a) can.clean))) l
 
 renewed_leased : (c : Core) (a : ℕ) → IsTrue (is_server a) → IsTrue (is_up (c.servers a).phase) → Leased c → Leased (after c (Renew a) Nothing)
 renewed_leased c a server up l =
-    moved c (after c (Renew a) Nothing) a _ refl refl (same_flights c.flights) (at_most c.now (c.now + LEASE_TICKS) refl)
+    moved c (after c (Renew a) Nothing) a _ refl refl (same_flights c.flights) (at_most (lease_to c.setting c.now) (lease_to c.setting c.now) refl)
     (λ t. inr (refl, l.writes a (or_left (is_server a && is_up (c.servers a).phase) (a == host_party) (all_2 (is_server a) (is_up (c.servers a).phase) server up)))) l
 
 finished_leased : (c : Core) (by : ℕ) (recovery : Option Recovery) → Leased c → Leased (finished_from c by recovery)
@@ -489,7 +504,7 @@ finished_leased c by (Some recovery) l =
 
 host_leased : (c : Core) (line : Option Line) → Leased c → Leased (host_answered_line c line)
 host_leased c None l = l
-host_leased c (Some line) l = calm c (host_answered_line c (Some line)) refl (λ i. refl) (go (is_halt_asked line.what)) l
+host_leased c (Some line) l = calm c (host_answered_line c (Some line)) refl (λ i. refl) (go (is_halt line.what)) l
   where
     go : (b : Bool) → AreOf c.flights (if b then [] else c.flights)
     go true = none_left c.flights
@@ -517,15 +532,15 @@ once_of (x ∷ xs) o = ((λ i. o.0 (in_contains xs x i)), once_of xs o.1)
 
 module _ (c : Core) (can : CanTick c) (once : Once (keys_of c.flights)) (l : Leased c) where
   -- a lease that could be renewed would be
-  renewed_first : (a : ℕ) → IsTrue (is_server a) → IsTrue (is_up (c.servers a).phase) → c.now + LEASE_TICKS ≤ (c.servers a).expiry
-  renewed_first a server up = go (nat_lt (c.servers a).expiry (lease_expiry c.now)) refl
+  renewed_first : (a : ℕ) → IsTrue (is_server a) → IsTrue (is_up (c.servers a).phase) → lease_to c.setting c.now ≤ (c.servers a).expiry
+  renewed_first a server up = go (nat_lt (c.servers a).expiry (lease_to c.setting c.now)) refl
     where
       not_less : (m n : ℕ) → nat_lt m n ≡ false → n ≤ m
       not_less m n e = grind (arith, nat_tests, e)
 
-      go : (b : Bool) → nat_lt (c.servers a).expiry (lease_expiry c.now) ≡ b → c.now + LEASE_TICKS ≤ (c.servers a).expiry
+      go : (b : Bool) → nat_lt (c.servers a).expiry (lease_to c.setting c.now) ≡ b → lease_to c.setting c.now ≤ (c.servers a).expiry
       go true e = absurd (false≢true (can.quiet (Renew a) (record { server = server; up = up; less = e })))
-      go false e = not_less (c.servers a).expiry (lease_expiry c.now) e
+      go false e = not_less (c.servers a).expiry (lease_to c.setting c.now) e
 
   -- a write that could arrive would, but for those of who is Still or Dead
   gone : (one : ℕ × Flight) → In one c.flights → IsTrue (is_by_gone c one.1)
@@ -547,7 +562,7 @@ module _ (c : Core) (can : CanTick c) (once : Once (keys_of c.flights)) (l : Lea
   server_away : (a : ℕ) → is_server a ≡ true → (a == host_party) ≡ false
   server_away a h = grind (arith, nat_tests, h)
 
-  none_of : (a : ℕ) → IsTrue (works a (c.servers a)) → (one : ℕ × Flight) → In one c.flights → Lasts a (c.now + 1) one.1
+  none_of : (a : ℕ) → IsTrue (works a (c.servers a)) → (one : ℕ × Flight) → In one c.flights → Lasts a (moment_of (after c Tick Nothing)) one.1
   none_of a w one i server present =
       absurd
       (works_not (c.servers a).phase (is_server a) (a == host_party)
@@ -563,17 +578,17 @@ module _ (c : Core) (can : CanTick c) (once : Once (keys_of c.flights)) (l : Lea
 
   ticked_leased : Leased (after c Tick Nothing)
   ticked_leased = record {
-    up = λ i server t. later c.now _ (subst (λ n. c.now + LEASE_TICKS ≤ n) (sym (flushed_same i).1) (renewed_first i server (ap is_up (sym (flushed_same i).0) ∙ t)));
-    most = λ i. further c.now _ (subst (λ n. n ≤ c.now + LEASE_TICKS) (sym (flushed_same i).1) (l.most i));
-    writes = λ i w. all_flights (Lasts i (c.now + 1)) c.flights (none_of i (ap (λ p. (is_server i && is_up p) || i == host_party) (sym (flushed_same i).0) ∙ w));
-    stamps = all_flights (Ends (c.now + 1)) c.flights (λ one i. further c.now (one.1.stamp + MARGIN_TICKS) (in_flights (Ends c.now) c.flights one i l.stamps));
+    up = λ i server t. later c.now c.setting.lease_ticks _ (subst (λ n. lease_to c.setting c.now ≤ n) (sym (flushed_same i).1) (renewed_first i server (ap is_up (sym (flushed_same i).0) ∙ t)));
+    most = λ i. further c.now c.setting.lease_ticks _ (subst (λ n. n ≤ lease_to c.setting c.now) (sym (flushed_same i).1) (l.most i));
+    writes = λ i w. all_flights (Lasts i (moment_of (after c Tick Nothing))) c.flights (none_of i (ap (λ p. (is_server i && is_up p) || i == host_party) (sym (flushed_same i).0) ∙ w));
+    stamps = all_flights (Ends (moment_of (after c Tick Nothing))) c.flights (λ one i. further c.now c.setting.lease_ticks (one.1.stamp + c.setting.margin_ticks) (in_flights (Ends (moment_of c)) c.flights one i l.stamps));
   }
     where
-      later : (now expiry : ℕ) → now + 30 ≤ expiry → now + 1 + 30 ≤ expiry + 1
-      later now expiry h = omega (arith, h)
+      later : (now lease expiry : ℕ) → now + lease ≤ expiry → now + 1 + lease ≤ expiry + 1
+      later now lease expiry h = omega (arith, h)
 
-      further : (now n : ℕ) → n ≤ now + 30 → n ≤ now + 1 + 30
-      further now n h = omega (arith, h)
+      further : (now lease n : ℕ) → n ≤ now + lease → n ≤ now + 1 + lease
+      further now lease n h = omega (arith, h)
 
 -- ---- each event
 
@@ -626,7 +641,7 @@ event_leased : (s : State) (event : Event) (heard : Heard) → Makes s event hea
 event_leased s (Begin a) heard m k l = steady s.core a _ (begun_phase (s.core.servers a) (next_of s.core a)) (begun_expiry (s.core.servers a) (next_of s.core a)) l
 event_leased s (Ask a lock mode) heard m k l = calm s.core _ refl (λ i. refl) (same_flights s.core.flights) l
 event_leased s (Fetch a sector) heard m k l = fetch_leased s.core a sector heard l
-event_leased s (Again a) heard m k l = steady s.core a _ (again_phase (stage s.core a) (s.core.servers a)) (again_expiry (stage s.core a) (s.core.servers a)) l
+event_leased s (Again a) heard m k l = steady s.core a _ (again_phase s.core.setting.logs (stage s.core a) (s.core.servers a)) (again_expiry s.core.setting.logs (stage s.core a) (s.core.servers a)) l
 event_leased s (Clear a block) heard m k l = steady s.core a _ refl refl l
 event_leased s (Commit a) heard m k l = committed_leased s.core a (stage s.core a) l
 event_leased s (Answer a) heard m k l = answered_leased s.core a (s.core.servers a).under (due_at s.core a) (k.rests a m.can.can.server) refl refl l
@@ -662,34 +677,43 @@ leased_of_run : (setting : Setting) (disk : Sectors) (s : State) → Run (first_
 leased_of_run setting disk =
     along setting disk (λ s. Leased s.core)
     (λ s v run step l. step_leased s v step (record { rests = ashore_of_run setting disk s run; once = once_of (keys_of s.core.flights) (tickets_once setting disk s run) }) l)
-    (record { up = λ a server t. absurd (false≢true t); most = λ a. none; writes = λ a w. tt; stamps = tt })
+    (record { up = λ a server t. absurd (false≢true t); most = λ a. none setting.lease_ticks; writes = λ a w. tt; stamps = tt })
   where
-    none : 0 ≤ 0 + LEASE_TICKS
-    none = omega arith
+    none : (n : ℕ) → 0 ≤ 0 + n
+    none n = omega arith
 
 -- ---- in the words of the laws
 
 module _ (setting : Setting) (disk : Sectors) (s : State) (run : Run (first_state setting disk) s) where
-  pub expiry_lasts : (a : ℕ) → IsTrue (is_server a) → IsTrue (is_up (s.core.servers a).phase) → s.core.now + LEASE_TICKS ≤ (s.core.servers a).expiry + 1
-  expiry_lasts = (leased_of_run setting disk s run).up
+  leased : Leased s.core
+  leased = leased_of_run setting disk s run
 
-  pub expiry_ends : (a : ℕ) → (s.core.servers a).expiry ≤ lease_expiry s.core.now
-  expiry_ends = (leased_of_run setting disk s run).most
+  same : s.core.setting ≡ setting
+  same = setting_of_run setting disk s run
+
+  pub expiry_lasts : (a : ℕ) → IsTrue (is_server a) → IsTrue (is_up (s.core.servers a).phase) → lease_to setting s.core.now ≤ (s.core.servers a).expiry + 1
+  expiry_lasts a server up = subst (λ t. lease_to t s.core.now ≤ (s.core.servers a).expiry + 1) same (leased.up a server up)
+
+  pub expiry_ends : (a : ℕ) → (s.core.servers a).expiry ≤ lease_to setting s.core.now
+  expiry_ends a = subst (λ t. (s.core.servers a).expiry ≤ lease_to t s.core.now) same (leased.most a)
 
   pub stamp_lasts : (one : ℕ × Flight) → Contains s.core.flights one → one.1.present ≡ true → IsTrue (is_worker s.core one.1.server) →
-      s.core.now + LEASE_TICKS ≤ one.1.stamp + MARGIN_TICKS + 1
+      lease_to setting s.core.now ≤ one.1.stamp + setting.margin_ticks + 1
   stamp_lasts one there present who =
-      in_flights (Lasts one.1.server s.core.now) s.core.flights one (contains_in s.core.flights one there) ((leased_of_run setting disk s run).writes one.1.server who) refl present
+      subst (λ t. lease_to t s.core.now ≤ one.1.stamp + t.margin_ticks + 1) same
+      (in_flights (Lasts one.1.server (moment_of s.core)) s.core.flights one (contains_in s.core.flights one there) (leased.writes one.1.server who) refl present)
 
   pub stamp_in_time : (one : ℕ × Flight) → Contains s.core.flights one → one.1.present ≡ true → IsTrue (is_worker s.core one.1.server) →
       IsInTime one.1.stamp s.core.now
-  stamp_in_time one there present who = early s.core.now one.1.stamp (stamp_lasts one there present who)
+  stamp_in_time one there present who = early s.core.now setting.lease_ticks setting.margin_ticks one.1.stamp (outlasts setting) (stamp_lasts one there present who)
     where
-      early : (now stamp : ℕ) → now + 30 ≤ stamp + 15 + 1 → now ≤ stamp
-      early now stamp h = omega (arith, h)
+      early : (now lease margin stamp : ℕ) → margin < lease → now + lease ≤ stamp + margin + 1 → now ≤ stamp
+      early now lease margin stamp h i = omega (arith, h, i)
 
-  pub stamp_ends : (one : ℕ × Flight) → Contains s.core.flights one → one.1.stamp ≤ write_stamp (lease_expiry s.core.now)
-  stamp_ends one there = most s.core.now one.1.stamp (in_flights (Ends s.core.now) s.core.flights one (contains_in s.core.flights one there) (leased_of_run setting disk s run).stamps)
+  pub stamp_ends : (one : ℕ × Flight) → Contains s.core.flights one → one.1.stamp ≤ write_stamp_of setting.margin_ticks (lease_to setting s.core.now)
+  stamp_ends one there =
+      subst (λ t. one.1.stamp ≤ write_stamp_of t.margin_ticks (lease_to t s.core.now)) same
+      (most (lease_to s.core.setting s.core.now) s.core.setting.margin_ticks one.1.stamp (in_flights (Ends (moment_of s.core)) s.core.flights one (contains_in s.core.flights one there) leased.stamps))
     where
-      most : (now stamp : ℕ) → stamp + 15 ≤ now + 30 → stamp ≤ now + 30 - 15
-      most now stamp h = omega (arith, h)
+      most : (until margin stamp : ℕ) → stamp + margin ≤ until → stamp ≤ until - margin
+      most until margin stamp h = omega (arith, h)

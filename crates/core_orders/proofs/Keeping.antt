@@ -12,6 +12,7 @@ use Rattle.frang_base.specs.declared.lock.LockId.{LockId}
 use Rattle.frang_base.specs.declared.op.Op.{Op}
 use Rattle.frang_base.specs.declared.reply.Reply.{Reply}
 use Rattle.frang_base.specs.declared.script.Line.{Line}
+use Rattle.tree_definitions.specs.Transcript.{is_halt}
 use Rattle.lock_definitions.specs.declared.claim.AskedFor.{AskedFor}
 use Rattle.lock_definitions.specs.declared.claim.AskedFor.TheVariants.{Release, Downgrade}
 use Rattle.lock_definitions.specs.Calls.{asked_for}
@@ -21,7 +22,7 @@ use Rattle.sector_bytes.proofs.MapLaws.{ascend_with, ascend_without}
 use Rattle.core_definitions.specs.Flights.{Flight, Flights, each_of_server, left_behind, lost}
 use Rattle.core_definitions.specs.Lines.{Stage, Asking, Fetching, Moving, Stopping, Growing, Clearing, Finishing, Under, operation_of}
 use Rattle.core_definitions.specs.Recoveries.{Recovery}
-use Rattle.core_definitions.specs.Scripts.{host_party, is_halt_asked}
+use Rattle.core_definitions.specs.Scripts.{host_party}
 use Rattle.core_definitions.specs.Servers.{Phase, Off, Up, Still, Doomed, Dead, Server, is_off, wanting_all_up}
 use Rattle.core_definitions.specs.Settings.{Setting}
 use Rattle.core_definitions.specs.Writes.{Write}
@@ -245,7 +246,7 @@ finished_kept c by (Some recovery) k = record {
 
 host_kept : (c : Core) (line : Option Line) → Kept c → Kept (host_answered_line c line)
 host_kept c None k = k
-host_kept c (Some line) k = record { servers = k.servers; flights = go (is_halt_asked line.what); read = k.read }
+host_kept c (Some line) k = record { servers = k.servers; flights = go (is_halt line.what); read = k.read }
   where
     go : (b : Bool) → AreTickets (if b then [] else c.flights) c.tickets
     go true = record { ordered = sorted_none nat_cmp; below = tt }
@@ -307,7 +308,7 @@ event_kept : (c : Core) (event : Event) (heard : Heard) → Kept c → Kept (aft
 event_kept c (Begin a) heard k = one_changed c a _ k (begun_order (c.servers a) (next_of c a) (k.servers a))
 event_kept c (Ask a lock mode) heard k = same_kept c _ refl refl refl refl k
 event_kept c (Fetch a sector) heard k = fetch_kept c a sector heard k
-event_kept c (Again a) heard k = one_changed c a _ k (again_order (stage c a) (c.servers a) (stages_in_order c.setting c.locks a (c.servers a) (k.servers a).under) (k.servers a))
+event_kept c (Again a) heard k = one_changed c a _ k (again_order c.setting.logs (stage c a) (c.servers a) (stages_in_order c.setting c.locks a (c.servers a) (k.servers a).under) (k.servers a))
 event_kept c (Clear a block) heard k = one_changed c a _ k (cleared_order block (c.servers a) (k.servers a))
 event_kept c (Commit a) heard k = committed_kept c a (stage c a) k
 event_kept c (Answer a) heard k = answered_kept c a (c.servers a).under (due_at c a) k

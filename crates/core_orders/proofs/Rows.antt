@@ -309,8 +309,8 @@ needs_sorted c = IsStrictlySortedBy-filter nat_cmp (λ sector. not (is_some (val
 wants_sorted : (c : Core) (a : ℕ) (at : Option Stage) → IsStrictlySortedBy nat_cmp (keys_of (wanted_writes c.setting c.locks a (c.servers a) at))
 wants_sorted c a at =
     ascend_fold {V = Write} {X = ℕ × Write} (λ writes entry. with_value writes entry.0 entry.1) (λ es entry s. ascend_with entry.0 entry.1 es s)
-    (rescue_writes c.setting.logs c.setting.segments (c.servers a).recovery ++ place_writes c.locks a (c.servers a) at
-    ++ log_write c.setting.logs a (log_wanted_to c.locks a (c.servers a) at) (next_write (c.servers a).ring))
+    (rescue_writes c.setting.logs c.setting.segments (c.servers a).recovery ++ place_writes c.setting.logs c.locks a (c.servers a) at
+    ++ log_write c.setting.logs a (log_wanted_to c.setting.logs c.locks a (c.servers a) at) (next_write (c.servers a).ring))
     [] (sorted_none nat_cmp)
 
 -- ---- the rows ascend, of the parties

@@ -22,6 +22,7 @@ use Rattle.sector_bytes.proofs.MapLaws.{ascend_with, ascend_without}
 use Rattle.sorted_entries.proofs.Sorted.{sorted-insert_entry}
 use Rattle.tree_definitions.specs.Apply.{is_path_op}
 use Rattle.tree_definitions.specs.Touched.{is_ok, is_unmount}
+use Rattle.core_definitions.specs.Settings.{LogRules}
 use Rattle.core_definitions.specs.Caches.{Cache, Kept, cleaned, dirty_sectors, dropped, each_kept, still_has}
 use Rattle.core_definitions.specs.Flights.{InPlace, OfLog, OfRecovery, Purpose}
 use Rattle.core_definitions.specs.Lines.{Stage, Asking, Fetching, Moving, Stopping, Growing, Clearing, Finishing, Under, operation_of, set_at_first}
@@ -103,16 +104,16 @@ joined_sorted : (set : LockSet) (needs : List Lock) → IsStrictlySortedBy lock_
 joined_sorted set [] s = s
 joined_sorted set (need ∷ needs) s = joined_sorted (joined set need) needs (sorted-insert_entry lock_total need.0 (with_mode (mode_in set need.0) need.1) set s)
 
-pub again_order : (at : Option Stage) (server : Server) → AreStagesInOrder at → IsServerInOrder server → IsServerInOrder (again_by at server)
-again_order None server o s = s
-again_order (Some (Asking need)) server o s = s
-again_order (Some (Fetching needs)) server o s = s
-again_order (Some Moving) server o s = changed_line server _ (λ under l. record { set = first_set_sorted; slots = l.slots; seen = tt }) s
-again_order (Some Stopping) server o s = s
-again_order (Some (Growing needs seen)) server o s =
+pub again_order : (logs : LogRules) (at : Option Stage) (server : Server) → AreStagesInOrder at → IsServerInOrder server → IsServerInOrder (again_by logs at server)
+again_order logs None server o s = s
+again_order logs (Some (Asking need)) server o s = s
+again_order logs (Some (Fetching needs)) server o s = s
+again_order logs (Some Moving) server o s = changed_line server _ (λ under l. record { set = first_set_sorted; slots = l.slots; seen = tt }) s
+again_order logs (Some Stopping) server o s = s
+again_order logs (Some (Growing needs seen)) server o s =
     changed_line server (set_grown needs seen) (λ under l. record { set = joined_sorted under.set needs l.set; slots = l.slots; seen = o }) s
-again_order (Some (Clearing block)) server o s = s
-again_order (Some (Finishing outcome)) server o s = record { cache = s.cache; staying = s.staying; pending = s.pending; under = s.under; recovery = s.recovery }
+again_order logs (Some (Clearing block)) server o s = s
+again_order logs (Some (Finishing outcome)) server o s = record { cache = s.cache; staying = s.staying; pending = s.pending; under = s.under; recovery = s.recovery }
 
 pub cleared_order : (block : ℕ) (server : Server) → IsServerInOrder server → IsServerInOrder (cleared_at block server)
 cleared_order block server s = record {

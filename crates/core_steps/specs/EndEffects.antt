@@ -3,12 +3,13 @@ use Rattle.std.specs.Prelude.{ℕ, ◌+◌, Bool, true, false, if◌then◌else�
 use Rattle.std.specs.Option.{option_map}
 use Rattle.frang_base.specs.Functions.{put}
 use Rattle.frang_base.specs.declared.script.Line.{Line}
+use Rattle.tree_definitions.specs.Transcript.{is_halt}
 use Rattle.lock_definitions.specs.Calls.{cleared, taken}
 use Rattle.ring_definitions.specs.Rings.{ring_at}
 use Rattle.sector_bytes.specs.Blocks.{Block}
 use Rattle.sector_bytes.specs.SectorMaps.{with_value}
 use Rattle.core_definitions.specs.Recoveries.{Recovery, recovery_of, redos, wanted_block}
-use Rattle.core_definitions.specs.Scripts.{host_party, is_halt_asked}
+use Rattle.core_definitions.specs.Scripts.{host_party}
 use Rattle.core_definitions.specs.Servers.{Off, Server, wanting_all}
 use Rattle.core_definitions.specs.Cores.{Core, clean_at, expiry_of, next_of, with_server}
 use Rattle.core_steps.specs.LineEffects.{off_after}
@@ -65,8 +66,8 @@ host_answered_line c None = c
 host_answered_line c (Some line) = record c {
   answered = put c.answered line.number true;
   ticks = 0;
-  flights = if is_halt_asked line.what then [] else c.flights;
-  over = is_halt_asked line.what;
+  flights = if is_halt line.what then [] else c.flights;
+  over = is_halt line.what;
 }
 
 abbrev pub host_answered : Core → Core

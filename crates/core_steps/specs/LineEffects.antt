@@ -15,18 +15,18 @@ use Rattle.frang_base.specs.declared.reply.Reply.{Reply}
 use Rattle.frang_base.specs.declared.reply.Reply.TheVariants as reply
 use Rattle.frang_base.specs.declared.script.Line.{Line}
 use Rattle.tree_definitions.specs.Touched.{is_ok, is_unmount}
-use Rattle.lock_definitions.specs.Lease.{lease_expiry}
 use Rattle.lock_definitions.specs.Locks.{Locks}
 use Rattle.lock_definitions.specs.Calls.{cleared, wanted}
 use Rattle.plan_definitions.specs.Plans.{Lock}
 use Rattle.plan_definitions.specs.Written.{ascending}
-use Rattle.ring_definitions.specs.Rings.{Ring, last, reclaimed, ring_at}
+use Rattle.ring_definitions.specs.Rings.{Ring, last, reclaimed_of, ring_at}
 use Rattle.sector_bytes.specs.Blocks.{Block, zero_block}
 use Rattle.sector_bytes.specs.Changes.{changed}
 use Rattle.sector_bytes.specs.Replays.{change_at}
 use Rattle.sector_bytes.specs.SectorMaps.{value_at, with_value}
 use Rattle.sector_definitions.specs.Regions.{sector_of}
 use Rattle.sector_definitions.specs.declared.region.Region.TheVariants as region
+use Rattle.core_definitions.specs.Settings.{LogRules, lease_to}
 use Rattle.core_definitions.specs.Sets.{LockSet, first_set, joined_all}
 use Rattle.core_definitions.specs.Rings.{appended_some}
 use Rattle.core_definitions.specs.Caches.{Cache, Kept, clean, dirty, each_kept, forgotten}
@@ -104,14 +104,14 @@ set_anew under = record under { set = first_set; seen = [] }
 abbrev pub set_grown : List Lock → Seen → Under → Under
 set_grown needs seen under = record under { set = joined_all under.set needs; seen = seen }
 
-abbrev pub again_by : Option Stage → Server → Server
-again_by (Some Moving) server = with_under server set_anew
-again_by (Some (Growing needs seen)) server = with_under server (set_grown needs seen)
-again_by (Some (Finishing outcome)) server = record server { ring = reclaimed server.ring }
-again_by _ server = server
+abbrev pub again_by : LogRules → Option Stage → Server → Server
+again_by logs (Some Moving) server = with_under server set_anew
+again_by logs (Some (Growing needs seen)) server = with_under server (set_grown needs seen)
+again_by logs (Some (Finishing outcome)) server = record server { ring = reclaimed_of logs.quarter server.ring }
+again_by logs _ server = server
 
 abbrev pub again : Core → ℕ → Core
-again c a = with_server c a (again_by (stage c a) (c.servers a))
+again c a = with_server c a (again_by c.setting.logs (stage c a) (c.servers a))
 
 -- ---- Clear: eight writes of zeros are wanted, with mark; they are metadata, under the block's segment, whatever was cached of them
 
@@ -194,7 +194,7 @@ off_after server = record first_server { phase = Off; expiry = server.expiry; fa
 
 -- a mount that begins: the ring goes on behind the end of the slots read, the lease begins
 abbrev pub up_after : Core → Under → Server
-up_after c under = record first_server { phase = Up; expiry = lease_expiry c.now; ring = ring_at (end_of c.setting.logs under.slots) }
+up_after c under = record first_server { phase = Up; expiry = lease_to c.setting c.now; ring = ring_at (end_of c.setting.logs under.slots) }
 
 -- an answer that was open
 abbrev pub answered_open : Core → Under → Server → Op → Reply → Server

@@ -12,7 +12,7 @@ use Rattle.frang_base.specs.declared.script.Line.{Line}
 use Rattle.tree_definitions.specs.Transcript.{is_mount}
 use Rattle.lock_definitions.specs.Locks.{is_wished}
 use Rattle.lock_definitions.specs.Calls.{is_free}
-use Rattle.ring_definitions.specs.Rings.{oldest}
+use Rattle.ring_definitions.specs.Rings.{oldest_of}
 use Rattle.sector_definitions.specs.Regions.{sector_of}
 use Rattle.sector_definitions.specs.declared.region.Region.TheVariants as region
 use Rattle.core_definitions.specs.Settings.{LogRules}
@@ -111,22 +111,22 @@ abbrev pub is_grown : Option Stage → Bool
 is_grown (Some (Growing needs seen)) = true
 is_grown _ = false
 
--- every sector that its oldest 64 numbers name is in place: the server has none of them dirty
-abbrev pub is_oldest_in_place : Server → Bool
-is_oldest_in_place server = list_all (λ x. not (is_dirty_at server.cache x.sector.0)) (oldest server.ring)
+-- every sector that its oldest quarter's numbers name is in place: the server has none of them dirty
+abbrev pub is_oldest_in_place : LogRules → Server → Bool
+is_oldest_in_place logs server = list_all (λ x. not (is_dirty_at server.cache x.sector.0)) (oldest_of logs.quarter server.ring)
 
-abbrev pub may_reclaim : Server → Option Stage → Bool
-may_reclaim server at = lacks_room server.ring at && is_oldest_in_place server
+abbrev pub may_reclaim : LogRules → Server → Option Stage → Bool
+may_reclaim logs server at = lacks_room logs server.ring at && is_oldest_in_place logs server
 
--- the set is held, and a seen version moved, or the set has grown, or the plan is `Done`, the ring has no room and every sector that its oldest 64 numbers name is in place; not
--- from a failure on until its doom
+-- the set is held, and a seen version moved, or the set has grown, or the plan is `Done`, the ring has no room and every sector that its oldest quarter's numbers name is in place;
+-- not from a failure on until its doom
 pub record CanAgain (c : Core) (a : ℕ) : Type 0 where
   pub server : IsTrue (is_server a)
-  pub cause : IsTrue (is_moved (stage c a) || is_grown (stage c a) || may_reclaim (c.servers a) (stage c a))
+  pub cause : IsTrue (is_moved (stage c a) || is_grown (stage c a) || may_reclaim c.setting.logs (c.servers a) (stage c a))
   pub well : IsTrue (not (c.servers a).failed)
 
 abbrev pub may_again : Core → ℕ → Option Stage → Bool
-may_again c a at = is_server a && (is_moved at || is_grown at || may_reclaim (c.servers a) at) && not (c.servers a).failed
+may_again c a at = is_server a && (is_moved at || is_grown at || may_reclaim c.setting.logs (c.servers a) at) && not (c.servers a).failed
 
 -- ---- Clear
 
@@ -142,19 +142,19 @@ abbrev pub done_by : Option Stage → Option Outcome
 done_by (Some (Finishing outcome)) = Some outcome
 done_by _ = None
 
-abbrev pub has_room_for : Server → Option Outcome → Bool
-has_room_for server None = false
-has_room_for server (Some outcome) = has_room server.ring outcome.redo
+abbrev pub has_room_for : LogRules → Server → Option Outcome → Bool
+has_room_for logs server None = false
+has_room_for logs server (Some outcome) = has_room logs server.ring outcome.redo
 
 -- Up, a line over paths, the set held and not grown, nothing moved, the plan is `Done`, every write of zeros that `Clear` wanted in this mount is acknowledged, the ring has room
 pub record CanCommit (c : Core) (a : ℕ) : Type 0 where
   pub server : IsTrue (is_server a)
   pub done : IsSome (done_by (stage c a))
   pub cleared : IsTrue (is_none (c.servers a).pending)
-  pub room : IsTrue (has_room_for (c.servers a) (done_by (stage c a)))
+  pub room : IsTrue (has_room_for c.setting.logs (c.servers a) (done_by (stage c a)))
 
 abbrev pub may_commit : Core → ℕ → Option Stage → Bool
-may_commit c a at = is_server a && is_some (done_by at) && is_none (c.servers a).pending && has_room_for (c.servers a) (done_by at)
+may_commit c a at = is_server a && is_some (done_by at) && is_none (c.servers a).pending && has_room_for c.setting.logs (c.servers a) (done_by at)
 
 -- ---- Answer
 

@@ -7,11 +7,11 @@ use Rattle.frang_base.specs.declared.op.Op.{Op}
 use Rattle.frang_base.specs.declared.reply.Reply.{Reply}
 use Rattle.lock_definitions.specs.declared.claim.AskedFor.{AskedFor}
 use Rattle.lock_definitions.specs.declared.claim.AskedFor.TheVariants.{Release, Downgrade}
-use Rattle.lock_definitions.specs.Lease.{lease_expiry}
 use Rattle.lock_definitions.specs.Calls.{asked_for, cleared, downgraded, extended, released}
 use Rattle.ring_definitions.specs.Rings.{Ring, acked as ring_acked, issued as ring_issued}
 use Rattle.sector_bytes.specs.Blocks.{Block}
 use Rattle.sector_bytes.specs.SectorMaps.{value_at, without}
+use Rattle.core_definitions.specs.Settings.{Setting, lease_to}
 use Rattle.core_definitions.specs.Caches.{cleaned, dropped, still_has}
 use Rattle.core_definitions.specs.Lines.{Under, operation_of}
 use Rattle.core_definitions.specs.Flights.{Flight, Flights, InPlace, OfLog, OfRecovery, Purpose, left_behind, lost}
@@ -77,14 +77,14 @@ fate_of c a = record {
 abbrev pub doomed : Core → ℕ → Core
 doomed c a = with_server c a (record (c.servers a) { phase = Doomed (fate_of c a) })
 
--- ---- Resume: cache emptied, locks given back, expiry now + 30, Up; an armed count stays
+-- ---- Resume: cache emptied, locks given back, a lease from now on, Up; an armed count stays
 
-abbrev pub up_again : ℕ → Server → Server
-up_again now server =
-    record first_server { phase = Up; expiry = lease_expiry now; failed = server.failed; arming = server.arming; ring = server.ring; under = server.under }
+abbrev pub up_again : Setting → ℕ → Server → Server
+up_again setting now server =
+    record first_server { phase = Up; expiry = lease_to setting now; failed = server.failed; arming = server.arming; ring = server.ring; under = server.under }
 
 abbrev pub resumed : Core → ℕ → Core
-resumed c a = record c { servers = put c.servers a (up_again c.now (c.servers a)); locks = cleared c.locks a }
+resumed c a = record c { servers = put c.servers a (up_again c.setting c.now (c.servers a)); locks = cleared c.locks a }
 
 -- ---- Arrive: acknowledged, late, or failed
 
@@ -155,12 +155,12 @@ died_in c a phase = c
 abbrev pub died : Core → ℕ → Core
 died c a = died_in c a (c.servers a).phase
 
--- ---- Renew: expiry is now + 30, also of each hold on a log whose taker the server is
+-- ---- Renew: a lease from now on, also of each hold on a log whose taker the server is
 
 abbrev pub renewed : Core → ℕ → Core
-renewed c a = record c { servers = put c.servers a (record (c.servers a) { expiry = lease_expiry c.now }); locks = extended c.locks a (lease_expiry c.now) }
+renewed c a = record c { servers = put c.servers a (record (c.servers a) { expiry = lease_to c.setting c.now }); locks = extended c.locks a (lease_to c.setting c.now) }
 
--- ---- Tick: now + 1; at a multiple of 30 all Up servers want everything written
+-- ---- Tick: now + 1; at each multiple of the ticks of a flush all Up servers want everything written
 
 abbrev pub flushed_at : Core → ℕ → ℕ → Server
 flushed_at c now a = if now % c.setting.flush_ticks == 0 then wanting_all_up (c.servers a) else c.servers a
@@ -173,6 +173,6 @@ abbrev pub ticked : Core → Core
 ticked c = record c {
   now = c.now + 1;
   servers = flushed_at c (c.now + 1);
-  locks = extended c.locks host_party (lease_expiry (c.now + 1));
+  locks = extended c.locks host_party (lease_to c.setting (c.now + 1));
   ticks = ticks_after c;
 }

@@ -5,10 +5,10 @@ use Rattle.std.specs.Option.{IsSome}
 use Rattle.frang_base.specs.declared.lock.LockId.{LockId}
 use Rattle.frang_base.specs.declared.lock.Mode.TheVariants.{Sole}
 use Rattle.tree_definitions.specs.Transcript.{is_crash}
-use Rattle.lock_definitions.specs.Lease.{lease_expiry}
 use Rattle.lock_definitions.specs.Locks.{held}
 use Rattle.lock_definitions.specs.Calls.{asked_for, serves}
 use Rattle.sector_bytes.specs.SectorMaps.{value_at}
+use Rattle.core_definitions.specs.Settings.{lease_to}
 use Rattle.core_definitions.specs.Sets.{LockSet, has_lock, held_set}
 use Rattle.core_definitions.specs.Rings.{is_all_reached}
 use Rattle.core_definitions.specs.Caches.{any_kept, is_dirty_under}
@@ -64,9 +64,9 @@ abbrev pub is_marked : Core → ℕ → Option Write → Bool
 is_marked c a write = is_write (λ w. is_mark_reached (c.servers a).ring w.mark) write
 
 abbrev pub is_in_flight_window : Core → ℕ → Option Write → Bool
-is_in_flight_window c a write = is_write (λ w. keeps_window (c.servers a).ring w.purpose) write
+is_in_flight_window c a write = is_write (λ w. keeps_window c.setting.logs (c.servers a).ring w.purpose) write
 
--- Up, or the host in its recovery; the write is wanted, and its mark is reached; no write of the sector is in flight; the rule of 64 log sectors in flight is kept; now is at most
+-- Up, or the host in its recovery; the write is wanted, and its mark is reached; no write of the sector is in flight; the limit of log sectors in flight is kept; now is at most
 -- the stamp; no call of it failed
 pub record IsIssuable (c : Core) (a sector : ℕ) (all : Writes) : Type 0 where
   pub who : IsTrue (is_worker c a)
@@ -160,11 +160,11 @@ pub record CanDie (c : Core) (a : ℕ) : Type 0 where
 abbrev pub may_die : Core → ℕ → Bool
 may_die c a = is_server a && is_doomed (c.servers a).phase
 
--- Up, expiry less than now + 30
+-- Up, expiry less than that of a lease from now on
 pub record CanRenew (c : Core) (a : ℕ) : Type 0 where
   pub server : IsTrue (is_server a)
   pub up : IsTrue (is_up (c.servers a).phase)
-  pub less : IsTrue (nat_lt (c.servers a).expiry (lease_expiry c.now))
+  pub less : IsTrue (nat_lt (c.servers a).expiry (lease_to c.setting c.now))
 
 abbrev pub may_renew : Core → ℕ → Bool
-may_renew c a = is_server a && is_up (c.servers a).phase && nat_lt (c.servers a).expiry (lease_expiry c.now)
+may_renew c a = is_server a && is_up (c.servers a).phase && nat_lt (c.servers a).expiry (lease_to c.setting c.now)

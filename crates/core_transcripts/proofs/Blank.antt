@@ -23,7 +23,7 @@ use Rattle.core_definitions.specs.Lines.{Stage, Under}
 use Rattle.core_definitions.specs.Plans.{Outcome}
 use Rattle.core_definitions.specs.Rings.{appended_some, is_all_reached, next_write}
 use Rattle.core_definitions.specs.Servers.{Server, is_still, is_up}
-use Rattle.core_definitions.specs.Settings.{Setting}
+use Rattle.core_definitions.specs.Settings.{LogRules, Setting}
 use Rattle.core_definitions.specs.Cores.{Core, clean_at}
 use Rattle.core_definitions.specs.Recoveries.{Recovery}
 use Rattle.core_definitions.specs.Writes.{Write, Writes, is_place_wanted, log_wanted_to, log_write, place_write, place_writes, rescue_writes, wanted_writes}
@@ -116,35 +116,35 @@ mounted_reached n = next_is n
 -- ---- nothing is wanted written
 
 -- the write of a cached sector, where it is wanted
-abbrev wanted_at : Locks → ℕ → Server → Option Stage → (ℕ × Kept) → Option (ℕ × Write)
-wanted_at locks number server stage entry =
-    option_map (λ write. (entry.0, write)) (place_write number (is_place_wanted locks number server stage entry.0 entry.1) entry.1 entry.1.dirt)
+abbrev wanted_at : LogRules → Locks → ℕ → Server → Option Stage → (ℕ × Kept) → Option (ℕ × Write)
+wanted_at logs locks number server stage entry =
+    option_map (λ write. (entry.0, write)) (place_write number (is_place_wanted logs locks number server stage entry.0 entry.1) entry.1 entry.1.dirt)
 
-clean_wants : (locks : Locks) (number : ℕ) (server : Server) (stage : Option Stage) (entry : (ℕ × Kept)) → is_dirty entry.1 ≡ false → wanted_at locks number server stage entry ≡ None
-clean_wants locks number server stage entry h = by_dirt entry.1.dirt h refl
+clean_wants : (logs : LogRules) (locks : Locks) (number : ℕ) (server : Server) (stage : Option Stage) (entry : (ℕ × Kept)) → is_dirty entry.1 ≡ false → wanted_at logs locks number server stage entry ≡ None
+clean_wants logs locks number server stage entry h = by_dirt entry.1.dirt h refl
   where
     none_wanted : (o : Option Write) → o ≡ None → (sector : ℕ) → option_map (λ write. let x : ℕ × Write = (sector, write) in x) o ≡ None
     none_wanted None e sector = refl
     none_wanted (Some w) e sector = absurd (cc)
 
-    by_dirt : (dirt : Option Dirt) → is_some dirt ≡ false → entry.1.dirt ≡ dirt → wanted_at locks number server stage entry ≡ None
+    by_dirt : (dirt : Option Dirt) → is_some dirt ≡ false → entry.1.dirt ≡ dirt → wanted_at logs locks number server stage entry ≡ None
     by_dirt None h e =
-        none_wanted (place_write number (is_place_wanted locks number server stage entry.0 entry.1) entry.1 entry.1.dirt)
-        (ap (place_write number (is_place_wanted locks number server stage entry.0 entry.1) entry.1) e) entry.0
+        none_wanted (place_write number (is_place_wanted logs locks number server stage entry.0 entry.1) entry.1 entry.1.dirt)
+        (ap (place_write number (is_place_wanted logs locks number server stage entry.0 entry.1) entry.1) e) entry.0
     by_dirt (Some dirt) h e = absurd (false≢true (sym h))
 
-no_places : (locks : Locks) (number : ℕ) (server : Server) (stage : Option Stage) (cache : Cache) → any_kept is_dirty cache ≡ false → filter_map (wanted_at locks number server stage) cache ≡ []
-no_places locks number server stage [] h = refl
-no_places locks number server stage (e ∷ es) h =
+no_places : (logs : LogRules) (locks : Locks) (number : ℕ) (server : Server) (stage : Option Stage) (cache : Cache) → any_kept is_dirty cache ≡ false → filter_map (wanted_at logs locks number server stage) cache ≡ []
+no_places logs locks number server stage [] h = refl
+no_places logs locks number server stage (e ∷ es) h =
     let r : (is_dirty e.1 ≡ false) × (any_kept is_dirty es ≡ false) = either_none (is_dirty e.1) (any_kept is_dirty es) h in
-    ap (λ o. cons_option o (filter_map (wanted_at locks number server stage) es)) (clean_wants locks number server stage e r.0)
-    ∙ no_places locks number server stage es r.1
+    ap (λ o. cons_option o (filter_map (wanted_at logs locks number server stage) es)) (clean_wants logs locks number server stage e r.0)
+    ∙ no_places logs locks number server stage es r.1
 
 pub no_writes : (setting : Setting) (locks : Locks) (number : ℕ) (server : Server) (stage : Option Stage) (flying : Bool) → IsBlank server flying → wanted_writes setting locks number server stage ≡ []
 no_writes setting locks number server stage flying b =
-    ap (λ o. gathered (rescue_writes setting.logs setting.segments o ++ place_writes locks number server stage ++ log_write setting.logs number (log_wanted_to locks number server stage) (next_write server.ring))) b.recovery
-    ∙ ap (λ p. gathered ([] ++ p ++ log_write setting.logs number (log_wanted_to locks number server stage) (next_write server.ring))) (no_places locks number server stage server.cache b.cache)
-    ∙ ap (λ w. gathered ([] ++ [] ++ log_write setting.logs number (log_wanted_to locks number server stage) (first_waiting (sent server.ring + 1) w))) b.waiting
+    ap (λ o. gathered (rescue_writes setting.logs setting.segments o ++ place_writes setting.logs locks number server stage ++ log_write setting.logs number (log_wanted_to setting.logs locks number server stage) (next_write server.ring))) b.recovery
+    ∙ ap (λ p. gathered ([] ++ p ++ log_write setting.logs number (log_wanted_to setting.logs locks number server stage) (next_write server.ring))) (no_places setting.logs locks number server stage server.cache b.cache)
+    ∙ ap (λ w. gathered ([] ++ [] ++ log_write setting.logs number (log_wanted_to setting.logs locks number server stage) (first_waiting (sent server.ring + 1) w))) b.waiting
   where
     gathered : Writes → Writes
     gathered all = fold (λ writes entry. with_value writes entry.0 entry.1) [] all

@@ -149,13 +149,13 @@ looks_at c a at d h e =
 pub cleared_kept : (c : Core) (a block : ℕ) (d : Bool) (x : Bool) → stage c a ≡ Some (Clearing block) → Keeps d (cleared_at block (c.servers a)) x
 cleared_kept c a block d x e s = absurd (looks_at c a (Clearing block) d (stage_parts c a (Clearing block) e) s.clean_)
 
-pub again_kept : (c : Core) (a : ℕ) (d : Bool) (x : Bool) → CanAgain c a → Keeps d (c.servers a) x → Keeps d (again_by (stage c a) (c.servers a)) x
+pub again_kept : (c : Core) (a : ℕ) (d : Bool) (x : Bool) → CanAgain c a → Keeps d (c.servers a) x → Keeps d (again_by c.setting.logs (stage c a) (c.servers a)) x
 again_kept c a d x can k = go (stage c a) refl can.cause
   where
-    lacks : (outcome : Outcome) → HasNoChanges outcome → IsTrue ((false || false) || (lacks_room (c.servers a).ring (Some (Finishing outcome)) && is_oldest_in_place (c.servers a))) → ⊥
-    lacks outcome n h = false≢true (subst (λ o. IsTrue (not (has_room (c.servers a).ring o) && is_oldest_in_place (c.servers a))) n.redo h)
+    lacks : (outcome : Outcome) → HasNoChanges outcome → IsTrue ((false || false) || (lacks_room c.setting.logs (c.servers a).ring (Some (Finishing outcome)) && is_oldest_in_place c.setting.logs (c.servers a))) → ⊥
+    lacks outcome n h = false≢true (subst (λ o. IsTrue (not (has_room c.setting.logs (c.servers a).ring o) && is_oldest_in_place c.setting.logs (c.servers a))) n.redo h)
 
-    go : (at : Option Stage) → stage c a ≡ at → IsTrue (is_moved at || is_grown at || may_reclaim (c.servers a) at) → Keeps d (again_by at (c.servers a)) x
+    go : (at : Option Stage) → stage c a ≡ at → IsTrue (is_moved at || is_grown at || may_reclaim c.setting.logs (c.servers a) at) → Keeps d (again_by c.setting.logs at (c.servers a)) x
     go None e h = k
     go (Some (Asking need)) e h = k
     go (Some (Fetching needs)) e h = k

@@ -3,8 +3,6 @@ use Rattle.std.proofs.Common.{ℕ, ◌≡◌, ◌≤◌, Bool, true, false, not,
 use Rattle.std.proofs.lemmas.Bool.{false≢true}
 use Rattle.std.specs.Option.{IsSome, option_map}
 use Rattle.frang_base.specs.Functions.{put}
-use Rattle.frang_base.specs.declared.op.HostOp.{HostOp}
-use Rattle.frang_base.specs.declared.op.HostOp.TheVariants as host
 use Rattle.frang_base.specs.declared.op.Op.{Op}
 use Rattle.frang_base.specs.declared.op.What.{What}
 use Rattle.frang_base.specs.declared.op.What.TheVariants.{Server as OfServer, Host as OfHost}
@@ -17,7 +15,7 @@ use Rattle.tree_definitions.specs.History.{Opening}
 use Rattle.tree_definitions.specs.Transcript.{Faults, after_asked, are_answered, is_halt, lines_before, may_answer, may_reply, state_of}
 use Rattle.core_definitions.specs.Lines.{Stage, Asking, Fetching, Moving, Stopping, Growing, Clearing, Finishing, Under, operation_of, stage_at}
 use Rattle.core_definitions.specs.Plans.{Outcome}
-use Rattle.core_definitions.specs.Scripts.{earlier_answered, host_party, is_halt_asked, next_line}
+use Rattle.core_definitions.specs.Scripts.{earlier_answered, host_party, next_line}
 use Rattle.core_definitions.specs.Servers.{Phase, Off, Up, Still, Doomed, Dead, asked_by, asks, is_answering, is_off, is_open, is_up, stage_under, stage_with}
 use Rattle.core_definitions.specs.Cores.{Core, next_of, stage}
 use Rattle.core_steps.specs.LineGuards.{CanCommit, done_by, is_line}
@@ -45,14 +43,6 @@ if_stage true x s e = (refl, e)
 if_stage false x s e = absurd (cc)
 
 -- ---- the host
-
-halt_host : (h : HostOp) → is_halt (OfHost h) ≡ is_halt_asked (OfHost h)
-halt_host host.Halt = refl
-halt_host h = refl
-
-halt_same : (w : What) → is_halt w ≡ is_halt_asked w
-halt_same (OfServer o) = refl
-halt_same (OfHost h) = halt_host h
 
 off_answers : (p : Phase) → IsTrue (is_off p) → IsTrue (is_answering p)
 off_answers Off h = refl
@@ -173,13 +163,13 @@ module _ (opening : Opening) (f : Faults) (stay : (early late server : ℕ) → 
   host_line number can l next same =
       Speaks (said.Answer (id_of host_party) number reply.Ok) refl
       (subst (λ n. MaySayButTree c.setting.script opening f saids (said.Answer (id_of host_party) n reply.Ok)) same (line_given opening f stay c saids numbered going g host_party l reply.Ok next may))
-      (subst (λ n. Fitting c.setting.script f (saids ++ said.Answer (id_of host_party) n reply.Ok ∷ []) (keys opening f stay c saids numbered going g) (put c.answered l.number true) (is_halt_asked l.what) c.shown) same
-      (answered_fitting c.setting.script numbered.apart f stay saids (λ i. key_of (c.servers i)) c.answered c.over c.shown g host_party l reply.Ok next (λ i. key_of (c.servers i)) (is_halt_asked l.what) (λ i n. refl)
+      (subst (λ n. Fitting c.setting.script f (saids ++ said.Answer (id_of host_party) n reply.Ok ∷ []) (keys opening f stay c saids numbered going g) (put c.answered l.number true) (is_halt l.what) c.shown) same
+      (answered_fitting c.setting.script numbered.apart f stay saids (λ i. key_of (c.servers i)) c.answered c.over c.shown g host_party l reply.Ok next (λ i. key_of (c.servers i)) (is_halt l.what) (λ i n. refl)
       (idle_fits (key_of (c.servers host_party)) (told_of c.setting.script f saids c.answered host_party) (told_of c.setting.script f (saids ++ said.Answer (id_of host_party) l.number reply.Ok ∷ []) (put c.answered l.number true) host_party)
       (own_state c.setting.script numbered.apart f stay saids (λ i. key_of (c.servers i)) c.answered c.over c.shown g host_party l reply.Ok next ∙ asked_none l.what (host_what l next))
       (λ h. rises_one c.setting.script numbered.apart f stay saids (λ i. key_of (c.servers i)) c.answered c.over c.shown g host_party (said.Answer (id_of host_party) l.number reply.Ok) h)
       (λ h. all_then c.setting.script numbered.apart f stay saids (λ i. key_of (c.servers i)) c.answered c.over c.shown g host_party l reply.Ok next h) g.host (host_idle (c.servers host_party).under refl) (g.servers host_party))
-      (λ d w s. (w, s)) going (λ e. halt_same l.what ∙ e) g.host))
+      (λ d w s. (w, s)) going (λ e. e) g.host))
     where
       asked_none : (w : What) → IsTrue (is_host_what w) → after_asked (state_of c.setting.script f host_party saids) w reply.Ok ≡ state_of c.setting.script f host_party saids
       asked_none (OfHost h) i = refl

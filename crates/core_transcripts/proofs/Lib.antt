@@ -24,6 +24,5 @@ pub mod Turning
 mod Blank
 mod Blanking
 mod Spotless
-mod Kept
 pub mod Rising
 pub mod Running

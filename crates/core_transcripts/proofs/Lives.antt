@@ -9,6 +9,7 @@ use Rattle.tree_definitions.specs.Touched.{is_mounted, is_ok}
 use Rattle.tree_definitions.specs.Transcript.{ServerState, Phase as ToldPhase, after_death, after_renewal, debt_of_death, is_already, is_crash, is_expired, is_in_mount as is_told_in_mount, is_io, is_mount, may_answer_by, may_mount, may_refuse}
 use Rattle.tree_definitions.specs.Transcript.Phase.{Off as ToldOff, Up as ToldUp, Stalled, Dead as ToldDead}
 use Rattle.tree_definitions.specs.Transcript.Debt.{Free, Owes, MayOwe}
+use Rattle.core_definitions.specs.Settings.{Setting}
 use Rattle.core_definitions.specs.Lines.{Under, operation_of}
 use Rattle.core_definitions.specs.Servers.{Fate, Phase, Off, Up, Still, Doomed, Dead, Server, answer_at_death, is_in_mount, is_still}
 use Rattle.core_steps.specs.WriteEffects.{died_with, fixed_for, under_at_death, up_again}
@@ -171,9 +172,9 @@ still_free : (p : Phase) (owes : Bool) → p ≡ Still → IsTrue (not (is_in_mo
 still_free p true e c = absurd (false≢true (subst (λ p. IsTrue (not (is_in_mount p && true))) e c))
 still_free p false e c = refl
 
-pub resumed_fits : (server : Server) (now : ℕ) (t u : Told) → IsTrue (is_still server.phase) → u.state ≡ after_renewal t.state → (IsTrue t.faulted → IsTrue u.faulted) → Fits (key_of server) t →
-    Fits (key_of (up_again now server)) u
-resumed_fits server now t u still state faulted g = record {
+pub resumed_fits : (setting : Setting) (server : Server) (now : ℕ) (t u : Told) → IsTrue (is_still server.phase) → u.state ≡ after_renewal t.state → (IsTrue t.faulted → IsTrue u.faulted) → Fits (key_of server) t →
+    Fits (key_of (up_again setting now server)) u
+resumed_fits setting server now t u still state faulted g = record {
   phase = subst (λ s. PhaseFits Up s.phase u.all u.faulted) (sym state) tt;
   owing = subst (λ s. OwingFits false s.debt) (sym state) (subst (λ w. OwingFits w t.state.debt) (still_free server.phase server.owes (still_is server.phase still) g.calm) g.owing);
   calm = refl;

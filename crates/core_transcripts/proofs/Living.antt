@@ -192,10 +192,10 @@ module _ (opening : Opening) (f : Faults) (stay : (early late server : ℕ) → 
     renewed_state : state_of c.setting.script f a (saids ++ renewed_line ∷ []) ≡ after_renewal (state_of c.setting.script f a saids)
     renewed_state = state_push c.setting.script f a saids renewed_line ∙ ap (λ b. if b then after_renewal (state_of c.setting.script f a saids) else state_of c.setting.script f a saids) (number_same a)
 
-    each_renewed : (i : ℕ) (b : Bool) → nat_eq i a ≡ b → Fits (key_of (if b then up_again c.now (c.servers a) else c.servers i)) (Then renewed_line i)
+    each_renewed : (i : ℕ) (b : Bool) → nat_eq i a ≡ b → Fits (key_of (if b then up_again c.setting c.now (c.servers a) else c.servers i)) (Then renewed_line i)
     each_renewed i true e =
-        subst (λ j. Fits (key_of (up_again c.now (c.servers a))) (Then renewed_line j)) (sym (numbers_are i a e))
-        (resumed_fits (c.servers a) c.now (Now a) (Then renewed_line a) still renewed_state (more_faults a renewed_line) (g.servers a))
+        subst (λ j. Fits (key_of (up_again c.setting c.now (c.servers a))) (Then renewed_line j)) (sym (numbers_are i a e))
+        (resumed_fits c.setting (c.servers a) c.now (Now a) (Then renewed_line a) still renewed_state (more_faults a renewed_line) (g.servers a))
     each_renewed i false e =
         stays_told renewed_line renewed_life i (ap (λ b. if b then after_renewal (state_of c.setting.script f i saids) else state_of c.setting.script f i saids) (numbers_turn i a e)) (λ h. h)
 
@@ -203,12 +203,12 @@ module _ (opening : Opening) (f : Faults) (stay : (early late server : ℕ) → 
     renewed_recovery d true q = ap (λ z. z.under_recovery) (state_push c.setting.script f d saids renewed_line ∙ ap (λ b. if b then after_renewal (state_of c.setting.script f d saids) else state_of c.setting.script f d saids) q)
     renewed_recovery d false q = ap (λ z. z.under_recovery) (state_push c.setting.script f d saids renewed_line ∙ ap (λ b. if b then after_renewal (state_of c.setting.script f d saids) else state_of c.setting.script f d saids) q)
 
-    renewed_rescues : (i d : ℕ) (b : Bool) → nat_eq i a ≡ b → IsTrue (key_works i (key_of (if b then up_again c.now (c.servers a) else c.servers i))) →
-        (key_of (if b then up_again c.now (c.servers a) else c.servers i)).saves ≡ Some d → (state_of c.setting.script f d (saids ++ renewed_line ∷ [])).under_recovery ≡ true
+    renewed_rescues : (i d : ℕ) (b : Bool) → nat_eq i a ≡ b → IsTrue (key_works i (key_of (if b then up_again c.setting c.now (c.servers a) else c.servers i))) →
+        (key_of (if b then up_again c.setting c.now (c.servers a) else c.servers i)).saves ≡ Some d → (state_of c.setting.script f d (saids ++ renewed_line ∷ [])).under_recovery ≡ true
     renewed_rescues i d true e w s = none_saved d s
     renewed_rescues i d false e w s = renewed_recovery d (nat_eq a d) refl ∙ g.rescues i d w s
 
-    off_renewed : (i : ℕ) (b : Bool) → nat_eq i a ≡ b → IsTrue (is_off (c.servers i).phase) → IsTrue (is_off (if b then up_again c.now (c.servers a) else c.servers i).phase)
+    off_renewed : (i : ℕ) (b : Bool) → nat_eq i a ≡ b → IsTrue (is_off (c.servers i).phase) → IsTrue (is_off (if b then up_again c.setting c.now (c.servers a) else c.servers i).phase)
     off_renewed i true e h = absurd (still_off_not (c.servers a).phase still (subst (λ j. IsTrue (is_off (c.servers j).phase)) (numbers_are i a e) h))
     off_renewed i false e h = h
 
@@ -218,7 +218,7 @@ module _ (opening : Opening) (f : Faults) (stay : (early late server : ℕ) → 
         (both_true (goes_on c.setting.script saids) (may_be_renewed c.setting.script f saids a)
         (lines_go_on opening f stay c saids numbered going g (λ at. still_off_not (c.servers a).phase still (at.off a can.server)))
         (subst (λ q. IsTrue (is_stalled q)) (sym (phase_told (c.servers a) (Now a) still (g.servers a))) refl))
-        (life_fitting c.setting.script numbered.apart f stay saids (λ i. key_of (c.servers i)) c.answered c.over c.shown g renewed_line renewed_life (λ i. key_of (put c.servers a (up_again c.now (c.servers a)) i))
+        (life_fitting c.setting.script numbered.apart f stay saids (λ i. key_of (c.servers i)) c.answered c.over c.shown g renewed_line renewed_life (λ i. key_of (put c.servers a (up_again c.setting c.now (c.servers a)) i))
         (λ i. each_renewed i (nat_eq i a) refl) (λ i d w s. renewed_rescues i d (nat_eq i a) refl w s) (λ i h. off_renewed i (nat_eq i a) refl h))
 
   -- ---- Recover

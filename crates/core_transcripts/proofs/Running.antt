@@ -18,6 +18,7 @@ use Rattle.core_steps.specs.Events.{Event, Heard}
 use Rattle.core_steps.specs.LineGuards.{is_server}
 use Rattle.core_steps.specs.Effects.{Deed, Says, after, deeds_of}
 use Rattle.core_steps.specs.Runs.{State, Step, Event_, Enter, Hold, Flush, Relock, Note, Peek, Run, Stays, Goes, Makes, first_state, goes_on, is_note, said_by, saids_of}
+use Rattle.core_laws.proofs.Kept.{setting_kept}
 use Rattle.core_facts.specs.Facts.{OffHasNoFlights}
 use Rattle.core_facts.proofs.Resting.{good_of_run}
 use Rattle.core_transcripts.specs.Faults.{CountsAt, CountsEach, failing, fails_at, place_of}
@@ -27,7 +28,6 @@ use Rattle.core_transcripts.proofs.Blanking.{wanting_kept}
 use Rattle.core_transcripts.proofs.Fits.{key_of, rises}
 use Rattle.core_transcripts.proofs.Fitting.{same_key, told_of}
 use Rattle.core_transcripts.proofs.Happening.{CoreFits, Turn, Quiet, Speaks}
-use Rattle.core_transcripts.proofs.Kept.{setting_kept}
 use Rattle.core_transcripts.proofs.Lives.{still_idle}
 use Rattle.core_transcripts.proofs.Numbering.{none_marked, numbers_are}
 use Rattle.core_transcripts.proofs.Saying.{dirty_push, each_push, state_push}

@@ -13,20 +13,20 @@ use Rattle.frang_base.specs.declared.said.Said.{Said}
 use Rattle.frang_base.specs.declared.said.Said.TheVariants as said
 use Rattle.frang_base.specs.declared.script.Line.{Line}
 use Rattle.lock_definitions.specs.Calls.{asked_for, cleared}
-use Rattle.lock_definitions.specs.Lease.{lease_expiry}
 use Rattle.lock_definitions.specs.declared.claim.AskedFor.{AskedFor}
 use Rattle.lock_definitions.specs.declared.claim.AskedFor.TheVariants.{Release, Downgrade}
 use Rattle.sector_bytes.specs.SectorMaps.{value_at}
 use Rattle.tree_definitions.specs.Live.{line_of}
 use Rattle.tree_definitions.specs.Touched.{is_mounted, is_ok, is_unmount}
-use Rattle.tree_definitions.specs.Transcript.{Faults, dirty_after, dirty_from, is_already, is_change_line, is_mount, is_node}
+use Rattle.tree_definitions.specs.Transcript.{Faults, dirty_after, dirty_from, is_already, is_change_line, is_halt, is_mount, is_node}
+use Rattle.core_definitions.specs.Settings.{lease_to}
 use Rattle.core_definitions.specs.Caches.{dropped, still_has}
 use Rattle.core_definitions.specs.Flights.{Flight, Flights, InPlace, OfLog, OfRecovery, Purpose, each_of_server, has_flights, left_behind, lost}
 use Rattle.core_definitions.specs.Lines.{Stage, Asking, Fetching, Moving, Stopping, Growing, Clearing, Finishing, Under, operation_of}
 use Rattle.core_definitions.specs.Logs.{end_of, is_read}
 use Rattle.core_definitions.specs.Plans.{Outcome}
 use Rattle.core_definitions.specs.Recoveries.{Recovery, recovery_of}
-use Rattle.core_definitions.specs.Scripts.{host_party, is_halt_asked}
+use Rattle.core_definitions.specs.Scripts.{host_party}
 use Rattle.core_definitions.specs.Servers.{Phase, Off, Up, Still, Doomed, Dead, Server, answer_of, due_if, due_under, is_answering, is_off, is_still, is_synced, is_up, mount_answer, own_answer, own_answer_of, wanting_all, wanting_all_up}
 use Rattle.core_definitions.specs.Writes.{Write}
 use Rattle.core_definitions.specs.Cores.{Core, clean_at, due_at, next_of, stage, tree_lines, writes}
@@ -393,9 +393,9 @@ module _ (f : Faults) (c : Core) (saids : List Said) (numbered : IsNumbered c.se
       less i true l = lost_stays a i c.flights l
       less i false l = left_stays a i c.flights l
 
-  resumed_so : (a : ℕ) → CanResume c a → Spotless dirty (put c.servers a (up_again c.now (c.servers a))) c.flights
+  resumed_so : (a : ℕ) → CanResume c a → Spotless dirty (put c.servers a (up_again c.setting c.now (c.servers a))) c.flights
   resumed_so a can =
-      one a (up_again c.now (c.servers a))
+      one a (up_again c.setting c.now (c.servers a))
       (λ s.
       let b : IsBlank (c.servers a) (has_flights c.flights a) =
       k a (record { mounted = or_second (is_up (c.servers a).phase) (is_still (c.servers a).phase) (both_first (is_still (c.servers a).phase) (nat_lt (c.servers a).expiry c.now) can.past); clean_ = s.clean_ }) in
@@ -451,7 +451,7 @@ module _ (f : Faults) (c : Core) (saids : List Said) (numbered : IsNumbered c.se
 
   host_so : (number : ℕ) (o : Option Line) → Later (host_answered_line c o) (λ i. dirty_after c.setting.script i (dirty i) (said.Answer (record { 0 = host_party }) number reply.Ok))
   host_so number None = λ i. host_one i c.flights (λ l. l) number (nat_eq host_party i) refl
-  host_so number (Some line) = λ i. host_one i (if is_halt_asked line.what then [] else c.flights) (λ l. none_or i (is_halt_asked line.what) l) number (nat_eq host_party i) refl
+  host_so number (Some line) = λ i. host_one i (if is_halt line.what then [] else c.flights) (λ l. none_or i (is_halt line.what) l) number (nat_eq host_party i) refl
     where
       none_or : (i : ℕ) (b : Bool) → has_flights c.flights i ≡ false → has_flights (if b then [] else c.flights) i ≡ false
       none_or i true l = refl
@@ -533,7 +533,7 @@ module _ (f : Faults) (c : Core) (saids : List Said) (numbered : IsNumbered c.se
   event_so (Begin a) heard can = one a (begun_line (c.servers a) (next_of c a)) (begun_kept (dirty a) (c.servers a) (has_flights c.flights a) (next_of c a) can.idle (k a))
   event_so (Ask a lock mode) heard can = k
   event_so (Fetch a sector) heard can = fetch_so a sector heard
-  event_so (Again a) heard can = one a (again_by (stage c a) (c.servers a)) (again_kept c a (dirty a) (has_flights c.flights a) can (k a))
+  event_so (Again a) heard can = one a (again_by c.setting.logs (stage c a) (c.servers a)) (again_kept c a (dirty a) (has_flights c.flights a) can (k a))
   event_so (Clear a block) heard can = one a (cleared_at block (c.servers a)) (cleared_kept c a block (dirty a) (has_flights c.flights a) can.clear)
   event_so (Commit a) heard can = committed_so a can
   event_so (Answer a) heard can = answered_so a can
@@ -547,9 +547,9 @@ module _ (f : Faults) (c : Core) (saids : List Said) (numbered : IsNumbered c.se
   event_so (Lose ticket) heard can = fewer (landed c ticket).flights (λ i l. landed_stays ticket i c.flights l)
   event_so (Die a) heard can = died_so a (c.servers a).phase
   event_so (Renew a) heard can =
-      one a (record (c.servers a) { expiry = lease_expiry c.now })
-      (kept (dirty a) (c.servers a) (record (c.servers a) { expiry = lease_expiry c.now }) (has_flights c.flights a) refl refl
-      (same_blank (c.servers a) (record (c.servers a) { expiry = lease_expiry c.now }) (has_flights c.flights a) refl refl refl) (k a))
+      one a (record (c.servers a) { expiry = lease_to c.setting c.now })
+      (kept (dirty a) (c.servers a) (record (c.servers a) { expiry = lease_to c.setting c.now }) (has_flights c.flights a) refl refl
+      (same_blank (c.servers a) (record (c.servers a) { expiry = lease_to c.setting c.now }) (has_flights c.flights a) refl refl refl) (k a))
   event_so Tick heard can = ticked_so
   event_so (Recover dead by) heard can = recovering_so dead by
   event_so (Load by slot) heard can = load_so by slot heard

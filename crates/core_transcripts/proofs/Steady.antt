@@ -4,6 +4,7 @@ use Rattle.std.specs.Option.{option_map}
 use Rattle.frang_base.specs.declared.lock.LockId.{LockId}
 use Rattle.ring_definitions.specs.Rings.{Ring}
 use Rattle.sector_bytes.specs.Blocks.{Block}
+use Rattle.core_definitions.specs.Settings.{LogRules}
 use Rattle.core_definitions.specs.Caches.{still_has}
 use Rattle.core_definitions.specs.Lines.{Stage, Asking, Fetching, Moving, Stopping, Growing, Clearing, Finishing, Under}
 use Rattle.core_definitions.specs.Flights.{InPlace, OfLog, OfRecovery, Purpose}
@@ -30,15 +31,15 @@ pub recovery_steady : (server : Server) (change : Recovery → Recovery) → ((r
     key_of (record server { recovery = option_map change server.recovery }) ≡ key_of server
 recovery_steady server change same = ap (λ x. record (key_of server) { saves = x }) (saves_same change same server.recovery)
 
-pub again_steady : (at : Option Stage) (server : Server) → key_of (again_by at server) ≡ key_of server
-again_steady None server = refl
-again_steady (Some (Asking need)) server = refl
-again_steady (Some (Fetching needs)) server = refl
-again_steady (Some Moving) server = under_steady server set_anew (λ u. refl)
-again_steady (Some Stopping) server = refl
-again_steady (Some (Growing needs seen)) server = under_steady server (set_grown needs seen) (λ u. refl)
-again_steady (Some (Clearing block)) server = refl
-again_steady (Some (Finishing outcome)) server = refl
+pub again_steady : (logs : LogRules) (at : Option Stage) (server : Server) → key_of (again_by logs at server) ≡ key_of server
+again_steady logs None server = refl
+again_steady logs (Some (Asking need)) server = refl
+again_steady logs (Some (Fetching needs)) server = refl
+again_steady logs (Some Moving) server = under_steady server set_anew (λ u. refl)
+again_steady logs (Some Stopping) server = refl
+again_steady logs (Some (Growing needs seen)) server = under_steady server (set_grown needs seen) (λ u. refl)
+again_steady logs (Some (Clearing block)) server = refl
+again_steady logs (Some (Finishing outcome)) server = refl
 
 cached_steady : (server : Server) (sector : ℕ) (block : Block) (cover : Option LockId) → key_of (cached_under server sector block cover) ≡ key_of server
 cached_steady server sector block None = refl

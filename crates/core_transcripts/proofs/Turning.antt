@@ -8,13 +8,13 @@ use Rattle.frang_base.specs.declared.op.Op.{Op}
 use Rattle.frang_base.specs.declared.said.Said.{Said}
 use Rattle.frang_base.specs.declared.script.Line.{Line}
 use Rattle.lock_definitions.specs.Calls.{asked_for, cleared}
-use Rattle.lock_definitions.specs.Lease.{lease_expiry}
 use Rattle.lock_definitions.specs.declared.claim.AskedFor.{AskedFor}
 use Rattle.lock_definitions.specs.declared.claim.AskedFor.TheVariants.{Release, Downgrade}
 use Rattle.sector_bytes.specs.SectorMaps.{value_at}
 use Rattle.sector_bytes.specs.Sectors.{Sectors}
 use Rattle.tree_definitions.specs.History.{Opening}
 use Rattle.tree_definitions.specs.Transcript.{Faults, may_be_dirty}
+use Rattle.core_definitions.specs.Settings.{lease_to}
 use Rattle.core_definitions.specs.Caches.{dropped}
 use Rattle.core_definitions.specs.Lines.{operation_of}
 use Rattle.core_definitions.specs.Flights.{Flight}
@@ -240,7 +240,7 @@ module _ (opening : Opening) (f : Faults) (stay : (early late server : ℕ) → 
   event_turn (Begin a) heard disk can hears counts = Quiet refl (begun a can)
   event_turn (Ask a lock mode) heard disk can hears counts = Quiet refl g
   event_turn (Fetch a sector) heard disk can hears counts = fetch_turn a sector heard disk hears counts
-  event_turn (Again a) heard disk can hears counts = Quiet refl (steadily a (again_by (stage c a) (c.servers a)) (again_steady (stage c a) (c.servers a)))
+  event_turn (Again a) heard disk can hears counts = Quiet refl (steadily a (again_by c.setting.logs (stage c a) (c.servers a)) (again_steady c.setting.logs (stage c a) (c.servers a)))
   event_turn (Clear a block) heard disk can hears counts = Quiet refl (steadily a (cleared_at block (c.servers a)) refl)
   event_turn (Commit a) heard disk can hears counts = commit_turn opening f stay c saids numbered going g a can
   event_turn (Answer a) heard disk can hears counts = due_turn opening f stay c saids numbered going g a can
@@ -251,7 +251,7 @@ module _ (opening : Opening) (f : Faults) (stay : (early late server : ℕ) → 
   event_turn (Arrive ticket) heard disk can hears counts = Quiet (arrival_says c.now heard (value_at c.flights ticket)) (arrived_stays ticket heard (value_at c.flights ticket) refl counts)
   event_turn (Lose ticket) heard disk can hears counts = Quiet refl g
   event_turn (Die a) heard disk can hears counts = die_turn opening f stay c saids numbered going g good a can
-  event_turn (Renew a) heard disk can hears counts = Quiet refl (steadily a (record (c.servers a) { expiry = lease_expiry c.now }) refl)
+  event_turn (Renew a) heard disk can hears counts = Quiet refl (steadily a (record (c.servers a) { expiry = lease_to c.setting c.now }) refl)
   event_turn Tick heard disk can hears counts = Quiet refl ticked_stays
   event_turn (Recover dead by) heard disk can hears counts = recover_turn opening f stay c saids numbered going g good dead by can
   event_turn (Load by slot) heard disk can hears counts = load_turn by slot heard disk hears counts

@@ -391,7 +391,7 @@ refused_asks server = ((λ t. t), λ claim. go claim server.phase server.under)
     go claim phase None = refl
     go claim phase (Some under) = refl
 
-again_wishing : (c : Core) (a : ℕ) (at : Option Stage) → stage c a ≡ at → Wishing c → Wishing (with_server c a (again_by at (c.servers a)))
+again_wishing : (c : Core) (a : ℕ) (at : Option Stage) → stage c a ≡ at → Wishing c → Wishing (with_server c a (again_by c.setting.logs at (c.servers a)))
 again_wishing c a None e w = steady c a _ (unchanged (c.servers a)) w
 again_wishing c a (Some (Asking need)) e w = steady c a _ (unchanged (c.servers a)) w
 again_wishing c a (Some (Fetching needs)) e w = steady c a _ (unchanged (c.servers a)) w
@@ -697,7 +697,7 @@ event_wishing s (Issue a sector) heard m are offs w = issued_wishing s.core a se
 event_wishing s (Doom a) heard m are offs w = moved s.core (after s.core (Doom a) heard) a _ refl (λ i apart. same_claims s.core.locks i) (λ server t. absurd (false≢true t)) w
 event_wishing s (Resume a) heard m are offs w =
     moved s.core (after s.core (Resume a) heard) a _ refl (λ i apart. cleared_others s.core.locks a i apart)
-    (λ server t. bare_wishes (cleared s.core.locks a) a (up_again s.core.now (s.core.servers a)) (no_claims_left s.core.locks are a)) w
+    (λ server t. bare_wishes (cleared s.core.locks a) a (up_again s.core.setting s.core.now (s.core.servers a)) (no_claims_left s.core.locks are a)) w
 event_wishing s (Arrive ticket) heard m are offs w = arrived_wishing s.core ticket heard (value_at s.core.flights ticket) w
 event_wishing s (Lose ticket) heard m are offs w = landed_wishing s.core ticket w
 event_wishing s (Die a) heard m are offs w = died_wishing s.core a (s.core.servers a).phase w

@@ -22,14 +22,11 @@ use Rattle.plan_covers.proofs.Standing.{HasKind, DiskStands, disk_stands}
 use Rattle.plan_covers.proofs.WalksFine.{SpotStands, step_stands, kind_two}
 use Rattle.line_definitions.specs.Resolving.{PathEnd, Leads, Refused, Resolution, leads, refused, behind, passes, at_target, with_target, at_entry, at_gap, at_name, below_inode, resolve_names, resolve_from, resolve}
 use Rattle.line_definitions.specs.Lines.{by_path, is_found, by_second, by_first, over_path, over_paths, resolved, with_trail, plan_step, plan_of_line}
+use Rattle.cover_laws.proofs.Entries.{Follow, FoundLeads, found_leads}
 use Rattle.cover_laws.specs.Told.{LinesAreTold}
 use Rattle.cover_laws.proofs.Tells.{Among, same_among, Told, tells_then, tells_value, told_then, are_told}
 use Rattle.cover_laws.proofs.WalksTold.{Keeps, search_told}
 use Rattle.cover_laws.proofs.AllTold.{plan_told}
-
--- how a link is followed: with the directory that holds it, the path of this, and the names that are left
-abbrev pub Follow : Type 0
-Follow = ℕ → ℕ → List (List ℕ) → List (List ℕ) → Ask Resolution
 
 module _ (h : Hand) (s : Store) (n : Naming) (disk : DiskStands h s n) where
   abbrev All : {A : Type 0} → Ask A → List Sector → Type 0
@@ -40,31 +37,6 @@ module _ (h : Hand) (s : Store) (n : Naming) (disk : DiskStands h s n) where
   passes_told inode p before t = told_then s h.held p (λ rest. Got (behind inode rest)) before t (λ later rest. tt)
 
   -- ---- a name that was looked up
-
-  -- an entry that was found leads to a node
-  abbrev FoundLeads : Option Found → Type 0
-  FoundLeads None = Unit {0}
-  FoundLeads (Some (slot, None)) = Unit {0}
-  FoundLeads (Some (slot, Some entry)) = HasKind s entry.inode entry.kind
-
-  module _ (dir : ℕ) (x : StoredNode) (name : List ℕ) (is : s.inode dir ≡ Some x) (two : x.kind ≡ 2) where
-    abbrev look : Ask (Option Found)
-    look = search x.small (is_named name) 0 (8 * x.blocks)
-
-    by_spot : (dirs : List ℕ) (found : Option Found) → SpotStands h s n disk dirs (spot_by dir x name found) → FoundLeads found
-    by_spot dirs None t = tt
-    by_spot dirs (Some (slot, None)) t = tt
-    by_spot dirs (Some (slot, Some entry)) t = t.2
-
-    run_step : run (ReadInode dir (in_inode [] dir name)) s ≡ record { spot = spot_by dir x name (run look s); dirs = dir ∷ [] }
-    run_step =
-        let kind : (x.kind == 2) ≡ true = ap (λ k. nat_eq k 2) two in
-        ap (λ o. run (in_inode [] dir name o) s) is
-        ∙ ap (λ b. run (if b then look_up [] dir x name else Got (record { spot = Lost reply.NotDir; dirs = [] })) s) kind
-        ∙ run-bind {B = Walked} look (λ found. Got (record { spot = spot_by dir x name found; dirs = dir ∷ [] })) s
-
-    found_leads : FoundLeads (run look s)
-    found_leads = by_spot (dir ∷ []) (run look s) (subst (λ (w : Walked). SpotStands h s n disk w.dirs w.spot) run_step (step_stands h s n disk [] dir x name is two).spot)
 
   gap_told : (here names : List (List ℕ)) (later : List Sector) → All (at_gap here names) later
   gap_told here [] later = tt
@@ -85,7 +57,7 @@ module _ (h : Hand) (s : Store) (n : Naming) (disk : DiskStands h s n) where
         go false true e = goes_in entry.inode (subst (HasKind s entry.inode) (kind_two entry.kind e) k) later
         go false false e = tt
 
-    name_told : (names : List (List ℕ)) (found : Option Found) → FoundLeads found → (later : List Sector) → All (at_name last follow into here names found) later
+    name_told : (names : List (List ℕ)) (found : Option Found) → FoundLeads s found → (later : List Sector) → All (at_name last follow into here names found) later
     name_told names None k later = gap_told here names later
     name_told names (Some (slot, None)) k later = gap_told here names later
     name_told names (Some (slot, Some entry)) k later = entry_told names entry k later
@@ -106,7 +78,7 @@ module _ (h : Hand) (s : Store) (n : Naming) (disk : DiskStands h s n) where
         )
       where
         below_told : (name : List ℕ) (dir : ℕ) (k : HasKind s dir 2) (above names : List (List ℕ)) (before : List Sector) → Contains before (InodeAt dir) →
-            ((later : List Sector) (found : Option Found) → FoundLeads found →
+            ((later : List Sector) (found : Option Found) → FoundLeads s found →
             All (at_name last (λ link. follow link dir above names) (λ inode. resolve_names last follow inode (above ++ name ∷ []) names) (above ++ name ∷ []) names found) later) →
             All (below_inode last (λ link. follow link dir above names) (λ inode. resolve_names last follow inode (above ++ name ∷ []) names) (above ++ name ∷ []) dir name names (Some k.node)) before
         below_told name dir k above names before c each = go (k.node.kind == 2)
@@ -120,7 +92,7 @@ module _ (h : Hand) (s : Store) (n : Naming) (disk : DiskStands h s n) where
             searched : All (bind p next) before
             searched = tells_then s h.held (λ later found. Among before later × (found ≡ run p s)) (λ later r. Unit {0}) p next before
                 (tells_value s h.held (Keeps h s n disk before) p before (search_told h s n disk before dir k.node k.is (is_named name) (8 * k.node.blocks) 0 before (same_among before) c (omega arith)))
-                (λ later found e. each later found (subst FoundLeads (sym e.1) (found_leads dir k.node name k.is k.kind_is)))
+                (λ later found e. each later found (subst (FoundLeads s) (sym e.1) (found_leads h s n disk dir k.node name k.is k.kind_is)))
 
             go : (b : Bool) → All (if b then passes dir (bind p next) else refused reply.NotDir) before
             go true = passes_told dir (bind p next) before searched

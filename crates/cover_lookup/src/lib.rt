@@ -8,3 +8,4 @@ mod held;
 mod owners;
 
 pub use cover::cover_of;
+pub use owners::owns_small;

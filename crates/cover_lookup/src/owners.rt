@@ -23,7 +23,8 @@ pub(crate) fn small_owner(sectors: &Sectors, segments: u32, block: u32) -> Optio
     None
 }
 
-fn owns_small(sectors: &Sectors, number: u32, block: u32) -> bool
+/// Whether this inode is cached, in use, and has the small block.
+pub fn owns_small(sectors: &Sectors, number: u32, block: u32) -> bool
     ensures { result ≡ covers.has_small block (inode_at_hand sectors.now.entries number) }
 {
     let mut looked = Looked::unasked();

@@ -1,16 +1,13 @@
--- A copy of a disk, sector by sector in their order, without those of logs.
-use Rattle.std.proofs.Common.{◌≡◌, ◌≢◌, ℕ, ⊎_elim, Bool, true, false, cond, Option, Some, None, List, [], ◌∷◌, refl, sym, ap, ◌∙◌, subst}
+-- A copy of a disk, sector by sector in their order.
+use Rattle.std.proofs.Common.{◌≡◌, ◌≢◌, ℕ, ⊎_elim, Bool, cond, Option, Some, None, List, [], ◌∷◌, refl, sym, ap, ◌∙◌, subst}
 use Rattle.std.specs.BTreeMap.{insert_entry, is_at}
 use Rattle.std.specs.List.Sorted.{IsStrictlySortedBy}
 use Rattle.std.specs.Map.{keys_of, lookup}
 use Rattle.std.specs.Option.{unwrap_or}
 use Rattle.std.specs.Ordering.{nat_cmp}
-use Rattle.std.proofs.lemmas.Bool.{false≢true}
-use Rattle.sector_bytes.specs.Bytes.{zeros}
 use Rattle.frang_base.proofs.Basics.{by_test, or_equal}
 use Rattle.tree_laws.proofs.Pairs.{birth_exact, none_below, self, tie}
 use Rattle.sector_bytes.specs.Sectors.{Sectors, SameSectors, sectors_of}
-use Rattle.disk_replay.specs.Laid.{is_logged, without_logs}
 use Rattle.disk_replay.proofs.SectorsSet.{set_elsewhere, set_there}
 
 abbrev pub Blocks : Type 0
@@ -20,11 +17,10 @@ Blocks = List (ℕ × List ℕ)
 pub over : Blocks → Sectors → Sectors
 over es s sector = unwrap_or (lookup (is_at (nat_cmp sector)) es) (s sector)
 
--- what a copy is while these entries of the disk are left: its logs are zero, and with what is left it has the disk's other sectors
+-- what a copy is while these entries of the disk are left: with what is left it has the disk's sectors
 pub record IsCopying (disk left copy : Blocks) : Type 0 where
   pub ascending : IsStrictlySortedBy nat_cmp (keys_of left)
-  pub logs : (sector : ℕ) → is_logged sector ≡ true → sectors_of copy sector ≡ zeros 512
-  pub others : (sector : ℕ) → is_logged sector ≡ false → over left (sectors_of copy) sector ≡ sectors_of disk sector
+  pub same : SameSectors (over left (sectors_of copy)) (sectors_of disk)
 
 first_over : (k sector : ℕ) (block : List ℕ) (es : Blocks) (s : Sectors) → sector ≢ k → over ((k, block) ∷ es) s sector ≡ over es s sector
 unfolding over
@@ -40,13 +36,6 @@ unfolding IsStrictlySortedBy
 rest_ascends k block es h = (h.1, none_below nat_cmp birth_exact es k h.0)
 
 module _ (disk es copy : Blocks) (k : ℕ) (block : List ℕ) (h : IsCopying disk ((k, block) ∷ es) copy) where
-  pub log_left_out : is_logged k ≡ true → IsCopying disk es copy
-  log_left_out t = record {
-    ascending = (rest_ascends k block es h.ascending).0;
-    logs = h.logs;
-    others = λ sector f. sym (first_over k sector block es (sectors_of copy) (λ same. false≢true (sym f ∙ ap is_logged same ∙ t))) ∙ h.others sector f;
-  }
-
   after : Blocks
   after = insert_entry nat_cmp copy k block
 
@@ -58,22 +47,20 @@ module _ (disk es copy : Blocks) (k : ℕ) (block : List ℕ) (h : IsCopying dis
       (λ other. ap (unwrap_or (lookup (is_at (nat_cmp sector)) es)) (set_elsewhere copy k block sector other) ∙ sym (first_over k sector block es (sectors_of copy) other))
       (or_equal sector k)
 
-  pub one_copied : is_logged k ≡ false → IsCopying disk es (insert_entry nat_cmp copy k block)
+  pub one_copied : IsCopying disk es (insert_entry nat_cmp copy k block)
   unfolding after
-  one_copied f = record {
+  one_copied = record {
     ascending = (rest_ascends k block es h.ascending).0;
-    logs = λ sector t. set_elsewhere copy k block sector (λ same. false≢true (sym f ∙ ap is_logged (sym same) ∙ t)) ∙ h.logs sector t;
-    others = λ sector n. over_after sector ∙ h.others sector n;
+    same = λ sector. over_after sector ∙ h.same sector;
   }
 
 pub none_copied : (disk left copy : Blocks) → left ≡ disk → copy ≡ [] → IsStrictlySortedBy nat_cmp (keys_of disk) → IsCopying disk left copy
 unfolding over
 none_copied disk left copy l e h = record {
   ascending = subst (λ es. IsStrictlySortedBy nat_cmp (keys_of es)) (sym l) h;
-  logs = λ sector t. ap (λ es. sectors_of es sector) e;
-  others = λ sector f. ap (λ es. over es (sectors_of copy) sector) l ∙ ap (λ es. over disk (sectors_of es) sector) e;
+  same = λ sector. ap (λ es. over es (sectors_of copy) sector) l ∙ ap (λ es. over disk (sectors_of es) sector) e;
 }
 
-pub all_copied : (disk copy : Blocks) → IsCopying disk [] copy → SameSectors (sectors_of copy) (without_logs (sectors_of disk))
-unfolding over without_logs
-all_copied disk copy h sector = by_test (λ (b : List ℕ). sectors_of copy sector ≡ b) (zeros 512) (sectors_of disk sector) (is_logged sector) (h.logs sector) (h.others sector)
+pub all_copied : (disk copy : Blocks) → IsCopying disk [] copy → SameSectors (sectors_of copy) (sectors_of disk)
+unfolding over
+all_copied disk copy h = h.same

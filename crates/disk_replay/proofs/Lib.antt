@@ -6,4 +6,3 @@ pub mod FittingRecords
 pub mod ReadSlots
 pub mod Copied
 pub mod ErasedLogs
-pub mod KeptLogs

@@ -1,17 +1,15 @@
--- A replay changes no sector of a log, so the logs may be zero before the changes are laid.
-use Rattle.std.proofs.Common.{◌≡◌, ℕ, ◌+◌, ◌*◌, ◌<◌, Bool, true, false, ◌&&◌, ◌==◌, nat_lt, if◌then◌else◌, Option, Some, None, List, [], ◌∷◌, refl, sym, ◌∙◌, arith, ltb-true}
-use Rattle.std.proofs.lemmas.Bool.{and_parts, and_right, false≢true}
+-- A replay changes no sector of a log.
+use Rattle.std.proofs.Common.{◌≡◌, ℕ, ◌+◌, ◌*◌, ◌<◌, Bool, true, false, ◌==◌, nat_lt, if◌then◌else◌, Option, Some, None, List, [], ◌∷◌, refl, ap, ◌∙◌, arith, ltb-true}
+use Rattle.std.proofs.lemmas.Bool.{and_parts, and_right}
 use Rattle.frang_base.specs.declared.change.Change.{Change}
 use Rattle.sector_definitions.specs.declared.region.Region.{Region}
 use Rattle.sector_definitions.specs.declared.region.Region.TheVariants as region
-use Rattle.sector_bytes.specs.Bytes.{zeros}
 use Rattle.sector_definitions.specs.Regions.{bitmaps_from, inodes_from, log_stride, logs_from, region_of, small_blocks_from}
 use Rattle.sector_definitions.proofs.RegionLaws.{region_read}
 use Rattle.sector_bytes.specs.Changes.{applied}
-use Rattle.sector_bytes.specs.Sectors.{Sectors, SameSectors}
+use Rattle.sector_bytes.specs.Sectors.{Sectors}
 use Rattle.log_definitions.specs.Replay.{is_log, is_replayed, with_change}
-use Rattle.disk_replay.specs.Laid.{is_changed, is_logged, with_changes, without_logs}
-use Rattle.disk_replay.proofs.LaidChanges.{laid_same}
+use Rattle.disk_replay.specs.Laid.{is_changed, is_logged, with_changes}
 
 -- ---- where logs lie
 
@@ -42,25 +40,18 @@ low_kept segments sector (Some region.Param) h e = refl
 low_kept segments sector (Some (region.Log server slot)) h e = refl
 low_kept segments sector (Some (region.Large k part)) h e = refl
 
-pub log_kept : (segments sector : ℕ) → is_logged sector ≡ true → is_changed segments sector ≡ false
+log_kept : (segments sector : ℕ) → is_logged sector ≡ true → is_changed segments sector ≡ false
 unfolding is_logged is_changed
 log_kept segments sector t = low_kept segments sector (region_of segments sector) (log_low sector (region_of 64 sector) refl t) refl
 
--- ---- changes laid over the disk without its logs
+-- ---- changes laid over a disk
 
-apart : (log here : Bool) (zero block : List ℕ) (c : Change) → (log ≡ true → here ≡ false)
-    → (if here then applied (if log then zero else block) c else (if log then zero else block)) ≡ (if log then zero else (if here then applied block c else block))
-apart true true zero block c h = absurd (false≢true (sym (h refl)))
-apart true false zero block c h = refl
-apart false here zero block c h = refl
+one_stays : (segments : ℕ) (c : Change) (s : Sectors) (sector : ℕ) → is_logged sector ≡ true → with_change segments s c sector ≡ s sector
+unfolding is_changed
+one_stays segments c s sector t =
+    ap (λ (b : Bool). if b then applied (s sector) c else s sector) (and_right (sector == c.sector.0) (is_changed segments sector) (log_kept segments sector t))
 
-one_apart : (segments : ℕ) (s : Sectors) (c : Change) → SameSectors (with_change segments (without_logs s) c) (without_logs (with_change segments s c))
-unfolding without_logs is_changed
-one_apart segments s c sector =
-    apart (is_logged sector) (sector == c.sector.0 && is_changed segments sector) (zeros 512) (s sector) c (λ t. and_right (sector == c.sector.0) (is_changed segments sector) (log_kept segments sector t))
-
-pub laid_apart : (segments : ℕ) (changes : List Change) (s : Sectors) → SameSectors (with_changes segments (without_logs s) changes) (without_logs (with_changes segments s changes))
+pub log_stays : (segments : ℕ) (changes : List Change) (s : Sectors) (sector : ℕ) → is_logged sector ≡ true → with_changes segments s changes sector ≡ s sector
 unfolding with_changes
-laid_apart segments [] s sector = refl
-laid_apart segments (c ∷ changes) s sector =
-    laid_same segments changes (with_change segments (without_logs s) c) (without_logs (with_change segments s c)) (one_apart segments s c) sector ∙ laid_apart segments changes (with_change segments s c) sector
+log_stays segments [] s sector t = refl
+log_stays segments (c ∷ changes) s sector t = log_stays segments changes (with_change segments s c) sector t ∙ one_stays segments c s sector t

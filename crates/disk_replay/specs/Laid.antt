@@ -1,20 +1,19 @@
 -- The words of a replay as its steps speak of them: changes laid over a disk, and the disk without its logs.
-use Rattle.std.specs.Prelude.{◌≡◌, ◌<◌, ℕ, zero, suc, ◌/◌, ◌%◌, Bool, true, Option, Some, None, Result, Vec, List, length, slice_index_or, fold, if◌then◌else◌, IfOk}
-use Rattle.std.specs.Global.{Global}
+use Rattle.std.specs.Prelude.{◌≡◌, ◌<◌, ℕ, zero, suc, ◌/◌, ◌%◌, Bool, true, Option, Some, None, List, [], ◌∷◌, slice_index_or, fold, if◌then◌else◌}
 use Rattle.std.specs.List.{All, flat_map}
 use Rattle.frang_base.specs.Functions.{put}
 use Rattle.frang_base.specs.declared.limits.TheConstants.{LOG_SECTORS, SECTOR_BYTES, SEGMENTS_MAX}
 use Rattle.frang_base.specs.declared.change.Change.{Change}
-use Rattle.frang_base.specs.declared.fault.NoMemory.{NoMemory}
+use Rattle.frang_base.specs.declared.sector.OpNo.{OpNo}
 use Rattle.sector_bytes.specs.Bytes.{zeros}
 use Rattle.sector_definitions.specs.declared.param.Param.{Param}
 use Rattle.sector_definitions.specs.declared.region.Region.TheVariants as region
 use Rattle.sector_definitions.specs.Regions.{region_of, sector_of}
 use Rattle.sector_bytes.specs.Changes.{is_change}
-use Rattle.sector_bytes.specs.Sectors.{Sectors, sectors_of}
+use Rattle.sector_bytes.specs.Sectors.{Sectors}
 use Rattle.tree_definitions.specs.Numbers.{below}
 use Rattle.frang_base.specs.declared.change.Redo.{Redo}
-use Rattle.log_definitions.specs.Logs.{log_records}
+use Rattle.log_definitions.specs.Logs.{greatest_operation, log_records}
 use Rattle.log_definitions.specs.Replay.{slots_of, is_log, is_replayed, with_change}
 
 -- the sector is one of a log
@@ -59,26 +58,19 @@ unfoldable pub erased : ℕ → Sectors → Sectors
 erased zero sectors = sectors
 erased (suc n) sectors = put (erased n sectors) (slot_sector n) (zeros SECTOR_BYTES)
 
--- what a log holds, where there was memory for it
-abbrev pub Kept : Type 0
-Kept = Result (Vec Redo Global) NoMemory
-
--- these records, whose changes may stand in a log
-abbrev pub IsKept : Kept → List Redo → Type 0
-IsKept log records = IfOk log (λ v. (v.items ≡ records) × All HoldsChanges v.items)
-
--- each of the first n logs is what f has at its place
-abbrev pub AreKept : ℕ → List Kept → (ℕ → List Redo) → Type 0
-AreKept n logs f = (server : ℕ) (d : Kept) → server < n → IsKept (slice_index_or logs server d) (f server)
-
--- the changes of each log may stand in one
-abbrev pub AllHold : List Kept → Type 0
-AllHold logs = (server : ℕ) (d : Kept) → server < length logs → IfOk (slice_index_or logs server d) (λ v. All HoldsChanges v.items)
-
 -- the records of a disk's log
-unfoldable pub records_at : List (ℕ × List ℕ) → ℕ → List Redo
-records_at disk server = log_records (slots_of (sectors_of disk) server)
+unfoldable pub records_at : Sectors → ℕ → List Redo
+records_at sectors server = log_records (slots_of sectors server)
 
--- the changes of the first n of these records, in order
-unfoldable pub changes_of : (ℕ → List Redo) → ℕ → List Change
-changes_of f n = flat_map (λ server. changes_in (f server)) (below n)
+-- the greatest operation among records, none where there is no record
+abbrev pub greatest_kept : List Redo → Option OpNo
+greatest_kept [] = None
+greatest_kept (r ∷ rs) = Some (record { 0 = greatest_operation (r ∷ rs) })
+
+-- that of a disk's log
+unfoldable pub greatest_at : Sectors → ℕ → Option OpNo
+greatest_at sectors server = greatest_kept (records_at sectors server)
+
+-- those of the first n logs, in order
+abbrev pub AreGreatest : ℕ → Sectors → List (Option OpNo) → Type 0
+AreGreatest n sectors kept = (server : ℕ) (d : Option OpNo) → server < n → slice_index_or kept server d ≡ greatest_at sectors server

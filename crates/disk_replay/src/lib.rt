@@ -8,4 +8,4 @@ mod records;
 mod replay;
 
 pub use records::{greatest, records_of};
-pub use replay::{replay_in_place, replayed};
+pub use replay::{Replay, replay_in_place, replay_with_greatest, replayed};

@@ -1,7 +1,7 @@
 // What the log of a server holds.
-ghost use Rattle.std.specs.Prelude.{◌≡◌, ◌<◌, ℕ, IfOk, [], length, vec_len, slice_index_or, false};
+ghost use Rattle.std.specs.Prelude.{◌≡◌, ◌<◌, ℕ, IfOk, [], length, slice_index_or, false};
 ghost use Rattle.std.specs.List.{All};
-ghost use Rattle.frang_base.specs.declared.limits.TheConstants.{LOGS, LOG_SECTORS};
+ghost use Rattle.frang_base.specs.declared.limits.TheConstants.{LOG_SECTORS};
 ghost use Rattle.sector_bytes.specs.Bytes.{zeros};
 ghost use Rattle.sector_bytes.specs.Sectors.{sectors_of};
 ghost use Rattle.log_definitions.specs.Logs.{log_records};
@@ -9,15 +9,14 @@ ghost use Rattle.log_definitions.specs.Replay as replays;
 ghost use Rattle.log_definitions.specs.Replay.{greatest_of};
 ghost use Rattle.sector_definitions.specs.Regions as regions;
 ghost use Rattle.sector_definitions.specs.declared.region.Region.TheVariants as region;
-ghost use Rattle.disk_replay.specs.Laid.{records_at, AreKept, HoldsChanges, IsKept};
+ghost use Rattle.disk_replay.specs.Laid.{greatest_kept, HoldsChanges};
 
 use disk_definitions::Disk;
-use frang_base::limits::{LOG_SECTORS, LOGS};
+use frang_base::limits::LOG_SECTORS;
 use frang_base::{Block, NoMemory, OpNo, Redo, Sector, ServerId};
 use frang_layout::{Region, sector_of};
 use log_reading::{greatest_operation, read_log};
 use std::alloc::Global;
-use std::thread::{Threads, map_indices};
 
 /// The greatest operation among the records of a server's log, 0 where it holds none. The server is any from 0 to 255.
 pub fn greatest(alloc: Global, disk: &Disk, server: ServerId) -> Result<OpNo, NoMemory>
@@ -40,40 +39,14 @@ pub fn records_of(alloc: Global, disk: &Disk, server: ServerId) -> Result<Vec<Re
     Ok(records)
 }
 
-/// What a log holds, where there was memory for it.
-pub(crate) type Kept = Result<Vec<Redo>, NoMemory>;
-
-// What the log of a server holds.
-fn kept_by(alloc: Global, disk: &Disk, server: usize) -> Kept
-    requires { server < LOGS }
-    ensures { IsKept result (records_at disk.now server) }
+/// The greatest operation among records, `None` where there is no record.
+pub(crate) fn greatest_kept(records: &[Redo]) -> Option<OpNo>
+    ensures { result ≡ greatest_kept records.now }
 {
-    records_of(alloc, disk, ServerId(server as u8))
-}
-
-/// What each log holds.
-pub(crate) fn read_logs(alloc: Global, disk: &Disk) -> Result<Vec<Kept>, NoMemory>
-    ensures len { IfOk result (λ v. length v.items ≡ LOGS) }
-    ensures kept { IfOk result (λ v. AreKept LOGS v.items (records_at disk.now)) }
-{
-    let mut logs = Vec::new(alloc);
-    for server in 0..LOGS {
-        let log = kept_by(alloc, disk, server);
-        logs.push(log)?;
+    match records {
+        [] => None,
+        [_, ..] => Some(greatest_operation(records)),
     }
-    Ok(logs)
-}
-
-/// What each log holds, read in threads.
-pub(crate) fn read_in_threads<R: Threads + Sync>(
-    rt: &R,
-    alloc: Global,
-    disk: &Disk,
-) -> Result<Vec<Kept>, NoMemory>
-    ensures len { IfOk result (λ v. vec_len v ≡ LOGS) }
-    ensures kept { IfOk result (λ v. AreKept LOGS v.items (records_at disk.now)) }
-{
-    Ok(map_indices(rt, alloc, LOGS, &|k| { kept_by(alloc, disk, k) })?)
 }
 
 // Whether a sector of the server's log was set.

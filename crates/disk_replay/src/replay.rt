@@ -1,26 +1,31 @@
 // The disk after its logs are replayed.
-ghost use Rattle.std.specs.Prelude.{◌≡◌, ◌≤◌, ◌<◌, ◌*◌, ℕ, List, length, is_some, IfOk, OnOk};
-ghost use Rattle.frang_base.specs.declared.change.Redo.{Redo};
+ghost use Rattle.std.specs.Prelude.{◌≡◌, ◌≤◌, ◌<◌, ◌*◌, ℕ, is_some, length, IfOk, IfSome, OnOk};
+ghost use Rattle.std.specs.List.{All};
 ghost use Rattle.frang_base.specs.Functions.{put};
 ghost use Rattle.frang_base.specs.declared.limits.TheConstants.{LOGS, LOG_SECTORS, SECTOR_BYTES, SEGMENTS_MAX};
 ghost use Rattle.sector_bytes.specs.Bytes.{zeros};
 ghost use Rattle.sector_bytes.specs.SectorMaps.{value_at};
 ghost use Rattle.sector_bytes.specs.Sectors.{sectors_of, SameSectors};
-ghost use Rattle.sector_definitions.specs.Params.{param_in};
 ghost use Rattle.log_definitions.specs.Replay.{replayed};
 ghost use Rattle.disk_replay.specs.Laid as laid;
-ghost use Rattle.disk_replay.specs.Laid.{changes_of, laid_by, with_changes, AllHold, AreKept};
+ghost use Rattle.disk_replay.specs.Laid.{changes_below, changes_in, greatest_at, laid_by, records_at, AreGreatest, HoldsChanges};
 
 use crate::apply::apply_records;
-use crate::records::{Kept, read_in_threads, read_logs};
+use crate::records::{greatest_kept, records_of};
 use disk_definitions::Disk;
-use frang_base::limits::{LOG_SECTORS, LOGS, SEGMENTS_MAX};
-use frang_base::{NoMemory, Sector};
-use frang_layout::{Region, region_of, sector_of};
-use param_block::decode;
+use frang_base::limits::{LOG_SECTORS, LOGS};
+use frang_base::{NoMemory, OpNo, Redo, Sector, ServerId};
+use frang_layout::{Region, sector_of};
+use param_block::{Param, decode};
 use sector_bytes::zero_block;
 use std::alloc::Global;
-use std::thread::Threads;
+
+/// A disk once its logs are replayed, and the greatest operation that each of its 256 logs held, `None` where it held no record.
+#[derive(Drop)]
+pub struct Replay {
+    pub disk: Disk,
+    pub greatest: Vec<Option<OpNo>>,
+}
 
 /// The disk after all its logs are replayed: their records' changes are laid over it, each where the sector is older, the logs in
 /// order and their records in order. No other sector than an inode, a segment of the bitmap or one of a small block is changed, and none
@@ -28,52 +33,76 @@ use std::thread::Threads;
 pub fn replayed(alloc: Global, disk: &Disk) -> Result<Disk, NoMemory>
     ensures { IfOk result (λ new. (sector : ℕ) → sectors_of new sector ≡ replayed (sectors_of disk.now) sector) }
 {
-    let logs = read_logs(alloc, disk)?;
-    let mut copy = without_logs(alloc, disk)?;
-    lay_logs(&mut copy, &logs)?;
-    Ok(copy)
+    let copy = copied(alloc, disk)?;
+    replay_in_place(alloc, copy)
 }
 
-/// The same as `replayed`, of a disk that isn't needed as it was, which takes no second disk's memory. Its logs are read in threads; with one
-/// processor the disk is the same.
-pub fn replay_in_place<R: Threads + Sync>(
-    rt: &R,
-    alloc: Global,
-    disk: Disk,
-) -> Result<Disk, NoMemory>
+/// The same as `replayed`, of a disk that isn't needed as it was, which takes no second disk's memory.
+pub fn replay_in_place(alloc: Global, disk: Disk) -> Result<Disk, NoMemory>
     ensures { IfOk result (λ new. (sector : ℕ) → sectors_of new sector ≡ replayed (sectors_of disk) sector) }
 {
-    let logs = read_in_threads(rt, alloc, &disk)?;
-    let mut disk = disk;
-    erase_logs(&mut disk)?;
-    lay_logs(&mut disk, &logs)?;
-    Ok(disk)
+    let replay = replay_with_greatest(alloc, disk)?;
+    Ok(replay.disk)
 }
 
-// Lays the changes of logs over a disk, none where its parameters aren't in their grammar.
-fn lay_logs(disk: &mut Disk, logs: &[Kept]) -> Result<(), NoMemory>
-    requires { AllHold logs.now }
-    ensures { OnOk result ((f : ℕ → List Redo) → AreKept (length logs.now) logs.now f → SameSectors (sectors_of disk.new) (laid_by (param_in (sectors_of disk.old 0)) (sectors_of disk.old) (changes_of f (length logs.now)))) }
+/// The same as `replay_in_place`, with the greatest operation of each log. Each log is read once, and its records are given up before the next log is read.
+pub fn replay_with_greatest(alloc: Global, disk: Disk) -> Result<Replay, NoMemory>
+    ensures disk { IfOk result (λ r. (sector : ℕ) → sectors_of r.disk sector ≡ replayed (sectors_of disk) sector) }
+    ensures len { IfOk result (λ r. length r.greatest.items ≡ LOGS) }
+    ensures greatest { IfOk result (λ r. AreGreatest LOGS (sectors_of disk) r.greatest.items) }
 {
-    match decode(&disk.get(Sector(0))) {
-        Some(param) => apply_logs(disk, param.segments, logs),
+    let param = decode(&disk.get(Sector(0)));
+    let mut disk = disk;
+    let greatest = lay_logs(alloc, &mut disk, &param)?;
+    erase_logs(&mut disk)?;
+    Ok(Replay { disk, greatest })
+}
+
+// Lays the changes of all logs over the disk, by its parameters, the logs in order. The greatest operation that each held.
+fn lay_logs(
+    alloc: Global,
+    disk: &mut Disk,
+    param: &Option<Param>,
+) -> Result<Vec<Option<OpNo>>, NoMemory>
+    requires { IfSome param.now (λ p. p.segments ≤ SEGMENTS_MAX) }
+    ensures laid { OnOk result (SameSectors (sectors_of disk.new) (laid_by param.now (sectors_of disk.old) (changes_below (sectors_of disk.old) LOGS))) }
+    ensures len { IfOk result (λ v. length v.items ≡ LOGS) }
+    ensures greatest { IfOk result (λ v. AreGreatest LOGS (sectors_of disk.old) v.items) }
+{
+    let mut greatest = Vec::new(alloc);
+    for server in 0..LOGS {
+        let held = lay_log(alloc, disk, param, ServerId(server as u8))?;
+        greatest.push(held)?;
+    }
+    Ok(greatest)
+}
+
+// Lays the changes of a log over the disk. The greatest operation that it held.
+fn lay_log(
+    alloc: Global,
+    disk: &mut Disk,
+    param: &Option<Param>,
+    server: ServerId,
+) -> Result<Option<OpNo>, NoMemory>
+    requires { IfSome param.now (λ p. p.segments ≤ SEGMENTS_MAX) }
+    ensures laid { OnOk result (SameSectors (sectors_of disk.new) (laid_by param.now (sectors_of disk.old) (changes_in (records_at (sectors_of disk.old) server.0)))) }
+    ensures greatest { IfOk result (λ op. op ≡ greatest_at (sectors_of disk.old) server.0) }
+{
+    let records = records_of(alloc, disk, server)?;
+    lay_records(disk, param, &records)?;
+    Ok(greatest_kept(&records))
+}
+
+// Lays the changes of records over the disk, none where its parameters aren't in their grammar.
+fn lay_records(disk: &mut Disk, param: &Option<Param>, records: &[Redo]) -> Result<(), NoMemory>
+    requires segments { IfSome param.now (λ p. p.segments ≤ SEGMENTS_MAX) }
+    requires changes { All HoldsChanges records.now }
+    ensures { OnOk result (SameSectors (sectors_of disk.new) (laid_by param.now (sectors_of disk.old) (changes_in records.now))) }
+{
+    match param {
+        Some(param) => apply_records(disk, param.segments, records),
         None => Ok(()),
     }
-}
-
-// Lays the changes of logs over a disk of so many segments, the logs in order.
-fn apply_logs(disk: &mut Disk, segments: u32, logs: &[Kept]) -> Result<(), NoMemory>
-    requires segments { segments ≤ SEGMENTS_MAX }
-    requires hold { AllHold logs.now }
-    ensures { OnOk result ((f : ℕ → List Redo) → AreKept (length logs.now) logs.now f → SameSectors (sectors_of disk.new) (with_changes segments (sectors_of disk.old) (changes_of f (length logs.now)))) }
-{
-    for log in logs {
-        match log {
-            Ok(records) => apply_records(disk, segments, records)?,
-            Err(want) => return Err(*want),
-        }
-    }
-    Ok(())
 }
 
 // Makes all logs zero.
@@ -109,23 +138,13 @@ fn is_there(disk: &Disk, sector: Sector) -> bool
     disk.as_map().contains_key(&sector.0)
 }
 
-// A copy of the disk, with all logs zero.
-fn without_logs(alloc: Global, disk: &Disk) -> Result<Disk, NoMemory>
-    ensures { IfOk result (λ copy. SameSectors (sectors_of copy) (laid.without_logs (sectors_of disk.now))) }
+// A copy of the disk.
+fn copied(alloc: Global, disk: &Disk) -> Result<Disk, NoMemory>
+    ensures { IfOk result (λ copy. SameSectors (sectors_of copy) (sectors_of disk.now)) }
 {
     let mut copy = Disk::new(alloc);
     for (sector, block) in disk.as_map() {
-        if is_log(Sector(*sector)) {
-            continue;
-        }
         copy.set(Sector(*sector), *block.get())?;
     }
     Ok(copy)
-}
-
-#[tactic(auto, unfolding(crate::specs::Laid::is_logged))]
-fn is_log(sector: Sector) -> bool
-    ensures { result ≡ laid.is_logged sector.0 }
-{
-    matches!(region_of(sector, SEGMENTS_MAX), Some(Region::Log { .. }))
 }

@@ -15,13 +15,11 @@ ghost use Rattle.tree_edits.specs.Written.{cells_of, size_of};
 
 use crate::Tree;
 use crate::place::file_at;
+use frang_base::limits::FILE_BYTES_MAX;
 use frang_base::{Name, NoMemory, Reply, Text};
 use std::alloc::Global;
 use tree_definitions::{Cell, Cells};
 use tree_edits::{Bytes, count_of, large_blocks_of, small_blocks_of};
-
-/// Bytes of a file, at most.
-const FILE_BYTES_MAX: usize = 1_114_112;
 
 // Why bytes can't be put into a file, if they can't.
 fn refused(tree: &Tree, m: u32, cells: &Cells, off: usize, len: usize) -> Option<Reply>
@@ -36,7 +34,7 @@ fn refused(tree: &Tree, m: u32, cells: &Cells, off: usize, len: usize) -> Option
     if before < off {
         return Some(Reply::BadOffset);
     }
-    if FILE_BYTES_MAX < end {
+    if FILE_BYTES_MAX < end as u64 {
         return Some(Reply::TooBig);
     }
     if large_blocks_of(before) < large_blocks_of(after) && tree.larges_full() {

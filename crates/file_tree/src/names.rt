@@ -13,12 +13,10 @@ ghost use Rattle.file_tree.specs.Replies.{gives};
 
 use crate::Tree;
 use crate::place::{Place, ROOT, place_from};
+use frang_base::limits::{DIRECTORY_ENTRIES_MAX, LINKS_MAX};
 use frang_base::{Name, NoMemory, Reply};
 use tree_definitions::{Entries, Node};
-use tree_edits::{Blocks, DIR_ENTRIES_MAX, must_grow};
-
-/// Names of a node that is no directory, at most.
-const LINKS_MAX: u32 = 1000;
+use tree_edits::{Blocks, must_grow};
 
 /// Whether a node is a directory.
 pub fn is_dir(node: Option<&Node>) -> bool
@@ -61,7 +59,7 @@ pub fn grown(entries: &Entries, blocks: u32) -> u32
 
 /// A copy of entries with one name more.
 pub fn with_name(entries: &Entries, name: &Name, birth: u64) -> Result<Entries, NoMemory>
-    requires { length entries.now < 896 }
+    requires { length entries.now < DIRECTORY_ENTRIES_MAX }
     ensures { IfOk result (λ more. more ≡ with_entry entries.now name.now birth) }
 {
     let mut more = entries.clone()?;
@@ -86,7 +84,7 @@ pub fn make(tree: &mut Tree, path: &[Name], birth: u64, node: Node) -> Result<Re
             blocks,
             name,
         } => {
-            if entries.len() >= DIR_ENTRIES_MAX {
+            if entries.len() >= DIRECTORY_ENTRIES_MAX as usize {
                 return Ok(Reply::DirFull);
             }
             if tree.inodes_full() {
@@ -201,10 +199,10 @@ fn linked_to(tree: &mut Tree, birth: u64, to: &[Name]) -> Result<Reply, NoMemory
             name,
         } => {
             let links = links_of(tree.node(birth));
-            if links >= LINKS_MAX {
+            if links >= u32::from(LINKS_MAX) {
                 return Ok(Reply::MLink);
             }
-            if entries.len() >= DIR_ENTRIES_MAX {
+            if entries.len() >= DIRECTORY_ENTRIES_MAX as usize {
                 return Ok(Reply::DirFull);
             }
             if tree.lacks_block(entries, blocks) {

@@ -13,9 +13,9 @@ ghost use Rattle.tree_edits.specs.Counts.{IsWithin};
 use crate::Tree;
 use crate::names::{drop_link, grown, has_entries, is_dir, with_name};
 use crate::place::{Place, ROOT, passes, place_from};
+use frang_base::limits::DIRECTORY_ENTRIES_MAX;
 use frang_base::{Name, NoMemory, Reply};
 use tree_definitions::{Entries, Node};
-use tree_edits::DIR_ENTRIES_MAX;
 
 /// A name in a directory, with its node.
 #[derive(Drop)]
@@ -127,7 +127,7 @@ fn moved_to(tree: &mut Tree, what: &Named, to: u64, new: &Name) -> Result<Reply,
         return Ok(Reply::Ok);
     }
     let held = dir_at(tree, to);
-    if held.entries.len() >= DIR_ENTRIES_MAX {
+    if held.entries.len() >= DIRECTORY_ENTRIES_MAX as usize {
         return Ok(Reply::DirFull);
     }
     if tree.lacks_block(held.entries, held.blocks) {

@@ -10,12 +10,13 @@ ghost use Rattle.file_tree.specs.Proper.{HasTarget, HasTargets, AreProper};
 
 use crate::lines::lines_from;
 use crate::place::ROOT;
+use frang_base::limits::{INODE_BLOCKS_MAX, SEGMENT_BLOCKS, SEGMENT_INODES, SEGMENTS_MAX};
 use frang_base::{Name, NoMemory, Said, Text};
 use std::alloc::Global;
 use std::collections::BTreeMap;
 use std::marker::Model;
 use tree_definitions::{Entries, Node};
-use tree_edits::{BLOCKS_A_SEGMENT, Blocks, Bytes, INODES_A_SEGMENT, must_grow, nodes};
+use tree_edits::{Blocks, Bytes, must_grow, nodes};
 
 /// A file tree, seen as its number of segments and its nodes by birth. The root's birth is 0. It keeps count of the blocks that its
 /// nodes take.
@@ -77,7 +78,7 @@ impl Tree {
 
     /// The root alone, on a disk of so many segments.
     pub fn fresh(alloc: Global, segments: u32) -> Result<Tree, NoMemory>
-        requires { segments ≤ 64 }
+        requires { segments ≤ SEGMENTS_MAX }
         ensures { IfOk result (λ t. t ≡ fresh segments) }
     {
         let mut nodes = BTreeMap::new(alloc);
@@ -143,19 +144,19 @@ impl Tree {
 
     /// Whether files with so many more small blocks would leave fewer than `m` to directories.
     pub(crate) fn lacks_file_blocks(&self, m: u32, more: u64) -> bool
-        requires { more ≤ 16 }
-        ensures is { result ≡ nat_lt (1024 * self.now.segments - m) (count_of file_blocks self.now + more) }
+        requires { more ≤ INODE_BLOCKS_MAX }
+        ensures is { result ≡ nat_lt (SEGMENT_BLOCKS * self.now.segments - m) (count_of file_blocks self.now + more) }
         ensures within { IsWithin self.now }
     {
-        let left = (BLOCKS_A_SEGMENT * u64::from(self.segments)).saturating_sub(u64::from(m));
-        left < self.taken.files + more
+        let all = u64::from(SEGMENT_BLOCKS) * u64::from(self.segments);
+        all.saturating_sub(u64::from(m)) < self.taken.files + more
     }
 
     /// Whether all inodes are in use.
     pub(crate) fn inodes_full(&self) -> bool
         ensures { result ≡ inodes_full self.now }
     {
-        INODES_A_SEGMENT * u64::from(self.segments) <= self.nodes.len() as u64
+        u64::from(SEGMENT_INODES) * u64::from(self.segments) <= self.nodes.len() as u64
     }
 
     /// Whether all large blocks are in use.
@@ -180,7 +181,7 @@ impl Tree {
         ensures is { result ≡ blocks_full self.now }
         ensures within { IsWithin self.now }
     {
-        BLOCKS_A_SEGMENT * u64::from(self.segments) <= self.taken.dirs + self.taken.files
+        u64::from(SEGMENT_BLOCKS) * u64::from(self.segments) <= self.taken.dirs + self.taken.files
     }
 
     /// A birth gets this node, in place of one that it may have. `NoMemory` comes only where it has none, and leaves the tree as

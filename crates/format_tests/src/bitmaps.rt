@@ -3,7 +3,7 @@ use crate::builders::{Piece, are_runs, block_of, with};
 use bitmap_block::{
     Bitmap, BlockState, decode, encode, inode_in_use, patches, state_of, with_inode, with_state,
 };
-use frang_base::limits::SECTOR_BYTES;
+use frang_base::limits::{SECTOR_BYTES, SEGMENT_BLOCKS, SEGMENT_INODES};
 use std::test::Fail;
 
 // A segment of which only the root is in use.
@@ -16,7 +16,7 @@ fn fresh() -> Bitmap {
     }
 }
 
-const FRESH: [Piece; 2] = [(0, b"\x01"), (8, b"\x01")];
+static FRESH: [Piece; 2] = [(0, b"\x01"), (8, b"\x01")];
 
 // Inodes 0, 9 and 63, the large block, and eight blocks in each state from either end.
 fn busy() -> Bitmap {
@@ -32,7 +32,7 @@ fn busy() -> Bitmap {
     }
 }
 
-const BUSY: [Piece; 5] = [
+static BUSY: [Piece; 5] = [
     (0, b"\x02\x01"),
     (8, b"\x01\x02"),
     (15, b"\x80"),
@@ -50,36 +50,48 @@ fn segments_are_written_as_worked_out_by_hand(rt: HostRuntime) {
     }
 }
 
+// A place, and the byte that stands there instead.
+static REFUSED: [(usize, u8); 5] = [(272, 2), (272, 255), (273, 1), (400, 9), (511, 1)];
+
 #[test]
 fn other_blocks_are_refused(rt: HostRuntime) {
     let busy = block_of(&BUSY);
-    for (at, byte) in [(272, 2), (272, 255), (273, 1), (400, 9), (511, 1)] {
-        assert!(rt;
-            decode(&with(&busy, at, byte)).is_none(),
-            "byte {byte} at {at}"
-        );
+    for (at, byte) in &REFUSED {
+        let found = decode(&with(&busy, *at, *byte));
+        assert!(rt; found.is_none(), "byte {byte} at {at}");
     }
 }
+
+// An inode of the busy segment, and whether it is in use.
+static BITS: [(u32, bool); 5] = [(0, true), (1, false), (8, false), (9, true), (63, true)];
+
+// A small block of it, and its state.
+static STATES: [(u32, BlockState); 9] = [
+    (0, BlockState::Unused),
+    (1, BlockState::FileBytes),
+    (2, BlockState::FormerDirectory),
+    (3, BlockState::Directory),
+    (4, BlockState::Directory),
+    (5, BlockState::FormerDirectory),
+    (6, BlockState::FileBytes),
+    (7, BlockState::Unused),
+    (1023, BlockState::FormerDirectory),
+];
 
 #[test]
 fn bits_and_states_stand_at_their_places(rt: HostRuntime) {
     let segment = busy();
-    for (j, used) in [(0, true), (1, false), (8, false), (9, true), (63, true)] {
-        assert!(rt; inode_in_use(&segment, j) == used, "inode {j}");
+    for (j, used) in &BITS {
+        assert!(rt;
+            *j < SEGMENT_INODES && inode_in_use(&segment, *j) == *used,
+            "inode {j}"
+        );
     }
-    let states = [
-        (0, BlockState::Unused),
-        (1, BlockState::FileBytes),
-        (2, BlockState::FormerDirectory),
-        (3, BlockState::Directory),
-        (4, BlockState::Directory),
-        (5, BlockState::FormerDirectory),
-        (6, BlockState::FileBytes),
-        (7, BlockState::Unused),
-        (1023, BlockState::FormerDirectory),
-    ];
-    for (j, state) in states {
-        assert!(rt; state_of(&segment, j) == state, "block {j}");
+    for (j, state) in &STATES {
+        assert!(rt;
+            *j < SEGMENT_BLOCKS && state_of(&segment, *j) == *state,
+            "block {j}"
+        );
     }
 }
 

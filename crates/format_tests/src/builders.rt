@@ -23,10 +23,10 @@ pub const SEGMENT: u64 = 4_294_967_296;
 pub const ROOT: u64 = 10_737_418_240;
 
 /// The parameter sector of a fresh disk of 16 segments.
-pub const FRESH_PARAMETERS: [Piece; 1] = [(0, b"FRANGPAR\x02\0\0\0\x10\0\0\0\x01")];
+pub static FRESH_PARAMETERS: [Piece; 1] = [(0, b"FRANGPAR\x02\0\0\0\x10\0\0\0\x01")];
 
 // A disk of 16 segments in its first run, with the root alone. Its sectors stand from the last to the first.
-const FRESH: [SectorPiece; 6] = [
+static FRESH: [SectorPiece; 6] = [
     (ROOT, 0, b"\x01"),
     (ROOT, 8, b"\x02"),
     (ROOT, 10, b"\x01"),
@@ -72,8 +72,8 @@ pub fn change(disk: &mut Disk, piece: SectorPiece) -> Result<(), NoMemory> {
 /// A fresh disk of 16 segments.
 pub fn fresh_disk(alloc: Global) -> Result<Disk, NoMemory> {
     let mut disk = Disk::new(alloc);
-    for piece in FRESH {
-        change(&mut disk, piece)?;
+    for piece in &FRESH {
+        change(&mut disk, *piece)?;
     }
     Ok(disk)
 }

@@ -17,7 +17,7 @@ const EMPTY: DirSector = DirSector {
     entries: [FREE; 7],
 };
 
-const EMPTY_BLOCK: [Piece; 1] = [(0, b"\x03")];
+static EMPTY_BLOCK: [Piece; 1] = [(0, b"\x03")];
 
 // An entry whose name is one byte, so often.
 fn entry(inode: u32, kind: u8, byte: u8, len: u8) -> DirEntry {
@@ -43,7 +43,7 @@ fn several() -> DirSector {
     sector
 }
 
-const SEVERAL: [Piece; 5] = [
+static SEVERAL: [Piece; 5] = [
     (0, b"\x03"),
     (80, b"\x02\x01\0\0\x01\x01b"),
     (152, b"\x07\0\0\0\x02\x02aa"),
@@ -64,59 +64,70 @@ fn sectors_are_read_as_worked_out_by_hand(rt: HostRuntime) {
     }
 }
 
+// A fault, its place in the block of several entries, and the byte that stands there instead.
+static REFUSED: [(&str, usize, u8); 16] = [
+    ("no kind", 85, 0),
+    ("a fourth kind", 85, 4),
+    ("no name", 84, 0),
+    ("a shorter name", 156, 1),
+    ("a longer name", 84, 2),
+    ("a name of 65 bytes", 84, 65),
+    ("a slash", 86, b'/'),
+    ("a dot alone", 86, b'.'),
+    ("a byte behind the name", 149, 1),
+    ("a byte behind the entry", 150, 1),
+    ("another byte behind the entry", 151, 1),
+    ("a free place with a number", 8, 1),
+    ("a free place with a length", 12, 1),
+    ("a free place with a kind", 13, 1),
+    ("a free place with a name", 14, b'a'),
+    ("the last byte", 511, 1),
+];
+
 #[test]
 fn other_sectors_are_refused(rt: HostRuntime) {
-    let changes = [
-        ("no kind", 85, 0),
-        ("a fourth kind", 85, 4),
-        ("no name", 84, 0),
-        ("a shorter name", 156, 1),
-        ("a longer name", 84, 2),
-        ("a name of 65 bytes", 84, 65),
-        ("a slash", 86, b'/'),
-        ("a dot alone", 86, b'.'),
-        ("a byte behind the name", 149, 1),
-        ("a byte behind the entry", 150, 1),
-        ("another byte behind the entry", 151, 1),
-        ("a free place with a number", 8, 1),
-        ("a free place with a length", 12, 1),
-        ("a free place with a kind", 13, 1),
-        ("a free place with a name", 14, b'a'),
-        ("the last byte", 511, 1),
-    ];
     let several = block_of(&SEVERAL);
-    for (what, at, byte) in changes {
-        assert!(rt; decode(&with(&several, at, byte)).is_none(), "{what}");
+    for (what, at, byte) in &REFUSED {
+        let found = decode(&with(&several, *at, *byte));
+        assert!(rt; found.is_none(), "{what}");
+    }
+}
+
+// A name, and the place of its first entry.
+static PLACES: [(&[u8], Option<u8>); 5] = [
+    (b"a", Some(3)),
+    (b"aa", Some(2)),
+    (b"b", Some(1)),
+    (b"aaa", None),
+    (b"c", None),
+];
+
+fn is_found_at(sector: &DirSector, bytes: &[u8], place: Option<u8>) -> bool {
+    match Name::of(bytes) {
+        Some(name) => find(sector, &name) == place,
+        None => false,
     }
 }
 
 #[test]
 fn the_first_entry_of_a_name_is_found(rt: HostRuntime) {
-    let names = [
-        (b"a".as_slice(), Some(3)),
-        (b"aa".as_slice(), Some(2)),
-        (b"b".as_slice(), Some(1)),
-        (b"aaa".as_slice(), None),
-        (b"c".as_slice(), None),
-    ];
     let sector = several();
-    for (bytes, place) in names {
-        let name = Name::of(bytes);
-        assert!(rt; name.is_some());
-        assert!(rt; name.and_then(|name| find(&sector, &name)) == place);
+    for (bytes, place) in &PLACES {
+        assert!(rt; is_found_at(&sector, bytes, *place));
     }
 }
 
+// `a` goes from place 3, and the name at the end is `c` instead.
+static CHANGED: [Piece; 4] = [
+    (0, b"\x04"),
+    (80, b"\x02\x01\0\0\x01\x01b"),
+    (152, b"\x07\0\0\0\x02\x02aa"),
+    (440, b"\x09\0\0\0\x01\x01c"),
+];
+
 #[test]
 fn what_changes_of_a_directory(rt: HostRuntime) -> Result<(), Fail> {
-    // `a` goes from place 3, and the name at the end is `c` instead.
-    let changed: [Piece; 4] = [
-        (0, b"\x04"),
-        (80, b"\x02\x01\0\0\x01\x01b"),
-        (152, b"\x07\0\0\0\x02\x02aa"),
-        (440, b"\x09\0\0\0\x01\x01c"),
-    ];
-    let (old, new) = (decode(&block_of(&SEVERAL)), decode(&block_of(&changed)));
+    let (old, new) = (decode(&block_of(&SEVERAL)), decode(&block_of(&CHANGED)));
     assert!(rt; old.is_some() && new.is_some());
     if let (Some(old), Some(new)) = (&old, &new) {
         let found = patches(rt.alloc(), old, new)?;

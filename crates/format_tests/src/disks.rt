@@ -22,7 +22,7 @@ type Line = (&'static str, u8, u32, u32);
 
 // What the names `a` and `b` of one file, a directory `d` and a link `l` in the root add. The root's entries stand in block 0, the
 // file's three bytes in block 1.
-const FOUR_NAMES: [SectorPiece; 20] = [
+static FOUR_NAMES: [SectorPiece; 20] = [
     (SEGMENT, 8, b"\x0f"),
     (SEGMENT, 16, b"\x07"),
     (ROOT, 12, b"\x01"),
@@ -45,10 +45,22 @@ const FOUR_NAMES: [SectorPiece; 20] = [
     (BLOCK_1, 0, b"xyz"),
 ];
 
+// What is said of that tree.
+static FOUR_LINES: [Line; 5] = [
+    ("/", 2, 4, 0),
+    ("/a", 1, 3, 2),
+    ("/b", 1, 3, 2),
+    ("/d", 2, 0, 0),
+    ("/l", 3, 2, 0),
+];
+
+// What is said of the tree of the root alone.
+static ROOT_ALONE: [Line; 1] = [("/", 2, 0, 0)];
+
 fn with_four_names(alloc: Global) -> Result<Disk, NoMemory> {
     let mut disk = fresh_disk(alloc)?;
-    for piece in FOUR_NAMES {
-        change(&mut disk, piece)?;
+    for piece in &FOUR_NAMES {
+        change(&mut disk, *piece)?;
     }
     Ok(disk)
 }
@@ -92,21 +104,14 @@ fn stands_for_none(alloc: Global, disk: &Disk) -> Result<bool, NoMemory> {
 fn a_fresh_disk_has_the_root_alone(rt: HostRuntime) -> Result<(), Fail> {
     let disk = fresh_disk(rt.alloc())?;
     assert!(rt; disk.len() == 3);
-    assert!(rt; stands_for(rt.alloc(), &disk, &[("/", 2, 0, 0)])?);
+    assert!(rt; stands_for(rt.alloc(), &disk, &ROOT_ALONE)?);
     Ok(())
 }
 
 #[test]
 fn names_are_read_in_order(rt: HostRuntime) -> Result<(), Fail> {
     let disk = with_four_names(rt.alloc())?;
-    let wanted = [
-        ("/", 2, 4, 0),
-        ("/a", 1, 3, 2),
-        ("/b", 1, 3, 2),
-        ("/d", 2, 0, 0),
-        ("/l", 3, 2, 0),
-    ];
-    assert!(rt; stands_for(rt.alloc(), &disk, &wanted)?);
+    assert!(rt; stands_for(rt.alloc(), &disk, &FOUR_LINES)?);
     Ok(())
 }
 
@@ -114,7 +119,7 @@ fn names_are_read_in_order(rt: HostRuntime) -> Result<(), Fail> {
 fn a_disk_without_times_is_read(rt: HostRuntime) -> Result<(), Fail> {
     let mut disk = fresh_disk(rt.alloc())?;
     change(&mut disk, (PARAMETERS, 8, b"\x01"))?;
-    assert!(rt; stands_for(rt.alloc(), &disk, &[("/", 2, 0, 0)])?);
+    assert!(rt; stands_for(rt.alloc(), &disk, &ROOT_ALONE)?);
     Ok(())
 }
 
@@ -122,14 +127,7 @@ fn a_disk_without_times_is_read(rt: HostRuntime) -> Result<(), Fail> {
 fn a_file_with_a_time_is_read(rt: HostRuntime) -> Result<(), Fail> {
     let mut disk = with_four_names(rt.alloc())?;
     change(&mut disk, (INODE_1, 100, b"\x09\0\0\0\x01"))?;
-    let wanted = [
-        ("/", 2, 4, 0),
-        ("/a", 1, 3, 2),
-        ("/b", 1, 3, 2),
-        ("/d", 2, 0, 0),
-        ("/l", 3, 2, 0),
-    ];
-    assert!(rt; stands_for(rt.alloc(), &disk, &wanted)?);
+    assert!(rt; stands_for(rt.alloc(), &disk, &FOUR_LINES)?);
     Ok(())
 }
 
@@ -137,52 +135,54 @@ fn a_file_with_a_time_is_read(rt: HostRuntime) -> Result<(), Fail> {
 fn a_block_that_was_a_directory_is_clear(rt: HostRuntime) -> Result<(), Fail> {
     let mut disk = fresh_disk(rt.alloc())?;
     change(&mut disk, (SEGMENT, 17, b"\x08"))?;
-    assert!(rt; stands_for(rt.alloc(), &disk, &[("/", 2, 0, 0)])?);
+    assert!(rt; stands_for(rt.alloc(), &disk, &ROOT_ALONE)?);
     change(&mut disk, (BLOCK_5, 0, b"\x01"))?;
-    assert!(rt; stands_for(rt.alloc(), &disk, &[("/", 2, 0, 0)])?);
+    assert!(rt; stands_for(rt.alloc(), &disk, &ROOT_ALONE)?);
     change(&mut disk, (BLOCK_5, 8, b"\x01\0\0\0\x01\x01b"))?;
     assert!(rt; stands_for_none(rt.alloc(), &disk)?);
     Ok(())
 }
 
+// A condition that is broken, and the bytes that break it on the disk with four names.
+static BROKEN: [(&str, SectorPiece); 22] = [
+    ("no parameters", (PARAMETERS, 0, b"f")),
+    ("a format before the first", (PARAMETERS, 8, b"\0")),
+    ("a format past the newest", (PARAMETERS, 8, b"\x03")),
+    ("no segments", (PARAMETERS, 12, b"\0")),
+    ("an inode not in its grammar", (INODE_1, 9, b"\x01")),
+    ("a directory with a time", (INODE_2, 100, b"\x01")),
+    ("a link with a time", (INODE_3, 107, b"\x01")),
+    ("an entry not in its grammar", (BLOCK_0, 78, b"\x01")),
+    ("a version that the run has not", (ROOT, 2, b"\x02")),
+    ("the bit of a free inode", (SEGMENT, 8, b"\x1f")),
+    ("no bit of an inode in use", (SEGMENT, 8, b"\x07")),
+    (
+        "a directory's block marked a file's",
+        (SEGMENT, 16, b"\x05"),
+    ),
+    (
+        "a file's block marked a directory's",
+        (SEGMENT, 16, b"\x0f"),
+    ),
+    ("a block in use that nobody has", (SEGMENT, 16, b"\x17")),
+    ("a large block that nobody has", (SEGMENT, 272, b"\x01")),
+    ("a block that two have", (INODE_1, 32, b"\0")),
+    ("more entries told than there are", (ROOT, 16, b"\x05")),
+    ("an entry of another kind", (BLOCK_0, 13, b"\x03")),
+    ("an entry of a free inode", (BLOCK_0, 8, b"\x09")),
+    ("a name twice", (BLOCK_0, 14, b"a")),
+    ("more links than names", (INODE_1, 10, b"\x03")),
+    (
+        "a directory with two names",
+        (BLOCK_0, 296, b"\x02\0\0\0\x01\x02e"),
+    ),
+];
+
 #[test]
 fn a_disk_that_breaks_a_condition_stands_for_none(rt: HostRuntime) -> Result<(), Fail> {
-    let broken: [(&'static str, SectorPiece); 22] = [
-        ("no parameters", (PARAMETERS, 0, b"f")),
-        ("a format before the first", (PARAMETERS, 8, b"\0")),
-        ("a format past the newest", (PARAMETERS, 8, b"\x03")),
-        ("no segments", (PARAMETERS, 12, b"\0")),
-        ("an inode not in its grammar", (INODE_1, 9, b"\x01")),
-        ("a directory with a time", (INODE_2, 100, b"\x01")),
-        ("a link with a time", (INODE_3, 107, b"\x01")),
-        ("an entry not in its grammar", (BLOCK_0, 78, b"\x01")),
-        ("a version that the run has not", (ROOT, 2, b"\x02")),
-        ("the bit of a free inode", (SEGMENT, 8, b"\x1f")),
-        ("no bit of an inode in use", (SEGMENT, 8, b"\x07")),
-        (
-            "a directory's block marked a file's",
-            (SEGMENT, 16, b"\x05"),
-        ),
-        (
-            "a file's block marked a directory's",
-            (SEGMENT, 16, b"\x0f"),
-        ),
-        ("a block in use that nobody has", (SEGMENT, 16, b"\x17")),
-        ("a large block that nobody has", (SEGMENT, 272, b"\x01")),
-        ("a block that two have", (INODE_1, 32, b"\0")),
-        ("more entries told than there are", (ROOT, 16, b"\x05")),
-        ("an entry of another kind", (BLOCK_0, 13, b"\x03")),
-        ("an entry of a free inode", (BLOCK_0, 8, b"\x09")),
-        ("a name twice", (BLOCK_0, 14, b"a")),
-        ("more links than names", (INODE_1, 10, b"\x03")),
-        (
-            "a directory with two names",
-            (BLOCK_0, 296, b"\x02\0\0\0\x01\x02e"),
-        ),
-    ];
-    for (name, piece) in broken {
+    for (name, piece) in &BROKEN {
         let mut disk = with_four_names(rt.alloc())?;
-        change(&mut disk, piece)?;
+        change(&mut disk, *piece)?;
         assert!(rt; stands_for_none(rt.alloc(), &disk)?, "{name}");
     }
     Ok(())

@@ -7,7 +7,7 @@ use std::alloc::{AllocError, Global};
 use std::test::Fail;
 
 // The bytes of the fresh image that aren't zero: mark and count, the parameters, the first segment, the root.
-const FRESH: [Piece; 8] = [
+static FRESH: [Piece; 8] = [
     (0, b"FRANGIM1\x03"),
     (24, b"FRANGPAR\x02\0\0\0\x10\0\0\0\x01"),
     (540, b"\x01"),
@@ -91,25 +91,24 @@ fn the_fresh_image_is_read(rt: HostRuntime) -> Result<(), Fail> {
     Ok(())
 }
 
+// How many bytes there are, and the fault.
+static FRONTS: [(usize, Fault); 7] = [
+    (0, (0, 1)),
+    (15, (0, 1)),
+    (16, (16, 1)),
+    (535, (16, 1)),
+    (536, (536, 1)),
+    (1575, (1056, 1)),
+    (1577, (1576, 6)),
+];
+
 #[test]
 fn bytes_that_end_early_or_late(rt: HostRuntime) -> Result<(), Fail> {
-    // How many bytes there are, and the fault.
-    let cases = [
-        (0, (0, 1)),
-        (15, (0, 1)),
-        (16, (16, 1)),
-        (535, (16, 1)),
-        (536, (536, 1)),
-        (1575, (1056, 1)),
-        (1577, (1576, 6)),
-    ];
     let mut longer = fresh(rt.alloc())?;
     longer.push(0)?;
-    for (len, fault) in cases {
-        assert!(rt;
-            fault_in(rt.alloc(), front(&longer, len)) == fault,
-            "{len} bytes"
-        );
+    for (len, fault) in &FRONTS {
+        let found = fault_in(rt.alloc(), front(&longer, *len));
+        assert!(rt; found == *fault, "{len} bytes");
     }
     Ok(())
 }
@@ -124,68 +123,70 @@ fn the_greatest_count(rt: HostRuntime) -> Result<(), Fail> {
     Ok(())
 }
 
+// A place, the bytes that stand there instead, and the fault.
+static CHANGES: [(usize, &[u8], Fault); 27] = [
+    (0, b"\0", (0, 2)),
+    (7, b"2", (0, 2)),
+    (8, b"\0", (16, 6)),
+    (8, b"\x01", (536, 6)),
+    (8, b"\x02", (1056, 6)),
+    (8, b"\x04", (1576, 1)),
+    (8, b"\xff", (1576, 1)),
+    (16, b"\x01", (16, 7)),
+    (24, b"\0", (16, 7)),
+    (32, b"\0", (16, 7)),
+    (32, b"\x01", (0, 0)),
+    (32, b"\x03", (16, 7)),
+    (36, b"\x41", (16, 7)),
+    (36, b"\x01", (0, 0)),
+    (40, b"\xff\xff\xff\xff", (16, 7)),
+    (40, b"\xfe\xff\xff\xff", (0, 0)),
+    (536, b"\x0f", (0, 0)),
+    (536, b"\x10", (536, 4)),
+    (540, b"\0", (536, 3)),
+    (1055, b"\x01", (536, 7)),
+    (1059, b"\0\x01", (1056, 3)),
+    (1060, b"\x01", (1056, 4)),
+    (1060, b"\0", (1056, 3)),
+    (1063, b"\x01", (1056, 4)),
+    (1072, b"\x04", (1056, 7)),
+    (1164, b"\x01", (1056, 7)),
+    (1171, b"\x01", (1056, 7)),
+];
+
 #[test]
 fn some_bytes_changed(rt: HostRuntime) -> Result<(), Fail> {
-    // A place, the bytes that stand there instead, and the fault.
-    let changes: [(usize, &'static [u8], Fault); 27] = [
-        (0, b"\0", (0, 2)),
-        (7, b"2", (0, 2)),
-        (8, b"\0", (16, 6)),
-        (8, b"\x01", (536, 6)),
-        (8, b"\x02", (1056, 6)),
-        (8, b"\x04", (1576, 1)),
-        (8, b"\xff", (1576, 1)),
-        (16, b"\x01", (16, 7)),
-        (24, b"\0", (16, 7)),
-        (32, b"\0", (16, 7)),
-        (32, b"\x01", (0, 0)),
-        (32, b"\x03", (16, 7)),
-        (36, b"\x41", (16, 7)),
-        (36, b"\x01", (0, 0)),
-        (40, b"\xff\xff\xff\xff", (16, 7)),
-        (40, b"\xfe\xff\xff\xff", (0, 0)),
-        (536, b"\x0f", (0, 0)),
-        (536, b"\x10", (536, 4)),
-        (540, b"\0", (536, 3)),
-        (1055, b"\x01", (536, 7)),
-        (1059, b"\0\x01", (1056, 3)),
-        (1060, b"\x01", (1056, 4)),
-        (1060, b"\0", (1056, 3)),
-        (1063, b"\x01", (1056, 4)),
-        (1072, b"\x04", (1056, 7)),
-        (1164, b"\x01", (1056, 7)),
-        (1171, b"\x01", (1056, 7)),
-    ];
-    for (place, bytes, fault) in changes {
-        assert!(rt;
-            fault_after(rt.alloc(), &[(place, bytes)])? == fault,
-            "at {place}"
-        );
+    for (place, bytes, fault) in &CHANGES {
+        let found = fault_after(rt.alloc(), &[(*place, *bytes)])?;
+        assert!(rt; found == *fault, "at {place}");
     }
     Ok(())
 }
 
+static EXCHANGED: [Piece; 7] = [
+    (539, b"\x80\x02"),
+    (544, b"\x01"),
+    (552, b"\x02"),
+    (554, b"\x01"),
+    (1059, b"\0\x01"),
+    (1072, b"\x01"),
+    (1074, b"\0"),
+];
+
 #[test]
 fn sectors_out_of_order(rt: HostRuntime) -> Result<(), Fail> {
-    let exchanged: [Piece; 7] = [
-        (539, b"\x80\x02"),
-        (544, b"\x01"),
-        (552, b"\x02"),
-        (554, b"\x01"),
-        (1059, b"\0\x01"),
-        (1072, b"\x01"),
-        (1074, b"\0"),
-    ];
-    assert!(rt; fault_after(rt.alloc(), &exchanged)? == (1056, 3));
+    assert!(rt; fault_after(rt.alloc(), &EXCHANGED)? == (1056, 3));
     Ok(())
 }
 
+static CLEAR: [Piece; 2] = [(544, b"\0"), (552, b"\0")];
+
+static CLEAR_IN_NO_REGION: [Piece; 3] = [(536, b"\x10"), (544, b"\0"), (552, b"\0")];
+
 #[test]
 fn sectors_of_zeros(rt: HostRuntime) -> Result<(), Fail> {
-    let clear: [Piece; 2] = [(544, b"\0"), (552, b"\0")];
-    assert!(rt; fault_after(rt.alloc(), &clear)? == (536, 5));
-    let clear_in_no_region: [Piece; 3] = [(536, b"\x10"), (544, b"\0"), (552, b"\0")];
-    assert!(rt; fault_after(rt.alloc(), &clear_in_no_region)? == (536, 4));
+    assert!(rt; fault_after(rt.alloc(), &CLEAR)? == (536, 5));
+    assert!(rt; fault_after(rt.alloc(), &CLEAR_IN_NO_REGION)? == (536, 4));
     let mut image = fresh(rt.alloc())?;
     zero_from_to(&mut image, 24, 536);
     assert!(rt; fault_in(rt.alloc(), &image) == (16, 7));

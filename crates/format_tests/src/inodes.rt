@@ -3,6 +3,7 @@ ghost use Rattle.std.specs.Prelude.{◌≤◌, IsTrue};
 ghost use Rattle.sector_definitions.specs.Inodes.{inode_fits};
 
 use crate::builders::{Piece, are_runs, block_of, with};
+use frang_base::Block;
 use frang_base::limits::{
     KIND_DIRECTORY, KIND_FILE, KIND_LINK, LINKS_MAX, SECTOR_BYTES, SMALL_BLOCK_BYTES,
 };
@@ -26,7 +27,7 @@ fn root() -> Inode {
 }
 
 // A link to `/a` of three names, made by line 3 of run 1.
-const LINK: [Piece; 5] = [
+static LINK: [Piece; 5] = [
     (0, b"\x05"),
     (8, b"\x03\0\x03"),
     (16, b"\x02"),
@@ -35,7 +36,7 @@ const LINK: [Piece; 5] = [
 ];
 
 // A file of 258 bytes in small block 9, made by line 1 of run 2 and last written in run 3 at tick 513.
-const TIMED: [Piece; 6] = [
+static TIMED: [Piece; 6] = [
     (0, b"\x04"),
     (8, b"\x01\0\x01\0\x01\0\0\0\x02\x01"),
     (24, b"\x01\0\0\0\x02"),
@@ -94,35 +95,38 @@ fn a_link_is_read_field_by_field(rt: HostRuntime) {
     assert!(rt; decode(&block_of(&LINK)) == Some(link));
 }
 
+// A place of the link, the byte that stands there instead, and whether the block is then an inode's.
+static LINKS_CHANGED: [(usize, u8, bool); 18] = [
+    (0, 6, true),
+    (8, 4, false),
+    (9, 1, false),
+    (10, 0, false),
+    (12, 1, false),
+    (14, 1, false),
+    (16, 3, false),
+    (17, 2, false),
+    (32, 1, false),
+    (96, 1, false),
+    (100, 1, false),
+    (107, 1, false),
+    (108, 1, false),
+    (128, 0x20, false),
+    (128, 0x7F, false),
+    (129, 0xFF, true),
+    (130, b'b', false),
+    (511, 1, false),
+];
+
+// Whether the block is an inode's with another byte at a place.
+fn fits_with(block: &Block, at: usize, byte: u8) -> bool {
+    decode(&with(block, at, byte)).is_some()
+}
+
 #[test]
 fn a_link_with_one_byte_changed(rt: HostRuntime) {
-    // A place, the byte that stands there instead, and whether the block is then an inode's.
-    let cases = [
-        (0, 6, true),
-        (8, 4, false),
-        (9, 1, false),
-        (10, 0, false),
-        (12, 1, false),
-        (14, 1, false),
-        (16, 3, false),
-        (17, 2, false),
-        (32, 1, false),
-        (96, 1, false),
-        (100, 1, false),
-        (107, 1, false),
-        (108, 1, false),
-        (128, 0x20, false),
-        (128, 0x7F, false),
-        (129, 0xFF, true),
-        (130, b'b', false),
-        (511, 1, false),
-    ];
     let link = block_of(&LINK);
-    for (at, byte, fits) in cases {
-        assert!(rt;
-            decode(&with(&link, at, byte)).is_some() == fits,
-            "byte {at}"
-        );
+    for (at, byte, fits) in &LINKS_CHANGED {
+        assert!(rt; fits_with(&link, *at, *byte) == *fits, "byte {at}");
     }
 }
 
@@ -136,44 +140,50 @@ fn a_file_with_its_time(rt: HostRuntime) {
     assert!(rt; decode(&block_of(&TIMED)) == Some(timed));
 }
 
+// A place of the file, the byte that stands there instead, and the time that it then has, if the block is an inode's.
+static TIMED_CHANGED: [(usize, u8, Option<u64>); 9] = [
+    (100, 0, Some(12_884_902_400)),
+    (104, 0, Some(513)),
+    (107, 255, Some(18_374_686_492_556_526_081)),
+    (108, 1, None),
+    (127, 1, None),
+    (128, 1, None),
+    (8, 0, None),
+    (8, 2, None),
+    (8, 3, None),
+];
+
+// The time of the block's inode, with another byte at a place.
+fn time_with(block: &Block, at: usize, byte: u8) -> Option<u64> {
+    decode(&with(block, at, byte)).map(|inode| inode.when)
+}
+
 #[test]
 fn a_timed_file_with_one_byte_changed(rt: HostRuntime) {
-    // A place, the byte that stands there instead, and the time that the file then has, if the block is an inode's.
-    let cases = [
-        (100, 0, Some(12_884_902_400)),
-        (104, 0, Some(513)),
-        (107, 255, Some(18_374_686_492_556_526_081)),
-        (108, 1, None),
-        (127, 1, None),
-        (128, 1, None),
-        (8, 0, None),
-        (8, 2, None),
-        (8, 3, None),
-    ];
     let timed = block_of(&TIMED);
-    for (at, byte, time) in cases {
-        let found = decode(&with(&timed, at, byte));
-        assert!(rt; found.map(|inode| inode.when) == time, "byte {at}");
+    for (at, byte, time) in &TIMED_CHANGED {
+        assert!(rt; time_with(&timed, *at, *byte) == *time, "byte {at}");
     }
+}
+
+static ROOT: [Piece; 2] = [(0, b"\x01"), (8, b"\x02\0\x01")];
+
+// The first place of a time at which such a block may have another byte.
+fn first_timed(pieces: &[Piece]) -> Option<usize> {
+    let block = block_of(pieces);
+    for at in 100..108 {
+        if fits_with(&block, at, 1) {
+            return Some(at);
+        }
+    }
+    None
 }
 
 #[test]
 fn only_files_have_a_time(rt: HostRuntime) {
-    let root = block_of(&[(0, b"\x01"), (8, b"\x02\0\x01")]);
-    for at in 100..108 {
-        assert!(rt;
-            decode(&with(&root, at, 1)).is_none(),
-            "byte {at} of the root"
-        );
-        assert!(rt;
-            decode(&with(&block_of(&[]), at, 1)).is_none(),
-            "byte {at} of a free inode"
-        );
-        assert!(rt;
-            decode(&with(&block_of(&LINK), at, 1)).is_none(),
-            "byte {at} of a link"
-        );
-    }
+    assert!(rt; first_timed(&ROOT).is_none(), "the root");
+    assert!(rt; first_timed(&[]).is_none(), "a free inode");
+    assert!(rt; first_timed(&LINK).is_none(), "a link");
 }
 
 #[test]

@@ -31,33 +31,32 @@ fn parameters_of_a_disk_without_times(rt: HostRuntime) {
     assert!(rt; decode(&worked) == Some(param));
 }
 
+// A place, the byte that stands there instead, and whether the block is then a parameter sector.
+static CHANGED: [(usize, u8, bool); 17] = [
+    (0, 0x66, false),
+    (7, 0x53, false),
+    (8, 0, false),
+    (8, 1, true),
+    (8, 3, false),
+    (8, 255, false),
+    (9, 1, false),
+    (11, 1, false),
+    (12, 0, false),
+    (12, 1, true),
+    (12, 64, true),
+    (12, 65, false),
+    (15, 1, false),
+    (16, 0, false),
+    (19, 255, true),
+    (20, 1, false),
+    (511, 1, false),
+];
+
 #[test]
 fn parameters_with_one_byte_changed(rt: HostRuntime) {
-    // A place, the byte that stands there instead, and whether the block is then a parameter sector.
-    let cases = [
-        (0, 0x66, false),
-        (7, 0x53, false),
-        (8, 0, false),
-        (8, 1, true),
-        (8, 3, false),
-        (8, 255, false),
-        (9, 1, false),
-        (11, 1, false),
-        (12, 0, false),
-        (12, 1, true),
-        (12, 64, true),
-        (12, 65, false),
-        (15, 1, false),
-        (16, 0, false),
-        (19, 255, true),
-        (20, 1, false),
-        (511, 1, false),
-    ];
     let fresh = block_of(&FRESH_PARAMETERS);
-    for (at, byte, fits) in cases {
-        assert!(rt;
-            decode(&with(&fresh, at, byte)).is_some() == fits,
-            "byte {at}"
-        );
+    for (at, byte, fits) in &CHANGED {
+        let found = decode(&with(&fresh, *at, *byte));
+        assert!(rt; found.is_some() == *fits, "byte {at}");
     }
 }

@@ -1,25 +1,27 @@
 // The patches between two blocks.
-use crate::builders::{Run, are_runs, block_of, lay};
+use crate::builders::{Piece, Run, are_runs, block_of, lay};
 use block_patches::{patches_of, patches_with};
 use std::test::Fail;
 
+// Bytes of the new block: its first, those of both ends, and two apart by one.
+static NEW: [Piece; 4] = [
+    (0, b"\x09"),
+    (8, b"\x01\x02"),
+    (100, b"\x03\0\x04"),
+    (510, b"\x05\x06"),
+];
+
+static RUNS: [Run; 4] = [
+    (8, b"\x01\x02"),
+    (100, b"\x03"),
+    (102, b"\x04"),
+    (510, b"\x05\x06"),
+];
+
 #[test]
 fn runs_are_as_long_as_they_can_be(rt: HostRuntime) -> Result<(), Fail> {
-    // Bytes of the new block: its first, those of both ends, and two apart by one.
-    let new = block_of(&[
-        (0, b"\x09"),
-        (8, b"\x01\x02"),
-        (100, b"\x03\0\x04"),
-        (510, b"\x05\x06"),
-    ]);
-    let found = patches_of(rt.alloc(), &block_of(&[]), &new)?;
-    let runs = [
-        (8, b"\x01\x02".as_slice()),
-        (100, b"\x03".as_slice()),
-        (102, b"\x04".as_slice()),
-        (510, b"\x05\x06".as_slice()),
-    ];
-    assert!(rt; are_runs(&found, &runs));
+    let found = patches_of(rt.alloc(), &block_of(&[]), &block_of(&NEW))?;
+    assert!(rt; are_runs(&found, &RUNS));
     Ok(())
 }
 
@@ -32,43 +34,45 @@ fn no_patches_where_only_the_version_differs(rt: HostRuntime) -> Result<(), Fail
     Ok(())
 }
 
+// The forced places, and the one run of a block of sevens that stays as it is.
+static FORCED: [(usize, usize, &[Run]); 7] = [
+    (100, 108, &[(100, b"\x07\x07\x07\x07\x07\x07\x07\x07")]),
+    (6, 10, &[(8, b"\x07\x07")]),
+    (510, 512, &[(510, b"\x07\x07")]),
+    (511, 600, &[(511, b"\x07")]),
+    (0, 8, &[]),
+    (100, 100, &[]),
+    (101, 100, &[]),
+];
+
 #[test]
 fn forced_places_are_patched_where_nothing_differs(rt: HostRuntime) -> Result<(), Fail> {
-    // The forced places, and the one run of a block of sevens that stays as it is.
-    let cases: [(usize, usize, &'static [Run]); 7] = [
-        (100, 108, &[(100, b"\x07\x07\x07\x07\x07\x07\x07\x07")]),
-        (6, 10, &[(8, b"\x07\x07")]),
-        (510, 512, &[(510, b"\x07\x07")]),
-        (511, 600, &[(511, b"\x07")]),
-        (0, 8, &[]),
-        (100, 100, &[]),
-        (101, 100, &[]),
-    ];
     let block = [7; 512];
-    for (from, to, runs) in cases {
-        let found = patches_with(rt.alloc(), &block, &block, &(from..to))?;
+    for (from, to, runs) in &FORCED {
+        let found = patches_with(rt.alloc(), &block, &block, &(*from..*to))?;
         assert!(rt; are_runs(&found, runs), "from {from} to {to}");
     }
     Ok(())
 }
 
+// Bytes of the new block, and the runs where the places 100 to 103 are forced over zeros.
+static JOINED: [(&[Run], &[Run]); 5] = [
+    (&[(102, b"\x05")], &[(100, b"\0\0\x05\0")]),
+    (&[(99, b"\x05")], &[(99, b"\x05\0\0\0\0")]),
+    (&[(104, b"\x05")], &[(100, b"\0\0\0\0\x05")]),
+    (
+        &[(98, b"\x05"), (105, b"\x06")],
+        &[(98, b"\x05"), (100, b"\0\0\0\0"), (105, b"\x06")],
+    ),
+    (&[(0, b"\x05")], &[(100, b"\0\0\0\0")]),
+];
+
 #[test]
 fn forced_places_join_what_differs(rt: HostRuntime) -> Result<(), Fail> {
-    // Bytes of the new block, and the runs where the places 100 to 103 are forced over zeros.
-    let cases: [(&'static [Run], &'static [Run]); 5] = [
-        (&[(102, b"\x05")], &[(100, b"\0\0\x05\0")]),
-        (&[(99, b"\x05")], &[(99, b"\x05\0\0\0\0")]),
-        (&[(104, b"\x05")], &[(100, b"\0\0\0\0\x05")]),
-        (
-            &[(98, b"\x05"), (105, b"\x06")],
-            &[(98, b"\x05"), (100, b"\0\0\0\0"), (105, b"\x06")],
-        ),
-        (&[(0, b"\x05")], &[(100, b"\0\0\0\0")]),
-    ];
-    for (bytes, runs) in cases {
+    for (bytes, runs) in &JOINED {
         let old = block_of(&[]);
         let mut new = old;
-        for (at, there) in bytes {
+        for (at, there) in *bytes {
             lay(&mut new, (usize::from(*at), *there));
         }
         let found = patches_with(rt.alloc(), &old, &new, &(100..104))?;

@@ -1,6 +1,7 @@
 -- What a status means, in words.
-use Rattle.std.specs.Prelude.{ℕ, ◌==◌, if◌then◌else◌, Option, Some, None, List, ◌++◌, codes}
+use Rattle.std.specs.Prelude.{ℕ, ◌-◌, ◌==◌, if◌then◌else◌, Option, Some, None, List, ◌++◌, codes}
 use Rattle.std.specs.Fmt.{decimal}
+use Rattle.frang_base.specs.declared.limits.TheConstants.{SCRIPT_BYTES_MAX, SCRIPT_LINES_MAX, SERVERS, TARGET_BYTES_MAX, WRITE_BYTES_MAX}
 use Rattle.script_definitions.specs.ScriptFaults.{kind_of}
 use Rattle.image_commands.specs.Sentences.{fault_sentence}
 use Rattle.script_definitions.specs.declared.fault.LineFault.{LineFault}
@@ -30,10 +31,10 @@ fault_words fault.MissingWord = codes "a word is missing"
 fault_words fault.ExtraWord = codes "a word too many"
 fault_words fault.BadNumber = codes "not a number, or out of range"
 fault_words fault.BadPath = codes "not a path"
-fault_words fault.BadServer = codes "not a server, which are 0 to 15"
-fault_words fault.TooManyLines = codes "more than 65536 lines"
-fault_words fault.ScriptTooLong = codes "more than 1048576 bytes"
-fault_words fault.TextTooLong = codes "a text of more than 512 bytes, or a target of more than 384"
+fault_words fault.BadServer = codes "not a server, which are 0 to " ++ decimal (SERVERS - 1)
+fault_words fault.TooManyLines = codes "more than " ++ (decimal SCRIPT_LINES_MAX ++ codes " lines")
+fault_words fault.ScriptTooLong = codes "more than " ++ (decimal SCRIPT_BYTES_MAX ++ codes " bytes")
+fault_words fault.TextTooLong = codes "a text of more than " ++ (decimal WRITE_BYTES_MAX ++ (codes " bytes, or a target of more than " ++ decimal TARGET_BYTES_MAX))
 fault_words fault.AfterHalt = codes "a command after halt"
 
 abbrev pub words_for : Option LineFault → List ℕ

@@ -4,6 +4,9 @@ ghost use Rattle.frang_top.specs.Sentences.{fault_with, fault_words, file_words,
 
 use crate::outcome::Status;
 use frang_base::NoMemory;
+use frang_base::limits::{
+    SCRIPT_BYTES_MAX, SCRIPT_LINES_MAX, SERVERS, TARGET_BYTES_MAX, WRITE_BYTES_MAX,
+};
 use image_commands::fault_sentence;
 use script_definitions::LineFault;
 use std::alloc::Global;
@@ -37,31 +40,43 @@ fn fault_with(kind: u64) -> Option<LineFault>
     }
 }
 
-fn fault_words(fault: LineFault) -> &'static str
-    ensures { result.now ≡ fault_words fault }
+fn fault_words(alloc: Global, fault: LineFault) -> Result<String, NoMemory>
+    ensures { IfOk result (λ text. string_bytes text ≡ fault_words fault) }
 {
-    match fault {
-        LineFault::NotText => "not UTF-8, or a word with a control character",
-        LineFault::UnknownWord => "an unknown word where a command must stand",
-        LineFault::MissingWord => "a word is missing",
-        LineFault::ExtraWord => "a word too many",
-        LineFault::BadNumber => "not a number, or out of range",
-        LineFault::BadPath => "not a path",
-        LineFault::BadServer => "not a server, which are 0 to 15",
-        LineFault::TooManyLines => "more than 65536 lines",
-        LineFault::ScriptTooLong => "more than 1048576 bytes",
-        LineFault::TextTooLong => "a text of more than 512 bytes, or a target of more than 384",
-        LineFault::AfterHalt => "a command after halt",
-    }
+    let text = match fault {
+        LineFault::NotText => {
+            format!(in alloc; "not UTF-8, or a word with a control character")?
+        }
+        LineFault::UnknownWord => {
+            format!(in alloc; "an unknown word where a command must stand")?
+        }
+        LineFault::MissingWord => format!(in alloc; "a word is missing")?,
+        LineFault::ExtraWord => format!(in alloc; "a word too many")?,
+        LineFault::BadNumber => format!(in alloc; "not a number, or out of range")?,
+        LineFault::BadPath => format!(in alloc; "not a path")?,
+        LineFault::BadServer => {
+            let last = SERVERS - 1;
+            format!(in alloc; "not a server, which are 0 to {last}")?
+        }
+        LineFault::TooManyLines => format!(in alloc; "more than {SCRIPT_LINES_MAX} lines")?,
+        LineFault::ScriptTooLong => format!(in alloc; "more than {SCRIPT_BYTES_MAX} bytes")?,
+        LineFault::TextTooLong => {
+            format!(in alloc;
+                "a text of more than {WRITE_BYTES_MAX} bytes, or a target of more than {TARGET_BYTES_MAX}"
+            )?
+        }
+        LineFault::AfterHalt => format!(in alloc; "a command after halt")?,
+    };
+    Ok(text)
 }
 
 // The words for the kind of a script's first fault, by its number.
-fn kind_words(kind: u64) -> &'static str
-    ensures { result.now ≡ kind_words kind }
+fn kind_words(alloc: Global, kind: u64) -> Result<String, NoMemory>
+    ensures { IfOk result (λ text. string_bytes text ≡ kind_words kind) }
 {
     match fault_with(kind) {
-        Some(fault) => fault_words(fault),
-        None => "a form that isn't built yet",
+        Some(fault) => fault_words(alloc, fault),
+        None => Ok(format!(in alloc; "a form that isn't built yet")?),
     }
 }
 
@@ -80,11 +95,14 @@ impl Status {
     {
         let line = self.line;
         let at = self.at;
-        let words = kind_words(at);
         let file = file_words(line);
         let text = match self.code {
             0 => format!(in alloc; "all was done")?,
-            1 => format!(in alloc; "line {line}: {words}")?,
+            1 => {
+                let fault = kind_words(alloc, at)?;
+                let words = fault.as_str();
+                format!(in alloc; "line {line}: {words}")?
+            }
             2 => format!(in alloc; "the words are no command; the commands are")?,
             3 => format!(in alloc; "want of memory")?,
             4 => format!(in alloc; "the {file} can't be read")?,

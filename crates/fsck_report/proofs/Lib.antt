@@ -1,11 +1,3 @@
-pub mod Walking
-pub mod FirstUsers
-pub mod Within
-pub mod Counted
-pub mod Named
-pub mod Repeated
-pub mod PartRules
-pub mod CountRules
 pub mod Gathered
 pub mod Pushed
 pub mod Reported

@@ -12,7 +12,7 @@ use Rattle.disk_reading.specs.Fits.{segment_fits, inode_fits}
 use Rattle.report_definitions.specs.View.{View, view_of, IsReach}
 use Rattle.report_definitions.specs.Report.{report_by, view_by, IsReport}
 use Rattle.fsck_report.specs.declared.report.Report.{Report}
-use Rattle.fsck_report.specs.Seen.{view_in}
+use Rattle.report_rules.specs.Seen.{view_in}
 use Rattle.fsck_report.specs.Told.{told, IsReportOf}
 
 -- a replay leaves the parameters

@@ -1,11 +1,3 @@
-pub mod Seen
-pub mod Walks
-pub mod Users
-pub mod Directories
-pub mod Names
-pub mod Repeats
-pub mod Tables
 pub mod Told
-pub mod Entries
 pub mod Line
 pub mod Parts

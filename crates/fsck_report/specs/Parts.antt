@@ -4,7 +4,7 @@ use Rattle.disk_reading.specs.Marks.{flag_at}
 use Rattle.disk_reading.specs.Seen.{store_in}
 use Rattle.report_definitions.specs.Sums.{Fault}
 use Rattle.report_definitions.specs.Report.{segment_faults}
-use Rattle.fsck_report.specs.Seen.{view_in}
+use Rattle.report_rules.specs.Seen.{view_in}
 use Rattle.fsck_report.specs.Told.{blocks_of, inodes_of}
 
 unfoldable pub segment_part : ℕ → ℕ → List (ℕ × List ℕ) → List Bool → ℕ → List Fault

@@ -7,7 +7,7 @@ use Rattle.disk_definitions.specs.Store.{Store}
 use Rattle.report_definitions.specs.Sums.{Fault as Pair, gathered}
 use Rattle.report_definitions.specs.View.{View, IsReach}
 use Rattle.report_definitions.specs.Report.{Report as Wanted, inode_faults, part_faults, report_by}
-use Rattle.fsck_report.specs.Seen.{stored}
+use Rattle.report_rules.specs.Seen.{stored}
 use Rattle.fsck_report.specs.declared.report.Fault.{Fault}
 use Rattle.fsck_report.specs.declared.report.Report.{Report}
 

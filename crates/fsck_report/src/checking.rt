@@ -8,15 +8,14 @@ ghost use Rattle.disk_reading.specs.Seen.{store_in};
 ghost use Rattle.report_definitions.specs.Sums as sums;
 ghost use Rattle.report_definitions.specs.Report as report;
 ghost use Rattle.report_definitions.specs.Laws.{StandsForSome};
-ghost use Rattle.fsck_report.specs.Seen.{stored, view_in};
+ghost use Rattle.report_rules.specs.Seen.{stored, view_in};
+ghost use Rattle.report_rules.specs.Tables.{AreTables};
 ghost use Rattle.fsck_report.specs.Parts as spec;
 ghost use Rattle.fsck_report.specs.Told.{faults_told, told, AreParts, IsPart, IsReportOf};
-ghost use Rattle.fsck_report.specs.Tables.{AreTables};
 
-use crate::counts::{count_of_kind, count_used};
+use crate::counts::count_of_kind;
 use crate::faults::{inode_faults, part_faults, segment_faults};
 use crate::report::{Fault, Report};
-use crate::tables::{Tables, read_tables};
 use disk_definitions::Disk;
 use disk_reading::{DecodedDisk, replayed};
 use frang_base::limits::{
@@ -25,6 +24,7 @@ use frang_base::limits::{
 };
 use frang_base::{NoMemory, Sector};
 use param_block::Param;
+use report_rules::{Tables, read_tables};
 use std::alloc::Global;
 use std::thread::{Threads, map_indices};
 
@@ -265,8 +265,8 @@ fn report_of<R: Threads + Sync>(
         dirs: count_of_kind(disk, segments, &tables.reached, KIND_DIRECTORY),
         files: count_of_kind(disk, segments, &tables.reached, KIND_FILE),
         links: count_of_kind(disk, segments, &tables.reached, KIND_LINK),
-        blocks: count_used(&tables.small, SEGMENT_BLOCKS * segments),
-        larges: count_used(&tables.large, segments),
+        blocks: tables.small.count(SEGMENT_BLOCKS * segments),
+        larges: tables.large.count(segments),
         faults,
         stands,
     })

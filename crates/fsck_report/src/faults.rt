@@ -5,19 +5,19 @@ ghost use Rattle.disk_reading.specs.Marks.{flag_at};
 ghost use Rattle.disk_reading.specs.Seen.{store_in};
 ghost use Rattle.report_definitions.specs.Sums as sums;
 ghost use Rattle.report_definitions.specs.Report as report;
-ghost use Rattle.fsck_report.specs.Seen.{stored, view_in};
+ghost use Rattle.report_rules.specs.Seen.{stored, view_in};
+ghost use Rattle.report_rules.specs.Tables.{AreTables};
 ghost use Rattle.fsck_report.specs.Told.{faults_told};
-ghost use Rattle.fsck_report.specs.Tables.{AreTables};
 
-use crate::inodes::{are_blocks_fine, is_count_fine, is_named_once, is_root_fine};
-use crate::parts::{are_entries_fine, is_sector_fine};
 use crate::report::Fault;
-use crate::segments::{are_bits_fine, is_mark_fine, is_segment_fine};
-use crate::tables::Tables;
 use disk_reading::DecodedDisk;
 use frang_base::NoMemory;
 use frang_base::limits::{SEGMENT_BLOCKS, SEGMENT_INODES, SEGMENTS_MAX, SMALL_BLOCK_SECTORS};
 use frang_layout::{Region, sector_of};
+use report_rules::Tables;
+use report_rules::inodes::{are_blocks_fine, is_count_fine, is_named_once, is_root_fine};
+use report_rules::parts::{are_entries_fine, is_sector_fine};
+use report_rules::segments::{are_bits_fine, is_mark_fine, is_segment_fine};
 use std::alloc::Global;
 
 // Adds the fault of a sector, where it isn't fine.

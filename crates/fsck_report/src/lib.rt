@@ -3,23 +3,11 @@
 //! definition of reports, on the reader of disks and on the replay of logs.
 #![tactic(auto)]
 
-mod blocks;
 mod checking;
 mod counts;
-mod directories;
-mod entries;
 mod faults;
-mod flags;
-mod inodes;
 mod line;
-mod names;
-mod parts;
-mod reach;
-mod repeats;
 mod report;
-mod segments;
-mod tables;
-mod users;
 
 pub use checking::{check, check_sectors};
 pub use line::report_line;

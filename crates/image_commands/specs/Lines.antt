@@ -3,6 +3,7 @@ use Rattle.std.specs.Prelude.{◌≡◌, ℕ, Option, Some, None, List, [], ◌�
 use Rattle.std.specs.List.{flat_map}
 use Rattle.frang_base.specs.declared.limits.TheConstants.{LOGS}
 use Rattle.frang_base.specs.declared.change.Redo.{Redo}
+use Rattle.frang_base.specs.declared.sector.OpNo.{OpNo}
 use Rattle.frang_base.specs.declared.said.Said.{Said}
 use Rattle.frang_base.specs.declared.said.Said.TheVariants as said
 use Rattle.std.specs.Global.{Vec}
@@ -30,6 +31,11 @@ redo_line r = said.Redo r.op
 abbrev pub recovered_by : ℕ → List Redo → List Said
 recovered_by server [] = []
 recovered_by server (r ∷ rs) = said.Recovered (record { 0 = server }) (record { 0 = greatest_operation (r ∷ rs) }) ∷ []
+
+-- the same by the greatest operation alone, none where the log holds no record
+abbrev pub recovered_line : ℕ → Option OpNo → List Said
+recovered_line server None = []
+recovered_line server (Some op) = said.Recovered (record { 0 = server }) op ∷ []
 
 -- the lines of the first logs, as far as they hold records
 unfoldable pub recovered_below : Sectors → ℕ → List Said

@@ -1,18 +1,18 @@
 // The lines of a disk.
-ghost use Rattle.std.specs.Prelude.{◌≡◌, ◌↔◌, ◌++◌, map, true, is_some, IfOk, OnOk};
-ghost use Rattle.sector_bytes.specs.Sectors.{sectors_of};
+ghost use Rattle.std.specs.Prelude.{◌≡◌, ◌↔◌, ◌++◌, length, map, true, is_some, IfOk, OnOk};
+ghost use Rattle.sector_bytes.specs.Sectors.{sectors_of, Sectors};
 ghost use Rattle.sector_definitions.specs.Params.{param_in};
+ghost use Rattle.disk_replay.specs.Laid.{AreGreatest};
 ghost use Rattle.report_definitions.specs.Laws.{StandsForSome};
-ghost use Rattle.image_commands.specs.Lines.{recovered_below, recovered_by, records_in, redo_line, EndsWithTree, GivesLines, IsCheck, IsLog, IsTree};
+ghost use Rattle.image_commands.specs.Lines.{recovered_below, recovered_line, redo_line, EndsWithTree, GivesLines, IsCheck, IsLog, IsTree};
 ghost use Rattle.image_commands.specs.Recovered.{GivesRecovery};
 
 use disk_definitions::Disk;
 use disk_reading::lines_read;
-use disk_replay::{records_of, replay_in_place};
+use disk_replay::{records_of, replay_in_place, replay_with_greatest};
 use frang_base::limits::LOGS;
-use frang_base::{NoMemory, Redo, Said, ServerId};
+use frang_base::{NoMemory, OpNo, Redo, Said, ServerId};
 use fsck_report::{check_sectors, report_line};
-use log_reading::greatest_operation;
 use std::alloc::Global;
 use std::thread::Threads;
 
@@ -46,7 +46,7 @@ pub fn tree_said<R: Threads + Sync>(
     requires { is_some (param_in (sectors_of disk 0)) ≡ true }
     ensures { IfOk result (GivesLines IsTree disk) }
 {
-    let new = replay_in_place(rt, alloc, disk)?;
+    let new = replay_in_place(alloc, disk)?;
     let sound = stands(rt, alloc, &new)?;
     if !sound {
         return Ok(None);
@@ -86,7 +86,7 @@ pub fn check_said<R: Threads + Sync>(
     requires { is_some (param_in (sectors_of disk 0)) ≡ true }
     ensures { IfOk result (λ lines. IsCheck disk lines.items) }
 {
-    let new = replay_in_place(rt, alloc, disk)?;
+    let new = replay_in_place(alloc, disk)?;
     let report = check_sectors(rt, alloc, &new)?;
     let line = report_line(alloc, &report)?;
     let mut lines = Vec::new(alloc);
@@ -94,36 +94,30 @@ pub fn check_said<R: Threads + Sync>(
     Ok(lines)
 }
 
-// Adds the line of a log, where it holds a record.
-fn push_recovered(
-    alloc: Global,
-    disk: &Disk,
-    server: u8,
-    lines: &mut Vec<Said>,
-) -> Result<(), NoMemory>
-    ensures { OnOk result (lines.new.items ≡ lines.old.items ++ recovered_by server (records_in (sectors_of disk.now) server)) }
+// Adds the line of a log, where it held a record.
+fn push_recovered(server: u8, greatest: Option<OpNo>, lines: &mut Vec<Said>) -> Result<(), NoMemory>
+    ensures { OnOk result (lines.new.items ≡ lines.old.items ++ recovered_line server greatest) }
 {
-    let records = records_of(alloc, disk, ServerId(server))?;
-    match records.as_slice() {
-        [] => Ok(()),
-        [_, ..] => {
+    match greatest {
+        Some(keeps) => {
             lines.push(Said::Recovered {
                 server: ServerId(server),
-                keeps: greatest_operation(&records),
+                keeps,
             })?;
             Ok(())
         }
+        None => Ok(()),
     }
 }
 
-// The lines of the logs that hold a record, ascending.
-#[tactic(auto, using(crate::proofs::LineLaws::recovered_none, crate::proofs::LineLaws::recovered_more))]
-fn recovered_said(alloc: Global, disk: &Disk) -> Result<Vec<Said>, NoMemory>
-    ensures { IfOk result (λ lines. lines.items ≡ recovered_below (sectors_of disk.now) LOGS) }
+// The lines of the logs that held a record, ascending, by the greatest operation that each held.
+fn recovered_said(alloc: Global, greatest: &[Option<OpNo>]) -> Result<Vec<Said>, NoMemory>
+    requires { length greatest.now ≡ LOGS }
+    ensures { IfOk result (λ lines. (sectors : Sectors) → AreGreatest LOGS sectors greatest.now → lines.items ≡ recovered_below sectors LOGS) }
 {
     let mut lines = Vec::new(alloc);
     for server in 0..LOGS {
-        push_recovered(alloc, disk, server as u8, &mut lines)?;
+        push_recovered(server as u8, greatest[server], &mut lines)?;
     }
     Ok(lines)
 }
@@ -144,12 +138,15 @@ pub fn recovery_of<R: Threads + Sync>(
     requires { is_some (param_in (sectors_of disk 0)) ≡ true }
     ensures { IfOk result (GivesRecovery disk) }
 {
-    let before = recovered_said(alloc, &disk)?;
-    let new = replay_in_place(rt, alloc, disk)?;
-    let sound = stands(rt, alloc, &new)?;
+    let replay = replay_with_greatest(alloc, disk)?;
+    let before = recovered_said(alloc, &replay.greatest)?;
+    let sound = stands(rt, alloc, &replay.disk)?;
     if !sound {
         return Ok(None);
     }
-    let lines = with_tree(alloc, &new, before)?;
-    Ok(Some(Recovery { disk: new, lines }))
+    let lines = with_tree(alloc, &replay.disk, before)?;
+    Ok(Some(Recovery {
+        disk: replay.disk,
+        lines,
+    }))
 }

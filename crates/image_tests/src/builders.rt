@@ -1,4 +1,4 @@
-// Images by their bytes, and what a call of the program on one tells.
+// Images by their bytes, and what calls of the program on them tell.
 use frang_base::NoMemory;
 use frang_outside::{Act, FileFault, Files, MemFiles, MemOutside, NoGate};
 use frang_top::{Status, frang};
@@ -8,38 +8,14 @@ use std::thread::Threads;
 /// Bytes from a place on.
 pub type Piece = (usize, &'static [u8]);
 
-/// The bytes of the fresh image of 16 segments that aren't zero: mark and count, the parameters, the segment, the root.
-pub static FRESH: [Piece; 8] = [
-    (0, b"FRANGIM1\x03"),
-    (24, b"FRANGPAR\x02\0\0\0\x10\0\0\0\x01"),
-    (540, b"\x01"),
-    (544, b"\x01"),
-    (552, b"\x01"),
-    (1059, b"\x80\x02"),
-    (1064, b"\x01"),
-    (1072, b"\x02\0\x01"),
-];
-
-/// Its length.
-pub const FRESH_LEN: usize = 1576;
+/// The status of a call by its code, its line and its place.
+pub type Ending = (u8, u32, u64);
 
 /// All was done.
-pub const DONE: Status = Status {
-    code: 0,
-    line: 0,
-    at: 0,
-    sector: 0,
-};
+pub const DONE: Ending = (0, 0, 0);
 
-/// A status of these three numbers.
-pub fn status_with(code: u8, line: u32, at: u64) -> Status {
-    Status {
-        code,
-        line,
-        at,
-        sector: 0,
-    }
-}
+/// Words in a line, the status of a call with them, and what it says.
+pub type Row = (&'static str, Ending, &'static str);
 
 /// How a call ended, and the lines that it said.
 #[derive(Drop)]
@@ -78,21 +54,38 @@ impl Files for FixedFiles {
     }
 }
 
-/// Puts the bytes of pieces in place of those that stand there.
-pub fn lay(bytes: &mut [u8], pieces: &[Piece]) {
-    for piece in pieces {
-        let (place, new) = *piece;
-        for (there, byte) in bytes.iter_mut().skip(place).zip(new) {
-            *there = *byte;
-        }
+/// Puts bytes in place of those that stand there from a place on. What is past the end is left out.
+pub fn lay(bytes: &mut [u8], place: usize, new: &[u8]) {
+    for (there, byte) in bytes.iter_mut().skip(place).zip(new) {
+        *there = *byte;
     }
 }
 
-/// Zeros of this length, but for these pieces.
-pub fn image_of(alloc: Global, len: usize, pieces: &[Piece]) -> Result<Vec<u8>, AllocError> {
+/// The same of each piece.
+pub fn lay_all(bytes: &mut [u8], pieces: &[Piece]) {
+    for (place, new) in pieces {
+        lay(bytes, *place, new);
+    }
+}
+
+/// Zeros of this length, but for these pieces, the later ones laid over the others.
+pub fn image_of(
+    alloc: Global,
+    len: usize,
+    pieces: &[Piece],
+    later: &[Piece],
+) -> Result<Vec<u8>, AllocError> {
     let mut image = vec![in alloc; 0; len]?;
-    lay(&mut image, pieces);
+    lay_all(&mut image, pieces);
+    lay_all(&mut image, later);
     Ok(image)
+}
+
+/// The file `img`, which holds this image, and no other.
+pub fn files_of(alloc: Global, image: &[u8]) -> Result<MemFiles, NoMemory> {
+    let mut files = MemFiles::new(alloc);
+    files.put_file("img", image)?;
+    Ok(files)
 }
 
 /// The lines said, one after another.
@@ -128,14 +121,28 @@ pub fn tell_over<R: Threads + Sync, F: Files>(
     Ok(Told { status, text })
 }
 
-/// What a call with these words tells where the file `img` holds this image, and no other file is there.
-pub fn tell(
-    rt: &(impl Threads + Sync),
+/// Whether a call ended so and said this.
+pub fn is_so(told: &Told, ending: Ending, text: &str) -> bool {
+    let (code, line, at) = ending;
+    told.status.code == code
+        && told.status.line == line
+        && told.status.at == at
+        && told.status.sector == 0
+        && told.text.as_slice() == text.as_bytes()
+}
+
+/// The first row, from 1 on, whose call over these files tells otherwise; 0 where there is none.
+pub fn first_other<R: Threads + Sync, F: Files>(
+    rt: &R,
     alloc: Global,
-    image: &[u8],
-    line: &str,
-) -> Result<Told, NoMemory> {
-    let mut files = MemFiles::new(alloc);
-    files.put_file("img", image)?;
-    tell_over(rt, alloc, line, &mut files)
+    files: &mut F,
+    rows: &[Row],
+) -> Result<usize, NoMemory> {
+    for (i, row) in rows.iter().enumerate() {
+        let (words, ending, text) = *row;
+        if !is_so(&tell_over(rt, alloc, words, files)?, ending, text) {
+            return Ok(i.saturating_add(1));
+        }
+    }
+    Ok(0)
 }

@@ -1,11 +1,27 @@
 // The fresh image, and what one change makes of it: how a command ends, having said nothing, and in which words.
-use crate::builders::{DONE, FRESH, FRESH_LEN, Piece, image_of, lay, tell};
+use crate::builders::{DONE, Piece, Row, files_of, first_other, image_of, tell_over};
 use frang_base::NoMemory;
+use frang_outside::MemFiles;
 use std::alloc::Global;
 use std::test::Fail;
 use std::thread::Threads;
 
-// What is laid over the fresh image, and how many bytes are then kept; the place and the kind of the fault, and its words.
+// The bytes of the fresh image of 16 segments that aren't zero: mark and count, the parameters, the segment, the root.
+static FRESH: [Piece; 8] = [
+    (0, b"FRANGIM1\x03"),
+    (24, b"FRANGPAR\x02\0\0\0\x10\0\0\0\x01"),
+    (540, b"\x01"),
+    (544, b"\x01"),
+    (552, b"\x01"),
+    (1059, b"\x80\x02"),
+    (1064, b"\x01"),
+    (1072, b"\x02\0\x01"),
+];
+
+// Its length.
+const FRESH_LEN: usize = 1576;
+
+// What is laid over the fresh image, and how many bytes of it are there; the place and the kind of the fault, and its words.
 type Damage = (&'static [Piece], usize, u64, u32, &'static str);
 
 static DAMAGES: [Damage; 13] = [
@@ -123,24 +139,21 @@ static NO_TREE: [Damage; 1] = [(
     "image: its replayed disk stands for no tree",
 )];
 
-fn damaged(alloc: Global, damage: &Damage) -> Result<Vec<u8>, NoMemory> {
-    let (pieces, keep, _, _, _) = *damage;
-    let mut image = image_of(alloc, FRESH_LEN, &FRESH)?;
-    lay(&mut image, pieces);
-    image.truncate(keep);
-    Ok(image)
+// The file `img`, which holds so many bytes of the fresh image with these laid over it.
+fn fresh_files(alloc: Global, len: usize, later: &[Piece]) -> Result<MemFiles, NoMemory> {
+    files_of(alloc, &image_of(alloc, len, &FRESH, later)?)
 }
 
-// A command tells a damage as it is.
-fn is_told(
+// A command refuses a damage as what it is.
+fn is_refused(
     rt: &(impl Threads + Sync),
     alloc: Global,
     words: &str,
     damage: &Damage,
 ) -> Result<bool, NoMemory> {
-    let (_, _, at, kind, sentence) = *damage;
-    let image = damaged(alloc, damage)?;
-    let told = tell(rt, alloc, &image, words)?;
+    let (pieces, len, at, kind, sentence) = *damage;
+    let mut files = fresh_files(alloc, len, pieces)?;
+    let told = tell_over(rt, alloc, words, &mut files)?;
     let status = told.status;
     let said = status.sentence(alloc)?;
     Ok(
@@ -152,66 +165,86 @@ fn is_told(
     )
 }
 
-// The first of these damages, from 1 on, that the command tells otherwise; 0 where there is none.
-fn first_other(
+// The first of these damages, from 1 on, that a command refuses otherwise; 0 where there is none.
+fn first_not_refused(
     rt: &(impl Threads + Sync),
     alloc: Global,
     words: &str,
     damages: &[Damage],
 ) -> Result<usize, NoMemory> {
     for (i, damage) in damages.iter().enumerate() {
-        if !is_told(rt, alloc, words, damage)? {
+        if !is_refused(rt, alloc, words, damage)? {
             return Ok(i.saturating_add(1));
         }
     }
     Ok(0)
 }
 
+// How many of these commands refuse these damages as what they are.
+fn refusing(
+    rt: &(impl Threads + Sync),
+    alloc: Global,
+    commands: &[&str],
+    damages: &[Damage],
+) -> Result<usize, NoMemory> {
+    let mut count: usize = 0;
+    for words in commands {
+        if first_not_refused(rt, alloc, words, damages)? == 0 {
+            count = count.saturating_add(1);
+        }
+    }
+    Ok(count)
+}
+
+static COMMANDS: [&str; 4] = [
+    "tree img",
+    "recover img --save new",
+    "log img 0",
+    "fsck img",
+];
+
 #[test]
 fn damaged_images_are_refused_where_they_are_damaged(rt: HostRuntime) -> Result<(), Fail> {
-    for words in [
-        "tree img",
-        "recover img --save new",
-        "log img 0",
-        "fsck img",
-    ] {
-        assert_eq!(rt;
-            first_other(&rt, rt.alloc(), words, &DAMAGES)?,
-            0,
-            "{words}"
-        );
-    }
-    for words in ["tree img", "recover img --save new"] {
-        assert_eq!(rt;
-            first_other(&rt, rt.alloc(), words, &NO_TREE)?,
-            0,
-            "{words}"
-        );
-    }
+    assert!(rt; refusing(&rt, rt.alloc(), &COMMANDS, &DAMAGES)? == 4);
     Ok(())
+}
+
+// Those that need a tree.
+static OF_TREES: [&str; 2] = ["tree img", "recover img --save new"];
+
+#[test]
+fn an_image_without_a_tree_is_refused(rt: HostRuntime) -> Result<(), Fail> {
+    assert!(rt; refusing(&rt, rt.alloc(), &OF_TREES, &NO_TREE)? == 2);
+    Ok(())
+}
+
+// The report of the check of the disk with it.
+const REPORT: &str =
+    "{\"blocks\":0,\"dirs\":1,\"faults\":[[4294967296,7]],\"files\":0,\"larges\":0,\"links\":0,\"segments\":16,\"stands\":false}\n";
+
+static TREELESS: [Row; 2] = [("log img 0", DONE, "! end\n"), ("fsck img", DONE, REPORT)];
+
+// The first of these rows, from 1 on, that is told otherwise of the fresh image with these laid over it; 0 where there is none.
+fn first_other_of(
+    rt: &(impl Threads + Sync),
+    alloc: Global,
+    later: &[Piece],
+    rows: &[Row],
+) -> Result<usize, NoMemory> {
+    let mut files = fresh_files(alloc, FRESH_LEN, later)?;
+    first_other(rt, alloc, &mut files, rows)
 }
 
 #[test]
 fn a_log_is_read_and_a_check_told_also_where_no_tree_stands(rt: HostRuntime) -> Result<(), Fail> {
-    let mut image = image_of(rt.alloc(), FRESH_LEN, &FRESH)?;
-    lay(&mut image, &UNREACHED);
-    let told = tell(&rt, rt.alloc(), &image, "log img 0")?;
-    assert!(rt; told.status == DONE);
-    assert!(rt; told.text.as_slice() == b"! end\n".as_slice());
-    let told = tell(&rt, rt.alloc(), &image, "fsck img")?;
-    assert!(rt; told.status == DONE);
-    assert!(rt;
-        told.text.as_slice()
-            == b"{\"blocks\":0,\"dirs\":1,\"faults\":[[4294967296,7]],\"files\":0,\"larges\":0,\"links\":0,\"segments\":16,\"stands\":false}\n".as_slice()
-    );
+    assert!(rt; first_other_of(&rt, rt.alloc(), &UNREACHED, &TREELESS)? == 0);
     Ok(())
 }
 
+static WHOLE: [Row; 1] = [("recover img", DONE, "= / dir 0\n! end\n")];
+
 #[test]
 fn the_fresh_image_has_an_empty_root(rt: HostRuntime) -> Result<(), Fail> {
-    let image = image_of(rt.alloc(), FRESH_LEN, &FRESH)?;
-    let told = tell(&rt, rt.alloc(), &image, "recover img")?;
-    assert!(rt; told.status == DONE);
-    assert!(rt; told.text.as_slice() == b"= / dir 0\n! end\n".as_slice());
+    assert!(rt; first_other_of(&rt, rt.alloc(), &[], &WHOLE)? == 0);
     Ok(())
 }

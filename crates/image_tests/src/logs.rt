@@ -1,6 +1,7 @@
 // An image whose two logs hold a record each: a file that server 0 made, and one that server 1 made. Nothing of them stands in place.
 use crate::builders::{
-    DONE, FixedFiles, Piece, image_of, lay, lines_said, status_with, tell, tell_over, words_of,
+    DONE, Ending, FixedFiles, Piece, Row, Told, files_of, first_other, image_of, is_so, lay_all,
+    lines_said, tell_over, words_of,
 };
 use frang_base::NoMemory;
 use frang_outside::{FaultyOutside, Files, MemFiles, NoGate};
@@ -12,9 +13,21 @@ use std::thread::Threads;
 // Five sectors: the parameters, a sector of each log, the segment, the root.
 const LEN: usize = 2616;
 
-// The record of a file `a` in the root by operation 1.2: the segment with its inode and the root's first block, the root, the inode, the
-// entry.
-static FIRST_RECORD: [Piece; 12] = [
+// What stands around the records, on a disk of format 1 with 16 segments.
+static FRAME: [Piece; 8] = [
+    (0, b"FRANGIM1\x05"),
+    (24, b"FRANGPAR\x01\0\0\0\x10\0\0\0\x01"),
+    (1580, b"\x01"),
+    (1584, b"\x01"),
+    (1592, b"\x01"),
+    (2099, b"\x80\x02"),
+    (2104, b"\x01"),
+    (2112, b"\x02\0\x01"),
+];
+
+static RECORDS: [Piece; 24] = [
+    // The record of a file `a` in the root by operation 1.2: the segment with its inode and the root's first block, the root, the inode, the
+    // entry.
     (536, b"\0\0\0\x80\0\0\0\0"),
     (
         544,
@@ -30,10 +43,7 @@ static FIRST_RECORD: [Piece; 12] = [
     (651, b"\x18\0\x05\0\x02\0\0\0\x01"),
     (660, b"\0\0\0\0\x03\0\0\0\x01\0\0\0\0\0\0\0\x01\0"),
     (678, b"\x08\0\x07\0\x01\0\0\0\x01\x01a"),
-];
-
-// That of a file `b` by operation 1.5, in the log of server 1.
-static SECOND_RECORD: [Piece; 12] = [
+    // That of a file `b` by operation 1.5, in the log of server 1.
     (1056, b"\0\0\x80\x80\0\0\0\0"),
     (
         1064,
@@ -51,23 +61,15 @@ static SECOND_RECORD: [Piece; 12] = [
     (1188, b"\x50\0\x07\0\x02\0\0\0\x01\x01b"),
 ];
 
-// What stands around them, on a disk of format 1 with 16 segments.
-static FRAME: [Piece; 8] = [
-    (0, b"FRANGIM1\x05"),
-    (24, b"FRANGPAR\x01\0\0\0\x10\0\0\0\x01"),
-    (1580, b"\x01"),
-    (1584, b"\x01"),
-    (1592, b"\x01"),
-    (2099, b"\x80\x02"),
-    (2104, b"\x01"),
-    (2112, b"\x02\0\x01"),
-];
-
-fn with_logs(alloc: Global) -> Result<Vec<u8>, AllocError> {
-    let mut image = image_of(alloc, LEN, &FRAME)?;
-    lay(&mut image, &FIRST_RECORD);
-    lay(&mut image, &SECOND_RECORD);
+// The image, these laid over it.
+fn logs_image(alloc: Global, later: &[Piece]) -> Result<Vec<u8>, AllocError> {
+    let mut image = image_of(alloc, LEN, &FRAME, &RECORDS)?;
+    lay_all(&mut image, later);
     Ok(image)
+}
+
+fn logs_files(alloc: Global, later: &[Piece]) -> Result<MemFiles, NoMemory> {
+    files_of(alloc, &logs_image(alloc, later)?)
 }
 
 const RECOVERED: &str =
@@ -75,29 +77,24 @@ const RECOVERED: &str =
 
 const TREE: &str = "= / dir 2\n= /a file 0 1\n= /b file 0 1\n! end\n";
 
-// Words in a line, the status of a call with them where the image is the file `img`, and what it says.
-type Row = (&'static str, (u8, u32, u64), &'static str);
+const BAD_WORDS: Ending = (2, 0, 0);
 
-const WHOLE: (u8, u32, u64) = (0, 0, 0);
-
-const BAD_WORDS: (u8, u32, u64) = (2, 0, 0);
-
-const UNREAD: (u8, u32, u64) = (4, 1, 0);
+const UNREAD: Ending = (4, 1, 0);
 
 // The report of its check.
 const REPORT: &str =
     "{\"blocks\":1,\"dirs\":1,\"faults\":[],\"files\":2,\"larges\":0,\"links\":0,\"segments\":16,\"stands\":true}\n";
 
 static ROWS: [Row; 36] = [
-    ("recover img", WHOLE, RECOVERED),
-    ("recover img --save new", WHOLE, RECOVERED),
-    ("recover --save new img", WHOLE, RECOVERED),
-    ("recover --save=new -- img", WHOLE, RECOVERED),
-    ("tree img", WHOLE, TREE),
-    ("tree -- img", WHOLE, TREE),
-    ("log img 0", WHOLE, "# 1.2\n! end\n"),
-    ("log img 1", WHOLE, "# 1.5\n! end\n"),
-    ("log img 255", WHOLE, "! end\n"),
+    ("recover img", DONE, RECOVERED),
+    ("recover img --save new", DONE, RECOVERED),
+    ("recover --save new img", DONE, RECOVERED),
+    ("recover --save=new -- img", DONE, RECOVERED),
+    ("tree img", DONE, TREE),
+    ("tree -- img", DONE, TREE),
+    ("log img 0", DONE, "# 1.2\n! end\n"),
+    ("log img 1", DONE, "# 1.5\n! end\n"),
+    ("log img 255", DONE, "! end\n"),
     ("log img 256", BAD_WORDS, ""),
     ("log img 01", BAD_WORDS, ""),
     ("log img -1", BAD_WORDS, ""),
@@ -116,8 +113,8 @@ static ROWS: [Row; 36] = [
     ("recover img --save --new", BAD_WORDS, ""),
     ("recover img --save new --save=new", BAD_WORDS, ""),
     ("recover img --segments 16", BAD_WORDS, ""),
-    ("fsck img", WHOLE, REPORT),
-    ("fsck -- img", WHOLE, REPORT),
+    ("fsck img", DONE, REPORT),
+    ("fsck -- img", DONE, REPORT),
     ("fsck", BAD_WORDS, ""),
     ("fsck img img", BAD_WORDS, ""),
     ("fsck img --save new", BAD_WORDS, ""),
@@ -127,109 +124,111 @@ static ROWS: [Row; 36] = [
     ("log -- -img 0", UNREAD, ""),
 ];
 
-// The first row, from 1 on, whose call tells otherwise; 0 where there is none.
-fn first_other(rt: &(impl Threads + Sync), alloc: Global) -> Result<usize, NoMemory> {
-    let image = with_logs(alloc)?;
-    for (i, row) in ROWS.iter().enumerate() {
-        let (words, (code, line, at), text) = *row;
-        let told = tell(rt, alloc, &image, words)?;
-        if told.status != status_with(code, line, at) || told.text.as_slice() != text.as_bytes() {
-            return Ok(i.saturating_add(1));
-        }
-    }
-    Ok(0)
-}
-
 #[test]
 fn logs_are_replayed_and_told_where_the_words_are_a_command(rt: HostRuntime) -> Result<(), Fail> {
-    assert_eq!(rt; first_other(&rt, rt.alloc())?, 0);
+    let mut files = logs_files(rt.alloc(), &[])?;
+    assert!(rt; first_other(&rt, rt.alloc(), &mut files, &ROWS)? == 0);
     Ok(())
 }
 
+// How many bytes a file has; 0 where it isn't there.
+fn length_of(alloc: Global, files: &mut MemFiles, name: &str) -> usize {
+    match files.read(alloc, name, 1_000_000) {
+        Ok(bytes) => bytes.len(),
+        Err(_) => 0,
+    }
+}
+
+static SAVED: [Row; 3] = [
+    ("recover img --save=-new", DONE, RECOVERED),
+    ("recover -- -new", DONE, TREE),
+    ("log -- -new 0", DONE, "! end\n"),
+];
+
 #[test]
 fn a_saved_recovery_has_no_logs_left(rt: HostRuntime) -> Result<(), Fail> {
-    let mut files = MemFiles::new(rt.alloc());
-    files.put_file("img", &with_logs(rt.alloc())?)?;
-    let told = tell_over(&rt, rt.alloc(), "recover img --save=-new", &mut files)?;
-    assert!(rt; told.status == DONE);
-    let saved = files
-        .read(rt.alloc(), "-new", 1_000_000)
-        .ok()
-        .ok_or("the saved image isn't there")?;
+    let mut files = logs_files(rt.alloc(), &[])?;
+    assert!(rt; first_other(&rt, rt.alloc(), &mut files, &SAVED)? == 0);
     // The inodes and the block of the two files are three sectors more, and the logs two less.
-    assert_eq!(rt; saved.len(), 3136);
-    let told = tell_over(&rt, rt.alloc(), "recover -- -new", &mut files)?;
-    assert!(rt; told.status == DONE);
-    assert!(rt; told.text.as_slice() == TREE.as_bytes());
-    let told = tell_over(&rt, rt.alloc(), "log -- -new 0", &mut files)?;
-    assert!(rt; told.text.as_slice() == b"! end\n".as_slice());
+    assert!(rt; length_of(rt.alloc(), &mut files, "-new") == 3136);
     Ok(())
 }
 
 // The bytes 22 to 24 of a log's sector, which have to be zero.
 static ODD_SLOT: [Piece; 1] = [(566, b"\x01")];
 
+const ODD: Status = Status {
+    code: 6,
+    line: 7,
+    at: 536,
+    sector: 2_147_483_648,
+};
+
 #[test]
 fn a_damaged_log_is_told_by_its_sector(rt: HostRuntime) -> Result<(), Fail> {
-    let mut image = with_logs(rt.alloc())?;
-    lay(&mut image, &ODD_SLOT);
-    let told = tell(&rt, rt.alloc(), &image, "log img 1")?;
-    assert!(rt; told.text.is_empty());
+    let mut files = logs_files(rt.alloc(), &ODD_SLOT)?;
+    let told = tell_over(&rt, rt.alloc(), "log img 1", &mut files)?;
+    assert!(rt; told.status == ODD && told.text.is_empty());
+    let words = ODD.sentence(rt.alloc())?;
     assert!(rt;
-        told.status
-            == (Status {
-                code: 6,
-                line: 7,
-                at: 536,
-                sector: 2_147_483_648,
-            })
-    );
-    let words = told.status.sentence(rt.alloc())?;
-    assert!(rt;
-        words.as_str() == "image: the log slot of sector 2147483648 isn't one, at byte 536",
-        "{words}"
+        words.as_str() == "image: the log slot of sector 2147483648 isn't one, at byte 536"
     );
     Ok(())
+}
+
+// How a call ends that cannot say these lines.
+fn tell_without(
+    rt: &(impl Threads + Sync),
+    alloc: Global,
+    words: &[String],
+    files: &mut MemFiles,
+    lines: Vec<u64>,
+) -> (Status, FaultyOutside) {
+    let out = FaultyOutside::new(alloc, Vec::new(alloc), Vec::new(alloc), lines);
+    frang(rt, alloc, words, files, out, &NoGate)
+}
+
+// What is told of the tree where the outside fails at the third line.
+fn told_in_part(rt: &(impl Threads + Sync), alloc: Global) -> Result<Told, NoMemory> {
+    let mut files = logs_files(alloc, &[])?;
+    let words = words_of(alloc, "tree img")?;
+    let third = vec![in alloc; 3]?;
+    let (status, out) = tell_without(rt, alloc, &words, &mut files, third);
+    let text = lines_said(alloc, out.acts())?;
+    Ok(Told { status, text })
 }
 
 #[test]
 fn a_failing_outside_ends_a_command(rt: HostRuntime) -> Result<(), Fail> {
-    let mut files = MemFiles::new(rt.alloc());
-    files.put_file("img", &with_logs(rt.alloc())?)?;
-    let out = FaultyOutside::new(
-        rt.alloc(),
-        Vec::new(rt.alloc()),
-        Vec::new(rt.alloc()),
-        vec![in rt.alloc(); 3]?,
-    );
-    let words = words_of(rt.alloc(), "tree img")?;
-    let (status, out) = frang(&rt, rt.alloc(), &words, &mut files, out, &NoGate);
-    assert!(rt; status == status_with(5, 0, 2));
-    assert!(rt;
-        lines_said(rt.alloc(), out.acts())?.as_slice() == b"= / dir 2\n= /a file 0 1\n".as_slice()
-    );
+    let told = told_in_part(&rt, rt.alloc())?;
+    assert!(rt; is_so(&told, (5, 0, 2), "= / dir 2\n= /a file 0 1\n"));
     Ok(())
 }
 
+// A recovery that is to be saved.
+static UNSAVED: [Row; 1] = [("recover img --save new", (7, 0, 0), RECOVERED)];
+
 #[test]
-fn a_file_that_cannot_be_written_or_is_too_long_ends_a_command(
-    rt: HostRuntime,
-) -> Result<(), Fail> {
+fn a_file_that_cannot_be_written_ends_a_command(rt: HostRuntime) -> Result<(), Fail> {
+    let image = Some(logs_image(rt.alloc(), &[])?);
     let mut files = FixedFiles {
-        image: Some(with_logs(rt.alloc())?),
+        image,
         write_faults: 0,
     };
-    let told = tell_over(&rt, rt.alloc(), "recover img --save new", &mut files)?;
-    assert!(rt; told.status == status_with(7, 0, 0));
-    assert!(rt; told.text.as_slice() == RECOVERED.as_bytes());
-    assert_eq!(rt; files.write_faults, 1);
+    assert!(rt; first_other(&rt, rt.alloc(), &mut files, &UNSAVED)? == 0);
+    assert!(rt; files.write_faults == 1);
+    Ok(())
+}
+
+static TOO_LONG: [Row; 1] = [("recover img --save new", (8, 1, 536_870_912), "")];
+
+#[test]
+fn a_file_that_is_too_long_ends_a_command(rt: HostRuntime) -> Result<(), Fail> {
     let mut files = FixedFiles {
         image: None,
         write_faults: 0,
     };
-    let told = tell_over(&rt, rt.alloc(), "recover img --save new", &mut files)?;
-    assert!(rt; told.status == status_with(8, 1, 536_870_912));
-    assert!(rt; told.text.is_empty());
-    assert_eq!(rt; files.write_faults, 0);
+    assert!(rt; first_other(&rt, rt.alloc(), &mut files, &TOO_LONG)? == 0);
+    assert!(rt; files.write_faults == 0);
     Ok(())
 }

@@ -1,5 +1,5 @@
 // Disks of both formats by their bytes, and the times of their files.
-use crate::builders::{Piece, image_of, lay};
+use crate::builders::{Piece, image_of};
 use disk_reading::tree_read;
 use frang_base::NoMemory;
 use image_file::read_image;
@@ -42,9 +42,10 @@ fn time_of(node: Option<&Node>) -> Option<u64> {
     }
 }
 
-// The times of the files `a` and `b` in the tree that an image stands for.
-fn times(alloc: Global, image: &[u8]) -> Result<(Option<u64>, Option<u64>), NoMemory> {
-    let Ok(disk) = read_image(alloc, image) else {
+// The times of the files `a` and `b` in the tree that the image stands for, these pieces laid over it.
+fn times(alloc: Global, later: &[Piece]) -> Result<(Option<u64>, Option<u64>), NoMemory> {
+    let image = image_of(alloc, LEN, &WITHOUT_TIMES, later)?;
+    let Ok(disk) = read_image(alloc, &image) else {
         return Ok((None, None));
     };
     let Some(tree) = tree_read(alloc, &disk)? else {
@@ -55,10 +56,8 @@ fn times(alloc: Global, image: &[u8]) -> Result<(Option<u64>, Option<u64>), NoMe
 
 #[test]
 fn a_file_has_the_time_that_its_disk_keeps(rt: HostRuntime) -> Result<(), Fail> {
-    let mut image = image_of(rt.alloc(), LEN, &WITHOUT_TIMES)?;
-    assert!(rt; times(rt.alloc(), &image)? == (Some(0), Some(0)));
-    lay(&mut image, &WITH_TIMES);
+    assert!(rt; times(rt.alloc(), &[])? == (Some(0), Some(0)));
     // Run 3 times 2^32, and the tick.
-    assert!(rt; times(rt.alloc(), &image)? == (Some(12_884_902_401), Some(0)));
+    assert!(rt; times(rt.alloc(), &WITH_TIMES)? == (Some(12_884_902_401), Some(0)));
     Ok(())
 }

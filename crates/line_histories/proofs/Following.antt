@@ -300,7 +300,8 @@ all_follow segments when opening first_tree numbers h home logged first times be
 
 -- ---- worlds
 
-distinct_kept : (numbers : List ℕ) (tree : FileTree) (keep : Commit → Bool) (h : List Item) → Distinct (MayNumber numbers) tree h → Distinct (MayNumber numbers) tree (kept keep h)
+-- what removals leave has numbers of its own
+pub distinct_kept : (numbers : List ℕ) (tree : FileTree) (keep : Commit → Bool) (h : List Item) → Distinct (MayNumber numbers) tree h → Distinct (MayNumber numbers) tree (kept keep h)
 distinct_kept numbers tree keep [] d = tt
 distinct_kept numbers tree keep (Done c ∷ h) d =
     by_keep (Distinct (MayNumber numbers) tree) (keep c) (Done c) (kept keep h)
@@ -308,7 +309,7 @@ distinct_kept numbers tree keep (Done c ∷ h) d =
     (λ e. distinct_kept numbers tree keep h d.2)
 distinct_kept numbers tree keep (Doubt m ∷ h) d = distinct_kept numbers tree keep h d
 
-distinct_left : (numbers : List ℕ) (tree : FileTree) (w : World) → Distinct (MayNumber numbers) tree (settled w.history) → (n : ℕ) → Distinct (MayNumber numbers) tree (left w n)
+pub distinct_left : (numbers : List ℕ) (tree : FileTree) (w : World) → Distinct (MayNumber numbers) tree (settled w.history) → (n : ℕ) → Distinct (MayNumber numbers) tree (left w n)
 distinct_left numbers tree w d zero = d
 distinct_left numbers tree w d (suc n) =
     by_phase (Distinct (MayNumber numbers) tree) (w.phase n) n (w.durable n) (w.synced n) (left w n)

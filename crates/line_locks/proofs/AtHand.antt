@@ -116,16 +116,16 @@ module _ (o : Op) (cached : Cached) (held : Segments) (all : Bool) (sectors : Se
   abbrev p : Ask Plan
   p = plan_of_line h birth when o
 
-  is_of : IsOfTree s tree n
+  pub is_of : IsOfTree s tree n
   is_of = of_tree sectors tree below
 
-  is_hand : IsHandOf h s tree.segments
+  pub is_hand : IsHandOf h s tree.segments
   is_hand = hand op.Sync cached held all sectors tree birth when of below
 
   agree : AgreesWhereAll c s (looks p s)
   agree = agrees cached held tree.segments sectors of.as_cached below.whole (looks p s) (lines_inside o h s tree n birth when is_of is_hand)
 
-  ran : (v : Plan) → meet p c ≡ Has v → (first_missing c (looks p s) ≡ None) × (run p s ≡ v)
+  pub ran : (v : Plan) → meet p c ≡ Has v → (first_missing c (looks p s) ≡ None) × (run p s ≡ v)
   ran v e = has_all (first_missing c (looks p s)) (run p s) v (sym (meets_where p c s agree) ∙ e)
 
   -- the nodes at which it looked are those over the disk

@@ -274,6 +274,15 @@ set_has locks x c = go (mode_in (joined_all [] locks) x.0) refl
     go None e = absurd (one_at_least x.1 (subst (λ o. rank (Some x.1) ≤ rank o) e least))
     go (Some m) e = by_mode x.1 m (subst (λ o. rank (Some x.1) ≤ rank o) e least) (there m e)
 
+-- a lock that is among them sole is sole in it
+as_sole : (o : Option Mode) → rank (Some Sole) ≤ rank o → o ≡ Some Sole
+as_sole None l = absurd (omega arith)
+as_sole (Some Shared) l = absurd (omega arith)
+as_sole (Some Sole) l = refl
+
+pub sole_mode : (locks : List Lock) (l : LockId) → IsSole locks l → mode_in (joined_all [] locks) l ≡ Some Sole
+sole_mode locks l c = joined_mode locks [] l ∙ as_sole (best None locks l) (best_has None locks l Sole c)
+
 pub sets_alike : SetsAreAlike
 sets_alike locks = record {
   there = set_within locks locks [] tt (all_each (Have locks) locks (λ x c. have_it locks x c));

@@ -24,13 +24,12 @@ use Rattle.plan_laws.proofs.Covering.{has_head, has_more}
 use Rattle.plan_looks.specs.Inside.{AreInside}
 use Rattle.plan_standing.proofs.Edited.{hand}
 use Rattle.plan_standing.proofs.OfDisk.{of_tree}
-use Rattle.plan_traces.specs.Traces.{traced}
+use Rattle.plan_traces.specs.Traces.{has_version, traced}
 use Rattle.plan_traces.proofs.Traces.{traced_is_at_hand}
 use Rattle.line_definitions.specs.Lines.{plan_of_line}
 use Rattle.line_laws.proofs.Inside.{lines_inside}
 use Rattle.line_traces.proofs.Lines.{follows_disk}
 use Rattle.line_traces.proofs.Looked.{inside_first}
-use Rattle.core_definitions.specs.Plans.{has_version}
 use Rattle.line_locks.specs.Found.{nodes_in, nodes_of, with_node, with_node_in}
 use Rattle.line_locks.specs.Lines.{NumbersTellNodes}
 

@@ -21,12 +21,9 @@ use Rattle.plan_covers.proofs.Standing.{HasKind, DiskStands}
 use Rattle.plan_covers.proofs.WalksFine.{SpotStands, step_stands, kind_two}
 use Rattle.line_definitions.specs.Resolving.{PathEnd, Leads, Refused, Resolution, leads, refused, behind, passes, at_target, with_target, at_entry, at_gap, at_name, below_inode, resolve_names, resolve_from, resolve}
 use Rattle.line_definitions.specs.Lines.{step_of, by_path, is_found, by_second, by_first, over_path, over_paths, resolved}
+use Rattle.cover_laws.proofs.Entries.{Follow, FoundLeads, found_leads}
 use Rattle.line_locks.proofs.Ending.{Ends, ends_then, ends_value}
 use Rattle.line_locks.proofs.WalksEnd.{Same, search_same}
-
--- how a link is followed: with the directory that holds it, the path of this, and the names that are left
-abbrev pub Follow : Type 0
-Follow = ℕ → ℕ → List (List ℕ) → List (List ℕ) → Ask Resolution
 
 -- a walk that is refused doesn't say that something is full
 abbrev pub IsQuiet : PathEnd → Type 0
@@ -65,31 +62,6 @@ module _ (h : Hand) (s : Store) (n : Naming) (disk : DiskStands h s n) where
 
   -- ---- a name that was looked up
 
-  -- an entry that was found leads to a node
-  abbrev FoundLeads : Option Found → Type 0
-  FoundLeads None = Unit {0}
-  FoundLeads (Some (slot, None)) = Unit {0}
-  FoundLeads (Some (slot, Some entry)) = HasKind s entry.inode entry.kind
-
-  module _ (dir : ℕ) (x : StoredNode) (name : List ℕ) (is : s.inode dir ≡ Some x) (two : x.kind ≡ 2) where
-    abbrev look : Ask (Option Found)
-    look = search x.small (is_named name) 0 (8 * x.blocks)
-
-    by_spot : (dirs : List ℕ) (found : Option Found) → SpotStands h s n disk dirs (spot_by dir x name found) → FoundLeads found
-    by_spot dirs None t = tt
-    by_spot dirs (Some (slot, None)) t = tt
-    by_spot dirs (Some (slot, Some entry)) t = t.2
-
-    run_step : run (ReadInode dir (in_inode [] dir name)) s ≡ record { spot = spot_by dir x name (run look s); dirs = dir ∷ [] }
-    run_step =
-        let kind : (x.kind == 2) ≡ true = ap (λ k. nat_eq k 2) two in
-        ap (λ o. run (in_inode [] dir name o) s) is
-        ∙ ap (λ b. run (if b then look_up [] dir x name else Got (record { spot = Lost reply.NotDir; dirs = [] })) s) kind
-        ∙ run-bind {B = Walked} look (λ found. Got (record { spot = spot_by dir x name found; dirs = dir ∷ [] })) s
-
-    found_leads : FoundLeads (run look s)
-    found_leads = by_spot (dir ∷ []) (run look s) (subst (λ (w : Walked). SpotStands h s n disk w.dirs w.spot) run_step (step_stands h s n disk [] dir x name is two).spot)
-
   gap_ends : (here names : List (List ℕ)) (before : List ℕ) → All (at_gap here names) before
   gap_ends here [] before = ends_here before (Leads here None) tt
   gap_ends here (name ∷ names) before = ends_here before (Refused reply.NoEnt) refl
@@ -109,7 +81,7 @@ module _ (h : Hand) (s : Store) (n : Naming) (disk : DiskStands h s n) where
         go false true e = goes_in entry.inode (subst (HasKind s entry.inode) (kind_two entry.kind e) k) before
         go false false e = ends_here before (Refused reply.NotDir) refl
 
-    name_ends : (names : List (List ℕ)) (found : Option Found) → FoundLeads found → (before : List ℕ) → All (at_name last follow into here names found) before
+    name_ends : (names : List (List ℕ)) (found : Option Found) → FoundLeads s found → (before : List ℕ) → All (at_name last follow into here names found) before
     name_ends names None k before = gap_ends here names before
     name_ends names (Some (slot, None)) k before = gap_ends here names before
     name_ends names (Some (slot, Some entry)) k before = entry_ends names entry k before
@@ -128,7 +100,7 @@ module _ (h : Hand) (s : Store) (n : Naming) (disk : DiskStands h s n) where
         (λ found e. name_ends last to_link into (above ++ name ∷ []) (λ link kind l later. follows link kind l dir k above names later) (λ inode l later. names_end names inode l (above ++ name ∷ []) later) names found e (before ++ dir ∷ [])))
       where
         below_ends : (name : List ℕ) (dir : ℕ) (k : HasKind s dir 2) (above names : List (List ℕ)) (before : List ℕ) →
-            ((found : Option Found) → FoundLeads found →
+            ((found : Option Found) → FoundLeads s found →
             All (at_name last (λ link. follow link dir above names) (λ inode. resolve_names last follow inode (above ++ name ∷ []) names) (above ++ name ∷ []) names found) (before ++ dir ∷ [])) →
             Ends s (WalksTrail before) (below_inode last (λ link. follow link dir above names) (λ inode. resolve_names last follow inode (above ++ name ∷ []) names) (above ++ name ∷ []) dir name names (Some k.node)) (before ++ dir ∷ [])
         below_ends name dir k above names before each = go (k.node.kind == 2) refl
@@ -145,7 +117,7 @@ module _ (h : Hand) (s : Store) (n : Naming) (disk : DiskStands h s n) where
             searched : All (bind p next) passed
             searched = ends_then s (λ later found. (later ≡ passed) × (found ≡ run p s)) (WalksTrail passed) p next passed
                 (ends_value s (Same h s n disk passed) p passed (search_same h s n disk k.node.small (is_named name) (8 * k.node.blocks) 0 passed))
-                (λ later found e. subst (λ l. Ends s (WalksTrail passed) (next found) l) (sym e.0) (each found (subst FoundLeads (sym e.1) (found_leads dir k.node name k.is k.kind_is))))
+                (λ later found e. subst (λ l. Ends s (WalksTrail passed) (next found) l) (sym e.0) (each found (subst (FoundLeads s) (sym e.1) (found_leads h s n disk dir k.node name k.is k.kind_is))))
 
             go : (b : Bool) → k.node.kind == 2 ≡ b → Ends s (WalksTrail before) (if b then passes dir (bind p next) else refused reply.NotDir) passed
             go true e = passes_ends dir (bind p next) before searched

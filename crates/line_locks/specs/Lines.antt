@@ -11,9 +11,8 @@ use Rattle.plan_definitions.specs.OnDisk.{AreOfDisk, StandsBelow}
 use Rattle.plan_definitions.specs.Plans.{Finish, Lock, Plan}
 use Rattle.plan_definitions.specs.Plans.Plan.{Clears, Finishes}
 use Rattle.plan_definitions.specs.Written.{Cached, at_hand, hand_of}
-use Rattle.plan_traces.specs.Traces.{traced}
+use Rattle.plan_traces.specs.Traces.{has_version, traced}
 use Rattle.line_definitions.specs.Lines.{plan_of_line, resolved}
-use Rattle.core_definitions.specs.Plans.{has_version}
 use Rattle.line_locks.specs.Found.{clear_locks, finish_locks, nodes_in, nodes_of, owns_at_hand}
 use Rattle.line_locks.specs.Same.{AreAlike}
 

@@ -2,3 +2,4 @@ pub mod Fitting
 pub mod Behind
 pub mod Renames
 pub mod Looking
+pub mod WalkReads

@@ -1,5 +1,5 @@
 -- What the walk of a path looked at is what its operation looked at.
-use Rattle.std.proofs.Common.{◌≡◌, ℕ, List, ◌++◌, refl, Result, Ok, Err}
+use Rattle.std.proofs.Common.{◌≡◌, ℕ, List, ◌++◌, refl, Result, Ok, Err, OnOk}
 use Rattle.frang_base.specs.declared.op.Op.{Op}
 use Rattle.pick_definitions.specs.Held.{Segments}
 use Rattle.tree_definitions.specs.Perform.{Resolved}
@@ -10,17 +10,10 @@ use Rattle.line_definitions.specs.Resolving.{Resolution}
 use Rattle.dir_lookup.specs.Looks.{looks_of}
 use Rattle.dir_lookup.specs.Reading.{reading}
 use Rattle.dir_lookup.proofs.WalkLooks.{looks_got}
-use Rattle.plan_steps.specs.declared.stop.Stop.{Stop}
-use Rattle.plan_steps.specs.declared.stop.Stop.TheVariants as stop
-use Rattle.line_plan.specs.Lines.{UnlessNoMemory}
 
 pub by_path_looks : (trail : List ℕ) (make : List (List ℕ) → Op) (walk : Ask Resolution) (cached : Cached) (held : Segments) → looks_of walk cached held ≡ looks_of (bind walk (by_path trail make)) cached held
 by_path_looks trail make walk cached held = looks_got {B = Resolved} walk (λ w. record { step = step_of w.end make; trail = trail ++ w.trail }) cached held (reading walk cached held) refl
 
-pub unless_no_memory : {A P : Type 0} (result : Result A Stop) → P → UnlessNoMemory result P
-unless_no_memory (Ok a) so = so
-unless_no_memory (Err stop.NoMemory) so = tt
-unless_no_memory (Err (stop.Need sector)) so = so
-unless_no_memory (Err stop.Segments) so = so
-unless_no_memory (Err (stop.Clear block)) so = so
-unless_no_memory (Err (stop.Refused reply)) so = so
+pub on_ok : {T E A B : Type 0} (r : Result T E) → (A → B) → OnOk r A → OnOk r B
+on_ok (Ok t) f a = f a
+on_ok (Err e) f a = tt

@@ -8,8 +8,6 @@ use Rattle.tree_definitions.specs.Perform.{Step as TheStep, Goes as DoesGo, Stop
 use Rattle.line_definitions.specs.Resolving.{PathEnd}
 use Rattle.line_definitions.specs.Lines.{as_it_stands, over_path, over_paths, resolved, step_of}
 use Rattle.file_tree.specs.Walks.{with_path, with_paths}
-use Rattle.plan_steps.specs.declared.stop.Stop.{Stop}
-use Rattle.plan_steps.specs.declared.stop.Stop.TheVariants as stop
 use Rattle.line_plan.specs.declared.walks.Walks.{Walks}
 use Rattle.line_plan.specs.declared.walks.Walks.TheVariants as walks
 use Rattle.dir_lookup.specs.Reading.{Read, Lacks, Gives}
@@ -46,12 +44,6 @@ step_led (Err reply) make = DoesStop reply
 -- the walk that ended so led to this path, or was refused with this reply
 abbrev pub IsLed : PathEnd → Result (List (List ℕ)) Reply → Type 0
 IsLed end led = (make : List (List ℕ) → Op) → step_led led make ≡ step_of end make
-
--- so it is where memory isn't wanting
-abbrev pub UnlessNoMemory : {A : Type 0} → Result A Stop → Type 0 → Type 0
-UnlessNoMemory (Ok a) P = P
-UnlessNoMemory (Err stop.NoMemory) P = Unit {0}
-UnlessNoMemory (Err e) P = P
 
 -- the target of a new link may stand in an inode
 abbrev pub TargetFits : Op → Type 0

@@ -1,14 +1,16 @@
 // The plan of a line.
-ghost use Rattle.std.specs.Prelude.{◌≡◌, ◌≤◌, IfOk, length};
+ghost use Rattle.std.specs.Prelude.{◌≡◌, ◌≤◌, IfOk, OnOk, length};
 ghost use Rattle.frang_base.specs.declared.limits.TheConstants.{TARGET_BYTES_MAX};
 ghost use Rattle.plan_definitions.specs.PlanOf.{plan_of};
 ghost use Rattle.line_definitions.specs.Lines.{plan_of_line, plan_step, resolved};
 ghost use Rattle.dir_lookup.specs.Hands.{over, seen};
-ghost use Rattle.dir_lookup.specs.Looked.{Adds};
-ghost use Rattle.dir_lookup.specs.Looks.{looks_of};
-ghost use Rattle.plan_steps.specs.Ends.{Comes};
-ghost use Rattle.line_plan.specs.Lines.{StepFits, TargetFits, UnlessNoMemory, step_by};
+ghost use Rattle.dir_lookup.specs.Reading.{Gives};
+ghost use Rattle.plan_steps.specs.Ends as plans;
+ghost use Rattle.plan_steps.specs.Looking.{Looks, UnlessNoMemory};
+ghost use Rattle.line_plan.specs.Ends.{ClearsFor, Comes};
+ghost use Rattle.line_plan.specs.Lines.{StepFits, TargetFits, resolved_by, step_by};
 
+use crate::ending::{LineEnd, line_end};
 use crate::walks::{Line, Resolved, Step, resolve_line};
 use dir_lookup::{Hand, Looked};
 use frang_base::{NoMemory, Op, Reply, Text};
@@ -20,10 +22,10 @@ use std::alloc::Global;
 use tree_definitions::Target;
 
 /// How a line ends over what is at hand, which needn't be of any disk: its paths are resolved, links followed, and the operation that comes of it is
-/// planned, with the birth of its new node and the time `when`. It is done with a reply and the edits that make it; or it is refused with a reply; or it
-/// needs a sector, the first that it looks at and that isn't cached, walks included, or more segments, or a clear block. Its other refusal is want of
-/// memory. An operation without a path is refused as done. The target of a symbolic link may stand in an inode. What its walks through links looked at comes to
-/// `looked`, in order.
+/// planned, with the birth of its new node and the time `when`. It is done with a reply and the edits that make it, none where it is refused; or it
+/// needs a sector, the first that it looks at and that isn't cached, walks included, or more segments, or a clear block. An operation without a path is
+/// done as it stands. The target of a symbolic link may stand in an inode. What it looked at, walks included, comes to `looked`, in order, before a
+/// sector that isn't cached too. Its one refusal is want of memory.
 pub fn plan_line(
     alloc: Global,
     hand: &Hand,
@@ -31,15 +33,16 @@ pub fn plan_line(
     when: u64,
     op: &Op,
     looked: &mut Looked,
-) -> Result<Outcome, Stop>
+) -> Result<LineEnd, NoMemory>
     requires { TargetFits op.now }
-    ensures looks { UnlessNoMemory result (Adds looked.old looked.new (looks_of (resolved op.now) hand.now.sectors.now.entries hand.now.held.now)) }
+    ensures looks { OnOk result (Looks hand.now.sectors.now.entries hand.now.held.now looked.old looked.new (plan_of_line (seen hand.now) birth when op.now)) }
     ensures comes { Comes (over (plan_of_line (seen hand.now) birth when op.now) hand.now) result }
+    ensures clears { IfOk result (ClearsFor (over (resolved op.now) hand.now)) }
 {
     let line = resolve_line(alloc, op, hand.sectors, looked)?;
     match line {
-        Line::Need(sector) => Err(Stop::Need(sector)),
-        Line::Comes(resolved) => plan_step(alloc, hand, birth, when, resolved),
+        Line::Need(sector) => Ok(LineEnd::Need(sector)),
+        Line::Comes(resolved) => plan_step(alloc, hand, birth, when, resolved, looked),
     }
 }
 
@@ -50,41 +53,55 @@ fn plan_step(
     birth: u64,
     when: u64,
     resolved: Resolved,
-) -> Result<Outcome, Stop>
+    looked: &mut Looked,
+) -> Result<LineEnd, NoMemory>
     requires { StepFits (step_by resolved.step) }
-    ensures { Comes (over (plan_step (seen hand.now) birth when resolved.trail.items (step_by resolved.step)) hand.now) result }
+    ensures comes { Comes (over (plan_step (seen hand.now) birth when resolved.trail.items (step_by resolved.step)) hand.now) result }
+    ensures looks { OnOk result (Looks hand.now.sectors.now.entries hand.now.held.now looked.old looked.new (plan_step (seen hand.now) birth when resolved.trail.items (step_by resolved.step))) }
+    ensures clears { IfOk result (ClearsFor (Gives (resolved_by resolved))) }
 {
     let Resolved {
         step,
         trail: _trail,
     } = resolved;
     match step {
-        Step::Goes(over) => plan_op(alloc, hand, birth, when, &over),
-        Step::Stops(reply) => Err(Stop::Refused(reply)),
+        Step::Goes(over) => {
+            let ended = plan_op(alloc, hand, birth, when, &over, looked);
+            line_end(alloc, ended, over)
+        }
+        Step::Stops(reply) => Ok(LineEnd::Done(Outcome::unchanged(alloc, reply))),
     }
 }
 
 // How an operation over paths without links ends.
-fn plan_op(alloc: Global, hand: &Hand, birth: u64, when: u64, op: &Op) -> Result<Outcome, Stop>
+fn plan_op(
+    alloc: Global,
+    hand: &Hand,
+    birth: u64,
+    when: u64,
+    op: &Op,
+    looked: &mut Looked,
+) -> Result<Outcome, Stop>
     requires { TargetFits op.now }
-    ensures { Comes (over (plan_of (seen hand.now) birth when op.now) hand.now) result }
+    ensures comes { plans.Comes (over (plan_of (seen hand.now) birth when op.now) hand.now) result }
+    ensures looks { UnlessNoMemory result (Looks hand.now.sectors.now.entries hand.now.held.now looked.old looked.new (plan_of (seen hand.now) birth when op.now)) }
 {
     match op {
-        Op::Create { path } => make(alloc, hand, birth, &NewNode::File, path),
-        Op::Mkdir { path } => make(alloc, hand, birth, &NewNode::Directory, path),
+        Op::Create { path } => make(alloc, hand, birth, &NewNode::File, path, looked),
+        Op::Mkdir { path } => make(alloc, hand, birth, &NewNode::Directory, path, looked),
         Op::Symlink { path, target } => {
             let node = NewNode::Link(target_of(target)?);
-            make(alloc, hand, birth, &node, path)
+            make(alloc, hand, birth, &node, path, looked)
         }
-        Op::Link { path, to } => link_node(alloc, hand, path, to),
-        Op::Unlink { path } => unlink(alloc, hand, path),
-        Op::Rmdir { path } => remove_directory(alloc, hand, path),
-        Op::Rename { path, to } => rename_node(alloc, hand, path, to),
+        Op::Link { path, to } => link_node(alloc, hand, path, to, looked),
+        Op::Unlink { path } => unlink(alloc, hand, path, looked),
+        Op::Rmdir { path } => remove_directory(alloc, hand, path, looked),
+        Op::Rename { path, to } => rename_node(alloc, hand, path, to, looked),
         Op::Write { .. } | Op::Fill { .. } | Op::Truncate { .. } | Op::Read { .. } => {
-            plan_bytes(alloc, op, when, hand)
+            plan_bytes(alloc, op, when, hand, looked)
         }
         Op::Stat { .. } | Op::List { .. } | Op::Readlink { .. } | Op::Time { .. } => {
-            let reply = look(alloc, op, hand.sectors)?;
+            let reply = look(alloc, op, hand.sectors, looked)?;
             Ok(Outcome::unchanged(alloc, reply))
         }
         Op::Sync
@@ -93,7 +110,7 @@ fn plan_op(alloc: Global, hand: &Hand, birth: u64, when: u64, op: &Op) -> Result
         | Op::Crash
         | Op::CrashAt { .. }
         | Op::CutAt { .. }
-        | Op::Stall => Err(Stop::Refused(Reply::Ok)),
+        | Op::Stall => Ok(Outcome::unchanged(alloc, Reply::Ok)),
     }
 }
 

@@ -2,15 +2,20 @@
 ghost use Rattle.std.specs.Prelude.{IfOk};
 ghost use Rattle.line_plan.specs.Lines.{TargetFits};
 
+use crate::needed::locks_told;
 use cover_lookup::cover_of;
 use dir_lookup::{Hand, Looked};
 use edit_moves::{Move, Thing, moves_of};
-use frang_base::{NoMemory, Op, Sector, Text};
+use frang_base::{Line, NoMemory, Op, Script, Sector, ServerId, Text, What};
 use frang_layout::{Region, region_of};
-use line_plan::plan_line;
-use plan_disks::{Laid, Segment, ended_told, held_of, path_of, sectors_of};
-use plan_steps::Stop;
+use line_plan::{LineEnd, plan_line};
+use meta_version::Sectors;
+use plan_disks::{Laid, Segment, held_of, outcome_told, path_of, put_full_block, sectors_of};
+use plan_steps::Outcome;
+use script_lang::print_script;
 use std::alloc::Global;
+use std::process::Abort;
+use std::test::Fail;
 
 /// A line with its path, and with what else it has.
 #[derive(Clone, Copy)]
@@ -18,6 +23,7 @@ pub(crate) enum Act {
     Create(&'static str),
     Unlink(&'static str),
     Rmdir(&'static str),
+    Link(&'static str, &'static str),
     Rename(&'static str, &'static str),
     Write(&'static str, u32, &'static str),
     Truncate(&'static str, u32),
@@ -27,102 +33,141 @@ pub(crate) enum Act {
     Sync,
 }
 
+/// What is at hand of a disk.
+#[derive(Clone, Copy)]
+pub(crate) struct Disk {
+    /// Its sectors.
+    pub(crate) laid: &'static [Laid],
+    /// The blocks of directories in which every place has an entry.
+    pub(crate) full: &'static [u32],
+    /// Its segments that are held.
+    pub(crate) segments: &'static [Segment],
+    /// Whether these are said to be all.
+    pub(crate) all: bool,
+}
+
 /// What is asked, a sector that isn't cached, or 0, and what is told.
 pub(crate) type Row = (Act, u64, &'static str);
+
+/// What is told of the plan of a line.
+#[derive(Clone, Copy)]
+pub(crate) enum Telling {
+    /// How it ends.
+    End,
+    /// The sectors at which it looks.
+    Looks,
+    /// The locks that it needs where it is done or has a block cleared.
+    Locks,
+}
 
 // Line 7 of run 3, and tick 9 of it.
 const BIRTH: u64 = 3 * 4_294_967_296 + 7;
 
 const WHEN: u64 = 3 * 4_294_967_296 + 9;
 
-/// The first plan that isn't as worked out, with the place of its row.
-pub(crate) fn differs(
+/// Of each line is told what was worked out.
+pub(crate) fn expect(
+    rt: &impl Abort,
     alloc: Global,
-    disk: &[Laid],
-    segments: &[Segment],
+    disk: Disk,
+    telling: Telling,
     rows: &[Row],
-) -> Result<Option<(usize, String)>, NoMemory> {
+) -> Result<(), Fail> {
     for (place, row) in rows.iter().enumerate() {
-        let text = told(alloc, disk, segments, row)?;
-        if text.as_str() != row.2 {
-            return Ok(Some((place, text)));
-        }
+        let text = told(alloc, disk, telling, row)?;
+        assert!(rt; text.as_str() == row.2, "row {place}: {text}");
     }
-    Ok(None)
+    Ok(())
 }
 
-/// The first line whose walks didn't look where it was worked out, with the place of its row.
-pub(crate) fn looks_differ(
-    alloc: Global,
-    disk: &[Laid],
-    segments: &[Segment],
-    rows: &[Row],
-) -> Result<Option<(usize, String)>, NoMemory> {
-    for (place, row) in rows.iter().enumerate() {
-        let text = looks_told(alloc, disk, segments, row)?;
-        if text.as_str() != row.2 {
-            return Ok(Some((place, text)));
-        }
-    }
-    Ok(None)
-}
-
-// The sectors at which the walks of a line looked, in order.
-fn looks_told(
-    alloc: Global,
-    disk: &[Laid],
-    segments: &[Segment],
-    row: &Row,
-) -> Result<String, NoMemory> {
+fn told(alloc: Global, disk: Disk, telling: Telling, row: &Row) -> Result<String, NoMemory> {
     let (act, missing, _) = *row;
-    let mut sectors = sectors_of(alloc, disk)?;
-    sectors.remove(Sector(missing));
-    let held = held_of(alloc, segments)?;
+    let sectors = cached(alloc, disk, Sector(missing))?;
+    let held = held_of(alloc, disk.segments)?;
     let hand = Hand {
         sectors: &sectors,
         held: &held,
-        all: true,
+        all: disk.all,
     };
     let mut looked = Looked::new(alloc);
-    let _ended = plan_line(alloc, &hand, BIRTH, WHEN, &op_of(alloc, act)?, &mut looked);
+    let end = plan_line(alloc, &hand, BIRTH, WHEN, &op_of(alloc, act)?, &mut looked)?;
+    match telling {
+        Telling::End => end_told(alloc, &hand, &end),
+        Telling::Looks => looks_told(alloc, &looked.sectors()?),
+        Telling::Locks => locks_told(alloc, &hand, &looked.sectors()?, &end),
+    }
+}
+
+// The sectors of the disk but for the missing one.
+fn cached(alloc: Global, disk: Disk, missing: Sector) -> Result<Sectors, NoMemory> {
+    let mut sectors = sectors_of(alloc, disk.laid)?;
+    for block in disk.full {
+        put_full_block(&mut sectors, *block)?;
+    }
+    sectors.remove(missing);
+    Ok(sectors)
+}
+
+// The sectors at which the plan of a line looked, in order.
+fn looks_told(alloc: Global, sectors: &[Sector]) -> Result<String, NoMemory> {
     let mut text = String::new(alloc);
-    for sector in &looked.sectors()? {
+    for sector in sectors {
         text.push_str(&sector_told(alloc, *sector)?)?;
     }
     Ok(text)
 }
 
-// An inode by its number, a sector of a small block by block and part.
+// An inode by its number, a segment by its, a sector of a small block by block and part.
 fn sector_told(alloc: Global, sector: Sector) -> Result<String, NoMemory> {
     let text = match region_of(sector, 1) {
         Some(Region::Inode(number)) => format!(in alloc; "i{number} ")?,
+        Some(Region::Segment(number)) => format!(in alloc; "k{number} ")?,
         Some(Region::Small { block, part }) => format!(in alloc; "s{block}.{part} ")?,
         _ => format!(in alloc; "? ")?,
     };
     Ok(text)
 }
 
-fn told(alloc: Global, disk: &[Laid], segments: &[Segment], row: &Row) -> Result<String, NoMemory> {
-    let (act, missing, _) = *row;
-    let mut sectors = sectors_of(alloc, disk)?;
-    sectors.remove(Sector(missing));
-    let held = held_of(alloc, segments)?;
-    let hand = Hand {
-        sectors: &sectors,
-        held: &held,
-        all: true,
-    };
-    let mut looked = Looked::unasked();
-    let ended = plan_line(alloc, &hand, BIRTH, WHEN, &op_of(alloc, act)?, &mut looked);
-    let mut text = ended_told(alloc, &ended)?;
-    match &ended {
-        Ok(outcome) => {
-            for moved in &moves_of(alloc, outcome.edits.as_slice())? {
-                text.push_str(&move_told(alloc, moved)?)?;
-            }
+// How a line ends: what is done and what moves by it, or what is missing and its cover, or what has to be cleared and for which operation.
+fn end_told(alloc: Global, hand: &Hand, end: &LineEnd) -> Result<String, NoMemory> {
+    match end {
+        LineEnd::Done(outcome) => done_told(alloc, outcome),
+        LineEnd::Need(sector) => {
+            let cover = cover_told(alloc, hand, *sector)?;
+            Ok(format!(in alloc; "needs {}{cover}", sector.0)?)
         }
-        Err(Stop::Need(sector)) => text.push_str(&cover_told(alloc, &hand, *sector)?)?,
-        Err(_) => {}
+        LineEnd::Segments => Ok(format!(in alloc; "segments")?),
+        LineEnd::Clear { block, over } => {
+            let line = line_told(alloc, over)?;
+            Ok(format!(in alloc; "clear {block} for {line}")?)
+        }
+    }
+}
+
+// What is done, and what moves by it.
+fn done_told(alloc: Global, outcome: &Outcome) -> Result<String, NoMemory> {
+    let mut text = outcome_told(alloc, outcome)?;
+    for moved in &moves_of(alloc, outcome.edits.as_slice())? {
+        text.push_str(&move_told(alloc, moved)?)?;
+    }
+    Ok(text)
+}
+
+// An operation as a line of server 0 of a script.
+fn line_told(alloc: Global, op: &Op) -> Result<String, NoMemory> {
+    let mut script = Script::new(alloc);
+    script.push(Line {
+        number: 1,
+        who: ServerId(0),
+        what: What::Server(op.try_copy()?),
+    })?;
+    let mut bytes = Vec::new(alloc);
+    print_script(alloc, &script, &mut bytes)?;
+    let mut text = String::new(alloc);
+    for byte in &bytes {
+        if *byte != b'\n' {
+            text.push(char::from(*byte))?;
+        }
     }
     Ok(text)
 }
@@ -159,6 +204,10 @@ fn op_of(alloc: Global, act: Act) -> Result<Op, NoMemory>
         },
         Act::Rmdir(path) => Op::Rmdir {
             path: path_of(alloc, path)?,
+        },
+        Act::Link(path, to) => Op::Link {
+            path: path_of(alloc, path)?,
+            to: path_of(alloc, to)?,
         },
         Act::Rename(path, to) => Op::Rename {
             path: path_of(alloc, path)?,

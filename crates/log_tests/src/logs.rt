@@ -1,6 +1,6 @@
 // Logs of an older program, whose records have sectors of their own: their ends and records were worked out by hand.
 use crate::pieces::Piece::{Empty, Garbage, NoBody, Part, Placed, Record};
-use crate::pieces::{Row, first_other};
+use crate::pieces::{Row, expect};
 use std::test::Fail;
 
 static LOGS: [Row; 55] = [
@@ -348,6 +348,5 @@ static LOGS: [Row; 55] = [
 
 #[test]
 fn logs_are_read_as_worked_out_by_hand(rt: HostRuntime) -> Result<(), Fail> {
-    assert_eq!(rt; first_other(rt.alloc(), &LOGS)?, None);
-    Ok(())
+    expect(&rt, rt.alloc(), &LOGS)
 }

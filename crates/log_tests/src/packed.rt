@@ -1,6 +1,6 @@
 // Logs of packed sectors, also beside sectors of an older program: their ends and records were worked out by hand.
 use crate::pieces::Piece::{Alike, Bytes, Empty, Head, Lacks, Longer, One, Record, Two};
-use crate::pieces::{NONE, Row, first_other};
+use crate::pieces::{NONE, Row, expect};
 use std::test::Fail;
 
 static LOGS: [Row; 54] = [
@@ -332,6 +332,5 @@ static LOGS: [Row; 54] = [
 
 #[test]
 fn packed_logs_are_read_as_worked_out_by_hand(rt: HostRuntime) -> Result<(), Fail> {
-    assert_eq!(rt; first_other(rt.alloc(), &LOGS)?, None);
-    Ok(())
+    expect(&rt, rt.alloc(), &LOGS)
 }

@@ -4,6 +4,8 @@ use frang_base::limits::{LOG_BODY_BYTES, LOG_SECTORS, SECTOR_BYTES};
 use frang_base::{Block, NoMemory, OpNo, Redo};
 use log_reading::{greatest_operation, read_log};
 use std::alloc::Global;
+use std::process::Abort;
+use std::test::Fail;
 
 /// What is laid over a log of zeros, which holds the numbers 0 to 255.
 pub(crate) enum Piece {
@@ -249,13 +251,17 @@ fn are_records(records: &[Redo], operations: &[u64]) -> bool {
     records.len() == operations.len() && greatest_operation(records) == OpNo(greatest)
 }
 
-/// The first of these logs that isn't read as worked out.
-pub(crate) fn first_other(alloc: Global, rows: &[Row]) -> Result<Option<&'static str>, NoMemory> {
+fn is_read(alloc: Global, row: &Row) -> Result<bool, NoMemory> {
+    Ok(match read(alloc, row.pieces)? {
+        Some((end, records)) => end == row.end && are_records(&records, row.operations),
+        None => false,
+    })
+}
+
+/// Each of these logs is read as worked out.
+pub(crate) fn expect(rt: &impl Abort, alloc: Global, rows: &[Row]) -> Result<(), Fail> {
     for row in rows {
-        match read(alloc, row.pieces)? {
-            Some((end, records)) if end == row.end && are_records(&records, row.operations) => {}
-            _ => return Ok(Some(row.name)),
-        }
+        assert!(rt; is_read(alloc, row)?, "{}", row.name);
     }
-    Ok(None)
+    Ok(())
 }

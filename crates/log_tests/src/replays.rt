@@ -51,6 +51,11 @@ static MANY: [OneByte; 8] = [
     (LARGE_0, u64::MAX, 8, 1),
 ];
 
+// The second record of log 0, and that of log 255.
+static SECOND: [OneByte; 1] = [(INODE_1, 3, 9, 0x23)];
+
+static OTHER: [OneByte; 1] = [(INODE_1, 4, 10, 0x24)];
+
 // What those sectors and the logs hold once all is replayed. Inode 1 was changed by three records, in their order.
 static AFTER: [Row; 10] = [
     (PARAMETERS, b"FRANGPAR\x01\0\0\0\x10\0\0\0\x01"),
@@ -100,9 +105,9 @@ fn with_logs(alloc: Global) -> Result<Disk, NoMemory> {
         disk.set(Sector(*sector), block_of(bytes))?;
     }
     disk.set(Sector(LOG_0), record(alloc, 256, 5, &MANY)?)?;
-    let second = record(alloc, 257, 4, &[(INODE_1, 3, 9, 0x23)])?;
+    let second = record(alloc, 257, 4, &SECOND)?;
     disk.set(Sector(LOG_0 + 1), second)?;
-    let other = record(alloc, 256, 9, &[(INODE_1, 4, 10, 0x24)])?;
+    let other = record(alloc, 256, 9, &OTHER)?;
     disk.set(Sector(LOG_255), other)?;
     Ok(disk)
 }
@@ -126,7 +131,7 @@ fn with_packed_log(alloc: Global) -> Result<Disk, NoMemory> {
     let mut disk = with_logs(alloc)?;
     let mut bytes = Vec::new(alloc);
     push_frame(alloc, &mut bytes, 5, &MANY)?;
-    push_frame(alloc, &mut bytes, 4, &[(INODE_1, 3, 9, 0x23)])?;
+    push_frame(alloc, &mut bytes, 4, &SECOND)?;
     disk.set(Sector(LOG_0), packed_block(256, 0, &bytes))?;
     disk.set(Sector(LOG_0 + 1), [0; 512])?;
     Ok(disk)
@@ -154,10 +159,13 @@ fn is_as_worked_out(once: &Disk) -> bool {
     first_other(once, &AFTER).is_none() && once.get(Sector(BLOCK_0)) == replayed_block()
 }
 
+// Servers, and the greatest operations of their logs.
+static GREATEST: [(u8, u64); 3] = [(0, 5), (7, 0), (255, 9)];
+
 // The greatest operations of the disk's logs are as worked out.
 fn are_greatest(alloc: Global, disk: &Disk) -> Result<bool, NoMemory> {
-    for (server, op) in [(0, 5), (7, 0), (255, 9)] {
-        if greatest(alloc, disk, ServerId(server))? != OpNo(op) {
+    for (server, op) in &GREATEST {
+        if greatest(alloc, disk, ServerId(*server))? != OpNo(*op) {
             return Ok(false);
         }
     }
@@ -182,18 +190,20 @@ fn logs_are_replayed_in_their_order(rt: HostRuntime) -> Result<(), Fail> {
     Ok(())
 }
 
+// What is otherwise without parameters.
+static UNCHANGED: [Row; 4] = [
+    (PARAMETERS, b"FRANGPAR\x02"),
+    (LOG_0, b""),
+    (LOG_255, b""),
+    (BLOCK_0, b""),
+];
+
 #[test]
 fn without_parameters_no_change_is_made(rt: HostRuntime) -> Result<(), Fail> {
     let mut disk = with_logs(rt.alloc())?;
     disk.set(Sector(PARAMETERS), block_of(b"FRANGPAR\x02"))?;
     let once = replayed(rt.alloc(), &disk)?;
-    assert_eq!(rt; first_other(&once, &BEFORE[1..]), None);
-    let rows = [
-        (PARAMETERS, b"FRANGPAR\x02".as_slice()),
-        (LOG_0, b"".as_slice()),
-        (LOG_255, b"".as_slice()),
-        (BLOCK_0, b"".as_slice()),
-    ];
-    assert_eq!(rt; first_other(&once, &rows), None);
+    assert!(rt; first_other(&once, &BEFORE[1..]).is_none());
+    assert!(rt; first_other(&once, &UNCHANGED).is_none());
     Ok(())
 }

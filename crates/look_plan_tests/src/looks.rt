@@ -24,7 +24,7 @@ type Row = (Look, u64, &'static str);
 // block 2; it was written at tick 67,305,985 of run 134,678,021. The file /u was never written, and /w in the last tick of the last run. The
 // directory /d has one entry in block 1, and the link /l leads to `a/b`. The inodes of the file /m and of the directory /n aren't cached, and
 // that of /o is free. The entry of /p tells a file, but leads to the link; that of /q tells a directory, but leads to /a.
-static DISK: &[Laid] = &[
+static DISK: [Laid; 11] = [
     (
         10_737_418_240,
         1,
@@ -99,7 +99,7 @@ fn differs(alloc: Global, rows: &[Row]) -> Result<Option<(usize, String)>, NoMem
 }
 
 fn told(alloc: Global, look: Look, missing: u64) -> Result<String, NoMemory> {
-    let mut sectors = sectors_of(alloc, DISK)?;
+    let mut sectors = sectors_of(alloc, &DISK)?;
     sectors.remove(Sector(missing));
     let op = look_of(alloc, look)?;
     plan_told(alloc, &plan_look(alloc, &op, &sectors)?)
@@ -125,7 +125,7 @@ fn look_of(alloc: Global, look: Look) -> Result<Op, NoMemory>
     })
 }
 
-static LOOKS: &[Row] = &[
+static LOOKS: [Row; 24] = [
     (Look::Stat("/"), 0, "dir 11"),
     (Look::Stat("/a"), 0, "file 5 3"),
     (Look::Stat("/B"), 0, "file 5 3"),
@@ -154,11 +154,11 @@ static LOOKS: &[Row] = &[
 
 #[test]
 fn looks_at_a_small_disk(rt: HostRuntime) -> Result<(), Fail> {
-    assert_eq!(rt; differs(rt.alloc(), LOOKS)?, None);
+    assert_eq!(rt; differs(rt.alloc(), &LOOKS)?, None);
     Ok(())
 }
 
-static TIMES: &[Row] = &[
+static TIMES: [Row; 18] = [
     (Look::Time("/a"), 0, "time 134678021.67305985"),
     (Look::Time("/B"), 0, "time 134678021.67305985"),
     (Look::Time("/d/x"), 0, "time 134678021.67305985"),
@@ -182,11 +182,11 @@ static TIMES: &[Row] = &[
 
 #[test]
 fn files_have_times(rt: HostRuntime) -> Result<(), Fail> {
-    assert_eq!(rt; differs(rt.alloc(), TIMES)?, None);
+    assert_eq!(rt; differs(rt.alloc(), &TIMES)?, None);
     Ok(())
 }
 
-static ASKED_FOR: &[Row] = &[
+static ASKED_FOR: [Row; 10] = [
     (Look::Stat("/d/x"), 12_884_901_903, "file 5 3"),
     (Look::Stat("/d/y"), 12_884_901_903, "needs 12884901903"),
     (Look::List("/d"), 12_884_901_903, "needs 12884901903"),
@@ -205,6 +205,6 @@ static ASKED_FOR: &[Row] = &[
 
 #[test]
 fn a_sector_that_is_not_cached_is_asked_for(rt: HostRuntime) -> Result<(), Fail> {
-    assert_eq!(rt; differs(rt.alloc(), ASKED_FOR)?, None);
+    assert_eq!(rt; differs(rt.alloc(), &ASKED_FOR)?, None);
     Ok(())
 }

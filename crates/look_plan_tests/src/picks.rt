@@ -51,7 +51,7 @@ const FORMER_LAST: Segment = Segment {
     ..FORMER
 };
 
-static PICKS: &[Row] = &[
+static PICKS: [Row; 6] = [
     (&[], [None, None, None, None], None),
     (&[FULL, LAST_FULL], [None, None, None, None], None),
     (

@@ -30,7 +30,7 @@ const SECOND: Segment = Segment {
 };
 
 // Both are held.
-static SEGMENTS: &[Segment] = &[FIRST, SECOND];
+static SEGMENTS: [Segment; 2] = [FIRST, SECOND];
 
 // A file by line 2 of run 1. What stands in place of a target, and the version, count for nothing.
 const FILE: Inode = Inode {
@@ -145,7 +145,7 @@ const LAST_VERSION: &[Laid] = &[(10_737_418_240, 1, &[(0, &[255; 512])])];
 
 // What the edits write over the cached sectors.
 fn told(alloc: Global, cached: &[Laid], edits: &[Edit]) -> Result<String, NoMemory> {
-    let (sectors, held) = (&sectors_of(alloc, cached)?, &held_of(alloc, SEGMENTS)?);
+    let (sectors, held) = (&sectors_of(alloc, cached)?, &held_of(alloc, &SEGMENTS)?);
     let hand = Hand {
         sectors,
         held,
@@ -172,7 +172,7 @@ fn differs(alloc: Global, rows: &[Row]) -> Result<Option<(usize, String)>, NoMem
     Ok(None)
 }
 
-static EDITED: &[Row] = &[
+static EDITED: [Row; 4] = [
     (
         CACHED,
         CREATE,
@@ -193,7 +193,7 @@ static EDITED: &[Row] = &[
 
 #[test]
 fn edits_write_what_was_worked_out_by_hand(rt: HostRuntime) -> Result<(), Fail> {
-    assert_eq!(rt; differs(rt.alloc(), EDITED)?, None);
+    assert_eq!(rt; differs(rt.alloc(), &EDITED)?, None);
     Ok(())
 }
 
@@ -252,7 +252,7 @@ const AROUND: &[Laid] = &[(
     ],
 )];
 
-static BY_TIME: &[Row] = &[
+static BY_TIME: [Row; 11] = [
     // The time stays, and is in the record for all that.
     (
         AS_WRITTEN,
@@ -312,6 +312,6 @@ static BY_TIME: &[Row] = &[
 
 #[test]
 fn a_dated_inode_has_its_time_in_the_record(rt: HostRuntime) -> Result<(), Fail> {
-    assert_eq!(rt; differs(rt.alloc(), BY_TIME)?, None);
+    assert_eq!(rt; differs(rt.alloc(), &BY_TIME)?, None);
     Ok(())
 }

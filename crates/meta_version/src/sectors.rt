@@ -208,6 +208,14 @@ impl Sectors {
         ensures entries { self.new.entries ≡ without self.old.entries sector.0 }
         ensures spare { self.old.spare ≤ self.new.spare }
     {
-        self.blocks.remove(&sector.0);
+        self.remove_near(None, sector);
+    }
+
+    /// The same, looking for the sector at a place first, and then from there on.
+    pub fn remove_near(&mut self, near: Option<Place>, sector: Sector)
+        ensures entries { self.new.entries ≡ without self.old.entries sector.0 }
+        ensures spare { self.old.spare ≤ self.new.spare }
+    {
+        let _ = self.blocks.take_near(near, &sector.0);
     }
 }

@@ -3,7 +3,7 @@ ghost use Rattle.std.specs.Prelude.{IfOk};
 ghost use Rattle.plan_definitions.specs.Allowed.{IsAllowed};
 ghost use Rattle.op_dir.specs.Names.{IsOfNames};
 
-use dir_lookup::Hand;
+use dir_lookup::{Hand, Looked};
 use frang_base::{NoMemory, Op, Sector};
 use meta_version::Sectors;
 use op_dir::plan_names;
@@ -69,7 +69,8 @@ fn told(alloc: Global, disk: Disk, telling: Telling, row: &Row) -> Result<String
         held: &held,
         all,
     };
-    let ended = plan_names(alloc, &op_of(alloc, act)?, BIRTH, &hand);
+    let mut looked = Looked::unasked();
+    let ended = plan_names(alloc, &op_of(alloc, act)?, BIRTH, &hand, &mut looked);
     match telling {
         Telling::Edits => ended_told(alloc, &ended),
         Telling::Written => written_told(alloc, &hand, ended),

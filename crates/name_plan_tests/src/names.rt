@@ -41,7 +41,7 @@ const FORMER_BLOCK: Setting = (&[FORMER], true, 0);
 // The root with `f`, `d`, `l`, `e`, `h`, `w`, `v`, `m` and `o`; `d` with `g`, a second name of `f`, and with the directory `s`; a long file
 // `h`; `w` with one full block, and `v` with sixteen; `m` with 1,000 links; and `o`, whose inode is free. Blocks 0 and 6 are zeros, and so is the
 // first sector of block 24.
-static DISK: &[Laid] = &[
+static DISK: [Laid; 17] = [
     (
         10_737_418_240,
         1,
@@ -124,11 +124,11 @@ static DISK: &[Laid] = &[
 ];
 
 // The blocks of `w` and `v`.
-static FULL: &[u32] = &[
+static FULL: [u32; 17] = [
     7, 32, 33, 34, 35, 36, 37, 38, 39, 40, 41, 42, 43, 44, 45, 46, 47,
 ];
 
-static MADE: &[Row] = &[
+static MADE: [Row; 22] = [
     (
         Act::Create("/a"),
         WHOLE,
@@ -203,12 +203,12 @@ static MADE: &[Row] = &[
 
 #[test]
 fn nodes_are_made_as_worked_out_by_hand(rt: HostRuntime) -> Result<(), Fail> {
-    let differing = differs(rt.alloc(), (DISK, FULL), Telling::Edits, MADE)?;
+    let differing = differs(rt.alloc(), (&DISK, &FULL), Telling::Edits, &MADE)?;
     assert_eq!(rt; differing, None);
     Ok(())
 }
 
-static REMOVED: &[Row] = &[
+static REMOVED: [Row; 17] = [
     (
         Act::Unlink("/f"),
         NOTHING,
@@ -255,12 +255,12 @@ static REMOVED: &[Row] = &[
 
 #[test]
 fn names_are_removed_as_worked_out_by_hand(rt: HostRuntime) -> Result<(), Fail> {
-    let differing = differs(rt.alloc(), (DISK, FULL), Telling::Edits, REMOVED)?;
+    let differing = differs(rt.alloc(), (&DISK, &FULL), Telling::Edits, &REMOVED)?;
     assert_eq!(rt; differing, None);
     Ok(())
 }
 
-static LINKED: &[Row] = &[
+static LINKED: [Row; 17] = [
     (
         Act::Link("/f", "/a"),
         WHOLE,
@@ -302,7 +302,7 @@ static LINKED: &[Row] = &[
 
 #[test]
 fn links_are_made_as_worked_out_by_hand(rt: HostRuntime) -> Result<(), Fail> {
-    let differing = differs(rt.alloc(), (DISK, FULL), Telling::Edits, LINKED)?;
+    let differing = differs(rt.alloc(), (&DISK, &FULL), Telling::Edits, &LINKED)?;
     assert_eq!(rt; differing, None);
     Ok(())
 }
@@ -311,7 +311,7 @@ fn links_are_made_as_worked_out_by_hand(rt: HostRuntime) -> Result<(), Fail> {
 const TAKES_A_FORMER_BLOCK: &str =
     "ok i1:1,3,0,0 u24:Directory i6:2,1,56,2 i6:2,1,57,2 p24.0:a,1,1";
 
-static LINKED_BY_WHAT_IS_AT_HAND: &[Row] = &[
+static LINKED_BY_WHAT_IS_AT_HAND: [Row; 9] = [
     (Act::Link("/f", "/w/a"), FORMER_BLOCK, TAKES_A_FORMER_BLOCK),
     (
         Act::Link("/f", "/w/a"),
@@ -351,15 +351,15 @@ static LINKED_BY_WHAT_IS_AT_HAND: &[Row] = &[
 fn links_go_by_what_is_at_hand(rt: HostRuntime) -> Result<(), Fail> {
     let differing = differs(
         rt.alloc(),
-        (DISK, FULL),
+        (&DISK, &FULL),
         Telling::Edits,
-        LINKED_BY_WHAT_IS_AT_HAND,
+        &LINKED_BY_WHAT_IS_AT_HAND,
     )?;
     assert_eq!(rt; differing, None);
     Ok(())
 }
 
-static MOVED: &[Row] = &[
+static MOVED: [Row; 18] = [
     (Act::Rename("/f", "/a"), WHOLE, "ok p4.0:a,1,1"),
     (Act::Rename("/l", "/a"), WHOLE, "ok p4.3:a,3,3"),
     (Act::Rename("/d/g", "/d/b"), WHOLE, "ok p5.0:b,1,1"),
@@ -398,12 +398,12 @@ static MOVED: &[Row] = &[
 
 #[test]
 fn names_are_moved_as_worked_out_by_hand(rt: HostRuntime) -> Result<(), Fail> {
-    let differing = differs(rt.alloc(), (DISK, FULL), Telling::Edits, MOVED)?;
+    let differing = differs(rt.alloc(), (&DISK, &FULL), Telling::Edits, &MOVED)?;
     assert_eq!(rt; differing, None);
     Ok(())
 }
 
-static REPLACED: &[Row] = &[
+static REPLACED: [Row; 12] = [
     (
         Act::Rename("/h", "/f"),
         WHOLE,
@@ -440,7 +440,7 @@ static REPLACED: &[Row] = &[
 
 #[test]
 fn names_are_replaced_as_worked_out_by_hand(rt: HostRuntime) -> Result<(), Fail> {
-    let differing = differs(rt.alloc(), (DISK, FULL), Telling::Edits, REPLACED)?;
+    let differing = differs(rt.alloc(), (&DISK, &FULL), Telling::Edits, &REPLACED)?;
     assert_eq!(rt; differing, None);
     Ok(())
 }
@@ -450,7 +450,7 @@ const FREES_THE_LONG_FILE: &str =
     "ok i0:2,1,8,1 p4.0:- p4.5:h,1,1 u23:Unused u22:Unused u21:Unused u20:Unused u19:Unused u18:Unused u17:Unused u16:Unused \
                 u15:Unused u14:Unused u13:Unused u12:Unused u11:Unused u10:Unused u9:Unused u8:Unused g1:false i5:- b5:false";
 
-static MOVED_BY_WHAT_IS_AT_HAND: &[Row] = &[
+static MOVED_BY_WHAT_IS_AT_HAND: [Row; 11] = [
     (
         Act::Rename("/f", "/h"),
         (&[FIRST, SECOND], true, 0),
@@ -500,9 +500,9 @@ static MOVED_BY_WHAT_IS_AT_HAND: &[Row] = &[
 fn moves_go_by_what_is_at_hand(rt: HostRuntime) -> Result<(), Fail> {
     let differing = differs(
         rt.alloc(),
-        (DISK, FULL),
+        (&DISK, &FULL),
         Telling::Edits,
-        MOVED_BY_WHAT_IS_AT_HAND,
+        &MOVED_BY_WHAT_IS_AT_HAND,
     )?;
     assert_eq!(rt; differing, None);
     Ok(())

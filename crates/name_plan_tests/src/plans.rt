@@ -43,7 +43,7 @@ const NOTHING: Setting = (&[], false, 0);
 // a gap, `l`, `e`, `h`, `w` and `v`; `d` has `g`, a second name of `f`, and `s`, a file in blocks 0 and 8. `l` is a link to `/f`. The
 // directory `e` has an empty block, `v` has none, and `w` has block 7, which 56 more names of `f` fill. `h` has blocks 1030 to 1045 and
 // large block 1. `f`, `s` and `h` were written.
-static LAID: &[Laid] = &[
+static LAID: [Laid; 17] = [
     // Inode 65, which was never used, and the blocks 1 to 6.
     (10_737_418_305, 1, &[]),
     (12_884_901_896, 48, &[]),
@@ -160,7 +160,7 @@ static LAID: &[Laid] = &[
     (12_884_902_080, 1, &[(0, &[6])]),
 ];
 
-static MADE: &[Row] = &[
+static MADE: [Row; 13] = [
     (
         Act::Create("/a"),
         WHOLE,
@@ -231,12 +231,12 @@ static MADE: &[Row] = &[
 
 #[test]
 fn nodes_are_made_as_worked_out_by_hand(rt: HostRuntime) -> Result<(), Fail> {
-    let differing = differs(rt.alloc(), (LAID, &[7]), Telling::Written, MADE)?;
+    let differing = differs(rt.alloc(), (&LAID, &[7]), Telling::Written, &MADE)?;
     assert_eq!(rt; differing, None);
     Ok(())
 }
 
-static ADDED_AND_REMOVED: &[Row] = &[
+static ADDED_AND_REMOVED: [Row; 10] = [
     (
         Act::Link("/f", "/a"),
         NOTHING,
@@ -295,15 +295,15 @@ static ADDED_AND_REMOVED: &[Row] = &[
 fn names_are_added_and_removed_as_worked_out_by_hand(rt: HostRuntime) -> Result<(), Fail> {
     let differing = differs(
         rt.alloc(),
-        (LAID, &[7]),
+        (&LAID, &[7]),
         Telling::Written,
-        ADDED_AND_REMOVED,
+        &ADDED_AND_REMOVED,
     )?;
     assert_eq!(rt; differing, None);
     Ok(())
 }
 
-static CHANGED: &[Row] = &[
+static CHANGED: [Row; 11] = [
     // In its directory an entry keeps its place.
     (
         Act::Rename("/f", "/fgh"),
@@ -361,7 +361,7 @@ static CHANGED: &[Row] = &[
 
 #[test]
 fn names_are_changed_as_worked_out_by_hand(rt: HostRuntime) -> Result<(), Fail> {
-    let differing = differs(rt.alloc(), (LAID, &[7]), Telling::Written, CHANGED)?;
+    let differing = differs(rt.alloc(), (&LAID, &[7]), Telling::Written, &CHANGED)?;
     assert_eq!(rt; differing, None);
     Ok(())
 }

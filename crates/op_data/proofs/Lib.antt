@@ -12,3 +12,5 @@ pub mod Sectors
 pub mod Choices
 pub mod Ending
 pub mod Paths
+pub mod ByteLooks
+pub mod FileLooks

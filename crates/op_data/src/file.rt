@@ -8,8 +8,9 @@ ghost use Rattle.plan_definitions.specs.FilePlans.{read_sector};
 ghost use Rattle.dir_lookup.specs.Hands.{over};
 ghost use Rattle.dir_lookup.specs.Reading.{read_of, read_or_lacks};
 ghost use Rattle.op_data.specs.Files.{FindsFile, IsFile, place_of};
+ghost use Rattle.op_data.specs.Looking.{LooksAtFile};
 
-use dir_lookup::{Hand, Need, NumberedInode};
+use dir_lookup::{Hand, Looked, Need, NumberedInode};
 use frang_base::limits::{KIND_DIRECTORY, KIND_FILE, SMALL_BLOCK_SECTORS, SMALL_SECTORS_MAX};
 use frang_base::{Block, Path, Reply, Sector};
 use frang_layout::{Region, sector_of};
@@ -18,19 +19,20 @@ use plan_steps::{Stop, inode_of, target_of};
 use sector_definitions::Inode;
 
 /// The file that a path names. `Refused` where the name isn't there or is another node's, by the kind that its entry tells, and where the
-/// entry tells a file but the inode is another node's; `Need` where a sector isn't cached.
-pub(crate) fn file_of(hand: &Hand, path: &Path) -> Result<NumberedInode, Stop>
+/// entry tells a file but the inode is another node's; `Need` where a sector isn't cached. What leads to it comes to `looked`.
+pub(crate) fn file_of(hand: &Hand, path: &Path, looked: &mut Looked) -> Result<NumberedInode, Stop>
     ensures finds { FindsFile hand.now path.now result }
     ensures file { IfOk result (λ f. IsFile f.inode) }
+    ensures looks { LooksAtFile hand.now looked.old looked.new path.now result }
 {
-    let target = target_of(hand.sectors, path)?;
+    let target = target_of(hand.sectors, path, looked)?;
     if target.kind == KIND_DIRECTORY {
         return Err(Stop::Refused(Reply::IsDir));
     }
     if target.kind != KIND_FILE {
         return Err(Stop::Refused(Reply::Inval));
     }
-    let inode = inode_of(hand.sectors, target.inode)?;
+    let inode = inode_of(hand.sectors, target.inode, looked)?;
     if inode.kind != KIND_FILE {
         return Err(Stop::Refused(Reply::Inval));
     }

@@ -6,6 +6,7 @@ ghost use Rattle.dir_lookup.specs.Hands.{over, seen};
 ghost use Rattle.dir_lookup.specs.Planned.{planned};
 ghost use Rattle.dir_lookup.specs.Reading.{reading};
 ghost use Rattle.plan_steps.specs.Ends.{Comes};
+ghost use Rattle.plan_steps.specs.Looking.{Looks};
 ghost use Rattle.code_plan_laws.specs.CodeStands.{StandsOverDisks, IsExactOverDisks};
 ghost use Rattle.op_data.specs.Bytes.{IsOfBytes, IsOverADiskForBytes};
 
@@ -13,7 +14,7 @@ use crate::read::read_file;
 use crate::truncate::truncate_file;
 use crate::write::write_file;
 use crate::writing::Writing;
-use dir_lookup::Hand;
+use dir_lookup::{Hand, Looked};
 use edit_writing::finish;
 use frang_base::{Held, NoMemory, Op};
 use meta_version::{Plan, Sectors};
@@ -41,21 +42,29 @@ pub fn plan_data(
     ensures exact { (birth : ℕ) → birth < 2 ^ 64 → IfOk result (IsExactOverDisks op.now birth when sectors.now.entries held.now all) }
 {
     let hand = Hand { sectors, held, all };
-    let ended = plan_bytes(alloc, op, when, &hand);
+    let mut looked = Looked::unasked();
+    let ended = plan_bytes(alloc, op, when, &hand, &mut looked);
     finish(alloc, &hand, ended)
 }
 
 /// How the plan of an operation on file bytes, at the time `when`, ends over what is at hand, which needn't be of any disk: with the reply and
 /// the edits that make it, or with what it needs or is refused with. A file that is written or cut always has its inode among the edits.
-pub fn plan_bytes(alloc: Global, op: &Op, when: u64, hand: &Hand) -> Result<Outcome, Stop>
+pub fn plan_bytes(
+    alloc: Global,
+    op: &Op,
+    when: u64,
+    hand: &Hand,
+    looked: &mut Looked,
+) -> Result<Outcome, Stop>
     requires { IsOfBytes op.now }
-    ensures { (birth : ℕ) → Comes (over (plan_of (seen hand.now) birth when op.now) hand.now) result }
+    ensures comes { (birth : ℕ) → Comes (over (plan_of (seen hand.now) birth when op.now) hand.now) result }
+    ensures looks { (birth : ℕ) → Looks hand.now.sectors.now.entries hand.now.held.now looked.old looked.new (plan_of (seen hand.now) birth when op.now) }
 {
     match op {
         Op::Write { path, off, bytes } => {
             let off = *off;
             let bytes = Bytes::Text(bytes.as_slice());
-            write_file(alloc, hand, path, &Writing { off, when, bytes })
+            write_file(alloc, hand, path, &Writing { off, when, bytes }, looked)
         }
         Op::Fill {
             path,
@@ -65,11 +74,11 @@ pub fn plan_bytes(alloc: Global, op: &Op, when: u64, hand: &Hand) -> Result<Outc
         } => {
             let (off, len, byte) = (*off, *len, *byte);
             let bytes = Bytes::Same { len, byte };
-            write_file(alloc, hand, path, &Writing { off, when, bytes })
+            write_file(alloc, hand, path, &Writing { off, when, bytes }, looked)
         }
-        Op::Truncate { path, len } => truncate_file(alloc, hand, path, when, *len),
+        Op::Truncate { path, len } => truncate_file(alloc, hand, path, when, *len, looked),
         Op::Read { path, off, len } => {
-            let reply = read_file(alloc, hand, path, *off, *len)?;
+            let reply = read_file(alloc, hand, path, *off, *len, looked)?;
             Ok(Outcome::unchanged(alloc, reply))
         }
         _ => unreachable!(),

@@ -5,10 +5,11 @@ ghost use Rattle.disk_definitions.specs.Store.{stored};
 ghost use Rattle.plan_definitions.specs.FilePlans.{plan_read, sectors_met, showing};
 ghost use Rattle.dir_lookup.specs.Hands.{over};
 ghost use Rattle.plan_steps.specs.Ends.{Says};
+ghost use Rattle.plan_steps.specs.Looking.{Looks};
 ghost use Rattle.op_data.specs.Files.{ReadsSectors};
 
 use crate::file::{file_of, sector_bytes};
-use dir_lookup::Hand;
+use dir_lookup::{Hand, Looked};
 use frang_base::limits::SECTOR_BYTES;
 use frang_base::{NoMemory, Path, Reply, Text};
 use plan_steps::Stop;
@@ -16,17 +17,19 @@ use sector_definitions::Inode;
 use std::alloc::Global;
 
 /// What a read shows of a file: at most `len` bytes from offset `off` on, and none past the end. `Refused` where the path or the offset
-/// is refused; `Need` where a sector isn't cached.
+/// is refused; `Need` where a sector isn't cached. What it looked at comes to `looked`, but for file bytes.
 pub(crate) fn read_file(
     alloc: Global,
     hand: &Hand,
     path: &Path,
     off: u32,
     len: u32,
+    looked: &mut Looked,
 ) -> Result<Reply, Stop>
-    ensures { Says (over (plan_read path.now off len) hand.now) result }
+    ensures says { Says (over (plan_read path.now off len) hand.now) result }
+    ensures looks { Looks hand.now.sectors.now.entries hand.now.held.now looked.old looked.new (plan_read path.now off len) }
 {
-    let file = file_of(hand, path)?;
+    let file = file_of(hand, path, looked)?;
     show(alloc, hand, &file.inode, off, len)
 }
 

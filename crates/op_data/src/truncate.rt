@@ -6,6 +6,7 @@ ghost use Rattle.plan_definitions.specs.FilePlans.{cut_by, cutting, large_segmen
 ghost use Rattle.dir_lookup.specs.Hands.{over};
 ghost use Rattle.plan_steps.specs.Edits.{edits_of};
 ghost use Rattle.plan_steps.specs.Ends.{Comes};
+ghost use Rattle.plan_steps.specs.Looking.{Looks};
 ghost use Rattle.op_data.specs.Files.{IsFile};
 
 use crate::file::file_of;
@@ -13,7 +14,7 @@ use crate::resize::add_inode;
 use crate::segments::all_held;
 use crate::shorter::{blocks_past, large_past, shortened};
 use bitmap_block::BlockState;
-use dir_lookup::{Hand, NumberedInode};
+use dir_lookup::{Hand, Looked, NumberedInode};
 use frang_base::{NoMemory, Path, Reply};
 use plan_steps::{Edit, Outcome, Stop, push};
 use std::alloc::Global;
@@ -27,11 +28,13 @@ pub(crate) fn truncate_file(
     path: &Path,
     when: u64,
     len: u32,
+    looked: &mut Looked,
 ) -> Result<Outcome, Stop>
-    ensures { Comes (over (plan_truncated when path.now len) hand.now) result }
+    ensures comes { Comes (over (plan_truncated when path.now len) hand.now) result }
+    ensures looks { Looks hand.now.sectors.now.entries hand.now.held.now looked.old looked.new (plan_truncated when path.now len) }
 {
-    let file = file_of(hand, path)?;
-    cut(alloc, hand, &file, when, len)
+    let file = file_of(hand, path, looked)?;
+    cut(alloc, hand, &file, when, len, looked)
 }
 
 fn cut(
@@ -40,16 +43,18 @@ fn cut(
     file: &NumberedInode,
     when: u64,
     len: u32,
+    looked: &mut Looked,
 ) -> Result<Outcome, Stop>
     requires { IsFile file.now.inode }
-    ensures { (touched : List ℕ) → Comes (over (cutting when len file.now.number touched (stored file.now.inode)) hand.now) result }
+    ensures comes { (touched : List ℕ) → Comes (over (cutting when len file.now.number touched (stored file.now.inode)) hand.now) result }
+    ensures looks { (touched : List ℕ) → Looks hand.now.sectors.now.entries hand.now.held.now looked.old looked.new (cutting when len file.now.number touched (stored file.now.inode)) }
 {
     if u64::from(len) > file.inode.size {
         return Err(Stop::Refused(Reply::BadOffset));
     }
     let blocks = blocks_past(&file.inode, len);
     let large = large_past(&file.inode, len);
-    all_held(hand.held, blocks, large)?;
+    all_held(hand.held, blocks, large, looked)?;
     let edits = cut_edits(alloc, file, when, len)?;
     Ok(Outcome {
         reply: Reply::Ok,

@@ -7,6 +7,7 @@ ghost use Rattle.plan_definitions.specs.FilePlans as plans;
 ghost use Rattle.plan_definitions.specs.FilePlans.{end_of, plan_of_file, writing_in, writing_small};
 ghost use Rattle.dir_lookup.specs.Hands.{over, seen};
 ghost use Rattle.plan_steps.specs.Ends.{Comes};
+ghost use Rattle.plan_steps.specs.Looking.{Looks};
 ghost use Rattle.op_data.specs.Files.{IsFile};
 ghost use Rattle.op_data.specs.Writings.{writing_of};
 
@@ -17,10 +18,10 @@ use crate::room::directory_blocks;
 use crate::shorter::blocks_of;
 use crate::writing::Writing;
 use bitmap_alloc::{pick_large, pick_many};
-use dir_lookup::{Hand, NumberedInode};
+use dir_lookup::{Hand, Looked, NumberedInode};
 use frang_base::limits::{FILE_BYTES_MAX, SMALL_BYTES_MAX};
 use frang_base::{Path, Reply};
-use plan_steps::{Outcome, Stop, nothing_left};
+use plan_steps::{Outcome, Stop, look_at_held, nothing_left};
 use std::alloc::Global;
 
 /// Writes into a file from an offset on, in bytes, which is at most its size. The outcome has the edits and the reply. `Refused` where the
@@ -31,11 +32,13 @@ pub(crate) fn write_file(
     hand: &Hand,
     path: &Path,
     writing: &Writing,
+    looked: &mut Looked,
 ) -> Result<Outcome, Stop>
-    ensures { Comes (over (plan_of_file path.now (plans.writing (seen hand.now) (writing_of writing.now))) hand.now) result }
+    ensures comes { Comes (over (plan_of_file path.now (plans.writing (seen hand.now) (writing_of writing.now))) hand.now) result }
+    ensures looks { Looks hand.now.sectors.now.entries hand.now.held.now looked.old looked.new (plan_of_file path.now (plans.writing (seen hand.now) (writing_of writing.now))) }
 {
-    let file = file_of(hand, path)?;
-    write(alloc, hand, &file, writing)
+    let file = file_of(hand, path, looked)?;
+    write(alloc, hand, &file, writing, looked)
 }
 
 // The range is checked, and a large block is picked where the file needs one and has none.
@@ -44,9 +47,11 @@ fn write(
     hand: &Hand,
     file: &NumberedInode,
     writing: &Writing,
+    looked: &mut Looked,
 ) -> Result<Outcome, Stop>
     requires { IsFile file.now.inode }
-    ensures { (touched : List ℕ) → Comes (over (plans.writing (seen hand.now) (writing_of writing.now) file.now.number touched (stored file.now.inode)) hand.now) result }
+    ensures comes { (touched : List ℕ) → Comes (over (plans.writing (seen hand.now) (writing_of writing.now) file.now.number touched (stored file.now.inode)) hand.now) result }
+    ensures looks { (touched : List ℕ) → Looks hand.now.sectors.now.entries hand.now.held.now looked.old looked.new (plans.writing (seen hand.now) (writing_of writing.now) file.now.number touched (stored file.now.inode)) }
 {
     let end = writing.end();
     if file.inode.size < u64::from(writing.off) {
@@ -56,10 +61,11 @@ fn write(
         return Err(Stop::Refused(Reply::TooBig));
     }
     if !needs_large(file, end) {
-        return write_small(alloc, hand, file, writing, None);
+        return write_small(alloc, hand, file, writing, None, looked);
     }
+    look_at_held(hand.held, looked);
     match pick_large(hand.held) {
-        Some(large) => write_small(alloc, hand, file, writing, Some(large)),
+        Some(large) => write_small(alloc, hand, file, writing, Some(large), looked),
         None => Err(nothing_left(hand, Reply::NoLarge)),
     }
 }
@@ -78,17 +84,20 @@ fn write_small(
     file: &NumberedInode,
     writing: &Writing,
     large: Option<u32>,
+    looked: &mut Looked,
 ) -> Result<Outcome, Stop>
     requires file { IsFile file.now.inode }
     requires end { end_of (writing_of writing.now) ≤ FILE_BYTES_MAX }
     requires large { IfSome large (λ g. g < SEGMENTS_MAX) }
-    ensures { (touched : List ℕ) → Comes (over (writing_small (seen hand.now) (writing_of writing.now) file.now.number touched (stored file.now.inode) large) hand.now) result }
+    ensures comes { (touched : List ℕ) → Comes (over (writing_small (seen hand.now) (writing_of writing.now) file.now.number touched (stored file.now.inode) large) hand.now) result }
+    ensures looks { (touched : List ℕ) → Looks hand.now.sectors.now.entries hand.now.held.now looked.old looked.new (writing_small (seen hand.now) (writing_of writing.now) file.now.number touched (stored file.now.inode) large) }
 {
     let size = file.inode.size.max(writing.end());
     let count = blocks_of(size).saturating_sub(file.inode.blocks);
     if count == 0 {
         return write_in(alloc, hand, file, writing, &NewBlocks { small: &[], large });
     }
+    look_at_held(hand.held, looked);
     match pick_many(alloc, hand.held, usize::from(count))? {
         Some(picks) => {
             let small = &picks;

@@ -5,3 +5,4 @@ pub mod Placing
 pub mod Rooming
 pub mod Going
 pub mod Walking
+pub mod Looking

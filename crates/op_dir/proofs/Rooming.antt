@@ -30,6 +30,9 @@ module _ (cached : Cached) (held : Segments) (h : Hand) (i : ℕ) (x : StoredNod
   same_link (Inside q) = refl
   same_link (InBlock k) = refl
 
+  pub link_same : bind (find_room h x) (linking_in h i x name j y dirs) ≡ bind (find_room h x) (in_room h (dirs ++ j ∷ []) (linked_by i x name j y dirs))
+  link_same = ap (λ f. bind (find_room h x) f) (fun_ext (λ room. same_link room))
+
   pub link_rooms : reading (bind (find_room h x) (linking_in h i x name j y dirs)) cached held ≡ reading (bind (find_room h x) (in_room h (dirs ++ j ∷ []) (linked_by i x name j y dirs))) cached held
   link_rooms = ap (λ f. reading (bind (find_room h x) f) cached held) (fun_ext (λ room. same_link room))
 
@@ -39,6 +42,9 @@ module _ (cached : Cached) (held : Segments) (h : Hand) (m : Moving) (i : ℕ) (
   same_move NoRoom = refl
   same_move (Inside q) = refl
   same_move (InBlock k) = refl
+
+  pub move_same : bind (find_room h x) (moving_in h m i x name dirs) ≡ bind (find_room h x) (in_room h dirs (moved_between m i x name dirs))
+  move_same = ap (λ f. bind (find_room h x) f) (fun_ext (λ room. same_move room))
 
   pub move_rooms : reading (bind (find_room h x) (moving_in h m i x name dirs)) cached held ≡ reading (bind (find_room h x) (in_room h dirs (moved_between m i x name dirs))) cached held
   move_rooms = ap (λ f. reading (bind (find_room h x) f) cached held) (fun_ext (λ room. same_move room))

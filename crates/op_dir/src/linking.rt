@@ -10,6 +10,7 @@ ghost use Rattle.plan_definitions.specs.NamePlans.{linking, linking_node, linkin
 ghost use Rattle.dir_lookup.specs.Hands.{over, seen};
 ghost use Rattle.dir_lookup.specs.Spots.{spot_of};
 ghost use Rattle.plan_steps.specs.Ends.{Comes};
+ghost use Rattle.plan_steps.specs.Looking.{Looks, UnlessNoMemory};
 ghost use Rattle.plan_steps.specs.Nodes.{IsDirectory};
 ghost use Rattle.plan_steps.specs.Rooms.{IsRoomOf, room_in};
 ghost use Rattle.plan_steps.specs.Spots.{IsStanding};
@@ -17,7 +18,7 @@ ghost use Rattle.plan_steps.specs.Outcomes.{Does};
 
 use crate::named::is_directory;
 use crate::room::room_for;
-use dir_lookup::{Hand, NumberedInode, Spot};
+use dir_lookup::{Hand, Looked, NumberedInode, Spot};
 use frang_base::limits::LINKS_MAX;
 use frang_base::{Name, NoMemory, Path, Reply};
 use plan_steps::{Outcome, Room, Stop, enter, entry_for, inode_of, is_full, relink, walked};
@@ -25,23 +26,37 @@ use sector_definitions::Inode;
 use std::alloc::Global;
 
 /// The node that a path names, which is no directory, gets a second name.
-pub fn link_node(alloc: Global, hand: &Hand, path: &Path, to: &Path) -> Result<Outcome, Stop>
-    ensures { Comes (over (plan_linked (seen hand.now) path.now to.now) hand.now) result }
+pub fn link_node(
+    alloc: Global,
+    hand: &Hand,
+    path: &Path,
+    to: &Path,
+    looked: &mut Looked,
+) -> Result<Outcome, Stop>
+    ensures comes { Comes (over (plan_linked (seen hand.now) path.now to.now) hand.now) result }
+    ensures looks { UnlessNoMemory result (Looks hand.now.sectors.now.entries hand.now.held.now looked.old looked.new (plan_linked (seen hand.now) path.now to.now)) }
 {
-    let spot = walked(hand.sectors, path)?;
-    link_at(alloc, hand, &spot, to)
+    let spot = walked(hand.sectors, path, looked)?;
+    link_at(alloc, hand, &spot, to, looked)
 }
 
 // The node gets it to which the path leads.
-fn link_at(alloc: Global, hand: &Hand, spot: &Spot, to: &Path) -> Result<Outcome, Stop>
-    ensures { (dirs : List ℕ) → Comes (over (linking (seen hand.now) to.now dirs (spot_of spot.now)) hand.now) result }
+fn link_at(
+    alloc: Global,
+    hand: &Hand,
+    spot: &Spot,
+    to: &Path,
+    looked: &mut Looked,
+) -> Result<Outcome, Stop>
+    ensures comes { (dirs : List ℕ) → Comes (over (linking (seen hand.now) to.now dirs (spot_of spot.now)) hand.now) result }
+    ensures looks { (dirs : List ℕ) → UnlessNoMemory result (Looks hand.now.sectors.now.entries hand.now.held.now looked.old looked.new (linking (seen hand.now) to.now dirs (spot_of spot.now))) }
 {
     match spot {
         Spot::AtName { found, .. } => {
             if is_directory(&found.entry) {
                 return Err(Stop::Refused(Reply::IsDir));
             }
-            link_inode(alloc, hand, found.entry.inode, to)
+            link_inode(alloc, hand, found.entry.inode, to, looked)
         }
         Spot::AtRoot => Err(Stop::Refused(Reply::IsDir)),
         Spot::AtGap { .. } => Err(Stop::Refused(Reply::NoEnt)),
@@ -50,27 +65,42 @@ fn link_at(alloc: Global, hand: &Hand, spot: &Spot, to: &Path) -> Result<Outcome
 }
 
 // The node of inode `number` gets it.
-fn link_inode(alloc: Global, hand: &Hand, number: u32, to: &Path) -> Result<Outcome, Stop>
-    ensures { (dirs : List ℕ) → Comes (over (bind (walk to.now) (λ w. linking_to (seen hand.now) number (dirs ++ w.dirs) w.spot)) hand.now) result }
+fn link_inode(
+    alloc: Global,
+    hand: &Hand,
+    number: u32,
+    to: &Path,
+    looked: &mut Looked,
+) -> Result<Outcome, Stop>
+    ensures comes { (dirs : List ℕ) → Comes (over (bind (walk to.now) (λ w. linking_to (seen hand.now) number (dirs ++ w.dirs) w.spot)) hand.now) result }
+    ensures looks { (dirs : List ℕ) → UnlessNoMemory result (Looks hand.now.sectors.now.entries hand.now.held.now looked.old looked.new (bind (walk to.now) (λ w. linking_to (seen hand.now) number (dirs ++ w.dirs) w.spot))) }
 {
-    let spot = walked(hand.sectors, to)?;
-    link_to(alloc, hand, number, &spot)
+    let spot = walked(hand.sectors, to, looked)?;
+    link_to(alloc, hand, number, &spot, looked)
 }
 
 // It gets the name to which the second path leads.
-fn link_to(alloc: Global, hand: &Hand, number: u32, spot: &Spot) -> Result<Outcome, Stop>
+fn link_to(
+    alloc: Global,
+    hand: &Hand,
+    number: u32,
+    spot: &Spot,
+    looked: &mut Looked,
+) -> Result<Outcome, Stop>
     requires { IsStanding spot.now }
-    ensures { (dirs : List ℕ) → Comes (over (linking_to (seen hand.now) number dirs (spot_of spot.now)) hand.now) result }
+    ensures comes { (dirs : List ℕ) → Comes (over (linking_to (seen hand.now) number dirs (spot_of spot.now)) hand.now) result }
+    ensures looks { (dirs : List ℕ) → UnlessNoMemory result (Looks hand.now.sectors.now.entries hand.now.held.now looked.old looked.new (linking_to (seen hand.now) number dirs (spot_of spot.now))) }
 {
     match spot {
         Spot::AtGap { directory, name } => {
-            let inode = inode_of(hand.sectors, number)?;
+            let inode = inode_of(hand.sectors, number, looked)?;
             link_in(
                 alloc,
                 hand,
                 directory,
                 name,
                 &NumberedInode { number, inode },
+                looked,
             )
         }
         Spot::AtRoot => Err(Stop::Refused(Reply::Exist)),
@@ -86,9 +116,11 @@ fn link_in(
     directory: &NumberedInode,
     name: &Name,
     node: &NumberedInode,
+    looked: &mut Looked,
 ) -> Result<Outcome, Stop>
     requires { IsDirectory directory.now.inode }
-    ensures { (dirs : List ℕ) → Comes (over (linking_node (seen hand.now) directory.now.number (stored directory.now.inode) name.now node.now.number dirs (Some (stored node.now.inode))) hand.now) result }
+    ensures comes { (dirs : List ℕ) → Comes (over (linking_node (seen hand.now) directory.now.number (stored directory.now.inode) name.now node.now.number dirs (Some (stored node.now.inode))) hand.now) result }
+    ensures looks { (dirs : List ℕ) → UnlessNoMemory result (Looks hand.now.sectors.now.entries hand.now.held.now looked.old looked.new (linking_node (seen hand.now) directory.now.number (stored directory.now.inode) name.now node.now.number dirs (Some (stored node.now.inode)))) }
 {
     if has_all_links(&node.inode) {
         return Err(Stop::Refused(Reply::MLink));
@@ -96,7 +128,7 @@ fn link_in(
     if is_full(&directory.inode) {
         return Err(Stop::Refused(Reply::DirFull));
     }
-    let room = room_for(hand, &directory.inode)?;
+    let room = room_for(hand, &directory.inode, looked)?;
     Ok(linked(alloc, directory, name, &room, node)?)
 }
 

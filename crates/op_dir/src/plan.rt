@@ -8,11 +8,12 @@ ghost use Rattle.dir_lookup.specs.Hands.{over, seen};
 ghost use Rattle.dir_lookup.specs.Planned.{planned};
 ghost use Rattle.dir_lookup.specs.Reading.{reading};
 ghost use Rattle.plan_steps.specs.Ends.{Comes};
+ghost use Rattle.plan_steps.specs.Looking.{Looks, UnlessNoMemory};
 ghost use Rattle.code_plan_laws.specs.CodeStands.{IsOverADisk, StandsOverDisks, IsExactOverDisks};
 ghost use Rattle.op_dir.specs.Names.{IsOfNames};
 
 use crate::{link_node, make, remove_directory, rename_node, unlink};
-use dir_lookup::Hand;
+use dir_lookup::{Hand, Looked};
 use edit_writing::finish;
 use frang_base::{Held, NoMemory, Op, OpNo, Text};
 use meta_version::{Plan, Sectors};
@@ -41,27 +42,35 @@ pub fn plan_dir(
     ensures exact { (when : ℕ) → when < 2 ^ 64 → IfOk result (IsExactOverDisks op.now birth.0 when sectors.now.entries held.now all) }
 {
     let hand = Hand { sectors, held, all };
-    let ended = plan_names(alloc, op, birth.0, &hand);
+    let mut looked = Looked::unasked();
+    let ended = plan_names(alloc, op, birth.0, &hand, &mut looked);
     finish(alloc, &hand, ended)
 }
 
 /// How the plan of an operation on names ends, at any time. Its other refusal is want of memory.
-pub fn plan_names(alloc: Global, op: &Op, birth: u64, hand: &Hand) -> Result<Outcome, Stop>
+pub fn plan_names(
+    alloc: Global,
+    op: &Op,
+    birth: u64,
+    hand: &Hand,
+    looked: &mut Looked,
+) -> Result<Outcome, Stop>
     requires names { IsOfNames op.now }
     requires allowed { IsAllowed op.now }
-    ensures { (when : ℕ) → Comes (over (plan_of (seen hand.now) birth when op.now) hand.now) result }
+    ensures comes { (when : ℕ) → Comes (over (plan_of (seen hand.now) birth when op.now) hand.now) result }
+    ensures looks { (when : ℕ) → UnlessNoMemory result (Looks hand.now.sectors.now.entries hand.now.held.now looked.old looked.new (plan_of (seen hand.now) birth when op.now)) }
 {
     match op {
-        Op::Create { path } => make(alloc, hand, birth, &NewNode::File, path),
-        Op::Mkdir { path } => make(alloc, hand, birth, &NewNode::Directory, path),
+        Op::Create { path } => make(alloc, hand, birth, &NewNode::File, path, looked),
+        Op::Mkdir { path } => make(alloc, hand, birth, &NewNode::Directory, path, looked),
         Op::Symlink { path, target } => {
             let node = NewNode::Link(target_of(target)?);
-            make(alloc, hand, birth, &node, path)
+            make(alloc, hand, birth, &node, path, looked)
         }
-        Op::Link { path, to } => link_node(alloc, hand, path, to),
-        Op::Unlink { path } => unlink(alloc, hand, path),
-        Op::Rmdir { path } => remove_directory(alloc, hand, path),
-        Op::Rename { path, to } => rename_node(alloc, hand, path, to),
+        Op::Link { path, to } => link_node(alloc, hand, path, to, looked),
+        Op::Unlink { path } => unlink(alloc, hand, path, looked),
+        Op::Rmdir { path } => remove_directory(alloc, hand, path, looked),
+        Op::Rename { path, to } => rename_node(alloc, hand, path, to, looked),
         _ => unreachable!(),
     }
 }

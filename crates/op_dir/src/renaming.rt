@@ -11,6 +11,7 @@ ghost use Rattle.dir_lookup.specs.Hands.{over, seen};
 ghost use Rattle.dir_lookup.specs.Spots.{spot_of};
 ghost use Rattle.dir_lookup.specs.Stored.{IsUsed};
 ghost use Rattle.plan_steps.specs.Ends.{Comes};
+ghost use Rattle.plan_steps.specs.Looking.{Looks, UnlessNoMemory};
 ghost use Rattle.plan_steps.specs.Nodes.{IsDirectory};
 ghost use Rattle.plan_steps.specs.Rooms.{IsRoomOf, room_in};
 ghost use Rattle.plan_steps.specs.Spots.{IsStanding};
@@ -19,7 +20,7 @@ ghost use Rattle.op_dir.specs.Moving.{IsNamed, moving_of};
 
 use crate::named::{Named, is_directory};
 use crate::room::room_for;
-use dir_lookup::{Hand, NumberedInode, Spot};
+use dir_lookup::{Hand, Looked, NumberedInode, Spot};
 use frang_base::limits::KIND_DIRECTORY;
 use frang_base::{Name, NoMemory, Path, Reply};
 use plan_steps::{
@@ -30,8 +31,15 @@ use sector_definitions::{DirEntry, Inode};
 use std::alloc::Global;
 
 /// The node that a path names gets another name in place of this one. A node that has that name loses it.
-pub fn rename_node(alloc: Global, hand: &Hand, path: &Path, to: &Path) -> Result<Outcome, Stop>
-    ensures { Comes (over (plan_renamed (seen hand.now) path.now to.now) hand.now) result }
+pub fn rename_node(
+    alloc: Global,
+    hand: &Hand,
+    path: &Path,
+    to: &Path,
+    looked: &mut Looked,
+) -> Result<Outcome, Stop>
+    ensures comes { Comes (over (plan_renamed (seen hand.now) path.now to.now) hand.now) result }
+    ensures looks { UnlessNoMemory result (Looks hand.now.sectors.now.entries hand.now.held.now looked.old looked.new (plan_renamed (seen hand.now) path.now to.now)) }
 {
     if path.is_empty() {
         return Err(Stop::Refused(Reply::Inval));
@@ -39,14 +47,21 @@ pub fn rename_node(alloc: Global, hand: &Hand, path: &Path, to: &Path) -> Result
     if to.is_empty() {
         return Err(Stop::Refused(Reply::Inval));
     }
-    let spot = walked(hand.sectors, path)?;
-    rename_at(alloc, hand, &spot, to)
+    let spot = walked(hand.sectors, path, looked)?;
+    rename_at(alloc, hand, &spot, to, looked)
 }
 
 // The name is moved to which the path leads.
-fn rename_at(alloc: Global, hand: &Hand, spot: &Spot, to: &Path) -> Result<Outcome, Stop>
+fn rename_at(
+    alloc: Global,
+    hand: &Hand,
+    spot: &Spot,
+    to: &Path,
+    looked: &mut Looked,
+) -> Result<Outcome, Stop>
     requires { IsStanding spot.now }
-    ensures { (dirs : List ℕ) → Comes (over (renaming (seen hand.now) to.now dirs (spot_of spot.now)) hand.now) result }
+    ensures comes { (dirs : List ℕ) → Comes (over (renaming (seen hand.now) to.now dirs (spot_of spot.now)) hand.now) result }
+    ensures looks { (dirs : List ℕ) → UnlessNoMemory result (Looks hand.now.sectors.now.entries hand.now.held.now looked.old looked.new (renaming (seen hand.now) to.now dirs (spot_of spot.now))) }
 {
     match spot {
         Spot::AtName {
@@ -58,7 +73,7 @@ fn rename_at(alloc: Global, hand: &Hand, spot: &Spot, to: &Path) -> Result<Outco
                 directory: *directory,
                 found: *found,
             };
-            rename_named(alloc, hand, &from, to)
+            rename_named(alloc, hand, &from, to, looked)
         }
         Spot::AtRoot => Err(Stop::Refused(Reply::Inval)),
         Spot::AtGap { .. } => Err(Stop::Refused(Reply::NoEnt)),
@@ -67,13 +82,20 @@ fn rename_at(alloc: Global, hand: &Hand, spot: &Spot, to: &Path) -> Result<Outco
 }
 
 // This name is moved to the second path.
-fn rename_named(alloc: Global, hand: &Hand, from: &Named, to: &Path) -> Result<Outcome, Stop>
+fn rename_named(
+    alloc: Global,
+    hand: &Hand,
+    from: &Named,
+    to: &Path,
+    looked: &mut Looked,
+) -> Result<Outcome, Stop>
     requires { IsNamed from.now }
-    ensures { (dirs : List ℕ) → Comes (over (bind (walk to.now) (λ w. renaming_to (seen hand.now) (moving_of from.now) w.dirs (dirs ++ w.dirs) w.spot)) hand.now) result }
+    ensures comes { (dirs : List ℕ) → Comes (over (bind (walk to.now) (λ w. renaming_to (seen hand.now) (moving_of from.now) w.dirs (dirs ++ w.dirs) w.spot)) hand.now) result }
+    ensures looks { (dirs : List ℕ) → UnlessNoMemory result (Looks hand.now.sectors.now.entries hand.now.held.now looked.old looked.new (bind (walk to.now) (λ w. renaming_to (seen hand.now) (moving_of from.now) w.dirs (dirs ++ w.dirs) w.spot))) }
 {
-    let (spot, passed) = walk_passes(hand.sectors, to, from.found.entry.inode)?;
+    let (spot, passed) = walk_passes(hand.sectors, to, from.found.entry.inode, looked)?;
     let through = moves_through(&from.found.entry, passed);
-    rename_to(alloc, hand, from, &spot, through)
+    rename_to(alloc, hand, from, &spot, through, looked)
 }
 
 // A directory is moved, and the walk of its new name passed it.
@@ -90,10 +112,12 @@ fn rename_to(
     from: &Named,
     spot: &Spot,
     through: bool,
+    looked: &mut Looked,
 ) -> Result<Outcome, Stop>
     requires from { IsNamed from.now }
     requires spot { IsStanding spot.now }
-    ensures { (to_dirs dirs : List ℕ) → through ≡ goes_through (moving_of from.now) to_dirs → Comes (over (renaming_to (seen hand.now) (moving_of from.now) to_dirs dirs (spot_of spot.now)) hand.now) result }
+    ensures comes { (to_dirs dirs : List ℕ) → through ≡ goes_through (moving_of from.now) to_dirs → Comes (over (renaming_to (seen hand.now) (moving_of from.now) to_dirs dirs (spot_of spot.now)) hand.now) result }
+    ensures looks { (to_dirs dirs : List ℕ) → through ≡ goes_through (moving_of from.now) to_dirs → UnlessNoMemory result (Looks hand.now.sectors.now.entries hand.now.held.now looked.old looked.new (renaming_to (seen hand.now) (moving_of from.now) to_dirs dirs (spot_of spot.now))) }
 {
     match spot {
         Spot::AtName {
@@ -108,13 +132,13 @@ fn rename_to(
                 directory: *directory,
                 found: *found,
             };
-            move_onto(alloc, hand, from, &to, name)
+            move_onto(alloc, hand, from, &to, name, looked)
         }
         Spot::AtGap { directory, name } => {
             if through {
                 return Err(Stop::Refused(Reply::Inval));
             }
-            move_to(alloc, hand, from, directory, name)
+            move_to(alloc, hand, from, directory, name, looked)
         }
         Spot::AtRoot => Err(Stop::Refused(Reply::Inval)),
         Spot::Lost(refusal) => Err(Stop::Refused(refusal.reply())),
@@ -128,10 +152,12 @@ fn move_onto(
     from: &Named,
     to: &Named,
     name: &Name,
+    looked: &mut Looked,
 ) -> Result<Outcome, Stop>
     requires from { IsNamed from.now }
     requires to { IsNamed to.now }
-    ensures { (dirs : List ℕ) → Comes (over (moving_onto (moving_of from.now) to.now.directory.number (stored to.now.directory.inode) name.now to.now.found.place (entered to.now.found.entry) dirs) hand.now) result }
+    ensures comes { (dirs : List ℕ) → Comes (over (moving_onto (moving_of from.now) to.now.directory.number (stored to.now.directory.inode) name.now to.now.found.place (entered to.now.found.entry) dirs) hand.now) result }
+    ensures looks { (dirs : List ℕ) → UnlessNoMemory result (Looks hand.now.sectors.now.entries hand.now.held.now looked.old looked.new (moving_onto (moving_of from.now) to.now.directory.number (stored to.now.directory.inode) name.now to.now.found.place (entered to.now.found.entry) dirs)) }
 {
     let number = to.found.entry.inode;
     if number == from.found.entry.inode {
@@ -140,7 +166,7 @@ fn move_onto(
     match kinds_refused(&from.found.entry, &to.found.entry) {
         Some(reply) => Err(Stop::Refused(reply)),
         None => {
-            let inode = inode_of(hand.sectors, number)?;
+            let inode = inode_of(hand.sectors, number, looked)?;
             replace(
                 alloc,
                 hand,
@@ -148,6 +174,7 @@ fn move_onto(
                 to,
                 name,
                 &NumberedInode { number, inode },
+                looked,
             )
         }
     }
@@ -172,16 +199,18 @@ fn replace(
     to: &Named,
     name: &Name,
     node: &NumberedInode,
+    looked: &mut Looked,
 ) -> Result<Outcome, Stop>
     requires from { IsNamed from.now }
     requires to { IsNamed to.now }
     requires used { IsUsed node.now.inode }
-    ensures { (dirs : List ℕ) → Comes (over (replacing_node (moving_of from.now) to.now.directory.number (stored to.now.directory.inode) name.now to.now.found.place node.now.number dirs (Some (stored node.now.inode))) hand.now) result }
+    ensures comes { (dirs : List ℕ) → Comes (over (replacing_node (moving_of from.now) to.now.directory.number (stored to.now.directory.inode) name.now to.now.found.place node.now.number dirs (Some (stored node.now.inode))) hand.now) result }
+    ensures looks { (dirs : List ℕ) → UnlessNoMemory result (Looks hand.now.sectors.now.entries hand.now.held.now looked.old looked.new (replacing_node (moving_of from.now) to.now.directory.number (stored to.now.directory.inode) name.now to.now.found.place node.now.number dirs (Some (stored node.now.inode)))) }
 {
     if has_entries(&node.inode) {
         return Err(Stop::Refused(Reply::NotEmpty));
     }
-    segments_needed(hand, node)?;
+    segments_needed(hand, node, looked)?;
     Ok(replaced(alloc, from, to, name, node)?)
 }
 
@@ -230,10 +259,12 @@ fn move_to(
     from: &Named,
     to: &NumberedInode,
     name: &Name,
+    looked: &mut Looked,
 ) -> Result<Outcome, Stop>
     requires from { IsNamed from.now }
     requires to { IsDirectory to.now.inode }
-    ensures { (dirs : List ℕ) → Comes (over (moving_to (seen hand.now) (moving_of from.now) to.now.number (stored to.now.inode) name.now dirs) hand.now) result }
+    ensures comes { (dirs : List ℕ) → Comes (over (moving_to (seen hand.now) (moving_of from.now) to.now.number (stored to.now.inode) name.now dirs) hand.now) result }
+    ensures looks { (dirs : List ℕ) → UnlessNoMemory result (Looks hand.now.sectors.now.entries hand.now.held.now looked.old looked.new (moving_to (seen hand.now) (moving_of from.now) to.now.number (stored to.now.inode) name.now dirs)) }
 {
     if to.number == from.directory.number {
         return Ok(moved_within(alloc, from, name)?);
@@ -241,7 +272,7 @@ fn move_to(
     if is_full(&to.inode) {
         return Err(Stop::Refused(Reply::DirFull));
     }
-    let room = room_for(hand, &to.inode)?;
+    let room = room_for(hand, &to.inode, looked)?;
     Ok(moved_between(alloc, from, to, name, &room)?)
 }
 

@@ -1,3 +1,4 @@
 pub mod Answered
 pub mod Listed
 pub mod Paths
+pub mod ListLooks

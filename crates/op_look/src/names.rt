@@ -4,8 +4,9 @@ ghost use Rattle.std.specs.Option.{option_map};
 ghost use Rattle.pick_definitions.specs.Held.{Segments};
 ghost use Rattle.sector_definitions.specs.Directories.{directory_fits};
 ghost use Rattle.disk_definitions.specs.Store.{stored, entered};
-ghost use Rattle.plan_definitions.specs.LookPlans.{entries_of};
+ghost use Rattle.plan_definitions.specs.LookPlans.{entries_of, listing};
 ghost use Rattle.dir_lookup.specs.Stored.{IsProper, entries_at};
+ghost use Rattle.plan_steps.specs.Looking.{Looks, UnlessNoMemory};
 ghost use Rattle.op_look.specs.Looks.{ListsNames, with_name, with_place};
 ghost use Rattle.std.specs.Map.{keys_of};
 ghost use Rattle.frang_base.specs.declared.limits.TheConstants.{INODE_BLOCKS_MAX};
@@ -19,19 +20,20 @@ use sector_definitions::{DirEntry, DirSector, Inode};
 use std::alloc::Global;
 use std::collections::BTreeMap;
 
-/// The names in a directory, in order of their bytes.
+/// The names in a directory, in order of their bytes. Its sectors come to `looked`.
 pub(crate) fn names_in(
     alloc: Global,
     sectors: &Sectors,
     directory: &Inode,
+    looked: &mut Looked,
 ) -> Result<NameList, Stop>
     requires { directory.now.blocks ≤ INODE_BLOCKS_MAX }
-    ensures { (held : Segments) → ListsNames sectors.now.entries held (stored directory.now) result }
+    ensures lists { (held : Segments) → ListsNames sectors.now.entries held (stored directory.now) result }
+    ensures looks { (held : Segments) (touched : List ℕ) → UnlessNoMemory result (Looks sectors.now.entries held looked.old looked.new (listing touched (stored directory.now))) }
 {
     let mut sorted: BTreeMap<Name, u64> = BTreeMap::new(alloc);
-    let mut looked = Looked::unasked();
     for j in 0..SMALL_BLOCK_SECTORS * u32::from(directory.blocks) {
-        let sector = part_at(sectors, directory, j, &mut looked)?;
+        let sector = part_at(sectors, directory, j, looked)?;
         add_names(&mut sorted, &sector)?;
     }
     let names = list_of(alloc, &sorted)?;

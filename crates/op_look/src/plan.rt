@@ -9,10 +9,12 @@ ghost use Rattle.dir_lookup.specs.Planned.{planned};
 ghost use Rattle.dir_lookup.specs.Reading.{reading};
 ghost use Rattle.dir_lookup.specs.Stored.{IsUsed};
 ghost use Rattle.plan_steps.specs.Ends.{Says};
+ghost use Rattle.plan_steps.specs.Looking.{Looks, UnlessNoMemory};
 ghost use Rattle.code_plan_laws.specs.CodeStands.{StandsOverDisks, IsExactOverDisks};
 ghost use Rattle.op_look.specs.Looks.{IsLook, says};
 
 use crate::names::names_in;
+use dir_lookup::Looked;
 use frang_base::limits::{KIND_DIRECTORY, KIND_FILE, KIND_LINK, RUN_TICKS_END};
 use frang_base::{Changes, NoMemory, Op, Path, Reply, Text};
 use meta_version::{ByteWrites, Plan, SectorList, Sectors};
@@ -37,7 +39,7 @@ fn ended_look(alloc: Global, op: &Op, sectors: &Sectors) -> Result<Plan, NoMemor
     requires { IsLook op.now }
     ensures { (h : Hand) (birth when : ℕ) (held : Segments) → IfOk result (λ plan. plan ≡ planned sectors.now.entries held (reading (plan_of h birth when op.now) sectors.now.entries held)) }
 {
-    match look(alloc, op, sectors) {
+    match said(alloc, op, sectors) {
         Ok(reply) => Ok(done(alloc, reply)),
         Err(Stop::Refused(reply)) => Ok(done(alloc, reply)),
         Err(Stop::Need(sector)) => Ok(Plan::Need(sector)),
@@ -45,6 +47,15 @@ fn ended_look(alloc: Global, op: &Op, sectors: &Sectors) -> Result<Plan, NoMemor
         Err(Stop::Clear { block }) => Ok(Plan::Clear { block }),
         Err(Stop::NoMemory) => Err(NoMemory),
     }
+}
+
+// How it ends; what it looks at isn't asked for.
+fn said(alloc: Global, op: &Op, sectors: &Sectors) -> Result<Reply, Stop>
+    requires { IsLook op.now }
+    ensures { (h : Hand) (birth when : ℕ) (held : Segments) → Says (reading (plan_of h birth when op.now) sectors.now.entries held) result }
+{
+    let mut looked = Looked::unasked();
+    look(alloc, op, sectors, &mut looked)
 }
 
 // A plan that only answers.
@@ -59,25 +70,28 @@ fn done(alloc: Global, reply: Reply) -> Plan
     }
 }
 
-/// How an operation that only looks ends: with its reply, or with what it needs or is refused with. Its other refusal is want of memory.
-pub fn look(alloc: Global, op: &Op, sectors: &Sectors) -> Result<Reply, Stop>
+/// How an operation that only looks ends: with its reply, or with what it needs or is refused with. What it looked at comes to
+/// `looked`. Its other refusal is want of memory.
+pub fn look(alloc: Global, op: &Op, sectors: &Sectors, looked: &mut Looked) -> Result<Reply, Stop>
     requires { IsLook op.now }
-    ensures { (h : Hand) (birth when : ℕ) (held : Segments) → Says (reading (plan_of h birth when op.now) sectors.now.entries held) result }
+    ensures says { (h : Hand) (birth when : ℕ) (held : Segments) → Says (reading (plan_of h birth when op.now) sectors.now.entries held) result }
+    ensures looks { (h : Hand) (birth when : ℕ) (held : Segments) → UnlessNoMemory result (Looks sectors.now.entries held looked.old looked.new (plan_of h birth when op.now)) }
 {
     match op {
-        Op::Stat { path } => describe(sectors, path),
-        Op::List { path } => list(alloc, sectors, path),
-        Op::Readlink { path } => read_link(alloc, sectors, path),
-        Op::Time { path } => time(sectors, path),
+        Op::Stat { path } => describe(sectors, path, looked),
+        Op::List { path } => list(alloc, sectors, path, looked),
+        Op::Readlink { path } => read_link(alloc, sectors, path, looked),
+        Op::Time { path } => time(sectors, path, looked),
         _ => unreachable!(),
     }
 }
 
-fn describe(sectors: &Sectors, path: &Path) -> Result<Reply, Stop>
-    ensures { (held : Segments) → Says (reading (plan_described path.now) sectors.now.entries held) result }
+fn describe(sectors: &Sectors, path: &Path, looked: &mut Looked) -> Result<Reply, Stop>
+    ensures says { (held : Segments) → Says (reading (plan_described path.now) sectors.now.entries held) result }
+    ensures looks { (held : Segments) → UnlessNoMemory result (Looks sectors.now.entries held looked.old looked.new (plan_described path.now)) }
 {
-    let target = target_of(sectors, path)?;
-    let inode = inode_of(sectors, target.inode)?;
+    let target = target_of(sectors, path, looked)?;
+    let inode = inode_of(sectors, target.inode, looked)?;
     Ok(described(&inode))
 }
 
@@ -97,26 +111,33 @@ fn described(inode: &Inode) -> Reply
     }
 }
 
-fn list(alloc: Global, sectors: &Sectors, path: &Path) -> Result<Reply, Stop>
-    ensures { (held : Segments) → Says (reading (plan_listed path.now) sectors.now.entries held) result }
+fn list(alloc: Global, sectors: &Sectors, path: &Path, looked: &mut Looked) -> Result<Reply, Stop>
+    ensures says { (held : Segments) → Says (reading (plan_listed path.now) sectors.now.entries held) result }
+    ensures looks { (held : Segments) → UnlessNoMemory result (Looks sectors.now.entries held looked.old looked.new (plan_listed path.now)) }
 {
-    let target = target_of(sectors, path)?;
+    let target = target_of(sectors, path, looked)?;
     if target.kind != KIND_DIRECTORY {
         return Err(Stop::Refused(Reply::NotDir));
     }
-    let inode = inode_of(sectors, target.inode)?;
-    let names = names_in(alloc, sectors, &inode)?;
+    let inode = inode_of(sectors, target.inode, looked)?;
+    let names = names_in(alloc, sectors, &inode, looked)?;
     Ok(Reply::Names(names))
 }
 
-fn read_link(alloc: Global, sectors: &Sectors, path: &Path) -> Result<Reply, Stop>
-    ensures { (held : Segments) → Says (reading (plan_target path.now) sectors.now.entries held) result }
+fn read_link(
+    alloc: Global,
+    sectors: &Sectors,
+    path: &Path,
+    looked: &mut Looked,
+) -> Result<Reply, Stop>
+    ensures says { (held : Segments) → Says (reading (plan_target path.now) sectors.now.entries held) result }
+    ensures looks { (held : Segments) → UnlessNoMemory result (Looks sectors.now.entries held looked.old looked.new (plan_target path.now)) }
 {
-    let target = target_of(sectors, path)?;
+    let target = target_of(sectors, path, looked)?;
     if target.kind != KIND_LINK {
         return Err(Stop::Refused(Reply::Inval));
     }
-    let inode = inode_of(sectors, target.inode)?;
+    let inode = inode_of(sectors, target.inode, looked)?;
     let text = link_text(alloc, &inode)?;
     Ok(Reply::Target(text))
 }
@@ -133,11 +154,12 @@ fn link_text(alloc: Global, inode: &Inode) -> Result<Text, NoMemory>
     }
 }
 
-fn time(sectors: &Sectors, path: &Path) -> Result<Reply, Stop>
-    ensures { (held : Segments) → Says (reading (plan_timed path.now) sectors.now.entries held) result }
+fn time(sectors: &Sectors, path: &Path, looked: &mut Looked) -> Result<Reply, Stop>
+    ensures says { (held : Segments) → Says (reading (plan_timed path.now) sectors.now.entries held) result }
+    ensures looks { (held : Segments) → UnlessNoMemory result (Looks sectors.now.entries held looked.old looked.new (plan_timed path.now)) }
 {
-    let target = target_of(sectors, path)?;
-    let inode = inode_of(sectors, target.inode)?;
+    let target = target_of(sectors, path, looked)?;
+    let inode = inode_of(sectors, target.inode, looked)?;
     Ok(timed(&inode))
 }
 

@@ -1,9 +1,9 @@
 -- An edit of a chunk is the same edit of all entries; and that the chunks stay filled.
 use Rattle.std.proofs.Common.{◌≡◌, ℕ, zero, suc, ◌+◌, ◌-◌, ◌<◌, ◌≤◌, List, [], ◌∷◌, ◌++◌, length, get_or, set, take, drop, append_assoc, refl, sym, ap, ◌∙◌, subst, arith, add-one, length-append}
 use Rattle.std.specs.List.{insert, remove}
-use Rattle.std.proofs.lemmas.List.{set_split, get_or_read, length-set, append-nil, set-append_left, set-append_right, get_or-append-add, get_or_append_left, take-append-drop, length-take, length-drop}
-use Rattle.std.proofs.lemmas.List.Edits.{insert-append_left, insert-append_right, remove-append_left, remove-append_right, length-insert, length-remove}
-use Rattle.ordered_map.specs.declared.chunk.TheConstants.{CHUNK, HALF}
+use Rattle.std.proofs.lemmas.List.{set_split, get_or_read, set-append_left, set-append_right, get_or-append-add, get_or_append_left}
+use Rattle.std.proofs.lemmas.List.Edits.{insert-append_left, insert-append_right, remove-append_left, remove-append_right}
+use Rattle.ordered_map.specs.declared.chunk.TheConstants.{CHUNK}
 use Rattle.ordered_map.specs.Chunks.{joined, chunk_at, flat, overwritten, AreFilled, AreBlank}
 use Rattle.ordered_map.proofs.Spots.{overwrites}
 

@@ -1,5 +1,5 @@
 -- The key's place among all entries, from its chunk and its place there.
-use Rattle.std.proofs.Common.{◌≡◌, ℕ, zero, suc, ◌+◌, ◌<◌, ◌≤◌, Bool, true, false, List, [], ◌∷◌, ◌++◌, length, get_or, take, drop, Result, Ok, Err, refl, sym, ap, ◌∙◌, subst, arith}
+use Rattle.std.proofs.Common.{◌≡◌, ℕ, zero, suc, ◌<◌, ◌≤◌, Bool, true, false, List, [], ◌∷◌, ◌++◌, length, get_or, take, drop, Result, Ok, Err, refl, sym, ap, ◌∙◌, subst, arith}
 use Rattle.std.specs.List.{AllByRecursion}
 use Rattle.std.specs.List.Sorted.{IsStrictlySortedBy, IsPartitionedBy, IsPartitionPoint}
 use Rattle.std.specs.Map.{keys_of}
@@ -8,8 +8,9 @@ use Rattle.std.specs.Ordering.{match_ordering, ordering_reverse, is_gt}
 use Rattle.std.specs.declared.cmp.Ordering.{Ordering}
 use Rattle.std.specs.declared.cmp.Ordering.TheVariants.{Less, Equal, Greater}
 use Rattle.std.proofs.lemmas.Bool.{false≢true}
+use Rattle.std.proofs.lemmas.List.{get_or_default}
 use Rattle.sorted_entries.specs.Places.{further, place_of}
-use Rattle.ordered_map.specs.Chunks.{joined, chunk_at, flat, ends_below, AreFilled, AreBelow, AreAbove, IsChunkOf, shifted, at_of}
+use Rattle.ordered_map.specs.Chunks.{joined, chunk_at, ends_below, EndBelow, AreFilled, AreBelow, AreAbove, IsChunkOf, shifted}
 use Rattle.ordered_map.proofs.Spots.{by_answer}
 use Rattle.ordered_map.proofs.Flat.{whole, filled-at}
 
@@ -113,6 +114,19 @@ module _ {K V : Type 0} {cmp : K → K → Ordering} (total : IsTotalOrder cmp) 
     below_taken (chunk ∷ chunks) (suc c) sorted inside ends =
         all_both (λ k. cmp key k ≡ Greater) chunk (joined (take c chunks)) (below_whole chunk (sorted_first chunk (joined chunks) sorted) (ends 0 [] (omega arith)))
         (below_taken chunks c (sorted_rest chunk (joined chunks) sorted) (omega arith) (λ j d below. ends (suc j) d (omega arith)))
+
+    -- where one chunk ends below, so do those before it
+    pub ends_before : (chunks : List (List (K × V))) (c : ℕ) → AreFilled chunks → IsStrictlySortedBy cmp (keys_of (joined chunks)) → c < length chunks → ends_below cmp key (chunk_at chunks c) ≡ true → EndBelow cmp key chunks (suc c)
+    ends_before chunks c filled sorted inside ends j d below = parted chunks filled sorted j c d (omega arith) inside (ap (ends_below cmp key) (get_or_default chunks c d [] inside) ∙ ends)
+
+    -- where one chunk doesn't end below, neither does one behind it
+    pub reaches_behind : (chunks : List (List (K × V))) (c : ℕ) → AreFilled chunks → IsStrictlySortedBy cmp (keys_of (joined chunks)) → ends_below cmp key (chunk_at chunks c) ≡ false
+        → (j : ℕ) (d : List (K × V)) → c ≤ j → j < length chunks → ends_below cmp key (get_or chunks j d) ≡ false
+    reaches_behind chunks c filled sorted ends j d le inside = go (ends_below cmp key (get_or chunks j d)) refl
+      where
+        go : (b : Bool) → ends_below cmp key (get_or chunks j d) ≡ b → ends_below cmp key (get_or chunks j d) ≡ false
+        go false is = is
+        go true is = absurd (false≢true (sym (ap (ends_below cmp key) (get_or_default chunks c d [] (omega arith)) ∙ ends) ∙ parted chunks filled sorted c j d le inside is))
 
     -- where all chunks end below, all entries lie below
     pub all_below : (chunks : List (List (K × V))) → IsStrictlySortedBy cmp (keys_of (joined chunks)) → ((j : ℕ) (d : List (K × V)) → j < length chunks → ends_below cmp key (get_or chunks j d) ≡ true) → AreBelow cmp key (joined chunks)

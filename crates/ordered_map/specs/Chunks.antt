@@ -1,5 +1,5 @@
 -- How an ordered map keeps its entries: in chunks, one after the other, none of them empty, with blank chunks beside them for what is to come.
-use Rattle.std.specs.Prelude.{◌≡◌, ℕ, zero, suc, ◌+◌, ◌-◌, ◌*◌, ◌<◌, ◌≤◌, Bool, false, List, [], ◌∷◌, ◌++◌, length, take, drop, slice_index_or, Option, Some, None, Result, Ok, Err, refl}
+use Rattle.std.specs.Prelude.{◌≡◌, ℕ, zero, suc, ◌+◌, ◌-◌, ◌*◌, ◌<◌, ◌≤◌, Bool, true, false, List, [], ◌∷◌, ◌++◌, length, take, drop, slice_index_or, Option, Some, None, Result, Ok, Err, refl}
 use Rattle.std.specs.Coded.{Coded, code_by, coded×, coded_list, coded_ℕ}
 use Rattle.std.specs.List.{AllByRecursion}
 use Rattle.std.specs.List.Sorted.{IsStrictlySortedBy}
@@ -44,6 +44,10 @@ abbrev pub ends_below : {K V : Type 0} → (K → K → Ordering) → K → List
 ends_below cmp key [] = false
 ends_below cmp key (entry ∷ []) = is_gt (cmp key entry.0)
 ends_below cmp key (entry ∷ next ∷ entries) = ends_below cmp key (next ∷ entries)
+
+-- the chunks before this one end below the key
+abbrev pub EndBelow : {K V : Type 0} → (K → K → Ordering) → K → List (List (K × V)) → ℕ → Type 0
+EndBelow {K} {V} cmp key chunks c = (j : ℕ) (d : List (K × V)) → j < c → ends_below cmp key (slice_index_or chunks j d) ≡ true
 
 -- the last key, where there are entries
 abbrev pub last_key : {K V : Type 0} → List (K × V) → Option K

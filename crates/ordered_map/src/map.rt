@@ -5,7 +5,7 @@ ghost use Rattle.std.specs.List.Sorted.{IsStrictlySortedBy, IsPartitionPoint};
 ghost use Rattle.std.specs.Map.{lookup, remove_entry, keys_of};
 ghost use Rattle.std.specs.BTreeMap.{insert_entry, is_at};
 ghost use Rattle.std.specs.Option.{option_copied, option_map};
-ghost use Rattle.ordered_map.specs.Chunks.{AreFilled, joined, chunk_at, flat, ends_below, AreClose, IsCloseBut, capacity, IsChunkOf, IsLocated};
+ghost use Rattle.ordered_map.specs.Chunks.{AreFilled, joined, chunk_at, flat, ends_below, AreClose, IsCloseBut, capacity, EndBelow, IsChunkOf, IsLocated};
 ghost use Rattle.ordered_map.specs.Entries.{room_for, first_from};
 
 use crate::chunk::{CHUNK, Chunk, Edit, HALF, QUARTER};
@@ -43,12 +43,16 @@ struct Spot {
 }
 
 /// A place in a map at which a key was found. Where a map of the same keys came about by the same edits, the key lies there too: a search
-/// that is given a place looks there first. What it answers doesn't depend on the place.
+/// that is given a place looks there first, then in its chunk and the next few, and only then among all chunks. So a pass over ascending
+/// keys, each looked for from the place of the one before, walks over the chunks once. What a search answers doesn't depend on the place.
 #[derive(Clone, Copy, Debug)]
 pub struct Place {
     chunk: usize,
     at: usize,
 }
+
+// How many chunks a search that is given a place walks over, before it searches all.
+const WALK: usize = 8;
 
 // The first chunk that doesn't end below the key, or as many as there are where all do.
 fn first_reaching<K: Ord + Copy, V>(chunks: &[Chunk<K, V>], key: &K) -> usize
@@ -60,14 +64,75 @@ fn first_reaching<K: Ord + Copy, V>(chunks: &[Chunk<K, V>], key: &K) -> usize
     chunks.partition_point(|chunk| chunk.ends_below(key))
 }
 
+// The same, where the chunks before this one end below the key: it walks on from there past a few that end below it.
+fn walk_on<K: Ord + Copy, V>(chunks: &[Chunk<K, V>], key: &K, from: usize) -> usize
+    requires below { EndBelow K.cmp key.now chunks.now from }
+    requires filled { AreFilled chunks.now }
+    requires ordered { IsStrictlySortedBy K.cmp (keys_of (joined chunks.now)) }
+    ensures bound { result ≤ length chunks.now }
+    ensures point { IsPartitionPoint (λ chunk. ends_below K.cmp key.now chunk ≡ true) (λ chunk. ends_below K.cmp key.now chunk ≡ false) chunks.now result }
+{
+    let end = chunks.len().min(from.saturating_add(WALK));
+    for chunk in from..end {
+        if !chunks[chunk].ends_below(key) {
+            return chunk;
+        }
+    }
+    first_reaching(chunks, key)
+}
+
+// There is such a chunk, and those before it end below the key.
+fn is_behind<K: Ord + Copy, V>(chunks: &[Chunk<K, V>], key: &K, chunk: usize) -> bool
+    requires filled { AreFilled chunks.now }
+    requires ordered { IsStrictlySortedBy K.cmp (keys_of (joined chunks.now)) }
+    ensures { result ≡ true → EndBelow K.cmp key.now chunks.now chunk }
+{
+    if chunk < chunks.len() {
+        chunk == 0 || chunks[chunk - 1].ends_below(key)
+    } else {
+        false
+    }
+}
+
+// The same, looked for from a chunk on where those before it end below the key.
+fn first_reaching_from<K: Ord + Copy, V>(chunks: &[Chunk<K, V>], key: &K, from: usize) -> usize
+    requires filled { AreFilled chunks.now }
+    requires ordered { IsStrictlySortedBy K.cmp (keys_of (joined chunks.now)) }
+    ensures bound { result ≤ length chunks.now }
+    ensures point { IsPartitionPoint (λ chunk. ends_below K.cmp key.now chunk ≡ true) (λ chunk. ends_below K.cmp key.now chunk ≡ false) chunks.now result }
+{
+    if is_behind(chunks, key, from) {
+        walk_on(chunks, key, from)
+    } else {
+        first_reaching(chunks, key)
+    }
+}
+
+// The same, where a place may be given.
+fn first_reaching_near<K: Ord + Copy, V>(
+    chunks: &[Chunk<K, V>],
+    key: &K,
+    near: Option<Place>,
+) -> usize
+    requires filled { AreFilled chunks.now }
+    requires ordered { IsStrictlySortedBy K.cmp (keys_of (joined chunks.now)) }
+    ensures bound { result ≤ length chunks.now }
+    ensures point { IsPartitionPoint (λ chunk. ends_below K.cmp key.now chunk ≡ true) (λ chunk. ends_below K.cmp key.now chunk ≡ false) chunks.now result }
+{
+    match near {
+        Some(place) => first_reaching_from(chunks, key, place.chunk),
+        None => first_reaching(chunks, key),
+    }
+}
+
 // The chunk in which a key is or would go. There are chunks.
-fn chunk_of<K: Ord + Copy, V>(chunks: &[Chunk<K, V>], key: &K) -> usize
+fn chunk_of<K: Ord + Copy, V>(chunks: &[Chunk<K, V>], key: &K, near: Option<Place>) -> usize
     requires filled { AreFilled chunks.now }
     requires ordered { IsStrictlySortedBy K.cmp (keys_of (joined chunks.now)) }
     requires some { 0 < length chunks.now }
     ensures { IsChunkOf K.cmp key.now chunks.now result }
 {
-    let first = first_reaching(chunks, key);
+    let first = first_reaching_near(chunks, key, near);
     if first < chunks.len() {
         first
     } else {
@@ -76,7 +141,7 @@ fn chunk_of<K: Ord + Copy, V>(chunks: &[Chunk<K, V>], key: &K) -> usize
 }
 
 // Where a key is or would go. `None` exactly where there are no chunks.
-fn locate<K: Ord + Copy, V>(chunks: &[Chunk<K, V>], key: &K) -> Option<Spot>
+fn locate<K: Ord + Copy, V>(chunks: &[Chunk<K, V>], key: &K, near: Option<Place>) -> Option<Spot>
     requires filled { AreFilled chunks.now }
     requires ordered { IsStrictlySortedBy K.cmp (keys_of (joined chunks.now)) }
     ensures none { result ≡ None → chunks.now ≡ [] }
@@ -85,7 +150,7 @@ fn locate<K: Ord + Copy, V>(chunks: &[Chunk<K, V>], key: &K) -> Option<Spot>
     if chunks.is_empty() {
         return None;
     }
-    let chunk = chunk_of(chunks, key);
+    let chunk = chunk_of(chunks, key, near);
     let at = chunks[chunk].place(key);
     Some(Spot { chunk, at })
 }
@@ -120,7 +185,7 @@ fn locate_at<K: Ord + Copy + Drop, V: Drop>(
             at: Ok(place.at),
         })
     } else {
-        locate(chunks, key)
+        locate(chunks, key, Some(place))
     }
 }
 
@@ -137,7 +202,7 @@ fn locate_near<K: Ord + Copy + Drop, V: Drop>(
 {
     match near {
         Some(place) => locate_at(chunks, key, place),
-        None => locate(chunks, key),
+        None => locate(chunks, key, None),
     }
 }
 
@@ -362,7 +427,7 @@ impl<K: Ord + Copy + Drop, V: Drop> OrderedMap<K, V> {
         ensures { option_map (λ found. found.1.now) result ≡ lookup (is_at (K.cmp key.now)) self.now.entries }
     {
         let chunks = self.chunks.all();
-        let spot = locate(chunks, key)?;
+        let spot = locate(chunks, key, None)?;
         let chunk = spot.chunk;
         match spot.at {
             Ok(at) => Some((Place { chunk, at }, &entry_of(chunks, chunk, at).1)),
@@ -394,8 +459,15 @@ impl<K: Ord + Copy + Drop, V: Drop> OrderedMap<K, V> {
     pub fn first_from(&self, key: &K) -> Option<&(K, V)>
         ensures { option_copied result ≡ first_from K.cmp self.now.entries key.now }
     {
+        self.first_from_near(None, key)
+    }
+
+    /// The same, looking for the key from the chunk of a place on.
+    pub fn first_from_near(&self, near: Option<Place>, key: &K) -> Option<&(K, V)>
+        ensures { option_copied result ≡ first_from K.cmp self.now.entries key.now }
+    {
         let chunks = self.chunks.all();
-        let first = first_reaching(chunks, key);
+        let first = first_reaching_near(chunks, key, near);
         if first < chunks.len() {
             chunks[first].first_from(key)
         } else {
@@ -488,7 +560,7 @@ impl<K: Ord + Copy + Drop, V: Drop> OrderedMap<K, V> {
         ensures spare { self.new.spare ≡ self.old.spare }
         ensures count { length self.new.entries ≡ length self.old.entries }
     {
-        match locate(self.chunks.all(), key) {
+        match locate(self.chunks.all(), key, None) {
             Some(spot) => match spot.at {
                 Ok(at) => {
                     self.last = Some(Place {

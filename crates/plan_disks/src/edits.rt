@@ -10,16 +10,19 @@ use std::alloc::Global;
 /// How a plan ends: its reply with its edits, or what stops it. Its one refusal is want of memory.
 pub fn ended_told(alloc: Global, ended: &Result<Outcome, Stop>) -> Result<String, NoMemory> {
     match ended {
-        Ok(outcome) => {
-            let mut text = reply_told(alloc, &outcome.reply)?;
-            for edit in outcome.edits.as_slice() {
-                text.push(' ')?;
-                text.push_str(&edit_told(alloc, edit)?)?;
-            }
-            Ok(text)
-        }
+        Ok(outcome) => outcome_told(alloc, outcome),
         Err(stop) => stop_told(alloc, stop),
     }
+}
+
+/// A reply with the edits that make it. Its one refusal is want of memory.
+pub fn outcome_told(alloc: Global, outcome: &Outcome) -> Result<String, NoMemory> {
+    let mut text = reply_told(alloc, &outcome.reply)?;
+    for edit in outcome.edits.as_slice() {
+        text.push(' ')?;
+        text.push_str(&edit_told(alloc, edit)?)?;
+    }
+    Ok(text)
 }
 
 // What ends a plan before it is done.

@@ -12,7 +12,7 @@ mod replies;
 mod segments;
 
 pub use disks::{Filled, Laid, Piece, block_of, lay, put_filled, put_full_block, sectors_of};
-pub use edits::ended_told;
+pub use edits::{ended_told, outcome_told};
 pub use paths::{path_of, target_of};
 pub use plans::{changes_told, freed_told, plan_told, writes_told, written_told};
 pub use segments::{Segment, held_of};

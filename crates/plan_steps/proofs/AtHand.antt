@@ -1,5 +1,5 @@
 -- A look at every segment that is held finds each at hand.
-use Rattle.std.proofs.Common.{◌≡◌, ℕ, Bool, true, false, cond, is_some, Option, Some, None, [], ◌∷◌, refl, ap}
+use Rattle.std.proofs.Common.{◌≡◌, ℕ, Bool, true, false, cond, is_some, map, Option, Some, None, [], ◌∷◌, ◌++◌, refl, ap}
 use Rattle.std.specs.BTreeMap.{is_at}
 use Rattle.std.specs.Map.{keys_of}
 use Rattle.std.specs.Ordering.{nat_cmp}
@@ -10,10 +10,14 @@ use Rattle.plan_definitions.specs.Ask.{Ask, read_segments}
 use Rattle.plan_definitions.specs.Plans.{Hand, read_held}
 use Rattle.plan_definitions.specs.Written.{Cached, is_held}
 use Rattle.dir_lookup.specs.Reading.{reading}
+use Rattle.plan_steps.specs.Looking.{examined, segment_number}
 
-held_by : (held : Segments) (k : ℕ) (o : Option Bitmap) → bitmap_of held k ≡ o → is_some o ≡ true → is_held held k ≡ true
+pub held_by : (held : Segments) (k : ℕ) (o : Option Bitmap) → bitmap_of held k ≡ o → is_some o ≡ true → is_held held k ≡ true
 held_by held k None e s = absurd (cc)
 held_by held k (Some x) e s = rw e refl
+
+pub not_held : (held : Segments) (k : ℕ) → bitmap_of held k ≡ None → is_held held k ≡ false
+not_held held k e = rw e refl
 
 there_by : (held : Segments) (k : ℕ) (o : Option Bitmap) → bitmap_of held k ≡ o → is_held held k ≡ true → is_some o ≡ true
 there_by held k None e h = rw e at h
@@ -38,3 +42,14 @@ keys_at_hand ((k, x) ∷ es) held cached p h =
 
 pub held_at_hand : {A : Type 0} (h : Hand) (cached : Cached) (p : Ask A) → reading (read_held h p) cached h.held ≡ reading p cached h.held
 held_at_hand h cached p = keys_at_hand h.held h.held cached p (λ k i. i)
+
+-- and it examines each
+keys_looked : {A : Type 0} (es held : Segments) (cached : Cached) (p : Ask A) → ((k : ℕ) → is_held es k ≡ true → is_held held k ≡ true)
+    → examined (read_segments (keys_of es) p) cached held ≡ map segment_number (keys_of es) ++ examined p cached held
+keys_looked [] held cached p h = refl
+keys_looked ((k, x) ∷ es) held cached p h =
+    let t : is_held held k ≡ true = h k (held_first k x es) in
+    rw t (ap (λ l. segment_number k ∷ l) (keys_looked es held cached p (λ j i. h j (held_later (k, x) es j i))))
+
+pub held_looked : {A : Type 0} (h : Hand) (cached : Cached) (p : Ask A) → examined (read_held h p) cached h.held ≡ map segment_number (keys_of h.held) ++ examined p cached h.held
+held_looked h cached p = keys_looked h.held h.held cached p (λ k i. i)

@@ -9,3 +9,8 @@ pub mod Leading
 pub mod Editing
 pub mod Ending
 pub mod Through
+pub mod Examining
+pub mod Looking
+pub mod SegmentLooks
+pub mod WalkLooks
+pub mod RoomLooks

@@ -32,7 +32,7 @@ pub first_needed : (held : Segments) (xs ys : List ℕ) (s : ℕ) → Some s ≡
 first_needed held xs ys s e = ap (λ p. or_else p (needed held ys)) e ∙ sym (needed_append held xs ys)
 
 -- ---- numbers below a bound
-below_next : (f : ℕ → ℕ) (n : ℕ) → map f (below n) ++ f n ∷ [] ≡ map f (below (n + 1))
+pub below_next : (f : ℕ → ℕ) (n : ℕ) → map f (below n) ++ f n ∷ [] ≡ map f (below (n + 1))
 below_next f n = sym (ap (map f) (below_one n) ∙ map-append f (below n) (n ∷ []))
 
 pub needed_more : (held : Segments) (f : ℕ → ℕ) (n : ℕ) (o : Option ℕ) → None ≡ needed held (map f (below n)) → o ≡ needed held (f n ∷ []) → o ≡ needed held (map f (below (n + 1)))

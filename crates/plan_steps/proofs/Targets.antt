@@ -38,13 +38,13 @@ module _ (path : List (List ℕ)) (cached : Cached) (held : Segments) where
   pub finds_lack : (n : ℕ) → Lacks n ≡ reading (bind (walk path) (λ w. Got w.spot)) cached held → (next : Target → Ask Plan) → reading (plan_of_node path next) cached held ≡ Lacks n
   finds_lack n e next = on_from (Lacks n) (lacking (reading (walk path) cached held) n (by_walk (Lacks n) e)) next
 
-  at_node : (s : Spot) (u : Target) (dirs : List ℕ) (next : Target → Ask Plan) → Ok u ≡ target_at s → at_spot s dirs refused next ≡ next (record u { dirs = dirs })
+  pub at_node : (s : Spot) (u : Target) (dirs : List ℕ) (next : Target → Ask Plan) → Ok u ≡ target_at s → at_spot s dirs refused next ≡ next (record u { dirs = dirs })
   at_node AtRoot u dirs next e = let h : record { inode = 0; kind = 2; dirs = [] } ≡ u = cc in ap (λ (u : Target). next (record u { dirs = dirs })) h
   at_node (AtName i x name q d) u dirs next e = let h : record { inode = d.inode; kind = d.kind; dirs = [] } ≡ u = cc in ap (λ (u : Target). next (record u { dirs = dirs })) h
   at_node (AtGap i x name) u dirs next e = absurd (cc)
   at_node (Lost r) u dirs next e = absurd (cc)
 
-  at_refusal : (s : Spot) (r : Reply) (dirs : List ℕ) (next : Target → Ask Plan) → Err r ≡ target_at s → at_spot s dirs refused next ≡ refused r dirs
+  pub at_refusal : (s : Spot) (r : Reply) (dirs : List ℕ) (next : Target → Ask Plan) → Err r ≡ target_at s → at_spot s dirs refused next ≡ refused r dirs
   at_refusal AtRoot r dirs next e = absurd (cc)
   at_refusal (AtName i x name q d) r dirs next e = absurd (cc)
   at_refusal (AtGap i x name) r dirs next e = let h : reply.NoEnt ≡ r = cc in ap (λ (r : Reply). refused r dirs) h

@@ -5,3 +5,4 @@ pub mod Nodes
 pub mod Outcomes
 pub mod Rooms
 pub mod Spots
+pub mod Looking

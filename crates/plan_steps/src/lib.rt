@@ -20,7 +20,7 @@ pub use edit::{Edit, Outcome, push};
 pub use entries::{enter, entry_for, replace_entry, take_entry};
 pub use nodes::{NewNode, fewer, new_node, relink};
 pub use passing::walk_passes;
-pub use room::{Room, clear_room, find_room, is_full, nothing_left};
+pub use room::{Room, clear_room, find_room, is_full, look_at_held, nothing_left};
 pub use segments::{segment_held, segments_needed};
 pub use stop::Stop;
 pub use target::{Target, inode_of, target_of};

@@ -3,6 +3,7 @@ ghost use Rattle.std.specs.Prelude.{◌≡◌, IfOk};
 ghost use Rattle.pick_definitions.specs.Held.{Segments};
 ghost use Rattle.dir_lookup.specs.Spots.{spot_of};
 ghost use Rattle.dir_lookup.specs.Stored.{IsUsed};
+ghost use Rattle.plan_steps.specs.Looking.{LooksAtInode, LooksAtTarget};
 ghost use Rattle.plan_steps.specs.Targets.{FindsInode, FindsTarget, target_at, target_of};
 
 use crate::stop::Stop;
@@ -19,12 +20,12 @@ pub struct Target {
     pub kind: u8,
 }
 
-/// The node that a path names, or how the walk was refused.
-pub fn target_of(sectors: &Sectors, path: &Path) -> Result<Target, Stop>
-    ensures { (held : Segments) → FindsTarget sectors.now.entries held path.now result }
+/// The node that a path names, or how the walk was refused. What the walk looked at comes to `looked`.
+pub fn target_of(sectors: &Sectors, path: &Path, looked: &mut Looked) -> Result<Target, Stop>
+    ensures finds { (held : Segments) → FindsTarget sectors.now.entries held path.now result }
+    ensures looks { (held : Segments) → LooksAtTarget sectors.now.entries held looked.old looked.new path.now result }
 {
-    let mut looked = Looked::unasked();
-    let spot = walk_spot(sectors, path.as_slice(), &mut looked)?;
+    let spot = walk_spot(sectors, path.as_slice(), looked)?;
     match target_at(&spot) {
         Ok(target) => Ok(target),
         Err(refusal) => Err(Stop::Refused(refusal.reply())),
@@ -49,13 +50,13 @@ fn target_at(spot: &Spot) -> Result<Target, Refusal>
     }
 }
 
-/// The inode of a node that was reached. A free one is refused as a name that isn't there.
-pub fn inode_of(sectors: &Sectors, i: u32) -> Result<Inode, Stop>
+/// The inode of a node that was reached. A free one is refused as a name that isn't there. Its sector comes to `looked`.
+pub fn inode_of(sectors: &Sectors, i: u32, looked: &mut Looked) -> Result<Inode, Stop>
     ensures finds { (held : Segments) → FindsInode sectors.now.entries held i result }
     ensures used { IfOk result IsUsed }
+    ensures looks { (held : Segments) → LooksAtInode sectors.now.entries held looked.old looked.new i result }
 {
-    let mut looked = Looked::unasked();
-    let found = inode_at(sectors, i, &mut looked)?;
+    let found = inode_at(sectors, i, looked)?;
     match found {
         Some(inode) => Ok(inode),
         None => Err(Stop::Refused(Reply::NoEnt)),

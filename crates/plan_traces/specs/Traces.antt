@@ -1,5 +1,5 @@
 -- What a computation looks at in order, beside what it comes to, with some sectors at hand.
-use Rattle.std.specs.Prelude.{if◌then◌else◌, Option, Some, None, List, [], ◌∷◌, ◌++◌}
+use Rattle.std.specs.Prelude.{Bool, true, false, if◌then◌else◌, Option, Some, None, List, [], ◌∷◌, ◌++◌}
 use Rattle.plan_definitions.specs.Ask.{Sector, InodeAt, DirectoryAt, SegmentAt, BytesAt, LargeAt, Ask, Got, ReadInode, ReadDirectory, ReadSegment, ReadBytes, ReadLarge, AtHand, Met}
 use Rattle.plan_definitions.specs.Ask.Met.{Needs, Has}
 
@@ -36,3 +36,11 @@ on_from looked (Has value) next = record { looked = looked ++ (next value).looke
 -- one trace, and then another by its value
 abbrev pub then_traced : {A B : Type 0} → Traced A → (A → Traced B) → Traced B
 then_traced first next = on_from first.looked first.met next
+
+-- file bytes have no version
+abbrev pub has_version : Sector → Bool
+has_version (InodeAt inode) = true
+has_version (DirectoryAt block part) = true
+has_version (SegmentAt segment) = true
+has_version (BytesAt block part) = false
+has_version (LargeAt segment part) = false

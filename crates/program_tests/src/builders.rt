@@ -3,6 +3,8 @@ use frang_base::NoMemory;
 use frang_outside::{Act, MemFiles, MemOutside, NoGate};
 use frang_top::{Status, frang};
 use std::alloc::{AllocError, Global};
+use std::process::Abort;
+use std::test::Fail;
 use std::thread::Threads;
 
 pub const DONE: Status = Status {
@@ -63,4 +65,22 @@ pub fn tell(
         acts: acts.len(),
         text: lines_said(alloc, acts)?,
     })
+}
+
+// A script, and what its run says.
+pub type Run = (&'static str, &'static str);
+
+pub fn expect_runs(
+    rt: &(impl Abort + Threads + Sync),
+    alloc: Global,
+    runs: &[Run],
+) -> Result<(), Fail> {
+    for (script, wanted) in runs {
+        let told = tell(rt, alloc, &["run", "s"], script.as_bytes())?;
+        assert!(rt;
+            told.status == DONE && told.text.as_slice() == wanted.as_bytes(),
+            "{script}"
+        );
+    }
+    Ok(())
 }

@@ -1,6 +1,6 @@
 // What no clause says: that each call succeeds while there is memory, and what the trusted edge
 // does.
-use frang_base::{Sector, ServerId};
+use frang_base::{NoMemory, Sector, ServerId};
 use frang_outside::{
     DirFiles, Failed, FaultyOutside, FileFault, Files, Gate, MemFiles, MemOutside, NoGate, Outside,
     Put, PutFault, SayFault, StdOutside, Taken,
@@ -20,6 +20,15 @@ const SECTOR: Sector = Sector(7);
 // sector has then.
 type PutCase = (u64, u64, u8, Result<Taken, PutFault>, u8);
 
+// A get answers a sector with this byte throughout.
+fn has_bytes<O: Outside>(out: &mut O, sector: Sector, byte: u8) -> bool {
+    out.get(WRITER, sector) == Ok([byte; 512])
+}
+
+fn says<O: Outside>(out: &mut O, answer: Result<(), SayFault>) -> bool {
+    out.say(b"1 0 ok\n") == answer
+}
+
 fn try_puts<O: Outside>(rt: &impl Abort, out: &mut O, cases: &[PutCase]) {
     for (stamp, now, byte, answer, left) in cases {
         let put = Put {
@@ -30,10 +39,10 @@ fn try_puts<O: Outside>(rt: &impl Abort, out: &mut O, cases: &[PutCase]) {
             sector: SECTOR,
             bytes: [*byte; 512],
         };
-        assert_eq!(rt; out.put(&put), *answer, "byte {byte}");
-        assert_eq!(rt; out.get(WRITER, SECTOR), Ok([*left; 512]), "byte {byte}");
+        let is_answered = out.put(&put) == *answer;
+        assert!(rt; is_answered && has_bytes(out, SECTOR, *left), "byte {byte}");
     }
-    assert_eq!(rt; out.get(WRITER, Sector(8)), Ok([0; 512]));
+    assert!(rt; has_bytes(out, Sector(8), 0));
 }
 
 // Workers share the gate, and pass the outside on.
@@ -45,45 +54,67 @@ fn passes<O: Outside + Send>(out: O) -> O {
     out
 }
 
+static IN_TIME: [PutCase; 3] = [
+    (5, 4, 1, Ok(Taken::Written), 1),
+    (5, 5, 2, Ok(Taken::Written), 2),
+    (5, 6, 3, Ok(Taken::Late), 2),
+];
+
 #[test]
 fn outsides_in_memory_take_puts_in_time(rt: HostRuntime) -> Result<(), Fail> {
-    let cases = [
-        (5, 4, 1, Ok(Taken::Written), 1),
-        (5, 5, 2, Ok(Taken::Written), 2),
-        (5, 6, 3, Ok(Taken::Late), 2),
-    ];
     enters(&NoGate);
     let mut out = passes(MemOutside::new(rt.alloc()));
-    try_puts(&rt, &mut out, &cases);
-    assert_eq!(rt; out.say(b"1 0 ok\n"), Ok(()));
-    assert_eq!(rt; out.acts().len(), 4);
+    try_puts(&rt, &mut out, &IN_TIME);
+    assert!(rt; says(&mut out, Ok(())));
+    assert!(rt; out.acts().len() == 4);
     let mut out = passes(StdOutside::new(rt.alloc(), rt.clone()?));
-    try_puts(&rt, &mut out, &cases);
+    try_puts(&rt, &mut out, &IN_TIME);
     Ok(())
+}
+
+// The same where the second and the third put fail, of which the third is late.
+static WITH_FAULTS: [PutCase; 4] = [
+    (5, 5, 1, Ok(Taken::Written), 1),
+    (5, 5, 2, Err(PutFault::Failed), 1),
+    (5, 6, 3, Ok(Taken::Late), 1),
+    (5, 5, 4, Ok(Taken::Written), 4),
+];
+
+// An outside at which the sixth get, two puts and the second say fail.
+fn failing(alloc: Global) -> Result<FaultyOutside, NoMemory> {
+    let gets = vec![in alloc; 6u64]?;
+    let puts = vec![in alloc; 2u64, 3]?;
+    let says = vec![in alloc; 2u64]?;
+    Ok(FaultyOutside::new(alloc, gets, puts, says))
 }
 
 #[test]
 fn listed_calls_fail(rt: HostRuntime) -> Result<(), Fail> {
-    let alloc = rt.alloc();
-    let gets = vec![in alloc; 6u64]?;
-    let puts = vec![in alloc; 2u64, 3]?;
-    let says = vec![in alloc; 2u64]?;
-    let mut out = passes(FaultyOutside::new(alloc, gets, puts, says));
-    let cases = [
-        (5, 5, 1, Ok(Taken::Written), 1),
-        (5, 5, 2, Err(PutFault::Failed), 1),
-        (5, 6, 3, Ok(Taken::Late), 1),
-        (5, 5, 4, Ok(Taken::Written), 4),
-    ];
-    try_puts(&rt, &mut out, &cases);
-    assert_eq!(rt; out.get(WRITER, SECTOR), Err(Failed));
-    assert_eq!(rt; out.get(WRITER, SECTOR), Ok([4; 512]));
-    for answer in [Ok(()), Err(SayFault::Failed), Ok(())] {
-        assert_eq!(rt; out.say(b"1 0 ok\n"), answer);
-    }
-    assert_eq!(rt; out.acts().len(), 5);
+    let mut out = passes(failing(rt.alloc())?);
+    try_puts(&rt, &mut out, &WITH_FAULTS);
+    assert!(rt; out.get(WRITER, SECTOR) == Err(Failed));
+    assert!(rt; has_bytes(&mut out, SECTOR, 4));
+    assert!(rt; says(&mut out, Ok(())));
+    assert!(rt; says(&mut out, Err(SayFault::Failed)));
+    assert!(rt; says(&mut out, Ok(())));
+    assert!(rt; out.acts().len() == 5);
     Ok(())
 }
+
+fn read<F: Files>(
+    files: &mut F,
+    alloc: Global,
+    name: &str,
+    most: u64,
+) -> Result<Vec<u8>, FileFault> {
+    files.read(alloc, name, most)
+}
+
+fn write<F: Files>(files: &mut F, name: &str, text: &[u8]) -> Result<(), FileFault> {
+    files.write(name, text)
+}
+
+static TEXTS: [&[u8]; 3] = [b"longer", b"", b"short"];
 
 fn try_files<F: Files>(
     rt: &impl Abort,
@@ -91,13 +122,13 @@ fn try_files<F: Files>(
     files: &mut F,
     name: &str,
 ) -> Result<(), Fail> {
-    assert_eq!(rt; files.read(alloc, name, 9), Err(FileFault::Failed));
-    for text in [b"longer".as_slice(), b"".as_slice(), b"short".as_slice()] {
-        assert_eq!(rt; files.write(name, text), Ok(()));
-        let read = files.read(alloc, name, text.len() as u64)?;
-        assert_eq!(rt; read.as_slice(), text);
+    assert!(rt; read(files, alloc, name, 9) == Err(FileFault::Failed));
+    for text in &TEXTS {
+        assert!(rt; write(files, name, text) == Ok(()));
+        let found = read(files, alloc, name, text.len() as u64)?;
+        assert!(rt; found.as_slice() == *text);
     }
-    assert_eq!(rt; files.read(alloc, name, 4), Err(FileFault::TooLong));
+    assert!(rt; read(files, alloc, name, 4) == Err(FileFault::TooLong));
     Ok(())
 }
 
@@ -107,10 +138,7 @@ fn files_are_read_whole(rt: HostRuntime) -> Result<(), Fail> {
     let mut files = MemFiles::new(alloc);
     files.put_file("other", b"stays")?;
     try_files(&rt, alloc, &mut files, "s")?;
-    assert_eq!(rt;
-        files.read(alloc, "other", 5)?.as_slice(),
-        b"stays".as_slice()
-    );
+    assert!(rt; files.read(alloc, "other", 5)?.as_slice() == b"stays".as_slice());
 
     let id = process::id(rt.process());
     let path = env::temp_dir(&rt)?.join(alloc, format!(in alloc; "frang_outside_{id}")?)?;
@@ -157,9 +185,9 @@ fn a_line_is_printed_whole_or_fails(rt: HostRuntime) -> Result<(), Fail> {
         room: 10,
     };
     let mut out = StdOutside::new(alloc, &paper);
-    assert_eq!(rt; out.say(b"1 0 ok\n"), Ok(()));
-    assert_eq!(rt; out.say(b"2 0 ok\n"), Err(SayFault::Failed));
+    assert!(rt; out.say(b"1 0 ok\n") == Ok(()));
+    assert!(rt; out.say(b"2 0 ok\n") == Err(SayFault::Failed));
     let printed = paper.printed.try_borrow()?;
-    assert_eq!(rt; printed.as_slice(), b"1 0 ok\n2 0".as_slice());
+    assert!(rt; printed.as_slice() == b"1 0 ok\n2 0".as_slice());
     Ok(())
 }

@@ -60,7 +60,7 @@ fn lists_are_copied(rt: HostRuntime) -> Result<(), Fail> {
     let paths = path_is_copied(alloc)?;
     let names = names_are_copied(alloc)?;
     let patches = patches_are_copied(alloc)?;
-    assert_eq!(rt; (texts, paths, names, patches), (true, true, true, true));
+    assert!(rt; texts && paths && names && patches);
     Ok(())
 }
 
@@ -128,8 +128,8 @@ fn a_history_leaves_a_tree(rt: HostRuntime) -> Result<(), Fail> {
     assert!(rt; has_times(&script));
     let mut history = History::live(alloc, &script, 1, &said)?;
     let text = left_tree(alloc, &history)?;
-    assert_eq!(rt; text.as_slice(), b"= / dir 1\n= /a file 0 1\n".as_slice());
+    assert!(rt; text.as_slice() == b"= / dir 1\n= /a file 0 1\n".as_slice());
     history.drop_after(ServerId(0), OpNo(0))?;
-    assert_eq!(rt; history.as_slice().len(), 4);
+    assert!(rt; history.as_slice().len() == 4);
     Ok(())
 }

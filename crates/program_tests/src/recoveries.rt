@@ -151,23 +151,25 @@ fn picture_left(alloc: Global, table: &str) -> Result<Vec<u8>, NoMemory> {
     picture(alloc, &tree_left(&Tree::fresh(alloc, 16)?, &history)?)
 }
 
+// A table, and the picture of the tree that it leaves.
+static PICTURES: [(&str, &str); 7] = [
+    (UNSYNCED, "= / dir 1\n= /a file 0 1\n\n"),
+    (READ, "= / dir 1\n= /a file 600 1\nB?AA\n"),
+    (TOUCHED, "= / dir 1\n= /a file 600 1\nBAAA\n"),
+    (LOST_FILL, "= / dir 1\n= /a file 600 1\nAAAA\n"),
+    (LOST_TRUNCATE, "= / dir 1\n= /a file 600 1\nAAAA\n"),
+    (
+        TWO_SERVERS,
+        "= / dir 2\n= /a file 600 1\n= /b file 600 1\nAA??\nBBBB\n",
+    ),
+    (MOUNTED_AGAIN, "= / dir 1\n= /a file 0 1\n\n"),
+];
+
 #[test]
 fn recoveries_leave_trees(rt: HostRuntime) -> Result<(), Fail> {
-    let rows = [
-        (UNSYNCED, "= / dir 1\n= /a file 0 1\n\n"),
-        (READ, "= / dir 1\n= /a file 600 1\nB?AA\n"),
-        (TOUCHED, "= / dir 1\n= /a file 600 1\nBAAA\n"),
-        (LOST_FILL, "= / dir 1\n= /a file 600 1\nAAAA\n"),
-        (LOST_TRUNCATE, "= / dir 1\n= /a file 600 1\nAAAA\n"),
-        (
-            TWO_SERVERS,
-            "= / dir 2\n= /a file 600 1\n= /b file 600 1\nAA??\nBBBB\n",
-        ),
-        (MOUNTED_AGAIN, "= / dir 1\n= /a file 0 1\n\n"),
-    ];
-    for (table, wanted) in rows {
+    for (table, wanted) in &PICTURES {
         let text = picture_left(rt.alloc(), table)?;
-        assert_eq!(rt; text.as_slice(), wanted.as_bytes());
+        assert!(rt; text.as_slice() == wanted.as_bytes(), "{table}");
     }
     Ok(())
 }

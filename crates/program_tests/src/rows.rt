@@ -1,5 +1,6 @@
 // Whole runs: what is said, and how each ends.
-use crate::builders::{DONE, lines_said, tell, words_of};
+use crate::builders::{DONE, Run, Told, expect_runs, lines_said, tell, words_of};
+use frang_base::NoMemory;
 use frang_base::limits::SCRIPT_BYTES_MAX;
 use frang_outside::{FaultyOutside, MemFiles, NoGate};
 use frang_top::{Status, frang};
@@ -8,76 +9,82 @@ use std::process::Abort;
 use std::test::Fail;
 use std::thread::Threads;
 
-fn expect_run(
-    rt: &(impl Abort + Threads + Sync),
-    alloc: Global,
-    script: &str,
-    wanted: &str,
-) -> Result<(), Fail> {
-    let told = tell(rt, alloc, &["run", "s"], script.as_bytes())?;
-    assert!(rt;
-        told.status == DONE && told.text.as_slice() == wanted.as_bytes(),
-        "{script}"
-    );
-    Ok(())
-}
+static RUNS: [Run; 7] = [
+    (
+        "0 mount\n0 create /a\n0 sync\n",
+        "1 0 mounted\n2 0 ok\n3 0 ok\n= / dir 1\n= /a file 0 1\n! end\n",
+    ),
+    ("", "= / dir 0\n! end\n"),
+    (
+        "0 create /b\n0 mount\n0 mount\n0 create /b\n0 create /b\n0 create /a\n",
+        "1 0 down\n2 0 mounted\n3 0 already\n4 0 ok\n5 0 exist\n6 0 ok\n= / dir 2\n= /a file 0 1\n= /b file 0 1\n! end\n",
+    ),
+    ("0 sync", "1 0 down\n= / dir 0\n! end\n"),
+    (
+        "# names\r\n\r\n  0\tmount \r\nbarrier\n0 mkdir /d\n\n0 symlink /d/l t\nbarrier\n",
+        "3 0 mounted\n4 - ok\n5 0 ok\n7 0 ok\n8 - ok\n= / dir 1\n= /d dir 1\n= /d/l link 1\n! end\n",
+    ),
+    // a directory isn't moved below itself
+    (
+        "0 mount\n0 mkdir /d\n0 rename /d /d/e\n0 mkdir /d/e\n0 rename /d/e /d\n0 rename /d /d\n",
+        "1 0 mounted\n2 0 ok\n3 0 inval\n4 0 ok\n5 0 notempty\n6 0 ok\n= / dir 1\n= /d dir 1\n= /d/e dir 0\n! end\n",
+    ),
+    // a file grows into a large block
+    (
+        "0 mount\n0 create /f\n0 fill /f 0 65536 41\n0 fill /f 65536 1 42\n0 stat /f\n0 read /f 65535 4\n0 fill /f 65537 1048575 43\n0 write /f 1114112 x\n0 write /f 1114113 x\n0 truncate /f 65536\n0 stat /f\n",
+        "1 0 mounted\n2 0 ok\n3 0 ok\n4 0 ok\n5 0 file 65537 1\n6 0 data 4142\n7 0 ok\n8 0 toobig\n9 0 badoffset\n10 0 ok\n11 0 file 65536 1\n= / dir 1\n= /f file 65536 1\n! end\n",
+    ),
+];
 
 #[test]
 fn scripts_are_answered(rt: HostRuntime) -> Result<(), Fail> {
-    let runs = [
-        (
-            "0 mount\n0 create /a\n0 sync\n",
-            "1 0 mounted\n2 0 ok\n3 0 ok\n= / dir 1\n= /a file 0 1\n! end\n",
-        ),
-        ("", "= / dir 0\n! end\n"),
-        (
-            "0 create /b\n0 mount\n0 mount\n0 create /b\n0 create /b\n0 create /a\n",
-            "1 0 down\n2 0 mounted\n3 0 already\n4 0 ok\n5 0 exist\n6 0 ok\n= / dir 2\n= /a file 0 1\n= /b file 0 1\n! end\n",
-        ),
-        ("0 sync", "1 0 down\n= / dir 0\n! end\n"),
-        (
-            "# names\r\n\r\n  0\tmount \r\nbarrier\n0 mkdir /d\n\n0 symlink /d/l t\nbarrier\n",
-            "3 0 mounted\n4 - ok\n5 0 ok\n7 0 ok\n8 - ok\n= / dir 1\n= /d dir 1\n= /d/l link 1\n! end\n",
-        ),
-        // a directory isn't moved below itself
-        (
-            "0 mount\n0 mkdir /d\n0 rename /d /d/e\n0 mkdir /d/e\n0 rename /d/e /d\n0 rename /d /d\n",
-            "1 0 mounted\n2 0 ok\n3 0 inval\n4 0 ok\n5 0 notempty\n6 0 ok\n= / dir 1\n= /d dir 1\n= /d/e dir 0\n! end\n",
-        ),
-        // a file grows into a large block
-        (
-            "0 mount\n0 create /f\n0 fill /f 0 65536 41\n0 fill /f 65536 1 42\n0 stat /f\n0 read /f 65535 4\n0 fill /f 65537 1048575 43\n0 write /f 1114112 x\n0 write /f 1114113 x\n0 truncate /f 65536\n0 stat /f\n",
-            "1 0 mounted\n2 0 ok\n3 0 ok\n4 0 ok\n5 0 file 65537 1\n6 0 data 4142\n7 0 ok\n8 0 toobig\n9 0 badoffset\n10 0 ok\n11 0 file 65536 1\n= / dir 1\n= /f file 65536 1\n! end\n",
-        ),
-    ];
-    for (script, wanted) in runs {
-        expect_run(&rt, rt.alloc(), script, wanted)?;
+    expect_runs(&rt, rt.alloc(), &RUNS)
+}
+
+// A line's place among those said, and the line.
+static LINES: [(usize, &[u8]); 3] = [
+    (896, b"897 0 ok"),
+    (897, b"898 0 dirfull"),
+    (898, b"= / dir 896"),
+];
+
+// Makes so many files.
+fn creates(alloc: Global, count: u32) -> Result<String, NoMemory> {
+    let mut script = format!(in alloc; "0 mount\n")?;
+    for n in 1..=count {
+        let line = format!(in alloc; "0 create /n{n}\n")?;
+        script.push_str(line.as_str())?;
     }
-    Ok(())
+    Ok(script)
+}
+
+fn has_line(text: &[u8], place: usize, wanted: &[u8]) -> bool {
+    match text.split(|byte| *byte == b'\n').nth(place) {
+        Some(line) => line == wanted,
+        None => false,
+    }
 }
 
 #[test]
 fn a_directory_has_at_most_896_entries(rt: HostRuntime) -> Result<(), Fail> {
-    let alloc = rt.alloc();
-    let mut script = format!(in alloc; "0 mount\n")?;
-    for n in 1..=897 {
-        let line = format!(in alloc; "0 create /n{n}\n")?;
-        script.push_str(line.as_str())?;
-    }
-    let told = tell(&rt, alloc, &["run", "s"], script.as_bytes())?;
+    let script = creates(rt.alloc(), 897)?;
+    let told = tell(&rt, rt.alloc(), &["run", "s"], script.as_bytes())?;
     assert!(rt; told.status == DONE && told.acts == 1 + 897 + 897 + 1);
-    for (place, wanted) in [
-        (896, b"897 0 ok".as_slice()),
-        (897, b"898 0 dirfull".as_slice()),
-        (898, b"= / dir 896".as_slice()),
-    ] {
-        let line = told.text.split(|byte| *byte == b'\n').nth(place);
-        assert!(rt;
-            matches!(line, Some(line) if line == wanted),
-            "line {place}"
-        );
+    for (place, wanted) in &LINES {
+        assert!(rt; has_line(&told.text, *place, wanted), "line {place}");
     }
     Ok(())
+}
+
+fn says_nothing(told: &Told, wanted: (u8, u32, u64)) -> bool {
+    let (code, line, at) = wanted;
+    let status = Status {
+        code,
+        line,
+        at,
+        sector: 0,
+    };
+    told.status == status && told.acts == 0
 }
 
 // Such a call ends so and says nothing.
@@ -89,68 +96,63 @@ fn expect_status(
     wanted: (u8, u32, u64),
 ) -> Result<(), Fail> {
     let told = tell(rt, alloc, words, file)?;
-    let (code, line, at) = wanted;
-    let sector = 0;
-    assert_eq!(rt;
-        told.status,
-        Status {
-            code,
-            line,
-            at,
-            sector
-        }
-    );
-    assert_eq!(rt; told.acts, 0);
+    assert!(rt; says_nothing(&told, wanted), "{wanted:?}");
     Ok(())
 }
+
+// What a call with the words of this line tells where the script is empty.
+fn tell_line(rt: &(impl Threads + Sync), alloc: Global, line: &str) -> Result<Told, NoMemory> {
+    let mut words = Vec::new(alloc);
+    for word in line.split_whitespace() {
+        words.push(word)?;
+    }
+    tell(rt, alloc, &words, b"")
+}
+
+static REFUSED: [&str; 11] = [
+    "",
+    "run",
+    "run -s",
+    "walk s",
+    "run s s",
+    "run s --segments",
+    "run --segments s",
+    "run s --segments 1 --segments=1",
+    "run -- s --segments 1",
+    "run s --help",
+    "run s --save f",
+];
 
 #[test]
 fn a_call_that_is_refused_says_nothing(rt: HostRuntime) -> Result<(), Fail> {
-    let alloc = rt.alloc();
-    for line in [
-        "",
-        "run",
-        "run -s",
-        "walk s",
-        "run s s",
-        "run s --segments",
-        "run --segments s",
-        "run s --segments 1 --segments=1",
-        "run -- s --segments 1",
-        "run s --help",
-        "run s --save f",
-    ] {
-        let mut words = Vec::new(alloc);
-        for word in line.split_whitespace() {
-            words.push(word)?;
-        }
-        expect_status(&rt, alloc, &words, b"", (2, 0, 0))?;
+    for line in &REFUSED {
+        let told = tell_line(&rt, rt.alloc(), line)?;
+        assert!(rt; says_nothing(&told, (2, 0, 0)), "{line}");
     }
-    expect_status(&rt, alloc, &["run", "t"], b"", (4, 0, 0))?;
-    let long = vec![in alloc; b'x'; SCRIPT_BYTES_MAX + 1]?;
-    expect_status(&rt, alloc, &["run", "s"], &long, (8, 0, 1048576))?;
-    expect_status(&rt, alloc, &["run", "s"], &long[1..], (1, 1, 2))?;
     Ok(())
 }
 
 #[test]
-fn options_have_their_form(rt: HostRuntime) -> Result<(), Fail> {
+fn a_script_that_is_not_there_or_too_long_is_refused(rt: HostRuntime) -> Result<(), Fail> {
     let alloc = rt.alloc();
-    for segments in ["0", "65", "01", "+1", "x", "", "16 "] {
-        expect_status(
-            &rt,
-            alloc,
-            &["run", "s", "--segments", segments],
-            b"",
-            (2, 0, 0),
-        )?;
+    expect_status(&rt, alloc, &["run", "t"], b"", (4, 0, 0))?;
+    let long = vec![in alloc; b'x'; SCRIPT_BYTES_MAX + 1]?;
+    expect_status(&rt, alloc, &["run", "s"], &long, (8, 0, 1048576))?;
+    expect_status(&rt, alloc, &["run", "s"], &long[1..], (1, 1, 2))
+}
+
+static NO_SEGMENTS: [&str; 7] = ["0", "65", "01", "+1", "x", "", "16 "];
+
+static SEGMENTS: [&str; 3] = ["run --segments 1 s", "run -- s", "run s --segments=64"];
+
+#[test]
+fn options_have_their_form(rt: HostRuntime) -> Result<(), Fail> {
+    for segments in &NO_SEGMENTS {
+        let words = ["run", "s", "--segments", *segments];
+        expect_status(&rt, rt.alloc(), &words, b"", (2, 0, 0))?;
     }
-    for line in ["run --segments 1 s", "run -- s", "run s --segments=64"] {
-        let mut words = Vec::new(alloc);
-        for word in line.split_whitespace() {
-            words.push(word)?;
-        }
-        let told = tell(&rt, alloc, &words, b"")?;
+    for line in &SEGMENTS {
+        let told = tell_line(&rt, rt.alloc(), line)?;
         assert!(rt;
             told.status == DONE && told.text.as_slice() == b"= / dir 0\n! end\n".as_slice(),
             "{line}"
@@ -159,53 +161,65 @@ fn options_have_their_form(rt: HostRuntime) -> Result<(), Fail> {
     Ok(())
 }
 
+// A script, the line at fault and the kind of its fault.
+static BAD: [(&[u8], u32, u64); 12] = [
+    (b"0 mount\n0 truncate /a x1\n", 2, 5),
+    (b"0 mount\n0 create a\n", 2, 6),
+    (b"0 sync\n0 sink\n", 2, 2),
+    (b"\xff\n", 1, 1),
+    (b"1 mount\n", 1, 12),
+    (b"0 mount\n\n0 crash\n0 stall\n", 3, 12),
+    (b"0 crash 3\n", 1, 12),
+    (b"0 cut 1\n", 1, 12),
+    (b"0 stall\n", 1, 12),
+    (b"barrier\ntick 1\n1 sync\n", 3, 12),
+    (b"halt\nbarrier\n", 2, 11),
+    (b"0 crash\n0 create a\n", 2, 6),
+];
+
 #[test]
 fn a_bad_script_says_nothing(rt: HostRuntime) -> Result<(), Fail> {
-    let alloc = rt.alloc();
-    for (file, line, kind) in [
-        (b"0 mount\n0 truncate /a x1\n".as_slice(), 2, 5),
-        (b"0 mount\n0 create a\n".as_slice(), 2, 6),
-        (b"0 sync\n0 sink\n".as_slice(), 2, 2),
-        (b"\xff\n".as_slice(), 1, 1),
-        (b"1 mount\n".as_slice(), 1, 12),
-        (b"0 mount\n\n0 crash\n0 stall\n".as_slice(), 3, 12),
-        (b"0 crash 3\n".as_slice(), 1, 12),
-        (b"0 cut 1\n".as_slice(), 1, 12),
-        (b"0 stall\n".as_slice(), 1, 12),
-        (b"barrier\ntick 1\n1 sync\n".as_slice(), 3, 12),
-        (b"halt\nbarrier\n".as_slice(), 2, 11),
-        (b"0 crash\n0 create a\n".as_slice(), 2, 6),
-    ] {
-        expect_status(&rt, alloc, &["run", "s"], file, (1, line, kind))?;
+    for (file, line, kind) in &BAD {
+        expect_status(&rt, rt.alloc(), &["run", "s"], file, (1, *line, *kind))?;
     }
     Ok(())
 }
 
-#[test]
-fn a_say_that_fails_ends_the_run(rt: HostRuntime) -> Result<(), Fail> {
-    let alloc = rt.alloc();
+// Which say fails, what is said before, and how many says that are.
+static UNSAID: [(u64, u64, &[u8]); 2] = [
+    (2, 1, b"1 0 mounted\n"),
+    (5, 4, b"1 0 mounted\n2 0 ok\n3 0 ok\n= / dir 1\n"),
+];
+
+// How a run ends of which a say fails, and what it says.
+fn tell_failing(
+    rt: &(impl Threads + Sync),
+    alloc: Global,
+    failing: u64,
+) -> Result<(Status, Vec<u8>), NoMemory> {
     let mut files = MemFiles::new(alloc);
     files.put_file("s", b"0 mount\n0 create /a\n0 sync\n")?;
     let words = words_of(alloc, &["run", "s"])?;
-    let runs = [
-        (2, 1, b"1 0 mounted\n".as_slice()),
-        (5, 4, b"1 0 mounted\n2 0 ok\n3 0 ok\n= / dir 1\n".as_slice()),
-    ];
-    for (failing, at, wanted) in runs {
-        let says = vec![in alloc; failing]?;
-        let out = FaultyOutside::new(alloc, Vec::new(alloc), Vec::new(alloc), says);
-        let (status, out) = frang(&rt, alloc, &words, &mut files, out, &NoGate);
-        assert_eq!(rt;
-            status,
-            Status {
-                code: 5,
-                line: 0,
-                at,
-                sector: 0
-            }
+    let says = vec![in alloc; failing]?;
+    let out = FaultyOutside::new(alloc, Vec::new(alloc), Vec::new(alloc), says);
+    let (status, out) = frang(rt, alloc, &words, &mut files, out, &NoGate);
+    Ok((status, lines_said(alloc, out.acts())?))
+}
+
+#[test]
+fn a_say_that_fails_ends_the_run(rt: HostRuntime) -> Result<(), Fail> {
+    for (failing, at, wanted) in &UNSAID {
+        let (status, text) = tell_failing(&rt, rt.alloc(), *failing)?;
+        let unsaid = Status {
+            code: 5,
+            line: 0,
+            at: *at,
+            sector: 0,
+        };
+        assert!(rt;
+            status == unsaid && text.as_slice() == *wanted,
+            "say {failing}"
         );
-        let text = lines_said(alloc, out.acts())?;
-        assert_eq!(rt; text.as_slice(), wanted);
     }
     Ok(())
 }

@@ -1,9 +1,6 @@
 // The times of files, and lines of the host: whole runs, worked out by hand.
-use crate::builders::{DONE, tell};
+use crate::builders::{Run, expect_runs};
 use std::test::Fail;
-
-// A script, and what its run says.
-type Run = (&'static str, &'static str);
 
 static TIMES: [Run; 5] = [
     // a time is that of the last write, fill or truncate
@@ -50,24 +47,10 @@ static HOSTS: [Run; 4] = [
 
 #[test]
 fn files_have_the_times_of_their_last_writes(rt: HostRuntime) -> Result<(), Fail> {
-    for (script, wanted) in &TIMES {
-        let told = tell(&rt, rt.alloc(), &["run", "s"], script.as_bytes())?;
-        assert!(rt;
-            told.status == DONE && told.text.as_slice() == wanted.as_bytes(),
-            "{script}"
-        );
-    }
-    Ok(())
+    expect_runs(&rt, rt.alloc(), &TIMES)
 }
 
 #[test]
 fn lines_of_the_host_are_answered(rt: HostRuntime) -> Result<(), Fail> {
-    for (script, wanted) in &HOSTS {
-        let told = tell(&rt, rt.alloc(), &["run", "s"], script.as_bytes())?;
-        assert!(rt;
-            told.status == DONE && told.text.as_slice() == wanted.as_bytes(),
-            "{script}"
-        );
-    }
-    Ok(())
+    expect_runs(&rt, rt.alloc(), &HOSTS)
 }

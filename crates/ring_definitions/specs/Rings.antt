@@ -84,9 +84,13 @@ sent r = r.reached + length r.above
 abbrev pub last : Ring → ℕ
 last r = sent r + length r.waiting
 
+-- for how many numbers a ring has room that has room for so many: these less the numbers that aren't given up
+abbrev pub free_of : ℕ → Ring → ℕ
+free_of room r = room - (last r - r.given_up)
+
 -- 192 less the numbers that aren't given up
 abbrev pub free : Ring → ℕ
-free r = LOG_WINDOW - (last r - r.given_up)
+free r = free_of LOG_WINDOW r
 
 -- how many sectors a record newly begins: none where the open one has room for its frame
 abbrev pub need : Ring → Redo → ℕ
@@ -133,19 +137,34 @@ passed r reached (false ∷ above) = record r { reached = reached; above = false
 abbrev pub acked : Ring → ℕ → Ring
 acked r number = if nat_lt r.reached number then passed r r.reached (slice_set r.above (number - r.reached - 1) true) else r
 
--- ---- giving up
+-- ---- giving up so many numbers at once
 
--- the last of the oldest 64 numbers, or of those that are issued: what stands in the open sector isn't given up
-abbrev pub oldest_end : Ring → ℕ
-oldest_end r = min (r.given_up + LOG_QUARTER) (sent r)
+-- the last of so many oldest numbers, or of those that are issued: what stands in the open sector isn't given up
+abbrev pub oldest_end_of : ℕ → Ring → ℕ
+oldest_end_of quarter r = min (r.given_up + quarter) (sent r)
 
 -- it belongs to the oldest records: those that begin in these numbers
-abbrev pub is_oldest : Ring → Named → Bool
-is_oldest r x = nat_le x.first (oldest_end r)
+abbrev pub is_oldest_of : ℕ → Ring → Named → Bool
+is_oldest_of quarter r x = nat_le x.first (oldest_end_of quarter r)
 
 -- what the oldest records name
+abbrev pub oldest_of : ℕ → Ring → List Named
+oldest_of quarter r = filter (is_oldest_of quarter r) r.named
+
+-- the ring without its oldest records
+abbrev pub reclaimed_of : ℕ → Ring → Ring
+reclaimed_of quarter r = record r { given_up = oldest_end_of quarter r; named = filter (λ x. not (is_oldest_of quarter r x)) r.named }
+
+-- ---- giving up 64 numbers
+
+abbrev pub oldest_end : Ring → ℕ
+oldest_end r = oldest_end_of LOG_QUARTER r
+
+abbrev pub is_oldest : Ring → Named → Bool
+is_oldest r x = is_oldest_of LOG_QUARTER r x
+
 abbrev pub oldest : Ring → List Named
-oldest r = filter (is_oldest r) r.named
+oldest r = oldest_of LOG_QUARTER r
 
 -- the greatest version of each sector named, ascending by sector
 abbrev pub with_named : List (ℕ × ℕ) → Named → List (ℕ × ℕ)
@@ -158,9 +177,8 @@ oldest_versions r = fold with_named [] (oldest r)
 abbrev pub is_known : List (Sector × ℕ) → Named → Bool
 is_known disk x = list_any (λ d. d.0.0 == x.sector.0 && nat_le x.version d.1) disk
 
--- the ring without its oldest records
 abbrev pub reclaimed : Ring → Ring
-reclaimed r = record r { given_up = oldest_end r; named = filter (λ x. not (is_oldest r x)) r.named }
+reclaimed r = reclaimed_of LOG_QUARTER r
 
 -- `reclaim`: refused exactly where a sector that the oldest records name isn't known to stand on the disk, by the first such
 abbrev pub unwritten : Ring → List (Sector × ℕ) → Option Unwritten

@@ -2,8 +2,8 @@
 use Rattle.std.proofs.Common.{◌≡◌, true, [], refl, sym, ◌∙◌, ap, subst}
 use Rattle.tree_definitions.specs.Tree.{fresh}
 use Rattle.line_histories.specs.Following.{Follows}
-use Rattle.byte_fresh.specs.Fresh.{fresh_home, fresh_logged}
-use Rattle.byte_fresh.proofs.Root.{fresh_follows, fresh_known}
+use Rattle.stop_laws.specs.FreshDisks.{fresh_home, fresh_logged}
+use Rattle.stop_laws.proofs.Root.{fresh_follows, fresh_known}
 use Rattle.stop_laws.specs.Fresh.{AFreshDiskStandsForTheHistory}
 use Rattle.stop_laws.proofs.Left.{the_disk_stands}
 

@@ -18,7 +18,7 @@ use Rattle.line_definitions.specs.Lines.{plan_of_line}
 use Rattle.line_commits.specs.LinePlans.{hand_on}
 use Rattle.line_histories.specs.Following.{store_after}
 use Rattle.byte_doubts.specs.Deeds.{Deed, Does, Says, Doubts, items, tree_after}
-use Rattle.byte_known.specs.Cells.{CoversMarks, having}
+use Rattle.stop_laws.specs.Cells.{CoversMarks, having}
 
 -- an operation has the lock of each node that is there and that its entry touches, and sees each sector of bytes under a lock that it uses
 pub record IsUnderLocks (segments : ℕ) (opening : ℕ → Block) (home : ℕ → LockId) (first_tree : FileTree) (c : Commit) (e : Entry) (older : List Deed) : Type 0 where

@@ -18,22 +18,22 @@ use Rattle.line_histories.specs.Trees.{AreTimes, MayNumber}
 use Rattle.line_histories.proofs.Runs.{numbered}
 use Rattle.byte_doubts.specs.Deeds.{Deed, Does, Says, Doubts, items, steps}
 use Rattle.byte_histories.specs.Known.{KnowsCells}
-use Rattle.byte_settled.specs.Happened.{Happening, Acts, Speaks, Mounts, Covers, Recovers, on_sectors, settle, what_stays}
-use Rattle.byte_settled.specs.Paired.{AreLines, ArePaired}
-use Rattle.byte_settled.specs.Settling.{recovers_by, stopped}
-use Rattle.byte_settled.proofs.Histories.{lines_settle}
-use Rattle.byte_settled.proofs.Staying.{items_stay}
-use Rattle.byte_known.specs.Cells.{CoversMarks}
-use Rattle.byte_known.proofs.Covering.{doubt_covers}
-use Rattle.byte_removals.specs.Coverage.{AllCoverAtOnce, AllCovered, RecoveriesRise, recovered_to}
-use Rattle.byte_removals.specs.Sight.{AllSaw, AllSee, AllShowed, Begins, MayGo}
-use Rattle.byte_removals.specs.Synced.{AllSaid, AllSaidAtOnce, SyncsRise}
-use Rattle.byte_removals.proofs.Along.{covered_along, goes_here, sees_along, stays_covered}
-use Rattle.byte_removals.proofs.Covering.{distinct_stays, legal_stays}
-use Rattle.byte_removals.proofs.Syncing.{histories_keep_reads, histories_keep_syncs}
-use Rattle.byte_removals.specs.Replies.{AreSaid, SaidWhereItHappened}
-use Rattle.byte_removals.proofs.Staying.{replies_stay}
-use Rattle.byte_removals.proofs.Uses.{lines_use}
+use Rattle.stop_laws.specs.Happened.{Happening, Acts, Speaks, Mounts, Covers, Recovers, on_sectors, settle, what_stays}
+use Rattle.stop_laws.specs.Paired.{AreLines, ArePaired}
+use Rattle.stop_laws.specs.Settling.{recovers_by, stopped}
+use Rattle.stop_laws.proofs.Histories.{lines_settle}
+use Rattle.stop_laws.proofs.Staying.{items_stay}
+use Rattle.stop_laws.specs.Cells.{CoversMarks}
+use Rattle.stop_laws.proofs.Covering.{doubt_covers}
+use Rattle.stop_laws.specs.Coverage.{AllCoverAtOnce, AllCovered, RecoveriesRise, recovered_to}
+use Rattle.stop_laws.specs.Sight.{AllSaw, AllSee, AllShowed, Begins, MayGo}
+use Rattle.stop_laws.specs.Synced.{AllSaid, AllSaidAtOnce, SyncsRise}
+use Rattle.stop_laws.proofs.Along.{covered_along, goes_here, sees_along, stays_covered}
+use Rattle.stop_laws.proofs.Covered.{distinct_stays, legal_stays}
+use Rattle.stop_laws.proofs.Syncing.{histories_keep_reads, histories_keep_syncs}
+use Rattle.stop_laws.specs.Replies.{AreSaid, SaidWhereItHappened}
+use Rattle.stop_laws.proofs.Replying.{replies_stay}
+use Rattle.stop_laws.proofs.Uses.{lines_use}
 use Rattle.stop_laws.proofs.Keeping.{AreKept}
 use Rattle.stop_laws.proofs.Told.{IsRun, all_told, twice}
 

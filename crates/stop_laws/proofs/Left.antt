@@ -17,18 +17,18 @@ use Rattle.line_histories.specs.Trees.{AreTimes, MayNumber}
 use Rattle.line_histories.proofs.Runs.{numbered}
 use Rattle.byte_doubts.specs.Deeds.{Deed}
 use Rattle.byte_histories.specs.Known.{KnowsCells}
-use Rattle.byte_settled.specs.Happened.{Happening, on_sectors, settle}
-use Rattle.byte_settled.specs.Paired.{ArePaired, IsKeptBy}
-use Rattle.byte_settled.specs.Settling.{stopped}
-use Rattle.byte_settled.proofs.Left.{stops_leave_the_tree}
-use Rattle.byte_settled.proofs.Stopping.{IsStopped, stopped_alike}
-use Rattle.byte_known.proofs.Deeds.{all_known}
-use Rattle.byte_removals.specs.Replies.{SaidWhereItHappened}
-use Rattle.byte_removals.specs.Events.{IsInSight}
-use Rattle.byte_removals.specs.Stops.{IsAsked}
-use Rattle.byte_removals.specs.Synced.{AllSaid, AllSaidAtOnce}
-use Rattle.byte_removals.proofs.Stopping.{stops_are_asked}
-use Rattle.byte_removals.proofs.Syncing.{histories_keep_syncs}
+use Rattle.stop_laws.specs.Happened.{Happening, on_sectors, settle}
+use Rattle.stop_laws.specs.Paired.{ArePaired, IsKeptBy}
+use Rattle.stop_laws.specs.Settling.{stopped}
+use Rattle.stop_laws.proofs.SettledLeft.{stops_leave_the_tree}
+use Rattle.stop_laws.proofs.Stopping.{IsStopped, stopped_alike}
+use Rattle.stop_laws.proofs.Deeds.{all_known}
+use Rattle.stop_laws.specs.Replies.{SaidWhereItHappened}
+use Rattle.stop_laws.specs.Events.{IsInSight}
+use Rattle.stop_laws.specs.AskedStop.{IsAsked}
+use Rattle.stop_laws.specs.Synced.{AllSaid, AllSaidAtOnce}
+use Rattle.stop_laws.proofs.Asking.{stops_are_asked}
+use Rattle.stop_laws.proofs.Syncing.{histories_keep_syncs}
 use Rattle.stop_laws.proofs.Keeping.{AreKept}
 use Rattle.stop_laws.proofs.Kept.{kept_along, stopped_by}
 use Rattle.stop_laws.specs.Stop.{TheDiskStandsForTheHistory}

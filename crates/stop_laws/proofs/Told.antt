@@ -27,11 +27,11 @@ use Rattle.line_histories.proofs.Runs.{numbered}
 use Rattle.byte_doubts.specs.Deeds.{Deed, Does, Says, Doubts, items, tree_after}
 use Rattle.byte_histories.specs.Along.{AllTold, HasShape, IsSaid, IsTold}
 use Rattle.byte_histories.specs.Known.{IsToldTwice, KnowsCells}
-use Rattle.byte_removals.specs.Synced.{AllSaid}
-use Rattle.byte_settled.specs.Paired.{AreLines, AreOfOneLine}
-use Rattle.byte_settled.proofs.Lines.{shapes_follow}
-use Rattle.byte_known.specs.Cells.{AllShown, IsShown, having}
-use Rattle.byte_known.proofs.Deeds.{replies_are}
+use Rattle.stop_laws.specs.Synced.{AllSaid}
+use Rattle.stop_laws.specs.Paired.{AreLines, AreOfOneLine}
+use Rattle.stop_laws.proofs.Lines.{shapes_follow}
+use Rattle.stop_laws.specs.Cells.{AllShown, IsShown, having}
+use Rattle.stop_laws.proofs.Deeds.{replies_are}
 use Rattle.stop_laws.proofs.Keeping.{AreKept, SaysWhatItShowed}
 use Rattle.stop_laws.proofs.Alone.{leaving_stays, leaving_touches_none, leaving_writes_none, path_no_sync}
 

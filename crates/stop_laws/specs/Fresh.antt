@@ -13,13 +13,13 @@ use Rattle.disk_definitions.specs.Standing.{StandsFor}
 use Rattle.line_commits.specs.LinePlans.{sector_plan}
 use Rattle.line_histories.specs.Standing.{StandsNumbered}
 use Rattle.line_histories.specs.Trees.{AreTimes, MayNumber}
-use Rattle.byte_fresh.specs.Fresh.{fresh_home, fresh_logged}
-use Rattle.byte_settled.specs.Happened.{Happening, on_sectors, on_tree}
-use Rattle.byte_settled.specs.Paired.{ArePaired, IsKeptBy}
-use Rattle.byte_settled.specs.Settling.{stopped}
-use Rattle.byte_removals.specs.Replies.{SaidWhereItHappened}
-use Rattle.byte_removals.specs.Events.{IsInSight}
-use Rattle.byte_removals.specs.Synced.{AllSaidAtOnce}
+use Rattle.stop_laws.specs.FreshDisks.{fresh_home, fresh_logged}
+use Rattle.stop_laws.specs.Happened.{Happening, on_sectors, on_tree}
+use Rattle.stop_laws.specs.Paired.{ArePaired, IsKeptBy}
+use Rattle.stop_laws.specs.Settling.{stopped}
+use Rattle.stop_laws.specs.Replies.{SaidWhereItHappened}
+use Rattle.stop_laws.specs.Events.{IsInSight}
+use Rattle.stop_laws.specs.Synced.{AllSaidAtOnce}
 
 -- servers that began over a disk of the fresh tree: its covers and kinds are those of such a disk, and no bytes are known
 pub record BeganFresh (segments : ℕ) (numbers : List ℕ) (w : World) : Type 0 where

@@ -1,2 +1,17 @@
+pub mod Happened
+pub mod Example
+pub mod Paired
+pub mod Settling
+pub mod SettledStop
+pub mod Cells
+pub mod KnownStop
+pub mod Locks
+pub mod Replies
+pub mod Sight
+pub mod Coverage
+pub mod Synced
+pub mod Events
+pub mod AskedStop
+pub mod FreshDisks
 pub mod Stop
 pub mod Fresh

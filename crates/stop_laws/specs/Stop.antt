@@ -15,12 +15,12 @@ use Rattle.line_histories.specs.Following.{Follows}
 use Rattle.line_histories.specs.Standing.{StandsNumbered}
 use Rattle.line_histories.specs.Trees.{AreTimes, MayNumber}
 use Rattle.byte_histories.specs.Known.{KnowsCells}
-use Rattle.byte_settled.specs.Happened.{Happening, on_sectors, on_tree}
-use Rattle.byte_settled.specs.Paired.{ArePaired, IsKeptBy}
-use Rattle.byte_settled.specs.Settling.{stopped}
-use Rattle.byte_removals.specs.Replies.{SaidWhereItHappened}
-use Rattle.byte_removals.specs.Events.{IsInSight}
-use Rattle.byte_removals.specs.Synced.{AllSaidAtOnce}
+use Rattle.stop_laws.specs.Happened.{Happening, on_sectors, on_tree}
+use Rattle.stop_laws.specs.Paired.{ArePaired, IsKeptBy}
+use Rattle.stop_laws.specs.Settling.{stopped}
+use Rattle.stop_laws.specs.Replies.{SaidWhereItHappened}
+use Rattle.stop_laws.specs.Events.{IsInSight}
+use Rattle.stop_laws.specs.Synced.{AllSaidAtOnce}
 
 -- At each moment of servers whose operations are lines, over a first disk whose cells are known: the disk with all logs replayed stands for the tree of the
 -- history with the recoveries of all logs, by the rules on histories, a cell in doubt allowing any byte. Sector 0 counts as one with a version

@@ -15,6 +15,8 @@ mod leases;
 #[cfg(test)]
 mod locks;
 #[cfg(test)]
+mod many_sectors;
+#[cfg(test)]
 mod plain_cache;
 #[cfg(test)]
 mod plain_sectors;

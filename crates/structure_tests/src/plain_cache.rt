@@ -176,6 +176,13 @@ impl Both {
         self.plain.forget(sector);
     }
 
+    fn forget_all(&mut self, sectors: &[Sector]) {
+        self.cache.forget_all(sectors);
+        for sector in sectors {
+            self.plain.forget(*sector);
+        }
+    }
+
     // Puts a cached sector under another lock.
     fn move_cover(&mut self, sector: Sector, cover: LockId) -> Result<(), NoMemory> {
         if self.cache.cover(sector).is_some() {
@@ -221,7 +228,7 @@ impl Both {
 
     // A drawn call of both; false where they answer differently.
     fn call(&mut self, draws: &mut Draws) -> Result<bool, NoMemory> {
-        let kind = draws.draw() % 8;
+        let kind = draws.draw() % 9;
         let number = draws.draw() % SECTORS;
         let sector = Sector(number);
         let cover = lock_of(draws.draw() % 8);
@@ -247,6 +254,7 @@ impl Both {
                 let change = change_of(self.alloc, number, n, &[(20, &[7])])?;
                 self.change(&change, n, cover)?;
             }
+            7 => self.forget_all(&[Sector(n), sector]),
             _ => return Ok(self.drop_cover(cover)),
         }
         Ok(self.is_alike(sector))

@@ -142,8 +142,8 @@ fn expect_read(rt: &impl Abort, alloc: Global, lines: &str, wanted: &str) -> Res
         }
         read.push(b'\n')?;
     }
-    assert_eq!(rt; read.as_slice(), wanted.as_bytes());
-    assert_eq!(rt; written.as_slice(), lines.as_bytes());
+    assert!(rt; read.as_slice() == wanted.as_bytes(), "{lines}");
+    assert!(rt; written.as_slice() == lines.as_bytes(), "{lines}");
     Ok(())
 }
 

@@ -125,21 +125,29 @@ fn described(alloc: Global, script: &Script) -> Result<Vec<u8>, NoMemory> {
     Ok(text)
 }
 
-fn expect_read(rt: &impl Abort, alloc: Global, script: &[u8], wanted: &[u8]) -> Result<(), Fail> {
-    let text = match read_script(alloc, script) {
+fn expect_read(rt: &impl Abort, alloc: Global, script: &str, wanted: &str) -> Result<(), Fail> {
+    let text = match read_script(alloc, script.as_bytes()) {
         Ok(script) => described(alloc, &script)?,
         Err(_) => Vec::new(alloc),
     };
-    assert_eq!(rt; text.as_slice(), wanted);
+    assert!(rt; text.as_slice() == wanted.as_bytes(), "{script}");
     Ok(())
 }
 
-fn expect_bad(rt: &impl Abort, alloc: Global, script: &[u8], line: u32, kind: u8) {
-    let wanted = ReadFault::Bad(ScriptFault { line, kind });
+// A script, the line of its first fault and the kind of that.
+type Fault = (&'static str, u32, u8);
+
+// A script that isn't read, for this fault.
+fn is_bad(alloc: Global, script: &[u8], fault: ScriptFault) -> bool {
     match read_script(alloc, script) {
-        Ok(_) => assert!(rt; false, "line {line}, kind {kind}"),
-        Err(fault) => assert_eq!(rt; fault, wanted),
+        Ok(_) => false,
+        Err(found) => found == ReadFault::Bad(fault),
     }
+}
+
+fn expect_bad(rt: &impl Abort, alloc: Global, script: &[u8], line: u32, kind: u8) {
+    let fault = ScriptFault { line, kind };
+    assert!(rt; is_bad(alloc, script, fault), "line {line}, kind {kind}");
 }
 
 // All of these lines are bad alone, with this kind.
@@ -248,35 +256,35 @@ const BOUNDS_READ: &str = "1 0 Symlink [a] /b/../c
 
 #[test]
 fn each_command_is_read_to_its_bounds(rt: HostRuntime) -> Result<(), Fail> {
-    let alloc = rt.alloc();
-    let commands = EACH_COMMAND.as_bytes();
-    expect_read(&rt, alloc, commands, EACH_COMMAND_READ.as_bytes())?;
-    expect_read(&rt, alloc, BOUNDS.as_bytes(), BOUNDS_READ.as_bytes())
+    expect_read(&rt, rt.alloc(), EACH_COMMAND, EACH_COMMAND_READ)?;
+    expect_read(&rt, rt.alloc(), BOUNDS, BOUNDS_READ)
 }
+
+// A script, and the lines that it is read as.
+static PARTED: [(&str, &str); 14] = [
+    ("", ""),
+    ("\n\n", ""),
+    ("0 mount", "1 0 Mount\n"),
+    ("0 mount\r\n", "1 0 Mount\n"),
+    ("0 write /a 0 x\r\n", "1 0 Write [a] 0 x\n"),
+    ("\r\n0 sync\r\n", "2 0 Sync\n"),
+    (" \t0\t \tmount\t \n", "1 0 Mount\n"),
+    ("\t0 create\t/a", "1 0 Create [a]\n"),
+    ("\n\n0 mount\n", "3 0 Mount\n"),
+    ("# 0 mount\n0 sync\n", "2 0 Sync\n"),
+    ("#\n#\u{1}\u{7f}\n", ""),
+    (" \t \n0 mount\n\n0 sync", "2 0 Mount\n4 0 Sync\n"),
+    (
+        "1 mount\n0 mount\nbarrier\n",
+        "1 1 Mount\n2 0 Mount\n3 255 Barrier\n",
+    ),
+    ("halt\n\n# after the end\n \t", "1 255 Halt\n"),
+];
 
 #[test]
 fn lines_are_counted_and_words_parted(rt: HostRuntime) -> Result<(), Fail> {
-    let rows = [
-        ("", ""),
-        ("\n\n", ""),
-        ("0 mount", "1 0 Mount\n"),
-        ("0 mount\r\n", "1 0 Mount\n"),
-        ("0 write /a 0 x\r\n", "1 0 Write [a] 0 x\n"),
-        ("\r\n0 sync\r\n", "2 0 Sync\n"),
-        (" \t0\t \tmount\t \n", "1 0 Mount\n"),
-        ("\t0 create\t/a", "1 0 Create [a]\n"),
-        ("\n\n0 mount\n", "3 0 Mount\n"),
-        ("# 0 mount\n0 sync\n", "2 0 Sync\n"),
-        ("#\n#\u{1}\u{7f}\n", ""),
-        (" \t \n0 mount\n\n0 sync", "2 0 Mount\n4 0 Sync\n"),
-        (
-            "1 mount\n0 mount\nbarrier\n",
-            "1 1 Mount\n2 0 Mount\n3 255 Barrier\n",
-        ),
-        ("halt\n\n# after the end\n \t", "1 255 Halt\n"),
-    ];
-    for (script, wanted) in rows {
-        expect_read(&rt, rt.alloc(), script.as_bytes(), wanted.as_bytes())?;
+    for (script, wanted) in &PARTED {
+        expect_read(&rt, rt.alloc(), script, wanted)?;
     }
     Ok(())
 }
@@ -386,18 +394,19 @@ fn bad_arguments_are_refused(rt: HostRuntime) {
     expect_all_bad(&rt, rt.alloc(), BAD_PATHS, 6);
 }
 
+static SEVERAL_LINES: [Fault; 6] = [
+    ("0 mount\n0 truncate /a x1\n", 2, 5),
+    ("0 mount\n0 nonsense\n16 mount\n", 2, 2),
+    ("\n#\n\n0\nmount\n", 4, 3),
+    ("\r\n\r\nbarrier x\r\n", 3, 4),
+    ("halt\n0 mount\n", 2, 11),
+    ("halt\n\n# x\nhalt\n", 4, 11),
+];
+
 #[test]
 fn the_first_bad_line_counts(rt: HostRuntime) {
-    let rows = [
-        ("0 mount\n0 truncate /a x1\n", 2, 5),
-        ("0 mount\n0 nonsense\n16 mount\n", 2, 2),
-        ("\n#\n\n0\nmount\n", 4, 3),
-        ("\r\n\r\nbarrier x\r\n", 3, 4),
-        ("halt\n0 mount\n", 2, 11),
-        ("halt\n\n# x\nhalt\n", 4, 11),
-    ];
-    for (script, line, kind) in rows {
-        expect_bad(&rt, rt.alloc(), script.as_bytes(), line, kind);
+    for (script, line, kind) in &SEVERAL_LINES {
+        expect_bad(&rt, rt.alloc(), script.as_bytes(), *line, *kind);
     }
 }
 
@@ -443,43 +452,45 @@ fn faults_of_a_line_have_an_order(rt: HostRuntime) {
     expect_all_bad(&rt, rt.alloc(), NUMBER_FIRST, 5);
 }
 
+static AFTER_HALT: [Fault; 7] = [
+    ("halt\n0 create /\u{7f}\n", 2, 1),
+    ("halt\n16 mount", 2, 11),
+    ("halt\nnonsense", 2, 11),
+    ("halt\n0 nonsense", 2, 11),
+    ("halt\n0 create", 2, 11),
+    ("halt\n0 create /a /b", 2, 11),
+    ("halt\n0 create a", 2, 11),
+];
+
 #[test]
 fn after_halt_bad_bytes_come_first(rt: HostRuntime) {
-    let rows = [
-        ("halt\n0 create /\u{7f}\n", 2, 1),
-        ("halt\n16 mount", 2, 11),
-        ("halt\nnonsense", 2, 11),
-        ("halt\n0 nonsense", 2, 11),
-        ("halt\n0 create", 2, 11),
-        ("halt\n0 create /a /b", 2, 11),
-        ("halt\n0 create a", 2, 11),
-    ];
-    for (script, line, kind) in rows {
-        expect_bad(&rt, rt.alloc(), script.as_bytes(), line, kind);
+    for (script, line, kind) in &AFTER_HALT {
+        expect_bad(&rt, rt.alloc(), script.as_bytes(), *line, *kind);
     }
 }
 
+static NO_TEXTS: [&[u8]; 16] = [
+    b"\xff\n",
+    b"0 create /\xc3\n",
+    b"0 create /\xc3(\n",
+    b"0 create /\xc0\x80\n",
+    b"0 create /\xed\xa0\x80\n",
+    b"0 create /\xf4\x90\x80\x80\n",
+    b"0 create /\x80\n",
+    b"0 mount\xff\n",
+    b"0 create /a\x00\n",
+    b"0 create /a\x1f\n",
+    b"0 create /a\x7f\n",
+    b"0\x0bmount\n",
+    b"0 mount\r",
+    b"0 mount\r\r\n",
+    b"0 mount\r \n",
+    b"\r",
+];
+
 #[test]
 fn bytes_that_are_no_text_are_refused(rt: HostRuntime) {
-    let rows = [
-        b"\xff\n".as_slice(),
-        b"0 create /\xc3\n".as_slice(),
-        b"0 create /\xc3(\n".as_slice(),
-        b"0 create /\xc0\x80\n".as_slice(),
-        b"0 create /\xed\xa0\x80\n".as_slice(),
-        b"0 create /\xf4\x90\x80\x80\n".as_slice(),
-        b"0 create /\x80\n".as_slice(),
-        b"0 mount\xff\n".as_slice(),
-        b"0 create /a\x00\n".as_slice(),
-        b"0 create /a\x1f\n".as_slice(),
-        b"0 create /a\x7f\n".as_slice(),
-        b"0\x0bmount\n".as_slice(),
-        b"0 mount\r".as_slice(),
-        b"0 mount\r\r\n".as_slice(),
-        b"0 mount\r \n".as_slice(),
-        b"\r".as_slice(),
-    ];
-    for script in rows {
+    for script in &NO_TEXTS {
         expect_bad(&rt, rt.alloc(), script, 1, 1);
     }
 }

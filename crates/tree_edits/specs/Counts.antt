@@ -4,6 +4,7 @@ use Rattle.std.specs.Ordering.{nat_cmp}
 use Rattle.std.specs.Option.{option_map, unwrap_or}
 use Rattle.std.specs.Map.{lookup, values_of}
 use Rattle.std.specs.BTreeMap.{is_at}
+use Rattle.frang_base.specs.declared.limits.TheConstants.{SEGMENT_BLOCKS, SEGMENTS_MAX}
 use Rattle.tree_definitions.specs.declared.node.Node.{Node}
 use Rattle.tree_definitions.specs.Tree.{FileTree, file_blocks, dir_blocks, large_blocks, count_of}
 use Rattle.tree_edits.specs.declared.counts.Blocks.{Blocks}
@@ -25,9 +26,9 @@ IsSwapped nodes birth after = (count : Node → ℕ) → sum_by count (values_of
 
 -- what is taken of a disk of at most 64 segments is at most what it has, of small blocks by files and by directories alike
 pub record IsWithin (tree : FileTree) : Type 0 where
-  pub few : tree.segments ≤ 64
-  pub files : count_of file_blocks tree ≤ 1024 * tree.segments
-  pub dirs : count_of dir_blocks tree ≤ 1024 * tree.segments
+  pub few : tree.segments ≤ SEGMENTS_MAX
+  pub files : count_of file_blocks tree ≤ SEGMENT_BLOCKS * tree.segments
+  pub dirs : count_of dir_blocks tree ≤ SEGMENT_BLOCKS * tree.segments
   pub larges : count_of large_blocks tree ≤ tree.segments
 
 -- these are the counts
@@ -39,8 +40,8 @@ pub record IsCounted (taken : Blocks) (tree : FileTree) : Type 0 where
 
 -- there is room for what takes this at a birth, in place of what it has
 pub record HasRoom (tree : FileTree) (birth : ℕ) (blocks : Blocks) : Type 0 where
-  pub files : count_of file_blocks tree + blocks.files ≤ 1024 * tree.segments + taken_in file_blocks tree.nodes birth
-  pub dirs : count_of dir_blocks tree + blocks.dirs ≤ 1024 * tree.segments + taken_in dir_blocks tree.nodes birth
+  pub files : count_of file_blocks tree + blocks.files ≤ SEGMENT_BLOCKS * tree.segments + taken_in file_blocks tree.nodes birth
+  pub dirs : count_of dir_blocks tree + blocks.dirs ≤ SEGMENT_BLOCKS * tree.segments + taken_in dir_blocks tree.nodes birth
   pub larges : count_of large_blocks tree + blocks.larges ≤ tree.segments + taken_in large_blocks tree.nodes birth
 
 -- blocks may be counted in place of others

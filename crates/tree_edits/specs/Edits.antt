@@ -4,6 +4,7 @@ use Rattle.std.specs.Ordering.{nat_cmp}
 use Rattle.std.specs.List.Sorted.{IsStrictlySortedBy}
 use Rattle.std.specs.Map.{keys_of, lookup, set_value}
 use Rattle.std.specs.BTreeMap.{is_at}
+use Rattle.frang_base.specs.declared.limits.TheConstants.{FILE_BYTES_MAX}
 use Rattle.tree_definitions.specs.declared.cells.Cell.{Cell}
 use Rattle.tree_definitions.specs.declared.node.Node.{Node}
 use Rattle.tree_definitions.specs.declared.node.Node.TheVariants.{Dir, File, Link}
@@ -56,7 +57,7 @@ with_doubt from count (Link target links) = Link target links
 
 -- cells may be put into a file from an offset on, up to its greatest size
 abbrev pub CanPut : ℕ → List Cell → Node → Type 0
-CanPut off new (File cells links when) = (off ≤ length cells) × (off + length new ≤ 1114112)
+CanPut off new (File cells links when) = (off ≤ length cells) × (off + length new ≤ FILE_BYTES_MAX)
 CanPut off new _ = Unit {0}
 
 -- a directory has the name

@@ -2,20 +2,8 @@
 ghost use Rattle.std.specs.Prelude.{◌≡◌, ◌≤◌, true};
 ghost use Rattle.tree_definitions.specs.Tree.{small_blocks_of, large_blocks_of, must_grow};
 
+use frang_base::limits::{BLOCK_ENTRIES, INODE_BLOCKS_MAX, SMALL_BLOCK_BYTES, SMALL_BYTES_MAX};
 use tree_definitions::{Entries, Node};
-
-/// Inodes of a segment.
-pub const INODES_A_SEGMENT: u64 = 64;
-/// Small blocks of a segment.
-pub const BLOCKS_A_SEGMENT: u64 = 1024;
-/// Entries of a directory, at most.
-pub const DIR_ENTRIES_MAX: usize = 896;
-// Entries of a directory's small block.
-const ENTRIES_A_BLOCK: u64 = 56;
-// Bytes of a small block, and of a file in its small blocks.
-const BLOCK_BYTES: u64 = 4096;
-
-const SMALL_BYTES: u64 = 65536;
 
 /// Blocks of the disk: small ones of files, small ones of directories, and large ones.
 #[derive(Clone, Copy, Debug)]
@@ -28,9 +16,9 @@ pub struct Blocks {
 /// The small blocks that the bytes of a file take.
 pub fn small_blocks_of(size: usize) -> u64
     ensures is { result ≡ small_blocks_of size }
-    ensures few { result ≤ 16 }
+    ensures few { result ≤ INODE_BLOCKS_MAX }
 {
-    ((size as u64).min(SMALL_BYTES) + (BLOCK_BYTES - 1)) / BLOCK_BYTES
+    ((size as u64).min(SMALL_BYTES_MAX) + (SMALL_BLOCK_BYTES - 1)) / SMALL_BLOCK_BYTES
 }
 
 /// The large blocks that the bytes of a file take, at most one.
@@ -38,7 +26,7 @@ pub fn large_blocks_of(size: usize) -> u64
     ensures is { result ≡ large_blocks_of size }
     ensures few { result ≤ 1 }
 {
-    if size as u64 > SMALL_BYTES { 1 } else { 0 }
+    if size as u64 > SMALL_BYTES_MAX { 1 } else { 0 }
 }
 
 impl Blocks {
@@ -86,7 +74,7 @@ impl Blocks {
 /// Whether one entry more takes a further block.
 pub fn must_grow(entries: &Entries, blocks: u32) -> bool
     ensures is { result ≡ must_grow entries.now blocks }
-    ensures few { result ≡ true → blocks ≤ 16 }
+    ensures few { result ≡ true → blocks ≤ INODE_BLOCKS_MAX }
 {
-    ENTRIES_A_BLOCK * u64::from(blocks) <= entries.len() as u64
+    u64::from(BLOCK_ENTRIES) * u64::from(blocks) <= entries.len() as u64
 }

@@ -1,5 +1,6 @@
 // Changes of a node where it stands.
 ghost use Rattle.std.specs.Prelude.{◌≡◌, ◌≤◌, ◌<◌, ◌+◌, ◌^◌, length, OnOk, OnErr};
+ghost use Rattle.frang_base.specs.declared.limits.TheConstants.{FILE_BYTES_MAX};
 ghost use Rattle.tree_definitions.specs.Apply.{overwritten};
 ghost use Rattle.tree_edits.specs.Edits.{without_name, with_name, with_blocks, with_links, with_cells, with_first, with_doubt, CanPut, Names};
 ghost use Rattle.tree_edits.specs.Written.{cells_of, size_of};
@@ -70,7 +71,7 @@ pub fn set_links(node: &mut Node, count: u32)
 // Cells from an offset on become these bytes. After `NoMemory` they are as before.
 fn write(cells: &mut Cells, off: usize, bytes: &Bytes) -> Result<(), NoMemory>
     requires there { off ≤ length cells.old }
-    requires fits { off + length (cells_of bytes.now) ≤ 1114112 }
+    requires fits { off + length (cells_of bytes.now) ≤ FILE_BYTES_MAX }
     ensures ok { OnOk result (cells.new ≡ overwritten cells.old off (cells_of bytes.now)) }
     ensures err { OnErr result (cells.new ≡ cells.old) }
 {

@@ -6,8 +6,5 @@ mod counts;
 mod edits;
 pub mod nodes;
 
-pub use counts::{
-    BLOCKS_A_SEGMENT, Blocks, DIR_ENTRIES_MAX, INODES_A_SEGMENT, large_blocks_of, must_grow,
-    small_blocks_of,
-};
+pub use counts::{Blocks, large_blocks_of, must_grow, small_blocks_of};
 pub use edits::{Bytes, count_of};

@@ -9,9 +9,10 @@ ghost use Rattle.tree_model.specs.Replayed.{is_within};
 ghost use Rattle.tree_model.specs.Steps.{entry_of, doubtful_by};
 
 use crate::Tree;
-use crate::steps::{SECTOR_BYTES, Step as Settled, any_mounts};
+use crate::steps::{Step as Settled, any_mounts};
 use crate::touch::{is_ok, touches};
 use file_tree::Step;
+use frang_base::limits::SECTOR_BYTES;
 use frang_base::{Name, NoMemory, Op, Reply, ServerId};
 use tree_definitions::Entry;
 

@@ -1,5 +1,5 @@
 // A history once its recoveries have acted, and the tree that it leaves.
-ghost use Rattle.std.specs.Prelude.{◌≡◌, ◌++◌, ◌+◌, ◌/◌, ◌≤◌, ℕ, not, false, map, filter, IfOk, OnOk, IsTrue};
+ghost use Rattle.std.specs.Prelude.{◌≡◌, ◌++◌, ◌+◌, ◌-◌, ◌/◌, ◌≤◌, ℕ, not, false, map, filter, IfOk, OnOk, IsTrue};
 ghost use Rattle.std.specs.List.{list_any, list_all, flat_map};
 ghost use Rattle.tree_definitions.specs.Numbers.{below};
 ghost use Rattle.tree_definitions.specs.History.{after_all};
@@ -8,7 +8,8 @@ ghost use Rattle.tree_model.specs.Replayed.{is_within, all_within};
 
 use crate::Tree;
 use crate::doubt::{Sought, is_doubtful};
-use crate::steps::{CellRun, SECTOR_BYTES, Step, any_mounts};
+use crate::steps::{CellRun, Step, any_mounts};
+use frang_base::limits::{FILE_BYTES_MAX, SECTOR_BYTES};
 use frang_base::{NoMemory, OpNo, ServerId};
 use history_reading::History;
 use tree_definitions::{Item, Node};
@@ -79,8 +80,8 @@ fn tree_at_end(opening: &Tree, list: &[Step]) -> Result<Tree, NoMemory>
 
 // The sectors of a file of this size.
 fn sectors_of(size: usize) -> usize
-    requires { size ≤ 1114112 }
-    ensures { result ≡ (size + 511) / 512 }
+    requires { size ≤ FILE_BYTES_MAX }
+    ensures { result ≡ (size + (SECTOR_BYTES - 1)) / SECTOR_BYTES }
 {
     (size + (SECTOR_BYTES - 1)) / SECTOR_BYTES
 }
@@ -94,8 +95,8 @@ fn push_sectors(
     list: &[Step],
     runs: &mut Vec<CellRun>,
 ) -> Result<(), NoMemory>
-    requires { size ≤ 1114112 }
-    ensures { OnOk result (runs.new.items ≡ runs.old.items ++ map (sector_cells birth size) (filter (λ sector. is_doubtful server.0 birth sector false opening.now list.now) (below ((size + 511) / 512)))) }
+    requires { size ≤ FILE_BYTES_MAX }
+    ensures { OnOk result (runs.new.items ≡ runs.old.items ++ map (sector_cells birth size) (filter (λ sector. is_doubtful server.0 birth sector false opening.now list.now) (below ((size + (SECTOR_BYTES - 1)) / SECTOR_BYTES)))) }
 {
     for sector in 0..sectors_of(size) {
         let sought = Sought {

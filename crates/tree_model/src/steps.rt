@@ -11,6 +11,7 @@ ghost use Rattle.tree_model.specs.Steps.{entry_of};
 use crate::Tree;
 use crate::replay::tree_after;
 use crate::touch::is_recorded;
+use frang_base::limits::SECTOR_BYTES;
 use frang_base::{NoMemory, OpNo, Reply, ServerId};
 use std::alloc::AllocError;
 use std::marker::Model;
@@ -44,13 +45,10 @@ impl Clone for CellRun {
     }
 }
 
-/// Bytes of a sector of a file.
-pub const SECTOR_BYTES: usize = 512;
-
 impl CellRun {
     /// The cells of one sector of a file of this size.
     pub fn of_sector(birth: u64, size: usize, sector: usize) -> CellRun
-        requires { 512 * sector < size }
+        requires { SECTOR_BYTES * sector < size }
         ensures { result ≡ sector_cells birth size sector }
     {
         let from = SECTOR_BYTES * sector;

@@ -1,28 +1,36 @@
--- By the parameters.
-use Rattle.std.proofs.Common.{◌≡◌, Result, Ok, Err, Some, None, OnOk, length, sym, ap, ◌∙◌, subst}
+-- One log more in each turn.
+use Rattle.std.proofs.Common.{◌≡◌, ◌+◌, sym, subst, rules, arith}
 use Rattle.sector_bytes.specs.Sectors.{sectors_of, SameSectors}
-use Rattle.sector_definitions.specs.Params.{param_in}
-use Rattle.sector_definitions.proofs.ParamLaws.{few_segments}
-use Rattle.disk_replay.specs.Laid.{changes_of, laid_by}
+use Rattle.disk_replay.specs.Laid.{changes_below, laid_by, AreGreatest}
+use Rattle.disk_replay.proofs.ReplayedDisk.{first_laid, next_laid, next_greatest}
 use Rattle.disk_replay.proofs.replay.lay_logs.Goals as goal
 
-on_ok : {T E A B : Type 0} (r : Result T E) → (A → B) → OnOk r A → OnOk r B
-on_ok (Ok t) f a = f a
-on_ok (Err e) f a = tt
+pub loop-server-init : goal.loop-server-init
+loop-server-init c = record {
+  laid = first_laid c.args.param.now (sectors_of c.args.disk.now);
+  count = search rules;
+  greatest = λ server d l. absurd (omega arith);
+}
 
-pub apply_logs-requires-clause-segments : goal.apply_logs-requires-clause-segments
-apply_logs-requires-clause-segments c = few_segments c.get.result c.in-Some.param (sym c.decode.ensures ∙ c.in-Some.is)
-
-pub returns-in-Some : goal.returns-in-Some
-returns-in-Some c =
+pub loop-server-preserved : goal.loop-server-preserved
+loop-server-preserved c =
+    let at = c.loop-server in
     let s = sectors_of c.args.disk.now in
-    let n = length c.args.logs.now in
-    let e : param_in (s 0) ≡ Some c.in-Some.param = sym (c.decode.ensures ∙ ap param_in c.get.ensures) ∙ c.in-Some.is in
-    on_ok c.apply_logs.result (λ laid f kept. subst (λ o. SameSectors (sectors_of c.apply_logs.new.disk) (laid_by o s (changes_of f n))) (sym e) (laid f kept)) c.apply_logs.ensures
+    let few = c.loop-server-test.true in
+    record {
+      laid = next_laid c.args.param.now s (sectors_of at.disk) (sectors_of c.lay_log.new.disk) at.server few at.invariant.laid c.in_ok-held.ensures.laid;
+      count = search rules;
+      greatest = subst (AreGreatest (at.server + 1) s) (sym c.in_ok-push.ensures.items)
+          (next_greatest c.args.param.now s (sectors_of at.disk) at.server at.greatest.items c.in_ok-held.held few at.invariant.laid at.invariant.count at.invariant.greatest c.in_ok-held.ensures.greatest);
+    }
 
-pub returns-in-None : goal.returns-in-None
-returns-in-None c =
+pub returns-clause-laid : goal.returns-clause-laid
+returns-clause-laid c =
     let s = sectors_of c.args.disk.now in
-    let n = length c.args.logs.now in
-    let e : param_in (s 0) ≡ None = sym (c.decode.ensures ∙ ap param_in c.get.ensures) ∙ c.in-None.is in
-    λ f kept sector. ap (λ o. laid_by o s (changes_of f n) sector) (sym e)
+    let e : c.loop-server.server ≡ 256 = omega arith in
+    subst (λ n. SameSectors (sectors_of c.loop-server.disk) (laid_by c.args.param.now s (changes_below s n))) e c.loop-server.invariant.laid
+
+pub returns-clause-greatest : goal.returns-clause-greatest
+returns-clause-greatest c =
+    let e : c.loop-server.server ≡ 256 = omega arith in
+    subst (λ n. AreGreatest n (sectors_of c.args.disk.now) c.loop-server.greatest.items) e c.loop-server.invariant.greatest

@@ -7,7 +7,7 @@ use Rattle.disk_reading.specs.Marks.{flag_at}
 use Rattle.report_definitions.specs.Sums.{Fault as Pair, gathered}
 use Rattle.report_definitions.specs.Report as report
 use Rattle.fsck_report.specs.declared.report.Fault.{Fault}
-use Rattle.fsck_report.specs.Seen.{view_in}
+use Rattle.report_rules.specs.Seen.{view_in}
 use Rattle.fsck_report.specs.Parts.{block_part}
 use Rattle.fsck_report.specs.Told.{faults_told, AreParts}
 use Rattle.fsck_report.proofs.Gathered.{gathered_rows}

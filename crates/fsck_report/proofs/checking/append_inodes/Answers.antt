@@ -8,7 +8,7 @@ use Rattle.disk_reading.specs.Seen.{store_in}
 use Rattle.report_definitions.specs.Sums.{Fault as Pair, gathered}
 use Rattle.report_definitions.specs.Report as report
 use Rattle.fsck_report.specs.declared.report.Fault.{Fault}
-use Rattle.fsck_report.specs.Seen.{stored}
+use Rattle.report_rules.specs.Seen.{stored}
 use Rattle.fsck_report.specs.Parts.{inode_part}
 use Rattle.fsck_report.specs.Told.{faults_told, AreParts}
 use Rattle.fsck_report.proofs.Gathered.{gathered_rows}

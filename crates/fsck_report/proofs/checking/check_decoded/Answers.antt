@@ -4,7 +4,7 @@ use Rattle.std.proofs.lemmas.Result.{IfOk-weaker}
 use Rattle.sector_bytes.specs.Sectors.{sectors_of}
 use Rattle.sector_definitions.proofs.ParamLaws.{few_segments}
 use Rattle.disk_reading.proofs.Treed.{some_segments}
-use Rattle.fsck_report.specs.Seen.{view_in}
+use Rattle.report_rules.specs.Seen.{view_in}
 use Rattle.fsck_report.specs.Told.{IsReportOf}
 use Rattle.fsck_report.proofs.Reported.{reported}
 use Rattle.fsck_report.proofs.checking.check_decoded.Goals as goal

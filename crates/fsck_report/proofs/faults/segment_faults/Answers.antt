@@ -6,7 +6,7 @@ use Rattle.disk_reading.specs.Marks.{flag_at}
 use Rattle.report_definitions.specs.Sums.{Fault}
 use Rattle.report_definitions.specs.Report.{fault_unless}
 use Rattle.report_definitions.specs.Rules as rule
-use Rattle.fsck_report.specs.Seen.{view_in}
+use Rattle.report_rules.specs.Seen.{view_in}
 use Rattle.fsck_report.specs.Told.{faults_told}
 use Rattle.fsck_report.proofs.Pushed.{three_pushed}
 use Rattle.fsck_report.proofs.faults.segment_faults.Goals as goal

@@ -13,10 +13,10 @@ finish-requires-clause-segments c = let d = c.requires.disk in holds_segments c.
 
 pub finish-requires-clause-versions : goal.finish-requires-clause-versions
 finish-requires-clause-versions c = let d = c.requires.disk in
-    ends_below c.args.op.now d.birth c.args.when c.args.sectors.now.entries c.args.held.now c.args.all (has_path c.args.op.now c.requires.bytes) d.small (omega arith) d.over c.plan_bytes-ended.result (c.plan_bytes-ended.ensures d.birth)
+    ends_below c.args.op.now d.birth c.args.when c.args.sectors.now.entries c.args.held.now c.args.all (has_path c.args.op.now c.requires.bytes) d.small (omega arith) d.over c.plan_bytes-ended.result (c.plan_bytes-ended.ensures.comes d.birth)
 
 pub returns-clause-is : goal.returns-clause-is
-returns-clause-is c birth = c.finish.ensures (reading (plan_of (hand_of c.args.sectors.now.entries c.args.held.now c.args.all) birth c.args.when c.args.op.now) c.args.sectors.now.entries c.args.held.now) (c.plan_bytes-ended.ensures birth)
+returns-clause-is c birth = c.finish.ensures (reading (plan_of (hand_of c.args.sectors.now.entries c.args.held.now c.args.all) birth c.args.when c.args.op.now) c.args.sectors.now.entries c.args.held.now) (c.plan_bytes-ended.ensures.comes birth)
 
 pub returns-clause-stands : goal.returns-clause-stands
 returns-clause-stands c birth small = stands_if c.args.op.now birth c.args.when c.args.sectors.now.entries c.args.held.now c.args.all (has_path c.args.op.now c.requires.bytes) small (omega arith) c.finish.result (returns-clause-is c birth)

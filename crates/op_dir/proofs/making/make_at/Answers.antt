@@ -1,5 +1,5 @@
 -- By where the path leads.
-use Rattle.std.proofs.Common.{◌≡◌, ℕ, List, Err, subst, sym, ap, ◌∙◌, rules}
+use Rattle.std.proofs.Common.{◌≡◌, ℕ, List, Err, subst, sym, ap, ◌∙◌, rules, []}
 use Rattle.frang_base.specs.declared.reply.Reply.TheVariants as reply
 use Rattle.disk_definitions.specs.Store.{stored}
 use Rattle.plan_definitions.specs.Plans.{Plan, refuse}
@@ -12,10 +12,12 @@ use Rattle.dir_lookup.specs.Hands.{seen}
 use Rattle.plan_steps.specs.Nodes.{node_of}
 use Rattle.plan_steps.specs.Rooms.{room_in}
 use Rattle.plan_steps.proofs.Ending.{comes_done, stops_as, refuses}
+use Rattle.dir_lookup.proofs.Looking.{adds_as, adds_none}
+use Rattle.plan_steps.specs.Looking.{examined}
 use Rattle.op_dir.proofs.making.make_at.Goals as goal
 
-pub returns-in_err-place-in-AtGap : goal.returns-in_err-place-in-AtGap
-returns-in_err-place-in-AtGap c dirs =
+pub returns-in_err-place-in-AtGap-clause-comes : goal.returns-in_err-place-in-AtGap-clause-comes
+returns-in_err-place-in-AtGap-clause-comes c dirs =
     let cached = c.args.hand.now.sectors.now.entries in
     let held = c.args.hand.now.held.now in
     let node = node_of c.args.node.now in
@@ -26,8 +28,8 @@ returns-in_err-place-in-AtGap c dirs =
     subst (Comes (plan c.args.spot.now)) (sym e)
     (stops_as (plan c.args.spot.now) _ stop (ap plan c.in-AtGap.is) (c.in_err-place-in-AtGap.ensures.finds c.in-AtGap.directory.number birth c.in-AtGap.name node dirs))
 
-pub returns-in_ok-made-in-AtGap : goal.returns-in_ok-made-in-AtGap
-returns-in_ok-made-in-AtGap c dirs =
+pub returns-in_ok-made-in-AtGap-clause-comes : goal.returns-in_ok-made-in-AtGap-clause-comes
+returns-in_ok-made-in-AtGap-clause-comes c dirs =
     let cached = c.args.hand.now.sectors.now.entries in
     let held = c.args.hand.now.held.now in
     let node = node_of c.args.node.now in
@@ -42,23 +44,66 @@ returns-in_ok-made-in-AtGap c dirs =
     (ap plan c.in-AtGap.is ∙ c.in_ok-place-in-AtGap.ensures.finds i birth name node dirs)
     d.reply d.edits
 
-pub returns-in-AtRoot : goal.returns-in-AtRoot
-returns-in-AtRoot c dirs =
+pub returns-in-AtRoot-clause-comes : goal.returns-in-AtRoot-clause-comes
+returns-in-AtRoot-clause-comes c dirs =
     let cached = c.args.hand.now.sectors.now.entries in
     let held = c.args.hand.now.held.now in
     let plan : Spot → Read Plan = λ s. reading (making (seen c.args.hand.now) c.args.birth (node_of c.args.node.now) dirs (spot_of s)) cached held in
     refuses (plan c.args.spot.now) reply.Exist dirs (ap plan c.in-AtRoot.is)
 
-pub returns-in-AtName : goal.returns-in-AtName
-returns-in-AtName c dirs =
+pub returns-in-AtName-clause-comes : goal.returns-in-AtName-clause-comes
+returns-in-AtName-clause-comes c dirs =
     let cached = c.args.hand.now.sectors.now.entries in
     let held = c.args.hand.now.held.now in
     let plan : Spot → Read Plan = λ s. reading (making (seen c.args.hand.now) c.args.birth (node_of c.args.node.now) dirs (spot_of s)) cached held in
     refuses (plan c.args.spot.now) reply.Exist dirs (ap plan c.in-AtName.is)
 
-pub returns-in-Lost : goal.returns-in-Lost
-returns-in-Lost c dirs =
+pub returns-in-Lost-clause-comes : goal.returns-in-Lost-clause-comes
+returns-in-Lost-clause-comes c dirs =
     let cached = c.args.hand.now.sectors.now.entries in
     let held = c.args.hand.now.held.now in
     let plan : Spot → Read Plan = λ s. reading (making (seen c.args.hand.now) c.args.birth (node_of c.args.node.now) dirs (spot_of s)) cached held in
     refuses (plan c.args.spot.now) c.reply.result dirs (ap plan c.in-Lost.is ∙ ap (λ r. Gives (refuse r dirs)) (sym c.reply.ensures))
+
+pub returns-in_err-place-in-AtGap-clause-looks : goal.returns-in_err-place-in-AtGap-clause-looks
+returns-in_err-place-in-AtGap-clause-looks c dirs m =
+    let cached = c.args.hand.now.sectors.now.entries in
+    let held = c.args.hand.now.held.now in
+    let h = seen c.args.hand.now in
+    let plan : Spot → List ℕ = λ s. examined (making h c.args.birth (node_of c.args.node.now) dirs (spot_of s)) cached held in
+    adds_as _ _ _ _ (sym (ap plan c.in-AtGap.is)) (c.in_err-place-in-AtGap.ensures.looks c.in-AtGap.directory.number c.args.birth c.in-AtGap.name (node_of c.args.node.now) dirs)
+
+pub returns-in_err-made-in-AtGap-clause-looks : goal.returns-in_err-made-in-AtGap-clause-looks
+returns-in_err-made-in-AtGap-clause-looks c dirs m = absurd (m (search rules))
+
+pub returns-in_ok-made-in-AtGap-clause-looks : goal.returns-in_ok-made-in-AtGap-clause-looks
+returns-in_ok-made-in-AtGap-clause-looks c dirs m =
+    let cached = c.args.hand.now.sectors.now.entries in
+    let held = c.args.hand.now.held.now in
+    let h = seen c.args.hand.now in
+    let plan : Spot → List ℕ = λ s. examined (making h c.args.birth (node_of c.args.node.now) dirs (spot_of s)) cached held in
+    adds_as _ _ _ _ (sym (ap plan c.in-AtGap.is)) (c.in_ok-place-in-AtGap.ensures.looks c.in-AtGap.directory.number c.args.birth c.in-AtGap.name (node_of c.args.node.now) dirs)
+
+pub returns-in-AtRoot-clause-looks : goal.returns-in-AtRoot-clause-looks
+returns-in-AtRoot-clause-looks c dirs m =
+    let cached = c.args.hand.now.sectors.now.entries in
+    let held = c.args.hand.now.held.now in
+    let h = seen c.args.hand.now in
+    let plan : Spot → List ℕ = λ s. examined (making h c.args.birth (node_of c.args.node.now) dirs (spot_of s)) cached held in
+    adds_as _ _ [] _ (sym (ap plan c.in-AtRoot.is)) (adds_none _)
+
+pub returns-in-AtName-clause-looks : goal.returns-in-AtName-clause-looks
+returns-in-AtName-clause-looks c dirs m =
+    let cached = c.args.hand.now.sectors.now.entries in
+    let held = c.args.hand.now.held.now in
+    let h = seen c.args.hand.now in
+    let plan : Spot → List ℕ = λ s. examined (making h c.args.birth (node_of c.args.node.now) dirs (spot_of s)) cached held in
+    adds_as _ _ [] _ (sym (ap plan c.in-AtName.is)) (adds_none _)
+
+pub returns-in-Lost-clause-looks : goal.returns-in-Lost-clause-looks
+returns-in-Lost-clause-looks c dirs m =
+    let cached = c.args.hand.now.sectors.now.entries in
+    let held = c.args.hand.now.held.now in
+    let h = seen c.args.hand.now in
+    let plan : Spot → List ℕ = λ s. examined (making h c.args.birth (node_of c.args.node.now) dirs (spot_of s)) cached held in
+    adds_as _ _ [] _ (sym (ap plan c.in-Lost.is)) (adds_none _)

@@ -1,5 +1,5 @@
 -- By where the path leads, and by the kind of the node.
-use Rattle.std.proofs.Common.{◌≡◌, ℕ, Some, Err, subst, sym, ap, refl, ◌∙◌, rules}
+use Rattle.std.proofs.Common.{◌≡◌, ℕ, Some, Err, subst, sym, ap, refl, ◌∙◌, rules, List, [], eq-eqb, ne_eqb, ◌==◌}
 use Rattle.frang_base.specs.declared.reply.Reply.TheVariants as reply
 use Rattle.disk_definitions.specs.Store.{stored}
 use Rattle.plan_definitions.specs.Ask.{ReadInode}
@@ -11,10 +11,14 @@ use Rattle.dir_lookup.specs.Spots.{spot_of}
 use Rattle.plan_steps.specs.Ends.{Comes}
 use Rattle.plan_steps.proofs.Stopping.{of_another, of_kind}
 use Rattle.plan_steps.proofs.Ending.{comes_as, node_read, node_stops, stops_as, refuses}
+use Rattle.op_dir.proofs.Looking.{if_not_looks, if_so_looks}
+use Rattle.dir_lookup.proofs.Looking.{adds_as, adds_none}
+use Rattle.plan_steps.proofs.Looking.{then_looks}
+use Rattle.plan_steps.specs.Looking.{examined}
 use Rattle.op_dir.proofs.removing.unlink_at.Goals as goal
 
-pub returns-then-found-eq-KIND_DIRECTORY : goal.returns-then-found-eq-KIND_DIRECTORY
-returns-then-found-eq-KIND_DIRECTORY c dirs =
+pub returns-then-found-eq-KIND_DIRECTORY-clause-comes : goal.returns-then-found-eq-KIND_DIRECTORY-clause-comes
+returns-then-found-eq-KIND_DIRECTORY-clause-comes c dirs =
     let cached = c.args.hand.now.sectors.now.entries in
     let held = c.args.hand.now.held.now in
     let plan : Spot → Read Plan = λ s. reading (unlinking dirs (spot_of s)) cached held in
@@ -23,8 +27,8 @@ returns-then-found-eq-KIND_DIRECTORY c dirs =
     (ap plan c.in-AtName.is
     ∙ of_kind c.in-AtName.found.entry.kind 2 (refused reply.IsDir dirs) (ReadInode j (unlinking_node c.in-AtName.directory.number (stored c.in-AtName.directory.inode) c.in-AtName.found.place j dirs)) cached held c.if-found-eq-KIND_DIRECTORY.true)
 
-pub returns-in_err-inode-in-AtName : goal.returns-in_err-inode-in-AtName
-returns-in_err-inode-in-AtName c dirs =
+pub returns-in_err-inode-in-AtName-clause-comes : goal.returns-in_err-inode-in-AtName-clause-comes
+returns-in_err-inode-in-AtName-clause-comes c dirs =
     let cached = c.args.hand.now.sectors.now.entries in
     let held = c.args.hand.now.held.now in
     let plan : Spot → Read Plan = λ s. reading (unlinking dirs (spot_of s)) cached held in
@@ -37,8 +41,8 @@ returns-in_err-inode-in-AtName c dirs =
     (ap plan c.in-AtName.is ∙ of_another c.in-AtName.found.entry.kind 2 (refused reply.IsDir dirs) (ReadInode j f) cached held c.if-found-eq-KIND_DIRECTORY.false)
     (node_stops cached held j dirs f refl stop (c.in_err-inode-in-AtName.ensures.finds held)))
 
-pub returns-in_ok-inode-in-AtName : goal.returns-in_ok-inode-in-AtName
-returns-in_ok-inode-in-AtName c dirs =
+pub returns-in_ok-inode-in-AtName-clause-comes : goal.returns-in_ok-inode-in-AtName-clause-comes
+returns-in_ok-inode-in-AtName-clause-comes c dirs =
     let cached = c.args.hand.now.sectors.now.entries in
     let held = c.args.hand.now.held.now in
     let plan : Spot → Read Plan = λ s. reading (unlinking dirs (spot_of s)) cached held in
@@ -48,19 +52,76 @@ returns-in_ok-inode-in-AtName c dirs =
     (ap plan c.in-AtName.is
     ∙ of_another c.in-AtName.found.entry.kind 2 (refused reply.IsDir dirs) (ReadInode j f) cached held c.if-found-eq-KIND_DIRECTORY.false
     ∙ node_read cached held j dirs f refl c.in_ok-inode-in-AtName.inode (c.in_ok-inode-in-AtName.ensures.finds held))
-    (c.remove.ensures dirs)
+    (c.remove.ensures.comes dirs)
 
-pub returns-in-AtRoot : goal.returns-in-AtRoot
-returns-in-AtRoot c dirs =
+pub returns-in-AtRoot-clause-comes : goal.returns-in-AtRoot-clause-comes
+returns-in-AtRoot-clause-comes c dirs =
     let plan : Spot → Read Plan = λ s. reading (unlinking dirs (spot_of s)) c.args.hand.now.sectors.now.entries c.args.hand.now.held.now in
     refuses (plan c.args.spot.now) reply.IsDir dirs (ap plan c.in-AtRoot.is)
 
-pub returns-in-AtGap : goal.returns-in-AtGap
-returns-in-AtGap c dirs =
+pub returns-in-AtGap-clause-comes : goal.returns-in-AtGap-clause-comes
+returns-in-AtGap-clause-comes c dirs =
     let plan : Spot → Read Plan = λ s. reading (unlinking dirs (spot_of s)) c.args.hand.now.sectors.now.entries c.args.hand.now.held.now in
     refuses (plan c.args.spot.now) reply.NoEnt dirs (ap plan c.in-AtGap.is)
 
-pub returns-in-Lost : goal.returns-in-Lost
-returns-in-Lost c dirs =
+pub returns-in-Lost-clause-comes : goal.returns-in-Lost-clause-comes
+returns-in-Lost-clause-comes c dirs =
     let plan : Spot → Read Plan = λ s. reading (unlinking dirs (spot_of s)) c.args.hand.now.sectors.now.entries c.args.hand.now.held.now in
     refuses (plan c.args.spot.now) c.reply.result dirs (ap plan c.in-Lost.is ∙ ap (λ r. Gives (refuse r dirs)) (sym c.reply.ensures))
+
+pub returns-then-found-eq-KIND_DIRECTORY-clause-looks : goal.returns-then-found-eq-KIND_DIRECTORY-clause-looks
+returns-then-found-eq-KIND_DIRECTORY-clause-looks c dirs m =
+    let cached = c.args.hand.now.sectors.now.entries in
+    let held = c.args.hand.now.held.now in
+    let plan : Spot → List ℕ = λ s. examined (unlinking dirs (spot_of s)) cached held in
+    let j : ℕ = c.in-AtName.found.entry.inode in
+    let i : ℕ = c.in-AtName.directory.number in
+    let x = stored c.in-AtName.directory.inode in
+    let q : ℕ = c.in-AtName.found.place in
+    let f = unlinking_node i x q j dirs in
+    adds_as _ _ [] _ (sym (ap plan c.in-AtName.is ∙ if_so_looks cached held (c.in-AtName.found.entry.kind == 2) (refused reply.IsDir dirs) (ReadInode j f) (eq-eqb c.in-AtName.found.entry.kind 2 c.if-found-eq-KIND_DIRECTORY.true))) (adds_none _)
+
+pub returns-in_err-inode-in-AtName-clause-looks : goal.returns-in_err-inode-in-AtName-clause-looks
+returns-in_err-inode-in-AtName-clause-looks c dirs m =
+    let cached = c.args.hand.now.sectors.now.entries in
+    let held = c.args.hand.now.held.now in
+    let plan : Spot → List ℕ = λ s. examined (unlinking dirs (spot_of s)) cached held in
+    let j : ℕ = c.in-AtName.found.entry.inode in
+    let i : ℕ = c.in-AtName.directory.number in
+    let x = stored c.in-AtName.directory.inode in
+    let q : ℕ = c.in-AtName.found.place in
+    let f = unlinking_node i x q j dirs in
+    adds_as _ _ _ _ (sym (ap plan c.in-AtName.is ∙ if_not_looks cached held (c.in-AtName.found.entry.kind == 2) (refused reply.IsDir dirs) (ReadInode j f) (ne_eqb c.in-AtName.found.entry.kind 2 c.if-found-eq-KIND_DIRECTORY.false))) (c.in_err-inode-in-AtName.ensures.looks held f refl)
+
+pub returns-in_ok-inode-in-AtName-clause-looks : goal.returns-in_ok-inode-in-AtName-clause-looks
+returns-in_ok-inode-in-AtName-clause-looks c dirs m =
+    let cached = c.args.hand.now.sectors.now.entries in
+    let held = c.args.hand.now.held.now in
+    let plan : Spot → List ℕ = λ s. examined (unlinking dirs (spot_of s)) cached held in
+    let j : ℕ = c.in-AtName.found.entry.inode in
+    let i : ℕ = c.in-AtName.directory.number in
+    let x = stored c.in-AtName.directory.inode in
+    let q : ℕ = c.in-AtName.found.place in
+    let f = unlinking_node i x q j dirs in
+    adds_as _ _ _ _ (sym (ap plan c.in-AtName.is ∙ if_not_looks cached held (c.in-AtName.found.entry.kind == 2) (refused reply.IsDir dirs) (ReadInode j f) (ne_eqb c.in-AtName.found.entry.kind 2 c.if-found-eq-KIND_DIRECTORY.false))) (then_looks cached held (ReadInode j f) (f (Some (stored c.in_ok-inode-in-AtName.inode))) _ _ _ (c.in_ok-inode-in-AtName.ensures.looks held f) (c.remove.ensures.looks dirs m))
+
+pub returns-in-AtRoot-clause-looks : goal.returns-in-AtRoot-clause-looks
+returns-in-AtRoot-clause-looks c dirs m =
+    let cached = c.args.hand.now.sectors.now.entries in
+    let held = c.args.hand.now.held.now in
+    let plan : Spot → List ℕ = λ s. examined (unlinking dirs (spot_of s)) cached held in
+    adds_as _ _ [] _ (sym (ap plan c.in-AtRoot.is)) (adds_none _)
+
+pub returns-in-AtGap-clause-looks : goal.returns-in-AtGap-clause-looks
+returns-in-AtGap-clause-looks c dirs m =
+    let cached = c.args.hand.now.sectors.now.entries in
+    let held = c.args.hand.now.held.now in
+    let plan : Spot → List ℕ = λ s. examined (unlinking dirs (spot_of s)) cached held in
+    adds_as _ _ [] _ (sym (ap plan c.in-AtGap.is)) (adds_none _)
+
+pub returns-in-Lost-clause-looks : goal.returns-in-Lost-clause-looks
+returns-in-Lost-clause-looks c dirs m =
+    let cached = c.args.hand.now.sectors.now.entries in
+    let held = c.args.hand.now.held.now in
+    let plan : Spot → List ℕ = λ s. examined (unlinking dirs (spot_of s)) cached held in
+    adds_as _ _ [] _ (sym (ap plan c.in-Lost.is)) (adds_none _)

@@ -5,10 +5,10 @@ use Rattle.ordered_map.proofs.map.chunk_of.Goals as goal
 
 pub returns-then-first-chunks : goal.returns-then-first-chunks
 returns-then-first-chunks g c =
-    first_is g.met.K.Ord.total c.args.key.now c.args.chunks.now c.first_reaching-first.result c.requires.filled c.requires.ordered c.if-first-chunks.true c.first_reaching-first.ensures.point
+    first_is g.met.K.Ord.total c.args.key.now c.args.chunks.now c.first_reaching_near-first.result c.requires.filled c.requires.ordered c.if-first-chunks.true c.first_reaching_near-first.ensures.point
 
 pub returns-else-first-chunks : goal.returns-else-first-chunks
 returns-else-first-chunks g c =
-    let all : length c.args.chunks.now ≤ c.first_reaching-first.result = c.if-first-chunks.false in
+    let all : length c.args.chunks.now ≤ c.first_reaching_near-first.result = c.if-first-chunks.false in
     last_is g.met.K.Ord.total c.args.key.now c.args.chunks.now (length c.args.chunks.now - 1) c.requires.ordered (omega (arith, c.requires.some))
-    (λ j d below. c.first_reaching-first.ensures.point.0 j d (omega arith) (omega arith))
+    (λ j d below. c.first_reaching_near-first.ensures.point.0 j d (omega arith) (omega arith))

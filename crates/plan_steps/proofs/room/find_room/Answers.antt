@@ -9,6 +9,8 @@ use Rattle.dir_lookup.proofs.Steps.{said_ok, said_err}
 use Rattle.plan_steps.specs.Rooms.{room_of}
 use Rattle.plan_steps.proofs.Bounds.{place_inside}
 use Rattle.plan_steps.proofs.Finding.{another_block, finding}
+use Rattle.plan_steps.proofs.Examining.{search_examined}
+use Rattle.plan_steps.proofs.RoomLooks.{room_inside, room_needed, room_picked}
 use Rattle.plan_steps.proofs.room.find_room.Goals as goal
 
 pub returns-in_err-found-clause-finds : goal.returns-in_err-found-clause-finds
@@ -37,10 +39,31 @@ returns-in-Some-clause-room c =
     (sym (sym (ap (λ o. Gives (option_map vacant_at o)) c.in-Some.is) ∙ said_ok (option_map vacant_at) c.first_vacant.result c.in_ok-found.found _ c.in_ok-found.was (c.first_vacant.ensures.reads []))) in
     omega arith
 
-pub returns-clause-finds : goal.returns-clause-finds
-returns-clause-finds c =
+pub returns-in-None-clause-finds : goal.returns-in-None-clause-finds
+returns-in-None-clause-finds c =
     let held = c.args.hand.now.held.now in
     let x = stored c.args.directory.now in
     another_block x c.args.hand.now.sectors.now.entries held c.args.hand.now.all (room_of c.more_room.result) c.more_room.ensures.finds
     ∙ finding x c.args.hand.now.sectors.now.entries held c.args.hand.now.all (Gives None)
     (sym (ap (λ o. Gives (option_map vacant_at o)) c.in-None.is) ∙ said_ok (option_map vacant_at) c.first_vacant.result c.in_ok-found.found _ c.in_ok-found.was (c.first_vacant.ensures.reads held))
+
+pub returns-in_err-found-clause-looks : goal.returns-in_err-found-clause-looks
+returns-in_err-found-clause-looks c =
+    let held = c.args.hand.now.held.now in
+    let need = c.in_err-found.field-0.0 in
+    room_needed (stored c.args.directory.now) c.args.hand.now.sectors.now.entries held c.args.hand.now.all need.0.0 _ _
+    (said_err (option_map vacant_at) c.first_vacant.result need _ c.in_err-found.was (c.first_vacant.ensures.reads held)) (search_examined c.args.hand.now.sectors.now.entries held _ _ (slice_index c.args.directory.now.small) is_vacant (8 * c.args.directory.now.blocks) (c.first_vacant.ensures.looks held))
+
+pub returns-in-Some-clause-looks : goal.returns-in-Some-clause-looks
+returns-in-Some-clause-looks c =
+    let held = c.args.hand.now.held.now in
+    room_inside (stored c.args.directory.now) c.args.hand.now.sectors.now.entries held c.args.hand.now.all (vacant_at c.in-Some.place) _ _
+    (sym (ap (λ o. Gives (option_map vacant_at o)) c.in-Some.is) ∙ said_ok (option_map vacant_at) c.first_vacant.result c.in_ok-found.found _ c.in_ok-found.was (c.first_vacant.ensures.reads held))
+    (search_examined c.args.hand.now.sectors.now.entries held _ _ (slice_index c.args.directory.now.small) is_vacant (8 * c.args.directory.now.blocks) (c.first_vacant.ensures.looks held))
+
+pub returns-in-None-clause-looks : goal.returns-in-None-clause-looks
+returns-in-None-clause-looks c =
+    let held = c.args.hand.now.held.now in
+    room_picked (stored c.args.directory.now) c.args.hand.now.sectors.now.entries held c.args.hand.now.all _ _ _
+    (sym (ap (λ o. Gives (option_map vacant_at o)) c.in-None.is) ∙ said_ok (option_map vacant_at) c.first_vacant.result c.in_ok-found.found _ c.in_ok-found.was (c.first_vacant.ensures.reads held))
+    (search_examined c.args.hand.now.sectors.now.entries held _ _ (slice_index c.args.directory.now.small) is_vacant (8 * c.args.directory.now.blocks) (c.first_vacant.ensures.looks held)) c.more_room.ensures.looks

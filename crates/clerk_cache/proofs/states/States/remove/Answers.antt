@@ -1,14 +1,14 @@
 -- The sector and its keys are out.
-use Rattle.std.proofs.Common.{◌≡◌, Some, length, sym, ap, ◌∙◌, subst, arith}
-use Rattle.sector_bytes.specs.SectorMaps.{Ascend, value_at, with_value, without, room_for}
-use Rattle.sector_bytes.proofs.MapLaws.{ascend_with, ascend_without}
+use Rattle.std.proofs.Common.{◌≡◌, length, sym, ap, ◌∙◌, subst, arith}
+use Rattle.sector_bytes.specs.SectorMaps.{Ascend, value_at, without}
+use Rattle.sector_bytes.proofs.MapLaws.{ascend_without}
 use Rattle.flush_order.specs.Marks.{mark_cmp}
 use Rattle.flush_order.proofs.MarkOrder.{marks}
 use Rattle.clerk_cache.specs.Kept.{state_mark}
 use Rattle.clerk_cache.specs.Keys.{keyed}
 use Rattle.clerk_cache.specs.Covers.{cover_cmp, cover_key, is_any, is_dirty}
 use Rattle.clerk_cache.proofs.CoverOrder.{covers, other_marks, other_covers}
-use Rattle.clerk_cache.proofs.Keying.{exchanged_keys, taken_keys, room_for_key, length-with, shorter}
+use Rattle.clerk_cache.proofs.Keying.{taken_keys, shorter}
 use Rattle.clerk_cache.proofs.states.States.remove.Goals as goal
 
 pub invariant_of-self : goal.invariant_of-self

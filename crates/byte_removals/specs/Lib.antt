@@ -1,7 +1,0 @@
-pub mod Locks
-pub mod Replies
-pub mod Sight
-pub mod Coverage
-pub mod Synced
-pub mod Events
-pub mod Stops

@@ -1,5 +1,0 @@
-pub mod Happened
-pub mod Example
-pub mod Paired
-pub mod Settling
-pub mod Stop

@@ -1,0 +1,4 @@
+pub mod Compared
+pub mod Joined
+pub mod Kept
+pub mod Needed

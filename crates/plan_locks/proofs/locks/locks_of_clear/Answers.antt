@@ -1,0 +1,15 @@
+-- Over a disk that stands for a tree the locks that are found are the plan's.
+use Rattle.std.proofs.lemmas.Result.{IfOk-weaker}
+use Rattle.core_definitions.specs.Sets.{LockSet, joined_all}
+use Rattle.std.proofs.Common.{◌≡◌, []}
+use Rattle.line_locks.specs.Found.{clear_locks, nodes_in}
+use Rattle.plan_locks.specs.Needs.{ClearIsNeeded}
+use Rattle.plan_locks.specs.Seen.{numbers}
+use Rattle.plan_locks.proofs.Needed.{clear_needed}
+use Rattle.plan_locks.proofs.locks.locks_of_clear.Goals as goal
+
+pub returns-clause-needed : goal.returns-clause-needed
+returns-clause-needed c =
+    let looked = numbers c.args.looked.now in
+    IfOk-weaker c.clear_set.result (λ (set : LockSet). set ≡ joined_all [] (clear_locks c.args.over.now (nodes_in c.args.segments looked) c.args.block)) (ClearIsNeeded c.args.segments looked c.args.over.now c.args.block)
+    (λ set e. clear_needed c.args.segments looked c.args.over.now c.args.block set e) c.clear_set.ensures

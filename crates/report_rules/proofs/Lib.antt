@@ -1,0 +1,9 @@
+pub mod Walking
+pub mod FirstUsers
+pub mod Within
+pub mod Counted
+pub mod Named
+pub mod Repeated
+pub mod PartRules
+pub mod CountRules
+pub mod UsedBlocks

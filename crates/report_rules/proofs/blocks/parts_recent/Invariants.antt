@@ -1,0 +1,10 @@
+use Rattle.std.proofs.Common.{◌≡◌}
+use Rattle.sector_bytes.specs.Sectors.{sectors_of}
+use Rattle.sector_definitions.specs.declared.region.Region.TheVariants as region
+use Rattle.sector_definitions.specs.Regions.{sector_of}
+use Rattle.standing_laws.specs.Below.{all_below}
+use Rattle.report_definitions.specs.View.{is_recent_at}
+use Rattle.report_rules.proofs.blocks.parts_recent.Given as goal
+
+abbrev pub invariant-loop-p : goal.invariant-loop-p
+invariant-loop-p l = l.all ≡ all_below l.p (λ p. is_recent_at l.most (sectors_of l.disk) (sector_of (region.Small l.block p)))
