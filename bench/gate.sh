@@ -2,6 +2,7 @@
 # Runs the gate from nothing on what is committed, in a clone, and prints what it cost: the processor minutes of proofs, tests and edits by crate,
 # the longest chain of crates, the sum. Use: bench/gate.sh [ROWS]   (so many crates are listed, by default all).
 # The sum is what the system counts for the whole run. The rows are sampled twice a second, so short steps are missing in them.
+# The paths down through crates.txt are counted too: some kits read a crate's files once for each path that leads down to it, one after another.
 set -u
 top=$(git -C "$(dirname "$0")" rev-parse --show-toplevel) || exit 2
 room=$(mktemp -d) || exit 2
@@ -79,8 +80,18 @@ def chain(crate):
     return longest[crate]
 
 
+paths = {}
+
+
+def ways(crate):
+    if crate not in paths:
+        paths[crate] = 1 + sum(ways(it) for it in stands[crate] if it in stands)
+    return paths[crate]
+
+
 minutes, names = max(chain(it) for it in stands)
 print(f"longest chain: {minutes:.1f} processor minutes of proofs, {len(names)} crates: {' '.join(names)}")
+print(f"paths down through crates.txt: {sum(ways(it) for it in stands)}")
 print(f"sum: {(used.ru_utime + used.ru_stime) / 60:.1f} processor minutes, {(time.time() - begun) / 60:.1f} minutes on {os.cpu_count()} processors")
 with open(log, errors="replace") as it:
     print(it.read().rstrip("\n").split("\n")[-1])

@@ -7,7 +7,7 @@ top=$(cd "$(dirname "$0")/.." && pwd)
 work=$(mktemp -d)
 trap 'rm -rf "$work"' EXIT
 mkdir "$work/crates"
-for crate in frang_base tree_definitions sorted_entries ordered_map sector_bytes sector_definitions meta_version log_definitions ring_definitions log_record \
+for crate in frang_base tree_definitions tree_laws sorted_entries ordered_map sector_bytes disk_definitions meta_version ring_definitions log_record \
   log_reading wal_ring; do
   cp -a "$top/crates/$crate" "$work/crates/"
   grep "^$crate:" "$top/crates.txt" >>"$work/crates.txt"
@@ -21,7 +21,7 @@ cat >"$work/crates/ring_bench/src/main.rt" <<'END'
 
 ghost use Rattle.std.specs.Prelude.{◌≡◌, ◌<◌, ◌≤◌, ◌^◌, length, true, IfOk, IsTrue};
 ghost use Rattle.sector_bytes.specs.Changes.{is_change};
-ghost use Rattle.log_definitions.specs.Records.{change_bytes};
+ghost use Rattle.disk_definitions.specs.Records.{change_bytes};
 ghost use Rattle.ring_definitions.specs.Rings as rings;
 ghost use Rattle.ring_definitions.specs.Rings.{is_record};
 
@@ -143,7 +143,7 @@ fn main(rt: HostRuntime) -> anyhow::Result<()> {
     Ok(())
 }
 END
-echo 'ring_bench: frang_base sector_bytes log_definitions ring_definitions wal_ring anyhow' >>"$work/crates.txt"
+echo 'ring_bench: frang_base sector_bytes disk_definitions ring_definitions wal_ring anyhow' >>"$work/crates.txt"
 cd "$work/crates/ring_bench"
 rt run >"$work/log" 2>&1 || { tail -n 20 "$work/log"; exit 1; }
 /usr/bin/env time -f '%e s, %M KB' ./out/ring_bench

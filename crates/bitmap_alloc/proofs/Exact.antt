@@ -7,14 +7,14 @@ use Rattle.std.proofs.lemmas.List.{get_or-set_same, get_or-set_other}
 use Rattle.std.proofs.lemmas.Nat.Bits.{bit_at_or, bit_at_and, bit_at-pow_other, bit_at-lt, bit_at_above, same_from_bits}
 use Rattle.std.proofs.Math.ListN.{length-set}
 use Rattle.std.specs.Int.{bit_at, bit_not}
-use Rattle.sector_definitions.proofs.Digits.{digit_fits}
+use Rattle.disk_definitions.proofs.Digits.{digit_fits}
 use Rattle.bitmap_block.specs.States.{state_number}
 use Rattle.bitmap_block.specs.declared.state.BlockState.{BlockState}
 use Rattle.bitmap_block.specs.declared.state.BlockState.TheVariants.{Unused, FileBytes, FormerDirectory, Directory}
 use Rattle.frang_base.specs.declared.bitmap.Bitmap.{Bitmap}
-use Rattle.sector_definitions.specs.Bitmaps.{inode_bit, block_state, with_digit}
-use Rattle.pick_definitions.specs.Taken.{with_state, with_inode}
-use Rattle.pick_definitions.proofs.Digits.{state_replaced, inode_marked}
+use Rattle.disk_definitions.specs.Bitmaps.{inode_bit, block_state, with_digit}
+use Rattle.disk_definitions.specs.Taken.{with_state, with_inode}
+use Rattle.disk_definitions.proofs.PickDigits.{state_replaced, inode_marked}
 
 pub state_below : (s : BlockState) → state_number s < 4
 state_below Unused = omega arith

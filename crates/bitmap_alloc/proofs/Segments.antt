@@ -2,11 +2,11 @@
 use Rattle.std.proofs.Common.{ℕ, ◌≡◌, ◌<◌, ◌≤◌, ◌+◌, ◌-◌, ◌*◌, ◌/◌, ◌%◌, ◌==◌, not, Some, None, sym, ap, ◌∙◌, arith}
 use Rattle.std.specs.Option.{option_map}
 use Rattle.frang_base.specs.declared.bitmap.Bitmap.{Bitmap}
-use Rattle.sector_definitions.specs.Bitmaps.{inode_bit, block_state}
-use Rattle.pick_definitions.specs.Least.{least, least_from}
-use Rattle.pick_definitions.specs.Held.{Segments, bitmap_of, inode_in, state_in}
-use Rattle.pick_definitions.specs.Picks.{is_free, is_in_state}
-use Rattle.pick_definitions.proofs.LeastLaws.{from_same, least_same, nothing_from, nothing_below}
+use Rattle.disk_definitions.specs.Bitmaps.{inode_bit, block_state}
+use Rattle.disk_definitions.specs.Least.{least, least_from}
+use Rattle.disk_definitions.specs.Held.{Segments, bitmap_of, inode_in, state_in}
+use Rattle.disk_definitions.specs.Picks.{is_free, is_in_state}
+use Rattle.disk_definitions.proofs.LeastLaws.{from_same, least_same, nothing_from, nothing_below}
 
 inode_there : (held : Segments) (k j : ℕ) → j < 64 → inode_in held (64 * k + j) ≡ option_map (λ x. inode_bit x j) (bitmap_of held k)
 inode_there held k j l =

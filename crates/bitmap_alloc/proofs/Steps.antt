@@ -3,11 +3,11 @@ use Rattle.std.proofs.Common.{ℕ, suc, ◌≡◌, ◌<◌, ◌≤◌, ◌+◌, 
 use Rattle.std.proofs.lemmas.Bool.{cases_eq, cases_lt}
 use Rattle.std.proofs.lemmas.Bool.Decides.{nat_tests}
 use Rattle.std.specs.Option.{option_map}
-use Rattle.sector_definitions.proofs.Chosen.{chosen_same, chosen_other}
-use Rattle.pick_definitions.specs.Least.{least_from}
-use Rattle.pick_definitions.specs.Picks.{is_in_state, least_in_state, with_state_at, picks}
-use Rattle.pick_definitions.proofs.LeastLaws.{from_some, from_nothing, found_at, passed_to, least_at, nothing_below}
-use Rattle.pick_definitions.proofs.ManyLaws.{no_picks, more_found, more_missing, same_picks}
+use Rattle.disk_definitions.proofs.Chosen.{chosen_same, chosen_other}
+use Rattle.disk_definitions.specs.Least.{least_from}
+use Rattle.disk_definitions.specs.Picks.{is_in_state, least_in_state, with_state_at, picks}
+use Rattle.disk_definitions.proofs.LeastLaws.{from_some, from_nothing, found_at, passed_to, least_at, nothing_below}
+use Rattle.disk_definitions.proofs.ManyLaws.{no_picks, more_found, more_missing, same_picks}
 
 -- ---- segment after segment, each by the places in it
 module _ (test : ℕ → Bool) (size base start end : ℕ) (want : Option ℕ) (within : base + size ≤ end) (low : start ≤ size)

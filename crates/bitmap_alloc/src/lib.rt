@@ -7,7 +7,7 @@ mod mark;
 mod pick;
 
 pub use bitmap_block::BlockState;
+pub use disk_definitions::Use;
 pub use frang_base::{Bitmap, Held};
 pub use mark::{mark_block, mark_inode};
 pub use pick::{pick_inode, pick_large, pick_many, pick_small};
-pub use pick_definitions::Use;

@@ -2,7 +2,7 @@
 ghost use Rattle.std.specs.Prelude.{◌≡◌, ◌<◌};
 ghost use Rattle.frang_base.specs.declared.limits.TheConstants.{SEGMENT_BLOCKS, SEGMENT_INODES};
 ghost use Rattle.bitmap_block.specs.States.{state_number};
-ghost use Rattle.pick_definitions.specs.Taken.{with_inode as inode_marked, with_state as state_marked};
+ghost use Rattle.disk_definitions.specs.Taken.{with_inode as inode_marked, with_state as state_marked};
 
 use bitmap_block::{BlockState, with_inode, with_state};
 use frang_base::Bitmap;

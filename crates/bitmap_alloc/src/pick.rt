@@ -3,15 +3,15 @@ ghost use Rattle.std.specs.Prelude.{◌≡◌, ◌≤◌, ◌<◌, ◌+◌, ◌-
 ghost use Rattle.std.specs.Option.{option_map};
 ghost use Rattle.frang_base.specs.declared.limits.TheConstants.{SEGMENT_BLOCKS, SEGMENT_INODES, SEGMENTS_MAX};
 ghost use Rattle.bitmap_block.specs.States.{state_number};
-ghost use Rattle.sector_definitions.specs.Bitmaps.{inode_bit, block_state};
-ghost use Rattle.pick_definitions.specs.Least.{least, least_from};
-ghost use Rattle.pick_definitions.specs.Held.{inode_in, state_in, large_in};
-ghost use Rattle.pick_definitions.specs.Picks.{is_free, is_in_state, picked_inode, picked_small, picked_large, picked_many};
+ghost use Rattle.disk_definitions.specs.Bitmaps.{inode_bit, block_state};
+ghost use Rattle.disk_definitions.specs.Least.{least, least_from};
+ghost use Rattle.disk_definitions.specs.Held.{inode_in, state_in, large_in};
+ghost use Rattle.disk_definitions.specs.Picks.{is_free, is_in_state, picked_inode, picked_small, picked_large, picked_many};
 
 use bitmap_block::{BlockState, inode_in_use, state_of};
+use disk_definitions::Use;
 use frang_base::limits::{SEGMENT_BLOCKS, SEGMENT_INODES, SEGMENTS_MAX};
 use frang_base::{Bitmap, Held, NoMemory};
-use pick_definitions::Use;
 use std::alloc::Global;
 
 /// The least free inode of the held segments, 0 to 4,095. `None` exactly where no held segment has a free one.

@@ -6,7 +6,7 @@ use mir.Val.{bool_byte}
 use Rattle.byteorder.specs.Endian.{little_bytes}
 use Rattle.frang_base.specs.declared.bitmap.Bitmap.{Bitmap}
 use Rattle.sector_bytes.specs.Bytes.{zeros}
-use Rattle.sector_definitions.specs.Bitmaps.{bitmap_bytes, large_byte}
+use Rattle.disk_definitions.specs.Bitmaps.{bitmap_bytes, large_byte}
 
 -- a mark is written as 1 or 0
 mark_written : (large : Bool) → bool_byte large ≡ large_byte large

@@ -1,6 +1,6 @@
 // What a change of a segment has to put into its sector.
 ghost use Rattle.std.specs.Prelude.{◌≡◌, IfOk};
-ghost use Rattle.sector_definitions.specs.Bitmaps.{bitmap_bytes};
+ghost use Rattle.disk_definitions.specs.Bitmaps.{bitmap_bytes};
 ghost use Rattle.sector_bytes.specs.Patches.{patches_of};
 
 use crate::writing::block_of;

@@ -1,6 +1,6 @@
 // The inodes of a segment that are in use.
 ghost use Rattle.std.specs.Prelude.{◌≡◌, ◌<◌, ◌==◌, ℕ, if◌then◌else◌};
-ghost use Rattle.sector_definitions.specs.Bitmaps.{inode_bit};
+ghost use Rattle.disk_definitions.specs.Bitmaps.{inode_bit};
 
 use frang_base::Bitmap;
 use frang_base::limits::SEGMENT_INODES;

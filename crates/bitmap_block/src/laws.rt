@@ -5,7 +5,7 @@ ghost use Rattle.sector_bytes.specs.Blocks.{patched};
 ghost use Rattle.frang_base.specs.declared.bitmap.Bitmap.{Bitmap};
 ghost use Rattle.frang_base.specs.declared.change.Change.{Change};
 ghost use Rattle.bitmap_block.specs.Fields.{FillsItsFields};
-ghost use Rattle.sector_definitions.specs.Bitmaps.{bitmap_bytes, bitmap_in, IsBitmapSector};
+ghost use Rattle.disk_definitions.specs.Bitmaps.{bitmap_bytes, bitmap_in, IsBitmapSector};
 ghost use Rattle.sector_bytes.specs.Patches.{patches_of};
 
 /// What was written of a segment reads back, a block is the sector of what it is read as, what a block is the sector of it is read as,

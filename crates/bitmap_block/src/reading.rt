@@ -1,6 +1,6 @@
 // Segments from the bytes of their sectors.
 ghost use Rattle.std.specs.Prelude.{◌≡◌};
-ghost use Rattle.sector_definitions.specs.Bitmaps.{bitmap_fields, bitmap_in};
+ghost use Rattle.disk_definitions.specs.Bitmaps.{bitmap_fields, bitmap_in};
 
 use crate::writing::block_of;
 use byteorder::{ByteOrder, LittleEndian};

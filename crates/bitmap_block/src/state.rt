@@ -1,7 +1,7 @@
 // The states of the small blocks of a segment.
 ghost use Rattle.std.specs.Prelude.{◌≡◌, ◌<◌, ◌≤◌, ◌+◌, ◌-◌, ◌*◌, ◌/◌, ◌%◌, ◌^◌, ◌==◌, ℕ, if◌then◌else◌};
 ghost use Rattle.bitmap_block.specs.States.{state_number};
-ghost use Rattle.sector_definitions.specs.Bitmaps.{block_state};
+ghost use Rattle.disk_definitions.specs.Bitmaps.{block_state};
 
 use frang_base::Bitmap;
 use frang_base::limits::SEGMENT_BLOCKS;

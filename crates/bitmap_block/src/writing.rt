@@ -1,6 +1,6 @@
 // Segments as the bytes of their sectors.
 ghost use Rattle.std.specs.Prelude.{◌≡◌};
-ghost use Rattle.sector_definitions.specs.Bitmaps.{bitmap_bytes};
+ghost use Rattle.disk_definitions.specs.Bitmaps.{bitmap_bytes};
 
 use byteorder::{ByteOrder, LittleEndian};
 use frang_base::limits::SECTOR_BYTES;

@@ -8,21 +8,21 @@ use Rattle.frang_base.specs.declared.reply.Reply.TheVariants as reply
 use Rattle.tree_definitions.specs.declared.node.Node.TheVariants.{Dir, File, Link}
 use Rattle.tree_definitions.specs.Tree.{FileTree}
 use Rattle.disk_definitions.specs.Store.{Store, StoredNode}
-use Rattle.store_changes.specs.Edits.{Edit}
+use Rattle.disk_definitions.specs.Edits.{Edit}
 use Rattle.disk_definitions.specs.Naming.{Naming}
-use Rattle.plan_definitions.specs.Ask.{Ask, ReadInode, run}
-use Rattle.plan_definitions.specs.Walks.{Spot, Target, walk, at_spot, at_target}
-use Rattle.plan_definitions.specs.Walks.Spot.{AtRoot, AtName, AtGap, Lost}
-use Rattle.plan_definitions.specs.Plans.{Hand, Plan, Finish, refused}
-use Rattle.plan_definitions.specs.FilePlans.{sectors_met, read_sectors, writing, cutting, showing, at_file, with_file, plan_of_file}
-use Rattle.plan_definitions.specs.LookPlans.{plan_of_node, with_inode, at_inode, described, timed, listing, sorted_names}
-use Rattle.plan_definitions.specs.PlanOf.{plan_of}
-use Rattle.plan_definitions.specs.Meets.{IsOfTree, IsHandOf}
+use Rattle.disk_definitions.specs.Ask.{Ask, ReadInode, run}
+use Rattle.disk_definitions.specs.Walks.{Spot, Target, walk, at_spot, at_target}
+use Rattle.disk_definitions.specs.Walks.Spot.{AtRoot, AtName, AtGap, Lost}
+use Rattle.disk_definitions.specs.Plans.{Hand, Plan, Finish, refused}
+use Rattle.disk_definitions.specs.FilePlans.{sectors_met, read_sectors, writing, cutting, showing, at_file, with_file, plan_of_file}
+use Rattle.disk_definitions.specs.LookPlans.{plan_of_node, with_inode, at_inode, described, timed, listing, sorted_names}
+use Rattle.disk_definitions.specs.PlanOf.{plan_of}
+use Rattle.disk_definitions.specs.Meets.{IsOfTree, IsHandOf}
 use Rattle.plan_laws.proofs.Asking.{run-bind}
 use Rattle.plan_laws.proofs.Bytes.{run-sectors}
 use Rattle.plan_laws.proofs.Gathering.{run-entries}
-use Rattle.plan_covers.proofs.Standing.{HasKind, IsFileNode, DiskStands, disk_stands}
-use Rattle.plan_covers.proofs.WalksFine.{SpotStands, walk_stands}
+use Rattle.plan_laws.proofs.Standing.{HasKind, IsFileNode, DiskStands, disk_stands}
+use Rattle.plan_laws.proofs.WalksFine.{SpotStands, walk_stands}
 use Rattle.byte_fills.proofs.Names.{IsFinePlan, Ends, made_path_fine, link_fine, unlink_fine, rmdir_fine}
 use Rattle.byte_fills.proofs.Renames.{rename_fine}
 use Rattle.byte_fills.specs.Sectors.{Asked, asked_of, spot_inode, IsPiece}

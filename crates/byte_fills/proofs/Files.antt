@@ -12,21 +12,21 @@ use Rattle.tree_definitions.specs.Tree.{small_blocks_of}
 use Rattle.disk_definitions.specs.Store.{Store, StoredNode, Use, is_unused}
 use Rattle.disk_definitions.specs.Store.Use.{Fresh, Bytes}
 use Rattle.disk_definitions.specs.Naming.{Naming}
-use Rattle.store_changes.specs.Edits.{Edit, edited_all}
-use Rattle.store_changes.specs.Edits.Edit.{SetUse, SetLarge, SetBytes, SetLargeBytes}
-use Rattle.store_changes.proofs.Puts.{edited_append}
-use Rattle.pick_definitions.specs.Picks.{picked_many, picked_large}
-use Rattle.plan_definitions.specs.Ask.{BytesAt, LargeAt, Got}
-use Rattle.plan_definitions.specs.Plans.{Hand, Finish, refused, read_held}
-use Rattle.plan_definitions.specs.Plans.Plan.{Finishes}
-use Rattle.plan_definitions.specs.NamePlans.{finish_over}
-use Rattle.plan_definitions.specs.Written.{is_metadata}
-use Rattle.plan_definitions.specs.FilePlans.{Writing, end_of, set_sector, mixed, sectors_met, resized, large_taken, file_dated, written_by, writing_in, directory_blocks, writing_picked, writing_small, writing_large, writing, blocks_between, large_cut, cut_segments, cut_by, cutting}
+use Rattle.disk_definitions.specs.Edits.{Edit, edited_all}
+use Rattle.disk_definitions.specs.Edits.Edit.{SetUse, SetLarge, SetBytes, SetLargeBytes}
+use Rattle.disk_definitions.proofs.Puts.{edited_append}
+use Rattle.disk_definitions.specs.Picks.{picked_many, picked_large}
+use Rattle.disk_definitions.specs.Ask.{BytesAt, LargeAt, Got}
+use Rattle.disk_definitions.specs.Plans.{Hand, Finish, refused, read_held}
+use Rattle.disk_definitions.specs.Plans.Plan.{Finishes}
+use Rattle.disk_definitions.specs.NamePlans.{finish_over}
+use Rattle.disk_definitions.specs.Written.{is_metadata}
+use Rattle.disk_definitions.specs.FilePlans.{Writing, end_of, set_sector, mixed, sectors_met, resized, large_taken, file_dated, written_by, writing_in, directory_blocks, writing_picked, writing_small, writing_large, writing, blocks_between, large_cut, cut_segments, cut_by, cutting}
 use Rattle.plan_laws.proofs.Asking.{run-segments}
 use Rattle.plan_laws.proofs.Covering.{has_head, has_more}
 use Rattle.plan_laws.proofs.Sectors.{old_sector, sector_edits, run-writes, bytes_only}
-use Rattle.plan_looks.specs.Looked.{edited_at}
-use Rattle.plan_covers.proofs.Standing.{IsFileNode, DiskStands}
+use Rattle.plan_laws.specs.Looked.{edited_at}
+use Rattle.plan_laws.proofs.Standing.{IsFileNode, DiskStands}
 use Rattle.line_fills.specs.Files.{file_sector, IsWritten}
 use Rattle.byte_fills.specs.Sectors.{StaysThere}
 use Rattle.byte_fills.proofs.Fine.{IsFilled, AreFine, both_fine}

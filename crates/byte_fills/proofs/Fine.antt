@@ -6,14 +6,14 @@ use Rattle.tree_definitions.specs.declared.node.Node.{Node}
 use Rattle.tree_definitions.specs.declared.node.Node.TheVariants.{Dir, File, Link}
 use Rattle.disk_definitions.specs.Store.{Store, StoredNode, StoredEntry, Use, is_unused}
 use Rattle.disk_definitions.specs.Naming.{inode_of}
-use Rattle.store_changes.specs.Edits.{Edit}
-use Rattle.store_changes.specs.Edits.Edit.{SetInode, SetBit, SetUse, SetLarge, SetBytes, SetLargeBytes}
-use Rattle.store_changes.specs.Changes.{new_node, take_entry, replace_entry, relink, freed, uses_to, large_gone, drop_node}
-use Rattle.store_changes.specs.Laws.{IsBare}
-use Rattle.plan_definitions.specs.Plans.{Room, enter, with_block}
-use Rattle.plan_definitions.specs.Plans.Room.{Inside, InBlock, NoRoom}
-use Rattle.plan_definitions.specs.NamePlans.{is_last, fewer}
-use Rattle.plan_moves.proofs.Sound.{freed_unused}
+use Rattle.disk_definitions.specs.Edits.{Edit}
+use Rattle.disk_definitions.specs.Edits.Edit.{SetInode, SetBit, SetUse, SetLarge, SetBytes, SetLargeBytes}
+use Rattle.disk_definitions.specs.Changes.{new_node, take_entry, replace_entry, relink, freed, uses_to, large_gone, drop_node}
+use Rattle.disk_definitions.specs.ChangeLaws.{IsBare}
+use Rattle.disk_definitions.specs.Plans.{Room, enter, with_block}
+use Rattle.disk_definitions.specs.Plans.Room.{Inside, InBlock, NoRoom}
+use Rattle.disk_definitions.specs.NamePlans.{is_last, fewer}
+use Rattle.plan_laws.proofs.Sound.{freed_unused}
 use Rattle.line_fills.specs.Files.{file_sector, IsWritten}
 use Rattle.byte_fills.specs.Sectors.{StaysThere}
 

@@ -8,19 +8,19 @@ use Rattle.tree_definitions.specs.Perform.{Step, Goes, resolved}
 use Rattle.tree_definitions.specs.Tree.{FileTree}
 use Rattle.disk_definitions.specs.Store.{Store, StoredNode}
 use Rattle.disk_definitions.specs.Naming.{Naming}
-use Rattle.store_changes.specs.Edits.{Edit, edited, edited_all}
-use Rattle.store_changes.specs.Edits.Edit.{SetInode, SetBit, SetUse, SetPlace, SetLarge, SetBytes, SetLargeBytes}
-use Rattle.plan_definitions.specs.Ask.{run}
-use Rattle.plan_definitions.specs.Meets.{IsOfTree, IsHandOf}
-use Rattle.plan_definitions.specs.PlanOf.{plan_of}
-use Rattle.plan_definitions.specs.Plans.{Hand, Lock, Finish, shared_nodes}
-use Rattle.plan_definitions.specs.Plans.Plan.{Finishes}
-use Rattle.plan_definitions.specs.Written.{is_metadata}
+use Rattle.disk_definitions.specs.Edits.{Edit, edited, edited_all}
+use Rattle.disk_definitions.specs.Edits.Edit.{SetInode, SetBit, SetUse, SetPlace, SetLarge, SetBytes, SetLargeBytes}
+use Rattle.disk_definitions.specs.Ask.{run}
+use Rattle.disk_definitions.specs.Meets.{IsOfTree, IsHandOf}
+use Rattle.disk_definitions.specs.PlanOf.{plan_of}
+use Rattle.disk_definitions.specs.Plans.{Hand, Lock, Finish, shared_nodes}
+use Rattle.disk_definitions.specs.Plans.Plan.{Finishes}
+use Rattle.disk_definitions.specs.Written.{is_metadata}
 use Rattle.plan_laws.proofs.Covering.{has_head, has_more, has_cases, not_in_none}
-use Rattle.plan_moves.specs.Plans.{OfEachFinish}
+use Rattle.plan_laws.specs.Plans.{OfEachFinish}
 use Rattle.line_laws.proofs.Covered.{by_finish}
 use Rattle.line_laws.proofs.Running.{run_performed}
-use Rattle.line_moves.proofs.Lifting.{lifted}
+use Rattle.line_laws.proofs.Lifting.{lifted}
 use Rattle.byte_fills.specs.Sectors.{KeepsOrWrites, LinesKeepOrWrite, IsPiece, LinesWritePieces}
 use Rattle.byte_fills.proofs.Fine.{Fine}
 use Rattle.byte_fills.proofs.Names.{IsFinePlan}

@@ -14,11 +14,11 @@ use Rattle.tree_definitions.specs.Tree.{FileTree, node_at}
 use Rattle.tree_laws.proofs.Keeping.{names_nodes}
 use Rattle.disk_definitions.specs.Store.{Store, StoredNode}
 use Rattle.disk_definitions.specs.Naming.{Naming}
-use Rattle.plan_definitions.specs.Ask.{run}
-use Rattle.plan_definitions.specs.FilePlans.{end_of, sectors_met}
-use Rattle.plan_definitions.specs.Meets.{IsOfTree}
-use Rattle.plan_definitions.specs.Walks.{Spot, walk}
-use Rattle.plan_definitions.specs.Walks.Spot.{AtRoot, AtName, AtGap, Lost}
+use Rattle.disk_definitions.specs.Ask.{run}
+use Rattle.disk_definitions.specs.FilePlans.{end_of, sectors_met}
+use Rattle.disk_definitions.specs.Meets.{IsOfTree}
+use Rattle.disk_definitions.specs.Walks.{Spot, walk}
+use Rattle.disk_definitions.specs.Walks.Spot.{AtRoot, AtName, AtGap, Lost}
 use Rattle.plan_laws.specs.Walking.{Mirrors}
 use Rattle.plan_laws.proofs.Walking.{walks_lead}
 use Rattle.byte_fills.specs.Sectors.{Asked, asked_of, spot_inode}

@@ -6,21 +6,21 @@ use Rattle.frang_base.specs.declared.reply.Reply.TheVariants as reply
 use Rattle.tree_definitions.specs.declared.node.Node.{Node}
 use Rattle.disk_definitions.specs.Store.{Store, StoredNode, StoredEntry}
 use Rattle.disk_definitions.specs.Naming.{Naming, kind_of}
-use Rattle.pick_definitions.specs.Picks.{picked_inode}
-use Rattle.store_changes.specs.Edits.{Edit}
-use Rattle.store_changes.specs.Changes.{new_node, take_entry, relink}
-use Rattle.store_changes.specs.Laws.{IsBare}
-use Rattle.plan_definitions.specs.Ask.{Ask, Got, ReadInode, ReadDirectory, bind, run}
-use Rattle.plan_definitions.specs.Walks.{Spot, walk}
-use Rattle.plan_definitions.specs.Walks.Spot.{AtRoot, AtName, AtGap, Lost}
-use Rattle.plan_definitions.specs.Plans.{Hand, Plan, Finish, Room, enter, refused, none_left, read_held, find_room, finish_in, must_clear, is_full}
-use Rattle.plan_definitions.specs.Plans.Plan.{Lacks, Clears, Finishes}
-use Rattle.plan_definitions.specs.Plans.Room.{Inside, InBlock, NoRoom}
-use Rattle.plan_definitions.specs.NamePlans.{made_by, making_in, making_with, making, plan_made, linked_by, linking_in, linking_node, linking_to, linking, plan_linked, fewer, fewer_segments, finish_over, removed_by, unlinking_node, unlinking, plan_unlinked, removing_node, removing, plan_dir_removed}
+use Rattle.disk_definitions.specs.Picks.{picked_inode}
+use Rattle.disk_definitions.specs.Edits.{Edit}
+use Rattle.disk_definitions.specs.Changes.{new_node, take_entry, relink}
+use Rattle.disk_definitions.specs.ChangeLaws.{IsBare}
+use Rattle.disk_definitions.specs.Ask.{Ask, Got, ReadInode, ReadDirectory, bind, run}
+use Rattle.disk_definitions.specs.Walks.{Spot, walk}
+use Rattle.disk_definitions.specs.Walks.Spot.{AtRoot, AtName, AtGap, Lost}
+use Rattle.disk_definitions.specs.Plans.{Hand, Plan, Finish, Room, enter, refused, none_left, read_held, find_room, finish_in, must_clear, is_full}
+use Rattle.disk_definitions.specs.Plans.Plan.{Lacks, Clears, Finishes}
+use Rattle.disk_definitions.specs.Plans.Room.{Inside, InBlock, NoRoom}
+use Rattle.disk_definitions.specs.NamePlans.{made_by, making_in, making_with, making, plan_made, linked_by, linking_in, linking_node, linking_to, linking, plan_linked, fewer, fewer_segments, finish_over, removed_by, unlinking_node, unlinking, plan_unlinked, removing_node, removing, plan_dir_removed}
 use Rattle.plan_laws.proofs.Asking.{run-bind, run-segments}
-use Rattle.plan_covers.proofs.Standing.{DiskStands}
-use Rattle.plan_covers.proofs.WalksFine.{SpotStands, walk_stands}
-use Rattle.plan_covers.proofs.RoomsFine.{wider}
+use Rattle.plan_laws.proofs.Standing.{DiskStands}
+use Rattle.plan_laws.proofs.WalksFine.{SpotStands, walk_stands}
+use Rattle.plan_laws.proofs.RoomsFine.{wider}
 use Rattle.byte_fills.proofs.Fine.{AreFine, both_fine, take_fine, relink_fine, enter_fine, new_fine, fewer_fine}
 
 -- where the plan finishes, its edits are fine

@@ -8,9 +8,9 @@ use Rattle.tree_definitions.specs.declared.node.Node.TheVariants.{Dir, File, Lin
 use Rattle.tree_definitions.specs.Tree.{small_blocks_of}
 use Rattle.disk_definitions.specs.Store.{Store, StoredNode}
 use Rattle.disk_definitions.specs.Naming.{Naming, Nodes, Pictures, first_blocks, inode_of}
-use Rattle.store_changes.proofs.Kept.{inode_is}
-use Rattle.plan_definitions.specs.Ask.{BytesAt, LargeAt}
-use Rattle.plan_covers.proofs.Standing.{node_of}
+use Rattle.disk_definitions.proofs.Kept.{inode_is}
+use Rattle.disk_definitions.specs.Ask.{BytesAt, LargeAt}
+use Rattle.plan_laws.proofs.Standing.{node_of}
 use Rattle.line_fills.specs.Files.{file_sector}
 
 first_is : (count : ℕ) (block : ℕ → ℕ) (m : ℕ) → m < count → first_blocks count block m ≡ block m

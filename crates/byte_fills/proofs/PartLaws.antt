@@ -8,12 +8,12 @@ use Rattle.tree_definitions.specs.Removal.{meets, step_writes}
 use Rattle.tree_definitions.specs.Tree.{FileTree, node_at}
 use Rattle.disk_definitions.specs.Store.{Store, StoredNode}
 use Rattle.disk_definitions.specs.Naming.{Naming}
-use Rattle.store_changes.specs.Edits.{edited_all}
-use Rattle.plan_definitions.specs.Ask.{Sector}
-use Rattle.plan_definitions.specs.FilePlans.{end_of, mixed}
-use Rattle.plan_definitions.specs.Plans.{Hand, Finish}
-use Rattle.plan_covers.proofs.Standing.{node_of}
-use Rattle.plan_looks.specs.Looked.{edited_at}
+use Rattle.disk_definitions.specs.Edits.{edited_all}
+use Rattle.disk_definitions.specs.Ask.{Sector}
+use Rattle.disk_definitions.specs.FilePlans.{end_of, mixed}
+use Rattle.disk_definitions.specs.Plans.{Hand, Finish}
+use Rattle.plan_laws.proofs.Standing.{node_of}
+use Rattle.plan_laws.specs.Looked.{edited_at}
 use Rattle.plan_nodes.proofs.Laws.{line_nodes_keep, line_nodes_free}
 use Rattle.line_fills.specs.Files.{file_sector, IsWritten}
 use Rattle.byte_fills.specs.Sectors.{bytes_kept}

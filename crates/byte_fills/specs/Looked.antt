@@ -3,9 +3,9 @@ use Rattle.std.specs.Prelude.{ℕ}
 use Rattle.std.specs.List.{Contains}
 use Rattle.frang_base.specs.declared.op.Op.{Op}
 use Rattle.disk_definitions.specs.Store.{Store}
-use Rattle.plan_definitions.specs.Ask.{Sector, InodeAt, DirectoryAt, SegmentAt, BytesAt, LargeAt, looks}
-use Rattle.plan_definitions.specs.Plans.{Hand}
-use Rattle.line_definitions.specs.Lines.{plan_of_line}
+use Rattle.disk_definitions.specs.Ask.{Sector, InodeAt, DirectoryAt, SegmentAt, BytesAt, LargeAt, looks}
+use Rattle.disk_definitions.specs.Plans.{Hand}
+use Rattle.disk_definitions.specs.Lines.{plan_of_line}
 use Rattle.line_fills.specs.Files.{HoldsBytes}
 
 -- a sector of bytes holds bytes of a file below its size

@@ -9,13 +9,13 @@ use Rattle.tree_laws.specs.WellFormed.{IsNew}
 use Rattle.disk_definitions.specs.Naming.{Naming}
 use Rattle.disk_definitions.specs.Standing.{IsReached}
 use Rattle.disk_definitions.specs.Store.{Store, StoredNode}
-use Rattle.store_changes.specs.Edits.{edited_all}
-use Rattle.plan_definitions.specs.Ask.{Sector, run}
-use Rattle.plan_definitions.specs.Meets.{IsOfTree, IsHandOf}
-use Rattle.plan_definitions.specs.Plans.{Hand, Finish}
-use Rattle.plan_definitions.specs.Plans.Plan.{Finishes}
+use Rattle.disk_definitions.specs.Edits.{edited_all}
+use Rattle.disk_definitions.specs.Ask.{Sector, run}
+use Rattle.disk_definitions.specs.Meets.{IsOfTree, IsHandOf}
+use Rattle.disk_definitions.specs.Plans.{Hand, Finish}
+use Rattle.disk_definitions.specs.Plans.Plan.{Finishes}
 use Rattle.plan_laws.specs.FilesPlanned.{HasFiles}
-use Rattle.line_definitions.specs.Lines.{plan_of_line}
+use Rattle.disk_definitions.specs.Lines.{plan_of_line}
 use Rattle.line_fills.specs.Files.{file_sector, IsWritten}
 
 -- a part of the file of this birth lies in a sector, by the store of a disk with a naming

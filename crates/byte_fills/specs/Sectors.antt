@@ -9,17 +9,17 @@ use Rattle.tree_definitions.specs.Perform.{Goes, resolved}
 use Rattle.tree_definitions.specs.Tree.{FileTree}
 use Rattle.disk_definitions.specs.Store.{Store, StoredNode}
 use Rattle.disk_definitions.specs.Naming.{Naming}
-use Rattle.store_changes.specs.Edits.{Edit, edited_all}
-use Rattle.plan_definitions.specs.Ask.{part_of, run}
-use Rattle.plan_definitions.specs.FilePlans.{Writing, end_of, keeps_bytes, mixed, sectors_met, set_sector}
-use Rattle.plan_definitions.specs.Meets.{IsOfTree, IsHandOf}
-use Rattle.plan_definitions.specs.Plans.{Hand, Finish}
-use Rattle.plan_definitions.specs.Plans.Plan.{Finishes}
-use Rattle.plan_definitions.specs.Walks.{Spot, walk}
-use Rattle.plan_definitions.specs.Walks.Spot.{AtName}
-use Rattle.plan_definitions.specs.Written.{is_metadata}
-use Rattle.plan_moves.specs.Plans.{OfEachFinish}
-use Rattle.line_definitions.specs.Lines.{plan_of_line}
+use Rattle.disk_definitions.specs.Edits.{Edit, edited_all}
+use Rattle.disk_definitions.specs.Ask.{part_of, run}
+use Rattle.disk_definitions.specs.FilePlans.{Writing, end_of, keeps_bytes, mixed, sectors_met, set_sector}
+use Rattle.disk_definitions.specs.Meets.{IsOfTree, IsHandOf}
+use Rattle.disk_definitions.specs.Plans.{Hand, Finish}
+use Rattle.disk_definitions.specs.Plans.Plan.{Finishes}
+use Rattle.disk_definitions.specs.Walks.{Spot, walk}
+use Rattle.disk_definitions.specs.Walks.Spot.{AtName}
+use Rattle.disk_definitions.specs.Written.{is_metadata}
+use Rattle.plan_laws.specs.Plans.{OfEachFinish}
+use Rattle.disk_definitions.specs.Lines.{plan_of_line}
 use Rattle.line_fills.specs.Files.{file_sector, IsWritten}
 
 -- ---- where the sectors of a file lie

@@ -9,15 +9,15 @@ use Rattle.tree_laws.specs.WellFormed.{IsWellFormed}
 use Rattle.shape_laws.proofs.Nodes.{shaped, found}
 use Rattle.sector_bytes.specs.Blocks.{version_of}
 use Rattle.sector_bytes.specs.Sectors.{Sectors}
-use Rattle.sector_definitions.specs.Params.{param_in}
+use Rattle.disk_definitions.specs.Params.{param_in}
 use Rattle.disk_definitions.specs.Store.{Store, segment_at, store_of, use_in}
 use Rattle.disk_definitions.specs.Store.Use.{Fresh}
 use Rattle.disk_definitions.specs.Naming.{Naming, Nodes, Pictures}
 use Rattle.disk_definitions.specs.Standing.{IsInGrammar, IsMetadata, IsReached, HasVersionsUpTo, StandsFor}
-use Rattle.store_changes.specs.Laws.{FilesFit, SaysTheSame}
-use Rattle.store_changes.proofs.Counts.{files_fit, pictures_go_by_what_counts}
-use Rattle.plan_definitions.specs.FitPlans.{IsFitStore}
-use Rattle.plan_definitions.specs.OnDisk.{StandsBelow}
+use Rattle.disk_definitions.specs.ChangeLaws.{FilesFit, SaysTheSame}
+use Rattle.disk_definitions.proofs.Counts.{files_fit, pictures_go_by_what_counts}
+use Rattle.disk_definitions.specs.FitPlans.{IsFitStore}
+use Rattle.disk_definitions.specs.OnDisk.{StandsBelow}
 use Rattle.plan_fit.proofs.DecodedEntries.{disks_fit}
 use Rattle.plan_fit.proofs.FileNodes.{fit_file}
 use Rattle.plan_records.specs.Says.{SegmentsSay, InodesSay, PlacesSay}

@@ -3,11 +3,11 @@ use Rattle.std.proofs.Common.{ℕ, ◌≡◌, ◌≢◌, ◌/◌, ◌%◌, ◌==
 use Rattle.std.proofs.lemmas.Bool.{cases_eq}
 use Rattle.std.specs.List.{Contains}
 use Rattle.tree_definitions.specs.Numbers.{below}
-use Rattle.sector_definitions.proofs.Chosen.{chosen_same, chosen_other}
-use Rattle.sector_definitions.proofs.Lists.{listed_at}
+use Rattle.disk_definitions.proofs.Chosen.{chosen_same, chosen_other}
+use Rattle.disk_definitions.proofs.Lists.{listed_at}
 use Rattle.disk_definitions.specs.Store.{Store}
-use Rattle.store_changes.specs.Edits.{Edit, edited, edited_all, put_part}
-use Rattle.store_changes.specs.Edits.Edit.{SetBit, SetBytes, SetInode, SetLarge, SetLargeBytes, SetPlace, SetUse}
+use Rattle.disk_definitions.specs.Edits.{Edit, edited, edited_all, put_part}
+use Rattle.disk_definitions.specs.Edits.Edit.{SetBit, SetBytes, SetInode, SetLarge, SetLargeBytes, SetPlace, SetUse}
 use Rattle.plan_laws.proofs.Covering.{has_cases, has_head, has_more, not_in_none}
 use Rattle.byte_trees.specs.Written.{EditedBytesStand, EditedLargeBytesStand, WriteNone, WriteNoneLarge, WriteThese, WriteTheseLarge}
 

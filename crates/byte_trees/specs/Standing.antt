@@ -6,12 +6,12 @@ use Rattle.tree_definitions.specs.Touched.{shape_of}
 use Rattle.tree_definitions.specs.Tree.{FileTree, node_at}
 use Rattle.tree_laws.specs.WellFormed.{IsWellFormed}
 use Rattle.sector_bytes.specs.Sectors.{Sectors}
-use Rattle.sector_definitions.specs.declared.region.Region.TheVariants as region
-use Rattle.sector_definitions.specs.Regions.{sector_of}
+use Rattle.disk_definitions.specs.declared.region.Region.TheVariants as region
+use Rattle.disk_definitions.specs.Regions.{sector_of}
 use Rattle.disk_definitions.specs.Naming.{Naming, Allows, cell_in, file_byte}
 use Rattle.disk_definitions.specs.Standing.{IsMetadata, StandsFor}
 use Rattle.disk_definitions.specs.Store.{Store, store_of}
-use Rattle.plan_definitions.specs.OnDisk.{StandsBelow}
+use Rattle.disk_definitions.specs.OnDisk.{StandsBelow}
 
 -- each cell that is a byte stands at its place in the blocks that its file has by the naming; one in doubt allows any byte there
 abbrev pub HasItsBytes : Store → FileTree → Naming → Type 0

@@ -4,8 +4,8 @@ use Rattle.std.specs.List.{Contains}
 use Rattle.frang_base.specs.declared.limits.TheConstants.{SECTOR_BYTES}
 use Rattle.tree_definitions.specs.Numbers.{below}
 use Rattle.disk_definitions.specs.Store.{Store}
-use Rattle.store_changes.specs.Edits.{Edit, edited_all}
-use Rattle.store_changes.specs.Edits.Edit.{SetBytes, SetLargeBytes}
+use Rattle.disk_definitions.specs.Edits.{Edit, edited_all}
+use Rattle.disk_definitions.specs.Edits.Edit.{SetBytes, SetLargeBytes}
 
 -- each edit that writes this part of a small block writes these bytes
 abbrev pub WriteThese : List Edit → (block part : ℕ) → List ℕ → Type 0

@@ -4,16 +4,16 @@ use Rattle.std.specs.List.{list_all, filter_map}
 use Rattle.frang_base.specs.declared.op.Op.{Op}
 use Rattle.disk_definitions.specs.Standing.{version_at}
 use Rattle.meta_version.specs.declared.plan.Plan.{Plan as CodePlan}
-use Rattle.pick_definitions.specs.Held.{Segments}
-use Rattle.plan_definitions.specs.PlanOf.{plan_of}
-use Rattle.plan_definitions.specs.Written.{Cached, hand_of, metadata_sector, sectors_at_hand}
+use Rattle.disk_definitions.specs.Held.{Segments}
+use Rattle.disk_definitions.specs.PlanOf.{plan_of}
+use Rattle.disk_definitions.specs.Written.{Cached, hand_of, metadata_sector, sectors_at_hand}
 use Rattle.dir_lookup.specs.Planned.{planned}
 use Rattle.dir_lookup.specs.Reading.{reading}
 use Rattle.plan_steps.specs.declared.edit.Outcome.{Outcome}
 use Rattle.plan_steps.specs.declared.stop.Stop.{Stop}
 use Rattle.plan_steps.specs.Edits.{edits_of}
 use Rattle.plan_steps.specs.Ends.{Comes}
-use Rattle.plan_standing.specs.Laws.{HasPath}
+use Rattle.line_laws.specs.Laws.{HasPath}
 use Rattle.code_plan_laws.specs.CodeStands.{IsOverADisk, StandsOverDisks, IsExactOverDisks}
 use Rattle.code_plan_laws.proofs.Standing.{planned_stands}
 use Rattle.code_plan_laws.proofs.Exactly.{planned_exact}

@@ -7,24 +7,24 @@ use Rattle.meta_version.specs.declared.plan.Plan.{Plan as CodePlan}
 use Rattle.meta_version.specs.declared.plan.Plan.TheVariants as code
 use Rattle.tree_definitions.specs.Tree.{FileTree}
 use Rattle.disk_definitions.specs.Store.{Store, store_of}
-use Rattle.pick_definitions.specs.Held.{Segments}
-use Rattle.pick_definitions.specs.Picks.{picked_directory}
-use Rattle.plan_definitions.specs.Ask.{Sector, Ask, looks, run, meet, number_of}
-use Rattle.plan_definitions.specs.Plans.{Hand, Plan, Lock, Lacks, Clears, Finishes, must_clear}
-use Rattle.plan_definitions.specs.PlanOf.{plan_of}
-use Rattle.plan_definitions.specs.Meets.{IsHandOf}
-use Rattle.plan_definitions.specs.Written.{hand_of, Cached, at_hand}
-use Rattle.plan_definitions.specs.Missing.{first_missing, unless_missing}
-use Rattle.plan_looks.proofs.Deciding.{meets_where}
-use Rattle.plan_looks.proofs.AllInside.{all_inside}
+use Rattle.disk_definitions.specs.Held.{Segments}
+use Rattle.disk_definitions.specs.Picks.{picked_directory}
+use Rattle.disk_definitions.specs.Ask.{Sector, Ask, looks, run, meet, number_of}
+use Rattle.disk_definitions.specs.Plans.{Hand, Plan, Lock, Lacks, Clears, Finishes, must_clear}
+use Rattle.disk_definitions.specs.PlanOf.{plan_of}
+use Rattle.disk_definitions.specs.Meets.{IsHandOf}
+use Rattle.disk_definitions.specs.Written.{hand_of, Cached, at_hand}
+use Rattle.disk_definitions.specs.Missing.{first_missing, unless_missing}
+use Rattle.plan_laws.proofs.Deciding.{meets_where}
+use Rattle.plan_laws.proofs.AllInside.{all_inside}
 use Rattle.dir_lookup.specs.Reading.{numbered}
 use Rattle.dir_lookup.specs.Planned.{planned}
 use Rattle.plan_space.specs.Wants.{Wants, wants}
 use Rattle.plan_space.specs.Exact.{FindsNothing}
 use Rattle.plan_space.proofs.AllPlans.{lacks_exactly, clears_exactly}
-use Rattle.plan_standing.proofs.OfDisk.{of_tree, is_hand}
-use Rattle.plan_standing.proofs.Zeroed.{zero_places}
-use Rattle.plan_standing.proofs.AtHand.{agrees}
+use Rattle.line_laws.proofs.OfDisk.{of_tree, is_hand}
+use Rattle.line_laws.proofs.Zeroed.{zero_places}
+use Rattle.line_laws.proofs.AtHand.{agrees}
 use Rattle.code_plan_laws.specs.CodeStands.{TakesBy, CodeIsExact, PlannedIsExact}
 
 module _ (cached : Cached) (held : Segments) (all : Bool) (tree : FileTree) (o : Op) (q : Plan)

@@ -4,15 +4,15 @@ use Rattle.std.specs.Option.{option_map}
 use Rattle.sector_bytes.specs.Sectors.{Sectors}
 use Rattle.disk_definitions.specs.Standing.{StandsFor}
 use Rattle.tree_definitions.specs.Apply.{Applied}
-use Rattle.pick_definitions.specs.Held.{Segments}
-use Rattle.plan_definitions.specs.Ask.{Sector, Met, Needs, Has, meet, number_of}
-use Rattle.plan_definitions.specs.Plans.{Plan, Lacks, Clears, Finishes}
-use Rattle.plan_definitions.specs.PlanOf.{plan_of}
-use Rattle.plan_definitions.specs.Written.{hand_of, Cached, at_hand, sectors_at_hand, changes_of, byte_writes, laid_over}
+use Rattle.disk_definitions.specs.Held.{Segments}
+use Rattle.disk_definitions.specs.Ask.{Sector, Met, Needs, Has, meet, number_of}
+use Rattle.disk_definitions.specs.Plans.{Plan, Lacks, Clears, Finishes}
+use Rattle.disk_definitions.specs.PlanOf.{plan_of}
+use Rattle.disk_definitions.specs.Written.{hand_of, Cached, at_hand, sectors_at_hand, changes_of, byte_writes, laid_over}
 use Rattle.dir_lookup.specs.Reading.{numbered}
 use Rattle.dir_lookup.specs.Planned.{planned, write_by}
-use Rattle.plan_definitions.specs.OnDisk.{MetStands}
-use Rattle.plan_standing.proofs.Operations.{all_stand}
+use Rattle.disk_definitions.specs.OnDisk.{MetStands}
+use Rattle.line_laws.proofs.Operations.{all_stand}
 use Rattle.code_plan_laws.specs.CodeStands.{write_of, CodeStands, PlannedStands}
 
 -- a write by number and back

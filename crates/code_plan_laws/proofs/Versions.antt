@@ -7,25 +7,25 @@ use Rattle.sector_bytes.specs.Bytes.{number_at}
 use Rattle.sector_bytes.specs.Sectors.{Sectors}
 use Rattle.disk_definitions.specs.Store.{Store, store_of}
 use Rattle.disk_definitions.specs.Standing.{version_at}
-use Rattle.store_changes.specs.Edits.{Edit, edited_all}
-use Rattle.store_changes.specs.Edits.Edit.{SetInode, SetBit, SetUse, SetPlace, SetLarge, SetBytes, SetLargeBytes}
-use Rattle.pick_definitions.specs.Held.{Segments, bitmap_of}
-use Rattle.plan_definitions.specs.Ask.{Sector, Ask, run, looks, meet}
-use Rattle.plan_definitions.specs.Plans.{Hand, Plan, Finish, Finishes}
-use Rattle.plan_definitions.specs.PlanOf.{plan_of}
-use Rattle.plan_definitions.specs.Written.{hand_of, at_hand, sectors_at_hand, edit_sector, is_metadata, metadata_sector}
-use Rattle.plan_definitions.specs.Missing.{first_missing, unless_missing}
-use Rattle.plan_looks.proofs.Deciding.{meets_where}
-use Rattle.plan_looks.proofs.AllInside.{all_inside}
+use Rattle.disk_definitions.specs.Edits.{Edit, edited_all}
+use Rattle.disk_definitions.specs.Edits.Edit.{SetInode, SetBit, SetUse, SetPlace, SetLarge, SetBytes, SetLargeBytes}
+use Rattle.disk_definitions.specs.Held.{Segments, bitmap_of}
+use Rattle.disk_definitions.specs.Ask.{Sector, Ask, run, looks, meet}
+use Rattle.disk_definitions.specs.Plans.{Hand, Plan, Finish, Finishes}
+use Rattle.disk_definitions.specs.PlanOf.{plan_of}
+use Rattle.disk_definitions.specs.Written.{hand_of, at_hand, sectors_at_hand, edit_sector, is_metadata, metadata_sector}
+use Rattle.disk_definitions.specs.Missing.{first_missing, unless_missing}
+use Rattle.plan_laws.proofs.Deciding.{meets_where}
+use Rattle.plan_laws.proofs.AllInside.{all_inside}
 use Rattle.dir_lookup.specs.Reading.{Gives, numbered}
-use Rattle.plan_definitions.specs.FitEdits.{AreFit, IsFitEdit, MeetsUse}
-use Rattle.plan_definitions.specs.Ready.{IsReady}
-use Rattle.plan_definitions.specs.FitPlans.{PlanIsFit, IsFitFinish}
-use Rattle.plan_standing.proofs.OfDisk.{few, of_tree}
-use Rattle.plan_standing.proofs.AtHand.{agrees}
-use Rattle.plan_standing.proofs.Edited.{where_edited, hand}
-use Rattle.plan_standing.proofs.Operations.{all_fit}
-use Rattle.plan_standing.proofs.Written.{fit_store, ready}
+use Rattle.disk_definitions.specs.FitEdits.{AreFit, IsFitEdit, MeetsUse}
+use Rattle.disk_definitions.specs.Ready.{IsReady}
+use Rattle.disk_definitions.specs.FitPlans.{PlanIsFit, IsFitFinish}
+use Rattle.line_laws.proofs.OfDisk.{few, of_tree}
+use Rattle.line_laws.proofs.AtHand.{agrees}
+use Rattle.line_laws.proofs.Edited.{where_edited, hand}
+use Rattle.line_laws.proofs.Operations.{all_fit}
+use Rattle.line_laws.proofs.Written.{fit_store, ready}
 use Rattle.code_plan_laws.specs.CodeStands.{HasNextVersions, HoldsSegments}
 
 some_held : (held : Segments) (k : ℕ) (x : Bitmap) → bitmap_of held k ≡ Some x → is_some (bitmap_of held k) ≡ true

@@ -14,19 +14,19 @@ use Rattle.meta_version.specs.declared.plan.Plan.TheVariants as plan
 use Rattle.sector_bytes.specs.Sectors.{Sectors}
 use Rattle.disk_definitions.specs.Store.{store_of}
 use Rattle.disk_definitions.specs.Standing.{StandsFor, version_at}
-use Rattle.pick_definitions.specs.Held.{Segments, AreSegments}
-use Rattle.pick_definitions.specs.Picks.{picked_directory}
-use Rattle.plan_definitions.specs.Ask.{Sector, looks, number_of}
-use Rattle.plan_definitions.specs.Plans.{Finish, Finishes, must_clear}
-use Rattle.plan_definitions.specs.PlanOf.{plan_of}
-use Rattle.plan_definitions.specs.Meets.{Answers, directory_blocks_in}
-use Rattle.plan_definitions.specs.Written.{hand_of, Cached, at_hand, laid_over, metadata_sector, sectors_at_hand}
-use Rattle.plan_definitions.specs.Missing.{first_missing}
+use Rattle.disk_definitions.specs.Held.{Segments, AreSegments}
+use Rattle.disk_definitions.specs.Picks.{picked_directory}
+use Rattle.disk_definitions.specs.Ask.{Sector, looks, number_of}
+use Rattle.disk_definitions.specs.Plans.{Finish, Finishes, must_clear}
+use Rattle.disk_definitions.specs.PlanOf.{plan_of}
+use Rattle.disk_definitions.specs.Meets.{Answers, directory_blocks_in}
+use Rattle.disk_definitions.specs.Written.{hand_of, Cached, at_hand, laid_over, metadata_sector, sectors_at_hand}
+use Rattle.disk_definitions.specs.Missing.{first_missing}
 use Rattle.dir_lookup.specs.Reading.{Gives, reading}
 use Rattle.dir_lookup.specs.Planned.{planned}
-use Rattle.plan_definitions.specs.Allowed.{IsAllowed}
-use Rattle.plan_definitions.specs.OnDisk.{AreOfDisk, StandsBelow, MakeARecord}
-use Rattle.plan_standing.specs.Laws.{HasPath}
+use Rattle.disk_definitions.specs.Allowed.{IsAllowed}
+use Rattle.disk_definitions.specs.OnDisk.{AreOfDisk, StandsBelow, MakeARecord}
+use Rattle.line_laws.specs.Laws.{HasPath}
 use Rattle.plan_space.specs.Wants.{Wants, wants}
 use Rattle.plan_space.specs.Exact.{FindsNothing}
 

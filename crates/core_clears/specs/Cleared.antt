@@ -12,18 +12,18 @@ use Rattle.frang_base.specs.declared.reply.Reply.TheVariants as reply
 use Rattle.frang_base.specs.declared.said.Said.{Said}
 use Rattle.frang_base.specs.declared.script.Line.{Line}
 use Rattle.disk_definitions.specs.Store.{StoredNode, stored_node}
-use Rattle.line_definitions.specs.Resolving.{resolve}
+use Rattle.disk_definitions.specs.Resolving.{resolve}
 use Rattle.lock_definitions.specs.Locks.{no_clerks, no_logs}
 use Rattle.lock_definitions.specs.Servers.{any_server}
-use Rattle.log_definitions.specs.Frames.{frame_read}
-use Rattle.pick_definitions.specs.Least.{least, least_from}
-use Rattle.plan_definitions.specs.NamePlans.{made_by}
-use Rattle.plan_definitions.specs.Plans.{Finish}
-use Rattle.plan_definitions.specs.Plans.Room.{InBlock}
+use Rattle.disk_definitions.specs.Frames.{frame_read}
+use Rattle.disk_definitions.specs.Least.{least, least_from}
+use Rattle.disk_definitions.specs.NamePlans.{made_by}
+use Rattle.disk_definitions.specs.Plans.{Finish}
+use Rattle.disk_definitions.specs.Plans.Room.{InBlock}
 use Rattle.sector_bytes.specs.Bytes.{zeros}
 use Rattle.sector_bytes.specs.Changes.{changed}
-use Rattle.sector_definitions.specs.Inodes.{inode_in}
-use Rattle.store_changes.specs.Edits.{Edit}
+use Rattle.disk_definitions.specs.Inodes.{inode_in}
+use Rattle.disk_definitions.specs.Edits.{Edit}
 use Rattle.tree_definitions.specs.declared.node.Node.TheVariants.{File}
 use Rattle.core_definitions.specs.Cores.{stage}
 use Rattle.core_definitions.specs.Lines.{Seen, Stage, Clearing, Fetching, Finishing, Growing}

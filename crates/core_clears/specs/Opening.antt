@@ -2,8 +2,8 @@
 use Rattle.std.specs.Prelude.{codes, List, [], ◌∷◌}
 use Rattle.frang_base.specs.declared.script.Line.{Line}
 use Rattle.sector_bytes.specs.Sectors.{Sectors, sectors_of}
-use Rattle.sector_definitions.specs.Regions.{sector_of}
-use Rattle.sector_definitions.specs.declared.region.Region.TheVariants as region
+use Rattle.disk_definitions.specs.Regions.{sector_of}
+use Rattle.disk_definitions.specs.declared.region.Region.TheVariants as region
 use Rattle.core_steps.specs.Runs.{State}
 use Rattle.core_examples.specs.Driving.{parameters, segment_block, inode_block, entries_block, entry, opening_on}
 

@@ -10,7 +10,7 @@ use Rattle.frang_base.specs.declared.lock.LockId.{LockId}
 use Rattle.frang_base.specs.declared.lock.LockId.TheVariants.{Segment}
 use Rattle.frang_base.specs.declared.op.Op.{Op}
 use Rattle.lock_definitions.specs.Locks.{Locks}
-use Rattle.plan_definitions.specs.Plans.{Lock}
+use Rattle.disk_definitions.specs.Plans.{Lock}
 use Rattle.sector_bytes.specs.Blocks.{Block}
 use Rattle.sector_bytes.specs.SectorMaps.{value_at}
 use Rattle.tree_definitions.specs.Apply.{is_path_op}

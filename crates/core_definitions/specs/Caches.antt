@@ -8,7 +8,7 @@ use Rattle.frang_base.specs.declared.lock.LockId.{LockId}
 use Rattle.lock_definitions.specs.Order.{is_lock}
 use Rattle.sector_bytes.specs.Blocks.{Block}
 use Rattle.sector_bytes.specs.SectorMaps.{value_at, with_value, without}
-use Rattle.plan_definitions.specs.Written.{Cached}
+use Rattle.disk_definitions.specs.Written.{Cached}
 use Rattle.core_definitions.specs.Sets.{LockSet, has_lock}
 
 -- of a dirty sector: its mark, the last log number when it was last changed, and whether it is one of file bytes

@@ -15,13 +15,13 @@ use Rattle.tree_definitions.specs.Apply.{is_path_op}
 use Rattle.lock_definitions.specs.Locks.{Locks}
 use Rattle.sector_bytes.specs.Blocks.{Block, version_of}
 use Rattle.sector_bytes.specs.SectorMaps.{value_at}
-use Rattle.sector_definitions.specs.Regions.{sector_of}
-use Rattle.sector_definitions.specs.declared.region.Region.TheVariants as region
-use Rattle.plan_definitions.specs.Ask.{Ask, Met, Sector, number_of}
-use Rattle.plan_definitions.specs.Ask.Met.{Needs, Has}
-use Rattle.plan_definitions.specs.Plans.{Lock, Plan}
-use Rattle.plan_definitions.specs.Plans.Plan.{Lacks, Clears, Finishes}
-use Rattle.plan_definitions.specs.Written.{Cached}
+use Rattle.disk_definitions.specs.Regions.{sector_of}
+use Rattle.disk_definitions.specs.declared.region.Region.TheVariants as region
+use Rattle.disk_definitions.specs.Ask.{Ask, Met, Sector, number_of}
+use Rattle.disk_definitions.specs.Ask.Met.{Needs, Has}
+use Rattle.disk_definitions.specs.Plans.{Lock, Plan}
+use Rattle.disk_definitions.specs.Plans.Plan.{Lacks, Clears, Finishes}
+use Rattle.disk_definitions.specs.Written.{Cached}
 use Rattle.core_definitions.specs.Caches.{Cache}
 use Rattle.core_definitions.specs.Logs.{SlotsRead}
 use Rattle.core_definitions.specs.Plans.{Sight, Outcome, cover_of, examined, outcome_of, planned, program_of, sight_of}

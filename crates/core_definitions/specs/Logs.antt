@@ -5,9 +5,9 @@ use Rattle.frang_base.specs.declared.change.Redo.{Redo}
 use Rattle.sector_bytes.specs.Blocks.{Block}
 use Rattle.sector_bytes.specs.Sectors.{sectors_of}
 use Rattle.sector_bytes.specs.SectorMaps.{value_at}
-use Rattle.sector_definitions.specs.LogSectors.{log_sector_bytes, empty_sector}
-use Rattle.sector_definitions.specs.Regions.{sector_of}
-use Rattle.sector_definitions.specs.declared.region.Region.TheVariants as region
+use Rattle.disk_definitions.specs.LogSectors.{log_sector_bytes, empty_sector}
+use Rattle.disk_definitions.specs.Regions.{sector_of}
+use Rattle.disk_definitions.specs.declared.region.Region.TheVariants as region
 use Rattle.tree_definitions.specs.Numbers.{below}
 use Rattle.core_definitions.specs.Settings.{LogRules, slot_of}
 

@@ -14,22 +14,22 @@ use Rattle.tree_definitions.specs.Live.{number_of as operation_number, script_ti
 use Rattle.tree_definitions.specs.Numbers.{below}
 use Rattle.sector_bytes.specs.Blocks.{Block}
 use Rattle.sector_bytes.specs.SectorMaps.{value_at}
-use Rattle.sector_definitions.specs.declared.region.Region.TheVariants as region
-use Rattle.sector_definitions.specs.Bitmaps.{bitmap_in}
-use Rattle.sector_definitions.specs.Regions.{sector_of}
+use Rattle.disk_definitions.specs.declared.region.Region.TheVariants as region
+use Rattle.disk_definitions.specs.Bitmaps.{bitmap_in}
+use Rattle.disk_definitions.specs.Regions.{sector_of}
 use Rattle.disk_definitions.specs.Store.{store_of}
-use Rattle.pick_definitions.specs.Held.{Segments}
-use Rattle.store_changes.specs.Edits.{Edit}
-use Rattle.store_changes.specs.Edits.Edit.{SetBytes, SetLargeBytes}
-use Rattle.plan_definitions.specs.Ask.{Ask, AtHand, Met, Sector, BytesAt, LargeAt, looks, meet, number_of}
-use Rattle.plan_definitions.specs.Missing.{is_at_hand}
-use Rattle.plan_definitions.specs.Plans.{Finish, Plan}
-use Rattle.plan_definitions.specs.Written.{Cached, at_hand, changes_of, edited_block, freed_sectors, hand_of, sectors_at_hand}
-use Rattle.plan_traces.specs.Traces.{has_version}
-use Rattle.plan_moves.specs.CoversAtHand.{cover_at_hand}
-use Rattle.plan_moves.specs.Moves.{moved_by}
-use Rattle.plan_moves.specs.Numbered.{moves_of}
-use Rattle.line_definitions.specs.Lines.{plan_of_line}
+use Rattle.disk_definitions.specs.Held.{Segments}
+use Rattle.disk_definitions.specs.Edits.{Edit}
+use Rattle.disk_definitions.specs.Edits.Edit.{SetBytes, SetLargeBytes}
+use Rattle.disk_definitions.specs.Ask.{Ask, AtHand, Met, Sector, BytesAt, LargeAt, looks, meet, number_of}
+use Rattle.disk_definitions.specs.Missing.{is_at_hand}
+use Rattle.disk_definitions.specs.Plans.{Finish, Plan}
+use Rattle.disk_definitions.specs.Written.{Cached, at_hand, changes_of, edited_block, freed_sectors, hand_of, sectors_at_hand}
+use Rattle.plan_laws.specs.Traces.{has_version}
+use Rattle.plan_laws.specs.CoversAtHand.{cover_at_hand}
+use Rattle.plan_laws.specs.Moves.{moved_by}
+use Rattle.plan_laws.specs.Numbered.{moves_of}
+use Rattle.disk_definitions.specs.Lines.{plan_of_line}
 use Rattle.core_definitions.specs.Caches.{Cache, usable}
 use Rattle.core_definitions.specs.Sets.{LockSet, has_lock, segments_in}
 use Rattle.core_definitions.specs.Settings.{Setting}

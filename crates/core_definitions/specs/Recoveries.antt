@@ -4,12 +4,12 @@ use Rattle.std.specs.List.{filter_map, flat_map, list_all}
 use Rattle.std.specs.Option.{option_map}
 use Rattle.frang_base.specs.Functions.{member}
 use Rattle.frang_base.specs.declared.change.Redo.{Redo}
-use Rattle.log_definitions.specs.Replay.{is_replayed}
-use Rattle.plan_definitions.specs.Written.{ascending}
+use Rattle.disk_definitions.specs.Replay.{is_replayed}
+use Rattle.disk_definitions.specs.Written.{ascending}
 use Rattle.sector_bytes.specs.Blocks.{Block, version_of}
 use Rattle.sector_bytes.specs.Replays.{change_at, redone}
 use Rattle.sector_bytes.specs.SectorMaps.{value_at}
-use Rattle.sector_definitions.specs.Regions.{region_of}
+use Rattle.disk_definitions.specs.Regions.{region_of}
 use Rattle.core_definitions.specs.Settings.{LogRules}
 use Rattle.core_definitions.specs.Logs.{SlotsRead, end_of, is_none, is_read, is_sealed_by, later_seals, log_sector, records_of, seal_block}
 

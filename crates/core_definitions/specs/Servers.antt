@@ -8,7 +8,7 @@ use Rattle.tree_definitions.specs.Apply.{is_path_op}
 use Rattle.tree_definitions.specs.Touched.{is_sync, is_unmount}
 use Rattle.tree_definitions.specs.Transcript.{is_crash, is_mount}
 use Rattle.lock_definitions.specs.Locks.{Locks}
-use Rattle.plan_definitions.specs.Written.{ascending}
+use Rattle.disk_definitions.specs.Written.{ascending}
 use Rattle.ring_definitions.specs.Rings.{Ring, last, ring_at}
 use Rattle.core_definitions.specs.Settings.{LogRules, Setting}
 use Rattle.core_definitions.specs.Logs.{end_of, is_read}

@@ -14,7 +14,7 @@ use Rattle.lock_definitions.specs.Order.{lock_cmp, is_lock}
 use Rattle.lock_definitions.specs.Locks.{Locks, held}
 use Rattle.lock_definitions.specs.Calls.{serves}
 use Rattle.lock_definitions.specs.Servers.{any_server}
-use Rattle.plan_definitions.specs.Plans.{Lock}
+use Rattle.disk_definitions.specs.Plans.{Lock}
 
 -- locks with the modes in which they are needed, ascending, each once
 abbrev pub LockSet : Type 0

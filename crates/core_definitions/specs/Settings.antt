@@ -4,7 +4,7 @@ use Rattle.frang_base.specs.declared.limits.TheConstants.{LEASE_TICKS, LOG_IN_FL
 use Rattle.frang_base.specs.declared.change.Redo.{Redo}
 use Rattle.frang_base.specs.declared.script.Line.{Line}
 use Rattle.lock_definitions.specs.Lease.{lease_expiry_of}
-use Rattle.log_definitions.specs.Logs.{Slots, log_end, log_records, is_sealed}
+use Rattle.disk_definitions.specs.Logs.{Slots, log_end, log_records, is_sealed}
 
 -- how a log is read and written: how many slots it has; by these slots its end, its records and whether it is sealed; and how many numbers count at once
 pub record LogRules : Type 0 where

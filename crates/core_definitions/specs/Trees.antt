@@ -11,13 +11,13 @@ use Rattle.tree_definitions.specs.TreeLines.{name_below, path_text}
 use Rattle.sector_bytes.specs.Blocks.{Block}
 use Rattle.sector_bytes.specs.Sectors.{sectors_of}
 use Rattle.sector_bytes.specs.SectorMaps.{value_at}
-use Rattle.sector_definitions.specs.declared.region.Region.{Region}
-use Rattle.sector_definitions.specs.declared.region.Region.TheVariants as region
-use Rattle.sector_definitions.specs.Directories.{directory_in}
-use Rattle.sector_definitions.specs.Inodes.{inode_in}
-use Rattle.sector_definitions.specs.Regions.{region_of, sector_of}
+use Rattle.disk_definitions.specs.declared.region.Region.{Region}
+use Rattle.disk_definitions.specs.declared.region.Region.TheVariants as region
+use Rattle.disk_definitions.specs.Directories.{directory_in}
+use Rattle.disk_definitions.specs.Inodes.{inode_in}
+use Rattle.disk_definitions.specs.Regions.{region_of, sector_of}
 use Rattle.disk_definitions.specs.Store.{Store, StoredEntry, StoredNode, entry_in, store_of, stored_node}
-use Rattle.plan_definitions.specs.Written.{ascending}
+use Rattle.disk_definitions.specs.Written.{ascending}
 
 -- the sectors that the host has read, ascending
 abbrev pub TreeRead : Type 0

@@ -8,11 +8,11 @@ use Rattle.frang_base.specs.declared.op.Op.TheVariants as op
 use Rattle.frang_base.specs.declared.reply.Reply.TheVariants as reply
 use Rattle.frang_base.specs.declared.said.Said.{Said}
 use Rattle.frang_base.specs.declared.script.Line.{Line}
-use Rattle.line_definitions.specs.Resolving.{resolve}
+use Rattle.disk_definitions.specs.Resolving.{resolve}
 use Rattle.lock_definitions.specs.Locks.{no_clerks, no_logs}
 use Rattle.lock_definitions.specs.Servers.{any_server}
-use Rattle.log_definitions.specs.Frames.{frame_read}
-use Rattle.pick_definitions.specs.Least.{least, least_from}
+use Rattle.disk_definitions.specs.Frames.{frame_read}
+use Rattle.disk_definitions.specs.Least.{least, least_from}
 use Rattle.sector_bytes.specs.Bytes.{zeros}
 use Rattle.sector_bytes.specs.Changes.{changed}
 use Rattle.core_steps.specs.Events.{Event, Begin, Ask, Fetch, Again, Commit, Give, Issue, Arrive, HostLine}

@@ -5,12 +5,12 @@ use Rattle.frang_base.specs.declared.lock.LockId.TheVariants.{Node, Segment}
 use Rattle.frang_base.specs.declared.lock.Mode.TheVariants.{Shared, Sole}
 use Rattle.frang_base.specs.declared.op.Op.{Op}
 use Rattle.frang_base.specs.declared.op.Op.TheVariants as op
-use Rattle.line_definitions.specs.Resolving.{resolve}
+use Rattle.disk_definitions.specs.Resolving.{resolve}
 use Rattle.lock_definitions.specs.Locks.{Locks, no_clerks, no_locks, no_logs}
 use Rattle.lock_definitions.specs.Calls.{wanted}
 use Rattle.lock_definitions.specs.Servers.{any_server}
-use Rattle.log_definitions.specs.Frames.{frame_read}
-use Rattle.pick_definitions.specs.Least.{least, least_from}
+use Rattle.disk_definitions.specs.Frames.{frame_read}
+use Rattle.disk_definitions.specs.Least.{least, least_from}
 use Rattle.sector_bytes.specs.Blocks.{zero_block}
 use Rattle.sector_bytes.specs.Bytes.{zeros}
 use Rattle.sector_bytes.specs.Changes.{changed}

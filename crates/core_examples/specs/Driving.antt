@@ -8,13 +8,13 @@ use Rattle.frang_base.specs.declared.script.Line.{Line}
 use Rattle.sector_bytes.specs.Bytes.{zeros}
 use Rattle.sector_bytes.specs.Sectors.{Sectors, sectors_of}
 use Rattle.sector_bytes.specs.SectorMaps.{value_at}
-use Rattle.sector_definitions.specs.Bitmaps.{bitmap_bytes}
-use Rattle.sector_definitions.specs.declared.directory.DirEntry.{DirEntry}
-use Rattle.sector_definitions.specs.Directories.{directory_bytes}
-use Rattle.sector_definitions.specs.Inodes.{inode_bytes}
-use Rattle.sector_definitions.specs.Params.{param_bytes}
-use Rattle.sector_definitions.specs.Regions.{sector_of}
-use Rattle.sector_definitions.specs.declared.region.Region.TheVariants as region
+use Rattle.disk_definitions.specs.Bitmaps.{bitmap_bytes}
+use Rattle.disk_definitions.specs.declared.directory.DirEntry.{DirEntry}
+use Rattle.disk_definitions.specs.Directories.{directory_bytes}
+use Rattle.disk_definitions.specs.Inodes.{inode_bytes}
+use Rattle.disk_definitions.specs.Params.{param_bytes}
+use Rattle.disk_definitions.specs.Regions.{sector_of}
+use Rattle.disk_definitions.specs.declared.region.Region.TheVariants as region
 use Rattle.core_definitions.specs.Settings.{Setting, setting_of}
 use Rattle.core_definitions.specs.Flights.{Flight}
 use Rattle.core_definitions.specs.Recoveries.{Recovery}

@@ -8,13 +8,13 @@ use Rattle.frang_base.specs.declared.reply.Reply.TheVariants as reply
 use Rattle.frang_base.specs.declared.said.Said.{Said}
 use Rattle.frang_base.specs.declared.said.Said.TheVariants as said
 use Rattle.frang_base.specs.declared.script.Line.{Line}
-use Rattle.line_definitions.specs.Resolving.{resolve}
+use Rattle.disk_definitions.specs.Resolving.{resolve}
 use Rattle.lock_definitions.specs.Locks.{no_clerks, no_logs}
 use Rattle.lock_definitions.specs.Servers.{any_server}
-use Rattle.pick_definitions.specs.Least.{least, least_from}
+use Rattle.disk_definitions.specs.Least.{least, least_from}
 use Rattle.sector_bytes.specs.Bytes.{zeros}
 use Rattle.sector_bytes.specs.Changes.{changed}
-use Rattle.log_definitions.specs.Frames.{frame_read}
+use Rattle.disk_definitions.specs.Frames.{frame_read}
 use Rattle.core_steps.specs.Events.{Event, Begin, Ask, Fetch, Again, Commit, Answer, Issue, Doom, Arrive, Die, Renew, Tick, Recover, Look, Finish, HostLine, Close, Read, Show, End}
 use Rattle.core_examples.specs.Driving.{Driven, driven, filed_opening, host_line, line, story_of}
 use Rattle.core_examples.specs.Rows.{party, answered}

@@ -6,16 +6,16 @@ use Rattle.frang_base.specs.declared.lock.Mode.TheVariants.{Shared, Sole}
 use Rattle.frang_base.specs.declared.op.Op.{Op}
 use Rattle.frang_base.specs.declared.op.Op.TheVariants as op
 use Rattle.frang_base.specs.declared.reply.Reply.TheVariants as reply
-use Rattle.line_definitions.specs.Resolving.{resolve}
+use Rattle.disk_definitions.specs.Resolving.{resolve}
 use Rattle.lock_definitions.specs.Locks.{Locks, no_clerks, no_locks, no_logs}
 use Rattle.lock_definitions.specs.Calls.{taken, wanted}
 use Rattle.lock_definitions.specs.Servers.{any_server}
-use Rattle.log_definitions.specs.Frames.{frame_read}
-use Rattle.pick_definitions.specs.Least.{least, least_from}
+use Rattle.disk_definitions.specs.Frames.{frame_read}
+use Rattle.disk_definitions.specs.Least.{least, least_from}
 use Rattle.ring_definitions.specs.Rings.{Ring, ring_at}
 use Rattle.sector_bytes.specs.Bytes.{zeros}
 use Rattle.sector_bytes.specs.Changes.{changed}
-use Rattle.sector_definitions.specs.LogSectors.{empty_sector}
+use Rattle.disk_definitions.specs.LogSectors.{empty_sector}
 use Rattle.core_definitions.specs.Caches.{Kept, clean, dirty}
 use Rattle.core_definitions.specs.Flights.{Flight, InPlace}
 use Rattle.core_definitions.specs.Lines.{under_at_first}

@@ -8,9 +8,9 @@ use Rattle.frang_base.specs.declared.limits.TheConstants.{LOG_SECTORS, SECTOR_BY
 use Rattle.frang_base.specs.declared.change.Redo.{Redo}
 use Rattle.tree_definitions.specs.Numbers.{below}
 use Rattle.sector_bytes.specs.Bytes.{zeros}
-use Rattle.sector_definitions.specs.declared.log_sector.LogSector.{LogSector}
-use Rattle.sector_definitions.specs.LogSectors.{empty_sector, log_sector_fields, numbered_sector_in}
-use Rattle.log_definitions.specs.Logs.{Slots, numbered, records_among, seq_of}
+use Rattle.disk_definitions.specs.declared.log_sector.LogSector.{LogSector}
+use Rattle.disk_definitions.specs.LogSectors.{empty_sector, log_sector_fields, numbered_sector_in}
+use Rattle.disk_definitions.specs.Logs.{Slots, numbered, records_among, seq_of}
 use Rattle.core_definitions.specs.Settings.{LogRules}
 
 abbrev pub slots_small : ℕ

@@ -7,16 +7,16 @@ use Rattle.frang_base.specs.declared.op.HostOp.TheVariants as host
 use Rattle.frang_base.specs.declared.op.Op.TheVariants as op
 use Rattle.frang_base.specs.declared.script.Line.{Line}
 use Rattle.frang_outside.specs.Disk.{written}
-use Rattle.line_definitions.specs.Resolving.{resolve}
+use Rattle.disk_definitions.specs.Resolving.{resolve}
 use Rattle.lock_definitions.specs.Locks.{no_clerks, no_logs}
 use Rattle.lock_definitions.specs.Servers.{any_server}
-use Rattle.log_definitions.specs.Frames.{frame_bytes, frame_read}
-use Rattle.pick_definitions.specs.Least.{least, least_from}
+use Rattle.disk_definitions.specs.Frames.{frame_bytes, frame_read}
+use Rattle.disk_definitions.specs.Least.{least, least_from}
 use Rattle.ring_definitions.specs.Rings.{packed_sector}
 use Rattle.sector_bytes.specs.Bytes.{zeros}
 use Rattle.sector_bytes.specs.Changes.{changed}
 use Rattle.sector_bytes.specs.Sectors.{Sectors}
-use Rattle.sector_definitions.specs.LogSectors.{log_sector_bytes}
+use Rattle.disk_definitions.specs.LogSectors.{log_sector_bytes}
 use Rattle.core_definitions.specs.Logs.{seal_block}
 use Rattle.core_steps.specs.Events.{Event, Begin, Ask, Fetch, Commit, Answer, Give, Issue, Arrive, Recover, Load, Look, Finish, HostLine, Close, Read, Show, End}
 use Rattle.core_steps.specs.Runs.{State}

@@ -9,10 +9,10 @@ use Rattle.std.specs.Prelude.{slice_set}
 use Rattle.std.specs.Map.{remove_entry}
 use Rattle.std.specs.Ordering.{nat_cmp}
 use Rattle.frang_base.specs.declared.change.Redo.{Redo}
-use Rattle.sector_definitions.specs.Regions.{sector_of}
-use Rattle.sector_definitions.specs.declared.region.Region.TheVariants as region
-use Rattle.sector_definitions.specs.declared.log_sector.LogSector.{LogSector}
-use Rattle.log_definitions.specs.Frames.{frame_bytes}
+use Rattle.disk_definitions.specs.Regions.{sector_of}
+use Rattle.disk_definitions.specs.declared.region.Region.TheVariants as region
+use Rattle.disk_definitions.specs.declared.log_sector.LogSector.{LogSector}
+use Rattle.disk_definitions.specs.Frames.{frame_bytes}
 use Rattle.ring_definitions.specs.Rings.{Ring, acked, appended, first_waiting, free_of, issued, last, need, passed, reclaimed_of, ring_at, sent}
 use Rattle.ring_definitions.proofs.Flags.{AreFlags, IsPassed, flags_kept, flags_push, flags_set, passed_is}
 use Rattle.ring_definitions.proofs.Packed.{length-framed}

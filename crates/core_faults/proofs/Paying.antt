@@ -15,7 +15,7 @@ use Rattle.lock_definitions.specs.Calls.{asked_for, cleared}
 use Rattle.lock_definitions.specs.Locks.{log_hold}
 use Rattle.lock_definitions.specs.declared.claim.AskedFor.{AskedFor}
 use Rattle.lock_definitions.specs.declared.claim.AskedFor.TheVariants.{Release, Downgrade}
-use Rattle.log_definitions.specs.Logs.{greatest_operation}
+use Rattle.disk_definitions.specs.Logs.{greatest_operation}
 use Rattle.sector_bytes.specs.SectorMaps.{value_at}
 use Rattle.sector_bytes.specs.Sectors.{Sectors}
 use Rattle.tree_definitions.specs.Apply.{is_path_op}

@@ -14,13 +14,13 @@ use Rattle.frang_base.specs.declared.limits.TheConstants.{ROOT_INODE}
 use Rattle.frang_base.specs.declared.script.Line.{Line}
 use Rattle.lock_definitions.specs.Locks.{AreLocks, claims_of}
 use Rattle.lock_definitions.specs.Order.{lock_cmp}
-use Rattle.log_definitions.specs.Replay.{is_replayed}
-use Rattle.plan_definitions.specs.Written.{ascending}
+use Rattle.disk_definitions.specs.Replay.{is_replayed}
+use Rattle.disk_definitions.specs.Written.{ascending}
 use Rattle.sector_bytes.specs.SectorMaps.{value_at, with_value}
 use Rattle.sector_bytes.specs.Sectors.{Sectors}
 use Rattle.sector_bytes.proofs.MapLaws.{ascend_with}
-use Rattle.sector_definitions.specs.Regions.{region_of, sector_of}
-use Rattle.sector_definitions.specs.declared.region.Region.TheVariants as region
+use Rattle.disk_definitions.specs.Regions.{region_of, sector_of}
+use Rattle.disk_definitions.specs.declared.region.Region.TheVariants as region
 use Rattle.tree_definitions.specs.Numbers.{below}
 use Rattle.tree_definitions.specs.Transcript.{is_mount}
 use Rattle.core_definitions.specs.Lines.{Stage, Asking, Fetching, Moving, Stopping, Growing, Clearing, Finishing, Under}

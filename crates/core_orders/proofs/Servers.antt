@@ -14,7 +14,7 @@ use Rattle.frang_base.specs.declared.reply.Reply.TheVariants as reply
 use Rattle.frang_base.specs.declared.script.Line.{Line}
 use Rattle.lock_definitions.specs.Order.{is_lock, lock_cmp}
 use Rattle.lock_definitions.proofs.LockOrder.{lock_total}
-use Rattle.plan_definitions.specs.Plans.{Lock}
+use Rattle.disk_definitions.specs.Plans.{Lock}
 use Rattle.ring_definitions.specs.Rings.{last}
 use Rattle.sector_bytes.specs.Blocks.{Block}
 use Rattle.sector_bytes.specs.SectorMaps.{Ascend, without}

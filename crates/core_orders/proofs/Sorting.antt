@@ -7,7 +7,7 @@ use Rattle.std.specs.Map.{keys_of}
 use Rattle.std.specs.Ordering.{nat_cmp}
 use Rattle.std.specs.declared.cmp.Ordering.{Ordering}
 use Rattle.std.specs.declared.cmp.Ordering.TheVariants.{Less}
-use Rattle.plan_definitions.specs.Written.{ascending, with_number}
+use Rattle.disk_definitions.specs.Written.{ascending, with_number}
 use Rattle.sector_bytes.specs.SectorMaps.{Ascend}
 use Rattle.sector_bytes.proofs.MapLaws.{ascend_with}
 use Rattle.tree_definitions.specs.Numbers.{below}

@@ -15,11 +15,11 @@ use Rattle.frang_base.specs.declared.op.Op.{Op}
 use Rattle.frang_base.specs.declared.script.Line.{Line}
 use Rattle.lock_definitions.specs.Locks.{Locks}
 use Rattle.lock_definitions.specs.Order.{lock_cmp}
-use Rattle.plan_definitions.specs.Ask.{Ask, Met}
-use Rattle.plan_definitions.specs.Ask.Met.{Needs, Has}
-use Rattle.plan_definitions.specs.Plans.{Lock, Plan}
-use Rattle.plan_definitions.specs.Plans.Plan.{Lacks, Clears, Finishes}
-use Rattle.plan_definitions.specs.Written.{Cached}
+use Rattle.disk_definitions.specs.Ask.{Ask, Met}
+use Rattle.disk_definitions.specs.Ask.Met.{Needs, Has}
+use Rattle.disk_definitions.specs.Plans.{Lock, Plan}
+use Rattle.disk_definitions.specs.Plans.Plan.{Lacks, Clears, Finishes}
+use Rattle.disk_definitions.specs.Written.{Cached}
 use Rattle.sector_bytes.specs.Blocks.{version_of}
 use Rattle.sector_bytes.specs.SectorMaps.{value_at}
 use Rattle.tree_definitions.specs.Apply.{is_path_op}

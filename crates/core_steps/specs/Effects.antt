@@ -11,11 +11,11 @@ use Rattle.frang_outside.specs.declared.act.Taken.{Taken}
 use Rattle.frang_outside.specs.declared.act.Taken.TheVariants as taken
 use Rattle.frang_outside.specs.Disk.{written}
 use Rattle.lock_definitions.specs.Lease.{HasEnded, IsInTime}
-use Rattle.log_definitions.specs.Logs.{greatest_operation}
+use Rattle.disk_definitions.specs.Logs.{greatest_operation}
 use Rattle.sector_bytes.specs.SectorMaps.{value_at}
 use Rattle.sector_bytes.specs.Sectors.{Sectors}
-use Rattle.sector_definitions.specs.Regions.{sector_of}
-use Rattle.sector_definitions.specs.declared.region.Region.TheVariants as region
+use Rattle.disk_definitions.specs.Regions.{sector_of}
+use Rattle.disk_definitions.specs.declared.region.Region.TheVariants as region
 use Rattle.core_definitions.specs.Plans.{Outcome}
 use Rattle.core_definitions.specs.Lines.{Stage, Finishing, Under}
 use Rattle.core_definitions.specs.Flights.{Flight}

@@ -17,15 +17,15 @@ use Rattle.frang_base.specs.declared.script.Line.{Line}
 use Rattle.tree_definitions.specs.Touched.{is_ok, is_unmount}
 use Rattle.lock_definitions.specs.Locks.{Locks}
 use Rattle.lock_definitions.specs.Calls.{cleared, wanted}
-use Rattle.plan_definitions.specs.Plans.{Lock}
-use Rattle.plan_definitions.specs.Written.{ascending}
+use Rattle.disk_definitions.specs.Plans.{Lock}
+use Rattle.disk_definitions.specs.Written.{ascending}
 use Rattle.ring_definitions.specs.Rings.{Ring, last, reclaimed_of, ring_at}
 use Rattle.sector_bytes.specs.Blocks.{Block, zero_block}
 use Rattle.sector_bytes.specs.Changes.{changed}
 use Rattle.sector_bytes.specs.Replays.{change_at}
 use Rattle.sector_bytes.specs.SectorMaps.{value_at, with_value}
-use Rattle.sector_definitions.specs.Regions.{sector_of}
-use Rattle.sector_definitions.specs.declared.region.Region.TheVariants as region
+use Rattle.disk_definitions.specs.Regions.{sector_of}
+use Rattle.disk_definitions.specs.declared.region.Region.TheVariants as region
 use Rattle.core_definitions.specs.Settings.{LogRules, lease_to}
 use Rattle.core_definitions.specs.Sets.{LockSet, first_set, joined_all}
 use Rattle.core_definitions.specs.Rings.{appended_some}

@@ -13,8 +13,8 @@ use Rattle.tree_definitions.specs.Transcript.{is_mount}
 use Rattle.lock_definitions.specs.Locks.{is_wished}
 use Rattle.lock_definitions.specs.Calls.{is_free}
 use Rattle.ring_definitions.specs.Rings.{oldest_of}
-use Rattle.sector_definitions.specs.Regions.{sector_of}
-use Rattle.sector_definitions.specs.declared.region.Region.TheVariants as region
+use Rattle.disk_definitions.specs.Regions.{sector_of}
+use Rattle.disk_definitions.specs.declared.region.Region.TheVariants as region
 use Rattle.core_definitions.specs.Settings.{LogRules}
 use Rattle.core_definitions.specs.Logs.{is_none, unread}
 use Rattle.core_definitions.specs.Rings.{has_room}

@@ -1,8 +1,8 @@
 -- What a computation comes to whatever is said to what it asks.
 use Rattle.std.proofs.Common.{ℕ, ◌≡◌, Bool, true, false, if◌then◌else◌, List, [], ◌∷◌, Option, Some, None, subst}
 use Rattle.disk_definitions.specs.Store.{StoredNode, StoredEntry}
-use Rattle.plan_definitions.specs.Ask.{Sector, InodeAt, DirectoryAt, SegmentAt, BytesAt, LargeAt, Ask, AtHand, Met, Got, ReadInode, ReadDirectory, ReadSegment, ReadBytes, ReadLarge, bind, meet, or_needs, read_segments}
-use Rattle.plan_definitions.specs.Ask.Met.{Needs, Has}
+use Rattle.disk_definitions.specs.Ask.{Sector, InodeAt, DirectoryAt, SegmentAt, BytesAt, LargeAt, Ask, AtHand, Met, Got, ReadInode, ReadDirectory, ReadSegment, ReadBytes, ReadLarge, bind, meet, or_needs, read_segments}
+use Rattle.disk_definitions.specs.Ask.Met.{Needs, Has}
 
 abbrev pub Always : {A : Type 0} → (A → Type 0) → Ask A → Type 0
 Always P (Got value) = P value

@@ -4,12 +4,12 @@ use Rattle.frang_base.specs.declared.op.Op.{Op}
 use Rattle.frang_base.specs.declared.op.Op.TheVariants as op
 use Rattle.tree_definitions.specs.Perform.{Step, Goes, Stops, Resolved}
 use Rattle.tree_definitions.specs.Transcript.{may_change}
-use Rattle.plan_definitions.specs.Ask.{Got}
-use Rattle.plan_definitions.specs.Plans.{Hand, Plan}
-use Rattle.plan_definitions.specs.Plans.Plan.{Lacks, Clears, Finishes}
-use Rattle.plan_definitions.specs.PlanOf.{plan_of}
-use Rattle.line_definitions.specs.Lines.{by_first, by_path, by_second, is_found, over_path, over_paths, plan_of_line, plan_step, resolved, step_of, with_trail}
-use Rattle.line_definitions.specs.Resolving.{PathEnd, Leads, Refused, resolve}
+use Rattle.disk_definitions.specs.Ask.{Got}
+use Rattle.disk_definitions.specs.Plans.{Hand, Plan}
+use Rattle.disk_definitions.specs.Plans.Plan.{Lacks, Clears, Finishes}
+use Rattle.disk_definitions.specs.PlanOf.{plan_of}
+use Rattle.disk_definitions.specs.Lines.{by_first, by_path, by_second, is_found, over_path, over_paths, plan_of_line, plan_step, resolved, step_of, with_trail}
+use Rattle.disk_definitions.specs.Resolving.{PathEnd, Leads, Refused, resolve}
 use Rattle.core_transcripts.proofs.Always.{Always, always_bind}
 use Rattle.core_transcripts.proofs.Walking.{IsPlain, EndIsPlain, ResolutionIsPlain, resolve_plain}
 use Rattle.core_transcripts.proofs.Planning.{OnlyLooks, SaysPlain, looks_only, plans_plain}

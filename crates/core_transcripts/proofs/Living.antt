@@ -9,7 +9,7 @@ use Rattle.frang_base.specs.declared.sector.OpNo.{OpNo}
 use Rattle.tree_definitions.specs.History.{Opening}
 use Rattle.tree_definitions.specs.Transcript.{Faults, Phase as ToldPhase, after_death, after_renewal, after_said, dirty_after, goes_on, is_answer_of, is_called_for, is_dead as is_told_dead, is_in_mount as is_told_in_mount, is_stalled, is_up as is_told_up, may_be_dirty, may_die_now, may_be_renewed, may_be_recovered, may_recover, next_line as told_next, state_of}
 use Rattle.tree_definitions.specs.Transcript.Phase.{Off as ToldOff, Up as ToldUp, Stalled, Dead as ToldDead}
-use Rattle.log_definitions.specs.Logs.{greatest_operation}
+use Rattle.disk_definitions.specs.Logs.{greatest_operation}
 use Rattle.core_definitions.specs.Recoveries.{Recovery, recovery_of, redos}
 use Rattle.core_definitions.specs.Scripts.{host_party}
 use Rattle.core_definitions.specs.Servers.{Fate, Phase, Off, Up, Still, Doomed, Dead, Server, is_dead, is_doomed, is_off, is_still, is_up}

@@ -7,11 +7,11 @@ use Rattle.frang_base.specs.declared.script.Line.{Line}
 use Rattle.tree_definitions.specs.Live.{number_of as operation_number, script_time, time_in}
 use Rattle.tree_definitions.specs.Transcript.{may_change}
 use Rattle.lock_definitions.specs.Locks.{Locks}
-use Rattle.plan_definitions.specs.Ask.{Met, number_of}
-use Rattle.plan_definitions.specs.Ask.Met.{Needs, Has}
-use Rattle.plan_definitions.specs.Plans.{Finish, Lock, Plan}
-use Rattle.plan_definitions.specs.Plans.Plan.{Lacks, Clears, Finishes}
-use Rattle.plan_definitions.specs.Written.{hand_of}
+use Rattle.disk_definitions.specs.Ask.{Met, number_of}
+use Rattle.disk_definitions.specs.Ask.Met.{Needs, Has}
+use Rattle.disk_definitions.specs.Plans.{Finish, Lock, Plan}
+use Rattle.disk_definitions.specs.Plans.Plan.{Lacks, Clears, Finishes}
+use Rattle.disk_definitions.specs.Written.{hand_of}
 use Rattle.core_definitions.specs.Caches.{Cache}
 use Rattle.core_definitions.specs.Lines.{Comparison, HasMoved, HasStopped, HasGoneThrough, Seen, Stage, Asking, Fetching, Moving, Stopping, Growing, Clearing, Finishing, Under, compared, missing_bitmaps, needed_mode, needing, once_through, or_grown, seen_more, sole_segment, stage_asked, stage_at, stage_by, stage_held, stage_over}
 use Rattle.core_definitions.specs.Plans.{Outcome, Sight, cover_of, examined, known_in, outcome_of, planned, program_of, sight_of}

@@ -7,10 +7,10 @@ use Rattle.frang_base.specs.declared.reply.Reply.{Reply}
 use Rattle.frang_base.specs.declared.reply.Reply.TheVariants as reply
 use Rattle.tree_definitions.specs.Resolve.{is_absolute, target_text}
 use Rattle.disk_definitions.specs.Store.{StoredNode, StoredEntry}
-use Rattle.plan_definitions.specs.Ask.{Ask, Got, ReadInode, bind}
-use Rattle.plan_definitions.specs.Walks.{Spot, Walked, Found, search, is_named, spot_by, look_up, in_inode, onward, walk_from, walk}
-use Rattle.plan_definitions.specs.Walks.Spot.{AtRoot, AtName, AtGap, Lost}
-use Rattle.line_definitions.specs.Resolving.{PathEnd, Leads, Refused, Resolution, at_entry, at_gap, at_name, at_target, behind, below_inode, leads, passes, refused, resolve, resolve_from, resolve_names, with_target}
+use Rattle.disk_definitions.specs.Ask.{Ask, Got, ReadInode, bind}
+use Rattle.disk_definitions.specs.Walks.{Spot, Walked, Found, search, is_named, spot_by, look_up, in_inode, onward, walk_from, walk}
+use Rattle.disk_definitions.specs.Walks.Spot.{AtRoot, AtName, AtGap, Lost}
+use Rattle.disk_definitions.specs.Resolving.{PathEnd, Leads, Refused, Resolution, at_entry, at_gap, at_name, at_target, behind, below_inode, leads, passes, refused, resolve, resolve_from, resolve_names, with_target}
 use Rattle.core_transcripts.proofs.Always.{Always, always_after, always_bind}
 
 -- a reply of a line's own

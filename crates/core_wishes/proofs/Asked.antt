@@ -12,10 +12,10 @@ use Rattle.lock_definitions.specs.declared.claim.Claim.{Claim}
 use Rattle.lock_definitions.specs.Calls.{serves}
 use Rattle.lock_definitions.specs.Locks.{Locks, claim_of, is_wished_in}
 use Rattle.lock_definitions.specs.Order.{is_lock}
-use Rattle.plan_definitions.specs.Ask.{Ask, Met}
-use Rattle.plan_definitions.specs.Ask.Met.{Needs, Has}
-use Rattle.plan_definitions.specs.Plans.{Lock, Plan}
-use Rattle.plan_definitions.specs.Plans.Plan.{Lacks, Clears, Finishes}
+use Rattle.disk_definitions.specs.Ask.{Ask, Met}
+use Rattle.disk_definitions.specs.Ask.Met.{Needs, Has}
+use Rattle.disk_definitions.specs.Plans.{Lock, Plan}
+use Rattle.disk_definitions.specs.Plans.Plan.{Lacks, Clears, Finishes}
 use Rattle.tree_definitions.specs.Apply.{is_path_op}
 use Rattle.core_definitions.specs.Caches.{Cache}
 use Rattle.core_definitions.specs.Lines.{Comparison, HasMoved, HasStopped, HasGoneThrough, Seen, Stage, Asking, Fetching, Moving, Stopping, Growing, Clearing, Finishing, Under, compared, missing_bitmaps, needed_mode, needing, once_through, operation_of, or_grown, seen_more, sole_segment, stage_asked, stage_by, stage_held, stage_over}

@@ -27,7 +27,7 @@ use Rattle.lock_definitions.specs.Same.{AllWishesWait, SameLocks, waits}
 use Rattle.lock_definitions.proofs.Changes.{IsChanged, claim_of-changed, other_claims, own_claim}
 use Rattle.lock_definitions.proofs.LockOrder.{found_lock, is_lock_equiv}
 use Rattle.lock_definitions.proofs.Wants.{no_claims_left}
-use Rattle.plan_definitions.specs.Plans.{Lock}
+use Rattle.disk_definitions.specs.Plans.{Lock}
 use Rattle.tree_definitions.specs.Apply.{is_path_op}
 use Rattle.tree_definitions.specs.Touched.{is_ok, is_unmount}
 use Rattle.sector_bytes.specs.Blocks.{Block}

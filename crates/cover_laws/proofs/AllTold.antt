@@ -7,12 +7,12 @@ use Rattle.frang_base.specs.declared.reply.Reply.TheVariants as reply
 use Rattle.tree_definitions.specs.declared.node.Node.TheVariants.{Dir, File, Link}
 use Rattle.disk_definitions.specs.Store.{Store, StoredNode}
 use Rattle.disk_definitions.specs.Naming.{Naming}
-use Rattle.plan_definitions.specs.Ask.{Sector}
-use Rattle.plan_definitions.specs.FilePlans.{Writing, writing, cutting, showing, plan_of_file}
-use Rattle.plan_definitions.specs.LookPlans.{at_inode, described, listing, plan_of_node, timed}
-use Rattle.plan_definitions.specs.PlanOf.{plan_of}
-use Rattle.plan_definitions.specs.Plans.{Hand, refused}
-use Rattle.plan_covers.proofs.Standing.{DiskStands}
+use Rattle.disk_definitions.specs.Ask.{Sector}
+use Rattle.disk_definitions.specs.FilePlans.{Writing, writing, cutting, showing, plan_of_file}
+use Rattle.disk_definitions.specs.LookPlans.{at_inode, described, listing, plan_of_node, timed}
+use Rattle.disk_definitions.specs.PlanOf.{plan_of}
+use Rattle.disk_definitions.specs.Plans.{Hand, refused}
+use Rattle.plan_laws.proofs.Standing.{DiskStands}
 use Rattle.cover_laws.proofs.WalksTold.{Ends}
 use Rattle.cover_laws.proofs.NamesTold.{made_told, linked_told, unlinked_told, removed_told, renamed_told}
 use Rattle.cover_laws.proofs.FilesTold.{writing_told, cutting_told, showing_told, listing_told, node_told, inode_told, kind_told, file_told}

@@ -3,19 +3,19 @@ use Rattle.std.proofs.Common.{ℕ, ◌≡◌, ◌⊎◌, inl, inr, ⊎_elim, Boo
 use Rattle.std.specs.List.{Contains}
 use Rattle.tree_definitions.specs.Tree.{FileTree}
 use Rattle.sector_bytes.specs.Sectors.{Sectors}
-use Rattle.pick_definitions.specs.Held.{Segments}
-use Rattle.plan_definitions.specs.Ask.{Sector, InodeAt, DirectoryAt, SegmentAt, BytesAt, LargeAt, Ask, Got, ReadInode, ReadDirectory, ReadSegment, ReadBytes, ReadLarge, AtHand, seven, part_of, looks}
-use Rattle.plan_definitions.specs.Ask.Met.{Needs}
-use Rattle.plan_definitions.specs.OnDisk.{AreOfDisk, StandsBelow}
-use Rattle.plan_definitions.specs.Written.{Cached, at_hand, hand_of, inode_at_hand}
+use Rattle.disk_definitions.specs.Held.{Segments}
+use Rattle.disk_definitions.specs.Ask.{Sector, InodeAt, DirectoryAt, SegmentAt, BytesAt, LargeAt, Ask, Got, ReadInode, ReadDirectory, ReadSegment, ReadBytes, ReadLarge, AtHand, seven, part_of, looks}
+use Rattle.disk_definitions.specs.Ask.Met.{Needs}
+use Rattle.disk_definitions.specs.OnDisk.{AreOfDisk, StandsBelow}
+use Rattle.disk_definitions.specs.Written.{Cached, at_hand, hand_of, inode_at_hand}
 use Rattle.plan_laws.proofs.Covering.{not_in_none, has_cases}
-use Rattle.plan_looks.specs.Inside.{AgreesWhereAll}
-use Rattle.plan_covers.specs.Covers.{cover_of}
-use Rattle.plan_standing.proofs.AtHand.{agrees}
-use Rattle.plan_traces.specs.Traces.{Traced, traced, needs, behind, by_said}
-use Rattle.line_definitions.specs.Lines.{plan_of_line}
+use Rattle.plan_laws.specs.Inside.{AgreesWhereAll}
+use Rattle.plan_laws.specs.Covers.{cover_of}
+use Rattle.line_laws.proofs.AtHand.{agrees}
+use Rattle.plan_laws.specs.Traces.{Traced, traced, needs, behind, by_said}
+use Rattle.disk_definitions.specs.Lines.{plan_of_line}
 use Rattle.line_laws.proofs.Inside.{lines_inside}
-use Rattle.plan_moves.specs.CoversAtHand.{cover_at_hand}
+use Rattle.plan_laws.specs.CoversAtHand.{cover_at_hand}
 use Rattle.cover_laws.specs.Told.{AreTold}
 use Rattle.cover_laws.specs.Covers.{AsksFor, CoversAtHandAreTrue}
 use Rattle.cover_laws.proofs.AtHand.{s, n, is_of, is_hand, Had, told_true}

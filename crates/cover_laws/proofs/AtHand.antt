@@ -9,26 +9,26 @@ use Rattle.tree_definitions.specs.Tree.{FileTree, node_at}
 use Rattle.sector_bytes.specs.Sectors.{Sectors}
 use Rattle.disk_definitions.specs.Naming.{Naming, Pictures}
 use Rattle.disk_definitions.specs.Store.{Store, StoredNode, is_unused, store_of}
-use Rattle.store_changes.specs.Resizing.{index_in}
-use Rattle.store_changes.proofs.Indices.{index_hit}
-use Rattle.pick_definitions.specs.Held.{Segments, inode_in, state_in, large_in}
-use Rattle.pick_definitions.specs.Picks.{is_free, is_in_state}
-use Rattle.pick_definitions.proofs.LeastLaws.{least_at}
-use Rattle.pick_definitions.proofs.PickLaws.{free_is, state_is}
-use Rattle.plan_definitions.specs.Ask.{Sector, InodeAt, DirectoryAt, SegmentAt, BytesAt, LargeAt}
-use Rattle.plan_definitions.specs.Meets.{IsOfTree, IsHandOf}
-use Rattle.plan_definitions.specs.OnDisk.{AreOfDisk, StandsBelow}
-use Rattle.plan_definitions.specs.Written.{Cached, hand_of, inode_at_hand}
-use Rattle.plan_covers.specs.Covers as true_covers
-use Rattle.plan_covers.specs.Covers.{cover_of}
-use Rattle.plan_covers.proofs.Standing.{stands}
-use Rattle.plan_moves.specs.Moves.{HasSmall, HasLarge}
-use Rattle.plan_moves.proofs.Moving.{by_bit, inode_lock, small_lock, free_lock, large_lock, free_large}
-use Rattle.plan_moves.proofs.OneNode.{small_of}
-use Rattle.plan_standing.proofs.AtHand.{agrees}
-use Rattle.plan_standing.proofs.Edited.{hand}
-use Rattle.plan_standing.proofs.OfDisk.{of_tree}
-use Rattle.plan_moves.specs.CoversAtHand.{has_small, has_large, small_owner, large_owner, node_or_segment, inode_cover, is_marked_unused, small_cover, large_cover, cover_at_hand}
+use Rattle.disk_definitions.specs.Resizing.{index_in}
+use Rattle.disk_definitions.proofs.Indices.{index_hit}
+use Rattle.disk_definitions.specs.Held.{Segments, inode_in, state_in, large_in}
+use Rattle.disk_definitions.specs.Picks.{is_free, is_in_state}
+use Rattle.disk_definitions.proofs.LeastLaws.{least_at}
+use Rattle.disk_definitions.proofs.PickLaws.{free_is, state_is}
+use Rattle.disk_definitions.specs.Ask.{Sector, InodeAt, DirectoryAt, SegmentAt, BytesAt, LargeAt}
+use Rattle.disk_definitions.specs.Meets.{IsOfTree, IsHandOf}
+use Rattle.disk_definitions.specs.OnDisk.{AreOfDisk, StandsBelow}
+use Rattle.disk_definitions.specs.Written.{Cached, hand_of, inode_at_hand}
+use Rattle.plan_laws.specs.Covers as true_covers
+use Rattle.plan_laws.specs.Covers.{cover_of}
+use Rattle.plan_laws.proofs.Standing.{stands}
+use Rattle.plan_laws.specs.Moves.{HasSmall, HasLarge}
+use Rattle.plan_laws.proofs.Moving.{by_bit, inode_lock, small_lock, free_lock, large_lock, free_large}
+use Rattle.plan_laws.proofs.OneNode.{small_of}
+use Rattle.line_laws.proofs.AtHand.{agrees}
+use Rattle.line_laws.proofs.Edited.{hand}
+use Rattle.line_laws.proofs.OfDisk.{of_tree}
+use Rattle.plan_laws.specs.CoversAtHand.{has_small, has_large, small_owner, large_owner, node_or_segment, inode_cover, is_marked_unused, small_cover, large_cover, cover_at_hand}
 use Rattle.cover_laws.specs.Told.{IsInodeTold, IsSmallTold, IsLargeTold, IsTold}
 
 module _ (cached : Cached) (held : Segments) (all : Bool) (sectors : Sectors) (tree : FileTree) (of : AreOfDisk cached held all tree.segments sectors) (below : StandsBelow sectors tree) where

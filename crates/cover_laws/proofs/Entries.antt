@@ -3,14 +3,14 @@ use Rattle.std.proofs.Common.{ℕ, ◌≡◌, ◌==◌, ◌*◌, Bool, true, if�
 use Rattle.frang_base.specs.declared.reply.Reply.TheVariants as reply
 use Rattle.disk_definitions.specs.Store.{Store, StoredNode}
 use Rattle.disk_definitions.specs.Naming.{Naming}
-use Rattle.plan_definitions.specs.Ask.{Ask, Got, ReadInode, run}
-use Rattle.plan_definitions.specs.Plans.{Hand}
-use Rattle.plan_definitions.specs.Walks.{Found, Walked, search, is_named, spot_by, look_up, in_inode}
-use Rattle.plan_definitions.specs.Walks.Spot.{Lost}
+use Rattle.disk_definitions.specs.Ask.{Ask, Got, ReadInode, run}
+use Rattle.disk_definitions.specs.Plans.{Hand}
+use Rattle.disk_definitions.specs.Walks.{Found, Walked, search, is_named, spot_by, look_up, in_inode}
+use Rattle.disk_definitions.specs.Walks.Spot.{Lost}
 use Rattle.plan_laws.proofs.Asking.{run-bind}
-use Rattle.plan_covers.proofs.Standing.{HasKind, DiskStands}
-use Rattle.plan_covers.proofs.WalksFine.{SpotStands, step_stands}
-use Rattle.line_definitions.specs.Resolving.{Resolution}
+use Rattle.plan_laws.proofs.Standing.{HasKind, DiskStands}
+use Rattle.plan_laws.proofs.WalksFine.{SpotStands, step_stands}
+use Rattle.disk_definitions.specs.Resolving.{Resolution}
 
 -- how a link is followed: with the directory that holds it, the path of this, and the names that are left
 abbrev pub Follow : Type 0

@@ -8,20 +8,20 @@ use Rattle.tree_definitions.specs.Numbers.{below}
 use Rattle.tree_definitions.specs.Tree.{small_blocks_of}
 use Rattle.disk_definitions.specs.Store.{Store, StoredNode, StoredEntry}
 use Rattle.disk_definitions.specs.Naming.{Naming}
-use Rattle.store_changes.specs.Edits.{Edit}
-use Rattle.pick_definitions.specs.Picks.{picked_many, picked_large}
-use Rattle.plan_definitions.specs.Ask.{Sector, InodeAt, DirectoryAt, BytesAt, LargeAt, Ask, Got, ReadInode, ReadBytes, ReadLarge, seven, part_of}
-use Rattle.plan_definitions.specs.Walks.{Spot, Target, at_spot, at_target}
-use Rattle.plan_definitions.specs.Walks.Spot.{AtRoot, AtName, AtGap, Lost}
-use Rattle.plan_definitions.specs.Plans.{Hand, Plan, refused, read_held}
-use Rattle.plan_definitions.specs.Plans.Plan.{Finishes}
-use Rattle.plan_definitions.specs.NamePlans.{finish_over}
-use Rattle.plan_definitions.specs.FilePlans.{Writing, end_of, keeps_bytes, mixed, read_sector, set_sector, write_sector, write_sectors, sectors_met, resized, written_by, writing_in, writing_picked, writing_small, writing_large, writing, cut_segments, cut_by, cutting, read_sectors, showing, with_file, at_file, plan_of_file}
-use Rattle.plan_definitions.specs.LookPlans.{plan_of_node, with_inode, at_inode, read_entries, entries_of, sorted_names, listing}
+use Rattle.disk_definitions.specs.Edits.{Edit}
+use Rattle.disk_definitions.specs.Picks.{picked_many, picked_large}
+use Rattle.disk_definitions.specs.Ask.{Sector, InodeAt, DirectoryAt, BytesAt, LargeAt, Ask, Got, ReadInode, ReadBytes, ReadLarge, seven, part_of}
+use Rattle.disk_definitions.specs.Walks.{Spot, Target, at_spot, at_target}
+use Rattle.disk_definitions.specs.Walks.Spot.{AtRoot, AtName, AtGap, Lost}
+use Rattle.disk_definitions.specs.Plans.{Hand, Plan, refused, read_held}
+use Rattle.disk_definitions.specs.Plans.Plan.{Finishes}
+use Rattle.disk_definitions.specs.NamePlans.{finish_over}
+use Rattle.disk_definitions.specs.FilePlans.{Writing, end_of, keeps_bytes, mixed, read_sector, set_sector, write_sector, write_sectors, sectors_met, resized, written_by, writing_in, writing_picked, writing_small, writing_large, writing, cut_segments, cut_by, cutting, read_sectors, showing, with_file, at_file, plan_of_file}
+use Rattle.disk_definitions.specs.LookPlans.{plan_of_node, with_inode, at_inode, read_entries, entries_of, sorted_names, listing}
 use Rattle.plan_laws.proofs.Covering.{has_head, has_more}
-use Rattle.plan_covers.proofs.Standing.{HasKind, IsFileNode, DiskStands}
-use Rattle.plan_covers.proofs.WalksFine.{SpotStands}
-use Rattle.plan_covers.proofs.FilesFine.{in_small, met_before}
+use Rattle.plan_laws.proofs.Standing.{HasKind, IsFileNode, DiskStands}
+use Rattle.plan_laws.proofs.WalksFine.{SpotStands}
+use Rattle.plan_laws.proofs.FilesFine.{in_small, met_before}
 use Rattle.cover_laws.proofs.WalksTold.{Ends, held_told, walk_then}
 use Rattle.cover_laws.proofs.NamesTold.{over_told}
 

@@ -11,17 +11,17 @@ use Rattle.tree_definitions.specs.Perform.{Step, Goes, Stops}
 use Rattle.tree_definitions.specs.Resolve.{is_absolute, target_text}
 use Rattle.disk_definitions.specs.Store.{Store, StoredNode, StoredEntry}
 use Rattle.disk_definitions.specs.Naming.{Naming}
-use Rattle.plan_definitions.specs.Ask.{Sector, InodeAt, Ask, Got, ReadInode, bind, run}
-use Rattle.plan_definitions.specs.Plans.{Hand}
-use Rattle.plan_definitions.specs.PlanOf.{plan_of}
-use Rattle.plan_definitions.specs.Walks.{Found, Walked, search, is_named, spot_by, look_up, in_inode}
-use Rattle.plan_definitions.specs.Walks.Spot.{Lost}
+use Rattle.disk_definitions.specs.Ask.{Sector, InodeAt, Ask, Got, ReadInode, bind, run}
+use Rattle.disk_definitions.specs.Plans.{Hand}
+use Rattle.disk_definitions.specs.PlanOf.{plan_of}
+use Rattle.disk_definitions.specs.Walks.{Found, Walked, search, is_named, spot_by, look_up, in_inode}
+use Rattle.disk_definitions.specs.Walks.Spot.{Lost}
 use Rattle.plan_laws.proofs.Asking.{run-bind}
 use Rattle.plan_laws.proofs.Covering.{has_head}
-use Rattle.plan_covers.proofs.Standing.{HasKind, DiskStands, disk_stands}
-use Rattle.plan_covers.proofs.WalksFine.{SpotStands, step_stands, kind_two}
-use Rattle.line_definitions.specs.Resolving.{PathEnd, Leads, Refused, Resolution, leads, refused, behind, passes, at_target, with_target, at_entry, at_gap, at_name, below_inode, resolve_names, resolve_from, resolve}
-use Rattle.line_definitions.specs.Lines.{by_path, is_found, by_second, by_first, over_path, over_paths, resolved, with_trail, plan_step, plan_of_line}
+use Rattle.plan_laws.proofs.Standing.{HasKind, DiskStands, disk_stands}
+use Rattle.plan_laws.proofs.WalksFine.{SpotStands, step_stands, kind_two}
+use Rattle.disk_definitions.specs.Resolving.{PathEnd, Leads, Refused, Resolution, leads, refused, behind, passes, at_target, with_target, at_entry, at_gap, at_name, below_inode, resolve_names, resolve_from, resolve}
+use Rattle.disk_definitions.specs.Lines.{by_path, is_found, by_second, by_first, over_path, over_paths, resolved, with_trail, plan_step, plan_of_line}
 use Rattle.cover_laws.proofs.Entries.{Follow, FoundLeads, found_leads}
 use Rattle.cover_laws.specs.Told.{LinesAreTold}
 use Rattle.cover_laws.proofs.Tells.{Among, same_among, Told, tells_then, tells_value, told_then, are_told}

@@ -5,18 +5,18 @@ use Rattle.frang_base.specs.declared.reply.Reply.TheVariants as reply
 use Rattle.tree_definitions.specs.declared.node.Node.{Node}
 use Rattle.disk_definitions.specs.Store.{Store, StoredNode, StoredEntry}
 use Rattle.disk_definitions.specs.Naming.{Naming}
-use Rattle.pick_definitions.specs.Picks.{picked_inode}
-use Rattle.pick_definitions.proofs.PickLaws.{an_inode}
-use Rattle.plan_definitions.specs.Ask.{Sector, InodeAt, Ask, Got, ReadInode, bind}
-use Rattle.plan_definitions.specs.Walks.{Spot, Walked, walk}
-use Rattle.plan_definitions.specs.Walks.Spot.{AtRoot, AtName, AtGap, Lost}
-use Rattle.plan_definitions.specs.Plans.{Hand, Plan, Finish, Room, refused, read_held, find_room, is_full}
-use Rattle.plan_definitions.specs.Plans.Plan.{Finishes}
-use Rattle.plan_definitions.specs.Plans.Room.{Inside, InBlock, NoRoom}
-use Rattle.plan_definitions.specs.NamePlans.{made_by, making_in, making_with, making, plan_made, linked_by, linking_in, linking_node, linking_to, linking, plan_linked, fewer_segments, finish_over, removed_by, unlinking_node, unlinking, plan_unlinked, removing_node, removing, plan_dir_removed, Moving, moved_onto_by, replacing_node, moving_onto, moved_within, moved_between, moving_in, moving_to, goes_through, renaming_to, renaming, plan_renamed}
+use Rattle.disk_definitions.specs.Picks.{picked_inode}
+use Rattle.disk_definitions.proofs.PickLaws.{an_inode}
+use Rattle.disk_definitions.specs.Ask.{Sector, InodeAt, Ask, Got, ReadInode, bind}
+use Rattle.disk_definitions.specs.Walks.{Spot, Walked, walk}
+use Rattle.disk_definitions.specs.Walks.Spot.{AtRoot, AtName, AtGap, Lost}
+use Rattle.disk_definitions.specs.Plans.{Hand, Plan, Finish, Room, refused, read_held, find_room, is_full}
+use Rattle.disk_definitions.specs.Plans.Plan.{Finishes}
+use Rattle.disk_definitions.specs.Plans.Room.{Inside, InBlock, NoRoom}
+use Rattle.disk_definitions.specs.NamePlans.{made_by, making_in, making_with, making, plan_made, linked_by, linking_in, linking_node, linking_to, linking, plan_linked, fewer_segments, finish_over, removed_by, unlinking_node, unlinking, plan_unlinked, removing_node, removing, plan_dir_removed, Moving, moved_onto_by, replacing_node, moving_onto, moved_within, moved_between, moving_in, moving_to, goes_through, renaming_to, renaming, plan_renamed}
 use Rattle.plan_laws.proofs.Covering.{has_more}
-use Rattle.plan_covers.proofs.Standing.{HasKind, DiskStands}
-use Rattle.plan_covers.proofs.WalksFine.{SpotStands}
+use Rattle.plan_laws.proofs.Standing.{HasKind, DiskStands}
+use Rattle.plan_laws.proofs.WalksFine.{SpotStands}
 use Rattle.cover_laws.proofs.Tells.{tells_segments}
 use Rattle.cover_laws.proofs.WalksTold.{Ends, IsRoomTold, AreSeen, room_then, finish_told, held_told, walk_then}
 

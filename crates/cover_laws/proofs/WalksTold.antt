@@ -5,20 +5,20 @@ use Rattle.std.specs.Map.{keys_of}
 use Rattle.frang_base.specs.declared.reply.Reply.TheVariants as reply
 use Rattle.disk_definitions.specs.Store.{Store, StoredNode, StoredEntry}
 use Rattle.disk_definitions.specs.Naming.{Naming}
-use Rattle.pick_definitions.specs.Held.{Segments, state_in}
-use Rattle.pick_definitions.specs.Least.{least}
-use Rattle.pick_definitions.specs.Picks.{is_in_state, or_else, least_in_state, picked_directory}
-use Rattle.pick_definitions.proofs.PickLaws.{in_state, is_state}
-use Rattle.plan_definitions.specs.Ask.{Sector, InodeAt, DirectoryAt, Ask, Got, ReadInode, ReadDirectory, bind, seven, run}
-use Rattle.plan_definitions.specs.Walks.{Spot, Walked, Found, or_on, hit, search, is_named, is_vacant, spot_by, look_up, in_inode, onward, walk_from, walk}
-use Rattle.plan_definitions.specs.Walks.Spot.{AtRoot, AtName, AtGap, Lost}
-use Rattle.plan_definitions.specs.Plans.{Hand, Plan, Finish, Room, read_held, room_in, room_at, find_room, finish_in, must_clear}
-use Rattle.plan_definitions.specs.Plans.Plan.{Clears, Finishes}
-use Rattle.plan_definitions.specs.Plans.Room.{Inside, InBlock, NoRoom}
+use Rattle.disk_definitions.specs.Held.{Segments, state_in}
+use Rattle.disk_definitions.specs.Least.{least}
+use Rattle.disk_definitions.specs.Picks.{is_in_state, or_else, least_in_state, picked_directory}
+use Rattle.disk_definitions.proofs.PickLaws.{in_state, is_state}
+use Rattle.disk_definitions.specs.Ask.{Sector, InodeAt, DirectoryAt, Ask, Got, ReadInode, ReadDirectory, bind, seven, run}
+use Rattle.disk_definitions.specs.Walks.{Spot, Walked, Found, or_on, hit, search, is_named, is_vacant, spot_by, look_up, in_inode, onward, walk_from, walk}
+use Rattle.disk_definitions.specs.Walks.Spot.{AtRoot, AtName, AtGap, Lost}
+use Rattle.disk_definitions.specs.Plans.{Hand, Plan, Finish, Room, read_held, room_in, room_at, find_room, finish_in, must_clear}
+use Rattle.disk_definitions.specs.Plans.Plan.{Clears, Finishes}
+use Rattle.disk_definitions.specs.Plans.Room.{Inside, InBlock, NoRoom}
 use Rattle.plan_laws.proofs.Covering.{has_head, has_more, not_in_none, has_cases}
-use Rattle.plan_covers.proofs.Standing.{HasKind, DiskStands}
-use Rattle.plan_covers.proofs.WalksFine.{either, kind_two, SpotStands, step_stands, walk_stands}
-use Rattle.plan_moves.specs.CoversAtHand.{is_marked_unused}
+use Rattle.plan_laws.proofs.Standing.{HasKind, DiskStands}
+use Rattle.plan_laws.proofs.WalksFine.{either, kind_two, SpotStands, step_stands, walk_stands}
+use Rattle.plan_laws.specs.CoversAtHand.{is_marked_unused}
 use Rattle.cover_laws.proofs.Tells.{Among, same_among, more_among, Tells, Told, tells_then, tells_value, tells_segments}
 
 -- a block that is picked for a directory is marked as one that nobody uses

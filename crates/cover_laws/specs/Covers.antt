@@ -4,15 +4,15 @@ use Rattle.std.specs.List.{Contains}
 use Rattle.frang_base.specs.declared.op.Op.{Op}
 use Rattle.tree_definitions.specs.Tree.{FileTree}
 use Rattle.sector_bytes.specs.Sectors.{Sectors}
-use Rattle.pick_definitions.specs.Held.{Segments}
-use Rattle.plan_definitions.specs.Ask.{Ask, AtHand, Sector}
-use Rattle.plan_definitions.specs.Ask.Met.{Needs}
-use Rattle.plan_definitions.specs.OnDisk.{AreOfDisk, StandsBelow}
-use Rattle.plan_definitions.specs.Written.{Cached, at_hand, hand_of}
-use Rattle.plan_covers.specs.Covers.{cover_of}
-use Rattle.plan_traces.specs.Traces.{traced}
-use Rattle.line_definitions.specs.Lines.{plan_of_line}
-use Rattle.plan_moves.specs.CoversAtHand.{cover_at_hand}
+use Rattle.disk_definitions.specs.Held.{Segments}
+use Rattle.disk_definitions.specs.Ask.{Ask, AtHand, Sector}
+use Rattle.disk_definitions.specs.Ask.Met.{Needs}
+use Rattle.disk_definitions.specs.OnDisk.{AreOfDisk, StandsBelow}
+use Rattle.disk_definitions.specs.Written.{Cached, at_hand, hand_of}
+use Rattle.plan_laws.specs.Covers.{cover_of}
+use Rattle.plan_laws.specs.Traces.{traced}
+use Rattle.disk_definitions.specs.Lines.{plan_of_line}
+use Rattle.plan_laws.specs.CoversAtHand.{cover_at_hand}
 
 -- the computation looks at the sector, which is at hand, or needs it
 abbrev pub AsksFor : {A : Type 0} → Ask A → AtHand → Sector → Type 0

@@ -5,13 +5,13 @@ use Rattle.frang_base.specs.declared.op.Op.{Op}
 use Rattle.tree_definitions.specs.Tree.{FileTree}
 use Rattle.disk_definitions.specs.Naming.{Naming}
 use Rattle.disk_definitions.specs.Store.{Store, StoredNode}
-use Rattle.pick_definitions.specs.Held.{Segments, inode_in}
-use Rattle.plan_definitions.specs.Ask.{Sector, InodeAt, DirectoryAt, SegmentAt, BytesAt, LargeAt, looks}
-use Rattle.plan_definitions.specs.Meets.{IsOfTree, IsHandOf}
-use Rattle.plan_definitions.specs.Plans.{Hand}
-use Rattle.plan_moves.specs.Moves.{HasSmall, HasLarge}
-use Rattle.line_definitions.specs.Lines.{plan_of_line}
-use Rattle.plan_moves.specs.CoversAtHand.{is_marked_unused}
+use Rattle.disk_definitions.specs.Held.{Segments, inode_in}
+use Rattle.disk_definitions.specs.Ask.{Sector, InodeAt, DirectoryAt, SegmentAt, BytesAt, LargeAt, looks}
+use Rattle.disk_definitions.specs.Meets.{IsOfTree, IsHandOf}
+use Rattle.disk_definitions.specs.Plans.{Hand}
+use Rattle.plan_laws.specs.Moves.{HasSmall, HasLarge}
+use Rattle.disk_definitions.specs.Lines.{plan_of_line}
+use Rattle.plan_laws.specs.CoversAtHand.{is_marked_unused}
 
 -- the inode is in use, or a held segment has it free
 abbrev pub IsInodeTold : Store → Segments → ℕ → Type 0

@@ -1,10 +1,10 @@
 -- What is read of an inode is what is at hand of it.
 use Rattle.std.proofs.Common.{◌≡◌, ℕ, Option, Some, None, refl, sym, ap}
 use Rattle.disk_definitions.specs.Store.{StoredNode}
-use Rattle.pick_definitions.specs.Held.{Segments}
-use Rattle.plan_definitions.specs.Ask.{Got, InodeAt, ReadInode, or_needs}
-use Rattle.plan_definitions.specs.Ask.Met.{Has}
-use Rattle.plan_definitions.specs.Written.{Cached, inode_at_hand}
+use Rattle.disk_definitions.specs.Held.{Segments}
+use Rattle.disk_definitions.specs.Ask.{Got, InodeAt, ReadInode, or_needs}
+use Rattle.disk_definitions.specs.Ask.Met.{Has}
+use Rattle.disk_definitions.specs.Written.{Cached, inode_at_hand}
 use Rattle.dir_lookup.specs.Reading.{Lacks, Gives, numbered, reading}
 
 by_read : (i : ℕ) (x : Option StoredNode) (o : Option (Option StoredNode)) → Gives x ≡ numbered (or_needs (InodeAt i) o (λ said. Has said)) → o ≡ Some x

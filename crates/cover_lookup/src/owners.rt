@@ -1,8 +1,8 @@
 // The nodes at hand that have a block.
 ghost use Rattle.std.specs.Prelude.{◌≡◌, ◌≤◌};
 ghost use Rattle.frang_base.specs.declared.limits.TheConstants.{SEGMENTS_MAX};
-ghost use Rattle.plan_definitions.specs.Written.{inode_at_hand};
-ghost use Rattle.plan_moves.specs.CoversAtHand as covers;
+ghost use Rattle.disk_definitions.specs.Written.{inode_at_hand};
+ghost use Rattle.plan_laws.specs.CoversAtHand as covers;
 
 use dir_lookup::{Looked, inode_at};
 use edit_moves::{has_large, has_small};

@@ -2,10 +2,10 @@
 use Rattle.std.proofs.Common.{◌≡◌, ◌*◌, List, [], ◌∷◌, length, arith, length-append}
 use Rattle.std.specs.List.{flat_map}
 use Rattle.dir_block.specs.Fields.{EntriesFill, FillsItsFields}
-use Rattle.sector_definitions.specs.declared.directory.DirEntry.{DirEntry}
-use Rattle.sector_definitions.specs.declared.directory.DirSector.{DirSector}
-use Rattle.sector_definitions.specs.Directories.{entry_bytes, directory_bytes}
-use Rattle.sector_definitions.proofs.DirectoryLaws.{AreStorable, IsStorableSector, length_of_entry}
+use Rattle.disk_definitions.specs.declared.directory.DirEntry.{DirEntry}
+use Rattle.disk_definitions.specs.declared.directory.DirSector.{DirSector}
+use Rattle.disk_definitions.specs.Directories.{entry_bytes, directory_bytes}
+use Rattle.disk_definitions.proofs.DirectoryLaws.{AreStorable, IsStorableSector, length_of_entry}
 
 entries_storable : (es : List DirEntry) → EntriesFill es → AreStorable es
 entries_storable [] h = tt

@@ -1,8 +1,8 @@
 -- What the fields of a sector of a directory hold.
 use Rattle.std.specs.Prelude.{◌≡◌, ◌<◌, ◌^◌, List, [], ◌∷◌, length}
 use Rattle.frang_base.specs.declared.limits.TheConstants.{NAME_BYTES_MAX}
-use Rattle.sector_definitions.specs.declared.directory.DirEntry.{DirEntry}
-use Rattle.sector_definitions.specs.declared.directory.DirSector.{DirSector}
+use Rattle.disk_definitions.specs.declared.directory.DirEntry.{DirEntry}
+use Rattle.disk_definitions.specs.declared.directory.DirSector.{DirSector}
 
 -- the inode's number fits its field, and the name has its length
 abbrev pub EntriesFill : List DirEntry → Type 0

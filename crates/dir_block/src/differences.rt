@@ -1,12 +1,12 @@
 // What a change of a directory has to put into its sector.
 ghost use Rattle.std.specs.Prelude.{◌≡◌, IfOk, IsTrue};
-ghost use Rattle.sector_definitions.specs.Directories.{directory_bytes, directory_fits};
+ghost use Rattle.disk_definitions.specs.Directories.{directory_bytes, directory_fits};
 ghost use Rattle.sector_bytes.specs.Patches.{patches_of};
 
 use crate::writing::block_of;
 use block_patches::patches_of;
+use disk_definitions::DirSector;
 use frang_base::{NoMemory, Patches};
-use sector_definitions::DirSector;
 use std::alloc::Global;
 
 /// The longest runs of bytes, from byte 8 on, in which two sectors of directories differ, ascending. The version, in the first 8

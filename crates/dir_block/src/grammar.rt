@@ -2,13 +2,13 @@
 ghost use Rattle.std.specs.Prelude.{◌≡◌, ◌≤◌, ◌&&◌, drop};
 ghost use Rattle.frang_base.specs.Name.{is_name};
 ghost use Rattle.sector_bytes.specs.Bytes as zero;
-ghost use Rattle.sector_definitions.specs.Directories as spec;
-ghost use Rattle.sector_definitions.specs.Directories.{directory_fits, name_in};
+ghost use Rattle.disk_definitions.specs.Directories as spec;
+ghost use Rattle.disk_definitions.specs.Directories.{directory_fits, name_in};
 
+use disk_definitions::{DirEntry, DirSector};
 use frang_base::Name;
 use frang_base::limits::{KIND_FILE, KIND_LINK, NAME_BYTES_MAX};
 use sector_bytes::are_zero;
-use sector_definitions::{DirEntry, DirSector};
 
 /// Whether each place of the sector is free or has an entry in the grammar.
 pub(crate) fn fits(sector: &DirSector) -> bool

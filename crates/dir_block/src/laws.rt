@@ -4,9 +4,9 @@ ghost use Rattle.sector_bytes.specs.Changes.{changed};
 ghost use Rattle.sector_bytes.specs.Blocks.{patched};
 ghost use Rattle.frang_base.specs.declared.change.Change.{Change};
 ghost use Rattle.dir_block.specs.Fields.{FillsItsFields};
-ghost use Rattle.sector_definitions.specs.Directories.{directory_bytes, directory_fits, directory_in, IsDirectorySector};
+ghost use Rattle.disk_definitions.specs.Directories.{directory_bytes, directory_fits, directory_in, IsDirectorySector};
 ghost use Rattle.sector_bytes.specs.Patches.{patches_of};
-ghost use Rattle.sector_definitions.specs.declared.directory.DirSector.{DirSector};
+ghost use Rattle.disk_definitions.specs.declared.directory.DirSector.{DirSector};
 
 /// What was written of a sector reads back, a block is the sector of what it is read as, what a block is the sector of it is read as,
 /// and no block is the sector of two.

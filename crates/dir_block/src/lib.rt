@@ -12,10 +12,10 @@ mod reading;
 mod writing;
 
 pub use differences::patches;
+pub use disk_definitions::{DirEntry, DirSector};
 pub use laws::{patches_make_the_new_sector, what_is_written_reads_back};
 pub use names::find;
 pub use reading::{decode, fields};
-pub use sector_definitions::{DirEntry, DirSector};
 pub use writing::encode;
 
 // The places for entries in a sector, as a length of lists.

@@ -1,11 +1,11 @@
 // Where a name stands in a sector.
 ghost use Rattle.std.specs.Prelude.{◌≡◌};
-ghost use Rattle.sector_definitions.specs.Directories.{name_in, place_of_name};
+ghost use Rattle.disk_definitions.specs.Directories.{name_in, place_of_name};
 
 use crate::PLACES;
+use disk_definitions::{DirEntry, DirSector};
 use frang_base::Name;
 use frang_base::limits::NAME_BYTES_MAX;
-use sector_definitions::{DirEntry, DirSector};
 
 /// The place of the first entry of this name, 0 to 6. `None` exactly where there is none.
 pub fn find(sector: &DirSector, name: &Name) -> Option<u8>

@@ -1,14 +1,14 @@
 // Sectors of directories from their bytes.
 ghost use Rattle.std.specs.Prelude.{◌≡◌, ◌≤◌, length, IfSome, IsTrue};
-ghost use Rattle.sector_definitions.specs.Directories.{directory_fields, directory_fits, directory_in, entries_in, entry_fields};
+ghost use Rattle.disk_definitions.specs.Directories.{directory_fields, directory_fits, directory_in, entries_in, entry_fields};
 
 use crate::grammar::fits;
 use crate::writing::block_of;
 use crate::{PLACE_BYTES, PLACES};
 use byteorder::{ByteOrder, LittleEndian};
+use disk_definitions::{DirEntry, DirSector};
 use frang_base::Block;
 use frang_base::limits::{KIND_FREE, NAME_BYTES_MAX, VERSION_BYTES};
-use sector_definitions::{DirEntry, DirSector};
 
 /// The sector of a directory that the block is. `None` exactly where it is none.
 pub fn decode(from: &Block) -> Option<DirSector>

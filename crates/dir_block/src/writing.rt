@@ -1,13 +1,13 @@
 // Sectors of directories as bytes.
 ghost use Rattle.std.specs.Prelude.{◌≡◌, length};
 ghost use Rattle.std.specs.List.{flat_map};
-ghost use Rattle.sector_definitions.specs.Directories.{directory_bytes, entry_bytes};
+ghost use Rattle.disk_definitions.specs.Directories.{directory_bytes, entry_bytes};
 
 use crate::{PLACE_BYTES, PLACES};
 use byteorder::{ByteOrder, LittleEndian};
+use disk_definitions::{DirEntry, DirSector};
 use frang_base::Block;
 use frang_base::limits::{SECTOR_BYTES, VERSION_BYTES};
-use sector_definitions::{DirEntry, DirSector};
 
 /// Makes the block this sector of a directory. Any value has bytes; those of one in the grammar read back.
 pub fn encode(value: &DirSector, to: &mut Block)

@@ -3,16 +3,16 @@ use Rattle.std.proofs.Common.{◌==◌, ◌≡◌, ℕ, zero, suc, ◌*◌, ◌�
 use Rattle.std.proofs.Math.Path.{fun_ext}
 use Rattle.std.specs.List.{slice_get, list_all}
 use Rattle.std.proofs.lemmas.Bool.{and_parts, or_cases, both_ways}
-use Rattle.sector_definitions.specs.declared.inode.Inode.{Inode}
-use Rattle.sector_definitions.specs.declared.directory.DirEntry.{DirEntry}
-use Rattle.sector_definitions.specs.declared.directory.DirSector.{DirSector}
-use Rattle.sector_definitions.specs.Inodes.{is_free_inode, is_file_inode, is_directory_inode, is_link_inode, inode_fits, inode_in}
-use Rattle.sector_definitions.specs.Directories.{is_free_place, is_used_place, entry_fits, name_in, directory_fits}
+use Rattle.disk_definitions.specs.declared.inode.Inode.{Inode}
+use Rattle.disk_definitions.specs.declared.directory.DirEntry.{DirEntry}
+use Rattle.disk_definitions.specs.declared.directory.DirSector.{DirSector}
+use Rattle.disk_definitions.specs.Inodes.{is_free_inode, is_file_inode, is_directory_inode, is_link_inode, inode_fits, inode_in}
+use Rattle.disk_definitions.specs.Directories.{is_free_place, is_used_place, entry_fits, name_in, directory_fits}
 use Rattle.frang_base.specs.Name.{is_name}
 use Rattle.tree_definitions.specs.Tree.{small_blocks_of}
-use Rattle.sector_definitions.proofs.Readings.{and_l, and_r}
-use Rattle.sector_definitions.proofs.InodeLaws.{inode_read, few_blocks}
-use Rattle.sector_definitions.proofs.DirectoryPlaces.{free_place, entry_of_list}
+use Rattle.disk_definitions.proofs.Readings.{and_l, and_r}
+use Rattle.disk_definitions.proofs.InodeLaws.{inode_read, few_blocks}
+use Rattle.disk_definitions.proofs.DirectoryPlaces.{free_place, entry_of_list}
 use Rattle.disk_definitions.specs.Store.{stored_node, stored_entry, entry_in, stored, entered}
 use Rattle.dir_lookup.specs.Stored.{IsUsed, entries_at}
 

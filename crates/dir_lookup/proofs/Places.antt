@@ -3,15 +3,15 @@ use Rattle.std.proofs.Common.{◌≡◌, ◌==◌, ℕ, suc, ◌+◌, ◌*◌, �
 use Rattle.std.specs.List.{slice_get}
 use Rattle.std.specs.Option.{option_map}
 use Rattle.frang_base.specs.Name.{is_name}
-use Rattle.sector_definitions.specs.declared.directory.DirEntry.{DirEntry}
-use Rattle.sector_definitions.specs.declared.directory.DirSector.{DirSector}
+use Rattle.disk_definitions.specs.declared.directory.DirEntry.{DirEntry}
+use Rattle.disk_definitions.specs.declared.directory.DirSector.{DirSector}
 use Rattle.std.specs.Str.{bytes_eq}
-use Rattle.sector_definitions.specs.Directories.{name_in, is_free_place, place_of_name}
-use Rattle.sector_definitions.proofs.Readings.{and_l, and_r}
+use Rattle.disk_definitions.specs.Directories.{name_in, is_free_place, place_of_name}
+use Rattle.disk_definitions.proofs.Readings.{and_l, and_r}
 use Rattle.disk_definitions.specs.Store.{StoredEntry, stored_entry, entered}
-use Rattle.pick_definitions.specs.Least.{least, least_from}
-use Rattle.pick_definitions.proofs.LeastLaws.{from_here, from_next, from_none, least_below, least_some}
-use Rattle.plan_definitions.specs.Walks.{Found, hit, is_named, is_vacant}
+use Rattle.disk_definitions.specs.Least.{least, least_from}
+use Rattle.disk_definitions.proofs.LeastLaws.{from_here, from_next, from_none, least_below, least_some}
+use Rattle.disk_definitions.specs.Walks.{Found, hit, is_named, is_vacant}
 use Rattle.dir_lookup.specs.Stored.{entries_at}
 
 -- ---- names

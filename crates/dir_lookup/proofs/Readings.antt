@@ -1,14 +1,14 @@
 -- How readings of cached sectors go on from one to the next.
 use Rattle.std.proofs.Common.{◌≡◌, ℕ, Bool, true, false, cond, Option, Some, None, List, refl, ap, subst}
-use Rattle.sector_definitions.specs.declared.region.Region.TheVariants as region
-use Rattle.sector_definitions.specs.Regions.{sector_of}
-use Rattle.sector_definitions.specs.Inodes.{inode_in}
-use Rattle.sector_definitions.specs.Directories.{directory_in}
+use Rattle.disk_definitions.specs.declared.region.Region.TheVariants as region
+use Rattle.disk_definitions.specs.Regions.{sector_of}
+use Rattle.disk_definitions.specs.Inodes.{inode_in}
+use Rattle.disk_definitions.specs.Directories.{directory_in}
 use Rattle.disk_definitions.specs.Store.{StoredNode, StoredEntry, stored_node, entry_in}
 use Rattle.sector_bytes.specs.SectorMaps.{value_at}
-use Rattle.pick_definitions.specs.Held.{Segments}
-use Rattle.plan_definitions.specs.Ask.{Ask, Got, ReadInode, ReadDirectory, ReadSegment, ReadBytes, ReadLarge, AtHand, Sector, InodeAt, DirectoryAt, SegmentAt, BytesAt, LargeAt, Met, Needs, meet, bind, or_needs}
-use Rattle.plan_definitions.specs.Written.{Cached, at_hand}
+use Rattle.disk_definitions.specs.Held.{Segments}
+use Rattle.disk_definitions.specs.Ask.{Ask, Got, ReadInode, ReadDirectory, ReadSegment, ReadBytes, ReadLarge, AtHand, Sector, InodeAt, DirectoryAt, SegmentAt, BytesAt, LargeAt, Met, Needs, meet, bind, or_needs}
+use Rattle.disk_definitions.specs.Written.{Cached, at_hand}
 use Rattle.dir_lookup.specs.Reading.{Read, Gives, numbered, reading, then_read, read_or_lacks}
 
 -- ---- one program after another

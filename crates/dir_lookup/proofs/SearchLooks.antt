@@ -1,11 +1,11 @@
 -- What a search looked at, sector after sector.
 use Rattle.std.proofs.Common.{◌≡◌, ℕ, suc, ◌+◌, ◌-◌, ◌/◌, ◌%◌, ◌<◌, ◌≤◌, Bool, Option, Some, None, List, [], ◌++◌, append_assoc, append-nil, refl, sym, ap, ◌∙◌, arith}
 use Rattle.disk_definitions.specs.Store.{StoredEntry}
-use Rattle.pick_definitions.specs.Held.{Segments}
-use Rattle.pick_definitions.specs.Least.{least}
-use Rattle.plan_definitions.specs.Ask.{Ask, Got, ReadDirectory}
-use Rattle.plan_definitions.specs.Walks.{Found, hit, or_on, search}
-use Rattle.plan_definitions.specs.Written.{Cached}
+use Rattle.disk_definitions.specs.Held.{Segments}
+use Rattle.disk_definitions.specs.Least.{least}
+use Rattle.disk_definitions.specs.Ask.{Ask, Got, ReadDirectory}
+use Rattle.disk_definitions.specs.Walks.{Found, hit, or_on, search}
+use Rattle.disk_definitions.specs.Written.{Cached}
 use Rattle.dir_lookup.specs.Looked.{Adds}
 use Rattle.dir_lookup.specs.Looks.{looks_of}
 use Rattle.dir_lookup.specs.Reading.{Lacks, Gives, reading}

@@ -1,11 +1,11 @@
 -- One step of a search through the sectors of a directory.
 use Rattle.std.proofs.Common.{◌≡◌, ℕ, suc, ◌+◌, ◌-◌, ◌/◌, ◌%◌, ◌<◌, ◌≤◌, Bool, Option, Some, None, sym, ap, ◌∙◌, arith}
 use Rattle.disk_definitions.specs.Store.{StoredEntry}
-use Rattle.pick_definitions.specs.Held.{Segments}
-use Rattle.pick_definitions.specs.Least.{least}
-use Rattle.plan_definitions.specs.Ask.{Ask, Got, ReadDirectory, bind}
-use Rattle.plan_definitions.specs.Walks.{Found, hit, or_on, search}
-use Rattle.plan_definitions.specs.Written.{Cached}
+use Rattle.disk_definitions.specs.Held.{Segments}
+use Rattle.disk_definitions.specs.Least.{least}
+use Rattle.disk_definitions.specs.Ask.{Ask, Got, ReadDirectory, bind}
+use Rattle.disk_definitions.specs.Walks.{Found, hit, or_on, search}
+use Rattle.disk_definitions.specs.Written.{Cached}
 use Rattle.dir_lookup.specs.Reading.{Read, Lacks, Gives, reading, then_read}
 use Rattle.dir_lookup.proofs.Readings.{reading_bind}
 

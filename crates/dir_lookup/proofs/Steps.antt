@@ -4,10 +4,10 @@ use Rattle.std.proofs.lemmas.List.{take_all}
 use Rattle.frang_base.specs.declared.reply.Reply.{Reply}
 use Rattle.frang_base.specs.declared.reply.Reply.TheVariants as reply
 use Rattle.disk_definitions.specs.Store.{StoredNode}
-use Rattle.pick_definitions.specs.Held.{Segments}
-use Rattle.plan_definitions.specs.Ask.{Ask, Got, ReadInode}
-use Rattle.plan_definitions.specs.Walks.{Found, Spot, AtRoot, AtName, AtGap, Lost, Walked, search, is_named, spot_by, look_up, in_inode, onward}
-use Rattle.plan_definitions.specs.Written.{Cached}
+use Rattle.disk_definitions.specs.Held.{Segments}
+use Rattle.disk_definitions.specs.Ask.{Ask, Got, ReadInode}
+use Rattle.disk_definitions.specs.Walks.{Found, Spot, AtRoot, AtName, AtGap, Lost, Walked, search, is_named, spot_by, look_up, in_inode, onward}
+use Rattle.disk_definitions.specs.Written.{Cached}
 use Rattle.dir_lookup.specs.declared.need.Need.{Need}
 use Rattle.dir_lookup.specs.Reading.{Read, Lacks, Gives, reading, then_read, read_of}
 use Rattle.dir_lookup.specs.Spots.{leads}

@@ -3,10 +3,10 @@ use Rattle.std.proofs.Common.{◌≡◌, ◌==◌, ◌*◌, ℕ, Bool, true, fal
 use Rattle.frang_base.specs.declared.reply.Reply.{Reply}
 use Rattle.frang_base.specs.declared.reply.Reply.TheVariants as reply
 use Rattle.disk_definitions.specs.Store.{StoredNode}
-use Rattle.pick_definitions.specs.Held.{Segments}
-use Rattle.plan_definitions.specs.Ask.{Ask, Got, ReadInode, bind}
-use Rattle.plan_definitions.specs.Walks.{Spot, Lost, Found, Walked, in_inode, is_named, look_up, onward, search, spot_by, walk_from}
-use Rattle.plan_definitions.specs.Written.{Cached}
+use Rattle.disk_definitions.specs.Held.{Segments}
+use Rattle.disk_definitions.specs.Ask.{Ask, Got, ReadInode, bind}
+use Rattle.disk_definitions.specs.Walks.{Spot, Lost, Found, Walked, in_inode, is_named, look_up, onward, search, spot_by, walk_from}
+use Rattle.disk_definitions.specs.Written.{Cached}
 use Rattle.dir_lookup.specs.Looks.{looks_of}
 use Rattle.dir_lookup.specs.Reading.{Read, Lacks, Gives, reading}
 use Rattle.dir_lookup.specs.Spots.{leads, looked_in, walked_in}

@@ -1,7 +1,7 @@
 -- What the code's plans have at hand, in the definitions of plans.
-use Rattle.plan_definitions.specs.Ask.{Ask}
-use Rattle.plan_definitions.specs.Plans.{Hand}
-use Rattle.plan_definitions.specs.Written.{hand_of}
+use Rattle.disk_definitions.specs.Ask.{Ask}
+use Rattle.disk_definitions.specs.Plans.{Hand}
+use Rattle.disk_definitions.specs.Written.{hand_of}
 use Rattle.dir_lookup.specs.declared.hand.Hand.{Hand as CodeHand}
 use Rattle.dir_lookup.specs.Reading.{Read, reading}
 

@@ -1,8 +1,8 @@
 -- Where the walk of names leads, and which directories it looks in.
 use Rattle.std.specs.Prelude.{◌≡◌, ℕ, Bool, Result, Ok, Err, List, ◌++◌}
-use Rattle.pick_definitions.specs.Held.{Segments}
-use Rattle.plan_definitions.specs.Walks.{walk_from}
-use Rattle.plan_definitions.specs.Written.{Cached}
+use Rattle.disk_definitions.specs.Held.{Segments}
+use Rattle.disk_definitions.specs.Walks.{walk_from}
+use Rattle.disk_definitions.specs.Written.{Cached}
 use Rattle.dir_lookup.specs.Reading.{Gives, Lacks, reading}
 use Rattle.dir_lookup.specs.Spots.{has_inode, spot_of}
 use Rattle.dir_lookup.specs.declared.need.Need.{Need}

@@ -3,9 +3,9 @@ use Rattle.std.specs.Prelude.{ℕ, List, map}
 use Rattle.frang_base.specs.declared.sector.Sector.{Sector}
 use Rattle.meta_version.specs.declared.plan.Plan.{Plan as CodePlan}
 use Rattle.meta_version.specs.declared.plan.Plan.TheVariants as plan
-use Rattle.pick_definitions.specs.Held.{Segments}
-use Rattle.plan_definitions.specs.Plans.{Plan, Lacks as LacksSegments, Clears, Finishes}
-use Rattle.plan_definitions.specs.Written.{Cached, sectors_at_hand, changes_of, byte_writes, freed_sectors}
+use Rattle.disk_definitions.specs.Held.{Segments}
+use Rattle.disk_definitions.specs.Plans.{Plan, Lacks as LacksSegments, Clears, Finishes}
+use Rattle.disk_definitions.specs.Written.{Cached, sectors_at_hand, changes_of, byte_writes, freed_sectors}
 use Rattle.dir_lookup.specs.Reading.{Read, Lacks, Gives}
 
 abbrev pub sector_by : ℕ → Sector

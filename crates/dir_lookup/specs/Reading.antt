@@ -1,9 +1,9 @@
 -- What reading of cached sectors comes to: a value, or the number of the first sector that is needed and isn't cached.
 use Rattle.std.specs.Prelude.{◌≡◌, ℕ, Option, Some, None, Result, Ok, Err}
-use Rattle.pick_definitions.specs.Held.{Segments}
-use Rattle.plan_definitions.specs.Ask.{Ask, Met, meet, number_of}
-use Rattle.plan_definitions.specs.Ask.Met.{Needs, Has}
-use Rattle.plan_definitions.specs.Written.{Cached, at_hand}
+use Rattle.disk_definitions.specs.Held.{Segments}
+use Rattle.disk_definitions.specs.Ask.{Ask, Met, meet, number_of}
+use Rattle.disk_definitions.specs.Ask.Met.{Needs, Has}
+use Rattle.disk_definitions.specs.Written.{Cached, at_hand}
 use Rattle.dir_lookup.specs.declared.need.Need.{Need}
 
 pub data Read (A : Type 0) : Type 0 where

@@ -4,8 +4,8 @@ use Rattle.std.specs.List.{list_any}
 use Rattle.frang_base.specs.declared.reply.Reply.{Reply}
 use Rattle.frang_base.specs.declared.reply.Reply.TheVariants as reply
 use Rattle.disk_definitions.specs.Store.{stored, entered}
-use Rattle.plan_definitions.specs.Walks.{Spot, AtRoot, AtName, AtGap, Lost, Walked}
-use Rattle.plan_definitions.specs.Walks as walks
+use Rattle.disk_definitions.specs.Walks.{Spot, AtRoot, AtName, AtGap, Lost, Walked}
+use Rattle.disk_definitions.specs.Walks as walks
 use Rattle.dir_lookup.specs.declared.search.Found.{Found}
 use Rattle.dir_lookup.specs.declared.spot.Refusal.{Refusal}
 use Rattle.dir_lookup.specs.declared.spot.Refusal.TheVariants as refusal

@@ -2,11 +2,11 @@
 use Rattle.std.specs.Prelude.{◌≡◌, ◌≤◌, ℕ, true, Option, Some}
 use Rattle.frang_base.specs.declared.limits.TheConstants.{FILE_BYTES_MAX, INODE_BLOCKS_MAX, KIND_FILE, KIND_LINK, NAME_BYTES_MAX, TARGET_BYTES_MAX}
 use Rattle.frang_base.specs.Name.{is_name}
-use Rattle.sector_definitions.specs.declared.inode.Inode.{Inode}
-use Rattle.sector_definitions.specs.declared.directory.DirEntry.{DirEntry}
-use Rattle.sector_definitions.specs.declared.directory.DirSector.{DirSector}
-use Rattle.sector_definitions.specs.Directories.{name_in}
-use Rattle.sector_definitions.specs.Inodes.{inode_fits}
+use Rattle.disk_definitions.specs.declared.inode.Inode.{Inode}
+use Rattle.disk_definitions.specs.declared.directory.DirEntry.{DirEntry}
+use Rattle.disk_definitions.specs.declared.directory.DirSector.{DirSector}
+use Rattle.disk_definitions.specs.Directories.{name_in}
+use Rattle.disk_definitions.specs.Inodes.{inode_fits}
 use Rattle.disk_definitions.specs.Store.{StoredEntry, entry_in}
 
 -- the entries of a sector by their places

@@ -2,11 +2,11 @@
 ghost use Rattle.std.specs.Prelude.{◌≡◌, ◌≤◌, ◌<◌, ◌*◌, ◌/◌, ◌%◌, ℕ, IfOk, IfSome, IsTrue, length, slice_index};
 ghost use Rattle.std.specs.Option.{option_map};
 ghost use Rattle.frang_base.specs.declared.limits.TheConstants.{INODE_BLOCKS_MAX, SECTOR_ENTRIES, SMALL_BLOCK_SECTORS, SMALL_SECTORS_MAX};
-ghost use Rattle.pick_definitions.specs.Held.{Segments};
-ghost use Rattle.pick_definitions.specs.Least.{least};
-ghost use Rattle.sector_definitions.specs.Directories.{directory_fits};
-ghost use Rattle.plan_definitions.specs.Ask.{Got, ReadDirectory};
-ghost use Rattle.plan_definitions.specs.Walks.{hit, is_named, is_vacant, search};
+ghost use Rattle.disk_definitions.specs.Held.{Segments};
+ghost use Rattle.disk_definitions.specs.Least.{least};
+ghost use Rattle.disk_definitions.specs.Directories.{directory_fits};
+ghost use Rattle.disk_definitions.specs.Ask.{Got, ReadDirectory};
+ghost use Rattle.disk_definitions.specs.Walks.{hit, is_named, is_vacant, search};
 ghost use Rattle.dir_lookup.specs.Looked.{Adds};
 ghost use Rattle.dir_lookup.specs.Looks.{looks_of};
 ghost use Rattle.dir_lookup.specs.Reading.{Reads};
@@ -16,10 +16,10 @@ ghost use Rattle.dir_lookup.specs.Stored.{entries_at};
 use crate::sectors::entry_at;
 use crate::{Looked, Need, directory_at};
 use dir_block::find;
+use disk_definitions::{DirEntry, DirSector, Inode};
 use frang_base::Name;
 use frang_base::limits::{SECTOR_ENTRIES, SMALL_BLOCK_SECTORS};
 use meta_version::Sectors;
-use sector_definitions::{DirEntry, DirSector, Inode};
 
 /// An entry, and its place in its directory: by block, sector and place, 56 to a block.
 #[derive(Clone, Copy, Debug, PartialEq, Eq)]

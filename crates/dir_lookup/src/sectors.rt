@@ -4,23 +4,23 @@ ghost use Rattle.std.specs.List.{list_all};
 ghost use Rattle.std.specs.Option.{option_map};
 ghost use Rattle.frang_base.specs.declared.limits.TheConstants.{SECTOR_ENTRIES};
 ghost use Rattle.sector_bytes.specs.SectorMaps.{value_at};
-ghost use Rattle.sector_definitions.specs.Directories.{directory_fits, directory_in, is_free_place, name_in};
-ghost use Rattle.sector_definitions.specs.Inodes.{inode_in};
+ghost use Rattle.disk_definitions.specs.Directories.{directory_fits, directory_in, is_free_place, name_in};
+ghost use Rattle.disk_definitions.specs.Inodes.{inode_in};
 ghost use Rattle.disk_definitions.specs.Store.{stored_node, entry_in, stored, entered};
-ghost use Rattle.pick_definitions.specs.Held.{Segments};
-ghost use Rattle.plan_definitions.specs.Ask.{Got, ReadInode, ReadDirectory};
+ghost use Rattle.disk_definitions.specs.Held.{Segments};
+ghost use Rattle.disk_definitions.specs.Ask.{Got, ReadInode, ReadDirectory};
 ghost use Rattle.dir_lookup.specs.Looked.{Adds};
 ghost use Rattle.dir_lookup.specs.Looks.{looks_of};
 ghost use Rattle.dir_lookup.specs.Reading.{Reads, read_of, read_or_lacks};
 ghost use Rattle.dir_lookup.specs.Stored.{IsProper, IsUsed, entries_at};
 
 use crate::{Looked, Need};
+use disk_definitions::{DirEntry, DirSector, Inode};
 use frang_base::limits::KIND_FREE;
 use frang_base::{Block, Name, Sector};
 use frang_layout::{Region, sector_of};
 use inode_block::decode;
 use meta_version::Sectors;
-use sector_definitions::{DirEntry, DirSector, Inode};
 
 /// The block of a sector. `Need` names the sector where it isn't cached.
 pub fn block_at(sectors: &Sectors, sector: Sector) -> Result<&Block, Need>

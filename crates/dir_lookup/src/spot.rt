@@ -3,8 +3,8 @@ ghost use Rattle.std.specs.Prelude.{◌≡◌};
 ghost use Rattle.dir_lookup.specs.Spots.{reply_of};
 
 use crate::Found;
+use disk_definitions::Inode;
 use frang_base::{Name, Reply};
-use sector_definitions::Inode;
 
 /// Why a walk was refused.
 #[derive(Clone, Copy, Debug, PartialEq, Eq)]

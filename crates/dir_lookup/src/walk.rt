@@ -1,10 +1,10 @@
 // The walk of a path over cached sectors.
 ghost use Rattle.std.specs.Prelude.{◌≡◌, ◌≤◌, ◌||◌, ℕ, Some, List, []};
 ghost use Rattle.frang_base.specs.declared.limits.TheConstants.{INODE_BLOCKS_MAX};
-ghost use Rattle.pick_definitions.specs.Held.{Segments};
+ghost use Rattle.disk_definitions.specs.Held.{Segments};
 ghost use Rattle.disk_definitions.specs.Store.{stored};
-ghost use Rattle.plan_definitions.specs.Ask.{Got, ReadInode, bind};
-ghost use Rattle.plan_definitions.specs.Walks as walks;
+ghost use Rattle.disk_definitions.specs.Ask.{Got, ReadInode, bind};
+ghost use Rattle.disk_definitions.specs.Walks as walks;
 ghost use Rattle.dir_lookup.specs.Looked.{Adds};
 ghost use Rattle.dir_lookup.specs.Looks.{looks_of};
 ghost use Rattle.dir_lookup.specs.Reading.{Reads};

@@ -5,17 +5,17 @@ use Rattle.std.specs.List.Sorted.{IsStrictlySortedBy}
 use Rattle.std.specs.Map.{keys_of}
 use Rattle.std.specs.Ordering.{nat_cmp}
 use Rattle.byteorder.specs.Endian.{little_bytes}
-use Rattle.sector_definitions.specs.declared.param.Param.{Param}
-use Rattle.sector_definitions.specs.declared.region.Region.{Region}
-use Rattle.sector_definitions.specs.declared.region.Region.TheVariants as region
+use Rattle.disk_definitions.specs.declared.param.Param.{Param}
+use Rattle.disk_definitions.specs.declared.region.Region.{Region}
+use Rattle.disk_definitions.specs.declared.region.Region.TheVariants as region
 use Rattle.sector_bytes.specs.Bytes.{number_at, are_zero}
 use Rattle.std.specs.Str.{bytes_eq}
 use Rattle.frang_base.specs.declared.limits.TheConstants.{RUNS_MAX, SECTOR_BYTES}
-use Rattle.sector_definitions.specs.Regions.{region_of}
-use Rattle.sector_definitions.specs.Params.{param_in}
-use Rattle.sector_definitions.specs.LogSectors.{log_sector_in}
-use Rattle.sector_definitions.specs.Bitmaps.{bitmap_in}
-use Rattle.sector_definitions.specs.Inodes.{inode_in}
+use Rattle.disk_definitions.specs.Regions.{region_of}
+use Rattle.disk_definitions.specs.Params.{param_in}
+use Rattle.disk_definitions.specs.LogSectors.{log_sector_in}
+use Rattle.disk_definitions.specs.Bitmaps.{bitmap_in}
+use Rattle.disk_definitions.specs.Inodes.{inode_in}
 use Rattle.sector_bytes.specs.Sectors.{sectors_of}
 use Rattle.disk_definitions.specs.declared.image.ImageFault.{ImageFault}
 use Rattle.disk_definitions.specs.declared.image.ImageFlaw.{ImageFlaw}

@@ -4,12 +4,12 @@ use Rattle.std.specs.Option.{option_and_then}
 use Rattle.frang_base.specs.declared.limits.TheConstants.{RUN_LINES_END, RUN_VERSIONS_MAX, SEGMENT_BLOCKS, SEGMENT_INODES, SMALL_BLOCK_SECTORS}
 use Rattle.tree_definitions.specs.Tree.{FileTree, node_at}
 use Rattle.tree_laws.specs.WellFormed.{IsWellFormed}
-use Rattle.sector_definitions.specs.declared.param.Param.{Param}
-use Rattle.sector_definitions.specs.declared.region.Region.TheVariants as region
+use Rattle.disk_definitions.specs.declared.param.Param.{Param}
+use Rattle.disk_definitions.specs.declared.region.Region.TheVariants as region
 use Rattle.sector_bytes.specs.Blocks.{version_of}
-use Rattle.sector_definitions.specs.Regions.{sector_of}
-use Rattle.sector_definitions.specs.Params.{param_in}
-use Rattle.sector_definitions.specs.Inodes.{inode_in}
+use Rattle.disk_definitions.specs.Regions.{sector_of}
+use Rattle.disk_definitions.specs.Params.{param_in}
+use Rattle.disk_definitions.specs.Inodes.{inode_in}
 use Rattle.sector_bytes.specs.Sectors.{Sectors}
 use Rattle.disk_definitions.specs.Store.{Use, store_of, segment_at, directory_at}
 use Rattle.disk_definitions.specs.Store.Use.{Empty, Entries}

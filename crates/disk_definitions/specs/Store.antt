@@ -4,14 +4,14 @@ use Rattle.std.specs.Prelude.{ℕ, ◌+◌, ◌-◌, ◌*◌, ◌/◌, ◌%◌, 
 use Rattle.std.specs.List.{slice_get}
 use Rattle.frang_base.specs.declared.limits.TheConstants.{KIND_LINK, SECTOR_BYTES, SECTOR_ENTRIES, SEGMENT_BLOCKS, SEGMENT_INODES, SMALL_BLOCK_BYTES, SMALL_BYTES_MAX}
 use Rattle.frang_base.specs.declared.bitmap.Bitmap.{Bitmap}
-use Rattle.sector_definitions.specs.declared.region.Region.TheVariants as region
-use Rattle.sector_definitions.specs.declared.inode.Inode.{Inode}
-use Rattle.sector_definitions.specs.declared.directory.DirEntry.{DirEntry}
-use Rattle.sector_definitions.specs.declared.directory.DirSector.{DirSector}
-use Rattle.sector_definitions.specs.Regions.{sector_of}
-use Rattle.sector_definitions.specs.Inodes.{inode_in, is_free_inode}
-use Rattle.sector_definitions.specs.Directories.{directory_in, is_free_place, name_in}
-use Rattle.sector_definitions.specs.Bitmaps.{bitmap_in, inode_bit, block_state}
+use Rattle.disk_definitions.specs.declared.region.Region.TheVariants as region
+use Rattle.disk_definitions.specs.declared.inode.Inode.{Inode}
+use Rattle.disk_definitions.specs.declared.directory.DirEntry.{DirEntry}
+use Rattle.disk_definitions.specs.declared.directory.DirSector.{DirSector}
+use Rattle.disk_definitions.specs.Regions.{sector_of}
+use Rattle.disk_definitions.specs.Inodes.{inode_in, is_free_inode}
+use Rattle.disk_definitions.specs.Directories.{directory_in, is_free_place, name_in}
+use Rattle.disk_definitions.specs.Bitmaps.{bitmap_in, inode_bit, block_state}
 use Rattle.sector_bytes.specs.Sectors.{Sectors}
 
 -- an inode in use: its kind is 1 for a file, 2 for a directory, 3 for a link; the first `blocks` of its small blocks are in use; `when` is the time of a

@@ -2,20 +2,20 @@
 use Rattle.std.proofs.Common.{◌==◌, ◌≡◌, ℕ, ◌*◌, ◌/◌, ◌%◌, ◌<◌, ◌≤◌, Bool, true, false, ◌&&◌, ◌||◌, ⊎_elim, Option, Some, None, List, cond, refl, sym, ◌∙◌, ap, nat_lt, nat_le, leb-true, lt-ltb, le-ltb, ne_eqb}
 use Rattle.std.specs.List.{slice_get}
 use Rattle.std.proofs.lemmas.Bool.{or_cases, cond-true, cond-false, and_right, both_ways}
-use Rattle.sector_definitions.specs.declared.inode.Inode.{Inode}
-use Rattle.sector_definitions.specs.declared.directory.DirEntry.{DirEntry}
-use Rattle.sector_definitions.specs.declared.directory.DirSector.{DirSector}
-use Rattle.sector_definitions.specs.declared.region.Region.TheVariants as region
-use Rattle.sector_definitions.specs.Regions.{sector_of}
-use Rattle.sector_definitions.specs.Inodes.{is_free_inode, is_file_inode, is_directory_inode, is_link_inode, inode_fits, inode_in}
-use Rattle.sector_definitions.specs.Directories.{is_free_place, is_used_place, entry_fits, name_in, directory_in}
-use Rattle.sector_definitions.specs.Bitmaps.{bitmap_in, inode_bit, block_state}
+use Rattle.disk_definitions.specs.declared.inode.Inode.{Inode}
+use Rattle.disk_definitions.specs.declared.directory.DirEntry.{DirEntry}
+use Rattle.disk_definitions.specs.declared.directory.DirSector.{DirSector}
+use Rattle.disk_definitions.specs.declared.region.Region.TheVariants as region
+use Rattle.disk_definitions.specs.Regions.{sector_of}
+use Rattle.disk_definitions.specs.Inodes.{is_free_inode, is_file_inode, is_directory_inode, is_link_inode, inode_fits, inode_in}
+use Rattle.disk_definitions.specs.Directories.{is_free_place, is_used_place, entry_fits, name_in, directory_in}
+use Rattle.disk_definitions.specs.Bitmaps.{bitmap_in, inode_bit, block_state}
 use Rattle.frang_base.specs.Name.{is_name}
 use Rattle.frang_base.specs.declared.bitmap.Bitmap.{Bitmap}
-use Rattle.sector_definitions.proofs.Readings.{and_l, and_r}
-use Rattle.sector_definitions.proofs.InodeLaws.{inode_read}
-use Rattle.sector_definitions.proofs.DirectoryLaws.{directory_read}
-use Rattle.sector_definitions.proofs.DirectoryPlaces.{free_place, entry_of_list}
+use Rattle.disk_definitions.proofs.Readings.{and_l, and_r}
+use Rattle.disk_definitions.proofs.InodeLaws.{inode_read}
+use Rattle.disk_definitions.proofs.DirectoryLaws.{directory_read}
+use Rattle.disk_definitions.proofs.DirectoryPlaces.{free_place, entry_of_list}
 use Rattle.bitmap_block.specs.States.{state_number}
 use Rattle.bitmap_block.specs.declared.state.BlockState.{BlockState}
 use Rattle.bitmap_block.specs.declared.state.BlockState.TheVariants as state

@@ -3,7 +3,7 @@ use Rattle.std.proofs.Common.{◌≡◌, ℕ, ◌-◌, ◌<◌, Bool, true, fals
 use Rattle.std.proofs.lemmas.Bool.{cond-true, cond-false, cases_lt, both_ways, false_from_ne_true}
 use Rattle.standing_laws.specs.Below.{all_below}
 use Rattle.standing_laws.proofs.Bounded.{all_at}
-use Rattle.sector_definitions.specs.declared.inode.Inode.{Inode}
+use Rattle.disk_definitions.specs.declared.inode.Inode.{Inode}
 use Rattle.disk_definitions.specs.Store.{Store, StoredNode, stored}
 use Rattle.standing_laws.specs.Soundness.{block_in, is_used_for, use_agrees, large_in}
 

@@ -13,11 +13,11 @@ use Rattle.tree_definitions.specs.Tree.{FileTree, node_at}
 use Rattle.tree_definitions.specs.TreeLines.{path_text, name_below, lines_with, lines_from, tree_lines}
 use Rattle.tree_laws.proofs.Pairs.{birth_exact, length_put}
 use Rattle.file_tree.proofs.EntryLines.{deeper}
-use Rattle.sector_definitions.specs.declared.inode.Inode.{Inode}
-use Rattle.sector_definitions.specs.declared.param.Param.{Param}
-use Rattle.sector_definitions.specs.Inodes.{is_free_inode, is_file_inode, is_directory_inode, is_link_inode, inode_fits}
-use Rattle.sector_definitions.specs.Params.{param_in}
-use Rattle.sector_definitions.proofs.Readings.{and_l, and_r}
+use Rattle.disk_definitions.specs.declared.inode.Inode.{Inode}
+use Rattle.disk_definitions.specs.declared.param.Param.{Param}
+use Rattle.disk_definitions.specs.Inodes.{is_free_inode, is_file_inode, is_directory_inode, is_link_inode, inode_fits}
+use Rattle.disk_definitions.specs.Params.{param_in}
+use Rattle.disk_definitions.proofs.Readings.{and_l, and_r}
 use Rattle.sector_bytes.specs.Sectors.{Sectors}
 use Rattle.disk_definitions.specs.Store.{Store, StoredNode, store_of}
 use Rattle.disk_definitions.specs.Standing.{StandsFor}

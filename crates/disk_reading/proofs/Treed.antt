@@ -8,10 +8,10 @@ use Rattle.tree_definitions.specs.declared.node.Node.TheVariants.{Dir, File, Lin
 use Rattle.tree_definitions.specs.Tree.{FileTree, node_at, count_of, small_blocks, file_blocks, dir_blocks}
 use Rattle.tree_laws.proofs.Pairs.{birth_exact}
 use Rattle.frang_base.specs.Name.{is_target, is_target_byte}
-use Rattle.sector_definitions.specs.declared.param.Param.{Param}
+use Rattle.disk_definitions.specs.declared.param.Param.{Param}
 use Rattle.std.specs.Str.{bytes_eq}
-use Rattle.sector_definitions.specs.Params.{param_in, param_fits, param_fields, param_bytes}
-use Rattle.sector_definitions.proofs.Readings.{and_l, and_r}
+use Rattle.disk_definitions.specs.Params.{param_in, param_fits, param_fields, param_bytes}
+use Rattle.disk_definitions.proofs.Readings.{and_l, and_r}
 use Rattle.sector_bytes.specs.Sectors.{Sectors}
 use Rattle.disk_definitions.specs.Store.{store_of}
 use Rattle.tree_edits.specs.Counts.{IsWithin}

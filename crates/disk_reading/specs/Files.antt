@@ -1,8 +1,8 @@
 -- Where the bytes of a file lie, sector by sector.
 use Rattle.std.specs.Prelude.{◌≡◌, ℕ, ◌-◌, ◌/◌, ◌%◌, true, false, if◌then◌else◌, nat_lt, Option, Some, None}
 use Rattle.frang_base.specs.declared.limits.TheConstants.{SMALL_BLOCK_SECTORS, SMALL_SECTORS_MAX}
-use Rattle.sector_definitions.specs.declared.region.Region.TheVariants as region
-use Rattle.sector_definitions.specs.Regions.{sector_of}
+use Rattle.disk_definitions.specs.declared.region.Region.TheVariants as region
+use Rattle.disk_definitions.specs.Regions.{sector_of}
 use Rattle.tree_definitions.specs.Entries.{Entries}
 use Rattle.disk_definitions.specs.Store.{Store, StoredNode, StoredEntry}
 use Rattle.standing_laws.specs.ReadTree.{entries_to, read_node}

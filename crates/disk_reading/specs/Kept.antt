@@ -1,11 +1,11 @@
 -- What is kept of the sectors of a disk, decoded.
 use Rattle.std.specs.Prelude.{◌≡◌, ◌<◌, ℕ, Option, None, List, length, slice_index_or}
 use Rattle.frang_base.specs.declared.bitmap.Bitmap.{Bitmap}
-use Rattle.sector_definitions.specs.declared.inode.Inode.{Inode}
-use Rattle.sector_definitions.specs.declared.region.Region.TheVariants as region
-use Rattle.sector_definitions.specs.Regions.{sector_of}
-use Rattle.sector_definitions.specs.Bitmaps.{bitmap_in}
-use Rattle.sector_definitions.specs.Inodes.{inode_in}
+use Rattle.disk_definitions.specs.declared.inode.Inode.{Inode}
+use Rattle.disk_definitions.specs.declared.region.Region.TheVariants as region
+use Rattle.disk_definitions.specs.Regions.{sector_of}
+use Rattle.disk_definitions.specs.Bitmaps.{bitmap_in}
+use Rattle.disk_definitions.specs.Inodes.{inode_in}
 use Rattle.sector_bytes.specs.Sectors.{sectors_of}
 
 -- a segment of the bitmap, and an inode, decoded

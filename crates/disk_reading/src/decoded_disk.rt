@@ -3,11 +3,10 @@ ghost use Rattle.std.specs.Prelude.{◌≡◌, ◌≤◌, ◌<◌, None, length,
 ghost use Rattle.sector_bytes.specs.Sectors.{sectors_of};
 ghost use Rattle.disk_reading.specs.Kept.{AreInodes, AreSegments, inode_of, segment_of};
 
-use disk_definitions::Disk;
+use disk_definitions::{Disk, Inode};
 use frang_base::limits::{SEGMENT_INODES, SEGMENTS_MAX};
 use frang_base::{Bitmap, Block, NoMemory, Sector};
 use frang_layout::{Region, sector_of};
-use sector_definitions::Inode;
 use std::alloc::Global;
 use std::marker::Model;
 

@@ -1,18 +1,18 @@
 // The bytes of a file, read sector by sector.
 ghost use Rattle.std.specs.Prelude.{◌≡◌, ◌≤◌, ◌<◌, ◌+◌, ◌*◌, true, min, OnOk, IfOk};
-ghost use Rattle.sector_definitions.specs.Inodes.{is_file_inode};
+ghost use Rattle.disk_definitions.specs.Inodes.{is_file_inode};
 ghost use Rattle.disk_definitions.specs.Store.{stored};
 ghost use Rattle.standing_laws.specs.ReadTree.{byte_at, cells_to};
 ghost use Rattle.disk_reading.specs.Files as files;
 ghost use Rattle.disk_reading.specs.Seen.{store_in};
 
 use crate::decoded_disk::DecodedDisk;
+use disk_definitions::Inode;
 use frang_base::limits::{
     LARGE_BLOCK_SECTORS, SECTOR_BYTES, SEGMENTS_MAX, SMALL_BLOCK_SECTORS, SMALL_SECTORS_MAX,
 };
 use frang_base::{NoMemory, Sector};
 use frang_layout::{Region, sector_of};
-use sector_definitions::Inode;
 use std::alloc::Global;
 use tree_definitions::Cells;
 

@@ -3,7 +3,7 @@ ghost use Rattle.std.specs.Prelude.{◌≡◌, ◌≤◌, ◌*◌, ◌++◌, ◌
 ghost use Rattle.std.specs.Option.{option_map};
 ghost use Rattle.tree_definitions.specs.Tree.{FileTree};
 ghost use Rattle.tree_definitions.specs.TreeLines.{path_text, name_below, lines_from, tree_lines};
-ghost use Rattle.sector_definitions.specs.Inodes.{inode_fits};
+ghost use Rattle.disk_definitions.specs.Inodes.{inode_fits};
 ghost use Rattle.sector_bytes.specs.Sectors.{sectors_of};
 ghost use Rattle.disk_definitions.specs.Store.{stored};
 ghost use Rattle.disk_definitions.specs.Standing.{StandsFor};
@@ -15,10 +15,9 @@ ghost use Rattle.disk_reading.specs.Seen.{store_in};
 use crate::decoded_disk::DecodedDisk;
 use crate::nodes::read_entries;
 use crate::sectors::used_inode;
-use disk_definitions::Disk;
+use disk_definitions::{Disk, Inode};
 use frang_base::limits::{KIND_DIRECTORY, KIND_FILE, ROOT_INODE, SEGMENT_INODES, SEGMENTS_MAX};
 use frang_base::{Name, NoMemory, Said, Sector, Text};
-use sector_definitions::Inode;
 use std::alloc::Global;
 use tree_definitions::Entries;
 

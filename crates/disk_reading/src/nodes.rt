@@ -2,8 +2,8 @@
 ghost use Rattle.std.specs.Prelude.{ℕ, [], ◌≡◌, ◌≢◌, ◌≤◌, ◌<◌, ◌*◌, true, Some, None, if◌then◌else◌, length, take, IfOk, IfSome};
 ghost use Rattle.std.specs.Option.{option_map};
 ghost use Rattle.frang_base.specs.Name.{is_name};
-ghost use Rattle.sector_definitions.specs.Directories.{name_in};
-ghost use Rattle.sector_definitions.specs.Inodes.{is_directory_inode, inode_fits};
+ghost use Rattle.disk_definitions.specs.Directories.{name_in};
+ghost use Rattle.disk_definitions.specs.Inodes.{is_directory_inode, inode_fits};
 ghost use Rattle.disk_definitions.specs.Store.{stored, entered};
 ghost use Rattle.standing_laws.specs.ReadTree.{place_at, with_place, with_inode, nodes_to};
 ghost use Rattle.standing_laws.specs.Below.{all_below};
@@ -14,12 +14,12 @@ ghost use Rattle.disk_reading.specs.Seen.{store_in};
 use crate::decoded_disk::DecodedDisk;
 use crate::files::read_cells;
 use crate::sectors::{entry_at, has_kind, used_inode};
+use disk_definitions::{DirEntry, Inode};
 use frang_base::limits::{
     BLOCK_ENTRIES, DIRECTORY_ENTRIES_MAX, INODE_BLOCKS_MAX, KIND_DIRECTORY, KIND_FILE, KIND_FREE,
     NAME_BYTES_MAX, SEGMENT_INODES, SEGMENTS_MAX, TARGET_BYTES_MAX,
 };
 use frang_base::{Name, NoMemory, Text};
-use sector_definitions::{DirEntry, Inode};
 use std::alloc::Global;
 use std::collections::BTreeMap;
 use tree_definitions::{Entries, Node, Target};

@@ -1,6 +1,6 @@
 // The tree that a disk stands for.
 ghost use Rattle.std.specs.Prelude.{◌≡◌, ◌≤◌, ◌*◌, ◌/◌, ◌%◌, [], true, Some, IfOk};
-ghost use Rattle.sector_definitions.specs.Params.{param_in};
+ghost use Rattle.disk_definitions.specs.Params.{param_in};
 ghost use Rattle.sector_bytes.specs.Sectors.{sectors_of};
 ghost use Rattle.standing_laws.specs.Below.{all_below};
 ghost use Rattle.standing_laws.specs.Soundness as sound;
@@ -14,13 +14,12 @@ use crate::marks::marks_agree;
 use crate::nodes::add_nodes;
 use crate::owners::{blocks_agree, larges_agree};
 use crate::reached::all_reached;
-use disk_definitions::Disk;
+use disk_definitions::{Disk, Param};
 use file_tree::Tree;
 use frang_base::limits::{
     INODE_BLOCKS_MAX, RUN_VERSIONS_MAX, SEGMENT_BLOCKS, SEGMENT_INODES, SEGMENTS_MAX,
 };
 use frang_base::{NoMemory, Sector};
-use sector_definitions::Param;
 use std::alloc::Global;
 use std::collections::BTreeMap;
 use tree_definitions::Node;

@@ -2,11 +2,11 @@
 ghost use Rattle.std.specs.Prelude.{◌≡◌, ◌≢◌, ◌≤◌, ◌<◌, ◌*◌, true, IfSome};
 ghost use Rattle.frang_base.specs.Name.{is_name};
 ghost use Rattle.std.specs.Option.{option_map};
-ghost use Rattle.sector_definitions.specs.declared.region.Region.TheVariants as region;
-ghost use Rattle.sector_definitions.specs.Regions.{sector_of};
-ghost use Rattle.sector_definitions.specs.Bitmaps.{bitmap_in};
-ghost use Rattle.sector_definitions.specs.Directories.{directory_in, name_in};
-ghost use Rattle.sector_definitions.specs.Inodes.{inode_in, inode_fits};
+ghost use Rattle.disk_definitions.specs.declared.region.Region.TheVariants as region;
+ghost use Rattle.disk_definitions.specs.Regions.{sector_of};
+ghost use Rattle.disk_definitions.specs.Bitmaps.{bitmap_in};
+ghost use Rattle.disk_definitions.specs.Directories.{directory_in, name_in};
+ghost use Rattle.disk_definitions.specs.Inodes.{inode_in, inode_fits};
 ghost use Rattle.sector_bytes.specs.Sectors.{sectors_of};
 ghost use Rattle.disk_definitions.specs.Store.{stored, entered};
 ghost use Rattle.standing_laws.specs.Soundness as sound;
@@ -14,13 +14,13 @@ ghost use Rattle.disk_reading.specs.Seen.{store_in, use_of_state};
 
 use crate::decoded_disk::DecodedDisk;
 use bitmap_block::{BlockState, inode_in_use, state_of};
+use disk_definitions::{DirEntry, DirSector, Inode};
 use frang_base::Bitmap;
 use frang_base::limits::{
     BLOCK_ENTRIES, KIND_FREE, NAME_BYTES_MAX, SECTOR_ENTRIES, SEGMENT_BLOCKS, SEGMENT_INODES,
     SEGMENTS_MAX,
 };
 use frang_layout::{Region, sector_of};
-use sector_definitions::{DirEntry, DirSector, Inode};
 
 /// Segment `k` of the bitmap. `None` exactly where its sector isn't in its grammar.
 #[tactic(auto, unfolding(crate::specs::Kept::segment_of))]

@@ -7,14 +7,14 @@ use Rattle.std.proofs.lemmas.Bool.{and_from, and_parts, false≢true}
 use Rattle.std.proofs.lemmas.Nat.{div-mul-add, mod-mul-add}
 use Rattle.frang_base.specs.Functions.{put}
 use Rattle.frang_base.proofs.Basics.{at_put, by_test, of_lt, or_equal, put_other, put_same}
-use Rattle.sector_definitions.specs.declared.region.Region.{Region}
-use Rattle.sector_definitions.specs.declared.region.Region.TheVariants as region
-use Rattle.sector_definitions.specs.Regions.{log_stride, logs_from, region_of}
-use Rattle.sector_definitions.proofs.RegionLaws.{region_found, region_read}
+use Rattle.disk_definitions.specs.declared.region.Region.{Region}
+use Rattle.disk_definitions.specs.declared.region.Region.TheVariants as region
+use Rattle.disk_definitions.specs.Regions.{log_stride, logs_from, region_of}
+use Rattle.disk_definitions.proofs.RegionLaws.{region_found, region_read}
 use Rattle.sector_bytes.specs.Bytes.{zeros}
 use Rattle.sector_bytes.specs.SectorMaps.{value_at}
 use Rattle.sector_bytes.specs.Sectors.{Sectors, SameSectors, sectors_of}
-use Rattle.log_definitions.specs.Replay.{is_log}
+use Rattle.disk_definitions.specs.Replay.{is_log}
 use Rattle.disk_replay.specs.Laid.{erased, is_logged, slot_sector, without_logs}
 use Rattle.disk_replay.proofs.SectorsSet.{set_there, set_elsewhere}
 

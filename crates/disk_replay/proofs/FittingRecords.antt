@@ -6,14 +6,14 @@ use Rattle.std.proofs.lemmas.Bool.{and_parts}
 use Rattle.std.proofs.lemmas.List.Elements.{All-append, All-cons, All-from_recursion, All-nil}
 use Rattle.frang_base.specs.declared.change.Change.{Change}
 use Rattle.frang_base.specs.declared.sector.OpNo.{OpNo}
-use Rattle.sector_definitions.specs.declared.log_sector.LogSector.{LogSector}
-use Rattle.sector_definitions.specs.LogSectors.{is_packed}
+use Rattle.disk_definitions.specs.declared.log_sector.LogSector.{LogSector}
+use Rattle.disk_definitions.specs.LogSectors.{is_packed}
 use Rattle.frang_base.proofs.Basics.{by_test}
 use Rattle.sector_bytes.specs.Changes.{is_change}
 use Rattle.frang_base.specs.declared.change.Redo.{Redo}
-use Rattle.log_definitions.specs.Records.{Read, all_read, change_read, number_read, record_bytes, record_fits, record_in, sectors_ascend, whole_record}
-use Rattle.log_definitions.specs.Frames.{Frame, frame_length, frame_most, frame_read, framed_record, next_frames, frames_among}
-use Rattle.log_definitions.specs.Logs.{Slots, are_parts, bytes_begun, bytes_on, frames_of, log_end, log_records, record_at, record_of, records_among, records_at, sectors_read, used_bytes}
+use Rattle.disk_definitions.specs.Records.{Read, all_read, change_read, number_read, record_bytes, record_fits, record_in, sectors_ascend, whole_record}
+use Rattle.disk_definitions.specs.Frames.{Frame, frame_length, frame_most, frame_read, framed_record, next_frames, frames_among}
+use Rattle.disk_definitions.specs.Logs.{Slots, are_parts, bytes_begun, bytes_on, frames_of, log_end, log_records, record_at, record_of, records_among, records_at, sectors_read, used_bytes}
 use Rattle.log_record.proofs.RecordBack.{all_of}
 use Rattle.disk_replay.specs.Laid.{HoldsChanges}
 

@@ -5,12 +5,12 @@ use Rattle.std.specs.Ordering.{nat_cmp}
 use Rattle.std.proofs.lemmas.Bool.{and_from, and_parts, and_left, false≢true}
 use Rattle.std.proofs.lemmas.List.Sums.{fold-append}
 use Rattle.frang_base.specs.declared.change.Change.{Change}
-use Rattle.sector_definitions.specs.Regions.{region_of}
+use Rattle.disk_definitions.specs.Regions.{region_of}
 use Rattle.frang_base.proofs.Basics.{by_test, eq_of, of_eq, of_ge, of_ne, or_equal}
 use Rattle.sector_bytes.specs.Changes.{applied, changed, is_older}
 use Rattle.sector_bytes.specs.Blocks.{version_of}
 use Rattle.sector_bytes.specs.Sectors.{Sectors, SameSectors, sectors_of}
-use Rattle.log_definitions.specs.Replay.{is_replayed, with_change}
+use Rattle.disk_definitions.specs.Replay.{is_replayed, with_change}
 use Rattle.disk_replay.specs.Laid.{is_changed, with_changes}
 use Rattle.disk_replay.proofs.SectorsSet.{set_there, set_elsewhere}
 

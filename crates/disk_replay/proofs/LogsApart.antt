@@ -2,13 +2,13 @@
 use Rattle.std.proofs.Common.{◌≡◌, ℕ, ◌+◌, ◌*◌, ◌<◌, Bool, true, false, ◌==◌, nat_lt, if◌then◌else◌, Option, Some, None, List, [], ◌∷◌, refl, ap, ◌∙◌, arith, ltb-true}
 use Rattle.std.proofs.lemmas.Bool.{and_parts, and_right}
 use Rattle.frang_base.specs.declared.change.Change.{Change}
-use Rattle.sector_definitions.specs.declared.region.Region.{Region}
-use Rattle.sector_definitions.specs.declared.region.Region.TheVariants as region
-use Rattle.sector_definitions.specs.Regions.{bitmaps_from, inodes_from, log_stride, logs_from, region_of, small_blocks_from}
-use Rattle.sector_definitions.proofs.RegionLaws.{region_read}
+use Rattle.disk_definitions.specs.declared.region.Region.{Region}
+use Rattle.disk_definitions.specs.declared.region.Region.TheVariants as region
+use Rattle.disk_definitions.specs.Regions.{bitmaps_from, inodes_from, log_stride, logs_from, region_of, small_blocks_from}
+use Rattle.disk_definitions.proofs.RegionLaws.{region_read}
 use Rattle.sector_bytes.specs.Changes.{applied}
 use Rattle.sector_bytes.specs.Sectors.{Sectors}
-use Rattle.log_definitions.specs.Replay.{is_log, is_replayed, with_change}
+use Rattle.disk_definitions.specs.Replay.{is_log, is_replayed, with_change}
 use Rattle.disk_replay.specs.Laid.{is_changed, is_logged, with_changes}
 
 -- ---- where logs lie

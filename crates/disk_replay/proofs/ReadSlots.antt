@@ -1,8 +1,8 @@
 -- Logs that have the same blocks in their 256 slots hold the same records.
 use Rattle.std.proofs.Common.{◌≡◌, ℕ, zero, suc, ◌<◌, [], ◌∷◌, ◌++◌, map, refl, sym, ap, ◌∙◌, add-one, arith}
-use Rattle.sector_definitions.specs.LogSectors.{log_sector_in}
+use Rattle.disk_definitions.specs.LogSectors.{log_sector_in}
 use Rattle.tree_definitions.specs.Numbers.{below}
-use Rattle.log_definitions.specs.Logs.{Slots, log_end, log_records, records_among}
+use Rattle.disk_definitions.specs.Logs.{Slots, log_end, log_records, records_among}
 use Rattle.log_reading.specs.Decoded.{decoded, end_of, sectors_up_to}
 use Rattle.log_reading.proofs.Windows.{map_more}
 use Rattle.log_reading.proofs.Words.{end_is, sectors_are}

@@ -9,16 +9,16 @@ use Rattle.std.proofs.Math.Seq.{get_or-append_seam}
 use Rattle.frang_base.specs.declared.change.Change.{Change}
 use Rattle.frang_base.specs.declared.sector.OpNo.{OpNo}
 use Rattle.frang_base.proofs.Basics.{of_lt, or_equal}
-use Rattle.sector_definitions.specs.declared.param.Param.{Param}
-use Rattle.sector_definitions.specs.declared.region.Region.TheVariants as region
+use Rattle.disk_definitions.specs.declared.param.Param.{Param}
+use Rattle.disk_definitions.specs.declared.region.Region.TheVariants as region
 use Rattle.sector_bytes.specs.Bytes.{zeros}
-use Rattle.sector_definitions.specs.Params.{param_in}
-use Rattle.sector_definitions.specs.Regions.{region_of, sector_of}
-use Rattle.sector_definitions.proofs.ParamLaws.{few_segments}
-use Rattle.sector_definitions.proofs.RegionLaws.{region_found}
+use Rattle.disk_definitions.specs.Params.{param_in}
+use Rattle.disk_definitions.specs.Regions.{region_of, sector_of}
+use Rattle.disk_definitions.proofs.ParamLaws.{few_segments}
+use Rattle.disk_definitions.proofs.RegionLaws.{region_found}
 use Rattle.sector_bytes.specs.Sectors.{Sectors, SameSectors}
 use Rattle.tree_definitions.specs.Numbers.{below}
-use Rattle.log_definitions.specs.Replay.{is_log, replayed, slots_of, with_logs}
+use Rattle.disk_definitions.specs.Replay.{is_log, replayed, slots_of, with_logs}
 use Rattle.disk_replay.specs.Laid.{changes_below, changes_in, greatest_at, greatest_kept, is_logged, laid_by, records_at, with_changes, without_logs, AreGreatest}
 use Rattle.disk_replay.proofs.LaidChanges.{laid_more, nothing_laid}
 use Rattle.disk_replay.proofs.LogsApart.{log_stays}

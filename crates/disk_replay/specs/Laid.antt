@@ -6,15 +6,15 @@ use Rattle.frang_base.specs.declared.limits.TheConstants.{LOG_SECTORS, SECTOR_BY
 use Rattle.frang_base.specs.declared.change.Change.{Change}
 use Rattle.frang_base.specs.declared.sector.OpNo.{OpNo}
 use Rattle.sector_bytes.specs.Bytes.{zeros}
-use Rattle.sector_definitions.specs.declared.param.Param.{Param}
-use Rattle.sector_definitions.specs.declared.region.Region.TheVariants as region
-use Rattle.sector_definitions.specs.Regions.{region_of, sector_of}
+use Rattle.disk_definitions.specs.declared.param.Param.{Param}
+use Rattle.disk_definitions.specs.declared.region.Region.TheVariants as region
+use Rattle.disk_definitions.specs.Regions.{region_of, sector_of}
 use Rattle.sector_bytes.specs.Changes.{is_change}
 use Rattle.sector_bytes.specs.Sectors.{Sectors}
 use Rattle.tree_definitions.specs.Numbers.{below}
 use Rattle.frang_base.specs.declared.change.Redo.{Redo}
-use Rattle.log_definitions.specs.Logs.{greatest_operation, log_records}
-use Rattle.log_definitions.specs.Replay.{slots_of, is_log, is_replayed, with_change}
+use Rattle.disk_definitions.specs.Logs.{greatest_operation, log_records}
+use Rattle.disk_definitions.specs.Replay.{slots_of, is_log, is_replayed, with_change}
 
 -- the sector is one of a log
 unfoldable pub is_logged : ℕ → Bool

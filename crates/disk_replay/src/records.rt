@@ -4,11 +4,11 @@ ghost use Rattle.std.specs.List.{All};
 ghost use Rattle.frang_base.specs.declared.limits.TheConstants.{LOG_SECTORS};
 ghost use Rattle.sector_bytes.specs.Bytes.{zeros};
 ghost use Rattle.sector_bytes.specs.Sectors.{sectors_of};
-ghost use Rattle.log_definitions.specs.Logs.{log_records};
-ghost use Rattle.log_definitions.specs.Replay as replays;
-ghost use Rattle.log_definitions.specs.Replay.{greatest_of};
-ghost use Rattle.sector_definitions.specs.Regions as regions;
-ghost use Rattle.sector_definitions.specs.declared.region.Region.TheVariants as region;
+ghost use Rattle.disk_definitions.specs.Logs.{log_records};
+ghost use Rattle.disk_definitions.specs.Replay as replays;
+ghost use Rattle.disk_definitions.specs.Replay.{greatest_of};
+ghost use Rattle.disk_definitions.specs.Regions as regions;
+ghost use Rattle.disk_definitions.specs.declared.region.Region.TheVariants as region;
 ghost use Rattle.disk_replay.specs.Laid.{greatest_kept, HoldsChanges};
 
 use disk_definitions::Disk;

@@ -6,7 +6,7 @@ ghost use Rattle.frang_base.specs.declared.limits.TheConstants.{LOGS, LOG_SECTOR
 ghost use Rattle.sector_bytes.specs.Bytes.{zeros};
 ghost use Rattle.sector_bytes.specs.SectorMaps.{value_at};
 ghost use Rattle.sector_bytes.specs.Sectors.{sectors_of, SameSectors};
-ghost use Rattle.log_definitions.specs.Replay.{replayed};
+ghost use Rattle.disk_definitions.specs.Replay.{replayed};
 ghost use Rattle.disk_replay.specs.Laid as laid;
 ghost use Rattle.disk_replay.specs.Laid.{changes_below, changes_in, greatest_at, laid_by, records_at, AreGreatest, HoldsChanges};
 

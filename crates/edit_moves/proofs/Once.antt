@@ -2,7 +2,7 @@
 use Rattle.std.proofs.Common.{◌≡◌, ◌||◌, Bool, true, false, if◌then◌else◌, Option, Some, None, List, [], ◌∷◌, ◌++◌, map, refl, ◌∙◌}
 use Rattle.std.specs.List.{AllByRecursion, IsDistinct}
 use Rattle.frang_base.specs.declared.lock.LockId.{LockId}
-use Rattle.store_changes.specs.Edits.{Edit}
+use Rattle.disk_definitions.specs.Edits.{Edit}
 use Rattle.edit_moves.specs.declared.thing.Thing.{Thing}
 use Rattle.edit_moves.specs.declared.moves.Move.{Move}
 use Rattle.edit_moves.specs.Moves.{has_thing, is_same, lock_by, moves_by, thing_said, with_lock, with_move, with_thing}

@@ -1,8 +1,8 @@
 -- The sectors of a thing stand one after another.
 use Rattle.std.proofs.Common.{◌≡◌, ◌+◌, ℕ, Some, sym, ap, subst, ◌∙◌, arith}
-use Rattle.sector_definitions.specs.declared.region.Region.TheVariants as region
-use Rattle.sector_definitions.specs.Regions.{sector_of}
-use Rattle.plan_definitions.specs.Ask.{Sector, InodeAt, DirectoryAt, SegmentAt, BytesAt, LargeAt, number_of}
+use Rattle.disk_definitions.specs.declared.region.Region.TheVariants as region
+use Rattle.disk_definitions.specs.Regions.{sector_of}
+use Rattle.disk_definitions.specs.Ask.{Sector, InodeAt, DirectoryAt, SegmentAt, BytesAt, LargeAt, number_of}
 use Rattle.edit_moves.specs.declared.thing.Thing.{Thing}
 use Rattle.edit_moves.specs.declared.thing.Thing.TheVariants as thing
 use Rattle.edit_moves.specs.Moves.{StartsAt, part_in, thing_of}

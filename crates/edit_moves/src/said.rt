@@ -2,14 +2,14 @@
 ghost use Rattle.std.specs.Prelude.{◌≡◌, ◌==◌, ◌+◌};
 ghost use Rattle.std.specs.Option.{option_map};
 ghost use Rattle.disk_definitions.specs.Store.{stored};
-ghost use Rattle.plan_moves.specs.Moves as covers;
-ghost use Rattle.plan_moves.specs.Moves.{first_said};
+ghost use Rattle.plan_laws.specs.Moves as covers;
+ghost use Rattle.plan_laws.specs.Moves.{first_said};
 ghost use Rattle.plan_steps.specs.Edits.{edit_of, edits_of};
 ghost use Rattle.edit_moves.specs.Moves.{use_as};
 
 use bitmap_block::BlockState;
+use disk_definitions::Inode;
 use plan_steps::Edit;
-use sector_definitions::Inode;
 
 /// The new bit of an inode.
 pub(crate) fn bit_said(edits: &[Edit], inode: u32) -> Option<bool>

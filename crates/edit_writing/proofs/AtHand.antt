@@ -5,11 +5,11 @@ use Rattle.std.specs.BTreeMap.{is_at}
 use Rattle.std.specs.Option.{option_map}
 use Rattle.std.specs.Ordering.{nat_cmp}
 use Rattle.frang_base.specs.declared.bitmap.Bitmap.{Bitmap}
-use Rattle.sector_definitions.specs.Bitmaps.{bitmap_bytes}
-use Rattle.sector_definitions.specs.Regions.{bitmaps_from}
+use Rattle.disk_definitions.specs.Bitmaps.{bitmap_bytes}
+use Rattle.disk_definitions.specs.Regions.{bitmaps_from}
 use Rattle.sector_bytes.specs.SectorMaps.{value_at}
-use Rattle.pick_definitions.specs.Held.{Segments, AreSegments, bitmap_of}
-use Rattle.plan_definitions.specs.Written.{segment_sectors}
+use Rattle.disk_definitions.specs.Held.{Segments, AreSegments, bitmap_of}
+use Rattle.disk_definitions.specs.Written.{segment_sectors}
 
 -- whether a key is the one that is looked for, moved by as much
 is_moved : (from a b : ℕ) → from ≤ a → is_at (nat_cmp a) (from + b) ≡ is_at (nat_cmp (a - from)) b

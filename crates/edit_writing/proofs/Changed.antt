@@ -13,8 +13,8 @@ use Rattle.sector_bytes.specs.Bytes.{number_at}
 use Rattle.sector_bytes.specs.Patches.{patches_with}
 use Rattle.sector_bytes.specs.Sectors.{Sectors}
 use Rattle.disk_definitions.specs.Standing.{version_at}
-use Rattle.store_changes.specs.Edits.{Edit}
-use Rattle.plan_definitions.specs.Written.{all_edited, change_by, change_of, edited_sectors, forced_in, with_number}
+use Rattle.disk_definitions.specs.Edits.{Edit}
+use Rattle.disk_definitions.specs.Written.{all_edited, change_by, change_of, edited_sectors, forced_in, with_number}
 use Rattle.edit_writing.specs.Sectors.{edited_at}
 
 all_edited_at : (sectors : Sectors) (edits : List Edit) (sector : ℕ) → all_edited sectors edits sector ≡ fold (edited_at sector) (sectors sector) edits

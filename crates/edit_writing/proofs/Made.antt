@@ -2,14 +2,14 @@
 use Rattle.std.proofs.Common.{◌≡◌, ◌%◌, ◌⊎◌, inl, inr, ℕ, Some, List, length, refl, sym, ap, subst, ◌∙◌}
 use Rattle.std.specs.Option.{option_map}
 use Rattle.frang_base.specs.declared.sector.Sector.{Sector}
-use Rattle.sector_definitions.proofs.Lists.{all_numbers}
+use Rattle.disk_definitions.proofs.Lists.{all_numbers}
 use Rattle.bitmap_block.specs.declared.state.BlockState.{BlockState}
 use Rattle.bitmap_block.specs.declared.state.BlockState.TheVariants.{Unused, FileBytes, FormerDirectory, Directory}
 use Rattle.bitmap_block.specs.States.{state_number}
-use Rattle.sector_definitions.specs.Bitmaps.{bitmap_bytes, bitmap_fields}
+use Rattle.disk_definitions.specs.Bitmaps.{bitmap_bytes, bitmap_fields}
 use Rattle.disk_definitions.specs.Store.{use_by}
-use Rattle.pick_definitions.specs.Taken.{with_state}
-use Rattle.plan_definitions.specs.Written.{byte_write, edit_sector, edited_block, state_of}
+use Rattle.disk_definitions.specs.Taken.{with_state}
+use Rattle.disk_definitions.specs.Written.{byte_write, edit_sector, edited_block, state_of}
 use Rattle.dir_lookup.specs.Planned.{sector_by, write_by}
 use Rattle.plan_steps.specs.Edits.{edit_of}
 use Rattle.plan_steps.specs.declared.edit.Edit.{Edit}

@@ -2,9 +2,9 @@
 ghost use Rattle.std.specs.Prelude.{◌≡◌};
 ghost use Rattle.std.specs.Option.{option_copied, option_map};
 ghost use Rattle.sector_bytes.specs.SectorMaps.{value_at};
-ghost use Rattle.sector_definitions.specs.Bitmaps.{bitmap_bytes};
-ghost use Rattle.pick_definitions.specs.Held.{AreSegments};
-ghost use Rattle.plan_definitions.specs.Written.{segment_sectors};
+ghost use Rattle.disk_definitions.specs.Bitmaps.{bitmap_bytes};
+ghost use Rattle.disk_definitions.specs.Held.{AreSegments};
+ghost use Rattle.disk_definitions.specs.Written.{segment_sectors};
 ghost use Rattle.edit_writing.specs.Sectors.{at_hand, block_or_zeros};
 
 use bitmap_block::encode;

@@ -1,7 +1,7 @@
 // The bytes of files that edits write.
 ghost use Rattle.std.specs.Prelude.{◌≡◌, IfOk, map};
 ghost use Rattle.std.specs.Option.{option_map};
-ghost use Rattle.plan_definitions.specs.Written as written;
+ghost use Rattle.disk_definitions.specs.Written as written;
 ghost use Rattle.dir_lookup.specs.Planned.{write_by};
 ghost use Rattle.plan_steps.specs.Edits.{edit_of, edits_of};
 

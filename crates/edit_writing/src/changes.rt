@@ -4,9 +4,9 @@ ghost use Rattle.std.specs.List.{filter_map, list_all};
 ghost use Rattle.std.specs.Map.{keys_of};
 ghost use Rattle.sector_bytes.specs.Blocks.{version_of};
 ghost use Rattle.sector_bytes.specs.Patches.{patches_with};
-ghost use Rattle.pick_definitions.specs.Held.{AreSegments};
-ghost use Rattle.plan_definitions.specs.Written as written;
-ghost use Rattle.plan_definitions.specs.Written.{all_edited, change_by, metadata_sector, with_number};
+ghost use Rattle.disk_definitions.specs.Held.{AreSegments};
+ghost use Rattle.disk_definitions.specs.Written as written;
+ghost use Rattle.disk_definitions.specs.Written.{all_edited, change_by, metadata_sector, with_number};
 ghost use Rattle.plan_steps.specs.Edits.{edits_of};
 ghost use Rattle.edit_writing.specs.Sectors.{HasNextVersions, at_hand, edited_at, has_next_version};
 

@@ -1,8 +1,8 @@
 // Which bytes of a sector count as changed even where they stay: the time of a file that is written or cut.
 ghost use Rattle.std.specs.Prelude.{◌≡◌, ℕ, ◌&&◌, nat_le, nat_lt};
 ghost use Rattle.std.specs.List.{list_any};
-ghost use Rattle.sector_definitions.specs.Inodes.{is_time_place};
-ghost use Rattle.plan_definitions.specs.Written as written;
+ghost use Rattle.disk_definitions.specs.Inodes.{is_time_place};
+ghost use Rattle.disk_definitions.specs.Written as written;
 ghost use Rattle.plan_steps.specs.Edits.{edit_of, edits_of};
 
 use frang_base::Sector;

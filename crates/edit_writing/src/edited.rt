@@ -3,26 +3,26 @@ ghost use Rattle.std.specs.Prelude.{◌≡◌, ◌/◌, ◌%◌, None, length};
 ghost use Rattle.std.specs.Option.{option_map};
 ghost use Rattle.frang_base.specs.declared.limits.TheConstants.{SECTOR_BYTES, SECTOR_ENTRIES, SEGMENT_BLOCKS, SEGMENT_INODES};
 ghost use Rattle.sector_bytes.specs.Blocks.{version_of};
-ghost use Rattle.sector_definitions.specs.Bitmaps.{bitmap_bytes, bitmap_fields};
-ghost use Rattle.sector_definitions.specs.Directories.{directory_bytes, directory_fields};
-ghost use Rattle.sector_definitions.specs.Inodes.{inode_bytes};
+ghost use Rattle.disk_definitions.specs.Bitmaps.{bitmap_bytes, bitmap_fields};
+ghost use Rattle.disk_definitions.specs.Directories.{directory_bytes, directory_fields};
+ghost use Rattle.disk_definitions.specs.Inodes.{inode_bytes};
 ghost use Rattle.disk_definitions.specs.Store.{stored, entered};
 ghost use Rattle.bitmap_block.specs.States.{state_number};
-ghost use Rattle.pick_definitions.specs.Taken.{with_inode, with_large, with_state};
-ghost use Rattle.store_changes.specs.Edits.Edit.{SetPlace};
-ghost use Rattle.plan_definitions.specs.Written as written;
-ghost use Rattle.plan_definitions.specs.Written.{edit_sector, edited_block, is_metadata, with_place};
+ghost use Rattle.disk_definitions.specs.Taken.{with_inode, with_large, with_state};
+ghost use Rattle.disk_definitions.specs.Edits.Edit.{SetPlace};
+ghost use Rattle.disk_definitions.specs.Written as written;
+ghost use Rattle.disk_definitions.specs.Written.{edit_sector, edited_block, is_metadata, with_place};
 ghost use Rattle.plan_steps.specs.Edits.{edit_of};
 
 use crate::fields::{inode_with, place_with};
 use bitmap_alloc::{mark_block, mark_inode};
 use bitmap_block::BlockState;
 use byteorder::{ByteOrder, LittleEndian};
+use disk_definitions::{DirEntry, Inode};
 use frang_base::limits::{SECTOR_ENTRIES, SEGMENT_BLOCKS, SEGMENT_INODES};
 use frang_base::{Block, Sector};
 use frang_layout::{Region, sector_of};
 use plan_steps::Edit;
-use sector_definitions::{DirEntry, Inode};
 
 /// The sector that an edit changes.
 pub(crate) fn sector_of_edit(edit: &Edit) -> Sector

@@ -1,9 +1,9 @@
 // The plan as its caller has it.
 ghost use Rattle.std.specs.Prelude.{◌≡◌, [], IfOk, map};
 ghost use Rattle.meta_version.specs.declared.plan.Plan.TheVariants as plan;
-ghost use Rattle.pick_definitions.specs.Held.{AreSegments};
-ghost use Rattle.plan_definitions.specs.Plans.{Plan as Planned};
-ghost use Rattle.plan_definitions.specs.Written as written;
+ghost use Rattle.disk_definitions.specs.Held.{AreSegments};
+ghost use Rattle.disk_definitions.specs.Plans.{Plan as Planned};
+ghost use Rattle.disk_definitions.specs.Written as written;
 ghost use Rattle.dir_lookup.specs.Planned.{planned, sector_by, write_by};
 ghost use Rattle.dir_lookup.specs.Reading.{Read};
 ghost use Rattle.plan_steps.specs.Edits.{edits_of};

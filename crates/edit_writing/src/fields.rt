@@ -4,12 +4,12 @@ ghost use Rattle.std.specs.Option.{option_map};
 ghost use Rattle.frang_base.specs.declared.limits.TheConstants.{INODE_BLOCKS_MAX, NAME_BYTES_MAX, TARGET_BYTES_MAX};
 ghost use Rattle.sector_bytes.specs.Bytes.{zeros};
 ghost use Rattle.disk_definitions.specs.Store.{stored, entered};
-ghost use Rattle.plan_definitions.specs.Written.{inode_with, padded, place_with};
+ghost use Rattle.disk_definitions.specs.Written.{inode_with, padded, place_with};
 
+use disk_definitions::{DirEntry, Inode};
 use frang_base::limits::{
     INODE_BLOCKS_MAX, KIND_FREE, KIND_LINK, NAME_BYTES_MAX, TARGET_BYTES_MAX,
 };
-use sector_definitions::{DirEntry, Inode};
 
 /// The inode with this version, in use or free. Behind a link's target, and in place of one where it is no link, stand zeros.
 pub(crate) fn inode_with(version: u64, inode: &Option<Inode>) -> Inode

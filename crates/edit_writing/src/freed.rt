@@ -2,13 +2,13 @@
 ghost use Rattle.std.specs.Prelude.{◌≡◌, [], IfOk, OnOk, fold, map};
 ghost use Rattle.std.specs.List.{flat_map};
 ghost use Rattle.tree_definitions.specs.Numbers.{below};
-ghost use Rattle.sector_definitions.specs.Regions.{sector_of};
-ghost use Rattle.sector_definitions.specs.declared.region.Region.TheVariants as region;
+ghost use Rattle.disk_definitions.specs.Regions.{sector_of};
+ghost use Rattle.disk_definitions.specs.declared.region.Region.TheVariants as region;
 ghost use Rattle.bitmap_block.specs.States.{state_number};
 ghost use Rattle.disk_definitions.specs.Store.{use_by};
-ghost use Rattle.store_changes.specs.Edits.Edit.{SetLarge, SetUse};
-ghost use Rattle.plan_definitions.specs.Written as written;
-ghost use Rattle.plan_definitions.specs.Written.{sectors_given_back, with_number};
+ghost use Rattle.disk_definitions.specs.Edits.Edit.{SetLarge, SetUse};
+ghost use Rattle.disk_definitions.specs.Written as written;
+ghost use Rattle.disk_definitions.specs.Written.{sectors_given_back, with_number};
 ghost use Rattle.dir_lookup.specs.Planned.{sector_by};
 ghost use Rattle.plan_steps.specs.Edits.{edit_of, edits_of};
 

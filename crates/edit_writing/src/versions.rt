@@ -1,6 +1,6 @@
 // Which versions have a next one.
 ghost use Rattle.std.specs.Prelude.{◌≡◌};
-ghost use Rattle.pick_definitions.specs.Held.{AreSegments};
+ghost use Rattle.disk_definitions.specs.Held.{AreSegments};
 ghost use Rattle.plan_steps.specs.Edits.{edits_of};
 ghost use Rattle.edit_writing.specs.Sectors as meaning;
 ghost use Rattle.edit_writing.specs.Sectors.{at_hand};

@@ -1,6 +1,6 @@
 // Inodes and their sectors.
 ghost use Rattle.std.specs.Prelude.{◌≤◌, IsTrue};
-ghost use Rattle.sector_definitions.specs.Inodes.{inode_fits};
+ghost use Rattle.disk_definitions.specs.Inodes.{inode_fits};
 
 use crate::builders::{Piece, are_runs, block_of, with};
 use frang_base::Block;

@@ -2,9 +2,9 @@
 ghost use Rattle.std.specs.Prelude.{◌≡◌, ◌≤◌, ◌<◌, ◌+◌, ◌*◌, ◌↔◌, ℕ, Some, None, IsTrue};
 ghost use Rattle.frang_base.specs.declared.lock.LockId.{LockId};
 ghost use Rattle.frang_base.specs.declared.lock.LockId.TheVariants as lock;
-ghost use Rattle.sector_definitions.specs.declared.region.Region.{Region};
-ghost use Rattle.sector_definitions.specs.declared.region.Region.TheVariants as region;
-ghost use Rattle.sector_definitions.specs.Regions.{free_cover, is_in_range, region_of, sector_of};
+ghost use Rattle.disk_definitions.specs.declared.region.Region.{Region};
+ghost use Rattle.disk_definitions.specs.declared.region.Region.TheVariants as region;
+ghost use Rattle.disk_definitions.specs.Regions.{free_cover, is_in_range, region_of, sector_of};
 
 use frang_base::limits::{SEGMENT_BLOCKS, SEGMENT_INODES, SEGMENTS_MAX};
 

@@ -7,10 +7,10 @@ mod laws;
 mod limits;
 mod place;
 
+pub use disk_definitions::Region;
 pub use laws::{sectors_and_places_agree, segments_cover_their_own};
 pub use limits::{
     BITMAPS_FROM, INODES_FROM, LARGE_BLOCKS_FROM, LARGE_STRIDE, LOG_STRIDE, LOGS_FROM,
     SMALL_BLOCKS_FROM,
 };
 pub use place::{free_cover, region_of, sector_of};
-pub use sector_definitions::Region;

@@ -1,18 +1,18 @@
 // From sectors to places in regions, and back.
 ghost use Rattle.std.specs.Prelude.{◌≡◌, ◌≤◌, ◌<◌, ◌+◌, ◌*◌, ◌/◌, ◌%◌, ◌^◌};
-ghost use Rattle.sector_definitions.specs.Regions.{free_cover, is_among, large_at, log_at, region_of, sector_of};
-ghost use Rattle.sector_definitions.specs.declared.region.Region.TheVariants as region;
+ghost use Rattle.disk_definitions.specs.Regions.{free_cover, is_among, large_at, log_at, region_of, sector_of};
+ghost use Rattle.disk_definitions.specs.declared.region.Region.TheVariants as region;
 
 use crate::limits::{
     BITMAPS_FROM, INODES_FROM, LARGE_BLOCKS_FROM, LARGE_STRIDE, LOG_STRIDE, LOGS_FROM,
     SMALL_BLOCKS_FROM,
 };
+use disk_definitions::Region;
 use frang_base::limits::{
     LARGE_BLOCK_SECTORS, LOG_SECTORS, LOGS, SEGMENT_BLOCKS, SEGMENT_INODES, SEGMENTS_MAX,
     SMALL_BLOCK_SECTORS,
 };
 use frang_base::{LockId, Sector};
-use sector_definitions::Region;
 
 /// The place of a sector on a disk of so many segments, at most 64. `None` exactly where the sector is in no region.
 pub fn region_of(sector: Sector, segments: u32) -> Option<Region>

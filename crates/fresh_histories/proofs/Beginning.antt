@@ -9,21 +9,21 @@ use Rattle.tree_definitions.specs.Tree.{FileTree, fresh, node_at}
 use Rattle.tree_laws.proofs.FreshLaws.{fresh_well}
 use Rattle.tree_laws.proofs.Nodes.{each_but}
 use Rattle.sector_bytes.specs.Blocks.{Block, zero_block}
-use Rattle.sector_definitions.specs.declared.param.Param.{Param}
-use Rattle.sector_definitions.specs.declared.region.Region.{Region}
-use Rattle.sector_definitions.specs.declared.region.Region.TheVariants as region
-use Rattle.sector_definitions.specs.Regions.{sector_of, region_of, free_cover, bitmaps_from, inodes_from}
-use Rattle.sector_definitions.proofs.RegionLaws.{region_found, region_read}
+use Rattle.disk_definitions.specs.declared.param.Param.{Param}
+use Rattle.disk_definitions.specs.declared.region.Region.{Region}
+use Rattle.disk_definitions.specs.declared.region.Region.TheVariants as region
+use Rattle.disk_definitions.specs.Regions.{sector_of, region_of, free_cover, bitmaps_from, inodes_from}
+use Rattle.disk_definitions.proofs.RegionLaws.{region_found, region_read}
 use Rattle.sector_world.specs.World.{World}
 use Rattle.disk_definitions.specs.Naming.{Naming}
 use Rattle.disk_definitions.specs.Standing.{HasVersionsUpTo}
 use Rattle.disk_definitions.specs.Store.{Store, StoredNode, is_unused}
-use Rattle.store_changes.proofs.Free.{no_owner, no_large_owner}
-use Rattle.plan_definitions.specs.Ask.{Sector, InodeAt, DirectoryAt, SegmentAt, LargeAt}
-use Rattle.plan_definitions.specs.Meets.{IsOfTree, is_directory_use}
-use Rattle.plan_definitions.specs.OnDisk.{StandsBelow}
-use Rattle.plan_covers.specs.Covers.{cover_of, inode_cover, small_cover, large_cover}
-use Rattle.plan_moves.specs.Numbered.{sector_in}
+use Rattle.disk_definitions.proofs.Free.{no_owner, no_large_owner}
+use Rattle.disk_definitions.specs.Ask.{Sector, InodeAt, DirectoryAt, SegmentAt, LargeAt}
+use Rattle.disk_definitions.specs.Meets.{IsOfTree, is_directory_use}
+use Rattle.disk_definitions.specs.OnDisk.{StandsBelow}
+use Rattle.plan_laws.specs.Covers.{cover_of, inode_cover, small_cover, large_cover}
+use Rattle.plan_laws.specs.Numbered.{sector_in}
 use Rattle.plan_fresh.specs.Fresh.{fresh_param, fresh_disk}
 use Rattle.plan_fresh.proofs.Blocks.{param_reads}
 use Rattle.plan_fresh.proofs.Sectors.{elsewhere}

@@ -6,9 +6,9 @@ use Rattle.frang_base.specs.declared.lock.LockId.{LockId}
 use Rattle.frang_base.specs.declared.lock.LockId.TheVariants as lock
 use Rattle.tree_definitions.specs.Tree.{fresh}
 use Rattle.sector_bytes.specs.Blocks.{Block}
-use Rattle.sector_definitions.specs.declared.region.Region.{Region}
-use Rattle.sector_definitions.specs.declared.region.Region.TheVariants as region
-use Rattle.sector_definitions.specs.Regions.{sector_of, region_of, free_cover}
+use Rattle.disk_definitions.specs.declared.region.Region.{Region}
+use Rattle.disk_definitions.specs.declared.region.Region.TheVariants as region
+use Rattle.disk_definitions.specs.Regions.{sector_of, region_of, free_cover}
 use Rattle.sector_world.specs.World.{World, start}
 use Rattle.plan_fresh.specs.Fresh.{fresh_disk}
 use Rattle.line_histories.specs.Following.{Follows}

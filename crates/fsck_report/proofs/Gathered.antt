@@ -5,8 +5,9 @@ use Rattle.std.specs.Global.{Global}
 use Rattle.std.proofs.lemmas.List.{map-append}
 use Rattle.frang_base.specs.declared.fault.NoMemory.{NoMemory}
 use Rattle.report_definitions.specs.Sums.{Fault, gathered}
-use Rattle.fsck_report.specs.declared.report.Fault.{Fault as Told}
-use Rattle.fsck_report.specs.Told.{fault_told, faults_told, IsPart}
+use Rattle.report_json.specs.declared.report.Fault.{Fault as Told}
+use Rattle.report_json.specs.Told.{fault_told, faults_told}
+use Rattle.fsck_report.specs.Told.{IsPart}
 
 pub gathered_one : (n : ℕ) (f : ℕ → List Fault) → gathered (n + 1) f ≡ gathered n f ++ f n
 gathered_one n f = let e : n + 1 ≡ suc n = omega arith in ap (λ k. gathered k f) e

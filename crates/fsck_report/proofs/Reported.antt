@@ -4,16 +4,17 @@ use Rattle.std.proofs.lemmas.Bool.{and_right, cond-false}
 use Rattle.frang_base.specs.declared.change.Change.{Change}
 use Rattle.sector_bytes.specs.Sectors.{Sectors, SameSectors, sectors_of}
 use Rattle.sector_bytes.specs.Changes.{applied}
-use Rattle.sector_definitions.specs.declared.param.Param.{Param}
-use Rattle.sector_definitions.specs.Params.{param_in}
-use Rattle.log_definitions.specs.Replay.{with_change, with_logs, logged_changes, replayed}
+use Rattle.disk_definitions.specs.declared.param.Param.{Param}
+use Rattle.disk_definitions.specs.Params.{param_in}
+use Rattle.disk_definitions.specs.Replay.{with_change, with_logs, logged_changes, replayed}
 use Rattle.disk_reading.specs.Seen.{store_in}
 use Rattle.disk_reading.specs.Fits.{segment_fits, inode_fits}
 use Rattle.report_definitions.specs.View.{View, view_of, IsReach}
 use Rattle.report_definitions.specs.Report.{report_by, view_by, IsReport}
-use Rattle.fsck_report.specs.declared.report.Report.{Report}
+use Rattle.report_json.specs.declared.report.Report.{Report}
 use Rattle.report_rules.specs.Seen.{view_in}
-use Rattle.fsck_report.specs.Told.{told, IsReportOf}
+use Rattle.report_json.specs.Told.{told}
+use Rattle.fsck_report.specs.Told.{IsReportOf}
 
 -- a replay leaves the parameters
 one_kept : (segments : ℕ) (s : Sectors) (c : Change) → with_change segments s c 0 ≡ s 0

@@ -9,7 +9,7 @@ use Rattle.std.proofs.lemmas.List.Elements.{recursion_from_All}
 use Rattle.frang_base.proofs.Basics.{by_test}
 use Rattle.sector_bytes.specs.Bytes.{zeros}
 use Rattle.sector_bytes.specs.Sectors.{Sectors, SameSectors, sectors_of}
-use Rattle.sector_definitions.proofs.WrittenFields.{length_zeros}
+use Rattle.disk_definitions.proofs.WrittenFields.{length_zeros}
 use Rattle.report_definitions.specs.Sums.{Fault}
 use Rattle.report_definitions.specs.Report.{Report, IsReport, faults_of, is_nothing, view_by}
 use Rattle.report_definitions.specs.Laws.{AreBlocks, StandsForSome}

@@ -1,34 +1,16 @@
--- A report in code as the definition's.
-use Rattle.std.specs.Prelude.{◌≡◌, ◌<◌, ◌+◌, ◌*◌, ℕ, Bool, List, slice_index_or, Result, Vec, map, IfOk}
+-- The parts of a report in code, and the report, as the definition's.
+use Rattle.std.specs.Prelude.{◌≡◌, ◌<◌, ◌+◌, ◌*◌, ℕ, Bool, List, slice_index_or, Result, Vec, IfOk}
 use Rattle.std.specs.Global.{Global}
 use Rattle.frang_base.specs.declared.fault.NoMemory.{NoMemory}
 use Rattle.frang_base.specs.declared.limits.TheConstants.{SEGMENT_BLOCKS, SEGMENT_INODES, SMALL_BLOCK_SECTORS}
 use Rattle.disk_definitions.specs.Store.{Store}
 use Rattle.report_definitions.specs.Sums.{Fault as Pair, gathered}
 use Rattle.report_definitions.specs.View.{View, IsReach}
-use Rattle.report_definitions.specs.Report.{Report as Wanted, inode_faults, part_faults, report_by}
+use Rattle.report_definitions.specs.Report.{inode_faults, part_faults, report_by}
 use Rattle.report_rules.specs.Seen.{stored}
-use Rattle.fsck_report.specs.declared.report.Fault.{Fault}
-use Rattle.fsck_report.specs.declared.report.Report.{Report}
-
-abbrev pub fault_told : Fault → Pair
-fault_told f = (f.sector.0, f.kind)
-
--- the faults of a list
-abbrev pub faults_told : List Fault → List Pair
-faults_told faults = map fault_told faults
-
-abbrev pub told : Report → Wanted
-told r = record {
-  segments = r.segments;
-  dirs = r.dirs;
-  files = r.files;
-  links = r.links;
-  blocks = r.blocks;
-  larges = r.larges;
-  faults = faults_told r.faults.items;
-  stands = r.stands;
-}
+use Rattle.report_json.specs.declared.report.Fault.{Fault}
+use Rattle.report_json.specs.declared.report.Report.{Report}
+use Rattle.report_json.specs.Told.{faults_told, told}
 
 -- the faults of a part, where there was memory for them
 abbrev pub IsPart : Result (Vec Fault Global) NoMemory → List Pair → Type 0

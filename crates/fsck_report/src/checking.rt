@@ -1,8 +1,8 @@
 // The check of a disk, segment by segment in threads.
 ghost use Rattle.std.specs.Prelude.{◌≡◌, ◌↔◌, ◌≤◌, ◌<◌, ◌*◌, ◌++◌, ℕ, List, true, Some, length, vec_len, is_some, IfOk, OnOk};
 ghost use Rattle.sector_bytes.specs.Sectors.{sectors_of};
-ghost use Rattle.sector_definitions.specs.Params.{param_in};
-ghost use Rattle.log_definitions.specs.Replay.{replayed};
+ghost use Rattle.disk_definitions.specs.Params.{param_in};
+ghost use Rattle.disk_definitions.specs.Replay.{replayed};
 ghost use Rattle.disk_reading.specs.Marks.{flag_at};
 ghost use Rattle.disk_reading.specs.Seen.{store_in};
 ghost use Rattle.report_definitions.specs.Sums as sums;
@@ -11,11 +11,11 @@ ghost use Rattle.report_definitions.specs.Laws.{StandsForSome};
 ghost use Rattle.report_rules.specs.Seen.{stored, view_in};
 ghost use Rattle.report_rules.specs.Tables.{AreTables};
 ghost use Rattle.fsck_report.specs.Parts as spec;
-ghost use Rattle.fsck_report.specs.Told.{faults_told, told, AreParts, IsPart, IsReportOf};
+ghost use Rattle.report_json.specs.Told.{faults_told, told};
+ghost use Rattle.fsck_report.specs.Told.{AreParts, IsPart, IsReportOf};
 
 use crate::counts::count_of_kind;
 use crate::faults::{inode_faults, part_faults, segment_faults};
-use crate::report::{Fault, Report};
 use disk_definitions::Disk;
 use disk_reading::{DecodedDisk, replayed};
 use frang_base::limits::{
@@ -24,6 +24,7 @@ use frang_base::limits::{
 };
 use frang_base::{NoMemory, Sector};
 use param_block::Param;
+use report_json::{Fault, Report};
 use report_rules::{Tables, read_tables};
 use std::alloc::Global;
 use std::thread::{Threads, map_indices};

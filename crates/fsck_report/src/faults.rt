@@ -1,19 +1,19 @@
 // The faults of a disk, in order of their sectors and kinds.
 ghost use Rattle.std.specs.Prelude.{◌≡◌, ◌≤◌, ◌<◌, ◌+◌, ◌*◌, ◌++◌, IfOk, OnOk};
-ghost use Rattle.sector_definitions.specs.Regions.{sector_of};
+ghost use Rattle.disk_definitions.specs.Regions.{sector_of};
 ghost use Rattle.disk_reading.specs.Marks.{flag_at};
 ghost use Rattle.disk_reading.specs.Seen.{store_in};
 ghost use Rattle.report_definitions.specs.Sums as sums;
 ghost use Rattle.report_definitions.specs.Report as report;
 ghost use Rattle.report_rules.specs.Seen.{stored, view_in};
 ghost use Rattle.report_rules.specs.Tables.{AreTables};
-ghost use Rattle.fsck_report.specs.Told.{faults_told};
+ghost use Rattle.report_json.specs.Told.{faults_told};
 
-use crate::report::Fault;
 use disk_reading::DecodedDisk;
 use frang_base::NoMemory;
 use frang_base::limits::{SEGMENT_BLOCKS, SEGMENT_INODES, SEGMENTS_MAX, SMALL_BLOCK_SECTORS};
 use frang_layout::{Region, sector_of};
+use report_json::Fault;
 use report_rules::Tables;
 use report_rules::inodes::{are_blocks_fine, is_count_fine, is_named_once, is_root_fine};
 use report_rules::parts::{are_entries_fine, is_sector_fine};

@@ -7,11 +7,11 @@ use Rattle.frang_base.specs.declared.sector.OpNo.{OpNo}
 use Rattle.frang_base.specs.declared.said.Said.{Said}
 use Rattle.frang_base.specs.declared.said.Said.TheVariants as said
 use Rattle.tree_definitions.specs.Numbers.{below}
-use Rattle.sector_definitions.specs.Params.{param_in}
+use Rattle.disk_definitions.specs.Params.{param_in}
 use Rattle.sector_bytes.specs.Sectors.{Sectors, SameSectors, sectors_of}
 use Rattle.disk_definitions.specs.Images.{Blocks}
 use Rattle.disk_definitions.specs.Standing.{StandsFor}
-use Rattle.log_definitions.specs.Replay.{replayed}
+use Rattle.disk_definitions.specs.Replay.{replayed}
 use Rattle.disk_replay.specs.Laid.{greatest_at, greatest_kept, records_at}
 use Rattle.report_definitions.specs.Laws.{StandsForSome}
 use Rattle.fsck_report.proofs.Reported.{all_same, param_kept}

@@ -1,6 +1,6 @@
 -- The disk of an image has parameters.
 use Rattle.std.proofs.Common.{◌≡◌, ℕ, true, Ok, List, ap, is_some}
-use Rattle.sector_definitions.specs.Params.{param_in}
+use Rattle.disk_definitions.specs.Params.{param_in}
 use Rattle.sector_bytes.specs.Bytes.{AreBytes}
 use Rattle.sector_bytes.specs.Sectors.{sectors_of}
 use Rattle.disk_definitions.specs.Images.{Blocks, image_in}

@@ -9,7 +9,7 @@ use Rattle.sector_bytes.specs.Sectors.{SameSectors, sectors_of}
 use Rattle.disk_definitions.specs.Images.{Blocks, image_in, image_text}
 use Rattle.image_file.specs.declared.refusal.ImageRead.TheVariants as refused
 use Rattle.image_file.specs.Answers.{GivesImage}
-use Rattle.log_definitions.specs.Replay.{replayed}
+use Rattle.disk_definitions.specs.Replay.{replayed}
 use Rattle.image_commands.specs.declared.end.ImageEnd.{ImageEnd}
 use Rattle.image_commands.specs.declared.end.ImageEnd.TheVariants as end
 use Rattle.image_commands.specs.Saying.{Says, SaysSome}

@@ -13,11 +13,11 @@ use Rattle.tree_definitions.specs.TreeLines.{tree_lines}
 use Rattle.sector_bytes.specs.Sectors.{Sectors, sectors_of}
 use Rattle.disk_definitions.specs.Images.{Blocks}
 use Rattle.disk_definitions.specs.Standing.{StandsFor}
-use Rattle.log_definitions.specs.Logs.{log_records, greatest_operation}
-use Rattle.log_definitions.specs.Replay.{replayed, slots_of}
+use Rattle.disk_definitions.specs.Logs.{log_records, greatest_operation}
+use Rattle.disk_definitions.specs.Replay.{replayed, slots_of}
 use Rattle.disk_reading.specs.Lined.{AreLinesOf}
 use Rattle.report_definitions.specs.Report.{Report, IsReport}
-use Rattle.fsck_report.specs.Line.{report_text}
+use Rattle.report_json.specs.Line.{report_text}
 
 -- the records of a log
 abbrev pub records_in : Sectors → ℕ → List Redo

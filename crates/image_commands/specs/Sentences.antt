@@ -2,9 +2,9 @@
 use Rattle.std.specs.Prelude.{ℕ, ◌==◌, nat_le, if◌then◌else◌, Option, Some, None, List, ◌++◌, codes}
 use Rattle.std.specs.Fmt.{decimal}
 use Rattle.frang_base.specs.declared.limits.TheConstants.{SEGMENTS_MAX}
-use Rattle.sector_definitions.specs.declared.region.Region.{Region}
-use Rattle.sector_definitions.specs.declared.region.Region.TheVariants as region
-use Rattle.sector_definitions.specs.Regions.{region_of}
+use Rattle.disk_definitions.specs.declared.region.Region.{Region}
+use Rattle.disk_definitions.specs.declared.region.Region.TheVariants as region
+use Rattle.disk_definitions.specs.Regions.{region_of}
 use Rattle.disk_definitions.specs.declared.image.ImageFlaw.{ImageFlaw}
 use Rattle.disk_definitions.specs.declared.image.ImageFlaw.TheVariants.{Cut, OtherMark, OutOfOrder, NoRegion, OfZeros, BytesAfter, BadSector}
 use Rattle.disk_definitions.specs.Images.{kind_of}

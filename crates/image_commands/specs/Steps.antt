@@ -9,7 +9,7 @@ use Rattle.frang_outside.specs.declared.outside.SayFault.TheVariants.{Failed, No
 use Rattle.frang_outside.specs.Outside.{State, Rose}
 use Rattle.frang_outside.specs.Files.{State as FilesState, IsFile, OthersStay}
 use Rattle.sector_bytes.specs.Sectors.{SameSectors, sectors_of}
-use Rattle.log_definitions.specs.Replay.{replayed}
+use Rattle.disk_definitions.specs.Replay.{replayed}
 use Rattle.image_commands.specs.Lines.{IsRecovery}
 use Rattle.disk_definitions.specs.Images.{Blocks, image_in, image_text}
 use Rattle.image_file.specs.declared.refusal.ImageRead.TheVariants as refused

@@ -2,7 +2,7 @@
 ghost use Rattle.std.specs.Prelude.{◌≡◌, [], true, is_some};
 ghost use Rattle.std.specs.Option.{option_map};
 ghost use Rattle.sector_bytes.specs.Sectors.{sectors_of};
-ghost use Rattle.sector_definitions.specs.Params.{param_in};
+ghost use Rattle.disk_definitions.specs.Params.{param_in};
 ghost use Rattle.image_commands.specs.declared.end.ImageEnd.TheVariants as end;
 ghost use Rattle.image_commands.specs.Saying.{Says};
 ghost use Rattle.image_commands.specs.Lines.{IsCheck, IsLog, IsTree};

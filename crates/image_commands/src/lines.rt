@@ -1,7 +1,7 @@
 // The lines of a disk.
 ghost use Rattle.std.specs.Prelude.{◌≡◌, ◌↔◌, ◌++◌, length, map, true, is_some, IfOk, OnOk};
 ghost use Rattle.sector_bytes.specs.Sectors.{sectors_of, Sectors};
-ghost use Rattle.sector_definitions.specs.Params.{param_in};
+ghost use Rattle.disk_definitions.specs.Params.{param_in};
 ghost use Rattle.disk_replay.specs.Laid.{AreGreatest};
 ghost use Rattle.report_definitions.specs.Laws.{StandsForSome};
 ghost use Rattle.image_commands.specs.Lines.{recovered_below, recovered_line, redo_line, EndsWithTree, GivesLines, IsCheck, IsLog, IsTree};

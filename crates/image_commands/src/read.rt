@@ -2,7 +2,7 @@
 ghost use Rattle.std.specs.Prelude.{◌≡◌, true, is_some, IfOk};
 ghost use Rattle.frang_outside.specs.Files.{NoneFell};
 ghost use Rattle.sector_bytes.specs.Sectors.{sectors_of};
-ghost use Rattle.sector_definitions.specs.Params.{param_in};
+ghost use Rattle.disk_definitions.specs.Params.{param_in};
 ghost use Rattle.image_commands.specs.Ends.{first_number, sector_at};
 ghost use Rattle.image_commands.specs.Steps.{GivesDisk, ReadsBytes, ReadsDisk};
 

@@ -2,11 +2,10 @@
 ghost use Rattle.std.specs.Prelude.{◌≡◌, IfOk, string_bytes};
 ghost use Rattle.image_commands.specs.Sentences.{bad_part_words, bad_sector_words, fault_sentence, flaw_with, flaw_words, part_words};
 
-use disk_definitions::ImageFlaw;
+use disk_definitions::{ImageFlaw, Region};
 use frang_base::limits::SEGMENTS_MAX;
 use frang_base::{NoMemory, Sector};
 use frang_layout::region_of;
-use sector_definitions::Region;
 use std::alloc::Global;
 
 // The place of an image's first entry, behind its header.

@@ -3,13 +3,13 @@ use Rattle.std.proofs.Common.{◌≡◌, ℕ, ◌+◌, ◌-◌, ◌*◌, ◌/◌
 use Rattle.std.proofs.lemmas.Bool.{and_parts}
 use Rattle.std.proofs.lemmas.Bool.Decides.{nat_tests}
 use Rattle.frang_base.proofs.Basics.{by_test, eq_of, le_of}
-use Rattle.sector_definitions.specs.declared.param.Param.{Param}
-use Rattle.sector_definitions.specs.declared.region.Region.{Region}
-use Rattle.sector_definitions.specs.declared.region.Region.TheVariants as region
-use Rattle.sector_definitions.specs.Params.{param_in, param_fits}
-use Rattle.sector_definitions.specs.Regions.{logs_from, bitmaps_from, inodes_from, small_blocks_from, large_blocks_from, log_stride, large_stride, is_among, large_at, region_of}
+use Rattle.disk_definitions.specs.declared.param.Param.{Param}
+use Rattle.disk_definitions.specs.declared.region.Region.{Region}
+use Rattle.disk_definitions.specs.declared.region.Region.TheVariants as region
+use Rattle.disk_definitions.specs.Params.{param_in, param_fits}
+use Rattle.disk_definitions.specs.Regions.{logs_from, bitmaps_from, inodes_from, small_blocks_from, large_blocks_from, log_stride, large_stride, is_among, large_at, region_of}
 use Rattle.image_file.specs.Entries.{HasSegments}
-use Rattle.sector_definitions.proofs.ParamLaws.{param_read}
+use Rattle.disk_definitions.proofs.ParamLaws.{param_read}
 
 lt_of : (i k : ℕ) → nat_lt i k ≡ true → i < k
 lt_of i k e = grind (arith, nat_tests)

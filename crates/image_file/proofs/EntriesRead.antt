@@ -3,10 +3,10 @@ use Rattle.std.proofs.Common.{◌≡◌, ℕ, zero, suc, ◌+◌, ◌<◌, ◌�
 use Rattle.std.specs.List.{flat_map, AllByRecursion}
 use Rattle.std.proofs.lemmas.Bool.Decides.{nat_tests}
 use Rattle.frang_base.proofs.Basics.{by_test, gt_of, of_gt, of_ge}
-use Rattle.sector_definitions.specs.declared.region.Region.{Region}
+use Rattle.disk_definitions.specs.declared.region.Region.{Region}
 use Rattle.sector_bytes.specs.Bytes.{are_zero, AreBytes}
-use Rattle.sector_definitions.specs.Regions.{region_of}
-use Rattle.sector_definitions.proofs.NumberBytes.{drop_are}
+use Rattle.disk_definitions.specs.Regions.{region_of}
+use Rattle.disk_definitions.proofs.NumberBytes.{drop_are}
 use Rattle.disk_definitions.specs.declared.image.ImageFault.{ImageFault}
 use Rattle.disk_definitions.specs.declared.image.ImageFlaw.{ImageFlaw}
 use Rattle.disk_definitions.specs.declared.image.ImageFlaw.TheVariants.{Cut, OutOfOrder, OfZeros, BadSector}

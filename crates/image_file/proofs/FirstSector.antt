@@ -9,11 +9,11 @@ use Rattle.std.specs.Option.{unwrap_or}
 use Rattle.std.proofs.lemmas.Bool.{and_parts}
 use Rattle.std.proofs.lemmas.Bool.Decides.{nat_tests}
 use Rattle.frang_base.proofs.Basics.{by_test, eq_of, of_ge}
-use Rattle.sector_definitions.specs.declared.param.Param.{Param}
+use Rattle.disk_definitions.specs.declared.param.Param.{Param}
 use Rattle.sector_bytes.specs.Bytes.{zeros, are_zero, AreBytes}
-use Rattle.sector_definitions.specs.Params.{param_in}
-use Rattle.sector_definitions.proofs.ParamLaws.{param_read}
-use Rattle.sector_definitions.proofs.NumberBytes.{drop_are}
+use Rattle.disk_definitions.specs.Params.{param_in}
+use Rattle.disk_definitions.proofs.ParamLaws.{param_read}
+use Rattle.disk_definitions.proofs.NumberBytes.{drop_are}
 use Rattle.sector_bytes.specs.Sectors.{sectors_of}
 use Rattle.disk_definitions.specs.declared.image.ImageFault.{ImageFault}
 use Rattle.disk_definitions.specs.declared.image.ImageFlaw.{ImageFlaw}

@@ -9,7 +9,7 @@ use Rattle.byteorder.specs.Numbers.{little_number-reads_back, length-bytes_low_f
 use Rattle.sector_bytes.specs.Bytes.{number_at, AreBytes}
 use Rattle.std.specs.Str.{bytes_eq}
 use Rattle.sector_bytes.proofs.SameBytes.{same_bytes_is, same_bytes_refl}
-use Rattle.sector_definitions.proofs.NumberBytes.{number_again, drop_are}
+use Rattle.disk_definitions.proofs.NumberBytes.{number_again, drop_are}
 use Rattle.disk_definitions.specs.declared.image.ImageFault.{ImageFault}
 use Rattle.disk_definitions.specs.declared.image.ImageFlaw.TheVariants.{Cut, OtherMark}
 use Rattle.disk_definitions.specs.Images.{Blocks, image_mark, sectors_in, image_in, fault}

@@ -7,12 +7,12 @@ use Rattle.std.specs.Ordering.{nat_cmp}
 use Rattle.std.proofs.lemmas.List.Elements.{All-from_recursion, recursion_from_All}
 use Rattle.std.proofs.lemmas.Map.Entries.{length-keys_of}
 use Rattle.std.proofs.lemmas.Map.Views.{length-le_from_below}
-use Rattle.sector_definitions.specs.declared.param.Param.{Param}
-use Rattle.sector_definitions.specs.declared.region.Region.{Region}
-use Rattle.sector_definitions.specs.declared.region.Region.TheVariants as region
+use Rattle.disk_definitions.specs.declared.param.Param.{Param}
+use Rattle.disk_definitions.specs.declared.region.Region.{Region}
+use Rattle.disk_definitions.specs.declared.region.Region.TheVariants as region
 use Rattle.sector_bytes.specs.Bytes.{number_at, are_zero, AreBytes}
-use Rattle.sector_definitions.specs.Params.{param_in}
-use Rattle.sector_definitions.proofs.NumberBytes.{drop_are}
+use Rattle.disk_definitions.specs.Params.{param_in}
+use Rattle.disk_definitions.proofs.NumberBytes.{drop_are}
 use Rattle.disk_definitions.specs.Images.{Blocks, image_entry, image_with, image_in, IsImaged, IsImage, block_fits, may_run_again}
 use Rattle.image_file.proofs.EntryBytes.{IsEntry}
 use Rattle.image_file.proofs.EntriesRead.{Ascend}

@@ -5,8 +5,8 @@ use Rattle.frang_base.proofs.Basics.{by_test, of_ge, some_same}
 use Rattle.byteorder.specs.Endian.{little_number}
 use Rattle.byteorder.specs.Numbers.{little_from-take}
 use Rattle.sector_bytes.specs.Bytes.{number_at}
-use Rattle.sector_definitions.specs.Params.{param_in}
-use Rattle.sector_definitions.specs.declared.param.Param.{Param}
+use Rattle.disk_definitions.specs.Params.{param_in}
+use Rattle.disk_definitions.specs.declared.param.Param.{Param}
 use Rattle.disk_definitions.specs.declared.image.ImageFault.{ImageFault}
 use Rattle.disk_definitions.specs.declared.image.ImageFlaw.{ImageFlaw}
 use Rattle.disk_definitions.specs.declared.image.ImageFlaw.TheVariants.{Cut}

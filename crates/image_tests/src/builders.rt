@@ -1,6 +1,8 @@
 // Images by their bytes, and what calls of the program on them tell.
+ghost use Rattle.frang_top.specs.Run.{NothingYet};
+
 use frang_base::NoMemory;
-use frang_outside::{Act, FileFault, Files, MemFiles, MemOutside, NoGate};
+use frang_outside::{Act, FileFault, Files, MemFiles, MemOutside, NoGate, Outside};
 use frang_top::{Status, frang};
 use std::alloc::{AllocError, Global};
 use std::thread::Threads;
@@ -108,6 +110,19 @@ pub fn words_of(alloc: Global, line: &str) -> Result<Vec<String>, AllocError> {
     Ok(words)
 }
 
+/// How a call with these words ends, and the outside that it leaves. Nothing was said there before.
+pub fn call<R: Threads + Sync, F: Files, O: Outside + Send>(
+    rt: &R,
+    alloc: Global,
+    words: &[String],
+    files: &mut F,
+    out: O,
+) -> (Status, O)
+    requires { NothingYet (O.state out).acts }
+{
+    frang(rt, alloc, words, files, out, &NoGate)
+}
+
 /// What a call with these words tells over these files.
 pub fn tell_over<R: Threads + Sync, F: Files>(
     rt: &R,
@@ -116,7 +131,7 @@ pub fn tell_over<R: Threads + Sync, F: Files>(
     files: &mut F,
 ) -> Result<Told, NoMemory> {
     let words = words_of(alloc, line)?;
-    let (status, out) = frang(rt, alloc, &words, files, MemOutside::new(alloc), &NoGate);
+    let (status, out) = call(rt, alloc, &words, files, MemOutside::new(alloc));
     let text = lines_said(alloc, out.acts())?;
     Ok(Told { status, text })
 }

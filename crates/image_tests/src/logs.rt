@@ -1,11 +1,11 @@
 // An image whose two logs hold a record each: a file that server 0 made, and one that server 1 made. Nothing of them stands in place.
 use crate::builders::{
-    DONE, Ending, FixedFiles, Piece, Row, Told, files_of, first_other, image_of, is_so, lay_all,
-    lines_said, tell_over, words_of,
+    DONE, Ending, FixedFiles, Piece, Row, Told, call, files_of, first_other, image_of, is_so,
+    lay_all, lines_said, tell_over, words_of,
 };
 use frang_base::NoMemory;
-use frang_outside::{FaultyOutside, Files, MemFiles, NoGate};
-use frang_top::{Status, frang};
+use frang_outside::{FaultyOutside, Files, MemFiles};
+use frang_top::Status;
 use std::alloc::{AllocError, Global};
 use std::test::Fail;
 use std::thread::Threads;
@@ -176,24 +176,13 @@ fn a_damaged_log_is_told_by_its_sector(rt: HostRuntime) -> Result<(), Fail> {
     Ok(())
 }
 
-// How a call ends that cannot say these lines.
-fn tell_without(
-    rt: &(impl Threads + Sync),
-    alloc: Global,
-    words: &[String],
-    files: &mut MemFiles,
-    lines: Vec<u64>,
-) -> (Status, FaultyOutside) {
-    let out = FaultyOutside::new(alloc, Vec::new(alloc), Vec::new(alloc), lines);
-    frang(rt, alloc, words, files, out, &NoGate)
-}
-
 // What is told of the tree where the outside fails at the third line.
 fn told_in_part(rt: &(impl Threads + Sync), alloc: Global) -> Result<Told, NoMemory> {
     let mut files = logs_files(alloc, &[])?;
     let words = words_of(alloc, "tree img")?;
     let third = vec![in alloc; 3]?;
-    let (status, out) = tell_without(rt, alloc, &words, &mut files, third);
+    let out = FaultyOutside::new(alloc, Vec::new(alloc), Vec::new(alloc), third);
+    let (status, out) = call(rt, alloc, &words, &mut files, out);
     let text = lines_said(alloc, out.acts())?;
     Ok(Told { status, text })
 }

@@ -1,12 +1,12 @@
 // What a change of an inode has to put into its sector.
 ghost use Rattle.std.specs.Prelude.{◌≡◌, IsTrue, IfOk};
-ghost use Rattle.sector_definitions.specs.Inodes.{inode_bytes, inode_fits};
+ghost use Rattle.disk_definitions.specs.Inodes.{inode_bytes, inode_fits};
 ghost use Rattle.sector_bytes.specs.Patches.{patches_of};
 
 use crate::writing::block_of;
 use block_patches::patches_of;
+use disk_definitions::Inode;
 use frang_base::{NoMemory, Patches};
-use sector_definitions::Inode;
 use std::alloc::Global;
 
 /// The longest runs of bytes, from byte 8 on, in which the sectors of two inodes that fit differ, ascending. The version, in the

@@ -3,15 +3,15 @@ ghost use Rattle.std.specs.Prelude.{◌≡◌, ◌≤◌, ◌&&◌, drop, take};
 ghost use Rattle.std.specs.List.{list_all};
 ghost use Rattle.tree_definitions.specs.Tree.{small_blocks_of};
 ghost use Rattle.sector_bytes.specs.Bytes.{are_zero};
-ghost use Rattle.sector_definitions.specs.Inodes.{ends_blocks, inode_fits, is_directory_inode, is_file_inode, is_free_inode, is_link_inode};
+ghost use Rattle.disk_definitions.specs.Inodes.{ends_blocks, inode_fits, is_directory_inode, is_file_inode, is_free_inode, is_link_inode};
 ghost use Rattle.frang_base.specs.Name.{is_target_byte};
 
+use disk_definitions::Inode;
 use frang_base::limits::{
     BLOCK_ENTRIES, FILE_BYTES_MAX, INODE_BLOCKS_MAX, KIND_DIRECTORY, KIND_FILE, KIND_FREE,
     KIND_LINK, LINKS_MAX, SMALL_BLOCK_BYTES, SMALL_BYTES_MAX, TARGET_BYTES_MAX,
 };
 use sector_bytes::are_zero;
-use sector_definitions::Inode;
 
 /// Whether the inode is in the grammar of its kind.
 pub(crate) fn fits(x: &Inode) -> bool

@@ -4,13 +4,13 @@ ghost use Rattle.frang_base.specs.declared.limits.TheConstants.{INODE_BLOCKS_MAX
 ghost use Rattle.frang_base.specs.declared.change.Change.{Change};
 ghost use Rattle.sector_bytes.specs.Changes.{changed};
 ghost use Rattle.sector_bytes.specs.Blocks.{patched};
-ghost use Rattle.sector_definitions.specs.declared.inode.Inode.{Inode};
-ghost use Rattle.sector_definitions.specs.Inodes.{inode_bytes, inode_fits, inode_in, IsInodeSector};
+ghost use Rattle.disk_definitions.specs.declared.inode.Inode.{Inode};
+ghost use Rattle.disk_definitions.specs.Inodes.{inode_bytes, inode_fits, inode_in, IsInodeSector};
 ghost use Rattle.sector_bytes.specs.Patches.{patches_of};
-ghost use Rattle.sector_definitions.specs.Ranges.{InodeRange};
+ghost use Rattle.disk_definitions.specs.Ranges.{InodeRange};
 
+use disk_definitions::Inode;
 use frang_base::limits::TARGET_BYTES_MAX;
-use sector_definitions::Inode;
 
 /// Each inode has the ranges that the laws below ask for, since its fields have their types.
 pub fn inodes_are_in_range(value: &Inode)

@@ -11,7 +11,7 @@ mod reading;
 mod writing;
 
 pub use differences::patches;
+pub use disk_definitions::Inode;
 pub use laws::{inodes_are_in_range, patches_make_the_new_sector, what_is_written_reads_back};
 pub use reading::decode;
-pub use sector_definitions::Inode;
 pub use writing::encode;

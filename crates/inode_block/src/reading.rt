@@ -1,13 +1,13 @@
 // Inodes from the bytes of their sectors.
 ghost use Rattle.std.specs.Prelude.{◌≡◌, drop};
-ghost use Rattle.sector_definitions.specs.Inodes.{inode_fields, inode_in, numbers_in};
+ghost use Rattle.disk_definitions.specs.Inodes.{inode_fields, inode_in, numbers_in};
 
 use crate::grammar::fits;
 use crate::writing::block_of;
 use byteorder::{ByteOrder, LittleEndian};
+use disk_definitions::Inode;
 use frang_base::Block;
 use frang_base::limits::{INODE_BLOCKS_MAX, TARGET_BYTES_MAX};
-use sector_definitions::Inode;
 
 /// The inode whose sector the block is. `None` exactly where the block isn't the sector of an inode that fits.
 pub fn decode(from: &Block) -> Option<Inode>

@@ -1,11 +1,11 @@
 // Inodes as the bytes of their sectors.
 ghost use Rattle.std.specs.Prelude.{◌≡◌, length, take};
-ghost use Rattle.sector_definitions.specs.Inodes.{inode_bytes};
+ghost use Rattle.disk_definitions.specs.Inodes.{inode_bytes};
 
 use byteorder::{ByteOrder, LittleEndian};
+use disk_definitions::Inode;
 use frang_base::Block;
 use frang_base::limits::SECTOR_BYTES;
-use sector_definitions::Inode;
 
 /// Makes the block the sector of an inode. What it held counts for nothing. Any inode has bytes; those of one in the grammar read back.
 pub fn encode(value: &Inode, to: &mut Block)

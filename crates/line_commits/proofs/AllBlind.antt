@@ -6,13 +6,13 @@ use Rattle.frang_base.specs.declared.op.Op.TheVariants as op
 use Rattle.tree_definitions.specs.declared.node.Node.TheVariants.{Dir, File, Link}
 use Rattle.tree_definitions.specs.Perform.{Step, Goes, Stops}
 use Rattle.disk_definitions.specs.Store.{Store}
-use Rattle.plan_definitions.specs.Ask.{InodeAt, DirectoryAt, SegmentAt, Ask, Got, bind, run, looks}
-use Rattle.plan_definitions.specs.Plans.{Hand, Plan, Lacks, Clears, Finishes}
-use Rattle.plan_definitions.specs.FilePlans.{cutting}
-use Rattle.plan_definitions.specs.PlanOf.{plan_of}
+use Rattle.disk_definitions.specs.Ask.{InodeAt, DirectoryAt, SegmentAt, Ask, Got, bind, run, looks}
+use Rattle.disk_definitions.specs.Plans.{Hand, Plan, Lacks, Clears, Finishes}
+use Rattle.disk_definitions.specs.FilePlans.{cutting}
+use Rattle.disk_definitions.specs.PlanOf.{plan_of}
 use Rattle.plan_laws.proofs.Asking.{run-bind, looks-bind}
-use Rattle.plan_shapes.specs.Stores.{with_bytes}
-use Rattle.line_definitions.specs.Lines.{resolved, with_trail, plan_step, plan_of_line}
+use Rattle.line_laws.specs.Stores.{with_bytes}
+use Rattle.disk_definitions.specs.Lines.{resolved, with_trail, plan_step, plan_of_line}
 use Rattle.line_commits.specs.Planners.{plan_shape, BytesDontDecide}
 use Rattle.line_commits.proofs.Asking.{AsksOnly}
 use Rattle.line_commits.proofs.AskedNames.{made_asks, linked_asks, unlinked_asks, removed_asks, renamed_asks}

@@ -3,10 +3,10 @@ use Rattle.std.proofs.Common.{ℕ, ◌≡◌, ◌≤◌, ◌/◌, ⊎_elim, true
 use Rattle.std.specs.List.{Contains}
 use Rattle.frang_base.specs.Functions.{member}
 use Rattle.disk_definitions.specs.Store.{Store}
-use Rattle.store_changes.specs.Edits.{Edit}
-use Rattle.store_changes.specs.Edits.Edit.{SetInode, SetBit, SetUse, SetPlace, SetLarge, SetBytes, SetLargeBytes}
-use Rattle.plan_definitions.specs.FitEdits.{IsFitEdit, MeetsUse, AreFit}
-use Rattle.plan_definitions.specs.Written.{is_metadata}
+use Rattle.disk_definitions.specs.Edits.{Edit}
+use Rattle.disk_definitions.specs.Edits.Edit.{SetInode, SetBit, SetUse, SetPlace, SetLarge, SetBytes, SetLargeBytes}
+use Rattle.disk_definitions.specs.FitEdits.{IsFitEdit, MeetsUse, AreFit}
+use Rattle.disk_definitions.specs.Written.{is_metadata}
 use Rattle.plan_laws.proofs.Covering.{has_cases, not_in_none}
 use Rattle.plan_records.proofs.Kept.{edit_region, edit_sector_is, edit_in_range}
 use Rattle.plan_records.proofs.LaidOver.{Misses}

@@ -8,10 +8,10 @@ use Rattle.frang_base.specs.declared.op.Op.TheVariants as op
 use Rattle.frang_base.specs.declared.reply.Reply.TheVariants as reply
 use Rattle.tree_definitions.specs.Resolve.{is_absolute, target_text}
 use Rattle.disk_definitions.specs.Store.{StoredNode, StoredEntry}
-use Rattle.plan_definitions.specs.Ask.{Sector, InodeAt, DirectoryAt, SegmentAt, Ask, Got, ReadInode, bind}
-use Rattle.plan_definitions.specs.Walks.{Found, search, is_named}
-use Rattle.line_definitions.specs.Resolving.{PathEnd, Leads, Refused, Resolution, leads, refused, behind, passes, at_target, with_target, at_entry, at_gap, at_name, below_inode, resolve_names, resolve_from, resolve}
-use Rattle.line_definitions.specs.Lines.{is_found, by_path, by_second, by_first, over_paths, resolved}
+use Rattle.disk_definitions.specs.Ask.{Sector, InodeAt, DirectoryAt, SegmentAt, Ask, Got, ReadInode, bind}
+use Rattle.disk_definitions.specs.Walks.{Found, search, is_named}
+use Rattle.disk_definitions.specs.Resolving.{PathEnd, Leads, Refused, Resolution, leads, refused, behind, passes, at_target, with_target, at_entry, at_gap, at_name, below_inode, resolve_names, resolve_from, resolve}
+use Rattle.disk_definitions.specs.Lines.{is_found, by_path, by_second, by_first, over_paths, resolved}
 use Rattle.line_laws.proofs.Names.{Follow}
 use Rattle.line_laws.proofs.Links.{follow_in}
 use Rattle.line_commits.proofs.Asking.{AsksOnly, asks_bind}

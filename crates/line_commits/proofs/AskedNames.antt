@@ -4,15 +4,15 @@ use Rattle.std.specs.Map.{keys_of}
 use Rattle.frang_base.specs.declared.reply.Reply.TheVariants as reply
 use Rattle.tree_definitions.specs.declared.node.Node.{Node}
 use Rattle.disk_definitions.specs.Store.{StoredNode, StoredEntry}
-use Rattle.pick_definitions.specs.Least.{least}
-use Rattle.pick_definitions.specs.Picks.{picked_inode, picked_directory}
-use Rattle.plan_definitions.specs.Ask.{Sector, InodeAt, DirectoryAt, SegmentAt, Ask, Got, ReadInode, ReadDirectory, bind}
-use Rattle.plan_definitions.specs.Walks.{Spot, Walked, Found, or_on, hit, search, is_named, is_vacant, spot_by, look_up, in_inode, onward, walk_from, walk}
-use Rattle.plan_definitions.specs.Walks.Spot.{AtRoot, AtName, AtGap, Lost}
-use Rattle.plan_definitions.specs.Plans.{Hand, Plan, Finish, Room, refused, read_held, room_in, room_at, find_room, finish_in, must_clear, is_full}
-use Rattle.plan_definitions.specs.Plans.Plan.{Clears, Finishes}
-use Rattle.plan_definitions.specs.Plans.Room.{Inside, InBlock, NoRoom}
-use Rattle.plan_definitions.specs.NamePlans.{made_by, making_in, making_with, making, plan_made, linked_by, linking_in, linking_node, linking_to, linking, plan_linked, fewer_segments, finish_over, removed_by, unlinking_node, unlinking, plan_unlinked, removing_node, removing, plan_dir_removed, Moving, moved_onto_by, replacing_node, moving_onto, moved_within, moved_between, moving_in, moving_to, goes_through, renaming_to, renaming, plan_renamed}
+use Rattle.disk_definitions.specs.Least.{least}
+use Rattle.disk_definitions.specs.Picks.{picked_inode, picked_directory}
+use Rattle.disk_definitions.specs.Ask.{Sector, InodeAt, DirectoryAt, SegmentAt, Ask, Got, ReadInode, ReadDirectory, bind}
+use Rattle.disk_definitions.specs.Walks.{Spot, Walked, Found, or_on, hit, search, is_named, is_vacant, spot_by, look_up, in_inode, onward, walk_from, walk}
+use Rattle.disk_definitions.specs.Walks.Spot.{AtRoot, AtName, AtGap, Lost}
+use Rattle.disk_definitions.specs.Plans.{Hand, Plan, Finish, Room, refused, read_held, room_in, room_at, find_room, finish_in, must_clear, is_full}
+use Rattle.disk_definitions.specs.Plans.Plan.{Clears, Finishes}
+use Rattle.disk_definitions.specs.Plans.Room.{Inside, InBlock, NoRoom}
+use Rattle.disk_definitions.specs.NamePlans.{made_by, making_in, making_with, making, plan_made, linked_by, linking_in, linking_node, linking_to, linking, plan_linked, fewer_segments, finish_over, removed_by, unlinking_node, unlinking, plan_unlinked, removing_node, removing, plan_dir_removed, Moving, moved_onto_by, replacing_node, moving_onto, moved_within, moved_between, moving_in, moving_to, goes_through, renaming_to, renaming, plan_renamed}
 use Rattle.line_commits.proofs.Asking.{AsksOnly, asks_bind, asks_segments}
 
 module _ (P : Sector → Type 0) (inode : (i : ℕ) → P (InodeAt i)) (directory : (k part : ℕ) → part < 8 → P (DirectoryAt k part)) (segment : (k : ℕ) → P (SegmentAt k)) where

@@ -8,18 +8,18 @@ use Rattle.tree_definitions.specs.Numbers.{below}
 use Rattle.tree_definitions.specs.Tree.{small_blocks_of}
 use Rattle.disk_definitions.specs.Store.{Store, StoredNode}
 use Rattle.disk_definitions.specs.Store.Use.{Bytes}
-use Rattle.store_changes.specs.Edits.{Edit}
-use Rattle.store_changes.specs.Edits.Edit.{SetUse, SetBytes, SetLargeBytes}
-use Rattle.pick_definitions.specs.Picks.{picked_many, picked_large}
-use Rattle.plan_definitions.specs.Ask.{Sector, InodeAt, DirectoryAt, SegmentAt, BytesAt, LargeAt, Ask, Got, ReadInode, ReadBytes, ReadLarge, bind, part_of, run, looks, read_segments}
-use Rattle.plan_definitions.specs.Walks.{Spot, Target, walk, at_spot, at_target}
-use Rattle.plan_definitions.specs.Walks.Spot.{AtRoot, AtName, AtGap, Lost}
-use Rattle.plan_definitions.specs.Plans.{Hand, Plan, refused, read_held}
-use Rattle.plan_definitions.specs.Plans.Plan.{Finishes}
-use Rattle.plan_definitions.specs.FilePlans.{Writing, end_of, keeps_bytes, mixed, read_sector, set_sector, write_sector, write_sectors, sectors_met, resized, large_taken, file_dated, written_by, writing_in, writing_picked, writing_small, writing_large, writing, read_sectors, showing, at_file, with_file, plan_of_file}
+use Rattle.disk_definitions.specs.Edits.{Edit}
+use Rattle.disk_definitions.specs.Edits.Edit.{SetUse, SetBytes, SetLargeBytes}
+use Rattle.disk_definitions.specs.Picks.{picked_many, picked_large}
+use Rattle.disk_definitions.specs.Ask.{Sector, InodeAt, DirectoryAt, SegmentAt, BytesAt, LargeAt, Ask, Got, ReadInode, ReadBytes, ReadLarge, bind, part_of, run, looks, read_segments}
+use Rattle.disk_definitions.specs.Walks.{Spot, Target, walk, at_spot, at_target}
+use Rattle.disk_definitions.specs.Walks.Spot.{AtRoot, AtName, AtGap, Lost}
+use Rattle.disk_definitions.specs.Plans.{Hand, Plan, refused, read_held}
+use Rattle.disk_definitions.specs.Plans.Plan.{Finishes}
+use Rattle.disk_definitions.specs.FilePlans.{Writing, end_of, keeps_bytes, mixed, read_sector, set_sector, write_sector, write_sectors, sectors_met, resized, large_taken, file_dated, written_by, writing_in, writing_picked, writing_small, writing_large, writing, read_sectors, showing, at_file, with_file, plan_of_file}
 use Rattle.plan_laws.specs.Looking.{AllSayTheSame}
 use Rattle.plan_laws.proofs.Asking.{run-bind, looks-bind, framed}
-use Rattle.plan_shapes.specs.Stores.{with_bytes}
+use Rattle.line_laws.specs.Stores.{with_bytes}
 use Rattle.line_commits.specs.Planners.{edit_shape, plan_shape}
 use Rattle.line_commits.proofs.Asking.{AsksOnly, asked}
 use Rattle.line_commits.proofs.AskedNames.{walk_asks}

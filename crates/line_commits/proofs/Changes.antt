@@ -15,8 +15,8 @@ use Rattle.sector_bytes.specs.Replays.{change_at}
 use Rattle.sector_bytes.specs.Sectors.{Sectors}
 use Rattle.tree_laws.proofs.Pairs.{birth_exact}
 use Rattle.disk_definitions.specs.Standing.{version_at}
-use Rattle.store_changes.specs.Edits.{Edit}
-use Rattle.plan_definitions.specs.Written.{edit_sector, all_edited, is_metadata, metadata_sector, with_number, ascending, change_by, change_of, changes_of, forced_in}
+use Rattle.disk_definitions.specs.Edits.{Edit}
+use Rattle.disk_definitions.specs.Written.{edit_sector, all_edited, is_metadata, metadata_sector, with_number, ascending, change_by, change_of, changes_of, forced_in}
 use Rattle.plan_records.proofs.LaidOver.{change_sector}
 use Rattle.line_commits.proofs.Lists.{member_has, has_filter}
 

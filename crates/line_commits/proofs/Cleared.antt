@@ -10,19 +10,19 @@ use Rattle.tree_definitions.specs.declared.node.Node.TheVariants.{Dir, File, Lin
 use Rattle.tree_definitions.specs.Perform.{Step, Goes, Stops}
 use Rattle.tree_definitions.specs.Tree.{small_blocks_of}
 use Rattle.disk_definitions.specs.Store.{Store, StoredNode}
-use Rattle.pick_definitions.specs.Held.{state_in}
-use Rattle.pick_definitions.specs.Picks.{is_in_state, picked_inode, picked_many, picked_large}
-use Rattle.plan_definitions.specs.Ask.{InodeAt, SegmentAt, Ask, Got, ReadInode, ReadDirectory, bind, run, looks, read_segments}
-use Rattle.plan_definitions.specs.Walks.{Spot, Found, search, is_vacant, walk}
-use Rattle.plan_definitions.specs.Walks.Spot.{AtRoot, AtName, AtGap, Lost}
-use Rattle.plan_definitions.specs.Plans.{Hand, Plan, Finish, Room, refused, read_held, room_at, find_room, finish_in, is_full}
-use Rattle.plan_definitions.specs.Plans.Plan.{Lacks, Clears, Finishes}
-use Rattle.plan_definitions.specs.Plans.Room.{Inside, InBlock, NoRoom}
-use Rattle.plan_definitions.specs.NamePlans.{made_by, making_in, making_with, making, plan_made, linked_by, linking_in, linking_node, linking_to, linking, plan_linked, Moving, moved_within, moved_between, moving_in, moving_to, goes_through, renaming_to, renaming, plan_renamed}
-use Rattle.plan_definitions.specs.FilePlans.{Writing, end_of, writing_in, writing_picked, writing_small, writing_large, writing, plan_of_file}
-use Rattle.plan_definitions.specs.PlanOf.{plan_of}
+use Rattle.disk_definitions.specs.Held.{state_in}
+use Rattle.disk_definitions.specs.Picks.{is_in_state, picked_inode, picked_many, picked_large}
+use Rattle.disk_definitions.specs.Ask.{InodeAt, SegmentAt, Ask, Got, ReadInode, ReadDirectory, bind, run, looks, read_segments}
+use Rattle.disk_definitions.specs.Walks.{Spot, Found, search, is_vacant, walk}
+use Rattle.disk_definitions.specs.Walks.Spot.{AtRoot, AtName, AtGap, Lost}
+use Rattle.disk_definitions.specs.Plans.{Hand, Plan, Finish, Room, refused, read_held, room_at, find_room, finish_in, is_full}
+use Rattle.disk_definitions.specs.Plans.Plan.{Lacks, Clears, Finishes}
+use Rattle.disk_definitions.specs.Plans.Room.{Inside, InBlock, NoRoom}
+use Rattle.disk_definitions.specs.NamePlans.{made_by, making_in, making_with, making, plan_made, linked_by, linking_in, linking_node, linking_to, linking, plan_linked, Moving, moved_within, moved_between, moving_in, moving_to, goes_through, renaming_to, renaming, plan_renamed}
+use Rattle.disk_definitions.specs.FilePlans.{Writing, end_of, writing_in, writing_picked, writing_small, writing_large, writing, plan_of_file}
+use Rattle.disk_definitions.specs.PlanOf.{plan_of}
 use Rattle.plan_laws.proofs.Asking.{run-bind, looks-bind}
-use Rattle.line_definitions.specs.Lines.{resolved, with_trail, plan_step, plan_of_line}
+use Rattle.disk_definitions.specs.Lines.{resolved, with_trail, plan_step, plan_of_line}
 use Rattle.line_commits.specs.Planners.{cleared, ClearsAndGoesOn}
 
 -- what is behind a trail is finished where it is itself

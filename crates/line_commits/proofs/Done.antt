@@ -14,31 +14,31 @@ use Rattle.tree_definitions.specs.Numbers.{below as numbers_below}
 use Rattle.tree_definitions.specs.Tree.{FileTree}
 use Rattle.disk_definitions.specs.Naming.{Naming}
 use Rattle.disk_definitions.specs.Store.{Store, store_of}
-use Rattle.pick_definitions.specs.Held.{Segments, bitmap_of, state_in}
-use Rattle.pick_definitions.specs.Picks.{is_in_state}
-use Rattle.store_changes.specs.Edits.{Edit, edited_all}
-use Rattle.plan_definitions.specs.Allowed.{IsAllowed}
-use Rattle.plan_definitions.specs.Ask.{Sector, SegmentAt, Ask, AtHand, Has, run, looks, meet}
-use Rattle.plan_definitions.specs.FitEdits.{AreFit}
-use Rattle.plan_definitions.specs.FitPlans.{IsFitStore, PlanIsFit}
-use Rattle.plan_definitions.specs.Meets.{IsHandOf}
-use Rattle.plan_definitions.specs.Missing.{is_at_hand, first_missing, unless_missing}
-use Rattle.plan_definitions.specs.OnDisk.{AreOfDisk}
-use Rattle.plan_definitions.specs.Plans.{Hand, Plan, Finish}
-use Rattle.plan_definitions.specs.Plans.Plan.{Lacks, Clears, Finishes}
-use Rattle.plan_definitions.specs.Written.{Cached, at_hand, hand_of, is_held, is_zeroed, sectors_at_hand, changes_of, is_metadata, edit_sector}
+use Rattle.disk_definitions.specs.Held.{Segments, bitmap_of, state_in}
+use Rattle.disk_definitions.specs.Picks.{is_in_state}
+use Rattle.disk_definitions.specs.Edits.{Edit, edited_all}
+use Rattle.disk_definitions.specs.Allowed.{IsAllowed}
+use Rattle.disk_definitions.specs.Ask.{Sector, SegmentAt, Ask, AtHand, Has, run, looks, meet}
+use Rattle.disk_definitions.specs.FitEdits.{AreFit}
+use Rattle.disk_definitions.specs.FitPlans.{IsFitStore, PlanIsFit}
+use Rattle.disk_definitions.specs.Meets.{IsHandOf}
+use Rattle.disk_definitions.specs.Missing.{is_at_hand, first_missing, unless_missing}
+use Rattle.disk_definitions.specs.OnDisk.{AreOfDisk}
+use Rattle.disk_definitions.specs.Plans.{Hand, Plan, Finish}
+use Rattle.disk_definitions.specs.Plans.Plan.{Lacks, Clears, Finishes}
+use Rattle.disk_definitions.specs.Written.{Cached, at_hand, hand_of, is_held, is_zeroed, sectors_at_hand, changes_of, is_metadata, edit_sector}
 use Rattle.plan_fit.proofs.DecodedEntries.{disks_fit}
-use Rattle.plan_looks.specs.Inside.{AreInside}
-use Rattle.plan_looks.specs.Looked.{edited_at}
-use Rattle.plan_looks.proofs.Deciding.{meets_where}
-use Rattle.plan_moves.specs.Plans.{Planner}
+use Rattle.plan_laws.specs.Inside.{AreInside}
+use Rattle.plan_laws.specs.Looked.{edited_at}
+use Rattle.plan_laws.proofs.Deciding.{meets_where}
+use Rattle.plan_laws.specs.Plans.{Planner}
 use Rattle.plan_records.proofs.LaidOver.{Misses}
-use Rattle.plan_standing.specs.Laws.{HasPath}
-use Rattle.plan_standing.proofs.AtHand.{agrees}
-use Rattle.plan_standing.proofs.Held.{edit_is, none_missing}
-use Rattle.plan_standing.proofs.SameChanges.{same_changes}
-use Rattle.plan_standing.proofs.Zeroed.{zero_places}
-use Rattle.line_definitions.specs.Lines.{plan_of_line}
+use Rattle.line_laws.specs.Laws.{HasPath}
+use Rattle.line_laws.proofs.AtHand.{agrees}
+use Rattle.line_laws.proofs.Held.{edit_is, none_missing}
+use Rattle.line_laws.proofs.SameChanges.{same_changes}
+use Rattle.line_laws.proofs.Zeroed.{zero_places}
+use Rattle.disk_definitions.specs.Lines.{plan_of_line}
 use Rattle.line_commits.specs.LinePlans.{held_of, hand_by, hand_on, store_showing, store_on, without_bytes, blocks_told, versioned, plain, claims_of, fill_by, lock_in, sole_in, segment_lock, segment_number, outcome_by, outcome_if, outcome_over, are_segments, sector_plan_by}
 use Rattle.line_commits.specs.Planners.{edit_shape, finish_shape, plan_shape, cleared, IsSoundPlanner}
 use Rattle.line_commits.specs.Done.{IsThere, IsOutcomeOf, IsWholeDisk, DoneIsOutcome, LineDoneIsOutcome}

@@ -13,27 +13,27 @@ use Rattle.sector_bytes.specs.Blocks.{Block}
 use Rattle.sector_bytes.specs.Replays.{change_at}
 use Rattle.sector_bytes.specs.Sectors.{Sectors}
 use Rattle.sector_histories.specs.Plans.{Outcome, looks as touched}
-use Rattle.sector_definitions.specs.declared.region.Region.TheVariants as region
-use Rattle.sector_definitions.specs.Bitmaps.{bitmap_in}
-use Rattle.sector_definitions.specs.Directories.{directory_in}
-use Rattle.sector_definitions.specs.Inodes.{inode_in}
-use Rattle.sector_definitions.specs.Regions.{sector_of}
+use Rattle.disk_definitions.specs.declared.region.Region.TheVariants as region
+use Rattle.disk_definitions.specs.Bitmaps.{bitmap_in}
+use Rattle.disk_definitions.specs.Directories.{directory_in}
+use Rattle.disk_definitions.specs.Inodes.{inode_in}
+use Rattle.disk_definitions.specs.Regions.{sector_of}
 use Rattle.disk_definitions.specs.Store.{Store, stored_node, entry_in}
-use Rattle.pick_definitions.specs.Held.{Segments}
-use Rattle.store_changes.specs.Edits.{Edit}
-use Rattle.store_changes.specs.Edits.Edit.{SetInode, SetBit, SetUse, SetPlace, SetLarge, SetBytes, SetLargeBytes}
-use Rattle.plan_definitions.specs.Ask.{Sector, InodeAt, DirectoryAt, SegmentAt, BytesAt, LargeAt, Ask, run, looks, seven, number_of}
-use Rattle.plan_definitions.specs.Plans.{Hand, Plan, Finish}
-use Rattle.plan_definitions.specs.Plans.Plan.{Lacks, Clears, Finishes}
-use Rattle.plan_definitions.specs.Written.{changes_of, is_metadata, edit_sector}
+use Rattle.disk_definitions.specs.Held.{Segments}
+use Rattle.disk_definitions.specs.Edits.{Edit}
+use Rattle.disk_definitions.specs.Edits.Edit.{SetInode, SetBit, SetUse, SetPlace, SetLarge, SetBytes, SetLargeBytes}
+use Rattle.disk_definitions.specs.Ask.{Sector, InodeAt, DirectoryAt, SegmentAt, BytesAt, LargeAt, Ask, run, looks, seven, number_of}
+use Rattle.disk_definitions.specs.Plans.{Hand, Plan, Finish}
+use Rattle.disk_definitions.specs.Plans.Plan.{Lacks, Clears, Finishes}
+use Rattle.disk_definitions.specs.Written.{changes_of, is_metadata, edit_sector}
 use Rattle.plan_laws.specs.Looking.{AllSayTheSame}
 use Rattle.plan_laws.proofs.Asking.{framed}
 use Rattle.plan_laws.proofs.Covering.{has_head, has_more, map_has}
-use Rattle.plan_looks.specs.Looked.{edited_at}
-use Rattle.plan_moves.specs.Plans.{Planner}
-use Rattle.plan_standing.proofs.SameChanges.{same_changes}
-use Rattle.line_definitions.specs.Lines.{plan_of_line}
-use Rattle.plan_moves.specs.Numbered.{moves_of}
+use Rattle.plan_laws.specs.Looked.{edited_at}
+use Rattle.plan_laws.specs.Plans.{Planner}
+use Rattle.line_laws.proofs.SameChanges.{same_changes}
+use Rattle.disk_definitions.specs.Lines.{plan_of_line}
+use Rattle.plan_laws.specs.Numbered.{moves_of}
 use Rattle.line_commits.specs.LinePlans.{may_be_planned, held_of, hand_by, hand_on, byte_shown, store_showing, store_on, without_bytes, blocks_told, versioned, plain, claims_of, makes_by, lock_in, sole_in, segment_lock, segment_number, outcome_by, outcome_if, outcome_over, are_segments}
 use Rattle.line_commits.specs.Planners.{IsSoundPlanner}
 use Rattle.line_commits.specs.Guards.{SoundPlansAreFramed, LinePlansAreFramed}

@@ -19,32 +19,32 @@ use Rattle.sector_bytes.specs.Sectors.{Sectors}
 use Rattle.sector_histories.specs.Histories.{Fill}
 use Rattle.sector_histories.specs.Histories.Fill.{Written, Freed}
 use Rattle.sector_histories.specs.Plans.{Outcome, looks as touched}
-use Rattle.sector_definitions.specs.declared.region.Region.{Region}
-use Rattle.sector_definitions.specs.declared.region.Region.TheVariants as region
-use Rattle.sector_definitions.specs.Regions.{region_of}
-use Rattle.sector_definitions.proofs.RegionLaws.{region_read}
+use Rattle.disk_definitions.specs.declared.region.Region.{Region}
+use Rattle.disk_definitions.specs.declared.region.Region.TheVariants as region
+use Rattle.disk_definitions.specs.Regions.{region_of}
+use Rattle.disk_definitions.proofs.RegionLaws.{region_read}
 use Rattle.tree_definitions.specs.Tree.{FileTree}
 use Rattle.tree_laws.proofs.Pairs.{birth_exact, tie}
 use Rattle.disk_definitions.specs.Naming.{Naming}
 use Rattle.disk_definitions.specs.Store.{Store, Use, is_unused}
-use Rattle.pick_definitions.specs.Held.{state_in}
-use Rattle.pick_definitions.specs.Picks.{is_in_state}
-use Rattle.store_changes.specs.Edits.{Edit}
-use Rattle.store_changes.specs.Edits.Edit.{SetInode, SetBit, SetUse, SetPlace, SetLarge, SetBytes, SetLargeBytes}
-use Rattle.plan_definitions.specs.Ask.{Sector, InodeAt, DirectoryAt, SegmentAt, BytesAt, LargeAt, Ask, run, looks, number_of}
-use Rattle.plan_definitions.specs.Plans.{Hand, Lock, Plan, Finish}
-use Rattle.plan_definitions.specs.Plans.Plan.{Lacks, Clears, Finishes}
-use Rattle.plan_definitions.specs.Meets.{IsHandOf, is_directory_use}
-use Rattle.plan_definitions.specs.Written.{edit_sector, byte_writes, freed_sectors}
+use Rattle.disk_definitions.specs.Held.{state_in}
+use Rattle.disk_definitions.specs.Picks.{is_in_state}
+use Rattle.disk_definitions.specs.Edits.{Edit}
+use Rattle.disk_definitions.specs.Edits.Edit.{SetInode, SetBit, SetUse, SetPlace, SetLarge, SetBytes, SetLargeBytes}
+use Rattle.disk_definitions.specs.Ask.{Sector, InodeAt, DirectoryAt, SegmentAt, BytesAt, LargeAt, Ask, run, looks, number_of}
+use Rattle.disk_definitions.specs.Plans.{Hand, Lock, Plan, Finish}
+use Rattle.disk_definitions.specs.Plans.Plan.{Lacks, Clears, Finishes}
+use Rattle.disk_definitions.specs.Meets.{IsHandOf, is_directory_use}
+use Rattle.disk_definitions.specs.Written.{edit_sector, byte_writes, freed_sectors}
 use Rattle.plan_laws.specs.Locks.{IsSole}
 use Rattle.plan_laws.proofs.Covering.{has_head, has_more, has_cases, not_in_none, map_has}
-use Rattle.plan_looks.specs.Inside.{IsInside, AreInside}
-use Rattle.plan_looks.specs.Looked.{edited_at}
-use Rattle.plan_covers.specs.Covers.{cover_of, IsHeld, PlanHolds, IsHeldSegment}
-use Rattle.plan_moves.specs.Moves.{first_said, use_said, taker_said, small_move, moved_by}
-use Rattle.plan_moves.specs.Plans.{Planner, Fills}
+use Rattle.plan_laws.specs.Inside.{IsInside, AreInside}
+use Rattle.plan_laws.specs.Looked.{edited_at}
+use Rattle.plan_laws.specs.Covers.{cover_of, IsHeld, PlanHolds, IsHeldSegment}
+use Rattle.plan_laws.specs.Moves.{first_said, use_said, taker_said, small_move, moved_by}
+use Rattle.plan_laws.specs.Plans.{Planner, Fills}
 use Rattle.plan_records.proofs.Kept.{is_less}
-use Rattle.plan_moves.specs.Numbered.{sector_in, sector_at, moves_of}
+use Rattle.plan_laws.specs.Numbered.{sector_in, sector_at, moves_of}
 use Rattle.line_commits.specs.LinePlans.{may_be_planned, held_of, hand_on, store_showing, store_on, versioned, plain, becomes_directory, is_claimed, claims_of, fill_by, edits_in, lock_in, sole_in, segment_lock, segment_number, outcome_by, outcome_if, outcome_over, are_segments}
 use Rattle.line_commits.specs.Planners.{IsPart, IsSoundPlanner}
 use Rattle.line_commits.specs.Guards.{IsDiskOf, IsUnder, IsSeen, IsMoved, IsClaimed, KeepsGuards, SoundPlansKeepGuards, LinePlansKeepGuards}
@@ -53,7 +53,7 @@ use Rattle.line_commits.proofs.Changes.{IsChange, change_of_edit}
 use Rattle.line_commits.proofs.Hands.{is_hand, held_asked, hint_fresh}
 use Rattle.line_commits.proofs.Framed.{edited_versioned, seen_is_looked}
 use Rattle.line_commits.proofs.LinesSound.{lines_are_sound}
-use Rattle.line_definitions.specs.Lines.{plan_of_line}
+use Rattle.disk_definitions.specs.Lines.{plan_of_line}
 
 -- ---- numbers
 

@@ -8,23 +8,23 @@ use Rattle.std.specs.Option.{option_map}
 use Rattle.std.specs.Ordering.{nat_cmp}
 use Rattle.frang_base.specs.declared.bitmap.Bitmap.{Bitmap}
 use Rattle.frang_base.proofs.Basics.{of_lt, eq_of}
-use Rattle.sector_definitions.specs.declared.region.Region.TheVariants as region
-use Rattle.sector_definitions.specs.Bitmaps.{inode_bit, block_state}
-use Rattle.sector_definitions.specs.Directories.{directory_in}
-use Rattle.sector_definitions.specs.Regions.{sector_of}
+use Rattle.disk_definitions.specs.declared.region.Region.TheVariants as region
+use Rattle.disk_definitions.specs.Bitmaps.{inode_bit, block_state}
+use Rattle.disk_definitions.specs.Directories.{directory_in}
+use Rattle.disk_definitions.specs.Regions.{sector_of}
 use Rattle.sector_bytes.specs.Blocks.{zero_block}
 use Rattle.sector_bytes.specs.Sectors.{Sectors}
 use Rattle.tree_definitions.specs.Numbers.{below}
 use Rattle.tree_laws.proofs.Pairs.{birth_exact, tie}
 use Rattle.disk_definitions.specs.Store.{Store, segment_at, entry_in, use_by}
 use Rattle.disk_definitions.specs.Store.Use.{Fresh}
-use Rattle.pick_definitions.specs.Held.{Segments, bitmap_of, inode_in, state_in, large_in}
-use Rattle.pick_definitions.specs.Picks.{is_in_state}
-use Rattle.pick_definitions.proofs.PickLaws.{held_there}
-use Rattle.plan_definitions.specs.Meets.{IsHandOf}
+use Rattle.disk_definitions.specs.Held.{Segments, bitmap_of, inode_in, state_in, large_in}
+use Rattle.disk_definitions.specs.Picks.{is_in_state}
+use Rattle.disk_definitions.proofs.PickLaws.{held_there}
+use Rattle.disk_definitions.specs.Meets.{IsHandOf}
 use Rattle.plan_laws.proofs.Covering.{has_head, has_more}
 use Rattle.plan_records.proofs.Kept.{is_less}
-use Rattle.plan_standing.proofs.Zeroed.{no_entry}
+use Rattle.line_laws.proofs.Zeroed.{no_entry}
 use Rattle.line_commits.specs.LinePlans.{held_at, held_of, hand_on, store_on}
 use Rattle.line_commits.specs.Guards.{IsClear}
 

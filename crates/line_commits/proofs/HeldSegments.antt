@@ -12,7 +12,7 @@ use Rattle.sector_bytes.specs.SectorMaps.{Ascend}
 use Rattle.sector_bytes.specs.Sectors.{Sectors}
 use Rattle.tree_laws.proofs.Pairs.{birth_exact, tie, self}
 use Rattle.disk_definitions.specs.Store.{segment_at}
-use Rattle.pick_definitions.specs.Held.{Segments, bitmap_of}
+use Rattle.disk_definitions.specs.Held.{Segments, bitmap_of}
 use Rattle.plan_laws.proofs.Covering.{has_head, has_more, has_cases, not_in_none}
 use Rattle.line_commits.specs.LinePlans.{held_at, held_of, are_segments}
 

@@ -2,20 +2,20 @@
 use Rattle.std.proofs.Common.{◌≡◌, true, refl, sym, ◌∙◌, subst}
 use Rattle.std.proofs.lemmas.List.Elements.{Contains-append_right}
 use Rattle.std.specs.List.{Contains}
-use Rattle.store_changes.specs.Edits.{Edit}
-use Rattle.plan_definitions.specs.Ask.{run, looks}
-use Rattle.plan_definitions.specs.Plans.{Plan, Lacks, Clears, Finishes}
-use Rattle.plan_definitions.specs.FitPlans.{PlanIsFit}
-use Rattle.plan_definitions.specs.Written.{is_metadata}
+use Rattle.disk_definitions.specs.Edits.{Edit}
+use Rattle.disk_definitions.specs.Ask.{run, looks}
+use Rattle.disk_definitions.specs.Plans.{Plan, Lacks, Clears, Finishes}
+use Rattle.disk_definitions.specs.FitPlans.{PlanIsFit}
+use Rattle.disk_definitions.specs.Written.{is_metadata}
 use Rattle.plan_laws.proofs.Covering.{not_in_none}
-use Rattle.plan_looks.specs.Looked.{edited_at}
-use Rattle.plan_looks.proofs.AllLooked.{edits_are_looked_at}
-use Rattle.line_definitions.specs.Lines.{resolved, plan_of_line}
+use Rattle.plan_laws.specs.Looked.{edited_at}
+use Rattle.plan_laws.proofs.AllLooked.{edits_are_looked_at}
+use Rattle.disk_definitions.specs.Lines.{resolved, plan_of_line}
 use Rattle.line_laws.proofs.Running.{step_looks, run_line, looks_line}
 use Rattle.line_laws.proofs.Inside.{lines_inside}
 use Rattle.line_laws.proofs.Covered.{by_finish, line_looks_covered, line_edits_covered}
-use Rattle.line_moves.proofs.Laws.{lines_move, covers_follow_lines, line_moves_are_owned, line_directories_stay, line_bytes_are_owned}
-use Rattle.line_standing.proofs.Fitting.{line_fits}
+use Rattle.line_laws.proofs.Laws.{lines_move, covers_follow_lines, line_moves_are_owned, line_directories_stay, line_bytes_are_owned}
+use Rattle.line_laws.proofs.Fitting.{line_fits}
 use Rattle.line_commits.specs.Planners.{LooksAtEdits, FitsTheDisk, IsSoundPlanner}
 use Rattle.line_commits.proofs.AllBlind.{bytes_dont_decide}
 use Rattle.line_commits.proofs.Cleared.{lines_clear}

@@ -13,23 +13,23 @@ use Rattle.sector_bytes.specs.Sectors.{Sectors}
 use Rattle.sector_histories.specs.Histories.{Fill}
 use Rattle.sector_histories.specs.Histories.Fill.{Written, Freed}
 use Rattle.sector_histories.specs.Plans.{made_of}
-use Rattle.sector_definitions.specs.declared.region.Region.TheVariants as region
-use Rattle.sector_definitions.specs.Regions.{sector_of}
+use Rattle.disk_definitions.specs.declared.region.Region.TheVariants as region
+use Rattle.disk_definitions.specs.Regions.{sector_of}
 use Rattle.tree_definitions.specs.Tree.{FileTree}
 use Rattle.disk_definitions.specs.Naming.{Naming}
 use Rattle.disk_definitions.specs.Store.{Store, store_of}
-use Rattle.pick_definitions.specs.Held.{Segments}
-use Rattle.plan_definitions.specs.Ask.{Sector, InodeAt, DirectoryAt, SegmentAt, BytesAt, LargeAt, Ask, part_of, run, looks, number_of}
-use Rattle.plan_definitions.specs.Meets.{IsOfTree}
-use Rattle.plan_definitions.specs.Missing.{is_at_hand}
-use Rattle.plan_definitions.specs.Plans.{Hand, Plan, Finish}
-use Rattle.plan_definitions.specs.Plans.Plan.{Finishes}
-use Rattle.plan_definitions.specs.Written.{Cached, at_hand, bytes_at_hand, byte_writes}
+use Rattle.disk_definitions.specs.Held.{Segments}
+use Rattle.disk_definitions.specs.Ask.{Sector, InodeAt, DirectoryAt, SegmentAt, BytesAt, LargeAt, Ask, part_of, run, looks, number_of}
+use Rattle.disk_definitions.specs.Meets.{IsOfTree}
+use Rattle.disk_definitions.specs.Missing.{is_at_hand}
+use Rattle.disk_definitions.specs.Plans.{Hand, Plan, Finish}
+use Rattle.disk_definitions.specs.Plans.Plan.{Finishes}
+use Rattle.disk_definitions.specs.Written.{Cached, at_hand, bytes_at_hand, byte_writes}
 use Rattle.plan_laws.specs.Looking.{AllSayTheSame}
 use Rattle.plan_laws.proofs.Asking.{framed}
 use Rattle.plan_laws.proofs.Covering.{has_head, has_more}
-use Rattle.plan_moves.specs.Plans.{Planner}
-use Rattle.plan_shapes.specs.Stores.{with_bytes}
+use Rattle.plan_laws.specs.Plans.{Planner}
+use Rattle.line_laws.specs.Stores.{with_bytes}
 use Rattle.line_commits.specs.LinePlans.{byte_shown, store_showing, store_on, plain, fill_by, edits_in, makes_by}
 use Rattle.line_commits.specs.Outcomes.{fill_shape}
 use Rattle.line_commits.specs.Places.{SameBytesAt, WritesInPlace}

@@ -6,8 +6,8 @@ use Rattle.std.specs.List.{AllByRecursion, list_all}
 use Rattle.frang_base.specs.Name.{is_name, is_target, is_target_byte}
 use Rattle.frang_base.specs.declared.op.Op.{Op}
 use Rattle.frang_base.specs.declared.op.Op.TheVariants as op
-use Rattle.plan_definitions.specs.Allowed.{AreNames, IsTarget, AreBytes, IsAllowed}
-use Rattle.plan_standing.specs.Laws.{HasPath}
+use Rattle.disk_definitions.specs.Allowed.{AreNames, IsTarget, AreBytes, IsAllowed}
+use Rattle.line_laws.specs.Laws.{HasPath}
 use Rattle.line_commits.specs.LinePlans.{are_names, may_be_planned}
 use Rattle.line_commits.specs.Outcomes.{TestSaysWhatIsAllowed}
 

@@ -13,12 +13,12 @@ use Rattle.sector_bytes.specs.Sectors.{Sectors}
 use Rattle.sector_histories.specs.Histories.{Fill}
 use Rattle.sector_histories.specs.Histories.Fill.{Written, Freed}
 use Rattle.sector_histories.specs.Plans.{Outcome, made_of}
-use Rattle.store_changes.specs.Edits.{Edit}
-use Rattle.store_changes.specs.Edits.Edit.{SetInode, SetBit, SetUse, SetPlace, SetLarge, SetBytes, SetLargeBytes}
-use Rattle.plan_definitions.specs.Ask.{Ask, run, looks}
-use Rattle.plan_definitions.specs.Plans.{Hand, Plan}
-use Rattle.plan_definitions.specs.Plans.Plan.{Lacks, Clears, Finishes}
-use Rattle.plan_definitions.specs.Written.{byte_write, byte_writes, freed_sectors}
+use Rattle.disk_definitions.specs.Edits.{Edit}
+use Rattle.disk_definitions.specs.Edits.Edit.{SetInode, SetBit, SetUse, SetPlace, SetLarge, SetBytes, SetLargeBytes}
+use Rattle.disk_definitions.specs.Ask.{Ask, run, looks}
+use Rattle.disk_definitions.specs.Plans.{Hand, Plan}
+use Rattle.disk_definitions.specs.Plans.Plan.{Lacks, Clears, Finishes}
+use Rattle.disk_definitions.specs.Written.{byte_write, byte_writes, freed_sectors}
 use Rattle.line_commits.specs.LinePlans.{may_be_planned, hand_on, byte_shown, store_showing, store_on, fill_by, edits_in, makes_by, outcome_by, outcome_if, outcome_over, are_segments}
 use Rattle.line_commits.specs.Planners.{edit_shape, plan_shape}
 use Rattle.line_commits.specs.Outcomes.{IsOfAFinish, IsOfAPlan, OutcomesAreOfPlans, fill_shape, MakesAreOfEdits}

@@ -14,34 +14,34 @@ use Rattle.sector_bytes.specs.Replays.{change_at}
 use Rattle.sector_bytes.specs.Sectors.{Sectors}
 use Rattle.sector_histories.specs.Histories.{Fill}
 use Rattle.sector_histories.specs.Plans.{Outcome}
-use Rattle.sector_definitions.specs.declared.region.Region.TheVariants as region
-use Rattle.sector_definitions.specs.Regions.{sector_of}
-use Rattle.sector_definitions.proofs.RegionLaws.{region_found}
+use Rattle.disk_definitions.specs.declared.region.Region.TheVariants as region
+use Rattle.disk_definitions.specs.Regions.{sector_of}
+use Rattle.disk_definitions.proofs.RegionLaws.{region_found}
 use Rattle.tree_definitions.specs.Numbers.{below}
 use Rattle.tree_definitions.specs.Tree.{FileTree}
 use Rattle.disk_definitions.specs.Naming.{Naming}
 use Rattle.disk_definitions.specs.Store.{Store, Use, is_unused, store_of}
 use Rattle.disk_definitions.specs.Store.Use.{Fresh, Bytes, Empty, Entries}
-use Rattle.store_changes.specs.Edits.{Edit, edited_all}
-use Rattle.store_changes.specs.Edits.Edit.{SetInode, SetBit, SetUse, SetPlace, SetLarge, SetBytes, SetLargeBytes}
-use Rattle.plan_definitions.specs.Allowed.{IsAllowed}
-use Rattle.plan_definitions.specs.Ask.{Sector, DirectoryAt, LargeAt, Ask, run, looks}
-use Rattle.plan_definitions.specs.FitEdits.{AreFit, IsFitEdit}
-use Rattle.plan_definitions.specs.FitPlans.{IsFitStore, PlanIsFit}
-use Rattle.plan_definitions.specs.Meets.{IsHandOf}
-use Rattle.plan_definitions.specs.Plans.{Hand, Plan, Finish}
-use Rattle.plan_definitions.specs.Plans.Plan.{Finishes}
-use Rattle.plan_definitions.specs.Written.{byte_write, is_metadata, edit_sector, edited_block, sectors_given_back, freed_sectors}
+use Rattle.disk_definitions.specs.Edits.{Edit, edited_all}
+use Rattle.disk_definitions.specs.Edits.Edit.{SetInode, SetBit, SetUse, SetPlace, SetLarge, SetBytes, SetLargeBytes}
+use Rattle.disk_definitions.specs.Allowed.{IsAllowed}
+use Rattle.disk_definitions.specs.Ask.{Sector, DirectoryAt, LargeAt, Ask, run, looks}
+use Rattle.disk_definitions.specs.FitEdits.{AreFit, IsFitEdit}
+use Rattle.disk_definitions.specs.FitPlans.{IsFitStore, PlanIsFit}
+use Rattle.disk_definitions.specs.Meets.{IsHandOf}
+use Rattle.disk_definitions.specs.Plans.{Hand, Plan, Finish}
+use Rattle.disk_definitions.specs.Plans.Plan.{Finishes}
+use Rattle.disk_definitions.specs.Written.{byte_write, is_metadata, edit_sector, edited_block, sectors_given_back, freed_sectors}
 use Rattle.plan_fit.proofs.DecodedEntries.{disks_fit}
 use Rattle.plan_laws.proofs.Covering.{has_head, has_more, not_in_none}
-use Rattle.plan_looks.specs.Looked.{edited_at}
-use Rattle.plan_covers.specs.Covers.{cover_of}
-use Rattle.plan_moves.specs.Moves.{first_said, use_said, large_said, taker_said, large_taker_said, small_move, large_move, moved_by, node_lock, AreTidy}
-use Rattle.plan_moves.specs.Plans.{Planner, Fills}
-use Rattle.plan_moves.proofs.Owned.{something_said}
+use Rattle.plan_laws.specs.Looked.{edited_at}
+use Rattle.plan_laws.specs.Covers.{cover_of}
+use Rattle.plan_laws.specs.Moves.{first_said, use_said, large_said, taker_said, large_taker_said, small_move, large_move, moved_by, node_lock, AreTidy}
+use Rattle.plan_laws.specs.Plans.{Planner, Fills}
+use Rattle.plan_laws.proofs.Owned.{something_said}
 use Rattle.plan_records.proofs.Kept.{edit_in_range, in_small, in_large}
-use Rattle.line_definitions.specs.Lines.{plan_of_line}
-use Rattle.plan_moves.specs.Numbered.{sector_in, sector_at}
+use Rattle.disk_definitions.specs.Lines.{plan_of_line}
+use Rattle.plan_laws.specs.Numbered.{sector_in, sector_at}
 use Rattle.line_commits.specs.LinePlans.{hand_on, store_showing, store_on, fill_by, edits_in, outcome_by}
 use Rattle.line_commits.specs.Planners.{IsSoundPlanner}
 use Rattle.line_commits.specs.Done.{IsWholeDisk}

@@ -5,12 +5,12 @@ use Rattle.frang_base.specs.declared.op.Op.{Op}
 use Rattle.frang_base.specs.declared.op.Op.TheVariants as op
 use Rattle.tree_definitions.specs.declared.node.Node.TheVariants.{Dir, File, Link}
 use Rattle.tree_definitions.specs.Perform.{Step, Goes, Stops}
-use Rattle.plan_definitions.specs.Ask.{Sector, InodeAt, DirectoryAt, SegmentAt, BytesAt, LargeAt, Got, looks}
-use Rattle.plan_definitions.specs.Plans.{Hand}
-use Rattle.plan_definitions.specs.FilePlans.{Writing, writing, cutting, showing, plan_of_file}
-use Rattle.plan_definitions.specs.PlanOf.{plan_of}
+use Rattle.disk_definitions.specs.Ask.{Sector, InodeAt, DirectoryAt, SegmentAt, BytesAt, LargeAt, Got, looks}
+use Rattle.disk_definitions.specs.Plans.{Hand}
+use Rattle.disk_definitions.specs.FilePlans.{Writing, writing, cutting, showing, plan_of_file}
+use Rattle.disk_definitions.specs.PlanOf.{plan_of}
 use Rattle.plan_laws.proofs.Covering.{has_cases, not_in_none}
-use Rattle.line_definitions.specs.Lines.{resolved, with_trail, plan_step, plan_of_line}
+use Rattle.disk_definitions.specs.Lines.{resolved, with_trail, plan_step, plan_of_line}
 use Rattle.line_commits.specs.Planners.{IsPart, LooksAtParts}
 use Rattle.line_commits.proofs.Asking.{AsksOnly, asks_bind, asked}
 use Rattle.line_commits.proofs.AskedNames.{made_asks, linked_asks, unlinked_asks, removed_asks, renamed_asks}

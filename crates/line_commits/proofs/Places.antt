@@ -18,24 +18,24 @@ use Rattle.tree_laws.proofs.Pairs.{birth_exact, tie}
 use Rattle.disk_definitions.specs.Naming.{Naming}
 use Rattle.disk_definitions.specs.Store.{Store, StoredNode}
 use Rattle.disk_definitions.specs.Store.Use.{Bytes}
-use Rattle.store_changes.specs.Edits.{Edit}
-use Rattle.store_changes.specs.Edits.Edit.{SetUse, SetBytes, SetLargeBytes}
-use Rattle.pick_definitions.specs.Picks.{picked_many, picked_large}
-use Rattle.plan_definitions.specs.Ask.{BytesAt, LargeAt, Ask, Got, ReadInode, bind, part_of, run, number_of, read_segments}
-use Rattle.plan_definitions.specs.Meets.{IsOfTree}
-use Rattle.plan_definitions.specs.Walks.{Spot, Target, walk, at_spot, at_target}
-use Rattle.plan_definitions.specs.Walks.Spot.{AtRoot, AtName, AtGap, Lost}
-use Rattle.plan_definitions.specs.Plans.{Hand, Plan, refused, read_held, Lacks, Clears, Finishes}
-use Rattle.plan_definitions.specs.FilePlans.{Writing, end_of, keeps_bytes, mixed, set_sector, sectors_met, resized, large_taken, file_dated, written_by, writing_in, writing_picked, writing_small, writing_large, writing, read_sectors, showing, at_file, with_file, plan_of_file}
-use Rattle.plan_definitions.specs.PlanOf.{plan_of}
-use Rattle.plan_definitions.specs.Written.{byte_write, byte_writes}
+use Rattle.disk_definitions.specs.Edits.{Edit}
+use Rattle.disk_definitions.specs.Edits.Edit.{SetUse, SetBytes, SetLargeBytes}
+use Rattle.disk_definitions.specs.Picks.{picked_many, picked_large}
+use Rattle.disk_definitions.specs.Ask.{BytesAt, LargeAt, Ask, Got, ReadInode, bind, part_of, run, number_of, read_segments}
+use Rattle.disk_definitions.specs.Meets.{IsOfTree}
+use Rattle.disk_definitions.specs.Walks.{Spot, Target, walk, at_spot, at_target}
+use Rattle.disk_definitions.specs.Walks.Spot.{AtRoot, AtName, AtGap, Lost}
+use Rattle.disk_definitions.specs.Plans.{Hand, Plan, refused, read_held, Lacks, Clears, Finishes}
+use Rattle.disk_definitions.specs.FilePlans.{Writing, end_of, keeps_bytes, mixed, set_sector, sectors_met, resized, large_taken, file_dated, written_by, writing_in, writing_picked, writing_small, writing_large, writing, read_sectors, showing, at_file, with_file, plan_of_file}
+use Rattle.disk_definitions.specs.PlanOf.{plan_of}
+use Rattle.disk_definitions.specs.Written.{byte_write, byte_writes}
 use Rattle.plan_laws.proofs.Asking.{run-bind, run-segments}
 use Rattle.plan_laws.proofs.Bytes.{run-sectors}
 use Rattle.plan_laws.proofs.Sectors.{old_sector, sector_edits, run-writes}
-use Rattle.plan_covers.proofs.FilesFine.{in_small, met_before}
-use Rattle.plan_covers.proofs.Standing.{IsFileNode, stands}
-use Rattle.plan_shapes.specs.Stores.{with_bytes}
-use Rattle.line_definitions.specs.Lines.{resolved, with_trail, plan_step, plan_of_line}
+use Rattle.plan_laws.proofs.FilesFine.{in_small, met_before}
+use Rattle.plan_laws.proofs.Standing.{IsFileNode, stands}
+use Rattle.line_laws.specs.Stores.{with_bytes}
+use Rattle.disk_definitions.specs.Lines.{resolved, with_trail, plan_step, plan_of_line}
 use Rattle.line_commits.specs.LinePlans.{edits_in}
 use Rattle.line_commits.specs.Places.{SameBytesAt, LinesWriteInPlace}
 use Rattle.line_commits.proofs.AllBlind.{no_inode, no_directory, no_segment, plan_plain}

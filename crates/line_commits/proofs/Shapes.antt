@@ -10,18 +10,18 @@ use Rattle.frang_base.specs.Functions.{member}
 use Rattle.frang_base.proofs.Basics.{of_eq, eq_of}
 use Rattle.sector_bytes.specs.Patches.{patches_with}
 use Rattle.sector_bytes.specs.Sectors.{Sectors}
-use Rattle.sector_definitions.specs.Inodes.{is_time_place}
+use Rattle.disk_definitions.specs.Inodes.{is_time_place}
 use Rattle.disk_definitions.specs.Standing.{version_at}
-use Rattle.pick_definitions.specs.Held.{Segments, state_in}
-use Rattle.pick_definitions.specs.Picks.{is_in_state}
-use Rattle.store_changes.specs.Edits.{Edit}
-use Rattle.store_changes.specs.Edits.Edit.{SetInode, SetBit, SetUse, SetPlace, SetLarge, SetBytes, SetLargeBytes}
-use Rattle.plan_definitions.specs.Ask.{Sector, InodeAt, DirectoryAt, SegmentAt, BytesAt, LargeAt}
-use Rattle.plan_definitions.specs.Written.{edit_sector, edited_sectors, all_edited, is_metadata, metadata_sector, ascending, change_by, dates, forced_in, change_of, changes_of, sectors_given_back, freed_sectors}
-use Rattle.plan_moves.specs.Moves.{first_said, bit_said, use_said, large_said, taker_said, large_taker_said, inode_move, small_move, large_move, moved_by}
+use Rattle.disk_definitions.specs.Held.{Segments, state_in}
+use Rattle.disk_definitions.specs.Picks.{is_in_state}
+use Rattle.disk_definitions.specs.Edits.{Edit}
+use Rattle.disk_definitions.specs.Edits.Edit.{SetInode, SetBit, SetUse, SetPlace, SetLarge, SetBytes, SetLargeBytes}
+use Rattle.disk_definitions.specs.Ask.{Sector, InodeAt, DirectoryAt, SegmentAt, BytesAt, LargeAt}
+use Rattle.disk_definitions.specs.Written.{edit_sector, edited_sectors, all_edited, is_metadata, metadata_sector, ascending, change_by, dates, forced_in, change_of, changes_of, sectors_given_back, freed_sectors}
+use Rattle.plan_laws.specs.Moves.{first_said, bit_said, use_said, large_said, taker_said, large_taker_said, inode_move, small_move, large_move, moved_by}
 use Rattle.plan_records.proofs.LaidOver.{Misses}
-use Rattle.plan_standing.proofs.SameChanges.{edited_same}
-use Rattle.plan_moves.specs.Numbered.{sector_at, moves_of}
+use Rattle.line_laws.proofs.SameChanges.{edited_same}
+use Rattle.plan_laws.specs.Numbered.{sector_at, moves_of}
 use Rattle.line_commits.specs.LinePlans.{without_bytes, blocks_told, is_claimed, claims_of, becomes_directory}
 use Rattle.line_commits.specs.Planners.{edit_shape}
 use Rattle.line_commits.proofs.Changes.{numbers_of, ascending_member}

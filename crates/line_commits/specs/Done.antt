@@ -11,18 +11,18 @@ use Rattle.sector_histories.specs.Plans.{Outcome}
 use Rattle.tree_definitions.specs.Tree.{FileTree}
 use Rattle.disk_definitions.specs.Naming.{Naming}
 use Rattle.disk_definitions.specs.Standing.{IsInGrammar}
-use Rattle.pick_definitions.specs.Held.{Segments}
-use Rattle.plan_definitions.specs.Allowed.{IsAllowed}
-use Rattle.plan_definitions.specs.Ask.{Sector, Has, meet, number_of}
-use Rattle.plan_definitions.specs.Missing.{is_at_hand}
-use Rattle.plan_definitions.specs.OnDisk.{AreOfDisk}
-use Rattle.plan_definitions.specs.Plans.{Finish}
-use Rattle.plan_definitions.specs.Plans.Plan.{Finishes}
-use Rattle.plan_definitions.specs.Written.{Cached, at_hand, changes_of, hand_of, sectors_at_hand}
-use Rattle.plan_moves.specs.Plans.{Planner}
-use Rattle.plan_standing.specs.Laws.{HasPath}
-use Rattle.line_definitions.specs.Lines.{plan_of_line}
-use Rattle.plan_moves.specs.Numbered.{moves_of}
+use Rattle.disk_definitions.specs.Held.{Segments}
+use Rattle.disk_definitions.specs.Allowed.{IsAllowed}
+use Rattle.disk_definitions.specs.Ask.{Sector, Has, meet, number_of}
+use Rattle.disk_definitions.specs.Missing.{is_at_hand}
+use Rattle.disk_definitions.specs.OnDisk.{AreOfDisk}
+use Rattle.disk_definitions.specs.Plans.{Finish}
+use Rattle.disk_definitions.specs.Plans.Plan.{Finishes}
+use Rattle.disk_definitions.specs.Written.{Cached, at_hand, changes_of, hand_of, sectors_at_hand}
+use Rattle.plan_laws.specs.Plans.{Planner}
+use Rattle.line_laws.specs.Laws.{HasPath}
+use Rattle.disk_definitions.specs.Lines.{plan_of_line}
+use Rattle.plan_laws.specs.Numbered.{moves_of}
 use Rattle.line_commits.specs.LinePlans.{without_bytes, blocks_told, claims_of, lock_in, sole_in, segment_lock, sector_plan_by}
 use Rattle.line_commits.specs.Planners.{IsSoundPlanner}
 use Rattle.line_commits.specs.Guards.{IsDiskOf}

@@ -10,18 +10,18 @@ use Rattle.sector_bytes.specs.Blocks.{zero_block}
 use Rattle.sector_bytes.specs.Replays.{change_at}
 use Rattle.sector_bytes.specs.Sectors.{Sectors}
 use Rattle.sector_histories.specs.Plans.{Outcome, IsFramed, looks}
-use Rattle.sector_definitions.specs.declared.region.Region.TheVariants as region
-use Rattle.sector_definitions.specs.Regions.{sector_of}
+use Rattle.disk_definitions.specs.declared.region.Region.TheVariants as region
+use Rattle.disk_definitions.specs.Regions.{sector_of}
 use Rattle.tree_definitions.specs.Tree.{FileTree}
 use Rattle.disk_definitions.specs.Naming.{Naming}
 use Rattle.disk_definitions.specs.Standing.{version_at}
 use Rattle.disk_definitions.specs.Store.Use.{Fresh}
-use Rattle.plan_definitions.specs.Ask.{Sector, DirectoryAt, number_of}
-use Rattle.plan_definitions.specs.Meets.{IsOfTree}
-use Rattle.plan_covers.specs.Covers.{cover_of}
-use Rattle.plan_looks.specs.Inside.{IsInside}
-use Rattle.plan_moves.specs.Plans.{Planner}
-use Rattle.plan_moves.specs.Numbered.{sector_at}
+use Rattle.disk_definitions.specs.Ask.{Sector, DirectoryAt, number_of}
+use Rattle.disk_definitions.specs.Meets.{IsOfTree}
+use Rattle.plan_laws.specs.Covers.{cover_of}
+use Rattle.plan_laws.specs.Inside.{IsInside}
+use Rattle.plan_laws.specs.Plans.{Planner}
+use Rattle.plan_laws.specs.Numbered.{sector_at}
 use Rattle.line_commits.specs.LinePlans.{store_on, sector_plan_by, sector_plan}
 use Rattle.line_commits.specs.Planners.{IsPart, IsSoundPlanner}
 

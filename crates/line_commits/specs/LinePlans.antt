@@ -23,19 +23,19 @@ use Rattle.sector_histories.specs.Plans.{Outcome}
 use Rattle.sector_histories.specs.Plans as histories
 use Rattle.tree_definitions.specs.Numbers.{below}
 use Rattle.disk_definitions.specs.Store.{Store, Use, store_of, segment_at}
-use Rattle.pick_definitions.specs.Held.{Segments, bitmap_of, state_in}
-use Rattle.pick_definitions.specs.Picks.{is_in_state}
-use Rattle.store_changes.specs.Edits.{Edit}
-use Rattle.plan_definitions.specs.Ask.{Sector, InodeAt, DirectoryAt, SegmentAt, BytesAt, LargeAt, Ask, run, looks, number_of}
-use Rattle.plan_definitions.specs.Plans.{Hand, Lock, Plan, Finish}
-use Rattle.plan_definitions.specs.Plans.Plan.{Lacks, Clears, Finishes}
-use Rattle.plan_definitions.specs.Meets.{is_directory_use}
-use Rattle.plan_definitions.specs.Written.{byte_writes, changes_of, freed_sectors}
-use Rattle.plan_moves.specs.Moves.{first_said, use_said, moved_by}
-use Rattle.plan_moves.specs.Numbered.{sector_at, moves_of}
-use Rattle.plan_moves.specs.Plans.{Planner}
-use Rattle.line_definitions.specs.Lines.{plan_of_line}
-use Rattle.plan_shapes.specs.Stores.{with_bytes}
+use Rattle.disk_definitions.specs.Held.{Segments, bitmap_of, state_in}
+use Rattle.disk_definitions.specs.Picks.{is_in_state}
+use Rattle.disk_definitions.specs.Edits.{Edit}
+use Rattle.disk_definitions.specs.Ask.{Sector, InodeAt, DirectoryAt, SegmentAt, BytesAt, LargeAt, Ask, run, looks, number_of}
+use Rattle.disk_definitions.specs.Plans.{Hand, Lock, Plan, Finish}
+use Rattle.disk_definitions.specs.Plans.Plan.{Lacks, Clears, Finishes}
+use Rattle.disk_definitions.specs.Meets.{is_directory_use}
+use Rattle.disk_definitions.specs.Written.{byte_writes, changes_of, freed_sectors}
+use Rattle.plan_laws.specs.Moves.{first_said, use_said, moved_by}
+use Rattle.plan_laws.specs.Numbered.{sector_at, moves_of}
+use Rattle.plan_laws.specs.Plans.{Planner}
+use Rattle.disk_definitions.specs.Lines.{plan_of_line}
+use Rattle.line_laws.specs.Stores.{with_bytes}
 
 -- ---- which operations are planned
 

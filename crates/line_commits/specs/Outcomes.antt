@@ -6,12 +6,12 @@ use Rattle.sector_bytes.specs.Sectors.{Sectors}
 use Rattle.sector_histories.specs.Histories.{Fill}
 use Rattle.sector_histories.specs.Histories.Fill.{Written, Freed}
 use Rattle.sector_histories.specs.Plans.{Outcome, made_of}
-use Rattle.plan_definitions.specs.Allowed.{IsAllowed}
-use Rattle.plan_definitions.specs.Ask.{Ask, run, looks}
-use Rattle.plan_definitions.specs.Plans.{Plan, Finish}
-use Rattle.plan_definitions.specs.Plans.Plan.{Finishes}
-use Rattle.plan_moves.specs.Plans.{Planner}
-use Rattle.plan_standing.specs.Laws.{HasPath}
+use Rattle.disk_definitions.specs.Allowed.{IsAllowed}
+use Rattle.disk_definitions.specs.Ask.{Ask, run, looks}
+use Rattle.disk_definitions.specs.Plans.{Plan, Finish}
+use Rattle.disk_definitions.specs.Plans.Plan.{Finishes}
+use Rattle.plan_laws.specs.Plans.{Planner}
+use Rattle.line_laws.specs.Laws.{HasPath}
 use Rattle.line_commits.specs.LinePlans.{may_be_planned, hand_on, store_showing, store_on, fill_by, outcome_by, are_segments, sector_plan_by}
 use Rattle.line_commits.specs.Planners.{IsSoundPlanner}
 

@@ -9,10 +9,10 @@ use Rattle.sector_bytes.specs.Sectors.{Sectors}
 use Rattle.sector_histories.specs.Plans.{Outcome}
 use Rattle.tree_definitions.specs.Tree.{FileTree}
 use Rattle.disk_definitions.specs.Naming.{Naming}
-use Rattle.plan_definitions.specs.Ask.{Sector}
-use Rattle.plan_covers.specs.Covers.{cover_of}
-use Rattle.plan_moves.specs.Plans.{Planner}
-use Rattle.plan_moves.specs.Numbered.{sector_at}
+use Rattle.disk_definitions.specs.Ask.{Sector}
+use Rattle.plan_laws.specs.Covers.{cover_of}
+use Rattle.plan_laws.specs.Plans.{Planner}
+use Rattle.plan_laws.specs.Numbered.{sector_at}
 use Rattle.line_commits.specs.LinePlans.{sector_plan_by, sector_plan}
 use Rattle.line_commits.specs.Planners.{IsSoundPlanner}
 use Rattle.line_commits.specs.Done.{IsWholeDisk}

@@ -10,18 +10,18 @@ use Rattle.sector_histories.specs.Plans.{Outcome, made_of}
 use Rattle.tree_definitions.specs.Tree.{FileTree}
 use Rattle.disk_definitions.specs.Naming.{Naming}
 use Rattle.disk_definitions.specs.Store.{Store}
-use Rattle.pick_definitions.specs.Held.{Segments}
-use Rattle.plan_definitions.specs.Allowed.{IsAllowed}
-use Rattle.plan_definitions.specs.Ask.{BytesAt, LargeAt, Has, part_of, run, meet, number_of}
-use Rattle.plan_definitions.specs.Meets.{IsOfTree}
-use Rattle.plan_definitions.specs.OnDisk.{AreOfDisk}
-use Rattle.plan_definitions.specs.Plans.{Hand, Finish}
-use Rattle.plan_definitions.specs.Plans.Plan.{Finishes}
-use Rattle.plan_definitions.specs.Written.{Cached, at_hand, byte_writes, hand_of}
-use Rattle.plan_moves.specs.Plans.{Planner}
-use Rattle.plan_shapes.specs.Stores.{with_bytes}
-use Rattle.plan_standing.specs.Laws.{HasPath}
-use Rattle.line_definitions.specs.Lines.{plan_of_line}
+use Rattle.disk_definitions.specs.Held.{Segments}
+use Rattle.disk_definitions.specs.Allowed.{IsAllowed}
+use Rattle.disk_definitions.specs.Ask.{BytesAt, LargeAt, Has, part_of, run, meet, number_of}
+use Rattle.disk_definitions.specs.Meets.{IsOfTree}
+use Rattle.disk_definitions.specs.OnDisk.{AreOfDisk}
+use Rattle.disk_definitions.specs.Plans.{Hand, Finish}
+use Rattle.disk_definitions.specs.Plans.Plan.{Finishes}
+use Rattle.disk_definitions.specs.Written.{Cached, at_hand, byte_writes, hand_of}
+use Rattle.plan_laws.specs.Plans.{Planner}
+use Rattle.line_laws.specs.Stores.{with_bytes}
+use Rattle.line_laws.specs.Laws.{HasPath}
+use Rattle.disk_definitions.specs.Lines.{plan_of_line}
 use Rattle.line_commits.specs.LinePlans.{edits_in, fill_by, sector_plan}
 use Rattle.line_commits.specs.Done.{IsWholeDisk}
 

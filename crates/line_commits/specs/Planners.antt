@@ -6,24 +6,24 @@ use Rattle.frang_base.specs.declared.op.Op.{Op}
 use Rattle.tree_definitions.specs.Tree.{FileTree}
 use Rattle.disk_definitions.specs.Store.{Store}
 use Rattle.disk_definitions.specs.Naming.{Naming}
-use Rattle.pick_definitions.specs.Held.{state_in}
-use Rattle.pick_definitions.specs.Picks.{is_in_state}
-use Rattle.store_changes.specs.Edits.{Edit}
-use Rattle.store_changes.specs.Edits.Edit.{SetBytes, SetLargeBytes}
-use Rattle.plan_definitions.specs.Ask.{Sector, InodeAt, DirectoryAt, SegmentAt, BytesAt, LargeAt, run, looks}
-use Rattle.plan_definitions.specs.Plans.{Hand, Plan, Finish}
-use Rattle.plan_definitions.specs.Plans.Plan.{Lacks, Clears, Finishes}
-use Rattle.plan_definitions.specs.Meets.{IsOfTree, IsHandOf}
-use Rattle.plan_definitions.specs.Written.{is_metadata}
-use Rattle.plan_definitions.specs.Allowed.{IsAllowed}
-use Rattle.plan_definitions.specs.FitPlans.{IsFitStore, PlanIsFit}
+use Rattle.disk_definitions.specs.Held.{state_in}
+use Rattle.disk_definitions.specs.Picks.{is_in_state}
+use Rattle.disk_definitions.specs.Edits.{Edit}
+use Rattle.disk_definitions.specs.Edits.Edit.{SetBytes, SetLargeBytes}
+use Rattle.disk_definitions.specs.Ask.{Sector, InodeAt, DirectoryAt, SegmentAt, BytesAt, LargeAt, run, looks}
+use Rattle.disk_definitions.specs.Plans.{Hand, Plan, Finish}
+use Rattle.disk_definitions.specs.Plans.Plan.{Lacks, Clears, Finishes}
+use Rattle.disk_definitions.specs.Meets.{IsOfTree, IsHandOf}
+use Rattle.disk_definitions.specs.Written.{is_metadata}
+use Rattle.disk_definitions.specs.Allowed.{IsAllowed}
+use Rattle.disk_definitions.specs.FitPlans.{IsFitStore, PlanIsFit}
 use Rattle.plan_laws.specs.Locks.{IsSole}
-use Rattle.plan_looks.specs.Inside.{AreInside}
-use Rattle.plan_looks.specs.Looked.{edited_at}
-use Rattle.plan_covers.specs.Covers.{cover_of, PlanHolds, IsHeldSegment}
-use Rattle.plan_moves.specs.Plans.{Planner, OfEachFinish, MovesTidily, LeadsCovers, OwnsMoves, KeepsDirectories, OwnsBytes}
-use Rattle.plan_shapes.specs.Stores.{with_bytes}
-use Rattle.line_definitions.specs.Lines.{plan_of_line}
+use Rattle.plan_laws.specs.Inside.{AreInside}
+use Rattle.plan_laws.specs.Looked.{edited_at}
+use Rattle.plan_laws.specs.Covers.{cover_of, PlanHolds, IsHeldSegment}
+use Rattle.plan_laws.specs.Plans.{Planner, OfEachFinish, MovesTidily, LeadsCovers, OwnsMoves, KeepsDirectories, OwnsBytes}
+use Rattle.line_laws.specs.Stores.{with_bytes}
+use Rattle.disk_definitions.specs.Lines.{plan_of_line}
 use Rattle.line_commits.specs.LinePlans.{without_bytes}
 
 -- ---- over any disk

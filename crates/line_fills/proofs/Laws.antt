@@ -9,20 +9,20 @@ use Rattle.tree_definitions.specs.Tree.{FileTree}
 use Rattle.disk_definitions.specs.Store.{Store, StoredNode, Use, is_unused}
 use Rattle.disk_definitions.specs.Store.Use.{Fresh}
 use Rattle.disk_definitions.specs.Naming.{Naming}
-use Rattle.store_changes.specs.Edits.{Edit, edited, edited_all}
-use Rattle.store_changes.specs.Edits.Edit.{SetInode, SetBit, SetUse, SetPlace, SetLarge, SetBytes, SetLargeBytes}
-use Rattle.plan_definitions.specs.Ask.{run}
-use Rattle.plan_definitions.specs.Meets.{IsOfTree, IsHandOf}
-use Rattle.plan_definitions.specs.PlanOf.{plan_of}
-use Rattle.plan_definitions.specs.Plans.{Hand, Finish}
-use Rattle.plan_definitions.specs.Plans.Plan.{Finishes}
+use Rattle.disk_definitions.specs.Edits.{Edit, edited, edited_all}
+use Rattle.disk_definitions.specs.Edits.Edit.{SetInode, SetBit, SetUse, SetPlace, SetLarge, SetBytes, SetLargeBytes}
+use Rattle.disk_definitions.specs.Ask.{run}
+use Rattle.disk_definitions.specs.Meets.{IsOfTree, IsHandOf}
+use Rattle.disk_definitions.specs.PlanOf.{plan_of}
+use Rattle.disk_definitions.specs.Plans.{Hand, Finish}
+use Rattle.disk_definitions.specs.Plans.Plan.{Finishes}
 use Rattle.plan_laws.proofs.Covering.{has_head, has_more, has_cases, not_in_none}
-use Rattle.plan_moves.specs.Moves.{use_said, large_said}
-use Rattle.plan_moves.specs.Plans.{OfEachFinish}
-use Rattle.plan_moves.proofs.Laws.{plans_move}
-use Rattle.plan_moves.proofs.OneNode.{is_said}
-use Rattle.plan_moves.proofs.Owned.{sayer, something_said}
-use Rattle.line_moves.proofs.Lifting.{lifted}
+use Rattle.plan_laws.specs.Moves.{use_said, large_said}
+use Rattle.plan_laws.specs.Plans.{OfEachFinish}
+use Rattle.plan_laws.proofs.Laws.{plans_move}
+use Rattle.plan_laws.proofs.OneNode.{is_said}
+use Rattle.plan_laws.proofs.Owned.{sayer, something_said}
+use Rattle.line_laws.proofs.Lifting.{lifted}
 use Rattle.line_fills.specs.Files.{HoldsBytes, IsWritten, LeavesFilled, LinesLeaveFilled, GivesBackFree, LinesGiveBackFree}
 use Rattle.line_fills.proofs.Fine.{Fine, AreFine}
 use Rattle.line_fills.proofs.Names.{IsFinePlan}

@@ -3,18 +3,18 @@ use Rattle.std.proofs.Common.{ℕ, ◌≡◌, ◌==◌, ◌&&◌, not, Bool, tru
 use Rattle.frang_base.specs.declared.reply.Reply.TheVariants as reply
 use Rattle.disk_definitions.specs.Store.{Store, StoredNode, StoredEntry}
 use Rattle.disk_definitions.specs.Naming.{Naming}
-use Rattle.store_changes.specs.Changes.{take_entry, replace_entry}
-use Rattle.plan_definitions.specs.Ask.{Got, ReadInode, bind, run}
-use Rattle.plan_definitions.specs.Walks.{Spot, walk}
-use Rattle.plan_definitions.specs.Walks.Spot.{AtRoot, AtName, AtGap, Lost}
-use Rattle.plan_definitions.specs.Plans.{Hand, Room, enter, refused, find_room, finish_in, is_full}
-use Rattle.plan_definitions.specs.Plans.Plan.{Finishes}
-use Rattle.plan_definitions.specs.Plans.Room.{Inside, InBlock, NoRoom}
-use Rattle.plan_definitions.specs.NamePlans.{fewer, fewer_segments, finish_over, Moving, renamed_entry, moved_onto_by, replacing_node, moving_onto, moved_within, moved_between, moving_in, moving_to, goes_through, renaming_to, renaming, plan_renamed}
+use Rattle.disk_definitions.specs.Changes.{take_entry, replace_entry}
+use Rattle.disk_definitions.specs.Ask.{Got, ReadInode, bind, run}
+use Rattle.disk_definitions.specs.Walks.{Spot, walk}
+use Rattle.disk_definitions.specs.Walks.Spot.{AtRoot, AtName, AtGap, Lost}
+use Rattle.disk_definitions.specs.Plans.{Hand, Room, enter, refused, find_room, finish_in, is_full}
+use Rattle.disk_definitions.specs.Plans.Plan.{Finishes}
+use Rattle.disk_definitions.specs.Plans.Room.{Inside, InBlock, NoRoom}
+use Rattle.disk_definitions.specs.NamePlans.{fewer, fewer_segments, finish_over, Moving, renamed_entry, moved_onto_by, replacing_node, moving_onto, moved_within, moved_between, moving_in, moving_to, goes_through, renaming_to, renaming, plan_renamed}
 use Rattle.plan_laws.proofs.Asking.{run-bind, run-segments}
-use Rattle.plan_covers.proofs.Standing.{HasKind, DiskStands}
-use Rattle.plan_covers.proofs.WalksFine.{SpotStands, walk_stands}
-use Rattle.plan_covers.proofs.RoomsFine.{wider}
+use Rattle.plan_laws.proofs.Standing.{HasKind, DiskStands}
+use Rattle.plan_laws.proofs.WalksFine.{SpotStands, walk_stands}
+use Rattle.plan_laws.proofs.RoomsFine.{wider}
 use Rattle.line_fills.proofs.Fine.{both_fine, take_fine, replace_fine, enter_fine, fewer_fine}
 use Rattle.line_fills.proofs.Names.{IsFinePlan, Ends, none_ends, room_ends}
 

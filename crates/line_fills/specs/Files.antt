@@ -5,14 +5,14 @@ use Rattle.frang_base.specs.declared.limits.TheConstants.{KIND_FILE, SECTOR_BYTE
 use Rattle.disk_definitions.specs.Store.{Store, StoredNode, is_unused}
 use Rattle.disk_definitions.specs.Store.Use.{Fresh}
 use Rattle.disk_definitions.specs.Naming.{Naming}
-use Rattle.store_changes.specs.Edits.{Edit, edited_all}
-use Rattle.store_changes.specs.Edits.Edit.{SetUse, SetLarge}
-use Rattle.plan_definitions.specs.Ask.{Sector, BytesAt, LargeAt}
-use Rattle.plan_definitions.specs.Plans.{Finish}
-use Rattle.plan_definitions.specs.Written.{is_metadata}
-use Rattle.plan_looks.specs.Looked.{edited_at}
-use Rattle.plan_moves.specs.Plans.{OfEachFinish}
-use Rattle.line_definitions.specs.Lines.{plan_of_line}
+use Rattle.disk_definitions.specs.Edits.{Edit, edited_all}
+use Rattle.disk_definitions.specs.Edits.Edit.{SetUse, SetLarge}
+use Rattle.disk_definitions.specs.Ask.{Sector, BytesAt, LargeAt}
+use Rattle.disk_definitions.specs.Plans.{Finish}
+use Rattle.disk_definitions.specs.Written.{is_metadata}
+use Rattle.plan_laws.specs.Looked.{edited_at}
+use Rattle.plan_laws.specs.Plans.{OfEachFinish}
+use Rattle.disk_definitions.specs.Lines.{plan_of_line}
 
 -- where a sector of a file lies, counted from its first
 abbrev pub file_sector : StoredNode → ℕ → Sector

@@ -17,16 +17,16 @@ use Rattle.shape_laws.proofs.Nodes.{shaped, found}
 use Rattle.sector_bytes.specs.Sectors.{Sectors}
 use Rattle.sector_histories.specs.Plans.{Outcome}
 use Rattle.disk_definitions.specs.Store.{segment_at}
-use Rattle.store_changes.proofs.Free.{a_some}
-use Rattle.pick_definitions.specs.Held.{bitmap_of, state_in}
-use Rattle.pick_definitions.specs.Picks.{is_in_state}
-use Rattle.plan_definitions.specs.Ask.{Ask, run, looks}
-use Rattle.plan_definitions.specs.Meets.{IsHandOf}
+use Rattle.disk_definitions.proofs.Free.{a_some}
+use Rattle.disk_definitions.specs.Held.{bitmap_of, state_in}
+use Rattle.disk_definitions.specs.Picks.{is_in_state}
+use Rattle.disk_definitions.specs.Ask.{Ask, run, looks}
+use Rattle.disk_definitions.specs.Meets.{IsHandOf}
 use Rattle.plan_laws.specs.Keeping.{PlanKeeps}
-use Rattle.plan_definitions.specs.Plans.{Hand, Plan, Finish}
-use Rattle.plan_definitions.specs.Plans.Plan.{Lacks, Clears, Finishes}
+use Rattle.disk_definitions.specs.Plans.{Hand, Plan, Finish}
+use Rattle.disk_definitions.specs.Plans.Plan.{Lacks, Clears, Finishes}
 use Rattle.plan_laws.proofs.Covering.{has_head, has_more, has_cases, not_in_none, below_has}
-use Rattle.line_definitions.specs.Lines.{plan_of_line}
+use Rattle.disk_definitions.specs.Lines.{plan_of_line}
 use Rattle.line_laws.proofs.Planned.{lines_planned}
 use Rattle.line_commits.specs.LinePlans.{may_be_planned, are_segments, held_of, hand_on, store_on, store_showing, outcome_by, outcome_over, sector_plan}
 use Rattle.line_commits.proofs.Hands.{is_hand}

@@ -7,15 +7,15 @@ use Rattle.disk_definitions.specs.Store.{Store, store_of}
 use Rattle.disk_definitions.specs.Naming.{Naming}
 use Rattle.disk_definitions.specs.Standing.{IsInGrammar}
 use Rattle.shape_laws.proofs.Nodes.{again}
-use Rattle.store_changes.specs.Laws.{FilesFit}
-use Rattle.store_changes.proofs.Counts.{files_fit}
-use Rattle.plan_definitions.specs.FitPlans.{IsFitStore}
-use Rattle.plan_definitions.specs.Meets.{IsOfTree, directory_blocks_in}
+use Rattle.disk_definitions.specs.ChangeLaws.{FilesFit}
+use Rattle.disk_definitions.proofs.Counts.{files_fit}
+use Rattle.disk_definitions.specs.FitPlans.{IsFitStore}
+use Rattle.disk_definitions.specs.Meets.{IsOfTree, directory_blocks_in}
 use Rattle.plan_fit.proofs.DecodedEntries.{disks_fit}
 use Rattle.plan_fit.proofs.FileNodes.{fit_file}
 use Rattle.plan_laws.specs.FilesPlanned.{HasFiles}
-use Rattle.plan_standing.proofs.OfDisk.{of_tree}
-use Rattle.plan_shapes.proofs.Shaping.{shapes_stand}
+use Rattle.line_laws.proofs.OfDisk.{of_tree}
+use Rattle.line_laws.proofs.Shaping.{shapes_stand}
 use Rattle.line_commits.specs.LinePlans.{store_on}
 use Rattle.line_histories.specs.Standing.{StandsForShape}
 

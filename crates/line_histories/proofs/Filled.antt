@@ -10,9 +10,9 @@ use Rattle.frang_base.proofs.Basics.{of_lt}
 use Rattle.tree_laws.proofs.Pairs.{birth_exact, self}
 use Rattle.sector_bytes.specs.SectorMaps.{value_at}
 use Rattle.sector_bytes.specs.Sectors.{Sectors}
-use Rattle.sector_definitions.specs.declared.region.Region.TheVariants as region
-use Rattle.sector_definitions.specs.Regions.{sector_of}
-use Rattle.sector_definitions.proofs.RegionLaws.{region_once}
+use Rattle.disk_definitions.specs.declared.region.Region.TheVariants as region
+use Rattle.disk_definitions.specs.Regions.{sector_of}
+use Rattle.disk_definitions.proofs.RegionLaws.{region_once}
 use Rattle.tree_definitions.specs.Numbers.{below}
 use Rattle.tree_definitions.specs.declared.node.Node.{Node}
 use Rattle.tree_definitions.specs.declared.node.Node.TheVariants.{Dir, File, Link}
@@ -21,16 +21,16 @@ use Rattle.tree_definitions.specs.Touched.{shape_of}
 use Rattle.disk_definitions.specs.Naming.{Naming, Pictures, use_for, use_by, inode_of, first_blocks}
 use Rattle.disk_definitions.specs.Store.{Store, is_unused}
 use Rattle.disk_definitions.specs.Store.Use.{Fresh, Bytes, Empty, Entries}
-use Rattle.store_changes.specs.Edits.{Edit}
-use Rattle.store_changes.specs.Edits.Edit.{SetInode, SetBit, SetUse, SetPlace, SetLarge, SetBytes, SetLargeBytes}
-use Rattle.store_changes.specs.Laws.{FilesFit}
-use Rattle.plan_definitions.specs.Ask.{Sector, InodeAt, DirectoryAt, SegmentAt, BytesAt, LargeAt, number_of}
-use Rattle.plan_definitions.specs.FitEdits.{AreFit}
-use Rattle.plan_definitions.specs.Meets.{IsOfTree}
-use Rattle.plan_definitions.specs.Written.{edit_sector, edited_block, is_metadata, byte_writes, sectors_given_back, freed_sectors}
+use Rattle.disk_definitions.specs.Edits.{Edit}
+use Rattle.disk_definitions.specs.Edits.Edit.{SetInode, SetBit, SetUse, SetPlace, SetLarge, SetBytes, SetLargeBytes}
+use Rattle.disk_definitions.specs.ChangeLaws.{FilesFit}
+use Rattle.disk_definitions.specs.Ask.{Sector, InodeAt, DirectoryAt, SegmentAt, BytesAt, LargeAt, number_of}
+use Rattle.disk_definitions.specs.FitEdits.{AreFit}
+use Rattle.disk_definitions.specs.Meets.{IsOfTree}
+use Rattle.disk_definitions.specs.Written.{edit_sector, edited_block, is_metadata, byte_writes, sectors_given_back, freed_sectors}
 use Rattle.plan_laws.proofs.Covering.{has_cases, not_in_none}
-use Rattle.plan_looks.specs.Looked.{edited_at}
-use Rattle.plan_covers.proofs.Standing.{node_of}
+use Rattle.plan_laws.specs.Looked.{edited_at}
+use Rattle.plan_laws.proofs.Standing.{node_of}
 use Rattle.plan_records.proofs.Kept.{in_small, in_large}
 use Rattle.line_fills.specs.Files.{file_sector, HoldsBytes, IsWritten}
 use Rattle.line_commits.specs.LinePlans.{store_on}

@@ -18,31 +18,31 @@ use Rattle.sector_histories.specs.Histories.Item.{Done, Doubt}
 use Rattle.sector_histories.specs.Plans.{Outcome, outcome_of, Legal, IsByPlan}
 use Rattle.sector_histories.specs.Seen as seen
 use Rattle.sector_histories.proofs.Histories.{each_kept}
-use Rattle.sector_definitions.specs.declared.region.Region.{Region}
-use Rattle.sector_definitions.specs.declared.region.Region.TheVariants as region
-use Rattle.sector_definitions.specs.Regions.{sector_of, region_of, is_in_range}
-use Rattle.sector_definitions.proofs.RegionLaws.{region_read}
+use Rattle.disk_definitions.specs.declared.region.Region.{Region}
+use Rattle.disk_definitions.specs.declared.region.Region.TheVariants as region
+use Rattle.disk_definitions.specs.Regions.{sector_of, region_of, is_in_range}
+use Rattle.disk_definitions.proofs.RegionLaws.{region_read}
 use Rattle.disk_definitions.specs.Store.{Store, Use}
 use Rattle.disk_definitions.specs.Store.Use.{Fresh, Bytes}
-use Rattle.pick_definitions.specs.Held.{state_in}
-use Rattle.pick_definitions.specs.Picks.{is_in_state}
-use Rattle.store_changes.specs.Edits.{Edit}
-use Rattle.store_changes.specs.Edits.Edit.{SetInode, SetBit, SetUse, SetPlace, SetLarge, SetBytes, SetLargeBytes}
-use Rattle.plan_definitions.specs.Ask.{Sector, InodeAt, DirectoryAt, SegmentAt, BytesAt, LargeAt, number_of}
-use Rattle.plan_definitions.specs.Meets.{IsOfTree, is_directory_use}
-use Rattle.plan_definitions.specs.Written.{byte_writes, freed_sectors}
-use Rattle.plan_covers.specs.Covers.{cover_of}
-use Rattle.plan_moves.specs.Moves.{first_said, use_said, large_said, moved_by}
-use Rattle.plan_moves.proofs.Moving.{covers_move}
+use Rattle.disk_definitions.specs.Held.{state_in}
+use Rattle.disk_definitions.specs.Picks.{is_in_state}
+use Rattle.disk_definitions.specs.Edits.{Edit}
+use Rattle.disk_definitions.specs.Edits.Edit.{SetInode, SetBit, SetUse, SetPlace, SetLarge, SetBytes, SetLargeBytes}
+use Rattle.disk_definitions.specs.Ask.{Sector, InodeAt, DirectoryAt, SegmentAt, BytesAt, LargeAt, number_of}
+use Rattle.disk_definitions.specs.Meets.{IsOfTree, is_directory_use}
+use Rattle.disk_definitions.specs.Written.{byte_writes, freed_sectors}
+use Rattle.plan_laws.specs.Covers.{cover_of}
+use Rattle.plan_laws.specs.Moves.{first_said, use_said, large_said, moved_by}
+use Rattle.plan_laws.proofs.Moving.{covers_move}
 use Rattle.plan_records.proofs.Kept.{is_less, in_small, in_large}
 use Rattle.plan_records.proofs.LaidOver.{Misses}
 use Rattle.plan_records.proofs.RecordLaws.{NotTo, misses}
-use Rattle.plan_moves.specs.Numbered.{sector_in, sector_at}
+use Rattle.plan_laws.specs.Numbered.{sector_in, sector_at}
 use Rattle.line_commits.specs.LinePlans.{store_on, held_of, fill_by, becomes_directory, is_claimed, sector_plan}
 use Rattle.line_commits.specs.Outcomes.{IsOfAPlan, fill_shape}
 use Rattle.line_commits.proofs.LinesSound.{lines_are_sound}
 use Rattle.line_commits.proofs.Outcomes.{outcomes_of_plans, makes_of_edits}
-use Rattle.line_definitions.specs.Lines.{plan_of_line}
+use Rattle.disk_definitions.specs.Lines.{plan_of_line}
 use Rattle.line_commits.proofs.Guarded.{sector_here}
 use Rattle.sector_world.specs.Claims.{left}
 use Rattle.sector_world.specs.World.{World}

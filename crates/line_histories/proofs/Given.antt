@@ -10,16 +10,16 @@ use Rattle.frang_base.proofs.Basics.{eq_of}
 use Rattle.sector_bytes.specs.SectorMaps.{value_at}
 use Rattle.sector_bytes.proofs.MapLaws.{found}
 use Rattle.sector_histories.specs.Histories.Fill.{Written, Freed}
-use Rattle.sector_definitions.specs.declared.region.Region.TheVariants as region
-use Rattle.sector_definitions.specs.Regions.{sector_of}
+use Rattle.disk_definitions.specs.declared.region.Region.TheVariants as region
+use Rattle.disk_definitions.specs.Regions.{sector_of}
 use Rattle.tree_definitions.specs.Numbers.{below}
 use Rattle.disk_definitions.specs.Store.Use.{Fresh}
-use Rattle.store_changes.specs.Edits.{Edit}
-use Rattle.store_changes.specs.Edits.Edit.{SetInode, SetBit, SetUse, SetPlace, SetLarge, SetBytes, SetLargeBytes}
-use Rattle.plan_definitions.specs.Written.{edit_sector, edited_block, is_metadata, byte_writes, sectors_given_back, freed_sectors}
+use Rattle.disk_definitions.specs.Edits.{Edit}
+use Rattle.disk_definitions.specs.Edits.Edit.{SetInode, SetBit, SetUse, SetPlace, SetLarge, SetBytes, SetLargeBytes}
+use Rattle.disk_definitions.specs.Written.{edit_sector, edited_block, is_metadata, byte_writes, sectors_given_back, freed_sectors}
 use Rattle.plan_laws.proofs.Covering.{has_cases, not_in_none, map_has, below_has}
-use Rattle.plan_moves.specs.Moves.{first_said, use_said, large_said}
-use Rattle.plan_moves.proofs.Owned.{sayer}
+use Rattle.plan_laws.specs.Moves.{first_said, use_said, large_said}
+use Rattle.plan_laws.proofs.Owned.{sayer}
 use Rattle.plan_records.proofs.LaidOver.{Misses}
 use Rattle.line_commits.specs.LinePlans.{fill_by}
 use Rattle.line_commits.proofs.Changes.{ascending_member}

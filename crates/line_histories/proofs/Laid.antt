@@ -13,9 +13,9 @@ use Rattle.sector_bytes.specs.Sectors.{Sectors}
 use Rattle.sector_bytes.proofs.ChangeLaws.{length-fit}
 use Rattle.sector_bytes.proofs.PatchLaws.{forced_patches_apart}
 use Rattle.disk_definitions.specs.Standing.{version_at}
-use Rattle.store_changes.specs.Edits.{Edit}
-use Rattle.plan_definitions.specs.Ready.{disk_after}
-use Rattle.plan_definitions.specs.Written.{edit_sector, all_edited, is_metadata, change_by, forced_in, change_of, changes_of}
+use Rattle.disk_definitions.specs.Edits.{Edit}
+use Rattle.disk_definitions.specs.Ready.{disk_after}
+use Rattle.disk_definitions.specs.Written.{edit_sector, all_edited, is_metadata, change_by, forced_in, change_of, changes_of}
 use Rattle.plan_records.proofs.LaidOver.{Misses, made, all_else}
 use Rattle.plan_records.proofs.RecordLaws.{metadata_laid, bytes_laid}
 use Rattle.line_commits.proofs.Changes.{numbers_of, change_is}

@@ -13,43 +13,43 @@ use Rattle.tree_laws.proofs.OrderLaws.{segments_perform}
 use Rattle.tree_reach.proofs.Applied.{apply_keeps_reached}
 use Rattle.sector_bytes.specs.Blocks.{version_of}
 use Rattle.sector_bytes.specs.Sectors.{Sectors}
-use Rattle.sector_definitions.specs.declared.region.Region.{Region}
-use Rattle.sector_definitions.specs.declared.region.Region.TheVariants as region
-use Rattle.sector_definitions.specs.Params.{param_in}
-use Rattle.sector_definitions.specs.Regions.{sector_of, is_in_range}
+use Rattle.disk_definitions.specs.declared.region.Region.{Region}
+use Rattle.disk_definitions.specs.declared.region.Region.TheVariants as region
+use Rattle.disk_definitions.specs.Params.{param_in}
+use Rattle.disk_definitions.specs.Regions.{sector_of, is_in_range}
 use Rattle.disk_definitions.specs.Store.{Store, Use, store_of, segment_at, use_in}
 use Rattle.disk_definitions.specs.Store.Use.{Fresh, Bytes, Empty, Entries}
 use Rattle.disk_definitions.specs.Naming.{Pictures}
 use Rattle.disk_definitions.specs.Standing.{IsMetadata, IsInGrammar, HasVersionsUpTo, IsReached, version_at}
 use Rattle.shape_laws.proofs.Nodes.{shaped, found}
-use Rattle.store_changes.specs.Edits.{Edit, edited, edited_all}
-use Rattle.store_changes.specs.Edits.Edit.{SetInode, SetBit, SetUse, SetPlace, SetLarge, SetBytes, SetLargeBytes}
-use Rattle.store_changes.specs.Edits.{put_part}
-use Rattle.store_changes.specs.Laws.{FilesFit, SaysTheSame}
-use Rattle.store_changes.proofs.Counts.{pictures_go_by_what_counts}
-use Rattle.plan_definitions.specs.Allowed.{IsAllowed}
-use Rattle.plan_definitions.specs.Ask.{run}
-use Rattle.plan_definitions.specs.FitEdits.{AreFit}
-use Rattle.plan_definitions.specs.FitPlans.{IsFitFinish}
-use Rattle.plan_definitions.specs.Meets.{IsOfTree, IsHandOf, FinishMeets, is_directory_use, directory_blocks_in}
+use Rattle.disk_definitions.specs.Edits.{Edit, edited, edited_all}
+use Rattle.disk_definitions.specs.Edits.Edit.{SetInode, SetBit, SetUse, SetPlace, SetLarge, SetBytes, SetLargeBytes}
+use Rattle.disk_definitions.specs.Edits.{put_part}
+use Rattle.disk_definitions.specs.ChangeLaws.{FilesFit, SaysTheSame}
+use Rattle.disk_definitions.proofs.Counts.{pictures_go_by_what_counts}
+use Rattle.disk_definitions.specs.Allowed.{IsAllowed}
+use Rattle.disk_definitions.specs.Ask.{run}
+use Rattle.disk_definitions.specs.FitEdits.{AreFit}
+use Rattle.disk_definitions.specs.FitPlans.{IsFitFinish}
+use Rattle.disk_definitions.specs.Meets.{IsOfTree, IsHandOf, FinishMeets, is_directory_use, directory_blocks_in}
 use Rattle.plan_laws.specs.Keeping.{FinishKeeps, PlanKeeps}
-use Rattle.plan_definitions.specs.OnDisk.{StandsBelow}
-use Rattle.plan_definitions.specs.Plans.{Hand, Finish}
-use Rattle.plan_definitions.specs.Plans.Plan.{Finishes}
-use Rattle.plan_definitions.specs.Ready.{IsWritten, disk_after}
+use Rattle.disk_definitions.specs.OnDisk.{StandsBelow}
+use Rattle.disk_definitions.specs.Plans.{Hand, Finish}
+use Rattle.disk_definitions.specs.Plans.Plan.{Finishes}
+use Rattle.disk_definitions.specs.Ready.{IsWritten, disk_after}
 use Rattle.plan_laws.proofs.Fitting.{files_stay_fit}
 use Rattle.plan_records.specs.Says.{SegmentsSay, InodesSay, PlacesSay}
 use Rattle.plan_records.proofs.DiskLaws.{written}
 use Rattle.plan_records.proofs.Kept.{in_segment, in_inode, in_small, segments_kept, inodes_kept, places_kept}
 use Rattle.plan_records.proofs.RecordLaws.{NotTo, misses, no_bytes_segment, no_bytes_inode, no_bytes_directory}
-use Rattle.plan_standing.proofs.OfDisk.{few}
-use Rattle.plan_shapes.specs.Stores.{with_bytes}
-use Rattle.plan_shapes.proofs.Shaping.{shapes_stand, files_stay, all_reached}
-use Rattle.line_definitions.specs.Lines.{plan_of_line}
+use Rattle.line_laws.proofs.OfDisk.{few}
+use Rattle.line_laws.specs.Stores.{with_bytes}
+use Rattle.line_laws.proofs.Shaping.{shapes_stand, files_stay, all_reached}
+use Rattle.disk_definitions.specs.Lines.{plan_of_line}
 use Rattle.line_laws.proofs.Planned.{lines_planned}
-use Rattle.line_moves.proofs.Laws.{line_directories_stay}
-use Rattle.line_standing.specs.Ready.{IsClearOn, MayBeMade}
-use Rattle.line_standing.proofs.Readiness.{lines_may_be_made}
+use Rattle.line_laws.proofs.Laws.{line_directories_stay}
+use Rattle.line_laws.specs.Ready.{IsClearOn, MayBeMade}
+use Rattle.line_laws.proofs.Readiness.{lines_may_be_made}
 use Rattle.line_commits.specs.LinePlans.{store_on}
 use Rattle.line_histories.specs.Standing.{HasZeros, StandsForShape}
 use Rattle.line_histories.proofs.Disks.{blank_of, files, files_fit_now, ever}

@@ -19,17 +19,17 @@ use Rattle.shape_laws.specs.Acting.{GoesByShape, answer_shape}
 use Rattle.shape_laws.proofs.Resolving.{perform_shape}
 use Rattle.sector_bytes.specs.Replays.{change_at, forced}
 use Rattle.sector_bytes.specs.Sectors.{Sectors}
-use Rattle.sector_definitions.specs.declared.param.Param.{Param}
+use Rattle.disk_definitions.specs.declared.param.Param.{Param}
 use Rattle.sector_histories.specs.Plans.{Outcome}
 use Rattle.sector_world.specs.Trees.{Applied as Told, Meets}
-use Rattle.plan_definitions.specs.Allowed.{IsAllowed}
-use Rattle.plan_definitions.specs.Ask.{run}
-use Rattle.plan_definitions.specs.Meets.{Answers, FinishMeets, IsHandOf, is_directory_use}
-use Rattle.plan_definitions.specs.Plans.{Hand, Finish}
-use Rattle.plan_definitions.specs.Plans.Plan.{Finishes}
-use Rattle.plan_definitions.specs.Written.{changes_of}
-use Rattle.line_definitions.specs.Lines.{plan_of_line}
-use Rattle.line_standing.specs.Ready.{IsClearOn}
+use Rattle.disk_definitions.specs.Allowed.{IsAllowed}
+use Rattle.disk_definitions.specs.Ask.{run}
+use Rattle.disk_definitions.specs.Meets.{Answers, FinishMeets, IsHandOf, is_directory_use}
+use Rattle.disk_definitions.specs.Plans.{Hand, Finish}
+use Rattle.disk_definitions.specs.Plans.Plan.{Finishes}
+use Rattle.disk_definitions.specs.Written.{changes_of}
+use Rattle.disk_definitions.specs.Lines.{plan_of_line}
+use Rattle.line_laws.specs.Ready.{IsClearOn}
 use Rattle.line_commits.specs.LinePlans.{store_on, hand_on, without_bytes, blocks_told, sector_plan}
 use Rattle.line_commits.specs.Guards.{IsClear}
 use Rattle.line_commits.proofs.Outcomes.{outcomes_of_plans}

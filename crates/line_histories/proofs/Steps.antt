@@ -10,19 +10,19 @@ use Rattle.disk_definitions.specs.Naming.{Naming}
 use Rattle.disk_definitions.specs.Standing.{IsMetadata}
 use Rattle.disk_definitions.specs.Store.{Store, Use, is_unused}
 use Rattle.disk_definitions.specs.Store.Use.{Fresh, Bytes, Empty, Entries}
-use Rattle.pick_definitions.specs.Held.{state_in}
-use Rattle.pick_definitions.specs.Picks.{is_in_state}
-use Rattle.store_changes.specs.Edits.{Edit, edited_all}
-use Rattle.store_changes.specs.Edits.Edit.{SetInode, SetBit, SetUse, SetPlace, SetLarge, SetBytes, SetLargeBytes}
-use Rattle.plan_definitions.specs.Allowed.{IsAllowed}
-use Rattle.plan_definitions.specs.Ask.{Sector, run}
-use Rattle.plan_definitions.specs.FitEdits.{MeetsUse, AreFit}
-use Rattle.plan_definitions.specs.Meets.{IsOfTree, IsHandOf, is_directory_use}
-use Rattle.plan_definitions.specs.Plans.{Hand, Finish}
-use Rattle.plan_definitions.specs.Plans.Plan.{Finishes}
-use Rattle.plan_moves.specs.Moves.{AreTidy, HasSmall, HasLarge}
-use Rattle.line_definitions.specs.Lines.{plan_of_line}
-use Rattle.line_moves.proofs.Laws.{lines_move, line_directories_stay}
+use Rattle.disk_definitions.specs.Held.{state_in}
+use Rattle.disk_definitions.specs.Picks.{is_in_state}
+use Rattle.disk_definitions.specs.Edits.{Edit, edited_all}
+use Rattle.disk_definitions.specs.Edits.Edit.{SetInode, SetBit, SetUse, SetPlace, SetLarge, SetBytes, SetLargeBytes}
+use Rattle.disk_definitions.specs.Allowed.{IsAllowed}
+use Rattle.disk_definitions.specs.Ask.{Sector, run}
+use Rattle.disk_definitions.specs.FitEdits.{MeetsUse, AreFit}
+use Rattle.disk_definitions.specs.Meets.{IsOfTree, IsHandOf, is_directory_use}
+use Rattle.disk_definitions.specs.Plans.{Hand, Finish}
+use Rattle.disk_definitions.specs.Plans.Plan.{Finishes}
+use Rattle.plan_laws.specs.Moves.{AreTidy, HasSmall, HasLarge}
+use Rattle.disk_definitions.specs.Lines.{plan_of_line}
+use Rattle.line_laws.proofs.Laws.{lines_move, line_directories_stay}
 use Rattle.line_fills.specs.Files.{HoldsBytes, IsWritten, LeavesFilled, GivesBackFree}
 use Rattle.line_fills.proofs.Laws.{lines_leave_filled, lines_give_back_free}
 use Rattle.line_commits.specs.LinePlans.{held_of, hand_on, store_on}

@@ -13,7 +13,7 @@ use Rattle.tree_definitions.specs.Tree.{FileTree, node_at, with_node, count_of, 
 use Rattle.tree_definitions.specs.Place.{Place, Root, Taken, Free, Nowhere, place}
 use Rattle.tree_definitions.specs.Apply.{Applied, says, at_file, if_file, overwritten, written, apply}
 use Rattle.tree_definitions.specs.Perform.{Step, Goes, Stops, perform, perform_step, resolved}
-use Rattle.plan_definitions.specs.Meets.{Answers}
+use Rattle.disk_definitions.specs.Meets.{Answers}
 use Rattle.line_commits.specs.LinePlans.{blocks_told}
 
 more_free : (s m k x : ℕ) → k ≤ m → nat_lt (1024 * s - m) x ≡ false → nat_lt (1024 * s - k) x ≡ false

@@ -10,11 +10,11 @@ use Rattle.sector_histories.specs.Seen as seen
 use Rattle.disk_definitions.specs.Naming.{Naming}
 use Rattle.disk_definitions.specs.Store.{Store}
 use Rattle.disk_definitions.specs.Store.Use.{Fresh}
-use Rattle.plan_definitions.specs.Ask.{Sector, InodeAt, DirectoryAt, SegmentAt, BytesAt, LargeAt, number_of}
-use Rattle.plan_definitions.specs.Meets.{IsOfTree, is_directory_use}
-use Rattle.plan_covers.specs.Covers.{cover_of}
+use Rattle.disk_definitions.specs.Ask.{Sector, InodeAt, DirectoryAt, SegmentAt, BytesAt, LargeAt, number_of}
+use Rattle.disk_definitions.specs.Meets.{IsOfTree, is_directory_use}
+use Rattle.plan_laws.specs.Covers.{cover_of}
 use Rattle.line_fills.specs.Files.{HoldsBytes}
-use Rattle.plan_moves.specs.Numbered.{sector_at}
+use Rattle.plan_laws.specs.Numbered.{sector_at}
 use Rattle.line_commits.specs.LinePlans.{store_on}
 
 -- what the sectors with versions say after the history

@@ -6,11 +6,11 @@ use Rattle.tree_definitions.specs.Touched.{shape_of}
 use Rattle.tree_laws.specs.WellFormed.{IsWellFormed}
 use Rattle.sector_bytes.specs.Blocks.{zero_block}
 use Rattle.sector_bytes.specs.Sectors.{Sectors}
-use Rattle.sector_definitions.specs.declared.region.Region.TheVariants as region
-use Rattle.sector_definitions.specs.Regions.{sector_of}
+use Rattle.disk_definitions.specs.declared.region.Region.TheVariants as region
+use Rattle.disk_definitions.specs.Regions.{sector_of}
 use Rattle.disk_definitions.specs.Store.{store_of}
-use Rattle.plan_definitions.specs.Meets.{is_directory_use}
-use Rattle.plan_definitions.specs.OnDisk.{StandsBelow}
+use Rattle.disk_definitions.specs.Meets.{is_directory_use}
+use Rattle.disk_definitions.specs.OnDisk.{StandsBelow}
 use Rattle.line_histories.specs.Trees.{NumberedTree}
 
 -- the sectors of each small block that is no directory's, and never was one's, are zeros

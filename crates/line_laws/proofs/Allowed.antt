@@ -13,12 +13,12 @@ use Rattle.frang_base.specs.declared.reply.Reply.TheVariants as reply
 use Rattle.tree_definitions.specs.Perform.{Resolved}
 use Rattle.tree_definitions.specs.Resolve.{is_absolute, target_text}
 use Rattle.disk_definitions.specs.Store.{Store, StoredNode, StoredEntry}
-use Rattle.plan_definitions.specs.Allowed.{AreNames, IsAllowed}
-use Rattle.plan_definitions.specs.Ask.{Ask, Got, ReadInode, run, bind}
-use Rattle.plan_definitions.specs.Walks.{Found, search, is_named}
+use Rattle.disk_definitions.specs.Allowed.{AreNames, IsAllowed}
+use Rattle.disk_definitions.specs.Ask.{Ask, Got, ReadInode, run, bind}
+use Rattle.disk_definitions.specs.Walks.{Found, search, is_named}
 use Rattle.plan_laws.proofs.Asking.{run-bind}
-use Rattle.line_definitions.specs.Resolving.{PathEnd, Leads, Refused, Resolution, leads, refused, behind, passes, at_target, with_target, at_entry, at_name, below_inode, resolve_names, resolve_from, resolve}
-use Rattle.line_definitions.specs.Lines.{step_of, by_path, is_found, by_second, by_first, over_paths}
+use Rattle.disk_definitions.specs.Resolving.{PathEnd, Leads, Refused, Resolution, leads, refused, behind, passes, at_target, with_target, at_entry, at_name, below_inode, resolve_names, resolve_from, resolve}
+use Rattle.disk_definitions.specs.Lines.{step_of, by_path, is_found, by_second, by_first, over_paths}
 use Rattle.line_laws.specs.Planned.{StepIsAllowed, LinesStayAllowed}
 use Rattle.line_laws.proofs.Names.{Follow}
 use Rattle.line_laws.proofs.Links.{follow_in}

@@ -16,11 +16,11 @@ use Rattle.tree_laws.proofs.Following.{finds_what_is_there}
 use Rattle.tree_laws.proofs.FreshLaws.{walkable}
 use Rattle.disk_definitions.specs.Store.{Store}
 use Rattle.disk_definitions.specs.Naming.{Naming}
-use Rattle.plan_definitions.specs.Ask.{Ask, run, looks}
-use Rattle.plan_definitions.specs.Meets.{IsOfTree}
+use Rattle.disk_definitions.specs.Ask.{Ask, run, looks}
+use Rattle.disk_definitions.specs.Meets.{IsOfTree}
 use Rattle.plan_laws.proofs.Asking.{run-bind}
-use Rattle.line_definitions.specs.Resolving.{Resolution, resolve}
-use Rattle.line_definitions.specs.Lines.{step_of, by_path, by_second, by_first, over_path, over_paths, as_it_stands, resolved}
+use Rattle.disk_definitions.specs.Resolving.{Resolution, resolve}
+use Rattle.disk_definitions.specs.Lines.{step_of, by_path, by_second, by_first, over_path, over_paths, as_it_stands, resolved}
 use Rattle.line_laws.specs.Resolutions.{LinesComeToWhatTheTreeHas, end_by, resolved_by}
 use Rattle.line_laws.proofs.Looked.{AreOnTrail, on_longer, on_bind, on_got}
 use Rattle.line_laws.proofs.Names.{IsWalk}

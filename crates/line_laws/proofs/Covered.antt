@@ -13,21 +13,21 @@ use Rattle.tree_definitions.specs.Tree.{FileTree, node_at}
 use Rattle.tree_laws.proofs.Resolving.{IsOf, Shaped, resolved_is}
 use Rattle.disk_definitions.specs.Store.{Store}
 use Rattle.disk_definitions.specs.Naming.{Naming}
-use Rattle.store_changes.specs.Edits.{Edit}
-use Rattle.plan_definitions.specs.Ask.{Sector, InodeAt, DirectoryAt, SegmentAt, BytesAt, LargeAt, run, looks}
-use Rattle.plan_definitions.specs.Plans.{Hand, Plan, Finish, Lacks, Clears, Finishes, shared_nodes}
-use Rattle.plan_definitions.specs.PlanOf.{plan_of}
-use Rattle.plan_definitions.specs.Meets.{IsOfTree, IsHandOf}
+use Rattle.disk_definitions.specs.Edits.{Edit}
+use Rattle.disk_definitions.specs.Ask.{Sector, InodeAt, DirectoryAt, SegmentAt, BytesAt, LargeAt, run, looks}
+use Rattle.disk_definitions.specs.Plans.{Hand, Plan, Finish, Lacks, Clears, Finishes, shared_nodes}
+use Rattle.disk_definitions.specs.PlanOf.{plan_of}
+use Rattle.disk_definitions.specs.Meets.{IsOfTree, IsHandOf}
 use Rattle.plan_laws.specs.Locks.{IsSole}
 use Rattle.plan_laws.specs.FilesPlanned.{HasFiles}
 use Rattle.plan_laws.proofs.Covering.{has_head, has_more, has_cases, not_in_none, map_has}
-use Rattle.plan_looks.specs.Looked.{edited_at}
-use Rattle.plan_covers.specs.Covers.{inode_cover, small_cover, cover_of, IsHeld, PlanHolds, IsHeldSegment, changes_bytes}
-use Rattle.plan_covers.proofs.Fine.{shared_held, only_held}
-use Rattle.plan_covers.proofs.AllFine.{looks_are_covered, edits_are_covered}
-use Rattle.plan_covers.proofs.TouchedHeld.{walks_are_held}
-use Rattle.plan_covers.proofs.AllChanged.{changed_held}
-use Rattle.line_definitions.specs.Lines.{with_trail, plan_of_line, resolved}
+use Rattle.plan_laws.specs.Looked.{edited_at}
+use Rattle.plan_laws.specs.Covers.{inode_cover, small_cover, cover_of, IsHeld, PlanHolds, IsHeldSegment, changes_bytes}
+use Rattle.plan_laws.proofs.Fine.{shared_held, only_held}
+use Rattle.plan_laws.proofs.AllFine.{looks_are_covered, edits_are_covered}
+use Rattle.plan_laws.proofs.TouchedHeld.{walks_are_held}
+use Rattle.plan_laws.proofs.AllChanged.{changed_held}
+use Rattle.disk_definitions.specs.Lines.{with_trail, plan_of_line, resolved}
 use Rattle.line_laws.specs.Covered.{LineLooksAreCovered, LineEditsAreCovered, LineNodesAreHeld, LineChangesAreHeldAlone}
 use Rattle.line_laws.proofs.Looked.{IsSectorOf, IsOnTrail, AreOnTrail}
 use Rattle.line_laws.proofs.Comes.{line_same}

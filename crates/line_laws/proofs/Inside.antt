@@ -5,14 +5,14 @@ use Rattle.tree_definitions.specs.Resolve as trees
 use Rattle.tree_definitions.specs.Tree.{FileTree}
 use Rattle.disk_definitions.specs.Store.{Store}
 use Rattle.disk_definitions.specs.Naming.{Naming}
-use Rattle.plan_definitions.specs.Ask.{Sector, InodeAt, DirectoryAt, SegmentAt, BytesAt, LargeAt, looks}
-use Rattle.plan_definitions.specs.Plans.{Hand}
-use Rattle.plan_definitions.specs.Meets.{IsOfTree, IsHandOf}
-use Rattle.plan_looks.specs.Inside.{IsInside, AreInside}
-use Rattle.plan_looks.proofs.AllInside.{all_inside}
-use Rattle.plan_looks.proofs.WalksInside.{inside_append, inode_inside, block_inside}
-use Rattle.line_definitions.specs.Resolving.{resolve}
-use Rattle.line_definitions.specs.Lines.{resolved}
+use Rattle.disk_definitions.specs.Ask.{Sector, InodeAt, DirectoryAt, SegmentAt, BytesAt, LargeAt, looks}
+use Rattle.disk_definitions.specs.Plans.{Hand}
+use Rattle.disk_definitions.specs.Meets.{IsOfTree, IsHandOf}
+use Rattle.plan_laws.specs.Inside.{IsInside, AreInside}
+use Rattle.plan_laws.proofs.AllInside.{all_inside}
+use Rattle.plan_laws.proofs.WalksInside.{inside_append, inode_inside, block_inside}
+use Rattle.disk_definitions.specs.Resolving.{resolve}
+use Rattle.disk_definitions.specs.Lines.{resolved}
 use Rattle.line_laws.specs.Covered.{LinesLookInside}
 use Rattle.line_laws.proofs.Looked.{IsOnTrail, AreOnTrail}
 use Rattle.line_laws.proofs.Links.{path_same}

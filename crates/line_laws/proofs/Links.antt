@@ -10,11 +10,11 @@ use Rattle.tree_definitions.specs.Tree.{FileTree, node_at}
 use Rattle.tree_definitions.specs.Resolve as trees
 use Rattle.disk_definitions.specs.Store.{Store, StoredNode}
 use Rattle.disk_definitions.specs.Naming.{Naming}
-use Rattle.store_changes.proofs.Kept.{inode_is}
-use Rattle.plan_definitions.specs.Ask.{Ask, ReadInode, looks}
-use Rattle.plan_definitions.specs.Meets.{IsOfTree}
+use Rattle.disk_definitions.proofs.Kept.{inode_is}
+use Rattle.disk_definitions.specs.Ask.{Ask, ReadInode, looks}
+use Rattle.disk_definitions.specs.Meets.{IsOfTree}
 use Rattle.plan_laws.proofs.Covering.{has_head}
-use Rattle.line_definitions.specs.Resolving.{Resolution, refused, passes, at_target, with_target, resolve_from, resolve}
+use Rattle.disk_definitions.specs.Resolving.{Resolution, refused, passes, at_target, with_target, resolve_from, resolve}
 use Rattle.line_laws.specs.Resolutions.{ResolutionsLeadAsTheTreeDoes}
 use Rattle.line_laws.proofs.Looked.{on_behind, on_inode}
 use Rattle.line_laws.proofs.Names.{Follow, TreeFollow, IsWalk, passed, names_same}

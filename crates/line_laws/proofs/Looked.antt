@@ -7,9 +7,9 @@ use Rattle.tree_definitions.specs.Entries.{Entries}
 use Rattle.tree_definitions.specs.Tree.{FileTree, node_at}
 use Rattle.disk_definitions.specs.Store.{Store, StoredEntry}
 use Rattle.disk_definitions.specs.Naming.{Naming, blocks_of, first_blocks}
-use Rattle.pick_definitions.specs.Least.{least}
-use Rattle.plan_definitions.specs.Ask.{Sector, InodeAt, DirectoryAt, Ask, Got, bind, seven, run, looks}
-use Rattle.plan_definitions.specs.Walks.{Found, or_on, hit, search}
+use Rattle.disk_definitions.specs.Least.{least}
+use Rattle.disk_definitions.specs.Ask.{Sector, InodeAt, DirectoryAt, Ask, Got, bind, seven, run, looks}
+use Rattle.disk_definitions.specs.Walks.{Found, or_on, hit, search}
 use Rattle.plan_laws.proofs.Asking.{looks-bind}
 use Rattle.plan_laws.proofs.Cases.{inode_by}
 use Rattle.plan_laws.proofs.Covering.{has_more}

@@ -11,16 +11,16 @@ use Rattle.tree_definitions.specs.Resolve as trees
 use Rattle.tree_laws.proofs.Keeping.{names_nodes}
 use Rattle.disk_definitions.specs.Store.{Store, StoredNode}
 use Rattle.disk_definitions.specs.Naming.{Naming, entry_of}
-use Rattle.store_changes.proofs.Kept.{inode_is}
-use Rattle.plan_definitions.specs.Ask.{Ask, Got, ReadInode, run, looks, bind}
-use Rattle.plan_definitions.specs.Meets.{IsOfTree}
-use Rattle.plan_definitions.specs.Walks.{Found, Walked, search, is_named, spot_by, look_up}
+use Rattle.disk_definitions.proofs.Kept.{inode_is}
+use Rattle.disk_definitions.specs.Ask.{Ask, Got, ReadInode, run, looks, bind}
+use Rattle.disk_definitions.specs.Meets.{IsOfTree}
+use Rattle.disk_definitions.specs.Walks.{Found, Walked, search, is_named, spot_by, look_up}
 use Rattle.plan_laws.specs.Walking.{Mirrors}
 use Rattle.plan_laws.proofs.Asking.{run-bind}
 use Rattle.plan_laws.proofs.Cases.{inode_by}
 use Rattle.plan_laws.proofs.Covering.{has_head}
 use Rattle.plan_laws.proofs.Spots.{look_up_leads}
-use Rattle.line_definitions.specs.Resolving.{Leads, Resolution, leads, behind, passes, at_entry, at_gap, at_name, below_inode, resolve_names}
+use Rattle.disk_definitions.specs.Resolving.{Leads, Resolution, leads, behind, passes, at_entry, at_gap, at_name, below_inode, resolve_names}
 use Rattle.line_laws.specs.Resolutions.{resolution_by}
 use Rattle.line_laws.proofs.Looked.{AreOnTrail, on_behind, on_bind, on_got, on_directory, on_inode}
 

@@ -11,23 +11,23 @@ use Rattle.tree_laws.specs.WellFormed.{IsNew}
 use Rattle.sector_bytes.specs.Sectors.{Sectors}
 use Rattle.disk_definitions.specs.Store.{Store, store_of}
 use Rattle.disk_definitions.specs.Naming.{Naming}
-use Rattle.pick_definitions.specs.Held.{Segments}
-use Rattle.plan_definitions.specs.Allowed.{IsAllowed}
-use Rattle.plan_definitions.specs.Ask.{Sector, Ask, AtHand, Has, run, looks, meet}
-use Rattle.plan_definitions.specs.Missing.{is_at_hand, first_missing, unless_missing}
-use Rattle.plan_definitions.specs.Plans.{Hand, Plan, Lacks, Clears, Finishes, refuse}
-use Rattle.plan_definitions.specs.PlanOf.{plan_of}
-use Rattle.plan_definitions.specs.Meets.{IsOfTree, IsHandOf, directory_blocks_in}
-use Rattle.plan_definitions.specs.Written.{Cached, at_hand, hand_of}
-use Rattle.plan_definitions.specs.OnDisk.{AreOfDisk, StandsBelow, PlanStands, MetStands, StandsWhenPlanned}
-use Rattle.plan_looks.specs.Inside.{AreInside}
-use Rattle.plan_looks.proofs.AllInside.{all_inside}
-use Rattle.plan_looks.proofs.Deciding.{meets_where}
-use Rattle.plan_standing.proofs.AtHand.{agrees}
-use Rattle.plan_standing.proofs.Edited.{hand}
-use Rattle.plan_standing.proofs.OfDisk.{of_tree}
-use Rattle.plan_standing.proofs.Operations.{all_stand}
-use Rattle.line_definitions.specs.Lines.{with_trail, plan_of_line, resolved}
+use Rattle.disk_definitions.specs.Held.{Segments}
+use Rattle.disk_definitions.specs.Allowed.{IsAllowed}
+use Rattle.disk_definitions.specs.Ask.{Sector, Ask, AtHand, Has, run, looks, meet}
+use Rattle.disk_definitions.specs.Missing.{is_at_hand, first_missing, unless_missing}
+use Rattle.disk_definitions.specs.Plans.{Hand, Plan, Lacks, Clears, Finishes, refuse}
+use Rattle.disk_definitions.specs.PlanOf.{plan_of}
+use Rattle.disk_definitions.specs.Meets.{IsOfTree, IsHandOf, directory_blocks_in}
+use Rattle.disk_definitions.specs.Written.{Cached, at_hand, hand_of}
+use Rattle.disk_definitions.specs.OnDisk.{AreOfDisk, StandsBelow, PlanStands, MetStands, StandsWhenPlanned}
+use Rattle.plan_laws.specs.Inside.{AreInside}
+use Rattle.plan_laws.proofs.AllInside.{all_inside}
+use Rattle.plan_laws.proofs.Deciding.{meets_where}
+use Rattle.line_laws.proofs.AtHand.{agrees}
+use Rattle.line_laws.proofs.Edited.{hand}
+use Rattle.line_laws.proofs.OfDisk.{of_tree}
+use Rattle.line_laws.proofs.Operations.{all_stand}
+use Rattle.disk_definitions.specs.Lines.{with_trail, plan_of_line, resolved}
 use Rattle.line_laws.specs.OnDisk.{LinesStandOnDisks}
 use Rattle.line_laws.specs.Planned.{StepIsAllowed}
 use Rattle.line_laws.proofs.Allowed.{stay_allowed}

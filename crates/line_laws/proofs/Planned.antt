@@ -9,8 +9,8 @@ use Rattle.tree_definitions.specs.Perform.{Step, Goes, Stops, perform_step, reso
 use Rattle.tree_laws.specs.WellFormed.{IsNew}
 use Rattle.disk_definitions.specs.Store.{Store}
 use Rattle.disk_definitions.specs.Naming.{Naming}
-use Rattle.plan_definitions.specs.Plans.{Hand, Plan, Lacks, Clears, Finishes}
-use Rattle.plan_definitions.specs.Meets.{IsOfTree, IsHandOf}
+use Rattle.disk_definitions.specs.Plans.{Hand, Plan, Lacks, Clears, Finishes}
+use Rattle.disk_definitions.specs.Meets.{IsOfTree, IsHandOf}
 use Rattle.plan_laws.specs.FilesPlanned.{HasFiles, IsPlannedForFiles}
 use Rattle.plan_laws.specs.Keeping.{PlanKeeps}
 use Rattle.plan_laws.proofs.Making.{create_planned, mkdir_planned, symlink_planned}
@@ -23,7 +23,7 @@ use Rattle.plan_laws.proofs.Reading.{read_planned}
 use Rattle.plan_laws.proofs.Truncating.{truncate_planned}
 use Rattle.plan_laws.proofs.Writing.{write_planned, fill_planned}
 use Rattle.plan_laws.proofs.Refusing.{refuse_meets}
-use Rattle.line_definitions.specs.Lines.{with_trail}
+use Rattle.disk_definitions.specs.Lines.{with_trail}
 use Rattle.line_laws.specs.Planned.{LinesArePlannedAsTheTreePerforms}
 use Rattle.line_laws.proofs.Running.{step_plan, run_performed}
 

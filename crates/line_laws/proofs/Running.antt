@@ -7,12 +7,12 @@ use Rattle.tree_definitions.specs.Perform.{Step, Goes, Stops, Resolved}
 use Rattle.tree_definitions.specs.Perform as performs
 use Rattle.disk_definitions.specs.Store.{Store}
 use Rattle.disk_definitions.specs.Naming.{Naming}
-use Rattle.plan_definitions.specs.Ask.{Sector, Got, run, looks}
-use Rattle.plan_definitions.specs.Plans.{Hand, Plan, refuse}
-use Rattle.plan_definitions.specs.PlanOf.{plan_of}
-use Rattle.plan_definitions.specs.Meets.{IsOfTree}
+use Rattle.disk_definitions.specs.Ask.{Sector, Got, run, looks}
+use Rattle.disk_definitions.specs.Plans.{Hand, Plan, refuse}
+use Rattle.disk_definitions.specs.PlanOf.{plan_of}
+use Rattle.disk_definitions.specs.Meets.{IsOfTree}
 use Rattle.plan_laws.proofs.Asking.{run-bind, looks-bind}
-use Rattle.line_definitions.specs.Lines.{resolved, with_trail, plan_step, plan_of_line}
+use Rattle.disk_definitions.specs.Lines.{resolved, with_trail, plan_step, plan_of_line}
 use Rattle.line_laws.proofs.Comes.{comes_to}
 
 module _ (h : Hand) (s : Store) (birth when : ℕ) where

@@ -9,17 +9,17 @@ use Rattle.tree_definitions.specs.Touched.{visited}
 use Rattle.tree_laws.specs.WellFormed.{IsNew}
 use Rattle.disk_definitions.specs.Store.{Store}
 use Rattle.disk_definitions.specs.Naming.{Naming}
-use Rattle.store_changes.specs.Edits.{Edit}
-use Rattle.plan_definitions.specs.Ask.{Sector, run, looks}
-use Rattle.plan_definitions.specs.Plans.{Hand, Finish}
-use Rattle.plan_definitions.specs.Plans.Plan.{Finishes}
-use Rattle.plan_definitions.specs.Meets.{IsOfTree, IsHandOf}
+use Rattle.disk_definitions.specs.Edits.{Edit}
+use Rattle.disk_definitions.specs.Ask.{Sector, run, looks}
+use Rattle.disk_definitions.specs.Plans.{Hand, Finish}
+use Rattle.disk_definitions.specs.Plans.Plan.{Finishes}
+use Rattle.disk_definitions.specs.Meets.{IsOfTree, IsHandOf}
 use Rattle.plan_laws.specs.Locks.{IsSole}
 use Rattle.plan_laws.specs.FilesPlanned.{HasFiles}
-use Rattle.plan_looks.specs.Inside.{AreInside}
-use Rattle.plan_looks.specs.Looked.{edited_at}
-use Rattle.plan_covers.specs.Covers.{cover_of, IsHeld, PlanHolds, IsHeldSegment, changes_bytes}
-use Rattle.line_definitions.specs.Lines.{plan_of_line}
+use Rattle.plan_laws.specs.Inside.{AreInside}
+use Rattle.plan_laws.specs.Looked.{edited_at}
+use Rattle.plan_laws.specs.Covers.{cover_of, IsHeld, PlanHolds, IsHeldSegment, changes_bytes}
+use Rattle.disk_definitions.specs.Lines.{plan_of_line}
 
 -- over the disk of a tree a line looks only at inodes and at blocks of directories that the disk has
 abbrev pub LinesLookInside : Type 0

@@ -1,5 +1,12 @@
+pub mod Laws
 pub mod Resolutions
 pub mod Planned
 pub mod Covered
 pub mod OnDisk
 pub mod Places
+pub mod Moves
+pub mod Stores
+pub mod Records
+pub mod Ready
+pub mod Onward
+pub mod Turns

@@ -6,14 +6,14 @@ use Rattle.tree_definitions.specs.Perform.{perform}
 use Rattle.tree_laws.specs.WellFormed.{IsNew}
 use Rattle.sector_bytes.specs.Sectors.{Sectors}
 use Rattle.disk_definitions.specs.Store.{store_of}
-use Rattle.pick_definitions.specs.Held.{Segments}
-use Rattle.plan_definitions.specs.Ask.{looks, meet}
-use Rattle.plan_definitions.specs.Meets.{directory_blocks_in}
-use Rattle.plan_definitions.specs.Written.{Cached, at_hand, hand_of}
-use Rattle.plan_definitions.specs.Missing.{first_missing}
-use Rattle.plan_definitions.specs.Allowed.{IsAllowed}
-use Rattle.plan_definitions.specs.OnDisk.{AreOfDisk, StandsBelow, MetStands}
-use Rattle.line_definitions.specs.Lines.{plan_of_line}
+use Rattle.disk_definitions.specs.Held.{Segments}
+use Rattle.disk_definitions.specs.Ask.{looks, meet}
+use Rattle.disk_definitions.specs.Meets.{directory_blocks_in}
+use Rattle.disk_definitions.specs.Written.{Cached, at_hand, hand_of}
+use Rattle.disk_definitions.specs.Missing.{first_missing}
+use Rattle.disk_definitions.specs.Allowed.{IsAllowed}
+use Rattle.disk_definitions.specs.OnDisk.{AreOfDisk, StandsBelow, MetStands}
+use Rattle.disk_definitions.specs.Lines.{plan_of_line}
 
 -- it needs a sector exactly where one that it looks at isn't at hand, and then the first of them; or it comes to what the tree performs, as a plan does
 -- over paths without links; `ever_directories` is the number of the disk's small blocks that are or were a directory's

@@ -6,13 +6,13 @@ use Rattle.tree_definitions.specs.Perform.{Step, Goes, Stops, perform}
 use Rattle.tree_laws.specs.WellFormed.{IsNew}
 use Rattle.disk_definitions.specs.Store.{Store}
 use Rattle.disk_definitions.specs.Naming.{Naming}
-use Rattle.plan_definitions.specs.Allowed.{IsAllowed}
-use Rattle.plan_definitions.specs.Ask.{run}
-use Rattle.plan_definitions.specs.Plans.{Hand}
-use Rattle.plan_definitions.specs.Meets.{IsOfTree, IsHandOf}
+use Rattle.disk_definitions.specs.Allowed.{IsAllowed}
+use Rattle.disk_definitions.specs.Ask.{run}
+use Rattle.disk_definitions.specs.Plans.{Hand}
+use Rattle.disk_definitions.specs.Meets.{IsOfTree, IsHandOf}
 use Rattle.plan_laws.specs.FilesPlanned.{HasFiles}
 use Rattle.plan_laws.specs.Keeping.{PlanKeeps}
-use Rattle.line_definitions.specs.Lines.{resolved, plan_of_line}
+use Rattle.disk_definitions.specs.Lines.{resolved, plan_of_line}
 
 -- what a line comes to may be asked of a plan
 abbrev pub StepIsAllowed : Step → Type 0

@@ -7,10 +7,10 @@ use Rattle.tree_definitions.specs.Resolve as trees
 use Rattle.tree_definitions.specs.Perform as performs
 use Rattle.disk_definitions.specs.Store.{Store}
 use Rattle.disk_definitions.specs.Naming.{Naming}
-use Rattle.plan_definitions.specs.Ask.{run}
-use Rattle.plan_definitions.specs.Meets.{IsOfTree}
-use Rattle.line_definitions.specs.Resolving.{PathEnd, Leads, Refused, Resolution, resolve}
-use Rattle.line_definitions.specs.Lines.{resolved}
+use Rattle.disk_definitions.specs.Ask.{run}
+use Rattle.disk_definitions.specs.Meets.{IsOfTree}
+use Rattle.disk_definitions.specs.Resolving.{PathEnd, Leads, Refused, Resolution, resolve}
+use Rattle.disk_definitions.specs.Lines.{resolved}
 
 -- the same path, with the kind of the node that is there; or the same refusal
 abbrev pub end_by : Naming → trees.WalkEnd → PathEnd

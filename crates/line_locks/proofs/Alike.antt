@@ -6,10 +6,10 @@ use Rattle.frang_base.specs.declared.lock.LockId.{LockId}
 use Rattle.frang_base.specs.declared.lock.LockId.TheVariants as lock
 use Rattle.frang_base.specs.declared.lock.Mode.{Mode}
 use Rattle.frang_base.specs.declared.lock.Mode.TheVariants.{Shared, Sole}
-use Rattle.plan_definitions.specs.Plans.{Lock, shared_nodes, sole_nodes, sole_segments}
+use Rattle.disk_definitions.specs.Plans.{Lock, shared_nodes, sole_nodes, sole_segments}
 use Rattle.plan_laws.proofs.Covering.{has_head, has_more, has_cases, not_in_none}
 use Rattle.plan_laws.specs.Locks.{IsSole}
-use Rattle.plan_covers.specs.Covers.{IsHeld}
+use Rattle.plan_laws.specs.Covers.{IsHeld}
 use Rattle.line_locks.specs.Same.{Have, HaveMode, AreWithin}
 
 -- ---- lists

@@ -8,11 +8,11 @@ use Rattle.frang_base.specs.declared.reply.Reply.TheVariants as reply
 use Rattle.tree_definitions.specs.declared.node.Node.TheVariants.{Dir, File, Link}
 use Rattle.disk_definitions.specs.Store.{Store, StoredNode}
 use Rattle.disk_definitions.specs.Naming.{Naming}
-use Rattle.plan_definitions.specs.FilePlans.{Writing, writing, cutting, showing, plan_of_file}
-use Rattle.plan_definitions.specs.LookPlans.{at_inode, described, listing, plan_of_node, timed}
-use Rattle.plan_definitions.specs.PlanOf.{plan_of}
-use Rattle.plan_definitions.specs.Plans.{Hand, Plan, refused}
-use Rattle.plan_covers.proofs.Standing.{DiskStands}
+use Rattle.disk_definitions.specs.FilePlans.{Writing, writing, cutting, showing, plan_of_file}
+use Rattle.disk_definitions.specs.LookPlans.{at_inode, described, listing, plan_of_node, timed}
+use Rattle.disk_definitions.specs.PlanOf.{plan_of}
+use Rattle.disk_definitions.specs.Plans.{Hand, Plan, refused}
+use Rattle.plan_laws.proofs.Standing.{DiskStands}
 use Rattle.line_locks.specs.Found.{makes_node, nodes_behind}
 use Rattle.line_locks.proofs.Ending.{Ends}
 use Rattle.line_locks.proofs.FilesEnd.{cutting_ends, file_ends, inode_ends, kind_ends, listing_ends, node_ends, showing_ends, writing_ends}

@@ -9,27 +9,27 @@ use Rattle.tree_definitions.specs.Tree.{FileTree}
 use Rattle.sector_bytes.specs.Sectors.{Sectors}
 use Rattle.disk_definitions.specs.Naming.{Naming}
 use Rattle.disk_definitions.specs.Store.{Store, StoredNode, store_of}
-use Rattle.store_changes.specs.Edits.{Edit}
-use Rattle.store_changes.specs.Edits.Edit.{SetInode, SetBit, SetUse, SetPlace, SetLarge, SetBytes, SetLargeBytes}
-use Rattle.pick_definitions.specs.Held.{Segments}
-use Rattle.plan_definitions.specs.Ask.{Sector, InodeAt, DirectoryAt, SegmentAt, BytesAt, LargeAt, Ask, AtHand, Has, run, looks, meet}
-use Rattle.plan_definitions.specs.Meets.{IsOfTree, IsHandOf}
-use Rattle.plan_definitions.specs.Missing.{is_at_hand, first_missing, unless_missing}
-use Rattle.plan_definitions.specs.OnDisk.{AreOfDisk, StandsBelow}
-use Rattle.plan_definitions.specs.Plans.{Hand, Lock, Plan, Finish, shared_nodes, sole_nodes}
-use Rattle.plan_definitions.specs.Plans.Plan.{Clears, Finishes}
-use Rattle.plan_definitions.specs.Written.{Cached, at_hand, hand_of}
+use Rattle.disk_definitions.specs.Edits.{Edit}
+use Rattle.disk_definitions.specs.Edits.Edit.{SetInode, SetBit, SetUse, SetPlace, SetLarge, SetBytes, SetLargeBytes}
+use Rattle.disk_definitions.specs.Held.{Segments}
+use Rattle.disk_definitions.specs.Ask.{Sector, InodeAt, DirectoryAt, SegmentAt, BytesAt, LargeAt, Ask, AtHand, Has, run, looks, meet}
+use Rattle.disk_definitions.specs.Meets.{IsOfTree, IsHandOf}
+use Rattle.disk_definitions.specs.Missing.{is_at_hand, first_missing, unless_missing}
+use Rattle.disk_definitions.specs.OnDisk.{AreOfDisk, StandsBelow}
+use Rattle.disk_definitions.specs.Plans.{Hand, Lock, Plan, Finish, shared_nodes, sole_nodes}
+use Rattle.disk_definitions.specs.Plans.Plan.{Clears, Finishes}
+use Rattle.disk_definitions.specs.Written.{Cached, at_hand, hand_of}
 use Rattle.plan_laws.proofs.Asking.{looks-bind}
 use Rattle.plan_laws.proofs.Covering.{has_cases, has_head, has_more, not_in_none}
-use Rattle.plan_looks.proofs.Deciding.{meets_where}
-use Rattle.plan_looks.specs.Inside.{AgreesWhereAll}
-use Rattle.plan_moves.specs.CoversAtHand.{has_small}
-use Rattle.plan_standing.proofs.AtHand.{agrees}
-use Rattle.plan_standing.proofs.Edited.{hand}
-use Rattle.plan_standing.proofs.OfDisk.{of_tree}
-use Rattle.plan_traces.specs.Traces.{traced}
-use Rattle.plan_traces.proofs.Traces.{traces_follow_looks}
-use Rattle.line_definitions.specs.Lines.{plan_of_line, plan_step, resolved}
+use Rattle.plan_laws.proofs.Deciding.{meets_where}
+use Rattle.plan_laws.specs.Inside.{AgreesWhereAll}
+use Rattle.plan_laws.specs.CoversAtHand.{has_small}
+use Rattle.line_laws.proofs.AtHand.{agrees}
+use Rattle.line_laws.proofs.Edited.{hand}
+use Rattle.line_laws.proofs.OfDisk.{of_tree}
+use Rattle.plan_laws.specs.Traces.{traced}
+use Rattle.plan_laws.proofs.Traces.{traces_follow_looks}
+use Rattle.disk_definitions.specs.Lines.{plan_of_line, plan_step, resolved}
 use Rattle.line_laws.proofs.Inside.{lines_inside}
 use Rattle.line_traces.proofs.Lines.{follows_disk}
 use Rattle.line_locks.specs.Found.{clear_locks, edit_locks_of, edit_locks, finish_locks, full_locks, nodes_of, owns_at_hand}

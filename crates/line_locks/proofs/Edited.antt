@@ -7,17 +7,17 @@ use Rattle.frang_base.specs.declared.lock.LockId.TheVariants as lock
 use Rattle.frang_base.specs.declared.lock.Mode.TheVariants.{Sole}
 use Rattle.tree_definitions.specs.Numbers.{below}
 use Rattle.disk_definitions.specs.Store.{Store, StoredNode, StoredEntry, Use}
-use Rattle.store_changes.specs.Changes.{drop_node, freed, grow, large_gone, put_entry, relink, replace_entry, take_entry, uses_to}
-use Rattle.store_changes.specs.Edits.{Edit}
-use Rattle.store_changes.specs.Edits.Edit.{SetInode, SetBit, SetUse, SetPlace, SetLarge}
-use Rattle.plan_definitions.specs.NamePlans.{fewer, fewer_segments, is_last, segments_of}
-use Rattle.plan_definitions.specs.Plans.{Hand, Lock, Room, enter, room_segments, sole_nodes, with_block}
-use Rattle.plan_definitions.specs.Plans.Room.{Inside, InBlock, NoRoom}
+use Rattle.disk_definitions.specs.Changes.{drop_node, freed, grow, large_gone, put_entry, relink, replace_entry, take_entry, uses_to}
+use Rattle.disk_definitions.specs.Edits.{Edit}
+use Rattle.disk_definitions.specs.Edits.Edit.{SetInode, SetBit, SetUse, SetPlace, SetLarge}
+use Rattle.disk_definitions.specs.NamePlans.{fewer, fewer_segments, is_last, segments_of}
+use Rattle.disk_definitions.specs.Plans.{Hand, Lock, Room, enter, room_segments, sole_nodes, with_block}
+use Rattle.disk_definitions.specs.Plans.Room.{Inside, InBlock, NoRoom}
 use Rattle.plan_laws.proofs.Covering.{has_cases, has_head, has_more, map_has, not_in_none}
 use Rattle.plan_laws.specs.Locks.{IsSole}
-use Rattle.plan_covers.proofs.WalksFine.{either}
-use Rattle.plan_moves.proofs.OneNode.{small_of}
-use Rattle.plan_moves.specs.CoversAtHand.{has_small}
+use Rattle.plan_laws.proofs.WalksFine.{either}
+use Rattle.plan_laws.proofs.OneNode.{small_of}
+use Rattle.plan_laws.specs.CoversAtHand.{has_small}
 use Rattle.line_locks.specs.Found.{edit_locks_of, edit_locks}
 use Rattle.line_locks.proofs.Alike.{all_join, sole_left, sole_right}
 use Rattle.line_locks.proofs.PlansEnd.{owns}

@@ -12,20 +12,20 @@ use Rattle.tree_definitions.specs.Tree.{small_blocks_of}
 use Rattle.disk_definitions.specs.Naming.{Naming}
 use Rattle.disk_definitions.specs.Store.{Store, StoredNode, StoredEntry, Use}
 use Rattle.disk_definitions.specs.Store.Use.{Bytes, Fresh}
-use Rattle.store_changes.specs.Edits.{Edit}
-use Rattle.store_changes.specs.Edits.Edit.{SetUse, SetLarge}
-use Rattle.pick_definitions.specs.Picks.{picked_large, picked_many}
-use Rattle.plan_definitions.specs.Ask.{Ask, Got, ReadBytes, ReadInode, ReadLarge, seven}
-use Rattle.plan_definitions.specs.FilePlans.{Writing, at_file, blocks_between, cut_by, cut_segments, cutting, directory_blocks, end_of, file_dated, keeps_bytes, large_cut, large_segment, large_taken, mixed, plan_of_file, read_sector, read_sectors, resized, sectors_met, set_sector, showing, with_file, write_sector, write_sectors, writing, writing_in, writing_large, writing_picked, writing_small, written_by}
-use Rattle.plan_definitions.specs.LookPlans.{at_inode, entries_of, listing, plan_of_node, read_entries, sorted_names, with_inode}
-use Rattle.plan_definitions.specs.NamePlans.{finish_over}
-use Rattle.plan_definitions.specs.Plans.{Hand, Plan, Finish, read_held, refused}
-use Rattle.plan_definitions.specs.Plans.Plan.{Finishes}
-use Rattle.plan_definitions.specs.Walks.{Spot, Target, at_spot, at_target, walk}
-use Rattle.plan_definitions.specs.Walks.Spot.{AtRoot, AtName, AtGap, Lost}
+use Rattle.disk_definitions.specs.Edits.{Edit}
+use Rattle.disk_definitions.specs.Edits.Edit.{SetUse, SetLarge}
+use Rattle.disk_definitions.specs.Picks.{picked_large, picked_many}
+use Rattle.disk_definitions.specs.Ask.{Ask, Got, ReadBytes, ReadInode, ReadLarge, seven}
+use Rattle.disk_definitions.specs.FilePlans.{Writing, at_file, blocks_between, cut_by, cut_segments, cutting, directory_blocks, end_of, file_dated, keeps_bytes, large_cut, large_segment, large_taken, mixed, plan_of_file, read_sector, read_sectors, resized, sectors_met, set_sector, showing, with_file, write_sector, write_sectors, writing, writing_in, writing_large, writing_picked, writing_small, written_by}
+use Rattle.disk_definitions.specs.LookPlans.{at_inode, entries_of, listing, plan_of_node, read_entries, sorted_names, with_inode}
+use Rattle.disk_definitions.specs.NamePlans.{finish_over}
+use Rattle.disk_definitions.specs.Plans.{Hand, Plan, Finish, read_held, refused}
+use Rattle.disk_definitions.specs.Plans.Plan.{Finishes}
+use Rattle.disk_definitions.specs.Walks.{Spot, Target, at_spot, at_target, walk}
+use Rattle.disk_definitions.specs.Walks.Spot.{AtRoot, AtName, AtGap, Lost}
 use Rattle.plan_laws.proofs.Covering.{has_head}
-use Rattle.plan_covers.proofs.Standing.{HasKind, DiskStands}
-use Rattle.plan_covers.proofs.WalksFine.{SpotStands}
+use Rattle.plan_laws.proofs.Standing.{HasKind, DiskStands}
+use Rattle.plan_laws.proofs.WalksFine.{SpotStands}
 use Rattle.line_locks.proofs.Alike.{all_join}
 use Rattle.line_locks.proofs.Edited.{IsEdited, Segments, edited_left, edited_right, segments_left, segments_right, edited_later, inode_edited, large_edited, use_edited}
 use Rattle.line_locks.proofs.Ending.{Ends}

@@ -16,10 +16,10 @@ use Rattle.tree_laws.proofs.Pairs.{IsExact, below_all, found_other, found_put, n
 use Rattle.lock_definitions.specs.Calls.{serves}
 use Rattle.lock_definitions.specs.Order.{is_lock, lock_cmp}
 use Rattle.lock_definitions.proofs.LockOrder.{found_lock, lock_total}
-use Rattle.plan_definitions.specs.Plans.{Lock}
+use Rattle.disk_definitions.specs.Plans.{Lock}
 use Rattle.plan_laws.proofs.Covering.{has_cases, has_head, has_more, not_in_none}
 use Rattle.plan_laws.specs.Locks.{IsSole}
-use Rattle.plan_covers.specs.Covers.{IsHeld}
+use Rattle.plan_laws.specs.Covers.{IsHeld}
 use Rattle.core_definitions.specs.Sets.{LockSet, joined, joined_all, lacks, mode_in, with_mode}
 use Rattle.line_locks.specs.Same.{AlikeLocksJoinAlike, AlikeLocksLackAlike, AreAlike, AreWithin, Have, HaveMode, SetsAreAlike}
 use Rattle.line_locks.proofs.Alike.{all_each, all_has, have_it}

@@ -10,19 +10,19 @@ use Rattle.tree_definitions.specs.Perform.{Step, Goes, Stops, Resolved}
 use Rattle.tree_definitions.specs.Tree.{FileTree}
 use Rattle.disk_definitions.specs.Store.{Store}
 use Rattle.disk_definitions.specs.Naming.{Naming}
-use Rattle.plan_definitions.specs.Ask.{Got, run, looks}
-use Rattle.plan_definitions.specs.Meets.{IsOfTree, IsHandOf}
-use Rattle.plan_definitions.specs.PlanOf.{plan_of}
-use Rattle.plan_definitions.specs.Plans.{Hand, Lock, Plan, Finish, shared_nodes, sole_segments}
-use Rattle.plan_definitions.specs.Plans.Plan.{Lacks, Clears, Finishes}
+use Rattle.disk_definitions.specs.Ask.{Got, run, looks}
+use Rattle.disk_definitions.specs.Meets.{IsOfTree, IsHandOf}
+use Rattle.disk_definitions.specs.PlanOf.{plan_of}
+use Rattle.disk_definitions.specs.Plans.{Hand, Lock, Plan, Finish, shared_nodes, sole_segments}
+use Rattle.disk_definitions.specs.Plans.Plan.{Lacks, Clears, Finishes}
 use Rattle.plan_laws.specs.Locks.{PlanIsCovered, says_full}
-use Rattle.plan_covers.specs.Covers.{IsHeld}
-use Rattle.plan_covers.proofs.AllFine.{edits_are_covered}
-use Rattle.plan_covers.proofs.AllLocks.{locks_cover}
-use Rattle.plan_covers.proofs.Fine.{only_held, shared_held}
-use Rattle.plan_covers.proofs.Standing.{DiskStands, disk_stands}
-use Rattle.plan_covers.proofs.WalksFine.{either}
-use Rattle.line_definitions.specs.Lines.{plan_of_line, plan_step, resolved, with_trail}
+use Rattle.plan_laws.specs.Covers.{IsHeld}
+use Rattle.plan_laws.proofs.AllFine.{edits_are_covered}
+use Rattle.plan_laws.proofs.AllLocks.{locks_cover}
+use Rattle.plan_laws.proofs.Fine.{only_held, shared_held}
+use Rattle.plan_laws.proofs.Standing.{DiskStands, disk_stands}
+use Rattle.plan_laws.proofs.WalksFine.{either}
+use Rattle.disk_definitions.specs.Lines.{plan_of_line, plan_step, resolved, with_trail}
 use Rattle.line_locks.specs.Found.{clear_locks, clear_soles, edit_locks, from_end, full_locks, makes_node, nodes_behind, nodes_of}
 use Rattle.line_locks.specs.Same.{AreAlike, AreWithin}
 use Rattle.line_locks.proofs.Alike.{held_left, held_right, within_join, within_more, within_shared}

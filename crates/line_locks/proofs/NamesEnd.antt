@@ -10,18 +10,18 @@ use Rattle.frang_base.specs.declared.reply.Reply.TheVariants as reply
 use Rattle.tree_definitions.specs.declared.node.Node.{Node}
 use Rattle.disk_definitions.specs.Store.{Store, StoredNode, StoredEntry}
 use Rattle.disk_definitions.specs.Naming.{Naming, kind_of}
-use Rattle.store_changes.specs.Changes.{new_node, relink, take_entry}
-use Rattle.store_changes.specs.Edits.{Edit}
-use Rattle.pick_definitions.specs.Picks.{picked_inode}
-use Rattle.plan_definitions.specs.Ask.{Ask, ReadInode, bind}
-use Rattle.plan_definitions.specs.NamePlans.{made_by, making_in, making_with, making, plan_made, linked_by, linking_in, linking_node, linking_to, linking, plan_linked, fewer, fewer_segments, finish_over, removed_by, unlinking_node, unlinking, plan_unlinked, removing_node, removing, plan_dir_removed}
-use Rattle.plan_definitions.specs.Plans.{Hand, Plan, Finish, Room, enter, refused, read_held, find_room, finish_in, room_segments, is_full}
-use Rattle.plan_definitions.specs.Plans.Room.{Inside, InBlock, NoRoom}
-use Rattle.plan_definitions.specs.Walks.{Spot, Walked, walk}
-use Rattle.plan_definitions.specs.Walks.Spot.{AtRoot, AtName, AtGap, Lost}
+use Rattle.disk_definitions.specs.Changes.{new_node, relink, take_entry}
+use Rattle.disk_definitions.specs.Edits.{Edit}
+use Rattle.disk_definitions.specs.Picks.{picked_inode}
+use Rattle.disk_definitions.specs.Ask.{Ask, ReadInode, bind}
+use Rattle.disk_definitions.specs.NamePlans.{made_by, making_in, making_with, making, plan_made, linked_by, linking_in, linking_node, linking_to, linking, plan_linked, fewer, fewer_segments, finish_over, removed_by, unlinking_node, unlinking, plan_unlinked, removing_node, removing, plan_dir_removed}
+use Rattle.disk_definitions.specs.Plans.{Hand, Plan, Finish, Room, enter, refused, read_held, find_room, finish_in, room_segments, is_full}
+use Rattle.disk_definitions.specs.Plans.Room.{Inside, InBlock, NoRoom}
+use Rattle.disk_definitions.specs.Walks.{Spot, Walked, walk}
+use Rattle.disk_definitions.specs.Walks.Spot.{AtRoot, AtName, AtGap, Lost}
 use Rattle.plan_laws.proofs.Covering.{has_head, has_more}
-use Rattle.plan_covers.proofs.Standing.{HasKind, DiskStands}
-use Rattle.plan_covers.proofs.WalksFine.{either, SpotStands}
+use Rattle.plan_laws.proofs.Standing.{HasKind, DiskStands}
+use Rattle.plan_laws.proofs.WalksFine.{either, SpotStands}
 use Rattle.line_locks.specs.Found.{from_end}
 use Rattle.line_locks.proofs.Edited.{IsEdited, IsRoom, bit_second, edited_left, edited_right, node_first, segments_right, enter_node, enter_segments, fewer_inode, fewer_segments_edited}
 use Rattle.line_locks.proofs.Ending.{Ends}

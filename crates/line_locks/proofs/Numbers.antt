@@ -10,23 +10,23 @@ use Rattle.frang_base.specs.declared.op.Op.TheVariants as op
 use Rattle.tree_definitions.specs.Tree.{FileTree}
 use Rattle.sector_bytes.specs.Sectors.{Sectors}
 use Rattle.disk_definitions.specs.Store.{store_of}
-use Rattle.sector_definitions.specs.declared.region.Region.{Region}
-use Rattle.sector_definitions.specs.declared.region.Region.TheVariants as region
-use Rattle.sector_definitions.specs.Regions.{bitmaps_from, inodes_from, region_of, small_blocks_from, large_blocks_from, large_stride}
-use Rattle.sector_definitions.proofs.RegionLaws.{region_found, region_read}
-use Rattle.pick_definitions.specs.Held.{Segments, bitmap_of}
-use Rattle.plan_definitions.specs.Ask.{Sector, InodeAt, DirectoryAt, SegmentAt, BytesAt, LargeAt, Ask, looks, number_of}
-use Rattle.plan_definitions.specs.Missing.{is_at_hand}
-use Rattle.plan_definitions.specs.OnDisk.{AreOfDisk, StandsBelow}
-use Rattle.plan_definitions.specs.Plans.{Plan}
-use Rattle.plan_definitions.specs.Written.{Cached, at_hand, hand_of, is_held}
+use Rattle.disk_definitions.specs.declared.region.Region.{Region}
+use Rattle.disk_definitions.specs.declared.region.Region.TheVariants as region
+use Rattle.disk_definitions.specs.Regions.{bitmaps_from, inodes_from, region_of, small_blocks_from, large_blocks_from, large_stride}
+use Rattle.disk_definitions.proofs.RegionLaws.{region_found, region_read}
+use Rattle.disk_definitions.specs.Held.{Segments, bitmap_of}
+use Rattle.disk_definitions.specs.Ask.{Sector, InodeAt, DirectoryAt, SegmentAt, BytesAt, LargeAt, Ask, looks, number_of}
+use Rattle.disk_definitions.specs.Missing.{is_at_hand}
+use Rattle.disk_definitions.specs.OnDisk.{AreOfDisk, StandsBelow}
+use Rattle.disk_definitions.specs.Plans.{Plan}
+use Rattle.disk_definitions.specs.Written.{Cached, at_hand, hand_of, is_held}
 use Rattle.plan_laws.proofs.Covering.{has_head, has_more}
-use Rattle.plan_looks.specs.Inside.{AreInside}
-use Rattle.plan_standing.proofs.Edited.{hand}
-use Rattle.plan_standing.proofs.OfDisk.{of_tree}
-use Rattle.plan_traces.specs.Traces.{has_version, traced}
-use Rattle.plan_traces.proofs.Traces.{traced_is_at_hand}
-use Rattle.line_definitions.specs.Lines.{plan_of_line}
+use Rattle.plan_laws.specs.Inside.{AreInside}
+use Rattle.line_laws.proofs.Edited.{hand}
+use Rattle.line_laws.proofs.OfDisk.{of_tree}
+use Rattle.plan_laws.specs.Traces.{has_version, traced}
+use Rattle.plan_laws.proofs.Traces.{traced_is_at_hand}
+use Rattle.disk_definitions.specs.Lines.{plan_of_line}
 use Rattle.line_laws.proofs.Inside.{lines_inside}
 use Rattle.line_traces.proofs.Lines.{follows_disk}
 use Rattle.line_traces.proofs.Looked.{inside_first}

@@ -9,18 +9,18 @@ use Rattle.frang_base.specs.declared.reply.Reply.{Reply}
 use Rattle.frang_base.specs.declared.reply.Reply.TheVariants as reply
 use Rattle.disk_definitions.specs.Store.{Store, StoredNode, StoredEntry}
 use Rattle.disk_definitions.specs.Naming.{Naming}
-use Rattle.store_changes.specs.Changes.{replace_entry, take_entry}
-use Rattle.plan_definitions.specs.Ask.{Ask, Got, ReadInode, bind}
-use Rattle.plan_definitions.specs.NamePlans.{fewer, fewer_segments, finish_over, Moving, renamed_entry, moved_onto_by, replacing_node, moving_onto, moved_within, moved_between, moving_in, moving_to, goes_through, renaming_to, renaming, plan_renamed}
-use Rattle.plan_definitions.specs.Plans.{Hand, Plan, Finish, Room, enter, refused, find_room, finish_in, room_segments, is_full, shared_nodes, sole_nodes}
-use Rattle.plan_definitions.specs.Plans.Plan.{Finishes}
-use Rattle.plan_definitions.specs.Plans.Room.{Inside, InBlock, NoRoom}
-use Rattle.plan_definitions.specs.Walks.{Spot, walk}
-use Rattle.plan_definitions.specs.Walks.Spot.{AtRoot, AtName, AtGap, Lost}
+use Rattle.disk_definitions.specs.Changes.{replace_entry, take_entry}
+use Rattle.disk_definitions.specs.Ask.{Ask, Got, ReadInode, bind}
+use Rattle.disk_definitions.specs.NamePlans.{fewer, fewer_segments, finish_over, Moving, renamed_entry, moved_onto_by, replacing_node, moving_onto, moved_within, moved_between, moving_in, moving_to, goes_through, renaming_to, renaming, plan_renamed}
+use Rattle.disk_definitions.specs.Plans.{Hand, Plan, Finish, Room, enter, refused, find_room, finish_in, room_segments, is_full, shared_nodes, sole_nodes}
+use Rattle.disk_definitions.specs.Plans.Plan.{Finishes}
+use Rattle.disk_definitions.specs.Plans.Room.{Inside, InBlock, NoRoom}
+use Rattle.disk_definitions.specs.Walks.{Spot, walk}
+use Rattle.disk_definitions.specs.Walks.Spot.{AtRoot, AtName, AtGap, Lost}
 use Rattle.plan_laws.proofs.Covering.{has_head, has_more}
-use Rattle.plan_covers.proofs.Fine.{only_held}
-use Rattle.plan_covers.proofs.Standing.{HasKind, DiskStands}
-use Rattle.plan_covers.proofs.WalksFine.{either, SpotStands}
+use Rattle.plan_laws.proofs.Fine.{only_held}
+use Rattle.plan_laws.proofs.Standing.{HasKind, DiskStands}
+use Rattle.plan_laws.proofs.WalksFine.{either, SpotStands}
 use Rattle.line_locks.specs.Found.{from_end}
 use Rattle.line_locks.proofs.Alike.{held_left, within_join, within_nodes, within_shared}
 use Rattle.line_locks.proofs.Edited.{IsEdited, IsRoom, edited_left, edited_right, node_first, segments_left, segments_right, place_edited, enter_node, enter_segments, fewer_inode, fewer_segments_edited}

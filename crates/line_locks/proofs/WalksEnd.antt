@@ -5,15 +5,15 @@ use Rattle.std.specs.Map.{keys_of}
 use Rattle.frang_base.specs.declared.reply.Reply.TheVariants as reply
 use Rattle.disk_definitions.specs.Store.{Store, StoredNode, StoredEntry}
 use Rattle.disk_definitions.specs.Naming.{Naming}
-use Rattle.pick_definitions.specs.Least.{least}
-use Rattle.pick_definitions.specs.Picks.{picked_directory}
-use Rattle.plan_definitions.specs.Ask.{Ask, Got, ReadInode, bind, seven, run}
-use Rattle.plan_definitions.specs.Walks.{Spot, Walked, Found, or_on, hit, search, is_named, is_vacant, spot_by, look_up, in_inode, onward, walk_from, walk}
-use Rattle.plan_definitions.specs.Walks.Spot.{AtRoot, AtName, AtGap, Lost}
-use Rattle.plan_definitions.specs.Plans.{Hand, Plan, Room, read_held, room_in, room_at, find_room}
-use Rattle.plan_definitions.specs.Plans.Room.{NoRoom}
-use Rattle.plan_covers.proofs.Standing.{HasKind, DiskStands}
-use Rattle.plan_covers.proofs.WalksFine.{kind_two, SpotStands, step_stands, walk_stands}
+use Rattle.disk_definitions.specs.Least.{least}
+use Rattle.disk_definitions.specs.Picks.{picked_directory}
+use Rattle.disk_definitions.specs.Ask.{Ask, Got, ReadInode, bind, seven, run}
+use Rattle.disk_definitions.specs.Walks.{Spot, Walked, Found, or_on, hit, search, is_named, is_vacant, spot_by, look_up, in_inode, onward, walk_from, walk}
+use Rattle.disk_definitions.specs.Walks.Spot.{AtRoot, AtName, AtGap, Lost}
+use Rattle.disk_definitions.specs.Plans.{Hand, Plan, Room, read_held, room_in, room_at, find_room}
+use Rattle.disk_definitions.specs.Plans.Room.{NoRoom}
+use Rattle.plan_laws.proofs.Standing.{HasKind, DiskStands}
+use Rattle.plan_laws.proofs.WalksFine.{kind_two, SpotStands, step_stands, walk_stands}
 use Rattle.line_locks.proofs.Ending.{Ends, ends_then, ends_value, ends_weaker, ends_segments}
 
 module _ (h : Hand) (s : Store) (n : Naming) (disk : DiskStands h s n) where

@@ -6,16 +6,16 @@ use Rattle.frang_base.specs.declared.limits.TheConstants.{SEGMENT_BLOCKS, SEGMEN
 use Rattle.frang_base.specs.declared.op.Op.{Op}
 use Rattle.frang_base.specs.declared.op.Op.TheVariants as op
 use Rattle.frang_base.specs.declared.reply.Reply.{Reply}
-use Rattle.sector_definitions.specs.declared.region.Region.{Region}
-use Rattle.sector_definitions.specs.declared.region.Region.TheVariants as region
-use Rattle.sector_definitions.specs.Regions.{region_of}
-use Rattle.store_changes.specs.Edits.{Edit, SetInode, SetBit, SetUse, SetPlace, SetLarge, SetBytes, SetLargeBytes}
-use Rattle.pick_definitions.specs.Held.{Segments}
-use Rattle.plan_definitions.specs.Ask.{Sector, InodeAt, DirectoryAt, SegmentAt, BytesAt, LargeAt}
-use Rattle.plan_definitions.specs.Plans.{Lock, shared_nodes, sole_nodes, sole_segments}
-use Rattle.plan_definitions.specs.Written.{Cached, inode_at_hand}
+use Rattle.disk_definitions.specs.declared.region.Region.{Region}
+use Rattle.disk_definitions.specs.declared.region.Region.TheVariants as region
+use Rattle.disk_definitions.specs.Regions.{region_of}
+use Rattle.disk_definitions.specs.Edits.{Edit, SetInode, SetBit, SetUse, SetPlace, SetLarge, SetBytes, SetLargeBytes}
+use Rattle.disk_definitions.specs.Held.{Segments}
+use Rattle.disk_definitions.specs.Ask.{Sector, InodeAt, DirectoryAt, SegmentAt, BytesAt, LargeAt}
+use Rattle.disk_definitions.specs.Plans.{Lock, shared_nodes, sole_nodes, sole_segments}
+use Rattle.disk_definitions.specs.Written.{Cached, inode_at_hand}
 use Rattle.plan_laws.specs.Locks.{says_full}
-use Rattle.plan_moves.specs.CoversAtHand.{has_small}
+use Rattle.plan_laws.specs.CoversAtHand.{has_small}
 
 -- ---- nodes
 

@@ -4,15 +4,15 @@ use Rattle.frang_base.specs.declared.op.Op.{Op}
 use Rattle.tree_definitions.specs.Perform.{Goes}
 use Rattle.tree_definitions.specs.Tree.{FileTree}
 use Rattle.sector_bytes.specs.Sectors.{Sectors}
-use Rattle.pick_definitions.specs.Held.{Segments}
-use Rattle.plan_definitions.specs.Ask.{Ask, AtHand, meet, number_of}
-use Rattle.plan_definitions.specs.Ask.Met.{Has}
-use Rattle.plan_definitions.specs.OnDisk.{AreOfDisk, StandsBelow}
-use Rattle.plan_definitions.specs.Plans.{Finish, Lock, Plan}
-use Rattle.plan_definitions.specs.Plans.Plan.{Clears, Finishes}
-use Rattle.plan_definitions.specs.Written.{Cached, at_hand, hand_of}
-use Rattle.plan_traces.specs.Traces.{has_version, traced}
-use Rattle.line_definitions.specs.Lines.{plan_of_line, resolved}
+use Rattle.disk_definitions.specs.Held.{Segments}
+use Rattle.disk_definitions.specs.Ask.{Ask, AtHand, meet, number_of}
+use Rattle.disk_definitions.specs.Ask.Met.{Has}
+use Rattle.disk_definitions.specs.OnDisk.{AreOfDisk, StandsBelow}
+use Rattle.disk_definitions.specs.Plans.{Finish, Lock, Plan}
+use Rattle.disk_definitions.specs.Plans.Plan.{Clears, Finishes}
+use Rattle.disk_definitions.specs.Written.{Cached, at_hand, hand_of}
+use Rattle.plan_laws.specs.Traces.{has_version, traced}
+use Rattle.disk_definitions.specs.Lines.{plan_of_line, resolved}
 use Rattle.line_locks.specs.Found.{clear_locks, finish_locks, nodes_in, nodes_of, owns_at_hand}
 use Rattle.line_locks.specs.Same.{AreAlike}
 

@@ -7,9 +7,9 @@ use Rattle.frang_base.specs.declared.lock.LockId.{LockId}
 use Rattle.frang_base.specs.declared.lock.Mode.{Mode}
 use Rattle.frang_base.specs.declared.lock.Mode.TheVariants.{Shared, Sole}
 use Rattle.lock_definitions.specs.Order.{lock_cmp}
-use Rattle.plan_definitions.specs.Plans.{Lock}
+use Rattle.disk_definitions.specs.Plans.{Lock}
 use Rattle.plan_laws.specs.Locks.{IsSole}
-use Rattle.plan_covers.specs.Covers.{IsHeld}
+use Rattle.plan_laws.specs.Covers.{IsHeld}
 use Rattle.core_definitions.specs.Sets.{LockSet, joined_all, lacks}
 
 -- these locks have the lock in this mode, or sole

@@ -1,13 +1,13 @@
 -- A plan behind the trail of its walks ends as it does, and one that goes on from its walks as they say.
 use Rattle.std.proofs.Common.{◌≡◌, ℕ, Result, Ok, Err, List, ◌++◌, ap, sym, subst}
 use Rattle.frang_base.specs.declared.op.Op.{Op}
-use Rattle.pick_definitions.specs.Held.{Segments}
+use Rattle.disk_definitions.specs.Held.{Segments}
 use Rattle.tree_definitions.specs.Perform.{Goes, Resolved}
-use Rattle.plan_definitions.specs.Ask.{Got}
-use Rattle.plan_definitions.specs.Plans.{Hand, Plan, shared_nodes}
-use Rattle.plan_definitions.specs.PlanOf.{plan_of}
-use Rattle.plan_definitions.specs.Written.{Cached}
-use Rattle.line_definitions.specs.Lines.{plan_of_line, plan_step, resolved, with_trail}
+use Rattle.disk_definitions.specs.Ask.{Got}
+use Rattle.disk_definitions.specs.Plans.{Hand, Plan, shared_nodes}
+use Rattle.disk_definitions.specs.PlanOf.{plan_of}
+use Rattle.disk_definitions.specs.Written.{Cached}
+use Rattle.disk_definitions.specs.Lines.{plan_of_line, plan_step, resolved, with_trail}
 use Rattle.dir_lookup.specs.Reading.{Read, Gives, reading, then_read}
 use Rattle.dir_lookup.proofs.Readings.{reading_bind}
 use Rattle.dir_lookup.proofs.Searches.{goes_on}

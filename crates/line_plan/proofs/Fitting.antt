@@ -2,12 +2,12 @@
 use Rattle.std.proofs.Common.{ℕ, Bool, true, false, List, [], ◌∷◌, subst, sym}
 use Rattle.frang_base.specs.declared.op.Op.{Op}
 use Rattle.frang_base.specs.declared.op.Op.TheVariants as op
-use Rattle.pick_definitions.specs.Held.{Segments}
+use Rattle.disk_definitions.specs.Held.{Segments}
 use Rattle.tree_definitions.specs.Perform.{Resolved}
-use Rattle.plan_definitions.specs.Ask.{bind}
-use Rattle.plan_definitions.specs.Written.{Cached}
-use Rattle.line_definitions.specs.Resolving.{PathEnd, Leads, Refused, Resolution, resolve}
-use Rattle.line_definitions.specs.Lines.{by_first, by_path, by_second, is_found, over_paths, resolved, step_of}
+use Rattle.disk_definitions.specs.Ask.{bind}
+use Rattle.disk_definitions.specs.Written.{Cached}
+use Rattle.disk_definitions.specs.Resolving.{PathEnd, Leads, Refused, Resolution, resolve}
+use Rattle.disk_definitions.specs.Lines.{by_first, by_path, by_second, is_found, over_paths, resolved, step_of}
 use Rattle.dir_lookup.specs.Reading.{Read, Lacks, Gives, reading, then_read}
 use Rattle.dir_lookup.proofs.Readings.{reading_bind}
 use Rattle.line_plan.specs.Lines.{StepFits, TargetFits}

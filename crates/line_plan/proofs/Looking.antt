@@ -1,12 +1,12 @@
 -- What the walk of a path looked at is what its operation looked at.
 use Rattle.std.proofs.Common.{◌≡◌, ℕ, List, ◌++◌, refl, Result, Ok, Err, OnOk}
 use Rattle.frang_base.specs.declared.op.Op.{Op}
-use Rattle.pick_definitions.specs.Held.{Segments}
+use Rattle.disk_definitions.specs.Held.{Segments}
 use Rattle.tree_definitions.specs.Perform.{Resolved}
-use Rattle.plan_definitions.specs.Ask.{Ask, bind}
-use Rattle.plan_definitions.specs.Written.{Cached}
-use Rattle.line_definitions.specs.Lines.{by_path, step_of}
-use Rattle.line_definitions.specs.Resolving.{Resolution}
+use Rattle.disk_definitions.specs.Ask.{Ask, bind}
+use Rattle.disk_definitions.specs.Written.{Cached}
+use Rattle.disk_definitions.specs.Lines.{by_path, step_of}
+use Rattle.disk_definitions.specs.Resolving.{Resolution}
 use Rattle.dir_lookup.specs.Looks.{looks_of}
 use Rattle.dir_lookup.specs.Reading.{reading}
 use Rattle.dir_lookup.proofs.WalkLooks.{looks_got}

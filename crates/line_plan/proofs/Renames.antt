@@ -1,7 +1,7 @@
 -- The walks of a rename, by whether its paths are the root.
 use Rattle.std.proofs.Common.{◌≡◌, ◌↔◌, ℕ, Bool, true, false, IsTrue, List, [], ◌∷◌, refl}
 use Rattle.frang_base.specs.declared.op.Op.TheVariants as op
-use Rattle.line_definitions.specs.Lines.{as_it_stands, over_paths, resolved}
+use Rattle.disk_definitions.specs.Lines.{as_it_stands, over_paths, resolved}
 
 pub from_root : (path to : List (List ℕ)) (a : Bool) → (IsTrue a ↔ (path ≡ [])) → a ≡ true → resolved (op.Rename path to) ≡ as_it_stands (op.Rename path to)
 from_root [] to a p e = refl

@@ -7,10 +7,10 @@ use Rattle.frang_base.specs.declared.op.Op.TheVariants as op
 use Rattle.frang_base.specs.declared.reply.Reply.TheVariants as reply
 use Rattle.tree_definitions.specs.Resolve.{is_absolute, target_text}
 use Rattle.disk_definitions.specs.Store.{StoredNode, StoredEntry}
-use Rattle.plan_definitions.specs.Ask.{Ask, Got, ReadInode, bind}
-use Rattle.plan_definitions.specs.Walks.{Found, is_named, search}
-use Rattle.line_definitions.specs.Lines.{by_first, by_path, by_second, is_found, over_path, over_paths, resolved}
-use Rattle.line_definitions.specs.Resolving.{PathEnd, Leads, Refused, Resolution, at_entry, at_gap, at_name, at_target, behind, below_inode, leads, passes, refused, resolve, resolve_from, resolve_names, with_target}
+use Rattle.disk_definitions.specs.Ask.{Ask, Got, ReadInode, bind}
+use Rattle.disk_definitions.specs.Walks.{Found, is_named, search}
+use Rattle.disk_definitions.specs.Lines.{by_first, by_path, by_second, is_found, over_path, over_paths, resolved}
+use Rattle.disk_definitions.specs.Resolving.{PathEnd, Leads, Refused, Resolution, at_entry, at_gap, at_name, at_target, behind, below_inode, leads, passes, refused, resolve, resolve_from, resolve_names, with_target}
 use Rattle.plan_steps.proofs.Examining.{ReadsNoBytes, bind_reads_none, search_reads}
 
 passes_reads : (i : ℕ) (walk : Ask Resolution) → ReadsNoBytes walk → ReadsNoBytes (passes i walk)

@@ -2,7 +2,7 @@
 use Rattle.std.specs.Prelude.{◌≡◌, ℕ, Result, Ok, Err, List}
 use Rattle.frang_base.specs.declared.fault.NoMemory.{NoMemory}
 use Rattle.tree_definitions.specs.Perform.{Goes, Resolved}
-use Rattle.plan_definitions.specs.Plans.{Plan, Lock, Lacks as LacksSegments, Clears}
+use Rattle.disk_definitions.specs.Plans.{Plan, Lock, Lacks as LacksSegments, Clears}
 use Rattle.dir_lookup.specs.Reading.{Read, Lacks, Gives}
 use Rattle.plan_steps.specs.Edits.{edits_of}
 use Rattle.plan_steps.specs.Ends.{IsDone}

@@ -5,8 +5,8 @@ use Rattle.frang_base.specs.declared.op.Op.{Op}
 use Rattle.frang_base.specs.declared.op.Op.TheVariants as op
 use Rattle.frang_base.specs.declared.reply.Reply.{Reply}
 use Rattle.tree_definitions.specs.Perform.{Step as TheStep, Goes as DoesGo, Stops as DoesStop, Resolved as TheResolved}
-use Rattle.line_definitions.specs.Resolving.{PathEnd}
-use Rattle.line_definitions.specs.Lines.{as_it_stands, over_path, over_paths, resolved, step_of}
+use Rattle.disk_definitions.specs.Resolving.{PathEnd}
+use Rattle.disk_definitions.specs.Lines.{as_it_stands, over_path, over_paths, resolved, step_of}
 use Rattle.file_tree.specs.Walks.{with_path, with_paths}
 use Rattle.line_plan.specs.declared.walks.Walks.{Walks}
 use Rattle.line_plan.specs.declared.walks.Walks.TheVariants as walks

@@ -1,7 +1,7 @@
 // How a line ends.
 ghost use Rattle.std.specs.Prelude.{◌≡◌, ℕ, List, IfOk, OnOk, Err};
 ghost use Rattle.tree_definitions.specs.Perform.{Goes};
-ghost use Rattle.plan_definitions.specs.Plans.{Plan};
+ghost use Rattle.disk_definitions.specs.Plans.{Plan};
 ghost use Rattle.dir_lookup.specs.Reading.{Read, Gives};
 ghost use Rattle.plan_steps.specs.Ends as plans;
 ghost use Rattle.line_plan.specs.Ends.{ClearsFor, Comes};

@@ -1,8 +1,8 @@
 // The plan of a line.
 ghost use Rattle.std.specs.Prelude.{◌≡◌, ◌≤◌, IfOk, OnOk, length};
 ghost use Rattle.frang_base.specs.declared.limits.TheConstants.{TARGET_BYTES_MAX};
-ghost use Rattle.plan_definitions.specs.PlanOf.{plan_of};
-ghost use Rattle.line_definitions.specs.Lines.{plan_of_line, plan_step, resolved};
+ghost use Rattle.disk_definitions.specs.PlanOf.{plan_of};
+ghost use Rattle.disk_definitions.specs.Lines.{plan_of_line, plan_step, resolved};
 ghost use Rattle.dir_lookup.specs.Hands.{over, seen};
 ghost use Rattle.dir_lookup.specs.Reading.{Gives};
 ghost use Rattle.plan_steps.specs.Ends as plans;

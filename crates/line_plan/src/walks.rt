@@ -1,7 +1,7 @@
 // The walks of a line, and the operation that comes of them.
 ghost use Rattle.std.specs.Prelude.{◌≡◌, ◌++◌, IfOk, OnOk, true};
-ghost use Rattle.pick_definitions.specs.Held.{Segments};
-ghost use Rattle.line_definitions.specs.Lines as lines;
+ghost use Rattle.disk_definitions.specs.Held.{Segments};
+ghost use Rattle.disk_definitions.specs.Lines as lines;
 ghost use Rattle.tree_definitions.specs.Perform.{Stops as DoesStop, goes};
 ghost use Rattle.dir_lookup.specs.Looked.{Adds};
 ghost use Rattle.dir_lookup.specs.Looks.{looks_of};

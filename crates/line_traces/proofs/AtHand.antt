@@ -2,18 +2,18 @@
 use Rattle.std.proofs.Common.{◌≡◌, ℕ, ◌^◌, Bool, true, false, Option, Some, None, List, [], ◌∷◌, if◌then◌else◌, length, refl, sym, ap, ◌∙◌}
 use Rattle.std.specs.BTreeMap.{is_at}
 use Rattle.std.specs.Ordering.{nat_cmp}
-use Rattle.sector_definitions.specs.declared.region.Region.TheVariants as region
-use Rattle.sector_definitions.specs.Bitmaps.{bitmap_bytes}
-use Rattle.sector_definitions.specs.Regions.{sector_of}
-use Rattle.sector_definitions.proofs.WrittenFields.{length_zeros}
+use Rattle.disk_definitions.specs.declared.region.Region.TheVariants as region
+use Rattle.disk_definitions.specs.Bitmaps.{bitmap_bytes}
+use Rattle.disk_definitions.specs.Regions.{sector_of}
+use Rattle.disk_definitions.proofs.WrittenFields.{length_zeros}
 use Rattle.sector_bytes.specs.SectorMaps.{value_at}
 use Rattle.sector_bytes.specs.Sectors.{Sectors}
 use Rattle.tree_laws.proofs.Pairs.{birth_exact, tie, self}
-use Rattle.store_changes.specs.Edits.Edit.{SetLarge}
-use Rattle.pick_definitions.specs.Held.{Segments, bitmap_of}
-use Rattle.plan_definitions.specs.OnDisk.{AreOfDisk}
-use Rattle.plan_definitions.specs.Written.{Cached, is_held, segment_sectors, sectors_at_hand}
-use Rattle.plan_standing.proofs.Held.{edit_is}
+use Rattle.disk_definitions.specs.Edits.Edit.{SetLarge}
+use Rattle.disk_definitions.specs.Held.{Segments, bitmap_of}
+use Rattle.disk_definitions.specs.OnDisk.{AreOfDisk}
+use Rattle.disk_definitions.specs.Written.{Cached, is_held, segment_sectors, sectors_at_hand}
+use Rattle.line_laws.proofs.Held.{edit_is}
 
 -- a sector that the held segments have is that of one of them
 pub record IsOfHeld (held : Segments) (sector : ℕ) : Type 0 where

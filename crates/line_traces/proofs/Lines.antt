@@ -5,19 +5,19 @@ use Rattle.frang_base.specs.declared.op.Op.TheVariants as op
 use Rattle.tree_definitions.specs.Tree.{FileTree}
 use Rattle.sector_bytes.specs.Sectors.{Sectors}
 use Rattle.disk_definitions.specs.Store.{Store, store_of}
-use Rattle.pick_definitions.specs.Held.{Segments}
-use Rattle.plan_definitions.specs.Ask.{Ask, AtHand, looks}
-use Rattle.plan_definitions.specs.Missing.{is_at_hand}
-use Rattle.plan_definitions.specs.OnDisk.{AreOfDisk, StandsBelow}
-use Rattle.plan_definitions.specs.Plans.{Plan}
-use Rattle.plan_definitions.specs.Written.{Cached, at_hand, hand_of, sectors_at_hand}
-use Rattle.plan_looks.specs.Inside.{AreInside}
-use Rattle.plan_standing.proofs.AtHand.{agrees}
-use Rattle.plan_standing.proofs.Edited.{hand}
-use Rattle.plan_standing.proofs.OfDisk.{of_tree}
-use Rattle.plan_traces.specs.Traces.{traced}
-use Rattle.plan_traces.proofs.Traces.{traces_follow_looks}
-use Rattle.line_definitions.specs.Lines.{plan_of_line}
+use Rattle.disk_definitions.specs.Held.{Segments}
+use Rattle.disk_definitions.specs.Ask.{Ask, AtHand, looks}
+use Rattle.disk_definitions.specs.Missing.{is_at_hand}
+use Rattle.disk_definitions.specs.OnDisk.{AreOfDisk, StandsBelow}
+use Rattle.disk_definitions.specs.Plans.{Plan}
+use Rattle.disk_definitions.specs.Written.{Cached, at_hand, hand_of, sectors_at_hand}
+use Rattle.plan_laws.specs.Inside.{AreInside}
+use Rattle.line_laws.proofs.AtHand.{agrees}
+use Rattle.line_laws.proofs.Edited.{hand}
+use Rattle.line_laws.proofs.OfDisk.{of_tree}
+use Rattle.plan_laws.specs.Traces.{traced}
+use Rattle.plan_laws.proofs.Traces.{traces_follow_looks}
+use Rattle.disk_definitions.specs.Lines.{plan_of_line}
 use Rattle.line_laws.proofs.Inside.{lines_inside}
 use Rattle.line_traces.specs.Traced.{FollowsLooks, LinesFollowTheDisk, LinesFollowWhatIsAtHand}
 use Rattle.line_traces.proofs.Looked.{looked_agrees, inside_first}

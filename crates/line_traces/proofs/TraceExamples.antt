@@ -8,16 +8,16 @@ use Rattle.frang_base.specs.declared.op.Op.{Op}
 use Rattle.frang_base.specs.declared.op.Op.TheVariants as op
 use Rattle.disk_definitions.specs.Store.{Store, StoredNode, StoredEntry}
 use Rattle.disk_definitions.specs.Store.Use.{Fresh, Bytes, Entries}
-use Rattle.pick_definitions.specs.Least as least
-use Rattle.pick_definitions.specs.Picks as picks
-use Rattle.plan_definitions.specs.Ask.{Sector, AtHand, Met, seven, part_of}
-use Rattle.plan_definitions.specs.Ask.Sector.{InodeAt, DirectoryAt, SegmentAt, BytesAt, LargeAt}
-use Rattle.plan_definitions.specs.Ask.Met.{Needs, Has}
-use Rattle.plan_definitions.specs.Plans.{Hand, Plan, Lock}
-use Rattle.plan_definitions.specs.Plans.Plan.{Lacks, Clears, Finishes}
-use Rattle.plan_traces.specs.Traces.{traced}
-use Rattle.line_definitions.specs.Resolving.{resolve}
-use Rattle.line_definitions.specs.Lines.{plan_of_line}
+use Rattle.disk_definitions.specs.Least as least
+use Rattle.disk_definitions.specs.Picks as picks
+use Rattle.disk_definitions.specs.Ask.{Sector, AtHand, Met, seven, part_of}
+use Rattle.disk_definitions.specs.Ask.Sector.{InodeAt, DirectoryAt, SegmentAt, BytesAt, LargeAt}
+use Rattle.disk_definitions.specs.Ask.Met.{Needs, Has}
+use Rattle.disk_definitions.specs.Plans.{Hand, Plan, Lock}
+use Rattle.disk_definitions.specs.Plans.Plan.{Lacks, Clears, Finishes}
+use Rattle.plan_laws.specs.Traces.{traced}
+use Rattle.disk_definitions.specs.Resolving.{resolve}
+use Rattle.disk_definitions.specs.Lines.{plan_of_line}
 
 abbrev a : List ℕ
 a = 97 ∷ []

@@ -5,14 +5,14 @@ use Rattle.frang_base.specs.declared.op.Op.{Op}
 use Rattle.tree_definitions.specs.Tree.{FileTree}
 use Rattle.sector_bytes.specs.Sectors.{Sectors}
 use Rattle.disk_definitions.specs.Store.{Store, store_of}
-use Rattle.pick_definitions.specs.Held.{Segments}
-use Rattle.plan_definitions.specs.Ask.{Ask, AtHand, looks}
-use Rattle.plan_definitions.specs.Missing.{is_at_hand}
-use Rattle.plan_definitions.specs.OnDisk.{AreOfDisk, StandsBelow}
-use Rattle.plan_definitions.specs.Plans.{Plan}
-use Rattle.plan_definitions.specs.Written.{Cached, at_hand, hand_of, sectors_at_hand}
-use Rattle.plan_traces.specs.Traces.{traced}
-use Rattle.line_definitions.specs.Lines.{plan_of_line}
+use Rattle.disk_definitions.specs.Held.{Segments}
+use Rattle.disk_definitions.specs.Ask.{Ask, AtHand, looks}
+use Rattle.disk_definitions.specs.Missing.{is_at_hand}
+use Rattle.disk_definitions.specs.OnDisk.{AreOfDisk, StandsBelow}
+use Rattle.disk_definitions.specs.Plans.{Plan}
+use Rattle.disk_definitions.specs.Written.{Cached, at_hand, hand_of, sectors_at_hand}
+use Rattle.plan_laws.specs.Traces.{traced}
+use Rattle.disk_definitions.specs.Lines.{plan_of_line}
 
 -- what a program looked at is what it looks at over this disk, up to the first sector that isn't at hand
 abbrev pub FollowsLooks : Ask Plan → AtHand → Store → Type 0

@@ -4,23 +4,23 @@ use Rattle.std.specs.Prelude.{fold}
 use Rattle.std.specs.List.{flat_map}
 use Rattle.std.proofs.lemmas.Bool.{and_parts, and_from, and_right, cond-true, cond-false, cases_Bool}
 use Rattle.frang_base.specs.declared.change.Change.{Change}
-use Rattle.sector_definitions.specs.declared.param.Param.{Param}
-use Rattle.sector_definitions.specs.declared.region.Region.{Region}
-use Rattle.sector_definitions.specs.declared.region.Region.TheVariants as region
+use Rattle.disk_definitions.specs.declared.param.Param.{Param}
+use Rattle.disk_definitions.specs.declared.region.Region.{Region}
+use Rattle.disk_definitions.specs.declared.region.Region.TheVariants as region
 use Rattle.sector_bytes.specs.Bytes.{zeros}
-use Rattle.sector_definitions.specs.Params.{param_in}
-use Rattle.sector_definitions.specs.Regions.{logs_from, bitmaps_from, inodes_from, small_blocks_from, large_blocks_from, log_stride, log_at, large_at, is_among, region_of, sector_of}
-use Rattle.sector_definitions.proofs.RegionLaws.{region_found, region_read}
+use Rattle.disk_definitions.specs.Params.{param_in}
+use Rattle.disk_definitions.specs.Regions.{logs_from, bitmaps_from, inodes_from, small_blocks_from, large_blocks_from, log_stride, log_at, large_at, is_among, region_of, sector_of}
+use Rattle.disk_definitions.proofs.RegionLaws.{region_found, region_read}
 use Rattle.sector_bytes.specs.Changes.{changed, is_older, applied}
 use Rattle.sector_bytes.specs.Blocks.{version_of}
 use Rattle.sector_bytes.proofs.ChangeLaws.{reached, rises}
 use Rattle.sector_bytes.specs.Sectors.{Sectors}
 use Rattle.tree_definitions.specs.Numbers.{below}
 use Rattle.frang_base.specs.declared.change.Redo.{Redo}
-use Rattle.log_definitions.specs.Logs.{log_records}
-use Rattle.log_definitions.specs.Replay.{slots_of, is_replayed, with_change, logged_changes, with_logs, is_log, replayed}
-use Rattle.log_definitions.proofs.Listed.{Among, below_among}
-use Rattle.log_definitions.proofs.SameLogs.{SameSlots, log_records_same, IsZeroLog, zero_log_records}
+use Rattle.disk_definitions.specs.Logs.{log_records}
+use Rattle.disk_definitions.specs.Replay.{slots_of, is_replayed, with_change, logged_changes, with_logs, is_log, replayed}
+use Rattle.disk_definitions.proofs.Listed.{Among, below_among}
+use Rattle.disk_definitions.proofs.SameLogs.{SameSlots, log_records_same, IsZeroLog, zero_log_records}
 
 -- ---- sectors of logs are never changed
 

@@ -3,15 +3,15 @@ use Rattle.std.proofs.Common.{◌≡◌, ℕ, suc, ◌+◌, ◌-◌, ◌%◌, �
 use Rattle.std.specs.List.{list_all}
 use Rattle.std.proofs.lemmas.Bool.{and_parts, and_from, cases_eq, cases_lt}
 use Rattle.std.proofs.lemmas.List.{same_lists, get_or-take, get_or-drop}
-use Rattle.sector_definitions.specs.declared.log_sector.LogSector.{LogSector}
-use Rattle.sector_definitions.specs.LogSectors.{empty_sector}
-use Rattle.log_definitions.specs.Arriving.{with_sector, with_sectors}
-use Rattle.log_definitions.specs.Logs.{Slots, sector_numbered, stands, is_end, log_end, log_records, is_sealed, sectors_read, records_among}
-use Rattle.log_definitions.proofs.Listed.{Among}
-use Rattle.log_definitions.proofs.EndLaws.{sector_of_number, numbers_are_below, all_numbers_below, sealed_from, window_among, end_stands, end_from, log_end_is_one, end_is_below, log_end_is}
-use Rattle.log_definitions.proofs.ReadingLaws.{begun, records_among-drop, starts_anew, records_among-append, no_records, length-sectors_read, sector_read_at}
-use Rattle.log_definitions.proofs.ArrivingLaws.{empty_arrived, others_stay, one_number}
-use Rattle.log_definitions.proofs.SameLogs.{sectors_same}
+use Rattle.disk_definitions.specs.declared.log_sector.LogSector.{LogSector}
+use Rattle.disk_definitions.specs.LogSectors.{empty_sector}
+use Rattle.disk_definitions.specs.Arriving.{with_sector, with_sectors}
+use Rattle.disk_definitions.specs.Logs.{Slots, sector_numbered, stands, is_end, log_end, log_records, is_sealed, sectors_read, records_among}
+use Rattle.disk_definitions.proofs.Listed.{Among}
+use Rattle.disk_definitions.proofs.EndLaws.{sector_of_number, numbers_are_below, all_numbers_below, sealed_from, window_among, end_stands, end_from, log_end_is_one, end_is_below, log_end_is}
+use Rattle.disk_definitions.proofs.ReadingLaws.{begun, records_among-drop, starts_anew, records_among-append, no_records, length-sectors_read, sector_read_at}
+use Rattle.disk_definitions.proofs.ArrivingLaws.{empty_arrived, others_stay, one_number}
+use Rattle.disk_definitions.proofs.SameLogs.{sectors_same}
 use Rattle.log_laws.specs.Sealing.{IsWithinFlight, is_behind_gap, IsSealedFrom}
 
 -- ---- the log while it is being sealed

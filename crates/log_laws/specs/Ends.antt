@@ -2,7 +2,7 @@
 use Rattle.std.specs.Prelude.{◌-◌, ◌≡◌, ◌≤◌, ◌<◌, ℕ, true, []}
 use Rattle.frang_base.specs.declared.limits.TheConstants.{LOG_SECTORS, SECTOR_BYTES}
 use Rattle.sector_bytes.specs.Bytes.{zeros}
-use Rattle.log_definitions.specs.Logs.{Slots, is_end, log_end, log_records}
+use Rattle.disk_definitions.specs.Logs.{Slots, is_end, log_end, log_records}
 
 -- an end is not above the log's, and the log's end is one unless it is 0
 abbrev pub TheEndIsTheGreatest : Type 0

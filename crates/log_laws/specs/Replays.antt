@@ -1,11 +1,11 @@
 -- What a replay of all logs leaves.
 use Rattle.std.specs.Prelude.{◌≡◌, ◌≤◌, ◌<◌, ℕ, Option, []}
 use Rattle.frang_base.specs.declared.limits.TheConstants.{LOGS}
-use Rattle.sector_definitions.specs.declared.param.Param.{Param}
+use Rattle.disk_definitions.specs.declared.param.Param.{Param}
 use Rattle.sector_bytes.specs.Blocks.{version_of}
 use Rattle.sector_bytes.specs.Sectors.{Sectors}
-use Rattle.log_definitions.specs.Logs.{log_records}
-use Rattle.log_definitions.specs.Replay.{slots_of, with_logs, replayed}
+use Rattle.disk_definitions.specs.Logs.{log_records}
+use Rattle.disk_definitions.specs.Replay.{slots_of, with_logs, replayed}
 
 -- the changes made again over the disk that has them leave it, and a replayed disk is its own replay
 abbrev pub ReplayedTwiceIsOnce : Type 0

@@ -3,9 +3,9 @@
 use Rattle.std.specs.Prelude.{◌-◌, ◌≡◌, ◌≤◌, ◌<◌, ℕ, ◌+◌, ◌^◌, Bool, true, ◌&&◌, nat_le, Some, List, drop, map, IsTrue}
 use Rattle.std.specs.List.{list_all}
 use Rattle.frang_base.specs.declared.limits.TheConstants.{LOG_IN_FLIGHT_MAX, LOG_SECTORS}
-use Rattle.sector_definitions.specs.LogSectors.{empty_sector}
-use Rattle.log_definitions.specs.Arriving.{with_sector, with_sectors}
-use Rattle.log_definitions.specs.Logs.{Slots, sector_numbered, numbers_in, log_end, log_records, is_sealed, records_among, sectors_read}
+use Rattle.disk_definitions.specs.LogSectors.{empty_sector}
+use Rattle.disk_definitions.specs.Arriving.{with_sector, with_sectors}
+use Rattle.disk_definitions.specs.Logs.{Slots, sector_numbered, numbers_in, log_end, log_records, is_sealed, records_among, sectors_read}
 
 -- no slot has a number more than 64 above the end: a server issues none that is more than 64 past the acknowledged ones
 abbrev pub IsWithinFlight : Slots → Type 0

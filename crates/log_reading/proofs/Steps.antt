@@ -4,13 +4,13 @@ use Rattle.std.proofs.lemmas.Bool.{false≢true, cond-true, cond-false, cases_lt
 use Rattle.std.proofs.lemmas.List.{at_drop_more, drop_all, length-take, take_all}
 use Rattle.std.specs.List.{cons_option, filter_map}
 use Rattle.std.specs.Option.{option_copied, is_some}
-use Rattle.sector_definitions.specs.declared.log_sector.LogSector.{LogSector}
-use Rattle.sector_definitions.specs.LogSectors.{empty_sector}
+use Rattle.disk_definitions.specs.declared.log_sector.LogSector.{LogSector}
+use Rattle.disk_definitions.specs.LogSectors.{empty_sector}
 use Rattle.frang_base.specs.declared.change.Redo.{Redo}
-use Rattle.log_definitions.specs.Records.{Read}
-use Rattle.log_definitions.specs.Frames.{Frame, frame_length, frame_read, framed_record, next_frames, frames_among}
-use Rattle.log_definitions.specs.Logs.{goes_on, bytes_on, records_at, records_among}
-use Rattle.log_definitions.proofs.ReadingLaws.{none_left}
+use Rattle.disk_definitions.specs.Records.{Read}
+use Rattle.disk_definitions.specs.Frames.{Frame, frame_length, frame_read, framed_record, next_frames, frames_among}
+use Rattle.disk_definitions.specs.Logs.{goes_on, bytes_on, records_at, records_among}
+use Rattle.disk_definitions.proofs.ReadingLaws.{none_left}
 use Rattle.log_reading.specs.Decoded.{Decoded, sector_with}
 use Rattle.log_reading.proofs.Windows.{numbers_from, sectors_more, with_sector}
 

@@ -7,9 +7,9 @@ use Rattle.std.proofs.lemmas.Bool.Decides.{nat_tests}
 use Rattle.std.proofs.lemmas.List.Folds.{list_all-append}
 use Rattle.std.specs.List.{list_all, filter_map}
 use Rattle.frang_base.proofs.Basics.{of_le, of_gt}
-use Rattle.sector_definitions.specs.declared.log_sector.LogSector.{LogSector}
+use Rattle.disk_definitions.specs.declared.log_sector.LogSector.{LogSector}
 use Rattle.tree_definitions.specs.Numbers.{below}
-use Rattle.log_definitions.specs.Logs as logs
+use Rattle.disk_definitions.specs.Logs as logs
 use Rattle.log_reading.specs.Decoded.{Decoded, is_full, sector_with, sectors_up_to}
 
 -- the first of the 192 numbers up to an end

@@ -5,11 +5,11 @@ use Rattle.std.specs.Prelude.{max, fold}
 use Rattle.std.specs.List.{list_all, filter, filter_map, cons_option}
 use Rattle.std.specs.Option.{option_map}
 use Rattle.std.proofs.lemmas.List.{get_or-map}
-use Rattle.sector_definitions.specs.LogSectors.{log_sector_in}
+use Rattle.disk_definitions.specs.LogSectors.{log_sector_in}
 use Rattle.tree_definitions.specs.Numbers.{below}
-use Rattle.sector_definitions.proofs.Lists.{length_below, below_at}
-use Rattle.log_definitions.specs.Logs as logs
-use Rattle.log_definitions.specs.Logs.{Slots, is_end, log_end, numbered, numbers_in, sector_numbered, sectors_read, seq_of, stands, window}
+use Rattle.disk_definitions.proofs.Lists.{length_below, below_at}
+use Rattle.disk_definitions.specs.Logs as logs
+use Rattle.disk_definitions.specs.Logs.{Slots, is_end, log_end, numbered, numbers_in, sector_numbered, sectors_read, seq_of, stands, window}
 use Rattle.log_reading.specs.Decoded.{Decoded, decoded, end_of, is_full, numbers_of, sector_with, sectors_up_to}
 
 -- ---- lists

@@ -3,10 +3,10 @@ use Rattle.std.specs.Prelude.{◌-◌, ℕ, zero, suc, ◌%◌, Bool, ◌&&◌, 
 use Rattle.std.specs.List.{list_all, filter, filter_map}
 use Rattle.std.specs.Option.{option_map}
 use Rattle.frang_base.specs.declared.limits.TheConstants.{LOG_SECTORS, LOG_WINDOW}
-use Rattle.sector_definitions.specs.declared.log_sector.LogSector.{LogSector}
-use Rattle.sector_definitions.specs.LogSectors.{log_sector_in}
+use Rattle.disk_definitions.specs.declared.log_sector.LogSector.{LogSector}
+use Rattle.disk_definitions.specs.LogSectors.{log_sector_in}
 use Rattle.tree_definitions.specs.Numbers.{below}
-use Rattle.log_definitions.specs.Logs.{Slots, numbered, seq_of, window}
+use Rattle.disk_definitions.specs.Logs.{Slots, numbered, seq_of, window}
 
 -- what stands in each slot, in order
 abbrev pub Decoded : Type 0

@@ -5,9 +5,9 @@ ghost use Rattle.frang_base.specs.declared.limits.TheConstants.{LOG_SECTORS};
 ghost use Rattle.log_reading.specs.Decoded as spec;
 ghost use Rattle.log_reading.specs.Decoded.{end_of, is_full, sector_with};
 
+use disk_definitions::LogSector;
 use frang_base::NoMemory;
 use frang_base::limits::{LOG_SECTORS, LOG_WINDOW};
-use sector_definitions::LogSector;
 use std::alloc::Global;
 
 // The greatest number of which it and the 191 before it stand in their slots, 0 where there is none.

@@ -1,14 +1,14 @@
 // The records of the frames in packed sectors.
 ghost use Rattle.std.specs.Prelude.{◌≡◌, ◌++◌, [], IfOk, OnOk, length, take};
 ghost use Rattle.std.specs.List.{cons_option};
-ghost use Rattle.log_definitions.specs.Frames as spec;
-ghost use Rattle.log_definitions.specs.Frames.{frame_most, frames_among};
-ghost use Rattle.log_definitions.specs.Logs as logs;
+ghost use Rattle.disk_definitions.specs.Frames as spec;
+ghost use Rattle.disk_definitions.specs.Frames.{frame_most, frames_among};
+ghost use Rattle.disk_definitions.specs.Logs as logs;
 
 use crate::records::used;
+use disk_definitions::LogSector;
 use frang_base::{NoMemory, Redo};
 use log_record::{FRAME_BYTES_MAX, FRAME_HEAD, Frame, decode, read_frame};
-use sector_definitions::LogSector;
 use std::alloc::Global;
 
 /// Adds the records of the frames that begin in a packed sector, in order. These sectors follow it.

@@ -1,15 +1,15 @@
 // A log, from its sectors.
 ghost use Rattle.std.specs.Prelude.{◌≡◌, IfOk, length, slice_index_or, []};
 ghost use Rattle.frang_base.specs.declared.limits.TheConstants.{LOG_SECTORS};
-ghost use Rattle.log_definitions.specs.Logs as logs;
+ghost use Rattle.disk_definitions.specs.Logs as logs;
 ghost use Rattle.log_reading.specs.Decoded.{decoded};
 
 use crate::end::{log_end, sectors_up_to};
 use crate::records::records_among;
+use disk_definitions::LogSector;
 use frang_base::limits::LOG_SECTORS;
 use frang_base::{Block, NoMemory, Redo};
 use log_record::sector_read;
-use sector_definitions::LogSector;
 use std::alloc::Global;
 
 /// The end of a log and its records in order, by the blocks of its 256 slots. The end is the greatest number of which it and the 191

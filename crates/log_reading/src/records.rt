@@ -1,11 +1,11 @@
 // The records among sectors.
 ghost use Rattle.std.specs.Prelude.{◌≡◌, ◌++◌, IfOk, OnOk, length, take};
-ghost use Rattle.log_definitions.specs.Logs as logs;
+ghost use Rattle.disk_definitions.specs.Logs as logs;
 
 use crate::frames::{push_frames, push_some};
+use disk_definitions::LogSector;
 use frang_base::{NoMemory, OpNo, Redo};
 use log_record::decode;
-use sector_definitions::LogSector;
 use std::alloc::Global;
 
 /// The greatest operation among records, 0 where there is none.

@@ -8,8 +8,8 @@ use Rattle.byteorder.specs.Numbers.{little_number-reads_back, little_from-take}
 use Rattle.frang_base.proofs.Basics.{of_le, of_gt}
 use Rattle.sector_bytes.specs.Bytes.{number_at}
 use Rattle.frang_base.specs.declared.change.Redo.{Redo}
-use Rattle.log_definitions.specs.Records.{Read, bytes_read, number_read, record_bytes, record_fits}
-use Rattle.log_definitions.specs.Frames.{frame_bytes, body_read, frame_read}
+use Rattle.disk_definitions.specs.Records.{Read, bytes_read, number_read, record_bytes, record_fits}
+use Rattle.disk_definitions.specs.Frames.{frame_bytes, body_read, frame_read}
 use Rattle.log_record.proofs.NumbersRead.{number_back, bytes_back}
 use Rattle.log_record.proofs.RecordBack.{goes_on, is_record}
 

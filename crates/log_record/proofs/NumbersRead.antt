@@ -5,8 +5,8 @@ use Rattle.byteorder.specs.Endian.{little_bytes}
 use Rattle.byteorder.specs.Numbers.{little_number-reads_back, length-bytes_low_first}
 use Rattle.frang_base.proofs.Basics.{by_test, of_le, le_of}
 use Rattle.sector_bytes.specs.Bytes.{number_at, AreBytes}
-use Rattle.sector_definitions.proofs.NumberBytes.{number_again, drop_are}
-use Rattle.log_definitions.specs.Records.{Read, number_read, bytes_read}
+use Rattle.disk_definitions.proofs.NumberBytes.{number_again, drop_are}
+use Rattle.disk_definitions.specs.Records.{Read, number_read, bytes_read}
 
 -- a value that is read, and the bytes behind it
 abbrev pub taken : {A : Type 0} → A → List ℕ → A × List ℕ

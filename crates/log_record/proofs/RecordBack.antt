@@ -9,7 +9,7 @@ use Rattle.frang_base.proofs.Basics.{le_of}
 use Rattle.frang_base.specs.declared.change.Patch.{Patch}
 use Rattle.frang_base.specs.declared.change.Change.{Change}
 use Rattle.sector_bytes.specs.Changes.{are_patches, is_change}
-use Rattle.log_definitions.specs.Records.{Read, all_read, change_bytes, change_read, patch_bytes, patch_read, record_bytes, record_fits, record_in, sectors_ascend}
+use Rattle.disk_definitions.specs.Records.{Read, all_read, change_bytes, change_read, patch_bytes, patch_read, record_bytes, record_fits, record_in, sectors_ascend}
 use Rattle.log_record.proofs.NumbersRead.{number_back, bytes_back}
 
 -- what goes on with a value that is there

@@ -8,7 +8,7 @@ use Rattle.frang_base.specs.declared.change.Patch.{Patch}
 use Rattle.frang_base.specs.declared.change.Change.{Change}
 use Rattle.sector_bytes.specs.Bytes.{AreBytes}
 use Rattle.frang_base.specs.declared.change.Redo.{Redo}
-use Rattle.log_definitions.specs.Records.{Read, all_read, bytes_read, change_bytes, change_read, number_read, patch_bytes, patch_read, record_bytes, record_fits, record_in, whole_record, IsRecordBody}
+use Rattle.disk_definitions.specs.Records.{Read, all_read, bytes_read, change_bytes, change_read, number_read, patch_bytes, patch_read, record_bytes, record_fits, record_in, whole_record, IsRecordBody}
 use Rattle.log_record.proofs.NumbersRead.{taken, number_is, bytes_is}
 use Rattle.log_record.proofs.RecordBack.{record_back}
 

@@ -10,7 +10,7 @@ use Rattle.frang_base.proofs.Basics.{of_le}
 use Rattle.frang_base.specs.declared.change.Change.{Change}
 use Rattle.sector_bytes.specs.Changes.{is_change}
 use Rattle.sector_bytes.specs.Bytes.{AreBytes}
-use Rattle.log_definitions.specs.Records.{Read, all_read, record_bytes, record_fits, record_in, sectors_ascend, whole_record}
+use Rattle.disk_definitions.specs.Records.{Read, all_read, record_bytes, record_fits, record_in, sectors_ascend, whole_record}
 use Rattle.log_record.proofs.NumbersRead.{taken}
 use Rattle.log_record.proofs.RecordBack.{is_record}
 use Rattle.log_record.proofs.RecordRead.{changes_are, changes_read, record_in_is, record_read}

@@ -1,6 +1,6 @@
 -- What the fields of a sector of a log hold.
 use Rattle.std.specs.Prelude.{◌≡◌, ◌<◌, ◌^◌, length}
-use Rattle.sector_definitions.specs.declared.log_sector.LogSector.{LogSector}
+use Rattle.disk_definitions.specs.declared.log_sector.LogSector.{LogSector}
 
 -- the numbers fit their fields, and the body has its length, as in each value of the type
 abbrev pub FillsItsFields : LogSector → Type 0

@@ -2,7 +2,7 @@
 use Rattle.std.specs.Prelude.{ℕ, List, option_and_then}
 use Rattle.std.specs.Option.{option_map}
 use Rattle.frang_base.specs.declared.sector.Sector.{Sector}
-use Rattle.log_definitions.specs.Records.{Read, number_read}
+use Rattle.disk_definitions.specs.Records.{Read, number_read}
 
 -- a change's sector, its version and how many patches it has
 abbrev pub head_read : List ℕ → Read (Sector × ℕ × ℕ)

@@ -2,8 +2,8 @@
 ghost use Rattle.std.specs.Prelude.{◌≡◌, ◌+◌, ◌<◌, ◌≤◌, ◌^◌, ◌++◌, length, vec_len, vec_capacity, IsTrue, OnOk, OnErr};
 ghost use Rattle.std.specs.Option.{option_map};
 ghost use Rattle.byteorder.specs.Endian.{little_bytes};
-ghost use Rattle.log_definitions.specs.Frames.{frame_bytes, frame_read};
-ghost use Rattle.log_definitions.specs.Records.{record_fits};
+ghost use Rattle.disk_definitions.specs.Frames.{frame_bytes, frame_read};
+ghost use Rattle.disk_definitions.specs.Records.{record_fits};
 
 use crate::reading::Unread;
 use crate::writing::{push_record, record_length};
@@ -28,7 +28,7 @@ pub struct Frame<'a> {
 }
 
 /// The frame with which the bytes begin. `None` exactly where they don't hold a whole one, or its length is 0 or more than 4,096.
-#[tactic(auto, unfolding(log_definitions::specs::Frames::frame_read))]
+#[tactic(auto, unfolding(disk_definitions::specs::Frames::frame_read))]
 pub fn read_frame(bytes: &[u8]) -> Option<Frame<'_>>
     ensures { option_map (λ f. ((f.op.0, f.body.now), f.rest.now)) result ≡ frame_read bytes.now }
 {

@@ -1,11 +1,11 @@
 // Laws of the coders of records and of sectors.
 ghost use Rattle.std.specs.Prelude.{◌≡◌, ◌<◌, ℕ, List, Some, IsTrue, slice_index};
 ghost use Rattle.frang_base.specs.declared.limits.TheConstants.{LOG_SECTORS};
-ghost use Rattle.log_definitions.specs.Records.{record_bytes, record_fits, record_in, IsRecordBody};
+ghost use Rattle.disk_definitions.specs.Records.{record_bytes, record_fits, record_in, IsRecordBody};
 ghost use Rattle.frang_base.specs.declared.change.Change.{Change};
 ghost use Rattle.log_record.specs.Fields.{FillsItsFields};
-ghost use Rattle.sector_definitions.specs.LogSectors.{log_sector_bytes, log_sector_fits, log_sector_in, IsLogSector};
-ghost use Rattle.sector_definitions.specs.declared.log_sector.LogSector.{LogSector};
+ghost use Rattle.disk_definitions.specs.LogSectors.{log_sector_bytes, log_sector_fits, log_sector_in, IsLogSector};
+ghost use Rattle.disk_definitions.specs.declared.log_sector.LogSector.{LogSector};
 
 /// What was written of a sector reads back in its slot, a block in a slot is what it is read as, and at most one sector.
 pub fn what_is_written_reads_back()

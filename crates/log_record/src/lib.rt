@@ -9,9 +9,9 @@ mod reading;
 mod sector;
 mod writing;
 
+pub use disk_definitions::LogSector;
 pub use frame::{FRAME_BYTES_MAX, FRAME_HEAD, Frame, push_frame, read_frame};
 pub use laws::{records_read_back, what_is_written_reads_back};
 pub use reading::decode;
 pub use sector::{sector_read, sector_write};
-pub use sector_definitions::LogSector;
 pub use writing::{encode, record_length};

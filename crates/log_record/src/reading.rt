@@ -4,7 +4,7 @@ ghost use Rattle.std.specs.List.{list_all};
 ghost use Rattle.std.specs.Option.{option_copied, option_map};
 ghost use Rattle.frang_base.specs.declared.limits.TheConstants.{RECORD_CHANGES_MAX};
 ghost use Rattle.sector_bytes.specs.Changes.{is_change};
-ghost use Rattle.log_definitions.specs.Records.{all_read, bytes_read, change_read, number_read, patch_read, record_in, sectors_ascend};
+ghost use Rattle.disk_definitions.specs.Records.{all_read, bytes_read, change_read, number_read, patch_read, record_in, sectors_ascend};
 ghost use Rattle.log_record.specs.Heads.{head_read};
 
 use byteorder::{ByteOrder, LittleEndian};

@@ -2,16 +2,16 @@
 ghost use Rattle.std.specs.Prelude.{◌≡◌, ◌<◌, ◌+◌, ◌%◌, ◌==◌, ◌&&◌, IfSome, IsTrue, drop, if◌then◌else◌, nat_le};
 ghost use Rattle.frang_base.specs.declared.limits.TheConstants.{LOG_BODY_BYTES, LOG_SECTORS};
 ghost use Rattle.sector_bytes.specs.Bytes as spec;
-ghost use Rattle.sector_definitions.specs.LogSectors as sectors;
-ghost use Rattle.sector_definitions.specs.LogSectors.{log_sector_bytes, log_sector_fields, log_sector_fits, log_sector_in, numbered_bytes, numbered_sector_in, is_empty_sector, is_filled_sector, is_packed_sector, is_record_sector};
+ghost use Rattle.disk_definitions.specs.LogSectors as sectors;
+ghost use Rattle.disk_definitions.specs.LogSectors.{log_sector_bytes, log_sector_fields, log_sector_fits, log_sector_in, numbered_bytes, numbered_sector_in, is_empty_sector, is_filled_sector, is_packed_sector, is_record_sector};
 
 use byteorder::{ByteOrder, LittleEndian};
+use disk_definitions::LogSector;
 use frang_base::limits::{
     LOG_BODY_BYTES, LOG_NUMBERS_END, LOG_SECTORS, RECORD_SECTORS_MAX, SECTOR_BYTES,
 };
 use frang_base::{Block, OpNo};
 use sector_bytes::{are_zero, is_zero_block, zero_block};
-use sector_definitions::LogSector;
 
 /// Makes the block this sector of a log.
 pub fn sector_write(s: &LogSector, to: &mut Block)

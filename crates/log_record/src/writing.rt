@@ -3,7 +3,7 @@ ghost use Rattle.std.specs.Prelude.{◌≡◌, ◌+◌, ◌<◌, ◌≤◌, ◌^
 ghost use Rattle.frang_base.specs.declared.limits.TheConstants.{RECORD_BYTES_MAX, SECTOR_BYTES};
 ghost use Rattle.byteorder.specs.Endian.{little_bytes};
 ghost use Rattle.sector_bytes.specs.Changes.{is_change};
-ghost use Rattle.log_definitions.specs.Records.{change_bytes, patch_bytes, record_bytes, record_fits};
+ghost use Rattle.disk_definitions.specs.Records.{change_bytes, patch_bytes, record_bytes, record_fits};
 
 use byteorder::{ByteOrder, LittleEndian};
 use frang_base::{Change, NoMemory, Patch, Redo};

@@ -1,7 +1,7 @@
 // A run of a ring worked out by hand: what each call answers, and what is then reached, free and named.
 ghost use Rattle.std.specs.Prelude.{◌≡◌, ◌<◌, ◌≤◌, ◌^◌, length, true, IfOk, IsTrue};
 ghost use Rattle.sector_bytes.specs.Changes.{is_change};
-ghost use Rattle.log_definitions.specs.Records.{change_bytes};
+ghost use Rattle.disk_definitions.specs.Records.{change_bytes};
 ghost use Rattle.ring_definitions.specs.Rings as rings;
 ghost use Rattle.ring_definitions.specs.Rings.{is_record};
 

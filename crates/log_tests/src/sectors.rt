@@ -1,6 +1,6 @@
 // Sectors worked out by hand.
 ghost use Rattle.std.specs.Prelude.{◌<◌, ◌%◌, ◌^◌, IsTrue};
-ghost use Rattle.sector_definitions.specs.LogSectors.{log_sector_fits};
+ghost use Rattle.disk_definitions.specs.LogSectors.{log_sector_fits};
 
 use frang_base::{Block, OpNo};
 use log_record::{LogSector, sector_read, sector_write};

@@ -1,12 +1,12 @@
 // What edits write: sectors, versions and bytes worked out by hand from the format.
 use bitmap_block::BlockState;
 use dir_lookup::Hand;
+use disk_definitions::{DirEntry, Inode};
 use edit_writing::{byte_writes, changes_of, freed_sectors, have_next_versions};
 use frang_base::NoMemory;
 use frang_base::limits::SECTOR_BYTES;
 use plan_disks::{Laid, Segment, changes_told, freed_told, held_of, sectors_of, writes_told};
 use plan_steps::Edit;
-use sector_definitions::{DirEntry, Inode};
 use std::alloc::Global;
 use std::test::Fail;
 

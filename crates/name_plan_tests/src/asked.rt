@@ -1,6 +1,6 @@
 // Plans of operations on names over a disk, and what is told of them.
 ghost use Rattle.std.specs.Prelude.{IfOk};
-ghost use Rattle.plan_definitions.specs.Allowed.{IsAllowed};
+ghost use Rattle.disk_definitions.specs.Allowed.{IsAllowed};
 ghost use Rattle.op_dir.specs.Names.{IsOfNames};
 
 use dir_lookup::{Hand, Looked};

@@ -9,15 +9,15 @@ use Rattle.tree_definitions.specs.Resolve as trees
 use Rattle.tree_definitions.specs.Tree.{FileTree}
 use Rattle.disk_definitions.specs.Store.{Store, store_of}
 use Rattle.disk_definitions.specs.Naming.{Naming}
-use Rattle.pick_definitions.specs.Held.{Segments}
-use Rattle.plan_definitions.specs.Ask.{Sector, run, looks, meet, number_of}
-use Rattle.plan_definitions.specs.Written.{Cached, at_hand}
-use Rattle.plan_definitions.specs.Meets.{IsOfTree}
-use Rattle.plan_definitions.specs.Missing.{first_missing, unless_missing}
-use Rattle.plan_looks.proofs.Deciding.{meets_where}
-use Rattle.plan_standing.proofs.OfDisk.{of_tree}
-use Rattle.plan_standing.proofs.AtHand.{agrees}
-use Rattle.line_definitions.specs.Resolving.{resolve}
+use Rattle.disk_definitions.specs.Held.{Segments}
+use Rattle.disk_definitions.specs.Ask.{Sector, run, looks, meet, number_of}
+use Rattle.disk_definitions.specs.Written.{Cached, at_hand}
+use Rattle.disk_definitions.specs.Meets.{IsOfTree}
+use Rattle.disk_definitions.specs.Missing.{first_missing, unless_missing}
+use Rattle.plan_laws.proofs.Deciding.{meets_where}
+use Rattle.line_laws.proofs.OfDisk.{of_tree}
+use Rattle.line_laws.proofs.AtHand.{agrees}
+use Rattle.disk_definitions.specs.Resolving.{resolve}
 use Rattle.line_laws.specs.Places.{IsPlaceOf, IsRefusal, EndsAtAPlace}
 use Rattle.line_laws.specs.Resolutions.{end_by, resolution_by}
 use Rattle.line_laws.proofs.Inside.{resolve_inside}

@@ -10,19 +10,19 @@ use Rattle.tree_definitions.specs.Place.{Place, Root, Taken, Free, Nowhere, plac
 use Rattle.tree_definitions.specs.Tree.{FileTree, node_at}
 use Rattle.disk_definitions.specs.Store.{Store, StoredEntry, store_of}
 use Rattle.disk_definitions.specs.Naming.{Naming}
-use Rattle.pick_definitions.specs.Held.{Segments}
-use Rattle.plan_definitions.specs.Ask.{Sector, run, looks, meet, number_of}
-use Rattle.plan_definitions.specs.Walks.{Spot, AtRoot, AtName, AtGap, Lost, Walked, at_spot, walk}
-use Rattle.plan_definitions.specs.Written.{Cached, at_hand}
-use Rattle.plan_definitions.specs.Meets.{IsOfTree}
-use Rattle.plan_definitions.specs.Missing.{first_missing, unless_missing}
+use Rattle.disk_definitions.specs.Held.{Segments}
+use Rattle.disk_definitions.specs.Ask.{Sector, run, looks, meet, number_of}
+use Rattle.disk_definitions.specs.Walks.{Spot, AtRoot, AtName, AtGap, Lost, Walked, at_spot, walk}
+use Rattle.disk_definitions.specs.Written.{Cached, at_hand}
+use Rattle.disk_definitions.specs.Meets.{IsOfTree}
+use Rattle.disk_definitions.specs.Missing.{first_missing, unless_missing}
 use Rattle.plan_laws.specs.Walking.{Mirrors}
 use Rattle.plan_laws.proofs.Walking.{walks_lead}
-use Rattle.plan_looks.proofs.Deciding.{meets_where}
-use Rattle.plan_looks.proofs.WalksInside.{walk_inside}
+use Rattle.plan_laws.proofs.Deciding.{meets_where}
+use Rattle.plan_laws.proofs.WalksInside.{walk_inside}
 use Rattle.dir_lookup.specs.Reading.{reading, numbered}
-use Rattle.plan_standing.proofs.OfDisk.{of_tree}
-use Rattle.plan_standing.proofs.AtHand.{agrees}
+use Rattle.line_laws.proofs.OfDisk.{of_tree}
+use Rattle.line_laws.proofs.AtHand.{agrees}
 use Rattle.namei.specs.declared.walking.Step.{Step}
 use Rattle.namei.specs.declared.walking.Step.TheVariants as step
 use Rattle.namei.specs.Leads.{birth_at, refusal_at, Leads, IsRefused, LeadsOverDisks}

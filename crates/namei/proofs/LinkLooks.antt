@@ -5,10 +5,10 @@ use Rattle.frang_base.specs.declared.fault.PathFault.{PathFault}
 use Rattle.frang_base.specs.declared.limits.TheConstants.{LINKS_FOLLOWED_MAX}
 use Rattle.tree_definitions.specs.Resolve.{is_absolute, target_text}
 use Rattle.disk_definitions.specs.Store.{StoredNode}
-use Rattle.pick_definitions.specs.Held.{Segments}
-use Rattle.plan_definitions.specs.Ask.{Ask, Got, ReadInode}
-use Rattle.plan_definitions.specs.Written.{Cached}
-use Rattle.line_definitions.specs.Resolving.{Resolution, at_target, with_target, below_inode, resolve_from, resolve}
+use Rattle.disk_definitions.specs.Held.{Segments}
+use Rattle.disk_definitions.specs.Ask.{Ask, Got, ReadInode}
+use Rattle.disk_definitions.specs.Written.{Cached}
+use Rattle.disk_definitions.specs.Resolving.{Resolution, at_target, with_target, below_inode, resolve_from, resolve}
 use Rattle.dir_lookup.specs.Looked.{Adds}
 use Rattle.dir_lookup.specs.Reading.{Read, Lacks, Gives, reading}
 use Rattle.dir_lookup.proofs.Looking.{adds_as, adds_then}

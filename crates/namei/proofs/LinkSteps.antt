@@ -7,10 +7,10 @@ use Rattle.frang_base.specs.declared.limits.TheConstants.{LINKS_FOLLOWED_MAX}
 use Rattle.frang_base.specs.declared.reply.Reply.TheVariants as reply
 use Rattle.tree_definitions.specs.Resolve.{is_absolute, target_text}
 use Rattle.disk_definitions.specs.Store.{StoredNode}
-use Rattle.pick_definitions.specs.Held.{Segments}
-use Rattle.plan_definitions.specs.Ask.{Ask, Got, ReadInode}
-use Rattle.plan_definitions.specs.Written.{Cached}
-use Rattle.line_definitions.specs.Resolving.{Leads, Refused, Resolution, refused, passes, at_target, with_target, below_inode, resolve_from, resolve}
+use Rattle.disk_definitions.specs.Held.{Segments}
+use Rattle.disk_definitions.specs.Ask.{Ask, Got, ReadInode}
+use Rattle.disk_definitions.specs.Written.{Cached}
+use Rattle.disk_definitions.specs.Resolving.{Leads, Refused, Resolution, refused, passes, at_target, with_target, below_inode, resolve_from, resolve}
 use Rattle.dir_lookup.specs.Reading.{Read, Lacks, Gives, reading, then_read}
 use Rattle.dir_lookup.proofs.Searches.{goes_on}
 use Rattle.namei.specs.declared.onward.Next.{Next}

@@ -2,11 +2,11 @@
 use Rattle.std.proofs.Common.{◌≡◌, ◌==◌, ◌*◌, ◌&&◌, ℕ, Bool, true, false, if◌then◌else◌, Option, Some, None, List, [], ◌∷◌, ◌++◌, append_assoc, append-nil, refl, sym, ap, ◌∙◌}
 use Rattle.frang_base.specs.declared.reply.Reply.TheVariants as reply
 use Rattle.disk_definitions.specs.Store.{StoredNode, StoredEntry}
-use Rattle.pick_definitions.specs.Held.{Segments}
-use Rattle.plan_definitions.specs.Ask.{Ask, Got, ReadInode, bind}
-use Rattle.plan_definitions.specs.Walks.{Spot, Lost, Found, Walked, search, is_named, spot_by, look_up, in_inode}
-use Rattle.plan_definitions.specs.Written.{Cached}
-use Rattle.line_definitions.specs.Resolving.{Resolution, leads, refused, behind, passes, at_entry, at_gap, at_name, below_inode}
+use Rattle.disk_definitions.specs.Held.{Segments}
+use Rattle.disk_definitions.specs.Ask.{Ask, Got, ReadInode, bind}
+use Rattle.disk_definitions.specs.Walks.{Spot, Lost, Found, Walked, search, is_named, spot_by, look_up, in_inode}
+use Rattle.disk_definitions.specs.Written.{Cached}
+use Rattle.disk_definitions.specs.Resolving.{Resolution, leads, refused, behind, passes, at_entry, at_gap, at_name, below_inode}
 use Rattle.dir_lookup.specs.Looks.{looks_of}
 use Rattle.dir_lookup.specs.Reading.{Read, Lacks, Gives, reading, then_read}
 use Rattle.dir_lookup.specs.Spots.{walked_in}

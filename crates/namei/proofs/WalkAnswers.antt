@@ -1,6 +1,6 @@
 -- A walk's answer goes by where it leads.
 use Rattle.std.proofs.Common.{◌≡◌, ℕ, List, refl, ap, ◌∙◌}
-use Rattle.plan_definitions.specs.Walks.{Spot, AtRoot, AtName, AtGap, Lost, Walked, at_spot}
+use Rattle.disk_definitions.specs.Walks.{Spot, AtRoot, AtName, AtGap, Lost, Walked, at_spot}
 use Rattle.dir_lookup.specs.Reading.{Read, Lacks, Gives, then_read}
 use Rattle.namei.specs.declared.walking.Step.{Step}
 use Rattle.namei.specs.declared.walking.Step.TheVariants as step

@@ -1,7 +1,7 @@
 -- What an answer says of a walk through links: where it leads, without its trail.
 use Rattle.frang_base.specs.declared.reply.Reply.{Reply}
 use Rattle.frang_base.specs.declared.reply.Reply.TheVariants as reply
-use Rattle.line_definitions.specs.Resolving.{PathEnd, Leads, Refused, Resolution}
+use Rattle.disk_definitions.specs.Resolving.{PathEnd, Leads, Refused, Resolution}
 use Rattle.dir_lookup.specs.Reading.{Read, Lacks, Gives}
 use Rattle.namei.specs.declared.resolving.Resolved.{Resolved}
 use Rattle.namei.specs.declared.resolving.Resolved.TheVariants as resolved

@@ -9,12 +9,12 @@ use Rattle.tree_definitions.specs.Resolve as trees
 use Rattle.tree_definitions.specs.Tree.{FileTree}
 use Rattle.sector_bytes.specs.Sectors.{Sectors}
 use Rattle.disk_definitions.specs.Store.{store_of}
-use Rattle.pick_definitions.specs.Held.{Segments}
-use Rattle.plan_definitions.specs.Ask.{Sector, looks, number_of}
-use Rattle.plan_definitions.specs.Written.{Cached, at_hand}
-use Rattle.plan_definitions.specs.Missing.{first_missing}
-use Rattle.plan_definitions.specs.OnDisk.{AreOfDisk, StandsBelow}
-use Rattle.line_definitions.specs.Resolving.{resolve}
+use Rattle.disk_definitions.specs.Held.{Segments}
+use Rattle.disk_definitions.specs.Ask.{Sector, looks, number_of}
+use Rattle.disk_definitions.specs.Written.{Cached, at_hand}
+use Rattle.disk_definitions.specs.Missing.{first_missing}
+use Rattle.disk_definitions.specs.OnDisk.{AreOfDisk, StandsBelow}
+use Rattle.disk_definitions.specs.Resolving.{resolve}
 use Rattle.line_laws.specs.Places.{IsPlaceOf}
 use Rattle.namei.specs.declared.resolving.Resolved.{Resolved}
 use Rattle.namei.specs.declared.resolving.Resolved.TheVariants as resolved

@@ -2,7 +2,7 @@
 use Rattle.std.specs.Prelude.{[]}
 use Rattle.frang_base.specs.declared.reply.Reply.{Reply}
 use Rattle.frang_base.specs.declared.reply.Reply.TheVariants as reply
-use Rattle.plan_definitions.specs.Walks.{Spot, Walked, at_spot, at_target}
+use Rattle.disk_definitions.specs.Walks.{Spot, Walked, at_spot, at_target}
 use Rattle.dir_lookup.specs.Reading.{Read, Lacks, Gives}
 use Rattle.namei.specs.declared.walking.Step.{Step}
 use Rattle.namei.specs.declared.walking.Step.TheVariants as step

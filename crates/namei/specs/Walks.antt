@@ -4,8 +4,8 @@ use Rattle.frang_base.specs.declared.fault.PathFault.{PathFault}
 use Rattle.frang_base.specs.declared.limits.TheConstants.{KIND_DIRECTORY, KIND_LINK}
 use Rattle.frang_base.specs.declared.reply.Reply.TheVariants as reply
 use Rattle.disk_definitions.specs.Store.{StoredEntry}
-use Rattle.plan_definitions.specs.Walks.{Spot, AtRoot, AtName, AtGap, Lost}
-use Rattle.line_definitions.specs.Resolving.{PathEnd, Leads, Refused, Resolution}
+use Rattle.disk_definitions.specs.Walks.{Spot, AtRoot, AtName, AtGap, Lost}
+use Rattle.disk_definitions.specs.Resolving.{PathEnd, Leads, Refused, Resolution}
 use Rattle.dir_lookup.specs.declared.spot.Refusal.TheVariants as refusal
 use Rattle.dir_lookup.specs.Reading.{Read, Lacks, Gives}
 use Rattle.dir_lookup.specs.Spots.{reply_of}

@@ -1,6 +1,6 @@
 // Where a walk through links ends, and the nodes on its way.
 ghost use Rattle.std.specs.Prelude.{◌≡◌, ◌++◌, ◌∷◌, [], ℕ, IfOk, List, Option};
-ghost use Rattle.line_definitions.specs.Resolving as lines;
+ghost use Rattle.disk_definitions.specs.Resolving as lines;
 ghost use Rattle.dir_lookup.specs.Reading.{Gives};
 ghost use Rattle.dir_lookup.specs.Spots.{reply_of};
 ghost use Rattle.frang_base.specs.declared.reply.Reply.TheVariants as reply;

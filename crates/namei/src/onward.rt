@@ -1,9 +1,9 @@
 // How a walk goes on from a name, where links are followed.
 ghost use Rattle.std.specs.Prelude.{◌≡◌, ℕ, List};
-ghost use Rattle.pick_definitions.specs.Held.{Segments};
+ghost use Rattle.disk_definitions.specs.Held.{Segments};
 ghost use Rattle.disk_definitions.specs.Store.{entered};
-ghost use Rattle.plan_definitions.specs.Ask.{Ask, ReadInode};
-ghost use Rattle.line_definitions.specs.Resolving as lines;
+ghost use Rattle.disk_definitions.specs.Ask.{Ask, ReadInode};
+ghost use Rattle.disk_definitions.specs.Resolving as lines;
 ghost use Rattle.dir_lookup.specs.Looks.{looks_of};
 ghost use Rattle.dir_lookup.specs.Reading.{reading};
 ghost use Rattle.dir_lookup.specs.Spots.{spot_of};
@@ -11,10 +11,10 @@ ghost use Rattle.namei.specs.Looks.{LooksOn, next_looks};
 ghost use Rattle.namei.specs.Walks.{next_as, spot_as, entry_as, gap_as};
 
 use dir_lookup::{Looked, Refusal, Spot, step};
+use disk_definitions::DirEntry;
 use frang_base::limits::{KIND_DIRECTORY, KIND_LINK};
 use frang_base::{Name, Sector};
 use meta_version::Sectors;
-use sector_definitions::DirEntry;
 
 // How a walk goes on: a sector is needed first; the node is no directory, so that nothing is looked up in it; or a name was looked up, and it ends there,
 // with the kind of the node that is there, goes into a directory, follows a link, or is refused.

@@ -1,7 +1,7 @@
 // Where a path leads once symbolic links are followed.
 ghost use Rattle.std.specs.Prelude.{◌≡◌, ◌++◌, ◌∷◌, [], IfOk, OnOk};
-ghost use Rattle.pick_definitions.specs.Held.{Segments};
-ghost use Rattle.line_definitions.specs.Resolving as lines;
+ghost use Rattle.disk_definitions.specs.Held.{Segments};
+ghost use Rattle.disk_definitions.specs.Resolving as lines;
 ghost use Rattle.dir_lookup.specs.Looked.{Adds};
 ghost use Rattle.dir_lookup.specs.Looks.{looks_of};
 ghost use Rattle.dir_lookup.specs.Reading.{reading};

@@ -3,10 +3,10 @@ ghost use Rattle.std.specs.Prelude.{◌≡◌, ◌++◌, ◌≤◌, ℕ, List, I
 ghost use Rattle.std.specs.Result.{result_ok};
 ghost use Rattle.frang_base.specs.PathText.{path_of};
 ghost use Rattle.tree_definitions.specs.Resolve.{is_absolute, target_text};
-ghost use Rattle.pick_definitions.specs.Held.{Segments};
+ghost use Rattle.disk_definitions.specs.Held.{Segments};
 ghost use Rattle.disk_definitions.specs.Store.{stored};
-ghost use Rattle.plan_definitions.specs.Ask.{Ask, ReadInode};
-ghost use Rattle.line_definitions.specs.Resolving as lines;
+ghost use Rattle.disk_definitions.specs.Ask.{Ask, ReadInode};
+ghost use Rattle.disk_definitions.specs.Resolving as lines;
 ghost use Rattle.dir_lookup.specs.Looks.{looks_of};
 ghost use Rattle.dir_lookup.specs.Reading.{reading};
 ghost use Rattle.dir_lookup.specs.Stored.{IsUsed};
@@ -14,10 +14,10 @@ ghost use Rattle.namei.specs.Looks.{LooksOn, way_looks};
 ghost use Rattle.namei.specs.Walks.{way_as, way_from};
 
 use dir_lookup::{Looked, inode_at};
+use disk_definitions::Inode;
 use frang_base::limits::KIND_LINK;
 use frang_base::{Name, NoMemory, Path, PathFault, Sector, Text, parse_path};
 use meta_version::Sectors;
-use sector_definitions::Inode;
 use std::alloc::Global;
 
 // Where a link leads: a sector is needed first, its target is no path, or these names lead on from the root, or from the directory that

@@ -1,8 +1,8 @@
 // The walk of a path.
 ghost use Rattle.std.specs.Prelude.{◌≡◌};
-ghost use Rattle.pick_definitions.specs.Held.{Segments};
-ghost use Rattle.plan_definitions.specs.Ask.{Got, bind};
-ghost use Rattle.plan_definitions.specs.Walks as walks;
+ghost use Rattle.disk_definitions.specs.Held.{Segments};
+ghost use Rattle.disk_definitions.specs.Ask.{Got, bind};
+ghost use Rattle.disk_definitions.specs.Walks as walks;
 ghost use Rattle.dir_lookup.specs.Reading.{read_of, reading};
 ghost use Rattle.dir_lookup.specs.Spots.{spot_of};
 ghost use Rattle.namei.specs.Leads.{LeadsOverDisks};

@@ -3,10 +3,10 @@ use Rattle.std.proofs.Common.{◌≡◌, ℕ, zero, suc, Bool, true, false, cond
 use Rattle.std.proofs.Math.Path.{fun_ext}
 use Rattle.sector_bytes.specs.Bytes.{zeros}
 use Rattle.disk_definitions.specs.Store.{StoredNode}
-use Rattle.store_changes.specs.Edits.{Edit}
-use Rattle.plan_definitions.specs.Ask.{Ask, Got}
-use Rattle.plan_definitions.specs.Plans.{Plan}
-use Rattle.plan_definitions.specs.FilePlans.{Writing, keeps_bytes, mixed, read_sector, set_sector}
+use Rattle.disk_definitions.specs.Edits.{Edit}
+use Rattle.disk_definitions.specs.Ask.{Ask, Got}
+use Rattle.disk_definitions.specs.Plans.{Plan}
+use Rattle.disk_definitions.specs.FilePlans.{Writing, keeps_bytes, mixed, read_sector, set_sector}
 use Rattle.dir_lookup.specs.declared.need.Need.{Need}
 use Rattle.dir_lookup.specs.Reading.{Lacks, Gives, read_of}
 use Rattle.dir_lookup.specs.Hands.{over}

@@ -1,16 +1,16 @@
 -- Reading file bytes examines nothing, since their sectors have no version.
 use Rattle.std.proofs.Common.{◌≡◌, ℕ, zero, suc, ◌+◌, ◌-◌, ◌/◌, ◌%◌, Bool, true, false, cond, nat_lt, map, filter, Option, Some, None, List, [], ◌∷◌, ◌++◌, refl}
-use Rattle.sector_definitions.specs.declared.region.Region.TheVariants as region
-use Rattle.sector_definitions.specs.Regions.{sector_of}
+use Rattle.disk_definitions.specs.declared.region.Region.TheVariants as region
+use Rattle.disk_definitions.specs.Regions.{sector_of}
 use Rattle.tree_definitions.specs.Numbers.{below}
 use Rattle.disk_definitions.specs.Store.{StoredNode}
-use Rattle.store_changes.specs.Edits.{Edit}
-use Rattle.pick_definitions.specs.Held.{Segments}
-use Rattle.plan_definitions.specs.Ask.{Sector, BytesAt, LargeAt, Ask, ReadBytes, ReadLarge, number_of}
-use Rattle.plan_definitions.specs.Plans.{Plan}
-use Rattle.plan_definitions.specs.FilePlans.{Writing, keeps_bytes, mixed, read_sector, read_sectors, set_sector, write_sectors}
-use Rattle.plan_definitions.specs.Written.{Cached, at_hand, bytes_at_hand}
-use Rattle.plan_traces.specs.Traces.{by_said, has_version, traced}
+use Rattle.disk_definitions.specs.Edits.{Edit}
+use Rattle.disk_definitions.specs.Held.{Segments}
+use Rattle.disk_definitions.specs.Ask.{Sector, BytesAt, LargeAt, Ask, ReadBytes, ReadLarge, number_of}
+use Rattle.disk_definitions.specs.Plans.{Plan}
+use Rattle.disk_definitions.specs.FilePlans.{Writing, keeps_bytes, mixed, read_sector, read_sectors, set_sector, write_sectors}
+use Rattle.disk_definitions.specs.Written.{Cached, at_hand, bytes_at_hand}
+use Rattle.plan_laws.specs.Traces.{by_said, has_version, traced}
 use Rattle.plan_steps.specs.Looking.{examined}
 
 module _ (cached : Cached) (held : Segments) where

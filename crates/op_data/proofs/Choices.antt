@@ -4,10 +4,10 @@ use Rattle.frang_base.specs.declared.reply.Reply.TheVariants as reply
 use Rattle.tree_definitions.specs.Tree.{small_blocks_of}
 use Rattle.frang_base.proofs.Basics.{of_ge}
 use Rattle.disk_definitions.specs.Store.{StoredNode}
-use Rattle.pick_definitions.specs.Picks.{picked_large, picked_many}
-use Rattle.plan_definitions.specs.Ask.{Ask}
-use Rattle.plan_definitions.specs.Plans.{Plan, read_held, refused}
-use Rattle.plan_definitions.specs.FilePlans.{Writing, end_of, writing, writing_in, writing_large, writing_picked, writing_small}
+use Rattle.disk_definitions.specs.Picks.{picked_large, picked_many}
+use Rattle.disk_definitions.specs.Ask.{Ask}
+use Rattle.disk_definitions.specs.Plans.{Plan, read_held, refused}
+use Rattle.disk_definitions.specs.FilePlans.{Writing, end_of, writing, writing_in, writing_large, writing_picked, writing_small}
 use Rattle.dir_lookup.specs.Hands.{over, seen}
 use Rattle.dir_lookup.specs.declared.hand.Hand.{Hand}
 use Rattle.plan_steps.proofs.AtHand.{held_at_hand}

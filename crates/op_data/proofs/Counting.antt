@@ -1,12 +1,12 @@
 -- How many pass, number after number and segment after segment.
 use Rattle.std.proofs.Common.{◌≡◌, ◌==◌, ◌||◌, ◌<◌, ◌+◌, ◌*◌, ◌/◌, ◌%◌, ℕ, zero, suc, Bool, Option, Some, None, sym, ap, ◌∙◌, arith}
 use Rattle.std.specs.Option.{option_map}
-use Rattle.pick_definitions.specs.Least.{count, one_if}
+use Rattle.disk_definitions.specs.Least.{count, one_if}
 use Rattle.frang_base.specs.declared.bitmap.Bitmap.{Bitmap}
-use Rattle.sector_definitions.specs.Bitmaps.{block_state}
-use Rattle.pick_definitions.specs.Held.{Segments, bitmap_of, state_in}
-use Rattle.pick_definitions.specs.Picks.{is_in_state}
-use Rattle.pick_definitions.proofs.Counts.{count_more, count_none, count_same, count_zero}
+use Rattle.disk_definitions.specs.Bitmaps.{block_state}
+use Rattle.disk_definitions.specs.Held.{Segments, bitmap_of, state_in}
+use Rattle.disk_definitions.specs.Picks.{is_in_state}
+use Rattle.disk_definitions.proofs.PickCounts.{count_more, count_none, count_same, count_zero}
 
 pub counted : (f : ℕ → Bool) (n c d : ℕ) (b : Bool) → d ≡ one_if b → b ≡ f n → c ≡ count f n → c + d ≡ count f (n + 1)
 counted f n c d b o t e =

@@ -6,14 +6,14 @@ use Rattle.std.proofs.lemmas.List.{get_or-drop, length-drop, map-append}
 use Rattle.frang_base.specs.declared.reply.Reply.TheVariants as reply
 use Rattle.tree_definitions.specs.Numbers.{below}
 use Rattle.disk_definitions.specs.Store.{StoredNode}
-use Rattle.plan_definitions.specs.Plans.{Finish, refused, shared_nodes}
-use Rattle.plan_definitions.specs.Plans.Plan.{Finishes}
-use Rattle.plan_definitions.specs.NamePlans.{finish_over}
-use Rattle.plan_definitions.specs.FilePlans.{cut_by, cut_segments, cutting}
+use Rattle.disk_definitions.specs.Plans.{Finish, refused, shared_nodes}
+use Rattle.disk_definitions.specs.Plans.Plan.{Finishes}
+use Rattle.disk_definitions.specs.NamePlans.{finish_over}
+use Rattle.disk_definitions.specs.FilePlans.{cut_by, cut_segments, cutting}
 use Rattle.dir_lookup.specs.Reading.{Gives, Lacks}
 use Rattle.dir_lookup.specs.Hands.{over}
 use Rattle.dir_lookup.specs.declared.hand.Hand.{Hand}
-use Rattle.store_changes.specs.Edits.{Edit}
+use Rattle.disk_definitions.specs.Edits.{Edit}
 use Rattle.plan_steps.specs.Ends.{IsDone}
 
 -- the numbers of a list from a place on

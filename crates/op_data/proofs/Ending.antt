@@ -5,11 +5,11 @@ use Rattle.std.specs.Global.{Vec}
 use Rattle.frang_base.specs.declared.reply.Reply.TheVariants as reply
 use Rattle.disk_definitions.specs.Store.{StoredNode}
 use Rattle.disk_definitions.specs.Store.Use.{Bytes}
-use Rattle.store_changes.specs.Edits.{Edit}
-use Rattle.store_changes.specs.Edits.Edit.{SetUse}
-use Rattle.plan_definitions.specs.Ask.{Ask, Got}
-use Rattle.plan_definitions.specs.Plans.{Lock, Plan, Finishes, shared_nodes, sole_nodes, sole_segments}
-use Rattle.plan_definitions.specs.FilePlans.{Writing, end_of, file_dated, large_segment, large_taken, resized, sectors_met, write_sectors, writing_in, written_by}
+use Rattle.disk_definitions.specs.Edits.{Edit}
+use Rattle.disk_definitions.specs.Edits.Edit.{SetUse}
+use Rattle.disk_definitions.specs.Ask.{Ask, Got}
+use Rattle.disk_definitions.specs.Plans.{Lock, Plan, Finishes, shared_nodes, sole_nodes, sole_segments}
+use Rattle.disk_definitions.specs.FilePlans.{Writing, end_of, file_dated, large_segment, large_taken, resized, sectors_met, write_sectors, writing_in, written_by}
 use Rattle.dir_lookup.specs.Hands.{over}
 use Rattle.dir_lookup.specs.declared.hand.Hand.{Hand}
 use Rattle.plan_steps.specs.Edits.{edits_of}

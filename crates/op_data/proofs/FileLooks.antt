@@ -3,14 +3,14 @@ use Rattle.std.proofs.Common.{◌≡◌, ◌==◌, ◌&&◌, ◌<◌, ◌≤◌,
 use Rattle.std.specs.Map.{keys_of}
 use Rattle.frang_base.specs.declared.reply.Reply.TheVariants as reply
 use Rattle.frang_base.proofs.Basics.{of_ge}
-use Rattle.sector_definitions.specs.declared.inode.Inode.{Inode}
+use Rattle.disk_definitions.specs.declared.inode.Inode.{Inode}
 use Rattle.tree_definitions.specs.Tree.{small_blocks_of}
 use Rattle.disk_definitions.specs.Store.{StoredNode, stored}
-use Rattle.pick_definitions.specs.Picks.{picked_large, picked_many}
-use Rattle.plan_definitions.specs.Ask.{Ask, Got, ReadInode}
-use Rattle.plan_definitions.specs.Plans.{Plan, Finishes, read_held, refused}
-use Rattle.plan_definitions.specs.NamePlans.{finish_over}
-use Rattle.plan_definitions.specs.FilePlans.{Writing, at_file, cut_by, cut_segments, cutting, end_of, plan_of_file, read_sectors, resized, sectors_met, showing, with_file, writing, writing_in, writing_large, writing_picked, writing_small, written_by}
+use Rattle.disk_definitions.specs.Picks.{picked_large, picked_many}
+use Rattle.disk_definitions.specs.Ask.{Ask, Got, ReadInode}
+use Rattle.disk_definitions.specs.Plans.{Plan, Finishes, read_held, refused}
+use Rattle.disk_definitions.specs.NamePlans.{finish_over}
+use Rattle.disk_definitions.specs.FilePlans.{Writing, at_file, cut_by, cut_segments, cutting, end_of, plan_of_file, read_sectors, resized, sectors_met, showing, with_file, writing, writing_in, writing_large, writing_picked, writing_small, written_by}
 use Rattle.dir_lookup.specs.Hands.{seen}
 use Rattle.dir_lookup.specs.Looked.{Adds}
 use Rattle.dir_lookup.specs.declared.hand.Hand.{Hand}

@@ -2,12 +2,12 @@
 use Rattle.std.proofs.Common.{◌≡◌, ◌==◌, ℕ, cond, Option, Some, None, Ok, Err, List, [], ◌∷◌, ◌++◌, refl, ap, ◌∙◌}
 use Rattle.std.proofs.Math.Path.{fun_ext}
 use Rattle.frang_base.specs.declared.reply.Reply.TheVariants as reply
-use Rattle.sector_definitions.specs.declared.inode.Inode.{Inode}
+use Rattle.disk_definitions.specs.declared.inode.Inode.{Inode}
 use Rattle.disk_definitions.specs.Store.{StoredNode, stored}
-use Rattle.plan_definitions.specs.Ask.{Ask, ReadInode}
-use Rattle.plan_definitions.specs.Plans.{Plan, refused, shared_nodes}
-use Rattle.plan_definitions.specs.LookPlans.{with_inode}
-use Rattle.plan_definitions.specs.FilePlans.{at_file, plan_of_file, with_file}
+use Rattle.disk_definitions.specs.Ask.{Ask, ReadInode}
+use Rattle.disk_definitions.specs.Plans.{Plan, refused, shared_nodes}
+use Rattle.disk_definitions.specs.LookPlans.{with_inode}
+use Rattle.disk_definitions.specs.FilePlans.{at_file, plan_of_file, with_file}
 use Rattle.dir_lookup.specs.Hands.{over}
 use Rattle.dir_lookup.specs.declared.hand.Hand.{Hand}
 use Rattle.plan_steps.specs.declared.stop.Stop.{Stop}

@@ -2,7 +2,7 @@
 use Rattle.std.proofs.Common.{◌≡◌, ℕ, suc, ◌+◌, ◌/◌, ◌<◌, ◌≤◌, Option, Some, None, List, [], ◌∷◌, ◌++◌, append_assoc, append-nil, length, map, drop, slice_index, refl, sym, ap, ◌∙◌, arith}
 use Rattle.std.proofs.Math.Seq.{drop-cons}
 use Rattle.std.proofs.lemmas.List.{drop_all}
-use Rattle.pick_definitions.specs.Held.{Segments}
+use Rattle.disk_definitions.specs.Held.{Segments}
 use Rattle.dir_lookup.specs.Looked.{Adds}
 use Rattle.dir_lookup.proofs.Looking.{adds_as, adds_none, adds_then}
 use Rattle.plan_steps.specs.Looking.{looked_over}

@@ -1,7 +1,7 @@
 -- The bytes of a sector, the new ones among the old ones.
 use Rattle.std.proofs.Common.{◌≡◌, ◌<◌, ◌≤◌, ◌+◌, ◌*◌, ℕ, List, true, false, cond, nat_lt, get_or, sym, ap, ◌∙◌, arith}
 use Rattle.std.proofs.lemmas.Bool.Decides.{nat_tests}
-use Rattle.plan_definitions.specs.FilePlans.{Writing, byte_over, mixed}
+use Rattle.disk_definitions.specs.FilePlans.{Writing, byte_over, mixed}
 use Rattle.op_data.proofs.Setting.{SetBelow}
 
 pub byte_here : (xs : List ℕ) (f old : ℕ → ℕ) (n : ℕ) → SetBelow xs f old n → get_or xs n 0 ≡ old n

@@ -2,7 +2,7 @@
 use Rattle.std.proofs.Common.{◌≡◌, ◌≤◌, ℕ, List, Bool, true, false, cond, nat_lt, get_or, refl, sym, ◌∙◌, arith}
 use Rattle.std.proofs.lemmas.Bool.Decides.{nat_tests}
 use Rattle.disk_definitions.specs.Store.{StoredNode}
-use Rattle.plan_definitions.specs.FilePlans.{small_after}
+use Rattle.disk_definitions.specs.FilePlans.{small_after}
 use Rattle.op_data.proofs.Setting.{SetBelow}
 
 none_past : (x : StoredNode) (picks : List ℕ) (blocks i : ℕ) → blocks ≤ i → small_after x picks blocks i ≡ 0

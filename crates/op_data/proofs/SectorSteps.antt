@@ -2,11 +2,11 @@
 use Rattle.std.proofs.Common.{◌≡◌, ℕ, suc, ◌+◌, ◌-◌, ◌/◌, ◌%◌, ◌<◌, ◌≤◌, Bool, true, false, cond, nat_lt, List, [], ◌++◌, length, map, slice_index, sym, ap, ◌∙◌, arith, append_assoc}
 use Rattle.std.proofs.Math.Path.{fun_ext}
 use Rattle.tree_definitions.specs.Numbers.{below}
-use Rattle.sector_definitions.proofs.Lists.{all_numbers}
+use Rattle.disk_definitions.proofs.Lists.{all_numbers}
 use Rattle.disk_definitions.specs.Store.{StoredNode}
-use Rattle.plan_definitions.specs.Ask.{Ask, Got, ReadBytes, ReadLarge}
-use Rattle.plan_definitions.specs.Plans.{Plan}
-use Rattle.plan_definitions.specs.FilePlans.{read_sector, read_sectors}
+use Rattle.disk_definitions.specs.Ask.{Ask, Got, ReadBytes, ReadLarge}
+use Rattle.disk_definitions.specs.Plans.{Plan}
+use Rattle.disk_definitions.specs.FilePlans.{read_sector, read_sectors}
 use Rattle.dir_lookup.specs.Reading.{Read, Lacks, Gives, then_read}
 use Rattle.dir_lookup.specs.Hands.{over}
 use Rattle.dir_lookup.specs.declared.hand.Hand.{Hand}

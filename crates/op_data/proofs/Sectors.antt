@@ -2,10 +2,10 @@
 use Rattle.std.proofs.Common.{◌≡◌, ◌<◌, ◌≤◌, ◌+◌, ◌-◌, ◌/◌, ℕ, suc, Ok, Err, List, [], ◌∷◌, ◌++◌, append_assoc, append-nil, sym, ap, ◌∙◌, arith}
 use Rattle.std.proofs.Math.Path.{fun_ext}
 use Rattle.disk_definitions.specs.Store.{StoredNode}
-use Rattle.store_changes.specs.Edits.{Edit}
-use Rattle.plan_definitions.specs.Ask.{Ask}
-use Rattle.plan_definitions.specs.Plans.{Plan}
-use Rattle.plan_definitions.specs.FilePlans.{Writing, sectors_met, write_sector, write_sectors}
+use Rattle.disk_definitions.specs.Edits.{Edit}
+use Rattle.disk_definitions.specs.Ask.{Ask}
+use Rattle.disk_definitions.specs.Plans.{Plan}
+use Rattle.disk_definitions.specs.FilePlans.{Writing, sectors_met, write_sector, write_sectors}
 use Rattle.dir_lookup.specs.declared.need.Need.{Need}
 use Rattle.dir_lookup.specs.Reading.{Read, Lacks}
 use Rattle.dir_lookup.specs.Hands.{over}

@@ -2,8 +2,8 @@
 use Rattle.std.specs.Prelude.{◌<◌, ◌^◌, ℕ, Bool}
 use Rattle.frang_base.specs.declared.op.Op.{Op}
 use Rattle.frang_base.specs.declared.op.Op.TheVariants as op
-use Rattle.pick_definitions.specs.Held.{Segments}
-use Rattle.plan_definitions.specs.Written.{Cached}
+use Rattle.disk_definitions.specs.Held.{Segments}
+use Rattle.disk_definitions.specs.Written.{Cached}
 use Rattle.code_plan_laws.specs.CodeStands.{IsOverADisk}
 
 abbrev pub IsOfBytes : Op → Type 0

@@ -2,13 +2,13 @@
 use Rattle.std.specs.Prelude.{◌≡◌, ◌≤◌, ℕ, ◌-◌, ◌/◌, ◌%◌, if◌then◌else◌, nat_lt, Result, Ok, Err, List}
 use Rattle.frang_base.specs.declared.limits.TheConstants.{FILE_BYTES_MAX, KIND_FILE, SMALL_BLOCK_SECTORS, SMALL_SECTORS_MAX}
 use Rattle.tree_definitions.specs.Tree.{small_blocks_of}
-use Rattle.sector_definitions.specs.declared.inode.Inode.{Inode}
-use Rattle.sector_definitions.specs.declared.region.Region.{Region}
-use Rattle.sector_definitions.specs.declared.region.Region.TheVariants as region
+use Rattle.disk_definitions.specs.declared.inode.Inode.{Inode}
+use Rattle.disk_definitions.specs.declared.region.Region.{Region}
+use Rattle.disk_definitions.specs.declared.region.Region.TheVariants as region
 use Rattle.disk_definitions.specs.Store.{StoredNode, stored}
-use Rattle.plan_definitions.specs.Ask.{Ask}
-use Rattle.plan_definitions.specs.Plans.{Plan, refuse}
-use Rattle.plan_definitions.specs.FilePlans.{plan_of_file, read_sectors}
+use Rattle.disk_definitions.specs.Ask.{Ask}
+use Rattle.disk_definitions.specs.Plans.{Plan, refuse}
+use Rattle.disk_definitions.specs.FilePlans.{plan_of_file, read_sectors}
 use Rattle.dir_lookup.specs.Reading.{Lacks, Gives}
 use Rattle.dir_lookup.specs.Hands.{over}
 use Rattle.dir_lookup.specs.declared.hand.Hand.{Hand}

@@ -1,9 +1,9 @@
 -- What leads to the file that a path names, as plans examine it.
 use Rattle.std.specs.Prelude.{ℕ, Option, Result, Ok, Err, List}
 use Rattle.disk_definitions.specs.Store.{StoredNode, stored}
-use Rattle.plan_definitions.specs.Ask.{Ask}
-use Rattle.plan_definitions.specs.Plans.{Plan}
-use Rattle.plan_definitions.specs.FilePlans.{plan_of_file}
+use Rattle.disk_definitions.specs.Ask.{Ask}
+use Rattle.disk_definitions.specs.Plans.{Plan}
+use Rattle.disk_definitions.specs.FilePlans.{plan_of_file}
 use Rattle.dir_lookup.specs.declared.hand.Hand.{Hand}
 use Rattle.dir_lookup.specs.declared.spot.NumberedInode.{NumberedInode}
 use Rattle.plan_steps.specs.Looking.{Looks, LooksTo}

@@ -3,10 +3,10 @@ use Rattle.std.specs.Prelude.{◌≡◌, ℕ, ◌-◌, ◌/◌, if◌then◌else
 use Rattle.std.specs.Global.{Vec}
 use Rattle.frang_base.specs.declared.limits.TheConstants.{SECTOR_BYTES}
 use Rattle.disk_definitions.specs.Store.{StoredNode}
-use Rattle.store_changes.specs.Edits.{Edit}
-use Rattle.plan_definitions.specs.Ask.{Ask}
-use Rattle.plan_definitions.specs.Plans.{Plan}
-use Rattle.plan_definitions.specs.FilePlans.{Writing, keeps_bytes, read_sector, sectors_met, write_sector, write_sectors}
+use Rattle.disk_definitions.specs.Edits.{Edit}
+use Rattle.disk_definitions.specs.Ask.{Ask}
+use Rattle.disk_definitions.specs.Plans.{Plan}
+use Rattle.disk_definitions.specs.FilePlans.{Writing, keeps_bytes, read_sector, sectors_met, write_sector, write_sectors}
 use Rattle.dir_lookup.specs.Reading.{Lacks}
 use Rattle.dir_lookup.specs.Hands.{over}
 use Rattle.dir_lookup.specs.declared.hand.Hand.{Hand}

@@ -2,18 +2,18 @@
 ghost use Rattle.std.specs.Prelude.{◌≡◌, ◌≤◌, ◌<◌, ◌+◌};
 ghost use Rattle.frang_base.specs.declared.limits.TheConstants.{FILE_BYTES_MAX, LARGE_BLOCK_SECTORS, SMALL_SECTORS_MAX};
 ghost use Rattle.disk_definitions.specs.Store.{stored};
-ghost use Rattle.plan_definitions.specs.FilePlans.{end_of};
+ghost use Rattle.disk_definitions.specs.FilePlans.{end_of};
 ghost use Rattle.op_data.specs.Writings.{FindsAround, WritesSector, WritesSectors, writing_of};
 
 use crate::file::sector_bytes;
 use crate::part::set_sector;
 use crate::writing::Writing;
 use dir_lookup::{Hand, Need};
+use disk_definitions::Inode;
 use frang_base::Block;
 use frang_base::limits::SECTOR_BYTES;
 use plan_steps::{Edit, Stop, push};
 use sector_bytes::zero_block;
-use sector_definitions::Inode;
 
 /// Adds the edits of the bytes. `old` is the inode as it is, and `new` as it will be.
 pub(crate) fn add_sectors(

@@ -3,20 +3,20 @@ ghost use Rattle.std.specs.Prelude.{◌≡◌, ◌<◌, ◌+◌, IfOk, slice_ind
 ghost use Rattle.frang_base.specs.declared.limits.TheConstants.{LARGE_BLOCK_SECTORS, SMALL_SECTORS_MAX};
 ghost use Rattle.sector_bytes.specs.SectorMaps.{value_at};
 ghost use Rattle.disk_definitions.specs.Store.{stored};
-ghost use Rattle.plan_definitions.specs.Ask.{Got};
-ghost use Rattle.plan_definitions.specs.FilePlans.{read_sector};
+ghost use Rattle.disk_definitions.specs.Ask.{Got};
+ghost use Rattle.disk_definitions.specs.FilePlans.{read_sector};
 ghost use Rattle.dir_lookup.specs.Hands.{over};
 ghost use Rattle.dir_lookup.specs.Reading.{read_of, read_or_lacks};
 ghost use Rattle.op_data.specs.Files.{FindsFile, IsFile, place_of};
 ghost use Rattle.op_data.specs.Looking.{LooksAtFile};
 
 use dir_lookup::{Hand, Looked, Need, NumberedInode};
+use disk_definitions::Inode;
 use frang_base::limits::{KIND_DIRECTORY, KIND_FILE, SMALL_BLOCK_SECTORS, SMALL_SECTORS_MAX};
 use frang_base::{Block, Path, Reply, Sector};
 use frang_layout::{Region, sector_of};
 use meta_version::Sectors;
 use plan_steps::{Stop, inode_of, target_of};
-use sector_definitions::Inode;
 
 /// The file that a path names. `Refused` where the name isn't there or is another node's, by the kind that its entry tells, and where the
 /// entry tells a file but the inode is another node's; `Need` where a sector isn't cached. What leads to it comes to `looked`.

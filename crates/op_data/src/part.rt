@@ -2,13 +2,13 @@
 ghost use Rattle.std.specs.Prelude.{◌≡◌, ◌<◌, ◌+◌, slice_index};
 ghost use Rattle.frang_base.specs.declared.limits.TheConstants.{LARGE_BLOCK_SECTORS, SMALL_SECTORS_MAX};
 ghost use Rattle.disk_definitions.specs.Store.{stored};
-ghost use Rattle.plan_definitions.specs.FilePlans.{set_sector};
+ghost use Rattle.disk_definitions.specs.FilePlans.{set_sector};
 ghost use Rattle.plan_steps.specs.Edits.{edit_of};
 
+use disk_definitions::Inode;
 use frang_base::Block;
 use frang_base::limits::{SMALL_BLOCK_SECTORS, SMALL_SECTORS_MAX};
 use plan_steps::Edit;
-use sector_definitions::Inode;
 
 /// The edit that writes these bytes into sector `t` of a file.
 pub(crate) fn set_sector(inode: &Inode, t: u32, bytes: &Block) -> Edit

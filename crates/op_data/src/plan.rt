@@ -1,7 +1,7 @@
 // The plan of an operation on file bytes.
 ghost use Rattle.std.specs.Prelude.{◌≡◌, ◌<◌, ◌^◌, ℕ, IfOk};
-ghost use Rattle.plan_definitions.specs.PlanOf.{plan_of};
-ghost use Rattle.plan_definitions.specs.Written.{hand_of};
+ghost use Rattle.disk_definitions.specs.PlanOf.{plan_of};
+ghost use Rattle.disk_definitions.specs.Written.{hand_of};
 ghost use Rattle.dir_lookup.specs.Hands.{over, seen};
 ghost use Rattle.dir_lookup.specs.Planned.{planned};
 ghost use Rattle.dir_lookup.specs.Reading.{reading};

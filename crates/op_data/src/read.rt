@@ -2,7 +2,7 @@
 ghost use Rattle.std.specs.Prelude.{◌≡◌, ◌≤◌, ◌<◌, ◌+◌, ◌-◌, ◌*◌, ◌%◌, ℕ, List, length, take, drop, IfOk};
 ghost use Rattle.frang_base.specs.declared.limits.TheConstants.{FILE_BYTES_MAX, LARGE_BLOCK_SECTORS, SECTOR_BYTES, SMALL_SECTORS_MAX};
 ghost use Rattle.disk_definitions.specs.Store.{stored};
-ghost use Rattle.plan_definitions.specs.FilePlans.{plan_read, sectors_met, showing};
+ghost use Rattle.disk_definitions.specs.FilePlans.{plan_read, sectors_met, showing};
 ghost use Rattle.dir_lookup.specs.Hands.{over};
 ghost use Rattle.plan_steps.specs.Ends.{Says};
 ghost use Rattle.plan_steps.specs.Looking.{Looks};
@@ -10,10 +10,10 @@ ghost use Rattle.op_data.specs.Files.{ReadsSectors};
 
 use crate::file::{file_of, sector_bytes};
 use dir_lookup::{Hand, Looked};
+use disk_definitions::Inode;
 use frang_base::limits::SECTOR_BYTES;
 use frang_base::{NoMemory, Path, Reply, Text};
 use plan_steps::Stop;
-use sector_definitions::Inode;
 use std::alloc::Global;
 
 /// What a read shows of a file: at most `len` bytes from offset `off` on, and none past the end. `Refused` where the path or the offset

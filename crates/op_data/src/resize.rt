@@ -3,18 +3,18 @@ ghost use Rattle.std.specs.Prelude.{◌≡◌, ◌≤◌, ◌<◌, ◌-◌, ◌+
 ghost use Rattle.frang_base.specs.declared.limits.TheConstants.{INODE_BLOCKS_MAX, SEGMENTS_MAX};
 ghost use Rattle.disk_definitions.specs.Store.Use.{Bytes};
 ghost use Rattle.disk_definitions.specs.Store.{stored};
-ghost use Rattle.store_changes.specs.Edits.Edit.{SetUse};
+ghost use Rattle.disk_definitions.specs.Edits.Edit.{SetUse};
 ghost use Rattle.tree_definitions.specs.Tree.{small_blocks_of};
-ghost use Rattle.plan_definitions.specs.FilePlans.{file_dated, large_after, large_taken, resized, small_after};
+ghost use Rattle.disk_definitions.specs.FilePlans.{file_dated, large_after, large_taken, resized, small_after};
 ghost use Rattle.plan_steps.specs.Edits.{edits_of};
 ghost use Rattle.op_data.specs.Files.{IsFile};
 
 use crate::shorter::blocks_of;
 use bitmap_alloc::BlockState;
+use disk_definitions::Inode;
 use frang_base::NoMemory;
 use frang_base::limits::{INODE_BLOCKS_MAX, SMALL_BYTES_MAX};
 use plan_steps::{Edit, push};
-use sector_definitions::Inode;
 use std::alloc::Global;
 
 /// The blocks that a file gets beside its own.

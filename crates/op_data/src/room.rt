@@ -1,11 +1,11 @@
 // How many blocks are or were directories'.
 ghost use Rattle.std.specs.Prelude.{◌≡◌, ◌≤◌, ◌<◌, ◌+◌, ◌*◌, ◌==◌, ◌||◌};
 ghost use Rattle.frang_base.specs.declared.limits.TheConstants.{SEGMENT_BLOCKS};
-ghost use Rattle.pick_definitions.specs.Least.{count};
-ghost use Rattle.pick_definitions.specs.Held.{state_in};
-ghost use Rattle.pick_definitions.specs.Picks.{is_in_state};
-ghost use Rattle.sector_definitions.specs.Bitmaps.{block_state};
-ghost use Rattle.plan_definitions.specs.FilePlans.{directory_blocks};
+ghost use Rattle.disk_definitions.specs.Least.{count};
+ghost use Rattle.disk_definitions.specs.Held.{state_in};
+ghost use Rattle.disk_definitions.specs.Picks.{is_in_state};
+ghost use Rattle.disk_definitions.specs.Bitmaps.{block_state};
+ghost use Rattle.disk_definitions.specs.FilePlans.{directory_blocks};
 
 use bitmap_block::{BlockState, state_of};
 use frang_base::limits::{SEGMENT_BLOCKS, SEGMENTS_MAX};

@@ -1,7 +1,7 @@
 // Whether the segments that a plan changes are held.
 ghost use Rattle.std.specs.Prelude.{◌≡◌, ◌++◌, ◌/◌, map};
 ghost use Rattle.frang_base.specs.declared.limits.TheConstants.{SEGMENT_BLOCKS};
-ghost use Rattle.plan_definitions.specs.FilePlans.{large_segment};
+ghost use Rattle.disk_definitions.specs.FilePlans.{large_segment};
 ghost use Rattle.dir_lookup.specs.Looked.{Adds};
 ghost use Rattle.plan_steps.specs.Looking.{looked_over};
 ghost use Rattle.plan_steps.specs.Rooms.{missing_of, needed};

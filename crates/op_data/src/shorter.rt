@@ -3,11 +3,11 @@ ghost use Rattle.std.specs.Prelude.{◌≡◌, ◌≤◌, ◌<◌, ◌*◌, ℕ,
 ghost use Rattle.frang_base.specs.declared.limits.TheConstants.{INODE_BLOCKS_MAX};
 ghost use Rattle.tree_definitions.specs.Tree.{small_blocks_of};
 ghost use Rattle.disk_definitions.specs.Store.{stored};
-ghost use Rattle.plan_definitions.specs.FilePlans.{blocks_between, large_after, large_cut, large_segment, resized};
+ghost use Rattle.disk_definitions.specs.FilePlans.{blocks_between, large_after, large_cut, large_segment, resized};
 ghost use Rattle.op_data.specs.Files.{IsFile};
 
+use disk_definitions::Inode;
 use frang_base::limits::SMALL_BYTES_MAX;
-use sector_definitions::Inode;
 use tree_edits::small_blocks_of;
 
 /// The small blocks of a file that are past its end once it has `len` bytes.

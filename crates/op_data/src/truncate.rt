@@ -1,8 +1,8 @@
 // The plan of a truncate.
 ghost use Rattle.std.specs.Prelude.{◌≡◌, ◌≤◌, ◌++◌, ℕ, List, IfOk, OnOk, map, false, [], None};
-ghost use Rattle.store_changes.specs.Edits.{SetLarge, SetUse};
+ghost use Rattle.disk_definitions.specs.Edits.{SetLarge, SetUse};
 ghost use Rattle.disk_definitions.specs.Store.{Fresh, stored};
-ghost use Rattle.plan_definitions.specs.FilePlans.{cut_by, cutting, large_segment, plan_truncated};
+ghost use Rattle.disk_definitions.specs.FilePlans.{cut_by, cutting, large_segment, plan_truncated};
 ghost use Rattle.dir_lookup.specs.Hands.{over};
 ghost use Rattle.plan_steps.specs.Edits.{edits_of};
 ghost use Rattle.plan_steps.specs.Ends.{Comes};

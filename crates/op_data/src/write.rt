@@ -3,8 +3,8 @@ ghost use Rattle.std.specs.Prelude.{◌≡◌, ◌≤◌, ◌<◌, ◌-◌, ◌=
 ghost use Rattle.frang_base.specs.declared.limits.TheConstants.{FILE_BYTES_MAX, SEGMENTS_MAX, SMALL_BYTES_MAX};
 ghost use Rattle.tree_definitions.specs.Tree.{small_blocks_of};
 ghost use Rattle.disk_definitions.specs.Store.{stored};
-ghost use Rattle.plan_definitions.specs.FilePlans as plans;
-ghost use Rattle.plan_definitions.specs.FilePlans.{end_of, plan_of_file, writing_in, writing_small};
+ghost use Rattle.disk_definitions.specs.FilePlans as plans;
+ghost use Rattle.disk_definitions.specs.FilePlans.{end_of, plan_of_file, writing_in, writing_small};
 ghost use Rattle.dir_lookup.specs.Hands.{over, seen};
 ghost use Rattle.plan_steps.specs.Ends.{Comes};
 ghost use Rattle.plan_steps.specs.Looking.{Looks};

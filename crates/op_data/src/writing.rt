@@ -1,7 +1,7 @@
 // What is written, and where.
 ghost use Rattle.std.specs.Prelude.{◌≡◌, ◌<◌, ◌+◌, ◌^◌, slice_index};
 ghost use Rattle.frang_base.specs.declared.limits.TheConstants.{LARGE_BLOCK_SECTORS, SMALL_SECTORS_MAX};
-ghost use Rattle.plan_definitions.specs.FilePlans.{byte_over, end_of, keeps_bytes, mixed, sectors_met};
+ghost use Rattle.disk_definitions.specs.FilePlans.{byte_over, end_of, keeps_bytes, mixed, sectors_met};
 ghost use Rattle.op_data.specs.Writings.{byte_of, writing_of};
 
 use frang_base::Block;

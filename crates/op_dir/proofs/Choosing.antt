@@ -1,9 +1,9 @@
 -- Plans that are refused, and plans that go by a test.
 use Rattle.std.proofs.Common.{◌≡◌, Bool, true, false, cond, ap}
-use Rattle.pick_definitions.specs.Held.{Segments}
-use Rattle.plan_definitions.specs.Ask.{Ask}
-use Rattle.plan_definitions.specs.Plans.{Plan}
-use Rattle.plan_definitions.specs.Written.{Cached}
+use Rattle.disk_definitions.specs.Held.{Segments}
+use Rattle.disk_definitions.specs.Ask.{Ask}
+use Rattle.disk_definitions.specs.Plans.{Plan}
+use Rattle.disk_definitions.specs.Written.{Cached}
 use Rattle.dir_lookup.specs.Reading.{reading}
 
 pub if_so : (b : Bool) (p q : Ask Plan) (cached : Cached) (held : Segments) → b ≡ true → reading (cond b p q) cached held ≡ reading p cached held

@@ -3,11 +3,11 @@ use Rattle.std.proofs.Common.{◌≡◌, ◌==◌, ◌&&◌, ◌∷◌, ◌++◌
 use Rattle.frang_base.specs.declared.reply.Reply.{Reply}
 use Rattle.frang_base.specs.declared.reply.Reply.TheVariants as reply
 use Rattle.disk_definitions.specs.Store.{StoredNode, StoredEntry}
-use Rattle.pick_definitions.specs.Held.{Segments}
-use Rattle.plan_definitions.specs.Ask.{Ask, Got, ReadInode, bind}
-use Rattle.plan_definitions.specs.Plans.{Hand, Plan, Finishes, find_room, is_full, refuse, refused}
-use Rattle.plan_definitions.specs.NamePlans.{Moving, fewer_segments, finish_over, linked_by, linking_in, linking_node, moved_between, moved_onto_by, moved_within, moving_in, moving_onto, moving_to, replacing_node}
-use Rattle.plan_definitions.specs.Written.{Cached}
+use Rattle.disk_definitions.specs.Held.{Segments}
+use Rattle.disk_definitions.specs.Ask.{Ask, Got, ReadInode, bind}
+use Rattle.disk_definitions.specs.Plans.{Hand, Plan, Finishes, find_room, is_full, refuse, refused}
+use Rattle.disk_definitions.specs.NamePlans.{Moving, fewer_segments, finish_over, linked_by, linking_in, linking_node, moved_between, moved_onto_by, moved_within, moving_in, moving_onto, moving_to, replacing_node}
+use Rattle.disk_definitions.specs.Written.{Cached}
 use Rattle.dir_lookup.specs.Reading.{Gives, reading}
 use Rattle.plan_steps.proofs.Stopping.{of_another, of_kind}
 use Rattle.op_dir.specs.Rooming.{in_room}

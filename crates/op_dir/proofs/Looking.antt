@@ -5,13 +5,13 @@ use Rattle.frang_base.specs.declared.reply.Reply.{Reply}
 use Rattle.frang_base.specs.declared.reply.Reply.TheVariants as reply
 use Rattle.tree_definitions.specs.declared.node.Node.{Node}
 use Rattle.disk_definitions.specs.Store.{StoredNode, StoredEntry}
-use Rattle.pick_definitions.specs.Held.{Segments}
-use Rattle.pick_definitions.specs.Picks.{picked_inode}
-use Rattle.plan_definitions.specs.Ask.{Ask, Got, ReadInode, bind}
-use Rattle.plan_definitions.specs.Walks.{AtGap}
-use Rattle.plan_definitions.specs.Plans.{Hand, Plan, Finish, Finishes, Room, find_room, finish_in, is_full, read_held, refused}
-use Rattle.plan_definitions.specs.NamePlans.{Moving, fewer_segments, finish_over, linked_by, linking_in, linking_node, made_by, making, making_in, making_with, moved_between, moved_onto_by, moved_within, moving_in, moving_onto, moving_to, plan_renamed, replacing_node}
-use Rattle.plan_definitions.specs.Written.{Cached, hand_of}
+use Rattle.disk_definitions.specs.Held.{Segments}
+use Rattle.disk_definitions.specs.Picks.{picked_inode}
+use Rattle.disk_definitions.specs.Ask.{Ask, Got, ReadInode, bind}
+use Rattle.disk_definitions.specs.Walks.{AtGap}
+use Rattle.disk_definitions.specs.Plans.{Hand, Plan, Finish, Finishes, Room, find_room, finish_in, is_full, read_held, refused}
+use Rattle.disk_definitions.specs.NamePlans.{Moving, fewer_segments, finish_over, linked_by, linking_in, linking_node, made_by, making, making_in, making_with, moved_between, moved_onto_by, moved_within, moving_in, moving_onto, moving_to, plan_renamed, replacing_node}
+use Rattle.disk_definitions.specs.Written.{Cached, hand_of}
 use Rattle.dir_lookup.specs.Looked.{Adds}
 use Rattle.plan_steps.specs.Looking.{Looks, LooksTo, examined, segment_number}
 use Rattle.dir_lookup.specs.Reading.{Gives, reading}

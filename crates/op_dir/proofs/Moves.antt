@@ -2,10 +2,10 @@
 use Rattle.std.proofs.Common.{◌≡◌, ◌&&◌, ◌↔◌, ℕ, Bool, true, false, not, cond, IsTrue, Option, Some, None, List, [], ◌∷◌, refl, ap}
 use Rattle.frang_base.specs.declared.reply.Reply.{Reply}
 use Rattle.frang_base.specs.declared.reply.Reply.TheVariants as reply
-use Rattle.plan_definitions.specs.Ask.{Ask, bind}
-use Rattle.plan_definitions.specs.Walks.{walk}
-use Rattle.plan_definitions.specs.Plans.{Hand, Plan, refused}
-use Rattle.plan_definitions.specs.NamePlans.{plan_renamed, renaming}
+use Rattle.disk_definitions.specs.Ask.{Ask, bind}
+use Rattle.disk_definitions.specs.Walks.{walk}
+use Rattle.disk_definitions.specs.Plans.{Hand, Plan, refused}
+use Rattle.disk_definitions.specs.NamePlans.{plan_renamed, renaming}
 
 -- what the kinds refuse
 abbrev pub kinds : Bool → Bool → Option Reply

@@ -3,13 +3,13 @@ use Rattle.std.proofs.Common.{◌≡◌, ℕ, Bool, true, false, cond, Option, L
 use Rattle.frang_base.specs.declared.reply.Reply.TheVariants as reply
 use Rattle.tree_definitions.specs.declared.node.Node.{Node}
 use Rattle.disk_definitions.specs.Store.{StoredNode}
-use Rattle.pick_definitions.specs.Held.{Segments}
-use Rattle.pick_definitions.specs.Picks.{picked_inode}
-use Rattle.plan_definitions.specs.Ask.{Ask, Got, ReadInode, bind}
-use Rattle.plan_definitions.specs.Walks.{AtGap}
-use Rattle.plan_definitions.specs.Plans.{Hand, Plan, Room, find_room, finish_in, is_full, read_held, refuse, refused}
-use Rattle.plan_definitions.specs.NamePlans.{made_by, making, making_in, making_with}
-use Rattle.plan_definitions.specs.Written.{Cached, hand_of}
+use Rattle.disk_definitions.specs.Held.{Segments}
+use Rattle.disk_definitions.specs.Picks.{picked_inode}
+use Rattle.disk_definitions.specs.Ask.{Ask, Got, ReadInode, bind}
+use Rattle.disk_definitions.specs.Walks.{AtGap}
+use Rattle.disk_definitions.specs.Plans.{Hand, Plan, Room, find_room, finish_in, is_full, read_held, refuse, refused}
+use Rattle.disk_definitions.specs.NamePlans.{made_by, making, making_in, making_with}
+use Rattle.disk_definitions.specs.Written.{Cached, hand_of}
 use Rattle.dir_lookup.specs.Reading.{Read, Gives, reading, then_read}
 use Rattle.dir_lookup.proofs.Searches.{goes_on}
 use Rattle.plan_steps.specs.declared.room.Room.{Room as CodeRoom}

@@ -2,11 +2,11 @@
 use Rattle.std.proofs.Common.{◌≡◌, ◌∷◌, ◌++◌, [], ℕ, List, refl, sym, ap}
 use Rattle.std.proofs.Math.Path.{fun_ext}
 use Rattle.disk_definitions.specs.Store.{StoredNode}
-use Rattle.pick_definitions.specs.Held.{Segments}
-use Rattle.plan_definitions.specs.Ask.{bind}
-use Rattle.plan_definitions.specs.Plans.{Hand, Finish, Room, Inside, InBlock, NoRoom, find_room, finish_in}
-use Rattle.plan_definitions.specs.NamePlans.{Moving, linked_by, linking_in, moved_between, moving_in}
-use Rattle.plan_definitions.specs.Written.{Cached}
+use Rattle.disk_definitions.specs.Held.{Segments}
+use Rattle.disk_definitions.specs.Ask.{bind}
+use Rattle.disk_definitions.specs.Plans.{Hand, Finish, Room, Inside, InBlock, NoRoom, find_room, finish_in}
+use Rattle.disk_definitions.specs.NamePlans.{Moving, linked_by, linking_in, moved_between, moving_in}
+use Rattle.disk_definitions.specs.Written.{Cached}
 use Rattle.dir_lookup.specs.Reading.{Read, reading, then_read}
 use Rattle.dir_lookup.proofs.Searches.{goes_on}
 use Rattle.plan_steps.specs.declared.room.Room.{Room as CodeRoom}

@@ -1,8 +1,8 @@
 -- A plan that walks a path ends as the walk does, or goes on from where it leads.
 use Rattle.std.proofs.Common.{◌≡◌, ℕ, Result, Ok, Err, List, subst, sym}
-use Rattle.plan_definitions.specs.Ask.{Ask, bind}
-use Rattle.plan_definitions.specs.Walks.{Spot, walk}
-use Rattle.plan_definitions.specs.Plans.{Plan}
+use Rattle.disk_definitions.specs.Ask.{Ask, bind}
+use Rattle.disk_definitions.specs.Walks.{Spot, walk}
+use Rattle.disk_definitions.specs.Plans.{Plan}
 use Rattle.dir_lookup.specs.declared.hand.Hand.{Hand}
 use Rattle.dir_lookup.specs.declared.spot.Spot.{Spot as CodeSpot}
 use Rattle.dir_lookup.specs.Hands.{over}

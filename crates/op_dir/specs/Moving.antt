@@ -2,7 +2,7 @@
 use Rattle.std.specs.Prelude.{◌<◌, ◌*◌}
 use Rattle.frang_base.specs.declared.limits.TheConstants.{BLOCK_ENTRIES}
 use Rattle.disk_definitions.specs.Store.{stored, entered}
-use Rattle.plan_definitions.specs.NamePlans.{Moving}
+use Rattle.disk_definitions.specs.NamePlans.{Moving}
 use Rattle.plan_steps.specs.Nodes.{IsDirectory}
 use Rattle.op_dir.specs.declared.named.Named.{Named}
 

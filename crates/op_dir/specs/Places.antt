@@ -1,12 +1,12 @@
 -- The inode and the room that a new node gets, as the code has them.
 use Rattle.std.specs.Prelude.{◌≡◌, ℕ, Result, Ok, Err, List}
-use Rattle.sector_definitions.specs.declared.inode.Inode.{Inode}
+use Rattle.disk_definitions.specs.declared.inode.Inode.{Inode}
 use Rattle.tree_definitions.specs.declared.node.Node.{Node}
 use Rattle.disk_definitions.specs.Store.{StoredNode}
-use Rattle.plan_definitions.specs.Ask.{bind}
-use Rattle.plan_definitions.specs.Walks.{AtGap}
-use Rattle.plan_definitions.specs.Plans.{Finishes, find_room}
-use Rattle.plan_definitions.specs.NamePlans.{made_by, making, making_in}
+use Rattle.disk_definitions.specs.Ask.{bind}
+use Rattle.disk_definitions.specs.Walks.{AtGap}
+use Rattle.disk_definitions.specs.Plans.{Finishes, find_room}
+use Rattle.disk_definitions.specs.NamePlans.{made_by, making, making_in}
 use Rattle.dir_lookup.specs.declared.hand.Hand.{Hand as CodeHand}
 use Rattle.dir_lookup.specs.Hands.{over, seen}
 use Rattle.dir_lookup.specs.Reading.{Gives}

@@ -2,8 +2,8 @@
 use Rattle.std.specs.Prelude.{◌≡◌, ℕ, Result, Ok, Err, List}
 use Rattle.frang_base.specs.declared.reply.Reply.TheVariants as reply
 use Rattle.disk_definitions.specs.Store.{StoredNode}
-use Rattle.plan_definitions.specs.Ask.{Ask, bind}
-use Rattle.plan_definitions.specs.Plans.{Hand, Plan, Finish, Room, Inside, InBlock, NoRoom, Finishes, find_room, finish_in, none_left}
+use Rattle.disk_definitions.specs.Ask.{Ask, bind}
+use Rattle.disk_definitions.specs.Plans.{Hand, Plan, Finish, Room, Inside, InBlock, NoRoom, Finishes, find_room, finish_in, none_left}
 use Rattle.dir_lookup.specs.declared.hand.Hand.{Hand as CodeHand}
 use Rattle.dir_lookup.specs.Hands.{over, seen}
 use Rattle.dir_lookup.specs.Reading.{Gives}

@@ -2,11 +2,11 @@
 ghost use Rattle.std.specs.Prelude.{◌≡◌, ◌++◌, ◌+◌, ◌<◌, ℕ, List, Some, nat_le};
 ghost use Rattle.frang_base.specs.declared.limits.TheConstants.{LINKS_MAX};
 ghost use Rattle.disk_definitions.specs.Store.{stored};
-ghost use Rattle.store_changes.specs.Changes.{relink};
-ghost use Rattle.plan_definitions.specs.Ask.{bind};
-ghost use Rattle.plan_definitions.specs.Walks.{walk};
-ghost use Rattle.plan_definitions.specs.Plans as plans;
-ghost use Rattle.plan_definitions.specs.NamePlans.{linking, linking_node, linking_to, plan_linked};
+ghost use Rattle.disk_definitions.specs.Changes.{relink};
+ghost use Rattle.disk_definitions.specs.Ask.{bind};
+ghost use Rattle.disk_definitions.specs.Walks.{walk};
+ghost use Rattle.disk_definitions.specs.Plans as plans;
+ghost use Rattle.disk_definitions.specs.NamePlans.{linking, linking_node, linking_to, plan_linked};
 ghost use Rattle.dir_lookup.specs.Hands.{over, seen};
 ghost use Rattle.dir_lookup.specs.Spots.{spot_of};
 ghost use Rattle.plan_steps.specs.Ends.{Comes};
@@ -19,10 +19,10 @@ ghost use Rattle.plan_steps.specs.Outcomes.{Does};
 use crate::named::is_directory;
 use crate::room::room_for;
 use dir_lookup::{Hand, Looked, NumberedInode, Spot};
+use disk_definitions::Inode;
 use frang_base::limits::LINKS_MAX;
 use frang_base::{Name, NoMemory, Path, Reply};
 use plan_steps::{Outcome, Room, Stop, enter, entry_for, inode_of, is_full, relink, walked};
-use sector_definitions::Inode;
 use std::alloc::Global;
 
 /// The node that a path names, which is no directory, gets a second name.

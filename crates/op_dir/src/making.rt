@@ -2,12 +2,12 @@
 ghost use Rattle.std.specs.Prelude.{◌++◌, ℕ, List, IfOk};
 ghost use Rattle.disk_definitions.specs.Naming.{kind_of};
 ghost use Rattle.disk_definitions.specs.Store.{stored};
-ghost use Rattle.store_changes.specs.Changes.{new_node};
-ghost use Rattle.plan_definitions.specs.Plans as plans;
+ghost use Rattle.disk_definitions.specs.Changes.{new_node};
+ghost use Rattle.disk_definitions.specs.Plans as plans;
 ghost use Rattle.tree_definitions.specs.declared.node.Node.{Node};
-ghost use Rattle.plan_definitions.specs.Ask.{bind};
-ghost use Rattle.plan_definitions.specs.Walks.{AtGap};
-ghost use Rattle.plan_definitions.specs.NamePlans.{making, making_in, plan_made};
+ghost use Rattle.disk_definitions.specs.Ask.{bind};
+ghost use Rattle.disk_definitions.specs.Walks.{AtGap};
+ghost use Rattle.disk_definitions.specs.NamePlans.{making, making_in, plan_made};
 ghost use Rattle.dir_lookup.specs.Hands.{over, seen};
 ghost use Rattle.dir_lookup.specs.Spots.{spot_of};
 ghost use Rattle.plan_steps.specs.Ends.{Comes};
@@ -20,12 +20,12 @@ ghost use Rattle.op_dir.specs.Places.{FindsNodeRoom, FindsPlace, IsPlaceOf};
 
 use bitmap_alloc::pick_inode;
 use dir_lookup::{Hand, Looked, NumberedInode, Spot, inode_at};
+use disk_definitions::Inode;
 use frang_base::{Name, NoMemory, Path, Reply};
 use plan_steps::{
     NewNode, Outcome, Room, Stop, clear_room, enter, entry_for, find_room, is_full, look_at_held,
     new_node, nothing_left, walked,
 };
-use sector_definitions::Inode;
 use std::alloc::Global;
 
 // What a new node gets: its inode, and room for its name.

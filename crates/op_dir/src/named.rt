@@ -3,8 +3,8 @@ ghost use Rattle.std.specs.Prelude.{◌≡◌, ◌==◌};
 ghost use Rattle.disk_definitions.specs.Store.{entered};
 
 use dir_lookup::{Found, NumberedInode};
+use disk_definitions::DirEntry;
 use frang_base::limits::KIND_DIRECTORY;
-use sector_definitions::DirEntry;
 
 // A name that is there: its directory, and its place with its entry.
 #[derive(Clone, Copy, Debug)]

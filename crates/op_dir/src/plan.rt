@@ -1,9 +1,9 @@
 // The plan of an operation on names.
 ghost use Rattle.std.specs.Prelude.{◌≡◌, ◌≤◌, ◌<◌, ◌^◌, ℕ, IfOk, length};
 ghost use Rattle.frang_base.specs.declared.limits.TheConstants.{TARGET_BYTES_MAX};
-ghost use Rattle.plan_definitions.specs.PlanOf.{plan_of};
-ghost use Rattle.plan_definitions.specs.Written.{hand_of};
-ghost use Rattle.plan_definitions.specs.Allowed.{IsAllowed};
+ghost use Rattle.disk_definitions.specs.PlanOf.{plan_of};
+ghost use Rattle.disk_definitions.specs.Written.{hand_of};
+ghost use Rattle.disk_definitions.specs.Allowed.{IsAllowed};
 ghost use Rattle.dir_lookup.specs.Hands.{over, seen};
 ghost use Rattle.dir_lookup.specs.Planned.{planned};
 ghost use Rattle.dir_lookup.specs.Reading.{reading};

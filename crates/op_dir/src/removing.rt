@@ -1,8 +1,8 @@
 // Names that are removed.
 ghost use Rattle.std.specs.Prelude.{◌++◌, ℕ, List};
 ghost use Rattle.disk_definitions.specs.Store.{stored};
-ghost use Rattle.store_changes.specs.Changes.{take_entry};
-ghost use Rattle.plan_definitions.specs.NamePlans as plans;
+ghost use Rattle.disk_definitions.specs.Changes.{take_entry};
+ghost use Rattle.disk_definitions.specs.NamePlans as plans;
 ghost use Rattle.dir_lookup.specs.Hands.{over};
 ghost use Rattle.dir_lookup.specs.Spots.{spot_of};
 ghost use Rattle.dir_lookup.specs.Stored.{IsUsed};

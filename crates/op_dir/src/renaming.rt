@@ -2,11 +2,11 @@
 ghost use Rattle.std.specs.Prelude.{◌≡◌, ◌==◌, ◌++◌, ◌&&◌, ℕ, List, Some, None, not, if◌then◌else◌, nat_lt};
 ghost use Rattle.frang_base.specs.declared.reply.Reply.TheVariants as reply;
 ghost use Rattle.disk_definitions.specs.Store.{stored, entered};
-ghost use Rattle.store_changes.specs.Changes.{replace_entry, take_entry};
-ghost use Rattle.plan_definitions.specs.Ask.{bind};
-ghost use Rattle.plan_definitions.specs.Walks.{walk};
-ghost use Rattle.plan_definitions.specs.Plans as plans;
-ghost use Rattle.plan_definitions.specs.NamePlans.{fewer as less, goes_through, moving_onto, moving_to, plan_renamed, renamed_entry, renaming, renaming_to, replacing_node};
+ghost use Rattle.disk_definitions.specs.Changes.{replace_entry, take_entry};
+ghost use Rattle.disk_definitions.specs.Ask.{bind};
+ghost use Rattle.disk_definitions.specs.Walks.{walk};
+ghost use Rattle.disk_definitions.specs.Plans as plans;
+ghost use Rattle.disk_definitions.specs.NamePlans.{fewer as less, goes_through, moving_onto, moving_to, plan_renamed, renamed_entry, renaming, renaming_to, replacing_node};
 ghost use Rattle.dir_lookup.specs.Hands.{over, seen};
 ghost use Rattle.dir_lookup.specs.Spots.{spot_of};
 ghost use Rattle.dir_lookup.specs.Stored.{IsUsed};
@@ -21,13 +21,13 @@ ghost use Rattle.op_dir.specs.Moving.{IsNamed, moving_of};
 use crate::named::{Named, is_directory};
 use crate::room::room_for;
 use dir_lookup::{Hand, Looked, NumberedInode, Spot};
+use disk_definitions::{DirEntry, Inode};
 use frang_base::limits::KIND_DIRECTORY;
 use frang_base::{Name, NoMemory, Path, Reply};
 use plan_steps::{
     Outcome, Room, Stop, enter, entry_for, fewer, inode_of, is_full, replace_entry,
     segments_needed, take_entry, walk_passes, walked,
 };
-use sector_definitions::{DirEntry, Inode};
 use std::alloc::Global;
 
 /// The node that a path names gets another name in place of this one. A node that has that name loses it.

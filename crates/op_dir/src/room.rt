@@ -1,9 +1,9 @@
 // Room for an entry that comes.
 ghost use Rattle.std.specs.Prelude.{ℕ, List, IfOk};
 ghost use Rattle.disk_definitions.specs.Store.{stored};
-ghost use Rattle.plan_definitions.specs.Ask.{bind};
-ghost use Rattle.plan_definitions.specs.Plans as plans;
-ghost use Rattle.plan_definitions.specs.Plans.{Finish};
+ghost use Rattle.disk_definitions.specs.Ask.{bind};
+ghost use Rattle.disk_definitions.specs.Plans as plans;
+ghost use Rattle.disk_definitions.specs.Plans.{Finish};
 ghost use Rattle.dir_lookup.specs.Hands.{seen};
 ghost use Rattle.plan_steps.specs.Looking.{Looks};
 ghost use Rattle.plan_steps.specs.Nodes.{IsDirectory};
@@ -11,9 +11,9 @@ ghost use Rattle.plan_steps.specs.Rooms.{IsRoomOf};
 ghost use Rattle.op_dir.specs.Rooming.{FindsRoom, in_room};
 
 use dir_lookup::{Hand, Looked};
+use disk_definitions::Inode;
 use frang_base::Reply;
 use plan_steps::{Room, Stop, clear_room, find_room, nothing_left};
-use sector_definitions::Inode;
 
 // Room in the directory, clear.
 pub(crate) fn room_for(hand: &Hand, directory: &Inode, looked: &mut Looked) -> Result<Room, Stop>

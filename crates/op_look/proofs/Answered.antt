@@ -4,10 +4,10 @@ use Rattle.frang_base.specs.declared.reply.Reply.{Reply}
 use Rattle.frang_base.specs.declared.sector.Sector.{Sector}
 use Rattle.disk_definitions.specs.Store.{StoredNode}
 use Rattle.meta_version.specs.declared.plan.Plan.TheVariants as plan
-use Rattle.pick_definitions.specs.Held.{Segments}
-use Rattle.plan_definitions.specs.Plans.{Plan, refuse, shared_nodes}
-use Rattle.plan_definitions.specs.LookPlans.{listing}
-use Rattle.plan_definitions.specs.Written.{Cached}
+use Rattle.disk_definitions.specs.Held.{Segments}
+use Rattle.disk_definitions.specs.Plans.{Plan, refuse, shared_nodes}
+use Rattle.disk_definitions.specs.LookPlans.{listing}
+use Rattle.disk_definitions.specs.Written.{Cached}
 use Rattle.dir_lookup.specs.Planned.{planned}
 use Rattle.dir_lookup.specs.Reading.{Read, Gives, reading}
 use Rattle.plan_steps.specs.declared.stop.Stop.{Stop}

@@ -7,11 +7,11 @@ use Rattle.std.proofs.lemmas.List.Sums.{fold-append}
 use Rattle.frang_base.specs.declared.reply.Reply.TheVariants as reply
 use Rattle.tree_definitions.specs.Entries.{Entries}
 use Rattle.disk_definitions.specs.Store.{StoredNode, StoredEntry}
-use Rattle.pick_definitions.specs.Held.{Segments}
-use Rattle.plan_definitions.specs.Ask.{Ask, Got, ReadDirectory, bind}
-use Rattle.plan_definitions.specs.Plans.{Plan, refused}
-use Rattle.plan_definitions.specs.LookPlans.{entries_of, read_entries, listing}
-use Rattle.plan_definitions.specs.Written.{Cached}
+use Rattle.disk_definitions.specs.Held.{Segments}
+use Rattle.disk_definitions.specs.Ask.{Ask, Got, ReadDirectory, bind}
+use Rattle.disk_definitions.specs.Plans.{Plan, refused}
+use Rattle.disk_definitions.specs.LookPlans.{entries_of, read_entries, listing}
+use Rattle.disk_definitions.specs.Written.{Cached}
 use Rattle.plan_steps.specs.Looking.{Looks, LooksTo, examined}
 use Rattle.dir_lookup.specs.Reading.{Lacks, Gives, reading}
 use Rattle.plan_steps.proofs.Looking.{bind_end, bind_to, looks_as, none_more, stays, then_looks, then_to, to_as, as_to}

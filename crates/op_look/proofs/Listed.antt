@@ -9,11 +9,11 @@ use Rattle.frang_base.specs.declared.reply.Reply.TheVariants as reply
 use Rattle.tree_definitions.specs.Entries.{Entries}
 use Rattle.tree_definitions.specs.Numbers.{below}
 use Rattle.disk_definitions.specs.Store.{StoredNode, StoredEntry}
-use Rattle.pick_definitions.specs.Held.{Segments}
-use Rattle.plan_definitions.specs.Ask.{Ask, Got, ReadDirectory}
-use Rattle.plan_definitions.specs.Plans.{Plan, refuse, refused}
-use Rattle.plan_definitions.specs.LookPlans.{entries_of, read_entries, listing}
-use Rattle.plan_definitions.specs.Written.{Cached}
+use Rattle.disk_definitions.specs.Held.{Segments}
+use Rattle.disk_definitions.specs.Ask.{Ask, Got, ReadDirectory}
+use Rattle.disk_definitions.specs.Plans.{Plan, refuse, refused}
+use Rattle.disk_definitions.specs.LookPlans.{entries_of, read_entries, listing}
+use Rattle.disk_definitions.specs.Written.{Cached}
 use Rattle.dir_lookup.specs.Reading.{Read, Lacks, Gives, reading, then_read}
 use Rattle.dir_lookup.proofs.Searches.{goes_on}
 use Rattle.op_look.specs.Looks.{with_name, with_place}

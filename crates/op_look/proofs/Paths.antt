@@ -1,7 +1,7 @@
 -- An operation that only looks has a path.
 use Rattle.frang_base.specs.declared.op.Op.{Op}
 use Rattle.frang_base.specs.declared.op.Op.TheVariants as op
-use Rattle.plan_standing.specs.Laws.{HasPath}
+use Rattle.line_laws.specs.Laws.{HasPath}
 use Rattle.op_look.specs.Looks.{IsLook}
 
 pub has_path : (o : Op) → IsLook o → HasPath o

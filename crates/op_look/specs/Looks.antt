@@ -8,10 +8,10 @@ use Rattle.tree_definitions.specs.Entries.{Entries, with_entry}
 use Rattle.disk_definitions.specs.Store.{StoredNode, StoredEntry}
 use Rattle.meta_version.specs.declared.plan.Plan.{Plan as CodePlan}
 use Rattle.meta_version.specs.declared.plan.Plan.TheVariants as plan
-use Rattle.pick_definitions.specs.Held.{Segments}
-use Rattle.plan_definitions.specs.Plans.{refuse}
-use Rattle.plan_definitions.specs.LookPlans.{listing}
-use Rattle.plan_definitions.specs.Written.{Cached}
+use Rattle.disk_definitions.specs.Held.{Segments}
+use Rattle.disk_definitions.specs.Plans.{refuse}
+use Rattle.disk_definitions.specs.LookPlans.{listing}
+use Rattle.disk_definitions.specs.Written.{Cached}
 use Rattle.dir_lookup.specs.Reading.{Lacks, Gives, reading}
 use Rattle.plan_steps.specs.declared.stop.Stop.{Stop}
 use Rattle.plan_steps.specs.declared.stop.Stop.TheVariants as stop

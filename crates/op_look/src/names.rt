@@ -1,10 +1,10 @@
 // The names in a directory.
 ghost use Rattle.std.specs.Prelude.{◌≡◌, ◌≤◌, ◌<◌, fold, IfOk, IfSome, IsTrue, OnOk, List, ℕ};
 ghost use Rattle.std.specs.Option.{option_map};
-ghost use Rattle.pick_definitions.specs.Held.{Segments};
-ghost use Rattle.sector_definitions.specs.Directories.{directory_fits};
+ghost use Rattle.disk_definitions.specs.Held.{Segments};
+ghost use Rattle.disk_definitions.specs.Directories.{directory_fits};
 ghost use Rattle.disk_definitions.specs.Store.{stored, entered};
-ghost use Rattle.plan_definitions.specs.LookPlans.{entries_of, listing};
+ghost use Rattle.disk_definitions.specs.LookPlans.{entries_of, listing};
 ghost use Rattle.dir_lookup.specs.Stored.{IsProper, entries_at};
 ghost use Rattle.plan_steps.specs.Looking.{Looks, UnlessNoMemory};
 ghost use Rattle.op_look.specs.Looks.{ListsNames, with_name, with_place};
@@ -12,11 +12,11 @@ ghost use Rattle.std.specs.Map.{keys_of};
 ghost use Rattle.frang_base.specs.declared.limits.TheConstants.{INODE_BLOCKS_MAX};
 
 use dir_lookup::{Looked, entry_at, name_of, part_at};
+use disk_definitions::{DirEntry, DirSector, Inode};
 use frang_base::limits::{SECTOR_ENTRIES, SMALL_BLOCK_SECTORS};
 use frang_base::{Name, NameList, NoMemory};
 use meta_version::Sectors;
 use plan_steps::Stop;
-use sector_definitions::{DirEntry, DirSector, Inode};
 use std::alloc::Global;
 use std::collections::BTreeMap;
 

@@ -1,10 +1,10 @@
 // The plan of a look.
 ghost use Rattle.std.specs.Prelude.{◌≡◌, ◌≤◌, ◌<◌, ◌^◌, Bool, ℕ, IfOk, [], if◌then◌else◌, take, ◌==◌};
-ghost use Rattle.pick_definitions.specs.Held.{Segments};
+ghost use Rattle.disk_definitions.specs.Held.{Segments};
 ghost use Rattle.disk_definitions.specs.Store.{stored};
-ghost use Rattle.plan_definitions.specs.LookPlans.{described, plan_described, plan_listed, plan_target, plan_timed, timed};
-ghost use Rattle.plan_definitions.specs.Plans.{Hand};
-ghost use Rattle.plan_definitions.specs.PlanOf.{plan_of};
+ghost use Rattle.disk_definitions.specs.LookPlans.{described, plan_described, plan_listed, plan_target, plan_timed, timed};
+ghost use Rattle.disk_definitions.specs.Plans.{Hand};
+ghost use Rattle.disk_definitions.specs.PlanOf.{plan_of};
 ghost use Rattle.dir_lookup.specs.Planned.{planned};
 ghost use Rattle.dir_lookup.specs.Reading.{reading};
 ghost use Rattle.dir_lookup.specs.Stored.{IsUsed};
@@ -15,11 +15,11 @@ ghost use Rattle.op_look.specs.Looks.{IsLook, says};
 
 use crate::names::names_in;
 use dir_lookup::Looked;
+use disk_definitions::Inode;
 use frang_base::limits::{KIND_DIRECTORY, KIND_FILE, KIND_LINK, RUN_TICKS_END};
 use frang_base::{Changes, NoMemory, Op, Path, Reply, Text};
 use meta_version::{ByteWrites, Plan, SectorList, Sectors};
 use plan_steps::{Stop, inode_of, target_of};
-use sector_definitions::Inode;
 use std::alloc::Global;
 
 /// The plan of an operation that only looks: stat, list, readlink or time. It is done with the reply, and changes nothing; or a sector is

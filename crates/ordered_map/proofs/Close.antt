@@ -1,9 +1,9 @@
 -- Neighbouring chunks that hold many entries together: how edits keep them so, and how many entries they then hold at least.
-use Rattle.std.proofs.Common.{◌≡◌, ℕ, zero, suc, ◌+◌, ◌-◌, ◌*◌, ◌<◌, ◌≤◌, ◌≢◌, List, [], ◌∷◌, ◌++◌, length, get_or, set, take, drop, refl, sym, ap, ◌∙◌, subst, arith, add-one, length-append}
+use Rattle.std.proofs.Common.{◌≡◌, ℕ, zero, suc, ◌+◌, ◌-◌, ◌<◌, ◌≤◌, ◌≢◌, List, [], ◌∷◌, ◌++◌, length, set, take, drop, refl, sym, ap, ◌∙◌, subst, arith, add-one, length-append}
 use Rattle.std.specs.List.{insert, remove}
 use Rattle.std.proofs.lemmas.List.{append_assoc, length-set, take-take, take-set, drop-set-lt, get_or-set_same, get_or-set_other}
 use Rattle.std.proofs.lemmas.List.Edits.{length-insert, length-remove}
-use Rattle.ordered_map.specs.declared.chunk.TheConstants.{CHUNK, HALF, QUARTER}
+use Rattle.ordered_map.specs.declared.chunk.TheConstants.{CHUNK, HALF}
 use Rattle.ordered_map.specs.Chunks.{joined, chunk_at, capacity, AreFilled, AreClose, IsCloseBut}
 use Rattle.ordered_map.proofs.Flat.{joined-append, filled-append, filled-take, filled-drop, filled-at, filled_set}
 

@@ -1,6 +1,6 @@
 -- What is found at a key's place, and at the first place from there on.
-use Rattle.std.proofs.Common.{◌≡◌, ℕ, zero, suc, ◌+◌, ◌-◌, ◌<◌, ◌≤◌, Bool, true, false, if◌then◌else◌, List, [], ◌∷◌, ◌++◌, length, get_or, take, drop, Option, Some, None, unwrap_or, Result, Ok, Err, refl, sym, ap, ◌∙◌, subst, arith}
-use Rattle.std.specs.List.{slice_get, find}
+use Rattle.std.proofs.Common.{◌≡◌, ℕ, zero, suc, ◌+◌, ◌-◌, ◌<◌, ◌≤◌, false, if◌then◌else◌, List, [], ◌∷◌, ◌++◌, length, get_or, take, drop, Some, None, unwrap_or, Result, Ok, Err, refl, sym, ap, ◌∙◌, subst, arith}
+use Rattle.std.specs.List.{slice_get}
 use Rattle.std.specs.List.Sorted.{IsStrictlySortedBy}
 use Rattle.std.specs.Map.{lookup, keys_of}
 use Rattle.std.specs.BTreeMap.{is_at}
@@ -12,8 +12,8 @@ use Rattle.std.proofs.lemmas.Bool.{false≢true}
 use Rattle.std.proofs.lemmas.List.{drop_more}
 use Rattle.sorted_entries.specs.Places.{further, place_of}
 use Rattle.ordered_map.specs.Chunks.{joined, chunk_at, flat, shifted, at_of, ends_below, AreFilled, AreBelow, IsLocated, IsChunkOf, IsKeyAt}
-use Rattle.ordered_map.specs.Entries.{first_from, room_for}
-use Rattle.ordered_map.proofs.Spots.{by_answer, place_found, place_missed, absent, lies_at, IsPlace, IsGap}
+use Rattle.ordered_map.specs.Entries.{first_from}
+use Rattle.ordered_map.proofs.Spots.{place_found, place_missed, absent, lies_at, IsPlace, IsGap}
 use Rattle.ordered_map.proofs.Flat.{whole, get_within}
 use Rattle.ordered_map.proofs.Search.{placed, sorted_chunk}
 

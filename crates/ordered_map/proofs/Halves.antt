@@ -1,7 +1,7 @@
 -- What a split of a chunk leaves: the same entries at the same places, chunks that are filled, close to one another.
-use Rattle.std.proofs.Common.{◌≡◌, ℕ, zero, suc, ◌+◌, ◌-◌, ◌<◌, ◌≤◌, List, [], ◌∷◌, ◌++◌, length, get_or, set, take, drop, append_assoc, refl, sym, ap, ◌∙◌, subst, arith, add-one, length-append}
+use Rattle.std.proofs.Common.{◌≡◌, ℕ, suc, ◌+◌, ◌-◌, ◌<◌, ◌≤◌, List, [], ◌∷◌, ◌++◌, length, set, take, drop, append_assoc, sym, ap, ◌∙◌, subst, arith, length-append}
 use Rattle.std.specs.List.{insert}
-use Rattle.std.proofs.lemmas.List.{take-append-drop, take_at, get_or_at, length-take, length-take-le, length-drop}
+use Rattle.std.proofs.lemmas.List.{take-append-drop, take_at, get_or_at, length-take-le, length-drop}
 use Rattle.ordered_map.specs.declared.chunk.TheConstants.{CHUNK, HALF}
 use Rattle.ordered_map.specs.Chunks.{joined, chunk_at, flat, AreFilled, AreClose}
 use Rattle.ordered_map.proofs.Flat.{parts, whole, joined-append, filled-append, filled-take, filled-drop, split_chunks}

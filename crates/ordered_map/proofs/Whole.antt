@@ -1,5 +1,5 @@
 -- What an edit at a key's place makes of a map: the entries that the contracts say, and chunks that are as they should be.
-use Rattle.std.proofs.Common.{◌≡◌, ℕ, zero, suc, ◌+◌, ◌-◌, ◌*◌, ◌<◌, ◌≤◌, if◌then◌else◌, List, [], ◌∷◌, ◌++◌, length, get_or, set, Some, None, is_some, Option, Result, Ok, Err, refl, sym, ap, ◌∙◌, subst, arith}
+use Rattle.std.proofs.Common.{◌≡◌, ℕ, zero, suc, ◌+◌, ◌-◌, ◌*◌, ◌<◌, ◌≤◌, if◌then◌else◌, List, [], ◌∷◌, length, set, Some, None, is_some, Ok, refl, sym, ap, ◌∙◌, subst, arith}
 use Rattle.std.specs.List.{insert, remove}
 use Rattle.std.specs.List.Sorted.{IsStrictlySortedBy}
 use Rattle.std.specs.Map.{lookup, remove_entry, keys_of}
@@ -9,13 +9,13 @@ use Rattle.std.specs.declared.cmp.Ordering.{Ordering}
 use Rattle.std.proofs.lemmas.List.{length-set}
 use Rattle.std.proofs.lemmas.List.Edits.{length-insert, length-remove}
 use Rattle.sorted_entries.proofs.Sorted.{sorted-insert_entry, sorted-remove_entry}
-use Rattle.ordered_map.specs.declared.chunk.TheConstants.{CHUNK, QUARTER}
+use Rattle.ordered_map.specs.declared.chunk.TheConstants.{QUARTER}
 use Rattle.ordered_map.specs.Chunks.{joined, chunk_at, flat, overwritten, capacity, AreFilled, AreClose, IsChunked, IsLocated}
 use Rattle.ordered_map.specs.Entries.{room_for}
-use Rattle.ordered_map.proofs.Spots.{IsPlace, IsGap, place_found, nothing_removed}
+use Rattle.ordered_map.proofs.Spots.{IsPlace, IsGap}
 use Rattle.ordered_map.proofs.Flat.{filled-at, filled_set, overwrite_flat}
 use Rattle.ordered_map.proofs.Close.{close_more}
-use Rattle.ordered_map.proofs.Found.{place_at, gap_at, within_ok}
+use Rattle.ordered_map.proofs.Found.{place_at, within_ok}
 
 pub length-overwritten : {K V : Type 0} (entries : List (K × V)) (i : ℕ) (value : V) → length (overwritten entries i value) ≡ length entries
 length-overwritten [] i value = refl

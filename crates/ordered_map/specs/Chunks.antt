@@ -49,6 +49,10 @@ ends_below cmp key (entry ∷ next ∷ entries) = ends_below cmp key (next ∷ e
 abbrev pub EndBelow : {K V : Type 0} → (K → K → Ordering) → K → List (List (K × V)) → ℕ → Type 0
 EndBelow {K} {V} cmp key chunks c = (j : ℕ) (d : List (K × V)) → j < c → ends_below cmp key (slice_index_or chunks j d) ≡ true
 
+-- the chunks from this one on don't end below the key
+abbrev pub Reach : {K V : Type 0} → (K → K → Ordering) → K → List (List (K × V)) → ℕ → Type 0
+Reach {K} {V} cmp key chunks c = (j : ℕ) (d : List (K × V)) → c ≤ j → j < length chunks → ends_below cmp key (slice_index_or chunks j d) ≡ false
+
 -- the last key, where there are entries
 abbrev pub last_key : {K V : Type 0} → List (K × V) → Option K
 last_key [] = None

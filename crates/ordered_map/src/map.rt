@@ -5,7 +5,7 @@ ghost use Rattle.std.specs.List.Sorted.{IsStrictlySortedBy, IsPartitionPoint};
 ghost use Rattle.std.specs.Map.{lookup, remove_entry, keys_of};
 ghost use Rattle.std.specs.BTreeMap.{insert_entry, is_at};
 ghost use Rattle.std.specs.Option.{option_copied, option_map};
-ghost use Rattle.ordered_map.specs.Chunks.{AreFilled, joined, chunk_at, flat, ends_below, AreClose, IsCloseBut, capacity, EndBelow, IsChunkOf, IsLocated};
+ghost use Rattle.ordered_map.specs.Chunks.{AreFilled, joined, chunk_at, flat, ends_below, AreClose, IsCloseBut, capacity, EndBelow, Reach, IsChunkOf, IsLocated};
 ghost use Rattle.ordered_map.specs.Entries.{room_for, first_from};
 
 use crate::chunk::{CHUNK, Chunk, Edit, HALF, QUARTER};
@@ -43,16 +43,14 @@ struct Spot {
 }
 
 /// A place in a map at which a key was found. Where a map of the same keys came about by the same edits, the key lies there too: a search
-/// that is given a place looks there first, then in its chunk and the next few, and only then among all chunks. So a pass over ascending
-/// keys, each looked for from the place of the one before, walks over the chunks once. What a search answers doesn't depend on the place.
+/// that is given a place looks there first, and then goes on from its chunk in steps that double; only a key that lies before that chunk is
+/// searched for among all. So keys that ascend, each looked for from the place of the one before, are found in one pass over the chunks
+/// that never turns back. What a search answers doesn't depend on the place.
 #[derive(Clone, Copy, Debug)]
 pub struct Place {
     chunk: usize,
     at: usize,
 }
-
-// How many chunks a search that is given a place walks over, before it searches all.
-const WALK: usize = 8;
 
 // The first chunk that doesn't end below the key, or as many as there are where all do.
 fn first_reaching<K: Ord + Copy, V>(chunks: &[Chunk<K, V>], key: &K) -> usize
@@ -64,31 +62,99 @@ fn first_reaching<K: Ord + Copy, V>(chunks: &[Chunk<K, V>], key: &K) -> usize
     chunks.partition_point(|chunk| chunk.ends_below(key))
 }
 
-// The same, where the chunks before this one end below the key: it walks on from there past a few that end below it.
+// The chunk ends below the key, and so do all before it; or none from it on does.
+fn is_below<K: Ord + Copy, V>(chunks: &[Chunk<K, V>], key: &K, chunk: usize) -> bool
+    requires inside { chunk < length chunks.now }
+    requires filled { AreFilled chunks.now }
+    requires ordered { IsStrictlySortedBy K.cmp (keys_of (joined chunks.now)) }
+    ensures below { result ≡ true → EndBelow K.cmp key.now chunks.now (chunk + 1) }
+    ensures reach { result ≡ false → Reach K.cmp key.now chunks.now chunk }
+{
+    chunks[chunk].ends_below(key)
+}
+
+// Chunks among which the first is that doesn't end below a key, or which it follows: those before `low` end below, those from `high` on don't.
+#[derive(Clone, Copy)]
+struct Span {
+    low: usize,
+    high: usize,
+}
+
+// Such a span, where the chunks before `from` end below the key. It goes on from there in steps that double.
+fn gallop<K: Ord + Copy, V>(chunks: &[Chunk<K, V>], key: &K, from: usize) -> Span
+    requires inside { from ≤ length chunks.now }
+    requires below { EndBelow K.cmp key.now chunks.now from }
+    requires filled { AreFilled chunks.now }
+    requires ordered { IsStrictlySortedBy K.cmp (keys_of (joined chunks.now)) }
+    ensures order { result.low ≤ result.high }
+    ensures bound { result.high ≤ length chunks.now }
+    ensures low { EndBelow K.cmp key.now chunks.now result.low }
+    ensures high { Reach K.cmp key.now chunks.now result.high }
+{
+    let mut low = from;
+    let mut step = 1;
+    while step <= chunks.len() - low {
+        let next = low + step;
+        if !is_below(chunks, key, next - 1) {
+            return Span {
+                low,
+                high: next - 1,
+            };
+        }
+        low = next;
+        step = step.saturating_mul(2);
+    }
+    Span {
+        low,
+        high: chunks.len(),
+    }
+}
+
+// The first chunk of a span that doesn't end below the key, or its end.
+fn halve<K: Ord + Copy, V>(chunks: &[Chunk<K, V>], key: &K, span: Span) -> usize
+    requires order { span.low ≤ span.high }
+    requires bound { span.high ≤ length chunks.now }
+    requires low { EndBelow K.cmp key.now chunks.now span.low }
+    requires high { Reach K.cmp key.now chunks.now span.high }
+    requires filled { AreFilled chunks.now }
+    requires ordered { IsStrictlySortedBy K.cmp (keys_of (joined chunks.now)) }
+    ensures bound { result ≤ length chunks.now }
+    ensures point { IsPartitionPoint (λ chunk. ends_below K.cmp key.now chunk ≡ true) (λ chunk. ends_below K.cmp key.now chunk ≡ false) chunks.now result }
+{
+    let mut low = span.low;
+    let mut high = span.high;
+    while low < high {
+        let middle = low + (high - low) / 2;
+        if is_below(chunks, key, middle) {
+            low = middle + 1;
+        } else {
+            high = middle;
+        }
+    }
+    low
+}
+
+// The first chunk that doesn't end below the key, where those before `from` do: it goes on from there, and never looks at one before.
 fn walk_on<K: Ord + Copy, V>(chunks: &[Chunk<K, V>], key: &K, from: usize) -> usize
+    requires inside { from ≤ length chunks.now }
     requires below { EndBelow K.cmp key.now chunks.now from }
     requires filled { AreFilled chunks.now }
     requires ordered { IsStrictlySortedBy K.cmp (keys_of (joined chunks.now)) }
     ensures bound { result ≤ length chunks.now }
     ensures point { IsPartitionPoint (λ chunk. ends_below K.cmp key.now chunk ≡ true) (λ chunk. ends_below K.cmp key.now chunk ≡ false) chunks.now result }
 {
-    let end = chunks.len().min(from.saturating_add(WALK));
-    for chunk in from..end {
-        if !chunks[chunk].ends_below(key) {
-            return chunk;
-        }
-    }
-    first_reaching(chunks, key)
+    halve(chunks, key, gallop(chunks, key, from))
 }
 
 // There is such a chunk, and those before it end below the key.
 fn is_behind<K: Ord + Copy, V>(chunks: &[Chunk<K, V>], key: &K, chunk: usize) -> bool
     requires filled { AreFilled chunks.now }
     requires ordered { IsStrictlySortedBy K.cmp (keys_of (joined chunks.now)) }
-    ensures { result ≡ true → EndBelow K.cmp key.now chunks.now chunk }
+    ensures inside { result ≡ true → chunk < length chunks.now }
+    ensures below { result ≡ true → EndBelow K.cmp key.now chunks.now chunk }
 {
     if chunk < chunks.len() {
-        chunk == 0 || chunks[chunk - 1].ends_below(key)
+        chunk == 0 || is_below(chunks, key, chunk - 1)
     } else {
         false
     }

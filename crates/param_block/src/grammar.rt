@@ -1,9 +1,9 @@
 // Which parameters a disk may have.
 ghost use Rattle.std.specs.Prelude.{◌≡◌};
-ghost use Rattle.sector_definitions.specs.Params.{param_fits};
+ghost use Rattle.disk_definitions.specs.Params.{param_fits};
 
+use disk_definitions::{FORMAT_NEWEST, Param};
 use frang_base::limits::SEGMENTS_MAX;
-use sector_definitions::{FORMAT_NEWEST, Param};
 
 /// Whether the parameters are in the grammar: of a format that is read, with 1 to the most segments, and in a run from the first on.
 pub(crate) fn fits(value: &Param) -> bool

@@ -1,7 +1,7 @@
 // Laws of parameters and their sector.
 ghost use Rattle.std.specs.Prelude.{◌≡◌, List, ℕ, Some, IsTrue};
-ghost use Rattle.sector_definitions.specs.declared.param.Param.{Param};
-ghost use Rattle.sector_definitions.specs.Params.{param_bytes, param_fits, param_in, IsParamSector};
+ghost use Rattle.disk_definitions.specs.declared.param.Param.{Param};
+ghost use Rattle.disk_definitions.specs.Params.{param_bytes, param_fits, param_in, IsParamSector};
 
 /// What was written of parameters reads back, a block is the sector of what it is read as, what a block is the sector of it is read as, and
 /// no block is the sector of two.

@@ -8,7 +8,7 @@ mod laws;
 mod reading;
 mod writing;
 
+pub use disk_definitions::Param;
 pub use laws::what_is_written_reads_back;
 pub use reading::decode;
-pub use sector_definitions::Param;
 pub use writing::encode;

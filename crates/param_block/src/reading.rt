@@ -1,12 +1,12 @@
 // Parameters from the bytes of their sector.
 ghost use Rattle.std.specs.Prelude.{◌≡◌};
-ghost use Rattle.sector_definitions.specs.Params.{param_fields, param_in};
+ghost use Rattle.disk_definitions.specs.Params.{param_fields, param_in};
 
 use crate::grammar::fits;
 use crate::writing::block_of;
 use byteorder::{ByteOrder, LittleEndian};
+use disk_definitions::Param;
 use frang_base::Block;
-use sector_definitions::Param;
 
 /// The parameters whose sector the block is. `None` exactly where the block isn't the sector of parameters that fit.
 pub fn decode(from: &Block) -> Option<Param>

@@ -1,11 +1,11 @@
 // Parameters as the bytes of their sector.
 ghost use Rattle.std.specs.Prelude.{◌≡◌, IsTrue};
-ghost use Rattle.sector_definitions.specs.Params.{param_bytes, param_fits};
+ghost use Rattle.disk_definitions.specs.Params.{param_bytes, param_fits};
 
 use byteorder::{ByteOrder, LittleEndian};
+use disk_definitions::Param;
 use frang_base::Block;
 use frang_base::limits::SECTOR_BYTES;
-use sector_definitions::Param;
 
 /// The first bytes of the sector.
 const MARK: [u8; 8] = *b"FRANGPAR";

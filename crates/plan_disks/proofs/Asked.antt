@@ -2,7 +2,7 @@
 use Rattle.std.proofs.Common.{◌≡◌, ◌&&◌, ℕ, Bool, true, false, List, [], ◌∷◌, refl}
 use Rattle.std.specs.List.{list_all}
 use Rattle.frang_base.specs.Name.{is_name}
-use Rattle.plan_definitions.specs.Allowed.{AreNames}
+use Rattle.disk_definitions.specs.Allowed.{AreNames}
 
 pub all_names : (names : List (List ℕ)) → list_all is_name names ≡ true → AreNames names
 all_names [] e = tt

@@ -9,7 +9,7 @@ use Rattle.std.proofs.lemmas.Map.Views.{Contains-keys_from_lookup, All-keys-inse
 use Rattle.frang_base.specs.declared.limits.TheConstants.{SEGMENTS_MAX}
 use Rattle.frang_base.specs.declared.bitmap.Bitmap.{Bitmap}
 use Rattle.std.proofs.lemmas.Bool.Decides.{nat_tests}
-use Rattle.pick_definitions.specs.Held.{Segments, AreSegments}
+use Rattle.disk_definitions.specs.Held.{Segments, AreSegments}
 
 abbrev pub AreLow : Segments → Type 0
 AreLow held = All (λ k. k < SEGMENTS_MAX) (keys_of held)

@@ -1,10 +1,10 @@
 // Edits in words, and how plans end.
 use crate::digits::digits;
 use crate::replies::reply_told;
+use disk_definitions::{DirEntry, Inode};
 use frang_base::NoMemory;
 use frang_base::limits::RUN_TICKS_END;
 use plan_steps::{Edit, Outcome, Stop};
-use sector_definitions::{DirEntry, Inode};
 use std::alloc::Global;
 
 /// How a plan ends: its reply with its edits, or what stops it. Its one refusal is want of memory.

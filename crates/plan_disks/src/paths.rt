@@ -2,7 +2,7 @@
 ghost use Rattle.std.specs.Prelude.{◌≡◌, IfOk};
 ghost use Rattle.std.specs.List.{list_all};
 ghost use Rattle.frang_base.specs.Name.{is_name, is_target_byte};
-ghost use Rattle.plan_definitions.specs.Allowed.{AreNames, IsTarget};
+ghost use Rattle.disk_definitions.specs.Allowed.{AreNames, IsTarget};
 
 use frang_base::limits::TARGET_BYTES_MAX;
 use frang_base::{Name, NoMemory, Path, Text, parse_path};

@@ -1,5 +1,5 @@
 // Plans in words: the reply with the changes, the bytes and the freed sectors that make it.
-ghost use Rattle.pick_definitions.specs.Held.{AreSegments};
+ghost use Rattle.disk_definitions.specs.Held.{AreSegments};
 
 use crate::digits::digits;
 use crate::replies::reply_told;

@@ -1,6 +1,6 @@
 // Held segments of the bitmap.
 ghost use Rattle.std.specs.Prelude.{IfOk};
-ghost use Rattle.pick_definitions.specs.Held.{AreSegments};
+ghost use Rattle.disk_definitions.specs.Held.{AreSegments};
 
 use crate::disks::{Piece, lay};
 use frang_base::limits::SEGMENTS_MAX;

@@ -8,17 +8,17 @@ use Rattle.tree_definitions.specs.Place.{place}
 use Rattle.tree_laws.proofs.Keeping.{names_nodes}
 use Rattle.disk_definitions.specs.Store.{Store, StoredNode}
 use Rattle.disk_definitions.specs.Naming.{Naming, kind_of}
-use Rattle.store_changes.proofs.Kept.{inode_is}
-use Rattle.plan_definitions.specs.Ask.{Ask, run}
-use Rattle.plan_definitions.specs.Walks.{walk, at_spot, at_target}
-use Rattle.plan_definitions.specs.Plans.{Hand, Plan, refused}
-use Rattle.plan_definitions.specs.FilePlans.{at_file, with_file, plan_of_file}
-use Rattle.plan_definitions.specs.Meets.{IsOfTree}
+use Rattle.disk_definitions.proofs.Kept.{inode_is}
+use Rattle.disk_definitions.specs.Ask.{Ask, run}
+use Rattle.disk_definitions.specs.Walks.{walk, at_spot, at_target}
+use Rattle.disk_definitions.specs.Plans.{Hand, Plan, refused}
+use Rattle.disk_definitions.specs.FilePlans.{at_file, with_file, plan_of_file}
+use Rattle.disk_definitions.specs.Meets.{IsOfTree}
 use Rattle.plan_laws.proofs.Asking.{run-bind}
 use Rattle.plan_laws.proofs.Cases.{inode_by, by_spot}
 use Rattle.plan_laws.proofs.Walking.{walks_lead}
-use Rattle.plan_definitions.specs.FitEdits.{IsFitNode}
-use Rattle.plan_definitions.specs.FitPlans.{IsFitStore}
+use Rattle.disk_definitions.specs.FitEdits.{IsFitNode}
+use Rattle.disk_definitions.specs.FitPlans.{IsFitStore}
 use Rattle.plan_fit.proofs.Refused.{Fits, refuse_fits}
 use Rattle.plan_fit.proofs.Owning.{OwnsBlocks, owns}
 

@@ -6,13 +6,13 @@ use Rattle.frang_base.specs.declared.reply.Reply.TheVariants as reply
 use Rattle.tree_definitions.specs.declared.node.Node.TheVariants.{Dir, File, Link}
 use Rattle.sector_bytes.specs.Sectors.{Sectors}
 use Rattle.disk_definitions.specs.Store.{Store, store_of}
-use Rattle.plan_definitions.specs.Ask.{run}
-use Rattle.plan_definitions.specs.Plans.{Hand, Plan, refused}
-use Rattle.plan_definitions.specs.Plans.Plan.{Lacks, Clears, Finishes}
-use Rattle.plan_definitions.specs.FilePlans.{Writing, plan_of_file, at_file, writing, cutting, showing}
-use Rattle.plan_definitions.specs.LookPlans.{at_inode, described, listing, timed}
-use Rattle.plan_definitions.specs.PlanOf.{plan_of}
-use Rattle.plan_definitions.specs.SmallRecords.{PlanIsSmall}
+use Rattle.disk_definitions.specs.Ask.{run}
+use Rattle.disk_definitions.specs.Plans.{Hand, Plan, refused}
+use Rattle.disk_definitions.specs.Plans.Plan.{Lacks, Clears, Finishes}
+use Rattle.disk_definitions.specs.FilePlans.{Writing, plan_of_file, at_file, writing, cutting, showing}
+use Rattle.disk_definitions.specs.LookPlans.{at_inode, described, listing, timed}
+use Rattle.disk_definitions.specs.PlanOf.{plan_of}
+use Rattle.disk_definitions.specs.SmallRecords.{PlanIsSmall}
 use Rattle.plan_fit.specs.SmallPlans.{PlansMakeSmallRecords}
 use Rattle.plan_fit.proofs.Bounds.{small_record}
 use Rattle.plan_fit.proofs.EditBudgets.{node_few}

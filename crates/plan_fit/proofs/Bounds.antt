@@ -12,17 +12,17 @@ use Rattle.byteorder.specs.Endian.{little_bytes}
 use Rattle.frang_base.specs.declared.change.Patch.{Patch}
 use Rattle.frang_base.specs.declared.change.Change.{Change}
 use Rattle.sector_bytes.specs.SectorMaps.{with_value, Ascend}
-use Rattle.log_definitions.specs.Records.{change_bytes}
+use Rattle.disk_definitions.specs.Records.{change_bytes}
 use Rattle.sector_bytes.specs.Patches.{patches_with}
 use Rattle.sector_bytes.specs.Sectors.{Sectors}
 use Rattle.disk_definitions.specs.Standing.{version_at}
 use Rattle.disk_definitions.specs.Store.{store_of}
-use Rattle.store_changes.specs.Edits.{Edit}
-use Rattle.plan_definitions.specs.Written.{edit_sector, all_edited, is_metadata, metadata_sector, with_number, change_by, forced_in, change_of, changes_of}
+use Rattle.disk_definitions.specs.Edits.{Edit}
+use Rattle.disk_definitions.specs.Written.{edit_sector, all_edited, is_metadata, metadata_sector, with_number, change_by, forced_in, change_of, changes_of}
 use Rattle.plan_records.specs.Says.{Says}
-use Rattle.plan_definitions.specs.Ready.{store_after, IsReady}
+use Rattle.disk_definitions.specs.Ready.{store_after, IsReady}
 use Rattle.plan_records.proofs.LaidOver.{by_bool, filter_none, filter_some, named, named_true, named_false, named_ascend, changes}
-use Rattle.plan_definitions.specs.SmallRecords.{IsSmall}
+use Rattle.disk_definitions.specs.SmallRecords.{IsSmall}
 use Rattle.plan_fit.proofs.PatchCosts.{cost, length_change, length_little}
 use Rattle.plan_fit.proofs.Charges.{budget, charge, names, sector_cost}
 use Rattle.plan_fit.proofs.Sums.{total, total_charge}

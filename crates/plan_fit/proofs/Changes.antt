@@ -2,10 +2,10 @@
 use Rattle.std.proofs.Common.{ℕ, suc, ◌<◌, ◌*◌, Bool, true, false, if◌then◌else◌, List, [], ◌∷◌, ◌++◌, length, map, slice_index, arith}
 use Rattle.disk_definitions.specs.Store.{Store, StoredNode, Use}
 use Rattle.disk_definitions.specs.Standing.{IsMetadata}
-use Rattle.store_changes.specs.Edits.{Edit}
-use Rattle.store_changes.specs.Edits.Edit.{SetUse, SetLarge}
-use Rattle.plan_definitions.specs.FilePlans.{file_dated}
-use Rattle.plan_definitions.specs.FitEdits.{IsFitNode, AreFit}
+use Rattle.disk_definitions.specs.Edits.{Edit}
+use Rattle.disk_definitions.specs.Edits.Edit.{SetUse, SetLarge}
+use Rattle.disk_definitions.specs.FilePlans.{file_dated}
+use Rattle.disk_definitions.specs.FitEdits.{IsFitNode, AreFit}
 
 module _ (g : ℕ) (end : Store) where
   pub fit_join : (es fs : List Edit) → AreFit g end es → AreFit g end fs → AreFit g end (es ++ fs)

@@ -2,19 +2,19 @@
 use Rattle.std.proofs.Common.{◌≡◌, ◌≢◌, ℕ, ◌+◌, ◌*◌, ◌/◌, ◌<◌, ◌≤◌, Bool, true, false, ◌||◌, ◌&&◌, ◌==◌, if◌then◌else◌, inl, inr, List, [], ◌∷◌, length, refl, sym, ap, ◌∙◌, subst, arith}
 use Rattle.std.proofs.lemmas.Bool.{cases_eq, or_left, or_right}
 use Rattle.frang_base.proofs.Basics.{of_eq, of_ne, eq_of}
-use Rattle.sector_definitions.specs.declared.region.Region.{Region}
-use Rattle.sector_definitions.specs.declared.region.Region.TheVariants as region
-use Rattle.sector_definitions.specs.Regions.{sector_of, is_in_range}
+use Rattle.disk_definitions.specs.declared.region.Region.{Region}
+use Rattle.disk_definitions.specs.declared.region.Region.TheVariants as region
+use Rattle.disk_definitions.specs.Regions.{sector_of, is_in_range}
 use Rattle.sector_bytes.specs.Patches.{patches_with}
-use Rattle.sector_definitions.proofs.RegionLaws.{region_once}
-use Rattle.sector_definitions.proofs.Readings.{and_l, and_r}
+use Rattle.disk_definitions.proofs.RegionLaws.{region_once}
+use Rattle.disk_definitions.proofs.Readings.{and_l, and_r}
 use Rattle.sector_bytes.specs.Sectors.{Sectors}
 use Rattle.disk_definitions.specs.Store.{Store}
 use Rattle.disk_definitions.specs.Standing.{IsMetadata}
-use Rattle.store_changes.specs.Edits.{Edit, edited}
-use Rattle.store_changes.specs.Edits.Edit.{SetInode, SetBit, SetUse, SetPlace, SetLarge, SetBytes, SetLargeBytes}
-use Rattle.plan_definitions.specs.Written.{edit_sector, edited_sectors, all_edited, is_metadata, dates, forced_in}
-use Rattle.plan_definitions.specs.FitEdits.{IsFitEdit, MeetsUse, AreFit}
+use Rattle.disk_definitions.specs.Edits.{Edit, edited}
+use Rattle.disk_definitions.specs.Edits.Edit.{SetInode, SetBit, SetUse, SetPlace, SetLarge, SetBytes, SetLargeBytes}
+use Rattle.disk_definitions.specs.Written.{edit_sector, edited_sectors, all_edited, is_metadata, dates, forced_in}
+use Rattle.disk_definitions.specs.FitEdits.{IsFitEdit, MeetsUse, AreFit}
 use Rattle.plan_records.specs.Says.{Says}
 use Rattle.plan_records.proofs.Kept.{edit_region, edit_sector_is, edit_in_range, edited_here, edited_else, in_segment, in_small}
 use Rattle.plan_records.proofs.EditLaws.{not_both, fit_place, each}

@@ -3,22 +3,22 @@ use Rattle.std.proofs.Common.{ℕ, ◌≡◌, ◌<◌, ◌≤◌, ◌+◌, ◌-�
 use Rattle.std.proofs.lemmas.Bool.Decides.{nat_tests}
 use Rattle.frang_base.specs.declared.reply.Reply.TheVariants as reply
 use Rattle.tree_definitions.specs.Tree.{small_blocks_of}
-use Rattle.sector_definitions.proofs.Lists.{listed_at, length_listed}
+use Rattle.disk_definitions.proofs.Lists.{listed_at, length_listed}
 use Rattle.disk_definitions.specs.Store.{Store, StoredNode}
 use Rattle.disk_definitions.specs.Store.Use.{Fresh}
 use Rattle.disk_definitions.specs.Standing.{IsMetadata}
-use Rattle.store_changes.specs.Edits.{edited_all}
-use Rattle.store_changes.specs.Edits.Edit.{SetUse, SetLarge}
-use Rattle.plan_definitions.specs.Ask.{Got}
-use Rattle.plan_definitions.specs.Plans.{Hand, refused}
-use Rattle.plan_definitions.specs.Plans.Plan.{Finishes}
-use Rattle.plan_definitions.specs.NamePlans.{finish_over}
-use Rattle.plan_definitions.specs.FilePlans.{resized, file_dated, blocks_between, large_cut, cut_segments, cut_by, cutting}
+use Rattle.disk_definitions.specs.Edits.{edited_all}
+use Rattle.disk_definitions.specs.Edits.Edit.{SetUse, SetLarge}
+use Rattle.disk_definitions.specs.Ask.{Got}
+use Rattle.disk_definitions.specs.Plans.{Hand, refused}
+use Rattle.disk_definitions.specs.Plans.Plan.{Finishes}
+use Rattle.disk_definitions.specs.NamePlans.{finish_over}
+use Rattle.disk_definitions.specs.FilePlans.{resized, file_dated, blocks_between, large_cut, cut_segments, cut_by, cutting}
 use Rattle.plan_laws.proofs.Asking.{run-segments}
-use Rattle.plan_definitions.specs.FitEdits.{IsFitNode}
+use Rattle.disk_definitions.specs.FitEdits.{IsFitNode}
 use Rattle.plan_laws.proofs.Among.{is_among}
 use Rattle.plan_laws.proofs.Setting.{all_set}
-use Rattle.plan_definitions.specs.FitPlans.{IsFitFinish}
+use Rattle.disk_definitions.specs.FitPlans.{IsFitFinish}
 use Rattle.plan_fit.specs.FitFiles.{TruncateFits}
 use Rattle.plan_fit.proofs.Refused.{Fits, refuse_fits}
 use Rattle.plan_fit.proofs.FileNodes.{fit_file, resized_fits}

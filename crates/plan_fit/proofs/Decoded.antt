@@ -3,10 +3,10 @@ use Rattle.std.proofs.Common.{◌≡◌, ℕ, zero, suc, ◌^◌, ◌<◌, Some,
 use Rattle.std.specs.List.{flat_map}
 use Rattle.std.proofs.lemmas.List.{drop-drop}
 use Rattle.byteorder.specs.Endian.{little_number, little_bytes}
-use Rattle.sector_definitions.specs.declared.inode.Inode.{Inode}
+use Rattle.disk_definitions.specs.declared.inode.Inode.{Inode}
 use Rattle.sector_bytes.specs.Bytes.{zeros}
-use Rattle.sector_definitions.specs.Inodes.{inode_bytes, inode_fits, inode_fields, inode_in, numbers_in}
-use Rattle.sector_definitions.proofs.InodeLaws.{large_and_target, behind_birth, behind_small}
+use Rattle.disk_definitions.specs.Inodes.{inode_bytes, inode_fits, inode_fields, inode_in, numbers_in}
+use Rattle.disk_definitions.proofs.InodeLaws.{large_and_target, behind_birth, behind_small}
 use Rattle.plan_records.proofs.Grammar.{fits_back, fits_eight, fields_read, inode_is}
 
 pub record IsDecoded (x : Inode) : Type 0 where

@@ -3,16 +3,16 @@ use Rattle.std.proofs.Common.{◌≡◌, ℕ, zero, suc, ◌*◌, ◌/◌, ◌%�
 use Rattle.std.specs.List.{list_all, slice_get}
 use Rattle.std.proofs.lemmas.Bool.{and_parts, or_cases, both_ways}
 use Rattle.frang_base.specs.Name.{is_name}
-use Rattle.sector_definitions.specs.declared.directory.DirEntry.{DirEntry}
-use Rattle.sector_definitions.specs.declared.directory.DirSector.{DirSector}
-use Rattle.sector_definitions.specs.declared.region.Region.TheVariants as region
-use Rattle.sector_definitions.specs.Regions.{sector_of}
-use Rattle.sector_definitions.specs.Inodes.{inode_in}
-use Rattle.sector_definitions.specs.Directories.{name_in, is_free_place, is_used_place, entry_fits, directory_in}
-use Rattle.sector_definitions.proofs.DirectoryLaws.{IsStorableEntry, AreStorable, directory_read}
-use Rattle.sector_definitions.proofs.Readings.{and_l, and_r}
+use Rattle.disk_definitions.specs.declared.directory.DirEntry.{DirEntry}
+use Rattle.disk_definitions.specs.declared.directory.DirSector.{DirSector}
+use Rattle.disk_definitions.specs.declared.region.Region.TheVariants as region
+use Rattle.disk_definitions.specs.Regions.{sector_of}
+use Rattle.disk_definitions.specs.Inodes.{inode_in}
+use Rattle.disk_definitions.specs.Directories.{name_in, is_free_place, is_used_place, entry_fits, directory_in}
+use Rattle.disk_definitions.proofs.DirectoryLaws.{IsStorableEntry, AreStorable, directory_read}
+use Rattle.disk_definitions.proofs.Readings.{and_l, and_r}
 use Rattle.disk_definitions.specs.Store.{StoredNode, StoredEntry, stored_node, stored_entry, entry_in, directory_at, entered}
-use Rattle.plan_definitions.specs.FitEdits.{IsFitNode, IsFitEntry}
+use Rattle.disk_definitions.specs.FitEdits.{IsFitNode, IsFitEntry}
 use Rattle.plan_records.proofs.Grammar.{directory_storable}
 use Rattle.plan_fit.specs.FitDisks.{DisksAreFit}
 use Rattle.plan_fit.proofs.DecodedNodes.{stored_fit}

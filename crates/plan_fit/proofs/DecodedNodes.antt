@@ -2,15 +2,15 @@
 use Rattle.std.proofs.Common.{◌≡◌, ℕ, zero, suc, ◌-◌, ◌≤◌, ⊎_elim, Bool, true, false, ◌||◌, ◌==◌, nat_le, nat_eq, cond, Option, Some, None, List, [], ◌∷◌, ◌++◌, length, take, drop, slice_index, refl, sym, ap, ◌∙◌, subst, arith, eqb-true, leb-true, length-drop}
 use Rattle.std.proofs.lemmas.Bool.{and_parts, or_cases, both_ways}
 use Rattle.std.proofs.lemmas.List.{take-append-drop, length-take-le}
-use Rattle.sector_definitions.specs.declared.inode.Inode.{Inode}
+use Rattle.disk_definitions.specs.declared.inode.Inode.{Inode}
 use Rattle.sector_bytes.specs.Bytes.{zeros, are_zero}
-use Rattle.sector_definitions.specs.Inodes.{inode_in, inode_fits, is_free_inode, is_file_inode, is_directory_inode, is_link_inode}
-use Rattle.sector_definitions.proofs.InodeLaws.{same_fields, inode_read}
-use Rattle.sector_definitions.proofs.Readings.{and_l, and_r}
-use Rattle.sector_definitions.proofs.Lists.{all_numbers}
+use Rattle.disk_definitions.specs.Inodes.{inode_in, inode_fits, is_free_inode, is_file_inode, is_directory_inode, is_link_inode}
+use Rattle.disk_definitions.proofs.InodeLaws.{same_fields, inode_read}
+use Rattle.disk_definitions.proofs.Readings.{and_l, and_r}
+use Rattle.disk_definitions.proofs.Lists.{all_numbers}
 use Rattle.disk_definitions.specs.Store.{StoredNode, stored_node, stored}
-use Rattle.plan_definitions.specs.Written.{padded, inode_with}
-use Rattle.plan_definitions.specs.FitEdits.{IsFitNode}
+use Rattle.disk_definitions.specs.Written.{padded, inode_with}
+use Rattle.disk_definitions.specs.FitEdits.{IsFitNode}
 use Rattle.plan_fit.proofs.Decoded.{IsDecoded, decoded}
 
 -- ---- small blocks and targets

@@ -2,15 +2,15 @@
 use Rattle.std.proofs.Common.{◌≡◌, ℕ, ◌*◌, ◌^◌, ◌<◌, ◌≤◌, ⊎_elim, true, false, nat_le, Some, [], refl, arith, leb-true}
 use Rattle.std.proofs.lemmas.Bool.{or_cases}
 use Rattle.std.proofs.lemmas.Bool.Decides.{nat_tests}
-use Rattle.sector_definitions.specs.declared.inode.Inode.{Inode}
+use Rattle.disk_definitions.specs.declared.inode.Inode.{Inode}
 use Rattle.sector_bytes.specs.Bytes.{zeros, are_zero}
-use Rattle.sector_definitions.specs.Inodes.{is_directory_inode, is_link_inode}
-use Rattle.sector_definitions.proofs.Readings.{and_l, and_r}
-use Rattle.sector_definitions.proofs.Lists.{ends_at}
-use Rattle.sector_definitions.proofs.WrittenFields.{zeros_are_zero}
+use Rattle.disk_definitions.specs.Inodes.{is_directory_inode, is_link_inode}
+use Rattle.disk_definitions.proofs.Readings.{and_l, and_r}
+use Rattle.disk_definitions.proofs.Lists.{ends_at}
+use Rattle.disk_definitions.proofs.WrittenFields.{zeros_are_zero}
 use Rattle.disk_definitions.specs.Store.{StoredNode}
-use Rattle.plan_definitions.specs.Written.{inode_with}
-use Rattle.plan_definitions.specs.FitEdits.{IsFitNode}
+use Rattle.disk_definitions.specs.Written.{inode_with}
+use Rattle.disk_definitions.specs.FitEdits.{IsFitNode}
 
 -- no bytes of a target
 pub untargeted : are_zero (zeros 384) ≡ true

@@ -2,20 +2,20 @@
 use Rattle.std.proofs.Common.{◌≡◌, ℕ, zero, suc, ◌+◌, ◌-◌, ◌*◌, ◌≤◌, Bool, true, false, ◌||◌, ◌==◌, if◌then◌else◌, Some, None, ⊎_elim, List, [], ◌∷◌, ◌++◌, length, map, refl, ap, ◌∙◌, arith, eqb-true}
 use Rattle.std.proofs.lemmas.Bool.{or_cases}
 use Rattle.frang_base.proofs.Basics.{of_eq}
-use Rattle.sector_definitions.specs.declared.inode.Inode.{Inode}
-use Rattle.sector_definitions.specs.Inodes.{is_free_inode, is_file_inode, is_directory_inode, is_link_inode, inode_fits}
-use Rattle.sector_definitions.proofs.Readings.{and_l, and_r}
+use Rattle.disk_definitions.specs.declared.inode.Inode.{Inode}
+use Rattle.disk_definitions.specs.Inodes.{is_free_inode, is_file_inode, is_directory_inode, is_link_inode, inode_fits}
+use Rattle.disk_definitions.proofs.Readings.{and_l, and_r}
 use Rattle.standing_laws.proofs.Shapes.{file_shape, dir_shape, link_shape}
 use Rattle.tree_definitions.specs.declared.node.Node.{Node}
 use Rattle.disk_definitions.specs.Store.{StoredNode, StoredEntry, Use}
-use Rattle.store_changes.specs.Edits.{Edit}
-use Rattle.store_changes.specs.Edits.Edit.{SetInode, SetBit, SetUse, SetPlace, SetLarge, SetBytes, SetLargeBytes}
-use Rattle.store_changes.specs.Changes.{new_node, take_entry, replace_entry, relink, freed, uses_to, large_gone, drop_node}
-use Rattle.plan_definitions.specs.Written.{inode_with}
-use Rattle.plan_definitions.specs.Plans.{Room, enter}
-use Rattle.plan_definitions.specs.Plans.Room.{Inside, InBlock, NoRoom}
-use Rattle.plan_definitions.specs.NamePlans.{is_last, fewer}
-use Rattle.plan_definitions.specs.FitEdits.{IsFitNode}
+use Rattle.disk_definitions.specs.Edits.{Edit}
+use Rattle.disk_definitions.specs.Edits.Edit.{SetInode, SetBit, SetUse, SetPlace, SetLarge, SetBytes, SetLargeBytes}
+use Rattle.disk_definitions.specs.Changes.{new_node, take_entry, replace_entry, relink, freed, uses_to, large_gone, drop_node}
+use Rattle.disk_definitions.specs.Written.{inode_with}
+use Rattle.disk_definitions.specs.Plans.{Room, enter}
+use Rattle.disk_definitions.specs.Plans.Room.{Inside, InBlock, NoRoom}
+use Rattle.disk_definitions.specs.NamePlans.{is_last, fewer}
+use Rattle.disk_definitions.specs.FitEdits.{IsFitNode}
 use Rattle.plan_fit.proofs.Charges.{sets_inode, sets_later, price, budget}
 use Rattle.plan_fit.proofs.Bounds.{namings, AreSmall}
 

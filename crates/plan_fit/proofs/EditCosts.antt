@@ -4,24 +4,24 @@ use Rattle.std.specs.List.{flat_map}
 use Rattle.std.proofs.Math.ListN.{length-set}
 use Rattle.byteorder.specs.Endian.{little_bytes}
 use Rattle.frang_base.specs.declared.bitmap.Bitmap.{Bitmap}
-use Rattle.sector_definitions.specs.declared.directory.DirEntry.{DirEntry}
-use Rattle.sector_definitions.specs.declared.directory.DirSector.{DirSector}
-use Rattle.sector_definitions.specs.declared.region.Region.TheVariants as region
-use Rattle.sector_definitions.specs.Regions.{sector_of}
+use Rattle.disk_definitions.specs.declared.directory.DirEntry.{DirEntry}
+use Rattle.disk_definitions.specs.declared.directory.DirSector.{DirSector}
+use Rattle.disk_definitions.specs.declared.region.Region.TheVariants as region
+use Rattle.disk_definitions.specs.Regions.{sector_of}
 use Rattle.sector_bytes.specs.Bytes.{zeros}
-use Rattle.sector_definitions.specs.Bitmaps.{large_byte, bitmap_bytes, bitmap_fields, bitmap_in, with_digit}
-use Rattle.sector_definitions.specs.Directories.{entry_bytes, directory_bytes, directory_fields, directory_in}
-use Rattle.sector_definitions.proofs.BitmapLaws.{bitmap_read}
-use Rattle.sector_definitions.proofs.DirectoryLaws.{AreStorable, directory_read, length_of_entry}
-use Rattle.pick_definitions.specs.Taken.{with_inode, with_state, with_large}
+use Rattle.disk_definitions.specs.Bitmaps.{large_byte, bitmap_bytes, bitmap_fields, bitmap_in, with_digit}
+use Rattle.disk_definitions.specs.Directories.{entry_bytes, directory_bytes, directory_fields, directory_in}
+use Rattle.disk_definitions.proofs.BitmapLaws.{bitmap_read}
+use Rattle.disk_definitions.proofs.DirectoryLaws.{AreStorable, directory_read, length_of_entry}
+use Rattle.disk_definitions.specs.Taken.{with_inode, with_state, with_large}
 use Rattle.sector_bytes.specs.Sectors.{Sectors}
 use Rattle.disk_definitions.specs.Store.{Store, StoredEntry, segment_at, directory_at}
 use Rattle.disk_definitions.specs.Standing.{version_at}
-use Rattle.store_changes.specs.Edits.{Edit}
-use Rattle.store_changes.specs.Edits.Edit.{SetInode, SetBit, SetUse, SetPlace, SetLarge, SetBytes, SetLargeBytes}
-use Rattle.store_changes.proofs.Free.{a_some}
-use Rattle.plan_definitions.specs.Written.{state_of, place_with, with_place, edit_sector, edited_block}
-use Rattle.plan_definitions.specs.FitEdits.{IsFitEdit, MeetsUse}
+use Rattle.disk_definitions.specs.Edits.{Edit}
+use Rattle.disk_definitions.specs.Edits.Edit.{SetInode, SetBit, SetUse, SetPlace, SetLarge, SetBytes, SetLargeBytes}
+use Rattle.disk_definitions.proofs.Free.{a_some}
+use Rattle.disk_definitions.specs.Written.{state_of, place_with, with_place, edit_sector, edited_block}
+use Rattle.disk_definitions.specs.FitEdits.{IsFitEdit, MeetsUse}
 use Rattle.plan_records.specs.Says.{Says}
 use Rattle.plan_records.proofs.Grammar.{bitmap_is, directory_is, directory_storable}
 use Rattle.plan_records.proofs.PlaceEdits.{MayEnter, placed_back}

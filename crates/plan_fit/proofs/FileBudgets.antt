@@ -6,22 +6,22 @@ use Rattle.frang_base.specs.declared.reply.Reply.{Reply}
 use Rattle.frang_base.specs.declared.reply.Reply.TheVariants as reply
 use Rattle.tree_definitions.specs.Numbers.{below}
 use Rattle.tree_definitions.specs.Tree.{small_blocks_of}
-use Rattle.sector_definitions.proofs.Lists.{length_below}
-use Rattle.sector_definitions.proofs.InodeLaws.{few_blocks}
+use Rattle.disk_definitions.proofs.Lists.{length_below}
+use Rattle.disk_definitions.proofs.InodeLaws.{few_blocks}
 use Rattle.disk_definitions.specs.Store.{Store, StoredNode, StoredEntry}
 use Rattle.disk_definitions.specs.Store.Use.{Fresh, Bytes}
-use Rattle.store_changes.specs.Edits.{Edit}
-use Rattle.store_changes.specs.Edits.Edit.{SetUse, SetLarge, SetBytes, SetLargeBytes}
-use Rattle.pick_definitions.specs.Picks.{picked_many, picked_large}
-use Rattle.pick_definitions.proofs.ManyLaws.{picks_the_least}
-use Rattle.plan_definitions.specs.Ask.{Ask, Got, ReadInode, ReadBytes, ReadLarge, run, seven}
-use Rattle.plan_definitions.specs.Walks.{Spot, Target, walk, at_spot, at_target}
-use Rattle.plan_definitions.specs.Walks.Spot.{AtRoot, AtName, AtGap, Lost}
-use Rattle.plan_definitions.specs.Plans.{Hand, Plan, refused, read_held}
-use Rattle.plan_definitions.specs.Plans.Plan.{Finishes}
-use Rattle.plan_definitions.specs.NamePlans.{finish_over}
-use Rattle.plan_definitions.specs.FilePlans.{Writing, end_of, keeps_bytes, sectors_met, mixed, directory_blocks, set_sector, read_sector, write_sector, write_sectors, resized, large_taken, file_dated, written_by, writing_in, writing_picked, writing_small, writing_large, writing, blocks_between, large_cut, cut_segments, cut_by, cutting, read_sectors, showing, at_file, with_file}
-use Rattle.plan_definitions.specs.LookPlans.{plan_of_node, with_inode, at_inode, entries_of, read_entries, listing, sorted_names}
+use Rattle.disk_definitions.specs.Edits.{Edit}
+use Rattle.disk_definitions.specs.Edits.Edit.{SetUse, SetLarge, SetBytes, SetLargeBytes}
+use Rattle.disk_definitions.specs.Picks.{picked_many, picked_large}
+use Rattle.disk_definitions.proofs.ManyLaws.{picks_the_least}
+use Rattle.disk_definitions.specs.Ask.{Ask, Got, ReadInode, ReadBytes, ReadLarge, run, seven}
+use Rattle.disk_definitions.specs.Walks.{Spot, Target, walk, at_spot, at_target}
+use Rattle.disk_definitions.specs.Walks.Spot.{AtRoot, AtName, AtGap, Lost}
+use Rattle.disk_definitions.specs.Plans.{Hand, Plan, refused, read_held}
+use Rattle.disk_definitions.specs.Plans.Plan.{Finishes}
+use Rattle.disk_definitions.specs.NamePlans.{finish_over}
+use Rattle.disk_definitions.specs.FilePlans.{Writing, end_of, keeps_bytes, sectors_met, mixed, directory_blocks, set_sector, read_sector, write_sector, write_sectors, resized, large_taken, file_dated, written_by, writing_in, writing_picked, writing_small, writing_large, writing, blocks_between, large_cut, cut_segments, cut_by, cutting, read_sectors, showing, at_file, with_file}
+use Rattle.disk_definitions.specs.LookPlans.{plan_of_node, with_inode, at_inode, entries_of, read_entries, listing, sorted_names}
 use Rattle.plan_laws.proofs.Asking.{run-bind, run-segments}
 use Rattle.plan_fit.proofs.Bounds.{AreSmall}
 use Rattle.plan_fit.proofs.EditBudgets.{AreWithin, small_within, within_join, no_edits, states_within}

@@ -3,16 +3,16 @@ use Rattle.std.proofs.Common.{◌≡◌, ℕ, ◌-◌, ◌^◌, ◌<◌, ◌≤�
 use Rattle.std.proofs.lemmas.Bool.{and_from, or_cases}
 use Rattle.std.proofs.lemmas.Bool.Decides.{nat_tests}
 use Rattle.tree_definitions.specs.Tree.{small_blocks_of}
-use Rattle.sector_definitions.specs.declared.inode.Inode.{Inode}
+use Rattle.disk_definitions.specs.declared.inode.Inode.{Inode}
 use Rattle.sector_bytes.specs.Bytes.{are_zero}
-use Rattle.sector_definitions.specs.Inodes.{inode_fits, ends_blocks, is_free_inode, is_file_inode, is_directory_inode, is_link_inode}
+use Rattle.disk_definitions.specs.Inodes.{inode_fits, ends_blocks, is_free_inode, is_file_inode, is_directory_inode, is_link_inode}
 use Rattle.frang_base.proofs.Basics.{of_le, of_ge}
-use Rattle.sector_definitions.proofs.Readings.{and_l, and_r}
-use Rattle.sector_definitions.proofs.Lists.{ends_at}
+use Rattle.disk_definitions.proofs.Readings.{and_l, and_r}
+use Rattle.disk_definitions.proofs.Lists.{ends_at}
 use Rattle.disk_definitions.specs.Store.{StoredNode}
-use Rattle.plan_definitions.specs.Written.{padded, inode_with}
-use Rattle.plan_definitions.specs.FilePlans.{large_after, resized}
-use Rattle.plan_definitions.specs.FitEdits.{IsFitNode}
+use Rattle.disk_definitions.specs.Written.{padded, inode_with}
+use Rattle.disk_definitions.specs.FilePlans.{large_after, resized}
+use Rattle.disk_definitions.specs.FitEdits.{IsFitNode}
 
 -- ---- what fits of a file
 

@@ -11,23 +11,23 @@ use Rattle.disk_definitions.specs.Store.{Store, StoredNode, StoredEntry}
 use Rattle.disk_definitions.specs.Store.Use.{Entries as OfEntries}
 use Rattle.disk_definitions.specs.Standing.{IsMetadata}
 use Rattle.disk_definitions.specs.Naming.{Naming, first_blocks, place_of}
-use Rattle.pick_definitions.specs.Least.{least}
-use Rattle.pick_definitions.specs.Held.{AreSegments, state_in}
-use Rattle.pick_definitions.specs.Picks.{is_in_state, picked_directory}
-use Rattle.pick_definitions.proofs.PickLaws.{for_a_directory}
-use Rattle.plan_definitions.specs.Ask.{Got, ReadDirectory, run}
-use Rattle.plan_definitions.specs.Walks.{search, is_vacant}
-use Rattle.plan_definitions.specs.Plans.{Hand, Finish, Room, room_at, room_in, read_held, find_room, finish_in, with_block, must_clear}
-use Rattle.plan_definitions.specs.Plans.Plan.{Clears, Finishes}
-use Rattle.plan_definitions.specs.Plans.Room.{Inside, InBlock, NoRoom}
-use Rattle.plan_definitions.specs.Meets.{IsOfTree, IsHandOf, is_directory_use}
+use Rattle.disk_definitions.specs.Least.{least}
+use Rattle.disk_definitions.specs.Held.{AreSegments, state_in}
+use Rattle.disk_definitions.specs.Picks.{is_in_state, picked_directory}
+use Rattle.disk_definitions.proofs.PickLaws.{for_a_directory}
+use Rattle.disk_definitions.specs.Ask.{Got, ReadDirectory, run}
+use Rattle.disk_definitions.specs.Walks.{search, is_vacant}
+use Rattle.disk_definitions.specs.Plans.{Hand, Finish, Room, room_at, room_in, read_held, find_room, finish_in, with_block, must_clear}
+use Rattle.disk_definitions.specs.Plans.Plan.{Clears, Finishes}
+use Rattle.disk_definitions.specs.Plans.Room.{Inside, InBlock, NoRoom}
+use Rattle.disk_definitions.specs.Meets.{IsOfTree, IsHandOf, is_directory_use}
 use Rattle.plan_laws.proofs.Asking.{run-bind, run-segments}
 use Rattle.plan_laws.proofs.Searching.{found_in, run-search}
 use Rattle.plan_laws.proofs.Cases.{inode_by}
 use Rattle.plan_laws.proofs.Picks.{block_some}
 use Rattle.plan_laws.proofs.Places.{free_place, place_some}
-use Rattle.plan_definitions.specs.FitEdits.{IsFitNode}
-use Rattle.plan_definitions.specs.FitPlans.{IsFitStore, IsFitFinish, PlanIsFit}
+use Rattle.disk_definitions.specs.FitEdits.{IsFitNode}
+use Rattle.disk_definitions.specs.FitPlans.{IsFitStore, IsFitFinish, PlanIsFit}
 use Rattle.plan_fit.proofs.Directories.{directory_fits}
 use Rattle.plan_fit.proofs.Uses.{metadata_is}
 use Rattle.plan_fit.proofs.Pieces.{MayEnter}

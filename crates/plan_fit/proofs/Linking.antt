@@ -12,23 +12,23 @@ use Rattle.frang_base.proofs.Basics.{ne_of}
 use Rattle.tree_laws.proofs.Keeping.{names_nodes}
 use Rattle.disk_definitions.specs.Store.{Store, StoredNode, StoredEntry}
 use Rattle.disk_definitions.specs.Naming.{Naming, kind_of, entry_of}
-use Rattle.store_changes.specs.Edits.{edited_all}
-use Rattle.store_changes.specs.Changes.{relink}
-use Rattle.store_changes.proofs.Free.{a_some}
-use Rattle.store_changes.proofs.Kept.{inode_is}
-use Rattle.plan_definitions.specs.Ask.{bind, run}
-use Rattle.plan_definitions.specs.Walks.{AtName, AtGap, walk}
-use Rattle.plan_definitions.specs.Plans.{Hand, Room, enter, find_room, is_full, refused}
-use Rattle.plan_definitions.specs.Plans.Room.{Inside, InBlock, NoRoom}
-use Rattle.plan_definitions.specs.NamePlans.{linked_by, linking_in, linking_node, linking_to, linking}
-use Rattle.plan_definitions.specs.Meets.{IsOfTree, IsHandOf}
+use Rattle.disk_definitions.specs.Edits.{edited_all}
+use Rattle.disk_definitions.specs.Changes.{relink}
+use Rattle.disk_definitions.proofs.Free.{a_some}
+use Rattle.disk_definitions.proofs.Kept.{inode_is}
+use Rattle.disk_definitions.specs.Ask.{bind, run}
+use Rattle.disk_definitions.specs.Walks.{AtName, AtGap, walk}
+use Rattle.disk_definitions.specs.Plans.{Hand, Room, enter, find_room, is_full, refused}
+use Rattle.disk_definitions.specs.Plans.Room.{Inside, InBlock, NoRoom}
+use Rattle.disk_definitions.specs.NamePlans.{linked_by, linking_in, linking_node, linking_to, linking}
+use Rattle.disk_definitions.specs.Meets.{IsOfTree, IsHandOf}
 use Rattle.plan_laws.proofs.Asking.{run-bind}
 use Rattle.plan_laws.proofs.Cases.{inode_by, by_spot}
 use Rattle.plan_laws.proofs.Linking.{kind_are}
 use Rattle.plan_laws.proofs.Walking.{walks_lead}
-use Rattle.plan_definitions.specs.FitEdits.{IsFitEntry}
-use Rattle.plan_definitions.specs.Allowed.{AreNames}
-use Rattle.plan_definitions.specs.FitPlans.{IsFitStore, IsFitFinish, PlanIsFit}
+use Rattle.disk_definitions.specs.FitEdits.{IsFitEntry}
+use Rattle.disk_definitions.specs.Allowed.{AreNames}
+use Rattle.disk_definitions.specs.FitPlans.{IsFitStore, IsFitFinish, PlanIsFit}
 use Rattle.plan_fit.specs.FitNames.{LinkIsFit}
 use Rattle.plan_fit.proofs.Pieces.{fit_join, relink_fits, enter_fits}
 use Rattle.plan_fit.proofs.OnDisk.{kind_known, node_fits}

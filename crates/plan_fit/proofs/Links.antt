@@ -6,18 +6,18 @@ use Rattle.std.proofs.lemmas.List.{take_at}
 use Rattle.std.specs.List.{list_all}
 use Rattle.tree_definitions.specs.declared.node.Node.TheVariants.{Dir, File, Link}
 use Rattle.tree_definitions.specs.Tree.{small_blocks_of}
-use Rattle.sector_definitions.specs.declared.inode.Inode.{Inode}
+use Rattle.disk_definitions.specs.declared.inode.Inode.{Inode}
 use Rattle.sector_bytes.specs.Bytes.{zeros, are_zero}
-use Rattle.sector_definitions.specs.Inodes.{ends_blocks, inode_fits, is_free_inode, is_file_inode, is_directory_inode, is_link_inode}
+use Rattle.disk_definitions.specs.Inodes.{ends_blocks, inode_fits, is_free_inode, is_file_inode, is_directory_inode, is_link_inode}
 use Rattle.frang_base.specs.Name.{is_target_byte}
-use Rattle.sector_definitions.proofs.Readings.{and_l, and_r}
-use Rattle.sector_definitions.proofs.WrittenFields.{zeros_are_zero}
+use Rattle.disk_definitions.proofs.Readings.{and_l, and_r}
+use Rattle.disk_definitions.proofs.WrittenFields.{zeros_are_zero}
 use Rattle.disk_definitions.specs.Store.{StoredNode}
 use Rattle.disk_definitions.specs.Naming.{inode_of, first_blocks}
-use Rattle.plan_definitions.specs.Written.{inode_with}
-use Rattle.plan_definitions.specs.FitEdits.{IsFitNode}
+use Rattle.disk_definitions.specs.Written.{inode_with}
+use Rattle.disk_definitions.specs.FitEdits.{IsFitNode}
 use Rattle.plan_records.proofs.InodeEdits.{free_is}
-use Rattle.plan_definitions.specs.Allowed.{IsTarget}
+use Rattle.disk_definitions.specs.Allowed.{IsTarget}
 use Rattle.plan_fit.proofs.Directories.{untargeted, directory_fits}
 
 file_relinked : (x : Inode) (links : ℕ) → is_file_inode x ≡ true → 1 ≤ links → links ≤ 1000 → is_file_inode (record x { links = links }) ≡ true

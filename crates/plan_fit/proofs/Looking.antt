@@ -2,12 +2,12 @@
 use Rattle.std.proofs.Common.{ℕ, ◌-◌, ◌*◌, ◌/◌, ◌%◌, ◌==◌, Bool, true, false, nat_lt, min, if◌then◌else◌, Option, Some, None, List, [], ◌∷◌, ◌++◌, take, drop, sym, subst}
 use Rattle.frang_base.specs.declared.reply.Reply.TheVariants as reply
 use Rattle.disk_definitions.specs.Store.{Store, StoredNode}
-use Rattle.plan_definitions.specs.Ask.{Ask, ReadInode}
-use Rattle.plan_definitions.specs.Walks.{Target}
-use Rattle.plan_definitions.specs.Plans.{Hand, Plan, refused}
-use Rattle.plan_definitions.specs.FilePlans.{sectors_met, read_sectors, showing, at_file, with_file}
-use Rattle.plan_definitions.specs.LookPlans.{with_inode, at_inode, described, timed, listing, sorted_names}
-use Rattle.plan_definitions.specs.FitPlans.{PlanIsFit}
+use Rattle.disk_definitions.specs.Ask.{Ask, ReadInode}
+use Rattle.disk_definitions.specs.Walks.{Target}
+use Rattle.disk_definitions.specs.Plans.{Hand, Plan, refused}
+use Rattle.disk_definitions.specs.FilePlans.{sectors_met, read_sectors, showing, at_file, with_file}
+use Rattle.disk_definitions.specs.LookPlans.{with_inode, at_inode, described, timed, listing, sorted_names}
+use Rattle.disk_definitions.specs.FitPlans.{PlanIsFit}
 use Rattle.plan_laws.proofs.Bytes.{values, stored_byte, run-sectors}
 use Rattle.plan_laws.proofs.Gathering.{gathered, run-entries}
 use Rattle.plan_fit.specs.FitFiles.{StatFits, ListFits, ReadlinkFits, TimeFits, ReadFits}

@@ -10,22 +10,22 @@ use Rattle.tree_definitions.specs.Tree.{FileTree, node_at}
 use Rattle.tree_definitions.specs.Place.{place}
 use Rattle.disk_definitions.specs.Store.{Store, StoredNode, StoredEntry}
 use Rattle.disk_definitions.specs.Naming.{Naming, inode_of, kind_of}
-use Rattle.pick_definitions.specs.Picks.{picked_inode}
-use Rattle.store_changes.specs.Edits.{edited_all}
-use Rattle.store_changes.specs.Changes.{new_node}
-use Rattle.plan_definitions.specs.Ask.{run}
-use Rattle.plan_definitions.specs.Walks.{AtGap, walk}
-use Rattle.plan_definitions.specs.Plans.{Hand, Room, enter, find_room, is_full, refused, read_held}
-use Rattle.plan_definitions.specs.Plans.Room.{Inside, InBlock, NoRoom}
-use Rattle.plan_definitions.specs.NamePlans.{made_by, making_in, making_with, making, plan_made}
-use Rattle.plan_definitions.specs.Meets.{IsOfTree, IsHandOf}
+use Rattle.disk_definitions.specs.Picks.{picked_inode}
+use Rattle.disk_definitions.specs.Edits.{edited_all}
+use Rattle.disk_definitions.specs.Changes.{new_node}
+use Rattle.disk_definitions.specs.Ask.{run}
+use Rattle.disk_definitions.specs.Walks.{AtGap, walk}
+use Rattle.disk_definitions.specs.Plans.{Hand, Room, enter, find_room, is_full, refused, read_held}
+use Rattle.disk_definitions.specs.Plans.Room.{Inside, InBlock, NoRoom}
+use Rattle.disk_definitions.specs.NamePlans.{made_by, making_in, making_with, making, plan_made}
+use Rattle.disk_definitions.specs.Meets.{IsOfTree, IsHandOf}
 use Rattle.plan_laws.proofs.Asking.{run-bind, run-segments}
 use Rattle.plan_laws.proofs.Cases.{inode_by, by_spot}
 use Rattle.plan_laws.proofs.Picks.{inode_some}
 use Rattle.plan_laws.proofs.Walking.{walks_lead}
-use Rattle.plan_definitions.specs.FitEdits.{IsFitNode, IsFitEntry}
-use Rattle.plan_definitions.specs.Allowed.{AreNames}
-use Rattle.plan_definitions.specs.FitPlans.{IsFitStore, IsFitFinish, PlanIsFit}
+use Rattle.disk_definitions.specs.FitEdits.{IsFitNode, IsFitEntry}
+use Rattle.disk_definitions.specs.Allowed.{AreNames}
+use Rattle.disk_definitions.specs.FitPlans.{IsFitStore, IsFitFinish, PlanIsFit}
 use Rattle.plan_fit.specs.FitNames.{CreateIsFit, MkdirIsFit, SymlinkIsFit}
 use Rattle.plan_fit.proofs.Links.{new_file, new_directory, new_link}
 use Rattle.plan_fit.proofs.Pieces.{fit_join, new_node_fits, enter_fits}

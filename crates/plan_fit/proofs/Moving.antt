@@ -9,22 +9,22 @@ use Rattle.tree_definitions.specs.Tree.{FileTree, node_at}
 use Rattle.tree_laws.proofs.Keeping.{names_nodes}
 use Rattle.disk_definitions.specs.Store.{Store, StoredNode}
 use Rattle.disk_definitions.specs.Naming.{Naming, entry_of}
-use Rattle.store_changes.specs.Edits.{edited_all}
-use Rattle.store_changes.specs.Changes.{take_entry, replace_entry}
-use Rattle.store_changes.proofs.Free.{a_some}
-use Rattle.store_changes.proofs.Kept.{inode_is}
-use Rattle.store_changes.proofs.Puts.{edited_append}
-use Rattle.plan_definitions.specs.Ask.{Got, ReadInode, bind, run}
-use Rattle.plan_definitions.specs.Plans.{Hand, Room, enter, find_room, is_full, refused}
-use Rattle.plan_definitions.specs.Plans.Plan.{Finishes}
-use Rattle.plan_definitions.specs.Plans.Room.{Inside, InBlock, NoRoom}
-use Rattle.plan_definitions.specs.NamePlans.{fewer, fewer_segments, finish_over, Moving, moved_onto_by, replacing_node, moving_onto, moved_within, moved_between, moving_in, moving_to}
-use Rattle.plan_definitions.specs.Meets.{IsOfTree, IsHandOf, is_directory_use}
+use Rattle.disk_definitions.specs.Edits.{edited_all}
+use Rattle.disk_definitions.specs.Changes.{take_entry, replace_entry}
+use Rattle.disk_definitions.proofs.Free.{a_some}
+use Rattle.disk_definitions.proofs.Kept.{inode_is}
+use Rattle.disk_definitions.proofs.Puts.{edited_append}
+use Rattle.disk_definitions.specs.Ask.{Got, ReadInode, bind, run}
+use Rattle.disk_definitions.specs.Plans.{Hand, Room, enter, find_room, is_full, refused}
+use Rattle.disk_definitions.specs.Plans.Plan.{Finishes}
+use Rattle.disk_definitions.specs.Plans.Room.{Inside, InBlock, NoRoom}
+use Rattle.disk_definitions.specs.NamePlans.{fewer, fewer_segments, finish_over, Moving, moved_onto_by, replacing_node, moving_onto, moved_within, moved_between, moving_in, moving_to}
+use Rattle.disk_definitions.specs.Meets.{IsOfTree, IsHandOf, is_directory_use}
 use Rattle.plan_laws.proofs.Asking.{run-bind, run-segments}
 use Rattle.plan_laws.proofs.Cases.{inode_by}
 use Rattle.plan_laws.proofs.MovingOnto.{moving_of}
-use Rattle.plan_definitions.specs.FitEdits.{IsFitEntry, IsFitNode, AreFit}
-use Rattle.plan_definitions.specs.FitPlans.{IsFitStore, IsFitFinish, PlanIsFit}
+use Rattle.disk_definitions.specs.FitEdits.{IsFitEntry, IsFitNode, AreFit}
+use Rattle.disk_definitions.specs.FitPlans.{IsFitStore, IsFitFinish, PlanIsFit}
 use Rattle.plan_fit.proofs.Uses.{metadata_is, is_metadata, KeepsDirectories, keeps_fewer}
 use Rattle.plan_fit.proofs.Pieces.{IsPlaced, fit_join, take_entry_fits, replace_entry_fits, enter_fits, fewer_fits}
 use Rattle.plan_fit.proofs.OnDisk.{freed_alike, node_fits, on_disk, entry_fits, bounds, sized_fits, placed, spot_inside}

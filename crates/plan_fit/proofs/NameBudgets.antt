@@ -6,15 +6,15 @@ use Rattle.frang_base.specs.declared.reply.Reply.TheVariants as reply
 use Rattle.tree_definitions.specs.declared.node.Node.{Node}
 use Rattle.disk_definitions.specs.Store.{Store, StoredNode, StoredEntry}
 use Rattle.disk_definitions.specs.Naming.{kind_of}
-use Rattle.store_changes.specs.Changes.{new_node, take_entry, replace_entry, relink}
-use Rattle.pick_definitions.specs.Picks.{picked_inode}
-use Rattle.plan_definitions.specs.Ask.{Got, ReadInode, ReadDirectory, bind, run}
-use Rattle.plan_definitions.specs.Walks.{Spot, walk}
-use Rattle.plan_definitions.specs.Walks.Spot.{AtRoot, AtName, AtGap, Lost}
-use Rattle.plan_definitions.specs.Plans.{Hand, Plan, Finish, Room, refuse, refused, none_left, read_held, find_room, finish_in, enter, must_clear, is_full, shared_nodes, sole_segments}
-use Rattle.plan_definitions.specs.Plans.Plan.{Lacks, Clears, Finishes}
-use Rattle.plan_definitions.specs.Plans.Room.{Inside, InBlock, NoRoom}
-use Rattle.plan_definitions.specs.NamePlans.{made_by, making_in, making_with, making, plan_made, linked_by, linking_in, linking_node, linking_to, linking, plan_linked, fewer, fewer_segments, finish_over, removed_by, unlinking_node, unlinking, plan_unlinked, removing_node, removing, plan_dir_removed, Moving, renamed_entry, moved_onto_by, replacing_node, moving_onto, moved_within, moved_between, moving_in, moving_to, goes_through, renaming_to, renaming, plan_renamed}
+use Rattle.disk_definitions.specs.Changes.{new_node, take_entry, replace_entry, relink}
+use Rattle.disk_definitions.specs.Picks.{picked_inode}
+use Rattle.disk_definitions.specs.Ask.{Got, ReadInode, ReadDirectory, bind, run}
+use Rattle.disk_definitions.specs.Walks.{Spot, walk}
+use Rattle.disk_definitions.specs.Walks.Spot.{AtRoot, AtName, AtGap, Lost}
+use Rattle.disk_definitions.specs.Plans.{Hand, Plan, Finish, Room, refuse, refused, none_left, read_held, find_room, finish_in, enter, must_clear, is_full, shared_nodes, sole_segments}
+use Rattle.disk_definitions.specs.Plans.Plan.{Lacks, Clears, Finishes}
+use Rattle.disk_definitions.specs.Plans.Room.{Inside, InBlock, NoRoom}
+use Rattle.disk_definitions.specs.NamePlans.{made_by, making_in, making_with, making, plan_made, linked_by, linking_in, linking_node, linking_to, linking, plan_linked, fewer, fewer_segments, finish_over, removed_by, unlinking_node, unlinking, plan_unlinked, removing_node, removing, plan_dir_removed, Moving, renamed_entry, moved_onto_by, replacing_node, moving_onto, moved_within, moved_between, moving_in, moving_to, goes_through, renaming_to, renaming, plan_renamed}
 use Rattle.plan_laws.proofs.Asking.{run-bind, run-segments}
 use Rattle.plan_fit.proofs.Bounds.{AreSmall}
 use Rattle.plan_fit.proofs.EditBudgets.{small_within, within_join, no_edits, new_within, take_within, replace_within, relink_within, enter_within, fewer_within}

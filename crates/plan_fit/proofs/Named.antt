@@ -3,11 +3,11 @@ use Rattle.std.proofs.Common.{◌≡◌, ℕ, ◌*◌, ◌==◌, Bool, true, fal
 use Rattle.frang_base.specs.Name.{is_name}
 use Rattle.frang_base.specs.declared.reply.Reply.TheVariants as reply
 use Rattle.disk_definitions.specs.Store.{Store, StoredNode}
-use Rattle.plan_definitions.specs.Ask.{Ask, Got, ReadInode, run}
-use Rattle.plan_definitions.specs.Walks.{Spot, Walked, Found, search, is_named, spot_by, look_up, in_inode, onward, walk_from, walk}
-use Rattle.plan_definitions.specs.Walks.Spot.{AtRoot, AtName, AtGap, Lost}
+use Rattle.disk_definitions.specs.Ask.{Ask, Got, ReadInode, run}
+use Rattle.disk_definitions.specs.Walks.{Spot, Walked, Found, search, is_named, spot_by, look_up, in_inode, onward, walk_from, walk}
+use Rattle.disk_definitions.specs.Walks.Spot.{AtRoot, AtName, AtGap, Lost}
 use Rattle.plan_laws.proofs.Asking.{run-bind}
-use Rattle.plan_definitions.specs.Allowed.{AreNames}
+use Rattle.disk_definitions.specs.Allowed.{AreNames}
 
 -- its name may be an entry's
 abbrev pub HasName : Spot → Type 0

@@ -11,13 +11,13 @@ use Rattle.frang_base.proofs.Basics.{of_lt, of_ge}
 use Rattle.disk_definitions.specs.Store.{Store}
 use Rattle.disk_definitions.specs.Store.Use.{Fresh, Bytes, Entries as OfEntries}
 use Rattle.disk_definitions.specs.Naming.{Naming, kind_of, blocks_of, has_large, room_in, find_in, first_blocks, use_by, use_for, entry_of}
-use Rattle.store_changes.specs.Changes.{freed}
-use Rattle.store_changes.proofs.Rooms.{which_block}
-use Rattle.store_changes.proofs.Kept.{inode_is}
-use Rattle.plan_definitions.specs.Meets.{IsOfTree, is_directory_use}
+use Rattle.disk_definitions.specs.Changes.{freed}
+use Rattle.disk_definitions.proofs.Rooms.{which_block}
+use Rattle.disk_definitions.proofs.Kept.{inode_is}
+use Rattle.disk_definitions.specs.Meets.{IsOfTree, is_directory_use}
 use Rattle.plan_laws.proofs.Cases.{inode_by}
-use Rattle.plan_definitions.specs.FitEdits.{IsFitNode, IsFitEntry}
-use Rattle.plan_definitions.specs.FitPlans.{IsFitStore}
+use Rattle.disk_definitions.specs.FitEdits.{IsFitNode, IsFitEntry}
+use Rattle.disk_definitions.specs.FitPlans.{IsFitStore}
 use Rattle.plan_fit.proofs.Directories.{directory_bounds, directory_fits}
 use Rattle.plan_fit.proofs.Pieces.{IsPlaced, IsOnDisk}
 

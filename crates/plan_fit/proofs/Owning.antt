@@ -8,7 +8,7 @@ use Rattle.frang_base.proofs.Basics.{of_lt}
 use Rattle.disk_definitions.specs.Store.{Store, StoredNode}
 use Rattle.disk_definitions.specs.Store.Use.{Fresh, Bytes}
 use Rattle.disk_definitions.specs.Naming.{Naming, has_large, use_for}
-use Rattle.plan_definitions.specs.Meets.{IsOfTree}
+use Rattle.disk_definitions.specs.Meets.{IsOfTree}
 use Rattle.plan_laws.proofs.Cases.{inode_by}
 
 pub record OwnsBlocks (segments : ℕ) (s : Store) (x : StoredNode) : Type 0 where

@@ -6,7 +6,7 @@ use Rattle.byteorder.specs.Endian.{little_bytes}
 use Rattle.byteorder.specs.Numbers.{length-bytes_low_first}
 use Rattle.frang_base.specs.declared.change.Patch.{Patch}
 use Rattle.frang_base.specs.declared.change.Change.{Change}
-use Rattle.log_definitions.specs.Records.{patch_bytes, change_bytes}
+use Rattle.disk_definitions.specs.Records.{patch_bytes, change_bytes}
 use Rattle.sector_bytes.specs.Patches.{joined, runs_from, patches_with, are_apart}
 use Rattle.sector_bytes.proofs.PatchLaws.{forced_patches_apart}
 use Rattle.plan_fit.proofs.Differing.{differing, dropped}

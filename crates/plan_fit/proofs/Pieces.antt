@@ -6,14 +6,14 @@ use Rattle.frang_base.specs.Functions.{put}
 use Rattle.frang_base.proofs.Basics.{put_same}
 use Rattle.disk_definitions.specs.Store.{Store, StoredNode, StoredEntry, Use}
 use Rattle.disk_definitions.specs.Naming.{inode_of}
-use Rattle.store_changes.specs.Edits.{Edit}
-use Rattle.store_changes.specs.Edits.Edit.{SetInode, SetBit, SetLarge}
-use Rattle.store_changes.specs.Changes.{new_node, put_entry, take_entry, replace_entry, grow, relink, freed, uses_to, large_gone, drop_node}
-use Rattle.plan_definitions.specs.Plans.{Room, enter, with_block}
-use Rattle.plan_definitions.specs.Plans.Room.{Inside, InBlock, NoRoom}
-use Rattle.plan_definitions.specs.NamePlans.{is_last, fewer}
-use Rattle.plan_definitions.specs.Meets.{is_directory_use}
-use Rattle.plan_definitions.specs.FitEdits.{IsFitNode, IsFitEntry, AreFit}
+use Rattle.disk_definitions.specs.Edits.{Edit}
+use Rattle.disk_definitions.specs.Edits.Edit.{SetInode, SetBit, SetLarge}
+use Rattle.disk_definitions.specs.Changes.{new_node, put_entry, take_entry, replace_entry, grow, relink, freed, uses_to, large_gone, drop_node}
+use Rattle.disk_definitions.specs.Plans.{Room, enter, with_block}
+use Rattle.disk_definitions.specs.Plans.Room.{Inside, InBlock, NoRoom}
+use Rattle.disk_definitions.specs.NamePlans.{is_last, fewer}
+use Rattle.disk_definitions.specs.Meets.{is_directory_use}
+use Rattle.disk_definitions.specs.FitEdits.{IsFitNode, IsFitEntry, AreFit}
 use Rattle.plan_fit.proofs.Links.{links_most, relinked_fits}
 use Rattle.plan_fit.proofs.Uses.{metadata_is}
 

@@ -7,19 +7,19 @@ use Rattle.frang_base.proofs.Basics.{of_lt}
 use Rattle.disk_definitions.specs.Store.{Store, StoredNode}
 use Rattle.disk_definitions.specs.Store.Use.{Bytes}
 use Rattle.disk_definitions.specs.Standing.{IsMetadata}
-use Rattle.store_changes.specs.Edits.{Edit, edited_all}
-use Rattle.store_changes.specs.Edits.Edit.{SetUse, SetLarge, SetBytes, SetLargeBytes}
-use Rattle.store_changes.proofs.Puts.{edited_append}
-use Rattle.plan_definitions.specs.Ask.{Ask, Got}
-use Rattle.plan_definitions.specs.Plans.{Hand, Plan}
-use Rattle.plan_definitions.specs.Plans.Plan.{Finishes}
-use Rattle.plan_definitions.specs.FilePlans.{Writing, end_of, sectors_met, mixed, resized, large_after, large_taken, large_segment, file_dated, written_by, write_sectors, writing_in}
-use Rattle.plan_definitions.specs.FitEdits.{IsFitNode, AreFit}
+use Rattle.disk_definitions.specs.Edits.{Edit, edited_all}
+use Rattle.disk_definitions.specs.Edits.Edit.{SetUse, SetLarge, SetBytes, SetLargeBytes}
+use Rattle.disk_definitions.proofs.Puts.{edited_append}
+use Rattle.disk_definitions.specs.Ask.{Ask, Got}
+use Rattle.disk_definitions.specs.Plans.{Hand, Plan}
+use Rattle.disk_definitions.specs.Plans.Plan.{Finishes}
+use Rattle.disk_definitions.specs.FilePlans.{Writing, end_of, sectors_met, mixed, resized, large_after, large_taken, large_segment, file_dated, written_by, write_sectors, writing_in}
+use Rattle.disk_definitions.specs.FitEdits.{IsFitNode, AreFit}
 use Rattle.plan_laws.proofs.Among.{is_among, among_at, listed}
 use Rattle.plan_laws.proofs.Setting.{IsSet, set_edits, all_set}
 use Rattle.plan_laws.proofs.Sectors.{old_sector, sector_edits, run-writes, bytes_only}
 use Rattle.plan_laws.proofs.Written.{met_some}
-use Rattle.plan_definitions.specs.FitPlans.{PlanIsFit, IsFitFinish}
+use Rattle.disk_definitions.specs.FitPlans.{PlanIsFit, IsFitFinish}
 use Rattle.plan_fit.proofs.Refused.{Fits}
 use Rattle.plan_fit.proofs.FileNodes.{goes_by_size, resized_fits}
 use Rattle.plan_fit.proofs.Changes.{fit_join, uses_fit, dated_fits, no_directory}

@@ -4,14 +4,14 @@ use Rattle.std.specs.Map.{keys_of}
 use Rattle.frang_base.specs.declared.reply.Reply.TheVariants as reply
 use Rattle.frang_base.specs.declared.reply.Reply.{Reply}
 use Rattle.disk_definitions.specs.Store.{Store}
-use Rattle.plan_definitions.specs.Ask.{Ask, Got, run}
-use Rattle.plan_definitions.specs.Walks.{Spot, Target, walk, at_spot, at_target}
-use Rattle.plan_definitions.specs.Walks.Spot.{AtRoot, AtName, AtGap, Lost}
-use Rattle.plan_definitions.specs.Plans.Plan.{Lacks, Finishes}
-use Rattle.plan_definitions.specs.Plans.{Hand, Plan, refused, none_left, shared_nodes, sole_segments}
-use Rattle.plan_definitions.specs.LookPlans.{plan_of_node}
+use Rattle.disk_definitions.specs.Ask.{Ask, Got, run}
+use Rattle.disk_definitions.specs.Walks.{Spot, Target, walk, at_spot, at_target}
+use Rattle.disk_definitions.specs.Walks.Spot.{AtRoot, AtName, AtGap, Lost}
+use Rattle.disk_definitions.specs.Plans.Plan.{Lacks, Finishes}
+use Rattle.disk_definitions.specs.Plans.{Hand, Plan, refused, none_left, shared_nodes, sole_segments}
+use Rattle.disk_definitions.specs.LookPlans.{plan_of_node}
 use Rattle.plan_laws.proofs.Asking.{run-bind}
-use Rattle.plan_definitions.specs.FitPlans.{PlanIsFit}
+use Rattle.disk_definitions.specs.FitPlans.{PlanIsFit}
 
 module _ (h : Hand) (segments : ℕ) (s : Store) where
   abbrev pub Fits : Ask Plan → Type 0

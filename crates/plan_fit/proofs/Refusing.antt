@@ -3,10 +3,10 @@ use Rattle.std.proofs.Common.{ℕ, Bool, true, false, List, [], ◌++◌, inl, i
 use Rattle.std.specs.Map.{keys_of}
 use Rattle.frang_base.specs.declared.reply.Reply.{Reply}
 use Rattle.disk_definitions.specs.Store.{Store}
-use Rattle.plan_definitions.specs.Ask.{Got, run}
-use Rattle.plan_definitions.specs.Plans.{Hand, refuse, none_left, shared_nodes, sole_segments}
-use Rattle.plan_definitions.specs.Plans.Plan.{Lacks, Finishes}
-use Rattle.plan_definitions.specs.FitPlans.{PlanIsFit}
+use Rattle.disk_definitions.specs.Ask.{Got, run}
+use Rattle.disk_definitions.specs.Plans.{Hand, refuse, none_left, shared_nodes, sole_segments}
+use Rattle.disk_definitions.specs.Plans.Plan.{Lacks, Finishes}
+use Rattle.disk_definitions.specs.FitPlans.{PlanIsFit}
 
 module _ (h : Hand) (segments : ℕ) (s : Store) where
   pub refuse_fits : (r : Reply) (touched : List ℕ) → PlanIsFit h segments s (refuse r touched)

@@ -9,21 +9,21 @@ use Rattle.tree_definitions.specs.Place.{place}
 use Rattle.tree_laws.proofs.Keeping.{names_nodes}
 use Rattle.disk_definitions.specs.Store.{Store, StoredNode}
 use Rattle.disk_definitions.specs.Naming.{Naming, entry_of}
-use Rattle.store_changes.specs.Edits.{edited_all}
-use Rattle.store_changes.specs.Changes.{take_entry}
-use Rattle.store_changes.proofs.Free.{a_some}
-use Rattle.store_changes.proofs.Kept.{inode_is}
-use Rattle.store_changes.proofs.Puts.{edited_append}
-use Rattle.plan_definitions.specs.Ask.{Got, ReadInode, run}
-use Rattle.plan_definitions.specs.Walks.{AtName, walk}
-use Rattle.plan_definitions.specs.Plans.{Hand, refused}
-use Rattle.plan_definitions.specs.Plans.Plan.{Finishes}
-use Rattle.plan_definitions.specs.NamePlans.{is_last, fewer, fewer_segments, finish_over, removed_by, unlinking_node, unlinking, removing_node, removing}
-use Rattle.plan_definitions.specs.Meets.{IsOfTree, is_directory_use}
+use Rattle.disk_definitions.specs.Edits.{edited_all}
+use Rattle.disk_definitions.specs.Changes.{take_entry}
+use Rattle.disk_definitions.proofs.Free.{a_some}
+use Rattle.disk_definitions.proofs.Kept.{inode_is}
+use Rattle.disk_definitions.proofs.Puts.{edited_append}
+use Rattle.disk_definitions.specs.Ask.{Got, ReadInode, run}
+use Rattle.disk_definitions.specs.Walks.{AtName, walk}
+use Rattle.disk_definitions.specs.Plans.{Hand, refused}
+use Rattle.disk_definitions.specs.Plans.Plan.{Finishes}
+use Rattle.disk_definitions.specs.NamePlans.{is_last, fewer, fewer_segments, finish_over, removed_by, unlinking_node, unlinking, removing_node, removing}
+use Rattle.disk_definitions.specs.Meets.{IsOfTree, is_directory_use}
 use Rattle.plan_laws.proofs.Asking.{run-bind, run-segments}
 use Rattle.plan_laws.proofs.Cases.{inode_by, by_spot}
 use Rattle.plan_laws.proofs.Walking.{walks_lead}
-use Rattle.plan_definitions.specs.FitPlans.{IsFitStore, IsFitFinish, PlanIsFit}
+use Rattle.disk_definitions.specs.FitPlans.{IsFitStore, IsFitFinish, PlanIsFit}
 use Rattle.plan_fit.specs.FitNames.{UnlinkIsFit, RmdirIsFit}
 use Rattle.plan_fit.proofs.Uses.{metadata_is, is_metadata, KeepsDirectories, keeps_fewer}
 use Rattle.plan_fit.proofs.Pieces.{fit_join, take_entry_fits, fewer_fits}

@@ -7,17 +7,17 @@ use Rattle.tree_definitions.specs.Tree.{FileTree, node_at}
 use Rattle.tree_definitions.specs.Place.{place}
 use Rattle.disk_definitions.specs.Store.{Store}
 use Rattle.disk_definitions.specs.Naming.{Naming, entry_of}
-use Rattle.plan_definitions.specs.Ask.{run}
-use Rattle.plan_definitions.specs.Walks.{AtName, AtGap, walk}
-use Rattle.plan_definitions.specs.Plans.{Hand, refused}
-use Rattle.plan_definitions.specs.NamePlans.{Moving, moving_onto, moving_to, goes_through, renaming_to, renaming}
-use Rattle.plan_definitions.specs.Meets.{IsOfTree, IsHandOf}
+use Rattle.disk_definitions.specs.Ask.{run}
+use Rattle.disk_definitions.specs.Walks.{AtName, AtGap, walk}
+use Rattle.disk_definitions.specs.Plans.{Hand, refused}
+use Rattle.disk_definitions.specs.NamePlans.{Moving, moving_onto, moving_to, goes_through, renaming_to, renaming}
+use Rattle.disk_definitions.specs.Meets.{IsOfTree, IsHandOf}
 use Rattle.plan_laws.proofs.Asking.{run-bind}
 use Rattle.plan_laws.proofs.Cases.{inode_by, by_spot}
 use Rattle.plan_laws.proofs.MovingOnto.{moving_of}
 use Rattle.plan_laws.proofs.Walking.{walks_lead}
-use Rattle.plan_definitions.specs.Allowed.{AreNames}
-use Rattle.plan_definitions.specs.FitPlans.{IsFitStore, PlanIsFit}
+use Rattle.disk_definitions.specs.Allowed.{AreNames}
+use Rattle.disk_definitions.specs.FitPlans.{IsFitStore, PlanIsFit}
 use Rattle.plan_fit.specs.FitNames.{RenameIsFit}
 use Rattle.plan_fit.proofs.Named.{HasName, walk_named}
 use Rattle.plan_fit.proofs.Refusing.{refuse_fits}

@@ -8,8 +8,8 @@ use Rattle.std.proofs.lemmas.Bool.Decides.{nat_tests}
 use Rattle.frang_base.proofs.Basics.{of_eq, of_ne}
 use Rattle.sector_bytes.specs.SectorMaps.{Ascend}
 use Rattle.sector_bytes.proofs.MapLaws.{AllAbove}
-use Rattle.store_changes.specs.Edits.{Edit}
-use Rattle.plan_definitions.specs.Written.{edit_sector}
+use Rattle.disk_definitions.specs.Edits.{Edit}
+use Rattle.disk_definitions.specs.Written.{edit_sector}
 use Rattle.plan_fit.proofs.Charges.{price, budget, charge}
 
 -- the sum over the sectors

@@ -4,12 +4,12 @@ use Rattle.frang_base.proofs.Basics.{at_put}
 use Rattle.disk_definitions.specs.Store.{Store, StoredNode, Use}
 use Rattle.disk_definitions.specs.Store.Use.{Fresh, Bytes, Empty, Entries}
 use Rattle.disk_definitions.specs.Standing.{IsMetadata}
-use Rattle.store_changes.specs.Edits.{edited, edited_all}
-use Rattle.store_changes.specs.Edits.Edit.{SetInode, SetBit, SetUse, SetLarge}
-use Rattle.store_changes.specs.Changes.{freed, uses_to, large_gone, drop_node, relink}
-use Rattle.store_changes.proofs.Puts.{edited_append}
-use Rattle.plan_definitions.specs.NamePlans.{is_last, fewer}
-use Rattle.plan_definitions.specs.Meets.{is_directory_use}
+use Rattle.disk_definitions.specs.Edits.{edited, edited_all}
+use Rattle.disk_definitions.specs.Edits.Edit.{SetInode, SetBit, SetUse, SetLarge}
+use Rattle.disk_definitions.specs.Changes.{freed, uses_to, large_gone, drop_node, relink}
+use Rattle.disk_definitions.proofs.Puts.{edited_append}
+use Rattle.disk_definitions.specs.NamePlans.{is_last, fewer}
+use Rattle.disk_definitions.specs.Meets.{is_directory_use}
 
 pub metadata_is : (u : Use) → is_directory_use u ≡ true → IsMetadata u
 metadata_is Fresh e = absurd (cc)

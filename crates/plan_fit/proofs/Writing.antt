@@ -6,10 +6,10 @@ use Rattle.frang_base.specs.declared.reply.Reply.TheVariants as reply
 use Rattle.tree_definitions.specs.Tree.{FileTree, small_blocks_of}
 use Rattle.disk_definitions.specs.Store.{Store, StoredNode}
 use Rattle.disk_definitions.specs.Naming.{Naming}
-use Rattle.pick_definitions.specs.Picks.{picked_many, picked_large}
-use Rattle.plan_definitions.specs.Plans.{Hand, refused, read_held}
-use Rattle.plan_definitions.specs.FilePlans.{Writing, end_of, directory_blocks, writing_in, writing_picked, writing_small, writing_large, writing}
-use Rattle.plan_definitions.specs.Meets.{IsOfTree, IsHandOf, directory_blocks_in}
+use Rattle.disk_definitions.specs.Picks.{picked_many, picked_large}
+use Rattle.disk_definitions.specs.Plans.{Hand, refused, read_held}
+use Rattle.disk_definitions.specs.FilePlans.{Writing, end_of, directory_blocks, writing_in, writing_picked, writing_small, writing_large, writing}
+use Rattle.disk_definitions.specs.Meets.{IsOfTree, IsHandOf, directory_blocks_in}
 use Rattle.plan_laws.proofs.Asking.{run-segments}
 use Rattle.plan_laws.proofs.Taking.{large_some, small_some}
 use Rattle.plan_fit.specs.FitFiles.{WriteFits, FillFits}

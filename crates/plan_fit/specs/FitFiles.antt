@@ -1,7 +1,7 @@
 -- The edits of a plan of looks or of file bytes may be made on the disk.
 use Rattle.std.specs.Prelude.{ℕ, List}
 use Rattle.frang_base.specs.declared.op.Op.TheVariants as op
-use Rattle.plan_definitions.specs.FitPlans.{HasFitPlan}
+use Rattle.disk_definitions.specs.FitPlans.{HasFitPlan}
 
 abbrev pub WriteFits : Type 0
 WriteFits = (path : List (List ℕ)) (off : ℕ) (bytes : List ℕ) → HasFitPlan (op.Write path off bytes)

@@ -1,7 +1,7 @@
 -- The plans of the operations on names are fit for the disk over which they are made.
 use Rattle.std.specs.Prelude.{ℕ, List}
 use Rattle.frang_base.specs.declared.op.Op.TheVariants as op
-use Rattle.plan_definitions.specs.FitPlans.{HasFitPlan}
+use Rattle.disk_definitions.specs.FitPlans.{HasFitPlan}
 
 -- of create
 abbrev pub CreateIsFit : Type 0

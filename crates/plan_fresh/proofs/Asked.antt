@@ -7,8 +7,8 @@ use Rattle.tree_laws.proofs.Nodes.{each_but}
 use Rattle.sector_bytes.specs.Bytes.{zeros}
 use Rattle.std.specs.Option.{unwrap_or}
 use Rattle.disk_definitions.specs.Store.{segment_at}
-use Rattle.pick_definitions.specs.Held.{Segments, bitmap_of}
-use Rattle.plan_definitions.specs.OnDisk.{AreOfDisk}
+use Rattle.disk_definitions.specs.Held.{Segments, bitmap_of}
+use Rattle.disk_definitions.specs.OnDisk.{AreOfDisk}
 use Rattle.plan_fresh.specs.Fresh.{first_bitmap, fresh_sectors, fresh_disk, FreshIsAsked, FreshIsAtHand}
 use Rattle.plan_fresh.proofs.Blocks.{first_reads}
 use Rattle.plan_fresh.proofs.Sectors.{apart}

@@ -7,12 +7,12 @@ use Rattle.std.proofs.lemmas.Bool.Decides.{nat_tests}
 use Rattle.frang_base.proofs.Basics.{of_ge}
 use Rattle.frang_base.specs.declared.bitmap.Bitmap.{Bitmap}
 use Rattle.tree_definitions.specs.declared.node.Node.TheVariants.{Dir}
-use Rattle.sector_definitions.specs.declared.inode.Inode.{Inode}
+use Rattle.disk_definitions.specs.declared.inode.Inode.{Inode}
 use Rattle.sector_bytes.specs.Bytes.{number_at, zeros}
-use Rattle.sector_definitions.specs.Params.{param_bytes, param_in}
-use Rattle.sector_definitions.specs.Bitmaps.{bitmap_bytes, bitmap_in, inode_bit}
-use Rattle.sector_definitions.specs.Inodes.{inode_bytes, inode_in}
-use Rattle.sector_definitions.proofs.ParamLaws.{param_back}
+use Rattle.disk_definitions.specs.Params.{param_bytes, param_in}
+use Rattle.disk_definitions.specs.Bitmaps.{bitmap_bytes, bitmap_in, inode_bit}
+use Rattle.disk_definitions.specs.Inodes.{inode_bytes, inode_in}
+use Rattle.disk_definitions.proofs.ParamLaws.{param_back}
 use Rattle.disk_definitions.specs.Store.{StoredNode, stored_node}
 use Rattle.disk_definitions.specs.Naming.{first_blocks, inode_of}
 use Rattle.plan_fresh.specs.Fresh.{fresh_param, first_bitmap, root_inode}

@@ -7,12 +7,12 @@ use Rattle.std.specs.Cmp.{unsigned_tied}
 use Rattle.std.specs.Option.{unwrap_or}
 use Rattle.frang_base.proofs.Basics.{of_ne}
 use Rattle.tree_laws.proofs.Nodes.{each_but}
-use Rattle.sector_definitions.specs.declared.region.Region.TheVariants as region
+use Rattle.disk_definitions.specs.declared.region.Region.TheVariants as region
 use Rattle.sector_bytes.specs.Bytes.{zeros}
-use Rattle.sector_definitions.specs.Regions.{sector_of, bitmaps_from, inodes_from}
-use Rattle.sector_definitions.specs.Params.{param_bytes}
-use Rattle.sector_definitions.specs.Bitmaps.{bitmap_bytes}
-use Rattle.sector_definitions.specs.Inodes.{inode_bytes}
+use Rattle.disk_definitions.specs.Regions.{sector_of, bitmaps_from, inodes_from}
+use Rattle.disk_definitions.specs.Params.{param_bytes}
+use Rattle.disk_definitions.specs.Bitmaps.{bitmap_bytes}
+use Rattle.disk_definitions.specs.Inodes.{inode_bytes}
 use Rattle.plan_fresh.specs.Fresh.{fresh_param, first_bitmap, root_inode, fresh_disk}
 
 -- numbers apart aren't tied

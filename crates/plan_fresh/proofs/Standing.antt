@@ -3,12 +3,12 @@ use Rattle.std.proofs.Common.{◌≡◌, ℕ, ◌*◌, ◌^◌, ◌≤◌, true,
 use Rattle.tree_definitions.specs.Tree.{fresh, node_at}
 use Rattle.tree_laws.proofs.FreshLaws.{fresh_well}
 use Rattle.sector_bytes.specs.Bytes.{number_at}
-use Rattle.sector_definitions.specs.Bitmaps.{bitmap_in}
-use Rattle.sector_definitions.specs.Inodes.{inode_in}
-use Rattle.sector_definitions.proofs.WrittenFields.{length_zeros, zero_version}
+use Rattle.disk_definitions.specs.Bitmaps.{bitmap_in}
+use Rattle.disk_definitions.specs.Inodes.{inode_in}
+use Rattle.disk_definitions.proofs.WrittenFields.{length_zeros, zero_version}
 use Rattle.sector_bytes.specs.Sectors.{Sectors}
 use Rattle.disk_definitions.specs.Standing.{IsMetadata, IsInGrammar, HasVersionsUpTo, IsReached, StandsFor}
-use Rattle.plan_definitions.specs.OnDisk.{StandsBelow}
+use Rattle.disk_definitions.specs.OnDisk.{StandsBelow}
 use Rattle.plan_fresh.specs.Fresh.{fresh_param, fresh_disk, FreshStands}
 use Rattle.plan_fresh.proofs.Blocks.{param_reads, first_reads, zeros_read, root_reads, free_reads, first_version, root_version, param_long, first_long, root_long}
 use Rattle.plan_fresh.proofs.Sectors.{each_sector, each_segment, each_inode}

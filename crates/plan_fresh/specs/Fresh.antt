@@ -4,18 +4,18 @@ use Rattle.frang_base.specs.declared.limits.TheConstants.{INODE_BLOCKS_MAX, KIND
 use Rattle.frang_base.specs.declared.bitmap.Bitmap.{Bitmap}
 use Rattle.frang_base.specs.declared.op.Op.{Op}
 use Rattle.tree_definitions.specs.Tree.{fresh}
-use Rattle.sector_definitions.specs.declared.param.Param.{Param}
-use Rattle.sector_definitions.specs.declared.param.TheConstants.{FORMAT_NEWEST}
-use Rattle.sector_definitions.specs.declared.inode.Inode.{Inode}
-use Rattle.sector_definitions.specs.declared.region.Region.TheVariants as region
+use Rattle.disk_definitions.specs.declared.param.Param.{Param}
+use Rattle.disk_definitions.specs.declared.param.TheConstants.{FORMAT_NEWEST}
+use Rattle.disk_definitions.specs.declared.inode.Inode.{Inode}
+use Rattle.disk_definitions.specs.declared.region.Region.TheVariants as region
 use Rattle.sector_bytes.specs.Bytes.{zeros}
-use Rattle.sector_definitions.specs.Regions.{sector_of}
-use Rattle.sector_definitions.specs.Params.{param_bytes}
-use Rattle.sector_definitions.specs.Bitmaps.{bitmap_bytes}
-use Rattle.sector_definitions.specs.Inodes.{inode_bytes}
+use Rattle.disk_definitions.specs.Regions.{sector_of}
+use Rattle.disk_definitions.specs.Params.{param_bytes}
+use Rattle.disk_definitions.specs.Bitmaps.{bitmap_bytes}
+use Rattle.disk_definitions.specs.Inodes.{inode_bytes}
 use Rattle.sector_bytes.specs.Sectors.{Sectors, sectors_of}
-use Rattle.plan_definitions.specs.Allowed.{IsAllowed}
-use Rattle.plan_definitions.specs.OnDisk.{StandsBelow}
+use Rattle.disk_definitions.specs.Allowed.{IsAllowed}
+use Rattle.disk_definitions.specs.OnDisk.{StandsBelow}
 use Rattle.code_plan_laws.specs.CodeStands.{IsOverADisk}
 
 -- the parameters of a fresh disk of so many segments: the newest format, run 1

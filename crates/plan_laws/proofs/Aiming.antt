@@ -10,13 +10,13 @@ use Rattle.tree_definitions.specs.Apply.{Applied, is_dir, at_node, if_file, at_f
 use Rattle.tree_laws.proofs.Keeping.{names_nodes}
 use Rattle.disk_definitions.specs.Store.{Store, StoredNode}
 use Rattle.disk_definitions.specs.Naming.{Naming, kind_of}
-use Rattle.store_changes.proofs.Kept.{inode_is}
-use Rattle.plan_definitions.specs.Ask.{Ask, run}
-use Rattle.plan_definitions.specs.Walks.{Target, walk, at_spot, at_target}
-use Rattle.plan_definitions.specs.Plans.{Hand, Plan, refused}
-use Rattle.plan_definitions.specs.FilePlans.{at_file, with_file, plan_of_file}
-use Rattle.plan_definitions.specs.LookPlans.{plan_of_node, with_inode, at_inode}
-use Rattle.plan_definitions.specs.Meets.{IsOfTree}
+use Rattle.disk_definitions.proofs.Kept.{inode_is}
+use Rattle.disk_definitions.specs.Ask.{Ask, run}
+use Rattle.disk_definitions.specs.Walks.{Target, walk, at_spot, at_target}
+use Rattle.disk_definitions.specs.Plans.{Hand, Plan, refused}
+use Rattle.disk_definitions.specs.FilePlans.{at_file, with_file, plan_of_file}
+use Rattle.disk_definitions.specs.LookPlans.{plan_of_node, with_inode, at_inode}
+use Rattle.disk_definitions.specs.Meets.{IsOfTree}
 use Rattle.plan_laws.proofs.Asking.{run-bind}
 use Rattle.plan_laws.proofs.Cases.{inode_by, by_spot}
 use Rattle.plan_laws.proofs.Refusing.{Meets, refuse_meets}

@@ -1,8 +1,8 @@
 -- What holds of each computation over sectors.
 use Rattle.std.proofs.Common.{◌≡◌, ℕ, Bool, true, false, Option, Some, None, List, [], ◌∷◌, ◌++◌, map, refl, sym, ◌∙◌, ap, is_some, if◌then◌else◌}
 use Rattle.disk_definitions.specs.Store.{Store}
-use Rattle.plan_definitions.specs.Ask.{Sector, InodeAt, DirectoryAt, SegmentAt, BytesAt, LargeAt, Ask, Got, ReadInode, ReadDirectory, ReadSegment, ReadBytes, ReadLarge, AtHand, Met, Needs, Has, IsOf, bind, seven, part_of, run, looks, meet, or_needs, read_segments}
-use Rattle.plan_definitions.specs.Missing.{first_missing, unless_missing}
+use Rattle.disk_definitions.specs.Ask.{Sector, InodeAt, DirectoryAt, SegmentAt, BytesAt, LargeAt, Ask, Got, ReadInode, ReadDirectory, ReadSegment, ReadBytes, ReadLarge, AtHand, Met, Needs, Has, IsOf, bind, seven, part_of, run, looks, meet, or_needs, read_segments}
+use Rattle.disk_definitions.specs.Missing.{first_missing, unless_missing}
 use Rattle.plan_laws.specs.Looking.{AllSayTheSame, GoesOn, MeetsItsValue, GoesByWhatItLooksAt, SegmentsAreLookedAt}
 
 pub run-bind : {A B : Type 0} (p : Ask A) (f : A → Ask B) (s : Store) → run (bind p f) s ≡ run (f (run p s)) s

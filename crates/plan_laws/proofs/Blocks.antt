@@ -11,8 +11,8 @@ use Rattle.tree_definitions.specs.declared.node.Node.{Node}
 use Rattle.frang_base.specs.Functions.{put}
 use Rattle.frang_base.proofs.Basics.{by_test, at_put, put_same, put_other}
 use Rattle.tree_laws.proofs.Pairs.{birth_exact, tie, self}
-use Rattle.pick_definitions.specs.Least.{count}
-use Rattle.pick_definitions.proofs.Counts.{count_none, count_less_one}
+use Rattle.disk_definitions.specs.Least.{count}
+use Rattle.disk_definitions.proofs.PickCounts.{count_none, count_less_one}
 use Rattle.plan_laws.proofs.Counting.{false_if, rest_sorted, not_head}
 
 -- f with the first so many blocks failing

@@ -6,10 +6,10 @@ use Rattle.tree_definitions.specs.declared.cells.Cell.{Cell}
 use Rattle.tree_definitions.specs.Numbers.{below}
 use Rattle.disk_definitions.specs.Store.{Store, StoredNode}
 use Rattle.disk_definitions.specs.Naming.{Allows}
-use Rattle.plan_definitions.specs.Ask.{Ask, part_of, run}
-use Rattle.plan_definitions.specs.Plans.{Plan}
-use Rattle.plan_definitions.specs.FilePlans.{read_sector, read_sectors}
-use Rattle.plan_definitions.specs.Meets.{AllAllow}
+use Rattle.disk_definitions.specs.Ask.{Ask, part_of, run}
+use Rattle.disk_definitions.specs.Plans.{Plan}
+use Rattle.disk_definitions.specs.FilePlans.{read_sector, read_sectors}
+use Rattle.disk_definitions.specs.Meets.{AllAllow}
 
 -- n values, of the numbers from a on
 abbrev pub values : (ℕ → ℕ) → ℕ → ℕ → List ℕ

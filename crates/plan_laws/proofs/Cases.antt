@@ -7,10 +7,10 @@ use Rattle.tree_definitions.specs.Entries.{Entries, entry_at}
 use Rattle.tree_definitions.specs.Place.{Place, Root, Taken, Free, Nowhere}
 use Rattle.disk_definitions.specs.Store.{Store, StoredNode}
 use Rattle.disk_definitions.specs.Naming.{Naming, Nodes, Pictures, inode_of, entry_of}
-use Rattle.store_changes.specs.Laws.{HasInode}
-use Rattle.store_changes.proofs.Kept.{inode_is}
-use Rattle.store_changes.proofs.Entry.{stored_is}
-use Rattle.plan_definitions.specs.Walks.{Spot, AtRoot, AtName, AtGap, Lost}
+use Rattle.disk_definitions.specs.ChangeLaws.{HasInode}
+use Rattle.disk_definitions.proofs.Kept.{inode_is}
+use Rattle.disk_definitions.proofs.Entry.{stored_is}
+use Rattle.disk_definitions.specs.Walks.{Spot, AtRoot, AtName, AtGap, Lost}
 use Rattle.plan_laws.specs.Walking.{Mirrors}
 
 -- what stands in the inode of a node

@@ -7,8 +7,8 @@ use Rattle.std.specs.List.Sorted.{IsStrictlySortedBy}
 use Rattle.frang_base.specs.Functions.{put}
 use Rattle.frang_base.proofs.Basics.{by_test, at_put, put_same, put_other}
 use Rattle.tree_laws.proofs.Pairs.{IsExact, tie, self, none_below}
-use Rattle.pick_definitions.specs.Least.{count, one_if}
-use Rattle.pick_definitions.proofs.Counts.{count_zero, count_more, count_none, count_less_one}
+use Rattle.disk_definitions.specs.Least.{count, one_if}
+use Rattle.disk_definitions.proofs.PickCounts.{count_zero, count_more, count_none, count_less_one}
 
 pub count_all : (f : ℕ → Bool) (n : ℕ) → ((q : ℕ) → q < n → f q ≡ true) → count f n ≡ n
 count_all f zero h = count_zero f

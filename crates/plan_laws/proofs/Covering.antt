@@ -13,15 +13,15 @@ use Rattle.frang_base.specs.declared.reply.Reply.TheVariants as reply
 use Rattle.tree_definitions.specs.Numbers.{below}
 use Rattle.tree_laws.proofs.Pairs.{birth_exact, tie}
 use Rattle.disk_definitions.specs.Store.{Store, Use}
-use Rattle.store_changes.specs.Edits.{Edit}
-use Rattle.store_changes.specs.Edits.Edit.{SetUse, SetLarge}
-use Rattle.pick_definitions.specs.Held.{Segments, bitmap_of}
-use Rattle.plan_definitions.specs.Ask.{Ask, Got, run}
-use Rattle.plan_definitions.specs.Walks.{Spot, Target, walk, at_spot, at_target}
-use Rattle.plan_definitions.specs.Walks.Spot.{AtRoot, AtName, AtGap, Lost}
-use Rattle.plan_definitions.specs.Plans.Plan.{Lacks, Finishes}
-use Rattle.plan_definitions.specs.Plans.{Hand, Lock, Plan, refuse, refused, none_left, shared_nodes, sole_nodes, sole_segments}
-use Rattle.plan_definitions.specs.LookPlans.{plan_of_node}
+use Rattle.disk_definitions.specs.Edits.{Edit}
+use Rattle.disk_definitions.specs.Edits.Edit.{SetUse, SetLarge}
+use Rattle.disk_definitions.specs.Held.{Segments, bitmap_of}
+use Rattle.disk_definitions.specs.Ask.{Ask, Got, run}
+use Rattle.disk_definitions.specs.Walks.{Spot, Target, walk, at_spot, at_target}
+use Rattle.disk_definitions.specs.Walks.Spot.{AtRoot, AtName, AtGap, Lost}
+use Rattle.disk_definitions.specs.Plans.Plan.{Lacks, Finishes}
+use Rattle.disk_definitions.specs.Plans.{Hand, Lock, Plan, refuse, refused, none_left, shared_nodes, sole_nodes, sole_segments}
+use Rattle.disk_definitions.specs.LookPlans.{plan_of_node}
 use Rattle.plan_laws.proofs.Asking.{run-bind}
 use Rattle.plan_laws.proofs.Quiet.{IsQuiet, walk_quiet}
 use Rattle.plan_laws.specs.Locks.{IsSole, IsCovered, says_full, PlanIsCovered}

@@ -11,21 +11,21 @@ use Rattle.tree_laws.specs.WellFormed.{put as put_node}
 use Rattle.tree_laws.proofs.Nodes.{each_but, put_same as node_same, put_other as node_other}
 use Rattle.disk_definitions.specs.Store.{Store, StoredNode, StoredEntry}
 use Rattle.disk_definitions.specs.Naming.{Naming, Nodes, first_blocks, entry_of, place_of, dir_place}
-use Rattle.pick_definitions.specs.Least.{least}
-use Rattle.pick_definitions.specs.Picks.{picked_directory}
-use Rattle.store_changes.specs.Edits.{edited_all}
-use Rattle.store_changes.specs.Changes.{put_entry, grow}
-use Rattle.store_changes.specs.Namings.{named_at, named_block, KeepsOthers}
-use Rattle.store_changes.specs.Laws.{HasInode, IsFreePlace, IsFreeBlock}
-use Rattle.store_changes.proofs.Puts.{put_twice, edited_append}
-use Rattle.store_changes.proofs.Names.{names_come}
-use Rattle.store_changes.proofs.Free.{no_entries}
+use Rattle.disk_definitions.specs.Least.{least}
+use Rattle.disk_definitions.specs.Picks.{picked_directory}
+use Rattle.disk_definitions.specs.Edits.{edited_all}
+use Rattle.disk_definitions.specs.Changes.{put_entry, grow}
+use Rattle.disk_definitions.specs.Namings.{named_at, named_block, KeepsOthers}
+use Rattle.disk_definitions.specs.ChangeLaws.{HasInode, IsFreePlace, IsFreeBlock}
+use Rattle.disk_definitions.proofs.Puts.{put_twice, edited_append}
+use Rattle.disk_definitions.proofs.Names.{names_come}
+use Rattle.disk_definitions.proofs.Free.{no_entries}
 use Rattle.std.specs.Map.{keys_of}
-use Rattle.plan_definitions.specs.Ask.{Got, run}
-use Rattle.plan_definitions.specs.Walks.{search, is_vacant}
-use Rattle.plan_definitions.specs.Plans.{Hand, Room, room_at, room_in, read_held, find_room, with_block, enter, must_clear}
-use Rattle.plan_definitions.specs.Plans.Room.{Inside, InBlock, NoRoom}
-use Rattle.plan_definitions.specs.Meets.{IsOfTree, IsHandOf}
+use Rattle.disk_definitions.specs.Ask.{Got, run}
+use Rattle.disk_definitions.specs.Walks.{search, is_vacant}
+use Rattle.disk_definitions.specs.Plans.{Hand, Room, room_at, room_in, read_held, find_room, with_block, enter, must_clear}
+use Rattle.disk_definitions.specs.Plans.Room.{Inside, InBlock, NoRoom}
+use Rattle.disk_definitions.specs.Meets.{IsOfTree, IsHandOf}
 use Rattle.plan_laws.proofs.Asking.{run-bind, run-segments}
 use Rattle.plan_laws.proofs.Searching.{found_in, run-search}
 use Rattle.plan_laws.proofs.Cases.{inode_by}

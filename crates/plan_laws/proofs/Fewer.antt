@@ -10,11 +10,11 @@ use Rattle.tree_laws.specs.WellFormed.{BirthsAscend, put as put_node}
 use Rattle.tree_laws.proofs.Nodes.{node_with, node_without}
 use Rattle.disk_definitions.specs.Store.{Store}
 use Rattle.disk_definitions.specs.Naming.{Naming, Nodes, kind_of}
-use Rattle.store_changes.specs.Edits.{edited_all}
-use Rattle.store_changes.specs.Changes.{relink, drop_node}
-use Rattle.store_changes.specs.Namings.{named_less}
-use Rattle.store_changes.specs.Laws.{HasInode, HasNoNames}
-use Rattle.plan_definitions.specs.NamePlans.{fewer}
+use Rattle.disk_definitions.specs.Edits.{edited_all}
+use Rattle.disk_definitions.specs.Changes.{relink, drop_node}
+use Rattle.disk_definitions.specs.Namings.{named_less}
+use Rattle.disk_definitions.specs.ChangeLaws.{HasInode, HasNoNames}
+use Rattle.disk_definitions.specs.NamePlans.{fewer}
 use Rattle.plan_laws.proofs.Cases.{inode_by, has_inode}
 use Rattle.plan_laws.proofs.Stages.{IsStage, relinks, drops, restage}
 

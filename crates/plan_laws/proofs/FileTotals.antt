@@ -7,10 +7,10 @@ use Rattle.tree_definitions.specs.Tree.{FileTree, node_at, count_of, file_blocks
 use Rattle.disk_definitions.specs.Store.{Store, Use, is_unused}
 use Rattle.disk_definitions.specs.Store.Use.{Fresh, Bytes, Empty, Entries}
 use Rattle.disk_definitions.specs.Naming.{Naming, blocks_of, has_large, use_by, use_for}
-use Rattle.pick_definitions.specs.Least.{count, one_if}
-use Rattle.pick_definitions.proofs.Counts.{count_zero, count_more}
-use Rattle.store_changes.proofs.Free.{a_some}
-use Rattle.plan_definitions.specs.Meets.{IsOfTree, is_directory_use}
+use Rattle.disk_definitions.specs.Least.{count, one_if}
+use Rattle.disk_definitions.proofs.PickCounts.{count_zero, count_more}
+use Rattle.disk_definitions.proofs.Free.{a_some}
+use Rattle.disk_definitions.specs.Meets.{IsOfTree, is_directory_use}
 use Rattle.plan_laws.proofs.Blocks.{IsBlockOf, count_blocks}
 use Rattle.plan_laws.proofs.Totals.{in_range}
 

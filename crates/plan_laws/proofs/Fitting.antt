@@ -17,7 +17,7 @@ use Rattle.tree_laws.specs.WellFormed.{BirthsAscend}
 use Rattle.tree_laws.specs.Refusals.{is_look}
 use Rattle.tree_laws.proofs.Nodes.{each_but, with_same, with_other, without_same, without_other, ascend_with}
 use Rattle.tree_laws.proofs.Refusals.{looks_leave}
-use Rattle.store_changes.specs.Laws.{FilesFit}
+use Rattle.disk_definitions.specs.ChangeLaws.{FilesFit}
 use Rattle.plan_laws.specs.FilesPlanned.{FilesStayFit}
 
 -- cells with others in their place are as many as those, or reach as far as the others

@@ -11,9 +11,9 @@ use Rattle.tree_definitions.specs.Numbers.{below}
 use Rattle.tree_laws.proofs.Pairs.{name_exact, tie, self}
 use Rattle.disk_definitions.specs.Store.{Store, StoredEntry}
 use Rattle.disk_definitions.specs.Naming.{place_of}
-use Rattle.plan_definitions.specs.Ask.{Ask, seven, run}
-use Rattle.plan_definitions.specs.Plans.{Plan}
-use Rattle.plan_definitions.specs.LookPlans.{entries_of, read_entries}
+use Rattle.disk_definitions.specs.Ask.{Ask, seven, run}
+use Rattle.disk_definitions.specs.Plans.{Plan}
+use Rattle.disk_definitions.specs.LookPlans.{entries_of, read_entries}
 
 abbrev pub gathered : Store → (ℕ → ℕ) → ℕ → ℕ → List StoredEntry
 gathered s small j zero = []

@@ -15,17 +15,17 @@ use Rattle.tree_laws.proofs.Keeping.{names_nodes}
 use Rattle.tree_laws.proofs.StepsLaws.{apply_keeps}
 use Rattle.disk_definitions.specs.Store.{Store, StoredNode, StoredEntry}
 use Rattle.disk_definitions.specs.Naming.{Naming, Nodes, kind_of, entry_of}
-use Rattle.store_changes.specs.Edits.{edited_all}
-use Rattle.store_changes.specs.Changes.{relink}
-use Rattle.store_changes.specs.Laws.{with_links}
-use Rattle.store_changes.proofs.Puts.{edited_append}
-use Rattle.store_changes.proofs.Kept.{inode_is}
-use Rattle.plan_definitions.specs.Ask.{ReadInode, bind, run}
-use Rattle.plan_definitions.specs.Walks.{AtName, AtGap, walk}
-use Rattle.plan_definitions.specs.Plans.{Hand, Room, enter, find_room, finish_in, must_clear, refused}
-use Rattle.plan_definitions.specs.Plans.Room.{Inside, InBlock, NoRoom}
-use Rattle.plan_definitions.specs.NamePlans.{linked_by, linking_in, linking_node, linking_to, linking}
-use Rattle.plan_definitions.specs.Meets.{IsOfTree, IsHandOf}
+use Rattle.disk_definitions.specs.Edits.{edited_all}
+use Rattle.disk_definitions.specs.Changes.{relink}
+use Rattle.disk_definitions.specs.ChangeLaws.{with_links}
+use Rattle.disk_definitions.proofs.Puts.{edited_append}
+use Rattle.disk_definitions.proofs.Kept.{inode_is}
+use Rattle.disk_definitions.specs.Ask.{ReadInode, bind, run}
+use Rattle.disk_definitions.specs.Walks.{AtName, AtGap, walk}
+use Rattle.disk_definitions.specs.Plans.{Hand, Room, enter, find_room, finish_in, must_clear, refused}
+use Rattle.disk_definitions.specs.Plans.Room.{Inside, InBlock, NoRoom}
+use Rattle.disk_definitions.specs.NamePlans.{linked_by, linking_in, linking_node, linking_to, linking}
+use Rattle.disk_definitions.specs.Meets.{IsOfTree, IsHandOf}
 use Rattle.plan_laws.specs.Keeping.{FinishKeeps}
 use Rattle.plan_laws.specs.NamesPlanned.{LinkIsPlanned}
 use Rattle.plan_laws.proofs.Asking.{run-bind}

@@ -16,11 +16,11 @@ use Rattle.tree_laws.proofs.Pairs.{name_exact, tie, self, found_put, found_other
 use Rattle.tree_laws.proofs.StepsLaws.{apply_keeps}
 use Rattle.disk_definitions.specs.Store.{Store, StoredEntry}
 use Rattle.disk_definitions.specs.Naming.{Naming, find_in, room_in, first_blocks, entry_of, dir_place, kind_of}
-use Rattle.store_changes.proofs.Free.{a_some}
-use Rattle.plan_definitions.specs.Ask.{run}
-use Rattle.plan_definitions.specs.Plans.{Hand, refused, refuse}
-use Rattle.plan_definitions.specs.LookPlans.{at_inode, sorted_names, listing}
-use Rattle.plan_definitions.specs.Meets.{IsOfTree}
+use Rattle.disk_definitions.proofs.Free.{a_some}
+use Rattle.disk_definitions.specs.Ask.{run}
+use Rattle.disk_definitions.specs.Plans.{Hand, refused, refuse}
+use Rattle.disk_definitions.specs.LookPlans.{at_inode, sorted_names, listing}
+use Rattle.disk_definitions.specs.Meets.{IsOfTree}
 use Rattle.plan_laws.specs.Keeping.{PlanKeeps}
 use Rattle.plan_laws.proofs.Spots.{as_inode}
 use Rattle.plan_laws.proofs.Cases.{inode_by}

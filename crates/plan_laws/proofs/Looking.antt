@@ -9,10 +9,10 @@ use Rattle.tree_definitions.specs.Apply.{says, if_file, described as tree_descri
 use Rattle.tree_laws.proofs.StepsLaws.{apply_keeps}
 use Rattle.disk_definitions.specs.Store.{Store}
 use Rattle.disk_definitions.specs.Naming.{Naming, kind_of}
-use Rattle.plan_definitions.specs.Ask.{run}
-use Rattle.plan_definitions.specs.Plans.{Hand, refused}
-use Rattle.plan_definitions.specs.LookPlans.{at_inode, described, timed}
-use Rattle.plan_definitions.specs.Meets.{IsOfTree}
+use Rattle.disk_definitions.specs.Ask.{run}
+use Rattle.disk_definitions.specs.Plans.{Hand, refused}
+use Rattle.disk_definitions.specs.LookPlans.{at_inode, described, timed}
+use Rattle.disk_definitions.specs.Meets.{IsOfTree}
 use Rattle.plan_laws.proofs.Refusing.{Meets, refuse_meets}
 use Rattle.plan_laws.specs.FilesPlanned.{StatIsPlanned, ReadlinkIsPlanned, TimeIsPlanned}
 use Rattle.plan_laws.proofs.Aiming.{target_of, at_inode_meets, node_meets}

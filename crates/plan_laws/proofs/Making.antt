@@ -17,18 +17,18 @@ use Rattle.tree_laws.proofs.Keeping.{names_nodes}
 use Rattle.tree_laws.proofs.StepsLaws.{apply_keeps}
 use Rattle.disk_definitions.specs.Store.{Store, StoredNode, StoredEntry}
 use Rattle.disk_definitions.specs.Naming.{Naming, Nodes, kind_of, find_in, entry_of}
-use Rattle.pick_definitions.specs.Picks.{picked_inode}
-use Rattle.store_changes.specs.Edits.{edited_all}
-use Rattle.store_changes.specs.Changes.{new_node}
-use Rattle.store_changes.specs.Namings.{named_new}
-use Rattle.store_changes.specs.Laws.{IsBare, MayCome}
-use Rattle.store_changes.proofs.Puts.{edited_append}
-use Rattle.plan_definitions.specs.Ask.{run}
-use Rattle.plan_definitions.specs.Walks.{AtGap, walk}
-use Rattle.plan_definitions.specs.Plans.{Hand, Room, enter, find_room, finish_in, must_clear, refused, read_held}
-use Rattle.plan_definitions.specs.Plans.Room.{Inside, InBlock, NoRoom}
-use Rattle.plan_definitions.specs.NamePlans.{made_by, making_in, making_with, making, plan_made}
-use Rattle.plan_definitions.specs.Meets.{IsOfTree, IsHandOf}
+use Rattle.disk_definitions.specs.Picks.{picked_inode}
+use Rattle.disk_definitions.specs.Edits.{edited_all}
+use Rattle.disk_definitions.specs.Changes.{new_node}
+use Rattle.disk_definitions.specs.Namings.{named_new}
+use Rattle.disk_definitions.specs.ChangeLaws.{IsBare, MayCome}
+use Rattle.disk_definitions.proofs.Puts.{edited_append}
+use Rattle.disk_definitions.specs.Ask.{run}
+use Rattle.disk_definitions.specs.Walks.{AtGap, walk}
+use Rattle.disk_definitions.specs.Plans.{Hand, Room, enter, find_room, finish_in, must_clear, refused, read_held}
+use Rattle.disk_definitions.specs.Plans.Room.{Inside, InBlock, NoRoom}
+use Rattle.disk_definitions.specs.NamePlans.{made_by, making_in, making_with, making, plan_made}
+use Rattle.disk_definitions.specs.Meets.{IsOfTree, IsHandOf}
 use Rattle.plan_laws.specs.Keeping.{FinishKeeps}
 use Rattle.plan_laws.specs.NamesPlanned.{CreateIsPlanned, MkdirIsPlanned, SymlinkIsPlanned}
 use Rattle.plan_laws.proofs.Asking.{run-bind, run-segments}

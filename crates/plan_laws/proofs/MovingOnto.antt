@@ -17,18 +17,18 @@ use Rattle.tree_laws.proofs.Nodes.{node_with, with_same, with_other, ascend_with
 use Rattle.tree_laws.proofs.Keeping.{names_nodes, never_root}
 use Rattle.disk_definitions.specs.Store.{Store, StoredNode}
 use Rattle.disk_definitions.specs.Naming.{Naming, find_in, entry_of}
-use Rattle.store_changes.specs.Edits.{edited_all}
-use Rattle.store_changes.specs.Changes.{take_entry, replace_entry}
-use Rattle.store_changes.specs.Namings.{named_at}
-use Rattle.store_changes.specs.Laws.{NamesDiffer, HasNoNames}
-use Rattle.store_changes.proofs.Names.{names_go, names_are_taken}
-use Rattle.store_changes.proofs.Puts.{edited_append}
-use Rattle.store_changes.proofs.Kept.{inode_is}
-use Rattle.plan_definitions.specs.Ask.{Ask, Got, ReadInode, run}
-use Rattle.plan_definitions.specs.Plans.{Hand, Plan, refused}
-use Rattle.plan_definitions.specs.Plans.Plan.{Finishes}
-use Rattle.plan_definitions.specs.NamePlans.{Moving, fewer, fewer_segments, finish_over, moved_onto_by, replacing_node, moving_onto}
-use Rattle.plan_definitions.specs.Meets.{IsOfTree}
+use Rattle.disk_definitions.specs.Edits.{edited_all}
+use Rattle.disk_definitions.specs.Changes.{take_entry, replace_entry}
+use Rattle.disk_definitions.specs.Namings.{named_at}
+use Rattle.disk_definitions.specs.ChangeLaws.{NamesDiffer, HasNoNames}
+use Rattle.disk_definitions.proofs.Names.{names_go, names_are_taken}
+use Rattle.disk_definitions.proofs.Puts.{edited_append}
+use Rattle.disk_definitions.proofs.Kept.{inode_is}
+use Rattle.disk_definitions.specs.Ask.{Ask, Got, ReadInode, run}
+use Rattle.disk_definitions.specs.Plans.{Hand, Plan, refused}
+use Rattle.disk_definitions.specs.Plans.Plan.{Finishes}
+use Rattle.disk_definitions.specs.NamePlans.{Moving, fewer, fewer_segments, finish_over, moved_onto_by, replacing_node, moving_onto}
+use Rattle.disk_definitions.specs.Meets.{IsOfTree}
 use Rattle.plan_laws.specs.Keeping.{FinishKeeps}
 use Rattle.plan_laws.proofs.Asking.{run-segments}
 use Rattle.plan_laws.proofs.Cases.{inode_by, has_inode}

@@ -13,17 +13,17 @@ use Rattle.tree_laws.specs.WellFormed.{IsWellFormed, put as put_node}
 use Rattle.tree_laws.proofs.Nodes.{node_with, with_same, with_other}
 use Rattle.disk_definitions.specs.Store.{Store, StoredNode}
 use Rattle.disk_definitions.specs.Naming.{Naming, entry_of}
-use Rattle.store_changes.specs.Edits.{edited_all}
-use Rattle.store_changes.specs.Changes.{take_entry, replace_entry}
-use Rattle.store_changes.specs.Namings.{named_at}
-use Rattle.store_changes.proofs.Names.{names_go, names_move}
-use Rattle.store_changes.proofs.Puts.{put_twice, put_apart, edited_append}
-use Rattle.plan_definitions.specs.Ask.{Ask, Got, bind, run}
-use Rattle.plan_definitions.specs.Plans.{Hand, Plan, Room, enter, find_room, finish_in, must_clear, refused}
-use Rattle.plan_definitions.specs.Plans.Plan.{Finishes}
-use Rattle.plan_definitions.specs.Plans.Room.{Inside, InBlock, NoRoom}
-use Rattle.plan_definitions.specs.NamePlans.{Moving, moved_within, moved_between, moving_in, moving_to}
-use Rattle.plan_definitions.specs.Meets.{IsOfTree, IsHandOf}
+use Rattle.disk_definitions.specs.Edits.{edited_all}
+use Rattle.disk_definitions.specs.Changes.{take_entry, replace_entry}
+use Rattle.disk_definitions.specs.Namings.{named_at}
+use Rattle.disk_definitions.proofs.Names.{names_go, names_move}
+use Rattle.disk_definitions.proofs.Puts.{put_twice, put_apart, edited_append}
+use Rattle.disk_definitions.specs.Ask.{Ask, Got, bind, run}
+use Rattle.disk_definitions.specs.Plans.{Hand, Plan, Room, enter, find_room, finish_in, must_clear, refused}
+use Rattle.disk_definitions.specs.Plans.Plan.{Finishes}
+use Rattle.disk_definitions.specs.Plans.Room.{Inside, InBlock, NoRoom}
+use Rattle.disk_definitions.specs.NamePlans.{Moving, moved_within, moved_between, moving_in, moving_to}
+use Rattle.disk_definitions.specs.Meets.{IsOfTree, IsHandOf}
 use Rattle.plan_laws.specs.Keeping.{FinishKeeps}
 use Rattle.plan_laws.proofs.Asking.{run-bind}
 use Rattle.plan_laws.proofs.Cases.{inode_by, has_inode}

@@ -4,18 +4,18 @@ use Rattle.std.proofs.lemmas.Bool.Decides.{nat_tests}
 use Rattle.std.specs.Option.{option_map}
 use Rattle.frang_base.specs.declared.bitmap.Bitmap.{Bitmap}
 use Rattle.frang_base.proofs.Basics.{of_gt, of_le}
-use Rattle.sector_definitions.specs.Bitmaps.{inode_bit, block_state}
+use Rattle.disk_definitions.specs.Bitmaps.{inode_bit, block_state}
 use Rattle.tree_definitions.specs.Tree.{FileTree, inodes_full, blocks_full, count_of, small_blocks}
 use Rattle.disk_definitions.specs.Store.{Store, use_by, is_unused}
 use Rattle.disk_definitions.specs.Store.Use.{Fresh, Empty}
 use Rattle.disk_definitions.specs.Naming.{Naming}
-use Rattle.pick_definitions.specs.Least.{count}
-use Rattle.pick_definitions.specs.Held.{AreSegments, bitmap_of, inode_in, state_in}
-use Rattle.pick_definitions.specs.Picks.{is_in_state, picked_inode, picked_directory}
-use Rattle.pick_definitions.proofs.PickLaws.{an_inode, no_inode, for_a_directory, none_for_a_directory, held_there}
-use Rattle.store_changes.specs.Laws.{IsFreeBlock}
-use Rattle.plan_definitions.specs.Plans.{Hand, must_clear}
-use Rattle.plan_definitions.specs.Meets.{IsOfTree, IsHandOf}
+use Rattle.disk_definitions.specs.Least.{count}
+use Rattle.disk_definitions.specs.Held.{AreSegments, bitmap_of, inode_in, state_in}
+use Rattle.disk_definitions.specs.Picks.{is_in_state, picked_inode, picked_directory}
+use Rattle.disk_definitions.proofs.PickLaws.{an_inode, no_inode, for_a_directory, none_for_a_directory, held_there}
+use Rattle.disk_definitions.specs.ChangeLaws.{IsFreeBlock}
+use Rattle.disk_definitions.specs.Plans.{Hand, must_clear}
+use Rattle.disk_definitions.specs.Meets.{IsOfTree, IsHandOf}
 use Rattle.plan_laws.proofs.Counting.{count_all, count_less}
 use Rattle.plan_laws.proofs.Totals.{inodes_counted, blocks_counted}
 

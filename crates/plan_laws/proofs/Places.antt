@@ -11,11 +11,11 @@ use Rattle.frang_base.proofs.Basics.{of_le, of_gt}
 use Rattle.tree_laws.proofs.Pairs.{name_exact}
 use Rattle.disk_definitions.specs.Store.{Store, StoredEntry}
 use Rattle.disk_definitions.specs.Naming.{Naming, Nodes, Pictures, find_in, room_in, first_blocks, entry_of, place_of, dir_place}
-use Rattle.pick_definitions.specs.Least.{least, count}
-use Rattle.pick_definitions.proofs.LeastLaws.{least_some, least_nothing}
-use Rattle.store_changes.specs.Laws.{IsFreePlace}
-use Rattle.store_changes.proofs.Free.{a_some}
-use Rattle.plan_definitions.specs.Walks.{is_vacant}
+use Rattle.disk_definitions.specs.Least.{least, count}
+use Rattle.disk_definitions.proofs.LeastLaws.{least_some, least_nothing}
+use Rattle.disk_definitions.specs.ChangeLaws.{IsFreePlace}
+use Rattle.disk_definitions.proofs.Free.{a_some}
+use Rattle.disk_definitions.specs.Walks.{is_vacant}
 use Rattle.plan_laws.proofs.Counting.{count_all, count_less, count_keys}
 use Rattle.plan_laws.proofs.Spots.{as_inode}
 

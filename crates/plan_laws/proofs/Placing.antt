@@ -15,18 +15,18 @@ use Rattle.tree_laws.specs.WellFormed.{IsWellFormed}
 use Rattle.disk_definitions.specs.Store.{Store, StoredNode, Use, byte_at, is_unused}
 use Rattle.disk_definitions.specs.Store.Use.{Fresh, Bytes}
 use Rattle.disk_definitions.specs.Naming.{Naming, inode_of, Allows}
-use Rattle.store_changes.specs.Edits.{Edit, edited_all}
-use Rattle.store_changes.specs.Edits.Edit.{SetUse, SetLarge}
-use Rattle.store_changes.specs.Namings.{is_owned_by, is_of}
-use Rattle.store_changes.specs.Laws.{FilesFit}
-use Rattle.store_changes.specs.Resizing.{index_of, is_large_of, named_resized, HasBlocks, IsResized}
-use Rattle.store_changes.proofs.Puts.{edited_append}
-use Rattle.store_changes.proofs.Indices.{index_hit}
-use Rattle.plan_definitions.specs.Ask.{Got, run}
-use Rattle.plan_definitions.specs.Plans.{Hand, Plan}
-use Rattle.plan_definitions.specs.Plans.Plan.{Finishes}
-use Rattle.plan_definitions.specs.FilePlans.{Writing, end_of, sectors_met, large_after, resized, large_taken, large_segment, file_dated, written_by, writing_in}
-use Rattle.plan_definitions.specs.Meets.{IsOfTree, IsHandOf}
+use Rattle.disk_definitions.specs.Edits.{Edit, edited_all}
+use Rattle.disk_definitions.specs.Edits.Edit.{SetUse, SetLarge}
+use Rattle.disk_definitions.specs.Namings.{is_owned_by, is_of}
+use Rattle.disk_definitions.specs.ChangeLaws.{FilesFit}
+use Rattle.disk_definitions.specs.Resizing.{index_of, is_large_of, named_resized, HasBlocks, IsResized}
+use Rattle.disk_definitions.proofs.Puts.{edited_append}
+use Rattle.disk_definitions.proofs.Indices.{index_hit}
+use Rattle.disk_definitions.specs.Ask.{Got, run}
+use Rattle.disk_definitions.specs.Plans.{Hand, Plan}
+use Rattle.disk_definitions.specs.Plans.Plan.{Finishes}
+use Rattle.disk_definitions.specs.FilePlans.{Writing, end_of, sectors_met, large_after, resized, large_taken, large_segment, file_dated, written_by, writing_in}
+use Rattle.disk_definitions.specs.Meets.{IsOfTree, IsHandOf}
 use Rattle.plan_laws.specs.Keeping.{FinishKeeps, PlanKeeps}
 use Rattle.plan_laws.proofs.Cases.{inode_by}
 use Rattle.plan_laws.proofs.Totals.{in_range}

@@ -3,9 +3,9 @@ use Rattle.std.proofs.Common.{ℕ, ◌≡◌, ◌*◌, ◌==◌, Bool, true, fal
 use Rattle.frang_base.specs.declared.reply.Reply.{Reply}
 use Rattle.frang_base.specs.declared.reply.Reply.TheVariants as reply
 use Rattle.disk_definitions.specs.Store.{Store, StoredNode}
-use Rattle.plan_definitions.specs.Ask.{Ask, Got, ReadInode, run}
-use Rattle.plan_definitions.specs.Walks.{Spot, Walked, Found, search, is_named, spot_by, look_up, in_inode, onward, walk_from, walk}
-use Rattle.plan_definitions.specs.Walks.Spot.{AtRoot, AtName, AtGap, Lost}
+use Rattle.disk_definitions.specs.Ask.{Ask, Got, ReadInode, run}
+use Rattle.disk_definitions.specs.Walks.{Spot, Walked, Found, search, is_named, spot_by, look_up, in_inode, onward, walk_from, walk}
+use Rattle.disk_definitions.specs.Walks.Spot.{AtRoot, AtName, AtGap, Lost}
 use Rattle.plan_laws.proofs.Asking.{run-bind}
 
 module _ (wants : Reply → Bool) (no_entry : wants reply.NoEnt ≡ false) (no_directory : wants reply.NotDir ≡ false) where

@@ -14,10 +14,10 @@ use Rattle.tree_definitions.specs.Apply.Answer.{Shows}
 use Rattle.tree_laws.proofs.StepsLaws.{apply_keeps}
 use Rattle.disk_definitions.specs.Store.{Store, StoredNode}
 use Rattle.disk_definitions.specs.Naming.{Naming, Allows}
-use Rattle.plan_definitions.specs.Ask.{run}
-use Rattle.plan_definitions.specs.Plans.{Hand, refused, refuse}
-use Rattle.plan_definitions.specs.FilePlans.{sectors_met, read_sectors, showing}
-use Rattle.plan_definitions.specs.Meets.{IsOfTree, AllAllow}
+use Rattle.disk_definitions.specs.Ask.{run}
+use Rattle.disk_definitions.specs.Plans.{Hand, refused, refuse}
+use Rattle.disk_definitions.specs.FilePlans.{sectors_met, read_sectors, showing}
+use Rattle.disk_definitions.specs.Meets.{IsOfTree, AllAllow}
 use Rattle.plan_laws.specs.Keeping.{PlanKeeps}
 use Rattle.plan_laws.proofs.Cases.{inode_by}
 use Rattle.plan_laws.proofs.Refusing.{Meets, refuse_meets}

@@ -6,9 +6,9 @@ use Rattle.tree_definitions.specs.Apply.{Applied, says}
 use Rattle.tree_laws.specs.WellFormed.{IsWellFormed}
 use Rattle.disk_definitions.specs.Store.{Store}
 use Rattle.disk_definitions.specs.Naming.{Naming}
-use Rattle.plan_definitions.specs.Ask.{run}
-use Rattle.plan_definitions.specs.Plans.{Hand, Plan, refuse, none_left}
-use Rattle.plan_definitions.specs.Meets.{IsOfTree}
+use Rattle.disk_definitions.specs.Ask.{run}
+use Rattle.disk_definitions.specs.Plans.{Hand, Plan, refuse, none_left}
+use Rattle.disk_definitions.specs.Meets.{IsOfTree}
 use Rattle.plan_laws.specs.Keeping.{PlanKeeps}
 
 -- it meets what is applied, where the tree after it is well formed, as each is

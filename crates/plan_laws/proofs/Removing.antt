@@ -15,18 +15,18 @@ use Rattle.tree_laws.proofs.Keeping.{names_nodes, never_root}
 use Rattle.tree_laws.proofs.StepsLaws.{apply_keeps}
 use Rattle.disk_definitions.specs.Store.{Store, StoredNode}
 use Rattle.disk_definitions.specs.Naming.{Naming, kind_of, entry_of}
-use Rattle.store_changes.specs.Edits.{edited_all}
-use Rattle.store_changes.specs.Changes.{take_entry}
-use Rattle.store_changes.specs.Laws.{HasNoNames}
-use Rattle.store_changes.proofs.Names.{names_go}
-use Rattle.store_changes.proofs.Puts.{edited_append}
-use Rattle.store_changes.proofs.Kept.{inode_is}
-use Rattle.plan_definitions.specs.Ask.{Got, ReadInode, run}
-use Rattle.plan_definitions.specs.Walks.{AtName, walk}
-use Rattle.plan_definitions.specs.Plans.{Hand, refused}
-use Rattle.plan_definitions.specs.Plans.Plan.{Finishes}
-use Rattle.plan_definitions.specs.NamePlans.{fewer, fewer_segments, finish_over, removed_by, unlinking_node, unlinking, removing_node, removing}
-use Rattle.plan_definitions.specs.Meets.{IsOfTree}
+use Rattle.disk_definitions.specs.Edits.{edited_all}
+use Rattle.disk_definitions.specs.Changes.{take_entry}
+use Rattle.disk_definitions.specs.ChangeLaws.{HasNoNames}
+use Rattle.disk_definitions.proofs.Names.{names_go}
+use Rattle.disk_definitions.proofs.Puts.{edited_append}
+use Rattle.disk_definitions.proofs.Kept.{inode_is}
+use Rattle.disk_definitions.specs.Ask.{Got, ReadInode, run}
+use Rattle.disk_definitions.specs.Walks.{AtName, walk}
+use Rattle.disk_definitions.specs.Plans.{Hand, refused}
+use Rattle.disk_definitions.specs.Plans.Plan.{Finishes}
+use Rattle.disk_definitions.specs.NamePlans.{fewer, fewer_segments, finish_over, removed_by, unlinking_node, unlinking, removing_node, removing}
+use Rattle.disk_definitions.specs.Meets.{IsOfTree}
 use Rattle.plan_laws.specs.Keeping.{FinishKeeps, PlanKeeps}
 use Rattle.plan_laws.specs.NamesPlanned.{UnlinkIsPlanned, RmdirIsPlanned}
 use Rattle.plan_laws.proofs.Asking.{run-bind, run-segments}

@@ -12,11 +12,11 @@ use Rattle.tree_laws.proofs.Keeping.{names_nodes}
 use Rattle.tree_laws.proofs.StepsLaws.{apply_keeps}
 use Rattle.disk_definitions.specs.Store.{Store}
 use Rattle.disk_definitions.specs.Naming.{Naming, entry_of}
-use Rattle.plan_definitions.specs.Ask.{Ask, run}
-use Rattle.plan_definitions.specs.Walks.{Spot, AtName, walk}
-use Rattle.plan_definitions.specs.Plans.{Hand, Plan, refused}
-use Rattle.plan_definitions.specs.NamePlans.{Moving, goes_through as passes_moved, moving_onto, moving_to, renaming_to, renaming, plan_renamed}
-use Rattle.plan_definitions.specs.Meets.{IsOfTree, IsHandOf}
+use Rattle.disk_definitions.specs.Ask.{Ask, run}
+use Rattle.disk_definitions.specs.Walks.{Spot, AtName, walk}
+use Rattle.disk_definitions.specs.Plans.{Hand, Plan, refused}
+use Rattle.disk_definitions.specs.NamePlans.{Moving, goes_through as passes_moved, moving_onto, moving_to, renaming_to, renaming, plan_renamed}
+use Rattle.disk_definitions.specs.Meets.{IsOfTree, IsHandOf}
 use Rattle.plan_laws.specs.Walking.{Mirrors}
 use Rattle.plan_laws.specs.NamesPlanned.{RenameIsPlanned}
 use Rattle.plan_laws.proofs.Asking.{run-bind}

@@ -4,10 +4,10 @@ use Rattle.std.proofs.lemmas.Bool.Decides.{nat_tests}
 use Rattle.std.specs.Option.{option_map}
 use Rattle.disk_definitions.specs.Store.{Store, StoredEntry}
 use Rattle.disk_definitions.specs.Naming.{place_of}
-use Rattle.pick_definitions.specs.Least.{least_from, least}
-use Rattle.pick_definitions.proofs.LeastLaws.{least_below, from_none, passed_over, found_at, least_some, least_nothing}
-use Rattle.plan_definitions.specs.Ask.{seven, run}
-use Rattle.plan_definitions.specs.Walks.{Found, or_on, hit, search}
+use Rattle.disk_definitions.specs.Least.{least_from, least}
+use Rattle.disk_definitions.proofs.LeastLaws.{least_below, from_none, passed_over, found_at, least_some, least_nothing}
+use Rattle.disk_definitions.specs.Ask.{seven, run}
+use Rattle.disk_definitions.specs.Walks.{Found, or_on, hit, search}
 use Rattle.plan_laws.specs.Walking.{SearchFindsTheLeast}
 
 -- a place of a row with what stands there

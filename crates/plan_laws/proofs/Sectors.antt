@@ -3,12 +3,12 @@ use Rattle.std.proofs.Common.{ℕ, zero, suc, ◌≡◌, ◌≢◌, ◌<◌, ◌
 use Rattle.std.proofs.lemmas.Bool.{cases_eq}
 use Rattle.std.proofs.lemmas.Bool.Decides.{nat_tests}
 use Rattle.disk_definitions.specs.Store.{Store, StoredNode}
-use Rattle.store_changes.specs.Edits.{Edit, edited, edited_all}
-use Rattle.store_changes.specs.Edits.Edit.{SetBytes, SetLargeBytes}
-use Rattle.store_changes.proofs.Puts.{put_part_same, put_part_other}
-use Rattle.plan_definitions.specs.Ask.{Ask, part_of, run}
-use Rattle.plan_definitions.specs.Plans.{Plan}
-use Rattle.plan_definitions.specs.FilePlans.{Writing, keeps_bytes, mixed, read_sector, set_sector, write_sector, write_sectors}
+use Rattle.disk_definitions.specs.Edits.{Edit, edited, edited_all}
+use Rattle.disk_definitions.specs.Edits.Edit.{SetBytes, SetLargeBytes}
+use Rattle.disk_definitions.proofs.Puts.{put_part_same, put_part_other}
+use Rattle.disk_definitions.specs.Ask.{Ask, part_of, run}
+use Rattle.disk_definitions.specs.Plans.{Plan}
+use Rattle.disk_definitions.specs.FilePlans.{Writing, keeps_bytes, mixed, read_sector, set_sector, write_sector, write_sectors}
 use Rattle.plan_laws.proofs.Bytes.{sector_at, run-sector}
 
 -- ---- one sector

@@ -2,10 +2,10 @@
 use Rattle.std.proofs.Common.{ℕ, ◌≡◌, ◌||◌, Bool, true, false, nat_eq, if◌then◌else◌, Some, List, [], ◌∷◌, ◌++◌, map, refl, sym, ◌∙◌, ap, subst}
 use Rattle.frang_base.specs.Functions.{put}
 use Rattle.disk_definitions.specs.Store.{Store, StoredNode, Use}
-use Rattle.store_changes.specs.Edits.{Edit, edited, edited_all}
-use Rattle.store_changes.specs.Edits.Edit.{SetUse, SetLarge}
-use Rattle.store_changes.proofs.Puts.{edited_append}
-use Rattle.plan_definitions.specs.FilePlans.{file_dated}
+use Rattle.disk_definitions.specs.Edits.{Edit, edited, edited_all}
+use Rattle.disk_definitions.specs.Edits.Edit.{SetUse, SetLarge}
+use Rattle.disk_definitions.proofs.Puts.{edited_append}
+use Rattle.disk_definitions.specs.FilePlans.{file_dated}
 use Rattle.plan_laws.proofs.Among.{is_among}
 
 -- one place and then others with the same value

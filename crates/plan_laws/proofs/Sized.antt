@@ -9,10 +9,10 @@ use Rattle.frang_base.proofs.Basics.{eq_of}
 use Rattle.disk_definitions.specs.Store.{Store, StoredNode}
 use Rattle.disk_definitions.specs.Store.Use.{Bytes}
 use Rattle.disk_definitions.specs.Naming.{Naming, Nodes, Pictures, first_blocks, has_large, blocks_of, inode_of, use_for}
-use Rattle.store_changes.specs.Namings.{is_of}
-use Rattle.store_changes.specs.Resizing.{index_of, HasBlocks}
-use Rattle.store_changes.proofs.Indices.{index_hit, own_index}
-use Rattle.plan_definitions.specs.FilePlans.{small_after, large_after, resized}
+use Rattle.disk_definitions.specs.Namings.{is_of}
+use Rattle.disk_definitions.specs.Resizing.{index_of, HasBlocks}
+use Rattle.disk_definitions.proofs.Indices.{index_hit, own_index}
+use Rattle.disk_definitions.specs.FilePlans.{small_after, large_after, resized}
 use Rattle.plan_laws.proofs.Among.{same_if}
 
 -- ---- the inode

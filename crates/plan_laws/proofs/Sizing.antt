@@ -8,12 +8,12 @@ use Rattle.tree_laws.specs.WellFormed.{IsWellFormed, put as put_node}
 use Rattle.tree_laws.proofs.Nodes.{node_with}
 use Rattle.disk_definitions.specs.Store.{Store}
 use Rattle.disk_definitions.specs.Naming.{Naming}
-use Rattle.store_changes.specs.Namings.{is_of}
-use Rattle.store_changes.specs.Laws.{FilesFit}
-use Rattle.store_changes.specs.Resizing.{index_of, is_large_of, named_resized, HasBlocks, IsResized}
-use Rattle.store_changes.proofs.Indices.{index_hit}
-use Rattle.store_changes.proofs.Resize.{files_are_resized}
-use Rattle.plan_definitions.specs.Meets.{IsOfTree}
+use Rattle.disk_definitions.specs.Namings.{is_of}
+use Rattle.disk_definitions.specs.ChangeLaws.{FilesFit}
+use Rattle.disk_definitions.specs.Resizing.{index_of, is_large_of, named_resized, HasBlocks, IsResized}
+use Rattle.disk_definitions.proofs.Indices.{index_hit}
+use Rattle.disk_definitions.proofs.Resize.{files_are_resized}
+use Rattle.disk_definitions.specs.Meets.{IsOfTree}
 use Rattle.plan_laws.proofs.Stages.{IsWithin, IsStage, stage_of, of_stage, moved_on}
 
 -- the blocks are the disk's

@@ -10,12 +10,12 @@ use Rattle.frang_base.proofs.Basics.{of_lt}
 use Rattle.tree_laws.proofs.Sameness.{text_sound, text_same}
 use Rattle.disk_definitions.specs.Store.{Store, StoredNode, StoredEntry}
 use Rattle.disk_definitions.specs.Naming.{Naming, Nodes, Pictures, find_in, room_in, first_blocks, inode_of, entry_of, place_of, dir_place}
-use Rattle.pick_definitions.specs.Least.{least}
-use Rattle.pick_definitions.proofs.LeastLaws.{least_some, least_nothing}
-use Rattle.store_changes.proofs.Rooms.{which_block}
-use Rattle.store_changes.proofs.Kept.{inode_is}
-use Rattle.plan_definitions.specs.Ask.{Got, run}
-use Rattle.plan_definitions.specs.Walks.{AtName, Walked, Found, search, is_named, spot_by, look_up, in_inode}
+use Rattle.disk_definitions.specs.Least.{least}
+use Rattle.disk_definitions.proofs.LeastLaws.{least_some, least_nothing}
+use Rattle.disk_definitions.proofs.Rooms.{which_block}
+use Rattle.disk_definitions.proofs.Kept.{inode_is}
+use Rattle.disk_definitions.specs.Ask.{Got, run}
+use Rattle.disk_definitions.specs.Walks.{AtName, Walked, Found, search, is_named, spot_by, look_up, in_inode}
 use Rattle.plan_laws.specs.Walking.{IsDirectory, Mirrors}
 use Rattle.plan_laws.proofs.Asking.{run-bind}
 use Rattle.plan_laws.proofs.Searching.{found_in, run-search}

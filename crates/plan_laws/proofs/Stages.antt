@@ -13,18 +13,18 @@ use Rattle.tree_laws.proofs.Places.{dir_is_some}
 use Rattle.disk_definitions.specs.Store.{Store, StoredNode}
 use Rattle.disk_definitions.specs.Store.Use.{Fresh, Empty}
 use Rattle.disk_definitions.specs.Naming.{Naming, Nodes, Pictures, kind_of, blocks_of, inode_of, use_by, use_for, entry_of}
-use Rattle.store_changes.specs.Edits.{edited_all}
-use Rattle.store_changes.specs.Changes.{new_node, put_entry, take_entry, replace_entry, grow, relink, drop_node}
-use Rattle.store_changes.specs.Namings.{named_new, named_at, named_block, named_less, is_of, KeepsOthers}
-use Rattle.store_changes.specs.Laws.{Leads, MayCome, HasInode, HasNameMore, HasNameLess, HasNameInstead, IsFreePlace, IsFreeBlock, HasNoNames, with_links}
-use Rattle.store_changes.proofs.Kept.{inode_is}
-use Rattle.store_changes.proofs.NewNode.{nodes_come}
-use Rattle.store_changes.proofs.Entry.{entries_come, entries_go}
-use Rattle.store_changes.proofs.Replace.{entries_are_replaced}
-use Rattle.store_changes.proofs.Grow.{directories_grow}
-use Rattle.store_changes.proofs.Relink.{links_change}
-use Rattle.store_changes.proofs.Freeing.{nodes_go}
-use Rattle.plan_definitions.specs.Meets.{IsOfTree}
+use Rattle.disk_definitions.specs.Edits.{edited_all}
+use Rattle.disk_definitions.specs.Changes.{new_node, put_entry, take_entry, replace_entry, grow, relink, drop_node}
+use Rattle.disk_definitions.specs.Namings.{named_new, named_at, named_block, named_less, is_of, KeepsOthers}
+use Rattle.disk_definitions.specs.ChangeLaws.{Leads, MayCome, HasInode, HasNameMore, HasNameLess, HasNameInstead, IsFreePlace, IsFreeBlock, HasNoNames, with_links}
+use Rattle.disk_definitions.proofs.Kept.{inode_is}
+use Rattle.disk_definitions.proofs.NewNode.{nodes_come}
+use Rattle.disk_definitions.proofs.Entry.{entries_come, entries_go}
+use Rattle.disk_definitions.proofs.Replace.{entries_are_replaced}
+use Rattle.disk_definitions.proofs.Grow.{directories_grow}
+use Rattle.disk_definitions.proofs.Relink.{links_change}
+use Rattle.disk_definitions.proofs.Freeing.{nodes_go}
+use Rattle.disk_definitions.specs.Meets.{IsOfTree}
 
 -- what a naming names is within so many segments
 pub record IsWithin (n : Naming) (segments : ℕ) : Type 0 where

@@ -5,20 +5,20 @@ use Rattle.std.specs.Option.{option_map}
 use Rattle.std.specs.List.Sorted.{IsStrictlyIncreasing}
 use Rattle.frang_base.specs.declared.bitmap.Bitmap.{Bitmap}
 use Rattle.frang_base.proofs.Basics.{of_le, of_gt}
-use Rattle.sector_definitions.specs.Bitmaps.{block_state}
+use Rattle.disk_definitions.specs.Bitmaps.{block_state}
 use Rattle.tree_definitions.specs.Tree.{FileTree, count_of, file_blocks, large_blocks, larges_full}
 use Rattle.disk_definitions.specs.Store.{Store, use_by}
 use Rattle.disk_definitions.specs.Store.Use.{Fresh, Bytes, Empty, Entries}
 use Rattle.disk_definitions.specs.Naming.{Naming}
-use Rattle.pick_definitions.specs.Least.{count, one_if}
-use Rattle.pick_definitions.specs.Held.{AreSegments, bitmap_of, state_in, large_in}
-use Rattle.pick_definitions.specs.Picks.{is_in_state, picked_many, picked_large}
-use Rattle.pick_definitions.proofs.Counts.{count_zero, count_more, count_same}
-use Rattle.pick_definitions.proofs.PickLaws.{a_large_block, no_large_block, held_there, state_is}
-use Rattle.pick_definitions.proofs.ManyLaws.{picks_the_least, where_there_are_enough}
-use Rattle.plan_definitions.specs.Plans.{Hand}
-use Rattle.plan_definitions.specs.FilePlans.{directory_blocks}
-use Rattle.plan_definitions.specs.Meets.{IsOfTree, IsHandOf, is_directory_use, directory_blocks_in}
+use Rattle.disk_definitions.specs.Least.{count, one_if}
+use Rattle.disk_definitions.specs.Held.{AreSegments, bitmap_of, state_in, large_in}
+use Rattle.disk_definitions.specs.Picks.{is_in_state, picked_many, picked_large}
+use Rattle.disk_definitions.proofs.PickCounts.{count_zero, count_more, count_same}
+use Rattle.disk_definitions.proofs.PickLaws.{a_large_block, no_large_block, held_there, state_is}
+use Rattle.disk_definitions.proofs.ManyLaws.{picks_the_least, where_there_are_enough}
+use Rattle.disk_definitions.specs.Plans.{Hand}
+use Rattle.disk_definitions.specs.FilePlans.{directory_blocks}
+use Rattle.disk_definitions.specs.Meets.{IsOfTree, IsHandOf, is_directory_use, directory_blocks_in}
 use Rattle.plan_laws.proofs.Counting.{count_all, count_less, false_if}
 use Rattle.plan_laws.proofs.FileTotals.{is_fresh, is_bytes, files_counted, larges_counted, uses_counted}
 

@@ -8,9 +8,9 @@ use Rattle.tree_laws.proofs.Pairs.{birth_exact}
 use Rattle.disk_definitions.specs.Store.{Store, is_unused}
 use Rattle.disk_definitions.specs.Store.Use.{Fresh, Empty}
 use Rattle.disk_definitions.specs.Naming.{Naming, blocks_of, use_for}
-use Rattle.pick_definitions.specs.Least.{count}
-use Rattle.store_changes.proofs.Free.{a_some, in_use}
-use Rattle.plan_definitions.specs.Meets.{IsOfTree}
+use Rattle.disk_definitions.specs.Least.{count}
+use Rattle.disk_definitions.proofs.Free.{a_some, in_use}
+use Rattle.disk_definitions.specs.Meets.{IsOfTree}
 use Rattle.plan_laws.proofs.Counting.{count_keys}
 use Rattle.plan_laws.proofs.Blocks.{IsBlockOf, count_blocks}
 

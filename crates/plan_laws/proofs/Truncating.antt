@@ -16,17 +16,17 @@ use Rattle.tree_laws.proofs.StepsLaws.{apply_keeps}
 use Rattle.disk_definitions.specs.Store.{Store, StoredNode, Use}
 use Rattle.disk_definitions.specs.Store.Use.{Fresh, Bytes}
 use Rattle.disk_definitions.specs.Naming.{Naming, inode_of, Allows}
-use Rattle.store_changes.specs.Edits.{Edit, edited_all}
-use Rattle.store_changes.specs.Namings.{is_owned_by}
-use Rattle.store_changes.specs.Laws.{FilesFit}
-use Rattle.store_changes.specs.Resizing.{index_of, named_resized, HasBlocks, IsResized}
-use Rattle.store_changes.proofs.Resize.{own_blocks_do}
-use Rattle.plan_definitions.specs.Ask.{Got, run}
-use Rattle.plan_definitions.specs.NamePlans.{finish_over}
-use Rattle.plan_definitions.specs.Plans.{Hand, refused}
-use Rattle.plan_definitions.specs.Plans.Plan.{Finishes}
-use Rattle.plan_definitions.specs.FilePlans.{resized, blocks_between, large_cut, cut_segments, cut_by, cutting}
-use Rattle.plan_definitions.specs.Meets.{IsOfTree}
+use Rattle.disk_definitions.specs.Edits.{Edit, edited_all}
+use Rattle.disk_definitions.specs.Namings.{is_owned_by}
+use Rattle.disk_definitions.specs.ChangeLaws.{FilesFit}
+use Rattle.disk_definitions.specs.Resizing.{index_of, named_resized, HasBlocks, IsResized}
+use Rattle.disk_definitions.proofs.Resize.{own_blocks_do}
+use Rattle.disk_definitions.specs.Ask.{Got, run}
+use Rattle.disk_definitions.specs.NamePlans.{finish_over}
+use Rattle.disk_definitions.specs.Plans.{Hand, refused}
+use Rattle.disk_definitions.specs.Plans.Plan.{Finishes}
+use Rattle.disk_definitions.specs.FilePlans.{resized, blocks_between, large_cut, cut_segments, cut_by, cutting}
+use Rattle.disk_definitions.specs.Meets.{IsOfTree}
 use Rattle.plan_laws.specs.Keeping.{FinishKeeps}
 use Rattle.plan_laws.proofs.Asking.{run-segments}
 use Rattle.plan_laws.proofs.Cases.{inode_by}

@@ -11,9 +11,9 @@ use Rattle.tree_laws.proofs.Places.{dir_is_some}
 use Rattle.tree_laws.proofs.Keeping.{names_nodes}
 use Rattle.disk_definitions.specs.Store.{Store}
 use Rattle.disk_definitions.specs.Naming.{Naming}
-use Rattle.plan_definitions.specs.Ask.{Got, ReadInode, run}
-use Rattle.plan_definitions.specs.Walks.{Spot, AtRoot, AtName, AtGap, Lost, Walked, in_inode, onward, walk_from}
-use Rattle.plan_definitions.specs.Meets.{IsOfTree}
+use Rattle.disk_definitions.specs.Ask.{Got, ReadInode, run}
+use Rattle.disk_definitions.specs.Walks.{Spot, AtRoot, AtName, AtGap, Lost, Walked, in_inode, onward, walk_from}
+use Rattle.disk_definitions.specs.Meets.{IsOfTree}
 use Rattle.plan_laws.specs.Walking.{Mirrors, WalksLeadAsTheTreeDoes}
 use Rattle.plan_laws.proofs.Asking.{run-bind}
 use Rattle.plan_laws.proofs.Spots.{LeadsTo, in_inode_leads}

@@ -14,11 +14,11 @@ use Rattle.tree_definitions.specs.Apply.{Applied, says, overwritten, written}
 use Rattle.tree_laws.proofs.StepsLaws.{apply_keeps}
 use Rattle.disk_definitions.specs.Store.{Store, StoredNode}
 use Rattle.disk_definitions.specs.Naming.{Naming}
-use Rattle.pick_definitions.specs.Picks.{picked_many, picked_large}
-use Rattle.plan_definitions.specs.Ask.{Ask, run}
-use Rattle.plan_definitions.specs.Plans.{Hand, Plan, refused, none_left, read_held}
-use Rattle.plan_definitions.specs.FilePlans.{Writing, end_of, directory_blocks, writing_in, writing_picked, writing_small, writing_large, writing}
-use Rattle.plan_definitions.specs.Meets.{IsOfTree, IsHandOf}
+use Rattle.disk_definitions.specs.Picks.{picked_many, picked_large}
+use Rattle.disk_definitions.specs.Ask.{Ask, run}
+use Rattle.disk_definitions.specs.Plans.{Hand, Plan, refused, none_left, read_held}
+use Rattle.disk_definitions.specs.FilePlans.{Writing, end_of, directory_blocks, writing_in, writing_picked, writing_small, writing_large, writing}
+use Rattle.disk_definitions.specs.Meets.{IsOfTree, IsHandOf}
 use Rattle.plan_laws.specs.Keeping.{PlanKeeps}
 use Rattle.plan_laws.proofs.Asking.{run-segments}
 use Rattle.plan_laws.proofs.Cases.{inode_by}

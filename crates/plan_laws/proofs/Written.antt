@@ -3,8 +3,8 @@ use Rattle.std.proofs.Common.{ℕ, ◌≡◌, ◌<◌, ◌≤◌, ◌+◌, ◌-�
 use Rattle.std.proofs.lemmas.Bool.{cases_lt}
 use Rattle.std.proofs.lemmas.Bool.Decides.{nat_tests}
 use Rattle.disk_definitions.specs.Store.{Store, StoredNode}
-use Rattle.store_changes.specs.Edits.{edited_all}
-use Rattle.plan_definitions.specs.FilePlans.{Writing, end_of, keeps_bytes, byte_over, mixed, sectors_met}
+use Rattle.disk_definitions.specs.Edits.{edited_all}
+use Rattle.disk_definitions.specs.FilePlans.{Writing, end_of, keeps_bytes, byte_over, mixed, sectors_met}
 use Rattle.plan_laws.proofs.Bytes.{sector_at, stored_byte}
 use Rattle.plan_laws.proofs.Sectors.{old_sector, sector_edits, sector_in, sector_out}
 

@@ -7,11 +7,11 @@ use Rattle.tree_definitions.specs.Apply.{apply}
 use Rattle.tree_laws.specs.WellFormed.{IsNew, IsWellFormed}
 use Rattle.disk_definitions.specs.Store.{Store}
 use Rattle.disk_definitions.specs.Naming.{Naming}
-use Rattle.store_changes.specs.Laws.{FilesFit}
-use Rattle.plan_definitions.specs.Ask.{run}
-use Rattle.plan_definitions.specs.Plans.{Hand}
-use Rattle.plan_definitions.specs.PlanOf.{plan_of}
-use Rattle.plan_definitions.specs.Meets.{IsOfTree, IsHandOf, directory_blocks_in}
+use Rattle.disk_definitions.specs.ChangeLaws.{FilesFit}
+use Rattle.disk_definitions.specs.Ask.{run}
+use Rattle.disk_definitions.specs.Plans.{Hand}
+use Rattle.disk_definitions.specs.PlanOf.{plan_of}
+use Rattle.disk_definitions.specs.Meets.{IsOfTree, IsHandOf, directory_blocks_in}
 use Rattle.plan_laws.specs.Keeping.{PlanKeeps}
 use Rattle.plan_laws.specs.NamesPlanned.{IsPlanned}
 

@@ -4,9 +4,9 @@ use Rattle.tree_definitions.specs.Tree.{FileTree, node_at}
 use Rattle.tree_definitions.specs.Apply.{Applied}
 use Rattle.disk_definitions.specs.Store.{Store}
 use Rattle.disk_definitions.specs.Naming.{Naming}
-use Rattle.plan_definitions.specs.Plans.{Hand, Plan, Finish, must_clear}
-use Rattle.plan_definitions.specs.Plans.Plan.{Lacks, Clears, Finishes}
-use Rattle.plan_definitions.specs.Meets.{FinishMeets}
+use Rattle.disk_definitions.specs.Plans.{Hand, Plan, Finish, must_clear}
+use Rattle.disk_definitions.specs.Plans.Plan.{Lacks, Clears, Finishes}
+use Rattle.disk_definitions.specs.Meets.{FinishMeets}
 
 -- a node of both trees has the same inode by both namings
 abbrev pub KeepsInodes : FileTree → FileTree → Naming → Naming → Type 0

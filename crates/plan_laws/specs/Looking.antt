@@ -1,8 +1,8 @@
 -- What a computation over sectors goes by: its value, what it looks at, and what it meets with some sectors at hand.
 use Rattle.std.specs.Prelude.{◌≡◌, ℕ, List, [], ◌∷◌, ◌++◌, map}
 use Rattle.disk_definitions.specs.Store.{Store}
-use Rattle.plan_definitions.specs.Ask.{Sector, InodeAt, DirectoryAt, SegmentAt, BytesAt, LargeAt, Ask, AtHand, IsOf, bind, seven, part_of, run, looks, meet, read_segments}
-use Rattle.plan_definitions.specs.Missing.{first_missing, unless_missing}
+use Rattle.disk_definitions.specs.Ask.{Sector, InodeAt, DirectoryAt, SegmentAt, BytesAt, LargeAt, Ask, AtHand, IsOf, bind, seven, part_of, run, looks, meet, read_segments}
+use Rattle.disk_definitions.specs.Missing.{first_missing, unless_missing}
 
 -- two stores say the same in a sector; of a segment a computation sees nothing
 abbrev pub SayTheSame : Store → Store → Sector → Type 0

@@ -7,10 +7,10 @@ use Rattle.tree_definitions.specs.Apply.{apply}
 use Rattle.tree_laws.specs.WellFormed.{IsNew}
 use Rattle.disk_definitions.specs.Store.{Store}
 use Rattle.disk_definitions.specs.Naming.{Naming}
-use Rattle.plan_definitions.specs.Ask.{run}
-use Rattle.plan_definitions.specs.Plans.{Hand}
-use Rattle.plan_definitions.specs.PlanOf.{plan_of}
-use Rattle.plan_definitions.specs.Meets.{IsOfTree, IsHandOf}
+use Rattle.disk_definitions.specs.Ask.{run}
+use Rattle.disk_definitions.specs.Plans.{Hand}
+use Rattle.disk_definitions.specs.PlanOf.{plan_of}
+use Rattle.disk_definitions.specs.Meets.{IsOfTree, IsHandOf}
 use Rattle.plan_laws.specs.Keeping.{PlanKeeps}
 
 -- over the disk of a tree, with segments of it at hand, the plan of this operation at a new birth meets what it does to the tree: it answers alike,

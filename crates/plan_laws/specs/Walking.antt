@@ -8,11 +8,11 @@ use Rattle.tree_definitions.specs.Tree.{FileTree, node_at}
 use Rattle.tree_definitions.specs.Place.{Place, Root, Taken, Free, Nowhere, place, walked}
 use Rattle.disk_definitions.specs.Store.{Store, StoredNode, StoredEntry}
 use Rattle.disk_definitions.specs.Naming.{Naming, Nodes, entry_of, place_of}
-use Rattle.pick_definitions.specs.Least.{least}
-use Rattle.store_changes.specs.Laws.{HasInode}
-use Rattle.plan_definitions.specs.Ask.{run}
-use Rattle.plan_definitions.specs.Walks.{Spot, AtRoot, AtName, AtGap, Lost, search, walk}
-use Rattle.plan_definitions.specs.Meets.{IsOfTree}
+use Rattle.disk_definitions.specs.Least.{least}
+use Rattle.disk_definitions.specs.ChangeLaws.{HasInode}
+use Rattle.disk_definitions.specs.Ask.{run}
+use Rattle.disk_definitions.specs.Walks.{Spot, AtRoot, AtName, AtGap, Lost, search, walk}
+use Rattle.disk_definitions.specs.Meets.{IsOfTree}
 
 -- a search finds the least slot of so many sectors that passes, with what stands there
 abbrev pub SearchFindsTheLeast : Type 0

@@ -5,7 +5,7 @@ use Rattle.std.proofs.lemmas.Bool.Decides.{nat_tests}
 use Rattle.frang_base.specs.declared.sector.Sector.{Sector}
 use Rattle.sector_bytes.specs.Blocks.{Block, version_of}
 use Rattle.sector_bytes.specs.SectorMaps.{value_at}
-use Rattle.plan_definitions.specs.Written.{Cached}
+use Rattle.disk_definitions.specs.Written.{Cached}
 use Rattle.core_definitions.specs.Lines.{Comparison, HasMoved, HasStopped, compared, compared_at}
 use Rattle.plan_locks.specs.Seen.{seen_as}
 

@@ -4,21 +4,21 @@ use Rattle.std.specs.List.Sorted.{IsStrictlySortedBy}
 use Rattle.std.specs.Map.{keys_of}
 use Rattle.frang_base.specs.declared.op.Op.{Op}
 use Rattle.frang_base.specs.declared.reply.Reply.{Reply}
-use Rattle.store_changes.specs.Edits.{Edit}
-use Rattle.plan_covers.specs.Covers.{cover_of}
-use Rattle.plan_definitions.specs.Plans.{Finish, Lock}
-use Rattle.plan_definitions.specs.Plans.Plan.{Finishes}
-use Rattle.plan_definitions.specs.Written.{at_hand, hand_of}
+use Rattle.disk_definitions.specs.Edits.{Edit}
+use Rattle.plan_laws.specs.Covers.{cover_of}
+use Rattle.disk_definitions.specs.Plans.{Finish, Lock}
+use Rattle.disk_definitions.specs.Plans.Plan.{Finishes}
+use Rattle.disk_definitions.specs.Written.{at_hand, hand_of}
 use Rattle.disk_definitions.specs.Store.{store_of}
 use Rattle.lock_definitions.specs.Order.{lock_cmp}
 use Rattle.core_definitions.specs.Sets.{LockSet, joined_all, mode_in}
 use Rattle.dir_lookup.specs.declared.hand.Hand.{Hand}
-use Rattle.line_definitions.specs.Lines.{plan_of_line}
+use Rattle.disk_definitions.specs.Lines.{plan_of_line}
 use Rattle.line_locks.specs.Lines.{looked_nodes}
 use Rattle.line_locks.specs.Found.{clear_locks, finish_locks, nodes_in, owns_at_hand}
 use Rattle.line_locks.proofs.AtHand.{clear_locks_found, finish_locks_found, is_hand, is_of, ran}
 use Rattle.line_locks.proofs.Joining.{join_alike, sole_mode}
-use Rattle.line_moves.proofs.Laws.{line_moves_are_owned}
+use Rattle.line_laws.proofs.Laws.{line_moves_are_owned}
 use Rattle.plan_locks.specs.Needs.{ClearIsNeeded, FinishIsNeeded, MovesAreSole}
 
 abbrev none : LockSet

@@ -8,17 +8,17 @@ use Rattle.tree_definitions.specs.Perform.{Goes}
 use Rattle.tree_definitions.specs.Tree.{FileTree}
 use Rattle.sector_bytes.specs.Sectors.{Sectors}
 use Rattle.disk_definitions.specs.Naming.{Naming}
-use Rattle.store_changes.specs.Edits.{Edit}
-use Rattle.pick_definitions.specs.Held.{Segments}
-use Rattle.plan_definitions.specs.Ask.{Ask, Sector, meet}
-use Rattle.plan_definitions.specs.Ask.Met.{Has}
-use Rattle.plan_definitions.specs.OnDisk.{AreOfDisk, StandsBelow}
-use Rattle.plan_definitions.specs.Plans.{Lock, Plan}
-use Rattle.plan_definitions.specs.Plans.Plan.{Clears, Finishes}
-use Rattle.plan_definitions.specs.Written.{Cached, at_hand, hand_of}
-use Rattle.plan_covers.specs.Covers.{cover_of}
-use Rattle.plan_moves.specs.Moves.{moved_by}
-use Rattle.line_definitions.specs.Lines.{plan_of_line, resolved}
+use Rattle.disk_definitions.specs.Edits.{Edit}
+use Rattle.disk_definitions.specs.Held.{Segments}
+use Rattle.disk_definitions.specs.Ask.{Ask, Sector, meet}
+use Rattle.disk_definitions.specs.Ask.Met.{Has}
+use Rattle.disk_definitions.specs.OnDisk.{AreOfDisk, StandsBelow}
+use Rattle.disk_definitions.specs.Plans.{Lock, Plan}
+use Rattle.disk_definitions.specs.Plans.Plan.{Clears, Finishes}
+use Rattle.disk_definitions.specs.Written.{Cached, at_hand, hand_of}
+use Rattle.plan_laws.specs.Covers.{cover_of}
+use Rattle.plan_laws.specs.Moves.{moved_by}
+use Rattle.disk_definitions.specs.Lines.{plan_of_line, resolved}
 use Rattle.core_definitions.specs.Sets.{LockSet, joined_all, mode_in}
 use Rattle.dir_lookup.specs.declared.hand.Hand.{Hand}
 use Rattle.line_locks.specs.Found.{nodes_in}

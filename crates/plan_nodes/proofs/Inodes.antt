@@ -6,11 +6,11 @@ use Rattle.tree_definitions.specs.declared.node.Node.{Node}
 use Rattle.tree_definitions.specs.Tree.{FileTree, node_at}
 use Rattle.disk_definitions.specs.Naming.{Naming}
 use Rattle.disk_definitions.specs.Store.{Store}
-use Rattle.store_changes.specs.Edits.{Edit}
-use Rattle.plan_definitions.specs.Ask.{InodeAt}
-use Rattle.plan_definitions.specs.Meets.{IsOfTree}
+use Rattle.disk_definitions.specs.Edits.{Edit}
+use Rattle.disk_definitions.specs.Ask.{InodeAt}
+use Rattle.disk_definitions.specs.Meets.{IsOfTree}
 use Rattle.plan_laws.specs.Keeping.{KeepsInodes}
-use Rattle.plan_moves.specs.Moves.{AreTidy, first_said, bit_said, inode_move, moved_by}
+use Rattle.plan_laws.specs.Moves.{AreTidy, first_said, bit_said, inode_move, moved_by}
 use Rattle.plan_nodes.proofs.Coming.{NoneSwaps}
 
 module _ (s : Store) (tree : FileTree) (n : Naming) (of : IsOfTree s tree n) where

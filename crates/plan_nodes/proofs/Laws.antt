@@ -16,19 +16,19 @@ use Rattle.tree_reach.proofs.Applied.{apply_keeps_reached}
 use Rattle.disk_definitions.specs.Naming.{Naming}
 use Rattle.disk_definitions.specs.Standing.{IsReached}
 use Rattle.disk_definitions.specs.Store.{Store}
-use Rattle.store_changes.specs.Edits.{edited_all}
-use Rattle.plan_definitions.specs.Ask.{InodeAt, run}
-use Rattle.plan_definitions.specs.Meets.{IsOfTree, IsHandOf}
-use Rattle.plan_definitions.specs.PlanOf.{plan_of}
-use Rattle.plan_definitions.specs.Plans.{Hand, Finish, shared_nodes}
-use Rattle.plan_definitions.specs.Plans.Plan.{Finishes}
+use Rattle.disk_definitions.specs.Edits.{edited_all}
+use Rattle.disk_definitions.specs.Ask.{InodeAt, run}
+use Rattle.disk_definitions.specs.Meets.{IsOfTree, IsHandOf}
+use Rattle.disk_definitions.specs.PlanOf.{plan_of}
+use Rattle.disk_definitions.specs.Plans.{Hand, Finish, shared_nodes}
+use Rattle.disk_definitions.specs.Plans.Plan.{Finishes}
 use Rattle.plan_laws.specs.FilesPlanned.{HasFiles}
 use Rattle.plan_laws.specs.Keeping.{KeepsInodes, FinishKeeps, PlanKeeps}
 use Rattle.plan_laws.specs.Locks.{IsCovered, FinishIsCovered, PlanIsCovered}
-use Rattle.plan_covers.proofs.AllLocks.{locks_cover}
-use Rattle.plan_moves.specs.Moves.{AreTidy}
-use Rattle.plan_moves.proofs.Laws.{plans_move, moves_are_owned}
-use Rattle.line_definitions.specs.Lines.{plan_of_line}
+use Rattle.plan_laws.proofs.AllLocks.{locks_cover}
+use Rattle.plan_laws.specs.Moves.{AreTidy}
+use Rattle.plan_laws.proofs.Laws.{plans_move, moves_are_owned}
+use Rattle.disk_definitions.specs.Lines.{plan_of_line}
 use Rattle.line_laws.proofs.Covered.{by_finish}
 use Rattle.line_laws.proofs.Planned.{all_planned}
 use Rattle.line_laws.proofs.Running.{run_performed}

@@ -11,20 +11,20 @@ use Rattle.tree_definitions.specs.Touched.{other_room}
 use Rattle.tree_definitions.specs.Tree.{FileTree, node_at, small_blocks, large_blocks, small_blocks_of}
 use Rattle.disk_definitions.specs.Naming.{Naming, blocks_of, has_large, inode_of, use_by, use_for}
 use Rattle.disk_definitions.specs.Store.{Store, StoredNode, Use, is_unused}
-use Rattle.store_changes.specs.Edits.{Edit}
-use Rattle.store_changes.specs.Resizing.{index_in}
-use Rattle.store_changes.proofs.Indices.{index_hit}
-use Rattle.store_changes.proofs.Kept.{inode_is}
-use Rattle.store_changes.proofs.Rooms.{some_pair}
-use Rattle.plan_definitions.specs.Meets.{IsOfTree}
-use Rattle.plan_definitions.specs.Plans.{Lock}
+use Rattle.disk_definitions.specs.Edits.{Edit}
+use Rattle.disk_definitions.specs.Resizing.{index_in}
+use Rattle.disk_definitions.proofs.Indices.{index_hit}
+use Rattle.disk_definitions.proofs.Kept.{inode_is}
+use Rattle.disk_definitions.proofs.Rooms.{some_pair}
+use Rattle.disk_definitions.specs.Meets.{IsOfTree}
+use Rattle.disk_definitions.specs.Plans.{Lock}
 use Rattle.plan_laws.specs.Keeping.{KeepsInodes}
 use Rattle.plan_laws.specs.Locks.{IsSole, IsCovered}
 use Rattle.plan_laws.proofs.Totals.{in_range}
-use Rattle.plan_moves.specs.Moves.{HasSmall, HasLarge, AreTidy, first_said, bit_said, use_said, large_said}
-use Rattle.plan_moves.proofs.Moving.{node_has, node_has_large, used_small, used_large}
-use Rattle.plan_moves.proofs.OnDisk.{one_small, one_large}
-use Rattle.plan_moves.proofs.Owned.{sayer, each_covered, bit_covered, use_covered, large_covered}
+use Rattle.plan_laws.specs.Moves.{HasSmall, HasLarge, AreTidy, first_said, bit_said, use_said, large_said}
+use Rattle.plan_laws.proofs.Moving.{node_has, node_has_large, used_small, used_large}
+use Rattle.plan_laws.proofs.OnDisk.{one_small, one_large}
+use Rattle.plan_laws.proofs.Owned.{sayer, each_covered, bit_covered, use_covered, large_covered}
 use Rattle.plan_nodes.proofs.Coming.{NoneSwaps}
 use Rattle.plan_nodes.proofs.Inodes.{bit_of, comes_said, goes_said}
 use Rattle.plan_nodes.proofs.Squeezed.{squeezed}

@@ -9,7 +9,7 @@ use Rattle.tree_definitions.specs.Tree.{node_at}
 use Rattle.disk_definitions.specs.Naming.{Naming, Nodes, Pictures, entry_of, find_in, inode_of, room_in}
 use Rattle.disk_definitions.specs.Standing.{reached_from}
 use Rattle.disk_definitions.specs.Store.{Store, StoredEntry}
-use Rattle.store_changes.proofs.Kept.{inode_is}
+use Rattle.disk_definitions.proofs.Kept.{inode_is}
 use Rattle.plan_nodes.specs.Nodes.{NamingsAgree}
 
 module _ (s : Store) (at : Nodes) (n m : Naming) (g : Pictures s at n) (h : Pictures s at m) where

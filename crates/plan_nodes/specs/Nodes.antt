@@ -10,18 +10,18 @@ use Rattle.tree_laws.specs.WellFormed.{IsNew}
 use Rattle.disk_definitions.specs.Naming.{Naming}
 use Rattle.disk_definitions.specs.Standing.{IsReached}
 use Rattle.disk_definitions.specs.Store.{Store}
-use Rattle.store_changes.specs.Edits.{edited_all}
-use Rattle.plan_definitions.specs.Ask.{InodeAt, run}
-use Rattle.plan_definitions.specs.Meets.{IsOfTree, IsHandOf}
-use Rattle.plan_definitions.specs.PlanOf.{plan_of}
-use Rattle.plan_definitions.specs.Plans.{Hand, Finish}
-use Rattle.plan_definitions.specs.Plans.Plan.{Finishes}
+use Rattle.disk_definitions.specs.Edits.{edited_all}
+use Rattle.disk_definitions.specs.Ask.{InodeAt, run}
+use Rattle.disk_definitions.specs.Meets.{IsOfTree, IsHandOf}
+use Rattle.disk_definitions.specs.PlanOf.{plan_of}
+use Rattle.disk_definitions.specs.Plans.{Hand, Finish}
+use Rattle.disk_definitions.specs.Plans.Plan.{Finishes}
 use Rattle.plan_laws.specs.FilesPlanned.{HasFiles}
 use Rattle.plan_laws.specs.Keeping.{KeepsInodes}
 use Rattle.plan_laws.specs.Locks.{IsSole}
-use Rattle.plan_moves.specs.Moves.{moved_by}
-use Rattle.plan_moves.specs.Plans.{Planner}
-use Rattle.line_definitions.specs.Lines.{plan_of_line}
+use Rattle.plan_laws.specs.Moves.{moved_by}
+use Rattle.plan_laws.specs.Plans.{Planner}
+use Rattle.disk_definitions.specs.Lines.{plan_of_line}
 
 -- all namings of a disk of a tree whose nodes are reached have the same inodes
 abbrev pub NamingsAgree : Type 0

@@ -2,10 +2,10 @@
 use Rattle.std.proofs.Common.{◌≡◌, ℕ, ◌/◌, ◌%◌, inl, inr, ◌==◌, if◌then◌else◌, List, map, slice_index, sym, ap, ◌∙◌, arith}
 use Rattle.std.proofs.lemmas.Bool.{cases_eq}
 use Rattle.tree_definitions.specs.Numbers.{below}
-use Rattle.sector_definitions.proofs.Chosen.{chosen_same, chosen_other}
-use Rattle.sector_definitions.proofs.Lists.{listed_at}
+use Rattle.disk_definitions.proofs.Chosen.{chosen_same, chosen_other}
+use Rattle.disk_definitions.proofs.Lists.{listed_at}
 use Rattle.sector_bytes.specs.Sectors.{Sectors}
-use Rattle.store_changes.specs.Edits.{put_part}
+use Rattle.disk_definitions.specs.Edits.{put_part}
 
 -- the sector of each part of each block is given, for small blocks and for large ones
 pub bytes_set : (at : ℕ → ℕ → ℕ) (a b : Sectors) (k part : ℕ) (bytes : ℕ → ℕ) (byte : ℕ → ℕ → ℕ) (l j : ℕ) → b (at k part) ≡ map bytes (below 512)

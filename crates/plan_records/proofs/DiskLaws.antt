@@ -2,22 +2,22 @@
 use Rattle.std.proofs.Common.{◌≡◌, ℕ, ◌+◌, ◌*◌, ◌/◌, ◌%◌, ◌^◌, ◌<◌, ◌≤◌, Bool, true, false, ◌&&◌, if◌then◌else◌, ⊎_elim, List, length, drop, refl, sym, ap, ◌∙◌, subst, arith}
 use Rattle.std.proofs.lemmas.Bool.{cases_lt}
 use Rattle.frang_base.proofs.Basics.{of_ge}
-use Rattle.sector_definitions.specs.declared.region.Region.TheVariants as region
-use Rattle.sector_definitions.specs.Regions.{sector_of}
+use Rattle.disk_definitions.specs.declared.region.Region.TheVariants as region
+use Rattle.disk_definitions.specs.Regions.{sector_of}
 use Rattle.sector_bytes.specs.Bytes.{number_at}
-use Rattle.sector_definitions.specs.Bitmaps.{bitmap_in}
-use Rattle.sector_definitions.specs.Directories.{directory_in}
-use Rattle.sector_definitions.specs.Inodes.{inode_in}
+use Rattle.disk_definitions.specs.Bitmaps.{bitmap_in}
+use Rattle.disk_definitions.specs.Directories.{directory_in}
+use Rattle.disk_definitions.specs.Inodes.{inode_in}
 use Rattle.sector_bytes.specs.Sectors.{Sectors}
 use Rattle.disk_definitions.specs.Store.{Store, store_of, segment_at, directory_at, use_in, large_in}
 use Rattle.disk_definitions.specs.Store.Use.{Fresh}
 use Rattle.disk_definitions.specs.Standing.{IsMetadata, IsInGrammar, HasVersionsUpTo, version_at}
-use Rattle.store_changes.specs.Edits.{Edit}
-use Rattle.store_changes.specs.Laws.{SaysTheSame}
-use Rattle.store_changes.proofs.Free.{a_some}
-use Rattle.plan_definitions.specs.Written.{all_edited, forced_in}
+use Rattle.disk_definitions.specs.Edits.{Edit}
+use Rattle.disk_definitions.specs.ChangeLaws.{SaysTheSame}
+use Rattle.disk_definitions.proofs.Free.{a_some}
+use Rattle.disk_definitions.specs.Written.{all_edited, forced_in}
 use Rattle.plan_records.specs.Says.{Says}
-use Rattle.plan_definitions.specs.Ready.{store_after, disk_after, IsReady, RisesByOne}
+use Rattle.disk_definitions.specs.Ready.{store_after, disk_after, IsReady, RisesByOne}
 use Rattle.plan_records.specs.Laws.{RecordsAreWritten}
 use Rattle.plan_records.proofs.Grammar.{versioned, version_back, inode_versioned, bitmap_versioned, directory_versioned}
 use Rattle.plan_records.proofs.Kept.{in_segment, in_inode, in_small, in_large, bytes_kept, large_kept}

@@ -1,24 +1,24 @@
 -- The sectors after an edit, and after several, say what the edited store does.
 use Rattle.std.proofs.Common.{◌≡◌, ℕ, ◌*◌, ◌/◌, ◌%◌, ◌^◌, ◌<◌, ◌≤◌, Bool, true, Option, Some, None, List, [], ◌∷◌, length, refl, sym, ap, ◌∙◌, subst, arith}
 use Rattle.frang_base.specs.declared.bitmap.Bitmap.{Bitmap}
-use Rattle.sector_definitions.specs.declared.region.Region.{Region}
-use Rattle.sector_definitions.specs.declared.region.Region.TheVariants as region
-use Rattle.sector_definitions.specs.Regions.{sector_of, is_in_range}
+use Rattle.disk_definitions.specs.declared.region.Region.{Region}
+use Rattle.disk_definitions.specs.declared.region.Region.TheVariants as region
+use Rattle.disk_definitions.specs.Regions.{sector_of, is_in_range}
 use Rattle.sector_bytes.specs.Bytes.{number_at}
-use Rattle.sector_definitions.specs.Directories.{directory_in}
-use Rattle.sector_definitions.specs.Bitmaps.{bitmap_bytes, bitmap_fields, bitmap_in}
-use Rattle.sector_definitions.specs.Inodes.{inode_in}
-use Rattle.sector_definitions.proofs.InodeLaws.{inode_read}
+use Rattle.disk_definitions.specs.Directories.{directory_in}
+use Rattle.disk_definitions.specs.Bitmaps.{bitmap_bytes, bitmap_fields, bitmap_in}
+use Rattle.disk_definitions.specs.Inodes.{inode_in}
+use Rattle.disk_definitions.proofs.InodeLaws.{inode_read}
 use Rattle.sector_bytes.specs.Sectors.{Sectors}
 use Rattle.disk_definitions.specs.Store.{Store, StoredNode, StoredEntry, Use, segment_at, directory_at}
 use Rattle.disk_definitions.specs.Store.Use.{Fresh, Bytes, Empty, Entries}
 use Rattle.disk_definitions.specs.Standing.{IsMetadata, version_at}
-use Rattle.pick_definitions.specs.Taken.{with_inode, with_state, with_large}
-use Rattle.store_changes.specs.Edits.{Edit, edited}
-use Rattle.store_changes.specs.Edits.Edit.{SetInode, SetBit, SetUse, SetPlace, SetLarge, SetBytes, SetLargeBytes}
-use Rattle.store_changes.proofs.Free.{a_some}
-use Rattle.plan_definitions.specs.Written.{state_of, edited_sectors}
-use Rattle.plan_definitions.specs.FitEdits.{IsFitEdit}
+use Rattle.disk_definitions.specs.Taken.{with_inode, with_state, with_large}
+use Rattle.disk_definitions.specs.Edits.{Edit, edited}
+use Rattle.disk_definitions.specs.Edits.Edit.{SetInode, SetBit, SetUse, SetPlace, SetLarge, SetBytes, SetLargeBytes}
+use Rattle.disk_definitions.proofs.Free.{a_some}
+use Rattle.disk_definitions.specs.Written.{state_of, edited_sectors}
+use Rattle.disk_definitions.specs.FitEdits.{IsFitEdit}
 use Rattle.plan_records.specs.Says.{SegmentsSay, InodesSay, PlacesSay, BytesSay, LargeBytesSay, Says}
 use Rattle.plan_records.specs.Laws.{EachEditIsWritten, EditsAreWritten}
 use Rattle.plan_records.proofs.Grammar.{IsStorableBitmap, bitmap_storable, directory_storable, inode_version, version_back}

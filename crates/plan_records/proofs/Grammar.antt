@@ -6,19 +6,19 @@ use Rattle.byteorder.specs.Endian.{little_number, little_bytes}
 use Rattle.byteorder.specs.Numbers.{little_from-bytes}
 use Rattle.frang_base.specs.declared.bitmap.Bitmap.{Bitmap}
 use Rattle.frang_base.proofs.Basics.{by_test}
-use Rattle.sector_definitions.specs.declared.inode.Inode.{Inode}
-use Rattle.sector_definitions.specs.declared.directory.DirEntry.{DirEntry}
-use Rattle.sector_definitions.specs.declared.directory.DirSector.{DirSector}
+use Rattle.disk_definitions.specs.declared.inode.Inode.{Inode}
+use Rattle.disk_definitions.specs.declared.directory.DirEntry.{DirEntry}
+use Rattle.disk_definitions.specs.declared.directory.DirSector.{DirSector}
 use Rattle.sector_bytes.specs.Bytes.{number_at, zeros}
 use Rattle.std.specs.Str.{bytes_eq}
-use Rattle.sector_definitions.specs.Bitmaps.{large_byte, bitmap_bytes, bitmap_fields, bitmap_in}
-use Rattle.sector_definitions.specs.Directories.{entry_bytes, entry_fields, entries_in, directory_bytes, directory_fits, directory_fields, directory_in}
-use Rattle.sector_definitions.specs.Inodes.{inode_bytes, inode_fits, inode_fields, inode_in}
-use Rattle.sector_definitions.proofs.Readings.{read_as, read_back}
-use Rattle.sector_definitions.proofs.WrittenFields.{length_zeros}
-use Rattle.sector_definitions.proofs.BitmapLaws.{bitmap_read, bitmap_back}
-use Rattle.sector_definitions.proofs.DirectoryLaws.{IsStorableEntry, AreStorable, IsStorableSector, directory_read, directory_back}
-use Rattle.sector_definitions.proofs.InodeLaws.{inode_read, same_fields}
+use Rattle.disk_definitions.specs.Bitmaps.{large_byte, bitmap_bytes, bitmap_fields, bitmap_in}
+use Rattle.disk_definitions.specs.Directories.{entry_bytes, entry_fields, entries_in, directory_bytes, directory_fits, directory_fields, directory_in}
+use Rattle.disk_definitions.specs.Inodes.{inode_bytes, inode_fits, inode_fields, inode_in}
+use Rattle.disk_definitions.proofs.Readings.{read_as, read_back}
+use Rattle.disk_definitions.proofs.WrittenFields.{length_zeros}
+use Rattle.disk_definitions.proofs.BitmapLaws.{bitmap_read, bitmap_back}
+use Rattle.disk_definitions.proofs.DirectoryLaws.{IsStorableEntry, AreStorable, IsStorableSector, directory_read, directory_back}
+use Rattle.disk_definitions.proofs.InodeLaws.{inode_read, same_fields}
 
 -- a number that was written reads back but for what doesn't fit
 pub number_back : (n x : ℕ) (rest : List ℕ) → little_number n (little_bytes n x ++ rest) ≡ x % 256 ^ n

@@ -6,21 +6,21 @@ use Rattle.frang_base.proofs.Basics.{of_eq, of_ne, of_lt}
 use Rattle.tree_definitions.specs.Numbers.{below}
 use Rattle.tree_definitions.specs.Tree.{small_blocks_of}
 use Rattle.frang_base.specs.Functions.{put}
-use Rattle.sector_definitions.specs.declared.inode.Inode.{Inode}
-use Rattle.sector_definitions.specs.declared.region.Region.TheVariants as region
-use Rattle.sector_definitions.specs.Regions.{sector_of}
+use Rattle.disk_definitions.specs.declared.inode.Inode.{Inode}
+use Rattle.disk_definitions.specs.declared.region.Region.TheVariants as region
+use Rattle.disk_definitions.specs.Regions.{sector_of}
 use Rattle.sector_bytes.specs.Bytes.{zeros}
-use Rattle.sector_definitions.specs.Inodes.{inode_bytes, inode_in, inode_fits, is_free_inode, is_file_inode, is_directory_inode, is_link_inode}
-use Rattle.sector_definitions.specs.Ranges.{InodeRange}
-use Rattle.sector_definitions.proofs.WrittenFields.{length_zeros}
-use Rattle.sector_definitions.proofs.InodeLaws.{inode_back, few_blocks}
-use Rattle.sector_definitions.proofs.Chosen.{chosen_same, chosen_other}
-use Rattle.sector_definitions.proofs.Readings.{and_l, and_r}
-use Rattle.sector_definitions.proofs.Lists.{listed_at, length_listed}
+use Rattle.disk_definitions.specs.Inodes.{inode_bytes, inode_in, inode_fits, is_free_inode, is_file_inode, is_directory_inode, is_link_inode}
+use Rattle.disk_definitions.specs.Ranges.{InodeRange}
+use Rattle.disk_definitions.proofs.WrittenFields.{length_zeros}
+use Rattle.disk_definitions.proofs.InodeLaws.{inode_back, few_blocks}
+use Rattle.disk_definitions.proofs.Chosen.{chosen_same, chosen_other}
+use Rattle.disk_definitions.proofs.Readings.{and_l, and_r}
+use Rattle.disk_definitions.proofs.Lists.{listed_at, length_listed}
 use Rattle.sector_bytes.specs.Sectors.{Sectors}
 use Rattle.disk_definitions.specs.Store.{StoredNode, stored_node, store_of}
-use Rattle.plan_definitions.specs.Written.{padded, inode_with}
-use Rattle.plan_definitions.specs.FitEdits.{IsFitNode}
+use Rattle.disk_definitions.specs.Written.{padded, inode_with}
+use Rattle.disk_definitions.specs.FitEdits.{IsFitNode}
 use Rattle.plan_records.specs.Says.{InodesSay}
 use Rattle.plan_records.proofs.Kept.{if_same, is_less}
 

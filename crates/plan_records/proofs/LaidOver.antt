@@ -15,12 +15,12 @@ use Rattle.sector_bytes.specs.SectorMaps.{value_at, Ascend}
 use Rattle.sector_bytes.proofs.MapLaws.{absent, ascend_with, AllAbove, found}
 use Rattle.sector_bytes.specs.Patches.{patches_with}
 use Rattle.tree_laws.proofs.Pairs.{birth_exact, self, found_put, found_other}
-use Rattle.sector_definitions.specs.Inodes.{is_time_place}
+use Rattle.disk_definitions.specs.Inodes.{is_time_place}
 use Rattle.sector_bytes.specs.Sectors.{Sectors}
 use Rattle.disk_definitions.specs.Standing.{version_at}
-use Rattle.store_changes.specs.Edits.{Edit}
-use Rattle.store_changes.specs.Edits.Edit.{SetInode, SetBit, SetUse, SetPlace, SetLarge, SetBytes, SetLargeBytes}
-use Rattle.plan_definitions.specs.Written.{edit_sector, edited_block, edited_sectors, all_edited, is_metadata, metadata_sector, with_number, change_by, dates, forced_in, change_of, byte_write, byte_writes, with_change, with_bytes}
+use Rattle.disk_definitions.specs.Edits.{Edit}
+use Rattle.disk_definitions.specs.Edits.Edit.{SetInode, SetBit, SetUse, SetPlace, SetLarge, SetBytes, SetLargeBytes}
+use Rattle.disk_definitions.specs.Written.{edit_sector, edited_block, edited_sectors, all_edited, is_metadata, metadata_sector, with_number, change_by, dates, forced_in, change_of, byte_write, byte_writes, with_change, with_bytes}
 use Rattle.plan_records.proofs.Kept.{edited_else}
 
 pub by_bool : {P : Type 0} (b : Bool) → (b ≡ true → P) → (b ≡ false → P) → P

@@ -7,21 +7,21 @@ use Rattle.std.proofs.lemmas.List.{take_at, drop_at}
 use Rattle.frang_base.proofs.Basics.{of_lt, of_le}
 use Rattle.frang_base.specs.Name.{is_name}
 use Rattle.frang_base.specs.Functions.{put2}
-use Rattle.sector_definitions.specs.declared.directory.DirEntry.{DirEntry}
-use Rattle.sector_definitions.specs.declared.directory.DirSector.{DirSector}
-use Rattle.sector_definitions.specs.declared.region.Region.TheVariants as region
-use Rattle.sector_definitions.specs.Regions.{sector_of}
+use Rattle.disk_definitions.specs.declared.directory.DirEntry.{DirEntry}
+use Rattle.disk_definitions.specs.declared.directory.DirSector.{DirSector}
+use Rattle.disk_definitions.specs.declared.region.Region.TheVariants as region
+use Rattle.disk_definitions.specs.Regions.{sector_of}
 use Rattle.sector_bytes.specs.Bytes.{zeros, are_zero}
-use Rattle.sector_definitions.specs.Directories.{is_free_place, is_used_place, entry_fits, directory_bytes, directory_fields, directory_in}
-use Rattle.sector_definitions.proofs.WrittenFields.{length_zeros, zeros_are_zero}
-use Rattle.sector_definitions.proofs.DirectoryLaws.{IsStorableEntry, AreStorable, directory_read, directory_back}
-use Rattle.sector_definitions.proofs.Chosen.{chosen_same, chosen_other}
-use Rattle.sector_definitions.proofs.Readings.{and_l, and_r}
+use Rattle.disk_definitions.specs.Directories.{is_free_place, is_used_place, entry_fits, directory_bytes, directory_fields, directory_in}
+use Rattle.disk_definitions.proofs.WrittenFields.{length_zeros, zeros_are_zero}
+use Rattle.disk_definitions.proofs.DirectoryLaws.{IsStorableEntry, AreStorable, directory_read, directory_back}
+use Rattle.disk_definitions.proofs.Chosen.{chosen_same, chosen_other}
+use Rattle.disk_definitions.proofs.Readings.{and_l, and_r}
 use Rattle.sector_bytes.specs.Sectors.{Sectors}
 use Rattle.disk_definitions.specs.Store.{StoredEntry, Use, store_of, stored_entry, entry_in, directory_at}
 use Rattle.disk_definitions.specs.Standing.{IsMetadata}
-use Rattle.plan_definitions.specs.Written.{padded, place_with, with_place}
-use Rattle.plan_definitions.specs.FitEdits.{IsFitEntry}
+use Rattle.disk_definitions.specs.Written.{padded, place_with, with_place}
+use Rattle.disk_definitions.specs.FitEdits.{IsFitEntry}
 use Rattle.plan_records.specs.Says.{PlacesSay}
 use Rattle.plan_records.proofs.Grammar.{directory_is, directory_storable}
 

@@ -14,18 +14,18 @@ use Rattle.frang_base.specs.declared.change.Change.{Change}
 use Rattle.sector_bytes.specs.Changes.{are_patches, is_change}
 use Rattle.sector_bytes.specs.SectorMaps.{with_value, Ascend}
 use Rattle.sector_bytes.proofs.MapLaws.{AllAbove}
-use Rattle.log_definitions.specs.Records.{record_bytes, sectors_ascend}
-use Rattle.sector_definitions.specs.declared.region.Region.TheVariants as region
-use Rattle.sector_definitions.specs.Regions.{sector_of}
+use Rattle.disk_definitions.specs.Records.{record_bytes, sectors_ascend}
+use Rattle.disk_definitions.specs.declared.region.Region.TheVariants as region
+use Rattle.disk_definitions.specs.Regions.{sector_of}
 use Rattle.sector_bytes.specs.Patches.{patches_with, are_apart}
 use Rattle.sector_bytes.proofs.PatchLaws.{forced_patches_apart}
 use Rattle.sector_bytes.specs.Sectors.{Sectors}
 use Rattle.disk_definitions.specs.Standing.{version_at}
-use Rattle.store_changes.specs.Edits.{Edit}
-use Rattle.store_changes.specs.Edits.Edit.{SetInode, SetBit, SetUse, SetPlace, SetLarge, SetBytes, SetLargeBytes}
-use Rattle.plan_definitions.specs.Written.{edit_sector, all_edited, is_metadata, metadata_sector, with_number, change_by, forced_in, change_of, changes_of}
-use Rattle.plan_definitions.specs.FitEdits.{IsFitEdit, MeetsUse, AreFit}
-use Rattle.plan_definitions.specs.Ready.{store_after, IsReady}
+use Rattle.disk_definitions.specs.Edits.{Edit}
+use Rattle.disk_definitions.specs.Edits.Edit.{SetInode, SetBit, SetUse, SetPlace, SetLarge, SetBytes, SetLargeBytes}
+use Rattle.disk_definitions.specs.Written.{edit_sector, all_edited, is_metadata, metadata_sector, with_number, change_by, forced_in, change_of, changes_of}
+use Rattle.disk_definitions.specs.FitEdits.{IsFitEdit, MeetsUse, AreFit}
+use Rattle.disk_definitions.specs.Ready.{store_after, IsReady}
 use Rattle.plan_records.specs.Laws.{RecordsFit}
 use Rattle.plan_records.proofs.EditLaws.{fit_inode, fit_place}
 use Rattle.plan_records.proofs.LaidOver.{by_bool, filter_none, filter_some, named, named_true, named_false, named_ascend, changes, change_sector}

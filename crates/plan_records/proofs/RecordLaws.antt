@@ -6,23 +6,23 @@ use Rattle.std.specs.List.Sorted.{IsStrictlySortedBy}
 use Rattle.std.proofs.lemmas.Bool.{cases_eq}
 use Rattle.frang_base.proofs.Basics.{by_some}
 use Rattle.sector_bytes.specs.SectorMaps.{value_at, Ascend}
-use Rattle.sector_definitions.specs.declared.region.Region.{Region}
-use Rattle.sector_definitions.specs.declared.region.Region.TheVariants as region
-use Rattle.sector_definitions.specs.Regions.{sector_of, is_in_range}
+use Rattle.disk_definitions.specs.declared.region.Region.{Region}
+use Rattle.disk_definitions.specs.declared.region.Region.TheVariants as region
+use Rattle.disk_definitions.specs.Regions.{sector_of, is_in_range}
 use Rattle.sector_bytes.specs.Patches.{patches_with}
-use Rattle.sector_definitions.proofs.InodeLaws.{length_inode_bytes}
+use Rattle.disk_definitions.proofs.InodeLaws.{length_inode_bytes}
 use Rattle.sector_bytes.proofs.PatchLaws.{no_forced_patches}
-use Rattle.sector_definitions.proofs.RegionLaws.{region_once}
+use Rattle.disk_definitions.proofs.RegionLaws.{region_once}
 use Rattle.sector_bytes.specs.Sectors.{Sectors}
 use Rattle.disk_definitions.specs.Store.{Store}
 use Rattle.disk_definitions.specs.Store.Use.{Bytes}
 use Rattle.disk_definitions.specs.Standing.{IsMetadata, version_at}
-use Rattle.store_changes.specs.Edits.{Edit, edited}
-use Rattle.store_changes.specs.Edits.Edit.{SetInode, SetBit, SetUse, SetPlace, SetLarge, SetBytes, SetLargeBytes}
-use Rattle.plan_definitions.specs.Written.{inode_with, edited_sectors, all_edited, is_metadata, change_by, forced_in, change_of, changes_of, metadata_sector, with_change}
-use Rattle.plan_definitions.specs.FitEdits.{IsFitEdit, MeetsUse, AreFit}
+use Rattle.disk_definitions.specs.Edits.{Edit, edited}
+use Rattle.disk_definitions.specs.Edits.Edit.{SetInode, SetBit, SetUse, SetPlace, SetLarge, SetBytes, SetLargeBytes}
+use Rattle.disk_definitions.specs.Written.{inode_with, edited_sectors, all_edited, is_metadata, change_by, forced_in, change_of, changes_of, metadata_sector, with_change}
+use Rattle.disk_definitions.specs.FitEdits.{IsFitEdit, MeetsUse, AreFit}
 use Rattle.plan_records.specs.Says.{Says}
-use Rattle.plan_definitions.specs.Ready.{disk_after}
+use Rattle.disk_definitions.specs.Ready.{disk_after}
 use Rattle.plan_records.proofs.Kept.{edit_region, edit_sector_is, edit_in_range, edited_here, edited_apart, in_inode}
 use Rattle.plan_records.proofs.InodeEdits.{written_range}
 use Rattle.plan_records.proofs.EditLaws.{not_both, inode_small, fit_inode, each}

@@ -7,17 +7,17 @@ use Rattle.std.proofs.lemmas.Nat.{or_lt, pow_below, and_le_l}
 use Rattle.frang_base.proofs.Basics.{of_lt, of_eq, of_ne}
 use Rattle.frang_base.specs.declared.bitmap.Bitmap.{Bitmap}
 use Rattle.frang_base.specs.Functions.{put}
-use Rattle.sector_definitions.specs.declared.region.Region.TheVariants as region
-use Rattle.sector_definitions.specs.Regions.{sector_of}
-use Rattle.sector_definitions.specs.Bitmaps.{bitmap_bytes, bitmap_fields, bitmap_in, inode_bit, block_state}
-use Rattle.sector_definitions.proofs.BitmapLaws.{bitmap_read, bitmap_back}
-use Rattle.sector_definitions.proofs.Chosen.{chosen, chosen_same, chosen_other}
-use Rattle.pick_definitions.specs.Taken.{with_inode, with_state, with_large}
-use Rattle.pick_definitions.proofs.Digits.{state_replaced, inode_marked}
+use Rattle.disk_definitions.specs.declared.region.Region.TheVariants as region
+use Rattle.disk_definitions.specs.Regions.{sector_of}
+use Rattle.disk_definitions.specs.Bitmaps.{bitmap_bytes, bitmap_fields, bitmap_in, inode_bit, block_state}
+use Rattle.disk_definitions.proofs.BitmapLaws.{bitmap_read, bitmap_back}
+use Rattle.disk_definitions.proofs.Chosen.{chosen, chosen_same, chosen_other}
+use Rattle.disk_definitions.specs.Taken.{with_inode, with_state, with_large}
+use Rattle.disk_definitions.proofs.PickDigits.{state_replaced, inode_marked}
 use Rattle.sector_bytes.specs.Sectors.{Sectors}
 use Rattle.disk_definitions.specs.Store.{Use, store_of, segment_at, bit_in, use_by, use_in, large_in}
 use Rattle.disk_definitions.specs.Store.Use.{Fresh, Bytes, Empty, Entries}
-use Rattle.plan_definitions.specs.Written.{state_of}
+use Rattle.disk_definitions.specs.Written.{state_of}
 use Rattle.plan_records.specs.Says.{SegmentsSay}
 use Rattle.plan_records.proofs.Grammar.{IsStorableBitmap, bitmap_storable, bitmap_is}
 use Rattle.plan_records.proofs.Kept.{if_same, and_same, is_less}

@@ -7,20 +7,20 @@ use Rattle.sector_bytes.specs.Blocks.{patched}
 use Rattle.frang_base.specs.declared.bitmap.Bitmap.{Bitmap}
 use Rattle.frang_base.specs.declared.change.Patch.{Patch}
 use Rattle.sector_bytes.specs.Changes.{changed}
-use Rattle.sector_definitions.specs.declared.directory.DirEntry.{DirEntry}
-use Rattle.sector_definitions.specs.declared.directory.DirSector.{DirSector}
-use Rattle.sector_definitions.specs.declared.inode.Inode.{Inode}
+use Rattle.disk_definitions.specs.declared.directory.DirEntry.{DirEntry}
+use Rattle.disk_definitions.specs.declared.directory.DirSector.{DirSector}
+use Rattle.disk_definitions.specs.declared.inode.Inode.{Inode}
 use Rattle.sector_bytes.specs.Bytes.{number_at, zeros}
-use Rattle.sector_definitions.specs.Bitmaps.{bitmap_in, bitmap_bytes, large_byte}
-use Rattle.sector_definitions.specs.Directories.{directory_in, directory_bytes, entry_bytes}
-use Rattle.sector_definitions.specs.Inodes.{inode_in, inode_bytes}
+use Rattle.disk_definitions.specs.Bitmaps.{bitmap_in, bitmap_bytes, large_byte}
+use Rattle.disk_definitions.specs.Directories.{directory_in, directory_bytes, entry_bytes}
+use Rattle.disk_definitions.specs.Inodes.{inode_in, inode_bytes}
 use Rattle.sector_bytes.specs.Patches.{patches_with}
-use Rattle.sector_definitions.proofs.WrittenFields.{length_zeros}
+use Rattle.disk_definitions.proofs.WrittenFields.{length_zeros}
 use Rattle.sector_bytes.proofs.PatchLaws.{forced_patches_laid, no_forced_patches, spelled_version}
-use Rattle.sector_definitions.proofs.BitmapLaws.{bitmap_read}
-use Rattle.sector_definitions.proofs.DirectoryLaws.{AreStorable, directory_read}
-use Rattle.sector_definitions.proofs.InodeLaws.{inode_read}
-use Rattle.plan_definitions.specs.Written.{change_by}
+use Rattle.disk_definitions.proofs.BitmapLaws.{bitmap_read}
+use Rattle.disk_definitions.proofs.DirectoryLaws.{AreStorable, directory_read}
+use Rattle.disk_definitions.proofs.InodeLaws.{inode_read}
+use Rattle.disk_definitions.specs.Written.{change_by}
 use Rattle.plan_records.proofs.Grammar.{versioned, version_back, bitmap_storable, directory_storable, inode_version}
 use Rattle.plan_records.proofs.LaidOver.{made}
 

@@ -3,12 +3,12 @@ use Rattle.std.specs.Prelude.{◌≡◌, ◌≤◌, ℕ, true, List, length}
 use Rattle.frang_base.specs.declared.limits.TheConstants.{RECORD_BYTES_MAX, RECORD_CHANGES_MAX, SEGMENTS_MAX}
 use Rattle.sector_bytes.specs.Sectors.{Sectors}
 use Rattle.disk_definitions.specs.Store.{Store}
-use Rattle.log_definitions.specs.Records.{record_bytes, record_fits}
-use Rattle.store_changes.specs.Edits.{Edit, edited, edited_all}
-use Rattle.plan_definitions.specs.Written.{edited_sectors, all_edited, changes_of}
-use Rattle.plan_definitions.specs.FitEdits.{IsFitEdit, MeetsUse, AreFit}
+use Rattle.disk_definitions.specs.Records.{record_bytes, record_fits}
+use Rattle.disk_definitions.specs.Edits.{Edit, edited, edited_all}
+use Rattle.disk_definitions.specs.Written.{edited_sectors, all_edited, changes_of}
+use Rattle.disk_definitions.specs.FitEdits.{IsFitEdit, MeetsUse, AreFit}
 use Rattle.plan_records.specs.Says.{Says}
-use Rattle.plan_definitions.specs.Ready.{IsReady, IsWritten}
+use Rattle.disk_definitions.specs.Ready.{IsReady, IsWritten}
 
 -- the sectors after an edit say what the edited store does
 abbrev pub EachEditIsWritten : Type 0

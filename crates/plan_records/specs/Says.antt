@@ -1,9 +1,9 @@
 -- What the sectors of a disk say, part by part as a store has it; each of these sectors is in its grammar.
 use Rattle.std.specs.Prelude.{◌≡◌, ◌<◌, ℕ, ◌*◌, Bool, true, Option, is_some}
 use Rattle.frang_base.specs.declared.limits.TheConstants.{BLOCK_ENTRIES, LARGE_BLOCK_SECTORS, SECTOR_BYTES, SEGMENT_BLOCKS, SEGMENT_INODES, SMALL_BLOCK_BYTES, SMALL_BLOCK_SECTORS}
-use Rattle.sector_definitions.specs.declared.region.Region.TheVariants as region
-use Rattle.sector_definitions.specs.Regions.{sector_of}
-use Rattle.sector_definitions.specs.Inodes.{inode_in}
+use Rattle.disk_definitions.specs.declared.region.Region.TheVariants as region
+use Rattle.disk_definitions.specs.Regions.{sector_of}
+use Rattle.disk_definitions.specs.Inodes.{inode_in}
 use Rattle.sector_bytes.specs.Sectors.{Sectors}
 use Rattle.disk_definitions.specs.Store.{Store, StoredNode, StoredEntry, Use, store_of, segment_at, directory_at}
 use Rattle.disk_definitions.specs.Store.Use.{Bytes}

@@ -6,10 +6,10 @@ use Rattle.tree_definitions.specs.declared.node.Node.TheVariants.{Dir, File, Lin
 use Rattle.tree_definitions.specs.Tree.{FileTree}
 use Rattle.disk_definitions.specs.Store.{Store}
 use Rattle.disk_definitions.specs.Naming.{Naming}
-use Rattle.plan_definitions.specs.Ask.{run}
-use Rattle.plan_definitions.specs.Plans.{Hand}
-use Rattle.plan_definitions.specs.PlanOf.{plan_of}
-use Rattle.plan_definitions.specs.Meets.{IsOfTree}
+use Rattle.disk_definitions.specs.Ask.{run}
+use Rattle.disk_definitions.specs.Plans.{Hand}
+use Rattle.disk_definitions.specs.PlanOf.{plan_of}
+use Rattle.disk_definitions.specs.Meets.{IsOfTree}
 use Rattle.plan_space.specs.Wants.{wants}
 use Rattle.plan_space.specs.Exact.{LacksExactly, ClearsExactly, SaysFullExactly}
 use Rattle.plan_space.proofs.Outcomes.{Outcome, lacks_by, clears_by, full_by}

@@ -10,14 +10,14 @@ use Rattle.tree_definitions.specs.Apply.{is_dir, links_of}
 use Rattle.tree_laws.proofs.Keeping.{names_nodes}
 use Rattle.disk_definitions.specs.Store.{Store, StoredNode}
 use Rattle.disk_definitions.specs.Naming.{Naming, entry_of}
-use Rattle.pick_definitions.specs.Picks.{picked_inode}
-use Rattle.store_changes.proofs.Kept.{inode_is}
-use Rattle.plan_definitions.specs.Ask.{ReadInode, bind, run}
-use Rattle.plan_definitions.specs.Walks.{AtName, AtGap, walk}
-use Rattle.plan_definitions.specs.Plans.{Hand, Room, find_room, refused}
-use Rattle.plan_definitions.specs.Plans.Room.{Inside, InBlock, NoRoom}
-use Rattle.plan_definitions.specs.NamePlans.{linked_by, linking_in, linking_node, linking_to, linking, plan_linked}
-use Rattle.plan_definitions.specs.Meets.{IsOfTree}
+use Rattle.disk_definitions.specs.Picks.{picked_inode}
+use Rattle.disk_definitions.proofs.Kept.{inode_is}
+use Rattle.disk_definitions.specs.Ask.{ReadInode, bind, run}
+use Rattle.disk_definitions.specs.Walks.{AtName, AtGap, walk}
+use Rattle.disk_definitions.specs.Plans.{Hand, Room, find_room, refused}
+use Rattle.disk_definitions.specs.Plans.Room.{Inside, InBlock, NoRoom}
+use Rattle.disk_definitions.specs.NamePlans.{linked_by, linking_in, linking_node, linking_to, linking, plan_linked}
+use Rattle.disk_definitions.specs.Meets.{IsOfTree}
 use Rattle.plan_laws.proofs.Asking.{run-bind}
 use Rattle.plan_laws.proofs.Cases.{inode_by, by_spot}
 use Rattle.plan_laws.proofs.Linking.{links_are}

@@ -10,14 +10,14 @@ use Rattle.tree_definitions.specs.Apply.{is_dir, goes_through}
 use Rattle.tree_laws.proofs.Keeping.{names_nodes}
 use Rattle.disk_definitions.specs.Store.{Store, StoredNode}
 use Rattle.disk_definitions.specs.Naming.{Naming, entry_of}
-use Rattle.pick_definitions.specs.Picks.{picked_inode}
-use Rattle.plan_definitions.specs.Ask.{Ask, Got, bind, run}
-use Rattle.plan_definitions.specs.Walks.{Spot, AtName, walk}
-use Rattle.plan_definitions.specs.Plans.{Hand, Plan, Room, find_room, refused}
-use Rattle.plan_definitions.specs.Plans.Plan.{Finishes}
-use Rattle.plan_definitions.specs.Plans.Room.{Inside, InBlock, NoRoom}
-use Rattle.plan_definitions.specs.NamePlans.{Moving, goes_through as passes_moved, moved_within, moved_between, moving_in, moving_onto, moving_to, renaming_to, renaming, plan_renamed}
-use Rattle.plan_definitions.specs.Meets.{IsOfTree}
+use Rattle.disk_definitions.specs.Picks.{picked_inode}
+use Rattle.disk_definitions.specs.Ask.{Ask, Got, bind, run}
+use Rattle.disk_definitions.specs.Walks.{Spot, AtName, walk}
+use Rattle.disk_definitions.specs.Plans.{Hand, Plan, Room, find_room, refused}
+use Rattle.disk_definitions.specs.Plans.Plan.{Finishes}
+use Rattle.disk_definitions.specs.Plans.Room.{Inside, InBlock, NoRoom}
+use Rattle.disk_definitions.specs.NamePlans.{Moving, goes_through as passes_moved, moved_within, moved_between, moving_in, moving_onto, moving_to, renaming_to, renaming, plan_renamed}
+use Rattle.disk_definitions.specs.Meets.{IsOfTree}
 use Rattle.plan_laws.specs.Walking.{Mirrors}
 use Rattle.plan_laws.proofs.Asking.{run-bind}
 use Rattle.plan_laws.proofs.Cases.{inode_by, by_spot}

@@ -4,10 +4,10 @@ use Rattle.std.specs.Map.{keys_of}
 use Rattle.frang_base.specs.declared.reply.Reply.{Reply}
 use Rattle.frang_base.proofs.Basics.{some_same}
 use Rattle.disk_definitions.specs.Store.{Store}
-use Rattle.pick_definitions.specs.Picks.{picked_directory}
-use Rattle.plan_definitions.specs.Ask.{run}
-use Rattle.plan_definitions.specs.Plans.{Hand, Lock, Plan, Finish, none_left, must_clear, shared_nodes, sole_segments}
-use Rattle.plan_definitions.specs.Plans.Plan.{Lacks, Clears, Finishes}
+use Rattle.disk_definitions.specs.Picks.{picked_directory}
+use Rattle.disk_definitions.specs.Ask.{run}
+use Rattle.disk_definitions.specs.Plans.{Hand, Lock, Plan, Finish, none_left, must_clear, shared_nodes, sole_segments}
+use Rattle.disk_definitions.specs.Plans.Plan.{Lacks, Clears, Finishes}
 use Rattle.plan_laws.specs.Locks.{says_full}
 use Rattle.plan_space.specs.Wants.{Wants}
 use Rattle.plan_space.specs.Exact.{FindsNothing}

@@ -9,16 +9,16 @@ use Rattle.tree_definitions.specs.Tree.{FileTree, node_at, must_grow}
 use Rattle.frang_base.proofs.Basics.{some_same}
 use Rattle.disk_definitions.specs.Store.{Store, StoredNode, StoredEntry}
 use Rattle.disk_definitions.specs.Naming.{Naming, first_blocks, place_of}
-use Rattle.pick_definitions.specs.Least.{least}
-use Rattle.pick_definitions.specs.Held.{Segments, state_in}
-use Rattle.pick_definitions.specs.Picks.{picks, picked_inode, picked_directory, picked_many}
-use Rattle.pick_definitions.proofs.ManyLaws.{no_picks}
-use Rattle.plan_definitions.specs.Ask.{Got, ReadDirectory, run}
-use Rattle.plan_definitions.specs.Walks.{search, is_vacant}
-use Rattle.plan_definitions.specs.Plans.{Hand, Finish, Room, none_left, room_at, room_in, read_held, find_room, finish_in, must_clear}
-use Rattle.plan_definitions.specs.Plans.Plan.{Clears, Finishes}
-use Rattle.plan_definitions.specs.Plans.Room.{Inside, InBlock, NoRoom}
-use Rattle.plan_definitions.specs.Meets.{IsOfTree}
+use Rattle.disk_definitions.specs.Least.{least}
+use Rattle.disk_definitions.specs.Held.{Segments, state_in}
+use Rattle.disk_definitions.specs.Picks.{picks, picked_inode, picked_directory, picked_many}
+use Rattle.disk_definitions.proofs.ManyLaws.{no_picks}
+use Rattle.disk_definitions.specs.Ask.{Got, ReadDirectory, run}
+use Rattle.disk_definitions.specs.Walks.{search, is_vacant}
+use Rattle.disk_definitions.specs.Plans.{Hand, Finish, Room, none_left, room_at, room_in, read_held, find_room, finish_in, must_clear}
+use Rattle.disk_definitions.specs.Plans.Plan.{Clears, Finishes}
+use Rattle.disk_definitions.specs.Plans.Room.{Inside, InBlock, NoRoom}
+use Rattle.disk_definitions.specs.Meets.{IsOfTree}
 use Rattle.plan_laws.proofs.Asking.{run-bind, run-segments}
 use Rattle.plan_laws.proofs.Searching.{found_in, run-search}
 use Rattle.plan_laws.proofs.Cases.{inode_by}

@@ -11,14 +11,14 @@ use Rattle.tree_definitions.specs.Place.{place}
 use Rattle.tree_laws.proofs.Keeping.{names_nodes}
 use Rattle.disk_definitions.specs.Store.{Store, StoredNode}
 use Rattle.disk_definitions.specs.Naming.{Naming}
-use Rattle.pick_definitions.specs.Picks.{picked_many, picked_large}
-use Rattle.store_changes.proofs.Kept.{inode_is}
-use Rattle.plan_definitions.specs.Ask.{Ask, Got, run}
-use Rattle.plan_definitions.specs.Walks.{walk, at_spot, at_target}
-use Rattle.plan_definitions.specs.Plans.{Hand, Plan, refused, read_held}
-use Rattle.plan_definitions.specs.Plans.Plan.{Finishes}
-use Rattle.plan_definitions.specs.FilePlans.{Writing, end_of, sectors_met, directory_blocks, resized, written_by, writing_in, writing_picked, writing_small, writing_large, writing, at_file, with_file, plan_of_file}
-use Rattle.plan_definitions.specs.Meets.{IsOfTree}
+use Rattle.disk_definitions.specs.Picks.{picked_many, picked_large}
+use Rattle.disk_definitions.proofs.Kept.{inode_is}
+use Rattle.disk_definitions.specs.Ask.{Ask, Got, run}
+use Rattle.disk_definitions.specs.Walks.{walk, at_spot, at_target}
+use Rattle.disk_definitions.specs.Plans.{Hand, Plan, refused, read_held}
+use Rattle.disk_definitions.specs.Plans.Plan.{Finishes}
+use Rattle.disk_definitions.specs.FilePlans.{Writing, end_of, sectors_met, directory_blocks, resized, written_by, writing_in, writing_picked, writing_small, writing_large, writing, at_file, with_file, plan_of_file}
+use Rattle.disk_definitions.specs.Meets.{IsOfTree}
 use Rattle.plan_laws.proofs.Asking.{run-bind, run-segments}
 use Rattle.plan_laws.proofs.Cases.{inode_by, by_spot}
 use Rattle.plan_laws.proofs.Walking.{walks_lead}

@@ -5,10 +5,10 @@ use Rattle.std.specs.Map.{keys_of}
 use Rattle.std.specs.Ordering.{nat_cmp}
 use Rattle.frang_base.specs.declared.bitmap.Bitmap.{Bitmap}
 use Rattle.tree_laws.proofs.Pairs.{birth_exact, self}
-use Rattle.pick_definitions.specs.Held.{Segments, bitmap_of}
-use Rattle.plan_definitions.specs.Ask.{Ask, read_segments}
-use Rattle.plan_definitions.specs.Plans.{Hand, read_held}
-use Rattle.plan_definitions.specs.Written.{Cached, is_held}
+use Rattle.disk_definitions.specs.Held.{Segments, bitmap_of}
+use Rattle.disk_definitions.specs.Ask.{Ask, read_segments}
+use Rattle.disk_definitions.specs.Plans.{Hand, read_held}
+use Rattle.disk_definitions.specs.Written.{Cached, is_held}
 use Rattle.dir_lookup.specs.Reading.{reading}
 use Rattle.plan_steps.specs.Looking.{examined, segment_number}
 

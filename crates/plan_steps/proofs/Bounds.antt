@@ -1,18 +1,18 @@
 -- What is found of a directory is one of its places, and where a walk leads there is a directory.
 use Rattle.std.proofs.Common.{◌≡◌, ◌==◌, ℕ, zero, suc, ◌+◌, ◌*◌, ◌/◌, ◌%◌, ◌<◌, ◌≤◌, Bool, true, false, cond, eqb-true, Option, Some, None, List, [], ◌∷◌, ◌++◌, refl, sym, ap, subst, ◌∙◌, arith}
 use Rattle.frang_base.specs.declared.reply.Reply.TheVariants as reply
-use Rattle.sector_definitions.specs.declared.inode.Inode.{Inode}
-use Rattle.sector_definitions.specs.declared.region.Region.TheVariants as region
-use Rattle.sector_definitions.specs.Regions.{sector_of}
-use Rattle.sector_definitions.specs.Inodes.{inode_in}
+use Rattle.disk_definitions.specs.declared.inode.Inode.{Inode}
+use Rattle.disk_definitions.specs.declared.region.Region.TheVariants as region
+use Rattle.disk_definitions.specs.Regions.{sector_of}
+use Rattle.disk_definitions.specs.Inodes.{inode_in}
 use Rattle.sector_bytes.specs.SectorMaps.{value_at}
 use Rattle.disk_definitions.specs.Store.{StoredNode, StoredEntry, stored_node, stored}
-use Rattle.pick_definitions.specs.Held.{Segments}
-use Rattle.pick_definitions.specs.Least.{least}
-use Rattle.pick_definitions.proofs.LeastLaws.{least_some}
-use Rattle.plan_definitions.specs.Ask.{Ask, Got, ReadInode, DirectoryAt, InodeAt, meet, or_needs}
-use Rattle.plan_definitions.specs.Walks.{Found, Spot, AtRoot, AtName, AtGap, Lost, Walked, hit, is_named, look_up, in_inode, onward, or_on, search, spot_by, walk_from}
-use Rattle.plan_definitions.specs.Written.{Cached, at_hand, directory_at_hand, inode_at_hand}
+use Rattle.disk_definitions.specs.Held.{Segments}
+use Rattle.disk_definitions.specs.Least.{least}
+use Rattle.disk_definitions.proofs.LeastLaws.{least_some}
+use Rattle.disk_definitions.specs.Ask.{Ask, Got, ReadInode, DirectoryAt, InodeAt, meet, or_needs}
+use Rattle.disk_definitions.specs.Walks.{Found, Spot, AtRoot, AtName, AtGap, Lost, Walked, hit, is_named, look_up, in_inode, onward, or_on, search, spot_by, walk_from}
+use Rattle.disk_definitions.specs.Written.{Cached, at_hand, directory_at_hand, inode_at_hand}
 use Rattle.dir_lookup.specs.Reading.{Read, Lacks, Gives, numbered, reading, then_read}
 use Rattle.dir_lookup.proofs.Decoded.{free_node, used_node}
 use Rattle.dir_lookup.proofs.Readings.{reading_bind}

@@ -1,9 +1,9 @@
 -- Edits one after another.
 use Rattle.std.proofs.Common.{◌≡◌, ℕ, zero, suc, ◌-◌, ◌*◌, ◌<◌, Result, Ok, Err, OnOk, List, [], ◌∷◌, ◌++◌, append_assoc, ap, ◌∙◌, arith}
 use Rattle.disk_definitions.specs.Store.{StoredNode, StoredEntry, Use}
-use Rattle.store_changes.specs.Edits.{Edit, SetUse}
-use Rattle.store_changes.specs.Changes.{grow, put_entry, uses_to}
-use Rattle.plan_definitions.specs.Plans.{with_block}
+use Rattle.disk_definitions.specs.Edits.{Edit, SetUse}
+use Rattle.disk_definitions.specs.Changes.{grow, put_entry, uses_to}
+use Rattle.disk_definitions.specs.Plans.{with_block}
 
 pub on_ok : {A B : Type 0} (r : Result A B) (P Q : Type 0) → (P → Q) → OnOk r P → OnOk r Q
 on_ok (Ok a) P Q f p = f p

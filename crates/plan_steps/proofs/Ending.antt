@@ -3,14 +3,14 @@ use Rattle.std.proofs.Common.{◌≡◌, ℕ, Option, Some, None, Result, Ok, Er
 use Rattle.std.proofs.Math.Path.{fun_ext}
 use Rattle.frang_base.specs.declared.reply.Reply.TheVariants as reply
 use Rattle.frang_base.specs.declared.reply.Reply.{Reply}
-use Rattle.sector_definitions.specs.declared.inode.Inode.{Inode}
+use Rattle.disk_definitions.specs.declared.inode.Inode.{Inode}
 use Rattle.disk_definitions.specs.Store.{StoredNode, stored}
-use Rattle.pick_definitions.specs.Held.{Segments}
-use Rattle.plan_definitions.specs.Ask.{Ask, ReadInode, bind}
-use Rattle.plan_definitions.specs.Walks.{Spot, walk}
-use Rattle.plan_definitions.specs.Plans.{Plan, Finish, Finishes, refuse, refused, shared_nodes}
-use Rattle.plan_definitions.specs.LookPlans.{with_inode}
-use Rattle.plan_definitions.specs.Written.{Cached}
+use Rattle.disk_definitions.specs.Held.{Segments}
+use Rattle.disk_definitions.specs.Ask.{Ask, ReadInode, bind}
+use Rattle.disk_definitions.specs.Walks.{Spot, walk}
+use Rattle.disk_definitions.specs.Plans.{Plan, Finish, Finishes, refuse, refused, shared_nodes}
+use Rattle.disk_definitions.specs.LookPlans.{with_inode}
+use Rattle.disk_definitions.specs.Written.{Cached}
 use Rattle.dir_lookup.specs.Reading.{Read, Gives, reading}
 use Rattle.plan_steps.specs.declared.edit.Outcome.{Outcome}
 use Rattle.plan_steps.specs.declared.stop.Stop.{Stop}

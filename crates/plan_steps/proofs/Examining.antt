@@ -4,14 +4,14 @@ use Rattle.std.proofs.lemmas.List.{map-append}
 use Rattle.std.proofs.lemmas.List.Elements.{filter-append}
 use Rattle.frang_base.specs.declared.reply.Reply.TheVariants as reply
 use Rattle.disk_definitions.specs.Store.{StoredNode, StoredEntry}
-use Rattle.pick_definitions.specs.Held.{Segments}
-use Rattle.pick_definitions.specs.Least.{least}
-use Rattle.plan_definitions.specs.Ask.{Sector, InodeAt, DirectoryAt, SegmentAt, Ask, Got, ReadInode, ReadDirectory, ReadSegment, ReadBytes, ReadLarge, Met, bind, meet, number_of}
-use Rattle.plan_definitions.specs.Ask.Met.{Needs, Has}
-use Rattle.plan_definitions.specs.Walks.{Spot, AtRoot, AtName, AtGap, Lost, Found, Walked, hit, in_inode, is_named, look_up, onward, or_on, search, spot_by, walk, walk_from}
-use Rattle.plan_definitions.specs.Written.{Cached, at_hand, directory_at_hand, inode_at_hand, is_held}
-use Rattle.plan_traces.specs.Traces.{behind, by_said, has_version, needs, on_from, Traced, traced}
-use Rattle.plan_traces.proofs.Traces.{traces_go_on, traces_meet}
+use Rattle.disk_definitions.specs.Held.{Segments}
+use Rattle.disk_definitions.specs.Least.{least}
+use Rattle.disk_definitions.specs.Ask.{Sector, InodeAt, DirectoryAt, SegmentAt, Ask, Got, ReadInode, ReadDirectory, ReadSegment, ReadBytes, ReadLarge, Met, bind, meet, number_of}
+use Rattle.disk_definitions.specs.Ask.Met.{Needs, Has}
+use Rattle.disk_definitions.specs.Walks.{Spot, AtRoot, AtName, AtGap, Lost, Found, Walked, hit, in_inode, is_named, look_up, onward, or_on, search, spot_by, walk, walk_from}
+use Rattle.disk_definitions.specs.Written.{Cached, at_hand, directory_at_hand, inode_at_hand, is_held}
+use Rattle.plan_laws.specs.Traces.{behind, by_said, has_version, needs, on_from, Traced, traced}
+use Rattle.plan_laws.proofs.Traces.{traces_go_on, traces_meet}
 use Rattle.dir_lookup.specs.Looked.{Adds}
 use Rattle.dir_lookup.specs.Looks.{looks_of}
 use Rattle.dir_lookup.specs.Reading.{Read, Lacks, Gives, numbered, reading}

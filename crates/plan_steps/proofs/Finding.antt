@@ -1,12 +1,12 @@
 -- Room for an entry is a place that was found, or a block of the held segments; and the block has to be clear.
 use Rattle.std.proofs.Common.{◌≡◌, ℕ, ◌*◌, Bool, true, false, cond, nat_lt, Option, None, refl, sym, ap, ◌∙◌}
-use Rattle.plan_definitions.specs.Written.{hand_of, Cached}
+use Rattle.disk_definitions.specs.Written.{hand_of, Cached}
 use Rattle.disk_definitions.specs.Store.{StoredNode, StoredEntry}
-use Rattle.pick_definitions.specs.Held.{Segments}
-use Rattle.pick_definitions.specs.Picks.{picked_directory}
-use Rattle.plan_definitions.specs.Ask.{Ask, Got, ReadDirectory}
-use Rattle.plan_definitions.specs.Walks.{Found, is_vacant, search}
-use Rattle.plan_definitions.specs.Plans.{Hand, Clears, Finishes, Finish, Room, InBlock, NoRoom, find_room, finish_in, must_clear, read_held, room_at, room_in}
+use Rattle.disk_definitions.specs.Held.{Segments}
+use Rattle.disk_definitions.specs.Picks.{picked_directory}
+use Rattle.disk_definitions.specs.Ask.{Ask, Got, ReadDirectory}
+use Rattle.disk_definitions.specs.Walks.{Found, is_vacant, search}
+use Rattle.disk_definitions.specs.Plans.{Hand, Clears, Finishes, Finish, Room, InBlock, NoRoom, find_room, finish_in, must_clear, read_held, room_at, room_in}
 use Rattle.dir_lookup.specs.Reading.{Read, Gives, reading, then_read}
 use Rattle.dir_lookup.proofs.Searches.{goes_on}
 use Rattle.plan_steps.proofs.AtHand.{held_at_hand}

@@ -1,10 +1,10 @@
 -- Each plan that walks a path goes by where the walk leads.
 use Rattle.std.proofs.Common.{◌≡◌, ℕ, List, [], sym, ap, subst, ◌∙◌}
-use Rattle.pick_definitions.specs.Held.{Segments}
-use Rattle.plan_definitions.specs.Ask.{Ask, Got, bind}
-use Rattle.plan_definitions.specs.Walks.{Spot, Walked, walk}
-use Rattle.plan_definitions.specs.Plans.{Plan}
-use Rattle.plan_definitions.specs.Written.{Cached}
+use Rattle.disk_definitions.specs.Held.{Segments}
+use Rattle.disk_definitions.specs.Ask.{Ask, Got, bind}
+use Rattle.disk_definitions.specs.Walks.{Spot, Walked, walk}
+use Rattle.disk_definitions.specs.Plans.{Plan}
+use Rattle.disk_definitions.specs.Written.{Cached}
 use Rattle.dir_lookup.specs.declared.spot.Spot.{Spot as CodeSpot}
 use Rattle.dir_lookup.specs.declared.spot.Spot.TheVariants as spot
 use Rattle.dir_lookup.specs.Reading.{Read, Lacks, Gives, reading, then_read}

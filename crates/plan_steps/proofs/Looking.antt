@@ -1,8 +1,8 @@
 -- What a plan has examined once it goes on, and once it ends.
 use Rattle.std.proofs.Common.{◌≡◌, ℕ, Option, List, [], ◌++◌, append_assoc, sym, ap, ◌∙◌}
-use Rattle.pick_definitions.specs.Held.{Segments}
-use Rattle.plan_definitions.specs.Ask.{Ask, bind}
-use Rattle.plan_definitions.specs.Written.{Cached}
+use Rattle.disk_definitions.specs.Held.{Segments}
+use Rattle.disk_definitions.specs.Ask.{Ask, bind}
+use Rattle.disk_definitions.specs.Written.{Cached}
 use Rattle.dir_lookup.specs.Reading.{Lacks, Gives, reading}
 use Rattle.dir_lookup.proofs.Looking.{adds_as, adds_none, adds_then}
 use Rattle.plan_steps.specs.Looking.{Looks, LooksTo, examined}

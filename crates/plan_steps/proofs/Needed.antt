@@ -2,14 +2,14 @@
 use Rattle.std.proofs.Common.{◌≡◌, ℕ, zero, suc, ◌+◌, ◌<◌, ◌≤◌, Bool, true, false, cond, Option, Some, None, Result, Ok, Err, List, [], ◌∷◌, ◌++◌, map, ⊎_elim, refl, sym, ap, subst, ◌∙◌, arith}
 use Rattle.std.proofs.Math.Nat.{eq-or-lt_of_le}
 use Rattle.std.proofs.lemmas.List.{map-append}
-use Rattle.sector_definitions.specs.declared.region.Region.TheVariants as region
-use Rattle.sector_definitions.specs.Regions.{sector_of}
+use Rattle.disk_definitions.specs.declared.region.Region.TheVariants as region
+use Rattle.disk_definitions.specs.Regions.{sector_of}
 use Rattle.tree_definitions.specs.Numbers.{below}
-use Rattle.pick_definitions.specs.Held.{Segments}
-use Rattle.pick_definitions.specs.Picks.{or_else}
-use Rattle.plan_definitions.specs.Ask.{Ask, Got, SegmentAt, Needs, meet, read_segments}
-use Rattle.plan_definitions.specs.Plans.{Plan, Finishes}
-use Rattle.plan_definitions.specs.Written.{Cached, at_hand, is_held}
+use Rattle.disk_definitions.specs.Held.{Segments}
+use Rattle.disk_definitions.specs.Picks.{or_else}
+use Rattle.disk_definitions.specs.Ask.{Ask, Got, SegmentAt, Needs, meet, read_segments}
+use Rattle.disk_definitions.specs.Plans.{Plan, Finishes}
+use Rattle.disk_definitions.specs.Written.{Cached, at_hand, is_held}
 use Rattle.dir_lookup.specs.Reading.{Read, Lacks, Gives, numbered, reading}
 use Rattle.dir_lookup.specs.declared.hand.Hand.{Hand}
 use Rattle.dir_lookup.specs.declared.need.Need.{Need}

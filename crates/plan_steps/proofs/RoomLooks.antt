@@ -2,12 +2,12 @@
 use Rattle.std.proofs.Common.{◌≡◌, ℕ, ◌*◌, Bool, true, false, cond, nat_lt, map, Option, Some, None, List, [], append-nil, refl, sym, ap, ◌∙◌}
 use Rattle.std.specs.Map.{keys_of}
 use Rattle.disk_definitions.specs.Store.{StoredNode}
-use Rattle.pick_definitions.specs.Held.{Segments}
-use Rattle.pick_definitions.specs.Picks.{picked_directory}
-use Rattle.plan_definitions.specs.Ask.{Ask, Got, ReadDirectory}
-use Rattle.plan_definitions.specs.Walks.{Found, is_vacant, search}
-use Rattle.plan_definitions.specs.Plans.{Hand, Plan, Clears, Finishes, Finish, Room, InBlock, NoRoom, find_room, finish_in, must_clear, read_held, room_at, room_in}
-use Rattle.plan_definitions.specs.Written.{Cached, hand_of}
+use Rattle.disk_definitions.specs.Held.{Segments}
+use Rattle.disk_definitions.specs.Picks.{picked_directory}
+use Rattle.disk_definitions.specs.Ask.{Ask, Got, ReadDirectory}
+use Rattle.disk_definitions.specs.Walks.{Found, is_vacant, search}
+use Rattle.disk_definitions.specs.Plans.{Hand, Plan, Clears, Finishes, Finish, Room, InBlock, NoRoom, find_room, finish_in, must_clear, read_held, room_at, room_in}
+use Rattle.disk_definitions.specs.Written.{Cached, hand_of}
 use Rattle.dir_lookup.specs.Looked.{Adds}
 use Rattle.dir_lookup.specs.Reading.{Lacks, Gives, reading}
 use Rattle.dir_lookup.proofs.Looking.{adds_as}

@@ -1,14 +1,14 @@
 -- The sectors of segments that were looked at, before the first that isn't held.
 use Rattle.std.proofs.Common.{◌≡◌, ℕ, zero, suc, ◌+◌, ◌<◌, ◌≤◌, Bool, true, false, cond, filter, Option, Some, None, List, [], ◌∷◌, ◌++◌, map, ⊎_elim, refl, sym, ap, ◌∙◌, arith}
 use Rattle.std.proofs.Math.Nat.{eq-or-lt_of_le}
-use Rattle.sector_definitions.specs.declared.region.Region.TheVariants as region
-use Rattle.sector_definitions.specs.Regions.{sector_of}
+use Rattle.disk_definitions.specs.declared.region.Region.TheVariants as region
+use Rattle.disk_definitions.specs.Regions.{sector_of}
 use Rattle.tree_definitions.specs.Numbers.{below}
-use Rattle.pick_definitions.specs.Held.{Segments}
-use Rattle.plan_definitions.specs.Ask.{Got, SegmentAt, number_of, read_segments}
-use Rattle.plan_definitions.specs.Plans.{Plan}
-use Rattle.plan_definitions.specs.Written.{Cached, at_hand, is_held}
-use Rattle.plan_traces.specs.Traces.{behind, has_version, needs, Traced, traced}
+use Rattle.disk_definitions.specs.Held.{Segments}
+use Rattle.disk_definitions.specs.Ask.{Got, SegmentAt, number_of, read_segments}
+use Rattle.disk_definitions.specs.Plans.{Plan}
+use Rattle.disk_definitions.specs.Written.{Cached, at_hand, is_held}
+use Rattle.plan_laws.specs.Traces.{behind, has_version, needs, Traced, traced}
 use Rattle.dir_lookup.specs.Looked.{Adds}
 use Rattle.dir_lookup.proofs.Looking.{adds_as, adds_then}
 use Rattle.plan_steps.specs.Looking.{examined, looked_over, segment_number}

@@ -1,12 +1,12 @@
 -- What ends the search for a node or an inode ends each plan that goes on with it.
 use Rattle.std.proofs.Common.{◌≡◌, ◌==◌, ℕ, cond, eq-eqb, ne_eqb, Err, List, ap, ◌∙◌}
 use Rattle.disk_definitions.specs.Store.{StoredNode}
-use Rattle.pick_definitions.specs.Held.{Segments}
-use Rattle.plan_definitions.specs.Ask.{Ask, ReadInode}
-use Rattle.plan_definitions.specs.Walks.{Target}
-use Rattle.plan_definitions.specs.Plans.{Plan, shared_nodes}
-use Rattle.plan_definitions.specs.LookPlans.{plan_of_node, with_inode}
-use Rattle.plan_definitions.specs.Written.{Cached}
+use Rattle.disk_definitions.specs.Held.{Segments}
+use Rattle.disk_definitions.specs.Ask.{Ask, ReadInode}
+use Rattle.disk_definitions.specs.Walks.{Target}
+use Rattle.disk_definitions.specs.Plans.{Plan, shared_nodes}
+use Rattle.disk_definitions.specs.LookPlans.{plan_of_node, with_inode}
+use Rattle.disk_definitions.specs.Written.{Cached}
 use Rattle.dir_lookup.specs.Reading.{Read, reading}
 use Rattle.plan_steps.specs.declared.stop.Stop.{Stop}
 use Rattle.plan_steps.specs.declared.stop.Stop.TheVariants as stop

@@ -3,12 +3,12 @@ use Rattle.std.proofs.Common.{◌≡◌, ℕ, Option, Ok, Err, List, [], refl, s
 use Rattle.frang_base.specs.declared.reply.Reply.{Reply}
 use Rattle.frang_base.specs.declared.reply.Reply.TheVariants as reply
 use Rattle.disk_definitions.specs.Store.{StoredNode}
-use Rattle.pick_definitions.specs.Held.{Segments}
-use Rattle.plan_definitions.specs.Ask.{Ask, Got, ReadInode, bind}
-use Rattle.plan_definitions.specs.Walks.{Spot, AtRoot, AtName, AtGap, Lost, Walked, Target, at_spot, at_target, walk}
-use Rattle.plan_definitions.specs.Plans.{Plan, refuse, refused}
-use Rattle.plan_definitions.specs.LookPlans.{plan_of_node, with_inode}
-use Rattle.plan_definitions.specs.Written.{Cached}
+use Rattle.disk_definitions.specs.Held.{Segments}
+use Rattle.disk_definitions.specs.Ask.{Ask, Got, ReadInode, bind}
+use Rattle.disk_definitions.specs.Walks.{Spot, AtRoot, AtName, AtGap, Lost, Walked, Target, at_spot, at_target, walk}
+use Rattle.disk_definitions.specs.Plans.{Plan, refuse, refused}
+use Rattle.disk_definitions.specs.LookPlans.{plan_of_node, with_inode}
+use Rattle.disk_definitions.specs.Written.{Cached}
 use Rattle.dir_lookup.specs.Reading.{Read, Lacks, Gives, reading, then_read}
 use Rattle.dir_lookup.proofs.Readings.{reading_bind}
 use Rattle.dir_lookup.proofs.Searches.{goes_on}

@@ -1,8 +1,8 @@
 -- Each plan that walks a path goes by where the walk leads, through the directories that it passed.
 use Rattle.std.proofs.Common.{ℕ, Bool, Result, Ok, Err, List, [], IfOk, sym}
-use Rattle.pick_definitions.specs.Held.{Segments}
-use Rattle.plan_definitions.specs.Walks.{Walked, walk}
-use Rattle.plan_definitions.specs.Written.{Cached}
+use Rattle.disk_definitions.specs.Held.{Segments}
+use Rattle.disk_definitions.specs.Walks.{Walked, walk}
+use Rattle.disk_definitions.specs.Written.{Cached}
 use Rattle.dir_lookup.specs.Reading.{Lacks, Gives}
 use Rattle.dir_lookup.specs.declared.need.Need.{Need}
 use Rattle.dir_lookup.specs.declared.spot.Spot.{Spot as CodeSpot}

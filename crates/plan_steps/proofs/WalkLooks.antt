@@ -2,12 +2,12 @@
 use Rattle.std.proofs.Common.{◌≡◌, ℕ, Bool, Option, Some, None, Result, Ok, Err, List, [], ◌++◌, append-nil, sym, ap, ◌∙◌}
 use Rattle.frang_base.specs.declared.reply.Reply.{Reply}
 use Rattle.disk_definitions.specs.Store.{StoredNode}
-use Rattle.pick_definitions.specs.Held.{Segments}
-use Rattle.plan_definitions.specs.Ask.{Ask, Got, ReadInode, bind}
-use Rattle.plan_definitions.specs.Walks.{Spot, Target, at_spot, at_target, walk}
-use Rattle.plan_definitions.specs.Plans.{Plan, refused}
-use Rattle.plan_definitions.specs.LookPlans.{plan_of_node}
-use Rattle.plan_definitions.specs.Written.{Cached}
+use Rattle.disk_definitions.specs.Held.{Segments}
+use Rattle.disk_definitions.specs.Ask.{Ask, Got, ReadInode, bind}
+use Rattle.disk_definitions.specs.Walks.{Spot, Target, at_spot, at_target, walk}
+use Rattle.disk_definitions.specs.Plans.{Plan, refused}
+use Rattle.disk_definitions.specs.LookPlans.{plan_of_node}
+use Rattle.disk_definitions.specs.Written.{Cached}
 use Rattle.dir_lookup.specs.declared.need.Need.{Need}
 use Rattle.dir_lookup.specs.declared.spot.Spot.{Spot as CodeSpot}
 use Rattle.dir_lookup.specs.Passing.{PassesFrom}

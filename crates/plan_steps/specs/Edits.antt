@@ -3,7 +3,7 @@ use Rattle.std.specs.Prelude.{List, map, slice_index}
 use Rattle.std.specs.Option.{option_map}
 use Rattle.bitmap_block.specs.States.{state_number}
 use Rattle.disk_definitions.specs.Store.{use_by, stored, entered}
-use Rattle.store_changes.specs.Edits.{Edit, SetInode, SetBit, SetUse, SetPlace, SetLarge, SetBytes, SetLargeBytes}
+use Rattle.disk_definitions.specs.Edits.{Edit, SetInode, SetBit, SetUse, SetPlace, SetLarge, SetBytes, SetLargeBytes}
 use Rattle.plan_steps.specs.declared.edit.Edit.{Edit as CodeEdit}
 use Rattle.plan_steps.specs.declared.edit.Edit.TheVariants as edit
 

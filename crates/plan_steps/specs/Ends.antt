@@ -1,8 +1,8 @@
 -- How a plan over cached sectors ends, as the code has it. Its locks are the definitions' alone.
 use Rattle.std.specs.Prelude.{◌≡◌, Result, Ok, Err, List, []}
 use Rattle.frang_base.specs.declared.reply.Reply.{Reply}
-use Rattle.store_changes.specs.Edits.{Edit}
-use Rattle.plan_definitions.specs.Plans.{Plan, Lock, Lacks as LacksSegments, Clears, Finishes}
+use Rattle.disk_definitions.specs.Edits.{Edit}
+use Rattle.disk_definitions.specs.Plans.{Plan, Lock, Lacks as LacksSegments, Clears, Finishes}
 use Rattle.dir_lookup.specs.Reading.{Read, Lacks, Gives}
 use Rattle.plan_steps.specs.declared.edit.Outcome.{Outcome}
 use Rattle.plan_steps.specs.declared.stop.Stop.{Stop}

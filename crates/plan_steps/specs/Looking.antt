@@ -1,16 +1,16 @@
 -- What a plan has examined, sectors of file bytes left out, which have no version: between two states of the sectors that are kept, in order, as far as they are kept.
 use Rattle.std.specs.Prelude.{◌≡◌, ℕ, Bool, if◌then◌else◌, Option, Some, None, Result, Ok, Err, List, [], ◌∷◌, ◌++◌, filter, map}
-use Rattle.sector_definitions.specs.declared.region.Region.TheVariants as region
-use Rattle.sector_definitions.specs.declared.inode.Inode.{Inode}
-use Rattle.sector_definitions.specs.Regions.{sector_of}
+use Rattle.disk_definitions.specs.declared.region.Region.TheVariants as region
+use Rattle.disk_definitions.specs.declared.inode.Inode.{Inode}
+use Rattle.disk_definitions.specs.Regions.{sector_of}
 use Rattle.disk_definitions.specs.Store.{StoredNode, stored}
-use Rattle.pick_definitions.specs.Held.{Segments}
-use Rattle.plan_definitions.specs.Ask.{Sector, Ask, ReadInode, bind, number_of}
-use Rattle.plan_definitions.specs.Walks.{Spot, Target, walk}
-use Rattle.plan_definitions.specs.Plans.{Plan}
-use Rattle.plan_definitions.specs.LookPlans.{plan_of_node}
-use Rattle.plan_definitions.specs.Written.{Cached, at_hand, is_held}
-use Rattle.plan_traces.specs.Traces.{has_version, traced}
+use Rattle.disk_definitions.specs.Held.{Segments}
+use Rattle.disk_definitions.specs.Ask.{Sector, Ask, ReadInode, bind, number_of}
+use Rattle.disk_definitions.specs.Walks.{Spot, Target, walk}
+use Rattle.disk_definitions.specs.Plans.{Plan}
+use Rattle.disk_definitions.specs.LookPlans.{plan_of_node}
+use Rattle.disk_definitions.specs.Written.{Cached, at_hand, is_held}
+use Rattle.plan_laws.specs.Traces.{has_version, traced}
 use Rattle.dir_lookup.specs.Looked.{Adds}
 use Rattle.dir_lookup.specs.Spots.{has_inode, spot_of}
 use Rattle.dir_lookup.specs.declared.need.Need.{Need}

@@ -1,7 +1,7 @@
 -- The nodes that come, and what the code has to know of the inodes that it changes.
 use Rattle.std.specs.Prelude.{◌≡◌, ◌≤◌, []}
 use Rattle.frang_base.specs.declared.limits.TheConstants.{FILE_BYTES_MAX, INODE_BLOCKS_MAX, KIND_DIRECTORY}
-use Rattle.sector_definitions.specs.declared.inode.Inode.{Inode}
+use Rattle.disk_definitions.specs.declared.inode.Inode.{Inode}
 use Rattle.tree_definitions.specs.declared.node.Node.{Node}
 use Rattle.tree_definitions.specs.declared.node.Node.TheVariants.{Dir, File, Link}
 use Rattle.plan_steps.specs.declared.nodes.NewNode.{NewNode}

@@ -1,7 +1,7 @@
 -- What an operation that is done comes to.
 use Rattle.std.specs.Prelude.{◌≡◌, Result, IfOk, List}
 use Rattle.frang_base.specs.declared.reply.Reply.TheVariants as reply
-use Rattle.store_changes.specs.Edits.{Edit}
+use Rattle.disk_definitions.specs.Edits.{Edit}
 use Rattle.plan_steps.specs.declared.edit.Outcome.{Outcome}
 use Rattle.plan_steps.specs.Edits.{edits_of}
 

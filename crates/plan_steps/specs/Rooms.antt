@@ -1,13 +1,13 @@
 -- Room for an entry as the code has it, and what comes of the block that it takes.
 use Rattle.std.specs.Prelude.{◌≡◌, ◌<◌, ◌*◌, ℕ, if◌then◌else◌, Option, Some, None, Result, Ok, Err, List, [], ◌∷◌}
 use Rattle.frang_base.specs.declared.limits.TheConstants.{BLOCK_ENTRIES, INODE_BLOCKS_MAX}
-use Rattle.sector_definitions.specs.declared.inode.Inode.{Inode}
-use Rattle.pick_definitions.specs.Held.{Segments}
-use Rattle.plan_definitions.specs.Plans.{Finish, Room, Inside, InBlock, NoRoom, Finishes, finish_in}
-use Rattle.plan_definitions.specs.NamePlans.{finish_over}
-use Rattle.plan_definitions.specs.Written.{is_held}
-use Rattle.sector_definitions.specs.declared.region.Region.TheVariants as region
-use Rattle.sector_definitions.specs.Regions.{sector_of}
+use Rattle.disk_definitions.specs.declared.inode.Inode.{Inode}
+use Rattle.disk_definitions.specs.Held.{Segments}
+use Rattle.disk_definitions.specs.Plans.{Finish, Room, Inside, InBlock, NoRoom, Finishes, finish_in}
+use Rattle.disk_definitions.specs.NamePlans.{finish_over}
+use Rattle.disk_definitions.specs.Written.{is_held}
+use Rattle.disk_definitions.specs.declared.region.Region.TheVariants as region
+use Rattle.disk_definitions.specs.Regions.{sector_of}
 use Rattle.dir_lookup.specs.Hands.{over, seen}
 use Rattle.dir_lookup.specs.Reading.{Gives, Lacks}
 use Rattle.dir_lookup.specs.declared.hand.Hand.{Hand}

@@ -1,11 +1,11 @@
 -- Where a path leads, as every plan of a name goes on with it.
 use Rattle.std.specs.Prelude.{◌≡◌, ◌<◌, ◌*◌, ℕ, Bool, Result, Ok, Err, List}
 use Rattle.frang_base.specs.declared.limits.TheConstants.{BLOCK_ENTRIES}
-use Rattle.pick_definitions.specs.Held.{Segments}
-use Rattle.plan_definitions.specs.Ask.{Ask, bind}
-use Rattle.plan_definitions.specs.Walks.{Spot, walk}
-use Rattle.plan_definitions.specs.Plans.{Plan}
-use Rattle.plan_definitions.specs.Written.{Cached}
+use Rattle.disk_definitions.specs.Held.{Segments}
+use Rattle.disk_definitions.specs.Ask.{Ask, bind}
+use Rattle.disk_definitions.specs.Walks.{Spot, walk}
+use Rattle.disk_definitions.specs.Plans.{Plan}
+use Rattle.disk_definitions.specs.Written.{Cached}
 use Rattle.dir_lookup.specs.Reading.{Lacks, reading}
 use Rattle.dir_lookup.specs.Spots.{has_inode, spot_of}
 use Rattle.dir_lookup.specs.declared.need.Need.{Need}

@@ -1,14 +1,14 @@
 -- The node that a path names, and its inode, as every plan of a node or of a file goes on with them.
 use Rattle.std.specs.Prelude.{◌≡◌, ℕ, Result, Ok, Err, List, []}
 use Rattle.frang_base.specs.declared.reply.Reply.{Reply}
-use Rattle.sector_definitions.specs.declared.inode.Inode.{Inode}
+use Rattle.disk_definitions.specs.declared.inode.Inode.{Inode}
 use Rattle.disk_definitions.specs.Store.{StoredNode, stored}
-use Rattle.pick_definitions.specs.Held.{Segments}
-use Rattle.plan_definitions.specs.Ask.{Ask, ReadInode}
-use Rattle.plan_definitions.specs.Walks.{Spot, Target, at_spot}
-use Rattle.plan_definitions.specs.Plans.{Plan, refuse}
-use Rattle.plan_definitions.specs.LookPlans.{plan_of_node, with_inode}
-use Rattle.plan_definitions.specs.Written.{Cached}
+use Rattle.disk_definitions.specs.Held.{Segments}
+use Rattle.disk_definitions.specs.Ask.{Ask, ReadInode}
+use Rattle.disk_definitions.specs.Walks.{Spot, Target, at_spot}
+use Rattle.disk_definitions.specs.Plans.{Plan, refuse}
+use Rattle.disk_definitions.specs.LookPlans.{plan_of_node, with_inode}
+use Rattle.disk_definitions.specs.Written.{Cached}
 use Rattle.dir_lookup.specs.Reading.{Lacks, Gives, reading}
 use Rattle.dir_lookup.specs.Spots.{reply_of}
 use Rattle.dir_lookup.specs.declared.spot.Refusal.{Refusal}

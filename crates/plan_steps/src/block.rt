@@ -1,8 +1,8 @@
 // Small blocks that are cached as zero.
 ghost use Rattle.std.specs.Prelude.{◌≡◌};
-ghost use Rattle.sector_definitions.specs.Regions.{sector_of};
-ghost use Rattle.sector_definitions.specs.declared.region.Region.TheVariants as region;
-ghost use Rattle.plan_definitions.specs.Written.{is_zero_at_hand, is_zeroed};
+ghost use Rattle.disk_definitions.specs.Regions.{sector_of};
+ghost use Rattle.disk_definitions.specs.declared.region.Region.TheVariants as region;
+ghost use Rattle.disk_definitions.specs.Written.{is_zero_at_hand, is_zeroed};
 
 use frang_base::limits::SMALL_BLOCK_SECTORS;
 use frang_layout::{Region, sector_of};

@@ -3,8 +3,8 @@ ghost use Rattle.std.specs.Prelude.{◌≡◌, ◌++◌, ◌∷◌, [], OnOk};
 ghost use Rattle.plan_steps.specs.Edits.{edit_of, edits_of};
 
 use bitmap_block::BlockState;
+use disk_definitions::{DirEntry, Inode};
 use frang_base::{Block, NoMemory, Reply};
-use sector_definitions::{DirEntry, Inode};
 use std::alloc::Global;
 
 /// The change of one thing of a disk. Blocks are numbered over all segments, small ones and large ones apart.

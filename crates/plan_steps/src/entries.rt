@@ -3,9 +3,9 @@ ghost use Rattle.std.specs.Prelude.{◌≡◌, ◌<◌, ◌+◌, ◌*◌, ◌/�
 ghost use Rattle.std.specs.Option.{option_map};
 ghost use Rattle.frang_base.specs.declared.limits.TheConstants.{BLOCK_ENTRIES, INODE_BLOCKS_MAX};
 ghost use Rattle.disk_definitions.specs.Store.{stored, entered};
-ghost use Rattle.store_changes.specs.Edits.{SetPlace};
-ghost use Rattle.store_changes.specs.Changes as changes;
-ghost use Rattle.plan_definitions.specs.Plans as plans;
+ghost use Rattle.disk_definitions.specs.Edits.{SetPlace};
+ghost use Rattle.disk_definitions.specs.Changes as changes;
+ghost use Rattle.disk_definitions.specs.Plans as plans;
 ghost use Rattle.plan_steps.specs.Edits.{edits_of};
 ghost use Rattle.plan_steps.specs.Nodes.{IsDirectory};
 ghost use Rattle.plan_steps.specs.Rooms.{IsRoomOf, room_in};
@@ -14,9 +14,9 @@ use crate::edit::{Edit, push};
 use crate::room::Room;
 use bitmap_block::BlockState;
 use dir_lookup::NumberedInode;
+use disk_definitions::{DirEntry, Inode};
 use frang_base::limits::{BLOCK_ENTRIES, NAME_BYTES_MAX};
 use frang_base::{Name, NoMemory};
-use sector_definitions::{DirEntry, Inode};
 
 /// The entry of a name: the inode and the kind of its node.
 pub fn entry_for(name: &Name, inode: u32, kind: u8) -> DirEntry

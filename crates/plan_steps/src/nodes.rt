@@ -1,10 +1,10 @@
 // Nodes that come, get another number of links, or go.
 ghost use Rattle.std.specs.Prelude.{◌≡◌, ◌≤◌, length, take, ◌∷◌, ◌++◌, [], None, false, OnOk, slice_index};
 ghost use Rattle.tree_definitions.specs.declared.node.Node.TheVariants as node;
-ghost use Rattle.store_changes.specs.Edits.{SetInode, SetBit};
-ghost use Rattle.store_changes.specs.Changes as changes;
+ghost use Rattle.disk_definitions.specs.Edits.{SetInode, SetBit};
+ghost use Rattle.disk_definitions.specs.Changes as changes;
 ghost use Rattle.disk_definitions.specs.Naming.{inode_of, kind_of};
-ghost use Rattle.plan_definitions.specs.NamePlans as plans;
+ghost use Rattle.disk_definitions.specs.NamePlans as plans;
 ghost use Rattle.dir_lookup.specs.Stored.{IsUsed};
 ghost use Rattle.plan_steps.specs.Edits.{edits_of};
 ghost use Rattle.bitmap_block.specs.States.{state_number};
@@ -14,9 +14,9 @@ ghost use Rattle.plan_steps.specs.Nodes.{node_of};
 use crate::edit::{Edit, push};
 use bitmap_block::BlockState;
 use dir_lookup::NumberedInode;
+use disk_definitions::Inode;
 use frang_base::NoMemory;
 use frang_base::limits::{KIND_DIRECTORY, KIND_FILE, KIND_LINK};
-use sector_definitions::Inode;
 use tree_definitions::Target;
 
 /// A node that comes: an empty file, an empty directory, or a link.

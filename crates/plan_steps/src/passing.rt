@@ -1,6 +1,6 @@
 // Where a path leads, and whether its walk looks up a name in a directory.
 ghost use Rattle.std.specs.Prelude.{IfOk};
-ghost use Rattle.pick_definitions.specs.Held.{Segments};
+ghost use Rattle.disk_definitions.specs.Held.{Segments};
 ghost use Rattle.plan_steps.specs.Looking.{LooksPassing};
 ghost use Rattle.plan_steps.specs.Spots.{FindsPassing, IsStanding};
 

@@ -2,11 +2,11 @@
 ghost use Rattle.std.specs.Prelude.{ℕ, List, ◌≡◌, [], IfOk, IfSome, if◌then◌else◌, map, nat_lt};
 ghost use Rattle.std.specs.Map.{keys_of};
 ghost use Rattle.frang_base.specs.declared.limits.TheConstants.{INODE_BLOCKS_MAX};
-ghost use Rattle.pick_definitions.specs.Held.{state_in};
-ghost use Rattle.pick_definitions.specs.Picks.{is_in_state, picked_directory};
+ghost use Rattle.disk_definitions.specs.Held.{state_in};
+ghost use Rattle.disk_definitions.specs.Picks.{is_in_state, picked_directory};
 ghost use Rattle.disk_definitions.specs.Store.{stored};
-ghost use Rattle.plan_definitions.specs.Plans as plans;
-ghost use Rattle.plan_definitions.specs.Plans.{Finish, NoRoom};
+ghost use Rattle.disk_definitions.specs.Plans as plans;
+ghost use Rattle.disk_definitions.specs.Plans.{Finish, NoRoom};
 ghost use Rattle.dir_lookup.specs.Hands.{over, seen};
 ghost use Rattle.dir_lookup.specs.Looked.{Adds};
 ghost use Rattle.dir_lookup.specs.Reading.{read_of};
@@ -20,10 +20,10 @@ use crate::stop::Stop;
 use bitmap_alloc::{Use, pick_small};
 use bitmap_block::{BlockState, state_of};
 use dir_lookup::{Hand, Looked, Need, directory_at, first_vacant};
+use disk_definitions::Inode;
 use frang_base::limits::{DIRECTORY_ENTRIES_MAX, INODE_BLOCKS_MAX, SEGMENT_BLOCKS};
 use frang_base::{Held, Reply};
 use frang_layout::{Region, sector_of};
-use sector_definitions::Inode;
 
 /// Room for an entry.
 #[derive(Clone, Copy, Debug, PartialEq, Eq)]

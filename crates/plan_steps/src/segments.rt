@@ -1,21 +1,21 @@
 // Whether the segments are held that a node needs when it goes.
 ghost use Rattle.std.specs.Prelude.{◌≡◌, ◌-◌, ◌/◌, ◌==◌, ◌∷◌, [], if◌then◌else◌, map, slice_index};
-ghost use Rattle.plan_definitions.specs.Plans.{Finish};
+ghost use Rattle.disk_definitions.specs.Plans.{Finish};
 ghost use Rattle.dir_lookup.specs.Looked.{Adds};
 ghost use Rattle.frang_base.specs.declared.limits.TheConstants.{SEGMENT_BLOCKS};
 ghost use Rattle.tree_definitions.specs.Numbers.{below};
 ghost use Rattle.disk_definitions.specs.Store.{stored};
-ghost use Rattle.plan_definitions.specs.NamePlans as plans;
+ghost use Rattle.disk_definitions.specs.NamePlans as plans;
 ghost use Rattle.dir_lookup.specs.Stored.{IsUsed};
 ghost use Rattle.plan_steps.specs.Looking.{Looks, looked_over};
 ghost use Rattle.plan_steps.specs.Rooms.{LooksOver, missing_of, needed};
 
 use crate::nodes::is_last;
 use dir_lookup::{Hand, Looked, Need, NumberedInode};
+use disk_definitions::Inode;
 use frang_base::limits::{SEGMENT_BLOCKS, SEGMENT_INODES};
 use frang_base::{Held, Sector};
 use frang_layout::{Region, sector_of};
-use sector_definitions::Inode;
 
 /// That the segments are held which a node needs when it loses a link: with its last one that of the inode, of each small block, and of
 /// the large block. `Need` names the sector of the first that isn't; those before it come to `looked`.

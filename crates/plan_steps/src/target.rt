@@ -1,6 +1,6 @@
 // The node that a path names.
 ghost use Rattle.std.specs.Prelude.{◌≡◌, IfOk};
-ghost use Rattle.pick_definitions.specs.Held.{Segments};
+ghost use Rattle.disk_definitions.specs.Held.{Segments};
 ghost use Rattle.dir_lookup.specs.Spots.{spot_of};
 ghost use Rattle.dir_lookup.specs.Stored.{IsUsed};
 ghost use Rattle.plan_steps.specs.Looking.{LooksAtInode, LooksAtTarget};
@@ -8,10 +8,10 @@ ghost use Rattle.plan_steps.specs.Targets.{FindsInode, FindsTarget, target_at, t
 
 use crate::stop::Stop;
 use dir_lookup::{Looked, Refusal, Spot, inode_at, walk_spot};
+use disk_definitions::Inode;
 use frang_base::limits::{KIND_DIRECTORY, ROOT_INODE};
 use frang_base::{Path, Reply};
 use meta_version::Sectors;
-use sector_definitions::Inode;
 
 /// A node by its inode's number and its kind, as its entry has it.
 #[derive(Clone, Copy, Debug, PartialEq, Eq)]

@@ -1,6 +1,6 @@
 // Where a path leads.
 ghost use Rattle.std.specs.Prelude.{IfOk};
-ghost use Rattle.pick_definitions.specs.Held.{Segments};
+ghost use Rattle.disk_definitions.specs.Held.{Segments};
 ghost use Rattle.plan_steps.specs.Looking.{LooksAtSpot};
 ghost use Rattle.plan_steps.specs.Spots.{FindsSpot, IsStanding};
 

@@ -1,6 +1,8 @@
 // Calls of the program over files and an outside in memory, and what they say.
+ghost use Rattle.frang_top.specs.Run.{NothingYet};
+
 use frang_base::NoMemory;
-use frang_outside::{Act, MemFiles, MemOutside, NoGate};
+use frang_outside::{Act, MemFiles, MemOutside, NoGate, Outside};
 use frang_top::{Status, frang};
 use std::alloc::{AllocError, Global};
 use std::process::Abort;
@@ -41,6 +43,19 @@ pub struct Told {
     pub text: Vec<u8>,
 }
 
+// How a call with these words ends, and the outside that it leaves. Nothing was said there before.
+pub fn call<R: Threads + Sync, O: Outside + Send>(
+    rt: &R,
+    alloc: Global,
+    words: &[String],
+    files: &mut MemFiles,
+    out: O,
+) -> (Status, O)
+    requires { NothingYet (O.state out).acts }
+{
+    frang(rt, alloc, words, files, out, &NoGate)
+}
+
 // What a call with these words tells where the file `s` holds this script.
 pub fn tell(
     rt: &(impl Threads + Sync),
@@ -51,14 +66,7 @@ pub fn tell(
     let mut files = MemFiles::new(alloc);
     files.put_file("s", script)?;
     let words = words_of(alloc, words)?;
-    let (status, out) = frang(
-        rt,
-        alloc,
-        &words,
-        &mut files,
-        MemOutside::new(alloc),
-        &NoGate,
-    );
+    let (status, out) = call(rt, alloc, &words, &mut files, MemOutside::new(alloc));
     let acts = out.acts();
     Ok(Told {
         status,

@@ -1,9 +1,9 @@
 // Whole runs: what is said, and how each ends.
-use crate::builders::{DONE, Run, Told, expect_runs, lines_said, tell, words_of};
+use crate::builders::{DONE, Run, Told, call, expect_runs, lines_said, tell, words_of};
 use frang_base::NoMemory;
 use frang_base::limits::SCRIPT_BYTES_MAX;
-use frang_outside::{FaultyOutside, MemFiles, NoGate};
-use frang_top::{Status, frang};
+use frang_outside::{FaultyOutside, MemFiles};
+use frang_top::Status;
 use std::alloc::Global;
 use std::process::Abort;
 use std::test::Fail;
@@ -202,7 +202,7 @@ fn tell_failing(
     let words = words_of(alloc, &["run", "s"])?;
     let says = vec![in alloc; failing]?;
     let out = FaultyOutside::new(alloc, Vec::new(alloc), Vec::new(alloc), says);
-    let (status, out) = frang(rt, alloc, &words, &mut files, out, &NoGate);
+    let (status, out) = call(rt, alloc, &words, &mut files, out);
     Ok((status, lines_said(alloc, out.acts())?))
 }
 

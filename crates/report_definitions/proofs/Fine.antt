@@ -1,7 +1,7 @@
 -- There are no faults exactly where each sector is fine by each rule.
 use Rattle.std.proofs.Common.{◌≡◌, ℕ, ◌*◌, ◌<◌, Bool, true, false, [], ◌++◌, refl, ap}
-use Rattle.sector_definitions.specs.declared.region.Region.TheVariants as region
-use Rattle.sector_definitions.specs.Regions.{sector_of}
+use Rattle.disk_definitions.specs.declared.region.Region.TheVariants as region
+use Rattle.disk_definitions.specs.Regions.{sector_of}
 use Rattle.report_definitions.specs.Sums.{gathered}
 use Rattle.report_definitions.specs.View.{View}
 use Rattle.report_definitions.specs.Rules.{is_root_fine, is_sector_fine, are_entries_fine, is_count_fine, is_named_once, are_blocks_fine, are_bits_fine, is_segment_fine, is_mark_fine}

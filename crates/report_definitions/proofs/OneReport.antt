@@ -1,8 +1,8 @@
 -- What is reached is the same for every report of a disk, and so is the report.
 use Rattle.std.proofs.Common.{◌≡◌, ℕ, Bool, true, false, List, [], ◌∷◌, refl, sym, ◌∙◌, ap, subst, eqb-true}
 use Rattle.std.proofs.lemmas.Bool.{and_parts, both_ways}
-use Rattle.sector_definitions.specs.declared.param.Param.{Param}
-use Rattle.sector_definitions.specs.Params.{param_in}
+use Rattle.disk_definitions.specs.declared.param.Param.{Param}
+use Rattle.disk_definitions.specs.Params.{param_in}
 use Rattle.disk_definitions.specs.Store.{Store}
 use Rattle.report_definitions.specs.View.{names, leads, IsReach}
 use Rattle.report_definitions.specs.Report.{report_by, view_by}

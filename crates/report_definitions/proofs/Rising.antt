@@ -1,7 +1,7 @@
 -- Faults that are gathered sector by sector and kind by kind ascend.
 use Rattle.std.proofs.Common.{◌==◌, ◌≡◌, ℕ, zero, suc, ◌+◌, ◌*◌, ◌<◌, ◌≤◌, ⊎_elim, Bool, true, false, ◌&&◌, List, [], ◌∷◌, ◌++◌, refl, ◌∙◌, ap, subst, arith, nat_lt, lt-ltb, eq-eqb}
 use Rattle.std.proofs.lemmas.Bool.{and_from, or_left, or_right, cases_lt}
-use Rattle.sector_definitions.proofs.ParamLaws.{few_segments}
+use Rattle.disk_definitions.proofs.ParamLaws.{few_segments}
 use Rattle.report_definitions.specs.Sums.{Fault, gathered}
 use Rattle.report_definitions.specs.View.{View}
 use Rattle.report_definitions.specs.Rules.{is_root_fine, is_sector_fine, are_entries_fine, is_count_fine, is_named_once, are_blocks_fine, are_bits_fine, is_segment_fine, is_mark_fine}

@@ -3,13 +3,13 @@ use Rattle.std.proofs.Common.{◌==◌, ◌≡◌, ℕ, ◌-◌, ◌*◌, ◌<�
 use Rattle.std.proofs.lemmas.Bool.{and_parts, and_from, cond-true}
 use Rattle.std.proofs.lemmas.Bool.Decides.{nat_tests}
 use Rattle.std.proofs.lemmas.List.{length-take}
-use Rattle.sector_definitions.specs.declared.param.Param.{Param}
-use Rattle.sector_definitions.specs.declared.inode.Inode.{Inode}
-use Rattle.sector_definitions.specs.declared.region.Region.TheVariants as region
-use Rattle.sector_definitions.specs.Regions.{sector_of}
-use Rattle.sector_definitions.specs.Params.{param_in, param_fits}
-use Rattle.sector_definitions.specs.Inodes.{inode_in, inode_fields, inode_fits, inode_bytes, is_free_inode}
-use Rattle.sector_definitions.proofs.ParamLaws.{param_read}
+use Rattle.disk_definitions.specs.declared.param.Param.{Param}
+use Rattle.disk_definitions.specs.declared.inode.Inode.{Inode}
+use Rattle.disk_definitions.specs.declared.region.Region.TheVariants as region
+use Rattle.disk_definitions.specs.Regions.{sector_of}
+use Rattle.disk_definitions.specs.Params.{param_in, param_fits}
+use Rattle.disk_definitions.specs.Inodes.{inode_in, inode_fields, inode_fits, inode_bytes, is_free_inode}
+use Rattle.disk_definitions.proofs.ParamLaws.{param_read}
 use Rattle.sector_bytes.specs.Sectors.{Sectors}
 use Rattle.std.specs.Str.{bytes_eq}
 use Rattle.disk_definitions.specs.Store.{StoredNode, stored, stored_node, segment_at}

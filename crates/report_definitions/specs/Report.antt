@@ -2,10 +2,10 @@
 -- small blocks.
 use Rattle.std.specs.Prelude.{◌≡◌, ℕ, ◌*◌, Bool, true, false, ◌&&◌, Some, List, [], ◌∷◌, ◌++◌}
 use Rattle.frang_base.specs.declared.limits.TheConstants.{KIND_DIRECTORY, KIND_FILE, KIND_LINK, RUN_VERSIONS_MAX, SEGMENT_BLOCKS, SEGMENT_INODES, SMALL_BLOCK_SECTORS}
-use Rattle.sector_definitions.specs.declared.param.Param.{Param}
-use Rattle.sector_definitions.specs.declared.region.Region.TheVariants as region
-use Rattle.sector_definitions.specs.Regions.{sector_of}
-use Rattle.sector_definitions.specs.Params.{param_in}
+use Rattle.disk_definitions.specs.declared.param.Param.{Param}
+use Rattle.disk_definitions.specs.declared.region.Region.TheVariants as region
+use Rattle.disk_definitions.specs.Regions.{sector_of}
+use Rattle.disk_definitions.specs.Params.{param_in}
 use Rattle.sector_bytes.specs.Sectors.{Sectors}
 use Rattle.standing_laws.specs.Below.{lists}
 use Rattle.standing_laws.specs.Soundness.{has_kind}

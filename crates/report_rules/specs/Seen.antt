@@ -1,7 +1,7 @@
 -- A disk as the rules of a check see it.
 use Rattle.std.specs.Prelude.{ℕ, true, is_some, List}
-use Rattle.sector_definitions.specs.declared.region.Region.TheVariants as region
-use Rattle.sector_definitions.specs.Regions.{sector_of}
+use Rattle.disk_definitions.specs.declared.region.Region.TheVariants as region
+use Rattle.disk_definitions.specs.Regions.{sector_of}
 use Rattle.sector_bytes.specs.Sectors.{sectors_of}
 use Rattle.disk_definitions.specs.Store.{Store, directory_at}
 use Rattle.disk_reading.specs.Seen.{store_in}

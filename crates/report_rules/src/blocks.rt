@@ -1,8 +1,8 @@
 // Whether the state of a small block agrees with its use, and its sectors fit.
 ghost use Rattle.std.specs.Prelude.{◌≡◌, ◌≤◌, ◌<◌, ◌*◌};
 ghost use Rattle.sector_bytes.specs.Sectors.{sectors_of};
-ghost use Rattle.sector_definitions.specs.declared.region.Region.TheVariants as region;
-ghost use Rattle.sector_definitions.specs.Regions.{sector_of};
+ghost use Rattle.disk_definitions.specs.declared.region.Region.TheVariants as region;
+ghost use Rattle.disk_definitions.specs.Regions.{sector_of};
 ghost use Rattle.standing_laws.specs.Below.{all_below};
 ghost use Rattle.disk_reading.specs.Marks.{flag_at};
 ghost use Rattle.disk_reading.specs.Seen.{store_in, use_of_state};

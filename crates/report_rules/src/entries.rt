@@ -1,19 +1,19 @@
 // The entries of directories, and the inodes that they name.
 ghost use Rattle.std.specs.Prelude.{◌≡◌, ◌≤◌, ◌*◌, true, IfSome};
 ghost use Rattle.std.specs.Option.{option_map};
-ghost use Rattle.sector_definitions.specs.Inodes.{inode_fits};
+ghost use Rattle.disk_definitions.specs.Inodes.{inode_fits};
 ghost use Rattle.disk_definitions.specs.Store.{stored, entered};
 ghost use Rattle.disk_reading.specs.Marks.{IsBelow};
 ghost use Rattle.disk_reading.specs.Seen.{store_in};
 ghost use Rattle.report_definitions.specs.View as view;
 ghost use Rattle.report_rules.specs.Entries.{entries_in};
 
+use disk_definitions::{DirEntry, Inode};
 use disk_reading::DecodedDisk;
 use disk_reading::sectors::{entry_at, has_kind};
 use frang_base::limits::{
     BLOCK_ENTRIES, DIRECTORY_ENTRIES_MAX, KIND_DIRECTORY, SEGMENT_INODES, SEGMENTS_MAX,
 };
-use sector_definitions::{DirEntry, Inode};
 
 /// The entry at a place of an inode in use, where that is a directory with so many places.
 #[tactic(auto, using(disk_reading::proofs::PlaceByPlace::dir_few))]

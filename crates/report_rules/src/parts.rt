@@ -2,9 +2,9 @@
 ghost use Rattle.std.specs.Prelude.{◌≡◌, ◌≤◌, ◌<◌, ◌+◌, ◌*◌, ◌||◌, not, is_some};
 ghost use Rattle.std.specs.Option.{option_map};
 ghost use Rattle.sector_bytes.specs.Sectors.{sectors_of};
-ghost use Rattle.sector_definitions.specs.declared.region.Region.TheVariants as region;
-ghost use Rattle.sector_definitions.specs.Regions.{sector_of};
-ghost use Rattle.sector_definitions.specs.Directories.{directory_in};
+ghost use Rattle.disk_definitions.specs.declared.region.Region.TheVariants as region;
+ghost use Rattle.disk_definitions.specs.Regions.{sector_of};
+ghost use Rattle.disk_definitions.specs.Directories.{directory_in};
 ghost use Rattle.disk_definitions.specs.Store.{entered};
 ghost use Rattle.standing_laws.specs.Below.{all_below};
 ghost use Rattle.disk_reading.specs.Marks.{flag_at};
@@ -14,10 +14,10 @@ ghost use Rattle.report_rules.specs.Seen.{stored, view_in};
 ghost use Rattle.report_rules.specs.Tables.{AreTables};
 
 use crate::tables::Tables;
+use disk_definitions::DirEntry;
 use disk_reading::DecodedDisk;
 use disk_reading::sectors::{directory_at, entry_at, has_kind};
 use frang_base::limits::{SECTOR_ENTRIES, SEGMENT_BLOCKS, SEGMENTS_MAX, SMALL_BLOCK_SECTORS};
-use sector_definitions::DirEntry;
 
 // Whether a part is in the grammar of directories, where a directory that is reached has it.
 fn reads_well(disk: &DecodedDisk<'_>, owned: bool, block: u32, part: u8) -> bool

@@ -2,7 +2,7 @@
 ghost use Rattle.std.specs.Prelude.{◌≡◌, ◌≤◌, ◌<◌, ◌+◌, ◌*◌, ◌==◌, ◌&&◌, true, false, not, is_some, length, replicate, IfOk, OnOk};
 ghost use Rattle.frang_base.specs.Name.{is_name};
 ghost use Rattle.tree_definitions.specs.Entries.{entry_at, with_entry};
-ghost use Rattle.sector_definitions.specs.Directories.{name_in};
+ghost use Rattle.disk_definitions.specs.Directories.{name_in};
 ghost use Rattle.disk_definitions.specs.Store.{stored};
 ghost use Rattle.standing_laws.specs.ReadTree.{place_at, with_place, entries_to};
 ghost use Rattle.standing_laws.specs.Below.{holds, lists, any_below};
@@ -12,6 +12,7 @@ ghost use Rattle.disk_reading.specs.Seen.{store_in};
 ghost use Rattle.report_rules.specs.Repeats.{repeat_at, repeats_in, repeats_to};
 
 use crate::flags::Flags;
+use disk_definitions::{DirEntry, Inode};
 use disk_reading::DecodedDisk;
 use disk_reading::sectors::{entry_at, used_inode};
 use frang_base::limits::{
@@ -19,7 +20,6 @@ use frang_base::limits::{
     SECTOR_ENTRIES, SEGMENT_BLOCKS, SEGMENT_INODES, SEGMENTS_MAX, SMALL_BLOCK_SECTORS,
 };
 use frang_base::{Name, NoMemory};
-use sector_definitions::{DirEntry, Inode};
 use std::alloc::Global;
 use tree_definitions::Entries;
 

@@ -4,7 +4,7 @@ use Rattle.std.specs.List.{slice_get}
 use Rattle.std.proofs.lemmas.List.{map-append, length-map}
 use Rattle.frang_base.proofs.Basics.{some_same}
 use Rattle.tree_definitions.specs.Numbers.{below}
-use Rattle.sector_definitions.proofs.Lists.{length_below}
+use Rattle.disk_definitions.proofs.Lists.{length_below}
 
 abbrev pub Along : {X : Type 0} → (ℕ → X → Type 0) → ℕ → List X → Type 0
 Along P from [] = Unit {0}

@@ -3,11 +3,11 @@ use Rattle.std.proofs.Common.{◌≡◌, ℕ, ◌+◌, ◌-◌, ◌%◌, ◌^◌
 use Rattle.std.specs.List.{slice_get}
 use Rattle.std.proofs.lemmas.List.Elements.{All-nil}
 use Rattle.std.proofs.lemmas.Option.{slice_get-get_or}
-use Rattle.sector_definitions.specs.declared.log_sector.LogSector.{LogSector}
-use Rattle.sector_definitions.specs.LogSectors.{log_sector_in, empty_sector}
-use Rattle.log_definitions.specs.Logs.{Slots, sector_numbered, is_end, log_end, is_sealed, sectors_read}
-use Rattle.log_definitions.proofs.EndLaws.{numbered_of, slot_of_number, sealed_numbers, log_end_is_one}
-use Rattle.log_definitions.proofs.ReadingLaws.{length-sectors_read, sector_read_at}
+use Rattle.disk_definitions.specs.declared.log_sector.LogSector.{LogSector}
+use Rattle.disk_definitions.specs.LogSectors.{log_sector_in, empty_sector}
+use Rattle.disk_definitions.specs.Logs.{Slots, sector_numbered, is_end, log_end, is_sealed, sectors_read}
+use Rattle.disk_definitions.proofs.EndLaws.{numbered_of, slot_of_number, sealed_numbers, log_end_is_one}
+use Rattle.disk_definitions.proofs.ReadingLaws.{length-sectors_read, sector_read_at}
 use Rattle.ring_definitions.specs.RingRuns.{log_at}
 use Rattle.ring_definitions.proofs.Standing.{IsFlown, IsStanding}
 use Rattle.ring_definitions.proofs.Good.{IsGood}

@@ -2,10 +2,10 @@
 use Rattle.std.proofs.Common.{◌≡◌, ℕ, ◌+◌, ◌-◌, ◌%◌, ◌<◌, ◌≤◌, true, false, is_some, Option, Some, None, List, ◌++◌, length, refl, sym, ap, ◌∙◌, subst, arith, nat_le}
 use Rattle.std.specs.List.{slice_get, list_all}
 use Rattle.std.proofs.lemmas.Bool.{false_from_ne_true}
-use Rattle.sector_definitions.specs.declared.log_sector.LogSector.{LogSector}
-use Rattle.sector_definitions.specs.LogSectors.{log_sector_in}
-use Rattle.log_definitions.specs.Logs.{Slots, sector_numbered, stands, is_end, numbers_in, log_end}
-use Rattle.log_definitions.proofs.EndLaws.{numbered_is, sector_of_number, end_from, end_stands, end_is_below, log_end_is_one, all_numbers_below}
+use Rattle.disk_definitions.specs.declared.log_sector.LogSector.{LogSector}
+use Rattle.disk_definitions.specs.LogSectors.{log_sector_in}
+use Rattle.disk_definitions.specs.Logs.{Slots, sector_numbered, stands, is_end, numbers_in, log_end}
+use Rattle.disk_definitions.proofs.EndLaws.{numbered_is, sector_of_number, end_from, end_stands, end_is_below, log_end_is_one, all_numbers_below}
 use Rattle.ring_definitions.specs.Rings.{sent}
 use Rattle.ring_definitions.specs.RingRuns.{LogState, EndsWithin}
 use Rattle.ring_definitions.proofs.Shown.{not_past, got_behind}

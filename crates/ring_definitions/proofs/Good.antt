@@ -2,7 +2,7 @@
 use Rattle.std.proofs.Common.{◌≡◌, ℕ, ◌+◌, ◌-◌, ◌^◌, min, ◌<◌, ◌≤◌, ◌⊎◌, inl, inr, true, false, nat_lt, List, [], ◌++◌, length, drop, slice_set, sym, ap, ◌∙◌, subst, arith}
 use Rattle.std.proofs.lemmas.Bool.{ltb-true, cases_eq, cond_both}
 use Rattle.std.proofs.lemmas.List.{length-set}
-use Rattle.sector_definitions.specs.declared.log_sector.LogSector.{LogSector}
+use Rattle.disk_definitions.specs.declared.log_sector.LogSector.{LogSector}
 use Rattle.ring_definitions.specs.Rings.{Ring, sent, last, passed, acked}
 use Rattle.ring_definitions.specs.RingRuns.{LogState, after_log_event}
 use Rattle.ring_definitions.specs.RingRuns.LogEvent.{Arrive, GiveUp}

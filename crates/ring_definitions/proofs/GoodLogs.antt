@@ -2,12 +2,12 @@
 use Rattle.std.proofs.Common.{◌≡◌, ℕ, ◌+◌, ◌-◌, ◌^◌, ◌<◌, ◌≤◌, true, false, not, ◌&&◌, nat_le, nat_lt, is_some, List, [], ◌∷◌, ◌++◌, length, take, refl, sym, ap, ◌∙◌, subst, cond, Bool, if◌then◌else◌, ◌%◌, ◌==◌}
 use Rattle.std.specs.List.{filter, list_any}
 use Rattle.std.proofs.lemmas.Bool.{and_parts, and_from}
-use Rattle.sector_definitions.specs.declared.log_sector.LogSector.{LogSector}
-use Rattle.sector_definitions.specs.LogSectors.{log_sector_bytes}
-use Rattle.log_definitions.specs.Logs.{Slots, log_end, is_sealed, sectors_read}
-use Rattle.log_definitions.specs.Arriving.{with_sector}
-use Rattle.log_definitions.proofs.EndLaws.{numbers_are_below, all_numbers_below}
-use Rattle.log_definitions.proofs.SameLogs.{log_end_same, log_records_same, sector_same}
+use Rattle.disk_definitions.specs.declared.log_sector.LogSector.{LogSector}
+use Rattle.disk_definitions.specs.LogSectors.{log_sector_bytes}
+use Rattle.disk_definitions.specs.Logs.{Slots, log_end, is_sealed, sectors_read}
+use Rattle.disk_definitions.specs.Arriving.{with_sector}
+use Rattle.disk_definitions.proofs.EndLaws.{numbers_are_below, all_numbers_below}
+use Rattle.disk_definitions.proofs.SameLogs.{log_end_same, log_records_same, sector_same}
 use Rattle.ring_definitions.specs.Rings.{Ring, is_record, need, begins, free, sent, last, appended, issued, acked, reclaimed}
 use Rattle.ring_definitions.specs.RingRuns.{Placed, LogState, LogEvent, is_numbered, is_flying, log_at, may_happen, may_all_happen, after_log_event, after_log_events, with_arrived, ReadsBack, EndsWithin}
 use Rattle.ring_definitions.specs.RingRuns.LogEvent.{Append, Issue, Arrive, Acknowledge, GiveUp}

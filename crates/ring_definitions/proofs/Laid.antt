@@ -4,10 +4,10 @@ use Rattle.std.specs.List.{flat_map}
 use Rattle.std.proofs.lemmas.Bool.{eqb-true, eqb-false, eq-eqb, ne_eqb, cond-true, cond-false}
 use Rattle.std.proofs.lemmas.List.{length-drop}
 use Rattle.frang_base.proofs.Basics.{by_test}
-use Rattle.sector_definitions.specs.declared.log_sector.LogSector.{LogSector}
-use Rattle.sector_definitions.specs.LogSectors.{none_begins, packed_mark}
-use Rattle.log_definitions.specs.Records.{record_bytes}
-use Rattle.log_definitions.specs.Frames.{frame_bytes}
+use Rattle.disk_definitions.specs.declared.log_sector.LogSector.{LogSector}
+use Rattle.disk_definitions.specs.LogSectors.{none_begins, packed_mark}
+use Rattle.disk_definitions.specs.Records.{record_bytes}
+use Rattle.disk_definitions.specs.Frames.{frame_bytes}
 use Rattle.log_record.proofs.FrameBack.{IsFramed, length-frame_bytes}
 use Rattle.ring_definitions.specs.Rings.{cut, sectors_for, packed_sectors, open_room, filled, put_on, framed}
 use Rattle.ring_definitions.specs.RingRuns.{Placed}

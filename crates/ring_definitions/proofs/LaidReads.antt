@@ -5,13 +5,13 @@ use Rattle.std.specs.Option.{option_map}
 use Rattle.std.proofs.Math.Seq.{take-append-add}
 use Rattle.std.proofs.lemmas.Bool.{and_from, eq-eqb, ne_eqb, le-leb, lt-leb, leb-true, leb-false, cond-true, cond-false, cases_lt}
 use Rattle.std.proofs.lemmas.List.{length-take, length-map, take_all, drop_all, drop_at, map-append}
-use Rattle.sector_definitions.specs.declared.log_sector.LogSector.{LogSector}
-use Rattle.sector_definitions.specs.LogSectors.{is_packed, none_begins, packed_mark}
+use Rattle.disk_definitions.specs.declared.log_sector.LogSector.{LogSector}
+use Rattle.disk_definitions.specs.LogSectors.{is_packed, none_begins, packed_mark}
 use Rattle.frang_base.specs.declared.change.Redo.{Redo}
-use Rattle.log_definitions.specs.Records.{record_bytes}
-use Rattle.log_definitions.specs.Frames.{frame_most, frame_read, framed_record, next_frames, frames_among}
-use Rattle.log_definitions.specs.Logs.{goes_on, bytes_on, bytes_begun, frames_of, record_at, records_at, records_among}
-use Rattle.log_definitions.proofs.ReadingLaws.{begun, none_left, starts_anew}
+use Rattle.disk_definitions.specs.Records.{record_bytes}
+use Rattle.disk_definitions.specs.Frames.{frame_most, frame_read, framed_record, next_frames, frames_among}
+use Rattle.disk_definitions.specs.Logs.{goes_on, bytes_on, bytes_begun, frames_of, record_at, records_at, records_among}
+use Rattle.disk_definitions.proofs.ReadingLaws.{begun, none_left, starts_anew}
 use Rattle.log_record.proofs.RecordBack.{record_back}
 use Rattle.log_record.proofs.FrameBack.{IsFramed, few_bytes, length-frame_bytes, frame_back, frame_cut}
 use Rattle.ring_definitions.specs.RingRuns.{Placed}

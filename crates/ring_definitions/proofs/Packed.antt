@@ -3,11 +3,11 @@ use Rattle.std.proofs.Common.{◌≡◌, ◌==◌, ℕ, zero, suc, ◌+◌, ◌-
 use Rattle.std.proofs.lemmas.Bool.{and_parts, eqb-true, eqb-false}
 use Rattle.std.proofs.lemmas.List.{length-take, length-drop, drop_at, take_at}
 use Rattle.frang_base.proofs.Basics.{by_test}
-use Rattle.sector_definitions.specs.declared.log_sector.LogSector.{LogSector}
+use Rattle.disk_definitions.specs.declared.log_sector.LogSector.{LogSector}
 use Rattle.sector_bytes.specs.Bytes.{zeros, are_zero}
-use Rattle.sector_definitions.specs.LogSectors.{log_sector_bytes, log_sector_in, none_begins, packed_mark}
-use Rattle.sector_definitions.proofs.LogSectorLaws.{IsPackedSector, packed_fits, log_sector_back}
-use Rattle.sector_definitions.proofs.WrittenFields.{length_zeros, zeros_are_zero}
+use Rattle.disk_definitions.specs.LogSectors.{log_sector_bytes, log_sector_in, none_begins, packed_mark}
+use Rattle.disk_definitions.proofs.LogSectorLaws.{IsPackedSector, packed_fits, log_sector_back}
+use Rattle.disk_definitions.proofs.WrittenFields.{length_zeros, zeros_are_zero}
 use Rattle.ring_definitions.specs.Rings.{packed_sector, cut, sectors_for, packed_sectors, open_room, filled, put_on, framed}
 use Rattle.ring_definitions.proofs.Along.{Along}
 

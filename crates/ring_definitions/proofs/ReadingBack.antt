@@ -4,9 +4,9 @@ use Rattle.std.specs.List.{slice_get}
 use Rattle.std.proofs.Math.Seq.{take-append-add}
 use Rattle.std.proofs.lemmas.Bool.{cases_lt}
 use Rattle.std.proofs.lemmas.List.{take-map, drop-take}
-use Rattle.sector_definitions.specs.declared.log_sector.LogSector.{LogSector}
-use Rattle.log_definitions.specs.Logs.{Slots, sector_numbered, window, log_end, sectors_read, records_among}
-use Rattle.log_definitions.proofs.ReadingLaws.{begun, begun_more, begun-append, begun_behind, starts_anew, records_among-drop, records_among-append}
+use Rattle.disk_definitions.specs.declared.log_sector.LogSector.{LogSector}
+use Rattle.disk_definitions.specs.Logs.{Slots, sector_numbered, window, log_end, sectors_read, records_among}
+use Rattle.disk_definitions.proofs.ReadingLaws.{begun, begun_more, begun-append, begun_behind, starts_anew, records_among-drop, records_among-append}
 use Rattle.ring_definitions.specs.Rings.{sent}
 use Rattle.ring_definitions.specs.RingRuns.{Placed, LogState, ReadsBack}
 use Rattle.ring_definitions.proofs.Shown.{given, read_run}

@@ -2,12 +2,12 @@
 use Rattle.std.proofs.Common.{◌≡◌, ℕ, ◌+◌, ◌-◌, ◌^◌, true, false, Option, Some, None, Ok, Err, List, [], ◌∷◌, ◌++◌, take, drop, replicate, refl}
 use Rattle.std.specs.Option.{option_map}
 use Rattle.frang_base.specs.declared.sector.Sector.{Sector}
-use Rattle.sector_definitions.specs.declared.log_sector.LogSector.{LogSector}
+use Rattle.disk_definitions.specs.declared.log_sector.LogSector.{LogSector}
 use Rattle.sector_bytes.specs.Bytes.{zeros}
 use Rattle.frang_base.specs.declared.change.Redo.{Redo}
-use Rattle.log_definitions.specs.Frames.{frame_bytes, frame_read}
-use Rattle.log_definitions.specs.Logs.{Slots, records_among, window, numbers_in, log_end, log_records, is_sealed}
-use Rattle.log_definitions.specs.Arriving.{with_sectors}
+use Rattle.disk_definitions.specs.Frames.{frame_bytes, frame_read}
+use Rattle.disk_definitions.specs.Logs.{Slots, records_among, window, numbers_in, log_end, log_records, is_sealed}
+use Rattle.disk_definitions.specs.Arriving.{with_sectors}
 use Rattle.ring_definitions.specs.declared.ring.Named.{Named}
 use Rattle.ring_definitions.specs.declared.ring.RingFault.TheVariants.{Full}
 use Rattle.ring_definitions.specs.RingRuns.{LogEvent, log_at, may_all_happen, after_log_events}

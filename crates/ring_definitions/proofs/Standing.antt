@@ -6,10 +6,10 @@ use Rattle.std.proofs.lemmas.List.Elements.{All-head, All-tail, All-push, All-we
 use Rattle.std.proofs.lemmas.List.Folds.{list_any_at}
 use Rattle.std.proofs.lemmas.Option.{slice_get_within}
 use Rattle.frang_base.proofs.Basics.{some_same}
-use Rattle.sector_definitions.specs.declared.log_sector.LogSector.{LogSector}
-use Rattle.sector_definitions.specs.LogSectors.{log_sector_bytes, log_sector_in}
-use Rattle.log_definitions.specs.Logs.{Slots, numbered, sector_numbered}
-use Rattle.log_definitions.specs.Arriving.{with_sector}
+use Rattle.disk_definitions.specs.declared.log_sector.LogSector.{LogSector}
+use Rattle.disk_definitions.specs.LogSectors.{log_sector_bytes, log_sector_in}
+use Rattle.disk_definitions.specs.Logs.{Slots, numbered, sector_numbered}
+use Rattle.disk_definitions.specs.Arriving.{with_sector}
 use Rattle.ring_definitions.specs.RingRuns.{is_numbered, with_arrived}
 
 -- a sector of this number is among those on their way

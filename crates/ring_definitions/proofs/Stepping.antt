@@ -3,11 +3,11 @@ use Rattle.std.proofs.Common.{◌≡◌, ℕ, suc, ◌+◌, ◌-◌, ◌/◌, �
 use Rattle.std.specs.List.{slice_get}
 use Rattle.std.proofs.lemmas.Bool.{and_parts, not-true, leb-true, ltb-true}
 use Rattle.std.proofs.lemmas.List.{append_assoc, drop_at, length-take, length_push}
-use Rattle.sector_definitions.specs.declared.log_sector.LogSector.{LogSector}
-use Rattle.sector_definitions.specs.LogSectors.{log_sector_bytes, log_sector_in}
+use Rattle.disk_definitions.specs.declared.log_sector.LogSector.{LogSector}
+use Rattle.disk_definitions.specs.LogSectors.{log_sector_bytes, log_sector_in}
 use Rattle.frang_base.specs.declared.change.Redo.{Redo}
-use Rattle.log_definitions.specs.Frames.{frame_bytes}
-use Rattle.log_definitions.specs.Records.{record_bytes, record_fits}
+use Rattle.disk_definitions.specs.Frames.{frame_bytes}
+use Rattle.disk_definitions.specs.Records.{record_bytes, record_fits}
 use Rattle.log_record.proofs.FrameBack.{IsFramed, few_bytes, length-frame_bytes}
 use Rattle.ring_definitions.specs.Rings.{is_record, need, begins, open_room, framed, sent, last, free}
 use Rattle.ring_definitions.specs.RingRuns.{Placed, LogState, LogEvent, is_flying, may_happen, after_log_event, may_all_happen, after_log_events}

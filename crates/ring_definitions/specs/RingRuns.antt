@@ -2,10 +2,10 @@
 use Rattle.std.specs.Prelude.{◌≡◌, ◌≤◌, ◌<◌, ℕ, ◌+◌, ◌-◌, ◌^◌, Bool, true, not, ◌&&◌, ◌==◌, if◌then◌else◌, nat_le, nat_lt, Some, List, [], ◌∷◌, ◌++◌, length, take, drop, map, IsTrue}
 use Rattle.std.specs.List.{list_all, list_any, filter, slice_get}
 use Rattle.frang_base.specs.declared.limits.TheConstants.{LOG_IN_FLIGHT_MAX, LOG_NUMBERS_END, LOG_SECTORS, LOG_WINDOW}
-use Rattle.sector_definitions.specs.declared.log_sector.LogSector.{LogSector}
+use Rattle.disk_definitions.specs.declared.log_sector.LogSector.{LogSector}
 use Rattle.frang_base.specs.declared.change.Redo.{Redo}
-use Rattle.log_definitions.specs.Logs.{Slots, numbers_in, log_end, log_records, is_sealed}
-use Rattle.log_definitions.specs.Arriving.{with_sector}
+use Rattle.disk_definitions.specs.Logs.{Slots, numbers_in, log_end, log_records, is_sealed}
+use Rattle.disk_definitions.specs.Arriving.{with_sector}
 use Rattle.ring_definitions.specs.Rings.{Ring, ring_at, is_record, need, begins, sent, last, free, appended, issued, acked, reclaimed}
 
 -- a record of the ring, with the numbers of the sectors in which it begins and ends

@@ -2,7 +2,7 @@
 -- what happened to it.
 use Rattle.std.specs.Prelude.{◌-◌, ◌≡◌, ◌≤◌, ◌<◌, ℕ, ◌^◌, List, IsTrue}
 use Rattle.frang_base.specs.declared.limits.TheConstants.{LOG_SECTORS}
-use Rattle.log_definitions.specs.Logs.{Slots, log_end, is_sealed}
+use Rattle.disk_definitions.specs.Logs.{Slots, log_end, is_sealed}
 use Rattle.ring_definitions.specs.RingRuns.{LogState, LogEvent, log_at, may_happen, may_all_happen, after_log_event, after_log_events, ReadsBack, EndsWithin}
 
 -- the same ring, sectors on their way, records and slots

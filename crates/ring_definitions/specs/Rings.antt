@@ -5,13 +5,13 @@ use Rattle.std.specs.List.{list_any, filter, find}
 use Rattle.std.specs.Option.{option_map}
 use Rattle.frang_base.specs.declared.limits.TheConstants.{LOG_BODY_BYTES, LOG_IN_FLIGHT_MAX, LOG_QUARTER, LOG_WINDOW}
 use Rattle.frang_base.specs.declared.sector.Sector.{Sector}
-use Rattle.sector_definitions.specs.declared.log_sector.LogSector.{LogSector}
+use Rattle.disk_definitions.specs.declared.log_sector.LogSector.{LogSector}
 use Rattle.sector_bytes.specs.Bytes.{zeros}
-use Rattle.sector_definitions.specs.LogSectors.{log_sector_bytes, none_begins, packed_mark}
+use Rattle.disk_definitions.specs.LogSectors.{log_sector_bytes, none_begins, packed_mark}
 use Rattle.sector_bytes.specs.SectorMaps.{value_at, with_value}
 use Rattle.frang_base.specs.declared.change.Redo.{Redo}
-use Rattle.log_definitions.specs.Frames.{frame_bytes}
-use Rattle.log_definitions.specs.Records.{record_fits}
+use Rattle.disk_definitions.specs.Frames.{frame_bytes}
+use Rattle.disk_definitions.specs.Records.{record_fits}
 use Rattle.ring_definitions.specs.declared.ring.Named.{Named}
 use Rattle.ring_definitions.specs.declared.ring.RingFault.{RingFault}
 use Rattle.ring_definitions.specs.declared.ring.RingFault.TheVariants.{Full}

@@ -1,16 +1,16 @@
 -- What the grammar of inodes says of the nodes that are stored in them.
-use Rattle.sector_definitions.specs.Regions.{sector_of}
-use Rattle.sector_definitions.specs.declared.region.Region.TheVariants as region
+use Rattle.disk_definitions.specs.Regions.{sector_of}
+use Rattle.disk_definitions.specs.declared.region.Region.TheVariants as region
 use Rattle.std.proofs.Common.{◌==◌, ◌≡◌, ℕ, zero, suc, ◌+◌, ◌-◌, ◌*◌, ◌<◌, ◌≤◌, ⊎_elim, Bool, true, false, ◌||◌, Option, Some, None, List, [], ◌∷◌, take, drop, cond, refl, sym, ◌∙◌, ap, subst, arith, nat_lt, nat_le, slice_index, get_or-drop, nat_eq, eqb-true, ltb-true, leb-true, lt-ltb, le-ltb}
 use Rattle.std.proofs.lemmas.Bool.{and_parts, or_cases, cases_lt, cond-true, cond-false, both_ways}
 use Rattle.std.specs.List.{list_all}
-use Rattle.sector_definitions.specs.declared.inode.Inode.{Inode}
+use Rattle.disk_definitions.specs.declared.inode.Inode.{Inode}
 use Rattle.sector_bytes.specs.Bytes.{are_zero}
-use Rattle.sector_definitions.specs.Inodes.{ends_blocks, is_free_inode, is_file_inode, is_directory_inode, is_link_inode, inode_fits, inode_in}
+use Rattle.disk_definitions.specs.Inodes.{ends_blocks, is_free_inode, is_file_inode, is_directory_inode, is_link_inode, inode_fits, inode_in}
 use Rattle.frang_base.specs.Name.{is_target_byte}
 use Rattle.tree_definitions.specs.Tree.{small_blocks_of}
-use Rattle.sector_definitions.proofs.Readings.{and_l, and_r}
-use Rattle.sector_definitions.proofs.InodeLaws.{inode_read, few_blocks}
+use Rattle.disk_definitions.proofs.Readings.{and_l, and_r}
+use Rattle.disk_definitions.proofs.InodeLaws.{inode_read, few_blocks}
 use Rattle.sector_bytes.specs.Sectors.{Sectors}
 use Rattle.disk_definitions.specs.Naming.{first_blocks}
 use Rattle.disk_definitions.specs.Store.{StoredNode, stored_node, store_of}

@@ -13,7 +13,7 @@ use Rattle.tree_definitions.specs.Apply.{is_dir, links_of}
 use Rattle.tree_laws.specs.WellFormed.{NamesAscend, IsRooted, LinksAreNames, IsWellFormed, one_at, names_in, names_of}
 use Rattle.tree_laws.proofs.Pairs.{name_exact, birth_exact}
 use Rattle.tree_laws.proofs.Balance.{one_other}
-use Rattle.sector_definitions.proofs.ParamLaws.{few_segments}
+use Rattle.disk_definitions.proofs.ParamLaws.{few_segments}
 use Rattle.sector_bytes.specs.Sectors.{Sectors}
 use Rattle.disk_definitions.specs.Store.{Store, StoredNode, store_of, segment_at, bit_in, large_in}
 use Rattle.disk_definitions.specs.Store.Use.{Fresh}

@@ -13,9 +13,9 @@ use Rattle.tree_definitions.specs.Tree.{FileTree}
 use Rattle.tree_laws.specs.Doubts.{entry_writes}
 use Rattle.tree_laws.proofs.HistoryLaws.{after_all-push}
 use Rattle.history_laws.proofs.OwnReplies.{answers_are_own}
-use Rattle.plan_standing.specs.Laws.{HasPath}
+use Rattle.line_laws.specs.Laws.{HasPath}
 use Rattle.byte_doubts.specs.Deeds.{Deed, Says, steps, tree_after}
-use Rattle.byte_histories.proofs.Shaped.{is_ok}
+use Rattle.stop_laws.proofs.BytesShaped.{is_ok}
 
 none_if : (b : Bool) → (b ≡ true → ⊥) → b ≡ false
 none_if true f = absurd (f refl)

@@ -25,10 +25,10 @@ use Rattle.sector_world.specs.Trees.{Distinct, tree_of}
 use Rattle.disk_definitions.specs.Naming.{Naming}
 use Rattle.disk_definitions.specs.Standing.{IsReached}
 use Rattle.disk_definitions.specs.Store.{Store}
-use Rattle.plan_definitions.specs.Ask.{InodeAt, number_of}
-use Rattle.plan_definitions.specs.Meets.{IsOfTree}
-use Rattle.plan_definitions.specs.Plans.{Hand, Finish}
-use Rattle.plan_covers.specs.Covers.{inode_cover}
+use Rattle.disk_definitions.specs.Ask.{InodeAt, number_of}
+use Rattle.disk_definitions.specs.Meets.{IsOfTree}
+use Rattle.disk_definitions.specs.Plans.{Hand, Finish}
+use Rattle.plan_laws.specs.Covers.{inode_cover}
 use Rattle.plan_nodes.proofs.Laws.{line_nodes_free, line_nodes_keep}
 use Rattle.plan_nodes.proofs.Told.{namings_agree}
 use Rattle.line_commits.specs.LinePlans.{hand_on, sector_plan, store_on}
@@ -38,7 +38,7 @@ use Rattle.line_histories.specs.Trees.{AreTimes, MayTake, NumberedTree, performe
 use Rattle.line_histories.proofs.Disks.{blank_of}
 use Rattle.line_histories.proofs.Runs.{both}
 use Rattle.byte_fills.specs.Parts.{IsFinished}
-use Rattle.byte_histories.proofs.Along as along
+use Rattle.stop_laws.proofs.BytesAlong as along
 use Rattle.stop_laws.proofs.Guarded.{inode_here}
 use Rattle.stop_laws.proofs.Removing as removing
 use Rattle.stop_laws.proofs.Removing.{AllGuarded, IsGuarded, lost}

@@ -15,8 +15,8 @@ use Rattle.tree_laws.specs.WellFormed.{IsWellFormed}
 use Rattle.shape_laws.proofs.Nodes.{found, shaped}
 use Rattle.disk_definitions.specs.Naming.{Allows, Naming, Pictures, blocks_of, cell_in, file_byte, has_large}
 use Rattle.disk_definitions.specs.Store.{Store}
-use Rattle.plan_definitions.specs.Meets.{IsOfTree}
-use Rattle.plan_shapes.specs.Stores.{with_bytes}
+use Rattle.disk_definitions.specs.Meets.{IsOfTree}
+use Rattle.line_laws.specs.Stores.{with_bytes}
 use Rattle.byte_trees.proofs.Filling.{any_bytes, filled, there_too}
 
 -- a byte that the cell allows

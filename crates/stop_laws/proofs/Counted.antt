@@ -5,9 +5,9 @@ use Rattle.tree_edits.proofs.Counting.{small_blocks_both}
 use Rattle.disk_definitions.specs.Naming.{Naming}
 use Rattle.disk_definitions.specs.Store.{Store, Use, is_unused}
 use Rattle.disk_definitions.specs.Store.Use.{Fresh, Bytes, Empty, Entries}
-use Rattle.pick_definitions.specs.Least.{count, one_if}
-use Rattle.pick_definitions.proofs.Counts.{count_zero, count_more}
-use Rattle.plan_definitions.specs.Meets.{IsOfTree, is_directory_use, directory_blocks_in}
+use Rattle.disk_definitions.specs.Least.{count, one_if}
+use Rattle.disk_definitions.proofs.PickCounts.{count_zero, count_more}
+use Rattle.disk_definitions.specs.Meets.{IsOfTree, is_directory_use, directory_blocks_in}
 use Rattle.plan_laws.proofs.FileTotals.{is_bytes, files_counted}
 use Rattle.plan_laws.proofs.Totals.{blocks_counted}
 

@@ -17,7 +17,7 @@ use Rattle.sector_histories.proofs.Plans.{legal_kept}
 use Rattle.sector_histories.proofs.Removals.{survives_low}
 use Rattle.sector_histories.proofs.Seen.{clear_survives}
 use Rattle.sector_world.specs.Trees.{Distinct, tree_of}
-use Rattle.plan_definitions.specs.Meets.{IsOfTree}
+use Rattle.disk_definitions.specs.Meets.{IsOfTree}
 use Rattle.line_commits.specs.LinePlans.{sector_plan}
 use Rattle.line_commits.proofs.Framed.{lines_framed}
 use Rattle.line_histories.specs.Following.{CoversFollow, store_after}
@@ -25,7 +25,7 @@ use Rattle.line_histories.specs.Trees.{MayNumber, MayTake, performed, performed_
 use Rattle.line_histories.proofs.Runs.{numbered, take_distinct}
 use Rattle.line_histories.proofs.Following.{distinct_kept}
 use Rattle.byte_doubts.specs.Deeds.{Deed, Does, Says, Doubts, items, tree_after}
-use Rattle.byte_histories.specs.Along.{LiesAfter}
+use Rattle.stop_laws.specs.Along.{LiesAfter}
 use Rattle.stop_laws.specs.Happened.{has_lost, what_stays}
 use Rattle.stop_laws.specs.Paired.{AreLines}
 use Rattle.stop_laws.proofs.Lines.{shapes_follow}

@@ -18,9 +18,9 @@ use Rattle.byte_trees.specs.Cells.{Covers}
 use Rattle.byte_trees.proofs.Doubting.{covers, listed}
 use Rattle.byte_doubts.specs.Deeds.{Deed, items, steps, tree_after}
 use Rattle.byte_fills.proofs.Owners.{IsFileAt, file_there}
-use Rattle.byte_histories.specs.Along.{LiesAfter}
-use Rattle.byte_histories.proofs.Along.{doubt_same_along}
-use Rattle.byte_histories.specs.Known.{IsToldTwice}
+use Rattle.stop_laws.specs.Along.{LiesAfter}
+use Rattle.stop_laws.proofs.BytesAlong.{doubt_same_along}
+use Rattle.stop_laws.specs.Known.{IsToldTwice}
 use Rattle.stop_laws.specs.Cells.{DoubtCoversMarks}
 use Rattle.stop_laws.proofs.Lying.{size_there}
 

@@ -12,7 +12,7 @@ use Rattle.sector_histories.specs.Histories.Item.{Done}
 use Rattle.sector_histories.specs.Plans.{IsByPlan, Legal}
 use Rattle.sector_world.specs.Trees.{Distinct}
 use Rattle.disk_definitions.specs.Store.{store_of}
-use Rattle.plan_definitions.specs.Meets.{IsOfTree}
+use Rattle.disk_definitions.specs.Meets.{IsOfTree}
 use Rattle.line_commits.specs.LinePlans.{sector_plan}
 use Rattle.line_histories.specs.Following.{Follows, store_after}
 use Rattle.line_histories.specs.Standing.{StandsNumbered}
@@ -21,10 +21,10 @@ use Rattle.line_histories.proofs.Following.{all_follow}
 use Rattle.line_histories.proofs.Runs.{numbered, take_distinct}
 use Rattle.byte_doubts.specs.Deeds.{Deed, Does, Says, Doubts, items, tree_after}
 use Rattle.byte_trees.specs.Standing.{HasItsBytes}
-use Rattle.byte_histories.specs.Along.{AllTold}
-use Rattle.byte_histories.proofs.Along as along
-use Rattle.byte_histories.proofs.Along.{numbered_shape, shape_at}
-use Rattle.byte_histories.specs.Known.{KnowsCells}
+use Rattle.stop_laws.specs.Along.{AllTold}
+use Rattle.stop_laws.proofs.BytesAlong as along
+use Rattle.stop_laws.proofs.BytesAlong.{numbered_shape, shape_at}
+use Rattle.stop_laws.specs.Known.{KnowsCells}
 use Rattle.stop_laws.specs.Cells.{AllShown, CellsAreKnown, IsShown, RepliesAreAnswers}
 use Rattle.stop_laws.proofs.Marks.{marks_known}
 use Rattle.stop_laws.proofs.Operation.{answer_is, operation_known}

@@ -11,19 +11,19 @@ use Rattle.sector_bytes.specs.Replays.{change_at}
 use Rattle.sector_bytes.specs.Sectors.{Sectors}
 use Rattle.sector_histories.specs.Histories.{Commit, touches}
 use Rattle.sector_histories.specs.Plans.{Outcome, outcome_of}
-use Rattle.sector_definitions.specs.declared.region.Region.TheVariants as region
-use Rattle.sector_definitions.specs.Bitmaps.{bitmap_in}
-use Rattle.sector_definitions.specs.Directories.{directory_in}
-use Rattle.sector_definitions.specs.Inodes.{inode_in}
-use Rattle.sector_definitions.specs.Regions.{sector_of}
+use Rattle.disk_definitions.specs.declared.region.Region.TheVariants as region
+use Rattle.disk_definitions.specs.Bitmaps.{bitmap_in}
+use Rattle.disk_definitions.specs.Directories.{directory_in}
+use Rattle.disk_definitions.specs.Inodes.{inode_in}
+use Rattle.disk_definitions.specs.Regions.{sector_of}
 use Rattle.disk_definitions.specs.Store.{Store, stored_node, entry_in}
-use Rattle.plan_definitions.specs.Ask.{Sector, InodeAt, DirectoryAt, SegmentAt, BytesAt, LargeAt, Ask, run, looks, seven, number_of}
-use Rattle.plan_definitions.specs.Plans.{Plan}
+use Rattle.disk_definitions.specs.Ask.{Sector, InodeAt, DirectoryAt, SegmentAt, BytesAt, LargeAt, Ask, run, looks, seven, number_of}
+use Rattle.disk_definitions.specs.Plans.{Plan}
 use Rattle.plan_laws.specs.Looking.{AllSayTheSame}
 use Rattle.plan_laws.proofs.Asking.{framed}
 use Rattle.plan_laws.proofs.Covering.{has_head, has_more, map_has}
-use Rattle.plan_shapes.specs.Stores.{with_bytes}
-use Rattle.line_definitions.specs.Lines.{plan_of_line}
+use Rattle.line_laws.specs.Stores.{with_bytes}
+use Rattle.disk_definitions.specs.Lines.{plan_of_line}
 use Rattle.line_commits.specs.LinePlans.{held_of, hand_by, hand_on, sector_plan, segment_number, store_on, versioned}
 use Rattle.line_commits.specs.Outcomes.{IsOfAPlan}
 use Rattle.line_commits.proofs.AllBlind.{bytes_dont_decide}

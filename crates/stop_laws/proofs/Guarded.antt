@@ -10,22 +10,22 @@ use Rattle.tree_definitions.specs.Tree.{FileTree}
 use Rattle.sector_bytes.specs.Blocks.{Block}
 use Rattle.sector_bytes.specs.Replays.{change_at}
 use Rattle.sector_bytes.specs.Sectors.{Sectors}
-use Rattle.sector_definitions.specs.declared.region.Region.TheVariants as region
-use Rattle.sector_definitions.proofs.RegionLaws.{region_found, region_once}
+use Rattle.disk_definitions.specs.declared.region.Region.TheVariants as region
+use Rattle.disk_definitions.proofs.RegionLaws.{region_found, region_once}
 use Rattle.sector_histories.specs.Histories.{Changes, Commit, Each, Item, logical}
 use Rattle.sector_histories.specs.Histories.Item.{Done, Doubt}
 use Rattle.sector_histories.specs.Plans.{IsByPlan, Legal, Outcome, outcome_of}
 use Rattle.sector_histories.specs.Seen as seen
 use Rattle.sector_world.specs.Trees.{Distinct, tree_of}
 use Rattle.disk_definitions.specs.Naming.{Naming}
-use Rattle.store_changes.specs.Edits.{Edit}
-use Rattle.store_changes.specs.Edits.Edit.{SetInode, SetBit, SetUse, SetPlace, SetLarge, SetBytes, SetLargeBytes}
-use Rattle.plan_definitions.specs.Ask.{Sector, InodeAt, number_of}
-use Rattle.plan_definitions.specs.Plans.{Lock, Finish}
+use Rattle.disk_definitions.specs.Edits.{Edit}
+use Rattle.disk_definitions.specs.Edits.Edit.{SetInode, SetBit, SetUse, SetPlace, SetLarge, SetBytes, SetLargeBytes}
+use Rattle.disk_definitions.specs.Ask.{Sector, InodeAt, number_of}
+use Rattle.disk_definitions.specs.Plans.{Lock, Finish}
 use Rattle.plan_laws.specs.Locks.{IsSole}
-use Rattle.plan_looks.specs.Looked.{edited_at}
-use Rattle.plan_covers.specs.Covers.{cover_of}
-use Rattle.plan_moves.specs.Numbered.{sector_at, sector_in}
+use Rattle.plan_laws.specs.Looked.{edited_at}
+use Rattle.plan_laws.specs.Covers.{cover_of}
+use Rattle.plan_laws.specs.Numbered.{sector_at, sector_in}
 use Rattle.plan_records.proofs.Kept.{edit_in_range, edit_region, edit_sector_is, in_inode}
 use Rattle.line_laws.proofs.Covered.{line_edits_covered}
 use Rattle.line_commits.specs.Guards.{IsClear, KeepsGuards}
@@ -39,8 +39,8 @@ use Rattle.line_histories.specs.Trees.{AreTimes, MayNumber, MayTake, NumberedTre
 use Rattle.line_histories.proofs.Following.{all_follow}
 use Rattle.line_histories.proofs.Meeting.{is_clear}
 use Rattle.line_histories.proofs.Runs.{numbered, take_distinct}
-use Rattle.byte_histories.proofs.Along as along
-use Rattle.byte_histories.proofs.Covered.{is_used}
+use Rattle.stop_laws.proofs.BytesAlong as along
+use Rattle.stop_laws.proofs.BytesCovered.{is_used}
 use Rattle.stop_laws.specs.Sight.{Begins}
 use Rattle.stop_laws.proofs.Removing.{AllGuarded, AllOwn, IsGuarded}
 

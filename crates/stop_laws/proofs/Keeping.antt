@@ -10,11 +10,11 @@ use Rattle.sector_bytes.specs.Blocks.{Block}
 use Rattle.sector_histories.specs.Histories.{Commit, logical}
 use Rattle.sector_histories.specs.Seen.{cover_of}
 use Rattle.disk_definitions.specs.Naming.{Naming}
-use Rattle.plan_definitions.specs.Ask.{run}
-use Rattle.plan_definitions.specs.Meets.{IsOfTree}
-use Rattle.plan_definitions.specs.Plans.{Finish}
-use Rattle.plan_definitions.specs.Plans.Plan.{Finishes}
-use Rattle.line_definitions.specs.Lines.{plan_of_line}
+use Rattle.disk_definitions.specs.Ask.{run}
+use Rattle.disk_definitions.specs.Meets.{IsOfTree}
+use Rattle.disk_definitions.specs.Plans.{Finish}
+use Rattle.disk_definitions.specs.Plans.Plan.{Finishes}
+use Rattle.disk_definitions.specs.Lines.{plan_of_line}
 use Rattle.line_commits.specs.LinePlans.{hand_on}
 use Rattle.line_histories.specs.Following.{store_after}
 use Rattle.byte_doubts.specs.Deeds.{Deed, Does, Says, Doubts, items, tree_after}

@@ -17,7 +17,7 @@ use Rattle.line_histories.specs.Standing.{StandsNumbered}
 use Rattle.line_histories.specs.Trees.{AreTimes, MayNumber}
 use Rattle.line_histories.proofs.Runs.{numbered}
 use Rattle.byte_doubts.specs.Deeds.{Deed, Does, Says, Doubts, items, steps}
-use Rattle.byte_histories.specs.Known.{KnowsCells}
+use Rattle.stop_laws.specs.Known.{KnowsCells}
 use Rattle.stop_laws.specs.Happened.{Happening, Acts, Speaks, Mounts, Covers, Recovers, on_sectors, settle, what_stays}
 use Rattle.stop_laws.specs.Paired.{AreLines, ArePaired}
 use Rattle.stop_laws.specs.Settling.{recovers_by, stopped}

@@ -24,10 +24,10 @@ use Rattle.line_histories.proofs.Following.{distinct_left}
 use Rattle.line_histories.proofs.Runs.{histories_of_one_tree, numbered}
 use Rattle.byte_trees.proofs.Nodes.{well_too}
 use Rattle.byte_doubts.specs.Deeds.{Deed, items, tree_after}
-use Rattle.byte_histories.specs.Along.{AllTold, HasShape}
-use Rattle.byte_histories.proofs.Along.{shape_at}
-use Rattle.byte_histories.specs.Known.{IsToldTwice, KnowsCells}
-use Rattle.byte_histories.proofs.Stops.{stop_known}
+use Rattle.stop_laws.specs.Along.{AllTold, HasShape}
+use Rattle.stop_laws.proofs.BytesAlong.{shape_at}
+use Rattle.stop_laws.specs.Known.{IsToldTwice, KnowsCells}
+use Rattle.stop_laws.proofs.Stops.{stop_known}
 use Rattle.stop_laws.specs.Cells.{AllShown}
 use Rattle.stop_laws.specs.KnownStop.{AStopLeavesTheToldTree}
 use Rattle.stop_laws.proofs.Deeds.{all_known}

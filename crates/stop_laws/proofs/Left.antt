@@ -16,7 +16,7 @@ use Rattle.line_histories.specs.Standing.{StandsNumbered}
 use Rattle.line_histories.specs.Trees.{AreTimes, MayNumber}
 use Rattle.line_histories.proofs.Runs.{numbered}
 use Rattle.byte_doubts.specs.Deeds.{Deed}
-use Rattle.byte_histories.specs.Known.{KnowsCells}
+use Rattle.stop_laws.specs.Known.{KnowsCells}
 use Rattle.stop_laws.specs.Happened.{Happening, on_sectors, settle}
 use Rattle.stop_laws.specs.Paired.{ArePaired, IsKeptBy}
 use Rattle.stop_laws.specs.Settling.{stopped}

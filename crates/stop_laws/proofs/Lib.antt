@@ -1,3 +1,14 @@
+pub mod BytesShaped
+pub mod Written
+pub mod BytesCovered
+pub mod Next
+pub mod BytesAlong
+pub mod BytesTold
+pub mod BytesKept
+pub mod Replayed
+pub mod Places
+pub mod BytesMarked
+pub mod Stops
 pub mod Few
 pub mod Doubted
 pub mod Verdicts

@@ -27,14 +27,14 @@ use Rattle.sector_histories.specs.Histories.{Commit, Item, logical}
 use Rattle.sector_histories.specs.Histories.Item.{Done, Doubt}
 use Rattle.sector_histories.specs.Plans.{Outcome, outcome_of, Legal}
 use Rattle.sector_world.specs.Trees.{Distinct, tree_of}
-use Rattle.plan_definitions.specs.Allowed.{IsAllowed}
-use Rattle.plan_definitions.specs.Ask.{run}
-use Rattle.plan_definitions.specs.Meets.{Answers, IsHandOf}
-use Rattle.plan_definitions.specs.Plans.{Finish}
-use Rattle.plan_definitions.specs.Plans.Plan.{Finishes}
-use Rattle.plan_definitions.specs.Written.{changes_of}
-use Rattle.plan_shapes.specs.Records.{IsEntryOfLine}
-use Rattle.line_definitions.specs.Lines.{plan_of_line}
+use Rattle.disk_definitions.specs.Allowed.{IsAllowed}
+use Rattle.disk_definitions.specs.Ask.{run}
+use Rattle.disk_definitions.specs.Meets.{Answers, IsHandOf}
+use Rattle.disk_definitions.specs.Plans.{Finish}
+use Rattle.disk_definitions.specs.Plans.Plan.{Finishes}
+use Rattle.disk_definitions.specs.Written.{changes_of}
+use Rattle.line_laws.specs.Records.{IsEntryOfLine}
+use Rattle.disk_definitions.specs.Lines.{plan_of_line}
 use Rattle.line_commits.specs.LinePlans.{blocks_told, hand_on, sector_plan, store_on, without_bytes}
 use Rattle.line_commits.specs.Outcomes.{IsOfAPlan}
 use Rattle.line_commits.proofs.Hands.{is_hand}
@@ -48,8 +48,8 @@ use Rattle.line_histories.proofs.Meeting.{is_clear, hand_clear}
 use Rattle.line_histories.proofs.Runs.{numbered, take_distinct, both, histories_of_one_tree}
 use Rattle.line_histories.proofs.Told.{perform_told}
 use Rattle.byte_doubts.specs.Deeds.{Deed, Does, Says, Doubts, items, steps, tree_after}
-use Rattle.byte_histories.specs.Along.{HasShape}
-use Rattle.byte_histories.proofs.Told.{told_same}
+use Rattle.stop_laws.specs.Along.{HasShape}
+use Rattle.stop_laws.proofs.BytesTold.{told_same}
 use Rattle.stop_laws.specs.Paired.{AreOfOneLine, AreLines}
 use Rattle.stop_laws.specs.Settling.{ShapesFollow, RecordsAreLosses}
 use Rattle.stop_laws.proofs.Doubted.{doubted_shape}

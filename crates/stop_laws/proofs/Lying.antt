@@ -7,9 +7,9 @@ use Rattle.tree_definitions.specs.declared.node.Node.TheVariants.{File}
 use Rattle.tree_definitions.specs.Tree.{FileTree, node_at, small_blocks_of}
 use Rattle.disk_definitions.specs.Naming.{Naming, first_blocks, inode_of}
 use Rattle.disk_definitions.specs.Store.{Store, StoredNode}
-use Rattle.store_changes.proofs.Kept.{inode_is}
-use Rattle.plan_definitions.specs.Ask.{Sector, BytesAt, LargeAt}
-use Rattle.plan_definitions.specs.Meets.{IsOfTree}
+use Rattle.disk_definitions.proofs.Kept.{inode_is}
+use Rattle.disk_definitions.specs.Ask.{Sector, BytesAt, LargeAt}
+use Rattle.disk_definitions.specs.Meets.{IsOfTree}
 use Rattle.line_fills.specs.Files.{file_sector}
 use Rattle.byte_fills.specs.Parts.{LiesIn}
 

@@ -16,16 +16,16 @@ use Rattle.sector_histories.specs.Bytes.{value}
 use Rattle.sector_histories.specs.Histories.Item.{Doubt}
 use Rattle.disk_definitions.specs.Naming.{Naming, cell_in, file_byte}
 use Rattle.disk_definitions.specs.Store.{store_of}
-use Rattle.plan_definitions.specs.Ask.{number_of}
-use Rattle.plan_definitions.specs.Meets.{IsOfTree}
+use Rattle.disk_definitions.specs.Ask.{number_of}
+use Rattle.disk_definitions.specs.Meets.{IsOfTree}
 use Rattle.line_histories.specs.Following.{store_after}
 use Rattle.byte_trees.specs.Cells.{IsByte}
 use Rattle.byte_trees.proofs.Doubting.{doubt_keeps}
 use Rattle.byte_doubts.specs.Deeds.{Deed, Doubts, items, steps, tree_after}
-use Rattle.byte_histories.specs.Along.{LiesAfter}
+use Rattle.stop_laws.specs.Along.{LiesAfter}
 use Rattle.byte_trees.specs.Standing.{HasItsBytes}
-use Rattle.byte_histories.specs.Known.{HasWhatIsKnown, KnowsCells}
-use Rattle.byte_histories.proofs.Places.{stands_in}
+use Rattle.stop_laws.specs.Known.{HasWhatIsKnown, KnowsCells}
+use Rattle.stop_laws.proofs.Places.{stands_in}
 use Rattle.stop_laws.specs.Cells.{CoversMarks}
 use Rattle.stop_laws.proofs.Lying.{size_there}
 

@@ -26,9 +26,9 @@ use Rattle.history_laws.proofs.OwnReplies.{answers_are_own}
 use Rattle.shape_laws.proofs.Nodes.{again, doubts, found, room_stays, shaped}
 use Rattle.sector_bytes.specs.Blocks.{Block, zero_block}
 use Rattle.sector_bytes.specs.SectorMaps.{value_at}
-use Rattle.sector_definitions.specs.declared.region.Region.TheVariants as region
-use Rattle.sector_definitions.specs.Regions.{sector_of}
-use Rattle.sector_definitions.proofs.RegionLaws.{region_found}
+use Rattle.disk_definitions.specs.declared.region.Region.TheVariants as region
+use Rattle.disk_definitions.specs.Regions.{sector_of}
+use Rattle.disk_definitions.proofs.RegionLaws.{region_found}
 use Rattle.sector_histories.specs.Bytes.{Agree, value}
 use Rattle.sector_histories.specs.Histories.{Commit, Item, is_logged, logical}
 use Rattle.sector_histories.specs.Histories.Fill.{Written, Freed}
@@ -37,24 +37,24 @@ use Rattle.sector_histories.specs.Plans.{IsByPlan, made_of}
 use Rattle.disk_definitions.specs.Naming.{Allows, Naming, cell_in, file_byte}
 use Rattle.disk_definitions.specs.Store.{Store, store_of}
 use Rattle.disk_definitions.specs.Store.Use.{Fresh, Bytes}
-use Rattle.store_changes.specs.Edits.{Edit, edited_all}
-use Rattle.store_changes.specs.Edits.Edit.{SetInode, SetBit, SetUse, SetPlace, SetLarge, SetBytes, SetLargeBytes}
-use Rattle.store_changes.specs.Laws.{FilesFit}
-use Rattle.store_changes.proofs.Counts.{same_byte}
-use Rattle.plan_definitions.specs.Ask.{Sector, InodeAt, DirectoryAt, SegmentAt, BytesAt, LargeAt, Ask, looks, number_of, run}
-use Rattle.plan_definitions.specs.Meets.{Answers, IsOfTree, IsHandOf, directory_blocks_in, is_directory_use}
-use Rattle.plan_definitions.specs.Plans.{Hand, Plan}
-use Rattle.plan_definitions.specs.Plans.Plan.{Finishes}
-use Rattle.plan_definitions.specs.Written.{byte_writes, edit_sector, edited_block, freed_sectors, is_metadata}
-use Rattle.plan_looks.specs.Looked.{edited_at}
-use Rattle.plan_moves.specs.Numbered.{sector_in}
+use Rattle.disk_definitions.specs.Edits.{Edit, edited_all}
+use Rattle.disk_definitions.specs.Edits.Edit.{SetInode, SetBit, SetUse, SetPlace, SetLarge, SetBytes, SetLargeBytes}
+use Rattle.disk_definitions.specs.ChangeLaws.{FilesFit}
+use Rattle.disk_definitions.proofs.Counts.{same_byte}
+use Rattle.disk_definitions.specs.Ask.{Sector, InodeAt, DirectoryAt, SegmentAt, BytesAt, LargeAt, Ask, looks, number_of, run}
+use Rattle.disk_definitions.specs.Meets.{Answers, IsOfTree, IsHandOf, directory_blocks_in, is_directory_use}
+use Rattle.disk_definitions.specs.Plans.{Hand, Plan}
+use Rattle.disk_definitions.specs.Plans.Plan.{Finishes}
+use Rattle.disk_definitions.specs.Written.{byte_writes, edit_sector, edited_block, freed_sectors, is_metadata}
+use Rattle.plan_laws.specs.Looked.{edited_at}
+use Rattle.plan_laws.specs.Numbered.{sector_in}
 use Rattle.plan_nodes.proofs.Told.{namings_agree}
 use Rattle.plan_records.proofs.Kept.{in_large, in_small}
 use Rattle.plan_laws.specs.Keeping.{FinishKeeps, PlanKeeps}
-use Rattle.plan_standing.specs.Laws.{HasPath}
-use Rattle.plan_shapes.specs.Stores.{blank}
-use Rattle.plan_shapes.proofs.Shaping.{shapes_stand}
-use Rattle.line_definitions.specs.Lines.{plan_of_line}
+use Rattle.line_laws.specs.Laws.{HasPath}
+use Rattle.line_laws.specs.Stores.{blank}
+use Rattle.line_laws.proofs.Shaping.{shapes_stand}
+use Rattle.disk_definitions.specs.Lines.{plan_of_line}
 use Rattle.line_laws.proofs.Planned.{lines_planned}
 use Rattle.line_fills.specs.Files.{HoldsBytes, IsWritten}
 use Rattle.line_commits.specs.LinePlans.{byte_shown, edits_in, fill_by, hand_on, plain, store_on, store_showing}
@@ -71,13 +71,13 @@ use Rattle.byte_doubts.proofs.Back.{steps_back}
 use Rattle.byte_trees.proofs.Nodes.{well_too}
 use Rattle.byte_trees.specs.Written.{WriteNone, WriteNoneLarge}
 use Rattle.byte_trees.proofs.Written.{large_stand, small_stand}
-use Rattle.byte_histories.specs.Keeping.{FinishesOver, KeepsBytes}
-use Rattle.byte_histories.proofs.Kept.{agrees_by, lines_keep}
-use Rattle.byte_histories.proofs.Told.{told_same}
+use Rattle.stop_laws.specs.Keeping.{FinishesOver, KeepsBytes}
+use Rattle.stop_laws.proofs.BytesKept.{agrees_by, lines_keep}
+use Rattle.stop_laws.proofs.BytesTold.{told_same}
 use Rattle.byte_doubts.specs.Deeds.{Deed, Does, items, steps, tree_after}
 use Rattle.byte_fills.specs.Parts.{LiesIn}
 use Rattle.byte_trees.specs.Standing.{HasItsBytes}
-use Rattle.byte_histories.specs.Known.{HasWhatIsKnown, KnowsCells}
+use Rattle.stop_laws.specs.Known.{HasWhatIsKnown, KnowsCells}
 use Rattle.byte_fills.proofs.Looked.{lines_look}
 use Rattle.stop_laws.specs.Cells.{IsShown, having}
 use Rattle.stop_laws.proofs.Counted.{directories_few}

@@ -14,7 +14,7 @@ use Rattle.tree_definitions.specs.Touched.{shape_of}
 use Rattle.tree_definitions.specs.Tree.{FileTree, node_at}
 use Rattle.shape_laws.proofs.Nodes.{found, shaped}
 use Rattle.sector_bytes.specs.Blocks.{Block}
-use Rattle.sector_definitions.specs.Inodes.{inode_in}
+use Rattle.disk_definitions.specs.Inodes.{inode_in}
 use Rattle.sector_histories.specs.Histories.{Changes, Commit, Each, Item, OpsRise, doubt_step, in_doubt, logical, survives}
 use Rattle.sector_histories.specs.Histories.Item.{Done, Doubt}
 use Rattle.sector_histories.specs.Plans.{IsByPlan, Legal, Outcome, outcome_of}
@@ -24,26 +24,26 @@ use Rattle.sector_histories.proofs.Histories.{each_map, kept_logical}
 use Rattle.sector_world.specs.Trees.{Distinct, tree_of}
 use Rattle.disk_definitions.specs.Naming.{Naming}
 use Rattle.disk_definitions.specs.Store.{Store, stored_node}
-use Rattle.store_changes.specs.Edits.{edited_all}
-use Rattle.plan_definitions.specs.Ask.{Sector, InodeAt, number_of}
-use Rattle.plan_definitions.specs.Meets.{IsOfTree}
+use Rattle.disk_definitions.specs.Edits.{edited_all}
+use Rattle.disk_definitions.specs.Ask.{Sector, InodeAt, number_of}
+use Rattle.disk_definitions.specs.Meets.{IsOfTree}
 use Rattle.plan_laws.proofs.Covering.{map_has}
-use Rattle.plan_covers.specs.Covers.{cover_of, inode_cover}
+use Rattle.plan_laws.specs.Covers.{cover_of, inode_cover}
 use Rattle.line_laws.proofs.Covered.{line_edits_covered}
 use Rattle.line_commits.specs.LinePlans.{fill_by, hand_on, lock_in, sector_plan, segment_lock, store_on}
 use Rattle.line_commits.specs.Outcomes.{fill_shape}
 use Rattle.line_commits.proofs.LinesSound.{lines_are_sound}
 use Rattle.line_commits.proofs.Outcomes.{makes_of_edits}
-use Rattle.line_definitions.specs.Lines.{plan_of_line}
+use Rattle.disk_definitions.specs.Lines.{plan_of_line}
 use Rattle.line_histories.specs.Following.{CoversFollow, store_after}
 use Rattle.line_histories.specs.Standing.{StandsNumbered}
 use Rattle.line_histories.specs.Trees.{AreTimes, MayTake, NumberedTree, performed_numbered}
 use Rattle.line_histories.proofs.Filled.{IsInUse, file_in_use, written_value}
 use Rattle.byte_fills.specs.Parts.{LiesIn}
 use Rattle.byte_fills.proofs.PartLaws.{lines_keep_parts}
-use Rattle.byte_histories.proofs.Along as along
-use Rattle.byte_histories.proofs.Covered.{history_cover, is_used, part_cover}
-use Rattle.byte_histories.proofs.Written.{has_fill, some_shape}
+use Rattle.stop_laws.proofs.BytesAlong as along
+use Rattle.stop_laws.proofs.BytesCovered.{history_cover, is_used, part_cover}
+use Rattle.stop_laws.proofs.Written.{has_fill, some_shape}
 use Rattle.stop_laws.specs.Sight.{AllSee}
 use Rattle.stop_laws.proofs.Births as births
 use Rattle.stop_laws.proofs.Births.{births_stay, named, stands_at}

@@ -2,24 +2,24 @@
 use Rattle.std.proofs.Common.{ℕ, ◌≡◌, ◌≤◌, ◌<◌, ◌-◌, ◌*◌, ◌/◌, ◌%◌, Bool, true, false, nat_lt, max, if◌then◌else◌, Some, refl, sym, ◌∙◌, ap, arith}
 use Rattle.std.specs.List.{Contains}
 use Rattle.frang_base.specs.declared.op.Op.{Op}
-use Rattle.sector_definitions.specs.declared.region.Region.TheVariants as region
-use Rattle.sector_definitions.proofs.RegionLaws.{region_once}
+use Rattle.disk_definitions.specs.declared.region.Region.TheVariants as region
+use Rattle.disk_definitions.proofs.RegionLaws.{region_once}
 use Rattle.tree_definitions.specs.Perform.{Goes}
 use Rattle.tree_definitions.specs.Tree.{FileTree, node_at}
 use Rattle.disk_definitions.specs.Naming.{Naming}
 use Rattle.disk_definitions.specs.Store.{Store, StoredNode}
-use Rattle.store_changes.specs.Edits.{Edit, edited_all}
-use Rattle.store_changes.specs.Edits.Edit.{SetBytes, SetLargeBytes}
-use Rattle.store_changes.specs.Laws.{FilesFit}
-use Rattle.plan_definitions.specs.Ask.{Sector, InodeAt, DirectoryAt, SegmentAt, BytesAt, LargeAt, number_of, run}
-use Rattle.plan_definitions.specs.FilePlans.{end_of, mixed, set_sector}
-use Rattle.plan_definitions.specs.Meets.{IsOfTree, IsHandOf}
-use Rattle.plan_definitions.specs.Plans.{Hand, Finish}
-use Rattle.plan_definitions.specs.Plans.Plan.{Finishes}
-use Rattle.plan_definitions.specs.Walks.{walk}
-use Rattle.plan_definitions.specs.Written.{edit_sector, is_metadata}
+use Rattle.disk_definitions.specs.Edits.{Edit, edited_all}
+use Rattle.disk_definitions.specs.Edits.Edit.{SetBytes, SetLargeBytes}
+use Rattle.disk_definitions.specs.ChangeLaws.{FilesFit}
+use Rattle.disk_definitions.specs.Ask.{Sector, InodeAt, DirectoryAt, SegmentAt, BytesAt, LargeAt, number_of, run}
+use Rattle.disk_definitions.specs.FilePlans.{end_of, mixed, set_sector}
+use Rattle.disk_definitions.specs.Meets.{IsOfTree, IsHandOf}
+use Rattle.disk_definitions.specs.Plans.{Hand, Finish}
+use Rattle.disk_definitions.specs.Plans.Plan.{Finishes}
+use Rattle.disk_definitions.specs.Walks.{walk}
+use Rattle.disk_definitions.specs.Written.{edit_sector, is_metadata}
 use Rattle.plan_records.proofs.Kept.{in_small, in_large}
-use Rattle.line_definitions.specs.Lines.{plan_of_line}
+use Rattle.disk_definitions.specs.Lines.{plan_of_line}
 use Rattle.line_fills.specs.Files.{file_sector}
 use Rattle.line_histories.proofs.Filled.{IsInUse, in_use}
 use Rattle.byte_fills.specs.Sectors.{Asked, asked_of, bytes_kept, spot_inode, IsPiece}

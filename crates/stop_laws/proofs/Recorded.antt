@@ -18,11 +18,11 @@ use Rattle.shape_laws.specs.Acting.{GoesByShape, answer_shape}
 use Rattle.shape_laws.proofs.Nodes.{again, room_stays}
 use Rattle.shape_laws.proofs.Resolving.{perform_shape}
 use Rattle.disk_definitions.specs.Store.{Store}
-use Rattle.store_changes.specs.Edits.{Edit, SetInode}
-use Rattle.plan_definitions.specs.Plans.{Finish}
-use Rattle.plan_shapes.proofs.Recording.{Verdict, refused_verdict}
-use Rattle.plan_shapes.proofs.Telling.{Apart, Dates}
-use Rattle.plan_standing.specs.Laws.{HasPath}
+use Rattle.disk_definitions.specs.Edits.{Edit, SetInode}
+use Rattle.disk_definitions.specs.Plans.{Finish}
+use Rattle.line_laws.proofs.Recording.{Verdict, refused_verdict}
+use Rattle.line_laws.proofs.Telling.{Apart, Dates}
+use Rattle.line_laws.specs.Laws.{HasPath}
 use Rattle.line_commits.specs.LinePlans.{without_bytes}
 use Rattle.line_histories.specs.Trees.{reply_of}
 

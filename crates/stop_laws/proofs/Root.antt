@@ -11,11 +11,11 @@ use Rattle.tree_laws.proofs.Pairs.{birth_exact, tie}
 use Rattle.disk_definitions.specs.Naming.{Allows, Naming, blocks_of, cell_in, file_byte, has_large, inode_of, use_for}
 use Rattle.disk_definitions.specs.Store.{Store, StoredNode, is_unused, store_of}
 use Rattle.disk_definitions.specs.Store.Use.{Empty, Fresh}
-use Rattle.store_changes.proofs.Free.{no_owner, no_large_owner}
-use Rattle.plan_definitions.specs.Ask.{Sector, InodeAt, DirectoryAt, SegmentAt, BytesAt, LargeAt}
-use Rattle.plan_definitions.specs.Meets.{IsOfTree}
-use Rattle.plan_covers.specs.Covers.{cover_of, inode_cover, large_cover, small_cover}
-use Rattle.plan_covers.proofs.Standing.{node_of}
+use Rattle.disk_definitions.proofs.Free.{no_owner, no_large_owner}
+use Rattle.disk_definitions.specs.Ask.{Sector, InodeAt, DirectoryAt, SegmentAt, BytesAt, LargeAt}
+use Rattle.disk_definitions.specs.Meets.{IsOfTree}
+use Rattle.plan_laws.specs.Covers.{cover_of, inode_cover, large_cover, small_cover}
+use Rattle.plan_laws.proofs.Standing.{node_of}
 use Rattle.line_commits.specs.LinePlans.{store_on}
 use Rattle.line_fills.specs.Files.{HoldsBytes}
 use Rattle.line_histories.proofs.Disks.{blank_of}

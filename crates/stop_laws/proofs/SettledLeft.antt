@@ -19,8 +19,8 @@ use Rattle.line_commits.specs.LinePlans.{sector_plan}
 use Rattle.line_histories.specs.Trees.{MayNumber, performed}
 use Rattle.line_histories.proofs.Runs.{histories_of_one_tree}
 use Rattle.byte_doubts.specs.Deeds.{Deed, items, tree_after}
-use Rattle.byte_histories.specs.Along.{HasShape}
-use Rattle.byte_histories.proofs.Stops.{stop_known}
+use Rattle.stop_laws.specs.Along.{HasShape}
+use Rattle.stop_laws.proofs.Stops.{stop_known}
 use Rattle.stop_laws.specs.Happened.{settle}
 use Rattle.stop_laws.specs.Settling.{stopped}
 use Rattle.stop_laws.specs.SettledStop.{StopsLeaveTheTree}

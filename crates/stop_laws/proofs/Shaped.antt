@@ -2,13 +2,13 @@
 use Rattle.std.proofs.Common.{◌≡◌, List, [], ◌∷◌, map, refl, sym, ◌∙◌, ap, subst}
 use Rattle.std.specs.List.{Contains}
 use Rattle.disk_definitions.specs.Store.{Store}
-use Rattle.store_changes.specs.Edits.{Edit, edited, edited_all}
-use Rattle.store_changes.specs.Edits.Edit.{SetInode, SetBit, SetUse, SetPlace, SetLarge, SetBytes, SetLargeBytes}
-use Rattle.plan_definitions.specs.Ask.{Sector}
-use Rattle.plan_definitions.specs.Written.{is_metadata}
+use Rattle.disk_definitions.specs.Edits.{Edit, edited, edited_all}
+use Rattle.disk_definitions.specs.Edits.Edit.{SetInode, SetBit, SetUse, SetPlace, SetLarge, SetBytes, SetLargeBytes}
+use Rattle.disk_definitions.specs.Ask.{Sector}
+use Rattle.disk_definitions.specs.Written.{is_metadata}
 use Rattle.plan_laws.proofs.Covering.{map_has}
-use Rattle.plan_looks.specs.Looked.{edited_at}
-use Rattle.plan_shapes.specs.Stores.{blank}
+use Rattle.plan_laws.specs.Looked.{edited_at}
+use Rattle.line_laws.specs.Stores.{blank}
 use Rattle.line_fills.specs.Files.{IsWritten}
 use Rattle.line_commits.specs.Planners.{edit_shape}
 use Rattle.line_commits.proofs.Lists.{has_map}

@@ -6,15 +6,15 @@ use Rattle.std.specs.List.{Contains}
 use Rattle.frang_base.proofs.Basics.{of_ge}
 use Rattle.sector_bytes.specs.Blocks.{Block}
 use Rattle.sector_bytes.specs.Sectors.{Sectors}
-use Rattle.sector_definitions.specs.declared.region.Region.TheVariants as region
-use Rattle.sector_definitions.specs.Regions.{sector_of}
+use Rattle.disk_definitions.specs.declared.region.Region.TheVariants as region
+use Rattle.disk_definitions.specs.Regions.{sector_of}
 use Rattle.disk_definitions.specs.Store.{Store, store_of}
-use Rattle.plan_definitions.specs.Ask.{Sector, InodeAt, DirectoryAt, SegmentAt, BytesAt, LargeAt, Ask, number_of, looks, part_of, run}
-use Rattle.plan_definitions.specs.Plans.{Plan}
+use Rattle.disk_definitions.specs.Ask.{Sector, InodeAt, DirectoryAt, SegmentAt, BytesAt, LargeAt, Ask, number_of, looks, part_of, run}
+use Rattle.disk_definitions.specs.Plans.{Plan}
 use Rattle.plan_laws.specs.Looking.{AllSayTheSame}
 use Rattle.plan_laws.proofs.Asking.{framed}
 use Rattle.plan_laws.proofs.Covering.{has_head, has_more}
-use Rattle.plan_shapes.specs.Stores.{with_bytes}
+use Rattle.line_laws.specs.Stores.{with_bytes}
 use Rattle.line_commits.specs.LinePlans.{byte_shown}
 use Rattle.line_commits.specs.Places.{SameBytesAt}
 use Rattle.stop_laws.specs.Cells.{having}

@@ -15,18 +15,18 @@ use Rattle.sector_world.specs.Trees.{Distinct}
 use Rattle.disk_definitions.specs.Naming.{Naming}
 use Rattle.disk_definitions.specs.Standing.{IsReached}
 use Rattle.disk_definitions.specs.Store.Use.{Fresh}
-use Rattle.store_changes.specs.Edits.{edited_all}
-use Rattle.store_changes.specs.Laws.{FilesFit}
-use Rattle.plan_definitions.specs.Ask.{Sector, looks, number_of, run}
-use Rattle.plan_definitions.specs.Meets.{IsOfTree, IsHandOf, is_directory_use}
-use Rattle.plan_definitions.specs.Plans.{Finish}
-use Rattle.plan_definitions.specs.Plans.Plan.{Finishes}
-use Rattle.plan_definitions.specs.Written.{freed_sectors}
+use Rattle.disk_definitions.specs.Edits.{edited_all}
+use Rattle.disk_definitions.specs.ChangeLaws.{FilesFit}
+use Rattle.disk_definitions.specs.Ask.{Sector, looks, number_of, run}
+use Rattle.disk_definitions.specs.Meets.{IsOfTree, IsHandOf, is_directory_use}
+use Rattle.disk_definitions.specs.Plans.{Finish}
+use Rattle.disk_definitions.specs.Plans.Plan.{Finishes}
+use Rattle.disk_definitions.specs.Written.{freed_sectors}
 use Rattle.plan_laws.specs.FilesPlanned.{HasFiles}
-use Rattle.plan_shapes.specs.Stores.{blank}
-use Rattle.plan_standing.specs.Laws.{HasPath}
-use Rattle.plan_shapes.proofs.Shaping.{shapes_stand}
-use Rattle.line_definitions.specs.Lines.{plan_of_line}
+use Rattle.line_laws.specs.Stores.{blank}
+use Rattle.line_laws.specs.Laws.{HasPath}
+use Rattle.line_laws.proofs.Shaping.{shapes_stand}
+use Rattle.disk_definitions.specs.Lines.{plan_of_line}
 use Rattle.line_fills.specs.Files.{HoldsBytes, IsWritten}
 use Rattle.line_commits.specs.LinePlans.{hand_on, makes_by, plain, sector_plan, store_on, store_showing}
 use Rattle.line_commits.proofs.Hands.{hint_fresh}
@@ -35,7 +35,7 @@ use Rattle.line_histories.specs.Standing.{StandsNumbered}
 use Rattle.line_histories.specs.Trees.{AreTimes, MayTake, NumberedTree}
 use Rattle.line_histories.proofs.Filled.{IsInUse, file_in_use, not_given}
 use Rattle.byte_fills.specs.Parts.{LiesIn}
-use Rattle.byte_histories.proofs.Along as along
+use Rattle.stop_laws.proofs.BytesAlong as along
 
 pub record IsStepped (segments : ℕ) (when : ℕ → ℕ) (opening : ℕ → Block) (h : List Item) (c : Commit) (tree to : FileTree) : Type 0 where
   pub few : segments ≤ 64

@@ -12,10 +12,10 @@ use Rattle.sector_histories.specs.Histories.{Commit, Each, logical}
 use Rattle.sector_histories.specs.Histories.Item.{Done}
 use Rattle.sector_histories.specs.Plans.{IsByPlan, Legal, outcome_of}
 use Rattle.sector_world.specs.Trees.{Distinct}
-use Rattle.plan_definitions.specs.Ask.{run}
-use Rattle.plan_definitions.specs.Plans.{Plan, Finish}
-use Rattle.plan_definitions.specs.Plans.Plan.{Lacks, Clears, Finishes}
-use Rattle.line_definitions.specs.Lines.{plan_of_line}
+use Rattle.disk_definitions.specs.Ask.{run}
+use Rattle.disk_definitions.specs.Plans.{Plan, Finish}
+use Rattle.disk_definitions.specs.Plans.Plan.{Lacks, Clears, Finishes}
+use Rattle.disk_definitions.specs.Lines.{plan_of_line}
 use Rattle.line_commits.specs.LinePlans.{hand_on, sector_plan}
 use Rattle.line_commits.specs.Planners.{plan_shape}
 use Rattle.line_commits.proofs.AllBlind.{bytes_dont_decide}
@@ -25,8 +25,8 @@ use Rattle.line_histories.specs.Standing.{StandsNumbered}
 use Rattle.line_histories.specs.Trees.{AreTimes, MayNumber}
 use Rattle.line_histories.proofs.Runs.{numbered}
 use Rattle.byte_doubts.specs.Deeds.{Deed, Does, Says, Doubts, items, tree_after}
-use Rattle.byte_histories.specs.Along.{AllTold, HasShape, IsSaid, IsTold}
-use Rattle.byte_histories.specs.Known.{IsToldTwice, KnowsCells}
+use Rattle.stop_laws.specs.Along.{AllTold, HasShape, IsSaid, IsTold}
+use Rattle.stop_laws.specs.Known.{IsToldTwice, KnowsCells}
 use Rattle.stop_laws.specs.Synced.{AllSaid}
 use Rattle.stop_laws.specs.Paired.{AreLines, AreOfOneLine}
 use Rattle.stop_laws.proofs.Lines.{shapes_follow}

@@ -32,16 +32,16 @@ use Rattle.sector_histories.specs.Plans.{Legal, Outcome, outcome_of}
 use Rattle.sector_world.specs.Trees.{Distinct, tree_of}
 use Rattle.disk_definitions.specs.Naming.{Naming}
 use Rattle.disk_definitions.specs.Store.{Store}
-use Rattle.store_changes.specs.Laws.{FilesFit}
-use Rattle.plan_definitions.specs.Ask.{run}
-use Rattle.plan_definitions.specs.Meets.{Answers, IsOfTree, IsHandOf, directory_blocks_in}
-use Rattle.plan_definitions.specs.Plans.{Finish, Hand, Plan}
-use Rattle.plan_definitions.specs.Plans.Plan.{Lacks, Clears, Finishes}
+use Rattle.disk_definitions.specs.ChangeLaws.{FilesFit}
+use Rattle.disk_definitions.specs.Ask.{run}
+use Rattle.disk_definitions.specs.Meets.{Answers, IsOfTree, IsHandOf, directory_blocks_in}
+use Rattle.disk_definitions.specs.Plans.{Finish, Hand, Plan}
+use Rattle.disk_definitions.specs.Plans.Plan.{Lacks, Clears, Finishes}
 use Rattle.plan_laws.specs.FilesPlanned.{HasFiles}
 use Rattle.plan_laws.specs.Keeping.{FinishKeeps, PlanKeeps}
 use Rattle.plan_laws.proofs.Covering.{has_head, has_more, map_has}
-use Rattle.plan_shapes.specs.Stores.{with_bytes}
-use Rattle.line_definitions.specs.Lines.{plan_of_line}
+use Rattle.line_laws.specs.Stores.{with_bytes}
+use Rattle.disk_definitions.specs.Lines.{plan_of_line}
 use Rattle.line_laws.proofs.Covered.{line_changes_alone, line_nodes_held}
 use Rattle.line_laws.proofs.Planned.{lines_planned}
 use Rattle.line_commits.specs.Guards.{IsClear}
@@ -57,10 +57,10 @@ use Rattle.line_histories.proofs.Disks.{files_fit_now}
 use Rattle.line_histories.proofs.Meeting.{is_clear}
 use Rattle.line_histories.proofs.Runs.{both, histories_of_one_tree, numbered, take_distinct}
 use Rattle.byte_doubts.specs.Deeds.{Deed, Does, items, tree_after}
-use Rattle.byte_histories.specs.Along.{HasShape}
-use Rattle.byte_histories.proofs.Covered.{is_used}
+use Rattle.stop_laws.specs.Along.{HasShape}
+use Rattle.stop_laws.proofs.BytesCovered.{is_used}
 use Rattle.byte_trees.proofs.Nodes.{well_too}
-use Rattle.byte_histories.proofs.Told.{told_same}
+use Rattle.stop_laws.proofs.BytesTold.{told_same}
 use Rattle.stop_laws.specs.Paired.{AreLines, AreOfOneLine}
 use Rattle.stop_laws.proofs.Lines.{shapes_follow}
 use Rattle.stop_laws.proofs.Counted.{directories_few}

@@ -10,9 +10,9 @@ use Rattle.sector_bytes.specs.SectorMaps.{value_at}
 use Rattle.sector_histories.specs.Histories.{Fill}
 use Rattle.sector_histories.specs.Histories.Fill.{Written, Freed}
 use Rattle.sector_histories.specs.Plans.{made_of}
-use Rattle.store_changes.specs.Edits.{Edit}
-use Rattle.plan_definitions.specs.Plans.{Plan}
-use Rattle.plan_definitions.specs.Written.{byte_write, byte_writes, edit_sector, edited_block, is_metadata}
+use Rattle.disk_definitions.specs.Edits.{Edit}
+use Rattle.disk_definitions.specs.Plans.{Plan}
+use Rattle.disk_definitions.specs.Written.{byte_write, byte_writes, edit_sector, edited_block, is_metadata}
 use Rattle.plan_laws.proofs.Covering.{has_cases, has_head, has_more, not_in_none}
 use Rattle.line_commits.specs.LinePlans.{edits_in, fill_by, makes_by}
 use Rattle.line_commits.specs.Outcomes.{fill_shape}

@@ -16,24 +16,24 @@ use Rattle.sector_bytes.specs.Sectors.{Sectors}
 use Rattle.disk_definitions.specs.Naming.{Naming}
 use Rattle.disk_definitions.specs.Standing.{IsMetadata}
 use Rattle.disk_definitions.specs.Store.{Store, Use, store_of}
-use Rattle.store_changes.specs.Edits.{Edit, SetInode, SetBit, SetUse, SetPlace, SetLarge, SetBytes, SetLargeBytes, edited, edited_all}
-use Rattle.plan_definitions.specs.Allowed.{IsAllowed}
-use Rattle.plan_definitions.specs.Ask.{run}
-use Rattle.plan_definitions.specs.Meets.{IsOfTree, IsHandOf}
-use Rattle.plan_definitions.specs.PlanOf.{plan_of}
-use Rattle.plan_definitions.specs.Plans.{Hand, Plan, Finish, Lacks, Clears, Finishes}
-use Rattle.plan_definitions.specs.Ready.{IsReady, store_after}
-use Rattle.plan_definitions.specs.Written.{changes_of}
-use Rattle.line_definitions.specs.Lines.{with_trail, plan_of_line}
+use Rattle.disk_definitions.specs.Edits.{Edit, SetInode, SetBit, SetUse, SetPlace, SetLarge, SetBytes, SetLargeBytes, edited, edited_all}
+use Rattle.disk_definitions.specs.Allowed.{IsAllowed}
+use Rattle.disk_definitions.specs.Ask.{run}
+use Rattle.disk_definitions.specs.Meets.{IsOfTree, IsHandOf}
+use Rattle.disk_definitions.specs.PlanOf.{plan_of}
+use Rattle.disk_definitions.specs.Plans.{Hand, Plan, Finish, Lacks, Clears, Finishes}
+use Rattle.disk_definitions.specs.Ready.{IsReady, store_after}
+use Rattle.disk_definitions.specs.Written.{changes_of}
+use Rattle.disk_definitions.specs.Lines.{with_trail, plan_of_line}
 use Rattle.line_laws.proofs.Running.{step_plan, run_performed}
-use Rattle.plan_shapes.specs.Records.{IsEntryOfLine}
-use Rattle.plan_shapes.proofs.Changing.{change_there}
-use Rattle.plan_shapes.proofs.Recorded.{exactly, plan_verdict}
-use Rattle.plan_shapes.proofs.Recording.{Verdict, refused_verdict}
-use Rattle.plan_shapes.proofs.Stopping.{stops_well, resolved_well}
-use Rattle.plan_shapes.proofs.Telling.{Apart, Dates}
-use Rattle.line_standing.specs.Ready.{IsClearOn}
-use Rattle.line_standing.proofs.Readiness.{lines_may_be_made}
+use Rattle.line_laws.specs.Records.{IsEntryOfLine}
+use Rattle.line_laws.proofs.Changing.{change_there}
+use Rattle.line_laws.proofs.Recorded.{exactly, plan_verdict}
+use Rattle.line_laws.proofs.Recording.{Verdict, refused_verdict}
+use Rattle.line_laws.proofs.Stopping.{stops_well, resolved_well}
+use Rattle.line_laws.proofs.Telling.{Apart, Dates}
+use Rattle.line_laws.specs.Ready.{IsClearOn}
+use Rattle.line_laws.proofs.Readiness.{lines_may_be_made}
 use Rattle.line_commits.specs.LinePlans.{store_on}
 use Rattle.line_histories.specs.Standing.{StandsForShape}
 use Rattle.line_histories.proofs.Disks.{blank_of}

@@ -8,26 +8,26 @@ use Rattle.tree_definitions.specs.History.{CellRun, is_answer}
 use Rattle.tree_definitions.specs.Removal.{doubtful}
 use Rattle.tree_definitions.specs.Tree.{FileTree}
 use Rattle.sector_bytes.specs.Blocks.{Block}
-use Rattle.sector_definitions.specs.declared.region.Region.TheVariants as region
-use Rattle.sector_definitions.specs.Regions.{sector_of}
+use Rattle.disk_definitions.specs.declared.region.Region.TheVariants as region
+use Rattle.disk_definitions.specs.Regions.{sector_of}
 use Rattle.sector_histories.specs.Bytes.{Agree}
 use Rattle.sector_histories.specs.Histories.{Commit, in_doubt, logical}
 use Rattle.sector_histories.specs.Histories.Item.{Done}
 use Rattle.sector_histories.specs.Plans.{IsByPlan, Legal}
 use Rattle.sector_world.specs.Trees.{Distinct}
 use Rattle.disk_definitions.specs.Store.{Store}
-use Rattle.plan_definitions.specs.Ask.{run}
-use Rattle.plan_definitions.specs.Plans.{Finish}
-use Rattle.plan_definitions.specs.Plans.Plan.{Finishes}
-use Rattle.plan_shapes.specs.Stores.{with_bytes}
-use Rattle.line_definitions.specs.Lines.{plan_of_line}
+use Rattle.disk_definitions.specs.Ask.{run}
+use Rattle.disk_definitions.specs.Plans.{Finish}
+use Rattle.disk_definitions.specs.Plans.Plan.{Finishes}
+use Rattle.line_laws.specs.Stores.{with_bytes}
+use Rattle.disk_definitions.specs.Lines.{plan_of_line}
 use Rattle.line_commits.specs.LinePlans.{byte_shown, hand_on, sector_plan}
 use Rattle.line_histories.specs.Following.{store_after}
 use Rattle.line_histories.specs.Trees.{MayNumber}
 use Rattle.byte_trees.specs.Cells.{Covers}
 use Rattle.byte_doubts.specs.Deeds.{Deed, Does, Says, Doubts, items, steps, tree_after}
-use Rattle.byte_histories.specs.Along.{LiesAfter}
-use Rattle.byte_histories.specs.Known.{IsToldTwice, KnowsCells}
+use Rattle.stop_laws.specs.Along.{LiesAfter}
+use Rattle.stop_laws.specs.Known.{IsToldTwice, KnowsCells}
 
 -- a store whose sectors of bytes read as these blocks, as zeros where there is none
 abbrev pub having : (ℕ → Option Block) → Store → Store

@@ -6,12 +6,12 @@ use Rattle.frang_base.specs.declared.lock.LockId.TheVariants as lock
 use Rattle.tree_definitions.specs.Tree.{fresh}
 use Rattle.sector_bytes.specs.Blocks.{Block}
 use Rattle.disk_definitions.specs.Store.{Store}
-use Rattle.plan_definitions.specs.Ask.{Sector, InodeAt, DirectoryAt, SegmentAt, BytesAt, LargeAt}
-use Rattle.plan_moves.specs.Numbered.{sector_at}
+use Rattle.disk_definitions.specs.Ask.{Sector, InodeAt, DirectoryAt, SegmentAt, BytesAt, LargeAt}
+use Rattle.plan_laws.specs.Numbered.{sector_at}
 use Rattle.line_commits.specs.LinePlans.{store_on}
 use Rattle.line_histories.specs.Following.{Follows, is_versioned}
 use Rattle.line_histories.specs.Standing.{StandsForShape}
-use Rattle.byte_histories.specs.Known.{KnowsCells}
+use Rattle.stop_laws.specs.Known.{KnowsCells}
 
 -- the lock that covers a sector while only the root is in use: its own is that of the root's inode, each other that of a segment
 abbrev pub fresh_cover : Sector → LockId

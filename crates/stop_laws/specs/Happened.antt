@@ -8,7 +8,7 @@ use Rattle.tree_definitions.specs.Tree.{FileTree}
 use Rattle.sector_histories.specs.Histories.{Commit, is_own, survives, synced_of}
 use Rattle.sector_histories.specs.Histories as sectors
 use Rattle.byte_doubts.specs.Deeds.{Deed, Does, Says, Doubts}
-use Rattle.byte_histories.specs.Known.{marked_by}
+use Rattle.stop_laws.specs.Known.{marked_by}
 
 -- an operation with its entry; an entry that does nothing to sectors; the entry of a mount, which covers the server's operations up to a number; a sync, or
 -- an unmount, on the side of sectors, which does so too; the end of a recovery of a server's log, by the greatest number of its records, and by the number

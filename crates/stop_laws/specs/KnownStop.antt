@@ -13,8 +13,8 @@ use Rattle.line_histories.specs.Following.{Follows}
 use Rattle.line_histories.specs.Standing.{StandsNumbered}
 use Rattle.line_histories.specs.Trees.{AreTimes, MayNumber}
 use Rattle.byte_doubts.specs.Deeds.{Deed, items, tree_after}
-use Rattle.byte_histories.specs.Along.{AllTold}
-use Rattle.byte_histories.specs.Known.{KnowsCells}
+use Rattle.stop_laws.specs.Along.{AllTold}
+use Rattle.stop_laws.specs.Known.{KnowsCells}
 use Rattle.stop_laws.specs.Cells.{AllShown}
 
 -- at each moment of servers whose operations are lines: where what recoveries of all logs would leave is told twice, and cells are known of the first disk, the

@@ -1,3 +1,7 @@
+pub mod Along
+pub mod Keeping
+pub mod BytesStop
+pub mod Known
 pub mod Happened
 pub mod Example
 pub mod Paired

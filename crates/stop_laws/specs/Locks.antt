@@ -10,7 +10,7 @@ use Rattle.sector_histories.specs.Histories.{Commit}
 use Rattle.sector_histories.specs.Plans.{Legal}
 use Rattle.sector_world.specs.Trees.{Distinct}
 use Rattle.disk_definitions.specs.Naming.{Naming}
-use Rattle.plan_definitions.specs.Meets.{IsOfTree}
+use Rattle.disk_definitions.specs.Meets.{IsOfTree}
 use Rattle.line_commits.specs.LinePlans.{sector_plan}
 use Rattle.line_histories.specs.Following.{store_after}
 use Rattle.line_histories.specs.Standing.{StandsNumbered}

@@ -9,10 +9,10 @@ use Rattle.sector_histories.specs.Plans.{Legal, outcome_of}
 use Rattle.sector_histories.specs.Seen.{Kept}
 use Rattle.sector_world.specs.Kinds.{Good}
 use Rattle.sector_world.specs.World.{World}
-use Rattle.plan_definitions.specs.Ask.{run}
-use Rattle.plan_definitions.specs.Plans.{Finish}
-use Rattle.plan_definitions.specs.Plans.Plan.{Finishes}
-use Rattle.line_definitions.specs.Lines.{plan_of_line}
+use Rattle.disk_definitions.specs.Ask.{run}
+use Rattle.disk_definitions.specs.Plans.{Finish}
+use Rattle.disk_definitions.specs.Plans.Plan.{Finishes}
+use Rattle.disk_definitions.specs.Lines.{plan_of_line}
 use Rattle.line_commits.specs.LinePlans.{hand_on, sector_plan, store_on}
 use Rattle.byte_doubts.specs.Deeds.{Deed, Does, Says, Doubts, items}
 use Rattle.stop_laws.specs.Happened.{Happening, Acts, Speaks, Mounts, Covers, Recovers, on_sectors, settle}

@@ -14,7 +14,7 @@ use Rattle.line_commits.specs.LinePlans.{sector_plan}
 use Rattle.line_histories.specs.Following.{Follows}
 use Rattle.line_histories.specs.Standing.{StandsNumbered}
 use Rattle.line_histories.specs.Trees.{AreTimes, MayNumber}
-use Rattle.byte_histories.specs.Known.{KnowsCells}
+use Rattle.stop_laws.specs.Known.{KnowsCells}
 use Rattle.stop_laws.specs.Happened.{Happening, on_sectors, on_tree, settle}
 use Rattle.stop_laws.specs.Paired.{ArePaired, IsKeptBy}
 use Rattle.stop_laws.specs.Settling.{stopped}

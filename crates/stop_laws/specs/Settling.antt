@@ -17,7 +17,7 @@ use Rattle.line_commits.specs.LinePlans.{sector_plan}
 use Rattle.line_histories.specs.Standing.{StandsNumbered}
 use Rattle.line_histories.specs.Trees.{AreTimes, MayNumber}
 use Rattle.byte_doubts.specs.Deeds.{Deed, Does, items, steps, tree_after}
-use Rattle.byte_histories.specs.Along.{HasShape}
+use Rattle.stop_laws.specs.Along.{HasShape}
 use Rattle.stop_laws.specs.Happened.{Happening, Recovers, on_sectors, on_tree, settle}
 use Rattle.stop_laws.specs.Paired.{AreLines, ArePaired, IsKeptBy}
 

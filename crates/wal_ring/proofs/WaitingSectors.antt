@@ -4,12 +4,12 @@ use Rattle.std.specs.List.{list_all}
 use Rattle.std.proofs.lemmas.Bool.{and_parts, and_from, cases_lt, cond-true, cond-false, eq-eqb, ne_eqb, ltb-true, lt-ltb}
 use Rattle.std.proofs.lemmas.List.{length-drop, take_all, drop_all}
 use Rattle.std.proofs.lemmas.List.Folds.{list_all-append}
-use Rattle.sector_definitions.specs.declared.log_sector.LogSector.{LogSector}
-use Rattle.sector_definitions.specs.LogSectors.{is_packed_sector, log_sector_fits, none_begins}
-use Rattle.sector_definitions.proofs.LogSectorLaws.{IsPackedSector, packed_is, packed_from, packed_fits}
+use Rattle.disk_definitions.specs.declared.log_sector.LogSector.{LogSector}
+use Rattle.disk_definitions.specs.LogSectors.{is_packed_sector, log_sector_fits, none_begins}
+use Rattle.disk_definitions.proofs.LogSectorLaws.{IsPackedSector, packed_is, packed_from, packed_fits}
 use Rattle.frang_base.specs.declared.change.Redo.{Redo}
-use Rattle.log_definitions.specs.Frames.{frame_bytes}
-use Rattle.log_definitions.specs.Records.{record_bytes, record_fits}
+use Rattle.disk_definitions.specs.Frames.{frame_bytes}
+use Rattle.disk_definitions.specs.Records.{record_bytes, record_fits}
 use Rattle.log_record.proofs.FrameBack.{IsFramed, few_bytes, length-frame_bytes}
 use Rattle.ring_definitions.specs.Rings.{is_record, packed_sector, cut, sectors_for, packed_sectors, open_room, filled, framed}
 use Rattle.ring_definitions.proofs.Packed.{one_packed, one_filled}

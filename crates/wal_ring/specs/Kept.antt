@@ -2,9 +2,9 @@
 use Rattle.std.specs.Prelude.{◌-◌, ℕ, ◌+◌, ◌<◌, ◌≤◌, Bool, ◌&&◌, nat_lt, List, [], ◌∷◌, length, IsTrue}
 use Rattle.std.specs.List.{list_all}
 use Rattle.frang_base.specs.declared.limits.TheConstants.{LOG_IN_FLIGHT_MAX, LOG_NUMBERS_END, LOG_SECTORS}
-use Rattle.sector_definitions.specs.declared.log_sector.LogSector.{LogSector}
-use Rattle.sector_definitions.specs.LogSectors.{is_packed_sector}
-use Rattle.log_definitions.specs.Frames.{frame_most}
+use Rattle.disk_definitions.specs.declared.log_sector.LogSector.{LogSector}
+use Rattle.disk_definitions.specs.LogSectors.{is_packed_sector}
+use Rattle.disk_definitions.specs.Frames.{frame_most}
 use Rattle.ring_definitions.specs.Rings.{filled}
 
 -- a packed sector with a number that a log may have

@@ -1,8 +1,8 @@
 -- By the laws of ends.
-use Rattle.log_definitions.proofs.EndLaws.{end_is_below, log_end_is_one}
+use Rattle.disk_definitions.proofs.EndLaws.{end_is_below, log_end_is_one}
 use Rattle.sector_bytes.specs.Bytes.{zeros}
 use Rattle.std.proofs.Common.{refl}
-use Rattle.log_definitions.proofs.SameLogs.{zero_log_end, zero_log_records}
+use Rattle.disk_definitions.proofs.SameLogs.{zero_log_end, zero_log_records}
 use Rattle.log_laws.proofs.a_log_has_one_end.Goals as goal
 
 pub returns-clause-greatest : goal.returns-clause-greatest

@@ -1,9 +1,9 @@
 -- By the laws of sealing.
 use Rattle.std.proofs.Common.{◌+◌, le-leb, map, nat_le}
 use Rattle.std.proofs.lemmas.Bool.{and_from}
-use Rattle.sector_definitions.specs.LogSectors.{empty_sector}
-use Rattle.log_definitions.specs.Arriving.{with_sector, with_sectors}
-use Rattle.log_definitions.specs.Logs.{log_end}
+use Rattle.disk_definitions.specs.LogSectors.{empty_sector}
+use Rattle.disk_definitions.specs.Arriving.{with_sector, with_sectors}
+use Rattle.disk_definitions.specs.Logs.{log_end}
 use Rattle.log_laws.proofs.SealingLaws.{sealing_kept, end_kept, records_kept, within_kept, closed, sealed_log}
 use Rattle.log_laws.proofs.sealing_leaves_the_log.Goals as goal
 

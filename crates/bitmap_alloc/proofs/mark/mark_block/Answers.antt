@@ -1,7 +1,7 @@
 -- Bytes with the same states are the same.
 use Rattle.std.proofs.Common.{rules, arith, ◌≡◌, ℕ, ◌<◌, length, get_or}
 use Rattle.bitmap_block.specs.States.{state_number}
-use Rattle.pick_definitions.specs.Taken.{with_state}
+use Rattle.disk_definitions.specs.Taken.{with_state}
 use Rattle.bitmap_alloc.proofs.Exact.{state_below, same_bitmap, same_states}
 use Rattle.bitmap_alloc.proofs.mark.mark_block.Goals as goal
 

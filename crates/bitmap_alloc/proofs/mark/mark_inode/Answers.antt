@@ -1,6 +1,6 @@
 -- Words with the same bits are the same.
 use Rattle.std.proofs.Common.{arith, ◌<◌, ◌^◌}
-use Rattle.pick_definitions.specs.Taken.{with_inode}
+use Rattle.disk_definitions.specs.Taken.{with_inode}
 use Rattle.bitmap_alloc.proofs.Exact.{same_bitmap, same_inodes}
 use Rattle.bitmap_alloc.proofs.mark.mark_inode.Goals as goal
 

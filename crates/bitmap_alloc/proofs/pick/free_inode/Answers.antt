@@ -1,7 +1,7 @@
 -- By the bits of the segment, where it is held.
 use Rattle.std.proofs.Common.{rules, ◌≡◌, Some, None, sym, ap, ◌∙◌}
 use Rattle.std.specs.Option.{option_copied}
-use Rattle.pick_definitions.specs.Held.{bitmap_of}
+use Rattle.disk_definitions.specs.Held.{bitmap_of}
 use Rattle.bitmap_alloc.proofs.Segments.{inodes_of, inodes_missing}
 use Rattle.bitmap_alloc.proofs.pick.free_inode.Goals as goal
 

@@ -1,8 +1,8 @@
 -- Bit after bit.
 use Rattle.std.proofs.Common.{◌≡◌, ◌≤◌, not, ℕ, ◌<◌, Bool, true, false, sym, arith}
-use Rattle.sector_definitions.specs.Bitmaps.{inode_bit}
-use Rattle.pick_definitions.specs.Least.{least}
-use Rattle.pick_definitions.proofs.LeastLaws.{least_below, step_found, step_passed, step_end}
+use Rattle.disk_definitions.specs.Bitmaps.{inode_bit}
+use Rattle.disk_definitions.specs.Least.{least}
+use Rattle.disk_definitions.proofs.LeastLaws.{least_below, step_found, step_passed, step_end}
 use Rattle.bitmap_alloc.proofs.pick.free_inode_of.Goals as goal
 
 pub loop-j-init : goal.loop-j-init

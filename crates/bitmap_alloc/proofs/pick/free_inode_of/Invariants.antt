@@ -1,6 +1,6 @@
 use Rattle.std.proofs.Common.{◌≡◌, ◌-◌, not}
-use Rattle.sector_definitions.specs.Bitmaps.{inode_bit}
-use Rattle.pick_definitions.specs.Least.{least, least_from}
+use Rattle.disk_definitions.specs.Bitmaps.{inode_bit}
+use Rattle.disk_definitions.specs.Least.{least, least_from}
 use Rattle.bitmap_alloc.proofs.pick.free_inode_of.Given as goal
 
 abbrev pub invariant-loop-j : goal.invariant-loop-j

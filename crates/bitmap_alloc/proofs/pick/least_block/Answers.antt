@@ -1,10 +1,10 @@
 -- Segment after segment.
 use Rattle.std.proofs.Common.{◌≡◌, ◌-◌, ℕ, ◌+◌, ◌*◌, ◌<◌, Bool, sym, subst, ◌∙◌, arith}
-use Rattle.pick_definitions.proofs.LeastLaws.{step_end}
+use Rattle.disk_definitions.proofs.LeastLaws.{step_end}
 use Rattle.bitmap_block.specs.States.{state_number}
-use Rattle.pick_definitions.specs.Least.{least_from}
-use Rattle.pick_definitions.specs.Held.{state_in}
-use Rattle.pick_definitions.specs.Picks.{is_in_state}
+use Rattle.disk_definitions.specs.Least.{least_from}
+use Rattle.disk_definitions.specs.Held.{state_in}
+use Rattle.disk_definitions.specs.Picks.{is_in_state}
 use Rattle.bitmap_alloc.proofs.Steps.{segment_found, segment_passed}
 use Rattle.bitmap_alloc.proofs.pick.least_block.Goals as goal
 

@@ -1,8 +1,8 @@
 use Rattle.std.proofs.Common.{◌≡◌, ◌≤◌, ◌<◌, ◌+◌, ◌*◌, ◌-◌}
 use Rattle.bitmap_block.specs.States.{state_number}
-use Rattle.pick_definitions.specs.Least.{least_from}
-use Rattle.pick_definitions.specs.Held.{state_in}
-use Rattle.pick_definitions.specs.Picks.{is_in_state}
+use Rattle.disk_definitions.specs.Least.{least_from}
+use Rattle.disk_definitions.specs.Held.{state_in}
+use Rattle.disk_definitions.specs.Picks.{is_in_state}
 use Rattle.bitmap_alloc.proofs.pick.least_block.Given as goal
 
 abbrev pub invariant-loop-k : goal.invariant-loop-k

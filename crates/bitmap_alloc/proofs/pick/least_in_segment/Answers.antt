@@ -2,7 +2,7 @@
 use Rattle.std.proofs.Common.{rules, ◌≡◌, Some, None, sym, ap, ◌∙◌}
 use Rattle.std.specs.Option.{option_copied}
 use Rattle.bitmap_block.specs.States.{state_number}
-use Rattle.pick_definitions.specs.Held.{bitmap_of}
+use Rattle.disk_definitions.specs.Held.{bitmap_of}
 use Rattle.bitmap_alloc.proofs.Segments.{states_of, states_missing}
 use Rattle.bitmap_alloc.proofs.pick.least_in_segment.Goals as goal
 

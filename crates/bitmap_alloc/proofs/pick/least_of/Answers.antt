@@ -1,9 +1,9 @@
 -- State after state.
 use Rattle.std.proofs.Common.{◌≡◌, ◌≤◌, ◌-◌, ◌==◌, ℕ, ◌<◌, Bool, true, false, sym, ◌∙◌, arith}
-use Rattle.pick_definitions.proofs.LeastLaws.{step_found, step_passed, step_end}
+use Rattle.disk_definitions.proofs.LeastLaws.{step_found, step_passed, step_end}
 use Rattle.bitmap_block.specs.States.{state_number}
-use Rattle.sector_definitions.specs.Bitmaps.{block_state}
-use Rattle.pick_definitions.specs.Least.{least_from}
+use Rattle.disk_definitions.specs.Bitmaps.{block_state}
+use Rattle.disk_definitions.specs.Least.{least_from}
 use denote.Enum.Bare.{sameb}
 use Rattle.bitmap_block.specs.contracts.state.BlockState.{the_type}
 use Rattle.bitmap_alloc.proofs.States.{same_number}

@@ -1,7 +1,7 @@
 use Rattle.std.proofs.Common.{◌≡◌, ◌-◌, ◌==◌}
 use Rattle.bitmap_block.specs.States.{state_number}
-use Rattle.sector_definitions.specs.Bitmaps.{block_state}
-use Rattle.pick_definitions.specs.Least.{least_from}
+use Rattle.disk_definitions.specs.Bitmaps.{block_state}
+use Rattle.disk_definitions.specs.Least.{least_from}
 use Rattle.bitmap_alloc.proofs.pick.least_of.Given as goal
 
 abbrev pub invariant-loop-j : goal.invariant-loop-j

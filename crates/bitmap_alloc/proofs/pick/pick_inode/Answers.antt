@@ -1,9 +1,9 @@
 -- Segment after segment.
 use Rattle.std.proofs.Common.{◌≡◌, ◌-◌, ℕ, ◌+◌, ◌*◌, ◌<◌, Bool, Option, Some, None, sym, subst, ◌∙◌, arith}
-use Rattle.pick_definitions.specs.Least.{least_from}
-use Rattle.pick_definitions.specs.Held.{inode_in}
-use Rattle.pick_definitions.specs.Picks.{is_free, picked_inode}
-use Rattle.pick_definitions.proofs.LeastLaws.{least_below, step_end}
+use Rattle.disk_definitions.specs.Least.{least_from}
+use Rattle.disk_definitions.specs.Held.{inode_in}
+use Rattle.disk_definitions.specs.Picks.{is_free, picked_inode}
+use Rattle.disk_definitions.proofs.LeastLaws.{least_below, step_end}
 use Rattle.bitmap_alloc.proofs.Steps.{segment_found, segment_passed}
 use Rattle.bitmap_alloc.proofs.pick.pick_inode.Goals as goal
 

@@ -1,7 +1,7 @@
 use Rattle.std.proofs.Common.{◌≡◌, ◌*◌, ◌-◌}
-use Rattle.pick_definitions.specs.Least.{least_from}
-use Rattle.pick_definitions.specs.Held.{inode_in}
-use Rattle.pick_definitions.specs.Picks.{is_free, picked_inode}
+use Rattle.disk_definitions.specs.Least.{least_from}
+use Rattle.disk_definitions.specs.Held.{inode_in}
+use Rattle.disk_definitions.specs.Picks.{is_free, picked_inode}
 use Rattle.bitmap_alloc.proofs.pick.pick_inode.Given as goal
 
 abbrev pub invariant-loop-k : goal.invariant-loop-k

@@ -1,8 +1,8 @@
 -- Segment after segment.
 use Rattle.std.proofs.Common.{◌≡◌, ℕ, ◌<◌, Bool, true, false, sym, arith}
-use Rattle.pick_definitions.specs.Held.{large_in}
-use Rattle.pick_definitions.specs.Picks.{is_free, picked_large}
-use Rattle.pick_definitions.proofs.LeastLaws.{least_below, step_found, step_passed, step_end}
+use Rattle.disk_definitions.specs.Held.{large_in}
+use Rattle.disk_definitions.specs.Picks.{is_free, picked_large}
+use Rattle.disk_definitions.proofs.LeastLaws.{least_below, step_found, step_passed, step_end}
 use Rattle.bitmap_alloc.proofs.pick.pick_large.Goals as goal
 
 pub loop-k-init : goal.loop-k-init

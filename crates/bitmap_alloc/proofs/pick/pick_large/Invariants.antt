@@ -1,7 +1,7 @@
 use Rattle.std.proofs.Common.{◌≡◌, ◌-◌}
-use Rattle.pick_definitions.specs.Least.{least_from}
-use Rattle.pick_definitions.specs.Held.{large_in}
-use Rattle.pick_definitions.specs.Picks.{is_free, picked_large}
+use Rattle.disk_definitions.specs.Least.{least_from}
+use Rattle.disk_definitions.specs.Held.{large_in}
+use Rattle.disk_definitions.specs.Picks.{is_free, picked_large}
 use Rattle.bitmap_alloc.proofs.pick.pick_large.Given as goal
 
 abbrev pub invariant-loop-k : goal.invariant-loop-k

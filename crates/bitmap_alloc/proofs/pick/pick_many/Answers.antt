@@ -2,8 +2,8 @@
 use Rattle.std.proofs.Common.{rules, ◌≡◌, ◌≤◌, ◌-◌, ℕ, suc, ◌+◌, ◌<◌, length, Option, List, [], ◌∷◌, ◌++◌, sym, ap, subst, ◌∙◌, arith}
 use Rattle.std.proofs.lemmas.List.{length_push}
 use Rattle.std.specs.Option.{option_map}
-use Rattle.pick_definitions.specs.Held.{state_in}
-use Rattle.pick_definitions.specs.Picks.{picks, picked_many}
+use Rattle.disk_definitions.specs.Held.{state_in}
+use Rattle.disk_definitions.specs.Picks.{picks, picked_many}
 use Rattle.bitmap_alloc.proofs.Steps.{left, pick_found, pick_missing, picks_done}
 use Rattle.bitmap_alloc.proofs.pick.pick_many.Goals as goal
 

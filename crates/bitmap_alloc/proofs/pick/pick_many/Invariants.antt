@@ -1,7 +1,7 @@
 use Rattle.std.proofs.Common.{◌≡◌, ◌≤◌, ◌-◌, ◌++◌, length}
 use Rattle.std.specs.Option.{option_map}
-use Rattle.pick_definitions.specs.Held.{state_in}
-use Rattle.pick_definitions.specs.Picks.{picks, picked_many}
+use Rattle.disk_definitions.specs.Held.{state_in}
+use Rattle.disk_definitions.specs.Picks.{picks, picked_many}
 use Rattle.bitmap_alloc.proofs.Steps.{left}
 use Rattle.bitmap_alloc.proofs.pick.pick_many.Given as goal
 

@@ -1,9 +1,9 @@
 -- The least block of the one state, or of the other.
 use Rattle.std.proofs.Common.{◌≡◌, ℕ, Option, Some, None, sym, ap, ◌∙◌}
-use Rattle.pick_definitions.specs.Held.{state_in}
-use Rattle.pick_definitions.specs.Picks.{is_in_state, or_else, least_in_state}
-use Rattle.pick_definitions.specs.Least.{least_from}
-use Rattle.pick_definitions.proofs.LeastLaws.{least_below}
+use Rattle.disk_definitions.specs.Held.{state_in}
+use Rattle.disk_definitions.specs.Picks.{is_in_state, or_else, least_in_state}
+use Rattle.disk_definitions.specs.Least.{least_from}
+use Rattle.disk_definitions.proofs.LeastLaws.{least_below}
 use Rattle.bitmap_alloc.proofs.pick.pick_small.Goals as goal
 
 from_zero : (states : ℕ → Option ℕ) (s : ℕ) (o : Option ℕ) → o ≡ least_from (λ b. is_in_state s (states b)) 0 65536 → o ≡ least_in_state s states

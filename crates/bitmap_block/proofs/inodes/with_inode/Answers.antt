@@ -1,5 +1,5 @@
 -- By the laws of one bit.
-use Rattle.sector_definitions.proofs.Bits.{bit_set, bit_cleared}
+use Rattle.disk_definitions.proofs.Bits.{bit_set, bit_cleared}
 use Rattle.bitmap_block.proofs.inodes.with_inode.Goals as goal
 
 pub returns-then-used-clause-inodes : goal.returns-then-used-clause-inodes

@@ -3,9 +3,9 @@ use Rattle.std.proofs.Common.{◌≡◌, ◌≤◌, ◌∷◌, length, sym, ap, 
 use Rattle.sector_bytes.specs.Blocks.{spelling}
 use Rattle.frang_base.specs.declared.bitmap.Bitmap.{Bitmap}
 use Rattle.sector_bytes.specs.Bytes.{zeros}
-use Rattle.sector_definitions.specs.Bitmaps.{bitmap_bytes, large_byte}
+use Rattle.disk_definitions.specs.Bitmaps.{bitmap_bytes, large_byte}
 use Rattle.sector_bytes.proofs.PatchLaws.{patches_laid, edited_by_patches, spelled_version}
-use Rattle.sector_definitions.proofs.WrittenFields.{length_zeros}
+use Rattle.disk_definitions.proofs.WrittenFields.{length_zeros}
 use Rattle.bitmap_block.specs.Fields.{FillsItsFields}
 use Rattle.bitmap_block.proofs.laws.patches_make_the_new_sector.Goals as goal
 

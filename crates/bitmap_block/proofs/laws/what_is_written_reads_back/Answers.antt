@@ -1,5 +1,5 @@
 -- By the laws of the definition.
-use Rattle.sector_definitions.proofs.BitmapLaws.{bitmap_back, bitmap_read, bitmap_found, bitmap_once}
+use Rattle.disk_definitions.proofs.BitmapLaws.{bitmap_back, bitmap_read, bitmap_found, bitmap_once}
 use Rattle.bitmap_block.proofs.laws.what_is_written_reads_back.Goals as goal
 
 pub returns : goal.returns

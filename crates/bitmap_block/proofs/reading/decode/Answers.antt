@@ -1,7 +1,7 @@
 -- A reading compares the block with the bytes of what it found.
 use Rattle.std.proofs.Common.{◌∙◌, true, refl}
-use Rattle.sector_definitions.specs.Bitmaps.{bitmap_bytes, bitmap_fields}
-use Rattle.sector_definitions.proofs.Readings.{reads_same}
+use Rattle.disk_definitions.specs.Bitmaps.{bitmap_bytes, bitmap_fields}
+use Rattle.disk_definitions.proofs.Readings.{reads_same}
 use Rattle.bitmap_block.proofs.reading.decode.Goals as goal
 
 pub returns : goal.returns

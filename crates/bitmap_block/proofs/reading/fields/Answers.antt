@@ -3,7 +3,7 @@ use Rattle.std.proofs.Common.{◌≡◌, ◌==◌, ℕ, Bool, List, take, drop, 
 use Rattle.std.proofs.lemmas.Slice.{between_to_end}
 use Rattle.byteorder.specs.Endian.{little_number}
 use Rattle.sector_bytes.specs.Bytes.{number_at}
-use Rattle.sector_definitions.specs.Bitmaps.{bitmap_fields}
+use Rattle.disk_definitions.specs.Bitmaps.{bitmap_fields}
 use Rattle.bitmap_block.proofs.reading.fields.Goals as goal
 
 same_fields : {v i : ℕ} {s : List ℕ} {l : Bool} (block : List ℕ)

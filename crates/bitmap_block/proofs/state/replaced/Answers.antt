@@ -1,5 +1,5 @@
 -- By the laws of the states in a byte.
-use Rattle.sector_definitions.proofs.Digits.{digit_fits, digit_replaced}
+use Rattle.disk_definitions.proofs.Digits.{digit_fits, digit_replaced}
 use Rattle.bitmap_block.proofs.Digits.{digit_part_fits}
 use Rattle.bitmap_block.proofs.state.replaced.Goals as goal
 

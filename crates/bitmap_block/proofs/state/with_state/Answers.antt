@@ -1,6 +1,6 @@
 -- By the laws of the states in a byte.
 use Rattle.std.proofs.Common.{◌≡◌, length, arith}
-use Rattle.sector_definitions.proofs.Digits.{state_replaced}
+use Rattle.disk_definitions.proofs.Digits.{state_replaced}
 use Rattle.bitmap_block.proofs.state.with_state.Goals as goal
 
 pub returns-clause-states : goal.returns-clause-states

@@ -1,9 +1,9 @@
 -- Inode after inode.
 use Rattle.std.proofs.Common.{◌≡◌, ◌≤◌, ◌<◌, ◌*◌, ℕ, Bool, true, false, sym, arith}
-use Rattle.pick_definitions.specs.Least.{least}
-use Rattle.pick_definitions.proofs.LeastLaws.{step_found, step_passed, step_end}
-use Rattle.plan_definitions.specs.Written.{inode_at_hand}
-use Rattle.plan_moves.specs.CoversAtHand.{has_large}
+use Rattle.disk_definitions.specs.Least.{least}
+use Rattle.disk_definitions.proofs.LeastLaws.{step_found, step_passed, step_end}
+use Rattle.disk_definitions.specs.Written.{inode_at_hand}
+use Rattle.plan_laws.specs.CoversAtHand.{has_large}
 use Rattle.cover_lookup.proofs.Searching.{from_first}
 use Rattle.cover_lookup.proofs.owners.large_owner.Goals as goal
 

@@ -1,8 +1,8 @@
 -- The first owner is the first of those that are left.
 use Rattle.std.proofs.Common.{◌≡◌, ◌-◌, ◌*◌}
-use Rattle.pick_definitions.specs.Least.{least, least_from}
-use Rattle.plan_definitions.specs.Written.{inode_at_hand}
-use Rattle.plan_moves.specs.CoversAtHand.{has_large}
+use Rattle.disk_definitions.specs.Least.{least, least_from}
+use Rattle.disk_definitions.specs.Written.{inode_at_hand}
+use Rattle.plan_laws.specs.CoversAtHand.{has_large}
 use Rattle.cover_lookup.proofs.owners.large_owner.Given as goal
 
 abbrev pub invariant-loop-inode : goal.invariant-loop-inode

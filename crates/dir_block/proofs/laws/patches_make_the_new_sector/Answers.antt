@@ -1,8 +1,8 @@
 -- The laws of patches, at the bytes of sectors of directories.
 use Rattle.std.proofs.Common.{◌≡◌, ◌≤◌, length, sym, ap, ◌∙◌, arith}
 use Rattle.sector_bytes.specs.Blocks.{spelling}
-use Rattle.sector_definitions.specs.declared.directory.DirSector.{DirSector}
-use Rattle.sector_definitions.specs.Directories.{directory_bytes}
+use Rattle.disk_definitions.specs.declared.directory.DirSector.{DirSector}
+use Rattle.disk_definitions.specs.Directories.{directory_bytes}
 use Rattle.sector_bytes.proofs.PatchLaws.{patches_laid, edited_by_patches, spelled_version}
 use Rattle.dir_block.specs.Fields.{FillsItsFields}
 use Rattle.dir_block.proofs.Storable.{length_of_directory}

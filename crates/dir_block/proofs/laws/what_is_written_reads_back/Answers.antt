@@ -1,5 +1,5 @@
 -- By the laws of the definition.
-use Rattle.sector_definitions.proofs.DirectoryLaws.{directory_back, directory_read, directory_found, directory_once}
+use Rattle.disk_definitions.proofs.DirectoryLaws.{directory_back, directory_read, directory_found, directory_once}
 use Rattle.dir_block.proofs.Storable.{storable}
 use Rattle.dir_block.proofs.laws.what_is_written_reads_back.Goals as goal
 

@@ -1,8 +1,8 @@
 -- The first entry of the name ends the search.
 use Rattle.std.proofs.Common.{◌<◌, ◌≤◌, length, sym, ap, ◌∙◌, arith}
 use Rattle.std.proofs.lemmas.List.{take_all}
-use Rattle.sector_definitions.specs.Directories.{place_of_name}
-use Rattle.sector_definitions.proofs.DirectoryPlaces.{found_there, passed_there}
+use Rattle.disk_definitions.specs.Directories.{place_of_name}
+use Rattle.disk_definitions.proofs.DirectoryPlaces.{found_there, passed_there}
 use Rattle.dir_block.proofs.names.place_in.Goals as goal
 
 pub returns-then-eq : goal.returns-then-eq

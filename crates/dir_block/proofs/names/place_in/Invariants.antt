@@ -1,6 +1,6 @@
 -- No entry so far has the name.
 use Rattle.std.proofs.Common.{◌≡◌, take, None}
-use Rattle.sector_definitions.specs.Directories.{place_of_name}
+use Rattle.disk_definitions.specs.Directories.{place_of_name}
 use Rattle.dir_block.proofs.names.place_in.Given as goal
 
 abbrev pub invariant-loop-place : goal.invariant-loop-place

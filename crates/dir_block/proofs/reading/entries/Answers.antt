@@ -1,6 +1,6 @@
 -- Each turn reads the entry at the next place.
 use Rattle.std.proofs.Common.{rules, ◌≡◌, ◌<◌, length, arith}
-use Rattle.sector_definitions.proofs.DirectoryPlaces.{entries_step, entries_all}
+use Rattle.disk_definitions.proofs.DirectoryPlaces.{entries_step, entries_all}
 use Rattle.dir_block.proofs.reading.entries.Goals as goal
 
 pub loop-place-preserved : goal.loop-place-preserved

@@ -1,6 +1,6 @@
 -- So many entries are read, and there are seven.
 use Rattle.std.proofs.Common.{◌≡◌, length, take}
-use Rattle.sector_definitions.specs.Directories.{entries_in}
+use Rattle.disk_definitions.specs.Directories.{entries_in}
 use Rattle.dir_block.proofs.reading.entries.Given as goal
 
 abbrev pub invariant-loop-place : goal.invariant-loop-place

@@ -1,7 +1,7 @@
 -- So many entries are written, and the length stays.
 use Rattle.std.proofs.Common.{◌≡◌, length, take, ◌*◌}
 use Rattle.std.specs.List.{flat_map}
-use Rattle.sector_definitions.specs.Directories.{entry_bytes}
+use Rattle.disk_definitions.specs.Directories.{entry_bytes}
 use Rattle.dir_block.proofs.writing.write_entries.Given as goal
 
 abbrev pub invariant-loop-place : goal.invariant-loop-place

@@ -2,8 +2,8 @@
 use Rattle.std.proofs.Common.{◌≡◌, ◌*◌, ◌-◌, ◌<◌, ◌≤◌, ℕ, Bool, Option, Err, slice_index, sym, ap, ◌∙◌, arith, rules}
 use Rattle.std.specs.Option.{option_map}
 use Rattle.disk_definitions.specs.Store.{StoredEntry}
-use Rattle.plan_definitions.specs.Walks as walks
-use Rattle.plan_definitions.specs.Walks.{is_vacant}
+use Rattle.disk_definitions.specs.Walks as walks
+use Rattle.disk_definitions.specs.Walks.{is_vacant}
 use Rattle.dir_lookup.specs.Reading.{reading, read_of}
 use Rattle.dir_lookup.specs.Spots.{vacant_at}
 use Rattle.dir_lookup.specs.Stored.{entries_at}

@@ -1,7 +1,7 @@
 -- What is read is what the sectors that are left come to, and what was looked at is what comes before them.
 use Rattle.std.proofs.Common.{◌≡◌, ◌-◌, ◌*◌, slice_index}
-use Rattle.pick_definitions.specs.Held.{Segments}
-use Rattle.plan_definitions.specs.Walks.{search, is_vacant}
+use Rattle.disk_definitions.specs.Held.{Segments}
+use Rattle.disk_definitions.specs.Walks.{search, is_vacant}
 use Rattle.dir_lookup.specs.Reading.{reading}
 use Rattle.dir_lookup.proofs.SearchLooks.{HasSeen}
 use Rattle.dir_lookup.proofs.search.first_vacant.Given as goal

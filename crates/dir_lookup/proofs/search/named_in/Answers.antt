@@ -2,7 +2,7 @@
 use Rattle.std.proofs.Common.{◌≡◌, ◌<◌, Some, [], length, get_or, sym, rules, ◌∙◌}
 use Rattle.std.specs.List.{slice_get}
 use Rattle.std.proofs.lemmas.Option.{slice_get-get_or}
-use Rattle.sector_definitions.specs.declared.directory.DirEntry.{DirEntry}
+use Rattle.disk_definitions.specs.declared.directory.DirEntry.{DirEntry}
 use Rattle.dir_lookup.proofs.Places.{named_hit}
 use Rattle.dir_lookup.proofs.search.named_in.Goals as goal
 

@@ -1,7 +1,7 @@
 -- The first entry of the name is the first place with it.
 use Rattle.std.proofs.Common.{◌≡◌, true, length, rules, ◌∙◌}
 use Rattle.frang_base.specs.Name.{is_name}
-use Rattle.plan_definitions.specs.Walks.{is_named}
+use Rattle.disk_definitions.specs.Walks.{is_named}
 use Rattle.dir_lookup.specs.Stored.{entries_at}
 use Rattle.dir_lookup.proofs.Places.{named_least, within}
 use Rattle.dir_lookup.proofs.search.named_place.Goals as goal

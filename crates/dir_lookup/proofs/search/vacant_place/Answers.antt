@@ -1,8 +1,8 @@
 -- Place after place.
 use Rattle.std.proofs.Common.{◌≡◌, ◌≤◌, ◌<◌, ℕ, Bool, true, false, sym, arith}
-use Rattle.pick_definitions.specs.Least.{least}
-use Rattle.pick_definitions.proofs.LeastLaws.{least_below, step_found, step_passed, step_end}
-use Rattle.plan_definitions.specs.Walks.{is_vacant}
+use Rattle.disk_definitions.specs.Least.{least}
+use Rattle.disk_definitions.proofs.LeastLaws.{least_below, step_found, step_passed, step_end}
+use Rattle.disk_definitions.specs.Walks.{is_vacant}
 use Rattle.dir_lookup.specs.Stored.{entries_at}
 use Rattle.dir_lookup.proofs.search.vacant_place.Goals as goal
 

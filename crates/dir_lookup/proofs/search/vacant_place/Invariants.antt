@@ -1,7 +1,7 @@
 -- The first free place is the first of those that are left.
 use Rattle.std.proofs.Common.{◌≡◌, ◌-◌}
-use Rattle.pick_definitions.specs.Least.{least, least_from}
-use Rattle.plan_definitions.specs.Walks.{is_vacant}
+use Rattle.disk_definitions.specs.Least.{least, least_from}
+use Rattle.disk_definitions.specs.Walks.{is_vacant}
 use Rattle.dir_lookup.specs.Stored.{entries_at}
 use Rattle.dir_lookup.proofs.search.vacant_place.Given as goal
 

@@ -1,7 +1,7 @@
 -- The block that is decoded is that of the part's sector.
 use Rattle.std.proofs.Common.{[], ◌∷◌, ap, sym, ◌∙◌}
 use Rattle.dir_lookup.specs.Stored.{entries_at}
-use Rattle.plan_definitions.specs.Ask.{Got, ReadDirectory}
+use Rattle.disk_definitions.specs.Ask.{Got, ReadDirectory}
 use Rattle.dir_lookup.specs.Looks.{looks_of}
 use Rattle.dir_lookup.specs.Reading.{read_of}
 use Rattle.dir_lookup.proofs.Looking.{adds_as, adds_none, directory_looked, directory_missing}

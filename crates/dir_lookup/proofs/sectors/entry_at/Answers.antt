@@ -2,8 +2,8 @@
 use Rattle.std.proofs.Common.{◌≡◌, ◌<◌, true, Some, [], length, get_or, sym, ◌∙◌, ap, cond, None, eq-eqb, ne_eqb, rules, Bool}
 use Rattle.std.specs.List.{slice_get}
 use Rattle.std.proofs.lemmas.Option.{slice_get-get_or}
-use Rattle.sector_definitions.specs.declared.directory.DirEntry.{DirEntry}
-use Rattle.sector_definitions.specs.Directories.{directory_fits}
+use Rattle.disk_definitions.specs.declared.directory.DirEntry.{DirEntry}
+use Rattle.disk_definitions.specs.Directories.{directory_fits}
 use Rattle.disk_definitions.specs.Store.{entered}
 use Rattle.dir_lookup.specs.Stored.{entries_at}
 use Rattle.dir_lookup.proofs.Decoded.{entry_by_kind, proper_entry}

@@ -2,7 +2,7 @@
 use Rattle.std.proofs.Common.{[], ◌∷◌, ap, sym, ◌∙◌}
 use Rattle.std.specs.Option.{option_map}
 use Rattle.disk_definitions.specs.Store.{stored}
-use Rattle.plan_definitions.specs.Ask.{Got, ReadInode}
+use Rattle.disk_definitions.specs.Ask.{Got, ReadInode}
 use Rattle.dir_lookup.specs.Looks.{looks_of}
 use Rattle.dir_lookup.specs.Reading.{read_of}
 use Rattle.dir_lookup.proofs.Looking.{adds_as, adds_none, inode_looked, inode_missing}

@@ -5,7 +5,7 @@ use Rattle.dir_lookup.specs.Spots.{led_of, looked_in, spot_of, walked_in}
 use Rattle.dir_lookup.proofs.Steps.{more_names, one_name, said_err, said_ok}
 use Rattle.dir_lookup.specs.Passing.{PassesFrom}
 use Rattle.dir_lookup.proofs.Through.{first_lacks, no_names, passes_lack, passes_lost, passes_more, passes_none, passes_one}
-use Rattle.plan_definitions.specs.Walks.{walk_from}
+use Rattle.disk_definitions.specs.Walks.{walk_from}
 use Rattle.dir_lookup.specs.Looked.{Adds}
 use Rattle.dir_lookup.specs.Looks.{looks_of}
 use Rattle.dir_lookup.specs.Spots.{reply_of}

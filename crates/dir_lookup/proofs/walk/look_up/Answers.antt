@@ -2,7 +2,7 @@
 use Rattle.std.proofs.Common.{◌≡◌, Some, None, Err, sym, rules, ap, ◌∙◌, ◌++◌, ◌∷◌, []}
 use Rattle.std.specs.Option.{option_map}
 use Rattle.disk_definitions.specs.Store.{stored, entered}
-use Rattle.plan_definitions.specs.Walks.{AtName, AtGap}
+use Rattle.disk_definitions.specs.Walks.{AtName, AtGap}
 use Rattle.dir_lookup.specs.Reading.{Gives, Lacks, read_of}
 use Rattle.dir_lookup.specs.Spots.{found_at, spot_of, walked_in}
 use Rattle.dir_lookup.proofs.Looking.{adds_as}

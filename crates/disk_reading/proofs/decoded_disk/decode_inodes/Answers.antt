@@ -1,7 +1,7 @@
 -- One more in each turn.
 use Rattle.std.proofs.Common.{◌≡◌, ◌<◌, ◌+◌, ℕ, Option, None, List, sym, subst, rules}
 use Rattle.std.specs.Prelude.{slice_index_or}
-use Rattle.sector_definitions.specs.declared.inode.Inode.{Inode}
+use Rattle.disk_definitions.specs.declared.inode.Inode.{Inode}
 use Rattle.disk_reading.specs.Kept.{inode_of}
 use Rattle.disk_reading.proofs.KeptSectors.{one_more}
 use Rattle.disk_reading.proofs.decoded_disk.decode_inodes.Goals as goal

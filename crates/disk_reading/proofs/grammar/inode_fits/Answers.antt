@@ -1,8 +1,8 @@
 -- What is decoded is the sector, and its version stands in its first bytes.
 use Rattle.std.proofs.Common.{◌≡◌, ap, ◌∙◌}
-use Rattle.sector_definitions.specs.declared.region.Region.TheVariants as region
-use Rattle.sector_definitions.specs.Regions.{sector_of}
-use Rattle.sector_definitions.specs.Inodes.{inode_in}
+use Rattle.disk_definitions.specs.declared.region.Region.TheVariants as region
+use Rattle.disk_definitions.specs.Regions.{sector_of}
+use Rattle.disk_definitions.specs.Inodes.{inode_in}
 use Rattle.sector_bytes.specs.Sectors.{sectors_of}
 use Rattle.disk_reading.specs.Fits.{inode_fits}
 use Rattle.disk_reading.proofs.SectorFits.{told_some, told_none}

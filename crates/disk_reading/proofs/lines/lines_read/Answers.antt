@@ -2,7 +2,7 @@
 use Rattle.std.proofs.Common.{◌≡◌, ◌*◌, Some, IfOk, sym, ◌∙◌, ap, subst}
 use Rattle.std.proofs.lemmas.Result.{IfOk-weaker}
 use Rattle.tree_definitions.specs.TreeLines.{tree_lines}
-use Rattle.sector_definitions.specs.Params.{param_in}
+use Rattle.disk_definitions.specs.Params.{param_in}
 use Rattle.sector_bytes.specs.Sectors.{sectors_of}
 use Rattle.standing_laws.specs.ReadTree.{read_tree}
 use Rattle.disk_reading.specs.Lined.{NodesAgree}

@@ -2,8 +2,8 @@
 use Rattle.std.proofs.Common.{◌≡◌, ℕ, ◌*◌, Bool, true, false, Some, List, sym, subst}
 use Rattle.frang_base.specs.declared.limits.TheConstants.{RUN_VERSIONS_MAX}
 use Rattle.tree_definitions.specs.declared.node.Node.{Node}
-use Rattle.sector_definitions.specs.Params.{param_in}
-use Rattle.sector_definitions.proofs.ParamLaws.{few_segments}
+use Rattle.disk_definitions.specs.Params.{param_in}
+use Rattle.disk_definitions.proofs.ParamLaws.{few_segments}
 use Rattle.sector_bytes.specs.Sectors.{Sectors, sectors_of}
 use Rattle.disk_reading.specs.Reading.{IsReading}
 use Rattle.disk_reading.specs.Tests.{IsSoundReading}

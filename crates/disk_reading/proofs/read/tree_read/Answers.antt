@@ -1,6 +1,6 @@
 -- What is decoded once is the disk.
 use Rattle.std.proofs.Common.{◌≡◌, Some, sym, ◌∙◌, ap, subst, IfOk}
-use Rattle.sector_definitions.specs.Params.{param_in}
+use Rattle.disk_definitions.specs.Params.{param_in}
 use Rattle.sector_bytes.specs.Sectors.{sectors_of}
 use Rattle.disk_reading.specs.Reading.{IsReading}
 use Rattle.disk_reading.proofs.read.tree_read.Goals as goal

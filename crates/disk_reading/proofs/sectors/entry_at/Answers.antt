@@ -2,9 +2,9 @@
 use Rattle.std.proofs.Common.{◌≡◌, ◌*◌, ◌/◌, ◌%◌, ◌<◌, Some, length, true, false, rules, eq-eqb, ne_eqb, get_or, []}
 use Rattle.std.specs.List.{slice_get}
 use Rattle.std.proofs.lemmas.Option.{slice_get-get_or}
-use Rattle.sector_definitions.specs.declared.region.Region.TheVariants as region
-use Rattle.sector_definitions.specs.Regions.{sector_of}
-use Rattle.sector_definitions.specs.Directories.{directory_in}
+use Rattle.disk_definitions.specs.declared.region.Region.TheVariants as region
+use Rattle.disk_definitions.specs.Regions.{sector_of}
+use Rattle.disk_definitions.specs.Directories.{directory_in}
 use Rattle.sector_bytes.specs.Sectors.{sectors_of}
 use Rattle.disk_reading.specs.Seen.{store_in}
 use Rattle.disk_reading.proofs.Decoded.{entry_is, proper_entry}

@@ -1,9 +1,9 @@
 -- An inode whose kind isn't 0 is in use.
 use Rattle.std.proofs.Common.{◌≡◌, ◌*◌, ◌<◌, Some, sym, ◌∙◌, rules}
-use Rattle.sector_definitions.specs.declared.region.Region.TheVariants as region
-use Rattle.sector_definitions.specs.Regions.{sector_of}
-use Rattle.sector_definitions.specs.Inodes.{inode_in}
-use Rattle.sector_definitions.proofs.InodeLaws.{inode_read}
+use Rattle.disk_definitions.specs.declared.region.Region.TheVariants as region
+use Rattle.disk_definitions.specs.Regions.{sector_of}
+use Rattle.disk_definitions.specs.Inodes.{inode_in}
+use Rattle.disk_definitions.proofs.InodeLaws.{inode_read}
 use Rattle.sector_bytes.specs.Sectors.{sectors_of}
 use Rattle.disk_reading.specs.Seen.{store_in}
 use Rattle.disk_reading.proofs.Decoded.{used_is}

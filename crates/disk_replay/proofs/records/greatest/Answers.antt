@@ -1,6 +1,6 @@
 -- By the records of the log.
 use Rattle.std.proofs.Common.{ap, ◌∙◌}
-use Rattle.log_definitions.specs.Logs.{greatest_operation}
+use Rattle.disk_definitions.specs.Logs.{greatest_operation}
 use Rattle.disk_replay.proofs.records.greatest.Goals as goal
 
 pub returns : goal.returns

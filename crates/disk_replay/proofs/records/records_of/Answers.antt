@@ -3,9 +3,9 @@ use Rattle.std.proofs.Common.{[], sym, ap, ◌∙◌}
 use Rattle.std.specs.Prelude.{slice_index_or}
 use Rattle.std.proofs.lemmas.List.Elements.{All-same}
 use Rattle.sector_bytes.specs.Sectors.{sectors_of}
-use Rattle.log_definitions.specs.Logs.{Slots, log_records}
-use Rattle.log_definitions.specs.Replay.{slots_of}
-use Rattle.log_definitions.proofs.SameLogs.{zero_log_records}
+use Rattle.disk_definitions.specs.Logs.{Slots, log_records}
+use Rattle.disk_definitions.specs.Replay.{slots_of}
+use Rattle.disk_definitions.proofs.SameLogs.{zero_log_records}
 use Rattle.disk_replay.specs.Laid.{HoldsChanges}
 use Rattle.disk_replay.proofs.FittingRecords.{log_holds}
 use Rattle.disk_replay.proofs.ReadSlots.{same_records}

@@ -1,7 +1,7 @@
 use Rattle.std.proofs.Common.{◌≡◌, ◌<◌, ℕ, [], length}
 use Rattle.std.specs.Prelude.{slice_index_or}
 use Rattle.sector_bytes.specs.Sectors.{sectors_of}
-use Rattle.log_definitions.specs.Replay as replays
+use Rattle.disk_definitions.specs.Replay as replays
 use Rattle.disk_replay.proofs.records.slots_of.Given as goal
 
 abbrev pub invariant-loop-slot : goal.invariant-loop-slot

@@ -1,6 +1,6 @@
 -- The changes of all logs are laid, and then the logs are made zero.
 use Rattle.std.proofs.Common.{◌≡◌, ap, ◌∙◌}
-use Rattle.sector_definitions.specs.Params.{param_in}
+use Rattle.disk_definitions.specs.Params.{param_in}
 use Rattle.sector_bytes.specs.Sectors.{sectors_of}
 use Rattle.disk_replay.proofs.ReplayedDisk.{erased_is_replayed, few}
 use Rattle.disk_replay.proofs.replay.replay_with_greatest.Goals as goal

@@ -2,7 +2,7 @@
 use Rattle.std.proofs.Common.{◌≡◌, ℕ, subst}
 use Rattle.std.specs.Prelude.{IfOk}
 use Rattle.sector_bytes.specs.Sectors.{sectors_of, Sectors}
-use Rattle.log_definitions.specs.Replay.{replayed}
+use Rattle.disk_definitions.specs.Replay.{replayed}
 use Rattle.disk_replay.proofs.replay.replayed.Goals as goal
 
 pub returns : goal.returns

@@ -1,6 +1,6 @@
 -- Of the blocks that are left one is this where one of all is.
 use Rattle.std.proofs.Common.{◌≡◌, slice_index, is_some}
-use Rattle.store_changes.specs.Resizing.{index_in}
+use Rattle.disk_definitions.specs.Resizing.{index_in}
 use Rattle.edit_moves.proofs.said.has_small.Given as goal
 
 abbrev pub decreases-loop-left : goal.decreases-loop-left

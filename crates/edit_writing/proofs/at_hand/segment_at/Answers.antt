@@ -1,7 +1,7 @@
 -- By where the sector lies.
 use Rattle.std.proofs.Common.{ap, sym, ◌∙◌, arith}
 use Rattle.std.specs.Option.{option_map}
-use Rattle.sector_definitions.specs.Bitmaps.{bitmap_bytes}
+use Rattle.disk_definitions.specs.Bitmaps.{bitmap_bytes}
 use Rattle.edit_writing.proofs.AtHand.{before_segments, past_segments, segment_sector}
 use Rattle.edit_writing.proofs.at_hand.segment_at.Goals as goal
 

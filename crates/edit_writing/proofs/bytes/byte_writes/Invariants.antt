@@ -1,6 +1,6 @@
 -- The writes so far, and then those of the edits that are left, are all.
 use Rattle.std.proofs.Common.{◌≡◌, ◌++◌, map, drop}
-use Rattle.plan_definitions.specs.Written as written
+use Rattle.disk_definitions.specs.Written as written
 use Rattle.dir_lookup.specs.Planned.{write_by}
 use Rattle.plan_steps.specs.Edits.{edits_of}
 use Rattle.edit_writing.proofs.bytes.byte_writes.Given as goal

@@ -2,8 +2,8 @@
 use Rattle.std.proofs.Common.{◌∙◌, ap}
 use Rattle.std.specs.List.{filter_map}
 use Rattle.std.specs.Map.{keys_of}
-use Rattle.plan_definitions.specs.Written as written
-use Rattle.plan_definitions.specs.Written.{all_edited}
+use Rattle.disk_definitions.specs.Written as written
+use Rattle.disk_definitions.specs.Written.{all_edited}
 use Rattle.plan_steps.specs.Edits.{edits_of}
 use Rattle.edit_writing.specs.Sectors.{at_hand, has_next_version}
 use Rattle.edit_writing.proofs.Changed.{key_passes, turn_some, turn_none}

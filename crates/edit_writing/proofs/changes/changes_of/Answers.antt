@@ -1,7 +1,7 @@
 -- The sectors are those of the edits, in order.
 use Rattle.std.proofs.Common.{◌≡◌, ◌∙◌, [], fold}
 use Rattle.std.specs.List.{filter_map}
-use Rattle.plan_definitions.specs.Written.{metadata_sector, with_number}
+use Rattle.disk_definitions.specs.Written.{metadata_sector, with_number}
 use Rattle.plan_steps.specs.Edits.{edits_of}
 use Rattle.edit_writing.specs.Sectors.{at_hand, has_next_version}
 use Rattle.edit_writing.proofs.Changed.{ordered_all}

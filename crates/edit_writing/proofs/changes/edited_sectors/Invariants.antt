@@ -1,7 +1,7 @@
 -- The sectors so far, and then those of the edits that are left, are all.
 use Rattle.std.proofs.Common.{◌≡◌, fold, drop, []}
 use Rattle.std.specs.List.{filter_map}
-use Rattle.plan_definitions.specs.Written.{metadata_sector, with_number}
+use Rattle.disk_definitions.specs.Written.{metadata_sector, with_number}
 use Rattle.plan_steps.specs.Edits.{edits_of}
 use Rattle.edit_writing.proofs.changes.edited_sectors.Given as goal
 

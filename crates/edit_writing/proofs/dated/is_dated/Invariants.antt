@@ -1,7 +1,7 @@
 -- One of the edits that are left does so where one of all does.
 use Rattle.std.proofs.Common.{◌≡◌, drop}
 use Rattle.std.specs.List.{list_any}
-use Rattle.plan_definitions.specs.Written.{dates}
+use Rattle.disk_definitions.specs.Written.{dates}
 use Rattle.plan_steps.specs.Edits.{edits_of}
 use Rattle.edit_writing.proofs.dated.is_dated.Given as goal
 

@@ -1,9 +1,9 @@
 -- The sectors of the parts so far are added.
 use Rattle.std.proofs.Common.{◌≡◌, fold, map}
 use Rattle.tree_definitions.specs.Numbers.{below}
-use Rattle.sector_definitions.specs.Regions.{sector_of}
-use Rattle.sector_definitions.specs.declared.region.Region.TheVariants as region
-use Rattle.plan_definitions.specs.Written.{with_number}
+use Rattle.disk_definitions.specs.Regions.{sector_of}
+use Rattle.disk_definitions.specs.declared.region.Region.TheVariants as region
+use Rattle.disk_definitions.specs.Written.{with_number}
 use Rattle.edit_writing.proofs.freed.add_large.Given as goal
 
 abbrev pub invariant-loop-part : goal.invariant-loop-part

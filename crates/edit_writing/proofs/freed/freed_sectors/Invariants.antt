@@ -1,7 +1,7 @@
 -- The sectors so far, and then those that are left, are all.
 use Rattle.std.proofs.Common.{◌≡◌, ◌++◌, drop, map}
 use Rattle.std.specs.Map.{keys_of}
-use Rattle.plan_definitions.specs.Written as written
+use Rattle.disk_definitions.specs.Written as written
 use Rattle.dir_lookup.specs.Planned.{sector_by}
 use Rattle.plan_steps.specs.Edits.{edits_of}
 use Rattle.edit_writing.proofs.freed.freed_sectors.Given as goal

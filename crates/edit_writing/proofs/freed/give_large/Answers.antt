@@ -1,7 +1,7 @@
 -- By the bit, which is clear.
 use Rattle.std.proofs.Common.{◌≡◌, OnOk, fold, subst, sym}
-use Rattle.store_changes.specs.Edits.Edit.{SetLarge}
-use Rattle.plan_definitions.specs.Written.{sectors_given_back, with_number}
+use Rattle.disk_definitions.specs.Edits.Edit.{SetLarge}
+use Rattle.disk_definitions.specs.Written.{sectors_given_back, with_number}
 use Rattle.edit_writing.proofs.freed.give_large.Goals as goal
 
 pub returns : goal.returns

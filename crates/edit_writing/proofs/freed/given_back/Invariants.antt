@@ -1,7 +1,7 @@
 -- What is given back so far, and then by the edits that are left, is what all give back.
 use Rattle.std.proofs.Common.{◌≡◌, fold, drop, []}
 use Rattle.std.specs.List.{flat_map}
-use Rattle.plan_definitions.specs.Written.{sectors_given_back, with_number}
+use Rattle.disk_definitions.specs.Written.{sectors_given_back, with_number}
 use Rattle.plan_steps.specs.Edits.{edits_of}
 use Rattle.edit_writing.proofs.freed.given_back.Given as goal
 

@@ -1,7 +1,7 @@
 -- One part more in each turn.
 use Rattle.std.proofs.Common.{◌≡◌, ◌∙◌, ◌++◌, ap, arith, length}
 use Rattle.report_definitions.specs.Sums.{gathered}
-use Rattle.fsck_report.specs.Told.{faults_told}
+use Rattle.report_json.specs.Told.{faults_told}
 use Rattle.fsck_report.proofs.Gathered.{part_more}
 use Rattle.fsck_report.proofs.checking.append_all.Goals as goal
 

@@ -3,8 +3,9 @@ use Rattle.std.specs.Prelude.{Vec}
 use Rattle.std.specs.Global.{Global}
 use Rattle.frang_base.specs.declared.fault.NoMemory.{NoMemory}
 use Rattle.report_definitions.specs.Sums as sums
-use Rattle.fsck_report.specs.declared.report.Fault.{Fault}
-use Rattle.fsck_report.specs.Told.{faults_told, IsPart}
+use Rattle.report_json.specs.declared.report.Fault.{Fault}
+use Rattle.report_json.specs.Told.{faults_told}
+use Rattle.fsck_report.specs.Told.{IsPart}
 use Rattle.fsck_report.proofs.checking.append_all.Given as goal
 
 abbrev pub invariant-loop-part : goal.invariant-loop-part

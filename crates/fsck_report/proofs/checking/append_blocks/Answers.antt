@@ -6,10 +6,11 @@ use Rattle.frang_base.specs.declared.fault.NoMemory.{NoMemory}
 use Rattle.disk_reading.specs.Marks.{flag_at}
 use Rattle.report_definitions.specs.Sums.{Fault as Pair, gathered}
 use Rattle.report_definitions.specs.Report as report
-use Rattle.fsck_report.specs.declared.report.Fault.{Fault}
+use Rattle.report_json.specs.declared.report.Fault.{Fault}
 use Rattle.report_rules.specs.Seen.{view_in}
 use Rattle.fsck_report.specs.Parts.{block_part}
-use Rattle.fsck_report.specs.Told.{faults_told, AreParts}
+use Rattle.report_json.specs.Told.{faults_told}
+use Rattle.fsck_report.specs.Told.{AreParts}
 use Rattle.fsck_report.proofs.Gathered.{gathered_rows}
 use Rattle.fsck_report.proofs.checking.append_blocks.Goals as goal
 

@@ -7,10 +7,11 @@ use Rattle.disk_reading.specs.Marks.{flag_at}
 use Rattle.disk_reading.specs.Seen.{store_in}
 use Rattle.report_definitions.specs.Sums.{Fault as Pair, gathered}
 use Rattle.report_definitions.specs.Report as report
-use Rattle.fsck_report.specs.declared.report.Fault.{Fault}
+use Rattle.report_json.specs.declared.report.Fault.{Fault}
 use Rattle.report_rules.specs.Seen.{stored}
 use Rattle.fsck_report.specs.Parts.{inode_part}
-use Rattle.fsck_report.specs.Told.{faults_told, AreParts}
+use Rattle.report_json.specs.Told.{faults_told}
+use Rattle.fsck_report.specs.Told.{AreParts}
 use Rattle.fsck_report.proofs.Gathered.{gathered_rows}
 use Rattle.fsck_report.proofs.checking.append_inodes.Goals as goal
 

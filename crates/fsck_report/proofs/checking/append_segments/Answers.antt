@@ -4,9 +4,10 @@ use Rattle.std.specs.Prelude.{Vec}
 use Rattle.std.specs.Global.{Global}
 use Rattle.frang_base.specs.declared.fault.NoMemory.{NoMemory}
 use Rattle.report_definitions.specs.Sums.{Fault as Pair, gathered}
-use Rattle.fsck_report.specs.declared.report.Fault.{Fault}
+use Rattle.report_json.specs.declared.report.Fault.{Fault}
 use Rattle.fsck_report.specs.Parts.{segment_part}
-use Rattle.fsck_report.specs.Told.{faults_told, AreParts}
+use Rattle.report_json.specs.Told.{faults_told}
+use Rattle.fsck_report.specs.Told.{AreParts}
 use Rattle.fsck_report.proofs.checking.append_segments.Goals as goal
 
 pub returns : goal.returns

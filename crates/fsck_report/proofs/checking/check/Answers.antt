@@ -1,11 +1,11 @@
 -- Of the replayed disk, which has the same parameters.
 use Rattle.std.proofs.Common.{◌≡◌, ◌↔◌, true, is_some, IfOk, ◌∙◌, ap, subst, arith, rules}
 use Rattle.sector_bytes.specs.Sectors.{sectors_of}
-use Rattle.sector_definitions.specs.Params.{param_in}
-use Rattle.log_definitions.specs.Replay.{replayed}
+use Rattle.disk_definitions.specs.Params.{param_in}
+use Rattle.disk_definitions.specs.Replay.{replayed}
 use Rattle.report_definitions.specs.Laws.{StandsForSome}
 use Rattle.report_definitions.specs.Report.{IsReport}
-use Rattle.fsck_report.specs.Told.{told}
+use Rattle.report_json.specs.Told.{told}
 use Rattle.fsck_report.proofs.Reported.{all_same, param_kept}
 use Rattle.fsck_report.proofs.checking.check.Goals as goal
 

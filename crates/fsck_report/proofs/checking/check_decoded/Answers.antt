@@ -2,7 +2,7 @@
 use Rattle.std.proofs.Common.{◌*◌, subst}
 use Rattle.std.proofs.lemmas.Result.{IfOk-weaker}
 use Rattle.sector_bytes.specs.Sectors.{sectors_of}
-use Rattle.sector_definitions.proofs.ParamLaws.{few_segments}
+use Rattle.disk_definitions.proofs.ParamLaws.{few_segments}
 use Rattle.disk_reading.proofs.Treed.{some_segments}
 use Rattle.report_rules.specs.Seen.{view_in}
 use Rattle.fsck_report.specs.Told.{IsReportOf}

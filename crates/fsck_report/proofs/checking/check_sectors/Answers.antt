@@ -2,9 +2,9 @@
 use Rattle.std.proofs.Common.{◌≡◌, Some, IfOk, refl, sym, ◌∙◌, ap, subst, arith, rules}
 use Rattle.std.proofs.lemmas.Result.{IfOk-weaker}
 use Rattle.sector_bytes.specs.Sectors.{sectors_of}
-use Rattle.sector_definitions.specs.Params.{param_in}
+use Rattle.disk_definitions.specs.Params.{param_in}
 use Rattle.report_definitions.specs.Report.{IsReport}
-use Rattle.fsck_report.specs.Told.{told}
+use Rattle.report_json.specs.Told.{told}
 use Rattle.fsck_report.proofs.Stands.{stands_told}
 use Rattle.fsck_report.proofs.checking.check_sectors.Goals as goal
 

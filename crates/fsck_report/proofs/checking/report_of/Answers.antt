@@ -5,7 +5,7 @@ use Rattle.disk_reading.specs.Seen.{store_in}
 use Rattle.report_definitions.specs.Report.{faults_of, is_nothing}
 use Rattle.report_rules.specs.Seen.{view_in}
 use Rattle.report_rules.proofs.UsedBlocks.{small_counted, large_counted}
-use Rattle.fsck_report.specs.Told.{faults_told}
+use Rattle.report_json.specs.Told.{faults_told}
 use Rattle.fsck_report.proofs.checking.report_of.Goals as goal
 
 pub returns : goal.returns

@@ -4,7 +4,7 @@ use Rattle.disk_reading.specs.Seen.{store_in}
 use Rattle.report_definitions.specs.Sums.{gathered}
 use Rattle.report_definitions.specs.Report as report
 use Rattle.report_rules.specs.Seen.{stored}
-use Rattle.fsck_report.specs.Told.{faults_told}
+use Rattle.report_json.specs.Told.{faults_told}
 use Rattle.fsck_report.proofs.faults.inode_faults.Given as goal
 
 abbrev pub invariant-loop-j : goal.invariant-loop-j

@@ -4,7 +4,7 @@ use Rattle.disk_reading.specs.Marks.{flag_at}
 use Rattle.report_definitions.specs.Sums.{gathered}
 use Rattle.report_definitions.specs.Report as report
 use Rattle.report_rules.specs.Seen.{view_in}
-use Rattle.fsck_report.specs.Told.{faults_told}
+use Rattle.report_json.specs.Told.{faults_told}
 use Rattle.fsck_report.proofs.Gathered.{gathered_more}
 use Rattle.fsck_report.proofs.faults.part_faults.Goals as goal
 

@@ -3,7 +3,7 @@ use Rattle.disk_reading.specs.Marks.{flag_at}
 use Rattle.report_definitions.specs.Sums.{gathered}
 use Rattle.report_definitions.specs.Report.{part_faults}
 use Rattle.report_rules.specs.Seen.{view_in}
-use Rattle.fsck_report.specs.Told.{faults_told}
+use Rattle.report_json.specs.Told.{faults_told}
 use Rattle.fsck_report.proofs.faults.part_faults.Given as goal
 
 abbrev pub invariant-loop-j : goal.invariant-loop-j

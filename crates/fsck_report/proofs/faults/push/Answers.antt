@@ -1,10 +1,10 @@
 -- Nothing more where the sector is fine, and else its fault.
 use Rattle.std.proofs.Common.{◌≡◌, ℕ, ◌∙◌, ◌++◌, [], ◌∷◌, true, false, Bool, List, ap, sym, append-nil}
 use Rattle.std.proofs.lemmas.List.{map-append}
-use Rattle.sector_definitions.specs.Regions.{sector_of}
+use Rattle.disk_definitions.specs.Regions.{sector_of}
 use Rattle.report_definitions.specs.Sums.{Fault as Pair}
 use Rattle.report_definitions.specs.Report.{fault_unless}
-use Rattle.fsck_report.specs.Told.{fault_told, faults_told}
+use Rattle.report_json.specs.Told.{fault_told, faults_told}
 use Rattle.fsck_report.proofs.faults.push.Goals as goal
 
 pub returns-then-fine : goal.returns-then-fine

@@ -1,11 +1,11 @@
 -- Four rules, pushed one after another.
-use Rattle.sector_definitions.specs.declared.region.Region.TheVariants as region
-use Rattle.sector_definitions.specs.Regions.{sector_of}
+use Rattle.disk_definitions.specs.declared.region.Region.TheVariants as region
+use Rattle.disk_definitions.specs.Regions.{sector_of}
 use Rattle.disk_reading.specs.Marks.{flag_at}
 use Rattle.disk_reading.specs.Seen.{store_in}
 use Rattle.report_definitions.specs.Rules as rules
 use Rattle.report_rules.specs.Seen.{stored}
-use Rattle.fsck_report.specs.Told.{faults_told}
+use Rattle.report_json.specs.Told.{faults_told}
 use Rattle.fsck_report.proofs.Pushed.{four_pushed}
 use Rattle.fsck_report.proofs.faults.push_inode.Goals as goal
 

@@ -1,13 +1,13 @@
 -- Three rules, pushed one after another.
 use Rattle.std.proofs.Common.{◌≡◌, ◌++◌, List, [], ◌∙◌, ap}
-use Rattle.sector_definitions.specs.declared.region.Region.TheVariants as region
-use Rattle.sector_definitions.specs.Regions.{sector_of}
+use Rattle.disk_definitions.specs.declared.region.Region.TheVariants as region
+use Rattle.disk_definitions.specs.Regions.{sector_of}
 use Rattle.disk_reading.specs.Marks.{flag_at}
 use Rattle.report_definitions.specs.Sums.{Fault}
 use Rattle.report_definitions.specs.Report.{fault_unless}
 use Rattle.report_definitions.specs.Rules as rule
 use Rattle.report_rules.specs.Seen.{view_in}
-use Rattle.fsck_report.specs.Told.{faults_told}
+use Rattle.report_json.specs.Told.{faults_told}
 use Rattle.fsck_report.proofs.Pushed.{three_pushed}
 use Rattle.fsck_report.proofs.faults.segment_faults.Goals as goal
 

@@ -1,11 +1,11 @@
 -- By the report of the replayed disk, which has the same parameters.
 use Rattle.std.proofs.Common.{◌≡◌, ◌∙◌, [], ◌∷◌, ◌++◌, ap, subst, true, is_some, arith, rules}
 use Rattle.frang_base.specs.declared.said.Said.TheVariants as said
-use Rattle.sector_definitions.specs.Params.{param_in}
+use Rattle.disk_definitions.specs.Params.{param_in}
 use Rattle.sector_bytes.specs.Sectors.{sectors_of}
-use Rattle.log_definitions.specs.Replay.{replayed}
+use Rattle.disk_definitions.specs.Replay.{replayed}
 use Rattle.report_definitions.specs.Report.{IsReport}
-use Rattle.fsck_report.specs.Told.{told}
+use Rattle.report_json.specs.Told.{told}
 use Rattle.fsck_report.proofs.Reported.{all_same}
 use Rattle.image_commands.proofs.LineLaws.{has_param}
 use Rattle.image_commands.proofs.lines.check_said.Goals as goal

@@ -2,7 +2,7 @@
 use Rattle.std.proofs.Common.{sym, ◌∙◌, subst, ◌≡◌, true, is_some, arith, rules}
 use Rattle.std.proofs.lemmas.Bool.{false≢true}
 use Rattle.frang_base.specs.declared.limits.TheConstants.{LOGS}
-use Rattle.sector_definitions.specs.Params.{param_in}
+use Rattle.disk_definitions.specs.Params.{param_in}
 use Rattle.sector_bytes.specs.Sectors.{sectors_of}
 use Rattle.disk_replay.specs.Laid.{AreGreatest}
 use Rattle.image_commands.specs.Lines.{recovered_below, EndsWithTree}

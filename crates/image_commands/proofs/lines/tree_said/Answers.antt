@@ -1,7 +1,7 @@
 -- By whether the replayed disk stands for a tree.
 use Rattle.std.proofs.Common.{[], sym, ◌∙◌, subst, ◌≡◌, true, is_some, arith, rules}
 use Rattle.std.proofs.lemmas.Bool.{false≢true}
-use Rattle.sector_definitions.specs.Params.{param_in}
+use Rattle.disk_definitions.specs.Params.{param_in}
 use Rattle.sector_bytes.specs.Sectors.{sectors_of}
 use Rattle.image_commands.specs.Lines.{EndsWithTree}
 use Rattle.image_commands.proofs.LineLaws.{has_param, none_told, tree_told}

@@ -1,5 +1,5 @@
 -- The patches are those between the written blocks.
-use Rattle.sector_definitions.specs.Inodes.{inode_bytes}
+use Rattle.disk_definitions.specs.Inodes.{inode_bytes}
 use Rattle.sector_bytes.proofs.PatchLaws.{same_patches}
 use Rattle.inode_block.proofs.differences.patches.Goals as goal
 

@@ -1,7 +1,7 @@
 -- A reading compares the block with the bytes of what it found.
 use Rattle.std.proofs.Common.{sym, ◌∙◌}
-use Rattle.sector_definitions.specs.Inodes.{inode_bytes, inode_fits, inode_fields}
-use Rattle.sector_definitions.proofs.Readings.{reads_none, reads_same}
+use Rattle.disk_definitions.specs.Inodes.{inode_bytes, inode_fits, inode_fields}
+use Rattle.disk_definitions.proofs.Readings.{reads_none, reads_same}
 use Rattle.inode_block.proofs.reading.decode.Goals as goal
 
 pub returns-then-not-fits : goal.returns-then-not-fits

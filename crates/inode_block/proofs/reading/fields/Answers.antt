@@ -1,8 +1,8 @@
 -- Each field is what stands at its place.
 use Rattle.std.proofs.Common.{refl}
-use Rattle.sector_definitions.specs.Inodes.{inode_fields}
-use Rattle.sector_definitions.proofs.InodeLaws.{same_fields}
-use Rattle.sector_definitions.proofs.WrittenFields.{read_at}
+use Rattle.disk_definitions.specs.Inodes.{inode_fields}
+use Rattle.disk_definitions.proofs.InodeLaws.{same_fields}
+use Rattle.disk_definitions.proofs.WrittenFields.{read_at}
 use Rattle.inode_block.proofs.reading.fields.Goals as goal
 
 pub returns : goal.returns

@@ -1,7 +1,7 @@
 -- The numbers of the small blocks are read one after the other.
 use Rattle.std.proofs.Common.{◌∙◌, drop, arith}
 use borrow.Rule.Slice.PartMut.{mid_of}
-use Rattle.sector_definitions.proofs.InodeLaws.{numbers_read, numbers_take}
+use Rattle.disk_definitions.proofs.InodeLaws.{numbers_read, numbers_take}
 use Rattle.inode_block.proofs.reading.read_small.Goals as goal
 
 pub returns : goal.returns

@@ -1,6 +1,6 @@
 -- The target is the rest of the block.
 use Rattle.std.proofs.Common.{◌∙◌}
-use Rattle.sector_definitions.proofs.WrittenFields.{rest_of}
+use Rattle.disk_definitions.proofs.WrittenFields.{rest_of}
 use Rattle.inode_block.proofs.reading.read_target.Goals as goal
 
 pub returns : goal.returns

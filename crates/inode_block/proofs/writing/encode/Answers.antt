@@ -3,8 +3,8 @@ use Rattle.std.proofs.Common.{refl, take, arith}
 use Rattle.std.specs.List.{flat_map}
 use Rattle.byteorder.specs.Endian.{little_bytes}
 use Rattle.sector_bytes.specs.Bytes.{zeros}
-use Rattle.sector_definitions.specs.Inodes.{inode_bytes}
-use Rattle.sector_definitions.proofs.WrittenFields.{front_first, front_more, front_part, front_last}
+use Rattle.disk_definitions.specs.Inodes.{inode_bytes}
+use Rattle.disk_definitions.proofs.WrittenFields.{front_first, front_more, front_part, front_last}
 use Rattle.inode_block.proofs.writing.encode.Goals as goal
 
 pub returns : goal.returns

@@ -1,9 +1,9 @@
 -- By what the walks come to.
 use Rattle.std.proofs.Common.{IfOk, sym, subst, ap, ◌∙◌}
 use Rattle.tree_definitions.specs.Perform.{Resolved}
-use Rattle.plan_definitions.specs.Ask.{Ask}
-use Rattle.plan_definitions.specs.Plans.{Plan}
-use Rattle.line_definitions.specs.Lines.{plan_of_line, plan_step, resolved}
+use Rattle.disk_definitions.specs.Ask.{Ask}
+use Rattle.disk_definitions.specs.Plans.{Plan}
+use Rattle.disk_definitions.specs.Lines.{plan_of_line, plan_step, resolved}
 use Rattle.dir_lookup.specs.Reading.{Gives, Lacks}
 use Rattle.dir_lookup.specs.Hands.{seen}
 use Rattle.plan_steps.proofs.Examining.{as_examined}

@@ -1,6 +1,6 @@
 -- Looks, and operations on bytes.
 use Rattle.std.proofs.Common.{◌≡◌, Err, [], List, ℕ, rules, subst, sym, ap, ◌∙◌}
-use Rattle.plan_definitions.specs.PlanOf.{plan_of}
+use Rattle.disk_definitions.specs.PlanOf.{plan_of}
 use Rattle.dir_lookup.specs.Hands.{over, seen}
 use Rattle.plan_steps.specs.declared.stop.Stop.{Stop}
 use Rattle.plan_steps.specs.declared.stop.Stop.TheVariants as stop

@@ -1,7 +1,7 @@
 -- The operation that comes of the walks, or their refusal.
 use Rattle.std.proofs.Common.{[], List, ℕ, IfOk, refl, sym, subst, ap, ◌∙◌}
-use Rattle.plan_definitions.specs.PlanOf.{plan_of}
-use Rattle.line_definitions.specs.Lines.{plan_step, with_trail}
+use Rattle.disk_definitions.specs.PlanOf.{plan_of}
+use Rattle.disk_definitions.specs.Lines.{plan_step, with_trail}
 use Rattle.dir_lookup.specs.Hands.{over, seen}
 use Rattle.dir_lookup.specs.Reading.{Gives, reading}
 use Rattle.dir_lookup.proofs.Looking.{adds_as, adds_none}

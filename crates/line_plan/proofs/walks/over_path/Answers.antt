@@ -1,7 +1,7 @@
 -- By what the walk comes to.
 use Rattle.std.proofs.Common.{[], sym, ap, ◌∙◌}
-use Rattle.line_definitions.specs.Resolving.{resolve}
-use Rattle.line_definitions.specs.Lines.{by_path}
+use Rattle.disk_definitions.specs.Resolving.{resolve}
+use Rattle.disk_definitions.specs.Lines.{by_path}
 use Rattle.dir_lookup.specs.Reading.{Gives, Lacks}
 use Rattle.dir_lookup.proofs.Searches.{goes_on}
 use Rattle.file_tree.specs.Walks.{with_path}

@@ -1,6 +1,6 @@
 -- Where the first walk found a node, the second one goes on.
 use Rattle.std.proofs.Common.{◌≡◌, true, IfOk, sym, subst, ap, ◌∙◌}
-use Rattle.line_definitions.specs.Lines.{by_first, by_second, is_found}
+use Rattle.disk_definitions.specs.Lines.{by_first, by_second, is_found}
 use Rattle.dir_lookup.specs.Reading.{reading}
 use Rattle.file_tree.specs.Walks.{with_paths}
 use Rattle.namei.specs.Walks.{end_of}

@@ -1,8 +1,8 @@
 -- The bytes of a sector more, until enough are there or none go on.
 use Rattle.std.proofs.Common.{◌++◌, [], length, take, min, sym, ap, ◌∙◌}
-use Rattle.sector_definitions.specs.declared.log_sector.LogSector.{LogSector}
-use Rattle.log_definitions.specs.Frames.{frame_most}
-use Rattle.log_definitions.specs.Logs.{bytes_on}
+use Rattle.disk_definitions.specs.declared.log_sector.LogSector.{LogSector}
+use Rattle.disk_definitions.specs.Frames.{frame_most}
+use Rattle.disk_definitions.specs.Logs.{bytes_on}
 use Rattle.log_reading.proofs.Steps.{bytes_more}
 use Rattle.log_reading.proofs.frames.push_bytes_on.Goals as goal
 

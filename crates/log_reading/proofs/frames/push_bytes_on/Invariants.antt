@@ -1,6 +1,6 @@
 use Rattle.std.proofs.Common.{◌≡◌, ◌++◌, take, drop}
-use Rattle.log_definitions.specs.Frames.{frame_most}
-use Rattle.log_definitions.specs.Logs.{bytes_on}
+use Rattle.disk_definitions.specs.Frames.{frame_most}
+use Rattle.disk_definitions.specs.Logs.{bytes_on}
 use Rattle.log_reading.proofs.frames.push_bytes_on.Given as goal
 
 abbrev pub invariant-loop-sector : goal.invariant-loop-sector

@@ -1,7 +1,7 @@
 -- The record of a frame more.
 use Rattle.std.proofs.Common.{◌≡◌, ◌+◌, ◌-◌, ◌++◌, [], length, sym, ap, ◌∙◌, arith}
 use Rattle.std.specs.List.{cons_option}
-use Rattle.log_definitions.specs.Frames.{Frame, frames_among}
+use Rattle.disk_definitions.specs.Frames.{Frame, frames_among}
 use Rattle.log_reading.proofs.Steps.{framed_more}
 use Rattle.log_reading.proofs.frames.push_framed.Goals as goal
 

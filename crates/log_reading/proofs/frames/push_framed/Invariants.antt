@@ -1,5 +1,5 @@
 use Rattle.std.proofs.Common.{◌≡◌, ◌++◌}
-use Rattle.log_definitions.specs.Frames.{frames_among}
+use Rattle.disk_definitions.specs.Frames.{frames_among}
 use Rattle.log_reading.proofs.frames.push_framed.Given as goal
 
 abbrev pub invariant-loop-left : goal.invariant-loop-left

@@ -1,7 +1,7 @@
 -- What was read once is read as the definition reads it.
 use Rattle.std.proofs.Common.{[], ap, ◌∙◌}
 use Rattle.std.specs.Prelude.{slice_index_or}
-use Rattle.log_definitions.specs.Logs.{Slots, records_among, sectors_read}
+use Rattle.disk_definitions.specs.Logs.{Slots, records_among, sectors_read}
 use Rattle.log_reading.specs.Decoded.{end_of, sectors_up_to}
 use Rattle.log_reading.proofs.Words.{end_is, sectors_are}
 use Rattle.log_reading.proofs.read.read_log.Goals as goal

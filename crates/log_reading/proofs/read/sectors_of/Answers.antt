@@ -2,7 +2,7 @@
 use Rattle.std.proofs.Common.{◌≡◌, [], ◌∷◌, ◌++◌, map, sym, ap, ◌∙◌, arith}
 use Rattle.std.specs.Prelude.{slice_index_or}
 use Rattle.tree_definitions.specs.Numbers.{below}
-use Rattle.sector_definitions.specs.LogSectors.{log_sector_in}
+use Rattle.disk_definitions.specs.LogSectors.{log_sector_in}
 use Rattle.log_reading.specs.Decoded.{decoded}
 use Rattle.log_reading.proofs.Windows.{map_more}
 use Rattle.log_reading.proofs.read.sectors_of.Goals as goal

@@ -1,7 +1,7 @@
 use Rattle.std.proofs.Common.{◌≡◌, [], map}
 use Rattle.std.specs.Prelude.{slice_index_or}
 use Rattle.tree_definitions.specs.Numbers.{below}
-use Rattle.sector_definitions.specs.LogSectors.{log_sector_in}
+use Rattle.disk_definitions.specs.LogSectors.{log_sector_in}
 use Rattle.log_reading.proofs.read.sectors_of.Given as goal
 
 abbrev pub invariant-loop-slot : goal.invariant-loop-slot

@@ -1,6 +1,6 @@
 use Rattle.std.proofs.Common.{◌≡◌, drop, map}
 use Rattle.std.specs.Prelude.{max, fold}
-use Rattle.log_definitions.specs.Logs as logs
+use Rattle.disk_definitions.specs.Logs as logs
 use Rattle.log_reading.proofs.records.greatest_operation.Given as goal
 
 abbrev pub invariant-loop-record : goal.invariant-loop-record

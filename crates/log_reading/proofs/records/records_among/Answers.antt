@@ -1,7 +1,7 @@
 -- The records that begin in a sector more.
 use Rattle.std.proofs.Common.{◌≡◌, ◌-◌, length, take, drop, arith}
 use Rattle.std.proofs.lemmas.Slice.{between_to_end}
-use Rattle.log_definitions.specs.Logs.{records_among}
+use Rattle.disk_definitions.specs.Logs.{records_among}
 use Rattle.log_reading.proofs.Steps.{one_more}
 use Rattle.log_reading.proofs.records.records_among.Goals as goal
 

@@ -1,5 +1,5 @@
 use Rattle.std.proofs.Common.{◌≡◌, ◌++◌, drop}
-use Rattle.log_definitions.specs.Logs as logs
+use Rattle.disk_definitions.specs.Logs as logs
 use Rattle.log_reading.proofs.records.used_bytes.Given as goal
 
 abbrev pub invariant-loop-sector : goal.invariant-loop-sector

@@ -1,7 +1,7 @@
 -- What is written is the head of the frame and then the record.
 use Rattle.std.proofs.Common.{◌++◌, length, ap, ◌∙◌, append_assoc, Result, Ok, Err, OnOk}
 use Rattle.byteorder.specs.Endian.{little_bytes}
-use Rattle.log_definitions.specs.Records.{record_bytes}
+use Rattle.disk_definitions.specs.Records.{record_bytes}
 use Rattle.log_record.proofs.frame.push_frame.Goals as goal
 
 weaker : {T E P Q : Type 0} (r : Result T E) → (P → Q) → OnOk r P → OnOk r Q

@@ -1,7 +1,7 @@
 -- By the laws of the definition.
 use Rattle.log_record.specs.Fields.{FillsItsFields}
-use Rattle.sector_definitions.specs.declared.log_sector.LogSector.{LogSector}
-use Rattle.sector_definitions.proofs.LogSectorLaws.{IsStorable, log_sector_back, log_sector_read, log_sector_once}
+use Rattle.disk_definitions.specs.declared.log_sector.LogSector.{LogSector}
+use Rattle.disk_definitions.proofs.LogSectorLaws.{IsStorable, log_sector_back, log_sector_read, log_sector_once}
 use Rattle.log_record.proofs.laws.what_is_written_reads_back.Goals as goal
 
 storable : (x : LogSector) → FillsItsFields x → IsStorable x

@@ -1,7 +1,7 @@
 use Rattle.std.proofs.Common.{◌≡◌, ◌&&◌, drop}
 use Rattle.std.specs.List.{list_all}
 use Rattle.sector_bytes.specs.Changes.{is_change}
-use Rattle.log_definitions.specs.Records.{sectors_ascend}
+use Rattle.disk_definitions.specs.Records.{sectors_ascend}
 use Rattle.log_record.proofs.reading.are_changes.Given as goal
 
 abbrev pub invariant-loop-change : goal.invariant-loop-change

@@ -6,7 +6,7 @@ use Rattle.frang_base.specs.declared.change.Change.{Change}
 use Rattle.sector_bytes.specs.Changes.{is_change}
 use Rattle.sector_bytes.specs.Bytes.{AreBytes}
 use Rattle.frang_base.specs.declared.change.Redo.{Redo}
-use Rattle.log_definitions.specs.Records.{sectors_ascend}
+use Rattle.disk_definitions.specs.Records.{sectors_ascend}
 use Rattle.log_record.proofs.NumbersRead.{taken}
 use Rattle.log_record.proofs.RecordRead.{changes_read}
 use Rattle.log_record.proofs.RecordSteps.{empty_of, read_of, too_long, read_whole}

@@ -4,7 +4,7 @@ use Rattle.std.proofs.lemmas.Slice.{between_to_end}
 use Rattle.std.specs.List.{between}
 use Rattle.byteorder.specs.Endian.{little_number}
 use Rattle.sector_bytes.specs.Bytes.{number_at}
-use Rattle.sector_definitions.specs.LogSectors.{log_sector_fields}
+use Rattle.disk_definitions.specs.LogSectors.{log_sector_fields}
 use Rattle.log_record.proofs.sector.fields.Goals as goal
 
 same_fields : {s o p q u : ℕ} {body : List ℕ} (block : List ℕ)

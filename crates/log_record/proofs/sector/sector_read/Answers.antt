@@ -1,5 +1,5 @@
 -- What is read may stand in its slot.
-use Rattle.sector_definitions.proofs.LogSectorLaws.{empty_fits, numbered_fits}
+use Rattle.disk_definitions.proofs.LogSectorLaws.{empty_fits, numbered_fits}
 use Rattle.log_record.proofs.sector.sector_read.Goals as goal
 
 pub returns-then-is_zero_block-clause-fits : goal.returns-then-is_zero_block-clause-fits

@@ -2,7 +2,7 @@
 use Rattle.std.proofs.Common.{◌≡◌, ◌++◌, length, ap, subst, sym, ◌∙◌, arith}
 use Rattle.std.specs.List.{AllByRecursion}
 use Rattle.byteorder.specs.Endian.{little_bytes}
-use Rattle.log_definitions.specs.Records.{change_bytes, patch_bytes}
+use Rattle.disk_definitions.specs.Records.{change_bytes, patch_bytes}
 use Rattle.log_record.proofs.RecordBack.{IsShort, has_room}
 use Rattle.log_record.proofs.RecordSteps.{fits_in, whatever, written_first}
 use Rattle.log_record.proofs.writing.push_change.Goals as goal

@@ -1,6 +1,6 @@
 use Rattle.std.proofs.Common.{◌≡◌, ◌≤◌, ◌++◌, drop, vec_capacity}
 use Rattle.std.specs.List.{AllByRecursion, flat_map}
-use Rattle.log_definitions.specs.Records.{change_bytes, patch_bytes}
+use Rattle.disk_definitions.specs.Records.{change_bytes, patch_bytes}
 use Rattle.log_record.proofs.RecordBack.{IsShort}
 use Rattle.log_record.proofs.writing.push_change.Given as goal
 

@@ -3,7 +3,7 @@ use Rattle.std.proofs.Common.{◌≡◌, ◌++◌, true, length, ap, subst, sym,
 use Rattle.std.specs.List.{AllByRecursion}
 use Rattle.byteorder.specs.Endian.{little_bytes}
 use Rattle.sector_bytes.specs.Changes.{is_change}
-use Rattle.log_definitions.specs.Records.{change_bytes, record_bytes}
+use Rattle.disk_definitions.specs.Records.{change_bytes, record_bytes}
 use Rattle.log_record.proofs.RecordBack.{all_of, is_record}
 use Rattle.log_record.proofs.RecordSteps.{fits_in, others, whatever, written_first, written_more}
 use Rattle.log_record.proofs.writing.push_record.Goals as goal

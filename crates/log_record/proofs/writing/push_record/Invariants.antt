@@ -1,7 +1,7 @@
 use Rattle.std.proofs.Common.{◌≡◌, ◌≤◌, ◌++◌, drop, true, vec_capacity}
 use Rattle.std.specs.List.{AllByRecursion, flat_map}
 use Rattle.sector_bytes.specs.Changes.{is_change}
-use Rattle.log_definitions.specs.Records.{change_bytes, record_bytes}
+use Rattle.disk_definitions.specs.Records.{change_bytes, record_bytes}
 use Rattle.log_record.proofs.writing.push_record.Given as goal
 
 abbrev pub invariant-loop-change : goal.invariant-loop-change

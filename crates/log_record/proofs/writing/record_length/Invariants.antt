@@ -1,6 +1,6 @@
 use Rattle.std.proofs.Common.{◌≡◌, ◌+◌, length, drop}
 use Rattle.std.specs.List.{flat_map}
-use Rattle.log_definitions.specs.Records.{change_bytes, record_bytes}
+use Rattle.disk_definitions.specs.Records.{change_bytes, record_bytes}
 use Rattle.log_record.proofs.writing.record_length.Given as goal
 
 abbrev pub invariant-loop-change : goal.invariant-loop-change

@@ -6,8 +6,8 @@ use Rattle.namei.specs.Walks.{next_as}
 use Rattle.namei.proofs.NameSteps.{over, spot_step, need_step}
 use Rattle.namei.specs.Looks.{LooksOn, next_looks}
 use Rattle.namei.proofs.NameLooks.{spot_looks, need_looks, by, seen}
-use Rattle.plan_definitions.specs.Ask.{ReadInode}
-use Rattle.plan_definitions.specs.Walks.{in_inode}
+use Rattle.disk_definitions.specs.Ask.{ReadInode}
+use Rattle.disk_definitions.specs.Walks.{in_inode}
 use Rattle.namei.proofs.onward.next_at.Goals as goal
 
 pub returns-in-Ok-clause-leads : goal.returns-in-Ok-clause-leads

@@ -1,6 +1,6 @@
 -- Each return of a walk is what one step of the definition says, behind the trail.
 use Rattle.std.proofs.Common.{◌≡◌, ◌<◌, ◌-◌, ◌∷◌, ◌++◌, ℕ, List, [], IfOk, append-nil, length, take, drop, sym, ap, ap₂, subst, ◌∙◌, arith}
-use Rattle.line_definitions.specs.Resolving.{Leads, Refused, Resolution, resolve_from}
+use Rattle.disk_definitions.specs.Resolving.{Leads, Refused, Resolution, resolve_from}
 use Rattle.dir_lookup.specs.Reading.{Read, Gives}
 use Rattle.dir_lookup.proofs.Through.{no_names}
 use Rattle.dir_lookup.specs.Spots.{reply_of}

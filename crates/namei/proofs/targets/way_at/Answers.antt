@@ -8,7 +8,7 @@ use Rattle.dir_lookup.specs.Reading.{Lacks, Gives}
 use Rattle.dir_lookup.proofs.Steps.{said_ok, said_err}
 use Rattle.namei.specs.Walks.{way_from}
 use Rattle.namei.proofs.LinkSteps.{if_ok_then, by_way, link_step}
-use Rattle.plan_definitions.specs.Ask.{Got, ReadInode}
+use Rattle.disk_definitions.specs.Ask.{Got, ReadInode}
 use Rattle.namei.proofs.LinkLooks.{way_looked, by_way as looks_by_way}
 use Rattle.namei.proofs.NameLooks.{seen}
 use Rattle.namei.proofs.targets.way_at.Goals as goal

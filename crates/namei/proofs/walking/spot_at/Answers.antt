@@ -1,7 +1,7 @@
 -- By the spot of the walk.
 use Rattle.std.proofs.Common.{◌≡◌, subst}
-use Rattle.plan_definitions.specs.Ask.{Got, bind}
-use Rattle.plan_definitions.specs.Walks as walks
+use Rattle.disk_definitions.specs.Ask.{Got, bind}
+use Rattle.disk_definitions.specs.Walks as walks
 use Rattle.dir_lookup.specs.Reading.{reading, read_of}
 use Rattle.dir_lookup.specs.Spots.{spot_of}
 use Rattle.namei.proofs.walking.spot_at.Goals as goal

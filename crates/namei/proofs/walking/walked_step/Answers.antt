@@ -1,7 +1,7 @@
 -- By where the walk leads.
 use Rattle.std.proofs.Common.{◌∙◌}
-use Rattle.plan_definitions.specs.Ask.{Got, bind}
-use Rattle.plan_definitions.specs.Walks as walks
+use Rattle.disk_definitions.specs.Ask.{Got, bind}
+use Rattle.disk_definitions.specs.Walks as walks
 use Rattle.dir_lookup.specs.Reading.{Gives, Lacks, reading}
 use Rattle.dir_lookup.specs.Spots.{spot_of}
 use Rattle.dir_lookup.proofs.Readings.{reading_bind}

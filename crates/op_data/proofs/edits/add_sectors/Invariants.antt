@@ -1,10 +1,10 @@
 -- The plan adds the edits of the sectors that are left to those that are there.
 use Rattle.std.proofs.Common.{◌≡◌, ◌+◌, ◌-◌, ◌/◌, ◌++◌, List}
 use Rattle.disk_definitions.specs.Store.{stored}
-use Rattle.store_changes.specs.Edits.{Edit}
-use Rattle.plan_definitions.specs.Ask.{Ask}
-use Rattle.plan_definitions.specs.Plans.{Plan}
-use Rattle.plan_definitions.specs.FilePlans.{sectors_met, write_sectors}
+use Rattle.disk_definitions.specs.Edits.{Edit}
+use Rattle.disk_definitions.specs.Ask.{Ask}
+use Rattle.disk_definitions.specs.Plans.{Plan}
+use Rattle.disk_definitions.specs.FilePlans.{sectors_met, write_sectors}
 use Rattle.dir_lookup.specs.Hands.{over}
 use Rattle.plan_steps.specs.Edits.{edits_of}
 use Rattle.op_data.specs.Writings.{write_behind, writing_of}

@@ -5,7 +5,7 @@ use Rattle.op_data.specs.Files.{FindsFile}
 use Rattle.op_data.proofs.Found.{a_directory, another_inode, file_stops, inode_stops, no_file, the_file}
 use Rattle.op_data.proofs.FileLooks.{another_looks, directory_looks, file_looks, inode_stops_looks, no_file_looks}
 use Rattle.op_data.specs.Looking.{LooksAtFile}
-use Rattle.plan_definitions.specs.FilePlans.{at_file}
+use Rattle.disk_definitions.specs.FilePlans.{at_file}
 use Rattle.op_data.proofs.file.file_of.Goals as goal
 
 pub returns-in_err-target-clause-finds : goal.returns-in_err-target-clause-finds

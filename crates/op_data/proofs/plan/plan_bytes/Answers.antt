@@ -1,8 +1,8 @@
 -- Operation by operation.
 use Rattle.frang_base.specs.declared.op.Op.TheVariants as op
 use Rattle.std.proofs.Common.{◌≡◌, Err, [], rules, subst, sym, List, ap, ℕ, ◌∙◌}
-use Rattle.plan_definitions.specs.FilePlans.{plan_read, plan_written}
-use Rattle.plan_definitions.specs.PlanOf.{plan_of}
+use Rattle.disk_definitions.specs.FilePlans.{plan_read, plan_written}
+use Rattle.disk_definitions.specs.PlanOf.{plan_of}
 use Rattle.dir_lookup.specs.Hands.{over, seen}
 use Rattle.plan_steps.specs.Edits.{edits_of}
 use Rattle.plan_steps.specs.Ends.{Comes, IsDone, Says}

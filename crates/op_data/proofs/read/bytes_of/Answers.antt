@@ -1,7 +1,7 @@
 -- Sector after sector.
 use Rattle.std.proofs.Common.{◌≡◌, ◌-◌, ◌<◌, ◌++◌, Err, length, slice_index, length-append, sym, ap, subst, arith, rules, ◌∙◌}
 use Rattle.disk_definitions.specs.Store.{stored}
-use Rattle.plan_definitions.specs.FilePlans.{read_sectors}
+use Rattle.disk_definitions.specs.FilePlans.{read_sectors}
 use Rattle.dir_lookup.specs.Hands.{over}
 use Rattle.dir_lookup.proofs.Steps.{said_ok, said_err}
 use Rattle.plan_steps.specs.declared.stop.Stop.TheVariants as stop

@@ -1,9 +1,9 @@
 -- The plan goes on with the bytes so far and those of the sectors that are left.
 use Rattle.std.proofs.Common.{◌≡◌, ◌-◌, ◌*◌, ◌++◌, ◌≤◌, ℕ, List, length}
 use Rattle.disk_definitions.specs.Store.{stored}
-use Rattle.plan_definitions.specs.Ask.{Ask}
-use Rattle.plan_definitions.specs.Plans.{Plan}
-use Rattle.plan_definitions.specs.FilePlans.{read_sectors}
+use Rattle.disk_definitions.specs.Ask.{Ask}
+use Rattle.disk_definitions.specs.Plans.{Plan}
+use Rattle.disk_definitions.specs.FilePlans.{read_sectors}
 use Rattle.dir_lookup.specs.Hands.{over}
 use Rattle.op_data.proofs.read.bytes_of.Given as goal
 

@@ -1,13 +1,13 @@
 -- The plan of a read goes on with the inode of the file.
 use Rattle.std.proofs.Common.{◌≡◌, ℕ, Err, subst, sym, rules}
-use Rattle.plan_definitions.specs.FilePlans.{plan_read, showing}
+use Rattle.disk_definitions.specs.FilePlans.{plan_read, showing}
 use Rattle.dir_lookup.specs.Hands.{over}
 use Rattle.plan_steps.specs.Ends.{Says}
 use Rattle.op_data.specs.Files.{FindsFile}
 use Rattle.op_data.proofs.Found.{ends_plan}
 use Rattle.disk_definitions.specs.Store.{stored}
-use Rattle.plan_definitions.specs.Ask.{Ask}
-use Rattle.plan_definitions.specs.Plans.{Plan}
+use Rattle.disk_definitions.specs.Ask.{Ask}
+use Rattle.disk_definitions.specs.Plans.{Plan}
 use Rattle.plan_steps.proofs.Looking.{none_more, then_looks}
 use Rattle.op_data.proofs.FileLooks.{shown_looks}
 use Rattle.op_data.proofs.read.read_file.Goals as goal

@@ -1,7 +1,7 @@
 -- The bytes of the sectors, cut to what is shown.
 use Rattle.std.proofs.Common.{◌≡◌, ◌+◌, ◌-◌, ◌/◌, ◌≤◌, min, Err, subst, sym, arith, rules, ◌∙◌}
 use Rattle.disk_definitions.specs.Store.{stored}
-use Rattle.plan_definitions.specs.FilePlans.{sectors_met, showing}
+use Rattle.disk_definitions.specs.FilePlans.{sectors_met, showing}
 use Rattle.dir_lookup.specs.Hands.{over}
 use Rattle.plan_steps.specs.Ends.{Says}
 use Rattle.op_data.specs.Files.{ReadsSectors}

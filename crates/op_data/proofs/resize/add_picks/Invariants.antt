@@ -1,7 +1,7 @@
 -- The edits so far, and those of the picks that are left.
 use Rattle.std.proofs.Common.{◌≡◌, ◌++◌, drop, map}
 use Rattle.disk_definitions.specs.Store.Use.{Bytes}
-use Rattle.store_changes.specs.Edits.Edit.{SetUse}
+use Rattle.disk_definitions.specs.Edits.Edit.{SetUse}
 use Rattle.plan_steps.specs.Edits.{edits_of}
 use Rattle.op_data.proofs.resize.add_picks.Given as goal
 

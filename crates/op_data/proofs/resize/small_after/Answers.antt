@@ -2,7 +2,7 @@
 use Rattle.std.proofs.Common.{◌≡◌, ◌<◌, ◌≤◌, ◌+◌, ℕ, length, set, refl, subst, ◌∙◌, arith, rules}
 use Rattle.std.proofs.Math.ListN.{length-set}
 use Rattle.disk_definitions.specs.Store.{stored}
-use Rattle.plan_definitions.specs.FilePlans.{small_after}
+use Rattle.disk_definitions.specs.FilePlans.{small_after}
 use Rattle.op_data.proofs.Setting.{SetBelow, set_all, set_more}
 use Rattle.op_data.proofs.Resized.{small_past}
 use Rattle.op_data.proofs.resize.small_after.Goals as goal

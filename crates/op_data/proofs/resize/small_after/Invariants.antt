@@ -1,7 +1,7 @@
 -- The first blocks are set.
 use Rattle.std.proofs.Common.{◌≡◌, length}
 use Rattle.disk_definitions.specs.Store.{stored}
-use Rattle.plan_definitions.specs.FilePlans.{small_after}
+use Rattle.disk_definitions.specs.FilePlans.{small_after}
 use Rattle.op_data.proofs.Setting.{SetBelow}
 use Rattle.op_data.proofs.resize.small_after.Given as goal
 

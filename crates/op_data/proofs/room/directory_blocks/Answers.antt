@@ -1,8 +1,8 @@
 -- Segment after segment.
 use Rattle.std.proofs.Common.{◌||◌, ℕ, Bool, sym, arith}
-use Rattle.pick_definitions.specs.Held.{state_in}
-use Rattle.pick_definitions.specs.Picks.{is_in_state}
-use Rattle.pick_definitions.proofs.Counts.{count_zero}
+use Rattle.disk_definitions.specs.Held.{state_in}
+use Rattle.disk_definitions.specs.Picks.{is_in_state}
+use Rattle.disk_definitions.proofs.PickCounts.{count_zero}
 use Rattle.op_data.proofs.Counting.{segment_counted}
 use Rattle.op_data.proofs.room.directory_blocks.Goals as goal
 

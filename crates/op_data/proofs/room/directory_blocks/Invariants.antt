@@ -1,8 +1,8 @@
 -- The blocks of the segments so far are counted.
 use Rattle.std.proofs.Common.{◌≡◌, ◌≤◌, ◌*◌, ◌||◌}
-use Rattle.pick_definitions.specs.Least.{count}
-use Rattle.pick_definitions.specs.Held.{state_in}
-use Rattle.pick_definitions.specs.Picks.{is_in_state}
+use Rattle.disk_definitions.specs.Least.{count}
+use Rattle.disk_definitions.specs.Held.{state_in}
+use Rattle.disk_definitions.specs.Picks.{is_in_state}
 use Rattle.op_data.proofs.room.directory_blocks.Given as goal
 
 abbrev pub invariant-loop-k : goal.invariant-loop-k

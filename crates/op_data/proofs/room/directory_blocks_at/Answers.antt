@@ -1,7 +1,7 @@
 -- By whether the segment is held.
 use Rattle.std.proofs.Common.{◌≡◌, Some, None, sym, ap, ◌∙◌}
 use Rattle.std.specs.Option.{option_copied}
-use Rattle.pick_definitions.specs.Held.{bitmap_of}
+use Rattle.disk_definitions.specs.Held.{bitmap_of}
 use Rattle.op_data.proofs.Counting.{segment_missing, segment_there}
 use Rattle.op_data.proofs.room.directory_blocks_at.Goals as goal
 

@@ -1,8 +1,8 @@
 -- Block after block.
 use Rattle.std.proofs.Common.{◌≡◌, ◌≤◌, ◌==◌, ◌||◌, ℕ, Bool, sym, arith, rules}
-use Rattle.pick_definitions.specs.Least.{one_if}
-use Rattle.pick_definitions.proofs.Counts.{count_zero}
-use Rattle.sector_definitions.specs.Bitmaps.{block_state}
+use Rattle.disk_definitions.specs.Least.{one_if}
+use Rattle.disk_definitions.proofs.PickCounts.{count_zero}
+use Rattle.disk_definitions.specs.Bitmaps.{block_state}
 use Rattle.op_data.proofs.Counting.{counted}
 use Rattle.op_data.proofs.room.directory_blocks_in.Goals as goal
 

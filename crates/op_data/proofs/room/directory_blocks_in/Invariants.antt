@@ -1,7 +1,7 @@
 -- The blocks so far are counted.
 use Rattle.std.proofs.Common.{◌≡◌, ◌≤◌, ◌==◌, ◌||◌}
-use Rattle.pick_definitions.specs.Least.{count}
-use Rattle.sector_definitions.specs.Bitmaps.{block_state}
+use Rattle.disk_definitions.specs.Least.{count}
+use Rattle.disk_definitions.specs.Bitmaps.{block_state}
 use Rattle.op_data.proofs.room.directory_blocks_in.Given as goal
 
 abbrev pub invariant-loop-j : goal.invariant-loop-j

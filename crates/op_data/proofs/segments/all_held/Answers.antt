@@ -1,6 +1,6 @@
 -- The small blocks, and then the large one.
 use Rattle.std.proofs.Common.{◌≡◌, ◌/◌, Some, None, Err, map, sym, ap, ◌∙◌, rules}
-use Rattle.plan_definitions.specs.FilePlans.{large_segment}
+use Rattle.disk_definitions.specs.FilePlans.{large_segment}
 use Rattle.plan_steps.specs.Rooms.{missing_of, needed}
 use Rattle.plan_steps.proofs.Needed.{first_needed, then_needed}
 use Rattle.plan_steps.proofs.SegmentLooks.{over_first, over_then}

@@ -1,6 +1,6 @@
 -- By whether there is one.
 use Rattle.std.proofs.Common.{[], sym, ap}
-use Rattle.plan_definitions.specs.FilePlans.{large_segment}
+use Rattle.disk_definitions.specs.FilePlans.{large_segment}
 use Rattle.dir_lookup.proofs.Looking.{adds_as, adds_none}
 use Rattle.plan_steps.specs.Looking.{looked_over}
 use Rattle.op_data.proofs.segments.large_held.Goals as goal

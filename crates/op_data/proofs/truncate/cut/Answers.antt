@@ -2,7 +2,7 @@
 use Rattle.std.proofs.Common.{◌≡◌, ◌++◌, ◌/◌, map, Err, ap, sym, ◌∙◌, subst, arith, rules, []}
 use Rattle.tree_definitions.specs.Tree.{small_blocks_of}
 use Rattle.disk_definitions.specs.Store.{stored}
-use Rattle.plan_definitions.specs.FilePlans.{blocks_between, cut_segments, cutting, large_segment}
+use Rattle.disk_definitions.specs.FilePlans.{blocks_between, cut_segments, cutting, large_segment}
 use Rattle.dir_lookup.specs.Hands.{over}
 use Rattle.plan_steps.specs.declared.stop.Stop.TheVariants as stop
 use Rattle.plan_steps.specs.Edits.{edits_of}

@@ -1,6 +1,6 @@
 -- The edits so far, and those of the blocks that are left.
 use Rattle.std.proofs.Common.{◌≡◌, ◌++◌, map, drop}
-use Rattle.store_changes.specs.Edits.{SetUse}
+use Rattle.disk_definitions.specs.Edits.{SetUse}
 use Rattle.disk_definitions.specs.Store.{Fresh}
 use Rattle.plan_steps.specs.Edits.{edits_of}
 use Rattle.op_data.proofs.truncate.small_freed.Given as goal

@@ -1,6 +1,6 @@
 -- The plan of a truncate goes on with the inode of the file.
 use Rattle.std.proofs.Common.{◌≡◌, Err, subst, sym, rules}
-use Rattle.plan_definitions.specs.FilePlans.{cutting, plan_truncated}
+use Rattle.disk_definitions.specs.FilePlans.{cutting, plan_truncated}
 use Rattle.dir_lookup.specs.Hands.{over}
 use Rattle.plan_steps.specs.Ends.{Comes}
 use Rattle.op_data.specs.Files.{FindsFile}

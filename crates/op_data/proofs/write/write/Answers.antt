@@ -1,11 +1,11 @@
 -- By the range, and by what is picked.
 use Rattle.std.proofs.Common.{◌≡◌, ◌==◌, ◌&&◌, ◌<◌, ◌≤◌, true, false, nat_lt, Some, None, subst, sym, ◌∙◌, rules, arith, [], refl, ℕ}
-use Rattle.pick_definitions.specs.Held.{large_in}
-use Rattle.pick_definitions.specs.Picks.{is_free}
-use Rattle.pick_definitions.proofs.LeastLaws.{least_some}
+use Rattle.disk_definitions.specs.Held.{large_in}
+use Rattle.disk_definitions.specs.Picks.{is_free}
+use Rattle.disk_definitions.proofs.LeastLaws.{least_some}
 use Rattle.disk_definitions.specs.Store.{stored}
-use Rattle.plan_definitions.specs.Plans.{shared_nodes}
-use Rattle.plan_definitions.specs.FilePlans.{end_of, writing, writing_large}
+use Rattle.disk_definitions.specs.Plans.{shared_nodes}
+use Rattle.disk_definitions.specs.FilePlans.{end_of, writing, writing_large}
 use Rattle.plan_steps.specs.Ends.{Comes, Stops}
 use Rattle.op_data.specs.Writings.{writing_of}
 use Rattle.op_data.proofs.Choices.{bad_offset, has_large, large_wanted, too_big}

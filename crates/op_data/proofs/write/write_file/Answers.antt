@@ -1,6 +1,6 @@
 -- The file that the path names, and the bytes that are written into it.
 use Rattle.std.proofs.Common.{◌≡◌, Ok, Err, subst, sym, rules}
-use Rattle.plan_definitions.specs.FilePlans.{plan_of_file, writing}
+use Rattle.disk_definitions.specs.FilePlans.{plan_of_file, writing}
 use Rattle.dir_lookup.specs.Hands.{over, seen}
 use Rattle.plan_steps.specs.Ends.{Comes}
 use Rattle.op_data.specs.Files.{FindsFile}

@@ -1,7 +1,7 @@
 -- The edits of all but the bytes, and then the sectors.
 use Rattle.std.proofs.Common.{◌≡◌, Err, max, subst, sym, ap, ◌∙◌, rules}
 use Rattle.disk_definitions.specs.Store.{stored}
-use Rattle.plan_definitions.specs.FilePlans.{end_of, resized, writing_in}
+use Rattle.disk_definitions.specs.FilePlans.{end_of, resized, writing_in}
 use Rattle.dir_lookup.specs.Hands.{over}
 use Rattle.plan_steps.specs.Ends.{Comes}
 use Rattle.op_data.specs.Writings.{WritesSectors, writing_of}

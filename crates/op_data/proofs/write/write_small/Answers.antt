@@ -2,11 +2,11 @@
 use Rattle.std.proofs.Common.{◌≡◌, ◌-◌, ℕ, Some, None, max, subst, rules, arith}
 use Rattle.frang_base.specs.declared.reply.Reply.TheVariants as reply
 use Rattle.tree_definitions.specs.Tree.{small_blocks_of}
-use Rattle.pick_definitions.specs.Picks.{picked_many}
-use Rattle.pick_definitions.proofs.ManyLaws.{picks_the_least}
+use Rattle.disk_definitions.specs.Picks.{picked_many}
+use Rattle.disk_definitions.proofs.ManyLaws.{picks_the_least}
 use Rattle.disk_definitions.specs.Store.{stored}
-use Rattle.plan_definitions.specs.Plans.{none_left}
-use Rattle.plan_definitions.specs.FilePlans.{directory_blocks, end_of, writing_small}
+use Rattle.disk_definitions.specs.Plans.{none_left}
+use Rattle.disk_definitions.specs.FilePlans.{directory_blocks, end_of, writing_small}
 use Rattle.dir_lookup.specs.Hands.{over, seen}
 use Rattle.plan_steps.specs.Ends.{Comes, Stops}
 use Rattle.op_data.specs.Writings.{writing_of}

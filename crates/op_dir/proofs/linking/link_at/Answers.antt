@@ -1,10 +1,10 @@
 -- By where the first path leads, and by the kind of the node.
 use Rattle.std.proofs.Common.{◌≡◌, ◌==◌, ◌++◌, ℕ, true, false, sym, ap, ◌∙◌, List, []}
 use Rattle.frang_base.specs.declared.reply.Reply.TheVariants as reply
-use Rattle.plan_definitions.specs.Ask.{bind, Ask}
-use Rattle.plan_definitions.specs.Walks.{walk}
-use Rattle.plan_definitions.specs.Plans.{Plan, refuse, refused}
-use Rattle.plan_definitions.specs.NamePlans.{linking, linking_to}
+use Rattle.disk_definitions.specs.Ask.{bind, Ask}
+use Rattle.disk_definitions.specs.Walks.{walk}
+use Rattle.disk_definitions.specs.Plans.{Plan, refuse, refused}
+use Rattle.disk_definitions.specs.NamePlans.{linking, linking_to}
 use Rattle.dir_lookup.specs.Reading.{Read, Gives, reading}
 use Rattle.dir_lookup.specs.declared.spot.Spot.{Spot}
 use Rattle.dir_lookup.specs.Spots.{spot_of}

@@ -1,12 +1,12 @@
 -- By where the second path leads.
 use Rattle.std.proofs.Common.{◌≡◌, ◌++◌, Err, rules, List, ℕ}
-use Rattle.plan_definitions.specs.NamePlans.{linking_to}
+use Rattle.disk_definitions.specs.NamePlans.{linking_to}
 use Rattle.dir_lookup.specs.Hands.{seen}
 use Rattle.op_dir.proofs.Walking.{walk_goes, walk_stops}
-use Rattle.plan_definitions.specs.Walks.{Spot, walk}
+use Rattle.disk_definitions.specs.Walks.{Spot, walk}
 use Rattle.dir_lookup.specs.Spots.{spot_of}
-use Rattle.plan_definitions.specs.Plans.{Plan}
-use Rattle.plan_definitions.specs.Ask.{Ask, bind}
+use Rattle.disk_definitions.specs.Plans.{Plan}
+use Rattle.disk_definitions.specs.Ask.{Ask, bind}
 use Rattle.plan_steps.proofs.Looking.{then_looks}
 use Rattle.op_dir.proofs.linking.link_inode.Goals as goal
 

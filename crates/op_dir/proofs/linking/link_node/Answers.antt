@@ -1,12 +1,12 @@
 -- By where the first path leads.
 use Rattle.std.proofs.Common.{◌≡◌, Err, rules, List, ℕ}
-use Rattle.plan_definitions.specs.NamePlans.{linking}
+use Rattle.disk_definitions.specs.NamePlans.{linking}
 use Rattle.dir_lookup.specs.Hands.{seen}
 use Rattle.op_dir.proofs.Walking.{walk_goes, walk_stops}
-use Rattle.plan_definitions.specs.Walks.{Spot, walk}
+use Rattle.disk_definitions.specs.Walks.{Spot, walk}
 use Rattle.dir_lookup.specs.Spots.{spot_of}
-use Rattle.plan_definitions.specs.Plans.{Plan}
-use Rattle.plan_definitions.specs.Ask.{Ask, bind}
+use Rattle.disk_definitions.specs.Plans.{Plan}
+use Rattle.disk_definitions.specs.Ask.{Ask, bind}
 use Rattle.plan_steps.proofs.Looking.{then_looks}
 use Rattle.op_dir.proofs.linking.link_node.Goals as goal
 

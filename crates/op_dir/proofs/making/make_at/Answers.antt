@@ -2,8 +2,8 @@
 use Rattle.std.proofs.Common.{◌≡◌, ℕ, List, Err, subst, sym, ap, ◌∙◌, rules, []}
 use Rattle.frang_base.specs.declared.reply.Reply.TheVariants as reply
 use Rattle.disk_definitions.specs.Store.{stored}
-use Rattle.plan_definitions.specs.Plans.{Plan, refuse}
-use Rattle.plan_definitions.specs.NamePlans.{made_by, making}
+use Rattle.disk_definitions.specs.Plans.{Plan, refuse}
+use Rattle.disk_definitions.specs.NamePlans.{made_by, making}
 use Rattle.dir_lookup.specs.Reading.{Read, Gives, reading}
 use Rattle.dir_lookup.specs.declared.spot.Spot.{Spot}
 use Rattle.dir_lookup.specs.Spots.{spot_of}

@@ -1,12 +1,12 @@
 -- By whether the directory is full, and by what is picked.
 use Rattle.std.proofs.Common.{◌≡◌, true, false, ℕ, Some, None, Err, subst, sym, ◌∙◌, rules, [], refl}
 use Rattle.frang_base.specs.declared.reply.Reply.TheVariants as reply
-use Rattle.pick_definitions.specs.Picks.{picked_inode}
+use Rattle.disk_definitions.specs.Picks.{picked_inode}
 use Rattle.disk_definitions.specs.Store.{stored}
-use Rattle.plan_definitions.specs.Ask.{bind}
-use Rattle.plan_definitions.specs.Walks.{AtGap}
-use Rattle.plan_definitions.specs.Plans.{find_room, is_full, none_left, shared_nodes}
-use Rattle.plan_definitions.specs.NamePlans.{making, making_in, making_with}
+use Rattle.disk_definitions.specs.Ask.{bind}
+use Rattle.disk_definitions.specs.Walks.{AtGap}
+use Rattle.disk_definitions.specs.Plans.{find_room, is_full, none_left, shared_nodes}
+use Rattle.disk_definitions.specs.NamePlans.{making, making_in, making_with}
 use Rattle.dir_lookup.specs.Reading.{reading}
 use Rattle.dir_lookup.specs.Hands.{seen}
 use Rattle.plan_steps.proofs.Ending.{stops_as}

@@ -3,9 +3,9 @@ use Rattle.std.proofs.Common.{◌≡◌, ℕ, Err, subst, sym, ap, ◌∙◌, ru
 use Rattle.std.specs.Option.{option_map}
 use Rattle.frang_base.specs.declared.reply.Reply.TheVariants as reply
 use Rattle.disk_definitions.specs.Store.{stored, StoredNode}
-use Rattle.plan_definitions.specs.Ask.{bind, Ask, Got, ReadInode}
-use Rattle.plan_definitions.specs.Plans.{NoRoom, find_room, finish_in, none_left, Plan}
-use Rattle.plan_definitions.specs.NamePlans.{made_by, making_in}
+use Rattle.disk_definitions.specs.Ask.{bind, Ask, Got, ReadInode}
+use Rattle.disk_definitions.specs.Plans.{NoRoom, find_room, finish_in, none_left, Plan}
+use Rattle.disk_definitions.specs.NamePlans.{made_by, making_in}
 use Rattle.dir_lookup.specs.Reading.{Gives, Lacks, reading}
 use Rattle.dir_lookup.proofs.Steps.{said_ok, said_err}
 use Rattle.plan_steps.specs.declared.stop.Stop.TheVariants as stop

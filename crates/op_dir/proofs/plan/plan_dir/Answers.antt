@@ -1,7 +1,7 @@
 -- By the laws of plans over disks.
 use Rattle.std.proofs.Common.{arith}
-use Rattle.plan_definitions.specs.PlanOf.{plan_of}
-use Rattle.plan_definitions.specs.Written.{hand_of}
+use Rattle.disk_definitions.specs.PlanOf.{plan_of}
+use Rattle.disk_definitions.specs.Written.{hand_of}
 use Rattle.dir_lookup.specs.Reading.{reading}
 use Rattle.code_plan_laws.proofs.Versions.{holds_segments}
 use Rattle.code_plan_laws.proofs.Ended.{ends_below, stands_if, exact_if}

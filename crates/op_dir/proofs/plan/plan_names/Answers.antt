@@ -2,7 +2,7 @@
 use Rattle.std.proofs.Common.{ℕ, List, rules, sym, ap, ◌∙◌}
 use Rattle.frang_base.specs.declared.op.Op.{Op}
 use Rattle.frang_base.specs.declared.op.Op.TheVariants as op
-use Rattle.plan_definitions.specs.PlanOf.{plan_of}
+use Rattle.disk_definitions.specs.PlanOf.{plan_of}
 use Rattle.dir_lookup.specs.Hands.{seen}
 use Rattle.plan_steps.specs.Looking.{examined}
 use Rattle.dir_lookup.proofs.Looking.{adds_as}

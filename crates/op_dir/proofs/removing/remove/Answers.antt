@@ -1,7 +1,7 @@
 -- The segments are held, or one is needed; and the edits are those of the plan.
 use Rattle.std.proofs.Common.{◌≡◌, ℕ, Err, subst, sym, rules}
 use Rattle.disk_definitions.specs.Store.{stored}
-use Rattle.plan_definitions.specs.NamePlans.{fewer_segments, finish_over, removed_by}
+use Rattle.disk_definitions.specs.NamePlans.{fewer_segments, finish_over, removed_by}
 use Rattle.dir_lookup.specs.Hands.{over}
 use Rattle.plan_steps.specs.declared.stop.Stop.TheVariants as stop
 use Rattle.plan_steps.specs.Ends.{Comes}

@@ -2,9 +2,9 @@
 use Rattle.std.proofs.Common.{◌≡◌, ◌∷◌, ◌++◌, [], ℕ, Err, subst, sym, ap, refl, ◌∙◌, rules, le-ltb, lt-ltb, nat_lt, List, Some, eq-eqb, ne_eqb, ◌==◌}
 use Rattle.frang_base.specs.declared.reply.Reply.TheVariants as reply
 use Rattle.disk_definitions.specs.Store.{stored}
-use Rattle.plan_definitions.specs.Ask.{ReadInode, Ask}
-use Rattle.plan_definitions.specs.Plans.{Plan, refuse, refused}
-use Rattle.plan_definitions.specs.NamePlans.{fewer_segments, finish_over, removed_by, removing, removing_node}
+use Rattle.disk_definitions.specs.Ask.{ReadInode, Ask}
+use Rattle.disk_definitions.specs.Plans.{Plan, refuse, refused}
+use Rattle.disk_definitions.specs.NamePlans.{fewer_segments, finish_over, removed_by, removing, removing_node}
 use Rattle.dir_lookup.specs.Reading.{Read, Gives, reading}
 use Rattle.dir_lookup.specs.declared.spot.Spot.{Spot}
 use Rattle.dir_lookup.specs.Spots.{spot_of}

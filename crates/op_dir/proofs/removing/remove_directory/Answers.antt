@@ -1,11 +1,11 @@
 -- By where the path leads.
 use Rattle.std.proofs.Common.{◌≡◌, Err, rules, List, ℕ}
-use Rattle.plan_definitions.specs.NamePlans.{removing}
+use Rattle.disk_definitions.specs.NamePlans.{removing}
 use Rattle.op_dir.proofs.Walking.{walk_goes, walk_stops}
-use Rattle.plan_definitions.specs.Walks.{Spot, walk}
+use Rattle.disk_definitions.specs.Walks.{Spot, walk}
 use Rattle.dir_lookup.specs.Spots.{spot_of}
-use Rattle.plan_definitions.specs.Plans.{Plan}
-use Rattle.plan_definitions.specs.Ask.{Ask, bind}
+use Rattle.disk_definitions.specs.Plans.{Plan}
+use Rattle.disk_definitions.specs.Ask.{Ask, bind}
 use Rattle.plan_steps.proofs.Looking.{then_looks}
 use Rattle.op_dir.proofs.removing.remove_directory.Goals as goal
 

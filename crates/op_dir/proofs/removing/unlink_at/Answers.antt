@@ -2,9 +2,9 @@
 use Rattle.std.proofs.Common.{◌≡◌, ℕ, Some, Err, subst, sym, ap, refl, ◌∙◌, rules, List, [], eq-eqb, ne_eqb, ◌==◌}
 use Rattle.frang_base.specs.declared.reply.Reply.TheVariants as reply
 use Rattle.disk_definitions.specs.Store.{stored}
-use Rattle.plan_definitions.specs.Ask.{ReadInode}
-use Rattle.plan_definitions.specs.Plans.{Plan, refuse, refused}
-use Rattle.plan_definitions.specs.NamePlans.{unlinking, unlinking_node}
+use Rattle.disk_definitions.specs.Ask.{ReadInode}
+use Rattle.disk_definitions.specs.Plans.{Plan, refuse, refused}
+use Rattle.disk_definitions.specs.NamePlans.{unlinking, unlinking_node}
 use Rattle.dir_lookup.specs.Reading.{Read, Gives, reading}
 use Rattle.dir_lookup.specs.declared.spot.Spot.{Spot}
 use Rattle.dir_lookup.specs.Spots.{spot_of}

@@ -2,8 +2,8 @@
 use Rattle.std.proofs.Common.{◌≡◌, ℕ, List, Some, Err, subst, sym, refl, ◌∙◌, rules, []}
 use Rattle.frang_base.specs.declared.reply.Reply.TheVariants as reply
 use Rattle.disk_definitions.specs.Store.{stored, entered}
-use Rattle.plan_definitions.specs.Ask.{ReadInode}
-use Rattle.plan_definitions.specs.NamePlans.{moving_onto, replacing_node}
+use Rattle.disk_definitions.specs.Ask.{ReadInode}
+use Rattle.disk_definitions.specs.NamePlans.{moving_onto, replacing_node}
 use Rattle.dir_lookup.specs.Reading.{reading}
 use Rattle.plan_steps.specs.Ends.{Comes}
 use Rattle.plan_steps.proofs.Ending.{answers, comes_as, node_read, node_stops, stops_as, refuses}

@@ -2,9 +2,9 @@
 use Rattle.std.proofs.Common.{◌≡◌, ℕ, List, Err, subst, sym, ◌∙◌, rules, []}
 use Rattle.frang_base.specs.declared.reply.Reply.TheVariants as reply
 use Rattle.disk_definitions.specs.Store.{stored}
-use Rattle.plan_definitions.specs.Ask.{bind}
-use Rattle.plan_definitions.specs.Plans.{find_room}
-use Rattle.plan_definitions.specs.NamePlans.{moved_between, moved_within, moving_to}
+use Rattle.disk_definitions.specs.Ask.{bind}
+use Rattle.disk_definitions.specs.Plans.{find_room}
+use Rattle.disk_definitions.specs.NamePlans.{moved_between, moved_within, moving_to}
 use Rattle.dir_lookup.specs.Reading.{reading}
 use Rattle.plan_steps.specs.Ends.{Comes}
 use Rattle.dir_lookup.specs.Hands.{seen}

@@ -2,10 +2,10 @@
 use Rattle.std.proofs.Common.{◌++◌, sym, ap, ◌∙◌, List, [], ℕ}
 use Rattle.frang_base.specs.declared.reply.Reply.TheVariants as reply
 use Rattle.disk_definitions.specs.Store.{stored, entered}
-use Rattle.plan_definitions.specs.Ask.{bind}
-use Rattle.plan_definitions.specs.Walks.{walk}
-use Rattle.plan_definitions.specs.Plans.{Plan, refuse}
-use Rattle.plan_definitions.specs.NamePlans.{Moving, renaming, renaming_to}
+use Rattle.disk_definitions.specs.Ask.{bind}
+use Rattle.disk_definitions.specs.Walks.{walk}
+use Rattle.disk_definitions.specs.Plans.{Plan, refuse}
+use Rattle.disk_definitions.specs.NamePlans.{Moving, renaming, renaming_to}
 use Rattle.dir_lookup.specs.Reading.{Read, Gives, reading}
 use Rattle.dir_lookup.specs.declared.spot.Spot.{Spot}
 use Rattle.dir_lookup.specs.Spots.{spot_of}

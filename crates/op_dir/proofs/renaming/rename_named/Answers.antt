@@ -1,9 +1,9 @@
 -- By where the second path leads.
 use Rattle.std.proofs.Common.{◌≡◌, ◌==◌, ◌&&◌, ◌++◌, ℕ, List, Err, subst, sym, ap, ◌∙◌, rules}
-use Rattle.plan_definitions.specs.Ask.{Ask, bind}
-use Rattle.plan_definitions.specs.Walks.{Spot, walk}
-use Rattle.plan_definitions.specs.Plans.{Plan}
-use Rattle.plan_definitions.specs.NamePlans.{goes_through, renaming_to}
+use Rattle.disk_definitions.specs.Ask.{Ask, bind}
+use Rattle.disk_definitions.specs.Walks.{Spot, walk}
+use Rattle.disk_definitions.specs.Plans.{Plan}
+use Rattle.disk_definitions.specs.NamePlans.{goes_through, renaming_to}
 use Rattle.dir_lookup.specs.Reading.{reading}
 use Rattle.dir_lookup.specs.Spots.{spot_of}
 use Rattle.plan_steps.specs.declared.stop.Stop.TheVariants as stop

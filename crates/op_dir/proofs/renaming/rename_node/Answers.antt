@@ -1,15 +1,15 @@
 -- By where the first path leads.
 use Rattle.std.proofs.Common.{◌≡◌, Err, subst, sym, ap, ◌∙◌, rules, List, [], ℕ}
-use Rattle.plan_definitions.specs.Ask.{bind, Ask}
-use Rattle.plan_definitions.specs.Walks.{walk, Spot}
-use Rattle.plan_definitions.specs.NamePlans.{plan_renamed, renaming}
+use Rattle.disk_definitions.specs.Ask.{bind, Ask}
+use Rattle.disk_definitions.specs.Walks.{walk, Spot}
+use Rattle.disk_definitions.specs.NamePlans.{plan_renamed, renaming}
 use Rattle.dir_lookup.specs.Reading.{reading}
 use Rattle.dir_lookup.specs.Spots.{spot_of}
 use Rattle.plan_steps.specs.Ends.{Comes}
 use Rattle.dir_lookup.specs.Hands.{seen}
 use Rattle.plan_steps.proofs.Ending.{comes_as, spot_stops, stops_as}
 use Rattle.op_dir.proofs.Moves.{not_roots}
-use Rattle.plan_definitions.specs.Plans.{Plan}
+use Rattle.disk_definitions.specs.Plans.{Plan}
 use Rattle.dir_lookup.proofs.Looking.{adds_as, adds_none}
 use Rattle.op_dir.proofs.Looking.{first_root, second_root}
 use Rattle.plan_steps.proofs.Looking.{then_looks}

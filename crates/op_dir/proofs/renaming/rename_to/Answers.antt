@@ -2,8 +2,8 @@
 use Rattle.std.proofs.Common.{◌≡◌, ℕ, List, true, false, sym, ap, ◌∙◌, []}
 use Rattle.frang_base.specs.declared.reply.Reply.TheVariants as reply
 use Rattle.disk_definitions.specs.Store.{stored, entered}
-use Rattle.plan_definitions.specs.Plans.{Plan, refuse, refused}
-use Rattle.plan_definitions.specs.NamePlans.{goes_through, moving_onto, moving_to, renaming_to}
+use Rattle.disk_definitions.specs.Plans.{Plan, refuse, refused}
+use Rattle.disk_definitions.specs.NamePlans.{goes_through, moving_onto, moving_to, renaming_to}
 use Rattle.dir_lookup.specs.Reading.{Read, Gives, reading}
 use Rattle.dir_lookup.specs.declared.spot.Spot.{Spot}
 use Rattle.dir_lookup.specs.Spots.{spot_of}
@@ -12,7 +12,7 @@ use Rattle.plan_steps.proofs.Ending.{comes_as, refuses}
 use Rattle.op_dir.specs.Moving.{moving_of}
 use Rattle.op_dir.proofs.Choosing.{if_not, if_so}
 use Rattle.op_dir.proofs.Looking.{if_not_looks, if_so_looks}
-use Rattle.plan_definitions.specs.Ask.{Ask}
+use Rattle.disk_definitions.specs.Ask.{Ask}
 use Rattle.dir_lookup.proofs.Looking.{adds_as, adds_none}
 use Rattle.plan_steps.specs.Looking.{examined}
 use Rattle.op_dir.proofs.renaming.rename_to.Goals as goal

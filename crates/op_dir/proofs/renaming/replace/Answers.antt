@@ -2,7 +2,7 @@
 use Rattle.std.proofs.Common.{◌≡◌, ◌∷◌, ◌++◌, [], ℕ, List, Some, Err, subst, sym, ◌∙◌, rules}
 use Rattle.frang_base.specs.declared.reply.Reply.TheVariants as reply
 use Rattle.disk_definitions.specs.Store.{stored}
-use Rattle.plan_definitions.specs.NamePlans.{moved_onto_by, replacing_node}
+use Rattle.disk_definitions.specs.NamePlans.{moved_onto_by, replacing_node}
 use Rattle.dir_lookup.specs.Reading.{reading}
 use Rattle.plan_steps.specs.declared.stop.Stop.TheVariants as stop
 use Rattle.plan_steps.specs.Ends.{Comes}

@@ -2,8 +2,8 @@
 use Rattle.std.proofs.Common.{◌≡◌, Err, subst, sym, ap, ◌∙◌, rules, refl}
 use Rattle.frang_base.specs.declared.reply.Reply.TheVariants as reply
 use Rattle.disk_definitions.specs.Store.{stored}
-use Rattle.plan_definitions.specs.Ask.{bind, Ask}
-use Rattle.plan_definitions.specs.Plans.{NoRoom, find_room, finish_in, none_left, Plan}
+use Rattle.disk_definitions.specs.Ask.{bind, Ask}
+use Rattle.disk_definitions.specs.Plans.{NoRoom, find_room, finish_in, none_left, Plan}
 use Rattle.dir_lookup.specs.Reading.{Gives, Lacks, reading}
 use Rattle.dir_lookup.proofs.Steps.{said_ok, said_err}
 use Rattle.plan_steps.specs.declared.stop.Stop.TheVariants as stop

@@ -2,8 +2,8 @@
 use Rattle.std.proofs.Common.{◌≡◌, ◌*◌, ◌/◌, ◌%◌, ◌<◌, ◌≤◌, ℕ, Err, slice_index, sym, ap, subst, arith, rules, ◌∙◌}
 use Rattle.frang_base.specs.declared.reply.Reply.TheVariants as reply
 use Rattle.disk_definitions.specs.Store.{stored}
-use Rattle.plan_definitions.specs.Plans.{refuse}
-use Rattle.plan_definitions.specs.LookPlans.{listing}
+use Rattle.disk_definitions.specs.Plans.{refuse}
+use Rattle.disk_definitions.specs.LookPlans.{listing}
 use Rattle.dir_lookup.specs.Reading.{Gives, reading}
 use Rattle.dir_lookup.specs.Stored.{entries_at}
 use Rattle.dir_lookup.proofs.Steps.{said_ok, said_err}

@@ -1,8 +1,8 @@
 -- The plan lists the names so far and those of the sectors that are left, and what was looked at is what comes before these.
 use Rattle.std.proofs.Common.{◌≡◌, ◌-◌, ◌*◌, ℕ, List, slice_index}
-use Rattle.pick_definitions.specs.Held.{Segments}
+use Rattle.disk_definitions.specs.Held.{Segments}
 use Rattle.disk_definitions.specs.Store.{stored}
-use Rattle.plan_definitions.specs.LookPlans.{read_entries, listing}
+use Rattle.disk_definitions.specs.LookPlans.{read_entries, listing}
 use Rattle.dir_lookup.specs.Reading.{reading}
 use Rattle.plan_steps.specs.Looking.{LooksTo}
 use Rattle.op_look.proofs.Listed.{listed}

@@ -1,6 +1,6 @@
 -- The plan is handed out as the look ended.
 use Rattle.std.proofs.Common.{subst, ◌∙◌}
-use Rattle.plan_definitions.specs.PlanOf.{plan_of}
+use Rattle.disk_definitions.specs.PlanOf.{plan_of}
 use Rattle.dir_lookup.specs.Reading.{reading}
 use Rattle.plan_steps.specs.Ends.{Stops}
 use Rattle.op_look.proofs.Answered.{clear_is, done_is, need_is, segments_is}

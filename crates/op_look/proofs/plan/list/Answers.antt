@@ -2,10 +2,10 @@
 use Rattle.std.proofs.Common.{◌≡◌, ◌==◌, Option, Some, Err, List, [], ◌∷◌, ◌++◌, ℕ, if◌then◌else◌, cond, eq-eqb, ne_eqb, refl, ap, subst, sym, rules, ◌∙◌}
 use Rattle.frang_base.specs.declared.reply.Reply.TheVariants as reply
 use Rattle.disk_definitions.specs.Store.{StoredNode, stored}
-use Rattle.plan_definitions.specs.Ask.{Ask, ReadInode}
-use Rattle.plan_definitions.specs.Walks.{Target}
-use Rattle.plan_definitions.specs.Plans.{Plan, refused}
-use Rattle.plan_definitions.specs.LookPlans as looks
+use Rattle.disk_definitions.specs.Ask.{Ask, ReadInode}
+use Rattle.disk_definitions.specs.Walks.{Target}
+use Rattle.disk_definitions.specs.Plans.{Plan, refused}
+use Rattle.disk_definitions.specs.LookPlans as looks
 use Rattle.plan_steps.specs.Looking.{examined}
 use Rattle.dir_lookup.specs.Reading.{reading}
 use Rattle.plan_steps.specs.declared.stop.Stop.{Stop}

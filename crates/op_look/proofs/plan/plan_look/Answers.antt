@@ -1,5 +1,5 @@
 -- By the laws of plans over disks.
-use Rattle.plan_definitions.specs.Written.{hand_of}
+use Rattle.disk_definitions.specs.Written.{hand_of}
 use Rattle.code_plan_laws.proofs.Ended.{stands_if, exact_if}
 use Rattle.op_look.proofs.Paths.{has_path}
 use Rattle.op_look.proofs.plan.plan_look.Goals as goal

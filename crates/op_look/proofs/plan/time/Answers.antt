@@ -1,9 +1,9 @@
 -- The reply is by the inode of the node.
 use Rattle.std.proofs.Common.{◌≡◌, Option, Some, Err, List, [], ◌∷◌, ◌++◌, ℕ, refl, subst, sym, ap, rules, ◌∙◌}
 use Rattle.disk_definitions.specs.Store.{StoredNode, stored}
-use Rattle.plan_definitions.specs.Ask.{Ask, ReadInode}
-use Rattle.plan_definitions.specs.Plans.{Plan, refused}
-use Rattle.plan_definitions.specs.LookPlans as looks
+use Rattle.disk_definitions.specs.Ask.{Ask, ReadInode}
+use Rattle.disk_definitions.specs.Plans.{Plan, refused}
+use Rattle.disk_definitions.specs.LookPlans as looks
 use Rattle.dir_lookup.specs.Reading.{reading}
 use Rattle.plan_steps.specs.Ends.{Says}
 use Rattle.plan_steps.specs.Targets.{FindsInode, FindsTarget}

@@ -1,5 +1,5 @@
 -- The first chunk that doesn't end below is the key's, and where all do the last one is.
-use Rattle.std.proofs.Common.{◌<◌, ◌≤◌, ◌-◌, length, arith}
+use Rattle.std.proofs.Common.{◌≤◌, ◌-◌, length, arith}
 use Rattle.ordered_map.proofs.Search.{first_is, last_is}
 use Rattle.ordered_map.proofs.map.chunk_of.Goals as goal
 

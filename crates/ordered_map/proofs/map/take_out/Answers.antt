@@ -1,5 +1,5 @@
 -- A chunk's only entry goes with the chunk, and else the chunk may be merged with a neighbour.
-use Rattle.std.proofs.Common.{◌≡◌, ◌≢◌, length, sym, ap, ◌∙◌, subst, arith}
+use Rattle.std.proofs.Common.{◌≢◌, length, sym, ap, ◌∙◌, subst, arith}
 use Rattle.std.specs.List.{remove}
 use Rattle.std.proofs.lemmas.List.{length-set}
 use Rattle.std.proofs.lemmas.List.Edits.{length-remove}

@@ -1,5 +1,5 @@
 -- The laws of the definition.
-use Rattle.sector_definitions.proofs.ParamLaws.{param_back, param_read, param_found, param_once}
+use Rattle.disk_definitions.proofs.ParamLaws.{param_back, param_read, param_found, param_once}
 use Rattle.param_block.proofs.laws.what_is_written_reads_back.Goals as goal
 
 pub returns : goal.returns

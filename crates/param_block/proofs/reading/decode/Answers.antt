@@ -1,7 +1,7 @@
 -- A reading compares the block with the bytes of what it found.
 use Rattle.std.proofs.Common.{sym, ◌∙◌}
-use Rattle.sector_definitions.specs.Params.{param_bytes, param_fits, param_fields}
-use Rattle.sector_definitions.proofs.Readings.{reads_none, reads_same}
+use Rattle.disk_definitions.specs.Params.{param_bytes, param_fits, param_fields}
+use Rattle.disk_definitions.proofs.Readings.{reads_none, reads_same}
 use Rattle.param_block.proofs.reading.decode.Goals as goal
 
 pub returns-then-not-fits : goal.returns-then-not-fits

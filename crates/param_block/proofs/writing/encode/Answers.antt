@@ -2,7 +2,7 @@
 use Rattle.std.proofs.Common.{refl}
 use Rattle.byteorder.specs.Endian.{little_bytes}
 use Rattle.sector_bytes.specs.Bytes.{zeros}
-use Rattle.sector_definitions.proofs.WrittenFields.{front_first, front_more, front_last}
+use Rattle.disk_definitions.proofs.WrittenFields.{front_first, front_more, front_last}
 use Rattle.param_block.proofs.writing.encode.Goals as goal
 
 pub returns : goal.returns

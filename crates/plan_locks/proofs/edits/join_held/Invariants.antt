@@ -2,7 +2,7 @@
 use Rattle.std.proofs.Common.{◌≡◌}
 use Rattle.std.specs.Map.{keys_of}
 use Rattle.core_definitions.specs.Sets.{joined_all}
-use Rattle.plan_definitions.specs.Plans.{sole_segments}
+use Rattle.disk_definitions.specs.Plans.{sole_segments}
 use Rattle.plan_locks.proofs.edits.join_held.Given as goal
 
 abbrev pub invariant-loop-segment : goal.invariant-loop-segment

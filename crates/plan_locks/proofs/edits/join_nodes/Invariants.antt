@@ -1,7 +1,7 @@
 -- The set so far, and the nodes that are left.
 use Rattle.std.proofs.Common.{◌≡◌, drop}
 use Rattle.core_definitions.specs.Sets.{joined_all}
-use Rattle.plan_definitions.specs.Plans.{shared_nodes}
+use Rattle.disk_definitions.specs.Plans.{shared_nodes}
 use Rattle.plan_locks.proofs.edits.join_nodes.Given as goal
 
 abbrev pub invariant-loop-node : goal.invariant-loop-node

@@ -1,7 +1,7 @@
 -- The set so far, and the nodes that are left.
 use Rattle.std.proofs.Common.{◌≡◌, drop, filter}
 use Rattle.core_definitions.specs.Sets.{joined_all}
-use Rattle.plan_definitions.specs.Plans.{sole_nodes}
+use Rattle.disk_definitions.specs.Plans.{sole_nodes}
 use Rattle.line_locks.specs.Found.{owns_at_hand}
 use Rattle.plan_locks.proofs.edits.join_owners.Given as goal
 

@@ -1,10 +1,10 @@
 -- The parts so far are zero.
 use Rattle.std.proofs.Common.{◌≡◌, true}
 use Rattle.std.specs.List.{list_all}
-use Rattle.sector_definitions.specs.Regions.{sector_of}
-use Rattle.sector_definitions.specs.declared.region.Region.TheVariants as region
+use Rattle.disk_definitions.specs.Regions.{sector_of}
+use Rattle.disk_definitions.specs.declared.region.Region.TheVariants as region
 use Rattle.tree_definitions.specs.Numbers.{below}
-use Rattle.plan_definitions.specs.Written.{is_zero_at_hand}
+use Rattle.disk_definitions.specs.Written.{is_zero_at_hand}
 use Rattle.plan_steps.proofs.block.is_zeroed.Given as goal
 
 abbrev pub invariant-loop-part : goal.invariant-loop-part

@@ -1,8 +1,8 @@
 -- A block more, and then the entry in its first place.
 use Rattle.std.proofs.Common.{◌≡◌, ◌++◌, ◌*◌, ℕ, List, sym, ap, subst}
 use Rattle.disk_definitions.specs.Store.{stored, entered}
-use Rattle.store_changes.specs.Edits.{Edit}
-use Rattle.plan_definitions.specs.Plans as plans
+use Rattle.disk_definitions.specs.Edits.{Edit}
+use Rattle.disk_definitions.specs.Plans as plans
 use Rattle.plan_steps.specs.Edits.{edits_of}
 use Rattle.plan_steps.specs.Rooms.{room_in}
 use Rattle.plan_steps.proofs.Editing.{entered_block, on_ok}

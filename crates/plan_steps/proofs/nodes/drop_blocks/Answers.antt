@@ -2,7 +2,7 @@
 use Rattle.std.proofs.Common.{◌-◌, ℕ, slice_index, refl, arith}
 use Rattle.bitmap_block.specs.States.{state_number}
 use Rattle.disk_definitions.specs.Store.{use_by}
-use Rattle.store_changes.specs.Changes as changes
+use Rattle.disk_definitions.specs.Changes as changes
 use Rattle.plan_steps.specs.Edits.{edits_of}
 use Rattle.plan_steps.proofs.Editing.{one_less}
 use Rattle.plan_steps.proofs.nodes.drop_blocks.Goals as goal

@@ -1,6 +1,6 @@
 -- The edits so far, and those of the blocks that are left.
 use Rattle.std.proofs.Common.{◌≡◌, ◌≤◌, ◌++◌, slice_index}
-use Rattle.store_changes.specs.Changes as changes
+use Rattle.disk_definitions.specs.Changes as changes
 use Rattle.plan_steps.specs.Edits.{edits_of}
 use Rattle.plan_steps.proofs.nodes.drop_blocks.Given as goal
 

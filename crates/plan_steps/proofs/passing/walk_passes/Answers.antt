@@ -4,7 +4,7 @@ use Rattle.dir_lookup.specs.Looked.{Adds}
 use Rattle.dir_lookup.specs.Looks.{looks_of}
 use Rattle.dir_lookup.specs.Passing.{PassesFrom}
 use Rattle.plan_steps.proofs.Through.{finds_passing, passing_stands}
-use Rattle.plan_definitions.specs.Walks.{walk}
+use Rattle.disk_definitions.specs.Walks.{walk}
 use Rattle.plan_steps.specs.Looking.{Looks}
 use Rattle.plan_steps.proofs.Examining.{walk_examined}
 use Rattle.plan_steps.proofs.WalkLooks.{passing_looks}

@@ -1,6 +1,6 @@
 -- By whether the block is clear.
 use Rattle.std.proofs.Common.{◌≡◌, Err, sym, subst, ◌∙◌, rules}
-use Rattle.plan_definitions.specs.Plans.{InBlock}
+use Rattle.disk_definitions.specs.Plans.{InBlock}
 use Rattle.dir_lookup.specs.Reading.{Gives, Lacks}
 use Rattle.dir_lookup.specs.Stored.{entries_at}
 use Rattle.dir_lookup.proofs.Steps.{said_ok, said_err}

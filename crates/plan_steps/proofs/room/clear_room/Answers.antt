@@ -1,6 +1,6 @@
 -- By the room.
 use Rattle.std.proofs.Common.{[], sym, subst, ap}
-use Rattle.plan_definitions.specs.Plans.{finish_in}
+use Rattle.disk_definitions.specs.Plans.{finish_in}
 use Rattle.dir_lookup.specs.Hands.{seen}
 use Rattle.dir_lookup.proofs.Looking.{adds_as, adds_none}
 use Rattle.plan_steps.specs.Looking.{examined}

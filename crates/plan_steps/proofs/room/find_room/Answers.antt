@@ -2,7 +2,7 @@
 use Rattle.std.proofs.Common.{◌≡◌, ◌*◌, ◌+◌, ◌<◌, ℕ, Some, None, Err, [], slice_index, sym, ap, ◌∙◌, arith, rules}
 use Rattle.std.specs.Option.{option_map}
 use Rattle.disk_definitions.specs.Store.{stored}
-use Rattle.plan_definitions.specs.Walks.{Found, is_vacant}
+use Rattle.disk_definitions.specs.Walks.{Found, is_vacant}
 use Rattle.dir_lookup.specs.Reading.{Gives, Lacks, read_of}
 use Rattle.dir_lookup.specs.Spots.{vacant_at}
 use Rattle.dir_lookup.proofs.Steps.{said_ok, said_err}

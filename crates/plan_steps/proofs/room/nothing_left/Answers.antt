@@ -1,7 +1,7 @@
 -- Where these are all segments, the reply under their locks.
 use Rattle.std.proofs.Common.{[], ◌++◌, ap, if◌then◌else◌}
 use Rattle.std.specs.Map.{keys_of}
-use Rattle.plan_definitions.specs.Plans.{Finishes, Lacks, shared_nodes, sole_segments}
+use Rattle.disk_definitions.specs.Plans.{Finishes, Lacks, shared_nodes, sole_segments}
 use Rattle.dir_lookup.specs.Reading.{Gives}
 use Rattle.plan_steps.proofs.room.nothing_left.Goals as goal
 

@@ -1,7 +1,7 @@
 -- By whether it is held.
 use Rattle.std.proofs.Common.{◌≡◌, ◌∷◌, [], true, false, cond, refl, sym, ap, ◌∙◌}
 use Rattle.std.specs.Option.{option_copied}
-use Rattle.plan_definitions.specs.Written.{is_held}
+use Rattle.disk_definitions.specs.Written.{is_held}
 use Rattle.dir_lookup.proofs.Looking.{adds_as, adds_none}
 use Rattle.plan_steps.specs.Looking.{segment_number}
 use Rattle.plan_steps.proofs.AtHand.{held_by, not_held}

@@ -1,8 +1,8 @@
 -- A node that goes needs its segments.
 use Rattle.std.proofs.Common.{◌≡◌, ℕ, true, false, [], cond, sym, ap, ◌∙◌}
 use Rattle.disk_definitions.specs.Store.{stored}
-use Rattle.plan_definitions.specs.Plans.{Finishes}
-use Rattle.plan_definitions.specs.NamePlans as plans
+use Rattle.disk_definitions.specs.Plans.{Finishes}
+use Rattle.disk_definitions.specs.NamePlans as plans
 use Rattle.dir_lookup.proofs.Looking.{adds_as, adds_none}
 use Rattle.plan_steps.specs.Looking.{looked_over}
 use Rattle.plan_steps.specs.Rooms.{needed}

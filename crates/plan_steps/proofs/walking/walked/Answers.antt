@@ -1,8 +1,8 @@
 -- By where the walk leads.
 use Rattle.std.proofs.Common.{◌≡◌, Err, [], subst, sym, rules}
-use Rattle.pick_definitions.specs.Held.{Segments}
-use Rattle.plan_definitions.specs.Ask.{Got, bind}
-use Rattle.plan_definitions.specs.Walks.{walk}
+use Rattle.disk_definitions.specs.Held.{Segments}
+use Rattle.disk_definitions.specs.Ask.{Got, bind}
+use Rattle.disk_definitions.specs.Walks.{walk}
 use Rattle.dir_lookup.specs.Looked.{Adds}
 use Rattle.dir_lookup.specs.Looks.{looks_of}
 use Rattle.dir_lookup.specs.Reading.{reading, read_of}

@@ -1,7 +1,7 @@
 use Rattle.std.proofs.Common.{◌≡◌}
 use Rattle.sector_bytes.specs.Sectors.{sectors_of}
-use Rattle.sector_definitions.specs.declared.region.Region.TheVariants as region
-use Rattle.sector_definitions.specs.Regions.{sector_of}
+use Rattle.disk_definitions.specs.declared.region.Region.TheVariants as region
+use Rattle.disk_definitions.specs.Regions.{sector_of}
 use Rattle.standing_laws.specs.Below.{all_below}
 use Rattle.report_definitions.specs.View.{is_recent_at}
 use Rattle.report_rules.proofs.blocks.parts_recent.Given as goal

@@ -1,7 +1,7 @@
 -- What was counted is compared with what the inode says.
 use Rattle.std.proofs.Common.{◌==◌, ◌<◌, Option, sym, ◌∙◌, ap, rules}
 use Rattle.std.specs.Option.{option_map}
-use Rattle.sector_definitions.specs.declared.inode.Inode.{Inode}
+use Rattle.disk_definitions.specs.declared.inode.Inode.{Inode}
 use Rattle.disk_definitions.specs.Store.{stored}
 use Rattle.disk_reading.specs.Marks.{flag_at}
 use Rattle.disk_reading.specs.Seen.{store_in}

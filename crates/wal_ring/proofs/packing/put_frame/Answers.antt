@@ -1,6 +1,6 @@
 -- A frame begins a sector of its own behind full ones, and else goes on the last one.
 use Rattle.std.proofs.Common.{min, ◌≤◌, ◌++◌, length, take, drop, sym, ap, ◌∙◌, arith}
-use Rattle.sector_definitions.specs.LogSectors.{none_begins}
+use Rattle.disk_definitions.specs.LogSectors.{none_begins}
 use Rattle.ring_definitions.specs.Rings.{open_room, packed_sectors}
 use Rattle.wal_ring.specs.Kept.{filled_last}
 use Rattle.wal_ring.proofs.WaitingSectors.{full_on, open_on, take_least, drop_least}

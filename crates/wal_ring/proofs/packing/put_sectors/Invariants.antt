@@ -2,7 +2,7 @@ use Rattle.std.proofs.Common.{◌≡◌, ◌+◌, ◌≤◌, ◌⊎◌, ◌++◌
 use Rattle.std.specs.Bool.{IsTrue}
 use Rattle.std.specs.List.{list_all}
 use Rattle.std.specs.VecDeque.{deque_len, deque_capacity}
-use Rattle.sector_definitions.specs.LogSectors.{none_begins}
+use Rattle.disk_definitions.specs.LogSectors.{none_begins}
 use Rattle.ring_definitions.specs.Rings.{sectors_for, packed_sectors}
 use Rattle.wal_ring.specs.Kept.{is_waiting}
 use Rattle.wal_ring.proofs.packing.put_sectors.Given as goal

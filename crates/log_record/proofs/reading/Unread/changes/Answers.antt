@@ -1,6 +1,6 @@
 -- One more is read in each turn, and nothing where one can't be.
 use Rattle.std.proofs.Common.{◌+◌, ◌-◌, arith}
-use Rattle.log_definitions.specs.Records.{all_read, change_read}
+use Rattle.disk_definitions.specs.Records.{all_read, change_read}
 use Rattle.log_record.proofs.RecordSteps.{read_more, read_none}
 use Rattle.log_record.proofs.reading.Unread.changes.Goals as goal
 

@@ -1,5 +1,5 @@
 use Rattle.std.proofs.Common.{◌≡◌, ◌-◌}
-use Rattle.log_definitions.specs.Records.{all_read, patch_read}
+use Rattle.disk_definitions.specs.Records.{all_read, patch_read}
 use Rattle.log_record.proofs.RecordSteps.{read_behind}
 use Rattle.log_record.proofs.reading.Unread.patches.Given as goal
 

@@ -1,7 +1,7 @@
 -- Byte after byte.
 use Rattle.std.proofs.Common.{◌≡◌, ◌<◌, ◌≤◌, ◌+◌, ◌*◌, ℕ, length, get_or, slice_index, sym, ap, ◌∙◌, arith, rules}
 use Rattle.std.proofs.Math.ListN.{length-set}
-use Rattle.plan_definitions.specs.FilePlans.{byte_over, mixed}
+use Rattle.disk_definitions.specs.FilePlans.{byte_over, mixed}
 use Rattle.op_data.specs.Writings.{writing_of}
 use Rattle.op_data.proofs.Setting.{past_end, set_all, set_more}
 use Rattle.op_data.proofs.Mixed.{byte_here, mixed_below, mixed_past}

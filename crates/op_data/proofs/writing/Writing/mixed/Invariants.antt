@@ -1,6 +1,6 @@
 -- The first bytes are set.
 use Rattle.std.proofs.Common.{◌≡◌, length, ◌+◌, ◌*◌, slice_index}
-use Rattle.plan_definitions.specs.FilePlans.{byte_over}
+use Rattle.disk_definitions.specs.FilePlans.{byte_over}
 use Rattle.op_data.specs.Writings.{writing_of}
 use Rattle.op_data.proofs.Setting.{SetBelow}
 use Rattle.op_data.proofs.writing.Writing.mixed.Given as goal

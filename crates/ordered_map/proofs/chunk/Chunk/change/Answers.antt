@@ -1,5 +1,5 @@
 -- What is made of the value at a place is the value there, and the last key stays.
-use Rattle.std.proofs.Common.{ap, ◌∙◌, subst, length, ◌<◌, get_or, ◌≡◌, sym}
+use Rattle.std.proofs.Common.{ap, ◌∙◌, subst, length, ◌<◌, get_or, sym}
 use Rattle.std.proofs.lemmas.List.{get_or_read}
 use Rattle.ordered_map.specs.Chunks.{overwritten, last_key}
 use Rattle.ordered_map.proofs.Spots.{overwrites, last-overwritten}

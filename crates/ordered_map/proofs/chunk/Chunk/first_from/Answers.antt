@@ -1,5 +1,5 @@
 -- What lies at the key's place, where that isn't beyond the last entry.
-use Rattle.std.proofs.Common.{◌≡◌, ◌<◌, ◌≤◌, length, sym, ap, ◌∙◌, arith}
+use Rattle.std.proofs.Common.{◌<◌, ◌≤◌, length, sym, ap, ◌∙◌, arith}
 use Rattle.std.specs.List.{slice_get}
 use Rattle.sorted_entries.specs.Places.{place_of}
 use Rattle.ordered_map.specs.Chunks.{at_of}

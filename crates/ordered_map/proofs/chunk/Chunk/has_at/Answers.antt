@@ -1,5 +1,5 @@
 -- The keys are compared.
-use Rattle.std.proofs.Common.{◌<◌, length, sym, ap, ◌∙◌, subst, arith}
+use Rattle.std.proofs.Common.{sym, ap, ◌∙◌, subst}
 use Rattle.std.specs.Ordering.{is_eq}
 use Rattle.ordered_map.specs.Chunks.{IsKeyAt}
 use Rattle.ordered_map.proofs.Spots.{key_there}

@@ -1,5 +1,5 @@
 -- The value of the entry that is taken out is the one at its place.
-use Rattle.std.proofs.Common.{◌≡◌, ap, ◌∙◌, subst, length, ◌<◌, get_or, sym}
+use Rattle.std.proofs.Common.{ap, ◌∙◌, subst, length, ◌<◌, get_or, sym}
 use Rattle.std.proofs.lemmas.List.{get_or_read}
 use Rattle.ordered_map.proofs.chunk.Chunk.take.Goals as goal
 

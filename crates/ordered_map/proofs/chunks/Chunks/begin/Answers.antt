@@ -1,5 +1,5 @@
 -- A blank chunk has no entries, and takes the one.
-use Rattle.std.proofs.Common.{◌≡◌, ◌++◌, ◌∷◌, [], length, sym, ap, ◌∙◌, subst, arith, length-append}
+use Rattle.std.proofs.Common.{◌++◌, ◌∷◌, [], length, ap, ◌∙◌, subst, arith, length-append}
 use Rattle.std.specs.List.{insert}
 use Rattle.ordered_map.specs.Chunks.{AreBlank}
 use Rattle.ordered_map.proofs.Flat.{blank_first, blank_last}

@@ -1,8 +1,8 @@
 -- The value at the key's place is what the edit makes of it.
-use Rattle.std.proofs.Common.{◌≡◌, ◌+◌, ◌-◌, Some, None, is_some, Ok, Err, IfSome, get_or, length, sym, ap, ◌∙◌, subst}
+use Rattle.std.proofs.Common.{◌≡◌, ◌+◌, ◌-◌, Some, is_some, Ok, Err, IfSome, get_or, length, sym, ap, ◌∙◌, subst}
 use Rattle.std.specs.Map.{lookup}
 use Rattle.std.specs.BTreeMap.{insert_entry, is_at}
-use Rattle.ordered_map.specs.Chunks.{joined, chunk_at, flat, capacity, IsChunked, IsLocated}
+use Rattle.ordered_map.specs.Chunks.{joined, chunk_at, capacity, IsChunked, IsLocated}
 use Rattle.ordered_map.proofs.Flat.{get_within}
 use Rattle.ordered_map.proofs.Found.{within_ok, place_at, value_missed}
 use Rattle.ordered_map.proofs.Whole.{any_of, write_chunked, write_entries, write_length, write_many}

@@ -1,8 +1,7 @@
 -- The value takes the place of that of the key, or the entry goes in at its place.
-use Rattle.std.proofs.Common.{◌≡◌, ◌+◌, ◌-◌, ◌<◌, ◌≤◌, Some, None, Ok, Err, get_or, length, sym, ap, ◌∙◌, refl, subst, arith}
+use Rattle.std.proofs.Common.{◌+◌, ◌-◌, Some, Ok, Err, length, sym, ap, ◌∙◌, refl, subst, arith}
 use Rattle.std.specs.Map.{lookup}
 use Rattle.std.specs.BTreeMap.{insert_entry, is_at}
-use Rattle.ordered_map.specs.declared.chunk.TheConstants.{QUARTER}
 use Rattle.ordered_map.specs.Chunks.{joined, chunk_at, flat, capacity, IsChunked, IsLocated}
 use Rattle.ordered_map.proofs.Close.{blank_left}
 use Rattle.ordered_map.proofs.Flat.{get_within}

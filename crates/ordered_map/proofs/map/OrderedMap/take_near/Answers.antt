@@ -1,5 +1,5 @@
 -- The entry at the key's place is taken out, and where there is none nothing is.
-use Rattle.std.proofs.Common.{◌+◌, Some, None, Ok, Err, refl, sym, ap, ◌∙◌, subst, arith}
+use Rattle.std.proofs.Common.{Some, Ok, Err, refl, sym, ap, ◌∙◌, subst, arith}
 use Rattle.std.specs.Map.{lookup, remove_entry}
 use Rattle.std.specs.BTreeMap.{is_at}
 use Rattle.ordered_map.specs.Chunks.{joined, chunk_at, IsLocated}

@@ -1,9 +1,9 @@
 -- The value at the key's place is what the edit makes of it, and what it was is answered.
-use Rattle.std.proofs.Common.{◌≡◌, ◌+◌, ◌-◌, ◌<◌, Some, None, Ok, Err, refl, get_or, length, sym, ap, ◌∙◌, subst}
+use Rattle.std.proofs.Common.{◌+◌, ◌-◌, ◌<◌, Some, Ok, Err, refl, get_or, length, sym, ap, ◌∙◌, subst}
 use Rattle.std.specs.Map.{lookup}
 use Rattle.std.proofs.lemmas.List.{get_or_read}
 use Rattle.std.specs.BTreeMap.{insert_entry, is_at}
-use Rattle.ordered_map.specs.Chunks.{joined, chunk_at, flat, capacity, IsChunked, IsLocated}
+use Rattle.ordered_map.specs.Chunks.{joined, chunk_at, capacity, IsChunked, IsLocated}
 use Rattle.ordered_map.proofs.Flat.{get_within}
 use Rattle.ordered_map.proofs.Found.{within_ok, place_at, value_missed}
 use Rattle.ordered_map.proofs.Whole.{any_of, write_chunked, write_entries, write_length, write_many}

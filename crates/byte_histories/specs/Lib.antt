@@ -1,4 +1,0 @@
-pub mod Along
-pub mod Keeping
-pub mod Stop
-pub mod Known

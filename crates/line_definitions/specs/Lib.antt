@@ -1,2 +1,0 @@
-pub mod Resolving
-pub mod Lines

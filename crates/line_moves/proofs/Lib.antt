@@ -1,2 +1,0 @@
-pub mod Lifting
-pub mod Laws

@@ -1,6 +1,0 @@
--- By the plan that follows, over a store of the shape.
-use Rattle.line_standing.proofs.Readiness.{lines_may_be_made}
-use Rattle.line_standing.proofs.edits_of_lines_may_be_made.Goals as goal
-
-pub returns : goal.returns
-returns c = record { may = lines_may_be_made }

@@ -1,5 +1,0 @@
-pub mod Records
-pub mod Frames
-pub mod Logs
-pub mod Replay
-pub mod Arriving

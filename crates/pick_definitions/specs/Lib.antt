@@ -1,5 +1,0 @@
-pub mod Least
-pub mod Held
-pub mod Picks
-pub mod Taken
-pub mod Laws

@@ -1,6 +1,0 @@
--- Operation by operation.
-use Rattle.plan_covers.proofs.AllChanged.{changed_held}
-use Rattle.plan_covers.proofs.changed_nodes_are_held_alone.Goals as goal
-
-pub returns : goal.returns
-returns c = record { alone = changed_held }

@@ -1,9 +1,0 @@
--- Plan by plan.
-use Rattle.plan_covers.proofs.AllLocks.{locks_cover, walks_are_held}
-use Rattle.plan_covers.proofs.locks_cover_what_is_planned.Goals as goal
-
-pub returns-clause-covered : goal.returns-clause-covered
-returns-clause-covered c = locks_cover
-
-pub returns-clause-walks : goal.returns-clause-walks
-returns-clause-walks c = walks_are_held

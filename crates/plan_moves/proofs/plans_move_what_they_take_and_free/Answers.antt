@@ -1,6 +1,0 @@
--- Plan by plan.
-use Rattle.plan_moves.proofs.Laws.{plans_move, covers_follow}
-use Rattle.plan_moves.proofs.plans_move_what_they_take_and_free.Goals as goal
-
-pub returns : goal.returns
-returns c = record { tidy = plans_move; covers = covers_follow }

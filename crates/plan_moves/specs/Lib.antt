@@ -1,4 +1,0 @@
-pub mod CoversAtHand
-pub mod Moves
-pub mod Numbered
-pub mod Plans

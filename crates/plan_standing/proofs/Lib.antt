@@ -1,9 +1,0 @@
-pub mod OfDisk
-pub mod Zeroed
-pub mod AtHand
-pub mod SameChanges
-pub mod Held
-pub mod Written
-pub mod Edited
-pub mod AllPlans
-pub mod Operations

@@ -1,6 +1,0 @@
--- The law.
-use Rattle.stop_laws.proofs.Syncing as syncing
-use Rattle.stop_laws.proofs.operations_show_what_is_known.Goals as goal
-
-pub returns : goal.returns
-returns c = record { reads = syncing.histories_keep_reads }

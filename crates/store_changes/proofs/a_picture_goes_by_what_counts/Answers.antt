@@ -1,9 +1,0 @@
--- By the lemmas over plain variables.
-use Rattle.store_changes.proofs.Counts.{files_fit, pictures_go_by_what_counts}
-use Rattle.store_changes.proofs.a_picture_goes_by_what_counts.Goals as goal
-
-pub returns-clause-counts : goal.returns-clause-counts
-returns-clause-counts c = pictures_go_by_what_counts
-
-pub returns-clause-fit : goal.returns-clause-fit
-returns-clause-fit c = files_fit
