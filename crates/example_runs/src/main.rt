@@ -1,8 +1,10 @@
 //! Does each example and compares what is said with the text beside it. The files of `examples/` are those of this crate's data, and the
-//! program prints a line for each script that it found, and for each command on an image.
+//! program prints a line for each script that it found, and for each command on an image. Where all are as said, it goes on as the program
+//! `frang` itself: its stored run asks for a script of exactly as many bytes as a script may have, whose lines follow.
 #![tactic(auto)]
 
 use frang_outside::{Act, DirFiles, Files, MemOutside, NoGate};
+use frang_program::run_program;
 use frang_top::{Status, frang};
 use std::alloc::Global;
 use std::collections::BTreeSet;
@@ -136,9 +138,8 @@ fn main(rt: HostRuntime) -> anyhow::Result<ExitCode> {
         all &= report(&rt, name.as_str(), same)?;
     }
     all &= are_images_as_said(&rt, alloc, &mut files)?;
-    Ok(if all {
-        ExitCode::SUCCESS
-    } else {
-        ExitCode::from(1)
-    })
+    if !all {
+        return Ok(ExitCode::from(1));
+    }
+    run_program(alloc, &rt)
 }
