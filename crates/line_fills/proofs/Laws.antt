@@ -1,30 +1,28 @@
--- The laws of the sectors of files, by the edits of each plan; a refusal edits nothing.
-use Rattle.std.proofs.Common.{ℕ, ◌≡◌, ◌⊎◌, inl, inr, ⊎_elim, not, Bool, true, false, Some, List, [], ◌∷◌, refl, sym, ◌∙◌, ap, ap₂, subst, nat_eq}
+-- Where the sectors of files lie after a finished line, and what it writes into them, by the edits of each plan; a refusal edits nothing.
+use Rattle.std.proofs.Common.{ℕ, ◌≡◌, ◌++◌, ◌⊎◌, inl, inr, ⊎_elim, Bool, false, Some, List, [], ◌∷◌, map, refl, sym, ◌∙◌, ap, ap₂, subst}
 use Rattle.std.specs.List.{AllByRecursion, Contains}
-use Rattle.std.specs.Option.{unwrap_or}
 use Rattle.frang_base.specs.declared.op.Op.{Op}
 use Rattle.frang_base.specs.Functions.{put}
-use Rattle.frang_base.proofs.Basics.{of_eq, put_same, put_other, or_equal}
+use Rattle.frang_base.proofs.Basics.{put_same, put_other, or_equal}
+use Rattle.tree_definitions.specs.Perform.{Step, Goes, resolved}
 use Rattle.tree_definitions.specs.Tree.{FileTree}
-use Rattle.disk_definitions.specs.Store.{Store, StoredNode, Use, is_unused}
-use Rattle.disk_definitions.specs.Store.Use.{Fresh}
+use Rattle.disk_definitions.specs.Store.{Store, StoredNode}
 use Rattle.disk_definitions.specs.Naming.{Naming}
 use Rattle.disk_definitions.specs.Edits.{Edit, edited, edited_all}
 use Rattle.disk_definitions.specs.Edits.Edit.{SetInode, SetBit, SetUse, SetPlace, SetLarge, SetBytes, SetLargeBytes}
 use Rattle.disk_definitions.specs.Ask.{run}
 use Rattle.disk_definitions.specs.Meets.{IsOfTree, IsHandOf}
 use Rattle.disk_definitions.specs.PlanOf.{plan_of}
-use Rattle.disk_definitions.specs.Plans.{Hand, Finish}
+use Rattle.disk_definitions.specs.Plans.{Hand, Lock, Finish, shared_nodes}
 use Rattle.disk_definitions.specs.Plans.Plan.{Finishes}
+use Rattle.disk_definitions.specs.Written.{is_metadata}
 use Rattle.plan_laws.proofs.Covering.{has_head, has_more, has_cases, not_in_none}
-use Rattle.plan_laws.specs.Moves.{use_said, large_said}
 use Rattle.plan_laws.specs.Plans.{OfEachFinish}
-use Rattle.plan_laws.proofs.Laws.{plans_move}
-use Rattle.plan_laws.proofs.OneNode.{is_said}
-use Rattle.plan_laws.proofs.Owned.{sayer, something_said}
+use Rattle.line_laws.proofs.Covered.{by_finish}
+use Rattle.line_laws.proofs.Running.{run_performed}
 use Rattle.line_laws.proofs.Lifting.{lifted}
-use Rattle.line_fills.specs.Files.{HoldsBytes, IsWritten, LeavesFilled, LinesLeaveFilled, GivesBackFree, LinesGiveBackFree}
-use Rattle.line_fills.proofs.Fine.{Fine, AreFine}
+use Rattle.line_fills.specs.Sectors.{KeepsOrWrites, LinesKeepOrWrite, IsPiece, LinesWritePieces}
+use Rattle.line_fills.proofs.Fine.{Fine}
 use Rattle.line_fills.proofs.Names.{IsFinePlan}
 use Rattle.line_fills.proofs.Each.{plan_fine}
 
@@ -49,66 +47,76 @@ inode_from (d ∷ es) s i y e = ⊎_elim (λ q. one d q) (λ r. inr (r.0, has_mo
     one (SetBytes k part bytes) q = inl q
     one (SetLargeBytes g part bytes) q = inl q
 
-module _ (s : Store) (es : List Edit) (b : Bool) where
-  use_is : (k : ℕ) (u : Use) (e : Edit) → Fine s es b e → use_said k e ≡ Some u → is_unused u ≡ b
-  use_is k u (SetUse j v) f q = ap is_unused (sym (is_said (nat_eq k j) v u q).1) ∙ f
-  use_is k u (SetInode j x d) f q = absurd (cc)
-  use_is k u (SetBit j v) f q = absurd (cc)
-  use_is k u (SetPlace j p x) f q = absurd (cc)
-  use_is k u (SetLarge g v) f q = absurd (cc)
-  use_is k u (SetBytes j part bytes) f q = absurd (cc)
-  use_is k u (SetLargeBytes g part bytes) f q = absurd (cc)
+-- ---- a plan over a path without links
 
-  large_is : (g : ℕ) (u : Bool) (e : Edit) → Fine s es b e → large_said g e ≡ Some u → not u ≡ b
-  large_is g u (SetLarge j v) f q = ap not (sym (is_said (nat_eq g j) v u q).1) ∙ f
-  large_is g u (SetInode j x d) f q = absurd (cc)
-  large_is g u (SetBit j v) f q = absurd (cc)
-  large_is g u (SetUse k v) f q = absurd (cc)
-  large_is g u (SetPlace j p x) f q = absurd (cc)
-  large_is g u (SetBytes j part bytes) f q = absurd (cc)
-  large_is g u (SetLargeBytes j part bytes) f q = absurd (cc)
-
-isnt : (u : Bool) → not u ≡ true → u ≡ false
-isnt true e = absurd (cc)
-isnt false e = refl
+piece_at : (P : Edit → Type 0) (s : Store) (es : List Edit) (frees : Bool) (d : Edit) → Fine P s es frees d → is_metadata d ≡ false → P d
+piece_at P s es frees (SetBytes k part bytes) f e = f
+piece_at P s es frees (SetLargeBytes g part bytes) f e = f
+piece_at P s es frees (SetInode i x dated) f e = absurd (cc)
+piece_at P s es frees (SetBit i b) f e = absurd (cc)
+piece_at P s es frees (SetUse k u) f e = absurd (cc)
+piece_at P s es frees (SetPlace k p x) f e = absurd (cc)
+piece_at P s es frees (SetLarge g b) f e = absurd (cc)
 
 module _ (o : Op) (h : Hand) (s : Store) (tree : FileTree) (n : Naming) (birth when : ℕ) (f : Finish) (of : IsOfTree s tree n) (hand : IsHandOf h s tree.segments) (e : run (plan_of h birth when o) s ≡ Finishes f) where
-  fine : (frees : Bool) × AreFine s f.edits frees f.edits
-  fine = subst (IsFinePlan s) e (plan_fine h s tree n of hand o birth when)
+  pub fine : IsFinePlan (IsPiece when o s) s (Finishes f)
+  fine = subst (IsFinePlan (IsPiece when o s) s) e (plan_fine h s tree n of hand o birth when)
 
-  one_fine : (d : Edit) → Contains f.edits d → Fine s f.edits fine.0 d
-  one_fine d c = each_of (Fine s f.edits fine.0) f.edits fine.1 d c
+  pub one_fine : (d : Edit) → Contains f.edits d → Fine (IsPiece when o s f) s f.edits fine.0 d
+  one_fine d c = each_of (Fine (IsPiece when o s f) s f.edits fine.0) f.edits fine.1 d c
 
-  filled : LeavesFilled s n f
-  filled sector holds = ⊎_elim
-      (λ same. inr (record { inode = holds.inode; node = holds.node; is = same; kind = holds.kind; index = holds.index; below = holds.below; here = holds.here }))
-      (λ w. subst (λ z. IsWritten f.edits z ⊎ HoldsBytes s z) holds.here (one_fine (SetInode holds.inode (Some holds.node) w.0) w.1 holds.kind holds.index holds.below))
-      (inode_from f.edits s holds.inode holds.node holds.is)
+  keeps : KeepsOrWrites s n f
+  keeps i t y is one l = ⊎_elim
+      (λ same. inr (record { before = y; is = same; kind = one; below = l; here = refl }))
+      (λ w. one_fine (SetInode i (Some y) w.0) w.1 one t l)
+      (inode_from f.edits s i y is)
 
-  free : GivesBackFree s n f
-  free =
-      let tidy = plans_move o h s tree n birth when f of hand e in
-      record {
-        small = λ k c.
-            let r = something_said (use_said k) f.edits (SetUse k Fresh) Fresh c (rw (of_eq k k refl) refl) in
-            let d = sayer (use_said k) f.edits r.0 r.1 in
-            ap is_unused (tidy.uses k ∙ ap (λ v. unwrap_or v (s.use_of k)) r.1) ∙ use_is s f.edits fine.0 k r.0 d.0 (one_fine d.0 d.1) d.2 ∙ sym (one_fine (SetUse k Fresh) c);
-        large = λ g c.
-            let r = something_said (large_said g) f.edits (SetLarge g false) false c (rw (of_eq g g refl) refl) in
-            let d = sayer (large_said g) f.edits r.0 r.1 in
-            tidy.larges g ∙ ap (λ v. unwrap_or v (s.large_bit g)) r.1 ∙ isnt r.0 (large_is s f.edits fine.0 g r.0 d.0 (one_fine d.0 d.1) d.2 ∙ sym (one_fine (SetLarge g false) c));
-      }
+  piece : (d : Edit) → Contains f.edits d → is_metadata d ≡ false → IsPiece when o s f d
+  piece d c bytes = piece_at (IsPiece when o s f) s f.edits fine.0 d (one_fine d c) bytes
 
-plans_leave_filled : OfEachFinish plan_of LeavesFilled
-plans_leave_filled o h s tree n birth when f of hand e = filled o h s tree n birth when f of hand e
+plans_keep_or_write : OfEachFinish plan_of KeepsOrWrites
+plans_keep_or_write o h s tree n birth when f of hand e = keeps o h s tree n birth when f of hand e
 
-plans_give_back_free : OfEachFinish plan_of GivesBackFree
-plans_give_back_free o h s tree n birth when f of hand e = free o h s tree n birth when f of hand e
+-- ---- a line
 
-pub lines_leave_filled : LinesLeaveFilled
-lines_leave_filled = lifted LeavesFilled (λ s n trail f law. law) (λ s tree n r trail of sector holds. inr holds) plans_leave_filled
+-- further locks leave it so
+behind : (when : ℕ) (p : Op) (s : Store) (g : Finish) (locks : List Lock) (d : Edit) → IsPiece when p s g d → IsPiece when p s (record g { locks = locks }) d
+behind when p s g locks d q = record {
+  reply = q.reply;
+  asked = q.asked;
+  is_asked = q.is_asked;
+  inode = q.inode;
+  leads = q.leads;
+  before = q.before;
+  is = q.is;
+  kind = q.kind;
+  begins = q.begins;
+  after = q.after;
+  written = q.written;
+  file = q.file;
+  size = q.size;
+  index = q.index;
+  from = q.from;
+  to = q.to;
+  sets = q.sets;
+}
 
-pub lines_give_back_free : LinesGiveBackFree
-lines_give_back_free =
-    lifted GivesBackFree (λ s n trail f law. record { small = law.small; large = law.large })
-    (λ s tree n r trail of. record { small = λ k c. absurd (not_in_none (SetUse k Fresh) c); large = λ g c. absurd (not_in_none (SetLarge g false) c) }) plans_give_back_free
+pub lines_keep_or_write : LinesKeepOrWrite
+lines_keep_or_write =
+    lifted KeepsOrWrites (λ s n trail f law. law) (λ s tree n r trail of i t y is one l. inr (record { before = y; is = is; kind = one; below = l; here = refl })) plans_keep_or_write
+
+-- where an edit is a piece of the step
+abbrev AreOfStep : ℕ → Store → Step → Finish → Type 0
+AreOfStep when s step f = (d : Edit) → Contains f.edits d → is_metadata d ≡ false → (p : Op) × (step ≡ Goes p) × IsPiece when p s f d
+
+pub lines_write_pieces : LinesWritePieces
+lines_write_pieces o h s tree n birth when f of hand e d c bytes =
+    let w = resolved tree o in
+    let trail = map n.inode w.trail in
+    let all : AreOfStep when s w.step f =
+    by_finish h s birth when (AreOfStep when s) trail
+    (λ p g is d c bytes. (p, refl, behind when p s g (shared_nodes trail ++ g.locks) d (piece p h s tree n birth when g of hand is d c bytes)))
+    (λ r d c bytes. absurd (not_in_none d c))
+    w.step f (sym (run_performed h s birth when tree n of o) ∙ e) in
+    let r = all d c bytes in
+    record { step = r.0; comes = r.1; piece = r.2 }

@@ -4,3 +4,8 @@ pub mod Renames
 pub mod Files
 pub mod Each
 pub mod Laws
+pub mod Filled
+pub mod Looked
+pub mod Owners
+pub mod Meeting
+pub mod PartLaws

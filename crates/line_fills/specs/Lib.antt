@@ -1,1 +1,4 @@
 pub mod Files
+pub mod Sectors
+pub mod Looked
+pub mod Parts

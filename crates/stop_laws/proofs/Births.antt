@@ -37,7 +37,7 @@ use Rattle.line_histories.specs.Standing.{StandsForShape, StandsNumbered}
 use Rattle.line_histories.specs.Trees.{AreTimes, MayTake, NumberedTree, performed_numbered}
 use Rattle.line_histories.proofs.Disks.{blank_of}
 use Rattle.line_histories.proofs.Runs.{both}
-use Rattle.byte_fills.specs.Parts.{IsFinished}
+use Rattle.line_fills.specs.Parts.{IsFinished}
 use Rattle.stop_laws.proofs.BytesAlong as along
 use Rattle.stop_laws.proofs.Guarded.{inode_here}
 use Rattle.stop_laws.proofs.Removing as removing

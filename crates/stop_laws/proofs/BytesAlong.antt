@@ -64,8 +64,8 @@ use Rattle.line_histories.proofs.Told.{perform_told}
 use Rattle.byte_doubts.specs.Deeds.{Deed, Does, Says, Doubts, items, steps, tree_after}
 use Rattle.byte_doubts.specs.Doubts.{Agrees, Passes, AllAgree}
 use Rattle.byte_doubts.proofs.Lasting.{found as last_write}
-use Rattle.byte_fills.specs.Parts.{LiesIn, IsFinished}
-use Rattle.byte_fills.proofs.PartLaws.{lines_keep_parts, lines_meet_parts}
+use Rattle.line_fills.specs.Parts.{LiesIn, IsFinished}
+use Rattle.line_fills.proofs.PartLaws.{lines_keep_parts, lines_meet_parts}
 use Rattle.stop_laws.specs.Along.{LiesAfter, IsTold, IsSaid, HasShape, AllTold, DoubtIsTheSameAlongLines}
 use Rattle.stop_laws.proofs.BytesCovered.{is_used, part_cover, history_cover}
 use Rattle.stop_laws.proofs.Next.{ever_directories, finished, meets, naming_then, next_of}

@@ -23,7 +23,7 @@ use Rattle.plan_records.proofs.Kept.{in_small, in_large}
 use Rattle.plan_laws.specs.Numbered.{sector_in}
 use Rattle.line_histories.specs.Following.{CoversFollow, store_after}
 use Rattle.line_histories.proofs.Filled.{IsInUse}
-use Rattle.byte_fills.specs.Parts.{LiesIn}
+use Rattle.line_fills.specs.Parts.{LiesIn}
 
 -- a lock that is in a list
 pub is_used : (locks : List LockId) (l : LockId) → Contains locks l → has_lock l locks ≡ true

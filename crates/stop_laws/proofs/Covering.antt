@@ -17,7 +17,7 @@ use Rattle.line_histories.specs.Following.{store_after}
 use Rattle.byte_trees.specs.Cells.{Covers}
 use Rattle.byte_trees.proofs.Doubting.{covers, listed}
 use Rattle.byte_doubts.specs.Deeds.{Deed, items, steps, tree_after}
-use Rattle.byte_fills.proofs.Owners.{IsFileAt, file_there}
+use Rattle.line_fills.proofs.Owners.{IsFileAt, file_there}
 use Rattle.stop_laws.specs.Along.{LiesAfter}
 use Rattle.stop_laws.proofs.BytesAlong.{doubt_same_along}
 use Rattle.stop_laws.specs.Known.{IsToldTwice}

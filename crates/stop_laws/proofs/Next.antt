@@ -44,7 +44,7 @@ use Rattle.line_histories.proofs.Disks.{blank_of, ever, files}
 use Rattle.line_histories.proofs.Laid.{with_changes, changed_same}
 use Rattle.line_histories.proofs.Leading.{inodes_next, bits_next, uses_next, larges_next}
 use Rattle.line_histories.proofs.Leading as leading
-use Rattle.byte_fills.specs.Parts.{IsFinished}
+use Rattle.line_fills.specs.Parts.{IsFinished}
 
 -- edits make the same places and uses, whatever bytes there are
 same_place : (es : List Edit) (s t : Store) → t.place ≡ s.place → (edited_all t es).place ≡ (edited_all s es).place

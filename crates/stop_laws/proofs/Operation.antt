@@ -75,10 +75,10 @@ use Rattle.stop_laws.specs.Keeping.{FinishesOver, KeepsBytes}
 use Rattle.stop_laws.proofs.BytesKept.{agrees_by, lines_keep}
 use Rattle.stop_laws.proofs.BytesTold.{told_same}
 use Rattle.byte_doubts.specs.Deeds.{Deed, Does, items, steps, tree_after}
-use Rattle.byte_fills.specs.Parts.{LiesIn}
+use Rattle.line_fills.specs.Parts.{LiesIn}
 use Rattle.byte_trees.specs.Standing.{HasItsBytes}
 use Rattle.stop_laws.specs.Known.{HasWhatIsKnown, KnowsCells}
-use Rattle.byte_fills.proofs.Looked.{lines_look}
+use Rattle.line_fills.proofs.Looked.{lines_look}
 use Rattle.stop_laws.specs.Cells.{IsShown, having}
 use Rattle.stop_laws.proofs.Counted.{directories_few}
 use Rattle.stop_laws.proofs.Lying.{block_same, large_lies, large_same, small_lies}

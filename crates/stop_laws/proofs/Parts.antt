@@ -39,8 +39,8 @@ use Rattle.line_histories.specs.Following.{CoversFollow, store_after}
 use Rattle.line_histories.specs.Standing.{StandsNumbered}
 use Rattle.line_histories.specs.Trees.{AreTimes, MayTake, NumberedTree, performed_numbered}
 use Rattle.line_histories.proofs.Filled.{IsInUse, file_in_use, written_value}
-use Rattle.byte_fills.specs.Parts.{LiesIn}
-use Rattle.byte_fills.proofs.PartLaws.{lines_keep_parts}
+use Rattle.line_fills.specs.Parts.{LiesIn}
+use Rattle.line_fills.proofs.PartLaws.{lines_keep_parts}
 use Rattle.stop_laws.proofs.BytesAlong as along
 use Rattle.stop_laws.proofs.BytesCovered.{history_cover, is_used, part_cover}
 use Rattle.stop_laws.proofs.Written.{has_fill, some_shape}

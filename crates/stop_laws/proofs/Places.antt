@@ -20,7 +20,7 @@ use Rattle.disk_definitions.proofs.Kept.{inode_is}
 use Rattle.disk_definitions.specs.Ask.{Sector, BytesAt, LargeAt, number_of}
 use Rattle.disk_definitions.specs.Meets.{IsOfTree}
 use Rattle.line_fills.specs.Files.{file_sector}
-use Rattle.byte_fills.specs.Parts.{LiesIn}
+use Rattle.line_fills.specs.Parts.{LiesIn}
 
 get_past : {X : Type 0} (xs : List X) (j : ℕ) (c : X) → slice_get xs j ≡ Some c → j < length xs
 get_past [] j c e = absurd (cc)

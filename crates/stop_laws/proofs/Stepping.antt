@@ -34,7 +34,7 @@ use Rattle.line_histories.specs.Following.{store_after}
 use Rattle.line_histories.specs.Standing.{StandsNumbered}
 use Rattle.line_histories.specs.Trees.{AreTimes, MayTake, NumberedTree}
 use Rattle.line_histories.proofs.Filled.{IsInUse, file_in_use, not_given}
-use Rattle.byte_fills.specs.Parts.{LiesIn}
+use Rattle.line_fills.specs.Parts.{LiesIn}
 use Rattle.stop_laws.proofs.BytesAlong as along
 
 pub record IsStepped (segments : ℕ) (when : ℕ → ℕ) (opening : ℕ → Block) (h : List Item) (c : Commit) (tree to : FileTree) : Type 0 where

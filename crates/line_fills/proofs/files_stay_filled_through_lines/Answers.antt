@@ -1,5 +1,5 @@
 -- By the edits of each plan.
-use Rattle.line_fills.proofs.Laws.{lines_leave_filled}
+use Rattle.line_fills.proofs.Filled.{lines_leave_filled}
 use Rattle.line_fills.proofs.files_stay_filled_through_lines.Goals as goal
 
 pub returns : goal.returns

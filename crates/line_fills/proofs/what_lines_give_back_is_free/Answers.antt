@@ -1,5 +1,5 @@
 -- By the edits of each plan.
-use Rattle.line_fills.proofs.Laws.{lines_give_back_free}
+use Rattle.line_fills.proofs.Filled.{lines_give_back_free}
 use Rattle.line_fills.proofs.what_lines_give_back_is_free.Goals as goal
 
 pub returns : goal.returns

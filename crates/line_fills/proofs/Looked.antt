@@ -30,7 +30,7 @@ use Rattle.line_commits.proofs.AskedLines.{resolved_asks}
 use Rattle.line_commits.proofs.AskedNames.{walk_asks}
 use Rattle.line_commits.proofs.Asking.{asked}
 use Rattle.line_commits.proofs.Blind.{IsNoBytes}
-use Rattle.byte_fills.specs.Looked.{IsInFile, LinesLookAtBytesOfFiles}
+use Rattle.line_fills.specs.Looked.{IsInFile, LinesLookAtBytesOfFiles}
 
 -- the sectors that bytes meet end less than a sector past them
 met_below : (off len : ℕ) → 512 * (off / 512 + sectors_met off len) < off + len + 512

@@ -16,12 +16,12 @@ use Rattle.plan_laws.proofs.Standing.{node_of}
 use Rattle.plan_laws.specs.Looked.{edited_at}
 use Rattle.plan_nodes.proofs.Laws.{line_nodes_keep, line_nodes_free}
 use Rattle.line_fills.specs.Files.{file_sector, IsWritten}
-use Rattle.byte_fills.specs.Sectors.{bytes_kept}
-use Rattle.byte_fills.proofs.Files.{set_at}
-use Rattle.byte_fills.proofs.Laws.{lines_keep_or_write, lines_write_pieces}
-use Rattle.byte_fills.specs.Parts.{LiesIn, IsFinished, LinesKeepParts, LinesWriteWhatTheyMeet}
-use Rattle.byte_fills.proofs.Owners.{same_part}
-use Rattle.byte_fills.proofs.Meeting.{begins_below, reaches, asked_meets}
+use Rattle.line_fills.specs.Sectors.{bytes_kept}
+use Rattle.line_fills.proofs.Files.{set_at}
+use Rattle.line_fills.proofs.Laws.{lines_keep_or_write, lines_write_pieces}
+use Rattle.line_fills.specs.Parts.{LiesIn, IsFinished, LinesKeepParts, LinesWriteWhatTheyMeet}
+use Rattle.line_fills.proofs.Owners.{same_part}
+use Rattle.line_fills.proofs.Meeting.{begins_below, reaches, asked_meets}
 
 module _ (o : Op) (h : Hand) (s : Store) (tree : FileTree) (n after : Naming) (birth when m : ℕ) (f : Finish) (g : IsFinished o h s tree n after birth when m f) where
   abbrev to : FileTree

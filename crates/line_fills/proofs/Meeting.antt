@@ -21,8 +21,8 @@ use Rattle.disk_definitions.specs.Walks.{Spot, walk}
 use Rattle.disk_definitions.specs.Walks.Spot.{AtRoot, AtName, AtGap, Lost}
 use Rattle.plan_laws.specs.Walking.{Mirrors}
 use Rattle.plan_laws.proofs.Walking.{walks_lead}
-use Rattle.byte_fills.specs.Sectors.{Asked, asked_of, spot_inode}
-use Rattle.byte_fills.proofs.Owners.{file_there}
+use Rattle.line_fills.specs.Sectors.{Asked, asked_of, spot_inode}
+use Rattle.line_fills.proofs.Owners.{file_there}
 
 -- ---- which parts bytes reach
 

@@ -1,3 +1,0 @@
-pub mod Sectors
-pub mod Looked
-pub mod Parts
