@@ -1,6 +1,6 @@
 -- What never changes in a run of the core: the script, the size of the disk, the number of the run, and the limits of its logs and its leases.
 use Rattle.std.specs.Prelude.{ℕ, ◌%◌, Bool, IsTrue, List, nat_lt, refl}
-use Rattle.frang_base.specs.declared.limits.TheConstants.{LEASE_TICKS, LOG_IN_FLIGHT_MAX, LOG_QUARTER, LOG_SECTORS, LOG_WINDOW, MARGIN_TICKS}
+use Rattle.frang_base.specs.declared.limits.TheConstants.{FLUSH_TICKS, LEASE_TICKS, LOG_IN_FLIGHT_MAX, LOG_QUARTER, LOG_SECTORS, LOG_WINDOW, MARGIN_TICKS}
 use Rattle.frang_base.specs.declared.change.Redo.{Redo}
 use Rattle.frang_base.specs.declared.script.Line.{Line}
 use Rattle.lock_definitions.specs.Lease.{lease_expiry_of}
@@ -51,7 +51,7 @@ setting_of script segments run = record {
   segments = segments;
   run = run;
   logs = disk_logs;
-  flush_ticks = 30;
+  flush_ticks = FLUSH_TICKS;
   lease_ticks = LEASE_TICKS;
   margin_ticks = MARGIN_TICKS;
   lease_outlasts = refl;

@@ -139,6 +139,9 @@ pub const LEASE_TICKS: u64 = 30;
 /// How long before the end of its lease a server's write may last arrive, in ticks.
 pub const MARGIN_TICKS: u64 = 15;
 
+/// At each multiple of so many ticks servers want everything written.
+pub const FLUSH_TICKS: u64 = 30;
+
 /// The last tick of the clock. A lease that begins at it ends at the last value of `u64`.
 pub const LAST_TICK: u64 = u64::MAX - LEASE_TICKS;
 
