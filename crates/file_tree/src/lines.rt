@@ -22,7 +22,6 @@ fn path_text(alloc: Global, text: &Text) -> Result<Text, NoMemory>
     }
 }
 
-#[tactic(auto, using(crate::proofs::PathTexts::below_name))]
 fn name_below(text: &Text, name: &Name) -> Result<Text, NoMemory>
     requires { is_below text.now ≡ true }
     ensures is { IfOk result (λ below. below ≡ name_below text.now name.now) }

@@ -39,7 +39,8 @@ fn is_name_byte(byte: u8) -> bool
     byte > 32 && byte != b'/' && byte != 127
 }
 
-fn all_name_bytes(bytes: &[u8]) -> bool
+/// Whether all bytes are those that a name may have.
+pub(crate) fn all_name_bytes(bytes: &[u8]) -> bool
     ensures { result ≡ list_all is_name_byte bytes.now }
 {
     bytes.iter().all(|byte| is_name_byte(*byte))

@@ -1,11 +1,11 @@
 // Paths from texts.
 ghost use Rattle.std.specs.Prelude.{◌≡◌, ◌∷◌, ◌==◌, Some, None, MatchResult};
-ghost use Rattle.std.specs.List.{list_all, position, slice_split};
+ghost use Rattle.std.specs.List.{position, slice_split};
 ghost use Rattle.std.specs.Option.{option_copied};
-ghost use Rattle.frang_base.specs.Name.{is_name_byte};
 ghost use Rattle.frang_base.specs.PathText.{parts_left, name_fault, names_from, path_of, IsPathAnswer};
 
 use crate::limits::{NAME_BYTES_MAX, PATH_BYTES_MAX, PATH_NAMES_MAX};
+use crate::name::all_name_bytes;
 use crate::{Name, NoMemory, Path, PathFault};
 use std::alloc::Global;
 
@@ -37,13 +37,6 @@ pub fn cut(text: &[u8], separator: u8) -> (&[u8], Option<&[u8]>)
     }
 }
 
-fn has_only_name_bytes(text: &[u8]) -> bool
-    ensures { result ≡ list_all is_name_byte text.now }
-{
-    text.iter()
-        .all(|byte| *byte > b' ' && *byte != b'/' && *byte != 127)
-}
-
 // The name, or why it is none after so many others.
 fn next_name(before: usize, text: &[u8]) -> Result<Name, PathFault>
     ensures { MatchResult result
@@ -55,9 +48,7 @@ fn next_name(before: usize, text: &[u8]) -> Result<Name, PathFault>
     }
     match Name::of(text) {
         Some(name) => Ok(name),
-        None if text.len() > NAME_BYTES_MAX && has_only_name_bytes(text) => {
-            Err(PathFault::TooLong)
-        }
+        None if text.len() > NAME_BYTES_MAX && all_name_bytes(text) => { Err(PathFault::TooLong) }
         None => Err(PathFault::BadName),
     }
 }

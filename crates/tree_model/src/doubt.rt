@@ -1,5 +1,5 @@
 // Which sectors of files come into doubt when a server's log is recovered.
-ghost use Rattle.std.specs.Prelude.{◌≡◌, IfOk, IsTrue, false};
+ghost use Rattle.std.specs.Prelude.{◌≡◌, ◌+◌, ◌*◌, ◌<◌, IfOk, IsTrue, false, nat_lt};
 ghost use Rattle.tree_definitions.specs.Place.{place};
 ghost use Rattle.tree_definitions.specs.History.{file_at};
 ghost use Rattle.tree_definitions.specs.Touched.{is_ok, is_sync};
@@ -24,11 +24,26 @@ pub struct Sought {
     pub sector: usize,
 }
 
+// Whether an offset lies before a sector's end.
+fn is_before_end(sector: usize, from: usize) -> bool
+    ensures { result ≡ nat_lt from (SECTOR_BYTES * (sector + 1)) }
+{
+    from / SECTOR_BYTES <= sector
+}
+
+// Whether bytes that end at an offset go beyond a sector's start.
+fn is_past_start(sector: usize, to: usize) -> bool
+    requires { 0 < to }
+    ensures { result ≡ nat_lt (SECTOR_BYTES * sector) to }
+{
+    sector <= (to - 1) / SECTOR_BYTES
+}
+
 // Whether bytes from one offset to another meet a sector.
 fn meets(sector: usize, from: usize, to: usize) -> bool
     ensures { result ≡ meets sector from to }
 {
-    from < to && from / SECTOR_BYTES <= sector && sector <= (to - 1) / SECTOR_BYTES
+    from < to && is_before_end(sector, from) && is_past_start(sector, to)
 }
 
 // Whether bytes of the file at a path, from one offset to another, meet a sector.

@@ -1,0 +1,10 @@
+-- A copy has the same segments and nodes, and so the same counts.
+use Rattle.std.proofs.Common.{arith}
+use Rattle.std.proofs.lemmas.Grind.{elements}
+use Rattle.file_tree.proofs.tree.Tree.try_copy.Goals as goal
+
+pub invariant_of-result : goal.invariant_of-result
+invariant_of-result c = grind (arith, elements)
+
+pub returns : goal.returns
+returns c = grind (arith, elements)
