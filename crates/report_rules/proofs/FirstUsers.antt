@@ -21,8 +21,11 @@ length_of zero = refl
 length_of (suc n) = ap suc (length_of n)
 
 -- before the first place
-pub no_users : (f : ℕ → Option ℕ) (limit : ℕ) → AreUsers f limit 0 (replicate limit None) []
-no_users f limit = record { long = length_of limit; counted = refl; users = λ k l. none_of limit k; firsts = λ t l. absurd (omega arith) }
+none_used : (f : ℕ → Option ℕ) (limit : ℕ) → AreUsers f limit 0 (replicate limit None) []
+none_used f limit = record { long = length_of limit; counted = refl; users = λ k l. none_of limit k; firsts = λ t l. absurd (omega arith) }
+
+pub no_users : (f : ℕ → Option ℕ) (limit : ℕ) (first : List (Option ℕ)) (fine : List Bool) → first ≡ replicate limit None → fine ≡ [] → AreUsers f limit 0 first fine
+no_users f limit first fine e g = subst (λ (l : List Bool). AreUsers f limit 0 first l) (sym g) (subst (λ (l : List (Option ℕ)). AreUsers f limit 0 l []) (sym e) (none_used f limit))
 
 -- a number has a first place exactly where it has one
 pub some_first : (n : ℕ) (p : ℕ → Bool) → is_some (first_below n p) ≡ any_below n p

@@ -1,5 +1,5 @@
 // What is reached from inode 0, each inode taken once.
-ghost use Rattle.std.specs.Prelude.{◌≡◌, ◌≤◌, ◌<◌, ◌*◌, ◌==◌, length, IfOk, OnOk};
+ghost use Rattle.std.specs.Prelude.{◌≡◌, ◌≤◌, ◌<◌, ◌*◌, ◌==◌, [], false, length, replicate, IfOk, OnOk};
 ghost use Rattle.disk_reading.specs.Marks.{flag_at, IsBelow};
 ghost use Rattle.disk_reading.specs.Seen.{store_in};
 ghost use Rattle.standing_laws.specs.Below.{holds};
@@ -22,6 +22,20 @@ struct Walk {
 }
 
 impl Walk {
+    // Inode 0 alone is reached, and is still to be taken.
+    fn new(alloc: Global, limit: usize) -> Result<Self, NoMemory>
+        requires { 0 < limit }
+        ensures { IfOk result (λ w. HasFlagged (λ k. 0 == k) (replicate limit false) [] w.reached w.later.items) }
+    {
+        let reached = Flags::new(alloc, limit)?;
+        let mut walk = Walk {
+            reached,
+            later: Vec::new(alloc),
+        };
+        walk.flag(ROOT_INODE)?;
+        Ok(walk)
+    }
+
     // Flags an inode, and has it taken later, where it isn't flagged.
     #[tactic(auto, using(crate::proofs::Walking::flagged_before))]
     fn flag(&mut self, i: u32) -> Result<(), NoMemory>
@@ -78,18 +92,13 @@ impl Walk {
 }
 
 /// The flags of the inodes that are reached.
-#[tactic(auto, using(crate::proofs::Walking::begun))]
 pub fn reached(alloc: Global, disk: &DecodedDisk<'_>, segments: u32) -> Result<Flags, NoMemory>
     requires few { segments ≤ SEGMENTS_MAX }
     requires some { 1 ≤ segments }
     ensures long { IfOk result (λ f. length f ≡ SEGMENT_INODES * segments) }
     ensures reach { IfOk result (λ f. view.IsReach (store_in segments disk.now) (flag_at f)) }
 {
-    let mut walk = Walk {
-        reached: Flags::new(alloc, (SEGMENT_INODES * segments) as usize)?,
-        later: Vec::new(alloc),
-    };
-    walk.flag(ROOT_INODE)?;
+    let mut walk = Walk::new(alloc, (SEGMENT_INODES * segments) as usize)?;
     walk.take_all(disk, segments)?;
     Ok(walk.reached)
 }

@@ -23,6 +23,18 @@ use frang_base::{Name, NoMemory};
 use std::alloc::Global;
 use tree_definitions::Entries;
 
+// The name of an entry.
+fn name_of(entry: &DirEntry) -> Name
+    requires name { is_name (name_in entry.now) ≡ true }
+    requires len { entry.now.len ≤ NAME_BYTES_MAX }
+    ensures { result ≡ name_in entry.now }
+{
+    match Name::of(&entry.name[..entry.len as usize]) {
+        Some(name) => name,
+        None => unreachable!(),
+    }
+}
+
 // Adds the name of an entry. Whether it wasn't there.
 fn add_name(entries: &mut Entries, entry: &DirEntry) -> Result<bool, NoMemory>
     requires name { is_name (name_in entry.now) ≡ true }
@@ -31,9 +43,7 @@ fn add_name(entries: &mut Entries, entry: &DirEntry) -> Result<bool, NoMemory>
     ensures is { IfOk result (λ b. b ≡ not (is_some (entry_at entries.old (name_in entry.now)))) }
     ensures added { OnOk result (entries.new ≡ with_entry entries.old (name_in entry.now) entry.now.inode) }
 {
-    let Some(name) = Name::of(&entry.name[..entry.len as usize]) else {
-        unreachable!()
-    };
+    let name = name_of(entry);
     let new = entries.get(&name).is_none();
     entries.insert(name, u64::from(entry.inode))?;
     Ok(new)

@@ -28,10 +28,9 @@ impl Users {
         ensures first { IfOk result (λ u. u.first.items ≡ replicate limit None) }
         ensures fine { IfOk result (λ u. u.fine ≡ []) }
     {
-        Ok(Users {
-            first: vec![in alloc; None; limit]?,
-            fine: Flags::new(alloc, 0)?,
-        })
+        let first = vec![in alloc; None; limit]?;
+        let fine = Flags::new(alloc, 0)?;
+        Ok(Users { first, fine })
     }
 
     /// The first place of a number, if it has one.
@@ -117,7 +116,6 @@ fn used_large(disk: &DecodedDisk<'_>, segments: u32, reached: &Flags, i: u32) ->
 }
 
 /// The users of small blocks: 16 places for each inode.
-#[tactic(auto, using(crate::proofs::FirstUsers::no_users))]
 pub fn small_users(
     alloc: Global,
     disk: &DecodedDisk<'_>,
@@ -135,7 +133,6 @@ pub fn small_users(
 }
 
 /// The users of large blocks: a place for each inode.
-#[tactic(auto, using(crate::proofs::FirstUsers::no_users))]
 pub fn large_users(
     alloc: Global,
     disk: &DecodedDisk<'_>,

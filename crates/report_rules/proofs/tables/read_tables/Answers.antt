@@ -6,8 +6,8 @@ returns c = record {
   long = c.in_ok-reached.ensures.long;
   reach = c.in_ok-reached.ensures.reach;
   names = c.in_ok-names.ensures;
-  small = c.in_ok-small.ensures;
-  large = c.in_ok-large.ensures;
-  directories = c.in_ok-directories.ensures;
-  repeats = c.in_ok-repeats.ensures;
+  small = c.in_ok-small.ensures.small;
+  large = c.in_ok-small.ensures.large;
+  directories = c.in_ok-directories.ensures.directories;
+  repeats = c.in_ok-directories.ensures.repeats;
 }
