@@ -1,7 +1,7 @@
 -- Over the disk of a tree, an outcome keeps the guards: by the locks of its plan, and by what the plan looked at.
 use Rattle.std.proofs.Common.{ℕ, ◌≡◌, ◌<◌, ◌*◌, ◌&&◌, inl, inr, ⊎_elim, Bool, true, false, nat_lt, if◌then◌else◌, IsTrue, IsSome, Option, Some, None, List, [], ◌∷◌, ◌++◌, map, is_some, refl, sym, ap, ◌∙◌, subst}
 use Rattle.std.proofs.lemmas.List.Elements.{Contains-append_left, Contains-append_right, Contains-append_cases}
-use Rattle.std.proofs.lemmas.Bool.{and_parts}
+use Rattle.std.proofs.lemmas.Bool.{and_parts, false≢true}
 use Rattle.std.specs.BTreeMap.{is_at}
 use Rattle.std.specs.List.{filter_map, Contains}
 use Rattle.std.specs.Option.{option_map, option_and_then, unwrap_or}
@@ -21,7 +21,7 @@ use Rattle.sector_histories.specs.Histories.Fill.{Written, Freed}
 use Rattle.sector_histories.specs.Plans.{Outcome, looks as touched}
 use Rattle.disk_definitions.specs.declared.region.Region.{Region}
 use Rattle.disk_definitions.specs.declared.region.Region.TheVariants as region
-use Rattle.disk_definitions.specs.Regions.{region_of}
+use Rattle.disk_definitions.specs.Regions.{region_of, sector_of}
 use Rattle.disk_definitions.proofs.RegionLaws.{region_read}
 use Rattle.tree_definitions.specs.Tree.{FileTree}
 use Rattle.tree_laws.proofs.Pairs.{birth_exact, tie}
@@ -33,7 +33,7 @@ use Rattle.disk_definitions.specs.Edits.{Edit}
 use Rattle.disk_definitions.specs.Edits.Edit.{SetInode, SetBit, SetUse, SetPlace, SetLarge, SetBytes, SetLargeBytes}
 use Rattle.disk_definitions.specs.Ask.{Sector, InodeAt, DirectoryAt, SegmentAt, BytesAt, LargeAt, Ask, run, looks, number_of}
 use Rattle.disk_definitions.specs.Plans.{Hand, Lock, Plan, Finish}
-use Rattle.disk_definitions.specs.Plans.Plan.{Lacks, Clears, Finishes}
+use Rattle.disk_definitions.specs.Plans.Plan.{Finishes}
 use Rattle.disk_definitions.specs.Meets.{IsHandOf, is_directory_use}
 use Rattle.disk_definitions.specs.Written.{edit_sector, byte_writes, freed_sectors}
 use Rattle.plan_laws.specs.Locks.{IsSole}
@@ -45,7 +45,8 @@ use Rattle.plan_laws.specs.Moves.{first_said, use_said, taker_said, small_move, 
 use Rattle.plan_laws.specs.Plans.{Planner, Fills}
 use Rattle.plan_records.proofs.Kept.{is_less}
 use Rattle.plan_laws.specs.Numbered.{sector_in, sector_at, moves_of}
-use Rattle.line_commits.specs.LinePlans.{may_be_planned, held_of, hand_on, store_showing, store_on, versioned, plain, becomes_directory, is_claimed, claims_of, fill_by, edits_in, lock_in, sole_in, segment_lock, segment_number, outcome_by, outcome_if, outcome_over, are_segments}
+use Rattle.line_commits.specs.LinePlans.{held_of, hand_on, store_showing, store_on, versioned, plain, becomes_directory, is_claimed, claims_of, fill_by, edits_in, lock_in, sole_in, segment_lock, segment_number, outcome_by}
+use Rattle.line_commits.specs.Outcomes.{IsOfAPlan}
 use Rattle.line_commits.specs.Planners.{IsPart, IsSoundPlanner}
 use Rattle.line_commits.specs.Guards.{IsDiskOf, IsUnder, IsSeen, IsMoved, IsClaimed, KeepsGuards, SoundPlansKeepGuards, LinePlansKeepGuards}
 use Rattle.line_commits.proofs.Lists.{member_has, filter_has, has_filter, has_map}
@@ -53,23 +54,32 @@ use Rattle.line_commits.proofs.Changes.{IsChange, change_of_edit}
 use Rattle.line_commits.proofs.Hands.{is_hand, held_asked, hint_fresh}
 use Rattle.line_commits.proofs.Framed.{edited_versioned, seen_is_looked}
 use Rattle.line_commits.proofs.LinesSound.{lines_are_sound}
+use Rattle.line_commits.proofs.Outcomes.{outcomes_of_plans}
 use Rattle.disk_definitions.specs.Lines.{plan_of_line}
+
+-- ---- options
+
+none_some : {A : Type 0} (x : A) → None ≡ Some x → ⊥
+none_some x e = cc
+
+same_some : {A : Type 0} (x y : A) → Some x ≡ Some y → x ≡ y
+same_some x y e = cc
 
 -- ---- numbers
 
 pub versioned_number : (x : Sector) (m : ℕ) → versioned x ≡ Some m → m ≡ number_of x
-versioned_number (InodeAt i) m e = cc
-versioned_number (DirectoryAt k part) m e = cc
-versioned_number (SegmentAt k) m e = cc
-versioned_number (BytesAt k part) m e = absurd (cc)
-versioned_number (LargeAt g part) m e = absurd (cc)
+versioned_number (InodeAt i) m e = sym (same_some (number_of (InodeAt i)) m e)
+versioned_number (DirectoryAt k part) m e = sym (same_some (number_of (DirectoryAt k part)) m e)
+versioned_number (SegmentAt k) m e = sym (same_some (number_of (SegmentAt k)) m e)
+versioned_number (BytesAt k part) m e = absurd (none_some m e)
+versioned_number (LargeAt g part) m e = absurd (none_some m e)
 
 pub plain_number : (x : Sector) (m : ℕ) → plain x ≡ Some m → m ≡ number_of x
-plain_number (InodeAt i) m e = absurd (cc)
-plain_number (DirectoryAt k part) m e = absurd (cc)
-plain_number (SegmentAt k) m e = absurd (cc)
-plain_number (BytesAt k part) m e = cc
-plain_number (LargeAt g part) m e = cc
+plain_number (InodeAt i) m e = absurd (none_some m e)
+plain_number (DirectoryAt k part) m e = absurd (none_some m e)
+plain_number (SegmentAt k) m e = absurd (none_some m e)
+plain_number (BytesAt k part) m e = sym (same_some (number_of (BytesAt k part)) m e)
+plain_number (LargeAt g part) m e = sym (same_some (number_of (LargeAt g part)) m e)
 
 edit_number : (e : Edit) → edit_sector e ≡ number_of (edited_at e)
 edit_number (SetInode i x dated) = refl
@@ -92,7 +102,7 @@ held_used locks more l h = Contains-append_left (map lock_in locks) more l (map_
 
 -- a value that is found is among the pairs
 value_in : (xs : List (ℕ × List ℕ)) (s : ℕ) (b : List ℕ) → value_at xs s ≡ Some b → Contains xs (s, b)
-value_in [] s b e = absurd (cc)
+value_in [] s b e = absurd (none_some b e)
 value_in (x ∷ xs) s b e = go (value_in xs s b) (is_at (nat_cmp s) x.0) refl e
   where
     go : (value_at xs s ≡ Some b → Contains xs (s, b)) → (c : Bool) → is_at (nat_cmp s) x.0 ≡ c → (if c then Some x.1 else value_at xs s) ≡ Some b → Contains (x ∷ xs) (s, b)
@@ -109,31 +119,60 @@ filled_is edits s e = go (member s (freed_sectors edits)) refl (value_at (byte_w
   where
     go : (b : Bool) → member s (freed_sectors edits) ≡ b → (o : Option (List ℕ)) → value_at (byte_writes edits) s ≡ o → is_some (if b then Some Freed else option_map (λ bytes. Written bytes) o) ≡ true → Fills edits s
     go true m o v i = inr (member_has s (freed_sectors edits) m)
-    go false m None v i = absurd (cc)
+    go false m None v i = absurd (false≢true i)
     go false m (Some bytes) v i = inl (bytes, value_in (byte_writes edits) s bytes v)
+
+-- where a fill is made of what is shown, there is one
+pub made_some : (fills : Option Block → Option Fill) (o : Option Fill) → is_some {T = Option Block → Fill} (option_map (λ fill shown. unwrap_or (fills shown) fill) o) ≡ true → IsSome o
+made_some fills None e = absurd (false≢true e)
+made_some fills (Some fill) e = refl
 
 -- ---- sectors of the disk
 
+-- the sector of a place has the place's number
+place_number : (r : Region) (x : Sector) → sector_in (Some r) ≡ Some x → sector_of r ≡ number_of x
+place_number region.Param x e = absurd (none_some x e)
+place_number (region.Log server slot) x e = absurd (none_some x e)
+place_number (region.Segment k) x e = ap number_of (same_some (SegmentAt k) x e)
+place_number (region.Inode j) x e = ap number_of (same_some (InodeAt j) x e)
+place_number (region.Small k part) x e = ap number_of (same_some (DirectoryAt k part) x e)
+place_number (region.Large g part) x e = ap number_of (same_some (LargeAt g part) x e)
+
+-- a part of a small block is such a place
+place_part : (r : Region) (k part : ℕ) → sector_in (Some r) ≡ Some (DirectoryAt k part) → r ≡ region.Small k part
+place_part region.Param k part e = absurd (none_some (DirectoryAt k part) e)
+place_part (region.Log server slot) k part e = absurd (none_some (DirectoryAt k part) e)
+place_part (region.Segment g) k part e = absurd (cc)
+place_part (region.Inode j) k part e = absurd (cc)
+place_part (region.Small j b) k part e = let same : DirectoryAt j b ≡ DirectoryAt k part = same_some (DirectoryAt j b) (DirectoryAt k part) e in cc
+place_part (region.Large g b) k part e = absurd (cc)
+
+-- a sector that is found is that of a place
+placed_at : (segments s : ℕ) (x : Sector) → sector_at segments s ≡ Some x → (r : Region) × (region_of segments s ≡ Some r) × (sector_in (Some r) ≡ Some x)
+placed_at segments s x = go (region_of segments s)
+  where
+    go : (o : Option Region) → sector_in o ≡ Some x → (r : Region) × (o ≡ Some r) × (sector_in (Some r) ≡ Some x)
+    go None i = absurd (none_some x i)
+    go (Some r) i = (r, refl, i)
+
 -- the number of a sector is its own
 pub sector_here : (segments s : ℕ) (x : Sector) → sector_at segments s ≡ Some x → s ≡ number_of x
-sector_here segments s x e = go (region_of segments s) refl e
-  where
-    go : (o : Option Region) → region_of segments s ≡ o → sector_in o ≡ Some x → s ≡ number_of x
-    go None q i = absurd (cc)
-    go (Some region.Param) q i = absurd (cc)
-    go (Some (region.Log server slot)) q i = absurd (cc)
-    go (Some (region.Segment k)) q i = let z : SegmentAt k ≡ x = cc in sym (region_read segments s (region.Segment k) q).0 ∙ ap number_of z
-    go (Some (region.Inode j)) q i = let z : InodeAt j ≡ x = cc in sym (region_read segments s (region.Inode j) q).0 ∙ ap number_of z
-    go (Some (region.Small k part)) q i = let z : DirectoryAt k part ≡ x = cc in sym (region_read segments s (region.Small k part) q).0 ∙ ap number_of z
-    go (Some (region.Large g part)) q i = let z : LargeAt g part ≡ x = cc in sym (region_read segments s (region.Large g part) q).0 ∙ ap number_of z
+sector_here segments s x e = let r = placed_at segments s x e in sym (region_read segments s r.0 r.1).0 ∙ place_number r.0 x r.2
+
+-- of a small block of the disk there are eight parts
+part_inside : (segments s k part : ℕ) → sector_at segments s ≡ Some (DirectoryAt k part) → part < 8
+part_inside segments s k part e =
+    let r = placed_at segments s (DirectoryAt k part) e in
+    let range = (region_read segments s (region.Small k part) (r.1 ∙ ap Some (place_part r.0 k part r.2))).1 in
+    is_less part 8 (and_parts (nat_lt k (1024 * segments)) (nat_lt part 8) range).1
 
 -- a sector that is moved is there
 moved_there : (segments : ℕ) (edits : List Edit) (s : ℕ) (new : LockId) → moves_of segments edits s ≡ Some new → (x : Sector) × (sector_at segments s ≡ Some x) × (moved_by edits x ≡ Some new)
-moved_there segments edits s new e = go (sector_at segments s) refl e
+moved_there segments edits s new = go (sector_at segments s)
   where
-    go : (o : Option Sector) → sector_at segments s ≡ o → option_and_then (moved_by edits) o ≡ Some new → (x : Sector) × (sector_at segments s ≡ Some x) × (moved_by edits x ≡ Some new)
-    go None q i = absurd (cc)
-    go (Some x) q i = (x, q, i)
+    go : (o : Option Sector) → option_and_then (moved_by edits) o ≡ Some new → (x : Sector) × (o ≡ Some x) × (moved_by edits x ≡ Some new)
+    go None i = absurd (none_some new i)
+    go (Some x) i = (x, refl, i)
 
 -- a sector that is claimed is a part of a block that becomes a directory's
 pub record IsTakenBlock (segments : ℕ) (disk : Sectors) (hint : List ℕ) (edits : List Edit) (s : ℕ) : Type 0 where
@@ -148,20 +187,20 @@ pub record IsTakenBlock (segments : ℕ) (disk : Sectors) (hint : List ℕ) (edi
 pub claimed_there : (segments : ℕ) (disk : Sectors) (hint : List ℕ) (edits : List Edit) (s : ℕ) → claims_of segments (held_of segments disk hint) edits s ≡ true → IsTakenBlock segments disk hint edits s
 claimed_there segments disk hint edits s e = go (sector_at segments s) refl e
   where
-    by_use : (k part : ℕ) → sector_at segments s ≡ Some (DirectoryAt k part) → (u : Option Use) → first_said (use_said k) edits ≡ u → (c : Bool) → is_in_state 0 (state_in (held_of segments disk hint) k) ≡ c →
-        (becomes_directory u && c) ≡ true → IsTakenBlock segments disk hint edits s
-    by_use k part q None v c w i = absurd (cc)
-    by_use k part q (Some u) v c w i =
-        let parts = and_parts (is_directory_use u) c i in
-        record { block = k; part = part; here = q; said = u; says = v; directory = parts.0; fresh = w ∙ parts.1 }
+    by_use : (k part : ℕ) → sector_at segments s ≡ Some (DirectoryAt k part) → (u : Option Use) → first_said (use_said k) edits ≡ u → (becomes_directory u && is_in_state 0 (state_in (held_of segments disk hint) k)) ≡ true →
+        IsTakenBlock segments disk hint edits s
+    by_use k part q None v i = absurd (false≢true i)
+    by_use k part q (Some u) v i =
+        let parts = and_parts (is_directory_use u) (is_in_state 0 (state_in (held_of segments disk hint) k)) i in
+        record { block = k; part = part; here = q; said = u; says = v; directory = parts.0; fresh = parts.1 }
 
     go : (o : Option Sector) → sector_at segments s ≡ o → is_claimed (held_of segments disk hint) edits o ≡ true → IsTakenBlock segments disk hint edits s
-    go None q i = absurd (cc)
-    go (Some (InodeAt j)) q i = absurd (cc)
-    go (Some (SegmentAt k)) q i = absurd (cc)
-    go (Some (BytesAt k part)) q i = absurd (cc)
-    go (Some (LargeAt g part)) q i = absurd (cc)
-    go (Some (DirectoryAt k part)) q i = by_use k part q (first_said (use_said k) edits) refl (is_in_state 0 (state_in (held_of segments disk hint) k)) refl i
+    go None q i = absurd (false≢true i)
+    go (Some (InodeAt j)) q i = absurd (false≢true i)
+    go (Some (SegmentAt k)) q i = absurd (false≢true i)
+    go (Some (BytesAt k part)) q i = absurd (false≢true i)
+    go (Some (LargeAt g part)) q i = absurd (false≢true i)
+    go (Some (DirectoryAt k part)) q i = by_use k part q (first_said (use_said k) edits) refl i
 
 -- one of several sectors that are inside
 one_inside : (segments : ℕ) (xs : List Sector) (x : Sector) → AreInside segments xs → Contains xs x → IsInside segments x
@@ -255,7 +294,7 @@ module _ (planner : Planner) (sound : IsSoundPlanner planner) (segments : ℕ) (
         let r = claimed_there segments disk hint f.edits m e in
         let free = hint_fresh segments disk hint r.block r.fresh in
         let here : m ≡ number_of (DirectoryAt r.block r.part) = sector_here segments m (DirectoryAt r.block r.part) r.here in
-        let inside : r.part < 8 = part_inside r.block r.part r.here in
+        let inside : r.part < 8 = part_inside segments m r.block r.part r.here in
         record {
           block = r.block;
           part = r.part;
@@ -264,33 +303,15 @@ module _ (planner : Planner) (sound : IsSoundPlanner planner) (segments : ℕ) (
           zeros = ap disk here ∙ is_of.clear r.block r.part free.0 inside free.1;
           moved = ap (λ o. is_some (option_and_then (moved_by f.edits) o)) r.here ∙ ap (λ u. is_some (small_move r.block (first_said (taker_said r.block) f.edits) u)) r.says ∙ block_moves r.block r.said r.says;
         }
-      where
-        part_inside : (k part : ℕ) → sector_at segments m ≡ Some (DirectoryAt k part) → part < 8
-        part_inside k part e = go (region_of segments m) refl e
-          where
-            go : (o : Option Region) → region_of segments m ≡ o → sector_in o ≡ Some (DirectoryAt k part) → part < 8
-            go None q i = absurd (cc)
-            go (Some region.Param) q i = absurd (cc)
-            go (Some (region.Log server slot)) q i = absurd (cc)
-            go (Some (region.Segment g)) q i = absurd (cc)
-            go (Some (region.Inode j)) q i = absurd (cc)
-            go (Some (region.Large g b)) q i = absurd (cc)
-            go (Some (region.Small j b)) q i =
-                let same : b ≡ part = cc in
-                let range = (region_read segments m (region.Small j b) q).1 in
-                subst (λ z. z < 8) same (is_less b 8 (and_parts (nat_lt j (1024 * segments)) (nat_lt b 8) range).1)
 
     of_read : (m : ℕ) → member m o.reads ≡ true → IsSeen segments naming o.uses m
     of_read m e = let r = has_filter plain (looks p s) m (member_has m o.reads e) in record { sector = r.0; here = plain_number r.0 m r.2; inside = inside r.0 r.1; part = part r.0 r.1; covered = under r.0 r.1 }
 
     of_made : (m : ℕ) → IsSome (o.makes m) → IsUnder naming o.alone m
     of_made m e =
-        let r = sound.bytes op h s tree naming n (when n) f is_of.of hand is m (filled_is f.edits m (go (fill_by (edits_in (run p s)) m) refl e)) in
+        let made : IsSome (fill_by (edits_in (run p s)) m) = made_some (λ shown. fill_by (edits_in (planned shown)) m) (fill_by (edits_in (run p s)) m) e in
+        let r = sound.bytes op h s tree naming n (when n) f is_of.of hand is m (filled_is f.edits m (subst (λ v. IsSome (fill_by (edits_in v) m)) is made)) in
         record { sector = r.0; here = sym r.1; covered = sole_alone f.locks (cover_of naming r.0) r.2 }
-      where
-        go : (v : Option Fill) → fill_by (edits_in (run p s)) m ≡ v → is_some {T = Option Block → Fill} (option_map (λ fill shown. unwrap_or (fill_by (edits_in (planned shown)) m) fill) v) ≡ true → IsSome (fill_by f.edits m)
-        go None q i = absurd (cc)
-        go (Some fill) q i = ap is_some (ap (λ w. fill_by (edits_in w) m) (sym is) ∙ q)
 
     pub kept : KeepsGuards segments disk naming o
     kept = record {
@@ -303,18 +324,10 @@ module _ (planner : Planner) (sound : IsSoundPlanner planner) (segments : ℕ) (
       made = of_made;
     }
 
-  by_plan : (v : Plan) → run p s ≡ v → (q : Outcome) → outcome_if segments disk hint planned (looks p s) v ≡ Some q → KeepsGuards segments disk naming q
-  by_plan Lacks is q e = absurd (cc)
-  by_plan (Clears k locks) is q e = absurd (cc)
-  by_plan (Finishes f) is q e = let same : outcome_by segments disk hint planned (looks p s) f ≡ q = cc in subst (KeepsGuards segments disk naming) same (kept f is)
-
-  by_test : (b : Bool) (q : Outcome) → (if b then outcome_over segments disk hint p else None) ≡ Some q → KeepsGuards segments disk naming q
-  by_test true q e = by_plan (run p s) refl q e
-  by_test false q e = absurd (cc)
-
 pub sound_guarded : SoundPlansKeepGuards
 sound_guarded planner sound segments when hint n op disk tree naming o is_of e =
-    by_test planner sound segments when hint n op disk tree naming is_of (may_be_planned op && are_segments segments hint) o e
+    let r : IsOfAPlan planner segments when hint n op disk o = outcomes_of_plans planner segments when hint n op disk o e in
+    subst (KeepsGuards segments disk naming) (sym r.comes.outcome) (kept planner sound segments when hint n op disk tree naming is_of r.comes.finish r.comes.is)
 
 pub lines_guarded : LinePlansKeepGuards
 lines_guarded segments when hint n op disk tree naming o is_of e = sound_guarded plan_of_line lines_are_sound segments when hint n op disk tree naming o is_of e

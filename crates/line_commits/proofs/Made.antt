@@ -48,19 +48,20 @@ part_same f g k part h = fun_ext (λ r. ⊎_elim (inside r) (outside r) (cases_l
     outside : (r : ℕ) → 512 ≤ r → part_of f k part r ≡ part_of g k part r
     outside r l = rw (of_ge r 512 l) refl
 
+-- what is made of a block is what is made where it's shown, if that's of the same shape
+made_shown : (fills : Option Block → Option Fill) (shown : Option Block) (a b : Option Fill) → fills shown ≡ b → fill_shape b ≡ fill_shape a → made_of (option_map (λ fill shown. unwrap_or (fills shown) fill) a) shown ≡ b
+made_shown fills shown None None q e = refl
+made_shown fills shown None (Some (Written block)) q e = absurd (cc)
+made_shown fills shown None (Some Freed) q e = absurd (cc)
+made_shown fills shown (Some (Written block)) None q e = absurd (cc)
+made_shown fills shown (Some Freed) None q e = absurd (cc)
+made_shown fills shown (Some fill) (Some other) q e = ap (λ o. Some (unwrap_or o fill)) q
+
 -- what is made is what the plan makes of what is shown
 made_exact : (planned : Option Block → Plan) (number : ℕ) (shown : Option Block) → fill_shape (fill_by (edits_in (planned shown)) number) ≡ fill_shape (fill_by (edits_in (planned None)) number) →
     made_of (makes_by planned number) shown ≡ fill_by (edits_in (planned shown)) number
-made_exact planned number shown same = go (fill_by (edits_in (planned None)) number) (fill_by (edits_in (planned shown)) number) refl same
-  where
-    go : (a b : Option Fill) → fill_by (edits_in (planned shown)) number ≡ b → fill_shape b ≡ fill_shape a →
-        made_of (option_map (λ fill shown. unwrap_or (fill_by (edits_in (planned shown)) number) fill) a) shown ≡ b
-    go None None q e = refl
-    go None (Some (Written block)) q e = absurd (cc)
-    go None (Some Freed) q e = absurd (cc)
-    go (Some (Written block)) None q e = absurd (cc)
-    go (Some Freed) None q e = absurd (cc)
-    go (Some fill) (Some other) q e = rw q refl
+made_exact planned number shown same =
+    made_shown (λ shown. fill_by (edits_in (planned shown)) number) shown (fill_by (edits_in (planned None)) number) (fill_by (edits_in (planned shown)) number) refl same
 
 same_fill : (v w : Plan) (number : ℕ) → plan_shape v ≡ plan_shape w → value_at (byte_writes (edits_in v)) number ≡ value_at (byte_writes (edits_in w)) number → fill_by (edits_in v) number ≡ fill_by (edits_in w) number
 same_fill v w number shape value =

@@ -1,8 +1,7 @@
 -- What an outcome changes, writes and frees lies on the disk, and was under locks that it uses alone.
-use Rattle.std.proofs.Common.{ℕ, zero, suc, ◌≡◌, ◌<◌, ◌≤◌, ◌/◌, ◌^◌, inl, inr, ⊎_elim, Bool, true, false, if◌then◌else◌, IsSome, Option, Some, None, List, [], ◌∷◌, is_some, refl, sym, ap, ◌∙◌, subst, arith}
+use Rattle.std.proofs.Common.{ℕ, zero, suc, ◌≡◌, ◌<◌, ◌≤◌, ◌/◌, ◌^◌, inl, inr, ⊎_elim, Bool, true, false, if◌then◌else◌, IsSome, Option, Some, None, List, [], ◌∷◌, refl, sym, ap, ◌∙◌, subst, arith}
 use Rattle.std.proofs.lemmas.List.Elements.{Contains-append_cases, Contains-push_cases}
 use Rattle.std.specs.List.{flat_map, Contains}
-use Rattle.std.specs.Option.{option_map, unwrap_or}
 use Rattle.frang_base.specs.declared.change.Change.{Change}
 use Rattle.frang_base.specs.declared.lock.LockId.{LockId}
 use Rattle.frang_base.specs.declared.lock.LockId.TheVariants as lock
@@ -12,7 +11,6 @@ use Rattle.frang_base.proofs.Basics.{of_eq}
 use Rattle.sector_bytes.specs.Blocks.{Block}
 use Rattle.sector_bytes.specs.Replays.{change_at}
 use Rattle.sector_bytes.specs.Sectors.{Sectors}
-use Rattle.sector_histories.specs.Histories.{Fill}
 use Rattle.sector_histories.specs.Plans.{Outcome}
 use Rattle.disk_definitions.specs.declared.region.Region.TheVariants as region
 use Rattle.disk_definitions.specs.Regions.{sector_of}
@@ -49,7 +47,7 @@ use Rattle.line_commits.specs.Outcomes.{IsOfAPlan}
 use Rattle.line_commits.specs.Owned.{IsCoveredAt, OwnsWhatItWrites, SoundPlansOwn, LinePlansOwn}
 use Rattle.line_commits.proofs.Apart.{one_fit}
 use Rattle.line_commits.proofs.Changes.{change_of_edit, ascending_member}
-use Rattle.line_commits.proofs.Guarded.{filled_is, sole_alone}
+use Rattle.line_commits.proofs.Guarded.{filled_is, made_some, sole_alone}
 use Rattle.line_commits.proofs.Hands.{is_hand}
 use Rattle.line_commits.proofs.LinesSound.{lines_are_sound}
 use Rattle.line_commits.proofs.Lists.{has_member, member_has, has_filter, has_map}
@@ -201,11 +199,9 @@ module _ (planner : Planner) (sound : IsSoundPlanner planner) (segments : ℕ) (
       own_freed number r.0 r.1 r.2
 
   own_made : (number : ℕ) → IsSome (o.makes number) → IsCoveredAt segments naming o.alone number
-  own_made number e = own_fill number (filled_is f.edits number (go (fill_by (edits_in (run p b)) number) refl e))
-    where
-      go : (v : Option Fill) → fill_by (edits_in (run p b)) number ≡ v → is_some {T = Option Block → Fill} (option_map (λ fill shown. unwrap_or (fill_by (edits_in (planned shown)) number) fill) v) ≡ true → IsSome (fill_by f.edits number)
-      go None q i = absurd (cc)
-      go (Some fill) q i = ap is_some (ap (λ w. fill_by (edits_in w) number) (sym is) ∙ q)
+  own_made number e =
+      let made : IsSome (fill_by (edits_in (run p b)) number) = made_some (λ shown. fill_by (edits_in (planned shown)) number) (fill_by (edits_in (run p b)) number) e in
+      own_fill number (filled_is f.edits number (subst (λ v. IsSome (fill_by (edits_in v) number)) is made))
 
   own_change : (number : ℕ) (change : Change) → change_at o.changes number ≡ Some change → IsCoveredAt segments naming o.alone number
   own_change number change e = let r = (change_of_edit disk f.edits number change e).edited in own_edit r.edit r.among number r.here

@@ -1,5 +1,6 @@
 -- Which parts an entry meets goes by the shape of the tree, and only an entry answered `ok` meets any.
 use Rattle.std.proofs.Common.{ℕ, ◌≡◌, ◌+◌, Option, Some, None, List, length, true, refl, ◌∙◌, ap}
+use Rattle.std.proofs.lemmas.Bool.{false≢true}
 use Rattle.std.proofs.lemmas.List.{length-map}
 use Rattle.frang_base.specs.declared.op.Op.{Op}
 use Rattle.frang_base.specs.declared.op.Op.TheVariants as op
@@ -63,8 +64,8 @@ module _ (t : FileTree) (birth part : ℕ) where
   is_ok (Goes (op.Write path off bytes)) reply.Ok h = refl
   is_ok (Goes (op.Fill path off len byte)) reply.Ok h = refl
   is_ok (Goes (op.Truncate path len)) reply.Ok h = refl
-  is_ok (Goes o) r h = absurd (cc)
-  is_ok (Stops q) r h = absurd (cc)
+  is_ok (Goes o) r h = absurd (false≢true h)
+  is_ok (Stops q) r h = absurd (false≢true h)
 
   pub by_shape : (o : Op) → step_writes (shape_of t) (resolved (shape_of t) o).step reply.Ok birth part ≡ step_writes t (resolved t o).step reply.Ok birth part
   by_shape o = ap (λ w. step_writes (shape_of t) w.step reply.Ok birth part) (resolved_shape t o) ∙ step_met (resolved t o).step

@@ -33,6 +33,9 @@ or_else : Option Block → Block → Block
 or_else None other = other
 or_else (Some block) other = block
 
+none_some : {A : Type 0} (x : A) → None ≡ Some x → ⊥
+none_some x e = cc
+
 none_if : (b : Bool) → (b ≡ true → ⊥) → b ≡ false
 none_if true f = absurd (f refl)
 none_if false f = refl
@@ -53,9 +56,9 @@ module _ (segments : ℕ) (opening : ℕ → Block) (first_tree : FileTree) (log
     cell_below b j t c e s lies = go (node_at tree b) refl e
       where
         go : (o : Option Node) → node_at tree b ≡ o → cell_in o j ≡ Some c → j < lies.lies.stored.size
-        go None is i = absurd (cc)
-        go (Some (Dir entries blocks)) is i = absurd (cc)
-        go (Some (Link target links)) is i = absurd (cc)
+        go None is i = absurd (none_some c i)
+        go (Some (Dir entries blocks)) is i = absurd (none_some c i)
+        go (Some (Link target links)) is i = absurd (none_some c i)
         go (Some (File cells links when)) is i =
             let size : lies.lies.stored.size ≡ length (doubts cells)
             = size_there (store_after segments opening (items older)) (shape_of tree) lies.naming lies.of b t lies.sector lies.lies (doubts cells) links when (found tree b ∙ ap shaped is) in

@@ -1,5 +1,6 @@
 -- Two trees that agree where an operation touches: it looks in the same directories, and touches the same further node.
 use Rattle.std.proofs.Common.{ℕ, ◌≡◌, Bool, true, false, not, Option, Some, None, List, [], ◌∷◌, ◌++◌, cond, refl, sym, ◌∙◌, ap, ap₂, subst, is_some}
+use Rattle.std.proofs.lemmas.Bool.{false≢true}
 use Rattle.frang_base.specs.declared.op.Op.{Op}
 use Rattle.frang_base.specs.declared.op.Op.TheVariants as op
 use Rattle.frang_base.specs.declared.reply.Reply.{Reply}
@@ -86,11 +87,17 @@ well_refused tree b [] = refl
 well_refused tree b (name ∷ []) = well_in (node_at tree b) b name
 well_refused tree b (name ∷ next ∷ names) = well_below (place_in (node_at tree b) b name) (λ c. place_from tree c (next ∷ names)) (well_in (node_at tree b) b name) (λ c. well_refused tree c (next ∷ names))
 
+-- such a refusal isn't `notempty`
+not_told : (q : Reply) → is_walk_reply q ≡ true → agrees (Plain q) reply.NotEmpty ≡ true → ⊥
+not_told reply.NoEnt w z = false≢true z
+not_told reply.NotDir w z = false≢true z
+not_told _ w z = false≢true w
+
 module _ (L : Likeness) (one two : FileTree) (g : Grounds one two) where
   reached_alike : (wanted : Node → Bool) (test : Kind → Bool) → ((x : Node) → wanted x ≡ test (kind_of x)) → (b : ℕ) (o q : Option Node) → node_at one b ≡ o → node_at two b ≡ q → is_some o ≡ true → is_some q ≡ true → reached_if wanted b q ≡ reached_if wanted b o
   reached_alike wanted test by b (Some x) (Some y) i j s t = ap (λ c. cond c (b ∷ []) []) (by y ∙ ap test (sym (g.kinds b x y i j)) ∙ sym (by x))
-  reached_alike wanted test by b None q i j s t = absurd (cc)
-  reached_alike wanted test by b (Some x) None i j s t = absurd (cc)
+  reached_alike wanted test by b None q i j s t = absurd (false≢true s)
+  reached_alike wanted test by b (Some x) None i j s t = absurd (false≢true t)
 
   reached_at : (wanted : Node → Bool) (test : Kind → Bool) → ((x : Node) → wanted x ≡ test (kind_of x)) → (p : Place) → Stands one p → Stands two p → reached two wanted p ≡ reached one wanted p
   reached_at wanted test by Root s t = reached_alike wanted test by 0 (node_at one 0) (node_at two 0) refl refl (dir_is_some (node_at one 0) g.root_one) (dir_is_some (node_at two 0) g.root_two)
@@ -151,22 +158,17 @@ module _ (L : Likeness) (one two : FileTree) (g : Grounds one two) where
   module _ (n : List ℕ) (ns : List (List ℕ)) (m : List ℕ) (ms : List (List ℕ)) where
     second_walk : (h : AgreeOn L one two (op.Rename (n ∷ ns) (m ∷ ms)) reply.NotEmpty (renamed_from one (place one (n ∷ ns)) (m ∷ ms))) → (p : Place) → Stands one p → refused_well p ≡ true → p ≡ place one (n ∷ ns)
         → (b : ℕ) → is_in b (walked one (m ∷ ms)) ≡ true → Near L one two b
-    second_walk h Root s w e b i = absurd (let z : agrees (renamed_from one Root (m ∷ ms)).answer reply.NotEmpty ≡ true = subst (λ p. agrees (renamed_from one p (m ∷ ms)).answer reply.NotEmpty ≡ true) (sym e) h.told in cc)
-    second_walk h (Free dir es k name) s w e b i = absurd (let z : agrees (renamed_from one (Free dir es k name) (m ∷ ms)).answer reply.NotEmpty ≡ true = subst (λ p. agrees (renamed_from one p (m ∷ ms)).answer reply.NotEmpty ≡ true) (sym e) h.told in cc)
+    second_walk h Root s w e b i = absurd (false≢true (subst (λ p. agrees (renamed_from one p (m ∷ ms)).answer reply.NotEmpty ≡ true) (sym e) h.told))
+    second_walk h (Free dir es k name) s w e b i = absurd (false≢true (subst (λ p. agrees (renamed_from one p (m ∷ ms)).answer reply.NotEmpty ≡ true) (sym e) h.told))
     second_walk h (Nowhere q) s w e b i = absurd (not_told q w (subst (λ p. agrees (renamed_from one p (m ∷ ms)).answer reply.NotEmpty ≡ true) (sym e) h.told))
-      where
-        not_told : (q : Reply) → is_walk_reply q ≡ true → agrees (Plain q) reply.NotEmpty ≡ true → ⊥
-        not_told reply.NoEnt w z = cc
-        not_told reply.NotDir w z = cc
-        not_told _ w z = cc
     second_walk h (Taken dir es k name c) s w e b i =
         h.looked b (in_right b (walked one (n ∷ ns)) (then_walked one (reached one any_node (place one (n ∷ ns))) (m ∷ ms))
         (subst (λ p. is_in b (then_walked one (reached one any_node p) (m ∷ ms)) ≡ true) e
         (subst (λ l. is_in b l ≡ true) (sym (then_after_any one c (node_at one c) (m ∷ ms) (g.alive_one dir es k name c s.0 s.1))) i)))
 
   rename_further : (path to : List (List ℕ)) (birth when k : ℕ) → AgreeOn L one two (op.Rename path to) reply.NotEmpty (apply one (op.Rename path to) birth when k) → reached two dir_node (place two to) ≡ reached one dir_node (place one to)
-  rename_further [] to birth when k h = absurd (let z = h.told in cc)
-  rename_further (n ∷ ns) [] birth when k h = absurd (let z = h.told in cc)
+  rename_further [] to birth when k h = absurd (false≢true h.told)
+  rename_further (n ∷ ns) [] birth when k h = absurd (false≢true h.told)
   rename_further (n ∷ ns) (m ∷ ms) birth when k h = reached_same (m ∷ ms) (second_walk n ns m ms h (place one (n ∷ ns)) (place_stands one (n ∷ ns)) (well_refused one 0 (n ∷ ns)) refl) dir_node dir_kind dir_by
 
   link_further : (path to : List (List ℕ)) (r : Reply) → ((b : ℕ) → is_in b (walked one path) ≡ true → Near L one two b) → further two (op.Link path to) r ≡ further one (op.Link path to) r

@@ -9,23 +9,23 @@ use Rattle.tree_definitions.specs.Apply.{Answer, Plain, Shows}
 use Rattle.tree_definitions.specs.Touched.{is_nospace}
 use Rattle.tree_laws.specs.Touching.{wants_room}
 use Rattle.tree_laws.proofs.Sameness.{text_sound}
-use Rattle.std.proofs.lemmas.Bool.{and_parts}
+use Rattle.std.proofs.lemmas.Bool.{and_parts, false≢true}
 
 pub told_mlink : (r : Reply) → same_reply reply.MLink r ≡ true → r ≡ reply.MLink
 told_mlink reply.MLink h = refl
-told_mlink _ h = cc
+told_mlink _ h = absurd (false≢true h)
 
 pub told_dirfull : (r : Reply) → same_reply reply.DirFull r ≡ true → r ≡ reply.DirFull
 told_dirfull reply.DirFull h = refl
-told_dirfull _ h = cc
+told_dirfull _ h = absurd (false≢true h)
 
 pub told_nodirblock : (r : Reply) → same_reply reply.NoDirBlock r ≡ true → r ≡ reply.NoDirBlock
 told_nodirblock reply.NoDirBlock h = refl
-told_nodirblock _ h = cc
+told_nodirblock _ h = absurd (false≢true h)
 
 pub told_notempty : (r : Reply) → same_reply reply.NotEmpty r ≡ true → r ≡ reply.NotEmpty
 told_notempty reply.NotEmpty h = refl
-told_notempty _ h = cc
+told_notempty _ h = absurd (false≢true h)
 
 -- a text that tells want of room
 abbrev room_text : List ℕ → Bool
@@ -39,4 +39,4 @@ room_told _ = refl
 pub wants_alike : (a : Answer) (r : Reply) → agrees a r ≡ true → wants_room a ≡ is_nospace r
 wants_alike (Plain a) r h = sym (room_told a) ∙ ap room_text (text_sound (reply_word a) (reply_word r) (and_parts (pointwise nat_eq (reply_word a) (reply_word r)) (contents_are a r) h).0) ∙ room_told r
 wants_alike (Shows cells) (reply.Shown bytes) h = refl
-wants_alike (Shows cells) _ h = cc
+wants_alike (Shows cells) _ h = absurd (false≢true h)
