@@ -1,6 +1,9 @@
 // Blocks of a log, field by field.
-use frang_base::Block;
 use frang_base::limits::{LOG_BODY_BYTES, LOG_SECTORS, SECTOR_BYTES};
+use frang_base::{Block, NoMemory};
+
+/// What follows the first byte of a change: the rest of its sector's number, version 1, one patch, at byte 8.
+pub(crate) static CHANGE_HEAD: [u8; 19] = [0, 0, 0, 0, 0, 0, 0, 1, 0, 0, 0, 0, 0, 0, 0, 1, 0, 8, 0];
 
 // Puts bytes into a block from a place on, as many as there is room for.
 fn lay(block: &mut Block, place: usize, bytes: &[u8]) {
@@ -34,6 +37,12 @@ pub(crate) fn empty_block(number: u64) -> Block {
     } else {
         part_block(number, 0, 0, 0, &[])
     }
+}
+
+/// Adds bytes at the end.
+pub(crate) fn add(bytes: &mut Vec<u8>, more: &[u8]) -> Result<(), NoMemory> {
+    bytes.extend_from_slice(more)?;
+    Ok(())
 }
 
 /// Puts a block into a slot, where there is one.

@@ -1,4 +1,5 @@
 // The bodies of records worked out by hand, and for each rule a neighbour that breaks it alone.
+use crate::blocks::{CHANGE_HEAD, add};
 use frang_base::{Change, NoMemory, OpNo, Patch, Sector};
 use log_record::{decode, encode};
 use std::alloc::Global;
@@ -33,22 +34,26 @@ fn edited(alloc: Global, len: usize, edits: &[(usize, u8)]) -> Result<Vec<u8>, N
     Ok(bytes)
 }
 
+// A change of a sector by one patch of so many bytes.
+fn push_change(bytes: &mut Vec<u8>, sector: u8, len: u16) -> Result<(), NoMemory> {
+    bytes.push(sector)?;
+    add(bytes, &CHANGE_HEAD)?;
+    add(bytes, &len.to_le_bytes())?;
+    for _ in 0..len {
+        bytes.push(sector)?;
+    }
+    Ok(())
+}
+
 // So many changes of a patch each, of sectors from 0 on, each with so many bytes, and the last with more.
 fn long(alloc: Global, count: u8, len: u16, more: u16) -> Result<Vec<u8>, NoMemory> {
     let mut bytes = Vec::new(alloc);
-    bytes.extend_from_slice(&[count, 0])?;
+    bytes.push(count)?;
+    bytes.push(0)?;
     for sector in 0..count {
-        let len = len.saturating_add(if sector.saturating_add(1) == count {
-            more
-        } else {
-            0
-        });
-        bytes.extend_from_slice(&[sector, 0, 0, 0, 0, 0, 0, 0])?;
-        bytes.extend_from_slice(&[1, 0, 0, 0, 0, 0, 0, 0, 1, 0, 8, 0])?;
-        bytes.extend_from_slice(&len.to_le_bytes())?;
-        for _ in 0..len {
-            bytes.push(sector)?;
-        }
+        let is_last = sector.saturating_add(1) == count;
+        let more = if is_last { more } else { 0 };
+        push_change(&mut bytes, sector, len.saturating_add(more))?;
     }
     Ok(bytes)
 }

@@ -1,9 +1,12 @@
 // Logs of an older program, whose records have sectors of their own: their ends and records were worked out by hand.
 use crate::pieces::Piece::{Empty, Garbage, NoBody, Part, Placed, Record};
 use crate::pieces::{Row, expect};
+use std::alloc::Global;
+use std::process::Abort;
 use std::test::Fail;
 
-static LOGS: [Row; 55] = [
+// Empty sectors alone, and where a log ends.
+static EMPTY: [Row; 14] = [
     Row {
         name: "zeros",
         pieces: &[],
@@ -88,6 +91,14 @@ static LOGS: [Row; 55] = [
         end: 0,
         operations: &[],
     },
+];
+
+fn empty_sectors(rt: &impl Abort, alloc: Global) -> Result<(), Fail> {
+    expect(rt, alloc, &EMPTY)
+}
+
+// Slots that hold no sectors.
+static GARBAGE: [Row; 10] = [
     Row {
         name: "garbage",
         pieces: &[Garbage(0, 255)],
@@ -148,6 +159,14 @@ static LOGS: [Row; 55] = [
         end: 199,
         operations: &[],
     },
+];
+
+fn garbage(rt: &impl Abort, alloc: Global) -> Result<(), Fail> {
+    expect(rt, alloc, &GARBAGE)
+}
+
+// Records with all their parts, and without one.
+static WHOLE: [Row; 13] = [
     Row {
         name: "one record",
         pieces: &[Record(256, 7, 1)],
@@ -226,6 +245,14 @@ static LOGS: [Row; 55] = [
         end: 255,
         operations: &[],
     },
+];
+
+fn whole_records(rt: &impl Abort, alloc: Global) -> Result<(), Fail> {
+    expect(rt, alloc, &WHOLE)
+}
+
+// Records of which a part is another, too old or torn, and sessions.
+static BROKEN: [Row; 18] = [
     Row {
         name: "its last is empty",
         pieces: &[Part(256, 7, 0, 2), Empty(257, 257)],
@@ -346,7 +373,14 @@ static LOGS: [Row; 55] = [
     },
 ];
 
+fn broken_records(rt: &impl Abort, alloc: Global) -> Result<(), Fail> {
+    expect(rt, alloc, &BROKEN)
+}
+
 #[test]
 fn logs_are_read_as_worked_out_by_hand(rt: HostRuntime) -> Result<(), Fail> {
-    expect(&rt, rt.alloc(), &LOGS)
+    empty_sectors(&rt, rt.alloc())?;
+    garbage(&rt, rt.alloc())?;
+    whole_records(&rt, rt.alloc())?;
+    broken_records(&rt, rt.alloc())
 }

@@ -1,9 +1,12 @@
 // Logs of packed sectors, also beside sectors of an older program: their ends and records were worked out by hand.
 use crate::pieces::Piece::{Alike, Bytes, Empty, Head, Lacks, Longer, One, Record, Two};
 use crate::pieces::{NONE, Row, expect};
+use std::alloc::Global;
+use std::process::Abort;
 use std::test::Fail;
 
-static LOGS: [Row; 54] = [
+// Frames in one sector and over the border of two.
+static WHOLE: [Row; 10] = [
     Row {
         name: "one frame",
         pieces: &[One(256, 7, 100)],
@@ -64,6 +67,14 @@ static LOGS: [Row; 54] = [
         end: 256,
         operations: &[1, 2, 3, 4],
     },
+];
+
+fn whole_frames(rt: &impl Abort, alloc: Global) -> Result<(), Fail> {
+    expect(rt, alloc, &WHOLE)
+}
+
+// Frames over several sectors, also cut.
+static LONG: [Row; 16] = [
     Row {
         name: "over three sectors",
         pieces: &[One(256, 5, 1000)],
@@ -160,6 +171,14 @@ static LOGS: [Row; 54] = [
         end: 259,
         operations: &[1],
     },
+];
+
+fn long_frames(rt: &impl Abort, alloc: Global) -> Result<(), Fail> {
+    expect(rt, alloc, &LONG)
+}
+
+// Sectors that are closed early, and what cuts a frame.
+static FOLLOWED: [Row; 13] = [
     Row {
         name: "closed early",
         pieces: &[One(256, 1, 100), One(257, 2, 100)],
@@ -238,6 +257,14 @@ static LOGS: [Row; 54] = [
         end: 257,
         operations: &[3, 2],
     },
+];
+
+fn followed_sectors(rt: &impl Abort, alloc: Global) -> Result<(), Fail> {
+    expect(rt, alloc, &FOLLOWED)
+}
+
+// Heads that are none, what is too old, and sessions.
+static ROUNDS: [Row; 15] = [
     Row {
         name: "a length of 0",
         pieces: &[Head(256, 0), One(257, 3, 100)],
@@ -330,7 +357,14 @@ static LOGS: [Row; 54] = [
     },
 ];
 
+fn heads_and_rounds(rt: &impl Abort, alloc: Global) -> Result<(), Fail> {
+    expect(rt, alloc, &ROUNDS)
+}
+
 #[test]
 fn packed_logs_are_read_as_worked_out_by_hand(rt: HostRuntime) -> Result<(), Fail> {
-    expect(&rt, rt.alloc(), &LOGS)
+    whole_frames(&rt, rt.alloc())?;
+    long_frames(&rt, rt.alloc())?;
+    followed_sectors(&rt, rt.alloc())?;
+    heads_and_rounds(&rt, rt.alloc())
 }

@@ -1,5 +1,5 @@
 // Logs by their pieces, and whether they are read as worked out.
-use crate::blocks::{empty_block, packed_block, part_block, put, slot_of};
+use crate::blocks::{CHANGE_HEAD, add, empty_block, packed_block, part_block, put, slot_of};
 use frang_base::limits::{LOG_BODY_BYTES, LOG_SECTORS, SECTOR_BYTES};
 use frang_base::{Block, NoMemory, OpNo, Redo};
 use log_reading::{greatest_operation, read_log};
@@ -53,14 +53,18 @@ pub(crate) struct Row {
     pub operations: &'static [u64],
 }
 
+fn push_sevens(bytes: &mut Vec<u8>, count: u16) -> Result<(), NoMemory> {
+    bytes.resize(bytes.len().saturating_add(usize::from(count)), 7)?;
+    Ok(())
+}
+
 // A change of a sector that takes so many bytes.
 fn push_change(bytes: &mut Vec<u8>, sector: u8, size: u16) -> Result<(), NoMemory> {
     let patch = size.saturating_sub(22);
-    bytes.extend_from_slice(&[sector, 0, 0, 0, 0, 0, 0, 0])?;
-    bytes.extend_from_slice(&[1, 0, 0, 0, 0, 0, 0, 0, 1, 0, 8, 0])?;
-    bytes.extend_from_slice(&patch.to_le_bytes())?;
-    bytes.resize(bytes.len().saturating_add(usize::from(patch)), 7)?;
-    Ok(())
+    bytes.push(sector)?;
+    add(bytes, &CHANGE_HEAD)?;
+    add(bytes, &patch.to_le_bytes())?;
+    push_sevens(bytes, patch)
 }
 
 // The body of a record with this length, of changes of at most 500 bytes.
@@ -68,7 +72,8 @@ fn body(alloc: Global, len: u16) -> Result<Vec<u8>, NoMemory> {
     let mut left = len.saturating_sub(2);
     let count = left.div_ceil(500).min(9) as u8;
     let mut bytes = Vec::new(alloc);
-    bytes.extend_from_slice(&[count, 0])?;
+    bytes.push(count)?;
+    bytes.push(0)?;
     for sector in 0..count {
         push_change(&mut bytes, sector, left.min(500))?;
         left = left.saturating_sub(500);
@@ -77,10 +82,10 @@ fn body(alloc: Global, len: u16) -> Result<Vec<u8>, NoMemory> {
 }
 
 fn push_frame(alloc: Global, bytes: &mut Vec<u8>, op: u64, len: u16) -> Result<(), NoMemory> {
-    bytes.extend_from_slice(&op.to_le_bytes())?;
-    bytes.extend_from_slice(&len.to_le_bytes())?;
-    bytes.extend_from_slice(&body(alloc, len)?)?;
-    Ok(())
+    let body = body(alloc, len)?;
+    add(bytes, &op.to_le_bytes())?;
+    add(bytes, &len.to_le_bytes())?;
+    add(bytes, &body)
 }
 
 // Frames one behind the other, and where each begins.
@@ -123,31 +128,50 @@ fn lay_run(
 }
 
 // The sector of `Bytes`.
-fn frame_piece(alloc: Global, number: u64, begins: u16, len: u16) -> Result<Block, NoMemory> {
+fn lay_bytes(
+    alloc: Global,
+    slots: &mut [Block],
+    number: u64,
+    begins: u16,
+    len: u16,
+) -> Result<(), NoMemory> {
     let mut bytes = Vec::new(alloc);
     push_frame(alloc, &mut bytes, 7, 100)?;
     let from = if len == 60 { 0 } else { 60 };
     let end = usize::from(len).saturating_add(from).min(bytes.len());
-    Ok(packed_block(number, begins, &bytes[from.min(end)..end]))
+    let block = packed_block(number, begins, &bytes[from.min(end)..end]);
+    put(slots, slot_of(number), block);
+    Ok(())
 }
 
 // The sector of `Head`.
-fn bad_head(alloc: Global, number: u64, len: u16) -> Result<Block, NoMemory> {
+fn lay_head(alloc: Global, slots: &mut [Block], number: u64, len: u16) -> Result<(), NoMemory> {
     let mut bytes = Vec::new(alloc);
-    bytes.extend_from_slice(&9_u64.to_le_bytes())?;
-    bytes.extend_from_slice(&len.to_le_bytes())?;
-    bytes.extend_from_slice(&[1, 0, 5])?;
+    add(&mut bytes, b"\x09\0\0\0\0\0\0\0")?;
+    add(&mut bytes, &len.to_le_bytes())?;
+    add(&mut bytes, b"\x01\0\x05")?;
     push_frame(alloc, &mut bytes, 8, 100)?;
-    Ok(packed_block(number, 0, &bytes))
+    let block = packed_block(number, 0, &bytes);
+    put(slots, slot_of(number), block);
+    Ok(())
 }
 
 // A part of a record of so many parts, at most 9.
-fn part_of(alloc: Global, number: u64, op: u64, part: u16, parts: u16) -> Result<Block, NoMemory> {
+fn lay_part(
+    alloc: Global,
+    slots: &mut [Block],
+    number: u64,
+    op: u64,
+    part: u16,
+    parts: u16,
+) -> Result<(), NoMemory> {
     let bytes = body(alloc, parts.min(9).saturating_mul(452).saturating_add(2))?;
     let from = usize::from(part)
         .saturating_mul(LOG_BODY_BYTES)
         .min(bytes.len());
-    Ok(part_block(number, op, part, parts, &bytes[from..]))
+    let block = part_block(number, op, part, parts, &bytes[from..]);
+    put(slots, slot_of(number), block);
+    Ok(())
 }
 
 fn lay_record(
@@ -159,8 +183,7 @@ fn lay_record(
 ) -> Result<(), NoMemory> {
     for part in 0..parts {
         let number = first.saturating_add(u64::from(part));
-        let block = part_of(alloc, number, op, part, parts)?;
-        put(slots, slot_of(number), block);
+        lay_part(alloc, slots, number, op, part, parts)?;
     }
     Ok(())
 }
@@ -182,6 +205,16 @@ fn lay_garbage(slots: &mut [Block], first: usize, last: usize) {
     }
 }
 
+fn put_placed(slots: &mut [Block], number: u64, slot: usize) {
+    let block = part_block(number, 0, 0, 0, &[]);
+    put(slots, slot, block);
+}
+
+fn put_no_body(slots: &mut [Block], number: u64, op: u64) {
+    let block = part_block(number, op, 0, 1, b"\x01\0\x05");
+    put(slots, slot_of(number), block);
+}
+
 // A piece whose bytes take memory.
 fn lay_made(alloc: Global, slots: &mut [Block], piece: &Piece) -> Result<(), NoMemory> {
     match piece {
@@ -192,21 +225,9 @@ fn lay_made(alloc: Global, slots: &mut [Block], piece: &Piece) -> Result<(), NoM
         Piece::Alike(first, count) => lay_run(alloc, slots, *first, &ALIKE[..(*count).min(5)]),
         Piece::Longer(first) => lay_run(alloc, slots, *first, &LONGER),
         Piece::Record(first, op, parts) => lay_record(alloc, slots, *first, *op, *parts),
-        Piece::Bytes(number, begins, len) => {
-            let block = frame_piece(alloc, *number, *begins, *len)?;
-            put(slots, slot_of(*number), block);
-            Ok(())
-        }
-        Piece::Head(number, len) => {
-            let block = bad_head(alloc, *number, *len)?;
-            put(slots, slot_of(*number), block);
-            Ok(())
-        }
-        Piece::Part(number, op, part, parts) => {
-            let block = part_of(alloc, *number, *op, *part, *parts)?;
-            put(slots, slot_of(*number), block);
-            Ok(())
-        }
+        Piece::Bytes(number, begins, len) => lay_bytes(alloc, slots, *number, *begins, *len),
+        Piece::Head(number, len) => lay_head(alloc, slots, *number, *len),
+        Piece::Part(number, op, part, parts) => lay_part(alloc, slots, *number, *op, *part, *parts),
         _ => Ok(()),
     }
 }
@@ -215,12 +236,8 @@ fn lay(alloc: Global, slots: &mut [Block], piece: &Piece) -> Result<(), NoMemory
     match piece {
         Piece::Empty(first, last) => lay_empty(slots, *first, *last),
         Piece::Garbage(first, last) => lay_garbage(slots, *first, *last),
-        Piece::Placed(number, slot) => put(slots, *slot, part_block(*number, 0, 0, 0, &[])),
-        Piece::NoBody(number, op) => put(
-            slots,
-            slot_of(*number),
-            part_block(*number, *op, 0, 1, &[1, 0, 5]),
-        ),
+        Piece::Placed(number, slot) => put_placed(slots, *number, *slot),
+        Piece::NoBody(number, op) => put_no_body(slots, *number, *op),
         Piece::Lacks(number) => put(slots, slot_of(*number), [0; SECTOR_BYTES]),
         _ => return lay_made(alloc, slots, piece),
     }

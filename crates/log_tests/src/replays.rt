@@ -1,5 +1,5 @@
 // Disks with logs whose replay was worked out by hand.
-use crate::blocks::{packed_block, part_block};
+use crate::blocks::{add, packed_block, part_block};
 use disk_definitions::Disk;
 use disk_replay::{greatest, replayed};
 use frang_base::{Block, NoMemory, OpNo, Sector, ServerId};
@@ -78,16 +78,24 @@ fn block_of(bytes: &[u8]) -> Block {
     block
 }
 
+fn push_change(bytes: &mut Vec<u8>, change: &OneByte) -> Result<(), NoMemory> {
+    let (sector, version, place, byte) = *change;
+    add(bytes, &sector.to_le_bytes())?;
+    add(bytes, &version.to_le_bytes())?;
+    add(bytes, b"\x01\0")?;
+    add(bytes, &place.to_le_bytes())?;
+    add(bytes, b"\x01\0")?;
+    bytes.push(byte)?;
+    Ok(())
+}
+
 // The body of a record of these changes, fewer than 256.
 fn body(alloc: Global, changes: &[OneByte]) -> Result<Vec<u8>, NoMemory> {
     let mut bytes = Vec::new(alloc);
-    bytes.extend_from_slice(&[changes.len().min(255) as u8, 0])?;
-    for (sector, version, place, byte) in changes {
-        bytes.extend_from_slice(&sector.to_le_bytes())?;
-        bytes.extend_from_slice(&version.to_le_bytes())?;
-        bytes.extend_from_slice(&[1, 0])?;
-        bytes.extend_from_slice(&place.to_le_bytes())?;
-        bytes.extend_from_slice(&[1, 0, *byte])?;
+    bytes.push(changes.len().min(255) as u8)?;
+    bytes.push(0)?;
+    for change in changes {
+        push_change(&mut bytes, change)?;
     }
     Ok(bytes)
 }
@@ -98,17 +106,24 @@ fn record(alloc: Global, number: u64, op: u64, changes: &[OneByte]) -> Result<Bl
     Ok(part_block(number, op, 0, 1, &body))
 }
 
+fn set(disk: &mut Disk, sector: u64, block: Block) -> Result<(), NoMemory> {
+    disk.set(Sector(sector), block)
+}
+
+fn set_rows(disk: &mut Disk, rows: &[Row]) -> Result<(), NoMemory> {
+    for (sector, bytes) in rows {
+        set(disk, *sector, block_of(bytes))?;
+    }
+    Ok(())
+}
+
 // The disk with two records in log 0 and one in log 255, as an older program wrote them.
 fn with_logs(alloc: Global) -> Result<Disk, NoMemory> {
     let mut disk = Disk::new(alloc);
-    for (sector, bytes) in &BEFORE {
-        disk.set(Sector(*sector), block_of(bytes))?;
-    }
-    disk.set(Sector(LOG_0), record(alloc, 256, 5, &MANY)?)?;
-    let second = record(alloc, 257, 4, &SECOND)?;
-    disk.set(Sector(LOG_0 + 1), second)?;
-    let other = record(alloc, 256, 9, &OTHER)?;
-    disk.set(Sector(LOG_255), other)?;
+    set_rows(&mut disk, &BEFORE)?;
+    set(&mut disk, LOG_0, record(alloc, 256, 5, &MANY)?)?;
+    set(&mut disk, LOG_0 + 1, record(alloc, 257, 4, &SECOND)?)?;
+    set(&mut disk, LOG_255, record(alloc, 256, 9, &OTHER)?)?;
     Ok(disk)
 }
 
@@ -120,10 +135,10 @@ fn push_frame(
     changes: &[OneByte],
 ) -> Result<(), NoMemory> {
     let body = body(alloc, changes)?;
-    bytes.extend_from_slice(&op.to_le_bytes())?;
-    bytes.extend_from_slice(&(body.len().min(4096) as u16).to_le_bytes())?;
-    bytes.extend_from_slice(&body)?;
-    Ok(())
+    let len = body.len().min(4096) as u16;
+    add(bytes, &op.to_le_bytes())?;
+    add(bytes, &len.to_le_bytes())?;
+    add(bytes, &body)
 }
 
 // The same disk, the records of log 0 packed in one sector.
@@ -132,8 +147,8 @@ fn with_packed_log(alloc: Global) -> Result<Disk, NoMemory> {
     let mut bytes = Vec::new(alloc);
     push_frame(alloc, &mut bytes, 5, &MANY)?;
     push_frame(alloc, &mut bytes, 4, &SECOND)?;
-    disk.set(Sector(LOG_0), packed_block(256, 0, &bytes))?;
-    disk.set(Sector(LOG_0 + 1), [0; 512])?;
+    set(&mut disk, LOG_0, packed_block(256, 0, &bytes))?;
+    set(&mut disk, LOG_0 + 1, [0; 512])?;
     Ok(disk)
 }
 
@@ -162,21 +177,30 @@ fn is_as_worked_out(once: &Disk) -> bool {
 // Servers, and the greatest operations of their logs.
 static GREATEST: [(u8, u64); 3] = [(0, 5), (7, 0), (255, 9)];
 
+fn greatest_of(alloc: Global, disk: &Disk, server: u8) -> Result<u64, NoMemory> {
+    let OpNo(op) = greatest(alloc, disk, ServerId(server))?;
+    Ok(op)
+}
+
 // The greatest operations of the disk's logs are as worked out.
 fn are_greatest(alloc: Global, disk: &Disk) -> Result<bool, NoMemory> {
     for (server, op) in &GREATEST {
-        if greatest(alloc, disk, ServerId(*server))? != OpNo(*op) {
+        if greatest_of(alloc, disk, *server)? != *op {
             return Ok(false);
         }
     }
     Ok(true)
 }
 
+fn replay(alloc: Global, disk: &Disk) -> Result<Disk, NoMemory> {
+    replayed(alloc, disk)
+}
+
 // The greatest operations of the disk's logs and what its replay, and the replay of that, hold are as worked out.
 fn is_replayed(alloc: Global, disk: &Disk) -> Result<bool, NoMemory> {
-    let once = replayed(alloc, disk)?;
-    let twice = replayed(alloc, &once)?;
-    let is_empty = greatest(alloc, &once, ServerId(0))? == OpNo(0);
+    let once = replay(alloc, disk)?;
+    let twice = replay(alloc, &once)?;
+    let is_empty = greatest_of(alloc, &once, 0)? == 0;
     let are_greatest = are_greatest(alloc, disk)?;
     Ok(are_greatest && is_as_worked_out(&once) && is_as_worked_out(&twice) && is_empty)
 }
@@ -201,8 +225,8 @@ static UNCHANGED: [Row; 4] = [
 #[test]
 fn without_parameters_no_change_is_made(rt: HostRuntime) -> Result<(), Fail> {
     let mut disk = with_logs(rt.alloc())?;
-    disk.set(Sector(PARAMETERS), block_of(b"FRANGPAR\x02"))?;
-    let once = replayed(rt.alloc(), &disk)?;
+    set(&mut disk, PARAMETERS, block_of(b"FRANGPAR\x02"))?;
+    let once = replay(rt.alloc(), &disk)?;
     assert!(rt; first_other(&once, &BEFORE[1..]).is_none());
     assert!(rt; first_other(&once, &UNCHANGED).is_none());
     Ok(())

@@ -90,28 +90,65 @@ impl Run {
         Some(self.ring.reached())
     }
 
+    fn append_said(
+        &mut self,
+        alloc: Global,
+        op: u64,
+        sector: u64,
+        version: u64,
+        len: usize,
+    ) -> Result<String, NoMemory> {
+        let redo = record_of(alloc, op, sector, version, len)?;
+        Ok(format!(in alloc; "{:?}", self.append(&redo))?)
+    }
+
+    fn fill_said(&mut self, alloc: Global, len: usize) -> Result<String, NoMemory> {
+        let redo = record_of(alloc, 1, 1, 1, len)?;
+        Ok(format!(in alloc; "{:?}", self.fill(&redo))?)
+    }
+
+    fn room_said(&self, alloc: Global) -> Result<String, NoMemory> {
+        let small = record_of(alloc, 1, 1, 1, 1)?;
+        Ok(format!(in alloc; "{:?}", self.ring.room(&small)?)?)
+    }
+
+    fn issue_said(&mut self, alloc: Global) -> Result<String, NoMemory> {
+        match self.issue() {
+            Some(x) => words(alloc, &x),
+            None => Ok(format!(in alloc; "none")?),
+        }
+    }
+
+    fn issue_all_said(&mut self, alloc: Global) -> Result<String, NoMemory> {
+        Ok(format!(in alloc; "{:?}", self.issue_all())?)
+    }
+
+    fn acked_said(&mut self, alloc: Global, seq: u64) -> Result<String, NoMemory> {
+        Ok(format!(in alloc; "{:?}", self.acked(seq))?)
+    }
+
+    fn oldest_said(&self, alloc: Global) -> Result<String, NoMemory> {
+        Ok(format!(in alloc; "{:?}", self.ring.oldest()?)?)
+    }
+
+    fn reclaim_said(&mut self, alloc: Global, disk: &[(Sector, u64)]) -> Result<String, NoMemory> {
+        Ok(format!(in alloc; "{:?}", self.ring.reclaim(disk))?)
+    }
+
     // What the step answers, in words.
     fn answer(&mut self, alloc: Global, step: Step) -> Result<String, NoMemory> {
-        let small = record_of(alloc, 1, 1, 1, 1)?;
-        Ok(match step {
+        match step {
             Step::Append(op, sector, version, len) => {
-                let redo = record_of(alloc, op, sector, version, len)?;
-                format!(in alloc; "{:?}", self.append(&redo))?
+                self.append_said(alloc, op, sector, version, len)
             }
-            Step::Fill(len) => {
-                let redo = record_of(alloc, 1, 1, 1, len)?;
-                format!(in alloc; "{:?}", self.fill(&redo))?
-            }
-            Step::Room => format!(in alloc; "{:?}", self.ring.room(&small)?)?,
-            Step::Issue => match self.issue() {
-                Some(x) => words(alloc, &x)?,
-                None => format!(in alloc; "none")?,
-            },
-            Step::IssueAll => format!(in alloc; "{:?}", self.issue_all())?,
-            Step::Acknowledge(seq) => format!(in alloc; "{:?}", self.acked(seq))?,
-            Step::Oldest => format!(in alloc; "{:?}", self.ring.oldest()?)?,
-            Step::Reclaim(disk) => format!(in alloc; "{:?}", self.ring.reclaim(disk))?,
-        })
+            Step::Fill(len) => self.fill_said(alloc, len),
+            Step::Room => self.room_said(alloc),
+            Step::Issue => self.issue_said(alloc),
+            Step::IssueAll => self.issue_all_said(alloc),
+            Step::Acknowledge(seq) => self.acked_said(alloc, seq),
+            Step::Oldest => self.oldest_said(alloc),
+            Step::Reclaim(disk) => self.reclaim_said(alloc, disk),
+        }
     }
 }
 
@@ -136,17 +173,17 @@ fn run_at(alloc: Global, end: u64) -> Result<Run, NoMemory>
     })
 }
 
-// A change of a sector to this version, of so many bytes.
-fn change_of(alloc: Global, sector: u64, version: u64, len: usize) -> Result<Change, NoMemory>
+// A change of a sector to this version, of these bytes.
+fn change_of(alloc: Global, sector: u64, version: u64, bytes: &[u8]) -> Result<Change, NoMemory>
     requires sector { sector < 2 ^ 55 }
-    requires some { 1 ≤ len }
-    requires few { len ≤ 400 }
+    requires some { 1 ≤ length bytes.now }
+    requires few { length bytes.now ≤ 400 }
     ensures formed { IfOk result (λ c. is_change c ≡ true) }
     ensures sector { IfOk result (λ c. c.sector.0 ≡ sector) }
     ensures short { IfOk result (λ c. length (change_bytes c) ≤ 422) }
 {
     let mut patches = Patches::new(alloc);
-    let bytes = Text::of(alloc, &[7; 400][..len])?;
+    let bytes = Text::of(alloc, bytes)?;
     patches.push(Patch { at: 8, bytes })?;
     Ok(Change {
         sector: Sector(sector),
@@ -167,8 +204,9 @@ fn record_of(
 {
     let sector = sector.min(1 << 50);
     let len = len.max(1).min(400);
-    let first = change_of(alloc, sector, version, len)?;
-    let second = change_of(alloc, sector + 1, 1, len)?;
+    let bytes = &[7; 400][..len];
+    let first = change_of(alloc, sector, version, bytes)?;
+    let second = change_of(alloc, sector + 1, 1, bytes)?;
     let changes = Changes::from_vec(vec![in alloc; first, second]?);
     let op = OpNo(op.max(1));
     Ok(Redo { op, changes })

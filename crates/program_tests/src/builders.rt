@@ -63,10 +63,20 @@ pub fn tell(
     words: &[&str],
     script: &[u8],
 ) -> Result<Told, NoMemory> {
+    let words = words_of(alloc, words)?;
+    tell_words(rt, alloc, &words, script)
+}
+
+// The same of words that are owned.
+pub fn tell_words(
+    rt: &(impl Threads + Sync),
+    alloc: Global,
+    words: &[String],
+    script: &[u8],
+) -> Result<Told, NoMemory> {
     let mut files = MemFiles::new(alloc);
     files.put_file("s", script)?;
-    let words = words_of(alloc, words)?;
-    let (status, out) = call(rt, alloc, &words, &mut files, MemOutside::new(alloc));
+    let (status, out) = call(rt, alloc, words, &mut files, MemOutside::new(alloc));
     let acts = out.acts();
     Ok(Told {
         status,

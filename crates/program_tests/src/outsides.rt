@@ -25,8 +25,8 @@ fn has_bytes<O: Outside>(out: &mut O, sector: Sector, byte: u8) -> bool {
     out.get(WRITER, sector) == Ok([byte; 512])
 }
 
-fn says<O: Outside>(out: &mut O, answer: Result<(), SayFault>) -> bool {
-    out.say(b"1 0 ok\n") == answer
+fn says<O: Outside>(out: &mut O, line: &[u8], answer: Result<(), SayFault>) -> bool {
+    out.say(line) == answer
 }
 
 fn try_puts<O: Outside>(rt: &impl Abort, out: &mut O, cases: &[PutCase]) {
@@ -60,13 +60,18 @@ static IN_TIME: [PutCase; 3] = [
     (5, 6, 3, Ok(Taken::Late), 2),
 ];
 
+// An outside whose acts are told.
+fn try_told(rt: &impl Abort, alloc: Global) {
+    let mut out = passes(MemOutside::new(alloc));
+    try_puts(rt, &mut out, &IN_TIME);
+    assert!(rt; says(&mut out, b"1 0 ok\n", Ok(())));
+    assert!(rt; out.acts().len() == 4);
+}
+
 #[test]
 fn outsides_in_memory_take_puts_in_time(rt: HostRuntime) -> Result<(), Fail> {
     enters(&NoGate);
-    let mut out = passes(MemOutside::new(rt.alloc()));
-    try_puts(&rt, &mut out, &IN_TIME);
-    assert!(rt; says(&mut out, Ok(())));
-    assert!(rt; out.acts().len() == 4);
+    try_told(&rt, rt.alloc());
     let mut out = passes(StdOutside::new(rt.alloc(), rt.clone()?));
     try_puts(&rt, &mut out, &IN_TIME);
     Ok(())
@@ -94,9 +99,9 @@ fn listed_calls_fail(rt: HostRuntime) -> Result<(), Fail> {
     try_puts(&rt, &mut out, &WITH_FAULTS);
     assert!(rt; out.get(WRITER, SECTOR) == Err(Failed));
     assert!(rt; has_bytes(&mut out, SECTOR, 4));
-    assert!(rt; says(&mut out, Ok(())));
-    assert!(rt; says(&mut out, Err(SayFault::Failed)));
-    assert!(rt; says(&mut out, Ok(())));
+    assert!(rt; says(&mut out, b"1 0 ok\n", Ok(())));
+    assert!(rt; says(&mut out, b"1 0 ok\n", Err(SayFault::Failed)));
+    assert!(rt; says(&mut out, b"1 0 ok\n", Ok(())));
     assert!(rt; out.acts().len() == 5);
     Ok(())
 }
@@ -177,17 +182,22 @@ impl Print for Paper {
     }
 }
 
+fn has_printed(paper: &Paper, text: &[u8]) -> bool {
+    match paper.printed.try_borrow() {
+        Ok(printed) => printed.as_slice() == text,
+        Err(_) => false,
+    }
+}
+
 #[test]
-fn a_line_is_printed_whole_or_fails(rt: HostRuntime) -> Result<(), Fail> {
+fn a_line_is_printed_whole_or_fails(rt: HostRuntime) {
     let alloc = rt.alloc();
     let paper = Paper {
         printed: RefCell::new(Vec::new(alloc)),
         room: 10,
     };
     let mut out = StdOutside::new(alloc, &paper);
-    assert!(rt; out.say(b"1 0 ok\n") == Ok(()));
-    assert!(rt; out.say(b"2 0 ok\n") == Err(SayFault::Failed));
-    let printed = paper.printed.try_borrow()?;
-    assert!(rt; printed.as_slice() == b"1 0 ok\n2 0".as_slice());
-    Ok(())
+    assert!(rt; says(&mut out, b"1 0 ok\n", Ok(())));
+    assert!(rt; says(&mut out, b"2 0 ok\n", Err(SayFault::Failed)));
+    assert!(rt; has_printed(&paper, b"1 0 ok\n2 0"));
 }

@@ -10,45 +10,91 @@ use std::alloc::Global;
 use std::test::Fail;
 use tree_model::{has_proper_targets, tree_left};
 
-fn create_a(alloc: Global) -> Result<Op, NoMemory> {
-    let mut path = Path::new(alloc);
-    if let Some(name) = Name::of(b"a") {
-        path.push(name)?;
+fn push_name(path: &mut Path, bytes: &[u8]) -> Result<(), NoMemory> {
+    match Name::of(bytes) {
+        Some(name) => path.push(name),
+        None => Ok(()),
     }
+}
+
+fn create(alloc: Global, name: &[u8]) -> Result<Op, NoMemory> {
+    let mut path = Path::new(alloc);
+    push_name(&mut path, name)?;
     Ok(Op::Create { path })
 }
 
-fn text_is_copied(alloc: Global) -> Result<bool, NoMemory> {
-    let mut text = Text::of(alloc, b"ab")?;
-    text.push(b'c')?;
-    text.append(b"de")?;
-    let copy = text.try_copy()?;
-    Ok(copy.as_slice() == b"abcde".as_slice())
+fn create_a(alloc: Global) -> Result<Op, NoMemory> {
+    create(alloc, b"a")
 }
 
-fn path_is_copied(alloc: Global) -> Result<bool, NoMemory> {
-    let op = create_a(alloc)?.try_copy()?;
+// A text of two bytes, one more and the others.
+fn text_of(alloc: Global, first: &[u8], next: u8, last: &[u8]) -> Result<Text, NoMemory> {
+    let mut text = Text::of(alloc, first)?;
+    text.push(next)?;
+    text.append(last)?;
+    Ok(text)
+}
+
+fn is_copied(text: &Text, wanted: &[u8]) -> Result<bool, NoMemory> {
+    let copy = text.try_copy()?;
+    Ok(copy.as_slice() == wanted)
+}
+
+fn text_is_copied(alloc: Global) -> Result<bool, NoMemory> {
+    let text = text_of(alloc, b"ab", b'c', b"de")?;
+    is_copied(&text, b"abcde")
+}
+
+// The number of names in a copy of the path.
+fn names_in_copy(path: &Path) -> Result<usize, NoMemory> {
+    let copy = path.try_copy()?;
+    Ok(copy.len())
+}
+
+fn has_one_name(op: &Op) -> Result<bool, NoMemory> {
     match op {
-        Op::Create { path } => Ok(path.try_copy()?.len() == 1),
+        Op::Create { path } => Ok(names_in_copy(path)? == 1),
         _ => Ok(false),
     }
 }
 
-fn names_are_copied(alloc: Global) -> Result<bool, NoMemory> {
-    let mut names = NameList::new(alloc);
-    if let Some(name) = Name::of(b"a") {
-        names.push(name)?;
+fn path_is_copied(alloc: Global) -> Result<bool, NoMemory> {
+    let op = create_a(alloc)?;
+    let copy = op.try_copy()?;
+    has_one_name(&copy)
+}
+
+fn list_name(names: &mut NameList, bytes: &[u8]) -> Result<(), NoMemory> {
+    match Name::of(bytes) {
+        Some(name) => names.push(name),
+        None => Ok(()),
     }
-    let reply = Reply::Names(names.try_copy()?).try_copy()?;
-    Ok(matches!(&reply, Reply::Names(names) if names.len() == 1))
+}
+
+// A copy of what lists this name alone.
+fn names_reply(alloc: Global, name: &[u8]) -> Result<Reply, NoMemory> {
+    let mut names = NameList::new(alloc);
+    list_name(&mut names, name)?;
+    let copy = names.try_copy()?;
+    Ok(Reply::Names(copy))
+}
+
+fn names_are_copied(alloc: Global) -> Result<bool, NoMemory> {
+    let reply = names_reply(alloc, b"a")?;
+    let copy = reply.try_copy()?;
+    Ok(matches!(&copy, Reply::Names(names) if names.len() == 1))
+}
+
+// Patches of which the only one puts these bytes at a place.
+fn patches_of(alloc: Global, at: u16, bytes: &[u8]) -> Result<Patches, NoMemory> {
+    let mut patches = Patches::new(alloc);
+    let bytes = Text::of(alloc, bytes)?;
+    patches.push(Patch { at, bytes })?;
+    Ok(patches)
 }
 
 fn patches_are_copied(alloc: Global) -> Result<bool, NoMemory> {
-    let mut patches = Patches::new(alloc);
-    patches.push(Patch {
-        at: 8,
-        bytes: Text::of(alloc, b"ab")?,
-    })?;
+    let patches = patches_of(alloc, 8, b"ab")?;
     let copy = patches.try_copy()?;
     Ok(matches!(copy.get(0), Some(patch) if patch.at == 8))
 }
@@ -72,27 +118,42 @@ fn apply_create(tree: &mut Tree, op: &Op, birth: u64) -> Result<Reply, NoMemory>
     }
 }
 
+fn is_made(tree: &mut Tree, op: &Op, birth: u64) -> Result<bool, NoMemory> {
+    let reply = apply_create(tree, op, birth)?;
+    Ok(matches!(&reply, Reply::Ok))
+}
+
+fn stands(tree: &mut Tree, op: &Op, birth: u64) -> Result<bool, NoMemory> {
+    let reply = apply_create(tree, op, birth)?;
+    Ok(matches!(&reply, Reply::Exist))
+}
+
+fn copy_of_fresh(alloc: Global) -> Result<Tree, NoMemory> {
+    let tree = Tree::fresh(alloc, 16)?;
+    tree.try_copy()
+}
+
 #[test]
 fn a_tree_is_changed(rt: HostRuntime) -> Result<(), Fail> {
-    let alloc = rt.alloc();
-    let mut tree = Tree::fresh(alloc, 16)?.try_copy()?;
-    let create = create_a(alloc)?;
-    let first = apply_create(&mut tree, &create, 1)?;
-    let second = apply_create(&mut tree, &create, 2)?;
-    let are_answered = matches!((&first, &second), (Reply::Ok, Reply::Exist));
-    assert!(rt; are_answered);
+    let mut tree = copy_of_fresh(rt.alloc())?;
+    let create = create_a(rt.alloc())?;
+    let is_made = is_made(&mut tree, &create, 1)?;
+    let stands = stands(&mut tree, &create, 2)?;
+    assert!(rt; is_made && stands);
     Ok(())
+}
+
+fn push_line(script: &mut Script, number: u32, op: Op) -> Result<(), NoMemory> {
+    let who = ServerId(0);
+    let what = What::Server(op);
+    script.push(Line { number, who, what })
 }
 
 fn script(alloc: Global) -> Result<Script, NoMemory> {
     let mut script = Script::new(alloc);
-    for (number, op) in [(1, Op::Mount), (2, create_a(alloc)?), (3, create_a(alloc)?)] {
-        script.push(Line {
-            number,
-            who: ServerId(0),
-            what: What::Server(op),
-        })?;
-    }
+    push_line(&mut script, 1, Op::Mount)?;
+    push_line(&mut script, 2, create_a(alloc)?)?;
+    push_line(&mut script, 3, create_a(alloc)?)?;
     script.try_copy()
 }
 
@@ -116,14 +177,18 @@ fn left_tree(alloc: Global, history: &History) -> Result<Vec<u8>, NoMemory> {
     Ok(text)
 }
 
+fn answers(alloc: Global) -> Result<Vec<Said>, NoMemory> {
+    let mut said = Vec::new(alloc);
+    said.push(answer(1, Reply::Mounted))?;
+    said.push(answer(2, Reply::Ok))?;
+    said.push(answer(3, Reply::Exist))?;
+    Ok(said)
+}
+
 #[test]
 fn a_history_leaves_a_tree(rt: HostRuntime) -> Result<(), Fail> {
     let alloc = rt.alloc();
-    let said = [
-        answer(1, Reply::Mounted),
-        answer(2, Reply::Ok),
-        answer(3, Reply::Exist),
-    ];
+    let said = answers(alloc)?;
     let script = script(alloc)?;
     assert!(rt; has_times(&script));
     let mut history = History::live(alloc, &script, 1, &said)?;

@@ -83,21 +83,67 @@ const MOUNTED_AGAIN: &str = "0 mount : mounted
 0 mount : mounted
 ! recovered 0 keeps 0.0";
 
+fn push_asked(asked: &str, script: &mut Vec<u8>) -> Result<(), NoMemory> {
+    script.extend_from_slice(asked.as_bytes())?;
+    script.push(b'\n')?;
+    Ok(())
+}
+
+fn push_said(alloc: Global, line: &[u8], saids: &mut Vec<Said>) -> Result<(), NoMemory> {
+    if let Some(said) = read_line(alloc, line)? {
+        saids.push(said)?;
+    }
+    Ok(())
+}
+
+// Adds the answer to the line with this number, which its server was asked.
+fn push_answer(
+    alloc: Global,
+    number: u64,
+    asked: &str,
+    told: &str,
+    saids: &mut Vec<Said>,
+) -> Result<(), NoMemory> {
+    if let Some((who, _)) = asked.split_once(" ") {
+        let line = format!(in alloc; "{number} {who} {told}\n")?;
+        push_said(alloc, line.as_bytes(), saids)?;
+    }
+    Ok(())
+}
+
+fn push_recovery(alloc: Global, told: &str, saids: &mut Vec<Said>) -> Result<(), NoMemory> {
+    let line = format!(in alloc; "{told}\n")?;
+    push_said(alloc, line.as_bytes(), saids)
+}
+
+// Adds a row's line of the script, and what was said of it.
+fn push_row(
+    alloc: Global,
+    number: u64,
+    row: &str,
+    script: &mut Vec<u8>,
+    saids: &mut Vec<Said>,
+) -> Result<(), NoMemory> {
+    match row.split_once(" : ") {
+        Some((asked, told)) => {
+            push_asked(asked, script)?;
+            push_answer(alloc, number, asked, told, saids)
+        }
+        None => {
+            push_asked("", script)?;
+            push_recovery(alloc, row, saids)
+        }
+    }
+}
+
 // A table's script and what was said of it. A recovery is an empty line of the script, so that a row's place is its line.
 fn split_table(alloc: Global, table: &str) -> Result<(Vec<u8>, Vec<Said>), NoMemory> {
     let mut script = Vec::new(alloc);
     let mut saids = Vec::new(alloc);
-    for (i, row) in table.split('\n').enumerate() {
-        let (asked, told) = row.split_once(" : ").unwrap_or(("", row));
-        script.extend_from_slice(asked.as_bytes())?;
-        script.push(b'\n')?;
-        let line = match asked.split_once(" ") {
-            Some((who, _)) => format!(in alloc; "{} {who} {told}\n", i as u64 + 1)?,
-            None => format!(in alloc; "{told}\n")?,
-        };
-        if let Some(said) = read_line(alloc, line.as_bytes())? {
-            saids.push(said)?;
-        }
+    let mut number = 0u64;
+    for row in table.split('\n') {
+        number = number.saturating_add(1);
+        push_row(alloc, number, row, &mut script, &mut saids)?;
     }
     Ok((script, saids))
 }
@@ -109,13 +155,18 @@ fn mark(cell: &Cell) -> u8 {
     }
 }
 
+fn push_ends(sector: &[Cell], text: &mut Vec<u8>) -> Result<(), NoMemory> {
+    if let [first, .., last] = sector {
+        text.push(mark(first))?;
+        text.push(mark(last))?;
+    }
+    Ok(())
+}
+
 // The first and the last cell of each sector of a file.
 fn push_marks(cells: &[Cell], text: &mut Vec<u8>) -> Result<(), NoMemory> {
     for sector in cells.chunks(512) {
-        if let [first, .., last] = sector {
-            text.push(mark(first))?;
-            text.push(mark(last))?;
-        }
+        push_ends(sector, text)?;
     }
     text.push(b'\n')?;
     Ok(())

@@ -320,17 +320,46 @@ truncate /f 65536 : ok
 fill /g 65536 1 00 : ok
 fill /f 65536 1 00 : nospace large";
 
+fn push_asked(alloc: Global, line: &str, script: &mut Vec<u8>) -> Result<(), NoMemory> {
+    let asked = format!(in alloc; "0 {line}\n")?;
+    script.extend_from_slice(asked.as_bytes())?;
+    Ok(())
+}
+
+fn push_answer(
+    alloc: Global,
+    number: u64,
+    answer: &str,
+    answers: &mut Vec<u8>,
+) -> Result<(), NoMemory> {
+    let wanted = format!(in alloc; "{number} 0 {answer}\n")?;
+    answers.extend_from_slice(wanted.as_bytes())?;
+    Ok(())
+}
+
+// Adds a row's line and its answer.
+fn push_row(
+    alloc: Global,
+    number: u64,
+    row: &str,
+    script: &mut Vec<u8>,
+    answers: &mut Vec<u8>,
+) -> Result<(), NoMemory> {
+    if let Some((line, answer)) = row.split_once(" : ") {
+        push_asked(alloc, line, script)?;
+        push_answer(alloc, number, answer, answers)?;
+    }
+    Ok(())
+}
+
 // The script and the answers of a table.
 fn split_table(alloc: Global, table: &str) -> Result<(Vec<u8>, Vec<u8>), NoMemory> {
     let mut script = Vec::new(alloc);
     let mut answers = Vec::new(alloc);
-    for (i, row) in table.split('\n').enumerate() {
-        if let Some((line, answer)) = row.split_once(" : ") {
-            let asked = format!(in alloc; "0 {line}\n")?;
-            let wanted = format!(in alloc; "{} 0 {answer}\n", i as u64 + 1)?;
-            script.extend_from_slice(asked.as_bytes())?;
-            answers.extend_from_slice(wanted.as_bytes())?;
-        }
+    let mut number = 0u64;
+    for row in table.split('\n') {
+        number = number.saturating_add(1);
+        push_row(alloc, number, row, &mut script, &mut answers)?;
     }
     Ok((script, answers))
 }
@@ -372,6 +401,19 @@ fn a_segment_has_one_large_block(rt: HostRuntime) -> Result<(), Fail> {
     )
 }
 
+// Adds a row with a number between its parts.
+fn push_with(
+    alloc: Global,
+    table: &mut String,
+    before: &str,
+    n: u32,
+    after: &str,
+) -> Result<(), NoMemory> {
+    let row = format!(in alloc; "{before}{n}{after}\n")?;
+    table.push_str(row.as_str())?;
+    Ok(())
+}
+
 // Adds a line with each number from one to another in place of `#`, and the answer that each gets.
 fn push_numbered(
     alloc: Global,
@@ -382,8 +424,7 @@ fn push_numbered(
 ) -> Result<(), NoMemory> {
     if let Some((before, after)) = row.split_once("#") {
         for n in from..=to {
-            let line = format!(in alloc; "{before}{n}{after}\n")?;
-            table.push_str(line.as_str())?;
+            push_with(alloc, table, before, n, after)?;
         }
     }
     Ok(())

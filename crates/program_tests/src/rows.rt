@@ -1,5 +1,5 @@
 // Whole runs: what is said, and how each ends.
-use crate::builders::{DONE, Run, Told, call, expect_runs, lines_said, tell, words_of};
+use crate::builders::{DONE, Run, Told, call, expect_runs, lines_said, tell, tell_words, words_of};
 use frang_base::NoMemory;
 use frang_base::limits::SCRIPT_BYTES_MAX;
 use frang_outside::{FaultyOutside, MemFiles};
@@ -48,12 +48,18 @@ static LINES: [(usize, &[u8]); 3] = [
     (898, b"= / dir 896"),
 ];
 
+fn push_create(alloc: Global, n: u32, script: &mut Vec<u8>) -> Result<(), NoMemory> {
+    let line = format!(in alloc; "0 create /n{n}\n")?;
+    script.extend_from_slice(line.as_bytes())?;
+    Ok(())
+}
+
 // Makes so many files.
-fn creates(alloc: Global, count: u32) -> Result<String, NoMemory> {
-    let mut script = format!(in alloc; "0 mount\n")?;
+fn creates(alloc: Global, count: u32) -> Result<Vec<u8>, NoMemory> {
+    let mut script = Vec::new(alloc);
+    script.extend_from_slice(b"0 mount\n")?;
     for n in 1..=count {
-        let line = format!(in alloc; "0 create /n{n}\n")?;
-        script.push_str(line.as_str())?;
+        push_create(alloc, n, &mut script)?;
     }
     Ok(script)
 }
@@ -68,7 +74,7 @@ fn has_line(text: &[u8], place: usize, wanted: &[u8]) -> bool {
 #[test]
 fn a_directory_has_at_most_896_entries(rt: HostRuntime) -> Result<(), Fail> {
     let script = creates(rt.alloc(), 897)?;
-    let told = tell(&rt, rt.alloc(), &["run", "s"], script.as_bytes())?;
+    let told = tell(&rt, rt.alloc(), &["run", "s"], &script)?;
     assert!(rt; told.status == DONE && told.acts == 1 + 897 + 897 + 1);
     for (place, wanted) in &LINES {
         assert!(rt; has_line(&told.text, *place, wanted), "line {place}");
@@ -78,13 +84,11 @@ fn a_directory_has_at_most_896_entries(rt: HostRuntime) -> Result<(), Fail> {
 
 fn says_nothing(told: &Told, wanted: (u8, u32, u64)) -> bool {
     let (code, line, at) = wanted;
-    let status = Status {
-        code,
-        line,
-        at,
-        sector: 0,
-    };
-    told.status == status && told.acts == 0
+    told.status.code == code
+        && told.status.line == line
+        && told.status.at == at
+        && told.status.sector == 0
+        && told.acts == 0
 }
 
 // Such a call ends so and says nothing.
@@ -100,13 +104,24 @@ fn expect_status(
     Ok(())
 }
 
-// What a call with the words of this line tells where the script is empty.
-fn tell_line(rt: &(impl Threads + Sync), alloc: Global, line: &str) -> Result<Told, NoMemory> {
+// Whether a run was done and said this.
+fn says(told: &Told, text: &[u8]) -> bool {
+    told.status == DONE && told.text.as_slice() == text
+}
+
+// The words of a line, parted by blanks.
+fn parted(alloc: Global, line: &str) -> Result<Vec<String>, NoMemory> {
     let mut words = Vec::new(alloc);
     for word in line.split_whitespace() {
-        words.push(word)?;
+        words.push(String::from_str(alloc, word)?)?;
     }
-    tell(rt, alloc, &words, b"")
+    Ok(words)
+}
+
+// What a call with the words of this line tells where the script is empty.
+fn tell_line(rt: &(impl Threads + Sync), alloc: Global, line: &str) -> Result<Told, NoMemory> {
+    let words = parted(alloc, line)?;
+    tell_words(rt, alloc, &words, b"")
 }
 
 static REFUSED: [&str; 11] = [
@@ -141,22 +156,26 @@ fn a_script_that_is_not_there_or_too_long_is_refused(rt: HostRuntime) -> Result<
     expect_status(&rt, alloc, &["run", "s"], &long[1..], (1, 1, 2))
 }
 
-static NO_SEGMENTS: [&str; 7] = ["0", "65", "01", "+1", "x", "", "16 "];
+static NO_SEGMENTS: [[&str; 4]; 7] = [
+    ["run", "s", "--segments", "0"],
+    ["run", "s", "--segments", "65"],
+    ["run", "s", "--segments", "01"],
+    ["run", "s", "--segments", "+1"],
+    ["run", "s", "--segments", "x"],
+    ["run", "s", "--segments", ""],
+    ["run", "s", "--segments", "16 "],
+];
 
 static SEGMENTS: [&str; 3] = ["run --segments 1 s", "run -- s", "run s --segments=64"];
 
 #[test]
 fn options_have_their_form(rt: HostRuntime) -> Result<(), Fail> {
-    for segments in &NO_SEGMENTS {
-        let words = ["run", "s", "--segments", *segments];
-        expect_status(&rt, rt.alloc(), &words, b"", (2, 0, 0))?;
+    for words in &NO_SEGMENTS {
+        expect_status(&rt, rt.alloc(), words, b"", (2, 0, 0))?;
     }
     for line in &SEGMENTS {
         let told = tell_line(&rt, rt.alloc(), line)?;
-        assert!(rt;
-            told.status == DONE && told.text.as_slice() == b"= / dir 0\n! end\n".as_slice(),
-            "{line}"
-        );
+        assert!(rt; says(&told, b"= / dir 0\n! end\n"), "{line}");
     }
     Ok(())
 }
@@ -191,6 +210,19 @@ static UNSAID: [(u64, u64, &[u8]); 2] = [
     (5, 4, b"1 0 mounted\n2 0 ok\n3 0 ok\n= / dir 1\n"),
 ];
 
+// How a call ends and what it says where these says fail.
+fn call_failing(
+    rt: &(impl Threads + Sync),
+    alloc: Global,
+    words: &[String],
+    files: &mut MemFiles,
+    says: Vec<u64>,
+) -> Result<(Status, Vec<u8>), NoMemory> {
+    let out = FaultyOutside::new(alloc, Vec::new(alloc), Vec::new(alloc), says);
+    let (status, out) = call(rt, alloc, words, files, out);
+    Ok((status, lines_said(alloc, out.acts())?))
+}
+
 // How a run ends of which a say fails, and what it says.
 fn tell_failing(
     rt: &(impl Threads + Sync),
@@ -201,9 +233,7 @@ fn tell_failing(
     files.put_file("s", b"0 mount\n0 create /a\n0 sync\n")?;
     let words = words_of(alloc, &["run", "s"])?;
     let says = vec![in alloc; failing]?;
-    let out = FaultyOutside::new(alloc, Vec::new(alloc), Vec::new(alloc), says);
-    let (status, out) = call(rt, alloc, &words, &mut files, out);
-    Ok((status, lines_said(alloc, out.acts())?))
+    call_failing(rt, alloc, &words, &mut files, says)
 }
 
 #[test]

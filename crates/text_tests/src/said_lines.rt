@@ -131,244 +131,217 @@ fn describe(alloc: Global, said: &Said, to: &mut Vec<u8>) -> Result<(), NoMemory
     }
 }
 
-// What each line of a text is read as, and all of it written again.
-fn expect_read(rt: &impl Abort, alloc: Global, lines: &str, wanted: &str) -> Result<(), Fail> {
-    let mut read = Vec::new(alloc);
+// A line, and the form that it is read as.
+type Row = (&'static str, &'static str);
+
+// The form that a line is read as, and the line written again.
+fn read_and_written(alloc: Global, line: &[u8]) -> Result<(Vec<u8>, Vec<u8>), NoMemory> {
+    let mut form = Vec::new(alloc);
     let mut written = Vec::new(alloc);
-    for line in lines.as_bytes().split_inclusive(|byte| *byte == b'\n') {
-        if let Some(said) = read_line(alloc, line)? {
-            describe(alloc, &said, &mut read)?;
-            write_line(alloc, &said, &mut written)?;
-        }
-        read.push(b'\n')?;
+    if let Some(said) = read_line(alloc, line)? {
+        describe(alloc, &said, &mut form)?;
+        write_line(alloc, &said, &mut written)?;
     }
-    assert!(rt; read.as_slice() == wanted.as_bytes(), "{lines}");
-    assert!(rt; written.as_slice() == lines.as_bytes(), "{lines}");
+    Ok((form, written))
+}
+
+fn expect_read(rt: &impl Abort, alloc: Global, rows: &[Row]) -> Result<(), Fail> {
+    for (line, wanted) in rows {
+        let (form, written) = read_and_written(alloc, line.as_bytes())?;
+        assert!(rt; form.as_slice() == wanted.as_bytes(), "{line}");
+        assert!(rt; written.as_slice() == line.as_bytes(), "{line}");
+    }
     Ok(())
+}
+
+fn is_read(alloc: Global, line: &[u8]) -> Result<bool, NoMemory> {
+    Ok(read_line(alloc, line)?.is_some())
 }
 
 // None of these lines is read.
-fn expect_none(rt: &impl Abort, alloc: Global, lines: &str) -> Result<(), Fail> {
-    for line in lines.as_bytes().split_inclusive(|byte| *byte == b'\n') {
-        let read = read_line(alloc, line)?;
-        assert!(rt; read.is_none());
+fn expect_none(rt: &impl Abort, alloc: Global, lines: &[&str]) -> Result<(), Fail> {
+    for line in lines {
+        let is_read = is_read(alloc, line.as_bytes())?;
+        assert!(rt; !is_read, "{line}");
     }
     Ok(())
 }
 
-const ANSWERS: &str = "1 0 ok
-4294967295 15 mounted
-9 - ok
-3 0 data
-3 0 data 6162
-4 0 file 0 1
-4 0 file 4294967295 4294967295
-5 0 dir 896
-6 0 link 384
-7 0 names
-7 0 names a b.c
-8 0 target /x/../y
-9 0 time 1.7
-10 9 exist
-10 9 noent
-10 9 notdir
-10 9 isdir
-10 9 notempty
-10 9 inval
-10 9 mlink
-10 9 dirfull
-10 9 badoffset
-10 9 toobig
-10 9 loop
-10 9 nospace inode
-10 9 nospace dir
-10 9 nospace data 3
-10 9 nospace large
-10 9 down
-10 9 expired
-10 9 io
-10 9 already
-";
+static ANSWERS: [Row; 32] = [
+    ("1 0 ok\n", "Answer 1 0 Ok"),
+    ("4294967295 15 mounted\n", "Answer 4294967295 15 Mounted"),
+    ("9 - ok\n", "Answer 9 255 Ok"),
+    ("3 0 data\n", "Answer 3 0 Shown "),
+    ("3 0 data 6162\n", "Answer 3 0 Shown ab"),
+    ("4 0 file 0 1\n", "Answer 4 0 File 0 1"),
+    (
+        "4 0 file 4294967295 4294967295\n",
+        "Answer 4 0 File 4294967295 4294967295",
+    ),
+    ("5 0 dir 896\n", "Answer 5 0 Dir 896"),
+    ("6 0 link 384\n", "Answer 6 0 Symlink 384"),
+    ("7 0 names\n", "Answer 7 0 Names"),
+    ("7 0 names a b.c\n", "Answer 7 0 Names a b.c"),
+    ("8 0 target /x/../y\n", "Answer 8 0 Target /x/../y"),
+    ("9 0 time 1.7\n", "Answer 9 0 Time 1 7"),
+    ("10 9 exist\n", "Answer 10 9 Exist"),
+    ("10 9 noent\n", "Answer 10 9 NoEnt"),
+    ("10 9 notdir\n", "Answer 10 9 NotDir"),
+    ("10 9 isdir\n", "Answer 10 9 IsDir"),
+    ("10 9 notempty\n", "Answer 10 9 NotEmpty"),
+    ("10 9 inval\n", "Answer 10 9 Inval"),
+    ("10 9 mlink\n", "Answer 10 9 MLink"),
+    ("10 9 dirfull\n", "Answer 10 9 DirFull"),
+    ("10 9 badoffset\n", "Answer 10 9 BadOffset"),
+    ("10 9 toobig\n", "Answer 10 9 TooBig"),
+    ("10 9 loop\n", "Answer 10 9 Loop"),
+    ("10 9 nospace inode\n", "Answer 10 9 NoInode"),
+    ("10 9 nospace dir\n", "Answer 10 9 NoDirBlock"),
+    ("10 9 nospace data 3\n", "Answer 10 9 NoBlock 3"),
+    ("10 9 nospace large\n", "Answer 10 9 NoLarge"),
+    ("10 9 down\n", "Answer 10 9 Down"),
+    ("10 9 expired\n", "Answer 10 9 Expired"),
+    ("10 9 io\n", "Answer 10 9 Io"),
+    ("10 9 already\n", "Answer 10 9 Already"),
+];
 
-const ANSWERS_READ: &str = "Answer 1 0 Ok
-Answer 4294967295 15 Mounted
-Answer 9 255 Ok
-Answer 3 0 Shown\u{20}
-Answer 3 0 Shown ab
-Answer 4 0 File 0 1
-Answer 4 0 File 4294967295 4294967295
-Answer 5 0 Dir 896
-Answer 6 0 Symlink 384
-Answer 7 0 Names
-Answer 7 0 Names a b.c
-Answer 8 0 Target /x/../y
-Answer 9 0 Time 1 7
-Answer 10 9 Exist
-Answer 10 9 NoEnt
-Answer 10 9 NotDir
-Answer 10 9 IsDir
-Answer 10 9 NotEmpty
-Answer 10 9 Inval
-Answer 10 9 MLink
-Answer 10 9 DirFull
-Answer 10 9 BadOffset
-Answer 10 9 TooBig
-Answer 10 9 Loop
-Answer 10 9 NoInode
-Answer 10 9 NoDirBlock
-Answer 10 9 NoBlock 3
-Answer 10 9 NoLarge
-Answer 10 9 Down
-Answer 10 9 Expired
-Answer 10 9 Io
-Answer 10 9 Already
-";
-
-const OTHER_LINES: &str = "! dead 15
-! recovering 3 by 4
-! recovering 0 by -
-! recovered 255 keeps 0.0
-! recovered 0 keeps 1.2
-! recovered 7 keeps 4294967295.4294967295
-! renewed 0
-= / dir 0
-= /a/b file 5 1
-= /a link 3
-= /a/a/a/a/a/a/a/a/a/a/a/a/a/a/a/a/a/a/a/a/a/a/a/a/a/a/a/a/a/a/a/a/b dir 1
-# 1.3
-! backup 7
-! locks 9
-! end
-";
-
-const OTHER_LINES_READ: &str = "Dead 15
-Recovering 3 4
-Recovering 0 255
-Recovered 255 0
-Recovered 0 4294967298
-Recovered 7 18446744073709551615
-Renewed 0
-Node / 2 0 0
-Node /a/b 1 5 1
-Node /a 3 3 0
-Node /a/a/a/a/a/a/a/a/a/a/a/a/a/a/a/a/a/a/a/a/a/a/a/a/a/a/a/a/a/a/a/a/b 2 1 0
-Redo 4294967299
-Backup 7
-Locks 9
-End\u{20}
-";
+static OTHER_LINES: [Row; 15] = [
+    ("! dead 15\n", "Dead 15"),
+    ("! recovering 3 by 4\n", "Recovering 3 4"),
+    ("! recovering 0 by -\n", "Recovering 0 255"),
+    ("! recovered 255 keeps 0.0\n", "Recovered 255 0"),
+    ("! recovered 0 keeps 1.2\n", "Recovered 0 4294967298"),
+    (
+        "! recovered 7 keeps 4294967295.4294967295\n",
+        "Recovered 7 18446744073709551615",
+    ),
+    ("! renewed 0\n", "Renewed 0"),
+    ("= / dir 0\n", "Node / 2 0 0"),
+    ("= /a/b file 5 1\n", "Node /a/b 1 5 1"),
+    ("= /a link 3\n", "Node /a 3 3 0"),
+    (
+        "= /a/a/a/a/a/a/a/a/a/a/a/a/a/a/a/a/a/a/a/a/a/a/a/a/a/a/a/a/a/a/a/a/b dir 1\n",
+        "Node /a/a/a/a/a/a/a/a/a/a/a/a/a/a/a/a/a/a/a/a/a/a/a/a/a/a/a/a/a/a/a/a/b 2 1 0",
+    ),
+    ("# 1.3\n", "Redo 4294967299"),
+    ("! backup 7\n", "Backup 7"),
+    ("! locks 9\n", "Locks 9"),
+    ("! end\n", "End "),
+];
 
 #[test]
 fn each_line_is_read(rt: HostRuntime) -> Result<(), Fail> {
-    expect_read(&rt, rt.alloc(), ANSWERS, ANSWERS_READ)?;
-    expect_read(&rt, rt.alloc(), OTHER_LINES, OTHER_LINES_READ)
+    expect_read(&rt, rt.alloc(), &ANSWERS)?;
+    expect_read(&rt, rt.alloc(), &OTHER_LINES)
 }
 
-const NO_ANSWERS: &str = "
-1
-1 0
-1 0\u{20}
- 1 0 ok
-1  0 ok
-1 0  ok
-1\t0 ok
-1 0 ok\u{20}
-1 0 ok\r
-1 0 ok 1
-1 0 OK
-1 0 okay
-01 0 ok
-x 0 ok
-- 0 ok
-4294967296 0 ok
-1 16 ok
-1 00 ok
-1 255 ok
-1 -- ok
-1 0 data\u{20}
-1 0 data 0
-1 0 data 0g
-1 0 data AB
-1 0 data 00 00
-1 0 file 1
-1 0 file 1 2 3
-1 0 file 01 1
-1 0 file 4294967296 1
-1 0 dir
-1 0 dir 1 1
-1 0 link
-1 0 link 1 1
-1 0 names\u{20}
-1 0 names a  b
-1 0 names a/b
-1 0 names .
-1 0 names \u{7f}
-1 0 target
-1 0 target\u{20}
-1 0 target a b
-1 0 target \u{7f}
-1 0 time 1
-1 0 time 1.
-1 0 time .1
-1 0 time 1.2.3
-1 0 time 4294967296.0
-1 0 nospace
-1 0 nospace data
-1 0 nospace data x
-1 0 nospace data 1 1
-1 0 nospace inode 1
-1 0 nospace disk
-1 0 ok";
+static NO_ANSWERS: [&str; 55] = [
+    "\n",
+    "1\n",
+    "1 0\n",
+    "1 0 \n",
+    " 1 0 ok\n",
+    "1  0 ok\n",
+    "1 0  ok\n",
+    "1\t0 ok\n",
+    "1 0 ok \n",
+    "1 0 ok\r\n",
+    "1 0 ok 1\n",
+    "1 0 OK\n",
+    "1 0 okay\n",
+    "01 0 ok\n",
+    "x 0 ok\n",
+    "- 0 ok\n",
+    "4294967296 0 ok\n",
+    "1 16 ok\n",
+    "1 00 ok\n",
+    "1 255 ok\n",
+    "1 -- ok\n",
+    "1 0 data \n",
+    "1 0 data 0\n",
+    "1 0 data 0g\n",
+    "1 0 data AB\n",
+    "1 0 data 00 00\n",
+    "1 0 file 1\n",
+    "1 0 file 1 2 3\n",
+    "1 0 file 01 1\n",
+    "1 0 file 4294967296 1\n",
+    "1 0 dir\n",
+    "1 0 dir 1 1\n",
+    "1 0 link\n",
+    "1 0 link 1 1\n",
+    "1 0 names \n",
+    "1 0 names a  b\n",
+    "1 0 names a/b\n",
+    "1 0 names .\n",
+    "1 0 names \u{7f}\n",
+    "1 0 target\n",
+    "1 0 target \n",
+    "1 0 target a b\n",
+    "1 0 target \u{7f}\n",
+    "1 0 time 1\n",
+    "1 0 time 1.\n",
+    "1 0 time .1\n",
+    "1 0 time 1.2.3\n",
+    "1 0 time 4294967296.0\n",
+    "1 0 nospace\n",
+    "1 0 nospace data\n",
+    "1 0 nospace data x\n",
+    "1 0 nospace data 1 1\n",
+    "1 0 nospace inode 1\n",
+    "1 0 nospace disk\n",
+    "1 0 ok",
+];
 
-const NO_OTHER_LINES: &str = "!
-!end
-! End
-! end 1
-! dead
-! dead 16
-! dead -
-! dead 1 2
-! recovering 1
-! recovering 1 by
-! recovering 1 by 16
-! recovering - by 1
-! recovering 1 at 2
-! recovered 256 keeps 0.0
-! recovered 1
-! recovered 1 keeps
-! recovered 1 keeps 0
-! recovered 1 keeps 00.0
-! recovered 1 keeps 0.4294967296
-! renewed -
-! renewed 16
-! backup
-! backup 4294967296
-! locks x
-=
-= /
-= a dir 0
-= // dir 0
-= /a/ dir 0
-= /. dir 0
-= / dir
-= / dir 0 0
-= /a file 1
-= /a file 1 1 1
-= /a link 1 1
-= /a fifo 1
-#
-#1.2
-# 1
-# 01.2
-# 1.2\u{20}
-{\"blocks\":0}
-! end";
+static NO_OTHER_LINES: [&str; 44] = [
+    "!\n",
+    "!end\n",
+    "! End\n",
+    "! end 1\n",
+    "! dead\n",
+    "! dead 16\n",
+    "! dead -\n",
+    "! dead 1 2\n",
+    "! recovering 1\n",
+    "! recovering 1 by\n",
+    "! recovering 1 by 16\n",
+    "! recovering - by 1\n",
+    "! recovering 1 at 2\n",
+    "! recovered 256 keeps 0.0\n",
+    "! recovered 1\n",
+    "! recovered 1 keeps\n",
+    "! recovered 1 keeps 0\n",
+    "! recovered 1 keeps 00.0\n",
+    "! recovered 1 keeps 0.4294967296\n",
+    "! renewed -\n",
+    "! renewed 16\n",
+    "! backup\n",
+    "! backup 4294967296\n",
+    "! locks x\n",
+    "=\n",
+    "= /\n",
+    "= a dir 0\n",
+    "= // dir 0\n",
+    "= /a/ dir 0\n",
+    "= /. dir 0\n",
+    "= / dir\n",
+    "= / dir 0 0\n",
+    "= /a file 1\n",
+    "= /a file 1 1 1\n",
+    "= /a link 1 1\n",
+    "= /a fifo 1\n",
+    "#\n",
+    "#1.2\n",
+    "# 1\n",
+    "# 01.2\n",
+    "# 1.2 \n",
+    "{\"blocks\":0}\n",
+    "! end",
+    "! end\n! end\n",
+];
 
 #[test]
 fn other_texts_are_no_lines(rt: HostRuntime) -> Result<(), Fail> {
-    expect_none(&rt, rt.alloc(), NO_ANSWERS)?;
-    expect_none(&rt, rt.alloc(), NO_OTHER_LINES)?;
-    let two = read_line(rt.alloc(), b"! end\n! end\n")?;
-    assert!(&rt; two.is_none());
-    Ok(())
+    expect_none(&rt, rt.alloc(), &NO_ANSWERS)?;
+    expect_none(&rt, rt.alloc(), &NO_OTHER_LINES)
 }

@@ -1,7 +1,6 @@
 // Scripts by hand: what each line asks, and the first fault of each bad one.
-use crate::forms::{add, add_number, add_text};
+use crate::forms::{add, add_number, add_text, read};
 use frang_base::{HostOp, Line, NoMemory, Op, Path, Script, What};
-use script_lang::{ReadFault, ScriptFault, read_script};
 use std::alloc::Global;
 use std::process::Abort;
 use std::test::Fail;
@@ -9,99 +8,111 @@ use std::test::Fail;
 // A blank, and the names of a path in brackets.
 fn names(path: &Path, to: &mut Vec<u8>) -> Result<(), NoMemory> {
     add(b" [", to)?;
-    for (i, name) in path.as_slice().iter().enumerate() {
-        if i > 0 {
-            to.push(b'|')?;
-        }
+    let mut mark: &[u8] = b"";
+    for name in path.as_slice() {
+        add(mark, to)?;
         add(name.as_slice(), to)?;
+        mark = b"|";
     }
     add(b"]", to)
 }
 
-fn at(form: &[u8], path: &Path, to: &mut Vec<u8>) -> Result<(), NoMemory> {
-    add_text(form, to)?;
-    names(path, to)
-}
-
-fn at_two(form: &[u8], path: &Path, other: &Path, to: &mut Vec<u8>) -> Result<(), NoMemory> {
-    at(form, path, to)?;
-    names(other, to)
-}
-
-fn counted(alloc: Global, form: &[u8], n: u32, to: &mut Vec<u8>) -> Result<(), NoMemory> {
-    add_text(form, to)?;
+// A blank and a number.
+fn number(alloc: Global, n: u32, to: &mut Vec<u8>) -> Result<(), NoMemory> {
     add_number(alloc, u64::from(n), to)
 }
 
-// What names two nodes, or one with a text or numbers.
-fn longer_op(alloc: Global, op: &Op, to: &mut Vec<u8>) -> Result<(), NoMemory> {
+fn word(op: &Op) -> &'static [u8] {
     match op {
-        Op::Link { path, to: other } => at_two(b"Link", path, other, to),
-        Op::Rename { path, to: other } => at_two(b"Rename", path, other, to),
-        Op::Symlink { path, target } => {
-            at(b"Symlink", path, to)?;
-            add_text(target.as_slice(), to)
-        }
-        Op::Write { path, off, bytes } => {
-            at(b"Write", path, to)?;
-            add_number(alloc, u64::from(*off), to)?;
-            add_text(bytes.as_slice(), to)
-        }
-        Op::Truncate { path, len } => {
-            at(b"Truncate", path, to)?;
-            add_number(alloc, u64::from(*len), to)
-        }
+        Op::Create { .. } => b"Create",
+        Op::Mkdir { .. } => b"Mkdir",
+        Op::Link { .. } => b"Link",
+        Op::Symlink { .. } => b"Symlink",
+        Op::Unlink { .. } => b"Unlink",
+        Op::Rmdir { .. } => b"Rmdir",
+        Op::Rename { .. } => b"Rename",
+        Op::Write { .. } => b"Write",
+        Op::Fill { .. } => b"Fill",
+        Op::Truncate { .. } => b"Truncate",
+        Op::Read { .. } => b"Read",
+        Op::Stat { .. } => b"Stat",
+        Op::List { .. } => b"List",
+        Op::Readlink { .. } => b"Readlink",
+        Op::Time { .. } => b"Time",
+        Op::Sync => b"Sync",
+        Op::Mount => b"Mount",
+        Op::Unmount => b"Unmount",
+        Op::Crash => b"Crash",
+        Op::CrashAt { .. } => b"CrashAt",
+        Op::CutAt { .. } => b"CutAt",
+        Op::Stall => b"Stall",
+    }
+}
+
+// The path that stands first, where one does.
+fn first_path(op: &Op, to: &mut Vec<u8>) -> Result<(), NoMemory> {
+    match op {
+        Op::Create { path }
+        | Op::Mkdir { path }
+        | Op::Link { path, .. }
+        | Op::Symlink { path, .. }
+        | Op::Unlink { path }
+        | Op::Rmdir { path }
+        | Op::Rename { path, .. }
+        | Op::Write { path, .. }
+        | Op::Fill { path, .. }
+        | Op::Truncate { path, .. }
+        | Op::Read { path, .. }
+        | Op::Stat { path }
+        | Op::List { path }
+        | Op::Readlink { path }
+        | Op::Time { path } => names(path, to),
         _ => Ok(()),
     }
 }
 
-fn bytes_op(alloc: Global, op: &Op, to: &mut Vec<u8>) -> Result<(), NoMemory> {
+// A second path or a text.
+fn last_text(op: &Op, to: &mut Vec<u8>) -> Result<(), NoMemory> {
     match op {
-        Op::Fill {
-            path,
-            off,
-            len,
-            byte,
-        } => {
-            at(b"Fill", path, to)?;
-            add_number(alloc, u64::from(*off), to)?;
-            add_number(alloc, u64::from(*len), to)?;
-            add_number(alloc, u64::from(*byte), to)
+        Op::Link { to: other, .. } | Op::Rename { to: other, .. } => names(other, to),
+        Op::Symlink { target, .. } => add_text(target.as_slice(), to),
+        Op::Write { bytes, .. } => add_text(bytes.as_slice(), to),
+        _ => Ok(()),
+    }
+}
+
+fn numbers(alloc: Global, op: &Op, to: &mut Vec<u8>) -> Result<(), NoMemory> {
+    match op {
+        Op::Write { off, .. } => number(alloc, *off, to),
+        Op::Fill { off, len, byte, .. } => {
+            number(alloc, *off, to)?;
+            number(alloc, *len, to)?;
+            number(alloc, u32::from(*byte), to)
         }
-        Op::Read { path, off, len } => {
-            at(b"Read", path, to)?;
-            add_number(alloc, u64::from(*off), to)?;
-            add_number(alloc, u64::from(*len), to)
+        Op::Truncate { len, .. } => number(alloc, *len, to),
+        Op::Read { off, len, .. } => {
+            number(alloc, *off, to)?;
+            number(alloc, *len, to)
         }
-        _ => longer_op(alloc, op, to),
+        Op::CrashAt { k } | Op::CutAt { k } => number(alloc, *k, to),
+        _ => Ok(()),
     }
 }
 
 fn server_op(alloc: Global, op: &Op, to: &mut Vec<u8>) -> Result<(), NoMemory> {
-    match op {
-        Op::Create { path } => at(b"Create", path, to),
-        Op::Mkdir { path } => at(b"Mkdir", path, to),
-        Op::Unlink { path } => at(b"Unlink", path, to),
-        Op::Rmdir { path } => at(b"Rmdir", path, to),
-        Op::Stat { path } => at(b"Stat", path, to),
-        Op::List { path } => at(b"List", path, to),
-        Op::Readlink { path } => at(b"Readlink", path, to),
-        Op::Time { path } => at(b"Time", path, to),
-        Op::Sync => add_text(b"Sync", to),
-        Op::Mount => add_text(b"Mount", to),
-        Op::Unmount => add_text(b"Unmount", to),
-        Op::Crash => add_text(b"Crash", to),
-        Op::CrashAt { k } => counted(alloc, b"CrashAt", *k, to),
-        Op::CutAt { k } => counted(alloc, b"CutAt", *k, to),
-        Op::Stall => add_text(b"Stall", to),
-        _ => bytes_op(alloc, op, to),
-    }
+    add_text(word(op), to)?;
+    first_path(op, to)?;
+    numbers(alloc, op, to)?;
+    last_text(op, to)
 }
 
 fn host_op(alloc: Global, op: &HostOp, to: &mut Vec<u8>) -> Result<(), NoMemory> {
     match op {
         HostOp::Barrier => add_text(b"Barrier", to),
-        HostOp::Tick { n } => counted(alloc, b"Tick", *n, to),
+        HostOp::Tick { n } => {
+            add_text(b"Tick", to)?;
+            number(alloc, *n, to)
+        }
         HostOp::Halt => add_text(b"Halt", to),
     }
 }
@@ -125,11 +136,16 @@ fn described(alloc: Global, script: &Script) -> Result<Vec<u8>, NoMemory> {
     Ok(text)
 }
 
+// The lines that a script is read as, or nothing where it has a fault.
+fn read_as(alloc: Global, script: &[u8]) -> Result<Vec<u8>, NoMemory> {
+    match read(alloc, script) {
+        Ok(script) => described(alloc, &script),
+        Err(_) => Ok(Vec::new(alloc)),
+    }
+}
+
 fn expect_read(rt: &impl Abort, alloc: Global, script: &str, wanted: &str) -> Result<(), Fail> {
-    let text = match read_script(alloc, script.as_bytes()) {
-        Ok(script) => described(alloc, &script)?,
-        Err(_) => Vec::new(alloc),
-    };
+    let text = read_as(alloc, script.as_bytes())?;
     assert!(rt; text.as_slice() == wanted.as_bytes(), "{script}");
     Ok(())
 }
@@ -137,17 +153,19 @@ fn expect_read(rt: &impl Abort, alloc: Global, script: &str, wanted: &str) -> Re
 // A script, the line of its first fault and the kind of that.
 type Fault = (&'static str, u32, u8);
 
-// A script that isn't read, for this fault.
-fn is_bad(alloc: Global, script: &[u8], fault: ScriptFault) -> bool {
-    match read_script(alloc, script) {
+// Whether a script isn't read for a fault of this kind at this line.
+fn is_bad(alloc: Global, script: &[u8], line: u32, kind: u8) -> bool {
+    match read(alloc, script) {
         Ok(_) => false,
-        Err(found) => found == ReadFault::Bad(fault),
+        Err(fault) => fault.0 == line && fault.1 == kind,
     }
 }
 
 fn expect_bad(rt: &impl Abort, alloc: Global, script: &[u8], line: u32, kind: u8) {
-    let fault = ScriptFault { line, kind };
-    assert!(rt; is_bad(alloc, script, fault), "line {line}, kind {kind}");
+    assert!(rt;
+        is_bad(alloc, script, line, kind),
+        "line {line}, kind {kind}"
+    );
 }
 
 // All of these lines are bad alone, with this kind.
