@@ -1,5 +1,7 @@
 // Plans in words: the reply with the changes, the bytes and the freed sectors that make it.
+ghost use Rattle.std.specs.Prelude.{◌≡◌, true};
 ghost use Rattle.disk_definitions.specs.Held.{AreSegments};
+ghost use Rattle.edit_writing.specs.Sectors.{EndsWithNextVersions, at_hand};
 
 use crate::digits::digits;
 use crate::replies::reply_told;
@@ -18,12 +20,21 @@ pub fn written_told(
 ) -> Result<String, NoMemory>
     requires { AreSegments hand.now.held.now }
 {
-    if let Ok(outcome) = &ended
-        && !have_next_versions(hand, &outcome.edits)
-    {
+    if !ends_with_next_versions(hand, &ended) {
         return Ok(format!(in alloc; "a version has no next one")?);
     }
     plan_told(alloc, &finish(alloc, hand, ended)?)
+}
+
+// The version of each sector that the edits change has a next one.
+fn ends_with_next_versions(hand: &Hand, ended: &Result<Outcome, Stop>) -> bool
+    requires { AreSegments hand.now.held.now }
+    ensures { result ≡ true → EndsWithNextVersions (at_hand hand.now) ended.now }
+{
+    match ended {
+        Ok(outcome) => have_next_versions(hand, &outcome.edits),
+        Err(_) => true,
+    }
 }
 
 /// A plan: its reply with what makes it, or what it needs. Its one refusal is want of memory.

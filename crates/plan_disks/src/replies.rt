@@ -8,13 +8,25 @@ const BEFORE_REPLY: usize = 4;
 
 /// The words of a reply. Its one refusal is want of memory.
 pub(crate) fn reply_told(alloc: Global, reply: &Reply) -> Result<String, NoMemory> {
-    let mut line = Vec::new(alloc);
+    let line = line_of(alloc, reply)?;
+    words_of(alloc, &line)
+}
+
+// The line that says the reply.
+fn line_of(alloc: Global, reply: &Reply) -> Result<Vec<u8>, NoMemory> {
+    let reply = reply.try_copy()?;
     let answer = Said::Answer {
         line: 0,
         server: ServerId(0),
-        reply: reply.try_copy()?,
+        reply,
     };
+    let mut line = Vec::new(alloc);
     write_line(alloc, &answer, &mut line)?;
+    Ok(line)
+}
+
+// What a line says after the line and the server that it answers.
+fn words_of(alloc: Global, line: &[u8]) -> Result<String, NoMemory> {
     let mut told = String::new(alloc);
     for byte in line.iter().skip(BEFORE_REPLY) {
         if *byte != b'\n' {
