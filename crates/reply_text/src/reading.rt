@@ -106,12 +106,16 @@ fn plain_reply(word: &[u8]) -> Option<Reply>
 fn full_reply(word: &[u8]) -> Option<Reply>
     ensures { result ≡ full_at word.now }
 {
-    match word {
-        b"inode" => Some(Reply::NoInode),
-        b"dir" => Some(Reply::NoDirBlock),
-        b"large" => Some(Reply::NoLarge),
-        _ => None,
+    if word == b"inode".as_slice() {
+        return Some(Reply::NoInode);
     }
+    if word == b"dir".as_slice() {
+        return Some(Reply::NoDirBlock);
+    }
+    if word == b"large".as_slice() {
+        return Some(Reply::NoLarge);
+    }
+    None
 }
 
 // What follows `nospace`.
@@ -241,10 +245,10 @@ fn read_by(rest: Option<&[u8]>) -> Option<ServerId>
     ensures { result ≡ by_of (parts_left 32 (option_copied rest.entry)) }
 {
     let (word, rest) = cut(rest?, b' ');
-    if word != b"by".as_slice() {
-        return None;
+    if word == b"by".as_slice() {
+        return who(sole_part(rest, b' ')?);
     }
-    who(sole_part(rest, b' ')?)
+    None
 }
 
 fn read_recovering(rest: Option<&[u8]>) -> Option<Said>
@@ -261,10 +265,10 @@ fn read_keeps(rest: Option<&[u8]>) -> Option<OpNo>
     ensures { result ≡ keeps_of (parts_left 32 (option_copied rest.entry)) }
 {
     let (word, rest) = cut(rest?, b' ');
-    if word != b"keeps".as_slice() {
-        return None;
+    if word == b"keeps".as_slice() {
+        return op_number(sole_part(rest, b' ')?);
     }
-    op_number(sole_part(rest, b' ')?)
+    None
 }
 
 fn read_recovered(rest: Option<&[u8]>) -> Option<Said>

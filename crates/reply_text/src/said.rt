@@ -66,8 +66,7 @@ fn write_answer(
 fn write_recovered(server: ServerId, keeps: OpNo, to: &mut Vec<u8>) -> Result<(), NoMemory>
     ensures { OnOk result (to.new.items ≡ to.old.items ++ said_text (Said.Recovered server keeps)) }
 {
-    write_words(b"! recovered ", to)?;
-    write_number(u64::from(server.0), to)?;
+    write_numbered(b"! recovered ", u32::from(server.0), to)?;
     write_keeps(keeps, to)
 }
 
