@@ -137,9 +137,11 @@ fn asked_with<'a>(name: &str, given: GivenWords<'_, 'a>) -> Option<Command<'a>>
     ensures segments { IfSome result (λ command. HasSegments command) }
 {
     if name == "run" {
-        Some(Command::Run(run_by(given)?))
+        let run = run_by(given)?;
+        Some(Command::Run(run))
     } else {
-        Some(Command::OnImage(image_asked(name, given)?))
+        let asked = image_asked(name, given)?;
+        Some(Command::OnImage(asked))
     }
 }
 

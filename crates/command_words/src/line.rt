@@ -13,16 +13,15 @@ fn command_named<'a>(alloc: Global, name: &'a str) -> Result<Command<'a>, AllocE
     ensures local { IfOk result (λ command. (out-Command command).has_globals ≡ false) }
 {
     let places = Arg::new(alloc, "places").action(ArgAction::Append);
+    let with_places = Command::new(alloc, name).arg(places)?;
     let segments = Arg::new(alloc, "segments")
         .long("segments")
         .action(ArgAction::Append);
+    let with_segments = with_places.arg(segments)?;
     let save = Arg::new(alloc, "save")
         .long("save")
         .action(ArgAction::Append);
-    let with_places = Command::new(alloc, name).arg(places)?;
-    let with_segments = with_places.arg(segments)?;
-    let with_save = with_segments.arg(save)?;
-    Ok(with_save)
+    with_segments.arg(save)
 }
 
 fn with_command<'a>(
@@ -33,8 +32,7 @@ fn with_command<'a>(
     ensures { IfOk result (λ more. app_of more ≡ with_command (app_of line.entry) name.entry.now) }
 {
     let command = command_named(alloc, name)?;
-    let more = line.subcommand(command)?;
-    Ok(more)
+    line.subcommand(command)
 }
 
 /// The line has no words of `clap`'s own: no help, and no name of the program.
@@ -50,6 +48,5 @@ pub fn command_line<'a>(alloc: Global) -> Result<Command<'a>, AllocError>
     let recover = with_command(alloc, run, "recover")?;
     let tree = with_command(alloc, recover, "tree")?;
     let log = with_command(alloc, tree, "log")?;
-    let fsck = with_command(alloc, log, "fsck")?;
-    Ok(fsck)
+    with_command(alloc, log, "fsck")
 }

@@ -1,5 +1,5 @@
 -- What decoded sectors say of a store.
-use Rattle.std.proofs.Common.{◌==◌, ◌≡◌, ℕ, ◌*◌, ◌/◌, ◌%◌, ◌<◌, ◌≤◌, Bool, true, false, ◌&&◌, ◌||◌, ⊎_elim, Option, Some, None, List, cond, refl, sym, ◌∙◌, ap, nat_lt, nat_le, leb-true, lt-ltb, le-ltb, ne_eqb}
+use Rattle.std.proofs.Common.{◌==◌, ◌≡◌, ℕ, ◌*◌, ◌/◌, ◌%◌, ◌<◌, ◌≤◌, Bool, true, false, ◌&&◌, ◌||◌, ⊎_elim, Option, Some, None, List, cond, refl, sym, ◌∙◌, ap, nat_lt, nat_le, leb-true, lt-ltb, le-ltb, eq-eqb, ne_eqb}
 use Rattle.std.specs.List.{slice_get}
 use Rattle.std.proofs.lemmas.Bool.{or_cases, cond-true, cond-false, and_right, both_ways}
 use Rattle.disk_definitions.specs.declared.inode.Inode.{Inode}
@@ -62,6 +62,21 @@ used_is segments sectors i x l e n =
     let f : (x.kind == 0) ≡ false = ne_eqb x.kind 0 n in
     sym (cond-true (nat_lt i (64 * segments)) (stored_node (inode_in (sectors (sector_of (region.Inode i))))) None (lt-ltb i (64 * segments) l)
     ∙ decoded_node (sectors (sector_of (region.Inode i))) ∙ ap node_of e ∙ cond-false (x.kind == 0) None (Some (stored x)) f)
+
+-- none where its sector isn't in the grammar, and where it is free
+pub no_inode : (segments : ℕ) (sectors : Sectors) (i : ℕ) → inode_in (sectors (sector_of (region.Inode i))) ≡ None → None ≡ (store_of segments sectors).inode i
+no_inode segments sectors i h = go (nat_lt i (64 * segments))
+  where
+    go : (b : Bool) → None ≡ cond b (stored_node (inode_in (sectors (sector_of (region.Inode i))))) None
+    go true = sym (ap stored_node h)
+    go false = refl
+
+pub free_is : (segments : ℕ) (sectors : Sectors) (i : ℕ) (x : Inode) → inode_in (sectors (sector_of (region.Inode i))) ≡ Some x → x.kind ≡ 0 → None ≡ (store_of segments sectors).inode i
+free_is segments sectors i x e z = go (nat_lt i (64 * segments))
+  where
+    go : (b : Bool) → None ≡ cond b (stored_node (inode_in (sectors (sector_of (region.Inode i))))) None
+    go true = sym (decoded_node (sectors (sector_of (region.Inode i))) ∙ ap node_of e ∙ cond-true (x.kind == 0) None (Some (stored x)) (eq-eqb x.kind 0 z))
+    go false = refl
 
 -- the entry of a decoded place
 abbrev pub entry_of : Option DirEntry → Option StoredEntry

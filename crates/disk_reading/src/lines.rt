@@ -1,5 +1,5 @@
 // The lines of the tree that a disk stands for, read off its inodes and directories: no byte of a file is read.
-ghost use Rattle.std.specs.Prelude.{◌≡◌, ◌≤◌, ◌*◌, ◌++◌, ◌==◌, true, Some, length, if◌then◌else◌, IfOk, IfSome, OnOk};
+ghost use Rattle.std.specs.Prelude.{◌≡◌, ◌≤◌, ◌*◌, ◌∷◌, ◌++◌, [], ◌==◌, true, Some, length, if◌then◌else◌, IfOk, IfSome, OnOk};
 ghost use Rattle.std.specs.Option.{option_map};
 ghost use Rattle.tree_definitions.specs.Tree.{FileTree};
 ghost use Rattle.tree_definitions.specs.TreeLines.{path_text, name_below, lines_from, tree_lines};
@@ -58,12 +58,28 @@ fn inode_line(alloc: Global, text: &Text, inode: &Inode) -> Result<Said, NoMemor
     requires { inode_fits inode.now ≡ true }
     ensures { IfOk result (λ line. line ≡ inode_line text.now (stored inode.now)) }
 {
+    let path = path_text(alloc, text)?;
     Ok(Said::Node {
-        path: path_text(alloc, text)?,
+        path,
         kind: inode.kind,
         size: inode.size as u32,
         links: links_shown(inode),
     })
+}
+
+// Adds the line of an inode in use.
+fn add_line(
+    alloc: Global,
+    text: &Text,
+    inode: &Inode,
+    lines: &mut Vec<Said>,
+) -> Result<(), NoMemory>
+    requires { inode_fits inode.now ≡ true }
+    ensures { OnOk result (lines.new.items ≡ lines.old.items ++ inode_line text.now (stored inode.now) ∷ []) }
+{
+    let line = inode_line(alloc, text, inode)?;
+    lines.push(line)?;
+    Ok(())
 }
 
 // The entries of an inode in use, where that is a directory.
@@ -120,8 +136,7 @@ fn add_lines(
     let Some(inode) = inode_of(disk, segments, birth) else {
         return Ok(());
     };
-    let line = inode_line(alloc, text, &inode)?;
-    lines.push(line)?;
+    add_line(alloc, text, &inode, lines)?;
     let entries = listed(alloc, disk, segments, &inode)?;
     for (name, child) in entries.as_map() {
         let below = name_below(text, name)?;

@@ -46,7 +46,6 @@ pub fn directory_at(disk: &DecodedDisk<'_>, block: u32, part: u8) -> Option<DirS
 }
 
 /// Inode `i`, where it is in use. `None` exactly where it is free, past the segments, or not in its grammar.
-#[tactic(auto, using(crate::proofs::Decoded::decoded_node), unfolding(crate::specs::Seen::store_in))]
 pub fn used_inode(disk: &DecodedDisk<'_>, segments: u32, i: u32) -> Option<Inode>
     requires { segments ≤ SEGMENTS_MAX }
     ensures is { option_map stored result ≡ (store_in segments disk.now).inode i }

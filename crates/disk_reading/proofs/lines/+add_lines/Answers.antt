@@ -1,5 +1,5 @@
 -- A node's own line, and then those of its entries.
-use Rattle.std.proofs.Common.{◌≡◌, ◌-◌, ◌∷◌, ◌++◌, [], Some, true, sym, ◌∙◌, ap, arith}
+use Rattle.std.proofs.Common.{◌≡◌, ◌-◌, Some, true, sym, ◌∙◌, ap, arith}
 use Rattle.std.specs.Option.{option_map}
 use Rattle.tree_definitions.specs.TreeLines.{lines_from}
 use Rattle.sector_bytes.specs.Sectors.{sectors_of}
@@ -31,8 +31,8 @@ loop-name-init t c =
     record {
       can = tt;
       ends = tt;
-      rest = first_lines c.args.segments (sectors_of c.args.disk.now) c.args.depth c.args.birth c.args.text.now (stored c.in-Some.inode) c.into_iter-name-iterator.result c.args.lines.now.items c.push.new.self.items
-          (omega arith) found agrees (c.in_ok-push.ensures.items ∙ ap (λ l. c.args.lines.now.items ++ l ∷ []) c.in_ok-line.ensures)
+      rest = first_lines c.args.segments (sectors_of c.args.disk.now) c.args.depth c.args.birth c.args.text.now (stored c.in-Some.inode) c.into_iter-name-iterator.result c.args.lines.now.items c.add_line.new.lines.items
+          (omega arith) found agrees c.in_ok-add_line.ensures
           (c.into_iter-name-iterator.ensures.into_iter_gives.0 ∙ c.as_map-name-items.ensures ∙ c.in_ok-entries.ensures);
     }
 

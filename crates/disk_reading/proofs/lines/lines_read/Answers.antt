@@ -1,5 +1,5 @@
 -- A disk that stands for a tree is sound, and stands for the tree that is read off it.
-use Rattle.std.proofs.Common.{◌≡◌, ◌*◌, Some, IfOk, sym, ◌∙◌, ap, subst}
+use Rattle.std.proofs.Common.{◌≡◌, ◌*◌, Some, None, IfOk, sym, ◌∙◌, ap, subst}
 use Rattle.std.proofs.lemmas.Result.{IfOk-weaker}
 use Rattle.tree_definitions.specs.TreeLines.{tree_lines}
 use Rattle.disk_definitions.specs.Params.{param_in}
@@ -8,7 +8,24 @@ use Rattle.standing_laws.specs.ReadTree.{read_tree}
 use Rattle.disk_reading.specs.Lined.{NodesAgree}
 use Rattle.disk_reading.specs.Seen.{store_in}
 use Rattle.disk_reading.proofs.NodeLines.{lines_told, nodes_agree, standing_sound}
+use Rattle.disk_definitions.proofs.ParamLaws.{few_segments}
+use Rattle.disk_reading.proofs.Treed.{reading_unknown}
 use Rattle.disk_reading.proofs.lines.lines_read.Goals as goal
+
+pub unreachable-requires : goal.unreachable-requires
+unreachable-requires c =
+    let n : param_in (sectors_of c.args.disk.now 0) ≡ None = ap param_in (sym c.get.ensures) ∙ sym c.decode.ensures ∙ c.in_default.is in
+    reading_unknown (sectors_of c.args.disk.now) n c.requires.0 c.requires.1
+
+pub of-requires : goal.of-requires
+of-requires c =
+    let e : param_in (sectors_of c.args.disk.now 0) ≡ Some c.in-Some.param = ap param_in (sym c.get.ensures) ∙ sym c.decode.ensures ∙ c.in-Some.is in
+    few_segments (sectors_of c.args.disk.now 0) c.in-Some.param e
+
+pub lines_of-requires-clause-few : goal.lines_of-requires-clause-few
+lines_of-requires-clause-few c =
+    let e : param_in (sectors_of c.args.disk.now 0) ≡ Some c.in-Some.param = ap param_in (sym c.get.ensures) ∙ sym c.decode.ensures ∙ c.in-Some.is in
+    few_segments (sectors_of c.args.disk.now 0) c.in-Some.param e
 
 pub lines_of-requires-clause-agree : goal.lines_of-requires-clause-agree
 unfolding store_in
