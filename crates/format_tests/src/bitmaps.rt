@@ -1,5 +1,5 @@
 // Segments of the allocation bitmap.
-use crate::builders::{Piece, are_runs, block_of, with};
+use crate::builders::{Piece, Run, are_runs, block_of, with};
 use bitmap_block::{
     Bitmap, BlockState, decode, encode, inode_in_use, patches, state_of, with_inode, with_state,
 };
@@ -40,14 +40,17 @@ static BUSY: [Piece; 5] = [
     (271, b"\x80\x01"),
 ];
 
+// Whether the segment is written as these pieces over other bytes, and read as it is.
+fn is_written(segment: Bitmap, worked: &[Piece]) -> bool {
+    let mut block = [7; SECTOR_BYTES];
+    encode(&segment, &mut block);
+    block == block_of(worked) && decode(&block) == Some(segment)
+}
+
 #[test]
 fn segments_are_written_as_worked_out_by_hand(rt: HostRuntime) {
-    let mut block = [7; SECTOR_BYTES];
-    for (segment, worked) in [(fresh(), block_of(&FRESH)), (busy(), block_of(&BUSY))] {
-        encode(&segment, &mut block);
-        assert!(rt; block == worked);
-        assert!(rt; decode(&block) == Some(segment));
-    }
+    assert!(rt; is_written(fresh(), &FRESH), "fresh");
+    assert!(rt; is_written(busy(), &BUSY), "busy");
 }
 
 // A place, and the byte that stands there instead.
@@ -78,50 +81,61 @@ static STATES: [(u32, BlockState); 9] = [
     (1023, BlockState::FormerDirectory),
 ];
 
+fn has_bit(segment: &Bitmap, j: u32, used: bool) -> bool {
+    j < SEGMENT_INODES && inode_in_use(segment, j) == used
+}
+
+fn has_state(segment: &Bitmap, j: u32, state: BlockState) -> bool {
+    j < SEGMENT_BLOCKS && state_of(segment, j) == state
+}
+
 #[test]
 fn bits_and_states_stand_at_their_places(rt: HostRuntime) {
     let segment = busy();
     for (j, used) in &BITS {
-        assert!(rt;
-            *j < SEGMENT_INODES && inode_in_use(&segment, *j) == *used,
-            "inode {j}"
-        );
+        assert!(rt; has_bit(&segment, *j, *used), "inode {j}");
     }
     for (j, state) in &STATES {
-        assert!(rt;
-            *j < SEGMENT_BLOCKS && state_of(&segment, *j) == *state,
-            "block {j}"
-        );
+        assert!(rt; has_state(&segment, *j, *state), "block {j}");
     }
+}
+
+// The busy segment with two other bits, and then with three other states.
+fn other_bits() -> Bitmap {
+    with_inode(&with_inode(&busy(), 9, false), 1, true)
+}
+
+fn other_states() -> Bitmap {
+    let segment = with_state(&other_bits(), 1, BlockState::Directory);
+    let segment = with_state(&segment, 3, BlockState::Unused);
+    with_state(&segment, 1022, BlockState::FileBytes)
 }
 
 #[test]
 fn one_bit_or_state_is_changed(rt: HostRuntime) {
-    let segment = with_inode(&with_inode(&busy(), 9, false), 1, true);
-    assert!(rt; segment.inodes == 1 << 63 | 2 | 1);
-    let segment = with_state(&segment, 1, BlockState::Directory);
-    let segment = with_state(&segment, 3, BlockState::Unused);
-    let segment = with_state(&segment, 1022, BlockState::FileBytes);
+    assert!(rt; other_bits().inodes == 1 << 63 | 2 | 1);
     let mut states = busy().states;
     states[0] = 0b00_10_11_00;
     states[255] = 0b10_01_00_00;
-    assert!(rt; segment.states == states);
+    assert!(rt; other_states().states == states);
 }
+
+// The busy segment with another version, bit and state, and its large block free.
+fn last() -> Bitmap {
+    let mut segment = with_state(&with_inode(&busy(), 8, true), 1023, BlockState::Directory);
+    segment.version = 300;
+    segment.large = false;
+    segment
+}
+
+static LAST: [Run; 2] = [(9, b"\x03"), (271, b"\xc0\0")];
 
 #[test]
 fn what_changes_of_a_segment(rt: HostRuntime) -> Result<(), Fail> {
-    let changed = with_state(&with_inode(&busy(), 8, true), 1023, BlockState::Directory);
-    let last = Bitmap {
-        version: 300,
-        large: false,
-        ..changed
-    };
-    let found = patches(rt.alloc(), &busy(), &last)?;
-    assert!(rt; are_runs(&found, &[(9, b"\x03"), (271, b"\xc0\0")]));
-    let newer = Bitmap {
-        version: 2,
-        ..fresh()
-    };
+    let found = patches(rt.alloc(), &busy(), &last())?;
+    assert!(rt; are_runs(&found, &LAST));
+    let mut newer = fresh();
+    newer.version = 2;
     assert!(rt; patches(rt.alloc(), &fresh(), &newer)?.is_empty());
     Ok(())
 }

@@ -2,7 +2,7 @@
 ghost use Rattle.std.specs.Prelude.{◌≤◌, IsTrue};
 ghost use Rattle.disk_definitions.specs.Inodes.{inode_fits};
 
-use crate::builders::{Piece, are_runs, block_of, with};
+use crate::builders::{Piece, Run, are_runs, block_of, with};
 use frang_base::Block;
 use frang_base::limits::{
     KIND_DIRECTORY, KIND_FILE, KIND_LINK, LINKS_MAX, SECTOR_BYTES, SMALL_BLOCK_BYTES,
@@ -25,6 +25,9 @@ fn root() -> Inode {
         target: [0; 384],
     }
 }
+
+// A free inode but for its version 1, its kind and its one name.
+static ROOT: [Piece; 2] = [(0, b"\x01"), (8, b"\x02\0\x01")];
 
 // A link to `/a` of three names, made by line 3 of run 1.
 static LINK: [Piece; 5] = [
@@ -71,16 +74,15 @@ fn file(version: u64, links: u16, size: u64, when: u64) -> Inode
 fn a_fresh_root_begins_with_its_version_kind_and_link(rt: HostRuntime) {
     let mut block = [7; SECTOR_BYTES];
     encode(&root(), &mut block);
-    assert!(rt; block == block_of(&[(0, b"\x01\0\0\0\0\0\0\0\x02\0\x01")]));
+    assert!(rt; block == block_of(&ROOT));
     assert!(rt; decode(&block) == Some(root()));
 }
 
-#[test]
-fn a_link_is_read_field_by_field(rt: HostRuntime) {
+fn link() -> Inode {
     let mut target = [0; 384];
     target[0] = b'/';
     target[1] = b'a';
-    let link = Inode {
+    Inode {
         version: 5,
         kind: KIND_LINK,
         links: 3,
@@ -91,8 +93,12 @@ fn a_link_is_read_field_by_field(rt: HostRuntime) {
         large: 0,
         when: 0,
         target,
-    };
-    assert!(rt; decode(&block_of(&LINK)) == Some(link));
+    }
+}
+
+#[test]
+fn a_link_is_read_field_by_field(rt: HostRuntime) {
+    assert!(rt; decode(&block_of(&LINK)) == Some(link()));
 }
 
 // A place of the link, the byte that stands there instead, and whether the block is then an inode's.
@@ -155,7 +161,10 @@ static TIMED_CHANGED: [(usize, u8, Option<u64>); 9] = [
 
 // The time of the block's inode, with another byte at a place.
 fn time_with(block: &Block, at: usize, byte: u8) -> Option<u64> {
-    decode(&with(block, at, byte)).map(|inode| inode.when)
+    match decode(&with(block, at, byte)) {
+        Some(inode) => Some(inode.when),
+        None => None,
+    }
 }
 
 #[test]
@@ -165,8 +174,6 @@ fn a_timed_file_with_one_byte_changed(rt: HostRuntime) {
         assert!(rt; time_with(&timed, *at, *byte) == *time, "byte {at}");
     }
 }
-
-static ROOT: [Piece; 2] = [(0, b"\x01"), (8, b"\x02\0\x01")];
 
 // The first place of a time at which such a block may have another byte.
 fn first_timed(pieces: &[Piece]) -> Option<usize> {
@@ -186,16 +193,13 @@ fn only_files_have_a_time(rt: HostRuntime) {
     assert!(rt; first_timed(&LINK).is_none(), "a link");
 }
 
+static GROWN: [Run; 3] = [(10, b"\x02"), (16, b"\x01\x02"), (100, b"\x02")];
+
 #[test]
 fn what_changes_of_a_file_that_grows_and_gets_a_name(rt: HostRuntime) -> Result<(), Fail> {
     let old = file(1, 1, 255, 4_294_967_297);
     let new = file(2, 2, 513, 4_294_967_298);
     let patches = patches(rt.alloc(), &old, &new)?;
-    assert!(rt;
-        are_runs(
-            &patches,
-            &[(10, b"\x02"), (16, b"\x01\x02"), (100, b"\x02")]
-        )
-    );
+    assert!(rt; are_runs(&patches, &GROWN));
     Ok(())
 }

@@ -52,12 +52,15 @@ fn push_answer(
     match &line.what {
         What::Server(op) => {
             let number = OpNo::of(run, number);
+            let when = u64::from(run) * RUN_TICKS_END + ticks;
+            let op = op.try_copy()?;
+            let reply = reply.try_copy()?;
             items.push(Item::Did(Entry {
                 server,
                 number,
-                when: u64::from(run) * RUN_TICKS_END + ticks,
-                op: op.try_copy()?,
-                reply: reply.try_copy()?,
+                when,
+                op,
+                reply,
             }))?;
             Ok(())
         }
