@@ -37,14 +37,13 @@ enum Step {
     DropCover(LockId, Result<(), Dirty>),
 }
 
-// A cache with the sectors 3 and 5, clean under a node.
-fn small_cache(alloc: Global) -> Result<Cache, NoMemory> {
-    let mut cache = Cache::new(alloc);
+// Caches the sectors 3 and 5, clean under a node.
+fn fetch(cache: &mut Cache) -> Result<(), NoMemory> {
     cache.reserve(2)?;
     cache.set_clean(Sector(5), small_block(1, 50), NODE);
     cache.reserve(1)?;
     cache.set_clean(Sector(3), small_block(1, 30), NODE);
-    Ok(cache)
+    Ok(())
 }
 
 fn holds(cache: &Cache, sector: Sector, held: Option<Small>) -> bool {
@@ -100,19 +99,34 @@ fn try_move(cache: &mut Cache, sector: Sector, cover: LockId) -> bool {
     }
 }
 
+fn has_dirty(cache: &Cache, marks: &[Mark]) -> Result<bool, NoMemory> {
+    Ok(cache.dirty()?.as_slice() == marks)
+}
+
+fn change(
+    cache: &mut Cache,
+    alloc: Global,
+    sector: u64,
+    small: Small,
+    mark: u64,
+) -> Result<bool, NoMemory> {
+    let (version, byte) = small;
+    let change = change_of(alloc, sector, u64::from(version), &[(8, &[byte])])?;
+    Ok(try_change(cache, &change, mark))
+}
+
 // The step is made, and answered so.
 fn is_answered(cache: &mut Cache, alloc: Global, step: Step) -> Result<bool, NoMemory> {
     Ok(match step {
         Step::Holds(sector, held) => holds(cache, Sector(sector), held),
         Step::Shows(sector, shown) => shows(cache, Sector(sector), shown),
         Step::IsUnder(sector, cover) => cache.cover(Sector(sector)) == cover,
-        Step::Dirty(marks) => cache.dirty()?.as_slice() == marks,
+        Step::Dirty(marks) => has_dirty(cache, marks)?,
         Step::Next(reached, next) => cache.next_dirty(reached) == next,
         Step::IsClean(lock, is_so) => cache.is_clean(lock) == is_so,
         Step::SetBytes(sector, small, mark) => set_bytes(cache, sector, small, mark)?,
-        Step::Change(sector, (version, byte), mark, is_made) => {
-            let change = change_of(alloc, sector, u64::from(version), &[(8, &[byte])])?;
-            try_change(cache, &change, mark) == is_made
+        Step::Change(sector, small, mark, is_made) => {
+            change(cache, alloc, sector, small, mark)? == is_made
         }
         Step::Clean(sector, small) => clean(cache, sector, small),
         Step::Forget(sector) => forget(cache, sector),
@@ -121,12 +135,26 @@ fn is_answered(cache: &mut Cache, alloc: Global, step: Step) -> Result<bool, NoM
     })
 }
 
-// The small cache answers each step.
-fn expect(rt: &impl Abort, alloc: Global, steps: &[Step]) -> Result<(), Fail> {
-    let mut cache = small_cache(alloc)?;
+// The first step that isn't answered so, once the two sectors are fetched.
+fn unanswered(cache: &mut Cache, alloc: Global, steps: &[Step]) -> Result<Option<usize>, NoMemory> {
+    fetch(cache)?;
     for (place, step) in steps.iter().enumerate() {
-        assert!(rt; is_answered(&mut cache, alloc, *step)?, "step {place}");
+        if !is_answered(cache, alloc, *step)? {
+            return Ok(Some(place));
+        }
     }
+    Ok(None)
+}
+
+fn first_unanswered(alloc: Global, steps: &[Step]) -> Result<Option<usize>, NoMemory> {
+    let mut cache = Cache::new(alloc);
+    unanswered(&mut cache, alloc, steps)
+}
+
+// A cache with the two sectors answers each step.
+fn expect(rt: &impl Abort, alloc: Global, steps: &[Step]) -> Result<(), Fail> {
+    let place = first_unanswered(alloc, steps)?;
+    assert!(rt; place.is_none(), "step {place:?}");
     Ok(())
 }
 

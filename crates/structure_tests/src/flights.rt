@@ -86,6 +86,15 @@ fn expect<O: Outside>(rt: &impl Abort, alloc: Global, out: &mut O, steps: &[Step
     }
 }
 
+// An outside at which these puts fail.
+fn failing(alloc: Global, puts: &[u64]) -> Result<FaultyOutside, NoMemory> {
+    let mut all = Vec::new(alloc);
+    for put in puts {
+        all.push(*put)?;
+    }
+    Ok(FaultyOutside::new(alloc, Vec::new(alloc), all, Vec::new(alloc)))
+}
+
 const LATE: Arrived = Arrived::Late { stamp: 20, now: 21 };
 
 static ARRIVING: [Step; 7] = [
@@ -124,8 +133,7 @@ static LOST: [Step; 13] = [
 #[test]
 fn what_is_lost_or_fails_is_in_flight_no_more(rt: HostRuntime) -> Result<(), Fail> {
     let alloc = rt.alloc();
-    let puts = vec![in alloc; 1, 2]?;
-    let mut out = FaultyOutside::new(alloc, Vec::new(alloc), puts, Vec::new(alloc));
+    let mut out = failing(alloc, &[1, 2])?;
     expect(&rt, alloc, &mut out, &LOST);
     Ok(())
 }
@@ -211,11 +219,8 @@ struct Both {
     out: FaultyOutside,
 }
 
-// An outside at which some puts fail.
-fn failing(alloc: Global) -> Result<FaultyOutside, NoMemory> {
-    let puts = vec![in alloc; 3, 50, 51, 700, 1200]?;
-    Ok(FaultyOutside::new(alloc, Vec::new(alloc), puts, Vec::new(alloc)))
-}
+// The puts that fail beside the plain list.
+static FAILING: [u64; 5] = [3, 50, 51, 700, 1200];
 
 fn is_same_put(a: &Put, b: &Put, with_bytes: bool) -> bool {
     let stamps = a.stamp == b.stamp && a.now == b.now;
@@ -225,14 +230,14 @@ fn is_same_put(a: &Put, b: &Put, with_bytes: bool) -> bool {
 
 impl Both {
     fn new(alloc: Global) -> Result<Both, NoMemory> {
+        let writes = Vec::with_capacity(alloc, 64)?;
+        let plain_out = failing(alloc, &FAILING)?;
+        let out = failing(alloc, &FAILING)?;
         Ok(Both {
-            plain: PlainFlight {
-                writes: Vec::with_capacity(alloc, 64)?,
-                next: 0,
-            },
-            plain_out: failing(alloc)?,
+            plain: PlainFlight { writes, next: 0 },
+            plain_out,
             flight: Flight::new(alloc),
-            out: failing(alloc)?,
+            out,
         })
     }
 
@@ -292,6 +297,11 @@ impl Both {
         true
     }
 
+    // The two outsides were asked as often.
+    fn has_as_many_acts(&self) -> bool {
+        self.plain_out.acts().len() == self.out.acts().len()
+    }
+
     // A drawn call.
     fn call(&mut self, draws: &mut Draws) -> bool {
         let kind = draws.draw() % 4;
@@ -306,15 +316,20 @@ impl Both {
     }
 }
 
-#[test]
-fn the_writes_in_flight_are_those_of_a_plain_list(rt: HostRuntime) -> Result<(), Fail> {
-    let mut both = Both::new(rt.alloc())?;
+// All calls are answered alike, and leave the same in flight; at the end the two outsides were asked as often.
+fn expect_same_calls(rt: &impl Abort, both: &mut Both) {
     let mut draws = Draws::of(1);
     for i in 1..=10_000u32 {
         let is_answered = both.call(&mut draws);
-        expect_alike(&rt, is_answered, "answers", i);
-        expect_alike(&rt, both.is_same(i % 100 == 0), "what is in flight", i);
+        expect_alike(rt, is_answered, "answers", i);
+        expect_alike(rt, both.is_same(i % 100 == 0), "what is in flight", i);
     }
-    assert!(rt; both.plain_out.acts().len() == both.out.acts().len());
+    assert!(rt; both.has_as_many_acts());
+}
+
+#[test]
+fn the_writes_in_flight_are_those_of_a_plain_list(rt: HostRuntime) -> Result<(), Fail> {
+    let mut both = Both::new(rt.alloc())?;
+    expect_same_calls(&rt, &mut both);
     Ok(())
 }

@@ -98,12 +98,28 @@ fn is_answered(table: &mut LockTable, server: ServerId, step: Step) -> Result<bo
     })
 }
 
+// The first step that isn't answered so.
+fn unanswered(
+    table: &mut LockTable,
+    steps: &[(ServerId, Step)],
+) -> Result<Option<usize>, NoMemory> {
+    for (place, (server, step)) in steps.iter().enumerate() {
+        if !is_answered(table, *server, *step)? {
+            return Ok(Some(place));
+        }
+    }
+    Ok(None)
+}
+
+fn first_unanswered(alloc: Global, steps: &[(ServerId, Step)]) -> Result<Option<usize>, NoMemory> {
+    let mut table = LockTable::new(alloc);
+    unanswered(&mut table, steps)
+}
+
 // A new table answers each step.
 fn expect(rt: &impl Abort, alloc: Global, steps: &[(ServerId, Step)]) -> Result<(), Fail> {
-    let mut table = LockTable::new(alloc);
-    for (place, (server, step)) in steps.iter().enumerate() {
-        assert!(rt; is_answered(&mut table, *server, *step)?, "step {place}");
-    }
+    let place = first_unanswered(alloc, steps)?;
+    assert!(rt; place.is_none(), "step {place:?}");
     Ok(())
 }
 

@@ -26,15 +26,14 @@ fn block_of(sector: u64) -> Block {
     small_block(1, (sector % 256) as u8)
 }
 
-// All of them, cached in another order than their own.
-fn full_cache(alloc: Global) -> Result<Cache, NoMemory> {
-    let mut cache = Cache::new(alloc);
+// Caches all of them in another order than their own.
+fn fill(cache: &mut Cache) -> Result<(), NoMemory> {
     for n in 0..SECTORS {
         let sector = n.wrapping_mul(617) % SECTORS;
         cache.reserve(1)?;
         cache.set_clean(Sector(sector), block_of(sector), cover_of(sector));
     }
-    Ok(cache)
+    Ok(())
 }
 
 // The sector is cached as it was, or it isn't cached.
@@ -48,21 +47,30 @@ fn is_kept(cache: &Cache, sector: u64, is_cached: bool) -> bool {
     }
 }
 
+fn is_under(sector: u64, locks: &[LockId]) -> bool {
+    locks.contains(&cover_of(sector))
+}
+
 fn expect_dropped(rt: &impl Abort, cache: &Cache, locks: &[LockId]) {
     for sector in 0..SECTORS {
-        let is_dropped = locks.contains(&cover_of(sector));
+        let is_dropped = is_under(sector, locks);
         assert!(rt; is_kept(cache, sector, !is_dropped), "sector {sector}");
     }
 }
 
+fn expect_drops(rt: &impl Abort, cache: &mut Cache) -> Result<(), Fail> {
+    fill(cache)?;
+    assert!(rt; cache.drop_cover(NODE).is_ok());
+    expect_dropped(rt, cache, &[NODE]);
+    assert!(rt; cache.drop_cover(SEGMENT).is_ok());
+    expect_dropped(rt, cache, &[NODE, SEGMENT]);
+    Ok(())
+}
+
 #[test]
 fn all_sectors_under_a_lock_are_dropped(rt: HostRuntime) -> Result<(), Fail> {
-    let mut cache = full_cache(rt.alloc())?;
-    assert!(rt; cache.drop_cover(NODE).is_ok());
-    expect_dropped(&rt, &cache, &[NODE]);
-    assert!(rt; cache.drop_cover(SEGMENT).is_ok());
-    expect_dropped(&rt, &cache, &[NODE, SEGMENT]);
-    Ok(())
+    let mut cache = Cache::new(rt.alloc());
+    expect_drops(&rt, &mut cache)
 }
 
 // A run, some far apart, and a few that don't ascend, of which two aren't cached any more.
@@ -82,13 +90,18 @@ static FORGOTTEN: [Sector; 13] = [
     Sector(0),
 ];
 
-#[test]
-fn all_sectors_of_a_list_are_forgotten(rt: HostRuntime) -> Result<(), Fail> {
-    let mut cache = full_cache(rt.alloc())?;
+fn expect_forgotten(rt: &impl Abort, cache: &mut Cache) -> Result<(), Fail> {
+    fill(cache)?;
     cache.forget_all(&FORGOTTEN);
     for sector in 0..SECTORS {
         let is_forgotten = FORGOTTEN.contains(&Sector(sector));
-        assert!(rt; is_kept(&cache, sector, !is_forgotten), "sector {sector}");
+        assert!(rt; is_kept(cache, sector, !is_forgotten), "sector {sector}");
     }
     Ok(())
+}
+
+#[test]
+fn all_sectors_of_a_list_are_forgotten(rt: HostRuntime) -> Result<(), Fail> {
+    let mut cache = Cache::new(rt.alloc());
+    expect_forgotten(&rt, &mut cache)
 }

@@ -5,6 +5,7 @@ use clerk_cache::{Cache, Dirty};
 use frang_base::{Block, Change, LockId, NoMemory, Sector};
 use meta_version::{apply, is_change, version_of};
 use std::alloc::Global;
+use std::process::Abort;
 use std::test::Fail;
 
 // So many sectors are cached at most.
@@ -22,6 +23,22 @@ struct Entry {
     block: Block,
     cover: LockId,
     mark: Option<u64>,
+}
+
+// The sector is below the least one so far.
+fn is_below(sector: Sector, least: Option<Sector>) -> bool {
+    match least {
+        Some(least) => sector.0 < least.0,
+        None => true,
+    }
+}
+
+// The mark is below the least one so far, or the same at a lesser sector.
+fn is_before(mark: u64, sector: Sector, least: Option<(u64, Sector)>) -> bool {
+    match least {
+        Some((at, other)) => mark < at || mark == at && sector.0 < other.0,
+        None => true,
+    }
 }
 
 // The cached sectors, in the order in which they came.
@@ -94,7 +111,7 @@ impl PlainCache {
         let mut first: Option<Sector> = None;
         for entry in &self.entries {
             let here = entry.cover == lock && entry.mark.is_some();
-            if here && first.is_none_or(|least| entry.sector < least) {
+            if here && is_below(entry.sector, first) {
                 first = Some(entry.sector);
             }
         }
@@ -115,7 +132,7 @@ impl PlainCache {
         for entry in &self.entries {
             if let Some(mark) = entry.mark
                 && mark <= reached
-                && first.is_none_or(|least| (mark, entry.sector) < least)
+                && is_before(mark, entry.sector, first)
             {
                 first = Some((mark, entry.sector));
             }
@@ -142,6 +159,15 @@ struct Both {
 }
 
 impl Both {
+    fn new(alloc: Global) -> Result<Both, NoMemory> {
+        let entries = Vec::with_capacity(alloc, ROOM)?;
+        Ok(Both {
+            cache: Cache::new(alloc),
+            plain: PlainCache { entries },
+            alloc,
+        })
+    }
+
     // Caches a sector, dirty where there is a mark.
     fn set(&mut self, entry: Entry) -> Result<(), NoMemory> {
         self.cache.reserve(1)?;
@@ -261,26 +287,22 @@ impl Both {
     }
 }
 
-#[test]
-fn the_cache_in_order_is_the_plain_one(rt: HostRuntime) -> Result<(), Fail> {
-    let alloc = rt.alloc();
-    let plain = PlainCache {
-        entries: Vec::with_capacity(alloc, ROOM)?,
-    };
-    let cache = Cache::new(alloc);
-    let mut both = Both {
-        cache,
-        plain,
-        alloc,
-    };
+// All calls are answered alike, and leave both alike.
+fn expect_same_calls(rt: &impl Abort, both: &mut Both) {
     let mut draws = Draws::of(1);
     for i in 1..=10_000u32 {
         let answer = both.call(&mut draws);
-        expect_alike(&rt, answer != Ok(false), "answers", i);
-        expect_alike(&rt, both.go_alike(), "dirty sectors", i);
+        expect_alike(rt, answer != Ok(false), "answers", i);
+        expect_alike(rt, both.go_alike(), "dirty sectors", i);
         if i % 100 == 0 || answer == Err(NoMemory) {
-            expect_alike(&rt, both.are_alike(), "sectors", i);
+            expect_alike(rt, both.are_alike(), "sectors", i);
         }
     }
+}
+
+#[test]
+fn the_cache_in_order_is_the_plain_one(rt: HostRuntime) -> Result<(), Fail> {
+    let mut both = Both::new(rt.alloc())?;
+    expect_same_calls(&rt, &mut both);
     Ok(())
 }

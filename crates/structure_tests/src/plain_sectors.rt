@@ -4,6 +4,7 @@ use crate::draws::{Draws, expect_alike};
 use frang_base::{Block, Change, NoMemory, Sector};
 use meta_version::{Sectors, apply, is_change, version_of};
 use std::alloc::Global;
+use std::process::Abort;
 use std::test::Fail;
 
 // So many sectors are set at most.
@@ -65,6 +66,15 @@ struct Both {
 }
 
 impl Both {
+    fn new(alloc: Global) -> Result<Both, NoMemory> {
+        let entries = Vec::with_capacity(alloc, ROOM)?;
+        Ok(Both {
+            sectors: Sectors::new(alloc),
+            plain: PlainSectors { entries },
+            alloc,
+        })
+    }
+
     fn set(&mut self, sector: Sector, block: Block) -> Result<(), NoMemory> {
         self.sectors.set(sector, block)?;
         self.plain.set(sector, block)
@@ -136,28 +146,24 @@ impl Both {
     }
 }
 
-#[test]
-fn the_sectors_in_order_are_the_plain_ones(rt: HostRuntime) -> Result<(), Fail> {
-    let alloc = rt.alloc();
-    let sectors = Sectors::new(alloc);
-    let plain = PlainSectors {
-        entries: Vec::with_capacity(alloc, ROOM)?,
-    };
-    let mut both = Both {
-        sectors,
-        plain,
-        alloc,
-    };
+// All calls leave both alike.
+fn expect_same_calls(rt: &impl Abort, both: &mut Both) {
     let mut draws = Draws::of(1);
     for i in 1..=10_000u32 {
         let is_alike = match both.call(&mut draws) {
             Ok(sector) => both.is_alike(sector),
             Err(NoMemory) => both.are_alike(),
         };
-        expect_alike(&rt, is_alike, "the called sector", i);
+        expect_alike(rt, is_alike, "the called sector", i);
         if i % 100 == 0 {
-            expect_alike(&rt, both.are_alike(), "sectors", i);
+            expect_alike(rt, both.are_alike(), "sectors", i);
         }
     }
+}
+
+#[test]
+fn the_sectors_in_order_are_the_plain_ones(rt: HostRuntime) -> Result<(), Fail> {
+    let mut both = Both::new(rt.alloc())?;
+    expect_same_calls(&rt, &mut both);
     Ok(())
 }

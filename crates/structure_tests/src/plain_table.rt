@@ -5,6 +5,7 @@ use crate::draws::{Draws, expect_alike};
 use frang_base::{LockId, Mode, NoMemory, ServerId};
 use lock_table::{AskedFor, LockTable, LogTaken, Wanted};
 use std::alloc::Global;
+use std::process::Abort;
 use std::test::Fail;
 
 // So many servers call, and so many locks are called for.
@@ -227,6 +228,18 @@ fn mode_of(n: u64) -> Mode {
 }
 
 impl Both {
+    fn new(alloc: Global) -> Result<Both, NoMemory> {
+        let entries = Vec::with_capacity(alloc, ROOM)?;
+        let logs = Vec::with_capacity(alloc, ROOM)?;
+        let plain = PlainTable {
+            entries,
+            logs,
+            alloc,
+        };
+        let table = LockTable::new(alloc);
+        Ok(Both { table, plain })
+    }
+
     // Each call below is made on both, and says whether they answered the same.
 
     fn want(&mut self, server: u8, lock: LockId, mode: Mode) -> Result<bool, NoMemory> {
@@ -336,21 +349,19 @@ impl Both {
     }
 }
 
-#[test]
-fn the_table_in_order_is_the_plain_one(rt: HostRuntime) -> Result<(), Fail> {
-    let alloc = rt.alloc();
-    let table = LockTable::new(alloc);
-    let plain = PlainTable {
-        entries: Vec::with_capacity(alloc, ROOM)?,
-        logs: Vec::with_capacity(alloc, ROOM)?,
-        alloc,
-    };
-    let mut both = Both { table, plain };
+// All calls are answered alike, and leave both alike.
+fn expect_same_calls(rt: &impl Abort, both: &mut Both) {
     let mut draws = Draws::of(1);
     for i in 1..=10_000 {
         let is_answered = both.call(&mut draws) != Ok(false);
-        expect_alike(&rt, is_answered, "answers", i);
-        expect_alike(&rt, both.are_alike() != Ok(false), "locks", i);
+        expect_alike(rt, is_answered, "answers", i);
+        expect_alike(rt, both.are_alike() != Ok(false), "locks", i);
     }
+}
+
+#[test]
+fn the_table_in_order_is_the_plain_one(rt: HostRuntime) -> Result<(), Fail> {
+    let mut both = Both::new(rt.alloc())?;
+    expect_same_calls(&rt, &mut both);
     Ok(())
 }

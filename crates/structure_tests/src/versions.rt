@@ -5,14 +5,18 @@ use meta_version::{
     Applied, ByteWrites, SectorList, SectorMap, Sectors, apply, is_change, version_of,
 };
 use std::alloc::Global;
+use std::process::Abort;
 use std::test::Fail;
 
 // Version 515, and then the bytes 10 to 13.
 const OLD: [u8; 12] = [3, 2, 0, 0, 0, 0, 0, 0, 10, 11, 12, 13];
 
-// A change of sector 6 to this version: byte 8 becomes 80, and bytes 10 and 11 become 100 and 101.
+// Byte 8 becomes 80, and bytes 10 and 11 become 100 and 101.
+static NEW: [(u16, &[u8]); 2] = [(8, &[80]), (10, &[100, 101])];
+
+// A change of sector 6 to this version, with the new bytes.
 fn change_to(alloc: Global, version: u64) -> Result<Change, NoMemory> {
-    change_of(alloc, 6, version, &[(8, &[80]), (10, &[100, 101])])
+    change_of(alloc, 6, version, &NEW)
 }
 
 // What becomes of a change, where it is well formed.
@@ -85,13 +89,19 @@ static PATCHES: [(u16, &[u8], Option<Applied>, u8); 4] = [
     (8, &[], None, 0),
 ];
 
+// What becomes of a change of one patch, and the last byte of a block of zeros then.
+fn apply_patch(alloc: Global, patch: (u16, &[u8])) -> Result<(Option<Applied>, u8), NoMemory> {
+    let change = change_of(alloc, 6, 9, &[patch])?;
+    let mut block = [0; 512];
+    let applied = try_apply(&mut block, &change);
+    Ok((applied, block[511]))
+}
+
 #[test]
 fn a_patch_ends_within_its_block(rt: HostRuntime) -> Result<(), Fail> {
     for (at, bytes, answer, last) in &PATCHES {
-        let change = change_of(rt.alloc(), 6, 9, &[(*at, *bytes)])?;
-        let mut block = [0; 512];
-        let is_answered = try_apply(&mut block, &change) == *answer;
-        assert!(rt; is_answered && block.last() == Some(last), "byte {at}");
+        let applied = apply_patch(rt.alloc(), (*at, *bytes))?;
+        assert!(rt; applied == (*answer, *last), "byte {at}");
     }
     Ok(())
 }
@@ -155,13 +165,23 @@ static ORDERED: [Step; 13] = [
     Step::At(0, Some(6)),
 ];
 
+fn expect_order(rt: &impl Abort, sectors: &mut Sectors) -> Result<(), Fail> {
+    for (place, step) in ORDERED.iter().enumerate() {
+        assert!(rt; is_answered(sectors, *step)?, "step {place}");
+    }
+    Ok(())
+}
+
 #[test]
 fn sectors_are_kept_in_order(rt: HostRuntime) -> Result<(), Fail> {
     let mut sectors = Sectors::new(rt.alloc());
-    for (place, step) in ORDERED.iter().enumerate() {
-        assert!(rt; is_answered(&mut sectors, *step)?, "step {place}");
-    }
-    Ok(())
+    expect_order(&rt, &mut sectors)
+}
+
+static ENTRIES: [(u64, u8); 2] = [(4, 3), (6, 1)];
+
+fn has_entries(map: &SectorMap<u8>) -> bool {
+    map.entries() == ENTRIES.as_slice() && map.get(Sector(4)) == Some(&3)
 }
 
 fn is_map_in_order(alloc: Global) -> Result<bool, NoMemory> {
@@ -170,7 +190,7 @@ fn is_map_in_order(alloc: Global) -> Result<bool, NoMemory> {
     map.set(Sector(4), 2)?;
     map.reserve(1)?;
     map.put(Sector(4), 3);
-    let is_set = map.entries() == [(4, 3), (6, 1)].as_slice() && map.get(Sector(4)) == Some(&3);
+    let is_set = has_entries(&map);
     map.remove(Sector(6));
     Ok(is_set && map.has(Sector(4)) && !map.has(Sector(6)))
 }
@@ -193,18 +213,24 @@ fn try_change(sectors: &mut Sectors, change: &Change) -> bool {
     true
 }
 
-// A change is made once its sector is set, and changes no other.
-fn is_set_sector_changed(alloc: Global) -> Result<bool, NoMemory> {
-    let mut sectors = Sectors::new(alloc);
-    let change = change_to(alloc, 516)?;
-    let is_made_unset = try_change(&mut sectors, &change);
+fn starts_with(sectors: &Sectors, sector: u64, bytes: [u8; 12]) -> bool {
+    sectors.get(Sector(sector)) == Some(&block_of(bytes))
+}
+
+fn are_changed(sectors: &mut Sectors, change: &Change) -> Result<bool, NoMemory> {
+    let is_made_unset = try_change(sectors, change);
     sectors.set(Sector(6), block_of(OLD))?;
     sectors.set(Sector(7), block_of(OLD))?;
-    let is_made = try_change(&mut sectors, &change);
-    let changed = block_of([4, 2, 0, 0, 0, 0, 0, 0, 80, 11, 100, 101]);
-    let is_changed = sectors.get(Sector(6)) == Some(&changed);
-    let is_kept = sectors.get(Sector(7)) == Some(&block_of(OLD));
-    Ok(!is_made_unset && is_made && is_changed && is_kept)
+    let is_made = try_change(sectors, change);
+    let is_changed = starts_with(sectors, 6, [4, 2, 0, 0, 0, 0, 0, 0, 80, 11, 100, 101]);
+    Ok(!is_made_unset && is_made && is_changed && starts_with(sectors, 7, OLD))
+}
+
+// A change is made once its sector is set, and changes no other.
+fn is_set_sector_changed(alloc: Global) -> Result<bool, NoMemory> {
+    let change = change_to(alloc, 516)?;
+    let mut sectors = Sectors::new(alloc);
+    are_changed(&mut sectors, &change)
 }
 
 #[test]
