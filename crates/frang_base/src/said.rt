@@ -1,11 +1,8 @@
 // What is said.
-ghost use Rattle.std.specs.Prelude.{◌≡◌};
-
 use crate::{OpNo, Reply, ServerId, Text};
-use std::alloc::AllocError;
 
 /// A line that is said.
-#[derive(Debug, Drop)]
+#[derive(Clone, Debug, Drop)]
 pub enum Said {
     /// A line of the script is answered. A host's line has the host as `server`.
     Answer {
@@ -53,54 +50,4 @@ pub enum Said {
     /// A report line, as it stands.
     Shown(Text),
     End,
-}
-
-impl Clone for Said {
-    ghost is_clone = { λ a b. a ≡ b };
-
-    fn clone(&self) -> Result<Said, AllocError> {
-        match self {
-            Said::Answer {
-                server,
-                line,
-                reply,
-            } => {
-                let reply = reply.clone()?;
-                Ok(Said::Answer {
-                    server: *server,
-                    line: *line,
-                    reply,
-                })
-            }
-            Said::Dead { server } => Ok(Said::Dead { server: *server }),
-            Said::Recovering { server, by } => Ok(Said::Recovering {
-                server: *server,
-                by: *by,
-            }),
-            Said::Recovered { server, keeps } => Ok(Said::Recovered {
-                server: *server,
-                keeps: *keeps,
-            }),
-            Said::Renewed { server } => Ok(Said::Renewed { server: *server }),
-            Said::Node {
-                path,
-                kind,
-                size,
-                links,
-            } => {
-                let path = path.clone()?;
-                Ok(Said::Node {
-                    path,
-                    kind: *kind,
-                    size: *size,
-                    links: *links,
-                })
-            }
-            Said::Redo { op } => Ok(Said::Redo { op: *op }),
-            Said::Backup { line } => Ok(Said::Backup { line: *line }),
-            Said::Locks { line } => Ok(Said::Locks { line: *line }),
-            Said::Shown(text) => Ok(Said::Shown(text.clone()?)),
-            Said::End => Ok(Said::End),
-        }
-    }
 }
