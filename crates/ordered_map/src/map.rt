@@ -52,6 +52,14 @@ pub struct Place {
     at: usize,
 }
 
+// The chunk at a place.
+fn nth<K, V>(chunks: &[Chunk<K, V>], chunk: usize) -> &Chunk<K, V>
+    requires { chunk < length chunks.now }
+    ensures { result.now ≡ chunk_at chunks.now chunk }
+{
+    &chunks[chunk]
+}
+
 // The first chunk that doesn't end below the key, or as many as there are where all do.
 fn first_reaching<K: Ord + Copy, V>(chunks: &[Chunk<K, V>], key: &K) -> usize
     requires filled { AreFilled chunks.now }
@@ -70,7 +78,7 @@ fn is_below<K: Ord + Copy, V>(chunks: &[Chunk<K, V>], key: &K, chunk: usize) -> 
     ensures below { result ≡ true → EndBelow K.cmp key.now chunks.now (chunk + 1) }
     ensures reach { result ≡ false → Reach K.cmp key.now chunks.now chunk }
 {
-    chunks[chunk].ends_below(key)
+    nth(chunks, chunk).ends_below(key)
 }
 
 // Chunks among which the first is that doesn't end below a key, or which it follows: those before `low` end below, those from `high` on don't.
@@ -217,7 +225,7 @@ fn locate<K: Ord + Copy, V>(chunks: &[Chunk<K, V>], key: &K, near: Option<Place>
         return None;
     }
     let chunk = chunk_of(chunks, key, near);
-    let at = chunks[chunk].place(key);
+    let at = nth(chunks, chunk).place(key);
     Some(Spot { chunk, at })
 }
 
@@ -228,7 +236,7 @@ fn is_there<K: Ord + Copy + Drop, V: Drop>(chunks: &[Chunk<K, V>], key: &K, plac
 {
     let chunk = place.chunk;
     if chunk < chunks.len() {
-        chunks[chunk].has_at(place.at, key)
+        nth(chunks, chunk).has_at(place.at, key)
     } else {
         false
     }
@@ -278,7 +286,7 @@ fn entry_of<K: Copy + Drop, V: Drop>(chunks: &[Chunk<K, V>], chunk: usize, at: u
     requires place { at < length (chunk_at chunks.now chunk) }
     ensures { result.now ≡ slice_index_or (chunk_at chunks.now chunk) at result.now }
 {
-    chunks[chunk].entry(at)
+    nth(chunks, chunk).entry(at)
 }
 
 // How many entries a chunk has.
@@ -287,7 +295,7 @@ fn count_in<K: Copy + Drop, V: Drop>(chunks: &Chunks<K, V>, chunk: usize) -> usi
     ensures count { result ≡ length (chunk_at chunks.now.chunks chunk) }
     ensures fits { chunk < usize.MAX }
 {
-    chunks.all()[chunk].len()
+    nth(chunks.all(), chunk).len()
 }
 
 // The entry at a place among all.
@@ -363,7 +371,9 @@ fn are_few<K: Copy + Drop, V: Drop>(chunks: &[Chunk<K, V>], chunk: usize) -> boo
     ensures few { result ≡ true → length (chunk_at chunks.now chunk) + length (chunk_at chunks.now (chunk + 1)) ≤ HALF }
     ensures many { result ≡ false → HALF < length (chunk_at chunks.now chunk) + length (chunk_at chunks.now (chunk + 1)) }
 {
-    chunks[chunk].len() <= HALF && chunks[chunk + 1].len() <= HALF - chunks[chunk].len()
+    let first = nth(chunks, chunk).len();
+    let second = nth(chunks, chunk + 1).len();
+    first <= HALF && second <= HALF - first
 }
 
 // There is a next chunk, and the two hold few entries.
@@ -535,7 +545,7 @@ impl<K: Ord + Copy + Drop, V: Drop> OrderedMap<K, V> {
         let chunks = self.chunks.all();
         let first = first_reaching_near(chunks, key, near);
         if first < chunks.len() {
-            chunks[first].first_from(key)
+            nth(chunks, first).first_from(key)
         } else {
             None
         }

@@ -4,8 +4,8 @@ use Rattle.std.specs.List.{All, AllByRecursion, IsDistinct, list_any, find}
 use Rattle.std.specs.List.Sorted.{IsStrictlySortedBy}
 use Rattle.std.specs.Map.{keys_of}
 use Rattle.std.specs.Option.{option_map}
-use Rattle.std.specs.declared.cmp.Ordering.TheVariants.{Less}
-use Rattle.std.proofs.lemmas.Bool.Decides.{nat_tests}
+use Rattle.std.specs.declared.cmp.Ordering.TheVariants.{Less, Equal, Greater}
+use Rattle.std.proofs.lemmas.Bool.{lt-ltb}
 use Rattle.std.proofs.lemmas.List.{map-append}
 use Rattle.std.proofs.lemmas.List.Elements.{All-push, All-weaker, All-nil, All-head, All-tail}
 use Rattle.std.proofs.lemmas.Map.Keys.{IsDistinct-push}
@@ -33,7 +33,7 @@ all_pushed P [] key all last = (last, tt)
 all_pushed P (k ∷ keys) key all last = (all.0, all_pushed P keys key all.1 last)
 
 below_is_less : (a b : Ticket) → a.0 < b.0 → ticket_cmp a b ≡ Less
-below_is_less a b below = grind (arith, nat_tests)
+below_is_less a b below = ap (λ (t : Bool). if t then Less else (if a.0 == b.0 then Equal else Greater)) (lt-ltb a.0 b.0 below)
 
 pub sorted_push : (keys : List Ticket) (key : Ticket) → IsStrictlySortedBy ticket_cmp keys → All (λ t. t.0 < key.0) keys → IsStrictlySortedBy ticket_cmp (keys ++ key ∷ [])
 unfolding IsStrictlySortedBy

@@ -1,5 +1,6 @@
 -- The tickets by sector go on being those of the writes in flight when one is added or taken out.
 use Rattle.std.proofs.Common.{◌≡◌, ℕ, ◌==◌, Bool, true, false, if◌then◌else◌, List, [], ◌∷◌, ◌++◌, Option, Some, None, find, refl, sym, ap, ◌∙◌, arith}
+use Rattle.std.proofs.lemmas.Bool.{eqb-true, eqb-false, ne_eqb}
 use Rattle.std.proofs.lemmas.Bool.Decides.{nat_tests}
 use Rattle.std.proofs.lemmas.Cmp.{nat_cmp_total, eq_by_cmp_equiv}
 use Rattle.std.proofs.lemmas.Map.{lookup-remove_entry}
@@ -20,11 +21,15 @@ use Rattle.petal_disk.proofs.TicketOrder.{same_test}
 abbrev here_or : (Ticket × Put) → Writes → ℕ → Bool → Option Ticket
 here_or write writes q b = option_map (λ w. w.0) (if b then Some write else find (λ w. w.1.sector.0 == q) writes)
 
+-- what equals one number and not another tells these two apart
+other_number : (a b c : ℕ) → (a == b) ≡ true → (a == c) ≡ false → (c == b) ≡ false
+other_number a b c is other = ne_eqb c b (λ same. eqb-false a c other (eqb-true a b is ∙ sym same))
+
 -- ---- one more
 
 module _ (ticket : Ticket) (put : Put) (q : ℕ) where
   apart_from_new : (write : Ticket × Put) → (write.1.sector.0 == q) ≡ true → (write.1.sector.0 == put.sector.0) ≡ false → (put.sector.0 == q) ≡ false
-  apart_from_new write is other = grind (arith, nat_tests)
+  apart_from_new write is other = other_number write.1.sector.0 q put.sector.0 is other
 
   free_rest : (write : Ticket × Put) (writes : Writes) → busy_with (write ∷ writes) put.sector.0 ≡ None → (write.1.sector.0 == put.sector.0) ≡ false
   free_rest write writes free = go (write.1.sector.0 == put.sector.0) refl
@@ -63,7 +68,7 @@ module _ (t q : ℕ) where
   nobody sector (write ∷ writes) is all = ap (here_or write writes q) (differs write.1.sector.0 all.0) ∙ nobody sector writes is all.1
     where
       differs : (s : ℕ) → (sector == s) ≡ false → (s == q) ≡ false
-      differs s other = grind (arith, nat_tests)
+      differs s other = other_number sector q s is other
 
   of_write : (P : ℕ → Type 0) (writes : Writes) (put : Put) → write_at writes t ≡ Some put → AllByRecursion P (sectors writes) → P put.sector.0
   of_write P [] put there all = cc there
@@ -87,7 +92,7 @@ module _ (t q : ℕ) where
       gone false is = refl
 
       away : (write.1.sector.0 == q) ≡ true → (write.1.sector.0 == put.sector.0) ≡ false → (put.sector.0 == q) ≡ false
-      away is other = grind (arith, nat_tests)
+      away is other = other_number write.1.sector.0 q put.sector.0 is other
 
       stays : (b : Bool) → (write.1.sector.0 == q) ≡ b → write_at writes t ≡ Some put → busy_with (without writes t) q ≡ (if put.sector.0 == q then None else busy_with writes q)
           → here_or write (without writes t) q b ≡ (if put.sector.0 == q then None else here_or write writes q b)

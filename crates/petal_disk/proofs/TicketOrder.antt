@@ -1,8 +1,10 @@
 -- Tickets are keys in order of their numbers, and what is kept in boxes has the same places and values as what the boxes hold.
 use Rattle.std.proofs.Common.{◌≡◌, ℕ, suc, ◌==◌, ◌<◌, ◌≤◌, ◌++◌, Bool, true, false, if◌then◌else◌, List, [], ◌∷◌, length, refl, sym, ap, ◌∙◌, Option, Some, None, IfSome, arith}
+use Rattle.std.proofs.lemmas.Bool.{le-ltb, ne_eqb}
 use Rattle.std.proofs.lemmas.Bool.Decides.{nat_tests}
+use Rattle.std.proofs.lemmas.Cmp.{ranked}
 use Rattle.std.specs.List.{All, AllByRecursion, slice_get}
-use Rattle.std.specs.declared.cmp.Ordering.TheVariants.{Less, Greater}
+use Rattle.std.specs.declared.cmp.Ordering.TheVariants.{Less, Equal, Greater}
 use Rattle.std.proofs.lemmas.List.Elements.{All-from_recursion, All-head, All-tail}
 use Rattle.std.specs.List.Sorted.{IsStrictlySortedBy}
 use Rattle.std.specs.Map.{lookup, remove_entry, keys_of}
@@ -51,7 +53,9 @@ module _ {B : Type 0} (held : B → Put) where
   without-opened t boxes = removed-opened (is_at (ticket_cmp t)) boxes ∙ taken_out (opened boxes held) t
 
   above_is_greater : (a b : Ticket) → b.0 < a.0 → ticket_cmp a b ≡ Greater
-  above_is_greater a b above = grind (arith, nat_tests)
+  above_is_greater a b above =
+      ap (λ (t : Bool). if t then Less else (if a.0 == b.0 then Equal else Greater)) (le-ltb a.0 b.0 (omega arith))
+      ∙ ap (λ (t : Bool). if t then Equal else Greater) (ne_eqb a.0 b.0 (λ same. omega arith))
 
   -- a ticket above all others goes to the end
   pub inserted-opened : (t : Ticket) (kept : B) (boxes : List (Ticket × B)) → All (λ key. key.0 < t.0) (keys_of (opened boxes held))
@@ -74,7 +78,7 @@ not_below ticket [] above = tt
 not_below ticket (y ∷ all) above = (at_most ticket y above.0, not_below ticket all above.1)
   where
     at_most : (a b : Ticket) → ticket_cmp a b ≡ Less → a.0 ≤ b.0
-    at_most a b is = grind (arith, nat_tests)
+    at_most a b is = let below : a.0 < b.0 = ranked a.0 b.0 Less (sym is) in omega arith
 
 pub first_is_least : (writes : Writes) → IsStrictlySortedBy ticket_cmp (keys_of writes) → IfSome (slice_get writes 0) (λ write. All (λ ticket. write.0.0 ≤ ticket.0) (keys_of writes))
 unfolding IsStrictlySortedBy

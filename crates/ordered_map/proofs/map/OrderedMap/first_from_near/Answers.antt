@@ -4,7 +4,7 @@ use Rattle.std.specs.List.Sorted.{IsStrictlySortedBy}
 use Rattle.std.specs.Map.{keys_of}
 use Rattle.ordered_map.specs.Chunks.{joined, AreFilled}
 use Rattle.ordered_map.specs.Entries.{first_from}
-use Rattle.ordered_map.proofs.Flat.{read_chunk, filled-at}
+use Rattle.ordered_map.proofs.Flat.{filled-at}
 use Rattle.ordered_map.proofs.Search.{sorted_chunk, first_is, all_below}
 use Rattle.ordered_map.proofs.Found.{first_place, first_found, none_from}
 use Rattle.ordered_map.proofs.map.OrderedMap.first_from_near.Goals as goal
@@ -15,7 +15,7 @@ first_from-requires g c =
     let first = c.first_reaching_near-first.result in
     let inside : first < length chunks = c.if-first-chunks.true in
     let sorted = subst (λ xs. IsStrictlySortedBy g.K.Ord.cmp (keys_of (joined xs))) (sym c.all-chunks.ensures) c.self.invariant.ordered in
-    subst (λ es. IsStrictlySortedBy g.K.Ord.cmp (keys_of es)) (sym (read_chunk chunks first c.index-chunks-first.result inside c.index-chunks-first.is))
+    subst (λ es. IsStrictlySortedBy g.K.Ord.cmp (keys_of es)) (sym c.nth.ensures)
     (sorted_chunk g.met.K.Ord.total c.args.key.now chunks first inside sorted)
 
 pub returns-then-first-chunks : goal.returns-then-first-chunks
@@ -27,7 +27,7 @@ returns-then-first-chunks g c =
     let filled = subst AreFilled (sym c.all-chunks.ensures) c.self.invariant.filled in
     let chunk = first_is g.met.K.Ord.total c.args.key.now chunks first filled sorted inside c.first_reaching_near-first.ensures.point in
     c.first_from.ensures
-    ∙ ap (λ es. first_from g.K.Ord.cmp es c.args.key.now) (read_chunk chunks first c.index-chunks-first.result inside c.index-chunks-first.is)
+    ∙ ap (λ es. first_from g.K.Ord.cmp es c.args.key.now) c.nth.ensures
     ∙ first_place g.K.Ord.cmp c.args.key.now _
     ∙ sym (first_found g.met.K.Ord.total c.args.key.now chunks first chunk (filled-at first chunks inside filled).0 (c.first_reaching_near-first.ensures.point.1 first _ (omega arith) inside))
     ∙ ap (λ xs. first_from g.K.Ord.cmp (joined xs) c.args.key.now) c.all-chunks.ensures
