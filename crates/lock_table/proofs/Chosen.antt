@@ -10,7 +10,7 @@ use Rattle.std.specs.declared.cmp.Ordering.{Ordering}
 use Rattle.std.specs.declared.cmp.Ordering.TheVariants.{Less, Equal, Greater}
 use Rattle.std.proofs.lemmas.Bool.{false≢true}
 use Rattle.frang_base.specs.declared.lock.LockId.{LockId}
-use Rattle.sorted_entries.proofs.Places.{nothing_removed}
+use Rattle.sorted_entries.proofs.Spots.{nothing_removed}
 use Rattle.lock_definitions.specs.Order.{lock_cmp, is_lock}
 use Rattle.lock_definitions.proofs.LockOrder.{lock_total, found_lock, is_lock_equiv, locks}
 use Rattle.lock_table.specs.Asked.{with_made}
@@ -48,7 +48,7 @@ module _ {V : Type 0} (lock : LockId) where
   below_all entry entries is sorted = (is, all_along (λ y above. lock_total.trans lock entry.0 y is above) (keys_of entries) sorted.0)
 
   put_below : (entries : List (LockId × V)) (o : Option V) → IsBelow entries → with_made entries lock o ≡ cons_option (option_map (λ made. (lock, made)) o) entries
-  put_below entries None below = nothing_removed locks lock entries (missed_below entries below)
+  put_below entries None below = nothing_removed locks.total lock entries (missed_below entries below)
   put_below [] (Some made) below = refl
   put_below (entry ∷ entries) (Some made) below = ap (λ o. match_ordering o ((lock, made) ∷ entry ∷ entries) ((entry.0, made) ∷ entries) (entry ∷ insert_entry lock_cmp entries lock made)) below.0
 
@@ -79,7 +79,7 @@ module _ {V : Type 0} (lock : LockId) where
   same_made entries sorted = go (lookup (is_lock lock) entries) refl
     where
       go : (o : Option V) → lookup (is_lock lock) entries ≡ o → with_made entries lock o ≡ entries
-      go None missed = nothing_removed locks lock entries missed
+      go None missed = nothing_removed locks.total lock entries missed
       go (Some made) found = put_again entries made sorted found
 
 pub sorted-none : (V : Type 0) → IsStrictlySortedBy lock_cmp (keys_of {X = V} [])
@@ -171,7 +171,7 @@ module _ {V W : Type 0} (of : V → Option W) where
 
       at_first : is_lock lock entry.0 ≡ true → (o : Option W) → Rest ≡ remove_entry (is_lock lock) (cons_option (option_map (λ made. (entry.0, made)) o) Rest)
       at_first found (Some made) = sym (ap (λ b. if b then Rest else (entry.0, made) ∷ remove_entry (is_lock lock) Rest) found)
-      at_first found None = sym (ap (λ l. remove_entry (is_lock l) Rest) (sym (found_lock lock entry.0 found)) ∙ nothing_removed locks entry.0 Rest (missed_below entry.0 Rest (all_chosen (λ y. lock_cmp entry.0 y ≡ Less) entries sorted.0)))
+      at_first found None = sym (ap (λ l. remove_entry (is_lock l) Rest) (sym (found_lock lock entry.0 found)) ∙ nothing_removed locks.total entry.0 Rest (missed_below entry.0 Rest (all_chosen (λ y. lock_cmp entry.0 y ≡ Less) entries sorted.0)))
 
       behind : is_lock lock entry.0 ≡ false → (o : Option W) → cons_option (option_map (λ made. (entry.0, made)) o) (remove_entry (is_lock lock) Rest) ≡ remove_entry (is_lock lock) (cons_option (option_map (λ made. (entry.0, made)) o) Rest)
       behind missed (Some made) = sym (ap (λ b. if b then Rest else (entry.0, made) ∷ remove_entry (is_lock lock) Rest) missed)

@@ -9,7 +9,7 @@ use Rattle.std.proofs.lemmas.List.{get_or_past, get_or-set_same, get_or-set_othe
 use Rattle.std.proofs.lemmas.List.FromFn.{fill_by_all, get_or-map-range_with_len, length-map-range_with_len}
 use Rattle.std.specs.List.{AllByRecursion}
 use Rattle.frang_base.specs.declared.lock.LockId.{LockId}
-use Rattle.sorted_entries.proofs.Places.{nothing_removed}
+use Rattle.sorted_entries.proofs.Spots.{nothing_removed}
 use Rattle.lock_definitions.specs.Order.{lock_cmp, is_lock}
 use Rattle.frang_base.specs.declared.lock.Mode.{Mode}
 use Rattle.frang_base.specs.declared.lock.Mode.TheVariants.{Shared, Sole}
@@ -58,7 +58,7 @@ module _ {W : Type 0} (of : Claimed → Option W) (nothing : (claims : Claimed) 
     where
       go : (o : Option Claimed) → lookup (is_lock lock) entries ≡ o → chosen of (if is_some o then entries else insert_entry lock_cmp entries lock unclaimed) ≡ chosen of entries
       go (Some claims) is = refl
-      go None is = chosen-insert of lock unclaimed entries sorted ∙ ap (with_made (chosen of entries) lock) empty ∙ nothing_removed locks lock (chosen of entries) (lookup-chosen of lock entries sorted ∙ ap (made_of of) is)
+      go None is = chosen-insert of lock unclaimed entries sorted ∙ ap (with_made (chosen of entries) lock) empty ∙ nothing_removed locks.total lock (chosen of entries) (lookup-chosen of lock entries sorted ∙ ap (made_of of) is)
 
   pub chosen-replaced : (lock : LockId) (claims : Claimed) (reserved : Option LockId) (entries : Entries) → IsStrictlySortedBy lock_cmp (keys_of entries) → chosen of (replaced entries lock claims reserved) ≡ with_made (chosen of entries) lock (of claims)
   chosen-replaced lock claims reserved entries sorted = go (is_unclaimed claims) (is_reserved reserved lock) refl
@@ -74,7 +74,7 @@ module _ {W : Type 0} (of : Claimed → Option W) (nothing : (claims : Claimed) 
       go : (a b : Bool) → is_unclaimed (claimed_at entries lock) ≡ a → chosen of (if not a || b then entries else remove_entry (is_lock lock) entries) ≡ chosen of entries
       go false b is = refl
       go true true is = refl
-      go true false is = chosen-remove of lock entries sorted ∙ nothing_removed locks lock (chosen of entries) (listed lock entries sorted ∙ nothing (claimed_at entries lock) is)
+      go true false is = chosen-remove of lock entries sorted ∙ nothing_removed locks.total lock (chosen of entries) (listed lock entries sorted ∙ nothing (claimed_at entries lock) is)
 
   -- an entry that isn't needed makes nothing
   unneeded : (reserved : Option LockId) (entry : LockId × Claimed) → is_needed reserved entry ≡ false → of entry.1 ≡ None

@@ -13,7 +13,8 @@ use Rattle.std.proofs.lemmas.List.{drop_more}
 use Rattle.sorted_entries.specs.Places.{further, place_of}
 use Rattle.ordered_map.specs.Chunks.{joined, chunk_at, flat, shifted, at_of, ends_below, AreFilled, AreBelow, IsLocated, IsChunkOf, IsKeyAt}
 use Rattle.ordered_map.specs.Entries.{first_from}
-use Rattle.ordered_map.proofs.Spots.{place_found, place_missed, absent, lies_at, IsPlace, IsGap}
+use Rattle.sorted_entries.proofs.Spots.{place_found, place_missed, absent, IsPlace, IsGap}
+use Rattle.ordered_map.proofs.Spots.{lies_at}
 use Rattle.ordered_map.proofs.Flat.{whole, get_within}
 use Rattle.ordered_map.proofs.Search.{placed, sorted_chunk}
 

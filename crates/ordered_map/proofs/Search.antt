@@ -11,7 +11,7 @@ use Rattle.std.proofs.lemmas.Bool.{false≢true}
 use Rattle.std.proofs.lemmas.List.{get_or_default}
 use Rattle.sorted_entries.specs.Places.{further, place_of}
 use Rattle.ordered_map.specs.Chunks.{joined, chunk_at, ends_below, EndBelow, AreFilled, AreBelow, AreAbove, IsChunkOf, shifted}
-use Rattle.ordered_map.proofs.Spots.{by_answer}
+use Rattle.sorted_entries.proofs.Spots.{by_answer}
 use Rattle.ordered_map.proofs.Flat.{whole, filled-at}
 
 shifted_none : (r : Result ℕ ℕ) → r ≡ shifted 0 r

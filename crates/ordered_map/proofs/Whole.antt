@@ -12,7 +12,7 @@ use Rattle.sorted_entries.proofs.Sorted.{sorted-insert_entry, sorted-remove_entr
 use Rattle.ordered_map.specs.declared.chunk.TheConstants.{QUARTER}
 use Rattle.ordered_map.specs.Chunks.{joined, chunk_at, flat, overwritten, capacity, AreFilled, AreClose, IsChunked, IsLocated}
 use Rattle.ordered_map.specs.Entries.{room_for}
-use Rattle.ordered_map.proofs.Spots.{IsPlace, IsGap}
+use Rattle.sorted_entries.proofs.Spots.{IsPlace, IsGap}
 use Rattle.ordered_map.proofs.Flat.{filled-at, filled_set, overwrite_flat}
 use Rattle.ordered_map.proofs.Close.{close_more}
 use Rattle.ordered_map.proofs.Found.{place_at, within_ok}

@@ -8,6 +8,7 @@ use Rattle.std.specs.Ordering.{is_gt}
 use Rattle.std.specs.declared.cmp.Ordering.{Ordering}
 use Rattle.std.specs.declared.cmp.Ordering.TheVariants.{Less, Equal, Greater}
 use Rattle.sorted_entries.specs.Places.{place_of}
+pub use Rattle.sorted_entries.specs.Places.{overwritten, at_of}
 use Rattle.ordered_map.specs.declared.chunk.TheConstants.{CHUNK, HALF, QUARTER}
 use Rattle.ordered_map.specs.Entries.{Ordered}
 
@@ -32,12 +33,6 @@ chunk_at chunks c = slice_index_or chunks c []
 -- the place among all entries of an entry's place in a chunk
 abbrev pub flat : {E : Type 0} → List (List E) → ℕ → ℕ → ℕ
 flat chunks c at = length (joined (take c chunks)) + at
-
--- the entries with this value in the place of that of one
-abbrev pub overwritten : {K V : Type 0} → List (K × V) → ℕ → V → List (K × V)
-overwritten [] i value = []
-overwritten (entry ∷ entries) zero value = (entry.0, value) ∷ entries
-overwritten (entry ∷ entries) (suc i) value = entry ∷ overwritten entries i value
 
 -- the last key is below this one
 abbrev pub ends_below : {K V : Type 0} → (K → K → Ordering) → K → List (K × V) → Bool
@@ -107,11 +102,6 @@ pub record AreKept {E : Type 0} (chunks blanks : List (List E)) (most_chunks mos
 abbrev pub shifted : ℕ → Result ℕ ℕ → Result ℕ ℕ
 shifted n (Ok at) = Ok (n + at)
 shifted n (Err at) = Err (n + at)
-
--- the place of a result
-abbrev pub at_of : Result ℕ ℕ → ℕ
-at_of (Ok at) = at
-at_of (Err at) = at
 
 -- the key is that of the entry at this place
 abbrev pub IsKeyAt : {K V : Type 0} → (K → K → Ordering) → K → List (K × V) → ℕ → Type 0

@@ -19,3 +19,14 @@ further (Err at) = Err (suc at)
 abbrev pub place_of : {K V : Type 0} → (K → K → Ordering) → K → List (K × V) → Result ℕ ℕ
 place_of cmp key [] = Err zero
 place_of cmp key (entry ∷ entries) = match_ordering (cmp key entry.0) (Err zero) (Ok zero) (further (place_of cmp key entries))
+
+-- the entries with this value in the place of that of one
+abbrev pub overwritten : {K V : Type 0} → List (K × V) → ℕ → V → List (K × V)
+overwritten [] i value = []
+overwritten (entry ∷ entries) zero value = (entry.0, value) ∷ entries
+overwritten (entry ∷ entries) (suc i) value = entry ∷ overwritten entries i value
+
+-- the place of a result
+abbrev pub at_of : Result ℕ ℕ → ℕ
+at_of (Ok at) = at
+at_of (Err at) = at

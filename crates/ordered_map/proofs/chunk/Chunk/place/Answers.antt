@@ -4,7 +4,7 @@ use Rattle.std.proofs.lemmas.Fn.{always_returns_same}
 use Rattle.std.specs.List.Sorted.{IsStrictlySortedBy}
 use Rattle.std.specs.Map.{keys_of}
 use Rattle.sorted_entries.specs.Places.{place_of}
-use Rattle.ordered_map.proofs.Spots.{searched}
+use Rattle.sorted_entries.proofs.Spots.{searched}
 use Rattle.ordered_map.proofs.chunk.Chunk.place.Goals as goal
 
 pub returns : goal.returns

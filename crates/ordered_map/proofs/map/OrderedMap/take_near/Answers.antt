@@ -3,7 +3,7 @@ use Rattle.std.proofs.Common.{Some, Ok, Err, refl, sym, ap, ◌∙◌, subst, ar
 use Rattle.std.specs.Map.{lookup, remove_entry}
 use Rattle.std.specs.BTreeMap.{is_at}
 use Rattle.ordered_map.specs.Chunks.{joined, chunk_at, IsLocated}
-use Rattle.ordered_map.proofs.Spots.{nothing_removed}
+use Rattle.sorted_entries.proofs.Spots.{nothing_removed}
 use Rattle.ordered_map.proofs.Flat.{get_within}
 use Rattle.ordered_map.proofs.Found.{within_ok, place_at, value_missed}
 use Rattle.ordered_map.proofs.Whole.{any_of, take_entries, take_chunked}
