@@ -106,16 +106,12 @@ fn plain_reply(word: &[u8]) -> Option<Reply>
 fn full_reply(word: &[u8]) -> Option<Reply>
     ensures { result ≡ full_at word.now }
 {
-    if word == b"inode".as_slice() {
-        return Some(Reply::NoInode);
+    match word {
+        b"inode" => Some(Reply::NoInode),
+        b"dir" => Some(Reply::NoDirBlock),
+        b"large" => Some(Reply::NoLarge),
+        _ => None,
     }
-    if word == b"dir".as_slice() {
-        return Some(Reply::NoDirBlock);
-    }
-    if word == b"large".as_slice() {
-        return Some(Reply::NoLarge);
-    }
-    None
 }
 
 // What follows `nospace`.
@@ -245,10 +241,10 @@ fn read_by(rest: Option<&[u8]>) -> Option<ServerId>
     ensures { result ≡ by_of (parts_left 32 (option_copied rest.entry)) }
 {
     let (word, rest) = cut(rest?, b' ');
-    if word == b"by".as_slice() {
-        return who(sole_part(rest, b' ')?);
+    if word != b"by".as_slice() {
+        return None;
     }
-    None
+    who(sole_part(rest, b' ')?)
 }
 
 fn read_recovering(rest: Option<&[u8]>) -> Option<Said>
@@ -265,10 +261,10 @@ fn read_keeps(rest: Option<&[u8]>) -> Option<OpNo>
     ensures { result ≡ keeps_of (parts_left 32 (option_copied rest.entry)) }
 {
     let (word, rest) = cut(rest?, b' ');
-    if word == b"keeps".as_slice() {
-        return op_number(sole_part(rest, b' ')?);
+    if word != b"keeps".as_slice() {
+        return None;
     }
-    None
+    op_number(sole_part(rest, b' ')?)
 }
 
 fn read_recovered(rest: Option<&[u8]>) -> Option<Said>
