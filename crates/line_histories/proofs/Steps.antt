@@ -24,7 +24,7 @@ use Rattle.plan_laws.specs.Moves.{AreTidy, HasSmall, HasLarge}
 use Rattle.disk_definitions.specs.Lines.{plan_of_line}
 use Rattle.line_laws.proofs.Laws.{lines_move, line_directories_stay}
 use Rattle.line_fills.specs.Files.{HoldsBytes, IsWritten, LeavesFilled, GivesBackFree}
-use Rattle.line_fills.proofs.Laws.{lines_leave_filled, lines_give_back_free}
+use Rattle.line_fills.proofs.Filled.{lines_leave_filled, lines_give_back_free}
 use Rattle.line_commits.specs.LinePlans.{held_of, hand_on, store_on}
 use Rattle.line_commits.proofs.Hands.{is_hand}
 use Rattle.line_histories.specs.Standing.{StandsForShape}
