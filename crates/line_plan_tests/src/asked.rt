@@ -83,19 +83,57 @@ pub(crate) fn expect(
 fn told(alloc: Global, disk: Disk, telling: Telling, row: &Row) -> Result<String, NoMemory> {
     let (act, missing, _) = *row;
     let sectors = cached(alloc, disk, Sector(missing))?;
+    told_over(alloc, disk, telling, act, &sectors)
+}
+
+// What is told of a line over these sectors.
+fn told_over(
+    alloc: Global,
+    disk: Disk,
+    telling: Telling,
+    act: Act,
+    sectors: &Sectors,
+) -> Result<String, NoMemory> {
     let held = held_of(alloc, disk.segments)?;
     let hand = Hand {
-        sectors: &sectors,
+        sectors,
         held: &held,
         all: disk.all,
     };
+    told_at_hand(alloc, &hand, telling, act)
+}
+
+fn told_at_hand(
+    alloc: Global,
+    hand: &Hand,
+    telling: Telling,
+    act: Act,
+) -> Result<String, NoMemory> {
+    let op = op_of(alloc, act)?;
+    told_of(alloc, hand, telling, &op)
+}
+
+// What is told of the plan of an operation.
+fn told_of(alloc: Global, hand: &Hand, telling: Telling, op: &Op) -> Result<String, NoMemory>
+    requires { TargetFits op.now }
+{
     let mut looked = Looked::new(alloc);
-    let end = plan_line(alloc, &hand, BIRTH, WHEN, &op_of(alloc, act)?, &mut looked)?;
+    let end = plan_line(alloc, hand, BIRTH, WHEN, op, &mut looked)?;
     match telling {
-        Telling::End => end_told(alloc, &hand, &end),
-        Telling::Looks => looks_told(alloc, &looked.sectors()?),
-        Telling::Locks => locks_told(alloc, &hand, &looked.sectors()?, &end),
+        Telling::End => end_told(alloc, hand, &end),
+        Telling::Looks => looks_of(alloc, looked),
+        Telling::Locks => locks_of(alloc, hand, looked, &end),
     }
+}
+
+fn looks_of(alloc: Global, looked: Looked) -> Result<String, NoMemory> {
+    let sectors = looked.sectors()?;
+    looks_told(alloc, &sectors)
+}
+
+fn locks_of(alloc: Global, hand: &Hand, looked: Looked, end: &LineEnd) -> Result<String, NoMemory> {
+    let sectors = looked.sectors()?;
+    locks_told(alloc, hand, &sectors, end)
 }
 
 // The sectors of the disk but for the missing one.
