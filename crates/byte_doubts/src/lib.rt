@@ -1,7 +1,8 @@
 //! Doubt by the theorem on sectors against doubt by the rules on histories: where a recovery leaves a sector of file bytes in doubt, the rules leave the
 //! sector of the file that lies there in doubt. And what is known of file bytes, one operation back. The laws are the contracts of public functions with
 //! empty bodies. They stand on the rules on histories and on the histories of sectors; what is asked of a history that is told on both sides is said
-//! entry by entry.
+//! entry by entry. Beside them, worked histories of a few servers, computed on both sides: which cells of files a recovery leaves in doubt and which tree it
+//! leaves; which sectors of file bytes come into doubt and what is known of the others.
 #![tactic(auto)]
 
 ghost use Rattle.byte_doubts.specs.Doubts.{DoubtIsTheSame, WritesTouch};

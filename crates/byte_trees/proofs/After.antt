@@ -21,7 +21,7 @@ use Rattle.tree_laws.proofs.Likeness.{Like}
 use Rattle.tree_laws.proofs.Resolving.{IsOf, Shaped, performed_looks_leave, resolved_is}
 use Rattle.tree_laws.proofs.ShapeLaws.{looks_change_nothing}
 use Rattle.tree_laws.proofs.Vagueness.{Vaguer, vague}
-use Rattle.history_laws.proofs.Sharper.{sharper_after}
+use Rattle.tree_laws.proofs.Sharper.{sharper_after}
 use Rattle.disk_definitions.specs.Naming.{cell_in}
 use Rattle.byte_trees.specs.Sharp.{AnswersKeepWhatStands, NamesNoOthers, sharp}
 use Rattle.byte_trees.proofs.Nodes.{kinds_sharp, near_sharp, new_sharp, no_doubt, room_same, sharp_stand, shape_same}

@@ -10,7 +10,7 @@ use Rattle.tree_definitions.specs.declared.node.Node.{Node}
 use Rattle.tree_definitions.specs.declared.node.Node.TheVariants.{Dir, File, Link}
 use Rattle.tree_definitions.specs.Touched.{node_shape}
 use Rattle.tree_definitions.specs.Tree.{small_blocks_of}
-use Rattle.shape_laws.proofs.Nodes.{shaped, doubts}
+use Rattle.tree_laws.proofs.ShapeNodes.{shaped, doubts}
 use Rattle.disk_definitions.specs.Store.{Store, StoredNode}
 use Rattle.disk_definitions.specs.Naming.{Naming, Nodes, Pictures, Allows, kind_of, blocks_of, cell_in, file_byte, find_in, first_blocks, has_large, inode_by, inode_for, room_in, use_by, use_for}
 use Rattle.disk_definitions.specs.Standing.{IsReached, reached_from}

@@ -20,8 +20,8 @@ use Rattle.tree_laws.specs.WellFormed.{IsNew, IsWellFormed, NamesAscend, names_i
 use Rattle.tree_laws.proofs.Likeness.{Like, Near}
 use Rattle.tree_laws.proofs.Pairs.{birth_exact, tie}
 use Rattle.tree_laws.proofs.Vagueness.{Vaguer, vague}
-use Rattle.shape_laws.proofs.Changes.{same_dir, same_links}
-use Rattle.shape_laws.proofs.Nodes.{count_stays, doubts, found, keys_stay, room_stays, shaped, shapes}
+use Rattle.tree_laws.proofs.Changes.{same_dir, same_links}
+use Rattle.tree_laws.proofs.ShapeNodes.{count_stays, doubts, found, keys_stay, room_stays, shaped, shapes}
 use Rattle.disk_definitions.specs.Naming.{Allows, cell_in}
 use Rattle.byte_trees.specs.Sharp.{NamesNoOthers, SharpTreesStand, sharp, sharp_node, standing}
 

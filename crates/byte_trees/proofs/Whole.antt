@@ -6,7 +6,7 @@ use Rattle.frang_base.proofs.Basics.{of_ge}
 use Rattle.tree_definitions.specs.Touched.{shape_of}
 use Rattle.tree_definitions.specs.Tree.{FileTree, node_at}
 use Rattle.tree_laws.specs.WellFormed.{IsWellFormed}
-use Rattle.shape_laws.proofs.Nodes.{shaped, found}
+use Rattle.tree_laws.proofs.ShapeNodes.{shaped, found}
 use Rattle.sector_bytes.specs.Blocks.{version_of}
 use Rattle.sector_bytes.specs.Sectors.{Sectors}
 use Rattle.disk_definitions.specs.Params.{param_in}
@@ -20,8 +20,8 @@ use Rattle.disk_definitions.specs.FitPlans.{IsFitStore}
 use Rattle.disk_definitions.specs.OnDisk.{StandsBelow}
 use Rattle.plan_fit.proofs.DecodedEntries.{disks_fit}
 use Rattle.plan_fit.proofs.FileNodes.{fit_file}
-use Rattle.plan_records.specs.Says.{SegmentsSay, InodesSay, PlacesSay}
-use Rattle.plan_records.proofs.Kept.{segments_kept, inodes_kept, places_kept}
+use Rattle.plan_fit.specs.Says.{SegmentsSay, InodesSay, PlacesSay}
+use Rattle.plan_fit.proofs.Kept.{segments_kept, inodes_kept, places_kept}
 use Rattle.byte_trees.specs.Standing.{HasItsBytes, HaveTheSameVersioned, ADiskStandsWithItsBytes}
 use Rattle.byte_trees.proofs.Filling.{filled, reached_too, there_too, any_bytes}
 

@@ -2,3 +2,9 @@ pub mod Standing
 pub mod Exactly
 pub mod Versions
 pub mod Ended
+pub mod Blocks
+pub mod Sectors
+pub mod Stored
+pub mod Picture
+pub mod FreshStanding
+pub mod Asked

@@ -12,3 +12,14 @@ pub mod Writes
 pub mod Scripts
 pub mod Trees
 pub mod Cores
+pub mod Events
+pub mod LineGuards
+pub mod WriteGuards
+pub mod EndGuards
+pub mod Guards
+pub mod LineEffects
+pub mod WriteEffects
+pub mod EndEffects
+pub mod Effects
+pub mod Enabled
+pub mod Runs

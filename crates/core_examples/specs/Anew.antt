@@ -15,7 +15,7 @@ use Rattle.disk_definitions.specs.Frames.{frame_read}
 use Rattle.disk_definitions.specs.Least.{least, least_from}
 use Rattle.sector_bytes.specs.Bytes.{zeros}
 use Rattle.sector_bytes.specs.Changes.{changed}
-use Rattle.core_steps.specs.Events.{Event, Begin, Ask, Fetch, Again, Commit, Give, Issue, Arrive, HostLine}
+use Rattle.core_definitions.specs.Events.{Event, Begin, Ask, Fetch, Again, Commit, Give, Issue, Arrive, HostLine}
 use Rattle.core_examples.specs.Driving.{Driven, driven, host_line, line, story_of}
 use Rattle.core_examples.specs.Rows.{answered}
 use Rattle.core_examples.specs.Choices.{two_up}

@@ -6,9 +6,9 @@ use Rattle.ring_definitions.specs.Rings.{ring_at}
 use Rattle.core_definitions.specs.Flights.{Flights}
 use Rattle.core_definitions.specs.Servers.{Server, Up, Still, Dead, first_server}
 use Rattle.core_definitions.specs.Cores.{Core, with_server}
-use Rattle.core_steps.specs.Events.{Event}
-use Rattle.core_steps.specs.Enabled.{enabled}
-use Rattle.core_steps.specs.Runs.{State, next}
+use Rattle.core_definitions.specs.Events.{Event}
+use Rattle.core_definitions.specs.Enabled.{enabled}
+use Rattle.core_definitions.specs.Runs.{State, next}
 use Rattle.core_examples.specs.Driving.{driven, filed_opening, hears, opening}
 
 -- ---- what may happen

@@ -3,10 +3,10 @@ use Rattle.std.specs.Prelude.{◌++◌, replicate, ℕ, zero, suc, Bool, if◌th
 use Rattle.std.specs.List.{filter_map, slice_get}
 use Rattle.frang_base.specs.declared.script.Line.{Line}
 use Rattle.frang_outside.specs.declared.act.Taken.{Taken}
-use Rattle.core_steps.specs.Effects.{Deed, Made, Says}
-use Rattle.core_steps.specs.Enabled.{enabled}
-use Rattle.core_steps.specs.Events.{Event}
-use Rattle.core_steps.specs.Runs.{State, next}
+use Rattle.core_definitions.specs.Effects.{Deed, Made, Says}
+use Rattle.core_definitions.specs.Enabled.{enabled}
+use Rattle.core_definitions.specs.Events.{Event}
+use Rattle.core_definitions.specs.Runs.{State, next}
 use Rattle.core_examples.specs.Driving.{Driven, Story, behind, filed_opening, flushing_soon, hears, is_log_get, story_of}
 
 abbrev pub soon_opening : List Line → State

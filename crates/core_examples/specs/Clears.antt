@@ -19,10 +19,10 @@ use Rattle.core_definitions.specs.Flights.{InPlace}
 use Rattle.core_definitions.specs.Lines.{under_at_first}
 use Rattle.core_definitions.specs.Servers.{Server}
 use Rattle.core_definitions.specs.Sets.{LockSet}
-use Rattle.core_steps.specs.Effects.{after}
-use Rattle.core_steps.specs.Events.{Clear, Commit, Issue, Arrive, Nothing, Written}
-use Rattle.core_steps.specs.Runs.{State, next}
-use Rattle.core_steps.specs.WriteEffects.{acknowledged}
+use Rattle.core_definitions.specs.Effects.{after}
+use Rattle.core_definitions.specs.Events.{Clear, Commit, Issue, Arrive, Nothing, Written}
+use Rattle.core_definitions.specs.Runs.{State, next}
+use Rattle.core_definitions.specs.WriteEffects.{acknowledged}
 use Rattle.core_examples.specs.Driving.{entries_block, entry, inode_block, line, opening, segment_block}
 use Rattle.core_examples.specs.Choices.{having, locked_so, open_now, up}
 

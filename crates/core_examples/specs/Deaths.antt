@@ -14,7 +14,7 @@ use Rattle.disk_definitions.specs.Least.{least, least_from}
 use Rattle.sector_bytes.specs.Bytes.{zeros}
 use Rattle.sector_bytes.specs.Changes.{changed}
 use Rattle.disk_definitions.specs.Frames.{frame_read}
-use Rattle.core_steps.specs.Events.{Event, Begin, Ask, Fetch, Again, Commit, Answer, Issue, Doom, Arrive, Die, Renew, Tick, Recover, Look, Finish, Close, Read, Show, End}
+use Rattle.core_definitions.specs.Events.{Event, Begin, Ask, Fetch, Again, Commit, Answer, Issue, Doom, Arrive, Die, Renew, Tick, Recover, Look, Finish, Close, Read, Show, End}
 use Rattle.core_examples.specs.Driving.{Driven, driven, driven_failing, filed_opening, line, story_of}
 use Rattle.core_examples.specs.Rows.{party, answered}
 

@@ -20,9 +20,9 @@ use Rattle.core_definitions.specs.Flights.{Flight}
 use Rattle.core_definitions.specs.Recoveries.{Recovery}
 use Rattle.core_definitions.specs.Scripts.{host_party}
 use Rattle.core_definitions.specs.Cores.{first_core}
-use Rattle.core_steps.specs.Events.{Event, Fetch, Arrive, Load, Look, Read, Heard, Nothing, Got, PutFailed, Written, Late}
-use Rattle.core_steps.specs.Enabled.{enabled}
-use Rattle.core_steps.specs.Runs.{State, first_state, next, saids_of}
+use Rattle.core_definitions.specs.Events.{Event, Fetch, Arrive, Load, Look, Read, Heard, Nothing, Got, PutFailed, Written, Late}
+use Rattle.core_definitions.specs.Enabled.{enabled}
+use Rattle.core_definitions.specs.Runs.{State, first_state, next, saids_of}
 use Rattle.core_examples.specs.SmallLogs.{small_logs}
 
 -- ---- openings

@@ -14,7 +14,7 @@ use Rattle.disk_definitions.specs.Least.{least, least_from}
 use Rattle.sector_bytes.specs.Bytes.{zeros}
 use Rattle.sector_bytes.specs.Changes.{changed}
 use Rattle.disk_definitions.specs.Frames.{frame_read}
-use Rattle.core_steps.specs.Events.{Event, Begin, Ask, Fetch, Again, Commit, Answer, Give, Issue, Arrive, Renew, Tick, HostLine}
+use Rattle.core_definitions.specs.Events.{Event, Begin, Ask, Fetch, Again, Commit, Answer, Give, Issue, Arrive, Renew, Tick, HostLine}
 use Rattle.core_examples.specs.Driving.{Driven, driven, flushing_soon, host_line, line, story_of, two_files_opening}
 use Rattle.core_examples.specs.Rows.{answered}
 

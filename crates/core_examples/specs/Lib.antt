@@ -12,3 +12,7 @@ pub mod Moments
 pub mod Outcomes
 pub mod Anew
 pub mod Clears
+pub mod Opening
+pub mod Stays
+pub mod Parts
+pub mod Cleared

@@ -21,9 +21,9 @@ use Rattle.core_definitions.specs.Flights.{Flight, InPlace}
 use Rattle.core_definitions.specs.Lines.{under_at_first}
 use Rattle.core_definitions.specs.Plans.{Outcome}
 use Rattle.core_definitions.specs.Servers.{Server, Off}
-use Rattle.core_steps.specs.Events.{Event, Again, Commit, Give, Issue, Doom, Resume, Arrive, Lose, Renew, Tick, Recover, Close, Read, Nothing, Written}
-use Rattle.core_steps.specs.LineEffects.{committed}
-use Rattle.core_steps.specs.Runs.{State, held_on, next}
+use Rattle.core_definitions.specs.Events.{Event, Again, Commit, Give, Issue, Doom, Resume, Arrive, Lose, Renew, Tick, Recover, Close, Read, Nothing, Written}
+use Rattle.core_definitions.specs.LineEffects.{committed}
+use Rattle.core_definitions.specs.Runs.{State, held_on, next}
 use Rattle.core_examples.specs.Driving.{entries_block, entry, filed_opening, inode_block, line, opening}
 use Rattle.core_examples.specs.Choices.{at_tick, choices, dead, flying, having, idle, locked_so, open_now, still, up, with_core}
 

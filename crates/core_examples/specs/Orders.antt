@@ -17,7 +17,7 @@ use Rattle.disk_definitions.specs.Least.{least, least_from}
 use Rattle.sector_bytes.specs.Bytes.{zeros}
 use Rattle.sector_bytes.specs.Changes.{changed}
 use Rattle.disk_definitions.specs.Frames.{frame_read}
-use Rattle.core_steps.specs.Events.{Event, Begin, Ask, Fetch, Again, Commit, Answer, Issue, Doom, Arrive, Die, Tick, Recover, Finish, HostLine, Read, Show, End}
+use Rattle.core_definitions.specs.Events.{Event, Begin, Ask, Fetch, Again, Commit, Answer, Issue, Doom, Arrive, Die, Tick, Recover, Finish, HostLine, Read, Show, End}
 use Rattle.core_examples.specs.Choosing.{driven_choosing, first, soon_opening, tale_of}
 use Rattle.core_examples.specs.Driving.{Driven, host_line, line}
 use Rattle.core_examples.specs.Rows.{party, answered}

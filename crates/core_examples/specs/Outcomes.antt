@@ -14,9 +14,9 @@ use Rattle.core_definitions.specs.Caches.{dirty}
 use Rattle.core_definitions.specs.Lines.{under_at_first}
 use Rattle.core_definitions.specs.Recoveries.{recovery_of}
 use Rattle.core_definitions.specs.Servers.{Server}
-use Rattle.core_steps.specs.Effects.{after}
-use Rattle.core_steps.specs.Events.{Event, Answer, Give, Issue, Arrive, Renew, Tick, Recover, HostLine, Close, Nothing, Written}
-use Rattle.core_steps.specs.Runs.{State, next}
+use Rattle.core_definitions.specs.Effects.{after}
+use Rattle.core_definitions.specs.Events.{Event, Answer, Give, Issue, Arrive, Renew, Tick, Recover, HostLine, Close, Nothing, Written}
+use Rattle.core_definitions.specs.Runs.{State, next}
 use Rattle.core_examples.specs.Driving.{host_line, line, opening}
 use Rattle.core_examples.specs.Choices.{at_tick, choices, dead, flying, having, idle, locked_so, open_now, still, up}
 use Rattle.core_examples.specs.Moments.{clean_file, file_block, file_flight, file_sector, holding_file, writing}

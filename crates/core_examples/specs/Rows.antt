@@ -17,7 +17,7 @@ use Rattle.disk_definitions.specs.Least.{least, least_from}
 use Rattle.sector_bytes.specs.Bytes.{zeros}
 use Rattle.sector_bytes.specs.Changes.{changed}
 use Rattle.disk_definitions.specs.Frames.{frame_read}
-use Rattle.core_steps.specs.Events.{Event, Begin, Ask, Fetch, Again, Commit, Answer, Give, Issue, Doom, Resume, Arrive, Die, Tick, Recover, Finish, HostLine, Close, Read, Show, End}
+use Rattle.core_definitions.specs.Events.{Event, Begin, Ask, Fetch, Again, Commit, Answer, Give, Issue, Doom, Resume, Arrive, Die, Tick, Recover, Finish, HostLine, Close, Read, Show, End}
 use Rattle.core_examples.specs.Driving.{Driven, driven, filed_opening, host_line, line, opening, story_of}
 
 abbrev pub party : ℕ → ServerId

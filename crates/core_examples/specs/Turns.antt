@@ -18,8 +18,8 @@ use Rattle.sector_bytes.specs.Changes.{changed}
 use Rattle.sector_bytes.specs.Sectors.{Sectors}
 use Rattle.disk_definitions.specs.LogSectors.{log_sector_bytes}
 use Rattle.core_definitions.specs.Logs.{seal_block}
-use Rattle.core_steps.specs.Events.{Event, Begin, Ask, Fetch, Commit, Answer, Give, Issue, Arrive, Recover, Load, Look, Finish, HostLine, Close, Read, Show, End}
-use Rattle.core_steps.specs.Runs.{State}
+use Rattle.core_definitions.specs.Events.{Event, Begin, Ask, Fetch, Commit, Answer, Give, Issue, Arrive, Recover, Load, Look, Finish, HostLine, Close, Read, Show, End}
+use Rattle.core_definitions.specs.Runs.{State}
 use Rattle.core_examples.specs.Driving.{filed_disk, filed_opening, host_line, line, opening, opening_on}
 use Rattle.core_examples.specs.Choices.{at_tick, choices, dead, having, idle, later, two_up, up}
 

@@ -1,7 +1,7 @@
 -- What each step keeps holds over every run; of the state before a step all that is known of runs may be cited.
 use Rattle.sector_bytes.specs.Sectors.{Sectors}
 use Rattle.core_definitions.specs.Settings.{Setting}
-use Rattle.core_steps.specs.Runs.{State, Step, Run, Stays, Goes, first_state}
+use Rattle.core_definitions.specs.Runs.{State, Step, Run, Stays, Goes, first_state}
 
 -- a run, and a step more
 longer : (s v w : State) → Run s v → Step v w → Run s w

@@ -2,14 +2,14 @@
 use Rattle.std.proofs.Common.{if◌then◌else◌, not, ◌≡◌, ◌⊎◌, inl, inr, ⊎_elim, Bool, true, false, List, [], ◌∷◌, ◌++◌, IsTrue, nat_lt, refl, ap, subst}
 use Rattle.frang_base.specs.declared.limits.TheConstants.{LAST_TICK}
 use Rattle.core_definitions.specs.Cores.{Core}
-use Rattle.core_steps.specs.Events.{Event, Begin, Ask, Fetch, Again, Clear, Commit, Answer, Give, Issue, Doom, Resume, Arrive, Lose, Die, Renew, Tick, Recover, Load, Look, Finish, HostLine, Close, Read, Show, End}
-use Rattle.core_steps.specs.Guards.{CanOther}
-use Rattle.core_steps.specs.Enabled.{all_parties, only}
+use Rattle.core_definitions.specs.Events.{Event, Begin, Ask, Fetch, Again, Clear, Commit, Answer, Give, Issue, Doom, Resume, Arrive, Lose, Die, Renew, Tick, Recover, Load, Look, Finish, HostLine, Close, Read, Show, End}
+use Rattle.core_definitions.specs.Guards.{CanOther}
+use Rattle.core_definitions.specs.Enabled.{all_parties, only}
 use Rattle.core_laws.proofs.Membership.{In, in_left, in_right, in_either, into_only, FromOnly, from_only, into_rows, from_rows}
 use Rattle.core_laws.proofs.Guarding.{Of3, all_2, all_3, of_2, of_3}
 use Rattle.std.specs.List.{list_all}
-use Rattle.core_steps.specs.Enabled.{after_tick, before_tick, enabled, enabled_among, may_tick, rows_after, rows_before}
-use Rattle.core_steps.specs.Guards.{Can, CanGoing, CanTick, has_line_at_gate, is_stale}
+use Rattle.core_definitions.specs.Enabled.{after_tick, before_tick, enabled, enabled_among, may_tick, rows_after, rows_before}
+use Rattle.core_definitions.specs.Guards.{Can, CanGoing, CanTick, has_line_at_gate, is_stale}
 use Rattle.core_laws.proofs.Listing.{begin_listed, begin_only, ask_listed, ask_only, fetch_listed, fetch_only, again_listed, again_only, clear_listed, clear_only, commit_listed, commit_only, answer_listed, answer_only, give_listed, give_only, issue_listed, issue_only, doom_listed, doom_only, resume_listed, resume_only, arrive_listed, arrive_only, lose_listed, lose_only, die_listed, die_only, renew_listed, renew_only, finish_listed, finish_only, close_listed, close_only}
 use Rattle.core_laws.proofs.ListingEnds.{recover_listed, recover_only, load_listed, load_only, look_listed, look_only, host_listed, host_only, read_listed, read_only, show_listed, show_only, end_listed, end_only}
 

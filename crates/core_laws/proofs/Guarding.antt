@@ -14,9 +14,9 @@ use Rattle.core_definitions.specs.Scripts.{earlier_answered, have_passed, host_p
 use Rattle.core_definitions.specs.Servers.{is_answering, is_doomed, is_up}
 use Rattle.core_definitions.specs.Writes.{Writes}
 use Rattle.core_definitions.specs.Cores.{Core, clean_at, due_at, is_all_answered, next_of, parties, stage, stamp_of, writes}
-use Rattle.core_steps.specs.LineGuards.{CanAgain, CanAnswer, CanBegin, CanCommit, done_by, has_passed, has_room_for, is_after_hosts, is_grown, is_line, is_moved, is_server, may_again, may_answer, may_begin, may_commit, may_reclaim}
-use Rattle.core_steps.specs.WriteGuards.{CanDie, CanDoom, CanGive, CanRenew, CanResume, IsIssuable, is_crashing, is_faulted, is_held_back, is_in_flight_window, is_in_use, is_issuable, is_marked, is_past_lease, is_sole, is_worker, may_die, may_doom, may_give, may_renew, may_resume}
-use Rattle.core_steps.specs.EndGuards.{CanClose, CanFinish, CanHost, CanRecover, is_recovering, is_recovery, is_through, is_to_recover, may_close, may_finish, may_host, may_recover, may_take, none_paused, none_unsettled}
+use Rattle.core_definitions.specs.LineGuards.{CanAgain, CanAnswer, CanBegin, CanCommit, done_by, has_passed, has_room_for, is_after_hosts, is_grown, is_line, is_moved, is_server, may_again, may_answer, may_begin, may_commit, may_reclaim}
+use Rattle.core_definitions.specs.WriteGuards.{CanDie, CanDoom, CanGive, CanRenew, CanResume, IsIssuable, is_crashing, is_faulted, is_held_back, is_in_flight_window, is_in_use, is_issuable, is_marked, is_past_lease, is_sole, is_worker, may_die, may_doom, may_give, may_renew, may_resume}
+use Rattle.core_definitions.specs.EndGuards.{CanClose, CanFinish, CanHost, CanRecover, is_recovering, is_recovery, is_through, is_to_recover, may_close, may_finish, may_host, may_recover, may_take, none_paused, none_unsettled}
 
 -- ---- tests joined
 

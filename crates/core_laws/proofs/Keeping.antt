@@ -21,12 +21,12 @@ use Rattle.core_definitions.specs.Scripts.{host_party}
 use Rattle.core_definitions.specs.Servers.{Phase, Off, Up, Still, Doomed, Dead, is_off}
 use Rattle.core_definitions.specs.Writes.{Write}
 use Rattle.core_definitions.specs.Cores.{Core, clean_at, due_at, expiry_of, next_of, stage, writes}
-use Rattle.core_steps.specs.Events.{Event, Begin, Ask, Fetch, Again, Clear, Commit, Answer, Give, Issue, Doom, Resume, Arrive, Lose, Die, Renew, Tick, Recover, Load, Look, Finish, HostLine, Close, Read, Show, End, Heard, Nothing, Got, GetFailed, Written, Late, PutFailed}
-use Rattle.core_steps.specs.LineEffects.{answered_under, answered_with, call_failed, committed_at, fetch_failed, locks_after}
-use Rattle.core_steps.specs.WriteEffects.{arrived_as, arrived_from, died_in, given_for, issued_as, landed, taken_in}
-use Rattle.core_steps.specs.EndEffects.{closed, finished_from, host_answered_line}
-use Rattle.core_steps.specs.Effects.{after}
-use Rattle.core_steps.specs.Runs.{State, Step, Event_, Enter, Hold, Flush, Relock, Note, Peek, Run, Stays, Goes, first_state}
+use Rattle.core_definitions.specs.Events.{Event, Begin, Ask, Fetch, Again, Clear, Commit, Answer, Give, Issue, Doom, Resume, Arrive, Lose, Die, Renew, Tick, Recover, Load, Look, Finish, HostLine, Close, Read, Show, End, Heard, Nothing, Got, GetFailed, Written, Late, PutFailed}
+use Rattle.core_definitions.specs.LineEffects.{answered_under, answered_with, call_failed, committed_at, fetch_failed, locks_after}
+use Rattle.core_definitions.specs.WriteEffects.{arrived_as, arrived_from, died_in, given_for, issued_as, landed, taken_in}
+use Rattle.core_definitions.specs.EndEffects.{closed, finished_from, host_answered_line}
+use Rattle.core_definitions.specs.Effects.{after}
+use Rattle.core_definitions.specs.Runs.{State, Step, Event_, Enter, Hold, Flush, Relock, Note, Peek, Run, Stays, Goes, first_state}
 
 -- the clock hasn't gone back, and the locks are those before after some calls
 pub record Keeps (c d : Core) : Type 0 where

@@ -10,3 +10,27 @@ pub mod Flying
 pub mod Single
 pub mod Along
 pub mod Kept
+mod Ending
+mod Timing
+pub mod Memory
+pub mod Resting
+pub mod Ashore
+pub mod Unheld
+pub mod FlightLists
+pub mod LogFlights
+pub mod WantedWrites
+pub mod Windows
+mod Recovering
+mod Sorting
+mod Stages
+mod Servers
+mod OrderKeeping
+mod Blocks
+mod Rows
+mod Ticks
+mod EventKeys
+mod Leases
+mod Asked
+mod Wishing
+mod Lists
+mod Waiting

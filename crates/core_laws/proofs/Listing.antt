@@ -12,12 +12,12 @@ use Rattle.core_definitions.specs.Lines.{Stage, Asking, Fetching, Moving, Stoppi
 use Rattle.core_definitions.specs.Servers.{asks, is_off, is_up}
 use Rattle.core_definitions.specs.Flights.{Flight}
 use Rattle.core_definitions.specs.Cores.{Core, stage, writes}
-use Rattle.core_steps.specs.Events.{Event, Begin, Ask, Fetch, Again, Clear, Commit, Answer, Give, Issue, Doom, Resume, Arrive, Lose, Die, Renew, Finish, Close}
-use Rattle.core_steps.specs.LineGuards.{CanAgain, CanAnswer, CanAsk, CanBegin, CanClear, CanCommit, CanFetch, is_needed, is_new_wish, is_unread, is_server, may_again, may_answer, may_begin, may_commit, needed_by, slots_under}
-use Rattle.core_steps.specs.WriteGuards.{is_at_last, is_issuable, CanArrive, CanDie, CanDoom, CanGive, CanIssue, CanLose, CanRenew, CanResume, is_by_dead, is_flight, may_die, may_doom, may_give, may_issue, may_renew, may_resume}
-use Rattle.core_steps.specs.EndGuards.{CanClose, CanFinish, may_close, may_finish}
-use Rattle.core_steps.specs.Guards.{CanOther}
-use Rattle.core_steps.specs.Enabled.{agains, all_parties, answers, arrives, asks_at, asks_of, begins, clears, clears_at, closes, commits, dies, dooms, fetches, finishes, gives, issues, loses, only, only_if, party_of, renews, resumes}
+use Rattle.core_definitions.specs.Events.{Event, Begin, Ask, Fetch, Again, Clear, Commit, Answer, Give, Issue, Doom, Resume, Arrive, Lose, Die, Renew, Finish, Close}
+use Rattle.core_definitions.specs.LineGuards.{CanAgain, CanAnswer, CanAsk, CanBegin, CanClear, CanCommit, CanFetch, is_needed, is_new_wish, is_unread, is_server, may_again, may_answer, may_begin, may_commit, needed_by, slots_under}
+use Rattle.core_definitions.specs.WriteGuards.{is_at_last, is_issuable, CanArrive, CanDie, CanDoom, CanGive, CanIssue, CanLose, CanRenew, CanResume, is_by_dead, is_flight, may_die, may_doom, may_give, may_issue, may_renew, may_resume}
+use Rattle.core_definitions.specs.EndGuards.{CanClose, CanFinish, may_close, may_finish}
+use Rattle.core_definitions.specs.Guards.{CanOther}
+use Rattle.core_definitions.specs.Enabled.{agains, all_parties, answers, arrives, asks_at, asks_of, begins, clears, clears_at, closes, commits, dies, dooms, fetches, finishes, gives, issues, loses, only, only_if, party_of, renews, resumes}
 use Rattle.core_laws.proofs.Membership.{In, in_left, in_right, in_either, into_flat, FromFlat, from_flat, into_map, FromMap, from_map, into_only, FromOnly, from_only, into_only_if, FromOnlyIf, from_only_if}
 use Rattle.core_laws.proofs.Guarding.{begin_can, begin_may, again_can, again_may, commit_can, commit_may, answer_can, answer_may, give_can, give_may, issuable_can, issuable_may, doom_can, doom_may, resume_can, resume_may, die_can, die_may, renew_can, renew_may, finish_can, finish_may, close_can, close_may, Of2, Of3, all_2, all_3, of_2, of_3}
 use Rattle.core_laws.proofs.Keys.{claimed, in_member, key_value, member_in, or_cases, or_left, or_right, value_key}

@@ -9,12 +9,12 @@ use Rattle.core_definitions.specs.Recoveries.{Recovery, to_look}
 use Rattle.core_definitions.specs.Scripts.{host_party}
 use Rattle.core_definitions.specs.Servers.{is_dead, is_up}
 use Rattle.core_definitions.specs.Cores.{Core, is_all_answered, next_of, parties, server_numbers, tree_lines, tree_needs}
-use Rattle.core_steps.specs.Events.{Event, Recover, Load, Look, HostLine, Read, Show, End}
-use Rattle.core_steps.specs.LineGuards.{is_line, is_server}
-use Rattle.core_steps.specs.WriteGuards.{is_worker}
-use Rattle.core_steps.specs.EndGuards.{is_hold_over, is_to_recover, may_take, none_up, wants_look, wants_slot, IsTreeRead, all_off, is_at_rest, is_recovery, is_tree_read, none_paused, CanEnd, CanHost, CanLoad, CanLook, CanRead, CanRecover, CanShow, may_host, may_recover}
-use Rattle.core_steps.specs.Guards.{CanOther}
-use Rattle.core_steps.specs.Enabled.{all_parties, host_line, loads, loads_for, looks_for, looks, only, only_if, reads, recovers, shows, ends}
+use Rattle.core_definitions.specs.Events.{Event, Recover, Load, Look, HostLine, Read, Show, End}
+use Rattle.core_definitions.specs.LineGuards.{is_line, is_server}
+use Rattle.core_definitions.specs.WriteGuards.{is_worker}
+use Rattle.core_definitions.specs.EndGuards.{is_hold_over, is_to_recover, may_take, none_up, wants_look, wants_slot, IsTreeRead, all_off, is_at_rest, is_recovery, is_tree_read, none_paused, CanEnd, CanHost, CanLoad, CanLook, CanRead, CanRecover, CanShow, may_host, may_recover}
+use Rattle.core_definitions.specs.Guards.{CanOther}
+use Rattle.core_definitions.specs.Enabled.{all_parties, host_line, loads, loads_for, looks_for, looks, only, only_if, reads, recovers, shows, ends}
 use Rattle.core_laws.proofs.Membership.{In, into_flat, FromFlat, from_flat, into_map, FromMap, from_map, into_only, FromOnly, from_only, into_only_if, FromOnlyIf, from_only_if}
 use Rattle.core_laws.proofs.Guarding.{recover_can, recover_may, host_can, host_may, Of2, Of4, all_2, all_4, of_2, of_4}
 use Rattle.core_laws.proofs.Keys.{in_member, member_in}

@@ -2,8 +2,8 @@
 use Rattle.std.proofs.Common.{ℕ, zero, suc, ◌≡◌, ◌⊎◌, inl, inr, ⊎_elim, Bool, true, false, List, [], ◌∷◌, ◌++◌, IsTrue, refl, sym, ap, subst, map, arith}
 use Rattle.std.specs.List.{Contains, flat_map}
 use Rattle.std.proofs.lemmas.List.Elements.{Contains-append_cases, Contains-append_left, Contains-append_right, Contains-push, Contains-push_cases}
-use Rattle.core_steps.specs.Events.{Event}
-use Rattle.core_steps.specs.Enabled.{only, only_if, row_by_row}
+use Rattle.core_definitions.specs.Events.{Event}
+use Rattle.core_definitions.specs.Enabled.{only, only_if, row_by_row}
 
 -- it is one of the elements
 abbrev pub In : {X : Type 0} → X → List X → Type 0

@@ -6,10 +6,10 @@ use Rattle.tree_definitions.specs.Numbers.{below}
 use Rattle.core_definitions.specs.Scripts.{host_party}
 use Rattle.core_definitions.specs.Servers.{is_up}
 use Rattle.core_definitions.specs.Cores.{Core, parties, server_numbers}
-use Rattle.core_steps.specs.Events.{Event}
-use Rattle.core_steps.specs.LineGuards.{is_server}
-use Rattle.core_steps.specs.WriteGuards.{is_worker}
-use Rattle.core_steps.specs.Enabled.{Party, all_parties, party_of}
+use Rattle.core_definitions.specs.Events.{Event}
+use Rattle.core_definitions.specs.LineGuards.{is_server}
+use Rattle.core_definitions.specs.WriteGuards.{is_worker}
+use Rattle.core_definitions.specs.Enabled.{Party, all_parties, party_of}
 use Rattle.core_laws.proofs.Membership.{In, in_left, in_right, into_flat, FromFlat, from_flat, into_map, FromMap, from_map}
 
 less_or_last : (n a : ℕ) → IsTrue (nat_lt a (suc n)) → IsTrue (nat_lt a n) ⊎ (n ≡ a)

@@ -17,20 +17,20 @@ use Rattle.core_definitions.specs.Scripts.{host_party}
 use Rattle.core_definitions.specs.Servers.{Phase, Off, Up, Still, Doomed, Dead, is_off}
 use Rattle.core_definitions.specs.Writes.{Write}
 use Rattle.core_definitions.specs.Cores.{Core, clean_at, due_at, next_of, stage, writes}
-use Rattle.core_steps.specs.Events.{Event, Begin, Ask, Fetch, Again, Clear, Commit, Answer, Give, Issue, Doom, Resume, Arrive, Lose, Die, Renew, Tick, Recover, Load, Look, Finish, HostLine, Close, Read, Show, End, Heard, Nothing, Got, GetFailed, Written, Late, PutFailed}
-use Rattle.core_steps.specs.LineEffects.{answered_under, answered_with, call_failed, committed_at}
-use Rattle.core_steps.specs.WriteEffects.{arrived_as, arrived_from, died_in, given_for, issued_as, landed}
-use Rattle.core_steps.specs.EndEffects.{finished_from, host_answered_line}
-use Rattle.core_steps.specs.Effects.{after}
-use Rattle.core_steps.specs.Runs.{State, Step, Event_, Enter, Hold, Flush, Relock, Note, Peek, Run, Stays, Goes, first_state}
+use Rattle.core_definitions.specs.Events.{Event, Begin, Ask, Fetch, Again, Clear, Commit, Answer, Give, Issue, Doom, Resume, Arrive, Lose, Die, Renew, Tick, Recover, Load, Look, Finish, HostLine, Close, Read, Show, End, Heard, Nothing, Got, GetFailed, Written, Late, PutFailed}
+use Rattle.core_definitions.specs.LineEffects.{answered_under, answered_with, call_failed, committed_at}
+use Rattle.core_definitions.specs.WriteEffects.{arrived_as, arrived_from, died_in, given_for, issued_as, landed}
+use Rattle.core_definitions.specs.EndEffects.{finished_from, host_answered_line}
+use Rattle.core_definitions.specs.Effects.{after}
+use Rattle.core_definitions.specs.Runs.{State, Step, Event_, Enter, Hold, Flush, Relock, Note, Peek, Run, Stays, Goes, first_state}
 use Rattle.std.specs.Map.{keys_of}
 use Rattle.tree_definitions.specs.Transcript.{is_halt}
 use Rattle.core_definitions.specs.Flights.{Flights, left_behind, lost}
 use Rattle.core_definitions.specs.Plans.{Outcome}
-use Rattle.core_steps.specs.LineEffects.{flight_after, purpose_after}
-use Rattle.core_steps.specs.WriteEffects.{flight_of}
-use Rattle.core_steps.specs.WriteGuards.{CanIssue}
-use Rattle.core_steps.specs.Runs.{Makes}
+use Rattle.core_definitions.specs.LineEffects.{flight_after, purpose_after}
+use Rattle.core_definitions.specs.WriteEffects.{flight_of}
+use Rattle.core_definitions.specs.WriteGuards.{CanIssue}
+use Rattle.core_definitions.specs.Runs.{Makes}
 use Rattle.core_laws.specs.Laws.{AreOnce}
 use Rattle.core_laws.proofs.Membership.{contains_in}
 use Rattle.core_laws.proofs.Flying.{AreSingle, Once, each_same, of_issued, of_landed, of_lost, of_same, sectors_in}

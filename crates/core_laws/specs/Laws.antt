@@ -6,10 +6,10 @@ use Rattle.lock_definitions.specs.Locks.{AreCompatible}
 use Rattle.sector_bytes.specs.Sectors.{Sectors}
 use Rattle.core_definitions.specs.Settings.{Setting}
 use Rattle.core_definitions.specs.Cores.{Core}
-use Rattle.core_steps.specs.Events.{Event}
-use Rattle.core_steps.specs.Guards.{Can}
-use Rattle.core_steps.specs.Enabled.{enabled}
-use Rattle.core_steps.specs.Runs.{State, Run, first_state}
+use Rattle.core_definitions.specs.Events.{Event}
+use Rattle.core_definitions.specs.Guards.{Can}
+use Rattle.core_definitions.specs.Enabled.{enabled}
+use Rattle.core_definitions.specs.Runs.{State, Run, first_state}
 
 -- an event is listed exactly where it may happen
 abbrev pub EnabledIsExact : Type 0

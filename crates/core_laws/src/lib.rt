@@ -1,26 +1,31 @@
-//! Laws of the core: what the list of its enabled events has, and what holds over every run of it. Each law is the contract of a public function with an
-//! empty body. They stand on the definitions of the core and on the laws of lock tables.
+//! Laws of the core over its runs. Each is the contract of a public function with an empty body:
+//!
+//! - **Steps**: what the list of the core's enabled events has, and what every step keeps.
+//! - **Facts**: what servers have, by their phase, and how rings, writes and recoveries go.
+//! - **Leases**: how long they last, and the writes that are issued under them.
+//! - **Wishes**: what servers wish of the lock table.
+//! - **Waits**: what the answer to a mount and the end of a recovery wait for.
+//! - **Orders**: what stands in order and once.
+//!
+//! They stand on the definitions of the core and on the laws of lock tables.
 #![tactic(auto)]
 
-ghost use Rattle.core_laws.specs.Laws.{EnabledIsExact, ClockRises, HoldersAreCompatible, TicketsStandOnce, SectorsStandOnce};
+mod facts;
+mod leases;
+mod orders;
+mod steps;
+mod waits;
+mod wishes;
 
-/// The list of enabled events has exactly those that may happen.
-pub fn enabled_lists_what_may_happen()
-    ensures exact { EnabledIsExact }
-{}
-
-/// No step turns the clock back.
-pub fn the_clock_only_rises()
-    ensures rises { ClockRises }
-{}
-
-/// Over every run from an opening no lock is held sole by one server and held in any mode by another.
-pub fn holders_stay_compatible()
-    ensures compatible { HoldersAreCompatible }
-{}
-
-/// Over every run from an opening no two writes in flight have the same ticket, and no two are of the same sector.
-pub fn writes_stand_once()
-    ensures tickets { TicketsStandOnce }
-    ensures sectors { SectorsStandOnce }
-{}
+pub use facts::{
+    a_log_write_keeps_the_window, each_claim_stands_once, logs_in_flight_keep_the_window,
+    no_write_is_issued_late, nothing_to_do_is_the_end, one_recovery_is_under_way,
+    puts_come_in_time, who_is_off_holds_no_lock, who_rests_has_nothing,
+};
+pub use leases::{leases_last, writes_last};
+pub use orders::{a_tick_waits_for_the_others, each_key_stands_once, enabled_events_ascend};
+pub use steps::{
+    enabled_lists_what_may_happen, holders_stay_compatible, the_clock_only_rises, writes_stand_once,
+};
+pub use waits::{a_mount_reads_its_whole_log, a_recovery_ends_once_it_is_done};
+pub use wishes::a_wish_is_for_the_next_lock;

@@ -15,11 +15,11 @@ use Rattle.core_definitions.specs.Lines.{Under, operation_of}
 use Rattle.core_definitions.specs.Scripts.{next_line}
 use Rattle.core_definitions.specs.Servers.{Phase, Off, Up, Still, Doomed, Dead, Server, answer_of, due_under, is_answering, is_up, own_answer_of}
 use Rattle.core_definitions.specs.Cores.{Core, due_at}
-use Rattle.core_steps.specs.LineGuards.{CanAnswer, is_server}
-use Rattle.core_steps.specs.LineEffects.{answered_by, answered_fixed, answered_open, answered_under, answered_with}
-use Rattle.core_steps.specs.Effects.{Deed, id_of, says_answer}
-use Rattle.core_steps.specs.Runs.{saids_of}
-use Rattle.core_facts.proofs.Resting.{server_no_host}
+use Rattle.core_definitions.specs.LineGuards.{CanAnswer, is_server}
+use Rattle.core_definitions.specs.LineEffects.{answered_by, answered_fixed, answered_open, answered_under, answered_with}
+use Rattle.core_definitions.specs.Effects.{Deed, id_of, says_answer}
+use Rattle.core_definitions.specs.Runs.{saids_of}
+use Rattle.core_laws.proofs.Resting.{server_no_host}
 use Rattle.core_transcripts.specs.Transcripts.{IsNumbered, MaySayButTree}
 use Rattle.core_transcripts.proofs.Fits.{AskFits, Fits, IsUnder, LineFits, Told, UnderFits, asked_of, key_of}
 use Rattle.core_transcripts.proofs.Fitting.{Fitting, key_works, same_keys, told_of}

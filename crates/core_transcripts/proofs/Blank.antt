@@ -27,7 +27,7 @@ use Rattle.core_definitions.specs.Settings.{LogRules, Setting}
 use Rattle.core_definitions.specs.Cores.{Core, clean_at}
 use Rattle.core_definitions.specs.Recoveries.{Recovery}
 use Rattle.core_definitions.specs.Writes.{Write, Writes, is_place_wanted, log_wanted_to, log_write, place_write, place_writes, rescue_writes, wanted_writes}
-use Rattle.core_steps.specs.LineEffects.{cache_after, change_in, changed_by, committed_by, flight_after, kept_after, purpose_after, ring_after}
+use Rattle.core_definitions.specs.LineEffects.{cache_after, change_in, changed_by, committed_by, flight_after, kept_after, purpose_after, ring_after}
 use Rattle.core_transcripts.proofs.Numbering.{either_none, none_either}
 use Rattle.core_transcripts.proofs.Staging.{HasNoChanges}
 

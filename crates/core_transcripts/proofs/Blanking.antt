@@ -21,8 +21,8 @@ use Rattle.core_definitions.specs.Rings.{has_room, is_all_reached}
 use Rattle.core_definitions.specs.Servers.{Server, asks, is_off, is_still, is_up, stage_under, stage_with, wanting_all, wanting_all_up}
 use Rattle.core_definitions.specs.Writes.{lacks_room}
 use Rattle.core_definitions.specs.Cores.{Core, stage}
-use Rattle.core_steps.specs.LineGuards.{CanAgain, is_grown, is_moved, is_oldest_in_place, may_reclaim}
-use Rattle.core_steps.specs.LineEffects.{again_by, begun_line, begun_with, cached_under, cleared_at, cover_needed, fetched_by, set_anew, set_grown, slot_read, with_under}
+use Rattle.core_definitions.specs.LineGuards.{CanAgain, is_grown, is_moved, is_oldest_in_place, may_reclaim}
+use Rattle.core_definitions.specs.LineEffects.{again_by, begun_line, begun_with, cached_under, cleared_at, cover_needed, fetched_by, set_anew, set_grown, slot_read, with_under}
 use Rattle.core_transcripts.proofs.Blank.{IsBlank, IsSpotless, Keeps, fetched_blank, is_changing}
 use Rattle.core_transcripts.proofs.Happening.{server_asks}
 use Rattle.core_transcripts.proofs.Numbering.{either_none, none_either, number_same}

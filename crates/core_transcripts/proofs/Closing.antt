@@ -10,9 +10,9 @@ use Rattle.tree_definitions.specs.Transcript.{Faults, Phase as ToldPhase, all_se
 use Rattle.tree_definitions.specs.Transcript.Phase.{Off as ToldOff, Up as ToldUp, Stalled, Dead as ToldDead}
 use Rattle.core_definitions.specs.Servers.{Phase, Off, Up, Still, Doomed, Dead, is_off}
 use Rattle.core_definitions.specs.Cores.{Core, server_numbers, tree_lines}
-use Rattle.core_steps.specs.EndGuards.{CanEnd, CanShow, IsTreeRead}
-use Rattle.core_steps.specs.EndEffects.{ended, tree_line_said}
-use Rattle.core_steps.specs.Effects.{Says, says_node}
+use Rattle.core_definitions.specs.EndGuards.{CanEnd, CanShow, IsTreeRead}
+use Rattle.core_definitions.specs.EndEffects.{ended, tree_line_said}
+use Rattle.core_definitions.specs.Effects.{Says, says_node}
 use Rattle.core_laws.proofs.Parties.{server_in}
 use Rattle.core_transcripts.specs.Transcripts.{IsNumbered, MayEnd, MaySayButTree}
 use Rattle.core_transcripts.proofs.Fits.{PhaseFits, key_of}

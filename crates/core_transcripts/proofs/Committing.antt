@@ -18,13 +18,13 @@ use Rattle.core_definitions.specs.Plans.{Outcome}
 use Rattle.core_definitions.specs.Scripts.{earlier_answered, host_party, next_line}
 use Rattle.core_definitions.specs.Servers.{Phase, Off, Up, Still, Doomed, Dead, asked_by, asks, is_answering, is_off, is_open, is_up, stage_under, stage_with}
 use Rattle.core_definitions.specs.Cores.{Core, next_of, stage}
-use Rattle.core_steps.specs.LineGuards.{CanCommit, done_by, is_line}
-use Rattle.core_steps.specs.EndGuards.{CanHost}
-use Rattle.core_steps.specs.LineEffects.{committed_at, committed_by, number_under}
-use Rattle.core_steps.specs.EndEffects.{host_answered_line}
-use Rattle.core_steps.specs.Effects.{Says, id_of, reply_by, says_answer}
-use Rattle.core_steps.specs.Runs.{saids_of}
-use Rattle.core_facts.proofs.Resting.{server_no_host}
+use Rattle.core_definitions.specs.LineGuards.{CanCommit, done_by, is_line}
+use Rattle.core_definitions.specs.EndGuards.{CanHost}
+use Rattle.core_definitions.specs.LineEffects.{committed_at, committed_by, number_under}
+use Rattle.core_definitions.specs.EndEffects.{host_answered_line}
+use Rattle.core_definitions.specs.Effects.{Says, id_of, reply_by, says_answer}
+use Rattle.core_definitions.specs.Runs.{saids_of}
+use Rattle.core_laws.proofs.Resting.{server_no_host}
 use Rattle.core_transcripts.specs.Transcripts.{IsNumbered, MaySayButTree, is_host_what, is_hosted}
 use Rattle.core_transcripts.proofs.Answering.{HasOperation, Now, Then, answers_up, has, is_under, it, later, none_all, operation_under, speaks}
 use Rattle.core_transcripts.proofs.Fits.{DoomFits, Fits, IsUnder, Key, OwingFits, PhaseFits, Told, UnderFits, asked_of, key_of}

@@ -13,11 +13,11 @@ use Rattle.core_definitions.specs.Scripts.{host_party}
 use Rattle.core_definitions.specs.Servers.{Arming, Phase, Off, Up, Still, Doomed, Dead, Server, asked_by, asks, is_open, is_still, is_up}
 use Rattle.core_definitions.specs.Writes.{Writes}
 use Rattle.core_definitions.specs.Cores.{Core, clean_at, stamp_of, writes}
-use Rattle.core_steps.specs.LineGuards.{is_server}
-use Rattle.core_steps.specs.WriteGuards.{CanDoom, is_at_last, is_crashing, is_faulted, is_held_back, is_in_flight_window, is_issuable, is_marked, is_past_lease, is_worker}
-use Rattle.core_steps.specs.WriteEffects.{fate_of}
+use Rattle.core_definitions.specs.LineGuards.{is_server}
+use Rattle.core_definitions.specs.WriteGuards.{CanDoom, is_at_last, is_crashing, is_faulted, is_held_back, is_in_flight_window, is_issuable, is_marked, is_past_lease, is_worker}
+use Rattle.core_definitions.specs.WriteEffects.{fate_of}
 use Rattle.core_laws.proofs.Guarding.{Of7, of_7}
-use Rattle.core_facts.proofs.Resting.{server_no_host}
+use Rattle.core_laws.proofs.Resting.{server_no_host}
 use Rattle.core_transcripts.proofs.Fits.{Fits, IsUnder, Told, asked_of, key_of}
 use Rattle.core_transcripts.proofs.Answering.{is_under}
 use Rattle.core_transcripts.proofs.Lives.{phase_told}

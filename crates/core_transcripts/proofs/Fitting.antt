@@ -8,7 +8,7 @@ use Rattle.frang_base.specs.declared.script.Line.{Line}
 use Rattle.tree_definitions.specs.Transcript.{Faults, answers, is_answer_of, is_node, is_over, lines_for, may_be_dirty, state_of}
 use Rattle.core_definitions.specs.Scripts.{Marks, all_answered, host_party, hosts_answered, next_line}
 use Rattle.core_definitions.specs.Servers.{Server, is_off, is_up}
-use Rattle.core_steps.specs.LineGuards.{is_server}
+use Rattle.core_definitions.specs.LineGuards.{is_server}
 use Rattle.core_transcripts.proofs.Fits.{Fits, Key, Told, key_of}
 use Rattle.core_transcripts.proofs.Numbering.{AreFirst, numbers_are}
 

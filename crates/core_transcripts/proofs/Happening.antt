@@ -16,10 +16,10 @@ use Rattle.core_definitions.specs.Lines.{operation_of}
 use Rattle.core_definitions.specs.Scripts.{host_party, hosts_answered, next_line}
 use Rattle.core_definitions.specs.Servers.{Server, is_off}
 use Rattle.core_definitions.specs.Cores.{Core}
-use Rattle.core_steps.specs.LineGuards.{is_server}
-use Rattle.core_steps.specs.Effects.{Deed, id_of}
-use Rattle.core_steps.specs.Runs.{saids_of}
-use Rattle.core_facts.proofs.Resting.{server_no_host}
+use Rattle.core_definitions.specs.LineGuards.{is_server}
+use Rattle.core_definitions.specs.Effects.{Deed, id_of}
+use Rattle.core_definitions.specs.Runs.{saids_of}
+use Rattle.core_laws.proofs.Resting.{server_no_host}
 use Rattle.core_transcripts.specs.Transcripts.{IsNumbered, MaySayButTree}
 use Rattle.core_transcripts.proofs.Fits.{Fits, Key, Told, key_of}
 use Rattle.core_transcripts.proofs.Fitting.{AtRest, Fitting, key_works, told_of}

@@ -26,3 +26,20 @@ mod Blanking
 mod Spotless
 pub mod Rising
 pub mod Running
+mod Called
+mod Due
+mod Owed
+mod Dooms
+mod Paying
+mod Along
+mod Overs
+mod Ending
+mod Reading
+mod Places
+mod AnswersTelling
+mod LinesAnswering
+mod Following
+mod Twice
+mod Counting
+mod Apart
+mod Hosted

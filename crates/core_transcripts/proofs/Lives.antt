@@ -12,8 +12,8 @@ use Rattle.tree_definitions.specs.Transcript.Debt.{Free, Owes, MayOwe}
 use Rattle.core_definitions.specs.Settings.{Setting}
 use Rattle.core_definitions.specs.Lines.{Under, operation_of}
 use Rattle.core_definitions.specs.Servers.{Fate, Phase, Off, Up, Still, Doomed, Dead, Server, answer_at_death, is_in_mount, is_still}
-use Rattle.core_steps.specs.WriteEffects.{died_with, fixed_for, under_at_death, up_again}
-use Rattle.core_steps.specs.EndEffects.{recovered}
+use Rattle.core_definitions.specs.WriteEffects.{died_with, fixed_for, under_at_death, up_again}
+use Rattle.core_definitions.specs.EndEffects.{recovered}
 use Rattle.core_transcripts.proofs.Blank.{is_changing}
 use Rattle.core_transcripts.proofs.Fits.{Asked, AskFits, DoomFits, FixedFits, Fits, IsAwake, IsUnder, Key, LineFits, OwingFits, PhaseFits, Told, UnderFits, asked_of, key_of, mount_more, refuse_more}
 use Rattle.core_transcripts.proofs.Replies.{already_is}

@@ -14,16 +14,16 @@ use Rattle.core_definitions.specs.Recoveries.{Recovery, recovery_of, redos}
 use Rattle.core_definitions.specs.Scripts.{host_party}
 use Rattle.core_definitions.specs.Servers.{Fate, Phase, Off, Up, Still, Doomed, Dead, Server, is_dead, is_doomed, is_off, is_still, is_up}
 use Rattle.core_definitions.specs.Cores.{Core}
-use Rattle.core_steps.specs.LineGuards.{is_server}
-use Rattle.core_steps.specs.WriteGuards.{CanDie, CanResume}
-use Rattle.core_steps.specs.EndGuards.{CanFinish, CanRecover, is_hold_over, none_up}
-use Rattle.core_steps.specs.WriteEffects.{died, died_in, died_with, resumed, up_again}
-use Rattle.core_steps.specs.EndEffects.{finished_by, finished_from, recovered, recovering}
-use Rattle.core_steps.specs.Effects.{Says, id_of, says_recovered}
+use Rattle.core_definitions.specs.LineGuards.{is_server}
+use Rattle.core_definitions.specs.WriteGuards.{CanDie, CanResume}
+use Rattle.core_definitions.specs.EndGuards.{CanFinish, CanRecover, is_hold_over, none_up}
+use Rattle.core_definitions.specs.WriteEffects.{died, died_in, died_with, resumed, up_again}
+use Rattle.core_definitions.specs.EndEffects.{finished_by, finished_from, recovered, recovering}
+use Rattle.core_definitions.specs.Effects.{Says, id_of, says_recovered}
 use Rattle.lock_definitions.specs.Locks.{log_hold}
 use Rattle.core_laws.proofs.Guarding.{Of4, of_4}
-use Rattle.core_facts.proofs.Memory.{Good, dead_is, not_both, works}
-use Rattle.core_facts.proofs.Resting.{server_no_host}
+use Rattle.core_laws.proofs.Memory.{Good, dead_is, not_both, works}
+use Rattle.core_laws.proofs.Resting.{server_no_host}
 use Rattle.core_transcripts.specs.Transcripts.{IsNumbered, MaySayButTree}
 use Rattle.core_transcripts.proofs.Fits.{DoomFits, Fits, Key, PhaseFits, Told, key_of, rises}
 use Rattle.core_transcripts.proofs.Fitting.{key_works, told_of}

@@ -15,8 +15,8 @@ use Rattle.core_definitions.specs.Plans.{Outcome}
 use Rattle.core_definitions.specs.Scripts.{host_party}
 use Rattle.core_definitions.specs.Servers.{Phase, Off, Up, Still, Doomed, Dead, Server, due_if, is_answering, is_off, is_synced, is_up, mount_answer, own_answer}
 use Rattle.core_definitions.specs.Cores.{Core, clean_at}
-use Rattle.core_steps.specs.LineGuards.{is_server}
-use Rattle.core_steps.specs.LineEffects.{answered_fixed, answered_open, committed_by}
+use Rattle.core_definitions.specs.LineGuards.{is_server}
+use Rattle.core_definitions.specs.LineEffects.{answered_fixed, answered_open, committed_by}
 use Rattle.core_transcripts.proofs.Fits.{Fits, LineFits, OwingFits, PhaseFits, Told, Waits, key_of}
 use Rattle.core_transcripts.proofs.Fitting.{key_works}
 use Rattle.core_transcripts.proofs.Numbering.{both_first, both_second, not_true}

@@ -3,7 +3,7 @@ use Rattle.std.proofs.Common.{ℕ, ◌≡◌, ◌≤◌, Bool, true, false, ◌&
 use Rattle.std.proofs.lemmas.Bool.{false≢true}
 use Rattle.std.proofs.lemmas.Bool.Decides.{nat_tests}
 use Rattle.tree_definitions.specs.Transcript.{Faults}
-use Rattle.core_steps.specs.Runs.{State, Run, Stays, Goes}
+use Rattle.core_definitions.specs.Runs.{State, Run, Stays, Goes}
 use Rattle.core_transcripts.specs.Faults.{CountsAt, CountsEach, RunHasItsFaults, fails_at, has_failed, is_of, place_of, run_faults}
 
 or_true : (a b : Bool) → b ≡ true → (a || b) ≡ true

@@ -14,13 +14,13 @@ use Rattle.core_definitions.specs.Flights.{has_flights}
 use Rattle.core_definitions.specs.Servers.{is_dead, is_off, is_still, is_up, wanting_all_up}
 use Rattle.core_definitions.specs.Settings.{Setting}
 use Rattle.core_definitions.specs.Cores.{Core, clean_at, first_core}
-use Rattle.core_steps.specs.Events.{Event, Heard}
-use Rattle.core_steps.specs.LineGuards.{is_server}
-use Rattle.core_steps.specs.Effects.{Deed, Says, after, deeds_of}
-use Rattle.core_steps.specs.Runs.{State, Step, Event_, Enter, Hold, Flush, Relock, Note, Peek, Run, Stays, Goes, Makes, first_state, goes_on, is_note, said_by, saids_of}
+use Rattle.core_definitions.specs.Events.{Event, Heard}
+use Rattle.core_definitions.specs.LineGuards.{is_server}
+use Rattle.core_definitions.specs.Effects.{Deed, Says, after, deeds_of}
+use Rattle.core_definitions.specs.Runs.{State, Step, Event_, Enter, Hold, Flush, Relock, Note, Peek, Run, Stays, Goes, Makes, first_state, goes_on, is_note, said_by, saids_of}
 use Rattle.core_laws.proofs.Kept.{setting_kept}
-use Rattle.core_facts.specs.Facts.{OffHasNoFlights}
-use Rattle.core_facts.proofs.Resting.{good_of_run}
+use Rattle.core_laws.specs.Facts.{OffHasNoFlights}
+use Rattle.core_laws.proofs.Resting.{good_of_run}
 use Rattle.core_transcripts.specs.Faults.{CountsAt, CountsEach, failing, fails_at, place_of}
 use Rattle.core_transcripts.specs.Transcripts.{EachMay, IsNumbered, MaySayButTree}
 use Rattle.core_transcripts.proofs.Blank.{IsBlank, Keeps, blank_is_clean, is_changing}

@@ -14,7 +14,7 @@ use Rattle.tree_definitions.specs.Touched.{is_mounted}
 use Rattle.tree_definitions.specs.Transcript.{Faults, ServerState, after_asked, after_line, after_said, answers, dirty_after, halts, is_answer_of, is_change_line, is_end, is_halt, is_halt_line, is_node, is_over, lines_for, may_be_dirty, state_of}
 use Rattle.core_definitions.specs.Scripts.{Marks, all_answered, host_party, hosts_answered, next_line}
 use Rattle.core_definitions.specs.Servers.{is_off}
-use Rattle.core_steps.specs.Effects.{id_of}
+use Rattle.core_definitions.specs.Effects.{id_of}
 use Rattle.core_transcripts.specs.Transcripts.{are_apart}
 use Rattle.core_transcripts.proofs.Fits.{Fits, Key, Rises, rises}
 use Rattle.core_transcripts.proofs.Fitting.{AtRest, Fitting, key_works, told_of}

@@ -30,15 +30,15 @@ use Rattle.core_definitions.specs.Scripts.{host_party}
 use Rattle.core_definitions.specs.Servers.{Phase, Off, Up, Still, Doomed, Dead, Server, answer_of, due_if, due_under, is_answering, is_off, is_still, is_synced, is_up, mount_answer, own_answer, own_answer_of, wanting_all, wanting_all_up}
 use Rattle.core_definitions.specs.Writes.{Write}
 use Rattle.core_definitions.specs.Cores.{Core, clean_at, due_at, next_of, stage, tree_lines, writes}
-use Rattle.core_steps.specs.Events.{Event, Begin, Ask, Fetch, Again, Clear, Commit, Answer, Give, Issue, Doom, Resume, Arrive, Lose, Die, Renew, Tick, Recover, Load, Look, Finish, HostLine, Close, Read, Show, End, Heard, Nothing, Got, GetFailed, Written, Late, PutFailed}
-use Rattle.core_steps.specs.LineGuards.{CanAnswer, CanCommit, done_by, is_server}
-use Rattle.core_steps.specs.WriteGuards.{CanResume}
-use Rattle.core_steps.specs.Guards.{CanGoing}
-use Rattle.core_steps.specs.LineEffects.{again_by, answered_by, answered_fixed, answered_open, answered_under, answered_with, begun_line, call_failed, cleared_at, committed_at, committed_by, failed_by, fetch_failed, fetched_by, flight_after, off_after, refused_under, up_after, with_under}
-use Rattle.core_steps.specs.WriteEffects.{acknowledged, arrived_from, clean_now, counted, died_in, died_with, fate_of, flight_of, flights_at_death, given_for, issued_as, landed, ring_after, taken_in, up_again}
-use Rattle.core_steps.specs.EndEffects.{closed, finished_from, host_answered_line, look_made, recovered, slot_loaded}
-use Rattle.core_steps.specs.Effects.{after, deeds_of, deeds_of_arrival, reply_by, says_answer, says_node, says_recovered}
-use Rattle.core_steps.specs.Runs.{saids_of}
+use Rattle.core_definitions.specs.Events.{Event, Begin, Ask, Fetch, Again, Clear, Commit, Answer, Give, Issue, Doom, Resume, Arrive, Lose, Die, Renew, Tick, Recover, Load, Look, Finish, HostLine, Close, Read, Show, End, Heard, Nothing, Got, GetFailed, Written, Late, PutFailed}
+use Rattle.core_definitions.specs.LineGuards.{CanAnswer, CanCommit, done_by, is_server}
+use Rattle.core_definitions.specs.WriteGuards.{CanResume}
+use Rattle.core_definitions.specs.Guards.{CanGoing}
+use Rattle.core_definitions.specs.LineEffects.{again_by, answered_by, answered_fixed, answered_open, answered_under, answered_with, begun_line, call_failed, cleared_at, committed_at, committed_by, failed_by, fetch_failed, fetched_by, flight_after, off_after, refused_under, up_after, with_under}
+use Rattle.core_definitions.specs.WriteEffects.{acknowledged, arrived_from, clean_now, counted, died_in, died_with, fate_of, flight_of, flights_at_death, given_for, issued_as, landed, ring_after, taken_in, up_again}
+use Rattle.core_definitions.specs.EndEffects.{closed, finished_from, host_answered_line, look_made, recovered, slot_loaded}
+use Rattle.core_definitions.specs.Effects.{after, deeds_of, deeds_of_arrival, reply_by, says_answer, says_node, says_recovered}
+use Rattle.core_definitions.specs.Runs.{saids_of}
 use Rattle.core_transcripts.proofs.Answering.{HasOperation, is_under, operation_under}
 use Rattle.core_transcripts.proofs.Blank.{IsBlank, IsSpotless, Keeps, changed_flights, dropped_blank, flies, is_changing, issued_stays, landed_stays, left_stays, looked_blank, looked_flights, lost_stays, mounted_reached, no_writes}
 use Rattle.core_transcripts.proofs.Blanking.{HasStage, again_kept, begun_kept, cleared_kept, fetched_kept, gone, kept, looks_at, recovery_kept, said_clean, same_blank, stage_parts, under_kept, wanting_kept}

@@ -10,8 +10,8 @@ use Rattle.core_definitions.specs.Lines.{Stage, Asking, Fetching, Moving, Stoppi
 use Rattle.core_definitions.specs.Flights.{InPlace, OfLog, OfRecovery, Purpose}
 use Rattle.core_definitions.specs.Recoveries.{Recovery}
 use Rattle.core_definitions.specs.Servers.{Arming, Server, is_off, is_up, wanting_all, wanting_all_up}
-use Rattle.core_steps.specs.LineEffects.{again_by, cached_under, cover_needed, fetched_by, set_anew, set_grown, slot_read, with_under}
-use Rattle.core_steps.specs.WriteEffects.{acknowledged, acknowledged_for, clean_now, counted}
+use Rattle.core_definitions.specs.LineEffects.{again_by, cached_under, cover_needed, fetched_by, set_anew, set_grown, slot_read, with_under}
+use Rattle.core_definitions.specs.WriteEffects.{acknowledged, acknowledged_for, clean_now, counted}
 use Rattle.core_transcripts.proofs.Fits.{asked_of, key_of}
 
 -- another line, or another recovery, that is the same in what counts

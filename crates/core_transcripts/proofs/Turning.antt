@@ -23,18 +23,18 @@ use Rattle.core_definitions.specs.Scripts.{host_party, hosts_answered}
 use Rattle.core_definitions.specs.Servers.{Phase, Off, Up, Still, Doomed, Dead, Server, is_off, is_still, is_up, wanting_all}
 use Rattle.core_definitions.specs.Writes.{Write}
 use Rattle.core_definitions.specs.Cores.{Core, clean_at, next_of, stage, writes}
-use Rattle.core_steps.specs.Events.{Event, Begin, Ask, Fetch, Again, Clear, Commit, Answer, Give, Issue, Doom, Resume, Arrive, Lose, Die, Renew, Tick, Recover, Load, Look, Finish, HostLine, Close, Read, Show, End, Heard, Nothing, Got, GetFailed, Written, Late, PutFailed}
-use Rattle.core_steps.specs.LineGuards.{CanBegin, is_line, is_server}
-use Rattle.core_steps.specs.WriteGuards.{CanDoom}
-use Rattle.core_steps.specs.EndGuards.{CanClose}
-use Rattle.core_steps.specs.Guards.{CanGoing}
-use Rattle.core_steps.specs.LineEffects.{again_by, begun_line, begun_with, call_failed, cleared_at, failed_by, fetch_failed, fetched_by, off_after, refused_under, with_under}
-use Rattle.core_steps.specs.WriteEffects.{acknowledged, arrived_from, counted, doomed, fate_of, flushed_at, given_for, issued_as, landed, ring_after, taken_in}
-use Rattle.core_steps.specs.EndEffects.{closed, look_made, slot_loaded}
-use Rattle.core_steps.specs.Effects.{MayHear, MayLoad, after, deeds_of, deeds_of_arrival}
-use Rattle.core_steps.specs.Runs.{saids_of}
-use Rattle.core_facts.proofs.Memory.{Good}
-use Rattle.core_facts.proofs.Resting.{server_no_host}
+use Rattle.core_definitions.specs.Events.{Event, Begin, Ask, Fetch, Again, Clear, Commit, Answer, Give, Issue, Doom, Resume, Arrive, Lose, Die, Renew, Tick, Recover, Load, Look, Finish, HostLine, Close, Read, Show, End, Heard, Nothing, Got, GetFailed, Written, Late, PutFailed}
+use Rattle.core_definitions.specs.LineGuards.{CanBegin, is_line, is_server}
+use Rattle.core_definitions.specs.WriteGuards.{CanDoom}
+use Rattle.core_definitions.specs.EndGuards.{CanClose}
+use Rattle.core_definitions.specs.Guards.{CanGoing}
+use Rattle.core_definitions.specs.LineEffects.{again_by, begun_line, begun_with, call_failed, cleared_at, failed_by, fetch_failed, fetched_by, off_after, refused_under, with_under}
+use Rattle.core_definitions.specs.WriteEffects.{acknowledged, arrived_from, counted, doomed, fate_of, flushed_at, given_for, issued_as, landed, ring_after, taken_in}
+use Rattle.core_definitions.specs.EndEffects.{closed, look_made, slot_loaded}
+use Rattle.core_definitions.specs.Effects.{MayHear, MayLoad, after, deeds_of, deeds_of_arrival}
+use Rattle.core_definitions.specs.Runs.{saids_of}
+use Rattle.core_laws.proofs.Memory.{Good}
+use Rattle.core_laws.proofs.Resting.{server_no_host}
 use Rattle.core_transcripts.specs.Faults.{CountsAt, failing}
 use Rattle.core_transcripts.specs.Transcripts.{IsNumbered, MaySayButTree}
 use Rattle.core_transcripts.proofs.Answering.{due_turn}

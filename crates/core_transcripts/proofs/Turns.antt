@@ -11,7 +11,7 @@ use Rattle.tree_definitions.specs.Transcript.{Debt, ServerState, Phase as ToldPh
 use Rattle.tree_definitions.specs.Transcript.Phase.{Off as ToldOff, Up as ToldUp, Stalled, Dead as ToldDead}
 use Rattle.core_definitions.specs.Lines.{Under, operation_of}
 use Rattle.core_definitions.specs.Servers.{Fate, Phase, Off, Up, Still, Doomed, Dead, Server, answer_at_first, is_answering, is_in_mount, is_still, is_up}
-use Rattle.core_steps.specs.LineEffects.{begun_with, failed_by, off_after, refused_under, with_under}
+use Rattle.core_definitions.specs.LineEffects.{begun_with, failed_by, off_after, refused_under, with_under}
 use Rattle.core_transcripts.proofs.Fits.{Asked, AskFits, Fits, IsAwake, LineFits, OwingFits, PhaseFits, Told, UnderFits, asked_of, key_of}
 
 or_true : (a b : Bool) → IsTrue b → IsTrue (a || b)

@@ -5,8 +5,8 @@ use Rattle.sector_bytes.specs.SectorMaps.{value_at}
 use Rattle.tree_definitions.specs.Transcript.{Faults, AreFaultsOf}
 use Rattle.core_definitions.specs.Scripts.{host_party}
 use Rattle.core_definitions.specs.Cores.{Core}
-use Rattle.core_steps.specs.Events.{Event, Fetch, Arrive, Load, Look, Read, Heard, GetFailed, PutFailed}
-use Rattle.core_steps.specs.Runs.{State, Step, Event_, Run, Stays, Goes, saids_of}
+use Rattle.core_definitions.specs.Events.{Event, Fetch, Arrive, Load, Look, Read, Heard, GetFailed, PutFailed}
+use Rattle.core_definitions.specs.Runs.{State, Step, Event_, Run, Stays, Goes, saids_of}
 
 -- whose get or put fails at an event, by what is heard
 abbrev pub failing : Core → Event → Heard → Option ℕ

@@ -14,7 +14,7 @@ use Rattle.tree_definitions.specs.History.{Opening}
 use Rattle.tree_definitions.specs.Transcript.{Faults, MaySay, all_settled, are_answered, is_over}
 use Rattle.core_definitions.specs.Scripts.{host_party}
 use Rattle.core_definitions.specs.Settings.{Setting}
-use Rattle.core_steps.specs.Runs.{State, Run, first_state, saids_of}
+use Rattle.core_definitions.specs.Runs.{State, Run, first_state, saids_of}
 use Rattle.core_transcripts.specs.Faults.{TellFaults}
 
 -- ---- scripts

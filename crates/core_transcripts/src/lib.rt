@@ -1,22 +1,22 @@
-//! The lines that are said in a run of the core are a well-formed transcript of its script, but for which lines the tree has: each answer, death, renewal,
-//! recovery and note comes where a transcript has it, and the tree and the end come last. Each law is the contract of a public function with no result. They
-//! stand on the definitions of transcripts and of the core, and on its facts; nothing is asked of the disk.
+//! What the core says in its runs, and of which lines. Each law is the contract of a public function with no result:
+//!
+//! - **Records**: the lines said in a run are a well-formed transcript of its script, but for which lines the tree has.
+//! - **Faults**: what the failed calls of a run account for.
+//! - **Answers**: which lines of a script are answered, and in which order.
+//! - **Scripts**: every script that was read meets what these laws ask of a script.
+//!
+//! They stand on the definitions of transcripts and of the core, on its laws, and on the grammar of scripts; nothing is asked of the disk.
 #![tactic(auto)]
 
-ghost use Rattle.core_transcripts.specs.Faults.{RunHasItsFaults};
-ghost use Rattle.core_transcripts.specs.Transcripts.{RunsSayTranscripts};
+mod answers;
+mod faults;
+mod records;
+mod scripts;
 
-use core_facts::who_rests_has_nothing;
-
-/// Each run has faults that tell of each of its calls that fails, and of no others.
-pub fn runs_have_their_faults()
-    ensures theirs { RunHasItsFaults }
-{}
-
-/// Over every run from an opening the lines said are a transcript of the script, but for which lines of the tree they are: where the script's lines have
-/// numbers of their own and the host's ask what a host is asked, and whatever faults tell of each call that fails.
-pub fn records_are_transcripts()
-    ensures transcripts { RunsSayTranscripts }
-{
-    who_rests_has_nothing();
-}
+pub use answers::{
+    answers_follow_the_script, each_line_is_answered_once, host_lines_are_answered_in_their_place,
+    read_scripts_have_own_numbers,
+};
+pub use faults::{runs_are_within_their_faults, the_end_is_told};
+pub use records::{records_are_transcripts, runs_have_their_faults};
+pub use scripts::{read_scripts_are_numbered, read_scripts_are_transcribed};

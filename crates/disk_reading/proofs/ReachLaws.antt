@@ -3,7 +3,7 @@ use Rattle.std.proofs.Common.{◌==◌, ◌&&◌, not, MatchBool, eq-eqb, ◌≡
 use Rattle.std.specs.Option.{option_and_then}
 use Rattle.disk_definitions.specs.Naming.{Nodes, find_in}
 use Rattle.disk_definitions.specs.Standing.{reached_from, IsReached, IsReachedAt}
-use Rattle.tree_reach.proofs.Walks.{reached_on}
+use Rattle.standing_laws.proofs.Walks.{reached_on}
 use Rattle.disk_reading.specs.Marks.{flag_at}
 use Rattle.std.proofs.lemmas.Bool.{cases_lt, or_cases, or_parts, and_cases, and_parts, and_from, not-true, not-false, cond-true, or_left, or_right, both_ways}
 use Rattle.tree_definitions.specs.declared.node.Node.{Node}

@@ -24,11 +24,11 @@ use Rattle.disk_definitions.specs.Meets.{IsOfTree, is_directory_use}
 use Rattle.disk_definitions.specs.OnDisk.{StandsBelow}
 use Rattle.plan_laws.specs.Covers.{cover_of, inode_cover, small_cover, large_cover}
 use Rattle.plan_laws.specs.Numbered.{sector_in}
-use Rattle.plan_fresh.specs.Fresh.{fresh_param, fresh_disk}
-use Rattle.plan_fresh.proofs.Blocks.{param_reads}
-use Rattle.plan_fresh.proofs.Sectors.{elsewhere}
-use Rattle.plan_fresh.proofs.Standing.{versions, fresh_stands}
-use Rattle.plan_fresh.proofs.Stored.{either_way, root, root_node, no_node, uses, large_bits, bits, not_born}
+use Rattle.code_plan_laws.specs.Fresh.{fresh_param, fresh_disk}
+use Rattle.code_plan_laws.proofs.Blocks.{param_reads}
+use Rattle.code_plan_laws.proofs.Sectors.{elsewhere}
+use Rattle.code_plan_laws.proofs.FreshStanding.{versions, fresh_stands}
+use Rattle.code_plan_laws.proofs.Stored.{either_way, root, root_node, no_node, uses, large_bits, bits, not_born}
 use Rattle.line_histories.specs.Following.{store_after, is_versioned, CoversFollow, FreeFollow, FilledFollow, Follows}
 use Rattle.line_histories.specs.Standing.{HasZeros, StandsNumbered}
 use Rattle.fresh_histories.specs.Beginning.{has_version_at_first, AreFresh, FreshFollows, fresh_world, Begins, FreshWorldsBegin}

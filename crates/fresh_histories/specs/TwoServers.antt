@@ -12,8 +12,8 @@ use Rattle.sector_histories.specs.Histories.{Commit, Entry, Item, logical, settl
 use Rattle.sector_histories.specs.Histories.Entry.{Did, Recovered}
 use Rattle.sector_histories.specs.Histories.Item.{Done, Doubt}
 use Rattle.sector_histories.specs.Plans.{Outcome, Legal}
-use Rattle.plan_fresh.specs.Fresh.{fresh_disk}
-use Rattle.line_commits.specs.LinePlans.{sector_plan}
+use Rattle.code_plan_laws.specs.Fresh.{fresh_disk}
+use Rattle.line_histories.specs.LinePlans.{sector_plan}
 use Rattle.line_histories.specs.Standing.{StandsForShape}
 
 -- line by line of the first run

@@ -13,7 +13,7 @@ use Rattle.tree_definitions.specs.Tree.{FileTree}
 use Rattle.tree_definitions.specs.Touched.{shape_of}
 use Rattle.tree_definitions.specs.Perform.{perform}
 use Rattle.tree_laws.proofs.Pairs.{birth_exact, self}
-use Rattle.shape_laws.proofs.Nodes.{shaped, found}
+use Rattle.tree_laws.proofs.ShapeNodes.{shaped, found}
 use Rattle.sector_bytes.specs.Sectors.{Sectors}
 use Rattle.sector_histories.specs.Plans.{Outcome}
 use Rattle.disk_definitions.specs.Store.{segment_at}
@@ -28,8 +28,8 @@ use Rattle.disk_definitions.specs.Plans.Plan.{Lacks, Clears, Finishes}
 use Rattle.plan_laws.proofs.Covering.{has_head, has_more, has_cases, not_in_none, below_has}
 use Rattle.disk_definitions.specs.Lines.{plan_of_line}
 use Rattle.line_laws.proofs.Planned.{lines_planned}
-use Rattle.line_commits.specs.LinePlans.{may_be_planned, are_segments, held_of, hand_on, store_on, store_showing, outcome_by, outcome_over, sector_plan}
-use Rattle.line_commits.proofs.Hands.{is_hand}
+use Rattle.line_histories.specs.LinePlans.{may_be_planned, are_segments, held_of, hand_on, store_on, store_showing, outcome_by, outcome_over, sector_plan}
+use Rattle.line_histories.proofs.Hands.{is_hand}
 use Rattle.line_histories.specs.Laws.{LinesComeToOutcomes}
 use Rattle.line_histories.specs.Standing.{StandsForShape}
 use Rattle.line_histories.specs.Trees.{MayNumber}

@@ -6,7 +6,7 @@ use Rattle.sector_bytes.specs.Sectors.{Sectors}
 use Rattle.disk_definitions.specs.Store.{Store, store_of}
 use Rattle.disk_definitions.specs.Naming.{Naming}
 use Rattle.disk_definitions.specs.Standing.{IsInGrammar}
-use Rattle.shape_laws.proofs.Nodes.{again}
+use Rattle.tree_laws.proofs.ShapeNodes.{again}
 use Rattle.disk_definitions.specs.ChangeLaws.{FilesFit}
 use Rattle.disk_definitions.proofs.Counts.{files_fit}
 use Rattle.disk_definitions.specs.FitPlans.{IsFitStore}
@@ -16,7 +16,7 @@ use Rattle.plan_fit.proofs.FileNodes.{fit_file}
 use Rattle.plan_laws.specs.FilesPlanned.{HasFiles}
 use Rattle.line_laws.proofs.OfDisk.{of_tree}
 use Rattle.line_laws.proofs.Shaping.{shapes_stand}
-use Rattle.line_commits.specs.LinePlans.{store_on}
+use Rattle.line_histories.specs.LinePlans.{store_on}
 use Rattle.line_histories.specs.Standing.{StandsForShape}
 
 module _ (disk : Sectors) (tree : FileTree) (stands : StandsForShape tree.segments disk tree) where

@@ -31,13 +31,13 @@ use Rattle.disk_definitions.specs.Written.{edit_sector, edited_block, is_metadat
 use Rattle.plan_laws.proofs.Covering.{has_cases, not_in_none}
 use Rattle.plan_laws.specs.Looked.{edited_at}
 use Rattle.plan_laws.proofs.Standing.{node_of}
-use Rattle.plan_records.proofs.Kept.{in_small, in_large}
-use Rattle.line_fills.specs.Files.{file_sector, HoldsBytes, IsWritten}
-use Rattle.line_commits.specs.LinePlans.{store_on}
-use Rattle.line_commits.proofs.Apart.{one_fit}
-use Rattle.line_commits.proofs.Changes.{ascending_member}
-use Rattle.line_commits.proofs.Lists.{member_has, has_map}
-use Rattle.line_commits.proofs.Owned.{has_flat, below_less}
+use Rattle.plan_fit.proofs.Kept.{in_small, in_large}
+use Rattle.line_histories.specs.Files.{file_sector, HoldsBytes, IsWritten}
+use Rattle.line_histories.specs.LinePlans.{store_on}
+use Rattle.line_histories.proofs.Apart.{one_fit}
+use Rattle.line_histories.proofs.Changes.{ascending_member}
+use Rattle.line_histories.proofs.Lists.{member_has, has_map}
+use Rattle.line_histories.proofs.Owned.{has_flat, below_less}
 use Rattle.line_histories.specs.Standing.{StandsForShape}
 use Rattle.line_histories.proofs.Disks.{blank_of, files_fit_now}
 

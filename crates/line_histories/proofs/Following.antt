@@ -34,16 +34,16 @@ use Rattle.disk_definitions.specs.Written.{byte_writes, freed_sectors}
 use Rattle.plan_laws.specs.Covers.{cover_of}
 use Rattle.plan_laws.specs.Moves.{first_said, use_said, large_said, moved_by}
 use Rattle.plan_laws.proofs.Moving.{covers_move}
-use Rattle.plan_records.proofs.Kept.{is_less, in_small, in_large}
-use Rattle.plan_records.proofs.LaidOver.{Misses}
-use Rattle.plan_records.proofs.RecordLaws.{NotTo, misses}
+use Rattle.plan_fit.proofs.Kept.{is_less, in_small, in_large}
+use Rattle.plan_fit.proofs.LaidOver.{Misses}
+use Rattle.plan_fit.proofs.RecordLaws.{NotTo, misses}
 use Rattle.plan_laws.specs.Numbered.{sector_in, sector_at}
-use Rattle.line_commits.specs.LinePlans.{store_on, held_of, fill_by, becomes_directory, is_claimed, sector_plan}
-use Rattle.line_commits.specs.Outcomes.{IsOfAPlan, fill_shape}
-use Rattle.line_commits.proofs.LinesSound.{lines_are_sound}
-use Rattle.line_commits.proofs.Outcomes.{outcomes_of_plans, makes_of_edits}
+use Rattle.line_histories.specs.LinePlans.{store_on, held_of, fill_by, becomes_directory, is_claimed, sector_plan}
+use Rattle.line_histories.specs.Outcomes.{IsOfAPlan, fill_shape}
+use Rattle.line_histories.proofs.LinesSound.{lines_are_sound}
+use Rattle.line_histories.proofs.Outcomes.{outcomes_of_plans, makes_of_edits}
 use Rattle.disk_definitions.specs.Lines.{plan_of_line}
-use Rattle.line_commits.proofs.Guarded.{sector_here}
+use Rattle.line_histories.proofs.Guarded.{sector_here}
 use Rattle.sector_world.specs.Claims.{left}
 use Rattle.sector_world.specs.World.{World}
 use Rattle.sector_world.specs.Trees.{Distinct, tree_of}
@@ -53,7 +53,7 @@ use Rattle.line_histories.specs.Following.{store_after, CoversFollow, is_version
 use Rattle.line_histories.specs.Laws.{AllFollow, AllFollowInWorlds}
 use Rattle.line_histories.specs.Standing.{StandsNumbered}
 use Rattle.line_histories.specs.Trees.{AreTimes, MayNumber, NumberedTree, performed_numbered, MayTake}
-use Rattle.line_fills.specs.Files.{HoldsBytes}
+use Rattle.line_histories.specs.Files.{HoldsBytes}
 use Rattle.line_histories.proofs.Filled.{IsInUse, file_in_use, not_given, written_value}
 use Rattle.line_histories.proofs.Given.{small_given, large_given, fills_back, fills_none}
 use Rattle.line_histories.proofs.Laid.{with_changes}

@@ -20,10 +20,10 @@ use Rattle.disk_definitions.specs.Written.{edit_sector, edited_block, is_metadat
 use Rattle.plan_laws.proofs.Covering.{has_cases, not_in_none, map_has, below_has}
 use Rattle.plan_laws.specs.Moves.{first_said, use_said, large_said}
 use Rattle.plan_laws.proofs.Owned.{sayer}
-use Rattle.plan_records.proofs.LaidOver.{Misses}
-use Rattle.line_commits.specs.LinePlans.{fill_by}
-use Rattle.line_commits.proofs.Changes.{ascending_member}
-use Rattle.line_commits.proofs.Lists.{has_member}
+use Rattle.plan_fit.proofs.LaidOver.{Misses}
+use Rattle.line_histories.specs.LinePlans.{fill_by}
+use Rattle.line_histories.proofs.Changes.{ascending_member}
+use Rattle.line_histories.proofs.Lists.{has_member}
 
 -- ---- what edits give back
 

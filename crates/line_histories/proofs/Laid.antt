@@ -16,9 +16,9 @@ use Rattle.disk_definitions.specs.Standing.{version_at}
 use Rattle.disk_definitions.specs.Edits.{Edit}
 use Rattle.disk_definitions.specs.Ready.{disk_after}
 use Rattle.disk_definitions.specs.Written.{edit_sector, all_edited, is_metadata, change_by, forced_in, change_of, changes_of}
-use Rattle.plan_records.proofs.LaidOver.{Misses, made, all_else}
-use Rattle.plan_records.proofs.RecordLaws.{metadata_laid, bytes_laid}
-use Rattle.line_commits.proofs.Changes.{numbers_of, change_is}
+use Rattle.plan_fit.proofs.LaidOver.{Misses, made, all_else}
+use Rattle.plan_fit.proofs.RecordLaws.{metadata_laid, bytes_laid}
+use Rattle.line_histories.proofs.Changes.{numbers_of, change_is}
 
 -- the sectors with these changes
 abbrev pub with_changes : Sectors → List Edit → Sectors

@@ -10,7 +10,7 @@ use Rattle.tree_definitions.specs.Apply.{Applied}
 use Rattle.tree_definitions.specs.Perform.{Step, Goes, Stops, perform, perform_step, resolved}
 use Rattle.tree_laws.specs.WellFormed.{IsNew, IsWellFormed}
 use Rattle.tree_laws.proofs.OrderLaws.{segments_perform}
-use Rattle.tree_reach.proofs.Applied.{apply_keeps_reached}
+use Rattle.standing_laws.proofs.Applied.{apply_keeps_reached}
 use Rattle.sector_bytes.specs.Blocks.{version_of}
 use Rattle.sector_bytes.specs.Sectors.{Sectors}
 use Rattle.disk_definitions.specs.declared.region.Region.{Region}
@@ -21,7 +21,7 @@ use Rattle.disk_definitions.specs.Store.{Store, Use, store_of, segment_at, use_i
 use Rattle.disk_definitions.specs.Store.Use.{Fresh, Bytes, Empty, Entries}
 use Rattle.disk_definitions.specs.Naming.{Pictures}
 use Rattle.disk_definitions.specs.Standing.{IsMetadata, IsInGrammar, HasVersionsUpTo, IsReached, version_at}
-use Rattle.shape_laws.proofs.Nodes.{shaped, found}
+use Rattle.tree_laws.proofs.ShapeNodes.{shaped, found}
 use Rattle.disk_definitions.specs.Edits.{Edit, edited, edited_all}
 use Rattle.disk_definitions.specs.Edits.Edit.{SetInode, SetBit, SetUse, SetPlace, SetLarge, SetBytes, SetLargeBytes}
 use Rattle.disk_definitions.specs.Edits.{put_part}
@@ -38,10 +38,10 @@ use Rattle.disk_definitions.specs.Plans.{Hand, Finish}
 use Rattle.disk_definitions.specs.Plans.Plan.{Finishes}
 use Rattle.disk_definitions.specs.Ready.{IsWritten, disk_after}
 use Rattle.plan_laws.proofs.Fitting.{files_stay_fit}
-use Rattle.plan_records.specs.Says.{SegmentsSay, InodesSay, PlacesSay}
-use Rattle.plan_records.proofs.DiskLaws.{written}
-use Rattle.plan_records.proofs.Kept.{in_segment, in_inode, in_small, segments_kept, inodes_kept, places_kept}
-use Rattle.plan_records.proofs.RecordLaws.{NotTo, misses, no_bytes_segment, no_bytes_inode, no_bytes_directory}
+use Rattle.plan_fit.specs.Says.{SegmentsSay, InodesSay, PlacesSay}
+use Rattle.plan_fit.proofs.DiskLaws.{written}
+use Rattle.plan_fit.proofs.Kept.{in_segment, in_inode, in_small, segments_kept, inodes_kept, places_kept}
+use Rattle.plan_fit.proofs.RecordLaws.{NotTo, misses, no_bytes_segment, no_bytes_inode, no_bytes_directory}
 use Rattle.line_laws.proofs.OfDisk.{few}
 use Rattle.line_laws.specs.Stores.{with_bytes}
 use Rattle.line_laws.proofs.Shaping.{shapes_stand, files_stay, all_reached}
@@ -50,7 +50,7 @@ use Rattle.line_laws.proofs.Planned.{lines_planned}
 use Rattle.line_laws.proofs.Laws.{line_directories_stay}
 use Rattle.line_laws.specs.Ready.{IsClearOn, MayBeMade}
 use Rattle.line_laws.proofs.Readiness.{lines_may_be_made}
-use Rattle.line_commits.specs.LinePlans.{store_on}
+use Rattle.line_histories.specs.LinePlans.{store_on}
 use Rattle.line_histories.specs.Standing.{HasZeros, StandsForShape}
 use Rattle.line_histories.proofs.Disks.{blank_of, files, files_fit_now, ever}
 use Rattle.line_histories.proofs.Laid.{with_changes, changed_same, unchanged, changed_long}

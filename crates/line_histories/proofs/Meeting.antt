@@ -15,8 +15,8 @@ use Rattle.tree_laws.proofs.Balance.{Limits, Within, AreAllowed}
 use Rattle.tree_laws.proofs.WellFormedLaws.{Makes}
 use Rattle.tree_laws.proofs.OrderLaws.{segments_perform}
 use Rattle.tree_laws.proofs.StepsLaws.{perform_keeps, perform_well}
-use Rattle.shape_laws.specs.Acting.{GoesByShape, answer_shape}
-use Rattle.shape_laws.proofs.Resolving.{perform_shape}
+use Rattle.tree_laws.specs.Acting.{GoesByShape, answer_shape}
+use Rattle.tree_laws.proofs.ShapeResolving.{perform_shape}
 use Rattle.sector_bytes.specs.Replays.{change_at, forced}
 use Rattle.sector_bytes.specs.Sectors.{Sectors}
 use Rattle.disk_definitions.specs.declared.param.Param.{Param}
@@ -30,10 +30,10 @@ use Rattle.disk_definitions.specs.Plans.Plan.{Finishes}
 use Rattle.disk_definitions.specs.Written.{changes_of}
 use Rattle.disk_definitions.specs.Lines.{plan_of_line}
 use Rattle.line_laws.specs.Ready.{IsClearOn}
-use Rattle.line_commits.specs.LinePlans.{store_on, hand_on, without_bytes, blocks_told, sector_plan}
-use Rattle.line_commits.specs.Guards.{IsClear}
-use Rattle.line_commits.proofs.Outcomes.{outcomes_of_plans}
-use Rattle.line_commits.proofs.Hands.{hint_fresh, is_hand}
+use Rattle.line_histories.specs.LinePlans.{store_on, hand_on, without_bytes, blocks_told, sector_plan}
+use Rattle.line_histories.specs.Guards.{IsClear}
+use Rattle.line_histories.proofs.Outcomes.{outcomes_of_plans}
+use Rattle.line_histories.proofs.Hands.{hint_fresh, is_hand}
 use Rattle.line_histories.specs.Trees.{reply_of, AreTimes, NumberedTree, without, performed_numbered, MayTake}
 use Rattle.line_histories.specs.Standing.{HasZeros, StandsForShape, StandsNumbered}
 use Rattle.line_histories.specs.Laws.{LinesMeetTheTree}

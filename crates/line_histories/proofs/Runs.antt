@@ -13,8 +13,8 @@ use Rattle.sector_world.specs.Trees.{Meets, Distinct, Answers, Stand, tree_of, w
 use Rattle.sector_world.proofs.Every.{good_start, good_run}
 use Rattle.sector_world.proofs.Legal.{legal_run, legal_good, opening_run}
 use Rattle.sector_world.proofs.Trees.{distinct_run, stand_good}
-use Rattle.line_commits.specs.LinePlans.{sector_plan}
-use Rattle.line_commits.proofs.Framed.{lines_framed}
+use Rattle.line_histories.specs.LinePlans.{sector_plan}
+use Rattle.line_histories.proofs.Framed.{lines_framed}
 use Rattle.line_histories.specs.Trees.{performed, AreTimes, MayNumber, NumberedTree, performed_numbered, MayTake}
 use Rattle.line_histories.specs.Standing.{StandsForShape, StandsNumbered}
 use Rattle.line_histories.specs.Laws.{HistoriesAreOfOneTree, WorldsAreOfOneTree, RunsAreOfOneTree}

@@ -23,10 +23,10 @@ use Rattle.disk_definitions.specs.Plans.Plan.{Finishes}
 use Rattle.plan_laws.specs.Moves.{AreTidy, HasSmall, HasLarge}
 use Rattle.disk_definitions.specs.Lines.{plan_of_line}
 use Rattle.line_laws.proofs.Laws.{lines_move, line_directories_stay}
-use Rattle.line_fills.specs.Files.{HoldsBytes, IsWritten, LeavesFilled, GivesBackFree}
-use Rattle.line_fills.proofs.Filled.{lines_leave_filled, lines_give_back_free}
-use Rattle.line_commits.specs.LinePlans.{held_of, hand_on, store_on}
-use Rattle.line_commits.proofs.Hands.{is_hand}
+use Rattle.line_histories.specs.Files.{HoldsBytes, IsWritten, LeavesFilled, GivesBackFree}
+use Rattle.line_histories.proofs.FilesFilled.{lines_leave_filled, lines_give_back_free}
+use Rattle.line_histories.specs.LinePlans.{held_of, hand_on, store_on}
+use Rattle.line_histories.proofs.Hands.{is_hand}
 use Rattle.line_histories.specs.Standing.{StandsForShape}
 use Rattle.line_histories.proofs.Disks.{blank_of}
 use Rattle.line_histories.proofs.Laid.{with_changes}

@@ -14,7 +14,7 @@ use Rattle.tree_definitions.specs.Place.{Place, Root, Taken, Free, Nowhere, plac
 use Rattle.tree_definitions.specs.Apply.{Applied, says, at_file, if_file, overwritten, written, apply}
 use Rattle.tree_definitions.specs.Perform.{Step, Goes, Stops, perform, perform_step, resolved}
 use Rattle.disk_definitions.specs.Meets.{Answers}
-use Rattle.line_commits.specs.LinePlans.{blocks_told}
+use Rattle.line_histories.specs.LinePlans.{blocks_told}
 
 more_free : (s m k x : ℕ) → k ≤ m → nat_lt (1024 * s - m) x ≡ false → nat_lt (1024 * s - k) x ≡ false
 more_free s m k x low h = grind (arith, nat_tests, low, h)

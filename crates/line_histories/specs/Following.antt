@@ -13,9 +13,9 @@ use Rattle.disk_definitions.specs.Store.Use.{Fresh}
 use Rattle.disk_definitions.specs.Ask.{Sector, InodeAt, DirectoryAt, SegmentAt, BytesAt, LargeAt, number_of}
 use Rattle.disk_definitions.specs.Meets.{IsOfTree, is_directory_use}
 use Rattle.plan_laws.specs.Covers.{cover_of}
-use Rattle.line_fills.specs.Files.{HoldsBytes}
+use Rattle.line_histories.specs.Files.{HoldsBytes}
 use Rattle.plan_laws.specs.Numbered.{sector_at}
-use Rattle.line_commits.specs.LinePlans.{store_on}
+use Rattle.line_histories.specs.LinePlans.{store_on}
 
 -- what the sectors with versions say after the history
 abbrev pub store_after : ℕ → (ℕ → Block) → List Item → Store

@@ -13,7 +13,7 @@ use Rattle.sector_world.specs.Claims.{left}
 use Rattle.sector_world.specs.Kinds.{Good}
 use Rattle.sector_world.specs.Planned.{ArePlanned, IsLegal}
 use Rattle.sector_world.specs.Trees.{MeetsTree, AreNew, Distinct, Answers, Stand, tree_of, first_disk}
-use Rattle.line_commits.specs.LinePlans.{may_be_planned, sector_plan}
+use Rattle.line_histories.specs.LinePlans.{may_be_planned, sector_plan}
 use Rattle.line_histories.specs.Following.{Follows}
 use Rattle.line_histories.specs.Trees.{performed, AreTimes, MayNumber, NumberedTree, performed_numbered, MayTake}
 use Rattle.line_histories.specs.Standing.{StandsForShape, StandsNumbered}

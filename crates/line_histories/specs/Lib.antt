@@ -1,3 +1,14 @@
+pub mod LinePlans
+pub mod Planners
+pub mod Guards
+pub mod Done
+pub mod Outcomes
+pub mod Places
+pub mod Owned
+pub mod Files
+pub mod Sectors
+pub mod Looked
+pub mod Parts
 pub mod Trees
 pub mod Standing
 pub mod Following

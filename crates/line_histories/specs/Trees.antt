@@ -9,7 +9,7 @@ use Rattle.tree_definitions.specs.Apply.{Answer, Plain, Shows}
 use Rattle.tree_definitions.specs.Perform.{perform}
 use Rattle.tree_laws.specs.WellFormed.{IsNew}
 use Rattle.sector_world.specs.Trees.{Apply}
-use Rattle.line_commits.specs.LinePlans.{without_bytes}
+use Rattle.line_histories.specs.LinePlans.{without_bytes}
 
 -- an answer without the bytes that it shows
 abbrev pub reply_of : Answer → Reply

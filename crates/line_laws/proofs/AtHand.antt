@@ -16,7 +16,7 @@ use Rattle.disk_definitions.specs.Store.{Store, StoredNode, StoredEntry, stored_
 use Rattle.disk_definitions.specs.Held.{Segments}
 use Rattle.disk_definitions.specs.Ask.{Sector, InodeAt, DirectoryAt, SegmentAt, BytesAt, LargeAt, seven, part_of}
 use Rattle.disk_definitions.specs.Written.{Cached, inode_at_hand, directory_at_hand, bytes_at_hand, at_hand}
-use Rattle.plan_records.proofs.Grammar.{directory_storable}
+use Rattle.plan_fit.proofs.Grammar.{directory_storable}
 use Rattle.plan_laws.specs.Inside.{AreInside, AgreesWhereAll}
 
 -- past the seven places of a sector no entry is said

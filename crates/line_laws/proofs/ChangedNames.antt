@@ -14,7 +14,7 @@ use Rattle.tree_definitions.specs.Apply.{Applied, Plain, says, named, made, is_d
 use Rattle.tree_laws.specs.WellFormed.{IsWellFormed}
 use Rattle.tree_laws.proofs.Pairs.{name_exact, found_put, found_removed}
 use Rattle.tree_laws.proofs.Nodes.{each_but, with_same, with_other, without_other}
-use Rattle.tree_reach.proofs.Changes.{fewer_else}
+use Rattle.standing_laws.proofs.Changes.{fewer_else}
 use Rattle.disk_definitions.specs.Naming.{find_in}
 use Rattle.line_laws.proofs.Telling.{OtherNames, came, had_another}
 

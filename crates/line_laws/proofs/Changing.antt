@@ -21,11 +21,11 @@ use Rattle.disk_definitions.specs.Edits.{Edit, SetInode, SetBit, SetUse, SetPlac
 use Rattle.disk_definitions.specs.Written.{is_metadata, dates, forced_in, all_edited, change_by, changes_of, byte_writes, with_change, with_bytes}
 use Rattle.disk_definitions.specs.FitEdits.{AreFit}
 use Rattle.disk_definitions.specs.Ready.{IsReady, store_after, disk_after}
-use Rattle.plan_records.specs.Says.{Says}
-use Rattle.plan_records.proofs.Kept.{in_inode, in_small}
-use Rattle.plan_records.proofs.LaidOver.{Misses, bytes_else, made}
-use Rattle.plan_records.proofs.RecordLaws.{misses, no_bytes_inode, no_bytes_directory, long_inodes, metadata_laid}
-use Rattle.plan_records.proofs.DiskLaws.{written}
+use Rattle.plan_fit.specs.Says.{Says}
+use Rattle.plan_fit.proofs.Kept.{in_inode, in_small}
+use Rattle.plan_fit.proofs.LaidOver.{Misses, bytes_else, made}
+use Rattle.plan_fit.proofs.RecordLaws.{misses, no_bytes_inode, no_bytes_directory, long_inodes, metadata_laid}
+use Rattle.plan_fit.proofs.DiskLaws.{written}
 use Rattle.line_laws.proofs.Telling.{Apart, Dates}
 
 -- ---- an edit of a sector with a version

@@ -25,9 +25,9 @@ use Rattle.disk_definitions.specs.Plans.{Hand, Finish}
 use Rattle.disk_definitions.specs.Plans.Plan.{Finishes}
 use Rattle.disk_definitions.specs.Ready.{IsReady, disk_after}
 use Rattle.disk_definitions.specs.Written.{Cached, at_hand, hand_of, sectors_at_hand, changes_of, byte_writes, laid_over}
-use Rattle.plan_records.proofs.DiskLaws.{written}
-use Rattle.plan_records.proofs.LaidOver.{all_else}
-use Rattle.plan_records.proofs.RecordLaws.{NotTo, misses, bytes_laid}
+use Rattle.plan_fit.proofs.DiskLaws.{written}
+use Rattle.plan_fit.proofs.LaidOver.{all_else}
+use Rattle.plan_fit.proofs.RecordLaws.{NotTo, misses, bytes_laid}
 use Rattle.line_laws.proofs.Edited.{hand}
 use Rattle.line_laws.proofs.OfDisk.{few, of_tree}
 use Rattle.line_laws.proofs.Written.{fit_store, ready}

@@ -41,3 +41,22 @@ pub mod Whole
 pub mod LineAtHand
 pub mod Going
 pub mod Turning
+pub mod TraceLooked
+pub mod TraceAtHand
+pub mod Lines
+mod TraceExamples
+pub mod Tells
+pub mod WalksTold
+pub mod NamesTold
+pub mod FilesTold
+pub mod CoverAllTold
+pub mod Entries
+pub mod LinesTold
+pub mod CoverAtHand
+pub mod Asked
+pub mod Told
+pub mod Squeezed
+pub mod Coming
+pub mod Inodes
+pub mod Room
+pub mod NodeLaws

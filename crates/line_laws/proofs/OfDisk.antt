@@ -15,7 +15,7 @@ use Rattle.disk_definitions.specs.Held.{Segments, bitmap_of, inode_in, state_in,
 use Rattle.disk_definitions.proofs.PickLaws.{held_there}
 use Rattle.disk_definitions.specs.Meets.{IsOfTree, IsHandOf}
 use Rattle.disk_definitions.specs.Written.{hand_of, Cached, is_zeroed}
-use Rattle.plan_records.proofs.Kept.{is_less}
+use Rattle.plan_fit.proofs.Kept.{is_less}
 use Rattle.disk_definitions.specs.OnDisk.{AreOfDisk, StandsBelow}
 
 -- what is said of a thing that is there

@@ -17,7 +17,7 @@ use Rattle.tree_definitions.specs.Tree.{FileTree, node_at}
 use Rattle.tree_definitions.specs.Apply.{Applied, apply}
 use Rattle.tree_laws.specs.WellFormed.{IsNew}
 use Rattle.tree_laws.proofs.OrderLaws.{segments_apply}
-use Rattle.tree_reach.proofs.Applied.{apply_keeps_reached}
+use Rattle.standing_laws.proofs.Applied.{apply_keeps_reached}
 use Rattle.sector_bytes.specs.Sectors.{Sectors}
 use Rattle.disk_definitions.specs.Store.{Store, store_of, directory_at}
 use Rattle.disk_definitions.specs.Naming.{Pictures}
@@ -32,10 +32,10 @@ use Rattle.disk_definitions.specs.Meets.{FinishMeets}
 use Rattle.disk_definitions.specs.Written.{hand_of, Cached, changes_of, byte_writes, laid_over, sectors_at_hand}
 use Rattle.plan_laws.proofs.Fitting.{files_stay_fit}
 use Rattle.disk_definitions.specs.Ready.{IsReady, IsWritten, disk_after}
-use Rattle.plan_records.proofs.DiskLaws.{written}
-use Rattle.plan_records.proofs.RecordFits.{records_fit}
-use Rattle.plan_records.proofs.RecordLaws.{NotTo, misses, bytes_laid}
-use Rattle.plan_records.proofs.LaidOver.{all_else}
+use Rattle.plan_fit.proofs.DiskLaws.{written}
+use Rattle.plan_fit.proofs.RecordFits.{records_fit}
+use Rattle.plan_fit.proofs.RecordLaws.{NotTo, misses, bytes_laid}
+use Rattle.plan_fit.proofs.LaidOver.{all_else}
 use Rattle.plan_fit.proofs.DecodedEntries.{disks_fit}
 use Rattle.plan_fit.proofs.FileNodes.{fit_file}
 use Rattle.disk_definitions.specs.FitPlans.{IsFitStore, IsFitFinish}

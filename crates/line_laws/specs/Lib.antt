@@ -10,3 +10,7 @@ pub mod Records
 pub mod Ready
 pub mod Onward
 pub mod Turns
+pub mod Traced
+pub mod Told
+pub mod Covers
+pub mod Nodes

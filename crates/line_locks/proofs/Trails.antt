@@ -21,7 +21,7 @@ use Rattle.plan_laws.proofs.Standing.{HasKind, DiskStands}
 use Rattle.plan_laws.proofs.WalksFine.{SpotStands, step_stands, kind_two}
 use Rattle.disk_definitions.specs.Resolving.{PathEnd, Leads, Refused, Resolution, leads, refused, behind, passes, at_target, with_target, at_entry, at_gap, at_name, below_inode, resolve_names, resolve_from, resolve}
 use Rattle.disk_definitions.specs.Lines.{step_of, by_path, is_found, by_second, by_first, over_path, over_paths, resolved}
-use Rattle.cover_laws.proofs.Entries.{Follow, FoundLeads, found_leads}
+use Rattle.line_laws.proofs.Entries.{Follow, FoundLeads, found_leads}
 use Rattle.line_locks.proofs.Ending.{Ends, ends_then, ends_value}
 use Rattle.line_locks.proofs.WalksEnd.{Same, search_same}
 

@@ -19,9 +19,9 @@ use Rattle.disk_definitions.specs.Standing.{version_at}
 use Rattle.disk_definitions.specs.Store.{store_of}
 use Rattle.disk_definitions.specs.Edits.{Edit}
 use Rattle.disk_definitions.specs.Written.{edit_sector, all_edited, is_metadata, metadata_sector, with_number, change_by, forced_in, change_of, changes_of}
-use Rattle.plan_records.specs.Says.{Says}
+use Rattle.plan_fit.specs.Says.{Says}
 use Rattle.disk_definitions.specs.Ready.{store_after, IsReady}
-use Rattle.plan_records.proofs.LaidOver.{by_bool, filter_none, filter_some, named, named_true, named_false, named_ascend, changes}
+use Rattle.plan_fit.proofs.LaidOver.{by_bool, filter_none, filter_some, named, named_true, named_false, named_ascend, changes}
 use Rattle.disk_definitions.specs.SmallRecords.{IsSmall}
 use Rattle.plan_fit.proofs.PatchCosts.{cost, length_change, length_little}
 use Rattle.plan_fit.proofs.Charges.{budget, charge, names, sector_cost}

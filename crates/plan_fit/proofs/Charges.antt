@@ -15,10 +15,10 @@ use Rattle.disk_definitions.specs.Edits.{Edit, edited}
 use Rattle.disk_definitions.specs.Edits.Edit.{SetInode, SetBit, SetUse, SetPlace, SetLarge, SetBytes, SetLargeBytes}
 use Rattle.disk_definitions.specs.Written.{edit_sector, edited_sectors, all_edited, is_metadata, dates, forced_in}
 use Rattle.disk_definitions.specs.FitEdits.{IsFitEdit, MeetsUse, AreFit}
-use Rattle.plan_records.specs.Says.{Says}
-use Rattle.plan_records.proofs.Kept.{edit_region, edit_sector_is, edit_in_range, edited_here, edited_else, in_segment, in_small}
-use Rattle.plan_records.proofs.EditLaws.{not_both, fit_place, each}
-use Rattle.plan_records.proofs.LaidOver.{Undated, none_forced, not_dated}
+use Rattle.plan_fit.specs.Says.{Says}
+use Rattle.plan_fit.proofs.Kept.{edit_region, edit_sector_is, edit_in_range, edited_here, edited_else, in_segment, in_small}
+use Rattle.plan_fit.proofs.EditLaws.{not_both, fit_place, each}
+use Rattle.plan_fit.proofs.LaidOver.{Undated, none_forced, not_dated}
 use Rattle.plan_fit.proofs.Differing.{differing, between, same_bytes}
 use Rattle.plan_fit.proofs.PatchCosts.{cost, cost_by_bytes, cost_at_most}
 use Rattle.plan_fit.proofs.EditCosts.{is_partial, most_in, part_differs}

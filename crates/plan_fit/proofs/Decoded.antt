@@ -7,7 +7,7 @@ use Rattle.disk_definitions.specs.declared.inode.Inode.{Inode}
 use Rattle.sector_bytes.specs.Bytes.{zeros}
 use Rattle.disk_definitions.specs.Inodes.{inode_bytes, inode_fits, inode_fields, inode_in, numbers_in}
 use Rattle.disk_definitions.proofs.InodeLaws.{large_and_target, behind_birth, behind_small}
-use Rattle.plan_records.proofs.Grammar.{fits_back, fits_eight, fields_read, inode_is}
+use Rattle.plan_fit.proofs.Grammar.{fits_back, fits_eight, fields_read, inode_is}
 
 pub record IsDecoded (x : Inode) : Type 0 where
   pub birth : x.birth < 2 ^ 64

@@ -13,7 +13,7 @@ use Rattle.disk_definitions.proofs.DirectoryLaws.{IsStorableEntry, AreStorable, 
 use Rattle.disk_definitions.proofs.Readings.{and_l, and_r}
 use Rattle.disk_definitions.specs.Store.{StoredNode, StoredEntry, stored_node, stored_entry, entry_in, directory_at, entered}
 use Rattle.disk_definitions.specs.FitEdits.{IsFitNode, IsFitEntry}
-use Rattle.plan_records.proofs.Grammar.{directory_storable}
+use Rattle.plan_fit.proofs.Grammar.{directory_storable}
 use Rattle.plan_fit.specs.FitDisks.{DisksAreFit}
 use Rattle.plan_fit.proofs.DecodedNodes.{stored_fit}
 

@@ -22,10 +22,10 @@ use Rattle.disk_definitions.specs.Edits.Edit.{SetInode, SetBit, SetUse, SetPlace
 use Rattle.disk_definitions.proofs.Free.{a_some}
 use Rattle.disk_definitions.specs.Written.{state_of, place_with, with_place, edit_sector, edited_block}
 use Rattle.disk_definitions.specs.FitEdits.{IsFitEdit, MeetsUse}
-use Rattle.plan_records.specs.Says.{Says}
-use Rattle.plan_records.proofs.Grammar.{bitmap_is, directory_is, directory_storable}
-use Rattle.plan_records.proofs.PlaceEdits.{MayEnter, placed_back}
-use Rattle.plan_records.proofs.EditLaws.{fit_place}
+use Rattle.plan_fit.specs.Says.{Says}
+use Rattle.plan_fit.proofs.Grammar.{bitmap_is, directory_is, directory_storable}
+use Rattle.plan_fit.proofs.PlaceEdits.{MayEnter, placed_back}
+use Rattle.plan_fit.proofs.EditLaws.{fit_place}
 use Rattle.plan_fit.proofs.Differing.{differing, same_bytes, at_most, pieces, behind, one_set}
 use Rattle.plan_fit.proofs.PatchCosts.{length_little}
 

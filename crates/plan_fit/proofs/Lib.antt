@@ -1,3 +1,16 @@
+pub mod Grammar
+pub mod Kept
+pub mod SegmentEdits
+pub mod InodeEdits
+pub mod PlaceEdits
+pub mod ByteEdits
+pub mod EditLaws
+pub mod LaidOver
+pub mod Versioned
+pub mod NearBy
+pub mod RecordLaws
+pub mod DiskLaws
+pub mod RecordFits
 pub mod Directories
 pub mod Links
 pub mod Uses

@@ -16,7 +16,7 @@ use Rattle.disk_definitions.specs.Store.{StoredNode}
 use Rattle.disk_definitions.specs.Naming.{inode_of, first_blocks}
 use Rattle.disk_definitions.specs.Written.{inode_with}
 use Rattle.disk_definitions.specs.FitEdits.{IsFitNode}
-use Rattle.plan_records.proofs.InodeEdits.{free_is}
+use Rattle.plan_fit.proofs.InodeEdits.{free_is}
 use Rattle.disk_definitions.specs.Allowed.{IsTarget}
 use Rattle.plan_fit.proofs.Directories.{untargeted, directory_fits}
 

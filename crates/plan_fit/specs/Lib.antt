@@ -1,3 +1,5 @@
+pub mod Says
+pub mod Laws
 pub mod FitNames
 pub mod FitFiles
 pub mod FitDisks

@@ -7,7 +7,7 @@ use Rattle.tree_definitions.specs.Tree.{FileTree, node_at}
 use Rattle.tree_definitions.specs.Apply.{links_of}
 use Rattle.tree_definitions.specs.Entries.{entry_at}
 use Rattle.tree_laws.specs.WellFormed.{one_at, names_of}
-use Rattle.tree_reach.proofs.Walks.{carried}
+use Rattle.standing_laws.proofs.Walks.{carried}
 use Rattle.disk_definitions.specs.Store.{Store, StoredNode, Use, is_unused}
 use Rattle.disk_definitions.specs.Store.Use.{Fresh, Bytes, Empty, Entries as OfEntries}
 use Rattle.disk_definitions.specs.Naming.{Nodes, find_in}

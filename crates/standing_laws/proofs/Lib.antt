@@ -14,3 +14,13 @@ pub mod StandingTree
 pub mod OneTree
 pub mod Counted
 pub mod RoomLaws
+pub mod Walks
+pub mod NamesThere
+pub mod Reaching
+pub mod Changes
+pub mod Adding
+pub mod Removing
+pub mod Homeward
+pub mod Moving
+pub mod Applied
+pub mod Steps

@@ -4,3 +4,4 @@ pub mod Soundness
 pub mod Renaming
 pub mod Laws
 pub mod Room
+pub mod Reached

@@ -12,7 +12,7 @@ use Rattle.std.specs.List.{list_any}
 use Rattle.tree_definitions.specs.Tree.{FileTree}
 use Rattle.tree_laws.specs.Doubts.{entry_writes}
 use Rattle.tree_laws.proofs.HistoryLaws.{after_all-push}
-use Rattle.history_laws.proofs.OwnReplies.{answers_are_own}
+use Rattle.tree_laws.proofs.OwnReplies.{answers_are_own}
 use Rattle.line_laws.specs.Laws.{HasPath}
 use Rattle.byte_doubts.specs.Deeds.{Deed, Says, steps, tree_after}
 use Rattle.stop_laws.proofs.BytesShaped.{is_ok}

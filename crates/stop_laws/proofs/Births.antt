@@ -29,15 +29,15 @@ use Rattle.disk_definitions.specs.Ask.{InodeAt, number_of}
 use Rattle.disk_definitions.specs.Meets.{IsOfTree}
 use Rattle.disk_definitions.specs.Plans.{Hand, Finish}
 use Rattle.plan_laws.specs.Covers.{inode_cover}
-use Rattle.plan_nodes.proofs.Laws.{line_nodes_free, line_nodes_keep}
-use Rattle.plan_nodes.proofs.Told.{namings_agree}
-use Rattle.line_commits.specs.LinePlans.{hand_on, sector_plan, store_on}
+use Rattle.line_laws.proofs.NodeLaws.{line_nodes_free, line_nodes_keep}
+use Rattle.line_laws.proofs.Told.{namings_agree}
+use Rattle.line_histories.specs.LinePlans.{hand_on, sector_plan, store_on}
 use Rattle.line_histories.specs.Following.{CoversFollow, store_after}
 use Rattle.line_histories.specs.Standing.{StandsForShape, StandsNumbered}
 use Rattle.line_histories.specs.Trees.{AreTimes, MayTake, NumberedTree, performed_numbered}
 use Rattle.line_histories.proofs.Disks.{blank_of}
 use Rattle.line_histories.proofs.Runs.{both}
-use Rattle.line_fills.specs.Parts.{IsFinished}
+use Rattle.line_histories.specs.Parts.{IsFinished}
 use Rattle.stop_laws.proofs.BytesAlong as along
 use Rattle.stop_laws.proofs.Guarded.{inode_here}
 use Rattle.stop_laws.proofs.Removing as removing

@@ -18,8 +18,8 @@ use Rattle.tree_definitions.specs.Tree.{FileTree, node_at}
 use Rattle.tree_laws.specs.Doubts.{entry_writes}
 use Rattle.tree_laws.specs.WellFormed.{IsNew}
 use Rattle.tree_laws.proofs.DoubtLaws.{a_last_write_leaves_doubt}
-use Rattle.shape_laws.proofs.Nodes.{shaped, found}
-use Rattle.shape_laws.proofs.Resolving.{perform_shape}
+use Rattle.tree_laws.proofs.ShapeNodes.{shaped, found}
+use Rattle.tree_laws.proofs.ShapeResolving.{perform_shape}
 use Rattle.sector_bytes.specs.Blocks.{Block}
 use Rattle.sector_bytes.specs.Replays.{change_at, forced}
 use Rattle.sector_bytes.specs.Sectors.{Sectors}
@@ -40,15 +40,15 @@ use Rattle.disk_definitions.specs.Plans.Plan.{Finishes}
 use Rattle.plan_laws.proofs.Covering.{map_has}
 use Rattle.std.proofs.lemmas.List.Elements.{Contains-append_left}
 use Rattle.plan_laws.specs.Covers.{cover_of}
-use Rattle.plan_nodes.proofs.Told.{namings_agree}
+use Rattle.line_laws.proofs.Told.{namings_agree}
 use Rattle.disk_definitions.specs.Lines.{plan_of_line}
 use Rattle.line_laws.proofs.Covered.{line_edits_covered}
-use Rattle.line_fills.specs.Files.{HoldsBytes, IsWritten}
-use Rattle.line_commits.specs.LinePlans.{blocks_told, fill_by, hand_on, lock_in, sector_plan, segment_lock, store_on, without_bytes}
-use Rattle.line_commits.specs.Outcomes.{IsOfAPlan, fill_shape}
-use Rattle.line_commits.proofs.Hands.{is_hand}
-use Rattle.line_commits.proofs.LinesSound.{lines_are_sound}
-use Rattle.line_commits.proofs.Outcomes.{outcomes_of_plans, makes_of_edits}
+use Rattle.line_histories.specs.Files.{HoldsBytes, IsWritten}
+use Rattle.line_histories.specs.LinePlans.{blocks_told, fill_by, hand_on, lock_in, sector_plan, segment_lock, store_on, without_bytes}
+use Rattle.line_histories.specs.Outcomes.{IsOfAPlan, fill_shape}
+use Rattle.line_histories.proofs.Hands.{is_hand}
+use Rattle.line_histories.proofs.LinesSound.{lines_are_sound}
+use Rattle.line_histories.proofs.Outcomes.{outcomes_of_plans, makes_of_edits}
 use Rattle.line_histories.specs.Following.{CoversFollow, store_after}
 use Rattle.line_histories.specs.Standing.{StandsForShape, StandsNumbered}
 use Rattle.line_histories.specs.Trees.{AreTimes, MayNumber, MayTake, NumberedTree, performed, performed_numbered}
@@ -64,8 +64,8 @@ use Rattle.line_histories.proofs.Told.{perform_told}
 use Rattle.byte_doubts.specs.Deeds.{Deed, Does, Says, Doubts, items, steps, tree_after}
 use Rattle.byte_doubts.specs.Doubts.{Agrees, Passes, AllAgree}
 use Rattle.byte_doubts.proofs.Lasting.{found as last_write}
-use Rattle.line_fills.specs.Parts.{LiesIn, IsFinished}
-use Rattle.line_fills.proofs.PartLaws.{lines_keep_parts, lines_meet_parts}
+use Rattle.line_histories.specs.Parts.{LiesIn, IsFinished}
+use Rattle.line_histories.proofs.PartLaws.{lines_keep_parts, lines_meet_parts}
 use Rattle.stop_laws.specs.Along.{LiesAfter, IsTold, IsSaid, HasShape, AllTold, DoubtIsTheSameAlongLines}
 use Rattle.stop_laws.proofs.BytesCovered.{is_used, part_cover, history_cover}
 use Rattle.stop_laws.proofs.Next.{ever_directories, finished, meets, naming_then, next_of}

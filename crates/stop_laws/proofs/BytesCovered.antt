@@ -19,11 +19,11 @@ use Rattle.disk_definitions.specs.Meets.{IsOfTree}
 use Rattle.plan_laws.proofs.Covering.{has_cases, not_in_none}
 use Rattle.plan_laws.specs.Covers.{cover_of}
 use Rattle.plan_laws.proofs.Standing.{IsFileNode, NodeStands, stands}
-use Rattle.plan_records.proofs.Kept.{in_small, in_large}
+use Rattle.plan_fit.proofs.Kept.{in_small, in_large}
 use Rattle.plan_laws.specs.Numbered.{sector_in}
 use Rattle.line_histories.specs.Following.{CoversFollow, store_after}
 use Rattle.line_histories.proofs.Filled.{IsInUse}
-use Rattle.line_fills.specs.Parts.{LiesIn}
+use Rattle.line_histories.specs.Parts.{LiesIn}
 
 -- a lock that is in a list
 pub is_used : (locks : List LockId) (l : LockId) → Contains locks l → has_lock l locks ≡ true

@@ -19,8 +19,8 @@ use Rattle.tree_definitions.specs.Touched.{shape_of}
 use Rattle.tree_definitions.specs.Tree.{FileTree, node_at}
 use Rattle.tree_laws.specs.Rooms.{SameRoom}
 use Rattle.tree_laws.proofs.Sameness.{text_same, pointwise_same}
-use Rattle.shape_laws.proofs.Nodes.{found, shaped}
-use Rattle.shape_laws.proofs.Resolving.{perform_shape}
+use Rattle.tree_laws.proofs.ShapeNodes.{found, shaped}
+use Rattle.tree_laws.proofs.ShapeResolving.{perform_shape}
 use Rattle.disk_definitions.specs.Naming.{Allows, Naming, Pictures, file_byte}
 use Rattle.disk_definitions.specs.Store.{Store}
 use Rattle.disk_definitions.specs.Edits.{edited_all}

@@ -15,10 +15,10 @@ use Rattle.tree_definitions.specs.Place.{Place, Root, Taken, Free, Nowhere, plac
 use Rattle.tree_definitions.specs.Removal.{meets_in, size_of, step_writes}
 use Rattle.tree_definitions.specs.Touched.{shape_of}
 use Rattle.tree_definitions.specs.Tree.{FileTree, node_at}
-use Rattle.shape_laws.proofs.Nodes.{shaped, found}
-use Rattle.shape_laws.proofs.Places.{same_place}
-use Rattle.shape_laws.proofs.Resolving.{resolved_shape}
-use Rattle.line_commits.specs.LinePlans.{without_bytes}
+use Rattle.tree_laws.proofs.ShapeNodes.{shaped, found}
+use Rattle.tree_laws.proofs.ShapePlaces.{same_place}
+use Rattle.tree_laws.proofs.ShapeResolving.{resolved_shape}
+use Rattle.line_histories.specs.LinePlans.{without_bytes}
 
 module _ (t : FileTree) (birth part : ℕ) where
   -- a file by its shape

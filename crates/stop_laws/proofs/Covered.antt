@@ -18,8 +18,8 @@ use Rattle.sector_histories.proofs.Removals.{survives_low}
 use Rattle.sector_histories.proofs.Seen.{clear_survives}
 use Rattle.sector_world.specs.Trees.{Distinct, tree_of}
 use Rattle.disk_definitions.specs.Meets.{IsOfTree}
-use Rattle.line_commits.specs.LinePlans.{sector_plan}
-use Rattle.line_commits.proofs.Framed.{lines_framed}
+use Rattle.line_histories.specs.LinePlans.{sector_plan}
+use Rattle.line_histories.proofs.Framed.{lines_framed}
 use Rattle.line_histories.specs.Following.{CoversFollow, store_after}
 use Rattle.line_histories.specs.Trees.{MayNumber, MayTake, performed, performed_numbered}
 use Rattle.line_histories.proofs.Runs.{numbered, take_distinct}

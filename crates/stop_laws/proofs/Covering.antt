@@ -10,14 +10,14 @@ use Rattle.tree_definitions.specs.History.{CellRun}
 use Rattle.tree_definitions.specs.Removal.{doubtful, is_doubtful, sector_cells}
 use Rattle.tree_definitions.specs.Touched.{shape_of}
 use Rattle.tree_definitions.specs.Tree.{FileTree, node_at}
-use Rattle.shape_laws.proofs.Nodes.{doubts, found, shaped}
+use Rattle.tree_laws.proofs.ShapeNodes.{doubts, found, shaped}
 use Rattle.sector_bytes.specs.Blocks.{Block}
 use Rattle.sector_histories.specs.Histories.{in_doubt}
 use Rattle.line_histories.specs.Following.{store_after}
 use Rattle.byte_trees.specs.Cells.{Covers}
 use Rattle.byte_trees.proofs.Doubting.{covers, listed}
 use Rattle.byte_doubts.specs.Deeds.{Deed, items, steps, tree_after}
-use Rattle.line_fills.proofs.Owners.{IsFileAt, file_there}
+use Rattle.line_histories.proofs.Owners.{IsFileAt, file_there}
 use Rattle.stop_laws.specs.Along.{LiesAfter}
 use Rattle.stop_laws.proofs.BytesAlong.{doubt_same_along}
 use Rattle.stop_laws.specs.Known.{IsToldTwice}

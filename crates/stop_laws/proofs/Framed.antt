@@ -24,12 +24,12 @@ use Rattle.plan_laws.proofs.Asking.{framed}
 use Rattle.plan_laws.proofs.Covering.{has_head, has_more, map_has}
 use Rattle.line_laws.specs.Stores.{with_bytes}
 use Rattle.disk_definitions.specs.Lines.{plan_of_line}
-use Rattle.line_commits.specs.LinePlans.{held_of, hand_by, hand_on, sector_plan, segment_number, store_on, versioned}
-use Rattle.line_commits.specs.Outcomes.{IsOfAPlan}
-use Rattle.line_commits.proofs.AllBlind.{bytes_dont_decide}
-use Rattle.line_commits.proofs.Framed.{seen_is_looked}
-use Rattle.line_commits.proofs.Lists.{has_member}
-use Rattle.line_commits.proofs.Outcomes.{outcomes_of_plans}
+use Rattle.line_histories.specs.LinePlans.{held_of, hand_by, hand_on, sector_plan, segment_number, store_on, versioned}
+use Rattle.line_histories.specs.Outcomes.{IsOfAPlan}
+use Rattle.line_histories.proofs.AllBlind.{bytes_dont_decide}
+use Rattle.line_histories.proofs.Framed.{seen_is_looked}
+use Rattle.line_histories.proofs.Lists.{has_member}
+use Rattle.line_histories.proofs.Outcomes.{outcomes_of_plans}
 use Rattle.stop_laws.specs.Cells.{having}
 use Rattle.stop_laws.specs.Replies.{RepliesGoByWhatIsLookedAt}
 

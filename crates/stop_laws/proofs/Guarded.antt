@@ -26,13 +26,13 @@ use Rattle.plan_laws.specs.Locks.{IsSole}
 use Rattle.plan_laws.specs.Looked.{edited_at}
 use Rattle.plan_laws.specs.Covers.{cover_of}
 use Rattle.plan_laws.specs.Numbered.{sector_at, sector_in}
-use Rattle.plan_records.proofs.Kept.{edit_in_range, edit_region, edit_sector_is, in_inode}
+use Rattle.plan_fit.proofs.Kept.{edit_in_range, edit_region, edit_sector_is, in_inode}
 use Rattle.line_laws.proofs.Covered.{line_edits_covered}
-use Rattle.line_commits.specs.Guards.{IsClear, KeepsGuards}
-use Rattle.line_commits.specs.LinePlans.{hand_on, lock_in, sector_plan, segment_lock, sole_in, store_on}
-use Rattle.line_commits.proofs.Apart.{one_fit}
-use Rattle.line_commits.proofs.Changes.{change_of_edit}
-use Rattle.line_commits.proofs.Guarded.{lines_guarded, sole_alone}
+use Rattle.line_histories.specs.Guards.{IsClear, KeepsGuards}
+use Rattle.line_histories.specs.LinePlans.{hand_on, lock_in, sector_plan, segment_lock, sole_in, store_on}
+use Rattle.line_histories.proofs.Apart.{one_fit}
+use Rattle.line_histories.proofs.Changes.{change_of_edit}
+use Rattle.line_histories.proofs.Guarded.{lines_guarded, sole_alone}
 use Rattle.line_histories.specs.Following.{CoversFollow}
 use Rattle.line_histories.specs.Standing.{StandsNumbered}
 use Rattle.line_histories.specs.Trees.{AreTimes, MayNumber, MayTake, NumberedTree, performed_numbered}

@@ -13,7 +13,7 @@ use Rattle.tree_definitions.specs.Removal.{left}
 use Rattle.tree_definitions.specs.Touched.{births, differs, is_mounted, is_ok, shape_of}
 use Rattle.tree_definitions.specs.Tree.{FileTree}
 use Rattle.tree_laws.proofs.HistoryLaws.{settled-push, settled-recovered}
-use Rattle.history_laws.proofs.OwnReplies.{answers_are_own}
+use Rattle.tree_laws.proofs.OwnReplies.{answers_are_own}
 use Rattle.sector_bytes.specs.Blocks.{Block}
 use Rattle.sector_histories.specs.Histories.{Each, OpsRise, in_doubt, kept, settled, survives, synced_of}
 use Rattle.sector_histories.specs.Histories as sectors
@@ -22,7 +22,7 @@ use Rattle.sector_histories.specs.Plans.{Legal}
 use Rattle.sector_histories.specs.Seen.{Unsynced}
 use Rattle.sector_histories.proofs.Histories.{each_kept, each_map}
 use Rattle.sector_world.specs.Trees.{Distinct}
-use Rattle.line_commits.specs.LinePlans.{sector_plan}
+use Rattle.line_histories.specs.LinePlans.{sector_plan}
 use Rattle.line_histories.specs.Standing.{StandsNumbered}
 use Rattle.line_histories.specs.Trees.{AreTimes, MayNumber}
 use Rattle.line_histories.proofs.Runs.{numbered}

@@ -15,7 +15,7 @@ use Rattle.disk_definitions.specs.Meets.{IsOfTree}
 use Rattle.disk_definitions.specs.Plans.{Finish}
 use Rattle.disk_definitions.specs.Plans.Plan.{Finishes}
 use Rattle.disk_definitions.specs.Lines.{plan_of_line}
-use Rattle.line_commits.specs.LinePlans.{hand_on}
+use Rattle.line_histories.specs.LinePlans.{hand_on}
 use Rattle.line_histories.specs.Following.{store_after}
 use Rattle.byte_doubts.specs.Deeds.{Deed, Does, Says, Doubts, items, tree_after}
 use Rattle.stop_laws.specs.Cells.{CoversMarks, having}

@@ -11,7 +11,7 @@ use Rattle.sector_histories.proofs.Histories.{each_kept}
 use Rattle.sector_world.specs.Trees.{Distinct}
 use Rattle.sector_world.specs.World.{World, Phase}
 use Rattle.sector_world.specs.World.Phase.{Off, Up, Dead}
-use Rattle.line_commits.specs.LinePlans.{sector_plan}
+use Rattle.line_histories.specs.LinePlans.{sector_plan}
 use Rattle.line_histories.specs.Following.{Follows}
 use Rattle.line_histories.specs.Standing.{StandsNumbered}
 use Rattle.line_histories.specs.Trees.{AreTimes, MayNumber}

@@ -16,7 +16,7 @@ use Rattle.sector_world.specs.World.{World}
 use Rattle.sector_world.proofs.Holding.{holds_good}
 use Rattle.sector_world.proofs.Left.{by_phase}
 use Rattle.disk_definitions.specs.Standing.{StandsFor}
-use Rattle.line_commits.specs.LinePlans.{sector_plan}
+use Rattle.line_histories.specs.LinePlans.{sector_plan}
 use Rattle.line_histories.specs.Following.{Follows}
 use Rattle.line_histories.specs.Standing.{StandsNumbered}
 use Rattle.line_histories.specs.Trees.{AreTimes, MayNumber, performed}

@@ -10,7 +10,7 @@ use Rattle.sector_world.specs.Trees.{Distinct}
 use Rattle.sector_world.specs.World.{World}
 use Rattle.sector_world.specs.World.Phase.{Off}
 use Rattle.sector_world.proofs.Holding.{holds_good}
-use Rattle.line_commits.specs.LinePlans.{sector_plan}
+use Rattle.line_histories.specs.LinePlans.{sector_plan}
 use Rattle.line_histories.specs.Following.{Follows}
 use Rattle.line_histories.specs.Standing.{StandsNumbered}
 use Rattle.line_histories.specs.Trees.{AreTimes, MayNumber}

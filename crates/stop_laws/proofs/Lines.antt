@@ -17,10 +17,10 @@ use Rattle.tree_laws.specs.WellFormed.{BirthsAscend, IsNew}
 use Rattle.tree_laws.proofs.HistoryLaws.{after_all-push}
 use Rattle.tree_laws.proofs.OrderLaws.{births_after_all}
 use Rattle.tree_laws.proofs.Resolving.{performed_refusals_leave}
-use Rattle.history_laws.proofs.OwnReplies.{answers_are_own}
-use Rattle.history_laws.proofs.RecordingLaws.{unrecorded_leaves_the_shape}
-use Rattle.shape_laws.proofs.Nodes.{shaped, found}
-use Rattle.shape_laws.proofs.Resolving.{perform_shape}
+use Rattle.tree_laws.proofs.OwnReplies.{answers_are_own}
+use Rattle.tree_laws.proofs.RecordingLaws.{unrecorded_leaves_the_shape}
+use Rattle.tree_laws.proofs.ShapeNodes.{shaped, found}
+use Rattle.tree_laws.proofs.ShapeResolving.{perform_shape}
 use Rattle.sector_bytes.specs.Blocks.{Block}
 use Rattle.sector_bytes.specs.Sectors.{Sectors}
 use Rattle.sector_histories.specs.Histories.{Commit, Item, logical}
@@ -35,10 +35,10 @@ use Rattle.disk_definitions.specs.Plans.Plan.{Finishes}
 use Rattle.disk_definitions.specs.Written.{changes_of}
 use Rattle.line_laws.specs.Records.{IsEntryOfLine}
 use Rattle.disk_definitions.specs.Lines.{plan_of_line}
-use Rattle.line_commits.specs.LinePlans.{blocks_told, hand_on, sector_plan, store_on, without_bytes}
-use Rattle.line_commits.specs.Outcomes.{IsOfAPlan}
-use Rattle.line_commits.proofs.Hands.{is_hand}
-use Rattle.line_commits.proofs.Outcomes.{outcomes_of_plans}
+use Rattle.line_histories.specs.LinePlans.{blocks_told, hand_on, sector_plan, store_on, without_bytes}
+use Rattle.line_histories.specs.Outcomes.{IsOfAPlan}
+use Rattle.line_histories.proofs.Hands.{is_hand}
+use Rattle.line_histories.proofs.Outcomes.{outcomes_of_plans}
 use Rattle.line_histories.specs.Laws.{IsOfOneTree}
 use Rattle.line_histories.specs.Standing.{StandsForShape, StandsNumbered}
 use Rattle.line_histories.specs.Trees.{AreTimes, MayNumber, performed, performed_numbered, reply_of}

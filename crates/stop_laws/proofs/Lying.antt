@@ -10,8 +10,8 @@ use Rattle.disk_definitions.specs.Store.{Store, StoredNode}
 use Rattle.disk_definitions.proofs.Kept.{inode_is}
 use Rattle.disk_definitions.specs.Ask.{Sector, BytesAt, LargeAt}
 use Rattle.disk_definitions.specs.Meets.{IsOfTree}
-use Rattle.line_fills.specs.Files.{file_sector}
-use Rattle.line_fills.specs.Parts.{LiesIn}
+use Rattle.line_histories.specs.Files.{file_sector}
+use Rattle.line_histories.specs.Parts.{LiesIn}
 
 first_is : (count : ℕ) (block : ℕ → ℕ) (m : ℕ) → m < count → first_blocks count block m ≡ block m
 first_is count block m l = rw (of_lt m count l) refl

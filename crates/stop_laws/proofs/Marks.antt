@@ -10,7 +10,7 @@ use Rattle.tree_definitions.specs.History.{CellRun, InDoubt, doubted}
 use Rattle.tree_definitions.specs.Touched.{shape_of}
 use Rattle.tree_definitions.specs.Tree.{FileTree, node_at}
 use Rattle.tree_laws.proofs.HistoryLaws.{after_all-push}
-use Rattle.shape_laws.proofs.Nodes.{doubts, found, shaped}
+use Rattle.tree_laws.proofs.ShapeNodes.{doubts, found, shaped}
 use Rattle.sector_bytes.specs.Blocks.{Block}
 use Rattle.sector_histories.specs.Bytes.{value}
 use Rattle.sector_histories.specs.Histories.Item.{Doubt}

@@ -9,7 +9,7 @@ use Rattle.tree_definitions.specs.Perform.{perform}
 use Rattle.tree_definitions.specs.Touched.{shape_of}
 use Rattle.tree_definitions.specs.Tree.{FileTree, node_at}
 use Rattle.tree_laws.specs.WellFormed.{IsNew}
-use Rattle.shape_laws.proofs.Nodes.{shaped, found}
+use Rattle.tree_laws.proofs.ShapeNodes.{shaped, found}
 use Rattle.sector_bytes.specs.Sectors.{Sectors}
 use Rattle.disk_definitions.specs.declared.region.Region.TheVariants as region
 use Rattle.disk_definitions.specs.Regions.{sector_of}
@@ -28,23 +28,23 @@ use Rattle.disk_definitions.specs.Meets.{IsOfTree, IsHandOf, FinishMeets}
 use Rattle.disk_definitions.specs.Plans.{Hand, Finish}
 use Rattle.disk_definitions.specs.Plans.Plan.{Finishes}
 use Rattle.disk_definitions.specs.Ready.{IsWritten, disk_after}
-use Rattle.plan_records.specs.Says.{PlacesSay}
-use Rattle.plan_records.proofs.DiskLaws.{written}
-use Rattle.plan_records.proofs.Kept.{in_small, places_kept}
-use Rattle.plan_records.proofs.RecordLaws.{misses, no_bytes_directory}
+use Rattle.plan_fit.specs.Says.{PlacesSay}
+use Rattle.plan_fit.proofs.DiskLaws.{written}
+use Rattle.plan_fit.proofs.Kept.{in_small, places_kept}
+use Rattle.plan_fit.proofs.RecordLaws.{misses, no_bytes_directory}
 use Rattle.line_laws.proofs.OfDisk.{few}
 use Rattle.line_laws.specs.Stores.{with_bytes}
 use Rattle.line_laws.proofs.Shaping.{shapes_stand}
 use Rattle.disk_definitions.specs.Lines.{plan_of_line}
 use Rattle.line_laws.specs.Ready.{IsClearOn, MayBeMade}
 use Rattle.line_laws.proofs.Readiness.{lines_may_be_made}
-use Rattle.line_commits.specs.LinePlans.{store_on}
+use Rattle.line_histories.specs.LinePlans.{store_on}
 use Rattle.line_histories.specs.Standing.{StandsForShape}
 use Rattle.line_histories.proofs.Disks.{blank_of, ever, files}
 use Rattle.line_histories.proofs.Laid.{with_changes, changed_same}
 use Rattle.line_histories.proofs.Leading.{inodes_next, bits_next, uses_next, larges_next}
 use Rattle.line_histories.proofs.Leading as leading
-use Rattle.line_fills.specs.Parts.{IsFinished}
+use Rattle.line_histories.specs.Parts.{IsFinished}
 
 -- edits make the same places and uses, whatever bytes there are
 same_place : (es : List Edit) (s t : Store) → t.place ≡ s.place → (edited_all t es).place ≡ (edited_all s es).place

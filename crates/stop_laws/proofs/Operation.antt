@@ -22,8 +22,8 @@ use Rattle.tree_definitions.specs.Touched.{shape_of}
 use Rattle.tree_definitions.specs.Tree.{FileTree, count_of, dir_blocks, node_at}
 use Rattle.tree_laws.specs.WellFormed.{IsNew}
 use Rattle.tree_laws.proofs.HistoryLaws.{after_all-push}
-use Rattle.history_laws.proofs.OwnReplies.{answers_are_own}
-use Rattle.shape_laws.proofs.Nodes.{again, doubts, found, room_stays, shaped}
+use Rattle.tree_laws.proofs.OwnReplies.{answers_are_own}
+use Rattle.tree_laws.proofs.ShapeNodes.{again, doubts, found, room_stays, shaped}
 use Rattle.sector_bytes.specs.Blocks.{Block, zero_block}
 use Rattle.sector_bytes.specs.SectorMaps.{value_at}
 use Rattle.disk_definitions.specs.declared.region.Region.TheVariants as region
@@ -48,22 +48,22 @@ use Rattle.disk_definitions.specs.Plans.Plan.{Finishes}
 use Rattle.disk_definitions.specs.Written.{byte_writes, edit_sector, edited_block, freed_sectors, is_metadata}
 use Rattle.plan_laws.specs.Looked.{edited_at}
 use Rattle.plan_laws.specs.Numbered.{sector_in}
-use Rattle.plan_nodes.proofs.Told.{namings_agree}
-use Rattle.plan_records.proofs.Kept.{in_large, in_small}
+use Rattle.line_laws.proofs.Told.{namings_agree}
+use Rattle.plan_fit.proofs.Kept.{in_large, in_small}
 use Rattle.plan_laws.specs.Keeping.{FinishKeeps, PlanKeeps}
 use Rattle.line_laws.specs.Laws.{HasPath}
 use Rattle.line_laws.specs.Stores.{blank}
 use Rattle.line_laws.proofs.Shaping.{shapes_stand}
 use Rattle.disk_definitions.specs.Lines.{plan_of_line}
 use Rattle.line_laws.proofs.Planned.{lines_planned}
-use Rattle.line_fills.specs.Files.{HoldsBytes, IsWritten}
-use Rattle.line_commits.specs.LinePlans.{byte_shown, edits_in, fill_by, hand_on, plain, store_on, store_showing}
-use Rattle.line_commits.specs.Planners.{edit_shape, plan_shape}
-use Rattle.line_commits.proofs.AllBlind.{bytes_dont_decide}
-use Rattle.line_commits.proofs.Lists.{filter_has, has_member}
-use Rattle.line_commits.proofs.Outcomes.{edits_same, fills_same}
-use Rattle.line_commits.proofs.Places.{lines_write_in_place}
-use Rattle.line_commits.proofs.Shapes.{freed_same}
+use Rattle.line_histories.specs.Files.{HoldsBytes, IsWritten}
+use Rattle.line_histories.specs.LinePlans.{byte_shown, edits_in, fill_by, hand_on, plain, store_on, store_showing}
+use Rattle.line_histories.specs.Planners.{edit_shape, plan_shape}
+use Rattle.line_histories.proofs.AllBlind.{bytes_dont_decide}
+use Rattle.line_histories.proofs.Lists.{filter_has, has_member}
+use Rattle.line_histories.proofs.Outcomes.{edits_same, fills_same}
+use Rattle.line_histories.proofs.Places.{lines_write_in_place}
+use Rattle.line_histories.proofs.Shapes.{freed_same}
 use Rattle.line_histories.specs.Following.{Follows, KindsFollow, store_after}
 use Rattle.line_histories.proofs.Filled.{IsInUse}
 use Rattle.byte_doubts.specs.Before.{WasBefore}
@@ -75,10 +75,10 @@ use Rattle.stop_laws.specs.Keeping.{FinishesOver, KeepsBytes}
 use Rattle.stop_laws.proofs.BytesKept.{agrees_by, lines_keep}
 use Rattle.stop_laws.proofs.BytesTold.{told_same}
 use Rattle.byte_doubts.specs.Deeds.{Deed, Does, items, steps, tree_after}
-use Rattle.line_fills.specs.Parts.{LiesIn}
+use Rattle.line_histories.specs.Parts.{LiesIn}
 use Rattle.byte_trees.specs.Standing.{HasItsBytes}
 use Rattle.stop_laws.specs.Known.{HasWhatIsKnown, KnowsCells}
-use Rattle.line_fills.proofs.Looked.{lines_look}
+use Rattle.line_histories.proofs.Looked.{lines_look}
 use Rattle.stop_laws.specs.Cells.{IsShown, having}
 use Rattle.stop_laws.proofs.Counted.{directories_few}
 use Rattle.stop_laws.proofs.Lying.{block_same, large_lies, large_same, small_lies}

@@ -12,7 +12,7 @@ use Rattle.tree_definitions.specs.declared.node.Node.{Node}
 use Rattle.tree_definitions.specs.Perform.{perform}
 use Rattle.tree_definitions.specs.Touched.{shape_of}
 use Rattle.tree_definitions.specs.Tree.{FileTree, node_at}
-use Rattle.shape_laws.proofs.Nodes.{found, shaped}
+use Rattle.tree_laws.proofs.ShapeNodes.{found, shaped}
 use Rattle.sector_bytes.specs.Blocks.{Block}
 use Rattle.disk_definitions.specs.Inodes.{inode_in}
 use Rattle.sector_histories.specs.Histories.{Changes, Commit, Each, Item, OpsRise, doubt_step, in_doubt, logical, survives}
@@ -30,17 +30,17 @@ use Rattle.disk_definitions.specs.Meets.{IsOfTree}
 use Rattle.plan_laws.proofs.Covering.{map_has}
 use Rattle.plan_laws.specs.Covers.{cover_of, inode_cover}
 use Rattle.line_laws.proofs.Covered.{line_edits_covered}
-use Rattle.line_commits.specs.LinePlans.{fill_by, hand_on, lock_in, sector_plan, segment_lock, store_on}
-use Rattle.line_commits.specs.Outcomes.{fill_shape}
-use Rattle.line_commits.proofs.LinesSound.{lines_are_sound}
-use Rattle.line_commits.proofs.Outcomes.{makes_of_edits}
+use Rattle.line_histories.specs.LinePlans.{fill_by, hand_on, lock_in, sector_plan, segment_lock, store_on}
+use Rattle.line_histories.specs.Outcomes.{fill_shape}
+use Rattle.line_histories.proofs.LinesSound.{lines_are_sound}
+use Rattle.line_histories.proofs.Outcomes.{makes_of_edits}
 use Rattle.disk_definitions.specs.Lines.{plan_of_line}
 use Rattle.line_histories.specs.Following.{CoversFollow, store_after}
 use Rattle.line_histories.specs.Standing.{StandsNumbered}
 use Rattle.line_histories.specs.Trees.{AreTimes, MayTake, NumberedTree, performed_numbered}
 use Rattle.line_histories.proofs.Filled.{IsInUse, file_in_use, written_value}
-use Rattle.line_fills.specs.Parts.{LiesIn}
-use Rattle.line_fills.proofs.PartLaws.{lines_keep_parts}
+use Rattle.line_histories.specs.Parts.{LiesIn}
+use Rattle.line_histories.proofs.PartLaws.{lines_keep_parts}
 use Rattle.stop_laws.proofs.BytesAlong as along
 use Rattle.stop_laws.proofs.BytesCovered.{history_cover, is_used, part_cover}
 use Rattle.stop_laws.proofs.Written.{has_fill, some_shape}

@@ -18,14 +18,14 @@ use Rattle.disk_definitions.specs.Plans.{Hand, Finish}
 use Rattle.disk_definitions.specs.Plans.Plan.{Finishes}
 use Rattle.disk_definitions.specs.Walks.{walk}
 use Rattle.disk_definitions.specs.Written.{edit_sector, is_metadata}
-use Rattle.plan_records.proofs.Kept.{in_small, in_large}
+use Rattle.plan_fit.proofs.Kept.{in_small, in_large}
 use Rattle.disk_definitions.specs.Lines.{plan_of_line}
-use Rattle.line_fills.specs.Files.{file_sector}
+use Rattle.line_histories.specs.Files.{file_sector}
 use Rattle.line_histories.proofs.Filled.{IsInUse, in_use}
-use Rattle.line_fills.specs.Sectors.{Asked, asked_of, bytes_kept, spot_inode, IsPiece}
-use Rattle.line_fills.proofs.Laws.{lines_write_pieces}
-use Rattle.line_fills.proofs.Meeting.{begins_below}
-use Rattle.line_fills.proofs.Owners.{same_part}
+use Rattle.line_histories.specs.Sectors.{Asked, asked_of, bytes_kept, spot_inode, IsPiece}
+use Rattle.line_histories.proofs.Laws.{lines_write_pieces}
+use Rattle.line_histories.proofs.PartsMeeting.{begins_below}
+use Rattle.line_histories.proofs.Owners.{same_part}
 
 -- sectors of bytes that are in use, with one number, are one
 sector_once : (segments : ℕ) (s : Store) → segments ≤ 64 → (x y : Sector) → IsInUse segments s x → IsInUse segments s y → number_of x ≡ number_of y → x ≡ y

@@ -10,7 +10,7 @@ use Rattle.tree_definitions.specs.declared.node.Node.{Node}
 use Rattle.tree_definitions.specs.declared.node.Node.TheVariants.{Dir, File, Link}
 use Rattle.tree_definitions.specs.Touched.{shape_of}
 use Rattle.tree_definitions.specs.Tree.{FileTree, node_at, small_blocks_of}
-use Rattle.shape_laws.proofs.Nodes.{doubts, shaped, found}
+use Rattle.tree_laws.proofs.ShapeNodes.{doubts, shaped, found}
 use Rattle.sector_bytes.specs.Sectors.{Sectors}
 use Rattle.disk_definitions.specs.declared.region.Region.TheVariants as region
 use Rattle.disk_definitions.specs.Regions.{sector_of}
@@ -19,8 +19,8 @@ use Rattle.disk_definitions.specs.Store.{Store, StoredNode, store_of}
 use Rattle.disk_definitions.proofs.Kept.{inode_is}
 use Rattle.disk_definitions.specs.Ask.{Sector, BytesAt, LargeAt, number_of}
 use Rattle.disk_definitions.specs.Meets.{IsOfTree}
-use Rattle.line_fills.specs.Files.{file_sector}
-use Rattle.line_fills.specs.Parts.{LiesIn}
+use Rattle.line_histories.specs.Files.{file_sector}
+use Rattle.line_histories.specs.Parts.{LiesIn}
 
 get_past : {X : Type 0} (xs : List X) (j : ℕ) (c : X) → slice_get xs j ≡ Some c → j < length xs
 get_past [] j c e = absurd (cc)

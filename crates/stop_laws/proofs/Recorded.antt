@@ -14,16 +14,16 @@ use Rattle.tree_definitions.specs.Removal.{is_recorded, writes_file}
 use Rattle.tree_definitions.specs.Touched.{births, differs, is_ok, node_shape, shape_of}
 use Rattle.tree_definitions.specs.Tree.{FileTree}
 use Rattle.tree_laws.specs.Refusals.{says_ok}
-use Rattle.shape_laws.specs.Acting.{GoesByShape, answer_shape}
-use Rattle.shape_laws.proofs.Nodes.{again, room_stays}
-use Rattle.shape_laws.proofs.Resolving.{perform_shape}
+use Rattle.tree_laws.specs.Acting.{GoesByShape, answer_shape}
+use Rattle.tree_laws.proofs.ShapeNodes.{again, room_stays}
+use Rattle.tree_laws.proofs.ShapeResolving.{perform_shape}
 use Rattle.disk_definitions.specs.Store.{Store}
 use Rattle.disk_definitions.specs.Edits.{Edit, SetInode}
 use Rattle.disk_definitions.specs.Plans.{Finish}
 use Rattle.line_laws.proofs.Recording.{Verdict, refused_verdict}
 use Rattle.line_laws.proofs.Telling.{Apart, Dates}
 use Rattle.line_laws.specs.Laws.{HasPath}
-use Rattle.line_commits.specs.LinePlans.{without_bytes}
+use Rattle.line_histories.specs.LinePlans.{without_bytes}
 use Rattle.line_histories.specs.Trees.{reply_of}
 
 -- ---- replies

@@ -27,10 +27,10 @@ use Rattle.disk_definitions.proofs.Counts.{pictures_go_by_what_counts}
 use Rattle.disk_definitions.specs.Ask.{InodeAt, DirectoryAt, SegmentAt}
 use Rattle.disk_definitions.specs.Meets.{IsOfTree, is_directory_use}
 use Rattle.disk_definitions.specs.OnDisk.{StandsBelow}
-use Rattle.plan_records.specs.Says.{InodesSay, PlacesSay, SegmentsSay}
-use Rattle.plan_records.proofs.Kept.{in_inode, in_segment, in_small, inodes_kept, places_kept, segments_kept}
+use Rattle.plan_fit.specs.Says.{InodesSay, PlacesSay, SegmentsSay}
+use Rattle.plan_fit.proofs.Kept.{in_inode, in_segment, in_small, inodes_kept, places_kept, segments_kept}
 use Rattle.plan_laws.specs.Numbered.{sector_in}
-use Rattle.line_commits.specs.LinePlans.{sector_plan, store_on}
+use Rattle.line_histories.specs.LinePlans.{sector_plan, store_on}
 use Rattle.line_histories.specs.Following.{Follows, KindsFollow, store_after}
 use Rattle.line_histories.specs.Standing.{HasZeros, StandsForShape, StandsNumbered}
 use Rattle.line_histories.specs.Trees.{AreTimes, MayNumber, performed}

@@ -15,8 +15,8 @@ use Rattle.sector_world.specs.World.{World, Phase}
 use Rattle.sector_world.specs.World.Phase.{Off, Up, Dead}
 use Rattle.sector_world.proofs.Holding.{holds_good}
 use Rattle.sector_world.proofs.Left.{fine_left, legal_left}
-use Rattle.line_commits.specs.LinePlans.{sector_plan}
-use Rattle.line_commits.proofs.Framed.{lines_framed}
+use Rattle.line_histories.specs.LinePlans.{sector_plan}
+use Rattle.line_histories.proofs.Framed.{lines_framed}
 use Rattle.byte_doubts.specs.Deeds.{Deed, Does, Says, Doubts, items}
 use Rattle.stop_laws.specs.Happened.{Happening, Acts, Speaks, Mounts, Covers, Recovers, has_lost, on_sectors, settle, what_stays}
 use Rattle.stop_laws.specs.Paired.{ArePaired}

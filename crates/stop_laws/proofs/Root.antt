@@ -16,8 +16,8 @@ use Rattle.disk_definitions.specs.Ask.{Sector, InodeAt, DirectoryAt, SegmentAt, 
 use Rattle.disk_definitions.specs.Meets.{IsOfTree}
 use Rattle.plan_laws.specs.Covers.{cover_of, inode_cover, large_cover, small_cover}
 use Rattle.plan_laws.proofs.Standing.{node_of}
-use Rattle.line_commits.specs.LinePlans.{store_on}
-use Rattle.line_fills.specs.Files.{HoldsBytes}
+use Rattle.line_histories.specs.LinePlans.{store_on}
+use Rattle.line_histories.specs.Files.{HoldsBytes}
 use Rattle.line_histories.proofs.Disks.{blank_of}
 use Rattle.stop_laws.specs.FreshDisks.{cover_at, fresh_cover, is_versioned_at, FreshDisksFollow, FreshCellsAreKnown}
 

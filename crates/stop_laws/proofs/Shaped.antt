@@ -9,9 +9,9 @@ use Rattle.disk_definitions.specs.Written.{is_metadata}
 use Rattle.plan_laws.proofs.Covering.{map_has}
 use Rattle.plan_laws.specs.Looked.{edited_at}
 use Rattle.line_laws.specs.Stores.{blank}
-use Rattle.line_fills.specs.Files.{IsWritten}
-use Rattle.line_commits.specs.Planners.{edit_shape}
-use Rattle.line_commits.proofs.Lists.{has_map}
+use Rattle.line_histories.specs.Files.{IsWritten}
+use Rattle.line_histories.specs.Planners.{edit_shape}
+use Rattle.line_histories.proofs.Lists.{has_map}
 
 -- ---- stores
 

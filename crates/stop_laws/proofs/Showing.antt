@@ -15,8 +15,8 @@ use Rattle.plan_laws.specs.Looking.{AllSayTheSame}
 use Rattle.plan_laws.proofs.Asking.{framed}
 use Rattle.plan_laws.proofs.Covering.{has_head, has_more}
 use Rattle.line_laws.specs.Stores.{with_bytes}
-use Rattle.line_commits.specs.LinePlans.{byte_shown}
-use Rattle.line_commits.specs.Places.{SameBytesAt}
+use Rattle.line_histories.specs.LinePlans.{byte_shown}
+use Rattle.line_histories.specs.Places.{SameBytesAt}
 use Rattle.stop_laws.specs.Cells.{having}
 
 -- parts with the same bytes are the same

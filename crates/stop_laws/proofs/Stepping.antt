@@ -6,7 +6,7 @@ use Rattle.tree_definitions.specs.Perform.{perform}
 use Rattle.tree_definitions.specs.Touched.{shape_of}
 use Rattle.tree_definitions.specs.Tree.{FileTree, node_at}
 use Rattle.tree_laws.specs.WellFormed.{IsNew}
-use Rattle.shape_laws.proofs.Resolving.{perform_shape}
+use Rattle.tree_laws.proofs.ShapeResolving.{perform_shape}
 use Rattle.sector_bytes.specs.Blocks.{Block}
 use Rattle.sector_histories.specs.Histories.{Commit, Item, logical}
 use Rattle.sector_histories.specs.Histories.Item.{Done}
@@ -27,14 +27,14 @@ use Rattle.line_laws.specs.Stores.{blank}
 use Rattle.line_laws.specs.Laws.{HasPath}
 use Rattle.line_laws.proofs.Shaping.{shapes_stand}
 use Rattle.disk_definitions.specs.Lines.{plan_of_line}
-use Rattle.line_fills.specs.Files.{HoldsBytes, IsWritten}
-use Rattle.line_commits.specs.LinePlans.{hand_on, makes_by, plain, sector_plan, store_on, store_showing}
-use Rattle.line_commits.proofs.Hands.{hint_fresh}
+use Rattle.line_histories.specs.Files.{HoldsBytes, IsWritten}
+use Rattle.line_histories.specs.LinePlans.{hand_on, makes_by, plain, sector_plan, store_on, store_showing}
+use Rattle.line_histories.proofs.Hands.{hint_fresh}
 use Rattle.line_histories.specs.Following.{store_after}
 use Rattle.line_histories.specs.Standing.{StandsNumbered}
 use Rattle.line_histories.specs.Trees.{AreTimes, MayTake, NumberedTree}
 use Rattle.line_histories.proofs.Filled.{IsInUse, file_in_use, not_given}
-use Rattle.line_fills.specs.Parts.{LiesIn}
+use Rattle.line_histories.specs.Parts.{LiesIn}
 use Rattle.stop_laws.proofs.BytesAlong as along
 
 pub record IsStepped (segments : ℕ) (when : ℕ → ℕ) (opening : ℕ → Block) (h : List Item) (c : Commit) (tree to : FileTree) : Type 0 where

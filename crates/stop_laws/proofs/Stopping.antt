@@ -16,8 +16,8 @@ use Rattle.sector_world.specs.Trees.{Distinct}
 use Rattle.sector_world.specs.World.{World, Phase}
 use Rattle.sector_world.specs.World.Phase.{Off, Up, Dead}
 use Rattle.sector_world.proofs.Left.{by_phase, fine_left, legal_left}
-use Rattle.line_commits.specs.LinePlans.{sector_plan}
-use Rattle.line_commits.proofs.Framed.{lines_framed}
+use Rattle.line_histories.specs.LinePlans.{sector_plan}
+use Rattle.line_histories.proofs.Framed.{lines_framed}
 use Rattle.line_histories.specs.Standing.{StandsNumbered}
 use Rattle.line_histories.specs.Trees.{AreTimes, MayNumber}
 use Rattle.line_histories.proofs.Following.{distinct_left}

@@ -16,10 +16,10 @@ use Rattle.disk_definitions.specs.Ask.{run}
 use Rattle.disk_definitions.specs.Plans.{Plan, Finish}
 use Rattle.disk_definitions.specs.Plans.Plan.{Lacks, Clears, Finishes}
 use Rattle.disk_definitions.specs.Lines.{plan_of_line}
-use Rattle.line_commits.specs.LinePlans.{hand_on, sector_plan}
-use Rattle.line_commits.specs.Planners.{plan_shape}
-use Rattle.line_commits.proofs.AllBlind.{bytes_dont_decide}
-use Rattle.line_commits.proofs.Outcomes.{outcomes_of_plans}
+use Rattle.line_histories.specs.LinePlans.{hand_on, sector_plan}
+use Rattle.line_histories.specs.Planners.{plan_shape}
+use Rattle.line_histories.proofs.AllBlind.{bytes_dont_decide}
+use Rattle.line_histories.proofs.Outcomes.{outcomes_of_plans}
 use Rattle.line_histories.specs.Following.{Follows, store_after}
 use Rattle.line_histories.specs.Standing.{StandsNumbered}
 use Rattle.line_histories.specs.Trees.{AreTimes, MayNumber}

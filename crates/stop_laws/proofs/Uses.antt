@@ -23,7 +23,7 @@ use Rattle.tree_definitions.specs.Touched.{changes, differs, further, looked_in,
 use Rattle.tree_definitions.specs.Tree.{FileTree, node_at}
 use Rattle.tree_laws.specs.WellFormed.{IsNew, IsWellFormed}
 use Rattle.tree_laws.proofs.Sameness.{where_same}
-use Rattle.shape_laws.proofs.Nodes.{doubts, found, shaped}
+use Rattle.tree_laws.proofs.ShapeNodes.{doubts, found, shaped}
 use Rattle.sector_bytes.specs.Blocks.{Block}
 use Rattle.sector_bytes.specs.Sectors.{Sectors}
 use Rattle.sector_histories.specs.Histories.{Commit, Item, logical}
@@ -44,13 +44,13 @@ use Rattle.line_laws.specs.Stores.{with_bytes}
 use Rattle.disk_definitions.specs.Lines.{plan_of_line}
 use Rattle.line_laws.proofs.Covered.{line_changes_alone, line_nodes_held}
 use Rattle.line_laws.proofs.Planned.{lines_planned}
-use Rattle.line_commits.specs.Guards.{IsClear}
-use Rattle.line_commits.specs.LinePlans.{hand_on, lock_in, sector_plan, segment_lock, store_on, without_bytes}
-use Rattle.line_commits.specs.Outcomes.{IsOfAPlan}
-use Rattle.line_commits.specs.Planners.{finish_shape, plan_shape}
-use Rattle.line_commits.proofs.AllBlind.{bytes_dont_decide}
-use Rattle.line_commits.proofs.Hands.{is_hand}
-use Rattle.line_commits.proofs.Outcomes.{outcomes_of_plans}
+use Rattle.line_histories.specs.Guards.{IsClear}
+use Rattle.line_histories.specs.LinePlans.{hand_on, lock_in, sector_plan, segment_lock, store_on, without_bytes}
+use Rattle.line_histories.specs.Outcomes.{IsOfAPlan}
+use Rattle.line_histories.specs.Planners.{finish_shape, plan_shape}
+use Rattle.line_histories.proofs.AllBlind.{bytes_dont_decide}
+use Rattle.line_histories.proofs.Hands.{is_hand}
+use Rattle.line_histories.proofs.Outcomes.{outcomes_of_plans}
 use Rattle.line_histories.specs.Standing.{StandsForShape, StandsNumbered}
 use Rattle.line_histories.specs.Trees.{AreTimes, MayNumber, performed, performed_numbered}
 use Rattle.line_histories.proofs.Disks.{files_fit_now}

@@ -14,9 +14,9 @@ use Rattle.disk_definitions.specs.Edits.{Edit}
 use Rattle.disk_definitions.specs.Plans.{Plan}
 use Rattle.disk_definitions.specs.Written.{byte_write, byte_writes, edit_sector, edited_block, is_metadata}
 use Rattle.plan_laws.proofs.Covering.{has_cases, has_head, has_more, not_in_none}
-use Rattle.line_commits.specs.LinePlans.{edits_in, fill_by, makes_by}
-use Rattle.line_commits.specs.Outcomes.{fill_shape}
-use Rattle.line_commits.proofs.Lists.{filter_has, has_filter}
+use Rattle.line_histories.specs.LinePlans.{edits_in, fill_by, makes_by}
+use Rattle.line_histories.specs.Outcomes.{fill_shape}
+use Rattle.line_histories.proofs.Lists.{filter_has, has_filter}
 
 -- ---- by a key that has one value
 

@@ -11,7 +11,7 @@ use Rattle.tree_definitions.specs.Removal.{is_recorded}
 use Rattle.tree_definitions.specs.Touched.{is_ok, shape_of}
 use Rattle.tree_definitions.specs.Tree.{FileTree}
 use Rattle.tree_laws.specs.WellFormed.{IsNew}
-use Rattle.shape_laws.proofs.Nodes.{shaped, found}
+use Rattle.tree_laws.proofs.ShapeNodes.{shaped, found}
 use Rattle.sector_bytes.specs.Sectors.{Sectors}
 use Rattle.disk_definitions.specs.Naming.{Naming}
 use Rattle.disk_definitions.specs.Standing.{IsMetadata}
@@ -34,7 +34,7 @@ use Rattle.line_laws.proofs.Stopping.{stops_well, resolved_well}
 use Rattle.line_laws.proofs.Telling.{Apart, Dates}
 use Rattle.line_laws.specs.Ready.{IsClearOn}
 use Rattle.line_laws.proofs.Readiness.{lines_may_be_made}
-use Rattle.line_commits.specs.LinePlans.{store_on}
+use Rattle.line_histories.specs.LinePlans.{store_on}
 use Rattle.line_histories.specs.Standing.{StandsForShape}
 use Rattle.line_histories.proofs.Disks.{blank_of}
 

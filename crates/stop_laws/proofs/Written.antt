@@ -18,13 +18,13 @@ use Rattle.disk_definitions.specs.Edits.Edit.{SetInode, SetBit, SetUse, SetPlace
 use Rattle.disk_definitions.specs.Ask.{Sector, InodeAt, DirectoryAt, SegmentAt, BytesAt, LargeAt, number_of}
 use Rattle.disk_definitions.specs.FitEdits.{AreFit}
 use Rattle.disk_definitions.specs.Written.{byte_write, byte_writes, edit_sector, freed_sectors, is_metadata}
-use Rattle.plan_records.proofs.Kept.{in_small, in_large}
-use Rattle.line_commits.specs.LinePlans.{fill_by}
-use Rattle.line_commits.specs.Outcomes.{fill_shape}
+use Rattle.plan_fit.proofs.Kept.{in_small, in_large}
+use Rattle.line_histories.specs.LinePlans.{fill_by}
+use Rattle.line_histories.specs.Outcomes.{fill_shape}
 use Rattle.plan_laws.proofs.Covering.{has_head, has_more}
-use Rattle.line_commits.proofs.Apart.{one_fit}
-use Rattle.line_commits.proofs.Lists.{has_filter}
-use Rattle.line_fills.specs.Files.{IsWritten}
+use Rattle.line_histories.proofs.Apart.{one_fit}
+use Rattle.line_histories.proofs.Lists.{has_filter}
+use Rattle.line_histories.specs.Files.{IsWritten}
 use Rattle.line_histories.proofs.Filled.{IsInUse}
 
 -- with bytes or without, there is a fill or none

@@ -17,12 +17,12 @@ use Rattle.sector_world.specs.Trees.{Distinct, tree_of}
 use Rattle.disk_definitions.specs.Naming.{Naming}
 use Rattle.disk_definitions.specs.Ask.{Sector, number_of}
 use Rattle.disk_definitions.specs.Meets.{IsOfTree}
-use Rattle.line_commits.specs.LinePlans.{sector_plan, without_bytes}
+use Rattle.line_histories.specs.LinePlans.{sector_plan, without_bytes}
 use Rattle.line_histories.specs.Following.{Follows, store_after}
 use Rattle.line_histories.specs.Standing.{StandsNumbered}
 use Rattle.line_histories.specs.Trees.{AreTimes, MayNumber, performed}
 use Rattle.byte_doubts.specs.Deeds.{Deed, Does, Says, Doubts, items, steps, tree_after}
-use Rattle.line_fills.specs.Parts.{LiesIn}
+use Rattle.line_histories.specs.Parts.{LiesIn}
 
 -- after a history a part of the file of this birth lies in the sector with this number, by a naming of what the sectors with versions say
 pub record LiesAfter (segments : ℕ) (opening : ℕ → Block) (first_tree : FileTree) (birth part number : ℕ) (deeds : List Deed) : Type 0 where

@@ -8,7 +8,7 @@ use Rattle.sector_world.specs.Planned.{IsLegal}
 use Rattle.sector_world.specs.Trees.{Distinct}
 use Rattle.sector_world.specs.World.{World}
 use Rattle.sector_world.specs.World.Phase.{Off}
-use Rattle.line_commits.specs.LinePlans.{sector_plan}
+use Rattle.line_histories.specs.LinePlans.{sector_plan}
 use Rattle.line_histories.specs.Standing.{StandsNumbered}
 use Rattle.line_histories.specs.Trees.{AreTimes, MayNumber}
 use Rattle.stop_laws.specs.Happened.{Happening, on_sectors}

@@ -21,7 +21,7 @@ use Rattle.disk_definitions.specs.Plans.{Finish}
 use Rattle.disk_definitions.specs.Plans.Plan.{Finishes}
 use Rattle.line_laws.specs.Stores.{with_bytes}
 use Rattle.disk_definitions.specs.Lines.{plan_of_line}
-use Rattle.line_commits.specs.LinePlans.{byte_shown, hand_on, sector_plan}
+use Rattle.line_histories.specs.LinePlans.{byte_shown, hand_on, sector_plan}
 use Rattle.line_histories.specs.Following.{store_after}
 use Rattle.line_histories.specs.Trees.{MayNumber}
 use Rattle.byte_trees.specs.Cells.{Covers}

@@ -19,7 +19,7 @@ use Rattle.disk_definitions.specs.Naming.{Naming}
 use Rattle.disk_definitions.specs.Standing.{StandsFor}
 use Rattle.disk_definitions.specs.Store.{store_of}
 use Rattle.disk_definitions.specs.Meets.{IsOfTree}
-use Rattle.line_commits.specs.LinePlans.{sector_plan}
+use Rattle.line_histories.specs.LinePlans.{sector_plan}
 use Rattle.line_histories.specs.Following.{Follows, store_after}
 use Rattle.line_histories.specs.Standing.{StandsNumbered}
 use Rattle.line_histories.specs.Trees.{AreTimes, MayNumber}

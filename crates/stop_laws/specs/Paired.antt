@@ -10,7 +10,7 @@ use Rattle.sector_histories.specs.Histories.{Commit, Each, Item, Done, Doubt, Op
 use Rattle.sector_histories.specs.Plans.{Legal}
 use Rattle.sector_histories.specs.Seen.{Unsynced}
 use Rattle.sector_world.specs.Trees.{Distinct}
-use Rattle.line_commits.specs.LinePlans.{sector_plan, without_bytes}
+use Rattle.line_histories.specs.LinePlans.{sector_plan, without_bytes}
 use Rattle.line_histories.specs.Trees.{MayNumber}
 use Rattle.byte_doubts.specs.Deeds.{Deed, Does, Says, Doubts}
 use Rattle.stop_laws.specs.Happened.{Happening, Acts, Speaks, Mounts, Covers, Recovers, on_sectors}

@@ -13,7 +13,7 @@ use Rattle.disk_definitions.specs.Ask.{run}
 use Rattle.disk_definitions.specs.Plans.{Finish}
 use Rattle.disk_definitions.specs.Plans.Plan.{Finishes}
 use Rattle.disk_definitions.specs.Lines.{plan_of_line}
-use Rattle.line_commits.specs.LinePlans.{hand_on, sector_plan, store_on}
+use Rattle.line_histories.specs.LinePlans.{hand_on, sector_plan, store_on}
 use Rattle.byte_doubts.specs.Deeds.{Deed, Does, Says, Doubts, items}
 use Rattle.stop_laws.specs.Happened.{Happening, Acts, Speaks, Mounts, Covers, Recovers, on_sectors, settle}
 use Rattle.stop_laws.specs.Paired.{ArePaired}

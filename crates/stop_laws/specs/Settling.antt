@@ -13,7 +13,7 @@ use Rattle.sector_world.specs.Planned.{IsLegal}
 use Rattle.sector_world.specs.Trees.{Distinct}
 use Rattle.sector_world.specs.World.{World, Phase}
 use Rattle.sector_world.specs.World.Phase.{Off, Up, Dead}
-use Rattle.line_commits.specs.LinePlans.{sector_plan}
+use Rattle.line_histories.specs.LinePlans.{sector_plan}
 use Rattle.line_histories.specs.Standing.{StandsNumbered}
 use Rattle.line_histories.specs.Trees.{AreTimes, MayNumber}
 use Rattle.byte_doubts.specs.Deeds.{Deed, Does, items, steps, tree_after}

@@ -11,7 +11,7 @@ use Rattle.sector_histories.specs.Histories.Item.{Done, Doubt}
 use Rattle.sector_histories.specs.Plans.{IsByPlan, Legal}
 use Rattle.sector_histories.specs.Seen.{Kept, Unmet, Unseen, cover_of}
 use Rattle.sector_world.specs.Trees.{Distinct}
-use Rattle.line_commits.specs.LinePlans.{sector_plan}
+use Rattle.line_histories.specs.LinePlans.{sector_plan}
 use Rattle.line_histories.specs.Following.{Follows}
 use Rattle.line_histories.specs.Standing.{StandsNumbered}
 use Rattle.line_histories.specs.Trees.{AreTimes, MayNumber}

@@ -11,3 +11,9 @@ pub mod Counts
 pub mod Removing
 pub mod Whole
 pub mod Rooms
+pub mod Seeing
+pub mod Syncing
+pub mod Leaving
+pub mod Recording
+pub mod Acting
+pub mod Keeping

@@ -1,6 +1,0 @@
--- Line by line.
-use Rattle.core_answers.proofs.Reading.{read_numbers}
-use Rattle.core_answers.proofs.read_scripts_have_own_numbers.Goals as goal
-
-pub returns : goal.returns
-returns c = read_numbers

@@ -1,4 +1,0 @@
-pub mod Opening
-pub mod Stays
-pub mod Parts
-pub mod Cleared

@@ -1,8 +1,0 @@
-mod Called
-mod Due
-mod Owed
-mod Dooms
-mod Paying
-mod Along
-mod Overs
-mod Ending

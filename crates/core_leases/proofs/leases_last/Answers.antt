@@ -1,6 +1,0 @@
--- Event by event.
-use Rattle.core_leases.proofs.Leases.{expiry_ends, expiry_lasts}
-use Rattle.core_leases.proofs.leases_last.Goals as goal
-
-pub returns : goal.returns
-returns c = record { last = expiry_lasts; end = expiry_ends }

@@ -1,6 +1,0 @@
--- Event by event.
-use Rattle.core_leases.proofs.Leases.{stamp_ends, stamp_in_time, stamp_lasts}
-use Rattle.core_leases.proofs.writes_last.Goals as goal
-
-pub returns : goal.returns
-returns c = record { last = stamp_lasts; timely = stamp_in_time; end = stamp_ends }

@@ -1,8 +1,0 @@
-mod Sorting
-mod Stages
-mod Servers
-mod Keeping
-mod Blocks
-mod Rows
-mod Ticks
-mod EventKeys

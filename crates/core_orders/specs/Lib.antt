@@ -1,2 +1,0 @@
-pub mod EventOrder
-pub mod Orders

@@ -1,6 +1,0 @@
--- By the walks of the line, and by operations.
-use Rattle.cover_laws.proofs.LinesTold.{lines_are_told}
-use Rattle.cover_laws.proofs.lines_look_at_what_they_were_told_of.Goals as goal
-
-pub returns : goal.returns
-returns c = record { told = lines_are_told }

@@ -1,4 +1,0 @@
-pub mod Seeing
-pub mod Syncing
-pub mod Leaving
-pub mod Recording

@@ -1,7 +1,0 @@
--- Sector by sector.
-use Rattle.line_commits.proofs.Done.{line_done_is_made}
-use Rattle.line_commits.proofs.Places.{lines_write_in_place as in_place}
-use Rattle.line_commits.proofs.lines_write_in_place.Goals as goal
-
-pub returns : goal.returns
-returns c = record { place = in_place; made = line_done_is_made }

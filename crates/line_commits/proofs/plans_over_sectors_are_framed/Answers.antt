@@ -1,6 +1,0 @@
--- By what it looks at.
-use Rattle.line_commits.proofs.Framed.{sound_framed, lines_framed}
-use Rattle.line_commits.proofs.plans_over_sectors_are_framed.Goals as goal
-
-pub returns : goal.returns
-returns c = record { framed = sound_framed; lines = lines_framed }

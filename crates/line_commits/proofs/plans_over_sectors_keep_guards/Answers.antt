@@ -1,6 +1,0 @@
--- By its locks.
-use Rattle.line_commits.proofs.Guarded.{sound_guarded, lines_guarded}
-use Rattle.line_commits.proofs.plans_over_sectors_keep_guards.Goals as goal
-
-pub returns : goal.returns
-returns c = record { kept = sound_guarded; lines = lines_guarded }

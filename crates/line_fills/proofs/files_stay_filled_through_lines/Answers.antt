@@ -1,6 +1,0 @@
--- By the edits of each plan.
-use Rattle.line_fills.proofs.Filled.{lines_leave_filled}
-use Rattle.line_fills.proofs.files_stay_filled_through_lines.Goals as goal
-
-pub returns : goal.returns
-returns c = record { filled = lines_leave_filled }

@@ -1,6 +1,0 @@
--- Outcome by outcome.
-use Rattle.line_fills.proofs.Laws.{lines_keep_or_write}
-use Rattle.line_fills.proofs.lines_keep_or_write_sectors_of_files.Goals as goal
-
-pub returns : goal.returns
-returns c = record { sectors = lines_keep_or_write }

@@ -1,6 +1,0 @@
--- Outcome by outcome.
-use Rattle.line_fills.proofs.Laws.{lines_write_pieces}
-use Rattle.line_fills.proofs.lines_write_pieces.Goals as goal
-
-pub returns : goal.returns
-returns c = record { pieces = lines_write_pieces }

@@ -1,6 +1,0 @@
--- Outcome by outcome.
-use Rattle.line_fills.proofs.PartLaws.{lines_meet_parts}
-use Rattle.line_fills.proofs.lines_write_what_they_meet.Goals as goal
-
-pub returns : goal.returns
-returns c = record { meets = lines_meet_parts }

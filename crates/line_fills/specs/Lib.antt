@@ -1,4 +1,0 @@
-pub mod Files
-pub mod Sectors
-pub mod Looked
-pub mod Parts

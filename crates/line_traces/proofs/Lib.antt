@@ -1,4 +1,0 @@
-pub mod Looked
-pub mod AtHand
-pub mod Lines
-mod TraceExamples

@@ -1,6 +1,0 @@
-pub mod Blocks
-pub mod Sectors
-pub mod Stored
-pub mod Picture
-pub mod Standing
-pub mod Asked

@@ -1,6 +1,0 @@
--- By names from the root.
-use Rattle.plan_nodes.proofs.Told.{namings_agree}
-use Rattle.plan_nodes.proofs.a_disk_tells_the_inodes_of_its_nodes.Goals as goal
-
-pub returns : goal.returns
-returns c = record { agree = namings_agree }

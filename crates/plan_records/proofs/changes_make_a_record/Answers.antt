@@ -1,6 +1,0 @@
--- By the lemmas over plain variables.
-use Rattle.plan_records.proofs.RecordFits.{records_fit}
-use Rattle.plan_records.proofs.changes_make_a_record.Goals as goal
-
-pub returns : goal.returns
-returns c = record { fit = records_fit }

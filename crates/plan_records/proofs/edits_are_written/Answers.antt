@@ -1,9 +1,0 @@
--- By the lemmas over plain variables.
-use Rattle.plan_records.proofs.EditLaws.{each, all}
-use Rattle.plan_records.proofs.edits_are_written.Goals as goal
-
-pub returns-clause-each : goal.returns-clause-each
-returns-clause-each c = each
-
-pub returns-clause-all : goal.returns-clause-all
-returns-clause-all c = all

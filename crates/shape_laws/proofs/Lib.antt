@@ -1,9 +1,0 @@
-pub mod Nodes
-pub mod Places
-pub mod Changes
-pub mod Outcomes
-pub mod Names
-pub mod Files
-pub mod Applying
-pub mod Resolving
-pub mod Keeping
