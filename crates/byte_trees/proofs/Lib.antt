@@ -4,3 +4,6 @@ pub mod After
 pub mod Filling
 pub mod Whole
 pub mod Written
+pub mod Touching
+pub mod Lasting
+pub mod Back

@@ -2,3 +2,9 @@ pub mod Cells
 pub mod Sharp
 pub mod Standing
 pub mod Written
+pub mod Deeds
+pub mod Doubts
+pub mod Before
+pub mod Telling
+pub mod DoubtExamples
+pub mod Large

@@ -19,9 +19,9 @@ use Rattle.plan_laws.proofs.Deciding.{meets_where}
 use Rattle.plan_laws.proofs.AllInside.{all_inside}
 use Rattle.dir_lookup.specs.Reading.{numbered}
 use Rattle.dir_lookup.specs.Planned.{planned}
-use Rattle.plan_space.specs.Wants.{Wants, wants}
-use Rattle.plan_space.specs.Exact.{FindsNothing}
-use Rattle.plan_space.proofs.AllPlans.{lacks_exactly, clears_exactly}
+use Rattle.plan_laws.specs.Wants.{Wants, wants}
+use Rattle.plan_laws.specs.Exact.{FindsNothing}
+use Rattle.plan_laws.proofs.AllPlans.{lacks_exactly, clears_exactly}
 use Rattle.line_laws.proofs.OfDisk.{of_tree, is_hand}
 use Rattle.line_laws.proofs.Zeroed.{zero_places}
 use Rattle.line_laws.proofs.AtHand.{agrees}

@@ -27,8 +27,8 @@ use Rattle.dir_lookup.specs.Planned.{planned}
 use Rattle.disk_definitions.specs.Allowed.{IsAllowed}
 use Rattle.disk_definitions.specs.OnDisk.{AreOfDisk, StandsBelow, MakeARecord}
 use Rattle.line_laws.specs.Laws.{HasPath}
-use Rattle.plan_space.specs.Wants.{Wants, wants}
-use Rattle.plan_space.specs.Exact.{FindsNothing}
+use Rattle.plan_laws.specs.Wants.{Wants, wants}
+use Rattle.plan_laws.specs.Exact.{FindsNothing}
 
 -- a sector with its bytes, by the sector's number
 abbrev pub write_of : CodeSector × List ℕ → ℕ × List ℕ

@@ -3,3 +3,5 @@ pub mod Exactly
 pub mod Once
 pub mod Found
 pub mod Sectors
+pub mod AtHand
+pub mod Searching

@@ -15,7 +15,7 @@ use Rattle.tree_definitions.specs.Perform.{perform}
 use Rattle.tree_laws.proofs.Pairs.{birth_exact, self}
 use Rattle.tree_laws.proofs.ShapeNodes.{shaped, found}
 use Rattle.sector_bytes.specs.Sectors.{Sectors}
-use Rattle.sector_histories.specs.Plans.{Outcome}
+use Rattle.sector_world.specs.Plans.{Outcome}
 use Rattle.disk_definitions.specs.Store.{segment_at}
 use Rattle.disk_definitions.proofs.Free.{a_some}
 use Rattle.disk_definitions.specs.Held.{bitmap_of, state_in}

@@ -11,13 +11,13 @@ use Rattle.sector_bytes.specs.Blocks.{Block}
 use Rattle.sector_bytes.specs.SectorMaps.{value_at}
 use Rattle.sector_bytes.specs.Replays.{change_at, forced}
 use Rattle.sector_bytes.specs.Sectors.{Sectors}
-use Rattle.sector_histories.specs.Bytes.{is_free, is_free_by}
-use Rattle.sector_histories.specs.Histories.{Fill, Commit, Item, logical, settled, survives, kept, Each}
-use Rattle.sector_histories.specs.Histories.Fill.{Written, Freed}
-use Rattle.sector_histories.specs.Histories.Item.{Done, Doubt}
-use Rattle.sector_histories.specs.Plans.{Outcome, outcome_of, Legal, IsByPlan}
-use Rattle.sector_histories.specs.Seen as seen
-use Rattle.sector_histories.proofs.Histories.{each_kept}
+use Rattle.sector_world.specs.HistoryBytes.{is_free, is_free_by}
+use Rattle.sector_world.specs.Histories.{Fill, Commit, Item, logical, settled, survives, kept, Each}
+use Rattle.sector_world.specs.Histories.Fill.{Written, Freed}
+use Rattle.sector_world.specs.Histories.Item.{Done, Doubt}
+use Rattle.sector_world.specs.Plans.{Outcome, outcome_of, Legal, IsByPlan}
+use Rattle.sector_world.specs.Seen as seen
+use Rattle.sector_world.proofs.Histories.{each_kept}
 use Rattle.disk_definitions.specs.declared.region.Region.{Region}
 use Rattle.disk_definitions.specs.declared.region.Region.TheVariants as region
 use Rattle.disk_definitions.specs.Regions.{sector_of, region_of, is_in_range}

@@ -12,7 +12,7 @@ use Rattle.frang_base.proofs.Basics.{of_ge}
 use Rattle.sector_bytes.specs.Blocks.{Block}
 use Rattle.sector_bytes.specs.Replays.{change_at}
 use Rattle.sector_bytes.specs.Sectors.{Sectors}
-use Rattle.sector_histories.specs.Plans.{Outcome, looks as touched}
+use Rattle.sector_world.specs.Plans.{Outcome, looks as touched}
 use Rattle.disk_definitions.specs.declared.region.Region.TheVariants as region
 use Rattle.disk_definitions.specs.Bitmaps.{bitmap_in}
 use Rattle.disk_definitions.specs.Directories.{directory_in}

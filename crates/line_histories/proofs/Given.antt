@@ -9,7 +9,7 @@ use Rattle.frang_base.specs.Functions.{member}
 use Rattle.frang_base.proofs.Basics.{eq_of}
 use Rattle.sector_bytes.specs.SectorMaps.{value_at}
 use Rattle.sector_bytes.proofs.MapLaws.{found}
-use Rattle.sector_histories.specs.Histories.Fill.{Written, Freed}
+use Rattle.sector_world.specs.Histories.Fill.{Written, Freed}
 use Rattle.disk_definitions.specs.declared.region.Region.TheVariants as region
 use Rattle.disk_definitions.specs.Regions.{sector_of}
 use Rattle.tree_definitions.specs.Numbers.{below}

@@ -16,9 +16,9 @@ use Rattle.sector_bytes.specs.Blocks.{Block}
 use Rattle.sector_bytes.specs.Replays.{change_at}
 use Rattle.sector_bytes.specs.SectorMaps.{value_at}
 use Rattle.sector_bytes.specs.Sectors.{Sectors}
-use Rattle.sector_histories.specs.Histories.{Fill}
-use Rattle.sector_histories.specs.Histories.Fill.{Written, Freed}
-use Rattle.sector_histories.specs.Plans.{Outcome, looks as touched}
+use Rattle.sector_world.specs.Histories.{Fill}
+use Rattle.sector_world.specs.Histories.Fill.{Written, Freed}
+use Rattle.sector_world.specs.Plans.{Outcome, looks as touched}
 use Rattle.disk_definitions.specs.declared.region.Region.{Region}
 use Rattle.disk_definitions.specs.declared.region.Region.TheVariants as region
 use Rattle.disk_definitions.specs.Regions.{region_of, sector_of}

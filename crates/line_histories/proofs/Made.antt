@@ -10,9 +10,9 @@ use Rattle.frang_base.proofs.Basics.{of_ge, of_eq, eq_of}
 use Rattle.sector_bytes.specs.Blocks.{Block}
 use Rattle.sector_bytes.specs.SectorMaps.{value_at}
 use Rattle.sector_bytes.specs.Sectors.{Sectors}
-use Rattle.sector_histories.specs.Histories.{Fill}
-use Rattle.sector_histories.specs.Histories.Fill.{Written, Freed}
-use Rattle.sector_histories.specs.Plans.{made_of}
+use Rattle.sector_world.specs.Histories.{Fill}
+use Rattle.sector_world.specs.Histories.Fill.{Written, Freed}
+use Rattle.sector_world.specs.Plans.{made_of}
 use Rattle.disk_definitions.specs.declared.region.Region.TheVariants as region
 use Rattle.disk_definitions.specs.Regions.{sector_of}
 use Rattle.tree_definitions.specs.Tree.{FileTree}

@@ -20,7 +20,7 @@ use Rattle.tree_laws.proofs.ShapeResolving.{perform_shape}
 use Rattle.sector_bytes.specs.Replays.{change_at, forced}
 use Rattle.sector_bytes.specs.Sectors.{Sectors}
 use Rattle.disk_definitions.specs.declared.param.Param.{Param}
-use Rattle.sector_histories.specs.Plans.{Outcome}
+use Rattle.sector_world.specs.Plans.{Outcome}
 use Rattle.sector_world.specs.Trees.{Applied as Told, Meets}
 use Rattle.disk_definitions.specs.Allowed.{IsAllowed}
 use Rattle.disk_definitions.specs.Ask.{run}

@@ -11,7 +11,7 @@ use Rattle.frang_base.proofs.Basics.{of_eq}
 use Rattle.sector_bytes.specs.Blocks.{Block}
 use Rattle.sector_bytes.specs.Replays.{change_at}
 use Rattle.sector_bytes.specs.Sectors.{Sectors}
-use Rattle.sector_histories.specs.Plans.{Outcome}
+use Rattle.sector_world.specs.Plans.{Outcome}
 use Rattle.disk_definitions.specs.declared.region.Region.TheVariants as region
 use Rattle.disk_definitions.specs.Regions.{sector_of}
 use Rattle.disk_definitions.proofs.RegionLaws.{region_found}

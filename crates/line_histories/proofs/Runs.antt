@@ -2,9 +2,9 @@
 use Rattle.std.proofs.Common.{ℕ, ◌≡◌, ◌≢◌, List, [], ◌∷◌, refl, sym, ◌∙◌, ap, subst}
 use Rattle.tree_definitions.specs.Tree.{FileTree}
 use Rattle.sector_bytes.specs.Blocks.{Block}
-use Rattle.sector_histories.specs.Histories.{Item, logical, settled, Each}
-use Rattle.sector_histories.specs.Histories.Item.{Done, Doubt}
-use Rattle.sector_histories.specs.Plans.{outcome_of, Legal}
+use Rattle.sector_world.specs.Histories.{Item, logical, settled, Each}
+use Rattle.sector_world.specs.Histories.Item.{Done, Doubt}
+use Rattle.sector_world.specs.Plans.{outcome_of, Legal}
 use Rattle.sector_world.specs.World.{World, start}
 use Rattle.sector_world.specs.Kinds.{Good}
 use Rattle.sector_world.specs.Claims.{left, replayed}

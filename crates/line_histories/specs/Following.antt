@@ -4,9 +4,9 @@ use Rattle.std.specs.Prelude.{ℕ, ◌≡◌, Bool, true, false, Option, Some, L
 use Rattle.frang_base.specs.declared.lock.LockId.{LockId}
 use Rattle.tree_definitions.specs.Tree.{FileTree}
 use Rattle.sector_bytes.specs.Blocks.{Block}
-use Rattle.sector_histories.specs.Bytes.{is_free}
-use Rattle.sector_histories.specs.Histories.{Item, logical, is_logged}
-use Rattle.sector_histories.specs.Seen as seen
+use Rattle.sector_world.specs.HistoryBytes.{is_free}
+use Rattle.sector_world.specs.Histories.{Item, logical, is_logged}
+use Rattle.sector_world.specs.Seen as seen
 use Rattle.disk_definitions.specs.Naming.{Naming}
 use Rattle.disk_definitions.specs.Store.{Store}
 use Rattle.disk_definitions.specs.Store.Use.{Fresh}

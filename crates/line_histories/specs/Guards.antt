@@ -9,7 +9,7 @@ use Rattle.frang_base.specs.Functions.{member}
 use Rattle.sector_bytes.specs.Blocks.{zero_block}
 use Rattle.sector_bytes.specs.Replays.{change_at}
 use Rattle.sector_bytes.specs.Sectors.{Sectors}
-use Rattle.sector_histories.specs.Plans.{Outcome, IsFramed, looks}
+use Rattle.sector_world.specs.Plans.{Outcome, IsFramed, looks}
 use Rattle.disk_definitions.specs.declared.region.Region.TheVariants as region
 use Rattle.disk_definitions.specs.Regions.{sector_of}
 use Rattle.tree_definitions.specs.Tree.{FileTree}

@@ -5,8 +5,8 @@ use Rattle.frang_base.specs.declared.op.Op.{Op}
 use Rattle.tree_definitions.specs.Numbers.{below}
 use Rattle.tree_definitions.specs.Tree.{FileTree}
 use Rattle.sector_bytes.specs.Blocks.{Block}
-use Rattle.sector_histories.specs.Histories.{Item, logical, settled, Each}
-use Rattle.sector_histories.specs.Plans.{Outcome, Legal, IsByPlan}
+use Rattle.sector_world.specs.Histories.{Item, logical, settled, Each}
+use Rattle.sector_world.specs.Plans.{Outcome, Legal, IsByPlan}
 use Rattle.sector_world.specs.World.{World, start}
 use Rattle.sector_world.specs.Steps.{Event, Run}
 use Rattle.sector_world.specs.Claims.{left}

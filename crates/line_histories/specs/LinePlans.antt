@@ -17,10 +17,10 @@ use Rattle.frang_base.specs.Name.{is_name, is_target}
 use Rattle.sector_bytes.specs.Blocks.{Block}
 use Rattle.sector_bytes.specs.SectorMaps.{value_at}
 use Rattle.sector_bytes.specs.Sectors.{Sectors}
-use Rattle.sector_histories.specs.Histories.{Fill}
-use Rattle.sector_histories.specs.Histories.Fill.{Written, Freed}
-use Rattle.sector_histories.specs.Plans.{Outcome}
-use Rattle.sector_histories.specs.Plans as histories
+use Rattle.sector_world.specs.Histories.{Fill}
+use Rattle.sector_world.specs.Histories.Fill.{Written, Freed}
+use Rattle.sector_world.specs.Plans.{Outcome}
+use Rattle.sector_world.specs.Plans as histories
 use Rattle.tree_definitions.specs.Numbers.{below}
 use Rattle.disk_definitions.specs.Store.{Store, Use, store_of, segment_at}
 use Rattle.disk_definitions.specs.Held.{Segments, bitmap_of, state_in}

@@ -3,9 +3,9 @@ use Rattle.std.specs.Prelude.{ℕ, ◌≡◌, ◌↔◌, true, Option, Some, Non
 use Rattle.frang_base.specs.declared.op.Op.{Op}
 use Rattle.sector_bytes.specs.Blocks.{Block}
 use Rattle.sector_bytes.specs.Sectors.{Sectors}
-use Rattle.sector_histories.specs.Histories.{Fill}
-use Rattle.sector_histories.specs.Histories.Fill.{Written, Freed}
-use Rattle.sector_histories.specs.Plans.{Outcome, made_of}
+use Rattle.sector_world.specs.Histories.{Fill}
+use Rattle.sector_world.specs.Histories.Fill.{Written, Freed}
+use Rattle.sector_world.specs.Plans.{Outcome, made_of}
 use Rattle.disk_definitions.specs.Allowed.{IsAllowed}
 use Rattle.disk_definitions.specs.Ask.{Ask, run, looks}
 use Rattle.disk_definitions.specs.Plans.{Plan, Finish}

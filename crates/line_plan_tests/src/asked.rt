@@ -3,7 +3,7 @@ ghost use Rattle.std.specs.Prelude.{IfOk};
 ghost use Rattle.line_plan.specs.Lines.{TargetFits};
 
 use crate::needed::locks_told;
-use cover_lookup::cover_of;
+use edit_moves::cover_of;
 use dir_lookup::{Hand, Looked};
 use edit_moves::{Move, Thing, moves_of};
 use frang_base::{Line, NoMemory, Op, Script, Sector, ServerId, Text, What};

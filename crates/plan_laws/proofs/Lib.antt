@@ -92,3 +92,11 @@ pub mod AllSound
 pub mod Owned
 pub mod Filled
 pub mod Laws
+pub mod Outcomes
+pub mod Rooms
+pub mod Plain
+pub mod SpaceMaking
+pub mod SpaceLinking
+pub mod SpaceMoving
+pub mod SpaceWriting
+pub mod AllPlans

@@ -13,3 +13,5 @@ pub mod CoversAtHand
 pub mod Moves
 pub mod Numbered
 pub mod Plans
+pub mod Wants
+pub mod Exact

@@ -7,6 +7,7 @@
 //! - **Traces**: what a plan looked at, in order, beside what it comes to with some sectors at hand.
 //! - **Covers**: the locks of a plan cover what it looks at, what it edits, and the nodes that it touches and changes.
 //! - **Moves**: by a plan's edits alone, which lock covers each sector after them.
+//! - **Space**: where a plan lacks segments, wants a block cleared, or has no space.
 //!
 //! Each law is the contract of a public function with an empty body. The crates that plan over cached sectors, and the laws of lines and histories,
 //! rest on them and cite the lemmas of `proofs/`. They stand on the definitions of disks and plans, and on the laws of trees.
@@ -16,6 +17,7 @@ mod covers;
 mod looks;
 mod meeting;
 mod moves;
+mod space;
 mod tracing;
 
 pub use covers::{
@@ -33,6 +35,7 @@ pub use moves::{
     bytes_are_owned, covers_follow_the_moves, directories_stay, moves_are_owned,
     plans_move_what_they_take_and_free,
 };
+pub use space::plans_take_exactly_what_is_there;
 pub use tracing::{
     a_trace_goes_on_as_the_computation_does, a_trace_is_of_the_looks_before_the_first_missing_one,
 };

@@ -8,7 +8,7 @@ ghost use Rattle.plan_steps.specs.Edits.{edit_of, edits_of};
 ghost use Rattle.line_locks.specs.Found.{edit_locks, edit_locks_of, full_locks, owns_at_hand};
 
 use crate::set::LockSet;
-use cover_lookup::owns_small;
+use edit_moves::owns_small;
 use frang_base::limits::{SEGMENT_BLOCKS, SEGMENT_INODES};
 use frang_base::{Held, LockId, Mode, NoMemory, Reply};
 use meta_version::Sectors;

@@ -4,7 +4,7 @@ use frang_base::{
     Line, Name, NameList, NoMemory, Op, OpNo, Patch, Patches, Path, Reply, Said, Script, ServerId,
     Text, What,
 };
-use history_reading::{History, has_times};
+use tree_model::{History, has_times};
 use reply_text::write_line;
 use std::alloc::Global;
 use std::test::Fail;

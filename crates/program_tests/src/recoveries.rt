@@ -1,7 +1,7 @@
 // Histories with recoveries, and the trees that they leave, worked out by hand.
 use file_tree::Tree;
 use frang_base::{NoMemory, Said};
-use history_reading::{History, has_times};
+use tree_model::{History, has_times};
 use reply_text::{read_line, write_line};
 use script_lang::read_script;
 use std::alloc::Global;

@@ -12,3 +12,5 @@ pub mod Ending
 pub mod ReadingBack
 pub mod GoodLogs
 pub mod RingExamples
+pub mod ReplayLaws
+pub mod SealingLaws

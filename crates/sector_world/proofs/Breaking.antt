@@ -4,8 +4,8 @@ use Rattle.frang_base.specs.declared.lock.Mode.TheVariants.{Sole}
 use Rattle.sector_bytes.specs.Blocks.{Block, version_of}
 use Rattle.sector_bytes.specs.Replays.{redo_all}
 use Rattle.frang_base.specs.Functions.{put}
-use Rattle.sector_histories.specs.Histories.{settled}
-use Rattle.sector_histories.specs.OnDisk.{OnDisk}
+use Rattle.sector_world.specs.Histories.{settled}
+use Rattle.sector_world.specs.OnDisk.{OnDisk}
 use Rattle.frang_base.proofs.Basics.{by_test, ne_of, at_put, put_other}
 use Rattle.sector_world.specs.World.{World, Phase, Slot, Flight, Rescue, cover}
 use Rattle.sector_world.specs.World.Phase.{Off, Up, Dead}

@@ -5,14 +5,14 @@ use Rattle.frang_base.specs.declared.lock.Mode.{Mode}
 use Rattle.frang_base.specs.declared.lock.Mode.TheVariants.{Sole}
 use Rattle.sector_bytes.specs.Blocks.{Block, zero_block}
 use Rattle.frang_base.specs.Functions.{put}
-use Rattle.sector_histories.specs.Histories.{Fill, Commit, Item, doubt_step, in_doubt, settled, Writes, reaches, is_logged}
-use Rattle.sector_histories.specs.Histories.Fill.{Written, Freed}
-use Rattle.sector_histories.specs.Histories.Item.{Done}
-use Rattle.sector_histories.specs.Bytes.{filled, turned, value, is_free_by, is_free, Known, OnData}
-use Rattle.sector_histories.specs.Bytes.OnData.{here, newer}
-use Rattle.sector_histories.specs.Seen.{moved}
+use Rattle.sector_world.specs.Histories.{Fill, Commit, Item, doubt_step, in_doubt, settled, Writes, reaches, is_logged}
+use Rattle.sector_world.specs.Histories.Fill.{Written, Freed}
+use Rattle.sector_world.specs.Histories.Item.{Done}
+use Rattle.sector_world.specs.HistoryBytes.{filled, turned, value, is_free_by, is_free, Known, OnData}
+use Rattle.sector_world.specs.HistoryBytes.OnData.{here, newer}
+use Rattle.sector_world.specs.Seen.{moved}
 use Rattle.frang_base.proofs.Basics.{of_lt, of_eq, true_or, at_put, put_same, put_other}
-use Rattle.sector_histories.proofs.Bytes.{none_writes, writes_reach, data_map, data_in_place, free_before}
+use Rattle.sector_world.proofs.Bytes.{none_writes, writes_reach, data_map, data_in_place, free_before}
 use Rattle.sector_world.specs.World.{World, Phase, Page, ByteFlight, cover}
 use Rattle.sector_world.specs.World.Phase.{Off, Up, Dead}
 use Rattle.sector_world.specs.World.Page.{NoPage, CleanPage, DirtyPage, FreedPage}

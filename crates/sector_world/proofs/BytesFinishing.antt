@@ -4,16 +4,16 @@ use Rattle.frang_base.specs.declared.lock.Mode.{Mode}
 use Rattle.frang_base.specs.declared.lock.Mode.TheVariants.{Shared, Sole}
 use Rattle.sector_bytes.specs.Blocks.{Block}
 use Rattle.frang_base.specs.Functions.{put}
-use Rattle.sector_histories.specs.Histories.{Item, Entry, kept, survives, in_doubt, synced_of, recovered, settled, Each, Writes}
-use Rattle.sector_histories.specs.Histories.Entry.{Did, Recovered, Synced, Mounted}
-use Rattle.sector_histories.specs.Bytes.{is_free, Known, OnData}
-use Rattle.sector_histories.specs.Bytes.OnData.{here, marked}
-use Rattle.sector_histories.specs.Plans.{IsByPlan}
-use Rattle.sector_histories.specs.Seen.{Alters, Unsynced}
+use Rattle.sector_world.specs.Histories.{Item, Entry, kept, survives, in_doubt, synced_of, recovered, settled, Each, Writes}
+use Rattle.sector_world.specs.Histories.Entry.{Did, Recovered, Synced, Mounted}
+use Rattle.sector_world.specs.HistoryBytes.{is_free, Known, OnData}
+use Rattle.sector_world.specs.HistoryBytes.OnData.{here, marked}
+use Rattle.sector_world.specs.Plans.{IsByPlan}
+use Rattle.sector_world.specs.Seen.{Alters, Unsynced}
 use Rattle.frang_base.proofs.Basics.{by_test, eq_of, le_or_lt, at_put, put_other}
-use Rattle.sector_histories.proofs.Histories.{each_map, each_kept}
-use Rattle.sector_histories.proofs.Seen.{each_kept_with}
-use Rattle.sector_histories.proofs.Bytes.{survives_up, free_kept, known_kept, doubt_kept, finish_known, recovered_known, agree_kept, data_kept}
+use Rattle.sector_world.proofs.Histories.{each_map, each_kept}
+use Rattle.sector_world.proofs.Seen.{each_kept_with}
+use Rattle.sector_world.proofs.Bytes.{survives_up, free_kept, known_kept, doubt_kept, finish_known, recovered_known, agree_kept, data_kept}
 use Rattle.sector_world.specs.World.{World, Phase, Page, ByteFlight, Rescue, cover}
 use Rattle.sector_world.specs.World.Phase.{Off, Up, Dead}
 use Rattle.sector_world.specs.World.Page.{NoPage, CleanPage, DirtyPage, FreedPage}

@@ -5,12 +5,12 @@ use Rattle.frang_base.specs.declared.lock.Mode.TheVariants.{Sole}
 use Rattle.sector_bytes.specs.Blocks.{Block, zero_block}
 use Rattle.std.specs.Str.{bytes_eq}
 use Rattle.frang_base.specs.Functions.{put, put2}
-use Rattle.sector_histories.specs.Histories.{Commit, Item, in_doubt, settled}
-use Rattle.sector_histories.specs.Bytes.{is_free, Known, AllWritten, OnData}
-use Rattle.sector_histories.specs.Bytes.OnData.{here}
+use Rattle.sector_world.specs.Histories.{Commit, Item, in_doubt, settled}
+use Rattle.sector_world.specs.HistoryBytes.{is_free, Known, AllWritten, OnData}
+use Rattle.sector_world.specs.HistoryBytes.OnData.{here}
 use Rattle.frang_base.proofs.Basics.{by_test, le_of, or_equal, some_same, at_put, put_same, at_put2}
 use Rattle.sector_bytes.proofs.SameBytes.{same_bytes_is}
-use Rattle.sector_histories.proofs.Bytes.{data_map, data_durable}
+use Rattle.sector_world.proofs.Bytes.{data_map, data_durable}
 use Rattle.sector_world.specs.World.{World, Phase, Page, ByteFlight, cover}
 use Rattle.sector_world.specs.World.Phase.{Off, Up, Dead}
 use Rattle.sector_world.specs.World.Page.{NoPage, CleanPage, DirtyPage, FreedPage}

@@ -6,13 +6,13 @@ use Rattle.frang_base.specs.declared.lock.Mode.TheVariants.{Shared, Sole}
 use Rattle.sector_bytes.specs.Blocks.{Block}
 use Rattle.frang_base.specs.Locks.{same_lock}
 use Rattle.frang_base.specs.Functions.{put, put_lock}
-use Rattle.sector_histories.specs.Histories.{Commit, Item, in_doubt, synced_of, settled, Writes}
-use Rattle.sector_histories.specs.Bytes.{is_free, AllWritten, OnData}
-use Rattle.sector_histories.specs.Bytes.OnData.{here}
-use Rattle.sector_histories.specs.Seen.{Alters}
+use Rattle.sector_world.specs.Histories.{Commit, Item, in_doubt, synced_of, settled, Writes}
+use Rattle.sector_world.specs.HistoryBytes.{is_free, AllWritten, OnData}
+use Rattle.sector_world.specs.HistoryBytes.OnData.{here}
+use Rattle.sector_world.specs.Seen.{Alters}
 use Rattle.frang_base.proofs.Basics.{by_test, le_or_lt, true_or, lock_of, lock_same, lock_not, at_put, put_other, at_lock}
-use Rattle.sector_histories.proofs.Histories.{each_map2}
-use Rattle.sector_histories.proofs.Bytes.{data_map}
+use Rattle.sector_world.proofs.Histories.{each_map2}
+use Rattle.sector_world.proofs.Bytes.{data_map}
 use Rattle.sector_world.specs.World.{World, Phase, Page, cover}
 use Rattle.sector_world.specs.World.Phase.{Off, Up, Dead}
 use Rattle.sector_world.specs.World.Page.{NoPage, CleanPage, DirtyPage, FreedPage}

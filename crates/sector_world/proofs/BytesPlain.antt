@@ -5,10 +5,10 @@ use Rattle.frang_base.specs.declared.lock.Mode.{Mode}
 use Rattle.frang_base.specs.declared.lock.Mode.TheVariants.{Sole}
 use Rattle.sector_bytes.specs.Blocks.{Block}
 use Rattle.frang_base.specs.Functions.{put, put_lock}
-use Rattle.sector_histories.specs.Histories.{Commit, Item, in_doubt, synced_of, settled}
-use Rattle.sector_histories.specs.Bytes.{is_free, OnData}
+use Rattle.sector_world.specs.Histories.{Commit, Item, in_doubt, synced_of, settled}
+use Rattle.sector_world.specs.HistoryBytes.{is_free, OnData}
 use Rattle.frang_base.proofs.Basics.{by_test, at_put, put_other, at_lock}
-use Rattle.sector_histories.proofs.Bytes.{data_map}
+use Rattle.sector_world.proofs.Bytes.{data_map}
 use Rattle.sector_world.specs.World.{World, Phase, Page, ByteFlight, cover}
 use Rattle.sector_world.specs.World.Phase.{Off, Up, Dead}
 use Rattle.sector_world.specs.World.Page.{NoPage, CleanPage, DirtyPage, FreedPage}

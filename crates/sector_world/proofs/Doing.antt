@@ -9,15 +9,15 @@ use Rattle.sector_bytes.specs.Changes.{changed as changed_block}
 use Rattle.sector_bytes.specs.Replays.{change_at, forced, redo_all, up_to}
 use Rattle.frang_base.specs.Locks.{has_lock}
 use Rattle.frang_base.specs.Functions.{put}
-use Rattle.sector_histories.specs.Histories.{Commit, Item, redo_of, settled, logical, own, Each, Changes, reaches, Named}
-use Rattle.sector_histories.specs.Histories.Item.{Done}
-use Rattle.sector_histories.specs.OnDisk.{Raises, OnDisk}
-use Rattle.sector_histories.specs.OnDisk.OnDisk.{pending}
-use Rattle.sector_histories.specs.Seen.{moved, Alters, IsLost, SawNone}
+use Rattle.sector_world.specs.Histories.{Commit, Item, redo_of, settled, logical, own, Each, Changes, reaches, Named}
+use Rattle.sector_world.specs.Histories.Item.{Done}
+use Rattle.sector_world.specs.OnDisk.{Raises, OnDisk}
+use Rattle.sector_world.specs.OnDisk.OnDisk.{pending}
+use Rattle.sector_world.specs.Seen.{moved, Alters, IsLost, SawNone}
 use Rattle.frang_base.proofs.Basics.{of_lt, of_eq, of_ne, at_put}
 use Rattle.sector_bytes.proofs.ChangeLaws.{version-changed}
-use Rattle.sector_histories.proofs.Histories.{each_map, on_disk_map, disk_version}
-use Rattle.sector_histories.proofs.Removals.{named_keep}
+use Rattle.sector_world.proofs.Histories.{each_map, on_disk_map, disk_version}
+use Rattle.sector_world.proofs.Removals.{named_keep}
 use Rattle.sector_world.specs.World.{World, Phase, Slot, Flight, Rescue, cover}
 use Rattle.sector_world.specs.World.Phase.{Off, Up, Dead}
 use Rattle.sector_world.specs.World.Slot.{Absent, Clean, Dirty}

@@ -2,8 +2,8 @@
 use Rattle.std.proofs.Common.{true, false, le_refl, arith, ℕ, ◌≡◌, Bool, List, [], ◌∷◌, Some, None, if◌then◌else◌, refl}
 use Rattle.frang_base.specs.declared.lock.LockId.{LockId}
 use Rattle.sector_bytes.specs.Blocks.{Block, zero_block}
-use Rattle.sector_histories.specs.OnDisk.OnDisk.{in_place}
-use Rattle.sector_histories.specs.Bytes.OnData.{here}
+use Rattle.sector_world.specs.OnDisk.OnDisk.{in_place}
+use Rattle.sector_world.specs.HistoryBytes.OnData.{here}
 use Rattle.sector_world.specs.World.{World, start}
 use Rattle.sector_world.specs.Steps.{Event, Can, after, Run}
 use Rattle.sector_world.specs.Steps.Event.{Tick, Leave, Fail, Renew, Mount, Unmount, Take, Give, Lower, Do, Reach, Ack, Sync, Reclaim, Crash, Begin, Look, Finish, Fetch, Issue, Replay, Land, Fade, Break, BreakNew, FetchBytes, Clear, IssueBytes, LandBytes, FadeBytes, BreakBytes, BreakBytesNew, Settle}

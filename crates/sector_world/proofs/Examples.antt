@@ -11,9 +11,9 @@ use Rattle.sector_bytes.specs.Changes.{changed}
 use Rattle.sector_bytes.specs.Replays.{change_at}
 use Rattle.frang_base.specs.Locks.{has_lock, same_lock}
 use Rattle.frang_base.specs.Functions.{put, put_lock}
-use Rattle.sector_histories.specs.Histories.{Fill, reaches, redo_of}
-use Rattle.sector_histories.specs.Histories.Fill.{Written, Freed}
-use Rattle.sector_histories.specs.Plans.{made_of}
+use Rattle.sector_world.specs.Histories.{Fill, reaches, redo_of}
+use Rattle.sector_world.specs.Histories.Fill.{Written, Freed}
+use Rattle.sector_world.specs.Plans.{made_of}
 use Rattle.frang_base.proofs.Basics.{by_test, at_put, at_put2, at_lock, eq_of, lock_of}
 use Rattle.sector_world.specs.World.{World, Phase}
 use Rattle.sector_world.specs.World.Phase.{Off, Up, Dead}

@@ -8,14 +8,14 @@ use Rattle.frang_base.specs.declared.change.Redo.{Redo}
 use Rattle.sector_bytes.specs.Replays.{redo_all, up_to}
 use Rattle.frang_base.specs.Locks.{has_lock}
 use Rattle.frang_base.specs.Functions.{put}
-use Rattle.sector_histories.specs.Histories.{Commit, Item, kept, survives, settled, logical, own, Each, Changes, Moves, Named, IsLast}
-use Rattle.sector_histories.specs.OnDisk.{AllDurable, OnDisk}
-use Rattle.sector_histories.specs.OnDisk.OnDisk.{in_place, passed}
-use Rattle.sector_histories.specs.Seen.{Alters}
+use Rattle.sector_world.specs.Histories.{Commit, Item, kept, survives, settled, logical, own, Each, Changes, Moves, Named, IsLast}
+use Rattle.sector_world.specs.OnDisk.{AllDurable, OnDisk}
+use Rattle.sector_world.specs.OnDisk.OnDisk.{in_place, passed}
+use Rattle.sector_world.specs.Seen.{Alters}
 use Rattle.frang_base.proofs.Basics.{by_test, eq_of, le_of, le_or_lt, or_equal, at_put, put_other}
-use Rattle.sector_histories.proofs.Histories.{each_map, rising_kept, kept_logical, replayed_is, on_disk_map, on_disk_kept}
-use Rattle.sector_histories.proofs.Removals.{survives_own, survives_low, ops_kept, own_none, own_kept, all_durable_kept, last_kept}
-use Rattle.sector_histories.proofs.Seen.{unseen_kept, unmet_kept, cover_kept, each_kept_with}
+use Rattle.sector_world.proofs.Histories.{each_map, rising_kept, kept_logical, replayed_is, on_disk_map, on_disk_kept}
+use Rattle.sector_world.proofs.Removals.{survives_own, survives_low, ops_kept, own_none, own_kept, all_durable_kept, last_kept}
+use Rattle.sector_world.proofs.Seen.{unseen_kept, unmet_kept, cover_kept, each_kept_with}
 use Rattle.sector_world.specs.World.{World, Phase, Slot, Flight, Rescue, cover}
 use Rattle.sector_world.specs.World.Phase.{Off, Up, Dead}
 use Rattle.sector_world.specs.World.Slot.{Absent, Clean, Dirty}

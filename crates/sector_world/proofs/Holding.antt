@@ -4,7 +4,7 @@ use Rattle.frang_base.specs.declared.change.Change.{Change}
 use Rattle.frang_base.specs.declared.lock.Mode.{Mode}
 use Rattle.frang_base.specs.declared.lock.Mode.TheVariants.{Sole}
 use Rattle.frang_base.proofs.Basics.{by_keep, le_or_lt}
-use Rattle.sector_histories.proofs.Histories.{AtMost, each_map, each_map2, in_place_or, own_by}
+use Rattle.sector_world.proofs.Histories.{AtMost, each_map, each_map2, in_place_or, own_by}
 use Rattle.sector_world.specs.World.Phase.{Off, Up, Dead}
 use Rattle.sector_world.specs.Logged.{Pending, NoneIfOff, FlightOk}
 use Rattle.sector_world.specs.Bytes.{ByteFlightOk}
@@ -12,9 +12,9 @@ use Rattle.sector_bytes.specs.Blocks.{Block, version_of, zero_block}
 use Rattle.frang_base.specs.declared.change.Redo.{Redo}
 use Rattle.sector_bytes.specs.Replays.{change_at, redo_all, up_to}
 use Rattle.frang_base.specs.Functions.{keep_if}
-use Rattle.sector_histories.specs.Histories.{Item, settled, own, is_own, redo_of, logical, is_logged, Each, Changes}
-use Rattle.sector_histories.specs.Histories.Item.{Done, Doubt}
-use Rattle.sector_histories.specs.Bytes.{Known}
+use Rattle.sector_world.specs.Histories.{Item, settled, own, is_own, redo_of, logical, is_logged, Each, Changes}
+use Rattle.sector_world.specs.Histories.Item.{Done, Doubt}
+use Rattle.sector_world.specs.HistoryBytes.{Known}
 use Rattle.sector_world.specs.World.{World, Phase, Flight, ByteFlight, cover, has_version, block_at}
 use Rattle.sector_world.specs.Guards.{NoneNames, to_replay}
 use Rattle.sector_world.specs.Kinds.{Claimed, Good}

@@ -6,13 +6,13 @@ use Rattle.sector_bytes.specs.Blocks.{Block, version_of}
 use Rattle.std.specs.Str.{bytes_eq}
 use Rattle.sector_bytes.specs.Replays.{change_at, redo_all, up_to}
 use Rattle.frang_base.specs.Functions.{put}
-use Rattle.sector_histories.specs.Histories.{settled}
-use Rattle.sector_histories.specs.OnDisk.{OnDisk}
-use Rattle.sector_histories.specs.OnDisk.OnDisk.{in_place}
+use Rattle.sector_world.specs.Histories.{settled}
+use Rattle.sector_world.specs.OnDisk.{OnDisk}
+use Rattle.sector_world.specs.OnDisk.OnDisk.{in_place}
 use Rattle.frang_base.proofs.Basics.{by_test, eq_of, ne_of, some_same, at_put, put_same, put_other, at_put2}
 use Rattle.sector_bytes.proofs.SameBytes.{same_bytes_is, same_bytes_refl}
-use Rattle.sector_histories.proofs.Histories.{AtMost, each_map, all_skipped, on_disk_map, in_place_or}
-use Rattle.sector_histories.proofs.More.{all_settled, redo_twice}
+use Rattle.sector_world.proofs.Histories.{AtMost, each_map, all_skipped, on_disk_map, in_place_or}
+use Rattle.sector_world.proofs.More.{all_settled, redo_twice}
 use Rattle.sector_world.specs.World.{World, Phase, Slot, Flight, Told, Rescue, cover}
 use Rattle.sector_world.specs.World.Phase.{Off, Up, Dead}
 use Rattle.sector_world.specs.World.Slot.{Absent, Clean, Dirty}

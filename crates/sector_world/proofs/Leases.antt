@@ -4,11 +4,11 @@ use Rattle.frang_base.specs.declared.lock.Mode.{Mode}
 use Rattle.frang_base.specs.declared.lock.LockId.{LockId}
 use Rattle.sector_bytes.specs.Blocks.{Block}
 use Rattle.frang_base.specs.Functions.{put}
-use Rattle.sector_histories.specs.Histories.{Commit, settled}
-use Rattle.sector_histories.specs.Seen.{Unsynced}
-use Rattle.sector_histories.specs.OnDisk.{OnDisk}
+use Rattle.sector_world.specs.Histories.{Commit, settled}
+use Rattle.sector_world.specs.Seen.{Unsynced}
+use Rattle.sector_world.specs.OnDisk.{OnDisk}
 use Rattle.frang_base.proofs.Basics.{by_test, at_put, put_same, put_other, eq_of, ne_of}
-use Rattle.sector_histories.proofs.Histories.{on_disk_map}
+use Rattle.sector_world.proofs.Histories.{on_disk_map}
 use Rattle.sector_world.specs.World.{World, Phase, Slot, Flight, Rescue, cover}
 use Rattle.sector_world.specs.World.Phase.{Off, Up, Dead}
 use Rattle.sector_world.specs.World.Slot.{Absent, Clean, Dirty}

@@ -3,23 +3,23 @@ use Rattle.std.proofs.Common.{true, false, zero, suc, List, [], ◌∷◌, Bool,
 use Rattle.std.proofs.lemmas.Bool.Decides.{nat_tests}
 use Rattle.frang_base.specs.declared.lock.Mode.TheVariants.{Sole}
 use Rattle.sector_bytes.specs.Blocks.{Block}
-use Rattle.sector_histories.specs.Histories.{Commit, Item, kept, survives, in_doubt, recovered, settled, Each, Moves, Writes, reaches, OpsRise, is_logged, logical, is_left}
-use Rattle.sector_histories.specs.Histories.Item.{Done, Doubt}
-use Rattle.sector_histories.specs.Bytes.{is_free, Known, AllWritten, OnData, Agree}
-use Rattle.sector_histories.specs.Bytes.OnData.{here, newer, marked}
-use Rattle.sector_histories.specs.Seen.{Alters, Unseen}
+use Rattle.sector_world.specs.Histories.{Commit, Item, kept, survives, in_doubt, recovered, settled, Each, Moves, Writes, reaches, OpsRise, is_logged, logical, is_left}
+use Rattle.sector_world.specs.Histories.Item.{Done, Doubt}
+use Rattle.sector_world.specs.HistoryBytes.{is_free, Known, AllWritten, OnData, Agree}
+use Rattle.sector_world.specs.HistoryBytes.OnData.{here, newer, marked}
+use Rattle.sector_world.specs.Seen.{Alters, Unseen}
 use Rattle.frang_base.proofs.Basics.{by_test, of_le, of_lt, of_eq, of_ne, le_or_lt, or_equal, true_or}
-use Rattle.sector_histories.proofs.Histories.{each_map, each_kept}
-use Rattle.sector_histories.proofs.Seen.{each_kept_with, unseen_kept, clear_survives}
-use Rattle.sector_histories.proofs.Removals.{survives_low, ops_kept}
-use Rattle.sector_histories.proofs.Bytes.{survives_up, kept_id, free_kept, known_kept, known_past, known_marked, writes_reach, doubt_kept, finish_known, recovered_known, agree_kept, data_kept}
+use Rattle.sector_world.proofs.Histories.{each_map, each_kept}
+use Rattle.sector_world.proofs.Seen.{each_kept_with, unseen_kept, clear_survives}
+use Rattle.sector_world.proofs.Removals.{survives_low, ops_kept}
+use Rattle.sector_world.proofs.Bytes.{survives_up, kept_id, free_kept, known_kept, known_past, known_marked, writes_reach, doubt_kept, finish_known, recovered_known, agree_kept, data_kept}
 use Rattle.sector_world.specs.World.{World, Phase, Page, cover, has_version}
 use Rattle.sector_world.specs.World.Phase.{Off, Up, Dead}
 use Rattle.sector_world.specs.Bytes.{IsLoose, PendingBytes}
 use Rattle.sector_bytes.specs.Replays.{change_at, forced}
 use Rattle.frang_base.specs.Functions.{keep_if}
-use Rattle.sector_histories.specs.Plans.{Plan, IsFramed, IsByPlan, Legal}
-use Rattle.sector_histories.proofs.Plans.{legal_kept}
+use Rattle.sector_world.specs.Plans.{Plan, IsFramed, IsByPlan, Legal}
+use Rattle.sector_world.proofs.Plans.{legal_kept}
 use Rattle.sector_world.specs.Kinds.{Claimed, Good}
 use Rattle.sector_world.specs.Claims.{left_by, left}
 use Rattle.sector_world.proofs.Reaching.{sole_held}

@@ -1,11 +1,11 @@
 -- The history stays legal, through all removals.
 use Rattle.std.proofs.Common.{◌≡◌, ◌≢◌, List, [], ◌∷◌, refl, ◌∙◌}
 use Rattle.sector_bytes.specs.Blocks.{Block}
-use Rattle.sector_histories.specs.Histories.{Commit, settled, survives}
-use Rattle.sector_histories.specs.Histories.Item.{Done}
-use Rattle.sector_histories.specs.Plans.{Plan, outcome_of, IsFramed, Legal}
-use Rattle.sector_histories.proofs.Plans.{legal_kept}
-use Rattle.sector_histories.proofs.Seen.{clear_survives}
+use Rattle.sector_world.specs.Histories.{Commit, settled, survives}
+use Rattle.sector_world.specs.Histories.Item.{Done}
+use Rattle.sector_world.specs.Plans.{Plan, outcome_of, IsFramed, Legal}
+use Rattle.sector_world.proofs.Plans.{legal_kept}
+use Rattle.sector_world.proofs.Seen.{clear_survives}
 use Rattle.sector_world.specs.World.{World, Slot}
 use Rattle.sector_world.specs.World.Slot.{Absent, Clean, Dirty}
 use Rattle.sector_world.specs.Steps.{Event, after, Run}

@@ -23,3 +23,9 @@ pub mod Legal
 pub mod Trees
 pub mod Examples
 pub mod Quiet
+pub mod Histories
+pub mod Removals
+pub mod More
+pub mod Seen
+pub mod Plans
+pub mod Bytes

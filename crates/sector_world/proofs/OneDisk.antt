@@ -2,7 +2,7 @@
 use Rattle.std.proofs.Common.{true, false, Bool, if◌then◌else◌, ⊎_elim, le_trans, ℕ, ◌<◌, ◌≤◌, ◌≡◌, ◌⊎◌, inl, inr, None, refl, sym, ◌∙◌, ap, subst, arith}
 use Rattle.sector_bytes.specs.Blocks.{Block, version_of, zero_block}
 use Rattle.frang_base.specs.Functions.{put}
-use Rattle.sector_histories.specs.Histories.{Commit, settled, survives}
+use Rattle.sector_world.specs.Histories.{Commit, settled, survives}
 use Rattle.frang_base.proofs.Basics.{by_some, of_eq, of_ne, or_equal}
 use Rattle.sector_world.specs.World.{World, Flight, ByteFlight, Rescue, has_version, block_at}
 use Rattle.sector_world.specs.Guards.{CanLand, CanLandBytes, CanDo, CanFinish}

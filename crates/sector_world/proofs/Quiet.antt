@@ -1,8 +1,8 @@
 -- Where nothing is on the way, the disk has what was done.
 use Rattle.std.proofs.Common.{ℕ, ◌≡◌, ◌≢◌, false, Bool, refl}
-use Rattle.sector_histories.specs.Histories.{settled, in_doubt}
-use Rattle.sector_histories.specs.Bytes.{is_free}
-use Rattle.sector_histories.proofs.Histories.{all_in_place}
+use Rattle.sector_world.specs.Histories.{settled, in_doubt}
+use Rattle.sector_world.specs.HistoryBytes.{is_free}
+use Rattle.sector_world.proofs.Histories.{all_in_place}
 use Rattle.sector_world.specs.World.{World, Phase, Slot, Page}
 use Rattle.sector_world.specs.World.Phase.{Off, Up, Dead}
 use Rattle.sector_world.specs.World.Slot.{Absent, Clean, Dirty}

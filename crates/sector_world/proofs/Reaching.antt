@@ -7,15 +7,15 @@ use Rattle.sector_bytes.specs.Blocks.{Block, version_of}
 use Rattle.sector_bytes.specs.Replays.{redo_all, up_to}
 use Rattle.frang_base.specs.Locks.{has_lock}
 use Rattle.frang_base.specs.Functions.{put}
-use Rattle.sector_histories.specs.Histories.{settled, own, Named}
-use Rattle.sector_histories.specs.OnDisk.{AllDurable, OnDisk}
-use Rattle.sector_histories.specs.OnDisk.OnDisk.{in_place}
-use Rattle.sector_histories.specs.Seen.{Alters, Unsynced}
+use Rattle.sector_world.specs.Histories.{settled, own, Named}
+use Rattle.sector_world.specs.OnDisk.{AllDurable, OnDisk}
+use Rattle.sector_world.specs.OnDisk.OnDisk.{in_place}
+use Rattle.sector_world.specs.Seen.{Alters, Unsynced}
 use Rattle.frang_base.proofs.Basics.{some_same, at_put}
-use Rattle.sector_histories.proofs.Histories.{each_map, on_disk_map, all_durable}
-use Rattle.sector_histories.proofs.Removals.{last_named}
-use Rattle.sector_histories.proofs.More.{last_pending, named_more}
-use Rattle.sector_histories.proofs.Seen.{unseen_more, unmet_more, unsynced_more}
+use Rattle.sector_world.proofs.Histories.{each_map, on_disk_map, all_durable}
+use Rattle.sector_world.proofs.Removals.{last_named}
+use Rattle.sector_world.proofs.More.{last_pending, named_more}
+use Rattle.sector_world.proofs.Seen.{unseen_more, unmet_more, unsynced_more}
 use Rattle.sector_world.specs.World.{World, Slot, Flight, cover}
 use Rattle.sector_world.specs.World.Phase.{Up}
 use Rattle.sector_world.specs.World.Slot.{Dirty}

@@ -6,12 +6,12 @@ use Rattle.sector_bytes.specs.Blocks.{Block, version_of}
 use Rattle.frang_base.specs.declared.change.Redo.{Redo}
 use Rattle.sector_bytes.specs.Replays.{change_at, redo_all, up_to, above}
 use Rattle.frang_base.specs.Functions.{keep_if, put}
-use Rattle.sector_histories.specs.Histories.{Commit, Item, redo_of, settled, is_own, own, Each, Named}
-use Rattle.sector_histories.specs.Histories.Item.{Done, Doubt}
-use Rattle.sector_histories.specs.OnDisk.{OnDisk}
+use Rattle.sector_world.specs.Histories.{Commit, Item, redo_of, settled, is_own, own, Each, Named}
+use Rattle.sector_world.specs.Histories.Item.{Done, Doubt}
+use Rattle.sector_world.specs.OnDisk.{OnDisk}
 use Rattle.frang_base.proofs.Basics.{of_lt, of_eq, of_ne, le_or_lt, or_equal, at_put, by_keep}
-use Rattle.sector_histories.proofs.Removals.{named_keep}
-use Rattle.sector_histories.proofs.More.{IsAbove, on_disk_more}
+use Rattle.sector_world.proofs.Removals.{named_keep}
+use Rattle.sector_world.proofs.More.{IsAbove, on_disk_more}
 use Rattle.sector_world.specs.World.{World, Flight, Rescue}
 use Rattle.sector_world.specs.Guards.{IsBelow, AreBelow, CanReclaim}
 use Rattle.sector_world.specs.Steps.{after}

@@ -3,12 +3,12 @@ use Rattle.std.proofs.Common.{true, zero, suc, List, ⊎_elim, le_refl, ℕ, ◌
 use Rattle.sector_bytes.specs.Blocks.{Block, version_of}
 use Rattle.frang_base.specs.declared.change.Redo.{Redo}
 use Rattle.sector_bytes.specs.Replays.{change_at, redo_all, up_to}
-use Rattle.sector_histories.specs.Histories.{Commit, kept, settled, is_left, logical, Each, Changes}
-use Rattle.sector_histories.specs.OnDisk.{AllDurable}
+use Rattle.sector_world.specs.Histories.{Commit, kept, settled, is_left, logical, Each, Changes}
+use Rattle.sector_world.specs.OnDisk.{AllDurable}
 use Rattle.frang_base.proofs.Basics.{of_le, le_or_lt}
-use Rattle.sector_histories.proofs.Histories.{AtMost, each_map, rising_bound, all_skipped, kept_logical, replayed_is, pending_or_not, in_place_or}
-use Rattle.sector_histories.proofs.Removals.{redo_named}
-use Rattle.sector_histories.proofs.More.{at_most_more}
+use Rattle.sector_world.proofs.Histories.{AtMost, each_map, rising_bound, all_skipped, kept_logical, replayed_is, pending_or_not, in_place_or}
+use Rattle.sector_world.proofs.Removals.{redo_named}
+use Rattle.sector_world.proofs.More.{at_most_more}
 use Rattle.sector_world.specs.World.{World, cover}
 use Rattle.sector_world.specs.Guards.{to_replay}
 use Rattle.sector_world.specs.Logged.{now_of, Logged, Pending, NoneIfOff}

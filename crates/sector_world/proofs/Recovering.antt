@@ -7,11 +7,11 @@ use Rattle.sector_bytes.specs.Blocks.{Block, version_of}
 use Rattle.frang_base.specs.declared.change.Redo.{Redo}
 use Rattle.sector_bytes.specs.Replays.{redo_all, up_to}
 use Rattle.frang_base.specs.Functions.{put}
-use Rattle.sector_histories.specs.Histories.{settled, Named}
-use Rattle.sector_histories.specs.OnDisk.{OnDisk}
+use Rattle.sector_world.specs.Histories.{settled, Named}
+use Rattle.sector_world.specs.OnDisk.{OnDisk}
 use Rattle.frang_base.proofs.Basics.{by_test, of_lt, some_same, at_put, put_same, put_other}
-use Rattle.sector_histories.proofs.Removals.{redo_named}
-use Rattle.sector_histories.proofs.More.{replay_place}
+use Rattle.sector_world.proofs.Removals.{redo_named}
+use Rattle.sector_world.proofs.More.{replay_place}
 use Rattle.sector_world.specs.World.{World, Rescue, cover, Flight}
 use Rattle.sector_world.specs.World.Phase.{Dead}
 use Rattle.sector_world.specs.World.Told.{Unread, Wanted, InPlace}

@@ -2,11 +2,11 @@
 use Rattle.std.proofs.Common.{ℕ, zero, suc, ◌≢◌, Bool, List, [], ◌∷◌, sym, subst}
 use Rattle.std.proofs.Math.Path.{fun_ext}
 use Rattle.sector_bytes.specs.Blocks.{Block}
-use Rattle.sector_histories.specs.Histories.{Commit, Item, settled, survives, kept, logical, Each}
-use Rattle.sector_histories.specs.Histories.Item.{Done, Doubt}
-use Rattle.sector_histories.specs.Plans.{Plan, outcome_of, Legal}
+use Rattle.sector_world.specs.Histories.{Commit, Item, settled, survives, kept, logical, Each}
+use Rattle.sector_world.specs.Histories.Item.{Done, Doubt}
+use Rattle.sector_world.specs.Plans.{Plan, outcome_of, Legal}
 use Rattle.frang_base.proofs.Basics.{by_keep}
-use Rattle.sector_histories.proofs.Histories.{each_kept}
+use Rattle.sector_world.proofs.Histories.{each_kept}
 use Rattle.sector_world.specs.World.{World}
 use Rattle.sector_world.specs.Steps.{Event, after, Run}
 use Rattle.sector_world.specs.Steps.Event.{Tick, Leave, Fail, Renew, Mount, Unmount, Take, Give, Lower, Do, Reach, Ack, Sync, Reclaim, Crash, Begin, Look, Finish, Fetch, Issue, Replay, Land, Fade, Break, BreakNew, FetchBytes, Clear, IssueBytes, LandBytes, FadeBytes, BreakBytes, BreakBytesNew, Settle}

@@ -7,14 +7,14 @@ use Rattle.sector_bytes.specs.Blocks.{Block, zero_block}
 use Rattle.sector_bytes.specs.Replays.{change_at}
 use Rattle.frang_base.specs.Locks.{same_lock}
 use Rattle.frang_base.specs.Functions.{put, put2}
-use Rattle.sector_histories.specs.Histories.{Fill, Commit, Item, kept, survives, settled, Each, Changes, Moves, Writes, touches, OpsRise, is_logged, logical}
-use Rattle.sector_histories.specs.Histories.Item.{Done, Doubt}
-use Rattle.sector_histories.specs.Bytes.{is_free_by, is_free, AllWritten}
-use Rattle.sector_histories.specs.Seen.{Alters, Unseen, IsLost}
+use Rattle.sector_world.specs.Histories.{Fill, Commit, Item, kept, survives, settled, Each, Changes, Moves, Writes, touches, OpsRise, is_logged, logical}
+use Rattle.sector_world.specs.Histories.Item.{Done, Doubt}
+use Rattle.sector_world.specs.HistoryBytes.{is_free_by, is_free, AllWritten}
+use Rattle.sector_world.specs.Seen.{Alters, Unseen, IsLost}
 use Rattle.frang_base.proofs.Basics.{by_test, le_or_lt, or_equal, at_put, at_put2, by_keep}
-use Rattle.sector_histories.proofs.Histories.{each_map, each_map2, each_kept, unchanged}
-use Rattle.sector_histories.proofs.Removals.{survives_low}
-use Rattle.sector_histories.proofs.Bytes.{survives_up, none_writes, free_kept, data_in_place}
+use Rattle.sector_world.proofs.Histories.{each_map, each_map2, each_kept, unchanged}
+use Rattle.sector_world.proofs.Removals.{survives_low}
+use Rattle.sector_world.proofs.Bytes.{survives_up, none_writes, free_kept, data_in_place}
 use Rattle.sector_world.specs.World.{World, Page, ByteFlight, Rescue, cover, has_version}
 use Rattle.sector_world.specs.World.Page.{NoPage, CleanPage, DirtyPage}
 use Rattle.sector_world.specs.Guards.{MovesOwned, CanDo, CanReach, CanFetchBytes, CanClear, CanIssueBytes, CanLandBytes, CanSettle}
@@ -22,8 +22,8 @@ use Rattle.sector_world.specs.Steps.{after, page_done, page_lowered, page_landed
 use Rattle.sector_world.specs.Steps.Event.{Tick, Give, Lower, Do, Reach, Crash, Finish, FetchBytes, Clear, IssueBytes, LandBytes, FadeBytes, BreakBytes, BreakBytesNew, Settle}
 use Rattle.sector_world.specs.Logged.{Logged}
 use Rattle.sector_world.specs.Bytes.{IsLoose, PendingBytes, IsDiskPage, ByteFlightOk, Bytes}
-use Rattle.sector_histories.specs.OnDisk.{OnDisk}
-use Rattle.sector_histories.specs.OnDisk.OnDisk.{in_place, pending, passed}
+use Rattle.sector_world.specs.OnDisk.{OnDisk}
+use Rattle.sector_world.specs.OnDisk.OnDisk.{in_place, pending, passed}
 use Rattle.sector_world.specs.Kinds.{Claimed, Kinds}
 use Rattle.sector_world.proofs.Reaching.{sole_held}
 use Rattle.sector_world.proofs.BytesLanding.{other_page}

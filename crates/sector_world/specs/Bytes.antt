@@ -3,9 +3,9 @@ use Rattle.std.specs.Prelude.{true, false, Bool, ℕ, ◌<◌, ◌≤◌, ◌≡
 use Rattle.frang_base.specs.declared.lock.Mode.{Mode}
 use Rattle.frang_base.specs.declared.lock.Mode.TheVariants.{Sole}
 use Rattle.sector_bytes.specs.Blocks.{Block}
-use Rattle.sector_histories.specs.Histories.{Commit, Item, settled, in_doubt, synced_of, Each, Writes}
-use Rattle.sector_histories.specs.Bytes.{is_free, Known, OnData, Agree}
-use Rattle.sector_histories.specs.Plans.{IsByPlan}
+use Rattle.sector_world.specs.Histories.{Commit, Item, settled, in_doubt, synced_of, Each, Writes}
+use Rattle.sector_world.specs.HistoryBytes.{is_free, Known, OnData, Agree}
+use Rattle.sector_world.specs.Plans.{IsByPlan}
 use Rattle.sector_world.specs.World.{World, Phase, Page, ByteFlight, cover}
 use Rattle.sector_world.specs.World.Phase.{Off, Up, Dead}
 use Rattle.sector_world.specs.World.Page.{NoPage, CleanPage, DirtyPage, FreedPage}

@@ -6,10 +6,10 @@ use Rattle.sector_bytes.specs.Replays.{change_at, redo_all}
 use Rattle.frang_base.specs.declared.change.Change.{Change}
 use Rattle.frang_base.specs.declared.lock.LockId.{LockId}
 use Rattle.frang_base.specs.declared.lock.Mode.TheVariants.{Sole}
-use Rattle.sector_histories.specs.Histories.{Item, settled, kept, survives, recovered, logical, Each, OpsRise, Named, is_logged}
-use Rattle.sector_histories.specs.Bytes.{Known, Agree, is_free}
-use Rattle.sector_histories.specs.Plans.{IsByPlan}
-use Rattle.sector_histories.specs.Seen.{Unmet, Unseen, Unsynced, Kept}
+use Rattle.sector_world.specs.Histories.{Item, settled, kept, survives, recovered, logical, Each, OpsRise, Named, is_logged}
+use Rattle.sector_world.specs.HistoryBytes.{Known, Agree, is_free}
+use Rattle.sector_world.specs.Plans.{IsByPlan}
+use Rattle.sector_world.specs.Seen.{Unmet, Unseen, Unsynced, Kept}
 use Rattle.sector_world.specs.World.{World, Phase, Flight, ByteFlight, cover, block_at, has_version}
 use Rattle.sector_world.specs.World.Phase.{Off, Up, Dead}
 use Rattle.sector_world.specs.Guards.{to_replay, NotDirty, NoDirtyPage}

@@ -11,11 +11,11 @@ use Rattle.sector_bytes.specs.Blocks.{Block, zero_block}
 use Rattle.sector_bytes.specs.Changes.{changed}
 use Rattle.frang_base.specs.Functions.{put}
 use Rattle.frang_base.specs.Locks.{has_lock}
-use Rattle.sector_histories.specs.Bytes.{value, is_free}
-use Rattle.sector_histories.specs.Seen.{moved}
-use Rattle.sector_histories.specs.Histories.{Commit, Item, settled}
-use Rattle.sector_histories.specs.Histories.Fill.{Written, Freed}
-use Rattle.sector_histories.specs.Histories.Item.{Done, Doubt}
+use Rattle.sector_world.specs.HistoryBytes.{value, is_free}
+use Rattle.sector_world.specs.Seen.{moved}
+use Rattle.sector_world.specs.Histories.{Commit, Item, settled}
+use Rattle.sector_world.specs.Histories.Fill.{Written, Freed}
+use Rattle.sector_world.specs.Histories.Item.{Done, Doubt}
 use Rattle.sector_world.specs.World.{World, Flight, Rescue, start, cover, has_version}
 use Rattle.sector_world.specs.World.Phase.{Dead}
 use Rattle.sector_world.specs.World.Page.{NoPage, FreedPage}

@@ -10,10 +10,10 @@ use Rattle.frang_base.specs.declared.change.Redo.{Redo}
 use Rattle.sector_bytes.specs.Replays.{change_at, up_to}
 use Rattle.frang_base.specs.Functions.{member}
 use Rattle.frang_base.specs.Locks.{has_lock}
-use Rattle.sector_histories.specs.Histories.{Commit, settled, is_logged, touches, reaches, Changes, Moves, Writes}
-use Rattle.sector_histories.specs.Histories.Item.{Done}
-use Rattle.sector_histories.specs.Bytes.{is_free}
-use Rattle.sector_histories.specs.Plans.{made_of}
+use Rattle.sector_world.specs.Histories.{Commit, settled, is_logged, touches, reaches, Changes, Moves, Writes}
+use Rattle.sector_world.specs.Histories.Item.{Done}
+use Rattle.sector_world.specs.HistoryBytes.{is_free}
+use Rattle.sector_world.specs.Plans.{made_of}
 use Rattle.sector_world.specs.World.{World, Slot, Page, Flight, ByteFlight, Rescue, cover, has_version}
 use Rattle.sector_world.specs.World.Phase.{Off, Up, Dead}
 use Rattle.sector_world.specs.World.Slot.{Absent, Clean, Dirty}

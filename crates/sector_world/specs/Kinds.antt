@@ -1,9 +1,9 @@
 -- What every step keeps of which sectors have versions, and all that every step keeps.
 use Rattle.std.specs.Prelude.{true, false, Bool, ℕ, ◌≤◌, ◌≡◌, List, [], ◌∷◌, Some}
 use Rattle.sector_bytes.specs.Blocks.{zero_block}
-use Rattle.sector_histories.specs.Histories.{Item, settled, is_logged, Each, Changes, Moves}
-use Rattle.sector_histories.specs.Histories.Item.{Done, Doubt}
-use Rattle.sector_histories.specs.Bytes.{is_free, AllWritten}
+use Rattle.sector_world.specs.Histories.{Item, settled, is_logged, Each, Changes, Moves}
+use Rattle.sector_world.specs.Histories.Item.{Done, Doubt}
+use Rattle.sector_world.specs.HistoryBytes.{is_free, AllWritten}
 use Rattle.sector_world.specs.World.{World, ByteFlight, has_version}
 use Rattle.sector_world.specs.World.Page.{NoPage}
 use Rattle.sector_world.specs.Logged.{Logged}

@@ -8,3 +8,9 @@ pub mod Claims
 pub mod Planned
 pub mod Trees
 pub mod Examples
+pub mod Histories
+pub mod HistoryBytes
+pub mod OnDisk
+pub mod Seen
+pub mod Plans
+pub mod Laws

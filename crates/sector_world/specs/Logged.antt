@@ -7,9 +7,9 @@ use Rattle.frang_base.specs.declared.lock.Mode.TheVariants.{Sole}
 use Rattle.sector_bytes.specs.Blocks.{Block, version_of}
 use Rattle.frang_base.specs.Locks.{has_lock}
 use Rattle.sector_bytes.specs.Replays.{redo_all}
-use Rattle.sector_histories.specs.Histories.{Commit, Item, settled, logical, own, Each, OpsRise, Named, IsLast}
-use Rattle.sector_histories.specs.OnDisk.{Rising, OnDisk}
-use Rattle.sector_histories.specs.Seen.{Unmet, Alters, Unseen, Unsynced, Kept}
+use Rattle.sector_world.specs.Histories.{Commit, Item, settled, logical, own, Each, OpsRise, Named, IsLast}
+use Rattle.sector_world.specs.OnDisk.{Rising, OnDisk}
+use Rattle.sector_world.specs.Seen.{Unmet, Alters, Unseen, Unsynced, Kept}
 use Rattle.sector_world.specs.World.{World, Phase, Slot, Flight, Told, Rescue, cover}
 use Rattle.sector_world.specs.World.Phase.{Off, Up, Dead}
 use Rattle.sector_world.specs.World.Slot.{Absent, Clean, Dirty}

@@ -1,8 +1,8 @@
 -- Runs whose operations are planned over what their servers have cached.
 use Rattle.std.specs.Prelude.{ℕ, ◌≡◌, ◌≢◌, List, [], ◌∷◌, Some, IsTrue}
 use Rattle.sector_bytes.specs.Blocks.{Block}
-use Rattle.sector_histories.specs.Histories.{Commit, settled, touches}
-use Rattle.sector_histories.specs.Plans.{Plan, outcome_of, Legal}
+use Rattle.sector_world.specs.Histories.{Commit, settled, touches}
+use Rattle.sector_world.specs.Plans.{Plan, outcome_of, Legal}
 use Rattle.sector_world.specs.World.{World, Slot}
 use Rattle.sector_world.specs.World.Slot.{Absent, Clean, Dirty}
 use Rattle.sector_world.specs.Steps.{Event, after}

@@ -10,9 +10,9 @@ use Rattle.frang_base.specs.declared.limits.TheConstants.{LEASE_TICKS, MARGIN_TI
 use Rattle.sector_bytes.specs.Replays.{change_at, forced, redo_all, above}
 use Rattle.frang_base.specs.Functions.{put, put2, put_lock}
 use Rattle.frang_base.specs.Locks.{same_lock}
-use Rattle.sector_histories.specs.Histories.{Fill, Commit, redo_of}
-use Rattle.sector_histories.specs.Histories.Fill.{Written, Freed}
-use Rattle.sector_histories.specs.Histories.Entry.{Did, Recovered, Synced, Mounted}
+use Rattle.sector_world.specs.Histories.{Fill, Commit, redo_of}
+use Rattle.sector_world.specs.Histories.Fill.{Written, Freed}
+use Rattle.sector_world.specs.Histories.Entry.{Did, Recovered, Synced, Mounted}
 use Rattle.sector_world.specs.World.{World, Slot, Page, Flight, ByteFlight, Told, Rescue, cover}
 use Rattle.sector_world.specs.World.Phase.{Off, Up, Dead}
 use Rattle.sector_world.specs.World.Slot.{Absent, Clean, Dirty}

@@ -5,9 +5,9 @@ use Rattle.frang_base.specs.declared.op.Op.{Op}
 use Rattle.frang_base.specs.declared.reply.Reply.{Reply}
 use Rattle.sector_bytes.specs.Blocks.{Block, zero_block}
 use Rattle.sector_bytes.specs.Replays.{change_at, forced}
-use Rattle.sector_histories.specs.Histories.{Commit, Item, settled, is_logged, Each}
-use Rattle.sector_histories.specs.Histories.Item.{Done, Doubt}
-use Rattle.sector_histories.specs.Plans.{Plan, Outcome}
+use Rattle.sector_world.specs.Histories.{Commit, Item, settled, is_logged, Each}
+use Rattle.sector_world.specs.Histories.Item.{Done, Doubt}
+use Rattle.sector_world.specs.Plans.{Plan, Outcome}
 use Rattle.sector_world.specs.World.{World}
 use Rattle.sector_world.specs.Steps.{Event, after}
 use Rattle.sector_world.specs.Steps.Event.{Do}

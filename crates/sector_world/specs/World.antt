@@ -5,8 +5,8 @@ use Rattle.frang_base.specs.declared.lock.LockId.{LockId}
 use Rattle.frang_base.specs.declared.lock.Mode.{Mode}
 use Rattle.sector_bytes.specs.Blocks.{Block, zero_block}
 use Rattle.frang_base.specs.declared.change.Redo.{Redo}
-use Rattle.sector_histories.specs.Histories.{Entry, settled, is_logged}
-use Rattle.sector_histories.specs.Seen.{cover_of}
+use Rattle.sector_world.specs.Histories.{Entry, settled, is_logged}
+use Rattle.sector_world.specs.Seen.{cover_of}
 
 -- a server isn't mounted, is mounted, or died and isn't recovered
 pub data Phase : Type 0 where

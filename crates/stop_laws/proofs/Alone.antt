@@ -14,7 +14,7 @@ use Rattle.tree_laws.specs.Doubts.{entry_writes}
 use Rattle.tree_laws.proofs.HistoryLaws.{after_all-push}
 use Rattle.tree_laws.proofs.OwnReplies.{answers_are_own}
 use Rattle.line_laws.specs.Laws.{HasPath}
-use Rattle.byte_doubts.specs.Deeds.{Deed, Says, steps, tree_after}
+use Rattle.byte_trees.specs.Deeds.{Deed, Says, steps, tree_after}
 use Rattle.stop_laws.proofs.BytesShaped.{is_ok}
 
 none_if : (b : Bool) → (b ≡ true → ⊥) → b ≡ false

@@ -4,12 +4,12 @@ use Rattle.frang_base.specs.declared.lock.LockId.{LockId}
 use Rattle.frang_base.proofs.Basics.{eq_of, of_eq}
 use Rattle.tree_definitions.specs.Tree.{FileTree}
 use Rattle.sector_bytes.specs.Blocks.{Block}
-use Rattle.sector_histories.specs.Histories.{Each, Entry, settled, survives, synced_of}
-use Rattle.sector_histories.specs.Histories.Entry.{Did, Recovered, Synced, Mounted}
-use Rattle.sector_histories.specs.Plans.{IsByPlan}
-use Rattle.sector_histories.specs.Seen.{Kept, Unmet, Unseen}
-use Rattle.sector_histories.proofs.Histories.{each_kept, each_map}
-use Rattle.byte_doubts.specs.Deeds.{Deed, Does, Says, Doubts, items}
+use Rattle.sector_world.specs.Histories.{Each, Entry, settled, survives, synced_of}
+use Rattle.sector_world.specs.Histories.Entry.{Did, Recovered, Synced, Mounted}
+use Rattle.sector_world.specs.Plans.{IsByPlan}
+use Rattle.sector_world.specs.Seen.{Kept, Unmet, Unseen}
+use Rattle.sector_world.proofs.Histories.{each_kept, each_map}
+use Rattle.byte_trees.specs.Deeds.{Deed, Does, Says, Doubts, items}
 use Rattle.stop_laws.specs.Happened.{Happening, Acts, Speaks, Mounts, Covers, Recovers, on_sectors, settle, what_stays}
 use Rattle.stop_laws.specs.Paired.{ArePaired, MayRecover}
 use Rattle.stop_laws.proofs.Histories.{histories_settle_alike, lines_settle}

@@ -17,10 +17,10 @@ use Rattle.tree_laws.proofs.StepsLaws.{perform_well}
 use Rattle.tree_laws.proofs.WellFormedLaws.{Makes}
 use Rattle.sector_bytes.specs.Blocks.{Block}
 use Rattle.sector_bytes.specs.Sectors.{Sectors}
-use Rattle.sector_histories.specs.Histories.{Commit, Each, Item, logical, survives}
-use Rattle.sector_histories.specs.Histories.Item.{Done, Doubt}
-use Rattle.sector_histories.specs.Plans.{IsByPlan, Legal}
-use Rattle.sector_histories.specs.Seen as seen
+use Rattle.sector_world.specs.Histories.{Commit, Each, Item, logical, survives}
+use Rattle.sector_world.specs.Histories.Item.{Done, Doubt}
+use Rattle.sector_world.specs.Plans.{IsByPlan, Legal}
+use Rattle.sector_world.specs.Seen as seen
 use Rattle.sector_world.specs.Trees.{Distinct, tree_of}
 use Rattle.disk_definitions.specs.Naming.{Naming}
 use Rattle.disk_definitions.specs.Standing.{IsReached}

@@ -23,10 +23,10 @@ use Rattle.tree_laws.proofs.ShapeResolving.{perform_shape}
 use Rattle.sector_bytes.specs.Blocks.{Block}
 use Rattle.sector_bytes.specs.Replays.{change_at, forced}
 use Rattle.sector_bytes.specs.Sectors.{Sectors}
-use Rattle.sector_histories.specs.Histories.{Commit, Item, Each, logical}
-use Rattle.sector_histories.specs.Histories.Item.{Done, Doubt}
-use Rattle.sector_histories.specs.Plans.{Outcome, outcome_of, IsByPlan, Legal}
-use Rattle.sector_histories.specs.Seen as seen
+use Rattle.sector_world.specs.Histories.{Commit, Item, Each, logical}
+use Rattle.sector_world.specs.Histories.Item.{Done, Doubt}
+use Rattle.sector_world.specs.Plans.{Outcome, outcome_of, IsByPlan, Legal}
+use Rattle.sector_world.specs.Seen as seen
 use Rattle.sector_world.specs.Trees.{Distinct, tree_of}
 use Rattle.disk_definitions.specs.Naming.{Naming}
 use Rattle.disk_definitions.specs.Store.{Store}
@@ -61,9 +61,9 @@ use Rattle.line_histories.proofs.Meeting.{is_clear, hand_clear}
 use Rattle.line_histories.proofs.Runs.{numbered, take_distinct, both}
 use Rattle.line_histories.proofs.Steps.{IsStep, line_step}
 use Rattle.line_histories.proofs.Told.{perform_told}
-use Rattle.byte_doubts.specs.Deeds.{Deed, Does, Says, Doubts, items, steps, tree_after}
-use Rattle.byte_doubts.specs.Doubts.{Agrees, Passes, AllAgree}
-use Rattle.byte_doubts.proofs.Lasting.{found as last_write}
+use Rattle.byte_trees.specs.Deeds.{Deed, Does, Says, Doubts, items, steps, tree_after}
+use Rattle.byte_trees.specs.Doubts.{Agrees, Passes, AllAgree}
+use Rattle.byte_trees.proofs.Lasting.{found as last_write}
 use Rattle.line_histories.specs.Parts.{LiesIn, IsFinished}
 use Rattle.line_histories.proofs.PartLaws.{lines_keep_parts, lines_meet_parts}
 use Rattle.stop_laws.specs.Along.{LiesAfter, IsTold, IsSaid, HasShape, AllTold, DoubtIsTheSameAlongLines}

@@ -8,8 +8,8 @@ use Rattle.frang_base.specs.declared.lock.LockId.TheVariants as lock
 use Rattle.frang_base.proofs.Basics.{lock_same}
 use Rattle.tree_definitions.specs.Tree.{FileTree, node_at, small_blocks_of}
 use Rattle.sector_bytes.specs.Blocks.{Block}
-use Rattle.sector_histories.specs.Histories.{Item}
-use Rattle.sector_histories.specs.Seen as seen
+use Rattle.sector_world.specs.Histories.{Item}
+use Rattle.sector_world.specs.Seen as seen
 use Rattle.disk_definitions.specs.declared.region.Region.TheVariants as region
 use Rattle.disk_definitions.proofs.RegionLaws.{region_found}
 use Rattle.disk_definitions.specs.Naming.{Naming}

@@ -8,9 +8,9 @@ use Rattle.tree_definitions.specs.Touched.{shape_of}
 use Rattle.tree_definitions.specs.Tree.{FileTree}
 use Rattle.tree_laws.proofs.HistoryLaws.{after_all-push}
 use Rattle.sector_bytes.specs.Blocks.{Block}
-use Rattle.sector_histories.specs.Bytes.{value}
-use Rattle.sector_histories.specs.Histories.{in_doubt}
-use Rattle.sector_histories.specs.Histories.Item.{Doubt}
+use Rattle.sector_world.specs.HistoryBytes.{value}
+use Rattle.sector_world.specs.Histories.{in_doubt}
+use Rattle.sector_world.specs.Histories.Item.{Doubt}
 use Rattle.disk_definitions.specs.Naming.{Naming, file_byte}
 use Rattle.disk_definitions.specs.Store.{store_of}
 use Rattle.disk_definitions.specs.Ask.{number_of}
@@ -18,7 +18,7 @@ use Rattle.disk_definitions.specs.Meets.{IsOfTree}
 use Rattle.line_histories.specs.Following.{store_after}
 use Rattle.byte_trees.specs.Cells.{IsByte}
 use Rattle.byte_trees.proofs.Doubting.{doubt_keeps, parts_have_none}
-use Rattle.byte_doubts.specs.Deeds.{Deed, items, steps, tree_after}
+use Rattle.byte_trees.specs.Deeds.{Deed, items, steps, tree_after}
 use Rattle.stop_laws.specs.Along.{HasShape, LiesAfter}
 use Rattle.stop_laws.proofs.BytesAlong.{doubt_same_along}
 use Rattle.byte_trees.specs.Standing.{HasItsBytes}

@@ -8,14 +8,14 @@ use Rattle.tree_definitions.specs.History.{CellRun}
 use Rattle.tree_definitions.specs.Touched.{shape_of}
 use Rattle.tree_definitions.specs.Tree.{FileTree, node_at}
 use Rattle.sector_bytes.specs.Blocks.{Block}
-use Rattle.sector_histories.specs.Histories.{Commit, Each, Item, in_doubt, is_own, kept, survives}
-use Rattle.sector_histories.specs.Histories.Item.{Done, Doubt}
-use Rattle.sector_histories.specs.Plans.{IsByPlan, Legal}
-use Rattle.sector_histories.proofs.Bytes.{doubt_kept}
-use Rattle.sector_histories.proofs.Histories.{each_kept, each_map}
-use Rattle.sector_histories.proofs.Plans.{legal_kept}
-use Rattle.sector_histories.proofs.Removals.{survives_low}
-use Rattle.sector_histories.proofs.Seen.{clear_survives}
+use Rattle.sector_world.specs.Histories.{Commit, Each, Item, in_doubt, is_own, kept, survives}
+use Rattle.sector_world.specs.Histories.Item.{Done, Doubt}
+use Rattle.sector_world.specs.Plans.{IsByPlan, Legal}
+use Rattle.sector_world.proofs.Bytes.{doubt_kept}
+use Rattle.sector_world.proofs.Histories.{each_kept, each_map}
+use Rattle.sector_world.proofs.Plans.{legal_kept}
+use Rattle.sector_world.proofs.Removals.{survives_low}
+use Rattle.sector_world.proofs.Seen.{clear_survives}
 use Rattle.sector_world.specs.Trees.{Distinct, tree_of}
 use Rattle.disk_definitions.specs.Meets.{IsOfTree}
 use Rattle.line_histories.specs.LinePlans.{sector_plan}
@@ -24,7 +24,7 @@ use Rattle.line_histories.specs.Following.{CoversFollow, store_after}
 use Rattle.line_histories.specs.Trees.{MayNumber, MayTake, performed, performed_numbered}
 use Rattle.line_histories.proofs.Runs.{numbered, take_distinct}
 use Rattle.line_histories.proofs.Following.{distinct_kept}
-use Rattle.byte_doubts.specs.Deeds.{Deed, Does, Says, Doubts, items, tree_after}
+use Rattle.byte_trees.specs.Deeds.{Deed, Does, Says, Doubts, items, tree_after}
 use Rattle.stop_laws.specs.Along.{LiesAfter}
 use Rattle.stop_laws.specs.Happened.{has_lost, what_stays}
 use Rattle.stop_laws.specs.Paired.{AreLines}

@@ -12,11 +12,11 @@ use Rattle.tree_definitions.specs.Touched.{shape_of}
 use Rattle.tree_definitions.specs.Tree.{FileTree, node_at}
 use Rattle.tree_laws.proofs.ShapeNodes.{doubts, found, shaped}
 use Rattle.sector_bytes.specs.Blocks.{Block}
-use Rattle.sector_histories.specs.Histories.{in_doubt}
+use Rattle.sector_world.specs.Histories.{in_doubt}
 use Rattle.line_histories.specs.Following.{store_after}
 use Rattle.byte_trees.specs.Cells.{Covers}
 use Rattle.byte_trees.proofs.Doubting.{covers, listed}
-use Rattle.byte_doubts.specs.Deeds.{Deed, items, steps, tree_after}
+use Rattle.byte_trees.specs.Deeds.{Deed, items, steps, tree_after}
 use Rattle.line_histories.proofs.Owners.{IsFileAt, file_there}
 use Rattle.stop_laws.specs.Along.{LiesAfter}
 use Rattle.stop_laws.proofs.BytesAlong.{doubt_same_along}

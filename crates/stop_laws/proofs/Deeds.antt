@@ -6,10 +6,10 @@ use Rattle.tree_definitions.specs.History.{is_answer}
 use Rattle.tree_definitions.specs.Touched.{shape_of}
 use Rattle.tree_definitions.specs.Tree.{FileTree}
 use Rattle.sector_bytes.specs.Blocks.{Block}
-use Rattle.sector_histories.specs.Bytes.{Agree}
-use Rattle.sector_histories.specs.Histories.{Commit, Each, Item}
-use Rattle.sector_histories.specs.Histories.Item.{Done}
-use Rattle.sector_histories.specs.Plans.{IsByPlan, Legal}
+use Rattle.sector_world.specs.HistoryBytes.{Agree}
+use Rattle.sector_world.specs.Histories.{Commit, Each, Item}
+use Rattle.sector_world.specs.Histories.Item.{Done}
+use Rattle.sector_world.specs.Plans.{IsByPlan, Legal}
 use Rattle.sector_world.specs.Trees.{Distinct}
 use Rattle.disk_definitions.specs.Store.{store_of}
 use Rattle.disk_definitions.specs.Meets.{IsOfTree}
@@ -19,7 +19,7 @@ use Rattle.line_histories.specs.Standing.{StandsNumbered}
 use Rattle.line_histories.specs.Trees.{AreTimes, MayNumber}
 use Rattle.line_histories.proofs.Following.{all_follow}
 use Rattle.line_histories.proofs.Runs.{numbered, take_distinct}
-use Rattle.byte_doubts.specs.Deeds.{Deed, Does, Says, Doubts, items, tree_after}
+use Rattle.byte_trees.specs.Deeds.{Deed, Does, Says, Doubts, items, tree_after}
 use Rattle.byte_trees.specs.Standing.{HasItsBytes}
 use Rattle.stop_laws.specs.Along.{AllTold}
 use Rattle.stop_laws.proofs.BytesAlong as along

@@ -1,7 +1,7 @@
 -- Every event keeps sights and the order of recoveries.
 use Rattle.std.proofs.Common.{ℕ, ◌≡◌, ◌≤◌, Bool, true, false, if◌then◌else◌, nat_eq, refl, sym, ◌∙◌, subst, arith, le_refl}
 use Rattle.frang_base.proofs.Basics.{at_put, eq_of}
-use Rattle.sector_histories.specs.Histories.{synced_of}
+use Rattle.sector_world.specs.Histories.{synced_of}
 use Rattle.sector_world.specs.Kinds.{Good}
 use Rattle.sector_world.specs.Steps.Event.{Tick, Leave, Fail, Renew, Mount, Unmount, Take, Give, Lower, Do, Reach, Ack, Sync, Reclaim, Crash, Begin, Look, Finish, Fetch, Issue, Replay, Land, Fade, Break, BreakNew, FetchBytes, Clear, IssueBytes, LandBytes, FadeBytes, BreakBytes, BreakBytesNew, Settle}
 use Rattle.sector_world.specs.World.{World}

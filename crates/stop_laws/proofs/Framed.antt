@@ -9,8 +9,8 @@ use Rattle.frang_base.specs.Functions.{member}
 use Rattle.frang_base.proofs.Basics.{of_ge}
 use Rattle.sector_bytes.specs.Replays.{change_at}
 use Rattle.sector_bytes.specs.Sectors.{Sectors}
-use Rattle.sector_histories.specs.Histories.{Commit, touches}
-use Rattle.sector_histories.specs.Plans.{Outcome, outcome_of}
+use Rattle.sector_world.specs.Histories.{Commit, touches}
+use Rattle.sector_world.specs.Plans.{Outcome, outcome_of}
 use Rattle.disk_definitions.specs.declared.region.Region.TheVariants as region
 use Rattle.disk_definitions.specs.Bitmaps.{bitmap_in}
 use Rattle.disk_definitions.specs.Directories.{directory_in}

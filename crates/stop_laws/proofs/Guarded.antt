@@ -12,10 +12,10 @@ use Rattle.sector_bytes.specs.Replays.{change_at}
 use Rattle.sector_bytes.specs.Sectors.{Sectors}
 use Rattle.disk_definitions.specs.declared.region.Region.TheVariants as region
 use Rattle.disk_definitions.proofs.RegionLaws.{region_found, region_once}
-use Rattle.sector_histories.specs.Histories.{Changes, Commit, Each, Item, logical}
-use Rattle.sector_histories.specs.Histories.Item.{Done, Doubt}
-use Rattle.sector_histories.specs.Plans.{IsByPlan, Legal, Outcome, outcome_of}
-use Rattle.sector_histories.specs.Seen as seen
+use Rattle.sector_world.specs.Histories.{Changes, Commit, Each, Item, logical}
+use Rattle.sector_world.specs.Histories.Item.{Done, Doubt}
+use Rattle.sector_world.specs.Plans.{IsByPlan, Legal, Outcome, outcome_of}
+use Rattle.sector_world.specs.Seen as seen
 use Rattle.sector_world.specs.Trees.{Distinct, tree_of}
 use Rattle.disk_definitions.specs.Naming.{Naming}
 use Rattle.disk_definitions.specs.Edits.{Edit}

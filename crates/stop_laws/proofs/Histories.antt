@@ -15,18 +15,18 @@ use Rattle.tree_definitions.specs.Tree.{FileTree}
 use Rattle.tree_laws.proofs.HistoryLaws.{settled-push, settled-recovered}
 use Rattle.tree_laws.proofs.OwnReplies.{answers_are_own}
 use Rattle.sector_bytes.specs.Blocks.{Block}
-use Rattle.sector_histories.specs.Histories.{Each, OpsRise, in_doubt, kept, settled, survives, synced_of}
-use Rattle.sector_histories.specs.Histories as sectors
-use Rattle.sector_histories.specs.Histories.Item.{Done, Doubt}
-use Rattle.sector_histories.specs.Plans.{Legal}
-use Rattle.sector_histories.specs.Seen.{Unsynced}
-use Rattle.sector_histories.proofs.Histories.{each_kept, each_map}
+use Rattle.sector_world.specs.Histories.{Each, OpsRise, in_doubt, kept, settled, survives, synced_of}
+use Rattle.sector_world.specs.Histories as sectors
+use Rattle.sector_world.specs.Histories.Item.{Done, Doubt}
+use Rattle.sector_world.specs.Plans.{Legal}
+use Rattle.sector_world.specs.Seen.{Unsynced}
+use Rattle.sector_world.proofs.Histories.{each_kept, each_map}
 use Rattle.sector_world.specs.Trees.{Distinct}
 use Rattle.line_histories.specs.LinePlans.{sector_plan}
 use Rattle.line_histories.specs.Standing.{StandsNumbered}
 use Rattle.line_histories.specs.Trees.{AreTimes, MayNumber}
 use Rattle.line_histories.proofs.Runs.{numbered}
-use Rattle.byte_doubts.specs.Deeds.{Deed, Does, Says, Doubts, items, steps, tree_after}
+use Rattle.byte_trees.specs.Deeds.{Deed, Does, Says, Doubts, items, steps, tree_after}
 use Rattle.stop_laws.specs.Happened.{Happening, Acts, Speaks, Mounts, Covers, Recovers, has_lost, on_sectors, on_tree, settle, what_stays}
 use Rattle.stop_laws.specs.Paired.{AreLines, ArePaired, BeginsWithARecord, MayRecover}
 use Rattle.stop_laws.specs.Settling.{HistoriesSettleAlike, SettlesAlike}

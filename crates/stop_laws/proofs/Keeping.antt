@@ -7,8 +7,8 @@ use Rattle.tree_definitions.specs.declared.history.Entry.{Entry}
 use Rattle.tree_definitions.specs.Touched.{shape_of, touches}
 use Rattle.tree_definitions.specs.Tree.{FileTree, node_at}
 use Rattle.sector_bytes.specs.Blocks.{Block}
-use Rattle.sector_histories.specs.Histories.{Commit, logical}
-use Rattle.sector_histories.specs.Seen.{cover_of}
+use Rattle.sector_world.specs.Histories.{Commit, logical}
+use Rattle.sector_world.specs.Seen.{cover_of}
 use Rattle.disk_definitions.specs.Naming.{Naming}
 use Rattle.disk_definitions.specs.Ask.{run}
 use Rattle.disk_definitions.specs.Meets.{IsOfTree}
@@ -17,7 +17,7 @@ use Rattle.disk_definitions.specs.Plans.Plan.{Finishes}
 use Rattle.disk_definitions.specs.Lines.{plan_of_line}
 use Rattle.line_histories.specs.LinePlans.{hand_on}
 use Rattle.line_histories.specs.Following.{store_after}
-use Rattle.byte_doubts.specs.Deeds.{Deed, Does, Says, Doubts, items, tree_after}
+use Rattle.byte_trees.specs.Deeds.{Deed, Does, Says, Doubts, items, tree_after}
 use Rattle.stop_laws.specs.Cells.{CoversMarks, having}
 
 -- an operation has the lock of each node that is there and that its entry touches, and sees each sector of bytes under a lock that it uses

@@ -4,10 +4,10 @@ use Rattle.frang_base.specs.declared.lock.LockId.{LockId}
 use Rattle.tree_definitions.specs.Removal.{doubtful}
 use Rattle.tree_definitions.specs.Tree.{FileTree}
 use Rattle.sector_bytes.specs.Blocks.{Block}
-use Rattle.sector_histories.specs.Histories.{Each, in_doubt, kept, survives, synced_of}
-use Rattle.sector_histories.specs.Plans.{IsByPlan, Legal}
-use Rattle.sector_histories.specs.Seen.{Kept}
-use Rattle.sector_histories.proofs.Histories.{each_kept}
+use Rattle.sector_world.specs.Histories.{Each, in_doubt, kept, survives, synced_of}
+use Rattle.sector_world.specs.Plans.{IsByPlan, Legal}
+use Rattle.sector_world.specs.Seen.{Kept}
+use Rattle.sector_world.proofs.Histories.{each_kept}
 use Rattle.sector_world.specs.Trees.{Distinct}
 use Rattle.sector_world.specs.World.{World, Phase}
 use Rattle.sector_world.specs.World.Phase.{Off, Up, Dead}
@@ -16,7 +16,7 @@ use Rattle.line_histories.specs.Following.{Follows}
 use Rattle.line_histories.specs.Standing.{StandsNumbered}
 use Rattle.line_histories.specs.Trees.{AreTimes, MayNumber}
 use Rattle.line_histories.proofs.Runs.{numbered}
-use Rattle.byte_doubts.specs.Deeds.{Deed, Does, Says, Doubts, items, steps}
+use Rattle.byte_trees.specs.Deeds.{Deed, Does, Says, Doubts, items, steps}
 use Rattle.stop_laws.specs.Known.{KnowsCells}
 use Rattle.stop_laws.specs.Happened.{Happening, Acts, Speaks, Mounts, Covers, Recovers, on_sectors, settle, what_stays}
 use Rattle.stop_laws.specs.Paired.{AreLines, ArePaired}

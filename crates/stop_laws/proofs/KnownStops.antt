@@ -3,11 +3,11 @@ use Rattle.std.proofs.Common.{ℕ, zero, suc, ◌≡◌, ◌≢◌, true, Bool, 
 use Rattle.frang_base.proofs.Basics.{by_keep}
 use Rattle.tree_definitions.specs.Tree.{FileTree}
 use Rattle.tree_laws.specs.WellFormed.{IsWellFormed}
-use Rattle.sector_histories.specs.Bytes.{Agree}
-use Rattle.sector_histories.specs.Histories.{Commit, Each, Item, kept, settled, survives}
-use Rattle.sector_histories.specs.Histories.Item.{Done, Doubt}
-use Rattle.sector_histories.specs.Plans.{IsByPlan, Legal}
-use Rattle.sector_histories.proofs.Histories.{each_kept}
+use Rattle.sector_world.specs.HistoryBytes.{Agree}
+use Rattle.sector_world.specs.Histories.{Commit, Each, Item, kept, settled, survives}
+use Rattle.sector_world.specs.Histories.Item.{Done, Doubt}
+use Rattle.sector_world.specs.Plans.{IsByPlan, Legal}
+use Rattle.sector_world.proofs.Histories.{each_kept}
 use Rattle.sector_world.specs.Claims.{left, replayed}
 use Rattle.sector_world.specs.Kinds.{Good}
 use Rattle.sector_world.specs.Planned.{IsLegal}
@@ -23,7 +23,7 @@ use Rattle.line_histories.specs.Trees.{AreTimes, MayNumber, performed}
 use Rattle.line_histories.proofs.Following.{distinct_left}
 use Rattle.line_histories.proofs.Runs.{histories_of_one_tree, numbered}
 use Rattle.byte_trees.proofs.Nodes.{well_too}
-use Rattle.byte_doubts.specs.Deeds.{Deed, items, tree_after}
+use Rattle.byte_trees.specs.Deeds.{Deed, items, tree_after}
 use Rattle.stop_laws.specs.Along.{AllTold, HasShape}
 use Rattle.stop_laws.proofs.BytesAlong.{shape_at}
 use Rattle.stop_laws.specs.Known.{IsToldTwice, KnowsCells}

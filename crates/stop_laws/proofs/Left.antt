@@ -1,9 +1,9 @@
 -- What recoveries of all logs would leave is told twice and shown, so cells are known after it, and the replayed disk stands for its tree.
 use Rattle.std.proofs.Common.{ℕ, ◌≡◌, ◌≢◌, List, [], sym, subst, refl}
 use Rattle.tree_definitions.specs.Tree.{FileTree}
-use Rattle.sector_histories.specs.Bytes.{Agree}
-use Rattle.sector_histories.specs.Histories.{Each, settled, synced_of}
-use Rattle.sector_histories.specs.Plans.{IsByPlan, Legal}
+use Rattle.sector_world.specs.HistoryBytes.{Agree}
+use Rattle.sector_world.specs.Histories.{Each, settled, synced_of}
+use Rattle.sector_world.specs.Plans.{IsByPlan, Legal}
 use Rattle.sector_world.specs.Kinds.{Good}
 use Rattle.sector_world.specs.Planned.{IsLegal}
 use Rattle.sector_world.specs.Trees.{Distinct}
@@ -15,7 +15,7 @@ use Rattle.line_histories.specs.Following.{Follows}
 use Rattle.line_histories.specs.Standing.{StandsNumbered}
 use Rattle.line_histories.specs.Trees.{AreTimes, MayNumber}
 use Rattle.line_histories.proofs.Runs.{numbered}
-use Rattle.byte_doubts.specs.Deeds.{Deed}
+use Rattle.byte_trees.specs.Deeds.{Deed}
 use Rattle.stop_laws.specs.Known.{KnowsCells}
 use Rattle.stop_laws.specs.Happened.{Happening, on_sectors, settle}
 use Rattle.stop_laws.specs.Paired.{ArePaired, IsKeptBy}

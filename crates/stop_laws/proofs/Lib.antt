@@ -51,3 +51,5 @@ pub mod Told
 pub mod Kept
 pub mod Left
 pub mod Begun
+pub mod Beginning
+pub mod Example

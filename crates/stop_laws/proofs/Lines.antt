@@ -23,9 +23,9 @@ use Rattle.tree_laws.proofs.ShapeNodes.{shaped, found}
 use Rattle.tree_laws.proofs.ShapeResolving.{perform_shape}
 use Rattle.sector_bytes.specs.Blocks.{Block}
 use Rattle.sector_bytes.specs.Sectors.{Sectors}
-use Rattle.sector_histories.specs.Histories.{Commit, Item, logical}
-use Rattle.sector_histories.specs.Histories.Item.{Done, Doubt}
-use Rattle.sector_histories.specs.Plans.{Outcome, outcome_of, Legal}
+use Rattle.sector_world.specs.Histories.{Commit, Item, logical}
+use Rattle.sector_world.specs.Histories.Item.{Done, Doubt}
+use Rattle.sector_world.specs.Plans.{Outcome, outcome_of, Legal}
 use Rattle.sector_world.specs.Trees.{Distinct, tree_of}
 use Rattle.disk_definitions.specs.Allowed.{IsAllowed}
 use Rattle.disk_definitions.specs.Ask.{run}
@@ -47,7 +47,7 @@ use Rattle.line_histories.proofs.Leading as leading
 use Rattle.line_histories.proofs.Meeting.{is_clear, hand_clear}
 use Rattle.line_histories.proofs.Runs.{numbered, take_distinct, both, histories_of_one_tree}
 use Rattle.line_histories.proofs.Told.{perform_told}
-use Rattle.byte_doubts.specs.Deeds.{Deed, Does, Says, Doubts, items, steps, tree_after}
+use Rattle.byte_trees.specs.Deeds.{Deed, Does, Says, Doubts, items, steps, tree_after}
 use Rattle.stop_laws.specs.Along.{HasShape}
 use Rattle.stop_laws.proofs.BytesTold.{told_same}
 use Rattle.stop_laws.specs.Paired.{AreOfOneLine, AreLines}

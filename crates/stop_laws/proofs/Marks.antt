@@ -12,8 +12,8 @@ use Rattle.tree_definitions.specs.Tree.{FileTree, node_at}
 use Rattle.tree_laws.proofs.HistoryLaws.{after_all-push}
 use Rattle.tree_laws.proofs.ShapeNodes.{doubts, found, shaped}
 use Rattle.sector_bytes.specs.Blocks.{Block}
-use Rattle.sector_histories.specs.Bytes.{value}
-use Rattle.sector_histories.specs.Histories.Item.{Doubt}
+use Rattle.sector_world.specs.HistoryBytes.{value}
+use Rattle.sector_world.specs.Histories.Item.{Doubt}
 use Rattle.disk_definitions.specs.Naming.{Naming, cell_in, file_byte}
 use Rattle.disk_definitions.specs.Store.{store_of}
 use Rattle.disk_definitions.specs.Ask.{number_of}
@@ -21,7 +21,7 @@ use Rattle.disk_definitions.specs.Meets.{IsOfTree}
 use Rattle.line_histories.specs.Following.{store_after}
 use Rattle.byte_trees.specs.Cells.{IsByte}
 use Rattle.byte_trees.proofs.Doubting.{doubt_keeps}
-use Rattle.byte_doubts.specs.Deeds.{Deed, Doubts, items, steps, tree_after}
+use Rattle.byte_trees.specs.Deeds.{Deed, Doubts, items, steps, tree_after}
 use Rattle.stop_laws.specs.Along.{LiesAfter}
 use Rattle.byte_trees.specs.Standing.{HasItsBytes}
 use Rattle.stop_laws.specs.Known.{HasWhatIsKnown, KnowsCells}

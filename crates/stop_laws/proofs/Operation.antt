@@ -29,11 +29,11 @@ use Rattle.sector_bytes.specs.SectorMaps.{value_at}
 use Rattle.disk_definitions.specs.declared.region.Region.TheVariants as region
 use Rattle.disk_definitions.specs.Regions.{sector_of}
 use Rattle.disk_definitions.proofs.RegionLaws.{region_found}
-use Rattle.sector_histories.specs.Bytes.{Agree, value}
-use Rattle.sector_histories.specs.Histories.{Commit, Item, is_logged, logical}
-use Rattle.sector_histories.specs.Histories.Fill.{Written, Freed}
-use Rattle.sector_histories.specs.Histories.Item.{Done}
-use Rattle.sector_histories.specs.Plans.{IsByPlan, made_of}
+use Rattle.sector_world.specs.HistoryBytes.{Agree, value}
+use Rattle.sector_world.specs.Histories.{Commit, Item, is_logged, logical}
+use Rattle.sector_world.specs.Histories.Fill.{Written, Freed}
+use Rattle.sector_world.specs.Histories.Item.{Done}
+use Rattle.sector_world.specs.Plans.{IsByPlan, made_of}
 use Rattle.disk_definitions.specs.Naming.{Allows, Naming, cell_in, file_byte}
 use Rattle.disk_definitions.specs.Store.{Store, store_of}
 use Rattle.disk_definitions.specs.Store.Use.{Fresh, Bytes}
@@ -66,15 +66,15 @@ use Rattle.line_histories.proofs.Places.{lines_write_in_place}
 use Rattle.line_histories.proofs.Shapes.{freed_same}
 use Rattle.line_histories.specs.Following.{Follows, KindsFollow, store_after}
 use Rattle.line_histories.proofs.Filled.{IsInUse}
-use Rattle.byte_doubts.specs.Before.{WasBefore}
-use Rattle.byte_doubts.proofs.Back.{steps_back}
+use Rattle.byte_trees.specs.Before.{WasBefore}
+use Rattle.byte_trees.proofs.Back.{steps_back}
 use Rattle.byte_trees.proofs.Nodes.{well_too}
 use Rattle.byte_trees.specs.Written.{WriteNone, WriteNoneLarge}
 use Rattle.byte_trees.proofs.Written.{large_stand, small_stand}
 use Rattle.stop_laws.specs.Keeping.{FinishesOver, KeepsBytes}
 use Rattle.stop_laws.proofs.BytesKept.{agrees_by, lines_keep}
 use Rattle.stop_laws.proofs.BytesTold.{told_same}
-use Rattle.byte_doubts.specs.Deeds.{Deed, Does, items, steps, tree_after}
+use Rattle.byte_trees.specs.Deeds.{Deed, Does, items, steps, tree_after}
 use Rattle.line_histories.specs.Parts.{LiesIn}
 use Rattle.byte_trees.specs.Standing.{HasItsBytes}
 use Rattle.stop_laws.specs.Known.{HasWhatIsKnown, KnowsCells}

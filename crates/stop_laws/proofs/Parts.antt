@@ -15,12 +15,12 @@ use Rattle.tree_definitions.specs.Tree.{FileTree, node_at}
 use Rattle.tree_laws.proofs.ShapeNodes.{found, shaped}
 use Rattle.sector_bytes.specs.Blocks.{Block}
 use Rattle.disk_definitions.specs.Inodes.{inode_in}
-use Rattle.sector_histories.specs.Histories.{Changes, Commit, Each, Item, OpsRise, doubt_step, in_doubt, logical, survives}
-use Rattle.sector_histories.specs.Histories.Item.{Done, Doubt}
-use Rattle.sector_histories.specs.Plans.{IsByPlan, Legal, Outcome, outcome_of}
-use Rattle.sector_histories.specs.Seen as seen
-use Rattle.sector_histories.specs.Seen.{IsLost, Unmet, Unseen}
-use Rattle.sector_histories.proofs.Histories.{each_map, kept_logical}
+use Rattle.sector_world.specs.Histories.{Changes, Commit, Each, Item, OpsRise, doubt_step, in_doubt, logical, survives}
+use Rattle.sector_world.specs.Histories.Item.{Done, Doubt}
+use Rattle.sector_world.specs.Plans.{IsByPlan, Legal, Outcome, outcome_of}
+use Rattle.sector_world.specs.Seen as seen
+use Rattle.sector_world.specs.Seen.{IsLost, Unmet, Unseen}
+use Rattle.sector_world.proofs.Histories.{each_map, kept_logical}
 use Rattle.sector_world.specs.Trees.{Distinct, tree_of}
 use Rattle.disk_definitions.specs.Naming.{Naming}
 use Rattle.disk_definitions.specs.Store.{Store, stored_node}

@@ -4,11 +4,11 @@ use Rattle.frang_base.specs.Functions.{keep_if}
 use Rattle.frang_base.specs.Locks.{has_lock}
 use Rattle.frang_base.specs.declared.lock.LockId.{LockId}
 use Rattle.frang_base.proofs.Basics.{by_keep, eq_of, gt_of, le_of, or_equal}
-use Rattle.sector_histories.specs.Histories.{Commit, Item, Changes, Each, Moves, OpsRise, kept, survives}
-use Rattle.sector_histories.specs.Histories.Item.{Done, Doubt}
-use Rattle.sector_histories.specs.Seen.{Alters, IsLost, Unmet, Unseen, cover_of, moved}
-use Rattle.sector_histories.proofs.Histories.{each_map}
-use Rattle.sector_histories.proofs.Removals.{survives_own}
+use Rattle.sector_world.specs.Histories.{Commit, Item, Changes, Each, Moves, OpsRise, kept, survives}
+use Rattle.sector_world.specs.Histories.Item.{Done, Doubt}
+use Rattle.sector_world.specs.Seen.{Alters, IsLost, Unmet, Unseen, cover_of, moved}
+use Rattle.sector_world.proofs.Histories.{each_map}
+use Rattle.sector_world.proofs.Removals.{survives_own}
 use Rattle.stop_laws.specs.Sight.{AllSee}
 
 -- an operation has alone the old and the new lock of each sector that it moves; and it uses what it has alone

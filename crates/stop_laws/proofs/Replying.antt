@@ -3,12 +3,12 @@ use Rattle.std.proofs.Common.{ℕ, zero, suc, ◌≡◌, ◌==◌, ◌&&◌, not
 use Rattle.frang_base.specs.Functions.{keep_if}
 use Rattle.tree_definitions.specs.Tree.{FileTree}
 use Rattle.sector_bytes.specs.Blocks.{Block}
-use Rattle.sector_histories.specs.Histories.{Item, OpsRise, in_doubt, kept, logical, recovered, settled, survives, synced_of}
-use Rattle.sector_histories.specs.Histories.Item.{Done, Doubt}
-use Rattle.sector_histories.specs.Plans.{IsClear, Legal}
-use Rattle.sector_histories.specs.Seen.{Kept, Unseen}
-use Rattle.sector_histories.proofs.Histories.{kept_logical}
-use Rattle.sector_histories.proofs.Seen.{clear_survives}
+use Rattle.sector_world.specs.Histories.{Item, OpsRise, in_doubt, kept, logical, recovered, settled, survives, synced_of}
+use Rattle.sector_world.specs.Histories.Item.{Done, Doubt}
+use Rattle.sector_world.specs.Plans.{IsClear, Legal}
+use Rattle.sector_world.specs.Seen.{Kept, Unseen}
+use Rattle.sector_world.proofs.Histories.{kept_logical}
+use Rattle.sector_world.proofs.Seen.{clear_survives}
 use Rattle.sector_world.specs.Claims.{left, left_by}
 use Rattle.sector_world.specs.Kinds.{Good}
 use Rattle.sector_world.specs.World.{World, Phase}
@@ -17,7 +17,7 @@ use Rattle.sector_world.proofs.Holding.{holds_good}
 use Rattle.sector_world.proofs.Left.{fine_left, legal_left}
 use Rattle.line_histories.specs.LinePlans.{sector_plan}
 use Rattle.line_histories.proofs.Framed.{lines_framed}
-use Rattle.byte_doubts.specs.Deeds.{Deed, Does, Says, Doubts, items}
+use Rattle.byte_trees.specs.Deeds.{Deed, Does, Says, Doubts, items}
 use Rattle.stop_laws.specs.Happened.{Happening, Acts, Speaks, Mounts, Covers, Recovers, has_lost, on_sectors, settle, what_stays}
 use Rattle.stop_laws.specs.Paired.{ArePaired}
 use Rattle.stop_laws.specs.Settling.{recovers_by, stopped}

@@ -11,14 +11,14 @@ use Rattle.tree_laws.specs.WellFormed.{IsWellFormed, names_in, one_at}
 use Rattle.tree_laws.proofs.Changes.{same_dir, same_links}
 use Rattle.tree_laws.proofs.ShapeKeeping.{well_shape}
 use Rattle.tree_laws.proofs.ShapeNodes.{count_stays, found, keys_stay, shaped}
-use Rattle.sector_histories.specs.Plans.{Legal}
+use Rattle.sector_world.specs.Plans.{Legal}
 use Rattle.sector_world.specs.Claims.{replayed}
 use Rattle.sector_world.specs.Trees.{Distinct, tree_of}
 use Rattle.disk_definitions.specs.Standing.{StandsFor}
 use Rattle.line_histories.specs.LinePlans.{sector_plan}
 use Rattle.line_histories.specs.Trees.{MayNumber, performed}
 use Rattle.line_histories.proofs.Runs.{histories_of_one_tree}
-use Rattle.byte_doubts.specs.Deeds.{Deed, items, tree_after}
+use Rattle.byte_trees.specs.Deeds.{Deed, items, tree_after}
 use Rattle.stop_laws.specs.Along.{HasShape}
 use Rattle.stop_laws.proofs.Stops.{stop_known}
 use Rattle.stop_laws.specs.Happened.{settle}

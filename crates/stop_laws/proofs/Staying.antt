@@ -9,9 +9,9 @@ use Rattle.tree_definitions.specs.History.{CellRun, Settled, Stays}
 use Rattle.tree_definitions.specs.Removal.{is_lost, is_recorded, left, mounts}
 use Rattle.tree_definitions.specs.Touched.{is_mounted}
 use Rattle.tree_definitions.specs.Tree.{FileTree}
-use Rattle.sector_histories.specs.Histories.{Commit, Each, OpsRise, is_own, kept, survives}
-use Rattle.sector_histories.specs.Histories.Item.{Done, Doubt}
-use Rattle.byte_doubts.specs.Deeds.{Deed, Does, Says, Doubts, items, step_of, steps, tree_after}
+use Rattle.sector_world.specs.Histories.{Commit, Each, OpsRise, is_own, kept, survives}
+use Rattle.sector_world.specs.Histories.Item.{Done, Doubt}
+use Rattle.byte_trees.specs.Deeds.{Deed, Does, Says, Doubts, items, step_of, steps, tree_after}
 use Rattle.stop_laws.specs.Happened.{has_lost, what_stays}
 use Rattle.stop_laws.specs.Paired.{BeginsWithARecord}
 use Rattle.stop_laws.proofs.Leaving.{is_cut, others, cut_after, whole, whole_up_to}

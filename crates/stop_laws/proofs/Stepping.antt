@@ -8,9 +8,9 @@ use Rattle.tree_definitions.specs.Tree.{FileTree, node_at}
 use Rattle.tree_laws.specs.WellFormed.{IsNew}
 use Rattle.tree_laws.proofs.ShapeResolving.{perform_shape}
 use Rattle.sector_bytes.specs.Blocks.{Block}
-use Rattle.sector_histories.specs.Histories.{Commit, Item, logical}
-use Rattle.sector_histories.specs.Histories.Item.{Done}
-use Rattle.sector_histories.specs.Plans.{Outcome, IsByPlan, Legal}
+use Rattle.sector_world.specs.Histories.{Commit, Item, logical}
+use Rattle.sector_world.specs.Histories.Item.{Done}
+use Rattle.sector_world.specs.Plans.{Outcome, IsByPlan, Legal}
 use Rattle.sector_world.specs.Trees.{Distinct}
 use Rattle.disk_definitions.specs.Naming.{Naming}
 use Rattle.disk_definitions.specs.Standing.{IsReached}

@@ -3,12 +3,12 @@ use Rattle.std.proofs.Common.{ℕ, zero, suc, ◌≡◌, ◌≢◌, ◌≤◌, B
 use Rattle.frang_base.specs.Functions.{keep_if}
 use Rattle.frang_base.proofs.Basics.{by_keep}
 use Rattle.tree_definitions.specs.Tree.{FileTree}
-use Rattle.sector_histories.specs.Histories.{Commit, Each, Item, OpsRise, kept, recovered, settled, survives, synced_of}
-use Rattle.sector_histories.specs.Histories.Item.{Done, Doubt}
-use Rattle.sector_histories.specs.Plans.{Legal}
-use Rattle.sector_histories.specs.Seen.{Unsynced}
-use Rattle.sector_histories.proofs.Histories.{each_kept}
-use Rattle.sector_histories.proofs.Removals.{survives_other}
+use Rattle.sector_world.specs.Histories.{Commit, Each, Item, OpsRise, kept, recovered, settled, survives, synced_of}
+use Rattle.sector_world.specs.Histories.Item.{Done, Doubt}
+use Rattle.sector_world.specs.Plans.{Legal}
+use Rattle.sector_world.specs.Seen.{Unsynced}
+use Rattle.sector_world.proofs.Histories.{each_kept}
+use Rattle.sector_world.proofs.Removals.{survives_other}
 use Rattle.sector_world.specs.Claims.{left, left_by}
 use Rattle.sector_world.specs.Kinds.{Good}
 use Rattle.sector_world.specs.Planned.{IsLegal}

@@ -1,15 +1,15 @@
 -- Where cells are known after what recoveries of all logs would leave, the replayed disk has their bytes.
 use Rattle.std.proofs.Common.{ℕ, ◌≡◌, false, sym, ◌∙◌, ap, subst}
 use Rattle.tree_definitions.specs.Touched.{shape_of}
-use Rattle.sector_histories.specs.Bytes.{Known}
-use Rattle.sector_histories.specs.Histories.{is_logged}
+use Rattle.sector_world.specs.HistoryBytes.{Known}
+use Rattle.sector_world.specs.Histories.{is_logged}
 use Rattle.sector_world.specs.Claims.{replayed}
 use Rattle.sector_world.specs.Trees.{tree_of}
 use Rattle.sector_world.proofs.Holding.{holds_good}
 use Rattle.disk_definitions.specs.Meets.{IsOfTree}
 use Rattle.line_histories.specs.Following.{store_after}
 use Rattle.line_histories.specs.Trees.{performed}
-use Rattle.byte_doubts.specs.Deeds.{tree_after}
+use Rattle.byte_trees.specs.Deeds.{tree_after}
 use Rattle.stop_laws.proofs.Replayed.{a_stop_leaves}
 use Rattle.stop_laws.specs.Known.{AStopLeavesKnownCells}
 

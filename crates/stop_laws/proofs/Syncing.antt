@@ -3,15 +3,15 @@ use Rattle.std.proofs.Common.{ℕ, ◌≡◌, ◌≤◌, ◌&&◌, ◌==◌, not
 use Rattle.frang_base.proofs.Basics.{by_keep, eq_of, of_eq}
 use Rattle.tree_definitions.specs.Tree.{FileTree}
 use Rattle.sector_bytes.specs.Blocks.{Block}
-use Rattle.sector_histories.specs.Bytes.{Agree}
-use Rattle.sector_histories.specs.Histories.{Each, settled, survives, synced_of}
-use Rattle.sector_histories.specs.Seen.{Kept}
-use Rattle.sector_histories.proofs.Bytes.{agree_kept}
-use Rattle.sector_histories.proofs.Histories.{each_kept, each_map}
+use Rattle.sector_world.specs.HistoryBytes.{Agree}
+use Rattle.sector_world.specs.Histories.{Each, settled, survives, synced_of}
+use Rattle.sector_world.specs.Seen.{Kept}
+use Rattle.sector_world.proofs.Bytes.{agree_kept}
+use Rattle.sector_world.proofs.Histories.{each_kept, each_map}
 use Rattle.line_histories.specs.Standing.{StandsNumbered}
 use Rattle.line_histories.specs.Trees.{AreTimes}
 use Rattle.line_histories.proofs.Runs.{numbered}
-use Rattle.byte_doubts.specs.Deeds.{Deed, Does, Says, Doubts, items}
+use Rattle.byte_trees.specs.Deeds.{Deed, Does, Says, Doubts, items}
 use Rattle.stop_laws.specs.Happened.{Happening, Acts, Speaks, Mounts, Covers, Recovers, has_lost, on_sectors, settle, what_stays}
 use Rattle.stop_laws.specs.Paired.{ArePaired}
 use Rattle.stop_laws.proofs.Histories.{histories_settle_alike}

@@ -7,10 +7,10 @@ use Rattle.tree_definitions.specs.History.{CellRun}
 use Rattle.tree_definitions.specs.Touched.{is_ok, is_sync}
 use Rattle.tree_definitions.specs.Tree.{FileTree}
 use Rattle.sector_bytes.specs.Blocks.{Block}
-use Rattle.sector_histories.specs.Bytes.{Agree}
-use Rattle.sector_histories.specs.Histories.{Commit, Each, logical}
-use Rattle.sector_histories.specs.Histories.Item.{Done}
-use Rattle.sector_histories.specs.Plans.{IsByPlan, Legal, outcome_of}
+use Rattle.sector_world.specs.HistoryBytes.{Agree}
+use Rattle.sector_world.specs.Histories.{Commit, Each, logical}
+use Rattle.sector_world.specs.Histories.Item.{Done}
+use Rattle.sector_world.specs.Plans.{IsByPlan, Legal, outcome_of}
 use Rattle.sector_world.specs.Trees.{Distinct}
 use Rattle.disk_definitions.specs.Ask.{run}
 use Rattle.disk_definitions.specs.Plans.{Plan, Finish}
@@ -24,7 +24,7 @@ use Rattle.line_histories.specs.Following.{Follows, store_after}
 use Rattle.line_histories.specs.Standing.{StandsNumbered}
 use Rattle.line_histories.specs.Trees.{AreTimes, MayNumber}
 use Rattle.line_histories.proofs.Runs.{numbered}
-use Rattle.byte_doubts.specs.Deeds.{Deed, Does, Says, Doubts, items, tree_after}
+use Rattle.byte_trees.specs.Deeds.{Deed, Does, Says, Doubts, items, tree_after}
 use Rattle.stop_laws.specs.Along.{AllTold, HasShape, IsSaid, IsTold}
 use Rattle.stop_laws.specs.Known.{IsToldTwice, KnowsCells}
 use Rattle.stop_laws.specs.Synced.{AllSaid}

@@ -26,9 +26,9 @@ use Rattle.tree_laws.proofs.Sameness.{where_same}
 use Rattle.tree_laws.proofs.ShapeNodes.{doubts, found, shaped}
 use Rattle.sector_bytes.specs.Blocks.{Block}
 use Rattle.sector_bytes.specs.Sectors.{Sectors}
-use Rattle.sector_histories.specs.Histories.{Commit, Item, logical}
-use Rattle.sector_histories.specs.Histories.Item.{Done, Doubt}
-use Rattle.sector_histories.specs.Plans.{Legal, Outcome, outcome_of}
+use Rattle.sector_world.specs.Histories.{Commit, Item, logical}
+use Rattle.sector_world.specs.Histories.Item.{Done, Doubt}
+use Rattle.sector_world.specs.Plans.{Legal, Outcome, outcome_of}
 use Rattle.sector_world.specs.Trees.{Distinct, tree_of}
 use Rattle.disk_definitions.specs.Naming.{Naming}
 use Rattle.disk_definitions.specs.Store.{Store}
@@ -56,7 +56,7 @@ use Rattle.line_histories.specs.Trees.{AreTimes, MayNumber, performed, performed
 use Rattle.line_histories.proofs.Disks.{files_fit_now}
 use Rattle.line_histories.proofs.Meeting.{is_clear}
 use Rattle.line_histories.proofs.Runs.{both, histories_of_one_tree, numbered, take_distinct}
-use Rattle.byte_doubts.specs.Deeds.{Deed, Does, items, tree_after}
+use Rattle.byte_trees.specs.Deeds.{Deed, Does, items, tree_after}
 use Rattle.stop_laws.specs.Along.{HasShape}
 use Rattle.stop_laws.proofs.BytesCovered.{is_used}
 use Rattle.byte_trees.proofs.Nodes.{well_too}

@@ -7,9 +7,9 @@ use Rattle.std.specs.Ordering.{nat_cmp}
 use Rattle.tree_laws.proofs.Pairs.{birth_exact, self, tie}
 use Rattle.sector_bytes.specs.Blocks.{Block}
 use Rattle.sector_bytes.specs.SectorMaps.{value_at}
-use Rattle.sector_histories.specs.Histories.{Fill}
-use Rattle.sector_histories.specs.Histories.Fill.{Written, Freed}
-use Rattle.sector_histories.specs.Plans.{made_of}
+use Rattle.sector_world.specs.Histories.{Fill}
+use Rattle.sector_world.specs.Histories.Fill.{Written, Freed}
+use Rattle.sector_world.specs.Plans.{made_of}
 use Rattle.disk_definitions.specs.Edits.{Edit}
 use Rattle.disk_definitions.specs.Plans.{Plan}
 use Rattle.disk_definitions.specs.Written.{byte_write, byte_writes, edit_sector, edited_block, is_metadata}

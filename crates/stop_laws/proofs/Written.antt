@@ -8,8 +8,8 @@ use Rattle.frang_base.specs.Functions.{member}
 use Rattle.tree_laws.proofs.Pairs.{birth_exact, tie}
 use Rattle.sector_bytes.specs.Blocks.{Block}
 use Rattle.sector_bytes.specs.SectorMaps.{value_at}
-use Rattle.sector_histories.specs.Histories.{Fill}
-use Rattle.sector_histories.specs.Histories.Fill.{Written, Freed}
+use Rattle.sector_world.specs.Histories.{Fill}
+use Rattle.sector_world.specs.Histories.Fill.{Written, Freed}
 use Rattle.disk_definitions.specs.declared.region.Region.TheVariants as region
 use Rattle.disk_definitions.proofs.RegionLaws.{region_once}
 use Rattle.disk_definitions.specs.Store.{Store}

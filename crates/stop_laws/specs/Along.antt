@@ -10,9 +10,9 @@ use Rattle.tree_definitions.specs.Touched.{shape_of, touches, is_mounted, is_ok,
 use Rattle.tree_definitions.specs.Tree.{FileTree, node_at}
 use Rattle.tree_laws.specs.Doubts.{entry_writes}
 use Rattle.sector_bytes.specs.Blocks.{Block}
-use Rattle.sector_histories.specs.Histories.{Commit, Each, in_doubt}
-use Rattle.sector_histories.specs.Plans.{IsByPlan, Legal}
-use Rattle.sector_histories.specs.Seen as seen
+use Rattle.sector_world.specs.Histories.{Commit, Each, in_doubt}
+use Rattle.sector_world.specs.Plans.{IsByPlan, Legal}
+use Rattle.sector_world.specs.Seen as seen
 use Rattle.sector_world.specs.Trees.{Distinct, tree_of}
 use Rattle.disk_definitions.specs.Naming.{Naming}
 use Rattle.disk_definitions.specs.Ask.{Sector, number_of}
@@ -21,7 +21,7 @@ use Rattle.line_histories.specs.LinePlans.{sector_plan, without_bytes}
 use Rattle.line_histories.specs.Following.{Follows, store_after}
 use Rattle.line_histories.specs.Standing.{StandsNumbered}
 use Rattle.line_histories.specs.Trees.{AreTimes, MayNumber, performed}
-use Rattle.byte_doubts.specs.Deeds.{Deed, Does, Says, Doubts, items, steps, tree_after}
+use Rattle.byte_trees.specs.Deeds.{Deed, Does, Says, Doubts, items, steps, tree_after}
 use Rattle.line_histories.specs.Parts.{LiesIn}
 
 -- after a history a part of the file of this birth lies in the sector with this number, by a naming of what the sectors with versions say

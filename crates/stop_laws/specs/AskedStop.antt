@@ -1,8 +1,8 @@
 -- A stop of all servers: what is asked of a history holds of it with the recoveries of all logs.
 use Rattle.std.specs.Prelude.{◌≡◌, ◌≢◌, ℕ, List}
 use Rattle.tree_definitions.specs.Tree.{FileTree}
-use Rattle.sector_histories.specs.Histories.{settled}
-use Rattle.sector_histories.specs.Seen.{Kept}
+use Rattle.sector_world.specs.Histories.{settled}
+use Rattle.sector_world.specs.Seen.{Kept}
 use Rattle.sector_world.specs.Kinds.{Good}
 use Rattle.sector_world.specs.Planned.{IsLegal}
 use Rattle.sector_world.specs.Trees.{Distinct}

@@ -10,10 +10,10 @@ use Rattle.tree_definitions.specs.Tree.{FileTree}
 use Rattle.sector_bytes.specs.Blocks.{Block}
 use Rattle.disk_definitions.specs.declared.region.Region.TheVariants as region
 use Rattle.disk_definitions.specs.Regions.{sector_of}
-use Rattle.sector_histories.specs.Bytes.{Agree}
-use Rattle.sector_histories.specs.Histories.{Commit, in_doubt, logical}
-use Rattle.sector_histories.specs.Histories.Item.{Done}
-use Rattle.sector_histories.specs.Plans.{IsByPlan, Legal}
+use Rattle.sector_world.specs.HistoryBytes.{Agree}
+use Rattle.sector_world.specs.Histories.{Commit, in_doubt, logical}
+use Rattle.sector_world.specs.Histories.Item.{Done}
+use Rattle.sector_world.specs.Plans.{IsByPlan, Legal}
 use Rattle.sector_world.specs.Trees.{Distinct}
 use Rattle.disk_definitions.specs.Store.{Store}
 use Rattle.disk_definitions.specs.Ask.{run}
@@ -25,7 +25,7 @@ use Rattle.line_histories.specs.LinePlans.{byte_shown, hand_on, sector_plan}
 use Rattle.line_histories.specs.Following.{store_after}
 use Rattle.line_histories.specs.Trees.{MayNumber}
 use Rattle.byte_trees.specs.Cells.{Covers}
-use Rattle.byte_doubts.specs.Deeds.{Deed, Does, Says, Doubts, items, steps, tree_after}
+use Rattle.byte_trees.specs.Deeds.{Deed, Does, Says, Doubts, items, steps, tree_after}
 use Rattle.stop_laws.specs.Along.{LiesAfter}
 use Rattle.stop_laws.specs.Known.{IsToldTwice, KnowsCells}
 

@@ -5,10 +5,10 @@ use Rattle.tree_definitions.specs.History.{CellRun}
 use Rattle.tree_definitions.specs.Removal.{doubtful}
 use Rattle.tree_definitions.specs.Tree.{FileTree}
 use Rattle.sector_bytes.specs.Blocks.{Block}
-use Rattle.sector_histories.specs.Histories.{Each, Entry, in_doubt, synced_of}
-use Rattle.sector_histories.specs.Histories.Entry.{Did, Recovered, Synced, Mounted}
-use Rattle.sector_histories.specs.Seen.{Kept}
-use Rattle.byte_doubts.specs.Deeds.{Deed, Does, Says, Doubts, items, steps}
+use Rattle.sector_world.specs.Histories.{Each, Entry, in_doubt, synced_of}
+use Rattle.sector_world.specs.Histories.Entry.{Did, Recovered, Synced, Mounted}
+use Rattle.sector_world.specs.Seen.{Kept}
+use Rattle.byte_trees.specs.Deeds.{Deed, Does, Says, Doubts, items, steps}
 use Rattle.stop_laws.specs.Happened.{Happening, Acts, Speaks, Mounts, Covers, Recovers, on_sectors, settle, what_stays}
 use Rattle.stop_laws.specs.Paired.{AreLines, ArePaired}
 use Rattle.stop_laws.specs.Cells.{CoversMarks}

@@ -10,10 +10,10 @@ use Rattle.tree_definitions.specs.History.{Stays, InDoubt}
 use Rattle.tree_definitions.specs.Removal as trees
 use Rattle.tree_definitions.specs.Resolve.{resolve}
 use Rattle.tree_definitions.specs.Tree.{fresh}
-use Rattle.sector_histories.specs.Histories.{settled}
-use Rattle.byte_doubts.specs.Deeds.{items, steps}
-use Rattle.byte_doubts.specs.DoubtExamples.{a, b, none}
-use Rattle.byte_doubts.specs.Telling.{commit, numbered}
+use Rattle.sector_world.specs.Histories.{settled}
+use Rattle.byte_trees.specs.Deeds.{items, steps}
+use Rattle.byte_trees.specs.DoubtExamples.{a, b, none}
+use Rattle.byte_trees.specs.Telling.{commit, numbered}
 use Rattle.stop_laws.specs.Happened.{Happening, Acts, Speaks, Mounts, Recovers, on_sectors, on_tree, settle}
 
 -- an entry of server 0

@@ -2,7 +2,7 @@
 use Rattle.std.specs.Prelude.{◌≡◌, ◌≢◌, ℕ, None, List}
 use Rattle.tree_definitions.specs.Removal.{tree_from}
 use Rattle.tree_definitions.specs.Tree.{fresh}
-use Rattle.sector_histories.specs.Histories.{settled}
+use Rattle.sector_world.specs.Histories.{settled}
 use Rattle.sector_world.specs.Claims.{replayed}
 use Rattle.sector_world.specs.Kinds.{Good}
 use Rattle.sector_world.specs.Planned.{IsLegal}

@@ -5,9 +5,9 @@ use Rattle.tree_definitions.specs.declared.history.Entry.{Entry}
 use Rattle.tree_definitions.specs.declared.history.Item.{Item}
 use Rattle.tree_definitions.specs.declared.history.Item.TheVariants as item
 use Rattle.tree_definitions.specs.Tree.{FileTree}
-use Rattle.sector_histories.specs.Histories.{Commit, is_own, survives, synced_of}
-use Rattle.sector_histories.specs.Histories as sectors
-use Rattle.byte_doubts.specs.Deeds.{Deed, Does, Says, Doubts}
+use Rattle.sector_world.specs.Histories.{Commit, is_own, survives, synced_of}
+use Rattle.sector_world.specs.Histories as sectors
+use Rattle.byte_trees.specs.Deeds.{Deed, Does, Says, Doubts}
 use Rattle.stop_laws.specs.Known.{marked_by}
 
 -- an operation with its entry; an entry that does nothing to sectors; the entry of a mount, which covers the server's operations up to a number; a sync, or

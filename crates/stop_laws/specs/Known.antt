@@ -7,9 +7,9 @@ use Rattle.tree_definitions.specs.Touched.{shape_of}
 use Rattle.tree_definitions.specs.Tree.{FileTree}
 use Rattle.tree_laws.specs.WellFormed.{IsWellFormed}
 use Rattle.sector_bytes.specs.Blocks.{Block}
-use Rattle.sector_histories.specs.Bytes.{Known}
-use Rattle.sector_histories.specs.Histories.{Each, Item, in_doubt, is_logged, settled}
-use Rattle.sector_histories.specs.Plans.{IsByPlan, Legal}
+use Rattle.sector_world.specs.HistoryBytes.{Known}
+use Rattle.sector_world.specs.Histories.{Each, Item, in_doubt, is_logged, settled}
+use Rattle.sector_world.specs.Plans.{IsByPlan, Legal}
 use Rattle.sector_world.specs.Claims.{left, replayed}
 use Rattle.sector_world.specs.Kinds.{Good}
 use Rattle.sector_world.specs.Planned.{IsLegal}
@@ -24,7 +24,7 @@ use Rattle.line_histories.specs.Following.{Follows, store_after}
 use Rattle.line_histories.specs.Standing.{StandsNumbered}
 use Rattle.line_histories.specs.Trees.{AreTimes, MayNumber}
 use Rattle.byte_trees.specs.Cells.{IsByte}
-use Rattle.byte_doubts.specs.Deeds.{Deed, Doubts, items, steps, tree_after}
+use Rattle.byte_trees.specs.Deeds.{Deed, Doubts, items, steps, tree_after}
 use Rattle.stop_laws.specs.Along.{AllTold, HasShape, LiesAfter}
 use Rattle.byte_trees.specs.Standing.{HasItsBytes}
 

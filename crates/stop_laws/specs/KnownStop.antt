@@ -1,7 +1,7 @@
 -- What a stop of all servers leaves, by the entries of the file tree.
 use Rattle.std.specs.Prelude.{◌≡◌, ℕ, true, List, []}
 use Rattle.tree_definitions.specs.Tree.{FileTree}
-use Rattle.sector_histories.specs.Histories.{settled}
+use Rattle.sector_world.specs.Histories.{settled}
 use Rattle.sector_world.specs.Claims.{left, replayed}
 use Rattle.sector_world.specs.Kinds.{Good}
 use Rattle.sector_world.specs.Planned.{IsLegal}
@@ -12,7 +12,7 @@ use Rattle.line_histories.specs.LinePlans.{sector_plan}
 use Rattle.line_histories.specs.Following.{Follows}
 use Rattle.line_histories.specs.Standing.{StandsNumbered}
 use Rattle.line_histories.specs.Trees.{AreTimes, MayNumber}
-use Rattle.byte_doubts.specs.Deeds.{Deed, items, tree_after}
+use Rattle.byte_trees.specs.Deeds.{Deed, items, tree_after}
 use Rattle.stop_laws.specs.Along.{AllTold}
 use Rattle.stop_laws.specs.Known.{KnowsCells}
 use Rattle.stop_laws.specs.Cells.{AllShown}

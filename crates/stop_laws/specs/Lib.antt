@@ -19,3 +19,5 @@ pub mod AskedStop
 pub mod FreshDisks
 pub mod Stop
 pub mod Fresh
+pub mod Beginning
+pub mod TwoServers

@@ -6,8 +6,8 @@ use Rattle.tree_definitions.specs.declared.history.Entry.{Entry}
 use Rattle.tree_definitions.specs.Touched.{shape_of, touches}
 use Rattle.tree_definitions.specs.Tree.{FileTree, node_at}
 use Rattle.sector_bytes.specs.Blocks.{Block}
-use Rattle.sector_histories.specs.Histories.{Commit}
-use Rattle.sector_histories.specs.Plans.{Legal}
+use Rattle.sector_world.specs.Histories.{Commit}
+use Rattle.sector_world.specs.Plans.{Legal}
 use Rattle.sector_world.specs.Trees.{Distinct}
 use Rattle.disk_definitions.specs.Naming.{Naming}
 use Rattle.disk_definitions.specs.Meets.{IsOfTree}
@@ -15,7 +15,7 @@ use Rattle.line_histories.specs.LinePlans.{sector_plan}
 use Rattle.line_histories.specs.Following.{store_after}
 use Rattle.line_histories.specs.Standing.{StandsNumbered}
 use Rattle.line_histories.specs.Trees.{AreTimes, MayNumber}
-use Rattle.byte_doubts.specs.Deeds.{Deed, Does, items, tree_after}
+use Rattle.byte_trees.specs.Deeds.{Deed, Does, items, tree_after}
 use Rattle.stop_laws.specs.Paired.{AreLines}
 
 -- by whatever naming of what the sectors with versions say, an operation uses the lock of each node that is there and that its entry touches

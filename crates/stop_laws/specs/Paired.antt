@@ -6,13 +6,13 @@ use Rattle.tree_definitions.specs.History.{leaves_tree}
 use Rattle.tree_definitions.specs.Touched.{is_mounted}
 use Rattle.tree_definitions.specs.Tree.{FileTree}
 use Rattle.sector_bytes.specs.Blocks.{Block}
-use Rattle.sector_histories.specs.Histories.{Commit, Each, Item, Done, Doubt, OpsRise, settled}
-use Rattle.sector_histories.specs.Plans.{Legal}
-use Rattle.sector_histories.specs.Seen.{Unsynced}
+use Rattle.sector_world.specs.Histories.{Commit, Each, Item, Done, Doubt, OpsRise, settled}
+use Rattle.sector_world.specs.Plans.{Legal}
+use Rattle.sector_world.specs.Seen.{Unsynced}
 use Rattle.sector_world.specs.Trees.{Distinct}
 use Rattle.line_histories.specs.LinePlans.{sector_plan, without_bytes}
 use Rattle.line_histories.specs.Trees.{MayNumber}
-use Rattle.byte_doubts.specs.Deeds.{Deed, Does, Says, Doubts}
+use Rattle.byte_trees.specs.Deeds.{Deed, Does, Says, Doubts}
 use Rattle.stop_laws.specs.Happened.{Happening, Acts, Speaks, Mounts, Covers, Recovers, on_sectors}
 
 -- an operation and its entry are of one line: of one server, with one number, at the number's time, of what was asked, with one reply but for bytes, which

@@ -4,9 +4,9 @@ use Rattle.tree_definitions.specs.declared.history.Entry.{Entry}
 use Rattle.tree_definitions.specs.Tree.{FileTree}
 use Rattle.sector_bytes.specs.Blocks.{Block}
 use Rattle.sector_bytes.specs.Sectors.{Sectors}
-use Rattle.sector_histories.specs.Histories.{Commit, logical, settled, touches}
-use Rattle.sector_histories.specs.Plans.{Legal, outcome_of}
-use Rattle.sector_histories.specs.Seen.{Kept}
+use Rattle.sector_world.specs.Histories.{Commit, logical, settled, touches}
+use Rattle.sector_world.specs.Plans.{Legal, outcome_of}
+use Rattle.sector_world.specs.Seen.{Kept}
 use Rattle.sector_world.specs.Kinds.{Good}
 use Rattle.sector_world.specs.World.{World}
 use Rattle.disk_definitions.specs.Ask.{run}
@@ -14,7 +14,7 @@ use Rattle.disk_definitions.specs.Plans.{Finish}
 use Rattle.disk_definitions.specs.Plans.Plan.{Finishes}
 use Rattle.disk_definitions.specs.Lines.{plan_of_line}
 use Rattle.line_histories.specs.LinePlans.{hand_on, sector_plan, store_on}
-use Rattle.byte_doubts.specs.Deeds.{Deed, Does, Says, Doubts, items}
+use Rattle.byte_trees.specs.Deeds.{Deed, Does, Says, Doubts, items}
 use Rattle.stop_laws.specs.Happened.{Happening, Acts, Speaks, Mounts, Covers, Recovers, on_sectors, settle}
 use Rattle.stop_laws.specs.Paired.{ArePaired}
 use Rattle.stop_laws.specs.Settling.{stopped}

@@ -5,8 +5,8 @@ use Rattle.tree_definitions.specs.Removal.{is_recorded}
 use Rattle.tree_definitions.specs.Removal as trees
 use Rattle.tree_definitions.specs.Tree.{FileTree}
 use Rattle.sector_bytes.specs.Blocks.{Block}
-use Rattle.sector_histories.specs.Histories.{Commit, settled}
-use Rattle.sector_histories.specs.Plans.{Legal}
+use Rattle.sector_world.specs.Histories.{Commit, settled}
+use Rattle.sector_world.specs.Plans.{Legal}
 use Rattle.sector_world.specs.Claims.{left}
 use Rattle.sector_world.specs.Kinds.{Good}
 use Rattle.sector_world.specs.Planned.{IsLegal}
@@ -16,7 +16,7 @@ use Rattle.sector_world.specs.World.Phase.{Off, Up, Dead}
 use Rattle.line_histories.specs.LinePlans.{sector_plan}
 use Rattle.line_histories.specs.Standing.{StandsNumbered}
 use Rattle.line_histories.specs.Trees.{AreTimes, MayNumber}
-use Rattle.byte_doubts.specs.Deeds.{Deed, Does, items, steps, tree_after}
+use Rattle.byte_trees.specs.Deeds.{Deed, Does, items, steps, tree_after}
 use Rattle.stop_laws.specs.Along.{HasShape}
 use Rattle.stop_laws.specs.Happened.{Happening, Recovers, on_sectors, on_tree, settle}
 use Rattle.stop_laws.specs.Paired.{AreLines, ArePaired, IsKeptBy}

@@ -4,18 +4,18 @@ use Rattle.frang_base.specs.Locks.{has_lock}
 use Rattle.frang_base.specs.declared.lock.LockId.{LockId}
 use Rattle.tree_definitions.specs.Tree.{FileTree}
 use Rattle.sector_bytes.specs.Blocks.{Block}
-use Rattle.sector_histories.specs.Bytes.{Agree, is_free, value}
-use Rattle.sector_histories.specs.Histories.{Commit, Each, Entry, Item, OpsRise, kept, reaches, settled, survives}
-use Rattle.sector_histories.specs.Histories.Entry.{Did, Recovered, Synced, Mounted}
-use Rattle.sector_histories.specs.Histories.Item.{Done, Doubt}
-use Rattle.sector_histories.specs.Plans.{IsByPlan, Legal}
-use Rattle.sector_histories.specs.Seen.{Kept, Unmet, Unseen, cover_of}
+use Rattle.sector_world.specs.HistoryBytes.{Agree, is_free, value}
+use Rattle.sector_world.specs.Histories.{Commit, Each, Entry, Item, OpsRise, kept, reaches, settled, survives}
+use Rattle.sector_world.specs.Histories.Entry.{Did, Recovered, Synced, Mounted}
+use Rattle.sector_world.specs.Histories.Item.{Done, Doubt}
+use Rattle.sector_world.specs.Plans.{IsByPlan, Legal}
+use Rattle.sector_world.specs.Seen.{Kept, Unmet, Unseen, cover_of}
 use Rattle.sector_world.specs.Trees.{Distinct}
 use Rattle.line_histories.specs.LinePlans.{sector_plan}
 use Rattle.line_histories.specs.Following.{Follows}
 use Rattle.line_histories.specs.Standing.{StandsNumbered}
 use Rattle.line_histories.specs.Trees.{AreTimes, MayNumber}
-use Rattle.byte_doubts.specs.Deeds.{items}
+use Rattle.byte_trees.specs.Deeds.{items}
 use Rattle.stop_laws.specs.Happened.{Happening, on_sectors, settle}
 use Rattle.stop_laws.specs.Paired.{ArePaired}
 

@@ -2,7 +2,7 @@
 use Rattle.std.specs.Prelude.{◌≡◌, ◌≢◌, ℕ, true, List, []}
 use Rattle.tree_definitions.specs.Removal.{tree_from}
 use Rattle.tree_definitions.specs.Tree.{FileTree}
-use Rattle.sector_histories.specs.Histories.{settled}
+use Rattle.sector_world.specs.Histories.{settled}
 use Rattle.sector_world.specs.Claims.{replayed}
 use Rattle.sector_world.specs.Kinds.{Good}
 use Rattle.sector_world.specs.Planned.{IsLegal}

@@ -4,11 +4,11 @@ use Rattle.tree_definitions.specs.declared.history.Entry as trees
 use Rattle.tree_definitions.specs.Touched.{is_mounted, is_ok, is_sync}
 use Rattle.tree_definitions.specs.Tree.{FileTree}
 use Rattle.sector_bytes.specs.Blocks.{Block}
-use Rattle.sector_histories.specs.Histories.{Each, Entry, settled, synced_of}
-use Rattle.sector_histories.specs.Histories.Entry.{Did, Recovered, Synced, Mounted}
+use Rattle.sector_world.specs.Histories.{Each, Entry, settled, synced_of}
+use Rattle.sector_world.specs.Histories.Entry.{Did, Recovered, Synced, Mounted}
 use Rattle.line_histories.specs.Standing.{StandsNumbered}
 use Rattle.line_histories.specs.Trees.{AreTimes}
-use Rattle.byte_doubts.specs.Deeds.{Deed, Does, Says, Doubts, items}
+use Rattle.byte_trees.specs.Deeds.{Deed, Does, Says, Doubts, items}
 use Rattle.stop_laws.specs.Happened.{Happening, Acts, Speaks, Mounts, Covers, Recovers, on_sectors, settle, what_stays}
 use Rattle.stop_laws.specs.Paired.{ArePaired}
 

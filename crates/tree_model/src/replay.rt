@@ -9,12 +9,11 @@ ghost use Rattle.file_tree.specs.CanApply.{CanApply};
 ghost use Rattle.tree_model.specs.Replayed.{after_reading, after_redo, after_step_redo, is_within, item_within, all_within, IsPathStep};
 ghost use Rattle.file_tree.specs.Walks.{step_by};
 
-use crate::Tree;
 use crate::again::{done_again, is_path_op};
+use crate::{History, Tree};
 use file_tree::Step;
 use frang_base::limits::TARGET_BYTES_MAX;
 use frang_base::{Name, NoMemory, Op, OpNo, Reply};
-use history_reading::History;
 use tree_definitions::{Entry, Item};
 
 fn may_be_ok(op: &Op) -> bool

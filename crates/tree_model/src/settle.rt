@@ -6,12 +6,11 @@ ghost use Rattle.tree_definitions.specs.History.{after_all};
 ghost use Rattle.tree_definitions.specs.Removal.{mounts, is_of, begins_removal, left, sector_cells, file_sectors, is_doubtful, doubtful, recovered, settled, tree_from};
 ghost use Rattle.tree_model.specs.Replayed.{is_within, all_within};
 
-use crate::Tree;
 use crate::doubt::{Sought, is_doubtful};
 use crate::steps::{CellRun, Step, any_mounts};
+use crate::{History, Tree};
 use frang_base::limits::{FILE_BYTES_MAX, SECTOR_BYTES};
 use frang_base::{NoMemory, OpNo, ServerId};
-use history_reading::History;
 use tree_definitions::{Item, Node};
 
 // Whether a server's removal begins at a step: what it lost, after its last mount.

@@ -1,7 +1,0 @@
--- Outcome by outcome.
-use Rattle.byte_doubts.proofs.Lasting.{doubt_same}
-use Rattle.byte_doubts.proofs.Touching.{writes_touch}
-use Rattle.byte_doubts.proofs.doubt_is_the_same.Goals as goal
-
-pub returns : goal.returns
-returns c = record { same = doubt_same; touch = writes_touch }

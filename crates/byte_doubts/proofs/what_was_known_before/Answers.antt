@@ -1,6 +1,0 @@
--- Outcome by outcome.
-use Rattle.byte_doubts.proofs.Back.{steps_back}
-use Rattle.byte_doubts.proofs.what_was_known_before.Goals as goal
-
-pub returns : goal.returns
-returns c = record { back = steps_back }

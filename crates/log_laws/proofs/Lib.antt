@@ -1,2 +1,0 @@
-pub mod ReplayLaws
-pub mod SealingLaws
