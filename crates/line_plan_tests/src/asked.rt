@@ -3,9 +3,8 @@ ghost use Rattle.std.specs.Prelude.{IfOk};
 ghost use Rattle.line_plan.specs.Lines.{TargetFits};
 
 use crate::needed::locks_told;
-use edit_moves::cover_of;
 use dir_lookup::{Hand, Looked};
-use edit_moves::{Move, Thing, moves_of};
+use edit_moves::{Move, Thing, cover_of, moves_of};
 use frang_base::{Line, NoMemory, Op, Script, Sector, ServerId, Text, What};
 use frang_layout::{Region, region_of};
 use line_plan::{LineEnd, plan_line};
@@ -233,44 +232,58 @@ fn move_told(alloc: Global, moved: &Move) -> Result<String, NoMemory> {
 fn op_of(alloc: Global, act: Act) -> Result<Op, NoMemory>
     ensures { IfOk result TargetFits }
 {
-    Ok(match act {
-        Act::Create(path) => Op::Create {
-            path: path_of(alloc, path)?,
-        },
-        Act::Unlink(path) => Op::Unlink {
-            path: path_of(alloc, path)?,
-        },
-        Act::Rmdir(path) => Op::Rmdir {
-            path: path_of(alloc, path)?,
-        },
-        Act::Link(path, to) => Op::Link {
-            path: path_of(alloc, path)?,
-            to: path_of(alloc, to)?,
-        },
-        Act::Rename(path, to) => Op::Rename {
-            path: path_of(alloc, path)?,
-            to: path_of(alloc, to)?,
-        },
-        Act::Write(path, off, bytes) => Op::Write {
-            path: path_of(alloc, path)?,
-            off,
-            bytes: Text::of(alloc, bytes.as_bytes())?,
-        },
-        Act::Truncate(path, len) => Op::Truncate {
-            path: path_of(alloc, path)?,
-            len,
-        },
-        Act::Read(path) => Op::Read {
-            path: path_of(alloc, path)?,
-            off: 0,
-            len: 1,
-        },
-        Act::List(path) => Op::List {
-            path: path_of(alloc, path)?,
-        },
-        Act::Stat(path) => Op::Stat {
-            path: path_of(alloc, path)?,
-        },
-        Act::Sync => Op::Sync,
-    })
+    match act {
+        Act::Create(path) => {
+            let path = path_of(alloc, path)?;
+            Ok(Op::Create { path })
+        }
+        Act::Unlink(path) => {
+            let path = path_of(alloc, path)?;
+            Ok(Op::Unlink { path })
+        }
+        Act::Rmdir(path) => {
+            let path = path_of(alloc, path)?;
+            Ok(Op::Rmdir { path })
+        }
+        Act::Link(path, to) => {
+            let path = path_of(alloc, path)?;
+            let to = path_of(alloc, to)?;
+            Ok(Op::Link { path, to })
+        }
+        Act::Rename(path, to) => {
+            let path = path_of(alloc, path)?;
+            let to = path_of(alloc, to)?;
+            Ok(Op::Rename { path, to })
+        }
+        Act::Write(path, off, bytes) => {
+            let path = path_of(alloc, path)?;
+            let bytes = text_of(alloc, bytes)?;
+            Ok(Op::Write { path, off, bytes })
+        }
+        Act::Truncate(path, len) => {
+            let path = path_of(alloc, path)?;
+            Ok(Op::Truncate { path, len })
+        }
+        Act::Read(path) => {
+            let path = path_of(alloc, path)?;
+            Ok(Op::Read {
+                path,
+                off: 0,
+                len: 1,
+            })
+        }
+        Act::List(path) => {
+            let path = path_of(alloc, path)?;
+            Ok(Op::List { path })
+        }
+        Act::Stat(path) => {
+            let path = path_of(alloc, path)?;
+            Ok(Op::Stat { path })
+        }
+        Act::Sync => Ok(Op::Sync),
+    }
+}
+
+fn text_of(alloc: Global, text: &str) -> Result<Text, NoMemory> {
+    Text::of(alloc, text.as_bytes())
 }

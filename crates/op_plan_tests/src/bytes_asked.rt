@@ -1,9 +1,10 @@
 // Plans of operations on file bytes over a disk, and what is told of them.
 ghost use Rattle.std.specs.Prelude.{IfOk};
+ghost use Rattle.disk_definitions.specs.Held.{AreSegments};
 ghost use Rattle.op_data.specs.Bytes.{IsOfBytes};
 
 use dir_lookup::{Hand, Looked};
-use frang_base::{NoMemory, Op, Text};
+use frang_base::{NoMemory, Op, Path, Text};
 use meta_version::Sectors;
 use op_data::plan_bytes;
 use plan_disks::{
@@ -63,13 +64,24 @@ pub(crate) fn expect(
 }
 
 fn told(alloc: Global, sectors: &Sectors, telling: Telling, row: &Row) -> Result<String, NoMemory> {
-    let (asked, (segments, all), when, _) = *row;
-    let held = &held_of(alloc, segments)?;
-    let hand = Hand { sectors, held, all };
-    let ended = plan(alloc, &op_of(alloc, asked)?, when, &hand);
+    let (segments, all) = row.1;
+    let held = held_of(alloc, segments)?;
+    let hand = Hand {
+        sectors,
+        held: &held,
+        all,
+    };
+    told_at_hand(alloc, &hand, telling, row)
+}
+
+fn told_at_hand(alloc: Global, hand: &Hand, telling: Telling, row: &Row) -> Result<String, NoMemory>
+    requires { AreSegments hand.now.held.now }
+{
+    let op = op_of(alloc, row.0)?;
+    let ended = plan(alloc, &op, row.2, hand);
     match telling {
         Telling::Edits => ended_told(alloc, &ended),
-        Telling::Written => written_told(alloc, &hand, ended),
+        Telling::Written => written_told(alloc, hand, ended),
     }
 }
 
@@ -81,18 +93,26 @@ pub(crate) fn plan(alloc: Global, op: &Op, when: u64, hand: &Hand) -> Result<Out
     plan_bytes(alloc, op, when, hand, &mut looked)
 }
 
+fn named(alloc: Global, path: &str) -> Result<Path, NoMemory> {
+    path_of(alloc, path)
+}
+
+fn text_of(alloc: Global, text: &str) -> Result<Text, NoMemory> {
+    Text::of(alloc, text.as_bytes())
+}
+
 /// The operation on file bytes.
 pub(crate) fn op_of(alloc: Global, asked: Asked) -> Result<Op, NoMemory>
     ensures { IfOk result IsOfBytes }
 {
     match asked {
         Asked::Write(path, off, text) => {
-            let path = path_of(alloc, path)?;
-            let bytes = Text::of(alloc, text.as_bytes())?;
+            let path = named(alloc, path)?;
+            let bytes = text_of(alloc, text)?;
             Ok(Op::Write { path, off, bytes })
         }
         Asked::Fill(path, off, len, byte) => {
-            let path = path_of(alloc, path)?;
+            let path = named(alloc, path)?;
             Ok(Op::Fill {
                 path,
                 off,
@@ -101,11 +121,11 @@ pub(crate) fn op_of(alloc: Global, asked: Asked) -> Result<Op, NoMemory>
             })
         }
         Asked::Truncate(path, len) => {
-            let path = path_of(alloc, path)?;
+            let path = named(alloc, path)?;
             Ok(Op::Truncate { path, len })
         }
         Asked::Read(path, off, len) => {
-            let path = path_of(alloc, path)?;
+            let path = named(alloc, path)?;
             Ok(Op::Read { path, off, len })
         }
     }

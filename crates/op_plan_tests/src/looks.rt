@@ -3,9 +3,11 @@ ghost use Rattle.std.specs.Prelude.{IfOk};
 ghost use Rattle.op_look.specs.Looks.{IsLook};
 
 use frang_base::{NoMemory, Op, Sector};
+use meta_version::Sectors;
 use op_look::plan_look;
 use plan_disks::{Laid, path_of, plan_told, sectors_of};
 use std::alloc::Global;
+use std::process::Abort;
 use std::test::Fail;
 
 // An operation that only looks, with its path.
@@ -87,41 +89,38 @@ static DISK: [Laid; 11] = [
     (12_884_901_896, 1, &[(80, &[1, 0, 0, 0, 1, 1, b'x'])]),
 ];
 
-// The first answer that isn't as worked out, with the place of its row.
-fn differs(alloc: Global, rows: &[Row]) -> Result<Option<(usize, String)>, NoMemory> {
+// Each look is answered as worked out.
+fn expect(rt: &impl Abort, alloc: Global, rows: &[Row]) -> Result<(), Fail> {
     for (place, (look, missing, wanted)) in rows.iter().enumerate() {
         let text = told(alloc, *look, *missing)?;
-        if text.as_str() != *wanted {
-            return Ok(Some((place, text)));
-        }
+        assert!(rt; text.as_str() == *wanted, "row {place}: {text}");
     }
-    Ok(None)
+    Ok(())
 }
 
 fn told(alloc: Global, look: Look, missing: u64) -> Result<String, NoMemory> {
     let mut sectors = sectors_of(alloc, &DISK)?;
     sectors.remove(Sector(missing));
+    told_over(alloc, look, &sectors)
+}
+
+// What is told over the cached sectors.
+fn told_over(alloc: Global, look: Look, sectors: &Sectors) -> Result<String, NoMemory> {
     let op = look_of(alloc, look)?;
-    plan_told(alloc, &plan_look(alloc, &op, &sectors)?)
+    plan_told(alloc, &plan_look(alloc, &op, sectors)?)
 }
 
 // The operation that looks.
 fn look_of(alloc: Global, look: Look) -> Result<Op, NoMemory>
     ensures { IfOk result IsLook }
 {
+    let (Look::Stat(path) | Look::List(path) | Look::Readlink(path) | Look::Time(path)) = look;
+    let path = path_of(alloc, path)?;
     Ok(match look {
-        Look::Stat(path) => Op::Stat {
-            path: path_of(alloc, path)?,
-        },
-        Look::List(path) => Op::List {
-            path: path_of(alloc, path)?,
-        },
-        Look::Readlink(path) => Op::Readlink {
-            path: path_of(alloc, path)?,
-        },
-        Look::Time(path) => Op::Time {
-            path: path_of(alloc, path)?,
-        },
+        Look::Stat(_) => Op::Stat { path },
+        Look::List(_) => Op::List { path },
+        Look::Readlink(_) => Op::Readlink { path },
+        Look::Time(_) => Op::Time { path },
     })
 }
 
@@ -154,8 +153,7 @@ static LOOKS: [Row; 24] = [
 
 #[test]
 fn looks_at_a_small_disk(rt: HostRuntime) -> Result<(), Fail> {
-    assert_eq!(rt; differs(rt.alloc(), &LOOKS)?, None);
-    Ok(())
+    expect(&rt, rt.alloc(), &LOOKS)
 }
 
 static TIMES: [Row; 18] = [
@@ -182,8 +180,7 @@ static TIMES: [Row; 18] = [
 
 #[test]
 fn files_have_times(rt: HostRuntime) -> Result<(), Fail> {
-    assert_eq!(rt; differs(rt.alloc(), &TIMES)?, None);
-    Ok(())
+    expect(&rt, rt.alloc(), &TIMES)
 }
 
 static ASKED_FOR: [Row; 10] = [
@@ -205,6 +202,5 @@ static ASKED_FOR: [Row; 10] = [
 
 #[test]
 fn a_sector_that_is_not_cached_is_asked_for(rt: HostRuntime) -> Result<(), Fail> {
-    assert_eq!(rt; differs(rt.alloc(), &ASKED_FOR)?, None);
-    Ok(())
+    expect(&rt, rt.alloc(), &ASKED_FOR)
 }

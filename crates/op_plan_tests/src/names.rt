@@ -1,5 +1,5 @@
 // Operations on names over a small disk, worked out by hand: the reply with the numbers of its edits, or what is missing.
-use crate::names_asked::{Act, Row, Setting, Telling, differs};
+use crate::names_asked::{Act, Row, Setting, Telling, expect};
 use plan_disks::{Laid, Segment};
 use std::test::Fail;
 
@@ -203,9 +203,7 @@ static MADE: [Row; 22] = [
 
 #[test]
 fn nodes_are_made_as_worked_out_by_hand(rt: HostRuntime) -> Result<(), Fail> {
-    let differing = differs(rt.alloc(), (&DISK, &FULL), Telling::Edits, &MADE)?;
-    assert_eq!(rt; differing, None);
-    Ok(())
+    expect(&rt, rt.alloc(), (&DISK, &FULL), Telling::Edits, &MADE)
 }
 
 static REMOVED: [Row; 17] = [
@@ -255,9 +253,7 @@ static REMOVED: [Row; 17] = [
 
 #[test]
 fn names_are_removed_as_worked_out_by_hand(rt: HostRuntime) -> Result<(), Fail> {
-    let differing = differs(rt.alloc(), (&DISK, &FULL), Telling::Edits, &REMOVED)?;
-    assert_eq!(rt; differing, None);
-    Ok(())
+    expect(&rt, rt.alloc(), (&DISK, &FULL), Telling::Edits, &REMOVED)
 }
 
 static LINKED: [Row; 17] = [
@@ -302,9 +298,7 @@ static LINKED: [Row; 17] = [
 
 #[test]
 fn links_are_made_as_worked_out_by_hand(rt: HostRuntime) -> Result<(), Fail> {
-    let differing = differs(rt.alloc(), (&DISK, &FULL), Telling::Edits, &LINKED)?;
-    assert_eq!(rt; differing, None);
-    Ok(())
+    expect(&rt, rt.alloc(), (&DISK, &FULL), Telling::Edits, &LINKED)
 }
 
 // What is told where the new name takes a block that was a directory's.
@@ -349,14 +343,13 @@ static LINKED_BY_WHAT_IS_AT_HAND: [Row; 9] = [
 
 #[test]
 fn links_go_by_what_is_at_hand(rt: HostRuntime) -> Result<(), Fail> {
-    let differing = differs(
+    expect(
+        &rt,
         rt.alloc(),
         (&DISK, &FULL),
         Telling::Edits,
         &LINKED_BY_WHAT_IS_AT_HAND,
-    )?;
-    assert_eq!(rt; differing, None);
-    Ok(())
+    )
 }
 
 static MOVED: [Row; 18] = [
@@ -398,9 +391,7 @@ static MOVED: [Row; 18] = [
 
 #[test]
 fn names_are_moved_as_worked_out_by_hand(rt: HostRuntime) -> Result<(), Fail> {
-    let differing = differs(rt.alloc(), (&DISK, &FULL), Telling::Edits, &MOVED)?;
-    assert_eq!(rt; differing, None);
-    Ok(())
+    expect(&rt, rt.alloc(), (&DISK, &FULL), Telling::Edits, &MOVED)
 }
 
 static REPLACED: [Row; 12] = [
@@ -440,9 +431,7 @@ static REPLACED: [Row; 12] = [
 
 #[test]
 fn names_are_replaced_as_worked_out_by_hand(rt: HostRuntime) -> Result<(), Fail> {
-    let differing = differs(rt.alloc(), (&DISK, &FULL), Telling::Edits, &REPLACED)?;
-    assert_eq!(rt; differing, None);
-    Ok(())
+    expect(&rt, rt.alloc(), (&DISK, &FULL), Telling::Edits, &REPLACED)
 }
 
 // What is told where the long file is replaced, whose blocks all become free.
@@ -498,12 +487,11 @@ static MOVED_BY_WHAT_IS_AT_HAND: [Row; 11] = [
 
 #[test]
 fn moves_go_by_what_is_at_hand(rt: HostRuntime) -> Result<(), Fail> {
-    let differing = differs(
+    expect(
+        &rt,
         rt.alloc(),
         (&DISK, &FULL),
         Telling::Edits,
         &MOVED_BY_WHAT_IS_AT_HAND,
-    )?;
-    assert_eq!(rt; differing, None);
-    Ok(())
+    )
 }

@@ -1,5 +1,5 @@
 // Whole plans over a small disk, with what they write: sectors, versions and bytes worked out by hand from the format.
-use crate::names_asked::{Act, Row, Setting, Telling, differs};
+use crate::names_asked::{Act, Row, Setting, Telling, expect};
 use plan_disks::{Laid, Segment};
 use std::test::Fail;
 
@@ -231,9 +231,7 @@ static MADE: [Row; 13] = [
 
 #[test]
 fn nodes_are_made_as_worked_out_by_hand(rt: HostRuntime) -> Result<(), Fail> {
-    let differing = differs(rt.alloc(), (&LAID, &[7]), Telling::Written, &MADE)?;
-    assert_eq!(rt; differing, None);
-    Ok(())
+    expect(&rt, rt.alloc(), (&LAID, &[7]), Telling::Written, &MADE)
 }
 
 static ADDED_AND_REMOVED: [Row; 10] = [
@@ -293,14 +291,13 @@ static ADDED_AND_REMOVED: [Row; 10] = [
 
 #[test]
 fn names_are_added_and_removed_as_worked_out_by_hand(rt: HostRuntime) -> Result<(), Fail> {
-    let differing = differs(
+    expect(
+        &rt,
         rt.alloc(),
         (&LAID, &[7]),
         Telling::Written,
         &ADDED_AND_REMOVED,
-    )?;
-    assert_eq!(rt; differing, None);
-    Ok(())
+    )
 }
 
 static CHANGED: [Row; 11] = [
@@ -361,7 +358,5 @@ static CHANGED: [Row; 11] = [
 
 #[test]
 fn names_are_changed_as_worked_out_by_hand(rt: HostRuntime) -> Result<(), Fail> {
-    let differing = differs(rt.alloc(), (&LAID, &[7]), Telling::Written, &CHANGED)?;
-    assert_eq!(rt; differing, None);
-    Ok(())
+    expect(&rt, rt.alloc(), (&LAID, &[7]), Telling::Written, &CHANGED)
 }

@@ -1,6 +1,7 @@
 // Plans of operations on names over a disk, and what is told of them.
 ghost use Rattle.std.specs.Prelude.{IfOk};
 ghost use Rattle.disk_definitions.specs.Allowed.{IsAllowed};
+ghost use Rattle.disk_definitions.specs.Held.{AreSegments};
 ghost use Rattle.op_dir.specs.Names.{IsOfNames};
 
 use dir_lookup::{Hand, Looked};
@@ -12,6 +13,8 @@ use plan_disks::{
     written_told,
 };
 use std::alloc::Global;
+use std::process::Abort;
+use std::test::Fail;
 
 /// An operation on names, with its path, and with a second path or a target.
 #[derive(Clone, Copy)]
@@ -44,36 +47,63 @@ pub(crate) enum Telling {
 // Line 7 of run 3.
 const BIRTH: u64 = 3 * 4_294_967_296 + 7;
 
-/// The first plan that isn't as worked out, with the place of its row.
-pub(crate) fn differs(
+/// Each plan is as worked out.
+pub(crate) fn expect(
+    rt: &impl Abort,
     alloc: Global,
     disk: Disk,
     telling: Telling,
     rows: &[Row],
-) -> Result<Option<(usize, String)>, NoMemory> {
+) -> Result<(), Fail> {
     for (place, row) in rows.iter().enumerate() {
         let text = told(alloc, disk, telling, row)?;
-        if text.as_str() != row.2 {
-            return Ok(Some((place, text)));
-        }
+        assert!(rt; text.as_str() == row.2, "row {place}: {text}");
     }
-    Ok(None)
+    Ok(())
 }
 
 fn told(alloc: Global, disk: Disk, telling: Telling, row: &Row) -> Result<String, NoMemory> {
-    let (act, (segments, all, missing), _) = *row;
-    let sectors = cached(alloc, disk, missing)?;
+    let (act, setting, _) = *row;
+    let sectors = cached(alloc, disk, setting.2)?;
+    told_over(alloc, &sectors, telling, act, setting)
+}
+
+// What is told over the cached sectors.
+fn told_over(
+    alloc: Global,
+    sectors: &Sectors,
+    telling: Telling,
+    act: Act,
+    setting: Setting,
+) -> Result<String, NoMemory> {
+    let (segments, all, _) = setting;
     let held = held_of(alloc, segments)?;
     let hand = Hand {
-        sectors: &sectors,
+        sectors,
         held: &held,
         all,
     };
+    told_at_hand(alloc, &hand, telling, act)
+}
+
+fn told_at_hand(alloc: Global, hand: &Hand, telling: Telling, act: Act) -> Result<String, NoMemory>
+    requires { AreSegments hand.now.held.now }
+{
+    let op = op_of(alloc, act)?;
+    told_of(alloc, hand, telling, &op)
+}
+
+// What is told of the plan of an operation.
+fn told_of(alloc: Global, hand: &Hand, telling: Telling, op: &Op) -> Result<String, NoMemory>
+    requires segments { AreSegments hand.now.held.now }
+    requires names { IsOfNames op.now }
+    requires allowed { IsAllowed op.now }
+{
     let mut looked = Looked::unasked();
-    let ended = plan_names(alloc, &op_of(alloc, act)?, BIRTH, &hand, &mut looked);
+    let ended = plan_names(alloc, op, BIRTH, hand, &mut looked);
     match telling {
         Telling::Edits => ended_told(alloc, &ended),
-        Telling::Written => written_told(alloc, &hand, ended),
+        Telling::Written => written_told(alloc, hand, ended),
     }
 }
 
@@ -93,30 +123,37 @@ fn op_of(alloc: Global, act: Act) -> Result<Op, NoMemory>
     ensures names { IfOk result IsOfNames }
     ensures allowed { IfOk result IsAllowed }
 {
-    Ok(match act {
-        Act::Create(path) => Op::Create {
-            path: path_of(alloc, path)?,
-        },
-        Act::Mkdir(path) => Op::Mkdir {
-            path: path_of(alloc, path)?,
-        },
-        Act::Symlink(path, target) => Op::Symlink {
-            path: path_of(alloc, path)?,
-            target: target_of(alloc, target)?,
-        },
-        Act::Link(path, to) => Op::Link {
-            path: path_of(alloc, path)?,
-            to: path_of(alloc, to)?,
-        },
-        Act::Unlink(path) => Op::Unlink {
-            path: path_of(alloc, path)?,
-        },
-        Act::Rmdir(path) => Op::Rmdir {
-            path: path_of(alloc, path)?,
-        },
-        Act::Rename(path, to) => Op::Rename {
-            path: path_of(alloc, path)?,
-            to: path_of(alloc, to)?,
-        },
-    })
+    match act {
+        Act::Create(path) => {
+            let path = path_of(alloc, path)?;
+            Ok(Op::Create { path })
+        }
+        Act::Mkdir(path) => {
+            let path = path_of(alloc, path)?;
+            Ok(Op::Mkdir { path })
+        }
+        Act::Symlink(path, target) => {
+            let path = path_of(alloc, path)?;
+            let target = target_of(alloc, target)?;
+            Ok(Op::Symlink { path, target })
+        }
+        Act::Link(path, to) => {
+            let path = path_of(alloc, path)?;
+            let to = path_of(alloc, to)?;
+            Ok(Op::Link { path, to })
+        }
+        Act::Unlink(path) => {
+            let path = path_of(alloc, path)?;
+            Ok(Op::Unlink { path })
+        }
+        Act::Rmdir(path) => {
+            let path = path_of(alloc, path)?;
+            Ok(Op::Rmdir { path })
+        }
+        Act::Rename(path, to) => {
+            let path = path_of(alloc, path)?;
+            let to = path_of(alloc, to)?;
+            Ok(Op::Rename { path, to })
+        }
+    }
 }

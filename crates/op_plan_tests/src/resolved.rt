@@ -1,9 +1,11 @@
 // Where paths lead once links are followed, over a small disk whose sectors were worked out by hand, and which sector is asked for where one
 // isn't cached.
 use frang_base::{NoMemory, Path, Sector};
+use meta_version::Sectors;
 use namei::{Resolved, resolve};
 use plan_disks::{Laid, path_of, sectors_of};
 use std::alloc::Global;
+use std::process::Abort;
 use std::test::Fail;
 
 // A path, whether its last name is followed, a sector that isn't cached, or 0, and where it leads.
@@ -275,24 +277,31 @@ static DISK: [Laid; 43] = [
     ),
 ];
 
-// The first path that leads elsewhere, with the place of its row.
-fn differs(alloc: Global, rows: &[Row]) -> Result<Option<(usize, String)>, NoMemory> {
+// Each path leads where it was worked out.
+fn expect(rt: &impl Abort, alloc: Global, rows: &[Row]) -> Result<(), Fail> {
     for (place, row) in rows.iter().enumerate() {
         let text = told(alloc, row)?;
-        if text.as_str() != row.3 {
-            return Ok(Some((place, text)));
-        }
+        assert!(rt; text.as_str() == row.3, "row {place}: {text}");
     }
-    Ok(None)
+    Ok(())
 }
 
 fn told(alloc: Global, row: &Row) -> Result<String, NoMemory> {
-    let (path, last, missing, _) = *row;
     let mut sectors = sectors_of(alloc, &DISK)?;
-    sectors.remove(Sector(missing));
-    match resolve(alloc, &path_of(alloc, path)?, last, &sectors, 0)? {
+    sectors.remove(Sector(row.2));
+    told_over(alloc, row, &sectors)
+}
+
+// Where the path of a row leads over the cached sectors.
+fn told_over(alloc: Global, row: &Row, sectors: &Sectors) -> Result<String, NoMemory> {
+    let path = path_of(alloc, row.0)?;
+    resolved_told(alloc, &resolve(alloc, &path, row.1, sectors, 0)?)
+}
+
+fn resolved_told(alloc: Global, resolved: &Resolved) -> Result<String, NoMemory> {
+    match resolved {
         Resolved::Need(sector) => Ok(format!(in alloc; "needs {}", sector.0)?),
-        Resolved::At(path) => path_told(alloc, &path),
+        Resolved::At(path) => path_told(alloc, path),
         Resolved::NoEnt => Ok(format!(in alloc; "noent")?),
         Resolved::NotDir => Ok(format!(in alloc; "notdir")?),
         Resolved::Loop => Ok(format!(in alloc; "loop")?),
@@ -374,9 +383,7 @@ static LED: [Row; 48] = [
 
 #[test]
 fn paths_lead_through_links(rt: HostRuntime) -> Result<(), Fail> {
-    let differing = differs(rt.alloc(), &LED)?;
-    assert!(rt; differing.is_none(), "{differing:?}");
-    Ok(())
+    expect(&rt, rt.alloc(), &LED)
 }
 
 // Eight links are followed, wherever they stand; at the ninth one the walk ends.
@@ -396,9 +403,7 @@ static COUNTED: [Row; 11] = [
 
 #[test]
 fn eight_links_are_followed(rt: HostRuntime) -> Result<(), Fail> {
-    let differing = differs(rt.alloc(), &COUNTED)?;
-    assert!(rt; differing.is_none(), "{differing:?}");
-    Ok(())
+    expect(&rt, rt.alloc(), &COUNTED)
 }
 
 static ASKED_FOR: [Row; 20] = [
@@ -430,7 +435,5 @@ static ASKED_FOR: [Row; 20] = [
 
 #[test]
 fn a_sector_that_is_not_cached_is_asked_for(rt: HostRuntime) -> Result<(), Fail> {
-    let differing = differs(rt.alloc(), &ASKED_FOR)?;
-    assert!(rt; differing.is_none(), "{differing:?}");
-    Ok(())
+    expect(&rt, rt.alloc(), &ASKED_FOR)
 }

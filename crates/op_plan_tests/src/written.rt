@@ -1,13 +1,19 @@
 // What edits write: sectors, versions and bytes worked out by hand from the format.
+ghost use Rattle.disk_definitions.specs.Held.{AreSegments};
+ghost use Rattle.plan_steps.specs.Edits.{edits_of};
+ghost use Rattle.edit_writing.specs.Sectors.{HasNextVersions, at_hand};
+
 use bitmap_block::BlockState;
 use dir_lookup::Hand;
 use disk_definitions::{DirEntry, Inode};
 use edit_writing::{byte_writes, changes_of, freed_sectors, have_next_versions};
 use frang_base::NoMemory;
 use frang_base::limits::SECTOR_BYTES;
+use meta_version::Sectors;
 use plan_disks::{Laid, Segment, changes_told, freed_told, held_of, sectors_of, writes_told};
 use plan_steps::Edit;
 use std::alloc::Global;
+use std::process::Abort;
 use std::test::Fail;
 
 // The cached sectors, the edits, and what they write.
@@ -145,31 +151,58 @@ const LAST_VERSION: &[Laid] = &[(10_737_418_240, 1, &[(0, &[255; 512])])];
 
 // What the edits write over the cached sectors.
 fn told(alloc: Global, cached: &[Laid], edits: &[Edit]) -> Result<String, NoMemory> {
-    let (sectors, held) = (&sectors_of(alloc, cached)?, &held_of(alloc, &SEGMENTS)?);
+    let sectors = sectors_of(alloc, cached)?;
+    told_over(alloc, &sectors, edits)
+}
+
+fn told_over(alloc: Global, sectors: &Sectors, edits: &[Edit]) -> Result<String, NoMemory> {
+    let held = held_of(alloc, &SEGMENTS)?;
     let hand = Hand {
         sectors,
-        held,
+        held: &held,
         all: true,
     };
-    if !have_next_versions(&hand, edits) {
+    told_at_hand(alloc, &hand, edits)
+}
+
+// The changes, the bytes that are written, and the sectors that are freed.
+fn told_at_hand(alloc: Global, hand: &Hand, edits: &[Edit]) -> Result<String, NoMemory>
+    requires { AreSegments hand.now.held.now }
+{
+    if !have_next_versions(hand, edits) {
         return Ok(format!(in alloc; "a version has no next one")?);
     }
-    let changes = changes_of(alloc, &hand, edits)?;
-    let mut text = changes_told(alloc, changes.as_slice())?;
-    text.push_str(&writes_told(alloc, byte_writes(alloc, edits)?.as_slice())?)?;
-    text.push_str(&freed_told(alloc, freed_sectors(alloc, edits)?.as_slice())?)?;
+    let mut text = changed(alloc, hand, edits)?;
+    text.push_str(&written(alloc, edits)?)?;
+    text.push_str(&freed(alloc, edits)?)?;
     Ok(text)
 }
 
-// The first row that comes to something else, by its place.
-fn differs(alloc: Global, rows: &[Row]) -> Result<Option<(usize, String)>, NoMemory> {
+fn changed(alloc: Global, hand: &Hand, edits: &[Edit]) -> Result<String, NoMemory>
+    requires segments { AreSegments hand.now.held.now }
+    requires versions { HasNextVersions (at_hand hand.now) (edits_of edits.now) }
+{
+    let changes = changes_of(alloc, hand, edits)?;
+    changes_told(alloc, changes.as_slice())
+}
+
+fn written(alloc: Global, edits: &[Edit]) -> Result<String, NoMemory> {
+    let writes = byte_writes(alloc, edits)?;
+    writes_told(alloc, writes.as_slice())
+}
+
+fn freed(alloc: Global, edits: &[Edit]) -> Result<String, NoMemory> {
+    let freed = freed_sectors(alloc, edits)?;
+    freed_told(alloc, freed.as_slice())
+}
+
+// Each row comes to what was worked out.
+fn expect(rt: &impl Abort, alloc: Global, rows: &[Row]) -> Result<(), Fail> {
     for (place, (cached, edits, wanted)) in rows.iter().enumerate() {
         let text = told(alloc, cached, edits)?;
-        if text.as_str() != *wanted {
-            return Ok(Some((place, text)));
-        }
+        assert!(rt; text.as_str() == *wanted, "row {place}: {text}");
     }
-    Ok(None)
+    Ok(())
 }
 
 static EDITED: [Row; 4] = [
@@ -193,8 +226,7 @@ static EDITED: [Row; 4] = [
 
 #[test]
 fn edits_write_what_was_worked_out_by_hand(rt: HostRuntime) -> Result<(), Fail> {
-    assert_eq!(rt; differs(rt.alloc(), &EDITED)?, None);
-    Ok(())
+    expect(&rt, rt.alloc(), &EDITED)
 }
 
 const DATED: Edit = Edit::Inode {
@@ -312,6 +344,5 @@ static BY_TIME: [Row; 11] = [
 
 #[test]
 fn a_dated_inode_has_its_time_in_the_record(rt: HostRuntime) -> Result<(), Fail> {
-    assert_eq!(rt; differs(rt.alloc(), &BY_TIME)?, None);
-    Ok(())
+    expect(&rt, rt.alloc(), &BY_TIME)
 }

@@ -69,9 +69,13 @@ fn try_told(rt: &impl Abort, alloc: Global) {
 }
 
 #[test]
-fn outsides_in_memory_take_puts_in_time(rt: HostRuntime) -> Result<(), Fail> {
+fn outsides_in_memory_take_puts_in_time(rt: HostRuntime) {
     enters(&NoGate);
     try_told(&rt, rt.alloc());
+}
+
+#[test]
+fn the_real_outside_takes_puts_in_time(rt: HostRuntime) -> Result<(), Fail> {
     let mut out = passes(StdOutside::new(rt.alloc(), rt.clone()?));
     try_puts(&rt, &mut out, &IN_TIME);
     Ok(())
@@ -93,16 +97,20 @@ fn failing(alloc: Global) -> Result<FaultyOutside, NoMemory> {
     Ok(FaultyOutside::new(alloc, gets, puts, says))
 }
 
+fn try_failing(rt: &impl Abort, out: &mut FaultyOutside) {
+    try_puts(rt, out, &WITH_FAULTS);
+    assert!(rt; out.get(WRITER, SECTOR) == Err(Failed));
+    assert!(rt; has_bytes(out, SECTOR, 4));
+    assert!(rt; says(out, b"1 0 ok\n", Ok(())));
+    assert!(rt; says(out, b"1 0 ok\n", Err(SayFault::Failed)));
+    assert!(rt; says(out, b"1 0 ok\n", Ok(())));
+    assert!(rt; out.acts().len() == 5);
+}
+
 #[test]
 fn listed_calls_fail(rt: HostRuntime) -> Result<(), Fail> {
     let mut out = passes(failing(rt.alloc())?);
-    try_puts(&rt, &mut out, &WITH_FAULTS);
-    assert!(rt; out.get(WRITER, SECTOR) == Err(Failed));
-    assert!(rt; has_bytes(&mut out, SECTOR, 4));
-    assert!(rt; says(&mut out, b"1 0 ok\n", Ok(())));
-    assert!(rt; says(&mut out, b"1 0 ok\n", Err(SayFault::Failed)));
-    assert!(rt; says(&mut out, b"1 0 ok\n", Ok(())));
-    assert!(rt; out.acts().len() == 5);
+    try_failing(&rt, &mut out);
     Ok(())
 }
 
@@ -137,14 +145,24 @@ fn try_files<F: Files>(
     Ok(())
 }
 
-#[test]
-fn files_are_read_whole(rt: HostRuntime) -> Result<(), Fail> {
-    let alloc = rt.alloc();
-    let mut files = MemFiles::new(alloc);
+// Another file stays as it is.
+fn try_beside(rt: &impl Abort, alloc: Global, files: &mut MemFiles) -> Result<(), Fail> {
     files.put_file("other", b"stays")?;
-    try_files(&rt, alloc, &mut files, "s")?;
-    assert!(rt; files.read(alloc, "other", 5)?.as_slice() == b"stays".as_slice());
+    try_files(rt, alloc, files, "s")?;
+    let other = files.read(alloc, "other", 5)?;
+    assert!(rt; other.as_slice() == b"stays".as_slice());
+    Ok(())
+}
 
+#[test]
+fn files_in_memory_are_read_whole(rt: HostRuntime) -> Result<(), Fail> {
+    let mut files = MemFiles::new(rt.alloc());
+    try_beside(&rt, rt.alloc(), &mut files)
+}
+
+#[test]
+fn real_files_are_read_whole(rt: HostRuntime) -> Result<(), Fail> {
+    let alloc = rt.alloc();
     let id = process::id(rt.process());
     let path = env::temp_dir(&rt)?.join(alloc, format!(in alloc; "frang_outside_{id}")?)?;
     try_files(&rt, alloc, &mut DirFiles::new(rt.clone()?), path.as_str())?;
@@ -189,6 +207,13 @@ fn has_printed(paper: &Paper, text: &[u8]) -> bool {
     }
 }
 
+// Prints a line for which there is room, and one for which there isn't.
+fn print_on(rt: &impl Abort, alloc: Global, paper: &Paper) {
+    let mut out = StdOutside::new(alloc, paper);
+    assert!(rt; says(&mut out, b"1 0 ok\n", Ok(())));
+    assert!(rt; says(&mut out, b"2 0 ok\n", Err(SayFault::Failed)));
+}
+
 #[test]
 fn a_line_is_printed_whole_or_fails(rt: HostRuntime) {
     let alloc = rt.alloc();
@@ -196,8 +221,6 @@ fn a_line_is_printed_whole_or_fails(rt: HostRuntime) {
         printed: RefCell::new(Vec::new(alloc)),
         room: 10,
     };
-    let mut out = StdOutside::new(alloc, &paper);
-    assert!(rt; says(&mut out, b"1 0 ok\n", Ok(())));
-    assert!(rt; says(&mut out, b"2 0 ok\n", Err(SayFault::Failed)));
+    print_on(&rt, alloc, &paper);
     assert!(rt; has_printed(&paper, b"1 0 ok\n2 0"));
 }

@@ -4,11 +4,11 @@ use frang_base::{
     Line, Name, NameList, NoMemory, Op, OpNo, Patch, Patches, Path, Reply, Said, Script, ServerId,
     Text, What,
 };
-use tree_model::{History, has_times};
 use reply_text::write_line;
 use std::alloc::Global;
+use std::process::Abort;
 use std::test::Fail;
-use tree_model::{has_proper_targets, tree_left};
+use tree_model::{History, has_proper_targets, has_times, tree_left};
 
 fn push_name(path: &mut Path, bytes: &[u8]) -> Result<(), NoMemory> {
     match Name::of(bytes) {
@@ -185,16 +185,25 @@ fn answers(alloc: Global) -> Result<Vec<Said>, NoMemory> {
     Ok(said)
 }
 
-#[test]
-fn a_history_leaves_a_tree(rt: HostRuntime) -> Result<(), Fail> {
-    let alloc = rt.alloc();
-    let said = answers(alloc)?;
-    let script = script(alloc)?;
-    assert!(rt; has_times(&script));
-    let mut history = History::live(alloc, &script, 1, &said)?;
-    let text = left_tree(alloc, &history)?;
+// The history leaves a tree with the file, and has four entries once the server's are dropped.
+fn leaves_a_tree(rt: &impl Abort, alloc: Global, history: &mut History) -> Result<(), Fail> {
+    let text = left_tree(alloc, history)?;
     assert!(rt; text.as_slice() == b"= / dir 1\n= /a file 0 1\n".as_slice());
     history.drop_after(ServerId(0), OpNo(0))?;
     assert!(rt; history.as_slice().len() == 4);
     Ok(())
+}
+
+// So does that of a script's answers.
+fn lives(rt: &impl Abort, alloc: Global, script: &Script, said: &[Said]) -> Result<(), Fail> {
+    assert!(rt; has_times(script));
+    let mut history = History::live(alloc, script, 1, said)?;
+    leaves_a_tree(rt, alloc, &mut history)
+}
+
+#[test]
+fn a_history_leaves_a_tree(rt: HostRuntime) -> Result<(), Fail> {
+    let said = answers(rt.alloc())?;
+    let script = script(rt.alloc())?;
+    lives(&rt, rt.alloc(), &script, &said)
 }

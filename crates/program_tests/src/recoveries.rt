@@ -1,13 +1,12 @@
 // Histories with recoveries, and the trees that they leave, worked out by hand.
 use file_tree::Tree;
-use frang_base::{NoMemory, Said};
-use tree_model::{History, has_times};
+use frang_base::{NoMemory, Said, Script};
 use reply_text::{read_line, write_line};
 use script_lang::read_script;
 use std::alloc::Global;
 use std::test::Fail;
 use tree_definitions::{Cell, Node};
-use tree_model::{has_proper_targets, tree_left};
+use tree_model::{History, has_proper_targets, has_times, tree_left};
 
 // What was made after the sync is lost.
 const UNSYNCED: &str = "0 mount : mounted
@@ -186,20 +185,36 @@ fn picture(alloc: Global, tree: &Tree) -> Result<Vec<u8>, NoMemory> {
     Ok(text)
 }
 
+// The picture of the tree that a history leaves of a fresh one.
+fn picture_of_history(alloc: Global, history: &History) -> Result<Vec<u8>, NoMemory> {
+    if !has_proper_targets(history) {
+        return Ok(Vec::new(alloc));
+    }
+    let fresh = Tree::fresh(alloc, 16)?;
+    let tree = tree_left(&fresh, history)?;
+    picture(alloc, &tree)
+}
+
+// The same of what was said of a script.
+fn picture_of_run(alloc: Global, script: &Script, saids: &[Said]) -> Result<Vec<u8>, NoMemory> {
+    if !has_times(script) {
+        return Ok(Vec::new(alloc));
+    }
+    let history = History::live(alloc, script, 1, saids)?;
+    picture_of_history(alloc, &history)
+}
+
+fn picture_of_text(alloc: Global, text: &[u8], saids: &[Said]) -> Result<Vec<u8>, NoMemory> {
+    match read_script(alloc, text) {
+        Ok(script) => picture_of_run(alloc, &script, saids),
+        Err(_) => Ok(Vec::new(alloc)),
+    }
+}
+
 // The picture of the tree that a table leaves of a fresh one.
 fn picture_left(alloc: Global, table: &str) -> Result<Vec<u8>, NoMemory> {
-    let (script, saids) = split_table(alloc, table)?;
-    let Ok(script) = read_script(alloc, &script) else {
-        return Ok(Vec::new(alloc));
-    };
-    if !has_times(&script) {
-        return Ok(Vec::new(alloc));
-    }
-    let history = History::live(alloc, &script, 1, &saids)?;
-    if !has_proper_targets(&history) {
-        return Ok(Vec::new(alloc));
-    }
-    picture(alloc, &tree_left(&Tree::fresh(alloc, 16)?, &history)?)
+    let (text, saids) = split_table(alloc, table)?;
+    picture_of_text(alloc, &text, &saids)
 }
 
 // A table, and the picture of the tree that it leaves.
