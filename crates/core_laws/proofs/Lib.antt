@@ -29,7 +29,7 @@ mod Blocks
 mod Rows
 mod Ticks
 mod EventKeys
-mod Leases
+mod Lasting
 mod Asked
 mod Wishing
 mod Lists

@@ -17,7 +17,7 @@ use Rattle.sector_world.specs.Histories.Fill.{Written, Freed}
 use Rattle.sector_world.specs.Histories.Item.{Done, Doubt}
 use Rattle.sector_world.specs.Plans.{Outcome, outcome_of, Legal, IsByPlan}
 use Rattle.sector_world.specs.Seen as seen
-use Rattle.sector_world.proofs.Histories.{each_kept}
+use Rattle.sector_world.proofs.HistoryLaws.{each_kept}
 use Rattle.disk_definitions.specs.declared.region.Region.{Region}
 use Rattle.disk_definitions.specs.declared.region.Region.TheVariants as region
 use Rattle.disk_definitions.specs.Regions.{sector_of, region_of, is_in_range}

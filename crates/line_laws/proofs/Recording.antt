@@ -17,7 +17,7 @@ use Rattle.tree_laws.specs.Refusals.{says_ok}
 use Rattle.tree_laws.proofs.Resolving.{IsOf, performed_refusals_leave}
 use Rattle.tree_laws.proofs.Sameness.{no_difference, differs_or_not}
 use Rattle.tree_laws.proofs.Editing.{resolved_writes}
-use Rattle.tree_laws.proofs.Shapes.{differs_changes}
+use Rattle.tree_laws.proofs.SameShapes.{differs_changes}
 use Rattle.tree_laws.proofs.ShapeNodes.{found}
 use Rattle.disk_definitions.specs.Store.{Store}
 use Rattle.disk_definitions.specs.Naming.{find_in}

@@ -8,7 +8,7 @@ use Rattle.sector_world.specs.HistoryBytes.{filled, turned, value, is_free_by, i
 use Rattle.sector_world.specs.HistoryBytes.OnData.{here, newer, marked}
 use Rattle.sector_world.specs.Seen.{IsLost, Alters, Unseen}
 use Rattle.frang_base.proofs.Basics.{by_test, by_keep, eq_of, le_of, of_eq, of_lt, le_or_lt, or_equal, true_or}
-use Rattle.sector_world.proofs.Histories.{each_map, each_kept}
+use Rattle.sector_world.proofs.HistoryLaws.{each_map, each_kept}
 use Rattle.sector_world.proofs.Removals.{survives_low}
 
 pub survives_up : (d k : ℕ) (a : Commit) → a.by ≡ d → survives d k a ≡ true → a.op ≤ k

@@ -11,7 +11,7 @@ use Rattle.sector_world.specs.HistoryBytes.OnData.{here, marked}
 use Rattle.sector_world.specs.Plans.{IsByPlan}
 use Rattle.sector_world.specs.Seen.{Alters, Unsynced}
 use Rattle.frang_base.proofs.Basics.{by_test, eq_of, le_or_lt, at_put, put_other}
-use Rattle.sector_world.proofs.Histories.{each_map, each_kept}
+use Rattle.sector_world.proofs.HistoryLaws.{each_map, each_kept}
 use Rattle.sector_world.proofs.Seen.{each_kept_with}
 use Rattle.sector_world.proofs.Bytes.{survives_up, free_kept, known_kept, doubt_kept, finish_known, recovered_known, agree_kept, data_kept}
 use Rattle.sector_world.specs.World.{World, Phase, Page, ByteFlight, Rescue, cover}

@@ -11,7 +11,7 @@ use Rattle.sector_world.specs.HistoryBytes.{is_free, AllWritten, OnData}
 use Rattle.sector_world.specs.HistoryBytes.OnData.{here}
 use Rattle.sector_world.specs.Seen.{Alters}
 use Rattle.frang_base.proofs.Basics.{by_test, le_or_lt, true_or, lock_of, lock_same, lock_not, at_put, put_other, at_lock}
-use Rattle.sector_world.proofs.Histories.{each_map2}
+use Rattle.sector_world.proofs.HistoryLaws.{each_map2}
 use Rattle.sector_world.proofs.Bytes.{data_map}
 use Rattle.sector_world.specs.World.{World, Phase, Page, cover}
 use Rattle.sector_world.specs.World.Phase.{Off, Up, Dead}

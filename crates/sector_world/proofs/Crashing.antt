@@ -6,7 +6,7 @@ use Rattle.frang_base.specs.Functions.{put}
 use Rattle.sector_world.specs.Histories.{settled}
 use Rattle.sector_world.specs.OnDisk.{OnDisk}
 use Rattle.frang_base.proofs.Basics.{by_test, ne_of, at_put}
-use Rattle.sector_world.proofs.Histories.{on_disk_map}
+use Rattle.sector_world.proofs.HistoryLaws.{on_disk_map}
 use Rattle.sector_world.proofs.Leases.{well_before}
 use Rattle.sector_world.specs.World.{World, Rescue, cover, Flight}
 use Rattle.sector_world.specs.World.Phase.{Off, Up, Dead}

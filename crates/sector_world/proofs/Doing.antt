@@ -16,7 +16,7 @@ use Rattle.sector_world.specs.OnDisk.OnDisk.{pending}
 use Rattle.sector_world.specs.Seen.{moved, Alters, IsLost, SawNone}
 use Rattle.frang_base.proofs.Basics.{of_lt, of_eq, of_ne, at_put}
 use Rattle.sector_bytes.proofs.ChangeLaws.{version-changed}
-use Rattle.sector_world.proofs.Histories.{each_map, on_disk_map, disk_version}
+use Rattle.sector_world.proofs.HistoryLaws.{each_map, on_disk_map, disk_version}
 use Rattle.sector_world.proofs.Removals.{named_keep}
 use Rattle.sector_world.specs.World.{World, Phase, Slot, Flight, Rescue, cover}
 use Rattle.sector_world.specs.World.Phase.{Off, Up, Dead}

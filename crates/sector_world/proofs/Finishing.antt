@@ -13,7 +13,7 @@ use Rattle.sector_world.specs.OnDisk.{AllDurable, OnDisk}
 use Rattle.sector_world.specs.OnDisk.OnDisk.{in_place, passed}
 use Rattle.sector_world.specs.Seen.{Alters}
 use Rattle.frang_base.proofs.Basics.{by_test, eq_of, le_of, le_or_lt, or_equal, at_put, put_other}
-use Rattle.sector_world.proofs.Histories.{each_map, rising_kept, kept_logical, replayed_is, on_disk_map, on_disk_kept}
+use Rattle.sector_world.proofs.HistoryLaws.{each_map, rising_kept, kept_logical, replayed_is, on_disk_map, on_disk_kept}
 use Rattle.sector_world.proofs.Removals.{survives_own, survives_low, ops_kept, own_none, own_kept, all_durable_kept, last_kept}
 use Rattle.sector_world.proofs.Seen.{unseen_kept, unmet_kept, cover_kept, each_kept_with}
 use Rattle.sector_world.specs.World.{World, Phase, Slot, Flight, Rescue, cover}

@@ -4,7 +4,7 @@ use Rattle.frang_base.specs.declared.change.Change.{Change}
 use Rattle.frang_base.specs.declared.lock.Mode.{Mode}
 use Rattle.frang_base.specs.declared.lock.Mode.TheVariants.{Sole}
 use Rattle.frang_base.proofs.Basics.{by_keep, le_or_lt}
-use Rattle.sector_world.proofs.Histories.{AtMost, each_map, each_map2, in_place_or, own_by}
+use Rattle.sector_world.proofs.HistoryLaws.{AtMost, each_map, each_map2, in_place_or, own_by}
 use Rattle.sector_world.specs.World.Phase.{Off, Up, Dead}
 use Rattle.sector_world.specs.Logged.{Pending, NoneIfOff, FlightOk}
 use Rattle.sector_world.specs.Bytes.{ByteFlightOk}

@@ -11,7 +11,7 @@ use Rattle.sector_world.specs.OnDisk.{OnDisk}
 use Rattle.sector_world.specs.OnDisk.OnDisk.{in_place}
 use Rattle.frang_base.proofs.Basics.{by_test, eq_of, ne_of, some_same, at_put, put_same, put_other, at_put2}
 use Rattle.sector_bytes.proofs.SameBytes.{same_bytes_is, same_bytes_refl}
-use Rattle.sector_world.proofs.Histories.{AtMost, each_map, all_skipped, on_disk_map, in_place_or}
+use Rattle.sector_world.proofs.HistoryLaws.{AtMost, each_map, all_skipped, on_disk_map, in_place_or}
 use Rattle.sector_world.proofs.More.{all_settled, redo_twice}
 use Rattle.sector_world.specs.World.{World, Phase, Slot, Flight, Told, Rescue, cover}
 use Rattle.sector_world.specs.World.Phase.{Off, Up, Dead}

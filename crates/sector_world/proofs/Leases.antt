@@ -8,7 +8,7 @@ use Rattle.sector_world.specs.Histories.{Commit, settled}
 use Rattle.sector_world.specs.Seen.{Unsynced}
 use Rattle.sector_world.specs.OnDisk.{OnDisk}
 use Rattle.frang_base.proofs.Basics.{by_test, at_put, put_same, put_other, eq_of, ne_of}
-use Rattle.sector_world.proofs.Histories.{on_disk_map}
+use Rattle.sector_world.proofs.HistoryLaws.{on_disk_map}
 use Rattle.sector_world.specs.World.{World, Phase, Slot, Flight, Rescue, cover}
 use Rattle.sector_world.specs.World.Phase.{Off, Up, Dead}
 use Rattle.sector_world.specs.World.Slot.{Absent, Clean, Dirty}

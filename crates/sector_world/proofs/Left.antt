@@ -9,7 +9,7 @@ use Rattle.sector_world.specs.HistoryBytes.{is_free, Known, AllWritten, OnData, 
 use Rattle.sector_world.specs.HistoryBytes.OnData.{here, newer, marked}
 use Rattle.sector_world.specs.Seen.{Alters, Unseen}
 use Rattle.frang_base.proofs.Basics.{by_test, of_le, of_lt, of_eq, of_ne, le_or_lt, or_equal, true_or}
-use Rattle.sector_world.proofs.Histories.{each_map, each_kept}
+use Rattle.sector_world.proofs.HistoryLaws.{each_map, each_kept}
 use Rattle.sector_world.proofs.Seen.{each_kept_with, unseen_kept, clear_survives}
 use Rattle.sector_world.proofs.Removals.{survives_low, ops_kept}
 use Rattle.sector_world.proofs.Bytes.{survives_up, kept_id, free_kept, known_kept, known_past, known_marked, writes_reach, doubt_kept, finish_known, recovered_known, agree_kept, data_kept}

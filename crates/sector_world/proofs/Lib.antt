@@ -23,7 +23,7 @@ pub mod Legal
 pub mod Trees
 pub mod Examples
 pub mod Quiet
-pub mod Histories
+pub mod HistoryLaws
 pub mod Removals
 pub mod More
 pub mod Seen

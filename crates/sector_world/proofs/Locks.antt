@@ -10,7 +10,7 @@ use Rattle.sector_world.specs.Histories.{Commit, settled, Each}
 use Rattle.sector_world.specs.OnDisk.{OnDisk}
 use Rattle.sector_world.specs.Seen.{Alters}
 use Rattle.frang_base.proofs.Basics.{by_test, some_same, lock_of, lock_not, at_put, at_put2, at_lock}
-use Rattle.sector_world.proofs.Histories.{each_map, each_map2, on_disk_map, all_in_place}
+use Rattle.sector_world.proofs.HistoryLaws.{each_map, each_map2, on_disk_map, all_in_place}
 use Rattle.sector_world.specs.World.{World, Phase, Slot, Flight, cover}
 use Rattle.sector_world.specs.World.Phase.{Off, Up, Dead}
 use Rattle.sector_world.specs.World.Slot.{Absent, Clean, Dirty}

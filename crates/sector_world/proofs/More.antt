@@ -13,7 +13,7 @@ use Rattle.sector_world.specs.OnDisk.{Raises, Rising, AllDurable, OnDisk}
 use Rattle.sector_world.specs.OnDisk.OnDisk.{in_place, pending, passed}
 use Rattle.frang_base.proofs.Basics.{by_test, by_keep, le_of, of_le, of_gt, of_ge, le_or_lt, some_or}
 use Rattle.sector_bytes.proofs.ChangeLaws.{version-changed}
-use Rattle.sector_world.proofs.Histories.{AtMost, each_map, up_keep, redo_keep, disk_version, kept_logical, replayed_is, unchanged}
+use Rattle.sector_world.proofs.HistoryLaws.{AtMost, each_map, up_keep, redo_keep, disk_version, kept_logical, replayed_is, unchanged}
 use Rattle.sector_world.proofs.Removals.{named_keep, survives_low, survives_own}
 
 pub at_most_more : (o : Option Change) (n m : ℕ) → n ≤ m → AtMost o n → AtMost o m

@@ -5,7 +5,7 @@ use Rattle.sector_world.specs.Histories.{Commit, Item, kept, logical}
 use Rattle.sector_world.specs.Histories.Item.{Done, Doubt}
 use Rattle.sector_world.specs.Plans.{Plan, outcome_of, IsFramed, Legal, IsClear}
 use Rattle.frang_base.proofs.Basics.{by_keep}
-use Rattle.sector_world.proofs.Histories.{kept_logical}
+use Rattle.sector_world.proofs.HistoryLaws.{kept_logical}
 
 pub legal_kept : (plan : Plan) (opening : ℕ → Block) (keep : Commit → Bool) → IsFramed plan
     → (h : List Item) → IsClear keep h → Legal plan opening h → Legal plan opening (kept keep h)

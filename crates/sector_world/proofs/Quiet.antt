@@ -2,7 +2,7 @@
 use Rattle.std.proofs.Common.{ℕ, ◌≡◌, ◌≢◌, false, Bool, refl}
 use Rattle.sector_world.specs.Histories.{settled, in_doubt}
 use Rattle.sector_world.specs.HistoryBytes.{is_free}
-use Rattle.sector_world.proofs.Histories.{all_in_place}
+use Rattle.sector_world.proofs.HistoryLaws.{all_in_place}
 use Rattle.sector_world.specs.World.{World, Phase, Slot, Page}
 use Rattle.sector_world.specs.World.Phase.{Off, Up, Dead}
 use Rattle.sector_world.specs.World.Slot.{Absent, Clean, Dirty}

@@ -12,7 +12,7 @@ use Rattle.sector_world.specs.OnDisk.{AllDurable, OnDisk}
 use Rattle.sector_world.specs.OnDisk.OnDisk.{in_place}
 use Rattle.sector_world.specs.Seen.{Alters, Unsynced}
 use Rattle.frang_base.proofs.Basics.{some_same, at_put}
-use Rattle.sector_world.proofs.Histories.{each_map, on_disk_map, all_durable}
+use Rattle.sector_world.proofs.HistoryLaws.{each_map, on_disk_map, all_durable}
 use Rattle.sector_world.proofs.Removals.{last_named}
 use Rattle.sector_world.proofs.More.{last_pending, named_more}
 use Rattle.sector_world.proofs.Seen.{unseen_more, unmet_more, unsynced_more}

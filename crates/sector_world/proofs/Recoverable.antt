@@ -6,7 +6,7 @@ use Rattle.sector_bytes.specs.Replays.{change_at, redo_all, up_to}
 use Rattle.sector_world.specs.Histories.{Commit, kept, settled, is_left, logical, Each, Changes}
 use Rattle.sector_world.specs.OnDisk.{AllDurable}
 use Rattle.frang_base.proofs.Basics.{of_le, le_or_lt}
-use Rattle.sector_world.proofs.Histories.{AtMost, each_map, rising_bound, all_skipped, kept_logical, replayed_is, pending_or_not, in_place_or}
+use Rattle.sector_world.proofs.HistoryLaws.{AtMost, each_map, rising_bound, all_skipped, kept_logical, replayed_is, pending_or_not, in_place_or}
 use Rattle.sector_world.proofs.Removals.{redo_named}
 use Rattle.sector_world.proofs.More.{at_most_more}
 use Rattle.sector_world.specs.World.{World, cover}

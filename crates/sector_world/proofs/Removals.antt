@@ -13,7 +13,7 @@ use Rattle.sector_world.specs.OnDisk.{AllDurable, OnDisk}
 use Rattle.sector_world.specs.OnDisk.OnDisk.{in_place, pending, passed}
 use Rattle.frang_base.proofs.Basics.{by_test, by_keep, eq_of, of_le, of_eq, of_ne, of_ge, of_lt}
 use Rattle.sector_bytes.proofs.ChangeLaws.{version-changed}
-use Rattle.sector_world.proofs.Histories.{each_kept, up_keep}
+use Rattle.sector_world.proofs.HistoryLaws.{each_kept, up_keep}
 
 -- who survives
 pub survives_other : (d k : ℕ) (c : Commit) → c.by ≢ d → survives d k c ≡ true

@@ -9,7 +9,7 @@ use Rattle.sector_world.specs.Histories.Entry.{Did, Recovered, Synced, Mounted}
 use Rattle.sector_world.specs.Seen.{moved, cover_of, Alters, IsLost, Unseen, Unmet, Unsynced}
 use Rattle.sector_world.specs.Plans.{IsClear}
 use Rattle.frang_base.proofs.Basics.{by_keep, or_equal, le_or_lt, le_of}
-use Rattle.sector_world.proofs.Histories.{each_map, each_kept}
+use Rattle.sector_world.proofs.HistoryLaws.{each_map, each_kept}
 use Rattle.sector_world.proofs.Removals.{survives_own, survives_low}
 
 pub unseen_kept : (d k : ℕ) (keep : Commit → Bool) (h : List Item) → Unseen d k h → Unseen d k (kept keep h)

@@ -6,7 +6,7 @@ use Rattle.sector_world.specs.Histories.{Commit, Item, settled, survives, kept, 
 use Rattle.sector_world.specs.Histories.Item.{Done, Doubt}
 use Rattle.sector_world.specs.Plans.{Plan, outcome_of, Legal}
 use Rattle.frang_base.proofs.Basics.{by_keep}
-use Rattle.sector_world.proofs.Histories.{each_kept}
+use Rattle.sector_world.proofs.HistoryLaws.{each_kept}
 use Rattle.sector_world.specs.World.{World}
 use Rattle.sector_world.specs.Steps.{Event, after, Run}
 use Rattle.sector_world.specs.Steps.Event.{Tick, Leave, Fail, Renew, Mount, Unmount, Take, Give, Lower, Do, Reach, Ack, Sync, Reclaim, Crash, Begin, Look, Finish, Fetch, Issue, Replay, Land, Fade, Break, BreakNew, FetchBytes, Clear, IssueBytes, LandBytes, FadeBytes, BreakBytes, BreakBytesNew, Settle}

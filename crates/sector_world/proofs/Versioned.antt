@@ -12,7 +12,7 @@ use Rattle.sector_world.specs.Histories.Item.{Done, Doubt}
 use Rattle.sector_world.specs.HistoryBytes.{is_free_by, is_free, AllWritten}
 use Rattle.sector_world.specs.Seen.{Alters, Unseen, IsLost}
 use Rattle.frang_base.proofs.Basics.{by_test, le_or_lt, or_equal, at_put, at_put2, by_keep}
-use Rattle.sector_world.proofs.Histories.{each_map, each_map2, each_kept, unchanged}
+use Rattle.sector_world.proofs.HistoryLaws.{each_map, each_map2, each_kept, unchanged}
 use Rattle.sector_world.proofs.Removals.{survives_low}
 use Rattle.sector_world.proofs.Bytes.{survives_up, none_writes, free_kept, data_in_place}
 use Rattle.sector_world.specs.World.{World, Page, ByteFlight, Rescue, cover, has_version}

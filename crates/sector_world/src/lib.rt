@@ -9,4 +9,4 @@ mod histories;
 mod world;
 
 pub use histories::{doubtless_bytes, removed_unseen, replayed_sector};
-pub use world::{every_event, every_run, example_runs};
+pub use world::{every_event, every_run, every_tree, every_tree_event, example_runs};

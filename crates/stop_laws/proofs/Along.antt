@@ -8,7 +8,7 @@ use Rattle.sector_world.specs.Histories.{Each, Entry, settled, survives, synced_
 use Rattle.sector_world.specs.Histories.Entry.{Did, Recovered, Synced, Mounted}
 use Rattle.sector_world.specs.Plans.{IsByPlan}
 use Rattle.sector_world.specs.Seen.{Kept, Unmet, Unseen}
-use Rattle.sector_world.proofs.Histories.{each_kept, each_map}
+use Rattle.sector_world.proofs.HistoryLaws.{each_kept, each_map}
 use Rattle.byte_trees.specs.Deeds.{Deed, Does, Says, Doubts, items}
 use Rattle.stop_laws.specs.Happened.{Happening, Acts, Speaks, Mounts, Covers, Recovers, on_sectors, settle, what_stays}
 use Rattle.stop_laws.specs.Paired.{ArePaired, MayRecover}

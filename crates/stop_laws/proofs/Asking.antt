@@ -7,7 +7,7 @@ use Rattle.sector_world.specs.Histories.{Each, Item, OpsRise, kept, recovered, s
 use Rattle.sector_world.specs.Histories.Item.{Done, Doubt}
 use Rattle.sector_world.specs.Plans.{Legal}
 use Rattle.sector_world.specs.Seen.{Kept, Unmet, Unseen, Unsynced}
-use Rattle.sector_world.proofs.Histories.{each_kept}
+use Rattle.sector_world.proofs.HistoryLaws.{each_kept}
 use Rattle.sector_world.proofs.Removals.{survives_other}
 use Rattle.sector_world.proofs.Seen.{unmet_kept}
 use Rattle.sector_world.specs.Claims.{left, left_by}

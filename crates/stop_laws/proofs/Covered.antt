@@ -12,7 +12,7 @@ use Rattle.sector_world.specs.Histories.{Commit, Each, Item, in_doubt, is_own, k
 use Rattle.sector_world.specs.Histories.Item.{Done, Doubt}
 use Rattle.sector_world.specs.Plans.{IsByPlan, Legal}
 use Rattle.sector_world.proofs.Bytes.{doubt_kept}
-use Rattle.sector_world.proofs.Histories.{each_kept, each_map}
+use Rattle.sector_world.proofs.HistoryLaws.{each_kept, each_map}
 use Rattle.sector_world.proofs.Plans.{legal_kept}
 use Rattle.sector_world.proofs.Removals.{survives_low}
 use Rattle.sector_world.proofs.Seen.{clear_survives}

@@ -12,7 +12,7 @@ use Rattle.tree_laws.specs.WellFormed.{BirthsAscend}
 use Rattle.tree_laws.proofs.Nodes.{each_but, with_same, with_other}
 use Rattle.tree_laws.proofs.OrderLaws.{births_after, segments_after}
 use Rattle.tree_laws.proofs.ShapeLaws.{doubt_alike}
-use Rattle.tree_laws.proofs.Shapes.{shape_at, same_shape}
+use Rattle.tree_laws.proofs.SameShapes.{shape_at, same_shape}
 
 -- cells that come into doubt are as many
 doubted_long : (cells : List Cell) (from count : ℕ) → length (doubted_cells cells from count) ≡ length cells

@@ -20,7 +20,7 @@ use Rattle.sector_world.specs.Histories as sectors
 use Rattle.sector_world.specs.Histories.Item.{Done, Doubt}
 use Rattle.sector_world.specs.Plans.{Legal}
 use Rattle.sector_world.specs.Seen.{Unsynced}
-use Rattle.sector_world.proofs.Histories.{each_kept, each_map}
+use Rattle.sector_world.proofs.HistoryLaws.{each_kept, each_map}
 use Rattle.sector_world.specs.Trees.{Distinct}
 use Rattle.line_histories.specs.LinePlans.{sector_plan}
 use Rattle.line_histories.specs.Standing.{StandsNumbered}

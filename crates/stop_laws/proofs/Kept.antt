@@ -7,7 +7,7 @@ use Rattle.sector_bytes.specs.Blocks.{Block}
 use Rattle.sector_world.specs.Histories.{Each, in_doubt, kept, survives, synced_of}
 use Rattle.sector_world.specs.Plans.{IsByPlan, Legal}
 use Rattle.sector_world.specs.Seen.{Kept}
-use Rattle.sector_world.proofs.Histories.{each_kept}
+use Rattle.sector_world.proofs.HistoryLaws.{each_kept}
 use Rattle.sector_world.specs.Trees.{Distinct}
 use Rattle.sector_world.specs.World.{World, Phase}
 use Rattle.sector_world.specs.World.Phase.{Off, Up, Dead}

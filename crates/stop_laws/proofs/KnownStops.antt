@@ -7,7 +7,7 @@ use Rattle.sector_world.specs.HistoryBytes.{Agree}
 use Rattle.sector_world.specs.Histories.{Commit, Each, Item, kept, settled, survives}
 use Rattle.sector_world.specs.Histories.Item.{Done, Doubt}
 use Rattle.sector_world.specs.Plans.{IsByPlan, Legal}
-use Rattle.sector_world.proofs.Histories.{each_kept}
+use Rattle.sector_world.proofs.HistoryLaws.{each_kept}
 use Rattle.sector_world.specs.Claims.{left, replayed}
 use Rattle.sector_world.specs.Kinds.{Good}
 use Rattle.sector_world.specs.Planned.{IsLegal}

@@ -20,7 +20,7 @@ use Rattle.sector_world.specs.Histories.Item.{Done, Doubt}
 use Rattle.sector_world.specs.Plans.{IsByPlan, Legal, Outcome, outcome_of}
 use Rattle.sector_world.specs.Seen as seen
 use Rattle.sector_world.specs.Seen.{IsLost, Unmet, Unseen}
-use Rattle.sector_world.proofs.Histories.{each_map, kept_logical}
+use Rattle.sector_world.proofs.HistoryLaws.{each_map, kept_logical}
 use Rattle.sector_world.specs.Trees.{Distinct, tree_of}
 use Rattle.disk_definitions.specs.Naming.{Naming}
 use Rattle.disk_definitions.specs.Store.{Store, stored_node}

@@ -7,7 +7,7 @@ use Rattle.frang_base.proofs.Basics.{by_keep, eq_of, gt_of, le_of, or_equal}
 use Rattle.sector_world.specs.Histories.{Commit, Item, Changes, Each, Moves, OpsRise, kept, survives}
 use Rattle.sector_world.specs.Histories.Item.{Done, Doubt}
 use Rattle.sector_world.specs.Seen.{Alters, IsLost, Unmet, Unseen, cover_of, moved}
-use Rattle.sector_world.proofs.Histories.{each_map}
+use Rattle.sector_world.proofs.HistoryLaws.{each_map}
 use Rattle.sector_world.proofs.Removals.{survives_own}
 use Rattle.stop_laws.specs.Sight.{AllSee}
 

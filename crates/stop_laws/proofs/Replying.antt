@@ -7,7 +7,7 @@ use Rattle.sector_world.specs.Histories.{Item, OpsRise, in_doubt, kept, logical,
 use Rattle.sector_world.specs.Histories.Item.{Done, Doubt}
 use Rattle.sector_world.specs.Plans.{IsClear, Legal}
 use Rattle.sector_world.specs.Seen.{Kept, Unseen}
-use Rattle.sector_world.proofs.Histories.{kept_logical}
+use Rattle.sector_world.proofs.HistoryLaws.{kept_logical}
 use Rattle.sector_world.proofs.Seen.{clear_survives}
 use Rattle.sector_world.specs.Claims.{left, left_by}
 use Rattle.sector_world.specs.Kinds.{Good}

@@ -7,7 +7,7 @@ use Rattle.sector_world.specs.Histories.{Commit, Each, Item, OpsRise, kept, reco
 use Rattle.sector_world.specs.Histories.Item.{Done, Doubt}
 use Rattle.sector_world.specs.Plans.{Legal}
 use Rattle.sector_world.specs.Seen.{Unsynced}
-use Rattle.sector_world.proofs.Histories.{each_kept}
+use Rattle.sector_world.proofs.HistoryLaws.{each_kept}
 use Rattle.sector_world.proofs.Removals.{survives_other}
 use Rattle.sector_world.specs.Claims.{left, left_by}
 use Rattle.sector_world.specs.Kinds.{Good}

@@ -7,7 +7,7 @@ use Rattle.sector_world.specs.HistoryBytes.{Agree}
 use Rattle.sector_world.specs.Histories.{Each, settled, survives, synced_of}
 use Rattle.sector_world.specs.Seen.{Kept}
 use Rattle.sector_world.proofs.Bytes.{agree_kept}
-use Rattle.sector_world.proofs.Histories.{each_kept, each_map}
+use Rattle.sector_world.proofs.HistoryLaws.{each_kept, each_map}
 use Rattle.line_histories.specs.Standing.{StandsNumbered}
 use Rattle.line_histories.specs.Trees.{AreTimes}
 use Rattle.line_histories.proofs.Runs.{numbered}

@@ -33,7 +33,7 @@ use Rattle.tree_laws.proofs.Looking.{looked_same, further_same}
 use Rattle.tree_laws.proofs.Untouched.{looked_is_touched, changed_is_touched}
 use Rattle.tree_laws.proofs.Alike.{Roomy, alike, after_joint}
 use Rattle.tree_laws.proofs.Editing.{edited, hits, Edited, edit_stays, edits, resolved_writes}
-use Rattle.tree_laws.proofs.Shapes.{shape_changes_alike}
+use Rattle.tree_laws.proofs.SameShapes.{shape_changes_alike}
 
 -- ---- one node in two trees, before and after
 like_dir_back : (c : Option Node) (es : List (List ℕ × ℕ)) (n : ℕ) → Like vague c (Some (Dir es n)) → c ≡ Some (Dir es n)

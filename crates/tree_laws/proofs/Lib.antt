@@ -35,7 +35,7 @@ pub mod WholeLaws
 pub mod OrderLaws
 pub mod Changed
 pub mod Editing
-pub mod Shapes
+pub mod SameShapes
 pub mod OwnReplies
 pub mod Sharper
 pub mod Doing

@@ -22,7 +22,7 @@ use Rattle.tree_laws.proofs.OrderLaws.{births_after, segments_after}
 use Rattle.tree_laws.proofs.SettlingLaws.{removes}
 use Rattle.tree_laws.specs.Recording.{UnrecordedChangesNothing, UnrecordedLeavesTheShape, NothingIsRemoved}
 use Rattle.tree_laws.proofs.Editing.{edited, hits, Edited, edits, resolved_writes}
-use Rattle.tree_laws.proofs.Shapes.{found_shape, same_shape, like_shape, differs_changes}
+use Rattle.tree_laws.proofs.SameShapes.{found_shape, same_shape, like_shape, differs_changes}
 use Rattle.tree_laws.proofs.Sharper.{sharper_after}
 
 -- cells that aren't edited

@@ -1,5 +1,5 @@
 -- Event by event.
-use Rattle.core_laws.proofs.Leases.{expiry_ends, expiry_lasts}
+use Rattle.core_laws.proofs.Lasting.{expiry_ends, expiry_lasts}
 use Rattle.core_laws.proofs.leases.leases_last.Goals as goal
 
 pub returns : goal.returns

@@ -1,7 +1,7 @@
 -- By the laws on replays.
 use Rattle.std.proofs.Common.{IsTrue, subst, ◌≤◌}
 use Rattle.sector_world.proofs.More.{redo_twice}
-use Rattle.sector_world.proofs.Histories.{replayed_is}
+use Rattle.sector_world.proofs.HistoryLaws.{replayed_is}
 use Rattle.sector_world.proofs.Removals.{survives_low, survives_own}
 use Rattle.sector_world.specs.Histories.{survives}
 use Rattle.sector_world.proofs.histories.replayed_sector.Goals as goal

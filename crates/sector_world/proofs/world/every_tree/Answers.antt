@@ -5,7 +5,7 @@ use Rattle.sector_world.specs.Trees.{Related}
 use Rattle.sector_world.proofs.Every.{good_start, good_run}
 use Rattle.sector_world.proofs.Legal.{legal_run, legal_good, opening_run}
 use Rattle.sector_world.proofs.Trees.{distinct_run, stand_good}
-use Rattle.sector_world.proofs.every_tree.Goals as goal
+use Rattle.sector_world.proofs.world.every_tree.Goals as goal
 
 pub returns : goal.returns
 returns g c = λ plan frame disk_of tree_of apply number_of new_to meets servers disk logged files home first begins events w r p n.
