@@ -20,7 +20,8 @@ use Rattle.tree_laws.proofs.Joint.{joint_near}
 use Rattle.tree_laws.proofs.Likeness.{Like}
 use Rattle.tree_laws.proofs.Resolving.{IsOf, Shaped, performed_looks_leave, resolved_is}
 use Rattle.tree_laws.proofs.ShapeLaws.{looks_change_nothing}
-use Rattle.tree_laws.proofs.Vagueness.{Vaguer, vague}
+use Rattle.tree_laws.specs.Alike.{Vaguer}
+use Rattle.tree_laws.proofs.Vagueness.{vague}
 use Rattle.tree_laws.proofs.Sharper.{sharper_after}
 use Rattle.disk_definitions.specs.Naming.{cell_in}
 use Rattle.byte_trees.specs.Sharp.{AnswersKeepWhatStands, NamesNoOthers, sharp}

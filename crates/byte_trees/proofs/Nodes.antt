@@ -19,7 +19,8 @@ use Rattle.tree_laws.specs.Touching.{SameKinds, kind_of}
 use Rattle.tree_laws.specs.WellFormed.{IsNew, IsWellFormed, NamesAscend, names_in, names_of, one_at}
 use Rattle.tree_laws.proofs.Likeness.{Like, Near}
 use Rattle.tree_laws.proofs.Pairs.{birth_exact, tie}
-use Rattle.tree_laws.proofs.Vagueness.{Vaguer, vague}
+use Rattle.tree_laws.specs.Alike.{Vaguer}
+use Rattle.tree_laws.proofs.Vagueness.{vague}
 use Rattle.tree_laws.proofs.Changes.{same_dir, same_links}
 use Rattle.tree_laws.proofs.ShapeNodes.{count_stays, doubts, found, keys_stay, room_stays, shaped, shapes}
 use Rattle.disk_definitions.specs.Naming.{Allows, cell_in}

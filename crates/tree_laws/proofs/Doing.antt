@@ -24,7 +24,8 @@ use Rattle.tree_laws.proofs.Places.{is_in}
 use Rattle.tree_laws.proofs.Replies.{wants_alike}
 use Rattle.tree_laws.proofs.Resolving.{IsOf, performed_refusals_leave}
 use Rattle.tree_laws.proofs.Likeness.{Like, Near}
-use Rattle.tree_laws.proofs.Vagueness.{Vaguer, vague}
+use Rattle.tree_laws.specs.Alike.{Vaguer}
+use Rattle.tree_laws.proofs.Vagueness.{vague}
 use Rattle.tree_laws.proofs.Joint.{Both, Joint, joint_none}
 use Rattle.tree_laws.proofs.Following.{resolved_same}
 use Rattle.tree_laws.proofs.Asking.{Grounds}

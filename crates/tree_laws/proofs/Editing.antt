@@ -25,7 +25,7 @@ use Rattle.tree_laws.proofs.Places.{is_in}
 use Rattle.tree_laws.proofs.Refusals.{looks_leave}
 use Rattle.tree_laws.proofs.Acting.{moved_ascends}
 use Rattle.tree_laws.proofs.Resolving.{IsOf, Shaped, resolved_is}
-use Rattle.tree_laws.proofs.Vagueness.{Vaguer}
+use Rattle.tree_laws.specs.Alike.{Vaguer}
 
 -- what a write, fill or truncate makes of the cells
 abbrev pub edited : Op → List Cell → List Cell

@@ -8,6 +8,7 @@ use Rattle.tree_definitions.specs.declared.node.Node.TheVariants.{Dir, File, Lin
 use Rattle.tree_definitions.specs.Tree.{FileTree, node_at}
 use Rattle.tree_definitions.specs.Apply.{Answer, Plain, Shows, is_dir, has_entries, links_of, overwritten}
 use Rattle.tree_definitions.specs.History.{agrees, cells_show}
+use Rattle.tree_laws.specs.Alike.{AlikeBy}
 
 -- a likeness of cells, which goes along with what operations do to them
 pub record Likeness : Type 1 where
@@ -34,10 +35,7 @@ equal = record {
 
 -- nodes that are alike: files by their cells, all others where they are equal
 abbrev pub Like : Likeness → Option Node → Option Node → Type 0
-Like L (Some (Dir es n)) q = q ≡ Some (Dir es n)
-Like L (Some (File cells links when)) q = (others : List Cell) × (q ≡ Some (File others links when)) × L.like cells others
-Like L (Some (Link target links)) q = q ≡ Some (Link target links)
-Like L None q = q ≡ None
+Like L o q = AlikeBy L.like o q
 
 -- two trees have nodes that are alike
 abbrev pub Near : Likeness → FileTree → FileTree → ℕ → Type 0

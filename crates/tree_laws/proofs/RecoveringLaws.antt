@@ -14,7 +14,8 @@ use Rattle.tree_laws.specs.WellFormed.{IsWellFormed, AreNew}
 use Rattle.tree_laws.specs.Removing.{without, none_seen, has_room, room_left}
 use Rattle.tree_laws.proofs.Nodes.{each_but, with_same, with_other}
 use Rattle.tree_laws.proofs.Likeness.{Like, Near, like_same, like_equal}
-use Rattle.tree_laws.proofs.Vagueness.{Vaguer, vague, vague_same, vague_joined, vague_nodes_trans}
+use Rattle.tree_laws.specs.Alike.{Vaguer}
+use Rattle.tree_laws.proofs.Vagueness.{vague, vague_same, vague_joined, vague_nodes_trans}
 use Rattle.tree_laws.proofs.StepsLaws.{after_keeps, are_new_after}
 use Rattle.tree_laws.proofs.SettlingLaws.{lost_is_of}
 use Rattle.tree_laws.proofs.HistoryLaws.{after_all-append}

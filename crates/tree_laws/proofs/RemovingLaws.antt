@@ -30,7 +30,8 @@ use Rattle.tree_laws.specs.Removing.{without, none_seen, has_room, room_left}
 use Rattle.tree_laws.proofs.Nodes.{each_but, with_same, with_other}
 use Rattle.tree_laws.proofs.Places.{is_in, tail_is_in}
 use Rattle.tree_laws.proofs.Likeness.{Like, Near, like_same, like_equal}
-use Rattle.tree_laws.proofs.Vagueness.{Vaguer, vague, vague_nodes_trans, shown_is_sharper, doubted_near}
+use Rattle.tree_laws.specs.Alike.{Vaguer}
+use Rattle.tree_laws.proofs.Vagueness.{vague, vague_nodes_trans, shown_is_sharper, doubted_near}
 use Rattle.tree_laws.proofs.Sameness.{alike_at, no_difference}
 use Rattle.tree_laws.proofs.Replies.{wants_alike}
 use Rattle.tree_laws.proofs.Refusals.{looks_leave}

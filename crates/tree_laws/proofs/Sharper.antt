@@ -18,7 +18,8 @@ use Rattle.tree_definitions.specs.History.{applied, is_answer, agrees, told_bloc
 use Rattle.tree_definitions.specs.Touched.{changes, differs}
 use Rattle.tree_laws.proofs.Nodes.{each_but, with_same, with_other}
 use Rattle.tree_laws.proofs.Likeness.{Like, like_same, like_equal}
-use Rattle.tree_laws.proofs.Vagueness.{Vaguer, vague, shown_is_sharper}
+use Rattle.tree_laws.specs.Alike.{Vaguer}
+use Rattle.tree_laws.proofs.Vagueness.{vague, shown_is_sharper}
 use Rattle.tree_laws.proofs.Sameness.{alike_at}
 use Rattle.tree_laws.proofs.Refusals.{looks_leave}
 use Rattle.tree_laws.proofs.StepsLaws.{file_at_is}

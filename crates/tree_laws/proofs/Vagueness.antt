@@ -9,15 +9,10 @@ use Rattle.tree_definitions.specs.declared.node.Node.TheVariants.{Dir, File, Lin
 use Rattle.tree_definitions.specs.Tree.{FileTree, node_at, with_node}
 use Rattle.tree_definitions.specs.Apply.{overwritten}
 use Rattle.tree_definitions.specs.History.{cells_show, cell_shows, doubted_cells, doubted_file, doubted, file_of, CellRun}
+use Rattle.tree_laws.specs.Alike.{Vaguer}
 use Rattle.tree_laws.proofs.Nodes.{each_but, with_same, with_other}
 use Rattle.tree_laws.proofs.Likeness.{Likeness, Like, Near}
 use Rattle.tree_laws.proofs.ShapeLaws.{doubt_alike, shown_long}
-
-abbrev pub Vaguer : List Cell → List Cell → Type 0
-Vaguer [] [] = Unit {0}
-Vaguer (x ∷ xs) (y ∷ ys) = ((x ≡ y) ⊎ (y ≡ Doubtful)) × Vaguer xs ys
-Vaguer [] (y ∷ ys) = ⊥
-Vaguer (x ∷ xs) [] = ⊥
 
 pub vague_same : (xs : List Cell) → Vaguer xs xs
 vague_same [] = tt

@@ -7,13 +7,12 @@ use Rattle.tree_definitions.specs.Touched.{touches, changes, is_ok}
 use Rattle.tree_definitions.specs.Removal.{writes_file, is_recorded, keeps_known, left, recovered}
 use Rattle.tree_laws.specs.WellFormed.{IsWellFormed, AreNew}
 use Rattle.tree_laws.specs.Removing.{without, none_seen, has_room, room_left}
-use Rattle.tree_laws.proofs.Likeness.{Near}
-use Rattle.tree_laws.proofs.Vagueness.{vague}
+use Rattle.tree_laws.specs.Alike.{AlikeBy, Vaguer}
 
 -- the tree of the whole list and that of what is left have the same node of a birth, or both none, but for doubt: where a file has a byte in
 -- the first it has this byte or is in doubt in the second, and where it is in doubt in the first it is in the second
 abbrev pub SameButForDoubt : FileTree → FileTree → ℕ → Type 0
-SameButForDoubt whole rest birth = Near vague whole rest birth
+SameButForDoubt whole rest birth = AlikeBy Vaguer (node_at whole birth) (node_at rest birth)
 
 -- an entry does the same in both trees: it is an answer in both or in neither, touches the same nodes, and has a record in both or in neither.
 -- What it changes in the first it changes in the second, and a node that is the same in both it changes in both or in neither. What it changes

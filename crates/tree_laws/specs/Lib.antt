@@ -13,6 +13,7 @@ pub mod Whole
 pub mod Rooms
 pub mod Seeing
 pub mod Syncing
+pub mod Alike
 pub mod Leaving
 pub mod Recording
 pub mod Acting
