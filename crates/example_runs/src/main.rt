@@ -4,8 +4,7 @@
 #![tactic(auto)]
 
 use frang_outside::{Act, DirFiles, Files, MemOutside, NoGate};
-use frang_program::run_program;
-use frang_top::{Status, frang};
+use frang_top::{Status, frang, run_program};
 use std::alloc::Global;
 use std::collections::BTreeSet;
 use std::fs;

@@ -1,13 +1,12 @@
 //! The program as a function of the runtime: it makes the real files, the real outside and the open gate, and calls `frang` with the
 //! words after the program's name. Its contracts promise that the status of the process is that of the call. Each program of the
-//! repository that stands for `frang` is this call alone. It stands on the top layer.
-#![tactic(auto)]
+//! repository that stands for `frang` is this call alone.
 
 ghost use Rattle.std.specs.Prelude.{◌≡◌};
 ghost use Rattle.std.specs.Process.{exit_status};
 
+use crate::{COMMANDS, Status, frang};
 use frang_outside::{DirFiles, NoGate, StdOutside};
-use frang_top::{COMMANDS, Status, frang};
 use std::alloc::Global;
 use std::env;
 use std::process::ExitCode;
