@@ -25,7 +25,7 @@ use std::marker::Model;
 
 /// The cached sectors of a server. Contracts see them as entries, a sector's number with its block, the lock that covers it and,
 /// where it is dirty, its mark, ascending by sector, and for how many more entries there is room.
-#[derive(Debug, Drop)]
+#[derive(Drop)]
 pub struct Cache {
     sectors: Sectors,
     states: States,

@@ -13,7 +13,7 @@ use ordered_map::{OrderedMap, Place};
 use std::cmp::Ordering;
 
 /// A sector with the lock that covers it. They ascend by their locks, and those of one lock by their sectors.
-#[derive(Clone, Copy, Debug)]
+#[derive(Clone, Copy)]
 pub(crate) struct Covered {
     pub(crate) cover: LockId,
     pub(crate) sector: u64,

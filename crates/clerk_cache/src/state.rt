@@ -10,7 +10,7 @@ use frang_base::{LockId, Sector};
 use ordered_map::Edit;
 
 /// The lock that covers a cached sector and, where it is dirty, its mark.
-#[derive(Clone, Copy, Debug, PartialEq, Eq)]
+#[derive(Clone, Copy, PartialEq, Eq)]
 pub(crate) struct SectorState {
     pub(crate) cover: LockId,
     pub(crate) mark: Option<u64>,

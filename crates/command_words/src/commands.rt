@@ -16,14 +16,14 @@ use script_definitions::number_within;
 use std::alloc::Global;
 
 /// A script to be run on a fresh disk of so many segments, 1 to 64.
-#[derive(Clone, Copy, Debug)]
+#[derive(Clone, Copy)]
 pub struct RunCommand<'a> {
     pub script: &'a str,
     pub segments: u32,
 }
 
 /// A command on an image, by the image's name.
-#[derive(Clone, Copy, Debug)]
+#[derive(Clone, Copy)]
 pub enum ImageCommand<'a> {
     /// To tell what its logs keep and its tree, and to save the replayed disk, where a name is given for its image.
     Recover {
@@ -46,7 +46,7 @@ pub enum ImageCommand<'a> {
 }
 
 /// What words ask.
-#[derive(Clone, Copy, Debug)]
+#[derive(Clone, Copy)]
 pub enum Command<'a> {
     Run(RunCommand<'a>),
     OnImage(ImageCommand<'a>),

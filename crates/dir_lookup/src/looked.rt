@@ -8,7 +8,7 @@ use std::alloc::Global;
 use std::marker::Model;
 
 /// The sectors at which a plan looked and that are cached, in order, by their numbers; `None` where they weren't asked for, or once memory was wanting.
-#[derive(Debug, Drop)]
+#[derive(Drop)]
 pub struct Looked {
     sectors: Option<Vec<Sector>>,
 }

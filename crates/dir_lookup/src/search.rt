@@ -22,7 +22,7 @@ use frang_base::limits::{SECTOR_ENTRIES, SMALL_BLOCK_SECTORS};
 use meta_version::Sectors;
 
 /// An entry, and its place in its directory: by block, sector and place, 56 to a block.
-#[derive(Clone, Copy, Debug, PartialEq, Eq)]
+#[derive(Clone, Copy, PartialEq, Eq)]
 pub struct Found {
     pub place: u32,
     pub entry: DirEntry,

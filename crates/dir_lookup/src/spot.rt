@@ -7,7 +7,7 @@ use disk_definitions::Inode;
 use frang_base::{Name, Reply};
 
 /// Why a walk was refused.
-#[derive(Clone, Copy, Debug, PartialEq, Eq)]
+#[derive(Clone, Copy, PartialEq, Eq)]
 pub enum Refusal {
     /// A name on the way isn't there.
     NoEnt,
@@ -16,7 +16,7 @@ pub enum Refusal {
 }
 
 /// An inode with its number.
-#[derive(Clone, Copy, Debug)]
+#[derive(Clone, Copy)]
 pub struct NumberedInode {
     /// The number of the inode, counted from 0 over all segments.
     pub number: u32,
@@ -25,7 +25,7 @@ pub struct NumberedInode {
 }
 
 /// Where a walk leads.
-#[derive(Debug, Drop)]
+#[derive(Drop)]
 pub enum Spot {
     /// At the root.
     AtRoot,

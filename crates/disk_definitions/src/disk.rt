@@ -16,7 +16,7 @@ use std::collections::BTreeMap;
 use std::marker::Model;
 
 /// A disk, seen as the sectors that were set with their blocks, ascending; every other sector is zero.
-#[derive(Debug, Drop)]
+#[derive(Drop)]
 pub struct Disk {
     alloc: Global,
     blocks: BTreeMap<u64, Boxed<Block>>,

@@ -1,7 +1,7 @@
 // Inodes.
 
 /// A node on the disk, or a free inode, of which all but the version is 0.
-#[derive(Clone, Copy, Debug, PartialEq, Eq)]
+#[derive(Clone, Copy, PartialEq, Eq)]
 pub struct Inode {
     pub version: u64,
     /// 0 free, 1 a file, 2 a directory, 3 a symbolic link.

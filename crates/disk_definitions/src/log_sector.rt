@@ -4,7 +4,7 @@ use frang_base::limits::LOG_BODY_BYTES;
 
 /// A sector of a log: a part of a record that has its sectors for itself, a packed sector, in which frames of records follow one another,
 /// or an empty sector, of which all but the number is 0.
-#[derive(Clone, Copy, Debug, PartialEq, Eq)]
+#[derive(Clone, Copy, PartialEq, Eq)]
 pub struct LogSector {
     /// The sequence number, whose remainder by 256 is the slot.
     pub seq: u64,

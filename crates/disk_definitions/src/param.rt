@@ -4,7 +4,7 @@
 pub const FORMAT_NEWEST: u32 = 2;
 
 /// The parameter sector: the format, 1 or 2; the number of segments, 1 to 64; and the number of the run, at least 1.
-#[derive(Clone, Copy, Debug, PartialEq, Eq)]
+#[derive(Clone, Copy, PartialEq, Eq)]
 pub struct Param {
     pub format: u32,
     pub segments: u32,

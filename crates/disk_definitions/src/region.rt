@@ -1,7 +1,7 @@
 // The regions of the disk.
 
 /// Where a sector lies: in which region, and what of it.
-#[derive(Clone, Copy, Debug, PartialEq, Eq)]
+#[derive(Clone, Copy, PartialEq, Eq)]
 pub enum Region {
     /// The parameters: sector 0.
     Param,

@@ -1,7 +1,7 @@
 // What a small block is picked for.
 
 /// What a small block is to hold.
-#[derive(Clone, Copy, Debug, PartialEq, Eq)]
+#[derive(Clone, Copy, PartialEq, Eq)]
 pub enum Use {
     /// Bytes of a file.
     Bytes,

@@ -18,7 +18,7 @@ use plan_steps::Edit;
 use std::alloc::Global;
 
 /// A thing that is taken or freed, and the lock under which its sectors are from then on.
-#[derive(Clone, Copy, Debug)]
+#[derive(Clone, Copy)]
 pub struct Move {
     pub thing: Thing,
     /// The lock of the node that takes it, or of the segment that keeps the bit of what is freed.

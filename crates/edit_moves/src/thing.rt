@@ -7,7 +7,7 @@ use frang_base::limits::{LARGE_BLOCK_SECTORS, SMALL_BLOCK_SECTORS};
 use frang_layout::{Region, sector_of};
 
 /// An inode, a small block or a large block, by its number over all segments: its sectors are under one lock.
-#[derive(Clone, Copy, Debug)]
+#[derive(Clone, Copy)]
 pub enum Thing {
     Inode(u32),
     Small(u32),

@@ -20,7 +20,7 @@ use tree_definitions::{Cells, Entries, Node};
 pub const ROOT: u64 = 0;
 
 /// Why there is no file or directory where one has to be.
-#[derive(Clone, Copy, Debug)]
+#[derive(Clone, Copy)]
 pub enum Refusal {
     NoEnt,
     NotDir,

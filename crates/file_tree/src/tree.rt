@@ -20,7 +20,7 @@ use tree_edits::{Blocks, Bytes, must_grow, nodes};
 
 /// A file tree, seen as its number of segments and its nodes by birth. The root's birth is 0. It keeps count of the blocks that its
 /// nodes take.
-#[derive(Debug, Drop)]
+#[derive(Drop)]
 pub struct Tree {
     alloc: Global,
     segments: u32,

@@ -15,7 +15,7 @@ pub use laws::the_first_in_order_is_the_least;
 use std::cmp::Ordering;
 
 /// A dirty sector, and the number of the log's last sector that must be acknowledged before it may be written.
-#[derive(Clone, Copy, Debug, PartialEq, Eq)]
+#[derive(Clone, Copy, PartialEq, Eq)]
 pub struct Mark {
     pub sector: Sector,
     pub mark: u64,

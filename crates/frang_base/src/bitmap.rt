@@ -13,7 +13,7 @@ use std::collections::btree_map::Keys;
 use std::marker::Model;
 
 /// One segment of the allocation bitmap: which of its 64 inodes, 1,024 small blocks and one large block are in use.
-#[derive(Clone, Copy, Debug, PartialEq, Eq)]
+#[derive(Clone, Copy, PartialEq, Eq)]
 pub struct Bitmap {
     pub version: u64,
     /// Bit j is inode j of the segment, 1 in use.
@@ -25,7 +25,7 @@ pub struct Bitmap {
 }
 
 /// The bitmap segments that an operation holds, seen as the segment numbers with their bitmaps, ascending.
-#[derive(Debug, Drop)]
+#[derive(Drop)]
 pub struct Held {
     bitmaps: BTreeMap<u32, Bitmap>,
 }

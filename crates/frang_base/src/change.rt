@@ -8,14 +8,14 @@ use std::alloc::{AllocError, Global};
 use std::marker::Model;
 
 /// Bytes to be put into a sector from a place on, counted in bytes from the sector's first.
-#[derive(Clone, Debug, Drop)]
+#[derive(Clone, Drop)]
 pub struct Patch {
     pub at: u16,
     pub bytes: Text,
 }
 
 /// The patches of one sector, seen as the list of them.
-#[derive(Debug, Drop)]
+#[derive(Drop)]
 pub struct Patches {
     patches: Vec<Patch>,
 }
@@ -94,7 +94,7 @@ impl Clone for Patches {
 }
 
 /// A sector with its new version, and what makes the new bytes of the old ones.
-#[derive(Clone, Debug, Drop)]
+#[derive(Clone, Drop)]
 pub struct Change {
     pub sector: Sector,
     pub version: u64,
@@ -105,7 +105,7 @@ pub struct Change {
 pub type Changes = Items<Change>;
 
 /// A record of a log: the operation that it is of, and the changes of sectors that it makes.
-#[derive(Debug, Drop)]
+#[derive(Drop)]
 pub struct Redo {
     pub op: OpNo,
     pub changes: Changes,

@@ -10,7 +10,7 @@ pub enum LockId {
 }
 
 /// A lock is held by many or by one alone.
-#[derive(Clone, Copy, Debug, PartialEq, Eq)]
+#[derive(Clone, Copy, PartialEq, Eq)]
 pub enum Mode {
     Shared,
     Sole,

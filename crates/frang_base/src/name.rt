@@ -15,7 +15,7 @@ use std::marker::Model;
 
 /// A name, seen as the list of its bytes: 1 to 64 of them, none at most 0x20, 0x7F or `/`, and not `.` or `..`. Names are
 /// ordered by their bytes.
-#[derive(Debug, Drop)]
+#[derive(Drop)]
 pub struct Name {
     bytes: [u8; NAME_BYTES_MAX],
     len: usize,

@@ -8,7 +8,7 @@ use std::alloc::{AllocError, Global};
 use std::marker::Model;
 
 /// The way from the root to a node, seen as the list of its names from the root on. The root's has none.
-#[derive(Debug, Drop)]
+#[derive(Drop)]
 pub struct Path {
     names: Vec<Name>,
 }
@@ -86,7 +86,7 @@ impl Clone for Path {
 }
 
 /// The names that a directory lists, in order of their bytes; seen as the list of them.
-#[derive(Debug, Drop)]
+#[derive(Drop)]
 pub struct NameList {
     names: Vec<Name>,
 }

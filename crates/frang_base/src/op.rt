@@ -4,7 +4,7 @@ ghost use Rattle.std.specs.Prelude.{◌≡◌, IfOk};
 use crate::{NoMemory, Path, Text};
 
 /// What a line asks of its server. Offsets and lengths are in bytes.
-#[derive(Clone, Debug, Drop)]
+#[derive(Clone, Drop)]
 pub enum Op {
     Create {
         path: Path,
@@ -83,7 +83,7 @@ pub enum Op {
 }
 
 /// What a line asks of the host.
-#[derive(Clone, Copy, Debug, PartialEq, Eq)]
+#[derive(Clone, Copy, PartialEq, Eq)]
 pub enum HostOp {
     Barrier,
     /// Lets `n` ticks of the clock pass.
@@ -91,7 +91,7 @@ pub enum HostOp {
     Halt,
 }
 
-#[derive(Clone, Debug, Drop)]
+#[derive(Clone, Drop)]
 pub enum What {
     Server(Op),
     Host(HostOp),

@@ -4,7 +4,7 @@ ghost use Rattle.std.specs.Prelude.{◌≡◌, IfOk};
 use crate::{NameList, NoMemory, Text};
 
 /// The answer to a line. Sizes and lengths are in bytes.
-#[derive(Clone, Debug, Drop)]
+#[derive(Clone, Drop)]
 pub enum Reply {
     Ok,
     Mounted,

@@ -2,7 +2,7 @@
 use crate::{OpNo, Reply, ServerId, Text};
 
 /// A line that is said.
-#[derive(Clone, Debug, Drop)]
+#[derive(Drop)]
 pub enum Said {
     /// A line of the script is answered. A host's line has the host as `server`.
     Answer {

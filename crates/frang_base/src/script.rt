@@ -8,7 +8,7 @@ use std::alloc::{AllocError, Global};
 use std::marker::Model;
 
 /// A line of a script. Lines are numbered from 1, skipped ones too; a host's line has the host as `who`.
-#[derive(Clone, Debug, Drop)]
+#[derive(Clone, Drop)]
 pub struct Line {
     pub number: u32,
     pub who: ServerId,
@@ -16,7 +16,7 @@ pub struct Line {
 }
 
 /// A script, seen as the list of its lines, in order of their numbers.
-#[derive(Debug, Drop)]
+#[derive(Drop)]
 pub struct Script {
     lines: Vec<Line>,
 }

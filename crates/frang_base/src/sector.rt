@@ -14,7 +14,7 @@ impl ServerId {
 }
 
 /// The number of an operation: the run number times 2^32, plus the line of the script. 0 is none.
-#[derive(Clone, Copy, Debug, PartialEq, Eq, PartialOrd, Ord)]
+#[derive(Clone, Copy, PartialEq, Eq, PartialOrd, Ord)]
 pub struct OpNo(pub u64);
 
 impl OpNo {

@@ -14,7 +14,7 @@ use std::cmp::Ordering;
 use std::marker::Model;
 
 /// A text, seen as the list of its bytes from the first on. Texts are ordered by their bytes.
-#[derive(Debug, Drop)]
+#[derive(Drop)]
 pub struct Text {
     bytes: Vec<u8>,
 }

@@ -11,7 +11,7 @@ use std::marker::Model;
 
 /// The sectors that were written, seen as the list of their addresses and bytes. All others are
 /// zero. A look-up takes time logarithmic in their number.
-#[derive(Debug, Drop)]
+#[derive(Drop)]
 pub(crate) struct Blocks {
     blocks: BTreeMap<u64, Block>,
 }

@@ -13,7 +13,7 @@ use std::marker::Model;
 /// each kind counted from 1, and at no others. A late put doesn't fail, and a failed put leaves the
 /// old sector. A call that wants memory isn't counted: nothing has changed. Else it is as
 /// `MemOutside`.
-#[derive(Debug, Drop)]
+#[derive(Drop)]
 pub struct FaultyOutside {
     inner: MemOutside,
     gets: FaultPlan,
@@ -153,7 +153,7 @@ fn count_fault(faults: &mut [u64; 256], party: ServerId)
 }
 
 // The calls of one kind: which fail, and how many were made.
-#[derive(Debug, Drop)]
+#[derive(Drop)]
 struct FaultPlan {
     // The ordinals of the calls that fail, counted from 1.
     listed: Vec<u64>,

@@ -11,7 +11,7 @@ use std::marker::Model;
 
 /// Files in memory, told by their names. A read fails exactly where its name isn't there; a write
 /// never fails.
-#[derive(Debug, Drop)]
+#[derive(Drop)]
 pub struct MemFiles {
     alloc: Global,
     files: BTreeMap<Text, Text>,

@@ -14,7 +14,7 @@ use std::marker::Model;
 /// An outside in memory, seen as its record: the acts so far, in their order. Its sectors are those
 /// that the record leaves, and its counts of faults are 0. A call fails only for want of memory,
 /// and then nothing has changed.
-#[derive(Debug, Drop)]
+#[derive(Drop)]
 pub struct MemOutside {
     alloc: Global,
     acts: Vec<Act>,

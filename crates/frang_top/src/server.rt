@@ -21,7 +21,7 @@ const FIRST_RUN: u32 = 1;
 
 /// A server: whether it is mounted, the tree, how many small blocks are or were a directory's, and how many ticks the lines before let
 /// pass.
-#[derive(Debug, Drop)]
+#[derive(Drop)]
 pub struct Server {
     pub mounted: bool,
     pub tree: Tree,

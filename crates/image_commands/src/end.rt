@@ -1,7 +1,7 @@
 // How a command on an image ends.
 
 /// How a command on an image ended.
-#[derive(Clone, Copy, Debug, PartialEq, Eq)]
+#[derive(Clone, Copy, PartialEq, Eq)]
 pub enum ImageEnd {
     /// All lines were said, and the disk was saved where that was asked.
     Done,

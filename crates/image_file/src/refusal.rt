@@ -13,7 +13,7 @@ pub enum ImageRead {
 }
 
 // The same, with the fault itself.
-#[derive(Clone, Copy, Debug, PartialEq, Eq)]
+#[derive(Clone, Copy, PartialEq, Eq)]
 pub enum Refusal {
     Bad(ImageFault),
     NoMemory,

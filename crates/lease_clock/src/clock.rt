@@ -5,7 +5,7 @@ use frang_base::limits::LAST_TICK;
 use std::marker::Model;
 
 /// A clock, seen as the number of the present tick. It begins at 0 and stands at most at `LAST_TICK`.
-#[derive(Debug, Drop)]
+#[derive(Drop)]
 pub struct Clock {
     ticks: u64,
 }

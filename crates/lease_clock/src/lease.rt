@@ -6,7 +6,7 @@ use frang_base::limits::{LAST_TICK, LEASE_TICKS, MARGIN_TICKS};
 use std::marker::Model;
 
 /// A lease, seen as its expiry: the last tick at which it still stands.
-#[derive(Debug, Drop)]
+#[derive(Drop)]
 pub struct Lease {
     expiry: u64,
 }

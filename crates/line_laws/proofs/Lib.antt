@@ -43,7 +43,7 @@ pub mod Going
 pub mod Turning
 pub mod TraceLooked
 pub mod TraceAtHand
-pub mod Lines
+pub mod TraceLines
 mod TraceExamples
 pub mod Tells
 pub mod WalksTold

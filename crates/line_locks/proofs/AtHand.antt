@@ -31,7 +31,7 @@ use Rattle.plan_laws.specs.Traces.{traced}
 use Rattle.plan_laws.proofs.Traces.{traces_follow_looks}
 use Rattle.disk_definitions.specs.Lines.{plan_of_line, plan_step, resolved}
 use Rattle.line_laws.proofs.Inside.{lines_inside}
-use Rattle.line_laws.proofs.Lines.{follows_disk}
+use Rattle.line_laws.proofs.TraceLines.{follows_disk}
 use Rattle.line_locks.specs.Found.{clear_locks, edit_locks_of, edit_locks, finish_locks, full_locks, nodes_of, owns_at_hand}
 use Rattle.line_locks.specs.Lines.{ClearLocksAreFound, FinishLocksAreFound, looked_nodes}
 use Rattle.line_locks.specs.Same.{AreAlike}

@@ -28,7 +28,7 @@ use Rattle.plan_laws.specs.Traces.{has_version, traced}
 use Rattle.plan_laws.proofs.Traces.{traced_is_at_hand}
 use Rattle.disk_definitions.specs.Lines.{plan_of_line}
 use Rattle.line_laws.proofs.Inside.{lines_inside}
-use Rattle.line_laws.proofs.Lines.{follows_disk}
+use Rattle.line_laws.proofs.TraceLines.{follows_disk}
 use Rattle.line_laws.proofs.TraceLooked.{inside_first}
 use Rattle.line_locks.specs.Found.{nodes_in, nodes_of, with_node, with_node_in}
 use Rattle.line_locks.specs.Lines.{NumbersTellNodes}

@@ -11,7 +11,7 @@ use plan_steps::{Outcome, Stop};
 use std::alloc::Global;
 
 /// How a line ends over what is at hand.
-#[derive(Debug, Drop)]
+#[derive(Drop)]
 pub enum LineEnd {
     /// It is done with a reply and the edits that make it, none where it is refused.
     Done(Outcome),

@@ -19,21 +19,21 @@ use namei::{PathEnd, Resolution, Walked, walk_links};
 use std::alloc::Global;
 
 /// An operation over paths without links, or how a walk was refused.
-#[derive(Debug, Drop)]
+#[derive(Drop)]
 pub enum Step {
     Goes(Op),
     Stops(Reply),
 }
 
 /// What an operation comes to, and the directories and links that its walks went through, in order, by their inodes.
-#[derive(Debug, Drop)]
+#[derive(Drop)]
 pub struct Resolved {
     pub step: Step,
     pub trail: Vec<u32>,
 }
 
 /// What the walks of a line come to over the sectors that are cached.
-#[derive(Debug, Drop)]
+#[derive(Drop)]
 pub enum Line {
     /// This sector isn't cached, and is the first that is needed.
     Need(Sector),
@@ -59,7 +59,7 @@ pub fn resolve_line(
 }
 
 // The walks of an operation.
-#[derive(Clone, Copy, Debug)]
+#[derive(Clone, Copy)]
 enum Walks<'a> {
     Nothing,
     // Of one path, whose last name is followed or not.

@@ -8,7 +8,7 @@ use std::alloc::{AllocError, Global};
 use std::marker::Model;
 
 /// Locks with a mode each, seen as the list of them.
-#[derive(Debug, Drop)]
+#[derive(Drop)]
 pub struct LockList {
     locks: Vec<(LockId, Mode)>,
 }
@@ -88,7 +88,7 @@ impl Clone for LockList {
 }
 
 /// The dead servers whose logs a taker has, each with the tick at which the taker's lease ends; seen as the list of them.
-#[derive(Debug, Drop)]
+#[derive(Drop)]
 pub struct LogList {
     logs: Vec<(ServerId, u64)>,
 }
@@ -168,7 +168,7 @@ impl Clone for LogList {
 
 /// What one server knows itself to have: the locks that it holds, those that it asked for and wasn't granted, and the logs
 /// that it has taken.
-#[derive(Debug, Drop)]
+#[derive(Drop)]
 pub struct ClerkLocks {
     pub server: ServerId,
     pub held: LockList,

@@ -18,7 +18,7 @@ use std::marker::Model;
 
 /// The locks that a server is asked for, ascending, each with what is asked, and how many more have room. A lock is listed, and taken from
 /// the list, in time logarithmic in their number.
-#[derive(Debug, Drop)]
+#[derive(Drop)]
 pub(crate) struct AskedList {
     asked: OrderedMap<LockId, AskedFor>,
 }

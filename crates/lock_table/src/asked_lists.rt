@@ -17,7 +17,7 @@ use std::array;
 use std::marker::Model;
 
 /// What each server is asked for by its number, ascending by lock, and how many more have room.
-#[derive(Debug, Drop)]
+#[derive(Drop)]
 pub(crate) struct AskedLists {
     lists: [AskedList; SERVERS],
 }

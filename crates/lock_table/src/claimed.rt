@@ -10,7 +10,7 @@ use lock_definitions::{AskedFor, Claim};
 use std::marker::Model;
 
 /// What each server has and wishes of one lock, by the number of the server.
-#[derive(Debug, Drop)]
+#[derive(Drop)]
 pub(crate) struct Claimed {
     claims: [Claim; SERVERS],
 }

@@ -21,7 +21,7 @@ use std::marker::Model;
 
 /// The claims on each lock, ascending by lock, and for how many more locks that it is asked for each server has room. What a
 /// server is asked for is kept up to date beside them.
-#[derive(Debug, Drop)]
+#[derive(Drop)]
 pub(crate) struct Claims {
     map: LockMap,
     asked: AskedLists,

@@ -14,7 +14,7 @@ use std::collections::BTreeMap;
 use std::marker::Model;
 
 /// The claims on each lock, seen as the list of them, ascending by lock. A lock is found in time logarithmic in their number.
-#[derive(Debug, Drop)]
+#[derive(Drop)]
 pub(crate) struct LockMap {
     claims: BTreeMap<LockId, Claimed>,
 }

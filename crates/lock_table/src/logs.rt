@@ -9,7 +9,7 @@ use lock_definitions::LogHold;
 use std::marker::Model;
 
 /// The hold on each log, by the number of the dead server; seen as the list of them.
-#[derive(Debug, Drop)]
+#[derive(Drop)]
 pub(crate) struct Logs {
     holds: [Option<LogHold>; LOGS],
 }

@@ -20,7 +20,7 @@ use std::marker::Model;
 
 /// A lock table, seen as its locks, by the definitions of locks, and the room for further claims. Servers are 0 to 15; a taker of
 /// logs may also be the host. A lock is found in time logarithmic in their number, and what a server is asked for lies ready.
-#[derive(Debug, Drop)]
+#[derive(Drop)]
 pub struct LockTable {
     alloc: Global,
     claims: Claims,

@@ -18,7 +18,7 @@ pub const FRAME_HEAD: usize = 10;
 pub const FRAME_BYTES_MAX: usize = FRAME_HEAD + RECORD_BYTES_MAX;
 
 /// The first frame of some bytes, with what follows it.
-#[derive(Clone, Copy, Debug)]
+#[derive(Clone, Copy)]
 pub struct Frame<'a> {
     pub op: OpNo,
     /// What has the place of a record's body.

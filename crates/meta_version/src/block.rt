@@ -8,7 +8,7 @@ use byteorder::{ByteOrder, LittleEndian};
 use frang_base::{Block, Change, Patch};
 
 /// What became of a change.
-#[derive(Clone, Copy, Debug, PartialEq, Eq)]
+#[derive(Clone, Copy, PartialEq, Eq)]
 pub enum Applied {
     /// It was made.
     Applied,

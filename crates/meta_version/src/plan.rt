@@ -3,7 +3,7 @@ use crate::{ByteWrites, SectorList};
 use frang_base::{Changes, Reply, Sector};
 
 /// What an operation comes to over the sectors that are cached.
-#[derive(Debug, Drop)]
+#[derive(Drop)]
 pub enum Plan {
     /// This sector isn't cached, and is the first that the plan needs.
     Need(Sector),

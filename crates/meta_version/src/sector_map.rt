@@ -12,7 +12,7 @@ use std::marker::Model;
 /// A map from a few sectors to values, whose entries lie one after the other. Contracts see it as its entries, a sector's number with
 /// its value, ascending by sector, and for how many more entries there is room. A look-up takes time logarithmic in the number of
 /// entries, and an insertion moves those behind it.
-#[derive(Debug, Drop)]
+#[derive(Drop)]
 pub struct SectorMap<T> {
     entries: Vec<(u64, T)>,
 }

@@ -10,7 +10,7 @@ use dir_lookup::Refusal;
 use frang_base::{NoMemory, Path, Sector};
 
 /// How a walk through links ends.
-#[derive(Debug, Drop)]
+#[derive(Drop)]
 pub enum PathEnd {
     /// At a path without links that leads to the same place, with the kind of the node that is there, as inodes and entries have it; `None` where the
     /// last name isn't there.
@@ -24,7 +24,7 @@ pub enum PathEnd {
 }
 
 /// How a walk through links ends, and its trail.
-#[derive(Debug, Drop)]
+#[derive(Drop)]
 pub struct Resolution {
     pub end: PathEnd,
     /// The directories in which it looked a name up and the links that it followed, in order, by their inodes.
@@ -32,7 +32,7 @@ pub struct Resolution {
 }
 
 /// What a walk through links comes to over the sectors that are cached.
-#[derive(Debug, Drop)]
+#[derive(Drop)]
 pub enum Walked {
     /// This sector isn't cached, and is the first that is needed.
     Need(Sector),

@@ -18,7 +18,7 @@ use meta_version::Sectors;
 
 // How a walk goes on: a sector is needed first; the node is no directory, so that nothing is looked up in it; or a name was looked up, and it ends there,
 // with the kind of the node that is there, goes into a directory, follows a link, or is refused.
-#[derive(Clone, Copy, Debug)]
+#[derive(Clone, Copy)]
 pub(crate) enum Next {
     Need(Sector),
     Lost(Refusal),

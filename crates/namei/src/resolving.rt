@@ -19,7 +19,7 @@ use meta_version::Sectors;
 use std::alloc::Global;
 
 /// Where a path leads over the sectors that are cached, once links are followed.
-#[derive(Debug, Drop)]
+#[derive(Drop)]
 pub enum Resolved {
     /// This sector isn't cached, and is the first that is needed.
     Need(Sector),

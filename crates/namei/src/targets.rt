@@ -22,7 +22,7 @@ use std::alloc::Global;
 
 // Where a link leads: a sector is needed first, its target is no path, or these names lead on from the root, or from the directory that
 // holds the link.
-#[derive(Debug, Drop)]
+#[derive(Drop)]
 pub(crate) enum Way {
     Need(Sector),
     Nowhere,

@@ -13,7 +13,7 @@ use frang_base::{Path, Sector};
 use meta_version::Sectors;
 
 /// Where a walk leads over the sectors that are cached.
-#[derive(Clone, Copy, Debug, PartialEq, Eq)]
+#[derive(Clone, Copy, PartialEq, Eq)]
 pub enum Step {
     /// This sector isn't cached, and is the first that the walk needs.
     Need(Sector),

@@ -18,7 +18,7 @@ use plan_steps::{Edit, push};
 use std::alloc::Global;
 
 /// The blocks that a file gets beside its own.
-#[derive(Clone, Copy, Debug)]
+#[derive(Clone, Copy)]
 pub(crate) struct NewBlocks<'a> {
     /// The small blocks, which come behind those that it has.
     pub small: &'a [u32],

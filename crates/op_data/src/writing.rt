@@ -9,7 +9,7 @@ use frang_base::limits::SECTOR_BYTES;
 use tree_edits::{Bytes, count_of};
 
 /// Bytes that are written from an offset of a file on.
-#[derive(Clone, Copy, Debug)]
+#[derive(Clone, Copy)]
 pub(crate) struct Writing<'a> {
     pub off: u32,
     /// The time at which they are written, which becomes the file's.

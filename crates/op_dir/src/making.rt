@@ -29,7 +29,7 @@ use plan_steps::{
 use std::alloc::Global;
 
 // What a new node gets: its inode, and room for its name.
-#[derive(Clone, Copy, Debug)]
+#[derive(Clone, Copy)]
 struct Place {
     inode: u32,
     room: Room,

@@ -7,7 +7,7 @@ use disk_definitions::DirEntry;
 use frang_base::limits::KIND_DIRECTORY;
 
 // A name that is there: its directory, and its place with its entry.
-#[derive(Clone, Copy, Debug)]
+#[derive(Clone, Copy)]
 pub(crate) struct Named {
     pub(crate) directory: NumberedInode,
     pub(crate) found: Found,

@@ -22,7 +22,7 @@ pub(crate) const HALF: usize = 128;
 pub(crate) const QUARTER: usize = 64;
 
 /// A run of entries that lie in one piece of memory, which has room for `CHUNK` of them. Contracts see the list of them.
-#[derive(Debug, Drop)]
+#[derive(Drop)]
 pub struct Chunk<K, V> {
     entries: Vec<(K, V)>,
     // The last key: a search for a chunk reads it, and none of the entries. It stays where a value alone changes.

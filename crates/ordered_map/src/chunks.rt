@@ -8,7 +8,7 @@ use std::alloc::{AllocError, Global};
 use std::marker::Model;
 
 /// The chunks of a map, and blank ones for what is to come. Contracts see the chunks, and how many blank ones there are.
-#[derive(Debug, Drop)]
+#[derive(Drop)]
 pub(crate) struct Chunks<K, V> {
     chunks: Vec<Chunk<K, V>>,
     blank: Vec<Chunk<K, V>>,

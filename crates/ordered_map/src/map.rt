@@ -14,7 +14,7 @@ use std::alloc::{AllocError, Global};
 use std::marker::Model;
 
 /// A map whose keys are kept in order. Contracts see the list of its entries, ascending by key, and how many more go in without memory.
-#[derive(Debug, Drop)]
+#[derive(Drop)]
 pub struct OrderedMap<K: Ord, V> {
     chunks: Chunks<K, V>,
     count: usize,
@@ -46,7 +46,7 @@ struct Spot {
 /// that is given a place looks there first, and then goes on from its chunk in steps that double; only a key that lies before that chunk is
 /// searched for among all. So keys that ascend, each looked for from the place of the one before, are found in one pass over the chunks
 /// that never turns back. What a search answers doesn't depend on the place.
-#[derive(Clone, Copy, Debug)]
+#[derive(Clone, Copy)]
 pub struct Place {
     chunk: usize,
     at: usize,

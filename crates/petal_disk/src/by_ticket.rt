@@ -15,7 +15,7 @@ use std::marker::Model;
 
 /// Writes with their tickets, ascending by ticket, and for how many more there is room. A write is found by its ticket in time
 /// logarithmic in their number, and where one is taken out no block moves.
-#[derive(Debug, Drop)]
+#[derive(Drop)]
 pub(crate) struct WritesByTicket {
     writes: OrderedMap<Ticket, Box<Put>>,
     // Boxes for writes to come; what they hold doesn't count.

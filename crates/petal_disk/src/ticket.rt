@@ -13,7 +13,7 @@ pub enum IssueFault {
 }
 
 /// How a write arrived.
-#[derive(Clone, Copy, Debug, PartialEq, Eq)]
+#[derive(Clone, Copy, PartialEq, Eq)]
 pub enum Arrived {
     Written,
     /// Its stamp was below the present tick, and no sector has changed.

@@ -8,7 +8,7 @@ use frang_base::{Bitmap, Held, NoMemory};
 use std::alloc::Global;
 
 /// A segment of the bitmap.
-#[derive(Clone, Copy, Debug)]
+#[derive(Clone, Copy)]
 pub struct Segment {
     pub number: u32,
     pub version: u64,

@@ -13,7 +13,7 @@ use std::alloc::Global;
 use std::marker::Model;
 
 /// Sectors with their versions, each once, in the order in which they were first seen. Contracts see the list of them.
-#[derive(Debug, Drop)]
+#[derive(Drop)]
 pub struct Seen {
     sectors: Vec<(Sector, u64)>,
 }
@@ -28,7 +28,7 @@ impl Model for Seen {
 }
 
 /// How the seen sectors stand against those that are cached, compared in their order.
-#[derive(Clone, Copy, Debug, PartialEq, Eq)]
+#[derive(Clone, Copy, PartialEq, Eq)]
 pub enum Comparison {
     /// The first that isn't as it was seen has another version.
     HasMoved,

@@ -11,7 +11,7 @@ use std::collections::BTreeMap;
 use std::marker::Model;
 
 /// Locks with the modes in which they are needed, each once, seen as the list of them, ascending. A lock is found in time logarithmic in their number.
-#[derive(Debug, Drop)]
+#[derive(Drop)]
 pub struct LockSet {
     locks: BTreeMap<LockId, Mode>,
 }

@@ -8,7 +8,7 @@ use frang_base::{Block, NoMemory, Reply};
 use std::alloc::Global;
 
 /// The change of one thing of a disk. Blocks are numbered over all segments, small ones and large ones apart.
-#[derive(Debug, Drop)]
+#[derive(Drop)]
 pub enum Edit {
     /// An inode, in use or free. Its version counts for nothing. Where it is `dated`, the inode's time goes into the change of its
     /// sector even where it stays: so it is with a file that is written or cut.
@@ -53,7 +53,7 @@ pub enum Edit {
 }
 
 /// What a plan is done with: the reply, and the edits that make it, the first one first.
-#[derive(Debug, Drop)]
+#[derive(Drop)]
 pub struct Outcome {
     pub reply: Reply,
     pub edits: Vec<Edit>,

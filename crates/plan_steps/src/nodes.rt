@@ -20,7 +20,7 @@ use frang_base::limits::{KIND_DIRECTORY, KIND_FILE, KIND_LINK};
 use tree_definitions::Target;
 
 /// A node that comes: an empty file, an empty directory, or a link.
-#[derive(Debug, Drop)]
+#[derive(Drop)]
 pub enum NewNode {
     File,
     Directory,

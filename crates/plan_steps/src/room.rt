@@ -26,7 +26,7 @@ use frang_base::{Held, Reply};
 use frang_layout::{Region, sector_of};
 
 /// Room for an entry.
-#[derive(Clone, Copy, Debug, PartialEq, Eq)]
+#[derive(Clone, Copy, PartialEq, Eq)]
 pub enum Room {
     /// A free place of the directory, 56 to a block.
     Inside { place: u32 },

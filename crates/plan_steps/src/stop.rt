@@ -3,7 +3,7 @@ use dir_lookup::Need;
 use frang_base::{NoMemory, Reply, Sector};
 
 /// Why a plan ends before it has all that it is made of.
-#[derive(Debug, Drop)]
+#[derive(Drop)]
 pub enum Stop {
     /// This sector is needed and isn't cached, the first such.
     Need(Sector),

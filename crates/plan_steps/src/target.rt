@@ -14,7 +14,7 @@ use frang_base::{Path, Reply};
 use meta_version::Sectors;
 
 /// A node by its inode's number and its kind, as its entry has it.
-#[derive(Clone, Copy, Debug, PartialEq, Eq)]
+#[derive(Clone, Copy, PartialEq, Eq)]
 pub struct Target {
     pub inode: u32,
     pub kind: u8,

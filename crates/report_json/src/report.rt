@@ -2,7 +2,7 @@
 use frang_base::Sector;
 
 /// A fault of a sector, of kind 1 to 9.
-#[derive(Clone, Copy, Debug, PartialEq, Eq)]
+#[derive(Clone, Copy, PartialEq, Eq)]
 pub struct Fault {
     pub sector: Sector,
     pub kind: u8,
@@ -10,7 +10,7 @@ pub struct Fault {
 
 /// How many nodes and blocks are reached on a disk, and its faults, ascending by sectors and kinds, each once. It stands for a tree exactly
 /// where there are none.
-#[derive(Debug, Drop)]
+#[derive(Drop)]
 pub struct Report {
     pub segments: u32,
     pub dirs: u32,

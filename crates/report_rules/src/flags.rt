@@ -7,7 +7,7 @@ use std::alloc::Global;
 use std::marker::Model;
 
 /// A flag for each number below a limit.
-#[derive(Debug, Drop)]
+#[derive(Drop)]
 pub struct Flags {
     flags: Vec<bool>,
 }

@@ -16,7 +16,7 @@ use std::alloc::Global;
 use std::marker::Model;
 
 /// A count for each number below a limit, which stops at the greatest number of 64 bits.
-#[derive(Debug, Drop)]
+#[derive(Drop)]
 pub struct Counts {
     counts: Vec<u64>,
 }

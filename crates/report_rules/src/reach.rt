@@ -15,7 +15,7 @@ use frang_base::limits::{DIRECTORY_ENTRIES_MAX, ROOT_INODE, SEGMENT_INODES, SEGM
 use std::alloc::Global;
 
 // What is reached so far, and which of it is still to be taken.
-#[derive(Debug, Drop)]
+#[derive(Drop)]
 struct Walk {
     reached: Flags,
     later: Vec<u32>,

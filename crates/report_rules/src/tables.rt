@@ -24,7 +24,7 @@ use std::alloc::Global;
 
 /// Which inodes are reached, how often each is named, who uses which block, which small blocks are directories', and in which parts of
 /// these a name stands that stands before.
-#[derive(Debug, Drop)]
+#[derive(Drop)]
 pub struct Tables {
     pub reached: Flags,
     pub names: Counts,

@@ -16,7 +16,7 @@ use std::alloc::Global;
 
 /// Of a row of places, some of which have a number: the first place of each number below a limit, and for each place whether it is the
 /// first of its number and that is below the limit, or has none.
-#[derive(Debug, Drop)]
+#[derive(Drop)]
 pub struct Users {
     first: Vec<Option<u32>>,
     fine: Flags,

@@ -2,7 +2,7 @@
 use frang_base::{ServerId, What};
 
 /// Who is asked, a server or the host, and what.
-#[derive(Debug, Drop)]
+#[derive(Drop)]
 pub struct Asked {
     pub who: ServerId,
     pub what: What,

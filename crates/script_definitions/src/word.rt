@@ -1,7 +1,7 @@
 // The words of a server's lines.
 
 /// The word that says what a server is asked.
-#[derive(Clone, Copy, Debug, PartialEq, Eq)]
+#[derive(Clone, Copy, PartialEq, Eq)]
 pub enum ServerWord {
     Create,
     Mkdir,

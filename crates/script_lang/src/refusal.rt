@@ -23,7 +23,7 @@ impl From<NoMemory> for ReadFault {
 }
 
 // Why nothing is read of a line.
-#[derive(Clone, Copy, Debug, PartialEq, Eq)]
+#[derive(Clone, Copy, PartialEq, Eq)]
 pub enum Refusal {
     Bad(LineFault),
     NoMemory,

@@ -9,14 +9,14 @@ use std::alloc::{AllocError, Global};
 use std::marker::Model;
 
 /// A byte, or one in doubt: a recovery has left it open, until a read shows it.
-#[derive(Clone, Copy, Debug, PartialEq, Eq)]
+#[derive(Clone, Copy, PartialEq, Eq)]
 pub enum Cell {
     Byte(u8),
     Doubtful,
 }
 
 /// The contents of a file, seen as the list of its cells: at most 1,114,112.
-#[derive(Debug, Drop)]
+#[derive(Drop)]
 pub struct Cells {
     cells: Vec<Cell>,
 }

@@ -10,7 +10,7 @@ use std::marker::Model;
 
 /// The entries of a directory, seen as the list of its names with the births of their nodes, in order of the names' bytes: at most
 /// 896, each name once.
-#[derive(Debug, Drop)]
+#[derive(Drop)]
 pub struct Entries {
     map: BTreeMap<Name, u64>,
 }

@@ -7,7 +7,7 @@ use std::alloc::AllocError;
 use std::marker::Model;
 
 /// The target of a symbolic link, seen as the list of its bytes: at most 384.
-#[derive(Debug, Drop)]
+#[derive(Drop)]
 pub struct Target {
     text: Text,
 }

@@ -6,7 +6,7 @@ use frang_base::limits::{BLOCK_ENTRIES, INODE_BLOCKS_MAX, SMALL_BLOCK_BYTES, SMA
 use tree_definitions::{Entries, Node};
 
 /// Blocks of the disk: small ones of files, small ones of directories, and large ones.
-#[derive(Clone, Copy, Debug)]
+#[derive(Clone, Copy)]
 pub struct Blocks {
     pub files: u64,
     pub dirs: u64,

@@ -9,7 +9,7 @@ use frang_base::{Name, NoMemory};
 use tree_definitions::{Cells, Node};
 
 /// What is written into a file: bytes, or so many times the same byte.
-#[derive(Clone, Copy, Debug)]
+#[derive(Clone, Copy)]
 pub enum Bytes<'a> {
     Text(&'a [u8]),
     Same { len: u32, byte: u8 },

@@ -17,7 +17,7 @@ use frang_base::{Name, NoMemory, Op, Reply, ServerId};
 use tree_definitions::Entry;
 
 /// A sector of a file, counted from its start, and the server that may have left it in doubt.
-#[derive(Clone, Copy, Debug)]
+#[derive(Clone, Copy)]
 pub struct Sought {
     pub server: ServerId,
     pub birth: u64,

@@ -13,7 +13,7 @@ use std::marker::Model;
 use tree_definitions::{Entry, Item};
 
 /// What was asked and answered, seen as the list of its items, the oldest first.
-#[derive(Debug, Drop)]
+#[derive(Drop)]
 pub struct History {
     items: Vec<Item>,
 }

@@ -18,7 +18,7 @@ use std::marker::Model;
 use tree_definitions::Entry;
 
 /// Some cells of a file, from an offset on.
-#[derive(Debug, Drop)]
+#[derive(Drop)]
 pub struct CellRun {
     birth: u64,
     from: usize,

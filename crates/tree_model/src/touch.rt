@@ -52,7 +52,7 @@ pub fn is_recorded(tree: &Tree, entry: &Entry) -> Result<bool, NoMemory>
 }
 
 /// A kind of node that an operation reaches.
-#[derive(Clone, Copy, Debug)]
+#[derive(Clone, Copy)]
 pub enum Kind {
     Any,
     NoDir,

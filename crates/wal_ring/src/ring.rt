@@ -21,7 +21,7 @@ use std::marker::Model;
 
 /// The log of a server in memory: its records that aren't given up, whose sectors have numbers that go on for ever, and which of these are issued and
 /// acknowledged. Contracts see the ring of the definitions, and for how many more sectors of its log and names of sectors there is room.
-#[derive(Debug, Drop)]
+#[derive(Drop)]
 pub struct Ring {
     given_up: u64,
     reached: u64,
