@@ -69,14 +69,22 @@ fn fault_after(alloc: Global, pieces: &[Piece]) -> Result<Fault, AllocError> {
     Ok(fault_in(alloc, &image))
 }
 
+fn has_image(alloc: Global, disk: &Disk, worked: &[u8]) -> Result<bool, NoMemory> {
+    let mut image = Vec::new(alloc);
+    write_image(disk, &mut image)?;
+    Ok(image.as_slice() == worked)
+}
+
+fn has_fresh_image(alloc: Global, disk: &Disk) -> Result<bool, NoMemory> {
+    let worked = fresh(alloc)?;
+    has_image(alloc, disk, &worked)
+}
+
 #[test]
 fn the_fresh_disk_has_this_image(rt: HostRuntime) -> Result<(), Fail> {
     let mut disk = fresh_disk(rt.alloc())?;
     disk.set(LOG, [0; SECTOR_BYTES])?;
-    let mut image = Vec::new(rt.alloc());
-    write_image(&disk, &mut image)?;
-    let worked = fresh(rt.alloc())?;
-    assert!(rt; image.as_slice() == worked.as_slice());
+    assert!(rt; has_fresh_image(rt.alloc(), &disk)?);
     Ok(())
 }
 
@@ -85,9 +93,7 @@ fn the_fresh_image_is_read(rt: HostRuntime) -> Result<(), Fail> {
     let worked = fresh(rt.alloc())?;
     let disk = read_image(rt.alloc(), &worked)?;
     assert!(rt; disk.len() == 3 && disk.get(Sector(10_737_418_240))[8] == 2);
-    let mut again = Vec::new(rt.alloc());
-    write_image(&disk, &mut again)?;
-    assert!(rt; again.as_slice() == worked.as_slice());
+    assert!(rt; has_fresh_image(rt.alloc(), &disk)?);
     Ok(())
 }
 

@@ -131,8 +131,22 @@ pub fn tell_over<R: Threads + Sync, F: Files>(
     files: &mut F,
 ) -> Result<Told, NoMemory> {
     let words = words_of(alloc, line)?;
-    let (status, out) = call(rt, alloc, &words, files, MemOutside::new(alloc));
-    let text = lines_said(alloc, out.acts())?;
+    tell_words(rt, alloc, &words, files)
+}
+
+fn tell_words<R: Threads + Sync, F: Files>(
+    rt: &R,
+    alloc: Global,
+    words: &[String],
+    files: &mut F,
+) -> Result<Told, NoMemory> {
+    let (status, out) = call(rt, alloc, words, files, MemOutside::new(alloc));
+    told(alloc, status, out.acts())
+}
+
+/// What a call that ended so, with these acts, tells.
+pub fn told(alloc: Global, status: Status, acts: &[Act]) -> Result<Told, NoMemory> {
+    let text = lines_said(alloc, acts)?;
     Ok(Told { status, text })
 }
 
@@ -146,6 +160,16 @@ pub fn is_so(told: &Told, ending: Ending, text: &str) -> bool {
         && told.text.as_slice() == text.as_bytes()
 }
 
+fn is_row<R: Threads + Sync, F: Files>(
+    rt: &R,
+    alloc: Global,
+    files: &mut F,
+    row: &Row,
+) -> Result<bool, NoMemory> {
+    let told = tell_over(rt, alloc, row.0, files)?;
+    Ok(is_so(&told, row.1, row.2))
+}
+
 /// The first row, from 1 on, whose call over these files tells otherwise; 0 where there is none.
 pub fn first_other<R: Threads + Sync, F: Files>(
     rt: &R,
@@ -154,8 +178,7 @@ pub fn first_other<R: Threads + Sync, F: Files>(
     rows: &[Row],
 ) -> Result<usize, NoMemory> {
     for (i, row) in rows.iter().enumerate() {
-        let (words, ending, text) = *row;
-        if !is_so(&tell_over(rt, alloc, words, files)?, ending, text) {
+        if !is_row(rt, alloc, files, row)? {
             return Ok(i.saturating_add(1));
         }
     }

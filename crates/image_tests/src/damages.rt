@@ -2,6 +2,7 @@
 use crate::builders::{DONE, Piece, Row, files_of, first_other, image_of, tell_over};
 use frang_base::NoMemory;
 use frang_outside::MemFiles;
+use frang_top::Status;
 use std::alloc::Global;
 use std::test::Fail;
 use std::thread::Threads;
@@ -151,18 +152,16 @@ fn is_refused(
     words: &str,
     damage: &Damage,
 ) -> Result<bool, NoMemory> {
-    let (pieces, len, at, kind, sentence) = *damage;
-    let mut files = fresh_files(alloc, len, pieces)?;
+    let mut files = fresh_files(alloc, damage.1, damage.0)?;
     let told = tell_over(rt, alloc, words, &mut files)?;
-    let status = told.status;
-    let said = status.sentence(alloc)?;
-    Ok(
-        status.code == 6
-            && status.line == kind
-            && status.at == at
-            && told.text.is_empty()
-            && said.as_str() == sentence,
-    )
+    Ok(told.text.is_empty() && is_status(alloc, &told.status, damage)?)
+}
+
+// The status is that of the damage, and its sentence has the words.
+fn is_status(alloc: Global, status: &Status, damage: &Damage) -> Result<bool, NoMemory> {
+    let (_, _, at, kind, words) = *damage;
+    let sentence = status.sentence(alloc)?;
+    Ok(status.code == 6 && status.line == kind && status.at == at && sentence.as_str() == words)
 }
 
 // The first of these damages, from 1 on, that a command refuses otherwise; 0 where there is none.

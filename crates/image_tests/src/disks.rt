@@ -148,6 +148,14 @@ fn is_told(report: &Report, counts: [u32; 5], faults: &[(u64, u8)]) -> bool {
     found == counts && are_faults(&report.faults, faults) && report.stands == faults.is_empty()
 }
 
+fn is_row(rt: &(impl Threads + Sync), alloc: Global, row: &Row) -> Result<bool, NoMemory> {
+    let (pieces, counts, faults) = *row;
+    match small_report(rt, alloc, pieces)? {
+        Some(report) => Ok(is_told(&report, counts, faults)),
+        None => Ok(false),
+    }
+}
+
 /// The first row, from 1 on, that is told otherwise; 0 where there is none.
 pub fn first_other(
     rt: &(impl Threads + Sync),
@@ -155,12 +163,7 @@ pub fn first_other(
     rows: &[Row],
 ) -> Result<usize, NoMemory> {
     for (i, row) in rows.iter().enumerate() {
-        let (pieces, counts, faults) = *row;
-        let told = match small_report(rt, alloc, pieces)? {
-            Some(report) => is_told(&report, counts, faults),
-            None => false,
-        };
-        if !told {
+        if !is_row(rt, alloc, row)? {
             return Ok(i.saturating_add(1));
         }
     }

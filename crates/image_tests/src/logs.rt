@@ -1,7 +1,7 @@
 // An image whose two logs hold a record each: a file that server 0 made, and one that server 1 made. Nothing of them stands in place.
 use crate::builders::{
     DONE, Ending, FixedFiles, Piece, Row, Told, call, files_of, first_other, image_of, is_so,
-    lay_all, lines_said, tell_over, words_of,
+    lay_all, tell_over, told, words_of,
 };
 use frang_base::NoMemory;
 use frang_outside::{FaultyOutside, Files, MemFiles};
@@ -145,12 +145,19 @@ static SAVED: [Row; 3] = [
     ("log -- -new 0", DONE, "! end\n"),
 ];
 
+// The length of what is saved, where the rows are told so.
+fn saved_length(rt: &(impl Threads + Sync), alloc: Global) -> Result<usize, NoMemory> {
+    let mut files = logs_files(alloc, &[])?;
+    if first_other(rt, alloc, &mut files, &SAVED)? != 0 {
+        return Ok(0);
+    }
+    Ok(length_of(alloc, &mut files, "-new"))
+}
+
 #[test]
 fn a_saved_recovery_has_no_logs_left(rt: HostRuntime) -> Result<(), Fail> {
-    let mut files = logs_files(rt.alloc(), &[])?;
-    assert!(rt; first_other(&rt, rt.alloc(), &mut files, &SAVED)? == 0);
     // The inodes and the block of the two files are three sectors more, and the logs two less.
-    assert!(rt; length_of(rt.alloc(), &mut files, "-new") == 3136);
+    assert!(rt; saved_length(&rt, rt.alloc())? == 3136);
     Ok(())
 }
 
@@ -164,11 +171,16 @@ const ODD: Status = Status {
     sector: 2_147_483_648,
 };
 
+// A log isn't told over the damage.
+fn is_odd(rt: &(impl Threads + Sync), alloc: Global) -> Result<bool, NoMemory> {
+    let mut files = logs_files(alloc, &ODD_SLOT)?;
+    let told = tell_over(rt, alloc, "log img 1", &mut files)?;
+    Ok(told.status == ODD && told.text.is_empty())
+}
+
 #[test]
 fn a_damaged_log_is_told_by_its_sector(rt: HostRuntime) -> Result<(), Fail> {
-    let mut files = logs_files(rt.alloc(), &ODD_SLOT)?;
-    let told = tell_over(&rt, rt.alloc(), "log img 1", &mut files)?;
-    assert!(rt; told.status == ODD && told.text.is_empty());
+    assert!(rt; is_odd(&rt, rt.alloc())?);
     let words = ODD.sentence(rt.alloc())?;
     assert!(rt;
         words.as_str() == "image: the log slot of sector 2147483648 isn't one, at byte 536"
@@ -178,13 +190,22 @@ fn a_damaged_log_is_told_by_its_sector(rt: HostRuntime) -> Result<(), Fail> {
 
 // What is told of the tree where the outside fails at the third line.
 fn told_in_part(rt: &(impl Threads + Sync), alloc: Global) -> Result<Told, NoMemory> {
-    let mut files = logs_files(alloc, &[])?;
     let words = words_of(alloc, "tree img")?;
     let third = vec![in alloc; 3]?;
     let out = FaultyOutside::new(alloc, Vec::new(alloc), Vec::new(alloc), third);
-    let (status, out) = call(rt, alloc, &words, &mut files, out);
-    let text = lines_said(alloc, out.acts())?;
-    Ok(Told { status, text })
+    told_over(rt, alloc, &words, out)
+}
+
+// What is told with these words over this outside.
+fn told_over(
+    rt: &(impl Threads + Sync),
+    alloc: Global,
+    words: &[String],
+    out: FaultyOutside,
+) -> Result<Told, NoMemory> {
+    let mut files = logs_files(alloc, &[])?;
+    let (status, out) = call(rt, alloc, words, &mut files, out);
+    told(alloc, status, out.acts())
 }
 
 #[test]
@@ -197,6 +218,18 @@ fn a_failing_outside_ends_a_command(rt: HostRuntime) -> Result<(), Fail> {
 // A recovery that is to be saved.
 static UNSAVED: [Row; 1] = [("recover img --save new", (7, 0, 0), RECOVERED)];
 
+// Over these files the rows are told so, with so many writes that fail.
+fn ends(
+    rt: &(impl Threads + Sync),
+    alloc: Global,
+    files: &mut FixedFiles,
+    rows: &[Row],
+    faults: u64,
+) -> Result<bool, NoMemory> {
+    let other = first_other(rt, alloc, files, rows)?;
+    Ok(other == 0 && files.write_faults == faults)
+}
+
 #[test]
 fn a_file_that_cannot_be_written_ends_a_command(rt: HostRuntime) -> Result<(), Fail> {
     let image = Some(logs_image(rt.alloc(), &[])?);
@@ -204,8 +237,7 @@ fn a_file_that_cannot_be_written_ends_a_command(rt: HostRuntime) -> Result<(), F
         image,
         write_faults: 0,
     };
-    assert!(rt; first_other(&rt, rt.alloc(), &mut files, &UNSAVED)? == 0);
-    assert!(rt; files.write_faults == 1);
+    assert!(rt; ends(&rt, rt.alloc(), &mut files, &UNSAVED, 1)?);
     Ok(())
 }
 
@@ -217,7 +249,6 @@ fn a_file_that_is_too_long_ends_a_command(rt: HostRuntime) -> Result<(), Fail> {
         image: None,
         write_faults: 0,
     };
-    assert!(rt; first_other(&rt, rt.alloc(), &mut files, &TOO_LONG)? == 0);
-    assert!(rt; files.write_faults == 0);
+    assert!(rt; ends(&rt, rt.alloc(), &mut files, &TOO_LONG, 0)?);
     Ok(())
 }

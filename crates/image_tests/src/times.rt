@@ -1,5 +1,6 @@
 // Disks of both formats by their bytes, and the times of their files.
 use crate::builders::{Piece, image_of};
+use disk_definitions::Disk;
 use disk_reading::tree_read;
 use frang_base::NoMemory;
 use image_file::read_image;
@@ -45,13 +46,18 @@ fn time_of(node: Option<&Node>) -> Option<u64> {
 // The times of the files `a` and `b` in the tree that the image stands for, these pieces laid over it.
 fn times(alloc: Global, later: &[Piece]) -> Result<(Option<u64>, Option<u64>), NoMemory> {
     let image = image_of(alloc, LEN, &WITHOUT_TIMES, later)?;
-    let Ok(disk) = read_image(alloc, &image) else {
-        return Ok((None, None));
-    };
-    let Some(tree) = tree_read(alloc, &disk)? else {
-        return Ok((None, None));
-    };
-    Ok((time_of(tree.node(1)), time_of(tree.node(2))))
+    match read_image(alloc, &image) {
+        Ok(disk) => times_on(alloc, &disk),
+        Err(_) => Ok((None, None)),
+    }
+}
+
+// The same of the tree that the disk stands for.
+fn times_on(alloc: Global, disk: &Disk) -> Result<(Option<u64>, Option<u64>), NoMemory> {
+    match tree_read(alloc, disk)? {
+        Some(tree) => Ok((time_of(tree.node(1)), time_of(tree.node(2)))),
+        None => Ok((None, None)),
+    }
 }
 
 #[test]

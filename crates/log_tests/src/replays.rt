@@ -199,18 +199,27 @@ fn replay(alloc: Global, disk: &Disk) -> Result<Disk, NoMemory> {
 // The greatest operations of the disk's logs and what its replay, and the replay of that, hold are as worked out.
 fn is_replayed(alloc: Global, disk: &Disk) -> Result<bool, NoMemory> {
     let once = replay(alloc, disk)?;
-    let twice = replay(alloc, &once)?;
-    let is_empty = greatest_of(alloc, &once, 0)? == 0;
-    let are_greatest = are_greatest(alloc, disk)?;
-    Ok(are_greatest && is_as_worked_out(&once) && is_as_worked_out(&twice) && is_empty)
+    Ok(are_greatest(alloc, disk)? && is_left(alloc, &once)?)
+}
+
+// So is what a replay leaves, whose logs are empty.
+fn is_left(alloc: Global, once: &Disk) -> Result<bool, NoMemory> {
+    let twice = replay(alloc, once)?;
+    let is_empty = greatest_of(alloc, once, 0)? == 0;
+    Ok(is_as_worked_out(once) && is_as_worked_out(&twice) && is_empty)
 }
 
 #[test]
 fn logs_are_replayed_in_their_order(rt: HostRuntime) -> Result<(), Fail> {
-    let older = with_logs(rt.alloc())?;
-    assert!(rt; is_replayed(rt.alloc(), &older)?, "an older program's");
-    let packed = with_packed_log(rt.alloc())?;
-    assert!(rt; is_replayed(rt.alloc(), &packed)?, "packed");
+    let disk = with_logs(rt.alloc())?;
+    assert!(rt; is_replayed(rt.alloc(), &disk)?);
+    Ok(())
+}
+
+#[test]
+fn packed_logs_are_replayed_in_their_order(rt: HostRuntime) -> Result<(), Fail> {
+    let disk = with_packed_log(rt.alloc())?;
+    assert!(rt; is_replayed(rt.alloc(), &disk)?);
     Ok(())
 }
 

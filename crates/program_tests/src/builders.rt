@@ -76,12 +76,25 @@ pub fn tell_words(
 ) -> Result<Told, NoMemory> {
     let mut files = MemFiles::new(alloc);
     files.put_file("s", script)?;
-    let (status, out) = call(rt, alloc, words, &mut files, MemOutside::new(alloc));
-    let acts = out.acts();
+    tell_over(rt, alloc, words, &mut files)
+}
+
+fn tell_over(
+    rt: &(impl Threads + Sync),
+    alloc: Global,
+    words: &[String],
+    files: &mut MemFiles,
+) -> Result<Told, NoMemory> {
+    let (status, out) = call(rt, alloc, words, files, MemOutside::new(alloc));
+    told(alloc, status, out.acts())
+}
+
+fn told(alloc: Global, status: Status, acts: &[Act]) -> Result<Told, NoMemory> {
+    let text = lines_said(alloc, acts)?;
     Ok(Told {
         status,
         acts: acts.len(),
-        text: lines_said(alloc, acts)?,
+        text,
     })
 }
 

@@ -128,6 +128,11 @@ fn stands(tree: &mut Tree, op: &Op, birth: u64) -> Result<bool, NoMemory> {
     Ok(matches!(&reply, Reply::Exist))
 }
 
+fn takes_one_create(alloc: Global, tree: &mut Tree) -> Result<bool, NoMemory> {
+    let create = create_a(alloc)?;
+    Ok(is_made(tree, &create, 1)? && stands(tree, &create, 2)?)
+}
+
 fn copy_of_fresh(alloc: Global) -> Result<Tree, NoMemory> {
     let tree = Tree::fresh(alloc, 16)?;
     tree.try_copy()
@@ -136,10 +141,7 @@ fn copy_of_fresh(alloc: Global) -> Result<Tree, NoMemory> {
 #[test]
 fn a_tree_is_changed(rt: HostRuntime) -> Result<(), Fail> {
     let mut tree = copy_of_fresh(rt.alloc())?;
-    let create = create_a(rt.alloc())?;
-    let is_made = is_made(&mut tree, &create, 1)?;
-    let stands = stands(&mut tree, &create, 2)?;
-    assert!(rt; is_made && stands);
+    assert!(rt; takes_one_create(rt.alloc(), &mut tree)?);
     Ok(())
 }
 
