@@ -1,7 +1,8 @@
 // Images: that of the fresh disk of 16 segments, and what one change makes of it.
 use crate::builders::{Piece, fresh_disk, lay};
-use frang_base::Sector;
+use disk_definitions::Disk;
 use frang_base::limits::SECTOR_BYTES;
+use frang_base::{NoMemory, Sector};
 use image_file::{ImageRead, read_image, write_image};
 use std::alloc::{AllocError, Global};
 use std::test::Fail;
