@@ -18,14 +18,21 @@ static IMAGES: [&str; 2] = ["logs", "unreached"];
 // The commands on images, with what stands behind the image. What is said of `logs.image` by `log` stands in `logs.log.said`.
 static COMMANDS: [(&str, &str); 4] = [("recover", ""), ("tree", ""), ("log", "1"), ("fsck", "")];
 
+// Adds a file's name before `.frang`, where it ends so.
+fn add_script(alloc: Global, names: &mut BTreeSet<String>, file: &str) -> anyhow::Result<()> {
+    if let Some(name) = file.strip_suffix(".frang") {
+        let name = String::from_str(alloc, name)?;
+        names.insert(name)?;
+    }
+    Ok(())
+}
+
 // The names of the scripts in this folder, in order of their bytes.
 fn script_names<R: Runtime>(rt: &R, alloc: Global) -> anyhow::Result<BTreeSet<String>> {
     let mut names = BTreeSet::new(alloc);
     for entry in fs::read_dir(rt, ".")? {
         let entry = entry?;
-        if let Some(name) = entry.file_name().strip_suffix(".frang") {
-            names.insert(String::from_str(alloc, name)?)?;
-        }
+        add_script(alloc, &mut names, entry.file_name())?;
     }
     Ok(names)
 }
@@ -56,6 +63,26 @@ fn explained(alloc: Global, status: &Status) -> anyhow::Result<String> {
     Ok(format!(in alloc; "frang: status {code} line {line} at {at}\nfrang: {words}\n")?)
 }
 
+// The lines said, and then what is said on standard error.
+fn told_by(alloc: Global, status: &Status, acts: &[Act]) -> anyhow::Result<Vec<u8>> {
+    let mut text = lines_said(alloc, acts)?;
+    text.extend_from_slice(explained(alloc, status)?.as_bytes())?;
+    Ok(text)
+}
+
+// Whether a call with these words tells this.
+fn is_told<R: Threads + Sync, F: Files>(
+    rt: &R,
+    alloc: Global,
+    files: &mut F,
+    words: &[String],
+    wanted: &[u8],
+) -> anyhow::Result<bool> {
+    let (status, out) = frang(rt, alloc, words, files, MemOutside::new(alloc), &NoGate);
+    let text = told_by(alloc, &status, out.acts())?;
+    Ok(text.as_slice() == wanted)
+}
+
 // Whether a call with these words says what the text has, and then what its status means.
 fn is_as_said<R: Threads + Sync, F: Files>(
     rt: &R,
@@ -64,13 +91,10 @@ fn is_as_said<R: Threads + Sync, F: Files>(
     words: &[String],
     told: &str,
 ) -> anyhow::Result<bool> {
-    let Ok(wanted) = files.read(alloc, told, u64::MAX) else {
-        return Ok(false);
-    };
-    let (status, out) = frang(rt, alloc, words, files, MemOutside::new(alloc), &NoGate);
-    let mut text = lines_said(alloc, out.acts())?;
-    text.extend_from_slice(explained(alloc, &status)?.as_bytes())?;
-    Ok(text.as_slice() == wanted.as_slice())
+    match files.read(alloc, told, u64::MAX) {
+        Ok(wanted) => is_told(rt, alloc, files, words, &wanted),
+        Err(_) => Ok(false),
+    }
 }
 
 fn is_run_as_said<R: Threads + Sync, F: Files>(
@@ -112,6 +136,20 @@ fn report<R: Runtime>(rt: &R, example: &str, is_as_said: bool) -> anyhow::Result
     Ok(is_as_said)
 }
 
+// Prints whether what a command says of an image is as said, and gives that.
+fn report_image<R: Runtime + Threads + Sync, F: Files>(
+    rt: &R,
+    alloc: Global,
+    files: &mut F,
+    name: &str,
+    command: &str,
+    last: &str,
+) -> anyhow::Result<bool> {
+    let same = is_image_as_said(rt, alloc, files, name, command, last)?;
+    let example = format!(in alloc; "{name} {command}")?;
+    report(rt, example.as_str(), same)
+}
+
 fn are_images_as_said<R: Runtime + Threads + Sync, F: Files>(
     rt: &R,
     alloc: Global,
@@ -120,24 +158,38 @@ fn are_images_as_said<R: Runtime + Threads + Sync, F: Files>(
     let mut all = true;
     for name in IMAGES {
         for (command, last) in COMMANDS {
-            let same = is_image_as_said(rt, alloc, files, name, command, last)?;
-            let example = format!(in alloc; "{name} {command}")?;
-            all &= report(rt, example.as_str(), same)?;
+            all &= report_image(rt, alloc, files, name, command, last)?;
         }
     }
     Ok(all)
 }
 
+fn are_scripts_as_said<R: Runtime + Threads + Sync, F: Files>(
+    rt: &R,
+    alloc: Global,
+    files: &mut F,
+) -> anyhow::Result<bool> {
+    let mut all = true;
+    for name in &script_names(rt, alloc)? {
+        let same = is_run_as_said(rt, alloc, files, name.as_str())?;
+        all &= report(rt, name.as_str(), same)?;
+    }
+    Ok(all)
+}
+
+fn are_all_as_said<R: Runtime + Threads + Send + Sync>(
+    rt: &R,
+    alloc: Global,
+) -> anyhow::Result<bool> {
+    let mut files = DirFiles::new(rt.clone()?);
+    let scripts = are_scripts_as_said(rt, alloc, &mut files)?;
+    let images = are_images_as_said(rt, alloc, &mut files)?;
+    Ok(scripts && images)
+}
+
 fn main(rt: HostRuntime) -> anyhow::Result<ExitCode> {
     let alloc = rt.alloc();
-    let mut files = DirFiles::new(rt.clone()?);
-    let mut all = true;
-    for name in &script_names(&rt, alloc)? {
-        let same = is_run_as_said(&rt, alloc, &mut files, name.as_str())?;
-        all &= report(&rt, name.as_str(), same)?;
-    }
-    all &= are_images_as_said(&rt, alloc, &mut files)?;
-    if !all {
+    if !are_all_as_said(&rt, alloc)? {
         return Ok(ExitCode::from(1));
     }
     run_program(alloc, &rt)

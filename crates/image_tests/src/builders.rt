@@ -141,11 +141,11 @@ fn tell_words<R: Threads + Sync, F: Files>(
     files: &mut F,
 ) -> Result<Told, NoMemory> {
     let (status, out) = call(rt, alloc, words, files, MemOutside::new(alloc));
-    told(alloc, status, out.acts())
+    told_by(alloc, status, out.acts())
 }
 
 /// What a call that ended so, with these acts, tells.
-pub fn told(alloc: Global, status: Status, acts: &[Act]) -> Result<Told, NoMemory> {
+pub fn told_by(alloc: Global, status: Status, acts: &[Act]) -> Result<Told, NoMemory> {
     let text = lines_said(alloc, acts)?;
     Ok(Told { status, text })
 }

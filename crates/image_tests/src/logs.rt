@@ -1,7 +1,7 @@
 // An image whose two logs hold a record each: a file that server 0 made, and one that server 1 made. Nothing of them stands in place.
 use crate::builders::{
     DONE, Ending, FixedFiles, Piece, Row, Told, call, files_of, first_other, image_of, is_so,
-    lay_all, tell_over, told, words_of,
+    lay_all, tell_over, told_by, words_of,
 };
 use frang_base::NoMemory;
 use frang_outside::{FaultyOutside, Files, MemFiles};
@@ -188,24 +188,24 @@ fn a_damaged_log_is_told_by_its_sector(rt: HostRuntime) -> Result<(), Fail> {
     Ok(())
 }
 
-// What is told of the tree where the outside fails at the third line.
-fn told_in_part(rt: &(impl Threads + Sync), alloc: Global) -> Result<Told, NoMemory> {
-    let words = words_of(alloc, "tree img")?;
-    let third = vec![in alloc; 3]?;
-    let out = FaultyOutside::new(alloc, Vec::new(alloc), Vec::new(alloc), third);
-    told_over(rt, alloc, &words, out)
-}
-
-// What is told with these words over this outside.
-fn told_over(
+// What is told with these words over these files where the outside fails at the third line.
+fn tell_failing(
     rt: &(impl Threads + Sync),
     alloc: Global,
     words: &[String],
-    out: FaultyOutside,
+    files: &mut MemFiles,
 ) -> Result<Told, NoMemory> {
+    let third = vec![in alloc; 3]?;
+    let out = FaultyOutside::new(alloc, Vec::new(alloc), Vec::new(alloc), third);
+    let (status, out) = call(rt, alloc, words, files, out);
+    told_by(alloc, status, out.acts())
+}
+
+// So of the tree.
+fn told_in_part(rt: &(impl Threads + Sync), alloc: Global) -> Result<Told, NoMemory> {
     let mut files = logs_files(alloc, &[])?;
-    let (status, out) = call(rt, alloc, words, &mut files, out);
-    told(alloc, status, out.acts())
+    let words = words_of(alloc, "tree img")?;
+    tell_failing(rt, alloc, &words, &mut files)
 }
 
 #[test]

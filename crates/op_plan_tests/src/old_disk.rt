@@ -1,5 +1,8 @@
 // A disk from before files had times, written out by hand: it is read as a tree whose files were never written, and plans are made over it as
 // over any disk. What a plan writes leads to a disk whose file has its time.
+ghost use Rattle.op_look.specs.Looks.{IsLook};
+ghost use Rattle.op_data.specs.Bytes.{IsOfBytes};
+
 use crate::bytes_asked::{Asked, Row, Telling, WHEN, expect, op_of, plan};
 use dir_lookup::Hand;
 use disk_reading::{Disk, tree_read};
@@ -152,8 +155,15 @@ static PLANNED: [Row; 4] = [
 // What is told of a look at the time of /f.
 fn time_told(alloc: Global) -> Result<String, NoMemory> {
     let path = path_of(alloc, "/f")?;
-    let look = plan_look(alloc, &Op::Time { path }, &sectors_of(alloc, &LAID)?)?;
-    plan_told(alloc, &look)
+    look_told(alloc, &Op::Time { path })
+}
+
+// What is told of a look.
+fn look_told(alloc: Global, op: &Op) -> Result<String, NoMemory>
+    requires { IsLook op.now }
+{
+    let sectors = sectors_of(alloc, &LAID)?;
+    plan_told(alloc, &plan_look(alloc, op, &sectors)?)
 }
 
 #[test]
@@ -213,17 +223,38 @@ fn make_edits(
 fn written_disk(alloc: Global) -> Result<Disk, NoMemory> {
     let mut disk = disk(alloc)?;
     disk.set(Sector(0), block_of(0, &NEW_PARAMETERS))?;
-    let (sectors, held) = (&sectors_of(alloc, &LAID)?, &held_of(alloc, &SEGMENTS)?);
+    write_over(alloc, &mut disk)?;
+    Ok(disk)
+}
+
+fn write_over(alloc: Global, disk: &mut Disk) -> Result<(), NoMemory> {
+    let sectors = sectors_of(alloc, &LAID)?;
+    write_by(alloc, disk, &sectors)
+}
+
+fn write_by(alloc: Global, disk: &mut Disk, sectors: &Sectors) -> Result<(), NoMemory> {
+    let held = held_of(alloc, &SEGMENTS)?;
     let hand = Hand {
         sectors,
-        held,
+        held: &held,
         all: true,
     };
+    write_at_hand(alloc, disk, &hand)
+}
+
+fn write_at_hand(alloc: Global, disk: &mut Disk, hand: &Hand) -> Result<(), NoMemory> {
     let op = op_of(alloc, Asked::Write("/f", 5, "!"))?;
-    if let Ok(outcome) = plan(alloc, &op, WHEN, &hand) {
-        make_edits(alloc, &mut disk, sectors, &outcome.edits)?;
+    write_planned(alloc, disk, hand, &op)
+}
+
+// Makes on the disk what the plan of an operation changes and writes.
+fn write_planned(alloc: Global, disk: &mut Disk, hand: &Hand, op: &Op) -> Result<(), NoMemory>
+    requires { IsOfBytes op.now }
+{
+    match plan(alloc, op, WHEN, hand) {
+        Ok(outcome) => make_edits(alloc, disk, hand.sectors, &outcome.edits),
+        Err(_) => Ok(()),
     }
-    Ok(disk)
 }
 
 #[test]

@@ -86,10 +86,10 @@ fn tell_over(
     files: &mut MemFiles,
 ) -> Result<Told, NoMemory> {
     let (status, out) = call(rt, alloc, words, files, MemOutside::new(alloc));
-    told(alloc, status, out.acts())
+    told_by(alloc, status, out.acts())
 }
 
-fn told(alloc: Global, status: Status, acts: &[Act]) -> Result<Told, NoMemory> {
+fn told_by(alloc: Global, status: Status, acts: &[Act]) -> Result<Told, NoMemory> {
     let text = lines_said(alloc, acts)?;
     Ok(Told {
         status,

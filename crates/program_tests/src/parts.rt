@@ -58,10 +58,14 @@ fn has_one_name(op: &Op) -> Result<bool, NoMemory> {
     }
 }
 
-fn path_is_copied(alloc: Global) -> Result<bool, NoMemory> {
-    let op = create_a(alloc)?;
+fn is_copied_whole(op: &Op) -> Result<bool, NoMemory> {
     let copy = op.try_copy()?;
     has_one_name(&copy)
+}
+
+fn path_is_copied(alloc: Global) -> Result<bool, NoMemory> {
+    let op = create_a(alloc)?;
+    is_copied_whole(&op)
 }
 
 fn list_name(names: &mut NameList, bytes: &[u8]) -> Result<(), NoMemory> {
@@ -128,9 +132,16 @@ fn stands(tree: &mut Tree, op: &Op, birth: u64) -> Result<bool, NoMemory> {
     Ok(matches!(&reply, Reply::Exist))
 }
 
+// The tree takes the create once.
+fn takes_once(tree: &mut Tree, create: &Op) -> Result<bool, NoMemory> {
+    let is_made = is_made(tree, create, 1)?;
+    let stands = stands(tree, create, 2)?;
+    Ok(is_made && stands)
+}
+
 fn takes_one_create(alloc: Global, tree: &mut Tree) -> Result<bool, NoMemory> {
     let create = create_a(alloc)?;
-    Ok(is_made(tree, &create, 1)? && stands(tree, &create, 2)?)
+    takes_once(tree, &create)
 }
 
 fn copy_of_fresh(alloc: Global) -> Result<Tree, NoMemory> {
