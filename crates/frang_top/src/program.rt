@@ -40,6 +40,27 @@ fn explain<R: Runtime>(alloc: Global, rt: &R, status: &Status) -> anyhow::Result
     Ok(())
 }
 
+// The words after the program's name.
+fn given_words<R: Runtime>(alloc: Global, rt: &R) -> anyhow::Result<Vec<String>> {
+    let mut words = Vec::new(alloc);
+    for word in env::args(rt)?.skip(1) {
+        words.push(String::from_str(alloc, word.as_str())?)?;
+    }
+    Ok(words)
+}
+
+// How the call with these words ends over the real files and the real outside.
+fn status_of<R: Runtime + Threads + Send + Sync>(
+    alloc: Global,
+    rt: &R,
+    words: &[String],
+) -> anyhow::Result<Status> {
+    let mut files = DirFiles::new(rt.clone()?);
+    let out = StdOutside::new(alloc, rt.clone()?);
+    let (status, _) = frang(rt, alloc, words, &mut files, out, &NoGate);
+    Ok(status)
+}
+
 /// Does what the words after the program's name ask, and gives the status with which the process is to end. Where it isn't 0, its line
 /// of numbers stands on standard error, and below it what it means in words. An error comes where the arguments can't be had, or where
 /// standard error takes no line.
@@ -47,13 +68,8 @@ pub fn run_program<R: Runtime + Threads + Send + Sync>(
     alloc: Global,
     rt: &R,
 ) -> anyhow::Result<ExitCode> {
-    let mut words = Vec::new(alloc);
-    for word in env::args(rt)?.skip(1) {
-        words.push(String::from_str(alloc, word.as_str())?)?;
-    }
-    let mut files = DirFiles::new(rt.clone()?);
-    let out = StdOutside::new(alloc, rt.clone()?);
-    let (status, _) = frang(rt, alloc, &words, &mut files, out, &NoGate);
+    let words = given_words(alloc, rt)?;
+    let status = status_of(alloc, rt, &words)?;
     explain(alloc, rt, &status)?;
     Ok(exit_code(&status))
 }

@@ -116,13 +116,35 @@ fn told_at_hand(
 fn told_of(alloc: Global, hand: &Hand, telling: Telling, op: &Op) -> Result<String, NoMemory>
     requires { TargetFits op.now }
 {
+    match telling {
+        Telling::End => end_of(alloc, hand, op),
+        Telling::Looks => looks_by(alloc, hand, op),
+        Telling::Locks => locks_by(alloc, hand, op),
+    }
+}
+
+fn end_of(alloc: Global, hand: &Hand, op: &Op) -> Result<String, NoMemory>
+    requires { TargetFits op.now }
+{
+    let mut looked = Looked::unasked();
+    let end = plan_line(alloc, hand, BIRTH, WHEN, op, &mut looked)?;
+    end_told(alloc, hand, &end)
+}
+
+fn looks_by(alloc: Global, hand: &Hand, op: &Op) -> Result<String, NoMemory>
+    requires { TargetFits op.now }
+{
+    let mut looked = Looked::new(alloc);
+    plan_line(alloc, hand, BIRTH, WHEN, op, &mut looked)?;
+    looks_of(alloc, looked)
+}
+
+fn locks_by(alloc: Global, hand: &Hand, op: &Op) -> Result<String, NoMemory>
+    requires { TargetFits op.now }
+{
     let mut looked = Looked::new(alloc);
     let end = plan_line(alloc, hand, BIRTH, WHEN, op, &mut looked)?;
-    match telling {
-        Telling::End => end_told(alloc, hand, &end),
-        Telling::Looks => looks_of(alloc, looked),
-        Telling::Locks => locks_of(alloc, hand, looked, &end),
-    }
+    locks_of(alloc, hand, looked, &end)
 }
 
 fn looks_of(alloc: Global, looked: Looked) -> Result<String, NoMemory> {

@@ -25,7 +25,7 @@ pub fn words_of(alloc: Global, words: &[&str]) -> Result<Vec<String>, AllocError
 }
 
 // The lines said, one after another.
-pub fn lines_said(alloc: Global, acts: &[Act]) -> Result<Vec<u8>, NoMemory> {
+fn lines_said(alloc: Global, acts: &[Act]) -> Result<Vec<u8>, NoMemory> {
     let mut text = Vec::new(alloc);
     for act in acts {
         if let Act::Said(line) = act {
@@ -89,7 +89,8 @@ fn tell_over(
     told_by(alloc, status, out.acts())
 }
 
-fn told_by(alloc: Global, status: Status, acts: &[Act]) -> Result<Told, NoMemory> {
+// What a call that ended so, with these acts, tells.
+pub fn told_by(alloc: Global, status: Status, acts: &[Act]) -> Result<Told, NoMemory> {
     let text = lines_said(alloc, acts)?;
     Ok(Told {
         status,

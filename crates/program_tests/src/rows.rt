@@ -1,9 +1,8 @@
 // Whole runs: what is said, and how each ends.
-use crate::builders::{DONE, Run, Told, call, expect_runs, lines_said, tell, tell_words, words_of};
+use crate::builders::{DONE, Run, Told, call, expect_runs, tell, tell_words, told_by, words_of};
 use frang_base::NoMemory;
 use frang_base::limits::SCRIPT_BYTES_MAX;
 use frang_outside::{FaultyOutside, MemFiles};
-use frang_top::Status;
 use std::alloc::Global;
 use std::process::Abort;
 use std::test::Fail;
@@ -210,44 +209,52 @@ static UNSAID: [(u64, u64, &[u8]); 2] = [
     (5, 4, b"1 0 mounted\n2 0 ok\n3 0 ok\n= / dir 1\n"),
 ];
 
-// How a call ends and what it says where these says fail.
+// What a call tells where this say fails.
 fn call_failing(
     rt: &(impl Threads + Sync),
     alloc: Global,
     words: &[String],
     files: &mut MemFiles,
-    says: Vec<u64>,
-) -> Result<(Status, Vec<u8>), NoMemory> {
+    failing: u64,
+) -> Result<Told, NoMemory> {
+    let says = vec![in alloc; failing]?;
     let out = FaultyOutside::new(alloc, Vec::new(alloc), Vec::new(alloc), says);
     let (status, out) = call(rt, alloc, words, files, out);
-    Ok((status, lines_said(alloc, out.acts())?))
+    told_by(alloc, status, out.acts())
 }
 
-// How a run ends of which a say fails, and what it says.
-fn tell_failing(
-    rt: &(impl Threads + Sync),
-    alloc: Global,
-    failing: u64,
-) -> Result<(Status, Vec<u8>), NoMemory> {
+// What a run tells of which a say fails.
+fn tell_failing(rt: &(impl Threads + Sync), alloc: Global, failing: u64) -> Result<Told, NoMemory> {
     let mut files = MemFiles::new(alloc);
     files.put_file("s", b"0 mount\n0 create /a\n0 sync\n")?;
     let words = words_of(alloc, &["run", "s"])?;
-    let says = vec![in alloc; failing]?;
-    call_failing(rt, alloc, &words, &mut files, says)
+    call_failing(rt, alloc, &words, &mut files, failing)
+}
+
+// A run ends so where a say fails.
+fn ends_unsaid(
+    rt: &(impl Threads + Sync),
+    alloc: Global,
+    failing: u64,
+    at: u64,
+    wanted: &[u8],
+) -> Result<bool, NoMemory> {
+    let told = tell_failing(rt, alloc, failing)?;
+    let status = told.status;
+    Ok(
+        status.code == 5
+            && status.line == 0
+            && status.at == at
+            && status.sector == 0
+            && told.text.as_slice() == wanted,
+    )
 }
 
 #[test]
 fn a_say_that_fails_ends_the_run(rt: HostRuntime) -> Result<(), Fail> {
     for (failing, at, wanted) in &UNSAID {
-        let (status, text) = tell_failing(&rt, rt.alloc(), *failing)?;
-        let unsaid = Status {
-            code: 5,
-            line: 0,
-            at: *at,
-            sector: 0,
-        };
         assert!(rt;
-            status == unsaid && text.as_slice() == *wanted,
+            ends_unsaid(&rt, rt.alloc(), *failing, *at, wanted)?,
             "say {failing}"
         );
     }
