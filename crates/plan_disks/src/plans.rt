@@ -7,7 +7,7 @@ use crate::digits::digits;
 use crate::replies::reply_told;
 use dir_lookup::Hand;
 use edit_writing::{finish, have_next_versions};
-use frang_base::{Block, Change, NoMemory, Sector};
+use frang_base::{Block, Change, NoMemory, Patch, Sector};
 use meta_version::Plan;
 use plan_steps::{Outcome, Stop};
 use std::alloc::Global;
@@ -64,10 +64,16 @@ pub fn changes_told(alloc: Global, changes: &[Change]) -> Result<String, NoMemor
     for change in changes {
         let (sector, version) = (change.sector.0, change.version);
         text.push_str(&format!(in alloc; ", {sector} v{version}")?)?;
-        for patch in change.patches.as_slice() {
-            let bytes = digits(alloc, patch.bytes.as_slice())?;
-            text.push_str(&format!(in alloc; " {}:{}", patch.at, bytes.as_str())?)?;
-        }
+        text.push_str(&patches_told(alloc, change.patches.as_slice())?)?;
+    }
+    Ok(text)
+}
+
+fn patches_told(alloc: Global, patches: &[Patch]) -> Result<String, NoMemory> {
+    let mut text = String::new(alloc);
+    for patch in patches {
+        let bytes = digits(alloc, patch.bytes.as_slice())?;
+        text.push_str(&format!(in alloc; " {}:{}", patch.at, bytes.as_str())?)?;
     }
     Ok(text)
 }

@@ -1,6 +1,7 @@
 // Which sectors of files come into doubt when a server's log is recovered.
 ghost use Rattle.std.specs.Prelude.{◌≡◌, ◌+◌, ◌*◌, ◌<◌, IfOk, IsTrue, false, nat_lt};
 ghost use Rattle.tree_definitions.specs.Place.{place};
+ghost use Rattle.tree_definitions.specs.Perform.{resolved};
 ghost use Rattle.tree_definitions.specs.History.{file_at};
 ghost use Rattle.tree_definitions.specs.Touched.{is_ok, is_sync};
 ghost use Rattle.tree_definitions.specs.Removal.{meets, meets_in, size_of, writes, step_writes, doubtful_after, is_doubtful};
@@ -104,6 +105,15 @@ fn step_writes(tree: &Tree, step: &Step, reply: &Reply, sought: &Sought) -> bool
     }
 }
 
+// Whether an entry meets a sector.
+fn entry_writes(tree: &Tree, entry: &Entry, sought: &Sought) -> Result<bool, NoMemory>
+    requires { IsTrue (is_within entry.now.op) }
+    ensures { IfOk result (λ it. it ≡ step_writes tree.now (resolved tree.now entry.now.op).step entry.now.reply sought.now.birth sought.now.sector) }
+{
+    let resolved = tree.resolved(&entry.op)?;
+    Ok(step_writes(tree, &resolved.step, &entry.reply, sought))
+}
+
 // Whether a sector is in doubt after an entry more, before some further steps.
 fn doubtful_after(
     sought: &Sought,
@@ -116,8 +126,7 @@ fn doubtful_after(
     ensures { IfOk result (λ it. it ≡ doubtful_after sought.now.server.0 sought.now.birth sought.now.sector before tree.now entry.now rest.now) }
 {
     let own = entry.server.0 == sought.server.0;
-    let resolved = tree.resolved(&entry.op)?;
-    if step_writes(tree, &resolved.step, &entry.reply, sought) {
+    if entry_writes(tree, entry, sought)? {
         return Ok(own && !any_mounts(sought.server, rest));
     }
     if own {
