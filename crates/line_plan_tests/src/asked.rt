@@ -5,7 +5,7 @@ ghost use Rattle.line_plan.specs.Lines.{TargetFits};
 use crate::needed::locks_told;
 use dir_lookup::{Hand, Looked};
 use edit_moves::{Move, Thing, cover_of, moves_of};
-use frang_base::{Line, NoMemory, Op, Script, Sector, ServerId, Text, What};
+use frang_base::{Line, NoMemory, Op, Path, Script, Sector, ServerId, Text, What};
 use frang_layout::{Region, region_of};
 use line_plan::{LineEnd, plan_line};
 use meta_version::Sectors;
@@ -250,58 +250,61 @@ fn move_told(alloc: Global, moved: &Move) -> Result<String, NoMemory> {
     Ok(text)
 }
 
+// The path that is asked about.
+fn place_of(act: Act) -> Option<&'static str> {
+    match act {
+        Act::Create(path)
+        | Act::Unlink(path)
+        | Act::Rmdir(path)
+        | Act::Link(path, _)
+        | Act::Rename(path, _)
+        | Act::Write(path, _, _)
+        | Act::Truncate(path, _)
+        | Act::Read(path)
+        | Act::List(path)
+        | Act::Stat(path) => Some(path),
+        Act::Sync => None,
+    }
+}
+
 // The operation of a line.
 fn op_of(alloc: Global, act: Act) -> Result<Op, NoMemory>
     ensures { IfOk result TargetFits }
 {
+    match place_of(act) {
+        Some(path) => op_at(alloc, act, path_of(alloc, path)?),
+        None => Ok(Op::Sync),
+    }
+}
+
+// The operation of a line at its path.
+fn op_at(alloc: Global, act: Act, path: Path) -> Result<Op, NoMemory>
+    ensures { IfOk result TargetFits }
+{
     match act {
-        Act::Create(path) => {
-            let path = path_of(alloc, path)?;
-            Ok(Op::Create { path })
-        }
-        Act::Unlink(path) => {
-            let path = path_of(alloc, path)?;
-            Ok(Op::Unlink { path })
-        }
-        Act::Rmdir(path) => {
-            let path = path_of(alloc, path)?;
-            Ok(Op::Rmdir { path })
-        }
-        Act::Link(path, to) => {
-            let path = path_of(alloc, path)?;
+        Act::Create(_) => Ok(Op::Create { path }),
+        Act::Unlink(_) => Ok(Op::Unlink { path }),
+        Act::Rmdir(_) => Ok(Op::Rmdir { path }),
+        Act::Link(_, to) => {
             let to = path_of(alloc, to)?;
             Ok(Op::Link { path, to })
         }
-        Act::Rename(path, to) => {
-            let path = path_of(alloc, path)?;
+        Act::Rename(_, to) => {
             let to = path_of(alloc, to)?;
             Ok(Op::Rename { path, to })
         }
-        Act::Write(path, off, bytes) => {
-            let path = path_of(alloc, path)?;
+        Act::Write(_, off, bytes) => {
             let bytes = text_of(alloc, bytes)?;
             Ok(Op::Write { path, off, bytes })
         }
-        Act::Truncate(path, len) => {
-            let path = path_of(alloc, path)?;
-            Ok(Op::Truncate { path, len })
-        }
-        Act::Read(path) => {
-            let path = path_of(alloc, path)?;
-            Ok(Op::Read {
-                path,
-                off: 0,
-                len: 1,
-            })
-        }
-        Act::List(path) => {
-            let path = path_of(alloc, path)?;
-            Ok(Op::List { path })
-        }
-        Act::Stat(path) => {
-            let path = path_of(alloc, path)?;
-            Ok(Op::Stat { path })
-        }
+        Act::Truncate(_, len) => Ok(Op::Truncate { path, len }),
+        Act::Read(_) => Ok(Op::Read {
+            path,
+            off: 0,
+            len: 1,
+        }),
+        Act::List(_) => Ok(Op::List { path }),
+        Act::Stat(_) => Ok(Op::Stat { path }),
         Act::Sync => Ok(Op::Sync),
     }
 }

@@ -11,9 +11,9 @@ mod looks;
 #[cfg(test)]
 mod names;
 #[cfg(test)]
-mod names_anew;
-#[cfg(test)]
 mod names_asked;
+#[cfg(test)]
+mod names_written;
 #[cfg(test)]
 mod old_disk;
 #[cfg(test)]
