@@ -126,7 +126,7 @@ fn told_of(alloc: Global, hand: &Hand, telling: Telling, op: &Op) -> Result<Stri
 fn end_of(alloc: Global, hand: &Hand, op: &Op) -> Result<String, NoMemory>
     requires { TargetFits op.now }
 {
-    let mut looked = Looked::unasked();
+    let mut looked = Looked::new(alloc);
     let end = plan_line(alloc, hand, BIRTH, WHEN, op, &mut looked)?;
     end_told(alloc, hand, &end)
 }
