@@ -1,10 +1,11 @@
 // Segments of the allocation bitmap.
-use crate::builders::{Piece, Run, are_runs, block_of, with};
+use crate::builders::with;
 use bitmap_block::{
     Bitmap, BlockState, decode, encode, inode_in_use, patches, state_of, with_inode, with_state,
 };
 use frang_base::limits::{SECTOR_BYTES, SEGMENT_BLOCKS, SEGMENT_INODES};
 use std::test::Fail;
+use test_tables::{are_pieces, block_of};
 
 // A segment of which only the root is in use.
 fn fresh() -> Bitmap {
@@ -16,7 +17,7 @@ fn fresh() -> Bitmap {
     }
 }
 
-static FRESH: [Piece; 2] = [(0, b"\x01"), (8, b"\x01")];
+const FRESH: &str = "0:01 8:01";
 
 // Inodes 0, 9 and 63, the large block, and eight blocks in each state from either end.
 fn busy() -> Bitmap {
@@ -32,25 +33,19 @@ fn busy() -> Bitmap {
     }
 }
 
-static BUSY: [Piece; 5] = [
-    (0, b"\x02\x01"),
-    (8, b"\x01\x02"),
-    (15, b"\x80"),
-    (16, b"\xe4\x1b"),
-    (271, b"\x80\x01"),
-];
+const BUSY: &str = "0:0201 8:0102 15:80 16:e41b 271:8001";
 
 // Whether the segment is written as these pieces over other bytes, and read as it is.
-fn is_written(segment: Bitmap, worked: &[Piece]) -> bool {
+fn is_written(segment: Bitmap, worked: &str) -> bool {
     let mut block = [7; SECTOR_BYTES];
     encode(&segment, &mut block);
-    block == block_of(worked) && decode(&block) == Some(segment)
+    block == block_of(0, worked) && decode(&block) == Some(segment)
 }
 
 #[test]
 fn segments_are_written_as_worked_out_by_hand(rt: HostRuntime) {
-    assert!(rt; is_written(fresh(), &FRESH), "fresh");
-    assert!(rt; is_written(busy(), &BUSY), "busy");
+    assert!(rt; is_written(fresh(), FRESH), "fresh");
+    assert!(rt; is_written(busy(), BUSY), "busy");
 }
 
 // A place, and the byte that stands there instead.
@@ -58,7 +53,7 @@ static REFUSED: [(usize, u8); 5] = [(272, 2), (272, 255), (273, 1), (400, 9), (5
 
 #[test]
 fn other_blocks_are_refused(rt: HostRuntime) {
-    let busy = block_of(&BUSY);
+    let busy = block_of(0, BUSY);
     for (at, byte) in &REFUSED {
         let found = decode(&with(&busy, *at, *byte));
         assert!(rt; found.is_none(), "byte {byte} at {at}");
@@ -128,12 +123,12 @@ fn last() -> Bitmap {
     segment
 }
 
-static LAST: [Run; 2] = [(9, b"\x03"), (271, b"\xc0\0")];
+const LAST: &str = "9:03 271:c000";
 
 #[test]
 fn what_changes_of_a_segment(rt: HostRuntime) -> Result<(), Fail> {
     let found = patches(rt.alloc(), &busy(), &last())?;
-    assert!(rt; are_runs(&found, &LAST));
+    assert!(rt; are_pieces(&found, LAST));
     let mut newer = fresh();
     newer.version = 2;
     assert!(rt; patches(rt.alloc(), &fresh(), &newer)?.is_empty());

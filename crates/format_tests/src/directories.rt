@@ -1,9 +1,10 @@
 // Sectors of directories.
-use crate::builders::{Piece, are_runs, block_of, with};
+use crate::builders::with;
 use dir_block::{DirEntry, DirSector, decode, encode, find, patches};
 use frang_base::Name;
 use frang_base::limits::{KIND_DIRECTORY, KIND_FILE, KIND_FREE, KIND_LINK, SECTOR_BYTES};
 use std::test::Fail;
+use test_tables::{are_pieces, block_of};
 
 const FREE: DirEntry = DirEntry {
     inode: 0,
@@ -17,7 +18,7 @@ const EMPTY: DirSector = DirSector {
     entries: [FREE; 7],
 };
 
-static EMPTY_BLOCK: [Piece; 1] = [(0, b"\x03")];
+const EMPTY_BLOCK: &str = "0:03";
 
 // An entry whose name is one byte, so often.
 fn entry(inode: u32, kind: u8, byte: u8, len: u8) -> DirEntry {
@@ -43,20 +44,15 @@ fn several() -> DirSector {
     sector
 }
 
-static SEVERAL: [Piece; 5] = [
-    (0, b"\x03"),
-    (80, b"\x02\x01\0\0\x01\x01b"),
-    (152, b"\x07\0\0\0\x02\x02aa"),
-    (224, b"\x08\0\0\0\x01\x03a"),
-    (440, b"\x09\0\0\0\x01\x01a"),
-];
+const SEVERAL: &str =
+    "0:03 80:020100000101'b 152:070000000202'aa 224:080000000103'a 440:090000000101'a";
 
 #[test]
 fn sectors_are_read_as_worked_out_by_hand(rt: HostRuntime) {
-    assert!(rt; decode(&block_of(&SEVERAL)) == Some(several()));
-    assert!(rt; decode(&block_of(&EMPTY_BLOCK)) == Some(EMPTY));
+    assert!(rt; decode(&block_of(0, SEVERAL)) == Some(several()));
+    assert!(rt; decode(&block_of(0, EMPTY_BLOCK)) == Some(EMPTY));
     let mut written = [7; SECTOR_BYTES];
-    for block in [block_of(&SEVERAL), block_of(&EMPTY_BLOCK)] {
+    for block in [block_of(0, SEVERAL), block_of(0, EMPTY_BLOCK)] {
         if let Some(read) = decode(&block) {
             encode(&read, &mut written);
             assert!(rt; written == block);
@@ -86,7 +82,7 @@ static REFUSED: [(&str, usize, u8); 16] = [
 
 #[test]
 fn other_sectors_are_refused(rt: HostRuntime) {
-    let several = block_of(&SEVERAL);
+    let several = block_of(0, SEVERAL);
     for (what, at, byte) in &REFUSED {
         let found = decode(&with(&several, *at, *byte));
         assert!(rt; found.is_none(), "{what}");
@@ -94,16 +90,16 @@ fn other_sectors_are_refused(rt: HostRuntime) {
 }
 
 // A name, and the place of its first entry.
-static PLACES: [(&[u8], Option<u8>); 5] = [
-    (b"a", Some(3)),
-    (b"aa", Some(2)),
-    (b"b", Some(1)),
-    (b"aaa", None),
-    (b"c", None),
+static PLACES: [(&str, Option<u8>); 5] = [
+    ("a", Some(3)),
+    ("aa", Some(2)),
+    ("b", Some(1)),
+    ("aaa", None),
+    ("c", None),
 ];
 
-fn is_found_at(sector: &DirSector, bytes: &[u8], place: Option<u8>) -> bool {
-    match Name::of(bytes) {
+fn is_found_at(sector: &DirSector, name: &str, place: Option<u8>) -> bool {
+    match Name::of(name.as_bytes()) {
         Some(name) => find(sector, &name) == place,
         None => false,
     }
@@ -112,26 +108,21 @@ fn is_found_at(sector: &DirSector, bytes: &[u8], place: Option<u8>) -> bool {
 #[test]
 fn the_first_entry_of_a_name_is_found(rt: HostRuntime) {
     let sector = several();
-    for (bytes, place) in &PLACES {
-        assert!(rt; is_found_at(&sector, bytes, *place));
+    for (name, place) in &PLACES {
+        assert!(rt; is_found_at(&sector, name, *place));
     }
 }
 
 // `a` goes from place 3, and the name at the end is `c` instead.
-static CHANGED: [Piece; 4] = [
-    (0, b"\x04"),
-    (80, b"\x02\x01\0\0\x01\x01b"),
-    (152, b"\x07\0\0\0\x02\x02aa"),
-    (440, b"\x09\0\0\0\x01\x01c"),
-];
+const CHANGED: &str = "0:04 80:020100000101'b 152:070000000202'aa 440:090000000101'c";
 
 #[test]
 fn what_changes_of_a_directory(rt: HostRuntime) -> Result<(), Fail> {
-    let (old, new) = (decode(&block_of(&SEVERAL)), decode(&block_of(&CHANGED)));
+    let (old, new) = (decode(&block_of(0, SEVERAL)), decode(&block_of(0, CHANGED)));
     assert!(rt; old.is_some() && new.is_some());
     if let (Some(old), Some(new)) = (&old, &new) {
         let found = patches(rt.alloc(), old, new)?;
-        assert!(rt; are_runs(&found, &[(224, b"\0"), (228, b"\0\0\0"), (446, b"c")]));
+        assert!(rt; are_pieces(&found, "224:00 228:000000 446:'c"));
     }
     Ok(())
 }

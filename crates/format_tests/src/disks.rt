@@ -1,49 +1,26 @@
 // Disks with bytes worked out by hand: which tree they stand for, and that a disk that breaks one condition stands for none.
-use crate::builders::{PARAMETERS, ROOT, SEGMENT, SectorPiece, change, fresh_disk};
+use crate::builders::fresh_disk;
 use disk_reading::{Disk, tree_read};
 use frang_base::{NoMemory, Said};
 use std::alloc::Global;
 use std::test::Fail;
-
-const INODE_1: u64 = 10_737_418_241;
-
-const INODE_2: u64 = 10_737_418_242;
-
-const INODE_3: u64 = 10_737_418_243;
-
-const BLOCK_0: u64 = 12_884_901_888;
-
-const BLOCK_1: u64 = 12_884_901_896;
-
-const BLOCK_5: u64 = 12_884_901_928;
+use test_tables::{is_row, lay_on, parted};
 
 // What is said of a node: its path, kind, size and links.
 type Line = (&'static str, u8, u32, u32);
 
 // What the names `a` and `b` of one file, a directory `d` and a link `l` in the root add. The root's entries stand in block 0, the
 // file's three bytes in block 1.
-static FOUR_NAMES: [SectorPiece; 20] = [
-    (SEGMENT, 8, b"\x0f"),
-    (SEGMENT, 16, b"\x07"),
-    (ROOT, 12, b"\x01"),
-    (ROOT, 16, b"\x04"),
-    (INODE_1, 0, b"\x01"),
-    (INODE_1, 8, b"\x01\0\x02\0\x01"),
-    (INODE_1, 16, b"\x03"),
-    (INODE_1, 32, b"\x01"),
-    (INODE_2, 0, b"\x01"),
-    (INODE_2, 8, b"\x02\0\x01"),
-    (INODE_3, 0, b"\x01"),
-    (INODE_3, 8, b"\x03\0\x01"),
-    (INODE_3, 16, b"\x02"),
-    (INODE_3, 128, b"/a"),
-    (BLOCK_0, 0, b"\x01"),
-    (BLOCK_0, 8, b"\x01\0\0\0\x01\x01b"),
-    (BLOCK_0, 80, b"\x03\0\0\0\x01\x03l"),
-    (BLOCK_0, 224, b"\x01\0\0\0\x01\x01a"),
-    (BLOCK_0 + 7, 440, b"\x02\0\0\0\x01\x02d"),
-    (BLOCK_1, 0, b"xyz"),
-];
+const FOUR_NAMES: &str = "
+k0 8:0f 16:07
+i0 12:01 16:04
+i1 0:01 8:0100020001 16:03 32:01
+i2 0:01 8:020001
+i3 0:01 8:030001 16:02 128:'/a
+s0 0:01 8:010000000101'b 80:030000000103'l 224:010000000101'a
+s0.7 440:020000000102'd
+s1 0:'xyz
+";
 
 // What is said of that tree.
 static FOUR_LINES: [Line; 5] = [
@@ -59,9 +36,7 @@ static ROOT_ALONE: [Line; 1] = [("/", 2, 0, 0)];
 
 fn with_four_names(alloc: Global) -> Result<Disk, NoMemory> {
     let mut disk = fresh_disk(alloc)?;
-    for piece in &FOUR_NAMES {
-        change(&mut disk, *piece)?;
-    }
+    lay_on(&mut disk, FOUR_NAMES)?;
     Ok(disk)
 }
 
@@ -118,7 +93,7 @@ fn names_are_read_in_order(rt: HostRuntime) -> Result<(), Fail> {
 #[test]
 fn a_disk_without_times_is_read(rt: HostRuntime) -> Result<(), Fail> {
     let mut disk = fresh_disk(rt.alloc())?;
-    change(&mut disk, (PARAMETERS, 8, b"\x01"))?;
+    lay_on(&mut disk, "0 8:01")?;
     assert!(rt; stands_for(rt.alloc(), &disk, &ROOT_ALONE)?);
     Ok(())
 }
@@ -126,7 +101,7 @@ fn a_disk_without_times_is_read(rt: HostRuntime) -> Result<(), Fail> {
 #[test]
 fn a_file_with_a_time_is_read(rt: HostRuntime) -> Result<(), Fail> {
     let mut disk = with_four_names(rt.alloc())?;
-    change(&mut disk, (INODE_1, 100, b"\x09\0\0\0\x01"))?;
+    lay_on(&mut disk, "i1 100:0900000001")?;
     assert!(rt; stands_for(rt.alloc(), &disk, &FOUR_LINES)?);
     Ok(())
 }
@@ -134,56 +109,55 @@ fn a_file_with_a_time_is_read(rt: HostRuntime) -> Result<(), Fail> {
 #[test]
 fn a_block_that_was_a_directory_is_clear(rt: HostRuntime) -> Result<(), Fail> {
     let mut disk = fresh_disk(rt.alloc())?;
-    change(&mut disk, (SEGMENT, 17, b"\x08"))?;
+    lay_on(&mut disk, "k0 17:08")?;
     assert!(rt; stands_for(rt.alloc(), &disk, &ROOT_ALONE)?);
-    change(&mut disk, (BLOCK_5, 0, b"\x01"))?;
+    lay_on(&mut disk, "s5 0:01")?;
     assert!(rt; stands_for(rt.alloc(), &disk, &ROOT_ALONE)?);
-    change(&mut disk, (BLOCK_5, 8, b"\x01\0\0\0\x01\x01b"))?;
+    lay_on(&mut disk, "s5 8:010000000101'b")?;
     assert!(rt; stands_for_none(rt.alloc(), &disk)?);
     Ok(())
 }
 
 // A condition that is broken, and the bytes that break it on the disk with four names.
-static BROKEN: [(&str, SectorPiece); 22] = [
-    ("no parameters", (PARAMETERS, 0, b"f")),
-    ("a format before the first", (PARAMETERS, 8, b"\0")),
-    ("a format past the newest", (PARAMETERS, 8, b"\x03")),
-    ("no segments", (PARAMETERS, 12, b"\0")),
-    ("an inode not in its grammar", (INODE_1, 9, b"\x01")),
-    ("a directory with a time", (INODE_2, 100, b"\x01")),
-    ("a link with a time", (INODE_3, 107, b"\x01")),
-    ("an entry not in its grammar", (BLOCK_0, 78, b"\x01")),
-    ("a version that the run has not", (ROOT, 2, b"\x02")),
-    ("the bit of a free inode", (SEGMENT, 8, b"\x1f")),
-    ("no bit of an inode in use", (SEGMENT, 8, b"\x07")),
-    (
-        "a directory's block marked a file's",
-        (SEGMENT, 16, b"\x05"),
-    ),
-    (
-        "a file's block marked a directory's",
-        (SEGMENT, 16, b"\x0f"),
-    ),
-    ("a block in use that nobody has", (SEGMENT, 16, b"\x17")),
-    ("a large block that nobody has", (SEGMENT, 272, b"\x01")),
-    ("a block that two have", (INODE_1, 32, b"\0")),
-    ("more entries told than there are", (ROOT, 16, b"\x05")),
-    ("an entry of another kind", (BLOCK_0, 13, b"\x03")),
-    ("an entry of a free inode", (BLOCK_0, 8, b"\x09")),
-    ("a name twice", (BLOCK_0, 14, b"a")),
-    ("more links than names", (INODE_1, 10, b"\x03")),
-    (
-        "a directory with two names",
-        (BLOCK_0, 296, b"\x02\0\0\0\x01\x02e"),
-    ),
-];
+const BROKEN: &str = "
+no parameters                       | 0 0:'f
+a format before the first           | 0 8:00
+a format past the newest            | 0 8:03
+no segments                         | 0 12:00
+an inode not in its grammar         | i1 9:01
+a directory with a time             | i2 100:01
+a link with a time                  | i3 107:01
+an entry not in its grammar         | s0 78:01
+a version that the run has not      | i0 2:02
+the bit of a free inode             | k0 8:1f
+no bit of an inode in use           | k0 8:07
+a directory's block marked a file's | k0 16:05
+a file's block marked a directory's | k0 16:0f
+a block in use that nobody has      | k0 16:17
+a large block that nobody has       | k0 272:01
+a block that two have               | i1 32:00
+more entries told than there are    | i0 16:05
+an entry of another kind            | s0 13:03
+an entry of a free inode            | s0 8:09
+a name twice                        | s0 14:'a
+more links than names               | i1 10:03
+a directory with two names          | s0 296:020000000102'e
+";
+
+// A change of the disk with four names leaves one that stands for no tree.
+fn is_broken_by(alloc: Global, change: &str) -> Result<bool, NoMemory> {
+    let mut disk = with_four_names(alloc)?;
+    lay_on(&mut disk, change)?;
+    stands_for_none(alloc, &disk)
+}
 
 #[test]
 fn a_disk_that_breaks_a_condition_stands_for_none(rt: HostRuntime) -> Result<(), Fail> {
-    for (name, piece) in &BROKEN {
-        let mut disk = with_four_names(rt.alloc())?;
-        change(&mut disk, *piece)?;
-        assert!(rt; stands_for_none(rt.alloc(), &disk)?, "{name}");
+    for row in BROKEN.lines() {
+        if is_row(row) {
+            let (_, change) = parted(row);
+            assert!(rt; is_broken_by(rt.alloc(), change)?, "{row}");
+        }
     }
     Ok(())
 }

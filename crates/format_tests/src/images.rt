@@ -1,23 +1,16 @@
 // Images: that of the fresh disk of 16 segments, and what one change makes of it.
-use crate::builders::{Piece, fresh_disk, lay};
+use crate::builders::fresh_disk;
 use disk_definitions::Disk;
 use frang_base::limits::SECTOR_BYTES;
 use frang_base::{NoMemory, Sector};
 use image_file::{ImageRead, read_image, write_image};
 use std::alloc::{AllocError, Global};
 use std::test::Fail;
+use test_tables::lay;
 
 // The bytes of the fresh image that aren't zero: mark and count, the parameters, the first segment, the root.
-static FRESH: [Piece; 8] = [
-    (0, b"FRANGIM1\x03"),
-    (24, b"FRANGPAR\x02\0\0\0\x10\0\0\0\x01"),
-    (540, b"\x01"),
-    (544, b"\x01"),
-    (552, b"\x01"),
-    (1059, b"\x80\x02"),
-    (1064, b"\x01"),
-    (1072, b"\x02\0\x01"),
-];
+const FRESH: &str =
+    "0:'FRANGIM1 8:03 24:'FRANGPAR 32:020000001000000001 540:01 544:01 552:01 1059:8002 1064:01 1072:020001";
 
 // The bytes of the fresh image.
 const FRESH_LEN: usize = 1576;
@@ -27,12 +20,6 @@ const LOG: Sector = Sector(2_147_483_648);
 
 // The place and the kind of a fault, 0 and 0 where there is none.
 type Fault = (u64, u8);
-
-fn lay_all(image: &mut Vec<u8>, pieces: &[Piece]) {
-    for piece in pieces {
-        lay(image, *piece);
-    }
-}
 
 fn zero_from_to(image: &mut Vec<u8>, from: usize, to: usize) {
     for place in from..to {
@@ -52,7 +39,7 @@ fn front(image: &[u8], len: usize) -> &[u8] {
 
 fn fresh(alloc: Global) -> Result<Vec<u8>, AllocError> {
     let mut image = vec![in alloc; 0; FRESH_LEN]?;
-    lay_all(&mut image, &FRESH);
+    lay(&mut image, FRESH);
     Ok(image)
 }
 
@@ -64,9 +51,9 @@ fn fault_in(alloc: Global, image: &[u8]) -> Fault {
 }
 
 // The fault of the fresh image with these bytes in place of its own.
-fn fault_after(alloc: Global, pieces: &[Piece]) -> Result<Fault, AllocError> {
+fn fault_after(alloc: Global, pieces: &str) -> Result<Fault, AllocError> {
     let mut image = fresh(alloc)?;
-    lay_all(&mut image, pieces);
+    lay(&mut image, pieces);
     Ok(fault_in(alloc, &image))
 }
 
@@ -123,81 +110,73 @@ fn bytes_that_end_early_or_late(rt: HostRuntime) -> Result<(), Fail> {
 #[test]
 fn the_greatest_count(rt: HostRuntime) -> Result<(), Fail> {
     let mut image = fresh(rt.alloc())?;
-    lay(&mut image, (8, &[255; 8]));
+    lay(&mut image, "8:ffffffffffffffff");
     assert!(rt; fault_in(rt.alloc(), &image) == (1576, 1));
     zero_from_to(&mut image, 8, 16);
     assert!(rt; fault_in(rt.alloc(), front(&image, 16)) == (16, 7));
     Ok(())
 }
 
-// A place, the bytes that stand there instead, and the fault.
-static CHANGES: [(usize, &[u8], Fault); 27] = [
-    (0, b"\0", (0, 2)),
-    (7, b"2", (0, 2)),
-    (8, b"\0", (16, 6)),
-    (8, b"\x01", (536, 6)),
-    (8, b"\x02", (1056, 6)),
-    (8, b"\x04", (1576, 1)),
-    (8, b"\xff", (1576, 1)),
-    (16, b"\x01", (16, 7)),
-    (24, b"\0", (16, 7)),
-    (32, b"\0", (16, 7)),
-    (32, b"\x01", (0, 0)),
-    (32, b"\x03", (16, 7)),
-    (36, b"\x41", (16, 7)),
-    (36, b"\x01", (0, 0)),
-    (40, b"\xff\xff\xff\xff", (16, 7)),
-    (40, b"\xfe\xff\xff\xff", (0, 0)),
-    (536, b"\x0f", (0, 0)),
-    (536, b"\x10", (536, 4)),
-    (540, b"\0", (536, 3)),
-    (1055, b"\x01", (536, 7)),
-    (1059, b"\0\x01", (1056, 3)),
-    (1060, b"\x01", (1056, 4)),
-    (1060, b"\0", (1056, 3)),
-    (1063, b"\x01", (1056, 4)),
-    (1072, b"\x04", (1056, 7)),
-    (1164, b"\x01", (1056, 7)),
-    (1171, b"\x01", (1056, 7)),
+// The bytes that stand there instead, and the fault.
+static CHANGES: [(&str, Fault); 27] = [
+    ("0:00", (0, 2)),
+    ("7:'2", (0, 2)),
+    ("8:00", (16, 6)),
+    ("8:01", (536, 6)),
+    ("8:02", (1056, 6)),
+    ("8:04", (1576, 1)),
+    ("8:ff", (1576, 1)),
+    ("16:01", (16, 7)),
+    ("24:00", (16, 7)),
+    ("32:00", (16, 7)),
+    ("32:01", (0, 0)),
+    ("32:03", (16, 7)),
+    ("36:41", (16, 7)),
+    ("36:01", (0, 0)),
+    ("40:ffffffff", (16, 7)),
+    ("40:feffffff", (0, 0)),
+    ("536:0f", (0, 0)),
+    ("536:10", (536, 4)),
+    ("540:00", (536, 3)),
+    ("1055:01", (536, 7)),
+    ("1059:0001", (1056, 3)),
+    ("1060:01", (1056, 4)),
+    ("1060:00", (1056, 3)),
+    ("1063:01", (1056, 4)),
+    ("1072:04", (1056, 7)),
+    ("1164:01", (1056, 7)),
+    ("1171:01", (1056, 7)),
 ];
 
 #[test]
 fn some_bytes_changed(rt: HostRuntime) -> Result<(), Fail> {
-    for (place, bytes, fault) in &CHANGES {
-        let found = fault_after(rt.alloc(), &[(*place, *bytes)])?;
-        assert!(rt; found == *fault, "at {place}");
+    for (change, fault) in &CHANGES {
+        let found = fault_after(rt.alloc(), change)?;
+        assert!(rt; found == *fault, "{change}");
     }
     Ok(())
 }
 
-static EXCHANGED: [Piece; 7] = [
-    (539, b"\x80\x02"),
-    (544, b"\x01"),
-    (552, b"\x02"),
-    (554, b"\x01"),
-    (1059, b"\0\x01"),
-    (1072, b"\x01"),
-    (1074, b"\0"),
-];
+const EXCHANGED: &str = "539:8002 544:01 552:02 554:01 1059:0001 1072:01 1074:00";
 
 #[test]
 fn sectors_out_of_order(rt: HostRuntime) -> Result<(), Fail> {
-    assert!(rt; fault_after(rt.alloc(), &EXCHANGED)? == (1056, 3));
+    assert!(rt; fault_after(rt.alloc(), EXCHANGED)? == (1056, 3));
     Ok(())
 }
 
-static CLEAR: [Piece; 2] = [(544, b"\0"), (552, b"\0")];
+const CLEAR: &str = "544:00 552:00";
 
-static CLEAR_IN_NO_REGION: [Piece; 3] = [(536, b"\x10"), (544, b"\0"), (552, b"\0")];
+const CLEAR_IN_NO_REGION: &str = "536:10 544:00 552:00";
 
 #[test]
 fn sectors_of_zeros(rt: HostRuntime) -> Result<(), Fail> {
-    assert!(rt; fault_after(rt.alloc(), &CLEAR)? == (536, 5));
-    assert!(rt; fault_after(rt.alloc(), &CLEAR_IN_NO_REGION)? == (536, 4));
+    assert!(rt; fault_after(rt.alloc(), CLEAR)? == (536, 5));
+    assert!(rt; fault_after(rt.alloc(), CLEAR_IN_NO_REGION)? == (536, 4));
     let mut image = fresh(rt.alloc())?;
     zero_from_to(&mut image, 24, 536);
     assert!(rt; fault_in(rt.alloc(), &image) == (16, 7));
-    lay(&mut image, (16, b"\x01"));
+    lay(&mut image, "16:01");
     assert!(rt; fault_in(rt.alloc(), &image) == (16, 7));
     Ok(())
 }

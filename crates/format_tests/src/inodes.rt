@@ -2,13 +2,14 @@
 ghost use Rattle.std.specs.Prelude.{◌≤◌, IsTrue};
 ghost use Rattle.disk_definitions.specs.Inodes.{inode_fits};
 
-use crate::builders::{Piece, Run, are_runs, block_of, with};
+use crate::builders::with;
 use frang_base::Block;
 use frang_base::limits::{
     KIND_DIRECTORY, KIND_FILE, KIND_LINK, LINKS_MAX, SECTOR_BYTES, SMALL_BLOCK_BYTES,
 };
 use inode_block::{Inode, decode, encode, patches};
 use std::test::Fail;
+use test_tables::{are_pieces, block_of};
 
 // The root of a fresh disk.
 fn root() -> Inode {
@@ -27,26 +28,13 @@ fn root() -> Inode {
 }
 
 // A free inode but for its version 1, its kind and its one name.
-static ROOT: [Piece; 2] = [(0, b"\x01"), (8, b"\x02\0\x01")];
+const ROOT: &str = "0:01 8:020001";
 
 // A link to `/a` of three names, made by line 3 of run 1.
-static LINK: [Piece; 5] = [
-    (0, b"\x05"),
-    (8, b"\x03\0\x03"),
-    (16, b"\x02"),
-    (24, b"\x03\0\0\0\x01"),
-    (128, b"/a"),
-];
+const LINK: &str = "0:05 8:030003 16:02 24:0300000001 128:'/a";
 
 // A file of 258 bytes in small block 9, made by line 1 of run 2 and last written in run 3 at tick 513.
-static TIMED: [Piece; 6] = [
-    (0, b"\x04"),
-    (8, b"\x01\0\x01\0\x01\0\0\0\x02\x01"),
-    (24, b"\x01\0\0\0\x02"),
-    (32, b"\x09"),
-    (100, b"\x01\x02"),
-    (104, b"\x03"),
-];
+const TIMED: &str = "0:04 8:01000100010000000201 24:0100000002 32:09 100:0102 104:03";
 
 // A file of so many bytes in small block 9, with so many names, last written at this time.
 fn file(version: u64, links: u16, size: u64, when: u64) -> Inode
@@ -74,7 +62,7 @@ fn file(version: u64, links: u16, size: u64, when: u64) -> Inode
 fn a_fresh_root_begins_with_its_version_kind_and_link(rt: HostRuntime) {
     let mut block = [7; SECTOR_BYTES];
     encode(&root(), &mut block);
-    assert!(rt; block == block_of(&ROOT));
+    assert!(rt; block == block_of(0, ROOT));
     assert!(rt; decode(&block) == Some(root()));
 }
 
@@ -98,7 +86,7 @@ fn link() -> Inode {
 
 #[test]
 fn a_link_is_read_field_by_field(rt: HostRuntime) {
-    assert!(rt; decode(&block_of(&LINK)) == Some(link()));
+    assert!(rt; decode(&block_of(0, LINK)) == Some(link()));
 }
 
 // A place of the link, the byte that stands there instead, and whether the block is then an inode's.
@@ -130,7 +118,7 @@ fn fits_with(block: &Block, at: usize, byte: u8) -> bool {
 
 #[test]
 fn a_link_with_one_byte_changed(rt: HostRuntime) {
-    let link = block_of(&LINK);
+    let link = block_of(0, LINK);
     for (at, byte, fits) in &LINKS_CHANGED {
         assert!(rt; fits_with(&link, *at, *byte) == *fits, "byte {at}");
     }
@@ -142,8 +130,8 @@ fn a_file_with_its_time(rt: HostRuntime) {
     timed.birth = 8_589_934_593;
     let mut block = [7; SECTOR_BYTES];
     encode(&timed, &mut block);
-    assert!(rt; block == block_of(&TIMED));
-    assert!(rt; decode(&block_of(&TIMED)) == Some(timed));
+    assert!(rt; block == block_of(0, TIMED));
+    assert!(rt; decode(&block_of(0, TIMED)) == Some(timed));
 }
 
 // A place of the file, the byte that stands there instead, and the time that it then has, if the block is an inode's.
@@ -169,15 +157,15 @@ fn time_with(block: &Block, at: usize, byte: u8) -> Option<u64> {
 
 #[test]
 fn a_timed_file_with_one_byte_changed(rt: HostRuntime) {
-    let timed = block_of(&TIMED);
+    let timed = block_of(0, TIMED);
     for (at, byte, time) in &TIMED_CHANGED {
         assert!(rt; time_with(&timed, *at, *byte) == *time, "byte {at}");
     }
 }
 
 // The first place of a time at which such a block may have another byte.
-fn first_timed(pieces: &[Piece]) -> Option<usize> {
-    let block = block_of(pieces);
+fn first_timed(pieces: &str) -> Option<usize> {
+    let block = block_of(0, pieces);
     for at in 100..108 {
         if fits_with(&block, at, 1) {
             return Some(at);
@@ -188,18 +176,18 @@ fn first_timed(pieces: &[Piece]) -> Option<usize> {
 
 #[test]
 fn only_files_have_a_time(rt: HostRuntime) {
-    assert!(rt; first_timed(&ROOT).is_none(), "the root");
-    assert!(rt; first_timed(&[]).is_none(), "a free inode");
-    assert!(rt; first_timed(&LINK).is_none(), "a link");
+    assert!(rt; first_timed(ROOT).is_none(), "the root");
+    assert!(rt; first_timed("").is_none(), "a free inode");
+    assert!(rt; first_timed(LINK).is_none(), "a link");
 }
 
-static GROWN: [Run; 3] = [(10, b"\x02"), (16, b"\x01\x02"), (100, b"\x02")];
+const GROWN: &str = "10:02 16:0102 100:02";
 
 #[test]
 fn what_changes_of_a_file_that_grows_and_gets_a_name(rt: HostRuntime) -> Result<(), Fail> {
     let old = file(1, 1, 255, 4_294_967_297);
     let new = file(2, 2, 513, 4_294_967_298);
     let patches = patches(rt.alloc(), &old, &new)?;
-    assert!(rt; are_runs(&patches, &GROWN));
+    assert!(rt; are_pieces(&patches, GROWN));
     Ok(())
 }

@@ -1,7 +1,8 @@
 // The parameter sector.
-use crate::builders::{FRESH_PARAMETERS, block_of, with};
+use crate::builders::{FRESH_PARAMETERS, with};
 use frang_base::limits::SECTOR_BYTES;
 use param_block::{Param, decode, encode};
+use test_tables::block_of;
 
 #[test]
 fn parameters_of_a_fresh_disk_of_16_segments(rt: HostRuntime) {
@@ -12,7 +13,7 @@ fn parameters_of_a_fresh_disk_of_16_segments(rt: HostRuntime) {
     };
     let mut block = [7; SECTOR_BYTES];
     encode(&param, &mut block);
-    assert!(rt; block == block_of(&FRESH_PARAMETERS));
+    assert!(rt; block == block_of(0, FRESH_PARAMETERS));
     assert!(rt; block[..4] == [0x46, 0x52, 0x41, 0x4E]);
     assert!(rt; decode(&block) == Some(param));
 }
@@ -24,7 +25,7 @@ fn parameters_of_a_disk_without_times(rt: HostRuntime) {
         segments: 3,
         run: 258,
     };
-    let worked = block_of(&[(0, b"FRANGPAR\x01\0\0\0\x03\0\0\0\x02\x01")]);
+    let worked = block_of(0, "0:'FRANGPAR 8:01000000030000000201");
     let mut block = [7; SECTOR_BYTES];
     encode(&param, &mut block);
     assert!(rt; block == worked);
@@ -54,7 +55,7 @@ static CHANGED: [(usize, u8, bool); 17] = [
 
 #[test]
 fn parameters_with_one_byte_changed(rt: HostRuntime) {
-    let fresh = block_of(&FRESH_PARAMETERS);
+    let fresh = block_of(0, FRESH_PARAMETERS);
     for (at, byte, fits) in &CHANGED {
         let found = decode(&with(&fresh, *at, *byte));
         assert!(rt; found.is_some() == *fits, "byte {at}");

@@ -1,27 +1,17 @@
 // The patches between two blocks.
-use crate::builders::{Piece, Run, are_runs, block_of, lay};
 use block_patches::{patches_of, patches_with};
 use std::test::Fail;
+use test_tables::{are_pieces, block_of};
 
 // Bytes of the new block: its first, those of both ends, and two apart by one.
-static NEW: [Piece; 4] = [
-    (0, b"\x09"),
-    (8, b"\x01\x02"),
-    (100, b"\x03\0\x04"),
-    (510, b"\x05\x06"),
-];
+const NEW: &str = "0:09 8:0102 100:030004 510:0506";
 
-static RUNS: [Run; 4] = [
-    (8, b"\x01\x02"),
-    (100, b"\x03"),
-    (102, b"\x04"),
-    (510, b"\x05\x06"),
-];
+const RUNS: &str = "8:0102 100:03 102:04 510:0506";
 
 #[test]
 fn runs_are_as_long_as_they_can_be(rt: HostRuntime) -> Result<(), Fail> {
-    let found = patches_of(rt.alloc(), &block_of(&[]), &block_of(&NEW))?;
-    assert!(rt; are_runs(&found, &RUNS));
+    let found = patches_of(rt.alloc(), &block_of(0, ""), &block_of(0, NEW))?;
+    assert!(rt; are_pieces(&found, RUNS));
     Ok(())
 }
 
@@ -35,14 +25,14 @@ fn no_patches_where_only_the_version_differs(rt: HostRuntime) -> Result<(), Fail
 }
 
 // The forced places, and the one run of a block of sevens that stays as it is.
-static FORCED: [(usize, usize, &[Run]); 7] = [
-    (100, 108, &[(100, b"\x07\x07\x07\x07\x07\x07\x07\x07")]),
-    (6, 10, &[(8, b"\x07\x07")]),
-    (510, 512, &[(510, b"\x07\x07")]),
-    (511, 600, &[(511, b"\x07")]),
-    (0, 8, &[]),
-    (100, 100, &[]),
-    (101, 100, &[]),
+static FORCED: [(usize, usize, &str); 7] = [
+    (100, 108, "100:0707070707070707"),
+    (6, 10, "8:0707"),
+    (510, 512, "510:0707"),
+    (511, 600, "511:07"),
+    (0, 8, ""),
+    (100, 100, ""),
+    (101, 100, ""),
 ];
 
 #[test]
@@ -50,33 +40,26 @@ fn forced_places_are_patched_where_nothing_differs(rt: HostRuntime) -> Result<()
     let block = [7; 512];
     for (from, to, runs) in &FORCED {
         let found = patches_with(rt.alloc(), &block, &block, &(*from..*to))?;
-        assert!(rt; are_runs(&found, runs), "from {from} to {to}");
+        assert!(rt; are_pieces(&found, runs), "from {from} to {to}");
     }
     Ok(())
 }
 
 // Bytes of the new block, and the runs where the places 100 to 103 are forced over zeros.
-static JOINED: [(&[Run], &[Run]); 5] = [
-    (&[(102, b"\x05")], &[(100, b"\0\0\x05\0")]),
-    (&[(99, b"\x05")], &[(99, b"\x05\0\0\0\0")]),
-    (&[(104, b"\x05")], &[(100, b"\0\0\0\0\x05")]),
-    (
-        &[(98, b"\x05"), (105, b"\x06")],
-        &[(98, b"\x05"), (100, b"\0\0\0\0"), (105, b"\x06")],
-    ),
-    (&[(0, b"\x05")], &[(100, b"\0\0\0\0")]),
+static JOINED: [(&str, &str); 5] = [
+    ("102:05", "100:00000500"),
+    ("99:05", "99:0500000000"),
+    ("104:05", "100:0000000005"),
+    ("98:05 105:06", "98:05 100:00000000 105:06"),
+    ("0:05", "100:00000000"),
 ];
 
 #[test]
 fn forced_places_join_what_differs(rt: HostRuntime) -> Result<(), Fail> {
     for (bytes, runs) in &JOINED {
-        let old = block_of(&[]);
-        let mut new = old;
-        for (at, there) in *bytes {
-            lay(&mut new, (usize::from(*at), *there));
-        }
+        let (old, new) = (block_of(0, ""), block_of(0, bytes));
         let found = patches_with(rt.alloc(), &old, &new, &(100..104))?;
-        assert!(rt; are_runs(&found, runs), "{} runs", runs.len());
+        assert!(rt; are_pieces(&found, runs), "{bytes}");
     }
     Ok(())
 }

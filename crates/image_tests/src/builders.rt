@@ -6,9 +6,7 @@ use frang_outside::{Act, FileFault, Files, MemFiles, MemOutside, NoGate, Outside
 use frang_top::{Status, frang};
 use std::alloc::{AllocError, Global};
 use std::thread::Threads;
-
-/// Bytes from a place on.
-pub type Piece = (usize, &'static [u8]);
+use test_tables::lay;
 
 /// The status of a call by its code, its line and its place.
 pub type Ending = (u8, u32, u64);
@@ -56,30 +54,16 @@ impl Files for FixedFiles {
     }
 }
 
-/// Puts bytes in place of those that stand there from a place on. What is past the end is left out.
-pub fn lay(bytes: &mut [u8], place: usize, new: &[u8]) {
-    for (there, byte) in bytes.iter_mut().skip(place).zip(new) {
-        *there = *byte;
-    }
-}
-
-/// The same of each piece.
-pub fn lay_all(bytes: &mut [u8], pieces: &[Piece]) {
-    for (place, new) in pieces {
-        lay(bytes, *place, new);
-    }
-}
-
 /// Zeros of this length, but for these pieces, the later ones laid over the others.
 pub fn image_of(
     alloc: Global,
     len: usize,
-    pieces: &[Piece],
-    later: &[Piece],
+    pieces: &str,
+    later: &str,
 ) -> Result<Vec<u8>, AllocError> {
     let mut image = vec![in alloc; 0; len]?;
-    lay_all(&mut image, pieces);
-    lay_all(&mut image, later);
+    lay(&mut image, pieces);
+    lay(&mut image, later);
     Ok(image)
 }
 

@@ -1,5 +1,5 @@
 // The fresh image, and what one change makes of it: how a command ends, having said nothing, and in which words.
-use crate::builders::{DONE, Piece, Row, files_of, first_other, image_of, tell_over};
+use crate::builders::{DONE, Row, files_of, first_other, image_of, tell_over};
 use frang_base::NoMemory;
 use frang_outside::MemFiles;
 use frang_top::Status;
@@ -8,54 +8,46 @@ use std::test::Fail;
 use std::thread::Threads;
 
 // The bytes of the fresh image of 16 segments that aren't zero: mark and count, the parameters, the segment, the root.
-static FRESH: [Piece; 8] = [
-    (0, b"FRANGIM1\x03"),
-    (24, b"FRANGPAR\x02\0\0\0\x10\0\0\0\x01"),
-    (540, b"\x01"),
-    (544, b"\x01"),
-    (552, b"\x01"),
-    (1059, b"\x80\x02"),
-    (1064, b"\x01"),
-    (1072, b"\x02\0\x01"),
-];
+const FRESH: &str =
+    "0:'FRANGIM1 8:03 24:'FRANGPAR 32:020000001000000001 540:01 544:01 552:01 1059:8002 1064:01 1072:020001";
 
 // Its length.
 const FRESH_LEN: usize = 1576;
 
 // What is laid over the fresh image, and how many bytes of it are there; the place and the kind of the fault, and its words.
-type Damage = (&'static [Piece], usize, u64, u32, &'static str);
+type Damage = (&'static str, usize, u64, u32, &'static str);
 
 static DAMAGES: [Damage; 13] = [
     (
-        &[],
+        "",
         0,
         0,
         1,
         "image: the bytes end inside the header or an entry, at byte 0",
     ),
     (
-        &[],
+        "",
         1575,
         1056,
         1,
         "image: the bytes end inside the header or an entry, at byte 1056",
     ),
     (
-        &[(0, b"\0")],
+        "0:00",
         FRESH_LEN,
         0,
         2,
         "image: the first 8 bytes aren't those of an image, at byte 0",
     ),
     (
-        &[(8, b"\x04")],
+        "8:04",
         FRESH_LEN,
         1576,
         1,
         "image: the bytes end inside the header or an entry, at byte 1576",
     ),
     (
-        &[(8, b"\x02")],
+        "8:02",
         FRESH_LEN,
         1056,
         6,
@@ -63,12 +55,7 @@ static DAMAGES: [Damage; 13] = [
     ),
     // The segment and the root in each other's place.
     (
-        &[
-            (536, b"\0\0\0\x80\x02"),
-            (552, b"\x02\0\x01"),
-            (1056, b"\0\0\0\0\x01"),
-            (1072, b"\x01\0\0"),
-        ],
+        "536:0000008002 552:020001 1056:0000000001 1072:010000",
         FRESH_LEN,
         1056,
         3,
@@ -76,28 +63,28 @@ static DAMAGES: [Damage; 13] = [
     ),
     // A segment more than there are.
     (
-        &[(536, b"\x10")],
+        "536:10",
         FRESH_LEN,
         536,
         4,
         "image: sector 4294967312 lies in no region, at byte 536",
     ),
     (
-        &[(544, b"\0"), (552, b"\0")],
+        "544:00 552:00",
         FRESH_LEN,
         536,
         5,
         "image: sector 4294967296 is zeros, at byte 536",
     ),
     (
-        &[(16, b"\x01")],
+        "16:01",
         FRESH_LEN,
         16,
         7,
         "image: the first sector isn't that of the parameters, or has none that a run may follow, at byte 16",
     ),
     (
-        &[(24, b"\0\0\0\0\0\0\0\0\0\0\0\0\0\0\0\0\0")],
+        "24:0000000000000000000000000000000000",
         FRESH_LEN,
         16,
         7,
@@ -105,7 +92,7 @@ static DAMAGES: [Damage; 13] = [
     ),
     // The last run number, which no further run can raise.
     (
-        &[(40, b"\xff\xff\xff\xff")],
+        "40:ffffffff",
         FRESH_LEN,
         16,
         7,
@@ -113,14 +100,14 @@ static DAMAGES: [Damage; 13] = [
     ),
     // A byte behind the bits of the segment.
     (
-        &[(817, b"\x01")],
+        "817:01",
         FRESH_LEN,
         536,
         7,
         "image: the bitmap of sector 4294967296 isn't one, at byte 536",
     ),
     (
-        &[(1072, b"\x04")],
+        "1072:04",
         FRESH_LEN,
         1056,
         7,
@@ -129,11 +116,11 @@ static DAMAGES: [Damage; 13] = [
 ];
 
 // The bit of an inode that isn't in use.
-static UNREACHED: [Piece; 1] = [(552, b"\x03")];
+const UNREACHED: &str = "552:03";
 
 // The disk with it stands for no tree.
 static NO_TREE: [Damage; 1] = [(
-    &[(552, b"\x03")],
+    "552:03",
     FRESH_LEN,
     0,
     8,
@@ -141,8 +128,8 @@ static NO_TREE: [Damage; 1] = [(
 )];
 
 // The file `img`, which holds so many bytes of the fresh image with these laid over it.
-fn fresh_files(alloc: Global, len: usize, later: &[Piece]) -> Result<MemFiles, NoMemory> {
-    files_of(alloc, &image_of(alloc, len, &FRESH, later)?)
+fn fresh_files(alloc: Global, len: usize, later: &str) -> Result<MemFiles, NoMemory> {
+    files_of(alloc, &image_of(alloc, len, FRESH, later)?)
 }
 
 // A command refuses a damage as what it is.
@@ -227,7 +214,7 @@ static TREELESS: [Row; 2] = [("log img 0", DONE, "! end\n"), ("fsck img", DONE, 
 fn first_other_of(
     rt: &(impl Threads + Sync),
     alloc: Global,
-    later: &[Piece],
+    later: &str,
     rows: &[Row],
 ) -> Result<usize, NoMemory> {
     let mut files = fresh_files(alloc, FRESH_LEN, later)?;
@@ -236,7 +223,7 @@ fn first_other_of(
 
 #[test]
 fn a_log_is_read_and_a_check_told_also_where_no_tree_stands(rt: HostRuntime) -> Result<(), Fail> {
-    assert!(rt; first_other_of(&rt, rt.alloc(), &UNREACHED, &TREELESS)? == 0);
+    assert!(rt; first_other_of(&rt, rt.alloc(), UNREACHED, &TREELESS)? == 0);
     Ok(())
 }
 
@@ -244,6 +231,6 @@ static WHOLE: [Row; 1] = [("recover img", DONE, "= / dir 0\n! end\n")];
 
 #[test]
 fn the_fresh_image_has_an_empty_root(rt: HostRuntime) -> Result<(), Fail> {
-    assert!(rt; first_other_of(&rt, rt.alloc(), &[], &WHOLE)? == 0);
+    assert!(rt; first_other_of(&rt, rt.alloc(), "", &WHOLE)? == 0);
     Ok(())
 }

@@ -1,62 +1,30 @@
 // Reports as lines, and a disk whose log holds a record.
-use crate::disks::{INODE_0, Piece, SEGMENT_0, report_of, small_report};
+use crate::disks::{report_of, small_report};
 use frang_base::NoMemory;
 use fsck_report::{Report, report_line};
 use std::alloc::Global;
 use std::test::Fail;
 
 // A fresh disk of 16 segments, but for a bit without its inode.
-static FRESH: [Piece; 5] = [
-    (0, 0, b"FRANGPAR\x01\0\0\0\x10\0\0\0\x01"),
-    (SEGMENT_0, 0, b"\x01"),
-    (SEGMENT_0, 8, b"\x03"),
-    (INODE_0, 0, b"\x01"),
-    (INODE_0, 8, b"\x02\0\x01"),
-];
+const FRESH: &str = "
+0 0:'FRANGPAR 8:010000001000000001
+k0 0:01 8:03
+i0 0:01 8:020001
+";
 
 // A fresh disk of one segment whose first log has a record of a file `a` in the root: the segment with its inode and the root's first block,
 // the root, the inode, the entry.
-static LOGGED: [Piece; 16] = [
-    (0, 0, b"FRANGPAR\x01\0\0\0\x01\0\0\0\x01"),
-    (SEGMENT_0, 0, b"\x01"),
-    (SEGMENT_0, 8, b"\x01"),
-    (INODE_0, 0, b"\x01"),
-    (INODE_0, 8, b"\x02\0\x01"),
-    (
-        2_147_483_648,
-        0,
-        b"\0\x01\0\0\0\0\0\0\x02\0\0\0\x01\0\0\0\0\0\x01\0\x79\0",
-    ),
-    (2_147_483_648, 24, b"\x04\0"),
-    (
-        2_147_483_648,
-        26,
-        b"\0\0\0\0\x01\0\0\0\x02\0\0\0\0\0\0\0\x02\0",
-    ),
-    (2_147_483_648, 44, b"\x08\0\x01\0\x03\x10\0\x01\0\x03"),
-    (
-        2_147_483_648,
-        54,
-        b"\0\0\0\x80\x02\0\0\0\x02\0\0\0\0\0\0\0\x02\0",
-    ),
-    (2_147_483_648, 72, b"\x0c\0\x01\0\x01\x10\0\x01\0\x01"),
-    (
-        2_147_483_648,
-        82,
-        b"\x01\0\0\x80\x02\0\0\0\x01\0\0\0\0\0\0\0\x02\0",
-    ),
-    (2_147_483_648, 100, b"\x08\0\x03\0\x01\0\x01"),
-    (2_147_483_648, 107, b"\x18\0\x05\0\x02\0\0\0\x01"),
-    (
-        2_147_483_648,
-        116,
-        b"\0\0\0\0\x03\0\0\0\x01\0\0\0\0\0\0\0\x01\0",
-    ),
-    (2_147_483_648, 134, b"\x08\0\x07\0\x01\0\0\0\x01\x01a"),
-];
+const LOGGED: &str = "
+0 0:'FRANGPAR 8:010000000100000001
+k0 0:01 8:01
+i0 0:01 8:020001
+2147483648 0:00010000000000000200000001000000000001007900 24:0400 26:000000000100000002000000000000000200 44:08000100031000010003 \
+    54:000000800200000002000000000000000200 72:0c000100011000010001 82:010000800200000001000000000000000200 100:08000300010001 \
+    107:180005000200000001 116:000000000300000001000000000000000100 134:08000700010000000101'a
+";
 
 // The small disk with a bit without its inode, and with a wrong count of entries.
-static TWO_FAULTS: [Piece; 2] = [(SEGMENT_0, 8, b"\x1f"), (INODE_0, 16, b"\x05")];
+const TWO_FAULTS: &str = "k0 8:1f; i0 16:05";
 
 fn is_line(alloc: Global, report: Option<Report>, line: &str) -> Result<bool, NoMemory> {
     let Some(report) = report else {
@@ -69,7 +37,7 @@ fn is_line(alloc: Global, report: Option<Report>, line: &str) -> Result<bool, No
 fn a_sound_disk_is_told_in_a_line(rt: HostRuntime) -> Result<(), Fail> {
     let line =
         "{\"blocks\":20,\"dirs\":2,\"faults\":[],\"files\":2,\"larges\":1,\"links\":1,\"segments\":2,\"stands\":true}";
-    let report = small_report(&rt, rt.alloc(), &[])?;
+    let report = small_report(&rt, rt.alloc(), "")?;
     assert!(rt; is_line(rt.alloc(), report, line)?);
     Ok(())
 }
@@ -78,7 +46,7 @@ fn a_sound_disk_is_told_in_a_line(rt: HostRuntime) -> Result<(), Fail> {
 fn a_fault_is_told_in_a_line(rt: HostRuntime) -> Result<(), Fail> {
     let line =
         "{\"blocks\":0,\"dirs\":1,\"faults\":[[4294967296,7]],\"files\":0,\"larges\":0,\"links\":0,\"segments\":16,\"stands\":false}";
-    let report = report_of(&rt, rt.alloc(), &FRESH, &[])?;
+    let report = report_of(&rt, rt.alloc(), FRESH, "")?;
     assert!(rt; is_line(rt.alloc(), report, line)?);
     Ok(())
 }
@@ -87,7 +55,7 @@ fn a_fault_is_told_in_a_line(rt: HostRuntime) -> Result<(), Fail> {
 fn faults_are_told_in_order(rt: HostRuntime) -> Result<(), Fail> {
     let line =
         "{\"blocks\":20,\"dirs\":2,\"faults\":[[4294967296,7],[10737418240,4]],\"files\":2,\"larges\":1,\"links\":1,\"segments\":2,\"stands\":false}";
-    let report = small_report(&rt, rt.alloc(), &TWO_FAULTS)?;
+    let report = small_report(&rt, rt.alloc(), TWO_FAULTS)?;
     assert!(rt; is_line(rt.alloc(), report, line)?);
     Ok(())
 }
@@ -96,7 +64,7 @@ fn faults_are_told_in_order(rt: HostRuntime) -> Result<(), Fail> {
 fn logs_are_replayed_before(rt: HostRuntime) -> Result<(), Fail> {
     let line =
         "{\"blocks\":1,\"dirs\":1,\"faults\":[],\"files\":1,\"larges\":0,\"links\":0,\"segments\":1,\"stands\":true}";
-    let report = report_of(&rt, rt.alloc(), &LOGGED, &[])?;
+    let report = report_of(&rt, rt.alloc(), LOGGED, "")?;
     assert!(rt; is_line(rt.alloc(), report, line)?);
     Ok(())
 }

@@ -1,7 +1,7 @@
 // An image whose two logs hold a record each: a file that server 0 made, and one that server 1 made. Nothing of them stands in place.
 use crate::builders::{
-    DONE, Ending, FixedFiles, Piece, Row, Told, call, files_of, first_other, image_of, is_so,
-    lay_all, tell_over, told_by, words_of,
+    DONE, Ending, FixedFiles, Row, Told, call, files_of, first_other, image_of, is_so, tell_over,
+    told_by, words_of,
 };
 use frang_base::NoMemory;
 use frang_outside::{FaultyOutside, Files, MemFiles};
@@ -9,66 +9,56 @@ use frang_top::Status;
 use std::alloc::{AllocError, Global};
 use std::test::Fail;
 use std::thread::Threads;
+use test_tables::lay;
 
 // Five sectors: the parameters, a sector of each log, the segment, the root.
 const LEN: usize = 2616;
 
 // What stands around the records, on a disk of format 1 with 16 segments.
-static FRAME: [Piece; 8] = [
-    (0, b"FRANGIM1\x05"),
-    (24, b"FRANGPAR\x01\0\0\0\x10\0\0\0\x01"),
-    (1580, b"\x01"),
-    (1584, b"\x01"),
-    (1592, b"\x01"),
-    (2099, b"\x80\x02"),
-    (2104, b"\x01"),
-    (2112, b"\x02\0\x01"),
-];
+const FRAME: &str =
+    "0:'FRANGIM1 8:05 24:'FRANGPAR 32:010000001000000001 1580:01 1584:01 1592:01 2099:8002 2104:01 2112:020001";
 
-static RECORDS: [Piece; 24] = [
-    // The record of a file `a` in the root by operation 1.2: the segment with its inode and the root's first block, the root, the inode, the
-    // entry.
-    (536, b"\0\0\0\x80\0\0\0\0"),
-    (
-        544,
-        b"\0\x01\0\0\0\0\0\0\x02\0\0\0\x01\0\0\0\0\0\x01\0\x79\0",
-    ),
-    (568, b"\x04\0"),
-    (570, b"\0\0\0\0\x01\0\0\0\x02\0\0\0\0\0\0\0\x02\0"),
-    (588, b"\x08\0\x01\0\x03\x10\0\x01\0\x03"),
-    (598, b"\0\0\0\x80\x02\0\0\0\x02\0\0\0\0\0\0\0\x02\0"),
-    (616, b"\x0c\0\x01\0\x01\x10\0\x01\0\x01"),
-    (626, b"\x01\0\0\x80\x02\0\0\0\x01\0\0\0\0\0\0\0\x02\0"),
-    (644, b"\x08\0\x03\0\x01\0\x01"),
-    (651, b"\x18\0\x05\0\x02\0\0\0\x01"),
-    (660, b"\0\0\0\0\x03\0\0\0\x01\0\0\0\0\0\0\0\x01\0"),
-    (678, b"\x08\0\x07\0\x01\0\0\0\x01\x01a"),
-    // That of a file `b` by operation 1.5, in the log of server 1.
-    (1056, b"\0\0\x80\x80\0\0\0\0"),
-    (
-        1064,
-        b"\0\x01\0\0\0\0\0\0\x05\0\0\0\x01\0\0\0\0\0\x01\0\x6f\0",
-    ),
-    (1088, b"\x04\0"),
-    (1090, b"\0\0\0\0\x01\0\0\0\x03\0\0\0\0\0\0\0\x01\0"),
-    (1108, b"\x08\0\x01\0\x07"),
-    (1113, b"\0\0\0\x80\x02\0\0\0\x03\0\0\0\0\0\0\0\x01\0"),
-    (1131, b"\x10\0\x01\0\x02"),
-    (1136, b"\x02\0\0\x80\x02\0\0\0\x01\0\0\0\0\0\0\0\x02\0"),
-    (1154, b"\x08\0\x03\0\x01\0\x01"),
-    (1161, b"\x18\0\x05\0\x05\0\0\0\x01"),
-    (1170, b"\0\0\0\0\x03\0\0\0\x02\0\0\0\0\0\0\0\x01\0"),
-    (1188, b"\x50\0\x07\0\x02\0\0\0\x01\x01b"),
-];
+// The record of a file `a` in the root by operation 1.2: the segment with its inode and the root's first block, the root, the inode, the entry.
+const FIRST_RECORD: &str = "
+536:0000008000000000
+544:00010000000000000200000001000000000001007900
+568:0400
+570:000000000100000002000000000000000200
+588:08000100031000010003
+598:000000800200000002000000000000000200
+616:0c000100011000010001
+626:010000800200000001000000000000000200
+644:08000300010001
+651:180005000200000001
+660:000000000300000001000000000000000100
+678:08000700010000000101'a
+";
+
+// That of a file `b` by operation 1.5, in the log of server 1.
+const SECOND_RECORD: &str = "
+1056:0000808000000000
+1064:00010000000000000500000001000000000001006f00
+1088:0400
+1090:000000000100000003000000000000000100
+1108:0800010007
+1113:000000800200000003000000000000000100
+1131:1000010002
+1136:020000800200000001000000000000000200
+1154:08000300010001
+1161:180005000500000001
+1170:000000000300000002000000000000000100
+1188:50000700020000000101'b
+";
 
 // The image, these laid over it.
-fn logs_image(alloc: Global, later: &[Piece]) -> Result<Vec<u8>, AllocError> {
-    let mut image = image_of(alloc, LEN, &FRAME, &RECORDS)?;
-    lay_all(&mut image, later);
+fn logs_image(alloc: Global, later: &str) -> Result<Vec<u8>, AllocError> {
+    let mut image = image_of(alloc, LEN, FRAME, FIRST_RECORD)?;
+    lay(&mut image, SECOND_RECORD);
+    lay(&mut image, later);
     Ok(image)
 }
 
-fn logs_files(alloc: Global, later: &[Piece]) -> Result<MemFiles, NoMemory> {
+fn logs_files(alloc: Global, later: &str) -> Result<MemFiles, NoMemory> {
     files_of(alloc, &logs_image(alloc, later)?)
 }
 
@@ -126,7 +116,7 @@ static ROWS: [Row; 36] = [
 
 #[test]
 fn logs_are_replayed_and_told_where_the_words_are_a_command(rt: HostRuntime) -> Result<(), Fail> {
-    let mut files = logs_files(rt.alloc(), &[])?;
+    let mut files = logs_files(rt.alloc(), "")?;
     assert!(rt; first_other(&rt, rt.alloc(), &mut files, &ROWS)? == 0);
     Ok(())
 }
@@ -147,7 +137,7 @@ static SAVED: [Row; 3] = [
 
 // The length of what is saved, where the rows are told so.
 fn saved_length(rt: &(impl Threads + Sync), alloc: Global) -> Result<usize, NoMemory> {
-    let mut files = logs_files(alloc, &[])?;
+    let mut files = logs_files(alloc, "")?;
     if first_other(rt, alloc, &mut files, &SAVED)? != 0 {
         return Ok(0);
     }
@@ -162,7 +152,7 @@ fn a_saved_recovery_has_no_logs_left(rt: HostRuntime) -> Result<(), Fail> {
 }
 
 // The bytes 22 to 24 of a log's sector, which have to be zero.
-static ODD_SLOT: [Piece; 1] = [(566, b"\x01")];
+const ODD_SLOT: &str = "566:01";
 
 const ODD: Status = Status {
     code: 6,
@@ -173,7 +163,7 @@ const ODD: Status = Status {
 
 // A log isn't told over the damage.
 fn is_odd(rt: &(impl Threads + Sync), alloc: Global) -> Result<bool, NoMemory> {
-    let mut files = logs_files(alloc, &ODD_SLOT)?;
+    let mut files = logs_files(alloc, ODD_SLOT)?;
     let told = tell_over(rt, alloc, "log img 1", &mut files)?;
     Ok(told.status == ODD && told.text.is_empty())
 }
@@ -203,7 +193,7 @@ fn tell_failing(
 
 // So of the tree.
 fn told_in_part(rt: &(impl Threads + Sync), alloc: Global) -> Result<Told, NoMemory> {
-    let mut files = logs_files(alloc, &[])?;
+    let mut files = logs_files(alloc, "")?;
     let words = words_of(alloc, "tree img")?;
     tell_failing(rt, alloc, &words, &mut files)
 }
@@ -232,7 +222,7 @@ fn ends(
 
 #[test]
 fn a_file_that_cannot_be_written_ends_a_command(rt: HostRuntime) -> Result<(), Fail> {
-    let image = Some(logs_image(rt.alloc(), &[])?);
+    let image = Some(logs_image(rt.alloc(), "")?);
     let mut files = FixedFiles {
         image,
         write_faults: 0,

@@ -1,5 +1,5 @@
 // Disks of both formats by their bytes, and the times of their files.
-use crate::builders::{Piece, image_of};
+use crate::builders::image_of;
 use disk_definitions::Disk;
 use disk_reading::tree_read;
 use frang_base::NoMemory;
@@ -12,29 +12,12 @@ use tree_definitions::Node;
 const LEN: usize = 3136;
 
 // A disk of format 1 in its first run, with two empty files in the root.
-static WITHOUT_TIMES: [Piece; 18] = [
-    (0, b"FRANGIM1\x06"),
-    (24, b"FRANGPAR\x01\0\0\0\x01\0\0\0\x01"),
-    (540, b"\x01"),
-    (544, b"\x01"),
-    (552, b"\x07"),
-    (560, b"\x03"),
-    (1059, b"\x80\x02"),
-    (1064, b"\x01"),
-    (1072, b"\x02\0\x01\0\x01\0\0\0\x02"),
-    (1576, b"\x01\0\0\x80\x02"),
-    (1584, b"\x01"),
-    (1592, b"\x01\0\x01"),
-    (2096, b"\x02\0\0\x80\x02"),
-    (2104, b"\x01"),
-    (2112, b"\x01\0\x01"),
-    (2620, b"\x03"),
-    (2632, b"\x01\0\0\0\x01\x01a"),
-    (2704, b"\x02\0\0\0\x01\x01b"),
-];
+const WITHOUT_TIMES: &str =
+    "0:'FRANGIM1 8:06 24:'FRANGPAR 32:010000000100000001 540:01 544:01 552:07 560:03 1059:8002 1064:01 1072:020001000100000002 1576:0100008002 1584:01 \
+    1592:010001 2096:0200008002 2104:01 2112:010001 2620:03 2632:010000000101'a 2704:020000000101'b";
 
 // What is otherwise on one of format 2 in its third run, in which `a` was last written at tick 513.
-static WITH_TIMES: [Piece; 3] = [(32, b"\x02"), (40, b"\x03"), (1684, b"\x01\x02\0\0\x03")];
+const WITH_TIMES: &str = "32:02 40:03 1684:0102000003";
 
 fn time_of(node: Option<&Node>) -> Option<u64> {
     match node {
@@ -44,8 +27,8 @@ fn time_of(node: Option<&Node>) -> Option<u64> {
 }
 
 // The times of the files `a` and `b` in the tree that the image stands for, these pieces laid over it.
-fn times(alloc: Global, later: &[Piece]) -> Result<(Option<u64>, Option<u64>), NoMemory> {
-    let image = image_of(alloc, LEN, &WITHOUT_TIMES, later)?;
+fn times(alloc: Global, later: &str) -> Result<(Option<u64>, Option<u64>), NoMemory> {
+    let image = image_of(alloc, LEN, WITHOUT_TIMES, later)?;
     match read_image(alloc, &image) {
         Ok(disk) => times_on(alloc, &disk),
         Err(_) => Ok((None, None)),
@@ -62,8 +45,8 @@ fn times_on(alloc: Global, disk: &Disk) -> Result<(Option<u64>, Option<u64>), No
 
 #[test]
 fn a_file_has_the_time_that_its_disk_keeps(rt: HostRuntime) -> Result<(), Fail> {
-    assert!(rt; times(rt.alloc(), &[])? == (Some(0), Some(0)));
+    assert!(rt; times(rt.alloc(), "")? == (Some(0), Some(0)));
     // Run 3 times 2^32, and the tick.
-    assert!(rt; times(rt.alloc(), &WITH_TIMES)? == (Some(12_884_902_401), Some(0)));
+    assert!(rt; times(rt.alloc(), WITH_TIMES)? == (Some(12_884_902_401), Some(0)));
     Ok(())
 }

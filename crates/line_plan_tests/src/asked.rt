@@ -1,52 +1,38 @@
 // Lines over a disk, and what is told of their plans.
-ghost use Rattle.std.specs.Prelude.{IfOk};
+ghost use Rattle.std.specs.Prelude.{◌≡◌, true};
 ghost use Rattle.line_plan.specs.Lines.{TargetFits};
 
 use crate::needed::locks_told;
 use dir_lookup::{Hand, Looked};
 use edit_moves::{Move, Thing, cover_of, moves_of};
-use frang_base::{Line, NoMemory, Op, Path, Script, Sector, ServerId, Text, What};
+use frang_base::limits::TARGET_BYTES_MAX;
+use frang_base::{Line, NoMemory, Op, Script, Sector, ServerId, What};
 use frang_layout::{Region, region_of};
 use line_plan::{LineEnd, plan_line};
 use meta_version::Sectors;
-use plan_disks::{Laid, Segment, held_of, outcome_told, path_of, put_full_block, sectors_of};
+use plan_disks::{
+    Segments, are_all, bytes_op, held_of, leave_out, look_op, names_op, outcome_told, put_sectors,
+    sectors_of,
+};
 use plan_steps::Outcome;
 use script_lang::print_script;
 use std::alloc::Global;
 use std::process::Abort;
 use std::test::Fail;
-
-/// A line with its path, and with what else it has.
-#[derive(Clone, Copy)]
-pub(crate) enum Act {
-    Create(&'static str),
-    Unlink(&'static str),
-    Rmdir(&'static str),
-    Link(&'static str, &'static str),
-    Rename(&'static str, &'static str),
-    Write(&'static str, u32, &'static str),
-    Truncate(&'static str, u32),
-    Read(&'static str),
-    List(&'static str),
-    Stat(&'static str),
-    Sync,
-}
+use test_tables::{columns, is_row, split};
 
 /// What is at hand of a disk.
 #[derive(Clone, Copy)]
 pub(crate) struct Disk {
     /// Its sectors.
-    pub(crate) laid: &'static [Laid],
-    /// The blocks of directories in which every place has an entry.
-    pub(crate) full: &'static [u32],
-    /// Its segments that are held.
-    pub(crate) segments: &'static [Segment],
-    /// Whether these are said to be all.
-    pub(crate) all: bool,
+    pub(crate) laid: &'static str,
+    /// What is laid over them.
+    pub(crate) more: &'static str,
+    /// The segments that are named.
+    pub(crate) segments: Segments,
+    /// Those of them that are held, and whether these are said to be all.
+    pub(crate) held: &'static str,
 }
-
-/// What is asked, a sector that isn't cached, or 0, and what is told.
-pub(crate) type Row = (Act, u64, &'static str);
 
 /// What is told of the plan of a line.
 #[derive(Clone, Copy)]
@@ -64,51 +50,64 @@ const BIRTH: u64 = 3 * 4_294_967_296 + 7;
 
 const WHEN: u64 = 3 * 4_294_967_296 + 9;
 
-/// Of each line is told what was worked out.
+/// Of each line is told what was worked out: a row has a line, the sector that isn't cached, and what is told.
 pub(crate) fn expect(
     rt: &impl Abort,
     alloc: Global,
-    disk: Disk,
+    disk: &Disk,
     telling: Telling,
-    rows: &[Row],
+    rows: &str,
 ) -> Result<(), Fail> {
-    for (place, row) in rows.iter().enumerate() {
-        let text = told(alloc, disk, telling, row)?;
-        assert!(rt; text.as_str() == row.2, "row {place}: {text}");
+    for row in rows.lines() {
+        if is_row(row) {
+            let (line, setting, wanted) = columns(row);
+            let text = told(alloc, disk, telling, line, setting)?;
+            assert!(rt; text.as_str().trim() == wanted, "{row}: {text}");
+        }
     }
     Ok(())
 }
 
-fn told(alloc: Global, disk: Disk, telling: Telling, row: &Row) -> Result<String, NoMemory> {
-    let (act, missing, _) = *row;
-    let sectors = cached(alloc, disk, Sector(missing))?;
-    told_over(alloc, disk, telling, act, &sectors)
+fn told(
+    alloc: Global,
+    disk: &Disk,
+    telling: Telling,
+    line: &str,
+    setting: &str,
+) -> Result<String, NoMemory> {
+    let mut sectors = sectors_of(alloc, disk.laid)?;
+    put_sectors(&mut sectors, disk.more)?;
+    leave_out(&mut sectors, setting);
+    told_over(alloc, disk, telling, line, &sectors)
 }
 
 // What is told of a line over these sectors.
 fn told_over(
     alloc: Global,
-    disk: Disk,
+    disk: &Disk,
     telling: Telling,
-    act: Act,
+    line: &str,
     sectors: &Sectors,
 ) -> Result<String, NoMemory> {
-    let held = held_of(alloc, disk.segments)?;
+    let held = held_of(alloc, disk.segments, disk.held)?;
     let hand = Hand {
         sectors,
         held: &held,
-        all: disk.all,
+        all: are_all(disk.held),
     };
-    told_at_hand(alloc, &hand, telling, act)
+    told_at_hand(alloc, &hand, telling, line)
 }
 
 fn told_at_hand(
     alloc: Global,
     hand: &Hand,
     telling: Telling,
-    act: Act,
+    line: &str,
 ) -> Result<String, NoMemory> {
-    let op = op_of(alloc, act)?;
+    let op = op_of(alloc, line)?;
+    if !fits(&op) {
+        return Err(NoMemory);
+    }
     told_of(alloc, hand, telling, &op)
 }
 
@@ -155,16 +154,6 @@ fn looks_of(alloc: Global, looked: Looked) -> Result<String, NoMemory> {
 fn locks_of(alloc: Global, hand: &Hand, looked: Looked, end: &LineEnd) -> Result<String, NoMemory> {
     let sectors = looked.sectors()?;
     locks_told(alloc, hand, &sectors, end)
-}
-
-// The sectors of the disk but for the missing one.
-fn cached(alloc: Global, disk: Disk, missing: Sector) -> Result<Sectors, NoMemory> {
-    let mut sectors = sectors_of(alloc, disk.laid)?;
-    for block in disk.full {
-        put_full_block(&mut sectors, *block)?;
-    }
-    sectors.remove(missing);
-    Ok(sectors)
 }
 
 // The sectors at which the plan of a line looked, in order.
@@ -250,65 +239,23 @@ fn move_told(alloc: Global, moved: &Move) -> Result<String, NoMemory> {
     Ok(text)
 }
 
-// The path that is asked about.
-fn place_of(act: Act) -> Option<&'static str> {
-    match act {
-        Act::Create(path)
-        | Act::Unlink(path)
-        | Act::Rmdir(path)
-        | Act::Link(path, _)
-        | Act::Rename(path, _)
-        | Act::Write(path, _, _)
-        | Act::Truncate(path, _)
-        | Act::Read(path)
-        | Act::List(path)
-        | Act::Stat(path) => Some(path),
-        Act::Sync => None,
-    }
-}
-
 // The operation of a line.
-fn op_of(alloc: Global, act: Act) -> Result<Op, NoMemory>
-    ensures { IfOk result TargetFits }
-{
-    match place_of(act) {
-        Some(path) => op_at(alloc, act, path_of(alloc, path)?),
-        None => Ok(Op::Sync),
+fn op_of(alloc: Global, line: &str) -> Result<Op, NoMemory> {
+    let (verb, _) = split(line, " ");
+    match verb {
+        "sync" => Ok(Op::Sync),
+        "read" | "write" | "truncate" => bytes_op(alloc, line),
+        "stat" | "list" => look_op(alloc, line),
+        _ => names_op(alloc, line),
     }
 }
 
-// The operation of a line at its path.
-fn op_at(alloc: Global, act: Act, path: Path) -> Result<Op, NoMemory>
-    ensures { IfOk result TargetFits }
+// A target is no longer than one may be.
+fn fits(op: &Op) -> bool
+    ensures { result ≡ true → TargetFits op.now }
 {
-    match act {
-        Act::Create(_) => Ok(Op::Create { path }),
-        Act::Unlink(_) => Ok(Op::Unlink { path }),
-        Act::Rmdir(_) => Ok(Op::Rmdir { path }),
-        Act::Link(_, to) => {
-            let to = path_of(alloc, to)?;
-            Ok(Op::Link { path, to })
-        }
-        Act::Rename(_, to) => {
-            let to = path_of(alloc, to)?;
-            Ok(Op::Rename { path, to })
-        }
-        Act::Write(_, off, bytes) => {
-            let bytes = text_of(alloc, bytes)?;
-            Ok(Op::Write { path, off, bytes })
-        }
-        Act::Truncate(_, len) => Ok(Op::Truncate { path, len }),
-        Act::Read(_) => Ok(Op::Read {
-            path,
-            off: 0,
-            len: 1,
-        }),
-        Act::List(_) => Ok(Op::List { path }),
-        Act::Stat(_) => Ok(Op::Stat { path }),
-        Act::Sync => Ok(Op::Sync),
+    match op {
+        Op::Symlink { target, .. } => target.len() <= TARGET_BYTES_MAX,
+        _ => true,
     }
-}
-
-fn text_of(alloc: Global, text: &str) -> Result<Text, NoMemory> {
-    Text::of(alloc, text.as_bytes())
 }

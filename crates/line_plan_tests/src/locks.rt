@@ -1,14 +1,16 @@
 // The locks of lines over a small disk, as they were worked out by hand.
-use crate::asked::{Act, Disk, Row, Telling, expect};
+use crate::asked::{Disk, Telling, expect};
 use crate::lines::{DISK, SEGMENT as FIRST};
 use plan_disks::Segment;
+use std::alloc::Global;
+use std::process::Abort;
 use std::test::Fail;
 
 // All of it is free.
 const SECOND: Segment = Segment {
     number: 1,
     inodes: 0,
-    states: &[],
+    states: "",
     ..FIRST
 };
 
@@ -25,7 +27,7 @@ const SECOND_WITHOUT_INODES: Segment = Segment {
 // Each small block is in use.
 const FIRST_WITHOUT_BLOCKS: Segment = Segment {
     others: 85,
-    states: &[(1, &[127])],
+    states: "1:7f",
     ..FIRST
 };
 
@@ -36,75 +38,75 @@ const SECOND_WITHOUT_BLOCKS: Segment = Segment {
 
 // Its first six blocks are in use, so block 1030 is the first that is free.
 const SECOND_WITH_SIX: Segment = Segment {
-    states: &[(0, &[85, 5])],
+    states: "0:5505",
     ..SECOND
 };
 
 // Of a walk the directories, and the links that it follows; of the plan behind it the directories again, and the node.
-static ROWS: [Row; 15] = [
-    (Act::Create("/n"), 0, "s0! n0! n5! "),
-    (Act::Create("/l/x"), 0, "s0! n0 n2! n3 n5! "),
-    (Act::Create("/o/x"), 0, "n0 n7 "),
-    (Act::Stat("/l"), 0, "n0 n3 "),
-    (Act::Read("/f"), 0, "n0 n1 "),
-    (Act::Unlink("/f"), 0, "s0! n0! n1! "),
-    (Act::Unlink("/l/g"), 0, "s0! n0 n2! n3 n4! "),
-    (Act::Rmdir("/e"), 0, "s0! n0! n6! "),
-    (Act::Rmdir("/d"), 0, "n0 n2 "),
-    (Act::Link("/f", "/l/h"), 0, "n0 n1! n2! n3 "),
-    (Act::Rename("/d", "/k"), 0, "n0! "),
-    (Act::Rename("/f", "/l/f"), 0, "n0! n2! n3 "),
-    (Act::Rename("/f", "/d/g"), 0, "s0! n0! n2! n4! "),
-    (Act::Write("/l/g", 0, "a"), 0, "s0! n0 n2 n3 n4! "),
-    (Act::Truncate("/f", 0), 0, "s0! n0 n1! "),
-];
+const ROWS: &str = "
+create /n      | whole | s0! n0! n5!
+create /l/x    | whole | s0! n0 n2! n3 n5!
+create /o/x    | whole | n0 n7
+stat /l        | whole | n0 n3
+read /f 0 1    | whole | n0 n1
+unlink /f      | whole | s0! n0! n1!
+unlink /l/g    | whole | s0! n0 n2! n3 n4!
+rmdir /e       | whole | s0! n0! n6!
+rmdir /d       | whole | n0 n2
+link /f /l/h   | whole | n0 n1! n2! n3
+rename /d /k   | whole | n0!
+rename /f /l/f | whole | n0! n2! n3
+rename /f /d/g | whole | s0! n0! n2! n4!
+write /l/g 0 a | whole | s0! n0 n2 n3 n4!
+truncate /f 0  | whole | s0! n0 n1!
+";
 
 // No inode is free.
-static INODE_ROWS: [Row; 1] = [(Act::Create("/n"), 0, "s0! s1! n0 ")];
+const INODE_ROWS: &str = "
+create /n | whole | s0! s1! n0
+";
 
 // No small block is free, and the directory `e` is full.
-static BLOCK_ROWS: [Row; 2] = [
-    (Act::Create("/e/x"), 0, "s0! s1! n0 n6 "),
-    (Act::Write("/l/g", 0, "a"), 0, "s0! s1! n0 n2 n3 n4 "),
-];
+const BLOCK_ROWS: &str = "
+create /e/x    | whole | s0! s1! n0 n6
+write /l/g 0 a | whole | s0! s1! n0 n2 n3 n4
+";
 
 // The directory `d` is full, and block 0 is the first that is free.
-static FIRST_ROWS: [Row; 2] = [
-    (Act::Create("/l/x"), 0, "clear 0: s0! n0 n2! n3 n5! "),
-    (Act::Link("/f", "/d/h"), 0, "clear 0: s0! n0 n1! n2! "),
-];
+const FIRST_ROWS: &str = "
+create /l/x  | whole | clear 0: s0! n0 n2! n3 n5!
+link /f /d/h | whole | clear 0: s0! n0 n1! n2!
+";
 
 // The directory `e` is full, and block 1030 is the first that is free.
-static SECOND_ROWS: [Row; 2] = [
-    (Act::Create("/e/x"), 0, "clear 1030: s0! s1! n0 n5! n6! "),
-    (
-        Act::Rename("/d/g", "/e/k"),
-        0,
-        "clear 1030: s1! n0 n2! n6! ",
-    ),
+const SECOND_ROWS: &str = "
+create /e/x      | whole | clear 1030: s0! s1! n0 n5! n6!
+rename /d/g /e/k | whole | clear 1030: s1! n0 n2! n6!
+";
+
+static SEGMENTS: [(&str, Segment); 7] = [
+    ("first", FIRST),
+    ("second", SECOND),
+    ("first_without_inodes", FIRST_WITHOUT_INODES),
+    ("second_without_inodes", SECOND_WITHOUT_INODES),
+    ("first_without_blocks", FIRST_WITHOUT_BLOCKS),
+    ("second_without_blocks", SECOND_WITHOUT_BLOCKS),
+    ("second_with_six", SECOND_WITH_SIX),
 ];
-
-static BOTH: [Segment; 2] = [FIRST, SECOND];
-
-static BOTH_WITHOUT_INODES: [Segment; 2] = [FIRST_WITHOUT_INODES, SECOND_WITHOUT_INODES];
-
-static BOTH_WITHOUT_BLOCKS: [Segment; 2] = [FIRST_WITHOUT_BLOCKS, SECOND_WITHOUT_BLOCKS];
-
-static SIX_IN_SECOND: [Segment; 2] = [FIRST_WITHOUT_BLOCKS, SECOND_WITH_SIX];
 
 // What is at hand of a disk with both segments.
 fn at_hand() -> Disk {
     Disk {
-        laid: &DISK,
-        full: &[],
-        segments: &BOTH,
-        all: true,
+        laid: DISK,
+        more: "",
+        segments: &SEGMENTS,
+        held: "first second all",
     }
 }
 
 fn without_inodes() -> Disk {
     Disk {
-        segments: &BOTH_WITHOUT_INODES,
+        held: "first_without_inodes second_without_inodes all",
         ..at_hand()
     }
 }
@@ -112,8 +114,8 @@ fn without_inodes() -> Disk {
 // The directory `e` is full.
 fn without_blocks() -> Disk {
     Disk {
-        full: &[6],
-        segments: &BOTH_WITHOUT_BLOCKS,
+        more: "full 6",
+        held: "first_without_blocks second_without_blocks all",
         ..at_hand()
     }
 }
@@ -121,7 +123,7 @@ fn without_blocks() -> Disk {
 // The directory `d` is full.
 fn clear_in_first() -> Disk {
     Disk {
-        full: &[5],
+        more: "full 5",
         ..at_hand()
     }
 }
@@ -129,49 +131,29 @@ fn clear_in_first() -> Disk {
 // The directory `e` is full.
 fn clear_in_second() -> Disk {
     Disk {
-        full: &[6],
-        segments: &SIX_IN_SECOND,
+        more: "full 6",
+        held: "first_without_blocks second_with_six all",
         ..at_hand()
     }
 }
 
+fn expect_locks(rt: &impl Abort, alloc: Global, disk: &Disk, rows: &str) -> Result<(), Fail> {
+    expect(rt, alloc, disk, Telling::Locks, rows)
+}
+
 #[test]
 fn finished_lines_need_the_locks_worked_out(rt: HostRuntime) -> Result<(), Fail> {
-    expect(&rt, rt.alloc(), at_hand(), Telling::Locks, &ROWS)
+    expect_locks(&rt, rt.alloc(), &at_hand(), ROWS)
 }
 
 #[test]
 fn a_full_disk_needs_each_segment(rt: HostRuntime) -> Result<(), Fail> {
-    expect(
-        &rt,
-        rt.alloc(),
-        without_inodes(),
-        Telling::Locks,
-        &INODE_ROWS,
-    )?;
-    expect(
-        &rt,
-        rt.alloc(),
-        without_blocks(),
-        Telling::Locks,
-        &BLOCK_ROWS,
-    )
+    expect_locks(&rt, rt.alloc(), &without_inodes(), INODE_ROWS)?;
+    expect_locks(&rt, rt.alloc(), &without_blocks(), BLOCK_ROWS)
 }
 
 #[test]
 fn lines_that_have_a_block_cleared_need_the_locks_worked_out(rt: HostRuntime) -> Result<(), Fail> {
-    expect(
-        &rt,
-        rt.alloc(),
-        clear_in_first(),
-        Telling::Locks,
-        &FIRST_ROWS,
-    )?;
-    expect(
-        &rt,
-        rt.alloc(),
-        clear_in_second(),
-        Telling::Locks,
-        &SECOND_ROWS,
-    )
+    expect_locks(&rt, rt.alloc(), &clear_in_first(), FIRST_ROWS)?;
+    expect_locks(&rt, rt.alloc(), &clear_in_second(), SECOND_ROWS)
 }

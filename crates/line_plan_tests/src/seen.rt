@@ -1,17 +1,14 @@
 // Sectors that were seen against those that are cached later, the nodes among sectors, and sets of locks.
 use frang_base::{LockId, Mode, Sector};
 use meta_version::Sectors;
-use plan_disks::{Laid, block_of, sectors_of};
+use plan_disks::sectors_of;
 use plan_locks::{Comparison, LockSet, Seen, nodes_in};
 use std::process::Abort;
 use std::test::Fail;
+use test_tables::block_of;
 
 // Sectors 3, 5 and 7 in versions 300, 2 and 1.
-static CACHED: [Laid; 3] = [
-    (3, 1, &[(0, &[44, 1])]),
-    (5, 1, &[(0, &[2])]),
-    (7, 1, &[(0, &[1])]),
-];
+const CACHED: &str = "3 0:2c01; 5 0:02; 7 0:01";
 
 // Looks at two of the sectors, and again at one that has got newer.
 fn sees_again(rt: &impl Abort, sectors: &mut Sectors, seen: &mut Seen) -> Result<(), Fail> {
@@ -20,7 +17,7 @@ fn sees_again(rt: &impl Abort, sectors: &mut Sectors, seen: &mut Seen) -> Result
     assert!(rt; seen.has(Sector(3)));
     assert!(rt; !seen.has(Sector(5)));
     assert!(rt; seen.compare(sectors) == Comparison::HasGoneThrough);
-    sectors.set(Sector(3), block_of(0, &[(0, &[45, 1])]))?;
+    sectors.set(Sector(3), block_of(0, "0:2d01"))?;
     seen.add(sectors, Sector(3))?;
     assert!(rt; seen.compare(sectors) == Comparison::HasMoved);
     Ok(())
@@ -28,7 +25,7 @@ fn sees_again(rt: &impl Abort, sectors: &mut Sectors, seen: &mut Seen) -> Result
 
 #[test]
 fn sectors_are_seen_once(rt: HostRuntime) -> Result<(), Fail> {
-    let mut sectors = sectors_of(rt.alloc(), &CACHED)?;
+    let mut sectors = sectors_of(rt.alloc(), CACHED)?;
     let mut seen = Seen::new(rt.alloc());
     sees_again(&rt, &mut sectors, &mut seen)
 }
@@ -36,7 +33,7 @@ fn sectors_are_seen_once(rt: HostRuntime) -> Result<(), Fail> {
 // Of three seen sectors the second gets another version, and then the others go.
 fn compares(rt: &impl Abort, sectors: &mut Sectors, seen: &mut Seen) -> Result<(), Fail> {
     seen.add_all(sectors, &[Sector(7), Sector(3), Sector(5)])?;
-    sectors.set(Sector(3), block_of(0, &[(0, &[44])]))?;
+    sectors.set(Sector(3), block_of(0, "0:2c"))?;
     sectors.remove(Sector(5));
     assert!(rt; seen.compare(sectors) == Comparison::HasMoved);
     sectors.remove(Sector(7));
@@ -46,7 +43,7 @@ fn compares(rt: &impl Abort, sectors: &mut Sectors, seen: &mut Seen) -> Result<(
 
 #[test]
 fn seen_sectors_are_compared_in_their_order(rt: HostRuntime) -> Result<(), Fail> {
-    let mut sectors = sectors_of(rt.alloc(), &CACHED)?;
+    let mut sectors = sectors_of(rt.alloc(), CACHED)?;
     let mut seen = Seen::new(rt.alloc());
     compares(&rt, &mut sectors, &mut seen)
 }

@@ -4,6 +4,7 @@ use frang_base::{Change, NoMemory, OpNo, Patch, Sector};
 use log_record::{decode, encode};
 use std::alloc::Global;
 use std::test::Fail;
+use test_tables::lay;
 
 // Two changes. Sector 5 becomes version 3, bytes 8 and 9 become 1 and 0 and byte 16 becomes 7; sector 258 becomes version 2^56, and
 // byte 511 becomes 9.
@@ -12,25 +13,11 @@ static BODY: [u8; 54] = [
     2, 1, 0, 0, 0, 0, 0, 0, 0, 0, 0, 0, 0, 0, 0, 1, 1, 0, 255, 1, 1, 0, 9,
 ];
 
-// A byte of the body, zero where there are no more, unless one of these stands at its place.
-fn byte_at(place: usize, edits: &[(usize, u8)]) -> u8 {
-    for (at, byte) in edits {
-        if *at == place {
-            return *byte;
-        }
-    }
-    match BODY.get(place) {
-        Some(byte) => *byte,
-        None => 0,
-    }
-}
-
-// The first bytes of the body, zeros where there are no more, and these bytes put at their places.
-fn edited(alloc: Global, len: usize, edits: &[(usize, u8)]) -> Result<Vec<u8>, NoMemory> {
-    let mut bytes = Vec::new(alloc);
-    for place in 0..len {
-        bytes.push(byte_at(place, edits))?;
-    }
+// The first bytes of the body, zeros where there are no more, and these pieces laid over them.
+fn edited(alloc: Global, len: usize, edits: &str) -> Result<Vec<u8>, NoMemory> {
+    let mut bytes = BODY.as_slice().to_vec(alloc)?;
+    bytes.resize(len, 0)?;
+    lay(&mut bytes, edits);
     Ok(bytes)
 }
 
@@ -67,29 +54,29 @@ fn again(alloc: Global, bytes: &[u8]) -> Result<Option<Vec<u8>>, NoMemory> {
 }
 
 // What the bytes are, how many there are, what is edited of them, and whether they are a record's.
-static BODIES: [(&str, usize, &[(usize, u8)], bool); 22] = [
-    ("as it is", 54, &[], true),
-    ("no bytes", 0, &[], false),
-    ("half a number", 1, &[], false),
-    ("no changes", 2, &[(0, 0)], false),
-    ("one change", 31, &[(0, 1)], true),
-    ("a change too few", 54, &[(0, 3)], false),
-    ("a byte left over", 55, &[], false),
-    ("a byte cut off", 53, &[], false),
-    ("the sector before", 54, &[(31, 4), (32, 0)], false),
-    ("the same sector", 54, &[(31, 5), (32, 0)], false),
-    ("the next sector", 54, &[(31, 6), (32, 0)], true),
-    ("the last sector", 54, &[(37, 127)], true),
-    ("no sector", 54, &[(37, 128)], false),
-    ("no patches", 49, &[(47, 0)], false),
-    ("in the version", 54, &[(20, 7)], false),
-    ("touching", 54, &[(26, 10)], true),
-    ("overlapping", 54, &[(26, 9)], false),
-    ("descending patches", 54, &[(20, 20)], false),
-    ("a patch of no bytes", 53, &[(51, 0)], false),
-    ("up to the end", 55, &[(49, 254), (51, 2)], true),
-    ("past the end", 55, &[(51, 2)], false),
-    ("behind the end", 54, &[(49, 0), (50, 2)], false),
+static BODIES: [(&str, usize, &str, bool); 22] = [
+    ("as it is", 54, "", true),
+    ("no bytes", 0, "", false),
+    ("half a number", 1, "", false),
+    ("no changes", 2, "0:00", false),
+    ("one change", 31, "0:01", true),
+    ("a change too few", 54, "0:03", false),
+    ("a byte left over", 55, "", false),
+    ("a byte cut off", 53, "", false),
+    ("the sector before", 54, "31:04 32:00", false),
+    ("the same sector", 54, "31:05 32:00", false),
+    ("the next sector", 54, "31:06 32:00", true),
+    ("the last sector", 54, "37:7f", true),
+    ("no sector", 54, "37:80", false),
+    ("no patches", 49, "47:00", false),
+    ("in the version", 54, "20:07", false),
+    ("touching", 54, "26:0a", true),
+    ("overlapping", 54, "26:09", false),
+    ("descending patches", 54, "20:14", false),
+    ("a patch of no bytes", 53, "51:00", false),
+    ("up to the end", 55, "49:fe 51:02", true),
+    ("past the end", 55, "51:02", false),
+    ("behind the end", 54, "49:00 50:02", false),
 ];
 
 // The bytes are read where they are a record's, and written as they were.

@@ -6,52 +6,10 @@ use log_reading::{greatest_operation, read_log};
 use std::alloc::Global;
 use std::process::Abort;
 use std::test::Fail;
+use test_tables::{columns, is_row, number, split};
 
-/// What is laid over a log of zeros, which holds the numbers 0 to 255.
-pub(crate) enum Piece {
-    /// Empty sectors, from one number up to another.
-    Empty(u64, u64),
-    /// Packed sectors from a number on, with one frame: its operation and the length of its body.
-    One(u64, u64, u16),
-    /// The same, with two frames.
-    Two(u64, u64, u16, u64, u16),
-    /// The same, with so many frames, at most 5: of operations 1, 2 and so on, each with a body of 100 bytes.
-    Alike(u64, usize),
-    /// The same, with frames of operations 1, 2 and 3 and bodies of 100, 200 and 300 bytes.
-    Longer(u64),
-    /// A packed sector in which the first frame begins at this place, with the next so many bytes of a frame of operation 7 and a body of 100 bytes: the
-    /// first 60, or else the last 50.
-    Bytes(u64, u16, u16),
-    /// A packed sector: the head of a frame of operation 9 with this length and a body of 3 bytes that is none, and a frame of operation 8.
-    Head(u64, u16),
-    /// All sectors of a record with sectors of its own, from a number on: its operation, and how many parts it has.
-    Record(u64, u64, u16),
-    /// One sector of a record, with a number: the operation, the part, and how many parts there are.
-    Part(u64, u64, u16, u16),
-    /// The only sector of a record of this operation, whose body is that of none.
-    NoBody(u64, u64),
-    /// An empty sector with a number, in any slot.
-    Placed(u64, usize),
-    /// No sectors, from one slot up to another.
-    Garbage(usize, usize),
-    /// The slot of this number as it was at first: the sector didn't arrive.
-    Lacks(u64),
-}
-
-/// The place of the first frame in a sector where none begins.
-pub(crate) const NONE: u16 = 65_535;
-
-const ALIKE: [(u64, u16); 5] = [(1, 100), (2, 100), (3, 100), (4, 100), (5, 100)];
-
-const LONGER: [(u64, u16); 3] = [(1, 100), (2, 200), (3, 300)];
-
-/// A log, the end that it has, and the operations of its records.
-pub(crate) struct Row {
-    pub name: &'static str,
-    pub pieces: &'static [Piece],
-    pub end: u64,
-    pub operations: &'static [u64],
-}
+// The place of the first frame in a sector where none begins.
+const NONE: u16 = 65_535;
 
 fn push_sevens(bytes: &mut Vec<u8>, count: u16) -> Result<(), NoMemory> {
     bytes.resize(bytes.len().saturating_add(usize::from(count)), 7)?;
@@ -88,13 +46,13 @@ fn push_frame(alloc: Global, bytes: &mut Vec<u8>, op: u64, len: u16) -> Result<(
     add(bytes, &body)
 }
 
-// Frames one behind the other, and where each begins.
-fn stream(alloc: Global, frames: &[(u64, u16)]) -> Result<(Vec<u8>, Vec<usize>), NoMemory> {
+// Frames one behind the other, by the operation and the length of the body of each, and where each begins.
+fn stream(alloc: Global, frames: &[u64]) -> Result<(Vec<u8>, Vec<usize>), NoMemory> {
     let mut bytes = Vec::new(alloc);
     let mut begins = Vec::new(alloc);
-    for (op, len) in frames {
+    for frame in frames.chunks(2) {
         begins.push(bytes.len())?;
-        push_frame(alloc, &mut bytes, *op, *len)?;
+        push_frame(alloc, &mut bytes, at(frame, 0), small_at(frame, 1))?;
     }
     Ok((bytes, begins))
 }
@@ -110,12 +68,7 @@ fn first_in(begins: &[usize], from: usize) -> u16 {
 }
 
 // Packed sectors of these frames, the first with this number.
-fn lay_run(
-    alloc: Global,
-    slots: &mut [Block],
-    first: u64,
-    frames: &[(u64, u16)],
-) -> Result<(), NoMemory> {
+fn lay_run(alloc: Global, slots: &mut [Block], first: u64, frames: &[u64]) -> Result<(), NoMemory> {
     let (bytes, begins) = stream(alloc, frames)?;
     for piece in 0..bytes.len().div_ceil(LOG_BODY_BYTES).min(20) {
         let from = LOG_BODY_BYTES * piece;
@@ -127,7 +80,8 @@ fn lay_run(
     Ok(())
 }
 
-// The sector of `Bytes`.
+// A packed sector in which the first frame begins at this place, with the next so many bytes of a frame of operation 7 and a body of 100 bytes: the first
+// 60, or else the last 50.
 fn lay_bytes(
     alloc: Global,
     slots: &mut [Block],
@@ -144,7 +98,7 @@ fn lay_bytes(
     Ok(())
 }
 
-// The sector of `Head`.
+// A packed sector: the head of a frame of operation 9 with this length and a body of 3 bytes that is none, and a frame of operation 8.
 fn lay_head(alloc: Global, slots: &mut [Block], number: u64, len: u16) -> Result<(), NoMemory> {
     let mut bytes = Vec::new(alloc);
     add(&mut bytes, b"\x09\0\0\0\0\0\0\0")?;
@@ -215,40 +169,81 @@ fn put_no_body(slots: &mut [Block], number: u64, op: u64) {
     put(slots, slot_of(number), block);
 }
 
+// The number at a place, 0 where there is none.
+fn at(numbers: &[u64], place: usize) -> u64 {
+    numbers.get(place).copied().unwrap_or(0)
+}
+
+fn small_at(numbers: &[u64], place: usize) -> u16 {
+    at(numbers, place).min(65_535) as u16
+}
+
+// The slot that a number tells.
+fn slot_at(numbers: &[u64], place: usize) -> usize {
+    at(numbers, place).min(LOG_SECTORS) as usize
+}
+
 // A piece whose bytes take memory.
-fn lay_made(alloc: Global, slots: &mut [Block], piece: &Piece) -> Result<(), NoMemory> {
-    match piece {
-        Piece::One(first, op, len) => lay_run(alloc, slots, *first, &[(*op, *len)]),
-        Piece::Two(first, op, len, other, more) => {
-            lay_run(alloc, slots, *first, &[(*op, *len), (*other, *more)])
-        }
-        Piece::Alike(first, count) => lay_run(alloc, slots, *first, &ALIKE[..(*count).min(5)]),
-        Piece::Longer(first) => lay_run(alloc, slots, *first, &LONGER),
-        Piece::Record(first, op, parts) => lay_record(alloc, slots, *first, *op, *parts),
-        Piece::Bytes(number, begins, len) => lay_bytes(alloc, slots, *number, *begins, *len),
-        Piece::Head(number, len) => lay_head(alloc, slots, *number, *len),
-        Piece::Part(number, op, part, parts) => lay_part(alloc, slots, *number, *op, *part, *parts),
+fn lay_made(alloc: Global, slots: &mut [Block], word: &str, n: &[u64]) -> Result<(), NoMemory> {
+    let first = at(n, 0);
+    match word {
+        "frames" => lay_run(alloc, slots, first, n.get(1..).unwrap_or(&[])),
+        "record" => lay_record(alloc, slots, first, at(n, 1), small_at(n, 2)),
+        "part" => lay_part(
+            alloc,
+            slots,
+            first,
+            at(n, 1),
+            small_at(n, 2),
+            small_at(n, 3),
+        ),
+        "bytes" => lay_bytes(alloc, slots, first, small_at(n, 1), small_at(n, 2)),
+        "head" => lay_head(alloc, slots, first, small_at(n, 1)),
         _ => Ok(()),
     }
 }
 
-fn lay(alloc: Global, slots: &mut [Block], piece: &Piece) -> Result<(), NoMemory> {
-    match piece {
-        Piece::Empty(first, last) => lay_empty(slots, *first, *last),
-        Piece::Garbage(first, last) => lay_garbage(slots, *first, *last),
-        Piece::Placed(number, slot) => put_placed(slots, *number, *slot),
-        Piece::NoBody(number, op) => put_no_body(slots, *number, *op),
-        Piece::Lacks(number) => put(slots, slot_of(*number), [0; SECTOR_BYTES]),
-        _ => return lay_made(alloc, slots, piece),
+// The pieces of a log are laid over one of zeros, which holds the numbers 0 to 255, each by its word and its numbers:
+// - `empty 256 300`: empty sectors, from one number up to another.
+// - `frames 256 1 100 2 50`: packed sectors from a number on; each frame by its operation and the length of its body.
+// - `bytes 256 0 60` and `head 256 3`: as `lay_bytes` and `lay_head` say.
+// - `record 256 7 2`: all sectors of a record with sectors of its own, from a number on; its operation, and how many parts it has.
+// - `part 256 7 0 2`: one sector of a record, with a number; the operation, the part, and how many parts there are.
+// - `no_body 256 7`: the only sector of a record of this operation, whose body is that of none.
+// - `placed 256 5`: an empty sector with a number, in any slot.
+// - `garbage 5 9`: no sectors, from one slot up to another.
+// - `lacks 256`: the slot of this number as it was at first, since the sector didn't arrive.
+fn lay(alloc: Global, slots: &mut [Block], word: &str, n: &[u64]) -> Result<(), NoMemory> {
+    match word {
+        "empty" => lay_empty(slots, at(n, 0), at(n, 1)),
+        "garbage" => lay_garbage(slots, slot_at(n, 0), slot_at(n, 1)),
+        "placed" => put_placed(slots, at(n, 0), slot_at(n, 1)),
+        "no_body" => put_no_body(slots, at(n, 0), at(n, 1)),
+        "lacks" => put(slots, slot_of(at(n, 0)), [0; SECTOR_BYTES]),
+        _ => return lay_made(alloc, slots, word, n),
     }
     Ok(())
 }
 
+fn numbers_of(alloc: Global, words: &str) -> Result<Vec<u64>, NoMemory> {
+    let mut numbers = Vec::new(alloc);
+    for word in words.split_whitespace() {
+        numbers.push(number(word).unwrap_or(0))?;
+    }
+    Ok(numbers)
+}
+
+fn lay_piece(alloc: Global, slots: &mut [Block], piece: &str) -> Result<(), NoMemory> {
+    let (word, words) = split(piece.trim(), " ");
+    let numbers = numbers_of(alloc, words)?;
+    lay(alloc, slots, word, &numbers)
+}
+
 // The end of the log of these pieces, and its records.
-fn read(alloc: Global, pieces: &[Piece]) -> Result<Option<(u64, Vec<Redo>)>, NoMemory> {
+fn read(alloc: Global, pieces: &str) -> Result<Option<(u64, Vec<Redo>)>, NoMemory> {
     let mut slots = vec![in alloc; [0; SECTOR_BYTES]; LOG_SECTORS as usize]?;
-    for piece in pieces {
-        lay(alloc, &mut slots, piece)?;
+    for piece in pieces.split(',') {
+        lay_piece(alloc, &mut slots, piece)?;
     }
     if slots.len() != LOG_SECTORS as usize {
         return Ok(None);
@@ -268,17 +263,25 @@ fn are_records(records: &[Redo], operations: &[u64]) -> bool {
     records.len() == operations.len() && greatest_operation(records) == OpNo(greatest)
 }
 
-fn is_read(alloc: Global, row: &Row) -> Result<bool, NoMemory> {
-    Ok(match read(alloc, row.pieces)? {
-        Some((end, records)) => end == row.end && are_records(&records, row.operations),
+// The log of these pieces has this end and these records, told by their operations.
+fn is_read(alloc: Global, pieces: &str, told: &str) -> Result<bool, NoMemory> {
+    let (wanted, operations) = split(told, ":");
+    let operations = numbers_of(alloc, operations)?;
+    Ok(match read(alloc, pieces)? {
+        Some((end, records)) => {
+            number(wanted) == Some(end) && are_records(&records, &operations)
+        }
         None => false,
     })
 }
 
-/// Each of these logs is read as worked out.
-pub(crate) fn expect(rt: &impl Abort, alloc: Global, rows: &[Row]) -> Result<(), Fail> {
-    for row in rows {
-        assert!(rt; is_read(alloc, row)?, "{}", row.name);
+/// Each of these logs is read as worked out: a row has its name, its pieces, and its end with the operations of its records.
+pub(crate) fn expect(rt: &impl Abort, alloc: Global, rows: &str) -> Result<(), Fail> {
+    for row in rows.lines() {
+        if is_row(row) {
+            let (name, pieces, told) = columns(row);
+            assert!(rt; is_read(alloc, pieces, told)?, "{name}");
+        }
     }
     Ok(())
 }

@@ -5,8 +5,9 @@ use disk_replay::{greatest, replayed};
 use frang_base::{Block, NoMemory, OpNo, Sector, ServerId};
 use std::alloc::Global;
 use std::test::Fail;
+use test_tables::{block_of, lay_on, sector, split};
 
-const PARAMETERS: u64 = 0;
+const PARAMETER_SECTOR: u64 = 0;
 
 const LOG_0: u64 = 2_147_483_648;
 
@@ -24,24 +25,22 @@ const BLOCK_0: u64 = 12_884_901_888;
 
 const LARGE_0: u64 = 287_762_808_832;
 
-// The first bytes of a sector, with zeros behind them.
-type Row = (u64, &'static [u8]);
-
 // A change by one patch of one byte: the sector, the version, the byte's place and its value.
 type OneByte = (u64, u64, u16, u8);
 
-// A disk of 16 segments in its first run: the sectors that are set, but for the logs.
-static BEFORE: [Row; 5] = [
-    (PARAMETERS, b"FRANGPAR\x01\0\0\0\x10\0\0\0\x01"),
-    (SEGMENT_0, b"\x01\0\0\0\0\0\0\0\x05\x06"),
-    (INODE_1, b"\x01\0\0\0\0\0\0\0\x01\x02\x03\x04"),
-    (INODE_2, b"\x05\0\0\0\0\0\0\0\x07"),
-    (LARGE_0, b"bytes"),
-];
+// A disk of 16 segments in its first run: its parameters, and the other sectors that are set, but for the logs.
+const PARAMETERS: &str = "0 0:'FRANGPAR 8:010000001000000001";
+
+const BEFORE: &str = "
+k0 0:01000000000000000506
+i1 0:010000000000000001020304
+i2 0:050000000000000007
+l0 0:'bytes
+";
 
 // The first record of log 0. Replays change its third, fifth and seventh sector, but the sixth is as new.
 static MANY: [OneByte; 8] = [
-    (PARAMETERS, u64::MAX, 16, 2),
+    (PARAMETER_SECTOR, u64::MAX, 16, 2),
     (LOG_0 + 9, 9, 8, 1),
     (SEGMENT_0, 2, 8, 0x20),
     (SEGMENT_16, 9, 8, 1),
@@ -57,26 +56,19 @@ static SECOND: [OneByte; 1] = [(INODE_1, 3, 9, 0x23)];
 static OTHER: [OneByte; 1] = [(INODE_1, 4, 10, 0x24)];
 
 // What those sectors and the logs hold once all is replayed. Inode 1 was changed by three records, in their order.
-static AFTER: [Row; 10] = [
-    (PARAMETERS, b"FRANGPAR\x01\0\0\0\x10\0\0\0\x01"),
-    (LOG_0, b""),
-    (LOG_0 + 1, b""),
-    (LOG_0 + 9, b""),
-    (LOG_255, b""),
-    (SEGMENT_0, b"\x02\0\0\0\0\0\0\0\x20\x06"),
-    (SEGMENT_16, b""),
-    (INODE_1, b"\x04\0\0\0\0\0\0\0\x21\x23\x24\x04"),
-    (INODE_2, b"\x05\0\0\0\0\0\0\0\x07"),
-    (LARGE_0, b"bytes"),
-];
-
-fn block_of(bytes: &[u8]) -> Block {
-    let mut block = [0; 512];
-    for (there, byte) in block.iter_mut().zip(bytes) {
-        *there = *byte;
-    }
-    block
-}
+const AFTER: &str = "
+0 0:'FRANGPAR 8:010000001000000001
+2147483648
+2147483649
+2147483657
+4286578688
+k0 0:02000000000000002006
+k16
+i1 0:040000000000000021232404
+i2 0:050000000000000007
+s0 0:01 511:22
+l0 0:'bytes
+";
 
 fn push_change(bytes: &mut Vec<u8>, change: &OneByte) -> Result<(), NoMemory> {
     let (sector, version, place, byte) = *change;
@@ -110,17 +102,11 @@ fn set(disk: &mut Disk, sector: u64, block: Block) -> Result<(), NoMemory> {
     disk.set(Sector(sector), block)
 }
 
-fn set_rows(disk: &mut Disk, rows: &[Row]) -> Result<(), NoMemory> {
-    for (sector, bytes) in rows {
-        set(disk, *sector, block_of(bytes))?;
-    }
-    Ok(())
-}
-
 // The disk with two records in log 0 and one in log 255, as an older program wrote them.
 fn with_logs(alloc: Global) -> Result<Disk, NoMemory> {
     let mut disk = Disk::new(alloc);
-    set_rows(&mut disk, &BEFORE)?;
+    lay_on(&mut disk, PARAMETERS)?;
+    lay_on(&mut disk, BEFORE)?;
     set(&mut disk, LOG_0, record(alloc, 256, 5, &MANY)?)?;
     set(&mut disk, LOG_0 + 1, record(alloc, 257, 4, &SECOND)?)?;
     set(&mut disk, LOG_255, record(alloc, 256, 9, &OTHER)?)?;
@@ -152,26 +138,28 @@ fn with_packed_log(alloc: Global) -> Result<Disk, NoMemory> {
     Ok(disk)
 }
 
-// The first of the sectors that isn't as in its row.
-fn first_other(disk: &Disk, rows: &[Row]) -> Option<u64> {
-    for (sector, bytes) in rows {
-        if disk.get(Sector(*sector)) != block_of(bytes) {
-            return Some(*sector);
-        }
+// Whether a line's sector has the pieces that it tells, and zeros else.
+fn is_so(disk: &Disk, line: &str) -> bool {
+    let (word, pieces) = split(line, " ");
+    match sector(word) {
+        Some(number) => disk.get(Sector(number)) == block_of(0, pieces),
+        None => line.is_empty(),
     }
-    None
 }
 
-// Small block 0 as the replay leaves it: in version 1, with its last byte set.
-fn replayed_block() -> Block {
-    let mut block = block_of(b"\x01");
-    block[511] = 0x22;
-    block
+// Whether all sectors of a text are as its lines tell.
+fn are_so(disk: &Disk, text: &str) -> bool {
+    for line in text.lines() {
+        if !is_so(disk, line) {
+            return false;
+        }
+    }
+    true
 }
 
 // What the replay of a disk holds is as worked out.
 fn is_as_worked_out(once: &Disk) -> bool {
-    first_other(once, &AFTER).is_none() && once.get(Sector(BLOCK_0)) == replayed_block()
+    are_so(once, AFTER)
 }
 
 // Servers, and the greatest operations of their logs.
@@ -224,19 +212,19 @@ fn packed_logs_are_replayed_in_their_order(rt: HostRuntime) -> Result<(), Fail> 
 }
 
 // What is otherwise without parameters.
-static UNCHANGED: [Row; 4] = [
-    (PARAMETERS, b"FRANGPAR\x02"),
-    (LOG_0, b""),
-    (LOG_255, b""),
-    (BLOCK_0, b""),
-];
+const UNCHANGED: &str = "
+0 0:'FRANGPAR 8:02
+2147483648
+4286578688
+s0
+";
 
 #[test]
 fn without_parameters_no_change_is_made(rt: HostRuntime) -> Result<(), Fail> {
     let mut disk = with_logs(rt.alloc())?;
-    set(&mut disk, PARAMETERS, block_of(b"FRANGPAR\x02"))?;
+    set(&mut disk, PARAMETER_SECTOR, block_of(0, "0:'FRANGPAR 8:02"))?;
     let once = replay(rt.alloc(), &disk)?;
-    assert!(rt; first_other(&once, &BEFORE[1..]).is_none());
-    assert!(rt; first_other(&once, &UNCHANGED).is_none());
+    assert!(rt; are_so(&once, BEFORE));
+    assert!(rt; are_so(&once, UNCHANGED));
     Ok(())
 }

@@ -5,15 +5,15 @@ use plan_disks::{Segment, held_of};
 use std::alloc::Global;
 use std::test::Fail;
 
-// Held segments; the inode, the small block for bytes, that for a directory and the large block that are picked; and three small blocks.
-type Row = (&'static [Segment], [Option<u32>; 4], Option<&'static [u32]>);
+// The names of held segments; the inode, the small block for bytes, that for a directory and the large block that are picked; and three small blocks.
+type Row = (&'static str, [Option<u32>; 4], Option<&'static [u32]>);
 
 const FULL: Segment = Segment {
     number: 0,
     version: 1,
     inodes: u64::MAX,
     others: 0b01_01_01_01,
-    states: &[],
+    states: "",
     large: true,
 };
 
@@ -25,7 +25,7 @@ const BEGUN: Segment = Segment {
     version: 1,
     inodes: 31,
     others: 0,
-    states: &[(0, &[0b01_00_11_01])],
+    states: "0:4d",
     large: false,
 };
 
@@ -42,7 +42,7 @@ const FORMER: Segment = Segment {
     version: 1,
     inodes: 0b101,
     others: 0b01_01_01_01,
-    states: &[(0, &[0b11_01_01_01, 0b01_10_01_01])],
+    states: "0:d565",
     large: true,
 };
 
@@ -51,26 +51,36 @@ const FORMER_LAST: Segment = Segment {
     ..FORMER
 };
 
+static SEGMENTS: [(&str, Segment); 7] = [
+    ("full", FULL),
+    ("last_full", LAST_FULL),
+    ("begun", BEGUN),
+    ("begun_fourth", BEGUN_FOURTH),
+    ("begun_last", BEGUN_LAST),
+    ("former", FORMER),
+    ("former_last", FORMER_LAST),
+];
+
 static PICKS: [Row; 6] = [
-    (&[], [None, None, None, None], None),
-    (&[FULL, LAST_FULL], [None, None, None, None], None),
+    ("", [None, None, None, None], None),
+    ("full last_full", [None, None, None, None], None),
     (
-        &[FULL, BEGUN],
+        "full begun",
         [Some(69), Some(1026), Some(1026), Some(1)],
         Some(&[1026, 1028, 1029]),
     ),
     (
-        &[BEGUN_FOURTH, FORMER],
+        "begun_fourth former",
         [Some(129), Some(3074), Some(2054), Some(3)],
         Some(&[3074, 3076, 3077]),
     ),
     (
-        &[FORMER_LAST, FULL],
+        "former_last full",
         [Some(4033), None, Some(64518), None],
         None,
     ),
     (
-        &[BEGUN_LAST],
+        "begun_last",
         [Some(4037), Some(64514), Some(64514), Some(63)],
         Some(&[64514, 64516, 64517]),
     ),
@@ -79,7 +89,7 @@ static PICKS: [Row; 6] = [
 // Whether the picks are those of the row.
 fn are_picked(alloc: Global, row: &Row) -> Result<bool, NoMemory> {
     let (segments, picks, three) = *row;
-    let held = held_of(alloc, segments)?;
+    let held = held_of(alloc, &SEGMENTS, segments)?;
     let small = pick_small(&held, Use::Bytes);
     let directory = pick_small(&held, Use::Directory);
     let picked = [pick_inode(&held), small, directory, pick_large(&held)];

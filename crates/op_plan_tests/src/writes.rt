@@ -1,6 +1,6 @@
 // Writes and fills over a small disk whose sectors were worked out by hand: the edits, and what is said where something is missing.
-use crate::bytes_asked::{Asked, NOTHING, Row, Telling, WHEN, expect};
-use plan_disks::{Filled, Laid, Segment};
+use crate::bytes_asked::{Setup, Telling, expect};
+use plan_disks::Segment;
 use std::test::Fail;
 
 // A segment of which blocks 4, 6 and 7 and the large one are free; blocks 0 and 1 are or were a directory's.
@@ -9,281 +9,101 @@ const FEW: Segment = Segment {
     version: 1,
     inodes: u64::MAX,
     others: 0b01_01_01_01,
-    states: &[(0, &[0b01_01_10_11, 0b00_00_01_00])],
+    states: "0:5b04",
     large: false,
 };
 
 // A segment of which nothing is free; blocks 2 and 3 are or were a directory's.
 const FULL: Segment = Segment {
-    states: &[(0, &[0b11_10_01_01])],
+    states: "0:e5",
     large: true,
     ..FEW
 };
 
+static SEGMENTS: [(&str, Segment); 2] = [("few", FEW), ("full", FULL)];
+
 // The root in block 0. /a has the bytes `abcde` in block 2, /e is empty, /k has 65,536 bytes in blocks 32 to 47, and /g two more than these,
 // in blocks 16 to 31 and large block 3; /d is a directory, /l a link. The inode of /m isn't cached, that of /f is free, and that of /x is a
 // link's, though its entry says that it is a file's.
-static LAID: [Laid; 13] = [
-    (12_884_901_888, 8, &[]),
-    (
-        12_884_901_888,
-        1,
-        &[
-            (8, &[1, 0, 0, 0, 1, 1, b'a']),
-            (80, &[2, 0, 0, 0, 1, 1, b'e']),
-            (152, &[3, 0, 0, 0, 1, 2, b'd']),
-            (224, &[4, 0, 0, 0, 1, 3, b'l']),
-            (296, &[5, 0, 0, 0, 1, 1, b'g']),
-            (368, &[6, 0, 0, 0, 1, 1, b'm']),
-            (440, &[7, 0, 0, 0, 1, 1, b'f']),
-        ],
-    ),
-    (
-        12_884_901_889,
-        1,
-        &[
-            (8, &[8, 0, 0, 0, 1, 1, b'k']),
-            (80, &[9, 0, 0, 0, 1, 1, b'x']),
-        ],
-    ),
-    (10_737_418_240, 1, &[(8, &[2, 0, 1, 0, 1, 0, 0, 0, 9])]),
-    (
-        10_737_418_241,
-        1,
-        &[(8, &[1, 0, 1, 0, 1, 0, 0, 0, 5]), (32, &[2])],
-    ),
-    (10_737_418_242, 1, &[(8, &[1, 0, 1])]),
-    (10_737_418_243, 1, &[(8, &[2, 0, 1])]),
-    (
-        10_737_418_244,
-        1,
-        &[(8, &[3, 0, 1, 0, 0, 0, 0, 0, 3]), (128, b"a/b")],
-    ),
-    (
-        10_737_418_245,
-        1,
-        &[
-            (8, &[1, 0, 1, 0, 16, 0, 0, 0, 2, 0, 1]),
-            (32, &[16, 0, 0, 0, 17, 0, 0, 0, 18, 0, 0, 0, 19, 0, 0, 0]),
-            (48, &[20, 0, 0, 0, 21, 0, 0, 0, 22, 0, 0, 0, 23, 0, 0, 0]),
-            (64, &[24, 0, 0, 0, 25, 0, 0, 0, 26, 0, 0, 0, 27, 0, 0, 0]),
-            (80, &[28, 0, 0, 0, 29, 0, 0, 0, 30, 0, 0, 0, 31, 0, 0, 0, 4]),
-        ],
-    ),
-    (10_737_418_247, 1, &[]),
-    (
-        10_737_418_248,
-        1,
-        &[
-            (8, &[1, 0, 1, 0, 16, 0, 0, 0, 0, 0, 1]),
-            (32, &[32, 0, 0, 0, 33, 0, 0, 0, 34, 0, 0, 0, 35, 0, 0, 0]),
-            (48, &[36, 0, 0, 0, 37, 0, 0, 0, 38, 0, 0, 0, 39, 0, 0, 0]),
-            (64, &[40, 0, 0, 0, 41, 0, 0, 0, 42, 0, 0, 0, 43, 0, 0, 0]),
-            (80, &[44, 0, 0, 0, 45, 0, 0, 0, 46, 0, 0, 0, 47]),
-        ],
-    ),
-    (
-        10_737_418_249,
-        1,
-        &[(8, &[3, 0, 1, 0, 0, 0, 0, 0, 3]), (128, b"a/b")],
-    ),
-    (12_884_901_904, 1, &[(0, b"abcde")]),
-];
+const DISK: &str = "
+s0+8
+s0 8:010000000101'a 80:020000000101'e 152:030000000102'd 224:040000000103'l 296:050000000101'g 368:060000000101'm 440:070000000101'f
+s0.1 8:080000000101'k 80:090000000101'x
+i0 8:020001000100000009
+i1 8:010001000100000005 32:02
+i2 8:010001
+i3 8:020001
+i4 8:030001000000000003 128:'a/b
+i5 8:0100010010000000020001 32:10000000110000001200000013000000 48:14000000150000001600000017000000 64:18000000190000001a0000001b000000 \
+    80:1c0000001d0000001e0000001f00000004
+i7
+i8 8:0100010010000000000001 32:20000000210000002200000023000000 48:24000000250000002600000027000000 64:28000000290000002a0000002b000000 \
+    80:2c0000002d0000002e0000002f
+i9 8:030001000000000003 128:'a/b
+s2 0:'abcde
+l3=07 0:'yz
+";
 
-static FILLED: [Filled; 1] = [(294_205_259_776, 7, &[(0, b"yz")])];
+// What is told of plans over it.
+fn setup() -> Setup {
+    Setup {
+        disk: DISK,
+        segments: &SEGMENTS,
+        telling: Telling::Edits,
+    }
+}
 
-static WRITTEN: [Row; 25] = [
-    (
-        Asked::Write("/a", 1, "XY"),
-        NOTHING,
-        WHEN,
-        "ok i1:1,1,5,1,2,0,0 at 3.600 s2.0:6158596465(00*507)",
-    ),
-    (
-        Asked::Write("/a", 0, "vwxyz"),
-        NOTHING,
-        WHEN,
-        "ok i1:1,1,5,1,2,0,0 at 3.600 s2.0:767778797a(00*507)",
-    ),
-    (
-        Asked::Write("/a", 5, "ff"),
-        NOTHING,
-        WHEN,
-        "ok i1:1,1,7,1,2,0,0 at 3.600 s2.0:61626364656666(00*505)",
-    ),
-    (Asked::Write("/a", 6, "x"), NOTHING, WHEN, "badoffset"),
-    (
-        Asked::Write("/a", 5, ""),
-        NOTHING,
-        WHEN,
-        "ok i1:1,1,5,1,2,0,0 at 3.600",
-    ),
-    (
-        Asked::Write("/e", 0, "hi"),
-        (&[FEW], false),
-        WHEN,
-        "ok u4:FileBytes i2:1,1,2,1,4,0,0 at 3.600 s4.0:6869(00*510)",
-    ),
-    (Asked::Write("/e", 0, "hi"), NOTHING, WHEN, "segments"),
-    (
-        Asked::Write("/e", 0, "hi"),
-        (&[FULL], false),
-        WHEN,
-        "segments",
-    ),
-    (
-        Asked::Write("/e", 0, "hi"),
-        (&[FULL], true),
-        WHEN,
-        "nospace data 2",
-    ),
-    (
-        Asked::Write("/e", 1, "hi"),
-        (&[FEW], false),
-        WHEN,
-        "badoffset",
-    ),
-    (Asked::Write("/d", 0, "x"), (&[FEW], false), WHEN, "isdir"),
-    (Asked::Write("/", 0, "x"), (&[FEW], false), WHEN, "isdir"),
-    (Asked::Write("/l", 0, "x"), (&[FEW], false), WHEN, "inval"),
-    (Asked::Write("/z", 0, "x"), (&[FEW], false), WHEN, "noent"),
-    (Asked::Write("/f", 0, "x"), (&[FEW], false), WHEN, "noent"),
-    (
-        Asked::Write("/a/b", 0, "x"),
-        (&[FEW], false),
-        WHEN,
-        "notdir",
-    ),
-    (
-        Asked::Write("/m", 0, "x"),
-        (&[FEW], false),
-        WHEN,
-        "needs 10737418246",
-    ),
-    (Asked::Write("/x", 0, "x"), (&[FEW], false), WHEN, "inval"),
-    (
-        Asked::Write("/g", 65_536, "AB"),
-        NOTHING,
-        WHEN,
-        "ok i5:1,1,65538,16,16,31,4 at 3.600 l3.0:4142(00*510)",
-    ),
-    (
-        Asked::Write("/g", 65_537, "B"),
-        NOTHING,
-        WHEN,
-        "ok i5:1,1,65538,16,16,31,4 at 3.600 l3.0:7942(07*510)",
-    ),
-    (
-        Asked::Write("/g", 65_538, "C"),
-        NOTHING,
-        WHEN,
-        "ok i5:1,1,65539,16,16,31,4 at 3.600 l3.0:797a43(07*509)",
-    ),
-    (
-        Asked::Write("/k", 65_536, "Q"),
-        (&[FEW], false),
-        WHEN,
-        "ok g0:true i8:1,1,65537,16,32,47,1 at 3.600 l0.0:51(00*511)",
-    ),
-    (
-        Asked::Write("/k", 65_536, "Q"),
-        (&[FULL], true),
-        WHEN,
-        "nospace large",
-    ),
-    (
-        Asked::Write("/k", 65_536, "Q"),
-        (&[FULL], false),
-        WHEN,
-        "segments",
-    ),
-    (
-        Asked::Write("/k", 65_535, "Q"),
-        (&[FULL], false),
-        WHEN,
-        "needs 12884902271",
-    ),
-];
+const WRITTEN: &str = "
+write /a 1 XY     | none     | ok i1:1,1,5,1,2,0,0 at 3.600 s2.0:6158596465(00*507)
+write /a 0 vwxyz  | none     | ok i1:1,1,5,1,2,0,0 at 3.600 s2.0:767778797a(00*507)
+write /a 5 ff     | none     | ok i1:1,1,7,1,2,0,0 at 3.600 s2.0:61626364656666(00*505)
+write /a 6 x      | none     | badoffset
+write /a 5        | none     | ok i1:1,1,5,1,2,0,0 at 3.600
+write /e 0 hi     | few      | ok u4:FileBytes i2:1,1,2,1,4,0,0 at 3.600 s4.0:6869(00*510)
+write /e 0 hi     | none     | segments
+write /e 0 hi     | full     | segments
+write /e 0 hi     | full all | nospace data 2
+write /e 1 hi     | few      | badoffset
+write /d 0 x      | few      | isdir
+write / 0 x       | few      | isdir
+write /l 0 x      | few      | inval
+write /z 0 x      | few      | noent
+write /f 0 x      | few      | noent
+write /a/b 0 x    | few      | notdir
+write /m 0 x      | few      | needs 10737418246
+write /x 0 x      | few      | inval
+write /g 65536 AB | none     | ok i5:1,1,65538,16,16,31,4 at 3.600 l3.0:4142(00*510)
+write /g 65537 B  | none     | ok i5:1,1,65538,16,16,31,4 at 3.600 l3.0:7942(07*510)
+write /g 65538 C  | none     | ok i5:1,1,65539,16,16,31,4 at 3.600 l3.0:797a43(07*509)
+write /k 65536 Q  | few      | ok g0:true i8:1,1,65537,16,32,47,1 at 3.600 l0.0:51(00*511)
+write /k 65536 Q  | full all | nospace large
+write /k 65536 Q  | full     | segments
+write /k 65535 Q  | full     | needs 12884902271
+";
 
 #[test]
 fn writes_to_a_small_disk(rt: HostRuntime) -> Result<(), Fail> {
-    expect(&rt, rt.alloc(), (&LAID, &FILLED), Telling::Edits, &WRITTEN)
+    expect(&rt, rt.alloc(), &setup(), WRITTEN)
 }
 
-static OF_ONE_BYTE: [Row; 13] = [
-    (
-        Asked::Fill("/e", 0, 513, 5),
-        (&[FEW], false),
-        WHEN,
-        "ok u4:FileBytes i2:1,1,513,1,4,0,0 at 3.600 s4.0:(05*512) s4.1:05(00*511)",
-    ),
-    (
-        Asked::Fill("/e", 0, 4097, 5),
-        (&[FEW], false),
-        WHEN,
-        "ok u4:FileBytes u6:FileBytes i2:1,1,4097,2,4,0,0 at 3.600 s4.0:(05*512) s4.1:(05*512) s4.2:(05*512) \
-         s4.3:(05*512) s4.4:(05*512) s4.5:(05*512) s4.6:(05*512) s4.7:(05*512) s6.0:05(00*511)",
-    ),
-    (
-        Asked::Fill("/e", 0, 12_289, 5),
-        (&[FEW], true),
-        WHEN,
-        "nospace data 2",
-    ),
-    (
-        Asked::Fill("/e", 0, 12_289, 5),
-        (&[FEW], false),
-        WHEN,
-        "segments",
-    ),
-    (
-        Asked::Fill("/a", 5, 1_114_107, 0),
-        NOTHING,
-        WHEN,
-        "segments",
-    ),
-    (Asked::Fill("/a", 5, 1_114_108, 0), NOTHING, WHEN, "toobig"),
-    (Asked::Fill("/a", 5, u32::MAX, 0), NOTHING, WHEN, "toobig"),
-    (
-        Asked::Fill("/a", 6, u32::MAX, 0),
-        NOTHING,
-        WHEN,
-        "badoffset",
-    ),
-    (
-        Asked::Fill("/a", 4, 600, 9),
-        NOTHING,
-        WHEN,
-        "ok i1:1,1,604,1,2,0,0 at 3.600 s2.0:61626364(09*508) s2.1:(09*92)(00*420)",
-    ),
-    (
-        Asked::Fill("/a", 1, 3, 7),
-        NOTHING,
-        WHEN,
-        "ok i1:1,1,5,1,2,0,0 at 3.600 s2.0:6107070765(00*507)",
-    ),
-    (
-        Asked::Fill("/a", 0, 0, 7),
-        NOTHING,
-        WHEN,
-        "ok i1:1,1,5,1,2,0,0 at 3.600",
-    ),
-    (
-        Asked::Fill("/k", 65_536, 1, 8),
-        (&[FEW], false),
-        WHEN,
-        "ok g0:true i8:1,1,65537,16,32,47,1 at 3.600 l0.0:08(00*511)",
-    ),
-    (Asked::Fill("/d", 0, 0, 8), (&[FEW], false), WHEN, "isdir"),
-];
+const OF_ONE_BYTE: &str = "
+fill /e 0 513 05        | few     | ok u4:FileBytes i2:1,1,513,1,4,0,0 at 3.600 s4.0:(05*512) s4.1:05(00*511)
+fill /e 0 4097 05       | few     | ok u4:FileBytes u6:FileBytes i2:1,1,4097,2,4,0,0 at 3.600 s4.0:(05*512) s4.1:(05*512) s4.2:(05*512) \
+    s4.3:(05*512) s4.4:(05*512) s4.5:(05*512) s4.6:(05*512) s4.7:(05*512) s6.0:05(00*511)
+fill /e 0 12289 05      | few all | nospace data 2
+fill /e 0 12289 05      | few     | segments
+fill /a 5 1114107 00    | none    | segments
+fill /a 5 1114108 00    | none    | toobig
+fill /a 5 4294967295 00 | none    | toobig
+fill /a 6 4294967295 00 | none    | badoffset
+fill /a 4 600 09        | none    | ok i1:1,1,604,1,2,0,0 at 3.600 s2.0:61626364(09*508) s2.1:(09*92)(00*420)
+fill /a 1 3 07          | none    | ok i1:1,1,5,1,2,0,0 at 3.600 s2.0:6107070765(00*507)
+fill /a 0 0 07          | none    | ok i1:1,1,5,1,2,0,0 at 3.600
+fill /k 65536 1 08      | few     | ok g0:true i8:1,1,65537,16,32,47,1 at 3.600 l0.0:08(00*511)
+fill /d 0 0 08          | few     | isdir
+";
 
 #[test]
 fn fills_of_a_small_disk(rt: HostRuntime) -> Result<(), Fail> {
-    expect(
-        &rt,
-        rt.alloc(),
-        (&LAID, &FILLED),
-        Telling::Edits,
-        &OF_ONE_BYTE,
-    )
+    expect(&rt, rt.alloc(), &setup(), OF_ONE_BYTE)
 }

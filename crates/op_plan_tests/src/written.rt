@@ -10,21 +10,21 @@ use edit_writing::{byte_writes, changes_of, freed_sectors, have_next_versions};
 use frang_base::NoMemory;
 use frang_base::limits::SECTOR_BYTES;
 use meta_version::Sectors;
-use plan_disks::{Laid, Segment, changes_told, freed_told, held_of, sectors_of, writes_told};
+use plan_disks::{Segment, add_changes, add_freed, add_writes, held_of, sectors_of};
 use plan_steps::Edit;
 use std::alloc::Global;
 use std::process::Abort;
 use std::test::Fail;
 
 // The cached sectors, the edits, and what they write.
-type Row = (&'static [Laid], &'static [Edit], &'static str);
+type Row = (&'static str, &'static [Edit], &'static str);
 
 const FIRST: Segment = Segment {
     number: 0,
     version: 1,
     inodes: 1,
     others: 0,
-    states: &[],
+    states: "",
     large: false,
 };
 
@@ -36,7 +36,7 @@ const SECOND: Segment = Segment {
 };
 
 // Both are held.
-static SEGMENTS: [Segment; 2] = [FIRST, SECOND];
+static SEGMENTS: [(&str, Segment); 2] = [("first", FIRST), ("second", SECOND)];
 
 // A file by line 2 of run 1. What stands in place of a target, and the version, count for nothing.
 const FILE: Inode = Inode {
@@ -139,24 +139,24 @@ const ONE_BIT: &[Edit] = &[Edit::Bit {
 }];
 
 // The root, inode 64 and the first sector of small block 5, and of segment 0, which is held, an older state.
-const CACHED: &[Laid] = &[
-    (10_737_418_240, 1, &[(0, &[1]), (8, &[2, 0, 1])]),
-    (10_737_418_304, 1, &[]),
-    (12_884_901_928, 1, &[(0, &[3])]),
-    (4_294_967_296, 1, &[(0, &[255; 512])]),
-];
+const CACHED: &str = "
+i0 0:01 8:020001
+i64
+s5 0:03
+k0=ff
+";
 
 // The root in a sector of the last version.
-const LAST_VERSION: &[Laid] = &[(10_737_418_240, 1, &[(0, &[255; 512])])];
+const LAST_VERSION: &str = "i0=ff";
 
 // What the edits write over the cached sectors.
-fn told(alloc: Global, cached: &[Laid], edits: &[Edit]) -> Result<String, NoMemory> {
+fn told(alloc: Global, cached: &str, edits: &[Edit]) -> Result<String, NoMemory> {
     let sectors = sectors_of(alloc, cached)?;
     told_over(alloc, &sectors, edits)
 }
 
 fn told_over(alloc: Global, sectors: &Sectors, edits: &[Edit]) -> Result<String, NoMemory> {
-    let held = held_of(alloc, &SEGMENTS)?;
+    let held = held_of(alloc, &SEGMENTS, "first second")?;
     let hand = Hand {
         sectors,
         held: &held,
@@ -172,28 +172,34 @@ fn told_at_hand(alloc: Global, hand: &Hand, edits: &[Edit]) -> Result<String, No
     if !have_next_versions(hand, edits) {
         return Ok(format!(in alloc; "a version has no next one")?);
     }
-    let mut text = changed(alloc, hand, edits)?;
-    text.push_str(&written(alloc, edits)?)?;
-    text.push_str(&freed(alloc, edits)?)?;
+    let mut text = String::new(alloc);
+    add_changed(alloc, &mut text, hand, edits)?;
+    add_written(alloc, &mut text, edits)?;
+    add_given_back(alloc, &mut text, edits)?;
     Ok(text)
 }
 
-fn changed(alloc: Global, hand: &Hand, edits: &[Edit]) -> Result<String, NoMemory>
+fn add_changed(
+    alloc: Global,
+    text: &mut String,
+    hand: &Hand,
+    edits: &[Edit],
+) -> Result<(), NoMemory>
     requires segments { AreSegments hand.now.held.now }
     requires versions { HasNextVersions (at_hand hand.now) (edits_of edits.now) }
 {
     let changes = changes_of(alloc, hand, edits)?;
-    changes_told(alloc, changes.as_slice())
+    add_changes(text, changes.as_slice())
 }
 
-fn written(alloc: Global, edits: &[Edit]) -> Result<String, NoMemory> {
+fn add_written(alloc: Global, text: &mut String, edits: &[Edit]) -> Result<(), NoMemory> {
     let writes = byte_writes(alloc, edits)?;
-    writes_told(alloc, writes.as_slice())
+    add_writes(text, writes.as_slice())
 }
 
-fn freed(alloc: Global, edits: &[Edit]) -> Result<String, NoMemory> {
+fn add_given_back(alloc: Global, text: &mut String, edits: &[Edit]) -> Result<(), NoMemory> {
     let freed = freed_sectors(alloc, edits)?;
-    freed_told(alloc, freed.as_slice())
+    add_freed(text, freed.as_slice())
 }
 
 // Each row comes to what was worked out.
@@ -249,40 +255,13 @@ const FREED: Edit = Edit::Inode {
 };
 
 // Inode 64 as the dated edits have it.
-const AS_WRITTEN: &[Laid] = &[(
-    10_737_418_304,
-    1,
-    &[
-        (0, &[1]),
-        (8, &[1, 0, 1]),
-        (24, &[2, 0, 0, 0, 1]),
-        (100, &[88, 2, 0, 0, 3]),
-    ],
-)];
+const AS_WRITTEN: &str = "i64 0:01 8:010001 24:0200000001 100:5802000003";
 
 // The same at tick 856 of that run.
-const LATER: &[Laid] = &[(
-    10_737_418_304,
-    1,
-    &[
-        (0, &[1]),
-        (8, &[1, 0, 1]),
-        (24, &[2, 0, 0, 0, 1]),
-        (100, &[88, 3, 0, 0, 3]),
-    ],
-)];
+const LATER: &str = "i64 0:01 8:010001 24:0200000001 100:5803000003";
 
 // The same with bytes around the time that no inode has, up to it and apart from it.
-const AROUND: &[Laid] = &[(
-    10_737_418_304,
-    1,
-    &[
-        (0, &[1]),
-        (8, &[1, 0, 1]),
-        (24, &[2, 0, 0, 0, 1]),
-        (97, &[4, 0, 9, 88, 2, 0, 0, 3, 0, 0, 0, 5, 6, 0, 8]),
-    ],
-)];
+const AROUND: &str = "i64 0:01 8:010001 24:0200000001 97:040009580200000300000005060008";
 
 static BY_TIME: [Row; 11] = [
     // The time stays, and is in the record for all that.

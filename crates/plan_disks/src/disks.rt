@@ -1,59 +1,81 @@
-// The sectors of a small disk, and their bytes.
+// The sectors of a small disk.
 use frang_base::limits::{SECTOR_BYTES, SMALL_BLOCK_SECTORS};
 use frang_base::{Block, NoMemory, Sector};
 use frang_layout::{Region, sector_of};
 use meta_version::Sectors;
 use std::alloc::Global;
+use test_tables::{block_of, byte, number, sector, split};
 
-/// Bytes of a sector from a place on.
-pub type Piece = (u16, &'static [u8]);
-
-/// So many sectors from one on, each of zeros but for these pieces.
-pub type Laid = (u64, u64, &'static [Piece]);
-
-/// A sector of one byte but for these pieces.
-pub type Filled = (u64, u8, &'static [Piece]);
-
-/// Puts the bytes of a piece in place of those that stand there. What is past the end is left out.
-pub fn lay(bytes: &mut [u8], piece: &Piece) {
-    let (at, new) = piece;
-    for (there, byte) in bytes.iter_mut().skip(usize::from(*at)).zip(*new) {
-        *there = *byte;
-    }
+// So many sectors of one byte from one on.
+#[derive(Clone, Copy)]
+struct Run {
+    from: u64,
+    count: u64,
+    byte: u8,
 }
 
-/// A block of one byte but for these pieces.
-pub fn block_of(byte: u8, pieces: &[Piece]) -> Block {
-    let mut block = [byte; SECTOR_BYTES];
-    for piece in pieces {
-        lay(&mut block, piece);
-    }
-    block
-}
-
-/// The sectors of a disk that are cached, where later ones take the place of earlier ones. Its one refusal is want of memory.
-pub fn sectors_of(alloc: Global, disk: &[Laid]) -> Result<Sectors, NoMemory> {
+/// The sectors of a disk that are cached, by a text whose lines have one or more parts, parted by `;`: `i4` is the sector of inode 4 and zeros, `s4+24`
+/// are so many sectors from the first one of small block 4 on, `s4=7f` is a sector of this byte, and behind that stand the pieces that differ. `full 5 6`
+/// are blocks of directories in which every place has an entry. Later parts take the place of earlier ones; what is none of these is left out. The one
+/// refusal is want of memory.
+pub fn sectors_of(alloc: Global, disk: &str) -> Result<Sectors, NoMemory> {
     let mut sectors = Sectors::new(alloc);
-    for (from, count, pieces) in disk {
-        let from = *from;
-        for sector in from..from.saturating_add(*count) {
-            sectors.set(Sector(sector), block_of(0, pieces))?;
-        }
-    }
+    put_sectors(&mut sectors, disk)?;
     Ok(sectors)
 }
 
-/// Sectors of a file's bytes beside the others. The one refusal is want of memory.
-pub fn put_filled(sectors: &mut Sectors, filled: &[Filled]) -> Result<(), NoMemory> {
-    for (sector, byte, pieces) in filled {
-        sectors.set(Sector(*sector), block_of(*byte, pieces))?;
+/// The same over sectors that are cached before.
+pub fn put_sectors(sectors: &mut Sectors, disk: &str) -> Result<(), NoMemory> {
+    for line in disk.lines() {
+        put_line(sectors, line)?;
     }
     Ok(())
 }
 
-/// A directory's block in which every place has an entry: names of two letters, from `aa` to `hg`, of the file in inode 1. Its one refusal
-/// is want of memory.
-pub fn put_full_block(sectors: &mut Sectors, block: u32) -> Result<(), NoMemory> {
+fn put_line(sectors: &mut Sectors, line: &str) -> Result<(), NoMemory> {
+    for part in line.split(';') {
+        let (first, rest) = split(part.trim(), " ");
+        if first == "full" {
+            put_full_blocks(sectors, rest)?;
+        } else {
+            put_run(sectors, first, rest)?;
+        }
+    }
+    Ok(())
+}
+
+fn put_run(sectors: &mut Sectors, word: &str, pieces: &str) -> Result<(), NoMemory> {
+    let Some(run) = run_of(word) else {
+        return Ok(());
+    };
+    let block = block_of(run.byte, pieces);
+    for sector in run.from..run.from.saturating_add(run.count) {
+        sectors.set(Sector(sector), block)?;
+    }
+    Ok(())
+}
+
+fn run_of(word: &str) -> Option<Run> {
+    let (from, digits) = split(word, "=");
+    let (from, count) = split(from, "+");
+    Some(Run {
+        from: sector(from)?,
+        count: number(count).unwrap_or(1),
+        byte: byte(digits),
+    })
+}
+
+fn put_full_blocks(sectors: &mut Sectors, blocks: &str) -> Result<(), NoMemory> {
+    for block in blocks.split_whitespace() {
+        if let Ok(block) = block.parse::<u32>() {
+            put_full_block(sectors, block)?;
+        }
+    }
+    Ok(())
+}
+
+// A directory's block in which every place has an entry: names of two letters, from `aa` to `hg`, of the file in inode 1.
+fn put_full_block(sectors: &mut Sectors, block: u32) -> Result<(), NoMemory> {
     for part in 0..SMALL_BLOCK_SECTORS as u8 {
         let sector = sector_of(&Region::Small { block, part });
         sectors.set(sector, full_sector(b'a' + part))?;

@@ -6,13 +6,17 @@
 mod digits;
 mod disks;
 mod edits;
+mod operations;
 mod paths;
 mod plans;
 mod replies;
 mod segments;
+mod settings;
 
-pub use disks::{Filled, Laid, Piece, block_of, lay, put_filled, put_full_block, sectors_of};
+pub use disks::{put_sectors, sectors_of};
 pub use edits::{ended_told, outcome_told};
-pub use paths::{path_of, target_of};
-pub use plans::{changes_told, freed_told, plan_told, writes_told, written_told};
-pub use segments::{Segment, held_of};
+pub use operations::{bytes_op, look_op, names_op};
+pub use paths::path_of;
+pub use plans::{add_changes, add_freed, add_writes, plan_told, written_told};
+pub use segments::{Segment, Segments, held_of};
+pub use settings::{are_all, leave_out, when_of};

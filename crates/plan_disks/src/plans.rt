@@ -3,14 +3,15 @@ ghost use Rattle.std.specs.Prelude.{◌≡◌, true};
 ghost use Rattle.disk_definitions.specs.Held.{AreSegments};
 ghost use Rattle.edit_writing.specs.Sectors.{EndsWithNextVersions, at_hand};
 
-use crate::digits::digits;
-use crate::replies::reply_told;
+use crate::digits::add_digits;
+use crate::replies::add_reply;
 use dir_lookup::Hand;
 use edit_writing::{finish, have_next_versions};
 use frang_base::{Block, Change, NoMemory, Patch, Sector};
 use meta_version::Plan;
 use plan_steps::{Outcome, Stop};
 use std::alloc::Global;
+use std::fmt::Write;
 
 /// What a plan that ended so writes over what is at hand. It refuses want of memory.
 pub fn written_told(
@@ -23,7 +24,8 @@ pub fn written_told(
     if !ends_with_next_versions(hand, &ended) {
         return Ok(format!(in alloc; "a version has no next one")?);
     }
-    plan_told(alloc, &finish(alloc, hand, ended)?)
+    let plan = finish(alloc, hand, ended)?;
+    plan_told(alloc, &plan)
 }
 
 // The version of each sector that the edits change has a next one.
@@ -39,68 +41,69 @@ fn ends_with_next_versions(hand: &Hand, ended: &Result<Outcome, Stop>) -> bool
 
 /// A plan: its reply with what makes it, or what it needs. Its one refusal is want of memory.
 pub fn plan_told(alloc: Global, plan: &Plan) -> Result<String, NoMemory> {
+    let mut text = String::new(alloc);
+    add_plan(alloc, &mut text, plan)?;
+    Ok(text)
+}
+
+fn add_plan(alloc: Global, text: &mut String, plan: &Plan) -> Result<(), NoMemory> {
     match plan {
-        Plan::Need(sector) => Ok(format!(in alloc; "needs {}", sector.0)?),
-        Plan::Segments => Ok(format!(in alloc; "segments")?),
-        Plan::Clear { block } => Ok(format!(in alloc; "clear {block}")?),
+        Plan::Need(sector) => write!(text, "needs {}", sector.0)?,
+        Plan::Segments => write!(text, "segments")?,
+        Plan::Clear { block } => write!(text, "clear {block}")?,
         Plan::Done {
             reply,
             changes,
             bytes,
             freed,
         } => {
-            let mut text = reply_told(alloc, reply)?;
-            text.push_str(&changes_told(alloc, changes.as_slice())?)?;
-            text.push_str(&writes_told(alloc, bytes.as_slice())?)?;
-            text.push_str(&freed_told(alloc, freed.as_slice())?)?;
-            Ok(text)
+            add_reply(alloc, text, reply)?;
+            add_changes(text, changes.as_slice())?;
+            add_writes(text, bytes.as_slice())?;
+            add_freed(text, freed.as_slice())?;
         }
     }
+    Ok(())
 }
 
-/// Changes: each sector with its new version, and the new bytes by their first places. Its one refusal is want of memory.
-pub fn changes_told(alloc: Global, changes: &[Change]) -> Result<String, NoMemory> {
-    let mut text = String::new(alloc);
+/// Adds changes: each sector with its new version, and the new bytes by their first places. Its one refusal is want of memory.
+pub fn add_changes(text: &mut String, changes: &[Change]) -> Result<(), NoMemory> {
     for change in changes {
-        let (sector, version) = (change.sector.0, change.version);
-        text.push_str(&format!(in alloc; ", {sector} v{version}")?)?;
-        text.push_str(&patches_told(alloc, change.patches.as_slice())?)?;
+        write!(text, ", {} v{}", change.sector.0, change.version)?;
+        add_patches(text, change.patches.as_slice())?;
     }
-    Ok(text)
+    Ok(())
 }
 
-fn patches_told(alloc: Global, patches: &[Patch]) -> Result<String, NoMemory> {
-    let mut text = String::new(alloc);
+fn add_patches(text: &mut String, patches: &[Patch]) -> Result<(), NoMemory> {
     for patch in patches {
-        let bytes = digits(alloc, patch.bytes.as_slice())?;
-        text.push_str(&format!(in alloc; " {}:{}", patch.at, bytes.as_str())?)?;
+        write!(text, " {}:", patch.at)?;
+        add_digits(text, patch.bytes.as_slice())?;
     }
-    Ok(text)
+    Ok(())
 }
 
-/// The sectors of file bytes that are written, with their bytes. Its one refusal is want of memory.
-pub fn writes_told(alloc: Global, writes: &[(Sector, Block)]) -> Result<String, NoMemory> {
-    let mut text = String::new(alloc);
+/// Adds the sectors of file bytes that are written, with their bytes. Its one refusal is want of memory.
+pub fn add_writes(text: &mut String, writes: &[(Sector, Block)]) -> Result<(), NoMemory> {
     for (sector, block) in writes {
-        let bytes = digits(alloc, block)?;
-        text.push_str(&format!(in alloc; ", {}={}", sector.0, bytes.as_str())?)?;
+        write!(text, ", {}=", sector.0)?;
+        add_digits(text, block)?;
     }
-    Ok(text)
+    Ok(())
 }
 
-/// The first and the last of each run of freed sectors. Its one refusal is want of memory.
-pub fn freed_told(alloc: Global, sectors: &[Sector]) -> Result<String, NoMemory> {
-    let mut text = String::new(alloc);
+/// Adds the first and the last of each run of freed sectors. Its one refusal is want of memory.
+pub fn add_freed(text: &mut String, sectors: &[Sector]) -> Result<(), NoMemory> {
     let mut next = None;
     for (place, sector) in sectors.iter().enumerate() {
         let number = sector.0;
         if next != Some(number) {
-            text.push_str(&format!(in alloc; ", freed {number}")?)?;
+            write!(text, ", freed {number}")?;
         }
         next = number.checked_add(1);
         if sectors.get(place + 1).map(|sector| sector.0) != next {
-            text.push_str(&format!(in alloc; "..{number}")?)?;
+            write!(text, "..{number}")?;
         }
     }
-    Ok(text)
+    Ok(())
 }

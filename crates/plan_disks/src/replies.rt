@@ -6,10 +6,10 @@ use std::alloc::Global;
 // The bytes `0 0 ` before the reply to line 0 of server 0.
 const BEFORE_REPLY: usize = 4;
 
-/// The words of a reply. Its one refusal is want of memory.
-pub(crate) fn reply_told(alloc: Global, reply: &Reply) -> Result<String, NoMemory> {
+/// Adds the words of a reply. Its one refusal is want of memory.
+pub(crate) fn add_reply(alloc: Global, text: &mut String, reply: &Reply) -> Result<(), NoMemory> {
     let line = line_of(alloc, reply)?;
-    words_of(alloc, &line)
+    add_words(text, &line)
 }
 
 // The line that says the reply.
@@ -26,12 +26,11 @@ fn line_of(alloc: Global, reply: &Reply) -> Result<Vec<u8>, NoMemory> {
 }
 
 // What a line says after the line and the server that it answers.
-fn words_of(alloc: Global, line: &[u8]) -> Result<String, NoMemory> {
-    let mut told = String::new(alloc);
+fn add_words(text: &mut String, line: &[u8]) -> Result<(), NoMemory> {
     for byte in line.iter().skip(BEFORE_REPLY) {
         if *byte != b'\n' {
-            told.push(char::from(*byte))?;
+            text.push(char::from(*byte))?;
         }
     }
-    Ok(told)
+    Ok(())
 }

@@ -25,8 +25,8 @@ fn has_bytes<O: Outside>(out: &mut O, sector: Sector, byte: u8) -> bool {
     out.get(WRITER, sector) == Ok([byte; 512])
 }
 
-fn says<O: Outside>(out: &mut O, line: &[u8], answer: Result<(), SayFault>) -> bool {
-    out.say(line) == answer
+fn says<O: Outside>(out: &mut O, line: &str, answer: Result<(), SayFault>) -> bool {
+    out.say(line.as_bytes()) == answer
 }
 
 fn try_puts<O: Outside>(rt: &impl Abort, out: &mut O, cases: &[PutCase]) {
@@ -64,7 +64,7 @@ static IN_TIME: [PutCase; 3] = [
 fn try_told(rt: &impl Abort, alloc: Global) {
     let mut out = passes(MemOutside::new(alloc));
     try_puts(rt, &mut out, &IN_TIME);
-    assert!(rt; says(&mut out, b"1 0 ok\n", Ok(())));
+    assert!(rt; says(&mut out, "1 0 ok\n", Ok(())));
     assert!(rt; out.acts().len() == 4);
 }
 
@@ -101,9 +101,9 @@ fn try_failing(rt: &impl Abort, out: &mut FaultyOutside) {
     try_puts(rt, out, &WITH_FAULTS);
     assert!(rt; out.get(WRITER, SECTOR) == Err(Failed));
     assert!(rt; has_bytes(out, SECTOR, 4));
-    assert!(rt; says(out, b"1 0 ok\n", Ok(())));
-    assert!(rt; says(out, b"1 0 ok\n", Err(SayFault::Failed)));
-    assert!(rt; says(out, b"1 0 ok\n", Ok(())));
+    assert!(rt; says(out, "1 0 ok\n", Ok(())));
+    assert!(rt; says(out, "1 0 ok\n", Err(SayFault::Failed)));
+    assert!(rt; says(out, "1 0 ok\n", Ok(())));
     assert!(rt; out.acts().len() == 5);
 }
 
@@ -122,18 +122,18 @@ fn read_fault<F: Files>(files: &mut F, alloc: Global, name: &str, most: u64) -> 
     }
 }
 
-fn holds<F: Files>(files: &mut F, alloc: Global, name: &str, text: &[u8]) -> bool {
+fn holds<F: Files>(files: &mut F, alloc: Global, name: &str, text: &str) -> bool {
     match files.read(alloc, name, text.len() as u64) {
-        Ok(found) => found.as_slice() == text,
+        Ok(found) => found.as_slice() == text.as_bytes(),
         Err(_) => false,
     }
 }
 
-fn write<F: Files>(files: &mut F, name: &str, text: &[u8]) -> Result<(), FileFault> {
-    files.write(name, text)
+fn write<F: Files>(files: &mut F, name: &str, text: &str) -> Result<(), FileFault> {
+    files.write(name, text.as_bytes())
 }
 
-static TEXTS: [&[u8]; 3] = [b"longer", b"", b"short"];
+static TEXTS: [&str; 3] = ["longer", "", "short"];
 
 fn try_files<F: Files>(rt: &impl Abort, alloc: Global, files: &mut F, name: &str) {
     assert!(rt; read_fault(files, alloc, name, 9) == Some(FileFault::Failed));
@@ -146,9 +146,9 @@ fn try_files<F: Files>(rt: &impl Abort, alloc: Global, files: &mut F, name: &str
 
 // Another file stays as it is.
 fn try_beside(rt: &impl Abort, alloc: Global, files: &mut MemFiles) -> Result<(), Fail> {
-    files.put_file("other", b"stays")?;
+    files.put_file("other", "stays".as_bytes())?;
     try_files(rt, alloc, files, "s");
-    assert!(rt; holds(files, alloc, "other", b"stays"));
+    assert!(rt; holds(files, alloc, "other", "stays"));
     Ok(())
 }
 
@@ -198,9 +198,9 @@ impl Print for Paper {
     }
 }
 
-fn has_printed(paper: &Paper, text: &[u8]) -> bool {
+fn has_printed(paper: &Paper, text: &str) -> bool {
     match paper.printed.try_borrow() {
-        Ok(printed) => printed.as_slice() == text,
+        Ok(printed) => printed.as_slice() == text.as_bytes(),
         Err(_) => false,
     }
 }
@@ -208,8 +208,8 @@ fn has_printed(paper: &Paper, text: &[u8]) -> bool {
 // Prints a line for which there is room, and one for which there isn't.
 fn print_on(rt: &impl Abort, alloc: Global, paper: &Paper) {
     let mut out = StdOutside::new(alloc, paper);
-    assert!(rt; says(&mut out, b"1 0 ok\n", Ok(())));
-    assert!(rt; says(&mut out, b"2 0 ok\n", Err(SayFault::Failed)));
+    assert!(rt; says(&mut out, "1 0 ok\n", Ok(())));
+    assert!(rt; says(&mut out, "2 0 ok\n", Err(SayFault::Failed)));
 }
 
 #[test]
@@ -220,5 +220,5 @@ fn a_line_is_printed_whole_or_fails(rt: HostRuntime) {
         room: 10,
     };
     print_on(&rt, alloc, &paper);
-    assert!(rt; has_printed(&paper, b"1 0 ok\n2 0"));
+    assert!(rt; has_printed(&paper, "1 0 ok\n2 0"));
 }

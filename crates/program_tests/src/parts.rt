@@ -28,21 +28,21 @@ fn create_a(alloc: Global) -> Result<Op, NoMemory> {
 }
 
 // A text of two bytes, one more and the others.
-fn text_of(alloc: Global, first: &[u8], next: u8, last: &[u8]) -> Result<Text, NoMemory> {
-    let mut text = Text::of(alloc, first)?;
+fn text_of(alloc: Global, first: &str, next: u8, last: &str) -> Result<Text, NoMemory> {
+    let mut text = Text::of(alloc, first.as_bytes())?;
     text.push(next)?;
-    text.append(last)?;
+    text.append(last.as_bytes())?;
     Ok(text)
 }
 
-fn is_copied(text: &Text, wanted: &[u8]) -> Result<bool, NoMemory> {
+fn is_copied(text: &Text, wanted: &str) -> Result<bool, NoMemory> {
     let copy = text.try_copy()?;
-    Ok(copy.as_slice() == wanted)
+    Ok(copy.as_slice() == wanted.as_bytes())
 }
 
 fn text_is_copied(alloc: Global) -> Result<bool, NoMemory> {
-    let text = text_of(alloc, b"ab", b'c', b"de")?;
-    is_copied(&text, b"abcde")
+    let text = text_of(alloc, "ab", b'c', "de")?;
+    is_copied(&text, "abcde")
 }
 
 // The number of names in a copy of the path.
@@ -201,7 +201,7 @@ fn answers(alloc: Global) -> Result<Vec<Said>, NoMemory> {
 // The history leaves a tree with the file, and has four entries once the server's are dropped.
 fn leaves_a_tree(rt: &impl Abort, alloc: Global, history: &mut History) -> Result<(), Fail> {
     let text = left_tree(alloc, history)?;
-    assert!(rt; text.as_slice() == b"= / dir 1\n= /a file 0 1\n".as_slice());
+    assert!(rt; text.as_slice() == "= / dir 1\n= /a file 0 1\n".as_bytes());
     history.drop_after(ServerId(0), OpNo(0))?;
     assert!(rt; history.as_slice().len() == 4);
     Ok(())

@@ -41,10 +41,10 @@ fn scripts_are_answered(rt: HostRuntime) -> Result<(), Fail> {
 }
 
 // A line's place among those said, and the line.
-static LINES: [(usize, &[u8]); 3] = [
-    (896, b"897 0 ok"),
-    (897, b"898 0 dirfull"),
-    (898, b"= / dir 896"),
+static LINES: [(usize, &str); 3] = [
+    (896, "897 0 ok"),
+    (897, "898 0 dirfull"),
+    (898, "= / dir 896"),
 ];
 
 fn push_create(alloc: Global, n: u32, script: &mut Vec<u8>) -> Result<(), NoMemory> {
@@ -56,16 +56,16 @@ fn push_create(alloc: Global, n: u32, script: &mut Vec<u8>) -> Result<(), NoMemo
 // Makes so many files.
 fn creates(alloc: Global, count: u32) -> Result<Vec<u8>, NoMemory> {
     let mut script = Vec::new(alloc);
-    script.extend_from_slice(b"0 mount\n")?;
+    script.extend_from_slice("0 mount\n".as_bytes())?;
     for n in 1..=count {
         push_create(alloc, n, &mut script)?;
     }
     Ok(script)
 }
 
-fn has_line(text: &[u8], place: usize, wanted: &[u8]) -> bool {
+fn has_line(text: &[u8], place: usize, wanted: &str) -> bool {
     match text.split(|byte| *byte == b'\n').nth(place) {
-        Some(line) => line == wanted,
+        Some(line) => line == wanted.as_bytes(),
         None => false,
     }
 }
@@ -104,8 +104,8 @@ fn expect_status(
 }
 
 // Whether a run was done and said this.
-fn says(told: &Told, text: &[u8]) -> bool {
-    told.status == DONE && told.text.as_slice() == text
+fn says(told: &Told, text: &str) -> bool {
+    told.status == DONE && told.text.as_slice() == text.as_bytes()
 }
 
 // The words of a line, parted by blanks.
@@ -120,7 +120,7 @@ fn parted(alloc: Global, line: &str) -> Result<Vec<String>, NoMemory> {
 // What a call with the words of this line tells where the script is empty.
 fn tell_line(rt: &(impl Threads + Sync), alloc: Global, line: &str) -> Result<Told, NoMemory> {
     let words = parted(alloc, line)?;
-    tell_words(rt, alloc, &words, b"")
+    tell_words(rt, alloc, &words, &[])
 }
 
 static REFUSED: [&str; 11] = [
@@ -149,7 +149,7 @@ fn a_call_that_is_refused_says_nothing(rt: HostRuntime) -> Result<(), Fail> {
 #[test]
 fn a_script_that_is_not_there_or_too_long_is_refused(rt: HostRuntime) -> Result<(), Fail> {
     let alloc = rt.alloc();
-    expect_status(&rt, alloc, &["run", "t"], b"", (4, 0, 0))?;
+    expect_status(&rt, alloc, &["run", "t"], &[], (4, 0, 0))?;
     let long = vec![in alloc; b'x'; SCRIPT_BYTES_MAX + 1]?;
     expect_status(&rt, alloc, &["run", "s"], &long, (8, 0, 1048576))?;
     expect_status(&rt, alloc, &["run", "s"], &long[1..], (1, 1, 2))
@@ -170,43 +170,48 @@ static SEGMENTS: [&str; 3] = ["run --segments 1 s", "run -- s", "run s --segment
 #[test]
 fn options_have_their_form(rt: HostRuntime) -> Result<(), Fail> {
     for words in &NO_SEGMENTS {
-        expect_status(&rt, rt.alloc(), words, b"", (2, 0, 0))?;
+        expect_status(&rt, rt.alloc(), words, &[], (2, 0, 0))?;
     }
     for line in &SEGMENTS {
         let told = tell_line(&rt, rt.alloc(), line)?;
-        assert!(rt; says(&told, b"= / dir 0\n! end\n"), "{line}");
+        assert!(rt; says(&told, "= / dir 0\n! end\n"), "{line}");
     }
     Ok(())
 }
 
 // A script, the line at fault and the kind of its fault.
-static BAD: [(&[u8], u32, u64); 12] = [
-    (b"0 mount\n0 truncate /a x1\n", 2, 5),
-    (b"0 mount\n0 create a\n", 2, 6),
-    (b"0 sync\n0 sink\n", 2, 2),
-    (b"\xff\n", 1, 1),
-    (b"1 mount\n", 1, 12),
-    (b"0 mount\n\n0 crash\n0 stall\n", 3, 12),
-    (b"0 crash 3\n", 1, 12),
-    (b"0 cut 1\n", 1, 12),
-    (b"0 stall\n", 1, 12),
-    (b"barrier\ntick 1\n1 sync\n", 3, 12),
-    (b"halt\nbarrier\n", 2, 11),
-    (b"0 crash\n0 create a\n", 2, 6),
+static BAD: [(&str, u32, u64); 11] = [
+    ("0 mount\n0 truncate /a x1\n", 2, 5),
+    ("0 mount\n0 create a\n", 2, 6),
+    ("0 sync\n0 sink\n", 2, 2),
+    ("1 mount\n", 1, 12),
+    ("0 mount\n\n0 crash\n0 stall\n", 3, 12),
+    ("0 crash 3\n", 1, 12),
+    ("0 cut 1\n", 1, 12),
+    ("0 stall\n", 1, 12),
+    ("barrier\ntick 1\n1 sync\n", 3, 12),
+    ("halt\nbarrier\n", 2, 11),
+    ("0 crash\n0 create a\n", 2, 6),
 ];
 
 #[test]
 fn a_bad_script_says_nothing(rt: HostRuntime) -> Result<(), Fail> {
     for (file, line, kind) in &BAD {
-        expect_status(&rt, rt.alloc(), &["run", "s"], file, (1, *line, *kind))?;
+        expect_status(
+            &rt,
+            rt.alloc(),
+            &["run", "s"],
+            file.as_bytes(),
+            (1, *line, *kind),
+        )?;
     }
-    Ok(())
+    expect_status(&rt, rt.alloc(), &["run", "s"], b"\xff\n", (1, 1, 1))
 }
 
 // Which say fails, what is said before, and how many says that are.
-static UNSAID: [(u64, u64, &[u8]); 2] = [
-    (2, 1, b"1 0 mounted\n"),
-    (5, 4, b"1 0 mounted\n2 0 ok\n3 0 ok\n= / dir 1\n"),
+static UNSAID: [(u64, u64, &str); 2] = [
+    (2, 1, "1 0 mounted\n"),
+    (5, 4, "1 0 mounted\n2 0 ok\n3 0 ok\n= / dir 1\n"),
 ];
 
 // What a call tells where this say fails.
@@ -226,7 +231,7 @@ fn call_failing(
 // What a run tells of which a say fails.
 fn tell_failing(rt: &(impl Threads + Sync), alloc: Global, failing: u64) -> Result<Told, NoMemory> {
     let mut files = MemFiles::new(alloc);
-    files.put_file("s", b"0 mount\n0 create /a\n0 sync\n")?;
+    files.put_file("s", "0 mount\n0 create /a\n0 sync\n".as_bytes())?;
     let words = words_of(alloc, &["run", "s"])?;
     call_failing(rt, alloc, &words, &mut files, failing)
 }
@@ -237,7 +242,7 @@ fn ends_unsaid(
     alloc: Global,
     failing: u64,
     at: u64,
-    wanted: &[u8],
+    wanted: &str,
 ) -> Result<bool, NoMemory> {
     let told = tell_failing(rt, alloc, failing)?;
     let status = told.status;
@@ -246,7 +251,7 @@ fn ends_unsaid(
             && status.line == 0
             && status.at == at
             && status.sector == 0
-            && told.text.as_slice() == wanted,
+            && told.text.as_slice() == wanted.as_bytes(),
     )
 }
 

@@ -2,5 +2,5 @@
 use Rattle.plan_disks.proofs.HeldSegments.{AreLow}
 use Rattle.plan_disks.proofs.segments.held_of.Given as goal
 
-abbrev pub invariant-loop-segment : goal.invariant-loop-segment
-invariant-loop-segment l = AreLow l.held
+abbrev pub invariant-loop-name : goal.invariant-loop-name
+invariant-loop-name l = AreLow l.held
