@@ -1,19 +1,12 @@
 // What the words of a command line ask.
-ghost use Rattle.std.specs.Prelude.{◌≡◌, ◌≤◌, IfOk, IfSome, map, option_map, string_bytes};
+ghost use Rattle.std.specs.Prelude.{◌≡◌, ◌≤◌, IfSome, option_map};
 ghost use Rattle.frang_base.specs.declared.limits.TheConstants.{SEGMENTS_MAX};
-ghost use Rattle.clap.specs.Words.{subcommand_rows_of};
-ghost use Rattle.command_words.specs.Commands.{asked_by, asked_with, bare, fsck_by, image_asked, log_by, recover_by, run_by, segments_in, tree_by};
-ghost use Rattle.command_words.specs.Line.{asked_entered};
+ghost use Rattle.command_words.specs.Commands.{asked_with, bare, fsck_by, image_asked, log_by, recover_by, run_by, segments_in, tree_by};
 ghost use Rattle.command_words.specs.Views.{HasSegments, asked_of, asks_of, given_of, image_asks_of, text_of};
 
-use crate::line::command_line;
-use crate::words::{GivenWords, at_most_one, given_in, only, only_two, unless};
-use clap::ArgMatches;
-use clap::error::ErrorKind;
-use frang_base::NoMemory;
+use crate::words::{GivenWords, at_most_one, only, only_two, unless};
 use frang_base::limits::{SEGMENTS_DEFAULT, SEGMENTS_MAX};
 use script_definitions::number_within;
-use std::alloc::Global;
 
 /// A script to be run on a fresh disk of so many segments, 1 to 64.
 #[derive(Clone, Copy)]
@@ -131,8 +124,8 @@ fn image_asked<'a>(name: &str, given: GivenWords<'_, 'a>) -> Option<ImageCommand
     }
 }
 
-// A command by its name.
-fn asked_with<'a>(name: &str, given: GivenWords<'_, 'a>) -> Option<Command<'a>>
+/// What a command of this name asks, by what stands behind the name. `None` exactly where there is no such command, or it isn't asked so.
+pub fn asked_with<'a>(name: &str, given: GivenWords<'_, 'a>) -> Option<Command<'a>>
     ensures is { option_map asked_of result ≡ asked_with name.now (given_of given.entry) }
     ensures segments { IfSome result (λ command. HasSegments command) }
 {
@@ -142,39 +135,5 @@ fn asked_with<'a>(name: &str, given: GivenWords<'_, 'a>) -> Option<Command<'a>>
     } else {
         let asked = image_asked(name, given)?;
         Some(Command::OnImage(asked))
-    }
-}
-
-// What a command that `clap` met asks.
-fn asked_in<'a>(matches: &ArgMatches<'a>) -> Option<Command<'a>>
-    ensures is { option_map asked_of result ≡ asked_entered (subcommand_rows_of matches.now) }
-    ensures segments { IfSome result (λ command. HasSegments command) }
-{
-    let (name, behind) = matches.subcommand()?;
-    asked_with(name, given_in(behind))
-}
-
-// That an error isn't want of memory.
-fn no_want(kind: ErrorKind) -> Result<(), NoMemory>
-    ensures { IfOk result (λ done. kind ≡ ErrorKind.OutOfMemory → ⊥) }
-{
-    match kind {
-        ErrorKind::OutOfMemory => Err(NoMemory),
-        _ => Ok(()),
-    }
-}
-
-/// What the words after the program's name ask. `Ok(None)` exactly where they are no command, but for want of memory.
-pub fn command_of<'a>(alloc: Global, words: &'a [String]) -> Result<Option<Command<'a>>, NoMemory>
-    ensures is { IfOk result (λ asked. option_map asked_of asked ≡ asked_by (map string_bytes words.now)) }
-    ensures segments { IfOk result (λ asked. IfSome asked (λ command. HasSegments command)) }
-{
-    let line = command_line(alloc)?;
-    match line.try_get_matches_from(words) {
-        Ok(matches) => Ok(asked_in(&matches)),
-        Err(error) => {
-            no_want(error.kind())?;
-            Ok(None)
-        }
     }
 }

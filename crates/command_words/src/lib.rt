@@ -1,9 +1,10 @@
-//! The words of a command line: the command that they ask for, or `None` exactly where they are no command, but for want of memory.
-//! They are read by `clap`, and numbers by the grammar of numbers; every command of the program is named here, and done elsewhere.
+//! What the words of a command line ask, once they are sorted into a command's name, positional words and the values of options: a run of a
+//! script, or a command on an image. Numbers are read by the grammar of numbers; every command of the program is named here, and done
+//! elsewhere. What words mean, sorted or not, is defined here; `command_line` sorts them.
 #![tactic(auto)]
 
 mod commands;
-mod line;
 mod words;
 
-pub use commands::{Command, ImageCommand, RunCommand, command_of};
+pub use commands::{Command, ImageCommand, RunCommand, asked_with};
+pub use words::GivenWords;

@@ -1,11 +1,7 @@
-// The words behind a command's name, as `clap` found them.
+// The words behind a command's name.
 ghost use Rattle.std.specs.Prelude.{◌≡◌, option_map};
-ghost use Rattle.clap.specs.Words.{found_of, rows_of};
 ghost use Rattle.command_words.specs.Commands.{at_most_one, only, only_two, unless};
-ghost use Rattle.command_words.specs.Line.{given_in};
-ghost use Rattle.command_words.specs.Views.{given_of, pair_of, text_of, texts_of};
-
-use clap::ArgMatches;
+ghost use Rattle.command_words.specs.Views.{pair_of, text_of, texts_of};
 
 /// What stands behind a command's name, in the words' order, where there is any: the positional words, and the values of each option.
 #[derive(Clone, Copy)]
@@ -13,17 +9,6 @@ pub struct GivenWords<'m, 'a> {
     pub places: Option<&'m [&'a str]>,
     pub segments: Option<&'m [&'a str]>,
     pub save: Option<&'m [&'a str]>,
-}
-
-/// What `clap` found behind a command's name.
-pub fn given_in<'m, 'a>(matches: &'m ArgMatches<'a>) -> GivenWords<'m, 'a>
-    ensures { given_of result ≡ given_in (rows_of (found_of matches.now)) }
-{
-    GivenWords {
-        places: matches.get_strs("places"),
-        segments: matches.get_strs("segments"),
-        save: matches.get_strs("save"),
-    }
 }
 
 /// The only word.

@@ -47,18 +47,21 @@ fn lines_said(alloc: Global, acts: &[Act]) -> anyhow::Result<Vec<u8>> {
     Ok(text)
 }
 
+// The sentence of a status, where there is memory for it.
+fn sentence_of(alloc: Global, status: &Status) -> String {
+    match status.sentence(alloc) {
+        Ok(sentence) => sentence,
+        Err(_) => String::new(alloc),
+    }
+}
+
 // What the program says on standard error of a status; where memory is short, without its sentence.
 fn explained(alloc: Global, status: &Status) -> anyhow::Result<String> {
-    let code = status.code;
-    let line = status.line;
-    let at = status.at;
+    let (code, line, at) = (status.code, status.line, status.at);
     if code == 0 {
         return Ok(String::new(alloc));
     }
-    let sentence = match status.sentence(alloc) {
-        Ok(sentence) => sentence,
-        Err(_) => String::new(alloc),
-    };
+    let sentence = sentence_of(alloc, status);
     let words = sentence.as_str();
     Ok(format!(in alloc; "frang: status {code} line {line} at {at}\nfrang: {words}\n")?)
 }
@@ -70,8 +73,28 @@ fn told_by(alloc: Global, status: &Status, acts: &[Act]) -> anyhow::Result<Vec<u
     Ok(text)
 }
 
-// Whether a call with these words tells this.
+// The words of a line, parted by blanks.
+fn words_of(alloc: Global, line: &str) -> anyhow::Result<Vec<String>> {
+    let mut words = Vec::new(alloc);
+    for word in line.split_whitespace() {
+        words.push(String::from_str(alloc, word)?)?;
+    }
+    Ok(words)
+}
+
+// Whether a call with the words of this line tells this.
 fn is_told<R: Threads + Sync, F: Files>(
+    rt: &R,
+    alloc: Global,
+    files: &mut F,
+    line: &str,
+    wanted: &[u8],
+) -> anyhow::Result<bool> {
+    let words = words_of(alloc, line)?;
+    is_told_by(rt, alloc, files, &words, wanted)
+}
+
+fn is_told_by<R: Threads + Sync, F: Files>(
     rt: &R,
     alloc: Global,
     files: &mut F,
@@ -83,16 +106,16 @@ fn is_told<R: Threads + Sync, F: Files>(
     Ok(text.as_slice() == wanted)
 }
 
-// Whether a call with these words says what the text has, and then what its status means.
+// Whether a call with the words of this line says what the text has, and then what its status means.
 fn is_as_said<R: Threads + Sync, F: Files>(
     rt: &R,
     alloc: Global,
     files: &mut F,
-    words: &[String],
+    line: &str,
     told: &str,
 ) -> anyhow::Result<bool> {
     match files.read(alloc, told, u64::MAX) {
-        Ok(wanted) => is_told(rt, alloc, files, words, &wanted),
+        Ok(wanted) => is_told(rt, alloc, files, line, &wanted),
         Err(_) => Ok(false),
     }
 }
@@ -103,10 +126,9 @@ fn is_run_as_said<R: Threads + Sync, F: Files>(
     files: &mut F,
     name: &str,
 ) -> anyhow::Result<bool> {
-    let script = format!(in alloc; "{name}.frang")?;
+    let line = format!(in alloc; "run {name}.frang")?;
     let told = format!(in alloc; "{name}.said")?;
-    let words = vec![in alloc; String::from_str(alloc, "run")?, script]?;
-    is_as_said(rt, alloc, files, &words, told.as_str())
+    is_as_said(rt, alloc, files, line.as_str(), told.as_str())
 }
 
 fn is_image_as_said<R: Threads + Sync, F: Files>(
@@ -117,13 +139,9 @@ fn is_image_as_said<R: Threads + Sync, F: Files>(
     command: &str,
     last: &str,
 ) -> anyhow::Result<bool> {
-    let image = format!(in alloc; "{name}.image")?;
+    let line = format!(in alloc; "{command} {name}.image {last}")?;
     let told = format!(in alloc; "{name}.{command}.said")?;
-    let mut words = vec![in alloc; String::from_str(alloc, command)?, image]?;
-    if !last.is_empty() {
-        words.push(String::from_str(alloc, last)?)?;
-    }
-    is_as_said(rt, alloc, files, &words, told.as_str())
+    is_as_said(rt, alloc, files, line.as_str(), told.as_str())
 }
 
 // Prints whether an example is as said, and gives that.

@@ -2,10 +2,10 @@
 ghost use Rattle.std.specs.Prelude.{◌≡◌, ◌++◌, IfOk, OnOk, OnErr, false};
 ghost use Rattle.script_definitions.specs.SaidReading.{IsProperReply};
 ghost use Rattle.tree_definitions.specs.Resolve.{resolve};
-ghost use Rattle.tree_definitions.specs.Perform.{goes, by_path, by_paths, is_found, resolved, perform};
+ghost use Rattle.tree_definitions.specs.Perform.{Goes, after_trail, goes, by_path, by_paths, is_found, resolved, perform, step_of};
 ghost use Rattle.file_tree.specs.CanApply.{CanPerform};
 ghost use Rattle.file_tree.specs.Replies.{gives};
-ghost use Rattle.file_tree.specs.Walks.{with_path, with_paths, resolution_of, resolved_by};
+ghost use Rattle.file_tree.specs.Walks.{end_of, with_path, with_paths, resolution_of, resolved_by, step_by};
 
 use crate::Tree;
 use crate::place::Refusal;
@@ -120,34 +120,62 @@ pub fn with_paths(op: &Op, path: Path, to: Path) -> Op
     }
 }
 
+// A link or a rename of one path to another, which is walked no more.
+fn over_both(op: &Op, first: Path, to: &Path, trail: Vec<u64>) -> Result<Resolved, NoMemory>
+    ensures { IfOk result (λ r. resolved_by r ≡ record { step = Goes (with_paths op.now first to.now); trail = trail.items }) }
+{
+    let to = to.try_copy()?;
+    Ok(Resolved {
+        step: Step::Goes(with_paths(op, first, to)),
+        trail,
+    })
+}
+
+// A link or a rename of one path to where the walk of the other leads.
+fn step_over(op: &Op, first: Path, end: WalkEnd) -> Step
+    ensures { step_by result ≡ step_of (end_of end) (λ q. with_paths op.now first q) }
+{
+    match end {
+        WalkEnd::At { path, .. } => Step::Goes(with_paths(op, first, path)),
+        WalkEnd::Refused(refusal) => Step::Stops(refusal),
+    }
+}
+
+// The same with the trail of the first walk, and that of the second one behind it.
+fn by_second(op: &Op, first: Path, trail: Vec<u64>, walk: Walk) -> Result<Resolved, NoMemory>
+    ensures { IfOk result (λ r. resolved_by r ≡ after_trail trail.items (by_path (resolution_of walk) (λ q. with_paths op.now first q))) }
+{
+    let Walk { end, trail: more } = walk;
+    let mut trail = trail;
+    extend(&mut trail, &more)?;
+    Ok(Resolved {
+        step: step_over(op, first, end),
+        trail,
+    })
+}
+
 impl Tree {
     // The walks of a link or a rename: of its second path only where the first one found a node, a directory where these count.
     fn by_paths(&self, op: &Op, dirs: bool, path: &Path, to: &Path) -> Result<Resolved, NoMemory>
         ensures { IfOk result (λ r. resolved_by r ≡ by_paths self.now dirs (resolve self.now false path.now) (resolve self.now false to.now) to.now (λ p q. with_paths op.now p q)) }
     {
-        let Walk { end, mut trail } = self.resolve(path.as_slice(), false)?;
-        let (first, found) = match end {
-            WalkEnd::At { path, found } => (path, found),
-            WalkEnd::Refused(refusal) => {
-                return Ok(Resolved {
-                    step: Step::Stops(refusal),
-                    trail,
-                });
-            }
-        };
-        if !is_found(self, dirs, found) {
-            return Ok(Resolved {
-                step: Step::Goes(with_paths(op, first, to.try_copy()?)),
-                trail,
-            });
-        }
-        let Walk { end, trail: more } = self.resolve(to.as_slice(), false)?;
-        extend(&mut trail, &more)?;
+        let walk = self.resolve(path.as_slice(), false)?;
+        self.by_first(op, dirs, walk, to)
+    }
+
+    // From the end of the first walk on.
+    fn by_first(&self, op: &Op, dirs: bool, walk: Walk, to: &Path) -> Result<Resolved, NoMemory>
+        ensures { IfOk result (λ r. resolved_by r ≡ by_paths self.now dirs (resolution_of walk) (resolve self.now false to.now) to.now (λ p q. with_paths op.now p q)) }
+    {
+        let Walk { end, trail } = walk;
         match end {
-            WalkEnd::At { path, .. } => Ok(Resolved {
-                step: Step::Goes(with_paths(op, first, path)),
-                trail,
-            }),
+            WalkEnd::At { path, found } => {
+                if is_found(self, dirs, found) {
+                    by_second(op, path, trail, self.resolve(to.as_slice(), false)?)
+                } else {
+                    over_both(op, path, to, trail)
+                }
+            }
             WalkEnd::Refused(refusal) => Ok(Resolved {
                 step: Step::Stops(refusal),
                 trail,

@@ -3,6 +3,7 @@ use crate::builders::with;
 use bitmap_block::{
     Bitmap, BlockState, decode, encode, inode_in_use, patches, state_of, with_inode, with_state,
 };
+use frang_base::NoMemory;
 use frang_base::limits::{SECTOR_BYTES, SEGMENT_BLOCKS, SEGMENT_INODES};
 use std::test::Fail;
 use test_tables::{are_pieces, block_of};
@@ -36,28 +37,30 @@ fn busy() -> Bitmap {
 const BUSY: &str = "0:0201 8:0102 15:80 16:e41b 271:8001";
 
 // Whether the segment is written as these pieces over other bytes, and read as it is.
-fn is_written(segment: Bitmap, worked: &str) -> bool {
+fn is_written(segment: Bitmap, worked: &str) -> Result<bool, NoMemory> {
     let mut block = [7; SECTOR_BYTES];
     encode(&segment, &mut block);
-    block == block_of(0, worked) && decode(&block) == Some(segment)
+    Ok(block == block_of(0, worked)? && decode(&block) == Some(segment))
 }
 
 #[test]
-fn segments_are_written_as_worked_out_by_hand(rt: HostRuntime) {
-    assert!(rt; is_written(fresh(), FRESH), "fresh");
-    assert!(rt; is_written(busy(), BUSY), "busy");
+fn segments_are_written_as_worked_out_by_hand(rt: HostRuntime) -> Result<(), Fail> {
+    assert!(rt; is_written(fresh(), FRESH)?, "fresh");
+    assert!(rt; is_written(busy(), BUSY)?, "busy");
+    Ok(())
 }
 
 // A place, and the byte that stands there instead.
 static REFUSED: [(usize, u8); 5] = [(272, 2), (272, 255), (273, 1), (400, 9), (511, 1)];
 
 #[test]
-fn other_blocks_are_refused(rt: HostRuntime) {
-    let busy = block_of(0, BUSY);
+fn other_blocks_are_refused(rt: HostRuntime) -> Result<(), Fail> {
+    let busy = block_of(0, BUSY)?;
     for (at, byte) in &REFUSED {
         let found = decode(&with(&busy, *at, *byte));
         assert!(rt; found.is_none(), "byte {byte} at {at}");
     }
+    Ok(())
 }
 
 // An inode of the busy segment, and whether it is in use.

@@ -48,16 +48,18 @@ const SEVERAL: &str =
     "0:03 80:020100000101'b 152:070000000202'aa 224:080000000103'a 440:090000000101'a";
 
 #[test]
-fn sectors_are_read_as_worked_out_by_hand(rt: HostRuntime) {
-    assert!(rt; decode(&block_of(0, SEVERAL)) == Some(several()));
-    assert!(rt; decode(&block_of(0, EMPTY_BLOCK)) == Some(EMPTY));
+fn sectors_are_read_as_worked_out_by_hand(rt: HostRuntime) -> Result<(), Fail> {
+    let (some, none) = (block_of(0, SEVERAL)?, block_of(0, EMPTY_BLOCK)?);
+    assert!(rt; decode(&some) == Some(several()));
+    assert!(rt; decode(&none) == Some(EMPTY));
     let mut written = [7; SECTOR_BYTES];
-    for block in [block_of(0, SEVERAL), block_of(0, EMPTY_BLOCK)] {
+    for block in [some, none] {
         if let Some(read) = decode(&block) {
             encode(&read, &mut written);
             assert!(rt; written == block);
         }
     }
+    Ok(())
 }
 
 // A fault, its place in the block of several entries, and the byte that stands there instead.
@@ -81,12 +83,13 @@ static REFUSED: [(&str, usize, u8); 16] = [
 ];
 
 #[test]
-fn other_sectors_are_refused(rt: HostRuntime) {
-    let several = block_of(0, SEVERAL);
+fn other_sectors_are_refused(rt: HostRuntime) -> Result<(), Fail> {
+    let several = block_of(0, SEVERAL)?;
     for (what, at, byte) in &REFUSED {
         let found = decode(&with(&several, *at, *byte));
         assert!(rt; found.is_none(), "{what}");
     }
+    Ok(())
 }
 
 // A name, and the place of its first entry.
@@ -118,7 +121,10 @@ const CHANGED: &str = "0:04 80:020100000101'b 152:070000000202'aa 440:0900000001
 
 #[test]
 fn what_changes_of_a_directory(rt: HostRuntime) -> Result<(), Fail> {
-    let (old, new) = (decode(&block_of(0, SEVERAL)), decode(&block_of(0, CHANGED)));
+    let (old, new) = (
+        decode(&block_of(0, SEVERAL)?),
+        decode(&block_of(0, CHANGED)?),
+    );
     assert!(rt; old.is_some() && new.is_some());
     if let (Some(old), Some(new)) = (&old, &new) {
         let found = patches(rt.alloc(), old, new)?;

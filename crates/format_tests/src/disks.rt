@@ -4,7 +4,7 @@ use disk_reading::{Disk, tree_read};
 use frang_base::{NoMemory, Said};
 use std::alloc::Global;
 use std::test::Fail;
-use test_tables::{is_row, lay_on, parted};
+use test_tables::{has_rows, is_row, lay_on, parted};
 
 // What is said of a node: its path, kind, size and links.
 type Line = (&'static str, u8, u32, u32);
@@ -153,6 +153,7 @@ fn is_broken_by(alloc: Global, change: &str) -> Result<bool, NoMemory> {
 
 #[test]
 fn a_disk_that_breaks_a_condition_stands_for_none(rt: HostRuntime) -> Result<(), Fail> {
+    assert!(rt; has_rows(BROKEN));
     for row in BROKEN.lines() {
         if is_row(row) {
             let (_, change) = parted(row);

@@ -4,7 +4,7 @@ use disk_definitions::Disk;
 use frang_base::limits::SECTOR_BYTES;
 use frang_base::{NoMemory, Sector};
 use image_file::{ImageRead, read_image, write_image};
-use std::alloc::{AllocError, Global};
+use std::alloc::Global;
 use std::test::Fail;
 use test_tables::lay;
 
@@ -37,9 +37,9 @@ fn front(image: &[u8], len: usize) -> &[u8] {
     }
 }
 
-fn fresh(alloc: Global) -> Result<Vec<u8>, AllocError> {
+fn fresh(alloc: Global) -> Result<Vec<u8>, NoMemory> {
     let mut image = vec![in alloc; 0; FRESH_LEN]?;
-    lay(&mut image, FRESH);
+    lay(&mut image, FRESH)?;
     Ok(image)
 }
 
@@ -51,9 +51,9 @@ fn fault_in(alloc: Global, image: &[u8]) -> Fault {
 }
 
 // The fault of the fresh image with these bytes in place of its own.
-fn fault_after(alloc: Global, pieces: &str) -> Result<Fault, AllocError> {
+fn fault_after(alloc: Global, pieces: &str) -> Result<Fault, NoMemory> {
     let mut image = fresh(alloc)?;
-    lay(&mut image, pieces);
+    lay(&mut image, pieces)?;
     Ok(fault_in(alloc, &image))
 }
 
@@ -110,7 +110,7 @@ fn bytes_that_end_early_or_late(rt: HostRuntime) -> Result<(), Fail> {
 #[test]
 fn the_greatest_count(rt: HostRuntime) -> Result<(), Fail> {
     let mut image = fresh(rt.alloc())?;
-    lay(&mut image, "8:ffffffffffffffff");
+    lay(&mut image, "8:ffffffffffffffff")?;
     assert!(rt; fault_in(rt.alloc(), &image) == (1576, 1));
     zero_from_to(&mut image, 8, 16);
     assert!(rt; fault_in(rt.alloc(), front(&image, 16)) == (16, 7));
@@ -176,7 +176,7 @@ fn sectors_of_zeros(rt: HostRuntime) -> Result<(), Fail> {
     let mut image = fresh(rt.alloc())?;
     zero_from_to(&mut image, 24, 536);
     assert!(rt; fault_in(rt.alloc(), &image) == (16, 7));
-    lay(&mut image, "16:01");
+    lay(&mut image, "16:01")?;
     assert!(rt; fault_in(rt.alloc(), &image) == (16, 7));
     Ok(())
 }

@@ -59,11 +59,12 @@ fn file(version: u64, links: u16, size: u64, when: u64) -> Inode
 }
 
 #[test]
-fn a_fresh_root_begins_with_its_version_kind_and_link(rt: HostRuntime) {
+fn a_fresh_root_begins_with_its_version_kind_and_link(rt: HostRuntime) -> Result<(), Fail> {
     let mut block = [7; SECTOR_BYTES];
     encode(&root(), &mut block);
-    assert!(rt; block == block_of(0, ROOT));
+    assert!(rt; block == block_of(0, ROOT)?);
     assert!(rt; decode(&block) == Some(root()));
+    Ok(())
 }
 
 fn link() -> Inode {
@@ -85,8 +86,9 @@ fn link() -> Inode {
 }
 
 #[test]
-fn a_link_is_read_field_by_field(rt: HostRuntime) {
-    assert!(rt; decode(&block_of(0, LINK)) == Some(link()));
+fn a_link_is_read_field_by_field(rt: HostRuntime) -> Result<(), Fail> {
+    assert!(rt; decode(&block_of(0, LINK)?) == Some(link()));
+    Ok(())
 }
 
 // A place of the link, the byte that stands there instead, and whether the block is then an inode's.
@@ -117,21 +119,23 @@ fn fits_with(block: &Block, at: usize, byte: u8) -> bool {
 }
 
 #[test]
-fn a_link_with_one_byte_changed(rt: HostRuntime) {
-    let link = block_of(0, LINK);
+fn a_link_with_one_byte_changed(rt: HostRuntime) -> Result<(), Fail> {
+    let link = block_of(0, LINK)?;
     for (at, byte, fits) in &LINKS_CHANGED {
         assert!(rt; fits_with(&link, *at, *byte) == *fits, "byte {at}");
     }
+    Ok(())
 }
 
 #[test]
-fn a_file_with_its_time(rt: HostRuntime) {
+fn a_file_with_its_time(rt: HostRuntime) -> Result<(), Fail> {
     let mut timed = file(4, 1, 258, 12_884_902_401);
     timed.birth = 8_589_934_593;
     let mut block = [7; SECTOR_BYTES];
     encode(&timed, &mut block);
-    assert!(rt; block == block_of(0, TIMED));
-    assert!(rt; decode(&block_of(0, TIMED)) == Some(timed));
+    assert!(rt; block == block_of(0, TIMED)?);
+    assert!(rt; decode(&block) == Some(timed));
+    Ok(())
 }
 
 // A place of the file, the byte that stands there instead, and the time that it then has, if the block is an inode's.
@@ -156,18 +160,18 @@ fn time_with(block: &Block, at: usize, byte: u8) -> Option<u64> {
 }
 
 #[test]
-fn a_timed_file_with_one_byte_changed(rt: HostRuntime) {
-    let timed = block_of(0, TIMED);
+fn a_timed_file_with_one_byte_changed(rt: HostRuntime) -> Result<(), Fail> {
+    let timed = block_of(0, TIMED)?;
     for (at, byte, time) in &TIMED_CHANGED {
         assert!(rt; time_with(&timed, *at, *byte) == *time, "byte {at}");
     }
+    Ok(())
 }
 
 // The first place of a time at which such a block may have another byte.
-fn first_timed(pieces: &str) -> Option<usize> {
-    let block = block_of(0, pieces);
+fn first_timed(block: &Block) -> Option<usize> {
     for at in 100..108 {
-        if fits_with(&block, at, 1) {
+        if fits_with(block, at, 1) {
             return Some(at);
         }
     }
@@ -175,10 +179,11 @@ fn first_timed(pieces: &str) -> Option<usize> {
 }
 
 #[test]
-fn only_files_have_a_time(rt: HostRuntime) {
-    assert!(rt; first_timed(ROOT).is_none(), "the root");
-    assert!(rt; first_timed("").is_none(), "a free inode");
-    assert!(rt; first_timed(LINK).is_none(), "a link");
+fn only_files_have_a_time(rt: HostRuntime) -> Result<(), Fail> {
+    assert!(rt; first_timed(&block_of(0, ROOT)?).is_none(), "the root");
+    assert!(rt; first_timed(&block_of(0, "")?).is_none(), "a free inode");
+    assert!(rt; first_timed(&block_of(0, LINK)?).is_none(), "a link");
+    Ok(())
 }
 
 const GROWN: &str = "10:02 16:0102 100:02";

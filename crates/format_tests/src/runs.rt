@@ -10,7 +10,7 @@ const RUNS: &str = "8:0102 100:03 102:04 510:0506";
 
 #[test]
 fn runs_are_as_long_as_they_can_be(rt: HostRuntime) -> Result<(), Fail> {
-    let found = patches_of(rt.alloc(), &block_of(0, ""), &block_of(0, NEW))?;
+    let found = patches_of(rt.alloc(), &block_of(0, "")?, &block_of(0, NEW)?)?;
     assert!(rt; are_pieces(&found, RUNS));
     Ok(())
 }
@@ -57,7 +57,7 @@ static JOINED: [(&str, &str); 5] = [
 #[test]
 fn forced_places_join_what_differs(rt: HostRuntime) -> Result<(), Fail> {
     for (bytes, runs) in &JOINED {
-        let (old, new) = (block_of(0, ""), block_of(0, bytes));
+        let (old, new) = (block_of(0, "")?, block_of(0, bytes)?);
         let found = patches_with(rt.alloc(), &old, &new, &(100..104))?;
         assert!(rt; are_pieces(&found, runs), "{bytes}");
     }

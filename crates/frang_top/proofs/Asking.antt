@@ -10,11 +10,11 @@ use Rattle.script_definitions.specs.declared.fault.ScriptFault.{ScriptFault}
 use Rattle.tree_definitions.specs.History.{Opening}
 use Rattle.frang_top.specs.declared.outcome.Outcome.{Outcome}
 use Rattle.frang_top.specs.declared.outcome.Outcome.TheVariants as ends
-use Rattle.frang_top.specs.Built.{built_script_of}
-use Rattle.frang_top.specs.Run.{NothingYet}
+use Rattle.script_runs.specs.Built.{built_script_of}
+use Rattle.script_runs.specs.Run.{NothingYet}
 use Rattle.frang_top.specs.Top.{AreHeld, HasFile, EndsRun, Ends, HasRun, opening_for, SaysBytes, SaysFile}
 use Rattle.command_words.specs.Commands.{Asks}
-use Rattle.frang_top.proofs.Turning.{says_nothing}
+use Rattle.script_runs.proofs.Turning.{says_nothing}
 
 -- where nothing is said, whatever the file is
 nothing_of : (opening : Opening) (read : Result (List Line) ScriptFault) (told : Option (List Act)) → NothingYet told → SaysBytes opening read told

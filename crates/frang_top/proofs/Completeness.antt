@@ -11,7 +11,7 @@ use Rattle.image_commands.proofs.AskedLaws.{complete as told_complete}
 use Rattle.frang_top.specs.declared.outcome.Outcome.{Outcome}
 use Rattle.frang_top.specs.declared.outcome.Outcome.TheVariants as ends
 use Rattle.frang_top.specs.declared.outcome.Status.{Status}
-use Rattle.frang_top.specs.Built.{built_script_of}
+use Rattle.script_runs.specs.Built.{built_script_of}
 use Rattle.frang_top.specs.Top.{AreHeld, HasFile, Ends, EndsFile, EndsRun, HasRun, HasRunFor, HasTold, IsComplete, IsCompleteOnImage, image_status, opening_for, status_of}
 
 -- a status of all done, or of want of memory

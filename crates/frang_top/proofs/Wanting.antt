@@ -6,7 +6,7 @@ use Rattle.command_words.specs.Commands.{Asked, Fsck, ImageAsks, Log, OnImage, R
 use Rattle.image_commands.specs.declared.end.ImageEnd.TheVariants as end
 use Rattle.image_commands.specs.Asked.{EndsAsked, LeavesFiles, OnlyWrites}
 use Rattle.frang_top.specs.declared.outcome.Outcome.TheVariants as ends
-use Rattle.frang_top.specs.Run.{NothingYet}
+use Rattle.script_runs.specs.Run.{NothingYet}
 use Rattle.frang_top.specs.Top.{HasRunFor, written_by}
 use Rattle.frang_top.proofs.Asking.{want_run}
 

@@ -1,4 +1,1 @@
-pub mod Gathered
-pub mod Pushed
-pub mod Reported
-pub mod Stands
+pub mod Lines

@@ -1,11 +1,8 @@
-//! The check of a disk: its report. The contract promises exactly the report of the definition, for every disk with a parameter sector. Segments
-//! are checked in threads of their own; with one processor the report is the same. It stands on the definition of reports, on the reader of disks
-//! and on the replay of logs.
+//! The report of the check of a disk, and the report as a line of JSON. It stands on the check, which is offered on here, and on the definition
+//! of reports.
 #![tactic(auto)]
 
-mod checking;
-mod counts;
-mod faults;
+mod line;
 
-pub use checking::{check, check_sectors};
-pub use report_json::{Fault, Report, report_line};
+pub use disk_check::{Fault, Report, check, check_sectors};
+pub use line::report_line;

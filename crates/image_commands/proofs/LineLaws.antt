@@ -14,7 +14,7 @@ use Rattle.disk_definitions.specs.Standing.{StandsFor}
 use Rattle.disk_definitions.specs.Replay.{replayed}
 use Rattle.disk_replay.specs.Laid.{greatest_at, greatest_kept, records_at}
 use Rattle.report_definitions.specs.Laws.{StandsForSome}
-use Rattle.fsck_report.proofs.Reported.{all_same, param_kept}
+use Rattle.disk_check.proofs.Reported.{all_same, param_kept}
 use Rattle.image_commands.specs.Lines.{recovered_below, recovered_by, recovered_line, records_in, EndsWithTree, IsTreeOf}
 
 pub recovered_none : (sectors : Sectors) → recovered_below sectors 0 ≡ []

@@ -17,7 +17,7 @@ use Rattle.disk_definitions.specs.Logs.{log_records, greatest_operation}
 use Rattle.disk_definitions.specs.Replay.{replayed, slots_of}
 use Rattle.disk_reading.specs.Lined.{AreLinesOf}
 use Rattle.report_definitions.specs.Report.{Report, IsReport}
-use Rattle.report_json.specs.Line.{report_text}
+use Rattle.fsck_report.specs.Line.{report_text}
 
 -- the records of a log
 abbrev pub records_in : Sectors → ℕ → List Redo

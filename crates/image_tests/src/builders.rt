@@ -1,5 +1,5 @@
 // Images by their bytes, and what calls of the program on them tell.
-ghost use Rattle.frang_top.specs.Run.{NothingYet};
+ghost use Rattle.script_runs.specs.Run.{NothingYet};
 
 use frang_base::NoMemory;
 use frang_outside::{Act, FileFault, Files, MemFiles, MemOutside, NoGate, Outside};
@@ -54,16 +54,11 @@ impl Files for FixedFiles {
     }
 }
 
-/// Zeros of this length, but for these pieces, the later ones laid over the others.
-pub fn image_of(
-    alloc: Global,
-    len: usize,
-    pieces: &str,
-    later: &str,
-) -> Result<Vec<u8>, AllocError> {
+/// Zeros of this length, but for these pieces, the later ones laid over the others. What is no piece is refused.
+pub fn image_of(alloc: Global, len: usize, pieces: &str, later: &str) -> Result<Vec<u8>, NoMemory> {
     let mut image = vec![in alloc; 0; len]?;
-    lay(&mut image, pieces);
-    lay(&mut image, later);
+    lay(&mut image, pieces)?;
+    lay(&mut image, later)?;
     Ok(image)
 }
 

@@ -129,7 +129,9 @@ static NO_TREE: [Damage; 1] = [(
 
 // The file `img`, which holds so many bytes of the fresh image with these laid over it.
 fn fresh_files(alloc: Global, len: usize, later: &str) -> Result<MemFiles, NoMemory> {
-    files_of(alloc, &image_of(alloc, len, FRESH, later)?)
+    let mut image = image_of(alloc, FRESH_LEN, FRESH, later)?;
+    image.resize(len, 0)?;
+    files_of(alloc, &image)
 }
 
 // A command refuses a damage as what it is.

@@ -4,7 +4,7 @@ use frang_base::{NoMemory, Sector};
 use fsck_report::{Fault, Report, check};
 use std::alloc::Global;
 use std::thread::Threads;
-use test_tables::{columns, is_row, lay_on, number, sector, split};
+use test_tables::{columns, has_rows, is_row, lay_on, number, sector, split};
 
 // A sound disk of two segments. The root, in block 0, names the directory `d`, the files `f` and `g` and the link `l`; `d`, in block 1,
 // names `f` as `h`. The file `f` has blocks 2 and 3; `g`, inode 64, has blocks 1024 to 1039 and large block 1. Block 4 was a directory's.
@@ -98,5 +98,5 @@ pub fn first_other<'a>(
             return Ok(row);
         }
     }
-    Ok("")
+    Ok(if has_rows(rows) { "" } else { "no row" })
 }

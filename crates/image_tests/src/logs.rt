@@ -6,7 +6,7 @@ use crate::builders::{
 use frang_base::NoMemory;
 use frang_outside::{FaultyOutside, Files, MemFiles};
 use frang_top::Status;
-use std::alloc::{AllocError, Global};
+use std::alloc::Global;
 use std::test::Fail;
 use std::thread::Threads;
 use test_tables::lay;
@@ -51,10 +51,10 @@ const SECOND_RECORD: &str = "
 ";
 
 // The image, these laid over it.
-fn logs_image(alloc: Global, later: &str) -> Result<Vec<u8>, AllocError> {
+fn logs_image(alloc: Global, later: &str) -> Result<Vec<u8>, NoMemory> {
     let mut image = image_of(alloc, LEN, FRAME, FIRST_RECORD)?;
-    lay(&mut image, SECOND_RECORD);
-    lay(&mut image, later);
+    lay(&mut image, SECOND_RECORD)?;
+    lay(&mut image, later)?;
     Ok(image)
 }
 

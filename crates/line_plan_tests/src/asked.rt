@@ -11,15 +11,16 @@ use frang_layout::{Region, region_of};
 use line_plan::{LineEnd, plan_line};
 use meta_version::Sectors;
 use plan_disks::{
-    Segments, are_all, bytes_op, held_of, leave_out, look_op, names_op, outcome_told, put_sectors,
-    sectors_of,
+    Segments, are_all, bytes_op, held_of, leave_out_but, look_op, names_op, outcome_told,
+    put_sectors, sectors_of,
 };
 use plan_steps::Outcome;
 use script_lang::print_script;
 use std::alloc::Global;
+use std::fmt::Write;
 use std::process::Abort;
 use std::test::Fail;
-use test_tables::{columns, is_row, split};
+use test_tables::{columns, has_rows, is_row, split};
 
 /// What is at hand of a disk.
 #[derive(Clone, Copy)]
@@ -58,6 +59,7 @@ pub(crate) fn expect(
     telling: Telling,
     rows: &str,
 ) -> Result<(), Fail> {
+    assert!(rt; has_rows(rows));
     for row in rows.lines() {
         if is_row(row) {
             let (line, setting, wanted) = columns(row);
@@ -77,7 +79,7 @@ fn told(
 ) -> Result<String, NoMemory> {
     let mut sectors = sectors_of(alloc, disk.laid)?;
     put_sectors(&mut sectors, disk.more)?;
-    leave_out(&mut sectors, setting);
+    leave_out_but(&mut sectors, setting, "whole")?;
     told_over(alloc, disk, telling, line, &sectors)
 }
 
@@ -160,30 +162,27 @@ fn locks_of(alloc: Global, hand: &Hand, looked: Looked, end: &LineEnd) -> Result
 fn looks_told(alloc: Global, sectors: &[Sector]) -> Result<String, NoMemory> {
     let mut text = String::new(alloc);
     for sector in sectors {
-        text.push_str(&sector_told(alloc, *sector)?)?;
+        add_sector(&mut text, *sector)?;
     }
     Ok(text)
 }
 
 // An inode by its number, a segment by its, a sector of a small block by block and part.
-fn sector_told(alloc: Global, sector: Sector) -> Result<String, NoMemory> {
-    let text = match region_of(sector, 1) {
-        Some(Region::Inode(number)) => format!(in alloc; "i{number} ")?,
-        Some(Region::Segment(number)) => format!(in alloc; "k{number} ")?,
-        Some(Region::Small { block, part }) => format!(in alloc; "s{block}.{part} ")?,
-        _ => format!(in alloc; "? ")?,
-    };
-    Ok(text)
+fn add_sector(text: &mut String, sector: Sector) -> Result<(), NoMemory> {
+    match region_of(sector, 1) {
+        Some(Region::Inode(number)) => write!(text, "i{number} ")?,
+        Some(Region::Segment(number)) => write!(text, "k{number} ")?,
+        Some(Region::Small { block, part }) => write!(text, "s{block}.{part} ")?,
+        _ => write!(text, "? ")?,
+    }
+    Ok(())
 }
 
 // How a line ends: what is done and what moves by it, or what is missing and its cover, or what has to be cleared and for which operation.
 fn end_told(alloc: Global, hand: &Hand, end: &LineEnd) -> Result<String, NoMemory> {
     match end {
         LineEnd::Done(outcome) => done_told(alloc, outcome),
-        LineEnd::Need(sector) => {
-            let cover = cover_told(alloc, hand, *sector)?;
-            Ok(format!(in alloc; "needs {}{cover}", sector.0)?)
-        }
+        LineEnd::Need(sector) => need_told(alloc, hand, *sector),
         LineEnd::Segments => Ok(format!(in alloc; "segments")?),
         LineEnd::Clear { block, over } => {
             let line = line_told(alloc, over)?;
@@ -196,7 +195,7 @@ fn end_told(alloc: Global, hand: &Hand, end: &LineEnd) -> Result<String, NoMemor
 fn done_told(alloc: Global, outcome: &Outcome) -> Result<String, NoMemory> {
     let mut text = outcome_told(alloc, outcome)?;
     for moved in &moves_of(alloc, outcome.edits.as_slice())? {
-        text.push_str(&move_told(alloc, moved)?)?;
+        add_move(&mut text, moved)?;
     }
     Ok(text)
 }
@@ -220,23 +219,25 @@ fn line_told(alloc: Global, op: &Op) -> Result<String, NoMemory> {
     Ok(text)
 }
 
-// The lock that covers a sector of the disk, which has one segment.
-fn cover_told(alloc: Global, hand: &Hand, sector: Sector) -> Result<String, NoMemory> {
-    match cover_of(hand, 1, sector) {
-        Some(lock) => Ok(format!(in alloc; " under {lock:?}")?),
-        None => Ok(String::new(alloc)),
+// A sector that is missing, and the lock that covers it on the disk, which has one segment.
+fn need_told(alloc: Global, hand: &Hand, sector: Sector) -> Result<String, NoMemory> {
+    let mut text = String::new(alloc);
+    write!(text, "needs {}", sector.0)?;
+    if let Some(lock) = cover_of(hand, 1, sector) {
+        write!(text, " under {lock:?}")?;
     }
+    Ok(text)
 }
 
 // A thing that moves, and the lock under which its sectors are then.
-fn move_told(alloc: Global, moved: &Move) -> Result<String, NoMemory> {
+fn add_move(text: &mut String, moved: &Move) -> Result<(), NoMemory> {
     let lock = moved.lock;
-    let text = match moved.thing {
-        Thing::Inode(number) => format!(in alloc; ", inode {number} under {lock:?}")?,
-        Thing::Small(block) => format!(in alloc; ", block {block} under {lock:?}")?,
-        Thing::Large(block) => format!(in alloc; ", large {block} under {lock:?}")?,
-    };
-    Ok(text)
+    match moved.thing {
+        Thing::Inode(number) => write!(text, ", inode {number} under {lock:?}")?,
+        Thing::Small(block) => write!(text, ", block {block} under {lock:?}")?,
+        Thing::Large(block) => write!(text, ", large {block} under {lock:?}")?,
+    }
+    Ok(())
 }
 
 // The operation of a line.

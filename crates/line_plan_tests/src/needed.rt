@@ -4,6 +4,7 @@ use frang_base::{LockId, Mode, NoMemory, Sector};
 use line_plan::LineEnd;
 use plan_locks::{LockSet, locks_of_clear, locks_of_finish};
 use std::alloc::Global;
+use std::fmt::Write;
 
 const DISK_SEGMENTS: u32 = 2;
 
@@ -22,34 +23,46 @@ pub(crate) fn locks_told(
         }
         LineEnd::Clear { block, over } => {
             let set = locks_of_clear(alloc, DISK_SEGMENTS, looked, over, *block)?;
-            let locks = set_told(alloc, &set)?;
-            Ok(format!(in alloc; "clear {block}: {locks}")?)
+            clear_told(alloc, *block, &set)
         }
         LineEnd::Need(_) | LineEnd::Segments => Ok(String::new(alloc)),
     }
 }
 
-// The locks of both segments and of nine nodes, as far as they are needed.
-fn set_told(alloc: Global, set: &LockSet) -> Result<String, NoMemory> {
+fn clear_told(alloc: Global, block: u32, set: &LockSet) -> Result<String, NoMemory> {
     let mut text = String::new(alloc);
-    for segment in 0..DISK_SEGMENTS {
-        text.push_str(&lock_told(alloc, set, LockId::Segment(segment))?)?;
-    }
-    for inode in 0..9 {
-        text.push_str(&lock_told(alloc, set, LockId::Node(inode))?)?;
-    }
+    write!(text, "clear {block}: ")?;
+    add_set(&mut text, set)?;
     Ok(text)
 }
 
-fn lock_told(alloc: Global, set: &LockSet, lock: LockId) -> Result<String, NoMemory> {
+fn set_told(alloc: Global, set: &LockSet) -> Result<String, NoMemory> {
+    let mut text = String::new(alloc);
+    add_set(&mut text, set)?;
+    Ok(text)
+}
+
+// The locks of both segments and of nine nodes, as far as they are needed.
+fn add_set(text: &mut String, set: &LockSet) -> Result<(), NoMemory> {
+    for segment in 0..DISK_SEGMENTS {
+        add_lock(text, set, LockId::Segment(segment))?;
+    }
+    for inode in 0..9 {
+        add_lock(text, set, LockId::Node(inode))?;
+    }
+    Ok(())
+}
+
+fn add_lock(text: &mut String, set: &LockSet, lock: LockId) -> Result<(), NoMemory> {
     let sole = match set.mode(lock) {
-        None => return Ok(String::new(alloc)),
+        None => return Ok(()),
         Some(Mode::Shared) => "",
         Some(Mode::Sole) => "!",
     };
     match lock {
-        LockId::Log(log) => Ok(format!(in alloc; "l{log}{sole} ")?),
-        LockId::Segment(segment) => Ok(format!(in alloc; "s{segment}{sole} ")?),
-        LockId::Node(inode) => Ok(format!(in alloc; "n{inode}{sole} ")?),
+        LockId::Log(log) => write!(text, "l{log}{sole} ")?,
+        LockId::Segment(segment) => write!(text, "s{segment}{sole} ")?,
+        LockId::Node(inode) => write!(text, "n{inode}{sole} ")?,
     }
+    Ok(())
 }

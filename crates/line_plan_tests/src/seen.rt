@@ -17,7 +17,7 @@ fn sees_again(rt: &impl Abort, sectors: &mut Sectors, seen: &mut Seen) -> Result
     assert!(rt; seen.has(Sector(3)));
     assert!(rt; !seen.has(Sector(5)));
     assert!(rt; seen.compare(sectors) == Comparison::HasGoneThrough);
-    sectors.set(Sector(3), block_of(0, "0:2d01"))?;
+    sectors.set(Sector(3), block_of(0, "0:2d01")?)?;
     seen.add(sectors, Sector(3))?;
     assert!(rt; seen.compare(sectors) == Comparison::HasMoved);
     Ok(())
@@ -33,7 +33,7 @@ fn sectors_are_seen_once(rt: HostRuntime) -> Result<(), Fail> {
 // Of three seen sectors the second gets another version, and then the others go.
 fn compares(rt: &impl Abort, sectors: &mut Sectors, seen: &mut Seen) -> Result<(), Fail> {
     seen.add_all(sectors, &[Sector(7), Sector(3), Sector(5)])?;
-    sectors.set(Sector(3), block_of(0, "0:2c"))?;
+    sectors.set(Sector(3), block_of(0, "0:2c")?)?;
     sectors.remove(Sector(5));
     assert!(rt; seen.compare(sectors) == Comparison::HasMoved);
     sectors.remove(Sector(7));

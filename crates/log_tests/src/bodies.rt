@@ -17,7 +17,7 @@ static BODY: [u8; 54] = [
 fn edited(alloc: Global, len: usize, edits: &str) -> Result<Vec<u8>, NoMemory> {
     let mut bytes = BODY.as_slice().to_vec(alloc)?;
     bytes.resize(len, 0)?;
-    lay(&mut bytes, edits);
+    lay(&mut bytes, edits)?;
     Ok(bytes)
 }
 

@@ -6,7 +6,7 @@ use log_reading::{greatest_operation, read_log};
 use std::alloc::Global;
 use std::process::Abort;
 use std::test::Fail;
-use test_tables::{columns, is_row, number, split};
+use test_tables::{columns, has_rows, is_row, number, split};
 
 // The place of the first frame in a sector where none begins.
 const NONE: u16 = 65_535;
@@ -228,15 +228,34 @@ fn lay(alloc: Global, slots: &mut [Block], word: &str, n: &[u64]) -> Result<(), 
 fn numbers_of(alloc: Global, words: &str) -> Result<Vec<u64>, NoMemory> {
     let mut numbers = Vec::new(alloc);
     for word in words.split_whitespace() {
-        numbers.push(number(word).unwrap_or(0))?;
+        match number(word) {
+            Some(number) => numbers.push(number)?,
+            None => return Err(NoMemory),
+        }
     }
     Ok(numbers)
 }
 
+// How many numbers a piece has at least, by its word.
+fn fewest_numbers(word: &str) -> Option<usize> {
+    match word {
+        "" => Some(0),
+        "frames" | "lacks" => Some(1),
+        "empty" | "garbage" | "placed" | "no_body" | "head" => Some(2),
+        "record" | "bytes" => Some(3),
+        "part" => Some(4),
+        _ => None,
+    }
+}
+
+// What is no piece is refused by the error that want of memory has.
 fn lay_piece(alloc: Global, slots: &mut [Block], piece: &str) -> Result<(), NoMemory> {
     let (word, words) = split(piece.trim(), " ");
     let numbers = numbers_of(alloc, words)?;
-    lay(alloc, slots, word, &numbers)
+    match fewest_numbers(word) {
+        Some(fewest) if fewest <= numbers.len() => lay(alloc, slots, word, &numbers),
+        _ => Err(NoMemory),
+    }
 }
 
 // The end of the log of these pieces, and its records.
@@ -277,6 +296,7 @@ fn is_read(alloc: Global, pieces: &str, told: &str) -> Result<bool, NoMemory> {
 
 /// Each of these logs is read as worked out: a row has its name, its pieces, and its end with the operations of its records.
 pub(crate) fn expect(rt: &impl Abort, alloc: Global, rows: &str) -> Result<(), Fail> {
+    assert!(rt; has_rows(rows));
     for row in rows.lines() {
         if is_row(row) {
             let (name, pieces, told) = columns(row);

@@ -102,14 +102,18 @@ fn set(disk: &mut Disk, sector: u64, block: Block) -> Result<(), NoMemory> {
     disk.set(Sector(sector), block)
 }
 
-// The disk with two records in log 0 and one in log 255, as an older program wrote them.
+// Lays two records in log 0 and one in log 255, as an older program wrote them, and what stands beside the logs.
+fn lay_logs(alloc: Global, disk: &mut Disk) -> Result<(), NoMemory> {
+    lay_on(disk, PARAMETERS)?;
+    lay_on(disk, BEFORE)?;
+    set(disk, LOG_0, record(alloc, 256, 5, &MANY)?)?;
+    set(disk, LOG_0 + 1, record(alloc, 257, 4, &SECOND)?)?;
+    set(disk, LOG_255, record(alloc, 256, 9, &OTHER)?)
+}
+
 fn with_logs(alloc: Global) -> Result<Disk, NoMemory> {
     let mut disk = Disk::new(alloc);
-    lay_on(&mut disk, PARAMETERS)?;
-    lay_on(&mut disk, BEFORE)?;
-    set(&mut disk, LOG_0, record(alloc, 256, 5, &MANY)?)?;
-    set(&mut disk, LOG_0 + 1, record(alloc, 257, 4, &SECOND)?)?;
-    set(&mut disk, LOG_255, record(alloc, 256, 9, &OTHER)?)?;
+    lay_logs(alloc, &mut disk)?;
     Ok(disk)
 }
 
@@ -127,38 +131,43 @@ fn push_frame(
     add(bytes, &body)
 }
 
-// The same disk, the records of log 0 packed in one sector.
-fn with_packed_log(alloc: Global) -> Result<Disk, NoMemory> {
-    let mut disk = with_logs(alloc)?;
+// The records of log 0 packed in one sector.
+fn packed_log(alloc: Global) -> Result<Block, NoMemory> {
     let mut bytes = Vec::new(alloc);
     push_frame(alloc, &mut bytes, 5, &MANY)?;
     push_frame(alloc, &mut bytes, 4, &SECOND)?;
-    set(&mut disk, LOG_0, packed_block(256, 0, &bytes))?;
+    Ok(packed_block(256, 0, &bytes))
+}
+
+// The same disk with that sector.
+fn with_packed_log(alloc: Global) -> Result<Disk, NoMemory> {
+    let mut disk = with_logs(alloc)?;
+    set(&mut disk, LOG_0, packed_log(alloc)?)?;
     set(&mut disk, LOG_0 + 1, [0; 512])?;
     Ok(disk)
 }
 
 // Whether a line's sector has the pieces that it tells, and zeros else.
-fn is_so(disk: &Disk, line: &str) -> bool {
+fn is_so(disk: &Disk, line: &str) -> Result<bool, NoMemory> {
     let (word, pieces) = split(line, " ");
     match sector(word) {
-        Some(number) => disk.get(Sector(number)) == block_of(0, pieces),
-        None => line.is_empty(),
+        Some(number) => Ok(disk.get(Sector(number)) == block_of(0, pieces)?),
+        None => Ok(line.is_empty()),
     }
 }
 
 // Whether all sectors of a text are as its lines tell.
-fn are_so(disk: &Disk, text: &str) -> bool {
+fn are_so(disk: &Disk, text: &str) -> Result<bool, NoMemory> {
     for line in text.lines() {
-        if !is_so(disk, line) {
-            return false;
+        if !is_so(disk, line)? {
+            return Ok(false);
         }
     }
-    true
+    Ok(true)
 }
 
 // What the replay of a disk holds is as worked out.
-fn is_as_worked_out(once: &Disk) -> bool {
+fn is_as_worked_out(once: &Disk) -> Result<bool, NoMemory> {
     are_so(once, AFTER)
 }
 
@@ -194,7 +203,7 @@ fn is_replayed(alloc: Global, disk: &Disk) -> Result<bool, NoMemory> {
 fn is_left(alloc: Global, once: &Disk) -> Result<bool, NoMemory> {
     let twice = replay(alloc, once)?;
     let is_empty = greatest_of(alloc, once, 0)? == 0;
-    Ok(is_as_worked_out(once) && is_as_worked_out(&twice) && is_empty)
+    Ok(is_as_worked_out(once)? && is_as_worked_out(&twice)? && is_empty)
 }
 
 #[test]
@@ -219,12 +228,25 @@ const UNCHANGED: &str = "
 s0
 ";
 
+fn without_parameters(alloc: Global) -> Result<Disk, NoMemory> {
+    let mut disk = with_logs(alloc)?;
+    set(
+        &mut disk,
+        PARAMETER_SECTOR,
+        block_of(0, "0:'FRANGPAR 8:02")?,
+    )?;
+    Ok(disk)
+}
+
+// Its replay changes nothing but the logs.
+fn stays_as_it_is(alloc: Global, disk: &Disk) -> Result<bool, NoMemory> {
+    let once = replay(alloc, disk)?;
+    Ok(are_so(&once, BEFORE)? && are_so(&once, UNCHANGED)?)
+}
+
 #[test]
 fn without_parameters_no_change_is_made(rt: HostRuntime) -> Result<(), Fail> {
-    let mut disk = with_logs(rt.alloc())?;
-    set(&mut disk, PARAMETER_SECTOR, block_of(0, "0:'FRANGPAR 8:02"))?;
-    let once = replay(rt.alloc(), &disk)?;
-    assert!(rt; are_so(&once, BEFORE));
-    assert!(rt; are_so(&once, UNCHANGED));
+    let disk = without_parameters(rt.alloc())?;
+    assert!(rt; stays_as_it_is(rt.alloc(), &disk)?);
     Ok(())
 }

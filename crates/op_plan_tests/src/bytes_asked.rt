@@ -2,6 +2,7 @@
 ghost use Rattle.disk_definitions.specs.Held.{AreSegments};
 ghost use Rattle.op_data.specs.Bytes.{IsOfBytes};
 
+use crate::expected::expect_told;
 use dir_lookup::{Hand, Looked};
 use frang_base::{NoMemory, Op};
 use meta_version::Sectors;
@@ -12,7 +13,7 @@ use plan_disks::{
 use std::alloc::Global;
 use std::process::Abort;
 use std::test::Fail;
-use test_tables::{columns, is_row};
+use test_tables::{columns, has_rows, is_row};
 
 /// What is told of a plan: its edits, or what they write.
 #[derive(Clone, Copy)]
@@ -29,8 +30,8 @@ pub(crate) struct Setup {
     pub(crate) telling: Telling,
 }
 
-// Tick 600 of run 3, the time of a plan whose setting has none.
-const WHEN: u64 = 3 * 4_294_967_296 + 600;
+/// Tick 600 of run 3, the time of a plan whose setting has none.
+pub(crate) const WHEN: u64 = 3 * 4_294_967_296 + 600;
 
 /// Each plan is as worked out: a row has an operation, the setting in which it is asked, and what is told.
 pub(crate) fn expect(
@@ -50,11 +51,12 @@ fn expect_over(
     setup: &Setup,
     rows: &str,
 ) -> Result<(), Fail> {
+    assert!(rt; has_rows(rows));
     for row in rows.lines() {
         if is_row(row) {
             let (line, setting, wanted) = columns(row);
             let text = told(alloc, sectors, setup, line, setting)?;
-            assert!(rt; text.as_str() == wanted, "{row}: {text}");
+            expect_told(rt, row, text.as_str(), wanted);
         }
     }
     Ok(())
@@ -73,7 +75,7 @@ fn told(
         held: &held,
         all: are_all(setting),
     };
-    told_at_hand(alloc, &hand, setup.telling, line, when_of(setting, WHEN))
+    told_at_hand(alloc, &hand, setup.telling, line, when_of(setting, WHEN)?)
 }
 
 fn told_at_hand(

@@ -7,6 +7,8 @@ mod bytes;
 #[cfg(test)]
 mod bytes_asked;
 #[cfg(test)]
+mod expected;
+#[cfg(test)]
 mod looks;
 #[cfg(test)]
 mod names;

@@ -1,14 +1,15 @@
 // Looks over a small disk whose sectors were worked out by hand, and what is asked for where a sector isn't cached.
 ghost use Rattle.op_look.specs.Looks.{IsLook};
 
+use crate::expected::expect_told;
 use frang_base::{NoMemory, Op};
 use meta_version::Sectors;
 use op_look::plan_look;
-use plan_disks::{leave_out, look_op, plan_told, sectors_of};
+use plan_disks::{leave_out_but, look_op, plan_told, sectors_of};
 use std::alloc::Global;
 use std::process::Abort;
 use std::test::Fail;
-use test_tables::{columns, is_row};
+use test_tables::{columns, has_rows, is_row};
 
 // Inodes 0 to 3, 5, and 7 to 9, blocks 0 and 1. The root has ten entries in block 0. The file /a, which is /B and /d/x too, has five bytes in
 // block 2; it was written at tick 67,305,985 of run 134,678,021. The file /u was never written, and /w in the last tick of the last run. The
@@ -30,11 +31,12 @@ s1 80:010000000101'x
 
 // Each look is answered as worked out: a row has a look, the sector that isn't cached, and what is told.
 fn expect(rt: &impl Abort, alloc: Global, rows: &str) -> Result<(), Fail> {
+    assert!(rt; has_rows(rows));
     for row in rows.lines() {
         if is_row(row) {
             let (line, setting, wanted) = columns(row);
             let text = told(alloc, line, setting)?;
-            assert!(rt; text.as_str() == wanted, "{row}: {text}");
+            expect_told(rt, row, text.as_str(), wanted);
         }
     }
     Ok(())
@@ -42,7 +44,7 @@ fn expect(rt: &impl Abort, alloc: Global, rows: &str) -> Result<(), Fail> {
 
 fn told(alloc: Global, line: &str, setting: &str) -> Result<String, NoMemory> {
     let mut sectors = sectors_of(alloc, DISK)?;
-    leave_out(&mut sectors, setting);
+    leave_out_but(&mut sectors, setting, "whole")?;
     told_over(alloc, line, &sectors)
 }
 

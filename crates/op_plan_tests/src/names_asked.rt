@@ -4,6 +4,7 @@ ghost use Rattle.disk_definitions.specs.Held.{AreSegments};
 ghost use Rattle.op_dir.specs.Names.{IsOfNames};
 
 use crate::bytes_asked::{Setup, Telling};
+use crate::expected::expect_told;
 use dir_lookup::{Hand, Looked};
 use frang_base::{NoMemory, Op};
 use meta_version::Sectors;
@@ -12,7 +13,7 @@ use plan_disks::{are_all, ended_told, held_of, leave_out, names_op, sectors_of, 
 use std::alloc::Global;
 use std::process::Abort;
 use std::test::Fail;
-use test_tables::{columns, is_row};
+use test_tables::{columns, has_rows, is_row};
 
 // Line 7 of run 3.
 const BIRTH: u64 = 3 * 4_294_967_296 + 7;
@@ -24,11 +25,12 @@ pub(crate) fn expect(
     setup: &Setup,
     rows: &str,
 ) -> Result<(), Fail> {
+    assert!(rt; has_rows(rows));
     for row in rows.lines() {
         if is_row(row) {
             let (line, setting, wanted) = columns(row);
             let text = told(alloc, setup, line, setting)?;
-            assert!(rt; text.as_str() == wanted, "{row}: {text}");
+            expect_told(rt, row, text.as_str(), wanted);
         }
     }
     Ok(())
@@ -36,7 +38,7 @@ pub(crate) fn expect(
 
 fn told(alloc: Global, setup: &Setup, line: &str, setting: &str) -> Result<String, NoMemory> {
     let mut sectors = sectors_of(alloc, setup.disk)?;
-    leave_out(&mut sectors, setting);
+    leave_out(&mut sectors, setting)?;
     told_over(alloc, &sectors, setup, line, setting)
 }
 

@@ -1,17 +1,21 @@
 // A disk from before files had times, written out by hand: it is read as a tree whose files were never written, and plans are made over it as
-// over any disk. What a plan writes, laid over the disk, makes one whose file has its time.
-use crate::bytes_asked::{Setup, Telling, expect};
+// over any disk. What a plan changes and writes, made on the disk, leads to one whose file has its time.
+ghost use Rattle.op_data.specs.Bytes.{IsOfBytes};
+
+use crate::bytes_asked::{Setup, Telling, WHEN, expect};
 use crate::looks::told_over;
+use dir_lookup::{Hand, Looked};
 use disk_reading::{Disk, tree_read};
-use frang_base::NoMemory;
-use plan_disks::{Segment, path_of, sectors_of};
+use edit_writing::{byte_writes, changes_of, have_next_versions};
+use frang_base::{Block, Change, Changes, NoMemory, Op, Sector};
+use meta_version::{Sectors, apply, is_change};
+use op_data::plan_bytes;
+use plan_disks::{Segment, bytes_op, held_of, path_of, sectors_of};
+use plan_steps::Edit;
 use reply_text::write_line;
 use std::alloc::Global;
 use std::test::Fail;
 use test_tables::lay_on;
-
-// Tick 600 of run 3.
-const WHEN: u64 = 3 * 4_294_967_296 + 600;
 
 // The segment: inodes 0 to 3; block 0 is a directory's, block 1 has bytes.
 const SEGMENT: Segment = Segment {
@@ -34,16 +38,14 @@ i0 0:04 8:020001000100000003
 i1 0:02 8:010001000100000005 24:020000000100000001
 i2 0:01 8:020001 24:0300000001
 i3 0:01 8:030001000000000001 24:0400000001 128:'f
-s0+8
+s0.1; s0.2; s0.3; s0.4; s0.5; s0.6; s0.7
 s0 0:04 8:010000000101'f 80:020000000102'd 152:030000000103'l
 s1 0:'hello
 ";
 
-// The disk with this laid over it.
-fn disk(alloc: Global, more: &str) -> Result<Disk, NoMemory> {
+fn disk(alloc: Global) -> Result<Disk, NoMemory> {
     let mut disk = Disk::new(alloc);
     lay_on(&mut disk, LAID)?;
-    lay_on(&mut disk, more)?;
     Ok(disk)
 }
 
@@ -72,7 +74,7 @@ fn when_of(alloc: Global, disk: &Disk) -> Result<Option<u64>, NoMemory> {
 
 #[test]
 fn a_disk_of_the_first_format_is_read(rt: HostRuntime) -> Result<(), Fail> {
-    let disk = disk(rt.alloc(), "")?;
+    let disk = disk(rt.alloc())?;
     let lines = lines_of(rt.alloc(), &disk)?;
     assert!(rt;
         lines.as_slice() == "= / dir 3\n= /d dir 0\n= /f file 5 1\n= /l link 1\n".as_bytes()
@@ -113,16 +115,97 @@ fn plans_over_a_disk_of_the_first_format(rt: HostRuntime) -> Result<(), Fail> {
     Ok(())
 }
 
-// What the plan of `write /f 5 !` changes and writes on the disk, in run 3 and of format 2.
-const WRITTEN: &str = "
-0 0:'FRANGPAR 8:020000000100000003
-i1 0:03 16:06 100:5802000003000000
-s1 0:'hello!
-";
+// The parameters of format 2 in run 3.
+const NEW_PARAMETERS: &str = "0 0:'FRANGPAR 8:020000000100000003";
+
+// Makes the changes on the disk.
+fn make(disk: &mut Disk, changes: &[Change]) -> Result<(), NoMemory> {
+    for change in changes {
+        let mut block = disk.get(change.sector);
+        if is_change(change) {
+            apply(&mut block, change);
+        }
+        disk.set(change.sector, block)?;
+    }
+    Ok(())
+}
+
+// Writes the bytes on the disk.
+fn write(disk: &mut Disk, bytes: &[(Sector, Block)]) -> Result<(), NoMemory> {
+    for (sector, block) in bytes {
+        disk.set(*sector, *block)?;
+    }
+    Ok(())
+}
+
+// The changes by which the edits are made over what is at hand; none where a version has no next one.
+fn changes(alloc: Global, sectors: &Sectors, edits: &[Edit]) -> Result<Changes, NoMemory> {
+    let held = &held_of(alloc, &SEGMENTS, "segment")?;
+    let hand = Hand {
+        sectors,
+        held,
+        all: true,
+    };
+    if have_next_versions(&hand, edits) {
+        changes_of(alloc, &hand, edits)
+    } else {
+        Ok(Changes::from_vec(Vec::new(alloc)))
+    }
+}
+
+// Makes on the disk what the edits change and write.
+fn make_edits(
+    alloc: Global,
+    disk: &mut Disk,
+    sectors: &Sectors,
+    edits: &[Edit],
+) -> Result<(), NoMemory> {
+    make(disk, changes(alloc, sectors, edits)?.as_slice())?;
+    write(disk, byte_writes(alloc, edits)?.as_slice())
+}
+
+// The disk in run 3 and of format 2, once `!` is written at the end of /f by the plan over the old disk.
+fn written_disk(alloc: Global) -> Result<Disk, NoMemory> {
+    let mut disk = disk(alloc)?;
+    lay_on(&mut disk, NEW_PARAMETERS)?;
+    write_over(alloc, &mut disk)?;
+    Ok(disk)
+}
+
+fn write_over(alloc: Global, disk: &mut Disk) -> Result<(), NoMemory> {
+    let sectors = sectors_of(alloc, LAID)?;
+    write_by(alloc, disk, &sectors)
+}
+
+fn write_by(alloc: Global, disk: &mut Disk, sectors: &Sectors) -> Result<(), NoMemory> {
+    let held = held_of(alloc, &SEGMENTS, "segment")?;
+    let hand = Hand {
+        sectors,
+        held: &held,
+        all: true,
+    };
+    write_at_hand(alloc, disk, &hand)
+}
+
+fn write_at_hand(alloc: Global, disk: &mut Disk, hand: &Hand) -> Result<(), NoMemory> {
+    let op = bytes_op(alloc, "write /f 5 !")?;
+    write_planned(alloc, disk, hand, &op)
+}
+
+// Makes on the disk what the plan of an operation changes and writes.
+fn write_planned(alloc: Global, disk: &mut Disk, hand: &Hand, op: &Op) -> Result<(), NoMemory>
+    requires { IsOfBytes op.now }
+{
+    let mut looked = Looked::unasked();
+    match plan_bytes(alloc, op, WHEN, hand, &mut looked) {
+        Ok(outcome) => make_edits(alloc, disk, hand.sectors, &outcome.edits),
+        Err(_) => Ok(()),
+    }
+}
 
 #[test]
 fn what_is_written_over_it_has_a_time(rt: HostRuntime) -> Result<(), Fail> {
-    let disk = disk(rt.alloc(), WRITTEN)?;
+    let disk = written_disk(rt.alloc())?;
     let lines = lines_of(rt.alloc(), &disk)?;
     assert!(rt;
         lines.as_slice() == "= / dir 3\n= /d dir 0\n= /f file 6 1\n= /l link 1\n".as_bytes()

@@ -1,6 +1,6 @@
 // Picks from segments written out by hand, and that a pick of many succeeds while there is memory.
 use bitmap_alloc::{Use, pick_inode, pick_large, pick_many, pick_small};
-use frang_base::NoMemory;
+use frang_base::{Held, NoMemory};
 use plan_disks::{Segment, held_of};
 use std::alloc::Global;
 use std::test::Fail;
@@ -90,11 +90,19 @@ static PICKS: [Row; 6] = [
 fn are_picked(alloc: Global, row: &Row) -> Result<bool, NoMemory> {
     let (segments, picks, three) = *row;
     let held = held_of(alloc, &SEGMENTS, segments)?;
-    let small = pick_small(&held, Use::Bytes);
-    let directory = pick_small(&held, Use::Directory);
-    let picked = [pick_inode(&held), small, directory, pick_large(&held)];
-    let many = pick_many(alloc, &held, 3)?;
-    Ok(picked == picks && many.as_deref() == three)
+    Ok(are_each_picked(&held, &picks) && are_many_picked(alloc, &held, three)?)
+}
+
+// An inode, a small block for bytes, one for a directory, and a large block.
+fn are_each_picked(held: &Held, picks: &[Option<u32>; 4]) -> bool {
+    let small = pick_small(held, Use::Bytes);
+    let directory = pick_small(held, Use::Directory);
+    [pick_inode(held), small, directory, pick_large(held)] == *picks
+}
+
+fn are_many_picked(alloc: Global, held: &Held, three: Option<&[u32]>) -> Result<bool, NoMemory> {
+    let many = pick_many(alloc, held, 3)?;
+    Ok(many.as_deref() == three)
 }
 
 #[test]

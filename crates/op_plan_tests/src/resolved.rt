@@ -1,13 +1,15 @@
 // Where paths lead once links are followed, over a small disk whose sectors were worked out by hand, and which sector is asked for where one
 // isn't cached.
+use crate::expected::expect_told;
 use frang_base::{NoMemory, Path};
 use meta_version::Sectors;
 use namei::{Resolved, resolve};
-use plan_disks::{leave_out, path_of, sectors_of};
+use plan_disks::{leave_out_but, path_of, sectors_of};
 use std::alloc::Global;
+use std::fmt::Write;
 use std::process::Abort;
 use std::test::Fail;
-use test_tables::{columns, has_word, is_row};
+use test_tables::{columns, has_rows, has_word, is_row};
 
 // The root in block 0, with the directory /d, the file /f and links. /d in block 1 has the file `k`, the directory `w` and the links `m`, `n`
 // and `v`; /d/w in block 2 has the file `z` and the link `y`. Each inode of a link has its target. The links /1 to /9 are a chain, of which /1
@@ -61,11 +63,12 @@ s2 8:050000000101'z 80:1f0000000103'y
 // Each path leads where it was worked out: a row has a path, whether its last name is followed or kept with the sector that isn't cached, and where
 // it leads.
 fn expect(rt: &impl Abort, alloc: Global, rows: &str) -> Result<(), Fail> {
+    assert!(rt; has_rows(rows));
     for row in rows.lines() {
         if is_row(row) {
             let (path, setting, wanted) = columns(row);
             let text = told(alloc, path, setting)?;
-            assert!(rt; text.as_str() == wanted, "{row}: {text}");
+            expect_told(rt, row, text.as_str(), wanted);
         }
     }
     Ok(())
@@ -73,7 +76,7 @@ fn expect(rt: &impl Abort, alloc: Global, rows: &str) -> Result<(), Fail> {
 
 fn told(alloc: Global, path: &str, setting: &str) -> Result<String, NoMemory> {
     let mut sectors = sectors_of(alloc, DISK)?;
-    leave_out(&mut sectors, setting);
+    leave_out_but(&mut sectors, setting, "followed kept")?;
     told_over(alloc, path, setting, &sectors)
 }
 
@@ -90,24 +93,30 @@ fn told_over(
 }
 
 fn resolved_told(alloc: Global, resolved: &Resolved) -> Result<String, NoMemory> {
-    match resolved {
-        Resolved::Need(sector) => Ok(format!(in alloc; "needs {}", sector.0)?),
-        Resolved::At(path) => path_told(alloc, path),
-        Resolved::NoEnt => Ok(format!(in alloc; "noent")?),
-        Resolved::NotDir => Ok(format!(in alloc; "notdir")?),
-        Resolved::Loop => Ok(format!(in alloc; "loop")?),
-    }
+    let mut text = String::new(alloc);
+    add_resolved(&mut text, resolved)?;
+    Ok(text)
 }
 
-fn path_told(alloc: Global, path: &Path) -> Result<String, NoMemory> {
-    let mut text = String::new(alloc);
+fn add_resolved(text: &mut String, resolved: &Resolved) -> Result<(), NoMemory> {
+    match resolved {
+        Resolved::Need(sector) => write!(text, "needs {}", sector.0)?,
+        Resolved::At(path) => add_path(text, path)?,
+        Resolved::NoEnt => write!(text, "noent")?,
+        Resolved::NotDir => write!(text, "notdir")?,
+        Resolved::Loop => write!(text, "loop")?,
+    }
+    Ok(())
+}
+
+fn add_path(text: &mut String, path: &Path) -> Result<(), NoMemory> {
     for name in path.as_slice() {
         text.push('/')?;
         for byte in name.as_slice() {
             text.push(char::from(*byte))?;
         }
     }
-    Ok(text)
+    Ok(())
 }
 
 // `/` is told as an empty text.

@@ -4,7 +4,7 @@ use frang_base::{Block, NoMemory, Sector};
 use frang_layout::{Region, sector_of};
 use meta_version::Sectors;
 use std::alloc::Global;
-use test_tables::{block_of, byte, number, sector, split};
+use test_tables::{block_of, byte, is_row, number_or, sector, split};
 
 // So many sectors of one byte from one on.
 #[derive(Clone, Copy)]
@@ -14,10 +14,10 @@ struct Run {
     byte: u8,
 }
 
-/// The sectors of a disk that are cached, by a text whose lines have one or more parts, parted by `;`: `i4` is the sector of inode 4 and zeros, `s4+24`
+/// The sectors of a disk that are cached, by a text whose rows have one or more parts, parted by `;`: `i4` is the sector of inode 4 and zeros, `s4+24`
 /// are so many sectors from the first one of small block 4 on, `s4=7f` is a sector of this byte, and behind that stand the pieces that differ. `full 5 6`
-/// are blocks of directories in which every place has an entry. Later parts take the place of earlier ones; what is none of these is left out. The one
-/// refusal is want of memory.
+/// are blocks of directories in which every place has an entry. Later parts take the place of earlier ones. What is none of these is refused, and so is
+/// want of memory.
 pub fn sectors_of(alloc: Global, disk: &str) -> Result<Sectors, NoMemory> {
     let mut sectors = Sectors::new(alloc);
     put_sectors(&mut sectors, disk)?;
@@ -27,7 +27,9 @@ pub fn sectors_of(alloc: Global, disk: &str) -> Result<Sectors, NoMemory> {
 /// The same over sectors that are cached before.
 pub fn put_sectors(sectors: &mut Sectors, disk: &str) -> Result<(), NoMemory> {
     for line in disk.lines() {
-        put_line(sectors, line)?;
+        if is_row(line) {
+            put_line(sectors, line)?;
+        }
     }
     Ok(())
 }
@@ -35,10 +37,10 @@ pub fn put_sectors(sectors: &mut Sectors, disk: &str) -> Result<(), NoMemory> {
 fn put_line(sectors: &mut Sectors, line: &str) -> Result<(), NoMemory> {
     for part in line.split(';') {
         let (first, rest) = split(part.trim(), " ");
-        if first == "full" {
-            put_full_blocks(sectors, rest)?;
-        } else {
-            put_run(sectors, first, rest)?;
+        match first {
+            "" => {}
+            "full" => put_full_blocks(sectors, rest)?,
+            run => put_run(sectors, run, rest)?,
         }
     }
     Ok(())
@@ -46,9 +48,9 @@ fn put_line(sectors: &mut Sectors, line: &str) -> Result<(), NoMemory> {
 
 fn put_run(sectors: &mut Sectors, word: &str, pieces: &str) -> Result<(), NoMemory> {
     let Some(run) = run_of(word) else {
-        return Ok(());
+        return Err(NoMemory);
     };
-    let block = block_of(run.byte, pieces);
+    let block = block_of(run.byte, pieces)?;
     for sector in run.from..run.from.saturating_add(run.count) {
         sectors.set(Sector(sector), block)?;
     }
@@ -60,15 +62,16 @@ fn run_of(word: &str) -> Option<Run> {
     let (from, count) = split(from, "+");
     Some(Run {
         from: sector(from)?,
-        count: number(count).unwrap_or(1),
-        byte: byte(digits),
+        count: number_or(count, 1)?,
+        byte: byte(digits)?,
     })
 }
 
 fn put_full_blocks(sectors: &mut Sectors, blocks: &str) -> Result<(), NoMemory> {
     for block in blocks.split_whitespace() {
-        if let Ok(block) = block.parse::<u32>() {
-            put_full_block(sectors, block)?;
+        match block.parse::<u32>() {
+            Ok(block) => put_full_block(sectors, block)?,
+            Err(_) => return Err(NoMemory),
         }
     }
     Ok(())

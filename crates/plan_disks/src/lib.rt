@@ -1,6 +1,7 @@
-//! Small disks for the tests of plans, made of tables of bytes, and plans as text, to be compared with what was worked out by hand. The
-//! contracts promise what plans ask of paths and of held segments, and nothing of the sectors and texts. It stands on the steps that plans
-//! share and on what edits write.
+//! Small disks, operations and settings for the tests of plans, read from texts, and plans as text, to be compared with what was worked out by
+//! hand. What isn't read is refused by the error that want of memory has, so that a test whose table has a slip fails. The contracts promise what
+//! plans ask of operations and of held segments, and nothing of the sectors and texts. It stands on the plans of operations, on what edits write
+//! and on the tables of tests.
 #![tactic(auto)]
 
 mod digits;
@@ -19,4 +20,4 @@ pub use operations::{bytes_op, look_op, names_op};
 pub use paths::path_of;
 pub use plans::{add_changes, add_freed, add_writes, plan_told, written_told};
 pub use segments::{Segment, Segments, held_of};
-pub use settings::{are_all, leave_out, when_of};
+pub use settings::{are_all, leave_out, leave_out_but, when_of};

@@ -64,7 +64,7 @@ pub fn bytes_op(alloc: Global, line: &str) -> Result<Op, NoMemory>
     let (path, words) = split(words, " ");
     let (off, words) = split(words, " ");
     let path = path_of(alloc, path)?;
-    let off = small(off);
+    let off = small(off)?;
     if verb == "write" {
         let bytes = Text::of(alloc, words.as_bytes())?;
         return Ok(Op::Write { path, off, bytes });
@@ -76,8 +76,10 @@ fn of_numbers(verb: &str, path: Path, off: u32, words: &str) -> Result<Op, NoMem
     ensures { IfOk result IsOfBytes }
 {
     let (len, digits) = split(words, " ");
-    let len = small(len);
-    let byte = byte(digits);
+    let len = small(len)?;
+    let Some(byte) = byte(digits) else {
+        return Err(NoMemory);
+    };
     match verb {
         "fill" => Ok(Op::Fill {
             path,
@@ -91,9 +93,15 @@ fn of_numbers(verb: &str, path: Path, off: u32, words: &str) -> Result<Op, NoMem
     }
 }
 
-// The number by its decimal digits, 0 where it isn't one.
-fn small(word: &str) -> u32 {
-    word.parse::<u32>().unwrap_or(0)
+// The number by its decimal digits, 0 where there is no word.
+fn small(word: &str) -> Result<u32, NoMemory> {
+    if word.is_empty() {
+        return Ok(0);
+    }
+    match word.parse::<u32>() {
+        Ok(number) => Ok(number),
+        Err(_) => Err(NoMemory),
+    }
 }
 
 /// The operation that looks of a line such as `stat /a`. It refuses want of memory, and what is no such line.

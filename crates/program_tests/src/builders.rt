@@ -1,5 +1,5 @@
 // Calls of the program over files and an outside in memory, and what they say.
-ghost use Rattle.frang_top.specs.Run.{NothingYet};
+ghost use Rattle.script_runs.specs.Run.{NothingYet};
 
 use frang_base::NoMemory;
 use frang_outside::{Act, MemFiles, MemOutside, NoGate, Outside};

@@ -1,15 +1,11 @@
-//! The tests of the outsides, of the call that does all that the program does, and of its parts as it uses them: what no contract says,
-//! as that calls succeed while there is memory, what the trusted edge does, and the texts of whole runs.
+//! The tests of the outsides and of the call that does all that the program does: what no contract says, as that calls succeed while there is
+//! memory, what the trusted edge does, and the texts of whole runs.
 #![tactic(auto)]
 
 #[cfg(test)]
 mod builders;
 #[cfg(test)]
 mod outsides;
-#[cfg(test)]
-mod parts;
-#[cfg(test)]
-mod recoveries;
 #[cfg(test)]
 mod refusals;
 #[cfg(test)]

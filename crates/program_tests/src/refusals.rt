@@ -2,6 +2,7 @@
 use crate::builders::{DONE, tell};
 use frang_base::NoMemory;
 use std::alloc::Global;
+use std::fmt::Write;
 use std::process::Abort;
 use std::test::Fail;
 use std::thread::Threads;
@@ -320,46 +321,29 @@ truncate /f 65536 : ok
 fill /g 65536 1 00 : ok
 fill /f 65536 1 00 : nospace large";
 
-fn push_asked(alloc: Global, line: &str, script: &mut Vec<u8>) -> Result<(), NoMemory> {
-    let asked = format!(in alloc; "0 {line}\n")?;
-    script.extend_from_slice(asked.as_bytes())?;
-    Ok(())
-}
-
-fn push_answer(
-    alloc: Global,
-    number: u64,
-    answer: &str,
-    answers: &mut Vec<u8>,
-) -> Result<(), NoMemory> {
-    let wanted = format!(in alloc; "{number} 0 {answer}\n")?;
-    answers.extend_from_slice(wanted.as_bytes())?;
-    Ok(())
-}
-
-// Adds a row's line and its answer.
+// Adds a row's line and its answer. What is no row is refused by the error that want of memory has.
 fn push_row(
-    alloc: Global,
     number: u64,
     row: &str,
-    script: &mut Vec<u8>,
-    answers: &mut Vec<u8>,
+    script: &mut String,
+    answers: &mut String,
 ) -> Result<(), NoMemory> {
-    if let Some((line, answer)) = row.split_once(" : ") {
-        push_asked(alloc, line, script)?;
-        push_answer(alloc, number, answer, answers)?;
-    }
+    let Some((line, answer)) = row.split_once(" : ") else {
+        return Err(NoMemory);
+    };
+    write!(script, "0 {line}\n")?;
+    write!(answers, "{number} 0 {answer}\n")?;
     Ok(())
 }
 
 // The script and the answers of a table.
-fn split_table(alloc: Global, table: &str) -> Result<(Vec<u8>, Vec<u8>), NoMemory> {
-    let mut script = Vec::new(alloc);
-    let mut answers = Vec::new(alloc);
+fn split_table(alloc: Global, table: &str) -> Result<(String, String), NoMemory> {
+    let mut script = String::new(alloc);
+    let mut answers = String::new(alloc);
     let mut number = 0u64;
     for row in table.split('\n') {
         number = number.saturating_add(1);
-        push_row(alloc, number, row, &mut script, &mut answers)?;
+        push_row(number, row, &mut script, &mut answers)?;
     }
     Ok((script, answers))
 }
@@ -372,7 +356,10 @@ fn expect_table(
     table: &str,
 ) -> Result<(), Fail> {
     let (script, answers) = split_table(alloc, table)?;
-    assert!(rt; begins_so(rt, alloc, words, &script, &answers)?, "{table}");
+    assert!(rt;
+        begins_so(rt, alloc, words, script.as_str(), answers.as_str())?,
+        "{table}"
+    );
     Ok(())
 }
 
@@ -381,12 +368,12 @@ fn begins_so(
     rt: &(impl Threads + Sync),
     alloc: Global,
     words: &[&str],
-    script: &[u8],
-    answers: &[u8],
+    script: &str,
+    answers: &str,
 ) -> Result<bool, NoMemory> {
-    let told = tell(rt, alloc, words, script)?;
+    let told = tell(rt, alloc, words, script.as_bytes())?;
     let is_longer = told.text.len() > answers.len();
-    Ok(told.status == DONE && is_longer && told.text.starts_with(answers))
+    Ok(told.status == DONE && is_longer && told.text.starts_with(answers.as_bytes()))
 }
 
 static TABLES: [&str; 7] = [NAMES, LINKS, MOVES, BYTES, MOUNTS, FOLLOWED, CHAIN];
@@ -409,30 +396,11 @@ fn a_segment_has_one_large_block(rt: HostRuntime) -> Result<(), Fail> {
     )
 }
 
-// Adds a row with a number between its parts.
-fn push_with(
-    alloc: Global,
-    table: &mut String,
-    before: &str,
-    n: u32,
-    after: &str,
-) -> Result<(), NoMemory> {
-    let row = format!(in alloc; "{before}{n}{after}\n")?;
-    table.push_str(row.as_str())?;
-    Ok(())
-}
-
 // Adds a line with each number from one to another in place of `#`, and the answer that each gets.
-fn push_numbered(
-    alloc: Global,
-    table: &mut String,
-    row: &str,
-    from: u32,
-    to: u32,
-) -> Result<(), NoMemory> {
+fn push_numbered(table: &mut String, row: &str, from: u32, to: u32) -> Result<(), NoMemory> {
     if let Some((before, after)) = row.split_once("#") {
         for n in from..=to {
-            push_with(alloc, table, before, n, after)?;
+            write!(table, "{before}{n}{after}\n")?;
         }
     }
     Ok(())
@@ -441,13 +409,13 @@ fn push_numbered(
 // A blocks' table: a directory and its parent have 17 blocks, of which the parent keeps 16 and no file gets any.
 fn crowded(alloc: Global) -> Result<String, NoMemory> {
     let mut table = format!(in alloc; "mount : mounted\nmkdir /d : ok\ncreate /d/x : ok\n")?;
-    push_numbered(alloc, &mut table, "link /d/x /n# : ok", 1, 895)?;
+    push_numbered(&mut table, "link /d/x /n# : ok", 1, 895)?;
     table.push_str("link /d/x /n896 : dirfull\nstat / : dir 896\n")?;
-    push_numbered(alloc, &mut table, "unlink /n# : ok", 1, 895)?;
+    push_numbered(&mut table, "unlink /n# : ok", 1, 895)?;
     table.push_str("unlink /d/x : ok\nrmdir /d : ok\n")?;
-    push_numbered(alloc, &mut table, "create /f# : ok", 1, 63)?;
+    push_numbered(&mut table, "create /f# : ok", 1, 63)?;
     table.push_str("create /g : nospace inode\nmkdir /g : nospace inode\n")?;
-    push_numbered(alloc, &mut table, "fill /f# 0 65536 00 : ok", 1, 62)?;
+    push_numbered(&mut table, "fill /f# 0 65536 00 : ok", 1, 62)?;
     table.push_str("fill /f63 0 65536 00 : nospace data 17\nfill /f63 0 61440 00 : ok\n")?;
     table.push_str("write /f63 61440 x : nospace data 17\ntruncate /f1 61440 : ok\n")?;
     table.push_str("write /f63 61440 x : ok")?;

@@ -4,6 +4,7 @@ use frang_base::NoMemory;
 use frang_base::limits::SCRIPT_BYTES_MAX;
 use frang_outside::{FaultyOutside, MemFiles};
 use std::alloc::Global;
+use std::fmt::Write;
 use std::process::Abort;
 use std::test::Fail;
 use std::thread::Threads;
@@ -47,18 +48,12 @@ static LINES: [(usize, &str); 3] = [
     (898, "= / dir 896"),
 ];
 
-fn push_create(alloc: Global, n: u32, script: &mut Vec<u8>) -> Result<(), NoMemory> {
-    let line = format!(in alloc; "0 create /n{n}\n")?;
-    script.extend_from_slice(line.as_bytes())?;
-    Ok(())
-}
-
 // Makes so many files.
-fn creates(alloc: Global, count: u32) -> Result<Vec<u8>, NoMemory> {
-    let mut script = Vec::new(alloc);
-    script.extend_from_slice("0 mount\n".as_bytes())?;
+fn creates(alloc: Global, count: u32) -> Result<String, NoMemory> {
+    let mut script = String::new(alloc);
+    script.push_str("0 mount\n")?;
     for n in 1..=count {
-        push_create(alloc, n, &mut script)?;
+        write!(script, "0 create /n{n}\n")?;
     }
     Ok(script)
 }
@@ -73,7 +68,7 @@ fn has_line(text: &[u8], place: usize, wanted: &str) -> bool {
 #[test]
 fn a_directory_has_at_most_896_entries(rt: HostRuntime) -> Result<(), Fail> {
     let script = creates(rt.alloc(), 897)?;
-    let told = tell(&rt, rt.alloc(), &["run", "s"], &script)?;
+    let told = tell(&rt, rt.alloc(), &["run", "s"], script.as_bytes())?;
     assert!(rt; told.status == DONE && told.acts == 1 + 897 + 897 + 1);
     for (place, wanted) in &LINES {
         assert!(rt; has_line(&told.text, *place, wanted), "line {place}");
@@ -123,7 +118,7 @@ fn tell_line(rt: &(impl Threads + Sync), alloc: Global, line: &str) -> Result<To
     tell_words(rt, alloc, &words, &[])
 }
 
-static REFUSED: [&str; 11] = [
+static REFUSED: [&str; 16] = [
     "",
     "run",
     "run -s",
@@ -135,6 +130,11 @@ static REFUSED: [&str; 11] = [
     "run -- s --segments 1",
     "run s --help",
     "run s --save f",
+    "run s --segments 0",
+    "run s --segments 65",
+    "run s --segments 01",
+    "run s --segments +1",
+    "run s --segments x",
 ];
 
 #[test]
@@ -155,23 +155,17 @@ fn a_script_that_is_not_there_or_too_long_is_refused(rt: HostRuntime) -> Result<
     expect_status(&rt, alloc, &["run", "s"], &long[1..], (1, 1, 2))
 }
 
-static NO_SEGMENTS: [[&str; 4]; 7] = [
-    ["run", "s", "--segments", "0"],
-    ["run", "s", "--segments", "65"],
-    ["run", "s", "--segments", "01"],
-    ["run", "s", "--segments", "+1"],
-    ["run", "s", "--segments", "x"],
-    ["run", "s", "--segments", ""],
-    ["run", "s", "--segments", "16 "],
-];
+#[test]
+fn a_number_is_a_whole_word(rt: HostRuntime) -> Result<(), Fail> {
+    let (alloc, refused) = (rt.alloc(), (2, 0, 0));
+    expect_status(&rt, alloc, &["run", "s", "--segments", ""], &[], refused)?;
+    expect_status(&rt, alloc, &["run", "s", "--segments", "16 "], &[], refused)
+}
 
 static SEGMENTS: [&str; 3] = ["run --segments 1 s", "run -- s", "run s --segments=64"];
 
 #[test]
 fn options_have_their_form(rt: HostRuntime) -> Result<(), Fail> {
-    for words in &NO_SEGMENTS {
-        expect_status(&rt, rt.alloc(), words, &[], (2, 0, 0))?;
-    }
     for line in &SEGMENTS {
         let told = tell_line(&rt, rt.alloc(), line)?;
         assert!(rt; says(&told, "= / dir 0\n! end\n"), "{line}");

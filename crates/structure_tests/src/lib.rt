@@ -7,8 +7,6 @@ mod builders;
 #[cfg(test)]
 mod caches;
 #[cfg(test)]
-mod draws;
-#[cfg(test)]
 mod flights;
 #[cfg(test)]
 mod leases;
@@ -16,11 +14,5 @@ mod leases;
 mod locks;
 #[cfg(test)]
 mod many_sectors;
-#[cfg(test)]
-mod plain_cache;
-#[cfg(test)]
-mod plain_sectors;
-#[cfg(test)]
-mod plain_table;
 #[cfg(test)]
 mod versions;

@@ -1,15 +1,17 @@
 // Disks by their sectors.
 use crate::bytes::lay;
-use crate::rows::split;
+use crate::rows::{is_row, split};
 use crate::words::sector;
 use disk_definitions::Disk;
 use frang_base::{NoMemory, Sector};
 
-/// Lays pieces over a disk, by a text whose lines have one or more parts, parted by `;`: a sector, and the pieces that are laid over what stands
-/// there. What begins with no sector is left out. The one refusal is want of memory.
+/// Lays pieces over a disk, by a text whose rows have one or more parts, parted by `;`: a sector, and the pieces that are laid over what stands
+/// there. What isn't read is refused, and so is want of memory.
 pub fn lay_on(disk: &mut Disk, text: &str) -> Result<(), NoMemory> {
     for line in text.lines() {
-        lay_line(disk, line)?;
+        if is_row(line) {
+            lay_line(disk, line)?;
+        }
     }
     Ok(())
 }
@@ -17,15 +19,18 @@ pub fn lay_on(disk: &mut Disk, text: &str) -> Result<(), NoMemory> {
 fn lay_line(disk: &mut Disk, line: &str) -> Result<(), NoMemory> {
     for part in line.split(';') {
         let (word, pieces) = split(part.trim(), " ");
-        if let Some(number) = sector(word) {
-            lay_sector(disk, Sector(number), pieces)?;
+        if !word.is_empty() {
+            lay_sector(disk, word, pieces)?;
         }
     }
     Ok(())
 }
 
-fn lay_sector(disk: &mut Disk, sector: Sector, pieces: &str) -> Result<(), NoMemory> {
-    let mut block = disk.get(sector);
-    lay(&mut block, pieces);
-    disk.set(sector, block)
+fn lay_sector(disk: &mut Disk, word: &str, pieces: &str) -> Result<(), NoMemory> {
+    let Some(number) = sector(word) else {
+        return Err(NoMemory);
+    };
+    let mut block = disk.get(Sector(number));
+    lay(&mut block, pieces)?;
+    disk.set(Sector(number), block)
 }

@@ -5,6 +5,16 @@ pub fn is_row(line: &str) -> bool {
     !line.is_empty() && !line.starts_with("#")
 }
 
+/// Whether a table has a row.
+pub fn has_rows(table: &str) -> bool {
+    for line in table.lines() {
+        if is_row(line) {
+            return true;
+        }
+    }
+    false
+}
+
 /// What stands before a mark and behind it, where it stands first; all of the text and nothing where it doesn't stand there.
 pub fn split<'a>(text: &'a str, mark: &str) -> (&'a str, &'a str) {
     match text.split_once(mark) {

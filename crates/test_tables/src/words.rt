@@ -15,11 +15,23 @@ pub fn number(word: &str) -> Option<u64> {
     word.parse::<u64>().ok()
 }
 
-/// The byte by its two hexadecimal digits; zero where they are no byte's.
-pub fn byte(digits: &str) -> u8 {
+/// The same, and another number where there is no word.
+pub fn number_or(word: &str, otherwise: u64) -> Option<u64> {
+    if word.is_empty() {
+        Some(otherwise)
+    } else {
+        number(word)
+    }
+}
+
+/// The byte by its two hexadecimal digits, and zero where there are none.
+pub fn byte(digits: &str) -> Option<u8> {
     let mut byte = [0];
-    let _ = hex::decode_to_slice(digits, &mut byte);
-    byte[0]
+    if digits.is_empty() || hex::decode_to_slice(digits, &mut byte).is_ok() {
+        Some(byte[0])
+    } else {
+        None
+    }
 }
 
 /// A sector by its number, or by what lies there: `i5` is inode 5, `k1` segment 1 of the bitmap, `s4` the first sector of small block 4, `s4.1` its
@@ -43,7 +55,6 @@ pub fn sector(word: &str) -> Option<u64> {
 // A part of one of the things that lie so far apart from the first on, the first part where none is told.
 fn part_of(first: u64, apart: u64, word: &str) -> Option<u64> {
     let (thing, part) = split(word, ".");
-    let part = number(part).unwrap_or(0);
     let from = number(thing)?.checked_mul(apart)?;
-    first.checked_add(from)?.checked_add(part)
+    first.checked_add(from)?.checked_add(number_or(part, 0)?)
 }

@@ -7,7 +7,7 @@ ghost use Rattle.tree_definitions.specs.Live.{item_of, item_of_line, line_of, li
 
 use crate::times::script_time;
 use frang_base::limits::RUN_TICKS_END;
-use frang_base::{Line, NoMemory, OpNo, Reply, Said, Script, ServerId, What};
+use frang_base::{Line, NoMemory, Op, OpNo, Reply, Said, Script, ServerId, What};
 use std::alloc::Global;
 use std::marker::Model;
 use tree_definitions::{Entry, Item};
@@ -33,6 +33,27 @@ fn line_of(script: &[Line], number: u32) -> Option<&Line>
     script.iter().find(|line| line.number == number)
 }
 
+// The entry of an operation and its reply.
+fn entry_of(
+    server: ServerId,
+    number: OpNo,
+    when: u64,
+    op: &Op,
+    reply: &Reply,
+) -> Result<Entry, NoMemory>
+    ensures { IfOk result (λ entry. entry ≡ record { server = server; number = number; when = when; op = op.now; reply = reply.now }) }
+{
+    let op = op.try_copy()?;
+    let reply = reply.try_copy()?;
+    Ok(Entry {
+        server,
+        number,
+        when,
+        op,
+        reply,
+    })
+}
+
 // Adds what an answer tells, where it is to a line of a server.
 fn push_answer(
     line: Option<&Line>,
@@ -53,15 +74,7 @@ fn push_answer(
         What::Server(op) => {
             let number = OpNo::of(run, number);
             let when = u64::from(run) * RUN_TICKS_END + ticks;
-            let op = op.try_copy()?;
-            let reply = reply.try_copy()?;
-            items.push(Item::Did(Entry {
-                server,
-                number,
-                when,
-                op,
-                reply,
-            }))?;
+            items.push(Item::Did(entry_of(server, number, when, op, reply)?))?;
             Ok(())
         }
         What::Host(_) => Ok(()),

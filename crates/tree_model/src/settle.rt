@@ -42,6 +42,29 @@ fn push_others<'h>(
     Ok(())
 }
 
+// Adds the steps that are left, from a tree on, where a server's removal has acted.
+fn push_left<'h>(
+    server: ServerId,
+    keeps: OpNo,
+    tree: &mut Tree,
+    list: &[Step<'h>],
+    kept: &mut Vec<Step<'h>>,
+) -> Result<(), NoMemory>
+    ensures { OnOk result (kept.new.items ≡ kept.old.items ++ left server.0 keeps.0 tree.old list.now) }
+{
+    let mut rest = list;
+    while let [step, later @ ..] = rest {
+        if begins_removal(server, keeps, tree, step, later)? {
+            push_others(server, later, kept)?;
+            return Ok(());
+        }
+        kept.push(step.try_copy()?)?;
+        step.take(tree)?;
+        rest = later;
+    }
+    Ok(())
+}
+
 // The steps that are left where a server's removal has acted.
 fn left<'h>(
     server: ServerId,
@@ -53,16 +76,7 @@ fn left<'h>(
 {
     let mut tree = opening.try_copy()?;
     let mut kept = Vec::new(opening.alloc());
-    let mut rest = list;
-    while let [step, later @ ..] = rest {
-        if begins_removal(server, keeps, &tree, step, later)? {
-            push_others(server, later, &mut kept)?;
-            return Ok(kept);
-        }
-        kept.push(step.try_copy()?)?;
-        step.take(&mut tree)?;
-        rest = later;
-    }
+    push_left(server, keeps, &mut tree, list, &mut kept)?;
     Ok(kept)
 }
 

@@ -1,6 +1,6 @@
 use Rattle.std.proofs.Common.{subst, sym}
-use Rattle.frang_top.specs.Built.{CanRun}
-use Rattle.frang_top.proofs.ScriptLaws.{read_built}
+use Rattle.script_runs.specs.Built.{CanRun}
+use Rattle.script_runs.proofs.ScriptLaws.{read_built}
 use Rattle.frang_top.proofs.top.run_bytes.Goals as goal
 
 pub run_script-requires-clause-script : goal.run_script-requires-clause-script

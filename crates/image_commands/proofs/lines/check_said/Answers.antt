@@ -5,8 +5,8 @@ use Rattle.disk_definitions.specs.Params.{param_in}
 use Rattle.sector_bytes.specs.Sectors.{sectors_of}
 use Rattle.disk_definitions.specs.Replay.{replayed}
 use Rattle.report_definitions.specs.Report.{IsReport}
-use Rattle.report_json.specs.Told.{told}
-use Rattle.fsck_report.proofs.Reported.{all_same}
+use Rattle.disk_check.specs.Told.{told}
+use Rattle.disk_check.proofs.Reported.{all_same}
 use Rattle.image_commands.proofs.LineLaws.{has_param}
 use Rattle.image_commands.proofs.lines.check_said.Goals as goal
 

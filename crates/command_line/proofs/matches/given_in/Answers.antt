@@ -1,0 +1,14 @@
+-- Each list as the rows have it.
+use Rattle.std.proofs.Common.{codes}
+use Rattle.clap.specs.Words.{found_of}
+use Rattle.command_line.proofs.Rows.{texts_found}
+use Rattle.command_line.proofs.matches.given_in.Goals as goal
+
+pub returns : goal.returns
+returns c =
+    let f = found_of c.args.matches.now in
+    λ i. record {
+      places = texts_found c.get_strs.result f (codes "places") c.get_strs.ensures i;
+      segments = texts_found c.get_strs-2.result f (codes "segments") c.get_strs-2.ensures i;
+      save = texts_found c.get_strs-3.result f (codes "save") c.get_strs-3.ensures i;
+    }

@@ -1,0 +1,4 @@
+pub mod Gathered
+pub mod Pushed
+pub mod Reported
+pub mod Stands

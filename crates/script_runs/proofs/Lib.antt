@@ -1,0 +1,11 @@
+pub mod HistoryLaws
+pub mod BlockLaws
+pub mod ScriptLaws
+pub mod StateLaws
+pub mod Following
+pub mod Applying
+pub mod Reading
+pub mod Prefixes
+pub mod Answered
+pub mod Turning
+pub mod TreeTelling

@@ -1,9 +1,0 @@
-use Rattle.std.proofs.Common.{◌≡◌, ◌++◌, length}
-use Rattle.tree_definitions.specs.Removal.{left}
-use Rattle.tree_model.proofs.settle.left.Given as goal
-
-abbrev pub invariant-loop-rest : goal.invariant-loop-rest
-invariant-loop-rest l = l.kept.items ++ left l.server.0 l.keeps.0 l.tree l.rest ≡ left l.server.0 l.keeps.0 l.opening l.fn.list
-
-abbrev pub decreases-loop-rest : goal.decreases-loop-rest
-decreases-loop-rest l = length l.rest
