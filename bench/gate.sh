@@ -3,6 +3,9 @@
 # the longest chain of crates, the sum. Use: bench/gate.sh [ROWS]   (so many crates are listed, by default all).
 # The sum is what the system counts for the whole run. The rows are sampled twice a second, so short steps are missing in them.
 # The paths down through crates.txt are counted too: some kits read a crate's files once for each path that leads down to it, one after another.
+# A processor that is shared with others counts more time for the same work, and not always as taken by its host. So a fixed loop is timed all along: its
+# processor time tells how fast the machine is, and the sum is given a second time, as if the loop had taken 30 ms throughout. Sums of two runs compare by
+# that one alone, unless the loop took as long in both.
 set -u
 top=$(git -C "$(dirname "$0")" rev-parse --show-toplevel) || exit 2
 room=$(mktemp -d) || exit 2
@@ -17,9 +20,27 @@ import collections, os, re, resource, subprocess, sys, time
 clone, log, rows, flags = sys.argv[1], sys.argv[2], int(sys.argv[3]), sys.argv[4:]
 tick = os.sysconf("SC_CLK_TCK")
 steps = {}  # (process, its start) -> (crate, kind, seconds so far)
+LOOP, LOOP_MS = 500_000, 30
+loops = []  # milliseconds of processor time that the loop took, every so often
+weighed = 0.0  # seconds of all steps, as if it had taken LOOP_MS throughout
+
+
+def time_loop():
+    begun, total = time.process_time(), 0
+    for i in range(LOOP):
+        total += i
+    loops.append(1000 * (time.process_time() - begun))
+
+
+def host_ticks():
+    """The ticks of all processors so far, and those among them that the host took."""
+    with open("/proc/stat") as it:
+        ticks = [int(word) for word in it.readline().split()[1:]]
+    return sum(ticks[:8]), ticks[7]
 
 
 def look():
+    global weighed
     for pid in filter(str.isdigit, os.listdir("/proc")):
         try:
             with open(f"/proc/{pid}/cmdline", "rb") as it:
@@ -39,6 +60,8 @@ def look():
         else:
             kind = "tests" if "--test" in words else "proofs"
         seconds = sum(map(int, stat[11:15])) / tick
+        before = steps.get((pid, stat[19]), (crate, kind, 0))[2]
+        weighed += (seconds - before) * LOOP_MS / loops[-1]
         steps[pid, stat[19]] = crate, kind, seconds
 
 
@@ -54,11 +77,15 @@ def below(path):
 
 
 begun = time.time()
+host = host_ticks()
 with open(log, "wb") as out:
     run = subprocess.Popen(["rt", "ci", *flags], cwd=clone, stdout=out, stderr=subprocess.STDOUT, stdin=subprocess.DEVNULL)
     while run.poll() is None:
+        if time.time() - begun >= 5 * len(loops):
+            time_loop()
         look()
         time.sleep(0.5)
+host = [now - then for now, then in zip(host_ticks(), host)]
 used = resource.getrusage(resource.RUSAGE_CHILDREN)
 sums = collections.defaultdict(lambda: collections.defaultdict(float))
 for crate, kind, seconds in steps.values():
@@ -92,7 +119,12 @@ def ways(crate):
 minutes, names = max(chain(it) for it in stands)
 print(f"longest chain: {minutes:.1f} processor minutes of proofs, {len(names)} crates: {' '.join(names)}")
 print(f"paths down through crates.txt: {sum(ways(it) for it in stands)}")
-print(f"sum: {(used.ru_utime + used.ru_stime) / 60:.1f} processor minutes, {(time.time() - begun) / 60:.1f} minutes on {os.cpu_count()} processors")
+minutes = (used.ru_utime + used.ru_stime) / 60
+print(f"sum: {minutes:.1f} processor minutes, {(time.time() - begun) / 60:.1f} minutes on {os.cpu_count()} processors")
+sampled = sum(step[2] for step in steps.values())
+loops.sort()
+print(f"the loop took {loops[0]:.0f} to {loops[-1]:.0f} ms, in the middle {loops[len(loops) // 2]:.0f}; the host took {100 * host[1] / host[0]:.0f} of 100")
+print(f"sum, as if the loop had taken {LOOP_MS} ms throughout: {minutes * weighed / max(sampled, 1):.1f} processor minutes")
 with open(log, errors="replace") as it:
     print(it.read().rstrip("\n").split("\n")[-1])
 sys.exit(run.returncode)
