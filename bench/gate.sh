@@ -4,8 +4,8 @@
 # The sum is what the system counts for the whole run. The rows are sampled twice a second, so short steps are missing in them.
 # The paths down through crates.txt are counted too: some kits read a crate's files once for each path that leads down to it, one after another.
 # A processor that is shared with others counts more time for the same work, and not always as taken by its host. So a fixed loop is timed all along: its
-# processor time tells how fast the machine is, and the sum is given a second time, as if the loop had taken 30 ms throughout. Sums of two runs compare by
-# that one alone, unless the loop took as long in both.
+# processor time tells how fast the machine is, and the sum is given a second time, as if the loop had taken 30 ms throughout. Where the loop didn't take as
+# long in two runs, their sums compare by that one, and roughly: the checks need memory more than the loop does.
 set -u
 top=$(git -C "$(dirname "$0")" rev-parse --show-toplevel) || exit 2
 room=$(mktemp -d) || exit 2

@@ -69,6 +69,10 @@ fn told(
     line: &str,
     setting: &str,
 ) -> Result<String, NoMemory> {
+    // All sectors are cached here.
+    if setting.split_once("-").is_some() {
+        return Err(NoMemory);
+    }
     let held = held_of(alloc, setup.segments, setting)?;
     let hand = Hand {
         sectors,

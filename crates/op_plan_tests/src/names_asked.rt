@@ -37,6 +37,10 @@ pub(crate) fn expect(
 }
 
 fn told(alloc: Global, setup: &Setup, line: &str, setting: &str) -> Result<String, NoMemory> {
+    // No operation on names has a time.
+    if setting.split_once("@").is_some() {
+        return Err(NoMemory);
+    }
     let mut sectors = sectors_of(alloc, setup.disk)?;
     leave_out(&mut sectors, setting)?;
     told_over(alloc, &sectors, setup, line, setting)
