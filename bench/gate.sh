@@ -1,6 +1,8 @@
 #!/usr/bin/env bash
 # Runs the gate from nothing on what is committed, in a clone, and prints what it cost: the processor minutes of proofs, tests and edits by crate,
-# the longest chain of crates, the sum. Use: bench/gate.sh [ROWS]   (so many crates are listed, by default all).
+# the longest chain of crates, the sum. Use: bench/gate.sh [ROWS [COMMIT]]   (so many crates are listed, 0 or none: all).
+# With COMMIT the gate of that commit runs beside, from nothing too and from the same moment, and its figures come first: so both meet the same machine, whatever
+# else it does, and compare by their plain sums as long as both run. The one that lasts longer has the machine for itself at the end, which makes its sum no larger.
 # The sum is what the system counts for the whole run. The rows are sampled twice a second, so short steps are missing in them.
 # The paths down through crates.txt are counted too: some kits read a crate's files once for each path that leads down to it, one after another.
 # A processor that is shared with others counts more time for the same work, and not always as taken by its host. So a fixed loop is timed all along: its
@@ -11,6 +13,10 @@ top=$(git -C "$(dirname "$0")" rev-parse --show-toplevel) || exit 2
 room=$(mktemp -d) || exit 2
 trap 'rm -rf "$room"' EXIT
 git clone -q "$top" "$room/clone" || exit 2
+other=${2:-}
+if [ -n "$other" ]; then
+    git clone -q "$top" "$room/other" && git -C "$room/other" checkout -q "$other" || exit 2
+fi
 # Some kits keep what passed before and need a flag for a run from nothing; the others have no such flag and refuse it.
 flags=()
 if rt help 2>&1 | grep -q -- --anew; then flags=(--anew); fi
@@ -53,9 +59,9 @@ def look():
         except (OSError, IndexError):
             continue
         crate = words[words.index("--crate-name") + 1]
-        if "rt-edit" in folder:
+        if f"rt-edit-{run.pid}-" in folder:
             kind = "edits"
-        elif not folder.startswith(clone):
+        elif not folder.startswith(f"{clone}/"):
             continue
         else:
             kind = "tests" if "--test" in words else "proofs"
@@ -130,7 +136,17 @@ with open(log, errors="replace") as it:
 sys.exit(run.returncode)
 PY
 log=$(git -C "$top" rev-parse --absolute-git-dir)/gate-cost.log
-python3 -I "$room/cost.py" "$room/clone" "$log" "${1:-0}" "${flags[@]}"
+if [ -n "$other" ]; then
+    python3 -I "$room/cost.py" "$room/other" "$log.other" "${1:-0}" "${flags[@]}" >"$room/other.said" 2>&1 &
+fi
+python3 -I "$room/cost.py" "$room/clone" "$log" "${1:-0}" "${flags[@]}" >"$room/said" 2>&1
 code=$?
+if [ -n "$other" ]; then
+    wait
+    printf '== %s\n' "$other"
+    cat "$room/other.said"
+    printf '== what is committed\n'
+fi
+cat "$room/said"
 echo "the run's own lines: $log"
 exit $code
