@@ -1,5 +1,5 @@
 -- How a walk of the code returns, as the definition says: from a name of a directory, whose own birth was pushed onto the trail.
-use Rattle.std.proofs.Common.{ℕ, ◌≡◌, ◌-◌, ◌<◌, Bool, true, false, Option, Some, None, List, [], ◌∷◌, ◌++◌, drop, take, length, get_or, ◌≤◌, arith, sym, ◌∙◌, ap, append-nil}
+use Rattle.std.proofs.Common.{ℕ, zero, suc, refl, Result, Ok, Err, IfOk, ◌≡◌, ◌-◌, ◌<◌, Bool, true, false, Option, Some, None, List, [], ◌∷◌, ◌++◌, drop, take, length, get_or, ◌≤◌, arith, sym, ◌∙◌, ap, append-nil}
 use Rattle.std.proofs.lemmas.List.{take_rest}
 use Rattle.frang_base.specs.PathText.{path_of}
 use Rattle.frang_base.specs.declared.limits.TheConstants.{LINKS_FOLLOWED_MAX}
@@ -10,7 +10,7 @@ use Rattle.tree_definitions.specs.Entries.{Entries, entry_at}
 use Rattle.tree_definitions.specs.Tree.{FileTree, node_at}
 use Rattle.tree_definitions.specs.Resolve.{WalkEnd as TheEnd, At as LeadsTo, Refused as IsRefused, Resolution, ends_at, refused, is_absolute, target_text, resolve_from, resolve}
 use Rattle.file_tree.specs.declared.resolve.WalkEnd.{WalkEnd}
-use Rattle.file_tree.specs.Walks.{path_or_none, passes_all, went}
+use Rattle.file_tree.specs.Walks.{end_of, path_or_none, passes_all, went}
 use Rattle.file_tree.proofs.Walking.{ComesTo, step_ends, step_stays, step_into, step_loops, step_no_path, step_from_root, step_from_here}
 
 -- a list is its first item and the rest
@@ -21,6 +21,20 @@ first_and_rest (y ∷ ys) x h e = ap (λ z. z ∷ ys) (sym e) ∙ ap (λ l. x �
 -- a walk that ends here adds nothing to the trail
 ends_here : (end : TheEnd) (trail : List ℕ) → record { end = end; trail = trail } ≡ passes_all trail (record { end = end; trail = [] })
 ends_here end trail = ap (λ l. record { end = end; trail = l }) (sym (append-nil trail))
+
+-- where no name is left the walk is at its end
+none_left : (left : ℕ) (tree : FileTree) (last : Bool) (dir : ℕ) (above : List (List ℕ)) → ends_at above (Some dir) ≡ resolve_from left tree last dir above []
+none_left zero tree last dir above = refl
+none_left (suc left) tree last dir above = refl
+
+pub at_end : {E : Type 0} (left : ℕ) (tree : FileTree) (last : Bool) (dir : ℕ) (above names : List (List ℕ)) (trail : List ℕ) (r : Result WalkEnd E) → length names ≡ 0 → IfOk r (λ end. end_of end ≡ LeadsTo above (Some dir))
+    → IfOk r (λ end. went end trail ≡ passes_all trail (resolve_from left tree last dir above names))
+at_end left tree last dir above (name ∷ names) trail r none is = absurd (omega arith)
+at_end left tree last dir above [] trail (Err e) none is = tt
+at_end left tree last dir above [] trail (Ok end) none is =
+    ap (λ e. record { end = e; trail = trail }) is
+    ∙ ends_here (LeadsTo above (Some dir)) trail
+    ∙ ap (passes_all trail) (none_left left tree last dir above)
 
 module _ (left : ℕ) (tree : FileTree) (last : Bool) (dir : ℕ) (above : List (List ℕ)) (names : List (List ℕ)) (name : List ℕ) (rest : List (List ℕ)) (entries : Entries) (blocks : ℕ)
     (split : names ≡ name ∷ rest) (is : node_at tree dir ≡ Some (Dir entries blocks)) (trail new : List ℕ) (pushed : new ≡ trail ++ dir ∷ []) where

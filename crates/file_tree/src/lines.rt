@@ -1,5 +1,5 @@
 // The lines of a tree.
-ghost use Rattle.std.specs.Prelude.{◌≡◌, ◌++◌, ℕ, true, IfOk, OnOk, IsTrue};
+ghost use Rattle.std.specs.Prelude.{◌≡◌, ◌++◌, ◌∷◌, [], ℕ, true, IfOk, OnOk, IsTrue};
 ghost use Rattle.frang_base.specs.declared.said.Said.TheVariants.{Node as NodeLine};
 ghost use Rattle.script_definitions.specs.SaidReading.{is_path_text, IsNodeKind, IsProperSaid};
 ghost use Rattle.tree_definitions.specs.TreeLines.{path_text, name_below, lines_from};
@@ -50,8 +50,28 @@ fn node_line(alloc: Global, text: &Text, kind: u8, size: u32, links: u32) -> Res
     })
 }
 
-/// Adds the lines from a node on, so many levels deep.
+// Adds a node's own line.
 #[tactic(auto, using(crate::proofs::PathTexts::proper_push))]
+fn push_line(
+    alloc: Global,
+    text: &Text,
+    kind: u8,
+    size: u32,
+    links: u32,
+    lines: &mut Vec<Said>,
+) -> Result<(), NoMemory>
+    requires path { is_below text.now ≡ true }
+    requires kind { IsNodeKind kind links }
+    requires proper { AreProper lines.old.items }
+    ensures is { OnOk result (lines.new.items ≡ lines.old.items ++ NodeLine (path_text text.now) kind size links ∷ []) }
+    ensures proper { OnOk result (AreProper lines.new.items) }
+{
+    let line = node_line(alloc, text, kind, size, links)?;
+    lines.push(line)?;
+    Ok(())
+}
+
+/// Adds the lines from a node on, so many levels deep.
 pub fn lines_from(
     alloc: Global,
     nodes: &BTreeMap<u64, Node>,
@@ -68,21 +88,20 @@ pub fn lines_from(
     if depth == 0 {
         return Ok(());
     }
-    match nodes.get(&birth) {
-        None => {}
+    let entries = match nodes.get(&birth) {
+        None => return Ok(()),
         Some(Node::File { cells, links, .. }) => {
-            lines.push(node_line(alloc, text, 1, cells.len() as u32, *links)?)?;
+            return push_line(alloc, text, 1, cells.len() as u32, *links, lines);
         }
         Some(Node::Link { target, .. }) => {
-            lines.push(node_line(alloc, text, 3, target.len() as u32, 0)?)?;
+            return push_line(alloc, text, 3, target.len() as u32, 0, lines);
         }
-        Some(Node::Dir { entries, .. }) => {
-            lines.push(node_line(alloc, text, 2, entries.len() as u32, 0)?)?;
-            for (name, child) in entries.as_map() {
-                let below = name_below(text, name)?;
-                lines_from(alloc, nodes, depth - 1, &below, *child, lines)?;
-            }
-        }
+        Some(Node::Dir { entries, .. }) => entries,
+    };
+    push_line(alloc, text, 2, entries.len() as u32, 0, lines)?;
+    for (name, child) in entries.as_map() {
+        let below = name_below(text, name)?;
+        lines_from(alloc, nodes, depth - 1, &below, *child, lines)?;
     }
     Ok(())
 }

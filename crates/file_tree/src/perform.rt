@@ -2,8 +2,8 @@
 ghost use Rattle.std.specs.Prelude.{◌≡◌, ◌++◌, IfOk, OnOk, OnErr, false};
 ghost use Rattle.script_definitions.specs.SaidReading.{IsProperReply};
 ghost use Rattle.tree_definitions.specs.Resolve.{resolve};
-ghost use Rattle.tree_definitions.specs.Perform.{Goes, after_trail, goes, by_path, by_paths, is_found, resolved, perform, step_of};
-ghost use Rattle.file_tree.specs.CanApply.{CanPerform};
+ghost use Rattle.tree_definitions.specs.Perform.{Goes, after_trail, goes, by_path, by_paths, is_found, resolved, perform, perform_step, step_of};
+ghost use Rattle.file_tree.specs.CanApply.{CanGo, CanPerform};
 ghost use Rattle.file_tree.specs.Replies.{gives};
 ghost use Rattle.file_tree.specs.Walks.{end_of, with_path, with_paths, resolution_of, resolved_by, step_by};
 
@@ -241,12 +241,19 @@ impl Tree {
         ensures err { OnErr result (self.new ≡ self.old) }
         ensures proper { IfOk result IsProperReply }
     {
-        let Resolved {
-            step,
-            trail: _trail,
-        } = self.resolved(op)?;
+        let resolved = self.resolved(op)?;
+        self.go(&resolved.step, birth, when, m)
+    }
+
+    // Does what an operation came to.
+    fn go(&mut self, step: &Step, birth: OpNo, when: u64, m: u32) -> Result<Reply, NoMemory>
+        requires { CanGo self.old (step_by step.now) }
+        ensures ok { IfOk result (λ reply. perform_step self.old (step_by step.now) birth.0 when m ≡ gives self.new reply) }
+        ensures err { OnErr result (self.new ≡ self.old) }
+        ensures proper { IfOk result IsProperReply }
+    {
         match step {
-            Step::Goes(over) => self.apply(&over, birth, when, m),
+            Step::Goes(over) => self.apply(over, birth, when, m),
             Step::Stops(refusal) => Ok(refusal.reply()),
         }
     }

@@ -1,10 +1,10 @@
 // Where paths lead once symbolic links are followed.
-ghost use Rattle.std.specs.Prelude.{◌≡◌, ◌++◌, ◌∷◌, [], ℕ, List, IfOk, OnOk};
+ghost use Rattle.std.specs.Prelude.{◌≡◌, ◌++◌, ◌∷◌, [], ℕ, List, Some, IfOk, OnOk};
 ghost use Rattle.frang_base.specs.PathText.{path_of};
 ghost use Rattle.tree_definitions.specs.Entries.{entry_at};
 ghost use Rattle.tree_definitions.specs.Tree.{node_at};
-ghost use Rattle.tree_definitions.specs.Resolve.{Resolution, is_absolute, target_text, at_entry, at_name, resolve_from, resolve};
-ghost use Rattle.file_tree.specs.Walks.{next_by, resolution_of, path_or_none, passes_all, went};
+ghost use Rattle.tree_definitions.specs.Resolve.{At as LeadsTo, Resolution, is_absolute, target_text, at_entry, at_name, resolve_from, resolve};
+ghost use Rattle.file_tree.specs.Walks.{next_by, end_of, resolution_of, path_or_none, passes_all, went};
 
 use crate::Tree;
 use crate::place::{ROOT, Refusal};
@@ -115,6 +115,15 @@ fn append(path: &mut Path, names: &[Name]) -> Result<(), NoMemory>
     Ok(())
 }
 
+// A path with these names after its own.
+fn longer(path: Path, names: &[Name]) -> Result<Path, NoMemory>
+    ensures { IfOk result (λ longer. longer ≡ path ++ names.now) }
+{
+    let mut path = path;
+    append(&mut path, names)?;
+    Ok(path)
+}
+
 // Another path, with one name more.
 fn with_name(path: &Path, name: &Name) -> Result<Path, NoMemory>
     ensures { IfOk result (λ longer. longer ≡ path.now ++ name.now ∷ []) }
@@ -124,25 +133,31 @@ fn with_name(path: &Path, name: &Name) -> Result<Path, NoMemory>
     Ok(longer)
 }
 
+// A walk that has come to its end, at a directory.
+fn ends_at(path: &Path, dir: u64) -> Result<WalkEnd, NoMemory>
+    ensures { IfOk result (λ end. end_of end ≡ LeadsTo path.now (Some dir)) }
+{
+    let path = path.try_copy()?;
+    Ok(WalkEnd::At {
+        path,
+        found: Some(dir),
+    })
+}
+
 // A walk from a directory on, whose own path is `above`, with so many links left to follow. What it goes through is added to the trail.
 fn walk_on(
     tree: &Tree,
     left: usize,
     last: bool,
     dir: u64,
-    above: Path,
+    above: &Path,
     names: &[Name],
     trail: &mut Vec<u64>,
 ) -> Result<WalkEnd, NoMemory>
-    ensures { IfOk result (λ end. went end trail.new.items ≡ passes_all trail.old.items (resolve_from left tree.now last dir above names.now)) }
+    ensures { IfOk result (λ end. went end trail.new.items ≡ passes_all trail.old.items (resolve_from left tree.now last dir above.now names.now)) }
 {
     let (name, rest) = match names {
-        [] => {
-            return Ok(WalkEnd::At {
-                path: above,
-                found: Some(dir),
-            });
-        }
+        [] => return ends_at(above, dir),
         [name, rest @ ..] => (name, rest),
     };
     let entries = match tree.node(dir) {
@@ -152,29 +167,29 @@ fn walk_on(
     };
     trail.push(dir)?;
     match at_name(tree, last, entries, name, rest) {
-        Next::Ends(found) => Ok(WalkEnd::At {
-            path: with_name(&above, name)?,
-            found,
-        }),
+        Next::Ends(found) => {
+            let path = with_name(above, name)?;
+            Ok(WalkEnd::At { path, found })
+        }
         Next::Into(birth) => {
-            let here = with_name(&above, name)?;
-            walk_on(tree, left, last, birth, here, rest, trail)
+            let here = with_name(above, name)?;
+            walk_on(tree, left, last, birth, &here, rest, trail)
         }
         Next::Follows(link, target) => {
             if left == 0 {
                 return Ok(WalkEnd::Refused(Refusal::Loop));
             }
             trail.push(link)?;
-            let mut inner = match target_path(tree.alloc(), target.as_slice())? {
+            let inner = match target_path(tree.alloc(), target.as_slice())? {
                 Some(inner) => inner,
                 None => return Ok(WalkEnd::Refused(Refusal::NoEnt)),
             };
-            append(&mut inner, rest)?;
+            let way = longer(inner, rest)?;
             if is_absolute(target.as_slice()) {
                 let root = Path::new(tree.alloc());
-                walk_on(tree, left - 1, last, ROOT, root, inner.as_slice(), trail)
+                walk_on(tree, left - 1, last, ROOT, &root, way.as_slice(), trail)
             } else {
-                walk_on(tree, left - 1, last, dir, above, inner.as_slice(), trail)
+                walk_on(tree, left - 1, last, dir, above, way.as_slice(), trail)
             }
         }
         Next::Stays(refusal) => Ok(WalkEnd::Refused(refusal)),
@@ -189,7 +204,7 @@ impl Tree {
     {
         let mut trail = Vec::new(self.alloc());
         let root = Path::new(self.alloc());
-        let end = walk_on(self, LINKS_FOLLOWED_MAX, last, ROOT, root, path, &mut trail)?;
+        let end = walk_on(self, LINKS_FOLLOWED_MAX, last, ROOT, &root, path, &mut trail)?;
         Ok(Walk { end, trail })
     }
 }
