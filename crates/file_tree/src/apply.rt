@@ -1,9 +1,10 @@
 // Operations applied to a tree.
-ghost use Rattle.std.specs.Prelude.{◌≡◌, ℕ, [], false, IfOk, IsTrue, OnErr};
+ghost use Rattle.std.specs.Prelude.{◌≡◌, ℕ, [], false, IfOk, IsTrue, OnErr, length, map, replicate};
 ghost use Rattle.script_definitions.specs.SaidReading.{IsProperReply};
 ghost use Rattle.frang_base.specs.Name.{is_target};
+ghost use Rattle.tree_definitions.specs.declared.cells.Cell.TheVariants.{Byte};
 ghost use Rattle.tree_definitions.specs.declared.node.Node.TheVariants.{Dir, File, Link};
-ghost use Rattle.tree_definitions.specs.Apply.{apply, made};
+ghost use Rattle.tree_definitions.specs.Apply.{apply, made, at_file, written, overwritten};
 ghost use Rattle.tree_definitions.specs.Place.{place};
 ghost use Rattle.file_tree.specs.CanApply.{CanApply, names};
 ghost use Rattle.file_tree.specs.Replies.{gives};
@@ -57,6 +58,40 @@ fn symlink(tree: &mut Tree, path: &[Name], birth: u64, target: &Text) -> Result<
     make(tree, path, birth, Node::Link { target, links: 1 })
 }
 
+// Answers `write`, at a time.
+fn write(
+    tree: &mut Tree,
+    when: u64,
+    m: u32,
+    path: &[Name],
+    off: u32,
+    bytes: &Text,
+) -> Result<Reply, NoMemory>
+    ensures ok { IfOk result (λ reply. at_file tree.old (place tree.old path.now) (λ b cells links old. written tree.old m b cells links when off (length bytes.now) (λ all. overwritten all off (map Byte bytes.now))) ≡ gives tree.new reply) }
+    ensures err { OnErr result (tree.new ≡ tree.old) }
+    ensures proper { IfOk result IsProperReply }
+{
+    let bytes = Bytes::Text(bytes.as_slice());
+    put_at(tree, when, m, path, off, &bytes)
+}
+
+// Answers `fill`, at a time.
+fn fill(
+    tree: &mut Tree,
+    when: u64,
+    m: u32,
+    path: &[Name],
+    off: u32,
+    len: u32,
+    byte: u8,
+) -> Result<Reply, NoMemory>
+    ensures ok { IfOk result (λ reply. at_file tree.old (place tree.old path.now) (λ b cells links old. written tree.old m b cells links when off len (λ all. overwritten all off (replicate len (Byte byte)))) ≡ gives tree.new reply) }
+    ensures err { OnErr result (tree.new ≡ tree.old) }
+    ensures proper { IfOk result IsProperReply }
+{
+    put_at(tree, when, m, path, off, &Bytes::Same { len, byte })
+}
+
 impl Tree {
     /// Does an operation, and answers it: a read by the bytes that it shows, of which none may be in doubt. A node that it makes gets
     /// this birth, and a file that it writes or cuts this time; `m` is the number of small blocks that are or were a directory's. After
@@ -88,26 +123,13 @@ impl Tree {
         ensures proper { IfOk result IsProperReply }
     {
         match op {
-            Op::Write { path, off, bytes } => {
-                let bytes = Bytes::Text(bytes.as_slice());
-                put_at(self, when, m, path.as_slice(), *off, &bytes)
-            }
+            Op::Write { path, off, bytes } => write(self, when, m, path.as_slice(), *off, bytes),
             Op::Fill {
                 path,
                 off,
                 len,
                 byte,
-            } => {
-                let (len, byte) = (*len, *byte);
-                put_at(
-                    self,
-                    when,
-                    m,
-                    path.as_slice(),
-                    *off,
-                    &Bytes::Same { len, byte },
-                )
-            }
+            } => fill(self, when, m, path.as_slice(), *off, *len, *byte),
             Op::Truncate { path, len } => Ok(truncate(self, when, path.as_slice(), *len)),
             Op::Read { path, off, len } => read(self, path.as_slice(), *off, *len),
             Op::Stat { path } => Ok(stat(self, path.as_slice())),

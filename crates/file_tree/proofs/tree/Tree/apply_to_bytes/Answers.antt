@@ -48,3 +48,15 @@ returns-in-Readlink-clause-ok c = λ birth. gives_so c.readlink.result _ _ c.arg
     ap (λ o. apply c.args.self.now o birth c.args.when c.args.m) c.in-Readlink.is
     ∙ ap (λ p. at_node c.args.self.now (place c.args.self.now p) (λ b node. target_of c.args.self.now node)) (sym c.as_slice-in-Readlink.ensures)
     ) c.readlink.ensures.is
+
+pub returns-in-Write-clause-ok : goal.returns-in-Write-clause-ok
+returns-in-Write-clause-ok c = λ birth. gives_so c.write.result _ _ c.write.new.tree (
+    ap (λ o. apply c.args.self.now o birth c.args.when c.args.m) c.in-Write.is
+    ∙ ap (λ p. at_file c.args.self.now (place c.args.self.now p) (λ b cells links old. written c.args.self.now c.args.m b cells links c.args.when c.in-Write.off (length c.in-Write.bytes) (λ all. overwritten all c.in-Write.off (map Byte c.in-Write.bytes)))) (sym c.as_slice.ensures)
+    ) c.write.ensures.ok
+
+pub returns-in-Fill-clause-ok : goal.returns-in-Fill-clause-ok
+returns-in-Fill-clause-ok c = λ birth. gives_so c.fill.result _ _ c.fill.new.tree (
+    ap (λ o. apply c.args.self.now o birth c.args.when c.args.m) c.in-Fill.is
+    ∙ ap (λ p. at_file c.args.self.now (place c.args.self.now p) (λ b cells links old. written c.args.self.now c.args.m b cells links c.args.when c.in-Fill.off c.in-Fill.len (λ all. overwritten all c.in-Fill.off (replicate c.in-Fill.len (Byte c.in-Fill.byte))))) (sym c.as_slice-in-Fill.ensures)
+    ) c.fill.ensures.ok
