@@ -1,5 +1,5 @@
 -- An operation that is done again tells whether its entry's reply is its answer.
-use Rattle.std.proofs.Common.{◌≡◌, ℕ, Bool, true, false, cond, ◌&&◌, nat_eq, Option, Some, None, List, [], ◌∷◌, map, sym, refl, ◌∙◌, ap}
+use Rattle.std.proofs.Common.{◌≡◌, ℕ, Bool, true, false, cond, ◌&&◌, ◌||◌, nat_eq, Option, Some, None, List, [], ◌∷◌, map, sym, refl, ◌∙◌, ap}
 use Rattle.std.specs.Cmp.Lexicographic.{pointwise}
 use Rattle.frang_base.specs.declared.op.Op.{Op}
 use Rattle.frang_base.specs.declared.op.Op.TheVariants as op
@@ -11,6 +11,7 @@ use Rattle.tree_definitions.specs.Tree.{FileTree}
 use Rattle.tree_definitions.specs.Apply.{Applied, is_path_op}
 use Rattle.tree_definitions.specs.Perform.{Step, Goes, Stops, resolved}
 use Rattle.tree_definitions.specs.History.{agrees, applied, cells_show, is_answer, same_reply}
+use Rattle.tree_definitions.specs.Touched.{differs}
 use Rattle.tree_laws.proofs.Resolving.{IsOf, Shaped, resolved_is}
 use Rattle.file_tree.specs.CanApply.{CanApply}
 use Rattle.file_tree.specs.Replies.{answer_of, gives}
@@ -100,3 +101,14 @@ told_of_next false t next f e = cc
 pub told_of_none : (b : Bool) (t : FileTree) (f : FileTree → Bool) → None ≡ cond {A = Option FileTree} b (Some t) None → false ≡ (b && f t)
 told_of_none true t f e = cc
 told_of_none false t f e = refl
+
+-- a test that asks twice whether there is an answer
+asked_twice : (b d on : Bool) → (b && (d || on)) ≡ (b && ((b && d) || on))
+asked_twice true d on = refl
+asked_twice false d on = refl
+
+pub touched : (b on : Bool) (tree t next : FileTree) (birth : ℕ) → Some next ≡ cond {A = Option FileTree} b (Some t) None → (differs tree next birth || on) ≡ (b && ((b && differs tree t birth) || on))
+touched b on tree t next birth e = told_of_next b t next (λ (s : FileTree). differs tree s birth || on) e ∙ asked_twice b (differs tree t birth) on
+
+pub untouched : (b on : Bool) (tree t : FileTree) (birth : ℕ) → None ≡ cond {A = Option FileTree} b (Some t) None → false ≡ (b && ((b && differs tree t birth) || on))
+untouched b on tree t birth e = told_of_none b t (λ (s : FileTree). (b && differs tree s birth) || on) e

@@ -53,6 +53,15 @@ bytes_agree tree off len bytes birth None = refl
 
 -- ---- what is done again
 
+-- a tree that takes the place of another where there is one
+pub next_left : (b : Bool) (t next tree : FileTree) → Some next ≡ cond {A = Option FileTree} b (Some t) None → next ≡ cond {A = FileTree} b t tree
+next_left true t next tree e = cc
+next_left false t next tree e = cc
+
+pub none_left : (b : Bool) (t tree : FileTree) → None ≡ cond {A = Option FileTree} b (Some t) None → tree ≡ cond {A = FileTree} b t tree
+none_left true t tree e = cc
+none_left false t tree e = refl
+
 -- a step's tree, where the reply is its answer
 abbrev stepped : FileTree → Step → ℕ → ℕ → Reply → FileTree
 stepped tree s number when r =

@@ -1,10 +1,11 @@
 // A history once its recoveries have acted, and the tree that it leaves.
-ghost use Rattle.std.specs.Prelude.{◌≡◌, ◌++◌, ◌+◌, ◌-◌, ◌/◌, ◌≤◌, ℕ, not, false, map, filter, IfOk, OnOk, IsTrue};
+ghost use Rattle.std.specs.Prelude.{◌≡◌, ◌++◌, ◌∷◌, ◌+◌, ◌-◌, ◌/◌, ◌≤◌, ℕ, not, true, false, List, [], map, filter, IfOk, OnOk, IsTrue};
 ghost use Rattle.std.specs.List.{list_any, list_all, flat_map};
 ghost use Rattle.tree_definitions.specs.Numbers.{below};
+ghost use Rattle.tree_definitions.specs.declared.history.Item.{Item as TheItem};
 ghost use Rattle.tree_definitions.specs.History.{after_all};
-ghost use Rattle.tree_definitions.specs.Removal.{mounts, is_of, begins_removal, left, sector_cells, file_sectors, is_doubtful, doubtful, recovered, settled, tree_from};
-ghost use Rattle.tree_model.specs.Replayed.{is_within, all_within};
+ghost use Rattle.tree_definitions.specs.Removal.{mounts, is_of, begins_removal, left, sector_cells, file_sectors, is_doubtful, doubtful, recovered, settled_from, settled, tree_from};
+ghost use Rattle.tree_model.specs.Replayed.{is_within, item_within, all_within};
 
 use crate::doubt::{Sought, is_doubtful};
 use crate::steps::{CellRun, Step, any_mounts};
@@ -26,6 +27,15 @@ fn begins_removal(
     Ok(step.is_lost(server, keeps, tree)? && !any_mounts(server, rest))
 }
 
+// Adds a step.
+fn push_copy<'h>(step: &Step<'h>, kept: &mut Vec<Step<'h>>) -> Result<(), NoMemory>
+    ensures { OnOk result (kept.new.items ≡ kept.old.items ++ step.now ∷ []) }
+{
+    let copy = step.try_copy()?;
+    kept.push(copy)?;
+    Ok(())
+}
+
 // Adds the steps that are no entries of a server.
 fn push_others<'h>(
     server: ServerId,
@@ -36,7 +46,7 @@ fn push_others<'h>(
 {
     for step in steps {
         if !step.is_of(server) {
-            kept.push(step.try_copy()?)?;
+            push_copy(step, kept)?;
         }
     }
     Ok(())
@@ -58,7 +68,7 @@ fn push_left<'h>(
             push_others(server, later, kept)?;
             return Ok(());
         }
-        kept.push(step.try_copy()?)?;
+        push_copy(step, kept)?;
         step.take(tree)?;
         rest = later;
     }
@@ -168,20 +178,42 @@ fn recovered<'h>(
     Ok(rest)
 }
 
+// The settled history with one item more.
+fn settle<'h>(opening: &Tree, item: &'h Item, list: &mut Vec<Step<'h>>) -> Result<(), NoMemory>
+    requires { item_within item.now ≡ true }
+    ensures { OnOk result ((items : List TheItem) → settled_from opening.now list.new.items items ≡ settled_from opening.now list.old.items (item.now ∷ items)) }
+{
+    match item {
+        Item::Did(entry) => list.push(Step::stays(entry))?,
+        Item::Recovered { server, keeps } => {
+            *list = recovered(opening, *server, *keeps, list)?;
+        }
+    }
+    Ok(())
+}
+
+// The settled history with so many items more.
+fn settle_all<'h>(
+    opening: &Tree,
+    history: &'h [Item],
+    list: &mut Vec<Step<'h>>,
+) -> Result<(), NoMemory>
+    requires { IsTrue (all_within history.now) }
+    ensures { OnOk result (list.new.items ≡ settled_from opening.now list.old.items history.now) }
+{
+    for item in history {
+        settle(opening, item, list)?;
+    }
+    Ok(())
+}
+
 // The settled history.
 fn settled<'h>(opening: &Tree, history: &'h [Item]) -> Result<Vec<Step<'h>>, NoMemory>
     requires { IsTrue (all_within history.now) }
     ensures { IfOk result (λ steps. steps.items ≡ settled opening.now history.now) }
 {
     let mut list = Vec::new(opening.alloc());
-    for item in history {
-        match item {
-            Item::Did(entry) => list.push(Step::stays(entry))?,
-            Item::Recovered { server, keeps } => {
-                list = recovered(opening, *server, *keeps, &list)?;
-            }
-        }
-    }
+    settle_all(opening, history, &mut list)?;
     Ok(list)
 }
 
