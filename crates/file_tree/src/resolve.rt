@@ -204,7 +204,15 @@ impl Tree {
     {
         let mut trail = Vec::new(self.alloc());
         let root = Path::new(self.alloc());
-        let end = walk_on(self, LINKS_FOLLOWED_MAX, last, ROOT, &root, path, &mut trail)?;
+        let end = walk_on(
+            self,
+            LINKS_FOLLOWED_MAX,
+            last,
+            ROOT,
+            &root,
+            path,
+            &mut trail,
+        )?;
         Ok(Walk { end, trail })
     }
 }

@@ -22,16 +22,16 @@ returns-in-Some-Link-clause-is t c = on_ok c.push_line-in-Some-Link.result
 
 pub loop-name-init : goal.loop-name-init
 loop-name-init t c =
-  let same : c.into_iter-name-iterator.result ≡ c.in-Some-Dir.entries = first_of (search rules, cc) in
-  record {
-    can = tt;
-    ends = tt;
-    proper = c.in_ok-push_line.ensures.proper;
-    rest = λ segments.
-      ap (λ es. c.push_line-2.new.lines.items ++ flat_map (λ e. lines_from (c.args.depth - 1) (record { segments = segments; nodes = c.args.nodes.now.entries }) (name_below c.args.text.now e.0) e.1) es) same
-      ∙ first_entry c.args.depth (record { segments = segments; nodes = c.args.nodes.now.entries }) c.args.text.now c.args.birth c.in-Some-Dir.entries c.in-Some-Dir.field-0-1 _ c.args.lines.now.items c.push_line-2.new.lines.items
-        (omega arith) (sym c.get.ensures.value ∙ ap option_copied c.in-Some-Dir.is ∙ ap Some c.in-Some-Dir.field-0-is) c.len-2.ensures.len c.in_ok-push_line.ensures.is;
-  }
+    let same : c.into_iter-name-iterator.result ≡ c.in-Some-Dir.entries = first_of (search rules, cc) in
+    record {
+      can = tt;
+      ends = tt;
+      proper = c.in_ok-push_line.ensures.proper;
+      rest = λ segments.
+          ap (λ es. c.push_line-2.new.lines.items ++ flat_map (λ e. lines_from (c.args.depth - 1) (record { segments = segments; nodes = c.args.nodes.now.entries }) (name_below c.args.text.now e.0) e.1) es) same
+          ∙ first_entry c.args.depth (record { segments = segments; nodes = c.args.nodes.now.entries }) c.args.text.now c.args.birth c.in-Some-Dir.entries c.in-Some-Dir.field-0-1 _ c.args.lines.now.items c.push_line-2.new.lines.items
+          (omega arith) (sym c.get.ensures.value ∙ ap option_copied c.in-Some-Dir.is ∙ ap Some c.in-Some-Dir.field-0-is) c.len-2.ensures.len c.in_ok-push_line.ensures.is;
+    }
 
 pub loop-name-preserved : goal.loop-name-preserved
 loop-name-preserved t c = record {

@@ -1,10 +1,7 @@
-use Rattle.std.proofs.Common.{◌≡◌, IsSome, sym, ◌∙◌, ap, subst, refl}
+use Rattle.std.proofs.Common.{IsSome, sym, subst, refl}
 use Rattle.tree_definitions.specs.declared.node.Node.TheVariants.{Dir}
-use Rattle.tree_definitions.specs.Tree.{with_node}
-use Rattle.tree_definitions.specs.Apply.{made}
 use Rattle.frang_base.specs.declared.reply.Reply.TheVariants as reply
 use Rattle.tree_edits.specs.Counts.{blocks_of, HasRoom}
-use Rattle.file_tree.specs.Replies.{gives}
 use Rattle.file_tree.proofs.Rooms.{grown_room}
 use Rattle.file_tree.proofs.names.make.Goals as goal
 
