@@ -1,7 +1,7 @@
 // Files in memory.
-ghost use Rattle.std.specs.Prelude.{◌≡◌, [], OnOk, OnErr};
+ghost use Rattle.std.specs.Prelude.{◌≡◌, ℕ, List, [], Some, OnOk, OnErr};
 ghost use Rattle.frang_outside.specs.Files.{NoneFell, ReadOutcome, WriteOutcome};
-ghost use Rattle.frang_outside.specs.MemFiles.{PutsFile, MemoryRead, MemoryWrite};
+ghost use Rattle.frang_outside.specs.MemFiles.{FilesInMemory, held, PutsFile, MemoryRead, MemoryWrite};
 
 use crate::{FileFault, Files};
 use frang_base::{NoMemory, Text};
@@ -47,6 +47,14 @@ impl MemFiles {
         ensures err { OnErr result (self.new ≡ self.old) }
     {
         let name = Text::of(self.alloc, name.as_bytes())?;
+        self.put_named(name, bytes)
+    }
+
+    // Puts a file in the place of the one with this name, if there is one.
+    fn put_named(&mut self, name: Text, bytes: &[u8]) -> Result<(), NoMemory>
+        ensures ok { OnOk result (PutsFile self.old self.new name bytes.now) }
+        ensures err { OnErr result (self.new ≡ self.old) }
+    {
         let bytes = Text::of(self.alloc, bytes)?;
         self.files.insert(name, bytes)?;
         Ok(())
@@ -62,14 +70,13 @@ impl Files for MemFiles {
         ensures answer { MemoryRead self.old self.new name.now limit result }
     {
         let name = Text::of(self.alloc, name.as_bytes())?;
-        let Some(text) = self.files.get(&name) else {
-            self.read_faults = self.read_faults.saturating_add(1);
-            return Err(FileFault::Failed);
-        };
-        if text.len() as u64 > limit {
-            return Err(FileFault::TooLong);
+        match self.files.get(&name) {
+            Some(text) => copied_within(alloc, text, limit),
+            None => {
+                self.read_faults = self.read_faults.saturating_add(1);
+                Err(FileFault::Failed)
+            }
         }
-        Ok(text.as_slice().to_vec(alloc)?)
     }
 
     fn write(&mut self, name: &str, bytes: &[u8]) -> Result<(), FileFault>
@@ -77,4 +84,15 @@ impl Files for MemFiles {
     {
         Ok(self.put_file(name, bytes)?)
     }
+}
+
+// The bytes of a file, where they are within the limit.
+fn copied_within(alloc: Global, text: &Text, limit: u64) -> Result<Vec<u8>, FileFault>
+    ensures { (files : FilesInMemory) (name : List ℕ) → held files name ≡ Some text.now
+        → MemoryRead files files name limit result }
+{
+    if text.len() as u64 > limit {
+        return Err(FileFault::TooLong);
+    }
+    Ok(text.as_slice().to_vec(alloc)?)
 }
