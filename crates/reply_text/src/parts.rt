@@ -3,6 +3,7 @@
 ghost use Rattle.std.specs.Prelude.{◌≡◌, ◌==◌, ◌<◌, IfOk, IfSome};
 ghost use Rattle.std.specs.Option.{option_copied};
 ghost use Rattle.std.specs.List.{list_all, slice_split};
+ghost use Rattle.std.specs.Str.{bytes_eq};
 ghost use Rattle.frang_base.specs.Name.{is_name, is_target_byte, is_target};
 ghost use Rattle.frang_base.specs.PathText.{parts_left};
 ghost use Rattle.script_definitions.specs.Numerals.{number_in, count_at};
@@ -12,6 +13,13 @@ use frang_base::limits::{LOGS, SERVERS, TARGET_BYTES_MAX};
 use frang_base::{Name, NameList, NoMemory, OpNo, ServerId, Text, cut};
 use script_definitions::{count, number_within};
 use std::alloc::Global;
+
+// Whether two texts are of the same bytes.
+pub fn same(text: &[u8], other: &[u8]) -> bool
+    ensures { result ≡ bytes_eq text.now other.now }
+{
+    text == other
+}
 
 // Whether no part is left.
 #[tactic(auto, using(script_definitions::proofs::PartsLaws::end_of_split))]
@@ -59,7 +67,7 @@ pub fn server(part: &[u8]) -> Option<ServerId>
 pub fn who(part: &[u8]) -> Option<ServerId>
     ensures { result ≡ who_at part.now }
 {
-    if part == b"-".as_slice() {
+    if same(part, b"-") {
         return Some(ServerId::HOST);
     }
     server(part)

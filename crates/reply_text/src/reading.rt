@@ -10,7 +10,7 @@ ghost use Rattle.frang_base.specs.PathText.{parts_left};
 ghost use Rattle.script_definitions.specs.SaidReading.{IsProperSaid, sole, names_of, target_at, op_at, shown_of, reply_among, state_replies, place_replies, limit_replies, plain_at, full_at, nospace_of, short_reply_from, reply_from, reply_of, answer_of, by_of, recovering_of, keeps_of, recovered_of, note_from, first_of_parts, kind_from, node_from, said_from, said_in, without_feed, said_of};
 
 use crate::parts::{
-    is_end, is_path_text, is_target, log, name_list, op_number, point, server, sole_count,
+    is_end, is_path_text, is_target, log, name_list, op_number, point, same, server, sole_count,
     sole_part, sole_server, some_bytes, two_counts, who,
 };
 use frang_base::{NoMemory, OpNo, Reply, Said, ServerId, Text, cut};
@@ -21,22 +21,22 @@ use std::alloc::Global;
 fn state_reply(word: &[u8]) -> Option<Reply>
     ensures { result ≡ reply_among state_replies word.now }
 {
-    if word == b"ok".as_slice() {
+    if same(word, b"ok") {
         return Some(Reply::Ok);
     }
-    if word == b"mounted".as_slice() {
+    if same(word, b"mounted") {
         return Some(Reply::Mounted);
     }
-    if word == b"down".as_slice() {
+    if same(word, b"down") {
         return Some(Reply::Down);
     }
-    if word == b"expired".as_slice() {
+    if same(word, b"expired") {
         return Some(Reply::Expired);
     }
-    if word == b"io".as_slice() {
+    if same(word, b"io") {
         return Some(Reply::Io);
     }
-    if word == b"already".as_slice() {
+    if same(word, b"already") {
         return Some(Reply::Already);
     }
     None
@@ -46,22 +46,22 @@ fn state_reply(word: &[u8]) -> Option<Reply>
 fn place_reply(word: &[u8]) -> Option<Reply>
     ensures { result ≡ reply_among place_replies word.now }
 {
-    if word == b"exist".as_slice() {
+    if same(word, b"exist") {
         return Some(Reply::Exist);
     }
-    if word == b"noent".as_slice() {
+    if same(word, b"noent") {
         return Some(Reply::NoEnt);
     }
-    if word == b"notdir".as_slice() {
+    if same(word, b"notdir") {
         return Some(Reply::NotDir);
     }
-    if word == b"isdir".as_slice() {
+    if same(word, b"isdir") {
         return Some(Reply::IsDir);
     }
-    if word == b"notempty".as_slice() {
+    if same(word, b"notempty") {
         return Some(Reply::NotEmpty);
     }
-    if word == b"loop".as_slice() {
+    if same(word, b"loop") {
         return Some(Reply::Loop);
     }
     None
@@ -71,19 +71,19 @@ fn place_reply(word: &[u8]) -> Option<Reply>
 fn limit_reply(word: &[u8]) -> Option<Reply>
     ensures { result ≡ reply_among limit_replies word.now }
 {
-    if word == b"inval".as_slice() {
+    if same(word, b"inval") {
         return Some(Reply::Inval);
     }
-    if word == b"mlink".as_slice() {
+    if same(word, b"mlink") {
         return Some(Reply::MLink);
     }
-    if word == b"dirfull".as_slice() {
+    if same(word, b"dirfull") {
         return Some(Reply::DirFull);
     }
-    if word == b"badoffset".as_slice() {
+    if same(word, b"badoffset") {
         return Some(Reply::BadOffset);
     }
-    if word == b"toobig".as_slice() {
+    if same(word, b"toobig") {
         return Some(Reply::TooBig);
     }
     None
@@ -106,12 +106,16 @@ fn plain_reply(word: &[u8]) -> Option<Reply>
 fn full_reply(word: &[u8]) -> Option<Reply>
     ensures { result ≡ full_at word.now }
 {
-    match word {
-        b"inode" => Some(Reply::NoInode),
-        b"dir" => Some(Reply::NoDirBlock),
-        b"large" => Some(Reply::NoLarge),
-        _ => None,
+    if same(word, b"inode") {
+        return Some(Reply::NoInode);
     }
+    if same(word, b"dir") {
+        return Some(Reply::NoDirBlock);
+    }
+    if same(word, b"large") {
+        return Some(Reply::NoLarge);
+    }
+    None
 }
 
 // What follows `nospace`.
@@ -119,7 +123,7 @@ fn nospace_reply(rest: Option<&[u8]>) -> Option<Reply>
     ensures { result ≡ first_of_parts nospace_of (parts_left 32 (option_copied rest.entry)) }
 {
     let (word, rest) = cut(rest?, b' ');
-    if word == b"data".as_slice() {
+    if same(word, b"data") {
         let m = sole_count(rest)?;
         return Some(Reply::NoBlock { m });
     }
@@ -133,23 +137,23 @@ fn nospace_reply(rest: Option<&[u8]>) -> Option<Reply>
 fn short_reply(word: &[u8], rest: Option<&[u8]>) -> Option<Reply>
     ensures { result ≡ short_reply_from word.now (parts_left 32 (option_copied rest.entry)) }
 {
-    if word == b"file".as_slice() {
+    if same(word, b"file") {
         let (size, links) = two_counts(rest, b' ')?;
         return Some(Reply::File { size, links });
     }
-    if word == b"dir".as_slice() {
+    if same(word, b"dir") {
         let entries = sole_count(rest)?;
         return Some(Reply::Dir { entries });
     }
-    if word == b"link".as_slice() {
+    if same(word, b"link") {
         let len = sole_count(rest)?;
         return Some(Reply::Symlink { len });
     }
-    if word == b"time".as_slice() {
+    if same(word, b"time") {
         let (run, tick) = point(sole_part(rest, b' ')?)?;
         return Some(Reply::Time { run, tick });
     }
-    if word == b"nospace".as_slice() {
+    if same(word, b"nospace") {
         return nospace_reply(rest);
     }
     if !is_end(rest) {
@@ -203,13 +207,13 @@ fn read_reply(alloc: Global, rest: Option<&[u8]>) -> Result<Option<Reply>, NoMem
         return Ok(None);
     };
     let (word, rest) = cut(left, b' ');
-    if word == b"data".as_slice() {
+    if same(word, b"data") {
         return shown_reply(alloc, rest);
     }
-    if word == b"names".as_slice() {
+    if same(word, b"names") {
         return names_reply(alloc, rest);
     }
-    if word == b"target".as_slice() {
+    if same(word, b"target") {
         return target_reply(alloc, rest);
     }
     Ok(short_reply(word, rest))
@@ -241,7 +245,7 @@ fn read_by(rest: Option<&[u8]>) -> Option<ServerId>
     ensures { result ≡ by_of (parts_left 32 (option_copied rest.entry)) }
 {
     let (word, rest) = cut(rest?, b' ');
-    if word != b"by".as_slice() {
+    if !same(word, b"by") {
         return None;
     }
     who(sole_part(rest, b' ')?)
@@ -261,7 +265,7 @@ fn read_keeps(rest: Option<&[u8]>) -> Option<OpNo>
     ensures { result ≡ keeps_of (parts_left 32 (option_copied rest.entry)) }
 {
     let (word, rest) = cut(rest?, b' ');
-    if word != b"keeps".as_slice() {
+    if !same(word, b"keeps") {
         return None;
     }
     op_number(sole_part(rest, b' ')?)
@@ -276,37 +280,44 @@ fn read_recovered(rest: Option<&[u8]>) -> Option<Said>
     Some(Said::Recovered { server, keeps })
 }
 
+// A note by its first word.
+fn note(word: &[u8], rest: Option<&[u8]>) -> Option<Said>
+    ensures { result ≡ note_from word.now (parts_left 32 (option_copied rest.entry)) }
+{
+    if same(word, b"dead") {
+        let server = sole_server(rest)?;
+        return Some(Said::Dead { server });
+    }
+    if same(word, b"recovering") {
+        return read_recovering(rest);
+    }
+    if same(word, b"recovered") {
+        return read_recovered(rest);
+    }
+    if same(word, b"renewed") {
+        let server = sole_server(rest)?;
+        return Some(Said::Renewed { server });
+    }
+    if same(word, b"backup") {
+        let line = sole_count(rest)?;
+        return Some(Said::Backup { line });
+    }
+    if same(word, b"locks") {
+        let line = sole_count(rest)?;
+        return Some(Said::Locks { line });
+    }
+    if same(word, b"end") && is_end(rest) {
+        return Some(Said::End);
+    }
+    None
+}
+
 // What follows `!`.
 fn read_note(rest: Option<&[u8]>) -> Option<Said>
     ensures { result ≡ first_of_parts note_from (parts_left 32 (option_copied rest.entry)) }
 {
     let (word, rest) = cut(rest?, b' ');
-    if word == b"dead".as_slice() {
-        let server = sole_server(rest)?;
-        return Some(Said::Dead { server });
-    }
-    if word == b"recovering".as_slice() {
-        return read_recovering(rest);
-    }
-    if word == b"recovered".as_slice() {
-        return read_recovered(rest);
-    }
-    if word == b"renewed".as_slice() {
-        let server = sole_server(rest)?;
-        return Some(Said::Renewed { server });
-    }
-    if word == b"backup".as_slice() {
-        let line = sole_count(rest)?;
-        return Some(Said::Backup { line });
-    }
-    if word == b"locks".as_slice() {
-        let line = sole_count(rest)?;
-        return Some(Said::Locks { line });
-    }
-    if word == b"end".as_slice() && is_end(rest) {
-        return Some(Said::End);
-    }
-    None
+    note(word, rest)
 }
 
 // What follows the path of a node: its kind, size and links.
@@ -314,15 +325,15 @@ fn node_kind(rest: Option<&[u8]>) -> Option<(u8, u32, u32)>
     ensures { result ≡ first_of_parts kind_from (parts_left 32 (option_copied rest.entry)) }
 {
     let (word, rest) = cut(rest?, b' ');
-    if word == b"file".as_slice() {
+    if same(word, b"file") {
         let (size, links) = two_counts(rest, b' ')?;
         return Some((1, size, links));
     }
-    if word == b"dir".as_slice() {
+    if same(word, b"dir") {
         let entries = sole_count(rest)?;
         return Some((2, entries, 0));
     }
-    if word == b"link".as_slice() {
+    if same(word, b"link") {
         let len = sole_count(rest)?;
         return Some((3, len, 0));
     }
@@ -377,13 +388,13 @@ fn read_text(alloc: Global, text: &[u8]) -> Result<Option<Said>, NoMemory>
     ensures { IfOk result (λ s. s ≡ said_in text.now) }
 {
     let (part, rest) = cut(text, b' ');
-    if part == b"!".as_slice() {
+    if same(part, b"!") {
         return Ok(read_note(rest));
     }
-    if part == b"=".as_slice() {
+    if same(part, b"=") {
         return read_node(alloc, rest);
     }
-    if part == b"#".as_slice() {
+    if same(part, b"#") {
         return Ok(read_redo(rest));
     }
     read_numbered(alloc, part, rest)
