@@ -74,11 +74,10 @@ fn is_flagged(flags: &[bool], birth: u64) -> bool
 fn are_flagged(flags: &[bool], entries: &Entries) -> bool
     ensures { result ≡ list_all (flag_at flags.now) (values_of entries.now) }
 {
-    let mut all = true;
-    for birth in entries.as_map().values() {
-        all = all && is_flagged(flags, *birth);
-    }
-    all
+    entries
+        .as_map()
+        .values()
+        .all(|birth| is_flagged(flags, *birth))
 }
 
 fn is_closed_at(flags: &[bool], nodes: &BTreeMap<u64, Node>, birth: usize) -> bool
@@ -123,11 +122,7 @@ fn close(flags: &mut [bool], nodes: &BTreeMap<u64, Node>)
 fn births_flagged(flags: &[bool], nodes: &BTreeMap<u64, Node>) -> bool
     ensures { result ≡ list_all (flag_at flags.now) (keys_of nodes.now.entries) }
 {
-    let mut all = true;
-    for birth in nodes.keys() {
-        all = all && is_flagged(flags, *birth);
-    }
-    all
+    nodes.keys().all(|birth| is_flagged(flags, *birth))
 }
 
 /// Whether every node is reached from the root, where births and what nodes name lie below `n`.
