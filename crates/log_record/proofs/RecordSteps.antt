@@ -2,7 +2,7 @@
 use Rattle.std.proofs.Common.{◌≡◌, ℕ, suc, ◌+◌, ◌<◌, ◌≤◌, true, ◌&&◌, ◌==◌, if◌then◌else◌, nat_le, Option, Some, None, List, [], ◌∷◌, ◌++◌, length, drop, get_or, refl, sym, ap, subst, ◌∙◌, append_assoc, append-nil, arith, length-append, Result, Ok, Err}
 use Rattle.std.proofs.lemmas.Bool.{and_parts, and_from}
 use Rattle.std.proofs.lemmas.Bool.Decides.{nat_tests}
-use Rattle.std.proofs.lemmas.List.{at_drop_more}
+use Rattle.std.proofs.lemmas.List.{at_drop_all, at_drop_more}
 use Rattle.std.specs.List.{AllByRecursion, flat_map, list_all}
 use Rattle.std.specs.Option.{option_and_then, option_map}
 use Rattle.std.specs.Result.{OnErr}
@@ -67,6 +67,16 @@ module _ {X : Type 0} where
   pub others : (P : X → Type 0) (xs : List X) (i : ℕ) (x : X) → i < length xs → AllByRecursion P (drop i xs) → AllByRecursion P (drop (i + 1) xs)
   others P xs i x h all =
       let both = subst (AllByRecursion P) (at_drop_more (λ ys. ys) xs i x h) all in both.1
+
+  -- the one at hand
+  pub one_of : (P : X → Type 0) (xs : List X) (i : ℕ) (x : X) → i < length xs → x ≡ get_or xs i x → AllByRecursion P (drop i xs) → P x
+  one_of P xs i x h is all =
+      let both = subst (AllByRecursion P) (at_drop_more (λ ys. ys) xs i x h) all in
+      subst P (sym is) both.0
+
+  -- once all are written
+  pub written_all : (f : X → List ℕ) (xs : List X) (i : ℕ) (written all : List ℕ) → length xs ≤ i → written ++ flat_map f (drop i xs) ≡ all → written ≡ all
+  written_all f xs i written all h e = sym (append-nil written) ∙ ap (λ ys. written ++ ys) (sym (at_drop_all (flat_map f) xs i h)) ∙ e
 
 -- what holds whatever an answer is holds of a refusal
 pub whatever : {T E P : Type 0} (r : Result T E) → P → OnErr r P
