@@ -35,6 +35,17 @@ module _ {A : Type 0} (one : List ℕ → Read A) where
       go None = refl
       go (Some xs) = ap (λ ys. Some (taken ys xs.1)) (append_assoc done (x ∷ []) xs.0)
 
+  -- before the first is read, and after the last
+  pub read_first : (n m : ℕ) (done : List A) (bytes : List ℕ) → n ≡ m → done ≡ [] → read_behind done n bytes ≡ all_read one m bytes
+  read_first n m done bytes is none = ap (λ xs. read_behind xs n bytes) none ∙ go (all_read one n bytes) ∙ ap (λ k. all_read one k bytes) is
+    where
+      go : (o : Read (List A)) → option_map (λ xs. taken ([] ++ xs.0) xs.1) o ≡ o
+      go None = refl
+      go (Some xs) = refl
+
+  pub read_last : (n : ℕ) (done : List A) (bytes : List ℕ) (all : Read (List A)) → n ≡ 0 → read_behind done n bytes ≡ all → Some (taken done bytes) ≡ all
+  read_last n done bytes all none h = ap (λ xs. Some (taken xs bytes)) (sym (append-nil done)) ∙ sym (ap (λ k. read_behind done k bytes) none) ∙ h
+
   pub read_none : (n m : ℕ) (done : List A) (bytes rest : List ℕ) (all : Read (List A)) (o : Option A) → n ≡ suc m
       → option_map (λ y. (y, rest)) o ≡ one bytes → o ≡ None → read_behind done n bytes ≡ all → None ≡ all
   read_none n m done bytes rest all o is reads none h =
