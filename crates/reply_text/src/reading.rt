@@ -106,16 +106,12 @@ fn plain_reply(word: &[u8]) -> Option<Reply>
 fn full_reply(word: &[u8]) -> Option<Reply>
     ensures { result ≡ full_at word.now }
 {
-    if same(word, b"inode") {
-        return Some(Reply::NoInode);
+    match word {
+        b"inode" => Some(Reply::NoInode),
+        b"dir" => Some(Reply::NoDirBlock),
+        b"large" => Some(Reply::NoLarge),
+        _ => None,
     }
-    if same(word, b"dir") {
-        return Some(Reply::NoDirBlock);
-    }
-    if same(word, b"large") {
-        return Some(Reply::NoLarge);
-    }
-    None
 }
 
 // What follows `nospace`.
