@@ -107,15 +107,18 @@ put_room tree after birth dir node blocks bare is swapped room =
     room_after tree after birth dir blocks (ap (λ t. t.segments) is) swapped (omega arith) (omega arith) (omega arith)
     (⊎_elim inl (λ differ. inr (ap (λ t. node_at t dir) is ∙ found_elsewhere tree birth dir node (λ same. differ (sym same)))) (cases_eq birth dir)) room
 
--- and what was there is still there, or the node
-pub put_there : (tree after : FileTree) (birth dir : ℕ) (node : Node) → after ≡ with_node tree birth node → IsSome (node_at tree dir) → IsSome (node_at after dir)
-put_there tree after birth dir node is there = ⊎_elim same other (cases_eq birth dir)
+-- and the directory is still there, or the node
+pub put_there : (tree after : FileTree) (birth dir : ℕ) (node old : Node) → after ≡ with_node tree birth node → node_at tree dir ≡ Some old → IsSome (node_at after dir)
+put_there tree after birth dir node old is found = ⊎_elim same other (cases_eq birth dir)
   where
+    some : (o : Option Node) (n : Node) → o ≡ Some n → IsSome o
+    some o n e = subst IsSome (sym e) refl
+
     same : birth ≡ dir → IsSome (node_at after dir)
-    same e = subst IsSome (sym (ap (λ t. node_at t dir) is ∙ ap (node_at (with_node tree birth node)) (sym e) ∙ found_here tree birth node)) refl
+    same e = some _ node (ap (λ t. node_at t dir) is ∙ ap (node_at (with_node tree birth node)) (sym e) ∙ found_here tree birth node)
 
     other : (birth ≡ dir → ⊥) → IsSome (node_at after dir)
-    other differ = subst IsSome (sym (ap (λ t. node_at t dir) is ∙ found_elsewhere tree birth dir node (λ e. differ (sym e)))) there
+    other differ = some _ old (ap (λ t. node_at t dir) is ∙ found_elsewhere tree birth dir node (λ e. differ (sym e)) ∙ found)
 
 -- a node that is no directory isn't one that is
 pub no_dir : (tree : FileTree) (birth dir : ℕ) (entries : Entries) (blocks : ℕ) → node_at tree dir ≡ Some (Dir entries blocks) → is_dir (node_at tree birth) ≡ false → dir ≡ birth → ⊥

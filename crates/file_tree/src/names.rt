@@ -1,17 +1,14 @@
 // Operations on the names of directories: create, mkdir, symlink, link, unlink, rmdir, rename.
-ghost use Rattle.std.specs.Prelude.{◌≡◌, ◌<◌, ℕ, List, false, IfOk, IfSome, IfNone, IsSome, OnOk, OnErr, length};
+ghost use Rattle.std.specs.Prelude.{◌≡◌, ◌<◌, false, IfOk, OnErr, length};
 ghost use Rattle.std.specs.Option.{option_copied};
 ghost use Rattle.script_definitions.specs.SaidReading.{IsProperReply};
-ghost use Rattle.tree_definitions.specs.declared.node.Node.{Node as TheNode};
-ghost use Rattle.tree_definitions.specs.declared.node.Node.TheVariants.{Dir};
 ghost use Rattle.tree_definitions.specs.Entries.{with_entry};
-ghost use Rattle.tree_definitions.specs.Tree.{node_at, with_node, grown, lacks_block};
-ghost use Rattle.tree_definitions.specs.Place.{place, Free as FreeAt};
-ghost use Rattle.tree_definitions.specs.Apply.{is_dir, links_of, has_entries, made, named, one_link_fewer, name_gone, unlinked, dir_removed, linked_to, linked};
-ghost use Rattle.tree_edits.specs.Counts.{blocks_of, HasRoom, IsWithin};
+ghost use Rattle.tree_definitions.specs.Tree.{node_at, grown};
+ghost use Rattle.tree_definitions.specs.Place.{place};
+ghost use Rattle.tree_definitions.specs.Apply.{is_dir, links_of, has_entries, made, one_link_fewer, name_gone, unlinked, dir_removed, linked_to, linked};
+ghost use Rattle.tree_edits.specs.Counts.{blocks_of};
 ghost use Rattle.file_tree.specs.Named.{HasEntry};
 ghost use Rattle.file_tree.specs.Proper.{HasTarget};
-ghost use Rattle.file_tree.specs.Puts.{by_refusal};
 ghost use Rattle.file_tree.specs.Replies.{gives};
 
 use crate::Tree;
@@ -70,48 +67,6 @@ pub fn with_name(entries: &Entries, name: &Name, birth: u64) -> Result<Entries, 
     Ok(more)
 }
 
-// Why no new node can be named in a directory that hasn't its name, if none can.
-fn refused(tree: &Tree, entries: &Entries, blocks: u32) -> Option<Reply>
-    ensures is { (birth dir : ℕ) (name : List ℕ) (node : TheNode) → made tree.now birth node (FreeAt dir entries.now blocks name) ≡ by_refusal tree.now result (named (with_node tree.now birth node) dir entries.now blocks name birth) }
-    ensures proper { IfSome result IsProperReply }
-    ensures few { IfNone result (length entries.now < DIRECTORY_ENTRIES_MAX) }
-    ensures room { IfNone result (lacks_block tree.now entries.now blocks ≡ false) }
-    ensures within { IfNone result (IsWithin tree.now) }
-{
-    if entries.len() >= DIRECTORY_ENTRIES_MAX as usize {
-        return Some(Reply::DirFull);
-    }
-    if tree.inodes_full() {
-        return Some(Reply::NoInode);
-    }
-    if tree.lacks_block(entries, blocks) {
-        return Some(Reply::NoDirBlock);
-    }
-    None
-}
-
-// A new node that takes no block, and the directory that names it. After `NoMemory` the tree is as before.
-fn put_named(
-    tree: &mut Tree,
-    birth: u64,
-    node: Node,
-    dir: u64,
-    entries: Entries,
-    blocks: u32,
-) -> Result<(), NoMemory>
-    requires within { IsWithin tree.old }
-    requires bare { blocks_of node ≡ Blocks.NONE }
-    requires target { HasTarget node }
-    requires there { IsSome (node_at tree.old dir) }
-    requires room { HasRoom tree.old dir (blocks_of (Dir entries blocks)) }
-    ensures ok { OnOk result (tree.new ≡ with_node (with_node tree.old birth node) dir (Dir entries blocks)) }
-    ensures err { OnErr result (tree.new ≡ tree.old) }
-{
-    tree.put(birth, node)?;
-    tree.replace(dir, Node::Dir { entries, blocks });
-    Ok(())
-}
-
 /// Answers `create`, `mkdir` and `symlink`: a name that isn't there gets a new node. After `NoMemory` the tree is as before.
 pub fn make(tree: &mut Tree, path: &[Name], birth: u64, node: Node) -> Result<Reply, NoMemory>
     requires bare { blocks_of node ≡ Blocks.NONE }
@@ -129,14 +84,20 @@ pub fn make(tree: &mut Tree, path: &[Name], birth: u64, node: Node) -> Result<Re
             blocks,
             name,
         } => {
-            match refused(tree, entries, blocks) {
-                Some(reply) => return Ok(reply),
-                None => {}
+            if entries.len() >= DIRECTORY_ENTRIES_MAX as usize {
+                return Ok(Reply::DirFull);
+            }
+            if tree.inodes_full() {
+                return Ok(Reply::NoInode);
+            }
+            if tree.lacks_block(entries, blocks) {
+                return Ok(Reply::NoDirBlock);
             }
             // The changed directory is made first, since that may want memory.
             let blocks = grown(entries, blocks);
             let entries = with_name(entries, name, birth)?;
-            put_named(tree, birth, node, dir, entries, blocks)?;
+            tree.put(birth, node)?;
+            tree.replace(dir, Node::Dir { entries, blocks });
             Ok(Reply::Ok)
         }
     }

@@ -57,9 +57,8 @@ fn redo(tree: &mut Tree, op: &Op, number: OpNo, when: u64, reply: &Reply) -> Res
     requires { CanApply tree.old op.now }
     ensures ok { OnOk result (tree.new ≡ after_redo tree.old op.now number.0 when reply.now) }
 {
-    match done_again(tree, op, number, when, reply)? {
-        Some(next) => *tree = next,
-        None => {}
+    if let Some(next) = done_again(tree, op, number, when, reply)? {
+        *tree = next;
     }
     Ok(())
 }

@@ -10,7 +10,7 @@ returns-in-Some c =
     let a = apply c.args.tree.now c.args.op.now c.args.number.0 c.args.when (told_blocks c.args.tree.now c.args.reply.now) in
     record { ok = next_left (agrees a.answer c.args.reply.now) a.tree c.in-Some.next c.args.tree.now (sym c.in-Some.is ∙ c.in_ok-next.ensures) }
 
-pub returns-in-None : goal.returns-in-None
-returns-in-None c =
+pub returns-in_default : goal.returns-in_default
+returns-in_default c =
     let a = apply c.args.tree.now c.args.op.now c.args.number.0 c.args.when (told_blocks c.args.tree.now c.args.reply.now) in
-    record { ok = none_left (agrees a.answer c.args.reply.now) a.tree c.args.tree.now (sym c.in-None.is ∙ c.in_ok-next.ensures) }
+    record { ok = none_left (agrees a.answer c.args.reply.now) a.tree c.args.tree.now (sym c.in_default.is ∙ c.in_ok-next.ensures) }
