@@ -4,7 +4,7 @@ ghost use Rattle.std.specs.Prelude.{◌≡◌, IfOk};
 use crate::{NoMemory, Path, Text};
 
 /// What a line asks of its server. Offsets and lengths are in bytes.
-#[derive(Clone, Drop)]
+#[derive(Clone)]
 pub enum Op {
     Create {
         path: Path,
@@ -103,5 +103,52 @@ impl Op {
         ensures { IfOk result (λ op. op ≡ self.now) }
     {
         Ok(self.clone()?)
+    }
+}
+
+// By one call, wherever it is dropped: each function that drops one is proved with what stands here, and not with each field of each variant.
+impl Drop for Op {
+    fn drop(self) {
+        match self {
+            Op::Create { path: _path }
+            | Op::Mkdir { path: _path }
+            | Op::Unlink { path: _path }
+            | Op::Rmdir { path: _path }
+            | Op::Stat { path: _path }
+            | Op::List { path: _path }
+            | Op::Readlink { path: _path }
+            | Op::Time { path: _path }
+            | Op::Fill {
+                path: _path,
+                off: _,
+                len: _,
+                byte: _,
+            }
+            | Op::Truncate { path: _path, len: _ }
+            | Op::Read {
+                path: _path,
+                off: _,
+                len: _,
+            } => {}
+            Op::Link {
+                path: _path,
+                to: _to,
+            }
+            | Op::Rename {
+                path: _path,
+                to: _to,
+            } => {}
+            Op::Symlink {
+                path: _path,
+                target: _text,
+            }
+            | Op::Write {
+                path: _path,
+                off: _,
+                bytes: _text,
+            } => {}
+            Op::Sync | Op::Mount | Op::Unmount | Op::Crash | Op::Stall => {}
+            Op::CrashAt { k: _ } | Op::CutAt { k: _ } => {}
+        }
     }
 }

@@ -4,7 +4,7 @@ ghost use Rattle.std.specs.Prelude.{◌≡◌, IfOk};
 use crate::{NameList, NoMemory, Text};
 
 /// The answer to a line. Sizes and lengths are in bytes.
-#[derive(Clone, Drop)]
+#[derive(Clone)]
 pub enum Reply {
     Ok,
     Mounted,
@@ -47,5 +47,40 @@ impl Reply {
         ensures { IfOk result (λ reply. reply ≡ self.now) }
     {
         Ok(self.clone()?)
+    }
+}
+
+// By one call, as an operation is dropped.
+impl Drop for Reply {
+    fn drop(self) {
+        match self {
+            Reply::Shown(_text) | Reply::Target(_text) => {}
+            Reply::Names(_names) => {}
+            Reply::File { size: _, links: _ } => {}
+            Reply::Dir { entries: _ } => {}
+            Reply::Symlink { len: _ } => {}
+            Reply::Time { run: _, tick: _ } => {}
+            Reply::NoBlock { m: _ } => {}
+            Reply::Ok
+            | Reply::Mounted
+            | Reply::Exist
+            | Reply::NoEnt
+            | Reply::NotDir
+            | Reply::IsDir
+            | Reply::NotEmpty
+            | Reply::Inval
+            | Reply::MLink
+            | Reply::DirFull
+            | Reply::BadOffset
+            | Reply::TooBig
+            | Reply::Loop
+            | Reply::NoInode
+            | Reply::NoDirBlock
+            | Reply::NoLarge
+            | Reply::Down
+            | Reply::Expired
+            | Reply::Io
+            | Reply::Already => {}
+        }
     }
 }

@@ -2,7 +2,6 @@
 use crate::{OpNo, Reply, ServerId, Text};
 
 /// A line that is said.
-#[derive(Drop)]
 pub enum Said {
     /// A line of the script is answered. A host's line has the host as `server`.
     Answer {
@@ -50,4 +49,33 @@ pub enum Said {
     /// A report line, as it stands.
     Shown(Text),
     End,
+}
+
+// By one call, as an operation is dropped.
+impl Drop for Said {
+    fn drop(self) {
+        match self {
+            Said::Answer {
+                server: _,
+                line: _,
+                reply: _reply,
+            } => {}
+            Said::Node {
+                path: _path,
+                kind: _,
+                size: _,
+                links: _,
+            } => {}
+            Said::Shown(_text) => {}
+            Said::Recovering { server: _, by: _ } => {}
+            Said::Recovered {
+                server: _,
+                keeps: _,
+            } => {}
+            Said::Dead { server: _ } | Said::Renewed { server: _ } => {}
+            Said::Redo { op: _ } => {}
+            Said::Backup { line: _ } | Said::Locks { line: _ } => {}
+            Said::End => {}
+        }
+    }
 }
