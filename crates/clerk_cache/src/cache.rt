@@ -25,11 +25,17 @@ use std::marker::Model;
 
 /// The cached sectors of a server. Contracts see them as entries, a sector's number with its block, the lock that covers it and,
 /// where it is dirty, its mark, ascending by sector, and for how many more entries there is room.
-#[derive(Drop)]
 pub struct Cache {
     sectors: Sectors,
     states: States,
     alloc: Global,
+}
+
+// By one call, wherever it is dropped.
+impl Drop for Cache {
+    fn drop(self) {
+        let Cache { sectors: _sectors, states: _states, alloc: _ } = self;
+    }
 }
 
 impl Model for Cache {

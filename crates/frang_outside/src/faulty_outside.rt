@@ -13,7 +13,6 @@ use std::marker::Model;
 /// each kind counted from 1, and at no others. A late put doesn't fail, and a failed put leaves the
 /// old sector. A call that wants memory isn't counted: nothing has changed. Else it is as
 /// `MemOutside`.
-#[derive(Drop)]
 pub struct FaultyOutside {
     inner: MemOutside,
     gets: FaultPlan,
@@ -24,6 +23,13 @@ pub struct FaultyOutside {
     faults: [u64; 256],
     // How many says have failed. It stands still at its type's end.
     say_faults: u64,
+}
+
+// By one call, wherever it is dropped.
+impl Drop for FaultyOutside {
+    fn drop(self) {
+        let FaultyOutside { inner: _inner, gets: _gets, puts: _puts, says: _says, faults: _, say_faults: _ } = self;
+    }
 }
 
 impl Model for FaultyOutside {

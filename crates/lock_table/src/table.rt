@@ -20,13 +20,19 @@ use std::marker::Model;
 
 /// A lock table, seen as its locks, by the definitions of locks, and the room for further claims. Servers are 0 to 15; a taker of
 /// logs may also be the host. A lock is found in time logarithmic in their number, and what a server is asked for lies ready.
-#[derive(Drop)]
 pub struct LockTable {
     alloc: Global,
     claims: Claims,
     // The lock for whose next want there is a place, also where nobody claims it.
     reserved: Option<LockId>,
     logs: Logs,
+}
+
+// By one call, wherever it is dropped.
+impl Drop for LockTable {
+    fn drop(self) {
+        let LockTable { alloc: _, claims: _claims, reserved: _, logs: _ } = self;
+    }
 }
 
 impl Model for LockTable {

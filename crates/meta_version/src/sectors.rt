@@ -18,12 +18,18 @@ use std::marker::Model;
 /// Sectors with their blocks. Contracts see them as entries, a sector's number with its block, ascending by sector, and for how
 /// many more there is room. A look-up and an insertion take time logarithmic in the number of entries, and what is inserted moves no
 /// blocks.
-#[derive(Drop)]
 pub struct Sectors {
     blocks: OrderedMap<u64, Box<Block>>,
     // Boxes for blocks to come; what they hold doesn't count.
     blank: Vec<Box<Block>>,
     alloc: Global,
+}
+
+// By one call, wherever it is dropped.
+impl Drop for Sectors {
+    fn drop(self) {
+        let Sectors { blocks: _blocks, blank: _blank, alloc: _ } = self;
+    }
 }
 
 impl Model for Sectors {

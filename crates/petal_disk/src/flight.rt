@@ -19,12 +19,18 @@ use std::marker::Model;
 /// The writes in flight, seen as the list of them with their tickets, ascending, the ticket of the next one, and for how many
 /// more there is room. Room counts memory and the tickets that are left: the last value of `u64` isn't given. A write is found by
 /// its ticket, and by its sector, in time logarithmic in their number, and where one is issued or gone no other block moves.
-#[derive(Drop)]
 pub struct Flight {
     writes: WritesByTicket,
     // The ticket of each sector's write.
     tickets: OrderedMap<u64, Ticket>,
     next: u64,
+}
+
+// By one call, wherever it is dropped.
+impl Drop for Flight {
+    fn drop(self) {
+        let Flight { writes: _writes, tickets: _tickets, next: _ } = self;
+    }
 }
 
 impl Model for Flight {
