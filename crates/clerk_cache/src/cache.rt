@@ -34,7 +34,11 @@ pub struct Cache {
 // By one call, wherever it is dropped.
 impl Drop for Cache {
     fn drop(self) {
-        let Cache { sectors: _sectors, states: _states, alloc: _ } = self;
+        let Cache {
+            sectors: _sectors,
+            states: _states,
+            alloc: _,
+        } = self;
     }
 }
 

@@ -31,7 +31,12 @@ pub(crate) struct States {
 // By one call, wherever it is dropped.
 impl Drop for States {
     fn drop(self) {
-        let States { states: _states, marks: _marks, covers: _covers, dirty: _dirty } = self;
+        let States {
+            states: _states,
+            marks: _marks,
+            covers: _covers,
+            dirty: _dirty,
+        } = self;
     }
 }
 

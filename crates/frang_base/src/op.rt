@@ -124,7 +124,10 @@ impl Drop for Op {
                 len: _,
                 byte: _,
             }
-            | Op::Truncate { path: _path, len: _ }
+            | Op::Truncate {
+                path: _path,
+                len: _,
+            }
             | Op::Read {
                 path: _path,
                 off: _,

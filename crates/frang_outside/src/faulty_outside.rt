@@ -28,7 +28,14 @@ pub struct FaultyOutside {
 // By one call, wherever it is dropped.
 impl Drop for FaultyOutside {
     fn drop(self) {
-        let FaultyOutside { inner: _inner, gets: _gets, puts: _puts, says: _says, faults: _, say_faults: _ } = self;
+        let FaultyOutside {
+            inner: _inner,
+            gets: _gets,
+            puts: _puts,
+            says: _says,
+            faults: _,
+            say_faults: _,
+        } = self;
     }
 }
 

@@ -23,7 +23,11 @@ pub struct MemOutside {
 // By one call, wherever it is dropped.
 impl Drop for MemOutside {
     fn drop(self) {
-        let MemOutside { alloc: _, acts: _acts, blocks: _blocks } = self;
+        let MemOutside {
+            alloc: _,
+            acts: _acts,
+            blocks: _blocks,
+        } = self;
     }
 }
 

@@ -28,7 +28,10 @@ impl Drop for LineEnd {
         match self {
             LineEnd::Done(_outcome) => {}
             LineEnd::Need(_) | LineEnd::Segments => {}
-            LineEnd::Clear { block: _, over: _over } => {}
+            LineEnd::Clear {
+                block: _,
+                over: _over,
+            } => {}
         }
     }
 }

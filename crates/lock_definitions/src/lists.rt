@@ -178,6 +178,11 @@ pub struct ClerkLocks {
 // By one call, wherever it is dropped.
 impl Drop for ClerkLocks {
     fn drop(self) {
-        let ClerkLocks { server: _, held: _held, wants: _wants, logs: _logs } = self;
+        let ClerkLocks {
+            server: _,
+            held: _held,
+            wants: _wants,
+            logs: _logs,
+        } = self;
     }
 }

@@ -31,7 +31,12 @@ pub struct LockTable {
 // By one call, wherever it is dropped.
 impl Drop for LockTable {
     fn drop(self) {
-        let LockTable { alloc: _, claims: _claims, reserved: _, logs: _ } = self;
+        let LockTable {
+            alloc: _,
+            claims: _claims,
+            reserved: _,
+            logs: _,
+        } = self;
     }
 }
 

@@ -30,7 +30,12 @@ impl Drop for Plan {
         match self {
             Plan::Need(_) | Plan::Segments => {}
             Plan::Clear { block: _ } => {}
-            Plan::Done { reply: _reply, changes: _changes, bytes: _bytes, freed: _freed } => {}
+            Plan::Done {
+                reply: _reply,
+                changes: _changes,
+                bytes: _bytes,
+                freed: _freed,
+            } => {}
         }
     }
 }

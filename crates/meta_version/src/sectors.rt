@@ -28,7 +28,11 @@ pub struct Sectors {
 // By one call, wherever it is dropped.
 impl Drop for Sectors {
     fn drop(self) {
-        let Sectors { blocks: _blocks, blank: _blank, alloc: _ } = self;
+        let Sectors {
+            blocks: _blocks,
+            blank: _blank,
+            alloc: _,
+        } = self;
     }
 }
 

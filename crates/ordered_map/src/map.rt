@@ -24,7 +24,11 @@ pub struct OrderedMap<K: Ord, V> {
 // By one call, wherever it is dropped.
 impl<K: Ord + Drop, V: Drop> Drop for OrderedMap<K, V> {
     fn drop(self) {
-        let OrderedMap { chunks: _chunks, count: _, last: _ } = self;
+        let OrderedMap {
+            chunks: _chunks,
+            count: _,
+            last: _,
+        } = self;
     }
 }
 

@@ -25,7 +25,11 @@ pub(crate) struct WritesByTicket {
 // By one call, wherever it is dropped.
 impl Drop for WritesByTicket {
     fn drop(self) {
-        let WritesByTicket { writes: _writes, blank: _blank, alloc: _ } = self;
+        let WritesByTicket {
+            writes: _writes,
+            blank: _blank,
+            alloc: _,
+        } = self;
     }
 }
 

@@ -29,7 +29,11 @@ pub struct Flight {
 // By one call, wherever it is dropped.
 impl Drop for Flight {
     fn drop(self) {
-        let Flight { writes: _writes, tickets: _tickets, next: _ } = self;
+        let Flight {
+            writes: _writes,
+            tickets: _tickets,
+            next: _,
+        } = self;
     }
 }
 

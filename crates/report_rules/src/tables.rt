@@ -36,7 +36,14 @@ pub struct Tables {
 // By one call, wherever it is dropped.
 impl Drop for Tables {
     fn drop(self) {
-        let Tables { reached: _reached, names: _names, small: _small, large: _large, directories: _directories, repeats: _repeats } = self;
+        let Tables {
+            reached: _reached,
+            names: _names,
+            small: _small,
+            large: _large,
+            directories: _directories,
+            repeats: _repeats,
+        } = self;
     }
 }
 

@@ -35,7 +35,15 @@ pub struct Ring {
 // By one call, wherever it is dropped.
 impl Drop for Ring {
     fn drop(self) {
-        let Ring { given_up: _, reached: _, above: _above, waiting: _waiting, named: _named, frame: _frame, alloc: _ } = self;
+        let Ring {
+            given_up: _,
+            reached: _,
+            above: _above,
+            waiting: _waiting,
+            named: _named,
+            frame: _frame,
+            alloc: _,
+        } = self;
     }
 }
 
