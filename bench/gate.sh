@@ -145,6 +145,7 @@ if [ -n "$other" ]; then
     wait
     printf '== %s\n' "$other"
     cat "$room/other.said"
+    echo "the run's own lines: $log.other"
     printf '== what is committed\n'
 fi
 cat "$room/said"
