@@ -11,6 +11,7 @@ use plan_steps::{Outcome, Stop};
 use std::alloc::Global;
 
 /// How a line ends over what is at hand.
+#[derive(Drop)]
 pub enum LineEnd {
     /// It is done with a reply and the edits that make it, none where it is refused.
     Done(Outcome),
@@ -20,20 +21,6 @@ pub enum LineEnd {
     Segments,
     /// This small block has to be cleared first, for this operation over paths without links, to which the walks of the line lead.
     Clear { block: u32, over: Op },
-}
-
-// By one call, wherever it is dropped.
-impl Drop for LineEnd {
-    fn drop(self) {
-        match self {
-            LineEnd::Done(_outcome) => {}
-            LineEnd::Need(_) | LineEnd::Segments => {}
-            LineEnd::Clear {
-                block: _,
-                over: _over,
-            } => {}
-        }
-    }
 }
 
 // How a line ends whose walks lead to the operation `over`, by how that ends.
