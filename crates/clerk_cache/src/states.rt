@@ -18,6 +18,7 @@ use std::marker::Model;
 /// What is kept of the cached sectors beside their blocks: entries ascending by sector, and for how many more there is room. What is
 /// asked by mark or by cover is found in time logarithmic in their number. Each edit looks for its sector at a place first, where one is
 /// given: where the sector lies in a map of the same sectors.
+#[derive(Drop)]
 pub(crate) struct States {
     states: OrderedMap<u64, SectorState>,
     // The dirty sectors with their marks.
@@ -26,18 +27,6 @@ pub(crate) struct States {
     covers: OrderedMap<Covered, ()>,
     // The dirty sectors with their covers.
     dirty: OrderedMap<Covered, ()>,
-}
-
-// By one call, wherever it is dropped.
-impl Drop for States {
-    fn drop(self) {
-        let States {
-            states: _states,
-            marks: _marks,
-            covers: _covers,
-            dirty: _dirty,
-        } = self;
-    }
 }
 
 impl Model for States {

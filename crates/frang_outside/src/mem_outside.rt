@@ -14,21 +14,11 @@ use std::marker::Model;
 /// An outside in memory, seen as its record: the acts so far, in their order. Its sectors are those
 /// that the record leaves, and its counts of faults are 0. A call fails only for want of memory,
 /// and then nothing has changed.
+#[derive(Drop)]
 pub struct MemOutside {
     alloc: Global,
     acts: Vec<Act>,
     blocks: Blocks,
-}
-
-// By one call, wherever it is dropped.
-impl Drop for MemOutside {
-    fn drop(self) {
-        let MemOutside {
-            alloc: _,
-            acts: _acts,
-            blocks: _blocks,
-        } = self;
-    }
 }
 
 impl Model for MemOutside {

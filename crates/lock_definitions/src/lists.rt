@@ -168,21 +168,10 @@ impl Clone for LogList {
 
 /// What one server knows itself to have: the locks that it holds, those that it asked for and wasn't granted, and the logs
 /// that it has taken.
+#[derive(Drop)]
 pub struct ClerkLocks {
     pub server: ServerId,
     pub held: LockList,
     pub wants: LockList,
     pub logs: LogList,
-}
-
-// By one call, wherever it is dropped.
-impl Drop for ClerkLocks {
-    fn drop(self) {
-        let ClerkLocks {
-            server: _,
-            held: _held,
-            wants: _wants,
-            logs: _logs,
-        } = self;
-    }
 }

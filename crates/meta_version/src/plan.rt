@@ -3,6 +3,7 @@ use crate::{ByteWrites, SectorList};
 use frang_base::{Changes, Reply, Sector};
 
 /// What an operation comes to over the sectors that are cached.
+#[derive(Drop)]
 pub enum Plan {
     /// This sector isn't cached, and is the first that the plan needs.
     Need(Sector),
@@ -22,20 +23,4 @@ pub enum Plan {
         /// Each sector of the blocks of file bytes that are freed, ascending.
         freed: SectorList,
     },
-}
-
-// By one call, wherever it is dropped.
-impl Drop for Plan {
-    fn drop(self) {
-        match self {
-            Plan::Need(_) | Plan::Segments => {}
-            Plan::Clear { block: _ } => {}
-            Plan::Done {
-                reply: _reply,
-                changes: _changes,
-                bytes: _bytes,
-                freed: _freed,
-            } => {}
-        }
-    }
 }

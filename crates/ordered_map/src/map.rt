@@ -14,22 +14,12 @@ use std::alloc::{AllocError, Global};
 use std::marker::Model;
 
 /// A map whose keys are kept in order. Contracts see the list of its entries, ascending by key, and how many more go in without memory.
+#[derive(Drop)]
 pub struct OrderedMap<K: Ord, V> {
     chunks: Chunks<K, V>,
     count: usize,
     // Where the key of the last edit was found.
     last: Option<Place>,
-}
-
-// By one call, wherever it is dropped.
-impl<K: Ord + Drop, V: Drop> Drop for OrderedMap<K, V> {
-    fn drop(self) {
-        let OrderedMap {
-            chunks: _chunks,
-            count: _,
-            last: _,
-        } = self;
-    }
 }
 
 impl<K: Ord, V> Model for OrderedMap<K, V> {

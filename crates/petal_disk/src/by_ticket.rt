@@ -15,22 +15,12 @@ use std::marker::Model;
 
 /// Writes with their tickets, ascending by ticket, and for how many more there is room. A write is found by its ticket in time
 /// logarithmic in their number, and where one is taken out no block moves.
+#[derive(Drop)]
 pub(crate) struct WritesByTicket {
     writes: OrderedMap<Ticket, Box<Put>>,
     // Boxes for writes to come; what they hold doesn't count.
     blank: Vec<Box<Put>>,
     alloc: Global,
-}
-
-// By one call, wherever it is dropped.
-impl Drop for WritesByTicket {
-    fn drop(self) {
-        let WritesByTicket {
-            writes: _writes,
-            blank: _blank,
-            alloc: _,
-        } = self;
-    }
 }
 
 impl Model for WritesByTicket {

@@ -24,6 +24,7 @@ use std::alloc::Global;
 
 /// Which inodes are reached, how often each is named, who uses which block, which small blocks are directories', and in which parts of
 /// these a name stands that stands before.
+#[derive(Drop)]
 pub struct Tables {
     pub reached: Flags,
     pub names: Counts,
@@ -31,20 +32,6 @@ pub struct Tables {
     pub large: Users,
     pub directories: Flags,
     pub repeats: Flags,
-}
-
-// By one call, wherever it is dropped.
-impl Drop for Tables {
-    fn drop(self) {
-        let Tables {
-            reached: _reached,
-            names: _names,
-            small: _small,
-            large: _large,
-            directories: _directories,
-            repeats: _repeats,
-        } = self;
-    }
 }
 
 // Who uses which small blocks, and which large blocks.

@@ -21,6 +21,7 @@ use std::marker::Model;
 
 /// The log of a server in memory: its records that aren't given up, whose sectors have numbers that go on for ever, and which of these are issued and
 /// acknowledged. Contracts see the ring of the definitions, and for how many more sectors of its log and names of sectors there is room.
+#[derive(Drop)]
 pub struct Ring {
     given_up: u64,
     reached: u64,
@@ -30,21 +31,6 @@ pub struct Ring {
     // The frame of a record while it is put on sectors.
     frame: Vec<u8>,
     alloc: Global,
-}
-
-// By one call, wherever it is dropped.
-impl Drop for Ring {
-    fn drop(self) {
-        let Ring {
-            given_up: _,
-            reached: _,
-            above: _above,
-            waiting: _waiting,
-            named: _named,
-            frame: _frame,
-            alloc: _,
-        } = self;
-    }
 }
 
 impl Model for Ring {
