@@ -87,8 +87,8 @@ fn of_numbers(verb: &str, path: Path, off: u32, words: &str) -> Result<Op, NoMem
             len,
             byte,
         }),
-        "truncate" => Ok(Op::Truncate { path, len: off }),
-        "read" => Ok(Op::Read { path, off, len }),
+        "truncate" if words.is_empty() => Ok(Op::Truncate { path, len: off }),
+        "read" if digits.is_empty() => Ok(Op::Read { path, off, len }),
         _ => Err(NoMemory),
     }
 }

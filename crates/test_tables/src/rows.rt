@@ -7,12 +7,7 @@ pub fn is_row(line: &str) -> bool {
 
 /// Whether a table has a row.
 pub fn has_rows(table: &str) -> bool {
-    for line in table.lines() {
-        if is_row(line) {
-            return true;
-        }
-    }
-    false
+    table.lines().any(is_row)
 }
 
 /// What stands before a mark and behind it, where it stands first; all of the text and nothing where it doesn't stand there.
@@ -38,10 +33,5 @@ pub fn columns(row: &str) -> (&str, &str, &str) {
 
 /// Whether this is one of the words of a text.
 pub fn has_word(text: &str, wanted: &str) -> bool {
-    for word in text.split_whitespace() {
-        if word == wanted {
-            return true;
-        }
-    }
-    false
+    text.split_whitespace().any(|word| word == wanted)
 }

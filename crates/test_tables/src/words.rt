@@ -38,10 +38,10 @@ pub fn byte(digits: &str) -> Option<u8> {
 /// second one, and `l2.7` the eighth one of large block 2.
 pub fn sector(word: &str) -> Option<u64> {
     if let Some(inode) = word.strip_prefix("i") {
-        return part_of(FIRST_INODE, 1, inode);
+        return FIRST_INODE.checked_add(number(inode)?);
     }
     if let Some(segment) = word.strip_prefix("k") {
-        return part_of(FIRST_SEGMENT, 1, segment);
+        return FIRST_SEGMENT.checked_add(number(segment)?);
     }
     if let Some(small) = word.strip_prefix("s") {
         return part_of(FIRST_SMALL, 8, small);
