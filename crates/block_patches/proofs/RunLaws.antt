@@ -2,9 +2,10 @@
 use Rattle.std.proofs.Common.{◌≡◌, ℕ, suc, ◌+◌, ◌-◌, ◌<◌, ◌≤◌, Bool, true, false, not, ◌&&◌, ◌==◌, if◌then◌else◌, List, [], ◌∷◌, ◌++◌, length, take, drop, slice_index, get_or, refl, sym, ap, ◌∙◌, append_assoc, arith, drop-cons, add-one}
 use Rattle.std.proofs.lemmas.Bool.Decides.{nat_tests}
 use Rattle.std.proofs.lemmas.List.{drop_all, drop-drop}
+use Rattle.std.proofs.lemmas.Bool.{ne_eqb, eq-eqb}
 use borrow.Rule.Slice.PartMut.{mid_of}
 use Rattle.frang_base.specs.declared.change.Patch.{Patch}
-use Rattle.frang_base.proofs.Basics.{by_test, of_eq, of_ne}
+use Rattle.frang_base.proofs.Basics.{by_test}
 use Rattle.sector_bytes.specs.Patches.{joined, runs_from, are_apart}
 use Rattle.sector_bytes.proofs.PatchLaws.{runs_apart}
 use Rattle.block_patches.specs.Runs.{differing, run}
@@ -38,13 +39,13 @@ joined_apart_from : (ps : List Patch) (at to b : ℕ) → are_apart (at + 2) to 
 joined_apart_from [] at to b e = refl
 joined_apart_from (p ∷ ps) at to b e =
     let behind : at + 2 ≤ p.at = starts_behind p ps (at + 2) to e in
-    ap (λ (t : Bool). if t then record { at = at; bytes = b ∷ p.bytes } ∷ ps else record { at = at; bytes = b ∷ [] } ∷ p ∷ ps) (of_ne p.at (at + 1) (λ q. absurd (omega arith)))
+    ap (λ (t : Bool). if t then record { at = at; bytes = b ∷ p.bytes } ∷ ps else record { at = at; bytes = b ∷ [] } ∷ p ∷ ps) (ne_eqb p.at (at + 1) (λ q. absurd (omega arith)))
 
 -- a byte before a run that begins at the next place
 joined_run : (bytes : List ℕ) (ps : List Patch) (at to b : ℕ) → are_apart (at + 2) to ps ≡ true → joined at b (run (at + 1) bytes ++ ps) ≡ run at (b ∷ bytes) ++ ps
 joined_run [] ps at to b e = joined_apart_from ps at to b e
 joined_run (c ∷ bytes) ps at to b e =
-    ap (λ (t : Bool). if t then record { at = at; bytes = b ∷ c ∷ bytes } ∷ ps else record { at = at; bytes = b ∷ [] } ∷ record { at = at + 1; bytes = c ∷ bytes } ∷ ps) (of_eq (at + 1) (at + 1) refl)
+    ap (λ (t : Bool). if t then record { at = at; bytes = b ∷ c ∷ bytes } ∷ ps else record { at = at; bytes = b ∷ [] } ∷ record { at = at + 1; bytes = c ∷ bytes } ∷ ps) (eq-eqb (at + 1) (at + 1) refl)
 
 -- the run at the front, and those behind the byte that ends it
 abbrev split : (ℕ → Bool) → List ℕ → List ℕ → ℕ → ℕ → List Patch

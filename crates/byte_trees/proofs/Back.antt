@@ -1,6 +1,7 @@
 -- The disk before an operation: what was shown or known where it wrote, and what it has elsewhere.
 use Rattle.std.proofs.Common.{ℕ, ◌≡◌, Bool, true, false, ◌||◌, if◌then◌else◌, Option, Some, None, List, ◌∷◌, is_some, refl, sym, ◌∙◌, ap}
 use Rattle.std.specs.Prelude.{IsTrue, IsSome}
+use Rattle.std.proofs.lemmas.Bool.{or_parts}
 use Rattle.sector_bytes.specs.Blocks.{Block}
 use Rattle.sector_world.specs.HistoryBytes.{Agree, filled, is_free, is_free_by, turned, value}
 use Rattle.sector_world.specs.Histories.{Commit, Fill, Item, is_logged, reaches}
@@ -39,17 +40,9 @@ written_then : (b : Bool) (o : Option Fill) (mid old : Option Block) (v : Block)
 written_then true o mid old v r e = ap (λ z. filled z mid) e
 written_then false o mid old v r e = absurd (cc)
 
-or_parts_false : (a b : Bool) → a || b ≡ false → (a ≡ false) × (b ≡ false)
-or_parts_false true b e = absurd (cc)
-or_parts_false false b e = (refl, e)
-
 has_some : (o : Option Block) (v : Block) → o ≡ Some v → IsSome o
 has_some None v e = absurd (cc)
 has_some (Some w) v e = refl
-
-unclaimed : (b older : Bool) → (if b then true else older) ≡ false → (b ≡ false) × (older ≡ false)
-unclaimed true older e = absurd (cc)
-unclaimed false older e = (refl, e)
 
 module _ (logged : ℕ → Bool) (first : ℕ → Option Block) (c : Commit) (h : List Item) (disk : ℕ → Block) (by_plan : IsByPlan c) (agree : Agree first (Done c ∷ h)) (has : HasKnown logged first (Done c ∷ h) disk) where
   changed : ℕ → Bool
@@ -69,7 +62,7 @@ module _ (logged : ℕ → Bool) (first : ℕ → Option Block) (c : Commit) (h 
       go true e (Some v) i = agree.0 s u v (reached s v i) i free is
       go true e None i = sym (ap (λ z. or_else z (disk s)) is)
       go false e o i =
-          let none = or_parts_false (is_some (c.writes s)) (c.claims s) e in
+          let none = or_parts (is_some (c.writes s)) (c.claims s) e in
           has s (ap (λ (z : Bool). if z then true else is_logged logged h s) none.1 ∙ plain) u (free_same (c.writes s) (is_free first h s) none.0 ∙ free)
           (value_same (reaches c s) (c.writes s) (c.shown s) (value first h s) u none.0 is)
 
@@ -80,7 +73,7 @@ module _ (logged : ℕ → Bool) (first : ℕ → Option Block) (c : Commit) (h 
       go : (b : Bool) → is_some (c.writes s) || c.claims s ≡ b → was b (c.shown s) (value first h s) (disk s) ≡ v
       go true e = ap (λ o. or_else o (or_else (value first h s) (disk s))) i
       go false e =
-          let none = or_parts_false (is_some (c.writes s)) (c.claims s) e in
+          let none = or_parts (is_some (c.writes s)) (c.claims s) e in
           sym (has s now v (free_same (c.writes s) (is_free first h s) none.0 ∙ free)
           (shown_then (reaches c s) (c.writes s) (c.shown s) (value first h s) v (reached s v i) none.0 i (λ u is. agree.0 s u v (reached s v i) i free is)))
 

@@ -1,12 +1,11 @@
 -- Cells that come into doubt, run by run; and that the sectors in doubt of a file are among the runs.
 use Rattle.std.proofs.Common.{ℕ, zero, suc, ◌≡◌, ◌≢◌, ◌≤◌, ◌<◌, ◌+◌, ◌-◌, ◌*◌, ◌/◌, ◌⊎◌, ⊎_elim, Bool, true, false, if◌then◌else◌, min, Option, Some, None, List, [], ◌∷◌, length, filter, replicate, refl, sym, ◌∙◌, ap, subst, arith}
-use Rattle.std.specs.List.{Contains, flat_map, slice_get}
+use Rattle.std.specs.List.{Contains, slice_get}
 use Rattle.std.specs.Map.{lookup}
 use Rattle.std.specs.BTreeMap.{is_at}
 use Rattle.std.specs.Ordering.{nat_cmp}
 use Rattle.std.proofs.lemmas.Bool.{cases_lt, cases_eq}
 use Rattle.std.proofs.lemmas.List.{length-replicate}
-use Rattle.std.proofs.lemmas.List.Elements.{Contains-append_left, Contains-append_right}
 use Rattle.tree_definitions.specs.declared.cells.Cell.{Cell}
 use Rattle.tree_definitions.specs.declared.cells.Cell.TheVariants.{Byte, Doubtful}
 use Rattle.tree_definitions.specs.declared.node.Node.{Node}
@@ -20,7 +19,7 @@ use Rattle.tree_definitions.proofs.CellLaws.{doubted_over}
 use Rattle.tree_laws.proofs.Nodes.{with_same, with_other}
 use Rattle.tree_laws.proofs.Pairs.{birth_exact, tie}
 use Rattle.disk_definitions.specs.Naming.{cell_in}
-use Rattle.plan_laws.proofs.Covering.{below_has, has_cases, has_head, has_more, map_has, not_in_none}
+use Rattle.plan_laws.proofs.Covering.{below_has, has_cases, has_head, has_more, map_has, not_in_none, filter_has, flat_has}
 use Rattle.plan_laws.proofs.Overwriting as over
 use Rattle.byte_trees.specs.Cells.{Covers, IsByte, DoubtKeepsOtherBytes, PartsInDoubtHaveNoBytes}
 
@@ -31,7 +30,7 @@ get_doubt zero i x e = cc
 get_doubt (suc n) zero x e = cc
 get_doubt (suc n) (suc i) x e = get_doubt n i x e
 
-get_past : {X : Type 0} (xs : List X) (j : ℕ) (c : X) → slice_get xs j ≡ Some c → j < length xs
+pub get_past : {X : Type 0} (xs : List X) (j : ℕ) (c : X) → slice_get xs j ≡ Some c → j < length xs
 get_past [] j c e = absurd (cc)
 get_past (x ∷ xs) zero c e = omega arith
 get_past (x ∷ xs) (suc j) c e = let l : j < length xs = get_past xs j c e in omega arith
@@ -144,18 +143,6 @@ found_in (n ∷ nodes) b x e = go (found_in nodes b x) (is_at (nat_cmp b) n.0) r
         subst (Contains (n ∷ nodes)) pair (has_head n nodes)
     go rest false q i = has_more n (b, x) nodes (rest i)
 
-in_flat : {X Y : Type 0} (f : X → List Y) (xs : List X) (x : X) (y : Y) → Contains xs x → Contains (f x) y → Contains (flat_map f xs) y
-in_flat f [] x y c d = absurd (not_in_none x c)
-in_flat f (z ∷ xs) x y c d = ⊎_elim (λ same. Contains-append_left (f z) (flat_map f xs) y (subst (λ w. Contains (f w) y) (sym same) d)) (λ more. Contains-append_right (f z) (flat_map f xs) y (in_flat f xs x y more d)) (has_cases z x xs c)
-
-in_filter : (test : ℕ → Bool) (xs : List ℕ) (x : ℕ) → Contains xs x → test x ≡ true → Contains (filter test xs) x
-in_filter test [] x c t = absurd (not_in_none x c)
-in_filter test (z ∷ xs) x c t = go (test z) refl (has_cases z x xs c) (λ m. in_filter test xs x m t)
-  where
-    go : (b : Bool) → test z ≡ b → (z ≡ x) ⊎ Contains xs x → (Contains xs x → Contains (filter test xs) x) → Contains (if b then z ∷ filter test xs else filter test xs) x
-    go true q c rest = ⊎_elim (λ same. subst (λ w. Contains (z ∷ filter test xs) w) same (has_head z (filter test xs))) (λ m. has_more z x (filter test xs) (rest m)) c
-    go false q c rest = ⊎_elim (λ same. absurd (let v : true ≡ false = sym t ∙ ap test (sym same) ∙ q in cc)) rest c
-
 module _ (server : ℕ) (opening : FileTree) (list : List Settled) (b part j x : ℕ) (lo : 512 * part ≤ j) (hi : j < 512 * (part + 1)) (doubt : is_doubtful server b part false opening list ≡ true) where
   abbrev tree : FileTree
   tree = after_all opening list
@@ -166,8 +153,8 @@ module _ (server : ℕ) (opening : FileTree) (list : List Settled) (b part j x :
   pub listed : (cells : List Cell) (links when : ℕ) → node_at tree b ≡ Some (File cells links when) → j < length cells → Contains (doubtful server opening list) (sector_cells b (length cells) part)
   listed cells links when is l =
       let inside : part < (length cells + 511) / 512 = omega arith in
-      in_flat (λ n. file_sectors wanted n.0 n.1) tree.nodes (b, File cells links when) (sector_cells b (length cells) part) (found_in tree.nodes b (File cells links when) is)
-      (map_has (sector_cells b (length cells)) (filter (wanted b) (below ((length cells + 511) / 512))) part (in_filter (wanted b) (below ((length cells + 511) / 512)) part (below_has ((length cells + 511) / 512) part inside) doubt))
+      flat_has (λ n. file_sectors wanted n.0 n.1) tree.nodes (b, File cells links when) (sector_cells b (length cells) part) (found_in tree.nodes b (File cells links when) is)
+      (map_has (sector_cells b (length cells)) (filter (wanted b) (below ((length cells + 511) / 512))) part (filter_has (wanted b) (below ((length cells + 511) / 512)) part (below_has ((length cells + 511) / 512) part inside) doubt))
 
   pub covers : (size : ℕ) → j < size → Covers (sector_cells b size part) b j
   covers size l = record { of = refl; from = lo; to = omega arith }

@@ -1,7 +1,6 @@
 -- The picture of a shape, with the bytes of the cells, is the picture of the tree.
-use Rattle.std.proofs.Common.{ℕ, zero, suc, ◌≡◌, ◌<◌, ◌+◌, ◌*◌, Bool, true, nat_lt, if◌then◌else◌, Option, Some, None, List, [], ◌∷◌, is_some, refl, sym, ◌∙◌, ap, subst}
+use Rattle.std.proofs.Common.{ℕ, ◌≡◌, ◌<◌, ◌+◌, ◌*◌, Bool, true, nat_lt, if◌then◌else◌, Option, Some, None, List, [], ◌∷◌, is_some, refl, sym, ◌∙◌, ap, subst}
 use Rattle.frang_base.specs.declared.limits.TheConstants.{BLOCK_ENTRIES, KIND_FILE, SMALL_BYTES_MAX}
-use Rattle.std.specs.List.{slice_get}
 use Rattle.std.specs.Option.{option_and_then}
 use Rattle.std.proofs.lemmas.List.{length-map}
 use Rattle.tree_definitions.specs.declared.cells.Cell.{Cell}
@@ -10,10 +9,11 @@ use Rattle.tree_definitions.specs.declared.node.Node.{Node}
 use Rattle.tree_definitions.specs.declared.node.Node.TheVariants.{Dir, File, Link}
 use Rattle.tree_definitions.specs.Touched.{node_shape}
 use Rattle.tree_definitions.specs.Tree.{small_blocks_of}
-use Rattle.tree_laws.proofs.ShapeNodes.{shaped, doubts}
+use Rattle.tree_laws.proofs.ShapeNodes.{shaped}
 use Rattle.disk_definitions.specs.Store.{Store, StoredNode}
-use Rattle.disk_definitions.specs.Naming.{Naming, Nodes, Pictures, Allows, kind_of, blocks_of, cell_in, file_byte, find_in, first_blocks, has_large, inode_by, inode_for, room_in, use_by, use_for}
+use Rattle.disk_definitions.specs.Naming.{Naming, Nodes, Pictures, Allows, blocks_of, cell_in, file_byte, find_in, first_blocks, has_large, inode_by, inode_for, room_in, use_by, use_for}
 use Rattle.disk_definitions.specs.Standing.{IsReached, reached_from}
+use Rattle.disk_definitions.proofs.NodeLaws.{any_cell, kind_shape}
 
 -- ---- what a picture has of the shape of a node, it has of the node
 
@@ -58,11 +58,6 @@ looks_alike n b (Some (File cells links when)) =
 looks_alike n b (Some (Link target links)) = record { some = refl; blocks = refl; large = refl; room = refl; find = λ name. refl; use_is = refl; inode = refl }
 looks_alike n b None = record { some = refl; blocks = refl; large = refl; room = refl; find = λ name. refl; use_is = refl; inode = refl }
 
-kind_alike : (x : Node) → kind_of (node_shape x) ≡ kind_of x
-kind_alike (Dir es k) = refl
-kind_alike (File cells links when) = refl
-kind_alike (Link target links) = refl
-
 -- ---- the picture
 
 module _ (s : Store) (at : Nodes) (n : Naming) where
@@ -86,7 +81,7 @@ module _ (s : Store) (at : Nodes) (n : Naming) where
     bits = g.bits;
     numbered = λ b some. g.numbered b ((look b).some ∙ some);
     whose = λ i b e. let w = g.whose i b e in (w.0, sym (look b).some ∙ w.1);
-    kinds = λ b x e. g.kinds b (node_shape x) (ap shaped e) ∙ kind_alike x;
+    kinds = λ b x e. g.kinds b (node_shape x) (ap shaped e) ∙ kind_shape x;
     owned = λ b j l. g.owned b j (subst (λ k. j < k) (sym (look b).blocks) l);
     owners = λ k b j e. let w = g.owners k b j e in (w.0, subst (λ k. j < k) (look b).blocks w.1);
     uses = λ k. g.uses k ∙ uses_tree (n.was k) (n.owner k);
@@ -119,18 +114,6 @@ module _ (at : Nodes) (n : Naming) where
   there_too b some = (looks_alike n b (at b)).some ∙ some
 
 -- ---- a shape allows any bytes
-
-any_byte : (cells : List Cell) (j : ℕ) (c : Cell) (v : ℕ) → slice_get (doubts cells) j ≡ Some c → Allows c v
-any_byte [] zero c v e = absurd (cc)
-any_byte [] (suc j) c v e = absurd (cc)
-any_byte (x ∷ xs) zero c v e = let d : cell.Doubtful ≡ c = cc in subst (λ c. Allows c v) d tt
-any_byte (x ∷ xs) (suc j) c v e = any_byte xs j c v e
-
-any_cell : (o : Option Node) (j : ℕ) (c : Cell) (v : ℕ) → cell_in (shaped o) j ≡ Some c → Allows c v
-any_cell (Some (Dir es k)) j c v e = absurd (cc)
-any_cell (Some (File cells links when)) j c v e = any_byte cells j c v e
-any_cell (Some (Link target links)) j c v e = absurd (cc)
-any_cell None j c v e = absurd (cc)
 
 pub any_bytes : (s : Store) (at : Nodes) (n : Naming) → Pictures s (λ b. shaped (at b)) n → (byte large_byte : ℕ → ℕ → ℕ) → Pictures (record s { byte = byte; large_byte = large_byte }) (λ b. shaped (at b)) n
 any_bytes s at n g byte large_byte = record {

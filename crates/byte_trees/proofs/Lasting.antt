@@ -1,7 +1,7 @@
 -- A sector in doubt has a last write on the side of the rules: from the newest deed back, as long as neither side writes.
 use Rattle.std.proofs.Common.{ℕ, ◌≡◌, ◌≤◌, ◌==◌, ◌&&◌, ◌||◌, not, Bool, true, false, nat_eq, nat_lt, if◌then◌else◌, is_some, List, [], ◌∷◌, ◌++◌, refl, sym, ◌∙◌, ap, subst, arith}
 use Rattle.std.specs.List.{list_any}
-use Rattle.std.proofs.lemmas.Bool.{and_parts, and_from}
+use Rattle.std.proofs.lemmas.Bool.{and_parts, and_from, both_ways, false_from_ne_true, or_right, or_left, or_parts}
 use Rattle.std.proofs.lemmas.Bool.Decides.{nat_tests}
 use Rattle.std.proofs.lemmas.List.{append_assoc}
 use Rattle.tree_definitions.specs.declared.history.Entry.{Entry}
@@ -21,15 +21,15 @@ use Rattle.byte_trees.proofs.Touching.{writes_touch}
 -- ---- one operation more, on the side of sectors
 
 -- in doubt after it: it wrote, and is the server's; or it didn't, doubt was there before, and if it looked it is the server's
-of_write : (looked own new older : Bool) → doubt_step true looked own new older ≡ true → own ≡ true
+pub of_write : (looked own new older : Bool) → doubt_step true looked own new older ≡ true → own ≡ true
 of_write looked true new older h = refl
 of_write looked false new older h = absurd (cc)
 
-of_look : (own new older : Bool) → doubt_step false true own new older ≡ true → own ≡ true
+pub of_look : (own new older : Bool) → doubt_step false true own new older ≡ true → own ≡ true
 of_look true new older h = refl
 of_look false new older h = absurd (cc)
 
-of_older : (looked own new older : Bool) → doubt_step false looked own new older ≡ true → older ≡ true
+pub of_older : (looked own new older : Bool) → doubt_step false looked own new older ≡ true → older ≡ true
 of_older true true new older h = h
 of_older true false new older h = absurd (cc)
 of_older false own new older h = h
@@ -57,10 +57,6 @@ covered server number sector (Doubt m ∷ h) a = covered server number sector h 
 
 -- ---- one step more, on the side of the rules
 
-none_of : (a b : Bool) → a || b ≡ false → (a ≡ false) × (b ≡ false)
-none_of true b f = absurd (cc)
-none_of false b f = (refl, f)
-
 module _ (server birth part : ℕ) where
   -- the server isn't mounted by it, and doubt is kept
   abbrev Keeps : FileTree → Settled → Type 0
@@ -69,7 +65,7 @@ module _ (server birth part : ℕ) where
 
   none_mounts : (rest : List Settled) (s : Settled) → mounts server s ≡ false → list_any (mounts server) rest ≡ false → list_any (mounts server) (rest ++ s ∷ []) ≡ false
   none_mounts [] s e f = ap (λ b. b || false) e
-  none_mounts (r ∷ rest) s e f = let p = none_of (mounts server r) (list_any (mounts server) rest) f in ap (λ b. b || list_any (mounts server) (rest ++ s ∷ [])) p.0 ∙ none_mounts rest s e p.1
+  none_mounts (r ∷ rest) s e f = let p = or_parts (mounts server r) (list_any (mounts server) rest) f in ap (λ b. b || list_any (mounts server) (rest ++ s ∷ [])) p.0 ∙ none_mounts rest s e p.1
 
   mounts_none : (tree : FileTree) (s : Settled) → Keeps tree s → mounts server s ≡ false
   mounts_none tree (Stays e) k = k.0
@@ -115,22 +111,6 @@ not_both : (a b : Bool) → (a ≡ true → b ≡ false) → a && b ≡ false
 not_both true b f = f refl
 not_both false b f = refl
 
-left_of : (a b : Bool) → a ≡ true → a || b ≡ true
-left_of true b e = refl
-left_of false b e = absurd (cc)
-
-right_of : (a b : Bool) → b ≡ true → a || b ≡ true
-right_of true b e = refl
-right_of false b e = e
-
-none_if : (b : Bool) → (b ≡ true → ⊥) → b ≡ false
-none_if true f = absurd (f refl)
-none_if false f = refl
-
-clash : (b : Bool) → b ≡ true → b ≡ false → ⊥
-clash true e f = absurd (cc)
-clash false e f = absurd (cc)
-
 module _ (opening : FileTree) (server number birth part : ℕ) (Lies : List Deed → Type 0) (sector : ℕ) where
   abbrev Last : List Deed → Type 0
   Last deeds = LastWrite server birth part opening (steps deeds)
@@ -147,7 +127,7 @@ module _ (opening : FileTree) (server number birth part : ℕ) (Lies : List Deed
         ∙ of_seen (is_some (c.writes sector)) (c.sees sector) (nat_eq c.by server) (nat_lt number c.op) (in_doubt server number (items older) sector) (g.seen lies t) doubt
 
     unwritten : entry_writes (tree_after opening older) e birth part ≡ false → is_some (c.writes sector) ≡ false
-    unwritten w = none_if (is_some (c.writes sector)) (λ y. clash (entry_writes (tree_after opening older) e birth part) (g.met lies y) w)
+    unwritten w = false_from_ne_true (is_some (c.writes sector)) (λ y. both_ways (entry_writes (tree_after opening older) e birth part) w (g.met lies y))
 
     still_doubt : is_some (c.writes sector) ≡ false → in_doubt server number (items older) sector ≡ true
     still_doubt w =
@@ -160,20 +140,20 @@ module _ (opening : FileTree) (server number birth part : ℕ) (Lies : List Deed
         longer server birth part opening (steps older) (Stays e) (before (g.stays lies (unwritten w) w) (still_doubt (unwritten w))) (
           not_both (e.server.0 == server) (is_mounted e.reply) (λ own. g.no_mount),
           keeping (e.server.0 == server) (entry_writes (tree_after opening older) e birth part) (is_sync e.op && is_ok e.reply) (touches (tree_after opening older) e birth) w (λ own. g.no_sync)
-              (λ other. none_if (touches (tree_after opening older) e birth) (λ t. clash (e.server.0 == server) (own_if_touched t) other)),
+              (λ other. false_from_ne_true (touches (tree_after opening older) e birth) (λ t. both_ways (e.server.0 == server) other (own_if_touched t))),
         )
 
   module _ (e : Entry) (older : List Deed) (p : Passes opening server number birth part Lies e older) (before : Before older) (lies : Lies (Says e ∷ older))
       (doubt : in_doubt server number (items older) sector ≡ true) where
     uncovered : e.server.0 == server ≡ true → is_mounted e.reply || (is_sync e.op && is_ok e.reply) ≡ true → ⊥
-    uncovered own ends = clash (in_doubt server number (items older) sector) doubt (covered server number sector (items older) (p.covers own ends))
+    uncovered own ends = both_ways (in_doubt server number (items older) sector) (covered server number sector (items older) (p.covers own ends)) doubt
 
     by_saying : Last (Says e ∷ older)
     by_saying =
         longer server birth part opening (steps older) (Stays e) (before (p.stays lies) doubt) (
-          not_both (e.server.0 == server) (is_mounted e.reply) (λ own. none_if (is_mounted e.reply) (λ y. uncovered own (left_of (is_mounted e.reply) (is_sync e.op && is_ok e.reply) y))),
+          not_both (e.server.0 == server) (is_mounted e.reply) (λ own. false_from_ne_true (is_mounted e.reply) (λ y. uncovered own (or_left (is_mounted e.reply) (is_sync e.op && is_ok e.reply) y))),
           keeping (e.server.0 == server) (entry_writes (tree_after opening older) e birth part) (is_sync e.op && is_ok e.reply) (touches (tree_after opening older) e birth) p.meets_none
-              (λ own. none_if (is_sync e.op && is_ok e.reply) (λ y. uncovered own (right_of (is_mounted e.reply) (is_sync e.op && is_ok e.reply) y))) (λ other. p.touches_none),
+              (λ own. false_from_ne_true (is_sync e.op && is_ok e.reply) (λ y. uncovered own (or_right (is_mounted e.reply) (is_sync e.op && is_ok e.reply) y))) (λ other. p.touches_none),
         )
 
   pub found : (deeds : List Deed) → AllAgree opening server number birth part Lies sector deeds → Lies deeds → in_doubt server number (items deeds) sector ≡ true → Last deeds

@@ -10,7 +10,6 @@ use Rattle.tree_definitions.specs.declared.cells.Cell.{Cell}
 use Rattle.tree_definitions.specs.declared.cells.Cell.TheVariants.{Byte, Doubtful}
 use Rattle.tree_definitions.specs.declared.node.Node.{Node}
 use Rattle.tree_definitions.specs.declared.node.Node.TheVariants.{Dir, File, Link}
-use Rattle.tree_definitions.specs.Entries.{Entries}
 use Rattle.tree_definitions.specs.Apply.{is_dir, links_of}
 use Rattle.tree_definitions.specs.Touched.{node_shape, shape_of}
 use Rattle.tree_definitions.specs.Tree.{FileTree, node_at}
@@ -23,6 +22,7 @@ use Rattle.tree_laws.specs.Alike.{Vaguer}
 use Rattle.tree_laws.proofs.Vagueness.{vague}
 use Rattle.tree_laws.proofs.Changes.{same_dir, same_links}
 use Rattle.tree_laws.proofs.ShapeNodes.{count_stays, doubts, found, keys_stay, room_stays, shaped, shapes}
+use Rattle.tree_laws.proofs.ShapeKeeping.{names_stay, dir_back}
 use Rattle.disk_definitions.specs.Naming.{Allows, cell_in}
 use Rattle.byte_trees.specs.Sharp.{NamesNoOthers, SharpTreesStand, sharp, sharp_node, standing}
 
@@ -121,16 +121,6 @@ module _ (f : ℕ → ℕ → ℕ) where
   kinds_sharp t b x y i j = kinds_by b (node_at t b) x y (sym (sharp_at t b) ∙ i) j
 
 -- ---- trees of one shape
-dir_back : (o : Option Node) (es : Entries) (n : ℕ) → shaped o ≡ Some (Dir es n) → o ≡ Some (Dir es n)
-dir_back (Some (Dir fs m)) es n e = e
-dir_back (Some (File cells links when)) es n e = absurd (cc)
-dir_back (Some (Link target links)) es n e = absurd (cc)
-dir_back None es n e = absurd (cc)
-
-names_stay : (b : ℕ) (x : Node) → names_in b (node_shape x) ≡ names_in b x
-names_stay b (Dir es n) = refl
-names_stay b (File cells links when) = refl
-names_stay b (Link target links) = refl
 
 module _ (t u : FileTree) (e : shape_of t ≡ shape_of u) where
   names_same : (b : ℕ) → names_of u b ≡ names_of t b

@@ -1,7 +1,7 @@
 -- A write, fill or truncate answered `ok` touches the file that it meets.
 use Rattle.std.proofs.Common.{ℕ, ◌≡◌, ◌+◌, ◌==◌, ◌&&◌, ◌||◌, Bool, true, false, Option, Some, None, List, [], ◌∷◌, ◌++◌, length, refl, ◌∙◌, ap}
 use Rattle.std.specs.List.{list_any}
-use Rattle.std.proofs.lemmas.Bool.{and_parts}
+use Rattle.std.proofs.lemmas.Bool.{and_parts, or_right}
 use Rattle.frang_base.specs.declared.op.Op.TheVariants as op
 use Rattle.frang_base.specs.declared.reply.Reply.{Reply}
 use Rattle.frang_base.specs.declared.reply.Reply.TheVariants as reply
@@ -54,8 +54,4 @@ pub writes_touch : WritesTouch
 writes_touch tree e birth part answers writes =
     let w = resolved tree e.op in
     let found : list_any (λ b. b == birth) (w.trail ++ visited tree w.step e.reply) ≡ true = behind tree birth part w.trail (visited tree w.step e.reply) (by_step tree birth part w.step e.reply writes) in
-    ap (λ a. a && (changes tree e birth || list_any (λ b. b == birth) (w.trail ++ visited tree w.step e.reply))) answers ∙ or_true (changes tree e birth) (list_any (λ b. b == birth) (w.trail ++ visited tree w.step e.reply)) found
-  where
-    or_true : (a b : Bool) → b ≡ true → a || b ≡ true
-    or_true true b e = refl
-    or_true false b e = e
+    ap (λ a. a && (changes tree e birth || list_any (λ b. b == birth) (w.trail ++ visited tree w.step e.reply))) answers ∙ or_right (changes tree e birth) (list_any (λ b. b == birth) (w.trail ++ visited tree w.step e.reply)) found

@@ -1,8 +1,7 @@
 -- A disk with the sectors with versions of one that stands for a shape, and with the bytes of the tree's files, stands for the tree.
 use Rattle.std.proofs.Common.{ℕ, ◌≡◌, ◌≤◌, ◌*◌, ◌/◌, ◌%◌, ⊎_elim, Bool, if◌then◌else◌, is_some, refl, sym, ◌∙◌, ap, subst}
 use Rattle.std.proofs.Math.Path.{fun_ext}
-use Rattle.std.proofs.lemmas.Bool.{cases_lt}
-use Rattle.frang_base.proofs.Basics.{of_ge}
+use Rattle.std.proofs.lemmas.Bool.{cases_lt, le-ltb}
 use Rattle.tree_definitions.specs.Touched.{shape_of}
 use Rattle.tree_definitions.specs.Tree.{FileTree, node_at}
 use Rattle.tree_laws.specs.WellFormed.{IsWellFormed}
@@ -55,7 +54,7 @@ module _ (disk other : Sectors) (tree : FileTree) (below : StandsBelow disk (sha
   in_places = places_kept segments here.use_of disk other here.place same.directories (record { grammar = below.stands.grammar.directories; places = λ k q l lq d. refl })
 
   past_fresh : (k : ℕ) → 1024 * segments ≤ k → here.use_of k ≡ Fresh
-  past_fresh k l = ap (λ (t : Bool). if t then use_in (segment_at disk (k / 1024)) (k % 1024) else Fresh) (of_ge k (1024 * segments) l)
+  past_fresh k l = ap (λ (t : Bool). if t then use_in (segment_at disk (k / 1024)) (k % 1024) else Fresh) (le-ltb k (1024 * segments) l)
 
   says : SaysTheSame (record here { byte = there.byte; large_byte = there.large_byte }) there
   says = record {

@@ -1,6 +1,5 @@
 -- Covers and marks are keys, which are others for other sectors.
 use Rattle.std.proofs.Common.{◌≡◌, ℕ, Bool, true, false, if◌then◌else◌, Option, Some, None, refl, arith}
-use Rattle.std.proofs.lemmas.Bool.{false≢true}
 use Rattle.std.proofs.lemmas.Bool.Decides.{nat_tests}
 use Rattle.std.specs.BTreeMap.{is_at}
 use Rattle.std.specs.Option.{option_map}
@@ -10,6 +9,7 @@ use Rattle.std.specs.declared.cmp.Ordering.TheVariants.{Less, Equal, Greater}
 use Rattle.frang_base.specs.declared.lock.LockId.{LockId}
 use Rattle.frang_base.specs.declared.lock.LockId.TheVariants.{Log, Segment, Node}
 use Rattle.frang_base.specs.Locks.{same_lock}
+use Rattle.frang_base.proofs.Tests.{both_equal}
 use Rattle.lock_definitions.specs.Order.{lock_cmp}
 use Rattle.lock_definitions.proofs.LockOrder.{found_lock}
 use Rattle.flush_order.specs.Marks.{mark_cmp}
@@ -20,11 +20,6 @@ use Rattle.clerk_cache.specs.declared.state.SectorState.{SectorState}
 use Rattle.clerk_cache.specs.Covers.{cover_cmp, cover_total, cover_key}
 use Rattle.clerk_cache.specs.Kept.{state_mark}
 use Rattle.clerk_cache.proofs.Keying.{AreOther}
-
-both_equal : (o p : Ordering) → is_eq (ordering_then o p) ≡ true → (is_eq o ≡ true) × (is_eq p ≡ true)
-both_equal Less p e = absurd (false≢true e)
-both_equal Equal p e = (refl, e)
-both_equal Greater p e = absurd (false≢true e)
 
 -- a cover found is the cover that was looked for
 found_cover : (a b : Covered) → is_at (cover_cmp a) b ≡ true → b ≡ a

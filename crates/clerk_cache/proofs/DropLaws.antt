@@ -1,24 +1,20 @@
 -- A lock without a dirty sector has only clean ones, and to drop its sectors touches no other.
 use Rattle.std.proofs.Common.{◌≡◌, ℕ, Bool, true, false, not, ◌&&◌, if◌then◌else◌, is_some, [], ◌∷◌, find, Option, Some, None, refl, sym, ap, ◌∙◌, subst}
-use Rattle.std.proofs.lemmas.Bool.{false≢true}
 use Rattle.std.specs.List.{filter_map}
 use Rattle.std.specs.List.Sorted.{IsStrictlySortedBy}
 use Rattle.std.specs.BTreeMap.{is_at}
 use Rattle.std.specs.Option.{option_map}
 use Rattle.std.specs.Ordering.{nat_cmp}
 use Rattle.frang_base.specs.declared.lock.LockId.{LockId}
+use Rattle.frang_base.proofs.Tests.{none_of}
 use Rattle.sector_bytes.specs.SectorMaps.{value_at, Ascend}
 use Rattle.sector_bytes.proofs.MapLaws.{AllAbove, absent, found}
 use Rattle.clerk_cache.specs.Cached.{Cached, Contents, mark_of, marks_of}
 use Rattle.clerk_cache.specs.Dropping.{is_under, is_dirty_under, first_dirty, dropped}
 
-unmarked : (mark : Option ℕ) → is_some mark ≡ false → mark ≡ None
-unmarked None e = refl
-unmarked (Some m) e = absurd (false≢true (sym e))
-
 -- under the lock and not dirty under it
 clean_under : (lock : LockId) (cached : Cached) → is_dirty_under lock cached ≡ false → is_under lock cached ≡ true → cached.mark ≡ None
-clean_under lock cached clean under = unmarked cached.mark (sym (ap (λ t. t && is_some cached.mark) under) ∙ clean)
+clean_under lock cached clean under = none_of cached.mark (sym (ap (λ t. t && is_some cached.mark) under) ∙ clean)
 
 -- where none is dirty, neither is the first, nor any after it
 none_first : (lock : LockId) (entry : ℕ × Cached) (contents : Contents) → first_dirty lock (entry ∷ contents) ≡ None → (is_dirty_under lock entry.1 ≡ false) × (first_dirty lock contents ≡ None)

@@ -1,13 +1,13 @@
 -- Which sectors are dirty under a lock, and what is left when its sectors are dropped.
 use Rattle.std.proofs.Common.{◌≡◌, ℕ, ◌+◌, Bool, true, false, not, is_some, if◌then◌else◌, [], ◌∷◌, length, find, Option, Some, None, Result, Ok, Err, IfOk, refl, sym, ap, ◌∙◌, subst, arith}
-use Rattle.std.specs.Cmp.{nat_cmp_is}
 use Rattle.std.specs.List.{AllByRecursion, filter_map}
 use Rattle.std.specs.List.Sorted.{IsStrictlySortedBy}
 use Rattle.std.specs.BTreeMap.{is_at}
 use Rattle.std.specs.Option.{option_map}
-use Rattle.std.specs.Ordering.{nat_cmp, on, is_eq}
-use Rattle.std.specs.declared.cmp.Ordering.TheVariants.{Less, Equal}
+use Rattle.std.specs.Ordering.{nat_cmp, on}
+use Rattle.std.specs.declared.cmp.Ordering.TheVariants.{Less}
 use Rattle.frang_base.specs.declared.lock.LockId.{LockId}
+use Rattle.frang_base.proofs.Tests.{at_itself}
 use Rattle.sector_bytes.specs.SectorMaps.{value_at, without, room_for, Ascend}
 use Rattle.sector_bytes.proofs.MapLaws.{AllAbove, absent, found}
 use Rattle.clerk_cache.specs.Cached.{Cached, Contents, mark_of, marks_of}
@@ -18,9 +18,6 @@ use Rattle.clerk_cache.proofs.Joining.{Blocks, States}
 use Rattle.clerk_cache.proofs.Keying.{length-without}
 
 -- ---- keys
-
-pub itself : (sector : ℕ) → is_at (nat_cmp sector) sector ≡ true
-itself sector = ap is_eq (sym (nat_cmp_is sector sector Equal refl))
 
 -- ---- the two maps and the contents
 
@@ -106,7 +103,7 @@ module _ (lock : LockId) where
           → (first_under lock contents ≡ Some sector → IsUnder lock contents sector) → IsUnder lock (entry ∷ contents) sector
       go true under first rest =
           let here : entry.0 ≡ sector = cc first in
-          record { cached = entry.1; there = ap (λ n. if is_at (nat_cmp n) entry.0 then Some entry.1 else value_at contents n) (sym here) ∙ ap (λ u. if u then Some entry.1 else value_at contents entry.0) (itself entry.0); under = under }
+          record { cached = entry.1; there = ap (λ n. if is_at (nat_cmp n) entry.0 then Some entry.1 else value_at contents n) (sym here) ∙ ap (λ u. if u then Some entry.1 else value_at contents entry.0) (at_itself entry.0); under = under }
       go false under first rest = behind (is_at (nat_cmp sector) entry.0) refl (rest first)
 
   -- once it is gone, the same are left

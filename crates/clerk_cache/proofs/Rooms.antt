@@ -1,13 +1,10 @@
 -- A cache has room for a sector where both its maps have.
-use Rattle.std.proofs.Common.{◌≡◌, ℕ, if◌then◌else◌, List, Option, Some, None, IsSome, is_some, refl, ap, ◌∙◌}
+use Rattle.std.proofs.Common.{◌≡◌, ℕ, if◌then◌else◌, List, IsSome, is_some, ap, ◌∙◌}
 use Rattle.std.specs.Option.{option_map}
+use Rattle.frang_base.proofs.Tests.{is_some-option_map}
 use Rattle.sector_bytes.specs.SectorMaps.{value_at, room_for}
 use Rattle.clerk_cache.specs.Kept.{joined, AreAlike}
 use Rattle.clerk_cache.proofs.Joining.{Blocks, States, block_at-joined, state_at-joined}
-
-is_some-option_map : {X Y : Type 0} (f : X → Y) (o : Option X) → is_some (option_map f o) ≡ is_some o
-is_some-option_map f (Some x) = refl
-is_some-option_map f None = refl
 
 pub block_room : (blocks : Blocks) (states : States) (sector : ℕ) → AreAlike blocks states → room_for blocks sector ≡ room_for (joined blocks states) sector
 block_room blocks states sector alike = ap (λ b. if b then 0 else 1) (ap is_some (block_at-joined blocks states sector alike) ∙ is_some-option_map _ (value_at (joined blocks states) sector))

@@ -4,6 +4,7 @@ use Rattle.frang_base.specs.declared.bitmap.Bitmap.{Bitmap}
 use Rattle.tree_definitions.specs.Tree.{fresh}
 use Rattle.tree_laws.specs.WellFormed.{IsNew}
 use Rattle.tree_laws.proofs.Nodes.{each_but}
+use Rattle.tree_laws.proofs.FreshLaws.{fresh_other}
 use Rattle.sector_bytes.specs.Bytes.{zeros}
 use Rattle.std.specs.Option.{unwrap_or}
 use Rattle.disk_definitions.specs.Store.{segment_at}
@@ -12,12 +13,11 @@ use Rattle.disk_definitions.specs.OnDisk.{AreOfDisk}
 use Rattle.code_plan_laws.specs.Fresh.{first_bitmap, fresh_sectors, fresh_disk, FreshIsAsked, FreshIsAtHand}
 use Rattle.code_plan_laws.proofs.Blocks.{first_reads}
 use Rattle.code_plan_laws.proofs.Sectors.{apart}
-use Rattle.code_plan_laws.proofs.Picture.{none_else}
 use Rattle.code_plan_laws.proofs.FreshStanding.{fresh_stands}
 
 -- a birth above 0 is new
 new : (segments birth : ℕ) → 0 < birth → IsNew (fresh segments) birth
-new segments birth more = none_else segments birth (λ e. absurd (omega arith))
+new segments birth more = fresh_other segments birth (λ e. absurd (omega arith))
 
 -- nothing is of every disk
 nothing_held : (segments : ℕ) → 1 ≤ segments → AreOfDisk [] [] false segments (fresh_disk segments)

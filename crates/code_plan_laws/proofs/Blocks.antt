@@ -4,7 +4,7 @@ use Rattle.std.proofs.Math.Nat.{zero-div, div-eq_of_lt}
 use Rattle.std.proofs.Math.Path.{fun_ext}
 use Rattle.std.proofs.lemmas.Nat.{pow_pos}
 use Rattle.std.proofs.lemmas.Bool.Decides.{nat_tests}
-use Rattle.frang_base.proofs.Basics.{of_ge}
+use Rattle.std.proofs.lemmas.Bool.{le-ltb}
 use Rattle.frang_base.specs.declared.bitmap.Bitmap.{Bitmap}
 use Rattle.tree_definitions.specs.declared.node.Node.TheVariants.{Dir}
 use Rattle.disk_definitions.specs.declared.inode.Inode.{Inode}
@@ -64,7 +64,7 @@ node small = record { kind = 2; links = 1; size = 0; birth = 0; blocks = 0; smal
 
 pub root_stored : stored_node (inode_in (inode_bytes root_inode)) ≡ Some (inode_of 0 (λ j. 0) 0 (Dir [] 0))
 root_stored =
-    let small : slice_index (zeros 16) ≡ first_blocks 0 (λ j. 0) = fun_ext (λ j. zero_at 16 j ∙ sym (ap (λ (t : Bool). if t then 0 else 0) (of_ge j 0 (omega arith)))) in
+    let small : slice_index (zeros 16) ≡ first_blocks 0 (λ j. 0) = fun_ext (λ j. zero_at 16 j ∙ sym (ap (λ (t : Bool). if t then 0 else 0) (le-ltb j 0 (omega arith)))) in
     ap stored_node root_reads ∙ ap (λ (f : ℕ → ℕ). Some (node f)) small
 
 -- ---- bits and states

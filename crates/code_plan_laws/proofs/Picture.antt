@@ -3,24 +3,21 @@ use Rattle.std.proofs.Common.{◌≡◌, ◌≢◌, ℕ, ◌≤◌, true, false,
 use Rattle.tree_definitions.specs.declared.node.Node.{Node}
 use Rattle.tree_definitions.specs.declared.node.Node.TheVariants.{Dir}
 use Rattle.tree_definitions.specs.Tree.{fresh, node_at}
-use Rattle.tree_laws.proofs.Nodes.{each_but, with_other}
+use Rattle.tree_laws.proofs.Nodes.{each_but}
+use Rattle.tree_laws.proofs.FreshLaws.{fresh_other}
 use Rattle.disk_definitions.specs.Store.Use.{Fresh, Empty}
 use Rattle.disk_definitions.specs.Naming.{Naming, Nodes, Pictures, kind_of, blocks_of, has_large, room_in, find_in, cell_in, inode_for}
 use Rattle.code_plan_laws.proofs.Stored.{born, not_born, store, uses, large_bits, bits, root_node, no_node}
 
--- no birth but the root's has a node
-pub none_else : (segments b : ℕ) → b ≢ 0 → node_at (fresh segments) b ≡ None
-none_else segments b far = with_other (record { segments = segments; nodes = [] }) 0 (Dir [] 0) b far
-
 -- a fact of every node, by that of none and that of the root
 pub each_node : (P : Option Node → Type 0) → P None → P (Some (Dir [] 0)) → (segments b : ℕ) → P (node_at (fresh segments) b)
-each_node P none root segments = each_but (λ b. P (node_at (fresh segments) b)) 0 root (λ b far. subst P (sym (none_else segments b far)) none)
+each_node P none root segments = each_but (λ b. P (node_at (fresh segments) b)) 0 root (λ b far. subst P (sym (fresh_other segments b far)) none)
 
 -- the root alone is there
 pub root_only : (segments b : ℕ) → is_some (node_at (fresh segments) b) ≡ true → b ≡ 0
 root_only segments =
     each_but (λ b. is_some (node_at (fresh segments) b) ≡ true → b ≡ 0) 0 (λ e. refl)
-    (λ b far e. absurd (let z : false ≡ true = sym (ap is_some (none_else segments b far)) ∙ e in cc))
+    (λ b far e. absurd (let z : false ≡ true = sym (ap is_some (fresh_other segments b far)) ∙ e in cc))
 
 -- inodes by their births: the root has inode 0, and no block is in use
 abbrev pub naming : Naming

@@ -5,7 +5,7 @@ use Rattle.std.specs.Map.{lookup}
 use Rattle.std.specs.BTreeMap.{is_at}
 use Rattle.std.specs.Cmp.{unsigned_tied}
 use Rattle.std.specs.Option.{unwrap_or}
-use Rattle.frang_base.proofs.Basics.{of_ne}
+use Rattle.std.proofs.lemmas.Bool.{ne_eqb}
 use Rattle.tree_laws.proofs.Nodes.{each_but}
 use Rattle.disk_definitions.specs.declared.region.Region.TheVariants as region
 use Rattle.sector_bytes.specs.Bytes.{zeros}
@@ -17,7 +17,7 @@ use Rattle.code_plan_laws.specs.Fresh.{fresh_param, first_bitmap, root_inode, fr
 
 -- numbers apart aren't tied
 pub apart : (s k : ℕ) → s ≢ k → is_at (nat_cmp s) k ≡ false
-apart s k far = unsigned_tied s k ∙ of_ne s k far
+apart s k far = unsigned_tied s k ∙ ne_eqb s k far
 
 none_of : (s a b c : ℕ) (x y z : List ℕ) → s ≢ a → s ≢ b → s ≢ c → lookup (is_at (nat_cmp s)) ((a, x) ∷ (b, y) ∷ (c, z) ∷ []) ≡ None
 none_of s a b c x y z p q r =

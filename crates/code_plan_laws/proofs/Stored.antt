@@ -1,7 +1,7 @@
 -- What the sectors of a fresh disk say: one inode is in use, and no block.
 use Rattle.std.proofs.Common.{◌≡◌, ◌≢◌, ℕ, ◌*◌, ◌/◌, ◌%◌, ◌<◌, ◌≤◌, Bool, true, false, ◌==◌, ◌&&◌, if◌then◌else◌, nat_lt, Option, Some, None, [], is_some, refl, sym, ap, ◌∙◌, arith, ltb-true}
 use Rattle.std.proofs.lemmas.Bool.Decides.{nat_tests}
-use Rattle.frang_base.proofs.Basics.{of_lt, of_ne}
+use Rattle.std.proofs.lemmas.Bool.{ne_eqb, lt-ltb}
 use Rattle.tree_definitions.specs.declared.node.Node.TheVariants.{Dir}
 use Rattle.tree_laws.proofs.Nodes.{each_but}
 use Rattle.disk_definitions.specs.declared.region.Region.TheVariants as region
@@ -21,7 +21,7 @@ abbrev pub born : ℕ → Option ℕ
 born i = if i == 0 then Some 0 else None
 
 pub not_born : (i : ℕ) → i ≢ 0 → born i ≡ None
-not_born i far = ap (λ (t : Bool). if t then Some 0 else None) (of_ne i 0 far)
+not_born i far = ap (λ (t : Bool). if t then Some 0 else None) (ne_eqb i 0 far)
 
 -- where both cases are the same
 pub either_way : {X : Type 0} (t : Bool) (x y : X) → (t ≡ true → x ≡ y) → (if t then x else y) ≡ y
@@ -75,7 +75,7 @@ module _ (segments : ℕ) (some : 1 ≤ segments) (few : segments ≤ 64) where
   bits = each_but (λ i. store.bit i ≡ is_some (born i)) 0 first other
     where
       first : store.bit 0 ≡ true
-      first = ap (λ (t : Bool). t && bit_in (segment_at disk 0) 0) (of_lt 0 (64 * segments) (omega arith)) ∙ ap (λ o. bit_in o 0) first_reads
+      first = ap (λ (t : Bool). t && bit_in (segment_at disk 0) 0) (lt-ltb 0 (64 * segments) (omega arith)) ∙ ap (λ o. bit_in o 0) first_reads
 
       other : (i : ℕ) → i ≢ 0 → store.bit i ≡ is_some (born i)
       other i far =
@@ -87,7 +87,7 @@ module _ (segments : ℕ) (some : 1 ≤ segments) (few : segments ≤ 64) where
   root = inode_of 0 (λ j. 0) 0 (Dir [] 0)
 
   pub root_node : store.inode 0 ≡ Some root
-  root_node = ap (λ (t : Bool). if t then stored_node (inode_in (disk (sector_of (region.Inode 0)))) else None) (of_lt 0 (64 * segments) (omega arith)) ∙ root_stored
+  root_node = ap (λ (t : Bool). if t then stored_node (inode_in (disk (sector_of (region.Inode 0)))) else None) (lt-ltb 0 (64 * segments) (omega arith)) ∙ root_stored
 
   pub no_node : (i : ℕ) → i ≢ 0 → store.inode i ≡ None
   no_node i far = either_way (nat_lt i (64 * segments)) (stored_node (inode_in (disk (sector_of (region.Inode i))))) None (λ e. ap (λ b. stored_node (inode_in b)) (later_inode segments i far) ∙ none_stored)

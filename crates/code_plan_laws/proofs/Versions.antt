@@ -1,15 +1,13 @@
 -- What the edits of a finished plan change has versions below their bound.
-use Rattle.std.proofs.Common.{◌≡◌, ℕ, ◌+◌, ◌-◌, ◌/◌, ◌*◌, ◌^◌, ◌<◌, ◌≤◌, Bool, true, false, nat_lt, Option, Some, None, List, [], ◌∷◌, if◌then◌else◌, is_some, refl, sym, ap, ◌∙◌, subst, arith}
+use Rattle.std.proofs.Common.{◌≡◌, ℕ, ◌+◌, ◌-◌, ◌/◌, ◌*◌, ◌^◌, ◌<◌, ◌≤◌, Bool, true, false, nat_lt, Option, Some, None, List, [], ◌∷◌, if◌then◌else◌, refl, sym, ap, ◌∙◌, subst, arith}
 use Rattle.std.specs.List.{AllByRecursion, list_all, filter_map, cons_option}
 use Rattle.std.proofs.lemmas.Bool.Decides.{nat_tests}
-use Rattle.frang_base.specs.declared.bitmap.Bitmap.{Bitmap}
 use Rattle.sector_bytes.specs.Bytes.{number_at}
 use Rattle.sector_bytes.specs.Sectors.{Sectors}
 use Rattle.disk_definitions.specs.Store.{Store, store_of}
 use Rattle.disk_definitions.specs.Standing.{version_at}
 use Rattle.disk_definitions.specs.Edits.{Edit, edited_all}
 use Rattle.disk_definitions.specs.Edits.Edit.{SetInode, SetBit, SetUse, SetPlace, SetLarge, SetBytes, SetLargeBytes}
-use Rattle.disk_definitions.specs.Held.{Segments, bitmap_of}
 use Rattle.disk_definitions.specs.Ask.{Sector, Ask, run, looks, meet}
 use Rattle.disk_definitions.specs.Plans.{Hand, Plan, Finish, Finishes}
 use Rattle.disk_definitions.specs.PlanOf.{plan_of}
@@ -27,9 +25,6 @@ use Rattle.line_laws.proofs.Edited.{where_edited, hand}
 use Rattle.line_laws.proofs.Operations.{all_fit}
 use Rattle.line_laws.proofs.Written.{fit_store, ready}
 use Rattle.code_plan_laws.specs.CodeStands.{HasNextVersions, HoldsSegments}
-
-some_held : (held : Segments) (k : ℕ) (x : Bitmap) → bitmap_of held k ≡ Some x → is_some (bitmap_of held k) ≡ true
-some_held held k x e = ap is_some e
 
 pub holds_segments : HoldsSegments
 holds_segments o birth cached held all d k x e =

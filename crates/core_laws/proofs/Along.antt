@@ -4,7 +4,7 @@ use Rattle.core_definitions.specs.Settings.{Setting}
 use Rattle.core_definitions.specs.Runs.{State, Step, Run, Stays, Goes, first_state}
 
 -- a run, and a step more
-longer : (s v w : State) → Run s v → Step v w → Run s w
+pub longer : (s v w : State) → Run s v → Step v w → Run s w
 longer s v w Stays step = Goes step Stays
 longer s v w (Goes {v = u} first run) step = Goes first (longer u v w run step)
 

@@ -1,10 +1,12 @@
 -- Over every run: of a server that is Off or Dead no write of its present mount is in flight. Event by event.
 use Rattle.std.proofs.Common.{◌≡◌, ℕ, ◌⊎◌, inl, inr, Bool, true, false, not, ◌&&◌, ◌||◌, ◌==◌, if◌then◌else◌, cond, IsTrue, is_some, [], ◌∷◌, ◌++◌, ◌+◌, ◌%◌, Option, Some, None, nat_eq, refl, sym, ap, ◌∙◌, subst, arith}
-use Rattle.std.proofs.lemmas.Bool.{false≢true}
+use Rattle.std.proofs.lemmas.Bool.{false≢true, and_parts, or_parts, or_from, or_right, both_ways, eqb-true}
 use Rattle.std.proofs.lemmas.Bool.Decides.{nat_tests}
 use Rattle.std.specs.BTreeMap.{is_at}
 use Rattle.std.specs.Map.{remove_entry}
 use Rattle.std.specs.Ordering.{nat_cmp}
+use Rattle.std.proofs.lemmas.Option.{same_Some, none-some}
+use mathlib.Core.Bool.{and-false}
 use Rattle.frang_base.specs.Functions.{put}
 use Rattle.frang_base.specs.declared.lock.LockId.{LockId}
 use Rattle.frang_base.specs.declared.op.Op.{Op}
@@ -40,46 +42,34 @@ use Rattle.core_definitions.specs.WriteEffects.{acknowledged, arrived_as, arrive
 use Rattle.core_definitions.specs.EndEffects.{finished_from, host_answered_line}
 use Rattle.core_definitions.specs.Effects.{after}
 use Rattle.core_definitions.specs.Runs.{State, Step, Event_, Enter, Hold, Flush, Relock, Note, Peek, Run, Stays, Goes, first_state, Makes}
-use Rattle.core_laws.proofs.Keys.{or_right}
-use Rattle.core_laws.proofs.Memory.{Good, dead_of, given_due, in_some, is_resting, none_some, not_both, opened, same_number, up_rests_not}
+use Rattle.core_laws.proofs.Memory.{Good, dead_of, given_due, is_resting, opened, up_rests_not}
 use Rattle.core_laws.proofs.Resting.{first_good, server_no_host, step_good}
 
 -- ---- lists of writes
 
-neither : (x y : Bool) → x ≡ false → y ≡ false → (x || y) ≡ false
-neither x y e f = cc
-
-left_false : (x y : Bool) → (x || y) ≡ false → x ≡ false
-left_false true y e = absurd (false≢true (sym e))
-left_false false y e = refl
-
-right_false : (x y : Bool) → (x || y) ≡ false → y ≡ false
-right_false true y e = absurd (false≢true (sym e))
-right_false false y e = e
-
 pub none_landed : (ticket i : ℕ) (fs : Flights) → has_flights fs i ≡ false → has_flights (without fs ticket) i ≡ false
 none_landed ticket i [] h = h
-none_landed ticket i (x ∷ xs) h = go (is_at (nat_cmp ticket) x.0) (none_landed ticket i xs (right_false (is_of_mount i x.1) (has_flights xs i) h))
+none_landed ticket i (x ∷ xs) h = go (is_at (nat_cmp ticket) x.0) (none_landed ticket i xs (or_parts (is_of_mount i x.1) (has_flights xs i) h).1)
   where
     here : is_of_mount i x.1 ≡ false
-    here = left_false (is_of_mount i x.1) (has_flights xs i) h
+    here = (or_parts (is_of_mount i x.1) (has_flights xs i) h).0
 
     there : has_flights xs i ≡ false
-    there = right_false (is_of_mount i x.1) (has_flights xs i) h
+    there = (or_parts (is_of_mount i x.1) (has_flights xs i) h).1
 
     go : (b : Bool) → has_flights (without xs ticket) i ≡ false → has_flights (cond b xs (x ∷ remove_entry (is_at (nat_cmp ticket)) xs)) i ≡ false
     go true rest = there
-    go false rest = neither (is_of_mount i x.1) (has_flights (without xs ticket) i) here rest
+    go false rest = or_from (is_of_mount i x.1) (has_flights (without xs ticket) i) here rest
 
 pub none_changed : (a i : ℕ) (change : Flight → Flight) → ((f : Flight) → is_of_mount i f ≡ false → is_of_mount i (change f) ≡ false) → (fs : Flights) → has_flights fs i ≡ false →
     has_flights (each_of_server a change fs) i ≡ false
 none_changed a i change keeps [] h = h
 none_changed a i change keeps (x ∷ xs) h =
-    neither _ (has_flights (each_of_server a change xs) i) (go (x.1.server == a)) (none_changed a i change keeps xs (right_false (is_of_mount i x.1) (has_flights xs i) h))
+    or_from _ (has_flights (each_of_server a change xs) i) (go (x.1.server == a)) (none_changed a i change keeps xs (or_parts (is_of_mount i x.1) (has_flights xs i) h).1)
   where
     go : (b : Bool) → is_of_mount i (if b then (x.0, change x.1) else x).1 ≡ false
-    go true = keeps x.1 (left_false (is_of_mount i x.1) (has_flights xs i) h)
-    go false = left_false (is_of_mount i x.1) (has_flights xs i) h
+    go true = keeps x.1 (or_parts (is_of_mount i x.1) (has_flights xs i) h).0
+    go false = (or_parts (is_of_mount i x.1) (has_flights xs i) h).0
 
 pub none_moved : (i : ℕ) (outcome : Outcome) (f : Flight) → is_of_mount i f ≡ false → is_of_mount i (flight_after outcome f) ≡ false
 none_moved i outcome f h = go f.present refl
@@ -91,22 +81,14 @@ none_moved i outcome f h = go f.present refl
 -- a server's own writes are all of an earlier mount
 pub none_left_behind : (a : ℕ) (fs : Flights) → has_flights (left_behind a fs) a ≡ false
 none_left_behind a [] = refl
-none_left_behind a (x ∷ xs) = neither _ (has_flights (left_behind a xs) a) (go (x.1.server == a) refl) (none_left_behind a xs)
+none_left_behind a (x ∷ xs) = or_from _ (has_flights (left_behind a xs) a) (go (x.1.server == a) refl) (none_left_behind a xs)
   where
-    past : (b : Bool) → (b && false) ≡ false
-    past true = refl
-    past false = refl
-
     go : (b : Bool) → (x.1.server == a) ≡ b → is_of_mount a (if b then (x.0, record x.1 { present = false }) else x).1 ≡ false
-    go true e = past (x.1.server == a)
+    go true e = and-false (x.1.server == a)
     go false e = ap (λ t. t && x.1.present) e
 
 pub stays_behind : (i : ℕ) (f : Flight) → is_of_mount i f ≡ false → is_of_mount i (record f { present = false }) ≡ false
-stays_behind i f h = past (f.server == i)
-  where
-    past : (b : Bool) → (b && false) ≡ false
-    past true = refl
-    past false = refl
+stays_behind i f h = and-false (f.server == i)
 
 -- or gone
 pub none_lost : (a : ℕ) (fs : Flights) → has_flights (lost a fs) a ≡ false
@@ -115,22 +97,22 @@ none_lost a (x ∷ xs) = go (x.1.server == a) refl (none_lost a xs)
   where
     go : (b : Bool) → (x.1.server == a) ≡ b → has_flights (lost a xs) a ≡ false → has_flights (cond (not b) (x ∷ lost a xs) (lost a xs)) a ≡ false
     go true e rest = rest
-    go false e rest = neither (is_of_mount a x.1) (has_flights (lost a xs) a) (ap (λ t. t && x.1.present) e) rest
+    go false e rest = or_from (is_of_mount a x.1) (has_flights (lost a xs) a) (ap (λ t. t && x.1.present) e) rest
 
 pub fewer_lost : (a i : ℕ) (fs : Flights) → has_flights fs i ≡ false → has_flights (lost a fs) i ≡ false
 fewer_lost a i [] h = h
-fewer_lost a i (x ∷ xs) h = go (x.1.server == a) (fewer_lost a i xs (right_false (is_of_mount i x.1) (has_flights xs i) h))
+fewer_lost a i (x ∷ xs) h = go (x.1.server == a) (fewer_lost a i xs (or_parts (is_of_mount i x.1) (has_flights xs i) h).1)
   where
     go : (b : Bool) → has_flights (lost a xs) i ≡ false → has_flights (cond (not b) (x ∷ lost a xs) (lost a xs)) i ≡ false
     go true rest = rest
-    go false rest = neither (is_of_mount i x.1) (has_flights (lost a xs) i) (left_false (is_of_mount i x.1) (has_flights xs i) h) rest
+    go false rest = or_from (is_of_mount i x.1) (has_flights (lost a xs) i) (or_parts (is_of_mount i x.1) (has_flights xs i) h).0 rest
 
 -- one more, of another server
 pub none_joined : (i t : ℕ) (f : Flight) (fs : Flights) → (f.server == i) ≡ false → has_flights fs i ≡ false → has_flights (fs ++ (t, f) ∷ []) i ≡ false
-none_joined i t f [] away h = neither (is_of_mount i f) false (ap (λ b. b && f.present) away) refl
+none_joined i t f [] away h = or_from (is_of_mount i f) false (ap (λ b. b && f.present) away) refl
 none_joined i t f (x ∷ xs) away h =
-    neither (is_of_mount i x.1) (has_flights (xs ++ (t, f) ∷ []) i) (left_false (is_of_mount i x.1) (has_flights xs i) h)
-    (none_joined i t f xs away (right_false (is_of_mount i x.1) (has_flights xs i) h))
+    or_from (is_of_mount i x.1) (has_flights (xs ++ (t, f) ∷ []) i) (or_parts (is_of_mount i x.1) (has_flights xs i) h).0
+    (none_joined i t f xs away (or_parts (is_of_mount i x.1) (has_flights xs i) h).1)
 
 -- ---- what the core keeps
 
@@ -152,7 +134,7 @@ changed c d a new e fewer rests g i away t = go (nat_eq i a) refl (subst (λ f. 
 
     go : (b : Bool) → nat_eq i a ≡ b → IsTrue (is_resting (if b then new else c.servers i).phase) → has_flights d.flights i ≡ false
     go true f t =
-        subst (λ k. has_flights d.flights k ≡ false) (sym (same_number a i f)) (at_it (rests t) (subst (λ k. (k == host_party) ≡ false) (same_number a i f) away))
+        subst (λ k. has_flights d.flights k ≡ false) (sym (eqb-true i a f)) (at_it (rests t) (subst (λ k. (k == host_party) ≡ false) (eqb-true i a f) away))
     go false f t = fewer i (g i away t)
 
 -- its phase stays, and the writes too
@@ -231,10 +213,6 @@ lands_clean false false r v h = refl
 pub clean_lands : (flights : Flights) (a : ℕ) (server : Server) → IsTrue (is_clean flights a server) → has_flights flights a ≡ false
 clean_lands flights a server h = lands_clean (any_kept is_dirty server.cache) (has_flights flights a) (is_all_reached server.ring) (is_some server.recovery) h
 
-second_of : (x y : Bool) → IsTrue (x && y) → IsTrue y
-second_of true y h = h
-second_of false y h = absurd (false≢true h)
-
 module _ (c : Core) (a : ℕ) (under : Under) (server : Server) where
   abbrev Rests : Server → Type 0
   Rests new = IsTrue (is_resting new.phase) → IsTrue (is_resting server.phase) ⊎ (has_flights c.flights a ≡ false)
@@ -243,32 +221,32 @@ module _ (c : Core) (a : ℕ) (under : Under) (server : Server) where
   done operation answer = record (answered_open c under server operation answer) { under = None }
 
   mounted_rests : (off failed read : Bool) (answer : Reply) → (if off then (if failed then Some reply.Io else due_if read reply.Mounted) else None) ≡ Some answer → Rests (done op.Mount answer)
-  mounted_rests false failed read answer e = absurd (none_some answer e)
-  mounted_rests true true read answer e = subst (λ x. Rests (done op.Mount x)) (in_some reply.Io answer e) (λ t. inl t)
-  mounted_rests true false false answer e = absurd (none_some answer e)
-  mounted_rests true false true answer e = subst (λ x. Rests (done op.Mount x)) (in_some reply.Mounted answer e) (λ t. absurd (false≢true t))
+  mounted_rests false failed read answer e = absurd (none-some answer e)
+  mounted_rests true true read answer e = subst (λ x. Rests (done op.Mount x)) (same_Some reply.Io answer e) (λ t. inl t)
+  mounted_rests true false false answer e = absurd (none-some answer e)
+  mounted_rests true false true answer e = subst (λ x. Rests (done op.Mount x)) (same_Some reply.Mounted answer e) (λ t. absurd (false≢true t))
 
   open_rests : (operation : Op) (answer : Reply) → own_answer c.setting.logs c.flights a server under operation ≡ Some answer → Rests (done operation answer)
-  open_rests (op.Create path) answer e = absurd (none_some answer e)
-  open_rests (op.Mkdir path) answer e = absurd (none_some answer e)
-  open_rests (op.Link path to) answer e = absurd (none_some answer e)
-  open_rests (op.Symlink path target) answer e = absurd (none_some answer e)
-  open_rests (op.Unlink path) answer e = absurd (none_some answer e)
-  open_rests (op.Rmdir path) answer e = absurd (none_some answer e)
-  open_rests (op.Rename path to) answer e = absurd (none_some answer e)
-  open_rests (op.Write path off bytes) answer e = absurd (none_some answer e)
-  open_rests (op.Fill path off len byte) answer e = absurd (none_some answer e)
-  open_rests (op.Truncate path len) answer e = absurd (none_some answer e)
-  open_rests (op.Read path off len) answer e = absurd (none_some answer e)
-  open_rests (op.Stat path) answer e = absurd (none_some answer e)
-  open_rests (op.List path) answer e = absurd (none_some answer e)
-  open_rests (op.Readlink path) answer e = absurd (none_some answer e)
-  open_rests (op.Time path) answer e = absurd (none_some answer e)
+  open_rests (op.Create path) answer e = absurd (none-some answer e)
+  open_rests (op.Mkdir path) answer e = absurd (none-some answer e)
+  open_rests (op.Link path to) answer e = absurd (none-some answer e)
+  open_rests (op.Symlink path target) answer e = absurd (none-some answer e)
+  open_rests (op.Unlink path) answer e = absurd (none-some answer e)
+  open_rests (op.Rmdir path) answer e = absurd (none-some answer e)
+  open_rests (op.Rename path to) answer e = absurd (none-some answer e)
+  open_rests (op.Write path off bytes) answer e = absurd (none-some answer e)
+  open_rests (op.Fill path off len byte) answer e = absurd (none-some answer e)
+  open_rests (op.Truncate path len) answer e = absurd (none-some answer e)
+  open_rests (op.Read path off len) answer e = absurd (none-some answer e)
+  open_rests (op.Stat path) answer e = absurd (none-some answer e)
+  open_rests (op.List path) answer e = absurd (none-some answer e)
+  open_rests (op.Readlink path) answer e = absurd (none-some answer e)
+  open_rests (op.Time path) answer e = absurd (none-some answer e)
   open_rests op.Sync answer e = λ t. inl t
   open_rests op.Mount answer e = mounted_rests (is_off server.phase) under.get_failed (is_read c.setting.logs under.slots) answer e
   open_rests op.Unmount answer e =
-      λ t. inr (clean_lands c.flights a server (second_of (is_up server.phase) (is_clean c.flights a server) (given_due (is_up server.phase && is_clean c.flights a server) reply.Ok answer e)))
-  open_rests op.Crash answer e = absurd (none_some answer e)
+      λ t. inr (clean_lands c.flights a server (and_parts (is_up server.phase) (is_clean c.flights a server) (given_due (is_up server.phase && is_clean c.flights a server) reply.Ok answer e)).1)
+  open_rests op.Crash answer e = absurd (none-some answer e)
   open_rests (op.CrashAt k) answer e = λ t. inl t
   open_rests (op.CutAt k) answer e = λ t. inl t
   open_rests op.Stall answer e = λ t. absurd (false≢true t)
@@ -310,7 +288,7 @@ pub put_phase : (servers : ℕ → Server) (a : ℕ) (new : Server) → new.phas
 put_phase servers a new p i = go (nat_eq i a) refl
   where
     go : (b : Bool) → nat_eq i a ≡ b → (if b then new else servers i).phase ≡ (servers i).phase
-    go true e = p ∙ ap (λ k. (servers k).phase) (sym (same_number a i e))
+    go true e = p ∙ ap (λ k. (servers k).phase) (sym (eqb-true i a e))
     go false e = refl
 
 issued_ashore : (c : Core) (a sector : ℕ) (write : Option Write) → IsTrue (is_worker c a) → Ashore c → Ashore (issued_as c a sector write)
@@ -331,8 +309,9 @@ issued_ashore c a sector (Some write) who g = λ i away t. none_joined i c.ticke
 
     at_rest : (i : ℕ) → (i == host_party) ≡ false → IsTrue (is_resting (c.servers i).phase) → i ≡ a → ⊥
     at_rest i away t e =
-        not_both (is_resting (c.servers a).phase) (subst (λ k. IsTrue (is_resting (c.servers k).phase)) e t)
+        both_ways (is_resting (c.servers a).phase)
         (up_rests_not (c.servers a).phase (worker (is_server a) (is_up (c.servers a).phase) (a == host_party) who (subst (λ k. (k == host_party) ≡ false) e away)))
+        (subst (λ k. IsTrue (is_resting (c.servers k).phase)) e t)
 
     apart : (i : ℕ) → (i == host_party) ≡ false → IsTrue (is_resting (c.servers i).phase) → (a == i) ≡ false
     apart i away t = go (a == i) refl

@@ -4,6 +4,7 @@ use Rattle.std.proofs.lemmas.Bool.{false≢true}
 use Rattle.std.proofs.lemmas.List.Sums.{take_while-cons}
 use Rattle.std.specs.List.{list_any, take_while}
 use Rattle.std.specs.Map.{lookup}
+use Rattle.std.proofs.lemmas.Option.{none-some, same_Some}
 use Rattle.frang_base.specs.declared.lock.LockId.{LockId}
 use Rattle.frang_base.specs.declared.lock.Mode.{Mode}
 use Rattle.frang_base.specs.declared.op.Op.{Op}
@@ -101,12 +102,6 @@ held_past setting locks server cache under operation [] =
     (compared under.seen (sight_of setting.segments under.set cache).cached) (program_of setting under.line operation (sight_of setting.segments under.set cache))
 held_past setting locks server cache under operation (missing ∷ others) = tt
 
-some_stage : (x y : Stage) → Some x ≡ Some y → x ≡ y
-some_stage x y e = cc
-
-none_stage : (x : Stage) → None ≡ Some x → ⊥
-none_stage x e = absurd (cc)
-
 asks_for : (setting : Setting) (locks : Locks) (a : ℕ) (cache : Cache) (under : Under) (operation : Op) (found : Option Lock) (need : Lock) →
     stage_asked setting locks a cache under operation found ≡ Asking need → found ≡ Some need
 asks_for setting locks a cache under operation (Some other) need e = ap need_of e
@@ -129,18 +124,15 @@ stage_asks setting locks a server need = go (is_up server.phase && asks is_path_
   where
     by : (under : Under) (operation : Option Op) → stage_with setting locks a server.cache under operation ≡ Some (Asking need) →
         first_lacking (claim_of locks a) under.set ≡ Some need
-    by under None e = absurd (none_stage (Asking need) e)
+    by under None e = absurd (none-some (Asking need) e)
     by under (Some operation) e =
-        asks_for setting locks a server.cache under operation (to_ask locks a under.set) need (some_stage (stage_asked setting locks a server.cache under operation (to_ask locks a under.set)) (Asking need) e)
+        asks_for setting locks a server.cache under operation (to_ask locks a under.set) need (same_Some (stage_asked setting locks a server.cache under operation (to_ask locks a under.set)) (Asking need) e)
 
     go : (b : Bool) (under : Option Under) → (if b then stage_under setting locks a server.cache under else None) ≡ Some (Asking need) →
         (if b then asked_under (claim_of locks a) under else None) ≡ Some need
-    go false under e = absurd (none_stage (Asking need) e)
-    go true None e = absurd (none_stage (Asking need) e)
+    go false under e = absurd (none-some (Asking need) e)
+    go true None e = absurd (none-some (Asking need) e)
     go true (Some under) e = by under (operation_of under.line.what) e
-
-none_lock : (need : Lock) → None ≡ Some need → ⊥
-none_lock need e = absurd (cc)
 
 -- and where there is such a lock, the stage asks for it
 pub asks_stage : (setting : Setting) (locks : Locks) (a : ℕ) (server : Server) (need : Lock) → asked_next (claim_of locks a) server ≡ Some need →
@@ -155,20 +147,20 @@ asks_stage setting locks a server need = go (is_up server.phase) server.under re
     open_line : (under : Under) (f : Bool) → is_some under.fixed ≡ f →
         (if not f && asked_by is_path_op (operation_of under.line.what) then first_lacking (claim_of locks a) under.set else None) ≡ Some need →
         (if not f && asked_by is_path_op (operation_of under.line.what) then stage_with setting locks a server.cache under (operation_of under.line.what) else None) ≡ Some (Asking need)
-    open_line under true s e = absurd (none_lock need e)
+    open_line under true s e = absurd (none-some need e)
     open_line under false s e = asked (asked_by is_path_op (operation_of under.line.what)) refl e
       where
         asked : (b : Bool) → asked_by is_path_op (operation_of under.line.what) ≡ b →
             (if b then first_lacking (claim_of locks a) under.set else None) ≡ Some need →
             (if b then stage_with setting locks a server.cache under (operation_of under.line.what) else None) ≡ Some (Asking need)
         asked true t e = by under (operation_of under.line.what) t e
-        asked false t e = absurd (none_lock need e)
+        asked false t e = absurd (none-some need e)
 
     go : (u : Bool) (under : Option Under) → server.under ≡ under →
         (if u && is_open is_path_op under then asked_under (claim_of locks a) under else None) ≡ Some need →
         (if u && is_open is_path_op under then stage_under setting locks a server.cache under else None) ≡ Some (Asking need)
-    go false under s e = absurd (none_lock need e)
-    go true None s e = absurd (none_lock need e)
+    go false under s e = absurd (none-some need e)
+    go true None s e = absurd (none-some need e)
     go true (Some under) s e = open_line under (is_some under.fixed) refl e
 
 -- ---- changes of claims

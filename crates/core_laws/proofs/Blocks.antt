@@ -1,38 +1,27 @@
 -- Pieces of the list of enabled events: which rows and first numbers their events have, and that they ascend.
 use Rattle.std.proofs.Common.{◌≡◌, ℕ, suc, ◌<◌, ◌≤◌, ◌+◌, Bool, true, false, List, [], ◌∷◌, ◌++◌, length, map, sym, ap, ◌∙◌, subst, arith}
-use Rattle.std.proofs.lemmas.Bool.Decides.{nat_tests}
 use Rattle.std.specs.List.{AllByRecursion, flat_map}
 use Rattle.std.specs.List.Sorted.{IsStrictlySortedBy}
 use Rattle.std.specs.Ordering.{nat_cmp, ordering_then}
 use Rattle.std.specs.declared.cmp.Ordering.{Ordering}
 use Rattle.std.specs.declared.cmp.Ordering.TheVariants.{Less, Equal}
-use Rattle.frang_base.specs.declared.lock.LockId.{LockId}
-use Rattle.frang_base.specs.declared.lock.LockId.TheVariants.{Log, Segment, Node}
+use Rattle.frang_base.proofs.Tests.{cmp_itself}
+use Rattle.frang_base.proofs.Lists.{all_append}
 use Rattle.lock_definitions.specs.Order.{lock_cmp}
+use Rattle.lock_definitions.proofs.LockOrder.{lock_itself}
 use Rattle.core_definitions.specs.Events.{Event}
 use Rattle.core_definitions.specs.Enabled.{only, only_if, row_by_row}
 use Rattle.core_laws.specs.EventOrder.{event_cmp, first_of, last_of, lock_of, row_of}
-use Rattle.core_laws.proofs.Sorting.{all_along, all_append, all_flat, all_flat_from, sorted_append, sorted_none, sorted_one}
+use Rattle.core_laws.proofs.Sorting.{all_along, all_flat, all_flat_from, sorted_append, sorted_none, sorted_one, less}
 
 -- ---- the order
 
-same_numbers : (n : ℕ) → nat_cmp n n ≡ Equal
-same_numbers n = grind (arith, nat_tests)
-
 equal : (m n : ℕ) → m ≡ n → nat_cmp m n ≡ Equal
-equal m n e = subst (λ k. nat_cmp m k ≡ Equal) e (same_numbers m)
-
-same_locks : (lock : LockId) → lock_cmp lock lock ≡ Equal
-same_locks (Log n) = same_numbers n
-same_locks (Segment n) = same_numbers n
-same_locks (Node n) = same_numbers n
+equal m n e = subst (λ k. nat_cmp m k ≡ Equal) e (cmp_itself m)
 
 -- by the row
 pub by_row : (x y : Event) → row_of x < row_of y → event_cmp x y ≡ Less
 by_row x y h = ap (λ o. ordering_then o (ordering_then (nat_cmp (first_of x) (first_of y)) (ordering_then (lock_cmp (lock_of x) (lock_of y)) (nat_cmp (last_of x) (last_of y))))) (less (row_of x) (row_of y) h)
-  where
-    less : (m n : ℕ) → m < n → nat_cmp m n ≡ Less
-    less m n h = grind (arith, nat_tests, h)
 
 -- in a row by the first number
 pub by_first : (x y : Event) → row_of x ≡ row_of y → nat_cmp (first_of x) (first_of y) ≡ Less → event_cmp x y ≡ Less
@@ -53,16 +42,16 @@ pub by_last : (x y : Event) → row_of x ≡ row_of y → first_of x ≡ first_o
 by_last x y r f l h =
     ap (λ o. ordering_then o (ordering_then (nat_cmp (first_of x) (first_of y)) (ordering_then (lock_cmp (lock_of x) (lock_of y)) (nat_cmp (last_of x) (last_of y))))) (equal (row_of x) (row_of y) r)
     ∙ ap (λ o. ordering_then o (ordering_then (lock_cmp (lock_of x) (lock_of y)) (nat_cmp (last_of x) (last_of y)))) (equal (first_of x) (first_of y) f)
-    ∙ ap (λ o. ordering_then o (nat_cmp (last_of x) (last_of y))) (subst (λ m. lock_cmp (lock_of x) m ≡ Equal) l (same_locks (lock_of x)))
+    ∙ ap (λ o. ordering_then o (nat_cmp (last_of x) (last_of y))) (subst (λ m. lock_cmp (lock_of x) m ≡ Equal) l (lock_itself (lock_of x)))
     ∙ h
 
 -- an event isn't below itself
 pub not_below_itself : (x : Event) → event_cmp x x ≡ Equal
 not_below_itself x =
-    ap (λ o. ordering_then o (ordering_then (nat_cmp (first_of x) (first_of x)) (ordering_then (lock_cmp (lock_of x) (lock_of x)) (nat_cmp (last_of x) (last_of x))))) (same_numbers (row_of x))
-    ∙ ap (λ o. ordering_then o (ordering_then (lock_cmp (lock_of x) (lock_of x)) (nat_cmp (last_of x) (last_of x)))) (same_numbers (first_of x))
-    ∙ ap (λ o. ordering_then o (nat_cmp (last_of x) (last_of x))) (same_locks (lock_of x))
-    ∙ same_numbers (last_of x)
+    ap (λ o. ordering_then o (ordering_then (nat_cmp (first_of x) (first_of x)) (ordering_then (lock_cmp (lock_of x) (lock_of x)) (nat_cmp (last_of x) (last_of x))))) (cmp_itself (row_of x))
+    ∙ ap (λ o. ordering_then o (ordering_then (lock_cmp (lock_of x) (lock_of x)) (nat_cmp (last_of x) (last_of x)))) (cmp_itself (first_of x))
+    ∙ ap (λ o. ordering_then o (nat_cmp (last_of x) (last_of x))) (lock_itself (lock_of x))
+    ∙ cmp_itself (last_of x)
 
 -- ---- pieces
 

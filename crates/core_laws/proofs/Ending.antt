@@ -1,7 +1,6 @@
 -- An empty list of events: by Tick, which only the others, the gate and the clock keep back.
-use Rattle.std.proofs.Common.{◌≡◌, ℕ, Bool, true, false, not, ◌&&◌, ◌||◌, if◌then◌else◌, IsTrue, List, [], ◌∷◌, ◌++◌, nat_lt, nat_le, ◌≤◌, refl, sym, ap, ◌∙◌, arith}
+use Rattle.std.proofs.Common.{◌≡◌, Bool, true, false, not, ◌&&◌, ◌||◌, if◌then◌else◌, IsTrue, List, [], ◌∷◌, ◌++◌, nat_lt, refl, sym, ap, ◌∙◌}
 use Rattle.std.proofs.lemmas.Bool.{false≢true}
-use Rattle.std.proofs.lemmas.Bool.Decides.{nat_tests}
 use Rattle.std.specs.List.{list_all}
 use Rattle.frang_base.specs.declared.limits.TheConstants.{LAST_TICK}
 use Rattle.core_definitions.specs.Cores.{Core}
@@ -44,6 +43,3 @@ nothing_left c e = go c.over e
     go : (over : Bool) → (if over then [] else enabled_among c (all_parties c)) ≡ [] → IsTrue (over || has_line_at_gate c || not (nat_lt c.now LAST_TICK))
     go true e = refl
     go false e = no_tick c (before_tick c (all_parties c)) (after_tick c (all_parties c)) e
-
-pub in_time : (now stamp : ℕ) → IsTrue (nat_le now stamp) → now ≤ stamp
-in_time now stamp h = grind (arith, nat_tests, h)

@@ -1,14 +1,12 @@
 -- The order of events is total, and only the same event is equal in it.
 use Rattle.std.proofs.Common.{◌≡◌, ℕ, true, ◌==◌, if◌then◌else◌, refl, sym, ◌∙◌}
-use Rattle.std.proofs.lemmas.Bool.{false≢true}
 use Rattle.std.proofs.lemmas.Cmp.{nat_cmp_total, on_total, then_total}
 use Rattle.std.specs.BTreeMap.{is_at}
 use Rattle.std.specs.Cmp.{IsTotalOrder}
 use Rattle.std.specs.Ordering.{is_eq, nat_cmp, ordering_then}
-use Rattle.std.specs.declared.cmp.Ordering.{Ordering}
-use Rattle.std.specs.declared.cmp.Ordering.TheVariants.{Less, Equal, Greater}
 use Rattle.frang_base.specs.declared.lock.LockId.{LockId}
 use Rattle.frang_base.specs.declared.lock.Mode.TheVariants.{Shared, Sole}
+use Rattle.frang_base.proofs.Tests.{both_equal}
 use Rattle.lock_definitions.specs.Order.{lock_cmp}
 use Rattle.lock_definitions.proofs.LockOrder.{found_lock, lock_total}
 use Rattle.sector_bytes.proofs.MapLaws.{found}
@@ -75,11 +73,6 @@ made_again (Close a) = refl
 made_again (Read sector) = refl
 made_again (Show place) = refl
 made_again End = refl
-
-both_equal : (o p : Ordering) → is_eq (ordering_then o p) ≡ true → (is_eq o ≡ true) × (is_eq p ≡ true)
-both_equal Less p e = absurd (false≢true e)
-both_equal Equal p e = (refl, e)
-both_equal Greater p e = absurd (false≢true e)
 
 exact : (a b : Event) → is_at (event_cmp a) b ≡ true → b ≡ a
 exact a b e = sym (made_again b) ∙ (λ i. event_at (row i) (first i) (lock i) (last i)) ∙ made_again a

@@ -6,8 +6,9 @@ use Rattle.core_definitions.specs.Events.{Event, Begin, Ask, Fetch, Again, Clear
 use Rattle.core_definitions.specs.Guards.{CanOther}
 use Rattle.core_definitions.specs.Enabled.{all_parties, only}
 use Rattle.core_laws.proofs.Membership.{In, in_left, in_right, in_either, into_only, FromOnly, from_only, into_rows, from_rows}
-use Rattle.core_laws.proofs.Guarding.{Of3, all_2, all_3, of_2, of_3}
+use Rattle.core_laws.proofs.Guarding.{Of3, all_3, of_2, of_3}
 use Rattle.std.specs.List.{list_all}
+use Rattle.std.proofs.lemmas.Bool.{and_from}
 use Rattle.core_definitions.specs.Enabled.{after_tick, before_tick, enabled, enabled_among, may_tick, rows_after, rows_before}
 use Rattle.core_definitions.specs.Guards.{Can, CanGoing, CanTick, has_line_at_gate, is_stale}
 use Rattle.core_laws.proofs.Listing.{begin_listed, begin_only, ask_listed, ask_only, fetch_listed, fetch_only, again_listed, again_only, clear_listed, clear_only, commit_listed, commit_only, answer_listed, answer_only, give_listed, give_only, issue_listed, issue_only, doom_listed, doom_only, resume_listed, resume_only, arrive_listed, arrive_only, lose_listed, lose_only, die_listed, die_only, renew_listed, renew_only, finish_listed, finish_only, close_listed, close_only}
@@ -125,7 +126,7 @@ others_listed c e can =
 
 all_pass : (test : Event → Bool) (es : List Event) → ((e : Event) → In e es → IsTrue (test e)) → IsTrue (list_all test es)
 all_pass test [] h = refl
-all_pass test (e ∷ es) h = all_2 (test e) (list_all test es) (h e (inl refl)) (all_pass test es (λ x i. h x (inr i)))
+all_pass test (e ∷ es) h = and_from (test e) (list_all test es) (h e (inl refl)) (all_pass test es (λ x i. h x (inr i)))
 
 each_passes : (test : Event → Bool) (es : List Event) → IsTrue (list_all test es) → (e : Event) → In e es → IsTrue (test e)
 each_passes test [] h e i = absurd i

@@ -1,14 +1,13 @@
 -- Of the writes in flight each ticket and each sector stands once, step by step.
 use Rattle.std.proofs.Common.{ℕ, ◌≡◌, ◌<◌, ◌+◌, ◌⊎◌, inl, inr, ⊎_elim, Bool, true, false, not, if◌then◌else◌, cond, ◌==◌, List, [], ◌∷◌, ◌++◌, IsTrue, refl, sym, ap, subst, map, filter, arith}
-use Rattle.std.proofs.lemmas.Bool.{false≢true}
-use Rattle.std.proofs.lemmas.Bool.Decides.{nat_tests}
+use Rattle.std.proofs.lemmas.Bool.{eq-eqb, or_right, or_left, both_ways, not-true}
 use Rattle.std.specs.BTreeMap.{is_at}
 use Rattle.std.specs.Map.{keys_of, remove_entry}
 use Rattle.std.specs.Ordering.{nat_cmp}
 use Rattle.sector_bytes.specs.SectorMaps.{without}
 use Rattle.core_definitions.specs.Flights.{Flight, Flights, each_of_server, is_flying, lost}
-use Rattle.core_laws.proofs.Keys.{or_left, or_right}
-use Rattle.core_laws.proofs.Membership.{In}
+use Rattle.core_laws.proofs.Membership.{In, in_contains, contains_in}
+use Rattle.core_laws.specs.Laws.{AreOnce}
 
 abbrev pub sectors_in : Flights → List ℕ
 sectors_in flights = map (λ one. one.1.sector) flights
@@ -17,6 +16,15 @@ sectors_in flights = map (λ one. one.1.sector) flights
 abbrev pub Once : List ℕ → Type 0
 Once [] = Unit {0}
 Once (x ∷ xs) = (In x xs → ⊥) × Once xs
+
+-- by positions it is the same
+pub once_of : (xs : List ℕ) → AreOnce xs → Once xs
+once_of [] o = tt
+once_of (x ∷ xs) o = ((λ i. o.0 (in_contains xs x i)), once_of xs o.1)
+
+pub as_words : (xs : List ℕ) → Once xs → AreOnce xs
+as_words [] o = tt
+as_words (x ∷ xs) o = ((λ h. o.0 (contains_in xs x h)), as_words xs o.1)
 
 -- the tickets are below the next one, and tickets and sectors stand once
 pub record AreSingle (flights : Flights) (tickets : ℕ) : Type 0 where
@@ -52,7 +60,7 @@ each_same server change keeps (one ∷ others) =
 
 -- ---- fewer writes
 
-filtered_in : {X : Type 0} (f : X → ℕ) (test : X → Bool) (xs : List X) (k : ℕ) → In k (map f (filter test xs)) → In k (map f xs)
+pub filtered_in : {X : Type 0} (f : X → ℕ) (test : X → Bool) (xs : List X) (k : ℕ) → In k (map f (filter test xs)) → In k (map f xs)
 filtered_in f test [] k i = absurd i
 filtered_in f test (x ∷ xs) k i = go (test x) (filtered_in f test xs k) i
   where
@@ -61,7 +69,7 @@ filtered_in f test (x ∷ xs) k i = go (test x) (filtered_in f test xs k) i
     go true rest (inr j) = inr (rest j)
     go false rest j = inr (rest j)
 
-filtered_once : {X : Type 0} (f : X → ℕ) (test : X → Bool) (xs : List X) → Once (map f xs) → Once (map f (filter test xs))
+pub filtered_once : {X : Type 0} (f : X → ℕ) (test : X → Bool) (xs : List X) → Once (map f xs) → Once (map f (filter test xs))
 filtered_once f test [] o = tt
 filtered_once f test (x ∷ xs) o = go (test x) (filtered_once f test xs o.1)
   where
@@ -111,12 +119,9 @@ pushed_once f [] x o n = ((λ i. absurd i), tt)
 pushed_once f (y ∷ ys) x o n =
     ((λ i. ⊎_elim (λ a. o.0 a) (λ e. n (inl (sym e))) (pushed_in f ys x (f y) i)), pushed_once f ys x o.1 (λ i. n (inr i)))
 
-same_sector : (x y : ℕ) → x ≡ y → IsTrue (x == y)
-same_sector x y e = grind (arith, nat_tests, e)
-
 flying_in : (flights : Flights) (sector : ℕ) → In sector (sectors_in flights) → IsTrue (is_flying flights sector)
 flying_in [] sector i = absurd i
-flying_in (one ∷ others) sector (inl e) = or_left (one.1.sector == sector) (is_flying others sector) (same_sector one.1.sector sector e)
+flying_in (one ∷ others) sector (inl e) = or_left (one.1.sector == sector) (is_flying others sector) (eq-eqb one.1.sector sector e)
 flying_in (one ∷ others) sector (inr i) = or_right (one.1.sector == sector) (is_flying others sector) (flying_in others sector i)
 
 later : (n m : ℕ) → n < m → n < m + 1
@@ -132,9 +137,5 @@ pub of_issued : (flights : Flights) (tickets : ℕ) (flight : Flight) → IsTrue
 of_issued flights tickets flight alone are = record {
   below = λ ticket i. ⊎_elim (λ a. later ticket tickets (are.below ticket a)) (λ e. at_last ticket tickets e) (pushed_in (λ one. one.0) flights (tickets, flight) ticket i);
   once = pushed_once (λ one. one.0) flights (tickets, flight) are.once (λ i. below_self tickets (are.below tickets i));
-  alone = pushed_once (λ one. one.1.sector) flights (tickets, flight) are.alone (λ i. none (is_flying flights flight.sector) (flying_in flights flight.sector i) alone);
+  alone = pushed_once (λ one. one.1.sector) flights (tickets, flight) are.alone (λ i. both_ways (is_flying flights flight.sector) (not-true (is_flying flights flight.sector) alone) (flying_in flights flight.sector i));
 }
-  where
-    none : (b : Bool) → IsTrue b → IsTrue (not b) → ⊥
-    none true h i = absurd (false≢true i)
-    none false h i = absurd (false≢true h)

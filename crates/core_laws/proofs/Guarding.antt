@@ -1,6 +1,7 @@
 -- Each guard as one test: its facts give the test, and the test gives its facts.
 use Rattle.std.proofs.Common.{ℕ, Bool, true, false, ◌&&◌, ◌||◌, ◌==◌, not, IsTrue, is_some, nat_le, nat_lt, refl}
 use Rattle.std.specs.List.{list_any}
+use Rattle.std.proofs.lemmas.Bool.{and_from}
 use Rattle.frang_base.specs.declared.lock.LockId.{LockId}
 use Rattle.lock_definitions.specs.Calls.{asked_for}
 use Rattle.sector_bytes.specs.SectorMaps.{value_at}
@@ -19,9 +20,6 @@ use Rattle.core_definitions.specs.WriteGuards.{CanDie, CanDoom, CanGive, CanRene
 use Rattle.core_definitions.specs.EndGuards.{CanClose, CanFinish, CanHost, CanRecover, is_recovering, is_recovery, is_through, is_to_recover, may_close, may_finish, may_host, may_recover, may_take, none_paused, none_unsettled}
 
 -- ---- tests joined
-
-pub all_2 : (a b : Bool) → IsTrue a → IsTrue b → IsTrue (a && b)
-all_2 a b ha hb = cc
 
 pub record Of2 (a b : Bool) : Type 0 where
   pub p0 : IsTrue a
@@ -127,7 +125,7 @@ commit_can c a may =
     record { server = all.p0; done = all.p1; cleared = all.p2; room = all.p3 }
 
 pub answer_may : (c : Core) (a : ℕ) → CanAnswer c a → IsTrue (may_answer c a)
-answer_may c a can = all_2 (is_server a) (is_some (due_at c a)) can.server can.due
+answer_may c a can = and_from (is_server a) (is_some (due_at c a)) can.server can.due
 
 pub answer_can : (c : Core) (a : ℕ) → IsTrue (may_answer c a) → CanAnswer c a
 answer_can c a may =
@@ -151,7 +149,7 @@ issuable_can c a sector all may =
     record { who = all.p0; wanted = all.p1; marked = all.p2; alone = all.p3; window = all.p4; early = all.p5; well = all.p6 }
 
 pub doom_may : (c : Core) (a : ℕ) → CanDoom c a → IsTrue (may_doom c a (writes c a))
-doom_may c a can = all_2 (is_server a) (is_crashing (c.servers a) || is_held_back c a (writes c a) || (is_past_lease c a && not (clean_at c a)) || is_faulted (c.servers a)) can.server can.cause
+doom_may c a can = and_from (is_server a) (is_crashing (c.servers a) || is_held_back c a (writes c a) || (is_past_lease c a && not (clean_at c a)) || is_faulted (c.servers a)) can.server can.cause
 
 pub doom_can : (c : Core) (a : ℕ) → IsTrue (may_doom c a (writes c a)) → CanDoom c a
 doom_can c a may =
@@ -167,7 +165,7 @@ resume_can c a may =
     record { server = all.p0; past = all.p1; clean = all.p2 }
 
 pub die_may : (c : Core) (a : ℕ) → CanDie c a → IsTrue (may_die c a)
-die_may c a can = all_2 (is_server a) (is_doomed (c.servers a).phase) can.server can.doomed
+die_may c a can = and_from (is_server a) (is_doomed (c.servers a).phase) can.server can.doomed
 
 pub die_can : (c : Core) (a : ℕ) → IsTrue (may_die c a) → CanDie c a
 die_can c a may =
@@ -191,7 +189,7 @@ recover_can c dead by may =
     record { waits = all.p0; least = all.p1; none = all.p2; taker = all.p3 }
 
 pub finish_may : (c : Core) (by : ℕ) → CanFinish c by → IsTrue (may_finish c by)
-finish_may c by can = all_2 (is_worker c by) (is_recovery (is_through c) (c.servers by).recovery) can.who can.ended
+finish_may c by can = and_from (is_worker c by) (is_recovery (is_through c) (c.servers by).recovery) can.who can.ended
 
 pub finish_can : (c : Core) (by : ℕ) → IsTrue (may_finish c by) → CanFinish c by
 finish_can c by may =

@@ -1,5 +1,6 @@
 -- What each step keeps: the clock doesn't go back, and the locks are those before it after calls of a lock table.
 use Rattle.std.proofs.Common.{ℕ, ◌≡◌, ◌≤◌, ◌+◌, ◌&&◌, Bool, true, false, not, if◌then◌else◌, List, [], ◌∷◌, Option, Some, None, refl, is_some, arith, subst, sym, ◌==◌}
+use Rattle.std.proofs.Math.Nat.{le_refl}
 use Rattle.frang_base.specs.declared.lock.LockId.{LockId}
 use Rattle.frang_base.specs.declared.op.Op.{Op}
 use Rattle.frang_base.specs.declared.reply.Reply.{Reply}
@@ -45,9 +46,6 @@ either : (c : Core) (test : Bool) (d e : Core) → Keeps c d → Keeps c e → K
 either c true d e k l = k
 either c false d e k l = l
 
-le_self : (n : ℕ) → n ≤ n
-le_self n = omega arith
-
 -- ---- effects by cases
 
 -- a failed call of a core that has this clock and these locks
@@ -77,7 +75,7 @@ answered_with_keeps : (c : Core) (a : ℕ) (under : Under) (answer : Reply) (ope
 answered_with_keeps c a under answer None = same c _ refl refl
 answered_with_keeps c a under answer (Some operation) =
     let r : Called c.locks (locks_after c.locks a under operation) = called c.locks a (is_unmount operation && not (is_some under.fixed)) in
-    record { now = le_self c.now; calls = r.calls; locks = r.are }
+    record { now = le_refl c.now; calls = r.calls; locks = r.are }
 
 answered_keeps : (c : Core) (a : ℕ) (under : Option Under) (answer : Option Reply) → Keeps c (answered_under c a under answer)
 answered_keeps c a None None = same c _ refl refl
@@ -87,8 +85,8 @@ answered_keeps c a (Some under) (Some answer) = answered_with_keeps c a under an
 
 given_keeps : (c : Core) (a : ℕ) (lock : LockId) (asked : Option AskedFor) → Keeps c (given_for c a lock asked)
 given_keeps c a lock None = same c _ refl refl
-given_keeps c a lock (Some Downgrade) = one_call c _ (DowngradeCall a lock) (le_self c.now) refl
-given_keeps c a lock (Some Release) = one_call c _ (ReleaseCall a lock) (le_self c.now) refl
+given_keeps c a lock (Some Downgrade) = one_call c _ (DowngradeCall a lock) (le_refl c.now) refl
+given_keeps c a lock (Some Release) = one_call c _ (ReleaseCall a lock) (le_refl c.now) refl
 
 issued_keeps : (c : Core) (a sector : ℕ) (write : Option Write) → Keeps c (issued_as c a sector write)
 issued_keeps c a sector None = same c _ refl refl
@@ -118,7 +116,7 @@ died_keeps c a Dead = same c _ refl refl
 
 finished_keeps : (c : Core) (by : ℕ) (recovery : Option Recovery) → Keeps c (finished_from c by recovery)
 finished_keeps c by None = same c _ refl refl
-finished_keeps c by (Some recovery) = one_call c _ (ClearCall recovery.dead) (le_self c.now) refl
+finished_keeps c by (Some recovery) = one_call c _ (ClearCall recovery.dead) (le_refl c.now) refl
 
 host_keeps : (c : Core) (line : Option Line) → Keeps c (host_answered_line c line)
 host_keeps c None = same c _ refl refl
@@ -128,7 +126,7 @@ fetch_failed_keeps : (c : Core) (a : ℕ) → Keeps c (fetch_failed c a)
 fetch_failed_keeps c a = either c (is_off (c.servers a).phase) _ _ (same c _ refl refl) (failed_keeps c c a refl refl)
 
 closed_keeps : (c : Core) (a : ℕ) → Keeps c (closed c a)
-closed_keeps c a = either c (clean_at c a) _ _ (one_call c _ (ClearCall a) (le_self c.now) refl) (same c _ refl refl)
+closed_keeps c a = either c (clean_at c a) _ _ (one_call c _ (ClearCall a) (le_refl c.now) refl) (same c _ refl refl)
 
 -- ---- each event
 
@@ -169,7 +167,7 @@ read_keeps c sector (PutFailed new) = failed_keeps c c host_party refl refl
 
 pub event_keeps : (c : Core) (event : Event) (heard : Heard) → Keeps c (after c event heard)
 event_keeps c (Begin a) heard = same c _ refl refl
-event_keeps c (Ask a lock mode) heard = one_call c _ (Want a lock mode) (le_self c.now) refl
+event_keeps c (Ask a lock mode) heard = one_call c _ (Want a lock mode) (le_refl c.now) refl
 event_keeps c (Fetch a sector) heard = fetch_keeps c a sector heard
 event_keeps c (Again a) heard = same c _ refl refl
 event_keeps c (Clear a block) heard = same c _ refl refl
@@ -178,13 +176,13 @@ event_keeps c (Answer a) heard = answered_keeps c a (c.servers a).under (due_at 
 event_keeps c (Give a lock) heard = given_keeps c a lock (asked_for c.locks a lock)
 event_keeps c (Issue a sector) heard = issued_keeps c a sector (value_at (writes c a) sector)
 event_keeps c (Doom a) heard = same c _ refl refl
-event_keeps c (Resume a) heard = one_call c _ (ClearCall a) (le_self c.now) refl
+event_keeps c (Resume a) heard = one_call c _ (ClearCall a) (le_refl c.now) refl
 event_keeps c (Arrive ticket) heard = arrived_keeps c ticket heard (value_at c.flights ticket)
 event_keeps c (Lose ticket) heard = same c _ refl refl
 event_keeps c (Die a) heard = died_keeps c a (c.servers a).phase
-event_keeps c (Renew a) heard = one_call c _ (Extend a (lease_to c.setting c.now)) (le_self c.now) refl
+event_keeps c (Renew a) heard = one_call c _ (Extend a (lease_to c.setting c.now)) (le_refl c.now) refl
 event_keeps c Tick heard = one_call c _ (Extend host_party (lease_to c.setting (c.now + 1))) (next_moment c.now) refl
-event_keeps c (Recover dead by) heard = one_call c _ (TakeLog dead by c.now (expiry_of c by)) (le_self c.now) refl
+event_keeps c (Recover dead by) heard = one_call c _ (TakeLog dead by c.now (expiry_of c by)) (le_refl c.now) refl
 event_keeps c (Load by slot) heard = load_keeps c by slot heard
 event_keeps c (Look by sector) heard = look_keeps c by sector heard
 event_keeps c (Finish by) heard = finished_keeps c by (c.servers by).recovery
@@ -198,18 +196,18 @@ event_keeps c End heard = same c _ refl refl
 
 step_rises : (s v : State) → Step s v → s.core.now ≤ v.core.now
 step_rises s v (Event_ event heard makes) = (event_keeps s.core event heard).now
-step_rises s v (Enter a line next) = le_self s.core.now
-step_rises s v (Hold a on server) = le_self s.core.now
-step_rises s v (Flush a server) = le_self s.core.now
-step_rises s v (Relock locks are same wait) = le_self s.core.now
-step_rises s v (Note line may) = le_self s.core.now
-step_rises s v (Peek sector) = le_self s.core.now
+step_rises s v (Enter a line next) = le_refl s.core.now
+step_rises s v (Hold a on server) = le_refl s.core.now
+step_rises s v (Flush a server) = le_refl s.core.now
+step_rises s v (Relock locks are same wait) = le_refl s.core.now
+step_rises s v (Note line may) = le_refl s.core.now
+step_rises s v (Peek sector) = le_refl s.core.now
 
 then_rises : (x y z : ℕ) → x ≤ y → y ≤ z → x ≤ z
 then_rises x y z h i = omega (arith, h, i)
 
 pub run_rises : (s v : State) → Run s v → s.core.now ≤ v.core.now
-run_rises s v Stays = le_self s.core.now
+run_rises s v Stays = le_refl s.core.now
 run_rises s w (Goes {v = v} step run) = then_rises s.core.now v.core.now w.core.now (step_rises s v step) (run_rises v w run)
 
 step_locks : (s v : State) → Step s v → AreLocks s.core.locks → AreLocks v.core.locks

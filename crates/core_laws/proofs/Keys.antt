@@ -1,6 +1,6 @@
 -- Keys of maps and members of lists of numbers.
 use Rattle.std.proofs.Common.{ℕ, ◌≡◌, ◌⊎◌, inl, inr, Bool, true, false, if◌then◌else◌, cond, ◌||◌, List, [], ◌∷◌, Some, IsTrue, is_some, nat_eq, refl, sym, ◌∙◌, arith}
-use Rattle.std.proofs.lemmas.Bool.{false≢true}
+use Rattle.std.proofs.lemmas.Bool.{false≢true, eq-eqb, eqb-true}
 use Rattle.std.proofs.lemmas.Bool.Decides.{nat_tests}
 use Rattle.std.specs.BTreeMap.{is_at}
 use Rattle.std.specs.Map.{keys_of, lookup}
@@ -21,24 +21,10 @@ pub or_cases : (x y : Bool) → IsTrue (x || y) → IsTrue x ⊎ IsTrue y
 or_cases true y h = inl refl
 or_cases false y h = inr h
 
-pub or_left : (x y : Bool) → IsTrue x → IsTrue (x || y)
-or_left true y h = refl
-or_left false y h = absurd (cc)
-
-pub or_right : (x y : Bool) → IsTrue y → IsTrue (x || y)
-or_right true y h = refl
-or_right false y h = h
-
 -- ---- numbers
 
-same_number : (x y : ℕ) → nat_eq y x ≡ true → y ≡ x
-same_number x y e = grind (arith, nat_tests, e)
-
-is_number : (x y : ℕ) → y ≡ x → nat_eq y x ≡ true
-is_number x y e = grind (arith, nat_tests, e)
-
 member_by : (b : Bool) (x y : ℕ) (ys : List ℕ) → nat_eq y x ≡ b → (IsTrue (member x ys) → In x ys) → IsTrue (if b then true else member x ys) → In x (y ∷ ys)
-member_by true x y ys e rest h = inl (same_number x y e)
+member_by true x y ys e rest h = inl (eqb-true y x e)
 member_by false x y ys e rest h = inr (rest h)
 
 pub member_in : (x : ℕ) (xs : List ℕ) → IsTrue (member x xs) → In x xs
@@ -47,7 +33,7 @@ member_in x (y ∷ ys) h = member_by (nat_eq y x) x y ys refl (member_in x ys) h
 
 in_by : (b : Bool) (x y : ℕ) (ys : List ℕ) → nat_eq y x ≡ b → (In x ys → IsTrue (member x ys)) → In x (y ∷ ys) → IsTrue (if b then true else member x ys)
 in_by true x y ys e rest i = refl
-in_by false x y ys e rest (inl s) = absurd (false≢true (sym e ∙ is_number x y s))
+in_by false x y ys e rest (inl s) = absurd (false≢true (sym e ∙ eq-eqb y x s))
 in_by false x y ys e rest (inr j) = rest j
 
 pub in_member : (x : ℕ) (xs : List ℕ) → In x xs → IsTrue (member x xs)

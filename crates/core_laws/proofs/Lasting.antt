@@ -1,12 +1,13 @@
 -- Over every run: how long leases and the writes in flight last. Event by event; a Tick comes only where no lease can be renewed, and no write of a server that is Up, or
 -- of the host, is in flight.
 use Rattle.std.proofs.Common.{◌≡◌, ℕ, ◌≤◌, ◌<◌, ◌⊎◌, inl, inr, Bool, true, false, ◌&&◌, ◌||◌, ◌==◌, ◌+◌, ◌-◌, ◌%◌, cond, if◌then◌else◌, IsTrue, is_some, List, [], ◌∷◌, Option, Some, None, nat_eq, nat_lt, refl, sym, ap, ◌∙◌, subst, arith}
-use Rattle.std.proofs.lemmas.Bool.{false≢true}
-use Rattle.std.proofs.lemmas.Bool.Decides.{nat_tests}
+use Rattle.std.proofs.lemmas.Bool.{false≢true, ltb-false, ltb-true, and_from, eq-eqb, or_parts, or_right, or_left, eqb-true}
 use Rattle.std.specs.BTreeMap.{is_at}
 use Rattle.std.specs.List.{Contains}
 use Rattle.std.specs.Map.{keys_of}
 use Rattle.std.specs.Ordering.{nat_cmp}
+use Rattle.std.proofs.lemmas.Option.{same_Some, none-some}
+use Rattle.std.proofs.Math.Nat.{le_refl}
 use Rattle.frang_base.specs.Functions.{put}
 use Rattle.frang_base.specs.declared.lock.LockId.{LockId}
 use Rattle.frang_base.specs.declared.op.Op.{Op}
@@ -14,6 +15,7 @@ use Rattle.frang_base.specs.declared.op.Op.TheVariants as op
 use Rattle.frang_base.specs.declared.reply.Reply.{Reply}
 use Rattle.frang_base.specs.declared.reply.Reply.TheVariants as reply
 use Rattle.frang_base.specs.declared.script.Line.{Line}
+use Rattle.frang_base.proofs.Tests.{at_itself}
 use Rattle.lock_definitions.specs.declared.claim.AskedFor.{AskedFor}
 use Rattle.lock_definitions.specs.declared.claim.AskedFor.TheVariants.{Release, Downgrade}
 use Rattle.lock_definitions.specs.Calls.{asked_for}
@@ -46,15 +48,14 @@ use Rattle.core_definitions.specs.Effects.{after}
 use Rattle.core_definitions.specs.Runs.{State, Step, Event_, Enter, Hold, Flush, Relock, Note, Peek, Run, first_state, Makes}
 use Rattle.core_laws.specs.Laws.{AreOnce}
 use Rattle.core_laws.proofs.Along.{along}
-use Rattle.core_laws.proofs.Flying.{Once}
-use Rattle.core_laws.proofs.Guarding.{all_2}
+use Rattle.core_laws.proofs.Flying.{Once, once_of}
 use Rattle.core_laws.proofs.Kept.{setting_of_run}
-use Rattle.core_laws.proofs.Keys.{or_left, or_right}
 use Rattle.core_laws.proofs.Membership.{In, contains_in, in_contains, into_map}
 use Rattle.core_laws.proofs.Single.{tickets_once}
 use Rattle.core_laws.proofs.Ashore.{acknowledged_phase, again_phase, ashore_of_run, begun_phase, clean_lands, fetched_phase, wanting_phase}
 use Rattle.core_laws.proofs.FlightLists.{AllFlights, all_changed, all_flights, all_joined, all_landed, all_lost, in_flights}
-use Rattle.core_laws.proofs.Memory.{in_some, none_some, opened, same_number, works}
+use Rattle.core_laws.proofs.Memory.{opened, works}
+use Rattle.core_laws.proofs.Resting.{server_no_host}
 
 -- what counts of a moment: until when a lease lasts that begins then, and how long before its end a write may last arrive
 record Moment : Type 0 where
@@ -76,24 +77,10 @@ Ends now flight = flight.stamp + now.margin ≤ now.until
 
 none_last : (a : ℕ) (now : Moment) (flights : Flights) → has_flights flights a ≡ false → AllFlights (Lasts a now) flights
 none_last a now [] h = tt
-none_last a now (one ∷ others) h = (here, none_last a now others (right_false (is_of_mount a one.1) (has_flights others a) h))
+none_last a now (one ∷ others) h = (here, none_last a now others (or_parts (is_of_mount a one.1) (has_flights others a) h).1)
   where
-    right_false : (x y : Bool) → (x || y) ≡ false → y ≡ false
-    right_false true y e = absurd (false≢true (sym e))
-    right_false false y e = e
-
-    left_false : (x y : Bool) → (x || y) ≡ false → x ≡ false
-    left_false true y e = absurd (false≢true (sym e))
-    left_false false y e = refl
-
-    same : (x y : ℕ) → x ≡ y → (x == y) ≡ true
-    same x y e = grind (arith, nat_tests, e)
-
-    both : (x y : Bool) → x ≡ true → y ≡ true → (x && y) ≡ true
-    both x y e f = cc
-
     here : Lasts a now one.1
-    here server present = absurd (false≢true (sym (left_false (is_of_mount a one.1) (has_flights others a) h) ∙ both (one.1.server == a) one.1.present (same one.1.server a server) present))
+    here server present = absurd (false≢true (sym (or_parts (is_of_mount a one.1) (has_flights others a) h).0 ∙ and_from (one.1.server == a) one.1.present (eq-eqb one.1.server a server) present))
 
 -- what changes neither server nor stamp, and makes no write one of the present mount
 record IsMild (change : Flight → Flight) : Type 0 where
@@ -169,10 +156,7 @@ at_most : (until expiry : ℕ) → expiry ≡ until → expiry ≤ until
 at_most until expiry e = omega (arith, e)
 
 outlasts : (setting : Setting) → setting.margin_ticks < setting.lease_ticks
-outlasts setting = less setting.margin_ticks setting.lease_ticks setting.lease_outlasts
-  where
-    less : (x y : ℕ) → IsTrue (nat_lt x y) → x < y
-    less x y h = grind (arith, nat_tests, h)
+outlasts setting = ltb-true setting.margin_ticks setting.lease_ticks setting.lease_outlasts
 
 worker : (s u h : Bool) → IsTrue ((s && u) || h) → (IsTrue s × IsTrue u) ⊎ IsTrue h
 worker true true h w = inl (refl, refl)
@@ -187,7 +171,7 @@ module _ (c d : Core) (a : ℕ) (new : Server) (servers : d.servers ≡ put c.se
   by_case P here there i = subst (λ f. P i (f i)) (sym servers) (go (nat_eq i a) refl)
     where
       go : (b : Bool) → nat_eq i a ≡ b → P i (if b then new else c.servers i)
-      go true e = subst (λ n. P n new) (sym (same_number a i e)) here
+      go true e = subst (λ n. P n new) (sym (eqb-true i a e)) here
       go false e = there i
 
   up_then : IsTrue (is_server a) → (IsTrue (is_up (c.servers a).phase) × (new.expiry ≡ (c.servers a).expiry)) ⊎ Begins a (moment_of c) d.flights new →
@@ -199,7 +183,7 @@ module _ (c d : Core) (a : ℕ) (new : Server) (servers : d.servers ≡ put c.se
       AllFlights (Lasts a (moment_of c)) d.flights
   own_then server (inl stays) =
       are.lasts a (moment_of c)
-      (l.writes a (or_left (is_server a && is_up (c.servers a).phase) (a == host_party) (all_2 (is_server a) (is_up (c.servers a).phase) server stays.0)))
+      (l.writes a (or_left (is_server a && is_up (c.servers a).phase) (a == host_party) (and_from (is_server a) (is_up (c.servers a).phase) server stays.0)))
   own_then server (inr begins) = begins.1
 
   works_then : IsTrue (works a new) → AllFlights (Lasts a (moment_of c)) d.flights
@@ -311,32 +295,32 @@ module _ (c : Core) (a : ℕ) (under : Under) (server : Server) where
   mounted_answer : (off failed read : Bool) (answer : Reply) → is_off server.phase ≡ off →
       (if off then (if failed then Some reply.Io else due_if read reply.Mounted) else None) ≡ Some answer →
       Answered (moment_of c) server (done op.Mount answer)
-  mounted_answer false failed read answer o e = absurd (none_some answer e)
-  mounted_answer true true read answer o e = subst (λ x. Answered (moment_of c) server (done op.Mount x)) (in_some reply.Io answer e) (inl (refl, λ t. t))
-  mounted_answer true false false answer o e = absurd (none_some answer e)
-  mounted_answer true false true answer o e = subst (λ x. Answered (moment_of c) server (done op.Mount x)) (in_some reply.Mounted answer e) (inr (refl, o))
+  mounted_answer false failed read answer o e = absurd (none-some answer e)
+  mounted_answer true true read answer o e = subst (λ x. Answered (moment_of c) server (done op.Mount x)) (same_Some reply.Io answer e) (inl (refl, λ t. t))
+  mounted_answer true false false answer o e = absurd (none-some answer e)
+  mounted_answer true false true answer o e = subst (λ x. Answered (moment_of c) server (done op.Mount x)) (same_Some reply.Mounted answer e) (inr (refl, o))
 
   open_answer : (operation : Op) (answer : Reply) → own_answer c.setting.logs c.flights a server under operation ≡ Some answer →
       Answered (moment_of c) server (done operation answer)
-  open_answer (op.Create path) answer e = absurd (none_some answer e)
-  open_answer (op.Mkdir path) answer e = absurd (none_some answer e)
-  open_answer (op.Link path to) answer e = absurd (none_some answer e)
-  open_answer (op.Symlink path target) answer e = absurd (none_some answer e)
-  open_answer (op.Unlink path) answer e = absurd (none_some answer e)
-  open_answer (op.Rmdir path) answer e = absurd (none_some answer e)
-  open_answer (op.Rename path to) answer e = absurd (none_some answer e)
-  open_answer (op.Write path off bytes) answer e = absurd (none_some answer e)
-  open_answer (op.Fill path off len byte) answer e = absurd (none_some answer e)
-  open_answer (op.Truncate path len) answer e = absurd (none_some answer e)
-  open_answer (op.Read path off len) answer e = absurd (none_some answer e)
-  open_answer (op.Stat path) answer e = absurd (none_some answer e)
-  open_answer (op.List path) answer e = absurd (none_some answer e)
-  open_answer (op.Readlink path) answer e = absurd (none_some answer e)
-  open_answer (op.Time path) answer e = absurd (none_some answer e)
+  open_answer (op.Create path) answer e = absurd (none-some answer e)
+  open_answer (op.Mkdir path) answer e = absurd (none-some answer e)
+  open_answer (op.Link path to) answer e = absurd (none-some answer e)
+  open_answer (op.Symlink path target) answer e = absurd (none-some answer e)
+  open_answer (op.Unlink path) answer e = absurd (none-some answer e)
+  open_answer (op.Rmdir path) answer e = absurd (none-some answer e)
+  open_answer (op.Rename path to) answer e = absurd (none-some answer e)
+  open_answer (op.Write path off bytes) answer e = absurd (none-some answer e)
+  open_answer (op.Fill path off len byte) answer e = absurd (none-some answer e)
+  open_answer (op.Truncate path len) answer e = absurd (none-some answer e)
+  open_answer (op.Read path off len) answer e = absurd (none-some answer e)
+  open_answer (op.Stat path) answer e = absurd (none-some answer e)
+  open_answer (op.List path) answer e = absurd (none-some answer e)
+  open_answer (op.Readlink path) answer e = absurd (none-some answer e)
+  open_answer (op.Time path) answer e = absurd (none-some answer e)
   open_answer op.Sync answer e = inl (refl, λ t. t)
   open_answer op.Mount answer e = mounted_answer (is_off server.phase) under.get_failed (is_read c.setting.logs under.slots) answer refl e
   open_answer op.Unmount answer e = inl (refl, λ t. absurd (false≢true t))
-  open_answer op.Crash answer e = absurd (none_some answer e)
+  open_answer op.Crash answer e = absurd (none-some answer e)
   open_answer (op.CrashAt k) answer e = inl (refl, λ t. t)
   open_answer (op.CutAt k) answer e = inl (refl, λ t. t)
   open_answer op.Stall answer e = inl (refl, λ t. absurd (false≢true t))
@@ -406,7 +390,7 @@ module _ (c : Core) (a sector : ℕ) (write : Write) (who : IsTrue (is_worker c 
 
       go : (b : Bool) → nat_eq i a ≡ b →
           ((if b then new else c.servers i).phase ≡ (c.servers i).phase) × ((if b then new else c.servers i).expiry ≡ (c.servers i).expiry)
-      go true e = (ap (λ n. (c.servers n).phase) (sym (same_number a i e)), ap (λ n. (c.servers n).expiry) (sym (same_number a i e)))
+      go true e = (ap (λ n. (c.servers n).phase) (sym (eqb-true i a e)), ap (λ n. (c.servers n).expiry) (sym (eqb-true i a e)))
       go false e = (refl, refl)
 
   expiry_low : lease_to c.setting c.now ≤ expiry_of c a + 1
@@ -424,11 +408,8 @@ module _ (c : Core) (a sector : ℕ) (write : Write) (who : IsTrue (is_worker c 
   expiry_high : expiry_of c a ≤ lease_to c.setting c.now
   expiry_high = go (a == host_party)
     where
-      self : (n : ℕ) → n ≤ n
-      self n = omega arith
-
       go : (h : Bool) → (if h then lease_to c.setting c.now else (c.servers a).expiry) ≤ lease_to c.setting c.now
-      go true = self (lease_to c.setting c.now)
+      go true = le_refl (lease_to c.setting c.now)
       go false = l.most a
 
   low : (until margin expiry : ℕ) → until ≤ expiry + 1 → until ≤ expiry - margin + margin + 1
@@ -491,7 +472,7 @@ resumed_leased c a can l =
 renewed_leased : (c : Core) (a : ℕ) → IsTrue (is_server a) → IsTrue (is_up (c.servers a).phase) → Leased c → Leased (after c (Renew a) Nothing)
 renewed_leased c a server up l =
     moved c (after c (Renew a) Nothing) a _ refl refl (same_flights c.flights) (at_most (lease_to c.setting c.now) (lease_to c.setting c.now) refl)
-    (λ t. inr (refl, l.writes a (or_left (is_server a && is_up (c.servers a).phase) (a == host_party) (all_2 (is_server a) (is_up (c.servers a).phase) server up)))) l
+    (λ t. inr (refl, l.writes a (or_left (is_server a && is_up (c.servers a).phase) (a == host_party) (and_from (is_server a) (is_up (c.servers a).phase) server up)))) l
 
 finished_leased : (c : Core) (by : ℕ) (recovery : Option Recovery) → Leased c → Leased (finished_from c by recovery)
 finished_leased c by None l = l
@@ -516,9 +497,6 @@ found_there : (flights : Flights) → Once (keys_of flights) → (one : ℕ × F
 found_there [] o one i = absurd i
 found_there (x ∷ xs) o one i = go (is_at (nat_cmp one.0) x.0) refl i (found_there xs o.1 one)
   where
-    at_itself : (n : ℕ) → is_at (nat_cmp n) n ≡ true
-    at_itself n = grind (arith, nat_tests)
-
     go : (b : Bool) → is_at (nat_cmp one.0) x.0 ≡ b → In one (x ∷ xs) → (In one xs → value_at xs one.0 ≡ Some one.1) →
         cond b (Some x.1) (value_at xs one.0) ≡ Some one.1
     go true e (inl same) rest = ap (λ z. Some z.1) same
@@ -526,21 +504,14 @@ found_there (x ∷ xs) o one i = go (is_at (nat_cmp one.0) x.0) refl i (found_th
     go false e (inl same) rest = absurd (false≢true (sym e ∙ ap (λ z. is_at (nat_cmp one.0) z.0) same ∙ at_itself one.0))
     go false e (inr j) rest = rest j
 
-once_of : (xs : List ℕ) → AreOnce xs → Once xs
-once_of [] o = tt
-once_of (x ∷ xs) o = ((λ i. o.0 (in_contains xs x i)), once_of xs o.1)
-
 module _ (c : Core) (can : CanTick c) (once : Once (keys_of c.flights)) (l : Leased c) where
   -- a lease that could be renewed would be
   renewed_first : (a : ℕ) → IsTrue (is_server a) → IsTrue (is_up (c.servers a).phase) → lease_to c.setting c.now ≤ (c.servers a).expiry
   renewed_first a server up = go (nat_lt (c.servers a).expiry (lease_to c.setting c.now)) refl
     where
-      not_less : (m n : ℕ) → nat_lt m n ≡ false → n ≤ m
-      not_less m n e = grind (arith, nat_tests, e)
-
       go : (b : Bool) → nat_lt (c.servers a).expiry (lease_to c.setting c.now) ≡ b → lease_to c.setting c.now ≤ (c.servers a).expiry
       go true e = absurd (false≢true (can.quiet (Renew a) (record { server = server; up = up; less = e })))
-      go false e = not_less (c.servers a).expiry (lease_to c.setting c.now) e
+      go false e = ltb-false (c.servers a).expiry (lease_to c.setting c.now) e
 
   -- a write that could arrive would, but for those of who is Still or Dead
   gone : (one : ℕ × Flight) → In one c.flights → IsTrue (is_by_gone c one.1)
@@ -559,14 +530,11 @@ module _ (c : Core) (can : CanTick c) (once : Once (keys_of c.flights)) (l : Lea
   works_not (Doomed fate) true h g away w = false≢true g
   works_not Dead true h g away w = false≢true (sym (away refl) ∙ w)
 
-  server_away : (a : ℕ) → is_server a ≡ true → (a == host_party) ≡ false
-  server_away a h = grind (arith, nat_tests, h)
-
   none_of : (a : ℕ) → IsTrue (works a (c.servers a)) → (one : ℕ × Flight) → In one c.flights → Lasts a (moment_of (after c Tick Nothing)) one.1
   none_of a w one i server present =
       absurd
       (works_not (c.servers a).phase (is_server a) (a == host_party)
-      (subst (λ n. IsTrue (is_server n && (is_still (c.servers n).phase || is_dead (c.servers n).phase))) server (gone one i)) (server_away a) w)
+      (subst (λ n. IsTrue (is_server n && (is_still (c.servers n).phase || is_dead (c.servers n).phase))) server (gone one i)) (server_no_host a) w)
 
   flushed_same : (i : ℕ) → (((after c Tick Nothing).servers i).phase ≡ (c.servers i).phase) × (((after c Tick Nothing).servers i).expiry ≡ (c.servers i).expiry)
   flushed_same i = go ((c.now + 1) % c.setting.flush_ticks == 0)

@@ -2,6 +2,7 @@
 use Rattle.std.proofs.Common.{not, ℕ, ◌≡◌, ⊎_elim, Bool, ◌&&◌, List, Option, Some, None, IsTrue, is_some, map, refl, sym, subst}
 use Rattle.std.specs.List.{flat_map}
 use Rattle.std.specs.Map.{keys_of}
+use Rattle.std.proofs.lemmas.Bool.{and_from, or_right, or_left}
 use Rattle.frang_base.specs.Functions.{member}
 use Rattle.frang_base.specs.declared.lock.LockId.{LockId}
 use Rattle.frang_base.specs.declared.lock.Mode.{Mode}
@@ -19,8 +20,8 @@ use Rattle.core_definitions.specs.EndGuards.{CanClose, CanFinish, may_close, may
 use Rattle.core_definitions.specs.Guards.{CanOther}
 use Rattle.core_definitions.specs.Enabled.{agains, all_parties, answers, arrives, asks_at, asks_of, begins, clears, clears_at, closes, commits, dies, dooms, fetches, finishes, gives, issues, loses, only, only_if, party_of, renews, resumes}
 use Rattle.core_laws.proofs.Membership.{In, in_left, in_right, in_either, into_flat, FromFlat, from_flat, into_map, FromMap, from_map, into_only, FromOnly, from_only, into_only_if, FromOnlyIf, from_only_if}
-use Rattle.core_laws.proofs.Guarding.{begin_can, begin_may, again_can, again_may, commit_can, commit_may, answer_can, answer_may, give_can, give_may, issuable_can, issuable_may, doom_can, doom_may, resume_can, resume_may, die_can, die_may, renew_can, renew_may, finish_can, finish_may, close_can, close_may, Of2, Of3, all_2, all_3, of_2, of_3}
-use Rattle.core_laws.proofs.Keys.{claimed, in_member, key_value, member_in, or_cases, or_left, or_right, value_key}
+use Rattle.core_laws.proofs.Guarding.{begin_can, begin_may, again_can, again_may, commit_can, commit_may, answer_can, answer_may, give_can, give_may, issuable_can, issuable_may, doom_can, doom_may, resume_can, resume_may, die_can, die_may, renew_can, renew_may, finish_can, finish_may, close_can, close_may, Of2, Of3, all_3, of_2, of_3}
+use Rattle.core_laws.proofs.Keys.{claimed, in_member, key_value, member_in, or_cases, value_key}
 use Rattle.core_laws.proofs.Parties.{FromParties, from_parties, into_parties, server_in_parties, worker_in_parties}
 
 -- ---- rows of one test a party
@@ -142,7 +143,7 @@ pub ask_listed : (c : Core) (a : ℕ) (lock : LockId) (mode : Mode) → CanAsk c
 ask_listed c a lock mode can =
     into_parties c (asks_of c) a (Ask a lock mode) (server_in_parties a can.server)
     (subst (λ at. In (Ask a lock mode) (asks_at c a at)) (sym can.least)
-    (into_only (is_server a && is_new_wish c a lock mode) (Ask a lock mode) (all_2 (is_server a) (is_new_wish c a lock mode) can.server can.new)))
+    (into_only (is_server a && is_new_wish c a lock mode) (Ask a lock mode) (and_from (is_server a) (is_new_wish c a lock mode) can.server can.new)))
 
 pub ask_only : (c : Core) (e : Event) → In e (flat_map (asks_of c) (all_parties c)) → CanOther c e
 ask_only c e i =
@@ -186,7 +187,7 @@ fetch_needed c a sector server h =
     in_left (Fetch a sector) (map (Fetch a) (only_if (is_server a && is_up (c.servers a).phase) (needed_by (stage c a))))
     (map (Fetch a) (only_if (is_server a && is_off (c.servers a).phase && asks is_mount (c.servers a)) (slots_under c.setting.logs a (c.servers a).under)))
     (into_map (Fetch a) (only_if (is_server a && is_up (c.servers a).phase) (needed_by (stage c a))) sector
-    (into_only_if (is_server a && is_up (c.servers a).phase) (needed_by (stage c a)) sector (all_2 (is_server a) (is_up (c.servers a).phase) server t.p0)
+    (into_only_if (is_server a && is_up (c.servers a).phase) (needed_by (stage c a)) sector (and_from (is_server a) (is_up (c.servers a).phase) server t.p0)
     (member_in sector (needed_by (stage c a)) t.p1)))
 
 fetch_slot : (c : Core) (a sector : ℕ) → IsTrue (is_server a) → IsTrue (is_unread c a sector) → In (Fetch a sector) (fetches c (party_of c a))
@@ -216,7 +217,7 @@ needed_can c a e i =
     (record {
       server = t.p0;
       lacks = or_left (is_needed c a (stage c a) m.from) (is_unread c a m.from)
-          (all_2 (is_up (c.servers a).phase) (member m.from (needed_by (stage c a))) t.p1 (in_member m.from (needed_by (stage c a)) o.there));
+          (and_from (is_up (c.servers a).phase) (member m.from (needed_by (stage c a))) t.p1 (in_member m.from (needed_by (stage c a)) o.there));
     })
 
 unread_can : (c : Core) (a : ℕ) (e : Event) → In e (map (Fetch a) (only_if (is_server a && is_off (c.servers a).phase && asks is_mount (c.servers a)) (slots_under c.setting.logs a (c.servers a).under))) → CanOther c e
@@ -262,7 +263,7 @@ issue_listed c a sector can =
     into_parties c (issues c) a (Issue a sector) (worker_in_parties c a can.issuable.who)
     (into_flat (λ s. only (may_issue c a s (writes c a)) (Issue a s)) (keys_of (writes c a)) sector (Issue a sector) (value_key (writes c a) sector can.issuable.wanted)
     (into_only (may_issue c a sector (writes c a)) (Issue a sector)
-    (all_2 (is_issuable c a sector (writes c a)) (not (is_at_last (c.servers a).arming)) (issuable_may c a sector (writes c a) can.issuable) can.unarmed)))
+    (and_from (is_issuable c a sector (writes c a)) (not (is_at_last (c.servers a).arming)) (issuable_may c a sector (writes c a) can.issuable) can.unarmed)))
 
 pub issue_only : (c : Core) (e : Event) → In e (flat_map (issues c) (all_parties c)) → CanOther c e
 issue_only c e i =

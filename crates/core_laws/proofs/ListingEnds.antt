@@ -1,7 +1,7 @@
 -- Each row of the end of the list has exactly the events of its kind that may happen: recoveries, the host's lines, the tree.
-use Rattle.std.proofs.Common.{arith, ℕ, ◌≡◌, Bool, true, false, ◌&&◌, ◌||◌, ◌==◌, List, Option, Some, None, IsTrue, nat_lt, length, refl, sym, subst}
-use Rattle.std.proofs.lemmas.Bool.Decides.{nat_tests}
+use Rattle.std.proofs.Common.{ℕ, ◌≡◌, Bool, true, false, ◌&&◌, ◌||◌, ◌==◌, List, Option, Some, None, IsTrue, nat_lt, length, refl, sym, subst}
 use Rattle.std.specs.List.{flat_map}
+use Rattle.std.proofs.lemmas.Bool.{eqb-true, eq-eqb, and_from}
 use Rattle.frang_base.specs.declared.script.Line.{Line}
 use Rattle.lock_definitions.specs.Locks.{log_hold}
 use Rattle.core_definitions.specs.Logs.{is_none, unread}
@@ -16,7 +16,7 @@ use Rattle.core_definitions.specs.EndGuards.{is_hold_over, is_to_recover, may_ta
 use Rattle.core_definitions.specs.Guards.{CanOther}
 use Rattle.core_definitions.specs.Enabled.{all_parties, host_line, loads, loads_for, looks_for, looks, only, only_if, reads, recovers, shows, ends}
 use Rattle.core_laws.proofs.Membership.{In, into_flat, FromFlat, from_flat, into_map, FromMap, from_map, into_only, FromOnly, from_only, into_only_if, FromOnlyIf, from_only_if}
-use Rattle.core_laws.proofs.Guarding.{recover_can, recover_may, host_can, host_may, Of2, Of4, all_2, all_4, of_2, of_4}
+use Rattle.core_laws.proofs.Guarding.{recover_can, recover_may, host_can, host_may, Of2, Of4, all_4, of_2, of_4}
 use Rattle.core_laws.proofs.Keys.{in_member, member_in}
 use Rattle.core_laws.proofs.Parties.{FromParties, from_parties, into_parties, server_in, worker_in_parties}
 
@@ -112,11 +112,8 @@ look_only c e i =
 host_in : (c : Core) (number : ℕ) (line : Option Line) → IsTrue (is_line (λ l. l.number == number) line) → IsTrue (may_host c number) → In (HostLine number) (host_line c line)
 host_in c number None h may = absurd (cc)
 host_in c number (Some line) h may =
-    subst (λ n. In (HostLine n) (only (may_host c line.number) (HostLine line.number))) (same_line line.number number h)
-    (into_only (may_host c line.number) (HostLine line.number) (subst (λ n. IsTrue (may_host c n)) (sym (same_line line.number number h)) may))
-  where
-    same_line : (x y : ℕ) → IsTrue (x == y) → x ≡ y
-    same_line x y e = grind (arith, nat_tests, e)
+    subst (λ n. In (HostLine n) (only (may_host c line.number) (HostLine line.number))) (eqb-true line.number number h)
+    (into_only (may_host c line.number) (HostLine line.number) (subst (λ n. IsTrue (may_host c n)) (sym (eqb-true line.number number h)) may))
 
 pub host_listed : (c : Core) (number : ℕ) → CanHost c number → In (HostLine number) (host_line c (next_of c host_party))
 host_listed c number can = host_in c number (next_of c host_party) can.next (host_may c number can)
@@ -148,7 +145,7 @@ read_only c e i =
     subst (CanOther c) m.is (record { answered = t.p0; off = t.p1; landed = t.p2; free = t.p3; needed = in_member m.from (tree_needs c) o.there })
 
 tree_is_read : (c : Core) → IsTreeRead c → IsTrue (is_tree_read c)
-tree_is_read c r = all_2 (is_at_rest c) (is_none (tree_needs c)) (rests c r.answered r.off r.landed r.free) r.whole
+tree_is_read c r = and_from (is_at_rest c) (is_none (tree_needs c)) (rests c r.answered r.off r.landed r.free) r.whole
 
 tree_read_by : (c : Core) → IsTrue (is_tree_read c) → IsTreeRead c
 tree_read_by c h =
@@ -160,7 +157,7 @@ pub show_listed : (c : Core) (place : ℕ) → CanShow c place → In (Show plac
 show_listed c place can =
     subst (λ n. In (Show n) (shows c)) (sym can.next)
     (into_only (is_tree_read c && nat_lt c.shown (length (tree_lines c))) (Show c.shown)
-    (all_2 (is_tree_read c) (nat_lt c.shown (length (tree_lines c))) (tree_is_read c can.read) (subst (λ n. IsTrue (nat_lt n (length (tree_lines c)))) can.next can.there)))
+    (and_from (is_tree_read c) (nat_lt c.shown (length (tree_lines c))) (tree_is_read c can.read) (subst (λ n. IsTrue (nat_lt n (length (tree_lines c)))) can.next can.there)))
 
 pub show_only : (c : Core) (e : Event) → In e (shows c) → CanOther c e
 show_only c e i =
@@ -169,19 +166,13 @@ show_only c e i =
     let t : Of2 (is_tree_read c) (nat_lt c.shown (length (tree_lines c))) = of_2 (is_tree_read c) (nat_lt c.shown (length (tree_lines c))) o.passes in
     subst (CanOther c) o.is (record { read = tree_read_by c t.p0; next = refl; there = t.p1 })
 
-number_is : (x y : ℕ) → x ≡ y → IsTrue (x == y)
-number_is x y e = grind (arith, nat_tests, e)
-
-number_same : (x y : ℕ) → IsTrue (x == y) → x ≡ y
-number_same x y e = grind (arith, nat_tests, e)
-
 pub end_listed : (c : Core) → CanEnd c → In End (ends c)
 end_listed c can =
     into_only (is_tree_read c && c.shown == length (tree_lines c)) End
-    (all_2 (is_tree_read c) (c.shown == length (tree_lines c)) (tree_is_read c can.read) (number_is c.shown (length (tree_lines c)) can.said))
+    (and_from (is_tree_read c) (c.shown == length (tree_lines c)) (tree_is_read c can.read) (eq-eqb c.shown (length (tree_lines c)) can.said))
 
 pub end_only : (c : Core) (e : Event) → In e (ends c) → CanOther c e
 end_only c e i =
     let o : FromOnly (is_tree_read c && c.shown == length (tree_lines c)) End e = from_only (is_tree_read c && c.shown == length (tree_lines c)) End e i in
     let t : Of2 (is_tree_read c) (c.shown == length (tree_lines c)) = of_2 (is_tree_read c) (c.shown == length (tree_lines c)) o.passes in
-    subst (CanOther c) o.is (record { read = tree_read_by c t.p0; said = number_same c.shown (length (tree_lines c)) t.p1 })
+    subst (CanOther c) o.is (record { read = tree_read_by c t.p0; said = eqb-true c.shown (length (tree_lines c)) t.p1 })

@@ -1,5 +1,5 @@
 -- What tests of whole lists say of each element.
-use Rattle.std.proofs.Common.{ℕ, zero, suc, ◌≡◌, ◌<◌, ◌⊎◌, inl, inr, Bool, true, false, not, cond, filter, List, [], ◌∷◌, Option, Some, None, refl, sym, ap, ◌∙◌, subst, arith}
+use Rattle.std.proofs.Common.{ℕ, zero, suc, ◌≡◌, ◌<◌, ◌⊎◌, inl, inr, Bool, true, false, cond, filter, List, [], ◌∷◌, Option, Some, None, refl, sym, ap, ◌∙◌, subst, arith}
 use Rattle.std.proofs.lemmas.Bool.{false≢true}
 use Rattle.std.proofs.lemmas.List.Folds.{list_all-append}
 use Rattle.std.specs.List.{cons_option, filter_map, list_all}
@@ -46,8 +46,3 @@ made_of {Y = Y} make (z ∷ zs) x y (inr i) m = go (make z) (made_of make zs x y
     go : (o : Option Y) → In y (filter_map make zs) → In y (cons_option o (filter_map make zs))
     go None j = j
     go (Some w) j = inr j
-
--- passed where its opposite fails
-pub turned : (b : Bool) → not b ≡ false → b ≡ true
-turned true e = refl
-turned false e = absurd (false≢true (sym e))

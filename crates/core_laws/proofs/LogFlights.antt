@@ -1,6 +1,6 @@
 -- The numbers of a server's log that are in flight beside its ring: which are, and what each change of the ring and of the writes in flight makes of that.
-use Rattle.std.proofs.Common.{◌≡◌, ℕ, suc, ◌<◌, ◌≤◌, ◌⊎◌, inl, inr, Bool, true, false, not, ◌&&◌, ◌||◌, ◌==◌, ◌+◌, ◌-◌, if◌then◌else◌, cond, IsTrue, List, [], ◌∷◌, ◌++◌, length, drop, min, Option, Some, None, nat_le, nat_lt, nat_eq, refl, sym, ap, ◌∙◌, subst, arith}
-use Rattle.std.proofs.lemmas.Bool.{false≢true}
+use Rattle.std.proofs.Common.{◌≡◌, ℕ, suc, ◌<◌, ◌≤◌, ◌⊎◌, inl, inr, Bool, true, false, not, ◌&&◌, ◌==◌, ◌+◌, ◌-◌, if◌then◌else◌, cond, IsTrue, List, [], ◌∷◌, ◌++◌, length, drop, min, Option, Some, None, nat_lt, nat_eq, refl, sym, ap, ◌∙◌, subst, arith}
+use Rattle.std.proofs.lemmas.Bool.{false≢true, eqb-true, leb-true, or_parts, or_from}
 use Rattle.std.proofs.lemmas.Bool.Decides.{nat_tests}
 use Rattle.std.proofs.lemmas.List.{length-set}
 use Rattle.std.specs.BTreeMap.{is_at}
@@ -8,6 +8,7 @@ use Rattle.std.specs.List.{cons_option, list_any}
 use Rattle.std.specs.Prelude.{slice_set}
 use Rattle.std.specs.Map.{remove_entry}
 use Rattle.std.specs.Ordering.{nat_cmp}
+use Rattle.std.proofs.lemmas.Option.{same_Some, none-some}
 use Rattle.frang_base.specs.declared.change.Redo.{Redo}
 use Rattle.disk_definitions.specs.Regions.{sector_of}
 use Rattle.disk_definitions.specs.declared.region.Region.TheVariants as region
@@ -24,8 +25,8 @@ use Rattle.core_definitions.specs.Settings.{LogRules, slot_of}
 use Rattle.core_laws.proofs.FlightLists.{AllFlights, all_landed, in_flights}
 use Rattle.core_laws.specs.Facts.{KeepsWindows, log_slot, log_slots, slot_in}
 use Rattle.core_laws.specs.Laws.{AreOnce}
-use Rattle.core_laws.proofs.Flying.{Once, sectors_in}
-use Rattle.core_laws.proofs.Membership.{In, contains_in, in_contains, into_map}
+use Rattle.core_laws.proofs.Flying.{Once, sectors_in, once_of, as_words}
+use Rattle.core_laws.proofs.Membership.{In, contains_in, into_map}
 
 -- ---- which numbers fly
 
@@ -41,23 +42,12 @@ is_log_flight server number flight = is_of_mount server flight && is_number numb
 abbrev pub flies : Flights → ℕ → ℕ → Bool
 flies flights server number = list_any (λ one. is_log_flight server number one.1) flights
 
-either_false : (x y : Bool) → x ≡ false → y ≡ false → (x || y) ≡ false
-either_false x y e f = cc
-
-left_false : (x y : Bool) → (x || y) ≡ false → x ≡ false
-left_false true y e = absurd (false≢true (sym e))
-left_false false y e = refl
-
-right_false : (x y : Bool) → (x || y) ≡ false → y ≡ false
-right_false true y e = absurd (false≢true (sym e))
-right_false false y e = e
-
 -- a server of whose present mount nothing is in flight has no number in flight
 pub none_flies : (flights : Flights) (a number : ℕ) → has_flights flights a ≡ false → flies flights a number ≡ false
 none_flies [] a number e = refl
 none_flies (one ∷ others) a number e =
-    either_false (is_log_flight a number one.1) (flies others a number) (ap (λ b. b && is_number number one.1.purpose) (left_false (is_of_mount a one.1) (has_flights others a) e))
-    (none_flies others a number (right_false (is_of_mount a one.1) (has_flights others a) e))
+    or_from (is_log_flight a number one.1) (flies others a number) (ap (λ b. b && is_number number one.1.purpose) (or_parts (is_of_mount a one.1) (has_flights others a) e).0)
+    (none_flies others a number (or_parts (is_of_mount a one.1) (has_flights others a) e).1)
 
 -- a change that makes no number fly
 pub fewer_changed : (server : ℕ) (change : Flight → Flight) (a number : ℕ) →
@@ -65,12 +55,12 @@ pub fewer_changed : (server : ℕ) (change : Flight → Flight) (a number : ℕ)
     flies flights a number ≡ false → flies (each_of_server server change flights) a number ≡ false
 fewer_changed server change a number keeps [] e = refl
 fewer_changed server change a number keeps (one ∷ others) e =
-    either_false _ (flies (each_of_server server change others) a number) (go (one.1.server == server))
-    (fewer_changed server change a number keeps others (right_false (is_log_flight a number one.1) (flies others a number) e))
+    or_from _ (flies (each_of_server server change others) a number) (go (one.1.server == server))
+    (fewer_changed server change a number keeps others (or_parts (is_log_flight a number one.1) (flies others a number) e).1)
   where
     go : (b : Bool) → is_log_flight a number (if b then (one.0, change one.1) else one).1 ≡ false
-    go true = keeps one.1 (left_false (is_log_flight a number one.1) (flies others a number) e)
-    go false = left_false (is_log_flight a number one.1) (flies others a number) e
+    go true = keeps one.1 (or_parts (is_log_flight a number one.1) (flies others a number) e).0
+    go false = (or_parts (is_log_flight a number one.1) (flies others a number) e).0
 
 past : (x y : Bool) → ((x && false) && y) ≡ false
 past true y = refl
@@ -81,31 +71,31 @@ fewer_behind server a number flights e = fewer_changed server (λ flight. record
 
 pub fewer_lost : (server a number : ℕ) (flights : Flights) → flies flights a number ≡ false → flies (lost server flights) a number ≡ false
 fewer_lost server a number [] e = refl
-fewer_lost server a number (one ∷ others) e = go (one.1.server == server) (fewer_lost server a number others (right_false (is_log_flight a number one.1) (flies others a number) e))
+fewer_lost server a number (one ∷ others) e = go (one.1.server == server) (fewer_lost server a number others (or_parts (is_log_flight a number one.1) (flies others a number) e).1)
   where
     go : (b : Bool) → flies (lost server others) a number ≡ false → flies (cond (not b) (one ∷ lost server others) (lost server others)) a number ≡ false
     go true rest = rest
-    go false rest = either_false (is_log_flight a number one.1) (flies (lost server others) a number) (left_false (is_log_flight a number one.1) (flies others a number) e) rest
+    go false rest = or_from (is_log_flight a number one.1) (flies (lost server others) a number) (or_parts (is_log_flight a number one.1) (flies others a number) e).0 rest
 
 pub fewer_landed : (ticket a number : ℕ) (flights : Flights) → flies flights a number ≡ false → flies (without flights ticket) a number ≡ false
 fewer_landed ticket a number [] e = refl
 fewer_landed ticket a number (one ∷ others) e = go (is_at (nat_cmp ticket) one.0) (fewer_landed ticket a number others there)
   where
     there : flies others a number ≡ false
-    there = right_false (is_log_flight a number one.1) (flies others a number) e
+    there = (or_parts (is_log_flight a number one.1) (flies others a number) e).1
 
     go : (b : Bool) → flies (without others ticket) a number ≡ false →
         flies (cond b others (one ∷ remove_entry (is_at (nat_cmp ticket)) others)) a number ≡ false
     go true rest = there
-    go false rest = either_false (is_log_flight a number one.1) (flies (without others ticket) a number) (left_false (is_log_flight a number one.1) (flies others a number) e) rest
+    go false rest = or_from (is_log_flight a number one.1) (flies (without others ticket) a number) (or_parts (is_log_flight a number one.1) (flies others a number) e).0 rest
 
 -- one more
 pub more_joined : (a number ticket : ℕ) (flight : Flight) (flights : Flights) → is_log_flight a number flight ≡ false →
     flies flights a number ≡ false → flies (flights ++ (ticket, flight) ∷ []) a number ≡ false
-more_joined a number ticket flight [] away e = either_false (is_log_flight a number flight) false away refl
+more_joined a number ticket flight [] away e = or_from (is_log_flight a number flight) false away refl
 more_joined a number ticket flight (one ∷ others) away e =
-    either_false (is_log_flight a number one.1) (flies (others ++ (ticket, flight) ∷ []) a number) (left_false (is_log_flight a number one.1) (flies others a number) e)
-    (more_joined a number ticket flight others away (right_false (is_log_flight a number one.1) (flies others a number) e))
+    or_from (is_log_flight a number one.1) (flies (others ++ (ticket, flight) ∷ []) a number) (or_parts (is_log_flight a number one.1) (flies others a number) e).0
+    (more_joined a number ticket flight others away (or_parts (is_log_flight a number one.1) (flies others a number) e).1)
 
 -- ---- a ring beside what flies
 
@@ -148,16 +138,13 @@ with_record logs fly ring (Some redo) room s = record {
   issued = s.issued;
 }
   where
-    fits : (needed all : ℕ) → IsTrue (nat_le needed all) → needed ≤ all
-    fits needed all h = grind (arith, nat_tests, h)
-
     within : (all gone waits more low : ℕ) → gone + waits ≤ low + all → low ≤ gone → more ≤ all - (gone + waits - low) → gone + (waits + more) ≤ low + all
     within all gone waits more low h i j = omega (arith, h, i, j)
 
     kept : sent ring + length (appended ring redo).waiting ≤ ring.given_up + logs.room
     kept =
         subst (λ n. sent ring + n ≤ ring.given_up + logs.room) (sym (length-framed (last ring + 1) ring.waiting (frame_bytes redo)))
-        (within logs.room (sent ring) (length ring.waiting) (need ring redo) ring.given_up s.windows.kept s.windows.given (fits (need ring redo) (free_of logs.room ring) room))
+        (within logs.room (sent ring) (length ring.waiting) (need ring redo) ring.given_up s.windows.kept s.windows.given (leb-true (need ring redo) (free_of logs.room ring) room))
 
 -- the oldest records are given up
 pub without_oldest : (logs : LogRules) (fly : ℕ → Bool) (ring : Ring) → IsShipped logs fly ring → IsShipped logs fly (reclaimed_of logs.quarter ring)
@@ -298,20 +285,13 @@ AllAtSlots logs flights = AllFlights (IsAtSlot logs) flights
 
 -- ---- a write that lands was the only one of its number
 
-in_words : (xs : List ℕ) → AreOnce xs → Once xs
-in_words [] o = tt
-in_words (x ∷ xs) o = ((λ i. o.0 (in_contains xs x i)), in_words xs o.1)
-
-found_flight : (x y : Flight) → Some x ≡ Some y → x ≡ y
-found_flight x y e = cc
-
 sector_found : (flights : Flights) (ticket : ℕ) (flight : Flight) → value_at flights ticket ≡ Some flight → In flight.sector (sectors_in flights)
 sector_found [] ticket flight e = absurd (cc)
 sector_found (x ∷ xs) ticket flight e = go (is_at (nat_cmp ticket) x.0) (sector_found xs ticket flight) e
   where
     go : (b : Bool) → (value_at xs ticket ≡ Some flight → In flight.sector (sectors_in xs)) → cond b (Some x.1) (value_at xs ticket) ≡ Some flight →
         In flight.sector (sectors_in (x ∷ xs))
-    go true rest e = inl (ap (λ f. f.sector) (found_flight x.1 flight e))
+    go true rest e = inl (ap (λ f. f.sector) (same_Some x.1 flight e))
     go false rest e = inr (rest e)
 
 -- no other write in flight is of the sector of the one with this ticket
@@ -325,13 +305,13 @@ alone (x ∷ xs) ticket flight e o one i same = go (is_at (nat_cmp ticket) x.0) 
 
     go : (b : Bool) → (value_at xs ticket ≡ Some flight → In one (without xs ticket) → ⊥) → cond b (Some x.1) (value_at xs ticket) ≡ Some flight →
         In one (cond b xs (x ∷ without xs ticket)) → ⊥
-    go true rest e j = o.0 (listed one x.1.sector j (same ∙ sym (ap (λ f. f.sector) (found_flight x.1 flight e))))
+    go true rest e j = o.0 (listed one x.1.sector j (same ∙ sym (ap (λ f. f.sector) (same_Some x.1 flight e))))
     go false rest e (inl f) = o.0 (subst (λ k. In k (sectors_in xs)) (sym same ∙ sym (ap (λ one. one.1.sector) f)) (sector_found xs ticket flight e))
     go false rest e (inr j) = rest e j
 
 none_any : {X : Type 0} (test : X → Bool) (xs : List X) → ((x : X) → In x xs → test x ≡ false) → list_any test xs ≡ false
 none_any test [] h = refl
-none_any test (x ∷ xs) h = either_false (test x) (list_any test xs) (h x (inl refl)) (none_any test xs (λ y i. h y (inr i)))
+none_any test (x ∷ xs) h = or_from (test x) (list_any test xs) (h x (inl refl)) (none_any test xs (λ y i. h y (inr i)))
 
 -- so its number doesn't fly any more
 pub none_left : (logs : LogRules) (flights : Flights) (ticket : ℕ) (flight : Flight) (number : ℕ) → value_at flights ticket ≡ Some flight →
@@ -362,19 +342,16 @@ none_left logs flights ticket flight number e p once at here = none_any (λ one.
         both true false z t = absurd (false≢true t)
         both false y z t = absurd (false≢true t)
 
-        same : (x y : ℕ) → IsTrue (x == y) → x ≡ y
-        same x y h = grind (arith, nat_tests, h)
-
         parts : IsTrue (f.server == flight.server) × IsTrue (n == number)
         parts = both (f.server == flight.server) f.present (n == number) t
 
         same_place : log_sector logs f.server n ≡ log_sector logs flight.server number
-        same_place = ap (λ a. log_sector logs a n) (same f.server flight.server parts.0) ∙ ap (log_sector logs flight.server) (same n number parts.1)
+        same_place = ap (λ a. log_sector logs a n) (eqb-true f.server flight.server parts.0) ∙ ap (log_sector logs flight.server) (eqb-true n number parts.1)
 
     other : (one : ℕ × Flight) → In one (without flights ticket) → (b : Bool) → is_log_flight flight.server number one.1 ≡ b → b ≡ false
     other one i false t = refl
     other one i true t =
-        absurd (alone flights ticket flight e (in_words (sectors_in flights) once) one i (of_purpose one.1 one.1.purpose refl t (in_flights (IsAtSlot logs) (without flights ticket) one i (all_landed (IsAtSlot logs) ticket flights at))))
+        absurd (alone flights ticket flight e (once_of (sectors_in flights) once) one i (of_purpose one.1 one.1.purpose refl t (in_flights (IsAtSlot logs) (without flights ticket) one i (all_landed (IsAtSlot logs) ticket flights at))))
 
 pub slot_of_found : (logs : LogRules) (flights : Flights) (ticket : ℕ) (flight : Flight) → value_at flights ticket ≡ Some flight →
     AllAtSlots logs flights → IsAtSlot logs flight
@@ -382,7 +359,7 @@ slot_of_found logs [] ticket flight e at = absurd (cc)
 slot_of_found logs (x ∷ xs) ticket flight e at = go (is_at (nat_cmp ticket) x.0) (λ f. slot_of_found logs xs ticket flight f at.1) e
   where
     go : (b : Bool) → (value_at xs ticket ≡ Some flight → IsAtSlot logs flight) → cond b (Some x.1) (value_at xs ticket) ≡ Some flight → IsAtSlot logs flight
-    go true rest e = subst (IsAtSlot logs) (found_flight x.1 flight e) at.0
+    go true rest e = subst (IsAtSlot logs) (same_Some x.1 flight e) at.0
     go false rest e = rest e
 
 -- ---- slots
@@ -390,22 +367,13 @@ slot_of_found logs (x ∷ xs) ticket flight e at = go (is_at (nat_cmp ticket) x.
 sector_at_slot : (logs : LogRules) (a slot : ℕ) (f : Flight) → log_slot logs a f ≡ Some slot → IsAtSlot logs f → f.sector ≡ sector_of (region.Log a slot)
 sector_at_slot logs a slot f e at = go (f.server == a) refl f.purpose refl e
   where
-    none_some : (n : ℕ) → None ≡ Some n → ⊥
-    none_some n e = absurd (cc)
-
-    in_some : (m n : ℕ) → Some m ≡ Some n → m ≡ n
-    in_some m n e = cc
-
-    same : (x y : ℕ) → (x == y) ≡ true → x ≡ y
-    same x y h = grind (arith, nat_tests, h)
-
     go : (b : Bool) → (f.server == a) ≡ b → (purpose : Purpose) → f.purpose ≡ purpose → (if b then slot_in logs purpose else None) ≡ Some slot →
         f.sector ≡ sector_of (region.Log a slot)
-    go false s purpose p e = absurd (none_some slot e)
-    go true s (InPlace cover) p e = absurd (none_some slot e)
-    go true s OfRecovery p e = absurd (none_some slot e)
+    go false s purpose p e = absurd (none-some slot e)
+    go true s (InPlace cover) p e = absurd (none-some slot e)
+    go true s OfRecovery p e = absurd (none-some slot e)
     go true s (OfLog number) p e =
-        subst (IsAtSlotFor logs f.server f.sector) p at ∙ ap (λ n. log_sector logs n number) (same f.server a s) ∙ ap (λ n. sector_of (region.Log a n)) (in_some (slot_of logs number) slot e)
+        subst (IsAtSlotFor logs f.server f.sector) p at ∙ ap (λ n. log_sector logs n number) (eqb-true f.server a s) ∙ ap (λ n. sector_of (region.Log a n)) (same_Some (slot_of logs number) slot e)
 
 -- the sector of a slot in flight is among the sectors in flight
 slot_sector : (logs : LogRules) (a slot : ℕ) (flights : Flights) → AllAtSlots logs flights → In slot (log_slots logs a flights) →
@@ -428,9 +396,5 @@ slots_single logs a (x ∷ xs) at o = go (log_slot logs a x.1) refl (slots_singl
     go None e rest = rest
     go (Some k) e rest = ((λ i. o.0 (subst (λ n. In n (sectors_in xs)) (sym (sector_at_slot logs a k x.1 e at.0)) (slot_sector logs a k xs at.1 i))), rest)
 
-as_words : (xs : List ℕ) → Once xs → AreOnce xs
-as_words [] o = tt
-as_words (x ∷ xs) o = ((λ h. o.0 (contains_in xs x h)), as_words xs o.1)
-
 pub slots_once : (logs : LogRules) (a : ℕ) (flights : Flights) → AllAtSlots logs flights → AreOnce (sectors_in flights) → AreOnce (log_slots logs a flights)
-slots_once logs a flights at once = as_words (log_slots logs a flights) (slots_single logs a flights at (in_words (sectors_in flights) once))
+slots_once logs a flights at once = as_words (log_slots logs a flights) (slots_single logs a flights at (once_of (sectors_in flights) once))

@@ -1,8 +1,8 @@
 -- Who is Off or Dead has nothing in memory: event by event. Who recovers a log does so for a server that is Dead, and alone.
-use Rattle.std.proofs.Common.{◌≡◌, ℕ, Bool, true, false, not, ◌&&◌, ◌||◌, ◌==◌, if◌then◌else◌, IsTrue, is_some, Option, Some, None, filter, nat_eq, refl, sym, ap, ◌∙◌, subst, arith}
-use Rattle.std.proofs.lemmas.Bool.{false≢true}
-use Rattle.std.proofs.lemmas.Bool.Decides.{nat_tests}
+use Rattle.std.proofs.Common.{◌≡◌, ℕ, Bool, true, false, not, ◌&&◌, ◌||◌, ◌==◌, if◌then◌else◌, IsTrue, is_some, Option, Some, None, filter, nat_eq, refl, sym, ap, ◌∙◌, subst}
+use Rattle.std.proofs.lemmas.Bool.{false≢true, and_parts, both_ways, eqb-true, or_right}
 use Rattle.std.specs.Option.{option_map}
+use Rattle.std.proofs.lemmas.Option.{same_Some, none-some}
 use Rattle.frang_base.specs.Functions.{put}
 use Rattle.frang_base.specs.declared.lock.LockId.{LockId}
 use Rattle.frang_base.specs.declared.op.Op.{Op}
@@ -30,7 +30,6 @@ use Rattle.core_definitions.specs.LineGuards.{is_server}
 use Rattle.core_definitions.specs.LineEffects.{again_by, answered_by, answered_open, answered_under, answered_with, begun_line, begun_with, cached_under, call_failed, committed_at, cover_needed, failed_by, fetched_by, slot_read, with_under}
 use Rattle.core_definitions.specs.WriteEffects.{acknowledged, acknowledged_for, arrived_as, arrived_from, clean_now, counted, died_in, given_for, issued_as, landed, taken_in}
 use Rattle.core_laws.specs.Facts.{HasNothing}
-use Rattle.core_laws.proofs.Keys.{or_right}
 
 abbrev pub dead_of : Option Recovery → Option ℕ
 dead_of recovery = option_map (λ r. r.dead) recovery
@@ -42,22 +41,12 @@ is_resting phase = is_off phase || is_dead phase
 abbrev pub works : ℕ → Server → Bool
 works i server = (is_server i && is_up server.phase) || i == host_party
 
-pub same_number : (x y : ℕ) → nat_eq y x ≡ true → y ≡ x
-same_number x y e = grind (arith, nat_tests, e)
-
 -- ---- what an event does to a server, but for the begin and the end of a recovery
 
 pub record Mild (i : ℕ) (old new : Server) : Type 0 where
   pub dead : IsTrue (is_dead old.phase) → IsTrue (is_dead new.phase)
   pub saves : (d : ℕ) → IsTrue (works i new) → dead_of new.recovery ≡ Some d → IsTrue (works i old) × (dead_of old.recovery ≡ Some d)
   pub bare : (i == host_party) ≡ false → (IsTrue (is_resting old.phase) → HasNothing old) → IsTrue (is_resting new.phase) → HasNothing new
-
-pub not_both : (b : Bool) → b ≡ true → b ≡ false → ⊥
-not_both true t f = false≢true (sym f)
-not_both false t f = false≢true t
-
-pub none_some : {X : Type 0} (x : X) → None ≡ Some x → ⊥
-none_some x e = absurd (cc)
 
 kept : (i : ℕ) (old new : Server) → new.phase ≡ old.phase → dead_of new.recovery ≡ dead_of old.recovery → (IsTrue (is_resting old.phase) → HasNothing old → HasNothing new) → Mild i old new
 kept i old new p r n = record {
@@ -83,22 +72,22 @@ self i server = unmoved i server server refl refl refl refl refl refl refl
 
 -- it is neither Off nor Dead, and stays so
 pub busy : (i : ℕ) (old new : Server) → is_resting old.phase ≡ false → new.phase ≡ old.phase → dead_of new.recovery ≡ dead_of old.recovery → Mild i old new
-busy i old new n p r = kept i old new p r (λ h x. absurd (not_both (is_resting old.phase) h n))
+busy i old new n p r = kept i old new p r (λ h x. absurd (both_ways (is_resting old.phase) n h))
 
 -- it isn't Dead, and has no recovery then
 pub fresh : (i : ℕ) (old new : Server) → is_dead old.phase ≡ false → new.recovery ≡ None → (IsTrue (is_resting new.phase) → HasNothing new) → Mild i old new
 fresh i old new n r h = record {
-  dead = λ d. absurd (not_both (is_dead old.phase) d n);
-  saves = λ d w e. absurd (none_some d (sym (ap dead_of r) ∙ e));
+  dead = λ d. absurd (both_ways (is_dead old.phase) n d);
+  saves = λ d w e. absurd (none-some d (sym (ap dead_of r) ∙ e));
   bare = λ away b t. h t;
 }
 
 -- it isn't Dead, and neither Off nor Dead nor Up then
 pub leaving : (i : ℕ) (old new : Server) → is_dead old.phase ≡ false → is_resting new.phase ≡ false → is_up new.phase ≡ false → new.recovery ≡ old.recovery → Mild i old new
 leaving i old new n r u e = record {
-  dead = λ d. absurd (not_both (is_dead old.phase) d n);
+  dead = λ d. absurd (both_ways (is_dead old.phase) n d);
   saves = λ d w f. (host (is_server i) (is_up new.phase) (is_up old.phase) (i == host_party) u w, sym (ap dead_of e) ∙ f);
-  bare = λ away b t. absurd (not_both (is_resting new.phase) t r);
+  bare = λ away b t. absurd (both_ways (is_resting new.phase) r t);
 }
   where
     host : (s v w h : Bool) → v ≡ false → IsTrue ((s && v) || h) → IsTrue ((s && w) || h)
@@ -142,17 +131,13 @@ dead_is Still h = absurd (false≢true h)
 dead_is (Doomed fate) h = absurd (false≢true h)
 dead_is Dead h = refl
 
-pub first_of : (x y : Bool) → IsTrue (x && y) → IsTrue x
-first_of true y h = refl
-first_of false y h = h
-
 -- a line over paths that has come somewhere is at a server that is Up
 pub staged : (c : Core) (a : ℕ) (at : Stage) → stage c a ≡ Some at → IsTrue (is_up (c.servers a).phase)
 staged c a at e = go (is_up (c.servers a).phase) (asks is_path_op (c.servers a)) (stage_under c.setting c.locks a (c.servers a).cache (c.servers a).under) e
   where
     go : (u k : Bool) (x : Option Stage) → (if u && k then x else None) ≡ Some at → IsTrue u
     go true k x e = refl
-    go false k x e = absurd (none_some at e)
+    go false k x e = absurd (none-some at e)
 
 -- ---- what the servers keep
 
@@ -178,7 +163,7 @@ pub put_safe : (servers : ℕ → Server) (a : ℕ) (new : Server) → Safe serv
 put_safe servers a new g m = all_safe servers (put servers a new) (λ i. go i (nat_eq i a) refl) g
   where
     go : (i : ℕ) (b : Bool) → nat_eq i a ≡ b → Mild i (servers i) (if b then new else servers i)
-    go i true e = subst (λ k. Mild k (servers k) new) (sym (same_number a i e)) m
+    go i true e = subst (λ k. Mild k (servers k) new) (sym (eqb-true i a e)) m
     go i false e = self i (servers i)
 
 abbrev pub Good : Core → Type 0
@@ -252,10 +237,7 @@ committed_good c a (Some (Finishing outcome)) e g = put_safe c.servers a _ g (bu
 
 pub given_due : (test : Bool) (x y : Reply) → due_if test x ≡ Some y → IsTrue test
 given_due true x y e = refl
-given_due false x y e = absurd (none_some y e)
-
-pub in_some : {X : Type 0} (x y : X) → Some x ≡ Some y → x ≡ y
-in_some x y e = cc
+given_due false x y e = absurd (none-some y e)
 
 module _ (c : Core) (a : ℕ) (under : Under) (server : Server) where
   abbrev done : Op → Reply → Server
@@ -269,34 +251,34 @@ module _ (c : Core) (a : ℕ) (under : Under) (server : Server) where
 
   mounted_mild : (off failed read : Bool) (answer : Reply) → is_off server.phase ≡ off → (if off then (if failed then Some reply.Io else due_if read reply.Mounted) else None) ≡ Some answer →
       Mild a server (done op.Mount answer)
-  mounted_mild false failed read answer o e = absurd (none_some answer e)
-  mounted_mild true true read answer o e = subst (λ x. Mild a server (done op.Mount x)) (in_some reply.Io answer e) same_mild
-  mounted_mild true false false answer o e = absurd (none_some answer e)
+  mounted_mild false failed read answer o e = absurd (none-some answer e)
+  mounted_mild true true read answer o e = subst (λ x. Mild a server (done op.Mount x)) (same_Some reply.Io answer e) same_mild
+  mounted_mild true false false answer o e = absurd (none-some answer e)
   mounted_mild true false true answer o e =
-      subst (λ x. Mild a server (done op.Mount x)) (in_some reply.Mounted answer e) (fresh a _ _ (off_dead_not server.phase o) refl (λ h. absurd (false≢true h)))
+      subst (λ x. Mild a server (done op.Mount x)) (same_Some reply.Mounted answer e) (fresh a _ _ (off_dead_not server.phase o) refl (λ h. absurd (false≢true h)))
 
   open_mild : (operation : Op) (answer : Reply) → own_answer c.setting.logs c.flights a server under operation ≡ Some answer → Mild a server (done operation answer)
-  open_mild (op.Create path) answer e = absurd (none_some answer e)
-  open_mild (op.Mkdir path) answer e = absurd (none_some answer e)
-  open_mild (op.Link path to) answer e = absurd (none_some answer e)
-  open_mild (op.Symlink path target) answer e = absurd (none_some answer e)
-  open_mild (op.Unlink path) answer e = absurd (none_some answer e)
-  open_mild (op.Rmdir path) answer e = absurd (none_some answer e)
-  open_mild (op.Rename path to) answer e = absurd (none_some answer e)
-  open_mild (op.Write path off bytes) answer e = absurd (none_some answer e)
-  open_mild (op.Fill path off len byte) answer e = absurd (none_some answer e)
-  open_mild (op.Truncate path len) answer e = absurd (none_some answer e)
-  open_mild (op.Read path off len) answer e = absurd (none_some answer e)
-  open_mild (op.Stat path) answer e = absurd (none_some answer e)
-  open_mild (op.List path) answer e = absurd (none_some answer e)
-  open_mild (op.Readlink path) answer e = absurd (none_some answer e)
-  open_mild (op.Time path) answer e = absurd (none_some answer e)
+  open_mild (op.Create path) answer e = absurd (none-some answer e)
+  open_mild (op.Mkdir path) answer e = absurd (none-some answer e)
+  open_mild (op.Link path to) answer e = absurd (none-some answer e)
+  open_mild (op.Symlink path target) answer e = absurd (none-some answer e)
+  open_mild (op.Unlink path) answer e = absurd (none-some answer e)
+  open_mild (op.Rmdir path) answer e = absurd (none-some answer e)
+  open_mild (op.Rename path to) answer e = absurd (none-some answer e)
+  open_mild (op.Write path off bytes) answer e = absurd (none-some answer e)
+  open_mild (op.Fill path off len byte) answer e = absurd (none-some answer e)
+  open_mild (op.Truncate path len) answer e = absurd (none-some answer e)
+  open_mild (op.Read path off len) answer e = absurd (none-some answer e)
+  open_mild (op.Stat path) answer e = absurd (none-some answer e)
+  open_mild (op.List path) answer e = absurd (none-some answer e)
+  open_mild (op.Readlink path) answer e = absurd (none-some answer e)
+  open_mild (op.Time path) answer e = absurd (none-some answer e)
   open_mild op.Sync answer e = same_mild
   open_mild op.Mount answer e = mounted_mild (is_off server.phase) under.get_failed (is_read c.setting.logs under.slots) answer refl e
   open_mild op.Unmount answer e =
-      fresh a _ _ (up_dead_not server.phase (first_of (is_up server.phase) _ (given_due _ reply.Ok answer e))) refl
+      fresh a _ _ (up_dead_not server.phase (and_parts (is_up server.phase) _ (given_due _ reply.Ok answer e)).0) refl
       (λ h. record { cache = refl; staying = refl; staying_log = refl; pending = refl; recovery = refl; arming = refl })
-  open_mild op.Crash answer e = absurd (none_some answer e)
+  open_mild op.Crash answer e = absurd (none-some answer e)
   open_mild (op.CrashAt k) answer e = armed_mild (given_due (is_up server.phase) reply.Ok answer e) _
   open_mild (op.CutAt k) answer e = armed_mild (given_due (is_up server.phase) reply.Ok answer e) _
   open_mild op.Stall answer e = leaving a _ _ (up_dead_not server.phase (given_due (is_up server.phase) reply.Ok answer e)) refl refl refl
@@ -317,7 +299,7 @@ module _ (c : Core) (a : ℕ) (under : Under) (server : Server) where
 pub opened : (answering : Bool) (fixed own : Option Reply) (x : Reply) → (if answering then answer_of fixed own else None) ≡ Some x → is_some fixed ≡ false → own ≡ Some x
 opened true (Some f) own x e n = absurd (false≢true (sym n))
 opened true None own x e n = e
-opened false fixed own x e n = absurd (none_some x e)
+opened false fixed own x e n = absurd (none-some x e)
 
 answered_with_good : (c : Core) (a : ℕ) (under : Under) (answer : Reply) (operation : Option Op) →
     (is_some under.fixed ≡ false → own_answer_of c.setting.logs c.flights a (c.servers a) under operation ≡ Some answer) → Good c → Good (answered_with c a under answer operation)

@@ -12,6 +12,7 @@ use Rattle.frang_base.specs.declared.lock.LockId.{LockId}
 use Rattle.frang_base.specs.declared.op.Op.{Op}
 use Rattle.frang_base.specs.declared.reply.Reply.{Reply}
 use Rattle.frang_base.specs.declared.script.Line.{Line}
+use Rattle.frang_base.proofs.Lists.{all_append}
 use Rattle.tree_definitions.specs.Transcript.{is_halt}
 use Rattle.lock_definitions.specs.declared.claim.AskedFor.{AskedFor}
 use Rattle.lock_definitions.specs.declared.claim.AskedFor.TheVariants.{Release, Downgrade}
@@ -36,7 +37,7 @@ use Rattle.core_definitions.specs.Runs.{State, Step, Event_, Enter, Hold, Flush,
 use Rattle.core_laws.proofs.Along.{along}
 use Rattle.core_laws.specs.Orders.{AreLinesInOrder, AreRecoveriesInOrder, IsInOrder, IsServerInOrder}
 use Rattle.core_laws.proofs.Servers.{acknowledged_order, again_order, answer_order, bare_order, begun_order, cleared_order, committed_order, died_order, fetched_order, given_order, refused_order, rescued_order, wanting_order, wanting_up_order}
-use Rattle.core_laws.proofs.Sorting.{all_along, all_append, ascend_changed, keys_changed, keys_filter, sorted_append, sorted_none, sorted_one}
+use Rattle.core_laws.proofs.Sorting.{all_along, ascend_changed, keys_changed, keys_filter, sorted_append, sorted_none, sorted_one}
 use Rattle.core_laws.proofs.Stages.{stages_in_order}
 
 -- ---- the tickets

@@ -1,8 +1,9 @@
 -- Over every run: who is Off or Dead has nothing in memory. Event by event.
 use Rattle.std.proofs.Common.{◌≡◌, ℕ, inl, inr, Bool, true, false, not, ◌&&◌, ◌||◌, ◌==◌, if◌then◌else◌, IsTrue, is_some, List, [], ◌∷◌, Option, Some, None, nat_eq, nat_lt, refl, sym, ap, ◌∙◌, subst, arith}
-use Rattle.std.proofs.lemmas.Bool.{false≢true}
+use Rattle.std.proofs.lemmas.Bool.{false≢true, and_from, or_right, or_left, and_parts, both_ways, eqb-true}
 use Rattle.std.proofs.lemmas.Bool.Decides.{nat_tests}
 use Rattle.std.specs.List.{list_any}
+use Rattle.std.proofs.lemmas.Option.{same_Some, none-some}
 use Rattle.frang_base.specs.Functions.{member, put}
 use Rattle.frang_base.specs.declared.script.Line.{Line}
 use Rattle.lock_definitions.specs.Calls.{asked_for}
@@ -26,10 +27,9 @@ use Rattle.core_definitions.specs.Effects.{after}
 use Rattle.core_definitions.specs.Runs.{State, Step, Event_, Enter, Hold, Flush, Relock, Note, Peek, Run, Stays, Goes, first_state, Makes}
 use Rattle.core_laws.specs.Facts.{HasNothing}
 use Rattle.core_laws.proofs.Guarding.{Of4, of_4}
-use Rattle.core_laws.proofs.Keys.{or_left, or_right}
 use Rattle.core_laws.proofs.Membership.{In}
 use Rattle.core_laws.proofs.Parties.{worker_in_parties}
-use Rattle.core_laws.proofs.Memory.{Good, Mild, Safe, again_mild, all_safe, answered_good, arrived_good, begun_mild, busy, committed_good, dead_is, dead_of, died_good, either, failed_good, fetched_mild, first_of, fresh, given_good, is_resting, issued_good, leaving, none_some, not_both, put_safe, rescued, same_number, self, staged, still_dead_not, unmoved, up_dead_not, up_rests_not, wanting_mild, works}
+use Rattle.core_laws.proofs.Memory.{Good, Mild, Safe, again_mild, all_safe, answered_good, arrived_good, begun_mild, busy, committed_good, dead_is, dead_of, died_good, either, failed_good, fetched_mild, fresh, given_good, is_resting, issued_good, leaving, put_safe, rescued, self, staged, still_dead_not, unmoved, up_dead_not, up_rests_not, wanting_mild, works}
 
 -- ---- fetches, dooms and returns
 
@@ -61,7 +61,7 @@ module _ (c : Core) (a : ℕ) (g : Good c) (can : CanDoom c a) where
   no_cause : (p : Phase) (arming : Option Arming) (k x y z f : Bool) → p ≡ Dead → arming ≡ None →
       IsTrue ((is_up p && k) || (is_at_last arming && x) || ((is_still p && y) && z) || ((is_up p || is_still p) && f)) → ⊥
   no_cause Dead None k x y z f d n h = absurd (false≢true h)
-  no_cause Dead (Some arming) k x y z f d n h = absurd (none_some arming (sym n))
+  no_cause Dead (Some arming) k x y z f d n h = absurd (none-some arming (sym n))
   no_cause Off arming k x y z f d n h = absurd (cc)
   no_cause Up arming k x y z f d n h = absurd (cc)
   no_cause Still arming k x y z f d n h = absurd (cc)
@@ -83,7 +83,7 @@ doom_good s a can g = put_safe s.core.servers a _ g (leaving a _ _ (go (is_dead 
 resume_good : (s : State) (a : ℕ) → CanResume s.core a → Good s.core → Good (after s.core (Resume a) Nothing)
 resume_good s a can g =
     put_safe s.core.servers a _ g
-    (fresh a _ _ (still_dead_not (s.core.servers a).phase (first_of (is_still (s.core.servers a).phase) _ can.past)) refl (λ h. absurd (false≢true h)))
+    (fresh a _ _ (still_dead_not (s.core.servers a).phase (and_parts (is_still (s.core.servers a).phase) _ can.past).0) refl (λ h. absurd (false≢true h)))
 
 -- ---- recoveries
 
@@ -93,16 +93,13 @@ some_any test [] x i h = absurd i
 some_any test (y ∷ ys) x (inl e) h = or_left (test y) (list_any test ys) (subst (λ k. IsTrue (test k)) (sym e) h)
 some_any test (y ∷ ys) x (inr i) h = or_right (test y) (list_any test ys) (some_any test ys x i h)
 
-negated : (b : Bool) → IsTrue (not b) → IsTrue b → ⊥
+pub negated : (b : Bool) → IsTrue (not b) → IsTrue b → ⊥
 negated true n h = absurd (false≢true n)
 negated false n h = absurd (false≢true h)
 
 some_dead : (r : Option Recovery) (d : ℕ) → dead_of r ≡ Some d → IsTrue (is_some r)
-some_dead None d e = absurd (none_some d e)
+some_dead None d e = absurd (none-some d e)
 some_dead (Some r) d e = refl
-
-both : (x y : Bool) → IsTrue x → IsTrue y → IsTrue (x && y)
-both x y h k = cc
 
 module _ (c : Core) (dead by : ℕ) (g : Good c) (can : CanRecover c dead by) where
   abbrev taker : Server
@@ -118,7 +115,7 @@ module _ (c : Core) (dead by : ℕ) (g : Good c) (can : CanRecover c dead by) wh
   none_else : (i d : ℕ) → IsTrue (works i (c.servers i)) → dead_of (c.servers i).recovery ≡ Some d → ⊥
   none_else i d w e =
       negated (list_any (is_recovering c) parties) can.none
-      (some_any (is_recovering c) parties i (worker_in_parties c i w) (both (works i (c.servers i)) (is_some (c.servers i).recovery) w (some_dead (c.servers i).recovery d e)))
+      (some_any (is_recovering c) parties i (worker_in_parties c i w) (and_from (works i (c.servers i)) (is_some (c.servers i).recovery) w (some_dead (c.servers i).recovery d e)))
 
   by_up : (by == host_party) ≡ false → IsTrue (is_up (c.servers by).phase)
   by_up away = go (is_server by) (is_up (c.servers by).phase) (by == host_party) (none_up c) away can.taker
@@ -133,18 +130,15 @@ module _ (c : Core) (dead by : ℕ) (g : Good c) (can : CanRecover c dead by) wh
   same_phase i = go (nat_eq i by) refl
     where
       go : (b : Bool) → nat_eq i by ≡ b → (if b then taker else c.servers i).phase ≡ (c.servers i).phase
-      go true e = ap (λ k. (c.servers k).phase) (sym (same_number by i e))
+      go true e = ap (λ k. (c.servers k).phase) (sym (eqb-true i by e))
       go false e = refl
 
   -- only the taker has one
   is_taker : (i d : ℕ) → IsTrue (works i (later i)) → dead_of (later i).recovery ≡ Some d → (i ≡ by) × (dead ≡ d)
   is_taker i d = go (nat_eq i by) refl
     where
-      in_some_number : (x y : ℕ) → Some x ≡ Some y → x ≡ y
-      in_some_number x y e = cc
-
       go : (b : Bool) → nat_eq i by ≡ b → IsTrue (works i (if b then taker else c.servers i)) → dead_of (if b then taker else c.servers i).recovery ≡ Some d → (i ≡ by) × (dead ≡ d)
-      go true e w f = (same_number by i e, in_some_number dead d f)
+      go true e w f = (eqb-true i by e, same_Some dead d f)
       go false e w f = absurd (none_else i d w f)
 
   bare_then : (i : ℕ) → (i == host_party) ≡ false → IsTrue (is_resting (later i).phase) → HasNothing (later i)
@@ -152,7 +146,7 @@ module _ (c : Core) (dead by : ℕ) (g : Good c) (can : CanRecover c dead by) wh
     where
       go : (b : Bool) → nat_eq i by ≡ b → IsTrue (is_resting (if b then taker else c.servers i).phase) → HasNothing (if b then taker else c.servers i)
       go true e t =
-          absurd (not_both (is_resting (c.servers by).phase) t (up_rests_not (c.servers by).phase (by_up (subst (λ k. (k == host_party) ≡ false) (same_number by i e) away))))
+          absurd (both_ways (is_resting (c.servers by).phase) (up_rests_not (c.servers by).phase (by_up (subst (λ k. (k == host_party) ≡ false) (eqb-true i by e) away))) t)
       go false e t = g.bare i away t
 
   recover_good : Safe later
@@ -181,7 +175,7 @@ module _ (c : Core) (by : ℕ) (recovery : Recovery) (has : (c.servers by).recov
   rid_mild : Mild by (c.servers by) (record (c.servers by) { recovery = None })
   rid_mild = record {
     dead = λ h. h;
-    saves = λ d v e. absurd (none_some d e);
+    saves = λ d v e. absurd (none-some d e);
     bare = λ away b t. let n : HasNothing (c.servers by) = b t in
         record { cache = n.cache; staying = n.staying; staying_log = n.staying_log; pending = n.pending; recovery = refl; arming = n.arming };
   }
@@ -198,15 +192,15 @@ module _ (c : Core) (by : ℕ) (recovery : Recovery) (has : (c.servers by).recov
 
       go : (b : Bool) → nat_eq i by ≡ b → IsTrue (works i (if b then record (c.servers by) { recovery = None } else c.servers i)) →
           dead_of (if b then record (c.servers by) { recovery = None } else c.servers i).recovery ≡ Some d → ⊥
-      go true e v f = none_some d f
-      go false e v f = not_both (nat_eq i by) (there i (g.one i by d recovery.dead v w f (ap dead_of has))) e
+      go true e v f = none-some d f
+      go false e v f = both_ways (nat_eq i by) e (there i (g.one i by d recovery.dead v w f (ap dead_of has)))
 
   none_settled : (i d : ℕ) → IsTrue (works i (settled i)) → dead_of (settled i).recovery ≡ Some d → ⊥
   none_settled i d = go (nat_eq i recovery.dead) refl
     where
       go : (b : Bool) → nat_eq i recovery.dead ≡ b → IsTrue (works i (if b then recovered (c.servers recovery.dead) else rid i)) →
           dead_of (if b then recovered (c.servers recovery.dead) else rid i).recovery ≡ Some d → ⊥
-      go true e v f = none_some d (sym (ap dead_of dead_has_nothing.recovery) ∙ f)
+      go true e v f = none-some d (sym (ap dead_of dead_has_nothing.recovery) ∙ f)
       go false e v f = none_rid i d v f
 
   bare_settled : (i : ℕ) → (i == host_party) ≡ false → IsTrue (is_resting (settled i).phase) → HasNothing (settled i)
@@ -316,8 +310,8 @@ run_good s w (Goes {v = v} step run) g = run_good v w run (step_good s v step g)
 pub first_good : (setting : Setting) (disk : Sectors) → Good (first_state setting disk).core
 first_good setting disk = record {
   bare = λ i away t. record { cache = refl; staying = refl; staying_log = refl; pending = refl; recovery = refl; arming = refl };
-  saved = λ by d w e. absurd (none_some d e);
-  one = λ by other d e w v f h. absurd (none_some d f);
+  saved = λ by d w e. absurd (none-some d e);
+  one = λ by other d e w v f h. absurd (none-some d f);
 }
 
 pub good_of_run : (setting : Setting) (disk : Sectors) (s : State) → Run (first_state setting disk) s → Good s.core

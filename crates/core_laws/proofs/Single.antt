@@ -1,5 +1,5 @@
 -- Over every run each ticket and each sector of the writes in flight stands once: event by event.
-use Rattle.std.proofs.Common.{ℕ, ◌≡◌, Bool, true, false, if◌then◌else◌, List, [], ◌∷◌, Option, Some, None, refl, ◌==◌}
+use Rattle.std.proofs.Common.{ℕ, ◌≡◌, Bool, true, false, if◌then◌else◌, [], Option, Some, None, refl, ◌==◌}
 use Rattle.frang_base.specs.declared.lock.LockId.{LockId}
 use Rattle.frang_base.specs.declared.op.Op.{Op}
 use Rattle.frang_base.specs.declared.reply.Reply.{Reply}
@@ -32,8 +32,7 @@ use Rattle.core_definitions.specs.WriteEffects.{flight_of}
 use Rattle.core_definitions.specs.WriteGuards.{CanIssue}
 use Rattle.core_definitions.specs.Runs.{Makes}
 use Rattle.core_laws.specs.Laws.{AreOnce}
-use Rattle.core_laws.proofs.Membership.{contains_in}
-use Rattle.core_laws.proofs.Flying.{AreSingle, Once, each_same, of_issued, of_landed, of_lost, of_same, sectors_in}
+use Rattle.core_laws.proofs.Flying.{AreSingle, each_same, of_issued, of_landed, of_lost, of_same, sectors_in, as_words}
 
 abbrev Good : Core → Type 0
 Good c = AreSingle c.flights c.tickets
@@ -192,12 +191,8 @@ run_good : (s v : State) → Run s v → Good s.core → Good v.core
 run_good s v Stays g = g
 run_good s w (Goes {v = v} step run) g = run_good v w run (step_good s v step g)
 
-in_words : (xs : List ℕ) → Once xs → AreOnce xs
-in_words [] o = tt
-in_words (x ∷ xs) o = ((λ h. o.0 (contains_in xs x h)), in_words xs o.1)
-
 pub tickets_once : (setting : Setting) (disk : Sectors) (s : State) → Run (first_state setting disk) s → AreOnce (keys_of s.core.flights)
-tickets_once setting disk s run = in_words (keys_of s.core.flights) (run_good (first_state setting disk) s run (none_flying 0)).once
+tickets_once setting disk s run = as_words (keys_of s.core.flights) (run_good (first_state setting disk) s run (none_flying 0)).once
 
 pub sectors_once : (setting : Setting) (disk : Sectors) (s : State) → Run (first_state setting disk) s → AreOnce (sectors_in s.core.flights)
-sectors_once setting disk s run = in_words (sectors_in s.core.flights) (run_good (first_state setting disk) s run (none_flying 0)).alone
+sectors_once setting disk s run = as_words (sectors_in s.core.flights) (run_good (first_state setting disk) s run (none_flying 0)).alone

@@ -7,6 +7,7 @@ use Rattle.std.specs.Map.{keys_of}
 use Rattle.std.specs.Ordering.{nat_cmp}
 use Rattle.std.specs.declared.cmp.Ordering.{Ordering}
 use Rattle.std.specs.declared.cmp.Ordering.TheVariants.{Less}
+use Rattle.frang_base.proofs.Lists.{all_map, all_append}
 use Rattle.disk_definitions.specs.Written.{ascending, with_number}
 use Rattle.sector_bytes.specs.SectorMaps.{Ascend}
 use Rattle.sector_bytes.proofs.MapLaws.{ascend_with}
@@ -22,14 +23,6 @@ all_along f (x ∷ xs) all = (f x all.0, all_along f xs all.1)
 pub all_each : {X : Type 0} {P : X → Type 0} → ((x : X) → P x) → (xs : List X) → AllByRecursion P xs
 all_each f [] = tt
 all_each f (x ∷ xs) = (f x, all_each f xs)
-
-pub all_append : {X : Type 0} (P : X → Type 0) (xs ys : List X) → AllByRecursion P xs → AllByRecursion P ys → AllByRecursion P (xs ++ ys)
-all_append P [] ys a b = b
-all_append P (x ∷ xs) ys a b = (a.0, all_append P xs ys a.1 b)
-
-pub all_map : {X Y : Type 0} (P : Y → Type 0) (f : X → Y) (xs : List X) → AllByRecursion (λ x. P (f x)) xs → AllByRecursion P (map f xs)
-all_map P f [] all = tt
-all_map P f (x ∷ xs) all = (all.0, all_map P f xs all.1)
 
 pub all_flat : {X Y : Type 0} (P : Y → Type 0) (f : X → List Y) → ((x : X) → AllByRecursion P (f x)) → (xs : List X) → AllByRecursion P (flat_map f xs)
 all_flat P f each [] = tt
@@ -110,7 +103,7 @@ ascending_sorted numbers = ascend_fold with_number (λ es n s. ascend_with n 0 e
 
 -- ---- numbers below a bound
 
-less : (m n : ℕ) → m < n → nat_cmp m n ≡ Less
+pub less : (m n : ℕ) → m < n → nat_cmp m n ≡ Less
 less m n h = grind (arith, nat_tests, h)
 
 all_below : (n : ℕ) → AllByRecursion (λ k. k < n) (below n)

@@ -1,6 +1,6 @@
 -- How far a line has come: the sectors that it needs ascend, and what it sees stands once.
 use Rattle.std.proofs.Common.{◌≡◌, ℕ, ◌⊎◌, inl, inr, ⊎_elim, Bool, true, false, not, ◌&&◌, ◌==◌, if◌then◌else◌, List, [], ◌∷◌, ◌++◌, Option, Some, None, IsTrue, filter, is_some, map, refl, sym, ap, ◌∙◌, subst, arith}
-use Rattle.std.proofs.lemmas.Bool.{false≢true}
+use Rattle.std.proofs.lemmas.Bool.{false≢true, or_right, or_left}
 use Rattle.std.proofs.lemmas.Bool.Decides.{nat_tests}
 use Rattle.std.proofs.lemmas.List.Kept.{IsStrictlySortedBy-filter}
 use Rattle.std.specs.List.{AllByRecursion, filter_map, list_any}
@@ -30,7 +30,6 @@ use Rattle.core_definitions.specs.Servers.{Server, asks, is_up, stage_of, stage_
 use Rattle.core_definitions.specs.Sets.{LockSet, has_lock, lacks, next_segment, segment_of, segments_in, to_ask}
 use Rattle.core_definitions.specs.Settings.{Setting}
 use Rattle.core_laws.specs.Laws.{AreOnce}
-use Rattle.core_laws.proofs.Keys.{or_left, or_right}
 use Rattle.core_laws.proofs.Membership.{In, contains_in, in_contains}
 use Rattle.core_laws.specs.Orders.{AreLinesInOrder, IsLineInOrder}
 use Rattle.core_laws.proofs.Sorting.{sorted_map, sorted_one}

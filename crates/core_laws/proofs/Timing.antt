@@ -1,7 +1,7 @@
 -- The record of a run has a put as written only where it came no later than its stamp, and as late only where it came after: deed by deed.
-use Rattle.std.proofs.Common.{◌≡◌, ℕ, IsTrue, List, [], ◌∷◌, ◌++◌, Option, Some, None, subst, nat_le, ◌≤◌, ◌+◌, arith}
-use Rattle.std.proofs.lemmas.Bool.Decides.{nat_tests}
+use Rattle.std.proofs.Common.{◌≡◌, ℕ, IsTrue, List, [], ◌∷◌, ◌++◌, Option, Some, None, subst, ◌≤◌, ◌+◌}
 use Rattle.std.specs.List.{slice_get}
+use Rattle.std.proofs.lemmas.Bool.{leb-true}
 use Rattle.frang_base.specs.declared.reply.Reply.{Reply}
 use Rattle.frang_base.specs.declared.said.Said.{Said}
 use Rattle.sector_bytes.specs.SectorMaps.{value_at}
@@ -90,11 +90,8 @@ timely_of_run setting disk s run = run_timely (first_state setting disk) s run t
 
 -- ---- the window
 
-within : (number most : ℕ) → IsTrue (nat_le number most) → number ≤ most
-within number most h = grind (arith, nat_tests, h)
-
 pub in_window : (c : Core) (a sector : ℕ) (write : Write) (number : ℕ) → CanIssue c a sector → value_at (writes c a) sector ≡ Some write → write.purpose ≡ OfLog number →
     number ≤ (c.servers a).ring.reached + c.setting.logs.in_flight
 in_window c a sector write number can e f =
-    within number ((c.servers a).ring.reached + c.setting.logs.in_flight)
+    leb-true number ((c.servers a).ring.reached + c.setting.logs.in_flight)
     (subst (λ p. IsTrue (keeps_window c.setting.logs (c.servers a).ring p)) f (subst (λ w. IsTrue (is_write (λ x. keeps_window c.setting.logs (c.servers a).ring x.purpose) w)) e can.issuable.window))

@@ -1,10 +1,11 @@
 -- Over every run: a server that is Off neither has nor wishes a lock, and has taken no log. Event by event.
 use Rattle.std.proofs.Common.{◌≡◌, ℕ, ◌<◌, ◌≤◌, ◌⊎◌, inl, inr, Bool, true, false, not, ◌&&◌, ◌||◌, ◌==◌, if◌then◌else◌, cond, IsTrue, is_some, unwrap_or, List, [], ◌∷◌, ◌+◌, ◌%◌, length, map, replicate, set, get_or, Option, Some, None, nat_eq, refl, sym, ap, ◌∙◌, subst, arith}
 use Rattle.std.proofs.Math.ListN.{get_or-map}
-use Rattle.std.proofs.lemmas.Bool.{cases_eq, cases_lt, false≢true}
+use Rattle.std.proofs.lemmas.Bool.{cases_eq, cases_lt, false≢true, eqb-true}
 use Rattle.std.proofs.lemmas.Bool.Decides.{nat_tests}
 use Rattle.std.proofs.lemmas.List.{get_or-replicate, get_or-set_same, get_or-set_other, get_or_past, length-replicate, set_past}
 use Rattle.std.specs.Map.{lookup}
+use Rattle.std.proofs.lemmas.Option.{same_Some, none-some}
 use Rattle.frang_base.specs.Functions.{put}
 use Rattle.frang_base.specs.declared.lock.LockId.{LockId}
 use Rattle.frang_base.specs.declared.lock.Mode.{Mode}
@@ -24,7 +25,7 @@ use Rattle.lock_definitions.specs.Order.{is_lock}
 use Rattle.lock_definitions.specs.Same.{AllWishesWait, SameLocks, waits}
 use Rattle.lock_definitions.proofs.Changes.{other_claims}
 use Rattle.lock_definitions.proofs.LockOrder.{is_lock_equiv}
-use Rattle.lock_definitions.proofs.Wants.{no_claims_left, no_logs_left}
+use Rattle.lock_definitions.proofs.Wants.{no_claims_left, no_logs_left, none_wished}
 use Rattle.tree_definitions.specs.Touched.{is_ok, is_unmount}
 use Rattle.sector_bytes.specs.SectorMaps.{value_at}
 use Rattle.sector_bytes.specs.Sectors.{Sectors}
@@ -48,7 +49,7 @@ use Rattle.core_definitions.specs.Runs.{State, Step, Event_, Enter, Hold, Flush,
 use Rattle.core_laws.proofs.Keeping.{locks_of_run}
 use Rattle.core_laws.proofs.Along.{along}
 use Rattle.core_laws.proofs.Ashore.{acknowledged_phase, again_phase, begun_phase, fetched_phase, wanting_phase}
-use Rattle.core_laws.proofs.Memory.{in_some, none_some, opened, same_number, staged}
+use Rattle.core_laws.proofs.Memory.{opened, staged}
 use Rattle.core_laws.proofs.Resting.{server_no_host}
 
 -- the hold is this taker's
@@ -154,11 +155,7 @@ relocked_bare locks old are same wait i b = record {
 }
   where
     none_waits : (lock : LockId) (mode : Mode) → waits old i lock mode ≡ false
-    none_waits lock mode = ap (λ w. w && not (is_free old i lock mode)) (ap (λ claims. is_wished_in (claim_in claims lock) mode) b.claims ∙ none mode)
-      where
-        none : (mode : Mode) → is_wished_in no_claim mode ≡ false
-        none Shared = refl
-        none Sole = refl
+    none_waits lock mode = ap (λ w. w && not (is_free old i lock mode)) (ap (λ claims. is_wished_in (claim_in claims lock) mode) b.claims ∙ none_wished mode)
 
     unwished : (lock : LockId) (mode : Mode) (w : Bool) → is_wished locks i lock mode ≡ w → w ≡ false
     unwished lock mode false e = refl
@@ -187,7 +184,7 @@ moved c d a new e off bare u i server t = go (nat_eq i a) refl (subst (λ f. IsT
     at_it server (inr b) = b
 
     go : (b : Bool) → nat_eq i a ≡ b → IsTrue (is_off (if b then new else c.servers i).phase) → Bare d.locks i
-    go true f t = subst (Bare d.locks) (sym (same_number a i f)) (at_it (subst (λ k. IsTrue (is_server k)) (same_number a i f) server) (off t))
+    go true f t = subst (Bare d.locks) (sym (eqb-true i a f)) (at_it (subst (λ k. IsTrue (is_server k)) (eqb-true i a f) server) (off t))
     go false f t = bare i server t (u i server t)
 
 -- its phase stays, and the locks too
@@ -233,32 +230,32 @@ module _ (c : Core) (a : ℕ) (under : Under) (server : Server) (are : AreLocks 
 
   mounted_leaves : (off failed read : Bool) (answer : Reply) →
       (if off then (if failed then Some reply.Io else due_if read reply.Mounted) else None) ≡ Some answer → Leaves op.Mount (done op.Mount answer)
-  mounted_leaves false failed read answer e = absurd (none_some answer e)
-  mounted_leaves true true read answer e = subst (λ x. Leaves op.Mount (done op.Mount x)) (in_some reply.Io answer e) (λ t. inl t)
-  mounted_leaves true false false answer e = absurd (none_some answer e)
-  mounted_leaves true false true answer e = subst (λ x. Leaves op.Mount (done op.Mount x)) (in_some reply.Mounted answer e) (λ t. absurd (false≢true t))
+  mounted_leaves false failed read answer e = absurd (none-some answer e)
+  mounted_leaves true true read answer e = subst (λ x. Leaves op.Mount (done op.Mount x)) (same_Some reply.Io answer e) (λ t. inl t)
+  mounted_leaves true false false answer e = absurd (none-some answer e)
+  mounted_leaves true false true answer e = subst (λ x. Leaves op.Mount (done op.Mount x)) (same_Some reply.Mounted answer e) (λ t. absurd (false≢true t))
 
   open_leaves : (operation : Op) (answer : Reply) → own_answer c.setting.logs c.flights a server under operation ≡ Some answer →
       Leaves operation (done operation answer)
-  open_leaves (op.Create path) answer e = absurd (none_some answer e)
-  open_leaves (op.Mkdir path) answer e = absurd (none_some answer e)
-  open_leaves (op.Link path to) answer e = absurd (none_some answer e)
-  open_leaves (op.Symlink path target) answer e = absurd (none_some answer e)
-  open_leaves (op.Unlink path) answer e = absurd (none_some answer e)
-  open_leaves (op.Rmdir path) answer e = absurd (none_some answer e)
-  open_leaves (op.Rename path to) answer e = absurd (none_some answer e)
-  open_leaves (op.Write path off bytes) answer e = absurd (none_some answer e)
-  open_leaves (op.Fill path off len byte) answer e = absurd (none_some answer e)
-  open_leaves (op.Truncate path len) answer e = absurd (none_some answer e)
-  open_leaves (op.Read path off len) answer e = absurd (none_some answer e)
-  open_leaves (op.Stat path) answer e = absurd (none_some answer e)
-  open_leaves (op.List path) answer e = absurd (none_some answer e)
-  open_leaves (op.Readlink path) answer e = absurd (none_some answer e)
-  open_leaves (op.Time path) answer e = absurd (none_some answer e)
+  open_leaves (op.Create path) answer e = absurd (none-some answer e)
+  open_leaves (op.Mkdir path) answer e = absurd (none-some answer e)
+  open_leaves (op.Link path to) answer e = absurd (none-some answer e)
+  open_leaves (op.Symlink path target) answer e = absurd (none-some answer e)
+  open_leaves (op.Unlink path) answer e = absurd (none-some answer e)
+  open_leaves (op.Rmdir path) answer e = absurd (none-some answer e)
+  open_leaves (op.Rename path to) answer e = absurd (none-some answer e)
+  open_leaves (op.Write path off bytes) answer e = absurd (none-some answer e)
+  open_leaves (op.Fill path off len byte) answer e = absurd (none-some answer e)
+  open_leaves (op.Truncate path len) answer e = absurd (none-some answer e)
+  open_leaves (op.Read path off len) answer e = absurd (none-some answer e)
+  open_leaves (op.Stat path) answer e = absurd (none-some answer e)
+  open_leaves (op.List path) answer e = absurd (none-some answer e)
+  open_leaves (op.Readlink path) answer e = absurd (none-some answer e)
+  open_leaves (op.Time path) answer e = absurd (none-some answer e)
   open_leaves op.Sync answer e = λ t. inl t
   open_leaves op.Mount answer e = mounted_leaves (is_off server.phase) under.get_failed (is_read c.setting.logs under.slots) answer e
   open_leaves op.Unmount answer e = λ t. inr (bare_cleared c.locks are a)
-  open_leaves op.Crash answer e = absurd (none_some answer e)
+  open_leaves op.Crash answer e = absurd (none-some answer e)
   open_leaves (op.CrashAt k) answer e = λ t. inl t
   open_leaves (op.CutAt k) answer e = λ t. inl t
   open_leaves op.Stall answer e = λ t. absurd (false≢true t)
@@ -494,11 +491,7 @@ held_by_off setting disk s run a server off lock = ap (λ claims. (claim_in clai
 pub wished_by_off : (setting : Setting) (disk : Sectors) (s : State) → Run (first_state setting disk) s → (a : ℕ) → IsTrue (is_server a) →
     IsTrue (is_off (s.core.servers a).phase) → (lock : LockId)
     (mode : Mode) → is_wished s.core.locks a lock mode ≡ false
-wished_by_off setting disk s run a server off lock mode = ap (λ claims. is_wished_in (claim_in claims lock) mode) (bare_of_run setting disk s run a server off).claims ∙ none mode
-  where
-    none : (mode : Mode) → is_wished_in no_claim mode ≡ false
-    none Shared = refl
-    none Sole = refl
+wished_by_off setting disk s run a server off lock mode = ap (λ claims. is_wished_in (claim_in claims lock) mode) (bare_of_run setting disk s run a server off).claims ∙ none_wished mode
 
 pub taken_by_off : (setting : Setting) (disk : Sectors) (s : State) → Run (first_state setting disk) s → (a : ℕ) → IsTrue (is_server a) →
     IsTrue (is_off (s.core.servers a).phase) → (dead : ℕ)

@@ -2,6 +2,7 @@
 use Rattle.std.proofs.Common.{ℕ, ◌≡◌, Bool, true, false, not, if◌then◌else◌, IsTrue, is_some, [], Option, Some, None, filter, refl, sym, ap, ◌∙◌, subst}
 use Rattle.std.specs.List.{filter_map}
 use Rattle.std.specs.Option.{IsSome, option_map}
+use Rattle.std.proofs.lemmas.Bool.{not-false}
 use Rattle.frang_base.specs.declared.op.Op.{Op}
 use Rattle.frang_base.specs.declared.op.Op.TheVariants as op
 use Rattle.frang_base.specs.declared.reply.Reply.{Reply}
@@ -19,20 +20,16 @@ use Rattle.core_definitions.specs.EndGuards.{is_recovery, is_through}
 use Rattle.core_laws.proofs.Guarding.{Of2, Of3, of_2, of_3}
 use Rattle.core_laws.proofs.Membership.{In, contains_in}
 use Rattle.core_laws.specs.Waits.{IsDone, MountsReadTheirLogs, RecoveriesEndDone}
-use Rattle.core_laws.proofs.Lists.{each_below, each_fails, made_of, turned}
+use Rattle.core_laws.proofs.Lists.{each_below, each_fails, made_of}
+use Rattle.core_laws.proofs.Memory.{given_due}
 
 -- ---- mounts
-
--- an answer that is due passes its test
-passes : (b : Bool) (answer said : Reply) → due_if b answer ≡ Some said → b ≡ true
-passes true answer said e = refl
-passes false answer said e = absurd (cc)
 
 -- by a get that failed it would be another
 read_by : (logs : LogRules) (under : Under) (failed : Bool) → (if failed then Some reply.Io else due_if (is_read logs under.slots) reply.Mounted) ≡ Some reply.Mounted →
     is_read logs under.slots ≡ true
 read_by logs under true e = absurd (cc)
-read_by logs under false e = passes (is_read logs under.slots) reply.Mounted reply.Mounted e
+read_by logs under false e = given_due (is_read logs under.slots) reply.Mounted reply.Mounted e
 
 mount_read : (logs : LogRules) (off : Bool) (under : Under) → (if off then mount_answer logs under else None) ≡ Some reply.Mounted → is_read logs under.slots ≡ true
 mount_read logs true under e = read_by logs under under.get_failed e
@@ -86,13 +83,13 @@ module _ (c : Core) (recovery : Recovery) (through : IsTrue (is_through c recove
 
   was_looked : (sector : ℕ) → In sector (named_sectors c.setting.segments (redos c.setting.logs recovery)) → IsSome (value_at recovery.looked sector)
   was_looked sector i =
-      turned (is_some (value_at recovery.looked sector))
+      not-false (is_some (value_at recovery.looked sector))
       (each_fails (λ s. not (is_some (value_at recovery.looked s))) (named_sectors c.setting.segments (redos c.setting.logs recovery)) sector none_left i)
 
   -- what a look wanted is among the writes, of which none is left
   was_written : (sector : ℕ) (block : Block) → In (sector, Some block) recovery.looked → IsTrue (is_written recovery sector)
   was_written sector block i =
-      turned (is_written recovery sector)
+      not-false (is_written recovery sector)
       (each_fails (λ (write : ℕ × Block). not (is_written recovery write.0)) (filter_map wanted recovery.looked) (sector, block) replayed.p2
       (made_of wanted recovery.looked (sector, Some block) (sector, block) i refl))
 

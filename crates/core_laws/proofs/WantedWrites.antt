@@ -5,6 +5,7 @@ use Rattle.std.specs.BTreeMap.{is_at}
 use Rattle.std.specs.List.{cons_option, filter_map}
 use Rattle.std.specs.Option.{option_map}
 use Rattle.std.specs.Ordering.{nat_cmp}
+use Rattle.std.proofs.lemmas.Option.{same_Some}
 use Rattle.lock_definitions.specs.Locks.{Locks}
 use Rattle.sector_bytes.specs.Blocks.{Block}
 use Rattle.sector_bytes.specs.SectorMaps.{value_at, with_value}
@@ -31,15 +32,12 @@ from_fold : (entries writes : Writes) (sector : ℕ) (write : Write) →
 from_fold [] writes sector write e = inr e
 from_fold (x ∷ xs) writes sector write e = ⊎_elim (λ i. inl (inr i)) (λ f. here (is_at (nat_cmp sector) x.0) refl (sym (lookup-insert_entry nat_cmp_total x.0 x.1 sector writes) ∙ f)) (from_fold xs (with_value writes x.0 x.1) sector write e)
   where
-    in_some : (v w : Write) → Some v ≡ Some w → v ≡ w
-    in_some v w e = cc
-
     pair : (one : ℕ × Write) → one.0 ≡ sector → one.1 ≡ write → one ≡ entry_of sector write
     pair one e f = λ i. (e i, f i)
 
     here : (b : Bool) → is_at (nat_cmp sector) x.0 ≡ b → (if b then Some x.1 else value_at writes sector) ≡ Some write →
         In {X = ℕ × Write} (sector, write) (x ∷ xs) ⊎ (value_at writes sector ≡ Some write)
-    here true k f = inl (inl (pair x (found sector x.0 k) (in_some x.1 write f)))
+    here true k f = inl (inl (pair x (found sector x.0 k) (same_Some x.1 write f)))
     here false k f = inr f
 
 from_filter : {X Y : Type 0} (f : X → Option Y) (P : Y → Type 0) → ((x : X) (y : Y) → f x ≡ Some y → P y) → (xs : List X) (y : Y) → In y (filter_map f xs) → P y

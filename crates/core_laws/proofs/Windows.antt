@@ -1,8 +1,9 @@
 -- Over every run: what a ring gives out stays within its windows, and each log number in flight is issued and not acknowledged. Event by event.
-use Rattle.std.proofs.Common.{◌≡◌, ℕ, ◌≤◌, ◌⊎◌, inl, inr, Bool, true, false, ◌&&◌, ◌||◌, ◌==◌, ◌+◌, ◌%◌, if◌then◌else◌, IsTrue, is_some, [], ◌∷◌, Option, Some, None, nat_eq, nat_le, refl, sym, ap, ◌∙◌, subst, arith}
-use Rattle.std.proofs.lemmas.Bool.{false≢true}
+use Rattle.std.proofs.Common.{◌≡◌, ℕ, ◌≤◌, ◌⊎◌, inl, inr, Bool, true, false, ◌&&◌, ◌||◌, ◌==◌, ◌+◌, ◌%◌, if◌then◌else◌, IsTrue, is_some, [], ◌∷◌, Option, Some, None, nat_eq, refl, sym, ap, ◌∙◌, subst, arith}
+use Rattle.std.proofs.lemmas.Bool.{or_left, eq-eqb, leb-true, ne_eqb, or_right, eqb-true}
 use Rattle.std.proofs.lemmas.Bool.Decides.{nat_tests}
 use Rattle.std.specs.List.{Contains}
+use Rattle.std.proofs.lemmas.Option.{same_Some, none-some}
 use Rattle.frang_base.specs.Functions.{put}
 use Rattle.frang_base.specs.declared.lock.LockId.{LockId}
 use Rattle.frang_base.specs.declared.op.Op.{Op}
@@ -41,7 +42,6 @@ use Rattle.core_definitions.specs.Runs.{State, Step, Event_, Enter, Hold, Flush,
 use Rattle.core_laws.specs.Facts.{IsInFlightWindow, KeepsWindows, log_slots}
 use Rattle.core_laws.specs.Laws.{AreOnce}
 use Rattle.core_laws.proofs.Flying.{sectors_in}
-use Rattle.core_laws.proofs.Keys.{or_right}
 use Rattle.core_laws.proofs.Membership.{In, contains_in}
 use Rattle.core_laws.proofs.Single.{sectors_once}
 use Rattle.core_laws.proofs.Along.{along}
@@ -49,7 +49,7 @@ use Rattle.core_laws.proofs.Kept.{setting_of_run}
 use Rattle.core_laws.proofs.Ashore.{ashore_of_run}
 use Rattle.core_laws.proofs.FlightLists.{all_changed, all_joined, all_landed, all_lost, in_flights}
 use Rattle.core_laws.proofs.LogFlights.{AllAtSlots, IsAtSlot, IsAtSlotFor, IsShipped, at_first, fewer_behind, fewer_changed, fewer_landed, fewer_lost, flies, is_log_flight, is_number, more_joined, none_flies, none_left, slot_of_found, slots_once, with_acknowledged, with_fewer, with_issued, with_record, without_oldest}
-use Rattle.core_laws.proofs.Memory.{Good, dead_of, in_some, none_some, opened, same_number}
+use Rattle.core_laws.proofs.Memory.{Good, dead_of, opened}
 use Rattle.core_laws.proofs.Resting.{good_of_run}
 use Rattle.core_laws.proofs.WantedWrites.{IsNextOfLog, next_of_log}
 
@@ -83,7 +83,7 @@ moved c d a new e set fewer at own g = record {
     kept i = with_fewer c.setting.logs (flies c.flights i) (flies d.flights i) (c.servers i).ring (fewer i) (g.shipped i)
 
     go : (i : ℕ) (b : Bool) → nat_eq i a ≡ b → IsShipped c.setting.logs (flies d.flights i) (if b then new else c.servers i).ring
-    go i true f = subst (λ k. IsShipped c.setting.logs (flies d.flights k) new.ring) (sym (same_number a i f)) (own (kept a))
+    go i true f = subst (λ k. IsShipped c.setting.logs (flies d.flights k) new.ring) (sym (eqb-true i a f)) (own (kept a))
     go i false f = kept i
 
 -- its ring stays, and the writes too
@@ -187,32 +187,32 @@ module _ (c : Core) (a : ℕ) (under : Under) (server : Server) where
   mounted_rings : (off failed read : Bool) (answer : Reply) → is_off server.phase ≡ off →
       (if off then (if failed then Some reply.Io else due_if read reply.Mounted) else None) ≡ Some answer →
       Rings server (done op.Mount answer)
-  mounted_rings false failed read answer o e = absurd (none_some answer e)
-  mounted_rings true true read answer o e = subst (λ x. Rings server (done op.Mount x)) (in_some reply.Io answer e) (inl refl)
-  mounted_rings true false false answer o e = absurd (none_some answer e)
-  mounted_rings true false true answer o e = subst (λ x. Rings server (done op.Mount x)) (in_some reply.Mounted answer e) (inr (end_of c.setting.logs under.slots, refl, o))
+  mounted_rings false failed read answer o e = absurd (none-some answer e)
+  mounted_rings true true read answer o e = subst (λ x. Rings server (done op.Mount x)) (same_Some reply.Io answer e) (inl refl)
+  mounted_rings true false false answer o e = absurd (none-some answer e)
+  mounted_rings true false true answer o e = subst (λ x. Rings server (done op.Mount x)) (same_Some reply.Mounted answer e) (inr (end_of c.setting.logs under.slots, refl, o))
 
   open_rings : (operation : Op) (answer : Reply) → own_answer c.setting.logs c.flights a server under operation ≡ Some answer →
       Rings server (done operation answer)
-  open_rings (op.Create path) answer e = absurd (none_some answer e)
-  open_rings (op.Mkdir path) answer e = absurd (none_some answer e)
-  open_rings (op.Link path to) answer e = absurd (none_some answer e)
-  open_rings (op.Symlink path target) answer e = absurd (none_some answer e)
-  open_rings (op.Unlink path) answer e = absurd (none_some answer e)
-  open_rings (op.Rmdir path) answer e = absurd (none_some answer e)
-  open_rings (op.Rename path to) answer e = absurd (none_some answer e)
-  open_rings (op.Write path off bytes) answer e = absurd (none_some answer e)
-  open_rings (op.Fill path off len byte) answer e = absurd (none_some answer e)
-  open_rings (op.Truncate path len) answer e = absurd (none_some answer e)
-  open_rings (op.Read path off len) answer e = absurd (none_some answer e)
-  open_rings (op.Stat path) answer e = absurd (none_some answer e)
-  open_rings (op.List path) answer e = absurd (none_some answer e)
-  open_rings (op.Readlink path) answer e = absurd (none_some answer e)
-  open_rings (op.Time path) answer e = absurd (none_some answer e)
+  open_rings (op.Create path) answer e = absurd (none-some answer e)
+  open_rings (op.Mkdir path) answer e = absurd (none-some answer e)
+  open_rings (op.Link path to) answer e = absurd (none-some answer e)
+  open_rings (op.Symlink path target) answer e = absurd (none-some answer e)
+  open_rings (op.Unlink path) answer e = absurd (none-some answer e)
+  open_rings (op.Rmdir path) answer e = absurd (none-some answer e)
+  open_rings (op.Rename path to) answer e = absurd (none-some answer e)
+  open_rings (op.Write path off bytes) answer e = absurd (none-some answer e)
+  open_rings (op.Fill path off len byte) answer e = absurd (none-some answer e)
+  open_rings (op.Truncate path len) answer e = absurd (none-some answer e)
+  open_rings (op.Read path off len) answer e = absurd (none-some answer e)
+  open_rings (op.Stat path) answer e = absurd (none-some answer e)
+  open_rings (op.List path) answer e = absurd (none-some answer e)
+  open_rings (op.Readlink path) answer e = absurd (none-some answer e)
+  open_rings (op.Time path) answer e = absurd (none-some answer e)
   open_rings op.Sync answer e = inl refl
   open_rings op.Mount answer e = mounted_rings (is_off server.phase) under.get_failed (is_read c.setting.logs under.slots) answer refl e
   open_rings op.Unmount answer e = inl refl
-  open_rings op.Crash answer e = absurd (none_some answer e)
+  open_rings op.Crash answer e = absurd (none-some answer e)
   open_rings (op.CrashAt k) answer e = inl refl
   open_rings (op.CutAt k) answer e = inl refl
   open_rings op.Stall answer e = inl refl
@@ -244,15 +244,11 @@ answered_with_ships c a under answer (Some operation) rests own g =
     new : Server
     new = answered_by c under (c.servers a) operation answer
 
-    left : (x y : Bool) → IsTrue x → IsTrue (x || y)
-    left true y h = refl
-    left false y h = absurd (false≢true h)
-
     by : Rings (c.servers a) new → IsShipped c.setting.logs (flies c.flights a) (c.servers a).ring → IsShipped c.setting.logs (flies c.flights a) new.ring
     by (inl same) s = subst (IsShipped c.setting.logs (flies c.flights a)) (sym same) s
     by (inr begun) s =
         subst (IsShipped c.setting.logs (flies c.flights a)) (sym begun.1)
-        (at_first c.setting.logs (flies c.flights a) begun.0 (λ number. none_flies c.flights a number (rests (left (is_off (c.servers a).phase) (is_dead (c.servers a).phase) begun.2))))
+        (at_first c.setting.logs (flies c.flights a) begun.0 (λ number. none_flies c.flights a number (rests (or_left (is_off (c.servers a).phase) (is_dead (c.servers a).phase) begun.2))))
 
 answered_ships : (c : Core) (a : ℕ) (under : Option Under) (answer : Option Reply) → Rests c a → (c.servers a).under ≡ under → due_at c a ≡ answer →
     Ships c → Ships (answered_under c a under answer)
@@ -272,13 +268,6 @@ given_ships c a lock (Some Release) g = moved c (given_for c a lock (Some Releas
 
 -- ---- an issue
 
-same_or_not : (x y : ℕ) (b : Bool) → nat_eq x y ≡ b → (x ≡ y) ⊎ (x ≡ y → ⊥)
-same_or_not x y true e = inl (grind (arith, nat_tests, e))
-same_or_not x y false e = inr (λ f. absurd (grind (arith, nat_tests, e, f)))
-
-differ : (x y : ℕ) → (x ≡ y → ⊥) → (x == y) ≡ false
-differ x y apart = grind (arith, nat_tests, apart)
-
 module _ (c : Core) (a sector : ℕ) (write : Write) (is : value_at (writes c a) sector ≡ Some write) (can : CanIssue c a sector) (g : Ships c) where
   abbrev flight : Flight
   flight = flight_of c a sector write
@@ -288,7 +277,7 @@ module _ (c : Core) (a sector : ℕ) (write : Write) (is : value_at (writes c a)
 
   -- of another server, or of another number
   away : (purpose : Purpose) (i number : ℕ) → ((i ≡ a → ⊥) ⊎ (is_number number purpose ≡ false)) → (((a == i) && true) && is_number number purpose) ≡ false
-  away purpose i number (inl apart) = ap (λ t. (t && true) && is_number number purpose) (differ a i (λ e. apart (sym e)))
+  away purpose i number (inl apart) = ap (λ t. (t && true) && is_number number purpose) (ne_eqb a i (λ e. apart (sym e)))
   away purpose i number (inr n) = ap (λ t. ((a == i) && true) && t) n ∙ last_false (a == i)
     where
       last_false : (x : Bool) → ((x && true) && false) ≡ false
@@ -300,11 +289,8 @@ module _ (c : Core) (a sector : ℕ) (write : Write) (is : value_at (writes c a)
 
   inside : (number : ℕ) → write.purpose ≡ OfLog number → number ≤ (c.servers a).ring.reached + c.setting.logs.in_flight
   inside number p =
-      within number ((c.servers a).ring.reached + c.setting.logs.in_flight)
+      leb-true number ((c.servers a).ring.reached + c.setting.logs.in_flight)
       (subst (λ q. IsTrue (keeps_window c.setting.logs (c.servers a).ring q)) p (subst (λ w. IsTrue (is_write (λ x. keeps_window c.setting.logs (c.servers a).ring x.purpose) w)) is can.issuable.window))
-    where
-      within : (number most : ℕ) → IsTrue (nat_le number most) → number ≤ most
-      within number most h = grind (arith, nat_tests, h)
 
   next : (number : ℕ) → write.purpose ≡ OfLog number → IsNextOfLog c.setting.logs a (c.servers a) sector number
   next number p = next_of_log c.setting c.locks a (c.servers a) (stage c a) sector write number is p
@@ -312,7 +298,7 @@ module _ (c : Core) (a sector : ℕ) (write : Write) (is : value_at (writes c a)
   own : (purpose : Purpose) → write.purpose ≡ purpose → IsShipped c.setting.logs (flies later.flights a) (ring_after purpose (c.servers a).ring)
   own (OfLog number) p =
       with_issued c.setting.logs (flies c.flights a) (flies later.flights a) (c.servers a).ring number (next number p).block (next number p).next (inside number p)
-      (λ n apart h. joined a n (inr (ap (is_number n) p ∙ differ number n (λ e. apart (sym e)))) h) (g.shipped a)
+      (λ n apart h. joined a n (inr (ap (is_number n) p ∙ ne_eqb number n (λ e. apart (sym e)))) h) (g.shipped a)
   own (InPlace cover) p = with_fewer c.setting.logs (flies c.flights a) (flies later.flights a) (c.servers a).ring (λ n h. joined a n (inr (ap (is_number n) p)) h) (g.shipped a)
   own OfRecovery p = with_fewer c.setting.logs (flies c.flights a) (flies later.flights a) (c.servers a).ring (λ n h. joined a n (inr (ap (is_number n) p)) h) (g.shipped a)
 
@@ -334,7 +320,7 @@ module _ (c : Core) (a sector : ℕ) (write : Write) (is : value_at (writes c a)
       apart i e f = absurd (grind (arith, nat_tests, e, f))
 
       go : (i : ℕ) (b : Bool) → nat_eq i a ≡ b → IsShipped c.setting.logs (flies later.flights i) (if b then new else c.servers i).ring
-      go i true e = subst (λ k. IsShipped c.setting.logs (flies later.flights k) new.ring) (sym (same_number a i e)) (own write.purpose refl)
+      go i true e = subst (λ k. IsShipped c.setting.logs (flies later.flights k) new.ring) (sym (eqb-true i a e)) (own write.purpose refl)
       go i false e = with_fewer c.setting.logs (flies c.flights i) (flies later.flights i) (c.servers i).ring (λ n h. joined i n (inl (apart i e)) h) (g.shipped i)
 
 issued_ships : (c : Core) (a sector : ℕ) (write : Option Write) → value_at (writes c a) sector ≡ write → CanIssue c a sector → Ships c →
@@ -545,21 +531,11 @@ windows_kept setting disk s run a = subst (λ t. KeepsWindows t.logs (s.core.ser
 flying_in : (flights : Flights) (one : ℕ × Flight) (number : ℕ) → In one flights → one.1.present ≡ true → one.1.purpose ≡ OfLog number →
     flies flights one.1.server number ≡ true
 flying_in [] one number i p q = absurd i
-flying_in (x ∷ xs) one number (inl e) p q = subst (λ o. (is_log_flight one.1.server number o.1 || flies xs one.1.server number) ≡ true) (sym e) (first _ _ (both (same one.1.server) p (ap (is_number number) q ∙ same number)))
+flying_in (x ∷ xs) one number (inl e) p q = subst (λ o. (is_log_flight one.1.server number o.1 || flies xs one.1.server number) ≡ true) (sym e) (or_left _ _ (both (eq-eqb one.1.server one.1.server refl) p (ap (is_number number) q ∙ eq-eqb number number refl)))
   where
-    same : (n : ℕ) → (n == n) ≡ true
-    same n = grind (arith, nat_tests)
-
     both : {x y z : Bool} → x ≡ true → y ≡ true → z ≡ true → ((x && y) && z) ≡ true
     both e f g = cc
-
-    first : (x y : Bool) → x ≡ true → (x || y) ≡ true
-    first x y e = cc
-flying_in (x ∷ xs) one number (inr i) p q = second (is_log_flight one.1.server number x.1) _ (flying_in xs one number i p q)
-  where
-    second : (x y : Bool) → y ≡ true → (x || y) ≡ true
-    second true y e = refl
-    second false y e = e
+flying_in (x ∷ xs) one number (inr i) p q = or_right (is_log_flight one.1.server number x.1) _ (flying_in xs one number i p q)
 
 pub flights_within : (setting : Setting) (disk : Sectors) (s : State) → Run (first_state setting disk) s → (one : ℕ × Flight) (number : ℕ) →
     Contains s.core.flights one → one.1.present ≡ true →

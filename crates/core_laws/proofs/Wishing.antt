@@ -1,10 +1,11 @@
 -- Over every run: a noted wish of a server that is Up is for the lock that its line must ask next, and one that is Still has none. Event by event.
 use Rattle.std.proofs.Common.{◌≡◌, ℕ, ◌<◌, ◌⊎◌, inl, inr, Bool, true, false, not, ◌&&◌, ◌||◌, ◌==◌, ◌+◌, ◌%◌, if◌then◌else◌, IsTrue, is_some, length, [], Option, Some, None, nat_eq, refl, sym, ap, ◌∙◌, subst, arith}
-use Rattle.std.proofs.lemmas.Bool.{cases_eq, false≢true}
+use Rattle.std.proofs.lemmas.Bool.{cases_eq, false≢true, not-true, and_parts, or_right, or_left, eqb-true}
 use Rattle.std.proofs.lemmas.Bool.Decides.{nat_tests}
 use Rattle.std.proofs.lemmas.List.{get_or-set_other}
 use Rattle.std.specs.Option.{option_map}
 use Rattle.std.specs.Prelude.{slice_set}
+use Rattle.std.proofs.lemmas.Option.{none-some}
 use Rattle.frang_base.specs.Functions.{put}
 use Rattle.frang_base.specs.declared.lock.LockId.{LockId}
 use Rattle.frang_base.specs.declared.lock.LockId.TheVariants.{Log}
@@ -21,12 +22,12 @@ use Rattle.lock_definitions.specs.declared.claim.Claim.{Claim}
 use Rattle.lock_definitions.specs.declared.claim.Wanted.{Wanted}
 use Rattle.lock_definitions.specs.declared.claim.Wanted.TheVariants.{Granted, Wait}
 use Rattle.lock_definitions.specs.Calls.{answered as wanted_by, asked_for, changed, cleared, given_up, granted, hold_of, holding, is_free, log_taken_by, serves, shared, taken, want_answer, wanted, wishing}
-use Rattle.lock_definitions.specs.Locks.{AreClaims, AreLocks, Locks, claim_in, claim_of, claims_of, is_wished, is_wished_in, no_claim}
+use Rattle.lock_definitions.specs.Locks.{AreClaims, AreLocks, Locks, claim_in, claim_of, claims_of, is_wished, is_wished_in}
 use Rattle.lock_definitions.specs.Order.{is_lock}
 use Rattle.lock_definitions.specs.Same.{AllWishesWait, SameLocks, waits}
 use Rattle.lock_definitions.proofs.Changes.{IsChanged, claim_of-changed, other_claims, own_claim}
 use Rattle.lock_definitions.proofs.LockOrder.{found_lock, is_lock_equiv}
-use Rattle.lock_definitions.proofs.Wants.{no_claims_left}
+use Rattle.lock_definitions.proofs.Wants.{no_claims_left, none_wished}
 use Rattle.disk_definitions.specs.Plans.{Lock}
 use Rattle.tree_definitions.specs.Apply.{is_path_op}
 use Rattle.tree_definitions.specs.Touched.{is_ok, is_unmount}
@@ -54,8 +55,7 @@ use Rattle.core_definitions.specs.Effects.{after}
 use Rattle.core_definitions.specs.Runs.{State, Step, Event_, Enter, Hold, Flush, Relock, Note, Peek, Run, first_state, Makes}
 use Rattle.core_laws.proofs.Along.{along}
 use Rattle.core_laws.proofs.Keeping.{locks_of_run}
-use Rattle.core_laws.proofs.Keys.{or_left, or_right}
-use Rattle.core_laws.proofs.Memory.{given_due, none_some, opened, same_number}
+use Rattle.core_laws.proofs.Memory.{given_due, opened}
 use Rattle.core_laws.proofs.Unheld.{Bare, bare_of_run}
 use Rattle.core_laws.proofs.Asked.{Claiming, Wishes, asked_next, asked_under, asks_stage, first_lacking, held_same, next_stays, serves_need, stage_asks, wishes_same}
 
@@ -84,7 +84,7 @@ moved c d a new servers same own w i server t = subst (λ f. Wishes (claim_of d.
     apart e f = absurd (grind (arith, nat_tests, e, f))
 
     go : (b : Bool) → nat_eq i a ≡ b → IsTrue (lives (if b then new else c.servers i).phase) → Wishes (claim_of d.locks i) (if b then new else c.servers i)
-    go true e t = subst (λ n. Wishes (claim_of d.locks n) new) (sym (same_number a i e)) (own (subst (λ n. IsTrue (is_server n)) (same_number a i e) server) t)
+    go true e t = subst (λ n. Wishes (claim_of d.locks n) new) (sym (eqb-true i a e)) (own (subst (λ n. IsTrue (is_server n)) (eqb-true i a e) server) t)
     go false e t = wishes_same (claim_of c.locks i) (claim_of d.locks i) (same i (apart e)) (c.servers i) (w i server t)
 
 -- where its line must ask the same
@@ -105,28 +105,21 @@ calm c d same claims w i server t lock mode h =
 unchanged : (server : Server) → AsksSame server server
 unchanged server = ((λ t. t), λ claim. refl)
 
-none_lock : {X : Type 0} (x : X) → None ≡ Some x → ⊥
-none_lock x e = absurd (cc)
-
 -- a server that must ask for nothing has no wish
 nothing_wished : (claim : Claiming) (server : Server) → asked_next claim server ≡ None → Wishes claim server → (lock : LockId) (mode : Mode) →
     is_wished_in (claim lock) mode ≡ false
 nothing_wished claim server none w lock mode = go (is_wished_in (claim lock) mode) refl
   where
     go : (b : Bool) → is_wished_in (claim lock) mode ≡ b → b ≡ false
-    go true e = absurd (none_lock (lock, mode) (sym none ∙ w lock mode e))
+    go true e = absurd (none-some (lock, mode) (sym none ∙ w lock mode e))
     go false e = refl
 
 no_wishes : (claim : Claiming) (server : Server) → ((lock : LockId) (mode : Mode) → is_wished_in (claim lock) mode ≡ false) → Wishes claim server
 no_wishes claim server none lock mode h = absurd (false≢true (sym (none lock mode) ∙ h))
 
-none_claimed : (mode : Mode) → is_wished_in no_claim mode ≡ false
-none_claimed Shared = refl
-none_claimed Sole = refl
-
 -- of claims on nothing there is none
 bare_wishes : (locks : Locks) (a : ℕ) (server : Server) → claims_of locks a ≡ [] → Wishes (claim_of locks a) server
-bare_wishes locks a server e = no_wishes (claim_of locks a) server (λ lock mode. ap (λ claims. is_wished_in (claim_in claims lock) mode) e ∙ none_claimed mode)
+bare_wishes locks a server e = no_wishes (claim_of locks a) server (λ lock mode. ap (λ claims. is_wished_in (claim_in claims lock) mode) e ∙ none_wished mode)
 
 -- ---- locks
 
@@ -271,14 +264,14 @@ module _ (locks : Locks) (a : ℕ) (lock : LockId) (change : Claim → Claim) (s
     where
       set_stays : (under : Under) (f b : Bool) → has_lock (held_set locks a (if f then [] else under.set)) lock ≡ false →
           (if not f && b then first_lacking (claim_of locks a) under.set else None) ≡ Some need → (if not f && b then first_lacking later under.set else None) ≡ Some need
-      set_stays under true b u e = absurd (none_lock need e)
-      set_stays under false false u e = absurd (none_lock need e)
+      set_stays under true b u e = absurd (none-some need e)
+      set_stays under false false u e = absurd (none-some need e)
       set_stays under false true u e = next_stays lock (serves_need (claim_of locks a)) (serves_need later) same_need less_need under.set u need e
 
       go : (up : Bool) (under : Option Under) → has_lock (held_set locks a (set_under under)) lock ≡ false →
           (if up && is_open is_path_op under then asked_under (claim_of locks a) under else None) ≡ Some need → (if up && is_open is_path_op under then asked_under later under else None) ≡ Some need
-      go false under u e = absurd (none_lock need e)
-      go true None u e = absurd (none_lock need e)
+      go false under u e = absurd (none-some need e)
+      go true None u e = absurd (none-some need e)
       go true (Some under) u e = set_stays under (is_some under.fixed) (asked_by is_path_op (operation_of under.line.what)) u e
 
   given_wishes : Wishes later server
@@ -301,14 +294,10 @@ shared_wishes claim Sole = refl
 
 relocked_wishes : (locks old : Locks) → SameLocks locks old → AllWishesWait locks → (a : ℕ) (server : Server) → Wishes (claim_of old a) server →
     Wishes (claim_of locks a) server
-relocked_wishes locks old same wait a server w lock mode h = held_same (claim_of old a) (claim_of locks a) (λ l. same.held a l) server ∙ w lock mode (first (is_wished old a lock mode) _ waiting)
+relocked_wishes locks old same wait a server w lock mode h = held_same (claim_of old a) (claim_of locks a) (λ l. same.held a l) server ∙ w lock mode (and_parts (is_wished old a lock mode) _ waiting).0
   where
     waiting : waits old a lock mode ≡ true
     waiting = sym (same.wishes a lock mode) ∙ ap (λ b. b && not (is_free locks a lock mode)) h ∙ ap not (wait a lock mode h)
-
-    first : (x y : Bool) → (x && y) ≡ true → x ≡ true
-    first true y e = refl
-    first false y e = e
 
 -- ---- a stage that asks for no lock
 
@@ -441,30 +430,30 @@ module _ (c : Core) (a : ℕ) (under : Under) (server : Server) (has : server.un
   mounted_lived : (off failed read : Bool) (answer : Reply) → is_off server.phase ≡ off →
       (if off then (if failed then Some reply.Io else due_if read reply.Mounted) else None) ≡ Some answer →
       Lived server (done op.Mount answer)
-  mounted_lived false failed read answer o e = absurd (none_some answer e)
+  mounted_lived false failed read answer o e = absurd (none-some answer e)
   mounted_lived true failed read answer o e = λ t. inr o
 
   open_lived : (operation : Op) (answer : Reply) → is_some under.fixed ≡ false → operation_of under.line.what ≡ Some operation →
       own_answer c.setting.logs c.flights a server under operation ≡ Some answer → Lived server (done operation answer)
-  open_lived (op.Create path) answer f o e = absurd (none_some answer e)
-  open_lived (op.Mkdir path) answer f o e = absurd (none_some answer e)
-  open_lived (op.Link path to) answer f o e = absurd (none_some answer e)
-  open_lived (op.Symlink path target) answer f o e = absurd (none_some answer e)
-  open_lived (op.Unlink path) answer f o e = absurd (none_some answer e)
-  open_lived (op.Rmdir path) answer f o e = absurd (none_some answer e)
-  open_lived (op.Rename path to) answer f o e = absurd (none_some answer e)
-  open_lived (op.Write path off bytes) answer f o e = absurd (none_some answer e)
-  open_lived (op.Fill path off len byte) answer f o e = absurd (none_some answer e)
-  open_lived (op.Truncate path len) answer f o e = absurd (none_some answer e)
-  open_lived (op.Read path off len) answer f o e = absurd (none_some answer e)
-  open_lived (op.Stat path) answer f o e = absurd (none_some answer e)
-  open_lived (op.List path) answer f o e = absurd (none_some answer e)
-  open_lived (op.Readlink path) answer f o e = absurd (none_some answer e)
-  open_lived (op.Time path) answer f o e = absurd (none_some answer e)
+  open_lived (op.Create path) answer f o e = absurd (none-some answer e)
+  open_lived (op.Mkdir path) answer f o e = absurd (none-some answer e)
+  open_lived (op.Link path to) answer f o e = absurd (none-some answer e)
+  open_lived (op.Symlink path target) answer f o e = absurd (none-some answer e)
+  open_lived (op.Unlink path) answer f o e = absurd (none-some answer e)
+  open_lived (op.Rmdir path) answer f o e = absurd (none-some answer e)
+  open_lived (op.Rename path to) answer f o e = absurd (none-some answer e)
+  open_lived (op.Write path off bytes) answer f o e = absurd (none-some answer e)
+  open_lived (op.Fill path off len byte) answer f o e = absurd (none-some answer e)
+  open_lived (op.Truncate path len) answer f o e = absurd (none-some answer e)
+  open_lived (op.Read path off len) answer f o e = absurd (none-some answer e)
+  open_lived (op.Stat path) answer f o e = absurd (none-some answer e)
+  open_lived (op.List path) answer f o e = absurd (none-some answer e)
+  open_lived (op.Readlink path) answer f o e = absurd (none-some answer e)
+  open_lived (op.Time path) answer f o e = absurd (none-some answer e)
   open_lived op.Sync answer f o e = λ t. inl (t, no_path (by_line false (Some op.Sync) f o))
   open_lived op.Mount answer f o e = mounted_lived (is_off server.phase) under.get_failed (is_read c.setting.logs under.slots) answer refl e
   open_lived op.Unmount answer f o e = λ t. absurd (false≢true t)
-  open_lived op.Crash answer f o e = absurd (none_some answer e)
+  open_lived op.Crash answer f o e = absurd (none-some answer e)
   open_lived (op.CrashAt k) answer f o e = λ t. inl (t, no_path (by_line false (Some (op.CrashAt k)) f o))
   open_lived (op.CutAt k) answer f o e = λ t. inl (t, no_path (by_line false (Some (op.CutAt k)) f o))
   open_lived op.Stall answer f o e = λ t. inl (up_lives (given_due (is_up server.phase) reply.Ok answer e), no_path (by_line false (Some op.Stall) f o))
@@ -549,11 +538,7 @@ given_wishing c a lock (Some Downgrade) are can w =
     (λ claim m e. given_less claim.held m e) unused)
   where
     unused : has_lock (held_set c.locks a (set_under (c.servers a).under)) lock ≡ false
-    unused = negated (has_lock (held_set c.locks a (set_under (c.servers a).under)) lock) can.unused
-      where
-        negated : (b : Bool) → IsTrue (not b) → b ≡ false
-        negated true t = absurd (false≢true t)
-        negated false t = refl
+    unused = not-true (has_lock (held_set c.locks a (set_under (c.servers a).under)) lock) can.unused
 
     moved_locks : (locks : Locks) → ((i : ℕ) → (i ≡ a → ⊥) → SameClaims c.locks locks i) →
         (Wishes (claim_of c.locks a) (c.servers a) → Wishes (claim_of locks a) (c.servers a)) →
@@ -568,11 +553,7 @@ given_wishing c a lock (Some Release) are can w =
     (λ server t. given_wishes c.locks a lock given_up (c.servers a) (are.claims a) (server_inside c a are can.server) given_up_wishes (λ claim m e. refl) unused (w a server t)) w
   where
     unused : has_lock (held_set c.locks a (set_under (c.servers a).under)) lock ≡ false
-    unused = negated (has_lock (held_set c.locks a (set_under (c.servers a).under)) lock) can.unused
-      where
-        negated : (b : Bool) → IsTrue (not b) → b ≡ false
-        negated true t = absurd (false≢true t)
-        negated false t = refl
+    unused = not-true (has_lock (held_set c.locks a (set_under (c.servers a).under)) lock) can.unused
 
 issued_wishing : (c : Core) (a sector : ℕ) (write : Option Write) → Wishing c → Wishing (issued_as c a sector write)
 issued_wishing c a sector None w = w

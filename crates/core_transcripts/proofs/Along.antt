@@ -1,26 +1,26 @@
 -- Over every run: step by step no more is due or said of a server than the calls of it that failed.
 use Rattle.std.proofs.Common.{ℕ, suc, ◌≡◌, ◌≤◌, ◌<◌, ◌+◌, Bool, true, false, ◌||◌, if◌then◌else◌, IsTrue, not, List, [], ◌∷◌, ◌++◌, filter, length, nat_eq, refl, sym, ap, ◌∙◌, subst, append_assoc, arith}
-use Rattle.std.proofs.lemmas.Bool.{false≢true}
-use Rattle.std.proofs.lemmas.List.Elements.{filter_map-append}
+use Rattle.std.proofs.lemmas.Bool.{false≢true, eqb-true, and_parts}
 use Rattle.frang_base.specs.declared.said.Said.{Said}
 use Rattle.frang_base.specs.declared.said.Said.TheVariants as said
 use Rattle.frang_base.specs.declared.script.Line.{Line}
 use Rattle.sector_bytes.specs.Sectors.{Sectors}
 use Rattle.tree_definitions.specs.History.{Opening}
 use Rattle.tree_definitions.specs.Transcript.{Faults, io_answers, is_io_of, is_unexplained, may_be_dirty, unexplained_deaths, unexplained_from}
+use Rattle.tree_definitions.proofs.NodeBlocks.{none_before}
 use Rattle.core_definitions.specs.Servers.{is_still, wanting_all_up}
 use Rattle.core_definitions.specs.Settings.{Setting}
 use Rattle.core_definitions.specs.Cores.{clean_at}
-use Rattle.core_definitions.specs.Effects.{Deed, Says, deeds_of}
+use Rattle.core_definitions.specs.Effects.{Says, deeds_of}
 use Rattle.core_definitions.specs.LineGuards.{is_server}
-use Rattle.core_definitions.specs.Runs.{State, Step, Event_, Enter, Hold, Flush, Relock, Note, Peek, Run, Stays, Goes, first_state, goes_on, is_note, said_by, saids_of}
+use Rattle.core_definitions.specs.Runs.{State, Step, Event_, Enter, Hold, Flush, Relock, Note, Peek, Run, Stays, Goes, first_state, goes_on, is_note, saids_of}
 use Rattle.core_laws.specs.Facts.{OffHasNoFlights}
+use Rattle.core_laws.proofs.Along.{longer}
 use Rattle.core_transcripts.specs.Faults.{fails_at, has_failed, is_of, run_faults}
 use Rattle.core_transcripts.specs.Transcripts.{IsNumbered}
 use Rattle.core_transcripts.proofs.Fits.{key_of}
-use Rattle.core_transcripts.proofs.Numbering.{both_first, numbers_are}
 use Rattle.core_transcripts.proofs.Rising.{run_has_its_faults}
-use Rattle.core_transcripts.proofs.Running.{Holds, goes_further, holds_of_run, still_is_dirty}
+use Rattle.core_transcripts.proofs.Running.{Holds, holds_of_run, still_is_dirty, said_more}
 use Rattle.core_transcripts.proofs.Steady.{wanting_steady}
 use Rattle.core_transcripts.specs.Within.{failed_calls}
 use Rattle.core_transcripts.proofs.Called.{CallFits, IsAside, called}
@@ -32,11 +32,8 @@ use Rattle.core_transcripts.proofs.Paying.{event_pays}
 one_later : (n m k : ℕ) → n ≡ m + k → suc n ≡ suc m + k
 one_later n m k e = omega (arith, e)
 
-from_none : (n : ℕ) → n ≡ 0 + n
-from_none n = omega arith
-
 count_more : (test : Said → Bool) (xs ys : List Said) → length (filter test (xs ++ ys)) ≡ length (filter test xs) + length (filter test ys)
-count_more test [] ys = from_none (length (filter test ys))
+count_more test [] ys = none_before (length (filter test ys))
 count_more test (x ∷ xs) ys = go (test x) (count_more test xs ys)
   where
     go : (b : Bool) → length (filter test (xs ++ ys)) ≡ length (filter test xs) + length (filter test ys) →
@@ -50,7 +47,7 @@ sums d n m k e = omega (arith, e)
 unexplained_more : (script : List Line) (i : ℕ) (before xs ys : List Said) →
     unexplained_from script i before (xs ++ ys) ≡ unexplained_from script i before xs + unexplained_from script i (before ++ xs) ys
 unexplained_more script i before [] ys =
-    from_none (unexplained_from script i before ys) ∙ ap (λ b. 0 + unexplained_from script i b ys) (sym (nil_right before))
+    none_before (unexplained_from script i before ys) ∙ ap (λ b. 0 + unexplained_from script i b ys) (sym (nil_right before))
 unexplained_more script i before (x ∷ xs) ys =
     sums (if is_unexplained script i before x then 1 else 0) (unexplained_from script i (before ++ x ∷ []) (xs ++ ys)) (unexplained_from script i (before ++ x ∷ []) xs)
     (unexplained_from script i (before ++ x ∷ xs) ys)
@@ -91,9 +88,6 @@ climbs script i s v more fails e p = record {
   calls = subst (λ ss. CallFits (v.core.servers i).phase (v.core.servers i).failed (called script i ss)) (sym e) p.calls;
 }
 
-said_more : (xs ys : List Deed) → saids_of (xs ++ ys) ≡ saids_of xs ++ saids_of ys
-said_more xs ys = filter_map-append said_by xs ys
-
 -- ---- steps
 
 module _ (opening : Opening) (setting : Setting) (disk : Sectors) (numbered : IsNumbered setting.script) (ashore : OffHasNoFlights) where
@@ -115,7 +109,7 @@ module _ (opening : Opening) (setting : Setting) (disk : Sectors) (numbered : Is
         (same_pays setting.script (saids_of s.record_) i (key_of (s.core.servers i)) (h i) (key_of (v.core.servers i)) 0 k)
 
     flushed_key : (a i : ℕ) (b : Bool) → nat_eq i a ≡ b → key_of (if b then wanting_all_up (s.core.servers a) else s.core.servers i) ≡ key_of (s.core.servers i)
-    flushed_key a i true e = wanting_steady (s.core.servers a) ∙ ap (λ j. key_of (s.core.servers j)) (sym (numbers_are i a e))
+    flushed_key a i true e = wanting_steady (s.core.servers a) ∙ ap (λ j. key_of (s.core.servers j)) (sym (eqb-true i a e))
     flushed_key a i false e = refl
 
     note_aside : (i : ℕ) (line : Said) → IsTrue (is_note line) → IsAside i line
@@ -134,7 +128,7 @@ module _ (opening : Opening) (setting : Setting) (disk : Sectors) (numbered : Is
     step_climbs v (Note line may) i =
         climbs setting.script i s v (line ∷ []) 0 (said_more s.record_ (Says line ∷ []))
         (aside_pays setting.script (saids_of s.record_) i (key_of (s.core.servers i)) (h i) line (key_of (s.core.servers i)) (key_of (s.core.servers i)).saves 0 refl
-        (note_aside i line (both_first (is_note line) (goes_on s.core) may)))
+        (note_aside i line (and_parts (is_note line) (goes_on s.core) may).0))
     step_climbs v (Peek sector) i = nothing_said v i refl refl
 
   -- ---- runs
@@ -154,7 +148,7 @@ module _ (opening : Opening) (setting : Setting) (disk : Sectors) (numbered : Is
   run_climbs s w before (Goes {v = v} step run) h i =
       let here : Climbs setting.script i s v (if is_of i (fails_at s v step) then 1 else 0) = step_climbs s before h v step i in
       let rest : Rises i v w (failed_calls v w run i) =
-      run_climbs v w (goes_further (first_state setting disk) s v before step) run (λ j. (step_climbs s before h v step j).calls) i in
+      run_climbs v w (longer (first_state setting disk) s v before step) run (λ j. (step_climbs s before h v step j).calls) i in
       record {
         answers = climbs_all (io_level i s) (io_level i v) (io_level i w) (if is_of i (fails_at s v step) then 1 else 0) (failed_calls v w run i) here.answers rest.answers;
         deaths =

@@ -2,6 +2,7 @@
 use Rattle.std.proofs.Common.{ℕ, ◌≡◌, ◌≤◌, Bool, true, false, ◌&&◌, if◌then◌else◌, IsTrue, is_some, List, [], ◌∷◌, ◌++◌, Option, Some, None, refl, sym, ap, ◌∙◌, subst}
 use Rattle.std.proofs.lemmas.Bool.{false≢true}
 use Rattle.std.specs.Option.{IsSome, option_map}
+use Rattle.std.proofs.lemmas.Option.{same_Some}
 use Rattle.frang_base.specs.Functions.{put}
 use Rattle.frang_base.specs.declared.op.Op.{Op}
 use Rattle.frang_base.specs.declared.reply.Reply.{Reply}
@@ -23,7 +24,7 @@ use Rattle.core_laws.proofs.Resting.{server_no_host}
 use Rattle.core_transcripts.specs.Transcripts.{IsNumbered, MaySayButTree}
 use Rattle.core_transcripts.proofs.Fits.{AskFits, Fits, IsUnder, LineFits, Told, UnderFits, asked_of, key_of}
 use Rattle.core_transcripts.proofs.Fitting.{Fitting, key_works, same_keys, told_of}
-use Rattle.core_transcripts.proofs.Happening.{CoreFits, Turn, Speaks, later_told, same_some, server_answered, server_given}
+use Rattle.core_transcripts.proofs.Happening.{CoreFits, Turn, Speaks, later_told, server_answered, server_given}
 use Rattle.core_transcripts.proofs.Numbering.{all_is_none}
 use Rattle.core_transcripts.proofs.Owning.{IsOwned, fixed_fits, own_fits}
 use Rattle.core_transcripts.proofs.Replies.{Later, given_fixed}
@@ -53,7 +54,7 @@ operation_under phase owes t u h = has_operation phase owes t u.line u.fixed u.g
 pub is_under : (phase : Phase) (owes : Bool) (t : Told) (o : Option Under) (u : Under) → o ≡ Some u → UnderFits phase owes t (option_map asked_of o) → IsUnder phase owes t (asked_of u)
 is_under phase owes t o u e h = subst (λ o. UnderFits phase owes t (option_map asked_of o)) e h
 
-if_some : (b : Bool) (x : Option Reply) (r : Reply) → (if b then x else None) ≡ Some r → IsTrue b × (x ≡ Some r)
+pub if_some : (b : Bool) (x : Option Reply) (r : Reply) → (if b then x else None) ≡ Some r → IsTrue b × (x ≡ Some r)
 if_some true x r e = (refl, e)
 if_some false x r e = absurd (cc)
 
@@ -105,7 +106,7 @@ module _ (opening : Opening) (f : Faults) (stay : (early late server : ℕ) → 
     answered_turn r (Some o) is fixed e due = go fixed e due
       where
         same : o ≡ has.operation
-        same = same_some o has.operation (sym is ∙ has.is)
+        same = same_Some o has.operation (sym is ∙ has.is)
 
         v : Server
         v = answered_by c u (c.servers a) has.operation r

@@ -1,8 +1,9 @@
 -- What the marks, the lines under way and the answers so far tell of the script, and what an answer makes of it.
-use Rattle.std.proofs.Common.{◌≡◌, ℕ, ◌⊎◌, inl, inr, Bool, true, false, if◌then◌else◌, List, [], ◌∷◌, ◌++◌, Option, Some, None, IsTrue, is_some, nat_eq, refl, sym, ap, ◌∙◌, subst, arith}
-use Rattle.std.proofs.lemmas.Bool.{false≢true}
+use Rattle.std.proofs.Common.{◌≡◌, ℕ, ◌⊎◌, inl, inr, true, false, if◌then◌else◌, List, [], ◌∷◌, ◌++◌, Option, Some, None, IsTrue, is_some, refl, sym, ap, ◌∙◌, subst, arith}
+use Rattle.std.proofs.lemmas.Bool.{false≢true, eq-eqb, cases_eq}
 use Rattle.std.proofs.lemmas.Bool.Decides.{nat_tests}
 use Rattle.std.specs.Option.{option_map}
+use Rattle.std.proofs.lemmas.Option.{none-some, same_Some}
 use Rattle.frang_base.specs.Functions.{put}
 use Rattle.frang_base.specs.declared.script.Line.{Line}
 use Rattle.tree_definitions.specs.Transcript.{lines_before, lines_for}
@@ -30,9 +31,6 @@ pub record AreMarks (script : List Line) (marks : Marks) (answers : List (ℕ ×
   pub after_hosts : (number : ℕ) → marks number ≡ true → IsTrue (hosts_answered script marks number)
   pub host_last : (line : Line) → In line script → line.who.0 ≡ host_party → marks line.number ≡ true → IsTrue (earlier_answered script marks line.number)
 
-some_line : (l m : Line) → Some l ≡ Some m → l ≡ m
-some_line l m e = cc
-
 lines_joined : (answers : List (ℕ × ℕ)) (a number : ℕ) → answered_lines (answers ++ (a, number) ∷ []) ≡ answered_lines answers ++ number ∷ []
 lines_joined [] a number = refl
 lines_joined (x ∷ xs) a number = ap (λ ns. x.1 ∷ ns) (lines_joined xs a number)
@@ -45,13 +43,6 @@ pushed (y ∷ ys) x o n = ((λ i. apart (in_either y ys (x ∷ []) i)), pushed y
     apart (inl i) = o.0 i
     apart (inr (inl e)) = n (inl (sym e))
     apart (inr (inr i)) = i
-
-same_or_not : (m n : ℕ) → (m ≡ n) ⊎ (m ≡ n → ⊥)
-same_or_not m n = go (nat_eq m n) refl
-  where
-    go : (b : Bool) → nat_eq m n ≡ b → (m ≡ n) ⊎ (m ≡ n → ⊥)
-    go true e = inl (grind (arith, nat_tests, e))
-    go false e = inr (λ f. absurd (grind (arith, nat_tests, e, f)))
 
 -- the next line of a party is answered
 module _ (script : List Line) (own : Once (numbers_of script)) (marks : Marks) (answers : List (ℕ × ℕ)) (m : AreMarks script marks answers) (a : ℕ) (line : Line) (next : next_line script marks a ≡ Some line) where
@@ -68,7 +59,7 @@ module _ (script : List Line) (own : Once (numbers_of script)) (marks : Marks) (
       go : (rest : List Line) → IsAt script marks (answered_by a answers) a rest →
           (rest : List Line) × IsAt script marks (answered_by a answers) a (line ∷ rest)
       go [] at = absurd (none_some (sym (next_is script marks (answered_by a answers) a [] at) ∙ next))
-      go (l ∷ ls) at = (ls, subst (λ x. IsAt script marks (answered_by a answers) a (x ∷ ls)) (some_line l line (sym (next_is script marks (answered_by a answers) a (l ∷ ls) at) ∙ next)) at)
+      go (l ∷ ls) at = (ls, subst (λ x. IsAt script marks (answered_by a answers) a (x ∷ ls)) (same_Some l line (sym (next_is script marks (answered_by a answers) a (l ∷ ls) at) ∙ next)) at)
 
   there : In line script × (line.who.0 ≡ a)
   there = in_rest script marks (answered_by a answers) a (line ∷ front.0) front.1 line (inl refl)
@@ -104,7 +95,7 @@ module _ (script : List Line) (own : Once (numbers_of script)) (marks : Marks) (
   pub marked_then : IsTrue (hosts_answered script marks line.number) → (a ≡ host_party → IsTrue (earlier_answered script marks line.number)) →
       AreMarks script later (answers ++ (a, line.number) ∷ [])
   marked_then hosts earlier = record {
-    places = λ who. place who (same_or_not a who);
+    places = λ who. place who (cases_eq a who);
     known = λ number e. subst (In number) (sym (lines_joined answers a line.number)) (known number (put_cases marks line.number number e));
     marked = λ number i. marked number (in_either number (answered_lines answers) (line.number ∷ []) (subst (In number) (lines_joined answers a line.number) i));
     once = subst Once (sym (lines_joined answers a line.number)) (pushed (answered_lines answers) line.number m.once not_answered);
@@ -117,10 +108,7 @@ module _ (script : List Line) (own : Once (numbers_of script)) (marks : Marks) (
       known number (inr e) = in_left number (answered_lines answers) (line.number ∷ []) (m.known number e)
 
       is_marked : put marks line.number true line.number ≡ true
-      is_marked = ap (λ b. if b then true else marks line.number) (same line.number)
-        where
-          same : (n : ℕ) → nat_eq n n ≡ true
-          same n = grind (arith, nat_tests)
+      is_marked = ap (λ b. if b then true else marks line.number) (eq-eqb line.number line.number refl)
 
       marked : (number : ℕ) → In number (answered_lines answers) ⊎ In number (line.number ∷ []) → later number ≡ true
       marked number (inl i) = put_more marks line.number number (m.marked number i)
@@ -193,18 +181,15 @@ server_answers script own c d answers a line server has same marks none keeps t 
   script_is = same ∙ t.script_is;
   marks = subst (λ m. AreMarks script m (answers ++ (a, line.number) ∷ [])) (sym marks)
       (marked_then script own c.answered answers t.marks a line u.next u.hosts (λ e. absurd (server_no_host a server e)));
-  under = λ b other l e. subst (λ m. IsUnderWay script m b l) (sym marks) (at b other l e (same_or_not a b));
+  under = λ b other l e. subst (λ m. IsUnderWay script m b l) (sym marks) (at b other l e (cases_eq a b));
 }
   where
     u : IsUnderWay script c.answered a line
     u = t.under a server line has
 
-    none_some : (l : Line) → None ≡ Some l → ⊥
-    none_some l e = absurd (cc)
-
     at : (b : ℕ) → IsTrue (is_server b) → (l : Line) → line_of (d.servers b) ≡ Some l → (a ≡ b) ⊎ (a ≡ b → ⊥) →
         IsUnderWay script (put c.answered line.number true) b l
-    at b other l e (inl same) = absurd (none_some l (sym none ∙ ap (λ i. line_of (d.servers i)) same ∙ e))
+    at b other l e (inl same) = absurd (none-some l (sym none ∙ ap (λ i. line_of (d.servers i)) same ∙ e))
     at b other l e (inr away) =
         still_under_way script own c.answered answers t.marks a line u.next b l away (t.under b other l (kept_line (c.servers b) (d.servers b) l (keeps b away) e))
 
@@ -228,7 +213,7 @@ pub server_begins : (script : List Line) (c d : Core) (answers : List (ℕ × �
 server_begins script c d answers a same marks begins keeps t = record {
   script_is = same ∙ t.script_is;
   marks = subst (λ m. AreMarks script m answers) (sym marks) t.marks;
-  under = λ b server line e. subst (λ m. IsUnderWay script m b line) (sym marks) (at b server line e (same_or_not a b));
+  under = λ b server line e. subst (λ m. IsUnderWay script m b line) (sym marks) (at b server line e (cases_eq a b));
 }
   where
     begun : (line : Line) → IsTrue (is_server a) → (line_of (c.servers a) ≡ Some line) ⊎ IsUnderWay script c.answered a line →

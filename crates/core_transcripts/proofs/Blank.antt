@@ -1,24 +1,25 @@
 -- A server that nothing it answered may have changed since its mount, and that began no recovery, has nothing to write: what leaves it so.
 use Rattle.std.proofs.Common.{ℕ, ◌≡◌, ◌+◌, Bool, true, false, not, ◌&&◌, ◌||◌, if◌then◌else◌, cond, IsTrue, is_some, [], ◌∷◌, ◌++◌, Option, Some, None, fold, nat_eq, refl, sym, ap, ◌∙◌, subst, arith}
-use Rattle.std.proofs.lemmas.Bool.{false≢true}
+use Rattle.std.proofs.lemmas.Bool.{false≢true, or_from, or_parts}
 use Rattle.std.proofs.lemmas.Bool.Decides.{nat_tests}
 use Rattle.std.specs.BTreeMap.{is_at}
-use Rattle.std.specs.Map.{remove_entry}
 use Rattle.std.specs.List.{cons_option, filter_map}
 use Rattle.std.specs.Ordering.{match_ordering, nat_cmp}
 use Rattle.std.specs.Option.{option_map, unwrap_or}
 use Rattle.std.specs.declared.cmp.Ordering.{Ordering}
 use Rattle.std.specs.declared.cmp.Ordering.TheVariants.{Less, Equal, Greater}
+use Rattle.std.proofs.lemmas.Option.{same_Some}
+use mathlib.Core.Bool.{and-false}
 use Rattle.frang_base.specs.declared.change.Redo.{Redo}
 use Rattle.frang_base.specs.declared.lock.LockId.{LockId}
 use Rattle.lock_definitions.specs.Locks.{Locks}
 use Rattle.lock_definitions.specs.Order.{is_lock}
 use Rattle.ring_definitions.specs.Rings.{first_waiting, last, ring_at, sent}
 use Rattle.sector_bytes.specs.Blocks.{Block}
-use Rattle.sector_bytes.specs.SectorMaps.{value_at, with_value, without}
+use Rattle.sector_bytes.specs.SectorMaps.{value_at, with_value}
 use Rattle.tree_definitions.specs.Transcript.{asks_change}
 use Rattle.core_definitions.specs.Caches.{Cache, Dirt, Kept, any_kept, clean, dropped, each_kept, is_dirty}
-use Rattle.core_definitions.specs.Flights.{Flight, Flights, each_of_server, has_flights, is_of_mount, left_behind, lost}
+use Rattle.core_definitions.specs.Flights.{Flight, Flights, each_of_server, has_flights, is_of_mount, left_behind}
 use Rattle.core_definitions.specs.Lines.{Stage, Under}
 use Rattle.core_definitions.specs.Plans.{Outcome}
 use Rattle.core_definitions.specs.Rings.{appended_some, is_all_reached, next_write}
@@ -28,7 +29,6 @@ use Rattle.core_definitions.specs.Cores.{Core, clean_at}
 use Rattle.core_definitions.specs.Recoveries.{Recovery}
 use Rattle.core_definitions.specs.Writes.{Write, Writes, is_place_wanted, log_wanted_to, log_write, place_write, place_writes, rescue_writes, wanted_writes}
 use Rattle.core_definitions.specs.LineEffects.{cache_after, change_in, changed_by, committed_by, flight_after, kept_after, purpose_after, ring_after}
-use Rattle.core_transcripts.proofs.Numbering.{either_none, none_either}
 use Rattle.core_transcripts.proofs.Staging.{HasNoChanges}
 
 pub record IsBlank (server : Server) (flying : Bool) : Type 0 where
@@ -57,23 +57,23 @@ Keeps dirty server flying = IsSpotless dirty server → IsBlank server flying
 pub fetched_blank : (cache : Cache) (sector : ℕ) (block : Block) (cover : LockId) → any_kept is_dirty cache ≡ false → any_kept is_dirty (with_value cache sector (clean block cover)) ≡ false
 fetched_blank [] sector block cover h = refl
 fetched_blank (e ∷ es) sector block cover h =
-    let r : (is_dirty e.1 ≡ false) × (any_kept is_dirty es ≡ false) = either_none (is_dirty e.1) (any_kept is_dirty es) h in
+    let r : (is_dirty e.1 ≡ false) × (any_kept is_dirty es ≡ false) = or_parts (is_dirty e.1) (any_kept is_dirty es) h in
     go (nat_cmp sector e.0) r.0 r.1 (fetched_blank es sector block cover r.1)
   where
     go : (o : Ordering) → is_dirty e.1 ≡ false → any_kept is_dirty es ≡ false → any_kept is_dirty (with_value es sector (clean block cover)) ≡ false →
         any_kept is_dirty (match_ordering o ((sector, clean block cover) ∷ e ∷ es) ((e.0, clean block cover) ∷ es) (e ∷ with_value es sector (clean block cover))) ≡ false
-    go Less here rest then_ = none_either (is_dirty e.1) (any_kept is_dirty es) here rest
+    go Less here rest then_ = or_from (is_dirty e.1) (any_kept is_dirty es) here rest
     go Equal here rest then_ = rest
-    go Greater here rest then_ = none_either (is_dirty e.1) (any_kept is_dirty (with_value es sector (clean block cover))) here then_
+    go Greater here rest then_ = or_from (is_dirty e.1) (any_kept is_dirty (with_value es sector (clean block cover))) here then_
 
 pub dropped_blank : (cache : Cache) (lock : LockId) → any_kept is_dirty cache ≡ false → any_kept is_dirty (dropped cache lock) ≡ false
 dropped_blank [] lock h = refl
 dropped_blank (e ∷ es) lock h =
-    let r : (is_dirty e.1 ≡ false) × (any_kept is_dirty es ≡ false) = either_none (is_dirty e.1) (any_kept is_dirty es) h in
+    let r : (is_dirty e.1 ≡ false) × (any_kept is_dirty es ≡ false) = or_parts (is_dirty e.1) (any_kept is_dirty es) h in
     go (not (is_lock lock e.1.cover)) r.0 (dropped_blank es lock r.1)
   where
     go : (b : Bool) → is_dirty e.1 ≡ false → any_kept is_dirty (dropped es lock) ≡ false → any_kept is_dirty (cond b (e ∷ dropped es lock) (dropped es lock)) ≡ false
-    go true here rest = none_either (is_dirty e.1) (any_kept is_dirty (dropped es lock)) here rest
+    go true here rest = or_from (is_dirty e.1) (any_kept is_dirty (dropped es lock)) here rest
     go false here rest = rest
 
 -- each sector as dirty as it was
@@ -136,7 +136,7 @@ clean_wants logs locks number server stage entry h = by_dirt entry.1.dirt h refl
 no_places : (logs : LogRules) (locks : Locks) (number : ℕ) (server : Server) (stage : Option Stage) (cache : Cache) → any_kept is_dirty cache ≡ false → filter_map (wanted_at logs locks number server stage) cache ≡ []
 no_places logs locks number server stage [] h = refl
 no_places logs locks number server stage (e ∷ es) h =
-    let r : (is_dirty e.1 ≡ false) × (any_kept is_dirty es ≡ false) = either_none (is_dirty e.1) (any_kept is_dirty es) h in
+    let r : (is_dirty e.1 ≡ false) × (any_kept is_dirty es ≡ false) = or_parts (is_dirty e.1) (any_kept is_dirty es) h in
     ap (λ o. cons_option o (filter_map (wanted_at logs locks number server stage) es)) (clean_wants logs locks number server stage e r.0)
     ∙ no_places logs locks number server stage es r.1
 
@@ -150,16 +150,6 @@ no_writes setting locks number server stage flying b =
     gathered all = fold (λ writes entry. with_value writes entry.0 entry.1) [] all
 
 -- ---- writes in flight
-
-pub landed_stays : (ticket i : ℕ) (fs : Flights) → has_flights fs i ≡ false → has_flights (without fs ticket) i ≡ false
-landed_stays ticket i [] h = refl
-landed_stays ticket i (x ∷ xs) h =
-    let r : (is_of_mount i x.1 ≡ false) × (has_flights xs i ≡ false) = either_none (is_of_mount i x.1) (has_flights xs i) h in
-    go (is_at (nat_cmp ticket) x.0) r.0 r.1 (landed_stays ticket i xs r.1)
-  where
-    go : (b : Bool) → is_of_mount i x.1 ≡ false → has_flights xs i ≡ false → has_flights (without xs ticket) i ≡ false → has_flights (cond b xs (x ∷ remove_entry (is_at (nat_cmp ticket)) xs)) i ≡ false
-    go true here all rest = all
-    go false here all rest = none_either (is_of_mount i x.1) (has_flights (without xs ticket) i) here rest
 
 -- each write of a server is of its present mount as it was
 pub changed_flights : (a i : ℕ) (change : Flight → Flight) → ((flight : Flight) → is_of_mount i (change flight) ≡ is_of_mount i flight) → (fs : Flights) → has_flights (each_of_server a change fs) i ≡ has_flights fs i
@@ -182,48 +172,30 @@ looked_flights outcome i flight = go flight.present refl
 pub left_stays : (a i : ℕ) (fs : Flights) → has_flights fs i ≡ false → has_flights (left_behind a fs) i ≡ false
 left_stays a i [] h = refl
 left_stays a i (x ∷ xs) h =
-    let r : (is_of_mount i x.1 ≡ false) × (has_flights xs i ≡ false) = either_none (is_of_mount i x.1) (has_flights xs i) h in
-    none_either (is_of_mount i ((if nat_eq x.1.server a then (x.0, record x.1 { present = false }) else x).1)) (has_flights (left_behind a xs) i)
+    let r : (is_of_mount i x.1 ≡ false) × (has_flights xs i ≡ false) = or_parts (is_of_mount i x.1) (has_flights xs i) h in
+    or_from (is_of_mount i ((if nat_eq x.1.server a then (x.0, record x.1 { present = false }) else x).1)) (has_flights (left_behind a xs) i)
     (go (nat_eq x.1.server a) r.0) (left_stays a i xs r.1)
   where
-    no_mount : (b : Bool) → (b && false) ≡ false
-    no_mount true = refl
-    no_mount false = refl
-
     go : (b : Bool) → is_of_mount i x.1 ≡ false → is_of_mount i ((if b then (x.0, record x.1 { present = false }) else x).1) ≡ false
-    go true here = no_mount (nat_eq x.1.server i)
+    go true here = and-false (nat_eq x.1.server i)
     go false here = here
-
-pub lost_stays : (a i : ℕ) (fs : Flights) → has_flights fs i ≡ false → has_flights (lost a fs) i ≡ false
-lost_stays a i [] h = refl
-lost_stays a i (x ∷ xs) h =
-    let r : (is_of_mount i x.1 ≡ false) × (has_flights xs i ≡ false) = either_none (is_of_mount i x.1) (has_flights xs i) h in
-    go (not (nat_eq x.1.server a)) r.0 (lost_stays a i xs r.1)
-  where
-    go : (b : Bool) → is_of_mount i x.1 ≡ false → has_flights (lost a xs) i ≡ false →
-        has_flights (cond b (x ∷ lost a xs) (lost a xs)) i ≡ false
-    go true here rest = none_either (is_of_mount i x.1) (has_flights (lost a xs) i) here rest
-    go false here rest = rest
 
 -- one more, of another server
 pub issued_stays : (fs : Flights) (ticket i : ℕ) (flight : Flight) → is_of_mount i flight ≡ false → has_flights fs i ≡ false → has_flights (fs ++ (ticket, flight) ∷ []) i ≡ false
-issued_stays [] ticket i flight n h = none_either (is_of_mount i flight) false n refl
+issued_stays [] ticket i flight n h = or_from (is_of_mount i flight) false n refl
 issued_stays (x ∷ xs) ticket i flight n h =
-    let r : (is_of_mount i x.1 ≡ false) × (has_flights xs i ≡ false) = either_none (is_of_mount i x.1) (has_flights xs i) h in
-    none_either (is_of_mount i x.1) (has_flights (xs ++ (ticket, flight) ∷ []) i) r.0 (issued_stays xs ticket i flight n r.1)
+    let r : (is_of_mount i x.1 ≡ false) × (has_flights xs i ≡ false) = or_parts (is_of_mount i x.1) (has_flights xs i) h in
+    or_from (is_of_mount i x.1) (has_flights (xs ++ (ticket, flight) ∷ []) i) r.0 (issued_stays xs ticket i flight n r.1)
 
 -- one that is in flight counts
 pub flies : (fs : Flights) (ticket i : ℕ) (flight : Flight) → value_at fs ticket ≡ Some flight → has_flights fs i ≡ false → is_of_mount i flight ≡ false
 flies [] ticket i flight e h = absurd (cc)
 flies (x ∷ xs) ticket i flight e h =
-    let r : (is_of_mount i x.1 ≡ false) × (has_flights xs i ≡ false) = either_none (is_of_mount i x.1) (has_flights xs i) h in
+    let r : (is_of_mount i x.1 ≡ false) × (has_flights xs i ≡ false) = or_parts (is_of_mount i x.1) (has_flights xs i) h in
     go (is_at (nat_cmp ticket) x.0) e r.0 (λ f. flies xs ticket i flight f r.1)
   where
-    same_flight : (y z : Flight) → Some y ≡ Some z → y ≡ z
-    same_flight y z e = cc
-
     go : (b : Bool) → (if b then Some x.1 else value_at xs ticket) ≡ Some flight → is_of_mount i x.1 ≡ false → (value_at xs ticket ≡ Some flight → is_of_mount i flight ≡ false) → is_of_mount i flight ≡ false
-    go true e here behind = subst (λ z. is_of_mount i z ≡ false) (same_flight x.1 flight e) here
+    go true e here behind = subst (λ z. is_of_mount i z ≡ false) (same_Some x.1 flight e) here
     go false e here behind = behind e
 
 -- it is clean

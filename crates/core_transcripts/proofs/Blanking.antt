@@ -1,7 +1,8 @@
 -- Every event keeps it: who may have changed nothing since its mount, and began no recovery, has nothing to write.
 use Rattle.std.proofs.Common.{ℕ, ◌≡◌, Bool, true, false, not, ◌&&◌, ◌||◌, if◌then◌else◌, IsTrue, is_some, List, Option, Some, None, refl, sym, ap, ◌∙◌, subst}
-use Rattle.std.proofs.lemmas.Bool.{false≢true}
+use Rattle.std.proofs.lemmas.Bool.{false≢true, eq-eqb, or_from, or_parts}
 use Rattle.std.specs.Option.{option_map}
+use Rattle.std.proofs.lemmas.Option.{same_Some}
 use Rattle.frang_base.specs.declared.lock.LockId.{LockId}
 use Rattle.frang_base.specs.declared.op.Op.{Op}
 use Rattle.frang_base.specs.declared.op.What.TheVariants.{Server as OfServer}
@@ -25,7 +26,6 @@ use Rattle.core_definitions.specs.LineGuards.{CanAgain, is_grown, is_moved, is_o
 use Rattle.core_definitions.specs.LineEffects.{again_by, begun_line, begun_with, cached_under, cleared_at, cover_needed, fetched_by, set_anew, set_grown, slot_read, with_under}
 use Rattle.core_transcripts.proofs.Blank.{IsBlank, IsSpotless, Keeps, fetched_blank, is_changing}
 use Rattle.core_transcripts.proofs.Happening.{server_asks}
-use Rattle.core_transcripts.proofs.Numbering.{either_none, none_either, number_same}
 use Rattle.core_transcripts.proofs.Staging.{HasNoChanges, StageLooks, stage_looks}
 
 -- ---- servers that stay so
@@ -97,13 +97,13 @@ begun_kept d server x (Some line) idle k = go (operation_of line.what)
     none (Some u) h = absurd (false≢true h)
 
     or_false : (b : Bool) (l : Bool) → l ≡ false → b ≡ false → (b || l) ≡ false
-    or_false b l e f = none_either b l f e
+    or_false b l e f = or_from b l f e
 
     go : (o : Option Op) → Keeps d (begun_with server line o) x
     go None = k
     go (Some o) =
         keep d d server (begun_with server line (Some o)) x x
-        (λ s. record { mounted = s.mounted; clean_ = or_false d (is_changing server.under) (none server.under idle) (either_none d (asks_change line.what) s.clean_).0 })
+        (λ s. record { mounted = s.mounted; clean_ = or_false d (is_changing server.under) (none server.under idle) (or_parts d (asks_change line.what) s.clean_).0 })
         (same_blank server (begun_with server line (Some o)) x refl refl refl) k
 
 -- ---- how far its line has come
@@ -115,9 +115,6 @@ pub record HasStage (c : Core) (a : ℕ) (at : Stage) : Type 0 where
   pub is : operation_of u.line.what ≡ Some operation
   pub stage_is : stage_at c.setting c.locks a (c.servers a).cache u operation ≡ at
 
-stage_some : (x y : Stage) → Some x ≡ Some y → x ≡ y
-stage_some x y e = cc
-
 if_stage : (b : Bool) (x : Option Stage) (s : Stage) → (if b then x else None) ≡ Some s → x ≡ Some s
 if_stage true x s e = e
 if_stage false x s e = absurd (cc)
@@ -128,7 +125,7 @@ stage_parts c a at e =
   where
     by_operation : (u : Under) → (c.servers a).under ≡ Some u → (o : Option Op) → operation_of u.line.what ≡ o → stage_with c.setting c.locks a (c.servers a).cache u o ≡ Some at → HasStage c a at
     by_operation u under None is e = absurd (cc)
-    by_operation u under (Some o) is e = record { u = u; under = under; operation = o; is = is; stage_is = stage_some (stage_at c.setting c.locks a (c.servers a).cache u o) at e }
+    by_operation u under (Some o) is e = record { u = u; under = under; operation = o; is = is; stage_is = same_Some (stage_at c.setting c.locks a (c.servers a).cache u o) at e }
 
     by_under : (o : Option Under) → (c.servers a).under ≡ o → stage_under c.setting c.locks a (c.servers a).cache o ≡ Some at → HasStage c a at
     by_under None under e = absurd (cc)
@@ -141,7 +138,7 @@ looks_at c a at d h e =
     (stage_looks c.setting c.locks a (c.servers a).cache h.u h.operation (look (server_asks h.u.line.what h.operation h.is)))
   where
     quiet : is_changing (Some h.u) ≡ false
-    quiet = subst (λ o. is_changing o ≡ false) h.under (either_none d (is_changing (c.servers a).under) e).1
+    quiet = subst (λ o. is_changing o ≡ false) h.under (or_parts d (is_changing (c.servers a).under) e).1
 
     look : h.u.line.what ≡ OfServer h.operation → may_change h.operation ≡ false
     look w = sym (ap asks_change w) ∙ quiet
@@ -180,4 +177,4 @@ pub said_clean : (script : List Line) (a : ℕ) (d : Bool) (u : Under) (r : Repl
 said_clean script a d u r line m e =
     told_clean d (is_mounted r) (asks_change u.line.what) m
     (subst (λ o. ((not (is_mounted r) && (d || is_change_line o)) || false) ≡ false) line
-    (subst (λ b. ((if b then not (is_mounted r) && (d || is_change_line (line_of script u.line.number)) else d) || false) ≡ false) (number_same a) e))
+    (subst (λ b. ((if b then not (is_mounted r) && (d || is_change_line (line_of script u.line.number)) else d) || false) ≡ false) (eq-eqb a a refl) e))

@@ -1,6 +1,6 @@
 -- What calls for a death, by the lines said: it is the same whatever faults are told, and stays while nothing is said of its server.
 use Rattle.std.proofs.Common.{ℕ, suc, ◌≡◌, ◌+◌, Bool, true, false, not, ◌&&◌, ◌||◌, if◌then◌else◌, IsTrue, List, [], ◌∷◌, ◌++◌, Option, Some, None, filter, length, nat_eq, refl, sym, ap, ◌∙◌, subst}
-use Rattle.std.proofs.lemmas.Bool.{false≢true}
+use Rattle.std.proofs.lemmas.Bool.{false≢true, or_left}
 use Rattle.std.specs.List.{slice_get}
 use Rattle.frang_base.specs.declared.op.Op.{Op}
 use Rattle.frang_base.specs.declared.op.What.{What}
@@ -98,10 +98,6 @@ aside_io i x h = refl
 pub aside_explained : (script : List Line) (i : ℕ) (saids : List Said) (x : Said) → IsAside i x → is_unexplained script i saids x ≡ false
 aside_explained script i saids (said.Dead s) h = ap (λ b. b && not (may_die_now script no_faults saids i)) h
 aside_explained script i saids x h = refl
-
-or_left : (a b : Bool) → IsTrue a → IsTrue (a || b)
-or_left true b h = refl
-or_left false b h = absurd (false≢true h)
 
 aside_dirty : (script : List Line) (i : ℕ) (d : Bool) (x : Said) → IsAside i x → IsTrue d → IsTrue (dirty_after script i d x)
 aside_dirty script i d (said.Answer s n r) h t = subst (λ b. IsTrue (if b then not (is_mounted r) && (d || is_change_line (line_of script n)) else d)) (sym h) t

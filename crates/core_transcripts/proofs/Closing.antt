@@ -1,6 +1,6 @@
 -- The lines of the tree, and the end.
 use Rattle.std.proofs.Common.{ℕ, ◌≡◌, ◌≤◌, ◌+◌, Bool, true, false, not, ◌&&◌, IsTrue, List, [], ◌∷◌, Option, Some, None, refl, sym, subst, arith}
-use Rattle.std.proofs.lemmas.Bool.{false≢true}
+use Rattle.std.proofs.lemmas.Bool.{false≢true, not_from_false, and_from}
 use Rattle.std.specs.List.{slice_get}
 use Rattle.frang_base.specs.declared.said.Said.{Said}
 use Rattle.frang_base.specs.declared.said.Said.TheVariants as said
@@ -17,7 +17,7 @@ use Rattle.core_laws.proofs.Parties.{server_in}
 use Rattle.core_transcripts.specs.Transcripts.{IsNumbered, MayEnd, MaySayButTree}
 use Rattle.core_transcripts.proofs.Fits.{PhaseFits, key_of}
 use Rattle.core_transcripts.proofs.Fitting.{AtRest, told_of}
-use Rattle.core_transcripts.proofs.Happening.{CoreFits, Turn, Quiet, Speaks, both_true}
+use Rattle.core_transcripts.proofs.Happening.{CoreFits, Turn, Quiet, Speaks}
 use Rattle.core_transcripts.proofs.Saying.{are_marked}
 use Rattle.core_transcripts.proofs.Spoken.{end_fitting, node_fitting}
 use Rattle.core_transcripts.proofs.Telling.{all_in, below_less, got_in, in_all, tree_nodes}
@@ -32,10 +32,6 @@ off_settled Still q all e h fits = absurd (false≢true h)
 off_settled (Doomed f) q all e h fits = absurd (false≢true h)
 off_settled Dead q all e h fits = absurd (false≢true h)
 
-not_so : (b : Bool) → b ≡ false → IsTrue (not b)
-not_so true e = absurd (false≢true (sym e))
-not_so false e = refl
-
 some_said : (n : ℕ) → n + 1 ≡ 0 → ⊥
 some_said n e = absurd (omega (arith, e))
 
@@ -46,8 +42,8 @@ module _ (opening : Opening) (f : Faults) (stay : (early late server : ℕ) → 
 
   may_end : IsTreeRead c → MayEnd c.setting.script f saids
   may_end read =
-      both_true (not (is_over c.setting.script saids) && are_answered c.setting.script saids) (all_settled c.setting.script f saids)
-      (both_true (not (is_over c.setting.script saids)) (are_answered c.setting.script saids) (not_so (is_over c.setting.script saids) (g.going going))
+      and_from (not (is_over c.setting.script saids) && are_answered c.setting.script saids) (all_settled c.setting.script f saids)
+      (and_from (not (is_over c.setting.script saids)) (are_answered c.setting.script saids) (not_from_false (is_over c.setting.script saids) (g.going going))
       (subst (λ b. IsTrue b) (sym (are_marked c.answered saids c.setting.script g.marks)) read.answered))
       (all_in (λ server. is_settled (state_of c.setting.script f server saids).phase) (below 16)
       (λ i there. off_settled (c.servers i).phase (state_of c.setting.script f i saids).phase (told_of c.setting.script f saids c.answered i).all (told_of c.setting.script f saids c.answered i).faulted

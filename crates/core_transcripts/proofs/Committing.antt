@@ -1,7 +1,8 @@
 -- Answers of lines over paths, at their commit, and of the host's lines.
 use Rattle.std.proofs.Common.{ℕ, ◌≡◌, ◌≤◌, Bool, true, false, not, ◌&&◌, ◌||◌, ◌==◌, if◌then◌else◌, IsTrue, is_some, List, [], ◌∷◌, ◌++◌, Option, Some, None, nat_eq, refl, sym, ap, ◌∙◌, subst}
-use Rattle.std.proofs.lemmas.Bool.{false≢true}
+use Rattle.std.proofs.lemmas.Bool.{false≢true, eqb-true, and_parts}
 use Rattle.std.specs.Option.{IsSome, option_map}
+use Rattle.std.proofs.lemmas.Option.{same_Some}
 use Rattle.frang_base.specs.Functions.{put}
 use Rattle.frang_base.specs.declared.op.Op.{Op}
 use Rattle.frang_base.specs.declared.op.What.{What}
@@ -10,6 +11,7 @@ use Rattle.frang_base.specs.declared.reply.Reply.TheVariants as reply
 use Rattle.frang_base.specs.declared.said.Said.{Said}
 use Rattle.frang_base.specs.declared.said.Said.TheVariants as said
 use Rattle.frang_base.specs.declared.script.Line.{Line}
+use Rattle.frang_base.proofs.Tests.{or_more}
 use Rattle.tree_definitions.specs.Apply.{is_path_op}
 use Rattle.tree_definitions.specs.History.{Opening}
 use Rattle.tree_definitions.specs.Transcript.{Faults, after_asked, are_answered, is_halt, lines_before, may_answer, may_reply, state_of}
@@ -29,14 +31,15 @@ use Rattle.core_transcripts.specs.Transcripts.{IsNumbered, MaySayButTree, is_hos
 use Rattle.core_transcripts.proofs.Answering.{HasOperation, Now, Then, answers_up, has, is_under, it, later, none_all, operation_under, speaks}
 use Rattle.core_transcripts.proofs.Fits.{DoomFits, Fits, IsUnder, Key, OwingFits, PhaseFits, Told, UnderFits, asked_of, key_of}
 use Rattle.core_transcripts.proofs.Fitting.{Fitting, told_of}
-use Rattle.core_transcripts.proofs.Happening.{CoreFits, Turn, Speaks, keys, line_given, same_some}
-use Rattle.core_transcripts.proofs.Numbering.{OfNext, both_first, both_second, numbers_are, of_next}
+use Rattle.core_transcripts.proofs.Happening.{CoreFits, Turn, Speaks, keys, line_given}
+use Rattle.core_transcripts.proofs.Numbering.{OfNext, of_next}
 use Rattle.core_transcripts.proofs.Owning.{committed_fits}
 use Rattle.core_transcripts.proofs.Replies.{phase_then}
 use Rattle.core_transcripts.proofs.Saying.{are_marked}
 use Rattle.core_transcripts.proofs.Spoken.{all_then, answered_fitting, own_state, rises_one}
 use Rattle.core_transcripts.proofs.Staging.{StageIsPlain, stage_plain}
 use Rattle.core_transcripts.proofs.Telling.{in_all}
+use Rattle.core_transcripts.proofs.Dooming.{may_die_if}
 
 if_stage : (b : Bool) (x : Option Stage) (s : Stage) → (if b then x else None) ≡ Some s → IsTrue b × (x ≡ Some s)
 if_stage true x s e = (refl, e)
@@ -57,10 +60,6 @@ off_doom Up t h = tt
 off_doom Still t h = tt
 off_doom (Doomed f) t h = absurd (false≢true h)
 off_doom Dead t h = tt
-
-or_more : (a b c : Bool) → (IsTrue b → IsTrue c) → IsTrue (a || b) → IsTrue (a || c)
-or_more true b c more h = refl
-or_more false b c more h = more h
 
 -- one that is off and has no line under way
 idle_fits : (k : Key) (t u : Told) → u.state ≡ t.state → (IsTrue t.faulted → IsTrue u.faulted) → (IsTrue t.all → IsTrue u.all) → IsTrue (is_off k.phase) → k.asked ≡ None → Fits k t → Fits k u
@@ -98,10 +97,10 @@ module _ (opening : Opening) (f : Faults) (stay : (early late server : ℕ) → 
         h = has opening f stay c saids numbered going g a can.server u under answers
 
         path : IsTrue (is_path_op h.operation)
-        path = subst (λ o. IsTrue (asked_by is_path_op o)) h.is (both_second (not (is_some u.fixed)) (asked_by is_path_op (operation_of u.line.what)) waits)
+        path = subst (λ o. IsTrue (asked_by is_path_op o)) h.is (and_parts (not (is_some u.fixed)) (asked_by is_path_op (operation_of u.line.what)) waits).1
 
         at : stage_at c.setting c.locks a (c.servers a).cache u h.operation ≡ Finishing outcome
-        at = same_some (stage_at c.setting c.locks a (c.servers a).cache u h.operation) (Finishing outcome) (subst (λ o. stage_with c.setting c.locks a (c.servers a).cache u o ≡ Some (Finishing outcome)) h.is with_it)
+        at = same_Some (stage_at c.setting c.locks a (c.servers a).cache u h.operation) (Finishing outcome) (subst (λ o. stage_with c.setting c.locks a (c.servers a).cache u o ≡ Some (Finishing outcome)) h.is with_it)
 
         both : Fits (key_of (committed_by outcome (c.servers a))) (Then opening f stay c saids numbered going g a can.server u under answers outcome.reply)
             × IsTrue (may_answer (Now opening f stay c saids numbered going g a).state (Now opening f stay c saids numbered going g a).faulted h.operation outcome.reply)
@@ -128,7 +127,7 @@ module _ (opening : Opening) (f : Faults) (stay : (early late server : ℕ) → 
     by_stage (Some (Finishing outcome)) e some =
         let d : IsTrue (is_up (c.servers a).phase && asks is_path_op (c.servers a)) × (stage_under c.setting c.locks a (c.servers a).cache (c.servers a).under ≡ Some (Finishing outcome)) =
         if_stage (is_up (c.servers a).phase && asks is_path_op (c.servers a)) (stage_under c.setting c.locks a (c.servers a).cache (c.servers a).under) (Finishing outcome) e in
-        by_under outcome e (both_first (is_up (c.servers a).phase) (asks is_path_op (c.servers a)) d.0) (c.servers a).under refl (both_second (is_up (c.servers a).phase) (asks is_path_op (c.servers a)) d.0) d.1
+        by_under outcome e (and_parts (is_up (c.servers a).phase) (asks is_path_op (c.servers a)) d.0).0 (c.servers a).under refl (and_parts (is_up (c.servers a).phase) (asks is_path_op (c.servers a)) d.0).1 d.1
 
     pub commit_turn : Turn (MaySayButTree c.setting.script opening f) c.setting.script f saids (says_answer a (c.servers a).under (reply_by (stage c a))) (committed_at c a (stage c a))
     commit_turn = by_stage (stage c a) refl can.done
@@ -139,11 +138,7 @@ module _ (opening : Opening) (f : Faults) (stay : (early late server : ℕ) → 
   host_what : (l : Line) → next_line c.setting.script c.answered host_party ≡ Some l → IsTrue (is_host_what l.what)
   host_what l next =
       let n : OfNext c.setting.script c.answered host_party l = of_next c.setting.script c.answered host_party l next in
-      hosted (nat_eq l.who.0 host_party) (is_host_what l.what) n.his (in_all is_hosted c.setting.script l numbered.hosted n.there)
-    where
-      hosted : (b w : Bool) → b ≡ true → IsTrue (not b || w) → IsTrue w
-      hosted true w e h = h
-      hosted false w e h = absurd (false≢true e)
+      may_die_if (nat_eq l.who.0 host_party) (is_host_what l.what) n.his (in_all is_hosted c.setting.script l numbered.hosted n.there)
 
   -- so the host has none under way
   host_idle : (o : Option Under) → (c.servers host_party).under ≡ o → option_map asked_of o ≡ None
@@ -193,4 +188,4 @@ module _ (opening : Opening) (f : Faults) (stay : (early late server : ℕ) → 
       go None e h = absurd (false≢true h)
       go (Some l) e h =
           subst (λ o. Turn (MaySayButTree c.setting.script opening f) c.setting.script f saids (Says (said.Answer (id_of host_party) number reply.Ok) ∷ []) (host_answered_line c o)) (sym e)
-          (host_line number can l e (numbers_are l.number number h))
+          (host_line number can l e (eqb-true l.number number h))

@@ -1,6 +1,6 @@
 -- Why a server is doomed, and what is told of it then.
 use Rattle.std.proofs.Common.{ℕ, ◌≡◌, Bool, true, false, not, ◌&&◌, ◌||◌, ◌==◌, IsTrue, is_some, [], ◌∷◌, Option, Some, None, nat_lt, nat_le, refl, sym, ◌∙◌, subst}
-use Rattle.std.proofs.lemmas.Bool.{false≢true}
+use Rattle.std.proofs.lemmas.Bool.{false≢true, and_parts, or_right, or_left}
 use Rattle.std.specs.List.{list_any}
 use Rattle.frang_base.specs.declared.op.What.{What}
 use Rattle.frang_base.specs.declared.op.What.TheVariants.{Server as OfServer, Host as OfHost}
@@ -22,22 +22,6 @@ use Rattle.core_transcripts.proofs.Fits.{Fits, IsUnder, Told, asked_of, key_of}
 use Rattle.core_transcripts.proofs.Answering.{is_under}
 use Rattle.core_transcripts.proofs.Lives.{phase_told}
 use Rattle.core_transcripts.proofs.Turns.{IsDoomed}
-
-or_left : (a b : Bool) → IsTrue a → IsTrue (a || b)
-or_left true b h = refl
-or_left false b h = absurd (false≢true h)
-
-or_right : (a b : Bool) → IsTrue b → IsTrue (a || b)
-or_right true b h = refl
-or_right false b h = h
-
-first : (a b : Bool) → IsTrue (a && b) → IsTrue a
-first true b h = refl
-first false b h = absurd (false≢true h)
-
-second : (a b : Bool) → IsTrue (a && b) → IsTrue b
-second true b h = h
-second false b h = absurd (false≢true h)
 
 -- ---- an Issue is held back only at a server that is up
 
@@ -66,7 +50,7 @@ armed_last : (o : Option Arming) → IsTrue (is_at_last o) → IsTrue (is_some o
 armed_last None h = absurd (false≢true h)
 armed_last (Some arming) h = refl
 
-may_die_if : (armed dies : Bool) → IsTrue armed → IsTrue (not armed || dies) → IsTrue dies
+pub may_die_if : (armed dies : Bool) → IsTrue armed → IsTrue (not armed || dies) → IsTrue dies
 may_die_if true dies a h = h
 may_die_if false dies a h = absurd (false≢true a)
 
@@ -101,7 +85,7 @@ module _ (c : Core) (a : ℕ) (t : Told) (g : Fits (key_of (c.servers a)) t) (ca
   crash_next None e h = absurd (false≢true h)
   crash_next (Some u) e h =
       let i : IsUnder server.phase server.owes t (asked_of u) = is_under server.phase server.owes t server.under u e g.under in
-      subst (λ n. IsTrue (is_crash_line n)) (sym i.next) (crash_asked u.line.what (second (not (is_some u.fixed)) (asked_by is_crash (operation_of u.line.what)) h))
+      subst (λ n. IsTrue (is_crash_line n)) (sym i.next) (crash_asked u.line.what (and_parts (not (is_some u.fixed)) (asked_by is_crash (operation_of u.line.what)) h).1)
 
   faulted_told : IsTrue server.failed → IsTrue t.faulted
   faulted_told h = failed_if server.failed t.faulted h g.failed
@@ -126,17 +110,17 @@ module _ (c : Core) (a : ℕ) (t : Told) (g : Fits (key_of (c.servers a)) t) (ca
 
   crashing : IsTrue (is_crashing server) → IsDoomed server t (fate_of c a)
   crashing h = record {
-    mount = or_left (is_up server.phase) (is_still server.phase) (first (is_up server.phase) (asks is_crash server) h);
+    mount = or_left (is_up server.phase) (is_still server.phase) (and_parts (is_up server.phase) (asks is_crash server) h).0;
     up_fate = up_free;
-    still_fate = λ s. absurd (up_still_not server.phase (first (is_up server.phase) (asks is_crash server) h) s);
+    still_fate = λ s. absurd (up_still_not server.phase (and_parts (is_up server.phase) (asks is_crash server) h).0 s);
     cause =
         or_left (is_called_for t.state t.next t.dirty) t.faulted
-        (called_crash t.state.may_die (is_crash_line t.next) (is_stalled t.state.phase && t.dirty) (crash_next server.under refl (second (is_up server.phase) (asks is_crash server) h)));
+        (called_crash t.state.may_die (is_crash_line t.next) (is_stalled t.state.phase && t.dirty) (crash_next server.under refl (and_parts (is_up server.phase) (asks is_crash server) h).1));
   }
 
   held_back : IsTrue (is_held_back c a (writes c a)) → IsDoomed server t (fate_of c a)
   held_back h =
-      let up : IsTrue (is_up server.phase) = some_up c a can.server (writes c a) (writes c a) (second (is_at_last server.arming) (list_any (λ entry. is_issuable c a entry.0 (writes c a)) (writes c a)) h) in
+      let up : IsTrue (is_up server.phase) = some_up c a can.server (writes c a) (writes c a) (and_parts (is_at_last server.arming) (list_any (λ entry. is_issuable c a entry.0 (writes c a)) (writes c a)) h).1 in
       record {
         mount = or_left (is_up server.phase) (is_still server.phase) up;
         up_fate = up_free;
@@ -144,7 +128,7 @@ module _ (c : Core) (a : ℕ) (t : Told) (g : Fits (key_of (c.servers a)) t) (ca
         cause =
             or_left (is_called_for t.state t.next t.dirty) t.faulted
             (called_armed t.state.may_die (is_crash_line t.next) (is_stalled t.state.phase && t.dirty)
-            (may_die_if (is_some server.arming) t.state.may_die (armed_last server.arming (first (is_at_last server.arming) (list_any (λ entry. is_issuable c a entry.0 (writes c a)) (writes c a)) h)) g.armed));
+            (may_die_if (is_some server.arming) t.state.may_die (armed_last server.arming (and_parts (is_at_last server.arming) (list_any (λ entry. is_issuable c a entry.0 (writes c a)) (writes c a)) h).0) g.armed));
       }
 
   -- its lease has ended while it isn't clean, or a call failed
@@ -159,7 +143,7 @@ module _ (c : Core) (a : ℕ) (t : Told) (g : Fits (key_of (c.servers a)) t) (ca
 
   past_lease : IsTrue (is_past_lease c a) → IsTrue (not (clean_at c a)) → IsDoomed server t (fate_of c a)
   past_lease p n =
-      let still : IsTrue (is_still server.phase) = first (is_still server.phase) (nat_lt server.expiry c.now) p in
+      let still : IsTrue (is_still server.phase) = (and_parts (is_still server.phase) (nat_lt server.expiry c.now) p).0 in
       record {
         mount = or_right (is_up server.phase) (is_still server.phase) still;
         up_fate = up_free;
@@ -175,9 +159,9 @@ module _ (c : Core) (a : ℕ) (t : Told) (g : Fits (key_of (c.servers a)) t) (ca
 
   faulted : IsTrue (is_faulted server) → IsDoomed server t (fate_of c a)
   faulted h =
-      let failed : IsTrue server.failed = second (is_up server.phase || is_still server.phase) server.failed h in
+      let failed : IsTrue server.failed = (and_parts (is_up server.phase || is_still server.phase) server.failed h).1 in
       record {
-        mount = first (is_up server.phase || is_still server.phase) server.failed h;
+        mount = (and_parts (is_up server.phase || is_still server.phase) server.failed h).0;
         up_fate = up_free;
         still_fate = λ s. or_right (fate_of c a).owes t.faulted (faulted_told failed);
         cause = or_right (is_called_for t.state t.next t.dirty) t.faulted (faulted_told failed);

@@ -1,6 +1,6 @@
 -- A server is doomed only where the lines said call for its death or a call of its present mount failed; and a death that they call for is explained by them.
 use Rattle.std.proofs.Common.{ℕ, ◌≡◌, Bool, true, false, not, ◌&&◌, ◌||◌, IsTrue, List, Option, Some, None, filter, length, nat_eq, refl, sym, ap, ◌∙◌, subst}
-use Rattle.std.proofs.lemmas.Bool.{false≢true}
+use Rattle.std.proofs.lemmas.Bool.{false≢true, and_from, or_left}
 use Rattle.frang_base.specs.declared.op.Op.{Op}
 use Rattle.frang_base.specs.declared.reply.Reply.{Reply}
 use Rattle.frang_base.specs.declared.said.Said.{Said}
@@ -86,10 +86,6 @@ own_fits k t m g = record {
 
 -- ---- a doom
 
-or_left : (a b : Bool) → IsTrue a → IsTrue (a || b)
-or_left true b h = refl
-or_left false b h = absurd (false≢true h)
-
 module _ (script : List Line) (f : Faults) (c : Core) (saids : List Said) (g : CoreFits script f saids c) where
   abbrev Now : ℕ → Told
   Now a = told_of script f saids c.answered a
@@ -115,10 +111,6 @@ module _ (script : List Line) (f : Faults) (c : Core) (saids : List Said) (g : C
 
   -- ---- a death
 
-  both_true : (x y : Bool) → IsTrue x → IsTrue y → IsTrue (x && y)
-  both_true true y h k = k
-  both_true false y h k = absurd (false≢true h)
-
   or_none : (x : Bool) → IsTrue x → IsTrue (x || false)
   or_none true h = refl
   or_none false h = absurd (false≢true h)
@@ -131,7 +123,7 @@ module _ (script : List Line) (f : Faults) (c : Core) (saids : List Said) (g : C
   pub death_explained : (a : ℕ) (fate : Fate) → (c.servers a).phase ≡ Doomed fate → IsTrue (called script a saids) → is_unexplained script a saids (said.Dead (id_of a)) ≡ false
   death_explained a fate is h =
       no_more (nat_eq a a) (may_die_now script no_faults saids a)
-      (both_true (is_told_in_mount (state_of script no_faults a saids).phase) (called script a saids || false)
+      (and_from (is_told_in_mount (state_of script no_faults a saids).phase) (called script a saids || false)
       (subst (λ p. IsTrue (is_told_in_mount p)) (sym (state_alike script f no_faults a saids).phase)
       (doomed_in_mount fate (Now a).state.phase (Now a).all (Now a).faulted (subst (λ p. PhaseFits p (Now a).state.phase (Now a).all (Now a).faulted) is (g.servers a).phase)))
       (or_none (called script a saids) h))

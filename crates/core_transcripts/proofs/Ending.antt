@@ -1,8 +1,9 @@
 -- Over every run: it is over exactly where the lines said or a failed call of the host tell so; and the clock comes to its last moment at most.
 use Rattle.std.proofs.Common.{ℕ, ◌≡◌, ◌≤◌, Bool, true, false, not, ◌||◌, ◌==◌, IsTrue, nat_lt, refl, sym, ◌∙◌, subst, arith}
-use Rattle.std.proofs.lemmas.Bool.{false≢true}
+use Rattle.std.proofs.lemmas.Bool.{false≢true, and_parts, not-true}
 use Rattle.std.proofs.lemmas.Bool.Decides.{nat_tests}
 use Rattle.std.proofs.lemmas.List.Elements.{filter_map-append}
+use mathlib.Core.Bool.{or_assoc}
 use Rattle.frang_base.specs.declared.limits.TheConstants.{LAST_TICK}
 use Rattle.sector_bytes.specs.Sectors.{Sectors}
 use Rattle.tree_definitions.specs.History.{Opening}
@@ -12,11 +13,11 @@ use Rattle.core_definitions.specs.Settings.{Setting}
 use Rattle.core_definitions.specs.Effects.{after, deeds_of}
 use Rattle.core_definitions.specs.Runs.{State, Step, Event_, Enter, Hold, Flush, Relock, Note, Peek, Run, Stays, Goes, first_state, goes_on, is_note, said_by, saids_of}
 use Rattle.core_laws.specs.Facts.{OffHasNoFlights}
+use Rattle.core_laws.proofs.Along.{longer}
 use Rattle.core_transcripts.specs.Faults.{failing, fails_at, has_failed, is_of, run_faults}
 use Rattle.core_transcripts.specs.Transcripts.{IsNumbered}
-use Rattle.core_transcripts.proofs.Numbering.{both_first, both_second, not_true}
 use Rattle.core_transcripts.proofs.Rising.{run_has_its_faults}
-use Rattle.core_transcripts.proofs.Running.{Holds, goes_further, holds_of_run}
+use Rattle.core_transcripts.proofs.Running.{Holds, holds_of_run}
 use Rattle.core_transcripts.proofs.Overs.{clock_stands, ends_so, host_fails}
 
 -- ---- tests
@@ -40,10 +41,6 @@ no_more over true x t = t
 no_more over false true t = t
 no_more over false false t = t
 
-or_behind : (a b c : Bool) → ((a || b) || c) ≡ (a || (b || c))
-or_behind true b c = refl
-or_behind false b c = refl
-
 module _ (opening : Opening) (setting : Setting) (disk : Sectors) (numbered : IsNumbered setting.script) (ashore : OffHasNoFlights) where
   module _ (s : State) (run : Run (first_state setting disk) s) where
     holds : Holds opening setting disk numbered (run_faults (first_state setting disk) s run) (run_has_its_faults (first_state setting disk) s run).1.stay ashore (saids_of s.record_) s.core
@@ -60,31 +57,31 @@ module _ (opening : Opening) (setting : Setting) (disk : Sectors) (numbered : Is
   step_told : (s v : State) (before : Run (first_state setting disk) s) (step : Step s v) (x : Bool) → Told s x → Told v (x || is_of host_party (fails_at s v step))
   step_told s v before (Event_ event heard makes) x t =
       told_by (after s.core event heard).over (is_over setting.script (saids_of v.record_)) x (is_of host_party (failing s.core event heard))
-      (none_yet s.core.over (is_over setting.script (saids_of s.record_)) x going t) (goes_on_saying v (goes_further (first_state setting disk) s v before (Event_ event heard makes)))
+      (none_yet s.core.over (is_over setting.script (saids_of s.record_)) x going t) (goes_on_saying v (longer (first_state setting disk) s v before (Event_ event heard makes)))
       (host_fails s.core event heard makes.can.can)
       (λ e. subst (λ z. (is_over z.script (saids_of v.record_) || is_of host_party (failing s.core event heard)) ≡ true) (holds s before).same
       (subst (λ ss. (is_over s.core.setting.script ss || is_of host_party (failing s.core event heard)) ≡ true) (sym (filter_map-append said_by s.record_ (deeds_of s.core event heard)))
       (ends_so s.core (saids_of s.record_) (subst (λ z. IsNumbered z.script) (sym (holds s before).same) numbered) going event heard s.disk makes.can.can makes.hears e)))
     where
       going : s.core.over ≡ false
-      going = not_true s.core.over makes.can.going
+      going = not-true s.core.over makes.can.going
   step_told s v before (Enter a line n) x t = no_more s.core.over (is_over setting.script (saids_of s.record_)) x t
   step_told s v before (Hold a on server) x t = no_more s.core.over (is_over setting.script (saids_of s.record_)) x t
   step_told s v before (Flush a server) x t = no_more s.core.over (is_over setting.script (saids_of s.record_)) x t
   step_told s v before (Relock locks are same wait) x t = no_more s.core.over (is_over setting.script (saids_of s.record_)) x t
   step_told s v before (Note line may) x t =
       told_by s.core.over (is_over setting.script (saids_of v.record_)) x false (none_yet s.core.over (is_over setting.script (saids_of s.record_)) x going t)
-      (goes_on_saying v (goes_further (first_state setting disk) s v before (Note line may))) (λ e. absurd (false≢true e)) (λ e. absurd (false≢true (sym going ∙ e)))
+      (goes_on_saying v (longer (first_state setting disk) s v before (Note line may))) (λ e. absurd (false≢true e)) (λ e. absurd (false≢true (sym going ∙ e)))
     where
       going : s.core.over ≡ false
-      going = not_true s.core.over (both_first (not s.core.over) (s.core.shown == 0) (both_second (is_note line) (goes_on s.core) may))
+      going = not-true s.core.over (and_parts (not s.core.over) (s.core.shown == 0) (and_parts (is_note line) (goes_on s.core) may).1).0
   step_told s v before (Peek sector) x t = no_more s.core.over (is_over setting.script (saids_of s.record_)) x t
 
   run_told : (s v : State) → Run (first_state setting disk) s → (run : Run s v) (x : Bool) → Told s x → Told v (x || has_failed s v run host_party)
   run_told s v before Stays x t = no_more s.core.over (is_over setting.script (saids_of s.record_)) x t
   run_told s w before (Goes {v = v} step run) x t =
-      subst (λ b. Told w b) (or_behind x (is_of host_party (fails_at s v step)) (has_failed v w run host_party))
-      (run_told v w (goes_further (first_state setting disk) s v before step) run (x || is_of host_party (fails_at s v step)) (step_told s v before step x t))
+      subst (λ b. Told w b) (or_assoc x (is_of host_party (fails_at s v step)) (has_failed v w run host_party))
+      (run_told v w (longer (first_state setting disk) s v before step) run (x || is_of host_party (fails_at s v step)) (step_told s v before step x t))
 
   pub end_told : (s : State) (run : Run (first_state setting disk) s) → s.core.over ≡ (is_over setting.script (saids_of s.record_) || has_failed (first_state setting disk) s run host_party)
   end_told s run = run_told (first_state setting disk) s Stays run false refl

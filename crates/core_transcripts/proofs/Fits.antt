@@ -5,6 +5,7 @@ use Rattle.std.specs.Option.{option_map}
 use Rattle.frang_base.specs.declared.op.Op.{Op}
 use Rattle.frang_base.specs.declared.reply.Reply.{Reply}
 use Rattle.frang_base.specs.declared.script.Line.{Line}
+use Rattle.frang_base.proofs.Tests.{or_more}
 use Rattle.tree_definitions.specs.Touched.{is_mounted, is_ok}
 use Rattle.tree_definitions.specs.Transcript.{Debt, ServerState, Phase as ToldPhase, is_already, is_called_for, is_crash, is_crash_line, is_down, is_expired, is_io, is_mount, is_off as is_told_off, is_own, is_stalled, is_up as is_told_up, may_answer_by, may_mount, may_owe, may_refuse}
 use Rattle.tree_definitions.specs.Transcript.Phase.{Off as ToldOff, Up as ToldUp, Stalled, Dead as ToldDead}
@@ -140,10 +141,6 @@ pub record Rises (t u : Told) : Type 0 where
   pub next : u.next ≡ t.next
   pub hosts : (n : ℕ) → IsTrue (t.hosts n) → IsTrue (u.hosts n)
   pub all : IsTrue t.all → IsTrue u.all
-
-or_more : (a b c : Bool) → (IsTrue b → IsTrue c) → IsTrue (a || b) → IsTrue (a || c)
-or_more true b c more h = refl
-or_more false b c more h = more h
 
 and_more : (a b c : Bool) → (IsTrue b → IsTrue c) → IsTrue (a && b) → IsTrue (a && c)
 and_more true b c more h = more h

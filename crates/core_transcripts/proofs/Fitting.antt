@@ -1,6 +1,6 @@
 -- What is told of all servers, against the core: how it stays where no line is said, and what it is once one is.
 use Rattle.std.proofs.Common.{ℕ, ◌≡◌, ◌⊎◌, inl, inr, Bool, true, false, ◌&&◌, ◌||◌, ◌==◌, if◌then◌else◌, IsTrue, List, Some, filter, length, nat_eq, refl, sym, ap, ◌∙◌, subst}
-use Rattle.std.proofs.lemmas.Bool.{false≢true}
+use Rattle.std.proofs.lemmas.Bool.{false≢true, eqb-true}
 use Rattle.std.specs.List.{list_any}
 use Rattle.frang_base.specs.Functions.{put}
 use Rattle.frang_base.specs.declared.said.Said.{Said}
@@ -10,7 +10,7 @@ use Rattle.core_definitions.specs.Scripts.{Marks, all_answered, host_party, host
 use Rattle.core_definitions.specs.Servers.{Server, is_off, is_up}
 use Rattle.core_definitions.specs.LineGuards.{is_server}
 use Rattle.core_transcripts.proofs.Fits.{Fits, Key, Told, key_of}
-use Rattle.core_transcripts.proofs.Numbering.{AreFirst, numbers_are}
+use Rattle.core_transcripts.proofs.Numbering.{AreFirst}
 
 -- what is told of a server
 abbrev pub told_of : List Line → Faults → List Said → Marks → ℕ → Told
@@ -77,16 +77,16 @@ module _ (script : List Line) (f : Faults) (saids : List Said) (answered : Marks
   }
     where
       each : (i : ℕ) (b : Bool) → nat_eq i a ≡ b → Fits (key_of (if b then v else servers i)) (told_of script f saids answered i)
-      each i true e = subst (λ j. Fits (key_of v) (told_of script f saids answered j)) (sym (numbers_are i a e)) fits
+      each i true e = subst (λ j. Fits (key_of v) (told_of script f saids answered j)) (sym (eqb-true i a e)) fits
       each i false e = g.servers i
 
       saved : (i d : ℕ) (b : Bool) → nat_eq i a ≡ b → IsTrue (key_works i (key_of (if b then v else servers i))) → (key_of (if b then v else servers i)).saves ≡ Some d →
           (state_of script f d saids).under_recovery ≡ true
-      saved i d true e w s = rescues d (subst (λ j. IsTrue (key_works j (key_of v))) (numbers_are i a e) w) s
+      saved i d true e w s = rescues d (subst (λ j. IsTrue (key_works j (key_of v))) (eqb-true i a e) w) s
       saved i d false e w s = g.rescues i d w s
 
       settled : (i : ℕ) (b : Bool) → nat_eq i a ≡ b → IsTrue (is_off (servers i).phase) → IsTrue (is_off (if b then v else servers i).phase)
-      settled i true e h = off (subst (λ j. IsTrue (is_off (servers j).phase)) (numbers_are i a e) h)
+      settled i true e h = off (subst (λ j. IsTrue (is_off (servers j).phase)) (eqb-true i a e) h)
       settled i false e h = h
 
       rest : (list_any is_node saids ≡ false) ⊎ AtRest script (λ i. key_of (servers i)) answered →
@@ -100,7 +100,7 @@ module _ (script : List Line) (f : Faults) (saids : List Said) (answered : Marks
   same_key servers a v same g = same_keys (λ i. key_of (servers i)) (λ i. key_of (put servers a v i)) (λ i. each i (nat_eq i a) refl) g
     where
       each : (i : ℕ) (b : Bool) → nat_eq i a ≡ b → key_of (if b then v else servers i) ≡ key_of (servers i)
-      each i true e = same ∙ ap (λ j. key_of (servers j)) (sym (numbers_are i a e))
+      each i true e = same ∙ ap (λ j. key_of (servers j)) (sym (eqb-true i a e))
       each i false e = refl
 
 -- the host's call has failed: nothing is said any more

@@ -1,9 +1,10 @@
 -- Over every run the answers follow the script.
-use Rattle.std.proofs.Common.{◌≡◌, ℕ, ◌<◌, inl, inr, Bool, true, false, not, ◌&&◌, ◌==◌, cond, if◌then◌else◌, find, List, [], ◌∷◌, ◌++◌, Some, None, IsTrue, filter, length, nat_lt, refl, sym, ap, ◌∙◌, subst, arith}
-use Rattle.std.proofs.lemmas.Bool.Decides.{nat_tests}
+use Rattle.std.proofs.Common.{◌≡◌, ℕ, ◌<◌, inl, inr, Bool, true, false, not, ◌&&◌, ◌==◌, cond, if◌then◌else◌, find, List, [], ◌∷◌, ◌++◌, Some, None, IsTrue, filter, length, nat_lt, refl, sym, ap, ◌∙◌, subst}
 use Rattle.std.proofs.lemmas.List.Elements.{filter_map-append}
 use Rattle.std.specs.List.{Contains, cons_option, slice_get}
 use Rattle.std.specs.Option.{option_map}
+use Rattle.std.proofs.lemmas.Option.{same_Some}
+use Rattle.std.proofs.lemmas.Bool.{eq-eqb, lt-ltb, and_parts}
 use Rattle.frang_base.specs.declared.said.Said.{Said}
 use Rattle.frang_base.specs.declared.said.Said.TheVariants as said
 use Rattle.frang_base.specs.declared.script.Line.{Line}
@@ -17,13 +18,13 @@ use Rattle.core_definitions.specs.LineGuards.{is_server}
 use Rattle.core_definitions.specs.Effects.{Says, deeds_of}
 use Rattle.core_definitions.specs.Runs.{State, Step, Event_, Enter, Hold, Flush, Relock, Note, Peek, Run, first_state, goes_on, is_note, saids_of}
 use Rattle.core_laws.specs.Laws.{AreOnce}
-use Rattle.core_laws.proofs.Flying.{Once}
+use Rattle.core_laws.proofs.Flying.{Once, as_words, once_of}
 use Rattle.core_laws.proofs.Membership.{In, contains_in, in_contains}
 use Rattle.core_laws.proofs.Along.{along}
 use Rattle.core_transcripts.specs.Answers.{HaveOwnNumbers, answer_of, answer_said, answered_by, answered_lines, answers_in, numbers_of}
 use Rattle.core_transcripts.proofs.LinesAnswering.{event_told, put_keeps, same, silent, wanting_keeps}
 use Rattle.core_transcripts.proofs.Counting.{as_many, length_numbers, line_behind}
-use Rattle.core_transcripts.proofs.Places.{IsAt, at_first, in_rest, in_words, marked_there, next_is, once_of, own_line}
+use Rattle.core_transcripts.proofs.Places.{IsAt, at_first, in_rest, marked_there, next_is, own_line}
 use Rattle.core_transcripts.proofs.AnswersTelling.{IsUnderWay, Told, quiet}
 
 note_mute : (line : Said) → IsTrue (is_note line) → answer_said line ≡ None
@@ -31,21 +32,14 @@ note_mute (said.Backup line) n = refl
 note_mute (said.Locks line) n = refl
 note_mute line n = absurd (cc)
 
-first_of : (x y : Bool) → IsTrue (x && y) → IsTrue x
-first_of true y h = refl
-first_of false y h = h
-
 -- the first that passes one test and not the other doesn't pass the other
 open_one : (test marked : Line → Bool) (xs : List Line) (x : Line) → find (λ y. test y && not (marked y)) xs ≡ Some x → marked x ≡ false
 open_one test marked [] x e = absurd (cc)
 open_one test marked (y ∷ ys) x e = go (test y) (marked y) refl (λ f. open_one test marked ys x f) e
   where
-    same_some : (a b : Line) → Some a ≡ Some b → a ≡ b
-    same_some a b e = cc
-
     go : (t m : Bool) → marked y ≡ m → (find (λ y. test y && not (marked y)) ys ≡ Some x → marked x ≡ false) →
         (if t && not m then Some y else find (λ y. test y && not (marked y)) ys) ≡ Some x → marked x ≡ false
-    go true false f behind e = ap marked (sym (same_some y x e)) ∙ f
+    go true false f behind e = ap marked (sym (same_Some y x e)) ∙ f
     go true true f behind e = behind e
     go false m f behind e = behind e
 
@@ -59,7 +53,7 @@ module _ (script : List Line) (own : Once (numbers_of script)) where
   step_told s v (Relock locks good alike wait) t = same script own s.core v.core (answers_in s.record_) refl refl refl t
   step_told s v (Note line may) t =
       subst (Told script v.core) (sym (filter_map-append answer_of s.record_ (Says line ∷ [])))
-      (silent script s.core (answers_in s.record_) (answers_in (Says line ∷ [])) (ap (λ o. cons_option o []) (note_mute line (first_of (is_note line) (goes_on s.core) may))) t)
+      (silent script s.core (answers_in s.record_) (answers_in (Says line ∷ [])) (ap (λ o. cons_option o []) (note_mute line (and_parts (is_note line) (goes_on s.core) may).0)) t)
   step_told s v (Peek sector) t = t
 
 first_told : (setting : Setting) (disk : Sectors) → Told setting.script (first_state setting disk).core []
@@ -83,7 +77,7 @@ module _ (setting : Setting) (disk : Sectors) (s : State) (own : HaveOwnNumbers 
       (λ v w before step t. step_told setting.script (once_of (numbers_of setting.script) own) v w step t) (first_told setting disk) s run
 
   pub answered_once : AreOnce (answered_lines (answers_in s.record_))
-  answered_once = in_words (answered_lines (answers_in s.record_)) told.marks.once
+  answered_once = as_words (answered_lines (answers_in s.record_)) told.marks.once
 
   pub in_order : (who : ℕ) → (rest : List ℕ) × (numbers_of (lines_for who setting.script) ≡ answered_by who (answers_in s.record_) ++ rest)
   in_order who = go (told.marks.places who).0 (told.marks.places who).1
@@ -124,20 +118,14 @@ module _ (setting : Setting) (disk : Sectors) (s : State) (own : HaveOwnNumbers 
       go true j = inr j
       go false j = j
 
-  less : (m n : ℕ) → m < n → IsTrue (nat_lt m n)
-  less m n h = grind (arith, nat_tests, h)
-
-  same_party : (m n : ℕ) → m ≡ n → IsTrue (m == n)
-  same_party m n e = grind (arith, nat_tests, e)
-
   pub behind_hosts : (number : ℕ) (host : Line) → Contains (answered_lines (answers_in s.record_)) number → Contains setting.script host →
       host.who.0 ≡ host_party → host.number < number →
       Contains (answered_lines (answers_in s.record_)) host.number
   behind_hosts number host h there who less_ =
       has_answer host.number
       (marked_there s.core.answered (lines_before number (lines_for host_party setting.script)) host (told.marks.after_hosts number (is_answered number h))
-      (filtered (λ l. nat_lt l.number number) (lines_for host_party setting.script) host (less host.number number less_)
-      (filtered (λ l. l.who.0 == host_party) setting.script host (same_party host.who.0 host_party who) (contains_in setting.script host there))))
+      (filtered (λ l. nat_lt l.number number) (lines_for host_party setting.script) host (lt-ltb host.number number less_)
+      (filtered (λ l. l.who.0 == host_party) setting.script host (eq-eqb host.who.0 host_party who) (contains_in setting.script host there))))
 
   pub hosts_behind : (host line : Line) → Contains setting.script host → host.who.0 ≡ host_party →
       Contains (answered_lines (answers_in s.record_)) host.number → Contains setting.script line →
@@ -145,7 +133,7 @@ module _ (setting : Setting) (disk : Sectors) (s : State) (own : HaveOwnNumbers 
   hosts_behind host line there who h place less_ =
       has_answer line.number
       (marked_there s.core.answered (lines_before host.number setting.script) line (told.marks.host_last host (contains_in setting.script host there) who (is_answered host.number h))
-      (filtered (λ l. nat_lt l.number host.number) setting.script line (less line.number host.number less_) (contains_in setting.script line place)))
+      (filtered (λ l. nat_lt l.number host.number) setting.script line (lt-ltb line.number host.number less_) (contains_in setting.script line place)))
 
   -- a line under way is of its server
   of_server : (a : ℕ) (u : Under) → IsTrue (is_server a) → (s.core.servers a).under ≡ Some u → In u.line setting.script × (u.line.who.0 ≡ a)
@@ -157,15 +145,12 @@ module _ (setting : Setting) (disk : Sectors) (s : State) (own : HaveOwnNumbers 
       none_some : None ≡ Some u.line → ⊥
       none_some e = absurd (cc)
 
-      some_line : (l m : Line) → Some l ≡ Some m → l ≡ m
-      some_line l m e = cc
-
       go : (rest : List Line) → IsAt setting.script s.core.answered (answered_by a (answers_in s.record_)) a rest →
           In u.line setting.script × (u.line.who.0 ≡ a)
       go [] at = absurd (none_some (sym (next_is setting.script s.core.answered (answered_by a (answers_in s.record_)) a [] at) ∙ way.next))
       go (l ∷ ls) at =
           in_rest setting.script s.core.answered (answered_by a (answers_in s.record_)) a (l ∷ ls) at u.line
-          (inl (some_line l u.line (sym (next_is setting.script s.core.answered (answered_by a (answers_in s.record_)) a (l ∷ ls) at) ∙ way.next)))
+          (inl (same_Some l u.line (sym (next_is setting.script s.core.answered (answered_by a (answers_in s.record_)) a (l ∷ ls) at) ∙ way.next)))
 
   -- a line under way is its server's next, and so not answered
   pub under_way_next : (a : ℕ) (u : Under) → IsTrue (is_server a) → (s.core.servers a).under ≡ Some u → (next_of s.core a ≡ Some u.line) × (s.core.answered u.line.number ≡ false)

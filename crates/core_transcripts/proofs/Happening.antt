@@ -1,7 +1,8 @@
 -- Each event, by what counts of the servers and what is told of them: the line that is said may be said, and what is told fits afterwards.
 use Rattle.std.proofs.Common.{ℕ, ◌≡◌, ◌≤◌, ◌⊎◌, inl, inr, Bool, true, false, not, ◌&&◌, if◌then◌else◌, IsTrue, List, [], ◌∷◌, ◌++◌, Some, filter, length, nat_eq, refl, sym, ap, ◌∙◌, subst}
-use Rattle.std.proofs.lemmas.Bool.{false≢true}
+use Rattle.std.proofs.lemmas.Bool.{false≢true, and_from, eq-eqb}
 use Rattle.std.specs.List.{list_any}
+use Rattle.std.proofs.lemmas.Option.{same_Some}
 use Rattle.frang_base.specs.Functions.{put}
 use Rattle.frang_base.specs.declared.op.Op.{Op}
 use Rattle.frang_base.specs.declared.op.What.{What}
@@ -23,7 +24,7 @@ use Rattle.core_laws.proofs.Resting.{server_no_host}
 use Rattle.core_transcripts.specs.Transcripts.{IsNumbered, MaySayButTree}
 use Rattle.core_transcripts.proofs.Fits.{Fits, Key, Told, key_of}
 use Rattle.core_transcripts.proofs.Fitting.{AtRest, Fitting, key_works, told_of}
-use Rattle.core_transcripts.proofs.Numbering.{all_is_none, next_by_count, number_same, numbers_turn}
+use Rattle.core_transcripts.proofs.Numbering.{all_is_none, next_by_count, numbers_turn}
 use Rattle.core_transcripts.proofs.Replies.{Later}
 use Rattle.core_transcripts.proofs.Saying.{are_marked}
 use Rattle.core_transcripts.proofs.Spoken.{all_then, answered_fitting, own_state, rises_one}
@@ -37,16 +38,9 @@ pub data Turn (rule : List Said → Said → Type 0) (script : List Line) (f : F
   Quiet : saids_of deeds ≡ [] → CoreFits script f saids c → Turn rule script f saids deeds c
   Speaks : (x : Said) → saids_of deeds ≡ x ∷ [] → rule saids x → CoreFits script f (saids ++ x ∷ []) c → Turn rule script f saids deeds c
 
-pub same_some : {X : Type 0} (x y : X) → Some x ≡ Some y → x ≡ y
-same_some x y e = cc
-
 pub server_asks : (w : What) (o : Op) → operation_of w ≡ Some o → w ≡ OfServer o
-server_asks (OfServer p) o e = ap OfServer (same_some p o e)
+server_asks (OfServer p) o e = ap OfServer (same_Some p o e)
 server_asks (OfHost h) o e = absurd (cc)
-
-pub both_true : (a b : Bool) → IsTrue a → IsTrue b → IsTrue (a && b)
-both_true true b h k = k
-both_true false b h k = absurd (false≢true h)
 
 -- ---- lines go on
 
@@ -75,17 +69,17 @@ module _ (opening : Opening) (f : Faults) (stay : (early late server : ℕ) → 
   pub line_given : (a : ℕ) (l : Line) (r : Reply) → next_line c.setting.script c.answered a ≡ Some l → IsTrue (may_reply c.setting.script f saids a l.number l.what r) →
       MaySayButTree c.setting.script opening f saids (said.Answer (id_of a) l.number r)
   line_given a l r next may =
-      both_true (goes_on c.setting.script saids) (answers_next c.setting.script f saids a l.number r (told_next a c.setting.script saids))
+      and_from (goes_on c.setting.script saids) (answers_next c.setting.script f saids a l.number r (told_next a c.setting.script saids))
       (lines_go_on (λ at. all_is_none c.setting.script c.answered a l at.all next))
       (subst (λ n. IsTrue (answers_next c.setting.script f saids a l.number r n)) (sym (told_is a l next))
-      (both_true (nat_eq l.number l.number) (may_reply c.setting.script f saids a l.number l.what r) (number_same l.number) may))
+      (and_from (nat_eq l.number l.number) (may_reply c.setting.script f saids a l.number l.what r) (eq-eqb l.number l.number refl) may))
 
   pub server_given : (a : ℕ) (l : Line) (o : Op) (r : Reply) → next_line c.setting.script c.answered a ≡ Some l → operation_of l.what ≡ Some o → IsTrue (hosts_answered c.setting.script c.answered l.number) →
       IsTrue (may_answer (state_of c.setting.script f a saids) (f (length saids) a) o r) → MaySayButTree c.setting.script opening f saids (said.Answer (id_of a) l.number r)
   server_given a l o r next is hosts may =
       line_given a l r next
       (subst (λ w. IsTrue (may_reply c.setting.script f saids a l.number w r)) (sym (server_asks l.what o is))
-      (both_true (are_answered (lines_before l.number (lines_for 255 c.setting.script)) saids) (may_answer (state_of c.setting.script f a saids) (f (length saids) a) o r)
+      (and_from (are_answered (lines_before l.number (lines_for 255 c.setting.script)) saids) (may_answer (state_of c.setting.script f a saids) (f (length saids) a) o r)
       (subst (λ b. IsTrue b) (sym (are_marked c.answered saids (lines_before l.number (lines_for 255 c.setting.script)) g.marks)) hosts) may))
 
   -- ---- what fits once it is said
@@ -116,7 +110,7 @@ module _ (opening : Opening) (f : Faults) (stay : (early late server : ℕ) → 
       told = told_of c.setting.script f (saids ++ said.Answer (id_of a) l.number r ∷ []) (put c.answered l.number true) a
 
       own : key_of (put c.servers a v a) ≡ key_of v
-      own = ap (λ b. key_of (if b then v else c.servers a)) (number_same a)
+      own = ap (λ b. key_of (if b then v else c.servers a)) (eq-eqb a a refl)
 
       halting : What → Bool
       halting w = is_halt w

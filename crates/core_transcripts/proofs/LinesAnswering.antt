@@ -1,9 +1,10 @@
 -- Each event answers the next line of its party, or none.
 use Rattle.std.proofs.Common.{◌≡◌, ℕ, zero, suc, ◌⊎◌, inl, inr, Bool, true, false, ◌&&◌, ◌==◌, ◌+◌, ◌%◌, if◌then◌else◌, List, [], ◌∷◌, ◌++◌, Option, Some, None, IsTrue, is_some, length, nat_eq, refl, sym, ap, ◌∙◌, subst, arith}
-use Rattle.std.proofs.lemmas.Bool.{false≢true}
+use Rattle.std.proofs.lemmas.Bool.{false≢true, eqb-true, eq-eqb}
 use Rattle.std.proofs.lemmas.Bool.Decides.{nat_tests}
 use Rattle.std.specs.List.{AllByRecursion, cons_option, flat_map, slice_get}
 use Rattle.std.specs.Option.{option_map}
+use Rattle.std.proofs.lemmas.Option.{same_Some}
 use Rattle.frang_base.specs.Functions.{put}
 use Rattle.frang_base.specs.declared.limits.TheConstants.{KIND_DIRECTORY, KIND_FILE, KIND_LINK, ROOT_INODE}
 use Rattle.frang_base.specs.declared.lock.LockId.{LockId}
@@ -67,10 +68,7 @@ others_keep servers a new i apart = go (nat_eq i a) refl
     go false e = inl refl
 
 put_here : (servers : ℕ → Server) (a : ℕ) (new : Server) → put servers a new a ≡ new
-put_here servers a new = ap (λ b. if b then new else servers a) (same a)
-  where
-    same : (n : ℕ) → nat_eq n n ≡ true
-    same n = grind (arith, nat_tests)
+put_here servers a new = ap (λ b. if b then new else servers a) (eq-eqb a a refl)
 
 with_under_keeps : (server : Server) (change : Under → Under) → ((u : Under) → (change u).line ≡ u.line) → Keeps server (with_under server change)
 with_under_keeps server change same = inl (go server.under)
@@ -209,14 +207,11 @@ module _ (script : List Line) (own : Once (numbers_of script)) where
   begun_told c answers a can t =
       server_begins script c (after c (Begin a) Nothing) answers a refl refl (λ line e. begins (next_of c a) refl line (ap line_of (sym (put_here c.servers a _)) ∙ e)) (λ i apart. others_keep c.servers a _ i apart) t
     where
-      some_line : (l m : Line) → Some l ≡ Some m → l ≡ m
-      some_line l m e = cc
-
       begun : (l : Line) → next_of c a ≡ Some l → (operation : Option Op) → operation_of l.what ≡ operation → (line : Line) →
           line_of (begun_with (c.servers a) l operation) ≡ Some line →
           (line_of (c.servers a) ≡ Some line) ⊎ IsUnderWay script c.answered a line
       begun l e None o line f = inl f
-      begun l e (Some operation) o line f = inr (subst (IsUnderWay script c.answered a) (some_line l line f) (record {
+      begun l e (Some operation) o line f = inr (subst (IsUnderWay script c.answered a) (same_Some l line f) (record {
         next = sym (ap (λ s. next_line s c.answered a) t.script_is) ∙ e;
         asked = ap is_some o;
         hosts = subst (λ s. IsTrue (hosts_answered s c.answered l.number)) t.script_is (subst (λ n. IsTrue (is_line (λ x. hosts_answered c.setting.script c.answered x.number) n)) e can.hosts);
@@ -356,11 +351,8 @@ module _ (script : List Line) (own : Once (numbers_of script)) where
       (host_answers script own c (host_answered_line c (Some line)) answers line (sym (ap (λ s. next_line s c.answered host_party) t.script_is) ∙ e) earlier
       (party_marked c.answered host_party line.number script earlier) refl refl (λ i. inl refl) t)
     where
-      same_number : (m n : ℕ) → IsTrue (m == n) → m ≡ n
-      same_number m n h = grind (arith, nat_tests, h)
-
       is_number : line.number ≡ number
-      is_number = same_number line.number number (subst (λ l. IsTrue (is_line (λ x. x.number == number) l)) e can.next)
+      is_number = eqb-true line.number number (subst (λ l. IsTrue (is_line (λ x. x.number == number) l)) e can.next)
 
       earlier : IsTrue (earlier_answered script c.answered line.number)
       earlier = subst (λ n. IsTrue (earlier_answered script c.answered n)) (sym is_number) (subst (λ s. IsTrue (earlier_answered s c.answered number)) t.script_is can.earlier)

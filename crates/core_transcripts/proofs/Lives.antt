@@ -1,10 +1,11 @@
 -- What counts of a server at its death, and once it goes on: the tables.
 use Rattle.std.proofs.Common.{ℕ, ◌≡◌, Bool, true, false, not, ◌&&◌, ◌||◌, if◌then◌else◌, IsTrue, is_some, Option, Some, None, refl, sym, ap, ◌∙◌, subst}
-use Rattle.std.proofs.lemmas.Bool.{false≢true}
+use Rattle.std.proofs.lemmas.Bool.{false≢true, and_from, and_parts}
 use Rattle.std.specs.Option.{option_map}
 use Rattle.frang_base.specs.declared.op.Op.{Op}
 use Rattle.frang_base.specs.declared.reply.Reply.{Reply}
 use Rattle.frang_base.specs.declared.reply.Reply.TheVariants as reply
+use Rattle.frang_base.proofs.Tests.{or_more}
 use Rattle.tree_definitions.specs.Touched.{is_mounted, is_ok}
 use Rattle.tree_definitions.specs.Transcript.{ServerState, Phase as ToldPhase, after_death, after_renewal, debt_of_death, is_already, is_crash, is_expired, is_in_mount as is_told_in_mount, is_io, is_mount, may_answer_by, may_mount, may_refuse}
 use Rattle.tree_definitions.specs.Transcript.Phase.{Off as ToldOff, Up as ToldUp, Stalled, Dead as ToldDead}
@@ -16,23 +17,7 @@ use Rattle.core_definitions.specs.WriteEffects.{died_with, fixed_for, under_at_d
 use Rattle.core_definitions.specs.EndEffects.{recovered}
 use Rattle.core_transcripts.proofs.Blank.{is_changing}
 use Rattle.core_transcripts.proofs.Fits.{Asked, AskFits, DoomFits, FixedFits, Fits, IsAwake, IsUnder, Key, LineFits, OwingFits, PhaseFits, Told, UnderFits, asked_of, key_of, mount_more, refuse_more}
-use Rattle.core_transcripts.proofs.Replies.{already_is}
-
-or_more : (a b c : Bool) → (IsTrue b → IsTrue c) → IsTrue (a || b) → IsTrue (a || c)
-or_more true b c more h = refl
-or_more false b c more h = more h
-
-second : (a b : Bool) → IsTrue (a && b) → IsTrue b
-second true b h = h
-second false b h = absurd (false≢true h)
-
-first : (a b : Bool) → IsTrue (a && b) → IsTrue a
-first true b h = refl
-first false b h = absurd (false≢true h)
-
-both : (a b : Bool) → IsTrue a → IsTrue b → IsTrue (a && b)
-both true b h k = k
-both false b h k = absurd (false≢true h)
+use Rattle.core_transcripts.proofs.Replies.{already_is, dead_told}
 
 more : (a b c : Bool) → IsTrue ((false || b) || c) → IsTrue ((a || b) || c)
 more true b c h = refl
@@ -66,7 +51,7 @@ awake_free fate ToldDead all e h w = absurd h
 
 -- an answer that was fixed as the line began
 already_dead : (e : Bool) (o : Op) (r : Reply) → IsTrue (is_mount o && is_already r) → IsTrue (may_answer_by ToldDead true e o r && (not (is_expired r) && not (is_mounted r)))
-already_dead e o r h = go (is_mount o) (is_already r) (is_expired r) (is_mounted r) h (already_is r (second (is_mount o) (is_already r) h))
+already_dead e o r h = go (is_mount o) (is_already r) (is_expired r) (is_mounted r) h (already_is r (and_parts (is_mount o) (is_already r) h).1)
   where
     go : (m a x w : Bool) → IsTrue (m && a) → (w ≡ false) × (x ≡ false) × (is_ok r ≡ false) →
         IsTrue ((if m then (((false && w) || ((false || true) && a)) || (e && is_io r)) else may_refuse true e o r) && (not x && not w))
@@ -201,20 +186,14 @@ off_line false t u e e' g o (Some r) p q j m h =
   where
     wider : (j b rest : Bool) → IsTrue ((if b then may_mount ToldDead j e r else may_refuse j e o r) && rest) → IsTrue ((if b then may_mount ToldOff j e' r else may_refuse j e' o r) && rest)
     wider j true rest h =
-        both (may_mount ToldOff j e' r) rest (mount_more ToldOff j e e' r m (more (is_mounted r) (j && is_already r) (e && is_io r) (first (may_mount ToldDead j e r) rest h)))
-        (second (may_mount ToldDead j e r) rest h)
-    wider j false rest h = both (may_refuse j e' o r) rest (refuse_more j e e' o r m (first (may_refuse j e o r) rest h)) (second (may_refuse j e o r) rest h)
+        and_from (may_mount ToldOff j e' r) rest (mount_more ToldOff j e e' r m (more (is_mounted r) (j && is_already r) (e && is_io r) (and_parts (may_mount ToldDead j e r) rest h).0))
+        (and_parts (may_mount ToldDead j e r) rest h).1
+    wider j false rest h = and_from (may_refuse j e' o r) rest (refuse_more j e e' o r m (and_parts (may_refuse j e o r) rest h).0) (and_parts (may_refuse j e o r) rest h).1
 
 off_ask : (owes : Bool) (t u : ServerState) (e e' g : Bool) (o : Option Op) (fixed : Option Reply) → t.phase ≡ ToldDead → u.phase ≡ ToldOff → u.just_died ≡ t.just_died → (IsTrue e → IsTrue e') →
     AskFits Dead owes t e o fixed g → AskFits Off owes u e' o fixed g
 off_ask owes t u e e' g None fixed p q j m h = absurd h
 off_ask owes t u e e' g (Some o) fixed p q j m h = off_line owes t u e e' g o fixed p q j m h
-
-dead_is_told : (q : ToldPhase) (all e : Bool) → PhaseFits Dead q all e → q ≡ ToldDead
-dead_is_told ToldDead all e h = refl
-dead_is_told ToldOff all e h = absurd h
-dead_is_told ToldUp all e h = absurd h
-dead_is_told Stalled all e h = absurd h
 
 pub recovered_fits : (server : Server) (t u : Told) → server.phase ≡ Dead → u.state ≡ record t.state { phase = ToldOff } → (IsTrue t.faulted → IsTrue u.faulted) → u.next ≡ t.next →
     ((n : ℕ) → IsTrue (t.hosts n) → IsTrue (u.hosts n)) → Fits (key_of server) t → Fits (key_of (recovered server)) u
@@ -229,7 +208,7 @@ recovered_fits server t u is state faulted next hosts g = record {
 }
   where
     dead : t.state.phase ≡ ToldDead
-    dead = dead_is_told t.state.phase t.all t.faulted (subst (λ p. PhaseFits p t.state.phase t.all t.faulted) is g.phase)
+    dead = dead_told t.state.phase t.all t.faulted (subst (λ p. PhaseFits p t.state.phase t.all t.faulted) is g.phase)
 
     line : (o : Option Under) → UnderFits server.phase server.owes t (option_map asked_of o) → UnderFits Off server.owes u (option_map asked_of o)
     line None h = tt

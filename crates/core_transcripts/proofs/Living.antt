@@ -1,7 +1,8 @@
 -- The lines of servers' lives: deaths, renewals, and recoveries with their ends.
 use Rattle.std.proofs.Common.{ℕ, ◌≡◌, ◌≤◌, Bool, true, false, ◌&&◌, ◌||◌, if◌then◌else◌, IsTrue, List, [], ◌∷◌, ◌++◌, Option, Some, None, filter, length, nat_eq, nat_lt, refl, sym, ap, ◌∙◌, subst}
-use Rattle.std.proofs.lemmas.Bool.{false≢true}
+use Rattle.std.proofs.lemmas.Bool.{false≢true, or_right, or_left, and_parts, both_ways, and_from, eqb-true, eq-eqb}
 use Rattle.std.specs.Option.{option_map}
+use Rattle.std.proofs.lemmas.Option.{same_Some, none-some}
 use Rattle.frang_base.specs.Functions.{put}
 use Rattle.frang_base.specs.declared.said.Said.{Said}
 use Rattle.frang_base.specs.declared.said.Said.TheVariants as said
@@ -22,19 +23,17 @@ use Rattle.core_definitions.specs.EndEffects.{finished_by, finished_from, recove
 use Rattle.core_definitions.specs.Effects.{Says, id_of, says_recovered}
 use Rattle.lock_definitions.specs.Locks.{log_hold}
 use Rattle.core_laws.proofs.Guarding.{Of4, of_4}
-use Rattle.core_laws.proofs.Memory.{Good, dead_is, not_both, works}
+use Rattle.core_laws.proofs.Memory.{Good, dead_is, works}
 use Rattle.core_laws.proofs.Resting.{server_no_host}
 use Rattle.core_transcripts.specs.Transcripts.{IsNumbered, MaySayButTree}
 use Rattle.core_transcripts.proofs.Fits.{DoomFits, Fits, Key, PhaseFits, Told, key_of, rises}
 use Rattle.core_transcripts.proofs.Fitting.{key_works, told_of}
-use Rattle.core_transcripts.proofs.Happening.{CoreFits, Turn, Quiet, Speaks, both_true, lines_go_on, same_some}
+use Rattle.core_transcripts.proofs.Happening.{CoreFits, Turn, Quiet, Speaks, lines_go_on}
 use Rattle.core_transcripts.proofs.Lives.{died_fits, doomed_in_mount, phase_told, recovered_fits, recovering_fits, recovering_state, resumed_fits}
-use Rattle.core_transcripts.proofs.Numbering.{next_by_count, number_same, numbers_are, numbers_turn}
+use Rattle.core_transcripts.proofs.Numbering.{next_by_count, numbers_turn}
 use Rattle.core_transcripts.proofs.Saying.{dirty_push, state_push}
 use Rattle.core_transcripts.proofs.Spoken.{IsLife, life_fitting, rises_one, told_rises}
-
-none_saved : {P : Type 0} (d : ℕ) → None ≡ Some d → P
-none_saved d e = absurd (cc)
+use Rattle.core_transcripts.proofs.Replies.{phase_is}
 
 doomed_is : (p : Phase) → IsTrue (is_doomed p) → (fate : Fate) × (p ≡ Doomed fate)
 doomed_is (Doomed fate) h = (fate, refl)
@@ -60,18 +59,6 @@ dead_off_not Still s h = false≢true h
 dead_off_not (Doomed f) s h = false≢true h
 dead_off_not Dead s h = false≢true h
 
-first : (a b : Bool) → IsTrue (a && b) → IsTrue a
-first true b h = refl
-first false b h = absurd (false≢true h)
-
-or_left : (a b : Bool) → IsTrue a → IsTrue (a || b)
-or_left true b h = refl
-or_left false b h = absurd (false≢true h)
-
-or_right : (a b : Bool) → IsTrue b → IsTrue (a || b)
-or_right true b h = refl
-or_right false b h = h
-
 told_dead : (p : Phase) (t : Told) → IsTrue (is_dead p) → PhaseFits p t.state.phase t.all t.faulted → IsTrue (is_told_dead t.state.phase)
 told_dead p t h fits = go t.state.phase (subst (λ q. PhaseFits q t.state.phase t.all t.faulted) (dead_is p h) fits)
   where
@@ -81,15 +68,8 @@ told_dead p t h fits = go t.state.phase (subst (λ q. PhaseFits q t.state.phase 
     go ToldUp f = absurd f
     go Stalled f = absurd f
 
-up_phase : (p : Phase) → IsTrue (is_up p) → p ≡ Up
-up_phase Up h = refl
-up_phase Off h = absurd (false≢true h)
-up_phase Still h = absurd (false≢true h)
-up_phase (Doomed f) h = absurd (false≢true h)
-up_phase Dead h = absurd (false≢true h)
-
 told_up : (p : Phase) (t : Told) → IsTrue (is_up p) → PhaseFits p t.state.phase t.all t.faulted → IsTrue (is_told_up t.state.phase)
-told_up p t h fits = go t.state.phase (subst (λ q. PhaseFits q t.state.phase t.all t.faulted) (up_phase p h) fits)
+told_up p t h fits = go t.state.phase (subst (λ q. PhaseFits q t.state.phase t.all t.faulted) (phase_is p h) fits)
   where
     go : (q : ToldPhase) → PhaseFits Up q t.all t.faulted → IsTrue (is_told_up q)
     go ToldUp f = refl
@@ -131,11 +111,11 @@ module _ (opening : Opening) (f : Faults) (stay : (early late server : ℕ) → 
     dead_servers = put c.servers a (died_with fate (c.servers a))
 
     own_state : state_of c.setting.script f a (saids ++ dead_line ∷ []) ≡ after_death (state_of c.setting.script f a saids) (f (length saids) a)
-    own_state = state_push c.setting.script f a saids dead_line ∙ ap (λ b. if b then after_death (state_of c.setting.script f a saids) (f (length saids) a) else state_of c.setting.script f a saids) (number_same a)
+    own_state = state_push c.setting.script f a saids dead_line ∙ ap (λ b. if b then after_death (state_of c.setting.script f a saids) (f (length saids) a) else state_of c.setting.script f a saids) (eq-eqb a a refl)
 
     each_dead : (i : ℕ) (b : Bool) → nat_eq i a ≡ b → Fits (key_of (if b then died_with fate (c.servers a) else c.servers i)) (Then dead_line i)
     each_dead i true e =
-        subst (λ j. Fits (key_of (died_with fate (c.servers a))) (Then dead_line j)) (sym (numbers_are i a e))
+        subst (λ j. Fits (key_of (died_with fate (c.servers a))) (Then dead_line j)) (sym (eqb-true i a e))
         (died_fits (c.servers a) fate (Now a) (Then dead_line a) is own_state (more_faults a dead_line) refl (λ n h. h) (g.servers a))
     each_dead i false e =
         stays_told dead_line dead_life i (ap (λ b. if b then after_death (state_of c.setting.script f i saids) (f (length saids) i) else state_of c.setting.script f i saids) (numbers_turn i a e)) (λ h. h)
@@ -143,18 +123,18 @@ module _ (opening : Opening) (f : Faults) (stay : (early late server : ℕ) → 
     -- a log that is recovered isn't its own
     others_recover : (i d : ℕ) (b : Bool) → nat_eq i a ≡ b → IsTrue (key_works i (key_of (if b then died_with fate (c.servers a) else c.servers i))) →
         (key_of (if b then died_with fate (c.servers a) else c.servers i)).saves ≡ Some d → (state_of c.setting.script f d (saids ++ dead_line ∷ [])).under_recovery ≡ true
-    others_recover i d true e w s = none_saved d s
+    others_recover i d true e w s = absurd (none-some d s)
     others_recover i d false e w s = go (nat_eq a d) refl
       where
         go : (b : Bool) → nat_eq a d ≡ b → (state_of c.setting.script f d (saids ++ dead_line ∷ [])).under_recovery ≡ true
-        go true q = absurd (not_both (is_dead (c.servers a).phase) (subst (λ k. IsTrue (is_dead (c.servers k).phase)) (sym (numbers_are a d q)) (good.saved i d w s).0) (ap is_dead is))
+        go true q = absurd (both_ways (is_dead (c.servers a).phase) (ap is_dead is) (subst (λ k. IsTrue (is_dead (c.servers k).phase)) (sym (eqb-true a d q)) (good.saved i d w s).0))
         go false q =
             ap (λ z. z.under_recovery)
             (state_push c.setting.script f d saids dead_line ∙ ap (λ b. if b then after_death (state_of c.setting.script f d saids) (f (length saids) d) else state_of c.setting.script f d saids) q)
             ∙ g.rescues i d w s
 
     off_dead : (i : ℕ) (b : Bool) → nat_eq i a ≡ b → IsTrue (is_off (c.servers i).phase) → IsTrue (is_off (if b then died_with fate (c.servers a) else c.servers i).phase)
-    off_dead i true e h = absurd (doomed_off_not (c.servers i).phase fate (ap (λ j. (c.servers j).phase) (numbers_are i a e) ∙ is) h)
+    off_dead i true e h = absurd (doomed_off_not (c.servers i).phase fate (ap (λ j. (c.servers j).phase) (eqb-true i a e) ∙ is) h)
     off_dead i false e h = h
 
     called : IsTrue (is_called_for (state_of c.setting.script f a saids) (told_next a c.setting.script saids) (may_be_dirty c.setting.script a saids) || f (length saids) a)
@@ -166,9 +146,9 @@ module _ (opening : Opening) (f : Faults) (stay : (early late server : ℕ) → 
     death_turn : Turn (MaySayButTree c.setting.script opening f) c.setting.script f saids (Says dead_line ∷ []) (died_in c a (Doomed fate))
     death_turn =
         Speaks dead_line refl
-        (both_true (goes_on c.setting.script saids) (may_die_now c.setting.script f saids a)
+        (and_from (goes_on c.setting.script saids) (may_die_now c.setting.script f saids a)
         (lines_go_on opening f stay c saids numbered going g (λ at. doomed_off_not (c.servers a).phase fate is (at.off a can.server)))
-        (both_true (is_told_in_mount (state_of c.setting.script f a saids).phase) (is_called_for (state_of c.setting.script f a saids) (told_next a c.setting.script saids) (may_be_dirty c.setting.script a saids) || f (length saids) a)
+        (and_from (is_told_in_mount (state_of c.setting.script f a saids).phase) (is_called_for (state_of c.setting.script f a saids) (told_next a c.setting.script saids) (may_be_dirty c.setting.script a saids) || f (length saids) a)
         (doomed_in_mount fate (state_of c.setting.script f a saids).phase (Now a).all (Now a).faulted (subst (λ p. PhaseFits p (Now a).state.phase (Now a).all (Now a).faulted) is (g.servers a).phase)) called))
         (life_fitting c.setting.script numbered.apart f stay saids (λ i. key_of (c.servers i)) c.answered c.over c.shown g dead_line dead_life (λ i. key_of (dead_servers i))
         (λ i. each_dead i (nat_eq i a) refl) (λ i d w s. others_recover i d (nat_eq i a) refl w s) (λ i h. off_dead i (nat_eq i a) refl h))
@@ -184,17 +164,17 @@ module _ (opening : Opening) (f : Faults) (stay : (early late server : ℕ) → 
     renewed_line = said.Renewed (id_of a)
 
     still : IsTrue (is_still (c.servers a).phase)
-    still = first (is_still (c.servers a).phase) (nat_lt (c.servers a).expiry c.now) can.past
+    still = (and_parts (is_still (c.servers a).phase) (nat_lt (c.servers a).expiry c.now) can.past).0
 
     renewed_life : Life renewed_line
     renewed_life = record { answers_none = λ n. refl; of_none = λ who. refl; halts_none = refl; ends_not = refl; tells_none = refl }
 
     renewed_state : state_of c.setting.script f a (saids ++ renewed_line ∷ []) ≡ after_renewal (state_of c.setting.script f a saids)
-    renewed_state = state_push c.setting.script f a saids renewed_line ∙ ap (λ b. if b then after_renewal (state_of c.setting.script f a saids) else state_of c.setting.script f a saids) (number_same a)
+    renewed_state = state_push c.setting.script f a saids renewed_line ∙ ap (λ b. if b then after_renewal (state_of c.setting.script f a saids) else state_of c.setting.script f a saids) (eq-eqb a a refl)
 
     each_renewed : (i : ℕ) (b : Bool) → nat_eq i a ≡ b → Fits (key_of (if b then up_again c.setting c.now (c.servers a) else c.servers i)) (Then renewed_line i)
     each_renewed i true e =
-        subst (λ j. Fits (key_of (up_again c.setting c.now (c.servers a))) (Then renewed_line j)) (sym (numbers_are i a e))
+        subst (λ j. Fits (key_of (up_again c.setting c.now (c.servers a))) (Then renewed_line j)) (sym (eqb-true i a e))
         (resumed_fits c.setting (c.servers a) c.now (Now a) (Then renewed_line a) still renewed_state (more_faults a renewed_line) (g.servers a))
     each_renewed i false e =
         stays_told renewed_line renewed_life i (ap (λ b. if b then after_renewal (state_of c.setting.script f i saids) else state_of c.setting.script f i saids) (numbers_turn i a e)) (λ h. h)
@@ -205,17 +185,17 @@ module _ (opening : Opening) (f : Faults) (stay : (early late server : ℕ) → 
 
     renewed_rescues : (i d : ℕ) (b : Bool) → nat_eq i a ≡ b → IsTrue (key_works i (key_of (if b then up_again c.setting c.now (c.servers a) else c.servers i))) →
         (key_of (if b then up_again c.setting c.now (c.servers a) else c.servers i)).saves ≡ Some d → (state_of c.setting.script f d (saids ++ renewed_line ∷ [])).under_recovery ≡ true
-    renewed_rescues i d true e w s = none_saved d s
+    renewed_rescues i d true e w s = absurd (none-some d s)
     renewed_rescues i d false e w s = renewed_recovery d (nat_eq a d) refl ∙ g.rescues i d w s
 
     off_renewed : (i : ℕ) (b : Bool) → nat_eq i a ≡ b → IsTrue (is_off (c.servers i).phase) → IsTrue (is_off (if b then up_again c.setting c.now (c.servers a) else c.servers i).phase)
-    off_renewed i true e h = absurd (still_off_not (c.servers a).phase still (subst (λ j. IsTrue (is_off (c.servers j).phase)) (numbers_are i a e) h))
+    off_renewed i true e h = absurd (still_off_not (c.servers a).phase still (subst (λ j. IsTrue (is_off (c.servers j).phase)) (eqb-true i a e) h))
     off_renewed i false e h = h
 
     pub resume_turn : Turn (MaySayButTree c.setting.script opening f) c.setting.script f saids (Says renewed_line ∷ []) (resumed c a)
     resume_turn =
         Speaks renewed_line refl
-        (both_true (goes_on c.setting.script saids) (may_be_renewed c.setting.script f saids a)
+        (and_from (goes_on c.setting.script saids) (may_be_renewed c.setting.script f saids a)
         (lines_go_on opening f stay c saids numbered going g (λ at. still_off_not (c.servers a).phase still (at.off a can.server)))
         (subst (λ q. IsTrue (is_stalled q)) (sym (phase_told (c.servers a) (Now a) still (g.servers a))) refl))
         (life_fitting c.setting.script numbered.apart f stay saids (λ i. key_of (c.servers i)) c.answered c.over c.shown g renewed_line renewed_life (λ i. key_of (put c.servers a (up_again c.setting c.now (c.servers a)) i))
@@ -254,7 +234,7 @@ module _ (opening : Opening) (f : Faults) (stay : (early late server : ℕ) → 
     taker_fits h = record { phase = h.phase; owing = h.owing; calm = h.calm; armed = h.armed; failed = h.failed; doomed = h.doomed; under = h.under }
 
     each_after : (i : ℕ) (b : Bool) → nat_eq i by ≡ b → Fits (key_of (if b then taker else c.servers i)) (Then begins_line i)
-    each_after i true e = subst (λ j. Fits (key_of taker) (Then begins_line j)) (sym (numbers_are i by e)) (taker_fits (each_begun by (nat_eq dead by) refl (key_of (c.servers by)) (g.servers by)))
+    each_after i true e = subst (λ j. Fits (key_of taker) (Then begins_line j)) (sym (eqb-true i by e)) (taker_fits (each_begun by (nat_eq dead by) refl (key_of (c.servers by)) (g.servers by)))
     each_after i false e = each_begun i (nat_eq dead i) refl (key_of (c.servers i)) (g.servers i)
 
     kept_recovery : (d : ℕ) → (state_of c.setting.script f d saids).under_recovery ≡ true → (state_of c.setting.script f d (saids ++ begins_line ∷ [])).under_recovery ≡ true
@@ -266,11 +246,11 @@ module _ (opening : Opening) (f : Faults) (stay : (early late server : ℕ) → 
 
     taken_rescues : (i d : ℕ) (b : Bool) → nat_eq i by ≡ b → IsTrue (key_works i (key_of (if b then taker else c.servers i))) → (key_of (if b then taker else c.servers i)).saves ≡ Some d →
         (state_of c.setting.script f d (saids ++ begins_line ∷ [])).under_recovery ≡ true
-    taken_rescues i d true e w s = ap (λ z. z.under_recovery) (begins_state d true (subst (λ k. nat_eq dead k ≡ true) (same_some dead d s) (number_same dead)))
+    taken_rescues i d true e w s = ap (λ z. z.under_recovery) (begins_state d true (subst (λ k. nat_eq dead k ≡ true) (same_Some dead d s) (eq-eqb dead dead refl)))
     taken_rescues i d false e w s = kept_recovery d (g.rescues i d w s)
 
     off_taken : (i : ℕ) (b : Bool) → nat_eq i by ≡ b → IsTrue (is_off (c.servers i).phase) → IsTrue (is_off (if b then taker else c.servers i).phase)
-    off_taken i true e h = subst (λ j. IsTrue (is_off (c.servers j).phase)) (numbers_are i by e) h
+    off_taken i true e h = subst (λ j. IsTrue (is_off (c.servers j).phase)) (eqb-true i by e) h
     off_taken i false e h = h
 
     by_may : (s u h n : Bool) → (IsTrue u → IsTrue (is_told_up (state_of c.setting.script f by saids).phase)) → (h ≡ true → IsTrue (nat_eq by 255)) → IsTrue ((s && u) || (h && n)) →
@@ -284,9 +264,9 @@ module _ (opening : Opening) (f : Faults) (stay : (early late server : ℕ) → 
     pub recover_turn : Turn (MaySayButTree c.setting.script opening f) c.setting.script f saids (Says begins_line ∷ []) (recovering c dead by)
     recover_turn =
         Speaks begins_line refl
-        (both_true (goes_on c.setting.script saids) (may_recover c.setting.script f saids dead by)
+        (and_from (goes_on c.setting.script saids) (may_recover c.setting.script f saids dead by)
         (lines_go_on opening f stay c saids numbered going g (λ at. dead_off_not (c.servers dead).phase waits.p1 (at.off dead waits.p0)))
-        (both_true (is_told_dead (state_of c.setting.script f dead saids).phase) (nat_eq by 255 || is_told_up (state_of c.setting.script f by saids).phase)
+        (and_from (is_told_dead (state_of c.setting.script f dead saids).phase) (nat_eq by 255 || is_told_up (state_of c.setting.script f by saids).phase)
         (told_dead (c.servers dead).phase (Now dead) waits.p1 (g.servers dead).phase)
         (by_may (is_server by) (is_up (c.servers by).phase) (nat_eq by host_party) (none_up c) (λ u. told_up (c.servers by).phase (Now by) u (g.servers by).phase) (λ h. h) can.taker)))
         (life_fitting c.setting.script numbered.apart f stay saids (λ i. key_of (c.servers i)) c.answered c.over c.shown g begins_line begins_life (λ i. key_of (put c.servers by taker i))
@@ -319,29 +299,29 @@ module _ (opening : Opening) (f : Faults) (stay : (early late server : ℕ) → 
 
     others_done : (i : ℕ) (b : Bool) → nat_eq i by ≡ b → nat_eq i recovery.dead ≡ false → Fits (key_of (if b then without_it else c.servers i)) (Then done_line i)
     others_done i true e n =
-        subst (λ j. Fits (key_of without_it) (Then done_line j)) (sym (numbers_are i by e))
+        subst (λ j. Fits (key_of without_it) (Then done_line j)) (sym (eqb-true i by e))
         (without_fits (Then done_line by)
         (stays_told done_line done_life by (ap (λ b. if b then record (state_of c.setting.script f by saids) { phase = ToldOff } else state_of c.setting.script f by saids)
-        (numbers_turn by recovery.dead (subst (λ j. nat_eq j recovery.dead ≡ false) (numbers_are i by e) n))) (λ h. h)))
+        (numbers_turn by recovery.dead (subst (λ j. nat_eq j recovery.dead ≡ false) (eqb-true i by e) n))) (λ h. h)))
     others_done i false e n =
         stays_told done_line done_life i (ap (λ b. if b then record (state_of c.setting.script f i saids) { phase = ToldOff } else state_of c.setting.script f i saids) (numbers_turn i recovery.dead n)) (λ h. h)
 
     each_done : (i : ℕ) (b : Bool) → nat_eq i recovery.dead ≡ b → Fits (key_of (if b then recovered (c.servers recovery.dead) else put c.servers by without_it i)) (Then done_line i)
     each_done i true e =
-        subst (λ j. Fits (key_of (recovered (c.servers recovery.dead))) (Then done_line j)) (sym (numbers_are i recovery.dead e))
-        (recovered_fits (c.servers recovery.dead) (Now recovery.dead) (Then done_line recovery.dead) (dead_is (c.servers recovery.dead).phase was.0) (done_state recovery.dead true (number_same recovery.dead))
+        subst (λ j. Fits (key_of (recovered (c.servers recovery.dead))) (Then done_line j)) (sym (eqb-true i recovery.dead e))
+        (recovered_fits (c.servers recovery.dead) (Now recovery.dead) (Then done_line recovery.dead) (dead_is (c.servers recovery.dead).phase was.0) (done_state recovery.dead true (eq-eqb recovery.dead recovery.dead refl))
         (more_faults recovery.dead done_line) refl (λ n h. h) (g.servers recovery.dead))
     each_done i false e = others_done i (nat_eq i by) refl e
 
     rescues_others : (i d : ℕ) (b : Bool) → nat_eq i by ≡ b → IsTrue (key_works i (key_of (if b then without_it else c.servers i))) → (key_of (if b then without_it else c.servers i)).saves ≡ Some d →
         (state_of c.setting.script f d (saids ++ done_line ∷ [])).under_recovery ≡ true
-    rescues_others i d true e v s = none_saved d s
+    rescues_others i d true e v s = absurd (none-some d s)
     rescues_others i d false e v s = done_recovery d (nat_eq recovery.dead d) refl ∙ g.rescues i d v s
 
     rescues_done : (i d : ℕ) (b : Bool) → nat_eq i recovery.dead ≡ b → IsTrue (key_works i (key_of (if b then recovered (c.servers recovery.dead) else put c.servers by without_it i))) →
         (key_of (if b then recovered (c.servers recovery.dead) else put c.servers by without_it i)).saves ≡ Some d → (state_of c.setting.script f d (saids ++ done_line ∷ [])).under_recovery ≡ true
     rescues_done i d true e v s =
-        absurd (off_works_not (is_server i) (nat_eq i host_party) (server_no_host i (subst (λ j. IsTrue (is_server j)) (sym (numbers_are i recovery.dead e)) was.1)) v)
+        absurd (off_works_not (is_server i) (nat_eq i host_party) (server_no_host i (subst (λ j. IsTrue (is_server j)) (sym (eqb-true i recovery.dead e)) was.1)) v)
       where
         off_works_not : (s h : Bool) → h ≡ false → IsTrue ((s && false) || h) → ⊥
         off_works_not true true e w = false≢true (sym e)
@@ -351,7 +331,7 @@ module _ (opening : Opening) (f : Faults) (stay : (early late server : ℕ) → 
     rescues_done i d false e v s = rescues_others i d (nat_eq i by) refl v s
 
     off_others : (i : ℕ) (b : Bool) → nat_eq i by ≡ b → IsTrue (is_off (c.servers i).phase) → IsTrue (is_off (if b then without_it else c.servers i).phase)
-    off_others i true e h = subst (λ j. IsTrue (is_off (c.servers j).phase)) (numbers_are i by e) h
+    off_others i true e h = subst (λ j. IsTrue (is_off (c.servers j).phase)) (eqb-true i by e) h
     off_others i false e h = h
 
     off_done : (i : ℕ) (b : Bool) → nat_eq i recovery.dead ≡ b → IsTrue (is_off (c.servers i).phase) → IsTrue (is_off (if b then recovered (c.servers recovery.dead) else put c.servers by without_it i).phase)
@@ -361,9 +341,9 @@ module _ (opening : Opening) (f : Faults) (stay : (early late server : ℕ) → 
     done_turn : Turn (MaySayButTree c.setting.script opening f) c.setting.script f saids (Says done_line ∷ []) (finished_by c by recovery.dead)
     done_turn =
         Speaks done_line refl
-        (both_true (goes_on c.setting.script saids) (may_be_recovered c.setting.script f saids recovery.dead)
+        (and_from (goes_on c.setting.script saids) (may_be_recovered c.setting.script f saids recovery.dead)
         (lines_go_on opening f stay c saids numbered going g (λ at. dead_off_not (c.servers recovery.dead).phase was.0 (at.off recovery.dead was.1)))
-        (both_true (is_told_dead (state_of c.setting.script f recovery.dead saids).phase) (state_of c.setting.script f recovery.dead saids).under_recovery
+        (and_from (is_told_dead (state_of c.setting.script f recovery.dead saids).phase) (state_of c.setting.script f recovery.dead saids).under_recovery
         (told_dead (c.servers recovery.dead).phase (Now recovery.dead) was.0 (g.servers recovery.dead).phase) (g.rescues by recovery.dead w (ap (option_map (λ r. r.dead)) has))))
         (life_fitting c.setting.script numbered.apart f stay saids (λ i. key_of (c.servers i)) c.answered c.over c.shown g done_line done_life
         (λ i. key_of (put (put c.servers by without_it) recovery.dead (recovered (c.servers recovery.dead)) i)) (λ i. each_done i (nat_eq i recovery.dead) refl)

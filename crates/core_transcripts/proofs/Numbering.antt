@@ -1,8 +1,9 @@
 -- Lines whose numbers are their own: the next line of a party, by what is answered, is that by the count of its answers.
-use Rattle.std.proofs.Common.{ℕ, zero, suc, ◌≡◌, ◌⊎◌, inl, inr, Bool, true, false, not, ◌&&◌, ◌||◌, ◌==◌, if◌then◌else◌, IsTrue, List, [], ◌∷◌, Some, None, filter, find, nat_eq, refl, sym, ap, ◌∙◌, subst, arith}
-use Rattle.std.proofs.lemmas.Bool.{false≢true}
+use Rattle.std.proofs.Common.{ℕ, zero, suc, ◌≡◌, inl, inr, Bool, true, false, not, ◌&&◌, ◌||◌, ◌==◌, if◌then◌else◌, IsTrue, List, [], ◌∷◌, Some, None, filter, find, nat_eq, refl, sym, ap, ◌∙◌, subst, arith}
+use Rattle.std.proofs.lemmas.Bool.{false≢true, eqb-true, eq-eqb, or_from, or_parts, and_parts, not-true}
 use Rattle.std.proofs.lemmas.Bool.Decides.{nat_tests}
 use Rattle.std.specs.List.{list_any, slice_get}
+use Rattle.std.proofs.lemmas.Option.{same_Some}
 use Rattle.frang_base.specs.Functions.{put}
 use Rattle.frang_base.specs.declared.script.Line.{Line}
 use Rattle.tree_definitions.specs.Live.{line_of}
@@ -13,42 +14,9 @@ use Rattle.core_transcripts.specs.Transcripts.{are_apart}
 
 -- ---- tests
 
-pub true_or_false : (b : Bool) → (b ≡ true) ⊎ (b ≡ false)
-true_or_false true = inl refl
-true_or_false false = inr refl
-
 pub clash : {P : Type 0} (b : Bool) → b ≡ true → b ≡ false → P
 clash true t f = absurd (false≢true (sym f))
 clash false t f = absurd (false≢true t)
-
-pub not_true : (b : Bool) → IsTrue (not b) → b ≡ false
-not_true true h = absurd (false≢true h)
-not_true false h = refl
-
-pub both_first : (a b : Bool) → IsTrue (a && b) → IsTrue a
-both_first true b h = refl
-both_first false b h = absurd (false≢true h)
-
-pub both_second : (a b : Bool) → IsTrue (a && b) → IsTrue b
-both_second true b h = h
-both_second false b h = absurd (false≢true h)
-
-pub either_none : (a b : Bool) → (a || b) ≡ false → (a ≡ false) × (b ≡ false)
-either_none true b e = absurd (false≢true (sym e))
-either_none false b e = (refl, e)
-
-pub none_either : (a b : Bool) → a ≡ false → b ≡ false → (a || b) ≡ false
-none_either true b e f = absurd (false≢true (sym e))
-none_either false b e f = f
-
-same_some : {X : Type 0} (x y : X) → Some x ≡ Some y → x ≡ y
-same_some x y e = cc
-
-pub number_same : (n : ℕ) → nat_eq n n ≡ true
-number_same n = grind (arith, nat_tests)
-
-pub numbers_are : (m n : ℕ) → nat_eq m n ≡ true → m ≡ n
-numbers_are m n e = grind (arith, nat_tests, e)
 
 pub numbers_turn : (m n : ℕ) → nat_eq m n ≡ false → nat_eq n m ≡ false
 numbers_turn m n e = grind (arith, nat_tests, e)
@@ -60,7 +28,7 @@ found_in test [] x e = absurd (cc)
 found_in test (y ∷ ys) x e = go (test y) refl (λ f. found_in test ys x f) e
   where
     go : (b : Bool) → test y ≡ b → (find test ys ≡ Some x → In x ys × (test x ≡ true)) → (if b then Some y else find test ys) ≡ Some x → In x (y ∷ ys) × (test x ≡ true)
-    go true t behind e = let same : y ≡ x = same_some y x e in (inl same, subst (λ z. test z ≡ true) same t)
+    go true t behind e = let same : y ≡ x = same_Some y x e in (inl same, subst (λ z. test z ≡ true) same t)
     go false t behind e = let r : In x ys × (test x ≡ true) = behind e in (inr r.0, r.1)
 
 pub none_found : {X : Type 0} (test : X → Bool) (xs : List X) → ((x : X) → In x xs → test x ≡ false) → find test xs ≡ None
@@ -84,7 +52,7 @@ has_number n lines = list_any (λ other. other.number == n) lines
 
 pub number_in : (lines : List Line) (l : Line) → In l lines → has_number l.number lines ≡ true
 number_in [] l i = absurd i
-number_in (m ∷ ms) l (inl e) = ap (λ b. b || has_number l.number ms) (subst (λ z. nat_eq z.number l.number ≡ true) (sym e) (number_same l.number))
+number_in (m ∷ ms) l (inl e) = ap (λ b. b || has_number l.number ms) (subst (λ z. nat_eq z.number l.number ≡ true) (sym e) (eq-eqb l.number l.number refl))
 number_in (m ∷ ms) l (inr i) = go (nat_eq m.number l.number) (number_in ms l i)
   where
     go : (b : Bool) → has_number l.number ms ≡ true → (b || has_number l.number ms) ≡ true
@@ -96,20 +64,20 @@ other_number : (m : Line) (ms : List Line) (l : Line) → IsTrue (are_apart (m �
 other_number m ms l apart i = go (nat_eq l.number m.number) refl
   where
     none : has_number m.number ms ≡ false
-    none = not_true (has_number m.number ms) (both_first (not (has_number m.number ms)) (are_apart ms) apart)
+    none = not-true (has_number m.number ms) (and_parts (not (has_number m.number ms)) (are_apart ms) apart).0
 
     go : (b : Bool) → nat_eq l.number m.number ≡ b → b ≡ false
-    go true e = clash (has_number m.number ms) (subst (λ n. has_number n ms ≡ true) (numbers_are l.number m.number e) (number_in ms l i)) none
+    go true e = clash (has_number m.number ms) (subst (λ n. has_number n ms ≡ true) (eqb-true l.number m.number e) (number_in ms l i)) none
     go false e = refl
 
 apart_behind : (m : Line) (ms : List Line) → IsTrue (are_apart (m ∷ ms)) → IsTrue (are_apart ms)
-apart_behind m ms apart = both_second (not (has_number m.number ms)) (are_apart ms) apart
+apart_behind m ms apart = (and_parts (not (has_number m.number ms)) (are_apart ms) apart).1
 
 -- the line of its number is the line itself
 pub line_is : (script : List Line) (l : Line) → IsTrue (are_apart script) → In l script → line_of script l.number ≡ Some l
 line_is [] l apart i = absurd i
 line_is (m ∷ ms) l apart (inl e) =
-    ap (λ b. if b then Some m else line_of ms l.number) (subst (λ z. nat_eq m.number z.number ≡ true) e (number_same m.number)) ∙ ap Some e
+    ap (λ b. if b then Some m else line_of ms l.number) (subst (λ z. nat_eq m.number z.number ≡ true) e (eq-eqb m.number m.number refl)) ∙ ap Some e
 line_is (m ∷ ms) l apart (inr i) =
     ap (λ b. if b then Some m else line_of ms l.number) (numbers_turn l.number m.number (other_number m ms l apart i)) ∙ line_is ms l (apart_behind m ms apart) i
 
@@ -117,11 +85,11 @@ line_is (m ∷ ms) l apart (inr i) =
 fewer_numbers : (who n : ℕ) (lines : List Line) → has_number n lines ≡ false → has_number n (lines_for who lines) ≡ false
 fewer_numbers who n [] h = refl
 fewer_numbers who n (m ∷ ms) h =
-    let r : (nat_eq m.number n ≡ false) × (has_number n ms ≡ false) = either_none (nat_eq m.number n) (has_number n ms) h in
+    let r : (nat_eq m.number n ≡ false) × (has_number n ms ≡ false) = or_parts (nat_eq m.number n) (has_number n ms) h in
     go (nat_eq m.who.0 who) r.0 (fewer_numbers who n ms r.1)
   where
     go : (b : Bool) → nat_eq m.number n ≡ false → has_number n (lines_for who ms) ≡ false → has_number n (if b then m ∷ lines_for who ms else lines_for who ms) ≡ false
-    go true one rest = none_either (nat_eq m.number n) (has_number n (lines_for who ms)) one rest
+    go true one rest = or_from (nat_eq m.number n) (has_number n (lines_for who ms)) one rest
     go false one rest = rest
 
 -- another party has no line of its number
@@ -131,7 +99,7 @@ others_without (m ∷ ms) l who apart (inl e) other =
     go (nat_eq m.who.0 who) (subst (λ z. nat_eq z.who.0 who ≡ false) (sym e) other)
   where
     alone : has_number m.number ms ≡ false
-    alone = not_true (has_number m.number ms) (both_first (not (has_number m.number ms)) (are_apart ms) apart)
+    alone = not-true (has_number m.number ms) (and_parts (not (has_number m.number ms)) (are_apart ms) apart).0
 
     go : (b : Bool) → b ≡ false → has_number l.number (if b then m ∷ lines_for who ms else lines_for who ms) ≡ false
     go true f = absurd (false≢true (sym f))
@@ -140,7 +108,7 @@ others_without (m ∷ ms) l who apart (inr i) other = go (nat_eq m.who.0 who) (o
   where
     go : (b : Bool) → has_number l.number (lines_for who ms) ≡ false → has_number l.number (if b then m ∷ lines_for who ms else lines_for who ms) ≡ false
     go true rest =
-        none_either (nat_eq m.number l.number) (has_number l.number (lines_for who ms)) (numbers_turn l.number m.number (other_number m ms l apart i)) rest
+        or_from (nat_eq m.number l.number) (has_number l.number (lines_for who ms)) (numbers_turn l.number m.number (other_number m ms l apart i)) rest
     go false rest = rest
 
 -- ---- the first so many are answered, and no other
@@ -165,10 +133,10 @@ none_marked (l ∷ ls) marks none = (none l.number, none_marked ls marks none)
 pub mark_other : (lines : List Line) (marks : Marks) (k n : ℕ) → has_number n lines ≡ false → AreFirst marks lines k → AreFirst (put marks n true) lines k
 mark_other [] marks k n without f = f
 mark_other (l ∷ ls) marks zero n without f =
-    let w : (nat_eq l.number n ≡ false) × (has_number n ls ≡ false) = either_none (nat_eq l.number n) (has_number n ls) without in
+    let w : (nat_eq l.number n ≡ false) × (has_number n ls ≡ false) = or_parts (nat_eq l.number n) (has_number n ls) without in
     (ap (λ b. if b then true else marks l.number) w.0 ∙ f.0, mark_other ls marks zero n w.1 f.1)
 mark_other (l ∷ ls) marks (suc k) n without f =
-    let w : (nat_eq l.number n ≡ false) × (has_number n ls ≡ false) = either_none (nat_eq l.number n) (has_number n ls) without in
+    let w : (nat_eq l.number n ≡ false) × (has_number n ls ≡ false) = or_parts (nat_eq l.number n) (has_number n ls) without in
     (ap (λ b. if b then true else marks l.number) w.0 ∙ f.0, mark_other ls marks k n w.1 f.1)
 
 -- the next one is marked
@@ -177,10 +145,10 @@ pub mark_next : (lines : List Line) (marks : Marks) (k : ℕ) (l : Line) → IsT
 mark_next [] marks zero l apart f e = absurd (cc)
 mark_next [] marks (suc k) l apart f e = absurd f
 mark_next (m ∷ ms) marks zero l apart f e =
-    let same : m ≡ l = same_some m l (sym (ap (λ b. if not b then Some m else find (λ n. not (marks n.number)) ms) f.0) ∙ e) in
-    let here : nat_eq m.number l.number ≡ true = subst (λ z. nat_eq m.number z.number ≡ true) same (number_same m.number) in (
+    let same : m ≡ l = same_Some m l (sym (ap (λ b. if not b then Some m else find (λ n. not (marks n.number)) ms) f.0) ∙ e) in
+    let here : nat_eq m.number l.number ≡ true = subst (λ z. nat_eq m.number z.number ≡ true) same (eq-eqb m.number m.number refl) in (
       ap (λ b. if b then true else marks m.number) here,
-      mark_other ms marks zero l.number (subst (λ z. has_number z.number ms ≡ false) same (not_true (has_number m.number ms) (both_first (not (has_number m.number ms)) (are_apart ms) apart))) f.1,
+      mark_other ms marks zero l.number (subst (λ z. has_number z.number ms ≡ false) same (not-true (has_number m.number ms) (and_parts (not (has_number m.number ms)) (are_apart ms) apart).0)) f.1,
     )
 mark_next (m ∷ ms) marks (suc k) l apart f e =
     (marked (nat_eq m.number l.number), mark_next ms marks k l (apart_behind m ms apart) f.1 (sym (ap (λ b. if not b then Some m else find (λ n. not (marks n.number)) ms) f.0) ∙ e))
@@ -195,7 +163,7 @@ apart_for [] who apart = refl
 apart_for (m ∷ ms) who apart = go (nat_eq m.who.0 who) (apart_for ms who (apart_behind m ms apart))
   where
     alone : has_number m.number (lines_for who ms) ≡ false
-    alone = fewer_numbers who m.number ms (not_true (has_number m.number ms) (both_first (not (has_number m.number ms)) (are_apart ms) apart))
+    alone = fewer_numbers who m.number ms (not-true (has_number m.number ms) (and_parts (not (has_number m.number ms)) (are_apart ms) apart).0)
 
     both : (b : Bool) → b ≡ false → IsTrue (are_apart (lines_for who ms)) → IsTrue (not b && are_apart (lines_for who ms))
     both true f h = absurd (false≢true (sym f))
@@ -228,8 +196,8 @@ of_next script marks who l e =
     let r : In l script × (((l.who.0 == who) && not (marks l.number)) ≡ true) = found_in (λ m. m.who.0 == who && not (marks m.number)) script l e in
     record {
       there = r.0;
-      his = both_first (l.who.0 == who) (not (marks l.number)) r.1;
-      open_ = not_true (marks l.number) (both_second (l.who.0 == who) (not (marks l.number)) r.1);
+      his = (and_parts (l.who.0 == who) (not (marks l.number)) r.1).0;
+      open_ = not-true (marks l.number) (and_parts (l.who.0 == who) (not (marks l.number)) r.1).1;
     }
 
 -- the others have as many as before
@@ -238,14 +206,14 @@ pub answered_others : (script : List Line) (marks : Marks) (who other k : ℕ) (
 answered_others script marks who other k l apart next apart_whos f =
     let n : OfNext script marks who l = of_next script marks who l next in
     mark_other (lines_for other script) marks k l.number
-    (others_without script l other apart n.there (subst (λ w. nat_eq w other ≡ false) (sym (numbers_are l.who.0 who n.his)) apart_whos)) f
+    (others_without script l other apart n.there (subst (λ w. nat_eq w other ≡ false) (sym (eqb-true l.who.0 who n.his)) apart_whos)) f
 
 -- ---- all are answered
 
 marked_in : (marks : Marks) (lines : List Line) (l : Line) → IsTrue (all_marked marks lines) → In l lines → marks l.number ≡ true
 marked_in marks [] l all i = absurd i
-marked_in marks (m ∷ ms) l all (inl e) = subst (λ z. marks z.number ≡ true) e (both_first (marks m.number) (all_marked marks ms) all)
-marked_in marks (m ∷ ms) l all (inr i) = marked_in marks ms l (both_second (marks m.number) (all_marked marks ms) all) i
+marked_in marks (m ∷ ms) l all (inl e) = subst (λ z. marks z.number ≡ true) e (and_parts (marks m.number) (all_marked marks ms) all).0
+marked_in marks (m ∷ ms) l all (inr i) = marked_in marks ms l (and_parts (marks m.number) (all_marked marks ms) all).1 i
 
 pub all_is_none : (script : List Line) (marks : Marks) (who : ℕ) (l : Line) → IsTrue (all_answered script marks) → next_line script marks who ≡ Some l → ⊥
 all_is_none script marks who l all e =
@@ -255,7 +223,7 @@ all_is_none script marks who l all e =
 pub more_marked : (lines : List Line) (marks : Marks) (n : ℕ) → IsTrue (all_marked marks lines) → IsTrue (all_marked (put marks n true) lines)
 more_marked [] marks n h = h
 more_marked (l ∷ ls) marks n h =
-    go (nat_eq l.number n) (both_first (marks l.number) (all_marked marks ls) h) (more_marked ls marks n (both_second (marks l.number) (all_marked marks ls) h))
+    go (nat_eq l.number n) (and_parts (marks l.number) (all_marked marks ls) h).0 (more_marked ls marks n (and_parts (marks l.number) (all_marked marks ls) h).1)
   where
     go : (b : Bool) → IsTrue (marks l.number) → IsTrue (all_marked (put marks n true) ls) → IsTrue ((if b then true else marks l.number) && all_marked (put marks n true) ls)
     go true m r = r

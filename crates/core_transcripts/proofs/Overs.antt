@@ -1,6 +1,6 @@
 -- At which events it is over: the answer to a halt, the end, and a failed call of the host; and that the clock comes to its last moment at most.
 use Rattle.std.proofs.Common.{ℕ, ◌≡◌, ◌≤◌, ◌+◌, Bool, true, false, ◌||◌, ◌==◌, if◌then◌else◌, IsTrue, List, [], ◌∷◌, ◌++◌, Option, Some, None, nat_eq, nat_lt, refl, sym, ap, ◌∙◌, subst, arith}
-use Rattle.std.proofs.lemmas.Bool.{false≢true}
+use Rattle.std.proofs.lemmas.Bool.{false≢true, or_right, or_left, eqb-true}
 use Rattle.std.proofs.lemmas.Bool.Decides.{nat_tests}
 use Rattle.std.specs.List.{list_any}
 use Rattle.std.specs.Option.{option_map}
@@ -39,17 +39,9 @@ use Rattle.core_definitions.specs.Runs.{saids_of}
 use Rattle.core_laws.proofs.Resting.{server_no_host}
 use Rattle.core_transcripts.specs.Faults.{failing, is_of}
 use Rattle.core_transcripts.specs.Transcripts.{IsNumbered}
-use Rattle.core_transcripts.proofs.Numbering.{OfNext, line_is, numbers_are, of_next}
+use Rattle.core_transcripts.proofs.Numbering.{OfNext, line_is, of_next}
 use Rattle.core_transcripts.proofs.Saying.{any_push}
 use Rattle.core_transcripts.proofs.Turning.{no_load}
-
-or_left : (a b : Bool) → a ≡ true → (a || b) ≡ true
-or_left true b e = refl
-or_left false b e = absurd (false≢true e)
-
-or_right : (a b : Bool) → b ≡ true → (a || b) ≡ true
-or_right true b e = refl
-or_right false b e = e
 
 one_tick : (n last : ℕ) → IsTrue (nat_lt n last) → n + 1 ≤ last
 one_tick n last h = grind (arith, nat_tests, h)
@@ -200,7 +192,7 @@ module _ (c : Core) where
         own = of_next c.setting.script c.answered host_party l next
 
         same : l.number ≡ number
-        same = numbers_are l.number number (subst (λ o. IsTrue (is_line (λ line. line.number == number) o)) next can.next)
+        same = eqb-true l.number number (subst (λ o. IsTrue (is_line (λ line. line.number == number) o)) next can.next)
 
         halts_so : is_halt_line (line_of c.setting.script number) ≡ true
         halts_so =

@@ -1,7 +1,8 @@
 -- What is due of a server at each change of it: as a line begins or is answered, a call fails, and it is doomed, dies or goes on.
 use Rattle.std.proofs.Common.{ℕ, ◌≡◌, ◌≤◌, ◌+◌, Bool, true, false, ◌&&◌, ◌||◌, if◌then◌else◌, IsTrue, Option, Some, None, refl, sym, ap, ◌∙◌, subst, arith}
-use Rattle.std.proofs.lemmas.Bool.{false≢true}
+use Rattle.std.proofs.lemmas.Bool.{false≢true, or_left, and_parts}
 use Rattle.std.specs.Option.{option_map}
+use Rattle.std.proofs.Math.Nat.{le_refl}
 use Rattle.frang_base.specs.declared.op.Op.{Op}
 use Rattle.frang_base.specs.declared.op.Op.TheVariants as op
 use Rattle.frang_base.specs.declared.reply.Reply.{Reply}
@@ -17,9 +18,6 @@ use Rattle.core_definitions.specs.WriteEffects.{fixed_for, under_at_death}
 use Rattle.core_transcripts.proofs.Fits.{asked_of, key_of}
 use Rattle.core_transcripts.proofs.Walking.{IsPlain}
 use Rattle.core_transcripts.proofs.Due.{answer_due, asked_due, at_most_one, death_due, io_due, one_if}
-
-le_self : (n : ℕ) → n ≤ n
-le_self n = omega arith
 
 none_least : (n : ℕ) → 0 ≤ n
 none_least n = omega arith
@@ -64,10 +62,6 @@ mounted_in Dead h = absurd (false≢true h)
 pub mount_same : (p q : Phase) (failed : Bool) → is_in_mount p ≡ true → is_in_mount q ≡ true → one_if (is_in_mount q && failed) ≡ one_if (is_in_mount p && failed)
 mount_same p q failed e f = ap (λ b. one_if (b && failed)) (f ∙ sym e)
 
-or_left : (a b : Bool) → IsTrue a → IsTrue (a || b)
-or_left true b h = refl
-or_left false b h = absurd (false≢true h)
-
 pub up_mounted : (p : Phase) → IsTrue (is_up p) → is_in_mount p ≡ true
 up_mounted p h = mounted_in p (or_left (is_up p) (is_still p) h)
 
@@ -111,7 +105,7 @@ failed_deaths server =
 
 -- a get under a mount
 refused_answer : (fixed : Option Reply) (got : Bool) → answer_due fixed true ≤ answer_due fixed got + 1
-refused_answer (Some r) got = right_more (one_if (is_io r)) 1 (one_if (is_io r)) (le_self (one_if (is_io r)))
+refused_answer (Some r) got = right_more (one_if (is_io r)) 1 (one_if (is_io r)) (le_refl (one_if (is_io r)))
 refused_answer None got = left_more (one_if got) 1
 
 refused_asked : (o : Option Under) → asked_due (option_map asked_of (option_map refused_under o)) ≤ asked_due (option_map asked_of o) + 1
@@ -128,8 +122,8 @@ refused_due d o = refuses_with d (asked_due (option_map asked_of o)) (asked_due 
 
 death_io : (failed crash : Bool) → one_if (is_io (if crash then reply.Ok else (if failed then reply.Io else reply.Down))) ≤ one_if failed
 death_io failed true = none_least (one_if failed)
-death_io true false = le_self 1
-death_io false false = le_self 0
+death_io true false = le_refl 1
+death_io false false = le_refl 0
 
 fixed_died : (failed got : Bool) (w : Option Op) → answer_due (fixed_for failed w) got ≤ one_if failed + one_if got
 fixed_died failed got None = left_more (one_if failed) (one_if got)
@@ -170,10 +164,6 @@ if_due : (b : Bool) (x r : Reply) → due_if b x ≡ Some r → IsTrue b × (r �
 if_due true x r e = (refl, same_some x r e)
 if_due false x r e = none_some r e
 
-both_first : (a b : Bool) → IsTrue (a && b) → IsTrue a
-both_first true b h = refl
-both_first false b h = absurd (false≢true h)
-
 module _ (c : Core) (a : ℕ) (u : Under) (server : Server) where
   abbrev Paid : Op → Reply → Type 0
   Paid o r = IsOpenPaid server (answered_open c u server o r) u r
@@ -185,7 +175,7 @@ module _ (c : Core) (a : ℕ) (u : Under) (server : Server) where
       go : (g : Bool) → u.get_failed ≡ g → (if g then Some reply.Io else due_if (is_read c.setting.logs u.slots) reply.Mounted) ≡ Some r → Paid op.Mount r
       go true f d =
           subst (λ r. Paid op.Mount r) (sym (same_some reply.Io r d))
-          (record { awake = off_awake server.phase e; deaths = le_self (death_due (key_of server)); io = subst (λ g. 1 ≤ one_if g) (sym f) (le_self 1) })
+          (record { awake = off_awake server.phase e; deaths = le_refl (death_due (key_of server)); io = subst (λ g. 1 ≤ one_if g) (sym f) (le_refl 1) })
       go false f d =
           subst (λ r. Paid op.Mount r) (sym (if_due (is_read c.setting.logs u.slots) reply.Mounted r d).1)
           (record { awake = refl; deaths = none_least (death_due (key_of server)); io = none_least (one_if u.get_failed) })
@@ -197,14 +187,14 @@ module _ (c : Core) (a : ℕ) (u : Under) (server : Server) where
   up_paid : (v : Server) → v.phase ≡ server.phase → v.failed ≡ server.failed → IsTrue (is_up server.phase) → IsOpenPaid server v u reply.Ok
   up_paid v p f up = record {
     awake = ap is_doomed p ∙ up_awake server.phase up;
-    deaths = subst (λ n. n ≤ death_due (key_of server)) (sym (ap (λ q. one_if (is_in_mount q && v.failed)) p ∙ ap (λ q. one_if (is_in_mount server.phase && q)) f)) (le_self (death_due (key_of server)));
+    deaths = subst (λ n. n ≤ death_due (key_of server)) (sym (ap (λ q. one_if (is_in_mount q && v.failed)) p ∙ ap (λ q. one_if (is_in_mount server.phase && q)) f)) (le_refl (death_due (key_of server)));
     io = none_least (one_if u.get_failed);
   }
 
   pub open_paid : (o : Op) (r : Reply) → own_answer c.setting.logs c.flights a server u o ≡ Some r → IsOpenPaid server (answered_open c u server o r) u r
   open_paid op.Mount r due = mount_paid r (is_off server.phase) refl due
   open_paid op.Sync r due =
-      ok_paid op.Sync r (is_up server.phase && is_synced server) (both_first (is_up server.phase) (is_synced server)) due (up_paid server refl refl)
+      ok_paid op.Sync r (is_up server.phase && is_synced server) (λ h. (and_parts (is_up server.phase) (is_synced server) h).0) due (up_paid server refl refl)
   open_paid op.Unmount r due =
       record { awake = refl; deaths = none_least (death_due (key_of server)); io = subst (λ r. one_if (is_io r) ≤ one_if u.get_failed) (sym ok) (none_least (one_if u.get_failed)) }
     where
@@ -218,7 +208,7 @@ module _ (c : Core) (a : ℕ) (u : Under) (server : Server) where
       ok_paid op.Stall r (is_up server.phase) (λ h. h) due
       (λ up. record {
         awake = refl;
-        deaths = subst (λ n. n ≤ death_due (key_of server)) (sym (mount_same server.phase Still server.failed (up_mounted server.phase up) refl)) (le_self (death_due (key_of server)));
+        deaths = subst (λ n. n ≤ death_due (key_of server)) (sym (mount_same server.phase Still server.failed (up_mounted server.phase up) refl)) (le_refl (death_due (key_of server)));
         io = none_least (one_if u.get_failed);
       })
   open_paid o r due = none_some r due

@@ -1,6 +1,7 @@
 -- Each answer of a server may be given, and what counts of the server then: one that was fixed, and one of the line's own.
 use Rattle.std.proofs.Common.{ℕ, ◌≡◌, Bool, true, false, not, ◌&&◌, ◌||◌, ◌==◌, if◌then◌else◌, IsTrue, is_some, Some, None, refl, sym, ap, ◌∙◌, subst}
-use Rattle.std.proofs.lemmas.Bool.{false≢true}
+use Rattle.std.proofs.lemmas.Bool.{false≢true, or_left, and_parts, not-true}
+use Rattle.std.proofs.lemmas.Option.{same_Some, none-some}
 use Rattle.frang_base.specs.declared.op.Op.{Op}
 use Rattle.frang_base.specs.declared.op.Op.TheVariants as op
 use Rattle.frang_base.specs.declared.reply.Reply.{Reply}
@@ -19,8 +20,7 @@ use Rattle.core_definitions.specs.LineGuards.{is_server}
 use Rattle.core_definitions.specs.LineEffects.{answered_fixed, answered_open, committed_by}
 use Rattle.core_transcripts.proofs.Fits.{Fits, LineFits, OwingFits, PhaseFits, Told, Waits, key_of}
 use Rattle.core_transcripts.proofs.Fitting.{key_works}
-use Rattle.core_transcripts.proofs.Numbering.{both_first, both_second, not_true}
-use Rattle.core_transcripts.proofs.Replies.{Later, already_is, dead_told, given_io, given_mounted, given_up, last_none, middle_none, mounted_after, off_told, owed_after, plain_is, stalled_after, stays_after, three_none, unmounted_after}
+use Rattle.core_transcripts.proofs.Replies.{Later, already_is, dead_told, given_io, given_mounted, given_up, last_none, middle_none, mounted_after, off_told, owed_after, plain_is, stalled_after, stays_after, three_none, unmounted_after, phase_is}
 use Rattle.core_transcripts.proofs.Turns.{up_calm}
 use Rattle.core_transcripts.proofs.Walking.{IsPlain}
 
@@ -34,10 +34,6 @@ own_plain o reply.Already h p = absurd p
 own_plain o reply.Mounted h p = absurd p
 own_plain op.Crash r h p = absurd (false≢true h)
 own_plain o r h p = or_left (is_path_op o) (may_be_ok o && is_ok r) h
-  where
-    or_left : (a b : Bool) → IsTrue a → IsTrue (a || b)
-    or_left true b h = refl
-    or_left false b h = absurd (false≢true h)
 
 -- an operation over paths is none of the others
 pub record IsOverPaths (o : Op) : Type 0 where
@@ -56,13 +52,6 @@ over_paths op.Stall h = absurd (false≢true h)
 over_paths o h = record { stall = refl; unmount = refl; mount = refl }
 
 -- ---- phases
-
-up_is : (p : Phase) → IsTrue (is_up p) → p ≡ Up
-up_is Up h = refl
-up_is Off h = absurd (false≢true h)
-up_is Still h = absurd (false≢true h)
-up_is (Doomed f) h = absurd (false≢true h)
-up_is Dead h = absurd (false≢true h)
 
 off_is : (p : Phase) → IsTrue (is_off p) → p ≡ Off
 off_is Off h = refl
@@ -105,13 +94,13 @@ module _ (server : Server) (t u : Told) (o : Op) (r : Reply) (g : Bool) (l : Lat
   by_low Off true e f low answers n h = pays answers f h low
   by_low Off false e f low answers n h =
       stays (three_none (is_told_up t.state.phase) (is_ok r) (is_stall o) low) (three_none (is_told_up t.state.phase) (is_ok r) (is_unmount o) low) answers f
-      (not_true (is_mounted r) (both_second (not (is_expired r)) (not (is_mounted r)) (both_second (may_answer_by t.state.phase t.state.just_died t.faulted o r) (not (is_expired r) && not (is_mounted r)) h)))
-      (not_true (is_expired r) (both_first (not (is_expired r)) (not (is_mounted r)) (both_second (may_answer_by t.state.phase t.state.just_died t.faulted o r) (not (is_expired r) && not (is_mounted r)) h)))
+      (not-true (is_mounted r) (and_parts (not (is_expired r)) (not (is_mounted r)) (and_parts (may_answer_by t.state.phase t.state.just_died t.faulted o r) (not (is_expired r) && not (is_mounted r)) h).1).1)
+      (not-true (is_expired r) (and_parts (not (is_expired r)) (not (is_mounted r)) (and_parts (may_answer_by t.state.phase t.state.just_died t.faulted o r) (not (is_expired r) && not (is_mounted r)) h).1).0)
   by_low Dead true e f low answers n h = pays answers f h low
   by_low Dead false e f low answers n h =
       stays (three_none (is_told_up t.state.phase) (is_ok r) (is_stall o) low) (three_none (is_told_up t.state.phase) (is_ok r) (is_unmount o) low) answers f
-      (not_true (is_mounted r) (both_second (not (is_expired r)) (not (is_mounted r)) (both_second (may_answer_by t.state.phase t.state.just_died t.faulted o r) (not (is_expired r) && not (is_mounted r)) h)))
-      (not_true (is_expired r) (both_first (not (is_expired r)) (not (is_mounted r)) (both_second (may_answer_by t.state.phase t.state.just_died t.faulted o r) (not (is_expired r) && not (is_mounted r)) h)))
+      (not-true (is_mounted r) (and_parts (not (is_expired r)) (not (is_mounted r)) (and_parts (may_answer_by t.state.phase t.state.just_died t.faulted o r) (not (is_expired r) && not (is_mounted r)) h).1).1)
+      (not-true (is_expired r) (and_parts (not (is_expired r)) (not (is_mounted r)) (and_parts (may_answer_by t.state.phase t.state.just_died t.faulted o r) (not (is_expired r) && not (is_mounted r)) h).1).0)
   by_low Up owes e f low answers n h = absurd (false≢true (sym n))
   by_low Still owes e f low answers n h = absurd h
   by_low (Doomed fate) owes e f low answers n h = absurd (false≢true (sym (ap is_answering e) ∙ answers))
@@ -122,7 +111,7 @@ module _ (server : Server) (t u : Told) (o : Op) (r : Reply) (g : Bool) (l : Lat
   by_phase Dead e answers h =
       by_low Dead server.owes e refl (ap is_told_up (dead_told t.state.phase t.all t.faulted (subst (λ p. PhaseFits p t.state.phase t.all t.faulted) e fits.phase))) answers refl h
   by_phase Up e answers h =
-      let a : (is_mounted r ≡ false) × (is_expired r ≡ false) × (is_ok r ≡ false) = already_is r (both_second (is_mount o) (is_already r) h) in
+      let a : (is_mounted r ≡ false) × (is_expired r ≡ false) × (is_ok r ≡ false) = already_is r (and_parts (is_mount o) (is_already r) h).1 in
       stays (middle_none (is_told_up t.state.phase) (is_ok r) (is_stall o) a.2) (middle_none (is_told_up t.state.phase) (is_ok r) (is_unmount o) a.2) answers
       (up_calm server.phase server.owes (ap is_up e) fits.calm) a.0 a.1
   by_phase Still e answers h = absurd h
@@ -139,15 +128,9 @@ pub record IsOwned (c : Core) (a : ℕ) (under : Under) (server : Server) (t u :
   pub saves : (d : ℕ) → IsTrue (key_works a (key_of (record (answered_open c under server o r) { under = None }))) →
       (key_of (record (answered_open c under server o r) { under = None })).saves ≡ Some d → IsTrue (key_works a (key_of server)) × ((key_of server).saves ≡ Some d)
 
-due_is : (b : Bool) (x r : Reply) → due_if b x ≡ Some r → IsTrue b × (x ≡ r)
-due_is true x r e = (refl, same x r e)
-  where
-    same : (x r : Reply) → Some x ≡ Some r → x ≡ r
-    same x r e = cc
+pub due_is : (b : Bool) (x r : Reply) → due_if b x ≡ Some r → IsTrue b × (x ≡ r)
+due_is true x r e = (refl, same_Some x r e)
 due_is false x r e = absurd (cc)
-
-none_saved : {P : Type 0} (d : ℕ) → None ≡ Some d → P
-none_saved d e = absurd (cc)
 
 module _ (c : Core) (a : ℕ) (under : Under) (server : Server) (t u : Told) (is : IsTrue (is_server a)) (away : (a == host_party) ≡ false) (none : IsTrue t.all → ⊥) (g : Fits (key_of server) t)
     (answers : IsTrue (is_answering server.phase)) where
@@ -156,7 +139,7 @@ module _ (c : Core) (a : ℕ) (under : Under) (server : Server) (t u : Told) (is
     free = up_calm server.phase server.owes up g.calm
 
     phase_up : PhaseFits Up t.state.phase t.all t.faulted
-    phase_up = subst (λ p. PhaseFits p t.state.phase t.all t.faulted) (up_is server.phase up) g.phase
+    phase_up = subst (λ p. PhaseFits p t.state.phase t.all t.faulted) (phase_is server.phase up) g.phase
 
     owing_free : OwingFits false t.state.debt
     owing_free = subst (λ w. OwingFits w t.state.debt) free g.owing
@@ -192,7 +175,7 @@ module _ (c : Core) (a : ℕ) (under : Under) (server : Server) (t u : Told) (is
     unmounted l = record {
       fits = unmounted_after (key_of server) t u l up free g;
       given = given_up t.state t.all t.faulted op.Unmount reply.Ok phase_up owing_free refl refl;
-      saves = λ d w e. none_saved d e;
+      saves = λ d w e. absurd (none-some d e);
     }
 
     stalled : Later t op.Stall reply.Ok u → IsOwned c a under server t u op.Stall reply.Ok
@@ -225,16 +208,13 @@ module _ (c : Core) (a : ℕ) (under : Under) (server : Server) (t u : Told) (is
       with_mount w fits l = record {
         fits = mounted_after (key_of server) t u l w.free g;
         given = given_mounted t.state t.all t.faulted fits none (subst (λ w. OwingFits w t.state.debt) w.free g.owing);
-        saves = λ d w e. none_saved d e;
+        saves = λ d w e. absurd (none-some d e);
       }
-
-      same_reply : (x r : Reply) → Some x ≡ Some r → x ≡ r
-      same_reply x r e = cc
 
       by_get : (b : Bool) → under.get_failed ≡ b → Waits server.owes t.faulted op.Mount under.get_failed → PhaseFits Off t.state.phase t.all t.faulted →
           (if b then Some reply.Io else due_if (is_read c.setting.logs under.slots) reply.Mounted) ≡ Some r → IsOwned c a under server t u op.Mount r
       by_get true f w fits e =
-          subst (λ r. Later t op.Mount r u → IsOwned c a under server t u op.Mount r) (same_reply reply.Io r e) (λ l. with_io w fits f l) l
+          subst (λ r. Later t op.Mount r u → IsOwned c a under server t u op.Mount r) (same_Some reply.Io r e) (λ l. with_io w fits f l) l
       by_get false f w fits e =
           subst (λ r. Later t op.Mount r u → IsOwned c a under server t u op.Mount r) (due_is (is_read c.setting.logs under.slots) reply.Mounted r e).1 (λ l. with_mount w fits l) l
 
@@ -249,10 +229,10 @@ module _ (c : Core) (a : ℕ) (under : Under) (server : Server) (t u : Told) (is
   own_fits op.Mount r h l e = mounts h r l e
   own_fits op.Sync r h l e =
       let d : IsTrue (is_up server.phase && is_synced server) × (reply.Ok ≡ r) = due_is (is_up server.phase && is_synced server) reply.Ok r e in
-      subst (λ r. Later t op.Sync r u → IsOwned c a under server t u op.Sync r) d.1 (λ l. synced (both_first (is_up server.phase) (is_synced server) d.0) l) l
+      subst (λ r. Later t op.Sync r u → IsOwned c a under server t u op.Sync r) d.1 (λ l. synced (and_parts (is_up server.phase) (is_synced server) d.0).0 l) l
   own_fits op.Unmount r h l e =
       let d : IsTrue (is_up server.phase && clean_at (record c { servers = λ i. server }) a) × (reply.Ok ≡ r) = due_is (is_up server.phase && clean_at (record c { servers = λ i. server }) a) reply.Ok r e in
-      subst (λ r. Later t op.Unmount r u → IsOwned c a under server t u op.Unmount r) d.1 (λ l. unmounted (both_first (is_up server.phase) (clean_at (record c { servers = λ i. server }) a) d.0) l) l
+      subst (λ r. Later t op.Unmount r u → IsOwned c a under server t u op.Unmount r) d.1 (λ l. unmounted (and_parts (is_up server.phase) (clean_at (record c { servers = λ i. server }) a) d.0).0 l) l
   own_fits (op.CrashAt k) r h l e =
       let d : IsTrue (is_up server.phase) × (reply.Ok ≡ r) = due_is (is_up server.phase) reply.Ok r e in
       subst (λ r. Later t (op.CrashAt k) r u → IsOwned c a under server t u (op.CrashAt k) r) d.1 (λ l. called d.0 k l) l

@@ -1,8 +1,9 @@
 -- Each event leaves of a server no more due than before, but for a call of it that fails and for what is said of it; and calls for the death of one that it dooms.
 use Rattle.std.proofs.Common.{ℕ, ◌≡◌, ◌≤◌, ◌+◌, ◌%◌, Bool, true, false, not, ◌&&◌, ◌||◌, ◌==◌, if◌then◌else◌, IsTrue, is_some, List, [], ◌∷◌, Option, Some, None, nat_eq, nat_lt, refl, sym, ap, ◌∙◌, subst, arith}
-use Rattle.std.proofs.lemmas.Bool.{false≢true}
+use Rattle.std.proofs.lemmas.Bool.{false≢true, or_right, eqb-true, eq-eqb, and_parts}
 use Rattle.std.specs.List.{slice_get}
 use Rattle.std.specs.Option.{IsSome, option_map}
+use Rattle.std.proofs.Math.Nat.{le_refl}
 use Rattle.frang_base.specs.Functions.{put}
 use Rattle.frang_base.specs.declared.lock.LockId.{LockId}
 use Rattle.frang_base.specs.declared.op.Op.{Op}
@@ -46,7 +47,7 @@ use Rattle.core_transcripts.proofs.Answering.{is_under}
 use Rattle.core_transcripts.proofs.Fits.{AskFits, asked_of, key_of}
 use Rattle.core_transcripts.proofs.Fitting.{told_of}
 use Rattle.core_transcripts.proofs.Happening.{CoreFits}
-use Rattle.core_transcripts.proofs.Numbering.{both_first, both_second, number_same, numbers_are, numbers_turn}
+use Rattle.core_transcripts.proofs.Numbering.{numbers_turn}
 use Rattle.core_transcripts.proofs.Staging.{StageIsPlain, stage_plain}
 use Rattle.core_transcripts.proofs.Steady.{acknowledged_steady, again_steady, fetched_steady, flushed_steady, issued_steady, recovery_steady}
 use Rattle.core_transcripts.proofs.Telling.{got_in, tree_nodes}
@@ -67,9 +68,6 @@ keeps_same m n e = omega (arith, e)
 none_least : (n : ℕ) → 0 ≤ n + 0
 none_least n = omega arith
 
-keeps_due : (l k a : ℕ) → l ≡ k → l + a ≤ (k + a) + 0
-keeps_due l k a e = omega (arith, e)
-
 said_none : (l k a n : ℕ) → l ≡ k → n ≡ 0 → (l + a) + n ≤ (k + a) + 0
 said_none l k a n e z = omega (arith, e, z)
 
@@ -85,12 +83,6 @@ off_said k a n z = omega (arith, z)
 
 same_said : (m n : ℕ) → m ≡ n → m + 0 ≤ n + 0
 same_said m n e = omega (arith, e)
-
-le_self : (n : ℕ) → n ≤ n
-le_self n = omega arith
-
-same_least : (m n : ℕ) → m ≡ n → m ≤ n
-same_least m n e = omega (arith, e)
 
 least_same : (m n k : ℕ) → m ≡ n → n ≤ k → m ≤ k
 least_same m n k e h = omega (arith, e, h)
@@ -111,7 +103,7 @@ no_answer true = refl
 no_answer false = refl
 
 own_answer_io : (a : ℕ) (r : Reply) → one_if (nat_eq a a && is_io r) ≡ one_if (is_io r)
-own_answer_io a r = ap (λ b. one_if (b && is_io r)) (number_same a)
+own_answer_io a r = ap (λ b. one_if (b && is_io r)) (eq-eqb a a refl)
 
 if_some : {X : Type 0} (b : Bool) (x : Option X) (r : X) → (if b then x else None) ≡ Some r → IsTrue b × (x ≡ Some r)
 if_some true x r e = (refl, e)
@@ -120,10 +112,7 @@ if_some false x r e = absurd (cc)
 none_some : {X P : Type 0} (r : X) → None ≡ Some r → P
 none_some r e = absurd (cc)
 
-same_some : (x r : Reply) → Some x ≡ Some r → x ≡ r
-same_some x r e = cc
-
-arrival_says : (now : ℕ) (heard : Heard) (o : Option Flight) → saids_of (deeds_of_arrival now heard o) ≡ []
+pub arrival_says : (now : ℕ) (heard : Heard) (o : Option Flight) → saids_of (deeds_of_arrival now heard o) ≡ []
 arrival_says now heard None = refl
 arrival_says now Nothing (Some flight) = refl
 arrival_says now (Got block) (Some flight) = refl
@@ -152,8 +141,8 @@ plain_stage c a = go (is_up (c.servers a).phase && asks is_path_op (c.servers a)
 
 stage_up : (c : Core) (a : ℕ) (at : Stage) → stage c a ≡ Some at → IsTrue (is_up (c.servers a).phase)
 stage_up c a at e =
-    both_first (is_up (c.servers a).phase) (asks is_path_op (c.servers a))
-    (if_some (is_up (c.servers a).phase && asks is_path_op (c.servers a)) (stage_under c.setting c.locks a (c.servers a).cache (c.servers a).under) at e).0
+    (and_parts (is_up (c.servers a).phase) (asks is_path_op (c.servers a))
+    (if_some (is_up (c.servers a).phase && asks is_path_op (c.servers a)) (stage_under c.setting c.locks a (c.servers a).cache (c.servers a).under) at e).0).0
 
 -- ---- events
 
@@ -178,7 +167,7 @@ module _ (script : List Line) (f : Faults) (c : Core) (saids : List Said) (g : C
   one_server more a v fails own others i = go (nat_eq i a) refl
     where
       go : (b : Bool) → nat_eq i a ≡ b → Paid more i (if b then v else c.servers i) (fails i)
-      go true e = subst (λ j. Paid more j v (fails j)) (sym (numbers_are i a e)) own
+      go true e = subst (λ j. Paid more j v (fails j)) (sym (eqb-true i a e)) own
       go false e = others i e
 
   quietly : (a : ℕ) (v : Server) → Paid [] a v 0 → (i : ℕ) → Paid [] i (put c.servers a v i) 0
@@ -205,7 +194,7 @@ module _ (script : List Line) (f : Faults) (c : Core) (saids : List Said) (g : C
   -- ---- calls that fail
   failed_own : (a : ℕ) → Paid [] a (failed_by (c.servers a)) (one_if (nat_eq a a))
   failed_own a =
-      subst (λ b. Paid [] a (failed_by (c.servers a)) (one_if b)) (sym (number_same a))
+      subst (λ b. Paid [] a (failed_by (c.servers a)) (one_if b)) (sym (eq-eqb a a refl))
       (record {
         answers = plus_none (io_due (key_of (failed_by (c.servers a)))) (io_due (key_of (c.servers a)) + 1) (failed_due (c.servers a));
         deaths = plus_none (death_due (key_of (failed_by (c.servers a)))) (death_due (key_of (c.servers a)) + 1) (failed_deaths (c.servers a));
@@ -229,7 +218,7 @@ module _ (script : List Line) (f : Faults) (c : Core) (saids : List Said) (g : C
 
   refused_own : (a : ℕ) → IsTrue (is_off (c.servers a).phase) → Paid [] a (with_under (c.servers a) refused_under) (one_if (nat_eq a a))
   refused_own a off =
-      subst (λ b. Paid [] a (with_under (c.servers a) refused_under) (one_if b)) (sym (number_same a))
+      subst (λ b. Paid [] a (with_under (c.servers a) refused_under) (one_if b)) (sym (eq-eqb a a refl))
       (quiet_pays script saids a (key_of (c.servers a)) (key_of (with_under (c.servers a) refused_under)) 1 (off_awake (c.servers a).phase off)
       (refused_due (death_due (key_of (c.servers a))) (c.servers a).under) (one_more (death_due (key_of (c.servers a)))))
     where
@@ -316,11 +305,7 @@ module _ (script : List Line) (f : Faults) (c : Core) (saids : List Said) (g : C
       (λ i n. aside_paid i (said.Renewed (id_of a)) (numbers_turn i a n))
     where
       still : IsTrue (is_still (c.servers a).phase)
-      still = both_first (is_still (c.servers a).phase) (nat_lt (c.servers a).expiry c.now) can.past
-
-      or_right : (a b : Bool) → IsTrue b → IsTrue (a || b)
-      or_right true b h = refl
-      or_right false b h = h
+      still = (and_parts (is_still (c.servers a).phase) (nat_lt (c.servers a).expiry c.now) can.past).0
 
       same : one_if (true && (c.servers a).failed) ≡ death_due (key_of (c.servers a))
       same =
@@ -368,7 +353,7 @@ module _ (script : List Line) (f : Faults) (c : Core) (saids : List Said) (g : C
     own_committed (Some u) =
         said_pays script saids (said.Answer (id_of a) u.line.number outcome.reply) a (key_of (c.servers a)) (key_of (committed_by outcome (c.servers a))) 0 (up_awake (c.servers a).phase up)
         (said_due (death_due (key_of (c.servers a))) (death_due (key_of (c.servers a))) (asked_due (key_of (c.servers a)).asked) (one_if (nat_eq a a && is_io outcome.reply))
-        (le_self (death_due (key_of (c.servers a))))
+        (le_refl (death_due (key_of (c.servers a))))
         (least_same (one_if (nat_eq a a && is_io outcome.reply)) 0 (asked_due (key_of (c.servers a)).asked) (own_answer_io a outcome.reply ∙ ap one_if plain) (zero_least (asked_due (key_of (c.servers a)).asked))))
         refl (keeps (death_due (key_of (c.servers a))))
       where
@@ -421,12 +406,12 @@ module _ (script : List Line) (f : Faults) (c : Core) (saids : List Said) (g : C
     fixed_answered o e = go (is_unmount o && is_ok r)
       where
         io : one_if (is_io r) ≤ asked_due (key_of (c.servers a)).asked
-        io = at_most (one_if (is_io r)) (one_if (is_io r)) (asked_due (key_of (c.servers a)).asked) (le_self (one_if (is_io r))) (due_is (Some r) e)
+        io = at_most (one_if (is_io r)) (one_if (is_io r)) (asked_due (key_of (c.servers a)).asked) (le_refl (one_if (is_io r))) (due_is (Some r) e)
 
         go : (b : Bool) → Paid (answer_line ∷ []) a (record (if b then record (c.servers a) { owes = false } else c.servers a) { under = None }) 0
         go true =
-            own_answered (record (c.servers a) { owes = false; under = None }) refl (answering_awake (c.servers a).phase answers) (le_self (death_due (key_of (c.servers a)))) io
-        go false = own_answered (record (c.servers a) { under = None }) refl (answering_awake (c.servers a).phase answers) (le_self (death_due (key_of (c.servers a)))) io
+            own_answered (record (c.servers a) { owes = false; under = None }) refl (answering_awake (c.servers a).phase answers) (le_refl (death_due (key_of (c.servers a)))) io
+        go false = own_answered (record (c.servers a) { under = None }) refl (answering_awake (c.servers a).phase answers) (le_refl (death_due (key_of (c.servers a)))) io
 
     open_answered : (o : Op) → u.fixed ≡ None → IsOpenPaid (c.servers a) (answered_open c u (c.servers a) o r) u r →
         Paid (answer_line ∷ []) a (record (answered_open c u (c.servers a) o r) { under = None }) 0
@@ -476,9 +461,9 @@ module _ (script : List Line) (f : Faults) (c : Core) (saids : List Said) (g : C
 
     dead_so : IsTrue (is_dead (c.servers dead).phase)
     dead_so =
-        both_second (is_server dead) (is_dead (c.servers dead).phase)
-        (both_first (is_server dead && is_dead (c.servers dead).phase) (nat_lt (c.servers dead).expiry c.now)
-        (both_first (is_server dead && is_dead (c.servers dead).phase && nat_lt (c.servers dead).expiry c.now) (is_hold_over c.now (log_hold c.locks dead)) can.waits))
+        (and_parts (is_server dead) (is_dead (c.servers dead).phase)
+        (and_parts (is_server dead && is_dead (c.servers dead).phase) (nat_lt (c.servers dead).expiry c.now)
+        (and_parts (is_server dead && is_dead (c.servers dead).phase && nat_lt (c.servers dead).expiry c.now) (is_hold_over c.now (log_hold c.locks dead)) can.waits).0).0).1
 
     saved_paid : (i : ℕ) (v : Server) (saves : Option ℕ) → key_of v ≡ record (key_of (c.servers i)) { saves = saves } → Paid (recovering_line ∷ []) i v 0
     saved_paid i v saves e = go (nat_eq dead i) refl
@@ -487,7 +472,7 @@ module _ (script : List Line) (f : Faults) (c : Core) (saids : List Said) (g : C
         go true n =
             subst (λ k. Pays script saids (recovering_line ∷ []) i (key_of (c.servers i)) k 0) (sym e)
             (said_pays script saids recovering_line i (key_of (c.servers i)) (record (key_of (c.servers i)) { saves = saves }) 0
-            (subst (λ j. is_doomed (c.servers j).phase ≡ false) (numbers_are dead i n) (awake_dead (c.servers dead).phase dead_so))
+            (subst (λ j. is_doomed (c.servers j).phase ≡ false) (eqb-true dead i n) (awake_dead (c.servers dead).phase dead_so))
             (said_none (death_due (key_of (c.servers i))) (death_due (key_of (c.servers i))) (asked_due (key_of (c.servers i)).asked) 0 refl refl) refl (keeps (death_due (key_of (c.servers i)))))
         go false n = aside_pays script saids i (key_of (c.servers i)) (h i) recovering_line (key_of v) saves 0 e n
 
@@ -508,12 +493,12 @@ module _ (script : List Line) (f : Faults) (c : Core) (saids : List Said) (g : C
     taker_paid : (i : ℕ) → nat_eq recovery.dead i ≡ false → (b : Bool) → nat_eq i by ≡ b → Paid (done_line ∷ []) i (if b then record (c.servers by) { recovery = None } else c.servers i) 0
     taker_paid i n true e =
         aside_pays script saids i (key_of (c.servers i)) (h i) done_line (key_of (record (c.servers by) { recovery = None })) None 0
-        (ap (λ j. record (key_of (c.servers j)) { saves = None }) (sym (numbers_are i by e))) n
+        (ap (λ j. record (key_of (c.servers j)) { saves = None }) (sym (eqb-true i by e))) n
     taker_paid i n false e = aside_paid i done_line n
 
     finished_paid : (i : ℕ) (b : Bool) → nat_eq i recovery.dead ≡ b →
         Paid (done_line ∷ []) i (if b then recovered (c.servers recovery.dead) else put c.servers by (record (c.servers by) { recovery = None }) i) 0
-    finished_paid i true e = subst (λ j. Paid (done_line ∷ []) j (recovered (c.servers recovery.dead)) 0) (sym (numbers_are i recovery.dead e)) own_recovered
+    finished_paid i true e = subst (λ j. Paid (done_line ∷ []) j (recovered (c.servers recovery.dead)) 0) (sym (eqb-true i recovery.dead e)) own_recovered
     finished_paid i false e = taker_paid i (numbers_turn i recovery.dead e) (nat_eq i by) refl
 
   finishes_paid : (by : ℕ) (o : Option Recovery) (i : ℕ) → Paid (saids_of (says_recovered c o)) i ((finished_from c by o).servers i) 0
@@ -525,7 +510,7 @@ module _ (script : List Line) (f : Faults) (c : Core) (saids : List Said) (g : C
   host_paid number o i = by_line o
     where
       off_host : nat_eq host_party i ≡ true → is_doomed (c.servers i).phase ≡ false
-      off_host e = subst (λ j. is_doomed (c.servers j).phase ≡ false) (numbers_are host_party i e) (off_awake (c.servers host_party).phase g.host)
+      off_host e = subst (λ j. is_doomed (c.servers j).phase ≡ false) (eqb-true host_party i e) (off_awake (c.servers host_party).phase g.host)
 
       go : (b : Bool) → nat_eq host_party i ≡ b → Paid (said.Answer (id_of host_party) number reply.Ok ∷ []) i (c.servers i) 0
       go true e =

@@ -1,35 +1,23 @@
 -- The place of a server or of the host in a script: its lines that are answered, and those that aren't, of which the first is its next.
-use Rattle.std.proofs.Common.{◌≡◌, ℕ, ◌⊎◌, inl, inr, Bool, true, false, not, ◌&&◌, ◌==◌, cond, if◌then◌else◌, List, [], ◌∷◌, ◌++◌, Option, Some, None, IsTrue, filter, find, map, nat_eq, nat_lt, refl, sym, ap, ◌∙◌, subst, arith}
-use Rattle.std.proofs.lemmas.Bool.{false≢true}
+use Rattle.std.proofs.Common.{◌≡◌, ℕ, ◌⊎◌, inl, inr, Bool, true, false, not, ◌&&◌, ◌==◌, cond, if◌then◌else◌, List, [], ◌∷◌, ◌++◌, Option, Some, None, IsTrue, filter, find, nat_eq, nat_lt, refl, sym, ap, ◌∙◌, subst, arith}
+use Rattle.std.proofs.lemmas.Bool.{false≢true, eqb-true, and_from, and_parts, eq-eqb}
 use Rattle.std.proofs.lemmas.Bool.Decides.{nat_tests}
 use Rattle.std.specs.List.{AllByRecursion}
 use Rattle.frang_base.specs.Functions.{put}
 use Rattle.frang_base.specs.declared.script.Line.{Line}
+use Rattle.frang_base.proofs.Lists.{all_append}
 use Rattle.tree_definitions.specs.Transcript.{lines_before, lines_for}
 use Rattle.core_definitions.specs.Scripts.{Marks, all_marked, next_line}
-use Rattle.core_laws.specs.Laws.{AreOnce}
-use Rattle.core_laws.proofs.Flying.{Once}
-use Rattle.core_laws.proofs.Membership.{In, contains_in, in_contains, in_right, into_map}
+use Rattle.core_laws.proofs.Flying.{Once, filtered_once}
+use Rattle.core_laws.proofs.Membership.{In, in_right, into_map}
 use Rattle.core_transcripts.specs.Answers.{answered_by, answered_lines, numbers_of}
 
 -- ---- lists
-
-pub once_of : (xs : List ℕ) → AreOnce xs → Once xs
-once_of [] o = tt
-once_of (x ∷ xs) o = ((λ i. o.0 (in_contains xs x i)), once_of xs o.1)
-
-pub in_words : (xs : List ℕ) → Once xs → AreOnce xs
-in_words [] o = tt
-in_words (x ∷ xs) o = ((λ h. o.0 (contains_in xs x h)), in_words xs o.1)
 
 -- what is so of each element, and follows of each that is there, is so of each
 pub all_there : {X : Type 0} {P Q : X → Type 0} (xs : List X) → ((x : X) → In x xs → P x → Q x) → AllByRecursion P xs → AllByRecursion Q xs
 all_there [] f all = tt
 all_there (x ∷ xs) f all = (f x (inl refl) all.0, all_there xs (λ y i. f y (inr i)) all.1)
-
-all_append : {X : Type 0} (P : X → Type 0) (xs ys : List X) → AllByRecursion P xs → AllByRecursion P ys → AllByRecursion P (xs ++ ys)
-all_append P [] ys a b = b
-all_append P (x ∷ xs) ys a b = (a.0, all_append P xs ys a.1 b)
 
 filtered_there : {X : Type 0} (test : X → Bool) (xs : List X) (x : X) → In x (filter test xs) → In x xs × IsTrue (test x)
 filtered_there test [] x i = absurd i
@@ -40,23 +28,6 @@ filtered_there test (y ∷ ys) x i = go (test y) refl (filtered_there test ys x)
     go true t rest (inl e) = (inl e, subst (λ z. IsTrue (test z)) e t)
     go true t rest (inr j) = (inr (rest j).0, (rest j).1)
     go false t rest j = (inr (rest j).0, (rest j).1)
-
-fewer_in : {X : Type 0} (f : X → ℕ) (test : X → Bool) (xs : List X) (n : ℕ) → In n (map f (filter test xs)) → In n (map f xs)
-fewer_in f test [] n i = absurd i
-fewer_in f test (x ∷ xs) n i = go (test x) (fewer_in f test xs n) i
-  where
-    go : (b : Bool) → (In n (map f (filter test xs)) → In n (map f xs)) → In n (map f (cond b (x ∷ filter test xs) (filter test xs))) → In n (f x ∷ map f xs)
-    go true rest (inl e) = inl e
-    go true rest (inr j) = inr (rest j)
-    go false rest j = inr (rest j)
-
-filtered_once : {X : Type 0} (f : X → ℕ) (test : X → Bool) (xs : List X) → Once (map f xs) → Once (map f (filter test xs))
-filtered_once f test [] o = tt
-filtered_once f test (x ∷ xs) o = go (test x) (filtered_once f test xs o.1)
-  where
-    go : (b : Bool) → Once (map f (filter test xs)) → Once (map f (cond b (x ∷ filter test xs) (filter test xs)))
-    go true rest = ((λ i. o.0 (fewer_in f test xs (f x) i)), rest)
-    go false rest = rest
 
 later_once : (xs ys : List Line) → Once (numbers_of (xs ++ ys)) → Once (numbers_of ys)
 later_once [] ys o = o
@@ -75,10 +46,7 @@ own_line (x ∷ xs) o l m (inr i) (inr j) e = own_line xs o.1 l m i j e
 -- ---- marks
 
 put_same : (marks : Marks) (n : ℕ) → put marks n true n ≡ true
-put_same marks n = ap (λ b. if b then true else marks n) (same n)
-  where
-    same : (n : ℕ) → nat_eq n n ≡ true
-    same n = grind (arith, nat_tests)
+put_same marks n = ap (λ b. if b then true else marks n) (eq-eqb n n refl)
 
 pub put_more : (marks : Marks) (n m : ℕ) → marks m ≡ true → put marks n true m ≡ true
 put_more marks n m e = go (nat_eq m n)
@@ -110,18 +78,7 @@ put_cases marks n m e = go (nat_eq m n) refl e
 
 pub more_marked : (marks : Marks) (n : ℕ) (lines : List Line) → IsTrue (all_marked marks lines) → IsTrue (all_marked (put marks n true) lines)
 more_marked marks n [] h = refl
-more_marked marks n (l ∷ ls) h = both (put marks n true l.number) (all_marked (put marks n true) ls) (put_more marks n l.number (left (marks l.number) (all_marked marks ls) h)) (more_marked marks n ls (right (marks l.number) (all_marked marks ls) h))
-  where
-    both : (x y : Bool) → IsTrue x → IsTrue y → IsTrue (x && y)
-    both x y p q = cc
-
-    left : (x y : Bool) → IsTrue (x && y) → IsTrue x
-    left true y h = refl
-    left false y h = h
-
-    right : (x y : Bool) → IsTrue (x && y) → IsTrue y
-    right true y h = h
-    right false y h = absurd (false≢true h)
+more_marked marks n (l ∷ ls) h = and_from (put marks n true l.number) (all_marked (put marks n true) ls) (put_more marks n l.number (and_parts (marks l.number) (all_marked marks ls) h).0) (more_marked marks n ls (and_parts (marks l.number) (all_marked marks ls) h).1)
 
 pub marked_there : (marks : Marks) (lines : List Line) (line : Line) → IsTrue (all_marked marks lines) → In line lines → IsTrue (marks line.number)
 marked_there marks [] line h i = absurd i
@@ -139,17 +96,6 @@ pub party_marked : (marks : Marks) (who number : ℕ) (script : List Line) → I
 party_marked marks who number [] h = refl
 party_marked marks who number (l ∷ ls) h = go (nat_lt l.number number) refl (l.who.0 == who) (party_marked marks who number ls) h
   where
-    right : (x y : Bool) → IsTrue (x && y) → IsTrue y
-    right true y h = h
-    right false y h = absurd (false≢true h)
-
-    left : (x y : Bool) → IsTrue (x && y) → IsTrue x
-    left true y h = refl
-    left false y h = h
-
-    both : (x y : Bool) → IsTrue x → IsTrue y → IsTrue (x && y)
-    both x y p q = cc
-
     all : List Line
     all = lines_before number ls
 
@@ -159,11 +105,11 @@ party_marked marks who number (l ∷ ls) h = go (nat_lt l.number number) refl (l
     go : (b : Bool) → nat_lt l.number number ≡ b → (w : Bool) → (IsTrue (all_marked marks all) → IsTrue (all_marked marks own)) →
         IsTrue (all_marked marks (cond b (l ∷ all) all)) →
         IsTrue (all_marked marks (lines_before number (cond w (l ∷ lines_for who ls) (lines_for who ls))))
-    go true e false rest h = rest (right (marks l.number) (all_marked marks all) h)
+    go true e false rest h = rest (and_parts (marks l.number) (all_marked marks all) h).1
     go false e false rest h = rest h
     go true e true rest h =
         subst (λ c. IsTrue (all_marked marks (cond c (l ∷ own) own))) (sym e)
-        (both (marks l.number) (all_marked marks own) (left (marks l.number) (all_marked marks all) h) (rest (right (marks l.number) (all_marked marks all) h)))
+        (and_from (marks l.number) (all_marked marks own) (and_parts (marks l.number) (all_marked marks all) h).0 (rest (and_parts (marks l.number) (all_marked marks all) h).1))
     go false e true rest h = subst (λ c. IsTrue (all_marked marks (cond c (l ∷ own) own))) (sym e) (rest h)
 
 -- ---- the place of a party
@@ -211,15 +157,12 @@ pub next_is : (script : List Line) (marks : Marks) (numbers : List ℕ) (who : �
 next_is script marks numbers who rest at =
     find_both (λ line. line.who.0 == who) (λ line. not (marks line.number)) script ∙ ap (find (λ line. not (marks line.number))) at.lines ∙ find_open marks at.done rest at.marked at.open_
 
-same_who : (m n : ℕ) → IsTrue (m == n) → m ≡ n
-same_who m n h = grind (arith, nat_tests, h)
-
 -- a line of the rest is one of the script, and the party's
 pub in_rest : (script : List Line) (marks : Marks) (numbers : List ℕ) (who : ℕ) (rest : List Line) → IsAt script marks numbers who rest →
     (line : Line) → In line rest → In line script × (line.who.0 ≡ who)
 in_rest script marks numbers who rest at line i =
     let f : In line script × IsTrue (line.who.0 == who) = filtered_there (λ l. l.who.0 == who) script line (subst (In line) (sym at.lines) (in_right line at.done rest i)) in
-    (f.0, same_who line.who.0 who f.1)
+    (f.0, eqb-true line.who.0 who f.1)
 
 -- the next line is answered
 pub own_answer : (script : List Line) → Once (numbers_of script) → (marks : Marks) (numbers : List ℕ) (who : ℕ) (line : Line) (rest : List Line) →

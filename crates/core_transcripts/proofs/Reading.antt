@@ -2,6 +2,7 @@
 use Rattle.std.proofs.Common.{◌≡◌, ℕ, ◌≤◌, ◌+◌, inl, inr, Bool, true, false, ◌||◌, if◌then◌else◌, List, [], ◌∷◌, length, Option, Some, None, Result, Ok, Err, nat_lt, refl, subst, arith}
 use Rattle.std.specs.Str.Lines.{lines}
 use Rattle.std.specs.List.{AllByRecursion}
+use Rattle.std.proofs.Math.Nat.{le_refl}
 use Rattle.frang_base.specs.declared.limits.TheConstants.{SCRIPT_BYTES_MAX, SCRIPT_LINES_MAX}
 use Rattle.frang_base.specs.declared.script.Line.{Line}
 use Rattle.script_definitions.specs.declared.asked.Asked.{Asked}
@@ -33,13 +34,10 @@ lower low script f = record { above = go (numbers_of script) f.above; own = f.ow
 -- a line of this number before them
 before : (line : Line) (script : List Line) → IsFrom (line.number + 1) script → IsFrom line.number (line ∷ script)
 before line script f = record {
-  above = (self line.number, (lower line.number script f).above);
+  above = (le_refl line.number, (lower line.number script f).above);
   own = ((λ h. apart (numbers_of script) f.above (contains_in (numbers_of script) line.number h)), f.own);
 }
   where
-    self : (n : ℕ) → n ≤ n
-    self n = omega arith
-
     apart : (ns : List ℕ) → AllByRecursion (λ n. line.number + 1 ≤ n) ns → In line.number ns → ⊥
     apart [] all i = absurd i
     apart (n ∷ ns) all (inl e) = absurd (omega (arith, all.0, e))

@@ -1,6 +1,6 @@
 -- What counts of a server once it has answered, and that the answer may be given.
 use Rattle.std.proofs.Common.{◌≡◌, Bool, true, false, not, ◌&&◌, ◌||◌, if◌then◌else◌, IsTrue, Some, None, refl, sym, ap, ◌∙◌, subst}
-use Rattle.std.proofs.lemmas.Bool.{false≢true}
+use Rattle.std.proofs.lemmas.Bool.{false≢true, or_right, or_left, and_parts}
 use Rattle.frang_base.specs.declared.op.Op.{Op}
 use Rattle.frang_base.specs.declared.op.Op.TheVariants as op
 use Rattle.frang_base.specs.declared.reply.Reply.{Reply}
@@ -11,16 +11,7 @@ use Rattle.tree_definitions.specs.Transcript.Phase.{Off as ToldOff, Up as ToldUp
 use Rattle.tree_definitions.specs.Transcript.Debt.{Free, Owes, MayOwe}
 use Rattle.core_definitions.specs.Servers.{Phase, Off, Up, Still, Doomed, Dead, is_answering, is_in_mount, is_off, is_up}
 use Rattle.core_transcripts.proofs.Fits.{DoomFits, FixedFits, Fits, Key, LineFits, OwingFits, PhaseFits, Told}
-use Rattle.core_transcripts.proofs.Numbering.{both_first}
 use Rattle.core_transcripts.proofs.Walking.{IsPlain}
-
-or_left : (a b : Bool) → IsTrue a → IsTrue (a || b)
-or_left true b h = refl
-or_left false b h = absurd (false≢true h)
-
-or_right : (a b : Bool) → IsTrue b → IsTrue (a || b)
-or_right true b h = refl
-or_right false b h = h
 
 -- ---- replies
 
@@ -31,10 +22,6 @@ ok_mounts_not r h = refl
 expired_mounts_not : (r : Reply) → IsTrue (is_expired r) → is_mounted r ≡ false
 expired_mounts_not reply.Mounted h = absurd (false≢true h)
 expired_mounts_not r h = refl
-
-expired_ok_not : (r : Reply) → IsTrue (is_expired r) → is_ok r ≡ false
-expired_ok_not reply.Ok h = absurd (false≢true h)
-expired_ok_not r h = refl
 
 ok_expired_not : (r : Reply) → IsTrue (is_ok r) → is_expired r ≡ false
 ok_expired_not reply.Expired h = absurd (false≢true h)
@@ -71,7 +58,7 @@ dead_told ToldOff all e h = absurd h
 dead_told ToldUp all e h = absurd h
 dead_told Stalled all e h = absurd h
 
-phase_is : (p : Phase) → IsTrue (is_up p) → p ≡ Up
+pub phase_is : (p : Phase) → IsTrue (is_up p) → p ≡ Up
 phase_is Up h = refl
 phase_is Off h = absurd (false≢true h)
 phase_is Still h = absurd (false≢true h)
@@ -92,7 +79,7 @@ by_debt Owes t e o r f h = h
 
 fixed_given : (owes : Bool) (t : ServerState) (e : Bool) (o : Op) (r : Reply) → OwingFits owes t.debt → FixedFits owes t e o r → IsTrue (may_answer t e o r)
 fixed_given true t e o r f h = by_debt t.debt t e o r f h
-fixed_given false t e o r f h = by_owing t.debt t e o r f (both_first (may_answer_by t.phase t.just_died e o r) (not (is_expired r) && not (is_mounted r)) h)
+fixed_given false t e o r f h = by_owing t.debt t e o r f (and_parts (may_answer_by t.phase t.just_died e o r) (not (is_expired r) && not (is_mounted r)) h).0
 
 up_already : (j e : Bool) (o : Op) (r : Reply) → IsTrue (is_mount o && is_already r) → IsTrue (may_answer_by ToldUp j e o r)
 up_already j e op.Mount r h = or_left (is_already r) (e && is_io r) h
@@ -246,13 +233,6 @@ owe_mounts_not o r h = go (is_unmount o) h
     go : (u : Bool) → IsTrue (if u then is_ok r else is_expired r) → is_mounted r ≡ false
     go true h = ok_mounts_not r h
     go false h = expired_mounts_not r h
-
-not_up_off : (p : Phase) (q : ToldPhase) (all e : Bool) → IsTrue (is_off p) → PhaseFits p q all e → (IsTrue all → ⊥) → is_told_up q ≡ false
-not_up_off Off q all e h fits none = ap is_told_up (off_told q all e fits none)
-not_up_off Up q all e h fits none = absurd (false≢true h)
-not_up_off Still q all e h fits none = absurd (false≢true h)
-not_up_off (Doomed f) q all e h fits none = absurd (false≢true h)
-not_up_off Dead q all e h fits none = absurd (false≢true h)
 
 pub owed_after : (k : Key) (t u : Told) (o : Op) (r : Reply) → Later t o r u → IsTrue (is_answering k.phase) → k.owes ≡ true → IsTrue (may_owe o r) → is_told_up t.state.phase ≡ false → Fits k t →
     Fits (record k { owes = if is_unmount o && is_ok r then false else true; asked = None }) u

@@ -1,23 +1,16 @@
 -- The faults of a run are those of a call that has no others, and tell of each call that fails.
 use Rattle.std.proofs.Common.{ℕ, ◌≡◌, ◌≤◌, Bool, true, false, ◌&&◌, ◌||◌, Option, Some, None, nat_eq, nat_le, refl, sym, subst, arith}
-use Rattle.std.proofs.lemmas.Bool.{false≢true}
+use Rattle.std.proofs.lemmas.Bool.{false≢true, eq-eqb, or_right}
 use Rattle.std.proofs.lemmas.Bool.Decides.{nat_tests}
 use Rattle.tree_definitions.specs.Transcript.{Faults}
 use Rattle.core_definitions.specs.Runs.{State, Run, Stays, Goes}
 use Rattle.core_transcripts.specs.Faults.{CountsAt, CountsEach, RunHasItsFaults, fails_at, has_failed, is_of, place_of, run_faults}
-
-or_true : (a b : Bool) → b ≡ true → (a || b) ≡ true
-or_true true b e = refl
-or_true false b e = e
 
 le_more : (n early late : ℕ) → early ≤ late → nat_le n early ≡ true → nat_le n late ≡ true
 le_more n early late h e = grind (arith, nat_tests, h, e)
 
 le_self : (n : ℕ) → nat_le n n ≡ true
 le_self n = grind (arith, nat_tests)
-
-is_itself : (n : ℕ) → nat_eq n n ≡ true
-is_itself n = grind (arith, nat_tests)
 
 run_stays : (s v : State) (run : Run s v) (early late server : ℕ) → early ≤ late → run_faults s v run early server ≡ true → run_faults s v run late server ≡ true
 run_stays s v Stays early late server h e = absurd (false≢true e)
@@ -27,7 +20,7 @@ run_stays s w (Goes {v = v} step run) early late server h e =
   where
     go : (b x y p q : Bool) → (x ≡ true → y ≡ true) → (p ≡ true → q ≡ true) → ((b && x) || p) ≡ true → ((b && y) || q) ≡ true
     go true true y p q f g e = subst (λ z. ((true && z) || q) ≡ true) (sym (f refl)) refl
-    go true false y p q f g e = or_true y q (g e)
+    go true false y p q f g e = or_right y q (g e)
     go false x y p q f g e = g e
 
 run_counted : (s v : State) (run : Run s v) (place server : ℕ) → run_faults s v run place server ≡ true → has_failed s v run server ≡ true
@@ -50,7 +43,7 @@ each_more f h more s w (Goes {v = v} step run) c = (counts_more f h more (place_
 
 own_counts : (f : Faults) (place : ℕ) (o : Option ℕ) → CountsAt (λ at server. (is_of server o && nat_le place at) || f at server) place o
 own_counts f place None = tt
-own_counts f place (Some party) = go (nat_eq party party) (nat_le place place) (f place party) (is_itself party) (le_self place)
+own_counts f place (Some party) = go (nat_eq party party) (nat_le place place) (f place party) (eq-eqb party party refl) (le_self place)
   where
     go : (a b c : Bool) → a ≡ true → b ≡ true → ((a && b) || c) ≡ true
     go true true c e f = refl
@@ -62,7 +55,7 @@ each_counted s v Stays = tt
 each_counted s w (Goes {v = v} step run) = (
   own_counts (run_faults v w run) (place_of s) (fails_at s v step),
   each_more (run_faults v w run) (run_faults s w (Goes {v = v} step run))
-      (λ place server e. or_true (is_of server (fails_at s v step) && nat_le (place_of s) place) (run_faults v w run place server) e) v w run (each_counted v w run),
+      (λ place server e. or_right (is_of server (fails_at s v step) && nat_le (place_of s) place) (run_faults v w run place server) e) v w run (each_counted v w run),
 )
 
 pub run_has_its_faults : RunHasItsFaults

@@ -1,8 +1,9 @@
 -- Over every run the lines said are a transcript of the script, but for which lines of the tree they are: step by step.
-use Rattle.std.proofs.Common.{ℕ, ◌≡◌, ◌≤◌, inl, Bool, true, false, not, ◌&&◌, ◌||◌, ◌==◌, if◌then◌else◌, IsTrue, List, [], ◌∷◌, ◌++◌, Some, None, length, nat_eq, refl, sym, ap, ◌∙◌, subst}
-use Rattle.std.proofs.lemmas.Bool.{false≢true}
+use Rattle.std.proofs.Common.{ℕ, ◌≡◌, ◌≤◌, inl, Bool, true, false, not, ◌&&◌, ◌||◌, ◌==◌, if◌then◌else◌, IsTrue, List, [], ◌∷◌, ◌++◌, length, nat_eq, refl, sym, ap, ◌∙◌, subst}
+use Rattle.std.proofs.lemmas.Bool.{false≢true, not-true, and_parts, or_left, or_right, eqb-true, both_ways}
 use Rattle.std.proofs.lemmas.List.Elements.{filter_map-append}
 use Rattle.std.specs.List.{list_any}
+use Rattle.std.proofs.lemmas.Option.{none-some}
 use Rattle.frang_base.specs.Functions.{put}
 use Rattle.frang_base.specs.declared.said.Said.{Said}
 use Rattle.frang_base.specs.declared.said.Said.TheVariants as said
@@ -21,6 +22,7 @@ use Rattle.core_definitions.specs.Runs.{State, Step, Event_, Enter, Hold, Flush,
 use Rattle.core_laws.proofs.Kept.{setting_kept}
 use Rattle.core_laws.specs.Facts.{OffHasNoFlights}
 use Rattle.core_laws.proofs.Resting.{good_of_run}
+use Rattle.core_laws.proofs.Along.{longer}
 use Rattle.core_transcripts.specs.Faults.{CountsAt, CountsEach, failing, fails_at, place_of}
 use Rattle.core_transcripts.specs.Transcripts.{EachMay, IsNumbered, MaySayButTree}
 use Rattle.core_transcripts.proofs.Blank.{IsBlank, Keeps, blank_is_clean, is_changing}
@@ -29,30 +31,22 @@ use Rattle.core_transcripts.proofs.Fits.{key_of, rises}
 use Rattle.core_transcripts.proofs.Fitting.{same_key, told_of}
 use Rattle.core_transcripts.proofs.Happening.{CoreFits, Turn, Quiet, Speaks}
 use Rattle.core_transcripts.proofs.Lives.{still_idle}
-use Rattle.core_transcripts.proofs.Numbering.{none_marked, numbers_are}
+use Rattle.core_transcripts.proofs.Numbering.{none_marked}
 use Rattle.core_transcripts.proofs.Saying.{dirty_push, each_push, state_push}
 use Rattle.core_transcripts.proofs.Spoken.{IsLife, life_fitting, told_rises}
 use Rattle.core_transcripts.proofs.Spotless.{Spotless, event_so}
 use Rattle.core_transcripts.proofs.Steady.{wanting_steady}
 use Rattle.core_transcripts.proofs.Turning.{event_turn}
+use Rattle.core_transcripts.proofs.Due.{nil_right}
 
 -- ---- lists of deeds
 
-said_more : (xs ys : List Deed) → saids_of (xs ++ ys) ≡ saids_of xs ++ saids_of ys
+pub said_more : (xs ys : List Deed) → saids_of (xs ++ ys) ≡ saids_of xs ++ saids_of ys
 said_more xs ys = filter_map-append said_by xs ys
-
-nil_right : {X : Type 0} (xs : List X) → xs ++ [] ≡ xs
-nil_right [] = refl
-nil_right (x ∷ xs) = ap (λ l. x ∷ l) (nil_right xs)
 
 dirty_more : (script : List Line) (i : ℕ) (d : Bool) (xs ys : List Said) → dirty_from script i d (xs ++ ys) ≡ dirty_from script i (dirty_from script i d xs) ys
 dirty_more script i d [] ys = refl
 dirty_more script i d (x ∷ xs) ys = dirty_more script i (dirty_after script i d x) xs ys
-
--- a run, and a step more
-pub goes_further : (s v w : State) → Run s v → Step v w → Run s w
-goes_further s v w Stays step = Goes step Stays
-goes_further s v w (Goes {v = u} first rest) step = Goes first (goes_further u v w rest step)
 
 -- ---- what holds at every moment
 
@@ -86,10 +80,6 @@ module _ (opening : Opening) (setting : Setting) (disk : Sectors) (numbered : Is
 
     lands : (i : ℕ) → IsTrue (is_server i) → IsTrue (is_off (s.core.servers i).phase) → has_flights s.core.flights i ≡ false
     lands i server off = ashore setting disk s before i server (or_left (is_off (s.core.servers i).phase) (is_dead (s.core.servers i).phase) off)
-      where
-        or_left : (a b : Bool) → IsTrue a → IsTrue (a || b)
-        or_left true b h = refl
-        or_left false b h = absurd (false≢true h)
 
     -- a stalled server that isn't clean may be dirty
     pub still_is_dirty : (a : ℕ) → IsTrue (is_server a) → IsTrue (is_still (s.core.servers a).phase) → IsTrue (not (clean_at s.core a)) → IsTrue (may_be_dirty setting.script a saids)
@@ -106,39 +96,20 @@ module _ (opening : Opening) (setting : Setting) (disk : Sectors) (numbered : Is
         go false e =
             let b : IsBlank (s.core.servers a) (has_flights s.core.flights a) =
             h.spotless a (record { mounted = or_right (is_up (s.core.servers a).phase) (is_still (s.core.servers a).phase) still; clean_ = ap (λ d. d || is_changing (s.core.servers a).under) e ∙ no_line }) in
-            absurd (not_both (clean_at s.core a) (clean_so b) unclean)
-          where
-            or_right : (a b : Bool) → IsTrue b → IsTrue (a || b)
-            or_right true b h = refl
-            or_right false b h = h
-
-            not_both : (b : Bool) → b ≡ true → IsTrue (not b) → ⊥
-            not_both true e h = false≢true h
-            not_both false e h = false≢true e
+            absurd (both_ways (clean_at s.core a) (not-true (clean_at s.core a) unclean) (clean_so b))
 
     lease : (a : ℕ) → IsTrue (is_server a) → IsTrue (is_still (s.core.servers a).phase) → IsTrue (not (clean_at s.core a)) → IsTrue (may_be_dirty s.core.setting.script a saids || f (length saids) a)
     lease a server still unclean =
-        or_first (may_be_dirty s.core.setting.script a saids) (f (length saids) a) (subst (λ z. IsTrue (may_be_dirty z.script a saids)) (sym h.same) (still_is_dirty a server still unclean))
-      where
-        or_first : (a b : Bool) → IsTrue a → IsTrue (a || b)
-        or_first true b h = refl
-        or_first false b h = absurd (false≢true h)
+        or_left (may_be_dirty s.core.setting.script a saids) (f (length saids) a) (subst (λ z. IsTrue (may_be_dirty z.script a saids)) (sym h.same) (still_is_dirty a server still unclean))
 
     event_holds : (event : Event) (heard : Heard) → Makes s event heard → CountsAt f (length saids) (failing s.core event heard) →
         Holds (saids_of (s.record_ ++ deeds_of s.core event heard)) (after s.core event heard)
     event_holds event heard makes counts =
         by_turn
-        (event_turn opening f stay s.core saids own_numbered (not_over s.core.over makes.can.going) own_fits (good_of_run setting disk s before) lease event heard s.disk makes.can.can makes.hears counts)
+        (event_turn opening f stay s.core saids own_numbered (not-true s.core.over makes.can.going) own_fits (good_of_run setting disk s before) lease event heard s.disk makes.can.can makes.hears counts)
       where
-        not_over : (b : Bool) → IsTrue (not b) → b ≡ false
-        not_over true h = absurd (false≢true h)
-        not_over false h = refl
-
         later : Core
         later = after s.core event heard
-
-        said_then : List Said
-        said_then = saids_of (s.record_ ++ deeds_of s.core event heard)
 
         same_then : later.setting ≡ setting
         same_then = setting_kept s.core event heard ∙ h.same
@@ -180,7 +151,7 @@ module _ (opening : Opening) (setting : Setting) (disk : Sectors) (numbered : Is
       where
         go : (i : ℕ) (b : Bool) → nat_eq i a ≡ b → Keeps (may_be_dirty setting.script i saids) (if b then wanting_all_up (s.core.servers a) else s.core.servers i) (has_flights s.core.flights i)
         go i true e =
-            subst (λ j. Keeps (may_be_dirty setting.script j saids) (wanting_all_up (s.core.servers a)) (has_flights s.core.flights j)) (sym (numbers_are i a e))
+            subst (λ j. Keeps (may_be_dirty setting.script j saids) (wanting_all_up (s.core.servers a)) (has_flights s.core.flights j)) (sym (eqb-true i a e))
             (wanting_kept (may_be_dirty setting.script a saids) (s.core.servers a) (has_flights s.core.flights a) (h.spotless a))
         go i false e = h.spotless i
 
@@ -201,32 +172,20 @@ module _ (opening : Opening) (setting : Setting) (disk : Sectors) (numbered : Is
     }
 
     note_holds : (x : Said) → IsTrue (is_note x && goes_on s.core) → Holds (saids_of (s.record_ ++ Says x ∷ [])) s.core
-    note_holds x may = subst (λ ss. Holds ss s.core) (sym (said_more s.record_ (Says x ∷ []))) (by_line x (first (is_note x) (goes_on s.core) may))
+    note_holds x may = subst (λ ss. Holds ss s.core) (sym (said_more s.record_ (Says x ∷ []))) (by_line x (and_parts (is_note x) (goes_on s.core) may).0)
       where
-        first : (a b : Bool) → IsTrue (a && b) → IsTrue a
-        first true b h = refl
-        first false b h = absurd (false≢true h)
-
-        second : (a b : Bool) → IsTrue (a && b) → IsTrue b
-        second true b h = h
-        second false b h = absurd (false≢true h)
-
-        not_so : (b : Bool) → IsTrue (not b) → b ≡ false
-        not_so true h = absurd (false≢true h)
-        not_so false h = refl
-
         negated : (a b : Bool) → a ≡ false → b ≡ false → IsTrue (not a && not b)
         negated true b e h = absurd (false≢true (sym e))
         negated false true e h = absurd (false≢true (sym h))
         negated false false e h = refl
 
         goes : IsTrue (goes_on s.core)
-        goes = second (is_note x) (goes_on s.core) may
+        goes = (and_parts (is_note x) (goes_on s.core) may).1
 
         on : IsTrue (lines_on setting.script saids)
         on =
-            negated (is_over setting.script saids) (list_any is_node saids) (h.fits.going (not_so s.core.over (first (not s.core.over) (s.core.shown == 0) goes)))
-            (h.fits.unshown (numbers_are s.core.shown 0 (second (not s.core.over) (s.core.shown == 0) goes)))
+            negated (is_over setting.script saids) (list_any is_node saids) (h.fits.going (not-true s.core.over (and_parts (not s.core.over) (s.core.shown == 0) goes).0))
+            (h.fits.unshown (eqb-true s.core.shown 0 (and_parts (not s.core.over) (s.core.shown == 0) goes).1))
 
         by_line : (y : Said) → IsTrue (is_note y) → Holds (saids ++ y ∷ []) s.core
         by_line (said.Backup line) n =
@@ -248,7 +207,7 @@ module _ (opening : Opening) (setting : Setting) (disk : Sectors) (numbered : Is
   run_holds : (s v : State) → Run (first_state setting disk) s → (run : Run s v) → CountsEach f s v run → Holds (saids_of s.record_) s.core → Holds (saids_of v.record_) v.core
   run_holds s v before Stays counts h = h
   run_holds s w before (Goes {v = v} step run) counts h =
-      run_holds v w (goes_further (first_state setting disk) s v before step) run counts.1 (step_holds s before h v step counts.0)
+      run_holds v w (longer (first_state setting disk) s v before step) run counts.1 (step_holds s before h v step counts.0)
 
   first_holds : Holds [] (first_core setting)
   first_holds = record {
@@ -256,7 +215,7 @@ module _ (opening : Opening) (setting : Setting) (disk : Sectors) (numbered : Is
     said_so = tt;
     fits = record {
       servers = λ i. record { phase = tt; owing = tt; calm = refl; armed = refl; failed = refl; doomed = tt; under = tt };
-      rescues = λ i d w e. none_saved d e;
+      rescues = λ i d w e. absurd (none-some d e);
       marks = λ n. refl;
       firsts = λ who. none_marked (lines_for who setting.script) (λ n. false) (λ n. refl);
       going = λ e. refl;
@@ -266,9 +225,6 @@ module _ (opening : Opening) (setting : Setting) (disk : Sectors) (numbered : Is
     };
     spotless = λ i s. absurd (false≢true s.mounted);
   }
-    where
-      none_saved : {P : Type 0} (d : ℕ) → None ≡ Some d → P
-      none_saved d e = absurd (cc)
 
   pub holds_of_run : (s : State) (run : Run (first_state setting disk) s) → CountsEach f (first_state setting disk) s run → Holds (saids_of s.record_) s.core
   holds_of_run s run counts = run_holds (first_state setting disk) s Stays run counts first_holds

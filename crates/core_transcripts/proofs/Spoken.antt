@@ -1,7 +1,8 @@
 -- What is told of all servers once a line is said: an answer, a line of a server's life, a line of the tree or the end.
 use Rattle.std.proofs.Common.{ℕ, suc, ◌≡◌, ◌≤◌, ◌⊎◌, inl, inr, Bool, true, false, not, ◌&&◌, ◌||◌, if◌then◌else◌, IsTrue, List, [], ◌∷◌, ◌++◌, Some, filter, length, nat_eq, refl, sym, ap, ◌∙◌, subst, arith}
-use Rattle.std.proofs.lemmas.Bool.{false≢true}
+use Rattle.std.proofs.lemmas.Bool.{false≢true, or_parts, eqb-true, eq-eqb, or_from}
 use Rattle.std.specs.List.{list_any}
+use mathlib.Core.Bool.{or-false}
 use Rattle.frang_base.specs.Functions.{put}
 use Rattle.frang_base.specs.declared.op.What.{What}
 use Rattle.frang_base.specs.declared.op.What.TheVariants.{Server, Host}
@@ -18,12 +19,8 @@ use Rattle.core_definitions.specs.Effects.{id_of}
 use Rattle.core_transcripts.specs.Transcripts.{are_apart}
 use Rattle.core_transcripts.proofs.Fits.{Fits, Key, Rises, rises}
 use Rattle.core_transcripts.proofs.Fitting.{AtRest, Fitting, key_works, told_of}
-use Rattle.core_transcripts.proofs.Numbering.{AreFirst, OfNext, all_is_none, answered_more, answered_others, line_is, more_marked, next_by_count, none_either, number_same, numbers_are, numbers_turn, of_next}
+use Rattle.core_transcripts.proofs.Numbering.{AreFirst, OfNext, all_is_none, answered_more, answered_others, line_is, more_marked, next_by_count, numbers_turn, of_next}
 use Rattle.core_transcripts.proofs.Saying.{any_push, count_push, dirty_push, length_push, state_push}
-
-or_true : (a b : Bool) → IsTrue b → IsTrue (a || b)
-or_true true b h = refl
-or_true false b h = h
 
 one_more : (n : ℕ) → n ≤ suc n
 one_more n = omega arith
@@ -33,17 +30,9 @@ one_more n = omega arith
 -- nothing is over, one line later
 pub over_push : (script : List Line) (saids : List Said) (x : Said) → is_over script saids ≡ false → halts script x ≡ false → is_end x ≡ false → is_over script (saids ++ x ∷ []) ≡ false
 over_push script saids x e h n =
-    none_either (list_any (halts script) (saids ++ x ∷ [])) (list_any is_end (saids ++ x ∷ []))
-    (any_push (halts script) saids x ∙ none_either (list_any (halts script) saids) (halts script x) (first_of (list_any (halts script) saids) (list_any is_end saids) e) h)
-    (any_push is_end saids x ∙ none_either (list_any is_end saids) (is_end x) (second_of (list_any (halts script) saids) (list_any is_end saids) e) n)
-  where
-    first_of : (a b : Bool) → (a || b) ≡ false → a ≡ false
-    first_of true b e = absurd (false≢true (sym e))
-    first_of false b e = refl
-
-    second_of : (a b : Bool) → (a || b) ≡ false → b ≡ false
-    second_of true b e = absurd (false≢true (sym e))
-    second_of false b e = e
+    or_from (list_any (halts script) (saids ++ x ∷ [])) (list_any is_end (saids ++ x ∷ []))
+    (any_push (halts script) saids x ∙ or_from (list_any (halts script) saids) (halts script x) (or_parts (list_any (halts script) saids) (list_any is_end saids) e).0 h)
+    (any_push is_end saids x ∙ or_from (list_any is_end saids) (is_end x) (or_parts (list_any (halts script) saids) (list_any is_end saids) e).1 n)
 
 -- ---- an answer
 
@@ -68,7 +57,7 @@ module _ (script : List Line) (apart : IsTrue (are_apart script)) (f : Faults) (
     -- what is told of its party
     pub own_state : state_of script f a (saids ++ x ∷ []) ≡ after_asked (state_of script f a saids) l.what r
     own_state =
-        state_push script f a saids x ∙ ap (λ b. if b then after_line (state_of script f a saids) (line_of script l.number) r else state_of script f a saids) (number_same a)
+        state_push script f a saids x ∙ ap (λ b. if b then after_line (state_of script f a saids) (line_of script l.number) r else state_of script f a saids) (eq-eqb a a refl)
         ∙ ap (λ o. after_line (state_of script f a saids) o r) is_line
 
     other_state : (i : ℕ) → nat_eq a i ≡ false → state_of script f i (saids ++ x ∷ []) ≡ state_of script f i saids
@@ -78,7 +67,7 @@ module _ (script : List Line) (apart : IsTrue (are_apart script)) (f : Faults) (
     other_dirty i n = dirty_push script i saids x ∙ ap (λ b. if b then not (is_mounted r) && (may_be_dirty script i saids || is_change_line (line_of script l.number)) else may_be_dirty script i saids) n
 
     count_own : length (filter (is_answer_of a) (saids ++ x ∷ [])) ≡ suc (length (filter (is_answer_of a) saids))
-    count_own = count_push (is_answer_of a) saids x ∙ ap (λ b. if b then suc (length (filter (is_answer_of a) saids)) else length (filter (is_answer_of a) saids)) (number_same a)
+    count_own = count_push (is_answer_of a) saids x ∙ ap (λ b. if b then suc (length (filter (is_answer_of a) saids)) else length (filter (is_answer_of a) saids)) (eq-eqb a a refl)
 
     count_other : (i : ℕ) → nat_eq a i ≡ false → length (filter (is_answer_of i) (saids ++ x ∷ [])) ≡ length (filter (is_answer_of i) saids)
     count_other i n = count_push (is_answer_of i) saids x ∙ ap (λ b. if b then suc (length (filter (is_answer_of i) saids)) else length (filter (is_answer_of i) saids)) n
@@ -88,7 +77,7 @@ module _ (script : List Line) (apart : IsTrue (are_apart script)) (f : Faults) (
 
     firsts_then : (who : ℕ) (b : Bool) → nat_eq a who ≡ b → AreFirst marked (lines_for who script) (length (filter (is_answer_of who) (saids ++ x ∷ [])))
     firsts_then who true e =
-        subst (λ w. AreFirst marked (lines_for w script) (length (filter (is_answer_of w) (saids ++ x ∷ [])))) (numbers_are a who e)
+        subst (λ w. AreFirst marked (lines_for w script) (length (filter (is_answer_of w) (saids ++ x ∷ [])))) (eqb-true a who e)
         (subst (λ k. AreFirst marked (lines_for a script) k) (sym count_own) (answered_more script answered a (length (filter (is_answer_of a) saids)) l apart next (g.firsts a)))
     firsts_then who false e = subst (λ k. AreFirst marked (lines_for who script) k) (sym (count_other who e)) (firsts_other who e)
 
@@ -126,7 +115,7 @@ module _ (script : List Line) (apart : IsTrue (are_apart script)) (f : Faults) (
 
     recovery_kept : (d : ℕ) (b : Bool) → nat_eq a d ≡ b → (state_of script f d (saids ++ x ∷ [])).under_recovery ≡ (state_of script f d saids).under_recovery
     recovery_kept d true e =
-        subst (λ w. (state_of script f w (saids ++ x ∷ [])).under_recovery ≡ (state_of script f w saids).under_recovery) (numbers_are a d e)
+        subst (λ w. (state_of script f w (saids ++ x ∷ [])).under_recovery ≡ (state_of script f w saids).under_recovery) (eqb-true a d e)
         (ap (λ z. z.under_recovery) own_state ∙ asked_recovery (state_of script f a saids) l.what)
       where
         asked_recovery : (t : ServerState) (w : What) → (after_asked t w r).under_recovery ≡ t.under_recovery
@@ -145,20 +134,20 @@ module _ (script : List Line) (apart : IsTrue (are_apart script)) (f : Faults) (
       marks = marks_then;
       firsts = λ who. firsts_then who (nat_eq a who) refl;
       going = λ e. over_push script saids x (g.going going) (ap is_halt_line is_line ∙ halting e) refl;
-      unshown = λ e. any_push is_node saids x ∙ none_either (list_any is_node saids) false (g.unshown e) refl;
+      unshown = λ e. any_push is_node saids x ∙ or_from (list_any is_node saids) false (g.unshown e) refl;
       resting = rest g.resting;
       host = host;
     }
       where
         each : (i : ℕ) (b : Bool) → nat_eq a i ≡ b → Fits (later i) (told_of script f (saids ++ x ∷ []) marked i)
-        each i true e = subst (λ w. Fits (later w) (told_of script f (saids ++ x ∷ []) marked w)) (numbers_are a i e) own
+        each i true e = subst (λ w. Fits (later w) (told_of script f (saids ++ x ∷ []) marked w)) (eqb-true a i e) own
         each i false e =
             subst (λ k. Fits k (told_of script f (saids ++ x ∷ []) marked i)) (sym (same i (numbers_turn a i e)))
             (rises (keys i) (told_of script f saids answered i) (told_of script f (saids ++ x ∷ []) marked i) (others_rise i e) (g.servers i))
 
         saved : (i d : ℕ) (b : Bool) → nat_eq a i ≡ b → IsTrue (key_works i (later i)) → (later i).saves ≡ Some d → (state_of script f d saids).under_recovery ≡ true
         saved i d true e w s =
-            let j : a ≡ i = numbers_are a i e in
+            let j : a ≡ i = eqb-true a i e in
             let o : IsTrue (key_works a (keys a)) × ((keys a).saves ≡ Some d) =
             saves d (subst (λ w. IsTrue (key_works w (later w))) (sym j) w) (subst (λ w. (later w).saves ≡ Some d) (sym j) s) in
             g.rescues a d o.0 o.1
@@ -167,7 +156,7 @@ module _ (script : List Line) (apart : IsTrue (are_apart script)) (f : Faults) (
             g.rescues i d (subst (λ z. IsTrue (key_works i z)) k w) (subst (λ z. z.saves ≡ Some d) k s)
 
         rest : (list_any is_node saids ≡ false) ⊎ AtRest script keys answered → (list_any is_node (saids ++ x ∷ []) ≡ false) ⊎ AtRest script later marked
-        rest (inl none) = inl (any_push is_node saids x ∙ none_either (list_any is_node saids) false none refl)
+        rest (inl none) = inl (any_push is_node saids x ∙ or_from (list_any is_node saids) false none refl)
         rest (inr at) = absurd (all_is_none script answered a l at.all next)
 
   -- ---- a line of a server's life, or a note
@@ -185,10 +174,6 @@ module _ (script : List Line) (apart : IsTrue (are_apart script)) (f : Faults) (
     count_kept who =
         count_push (is_answer_of who) saids x ∙ ap (λ b. if b then suc (length (filter (is_answer_of who) saids)) else length (filter (is_answer_of who) saids)) (life.of_none who)
 
-    or_false : (b : Bool) → (b || false) ≡ b
-    or_false true = refl
-    or_false false = refl
-
     pub life_fitting : (later : ℕ → Key) → ((i : ℕ) → Fits (later i) (told_of script f (saids ++ x ∷ []) answered i)) →
         ((i d : ℕ) → IsTrue (key_works i (later i)) → (later i).saves ≡ Some d → (state_of script f d (saids ++ x ∷ [])).under_recovery ≡ true) →
         ((i : ℕ) → IsTrue (is_off (keys i).phase) → IsTrue (is_off (later i).phase)) →
@@ -196,16 +181,16 @@ module _ (script : List Line) (apart : IsTrue (are_apart script)) (f : Faults) (
     life_fitting later each rescues off = record {
       servers = each;
       rescues = rescues;
-      marks = λ n. any_push (answers n) saids x ∙ ap (λ b. list_any (answers n) saids || b) (life.answers_none n) ∙ or_false (list_any (answers n) saids) ∙ g.marks n;
+      marks = λ n. any_push (answers n) saids x ∙ ap (λ b. list_any (answers n) saids || b) (life.answers_none n) ∙ or-false (list_any (answers n) saids) ∙ g.marks n;
       firsts = λ who. subst (λ k. AreFirst answered (lines_for who script) k) (sym (count_kept who)) (g.firsts who);
       going = λ e. over_push script saids x (g.going e) life.halts_none life.ends_not;
-      unshown = λ e. any_push is_node saids x ∙ none_either (list_any is_node saids) (is_node x) (g.unshown e) life.tells_none;
+      unshown = λ e. any_push is_node saids x ∙ or_from (list_any is_node saids) (is_node x) (g.unshown e) life.tells_none;
       resting = rest g.resting;
       host = off host_party g.host;
     }
       where
         rest : (list_any is_node saids ≡ false) ⊎ AtRest script keys answered → (list_any is_node (saids ++ x ∷ []) ≡ false) ⊎ AtRest script later answered
-        rest (inl none) = inl (any_push is_node saids x ∙ none_either (list_any is_node saids) (is_node x) none life.tells_none)
+        rest (inl none) = inl (any_push is_node saids x ∙ or_from (list_any is_node saids) (is_node x) none life.tells_none)
         rest (inr at) = inr (record { all = at.all; off = λ i h. off i (at.off i h) })
 
     -- of one of which nothing is said
@@ -238,17 +223,13 @@ module _ (script : List Line) (apart : IsTrue (are_apart script)) (f : Faults) (
             })
             (g.servers i);
         rescues = λ i d w e. ap (λ z. z.under_recovery) (state_push script f d saids (said.Node path kind size links)) ∙ g.rescues i d w e;
-        marks = λ n. any_push (answers n) saids (said.Node path kind size links) ∙ or_no (list_any (answers n) saids) ∙ g.marks n;
+        marks = λ n. any_push (answers n) saids (said.Node path kind size links) ∙ or-false (list_any (answers n) saids) ∙ g.marks n;
         firsts = λ who. subst (λ k. AreFirst answered (lines_for who script) k) (sym (count_push (is_answer_of who) saids (said.Node path kind size links))) (g.firsts who);
         going = λ e. over_push script saids (said.Node path kind size links) (g.going e) refl refl;
         unshown = λ e. absurd (some e);
         resting = inr at;
         host = g.host;
       }
-    where
-      or_no : (b : Bool) → (b || false) ≡ b
-      or_no true = refl
-      or_no false = refl
 
   pub end_fitting : AtRest script keys answered → Fitting script f (saids ++ said.End ∷ []) keys answered true shown
   end_fitting at = record {
@@ -264,14 +245,10 @@ module _ (script : List Line) (apart : IsTrue (are_apart script)) (f : Faults) (
         })
         (g.servers i);
     rescues = λ i d w e. ap (λ z. z.under_recovery) (state_push script f d saids said.End) ∙ g.rescues i d w e;
-    marks = λ n. any_push (answers n) saids said.End ∙ or_no (list_any (answers n) saids) ∙ g.marks n;
+    marks = λ n. any_push (answers n) saids said.End ∙ or-false (list_any (answers n) saids) ∙ g.marks n;
     firsts = λ who. subst (λ k. AreFirst answered (lines_for who script) k) (sym (count_push (is_answer_of who) saids said.End)) (g.firsts who);
     going = λ e. absurd (false≢true (sym e));
-    unshown = λ e. any_push is_node saids said.End ∙ none_either (list_any is_node saids) false (g.unshown e) refl;
+    unshown = λ e. any_push is_node saids said.End ∙ or_from (list_any is_node saids) false (g.unshown e) refl;
     resting = inr at;
     host = g.host;
   }
-    where
-      or_no : (b : Bool) → (b || false) ≡ b
-      or_no true = refl
-      or_no false = refl

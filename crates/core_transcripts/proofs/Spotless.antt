@@ -1,8 +1,10 @@
 -- Event by event: who may have changed nothing since its mount, and began no recovery, has nothing to write.
 use Rattle.std.proofs.Common.{ℕ, ◌≡◌, ◌+◌, ◌%◌, Bool, true, false, not, ◌&&◌, ◌||◌, ◌==◌, if◌then◌else◌, IsTrue, is_some, List, [], ◌∷◌, ◌++◌, Option, Some, None, nat_eq, nat_lt, refl, sym, ap, ◌∙◌, subst}
-use Rattle.std.proofs.lemmas.Bool.{false≢true}
+use Rattle.std.proofs.lemmas.Bool.{false≢true, and_from, or_left, or_right, eqb-true, eq-eqb, and_parts}
 use Rattle.std.specs.List.{slice_get}
 use Rattle.std.specs.Option.{IsSome, option_map}
+use Rattle.std.proofs.lemmas.Option.{same_Some}
+use Rattle.core_laws.proofs.Ashore.{fewer_lost, none_landed}
 use Rattle.frang_base.specs.Functions.{put}
 use Rattle.frang_base.specs.declared.lock.LockId.{LockId}
 use Rattle.frang_base.specs.declared.op.Op.{Op}
@@ -37,27 +39,21 @@ use Rattle.core_definitions.specs.Guards.{CanGoing}
 use Rattle.core_definitions.specs.LineEffects.{again_by, answered_by, answered_fixed, answered_open, answered_under, answered_with, begun_line, call_failed, cleared_at, committed_at, committed_by, failed_by, fetch_failed, fetched_by, flight_after, off_after, refused_under, up_after, with_under}
 use Rattle.core_definitions.specs.WriteEffects.{acknowledged, arrived_from, clean_now, counted, died_in, died_with, fate_of, flight_of, flights_at_death, given_for, issued_as, landed, ring_after, taken_in, up_again}
 use Rattle.core_definitions.specs.EndEffects.{closed, finished_from, host_answered_line, look_made, recovered, slot_loaded}
-use Rattle.core_definitions.specs.Effects.{after, deeds_of, deeds_of_arrival, reply_by, says_answer, says_node, says_recovered}
+use Rattle.core_definitions.specs.Effects.{after, deeds_of, reply_by, says_answer, says_node, says_recovered}
 use Rattle.core_definitions.specs.Runs.{saids_of}
-use Rattle.core_transcripts.proofs.Answering.{HasOperation, is_under, operation_under}
-use Rattle.core_transcripts.proofs.Blank.{IsBlank, IsSpotless, Keeps, changed_flights, dropped_blank, flies, is_changing, issued_stays, landed_stays, left_stays, looked_blank, looked_flights, lost_stays, mounted_reached, no_writes}
+use Rattle.core_transcripts.proofs.Answering.{HasOperation, is_under, operation_under, if_some}
+use Rattle.core_transcripts.proofs.Blank.{IsBlank, IsSpotless, Keeps, changed_flights, dropped_blank, flies, is_changing, issued_stays, left_stays, looked_blank, looked_flights, mounted_reached, no_writes}
 use Rattle.core_transcripts.proofs.Blanking.{HasStage, again_kept, begun_kept, cleared_kept, fetched_kept, gone, kept, looks_at, recovery_kept, said_clean, same_blank, stage_parts, under_kept, wanting_kept}
 use Rattle.core_transcripts.proofs.Fits.{IsUnder, LineFits, Told, asked_of}
 use Rattle.core_transcripts.proofs.Fitting.{told_of}
-use Rattle.core_transcripts.proofs.Happening.{CoreFits, same_some}
-use Rattle.core_transcripts.proofs.Numbering.{both_first, both_second, line_is, number_same, numbers_are, numbers_turn, of_next}
+use Rattle.core_transcripts.proofs.Happening.{CoreFits}
+use Rattle.core_transcripts.proofs.Numbering.{line_is, numbers_turn, of_next}
 use Rattle.core_transcripts.proofs.Replies.{already_is, plain_is}
 use Rattle.core_transcripts.proofs.Staging.{StageIsPlain, stage_plain}
 use Rattle.core_transcripts.proofs.Telling.{got_in, tree_nodes}
 use Rattle.core_transcripts.specs.Transcripts.{IsNumbered}
-
-or_second : (a b : Bool) → IsTrue b → IsTrue (a || b)
-or_second true b h = refl
-or_second false b h = h
-
-or_first : (a b : Bool) → IsTrue a → IsTrue (a || b)
-or_first true b h = refl
-or_first false b h = absurd (false≢true h)
+use Rattle.core_transcripts.proofs.Paying.{arrival_says}
+use Rattle.core_transcripts.proofs.Owning.{due_is}
 
 -- each server that may have changed nothing has nothing to write
 abbrev pub Spotless : (ℕ → Bool) → (ℕ → Server) → Flights → Type 0
@@ -75,7 +71,7 @@ changed_one dirty later servers flights flying a v own same fewer k = λ i. go i
         record { cache = b.cache; waiting = b.waiting; reached = b.reached; recovery = b.recovery; landed = fewer i n b.landed }
 
     go : (i : ℕ) (b : Bool) → nat_eq i a ≡ b → Keeps (later i) (if b then v else servers i) (has_flights flying i)
-    go i true e = subst (λ j. Keeps (later j) v (has_flights flying j)) (sym (numbers_are i a e)) own
+    go i true e = subst (λ j. Keeps (later j) v (has_flights flying j)) (sym (eqb-true i a e)) own
     go i false e = other i e (k i)
 
 module _ (f : Faults) (c : Core) (saids : List Said) (numbered : IsNumbered c.setting.script) (g : CoreFits c.setting.script f saids c)
@@ -88,7 +84,7 @@ module _ (f : Faults) (c : Core) (saids : List Said) (numbered : IsNumbered c.se
   one a v own = λ i. go i (nat_eq i a) refl
     where
       go : (i : ℕ) (b : Bool) → nat_eq i a ≡ b → Keeps (dirty i) (if b then v else c.servers i) (has_flights c.flights i)
-      go i true e = subst (λ j. Keeps (dirty j) v (has_flights c.flights j)) (sym (numbers_are i a e)) own
+      go i true e = subst (λ j. Keeps (dirty j) v (has_flights c.flights j)) (sym (eqb-true i a e)) own
       go i false e = k i
 
   -- fewer writes are in flight
@@ -150,10 +146,10 @@ module _ (f : Faults) (c : Core) (saids : List Said) (numbered : IsNumbered c.se
         by_phase (Doomed fate) e false fits = gone (told_dirty a u r a) (record (c.servers a) { under = None }) (has_flights c.flights a) (ap (λ p. is_up p || is_still p) e)
         by_phase Still e b fits = absurd fits
         by_phase Up e true fits =
-            answered_kept a u r (record (c.servers a) { owes = false; under = None }) server under (already_is r (both_second (is_mount o) (is_already r) fits)).0 refl (λ m. m)
+            answered_kept a u r (record (c.servers a) { owes = false; under = None }) server under (already_is r (and_parts (is_mount o) (is_already r) fits).1).0 refl (λ m. m)
             (same_blank (c.servers a) (record (c.servers a) { owes = false; under = None }) (has_flights c.flights a) refl refl refl)
         by_phase Up e false fits =
-            answered_kept a u r (record (c.servers a) { under = None }) server under (already_is r (both_second (is_mount o) (is_already r) fits)).0 refl (λ m. m)
+            answered_kept a u r (record (c.servers a) { under = None }) server under (already_is r (and_parts (is_mount o) (is_already r) fits).1).0 refl (λ m. m)
             (same_blank (c.servers a) (record (c.servers a) { under = None }) (has_flights c.flights a) refl refl refl)
 
     -- of the line's own
@@ -162,13 +158,6 @@ module _ (f : Faults) (c : Core) (saids : List Said) (numbered : IsNumbered c.se
     ok_kept o v mounted none cache ring recovery r e =
         subst (λ r. Keeps (told_dirty a u r a) v (has_flights c.flights a)) e
         (answered_kept a u reply.Ok v server under refl none mounted (same_blank (c.servers a) v (has_flights c.flights a) cache ring recovery))
-
-    due_is : (b : Bool) (x r : Reply) → due_if b x ≡ Some r → IsTrue b × (x ≡ r)
-    due_is true x r e = (refl, same x r e)
-      where
-        same : (x r : Reply) → Some x ≡ Some r → x ≡ r
-        same x r e = cc
-    due_is false x r e = absurd (cc)
 
     off_gone : (p : Phase) → IsTrue (is_off p) → (is_up p || is_still p) ≡ false
     off_gone Off h = refl
@@ -180,16 +169,13 @@ module _ (f : Faults) (c : Core) (saids : List Said) (numbered : IsNumbered c.se
     mounts_kept : (r : Reply) → own_answer c.setting.logs c.flights a (c.servers a) u op.Mount ≡ Some r → Keeps (told_dirty a u r a) (record (answered_open c u (c.servers a) op.Mount r) { under = None }) (has_flights c.flights a)
     mounts_kept r e = go (is_off (c.servers a).phase) refl e
       where
-        same_reply : (x r : Reply) → Some x ≡ Some r → x ≡ r
-        same_reply x r e = cc
-
         with_mount : IsTrue (is_off (c.servers a).phase) → Keeps (told_dirty a u reply.Mounted a) (record (up_after c u) { under = None }) (has_flights c.flights a)
         with_mount off s = record { cache = refl; waiting = refl; reached = mounted_reached (end_of c.setting.logs u.slots); recovery = refl; landed = ashore a server off }
 
         by_get : (b : Bool) → IsTrue (is_off (c.servers a).phase) → (if b then Some reply.Io else due_if (is_read c.setting.logs u.slots) reply.Mounted) ≡ Some r →
             Keeps (told_dirty a u r a) (record (answered_open c u (c.servers a) op.Mount r) { under = None }) (has_flights c.flights a)
         by_get true off e =
-            subst (λ r. Keeps (told_dirty a u r a) (record (answered_open c u (c.servers a) op.Mount r) { under = None }) (has_flights c.flights a)) (same_reply reply.Io r e)
+            subst (λ r. Keeps (told_dirty a u r a) (record (answered_open c u (c.servers a) op.Mount r) { under = None }) (has_flights c.flights a)) (same_Some reply.Io r e)
             (gone (told_dirty a u reply.Io a) (record (c.servers a) { under = None }) (has_flights c.flights a) (off_gone (c.servers a).phase off))
         by_get false off e =
             subst (λ r. Keeps (told_dirty a u r a) (record (answered_open c u (c.servers a) op.Mount r) { under = None }) (has_flights c.flights a)) (due_is (is_read c.setting.logs u.slots) reply.Mounted r e).1 (with_mount off)
@@ -209,7 +195,7 @@ module _ (f : Faults) (c : Core) (saids : List Said) (numbered : IsNumbered c.se
         ok_kept (op.CutAt n) (record (c.servers a) { arming = Some (record { k = n; cuts = true }); under = None }) (λ m. m) refl refl refl refl r (due_is (is_up (c.servers a).phase) reply.Ok r e).1
     own_kept op.Stall r e =
         ok_kept op.Stall (record (c.servers a) { phase = Still; under = None })
-        (λ m. or_first (is_up (c.servers a).phase) (is_still (c.servers a).phase) (due_is (is_up (c.servers a).phase) reply.Ok r e).0) refl refl refl refl r
+        (λ m. or_left (is_up (c.servers a).phase) (is_still (c.servers a).phase) (due_is (is_up (c.servers a).phase) reply.Ok r e).0) refl refl refl refl r
         (due_is (is_up (c.servers a).phase) reply.Ok r e).1
     own_kept o r e = absurd (cc)
 
@@ -229,7 +215,7 @@ module _ (f : Faults) (c : Core) (saids : List Said) (numbered : IsNumbered c.se
         no_op : (o : Option Op) → o ≡ None → o ≡ Some h.operation → ⊥
         no_op o e f = absurd (cc)
     answer_kept r (Some o) is due =
-        let same : o ≡ h.operation = same_some o h.operation (sym is ∙ h.is) in
+        let same : o ≡ h.operation = same_Some o h.operation (sym is ∙ h.is) in
         changed_one dirty (told_dirty a u r) c.servers c.flights c.flights a (answered_by c u (c.servers a) o r)
         (subst (λ o. Keeps (told_dirty a u r a) (answered_by c u (c.servers a) o r) (has_flights c.flights a)) (sym same)
         (due_kept r u.fixed refl (subst (λ o. answer_of u.fixed (own_answer_of c.setting.logs c.flights a (c.servers a) u (Some o)) ≡ Some r) same due)))
@@ -241,10 +227,6 @@ module _ (f : Faults) (c : Core) (saids : List Said) (numbered : IsNumbered c.se
   answered_so : (a : ℕ) → CanAnswer c a → Later (answered_under c a (c.servers a).under (due_at c a)) (λ i. dirty_from c.setting.script i (dirty i) (saids_of (says_answer a (c.servers a).under (due_at c a))))
   answered_so a can = by_answer (due_at c a) refl can.due
     where
-      if_some : (b : Bool) (x : Option Reply) (r : Reply) → (if b then x else None) ≡ Some r → IsTrue b × (x ≡ Some r)
-      if_some true x r e = (refl, e)
-      if_some false x r e = absurd (cc)
-
       by_under : (r : Reply) → due_at c a ≡ Some r → IsTrue (is_answering (c.servers a).phase) → (o : Option Under) → (c.servers a).under ≡ o → due_under c.setting.logs c.flights a (c.servers a) o ≡ Some r →
           AnswerGoal a (c.servers a).under (due_at c a)
       by_under r e answers None under due = absurd (cc)
@@ -326,13 +308,8 @@ module _ (f : Faults) (c : Core) (saids : List Said) (numbered : IsNumbered c.se
       v : Server
       v = acknowledged flight.sector flight.block flight.purpose (c.servers flight.server)
 
-      both : (a b : Bool) → a ≡ true → b ≡ true → (a && b) ≡ true
-      both true true e f = refl
-      both true false e f = f
-      both false b e f = absurd (false≢true e)
-
       it_flies : flight.present ≡ true → has_flights c.flights flight.server ≡ false → ⊥
-      it_flies p l = false≢true (sym (flies c.flights ticket flight.server flight e l) ∙ both (nat_eq flight.server flight.server) flight.present (number_same flight.server) p)
+      it_flies p l = false≢true (sym (flies c.flights ticket flight.server flight e l) ∙ and_from (nat_eq flight.server flight.server) flight.present (eq-eqb flight.server flight.server refl) p)
 
       back : (purpose : Purpose) → IsSpotless (dirty flight.server) (acknowledged flight.sector flight.block purpose (c.servers flight.server)) → IsSpotless (dirty flight.server) (c.servers flight.server)
       back (OfLog number) s = record { mounted = s.mounted; clean_ = s.clean_ }
@@ -345,10 +322,10 @@ module _ (f : Faults) (c : Core) (saids : List Said) (numbered : IsNumbered c.se
 
       go : (b : Bool) → flight.present ≡ b → Spotless dirty (if b then record (landed c ticket) { servers = put c.servers flight.server v } else landed c ticket).servers
           (if b then record (landed c ticket) { servers = put c.servers flight.server v } else landed c ticket).flights
-      go false p = fewer (landed c ticket).flights (λ i l. landed_stays ticket i c.flights l)
+      go false p = fewer (landed c ticket).flights (λ i l. none_landed ticket i c.flights l)
       go true p =
           changed_one dirty dirty c.servers c.flights (landed c ticket).flights flight.server v (λ s. absurd (it_flies p (k flight.server (back flight.purpose s)).landed)) (λ i n. refl)
-          (λ i n l. landed_stays ticket i c.flights l) k
+          (λ i n l. none_landed ticket i c.flights l) k
 
   -- ---- calls that fail
   failed_so : (d : Core) (a : ℕ) → Spotless dirty d.servers d.flights → Later (call_failed d a) dirty
@@ -372,12 +349,12 @@ module _ (f : Faults) (c : Core) (saids : List Said) (numbered : IsNumbered c.se
 
   arrived_so : (ticket : ℕ) (heard : Heard) (o : Option Flight) → value_at c.flights ticket ≡ o → Later (arrived_from c ticket heard o) dirty
   arrived_so ticket heard None e = k
-  arrived_so ticket Nothing (Some flight) e = fewer (landed c ticket).flights (λ i l. landed_stays ticket i c.flights l)
-  arrived_so ticket (Got block) (Some flight) e = fewer (landed c ticket).flights (λ i l. landed_stays ticket i c.flights l)
-  arrived_so ticket GetFailed (Some flight) e = fewer (landed c ticket).flights (λ i l. landed_stays ticket i c.flights l)
+  arrived_so ticket Nothing (Some flight) e = fewer (landed c ticket).flights (λ i l. none_landed ticket i c.flights l)
+  arrived_so ticket (Got block) (Some flight) e = fewer (landed c ticket).flights (λ i l. none_landed ticket i c.flights l)
+  arrived_so ticket GetFailed (Some flight) e = fewer (landed c ticket).flights (λ i l. none_landed ticket i c.flights l)
   arrived_so ticket Written (Some flight) e = taken_so ticket flight e
-  arrived_so ticket Late (Some flight) e = fewer (landed c ticket).flights (λ i l. landed_stays ticket i c.flights l)
-  arrived_so ticket (PutFailed new) (Some flight) e = failed_so (landed c ticket) flight.server (fewer (landed c ticket).flights (λ i l. landed_stays ticket i c.flights l))
+  arrived_so ticket Late (Some flight) e = fewer (landed c ticket).flights (λ i l. none_landed ticket i c.flights l)
+  arrived_so ticket (PutFailed new) (Some flight) e = failed_so (landed c ticket) flight.server (fewer (landed c ticket).flights (λ i l. none_landed ticket i c.flights l))
 
   -- ---- lives
   died_so : (a : ℕ) (p : Phase) → Later (died_in c a p) dirty
@@ -390,7 +367,7 @@ module _ (f : Faults) (c : Core) (saids : List Said) (numbered : IsNumbered c.se
       (λ i n. refl) (λ i n l. less i fate.loses l) k
     where
       less : (i : ℕ) (b : Bool) → has_flights c.flights i ≡ false → has_flights (if b then lost a c.flights else left_behind a c.flights) i ≡ false
-      less i true l = lost_stays a i c.flights l
+      less i true l = fewer_lost a i c.flights l
       less i false l = left_stays a i c.flights l
 
   resumed_so : (a : ℕ) → CanResume c a → Spotless dirty (put c.servers a (up_again c.setting c.now (c.servers a))) c.flights
@@ -398,7 +375,7 @@ module _ (f : Faults) (c : Core) (saids : List Said) (numbered : IsNumbered c.se
       one a (up_again c.setting c.now (c.servers a))
       (λ s.
       let b : IsBlank (c.servers a) (has_flights c.flights a) =
-      k a (record { mounted = or_second (is_up (c.servers a).phase) (is_still (c.servers a).phase) (both_first (is_still (c.servers a).phase) (nat_lt (c.servers a).expiry c.now) can.past); clean_ = s.clean_ }) in
+      k a (record { mounted = or_right (is_up (c.servers a).phase) (is_still (c.servers a).phase) (and_parts (is_still (c.servers a).phase) (nat_lt (c.servers a).expiry c.now) can.past).0; clean_ = s.clean_ }) in
       record { cache = refl; waiting = b.waiting; reached = b.reached; recovery = refl; landed = b.landed })
 
   recovering_so : (dead by : ℕ) → Spotless (λ i. dirty i || nat_eq by i) (put c.servers by (record (c.servers by) { recovery = Some (recovery_of dead) })) c.flights
@@ -418,7 +395,7 @@ module _ (f : Faults) (c : Core) (saids : List Said) (numbered : IsNumbered c.se
       other i k s = k (record { mounted = s.mounted; clean_ = or_none (dirty i) (nat_eq by i) (is_changing (c.servers i).under) s.clean_ })
 
       go : (i : ℕ) (b : Bool) → nat_eq i by ≡ b → Keeps (dirty i || nat_eq by i) (if b then record (c.servers by) { recovery = Some (recovery_of dead) } else c.servers i) (has_flights c.flights i)
-      go i true e = λ s. absurd (or_not (dirty i) (nat_eq by i) (is_changing (c.servers by).under) (subst (λ j. nat_eq by j ≡ true) (sym (numbers_are i by e)) (number_same by)) s.clean_)
+      go i true e = λ s. absurd (or_not (dirty i) (nat_eq by i) (is_changing (c.servers by).under) (subst (λ j. nat_eq by j ≡ true) (sym (eqb-true i by e)) (eq-eqb by by refl)) s.clean_)
       go i false e = other i (k i)
 
   finished_so : (by : ℕ) (o : Option Recovery) → Later (finished_from c by o) (λ i. dirty_from c.setting.script i (dirty i) (saids_of (says_recovered c o)))
@@ -442,7 +419,7 @@ module _ (f : Faults) (c : Core) (saids : List Said) (numbered : IsNumbered c.se
       Keeps (dirty_after c.setting.script i (dirty i) (said.Answer (record { 0 = host_party }) number reply.Ok)) (c.servers i) (has_flights flying i)
   host_one i flying less number true e =
       gone (dirty_after c.setting.script i (dirty i) (said.Answer (record { 0 = host_party }) number reply.Ok)) (c.servers i) (has_flights flying i)
-      (subst (λ j. (is_up (c.servers j).phase || is_still (c.servers j).phase) ≡ false) (numbers_are host_party i e) (off_gone_so (c.servers host_party).phase g.host))
+      (subst (λ j. (is_up (c.servers j).phase || is_still (c.servers j).phase) ≡ false) (eqb-true host_party i e) (off_gone_so (c.servers host_party).phase g.host))
   host_one i flying less number false e = λ s.
       let same : dirty_after c.setting.script i (dirty i) (said.Answer (record { 0 = host_party }) number reply.Ok) ≡ dirty i =
       ap (λ b. if b then not (is_mounted reply.Ok) && (dirty i || is_change_line (line_of c.setting.script number)) else dirty i) e in
@@ -479,15 +456,6 @@ module _ (f : Faults) (c : Core) (saids : List Said) (numbered : IsNumbered c.se
       go (Some x) e =
           subst (λ o. Spotless (λ i. dirty_from c.setting.script i (dirty i) (saids_of (says_node o))) c.servers c.flights) (sym e)
           (λ i. subst (λ d. Keeps d (c.servers i) (has_flights c.flights i)) (sym (node_dirty c.setting.script i (dirty i) x (tree_nodes c.setting.segments c.read x (got_in (tree_lines c) place x e)))) (k i))
-
-  arrival_says : (now : ℕ) (heard : Heard) (o : Option Flight) → saids_of (deeds_of_arrival now heard o) ≡ []
-  arrival_says now heard None = refl
-  arrival_says now Nothing (Some flight) = refl
-  arrival_says now (Got block) (Some flight) = refl
-  arrival_says now GetFailed (Some flight) = refl
-  arrival_says now Written (Some flight) = refl
-  arrival_says now Late (Some flight) = refl
-  arrival_says now (PutFailed new) (Some flight) = refl
 
   -- ---- each event
   fetch_so : (a sector : ℕ) (heard : Heard) → Later (after c (Fetch a sector) heard) dirty
@@ -544,7 +512,7 @@ module _ (f : Faults) (c : Core) (saids : List Said) (numbered : IsNumbered c.se
   event_so (Arrive ticket) heard can =
       subst (λ ss. Later (arrived_from c ticket heard (value_at c.flights ticket)) (λ i. dirty_from c.setting.script i (dirty i) ss)) (sym (arrival_says c.now heard (value_at c.flights ticket)))
       (arrived_so ticket heard (value_at c.flights ticket) refl)
-  event_so (Lose ticket) heard can = fewer (landed c ticket).flights (λ i l. landed_stays ticket i c.flights l)
+  event_so (Lose ticket) heard can = fewer (landed c ticket).flights (λ i l. none_landed ticket i c.flights l)
   event_so (Die a) heard can = died_so a (c.servers a).phase
   event_so (Renew a) heard can =
       one a (record (c.servers a) { expiry = lease_to c.setting c.now })

@@ -1,8 +1,9 @@
 -- What the host says at the end are lines of the tree; and who is told to be settled then.
 use Rattle.std.proofs.Common.{ℕ, zero, suc, ◌≡◌, inl, inr, ⊎_elim, Bool, true, false, ◌&&◌, ◌==◌, if◌then◌else◌, IsTrue, List, [], ◌∷◌, Option, Some, None, length, nat_lt, refl, subst, arith}
-use Rattle.std.proofs.lemmas.Bool.{false≢true}
+use Rattle.std.proofs.lemmas.Bool.{false≢true, and_parts}
 use Rattle.std.proofs.lemmas.Bool.Decides.{nat_tests}
 use Rattle.std.specs.List.{flat_map, list_all, slice_get}
+use Rattle.std.proofs.lemmas.Option.{same_Some}
 use Rattle.frang_base.specs.declared.said.Said.{Said}
 use Rattle.frang_base.specs.declared.said.Said.TheVariants as said
 use Rattle.tree_definitions.specs.Numbers.{below}
@@ -25,16 +26,8 @@ all_in p (y ∷ ys) each = go (p y) (each y (inl refl)) (all_in p ys (λ x i. ea
 
 pub in_all : {X : Type 0} (p : X → Bool) (xs : List X) (x : X) → IsTrue (list_all p xs) → In x xs → IsTrue (p x)
 in_all p [] x h i = absurd i
-in_all p (y ∷ ys) x h (inl e) = subst (λ z. IsTrue (p z)) e (first (p y) (list_all p ys) h)
-  where
-    first : (a b : Bool) → IsTrue (a && b) → IsTrue a
-    first true b h = refl
-    first false b h = absurd (false≢true h)
-in_all p (y ∷ ys) x h (inr i) = in_all p ys x (second (p y) (list_all p ys) h) i
-  where
-    second : (a b : Bool) → IsTrue (a && b) → IsTrue b
-    second true b h = h
-    second false b h = absurd (false≢true h)
+in_all p (y ∷ ys) x h (inl e) = subst (λ z. IsTrue (p z)) e (and_parts (p y) (list_all p ys) h).0
+in_all p (y ∷ ys) x h (inr i) = in_all p ys x (and_parts (p y) (list_all p ys) h).1 i
 
 less_more : (n x : ℕ) → IsTrue (nat_lt x n) → IsTrue (nat_lt x (suc n))
 less_more n x h = grind (arith, nat_tests, h)
@@ -46,12 +39,9 @@ pub below_less : (n x : ℕ) → In x (below n) → IsTrue (nat_lt x n)
 below_less zero x i = absurd i
 below_less (suc n) x i = ⊎_elim (λ j. less_more n x (below_less n x j)) (λ j. ⊎_elim (λ e. last_less n x e) (λ k. absurd k) j) (in_either x (below n) (n ∷ []) i)
 
-same_some : {X : Type 0} (y x : X) → Some y ≡ Some x → y ≡ x
-same_some y x e = cc
-
 pub got_in : {X : Type 0} (xs : List X) (k : ℕ) (x : X) → slice_get xs k ≡ Some x → In x xs
 got_in [] k x e = absurd (cc)
-got_in (y ∷ ys) zero x e = inl (same_some y x e)
+got_in (y ∷ ys) zero x e = inl (same_Some y x e)
 got_in (y ∷ ys) (suc k) x e = inr (got_in ys k x e)
 
 -- ---- lines of a tree

@@ -2,6 +2,7 @@
 use Rattle.std.proofs.Common.{ℕ, ◌≡◌, ◌≤◌, ◌+◌, ◌%◌, Bool, true, false, not, ◌&&◌, ◌||◌, ◌==◌, if◌then◌else◌, IsTrue, List, [], Option, Some, None, length, nat_eq, refl, sym, subst}
 use Rattle.std.proofs.lemmas.Bool.{false≢true}
 use Rattle.std.specs.Option.{IsSome, option_map}
+use Rattle.std.proofs.lemmas.Option.{none-some}
 use Rattle.frang_base.specs.Functions.{put}
 use Rattle.frang_base.specs.declared.lock.LockId.{LockId}
 use Rattle.frang_base.specs.declared.op.Op.{Op}
@@ -63,9 +64,6 @@ no_load slot disk Late (Some r) none h = absurd h
 no_load slot disk (PutFailed new) (Some r) none h = absurd h
 no_load slot disk (Got block) (Some r) none h = absurd none
 no_load slot disk GetFailed (Some r) none h = absurd none
-
-none_saved : {P : Type 0} (d : ℕ) → None ≡ Some d → P
-none_saved d e = absurd (cc)
 
 doomed_off : (p : Phase) → IsTrue (is_up p || is_still p) → IsTrue (is_off p) → ⊥
 doomed_off Off m h = false≢true m
@@ -165,7 +163,7 @@ module _ (opening : Opening) (f : Faults) (stay : (early late server : ℕ) → 
       go : (b : Bool) → Stays (if b then record c { servers = put c.servers a (off_after (c.servers a)); locks = cleared c.locks a } else record c { servers = put c.servers a (wanting_all (c.servers a)) })
       go true =
           one_key c.setting.script f saids c.answered c.over c.shown c.servers a (off_after (c.servers a)) (closed_fits (c.servers a) (told_of c.setting.script f saids c.answered a) can.up can.answered (g.servers a))
-          (λ d w s. none_saved d s) (λ h. refl) g
+          (λ d w s. absurd (none-some d s)) (λ h. refl) g
       go false = steadily a (wanting_all (c.servers a)) refl
 
   arrival_says : (now : ℕ) (heard : Heard) (o : Option Flight) → saids_of (deeds_of_arrival now heard o) ≡ []

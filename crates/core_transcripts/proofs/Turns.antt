@@ -1,6 +1,6 @@
 -- What counts of a server at events at which no line is said: a line begins, a call fails, a server is doomed or closed.
 use Rattle.std.proofs.Common.{◌≡◌, Bool, true, false, not, ◌&&◌, ◌||◌, if◌then◌else◌, IsTrue, Option, Some, None, refl, sym, ap, subst}
-use Rattle.std.proofs.lemmas.Bool.{false≢true}
+use Rattle.std.proofs.lemmas.Bool.{false≢true, or_right}
 use Rattle.std.specs.Option.{option_map}
 use Rattle.frang_base.specs.declared.op.Op.{Op}
 use Rattle.frang_base.specs.declared.reply.Reply.{Reply}
@@ -13,10 +13,6 @@ use Rattle.core_definitions.specs.Lines.{Under, operation_of}
 use Rattle.core_definitions.specs.Servers.{Fate, Phase, Off, Up, Still, Doomed, Dead, Server, answer_at_first, is_answering, is_in_mount, is_still, is_up}
 use Rattle.core_definitions.specs.LineEffects.{begun_with, failed_by, off_after, refused_under, with_under}
 use Rattle.core_transcripts.proofs.Fits.{Asked, AskFits, Fits, IsAwake, LineFits, OwingFits, PhaseFits, Told, UnderFits, asked_of, key_of}
-
-or_true : (a b : Bool) → IsTrue b → IsTrue (a || b)
-or_true true b h = refl
-or_true false b h = h
 
 -- ---- a line begins
 
@@ -139,7 +135,7 @@ failed_fits server t m g = record {
   owing = g.owing;
   calm = g.calm;
   armed = g.armed;
-  failed = or_true (not (server.failed || is_in_mount server.phase)) t.faulted m;
+  failed = or_right (not (server.failed || is_in_mount server.phase)) t.faulted m;
   doomed = g.doomed;
   under = g.under;
 }

@@ -1,11 +1,10 @@
 -- A sector whose fields hold what they can is one that can be stored, in 512 bytes.
-use Rattle.std.proofs.Common.{◌≡◌, ◌*◌, List, [], ◌∷◌, length, arith, length-append}
-use Rattle.std.specs.List.{flat_map}
+use Rattle.std.proofs.Common.{◌≡◌, List, [], ◌∷◌, length, arith}
 use Rattle.dir_block.specs.Fields.{EntriesFill, FillsItsFields}
 use Rattle.disk_definitions.specs.declared.directory.DirEntry.{DirEntry}
 use Rattle.disk_definitions.specs.declared.directory.DirSector.{DirSector}
-use Rattle.disk_definitions.specs.Directories.{entry_bytes, directory_bytes}
-use Rattle.disk_definitions.proofs.DirectoryLaws.{AreStorable, IsStorableSector, length_of_entry}
+use Rattle.disk_definitions.specs.Directories.{directory_bytes}
+use Rattle.disk_definitions.proofs.DirectoryLaws.{AreStorable, IsStorableSector, length_entries}
 
 entries_storable : (es : List DirEntry) → EntriesFill es → AreStorable es
 entries_storable [] h = tt
@@ -14,9 +13,5 @@ entries_storable (e ∷ es) h = (record { inode = h.0.0; name = h.0.1 }, entries
 pub storable : (x : DirSector) → FillsItsFields x → IsStorableSector x
 storable x h = record { version = h.0; seven = h.1; entries = entries_storable x.entries h.2 }
 
-length_of_entries : (es : List DirEntry) → AreStorable es → length (flat_map entry_bytes es) ≡ 72 * length es
-length_of_entries [] h = omega arith
-length_of_entries (e ∷ es) h = omega (arith, length-append (entry_bytes e) (flat_map entry_bytes es), length_of_entry e h.0, length_of_entries es h.1)
-
 pub length_of_directory : (x : DirSector) → FillsItsFields x → length (directory_bytes x) ≡ 512
-length_of_directory x h = omega (arith, length_of_entries x.entries (storable x h).entries, h.1)
+length_of_directory x h = omega (arith, length_entries x.entries (storable x h).entries, h.1)

@@ -30,7 +30,7 @@ adds_as first second xs ys e = subst (Adds first second) e
 
 -- ---- what is met
 
-gives_met : {A : Type 0} (m : Met A) (a : A) → Gives a ≡ numbered m → m ≡ Has a
+pub gives_met : {A : Type 0} (m : Met A) (a : A) → Gives a ≡ numbered m → m ≡ Has a
 gives_met (Needs x) a e = absurd (cc)
 gives_met (Has b) a e = cc
 
@@ -58,7 +58,7 @@ looks_end p f cached held s e =
 
 -- ---- one sector
 
-some_there : {A : Type 0} (s : ℕ) (o : Option A) (a : A) → Gives a ≡ read_or_lacks s o → o ≡ Some a
+pub some_there : {A : Type 0} (s : ℕ) (o : Option A) (a : A) → Gives a ≡ read_or_lacks s o → o ≡ Some a
 some_there s None a e = absurd (cc)
 some_there s (Some x) a e = cc
 

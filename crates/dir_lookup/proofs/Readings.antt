@@ -10,6 +10,7 @@ use Rattle.disk_definitions.specs.Held.{Segments}
 use Rattle.disk_definitions.specs.Ask.{Ask, Got, ReadInode, ReadDirectory, ReadSegment, ReadBytes, ReadLarge, AtHand, Sector, InodeAt, DirectoryAt, SegmentAt, BytesAt, LargeAt, Met, Needs, meet, bind, or_needs}
 use Rattle.disk_definitions.specs.Written.{Cached, at_hand}
 use Rattle.dir_lookup.specs.Reading.{Read, Gives, numbered, reading, then_read, read_or_lacks}
+use Rattle.dir_lookup.proofs.Looking.{some_there}
 
 -- ---- one program after another
 at_option : {A B X : Type 0} (s : Sector) (o : Option X) (g : X → Met B) (h : X → Met A) (f : A → Read B) → ((x : X) → numbered (g x) ≡ then_read (numbered (h x)) f)
@@ -38,18 +39,15 @@ pub reading_bind : {A B : Type 0} (p : Ask A) (f : A → Ask B) (cached : Cached
 reading_bind p f cached held = meet_bind p f (at_hand cached held)
 
 -- ---- one sector
-gives_some : {A : Type 0} (s : ℕ) (o : Option A) (a : A) → Gives a ≡ read_or_lacks s o → o ≡ Some a
-gives_some s None a e = absurd (cc)
-gives_some s (Some x) a e = cc
 
 pub inode_reads : (cached : Cached) (i s : ℕ) (block : List ℕ) (x : Option StoredNode) (held : Segments) → s ≡ sector_of (region.Inode i) → Gives block ≡ read_or_lacks s (value_at cached s)
     → x ≡ stored_node (inode_in block) → Gives x ≡ reading (ReadInode i Got) cached held
 inode_reads cached i s block x held at there is =
-    let e : value_at cached (sector_of (region.Inode i)) ≡ Some block = subst (λ s. value_at cached s ≡ Some block) at (gives_some s (value_at cached s) block there) in
+    let e : value_at cached (sector_of (region.Inode i)) ≡ Some block = subst (λ s. value_at cached s ≡ Some block) at (some_there s (value_at cached s) block there) in
     rw e (ap Gives is)
 
 pub directory_reads : (cached : Cached) (k part s : ℕ) (block : List ℕ) (f : ℕ → Option StoredEntry) (held : Segments) → s ≡ sector_of (region.Small k part) → Gives block ≡ read_or_lacks s (value_at cached s)
     → f ≡ entry_in (directory_in block) → Gives f ≡ reading (ReadDirectory k part Got) cached held
 directory_reads cached k part s block f held at there is =
-    let e : value_at cached (sector_of (region.Small k part)) ≡ Some block = subst (λ s. value_at cached s ≡ Some block) at (gives_some s (value_at cached s) block there) in
+    let e : value_at cached (sector_of (region.Small k part)) ≡ Some block = subst (λ s. value_at cached s ≡ Some block) at (some_there s (value_at cached s) block there) in
     rw e (ap Gives is)

@@ -5,13 +5,13 @@ use Rattle.std.proofs.lemmas.Option.{slice_get_within}
 use Rattle.tree_definitions.specs.declared.cells.Cell.{Cell}
 use Rattle.tree_definitions.specs.declared.node.Node.{Node}
 use Rattle.tree_definitions.specs.declared.node.Node.TheVariants.{Dir, File, Link}
-use Rattle.frang_base.proofs.Basics.{of_lt}
 use Rattle.disk_definitions.specs.Store.{Store, Use}
 use Rattle.disk_definitions.specs.Store.Use.{Bytes, Empty, Entries}
 use Rattle.disk_definitions.specs.Standing.{IsMetadata}
 use Rattle.disk_definitions.specs.Naming.{Naming, Nodes, Pictures, blocks_of, has_large, room_in, cell_in, inode_of, use_by, use_for, dir_place, file_byte, Allows}
 use Rattle.disk_definitions.specs.ChangeLaws.{FilesFit, FilesFitBySizes, SaysTheSame, PicturesGoByWhatCounts}
 use Rattle.std.proofs.lemmas.Nat.{mod_below}
+use Rattle.std.proofs.lemmas.Bool.{lt-ltb}
 use Rattle.disk_definitions.proofs.Kept.{inode_is}
 use Rattle.disk_definitions.proofs.Rooms.{dir_use}
 
@@ -24,7 +24,7 @@ cell_block (Some (Link target links)) j c e l = absurd (cc)
 pub cell_large : (x : Option Node) (j : ℕ) (c : Cell) → cell_in x j ≡ Some c → 65536 ≤ j → has_large x ≡ true
 cell_large None j c e l = absurd (cc)
 cell_large (Some (Dir entries blocks)) j c e l = absurd (cc)
-cell_large (Some (File cells links when)) j c e l = let w : j < length cells = slice_get_within cells j c e in of_lt 65536 (length cells) (omega arith)
+cell_large (Some (File cells links when)) j c e l = let w : j < length cells = slice_get_within cells j c e in lt-ltb 65536 (length cells) (omega arith)
 cell_large (Some (Link target links)) j c e l = absurd (cc)
 
 pub cell_fits : (x : Option Node) (j : ℕ) (c : Cell) → ((links when : ℕ) (cells : List Cell) → x ≡ Some (File cells links when) → length cells ≤ 1114112) → cell_in x j ≡ Some c → j < 1114112

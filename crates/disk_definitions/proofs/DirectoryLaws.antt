@@ -1,5 +1,5 @@
 -- Sectors of directories: what was written reads back, and a block is at most one sector.
-use Rattle.std.proofs.Common.{◌≡◌, ℕ, ◌^◌, ◌<◌, IsTrue, Some, List, [], ◌∷◌, ◌++◌, length, take, drop, refl, sym, ap, ◌∙◌, append_assoc, length-append, arith}
+use Rattle.std.proofs.Common.{◌≡◌, ℕ, ◌^◌, ◌<◌, IsTrue, Some, List, [], ◌∷◌, ◌++◌, length, take, drop, refl, sym, ap, ◌∙◌, append_assoc, length-append, arith, ◌*◌}
 use Rattle.std.proofs.lemmas.List.{take_at, drop_at}
 use Rattle.std.specs.List.{flat_map}
 use Rattle.byteorder.specs.Numbers.{little_number-reads_back}
@@ -79,3 +79,10 @@ directory_found block x s h = ap directory_in h.0 ∙ directory_back x s h.1
 pub directory_once : (block : List ℕ) (x y : DirSector) → IsStorableSector x → IsStorableSector y → IsDirectorySector block x → IsDirectorySector block y → x ≡ y
 directory_once block x y s t h g =
     let e : Some x ≡ Some y = sym (directory_found block x s h) ∙ directory_found block y t g in cc
+
+pub length_entries : (es : List DirEntry) → AreStorable es → length (flat_map entry_bytes es) ≡ 72 * length es
+length_entries [] h = refl
+length_entries (e ∷ es) h =
+    let name : length e.name ≡ 64 = h.0.name in
+    let one : length (entry_bytes e) ≡ 72 = omega (arith, length-append e.name (0 ∷ 0 ∷ [])) in
+    length-append (entry_bytes e) (flat_map entry_bytes es) ∙ omega (arith, length_entries es h.1)

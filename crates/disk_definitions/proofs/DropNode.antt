@@ -1,9 +1,10 @@
 -- A node goes, with its inode and blocks.
 use Rattle.std.proofs.Common.{ℕ, ◌+◌, ◌*◌, ◌/◌, ◌%◌, ◌<◌, ◌≡◌, ◌≢◌, ◌↔◌, Bool, true, false, Option, Some, None, refl, sym, ◌∙◌, ap, subst, arith, is_some, nat_eq, if◌then◌else◌}
 use Rattle.std.proofs.lemmas.Bool.Decides.{nat_tests}
+use Rattle.std.proofs.lemmas.Bool.{eqb-false, eqb-true}
 use Rattle.tree_definitions.specs.declared.node.Node.{Node}
 use Rattle.tree_definitions.specs.declared.node.Node.TheVariants.{Dir, File, Link}
-use Rattle.frang_base.proofs.Basics.{by_test, eq_of, ne_of, at_put, put_same, put_other}
+use Rattle.frang_base.proofs.Basics.{by_test, at_put, put_same, put_other}
 use Rattle.tree_laws.specs.WellFormed.{put as put_node}
 use Rattle.disk_definitions.specs.Store.{Store, StoredEntry}
 use Rattle.disk_definitions.specs.Store.Use.{Empty}
@@ -19,14 +20,14 @@ others_own b c j f None = both
 others_own b c j f (Some o) = by_test (λ v. (v ≡ Some (c, j)) ↔ (Some o ≡ Some (c, j))) None (Some o) (nat_eq o.0 b)
     (λ e. (
       λ q. absurd (let y : ℕ × ℕ = (c, j) in let z : None ≡ Some y = q in cc),
-      λ q. absurd (f (let y : ℕ × ℕ = (c, j) in let z : Some o ≡ Some y = q in let w : o ≡ y = cc in sym (ap (λ v. v.0) w) ∙ eq_of o.0 b e)),
+      λ q. absurd (f (let y : ℕ × ℕ = (c, j) in let z : Some o ≡ Some y = q in let w : o ≡ y = cc in sym (ap (λ v. v.0) w) ∙ eqb-true o.0 b e)),
     ))
     (λ e. both)
 
 pub others_have : (b c : ℕ) → c ≢ b → (o : Option ℕ) → ((if is_of b o then None else o) ≡ Some c) ↔ (o ≡ Some c)
 others_have b c f None = both
 others_have b c f (Some o) = by_test (λ v. (v ≡ Some c) ↔ (Some o ≡ Some c)) None (Some o) (nat_eq o b)
-    (λ e. (λ q. absurd (let z : None ≡ Some c = q in cc), λ q. absurd (f (let z : Some o ≡ Some c = q in let w : o ≡ c = cc in sym w ∙ eq_of o b e))))
+    (λ e. (λ q. absurd (let z : None ≡ Some c = q in cc), λ q. absurd (f (let z : Some o ≡ Some c = q in let w : o ≡ c = cc in sym w ∙ eqb-true o b e))))
     (λ e. both)
 
 module _ (s : Store) (at : Nodes) (n : Naming) (g : Pictures s at n) (b : ℕ) (x : Node) (is : at b ≡ Some x) (nameless : HasNoNames x) where
@@ -48,7 +49,7 @@ module _ (s : Store) (at : Nodes) (n : Naming) (g : Pictures s at n) (b : ℕ) (
   use_split : (k : ℕ) (o : ℕ × ℕ) → n.owner k ≡ Some o → (v : Bool) → nat_eq o.0 b ≡ v →
       (if v then freed (kind_of x) else s.use_of k) ≡ use_for (if v then nat_eq (kind_of x) 2 else n.was k) to (if v then None else Some o)
   use_split k o e true i = refl
-  use_split k o e false i = g.uses k ∙ ap (use_for (n.was k) at) e ∙ ap use_by (sym (put_other at b None o.0 (ne_of o.0 b i)))
+  use_split k o e false i = g.uses k ∙ ap (use_for (n.was k) at) e ∙ ap use_by (sym (put_other at b None o.0 (eqb-false o.0 b i)))
 
   use_here : (k : ℕ) (o : Option (ℕ × ℕ)) → n.owner k ≡ o →
       (if is_owned_by b o then freed (kind_of x) else s.use_of k) ≡ use_for (if is_owned_by b o then nat_eq (kind_of x) 2 else n.was k) to (if is_owned_by b o then None else o)
@@ -75,7 +76,7 @@ module _ (s : Store) (at : Nodes) (n : Naming) (g : Pictures s at n) (b : ℕ) (
   empty_split : (k p : ℕ) (o : Option (ℕ × ℕ)) → n.owner k ≡ o → p < 56 → (if is_owned_by b o then freed (kind_of x) else s.use_of k) ≡ Empty → s.place k p ≡ None
   empty_split k p None e l = λ h. g.emptied k p l h
   empty_split k p (Some o) e l = by_test (λ v. v ≡ Empty → s.place k p ≡ None) (freed (kind_of x)) (s.use_of k) (nat_eq o.0 b)
-      (λ i h. no_entry k p o.1 l (let y : ℕ × ℕ = (b, o.1) in let z : o ≡ y = rw (sym (eq_of o.0 b i)) refl in e ∙ ap Some z) h (s.place k p) refl)
+      (λ i h. no_entry k p o.1 l (let y : ℕ × ℕ = (b, o.1) in let z : o ≡ y = rw (sym (eqb-true o.0 b i)) refl in e ∙ ap Some z) h (s.place k p) refl)
       (λ i h. g.emptied k p l h)
 
   pub dropped_pictured : Pictures t to m

@@ -1,11 +1,13 @@
 -- A directory gets an entry at a free place, or loses one.
 use Rattle.std.proofs.Common.{ℕ, ◌+◌, ◌-◌, ◌*◌, ◌/◌, ◌%◌, ◌<◌, ◌≡◌, ◌≢◌, true, false, List, Some, None, refl, sym, ◌∙◌, ap, subst, arith, is_some, [], ◌∷◌, length}
 use Rattle.std.proofs.lemmas.Bool.Decides.{nat_tests}
+use Rattle.std.proofs.lemmas.Option.{same_Some}
+use Rattle.std.proofs.lemmas.Bool.{lt-ltb}
 use Rattle.tree_definitions.specs.declared.node.Node.{Node}
 use Rattle.tree_definitions.specs.declared.node.Node.TheVariants.{Dir}
 use Rattle.tree_definitions.specs.Entries.{Entries, entry_at}
 use Rattle.frang_base.specs.Functions.{put}
-use Rattle.frang_base.proofs.Basics.{of_lt, at_put, put_same, put_other}
+use Rattle.frang_base.proofs.Basics.{at_put, put_same, put_other}
 use Rattle.tree_laws.specs.WellFormed.{put as put_node}
 use Rattle.tree_laws.proofs.Nodes.{each_but}
 use Rattle.disk_definitions.specs.Store.{Store, StoredNode, StoredEntry}
@@ -29,21 +31,18 @@ set_inode s at n g d x there k =
     (λ e. let w : n.birth k ≡ Some d = ap n.birth e ∙ g.numbered d there in sym (ap (inode_for n (put_node at d (Some x))) w ∙ ap (inode_by n d) (put_same at d (Some x))))
     (λ e. g.inodes k ∙ sym (same_inode n n at (put_node at d (Some x)) (n.birth k) (λ c q. (put_other at d (Some x) c (λ i. e (sym (g.whose k c q).0 ∙ ap n.inode i)), refl, refl, refl))))
 
-some_node : (x y : StoredNode) → Some x ≡ Some y → x ≡ y
-some_node x y e = cc
-
 -- the inode that stands on the disk
 pub stored_is : (s : Store) (at : Nodes) (n : Naming) → Pictures s at n → (d : ℕ) (node : Node) (x : StoredNode) → at d ≡ Some node → s.inode (n.inode d) ≡ Some x → x ≡ inode_of (n.stamp d) (n.block d) (n.large d) node
-stored_is s at n g d node x is e = some_node x (inode_of (n.stamp d) (n.block d) (n.large d) node) (sym e ∙ inode_is s at n g d node is)
+stored_is s at n g d node x is e = same_Some x (inode_of (n.stamp d) (n.block d) (n.large d) node) (sym e ∙ inode_is s at n g d node is)
 
 -- the edits by the naming
 put_is : (i stamp large blocks q : ℕ) (block : ℕ → ℕ) (e : StoredEntry) (old new : Entries) → q < 56 * blocks → length new ≡ length old + 1 →
     put_entry i (inode_of stamp block large (Dir old blocks)) q e ≡ SetInode i (Some (inode_of stamp block large (Dir new blocks))) false ∷ SetPlace (block (q / 56)) (q % 56) (Some e) ∷ []
-put_is i stamp large blocks q block e old new l one = rw (of_lt (q / 56) blocks (which_block q blocks l), one) refl
+put_is i stamp large blocks q block e old new l one = rw (lt-ltb (q / 56) blocks (which_block q blocks l), one) refl
 
 take_is : (i stamp large blocks q : ℕ) (block : ℕ → ℕ) (old new : Entries) → q < 56 * blocks → length old ≡ length new + 1 →
     take_entry i (inode_of stamp block large (Dir old blocks)) q ≡ SetInode i (Some (inode_of stamp block large (Dir new blocks))) false ∷ SetPlace (block (q / 56)) (q % 56) None ∷ []
-take_is i stamp large blocks q block old new l one = let e : length old - 1 ≡ length new = omega arith in rw (of_lt (q / 56) blocks (which_block q blocks l), e) refl
+take_is i stamp large blocks q block old new l one = let e : length old - 1 ≡ length new = omega arith in rw (lt-ltb (q / 56) blocks (which_block q blocks l), e) refl
 
 module _ (s : Store) (at : Nodes) (n : Naming) (g : Pictures s at n) (d blocks : ℕ) (name : List ℕ) (old new : Entries) (is : at d ≡ Some (Dir old blocks)) where
   abbrev to : Nodes

@@ -1,15 +1,12 @@
 -- A block that is free has no owner.
 use Rattle.std.proofs.Common.{ℕ, ◌<◌, ◌≡◌, true, false, Option, Some, None, is_some, refl, sym, ◌∙◌, ap, arith}
+use Rattle.frang_base.proofs.Tests.{none_of}
 use Rattle.tree_definitions.specs.declared.node.Node.{Node}
 use Rattle.tree_definitions.specs.declared.node.Node.TheVariants.{Dir, File, Link}
 use Rattle.disk_definitions.specs.Store.{Store, Use, is_unused}
 use Rattle.disk_definitions.specs.Store.Use.{Fresh, Bytes, Empty, Entries}
 use Rattle.disk_definitions.specs.Naming.{Naming, Nodes, Pictures, blocks_of, use_by, use_for}
 use Rattle.disk_definitions.specs.ChangeLaws.{IsFreeBlock}
-
-pub none_of : {X : Type 0} (o : Option X) → is_some o ≡ false → o ≡ None
-none_of None e = refl
-none_of (Some c) e = absurd (cc)
 
 pub a_some : {X : Type 0} (o : Option X) → is_some o ≡ true → (x : X) × (o ≡ Some x)
 a_some None e = absurd (cc)

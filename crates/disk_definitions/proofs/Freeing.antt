@@ -2,10 +2,11 @@
 use Rattle.std.proofs.Common.{⊎_elim, ◌⊎◌, ℕ, ◌+◌, ◌-◌, ◌≡◌, ◌≢◌, ◌<◌, Bool, true, false, Option, Some, None, [], ◌∷◌, ◌++◌, if◌then◌else◌, refl, sym, ◌∙◌, ap, subst, arith, nat_eq, ne_eqb, eq-eqb, zero, suc}
 use Rattle.std.proofs.Math.Path.{fun_ext}
 use Rattle.std.proofs.lemmas.Bool.Decides.{nat_tests}
+use Rattle.std.proofs.lemmas.Bool.{lt-ltb, eqb-false, eqb-true}
 use Rattle.tree_definitions.specs.declared.node.Node.{Node}
 use Rattle.tree_definitions.specs.declared.node.Node.TheVariants.{Dir, File, Link}
 use Rattle.frang_base.specs.Functions.{put}
-use Rattle.frang_base.proofs.Basics.{eq_of, ne_of, of_lt, at_put, put_other}
+use Rattle.frang_base.proofs.Basics.{at_put, put_other}
 use Rattle.disk_definitions.specs.Store.{Store, Use}
 use Rattle.disk_definitions.specs.Naming.{Naming, Nodes, Pictures, kind_of, blocks_of, has_large, first_blocks, inode_of}
 use Rattle.disk_definitions.specs.Edits.{edited, edited_all}
@@ -82,16 +83,16 @@ module _ (s : Store) (at : Nodes) (n : Naming) (g : Pictures s at n) (b : ℕ) (
   inside j l = rw is l
 
   use_case : (k : ℕ) (o : Option (ℕ × ℕ)) → n.owner k ≡ o → mid.use_of k ≡ (if is_owned_by b o then u else s.use_of k)
-  use_case k None e = uses_other small u m s k (λ j l i. let z : n.owner k ≡ Some (b, j) = ap n.owner (sym i) ∙ ap n.owner (rw (of_lt j m l) refl) ∙ g.owned b j (inside j l) in cc)
+  use_case k None e = uses_other small u m s k (λ j l i. let z : n.owner k ≡ Some (b, j) = ap n.owner (sym i) ∙ ap n.owner (rw (lt-ltb j m l) refl) ∙ g.owned b j (inside j l) in cc)
   use_case k (Some o) e = by_owner (nat_eq o.0 b) refl
     where
       by_owner : (c : Bool) → nat_eq o.0 b ≡ c → mid.use_of k ≡ (if c then u else s.use_of k)
       by_owner true i =
           let w = g.owners k o.0 o.1 e in
-          let l : o.1 < m = subst (λ z. o.1 < blocks_of z) is (subst (λ z. o.1 < blocks_of (at z)) (eq_of o.0 b i) w.1) in
-          uses_hit small u m s k o.1 l (rw (of_lt o.1 m l) (subst (λ z. n.block z o.1 ≡ k) (eq_of o.0 b i) w.0))
-      by_owner false i = uses_other small u m s k (λ j l q. ne_of o.0 b i
-          (let y : ℕ × ℕ = (b, j) in let z : Some o ≡ Some y = sym e ∙ ap n.owner (sym q) ∙ ap n.owner (rw (of_lt j m l) refl) ∙ g.owned b j (inside j l) in let v : o ≡ y = cc in ap (λ a. a.0) v))
+          let l : o.1 < m = subst (λ z. o.1 < blocks_of z) is (subst (λ z. o.1 < blocks_of (at z)) (eqb-true o.0 b i) w.1) in
+          uses_hit small u m s k o.1 l (rw (lt-ltb o.1 m l) (subst (λ z. n.block z o.1 ≡ k) (eqb-true o.0 b i) w.0))
+      by_owner false i = uses_other small u m s k (λ j l q. eqb-false o.0 b i
+          (let y : ℕ × ℕ = (b, j) in let z : Some o ≡ Some y = sym e ∙ ap n.owner (sym q) ∙ ap n.owner (rw (lt-ltb j m l) refl) ∙ g.owned b j (inside j l) in let v : o ≡ y = cc in ap (λ a. a.0) v))
 
   -- the large block's bit, and that nothing else changes with it
   owned_large : has_large (Some x) ≡ true → n.large_owner (n.large b) ≡ Some b
@@ -103,7 +104,7 @@ module _ (s : Store) (at : Nodes) (n : Naming) (g : Pictures s at n) (b : ℕ) (
     where
       by_owner : (v : Bool) → nat_eq c b ≡ v → v ≡ false
       by_owner false q = refl
-      by_owner true q = absurd (let w : has_large (at b) ≡ true = subst (λ c. has_large (at c) ≡ true) (eq_of c b q) (g.large_owners k c i).1 in let z : has_large (at b) ≡ false = ap has_large is ∙ e in cc)
+      by_owner true q = absurd (let w : has_large (at b) ≡ true = subst (λ c. has_large (at c) ≡ true) (eqb-true c b q) (g.large_owners k c i).1 in let z : has_large (at b) ≡ false = ap has_large is ∙ e in cc)
 
   abbrev gone : ℕ → Bool
   gone k = if is_of b (n.large_owner k) then false else s.large_bit k

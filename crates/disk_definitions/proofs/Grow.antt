@@ -1,7 +1,8 @@
 -- A directory gets a block.
-use Rattle.std.proofs.Common.{⊎_elim, ◌⊎◌, ◌↔◌, ◌-◌, ℕ, ◌+◌, ◌*◌, ◌/◌, ◌%◌, ◌<◌, ◌≤◌, ◌≡◌, ◌≢◌, true, false, List, Some, None, refl, sym, ◌∙◌, ap, subst, arith, is_some, [], ◌∷◌, length}
+use Rattle.std.proofs.Common.{⊎_elim, ◌⊎◌, ◌↔◌, ◌-◌, ℕ, ◌+◌, ◌*◌, ◌/◌, ◌%◌, ◌<◌, ◌≡◌, ◌≢◌, true, false, List, Some, None, refl, sym, ◌∙◌, ap, subst, arith, is_some, [], ◌∷◌, length}
 use Rattle.std.proofs.Math.Path.{fun_ext}
 use Rattle.std.proofs.lemmas.Bool.Decides.{nat_tests}
+use Rattle.std.proofs.lemmas.Bool.{cases_lt}
 use Rattle.tree_definitions.specs.declared.node.Node.TheVariants.{Dir}
 use Rattle.tree_definitions.specs.Entries.{Entries}
 use Rattle.frang_base.specs.Functions.{put}
@@ -69,10 +70,7 @@ module _ (s : Store) (at : Nodes) (n : Naming) (g : Pictures s at n) (d blocks k
       let o : 56 * blocks + (p - 56 * blocks) ≡ p = omega arith in
       let y : dir_place t m d p ≡ None = subst (λ v. dir_place t m d v ≡ None) o z in
       let x : None ≡ Some e = sym y ∙ h in cc))
-      (below_or p (56 * blocks)))
-    where
-      below_or : (p r : ℕ) → (p < r) ⊎ (r ≤ p)
-      below_or p r = grind arith
+      (cases_lt p (56 * blocks)))
 
   pub grown_pictured : Pictures t to m
   grown_pictured = record {

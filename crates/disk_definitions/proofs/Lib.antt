@@ -39,6 +39,7 @@ pub mod Puts
 pub mod Names
 pub mod Kept
 pub mod Rooms
+pub mod NodeLaws
 pub mod Free
 pub mod NewNode
 pub mod Entry

@@ -51,7 +51,7 @@ file = Some (record { kind = 1; links = 1; size = 0; birth = 0; blocks = 0; smal
 abbrev link : List ℕ → Option StoredNode
 link target = Some (record { kind = 3; links = 1; size = 1; birth = 0; blocks = 0; small = λ j. 0; large = 0; when = 0; target = target })
 
-abbrev listed : {X : Type 0} → List (Option X) → ℕ → Option X
+abbrev pub listed : {X : Type 0} → List (Option X) → ℕ → Option X
 listed [] i = None
 listed (one ∷ ones) zero = one
 listed (one ∷ ones) (suc i) = listed ones i

@@ -7,6 +7,7 @@ use Rattle.std.specs.List.{All, Contains}
 use Rattle.std.specs.List.Sorted.{IsStrictlyIncreasing}
 use Rattle.std.specs.Option.{option_map, option_and_then}
 use Rattle.frang_base.specs.declared.bitmap.Bitmap.{Bitmap}
+use Rattle.frang_base.proofs.Tests.{is_some-option_map}
 use Rattle.disk_definitions.specs.Bitmaps.{block_state}
 use Rattle.disk_definitions.proofs.Chosen.{chosen_same, chosen_other}
 use Rattle.disk_definitions.specs.Least.{count}
@@ -135,10 +136,6 @@ one_less states b e =
     (ap (is_in_state 0) (chosen_same b b (Some 1) (states b) refl))
     (λ q l d. ap (is_in_state 0) (chosen_other q b (Some 1) (states q) d))
 
-is_some_map : {X Y : Type 0} (f : X → Y) (o : Option X) → is_some (option_map f o) ≡ is_some o
-is_some_map f None = refl
-is_some_map f (Some x) = refl
-
 one_more_each : (n m : ℕ) → nat_le (suc n) (m + 1) ≡ nat_le n m
 one_more_each n m = grind (arith, nat_tests)
 
@@ -157,7 +154,7 @@ enough (suc n) states = go (λ b. enough n (with_state_at states b 1)) (least_in
         let none : free states ≡ 0 = count_none (λ b. is_in_state 0 (states b)) 65536 (least_nothing (λ b. is_in_state 0 (states b)) 65536 e) in
         ap is_some (more_missing states n e) ∙ sym (too_few (free states) none)
     go rest (Some b) e =
-        ap is_some (more_found states n b e) ∙ is_some_map (λ bs. b ∷ bs) (picks (with_state_at states b 1) n) ∙ rest b
+        ap is_some (more_found states n b e) ∙ is_some-option_map (λ bs. b ∷ bs) (picks (with_state_at states b 1) n) ∙ rest b
         ∙ sym (one_more_each n (free (with_state_at states b 1))) ∙ ap (nat_le (suc n)) (sym (one_less states b e))
 
 pub where_there_are_enough : PicksWhereThereAreEnough

@@ -6,6 +6,7 @@ use Rattle.tree_definitions.specs.declared.node.Node.{Node}
 use Rattle.tree_definitions.specs.declared.node.Node.TheVariants.{Dir, File, Link}
 use Rattle.frang_base.specs.Functions.{put}
 use Rattle.frang_base.proofs.Basics.{at_put, put_same, put_other}
+use Rattle.frang_base.proofs.Tests.{none_of}
 use Rattle.tree_laws.specs.WellFormed.{put as put_node}
 use Rattle.disk_definitions.specs.Store.{Store}
 use Rattle.disk_definitions.specs.Naming.{Naming, Nodes, Pictures, kind_of, blocks_of, has_large, find_in, room_in, cell_in, first_blocks, inode_of, inode_by, inode_for}
@@ -13,7 +14,6 @@ use Rattle.disk_definitions.specs.Edits.{edited_all}
 use Rattle.disk_definitions.specs.Changes.{new_node}
 use Rattle.disk_definitions.specs.Namings.{named_new, KeepsOthers}
 use Rattle.disk_definitions.specs.ChangeLaws.{IsBare, MayCome, NodesCome}
-use Rattle.disk_definitions.proofs.Free.{none_of}
 use Rattle.disk_definitions.proofs.Kept.{both, same_inode, same_use}
 
 -- what there is of a bare node

@@ -38,7 +38,7 @@ records_among-drop (suc k) [] = refl
 records_among-drop zero (x ∷ xs) = refl
 records_among-drop (suc k) (x ∷ xs) = records_among-drop k xs ∙ sym (dropped (records_at (x ∷ xs)) (records_among xs) (begun xs k))
 
-plus_more : (a m n : ℕ) → m ≤ n → a + m ≤ a + n
+pub plus_more : (a m n : ℕ) → m ≤ n → a + m ≤ a + n
 plus_more a m n h = omega arith
 
 pub begun_more : (xs : List LogSector) (j k : ℕ) → j ≤ k → begun xs j ≤ begun xs k

@@ -2,9 +2,10 @@
 use Rattle.std.proofs.Common.{◌≡◌, ◌↔◌, ℕ, ◌+◌, ◌-◌, ◌*◌, ◌/◌, ◌%◌, ◌<◌, ◌≤◌, Bool, true, false, ◌&&◌, ◌==◌, if◌then◌else◌, nat_le, nat_lt, Option, Some, None, refl, sym, ap, ◌∙◌, subst, arith}
 use Rattle.std.proofs.lemmas.Nat.{div-add-mod', div-mul-add, mod-mul-add}
 use Rattle.std.proofs.lemmas.Bool.Decides.{nat_tests}
+use Rattle.std.proofs.lemmas.Bool.{ltb-true, ne_eqb, lt-ltb, le-leb, leb-true, eqb-true}
 use Rattle.frang_base.specs.declared.lock.LockId.{LockId}
 use Rattle.frang_base.specs.declared.lock.LockId.TheVariants as lock
-use Rattle.frang_base.proofs.Basics.{by_test, by_some, eq_of, le_of, of_ne, of_lt, of_le}
+use Rattle.frang_base.proofs.Basics.{by_test, by_some}
 use Rattle.disk_definitions.specs.declared.region.Region.{Region}
 use Rattle.disk_definitions.specs.declared.region.Region.TheVariants as region
 use Rattle.disk_definitions.specs.Regions.{logs_from, bitmaps_from, inodes_from, small_blocks_from, large_blocks_from, log_stride, large_stride, sector_of, log_at, large_at, is_among, region_of, is_in_range, free_cover}
@@ -16,17 +17,11 @@ past b x y z e h = ap (λ (t : Bool). if t then x else y) e ∙ h
 here : (b : Bool) (x y z : Option Region) → b ≡ true → x ≡ z → (if b then x else y) ≡ z
 here b x y z e h = ap (λ (t : Bool). if t then x else y) e ∙ h
 
-below : (first count s : ℕ) → s < first → is_among first count s ≡ false
-below first count s h = grind (arith, nat_tests)
-
 beyond : (first count s : ℕ) → first + count ≤ s → is_among first count s ≡ false
 beyond first count s h = grind (arith, nat_tests)
 
 among : (first count s : ℕ) → first ≤ s → s < first + count → is_among first count s ≡ true
 among first count s h g = grind (arith, nat_tests)
-
-is_below : (a b : ℕ) → nat_lt a b ≡ true → a < b
-is_below a b h = grind (arith, nat_tests)
 
 within : (first count s : ℕ) → is_among first count s ≡ true → (first ≤ s) × (s < first + count)
 within first count s h = grind (arith, nat_tests)
@@ -55,21 +50,21 @@ found_log segments server slot h g =
     let s = logs_from + server * log_stride + slot in
     let n : s - logs_from ≡ server * log_stride + slot = omega arith in
     let p = parts_of server slot log_stride (s - logs_from) (omega arith) n in
-    past (s == 0) _ _ _ (of_ne s 0 (λ e. absurd (omega arith)))
+    past (s == 0) _ _ _ (ne_eqb s 0 (λ e. absurd (omega arith)))
     (here (is_among logs_from (256 * log_stride) s) _ _ _ (among logs_from (256 * log_stride) s (omega arith) (omega arith))
     (found_at region.Log server slot 256 256 (s - logs_from) log_stride p.0 p.1 h g))
 
 found_segment : (segments k : ℕ) → segments ≤ 64 → k < segments → region_of segments (sector_of (region.Segment k)) ≡ Some (region.Segment k)
 found_segment segments k h g =
     let s = bitmaps_from + k in
-    past (s == 0) _ _ _ (of_ne s 0 (λ e. absurd (omega arith)))
+    past (s == 0) _ _ _ (ne_eqb s 0 (λ e. absurd (omega arith)))
     (past (is_among logs_from (256 * log_stride) s) _ _ _ (beyond logs_from (256 * log_stride) s (omega arith))
     (here (is_among bitmaps_from segments s) _ _ _ (among bitmaps_from segments s (omega arith) (omega arith)) (ap (λ (n : ℕ). Some (region.Segment n)) (omega arith))))
 
 found_inode : (segments i : ℕ) → segments ≤ 64 → i < 64 * segments → region_of segments (sector_of (region.Inode i)) ≡ Some (region.Inode i)
 found_inode segments i h g =
     let s = inodes_from + i in
-    past (s == 0) _ _ _ (of_ne s 0 (λ e. absurd (omega arith)))
+    past (s == 0) _ _ _ (ne_eqb s 0 (λ e. absurd (omega arith)))
     (past (is_among logs_from (256 * log_stride) s) _ _ _ (beyond logs_from (256 * log_stride) s (omega arith))
     (past (is_among bitmaps_from segments s) _ _ _ (beyond bitmaps_from segments s (omega arith))
     (here (is_among inodes_from (64 * segments) s) _ _ _ (among inodes_from (64 * segments) s (omega arith) (omega arith)) (ap (λ (n : ℕ). Some (region.Inode n)) (omega arith)))))
@@ -79,7 +74,7 @@ found_small segments block part h g l =
     let s = small_blocks_from + block * 8 + part in
     let n : s - small_blocks_from ≡ block * 8 + part = omega arith in
     let p = parts_of block part 8 (s - small_blocks_from) l n in
-    past (s == 0) _ _ _ (of_ne s 0 (λ e. absurd (omega arith)))
+    past (s == 0) _ _ _ (ne_eqb s 0 (λ e. absurd (omega arith)))
     (past (is_among logs_from (256 * log_stride) s) _ _ _ (beyond logs_from (256 * log_stride) s (omega arith))
     (past (is_among bitmaps_from segments s) _ _ _ (beyond bitmaps_from segments s (omega arith))
     (past (is_among inodes_from (64 * segments) s) _ _ _ (beyond inodes_from (64 * segments) s (omega arith))
@@ -91,20 +86,20 @@ found_large segments block part h g l =
     let s = large_blocks_from + block * large_stride + part in
     let n : s - large_blocks_from ≡ block * large_stride + part = omega arith in
     let p = parts_of block part large_stride (s - large_blocks_from) (omega arith) n in
-    past (s == 0) _ _ _ (of_ne s 0 (λ e. absurd (omega arith)))
+    past (s == 0) _ _ _ (ne_eqb s 0 (λ e. absurd (omega arith)))
     (past (is_among logs_from (256 * log_stride) s) _ _ _ (beyond logs_from (256 * log_stride) s (omega arith))
     (past (is_among bitmaps_from segments s) _ _ _ (beyond bitmaps_from segments s (omega arith))
     (past (is_among inodes_from (64 * segments) s) _ _ _ (beyond inodes_from (64 * segments) s (omega arith))
     (past (is_among small_blocks_from (8192 * segments) s) _ _ _ (beyond small_blocks_from (8192 * segments) s (omega arith))
-    (here (nat_le large_blocks_from s) _ _ _ (of_le large_blocks_from s (omega arith))
+    (here (nat_le large_blocks_from s) _ _ _ (le-leb large_blocks_from s (omega arith))
     (found_at region.Large block part segments 2048 (s - large_blocks_from) large_stride p.0 p.1 g l))))))
 
 -- a place in range is found at its sector
 pub region_found : (segments : ℕ) (r : Region) → segments ≤ 64 → is_in_range segments r ≡ true → region_of segments (sector_of r) ≡ Some r
 region_found segments region.Param h g = refl
 region_found segments (region.Log server slot) h g = let p = pair_is_below server slot 256 256 g in found_log segments server slot p.0 p.1
-region_found segments (region.Segment k) h g = found_segment segments k h (is_below k segments g)
-region_found segments (region.Inode i) h g = found_inode segments i h (is_below i (64 * segments) g)
+region_found segments (region.Segment k) h g = found_segment segments k h (ltb-true k segments g)
+region_found segments (region.Inode i) h g = found_inode segments i h (ltb-true i (64 * segments) g)
 region_found segments (region.Small block part) h g = let p = pair_is_below block part (1024 * segments) 8 g in found_small segments block part h p.0 p.1
 region_found segments (region.Large block part) h g = let p = pair_is_below block part segments 2048 g in found_large segments block part h p.0 p.1
 
@@ -145,14 +140,14 @@ small_leads segments s r t =
 -- what is found at a sector is its place
 pub region_read : (segments s : ℕ) (r : Region) → region_of segments s ≡ Some r → IsPlaceOf segments s r
 region_read segments s r =
-    by_test (Leads segments s r) _ _ (s == 0) (λ t. leads segments s r region.Param (sym (eq_of s 0 t), refl)) (λ t0.
+    by_test (Leads segments s r) _ _ (s == 0) (λ t. leads segments s r region.Param (sym (eqb-true s 0 t), refl)) (λ t0.
     by_test (Leads segments s r) _ _ (is_among logs_from (256 * log_stride) s) (λ t. log_leads segments s r (within logs_from (256 * log_stride) s t).0) (λ t1.
     by_test (Leads segments s r) _ _ (is_among bitmaps_from segments s)
-    (λ t. let w = within bitmaps_from segments s t in leads segments s r (region.Segment (s - bitmaps_from)) (omega arith, of_lt (s - bitmaps_from) segments (omega arith))) (λ t2.
+    (λ t. let w = within bitmaps_from segments s t in leads segments s r (region.Segment (s - bitmaps_from)) (omega arith, lt-ltb (s - bitmaps_from) segments (omega arith))) (λ t2.
     by_test (Leads segments s r) _ _ (is_among inodes_from (64 * segments) s)
-    (λ t. let w = within inodes_from (64 * segments) s t in leads segments s r (region.Inode (s - inodes_from)) (omega arith, of_lt (s - inodes_from) (64 * segments) (omega arith))) (λ t3.
+    (λ t. let w = within inodes_from (64 * segments) s t in leads segments s r (region.Inode (s - inodes_from)) (omega arith, lt-ltb (s - inodes_from) (64 * segments) (omega arith))) (λ t3.
     by_test (Leads segments s r) _ _ (is_among small_blocks_from (8192 * segments) s) (small_leads segments s r) (λ t4.
-    by_test (Leads segments s r) _ _ (nat_le large_blocks_from s) (λ t. large_leads segments s r (le_of large_blocks_from s t)) (λ t5. nowhere segments s r))))))
+    by_test (Leads segments s r) _ _ (nat_le large_blocks_from s) (λ t. large_leads segments s r (leb-true large_blocks_from s t)) (λ t5. nowhere segments s r))))))
 
 -- no two places in range have one sector
 pub region_once : (segments : ℕ) (q r : Region) → segments ≤ 64 → is_in_range segments q ≡ true → is_in_range segments r ≡ true → sector_of q ≡ sector_of r → q ≡ r
@@ -162,8 +157,8 @@ region_once segments q r h g k e = let same : Some q ≡ Some r = sym (region_fo
 pub cover_within : (segments : ℕ) (r : Region) (l : LockId) → is_in_range segments r ≡ true → free_cover r ≡ Some l → (k : ℕ) × (l ≡ lock.Segment k) × (k < segments)
 cover_within segments region.Param l h e = absurd cc
 cover_within segments (region.Log server slot) l h e = absurd cc
-cover_within segments (region.Segment k) l h e = (k, cc, is_below k segments h)
-cover_within segments (region.Inode i) l h e = let g = is_below i (64 * segments) h in (i / 64, cc, omega arith)
+cover_within segments (region.Segment k) l h e = (k, cc, ltb-true k segments h)
+cover_within segments (region.Inode i) l h e = let g = ltb-true i (64 * segments) h in (i / 64, cc, omega arith)
 cover_within segments (region.Small block part) l h e = let g = (pair_is_below block part (1024 * segments) 8 h).0 in (block / 1024, cc, omega arith)
 cover_within segments (region.Large block part) l h e = (block, cc, (pair_is_below block part segments 2048 h).0)
 

@@ -1,9 +1,10 @@
 -- A place of a directory gets another entry.
 use Rattle.std.proofs.Common.{ℕ, ◌*◌, ◌/◌, ◌%◌, ◌<◌, ◌≡◌, ◌≢◌, true, false, List, Option, Some, None, refl, sym, ◌∙◌, ap, subst, arith, is_some, [], ◌∷◌}
 use Rattle.std.proofs.lemmas.Bool.Decides.{nat_tests}
+use Rattle.std.proofs.lemmas.Bool.{lt-ltb}
 use Rattle.tree_definitions.specs.declared.node.Node.TheVariants.{Dir}
 use Rattle.tree_definitions.specs.Entries.{Entries, entry_at}
-use Rattle.frang_base.proofs.Basics.{of_lt, at_put, put_same, put_other}
+use Rattle.frang_base.proofs.Basics.{at_put, put_same, put_other}
 use Rattle.tree_laws.specs.WellFormed.{put as put_node}
 use Rattle.tree_laws.proofs.Nodes.{each_but}
 use Rattle.disk_definitions.specs.Store.{Store, StoredEntry}
@@ -22,7 +23,7 @@ use Rattle.disk_definitions.proofs.Rooms.{which_block, other_place, dir_use}
 use Rattle.disk_definitions.proofs.Entry.{stored_is}
 
 replace_is : (stamp large blocks q : ℕ) (block : ℕ → ℕ) (e : StoredEntry) (entries : Entries) → q < 56 * blocks → replace_entry (inode_of stamp block large (Dir entries blocks)) q e ≡ SetPlace (block (q / 56)) (q % 56) (Some e) ∷ []
-replace_is stamp large blocks q block e entries l = rw (of_lt (q / 56) blocks (which_block q blocks l)) refl
+replace_is stamp large blocks q block e entries l = rw (lt-ltb (q / 56) blocks (which_block q blocks l)) refl
 
 module _ (s : Store) (at : Nodes) (n : Naming) (g : Pictures s at n) (d a b blocks : ℕ) (name new_name : List ℕ) (old new : Entries) (is : at d ≡ Some (Dir old blocks))
     (had : entry_at old name ≡ Some a) (instead : HasNameInstead old new name new_name b) where

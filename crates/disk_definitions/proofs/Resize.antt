@@ -1,10 +1,11 @@
 -- A file gets other cells, with other blocks where it is longer or shorter.
 use Rattle.std.proofs.Common.{◌≤◌, ◌↔◌, ℕ, ◌-◌, ◌*◌, ◌/◌, ◌%◌, ◌<◌, ◌≡◌, ◌≢◌, Bool, true, false, List, Option, Some, None, length, is_some, nat_eq, nat_lt, if◌then◌else◌, refl, sym, ◌∙◌, ap, subst, arith, eq-eqb, ne_eqb}
 use Rattle.std.proofs.lemmas.Bool.Decides.{nat_tests}
+use Rattle.std.proofs.lemmas.Bool.{eqb-false}
 use Rattle.tree_definitions.specs.declared.cells.Cell.{Cell}
 use Rattle.tree_definitions.specs.declared.node.Node.TheVariants.{File}
 use Rattle.tree_definitions.specs.Tree.{small_blocks_of}
-use Rattle.frang_base.proofs.Basics.{by_test, ne_of, at_put, put_same, put_other}
+use Rattle.frang_base.proofs.Basics.{by_test, at_put, put_same, put_other}
 use Rattle.tree_laws.specs.WellFormed.{put as put_node}
 use Rattle.tree_laws.proofs.Nodes.{each_but}
 use Rattle.disk_definitions.specs.Store.{Store, StoredEntry}
@@ -59,7 +60,7 @@ module _ (s t : Store) (at : Nodes) (n : Naming) (g : Pictures s at n) (b links 
   owners_after k c j None (Some o) p q e = by_test (λ v. v ≡ Some (c, j) → (m.block c j ≡ k) × (j < blocks_of (to c))) None (Some o) (nat_eq o.0 b)
       (λ u h. absurd (let y : ℕ × ℕ = (c, j) in let z : None ≡ Some y = h in cc))
       (λ u h. let y : ℕ × ℕ = (c, j) in let z : Some o ≡ Some y = h in let w : o ≡ y = cc in
-      let f : c ≢ b = λ i. ne_of o.0 b u (ap (λ v. v.0) w ∙ i) in
+      let f : c ≢ b = λ i. eqb-false o.0 b u (ap (λ v. v.0) w ∙ i) in
       rw (put_other at b (Some (File new links when)) c f, put_other n.block b block c f) (g.owners k c j (q ∙ h))) e
 
   uses_after : (k : ℕ) (i : Option ℕ) (o : Option (ℕ × ℕ)) → n.owner k ≡ o →
@@ -70,7 +71,7 @@ module _ (s t : Store) (at : Nodes) (n : Naming) (g : Pictures s at n) (b links 
     where
       split : (v : Bool) → nat_eq o.0 b ≡ v → (if v then Fresh else s.use_of k) ≡ use_for (if v then false else n.was k) to (if v then None else Some o)
       split true i = refl
-      split false i = g.uses k ∙ ap (use_for (n.was k) at) e ∙ ap use_by (sym (put_other at b (Some (File new links when)) o.0 (ne_of o.0 b i)))
+      split false i = g.uses k ∙ ap (use_for (n.was k) at) e ∙ ap use_by (sym (put_other at b (Some (File new links when)) o.0 (eqb-false o.0 b i)))
 
   was_empty : (k : ℕ) (i o : Bool) → (if i then Bytes else (if o then Fresh else s.use_of k)) ≡ Empty → s.use_of k ≡ Empty
   was_empty k true o e = absurd (cc)
@@ -109,7 +110,7 @@ module _ (s t : Store) (at : Nodes) (n : Naming) (g : Pictures s at n) (b links 
   large_owners_after k c false None p q e = absurd (cc)
   large_owners_after k c false (Some o) p q e = by_test (λ v. v ≡ Some c → (m.large c ≡ k) × (has_large (to c) ≡ true)) None (Some o) (nat_eq o b)
       (λ u h. absurd (cc))
-      (λ u h. let w : o ≡ c = cc in let f : c ≢ b = λ i. ne_of o b u (w ∙ i) in
+      (λ u h. let w : o ≡ c = cc in let f : c ≢ b = λ i. eqb-false o b u (w ∙ i) in
       rw (put_other at b (Some (File new links when)) c f, put_other n.large b large c f) (g.large_owners k c (q ∙ h))) e
 
   large_bits_after : (k : ℕ) (v : Bool) (o : Option ℕ) → n.large_owner k ≡ o → (if v then true else (if is_of b o then false else s.large_bit k)) ≡ is_some (if v then Some b else (if is_of b o then None else o))

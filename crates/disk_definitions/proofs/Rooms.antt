@@ -1,6 +1,7 @@
 -- The places of directories, after one of them is changed.
 use Rattle.std.proofs.Common.{ℕ, ◌+◌, ◌*◌, ◌/◌, ◌%◌, ◌<◌, ◌≤◌, ◌≡◌, Option, Some, None, refl, sym, ◌∙◌, ap, arith}
 use Rattle.std.proofs.Math.Nat.{div-add-mod}
+use Rattle.std.proofs.lemmas.Option.{same_Some}
 use Rattle.tree_definitions.specs.declared.node.Node.{Node}
 use Rattle.tree_definitions.specs.declared.node.Node.TheVariants.{Dir, File, Link}
 use Rattle.frang_base.specs.Functions.{put2}
@@ -24,16 +25,13 @@ block_room x q l = let a : q / 56 < room_in x = which_block q (room_in x) l in l
 pub same_place : (q p : ℕ) → q / 56 ≡ p / 56 → q % 56 ≡ p % 56 → q ≡ p
 same_place q p a b = let e : 56 * (q / 56) + q % 56 ≡ q = div-add-mod q 56 in let f : 56 * (p / 56) + p % 56 ≡ p = div-add-mod p 56 in omega arith
 
-pub some_pair : (x y : ℕ × ℕ) → Some x ≡ Some y → x ≡ y
-some_pair x y e = cc
-
 -- no two directories share a place
 pub other_place : (s : Store) (at : Nodes) (n : Naming) → Pictures s at n → (v : Option StoredEntry) (d q c p : ℕ) → q < 56 * room_in (at d) → p < 56 * room_in (at c) → (c ≡ d → p ≡ q → ⊥) →
     put2 s.place (n.block d (q / 56)) (q % 56) v (n.block c (p / 56)) (p % 56) ≡ dir_place s n c p
 other_place s at n g v d q c p lq lp apart = put2_other s.place (n.block d (q / 56)) (q % 56) v (n.block c (p / 56)) (p % 56)
     (λ e f. let a : n.owner (n.block d (q / 56)) ≡ Some (d, q / 56) = g.owned d (q / 56) (block_room (at d) q lq) in
     let b : n.owner (n.block c (p / 56)) ≡ Some (c, p / 56) = g.owned c (p / 56) (block_room (at c) p lp) in
-    let x : ℕ × ℕ = (c, p / 56) in let y : ℕ × ℕ = (d, q / 56) in let r : x ≡ y = some_pair x y (sym b ∙ ap n.owner e ∙ a) in
+    let x : ℕ × ℕ = (c, p / 56) in let y : ℕ × ℕ = (d, q / 56) in let r : x ≡ y = same_Some x y (sym b ∙ ap n.owner e ∙ a) in
     apart (ap (λ z. z.0) r) (same_place p q (ap (λ z. z.1) r) f))
 
 use_dir : (x : Option Node) (q : ℕ) → q < 56 * room_in x → use_by x ≡ Entries

@@ -1,6 +1,7 @@
 -- One number more among those that are flagged.
 use Rattle.std.proofs.Common.{◌==◌, ◌≡◌, ℕ, zero, suc, ◌+◌, ◌<◌, ⊎_elim, Bool, true, false, not, ◌&&◌, ◌||◌, Option, Some, None, List, [], ◌∷◌, ◌++◌, take, length, replicate, get_or, refl, sym, ◌∙◌, ap, subst, arith, eq-eqb, ne_eqb, length-set, get_or-set_same, get_or-set_other}
 use Rattle.std.proofs.lemmas.Bool.{cases_eq, and_from, or_right, not_from_false, not_from_true, both_ways}
+use mathlib.Core.Bool.{or-false}
 use Rattle.standing_laws.specs.Below.{all_below, holds, lists, is_new, are_distinct}
 use Rattle.standing_laws.proofs.Bounded.{all_more, any_more, all_at}
 use Rattle.disk_reading.specs.Marks.{flag_at, has_flag, flagged, AreFlags, IsBelow}
@@ -15,11 +16,7 @@ length_flagged flags None = refl
 length_flagged flags (Some k) = length-set flags k true
 
 one_flag : (f : ℕ → Option ℕ) (n : ℕ) (flags : List Bool) (a : AreFlags f n flags) (o : Option ℕ) → IsBelow (length flags) o → (k : ℕ) → k < length flags → flag_at (flagged flags o) k ≡ (lists f n k || holds o k)
-one_flag f n flags a None b k l = a.each k l ∙ plain (lists f n k)
-  where
-    plain : (x : Bool) → x ≡ (x || false)
-    plain true = refl
-    plain false = refl
+one_flag f n flags a None b k l = a.each k l ∙ sym (or-false (lists f n k))
 one_flag f n flags a (Some j) b k l = ⊎_elim
     (λ e. subst (λ j. flag_at (flagged flags (Some j)) k ≡ (lists f n k || holds (Some j) k)) e (get_or-set_same flags k true false l ∙ sym (or_right (lists f n k) (k == k) (eq-eqb k k refl))))
     (λ ne. get_or-set_other flags j k true false ne ∙ a.each k l ∙ plain (lists f n k) (j == k) (ne_eqb j k (λ e. ne (sym e)))) (cases_eq k j)

@@ -3,7 +3,7 @@ use Rattle.std.proofs.Common.{◌≡◌, ℕ, ◌+◌, ◌<◌, ⊎_elim, List, 
 use Rattle.std.specs.Prelude.{slice_index_or}
 use Rattle.std.proofs.Math.Seq.{get_or-append_seam}
 use Rattle.std.proofs.lemmas.List.{get_or_append_left}
-use Rattle.frang_base.proofs.Basics.{or_equal}
+use Rattle.std.proofs.lemmas.Bool.{cases_eq}
 
 pub one_more : {X : Type 0} (n : ℕ) (items : List X) (x d : X) (f : ℕ → X) → length items ≡ n → ((k : ℕ) → k < n → slice_index_or items k d ≡ f k) → x ≡ f n
     → (k : ℕ) → k < n + 1 → slice_index_or (items ++ x ∷ []) k d ≡ f k
@@ -12,4 +12,4 @@ one_more n items x d f e kept own k l =
     ⊎_elim
     (λ same. subst (λ j. slice_index_or (items ++ x ∷ []) j d ≡ f j) (sym same) there)
     (λ other. let less : k < n = omega arith in get_or_append_left items (x ∷ []) d k (subst (λ m. k < m) (sym e) less) ∙ kept k less)
-    (or_equal k n)
+    (cases_eq k n)

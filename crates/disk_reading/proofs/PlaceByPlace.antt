@@ -3,6 +3,7 @@ use Rattle.std.proofs.Common.{◌==◌, ◌≡◌, ◌≢◌, ℕ, suc, ◌+◌,
 use Rattle.std.specs.Ordering.{nat_cmp}
 use Rattle.std.specs.Cmp.Lexicographic.{slice_cmp}
 use Rattle.std.proofs.lemmas.Bool.{and_parts, and_from, and_left, and_right, or_cases, not-true, cond-true, cond-false, both_ways, false_from_ne_true}
+use Rattle.frang_base.proofs.Tests.{none_of}
 use Rattle.disk_definitions.specs.declared.inode.Inode.{Inode}
 use Rattle.disk_definitions.specs.Inodes.{is_free_inode, is_file_inode, is_directory_inode, is_link_inode, inode_fits}
 use Rattle.tree_definitions.specs.declared.cells.Cell.{Cell}
@@ -23,12 +24,8 @@ few_more : (s : Store) (es : Entries) (o : Option StoredEntry) → entry_agrees 
 few_more s es None h = omega arith
 few_more s es (Some e) h =
     let n : is_some (entry_at es e.name) ≡ false = not-true (is_some (entry_at es e.name)) (and_parts (not (is_some (entry_at es e.name))) (has_kind (s.inode e.inode) e.kind) h).0 in
-    let l : length (with_place es (Some e)) ≡ length es + 1 = length_put (slice_cmp nat_cmp) name_exact es e.name e.inode (none (entry_at es e.name) n) in
+    let l : length (with_place es (Some e)) ≡ length es + 1 = length_put (slice_cmp nat_cmp) name_exact es e.name e.inode (none_of (entry_at es e.name) n) in
     omega arith
-  where
-    none : (o : Option ℕ) → is_some o ≡ false → o ≡ None
-    none None h = refl
-    none (Some v) h = absurd (cc)
 
 pub record OneMore (s : Store) (place : ℕ → Option StoredEntry) (n : ℕ) (es : Entries) : Type 0 where
   pub agree : entries_agree s place n ≡ true

@@ -5,7 +5,8 @@ use Rattle.std.specs.List.Sorted.{IsStrictlySortedBy}
 use Rattle.std.specs.Map.{keys_of, lookup}
 use Rattle.std.specs.Option.{unwrap_or}
 use Rattle.std.specs.Ordering.{nat_cmp}
-use Rattle.frang_base.proofs.Basics.{by_test, or_equal}
+use Rattle.std.proofs.lemmas.Bool.{cases_eq}
+use Rattle.frang_base.proofs.Basics.{by_test}
 use Rattle.tree_laws.proofs.Pairs.{birth_exact, none_below, self, tie}
 use Rattle.sector_bytes.specs.Sectors.{Sectors, SameSectors, sectors_of}
 use Rattle.disk_replay.proofs.SectorsSet.{set_elsewhere, set_there}
@@ -45,7 +46,7 @@ module _ (disk es copy : Blocks) (k : ℕ) (block : List ℕ) (h : IsCopying dis
       (λ same. subst (λ n. over es (sectors_of after) n ≡ over ((k, block) ∷ es) (sectors_of copy) n) (sym same)
       (ap (λ (o : Option (List ℕ)). unwrap_or o (sectors_of after k)) (rest_ascends k block es h.ascending).1 ∙ set_there copy k block ∙ sym (over_there k block es (sectors_of copy))))
       (λ other. ap (unwrap_or (lookup (is_at (nat_cmp sector)) es)) (set_elsewhere copy k block sector other) ∙ sym (first_over k sector block es (sectors_of copy) other))
-      (or_equal sector k)
+      (cases_eq sector k)
 
   pub one_copied : IsCopying disk es (insert_entry nat_cmp copy k block)
   unfolding after

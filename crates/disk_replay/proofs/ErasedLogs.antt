@@ -3,10 +3,10 @@ use Rattle.std.proofs.Common.{◌≡◌, ◌≢◌, ℕ, zero, suc, ◌+◌, ◌
 use Rattle.std.specs.BTreeMap.{insert_entry}
 use Rattle.std.specs.Option.{unwrap_or}
 use Rattle.std.specs.Ordering.{nat_cmp}
-use Rattle.std.proofs.lemmas.Bool.{and_from, and_parts, false≢true}
+use Rattle.std.proofs.lemmas.Bool.{and_from, and_parts, false≢true, cases_eq, lt-ltb}
 use Rattle.std.proofs.lemmas.Nat.{div-mul-add, mod-mul-add}
 use Rattle.frang_base.specs.Functions.{put}
-use Rattle.frang_base.proofs.Basics.{at_put, by_test, of_lt, or_equal, put_other, put_same}
+use Rattle.frang_base.proofs.Basics.{at_put, by_test, put_other, put_same}
 use Rattle.disk_definitions.specs.declared.region.Region.{Region}
 use Rattle.disk_definitions.specs.declared.region.Region.TheVariants as region
 use Rattle.disk_definitions.specs.Regions.{log_stride, logs_from, region_of}
@@ -26,7 +26,7 @@ set_is_put es k block sector =
     ⊎_elim
     (λ same. subst (λ n. after n ≡ put (sectors_of es) k block n) (sym same) (set_there es k block ∙ sym (put_same (sectors_of es) k block)))
     (λ other. set_elsewhere es k block sector other ∙ sym (put_other (sectors_of es) k block sector other))
-    (or_equal sector k)
+    (cases_eq sector k)
 
 unset : (o : Option (List ℕ)) → is_some o ≡ false → unwrap_or o (zeros 512) ≡ zeros 512
 unset None e = refl
@@ -41,7 +41,7 @@ unset_is_put es k e sector = at_put (λ b. sectors_of es sector ≡ b) (sectors_
 logged : (n : ℕ) → n < 65536 → is_logged (slot_sector n) ≡ true
 unfolding is_logged
 logged n h =
-    ap is_log (region_found 64 (region.Log (n / 256) (n % 256)) (omega arith) (and_from (nat_lt (n / 256) 256) (nat_lt (n % 256) 256) (of_lt (n / 256) 256 (omega arith)) (of_lt (n % 256) 256 (omega arith))))
+    ap is_log (region_found 64 (region.Log (n / 256) (n % 256)) (omega arith) (and_from (nat_lt (n / 256) 256) (nat_lt (n % 256) 256) (lt-ltb (n / 256) 256 (omega arith)) (lt-ltb (n % 256) 256 (omega arith))))
 
 -- the number of a slot
 pub record IsSlot (sector n : ℕ) : Type 0 where

@@ -2,11 +2,11 @@
 use Rattle.std.proofs.Common.{◌≡◌, ◌≢◌, ℕ, ◌≤◌, ⊎_elim, Bool, true, false, ◌&&◌, ◌==◌, if◌then◌else◌, List, [], ◌∷◌, ◌++◌, refl, sym, ap, ◌∙◌, subst}
 use Rattle.std.specs.BTreeMap.{insert_entry}
 use Rattle.std.specs.Ordering.{nat_cmp}
-use Rattle.std.proofs.lemmas.Bool.{and_from, and_parts, and_left, false≢true}
+use Rattle.std.proofs.lemmas.Bool.{and_from, and_parts, and_left, false≢true, cases_eq, ne_eqb, eq-eqb, le-ltb, eqb-true}
 use Rattle.std.proofs.lemmas.List.Sums.{fold-append}
 use Rattle.frang_base.specs.declared.change.Change.{Change}
 use Rattle.disk_definitions.specs.Regions.{region_of}
-use Rattle.frang_base.proofs.Basics.{by_test, eq_of, of_eq, of_ge, of_ne, or_equal}
+use Rattle.frang_base.proofs.Basics.{by_test}
 use Rattle.sector_bytes.specs.Changes.{applied, changed, is_older}
 use Rattle.sector_bytes.specs.Blocks.{version_of}
 use Rattle.sector_bytes.specs.Sectors.{Sectors, SameSectors, sectors_of}
@@ -26,11 +26,11 @@ one_laid segments s c sector = refl
 
 there : (segments : ℕ) (c : Change) (block : List ℕ) → is_changed segments c.sector.0 ≡ true → block_by segments c.sector.0 c block ≡ applied block c
 unfolding block_by
-there segments c block e = ap (λ (b : Bool). if b then applied block c else block) (and_from (c.sector.0 == c.sector.0) (is_changed segments c.sector.0) (of_eq c.sector.0 c.sector.0 refl) e)
+there segments c block e = ap (λ (b : Bool). if b then applied block c else block) (and_from (c.sector.0 == c.sector.0) (is_changed segments c.sector.0) (eq-eqb c.sector.0 c.sector.0 refl) e)
 
 elsewhere : (segments sector : ℕ) (c : Change) (block : List ℕ) → sector ≢ c.sector.0 → block_by segments sector c block ≡ block
 unfolding block_by
-elsewhere segments sector c block n = ap (λ (b : Bool). if b then applied block c else block) (and_left (sector == c.sector.0) (is_changed segments sector) (of_ne sector c.sector.0 n))
+elsewhere segments sector c block n = ap (λ (b : Bool). if b then applied block c else block) (and_left (sector == c.sector.0) (is_changed segments sector) (ne_eqb sector c.sector.0 n))
 
 -- a sector that a replay doesn't change
 pub none_laid : (segments : ℕ) (s : Sectors) (c : Change) → is_changed segments c.sector.0 ≡ false → SameSectors s (with_changes segments s (c ∷ []))
@@ -39,7 +39,7 @@ none_laid segments s c e sector =
     sym (one_laid segments s c sector
     ∙ by_test (λ (b : List ℕ). b ≡ s sector) (applied (s sector) c) (s sector) (sector == c.sector.0 && is_changed segments sector)
     (λ t. let both = and_parts (sector == c.sector.0) (is_changed segments sector) t in
-    absurd (false≢true (sym e ∙ ap (is_changed segments) (sym (eq_of sector c.sector.0 both.0)) ∙ both.1)))
+    absurd (false≢true (sym e ∙ ap (is_changed segments) (sym (eqb-true sector c.sector.0 both.0)) ∙ both.1)))
     (λ t. refl))
 
 -- a sector that is as new
@@ -48,8 +48,8 @@ unfolding block_by
 none_newer segments s c h sector =
     sym (one_laid segments s c sector
     ∙ by_test (λ (b : List ℕ). b ≡ s sector) (applied (s sector) c) (s sector) (sector == c.sector.0 && is_changed segments sector)
-    (λ t. let is : sector ≡ c.sector.0 = eq_of sector c.sector.0 (and_parts (sector == c.sector.0) (is_changed segments sector) t).0 in
-    let old : is_older (s sector) c ≡ false = of_ge (version_of (s sector)) c.version (subst (λ k. c.version ≤ version_of (s k)) (sym is) h) in
+    (λ t. let is : sector ≡ c.sector.0 = eqb-true sector c.sector.0 (and_parts (sector == c.sector.0) (is_changed segments sector) t).0 in
+    let old : is_older (s sector) c ≡ false = le-ltb (version_of (s sector)) c.version (subst (λ k. c.version ≤ version_of (s k)) (sym is) h) in
     ap (λ (b : Bool). if b then changed (s sector) c else s sector) old)
     (λ t. refl))
 
@@ -62,7 +62,7 @@ set_laid segments es c block e is sector =
     (λ same. subst (λ k. after k ≡ with_changes segments (sectors_of es) (c ∷ []) k) (sym same)
     (set_there es c.sector.0 block ∙ is ∙ sym (there segments c (sectors_of es c.sector.0) e) ∙ sym (one_laid segments (sectors_of es) c c.sector.0)))
     (λ other. set_elsewhere es c.sector.0 block sector other ∙ sym (elsewhere segments sector c (sectors_of es sector) other) ∙ sym (one_laid segments (sectors_of es) c sector))
-    (or_equal sector c.sector.0)
+    (cases_eq sector c.sector.0)
 
 -- ---- several
 

@@ -2,13 +2,12 @@
 use Rattle.std.proofs.Common.{◌≡◌, ℕ, ◌+◌, ◌<◌, ⊎_elim, true, nat_lt, if◌then◌else◌, Option, Some, None, List, [], ◌∷◌, ◌++◌, length, slice_index_or, refl, sym, ap, ◌∙◌, subst, arith, add-one, append-nil}
 use Rattle.std.specs.List.{flat_map}
 use Rattle.std.specs.Prelude.{IfSome, ◌≤◌}
-use Rattle.std.proofs.lemmas.Bool.{and_from}
+use Rattle.std.proofs.lemmas.Bool.{and_from, cases_eq, lt-ltb}
 use Rattle.std.proofs.lemmas.List.{get_or_append_left}
 use Rattle.std.proofs.lemmas.List.Concat.{flat_map-append}
 use Rattle.std.proofs.Math.Seq.{get_or-append_seam}
 use Rattle.frang_base.specs.declared.change.Change.{Change}
 use Rattle.frang_base.specs.declared.sector.OpNo.{OpNo}
-use Rattle.frang_base.proofs.Basics.{of_lt, or_equal}
 use Rattle.disk_definitions.specs.declared.param.Param.{Param}
 use Rattle.disk_definitions.specs.declared.region.Region.TheVariants as region
 use Rattle.sector_bytes.specs.Bytes.{zeros}
@@ -36,7 +35,7 @@ stays (Some p) s changes sector t = log_stays p.segments changes s sector t
 
 slot_logged : (server slot : ℕ) → server < 256 → slot < 256 → is_logged (sector_of (region.Log server slot)) ≡ true
 unfolding is_logged
-slot_logged server slot a b = ap is_log (region_found 64 (region.Log server slot) (omega arith) (and_from (nat_lt server 256) (nat_lt slot 256) (of_lt server 256 a) (of_lt slot 256 b)))
+slot_logged server slot a b = ap is_log (region_found 64 (region.Log server slot) (omega arith) (and_from (nat_lt server 256) (nat_lt slot 256) (lt-ltb server 256 a) (lt-ltb slot 256 b)))
 
 module _ (o : Option Param) (s old : Sectors) (changes : List Change) (server : ℕ) (l : server < 256) (same : SameSectors old (laid_by o s changes)) where
   records_stay : records_at old server ≡ records_at s server
@@ -77,7 +76,7 @@ next_greatest o s old server kept held l same e are is n d less =
     ⊎_elim
     (λ at. subst (λ (k : ℕ). slice_index_or (kept ++ held ∷ []) k d ≡ greatest_at s k) (sym at) (there ∙ own))
     (λ other. let under : n < server = omega arith in get_or_append_left kept (held ∷ []) d n (subst (λ m. n < m) (sym e) under) ∙ are n d under)
-    (or_equal n server)
+    (cases_eq n server)
 
 -- ---- the whole
 

@@ -1,7 +1,8 @@
 -- Of a thing of which no edit says anything, the edits move nothing.
-use Rattle.std.proofs.Common.{◌≡◌, ◌==◌, ◌||◌, ℕ, Bool, true, false, if◌then◌else◌, Option, Some, None, List, [], ◌∷◌, refl, ap, ◌∙◌}
+use Rattle.std.proofs.Common.{◌≡◌, ◌==◌, ℕ, Bool, true, false, if◌then◌else◌, Option, Some, None, List, [], ◌∷◌, refl, ap, ◌∙◌}
 use Rattle.std.specs.List.{list_any}
 use Rattle.std.specs.Option.{option_or}
+use Rattle.std.proofs.lemmas.Bool.{or_parts}
 use Rattle.disk_definitions.specs.Edits.{Edit}
 use Rattle.disk_definitions.specs.Edits.Edit.{SetInode, SetBit, SetUse, SetPlace, SetLarge, SetBytes, SetLargeBytes}
 use Rattle.plan_laws.specs.Moves.{first_said, bit_said, use_said, large_said, taker_said, large_taker_said, inode_move, small_move, large_move}
@@ -48,19 +49,11 @@ large_quiet g (SetLarge j b) e = by_test (g == j) b e
 large_quiet g (SetBytes j p x) e = refl
 large_quiet g (SetLargeBytes j p x) e = refl
 
-left_false : (a b : Bool) → (a || b) ≡ false → a ≡ false
-left_false true b e = absurd (cc)
-left_false false b e = refl
-
-right_false : (a b : Bool) → (a || b) ≡ false → b ≡ false
-right_false true b e = absurd (cc)
-right_false false b e = e
-
 first_quiet : {X : Type 0} (said : Edit → Option X) (test : Edit → Bool) → ((edit : Edit) → test edit ≡ false → said edit ≡ None) → (edits : List Edit) → list_any test edits ≡ false → first_said said edits ≡ None
 first_quiet said test quiet [] e = refl
 first_quiet said test quiet (edit ∷ edits) e =
-    ap (λ o. option_or o (first_said said edits)) (quiet edit (left_false (test edit) (list_any test edits) e))
-    ∙ first_quiet said test quiet edits (right_false (test edit) (list_any test edits) e)
+    ap (λ o. option_or o (first_said said edits)) (quiet edit (or_parts (test edit) (list_any test edits) e).0)
+    ∙ first_quiet said test quiet edits (or_parts (test edit) (list_any test edits) e).1
 
 pub unmoved : (edits : List Edit) (moved : Thing) → list_any (says moved) edits ≡ false → lock_by edits moved ≡ None
 unmoved edits (thing.Inode i) e = ap (inode_move i) (first_quiet (bit_said i) (says (thing.Inode i)) (bit_quiet i) edits e)

@@ -1,6 +1,7 @@
 -- Each thing is listed once.
-use Rattle.std.proofs.Common.{◌≡◌, ◌||◌, Bool, true, false, if◌then◌else◌, Option, Some, None, List, [], ◌∷◌, ◌++◌, map, refl, ◌∙◌}
+use Rattle.std.proofs.Common.{◌≡◌, Bool, true, false, if◌then◌else◌, Option, Some, None, List, [], ◌∷◌, ◌++◌, map, refl, ◌∙◌}
 use Rattle.std.specs.List.{AllByRecursion, IsDistinct}
+use Rattle.std.proofs.lemmas.Bool.{or_parts}
 use Rattle.frang_base.specs.declared.lock.LockId.{LockId}
 use Rattle.disk_definitions.specs.Edits.{Edit}
 use Rattle.edit_moves.specs.declared.thing.Thing.{Thing}
@@ -14,14 +15,6 @@ things moves = map (λ move. move.thing) moves
 abbrev pub AreOnce : List Move → Type 0
 AreOnce moves = IsDistinct is_same (map (λ move. move.thing) moves)
 
-left_false : (a b : Bool) → (a || b) ≡ false → a ≡ false
-left_false true b e = absurd (cc)
-left_false false b e = refl
-
-right_false : (a b : Bool) → (a || b) ≡ false → b ≡ false
-right_false true b e = absurd (cc)
-right_false false b e = e
-
 -- one more that differs from each
 differs : (moves : List Move) (move : Move) (moved : Thing) → is_same moved move.thing ≡ false → AllByRecursion (λ t. is_same moved t ≡ false) (things moves) → AllByRecursion (λ t. is_same moved t ≡ false) (things (moves ++ move ∷ []))
 differs [] move moved e all = (e, tt)
@@ -31,8 +24,8 @@ one_more : (moves : List Move) (move : Move) → has_thing moves move.thing ≡ 
 unfolding IsDistinct
 one_more [] move h once = (tt, tt)
 one_more (first ∷ moves) move h once = (
-  differs moves move first.thing (same_flip first.thing move.thing ∙ left_false (is_same move.thing first.thing) (has_thing moves move.thing) h) once.0,
-  one_more moves move (right_false (is_same move.thing first.thing) (has_thing moves move.thing) h) once.1,
+  differs moves move first.thing (same_flip first.thing move.thing ∙ (or_parts (is_same move.thing first.thing) (has_thing moves move.thing) h).0) once.0,
+  one_more moves move (or_parts (is_same move.thing first.thing) (has_thing moves move.thing) h).1 once.1,
 )
 
 with_one : (moves : List Move) (move : Move) → AreOnce moves → AreOnce (with_move moves move)

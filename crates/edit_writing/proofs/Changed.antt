@@ -1,7 +1,6 @@
 -- The change of a sector by its own block, and the versions of the sectors that are changed.
-use Rattle.std.proofs.Common.{◌≡◌, ◌<◌, ◌+◌, ◌++◌, ℕ, Bool, true, Option, Some, None, List, [], ◌∷◌, fold, length, drop, slice_index_or, nat_lt, arith, drop-cons, add-one, append_assoc, append-nil, refl, sym, subst, ap, ◌∙◌}
+use Rattle.std.proofs.Common.{◌≡◌, ◌<◌, ◌+◌, ◌++◌, ℕ, Bool, true, Option, Some, None, List, [], ◌∷◌, fold, length, drop, slice_index_or, drop-cons, add-one, append_assoc, append-nil, refl, sym, subst, ap, ◌∙◌}
 use Rattle.std.proofs.Math.Path.{fun_ext}
-use Rattle.std.proofs.lemmas.Bool.Decides.{nat_tests}
 use Rattle.std.proofs.lemmas.List.Elements.{All-nil, All-head, All-tail, All-drop}
 use Rattle.std.proofs.lemmas.List.{drop-map}
 use Rattle.std.proofs.lemmas.List.Sums.{AllPass-from_list_all, list_all-from_AllPass}
@@ -40,9 +39,6 @@ pub ordered_all : (test : ℕ → Bool) (ns : List ℕ) (m : List (ℕ × ℕ)) 
 ordered_all test ns m e all =
     subst (λ m. list_all test (keys_of m) ≡ true) (sym e)
     (list_all-from_AllPass test (keys_of (fold with_number [] ns)) (numbers_all test [] ns (All-nil (λ n. test n ≡ true)) (AllPass-from_list_all test ns all)))
-
-pub below_test : (a b : ℕ) → nat_lt a b ≡ true → a < b
-below_test a b e = grind (arith, nat_tests)
 
 -- ---- the turn of the loop over the sectors
 

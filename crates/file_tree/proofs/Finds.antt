@@ -4,17 +4,13 @@ use Rattle.std.specs.Ordering.{nat_cmp, is_eq, match_ordering}
 use Rattle.std.specs.declared.cmp.Ordering.{Ordering}
 use Rattle.std.specs.declared.cmp.Ordering.TheVariants.{Less, Equal, Greater}
 use Rattle.std.specs.Cmp.Lexicographic.{slice_cmp}
-use Rattle.std.specs.Cmp.{nat_cmp_is}
 use Rattle.std.specs.FinMap.{nat_cmp-IsAntisymmetric}
 use Rattle.std.specs.Map.{lookup}
 use Rattle.std.specs.BTreeMap.{is_at, insert_entry}
+use Rattle.frang_base.proofs.Tests.{cmp_itself}
 use Rattle.tree_definitions.specs.declared.node.Node.{Node}
 use Rattle.tree_definitions.specs.Entries.{Entries, entry_at, without_entry}
 use Rattle.tree_definitions.specs.Tree.{FileTree, node_at, with_node}
-
--- a number is at itself alone
-at_itself : (k : ℕ) → nat_cmp k k ≡ Equal
-at_itself k = sym (nat_cmp_is k k Equal refl)
 
 apart_key : (q k : ℕ) → (q ≡ k → ⊥) → is_at (nat_cmp q) k ≡ false
 apart_key q k differ = go (nat_cmp q k) refl
@@ -25,11 +21,11 @@ apart_key q k differ = go (nat_cmp q k) refl
     go Greater e = ap is_eq e
 
 here : (nodes : List (ℕ × Node)) (k : ℕ) (v : Node) → lookup (is_at (nat_cmp k)) (insert_entry nat_cmp nodes k v) ≡ Some v
-here [] k v = ap (λ o. cond (is_eq o) (Some v) None) (at_itself k)
+here [] k v = ap (λ o. cond (is_eq o) (Some v) None) (cmp_itself k)
 here (e ∷ es) k v = go (nat_cmp k e.0) refl (here es k v)
   where
     go : (o : Ordering) → nat_cmp k e.0 ≡ o → lookup (is_at (nat_cmp k)) (insert_entry nat_cmp es k v) ≡ Some v → lookup (is_at (nat_cmp k)) (insert_entry nat_cmp (e ∷ es) k v) ≡ Some v
-    go Less is rest = ap (λ o. lookup (is_at (nat_cmp k)) (match_ordering o ((k, v) ∷ e ∷ es) ((e.0, v) ∷ es) (e ∷ insert_entry nat_cmp es k v))) is ∙ ap (λ o. cond (is_eq o) (Some v) (lookup (is_at (nat_cmp k)) (e ∷ es))) (at_itself k)
+    go Less is rest = ap (λ o. lookup (is_at (nat_cmp k)) (match_ordering o ((k, v) ∷ e ∷ es) ((e.0, v) ∷ es) (e ∷ insert_entry nat_cmp es k v))) is ∙ ap (λ o. cond (is_eq o) (Some v) (lookup (is_at (nat_cmp k)) (e ∷ es))) (cmp_itself k)
     go Equal is rest = ap (λ o. lookup (is_at (nat_cmp k)) (match_ordering o ((k, v) ∷ e ∷ es) ((e.0, v) ∷ es) (e ∷ insert_entry nat_cmp es k v))) is ∙ ap (λ o. cond (is_eq o) (Some v) (lookup (is_at (nat_cmp k)) es)) is
     go Greater is rest =
         ap (λ o. lookup (is_at (nat_cmp k)) (match_ordering o ((k, v) ∷ e ∷ es) ((e.0, v) ∷ es) (e ∷ insert_entry nat_cmp es k v))) is
@@ -53,13 +49,13 @@ elsewhere (e ∷ es) k q v differ = go (nat_cmp k e.0) refl (elsewhere es k q v 
         ∙ ap (cond (is_at (nat_cmp q) e.0) (Some e.1)) rest
 
 twice : (nodes : List (ℕ × Node)) (k : ℕ) (v w : Node) → insert_entry nat_cmp (insert_entry nat_cmp nodes k v) k w ≡ insert_entry nat_cmp nodes k w
-twice [] k v w = ap (λ o. match_ordering o ((k, w) ∷ (k, v) ∷ []) ((k, w) ∷ []) ((k, v) ∷ (k, w) ∷ [])) (at_itself k)
+twice [] k v w = ap (λ o. match_ordering o ((k, w) ∷ (k, v) ∷ []) ((k, w) ∷ []) ((k, v) ∷ (k, w) ∷ [])) (cmp_itself k)
 twice (e ∷ es) k v w = go (nat_cmp k e.0) refl (twice es k v w)
   where
     go : (o : Ordering) → nat_cmp k e.0 ≡ o → insert_entry nat_cmp (insert_entry nat_cmp es k v) k w ≡ insert_entry nat_cmp es k w → insert_entry nat_cmp (insert_entry nat_cmp (e ∷ es) k v) k w ≡ insert_entry nat_cmp (e ∷ es) k w
     go Less is rest =
         ap (λ o. insert_entry nat_cmp (match_ordering o ((k, v) ∷ e ∷ es) ((e.0, v) ∷ es) (e ∷ insert_entry nat_cmp es k v)) k w) is
-        ∙ ap (λ o. match_ordering o ((k, w) ∷ (k, v) ∷ e ∷ es) ((k, w) ∷ e ∷ es) ((k, v) ∷ insert_entry nat_cmp (e ∷ es) k w)) (at_itself k)
+        ∙ ap (λ o. match_ordering o ((k, w) ∷ (k, v) ∷ e ∷ es) ((k, w) ∷ e ∷ es) ((k, v) ∷ insert_entry nat_cmp (e ∷ es) k w)) (cmp_itself k)
         ∙ ap (λ o. match_ordering o ((k, w) ∷ e ∷ es) ((e.0, w) ∷ es) (e ∷ insert_entry nat_cmp es k w)) (sym is)
     go Equal is rest =
         ap (λ o. insert_entry nat_cmp (match_ordering o ((k, v) ∷ e ∷ es) ((e.0, v) ∷ es) (e ∷ insert_entry nat_cmp es k v)) k w) is

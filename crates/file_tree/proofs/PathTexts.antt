@@ -1,13 +1,14 @@
 -- The text of a path from the root down is one, and lines that can be said stay so when one more is.
-use Rattle.std.proofs.Common.{◌≡◌, ℕ, Bool, true, false, not, ◌&&◌, cond, nat_eq, nat_lt, nat_le, IsTrue, List, [], ◌∷◌, ◌++◌, length, sym, refl, ◌∙◌, ap, subst}
+use Rattle.std.proofs.Common.{◌≡◌, ℕ, Bool, true, false, not, ◌&&◌, cond, nat_eq, nat_lt, IsTrue, List, [], ◌∷◌, ◌++◌, sym, refl, ◌∙◌, ap, subst}
 use Rattle.std.specs.List.{All, list_all, slice_split, onto_first}
-use Rattle.std.proofs.lemmas.Bool.{and_parts, and_from}
+use Rattle.std.proofs.lemmas.Bool.{and_parts, and_from, not-true}
 use Rattle.std.proofs.lemmas.List.Folds.{list_all-append}
 use Rattle.std.proofs.lemmas.List.Elements.{All-nil, All-cons}
 use Rattle.std.proofs.lemmas.List.Splits.{slice_split_none}
-use Rattle.frang_base.specs.Name.{is_name, is_name_byte, is_dots}
+use Rattle.frang_base.specs.Name.{is_name, is_name_byte}
 use Rattle.frang_base.specs.declared.said.Said.{Said}
 use Rattle.script_definitions.specs.SaidReading.{is_path_text, IsProperSaid}
+use Rattle.script_definitions.proofs.SaidWritten.{name_bytes}
 use Rattle.tree_definitions.specs.TreeLines.{path_text, name_below}
 use Rattle.file_tree.specs.Proper.{is_below, AreProper}
 
@@ -33,18 +34,11 @@ parts_more p (x ∷ t) y more cut = go (p x) (parts_more p t y more cut)
 
 -- the bytes of a name have no `/`
 byte_is_other : (b : ℕ) → is_name_byte b ≡ true → nat_eq b 47 ≡ false
-byte_is_other b h = go (nat_eq b 47) (and_parts (nat_lt 32 b) (not (nat_eq b 47)) (and_parts (nat_lt 32 b && not (nat_eq b 47)) (not (nat_eq b 127)) h).0).1
-  where
-    go : (a : Bool) → not a ≡ true → a ≡ false
-    go true e = sym e
-    go false e = refl
+byte_is_other b h = not-true (nat_eq b 47) (and_parts (nat_lt 32 b) (not (nat_eq b 47)) (and_parts (nat_lt 32 b && not (nat_eq b 47)) (not (nat_eq b 127)) h).0).1
 
 no_slash : (name : List ℕ) → list_all is_name_byte name ≡ true → All (λ b. nat_eq b 47 ≡ false) name
 no_slash [] h = All-nil (λ b. nat_eq b 47 ≡ false)
 no_slash (b ∷ name) h = let both = and_parts (is_name_byte b) (list_all is_name_byte name) h in All-cons (λ d. nat_eq d 47 ≡ false) b name (byte_is_other b both.0) (no_slash name both.1)
-
-name_bytes : (name : List ℕ) → is_name name ≡ true → list_all is_name_byte name ≡ true
-name_bytes name n = (and_parts (nat_lt 0 (length name) && nat_le (length name) 64) (list_all is_name_byte name) (and_parts (nat_lt 0 (length name) && nat_le (length name) 64 && list_all is_name_byte name) (not (is_dots name)) n).0).1
 
 pub path_is_proper : (text : List ℕ) → is_below text ≡ true → IsTrue (is_path_text (path_text text))
 path_is_proper [] h = refl

@@ -1,6 +1,5 @@
 -- How a walk of the code returns, as the definition says: from a name of a directory, whose own birth was pushed onto the trail.
-use Rattle.std.proofs.Common.{ℕ, zero, suc, refl, Result, Ok, Err, IfOk, ◌≡◌, ◌-◌, ◌<◌, Bool, true, false, Option, Some, None, List, [], ◌∷◌, ◌++◌, drop, take, length, get_or, ◌≤◌, arith, sym, ◌∙◌, ap, append-nil}
-use Rattle.std.proofs.lemmas.List.{take_rest}
+use Rattle.std.proofs.Common.{ℕ, zero, suc, refl, Result, Ok, Err, IfOk, ◌≡◌, ◌-◌, ◌<◌, Bool, true, false, Option, Some, None, List, [], ◌∷◌, ◌++◌, length, arith, sym, ◌∙◌, ap, append-nil}
 use Rattle.frang_base.specs.PathText.{path_of}
 use Rattle.frang_base.specs.declared.limits.TheConstants.{LINKS_FOLLOWED_MAX}
 use Rattle.frang_base.specs.declared.reply.Reply.{Reply}
@@ -12,11 +11,6 @@ use Rattle.tree_definitions.specs.Resolve.{WalkEnd as TheEnd, At as LeadsTo, Ref
 use Rattle.file_tree.specs.declared.resolve.WalkEnd.{WalkEnd}
 use Rattle.file_tree.specs.Walks.{end_of, path_or_none, passes_all, went}
 use Rattle.file_tree.proofs.Walking.{ComesTo, step_ends, step_stays, step_into, step_loops, step_no_path, step_from_root, step_from_here}
-
--- a list is its first item and the rest
-pub first_and_rest : (xs : List (List ℕ)) (x : List ℕ) → 1 ≤ length xs → x ≡ get_or xs 0 x → xs ≡ x ∷ take (length xs - 1) (drop 1 xs)
-first_and_rest [] x h e = absurd (omega arith)
-first_and_rest (y ∷ ys) x h e = ap (λ z. z ∷ ys) (sym e) ∙ ap (λ l. x ∷ l) (sym (take_rest (y ∷ ys) 1))
 
 -- a walk that ends here adds nothing to the trail
 ends_here : (end : TheEnd) (trail : List ℕ) → record { end = end; trail = trail } ≡ passes_all trail (record { end = end; trail = [] })

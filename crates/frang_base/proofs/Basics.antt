@@ -1,6 +1,6 @@
 -- Tests of numbers and locks, and functions that are changed at one place.
-use Rattle.std.proofs.Common.{ℕ, ◌<◌, ◌≤◌, ◌≡◌, ◌≢◌, ◌⊎◌, inl, inr, Bool, true, false, List, ◌∷◌, Option, Some, None, IsSome, nat_eq, nat_lt, nat_le, refl, ap, subst, arith, cond}
-use Rattle.std.proofs.lemmas.Bool.Decides.{nat_tests}
+use Rattle.std.proofs.Common.{ℕ, ◌<◌, ◌≤◌, ◌≡◌, ◌≢◌, ◌⊎◌, inl, inr, Bool, true, false, List, ◌∷◌, Option, Some, None, IsSome, nat_eq, refl, ap, subst, arith, cond}
+use Rattle.std.proofs.lemmas.Bool.{eq-eqb, eqb-false, eqb-true}
 use Rattle.frang_base.specs.declared.lock.LockId.{LockId}
 use Rattle.frang_base.specs.declared.lock.LockId.TheVariants.{Log, Segment, Node}
 use Rattle.frang_base.specs.Locks.{same_lock}
@@ -10,41 +10,8 @@ pub by_test : {X : Type 0} (P : X → Type 0) (x y : X) (b : Bool) → (b ≡ tr
 by_test P x y true onyes onno = onyes refl
 by_test P x y false onyes onno = onno refl
 
-pub eq_of : (i k : ℕ) → nat_eq i k ≡ true → i ≡ k
-eq_of i k e = grind (arith, nat_tests)
-
-pub ne_of : (i k : ℕ) → nat_eq i k ≡ false → i ≢ k
-ne_of i k e = grind (arith, nat_tests)
-
-pub le_of : (i k : ℕ) → nat_le i k ≡ true → i ≤ k
-le_of i k e = grind (arith, nat_tests)
-
-pub gt_of : (i k : ℕ) → nat_le i k ≡ false → k < i
-gt_of i k e = grind (arith, nat_tests)
-
-pub of_le : (i k : ℕ) → i ≤ k → nat_le i k ≡ true
-of_le i k e = grind (arith, nat_tests)
-
-pub of_gt : (i k : ℕ) → k < i → nat_le i k ≡ false
-of_gt i k e = grind (arith, nat_tests)
-
-pub of_lt : (i k : ℕ) → i < k → nat_lt i k ≡ true
-of_lt i k e = grind (arith, nat_tests)
-
-pub of_ge : (i k : ℕ) → k ≤ i → nat_lt i k ≡ false
-of_ge i k e = grind (arith, nat_tests)
-
-pub of_eq : (i k : ℕ) → i ≡ k → nat_eq i k ≡ true
-of_eq i k e = grind (arith, nat_tests)
-
-pub of_ne : (i k : ℕ) → i ≢ k → nat_eq i k ≡ false
-of_ne i k e = grind (arith, nat_tests)
-
 pub le_or_lt : (a b : ℕ) → (a ≤ b) ⊎ (b < a)
 le_or_lt a b = grind arith
-
-pub or_equal : (a b : ℕ) → (a ≡ b) ⊎ (a ≢ b)
-or_equal a b = grind arith
 
 pub true_or : (b : Bool) → (b ≡ true) ⊎ (b ≡ true → ⊥)
 true_or true = inl refl
@@ -58,32 +25,29 @@ pub some_or : {X : Type 0} (o : Option X) → IsSome o ⊎ (IsSome o → ⊥)
 some_or None = inr (λ e. cc)
 some_or (Some x) = inl refl
 
-pub some_same : {X : Type 0} (x y : X) → Some x ≡ Some y → x ≡ y
-some_same x y e = cc
-
 -- locks
 pub lock_of : (k l : LockId) → same_lock k l ≡ true → k ≡ l
-lock_of (Log a) (Log b) e = ap Log (eq_of a b e)
+lock_of (Log a) (Log b) e = ap Log (eqb-true a b e)
 lock_of (Log a) (Segment b) e = cc
 lock_of (Log a) (Node b) e = cc
 lock_of (Segment a) (Log b) e = cc
-lock_of (Segment a) (Segment b) e = ap Segment (eq_of a b e)
+lock_of (Segment a) (Segment b) e = ap Segment (eqb-true a b e)
 lock_of (Segment a) (Node b) e = cc
 lock_of (Node a) (Log b) e = cc
 lock_of (Node a) (Segment b) e = cc
-lock_of (Node a) (Node b) e = ap Node (eq_of a b e)
+lock_of (Node a) (Node b) e = ap Node (eqb-true a b e)
 
 pub lock_same : (l : LockId) → same_lock l l ≡ true
-lock_same (Log a) = of_eq a a refl
-lock_same (Segment a) = of_eq a a refl
-lock_same (Node a) = of_eq a a refl
+lock_same (Log a) = eq-eqb a a refl
+lock_same (Segment a) = eq-eqb a a refl
+lock_same (Node a) = eq-eqb a a refl
 
 pub lock_not : (k l : LockId) → same_lock k l ≡ false → k ≢ l
 lock_not k l e i = let q : same_lock k l ≡ true = subst (λ x. same_lock k x ≡ true) i (lock_same k) in cc
 
 -- a fact of f with another value at k, by the two cases
 pub at_put : {X : Type 0} (P : X → Type 0) (f : ℕ → X) (k : ℕ) (v : X) (i : ℕ) → (i ≡ k → P v) → (i ≢ k → P (f i)) → P (put f k v i)
-at_put P f k v i same other = by_test P v (f i) (nat_eq i k) (λ e. same (eq_of i k e)) (λ e. other (ne_of i k e))
+at_put P f k v i same other = by_test P v (f i) (nat_eq i k) (λ e. same (eqb-true i k e)) (λ e. other (eqb-false i k e))
 
 pub put_same : {X : Type 0} (f : ℕ → X) (k : ℕ) (v : X) → put f k v k ≡ v
 put_same f k v = at_put (λ x. x ≡ v) f k v k (λ e. refl) (λ n. absurd (n refl))
@@ -96,15 +60,15 @@ pub at_put2 : {X : Type 0} (P : X → Type 0) (f : ℕ → ℕ → X) (a s : ℕ
 at_put2 {X} P f a s v b t same other =
     let inner : X = cond (nat_eq t s) v (f b t) in
     by_test P inner (f b t) (nat_eq b a)
-    (λ e. by_test P v (f b t) (nat_eq t s) (λ g. same (eq_of b a e) (eq_of t s g)) (λ g. other (λ i. ne_of t s g)))
-    (λ e. other (λ i. absurd (ne_of b a e i)))
+    (λ e. by_test P v (f b t) (nat_eq t s) (λ g. same (eqb-true b a e) (eqb-true t s g)) (λ g. other (λ i. eqb-false t s g)))
+    (λ e. other (λ i. absurd (eqb-false b a e i)))
 
 pub at_lock : {X : Type 0} (P : X → Type 0) (f : ℕ → LockId → X) (a : ℕ) (l : LockId) (v : X) (b : ℕ) (k : LockId) → (b ≡ a → k ≡ l → P v) → ((b ≡ a → k ≢ l) → P (f b k)) → P (put_lock f a l v b k)
 at_lock {X} P f a l v b k same other =
     let inner : X = cond (same_lock k l) v (f b k) in
     by_test P inner (f b k) (nat_eq b a)
-    (λ e. by_test P v (f b k) (same_lock k l) (λ g. same (eq_of b a e) (lock_of k l g)) (λ g. other (λ i. lock_not k l g)))
-    (λ e. other (λ i. absurd (ne_of b a e i)))
+    (λ e. by_test P v (f b k) (same_lock k l) (λ g. same (eqb-true b a e) (lock_of k l g)) (λ g. other (λ i. lock_not k l g)))
+    (λ e. other (λ i. absurd (eqb-false b a e i)))
 
 -- lists with an element or without it
 pub by_keep : {X : Type 0} (P : List X → Type 0) (b : Bool) (x : X) (xs : List X) → (b ≡ true → P (x ∷ xs)) → (b ≡ false → P xs) → P (keep_if b x xs)

@@ -1,3 +1,5 @@
 pub mod Cutting
 pub mod PathNames
 pub mod Basics
+pub mod Tests
+pub mod Lists

@@ -1,18 +1,15 @@
 -- Where memory is short before the words are read, that is the end of whatever they ask.
 use Rattle.std.proofs.Common.{inl, Option, Some, None, List, ℕ, refl}
-use Rattle.frang_outside.specs.Files.{State as FilesState, Holds, OthersStay}
+use Rattle.frang_outside.specs.Files.{State as FilesState, Holds}
 use Rattle.frang_outside.specs.Outside.{State}
 use Rattle.command_words.specs.Commands.{Asked, Fsck, ImageAsks, Log, OnImage, Recover, Run, Tree}
 use Rattle.image_commands.specs.declared.end.ImageEnd.TheVariants as end
 use Rattle.image_commands.specs.Asked.{EndsAsked, LeavesFiles, OnlyWrites}
+use Rattle.image_commands.proofs.EndLaws.{others_same}
 use Rattle.frang_top.specs.declared.outcome.Outcome.TheVariants as ends
 use Rattle.script_runs.specs.Run.{NothingYet}
 use Rattle.frang_top.specs.Top.{HasRunFor, written_by}
 use Rattle.frang_top.proofs.Asking.{want_run}
-
-others_stay : (holds : Option Holds) (name : List ℕ) → OthersStay holds holds name
-others_stay None name = refl
-others_stay (Some holds) name = λ other differs. refl
 
 image_wants : (asks : ImageAsks) (files : FilesState) (out : State) → NothingYet out.acts → EndsAsked asks files files out out end.NoMemory
 image_wants (Recover image None) files out nothing = inl nothing
@@ -23,7 +20,7 @@ image_wants (Fsck image) files out nothing = inl nothing
 
 leaves : (asks : ImageAsks) (holds : Option Holds) → LeavesFiles asks end.NoMemory holds holds
 leaves (Recover image None) holds = refl
-leaves (Recover image (Some save)) holds = others_stay holds save
+leaves (Recover image (Some save)) holds = others_same holds save
 leaves (Tree image) holds = refl
 leaves (Log image server) holds = refl
 leaves (Fsck image) holds = refl
@@ -40,7 +37,7 @@ wants (Some (OnImage asks)) files out nothing = record {
 
 only_writes : (name : Option (List ℕ)) (holds : Option Holds) → OnlyWrites name holds holds
 only_writes None holds = refl
-only_writes (Some name) holds = others_stay holds name
+only_writes (Some name) holds = others_same holds name
 
 pub nothing_written : (asked : Option Asked) (holds : Option Holds) → OnlyWrites (written_by asked) holds holds
 nothing_written asked holds = only_writes (written_by asked) holds

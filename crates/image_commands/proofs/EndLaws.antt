@@ -100,7 +100,7 @@ module _ (T : Blocks → List Said → Type 0) (name : List ℕ) (files files_af
 
 -- ---- recoveries
 
-others_same : (holds : Option Holds) (name : List ℕ) → OthersStay holds holds name
+pub others_same : (holds : Option Holds) (name : List ℕ) → OthersStay holds holds name
 others_same None name = refl
 others_same (Some holds) name = λ other ne. refl
 

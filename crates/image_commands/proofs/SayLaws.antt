@@ -1,5 +1,5 @@
 -- One line more that was said, and what is said where one isn't.
-use Rattle.std.proofs.Common.{◌≡◌, ℕ, zero, suc, ◌+◌, ◌<◌, ◌≤◌, Option, Some, None, List, [], ◌∷◌, ◌++◌, length, take, refl, sym, ◌∙◌, ap, subst, arith, get_or}
+use Rattle.std.proofs.Common.{◌≡◌, ℕ, zero, suc, ◌+◌, ◌<◌, ◌≤◌, Option, Some, None, List, [], ◌∷◌, ◌++◌, length, take, refl, sym, ◌∙◌, ap, subst, arith}
 use Rattle.std.specs.Prelude.{Err}
 use Rattle.std.specs.List.{slice_get}
 use Rattle.std.proofs.lemmas.List.{take_all, map-append}
@@ -11,11 +11,6 @@ use Rattle.frang_outside.specs.Outside.{State, Rose, NoneFell, told_more}
 use Rattle.image_commands.specs.declared.end.ImageEnd.TheVariants as end
 use Rattle.image_commands.specs.Steps.{stopped_by}
 use Rattle.image_commands.specs.Saying.{said_act, Says, SaysOne, SaysAll}
-
-pub at_index : {A : Type 0} (xs : List A) (i : ℕ) (x : A) → i < length xs → x ≡ get_or xs i x → slice_get xs i ≡ Some x
-at_index [] i x in_range is = absurd (omega arith)
-at_index (y ∷ ys) zero x in_range is = ap Some (sym is)
-at_index (y ∷ ys) (suc i) x in_range is = at_index ys i x (omega arith) is
 
 take_next : (xs : List Said) (j : ℕ) (x : Said) → slice_get xs j ≡ Some x → take (suc j) xs ≡ take j xs ++ x ∷ []
 take_next [] j x e = absurd (cc)
@@ -32,12 +27,6 @@ pub says_more : (told after : Option (List Act)) (lines : List Said) (j : ℕ) (
 says_more told after lines j x before at is =
     let e : j + 1 ≡ suc j = omega arith in
     subst (Says after) (sym (ap (λ k. take k lines) e ∙ take_next lines j x at)) (says_with told after (take j lines) x before is)
-
-pub fell-trans : (old mid new : State) → NoneFell old mid → NoneFell mid new → NoneFell old new
-fell-trans old mid new a b = record {
-  faults = λ party. (let one : old.faults party ≤ mid.faults party = a.faults party in let two : mid.faults party ≤ new.faults party = b.faults party in let r : old.faults party ≤ new.faults party = omega arith in r);
-  says = (let one : old.say_faults ≤ mid.say_faults = a.says in let two : mid.say_faults ≤ new.say_faults = b.says in let r : old.say_faults ≤ new.say_faults = omega arith in r);
-}
 
 stopped_mute : (old mid new : State) (act : Act) (lines : List Said) (i : ℕ) → i < length lines → NoneFell old mid → Says mid.acts (take i lines) → SaysOne mid new act (Err Failed) → SaysAll old new lines (end.Mute i)
 stopped_mute old mid new act lines i l fell says is =

@@ -6,16 +6,16 @@ use Rattle.std.specs.Map.{keys_of, values_of, lookup}
 use Rattle.std.specs.BTreeMap.{is_at}
 use Rattle.std.specs.Ordering.{nat_cmp, is_eq}
 use Rattle.std.specs.Option.{unwrap_or}
-use Rattle.std.proofs.lemmas.Bool.{and_parts}
-use Rattle.std.proofs.lemmas.Bool.Decides.{nat_tests}
+use Rattle.std.proofs.lemmas.Bool.{and_parts, not-false, eqb-true}
 use Rattle.std.proofs.lemmas.List.Elements.{recursion_from_All}
-use Rattle.frang_base.proofs.Basics.{by_test, eq_of}
+use Rattle.frang_base.proofs.Basics.{by_test}
+use Rattle.frang_base.proofs.Tests.{at_only}
 use Rattle.sector_bytes.specs.Bytes.{number_at, zeros, are_zero, AreBytes}
 use Rattle.sector_bytes.specs.Sectors.{sectors_of, SameSectors}
 use Rattle.disk_definitions.specs.Images.{Blocks, image_entry, entry_in, image_with, image_text, image_in, sectors_written}
 use Rattle.image_file.specs.Laws.{ReadsBack}
 use Rattle.image_file.proofs.EntryBytes.{IsEntry, entry_reads, behind_entry}
-use Rattle.image_file.proofs.Ascending.{Above, ascend_of, sorted_written, all_written, written_not_zero, written_all}
+use Rattle.image_file.proofs.Ascending.{Above, ascend_of, sorted_written, all_written, written_not_zero, written_all, above_written}
 use Rattle.image_file.proofs.Headers.{headed, header_count, header_rest, header_read}
 use Rattle.image_file.proofs.FirstSector.{AscendAll, sectors_read_back}
 use Rattle.image_file.proofs.ImageLaws.{none_of_zeros, read_is_image}
@@ -65,7 +65,7 @@ all_zero : (bytes : List ℕ) → are_zero bytes ≡ true → bytes ≡ replicat
 all_zero [] z = refl
 all_zero (b ∷ bytes) z =
     let parts = and_parts (nat_eq b 0) (are_zero bytes) z in
-    let first : b ≡ 0 = eq_of b 0 parts.0 in
+    let first : b ≡ 0 = eqb-true b 0 parts.0 in
     let rest = all_zero bytes parts.1 in
     cc
 
@@ -79,20 +79,12 @@ above_misses k (e ∷ es) u =
     let apart : is_at (nat_cmp k) e.0 ≡ false = ap is_eq u.0 in
     ap (λ (t : Bool). cond t (Some e.1) (lookup (is_at (nat_cmp k)) es)) apart ∙ above_misses k es u.1
 
-above_written : (k : ℕ) (es : Blocks) → Above k es → Above k (sectors_written es)
-above_written k [] u = tt
-above_written k (e ∷ es) u =
-    by_test (λ (xs : Blocks). Above k xs) (e ∷ sectors_written es) (sectors_written es) (not (are_zero e.1)) (λ t. (u.0, above_written k es u.1)) (λ t. above_written k es u.1)
-
-same_place : (k s : ℕ) → is_at (nat_cmp k) s ≡ true → k ≡ s
-same_place k s t = grind (arith, nat_tests)
-
 -- without a sector of zeros a look-up finds what it found, or zeros
 without_zero : (k : ℕ) (e : ℕ × List ℕ) (es : Blocks) → Above e.0 es → e.1 ≡ zeros 512 → sectors_of (sectors_written es) k ≡ sectors_of es k → sectors_of (sectors_written es) k ≡ sectors_of (e ∷ es) k
 without_zero k e es u z ih =
     by_test (λ (o : Option (List ℕ)). sectors_of (sectors_written es) k ≡ unwrap_or o (zeros 512)) (Some e.1) (lookup (is_at (nat_cmp k)) es) (is_at (nat_cmp k) e.0)
     (λ t.
-    let same = same_place k e.0 t in
+    let same = at_only k e.0 t in
     let none : lookup (is_at (nat_cmp k)) (sectors_written es) ≡ None =
     above_misses k (sectors_written es) (subst (λ (n : ℕ). Above n (sectors_written es)) (sym same) (above_written e.0 es u)) in
     ap (λ (o : Option (List ℕ)). unwrap_or o (zeros 512)) none ∙ sym z)
@@ -104,17 +96,13 @@ with_first k e xs ys ih =
     (λ t. sym (ap (λ (b : Bool). unwrap_or (cond b (Some e.1) (lookup (is_at (nat_cmp k)) ys)) (zeros 512)) t))
     (λ t. ih ∙ sym (ap (λ (b : Bool). unwrap_or (cond b (Some e.1) (lookup (is_at (nat_cmp k)) ys)) (zeros 512)) t))
 
-not_not : (b : Bool) → not b ≡ false → b ≡ true
-not_not true h = refl
-not_not false h = cc
-
 written_same : (k : ℕ) (es : Blocks) → IsStrictlySortedBy nat_cmp (keys_of es) → AllByRecursion (λ b. length b ≡ 512) (values_of es) → sectors_of (sectors_written es) k ≡ sectors_of es k
 unfolding IsStrictlySortedBy
 written_same k [] s b = refl
 written_same k (e ∷ es) s b =
     by_test (λ (xs : Blocks). sectors_of xs k ≡ sectors_of (e ∷ es) k) (e ∷ sectors_written es) (sectors_written es) (not (are_zero e.1))
     (λ t. with_first k e (sectors_written es) es (written_same k es s.1 b.1))
-    (λ t. without_zero k e es s.0 (zero_block e.1 (not_not (are_zero e.1) t) b.0) (written_same k es s.1 b.1))
+    (λ t. without_zero k e es s.0 (zero_block e.1 (not-false (are_zero e.1) t) b.0) (written_same k es s.1 b.1))
 
 -- the sectors that aren't zero are the disk
 pub written_is_the_disk : (es : Blocks) → AreSectors es → SameSectors (sectors_of (sectors_written es)) (sectors_of es)

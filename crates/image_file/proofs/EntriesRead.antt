@@ -2,7 +2,8 @@
 use Rattle.std.proofs.Common.{◌≡◌, ℕ, zero, suc, ◌+◌, ◌<◌, ◌≤◌, Bool, true, false, cond, nat_lt, nat_le, Option, Some, None, Result, Ok, Err, List, [], ◌∷◌, ◌++◌, length, drop, refl, sym, ap, ◌∙◌, subst, length-append, arith}
 use Rattle.std.specs.List.{flat_map, AllByRecursion}
 use Rattle.std.proofs.lemmas.Bool.Decides.{nat_tests}
-use Rattle.frang_base.proofs.Basics.{by_test, gt_of, of_gt, of_ge}
+use Rattle.std.proofs.lemmas.Bool.{le-ltb, lt-leb, leb-false}
+use Rattle.frang_base.proofs.Basics.{by_test}
 use Rattle.disk_definitions.specs.declared.region.Region.{Region}
 use Rattle.sector_bytes.specs.Bytes.{are_zero, AreBytes}
 use Rattle.disk_definitions.specs.Regions.{region_of}
@@ -34,7 +35,7 @@ block_may_have (Some r) block z =
 
 entry_may_have : (segments before s : ℕ) (block : List ℕ) → before < s → are_zero block ≡ false → MayHave (entry_flaw segments before (s, block))
 entry_may_have segments before s block h z =
-    subst (λ (b : Bool). MayHave (cond b (Some OutOfOrder) (block_flaw (region_of segments s) block))) (sym (of_gt s before h))
+    subst (λ (b : Bool). MayHave (cond b (Some OutOfOrder) (block_flaw (region_of segments s) block))) (sym (lt-leb s before h))
     (block_may_have (region_of segments s) block z)
 
 no_block_flaw : (o : Option Region) (r : Region) (block : List ℕ) → o ≡ Some r → are_zero block ≡ false → block_fits r block ≡ true → block_flaw o block ≡ None
@@ -47,7 +48,7 @@ no_block_flaw (Some x) r block p z f =
 
 pub no_flaw : (segments before s : ℕ) (block : List ℕ) → before < s → IsImaged segments (s, block) → entry_flaw segments before (s, block) ≡ None
 no_flaw segments before s block h i =
-    ap (λ (b : Bool). cond b (Some OutOfOrder) (block_flaw (region_of segments s) block)) (of_gt s before h)
+    ap (λ (b : Bool). cond b (Some OutOfOrder) (block_flaw (region_of segments s) block)) (lt-leb s before h)
     ∙ no_block_flaw (region_of segments s) i.region block i.place i.written i.grammar
 
 record Fits (o : Option Region) (block : List ℕ) : Type 0 where
@@ -72,7 +73,7 @@ flawless segments before s block =
     by_test (λ (o : Option ImageFlaw). o ≡ None → (before < s) × IsImaged segments (s, block)) (Some OutOfOrder) (block_flaw (region_of segments s) block) (nat_le s before)
     (λ t e. cc)
     (λ t e. let f = fits_where (region_of segments s) block e in
-    (gt_of s before t, record { region = f.region; place = f.place; written = f.written; grammar = f.grammar }))
+    (leb-false s before t, record { region = f.region; place = f.place; written = f.written; grammar = f.grammar }))
 
 -- ---- an entry with those behind it
 
@@ -105,7 +106,7 @@ entries_step : (segments before at count s : ℕ) (block rest : List ℕ) → Is
 entries_step segments before at count s block rest h =
     let n = length_entry s block h.block in
     step_by segments before at count s block rest (image_entry (s, block) ++ rest)
-    (of_ge _ 520 (omega (arith, length-append (image_entry (s, block)) rest)))
+    (le-ltb _ 520 (omega (arith, length-append (image_entry (s, block)) rest)))
     (entry_reads s block rest h) (behind_entry s block rest h.block)
 
 pub entries_read_back : (segments before at : ℕ) (es : Blocks) → Ascend before es → ReadsBack es (entries_in segments before at (length es) (flat_map image_entry es))

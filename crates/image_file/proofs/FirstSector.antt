@@ -6,9 +6,10 @@ use Rattle.std.specs.Map.{keys_of, lookup}
 use Rattle.std.specs.BTreeMap.{is_at}
 use Rattle.std.specs.Ordering.{nat_cmp, is_eq}
 use Rattle.std.specs.Option.{unwrap_or}
-use Rattle.std.proofs.lemmas.Bool.{and_parts}
+use Rattle.std.proofs.lemmas.Bool.{and_parts, le-ltb, eqb-true}
 use Rattle.std.proofs.lemmas.Bool.Decides.{nat_tests}
-use Rattle.frang_base.proofs.Basics.{by_test, eq_of, of_ge}
+use Rattle.frang_base.proofs.Basics.{by_test}
+use Rattle.frang_base.proofs.Tests.{cmp_less}
 use Rattle.disk_definitions.specs.declared.param.Param.{Param}
 use Rattle.sector_bytes.specs.Bytes.{zeros, are_zero, AreBytes}
 use Rattle.disk_definitions.specs.Params.{param_in}
@@ -22,7 +23,7 @@ use Rattle.disk_definitions.specs.Images.{Blocks, image_entry, entry_in, IsImage
 use Rattle.image_file.specs.Laws.{ReadsBack}
 use Rattle.image_file.proofs.EntryBytes.{IsEntry, length_entry, entry_reads, behind_entry, entry_again, read_entry}
 use Rattle.image_file.proofs.EntriesRead.{Ascend, MayHave, judged_reads, judged_ok, Entries, entries_read, entries_read_back, entries_found}
-use Rattle.image_file.proofs.Ascending.{Above, less_of, lt_of_less, ascend_from}
+use Rattle.image_file.proofs.Ascending.{Above, lt_of_less, ascend_from}
 
 -- ---- which sector is first
 
@@ -30,7 +31,7 @@ nothing_at_zero : (before : ℕ) (es : Blocks) → Above before es → lookup (i
 nothing_at_zero before [] u = refl
 nothing_at_zero before ((zero, b) ∷ es) u = let l = lt_of_less before 0 u.0 in absurd (omega arith)
 nothing_at_zero before ((suc s, b) ∷ es) u =
-    let apart : is_at (nat_cmp 0) (suc s) ≡ false = ap is_eq (less_of 0 (suc s) (omega arith)) in
+    let apart : is_at (nat_cmp 0) (suc s) ≡ false = ap is_eq (cmp_less 0 (suc s) (omega arith)) in
     ap (λ (t : Bool). cond t (Some b) (lookup (is_at (nat_cmp 0)) es)) apart ∙ nothing_at_zero before es u.1
 
 no_parameters : param_in (zeros 512) ≡ None
@@ -48,7 +49,7 @@ unfolding IsStrictlySortedBy
 first_of [] p s e = let no : None ≡ Some p = sym no_parameters ∙ e in cc
 first_of ((zero, b) ∷ es) p s e = record { block = b; others = es; all = refl; param = e }
 first_of ((suc n, b) ∷ es) p s e =
-    let apart : is_at (nat_cmp 0) (suc n) ≡ false = ap is_eq (less_of 0 (suc n) (omega arith)) in
+    let apart : is_at (nat_cmp 0) (suc n) ≡ false = ap is_eq (cmp_less 0 (suc n) (omega arith)) in
     let missing : lookup (is_at (nat_cmp 0)) ((suc n, b) ∷ es) ≡ None =
     ap (λ (t : Bool). cond t (Some b) (lookup (is_at (nat_cmp 0)) es)) apart ∙ nothing_at_zero (suc n) es s.0 in
     let no : None ≡ Some p = sym no_parameters ∙ (ap (λ (o : Option (List ℕ)). param_in (unwrap_or o (zeros 512))) (sym missing) ∙ e) in
@@ -79,7 +80,7 @@ marked block f = let m = may_run (param_in block) f in ap are_zero (param_read b
 first_flawless : (s : ℕ) (block : List ℕ) → first_flaw (s, block) ≡ None → FirstFits s block
 first_flawless s block =
     by_test (λ (o : Option ImageFlaw). o ≡ None → FirstFits s block) None (Some BadSector) (nat_eq s 0 && may_run_again (param_in block))
-    (λ t e. let parts = and_parts (nat_eq s 0) (may_run_again (param_in block)) t in record { zero_th = eq_of s 0 parts.0; written = marked block parts.1; fits = parts.1 })
+    (λ t e. let parts = and_parts (nat_eq s 0) (may_run_again (param_in block)) t in record { zero_th = eqb-true s 0 parts.0; written = marked block parts.1; fits = parts.1 })
     (λ t e. cc)
 
 -- ---- it and the others
@@ -95,7 +96,7 @@ first_step : (count s : ℕ) (block rest : List ℕ) → IsEntry (s, block)
 first_step count s block rest h =
     let n = length_entry s block h.block in
     step_by count s block rest (image_entry (s, block) ++ rest)
-    (of_ge _ 520 (omega (arith, length-append (image_entry (s, block)) rest)))
+    (le-ltb _ 520 (omega (arith, length-append (image_entry (s, block)) rest)))
     (entry_reads s block rest h) (behind_entry s block rest h.block)
 
 -- sectors that ascend, as entries, none of zeros: any first one may be

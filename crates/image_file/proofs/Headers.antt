@@ -3,11 +3,12 @@ use Rattle.std.proofs.Common.{◌≡◌, ℕ, ◌^◌, ◌<◌, ◌≤◌, Bool,
 use Rattle.std.proofs.Math.Seq.{drop-append_seam, take-append_seam}
 use Rattle.std.proofs.lemmas.List.{take-append-drop}
 use Rattle.std.proofs.lemmas.Bool.Decides.{nat_tests}
-use Rattle.frang_base.proofs.Basics.{by_test, of_ge}
+use Rattle.frang_base.proofs.Basics.{by_test}
 use Rattle.byteorder.specs.Endian.{little_from, little_bytes}
 use Rattle.byteorder.specs.Numbers.{little_number-reads_back, length-bytes_low_first}
 use Rattle.sector_bytes.specs.Bytes.{number_at, AreBytes}
 use Rattle.std.specs.Str.{bytes_eq}
+use Rattle.std.proofs.lemmas.Bool.{le-ltb}
 use Rattle.sector_bytes.proofs.SameBytes.{same_bytes_is, same_bytes_refl}
 use Rattle.disk_definitions.proofs.NumberBytes.{number_again, drop_are}
 use Rattle.disk_definitions.specs.declared.image.ImageFault.{ImageFault}
@@ -43,7 +44,7 @@ header_rest count rest =
 pub header_read : (count : ℕ) (rest : List ℕ) → count < 2 ^ 64 → image_in (headed count rest) ≡ sectors_in count rest
 header_read count rest h =
     read_by count rest (headed count rest)
-    (of_ge _ 16 (omega (arith, length-append (image_mark ++ little_bytes 8 count) rest, length_marked count)))
+    (le-ltb _ 16 (omega (arith, length-append (image_mark ++ little_bytes 8 count) rest, length_marked count)))
     (ap (λ (xs : List ℕ). bytes_eq (take 8 xs) image_mark) (joined count rest)
     ∙ (ap (λ (xs : List ℕ). bytes_eq xs image_mark) (take-append_seam image_mark (little_bytes 8 count ++ rest)) ∙ same_bytes_refl image_mark))
     (header_count count rest h) (header_rest count rest)

@@ -1,7 +1,9 @@
 -- One entry more of an image, and its first.
 use Rattle.std.proofs.Common.{◌≡◌, ℕ, zero, suc, ◌+◌, ◌-◌, ◌<◌, ◌≤◌, Bool, true, false, cond, nat_lt, List, [], ◌∷◌, ◌++◌, length, take, drop, Option, Some, None, Result, Ok, Err, refl, sym, ◌∙◌, ap, append_assoc, drop-drop, length-drop, arith}
 use Rattle.std.proofs.lemmas.Bool.Decides.{nat_tests}
-use Rattle.frang_base.proofs.Basics.{by_test, of_ge, some_same}
+use Rattle.std.proofs.lemmas.Option.{same_Some}
+use Rattle.std.proofs.lemmas.Bool.{le-ltb}
+use Rattle.frang_base.proofs.Basics.{by_test}
 use Rattle.byteorder.specs.Endian.{little_number}
 use Rattle.byteorder.specs.Numbers.{little_from-take}
 use Rattle.sector_bytes.specs.Bytes.{number_at}
@@ -19,7 +21,7 @@ split e rest = Some (e, rest)
 
 parts : (x e : ℕ × List ℕ) (r rest : List ℕ) → split x r ≡ split e rest → (x ≡ e) × (r ≡ rest)
 parts x e r rest h =
-    let q = some_same {X = (ℕ × List ℕ) × List ℕ} (x, r) (e, rest) h in
+    let q = same_Some {A = (ℕ × List ℕ) × List ℕ} (x, r) (e, rest) h in
     (ap (λ (p : (ℕ × List ℕ) × List ℕ). p.0) q, ap (λ (p : (ℕ × List ℕ) × List ℕ). p.1) q)
 
 -- what next_entry finds
@@ -125,4 +127,4 @@ header_split bytes mark behind count rest n m b c r e long =
     let number : n ≡ number_at 8 8 bytes =
     e ∙ (ap (little_number 8) c ∙ (little_from-take 0 8 8 behind (omega arith) ∙ ap (little_number 8) b)) in
     triple mark (take 8 bytes) n (number_at 8 8 bytes) rest (drop 16 bytes) m number (r ∙ (ap (drop 8) b ∙ drop-drop 8 8 bytes))
-    ∙ sym (ap (λ (t : Bool). cond t None (Some (take 8 bytes, number_at 8 8 bytes, drop 16 bytes))) (of_ge (length bytes) 16 long))
+    ∙ sym (ap (λ (t : Bool). cond t None (Some (take 8 bytes, number_at 8 8 bytes, drop 16 bytes))) (le-ltb (length bytes) 16 long))

@@ -88,9 +88,6 @@ module _ (s : Store) (byte large_byte : ℕ → ℕ → ℕ) where
   blind_segments [] p b = b
   blind_segments (k ∷ ks) p b = let r = blind_segments ks p b in record { looked = ap (λ xs. SegmentAt k ∷ xs) r.looked; comes = r.comes }
 
-  blind_value : (v : Plan) → IsBlind (Got v)
-  blind_value v = record { looked = refl; comes = refl }
-
   -- ---- sectors of a file
 
   sector_alike : (x : StoredNode) (j : ℕ) (next other : (ℕ → ℕ) → Ask Plan) → ((a b : ℕ → ℕ) → AreAlike (next a) (other b)) → AreAlike (read_sector x j next) (read_sector x j other)

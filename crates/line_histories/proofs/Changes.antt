@@ -6,10 +6,10 @@ use Rattle.std.specs.Map.{keys_of}
 use Rattle.std.specs.Ordering.{nat_cmp, match_ordering}
 use Rattle.std.specs.declared.cmp.Ordering.{Ordering}
 use Rattle.std.specs.declared.cmp.Ordering.TheVariants.{Less, Equal, Greater}
+use Rattle.std.proofs.lemmas.Bool.{eq-eqb, eqb-true}
 use Rattle.frang_base.specs.declared.change.Change.{Change}
 use Rattle.frang_base.specs.declared.change.Patch.{Patch}
 use Rattle.frang_base.specs.Functions.{member}
-use Rattle.frang_base.proofs.Basics.{of_eq, eq_of}
 use Rattle.sector_bytes.specs.Patches.{patches_with}
 use Rattle.sector_bytes.specs.Replays.{change_at}
 use Rattle.sector_bytes.specs.Sectors.{Sectors}
@@ -75,13 +75,13 @@ module _ (s : ℕ) where
       where
         go : change_at (filter_map f ns) s ≡ (if member s ns then f s else None) → (o : Option Change) → f n ≡ o → (b : Bool) → nat_eq n s ≡ b →
             change_at (cons_option o (filter_map f ns)) s ≡ (if (if b then true else member s ns) then f s else None)
-        go rest None e true q = rest ∙ none (member s ns) (sym (ap f (eq_of n s q)) ∙ e)
+        go rest None e true q = rest ∙ none (member s ns) (sym (ap f (eqb-true n s q)) ∙ e)
           where
             none : (c : Bool) → f s ≡ None → (if c then f s else None) ≡ f s
             none true z = refl
             none false z = sym z
         go rest None e false q = rest
-        go rest (Some c) e true q = let t : nat_eq c.sector.0 s ≡ true = of_eq c.sector.0 s (own n c e ∙ eq_of n s q) in rw t (sym e ∙ ap f (eq_of n s q))
+        go rest (Some c) e true q = let t : nat_eq c.sector.0 s ≡ true = eq-eqb c.sector.0 s (own n c e ∙ eqb-true n s q) in rw t (sym e ∙ ap f (eqb-true n s q))
         go rest (Some c) e false q = let t : nat_eq c.sector.0 s ≡ false = ap (λ m. nat_eq m s) (own n c e) ∙ q in rw t rest
 
 -- the numbers of the sectors with versions that are edited

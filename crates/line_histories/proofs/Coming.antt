@@ -3,11 +3,10 @@ use Rattle.std.proofs.Common.{ℕ, zero, suc, ◌≡◌, ◌<◌, ◌≤◌, ◌
 use Rattle.std.specs.BTreeMap.{is_at}
 use Rattle.std.specs.List.{list_all, Contains}
 use Rattle.std.specs.Ordering.{nat_cmp}
-use Rattle.std.proofs.lemmas.List.Elements.{Contains-append_cases}
 use Rattle.std.proofs.lemmas.List.Folds.{list_all-append}
+use Rattle.std.proofs.lemmas.Bool.{lt-ltb}
 use Rattle.frang_base.specs.declared.bitmap.Bitmap.{Bitmap}
 use Rattle.frang_base.specs.declared.op.Op.{Op}
-use Rattle.frang_base.proofs.Basics.{of_lt}
 use Rattle.tree_definitions.specs.Numbers.{below}
 use Rattle.tree_definitions.specs.Tree.{FileTree}
 use Rattle.tree_definitions.specs.Touched.{shape_of}
@@ -35,16 +34,13 @@ use Rattle.line_histories.specs.Standing.{StandsForShape}
 use Rattle.line_histories.specs.Trees.{MayNumber}
 use Rattle.line_histories.proofs.Disks.{blank_of, files, ever}
 use Rattle.line_histories.proofs.Meeting.{is_clear}
+use Rattle.line_histories.proofs.Owned.{below_less}
 
 -- ---- the hint of all segments
 
 are_below : (segments n : ℕ) → n ≤ segments → are_segments segments (below n) ≡ true
 are_below segments zero l = refl
-are_below segments (suc n) l = list_all-append (λ k. nat_lt k segments) (below n) (n ∷ []) ∙ rw (are_below segments n (omega arith), of_lt n segments (omega arith)) refl
-
-each_below : (n k : ℕ) → Contains (below n) k → k < n
-each_below zero k c = absurd (not_in_none k c)
-each_below (suc n) k c = ⊎_elim (λ a. let l = each_below n k a in omega arith) (λ b. ⊎_elim (λ q. omega arith) (λ d. absurd (not_in_none k d)) (has_cases n k [] b)) (Contains-append_cases (below n) (n ∷ []) k c)
+are_below segments (suc n) l = list_all-append (λ k. nat_lt k segments) (below n) (n ∷ []) ∙ rw (are_below segments n (omega arith), lt-ltb n segments (omega arith)) refl
 
 module _ (segments : ℕ) (disk : Sectors) (there : (k : ℕ) → k < segments → is_some (segment_at disk k) ≡ true) where
   -- each segment of a hint is held
@@ -54,7 +50,7 @@ module _ (segments : ℕ) (disk : Sectors) (there : (k : ℕ) → k < segments �
       let l : j < segments = all j (has_head j hint) in
       let x = a_some (segment_at disk j) (there j l) in
       let first : is_some (if is_at (nat_cmp k) j then Some x.0 else bitmap_of (held_of segments disk hint) k) ≡ true = at x.0 (some_held hint (λ i e. all i (has_more j i hint e)) k) (is_at (nat_cmp k) j) refl in
-      rw (of_lt j segments l, x.1) first
+      rw (lt-ltb j segments l, x.1) first
     where
       at : (x : Bitmap) → (Contains hint k → is_some (bitmap_of (held_of segments disk hint) k) ≡ true) → (b : Bool) → is_at (nat_cmp k) j ≡ b → is_some (if b then Some x else bitmap_of (held_of segments disk hint) k) ≡ true
       at x rest true q = refl
@@ -62,7 +58,7 @@ module _ (segments : ℕ) (disk : Sectors) (there : (k : ℕ) → k < segments �
           ⊎_elim (λ same. absurd (let z : is_at (nat_cmp k) j ≡ true = subst (λ i. is_at (nat_cmp k) i ≡ true) (sym same) (self nat_cmp birth_exact k) in cc)) rest (has_cases j k hint c)
 
   all_held : (k : ℕ) → k < segments → is_some (bitmap_of (held_of segments disk (below segments)) k) ≡ true
-  all_held k l = some_held (below segments) (λ j c. each_below segments j c) k (below_has segments k l)
+  all_held k l = some_held (below segments) (λ j c. below_less segments j c) k (below_has segments k l)
 
 -- ---- the outcome
 

@@ -6,6 +6,7 @@ use Rattle.std.specs.Map.{keys_of}
 use Rattle.frang_base.specs.declared.bitmap.Bitmap.{Bitmap}
 use Rattle.frang_base.specs.declared.op.Op.{Op}
 use Rattle.frang_base.specs.Functions.{member}
+use Rattle.frang_base.proofs.Tests.{same_tests}
 use Rattle.sector_bytes.specs.Blocks.{Block}
 use Rattle.sector_bytes.specs.SectorMaps.{Ascend}
 use Rattle.sector_bytes.specs.Sectors.{Sectors}
@@ -32,12 +33,13 @@ use Rattle.plan_laws.specs.Inside.{AreInside}
 use Rattle.plan_laws.specs.Looked.{edited_at}
 use Rattle.plan_laws.proofs.Deciding.{meets_where}
 use Rattle.plan_laws.specs.Plans.{Planner}
+use Rattle.plan_laws.proofs.Fine.{held_key}
 use Rattle.plan_fit.proofs.LaidOver.{Misses}
 use Rattle.line_laws.specs.Laws.{HasPath}
 use Rattle.line_laws.proofs.AtHand.{agrees}
 use Rattle.line_laws.proofs.Held.{edit_is, none_missing}
 use Rattle.line_laws.proofs.SameChanges.{same_changes}
-use Rattle.line_laws.proofs.Zeroed.{zero_places}
+use Rattle.line_laws.proofs.Zeroed.{zero_places, each_below}
 use Rattle.disk_definitions.specs.Lines.{plan_of_line}
 use Rattle.line_histories.specs.LinePlans.{held_of, hand_by, hand_on, store_showing, store_on, without_bytes, blocks_told, versioned, plain, claims_of, fill_by, lock_in, sole_in, segment_lock, segment_number, outcome_by, outcome_if, outcome_over, are_segments, sector_plan_by}
 use Rattle.line_histories.specs.Planners.{edit_shape, finish_shape, plan_shape, cleared, IsSoundPlanner}
@@ -47,8 +49,8 @@ use Rattle.line_histories.proofs.Apart.{missed}
 use Rattle.line_histories.proofs.Changes.{numbers_of}
 use Rattle.line_histories.proofs.Framed.{all_has}
 use Rattle.line_histories.proofs.Guarded.{versioned_number, plain_number}
-use Rattle.line_histories.proofs.Hands.{hand_is, all_below, each_below}
-use Rattle.line_histories.proofs.HeldSegments.{key_there, there, hinted, below}
+use Rattle.line_histories.proofs.Hands.{hand_is, all_below}
+use Rattle.line_histories.proofs.HeldSegments.{there, hinted, below}
 use Rattle.line_histories.proofs.LinesSound.{lines_are_sound}
 use Rattle.line_histories.proofs.Lists.{member_has, has_filter, has_map}
 use Rattle.line_histories.proofs.Made.{made}
@@ -75,11 +77,6 @@ shaped (Clears k locks) f e = absurd (cc)
 shaped (Finishes g) f e = record { finish = g; is = refl; same = cc }
 
 -- ---- hands
-
-same_test : (a b : Bool) → (a ≡ true → b ≡ true) → (b ≡ true → a ≡ true) → a ≡ b
-same_test true b f g = sym (f refl)
-same_test false true f g = g refl
-same_test false false f g = refl
 
 abbrev hand_from : Segments → Bool → Hand
 hand_from held all = record { held = held; all = all; zeroed = λ block. is_in_state 0 (state_in held block) }
@@ -138,7 +135,7 @@ module _ (planner : Planner) (sound : IsSoundPlanner planner) (op : Op) (cached 
   held_there = hinted segments disk held (there segments disk held sorted of.as_held)
 
   all_there : list_all (λ k. is_some (bitmap_of held k)) (numbers_below segments) ≡ all
-  all_there = same_test (list_all (λ k. is_some (bitmap_of held k)) (numbers_below segments)) all
+  all_there = same_tests (list_all (λ k. is_some (bitmap_of held k)) (numbers_below segments)) all
       (λ e. of.all_held.1 (λ k l. each_below (λ k. is_some (bitmap_of held k)) segments e k l)) (λ e. all_below (λ k. is_some (bitmap_of held k)) segments (of.all_held.0 e))
 
   same_hand : hand_on segments disk hint ≡ cleared h
@@ -163,7 +160,7 @@ module _ (planner : Planner) (sound : IsSoundPlanner planner) (op : Op) (cached 
   looked_there x i = none_missing c (looks p s) met.0 x (subst (λ l. Contains l x) (goes.1 ∙ sym blind.0) i)
 
   held_at_hand : (k : ℕ) → Contains hint k → is_held held k ≡ true
-  held_at_hand k i = by_bitmap (bitmap_of held k) refl (key_there held k i)
+  held_at_hand k i = by_bitmap (bitmap_of held k) refl (held_key held k i)
     where
       by_bitmap : (v : Option Bitmap) → bitmap_of held k ≡ v → is_some v ≡ true → is_held held k ≡ true
       by_bitmap None e i = absurd (cc)

@@ -3,11 +3,11 @@
 use Rattle.std.proofs.Common.{ℕ, zero, suc, ◌≡◌, ◌<◌, ◌≤◌, ◌+◌, ◌-◌, ◌*◌, ◌/◌, ◌%◌, ◌==◌, ◌&&◌, ◌⊎◌, inl, inr, ⊎_elim, Bool, true, false, nat_lt, nat_eq, max, if◌then◌else◌, Option, Some, None, List, [], ◌∷◌, ◌++◌, map, refl, sym, ◌∙◌, ap, subst, arith, le_refl}
 use Rattle.std.specs.List.{Contains}
 use Rattle.std.specs.Map.{keys_of}
-use Rattle.std.proofs.lemmas.Bool.{cases_lt, cases_eq}
+use Rattle.std.proofs.lemmas.Bool.{cases_lt, cases_eq, and_parts, lt-ltb}
 use Rattle.std.proofs.lemmas.Bool.Decides.{nat_tests}
 use Rattle.std.proofs.lemmas.List.Elements.{Contains-append_right}
 use Rattle.frang_base.specs.declared.reply.Reply.TheVariants as reply
-use Rattle.frang_base.proofs.Basics.{of_lt, put_same}
+use Rattle.frang_base.proofs.Basics.{put_same}
 use Rattle.tree_definitions.specs.Tree.{small_blocks_of}
 use Rattle.disk_definitions.specs.Store.{Store, StoredNode, Use, is_unused}
 use Rattle.disk_definitions.specs.Store.Use.{Fresh, Bytes}
@@ -27,6 +27,7 @@ use Rattle.plan_laws.proofs.Covering.{has_head, has_more}
 use Rattle.plan_laws.proofs.Sectors.{old_sector, sector_edits, run-writes, bytes_only}
 use Rattle.plan_laws.specs.Looked.{edited_at}
 use Rattle.plan_laws.proofs.Standing.{IsFileNode, DiskStands}
+use Rattle.plan_laws.proofs.FilesFine.{in_small}
 use Rattle.line_histories.specs.Files.{file_sector, IsWritten}
 use Rattle.line_histories.specs.Sectors.{StaysThere}
 use Rattle.line_histories.proofs.Fine.{IsFilled, AreFine, both_fine}
@@ -89,11 +90,8 @@ module _ (P : Finish → Edit → Type 0) (h : Hand) (s : Store) (n : Naming) (d
       go true e = ap (λ k. BytesAt k (t % 8)) (sym (small (grind (arith, nat_tests))))
       go false e = ap (λ g. LargeAt (g - 1) (t - 128)) (sym (large (grind (arith, nat_tests))))
 
-  has_block : (size t : ℕ) → t < 128 → 512 * t < size → t / 8 < small_blocks_of size
-  has_block size t l m = omega arith
-
   in_file : (t : ℕ) → t < 128 → 512 * t < x.size → t / 8 < x.blocks
-  in_file t l m = subst (λ c. t / 8 < c) (sym file.blocks) (has_block x.size t l m)
+  in_file t l m = subst (λ c. t / 8 < c) (sym file.blocks) (in_small t x.size m l)
 
   -- ---- truncate
   module _ (len when : ℕ) where
@@ -103,8 +101,8 @@ module _ (P : Finish → Edit → Type 0) (h : Hand) (s : Store) (n : Naming) (d
     cut_filled : (es : List Edit) → len ≤ x.size → IsFilled s es i cut
     cut_filled es short one t l =
         let had : 512 * t < x.size = omega arith in
-        stays es cut one t had (λ m. rw (of_lt (t / 8) (small_blocks_of len) (has_block len t m l), of_lt (t / 8) x.blocks (in_file t m had)) refl)
-        (λ m. rw (of_lt 65536 len (omega arith)) refl)
+        stays es cut one t had (λ m. rw (lt-ltb (t / 8) (small_blocks_of len) (in_small t len l m), lt-ltb (t / 8) x.blocks (in_file t m had)) refl)
+        (λ m. rw (lt-ltb 65536 len (omega arith)) refl)
 
     pub cutting_fine : Ends P s (cutting when len i touched x)
     cutting_fine = go (nat_lt x.size len) refl
@@ -166,11 +164,11 @@ module _ (P : Finish → Edit → Type 0) (h : Hand) (s : Store) (n : Naming) (d
         same_large t l m = by_taken o takes
           where
             by_taken : (o : Option ℕ) → Takes o → (resized x w.when size picks o).large ≡ x.large
-            by_taken None e = rw (of_lt 65536 size (omega arith)) refl
+            by_taken None e = rw (lt-ltb 65536 size (omega arith)) refl
             by_taken (Some k) e = absurd (file.large (omega arith) e)
 
         same_small : (t : ℕ) → 512 * t < x.size → t < 128 → y.small (t / 8) ≡ x.small (t / 8)
-        same_small t l m = rw (of_lt (t / 8) (small_blocks_of size) (has_block size t m (omega arith)), of_lt (t / 8) x.blocks (in_file t m l)) refl
+        same_small t l m = rw (lt-ltb (t / 8) (small_blocks_of size) (in_small t size (omega arith) m), lt-ltb (t / 8) x.blocks (in_file t m l)) refl
 
         written_at : (t : ℕ) → (bytes : ℕ → ℕ) → Contains es (set_sector y t bytes) → IsWritten es (file_sector y t)
         written_at t b c = let r = set_at y t b in record { edit = set_sector y t b; among = c; bytes = r.0; here = r.1 }
@@ -219,10 +217,6 @@ module _ (P : Finish → Edit → Type 0) (h : Hand) (s : Store) (n : Naming) (d
       large_fine None z = none_ends P h s n disk reply.NoLarge touched
       large_fine (Some k) z = small_fine (Some k) z
 
-    both : (a b : Bool) → (a && b) ≡ true → b ≡ true
-    both true b e = e
-    both false b e = absurd (cc)
-
     pub writing_fine : Ends P s (writing h w i touched x)
     writing_fine = go (nat_lt x.size w.off) refl (nat_lt 1114112 (end_of w)) (nat_lt 65536 (end_of w) && x.large == 0) refl
       where
@@ -232,6 +226,6 @@ module _ (P : Finish → Edit → Type 0) (h : Hand) (s : Store) (n : Naming) (d
         go false q true c e = (true, tt)
         go false q false true e =
             let low : w.off ≤ x.size = grind (arith, nat_tests) in
-            let z : x.large ≡ 0 = (let p : nat_eq x.large 0 ≡ true = both (nat_lt 65536 (end_of w)) (x.large == 0) e in grind (arith, nat_tests)) in
+            let z : x.large ≡ 0 = (let p : nat_eq x.large 0 ≡ true = (and_parts (nat_lt 65536 (end_of w)) (x.large == 0) e).1 in grind (arith, nat_tests)) in
             subst (IsFinePlan P s) (sym (run-segments (keys_of h.held) (writing_large h w i touched x (picked_large h.held)) s)) (large_fine low (picked_large h.held) z)
         go false q false false e = let low : w.off ≤ x.size = grind (arith, nat_tests) in small_fine low None tt

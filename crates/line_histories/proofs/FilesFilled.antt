@@ -2,8 +2,8 @@
 use Rattle.std.proofs.Common.{ℕ, ◌≡◌, inl, inr, ⊎_elim, not, Bool, true, false, Some, List, refl, sym, ◌∙◌, ap, subst, nat_eq}
 use Rattle.std.specs.List.{Contains}
 use Rattle.std.specs.Option.{unwrap_or}
+use Rattle.std.proofs.lemmas.Bool.{not-true, eq-eqb}
 use Rattle.frang_base.specs.declared.op.Op.{Op}
-use Rattle.frang_base.proofs.Basics.{of_eq}
 use Rattle.tree_definitions.specs.Tree.{FileTree}
 use Rattle.disk_definitions.specs.Store.{Store, Use, is_unused}
 use Rattle.disk_definitions.specs.Store.Use.{Fresh}
@@ -54,10 +54,6 @@ module _ (P : Edit → Type 0) (s : Store) (b : Bool) where
   large_is es g u (SetBytes j part bytes) f q = absurd (cc)
   large_is es g u (SetLargeBytes j part bytes) f q = absurd (cc)
 
-isnt : (u : Bool) → not u ≡ true → u ≡ false
-isnt true e = absurd (cc)
-isnt false e = refl
-
 module _ (o : Op) (h : Hand) (s : Store) (tree : FileTree) (n : Naming) (birth when : ℕ) (f : Finish) (of : IsOfTree s tree n) (hand : IsHandOf h s tree.segments) (e : run (plan_of h birth when o) s ≡ Finishes f) where
   abbrev frees : Bool
   frees = (fine o h s tree n birth when f of hand e).0
@@ -70,13 +66,13 @@ module _ (o : Op) (h : Hand) (s : Store) (tree : FileTree) (n : Naming) (birth w
       let tidy = plans_move o h s tree n birth when f of hand e in
       record {
         small = λ k c.
-            let r = something_said (use_said k) f.edits (SetUse k Fresh) Fresh c (rw (of_eq k k refl) refl) in
+            let r = something_said (use_said k) f.edits (SetUse k Fresh) Fresh c (rw (eq-eqb k k refl) refl) in
             let d = sayer (use_said k) f.edits r.0 r.1 in
             ap is_unused (tidy.uses k ∙ ap (λ v. unwrap_or v (s.use_of k)) r.1) ∙ use_is (IsPiece when o s f) s frees f.edits k r.0 d.0 (one d.0 d.1) d.2 ∙ sym (one (SetUse k Fresh) c);
         large = λ g c.
-            let r = something_said (large_said g) f.edits (SetLarge g false) false c (rw (of_eq g g refl) refl) in
+            let r = something_said (large_said g) f.edits (SetLarge g false) false c (rw (eq-eqb g g refl) refl) in
             let d = sayer (large_said g) f.edits r.0 r.1 in
-            tidy.larges g ∙ ap (λ v. unwrap_or v (s.large_bit g)) r.1 ∙ isnt r.0 (large_is (IsPiece when o s f) s frees f.edits g r.0 d.0 (one d.0 d.1) d.2 ∙ sym (one (SetLarge g false) c));
+            tidy.larges g ∙ ap (λ v. unwrap_or v (s.large_bit g)) r.1 ∙ not-true r.0 (large_is (IsPiece when o s f) s frees f.edits g r.0 d.0 (one d.0 d.1) d.2 ∙ sym (one (SetLarge g false) c));
       }
 
 plans_give_back_free : OfEachFinish plan_of GivesBackFree

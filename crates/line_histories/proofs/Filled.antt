@@ -1,12 +1,11 @@
 -- The sectors that hold bytes of files below their sizes: blocks of their files, which a line doesn't give back, and whose bytes are written.
 use Rattle.std.proofs.Common.{ℕ, ◌≡◌, ◌<◌, ◌≤◌, ◌+◌, ◌-◌, ◌⊎◌, ◌*◌, ◌/◌, ◌%◌, ⊎_elim, Bool, true, false, nat_lt, if◌then◌else◌, Some, None, is_some, List, [], ◌∷◌, length, refl, sym, ◌∙◌, ap, subst, arith}
-use Rattle.std.proofs.lemmas.Bool.{cases_lt}
+use Rattle.std.proofs.lemmas.Bool.{cases_lt, lt-ltb}
 use Rattle.std.proofs.lemmas.Bool.Decides.{nat_tests}
 use Rattle.std.specs.BTreeMap.{is_at}
 use Rattle.std.specs.List.{Contains, flat_map, cons_option}
 use Rattle.std.specs.Ordering.{nat_cmp}
 use Rattle.frang_base.specs.Functions.{member}
-use Rattle.frang_base.proofs.Basics.{of_lt}
 use Rattle.tree_laws.proofs.Pairs.{birth_exact, self}
 use Rattle.sector_bytes.specs.SectorMaps.{value_at}
 use Rattle.sector_bytes.specs.Sectors.{Sectors}
@@ -18,7 +17,7 @@ use Rattle.tree_definitions.specs.declared.node.Node.{Node}
 use Rattle.tree_definitions.specs.declared.node.Node.TheVariants.{Dir, File, Link}
 use Rattle.tree_definitions.specs.Tree.{FileTree, node_at, small_blocks_of}
 use Rattle.tree_definitions.specs.Touched.{shape_of}
-use Rattle.disk_definitions.specs.Naming.{Naming, Pictures, use_for, use_by, inode_of, first_blocks}
+use Rattle.disk_definitions.specs.Naming.{Naming, Pictures, use_for, use_by, inode_of}
 use Rattle.disk_definitions.specs.Store.{Store, is_unused}
 use Rattle.disk_definitions.specs.Store.Use.{Fresh, Bytes, Empty, Entries}
 use Rattle.disk_definitions.specs.Edits.{Edit}
@@ -28,6 +27,7 @@ use Rattle.disk_definitions.specs.Ask.{Sector, InodeAt, DirectoryAt, SegmentAt, 
 use Rattle.disk_definitions.specs.FitEdits.{AreFit}
 use Rattle.disk_definitions.specs.Meets.{IsOfTree}
 use Rattle.disk_definitions.specs.Written.{edit_sector, edited_block, is_metadata, byte_writes, sectors_given_back, freed_sectors}
+use Rattle.disk_definitions.proofs.NodeLaws.{first_is}
 use Rattle.plan_laws.proofs.Covering.{has_cases, not_in_none}
 use Rattle.plan_laws.specs.Looked.{edited_at}
 use Rattle.plan_laws.proofs.Standing.{node_of}
@@ -87,9 +87,6 @@ module _ (s : Store) (tree : FileTree) (n : Naming) (of : IsOfTree s tree n) (fi
       let u : s.use_of k ≡ Bytes = g.uses k ∙ ap (use_for (n.was k) (node_at tree)) o ∙ ap use_by is ∙ bytes in
       (u, ⊎_elim (λ l. l) (λ l. absurd (let z : Fresh ≡ Bytes = sym (of.blocks k l) ∙ u in cc)) (cases_lt k (1024 * tree.segments)))
 
-  first_is : (count : ℕ) (block : ℕ → ℕ) (m : ℕ) → m < count → first_blocks count block m ≡ block m
-  first_is count block m l = rw (of_lt m count l) refl
-
   pub in_use : (x : Sector) → HoldsBytes s x → IsInUse tree.segments s x
   in_use x holds = let r = node_of s (node_at tree) n g holds.inode holds.node holds.is in subst (IsInUse tree.segments s) holds.here (by_node r.birth r.node r.is r.inode)
     where
@@ -117,9 +114,9 @@ module _ (s : Store) (tree : FileTree) (n : Naming) (of : IsOfTree s tree n) (fi
               let inside : 512 * holds.index < length cells = within in
               let short : length cells ≤ 1114112 = long in
               let more : 65536 < length cells = omega arith in
-              let a : holds.node.large ≡ n.large b + 1 = ap (λ z. z.large) q ∙ rw (of_lt 65536 (length cells) more) refl in
+              let a : holds.node.large ≡ n.large b + 1 = ap (λ z. z.large) q ∙ rw (lt-ltb 65536 (length cells) more) refl in
               let k : holds.node.large - 1 ≡ n.large b = omega arith in
-              let o : n.large_owner (holds.node.large - 1) ≡ Some b = ap n.large_owner k ∙ g.larges b (rw is (of_lt 65536 (length cells) more)) in
+              let o : n.large_owner (holds.node.large - 1) ≡ Some b = ap n.large_owner k ∙ g.larges b (rw is (lt-ltb 65536 (length cells) more)) in
               let bit : s.large_bit (holds.node.large - 1) ≡ true = g.large_bits (holds.node.large - 1) ∙ ap is_some o in
               (bit, of.larges (holds.node.large - 1) bit, omega arith)
 

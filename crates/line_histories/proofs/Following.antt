@@ -1,7 +1,7 @@
 -- Covers, kinds, free sectors and those that files have written follow the sectors with versions, along every history.
 use Rattle.std.proofs.Common.{ℕ, ◌≡◌, ◌≢◌, ◌<◌, ◌≤◌, ◌*◌, ⊎_elim, Bool, true, false, ◌&&◌, nat_lt, if◌then◌else◌, Option, Some, None, List, [], ◌∷◌, is_some, zero, suc, refl, sym, ◌∙◌, ap, ap₂, subst}
 use Rattle.std.specs.Option.{option_and_then, option_map, unwrap_or}
-use Rattle.std.proofs.lemmas.Bool.{and_parts}
+use Rattle.std.proofs.lemmas.Bool.{and_parts, ltb-true}
 use Rattle.frang_base.specs.declared.lock.LockId.{LockId}
 use Rattle.frang_base.specs.Functions.{member}
 use Rattle.frang_base.proofs.Basics.{by_keep}
@@ -34,7 +34,7 @@ use Rattle.disk_definitions.specs.Written.{byte_writes, freed_sectors}
 use Rattle.plan_laws.specs.Covers.{cover_of}
 use Rattle.plan_laws.specs.Moves.{first_said, use_said, large_said, moved_by}
 use Rattle.plan_laws.proofs.Moving.{covers_move}
-use Rattle.plan_fit.proofs.Kept.{is_less, in_small, in_large}
+use Rattle.plan_fit.proofs.Kept.{in_small, in_large}
 use Rattle.plan_fit.proofs.LaidOver.{Misses}
 use Rattle.plan_fit.proofs.RecordLaws.{NotTo, misses}
 use Rattle.plan_laws.specs.Numbered.{sector_in, sector_at}
@@ -73,10 +73,10 @@ inside_of : (segments number : ℕ) (x : Sector) → sector_at segments number �
 inside_of segments number x e = go (region_of segments number) refl e
   where
     small : (k part : ℕ) → is_in_range segments (region.Small k part) ≡ true → (k < 1024 * segments) × (part < 8)
-    small k part h = let p = and_parts (nat_lt k (1024 * segments)) (nat_lt part 8) h in (is_less k (1024 * segments) p.0, is_less part 8 p.1)
+    small k part h = let p = and_parts (nat_lt k (1024 * segments)) (nat_lt part 8) h in (ltb-true k (1024 * segments) p.0, ltb-true part 8 p.1)
 
     large : (g part : ℕ) → is_in_range segments (region.Large g part) ≡ true → (g < segments) × (part < 2048)
-    large g part h = let p = and_parts (nat_lt g segments) (nat_lt part 2048) h in (is_less g segments p.0, is_less part 2048 p.1)
+    large g part h = let p = and_parts (nat_lt g segments) (nat_lt part 2048) h in (ltb-true g segments p.0, ltb-true part 2048 p.1)
 
     go : (o : Option Region) → region_of segments number ≡ o → sector_in o ≡ Some x → IsInside segments x
     go None q i = absurd (cc)

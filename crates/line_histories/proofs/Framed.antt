@@ -1,14 +1,13 @@
 -- The plan over the sectors goes by those with versions that it looks at.
 use Rattle.std.proofs.Common.{ℕ, ◌≡◌, ◌+◌, ◌*◌, ◌/◌, ◌%◌, ◌<◌, ◌≤◌, ◌&&◌, ⊎_elim, Bool, true, false, nat_lt, if◌then◌else◌, IsTrue, Option, Some, None, List, [], ◌∷◌, ◌++◌, map, is_some, refl, sym, ap, ap₂, ◌∙◌, subst, arith}
 use Rattle.std.proofs.Math.Path.{fun_ext}
-use Rattle.std.proofs.lemmas.Bool.{cases_lt}
+use Rattle.std.proofs.lemmas.Bool.{cases_lt, le-ltb}
 use Rattle.std.proofs.lemmas.List.Elements.{Contains-append_left, Contains-append_right}
 use Rattle.std.specs.List.{filter_map, cons_option, AllByRecursion, Contains}
 use Rattle.std.specs.Option.{option_map}
 use Rattle.frang_base.specs.declared.change.Change.{Change}
 use Rattle.frang_base.specs.declared.op.Op.{Op}
 use Rattle.frang_base.specs.Functions.{member}
-use Rattle.frang_base.proofs.Basics.{of_ge}
 use Rattle.sector_bytes.specs.Blocks.{Block}
 use Rattle.sector_bytes.specs.Replays.{change_at}
 use Rattle.sector_bytes.specs.Sectors.{Sectors}
@@ -96,7 +95,7 @@ module _ (segments : ℕ) (old new : Sectors) where
             ap (λ block. if nat_lt r 7 then (if nat_lt k (1024 * segments) then entry_in (directory_in block) ((7 * part + r) % 7) else None) else None) (sym f)
 
         outside : (r : ℕ) → 7 ≤ r → seven t.place k part r ≡ seven s.place k part r
-        outside r l = rw (of_ge r 7 l) refl
+        outside r l = rw (le-ltb r 7 l) refl
 
     says : (xs : List Sector) → ((x : Sector) (m : ℕ) → Contains xs x → versioned x ≡ Some m → old m ≡ new m) → AllSayTheSame s t xs
     says [] h = tt

@@ -1,12 +1,11 @@
 -- What edits make of sectors of bytes: what they give back is free, and where they write no bytes nothing is made.
-use Rattle.std.proofs.Common.{ℕ, ◌≡◌, ◌<◌, ⊎_elim, Bool, true, false, nat_eq, if◌then◌else◌, Some, None, List, [], ◌∷◌, map, refl, sym, ◌∙◌, ap, subst}
+use Rattle.std.proofs.Common.{ℕ, ◌≡◌, ◌<◌, Bool, true, false, nat_eq, if◌then◌else◌, Some, None, List, [], ◌∷◌, map, refl, sym, ◌∙◌, ap, subst}
 use Rattle.std.specs.List.{flat_map, cons_option, Contains}
 use Rattle.std.specs.BTreeMap.{is_at}
 use Rattle.std.specs.Option.{option_map}
 use Rattle.std.specs.Ordering.{nat_cmp}
-use Rattle.std.proofs.lemmas.List.Elements.{Contains-append_left, Contains-append_right}
+use Rattle.std.proofs.lemmas.Bool.{eqb-true}
 use Rattle.frang_base.specs.Functions.{member}
-use Rattle.frang_base.proofs.Basics.{eq_of}
 use Rattle.sector_bytes.specs.SectorMaps.{value_at}
 use Rattle.sector_bytes.proofs.MapLaws.{found}
 use Rattle.sector_world.specs.Histories.Fill.{Written, Freed}
@@ -17,7 +16,7 @@ use Rattle.disk_definitions.specs.Store.Use.{Fresh}
 use Rattle.disk_definitions.specs.Edits.{Edit}
 use Rattle.disk_definitions.specs.Edits.Edit.{SetInode, SetBit, SetUse, SetPlace, SetLarge, SetBytes, SetLargeBytes}
 use Rattle.disk_definitions.specs.Written.{edit_sector, edited_block, is_metadata, byte_writes, sectors_given_back, freed_sectors}
-use Rattle.plan_laws.proofs.Covering.{has_cases, not_in_none, map_has, below_has}
+use Rattle.plan_laws.proofs.Covering.{map_has, below_has, flat_has}
 use Rattle.plan_laws.specs.Moves.{first_said, use_said, large_said}
 use Rattle.plan_laws.proofs.Owned.{sayer}
 use Rattle.plan_fit.proofs.LaidOver.{Misses}
@@ -27,12 +26,8 @@ use Rattle.line_histories.proofs.Lists.{has_member}
 
 -- ---- what edits give back
 
-among_flat : {X Y : Type 0} (f : X → List Y) (xs : List X) (x : X) (y : Y) → Contains xs x → Contains (f x) y → Contains (flat_map f xs) y
-among_flat f [] x y h g = absurd (not_in_none x h)
-among_flat f (z ∷ zs) x y h g = ⊎_elim (λ q. Contains-append_left (f z) (flat_map f zs) y (subst (λ w. Contains (f w) y) (sym q) g)) (λ c. Contains-append_right (f z) (flat_map f zs) y (among_flat f zs x y c g)) (has_cases z x zs h)
-
 given_back : (edits : List Edit) (e : Edit) (s : ℕ) → Contains edits e → Contains (sectors_given_back e) s → member s (freed_sectors edits) ≡ true
-given_back edits e s among has = ascending_member s (flat_map sectors_given_back edits) ∙ has_member s (flat_map sectors_given_back edits) (among_flat sectors_given_back edits e s among has)
+given_back edits e s among has = ascending_member s (flat_map sectors_given_back edits) ∙ has_member s (flat_map sectors_given_back edits) (flat_has sectors_given_back edits e s among has)
 
 -- a small block of which the first use that is said is none
 small_back : (k part : ℕ) (e : Edit) → use_said k e ≡ Some Fresh → part < 8 → Contains (sectors_given_back e) (sector_of (region.Small k part))
@@ -42,7 +37,7 @@ small_back k part (SetUse j u) h l = go (nat_eq k j) refl h
   where
     go : (b : Bool) → nat_eq k j ≡ b → (if b then Some u else None) ≡ Some Fresh → Contains (sectors_given_back (SetUse j u)) (sector_of (region.Small k part))
     go true q i =
-        let same : k ≡ j = eq_of k j q in
+        let same : k ≡ j = eqb-true k j q in
         let fresh : Fresh ≡ u = cc in
         subst (λ v. Contains (sectors_given_back (SetUse j v)) (sector_of (region.Small k part))) fresh
         (subst (λ m. Contains (map (λ p. sector_of (region.Small m p)) (below 8)) (sector_of (region.Small k part))) same (map_has (λ p. sector_of (region.Small k p)) (below 8) part (below_has 8 part l)))
@@ -61,7 +56,7 @@ large_back g part (SetLarge j b) h l = go (nat_eq g j) refl h
   where
     go : (c : Bool) → nat_eq g j ≡ c → (if c then Some b else None) ≡ Some false → Contains (sectors_given_back (SetLarge j b)) (sector_of (region.Large g part))
     go true q i =
-        let same : g ≡ j = eq_of g j q in
+        let same : g ≡ j = eqb-true g j q in
         let free : false ≡ b = cc in
         subst (λ v. Contains (sectors_given_back (SetLarge j v)) (sector_of (region.Large g part))) free
         (subst (λ m. Contains (map (λ p. sector_of (region.Large m p)) (below 2048)) (sector_of (region.Large g part))) same (map_has (λ p. sector_of (region.Large g p)) (below 2048) part (below_has 2048 part l)))

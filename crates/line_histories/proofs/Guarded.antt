@@ -1,11 +1,12 @@
 -- Over the disk of a tree, an outcome keeps the guards: by the locks of its plan, and by what the plan looked at.
 use Rattle.std.proofs.Common.{ℕ, ◌≡◌, ◌<◌, ◌*◌, ◌&&◌, inl, inr, ⊎_elim, Bool, true, false, nat_lt, if◌then◌else◌, IsTrue, IsSome, Option, Some, None, List, [], ◌∷◌, ◌++◌, map, is_some, refl, sym, ap, ◌∙◌, subst}
 use Rattle.std.proofs.lemmas.List.Elements.{Contains-append_left, Contains-append_right, Contains-append_cases}
-use Rattle.std.proofs.lemmas.Bool.{and_parts, false≢true}
+use Rattle.std.proofs.lemmas.Bool.{and_parts, false≢true, ltb-true}
 use Rattle.std.specs.BTreeMap.{is_at}
 use Rattle.std.specs.List.{filter_map, Contains}
 use Rattle.std.specs.Option.{option_map, option_and_then, unwrap_or}
 use Rattle.std.specs.Ordering.{nat_cmp}
+use Rattle.std.proofs.lemmas.Option.{same_Some, none-some}
 use Rattle.frang_base.specs.declared.change.Change.{Change}
 use Rattle.frang_base.specs.declared.lock.LockId.{LockId}
 use Rattle.frang_base.specs.declared.lock.LockId.TheVariants as lock
@@ -43,7 +44,6 @@ use Rattle.plan_laws.specs.Looked.{edited_at}
 use Rattle.plan_laws.specs.Covers.{cover_of, IsHeld, PlanHolds, IsHeldSegment}
 use Rattle.plan_laws.specs.Moves.{first_said, use_said, taker_said, small_move, moved_by}
 use Rattle.plan_laws.specs.Plans.{Planner, Fills}
-use Rattle.plan_fit.proofs.Kept.{is_less}
 use Rattle.plan_laws.specs.Numbered.{sector_in, sector_at, moves_of}
 use Rattle.line_histories.specs.LinePlans.{held_of, hand_on, store_showing, store_on, versioned, plain, becomes_directory, is_claimed, claims_of, fill_by, edits_in, lock_in, sole_in, segment_lock, segment_number, outcome_by}
 use Rattle.line_histories.specs.Outcomes.{IsOfAPlan}
@@ -59,27 +59,21 @@ use Rattle.disk_definitions.specs.Lines.{plan_of_line}
 
 -- ---- options
 
-none_some : {A : Type 0} (x : A) → None ≡ Some x → ⊥
-none_some x e = cc
-
-same_some : {A : Type 0} (x y : A) → Some x ≡ Some y → x ≡ y
-same_some x y e = cc
-
 -- ---- numbers
 
 pub versioned_number : (x : Sector) (m : ℕ) → versioned x ≡ Some m → m ≡ number_of x
-versioned_number (InodeAt i) m e = sym (same_some (number_of (InodeAt i)) m e)
-versioned_number (DirectoryAt k part) m e = sym (same_some (number_of (DirectoryAt k part)) m e)
-versioned_number (SegmentAt k) m e = sym (same_some (number_of (SegmentAt k)) m e)
-versioned_number (BytesAt k part) m e = absurd (none_some m e)
-versioned_number (LargeAt g part) m e = absurd (none_some m e)
+versioned_number (InodeAt i) m e = sym (same_Some (number_of (InodeAt i)) m e)
+versioned_number (DirectoryAt k part) m e = sym (same_Some (number_of (DirectoryAt k part)) m e)
+versioned_number (SegmentAt k) m e = sym (same_Some (number_of (SegmentAt k)) m e)
+versioned_number (BytesAt k part) m e = absurd (none-some m e)
+versioned_number (LargeAt g part) m e = absurd (none-some m e)
 
 pub plain_number : (x : Sector) (m : ℕ) → plain x ≡ Some m → m ≡ number_of x
-plain_number (InodeAt i) m e = absurd (none_some m e)
-plain_number (DirectoryAt k part) m e = absurd (none_some m e)
-plain_number (SegmentAt k) m e = absurd (none_some m e)
-plain_number (BytesAt k part) m e = sym (same_some (number_of (BytesAt k part)) m e)
-plain_number (LargeAt g part) m e = sym (same_some (number_of (LargeAt g part)) m e)
+plain_number (InodeAt i) m e = absurd (none-some m e)
+plain_number (DirectoryAt k part) m e = absurd (none-some m e)
+plain_number (SegmentAt k) m e = absurd (none-some m e)
+plain_number (BytesAt k part) m e = sym (same_Some (number_of (BytesAt k part)) m e)
+plain_number (LargeAt g part) m e = sym (same_Some (number_of (LargeAt g part)) m e)
 
 edit_number : (e : Edit) → edit_sector e ≡ number_of (edited_at e)
 edit_number (SetInode i x dated) = refl
@@ -101,8 +95,8 @@ held_used locks more l h = Contains-append_left (map lock_in locks) more l (map_
 -- ---- bytes
 
 -- a value that is found is among the pairs
-value_in : (xs : List (ℕ × List ℕ)) (s : ℕ) (b : List ℕ) → value_at xs s ≡ Some b → Contains xs (s, b)
-value_in [] s b e = absurd (none_some b e)
+pub value_in : (xs : List (ℕ × List ℕ)) (s : ℕ) (b : List ℕ) → value_at xs s ≡ Some b → Contains xs (s, b)
+value_in [] s b e = absurd (none-some b e)
 value_in (x ∷ xs) s b e = go (value_in xs s b) (is_at (nat_cmp s) x.0) refl e
   where
     go : (value_at xs s ≡ Some b → Contains xs (s, b)) → (c : Bool) → is_at (nat_cmp s) x.0 ≡ c → (if c then Some x.1 else value_at xs s) ≡ Some b → Contains (x ∷ xs) (s, b)
@@ -131,20 +125,20 @@ made_some fills (Some fill) e = refl
 
 -- the sector of a place has the place's number
 place_number : (r : Region) (x : Sector) → sector_in (Some r) ≡ Some x → sector_of r ≡ number_of x
-place_number region.Param x e = absurd (none_some x e)
-place_number (region.Log server slot) x e = absurd (none_some x e)
-place_number (region.Segment k) x e = ap number_of (same_some (SegmentAt k) x e)
-place_number (region.Inode j) x e = ap number_of (same_some (InodeAt j) x e)
-place_number (region.Small k part) x e = ap number_of (same_some (DirectoryAt k part) x e)
-place_number (region.Large g part) x e = ap number_of (same_some (LargeAt g part) x e)
+place_number region.Param x e = absurd (none-some x e)
+place_number (region.Log server slot) x e = absurd (none-some x e)
+place_number (region.Segment k) x e = ap number_of (same_Some (SegmentAt k) x e)
+place_number (region.Inode j) x e = ap number_of (same_Some (InodeAt j) x e)
+place_number (region.Small k part) x e = ap number_of (same_Some (DirectoryAt k part) x e)
+place_number (region.Large g part) x e = ap number_of (same_Some (LargeAt g part) x e)
 
 -- a part of a small block is such a place
 place_part : (r : Region) (k part : ℕ) → sector_in (Some r) ≡ Some (DirectoryAt k part) → r ≡ region.Small k part
-place_part region.Param k part e = absurd (none_some (DirectoryAt k part) e)
-place_part (region.Log server slot) k part e = absurd (none_some (DirectoryAt k part) e)
+place_part region.Param k part e = absurd (none-some (DirectoryAt k part) e)
+place_part (region.Log server slot) k part e = absurd (none-some (DirectoryAt k part) e)
 place_part (region.Segment g) k part e = absurd (cc)
 place_part (region.Inode j) k part e = absurd (cc)
-place_part (region.Small j b) k part e = let same : DirectoryAt j b ≡ DirectoryAt k part = same_some (DirectoryAt j b) (DirectoryAt k part) e in cc
+place_part (region.Small j b) k part e = let same : DirectoryAt j b ≡ DirectoryAt k part = same_Some (DirectoryAt j b) (DirectoryAt k part) e in cc
 place_part (region.Large g b) k part e = absurd (cc)
 
 -- a sector that is found is that of a place
@@ -152,7 +146,7 @@ placed_at : (segments s : ℕ) (x : Sector) → sector_at segments s ≡ Some x 
 placed_at segments s x = go (region_of segments s)
   where
     go : (o : Option Region) → sector_in o ≡ Some x → (r : Region) × (o ≡ Some r) × (sector_in (Some r) ≡ Some x)
-    go None i = absurd (none_some x i)
+    go None i = absurd (none-some x i)
     go (Some r) i = (r, refl, i)
 
 -- the number of a sector is its own
@@ -164,14 +158,14 @@ part_inside : (segments s k part : ℕ) → sector_at segments s ≡ Some (Direc
 part_inside segments s k part e =
     let r = placed_at segments s (DirectoryAt k part) e in
     let range = (region_read segments s (region.Small k part) (r.1 ∙ ap Some (place_part r.0 k part r.2))).1 in
-    is_less part 8 (and_parts (nat_lt k (1024 * segments)) (nat_lt part 8) range).1
+    ltb-true part 8 (and_parts (nat_lt k (1024 * segments)) (nat_lt part 8) range).1
 
 -- a sector that is moved is there
 moved_there : (segments : ℕ) (edits : List Edit) (s : ℕ) (new : LockId) → moves_of segments edits s ≡ Some new → (x : Sector) × (sector_at segments s ≡ Some x) × (moved_by edits x ≡ Some new)
 moved_there segments edits s new = go (sector_at segments s)
   where
     go : (o : Option Sector) → option_and_then (moved_by edits) o ≡ Some new → (x : Sector) × (o ≡ Some x) × (moved_by edits x ≡ Some new)
-    go None i = absurd (none_some new i)
+    go None i = absurd (none-some new i)
     go (Some x) i = (x, refl, i)
 
 -- a sector that is claimed is a part of a block that becomes a directory's

@@ -1,13 +1,12 @@
 -- The segments of a hint, with the bitmaps of a disk, are at hand of this disk.
-use Rattle.std.proofs.Common.{ℕ, zero, suc, ◌≡◌, ◌<◌, ◌*◌, ◌/◌, ◌%◌, ◌&&◌, ◌↔◌, ⊎_elim, Bool, true, false, nat_lt, if◌then◌else◌, Option, Some, None, List, [], ◌∷◌, is_some, refl, sym, ap, ◌∙◌, subst, arith}
-use Rattle.std.proofs.lemmas.Bool.{cases_eq}
+use Rattle.std.proofs.Common.{ℕ, zero, suc, ◌≡◌, ◌<◌, ◌*◌, ◌/◌, ◌%◌, ◌↔◌, Bool, true, false, nat_lt, if◌then◌else◌, Option, Some, None, List, [], ◌∷◌, is_some, refl, sym, ap, ◌∙◌, subst, arith}
+use Rattle.std.proofs.lemmas.Bool.{ltb-true, lt-ltb, eqb-true}
 use Rattle.std.proofs.lemmas.List.Folds.{list_all-append}
 use Rattle.std.specs.BTreeMap.{is_at}
 use Rattle.std.specs.List.{cons_option, list_all, Contains}
 use Rattle.std.specs.Option.{option_map}
 use Rattle.std.specs.Ordering.{nat_cmp}
 use Rattle.frang_base.specs.declared.bitmap.Bitmap.{Bitmap}
-use Rattle.frang_base.proofs.Basics.{of_lt, eq_of}
 use Rattle.disk_definitions.specs.declared.region.Region.TheVariants as region
 use Rattle.disk_definitions.specs.Bitmaps.{inode_bit, block_state}
 use Rattle.disk_definitions.specs.Directories.{directory_in}
@@ -23,26 +22,10 @@ use Rattle.disk_definitions.specs.Picks.{is_in_state}
 use Rattle.disk_definitions.proofs.PickLaws.{held_there}
 use Rattle.disk_definitions.specs.Meets.{IsHandOf}
 use Rattle.plan_laws.proofs.Covering.{has_head, has_more}
-use Rattle.plan_fit.proofs.Kept.{is_less}
-use Rattle.line_laws.proofs.Zeroed.{no_entry}
+use Rattle.line_laws.proofs.Zeroed.{no_entry, each_below}
+use Rattle.line_laws.proofs.OfDisk.{some_is}
 use Rattle.line_histories.specs.LinePlans.{held_at, held_of, hand_on, store_on}
 use Rattle.line_histories.specs.Guards.{IsClear}
-
--- what is said of a thing that is there
-some_is : {X Y : Type 0} (f : X → Y) (o : Option X) (x : X) (y : Y) → o ≡ Some x → option_map f o ≡ Some y → f x ≡ y
-some_is f o x y i e = let z : Some (f x) ≡ Some y = sym (ap (option_map f) i) ∙ e in cc
-
--- the test passes for all numbers below n, exactly where it passes for each
-both : (a b : Bool) → (a && (b && true)) ≡ true → (a ≡ true) × (b ≡ true)
-both true true e = (refl, refl)
-both true false e = absurd (cc)
-both false b e = absurd (cc)
-
-pub each_below : (f : ℕ → Bool) (n : ℕ) → list_all f (below n) ≡ true → (p : ℕ) → p < n → f p ≡ true
-each_below f zero e p l = absurd (omega arith)
-each_below f (suc n) e p l =
-    let parts = both (list_all f (below n)) (f n) (sym (list_all-append f (below n) (n ∷ [])) ∙ e) in
-    ⊎_elim (λ q. ap f q ∙ parts.1) (λ q. each_below f n parts.0 p (grind arith)) (cases_eq p n)
 
 pub all_below : (f : ℕ → Bool) (n : ℕ) → ((p : ℕ) → p < n → f p ≡ true) → list_all f (below n) ≡ true
 all_below f zero h = refl
@@ -54,7 +37,7 @@ module _ (segments : ℕ) (disk : Sectors) where
   one_held k v e = go (nat_lt k segments) refl (segment_at disk k) refl e
     where
       go : (b : Bool) → nat_lt k segments ≡ b → (o : Option Bitmap) → segment_at disk k ≡ o → (if b then option_map (λ x. (k, x)) o else None) ≡ Some v → (v.0 ≡ k) × (k < segments) × (segment_at disk k ≡ Some v.1)
-      go true q (Some x) i e = let z : (k, x) ≡ v = cc in (sym (ap (λ y. y.0) z), is_less k segments q, i ∙ ap (λ y. Some y.1) z)
+      go true q (Some x) i e = let z : (k, x) ≡ v = cc in (sym (ap (λ y. y.0) z), ltb-true k segments q, i ∙ ap (λ y. Some y.1) z)
       go true q None i e = absurd (cc)
       go false q o i e = absurd (cc)
 
@@ -94,7 +77,7 @@ module _ (segments : ℕ) (disk : Sectors) (held : Segments) (is : (k : ℕ) (x 
       let h = is (i / 64) x.0 x.1 in
       let l : i / 64 < segments = h.0 in
       let inside : i < 64 * segments = omega arith in
-      rw (of_lt i (64 * segments) inside, h.1) (some_is (λ (x : Bitmap). inode_bit x (i % 64)) (bitmap_of held (i / 64)) x.0 used x.1 e)
+      rw (lt-ltb i (64 * segments) inside, h.1) (some_is (λ (x : Bitmap). inode_bit x (i % 64)) (bitmap_of held (i / 64)) x.0 used x.1 e)
 
   use_is : (k state : ℕ) → state_in held k ≡ Some state → (k < 1024 * segments) × (s.use_of k ≡ use_by state)
   use_is k state e =
@@ -102,13 +85,13 @@ module _ (segments : ℕ) (disk : Sectors) (held : Segments) (is : (k : ℕ) (x 
       let h = is (k / 1024) x.0 x.1 in
       let l : k / 1024 < segments = h.0 in
       let inside : k < 1024 * segments = omega arith in
-      (inside, rw (of_lt k (1024 * segments) inside, h.1) (ap use_by (some_is (λ (x : Bitmap). block_state x (k % 1024)) (bitmap_of held (k / 1024)) x.0 state x.1 e)))
+      (inside, rw (lt-ltb k (1024 * segments) inside, h.1) (ap use_by (some_is (λ (x : Bitmap). block_state x (k % 1024)) (bitmap_of held (k / 1024)) x.0 state x.1 e)))
 
   large_is : (g : ℕ) (used : Bool) → large_in held g ≡ Some used → s.large_bit g ≡ used
   large_is g used e =
       let x = held_there (λ (x : Bitmap). x.large) (bitmap_of held g) used e in
       let h = is g x.0 x.1 in
-      rw (of_lt g segments h.0, h.1) (some_is (λ (x : Bitmap). x.large) (bitmap_of held g) x.0 used x.1 e)
+      rw (lt-ltb g segments h.0, h.1) (some_is (λ (x : Bitmap). x.large) (bitmap_of held g) x.0 used x.1 e)
 
   some_held : (k : ℕ) → is_some (bitmap_of held k) ≡ true → k < segments
   some_held k e = go (bitmap_of held k) refl e
@@ -123,7 +106,7 @@ module _ (segments : ℕ) (disk : Sectors) (held : Segments) (is : (k : ℕ) (x 
     where
       go : (o : Option ℕ) → state_in held k ≡ o → is_in_state 0 o ≡ true → (k < 1024 * segments) × (s.use_of k ≡ Fresh)
       go None q i = absurd (cc)
-      go (Some v) q i = let r = use_is k v q in (r.0, r.1 ∙ ap use_by (eq_of v 0 i))
+      go (Some v) q i = let r = use_is k v q in (r.0, r.1 ∙ ap use_by (eqb-true v 0 i))
 
   pub hand_is : (all : Bool) (zeroed : ℕ → Bool) → ((all ≡ true) ↔ ((k : ℕ) → k < segments → is_some (bitmap_of held k) ≡ true)) → ((k p : ℕ) → zeroed k ≡ true → p < 56 → s.place k p ≡ None) →
       IsHandOf (record { held = held; all = all; zeroed = zeroed }) s segments
@@ -152,7 +135,7 @@ module _ (segments : ℕ) (disk : Sectors) (hint : List ℕ) where
   zero_place clear k p e l =
       let f = hint_fresh k e in
       let z : disk (sector_of (region.Small k (p / 7))) ≡ zero_block = clear k (p / 7) f.0 (omega arith) f.1 in
-      rw (of_lt k (1024 * segments) f.0) (ap (λ block. entry_in (directory_in block) (p % 7)) z ∙ no_entry (p % 7) (omega arith))
+      rw (lt-ltb k (1024 * segments) f.0) (ap (λ block. entry_in (directory_in block) (p % 7)) z ∙ no_entry (p % 7) (omega arith))
 
   pub is_hand : IsClear segments disk → IsHandOf (hand_on segments disk hint) (store_on segments disk) segments
   is_hand clear = hand_is segments disk held hint_is (list_all (λ k. is_some (bitmap_of held k)) (below segments)) (λ k. is_in_state 0 (state_in held k))

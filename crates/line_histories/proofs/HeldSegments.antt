@@ -1,13 +1,13 @@
 -- Held segments whose numbers ascend, as the segments of a hint.
-use Rattle.std.proofs.Common.{ℕ, ◌≡◌, ◌<◌, ◌⊎◌, inl, inr, ⊎_elim, Bool, true, false, if◌then◌else◌, Some, [], ◌∷◌, is_some, refl, sym, ap, ap₂, ◌∙◌, subst}
+use Rattle.std.proofs.Common.{ℕ, ◌≡◌, ◌<◌, ◌⊎◌, ⊎_elim, Bool, true, false, if◌then◌else◌, Some, [], ◌∷◌, refl, ap, ap₂, ◌∙◌, subst}
 use Rattle.std.specs.BTreeMap.{is_at}
 use Rattle.std.specs.List.{cons_option, AllByRecursion, Contains}
 use Rattle.std.specs.List.Sorted.{IsStrictlySortedBy}
 use Rattle.std.specs.Map.{keys_of}
 use Rattle.std.specs.Ordering.{nat_cmp}
 use Rattle.std.specs.declared.cmp.Ordering.TheVariants.{Less, Equal}
+use Rattle.std.proofs.lemmas.Bool.{lt-ltb}
 use Rattle.frang_base.specs.declared.bitmap.Bitmap.{Bitmap}
-use Rattle.frang_base.proofs.Basics.{of_lt}
 use Rattle.sector_bytes.specs.SectorMaps.{Ascend}
 use Rattle.sector_bytes.specs.Sectors.{Sectors}
 use Rattle.tree_laws.proofs.Pairs.{birth_exact, tie, self}
@@ -37,16 +37,6 @@ found (h ∷ held) sorted e c = ⊎_elim
     (λ i. ap (λ b. if b then Some h.1 else bitmap_of held e.0) (apart h.0 e.0 (above h.0 held e sorted.0 i)) ∙ found held sorted.1 e i)
     (has_cases h e held c)
 
--- a key that is among the keys is found
-pub key_there : (held : Segments) (k : ℕ) → Contains (keys_of held) k → is_some (bitmap_of held k) ≡ true
-key_there [] k c = absurd (not_in_none k c)
-key_there (h ∷ held) k c = go (key_there held k) (is_at (nat_cmp k) h.0) refl (has_cases h.0 k (keys_of held) c)
-  where
-    go : (Contains (keys_of held) k → is_some (bitmap_of held k) ≡ true) → (b : Bool) → is_at (nat_cmp k) h.0 ≡ b → (h.0 ≡ k) ⊎ Contains (keys_of held) k → is_some (if b then Some h.1 else bitmap_of held k) ≡ true
-    go rest true e d = refl
-    go rest false e (inl q) = absurd (let z : is_at (nat_cmp k) h.0 ≡ true = subst (λ j. is_at (nat_cmp k) j ≡ true) (sym q) (self nat_cmp birth_exact k) in cc)
-    go rest false e (inr i) = rest i
-
 module _ (segments : ℕ) (disk : Sectors) where
   -- each is one of the disk's, with the disk's bitmap
   abbrev AreThere : Segments → Type 0
@@ -63,8 +53,8 @@ module _ (segments : ℕ) (disk : Sectors) where
   hinted (h ∷ held) all = ap₂ cons_option one (hinted held (rest_there h held all))
     where
       one : held_at segments disk h.0 ≡ Some h
-      one = let r = all h (has_head h held) in rw (of_lt h.0 segments r.0, r.1) refl
+      one = let r = all h (has_head h held) in rw (lt-ltb h.0 segments r.0, r.1) refl
 
   pub below : (held : Segments) → AreThere held → are_segments segments (keys_of held) ≡ true
   below [] all = refl
-  below (h ∷ held) all = let r = all h (has_head h held) in rw (of_lt h.0 segments r.0, below held (rest_there h held all)) refl
+  below (h ∷ held) all = let r = all h (has_head h held) in rw (lt-ltb h.0 segments r.0, below held (rest_there h held all)) refl

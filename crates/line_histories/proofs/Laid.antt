@@ -1,11 +1,10 @@
 -- The sectors with the changes of edits, as histories make them: where no bytes are written they are the disk after the edits, and each keeps its length.
 use Rattle.std.proofs.Common.{ℕ, ◌≡◌, ◌+◌, ◌≤◌, ◌&&◌, Bool, true, false, nat_eq, nat_le, if◌then◌else◌, Option, Some, None, List, [], ◌∷◌, length, refl, sym, ◌∙◌, ap, arith, leb-true}
 use Rattle.std.specs.List.{cons_option}
-use Rattle.std.proofs.lemmas.Bool.{and_parts}
+use Rattle.std.proofs.lemmas.Bool.{and_parts, ne_eqb, eq-eqb}
 use Rattle.frang_base.specs.declared.change.Change.{Change}
 use Rattle.frang_base.specs.declared.change.Patch.{Patch}
 use Rattle.frang_base.specs.Functions.{member}
-use Rattle.frang_base.proofs.Basics.{of_eq, of_ne}
 use Rattle.sector_bytes.specs.Changes.{Fit}
 use Rattle.sector_bytes.specs.Patches.{patches_with, are_apart}
 use Rattle.sector_bytes.specs.Replays.{change_at, forced}
@@ -36,7 +35,7 @@ unnamed (e ∷ edits) s none = go (is_metadata e) refl none (unnamed edits s)
       where
         at : (c : Bool) → nat_eq (edit_sector e) s ≡ c → (if c then true else member s (numbers_of edits)) ≡ false → Misses true s (e ∷ edits)
         at true q h = absurd cc
-        at false q h = ((λ j here. let same : nat_eq (edit_sector e) s ≡ true = of_eq (edit_sector e) s (sym here) in cc), rest h)
+        at false q h = ((λ j here. let same : nat_eq (edit_sector e) s ≡ true = eq-eqb (edit_sector e) s (sym here) in cc), rest h)
 
 missed : (edits : List Edit) (s : ℕ) → Misses true s edits → member s (numbers_of edits) ≡ false
 missed [] s m = refl
@@ -44,7 +43,7 @@ missed (e ∷ edits) s m = go (is_metadata e) refl (missed edits s m.1)
   where
     go : (b : Bool) → is_metadata e ≡ b → member s (numbers_of edits) ≡ false → member s (cons_option (if b then Some (edit_sector e) else None) (numbers_of edits)) ≡ false
     go false i rest = rest
-    go true i rest = ap (λ (t : Bool). if t then true else member s (numbers_of edits)) (of_ne (edit_sector e) s (λ q. m.0 i (sym q))) ∙ rest
+    go true i rest = ap (λ (t : Bool). if t then true else member s (numbers_of edits)) (ne_eqb (edit_sector e) s (λ q. m.0 i (sym q))) ∙ rest
 
 -- ---- the sector
 

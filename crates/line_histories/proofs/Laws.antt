@@ -1,9 +1,10 @@
 -- Where the sectors of files lie after a finished line, and what it writes into them, by the edits of each plan; a refusal edits nothing.
 use Rattle.std.proofs.Common.{ℕ, ◌≡◌, ◌++◌, ◌⊎◌, inl, inr, ⊎_elim, Bool, false, Some, List, [], ◌∷◌, map, refl, sym, ◌∙◌, ap, ap₂, subst}
-use Rattle.std.specs.List.{AllByRecursion, Contains}
+use Rattle.std.specs.List.{Contains}
+use Rattle.std.proofs.lemmas.Bool.{cases_eq}
 use Rattle.frang_base.specs.declared.op.Op.{Op}
 use Rattle.frang_base.specs.Functions.{put}
-use Rattle.frang_base.proofs.Basics.{put_same, put_other, or_equal}
+use Rattle.frang_base.proofs.Basics.{put_same, put_other}
 use Rattle.tree_definitions.specs.Perform.{Step, Goes, resolved}
 use Rattle.tree_definitions.specs.Tree.{FileTree}
 use Rattle.disk_definitions.specs.Store.{Store, StoredNode}
@@ -16,7 +17,7 @@ use Rattle.disk_definitions.specs.PlanOf.{plan_of}
 use Rattle.disk_definitions.specs.Plans.{Hand, Lock, Finish, shared_nodes}
 use Rattle.disk_definitions.specs.Plans.Plan.{Finishes}
 use Rattle.disk_definitions.specs.Written.{is_metadata}
-use Rattle.plan_laws.proofs.Covering.{has_head, has_more, has_cases, not_in_none}
+use Rattle.plan_laws.proofs.Covering.{has_head, has_more, not_in_none, all_has}
 use Rattle.plan_laws.specs.Plans.{OfEachFinish}
 use Rattle.line_laws.proofs.Covered.{by_finish}
 use Rattle.line_laws.proofs.Running.{run_performed}
@@ -25,10 +26,6 @@ use Rattle.line_histories.specs.Sectors.{KeepsOrWrites, LinesKeepOrWrite, IsPiec
 use Rattle.line_histories.proofs.Fine.{Fine}
 use Rattle.line_histories.proofs.Names.{IsFinePlan}
 use Rattle.line_histories.proofs.Each.{plan_fine}
-
-each_of : {X : Type 0} (P : X → Type 0) (xs : List X) → AllByRecursion P xs → (x : X) → Contains xs x → P x
-each_of P [] all x c = absurd (not_in_none x c)
-each_of P (y ∷ ys) all x c = ⊎_elim (λ q. subst P q all.0) (λ d. each_of P ys all.1 x d) (has_cases y x ys c)
 
 -- what stands in an inode after edits stood there before, or is written by one of them
 inode_from : (es : List Edit) (s : Store) (i : ℕ) (y : StoredNode) → (edited_all s es).inode i ≡ Some y → (s.inode i ≡ Some y) ⊎ ((d : Bool) × Contains es (SetInode i (Some y) d))
@@ -39,7 +36,7 @@ inode_from (d ∷ es) s i y e = ⊎_elim (λ q. one d q) (λ r. inr (r.0, has_mo
     one (SetInode j x b) q = ⊎_elim
         (λ same. let here : x ≡ Some y = sym (put_same s.inode j x) ∙ ap (put s.inode j x) (sym same) ∙ q in
         inr (b, subst (Contains (SetInode j x b ∷ es)) (ap₂ (λ a z. SetInode a z b) (sym same) here) (has_head (SetInode j x b) es)))
-        (λ far. inl (sym (put_other s.inode j x i far) ∙ q)) (or_equal i j)
+        (λ far. inl (sym (put_other s.inode j x i far) ∙ q)) (cases_eq i j)
     one (SetBit j b) q = inl q
     one (SetUse k u) q = inl q
     one (SetPlace k p x) q = inl q
@@ -63,7 +60,7 @@ module _ (o : Op) (h : Hand) (s : Store) (tree : FileTree) (n : Naming) (birth w
   fine = subst (IsFinePlan (IsPiece when o s) s) e (plan_fine h s tree n of hand o birth when)
 
   pub one_fine : (d : Edit) → Contains f.edits d → Fine (IsPiece when o s f) s f.edits fine.0 d
-  one_fine d c = each_of (Fine (IsPiece when o s f) s f.edits fine.0) f.edits fine.1 d c
+  one_fine d c = all_has (Fine (IsPiece when o s f) s f.edits fine.0) f.edits fine.1 d c
 
   keeps : KeepsOrWrites s n f
   keeps i t y is one l = ⊎_elim

@@ -1,9 +1,8 @@
 -- The sectors with the changes of a finished line stand for the shape of the tree after it.
 use Rattle.std.proofs.Common.{ℕ, ◌≡◌, ◌+◌, ◌*◌, ◌/◌, ◌%◌, ◌^◌, ◌<◌, ◌≤◌, ◌⊎◌, ⊎_elim, Bool, true, false, List, [], ◌∷◌, is_some, if◌then◌else◌, refl, sym, ◌∙◌, ap, subst, arith}
 use Rattle.std.proofs.Math.Path.{fun_ext}
-use Rattle.std.proofs.lemmas.Bool.{cases_lt}
+use Rattle.std.proofs.lemmas.Bool.{cases_lt, le-ltb}
 use Rattle.frang_base.specs.declared.op.Op.{Op}
-use Rattle.frang_base.proofs.Basics.{of_ge}
 use Rattle.tree_definitions.specs.Tree.{FileTree, node_at}
 use Rattle.tree_definitions.specs.Touched.{shape_of}
 use Rattle.tree_definitions.specs.Apply.{Applied}
@@ -223,7 +222,7 @@ module _ (disk : Sectors) (tree : FileTree) (stands : StandsForShape tree.segmen
   there = store_of segments next
 
   past_fresh : (k : ℕ) → 1024 * segments ≤ k → end.use_of k ≡ Fresh
-  past_fresh k l = sym (in_segments.uses k) ∙ ap (λ (t : Bool). if t then use_in (segment_at next (k / 1024)) (k % 1024) else Fresh) (of_ge k (1024 * segments) l)
+  past_fresh k l = sym (in_segments.uses k) ∙ ap (λ (t : Bool). if t then use_in (segment_at next (k / 1024)) (k % 1024) else Fresh) (le-ltb k (1024 * segments) l)
 
   says : SaysTheSame (with_bytes end there.byte there.large_byte) there
   says = record {

@@ -1,8 +1,8 @@
 -- Elements of lists that are filtered or mapped, as tests and as facts.
 use Rattle.std.proofs.Common.{ℕ, ◌≡◌, ⊎_elim, Bool, true, false, nat_eq, if◌then◌else◌, Option, Some, None, List, [], ◌∷◌, map, refl, ap, ◌∙◌, subst}
 use Rattle.std.specs.List.{filter_map, cons_option, Contains}
+use Rattle.std.proofs.lemmas.Bool.{eq-eqb, eqb-true}
 use Rattle.frang_base.specs.Functions.{member}
-use Rattle.frang_base.proofs.Basics.{of_eq, eq_of}
 use Rattle.plan_laws.proofs.Covering.{has_head, has_more, has_cases, not_in_none}
 
 pub has_member : (s : ℕ) (xs : List ℕ) → Contains xs s → member s xs ≡ true
@@ -11,14 +11,14 @@ has_member s (x ∷ xs) h = go (nat_eq x s) refl (has_member s xs)
   where
     go : (b : Bool) → nat_eq x s ≡ b → (Contains xs s → member s xs ≡ true) → (if b then true else member s xs) ≡ true
     go true e rest = refl
-    go false e rest = rest (⊎_elim (λ q. absurd (let z = of_eq x s q in cc)) (λ i. i) (has_cases x s xs h))
+    go false e rest = rest (⊎_elim (λ q. absurd (let z = eq-eqb x s q in cc)) (λ i. i) (has_cases x s xs h))
 
 pub member_has : (s : ℕ) (xs : List ℕ) → member s xs ≡ true → Contains xs s
 member_has s [] h = absurd (cc)
 member_has s (x ∷ xs) h = go (nat_eq x s) refl h (member_has s xs)
   where
     go : (b : Bool) → nat_eq x s ≡ b → (if b then true else member s xs) ≡ true → (member s xs ≡ true → Contains xs s) → Contains (x ∷ xs) s
-    go true e i rest = subst (Contains (x ∷ xs)) (eq_of x s e) (has_head x xs)
+    go true e i rest = subst (Contains (x ∷ xs)) (eqb-true x s e) (has_head x xs)
     go false e i rest = has_more x s xs (rest i)
 
 pub filter_has : {X Y : Type 0} (f : X → Option Y) (xs : List X) (x : X) (y : Y) → f x ≡ Some y → Contains xs x → Contains (filter_map f xs) y

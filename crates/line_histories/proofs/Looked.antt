@@ -3,10 +3,10 @@ use Rattle.std.proofs.Common.{ℕ, zero, suc, ◌≡◌, ◌<◌, ◌≤◌, ◌
 use Rattle.std.proofs.lemmas.Bool.Decides.{nat_tests}
 use Rattle.std.specs.List.{AllByRecursion, Contains}
 use Rattle.std.specs.Map.{keys_of}
+use Rattle.std.proofs.lemmas.Bool.{eqb-true}
 use Rattle.frang_base.specs.declared.op.Op.{Op}
 use Rattle.frang_base.specs.declared.op.Op.TheVariants as op
 use Rattle.frang_base.specs.declared.reply.Reply.TheVariants as reply
-use Rattle.frang_base.proofs.Basics.{eq_of}
 use Rattle.tree_definitions.specs.Numbers.{below}
 use Rattle.tree_definitions.specs.Perform.{Step, Goes, Stops}
 use Rattle.tree_definitions.specs.Tree.{small_blocks_of}
@@ -162,7 +162,7 @@ module _ (s : Store) where
     with_file_in i touched (Some x) is = go (nat_eq x.kind 1) refl
       where
         go : (b : Bool) → nat_eq x.kind 1 ≡ b → AllIn (looks (if b then next i touched x else refused reply.Inval touched) s)
-        go true e = each i touched x is (eq_of x.kind 1 e)
+        go true e = each i touched x is (eqb-true x.kind 1 e)
         go false e = tt
 
     at_file_in : (g : Target) → AllIn (looks (at_file next g) s)

@@ -1,12 +1,11 @@
 -- What a finished line writes and frees is what its outcome makes of the cached blocks that it reads.
 use Rattle.std.proofs.Common.{ℕ, ◌≡◌, ◌<◌, ◌≤◌, ◌+◌, ◌*◌, ◌/◌, ◌%◌, ⊎_elim, Bool, true, false, nat_eq, nat_lt, if◌then◌else◌, Option, Some, None, List, [], ◌∷◌, is_some, slice_index, refl, sym, ap, ap₂, ◌∙◌, subst, arith}
 use Rattle.std.proofs.Math.Path.{fun_ext}
-use Rattle.std.proofs.lemmas.Bool.{cases_lt}
+use Rattle.std.proofs.lemmas.Bool.{cases_lt, eq-eqb, le-ltb, eqb-true}
 use Rattle.std.specs.List.{filter_map, Contains}
 use Rattle.std.specs.Option.{option_map, unwrap_or}
 use Rattle.frang_base.specs.declared.op.Op.{Op}
 use Rattle.frang_base.specs.Functions.{member}
-use Rattle.frang_base.proofs.Basics.{of_ge, of_eq, eq_of}
 use Rattle.sector_bytes.specs.Blocks.{Block}
 use Rattle.sector_bytes.specs.SectorMaps.{value_at}
 use Rattle.sector_bytes.specs.Sectors.{Sectors}
@@ -46,7 +45,7 @@ part_same f g k part h = fun_ext (λ r. ⊎_elim (inside r) (outside r) (cases_l
     inside r l = ap (λ v. if nat_lt r 512 then v else 0) (h r l)
 
     outside : (r : ℕ) → 512 ≤ r → part_of f k part r ≡ part_of g k part r
-    outside r l = rw (of_ge r 512 l) refl
+    outside r l = rw (le-ltb r 512 l) refl
 
 -- what is made of a block is what is made where it's shown, if that's of the same shape
 made_shown : (fills : Option Block → Option Fill) (shown : Option Block) (a b : Option Fill) → fills shown ≡ b → fill_shape b ≡ fill_shape a → made_of (option_map (λ fill shown. unwrap_or (fills shown) fill) a) shown ≡ b
@@ -58,7 +57,7 @@ made_shown fills shown (Some Freed) None q e = absurd (cc)
 made_shown fills shown (Some fill) (Some other) q e = ap (λ o. Some (unwrap_or o fill)) q
 
 -- what is made is what the plan makes of what is shown
-made_exact : (planned : Option Block → Plan) (number : ℕ) (shown : Option Block) → fill_shape (fill_by (edits_in (planned shown)) number) ≡ fill_shape (fill_by (edits_in (planned None)) number) →
+pub made_exact : (planned : Option Block → Plan) (number : ℕ) (shown : Option Block) → fill_shape (fill_by (edits_in (planned shown)) number) ≡ fill_shape (fill_by (edits_in (planned None)) number) →
     made_of (makes_by planned number) shown ≡ fill_by (edits_in (planned shown)) number
 made_exact planned number shown same =
     made_shown (λ shown. fill_by (edits_in (planned shown)) number) shown (fill_by (edits_in (planned None)) number) (fill_by (edits_in (planned shown)) number) refl same
@@ -135,7 +134,7 @@ module _ (planner : Planner) (sound : IsSoundPlanner planner) (places : WritesIn
       where
         go : (d : Bool) → nat_eq (number_of x) number ≡ d → d ≡ false
         go false e = refl
-        go true e = absurd (let z : member number reads ≡ true = has_member number reads (filter_has plain (looks q b) x number (p ∙ ap Some (eq_of (number_of x) number e)) c) in cc)
+        go true e = absurd (let z : member number reads ≡ true = has_member number reads (filter_has plain (looks q b) x number (p ∙ ap Some (eqb-true (number_of x) number e)) c) in cc)
 
     says : (xs : List Sector) → ((x : Sector) → Contains xs x → Contains (looks q b) x) → AllSayTheSame s (with_bytes s byte large_byte) xs
     says [] among = tt
@@ -162,11 +161,11 @@ module _ (planner : Planner) (sound : IsSoundPlanner planner) (places : WritesIn
     same_zero = record {
       small = λ k part e. part_same (λ k index. byte_shown None (index % 512)) byte k part
           (λ r l. let a : part ≡ (512 * part + r) / 512 = omega arith in
-          let t : nat_eq (number_of (BytesAt k ((512 * part + r) / 512))) number ≡ true = of_eq (number_of (BytesAt k ((512 * part + r) / 512))) number (ap (λ z. number_of (BytesAt k z)) (sym a) ∙ e) in
+          let t : nat_eq (number_of (BytesAt k ((512 * part + r) / 512))) number ≡ true = eq-eqb (number_of (BytesAt k ((512 * part + r) / 512))) number (ap (λ z. number_of (BytesAt k z)) (sym a) ∙ e) in
           ap (λ z. if z then 0 else s.byte k (512 * part + r)) (sym t));
       large = λ h part e. part_same (λ k index. byte_shown None (index % 512)) large_byte h part
           (λ r l. let a : part ≡ (512 * part + r) / 512 = omega arith in
-          let t : nat_eq (number_of (LargeAt h ((512 * part + r) / 512))) number ≡ true = of_eq (number_of (LargeAt h ((512 * part + r) / 512))) number (ap (λ z. number_of (LargeAt h z)) (sym a) ∙ e) in
+          let t : nat_eq (number_of (LargeAt h ((512 * part + r) / 512))) number ≡ true = eq-eqb (number_of (LargeAt h ((512 * part + r) / 512))) number (ap (λ z. number_of (LargeAt h z)) (sym a) ∙ e) in
           ap (λ z. if z then 0 else s.large_byte h (512 * part + r)) (sym t));
     }
 

@@ -1,6 +1,6 @@
 -- The test of what may be planned says what may be asked of a plan and has a path.
 use Rattle.std.proofs.Common.{ℕ, ◌≡◌, ◌<◌, ◌≤◌, ◌&&◌, Bool, true, false, nat_lt, nat_le, List, [], ◌∷◌, length, refl, arith}
-use Rattle.std.proofs.lemmas.Bool.{and_parts}
+use Rattle.std.proofs.lemmas.Bool.{and_parts, and_from}
 use Rattle.std.proofs.lemmas.Bool.Decides.{nat_tests}
 use Rattle.std.specs.List.{AllByRecursion, list_all}
 use Rattle.frang_base.specs.Name.{is_name, is_target, is_target_byte}
@@ -56,19 +56,16 @@ names_pass path a = all_pass is_name path a
 pass_names : (path : List (List ℕ)) → are_names path ≡ true → AreNames path
 pass_names path e = pass_all is_name path e
 
-both_pass : (a b : Bool) → a ≡ true → b ≡ true → (a && b) ≡ true
-both_pass a b e f = rw (e, f) refl
-
 pub may : (o : Op) → IsAllowed o → HasPath o → may_be_planned o ≡ true
 may (op.Create path) a p = names_pass path a
 may (op.Mkdir path) a p = names_pass path a
-may (op.Symlink path target) a p = both_pass (are_names path) (is_target target) (names_pass path a.0) (target_passes target a.1)
-may (op.Link path to) a p = both_pass (are_names path) (are_names to) (names_pass path a.0) (names_pass to a.1)
+may (op.Symlink path target) a p = and_from (are_names path) (is_target target) (names_pass path a.0) (target_passes target a.1)
+may (op.Link path to) a p = and_from (are_names path) (are_names to) (names_pass path a.0) (names_pass to a.1)
 may (op.Unlink path) a p = names_pass path a
 may (op.Rmdir path) a p = names_pass path a
-may (op.Rename path to) a p = both_pass (are_names path) (are_names to) (names_pass path a.0) (names_pass to a.1)
-may (op.Write path off bytes) a p = both_pass (are_names path) (list_all (λ b. nat_lt b 256) bytes) (names_pass path a.0) (bytes_pass bytes a.1)
-may (op.Fill path off len byte) a p = both_pass (are_names path) (nat_lt byte 256) (names_pass path a.0) (small byte a.1)
+may (op.Rename path to) a p = and_from (are_names path) (are_names to) (names_pass path a.0) (names_pass to a.1)
+may (op.Write path off bytes) a p = and_from (are_names path) (list_all (λ b. nat_lt b 256) bytes) (names_pass path a.0) (bytes_pass bytes a.1)
+may (op.Fill path off len byte) a p = and_from (are_names path) (nat_lt byte 256) (names_pass path a.0) (small byte a.1)
 may (op.Truncate path len) a p = names_pass path a
 may (op.Read path off len) a p = names_pass path a
 may (op.Stat path) a p = names_pass path a

@@ -2,12 +2,12 @@
 use Rattle.std.proofs.Common.{ℕ, zero, suc, ◌≡◌, ◌<◌, ◌≤◌, ◌/◌, ◌^◌, inl, inr, ⊎_elim, Bool, true, false, if◌then◌else◌, IsSome, Option, Some, None, List, [], ◌∷◌, refl, sym, ap, ◌∙◌, subst, arith}
 use Rattle.std.proofs.lemmas.List.Elements.{Contains-append_cases, Contains-push_cases}
 use Rattle.std.specs.List.{flat_map, Contains}
+use Rattle.std.proofs.lemmas.Bool.{eq-eqb}
 use Rattle.frang_base.specs.declared.change.Change.{Change}
 use Rattle.frang_base.specs.declared.lock.LockId.{LockId}
 use Rattle.frang_base.specs.declared.lock.LockId.TheVariants as lock
 use Rattle.frang_base.specs.declared.op.Op.{Op}
 use Rattle.frang_base.specs.Functions.{member}
-use Rattle.frang_base.proofs.Basics.{of_eq}
 use Rattle.sector_bytes.specs.Blocks.{Block}
 use Rattle.sector_bytes.specs.Replays.{change_at}
 use Rattle.sector_bytes.specs.Sectors.{Sectors}
@@ -162,7 +162,7 @@ module _ (planner : Planner) (sound : IsSoundPlanner planner) (segments : ℕ) (
 
   freed_small : (k part number : ℕ) (u : Use) → Contains f.edits (SetUse k u) → part < 8 → sector_of (region.Small k part) ≡ number → IsCoveredAt segments naming o.alone number
   freed_small k part number u c l e =
-      let said : use_said k (SetUse k u) ≡ Some u = ap (λ z. if z then Some u else None) (of_eq k k refl) in
+      let said : use_said k (SetUse k u) ≡ Some u = ap (λ z. if z then Some u else None) (eq-eqb k k refl) in
       let first = something_said (use_said k) f.edits (SetUse k u) u c said in
       let new = small_moves k first.0 first.1 in
       let inside = (one_fit segments (edited_all b f.edits) f.edits (SetUse k u) fit c).0 in
@@ -171,7 +171,7 @@ module _ (planner : Planner) (sound : IsSoundPlanner planner) (segments : ℕ) (
 
   freed_large : (g part number : ℕ) (u : Bool) → Contains f.edits (SetLarge g u) → part < 2048 → sector_of (region.Large g part) ≡ number → IsCoveredAt segments naming o.alone number
   freed_large g part number u c l e =
-      let said : large_said g (SetLarge g u) ≡ Some u = ap (λ z. if z then Some u else None) (of_eq g g refl) in
+      let said : large_said g (SetLarge g u) ≡ Some u = ap (λ z. if z then Some u else None) (eq-eqb g g refl) in
       let first = something_said (large_said g) f.edits (SetLarge g u) u c said in
       let new = large_moves g first.0 first.1 in
       let inside = (one_fit segments (edited_all b f.edits) f.edits (SetLarge g u) fit c).0 in

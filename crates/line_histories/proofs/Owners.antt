@@ -1,20 +1,18 @@
 -- Two parts of files that lie in one sector are one.
 use Rattle.std.proofs.Common.{ℕ, ◌≡◌, ◌<◌, ◌≤◌, ◌+◌, ◌-◌, ◌*◌, ◌/◌, ◌%◌, Bool, true, false, nat_lt, if◌then◌else◌, Option, Some, None, List, length, is_some, refl, sym, ◌∙◌, ap, subst, arith}
 use Rattle.std.proofs.lemmas.Bool.Decides.{nat_tests}
-use Rattle.frang_base.proofs.Basics.{of_lt}
+use Rattle.std.proofs.lemmas.Bool.{lt-ltb}
 use Rattle.tree_definitions.specs.declared.cells.Cell.{Cell}
 use Rattle.tree_definitions.specs.declared.node.Node.{Node}
 use Rattle.tree_definitions.specs.declared.node.Node.TheVariants.{Dir, File, Link}
 use Rattle.tree_definitions.specs.Tree.{small_blocks_of}
 use Rattle.disk_definitions.specs.Store.{Store, StoredNode}
-use Rattle.disk_definitions.specs.Naming.{Naming, Nodes, Pictures, first_blocks, inode_of}
+use Rattle.disk_definitions.specs.Naming.{Naming, Nodes, Pictures, inode_of}
 use Rattle.disk_definitions.proofs.Kept.{inode_is}
 use Rattle.disk_definitions.specs.Ask.{BytesAt, LargeAt}
+use Rattle.disk_definitions.proofs.NodeLaws.{first_is}
 use Rattle.plan_laws.proofs.Standing.{node_of}
 use Rattle.line_histories.specs.Files.{file_sector}
-
-first_is : (count : ℕ) (block : ℕ → ℕ) (m : ℕ) → m < count → first_blocks count block m ≡ block m
-first_is count block m l = rw (of_lt m count l) refl
 
 -- of a pair, where there is one
 abbrev first_of : Option (ℕ × ℕ) → ℕ
@@ -49,9 +47,9 @@ module _ (s : Store) (at : Nodes) (n : Naming) (g : Pictures s at n) where
                 ap n.owner (ap (λ z. z.small (t / 8)) q ∙ first_is (small_blocks_of (length cells)) (n.block b) (t / 8) inside) ∙ g.owned b (t / 8) (rw here inside);
             large = λ high.
                 let more : 65536 < length cells = omega arith in
-                let a : y.large ≡ n.large b + 1 = ap (λ z. z.large) q ∙ rw (of_lt 65536 (length cells) more) refl in
+                let a : y.large ≡ n.large b + 1 = ap (λ z. z.large) q ∙ rw (lt-ltb 65536 (length cells) more) refl in
                 let k : y.large - 1 ≡ n.large b = omega arith in
-                ap n.large_owner k ∙ g.larges b (rw here (of_lt 65536 (length cells) more));
+                ap n.large_owner k ∙ g.larges b (rw here (lt-ltb 65536 (length cells) more));
           }
 
   -- one sector, one part

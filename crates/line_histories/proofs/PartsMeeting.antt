@@ -1,11 +1,10 @@
 -- A write or fill whose path leads to the inode of a file meets the parts of this file that its bytes reach.
 use Rattle.std.proofs.Common.{ℕ, ◌≡◌, ◌<◌, ◌≤◌, ◌+◌, ◌-◌, ◌*◌, ◌/◌, ◌==◌, ◌&&◌, Bool, true, false, nat_eq, nat_lt, if◌then◌else◌, Some, List, length, is_some, slice_index, refl, sym, ◌∙◌, ap, subst, arith}
-use Rattle.std.proofs.lemmas.Bool.{and_from}
+use Rattle.std.proofs.lemmas.Bool.{and_from, eq-eqb, lt-ltb}
 use Rattle.std.proofs.lemmas.Bool.Decides.{nat_tests}
 use Rattle.frang_base.specs.declared.op.Op.{Op}
 use Rattle.frang_base.specs.declared.op.Op.TheVariants as op
 use Rattle.frang_base.specs.declared.reply.Reply.TheVariants as reply
-use Rattle.frang_base.proofs.Basics.{of_eq, of_lt}
 use Rattle.tree_definitions.specs.Entries.{Entries}
 use Rattle.tree_definitions.specs.History.{file_at}
 use Rattle.tree_definitions.specs.Place.{Place, Root, Taken, Free, Nowhere, place}
@@ -44,7 +43,7 @@ reaches off len t lo hi = go (nat_eq len 0) refl hi
         let b : off < 512 * (t + 1) = omega arith in
         let c : 512 * t < off + len = omega arith in
         and_from (nat_lt off (off + len) && nat_lt off (512 * (t + 1))) (nat_lt (512 * t) (off + len))
-        (and_from (nat_lt off (off + len)) (nat_lt off (512 * (t + 1))) (of_lt off (off + len) a) (of_lt off (512 * (t + 1)) b)) (of_lt (512 * t) (off + len) c)
+        (and_from (nat_lt off (off + len)) (nat_lt off (512 * (t + 1))) (lt-ltb off (off + len) a) (lt-ltb off (512 * (t + 1)) b)) (lt-ltb (512 * t) (off + len) c)
 
 -- ---- where the path leads
 
@@ -56,7 +55,7 @@ module _ (s : Store) (tree : FileTree) (n : Naming) (of : IsOfTree s tree n) (b 
   file_met : (from to : ℕ) → meets part from to ≡ true → (c : ℕ) → c ≡ b → (dir : ℕ) (es : Entries) (k : ℕ) (name : List ℕ) → meets_in b part (file_at tree (Taken dir es k name c)) from to ≡ true
   file_met from to m c e dir es k name =
       let f = file_there s (node_at tree) n of.pictures b x there is one in
-      subst (λ c. meets_in b part (file_at tree (Taken dir es k name c)) from to ≡ true) (sym e) (rw f.is (and_from (b == b) (meets part from to) (of_eq b b refl) m))
+      subst (λ c. meets_in b part (file_at tree (Taken dir es k name c)) from to ≡ true) (sym e) (rw f.is (and_from (b == b) (meets part from to) (eq-eqb b b refl) m))
 
   by_spot : (from to : ℕ) → meets part from to ≡ true → (v : Spot) (p : Place) → Mirrors s (node_at tree) n v p → spot_inode v ≡ Some (n.inode b) → meets_in b part (file_at tree p) from to ≡ true
   by_spot from to m (AtName i y name slot entry) (Taken dir es k known c) same l =

@@ -6,10 +6,10 @@ use Rattle.std.specs.BTreeMap.{is_at}
 use Rattle.std.specs.Map.{keys_of}
 use Rattle.std.specs.Option.{option_or}
 use Rattle.std.specs.Ordering.{nat_cmp}
+use Rattle.std.proofs.lemmas.Bool.{lt-ltb}
 use Rattle.frang_base.specs.declared.op.Op.{Op}
 use Rattle.frang_base.specs.declared.op.Op.TheVariants as op
 use Rattle.frang_base.specs.declared.reply.Reply.TheVariants as reply
-use Rattle.frang_base.proofs.Basics.{of_lt}
 use Rattle.sector_bytes.specs.SectorMaps.{value_at}
 use Rattle.tree_definitions.specs.Numbers.{below}
 use Rattle.tree_definitions.specs.Perform.{Step, Goes, Stops}
@@ -173,14 +173,14 @@ module _ (base : Store) (tree : FileTree) (naming : Naming) (of : IsOfTree base 
             let a : j / 8 < small_blocks_of size = in_small j size (omega arith) m in
             let b : j / 8 < small_blocks_of x.size = in_small j x.size inside m in
             let c : j / 8 < x.blocks = subst (λ z. j / 8 < z) (sym file.blocks) b in
-            rw (of_lt (j / 8) (small_blocks_of size) a, of_lt (j / 8) x.blocks c) refl
+            rw (lt-ltb (j / 8) (small_blocks_of size) a, lt-ltb (j / 8) x.blocks c) refl
 
         high : 128 ≤ j → (y picks o).large ≡ x.large
         high m =
             let i : 512 * j < x.size = inside in
             let g : x.size ≤ size = longer in
             let big : 65536 < x.size = omega arith in
-            ap (λ z. (y picks z).large) (none big) ∙ rw (of_lt 65536 size (omega arith)) refl
+            ap (λ z. (y picks z).large) (none big) ∙ rw (lt-ltb 65536 size (omega arith)) refl
 
     in_is : (picks : List ℕ) (o : Option ℕ) → (65536 < x.size → o ≡ None) → IsSame (writing_in w i touched x picks o)
     in_is picks o none =

@@ -3,11 +3,11 @@ use Rattle.std.proofs.Common.{ℕ, ◌≡◌, ◌+◌, ◌&&◌, ◌||◌, Bool,
 use Rattle.std.proofs.Math.Path.{fun_ext}
 use Rattle.std.specs.List.{filter_map, cons_option, flat_map, list_any}
 use Rattle.std.specs.Option.{option_and_then, option_or}
+use Rattle.std.proofs.lemmas.Bool.{ne_eqb, eq-eqb}
 use Rattle.frang_base.specs.declared.lock.LockId.{LockId}
 use Rattle.frang_base.specs.declared.reply.Reply.{Reply}
 use Rattle.frang_base.specs.declared.reply.Reply.TheVariants as reply
 use Rattle.frang_base.specs.Functions.{member}
-use Rattle.frang_base.proofs.Basics.{of_eq, eq_of}
 use Rattle.sector_bytes.specs.Patches.{patches_with}
 use Rattle.sector_bytes.specs.Sectors.{Sectors}
 use Rattle.disk_definitions.specs.Inodes.{is_time_place}
@@ -175,7 +175,7 @@ pub numbers_same : (es fs : List Edit) → map edit_shape es ≡ map edit_shape 
 numbers_same es fs same = sym (numbers_shape es) ∙ ap numbers_of same ∙ numbers_shape fs
 
 -- which sectors are missed goes by the shapes
-is_metadata_same : (e : Edit) → is_metadata (edit_shape e) ≡ is_metadata e
+pub is_metadata_same : (e : Edit) → is_metadata (edit_shape e) ≡ is_metadata e
 is_metadata_same (SetInode j x dated) = refl
 is_metadata_same (SetBit j b) = refl
 is_metadata_same (SetUse k u) = refl
@@ -221,13 +221,6 @@ dated_shape s (e ∷ es) = ap₂ (λ a b. a || b) (dates_same s e) (dated_shape 
 forced_shape : (es : List Edit) (s : ℕ) → forced_in (map edit_shape es) s ≡ forced_in es s
 forced_shape es s = fun_ext (λ at. ap (λ b. is_time_place at && b) (dated_shape s es))
 
-not_equal : (a b : ℕ) → (a ≡ b → ⊥) → nat_eq a b ≡ false
-not_equal a b f = go (nat_eq a b) refl
-  where
-    go : (c : Bool) → nat_eq a b ≡ c → c ≡ false
-    go true e = absurd (f (eq_of a b e))
-    go false e = refl
-
 -- bytes that go elsewhere don't change a sector
 module _ (s : ℕ) where
   one_same : (x y : Sectors) (e : Edit) → (is_metadata e ≡ false → s ≡ edit_sector e → ⊥) → x s ≡ y s → edited_sectors x (edit_shape e) s ≡ edited_sectors y e s
@@ -236,8 +229,8 @@ module _ (s : ℕ) where
   one_same x y (SetUse k u) miss q = edited_same x y (SetUse k u ∷ []) x y s q
   one_same x y (SetPlace k p o) miss q = edited_same x y (SetPlace k p o ∷ []) x y s q
   one_same x y (SetLarge g b) miss q = edited_same x y (SetLarge g b ∷ []) x y s q
-  one_same x y (SetBytes k part bytes) miss q = let e : nat_eq s (edit_sector (SetBytes k part bytes)) ≡ false = not_equal s (edit_sector (SetBytes k part bytes)) (miss refl) in rw e q
-  one_same x y (SetLargeBytes g part bytes) miss q = let e : nat_eq s (edit_sector (SetLargeBytes g part bytes)) ≡ false = not_equal s (edit_sector (SetLargeBytes g part bytes)) (miss refl) in rw e q
+  one_same x y (SetBytes k part bytes) miss q = let e : nat_eq s (edit_sector (SetBytes k part bytes)) ≡ false = ne_eqb s (edit_sector (SetBytes k part bytes)) (miss refl) in rw e q
+  one_same x y (SetLargeBytes g part bytes) miss q = let e : nat_eq s (edit_sector (SetLargeBytes g part bytes)) ≡ false = ne_eqb s (edit_sector (SetLargeBytes g part bytes)) (miss refl) in rw e q
 
   edited_shape : (es : List Edit) (x y : Sectors) → Misses false s es → x s ≡ y s → all_edited x (map edit_shape es) s ≡ all_edited y es s
   edited_shape [] x y m q = q
@@ -249,7 +242,7 @@ filter_same f g [] h = refl
 filter_same f g (n ∷ ns) h = ap₂ cons_option (h n (first n ns)) (filter_same f g ns (λ m i. h m (more m n ns i)))
   where
     first : (n : ℕ) (ns : List ℕ) → member n (n ∷ ns) ≡ true
-    first n ns = let e : nat_eq n n ≡ true = of_eq n n refl in rw e refl
+    first n ns = let e : nat_eq n n ≡ true = eq-eqb n n refl in rw e refl
 
     more : (m n : ℕ) (ns : List ℕ) → member m ns ≡ true → member m (n ∷ ns) ≡ true
     more m n ns i = go (nat_eq n m)

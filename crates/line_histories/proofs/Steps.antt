@@ -1,6 +1,7 @@
 -- What a finished line does to covers, uses and bytes, by what the sectors with versions say before and after it.
 use Rattle.std.proofs.Common.{ℕ, ◌≡◌, ◌^◌, ◌<◌, ◌⊎◌, inl, inr, ⊎_elim, true, false, List, [], ◌∷◌, refl, sym, ◌∙◌, ap, subst}
 use Rattle.std.specs.List.{Contains}
+use Rattle.plan_fit.proofs.Uses.{is_metadata, metadata_is}
 use Rattle.frang_base.specs.declared.op.Op.{Op}
 use Rattle.tree_definitions.specs.Tree.{FileTree}
 use Rattle.tree_definitions.specs.Touched.{shape_of}
@@ -8,8 +9,8 @@ use Rattle.tree_laws.specs.WellFormed.{IsNew}
 use Rattle.sector_bytes.specs.Sectors.{Sectors}
 use Rattle.disk_definitions.specs.Naming.{Naming}
 use Rattle.disk_definitions.specs.Standing.{IsMetadata}
-use Rattle.disk_definitions.specs.Store.{Store, Use, is_unused}
-use Rattle.disk_definitions.specs.Store.Use.{Fresh, Bytes, Empty, Entries}
+use Rattle.disk_definitions.specs.Store.{Store, is_unused}
+use Rattle.disk_definitions.specs.Store.Use.{Fresh}
 use Rattle.disk_definitions.specs.Held.{state_in}
 use Rattle.disk_definitions.specs.Picks.{is_in_state}
 use Rattle.disk_definitions.specs.Edits.{Edit, edited_all}
@@ -34,18 +35,6 @@ use Rattle.line_histories.proofs.Leading.{inodes_next, bits_next, uses_next, lar
 use Rattle.line_histories.proofs.Meeting.{is_clear, hand_clear}
 
 -- ---- the uses of a directory's block
-
-is_metadata : (u : Use) → is_directory_use u ≡ true → IsMetadata u
-is_metadata Fresh e = absurd (cc)
-is_metadata Bytes e = absurd (cc)
-is_metadata Empty e = tt
-is_metadata Entries e = tt
-
-of_metadata : (u : Use) → IsMetadata u → is_directory_use u ≡ true
-of_metadata Fresh m = absurd m
-of_metadata Bytes m = absurd m
-of_metadata Empty m = refl
-of_metadata Entries m = refl
 
 -- ---- two stores that say the same of inodes, bits and uses
 
@@ -135,9 +124,9 @@ module _ (disk : Sectors) (tree : FileTree) (stands : StandsForShape tree.segmen
 
   step_comes : (k : ℕ) → is_directory_use ((store_on segments next).use_of k) ≡ true → (is_directory_use (s.use_of k) ≡ true) ⊎ (is_in_state 0 (state_in (held_of segments disk hint) k) ≡ true)
   step_comes k d =
-      ⊎_elim (λ was. inl (of_metadata (s.use_of k) was)) (λ zero. inr zero)
+      ⊎_elim (λ was. inl (is_metadata (s.use_of k) was)) (λ zero. inr zero)
       ((fit_next disk tree stands h at (hand_clear segments disk tree stands hint) birth when o may new small_birth small_time f is).clear k
-      (is_metadata ((edited_all s f.edits).use_of k) (ap is_directory_use (sym (uses k)) ∙ d)))
+      (metadata_is ((edited_all s f.edits).use_of k) (ap is_directory_use (sym (uses k)) ∙ d)))
 
   line_filled : LeavesFilled s naming f
   line_filled = lines_leave_filled o h s (shape_of tree) naming birth when f of at is

@@ -1,10 +1,9 @@
 -- What is at hand of the sectors that a plan looks at is the disk's.
 use Rattle.std.proofs.Common.{◌≡◌, ℕ, ◌+◌, ◌*◌, ◌/◌, ◌%◌, ◌<◌, ◌≤◌, ⊎_elim, Option, Some, None, List, [], ◌∷◌, slice_index, length, refl, sym, ◌∙◌, ap, ap₂, arith}
 use Rattle.std.proofs.Math.Path.{fun_ext}
-use Rattle.std.proofs.lemmas.Bool.{cases_lt}
+use Rattle.std.proofs.lemmas.Bool.{cases_lt, le-ltb, lt-ltb}
 use Rattle.std.proofs.lemmas.Option.{slice_get_past}
 use Rattle.std.proofs.lemmas.List.{get_or_past}
-use Rattle.frang_base.proofs.Basics.{of_lt, of_ge}
 use Rattle.disk_definitions.specs.declared.region.Region.TheVariants as region
 use Rattle.disk_definitions.specs.declared.directory.DirSector.{DirSector}
 use Rattle.disk_definitions.specs.Inodes.{inode_in}
@@ -36,7 +35,7 @@ module _ (cached : Cached) (held : Segments) (segments : ℕ) (sectors : Sectors
   inode_agrees i l (Some block) e x h =
       let there : inode_at_hand cached i ≡ Some (stored_node (inode_in block)) = rw e refl in
       let is : x ≡ stored_node (inode_in block) = cc in
-      is ∙ ap (λ block. stored_node (inode_in block)) (as_cached (sector_of (region.Inode i)) block e) ∙ sym (rw (of_lt i (64 * segments) l) refl)
+      is ∙ ap (λ block. stored_node (inode_in block)) (as_cached (sector_of (region.Inode i)) block e) ∙ sym (rw (lt-ltb i (64 * segments) l) refl)
 
   seven_is : (k part : ℕ) → k < 1024 * segments → entry_in (directory_in (sectors (sector_of (region.Small k part)))) ≡ seven s.place k part
   seven_is k part l = fun_ext (λ r. ⊎_elim (inside r) (outside r) (cases_lt r 7))
@@ -45,10 +44,10 @@ module _ (cached : Cached) (held : Segments) (segments : ℕ) (sectors : Sectors
       inside r m =
           let a : (7 * part + r) / 7 ≡ part = omega arith in
           let b : (7 * part + r) % 7 ≡ r = omega arith in
-          rw (of_lt r 7 m, of_lt k (1024 * segments) l) (sym (ap₂ (λ p q. entry_in (directory_at sectors k p) q) a b))
+          rw (lt-ltb r 7 m, lt-ltb k (1024 * segments) l) (sym (ap₂ (λ p q. entry_in (directory_at sectors k p) q) a b))
 
       outside : (r : ℕ) → 7 ≤ r → entry_in (directory_in (sectors (sector_of (region.Small k part)))) r ≡ seven s.place k part r
-      outside r m = past_seven (sectors (sector_of (region.Small k part))) r m ∙ sym (rw (of_ge r 7 m) refl)
+      outside r m = past_seven (sectors (sector_of (region.Small k part))) r m ∙ sym (rw (le-ltb r 7 m) refl)
 
   directory_agrees : (k part : ℕ) → k < 1024 * segments → (o : Option (List ℕ)) → value_at cached (sector_of (region.Small k part)) ≡ o → (x : ℕ → Option StoredEntry) → directory_at_hand cached k part ≡ Some x → x ≡ seven s.place k part
   directory_agrees k part l None e x h = let z : directory_at_hand cached k part ≡ None = rw e refl in absurd (cc)
@@ -65,10 +64,10 @@ module _ (cached : Cached) (held : Segments) (segments : ℕ) (sectors : Sectors
       inside r m =
           let a : (512 * part + r) / 512 ≡ part = omega arith in
           let b : (512 * part + r) % 512 ≡ r = omega arith in
-          rw (of_lt r 512 m) (sym (is k (512 * part + r) ∙ ap₂ (λ p q. slice_index (sectors (at k p)) q) a b))
+          rw (lt-ltb r 512 m) (sym (is k (512 * part + r) ∙ ap₂ (λ p q. slice_index (sectors (at k p)) q) a b))
 
       outside : (r : ℕ) → 512 ≤ r → slice_index (sectors (at k part)) r ≡ part_of byte k part r
-      outside r m = let long : length (sectors (at k part)) ≡ 512 = whole (at k part) in get_or_past (sectors (at k part)) r 0 (omega arith) ∙ sym (rw (of_ge r 512 m) refl)
+      outside r m = let long : length (sectors (at k part)) ≡ 512 = whole (at k part) in get_or_past (sectors (at k part)) r 0 (omega arith) ∙ sym (rw (le-ltb r 512 m) refl)
 
   bytes_agree : (sector : ℕ) (o : Option (List ℕ)) → value_at cached sector ≡ o → (x : ℕ → ℕ) → bytes_at_hand cached sector ≡ Some x → x ≡ slice_index (sectors sector)
   bytes_agree sector None e x h = let z : bytes_at_hand cached sector ≡ None = rw e refl in absurd (cc)

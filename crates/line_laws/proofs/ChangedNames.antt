@@ -2,9 +2,9 @@
 use Rattle.std.proofs.Common.{ℕ, ◌≡◌, ◌≢◌, ◌<◌, ◌==◌, Bool, true, false, not, ◌&&◌, Option, Some, None, List, [], ◌∷◌, length, cond, nat_le, refl, sym, ◌∙◌, ap, arith, eqb-true, eq-eqb}
 use Rattle.std.specs.Ordering.{nat_cmp}
 use Rattle.std.specs.Cmp.Lexicographic.{slice_cmp}
+use Rattle.std.proofs.lemmas.Bool.{lt-ltb}
 use Rattle.frang_base.specs.declared.limits.TheConstants.{LINKS_MAX}
 use Rattle.frang_base.specs.declared.reply.Reply.TheVariants as reply
-use Rattle.frang_base.proofs.Basics.{of_lt}
 use Rattle.tree_definitions.specs.declared.node.Node.{Node}
 use Rattle.tree_definitions.specs.declared.node.Node.TheVariants.{Dir, File, Link}
 use Rattle.tree_definitions.specs.Entries.{Entries, entry_at, with_entry, without_entry}
@@ -27,7 +27,7 @@ has_some [] name b had = absurd (cc)
 has_some (e ∷ es) name b had = omega arith
 
 not_empty : (o : Option Node) (es : Entries) (n : ℕ) (name : List ℕ) (b : ℕ) → o ≡ Some (Dir es n) → entry_at es name ≡ Some b → has_entries o ≡ true
-not_empty o es n name b is had = ap has_entries is ∙ of_lt 0 (length es) (has_some es name b had)
+not_empty o es n name b is had = ap has_entries is ∙ lt-ltb 0 (length es) (has_some es name b had)
 
 -- the directory gets a name
 named_has : (u : FileTree) (dir : ℕ) (es : Entries) (n : ℕ) (name : List ℕ) (b : ℕ) → find_in (node_at (named u dir es n name b) dir) name ≡ Some b

@@ -2,7 +2,7 @@
 use Rattle.std.proofs.Common.{ℕ, ◌≡◌, ◌<◌, ◌+◌, ◌*◌, ◌/◌, ◌%◌, ◌||◌, ◌⊎◌, inl, inr, Bool, true, false, Some, None, List, [], ◌∷◌, ◌++◌, if◌then◌else◌, length, nat_lt, refl, sym, ◌∙◌, ap, subst, arith, ltb-true}
 use Rattle.std.specs.List.{list_any}
 use Rattle.std.specs.Prelude.{fold, filter}
-use Rattle.frang_base.proofs.Basics.{of_eq}
+use Rattle.std.proofs.lemmas.Bool.{eq-eqb}
 use Rattle.frang_base.specs.declared.limits.TheConstants.{BLOCK_ENTRIES, SECTOR_BYTES, SECTOR_ENTRIES, SEGMENT_BLOCKS, SEGMENT_INODES}
 use Rattle.frang_base.specs.declared.change.Patch.{Patch}
 use Rattle.frang_base.specs.declared.change.Change.{Change}
@@ -156,7 +156,7 @@ module _ (most segments : ℕ) (sectors : Sectors) (edits : List Edit) (ready : 
       let e : Edit = SetInode d.inode (Some d.node) true in
       let fit = fit_after segments end d.before (e ∷ d.after) (subst (AreFit segments end) d.splits ready.fit) in
       let x = sector_of (region.Inode d.inode) in
-      not_dated d.inode fit.0.0.0 (ap (list_any (dates x)) d.splits ∙ date_found x d.before d.after e (of_eq x x refl))
+      not_dated d.inode fit.0.0.0 (ap (list_any (dates x)) d.splits ∙ date_found x d.before d.after e (eq-eqb x x refl))
 
   pub change_there : Apart s end ⊎ Dates edits → ⊥
   change_there (inl apart) = not_apart apart

@@ -1,8 +1,7 @@
 -- Where the inode that has a block is at hand, or a held segment has what is looked at free, the cover by what is at hand is the cover by the naming.
 use Rattle.std.proofs.Common.{ℕ, ◌≡◌, ◌<◌, ◌+◌, ◌*◌, ◌/◌, ◌||◌, inl, inr, ⊎_elim, Bool, true, false, if◌then◌else◌, Option, Some, None, List, [], ◌∷◌, is_some, refl, sym, ◌∙◌, ap, arith, eqb-true}
-use Rattle.std.proofs.lemmas.Bool.{cases_lt, eq-eqb}
+use Rattle.std.proofs.lemmas.Bool.{cases_lt, eq-eqb, le-ltb}
 use Rattle.std.specs.List.{Contains}
-use Rattle.frang_base.proofs.Basics.{of_ge}
 use Rattle.frang_base.specs.declared.lock.LockId.TheVariants as lock
 use Rattle.frang_base.specs.declared.op.Op.TheVariants as op
 use Rattle.tree_definitions.specs.Tree.{FileTree, node_at}
@@ -52,7 +51,7 @@ module _ (cached : Cached) (held : Segments) (all : Bool) (sectors : Sectors) (t
   Had before = (i : ℕ) → Contains before (InodeAt i) → inode_at_hand cached i ≡ Some (s.inode i)
 
   inode_inside : (i : ℕ) (x : StoredNode) → s.inode i ≡ Some x → i < 64 * tree.segments
-  inode_inside i x e = ⊎_elim (λ l. l) (λ past. absurd (let none : s.inode i ≡ None = rw (of_ge i (64 * tree.segments) past) refl in let z : None ≡ Some x = sym none ∙ e in cc)) (cases_lt i (64 * tree.segments))
+  inode_inside i x e = ⊎_elim (λ l. l) (λ past. absurd (let none : s.inode i ≡ None = rw (le-ltb i (64 * tree.segments) past) refl in let z : None ≡ Some x = sym none ∙ e in cc)) (cases_lt i (64 * tree.segments))
 
   inode_agrees : (i : ℕ) → i < 64 * tree.segments → (o : Option StoredNode) → inode_at_hand cached i ≡ Some o → o ≡ s.inode i
   inode_agrees i l o e = (agrees cached held tree.segments sectors of.as_cached below.whole (InodeAt i ∷ []) (l, tt)).0 o e

@@ -20,13 +20,14 @@ use Rattle.disk_definitions.specs.PlanOf.{plan_of}
 use Rattle.disk_definitions.specs.Meets.{IsOfTree, IsHandOf}
 use Rattle.plan_laws.specs.Locks.{IsSole}
 use Rattle.plan_laws.specs.FilesPlanned.{HasFiles}
-use Rattle.plan_laws.proofs.Covering.{has_head, has_more, has_cases, not_in_none, map_has}
+use Rattle.plan_laws.proofs.Covering.{has_cases, not_in_none, map_has}
 use Rattle.plan_laws.specs.Looked.{edited_at}
 use Rattle.plan_laws.specs.Covers.{inode_cover, small_cover, cover_of, IsHeld, PlanHolds, IsHeldSegment, changes_bytes}
 use Rattle.plan_laws.proofs.Fine.{shared_held, only_held}
 use Rattle.plan_laws.proofs.AllFine.{looks_are_covered, edits_are_covered}
 use Rattle.plan_laws.proofs.TouchedHeld.{walks_are_held}
 use Rattle.plan_laws.proofs.AllChanged.{changed_held}
+use Rattle.plan_laws.proofs.WalksFine.{either}
 use Rattle.disk_definitions.specs.Lines.{with_trail, plan_of_line, resolved}
 use Rattle.line_laws.specs.Covered.{LineLooksAreCovered, LineEditsAreCovered, LineNodesAreHeld, LineChangesAreHeldAlone}
 use Rattle.line_laws.proofs.Looked.{IsSectorOf, IsOnTrail, AreOnTrail}
@@ -34,11 +35,6 @@ use Rattle.line_laws.proofs.Comes.{line_same}
 use Rattle.line_laws.proofs.Running.{step_plan, step_looks, run_performed, looks_performed}
 
 -- ---- lists
-
--- what is in two lists is in one of them
-in_either : {X : Type 0} (xs ys : List X) (x : X) → Contains (xs ++ ys) x → Contains xs x ⊎ Contains ys x
-in_either [] ys x h = inr h
-in_either (y ∷ xs) ys x h = ⊎_elim (λ e. inl (subst (λ z. Contains (y ∷ xs) z) e (has_head y xs))) (λ i. ⊎_elim (λ a. inl (has_more y x xs a)) (λ b. inr b) (in_either xs ys x i)) (has_cases y x (xs ++ ys) h)
 
 -- ---- more locks
 
@@ -104,7 +100,7 @@ module _ (s : Store) (tree : FileTree) (n : Naming) (of : IsOfTree s tree n) whe
         let w = tree_resolved tree o in
         subst (λ p. PlanHolds p (cover_of n x) ⊎ IsHeldSegment h x) (sym (run_performed h s birth when tree n of o))
         (⊎_elim (λ a. inl (walk_covered o x a)) (λ b. plan_covered (map n.inode w.trail) w.step x b)
-        (in_either (looks (resolved o) s) (step_looks h s birth when w.step) x (subst (λ l. Contains l x) (looks_performed h s birth when tree n of o) c)))
+        (either (looks (resolved o) s) (step_looks h s birth when w.step) x (subst (λ l. Contains l x) (looks_performed h s birth when tree n of o) c)))
 
 pub line_looks_covered : LineLooksAreCovered
 line_looks_covered o h s tree n birth when of hand x c = line_covered s tree n of h hand birth when o x c
@@ -124,8 +120,8 @@ line_nodes_held o h s tree n birth when finish of hand is node c =
     let trail = map n.inode w.trail in
     by_finish h s birth when (λ step finish. Contains (w.trail ++ visited tree step finish.reply) node → IsHeld finish.locks (lock.Node (n.inode node))) trail
     (λ o f is c. ⊎_elim (λ a. shared_held trail f.locks (n.inode node) (map_has n.inode w.trail node a)) (λ b. let r = walks_are_held o h s tree n birth when f of hand is node b in (r.0, Contains-append_right (shared_nodes trail) f.locks (lock.Node (n.inode node), r.0) r.1))
-    (in_either w.trail (visited tree (Goes o) f.reply) node c))
-    (λ r c. ⊎_elim (λ a. only_held trail (n.inode node) (map_has n.inode w.trail node a)) (λ b. absurd (not_in_none node b)) (in_either w.trail [] node c))
+    (either w.trail (visited tree (Goes o) f.reply) node c))
+    (λ r c. ⊎_elim (λ a. only_held trail (n.inode node) (map_has n.inode w.trail node a)) (λ b. absurd (not_in_none node b)) (either w.trail [] node c))
     w.step finish (sym (run_performed h s birth when tree n of o) ∙ is) c
 
 -- ---- changes

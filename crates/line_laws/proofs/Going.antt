@@ -12,8 +12,7 @@ use Rattle.disk_definitions.specs.declared.region.Region.TheVariants as region
 use Rattle.disk_definitions.specs.Params.{param_in}
 use Rattle.disk_definitions.specs.Store.{Store, store_of}
 use Rattle.disk_definitions.specs.Standing.{HasVersionsUpTo}
-use Rattle.disk_definitions.specs.Edits.{Edit, edited_all}
-use Rattle.disk_definitions.specs.Edits.Edit.{SetInode, SetBit, SetUse, SetPlace, SetLarge, SetBytes, SetLargeBytes}
+use Rattle.disk_definitions.specs.Edits.{edited_all}
 use Rattle.disk_definitions.specs.Held.{Segments}
 use Rattle.disk_definitions.specs.Allowed.{IsAllowed}
 use Rattle.disk_definitions.specs.Ask.{AtHand, Has, looks, meet}
@@ -27,26 +26,16 @@ use Rattle.disk_definitions.specs.Ready.{IsReady, disk_after}
 use Rattle.disk_definitions.specs.Written.{Cached, at_hand, hand_of, sectors_at_hand, changes_of, byte_writes, laid_over}
 use Rattle.plan_fit.proofs.DiskLaws.{written}
 use Rattle.plan_fit.proofs.LaidOver.{all_else}
-use Rattle.plan_fit.proofs.RecordLaws.{NotTo, misses, bytes_laid}
+use Rattle.plan_fit.proofs.RecordLaws.{misses, bytes_laid}
 use Rattle.line_laws.proofs.Edited.{hand}
 use Rattle.line_laws.proofs.OfDisk.{few, of_tree}
-use Rattle.line_laws.proofs.Written.{fit_store, ready}
+use Rattle.line_laws.proofs.Written.{fit_store, ready, not_param}
 use Rattle.disk_definitions.specs.Lines.{plan_of_line}
 use Rattle.line_laws.proofs.OnDisk.{lines_stand}
 use Rattle.line_laws.specs.Onward.{left_by, IsOnward, FinishedLinesGoOn, OnwardStandsBelow}
 use Rattle.line_laws.proofs.LineAtHand.{met_is, same_at_hand}
 use Rattle.line_laws.proofs.Fitting.{line_fits}
 use Rattle.line_laws.proofs.Whole.{stays_whole}
-
--- no edit writes the parameter sector
-not_param : (kind : Bool) (end : Store) (e : Edit) → NotTo kind region.Param end e
-not_param kind end (SetInode i x dated) f u q = cc
-not_param kind end (SetBit i b) f u q = cc
-not_param kind end (SetUse k x) f u q = cc
-not_param kind end (SetPlace k p o) f u q = cc
-not_param kind end (SetLarge g b) f u q = cc
-not_param kind end (SetBytes k part bytes) f u q = cc
-not_param kind end (SetLargeBytes g part bytes) f u q = cc
 
 module _ (cached : Cached) (held : Segments) (all : Bool) (sectors : Sectors) (tree : FileTree) (of : AreOfDisk cached held all tree.segments sectors) (below : StandsBelow sectors tree) (birth when m : ℕ) (o : Op) (f : Finish)
     (allowed : IsAllowed o) (new : IsNew tree birth) (small : birth < 2 ^ 64) (timely : when < 2 ^ 64) (count : m ≡ directory_blocks_in (store_of tree.segments sectors) tree.segments)

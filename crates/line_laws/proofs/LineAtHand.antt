@@ -26,7 +26,7 @@ use Rattle.line_laws.proofs.Inside.{lines_inside}
 use Rattle.line_laws.proofs.Running.{step_looks, run_performed, looks_performed}
 
 -- where nothing of two lists is missing, nothing is of the second
-none_later : (c : AtHand) (xs ys : List Sector) → first_missing c (xs ++ ys) ≡ None → first_missing c ys ≡ None
+pub none_later : (c : AtHand) (xs ys : List Sector) → first_missing c (xs ++ ys) ≡ None → first_missing c ys ≡ None
 none_later c [] ys e = e
 none_later c (x ∷ xs) ys e = by_first (is_at_hand c x) e (none_later c xs ys)
   where

@@ -1,6 +1,7 @@
 -- Names from the left, over the disk of a tree: each leads where the tree's does, if links are followed alike, and only sectors of nodes on the trail
 -- are looked at.
 use Rattle.std.proofs.Common.{◌≡◌, ℕ, ◌*◌, ◌==◌, ◌&&◌, Bool, true, false, if◌then◌else◌, Option, Some, None, List, [], ◌∷◌, ◌++◌, refl, sym, ◌∙◌, ap, subst, is_some}
+use mathlib.Core.Bool.{and-false}
 use Rattle.tree_definitions.specs.declared.node.Node.{Node}
 use Rattle.tree_definitions.specs.declared.node.Node.TheVariants.{Dir, File, Link}
 use Rattle.tree_definitions.specs.Apply.{is_dir}
@@ -76,17 +77,13 @@ module _ (s : Store) (tree : FileTree) (n : Naming) (of : IsOfTree s tree n) whe
         IsWalk (if last && n.kind b == 3 then f (n.inode b) (n.inode dir) above [] else leads here (Some (n.kind b))) (trees.ends_at here (Some b))
     stops_here dir b above here e = rw e (record { leads = refl; looked = tt })
 
-    no_link : (c : Bool) → (c && false) ≡ false
-    no_link true = refl
-    no_link false = refl
-
     -- at an entry
     at_entry_same : (dir : ℕ) (above here names : List (List ℕ)) (name : List ℕ) (b : ℕ) (into : ℕ → Ask Resolution) (tree_into : ℕ → trees.Resolution) → is_dir (node_at tree dir) ≡ true →
         (o : Option Node) → node_at tree b ≡ o → is_some o ≡ true → (is_dir (node_at tree b) ≡ true → IsWalk (into (n.inode b)) (tree_into b)) →
         IsWalk (at_entry last (λ link. f link (n.inode dir) above names) into here names (entry_of n name b)) (trees.at_entry last (λ target. g b target dir above names) (tree_into b) here b names o)
     at_entry_same dir above here names name b into tree_into d None is there on = absurd (cc)
-    at_entry_same dir above here [] name b into tree_into d (Some (Dir entries blocks)) is there on = stops_here dir b above here (rw (of.pictures.kinds b (Dir entries blocks) is) (no_link last))
-    at_entry_same dir above here [] name b into tree_into d (Some (File cells links when)) is there on = stops_here dir b above here (rw (of.pictures.kinds b (File cells links when) is) (no_link last))
+    at_entry_same dir above here [] name b into tree_into d (Some (Dir entries blocks)) is there on = stops_here dir b above here (rw (of.pictures.kinds b (Dir entries blocks) is) (and-false last))
+    at_entry_same dir above here [] name b into tree_into d (Some (File cells links when)) is there on = stops_here dir b above here (rw (of.pictures.kinds b (File cells links when) is) (and-false last))
     at_entry_same dir above here [] name b into tree_into d (Some (Link target links)) is there on = by_last last
       where
         by_last : (c : Bool) → IsWalk (if c && n.kind b == 3 then f (n.inode b) (n.inode dir) above [] else leads here (Some (n.kind b))) (if c then g b target dir above [] else trees.ends_at here (Some b))

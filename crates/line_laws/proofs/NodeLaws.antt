@@ -2,7 +2,7 @@
 use Rattle.std.proofs.Common.{◌≡◌, ◌++◌, ℕ, nat_eq, true, false, Option, Some, None, List, [], map, is_some, refl, sym, ◌∙◌, ap, subst}
 use Rattle.std.proofs.lemmas.List.Elements.{Contains-append_right}
 use Rattle.std.specs.List.{AllByRecursion}
-use Rattle.frang_base.proofs.Basics.{of_eq}
+use Rattle.std.proofs.lemmas.Bool.{eq-eqb}
 use Rattle.frang_base.specs.declared.lock.LockId.TheVariants as lock
 use Rattle.frang_base.specs.declared.op.Op.{Op}
 use Rattle.tree_definitions.specs.declared.node.Node.{Node}
@@ -105,8 +105,8 @@ none_comes o none there = absurd (let z : is_some o ≡ false = ap is_some none 
 same_room : {P : Type 0} (o : Option Node) → other_room o o ≡ true → P
 same_room None e = absurd (cc)
 same_room (Some x) e =
-    let small : nat_eq (small_blocks x) (small_blocks x) ≡ true = of_eq (small_blocks x) (small_blocks x) refl in
-    let large : nat_eq (large_blocks x) (large_blocks x) ≡ true = of_eq (large_blocks x) (large_blocks x) refl in
+    let small : nat_eq (small_blocks x) (small_blocks x) ≡ true = eq-eqb (small_blocks x) (small_blocks x) refl in
+    let large : nat_eq (large_blocks x) (large_blocks x) ≡ true = eq-eqb (large_blocks x) (large_blocks x) refl in
     let z : other_room (Some x) (Some x) ≡ false = rw (small, large) refl in
     absurd (cc)
 

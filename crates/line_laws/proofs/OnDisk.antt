@@ -1,5 +1,5 @@
 -- The plan of a line stands on the disk, as what it comes to does.
-use Rattle.std.proofs.Common.{◌≡◌, ◌<◌, ◌^◌, inl, ℕ, Bool, true, false, if◌then◌else◌, Option, Some, None, List, [], ◌∷◌, ◌++◌, map, refl, sym, ◌∙◌, ap, subst}
+use Rattle.std.proofs.Common.{◌≡◌, ◌<◌, ◌^◌, inl, ℕ, Bool, Option, Some, None, List, [], map, refl, sym, ◌∙◌, ap, subst}
 use Rattle.frang_base.specs.declared.op.Op.{Op}
 use Rattle.frang_base.specs.declared.op.Op.TheVariants as op
 use Rattle.frang_base.specs.declared.reply.Reply.{Reply}
@@ -14,7 +14,7 @@ use Rattle.disk_definitions.specs.Naming.{Naming}
 use Rattle.disk_definitions.specs.Held.{Segments}
 use Rattle.disk_definitions.specs.Allowed.{IsAllowed}
 use Rattle.disk_definitions.specs.Ask.{Sector, Ask, AtHand, Has, run, looks, meet}
-use Rattle.disk_definitions.specs.Missing.{is_at_hand, first_missing, unless_missing}
+use Rattle.disk_definitions.specs.Missing.{first_missing, unless_missing}
 use Rattle.disk_definitions.specs.Plans.{Hand, Plan, Lacks, Clears, Finishes, refuse}
 use Rattle.disk_definitions.specs.PlanOf.{plan_of}
 use Rattle.disk_definitions.specs.Meets.{IsOfTree, IsHandOf, directory_blocks_in}
@@ -34,15 +34,7 @@ use Rattle.line_laws.proofs.Allowed.{stay_allowed}
 use Rattle.line_laws.proofs.Comes.{comes_to}
 use Rattle.line_laws.proofs.Inside.{lines_inside}
 use Rattle.line_laws.proofs.Running.{step_plan, step_looks, run_performed, looks_performed}
-
--- where nothing of two lists is missing, nothing is of either
-none_missing : (c : AtHand) (xs ys : List Sector) → first_missing c (xs ++ ys) ≡ None → first_missing c ys ≡ None
-none_missing c [] ys e = e
-none_missing c (x ∷ xs) ys e = by_first (is_at_hand c x) e (none_missing c xs ys)
-  where
-    by_first : (b : Bool) → (if b then first_missing c (xs ++ ys) else Some x) ≡ None → (first_missing c (xs ++ ys) ≡ None → first_missing c ys ≡ None) → first_missing c ys ≡ None
-    by_first true e rest = rest e
-    by_first false e rest = absurd (cc)
+use Rattle.line_laws.proofs.LineAtHand.{none_later}
 
 module _ (cached : Cached) (held : Segments) (all : Bool) (sectors : Sectors) (tree : FileTree) (of : AreOfDisk cached held all tree.segments sectors) (below : StandsBelow sectors tree) where
   abbrev s : Store
@@ -136,7 +128,7 @@ module _ (cached : Cached) (held : Segments) (all : Bool) (sectors : Sectors) (t
           let w = tree_resolved tree o in
           subst (PlanStands cached held all sectors applied) (sym (run_performed h s birth when tree n is_of o))
           (step_stands (map n.inode w.trail) w.step (subst (λ (w : Resolved). StepIsAllowed w.step) (comes_to o s tree n is_of) (stay_allowed o s allowed))
-          (none_missing c (looks (resolved o) s) (step_looks h s birth when w.step) (ap (first_missing c) (sym (looks_performed h s birth when tree n is_of o)) ∙ none)))
+          (none_later c (looks (resolved o) s) (step_looks h s birth when w.step) (ap (first_missing c) (sym (looks_performed h s birth when tree n is_of o)) ∙ none)))
 
       by_missing : (x : Option Sector) → first_missing c (looks line s) ≡ x → MetStands cached held all sectors applied x (unless_missing x (run line s))
       by_missing (Some sector) e = refl

@@ -1,7 +1,7 @@
 -- An entry is one that a removal may lose exactly where its plan tells of another tree, or of a file that is dated.
-use Rattle.std.proofs.Common.{ℕ, ◌≡◌, ◌&&◌, ◌||◌, ◌⊎◌, inl, inr, Bool, true, false, List, [], ◌∷◌, refl, sym, ◌∙◌, ap, ap₂, subst}
+use Rattle.std.proofs.Common.{ℕ, ◌≡◌, ◌&&◌, ◌⊎◌, inl, inr, Bool, true, false, List, [], ◌∷◌, refl, sym, ◌∙◌, ap, subst}
 use Rattle.std.specs.List.{list_any}
-use Rattle.std.proofs.lemmas.Bool.{and_from}
+use Rattle.std.proofs.lemmas.Bool.{and_from, or_right, or_left, or_from, and_right}
 use Rattle.frang_base.specs.declared.op.Op.{Op}
 use Rattle.frang_base.specs.declared.op.Op.TheVariants as op
 use Rattle.frang_base.specs.declared.reply.Reply.{Reply}
@@ -25,20 +25,6 @@ use Rattle.disk_definitions.specs.Edits.{edited_all}
 use Rattle.disk_definitions.specs.Plans.{Finish}
 use Rattle.line_laws.proofs.Telling.{OtherNames, Apart, Dates, Tells, Refuses, Stays, Renames, Writes}
 use Rattle.line_laws.proofs.Shaping.{find_shape}
-
-and_none : (x y : Bool) → y ≡ false → x && y ≡ false
-and_none true y h = h
-and_none false y h = refl
-
-or_none : (x y : Bool) → x ≡ false → y ≡ false → x || y ≡ false
-or_none x y h g = ap₂ (λ a b. a || b) h g
-
-or_first : (x y : Bool) → x ≡ true → x || y ≡ true
-or_first x y h = ap (λ a. a || y) h
-
-or_second : (x y : Bool) → y ≡ true → x || y ≡ true
-or_second true y h = refl
-or_second false y h = h
 
 told_ok : (r : Reply) → same_reply reply.Ok r ≡ true → is_ok r ≡ true
 told_ok reply.Ok h = refl
@@ -72,7 +58,7 @@ pathless_stays t _ b when m h = absurd (cc)
 
 none_differ : (t : FileTree) (bs : List ℕ) → list_any (differs (shape_of t) (shape_of t)) bs ≡ false
 none_differ t [] = refl
-none_differ t (b ∷ bs) = or_none (differs (shape_of t) (shape_of t) b) (list_any (differs (shape_of t) (shape_of t)) bs) (no_difference (shape_of t) (shape_of t) b refl) (none_differ t bs)
+none_differ t (b ∷ bs) = or_from (differs (shape_of t) (shape_of t) b) (list_any (differs (shape_of t) (shape_of t)) bs) (no_difference (shape_of t) (shape_of t) b refl) (none_differ t bs)
 
 module _ (t : FileTree) (e : Entry) where
   abbrev after : FileTree
@@ -82,7 +68,7 @@ module _ (t : FileTree) (e : Entry) where
   left_shape : after ≡ t → changes_shape t e ≡ false
   left_shape same =
       subst (λ u. is_answer t e && list_any (differs (shape_of t) (shape_of u)) (births t u) ≡ false) (sym same)
-      (and_none (is_answer t e) (list_any (differs (shape_of t) (shape_of t)) (births t t)) (none_differ t (births t t)))
+      (and_right (is_answer t e) (list_any (differs (shape_of t) (shape_of t)) (births t t)) (none_differ t (births t t)))
 
   refused_shape : is_ok e.reply ≡ false → changes_shape t e ≡ false
   refused_shape refused = go (says_ok (applied t e).answer) refl
@@ -90,7 +76,7 @@ module _ (t : FileTree) (e : Entry) where
       go : (b : Bool) → says_ok (applied t e).answer ≡ b → changes_shape t e ≡ false
       go false i = left_shape (performed_refusals_leave t e.op e.number.0 e.when (told_blocks t e.reply) i)
       go true i = ap (λ a. a && list_any (differs (shape_of t) (shape_of after)) (births t after))
-          (and_none (is_path_op e.op) (agrees (applied t e).answer e.reply) (not_told (applied t e).answer e.reply i refused))
+          (and_right (is_path_op e.op) (agrees (applied t e).answer e.reply) (not_told (applied t e).answer e.reply i refused))
 
   -- ---- other names
   other_shape : (n : OtherNames t after) → differs (shape_of t) (shape_of after) n.dir ≡ true
@@ -133,7 +119,7 @@ module _ (t : FileTree) (e : Entry) where
   -- a refusal has no record
   pub refused_verdict : (s : Store) (f : Finish) → f.edits ≡ [] → is_ok e.reply ≡ false → Verdict s f
   refused_verdict s f none refused =
-      inl (none, or_none (changes_shape t e) (writes_file e.op && is_ok e.reply) (refused_shape refused) (and_none (writes_file e.op) (is_ok e.reply) refused))
+      inl (none, or_from (changes_shape t e) (writes_file e.op && is_ok e.reply) (refused_shape refused) (and_right (writes_file e.op) (is_ok e.reply) refused))
 
   module _ (o : Op) (comes : (resolved t e.op).step ≡ Goes o) where
     abbrev outcome : Applied
@@ -148,8 +134,8 @@ module _ (t : FileTree) (e : Entry) where
     pub verdict : (s : Store) (f : Finish) → e.reply ≡ f.reply → Tells (writes_file o) t outcome s f → Verdict s f
     verdict s f said (Refuses none refused) = refused_verdict s f none (ap is_ok said ∙ refused)
     verdict s f said (Stays plain none left) =
-        inl (none, or_none (changes_shape t e) (writes_file e.op && is_ok e.reply) (left_shape (ap (λ (a : Applied). a.tree) applied_is ∙ left)) (ap (λ w. w && is_ok e.reply) (writes_is ∙ plain)))
+        inl (none, or_from (changes_shape t e) (writes_file e.op && is_ok e.reply) (left_shape (ap (λ (a : Applied). a.tree) applied_is ∙ left)) (ap (λ w. w && is_ok e.reply) (writes_is ∙ plain)))
     verdict s f said (Renames ok named apart) =
-        inr (or_first (changes_shape t e) (writes_file e.op && is_ok e.reply) (named_shape (said ∙ ok) (subst (λ (a : Applied). OtherNames t a.tree) (sym applied_is) named)), inl apart)
+        inr (or_left (changes_shape t e) (writes_file e.op && is_ok e.reply) (named_shape (said ∙ ok) (subst (λ (a : Applied). OtherNames t a.tree) (sym applied_is) named)), inl apart)
     verdict s f said (Writes writing ok dated) =
-        inr (or_second (changes_shape t e) (writes_file e.op && is_ok e.reply) (and_from (writes_file e.op) (is_ok e.reply) (writes_is ∙ writing) (ap is_ok (said ∙ ok))), inr dated)
+        inr (or_right (changes_shape t e) (writes_file e.op && is_ok e.reply) (and_from (writes_file e.op) (is_ok e.reply) (writes_is ∙ writing) (ap is_ok (said ∙ ok))), inr dated)

@@ -1,9 +1,9 @@
 -- The plan of rename tells what it does.
 use Rattle.std.proofs.Common.{ℕ, ◌≡◌, ◌≢◌, ◌<◌, ◌-◌, ◌*◌, ◌/◌, ◌%◌, ◌==◌, ◌&&◌, not, inr, Bool, true, false, Option, Some, None, List, [], ◌∷◌, ◌++◌, if◌then◌else◌, nat_lt, length, refl, sym, ◌∙◌, ap, ap₂, subst, arith, is_some, eqb-true}
-use Rattle.std.proofs.lemmas.Bool.{eqb-false}
+use Rattle.std.proofs.lemmas.Bool.{eqb-false, lt-ltb}
 use Rattle.frang_base.specs.declared.limits.TheConstants.{BLOCK_ENTRIES, KIND_DIRECTORY}
 use Rattle.frang_base.specs.declared.reply.Reply.TheVariants as reply
-use Rattle.frang_base.proofs.Basics.{put_same, of_lt}
+use Rattle.frang_base.proofs.Basics.{put_same}
 use Rattle.tree_definitions.specs.declared.node.Node.TheVariants.{Dir}
 use Rattle.tree_definitions.specs.Entries.{Entries, entry_at}
 use Rattle.tree_definitions.specs.Tree.{FileTree, node_at}
@@ -65,7 +65,7 @@ module _ (h : Hand) (s : Store) (tree : FileTree) (n : Naming) (of : IsOfTree s 
       inside = subst (λ o. n.spot from name < BLOCK_ENTRIES * room_in o) fis (of.pictures.names from b name (ap (λ o. find_in o name) fis ∙ fhad)).0
 
       own_block : m.directory.small (m.slot / BLOCK_ENTRIES) ≡ n.block from (m.slot / BLOCK_ENTRIES)
-      own_block = rw (of_lt (m.slot / BLOCK_ENTRIES) fblocks (which_block m.slot fblocks inside)) refl
+      own_block = rw (lt-ltb (m.slot / BLOCK_ENTRIES) fblocks (which_block m.slot fblocks inside)) refl
 
       in_use : s.use_of (m.directory.small (m.slot / BLOCK_ENTRIES)) ≡ OfEntries
       in_use = ap s.use_of own_block ∙ dir_use s (node_at tree) n of.pictures from m.slot (subst (λ o. m.slot < BLOCK_ENTRIES * room_in o) (sym fis) inside)

@@ -2,8 +2,8 @@
 use Rattle.std.proofs.Common.{◌≡◌, ◌≢◌, ◌<◌, ◌≤◌, ◌+◌, ◌*◌, ◌/◌, ◌⊎◌, inl, inr, ⊎_elim, ℕ, zero, suc, Bool, true, false, not, ◌&&◌, nat_lt, nat_eq, if◌then◌else◌, Option, Some, None, List, length, is_some, refl, sym, ◌∙◌, ap, subst, arith}
 use Rattle.std.specs.List.{AllByRecursion}
 use Rattle.std.specs.Option.{unwrap_or}
-use Rattle.std.proofs.lemmas.Bool.{cases_eq}
-use Rattle.frang_base.proofs.Basics.{ne_of, of_eq, of_lt}
+use Rattle.std.proofs.lemmas.Bool.{cases_eq, eq-eqb, lt-ltb, eqb-false}
+use Rattle.std.proofs.lemmas.Option.{same_Some}
 use Rattle.frang_base.specs.declared.lock.LockId.TheVariants as lock
 use Rattle.tree_definitions.specs.declared.node.Node.{Node}
 use Rattle.tree_definitions.specs.declared.node.Node.TheVariants.{Dir, File, Link}
@@ -15,7 +15,6 @@ use Rattle.disk_definitions.specs.Edits.{Edit}
 use Rattle.disk_definitions.specs.Resizing.{index_in}
 use Rattle.disk_definitions.proofs.Indices.{index_hit}
 use Rattle.disk_definitions.proofs.Kept.{inode_is}
-use Rattle.disk_definitions.proofs.Rooms.{some_pair}
 use Rattle.disk_definitions.specs.Meets.{IsOfTree}
 use Rattle.disk_definitions.specs.Plans.{Lock}
 use Rattle.plan_laws.specs.Keeping.{KeepsInodes}
@@ -32,7 +31,7 @@ use Rattle.line_laws.proofs.Squeezed.{squeezed}
 -- ---- the blocks of a node, by its inode
 
 first_is : (count : ℕ) (block : ℕ → ℕ) (j : ℕ) → j < count → (if nat_lt j count then block j else 0) ≡ block j
-first_is count block j l = rw (of_lt j count l) refl
+first_is count block j l = rw (lt-ltb j count l) refl
 
 module _ (s : Store) (tree : FileTree) (n : Naming) (of : IsOfTree s tree n) (b : ℕ) where
   -- what stands in the inode is the node's
@@ -59,7 +58,7 @@ module _ (s : Store) (tree : FileTree) (n : Naming) (of : IsOfTree s tree n) (b 
       let x : ℕ × ℕ = (b, i) in
       let y : ℕ × ℕ = (b, j) in
       let own : (k : ℕ) → k < small_blocks node → n.owner (n.block b k) ≡ Some (b, k) = λ k l. of.pictures.owned b k (subst (λ o. k < blocks_of o) (sym is) l) in
-      ap (λ z. z.1) (some_pair x y (sym (own i li) ∙ ap n.owner e ∙ own j lj))
+      ap (λ z. z.1) (same_Some x y (sym (own i li) ∙ ap n.owner e ∙ own j lj))
 
   -- its blocks are in use
   in_use : (node : Node) → node_at tree b ≡ Some node → (j : ℕ) → j < small_blocks node → is_unused (s.use_of (n.block b j)) ≡ false
@@ -110,7 +109,7 @@ none_in g (suc v) k x l e q = by_last (nat_eq (g v) x) refl q (λ m p. none_in g
   where
     by_last : (b : Bool) → nat_eq (g v) x ≡ b → (if b then Some v else index_in g v x) ≡ None → (k < v → index_in g v x ≡ None → ⊥) → ⊥
     by_last true p q rest = cc
-    by_last false p q rest = ⊎_elim (λ i. let z : nat_eq (g v) x ≡ true = of_eq (g v) x (ap g (sym i) ∙ e) in cc) (λ d. rest (grind arith) q) (cases_eq k v)
+    by_last false p q rest = ⊎_elim (λ i. let z : nat_eq (g v) x ≡ true = eq-eqb (g v) x (ap g (sym i) ∙ e) in cc) (λ d. rest (grind arith) q) (cases_eq k v)
 
 -- values that are all among others are at most as many, where they differ
 module _ (f g : ℕ → ℕ) (u v : ℕ) (each : (j : ℕ) → j < u → (i : ℕ) × (i < v) × (g i ≡ f j)) (far : (i j : ℕ) → i < u → j < u → f i ≡ f j → i ≡ j) where
@@ -230,8 +229,8 @@ module _ (s t : Store) (tree to : FileTree) (n m : Naming) (es : List Edit) (loc
     stays_held = go (nat_eq (small_blocks x) (small_blocks y)) refl (nat_eq (large_blocks x) (large_blocks y)) refl
       where
         go : (a : Bool) → nat_eq (small_blocks x) (small_blocks y) ≡ a → (c : Bool) → nat_eq (large_blocks x) (large_blocks y) ≡ c → not (a && c) ≡ true → Held
-        go false p c q e = small_held (ne_of (small_blocks x) (small_blocks y) p)
-        go true p false q e = large_differs (ne_of (large_blocks x) (large_blocks y) q)
+        go false p c q e = small_held (eqb-false (small_blocks x) (small_blocks y) p)
+        go true p false q e = large_differs (eqb-false (large_blocks x) (large_blocks y) q)
         go true p true q e = absurd (cc)
 
   pub room_held : (b : ℕ) → other_room (node_at tree b) (node_at to b) ≡ true → Held

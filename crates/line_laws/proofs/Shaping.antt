@@ -1,7 +1,6 @@
 -- A store is the picture of the shape of its tree, whatever bytes it has.
-use Rattle.std.proofs.Common.{ℕ, zero, suc, ◌≡◌, ◌≤◌, ◌<◌, ◌+◌, ◌*◌, Bool, true, nat_lt, if◌then◌else◌, Option, Some, None, List, [], ◌∷◌, length, is_some, refl, sym, ◌∙◌, ap, subst}
+use Rattle.std.proofs.Common.{ℕ, ◌≡◌, ◌≤◌, ◌<◌, ◌+◌, ◌*◌, Bool, true, nat_lt, if◌then◌else◌, Option, Some, None, List, [], ◌∷◌, length, is_some, refl, sym, ◌∙◌, ap, subst}
 use Rattle.frang_base.specs.declared.limits.TheConstants.{BLOCK_ENTRIES, FILE_BYTES_MAX, KIND_FILE, SMALL_BYTES_MAX}
-use Rattle.std.specs.List.{slice_get}
 use Rattle.std.specs.Option.{option_and_then}
 use Rattle.std.proofs.Math.Path.{fun_ext}
 use Rattle.std.proofs.lemmas.List.{length-map}
@@ -14,20 +13,16 @@ use Rattle.tree_definitions.specs.Touched.{node_shape, shape_of}
 use Rattle.tree_laws.proofs.ShapeNodes.{shaped, doubts, found}
 use Rattle.tree_laws.proofs.ShapeKeeping.{well_shape}
 use Rattle.disk_definitions.specs.Store.{Store, StoredNode, store_of}
-use Rattle.disk_definitions.specs.Naming.{Naming, Nodes, Pictures, kind_of, blocks_of, has_large, room_in, find_in, cell_in, first_blocks, inode_by, inode_for, use_by, use_for, file_byte, Allows}
+use Rattle.disk_definitions.specs.Naming.{Naming, Nodes, Pictures, kind_of, blocks_of, has_large, room_in, find_in, first_blocks, inode_by, inode_for, use_by, use_for, file_byte}
 use Rattle.disk_definitions.specs.Standing.{IsReached, reached_from}
 use Rattle.disk_definitions.specs.Meets.{IsOfTree}
+use Rattle.disk_definitions.proofs.NodeLaws.{any_cell, kind_shape}
 use Rattle.line_laws.specs.Stores.{with_bytes, ShapesStand, BlankHandsStay, BlankFilesStay, DisksStandForShapes, DisksStandBelowForShapes}
 
 -- ---- what a picture has of a node, it has of its shape
-some_shape : (o : Option Node) → is_some (shaped o) ≡ is_some o
-some_shape (Some x) = refl
-some_shape None = refl
-
-kind_shape : (x : Node) → kind_of (node_shape x) ≡ kind_of x
-kind_shape (Dir es n) = refl
-kind_shape (File cells links when) = refl
-kind_shape (Link target links) = refl
+pub some_shaped : (o : Option Node) → is_some (shaped o) ≡ is_some o
+some_shaped (Some x) = refl
+some_shaped None = refl
 
 blocks_shape : (o : Option Node) → blocks_of (shaped o) ≡ blocks_of o
 blocks_shape (Some (Dir es n)) = refl
@@ -78,19 +73,6 @@ inode_shape n b (Some (File cells links when)) = ap (λ size. Some (sized_inode 
 inode_shape n b (Some (Link target links)) = refl
 inode_shape n b None = refl
 
--- a doubtful cell allows any byte
-any_byte : (cells : List Cell) (j : ℕ) (c : Cell) (v : ℕ) → slice_get (doubts cells) j ≡ Some c → Allows c v
-any_byte [] zero c v e = absurd (cc)
-any_byte [] (suc j) c v e = absurd (cc)
-any_byte (x ∷ xs) zero c v e = let d : cell.Doubtful ≡ c = cc in subst (λ c. Allows c v) d tt
-any_byte (x ∷ xs) (suc j) c v e = any_byte xs j c v e
-
-any_cell : (o : Option Node) (j : ℕ) (c : Cell) (v : ℕ) → cell_in (shaped o) j ≡ Some c → Allows c v
-any_cell (Some (Dir es n)) j c v e = absurd (cc)
-any_cell (Some (File cells links when)) j c v e = any_byte cells j c v e
-any_cell (Some (Link target links)) j c v e = absurd (cc)
-any_cell None j c v e = absurd (cc)
-
 -- ---- the picture
 module _ (s : Store) (at : Nodes) (n : Naming) (g : Pictures s at n) (byte large_byte : ℕ → ℕ → ℕ) where
   abbrev alike : Nodes
@@ -112,8 +94,8 @@ module _ (s : Store) (at : Nodes) (n : Naming) (g : Pictures s at n) (byte large
   pictures_shape = record {
     inodes = λ i. g.inodes i ∙ for_shape (n.birth i);
     bits = g.bits;
-    numbered = λ b some. g.numbered b (sym (some_shape (at b)) ∙ some);
-    whose = λ i b e. let w = g.whose i b e in (w.0, some_shape (at b) ∙ w.1);
+    numbered = λ b some. g.numbered b (sym (some_shaped (at b)) ∙ some);
+    whose = λ i b e. let w = g.whose i b e in (w.0, some_shaped (at b) ∙ w.1);
     kinds = λ b x e. kinds_shape b (at b) refl x e;
     owned = λ b j l. g.owned b j (subst (λ k. j < k) (blocks_shape (at b)) l);
     owners = λ k b j e. let w = g.owners k b j e in (w.0, subst (λ k. j < k) (sym (blocks_shape (at b))) w.1);
@@ -133,7 +115,7 @@ same_nodes t = fun_ext (found t)
 
 module _ (s : Store) (t : FileTree) (n : Naming) (of : IsOfTree s t n) where
   births_shape : (b : ℕ) → is_some (node_at (shape_of t) b) ≡ true → is_some (node_at t b) ≡ true
-  births_shape b some = sym (some_shape (node_at t b)) ∙ ap is_some (sym (found t b)) ∙ some
+  births_shape b some = sym (some_shaped (node_at t b)) ∙ ap is_some (sym (found t b)) ∙ some
 
   pub of_shape : (byte large_byte : ℕ → ℕ → ℕ) → IsOfTree (with_bytes s byte large_byte) (shape_of t) n
   of_shape byte large_byte = record {
@@ -185,7 +167,7 @@ reached_shape at b (name ∷ names) = ap (option_and_then (λ next. reached_from
     onward None later = refl
 
 pub all_reached : (at : Nodes) → IsReached at → IsReached (λ b. shaped (at b))
-all_reached at reached b some = let r = reached b (sym (some_shape (at b)) ∙ some) in (r.0, reached_shape at 0 r.0 ∙ r.1)
+all_reached at reached b some = let r = reached b (sym (some_shaped (at b)) ∙ some) in (r.0, reached_shape at 0 r.0 ∙ r.1)
 
 pub disks_stand : DisksStandForShapes
 disks_stand sectors t stands = record {
@@ -199,7 +181,7 @@ disks_stand sectors t stands = record {
   naming = stands.naming;
   picture = subst (λ at. Pictures s at stands.naming) (sym (same_nodes t)) (pictures_shape s (node_at t) stands.naming stands.picture s.byte s.large_byte);
   root = stands.root;
-  births = λ b some late. stands.births b (sym (some_shape (node_at t b)) ∙ ap is_some (sym (found t b)) ∙ some) late;
+  births = λ b some late. stands.births b (sym (some_shaped (node_at t b)) ∙ ap is_some (sym (found t b)) ∙ some) late;
 }
   where
     s : Store

@@ -1,6 +1,6 @@
 -- Numbers that differ, all below a bound, are at most so many.
 use Rattle.std.proofs.Common.{◌≡◌, ◌≢◌, ◌<◌, ◌≤◌, ◌+◌, ℕ, zero, suc, Bool, true, false, ◌==◌, nat_eq, if◌then◌else◌, refl, sym, ◌∙◌, arith}
-use Rattle.frang_base.proofs.Basics.{eq_of, ne_of}
+use Rattle.std.proofs.lemmas.Bool.{eqb-false, eqb-true}
 
 abbrev AreApart : (ℕ → ℕ) → ℕ → Type 0
 AreApart f count = (i j : ℕ) → i < count → j < count → f i ≡ f j → i ≡ j
@@ -17,14 +17,14 @@ module _ (f : ℕ → ℕ) (bound last : ℕ) (below : (j : ℕ) → j < last + 
       not_last e = let i : j ≡ last = apart j last (omega arith) (omega arith) e in omega arith
 
       go : (b : Bool) → nat_eq (f j) bound ≡ b → (if b then f last else f j) < bound
-      go true e = let d : f j ≡ bound = eq_of (f j) bound e in let h : f last < bound + 1 = below last (omega arith) in let ne : f last ≢ bound = λ q. not_last (d ∙ sym q) in grind arith
-      go false e = let h : f j < bound + 1 = below j (omega arith) in let ne : f j ≢ bound = ne_of (f j) bound e in grind arith
+      go true e = let d : f j ≡ bound = eqb-true (f j) bound e in let h : f last < bound + 1 = below last (omega arith) in let ne : f last ≢ bound = λ q. not_last (d ∙ sym q) in grind arith
+      go false e = let h : f j < bound + 1 = below j (omega arith) in let ne : f j ≢ bound = eqb-false (f j) bound e in grind arith
 
   moved_apart : AreApart (moved f bound last) last
   moved_apart i j li lj = go (nat_eq (f i) bound) refl (nat_eq (f j) bound) refl
     where
       go : (a : Bool) → nat_eq (f i) bound ≡ a → (b : Bool) → nat_eq (f j) bound ≡ b → (if a then f last else f i) ≡ (if b then f last else f j) → i ≡ j
-      go true p true q e = apart i j (omega arith) (omega arith) (eq_of (f i) bound p ∙ sym (eq_of (f j) bound q))
+      go true p true q e = apart i j (omega arith) (omega arith) (eqb-true (f i) bound p ∙ sym (eqb-true (f j) bound q))
       go true p false q e = absurd (let k : last ≡ j = apart last j (omega arith) (omega arith) e in omega arith)
       go false p true q e = absurd (let k : i ≡ last = apart i last (omega arith) (omega arith) e in omega arith)
       go false p false q e = apart i j (omega arith) (omega arith) e

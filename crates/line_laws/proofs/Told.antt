@@ -1,7 +1,7 @@
 -- The inodes of all nodes that are reached are told by the disk: that of the root, and of each other by an entry.
 use Rattle.std.proofs.Common.{◌≡◌, ◌<◌, ◌*◌, ◌/◌, ◌%◌, ℕ, true, nat_lt, if◌then◌else◌, Option, Some, None, List, [], ◌∷◌, refl, sym, ◌∙◌, ap, subst, arith}
 use Rattle.std.specs.Option.{option_and_then}
-use Rattle.frang_base.proofs.Basics.{of_lt}
+use Rattle.std.proofs.lemmas.Bool.{lt-ltb}
 use Rattle.tree_definitions.specs.declared.node.Node.{Node}
 use Rattle.tree_definitions.specs.declared.node.Node.TheVariants.{Dir, File, Link}
 use Rattle.tree_definitions.specs.Entries.{Entries}
@@ -20,7 +20,7 @@ module _ (s : Store) (at : Nodes) (n m : Naming) (g : Pictures s at n) (h : Pict
         sym (inode_is s at m h d (Dir entries blocks) is) ∙ ap s.inode same ∙ inode_is s at n g d (Dir entries blocks) is in
         let i : inode_of (m.stamp d) (m.block d) (m.large d) (Dir entries blocks) ≡ inode_of (n.stamp d) (n.block d) (n.large d) (Dir entries blocks) = cc in
         let f : (if nat_lt j blocks then m.block d j else 0) ≡ (if nat_lt j blocks then n.block d j else 0) = ap (λ x. x.small j) i in
-        let t : nat_lt j blocks ≡ true = of_lt j blocks l in
+        let t : nat_lt j blocks ≡ true = lt-ltb j blocks l in
         sym (ap (λ b. if b then m.block d j else 0) t) ∙ f ∙ ap (λ b. if b then n.block d j else 0) t
 
     -- an entry of the directory has one inode

@@ -18,6 +18,7 @@ use Rattle.disk_definitions.specs.Plans.Plan.{Lacks, Clears, Finishes}
 use Rattle.plan_laws.specs.Traces.{traced}
 use Rattle.disk_definitions.specs.Resolving.{resolve}
 use Rattle.disk_definitions.specs.Lines.{plan_of_line}
+use Rattle.disk_definitions.proofs.LineExamples.{listed}
 
 abbrev a : List ℕ
 a = 97 ∷ []
@@ -33,11 +34,6 @@ l = 108 ∷ []
 
 abbrev x : List ℕ
 x = 120 ∷ []
-
-abbrev listed : {X : Type 0} → List (Option X) → ℕ → Option X
-listed [] i = None
-listed (one ∷ ones) zero = one
-listed (one ∷ ones) (suc i) = listed ones i
 
 -- a node with this many blocks, each of this number
 abbrev node : ℕ → ℕ → ℕ → ℕ → ℕ → List ℕ → Option StoredNode

@@ -1,7 +1,8 @@
 -- A walk and a search for room are told where they look, over the disk of a tree.
-use Rattle.std.proofs.Common.{ℕ, zero, suc, ◌≡◌, ◌≤◌, ◌+◌, ◌*◌, ◌/◌, ◌%◌, ◌==◌, ◌||◌, inl, inr, ⊎_elim, Bool, true, false, if◌then◌else◌, Option, Some, None, List, [], ◌∷◌, ◌++◌, nat_lt, refl, sym, ◌∙◌, subst, arith}
+use Rattle.std.proofs.Common.{ℕ, zero, suc, ◌≡◌, ◌≤◌, ◌+◌, ◌*◌, ◌/◌, ◌%◌, ◌==◌, inl, inr, ⊎_elim, Bool, true, false, if◌then◌else◌, Option, Some, None, List, [], ◌∷◌, ◌++◌, nat_lt, refl, sym, ◌∙◌, subst, arith}
 use Rattle.std.specs.List.{Contains}
 use Rattle.std.specs.Map.{keys_of}
+use Rattle.std.proofs.lemmas.Bool.{or_right, or_left}
 use Rattle.frang_base.specs.declared.reply.Reply.TheVariants as reply
 use Rattle.disk_definitions.specs.Store.{Store, StoredNode, StoredEntry}
 use Rattle.disk_definitions.specs.Naming.{Naming}
@@ -25,17 +26,9 @@ use Rattle.line_laws.proofs.Tells.{Among, same_among, more_among, Tells, Told, t
 pub picked_is_marked : (held : Segments) (k : ℕ) → picked_directory held ≡ Some k → is_marked_unused held k ≡ true
 picked_is_marked held k e = go (least_in_state 2 (state_in held)) refl e
   where
-    in_first : (b c : Bool) → b ≡ true → (b || c) ≡ true
-    in_first true c e = refl
-    in_first false c e = absurd (cc)
-
-    in_second : (b c : Bool) → c ≡ true → (b || c) ≡ true
-    in_second true c e = refl
-    in_second false c e = e
-
     go : (o : Option ℕ) → least_in_state 2 (state_in held) ≡ o → or_else o (least_in_state 0 (state_in held)) ≡ Some k → is_marked_unused held k ≡ true
-    go None i f = in_first (is_in_state 0 (state_in held k)) (is_in_state 2 (state_in held k)) (is_state 0 (state_in held k) (in_state held 0 k f).1)
-    go (Some c) i f = in_second (is_in_state 0 (state_in held k)) (is_in_state 2 (state_in held k)) (is_state 2 (state_in held k) (in_state held 2 k (i ∙ f)).1)
+    go None i f = or_left (is_in_state 0 (state_in held k)) (is_in_state 2 (state_in held k)) (is_state 0 (state_in held k) (in_state held 0 k f).1)
+    go (Some c) i f = or_right (is_in_state 0 (state_in held k)) (is_in_state 2 (state_in held k)) (is_state 2 (state_in held k) (in_state held 2 k (i ∙ f)).1)
 
 module _ (h : Hand) (s : Store) (n : Naming) (disk : DiskStands h s n) where
   -- all of it, whatever was looked at before

@@ -56,7 +56,7 @@ small_run block p e = go (param_fits (param_fields block) && bytes_eq (param_byt
     go false h e = absurd (cc)
 
 -- no edit writes the parameter sector
-not_param : (kind : Bool) (end : Store) (e : Edit) → NotTo kind region.Param end e
+pub not_param : (kind : Bool) (end : Store) (e : Edit) → NotTo kind region.Param end e
 not_param kind end (SetInode i x dated) f u q = cc
 not_param kind end (SetBit i b) f u q = cc
 not_param kind end (SetUse k x) f u q = cc

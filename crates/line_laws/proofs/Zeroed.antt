@@ -69,7 +69,7 @@ both true false e = absurd (cc)
 both false b e = absurd (cc)
 
 -- all numbers below n pass
-each_below : (f : ℕ → Bool) (n : ℕ) → list_all f (below n) ≡ true → (p : ℕ) → p < n → f p ≡ true
+pub each_below : (f : ℕ → Bool) (n : ℕ) → list_all f (below n) ≡ true → (p : ℕ) → p < n → f p ≡ true
 each_below f zero e p l = absurd (omega arith)
 each_below f (suc n) e p l =
     let parts = both (list_all f (below n)) (f n) (sym (list_all-append f (below n) (n ∷ [])) ∙ e) in

@@ -1,34 +1,23 @@
 -- Locks that are within others, put together from their parts.
-use Rattle.std.proofs.Common.{◌≡◌, ℕ, ◌⊎◌, inl, inr, ⊎_elim, List, [], ◌∷◌, ◌++◌, map, subst}
+use Rattle.std.proofs.Common.{ℕ, inl, inr, List, [], ◌∷◌, ◌++◌}
 use Rattle.std.proofs.lemmas.List.Elements.{Contains-append_left, Contains-append_right}
 use Rattle.std.specs.List.{AllByRecursion, Contains}
 use Rattle.frang_base.specs.declared.lock.LockId.{LockId}
 use Rattle.frang_base.specs.declared.lock.LockId.TheVariants as lock
 use Rattle.frang_base.specs.declared.lock.Mode.{Mode}
 use Rattle.frang_base.specs.declared.lock.Mode.TheVariants.{Shared, Sole}
+use Rattle.frang_base.proofs.Lists.{all_map, all_append}
 use Rattle.disk_definitions.specs.Plans.{Lock, shared_nodes, sole_nodes, sole_segments}
-use Rattle.plan_laws.proofs.Covering.{has_head, has_more, has_cases, not_in_none}
+use Rattle.plan_laws.proofs.Covering.{has_head, has_more}
 use Rattle.plan_laws.specs.Locks.{IsSole}
 use Rattle.plan_laws.specs.Covers.{IsHeld}
 use Rattle.line_locks.specs.Same.{Have, HaveMode, AreWithin}
 
 -- ---- lists
 
-pub all_has : {X : Type 0} (P : X → Type 0) (xs : List X) → AllByRecursion P xs → (x : X) → Contains xs x → P x
-all_has P [] a x c = absurd (not_in_none x c)
-all_has P (y ∷ xs) a x c = ⊎_elim (λ e. subst P e a.0) (λ d. all_has P xs a.1 x d) (has_cases y x xs c)
-
 pub all_each : {X : Type 0} (P : X → Type 0) (xs : List X) → ((x : X) → Contains xs x → P x) → AllByRecursion P xs
 all_each P [] f = tt
 all_each P (x ∷ xs) f = (f x (has_head x xs), all_each P xs (λ y c. f y (has_more x y xs c)))
-
-pub all_join : {X : Type 0} (P : X → Type 0) (xs ys : List X) → AllByRecursion P xs → AllByRecursion P ys → AllByRecursion P (xs ++ ys)
-all_join P [] ys a b = b
-all_join P (x ∷ xs) ys a b = (a.0, all_join P xs ys a.1 b)
-
-pub all_map : {X Y : Type 0} (P : Y → Type 0) (f : X → Y) (xs : List X) → AllByRecursion (λ x. P (f x)) xs → AllByRecursion P (map f xs)
-all_map P f [] a = tt
-all_map P f (x ∷ xs) a = (a.0, all_map P f xs a.1)
 
 -- ---- locks
 
@@ -56,7 +45,7 @@ pub within_itself : (locks more : List Lock) → ((need : Lock) → Contains loc
 within_itself locks more f = all_each (Have more) locks (λ need c. have_it more need (f need c))
 
 pub within_join : (a b others : List Lock) → AreWithin a others → AreWithin b others → AreWithin (a ++ b) others
-within_join a b others v w = all_join (Have others) a b v w
+within_join a b others v w = all_append (Have others) a b v w
 
 pub within_shared : (inodes : List ℕ) (others : List Lock) → ((i : ℕ) → Contains inodes i → IsHeld others (lock.Node i)) → AreWithin (shared_nodes inodes) others
 within_shared inodes others f = all_map (Have others) (λ i. (lock.Node i, Shared)) inodes (all_each (λ i. IsHeld others (lock.Node i)) inodes f)

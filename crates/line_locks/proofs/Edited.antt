@@ -5,6 +5,7 @@ use Rattle.std.specs.List.{AllByRecursion, Contains}
 use Rattle.frang_base.specs.declared.lock.LockId.{LockId}
 use Rattle.frang_base.specs.declared.lock.LockId.TheVariants as lock
 use Rattle.frang_base.specs.declared.lock.Mode.TheVariants.{Sole}
+use Rattle.frang_base.proofs.Lists.{all_append}
 use Rattle.tree_definitions.specs.Numbers.{below}
 use Rattle.disk_definitions.specs.Store.{Store, StoredNode, StoredEntry, Use}
 use Rattle.disk_definitions.specs.Changes.{drop_node, freed, grow, large_gone, put_entry, relink, replace_entry, take_entry, uses_to}
@@ -13,30 +14,18 @@ use Rattle.disk_definitions.specs.Edits.Edit.{SetInode, SetBit, SetUse, SetPlace
 use Rattle.disk_definitions.specs.NamePlans.{fewer, fewer_segments, is_last, segments_of}
 use Rattle.disk_definitions.specs.Plans.{Hand, Lock, Room, enter, room_segments, sole_nodes, with_block}
 use Rattle.disk_definitions.specs.Plans.Room.{Inside, InBlock, NoRoom}
-use Rattle.plan_laws.proofs.Covering.{has_cases, has_head, has_more, map_has, not_in_none}
+use Rattle.plan_laws.proofs.Covering.{has_head, map_has, not_in_none, filter_has}
 use Rattle.plan_laws.specs.Locks.{IsSole}
 use Rattle.plan_laws.proofs.WalksFine.{either}
 use Rattle.plan_laws.proofs.OneNode.{small_of}
 use Rattle.plan_laws.specs.CoversAtHand.{has_small}
 use Rattle.line_locks.specs.Found.{edit_locks_of, edit_locks}
-use Rattle.line_locks.proofs.Alike.{all_join, sole_left, sole_right}
+use Rattle.line_locks.proofs.Alike.{sole_left, sole_right}
 use Rattle.line_locks.proofs.PlansEnd.{owns}
-
--- what passes stays
-pub filter_has : (test : ℕ → Bool) (xs : List ℕ) (x : ℕ) → Contains xs x → test x ≡ true → Contains (filter test xs) x
-filter_has test [] x c e = absurd (not_in_none x c)
-filter_has test (y ∷ xs) x c e = ⊎_elim here (λ d. later (test y) (filter_has test xs x d e)) (has_cases y x xs c)
-  where
-    here : y ≡ x → Contains (filter test (y ∷ xs)) x
-    here q = subst (λ b. Contains (if b then y ∷ filter test xs else filter test xs) x) (sym (ap test q ∙ e)) (subst (Contains (y ∷ filter test xs)) q (has_head y (filter test xs)))
-
-    later : (b : Bool) → Contains (filter test xs) x → Contains (if b then y ∷ filter test xs else filter test xs) x
-    later true d = has_more y x (filter test xs) d
-    later false d = d
 
 all_below : (P : ℕ → Type 0) (f : ℕ → ℕ) (m : ℕ) → ((i : ℕ) → i < m → P (f i)) → AllByRecursion P (map f (below m))
 all_below P f zero g = tt
-all_below P f (suc m) g = subst (AllByRecursion P) (sym (joined (below m))) (all_join P (map f (below m)) (f m ∷ []) (all_below P f m (λ i l. g i (omega arith))) (g m (omega arith), tt))
+all_below P f (suc m) g = subst (AllByRecursion P) (sym (joined (below m))) (all_append P (map f (below m)) (f m ∷ []) (all_below P f m (λ i l. g i (omega arith))) (g m (omega arith), tt))
   where
     joined : (xs : List ℕ) → map f (xs ++ m ∷ []) ≡ map f xs ++ f m ∷ []
     joined [] = refl
@@ -51,9 +40,6 @@ IsRoom NoRoom = ⊥
 module _ (h : Hand) (s : Store) (nodes : List ℕ) where
   abbrev pub IsEdited : List Edit → LockId → Type 0
   IsEdited edits l = IsSole (edit_locks (owns h s) nodes edits) l
-
-  abbrev Nodes : List Edit → List ℕ → Type 0
-  Nodes edits inodes = AllByRecursion (λ i. IsEdited edits (lock.Node i)) inodes
 
   abbrev pub Segments : List Edit → List ℕ → Type 0
   Segments edits segments = AllByRecursion (λ k. IsEdited edits (lock.Segment k)) segments
@@ -150,7 +136,7 @@ module _ (h : Hand) (s : Store) (nodes : List ℕ) where
       let smalls = map (λ index. y.small index / 1024) (below y.blocks) in
       let large = if y.large == 0 then [] else (y.large - 1) ∷ [] in (
         edited_right uses (gone ++ last) (lock.Segment (j / 64)) (edited_right gone last (lock.Segment (j / 64)) (edited_later (SetInode j None false) (SetBit j false ∷ []) (lock.Segment (j / 64)) (bit_edited j false []))),
-        all_join (λ k. IsEdited (drop_node j y) (lock.Segment k)) smalls large
+        all_append (λ k. IsEdited (drop_node j y) (lock.Segment k)) smalls large
             (segments_left uses (gone ++ last) smalls (all_below (λ k. IsEdited uses (lock.Segment k)) (λ index. y.small index / 1024) y.blocks (uses_edited y.small (freed y.kind) y.blocks)))
             (segments_right uses (gone ++ last) large (segments_left gone last large (gone_edited y.large))),
       )

@@ -7,6 +7,7 @@ use Rattle.frang_base.specs.declared.lock.LockId.TheVariants as lock
 use Rattle.frang_base.specs.declared.lock.Mode.TheVariants.{Sole}
 use Rattle.frang_base.specs.declared.reply.Reply.{Reply}
 use Rattle.frang_base.specs.declared.reply.Reply.TheVariants as reply
+use Rattle.frang_base.proofs.Lists.{all_append}
 use Rattle.tree_definitions.specs.Numbers.{below}
 use Rattle.tree_definitions.specs.Tree.{small_blocks_of}
 use Rattle.disk_definitions.specs.Naming.{Naming}
@@ -26,7 +27,6 @@ use Rattle.disk_definitions.specs.Walks.Spot.{AtRoot, AtName, AtGap, Lost}
 use Rattle.plan_laws.proofs.Covering.{has_head}
 use Rattle.plan_laws.proofs.Standing.{HasKind, DiskStands}
 use Rattle.plan_laws.proofs.WalksFine.{SpotStands}
-use Rattle.line_locks.proofs.Alike.{all_join}
 use Rattle.line_locks.proofs.Edited.{IsEdited, Segments, edited_left, edited_right, segments_left, segments_right, edited_later, inode_edited, large_edited, use_edited}
 use Rattle.line_locks.proofs.Ending.{Ends}
 use Rattle.line_locks.proofs.PlansEnd.{AreTouched, FinishEnds, PlanEnds, finish_ends, held_ends, none_ends, over_ends, refuse_ends}
@@ -112,7 +112,7 @@ module _ (h : Hand) (s : Store) (n : Naming) (disk : DiskStands h s n) (back : �
           let edits = uses ++ large ++ dated ++ bytes in
           finish_ends h s before touched nodes touched (i ∷ []) (smalls ++ large_segment o) (all_touched touched nodes i e) reply.Ok edits (
             (edited_left h s nodes (uses ++ large ++ dated) bytes (lock.Node i) (edited_right h s nodes (uses ++ large) dated (lock.Node i) (inode_edited h s nodes i (Some y) true [])), tt),
-            all_join (λ k. IsEdited h s nodes edits (lock.Segment k)) smalls (large_segment o)
+            all_append (λ k. IsEdited h s nodes edits (lock.Segment k)) smalls (large_segment o)
                 (segments_left h s nodes (uses ++ large ++ dated) bytes smalls (segments_left h s nodes (uses ++ large) dated smalls (segments_left h s nodes uses large smalls (uses_edited h s nodes Bytes picks))))
                 (segments_left h s nodes (uses ++ large ++ dated) bytes (large_segment o) (segments_left h s nodes (uses ++ large) dated (large_segment o) (segments_right h s nodes uses large (large_segment o) (taken_edited h s nodes o)))),
           )
@@ -172,7 +172,7 @@ module _ (h : Hand) (s : Store) (n : Naming) (disk : DiskStands h s n) (back : �
         let edits = uses ++ large ++ dated in
         finish_ends h s before touched nodes touched (i ∷ []) (smalls ++ large_cut x len) (all_touched touched nodes i e) reply.Ok edits (
           (edited_right h s nodes (uses ++ large) dated (lock.Node i) (inode_edited h s nodes i (Some (resized x when len [] None)) true []), tt),
-          all_join (λ k. IsEdited h s nodes edits (lock.Segment k)) smalls (large_cut x len) (segments_left h s nodes (uses ++ large) dated smalls (segments_left h s nodes uses large smalls (uses_edited h s nodes Fresh blocks)))
+          all_append (λ k. IsEdited h s nodes edits (lock.Segment k)) smalls (large_cut x len) (segments_left h s nodes (uses ++ large) dated smalls (segments_left h s nodes uses large smalls (uses_edited h s nodes Fresh blocks)))
               (segments_left h s nodes (uses ++ large) dated (large_cut x len) (segments_right h s nodes uses large (large_cut x len) (larges_edited h s nodes false (large_cut x len)))),
         )
 

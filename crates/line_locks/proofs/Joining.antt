@@ -1,5 +1,5 @@
 -- Sets of locks grow alike by locks that are alike: by the mode that some locks give a lock beside the one that it has.
-use Rattle.std.proofs.Common.{◌≡◌, ◌≢◌, ℕ, ◌≤◌, ◌<◌, ◌||◌, not, inl, inr, ⊎_elim, Bool, true, false, cond, if◌then◌else◌, Option, Some, None, List, [], ◌∷◌, refl, sym, ap, ap₂, ◌∙◌, subst, arith}
+use Rattle.std.proofs.Common.{◌≡◌, ℕ, ◌≤◌, ◌||◌, not, inl, inr, ⊎_elim, Bool, true, false, cond, if◌then◌else◌, Option, Some, None, List, [], ◌∷◌, refl, sym, ap, ap₂, ◌∙◌, subst, arith}
 use Rattle.std.proofs.lemmas.Map.Views.{Contains-from_lookup}
 use Rattle.std.specs.BTreeMap.{insert_entry, is_at}
 use Rattle.std.specs.Cmp.{IsTotalOrder}
@@ -9,33 +9,27 @@ use Rattle.std.specs.Map.{keys_of, lookup}
 use Rattle.std.specs.Ordering.{is_eq, match_ordering, ordering_reverse}
 use Rattle.std.specs.declared.cmp.Ordering.{Ordering}
 use Rattle.std.specs.declared.cmp.Ordering.TheVariants.{Less, Equal, Greater}
+use Rattle.std.proofs.lemmas.Bool.{or_right, or_left}
 use Rattle.frang_base.specs.declared.lock.LockId.{LockId}
 use Rattle.frang_base.specs.declared.lock.Mode.{Mode}
 use Rattle.frang_base.specs.declared.lock.Mode.TheVariants.{Shared, Sole}
+use Rattle.frang_base.proofs.Tests.{same_tests}
 use Rattle.tree_laws.proofs.Pairs.{IsExact, below_all, found_other, found_put, none_below, self, sorted_put, tie}
 use Rattle.lock_definitions.specs.Calls.{serves}
 use Rattle.lock_definitions.specs.Order.{is_lock, lock_cmp}
-use Rattle.lock_definitions.proofs.LockOrder.{found_lock, lock_total}
+use Rattle.lock_definitions.proofs.LockOrder.{found_lock, lock_total, lock_itself}
 use Rattle.disk_definitions.specs.Plans.{Lock}
-use Rattle.plan_laws.proofs.Covering.{has_cases, has_head, has_more, not_in_none}
+use Rattle.plan_laws.proofs.Covering.{has_cases, has_head, has_more, not_in_none, all_has}
 use Rattle.plan_laws.specs.Locks.{IsSole}
 use Rattle.plan_laws.specs.Covers.{IsHeld}
 use Rattle.core_definitions.specs.Sets.{LockSet, joined, joined_all, lacks, mode_in, with_mode}
 use Rattle.line_locks.specs.Same.{AlikeLocksJoinAlike, AlikeLocksLackAlike, AreAlike, AreWithin, Have, HaveMode, SetsAreAlike}
-use Rattle.line_locks.proofs.Alike.{all_each, all_has, have_it}
+use Rattle.line_locks.proofs.Alike.{all_each, have_it}
 
 -- ---- the order of locks
 
-own_lock : (l : LockId) → lock_cmp l l ≡ Equal
-own_lock l = go (lock_cmp l l) refl
-  where
-    go : (o : Ordering) → lock_cmp l l ≡ o → lock_cmp l l ≡ Equal
-    go Less e = absurd (let z : Less ≡ Greater = sym e ∙ lock_total.antisymm l l ∙ ap ordering_reverse e in cc)
-    go Equal e = e
-    go Greater e = absurd (let z : Greater ≡ Less = sym e ∙ lock_total.antisymm l l ∙ ap ordering_reverse e in cc)
-
 pub lock_exact : IsExact lock_cmp
-lock_exact = record { total = lock_total; ties = λ x y e. sym (found_lock x y (ap is_eq e)); own = own_lock }
+lock_exact = record { total = lock_total; ties = λ x y e. sym (found_lock x y (ap is_eq e)); own = lock_itself }
 
 -- ---- modes
 
@@ -192,15 +186,7 @@ join_alike locks others set a s =
 
 any_has : (p : Lock → Bool) (xs : List Lock) (x : Lock) → Contains xs x → p x ≡ true → list_any p xs ≡ true
 any_has p [] x c e = absurd (not_in_none x c)
-any_has p (y ∷ xs) x c e = ⊎_elim (λ q. first (p y) (list_any p xs) (ap p q ∙ e)) (λ d. second (p y) (list_any p xs) (any_has p xs x d e)) (has_cases y x xs c)
-  where
-    first : (a b : Bool) → a ≡ true → (a || b) ≡ true
-    first true b e = refl
-    first false b e = absurd (cc)
-
-    second : (a b : Bool) → b ≡ true → (a || b) ≡ true
-    second true b e = refl
-    second false b e = e
+any_has p (y ∷ xs) x c e = ⊎_elim (λ q. or_left (p y) (list_any p xs) (ap p q ∙ e)) (λ d. or_right (p y) (list_any p xs) (any_has p xs x d e)) (has_cases y x xs c)
 
 -- a set that lacks a lock shared lacks it in each mode
 lacks_more : (o : Option Mode) (m : Mode) → not (serves o Shared) ≡ true → not (serves o m) ≡ true
@@ -220,13 +206,8 @@ lacks_all set (x ∷ locks) others w e = go (lacks set x) refl (lacks_all set lo
     go true q rest e = lacks_one set others x.0 x.1 w.0 q
     go false q rest e = rest e
 
-both_ways : (a b : Bool) → (a ≡ true → b ≡ true) → (b ≡ true → a ≡ true) → a ≡ b
-both_ways true b f g = sym (f refl)
-both_ways false true f g = g refl
-both_ways false false f g = refl
-
 pub lack_alike : AlikeLocksLackAlike
-lack_alike locks others set a = both_ways (list_any (lacks set) locks) (list_any (lacks set) others) (lacks_all set locks others a.there) (lacks_all set others locks a.back)
+lack_alike locks others set a = same_tests (list_any (lacks set) locks) (list_any (lacks set) others) (lacks_all set locks others a.there) (lacks_all set others locks a.back)
 
 -- ---- the set of some locks
 

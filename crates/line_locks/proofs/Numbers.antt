@@ -1,9 +1,8 @@
 -- The numbers of the sectors at which a line looked tell the nodes at whose inodes it looked, those of file bytes left out or not.
-use Rattle.std.proofs.Common.{◌≡◌, ℕ, ◌≤◌, ◌<◌, ◌+◌, ◌*◌, Bool, true, false, cond, nat_lt, Option, Some, None, List, [], ◌∷◌, ◌++◌, filter, fold, map, refl, sym, ◌∙◌, ap, subst, arith}
-use Rattle.std.proofs.lemmas.Bool.Decides.{nat_tests}
+use Rattle.std.proofs.Common.{◌≡◌, ℕ, ◌≤◌, ◌<◌, ◌+◌, ◌*◌, Bool, true, false, cond, Option, Some, None, List, [], ◌∷◌, ◌++◌, filter, fold, map, refl, sym, ◌∙◌, ap, subst, arith}
 use Rattle.std.proofs.lemmas.List.{append-nil, append_assoc}
 use Rattle.std.specs.List.{Contains}
-use Rattle.frang_base.proofs.Basics.{of_lt}
+use Rattle.std.proofs.lemmas.Bool.{ltb-true, lt-ltb}
 use Rattle.frang_base.specs.declared.bitmap.Bitmap.{Bitmap}
 use Rattle.frang_base.specs.declared.op.Op.{Op}
 use Rattle.frang_base.specs.declared.op.Op.TheVariants as op
@@ -33,9 +32,6 @@ use Rattle.line_laws.proofs.TraceLooked.{inside_first}
 use Rattle.line_locks.specs.Found.{nodes_in, nodes_of, with_node, with_node_in}
 use Rattle.line_locks.specs.Lines.{NumbersTellNodes}
 
-below_all : (i count : ℕ) → nat_lt i count ≡ true → i < count
-below_all i count t = grind (arith, nat_tests)
-
 -- a sector that isn't among the inodes is that of none
 not_inode : (segments number : ℕ) → segments ≤ 64 → ((i : ℕ) → i < 64 * segments → inodes_from + i ≡ number → ⊥) → (nodes : List ℕ) → with_node segments nodes number ≡ nodes
 not_inode segments number few none nodes = go (region_of segments number) refl
@@ -47,13 +43,13 @@ not_inode segments number few none nodes = go (region_of segments number) refl
     go (Some (region.Segment k)) e = refl
     go (Some (region.Inode i)) e =
         let p = region_read segments number (region.Inode i) e in
-        absurd (none i (below_all i (64 * segments) p.1) p.0)
+        absurd (none i (ltb-true i (64 * segments) p.1) p.0)
     go (Some (region.Small block part)) e = refl
     go (Some (region.Large block part)) e = refl
 
 module _ (segments : ℕ) (few : segments ≤ 64) where
   an_inode : (i : ℕ) → i < 64 * segments → (nodes : List ℕ) → with_node segments nodes (number_of (InodeAt i)) ≡ nodes ++ i ∷ []
-  an_inode i l nodes = ap (with_node_in nodes) (region_found segments (region.Inode i) few (of_lt i (64 * segments) l))
+  an_inode i l nodes = ap (with_node_in nodes) (region_found segments (region.Inode i) few (lt-ltb i (64 * segments) l))
 
   a_segment : (k : ℕ) → k < segments → (nodes : List ℕ) → with_node segments nodes (number_of (SegmentAt k)) ≡ nodes
   a_segment k l nodes = not_inode segments (number_of (SegmentAt k)) few (λ i m e. (let z : 10737418240 + i ≡ 4294967296 + k = e in omega arith)) nodes

@@ -1,5 +1,5 @@
 -- What the walk of a path looked at is what its operation looked at.
-use Rattle.std.proofs.Common.{◌≡◌, ℕ, List, ◌++◌, refl, Result, Ok, Err, OnOk}
+use Rattle.std.proofs.Common.{◌≡◌, ℕ, List, ◌++◌, refl}
 use Rattle.frang_base.specs.declared.op.Op.{Op}
 use Rattle.disk_definitions.specs.Held.{Segments}
 use Rattle.tree_definitions.specs.Perform.{Resolved}
@@ -13,7 +13,3 @@ use Rattle.dir_lookup.proofs.WalkLooks.{looks_got}
 
 pub by_path_looks : (trail : List ℕ) (make : List (List ℕ) → Op) (walk : Ask Resolution) (cached : Cached) (held : Segments) → looks_of walk cached held ≡ looks_of (bind walk (by_path trail make)) cached held
 by_path_looks trail make walk cached held = looks_got {B = Resolved} walk (λ w. record { step = step_of w.end make; trail = trail ++ w.trail }) cached held (reading walk cached held) refl
-
-pub on_ok : {T E A B : Type 0} (r : Result T E) → (A → B) → OnOk r A → OnOk r B
-on_ok (Ok t) f a = f a
-on_ok (Err e) f a = tt

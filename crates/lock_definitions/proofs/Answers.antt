@@ -9,6 +9,7 @@ use Rattle.std.specs.Map.{lookup}
 use Rattle.std.proofs.lemmas.Nat.{pow_pos}
 use Rattle.std.proofs.lemmas.Bool.{cases_lt, false≢true}
 use Rattle.std.proofs.lemmas.Bool.Decides.{nat_tests}
+use mathlib.Core.Bool.{and-false}
 use Rattle.frang_base.specs.declared.lock.LockId.{LockId}
 use Rattle.frang_base.specs.declared.lock.Mode.{Mode}
 use Rattle.frang_base.specs.declared.lock.Mode.TheVariants.{Shared, Sole}
@@ -89,11 +90,7 @@ granted_exactly locks are server lock mode = (none (any_below Conflicts 16) refl
     Conflicts = conflicts locks server lock mode
 
     past : (other : ℕ) → 16 ≤ other → Conflicts other ≡ false
-    past other above = ap (λ claims. not (other == server) && clashes mode (claim_in claims lock).held) (claims_past locks other (omega (arith, are.servers))) ∙ nothing (not (other == server))
-      where
-        nothing : (b : Bool) → (b && false) ≡ false
-        nothing true = refl
-        nothing false = refl
+    past other above = ap (λ claims. not (other == server) && clashes mode (claim_in claims lock).held) (claims_past locks other (omega (arith, are.servers))) ∙ and-false (not (other == server))
 
     none : (b : Bool) → any_below Conflicts 16 ≡ b → (if not b then Granted else Wait (holders locks server lock mode)) ≡ Granted → (other : ℕ) → Conflicts other ≡ false
     none false is granted other = by (cases_lt other 16)

@@ -1,6 +1,6 @@
 -- Each call of a lock table keeps holders compatible, and only a want gives a server a lock.
 use Rattle.std.proofs.Common.{◌≡◌, ℕ, ◌<◌, ◌≤◌, ◌==◌, Bool, true, false, not, ◌&&◌, if◌then◌else◌, [], length, Option, Some, None, refl, sym, ap, ◌∙◌, subst, inl, inr, ◌⊎◌, arith}
-use Rattle.std.proofs.lemmas.Bool.{cases_eq, cases_lt, false≢true}
+use Rattle.std.proofs.lemmas.Bool.{cases_eq, cases_lt, false≢true, not-true}
 use Rattle.std.proofs.lemmas.Bool.Decides.{nat_tests}
 use Rattle.std.proofs.lemmas.List.{get_or-set_same, get_or-set_other, set_past}
 use Rattle.frang_base.specs.declared.lock.LockId.{LockId}
@@ -51,10 +51,6 @@ module _ (locks : Locks) (servers : length locks.clerks ≡ 16) (s : ℕ) (lock 
   unfolding any_server
   no_clash t apart = go (cases_lt t 16)
     where
-      turned : (b : Bool) → not b ≡ true → b ≡ false
-      turned false e = refl
-      turned true e = absurd (false≢true e)
-
       differs : (t == s) ≡ false
       differs = grind (arith, nat_tests)
 
@@ -63,7 +59,7 @@ module _ (locks : Locks) (servers : length locks.clerks ≡ 16) (s : ℕ) (lock 
       part true b e f = absurd (false≢true (sym e))
 
       go : (t < 16) ⊎ (16 ≤ t) → clashes mode (held locks t lock) ≡ false
-      go (inl below) = part (t == s) _ differs (none_below (conflicts locks s lock mode) 16 (turned _ free) t below)
+      go (inl below) = part (t == s) _ differs (none_below (conflicts locks s lock mode) 16 (not-true _ free) t below)
       go (inr above) = ap (λ claims. clashes mode (claim_in claims lock).held) (claims_past locks t (omega arith))
 
 -- ---- calls that give nobody a lock

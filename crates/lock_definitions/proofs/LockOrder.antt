@@ -3,7 +3,9 @@ use Rattle.std.proofs.Common.{◌≡◌, true, ap, rules, arith}
 use Rattle.std.specs.Cmp.{IsTotalOrder, IsEquivalence, eq_by_cmp_equiv}
 use Rattle.std.specs.Cmp.Rules.{comparing}
 use Rattle.std.specs.Ordering.{eq_by_cmp}
+use Rattle.std.specs.declared.cmp.Ordering.TheVariants.{Equal}
 use Rattle.std.proofs.lemmas.Bool.Decides.{nat_tests}
+use Rattle.frang_base.proofs.Tests.{cmp_itself}
 use Rattle.frang_base.specs.declared.lock.LockId.{LockId}
 use Rattle.frang_base.specs.declared.lock.LockId.TheVariants.{Log, Segment, Node}
 use Rattle.sorted_entries.specs.Places.{IsKeyOrder}
@@ -26,6 +28,11 @@ found_lock (Node a) (Node b) e = ap Node (grind (arith, nat_tests))
 
 pub is_lock_equiv : IsEquivalence (eq_by_cmp lock_cmp)
 is_lock_equiv = eq_by_cmp_equiv lock_total
+
+pub lock_itself : (a : LockId) → lock_cmp a a ≡ Equal
+lock_itself (Log a) = cmp_itself a
+lock_itself (Segment a) = cmp_itself a
+lock_itself (Node a) = cmp_itself a
 
 -- locks are keys
 pub locks : IsKeyOrder lock_cmp

@@ -1,7 +1,7 @@
 -- Each call of a lock table leaves the state of a lock table, and only a want gives a server a lock.
-use Rattle.std.proofs.Common.{◌≡◌, ℕ, ◌<◌, ◌≤◌, ◌==◌, Bool, true, false, ◌&&◌, ◌||◌, if◌then◌else◌, is_some, List, [], ◌∷◌, length, map, set, Option, Some, None, refl, sym, ap, ◌∙◌, subst, inl, inr, ◌⊎◌, arith}
+use Rattle.std.proofs.Common.{◌≡◌, ℕ, ◌<◌, ◌≤◌, ◌==◌, Bool, true, false, ◌&&◌, if◌then◌else◌, is_some, List, [], ◌∷◌, length, map, set, Option, Some, None, refl, sym, ap, ◌∙◌, subst, inl, inr, ◌⊎◌, arith}
 use Rattle.std.specs.List.Sorted.{IsStrictlySortedBy}
-use Rattle.std.proofs.lemmas.Bool.{cases_eq, cases_lt, false≢true}
+use Rattle.std.proofs.lemmas.Bool.{cases_eq, cases_lt, false≢true, or_parts, and_from}
 use Rattle.std.proofs.lemmas.Bool.Decides.{nat_tests}
 use Rattle.std.proofs.lemmas.List.{get_or-set_same, get_or-set_other, set_past, get_or-replicate, length-set, length-map, length-replicate}
 use Rattle.frang_base.specs.declared.lock.LockId.{LockId}
@@ -101,11 +101,7 @@ module _ (locks : Locks) (are : AreLocks locks) where
   unasked_want asker asked mode t q unasked none = go (claim_of-changed locks asker asked (answered (want_answer locks asker asked mode) mode) (are.claims asker) t q)
     where
       asks_so : (t ≡ asker) → q ≡ asked → (asker == t && is_lock q asked) ≡ true
-      asks_so same here = both (asker == t) (is_lock q asked) (grind (arith, nat_tests)) (ap (λ l. is_lock l asked) here ∙ is_lock_equiv.refl asked)
-        where
-          both : (a b : Bool) → a ≡ true → b ≡ true → (a && b) ≡ true
-          both true b e f = f
-          both false b e f = absurd (false≢true e)
+      asks_so same here = and_from (asker == t) (is_lock q asked) (grind (arith, nat_tests)) (ap (λ l. is_lock l asked) here ∙ is_lock_equiv.refl asked)
 
       go : IsChanged locks asker asked (answered (want_answer locks asker asked mode) mode) t q ⊎ (claim_of (wanted locks asker asked mode) t q ≡ claim_of locks t q) → held (wanted locks asker asked mode) t q ≡ None
       go (inl at) = absurd (false≢true (sym unasked ∙ asks_so at.same_server at.same_lock))
@@ -139,10 +135,5 @@ AreLocks-after_calls locks are (call ∷ calls) = AreLocks-after_calls (after_ca
 
 pub unasked_calls : (locks : Locks) → AreLocks locks → (calls : List LockCall) (t : ℕ) (q : LockId) → asks t q calls ≡ false → held locks t q ≡ None → held (after_calls locks calls) t q ≡ None
 unasked_calls locks are [] t q unasked none = none
-unasked_calls locks are (call ∷ calls) t q unasked none = unasked_calls (after_call locks call) (AreLocks-after_call locks are call) calls t q (parts (is_want t q call) (asks t q calls) unasked).1
-    (unasked_call locks are call t q (parts (is_want t q call) (asks t q calls) unasked).0 none)
-  where
-    parts : (a b : Bool) → (a || b) ≡ false → (a ≡ false) × (b ≡ false)
-    parts false false e = (refl, refl)
-    parts false true e = absurd (false≢true (sym e))
-    parts true b e = absurd (false≢true (sym e))
+unasked_calls locks are (call ∷ calls) t q unasked none = unasked_calls (after_call locks call) (AreLocks-after_call locks are call) calls t q (or_parts (is_want t q call) (asks t q calls) unasked).1
+    (unasked_call locks are call t q (or_parts (is_want t q call) (asks t q calls) unasked).0 none)

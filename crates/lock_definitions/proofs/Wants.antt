@@ -9,10 +9,15 @@ use Rattle.frang_base.specs.declared.lock.Mode.TheVariants.{Shared, Sole}
 use Rattle.lock_definitions.specs.declared.claim.Claim.{Claim}
 use Rattle.lock_definitions.specs.declared.claim.LogHold.{LogHold}
 use Rattle.lock_definitions.specs.declared.claim.Wanted.TheVariants.{Granted, Wait}
-use Rattle.lock_definitions.specs.Locks.{Locks, claims_of, claim_of, held, is_wished_in, is_wished, log_hold, AreLocks}
+use Rattle.lock_definitions.specs.Locks.{Locks, claims_of, claim_of, held, is_wished_in, is_wished, no_claim, log_hold, AreLocks}
 use Rattle.lock_definitions.specs.Calls.{serves, clashes, conflicts, want_answer, answered, holding, granted, wishing, wanted, hold_not_by, cleared}
 use Rattle.lock_definitions.proofs.Changes.{claims_past, own_claim}
 use Rattle.lock_definitions.proofs.Answers.{granted_exactly}
+
+-- no claim wishes for anything
+pub none_wished : (mode : Mode) → is_wished_in no_claim mode ≡ false
+none_wished Shared = refl
+none_wished Sole = refl
 
 -- ---- claims
 

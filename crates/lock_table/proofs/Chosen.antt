@@ -8,9 +8,9 @@ use Rattle.std.specs.Ordering.{match_ordering, ordering_reverse, is_eq}
 use Rattle.std.specs.Option.{option_map}
 use Rattle.std.specs.declared.cmp.Ordering.{Ordering}
 use Rattle.std.specs.declared.cmp.Ordering.TheVariants.{Less, Equal, Greater}
-use Rattle.std.proofs.lemmas.Bool.{false≢true}
+use Rattle.ordered_map.proofs.Spots.{equal_is}
 use Rattle.frang_base.specs.declared.lock.LockId.{LockId}
-use Rattle.sorted_entries.proofs.Spots.{nothing_removed}
+use Rattle.sorted_entries.proofs.Spots.{nothing_removed, by_answer}
 use Rattle.lock_definitions.specs.Order.{lock_cmp, is_lock}
 use Rattle.lock_definitions.proofs.LockOrder.{lock_total, found_lock, is_lock_equiv, locks}
 use Rattle.lock_table.specs.Asked.{with_made}
@@ -20,17 +20,6 @@ use Rattle.lock_table.specs.Kept.{chosen}
 all_along : {K : Type 0} {P Q : K → Type 0} → ((x : K) → P x → Q x) → (xs : List K) → AllByRecursion P xs → AllByRecursion Q xs
 all_along f [] all = tt
 all_along f (x ∷ xs) all = (f x all.0, all_along f xs all.1)
-
--- each of the three answers of a comparison
-by_answer : {P : Type 0} (o : Ordering) → (o ≡ Less → P) → (o ≡ Equal → P) → (o ≡ Greater → P) → P
-by_answer Less a b c = a refl
-by_answer Equal a b c = b refl
-by_answer Greater a b c = c refl
-
-equal_of : (o : Ordering) → is_eq o ≡ true → o ≡ Equal
-equal_of Equal e = refl
-equal_of Less e = absurd (false≢true e)
-equal_of Greater e = absurd (false≢true e)
 
 -- ---- a lock below all that are listed
 
@@ -56,7 +45,7 @@ module _ {V : Type 0} (lock : LockId) where
   put_first : (entries : List (LockId × V)) (before now : Option V) → IsBelow entries → with_made (cons_option (option_map (λ made. (lock, made)) before) entries) lock now ≡ cons_option (option_map (λ made. (lock, made)) now) entries
   put_first entries None now below = put_below entries now below
   put_first entries (Some made) None below = ap (λ b. if b then entries else (lock, made) ∷ remove_entry (is_lock lock) entries) (is_lock_equiv.refl lock)
-  put_first entries (Some made) (Some other) below = ap (λ o. match_ordering o ((lock, other) ∷ (lock, made) ∷ entries) ((lock, other) ∷ entries) ((lock, made) ∷ insert_entry lock_cmp entries lock other)) (equal_of (lock_cmp lock lock) (is_lock_equiv.refl lock))
+  put_first entries (Some made) (Some other) below = ap (λ o. match_ordering o ((lock, other) ∷ (lock, made) ∷ entries) ((lock, other) ∷ entries) ((lock, made) ∷ insert_entry lock_cmp entries lock other)) (equal_is (lock_cmp lock lock) (is_lock_equiv.refl lock))
 
   -- what is put behind the first
   put_behind : (entry : LockId × V) (entries : List (LockId × V)) (o : Option V) → lock_cmp lock entry.0 ≡ Greater → with_made (entry ∷ entries) lock o ≡ entry ∷ with_made entries lock o
@@ -105,9 +94,6 @@ made_of of None = None
 made_of of (Some v) = of v
 
 module _ {V W : Type 0} (of : V → Option W) where
-  first : (entry : LockId × V) → Option W → List (LockId × W) → List (LockId × W)
-  first entry o rest = cons_option (option_map (λ made. (entry.0, made)) o) rest
-
   all_chosen : (P : LockId → Type 0) (entries : List (LockId × V)) → AllByRecursion P (keys_of entries) → AllByRecursion P (keys_of (chosen of entries))
   all_chosen P [] all = tt
   all_chosen P (entry ∷ entries) all = go (of entry.1) (all_chosen P entries all.1)

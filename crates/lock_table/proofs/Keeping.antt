@@ -18,6 +18,7 @@ use Rattle.lock_definitions.specs.Locks.{no_claim, is_wished_in}
 use Rattle.lock_definitions.specs.Calls.{asked_of}
 use Rattle.lock_definitions.proofs.LockOrder.{locks}
 use Rattle.lock_definitions.proofs.ServerTests.{passing_below, some_below}
+use Rattle.lock_definitions.proofs.Wants.{none_wished}
 use Rattle.lock_table.specs.Asked.{Claimed, Asked, servers, no_asked, claim_by, is_unclaimed, unclaimed, is_wished_beside, asked_by, with_made}
 use Rattle.lock_table.specs.Kept.{Entries, chosen, claimed_at, asked_lists, is_needed, is_reserved, placed, replaced, tidied, ended, ended_all, IsSameBeside, AreListed, settled, renewed, renewed_all}
 use Rattle.lock_table.proofs.Chosen.{made_of, lookup-chosen, chosen-insert, chosen-remove, chosen-filter, chosen-map, rechosen, all_found, same_made, sorted-chosen}
@@ -137,12 +138,8 @@ module _ (dead : ℕ) (claims : Claimed) where
   wish_before : (mode : Mode) (other : ℕ) → is_wished_in (claim_by other (ended dead claims)) mode ≡ true → is_wished_in (claim_by other claims) mode ≡ true
   wish_before mode other wished = go (cases_eq other dead)
     where
-      none : (m : Mode) → is_wished_in no_claim m ≡ false
-      none Shared = refl
-      none Sole = refl
-
       go : (other ≡ dead) ⊎ (other ≡ dead → ⊥) → is_wished_in (claim_by other claims) mode ≡ true
-      go (inl same) = absurd (false≢true (sym (none mode) ∙ ap (λ claim. is_wished_in claim mode) (sym (claim_by-ended dead claims)) ∙ ap (λ t. is_wished_in (claim_by t (ended dead claims)) mode) (sym same) ∙ wished))
+      go (inl same) = absurd (false≢true (sym (none_wished mode) ∙ ap (λ claim. is_wished_in claim mode) (sym (claim_by-ended dead claims)) ∙ ap (λ t. is_wished_in (claim_by t (ended dead claims)) mode) (sym same) ∙ wished))
       go (inr apart) = ap (λ claim. is_wished_in claim mode) (sym (claim_by-beside dead claims no_claim other apart)) ∙ wished
 
   wished_before : (server : ℕ) (mode : Mode) → is_wished_beside server mode (ended dead claims) ≡ true → is_wished_beside server mode claims ≡ true

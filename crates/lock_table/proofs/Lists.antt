@@ -6,11 +6,6 @@ use Rattle.std.proofs.lemmas.List.FromFn.{fill_by_all}
 use Rattle.lock_table.specs.Asked.{Asked, servers, no_asked, AskedRoom, asked_kept, room_kept}
 use Rattle.lock_table.specs.Kept.{KeepsSpace}
 
--- a fact for one answer, and what follows from it
-pub on_ok : {T E P Q : Type 0} (r : Result T E) → (P → Q) → OnOk r P → OnOk r Q
-on_ok (Ok x) follows p = follows p
-on_ok (Err e) follows p = p
-
 -- what follows from both answers
 pub either_way : {T E P Q R : Type 0} (r : Result T E) → (P → R) → (Q → R) → OnOk r P → OnErr r Q → R
 either_way (Ok x) f g p q = f p

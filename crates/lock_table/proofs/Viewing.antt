@@ -5,7 +5,7 @@ use Rattle.std.specs.Option.{option_map}
 use Rattle.std.specs.List.Sorted.{IsStrictlySortedBy}
 use Rattle.std.specs.Map.{lookup, remove_entry, keys_of}
 use Rattle.std.specs.BTreeMap.{insert_entry}
-use Rattle.std.proofs.lemmas.Bool.{cases_eq, cases_lt, false≢true}
+use Rattle.std.proofs.lemmas.Bool.{cases_eq, cases_lt, false≢true, or_right}
 use Rattle.std.proofs.lemmas.List.{get_or-set_same, get_or-set_other, length-set}
 use Rattle.std.proofs.lemmas.List.FromFn.{fill_by_all}
 use Rattle.std.proofs.lemmas.Map.{lookup-remove_entry}
@@ -65,9 +65,6 @@ set_server {X} f g s x own others = sym (fill_by_all g (set (map f servers) s x)
     go t below (inr apart) = get_or-set_other (map f servers) s t x x apart ∙ at_server f x t below ∙ sym (others t apart)
 
 module _ (entries : Entries) (sorted : IsStrictlySortedBy lock_cmp (keys_of entries)) (logs : List (Option LogHold)) where
-  Here : Locks
-  Here = locks_of entries logs
-
   claims_are : (t : ℕ) → t < 16 → claims_of (locks_of entries logs) t ≡ chosen (claimed_by t) entries
   claims_are t below = at_server (λ s. chosen (claimed_by s) entries) [] t below
 
@@ -249,11 +246,7 @@ ended_keeps dead reserved q is (entry ∷ entries) some = go (is_lock q entry.0)
     Left = ended_all entries dead reserved
 
     needed : is_lock q entry.0 ≡ true → is_needed reserved (entry.0, ended dead entry.1) ≡ true
-    needed here = both (not (is_unclaimed (ended dead entry.1))) (is_reserved reserved entry.0) (ap (λ r. is_reserved r entry.0) is ∙ here)
-      where
-        both : (a b : Bool) → b ≡ true → (a || b) ≡ true
-        both true b e = refl
-        both false b e = e
+    needed here = or_right (not (is_unclaimed (ended dead entry.1))) (is_reserved reserved entry.0) (ap (λ r. is_reserved r entry.0) is ∙ here)
 
     go : (b : Bool) → is_lock q entry.0 ≡ b → IsSome (if b then Some entry.1 else lookup (is_lock q) entries) → (n : Bool) → is_needed reserved (entry.0, ended dead entry.1) ≡ n → (IsSome (lookup (is_lock q) entries) → IsSome (lookup (is_lock q) Left))
         → IsSome (lookup (is_lock q) (if n then (entry.0, ended dead entry.1) ∷ Left else Left))

@@ -1,5 +1,5 @@
 -- A list that is walked along: what becomes of the lock at a place leaves what is to become of all.
-use Rattle.std.proofs.Common.{◌≡◌, ℕ, zero, suc, ◌+◌, ◌≤◌, Bool, true, false, if◌then◌else◌, List, [], ◌∷◌, ◌++◌, length, take, drop, Option, Some, None, is_some, IsSome, refl, sym, ap, ◌∙◌, subst, arith, add-one}
+use Rattle.std.proofs.Common.{◌≡◌, ℕ, zero, suc, ◌+◌, Bool, true, false, if◌then◌else◌, List, [], ◌∷◌, ◌++◌, length, take, drop, Option, Some, None, is_some, IsSome, refl, sym, ap, ◌∙◌, subst, arith, add-one}
 use Rattle.std.specs.List.{AllByRecursion, slice_get, cons_option, filter_map}
 use Rattle.std.specs.List.Sorted.{IsStrictlySortedBy}
 use Rattle.std.specs.Map.{lookup, remove_entry, keys_of}
@@ -7,25 +7,17 @@ use Rattle.std.specs.BTreeMap.{insert_entry}
 use Rattle.std.specs.Option.{option_map}
 use Rattle.std.specs.Ordering.{match_ordering, ordering_reverse, is_eq}
 use Rattle.std.specs.declared.cmp.Ordering.{Ordering}
-use Rattle.std.specs.declared.cmp.Ordering.TheVariants.{Less, Equal, Greater}
+use Rattle.std.specs.declared.cmp.Ordering.TheVariants.{Less, Greater}
 use Rattle.sorted_entries.proofs.Sorted.{sorted-insert_entry, sorted-remove_entry}
 use Rattle.frang_base.specs.declared.lock.LockId.{LockId}
 use Rattle.lock_definitions.specs.declared.claim.AskedFor.{AskedFor}
 use Rattle.lock_definitions.specs.Order.{lock_cmp, is_lock}
-use Rattle.lock_definitions.proofs.LockOrder.{lock_total}
+use Rattle.lock_definitions.proofs.LockOrder.{lock_total, lock_itself}
 use Rattle.lock_table.specs.Asked.{Asked, asked_by, with_made, growth}
 use Rattle.lock_table.specs.Kept.{Entries, claimed_at, renewed, IsWalked}
 
-by_answer : {P : Type 0} (o : Ordering) → (o ≡ Less → P) → (o ≡ Equal → P) → (o ≡ Greater → P) → P
-by_answer Less a b c = a refl
-by_answer Equal a b c = b refl
-by_answer Greater a b c = c refl
-
 turned : (a b : LockId) (o : Ordering) → lock_cmp a b ≡ o → lock_cmp b a ≡ ordering_reverse o
 turned a b o is = lock_total.antisymm b a ∙ ap ordering_reverse is
-
-itself : (lock : LockId) → lock_cmp lock lock ≡ Equal
-itself lock = by_answer (lock_cmp lock lock) (λ is. cc (sym is ∙ turned lock lock Less is)) (λ is. is) (λ is. cc (sym is ∙ turned lock lock Greater is))
 
 -- a lock behind others lies above them
 above : (low : LockId) (list : Asked) (i : ℕ) (entry : LockId × AskedFor) → AllByRecursion (λ lock. lock_cmp low lock ≡ Less) (keys_of list) → Some entry ≡ slice_get list i → lock_cmp entry.0 low ≡ Greater
@@ -43,7 +35,7 @@ pub there : (list : Asked) (i : ℕ) (entry : LockId × AskedFor) → Some entry
 there [] i entry is = cc is
 there (x ∷ list) zero entry is =
     let same : x ≡ entry = cc (sym is) in
-    ap (λ t. is_some (if t then Some x.1 else lookup (is_lock entry.0) list)) (ap (λ e. is_lock entry.0 e.0) same ∙ ap is_eq (itself entry.0))
+    ap (λ t. is_some (if t then Some x.1 else lookup (is_lock entry.0) list)) (ap (λ e. is_lock entry.0 e.0) same ∙ ap is_eq (lock_itself entry.0))
 there (x ∷ list) (suc i) entry is = go (is_lock entry.0 x.0) (there list i entry is)
   where
     go : (t : Bool) → IsSome (lookup (is_lock entry.0) list) → IsSome (if t then Some x.1 else lookup (is_lock entry.0) list)
@@ -61,11 +53,11 @@ module _ (server : ℕ) (entries : Entries) where
   here : (x : LockId × AskedFor) (list : Asked) (o : Option AskedFor) → again x.0 ≡ o
       → take (next zero o) (with_made (x ∷ list) x.0 o) ++ renewed server entries (drop (next zero o) (with_made (x ∷ list) x.0 o)) ≡ renewed server entries (x ∷ list)
   here x list None is =
-      ap (λ t. renewed server entries (if t then list else x ∷ remove_entry (is_lock x.0) list)) (ap is_eq (itself x.0))
+      ap (λ t. renewed server entries (if t then list else x ∷ remove_entry (is_lock x.0) list)) (ap is_eq (lock_itself x.0))
       ∙ sym (ap (λ a. cons_option (option_map (λ asked. (x.0, asked)) a) (renewed server entries list)) is)
   here x list (Some made) is =
       ap (λ p. take 1 (match_ordering p ((x.0, made) ∷ x ∷ list) ((x.0, made) ∷ list) (x ∷ insert_entry lock_cmp list x.0 made))
-      ++ renewed server entries (drop 1 (match_ordering p ((x.0, made) ∷ x ∷ list) ((x.0, made) ∷ list) (x ∷ insert_entry lock_cmp list x.0 made)))) (itself x.0)
+      ++ renewed server entries (drop 1 (match_ordering p ((x.0, made) ∷ x ∷ list) ((x.0, made) ∷ list) (x ∷ insert_entry lock_cmp list x.0 made)))) (lock_itself x.0)
       ∙ sym (ap (λ a. cons_option (option_map (λ asked. (x.0, asked)) a) (renewed server entries list)) is)
 
   beyond : (x : LockId × AskedFor) (list : Asked) (lock : LockId) (o : Option AskedFor) → lock_cmp lock x.0 ≡ Greater → with_made (x ∷ list) lock o ≡ x ∷ with_made list lock o
@@ -100,8 +92,8 @@ module _ (server : ℕ) (entries : Entries) where
       subst (λ e. length (with_made (x ∷ list) e.0 o) + 1 ≡ suc (length list) + next zero o) same (first o)
     where
       first : (o : Option AskedFor) → length (with_made (x ∷ list) x.0 o) + 1 ≡ suc (length list) + next zero o
-      first None = let gone : length (remove_entry (is_lock x.0) (x ∷ list)) ≡ length list = ap (λ t. length (if t then list else x ∷ remove_entry (is_lock x.0) list)) (ap is_eq (itself x.0)) in omega (arith, gone)
-      first (Some made) = let stays : length (insert_entry lock_cmp (x ∷ list) x.0 made) ≡ suc (length list) = ap (λ p. length (match_ordering p ((x.0, made) ∷ x ∷ list) ((x.0, made) ∷ list) (x ∷ insert_entry lock_cmp list x.0 made))) (itself x.0) in omega (arith, stays)
+      first None = let gone : length (remove_entry (is_lock x.0) (x ∷ list)) ≡ length list = ap (λ t. length (if t then list else x ∷ remove_entry (is_lock x.0) list)) (ap is_eq (lock_itself x.0)) in omega (arith, gone)
+      first (Some made) = let stays : length (insert_entry lock_cmp (x ∷ list) x.0 made) ≡ suc (length list) = ap (λ p. length (match_ordering p ((x.0, made) ∷ x ∷ list) ((x.0, made) ∷ list) (x ∷ insert_entry lock_cmp list x.0 made))) (lock_itself x.0) in omega (arith, stays)
   shorter (x ∷ list) (suc i) entry o sorted is =
       let more = ap length (beyond x list entry.0 o (above x.0 list i entry sorted.0 is)) in
       omega (arith, more, shorter list i entry o sorted.1 is, next_more i o)

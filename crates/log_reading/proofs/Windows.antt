@@ -2,11 +2,10 @@
 use Rattle.std.proofs.Common.{◌≡◌, ℕ, zero, suc, ◌+◌, ◌-◌, ◌<◌, ◌≤◌, Bool, true, false, ◌&&◌, nat_le, is_some, Option, Some, None, List, [], ◌∷◌, ◌++◌, map, refl, sym, ap, ◌∙◌, add-one, arith}
 use Rattle.std.proofs.lemmas.List.{map-append}
 use Rattle.std.proofs.lemmas.List.Elements.{filter_map-append}
-use Rattle.std.proofs.lemmas.Bool.{and_from}
+use Rattle.std.proofs.lemmas.Bool.{and_from, lt-leb, le-leb}
 use Rattle.std.proofs.lemmas.Bool.Decides.{nat_tests}
 use Rattle.std.proofs.lemmas.List.Folds.{list_all-append}
 use Rattle.std.specs.List.{list_all, filter_map}
-use Rattle.frang_base.proofs.Basics.{of_le, of_gt}
 use Rattle.disk_definitions.specs.declared.log_sector.LogSector.{LogSector}
 use Rattle.tree_definitions.specs.Numbers.{below}
 use Rattle.disk_definitions.specs.Logs as logs
@@ -47,15 +46,15 @@ one_lacks p end (suc n) k h e = ap (λ m. list_all p (numbers_from end m)) (sym 
 
 pub full : (sectors : Decoded) (end : ℕ) → 191 ≤ end → list_all (λ m. is_some (sector_with sectors m)) (numbers_from end 192) ≡ true → true ≡ is_full sectors end
 unfolding is_full logs.window
-full sectors end h e = sym (and_from _ _ (of_le 191 end h) e)
+full sectors end h e = sym (and_from _ _ (le-leb 191 end h) e)
 
 pub not_full : (sectors : Decoded) (end k : ℕ) → 191 ≤ end → k < 192 → is_some (sector_with sectors (end - 191 + k)) ≡ false → false ≡ is_full sectors end
 unfolding is_full logs.window
-not_full sectors end k h l e = sym (ap (λ b. b && list_all (λ m. is_some (sector_with sectors m)) (numbers_from end 192)) (of_le 191 end h) ∙ one_lacks (λ m. is_some (sector_with sectors m)) end 192 k l e)
+not_full sectors end k h l e = sym (ap (λ b. b && list_all (λ m. is_some (sector_with sectors m)) (numbers_from end 192)) (le-leb 191 end h) ∙ one_lacks (λ m. is_some (sector_with sectors m)) end 192 k l e)
 
 pub low : (sectors : Decoded) (end : ℕ) → end < 191 → false ≡ is_full sectors end
 unfolding is_full logs.window
-low sectors end h = sym (ap (λ b. b && list_all (λ m. is_some (sector_with sectors m)) (numbers_from end 192)) (of_gt 191 end h))
+low sectors end h = sym (ap (λ b. b && list_all (λ m. is_some (sector_with sectors m)) (numbers_from end 192)) (lt-leb 191 end h))
 
 -- ---- the sectors
 

@@ -10,7 +10,7 @@ use Rattle.tree_definitions.specs.Numbers.{below}
 use Rattle.disk_definitions.proofs.Lists.{length_below, below_at}
 use Rattle.disk_definitions.specs.Logs as logs
 use Rattle.disk_definitions.specs.Logs.{Slots, is_end, log_end, numbered, numbers_in, sector_numbered, sectors_read, seq_of, stands, window}
-use Rattle.log_reading.specs.Decoded.{Decoded, decoded, end_of, is_full, numbers_of, sector_with, sectors_up_to}
+use Rattle.log_reading.specs.Decoded.{decoded, end_of, is_full, numbers_of, sector_with, sectors_up_to}
 
 -- ---- lists
 
@@ -37,9 +37,6 @@ module _ {X : Type 0} where
   map_at f d n k h = get_or-map f (below n) k 0 d (omega (arith, h, length_below n)) ∙ ap f (below_at n k h)
 
 -- ---- sectors by their numbers
-
-abbrev IsDecoded : Slots → Decoded → Type 0
-IsDecoded slots sectors = sectors ≡ decoded slots
 
 with_is : (slots : Slots) (n : ℕ) → sector_with (decoded slots) n ≡ sector_numbered slots n
 unfolding decoded

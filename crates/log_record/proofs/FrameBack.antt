@@ -1,11 +1,10 @@
 -- Frames read back, whatever follows them, and the first bytes of one hold none.
 use Rattle.std.proofs.Common.{◌≡◌, ℕ, ◌+◌, ◌-◌, ◌^◌, ◌<◌, ◌≤◌, ⊎_elim, Bool, true, false, ◌&&◌, cond, if◌then◌else◌, nat_le, Some, None, List, ◌++◌, length, take, drop, refl, ap, ◌∙◌, arith}
-use Rattle.std.proofs.lemmas.Bool.{and_from, cond-true, cond-false, cases_lt}
+use Rattle.std.proofs.lemmas.Bool.{and_from, cond-true, cond-false, cases_lt, lt-leb, le-leb}
 use Rattle.std.proofs.lemmas.List.{length-take, length-drop, drop-take}
 use Rattle.std.specs.Option.{option_and_then, option_map}
 use Rattle.byteorder.specs.Endian.{little_bytes}
 use Rattle.byteorder.specs.Numbers.{little_number-reads_back, little_from-take}
-use Rattle.frang_base.proofs.Basics.{of_le, of_gt}
 use Rattle.sector_bytes.specs.Bytes.{number_at}
 use Rattle.frang_base.specs.declared.change.Redo.{Redo}
 use Rattle.disk_definitions.specs.Records.{Read, bytes_read, number_read, record_bytes, record_fits}
@@ -30,7 +29,7 @@ length-frame_bytes redo = omega arith
 in_range : (redo : Redo) → IsFramed redo → (nat_le 1 (length (record_bytes redo.changes)) && nat_le (length (record_bytes redo.changes)) 4096) ≡ true
 in_range redo f =
     and_from (nat_le 1 (length (record_bytes redo.changes))) (nat_le (length (record_bytes redo.changes)) 4096)
-    (of_le 1 (length (record_bytes redo.changes)) (some_bytes redo)) (of_le (length (record_bytes redo.changes)) 4096 (few_bytes redo f))
+    (le-leb 1 (length (record_bytes redo.changes)) (some_bytes redo)) (le-leb (length (record_bytes redo.changes)) 4096 (few_bytes redo f))
 
 body_back : (redo : Redo) (rest : List ℕ) → IsFramed redo → body_read (length (record_bytes redo.changes)) (record_bytes redo.changes ++ rest) ≡ Some (record_bytes redo.changes, rest)
 body_back redo rest f =
@@ -49,14 +48,14 @@ frame_back redo rest f =
 -- ---- the first bytes of a frame
 
 number_there : (n : ℕ) (bytes : List ℕ) → n ≤ length bytes → number_read n bytes ≡ Some (number_at n 0 bytes, drop n bytes)
-number_there n bytes h = cond-true (nat_le n (length bytes)) (Some (number_at n 0 bytes, drop n bytes)) None (of_le n (length bytes) h)
+number_there n bytes h = cond-true (nat_le n (length bytes)) (Some (number_at n 0 bytes, drop n bytes)) None (le-leb n (length bytes) h)
 
 number_lacks : (n : ℕ) (bytes : List ℕ) → length bytes < n → number_read n bytes ≡ None
-number_lacks n bytes h = cond-false (nat_le n (length bytes)) (Some (number_at n 0 bytes, drop n bytes)) None (of_gt n (length bytes) h)
+number_lacks n bytes h = cond-false (nat_le n (length bytes)) (Some (number_at n 0 bytes, drop n bytes)) None (lt-leb n (length bytes) h)
 
 body_lacks : (n : ℕ) (bytes : List ℕ) → length bytes < n → body_read n bytes ≡ None
 body_lacks n bytes h =
-    ap (λ o. if nat_le 1 n && nat_le n 4096 then o else None) (cond-false (nat_le n (length bytes)) (Some (take n bytes, drop n bytes)) None (of_gt n (length bytes) h))
+    ap (λ o. if nat_le 1 n && nat_le n 4096 then o else None) (cond-false (nat_le n (length bytes)) (Some (take n bytes, drop n bytes)) None (lt-leb n (length bytes) h))
     ∙ same (nat_le 1 n && nat_le n 4096)
   where
     same : (b : Bool) → cond {A = Read (List ℕ)} b None None ≡ None

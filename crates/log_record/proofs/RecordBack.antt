@@ -1,11 +1,10 @@
 -- What may stand in a log reads back from its bytes: patches, changes, records.
 use Rattle.std.proofs.Common.{◌≡◌, ℕ, suc, ◌+◌, ◌^◌, ◌<◌, ◌≤◌, true, ◌&&◌, if◌then◌else◌, nat_le, nat_lt, Option, Some, None, List, [], ◌∷◌, ◌++◌, length, refl, sym, ap, ◌∙◌, append_assoc, append-nil, arith}
-use Rattle.std.proofs.lemmas.Bool.{and_parts}
+use Rattle.std.proofs.lemmas.Bool.{and_parts, leb-true}
 use Rattle.std.proofs.lemmas.Bool.Decides.{nat_tests}
 use Rattle.std.specs.List.{AllByRecursion, list_all, flat_map}
 use Rattle.std.specs.Option.{option_and_then, option_map}
 use Rattle.byteorder.specs.Endian.{little_bytes}
-use Rattle.frang_base.proofs.Basics.{le_of}
 use Rattle.frang_base.specs.declared.change.Patch.{Patch}
 use Rattle.frang_base.specs.declared.change.Change.{Change}
 use Rattle.sector_bytes.specs.Changes.{are_patches, is_change}
@@ -52,7 +51,7 @@ leads from p ps e =
     let a = and_parts (nat_le from p.at && nat_lt 0 n && nat_le (p.at + n) 512) (are_patches (p.at + n) ps) e in
     let b = and_parts (nat_le from p.at && nat_lt 0 n) (nat_le (p.at + n) 512) a.0 in
     let c = and_parts (nat_le from p.at) (nat_lt 0 n) b.0 in
-    record { from_on = le_of _ _ c.0; some = grind (arith, nat_tests, c.1); ends = le_of _ _ b.1; others = a.1 }
+    record { from_on = leb-true _ _ c.0; some = grind (arith, nat_tests, c.1); ends = leb-true _ _ b.1; others = a.1 }
 
 -- each is short, and there are few
 pub short_patches : (from : ℕ) (ps : List Patch) → are_patches from ps ≡ true → AllByRecursion IsShort ps
@@ -122,7 +121,7 @@ is_record changes e =
     let b = and_parts (some && few && each) order a.0 in
     let c = and_parts (some && few) each b.0 in
     let d = and_parts some few c.0 in
-    record { some = le_of _ _ d.0; few = le_of _ _ d.1; each = c.1; order = b.1; short = le_of _ _ a.1 }
+    record { some = leb-true _ _ d.0; few = leb-true _ _ d.1; each = c.1; order = b.1; short = leb-true _ _ a.1 }
 
 pub record_back : (changes : List Change) → record_fits changes ≡ true → record_in (record_bytes changes) ≡ Some changes
 record_back changes e =

@@ -1,12 +1,11 @@
 -- The loops of the coder of records, a step at a time, and the end of a reading.
 use Rattle.std.proofs.Common.{◌≡◌, ℕ, suc, ◌+◌, ◌<◌, ◌≤◌, true, ◌&&◌, ◌==◌, if◌then◌else◌, nat_le, Option, Some, None, List, [], ◌∷◌, ◌++◌, length, drop, get_or, refl, sym, ap, subst, ◌∙◌, append_assoc, append-nil, arith, length-append, Result, Ok, Err}
-use Rattle.std.proofs.lemmas.Bool.{and_parts, and_from}
+use Rattle.std.proofs.lemmas.Bool.{and_parts, and_from, le-leb}
 use Rattle.std.proofs.lemmas.Bool.Decides.{nat_tests}
 use Rattle.std.proofs.lemmas.List.{at_drop_all, at_drop_more}
 use Rattle.std.specs.List.{AllByRecursion, flat_map, list_all}
 use Rattle.std.specs.Option.{option_and_then, option_map}
 use Rattle.std.specs.Result.{OnErr}
-use Rattle.frang_base.proofs.Basics.{of_le}
 use Rattle.frang_base.specs.declared.change.Change.{Change}
 use Rattle.sector_bytes.specs.Changes.{is_change}
 use Rattle.sector_bytes.specs.Bytes.{AreBytes}
@@ -126,6 +125,6 @@ read_whole bytes changes rest f short e none fit =
     let count = nat_le 1 (length changes) && nat_le (length changes) 32 in
     let a = and_parts count (list_all is_change changes && sectors_ascend 0 changes) fit in
     let b = and_parts (list_all is_change changes) (sectors_ascend 0 changes) a.1 in
-    let room = of_le (length (record_bytes changes)) 4096 (omega (arith, ap length body)) in
+    let room = le-leb (length (record_bytes changes)) 4096 (omega (arith, ap length body)) in
     let fits : record_fits changes ≡ true = and_from _ _ (and_from _ _ (and_from _ _ a.0 b.0) b.1) room in
     record_in_is bytes ∙ ap (option_and_then whole_record) read ∙ ap (λ t. if t then Some changes else None) fits

@@ -10,12 +10,9 @@ use Rattle.sector_bytes.specs.SectorMaps.{value_at, with_value, without, adjuste
 use Rattle.sector_bytes.proofs.MapLaws.{with_value_there}
 use Rattle.sector_bytes.specs.Blocks.{Block}
 use Rattle.frang_base.specs.declared.change.Change.{Change}
+use Rattle.frang_base.proofs.Tests.{is_some-option_map}
 use Rattle.meta_version.specs.Boxes.{opened}
 use Rattle.meta_version.specs.Updates.{IsOlder}
-
-is_some-option_map : {X Y : Type 0} (f : X → Y) (o : Option X) → is_some (option_map f o) ≡ is_some o
-is_some-option_map f (Some x) = refl
-is_some-option_map f None = refl
 
 module _ {B V : Type 0} (held : B → V) where
   pub length-opened : (entries : List (ℕ × B)) → length (opened entries held) ≡ length entries

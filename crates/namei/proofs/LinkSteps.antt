@@ -1,6 +1,5 @@
 -- A walk through links over cached sectors, by what each name comes to, and a link that is followed by its target.
-use Rattle.std.proofs.Common.{◌≡◌, ◌-◌, ◌<◌, ◌≤◌, ℕ, zero, suc, Bool, true, false, Option, Some, None, Result, Ok, Err, IfOk, List, [], ◌∷◌, ◌++◌, drop, take, length, get_or, append-nil, refl, sym, ap, ◌∙◌, arith}
-use Rattle.std.proofs.lemmas.List.{take_rest}
+use Rattle.std.proofs.Common.{◌≡◌, ◌-◌, ◌<◌, ℕ, zero, suc, Bool, true, false, Option, Some, None, Result, Ok, Err, IfOk, List, [], ◌∷◌, ◌++◌, append-nil, refl, sym, ap, ◌∙◌, arith}
 use Rattle.frang_base.specs.PathText.{path_of}
 use Rattle.frang_base.specs.declared.fault.PathFault.{PathFault}
 use Rattle.frang_base.specs.declared.limits.TheConstants.{LINKS_FOLLOWED_MAX}
@@ -18,11 +17,6 @@ use Rattle.namei.specs.declared.onward.Next.TheVariants as next
 use Rattle.namei.specs.declared.targets.Way.{Way}
 use Rattle.namei.specs.Walks.{after, next_as, way_as, way_from}
 use Rattle.namei.proofs.NameSteps.{after_after, over, over_passes}
-
--- a list is its first item and the rest
-pub first_and_rest : (xs : List (List ℕ)) (x : List ℕ) → 1 ≤ length xs → x ≡ get_or xs 0 x → xs ≡ x ∷ take (length xs - 1) (drop 1 xs)
-first_and_rest [] x h e = absurd (omega arith)
-first_and_rest (y ∷ ys) x h e = ap (λ z. z ∷ ys) (sym e) ∙ ap (λ l. x ∷ l) (sym (take_rest (y ∷ ys) 1))
 
 -- what is known of a value, and what follows
 pub if_ok_then : {A E : Type 0} {P Q : A → Type 0} (r : Result A E) → IfOk r P → ((x : A) → P x → Q x) → IfOk r Q

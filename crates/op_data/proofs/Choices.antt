@@ -1,8 +1,8 @@
 -- The plan by its choices: what is refused, and what is picked.
 use Rattle.std.proofs.Common.{◌≡◌, ◌==◌, ◌&&◌, ◌<◌, ◌≤◌, ◌-◌, ℕ, Bool, true, false, cond, nat_lt, max, Option, None, List, [], refl, sym, ap, ◌∙◌, eq-eqb, ne_eqb, lt-ltb}
+use Rattle.std.proofs.lemmas.Bool.{le-ltb}
 use Rattle.frang_base.specs.declared.reply.Reply.TheVariants as reply
 use Rattle.tree_definitions.specs.Tree.{small_blocks_of}
-use Rattle.frang_base.proofs.Basics.{of_ge}
 use Rattle.disk_definitions.specs.Store.{StoredNode}
 use Rattle.disk_definitions.specs.Picks.{picked_large, picked_many}
 use Rattle.disk_definitions.specs.Ask.{Ask}
@@ -56,16 +56,16 @@ module _ (hand : Hand) (w : Writing) (i : ℕ) (touched : List ℕ) (x : StoredN
 
   pub too_big : w.off ≤ x.size → 1114112 < end_of w → over (refused reply.TooBig touched) hand ≡ over (writing (seen hand) w i touched x) hand
   unfolding by_tests
-  too_big o l = as_tested false true (nat_lt 65536 (end_of w) && x.large == 0) (of_ge x.size w.off o) (lt-ltb 1114112 (end_of w) l) refl
+  too_big o l = as_tested false true (nat_lt 65536 (end_of w) && x.large == 0) (le-ltb x.size w.off o) (lt-ltb 1114112 (end_of w) l) refl
 
   pub has_large : w.off ≤ x.size → end_of w ≤ 1114112 → (nat_lt 65536 (end_of w) && x.large == 0) ≡ false
       → over (writing_small (seen hand) w i touched x None) hand ≡ over (writing (seen hand) w i touched x) hand
   unfolding by_tests
-  has_large o l n = as_tested false false false (of_ge x.size w.off o) (of_ge 1114112 (end_of w) l) n
+  has_large o l n = as_tested false false false (le-ltb x.size w.off o) (le-ltb 1114112 (end_of w) l) n
 
   pub large_wanted : w.off ≤ x.size → end_of w ≤ 1114112 → (nat_lt 65536 (end_of w) && x.large == 0) ≡ true → (g : Option ℕ) → picked_large hand.held.now ≡ g
       → over (writing_large (seen hand) w i touched x g) hand ≡ over (writing (seen hand) w i touched x) hand
   unfolding by_tests
   large_wanted o l n g p =
       ap (λ g. over (writing_large (seen hand) w i touched x g) hand) (sym p) ∙ sym (held_at_hand (seen hand) hand.sectors.now.entries (writing_large (seen hand) w i touched x (picked_large hand.held.now)))
-      ∙ as_tested false false true (of_ge x.size w.off o) (of_ge 1114112 (end_of w) l) n
+      ∙ as_tested false false true (le-ltb x.size w.off o) (le-ltb 1114112 (end_of w) l) n

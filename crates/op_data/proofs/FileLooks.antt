@@ -1,8 +1,8 @@
 -- What leads to the file that a path names, and what plans of files examine by their tests.
 use Rattle.std.proofs.Common.{◌≡◌, ◌==◌, ◌&&◌, ◌<◌, ◌≤◌, ◌-◌, ◌/◌, ℕ, Bool, true, false, cond, nat_lt, max, min, map, Option, Some, None, Ok, Err, List, [], ◌∷◌, ◌++◌, append-nil, refl, sym, ap, ◌∙◌, eq-eqb, ne_eqb, lt-ltb}
 use Rattle.std.specs.Map.{keys_of}
+use Rattle.std.proofs.lemmas.Bool.{le-ltb}
 use Rattle.frang_base.specs.declared.reply.Reply.TheVariants as reply
-use Rattle.frang_base.proofs.Basics.{of_ge}
 use Rattle.disk_definitions.specs.declared.inode.Inode.{Inode}
 use Rattle.tree_definitions.specs.Tree.{small_blocks_of}
 use Rattle.disk_definitions.specs.Store.{StoredNode, stored}
@@ -106,7 +106,7 @@ module _ (when len i : ℕ) (touched : List ℕ) (x : StoredNode) (hand : Hand) 
 
   pub cut_looks : len ≤ x.size → examined (cutting when len i touched x) hand.sectors.now.entries hand.held.now ≡ looked_over hand.held.now (cut_segments x len)
   unfolding cut_as
-  cut_looks l = ap cut_as (of_ge x.size len l) ∙ over_looks hand.sectors.now.entries hand.held.now (cut_segments x len) (Finishes (cut_by when i touched x len))
+  cut_looks l = ap cut_as (le-ltb x.size len l) ∙ over_looks hand.sectors.now.entries hand.held.now (cut_segments x len) (Finishes (cut_by when i touched x len))
 
 -- ---- write and fill
 module _ (hand : Hand) (w : Writing) (i : ℕ) (touched : List ℕ) (x : StoredNode) where
@@ -160,12 +160,12 @@ module _ (hand : Hand) (w : Writing) (i : ℕ) (touched : List ℕ) (x : StoredN
 
   pub too_big_looks : w.off ≤ x.size → 1114112 < end_of w → examined (writing (seen hand) w i touched x) hand.sectors.now.entries hand.held.now ≡ []
   unfolding by_tests
-  too_big_looks o l = as_tested false true (nat_lt 65536 (end_of w) && x.large == 0) (of_ge x.size w.off o) (lt-ltb 1114112 (end_of w) l) refl
+  too_big_looks o l = as_tested false true (nat_lt 65536 (end_of w) && x.large == 0) (le-ltb x.size w.off o) (lt-ltb 1114112 (end_of w) l) refl
 
   pub has_large_looks : w.off ≤ x.size → end_of w ≤ 1114112 → (nat_lt 65536 (end_of w) && x.large == 0) ≡ false
       → examined (writing (seen hand) w i touched x) hand.sectors.now.entries hand.held.now ≡ examined (writing_small (seen hand) w i touched x None) hand.sectors.now.entries hand.held.now
   unfolding by_tests
-  has_large_looks o l n = as_tested false false false (of_ge x.size w.off o) (of_ge 1114112 (end_of w) l) n
+  has_large_looks o l n = as_tested false false false (le-ltb x.size w.off o) (le-ltb 1114112 (end_of w) l) n
 
   pub large_wanted_looks : w.off ≤ x.size → end_of w ≤ 1114112 → (nat_lt 65536 (end_of w) && x.large == 0) ≡ true → (g : Option ℕ) (old new : Option (List ℕ)) → picked_large hand.held.now ≡ g
       → Adds old new (map segment_number (keys_of hand.held.now)) → LooksTo hand.sectors.now.entries hand.held.now old new (writing (seen hand) w i touched x) (writing_large (seen hand) w i touched x g)
@@ -173,7 +173,7 @@ module _ (hand : Hand) (w : Writing) (i : ℕ) (touched : List ℕ) (x : StoredN
   large_wanted_looks o l n g old new p f = (
     map segment_number (keys_of hand.held.now),
     f,
-    as_tested false false true (of_ge x.size w.off o) (of_ge 1114112 (end_of w) l) n
+    as_tested false false true (le-ltb x.size w.off o) (le-ltb 1114112 (end_of w) l) n
         ∙ held_looked (seen hand) hand.sectors.now.entries (writing_large (seen hand) w i touched x (picked_large hand.held.now))
         ∙ ap (λ g. map segment_number (keys_of hand.held.now) ++ examined (writing_large (seen hand) w i touched x g) hand.sectors.now.entries hand.held.now) p,
   )

@@ -42,7 +42,7 @@ last-overwritten (e ∷ f ∷ []) (suc zero) value = refl
 last-overwritten (e ∷ f ∷ h ∷ entries) (suc zero) value = refl
 last-overwritten (e ∷ f ∷ entries) (suc (suc i)) value = last-overwritten (f ∷ entries) (suc i) value
 
-equal_is : (o : Ordering) → is_eq o ≡ true → o ≡ Equal
+pub equal_is : (o : Ordering) → is_eq o ≡ true → o ≡ Equal
 equal_is Less e = absurd (false≢true e)
 equal_is Equal e = refl
 equal_is Greater e = absurd (false≢true e)

@@ -1,5 +1,5 @@
 -- Segments that are put one after another, each with a number below the most, are some that a disk may have.
-use Rattle.std.proofs.Common.{◌≡◌, ◌<◌, ℕ, true, [], Some, IsSome, refl, sym, subst, arith}
+use Rattle.std.proofs.Common.{◌≡◌, ◌<◌, ℕ, [], Some, IsSome, refl, sym, subst, arith}
 use Rattle.std.specs.List.{All}
 use Rattle.std.specs.Map.{keys_of}
 use Rattle.std.specs.Ordering.{nat_cmp}
@@ -8,7 +8,7 @@ use Rattle.std.proofs.lemmas.List.Elements.{All-contains}
 use Rattle.std.proofs.lemmas.Map.Views.{Contains-keys_from_lookup, All-keys-insert_entry}
 use Rattle.frang_base.specs.declared.limits.TheConstants.{SEGMENTS_MAX}
 use Rattle.frang_base.specs.declared.bitmap.Bitmap.{Bitmap}
-use Rattle.std.proofs.lemmas.Bool.Decides.{nat_tests}
+use Rattle.frang_base.proofs.Tests.{at_only}
 use Rattle.disk_definitions.specs.Held.{Segments, AreSegments}
 
 abbrev pub AreLow : Segments → Type 0
@@ -23,7 +23,4 @@ one_more before held k x low small e = subst AreLow (sym e) (All-keys-insert_ent
 pub are_segments : (held : Segments) → AreLow held → AreSegments held
 are_segments held low k x at =
     All-contains (λ n. n < SEGMENTS_MAX) (keys_of held) k low
-    (Contains-keys_from_lookup {eq = λ q. is_at (nat_cmp q)} same k held (subst IsSome (sym at) refl))
-  where
-    same : (a b : ℕ) → is_at (nat_cmp a) b ≡ true → a ≡ b
-    same a b is = grind (arith, nat_tests)
+    (Contains-keys_from_lookup {eq = λ q. is_at (nat_cmp q)} at_only k held (subst IsSome (sym at) refl))

@@ -6,8 +6,8 @@ use Rattle.std.specs.Map.{keys_of}
 use Rattle.std.specs.Ordering.{nat_cmp, match_ordering}
 use Rattle.std.specs.declared.cmp.Ordering.{Ordering}
 use Rattle.std.specs.declared.cmp.Ordering.TheVariants.{Less, Equal, Greater}
-use Rattle.std.proofs.lemmas.Bool.{or_left, or_right}
-use Rattle.frang_base.proofs.Basics.{by_some, of_eq}
+use Rattle.std.proofs.lemmas.Bool.{or_left, or_right, eq-eqb}
+use Rattle.frang_base.proofs.Basics.{by_some}
 use Rattle.byteorder.specs.Endian.{little_bytes}
 use Rattle.frang_base.specs.declared.change.Patch.{Patch}
 use Rattle.frang_base.specs.declared.change.Change.{Change}
@@ -73,7 +73,7 @@ named_put all (k ∷ ks) n h r = go (nat_cmp n k.0) (named_put all ks n h r.1)
 all_named : (all es : List Edit) (ks : List (ℕ × ℕ)) → ((s : ℕ) → names s es ≡ true → names s all ≡ true) → AreNamed all ks → AreNamed all (named ks es)
 all_named all [] ks within r = r
 all_named all (e ∷ es) ks within r = by_bool (is_metadata e)
-    (λ i. let here : (is_metadata e && edit_sector e == edit_sector e) ≡ true = ap (λ (t : Bool). t && edit_sector e == edit_sector e) i ∙ of_eq (edit_sector e) (edit_sector e) refl in
+    (λ i. let here : (is_metadata e && edit_sector e == edit_sector e) ≡ true = ap (λ (t : Bool). t && edit_sector e == edit_sector e) i ∙ eq-eqb (edit_sector e) (edit_sector e) refl in
     subst (AreNamed all) (sym (named_true ks e es i)) (all_named all es (with_number ks (edit_sector e)) (λ s h. within s (or_right (is_metadata e && s == edit_sector e) (names s es) h))
     (named_put all ks (edit_sector e) (within (edit_sector e) (or_left (is_metadata e && edit_sector e == edit_sector e) (names (edit_sector e) es) here)) r)))
     (λ i. subst (AreNamed all) (sym (named_false ks e es i)) (all_named all es ks (λ s h. within s (or_right (is_metadata e && s == edit_sector e) (names s es) h)) r))

@@ -1,7 +1,6 @@
 -- What each edit adds to a record: the bytes of the change of a sector are at most what the edits of this sector add.
 use Rattle.std.proofs.Common.{◌≡◌, ◌≢◌, ℕ, ◌+◌, ◌*◌, ◌/◌, ◌<◌, ◌≤◌, Bool, true, false, ◌||◌, ◌&&◌, ◌==◌, if◌then◌else◌, inl, inr, List, [], ◌∷◌, length, refl, sym, ap, ◌∙◌, subst, arith}
-use Rattle.std.proofs.lemmas.Bool.{cases_eq, or_left, or_right}
-use Rattle.frang_base.proofs.Basics.{of_eq, of_ne, eq_of}
+use Rattle.std.proofs.lemmas.Bool.{cases_eq, or_left, or_right, ne_eqb, eq-eqb, eqb-true}
 use Rattle.disk_definitions.specs.declared.region.Region.{Region}
 use Rattle.disk_definitions.specs.declared.region.Region.TheVariants as region
 use Rattle.disk_definitions.specs.Regions.{sector_of, is_in_range}
@@ -67,17 +66,17 @@ or_cases false b h f g = g h
 -- ---- sums over one sector
 
 charge_here : (e : Edit) (es : List Edit) (s : ℕ) → s ≡ edit_sector e → charge (e ∷ es) s ≡ price e es + charge es s
-charge_here e es s q = ap (λ (t : Bool). (if t then price e es else 0) + charge es s) (of_eq s (edit_sector e) q)
+charge_here e es s q = ap (λ (t : Bool). (if t then price e es else 0) + charge es s) (eq-eqb s (edit_sector e) q)
 
 charge_else : (e : Edit) (es : List Edit) (s : ℕ) → s ≢ edit_sector e → charge (e ∷ es) s ≡ charge es s
-charge_else e es s d = let a : charge (e ∷ es) s ≡ 0 + charge es s = ap (λ (t : Bool). (if t then price e es else 0) + charge es s) (of_ne s (edit_sector e) d) in omega arith
+charge_else e es s d = let a : charge (e ∷ es) s ≡ 0 + charge es s = ap (λ (t : Bool). (if t then price e es else 0) + charge es s) (ne_eqb s (edit_sector e) d) in omega arith
 
 charge_more : (e : Edit) (es : List Edit) (s : ℕ) → charge es s ≤ charge (e ∷ es) s
 charge_more e es s = omega arith
 
 -- an inode's sector
 inode_price : (i : ℕ) (e : Edit) (es : List Edit) → sets_inode i e ≡ true → sets_later i es ≡ false → (sector_of (region.Inode i) ≡ edit_sector e) × (price e es ≡ 1280)
-inode_price i (SetInode j x dated) es h g = let same : i ≡ j = eq_of i j h in (ap (λ (k : ℕ). sector_of (region.Inode k)) same, ap (λ (t : Bool). if t then 0 else 1280) (ap (λ (k : ℕ). sets_later k es) (sym same) ∙ g))
+inode_price i (SetInode j x dated) es h g = let same : i ≡ j = eqb-true i j h in (ap (λ (k : ℕ). sector_of (region.Inode k)) same, ap (λ (t : Bool). if t then 0 else 1280) (ap (λ (k : ℕ). sets_later k es) (sym same) ∙ g))
 inode_price i (SetBit j b) es h g = absurd cc
 inode_price i (SetUse k u) es h g = absurd cc
 inode_price i (SetPlace k p o) es h g = absurd cc
@@ -134,7 +133,7 @@ front_most true = omega arith
 front_most false = omega arith
 
 names_else : (e : Edit) (es : List Edit) (s : ℕ) → s ≢ edit_sector e → names s (e ∷ es) ≡ names s es
-names_else e es s d = ap (λ (t : Bool). (is_metadata e && t) || names s es) (of_ne s (edit_sector e) d) ∙ go (is_metadata e)
+names_else e es s d = ap (λ (t : Bool). (is_metadata e && t) || names s es) (ne_eqb s (edit_sector e) d) ∙ go (is_metadata e)
   where
     go : (t : Bool) → ((t && false) || names s es) ≡ names s es
     go true = refl
@@ -179,7 +178,7 @@ pub record Writer (segments : ℕ) (end : Store) (s : ℕ) (es : List Edit) : Ty
 writer : (segments : ℕ) (end : Store) (s : ℕ) (es : List Edit) → AreFit segments end es → names s es ≡ true → Writer segments end s es
 writer segments end s [] fit h = absurd cc
 writer segments end s (e ∷ es) fit h = or_cases (is_metadata e && s == edit_sector e) (names s es) h
-    (λ t. record { edit = e; metadata = and_l (is_metadata e) (s == edit_sector e) t; here = eq_of s (edit_sector e) (and_r (is_metadata e) (s == edit_sector e) t); fit = fit.0.0; meets = fit.0.1; inodes = λ i q. or_left (sets_inode i e) (sets_later i es) q })
+    (λ t. record { edit = e; metadata = and_l (is_metadata e) (s == edit_sector e) t; here = eqb-true s (edit_sector e) (and_r (is_metadata e) (s == edit_sector e) t); fit = fit.0.0; meets = fit.0.1; inodes = λ i q. or_left (sets_inode i e) (sets_later i es) q })
     (λ t. let w = writer segments end s es fit.1 t in record { edit = w.edit; metadata = w.metadata; here = w.here; fit = w.fit; meets = w.meets; inodes = λ i q. or_right (sets_inode i e) (sets_later i es) (w.inodes i q) })
 
 partly : (segments : ℕ) (end : Store) (r : Region) (es : List Edit) → segments ≤ 64 → is_in_range segments r ≡ true → AreFit segments end es → ((e : Edit) → MeetsUse end e → edit_region e ≡ r → is_partial e ≡ true) → Partly (sector_of r) es
@@ -220,7 +219,7 @@ module _ (segments : ℕ) (end st : Store) (sectors : Sectors) (es : List Edit) 
 
   by_writer : (s : ℕ) (e : Edit) → names s es ≡ true → is_metadata e ≡ true → s ≡ edit_sector e → IsFitEdit segments e → MeetsUse end e → ((i : ℕ) → sets_inode i e ≡ true → sets_later i es ≡ true) → 18 + cost (patches_with (forced_in es s) (sectors s) (all_edited sectors es s)) ≤ charge es s
   by_writer s (SetInode i x dated) named m at f u inodes =
-      let a : 1280 ≤ charge es (sector_of (region.Inode i)) = inode_charge es i (inodes i (of_eq i i refl)) in
+      let a : 1280 ≤ charge es (sector_of (region.Inode i)) = inode_charge es i (inodes i (eq-eqb i i refl)) in
       let b : charge es s ≡ charge es (sector_of (region.Inode i)) = ap (charge es) at in
       let c = cost_at_most (forced_in es s) (sectors s) (all_edited sectors es s) (long s) in
       omega arith

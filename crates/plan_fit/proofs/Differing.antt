@@ -1,6 +1,6 @@
 -- In how many bytes two lists differ: the triangle law, lists piece by piece, and one element of a list that is set.
 use Rattle.std.proofs.Common.{◌≡◌, ℕ, zero, suc, ◌+◌, ◌≤◌, Bool, true, false, ◌==◌, if◌then◌else◌, List, [], ◌∷◌, ◌++◌, length, drop, set, refl, ap, ◌∙◌, arith}
-use Rattle.frang_base.proofs.Basics.{eq_of, of_eq}
+use Rattle.std.proofs.lemmas.Bool.{eq-eqb, eqb-true}
 
 -- how many bytes differ; where one list is longer, each byte more does
 abbrev pub differing : List ℕ → List ℕ → ℕ
@@ -14,7 +14,7 @@ one_most false = omega arith
 
 -- one byte: the triangle law
 one_between : (a b c : ℕ) → (if a == c then 0 else 1) ≤ (if a == b then 0 else 1) + (if b == c then 0 else 1)
-one_between a b c = go (a == b) (b == c) (a == c) (λ t u. of_eq a c (eq_of a b t ∙ eq_of b c u))
+one_between a b c = go (a == b) (b == c) (a == c) (λ t u. eq-eqb a c (eqb-true a b t ∙ eqb-true b c u))
   where
     go : (t u v : Bool) → (t ≡ true → u ≡ true → v ≡ true) → (if v then 0 else 1) ≤ (if t then 0 else 1) + (if u then 0 else 1)
     go true true true h = omega arith
@@ -50,7 +50,7 @@ abbrev other : Bool → ℕ
 other t = if t then 0 else 1
 
 no_other : (a : ℕ) → other (a == a) ≡ 0
-no_other a = ap other (of_eq a a refl)
+no_other a = ap other (eq-eqb a a refl)
 
 pub same_bytes : (xs : List ℕ) → differing xs xs ≡ 0
 same_bytes [] = refl

@@ -1,7 +1,6 @@
 -- The disk with the changes and the bytes of edits says what the edited store does, is in its grammar, and its versions rise by one at most.
 use Rattle.std.proofs.Common.{◌≡◌, ℕ, ◌+◌, ◌*◌, ◌/◌, ◌%◌, ◌^◌, ◌<◌, ◌≤◌, Bool, true, false, ◌&&◌, if◌then◌else◌, ⊎_elim, List, length, drop, refl, sym, ap, ◌∙◌, subst, arith}
-use Rattle.std.proofs.lemmas.Bool.{cases_lt}
-use Rattle.frang_base.proofs.Basics.{of_ge}
+use Rattle.std.proofs.lemmas.Bool.{cases_lt, le-ltb}
 use Rattle.disk_definitions.specs.declared.region.Region.TheVariants as region
 use Rattle.disk_definitions.specs.Regions.{sector_of}
 use Rattle.sector_bytes.specs.Bytes.{number_at}
@@ -128,10 +127,10 @@ module _ (most segments : ℕ) (sectors : Sectors) (edits : List Edit) (h : IsRe
   }
 
   past_fresh : (k : ℕ) → 1024 * segments ≤ k → end.use_of k ≡ Fresh
-  past_fresh k l = sym (laid.in_segments.uses k) ∙ ap (λ (t : Bool). if t then use_in (segment_at disk (k / 1024)) (k % 1024) else Fresh) (of_ge k (1024 * segments) l)
+  past_fresh k l = sym (laid.in_segments.uses k) ∙ ap (λ (t : Bool). if t then use_in (segment_at disk (k / 1024)) (k % 1024) else Fresh) (le-ltb k (1024 * segments) l)
 
   past_large : (g : ℕ) → segments ≤ g → end.large_bit g ≡ false
-  past_large g l = sym (laid.in_segments.large_bits g) ∙ ap (λ (t : Bool). t && large_in (segment_at disk g)) (of_ge g segments l)
+  past_large g l = sym (laid.in_segments.large_bits g) ∙ ap (λ (t : Bool). t && large_in (segment_at disk g)) (le-ltb g segments l)
 
   same : SaysTheSame end (store_of segments disk)
   same = record {

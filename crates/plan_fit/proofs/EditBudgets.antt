@@ -1,7 +1,6 @@
 -- How many sectors the changes of a plan name, and how many bytes they add to its record.
 use Rattle.std.proofs.Common.{◌≡◌, ℕ, zero, suc, ◌+◌, ◌-◌, ◌*◌, ◌≤◌, Bool, true, false, ◌||◌, ◌==◌, if◌then◌else◌, Some, None, ⊎_elim, List, [], ◌∷◌, ◌++◌, length, map, refl, ap, ◌∙◌, arith, eqb-true}
-use Rattle.std.proofs.lemmas.Bool.{or_cases}
-use Rattle.frang_base.proofs.Basics.{of_eq}
+use Rattle.std.proofs.lemmas.Bool.{or_cases, eq-eqb}
 use Rattle.disk_definitions.specs.declared.inode.Inode.{Inode}
 use Rattle.disk_definitions.specs.Inodes.{is_free_inode, is_file_inode, is_directory_inode, is_link_inode, inode_fits}
 use Rattle.disk_definitions.proofs.Readings.{and_l, and_r}
@@ -85,7 +84,7 @@ relink_within i x links = record { few = omega arith; short = omega arith }
 
 -- the directory's inode, which is set twice, counts once
 grown : (i : ℕ) (a : ℕ) → a ≡ (if (i == i) || false then 0 else 1280) → a ≡ 0
-grown i a e = e ∙ ap (λ (t : Bool). if t || false then 0 else 1280) (of_eq i i refl)
+grown i a e = e ∙ ap (λ (t : Bool). if t || false then 0 else 1280) (eq-eqb i i refl)
 
 pub enter_within : (i : ℕ) (x : StoredNode) (e : StoredEntry) (room : Room) → AreWithin (enter i x e room) 4 1681
 enter_within i x e NoRoom = record { few = omega arith; short = omega arith }

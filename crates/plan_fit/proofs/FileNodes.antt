@@ -1,12 +1,10 @@
 -- The inode of a file with another size and time may stand in its sector.
 use Rattle.std.proofs.Common.{◌≡◌, ℕ, ◌-◌, ◌^◌, ◌<◌, ◌≤◌, ⊎_elim, Bool, true, false, ◌||◌, ◌==◌, nat_lt, nat_le, if◌then◌else◌, Option, Some, List, slice_index, refl, ◌∙◌, arith, eqb-true, leb-true}
-use Rattle.std.proofs.lemmas.Bool.{and_from, or_cases}
-use Rattle.std.proofs.lemmas.Bool.Decides.{nat_tests}
+use Rattle.std.proofs.lemmas.Bool.{and_from, or_cases, eq-eqb, le-ltb, le-leb}
 use Rattle.tree_definitions.specs.Tree.{small_blocks_of}
 use Rattle.disk_definitions.specs.declared.inode.Inode.{Inode}
 use Rattle.sector_bytes.specs.Bytes.{are_zero}
 use Rattle.disk_definitions.specs.Inodes.{inode_fits, ends_blocks, is_free_inode, is_file_inode, is_directory_inode, is_link_inode}
-use Rattle.frang_base.proofs.Basics.{of_le, of_ge}
 use Rattle.disk_definitions.proofs.Readings.{and_l, and_r}
 use Rattle.disk_definitions.proofs.Lists.{ends_at}
 use Rattle.disk_definitions.specs.Store.{StoredNode}
@@ -65,18 +63,15 @@ fit_file x fit k =
 file_fits : (y : Inode) → y.kind ≡ 1 → 1 ≤ y.links → y.links ≤ 1000 → y.size ≤ 1114112 → y.blocks ≡ small_blocks_of y.size → ends_blocks y ≡ true → goes_by_size y.size y.large ≡ true → are_zero y.target ≡ true → inode_fits y ≡ true
 file_fits y kind some most size blocks last large target =
     among (is_free_inode y) (is_file_inode y) (is_directory_inode y) (is_link_inode y)
-    (and_from _ _ (and_from _ _ (and_from _ _ (and_from _ _ (and_from _ _ (and_from _ _ (and_from _ _ (same y.kind 1 kind) (of_le 1 y.links some)) (of_le y.links 1000 most)) (of_le y.size 1114112 size)) (same y.blocks (small_blocks_of y.size) blocks)) last) large) target)
+    (and_from _ _ (and_from _ _ (and_from _ _ (and_from _ _ (and_from _ _ (and_from _ _ (and_from _ _ (eq-eqb y.kind 1 kind) (le-leb 1 y.links some)) (le-leb y.links 1000 most)) (le-leb y.size 1114112 size)) (eq-eqb y.blocks (small_blocks_of y.size) blocks)) last) large) target)
   where
-    same : (a b : ℕ) → a ≡ b → a == b ≡ true
-    same a b e = grind (arith, nat_tests)
-
     among : (a b c d : Bool) → b ≡ true → (a || b || c || d) ≡ true
     among true b c d e = refl
     among false b c d e = rw e refl
 
 module _ (x : StoredNode) (when size : ℕ) (picks : List ℕ) (o : Option ℕ) where
   small_past : (j : ℕ) → small_blocks_of size ≤ j → (resized x when size picks o).small j ≡ 0
-  small_past j l = rw (of_ge j (small_blocks_of size) l) refl
+  small_past j l = rw (le-ltb j (small_blocks_of size) l) refl
 
   small_most : ((j : ℕ) → x.small j < 2 ^ 32) → ((j : ℕ) → slice_index picks j < 2 ^ 32) → (j : ℕ) → (resized x when size picks o).small j < 2 ^ 32
   small_most own new j = go (nat_lt j (small_blocks_of size)) (nat_lt j x.blocks)

@@ -28,10 +28,11 @@ use Rattle.plan_laws.proofs.Picks.{block_some}
 use Rattle.plan_laws.proofs.Places.{free_place, place_some}
 use Rattle.disk_definitions.specs.FitEdits.{IsFitNode}
 use Rattle.disk_definitions.specs.FitPlans.{IsFitStore, IsFitFinish, PlanIsFit}
+use Rattle.disk_definitions.proofs.NodeLaws.{first_past}
 use Rattle.plan_fit.proofs.Directories.{directory_fits}
 use Rattle.plan_fit.proofs.Uses.{metadata_is}
 use Rattle.plan_fit.proofs.Pieces.{MayEnter}
-use Rattle.plan_fit.proofs.OnDisk.{beyond, node_fits, bounds, sized_fits, placed}
+use Rattle.plan_fit.proofs.OnDisk.{node_fits, bounds, sized_fits, placed}
 
 -- the uses at the end, once the room has the entry
 abbrev pub Becomes : Store → Store → Room → Type 0
@@ -125,7 +126,7 @@ module _ (h : Hand) (s : Store) (tree : FileTree) (n : Naming) (of : IsOfTree s 
           let most : tree.segments ≤ 64 = of.few in
           let low : k < 2 ^ 32 = omega arith in
           directory_fits size (n.stamp d) (blocks + 1) (put x.small blocks k) f.birth (λ j. at_put (λ c. c < 2 ^ 32) x.small blocks k j (λ i. low) (λ i. f.small j)) (omega arith) room
-          (λ j m. put_other x.small blocks k j (λ i. omega arith) ∙ beyond blocks (n.block d) j (omega arith))
+          (λ j m. put_other x.small blocks k j (λ i. omega arith) ∙ first_past blocks (n.block d) j (omega arith))
 
       pub may_enter : (t : Store) (room : Room) → IsFound h blocks entries room → Becomes s t room → MayEnter tree.segments t x room
       may_enter t NoRoom f b = tt

@@ -1,8 +1,7 @@
 -- An inode that was written reads back as it is.
 use Rattle.std.proofs.Common.{◌≡◌, ℕ, zero, suc, ◌-◌, ◌*◌, ◌^◌, ◌<◌, ◌≤◌, inl, inr, ⊎_elim, Bool, true, false, ◌||◌, ◌==◌, nat_lt, nat_le, if◌then◌else◌, Option, Some, None, is_some, List, [], length, take, map, slice_index, refl, sym, ap, ◌∙◌, subst, arith, length-append, eqb-true, leb-true}
-use Rattle.std.proofs.lemmas.Bool.{or_cases, both_ways, cases_eq, cases_lt}
+use Rattle.std.proofs.lemmas.Bool.{or_cases, both_ways, cases_eq, cases_lt, ltb-true, ne_eqb, eq-eqb, lt-ltb}
 use Rattle.std.proofs.lemmas.List.{take_at, get_or_past, nil_from_length}
-use Rattle.frang_base.proofs.Basics.{of_eq, of_ne, of_lt}
 use Rattle.tree_definitions.specs.Numbers.{below}
 use Rattle.tree_definitions.specs.Tree.{small_blocks_of}
 use Rattle.frang_base.specs.Functions.{put}
@@ -22,7 +21,7 @@ use Rattle.disk_definitions.specs.Store.{StoredNode, stored_node, store_of}
 use Rattle.disk_definitions.specs.Written.{padded, inode_with}
 use Rattle.disk_definitions.specs.FitEdits.{IsFitNode}
 use Rattle.plan_fit.specs.Says.{InodesSay}
-use Rattle.plan_fit.proofs.Kept.{if_same, is_less}
+use Rattle.plan_fit.proofs.Kept.{if_same}
 
 -- ---- the fields of a node in use
 
@@ -104,8 +103,8 @@ module _ (v : ℕ) (x : StoredNode) (h : IsFitNode x) where
 
   target_most : length x.target ≤ 384
   target_most = elim (cases_eq x.kind 3) [
-    | inl e ↦ let l : length x.target ≡ x.size = h.target ∙ ap (λ (t : Bool). if t then x.size else 0) (of_eq x.kind 3 e) in let s : x.size ≤ 384 = node_bounded.link e in omega arith
-    | inr d ↦ let l : length x.target ≡ 0 = h.target ∙ ap (λ (t : Bool). if t then x.size else 0) (of_ne x.kind 3 d) in omega arith
+    | inl e ↦ let l : length x.target ≡ x.size = h.target ∙ ap (λ (t : Bool). if t then x.size else 0) (eq-eqb x.kind 3 e) in let s : x.size ≤ 384 = node_bounded.link e in omega arith
+    | inr d ↦ let l : length x.target ≡ 0 = h.target ∙ ap (λ (t : Bool). if t then x.size else 0) (ne_eqb x.kind 3 d) in omega arith
   ]
 
   node_range : v < 2 ^ 64 → InodeRange (inode_with v (Some x))
@@ -137,10 +136,10 @@ module _ (v : ℕ) (x : StoredNode) (h : IsFitNode x) where
 
   target_back : (if x.kind == 3 then take x.size (padded 384 x.target) else []) ≡ x.target
   target_back = elim (cases_eq x.kind 3) [
-    | inl e ↦ ap (λ (t : Bool). if t then take x.size (padded 384 x.target) else []) (of_eq x.kind 3 e)
-        ∙ take_at x.target (zeros (384 - length x.target)) x.size (h.target ∙ ap (λ (t : Bool). if t then x.size else 0) (of_eq x.kind 3 e))
-    | inr d ↦ ap (λ (t : Bool). if t then take x.size (padded 384 x.target) else []) (of_ne x.kind 3 d)
-        ∙ sym (nil_from_length x.target (h.target ∙ ap (λ (t : Bool). if t then x.size else 0) (of_ne x.kind 3 d)))
+    | inl e ↦ ap (λ (t : Bool). if t then take x.size (padded 384 x.target) else []) (eq-eqb x.kind 3 e)
+        ∙ take_at x.target (zeros (384 - length x.target)) x.size (h.target ∙ ap (λ (t : Bool). if t then x.size else 0) (eq-eqb x.kind 3 e))
+    | inr d ↦ ap (λ (t : Bool). if t then take x.size (padded 384 x.target) else []) (ne_eqb x.kind 3 d)
+        ∙ sym (nil_from_length x.target (h.target ∙ ap (λ (t : Bool). if t then x.size else 0) (ne_eqb x.kind 3 d)))
   ]
 
   node_back : stored_node (Some (inode_with v (Some x))) ≡ Some x
@@ -211,8 +210,8 @@ inode_set segments a b i v x inode l fits may is others h = record { grammar = g
 
     inodes : (j : ℕ) → (store_of segments b).inode j ≡ put inode i x j
     inodes j = elim (cases_eq j i) [
-      | inl e ↦ ap (λ (t : Bool). if t then stored_node (inode_in (b (sector_of (region.Inode j)))) else None) (of_lt j (64 * segments) (omega arith))
+      | inl e ↦ ap (λ (t : Bool). if t then stored_node (inode_in (b (sector_of (region.Inode j)))) else None) (lt-ltb j (64 * segments) (omega arith))
           ∙ ap (λ (z : ℕ). stored_node (inode_in (b (sector_of (region.Inode z))))) e ∙ ap stored_node here ∙ read_inode v x may ∙ sym (chosen_same j i x (inode j) e)
       | inr d ↦ if_same (nat_lt j (64 * segments)) (stored_node (inode_in (b (sector_of (region.Inode j))))) (stored_node (inode_in (a (sector_of (region.Inode j))))) None
-          (λ t. ap (λ (z : List ℕ). stored_node (inode_in z)) (others j (is_less j (64 * segments) t) d)) ∙ h.inodes j ∙ sym (chosen_other j i x (inode j) d)
+          (λ t. ap (λ (z : List ℕ). stored_node (inode_in z)) (others j (ltb-true j (64 * segments) t) d)) ∙ h.inodes j ∙ sym (chosen_other j i x (inode j) d)
     ]

@@ -1,9 +1,7 @@
 -- Where an edit writes, and that each part of what the sectors say goes by its own sectors.
 use Rattle.std.proofs.Common.{◌≡◌, ◌≢◌, ℕ, ◌*◌, ◌/◌, ◌%◌, ◌<◌, ◌≤◌, Bool, true, false, ◌&&◌, nat_lt, if◌then◌else◌, Option, Some, None, is_some, List, refl, ap, ◌∙◌, arith}
-use Rattle.std.proofs.lemmas.Bool.{and_from}
+use Rattle.std.proofs.lemmas.Bool.{and_from, ltb-true, ne_eqb, eq-eqb, lt-ltb}
 use Rattle.std.specs.Prelude.{slice_index}
-use Rattle.frang_base.proofs.Basics.{of_lt, of_eq, of_ne}
-use Rattle.std.proofs.lemmas.Bool.Decides.{nat_tests}
 use Rattle.disk_definitions.specs.declared.region.Region.{Region}
 use Rattle.disk_definitions.specs.declared.region.Region.TheVariants as region
 use Rattle.disk_definitions.specs.Regions.{sector_of, is_in_range}
@@ -31,9 +29,6 @@ pub and_same : (t x y : Bool) → (t ≡ true → x ≡ y) → (t && x) ≡ (t &
 and_same true x y e = e refl
 and_same false x y e = refl
 
-pub is_less : (i n : ℕ) → nat_lt i n ≡ true → i < n
-is_less i n e = grind (arith, nat_tests)
-
 -- ---- where an edit writes
 
 abbrev pub edit_region : Edit → Region
@@ -55,16 +50,16 @@ edit_sector_is (SetBytes k part bytes) = refl
 edit_sector_is (SetLargeBytes g part bytes) = refl
 
 pub in_segment : (segments k : ℕ) → k < segments → is_in_range segments (region.Segment k) ≡ true
-in_segment segments k l = of_lt k segments l
+in_segment segments k l = lt-ltb k segments l
 
 pub in_inode : (segments i : ℕ) → i < 64 * segments → is_in_range segments (region.Inode i) ≡ true
-in_inode segments i l = of_lt i (64 * segments) l
+in_inode segments i l = lt-ltb i (64 * segments) l
 
 pub in_small : (segments k part : ℕ) → k < 1024 * segments → part < 8 → is_in_range segments (region.Small k part) ≡ true
-in_small segments k part l m = and_from (nat_lt k (1024 * segments)) (nat_lt part 8) (of_lt k (1024 * segments) l) (of_lt part 8 m)
+in_small segments k part l m = and_from (nat_lt k (1024 * segments)) (nat_lt part 8) (lt-ltb k (1024 * segments) l) (lt-ltb part 8 m)
 
 pub in_large : (segments g part : ℕ) → g < segments → part < 2048 → is_in_range segments (region.Large g part) ≡ true
-in_large segments g part l m = and_from (nat_lt g segments) (nat_lt part 2048) (of_lt g segments l) (of_lt part 2048 m)
+in_large segments g part l m = and_from (nat_lt g segments) (nat_lt part 2048) (lt-ltb g segments l) (lt-ltb part 2048 m)
 
 pub edit_in_range : (segments : ℕ) (e : Edit) → IsFitEdit segments e → is_in_range segments (edit_region e) ≡ true
 edit_in_range segments (SetInode i None dated) h = in_inode segments i h
@@ -79,10 +74,10 @@ edit_in_range segments (SetLargeBytes g part bytes) h = in_large segments g part
 
 -- the block at its sector, and those of other sectors
 pub edited_here : (sectors : Sectors) (e : Edit) → edited_sectors sectors e (edit_sector e) ≡ edited_block (sectors (edit_sector e)) (version_at sectors (edit_sector e)) e
-edited_here sectors e = ap (λ (t : Bool). if t then edited_block (sectors (edit_sector e)) (version_at sectors (edit_sector e)) e else sectors (edit_sector e)) (of_eq (edit_sector e) (edit_sector e) refl)
+edited_here sectors e = ap (λ (t : Bool). if t then edited_block (sectors (edit_sector e)) (version_at sectors (edit_sector e)) e else sectors (edit_sector e)) (eq-eqb (edit_sector e) (edit_sector e) refl)
 
 pub edited_else : (sectors : Sectors) (e : Edit) (s : ℕ) → s ≢ edit_sector e → edited_sectors sectors e s ≡ sectors s
-edited_else sectors e s d = ap (λ (t : Bool). if t then edited_block (sectors s) (version_at sectors s) e else sectors s) (of_ne s (edit_sector e) d)
+edited_else sectors e s d = ap (λ (t : Bool). if t then edited_block (sectors s) (version_at sectors s) e else sectors s) (ne_eqb s (edit_sector e) d)
 
 pub edited_apart : (segments : ℕ) (sectors : Sectors) (e : Edit) (r : Region) → segments ≤ 64 → IsFitEdit segments e → is_in_range segments r ≡ true → r ≢ edit_region e → edited_sectors sectors e (sector_of r) ≡ sectors (sector_of r)
 edited_apart segments sectors e r few fit there d = edited_else sectors e (sector_of r) (λ q. d (region_once segments r (edit_region e) few there (edit_in_range segments e fit) (q ∙ edit_sector_is e)))
@@ -94,10 +89,10 @@ pub segments_kept : (segments : ℕ) (a b : Sectors) (bit : ℕ → Bool) (use_o
 segments_kept segments a b bit use_of large_bit same h = record {
   grammar = λ k l. ap (λ (x : List ℕ). is_some (bitmap_in x)) (same k l) ∙ h.grammar k l;
   bits = λ i. and_same (nat_lt i (64 * segments)) (bit_in (segment_at b (i / 64)) (i % 64)) (bit_in (segment_at a (i / 64)) (i % 64))
-      (λ t. let l = is_less i (64 * segments) t in ap (λ (x : List ℕ). bit_in (bitmap_in x) (i % 64)) (same (i / 64) (omega arith))) ∙ h.bits i;
+      (λ t. let l = ltb-true i (64 * segments) t in ap (λ (x : List ℕ). bit_in (bitmap_in x) (i % 64)) (same (i / 64) (omega arith))) ∙ h.bits i;
   uses = λ k. if_same (nat_lt k (1024 * segments)) (use_in (segment_at b (k / 1024)) (k % 1024)) (use_in (segment_at a (k / 1024)) (k % 1024)) Fresh
-      (λ t. let l = is_less k (1024 * segments) t in ap (λ (x : List ℕ). use_in (bitmap_in x) (k % 1024)) (same (k / 1024) (omega arith))) ∙ h.uses k;
-  large_bits = λ g. and_same (nat_lt g segments) (large_in (segment_at b g)) (large_in (segment_at a g)) (λ t. ap (λ (x : List ℕ). large_in (bitmap_in x)) (same g (is_less g segments t))) ∙ h.large_bits g;
+      (λ t. let l = ltb-true k (1024 * segments) t in ap (λ (x : List ℕ). use_in (bitmap_in x) (k % 1024)) (same (k / 1024) (omega arith))) ∙ h.uses k;
+  large_bits = λ g. and_same (nat_lt g segments) (large_in (segment_at b g)) (large_in (segment_at a g)) (λ t. ap (λ (x : List ℕ). large_in (bitmap_in x)) (same g (ltb-true g segments t))) ∙ h.large_bits g;
 }
 
 pub inodes_kept : (segments : ℕ) (a b : Sectors) (inode : ℕ → Option StoredNode)
@@ -105,7 +100,7 @@ pub inodes_kept : (segments : ℕ) (a b : Sectors) (inode : ℕ → Option Store
 inodes_kept segments a b inode same h = record {
   grammar = λ i l. ap (λ (x : List ℕ). is_some (inode_in x)) (same i l) ∙ h.grammar i l;
   inodes = λ i. if_same (nat_lt i (64 * segments)) (stored_node (inode_in (b (sector_of (region.Inode i))))) (stored_node (inode_in (a (sector_of (region.Inode i))))) None
-      (λ t. ap (λ (x : List ℕ). stored_node (inode_in x)) (same i (is_less i (64 * segments) t))) ∙ h.inodes i;
+      (λ t. ap (λ (x : List ℕ). stored_node (inode_in x)) (same i (ltb-true i (64 * segments) t))) ∙ h.inodes i;
 }
 
 pub places_kept : (segments : ℕ) (use_of : ℕ → Use) (a b : Sectors) (place : ℕ → ℕ → Option StoredEntry)

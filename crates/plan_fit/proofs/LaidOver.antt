@@ -6,8 +6,7 @@ use Rattle.std.specs.List.Sorted.{IsStrictlySortedBy}
 use Rattle.std.specs.Map.{keys_of}
 use Rattle.std.specs.BTreeMap.{is_at}
 use Rattle.std.specs.Ordering.{nat_cmp}
-use Rattle.std.proofs.lemmas.Bool.{and_right}
-use Rattle.frang_base.proofs.Basics.{of_eq, of_ne}
+use Rattle.std.proofs.lemmas.Bool.{and_right, ne_eqb, eq-eqb}
 use Rattle.frang_base.specs.declared.change.Patch.{Patch}
 use Rattle.frang_base.specs.declared.change.Change.{Change}
 use Rattle.sector_bytes.specs.Changes.{changed}
@@ -59,7 +58,7 @@ none_forced es s at u = and_right (is_time_place at) (list_any (dates s) es) (no
 
 -- nor does an edit of another sector
 pub not_dated : (e : Edit) (s : ℕ) → (is_metadata e ≡ true → s ≡ edit_sector e → ⊥) → dates s e ≡ false
-not_dated (SetInode i x true) s m = of_ne s (edit_sector (SetInode i x true)) (m refl)
+not_dated (SetInode i x true) s m = ne_eqb s (edit_sector (SetInode i x true)) (m refl)
 not_dated (SetInode i x false) s m = refl
 not_dated (SetBit i b) s m = refl
 not_dated (SetUse k u) s m = refl
@@ -86,7 +85,7 @@ bytes_else x [] s n = refl
 bytes_else x (e ∷ es) s n = by_bool (is_metadata e)
     (λ i. ap (λ (ws : List (ℕ × List ℕ)). fold with_bytes x ws s) (filter_none byte_write e es (ap (λ (t : Bool). if t then None else Some (edit_sector e, edited_block [] 0 e)) i)) ∙ bytes_else x es s n.1)
     (λ i. ap (λ (ws : List (ℕ × List ℕ)). fold with_bytes x ws s) (filter_some byte_write e es (edit_sector e, edited_block [] 0 e) (ap (λ (t : Bool). if t then None else Some (edit_sector e, edited_block [] 0 e)) i))
-    ∙ bytes_else (with_bytes x (edit_sector e, edited_block [] 0 e)) es s n.1 ∙ ap (λ (t : Bool). if t then edited_block [] 0 e else x s) (of_ne s (edit_sector e) (n.0 i)))
+    ∙ bytes_else (with_bytes x (edit_sector e, edited_block [] 0 e)) es s n.1 ∙ ap (λ (t : Bool). if t then edited_block [] 0 e else x s) (ne_eqb s (edit_sector e) (n.0 i)))
 
 -- bytes don't go by what the sector held
 same_block : (e : Edit) (block : List ℕ) (v : ℕ) → is_metadata e ≡ false → edited_block block v e ≡ edited_block [] 0 e
@@ -161,7 +160,7 @@ one_laid edits old new x k sorted s d rest = go (change_of edits old new k.0) re
     go : (o : Option Change) → change_of edits old new k.0 ≡ o → fold with_change x (changes edits old new (k ∷ sorted)) s ≡ x s
     go None e = ap (λ (cs : List Change). fold with_change x cs s) (filter_none (change_of edits old new) k.0 (keys_of sorted) e) ∙ rest x refl
     go (Some c) e = ap (λ (cs : List Change). fold with_change x cs s) (filter_some (change_of edits old new) k.0 (keys_of sorted) c e)
-        ∙ rest (with_change x c) (ap (λ (t : Bool). if t then changed (x s) c else x s) (of_ne s c.sector.0 (λ q. d (q ∙ change_sector k.0 (version_at old k.0 + 1) (patches_with (forced_in edits k.0) (old k.0) (new k.0)) c e))))
+        ∙ rest (with_change x c) (ap (λ (t : Bool). if t then changed (x s) c else x s) (ne_eqb s c.sector.0 (λ q. d (q ∙ change_sector k.0 (version_at old k.0 + 1) (patches_with (forced_in edits k.0) (old k.0) (new k.0)) c e))))
 
 pub laid_else : (edits : List Edit) (old new x : Sectors) (sorted : List (ℕ × ℕ)) (s : ℕ) → value_at sorted s ≡ None → fold with_change x (changes edits old new sorted) s ≡ x s
 laid_else edits old new x [] s h = refl
@@ -178,7 +177,7 @@ first_laid edits old new x k sorted s here rest = subst (λ (z : ℕ). fold with
     go : (o : Option Change) → change_of edits old new k.0 ≡ o → fold with_change x (changes edits old new (k ∷ sorted)) s ≡ made (x s) (change_of edits old new k.0)
     go None e = ap (λ (cs : List Change). fold with_change x cs s) (filter_none (change_of edits old new) k.0 (keys_of sorted) e) ∙ rest x ∙ sym (ap (made (x s)) e)
     go (Some c) e = ap (λ (cs : List Change). fold with_change x cs s) (filter_some (change_of edits old new) k.0 (keys_of sorted) c e) ∙ rest (with_change x c)
-        ∙ ap (λ (t : Bool). if t then changed (x s) c else x s) (of_eq s c.sector.0 (sym (change_sector k.0 (version_at old k.0 + 1) (patches_with (forced_in edits k.0) (old k.0) (new k.0)) c e ∙ here))) ∙ sym (ap (made (x s)) e)
+        ∙ ap (λ (t : Bool). if t then changed (x s) c else x s) (eq-eqb s c.sector.0 (sym (change_sector k.0 (version_at old k.0 + 1) (patches_with (forced_in edits k.0) (old k.0) (new k.0)) c e ∙ here))) ∙ sym (ap (made (x s)) e)
 
 -- the change of another sector
 by_some_change : (edits : List Edit) (old new x : Sectors) (k : ℕ × ℕ) (sorted : List (ℕ × ℕ)) (s : ℕ) → s ≢ k.0 → ((y : Sectors) → y s ≡ x s → fold with_change y (changes edits old new sorted) s ≡ made (x s) (change_of edits old new s))
@@ -188,7 +187,7 @@ by_some_change edits old new x k sorted s d rest = go (change_of edits old new k
     go : (o : Option Change) → change_of edits old new k.0 ≡ o → fold with_change x (changes edits old new (k ∷ sorted)) s ≡ made (x s) (change_of edits old new s)
     go None e = ap (λ (cs : List Change). fold with_change x cs s) (filter_none (change_of edits old new) k.0 (keys_of sorted) e) ∙ rest x refl
     go (Some c) e = ap (λ (cs : List Change). fold with_change x cs s) (filter_some (change_of edits old new) k.0 (keys_of sorted) c e)
-        ∙ rest (with_change x c) (ap (λ (t : Bool). if t then changed (x s) c else x s) (of_ne s c.sector.0 (λ q. d (q ∙ change_sector k.0 (version_at old k.0 + 1) (patches_with (forced_in edits k.0) (old k.0) (new k.0)) c e))))
+        ∙ rest (with_change x c) (ap (λ (t : Bool). if t then changed (x s) c else x s) (ne_eqb s c.sector.0 (λ q. d (q ∙ change_sector k.0 (version_at old k.0 + 1) (patches_with (forced_in edits k.0) (old k.0) (new k.0)) c e))))
 
 pub laid_here : (edits : List Edit) (old new x : Sectors) (sorted : List (ℕ × ℕ)) (s v : ℕ) → Ascend sorted → value_at sorted s ≡ Some v → fold with_change x (changes edits old new sorted) s ≡ made (x s) (change_of edits old new s)
 unfolding IsStrictlySortedBy

@@ -1,6 +1,7 @@
 -- The plan of link is fit.
 use Rattle.std.proofs.Common.{◌≡◌, ◌≢◌, ℕ, ◌+◌, ◌*◌, ◌<◌, ◌≤◌, Bool, true, false, ◌==◌, nat_le, if◌then◌else◌, Some, List, [], ◌∷◌, ◌++◌, refl, sym, ◌∙◌, subst, arith}
 use Rattle.std.proofs.lemmas.Bool.Decides.{nat_tests}
+use Rattle.std.proofs.lemmas.Bool.{eqb-false}
 use Rattle.frang_base.specs.Name.{is_name}
 use Rattle.frang_base.specs.declared.reply.Reply.TheVariants as reply
 use Rattle.tree_definitions.specs.declared.node.Node.{Node}
@@ -8,7 +9,6 @@ use Rattle.tree_definitions.specs.declared.node.Node.TheVariants.{Dir}
 use Rattle.tree_definitions.specs.Entries.{Entries, entry_at}
 use Rattle.tree_definitions.specs.Tree.{FileTree, node_at}
 use Rattle.tree_definitions.specs.Place.{place}
-use Rattle.frang_base.proofs.Basics.{ne_of}
 use Rattle.tree_laws.proofs.Keeping.{names_nodes}
 use Rattle.disk_definitions.specs.Store.{Store, StoredNode, StoredEntry}
 use Rattle.disk_definitions.specs.Naming.{Naming, kind_of, entry_of}
@@ -111,7 +111,7 @@ module _ (h : Hand) (s : Store) (tree : FileTree) (n : Naming) (of : IsOfTree s 
       go false e =
           let r = a_some (node_at tree b) (names_nodes tree of.well_formed d entries blocks name b is had) in
           let kind : n.kind b ≡ (inode_by n b r.0).kind = of.pictures.kinds b r.0 r.1 ∙ sym (kind_are n b r.0) in
-          linking_to_fits to names dirs b r.0 r.1 (subst (λ k. k ≢ 2) kind (ne_of (n.kind b) 2 e))
+          linking_to_fits to names dirs b r.0 r.1 (subst (λ k. k ≢ 2) kind (eqb-false (n.kind b) 2 e))
 
 pub link_fits : LinkIsFit
 link_fits path to h s tree n birth when of hand fit old late allowed =

@@ -7,7 +7,6 @@ use Rattle.tree_definitions.specs.declared.node.Node.{Node}
 use Rattle.tree_definitions.specs.declared.node.Node.TheVariants.{Dir, File, Link}
 use Rattle.tree_definitions.specs.Entries.{Entries, entry_at}
 use Rattle.tree_definitions.specs.Tree.{FileTree, node_at, small_blocks_of}
-use Rattle.frang_base.proofs.Basics.{of_lt, of_ge}
 use Rattle.disk_definitions.specs.Store.{Store}
 use Rattle.disk_definitions.specs.Store.Use.{Fresh, Bytes, Entries as OfEntries}
 use Rattle.disk_definitions.specs.Naming.{Naming, kind_of, blocks_of, has_large, room_in, find_in, first_blocks, use_by, use_for, entry_of}
@@ -18,15 +17,9 @@ use Rattle.disk_definitions.specs.Meets.{IsOfTree, is_directory_use}
 use Rattle.plan_laws.proofs.Cases.{inode_by}
 use Rattle.disk_definitions.specs.FitEdits.{IsFitNode, IsFitEntry}
 use Rattle.disk_definitions.specs.FitPlans.{IsFitStore}
+use Rattle.disk_definitions.proofs.NodeLaws.{first_past, first_is}
 use Rattle.plan_fit.proofs.Directories.{directory_bounds, directory_fits}
 use Rattle.plan_fit.proofs.Pieces.{IsPlaced, IsOnDisk}
-
--- the block is among the first so many
-within : (count : ℕ) (block : ℕ → ℕ) (j : ℕ) → j < count → first_blocks count block j ≡ block j
-within count block j l = rw (of_lt j count l) refl
-
-pub beyond : (count : ℕ) (block : ℕ → ℕ) (j : ℕ) → count ≤ j → first_blocks count block j ≡ 0
-beyond count block j l = rw (of_ge j count l) refl
 
 pub kind_known : (node : Node) → (1 ≤ kind_of node) × (kind_of node ≤ 3)
 kind_known (Dir entries blocks) = (omega arith, omega arith)
@@ -50,10 +43,10 @@ module _ (s : Store) (tree : FileTree) (n : Naming) (of : IsOfTree s tree n) whe
 
   -- a directory's block is in use for entries, and a file's for bytes
   directory_use : (d blocks : ℕ) (entries : Entries) → node_at tree d ≡ Some (Dir entries blocks) → (j : ℕ) → j < blocks → s.use_of (first_blocks blocks (n.block d) j) ≡ OfEntries
-  directory_use d blocks entries is j l = ap s.use_of (within blocks (n.block d) j l) ∙ owned_use d j (Dir entries blocks) is l
+  directory_use d blocks entries is j l = ap s.use_of (first_is blocks (n.block d) j l) ∙ owned_use d j (Dir entries blocks) is l
 
   file_use : (b links when : ℕ) (cells : List Cell) → node_at tree b ≡ Some (File cells links when) → (j : ℕ) → j < small_blocks_of (length cells) → s.use_of (first_blocks (small_blocks_of (length cells)) (n.block b) j) ≡ Bytes
-  file_use b links when cells is j l = ap s.use_of (within (small_blocks_of (length cells)) (n.block b) j l) ∙ owned_use b j (File cells links when) is l
+  file_use b links when cells is j l = ap s.use_of (first_is (small_blocks_of (length cells)) (n.block b) j l) ∙ owned_use b j (File cells links when) is l
 
   small_on_disk : (b : ℕ) (node : Node) → node_at tree b ≡ Some node → (j : ℕ) → j < (inode_by n b node).blocks → (inode_by n b node).small j < 1024 * tree.segments
   small_on_disk b (Dir entries blocks) is j l = entries_in_disk (first_blocks blocks (n.block b) j) (directory_use b blocks entries is j l)
@@ -99,7 +92,7 @@ module _ (s : Store) (tree : FileTree) (n : Naming) (of : IsOfTree s tree n) whe
 
       pub sized_fits : (size : ℕ) → size ≤ 56 * blocks → IsFitNode (record (inode_by n d (Dir entries blocks)) { size = size })
       sized_fits size l = let f = (node_fits d (Dir entries blocks) is).1 in
-          directory_fits size (n.stamp d) blocks (first_blocks blocks (n.block d)) f.birth f.small bounds.0 l (beyond blocks (n.block d))
+          directory_fits size (n.stamp d) blocks (first_blocks blocks (n.block d)) f.birth f.small bounds.0 l (first_past blocks (n.block d))
 
       pub placed : (q : ℕ) → q < 56 * blocks → IsPlaced tree.segments s ((inode_by n d (Dir entries blocks)).small (q / 56))
       placed q l =

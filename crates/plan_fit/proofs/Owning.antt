@@ -1,10 +1,9 @@
 -- The blocks of a file are in use for it, and the disk's.
 use Rattle.std.proofs.Common.{ℕ, ◌≡◌, ◌+◌, ◌-◌, ◌*◌, ◌<◌, ⊎_elim, Bool, true, false, nat_lt, if◌then◌else◌, Some, List, length, refl, sym, ◌∙◌, ap, arith, is_some}
-use Rattle.std.proofs.lemmas.Bool.{cases_lt}
+use Rattle.std.proofs.lemmas.Bool.{cases_lt, lt-ltb}
 use Rattle.tree_definitions.specs.declared.cells.Cell.{Cell}
 use Rattle.tree_definitions.specs.declared.node.Node.TheVariants.{File}
 use Rattle.tree_definitions.specs.Tree.{FileTree, node_at, small_blocks_of}
-use Rattle.frang_base.proofs.Basics.{of_lt}
 use Rattle.disk_definitions.specs.Store.{Store, StoredNode}
 use Rattle.disk_definitions.specs.Store.Use.{Fresh, Bytes}
 use Rattle.disk_definitions.specs.Naming.{Naming, has_large, use_for}
@@ -20,7 +19,7 @@ module _ (s : Store) (tree : FileTree) (n : Naming) (of : IsOfTree s tree n) (b 
   x = inode_by n b (File cells links when)
 
   small_at : (j : ℕ) → j < small_blocks_of (length cells) → x.small j ≡ n.block b j
-  small_at j l = rw (of_lt j (small_blocks_of (length cells)) l) refl
+  small_at j l = rw (lt-ltb j (small_blocks_of (length cells)) l) refl
 
   small_used : (j : ℕ) → j < small_blocks_of (length cells) → s.use_of (n.block b j) ≡ Bytes
   small_used j l = of.pictures.uses (n.block b j) ∙ ap (use_for (n.was (n.block b j)) (node_at tree)) (of.pictures.owned b j (rw is l)) ∙ rw is refl

@@ -2,9 +2,8 @@
 use Rattle.std.proofs.Common.{◌≡◌, ℕ, zero, suc, ◌-◌, ◌*◌, ◌/◌, ◌%◌, ◌<◌, ◌≤◌, inl, inr, Bool, true, false, ◌||◌, ◌==◌, nat_lt, nat_le, if◌then◌else◌, Option, Some, None, is_some, List, [], ◌∷◌, length, take, drop, set, refl, sym, ap, ◌∙◌, subst, arith, length-append, eqb-true, leb-true}
 use Rattle.std.specs.List.{list_all, slice_get}
 use Rattle.std.proofs.Math.ListN.{length-set}
-use Rattle.std.proofs.lemmas.Bool.{and_parts, and_from, cases_eq, or_right}
+use Rattle.std.proofs.lemmas.Bool.{and_parts, and_from, cases_eq, or_right, lt-ltb, le-leb}
 use Rattle.std.proofs.lemmas.List.{take_at, drop_at}
-use Rattle.frang_base.proofs.Basics.{of_lt, of_le}
 use Rattle.frang_base.specs.Name.{is_name}
 use Rattle.frang_base.specs.Functions.{put2}
 use Rattle.disk_definitions.specs.declared.directory.DirEntry.{DirEntry}
@@ -71,7 +70,7 @@ place_storable (Some e) h = let small = h.inode in let most = name_most e h in r
 
 used_place : (e : StoredEntry) → IsFitEntry e → is_used_place (place_with (Some e)) ≡ true
 used_place e h =
-    and_from _ _ (and_from _ _ (and_from _ _ (and_from _ _ (of_le 1 e.kind h.some) (of_le e.kind 3 h.kind)) (of_le (length e.name) 64 (name_most e h))) (ap is_name (name_back e) ∙ h.name)) (rest_back e)
+    and_from _ _ (and_from _ _ (and_from _ _ (and_from _ _ (le-leb 1 e.kind h.some) (le-leb e.kind 3 h.kind)) (le-leb (length e.name) 64 (name_most e h))) (ap is_name (name_back e) ∙ h.name)) (rest_back e)
 
 free_place : is_free_place (place_with None) ≡ true
 unfolding zeros
@@ -131,10 +130,10 @@ place_set segments use_of a b k p o x place lk lp may was seven is others h = re
     stays l q ll lq d n = ap (λ (z : List ℕ). if nat_lt l (1024 * segments) then entry_in (directory_in z) (q % 7) else None) (others l (q / 7) ll (omega arith) n) ∙ h.places l q ll lq d
 
     in_it : (q : ℕ) → q / 7 ≡ p / 7 → (store_of segments b).place k q ≡ entry_in (Some (with_place x (p % 7) o)) (q % 7)
-    in_it q f = ap (λ (t : Bool). if t then entry_in (directory_at b k (q / 7)) (q % 7) else None) (of_lt k (1024 * segments) lk) ∙ ap (λ (y : Option DirSector). entry_in y (q % 7)) (ap (directory_at b k) f ∙ is)
+    in_it q f = ap (λ (t : Bool). if t then entry_in (directory_at b k (q / 7)) (q % 7) else None) (lt-ltb k (1024 * segments) lk) ∙ ap (λ (y : Option DirSector). entry_in y (q % 7)) (ap (directory_at b k) f ∙ is)
 
     was_in_it : (q : ℕ) → q < 56 → IsMetadata (use_of k) → q / 7 ≡ p / 7 → entry_in (Some x) (q % 7) ≡ place k q
-    was_in_it q lq d f = sym (ap (λ (t : Bool). if t then entry_in (directory_at a k (q / 7)) (q % 7) else None) (of_lt k (1024 * segments) lk) ∙ ap (λ (y : Option DirSector). entry_in y (q % 7)) (ap (directory_at a k) f ∙ was)) ∙ h.places k q lk lq d
+    was_in_it q lq d f = sym (ap (λ (t : Bool). if t then entry_in (directory_at a k (q / 7)) (q % 7) else None) (lt-ltb k (1024 * segments) lk) ∙ ap (λ (y : Option DirSector). entry_in y (q % 7)) (ap (directory_at a k) f ∙ was)) ∙ h.places k q lk lq d
 
     at_k : (q : ℕ) → q < 56 → IsMetadata (use_of k) → (store_of segments b).place k q ≡ (if q == p then o else place k q)
     at_k q lq d = elim (cases_eq q p) [

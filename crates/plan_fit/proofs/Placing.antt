@@ -2,8 +2,8 @@
 use Rattle.std.proofs.Common.{ℕ, zero, suc, ◌≡◌, ◌<◌, ◌≤◌, ◌+◌, ◌-◌, ◌*◌, ◌/◌, ◌%◌, ◌^◌, ◌||◌, Bool, true, false, nat_lt, max, if◌then◌else◌, inl, Option, Some, None, List, [], ◌∷◌, ◌++◌, length, map, slice_index, refl, sym, ◌∙◌, ap, subst, arith, eq-eqb}
 use Rattle.std.proofs.lemmas.Bool.Decides.{nat_tests}
 use Rattle.std.proofs.lemmas.List.{get_or_past}
+use Rattle.std.proofs.lemmas.Bool.{lt-ltb}
 use Rattle.tree_definitions.specs.Tree.{small_blocks_of}
-use Rattle.frang_base.proofs.Basics.{of_lt}
 use Rattle.disk_definitions.specs.Store.{Store, StoredNode}
 use Rattle.disk_definitions.specs.Store.Use.{Bytes}
 use Rattle.disk_definitions.specs.Standing.{IsMetadata}
@@ -42,11 +42,11 @@ taken_is (Some k) = refl
 -- the large block of a long file is in use at the end
 large_end : (g : ℕ) (x : StoredNode) (size : ℕ) (bit old : ℕ → Bool) → 65536 < size → (0 < x.large → (x.large - 1 < g) × (old (x.large - 1) ≡ true)) → (q : Option ℕ) → TakesLarge g x size q →
     ((k : ℕ) → bit k ≡ (if is_among k (large_segment q) then true else old k)) → (large_after x q size - 1 < g) × (bit (large_after x q size - 1) ≡ true)
-large_end g x size bit old l owned None t at = let r = owned (t l) in rw (of_lt 65536 size l) (r.0, at (x.large - 1) ∙ r.1)
+large_end g x size bit old l owned None t at = let r = owned (t l) in rw (lt-ltb 65536 size l) (r.0, at (x.large - 1) ∙ r.1)
 large_end g x size bit old l owned (Some k) t at =
     let z : k + 1 - 1 ≡ k = omega arith in
     let a : is_among k (k ∷ []) ≡ true = ap (λ v. v || false) (eq-eqb k k refl) in
-    rw (of_lt 65536 size l, z) (t, at k ∙ rw a refl)
+    rw (lt-ltb 65536 size l, z) (t, at k ∙ rw a refl)
 
 module _ (h : Hand) (g : ℕ) (few : g ≤ 64) (s : Store) (i : ℕ) (touched : List ℕ) (x : StoredNode) (file : IsFile g s i x) (w : Writing) (size : ℕ) (late : w.when < 2 ^ 64) (longer : end_of w ≤ size) (most : size ≤ 1114112)
     (picks : List ℕ) (are : ArePicks g (small_blocks_of size - x.blocks) picks) (o : Option ℕ) (takes : TakesLarge g x size o) where

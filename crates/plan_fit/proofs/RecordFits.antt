@@ -6,9 +6,9 @@ use Rattle.std.specs.Map.{keys_of}
 use Rattle.std.specs.Ordering.{nat_cmp, match_ordering}
 use Rattle.std.specs.declared.cmp.Ordering.{Ordering}
 use Rattle.std.specs.declared.cmp.Ordering.TheVariants.{Less, Equal, Greater}
-use Rattle.std.proofs.lemmas.Bool.{and_parts, and_from}
+use Rattle.std.proofs.lemmas.Bool.{and_parts, and_from, lt-ltb, le-leb}
 use Rattle.std.proofs.lemmas.Bool.Decides.{nat_tests}
-use Rattle.frang_base.proofs.Basics.{by_some, of_le, of_lt}
+use Rattle.frang_base.proofs.Basics.{by_some}
 use Rattle.frang_base.specs.declared.change.Patch.{Patch}
 use Rattle.frang_base.specs.declared.change.Change.{Change}
 use Rattle.sector_bytes.specs.Changes.{are_patches, is_change}
@@ -43,7 +43,7 @@ apart_patches (p ∷ ps) from start l h =
     let after : from ≤ p.at = leb-true from p.at c.0 in
     let some : 1 ≤ length p.bytes = leb-true 1 (length p.bytes) c.1 in
     and_from (nat_le start p.at && nat_lt 0 (length p.bytes) && nat_le end 512) (are_patches end ps)
-    (and_from (nat_le start p.at && nat_lt 0 (length p.bytes)) (nat_le end 512) (and_from (nat_le start p.at) (nat_lt 0 (length p.bytes)) (of_le start p.at (omega arith)) (of_lt 0 (length p.bytes) (omega arith))) b.1)
+    (and_from (nat_le start p.at && nat_lt 0 (length p.bytes)) (nat_le end 512) (and_from (nat_le start p.at) (nat_lt 0 (length p.bytes)) (le-leb start p.at (omega arith)) (lt-ltb 0 (length p.bytes) (omega arith))) b.1)
     (apart_patches ps (end + 1) end (omega arith) a.1)
 
 change_is : (forced : ℕ → Bool) (old new : List ℕ) (k v : ℕ) (c : Change) → length old ≡ 512 → k < 2 ^ 55 → v < 2 ^ 64 → change_by k v (patches_with forced old new) ≡ Some c → is_change c ≡ true
@@ -55,7 +55,7 @@ change_is forced old new k v c long small fits e = go (patches_with forced old n
         let same : record { sector = record { 0 = k }; version = v; patches = p ∷ ps } ≡ c = cc in
         subst (λ (x : Change). is_change x ≡ true) same
         (and_from (nat_lt k (2 ^ 55) && nat_lt v (2 ^ 64) && nat_lt 0 (length (p ∷ ps))) (are_patches 8 (p ∷ ps))
-        (and_from (nat_lt k (2 ^ 55) && nat_lt v (2 ^ 64)) (nat_lt 0 (length (p ∷ ps))) (and_from (nat_lt k (2 ^ 55)) (nat_lt v (2 ^ 64)) (of_lt k (2 ^ 55) small) (of_lt v (2 ^ 64) fits)) (of_lt 0 (length (p ∷ ps)) (omega arith)))
+        (and_from (nat_lt k (2 ^ 55) && nat_lt v (2 ^ 64)) (nat_lt 0 (length (p ∷ ps))) (and_from (nat_lt k (2 ^ 55)) (nat_lt v (2 ^ 64)) (lt-ltb k (2 ^ 55) small) (lt-ltb v (2 ^ 64) fits)) (lt-ltb 0 (length (p ∷ ps)) (omega arith)))
         (apart_patches (p ∷ ps) 8 8 (omega arith) h))
 
 -- ---- the sectors that are named
@@ -115,7 +115,7 @@ ascend_changes edits old new (k ∷ sorted) from asc h =
     (λ e f. ap (sectors_ascend from) (filter_none (change_of edits old new) k.0 (keys_of sorted) f) ∙ ascend_changes edits old new sorted from asc.1 h.1)
     (λ c e f. ap (sectors_ascend from) (filter_some (change_of edits old new) k.0 (keys_of sorted) c f)
     ∙ (let here : c.sector.0 ≡ k.0 = change_sector k.0 (version_at old k.0 + 1) (patches_with (forced_in edits k.0) (old k.0) (new k.0)) c f in
-    and_from (nat_le from c.sector.0) (sectors_ascend (c.sector.0 + 1) (changes edits old new sorted)) (of_le from c.sector.0 (let l = h.0 in omega arith))
+    and_from (nat_le from c.sector.0) (sectors_ascend (c.sector.0 + 1) (changes edits old new sorted)) (le-leb from c.sector.0 (let l = h.0 in omega arith))
     (ap (λ (n : ℕ). sectors_ascend (n + 1) (changes edits old new sorted)) here ∙ ascend_changes edits old new sorted (k.0 + 1) asc.1 (above_keys k.0 sorted asc.0)))) refl
 
 module _ (most segments : ℕ) (sectors : Sectors) (edits : List Edit) (h : IsReady most segments sectors edits) where
@@ -156,5 +156,5 @@ records_fit most segments sectors edits h some few short =
     let rise = ascend_changes edits sectors new sorted 0 (named_ascend [] (filter_map metadata_sector edits) none) (anywhere sorted) in
     and_from (nat_le 1 (length cs) && nat_le (length cs) 32 && list_all is_change cs && sectors_ascend 0 cs) (nat_le (length (record_bytes cs)) 4096)
     (and_from (nat_le 1 (length cs) && nat_le (length cs) 32 && list_all is_change cs) (sectors_ascend 0 cs)
-    (and_from (nat_le 1 (length cs) && nat_le (length cs) 32) (list_all is_change cs) (and_from (nat_le 1 (length cs)) (nat_le (length cs) 32) (of_le 1 (length cs) some) (of_le (length cs) 32 few)) good) rise)
-    (of_le (length (record_bytes cs)) 4096 short)
+    (and_from (nat_le 1 (length cs) && nat_le (length cs) 32) (list_all is_change cs) (and_from (nat_le 1 (length cs)) (nat_le (length cs) 32) (le-leb 1 (length cs) some) (le-leb (length cs) 32 few)) good) rise)
+    (le-leb (length (record_bytes cs)) 4096 short)

@@ -2,9 +2,8 @@
 use Rattle.std.proofs.Common.{◌≡◌, ◌≢◌, ℕ, ◌*◌, ◌/◌, ◌%◌, ◌^◌, ◌<◌, ◌≤◌, Bool, true, false, ◌&&◌, ◌==◌, nat_lt, if◌then◌else◌, Option, Some, is_some, List, length, refl, sym, ap, ◌∙◌, inl, inr, arith, bit_and, bit_or, w64}
 use Rattle.std.specs.Int.{bit_not}
 use Rattle.std.proofs.Math.ListN.{length-set}
-use Rattle.std.proofs.lemmas.Bool.{cases_eq}
+use Rattle.std.proofs.lemmas.Bool.{cases_eq, ltb-true, ne_eqb, eq-eqb, lt-ltb}
 use Rattle.std.proofs.lemmas.Nat.{or_lt, pow_below, and_le_l}
-use Rattle.frang_base.proofs.Basics.{of_lt, of_eq, of_ne}
 use Rattle.frang_base.specs.declared.bitmap.Bitmap.{Bitmap}
 use Rattle.frang_base.specs.Functions.{put}
 use Rattle.disk_definitions.specs.declared.region.Region.TheVariants as region
@@ -20,7 +19,7 @@ use Rattle.disk_definitions.specs.Store.Use.{Fresh, Bytes, Empty, Entries}
 use Rattle.disk_definitions.specs.Written.{state_of}
 use Rattle.plan_fit.specs.Says.{SegmentsSay}
 use Rattle.plan_fit.proofs.Grammar.{IsStorableBitmap, bitmap_storable, bitmap_is}
-use Rattle.plan_fit.proofs.Kept.{if_same, and_same, is_less}
+use Rattle.plan_fit.proofs.Kept.{if_same, and_same}
 
 -- a bitmap that was changed and written reads back
 pub changed_back : (block : List ℕ) (x : Bitmap) (f : Bitmap → Bitmap) → bitmap_in block ≡ Some x → ((y : Bitmap) → IsStorableBitmap y → IsStorableBitmap (f y)) → bitmap_in (bitmap_bytes (f (bitmap_fields block))) ≡ Some (f x)
@@ -74,13 +73,13 @@ pub record ChangesTo (q : ℕ) (y : Bitmap) (bit : ℕ → Bool) (use_of : ℕ �
 -- what the old bitmap says
 module _ (segments : ℕ) (a b : Sectors) (q : ℕ) (x y : Bitmap) (bit : ℕ → Bool) (use_of : ℕ → Use) (large_bit : ℕ → Bool) (c : OneChanged segments a b q x y) (h : SegmentsSay segments a bit use_of large_bit) where
   pub old_bit : (i : ℕ) → i / 64 ≡ q → inode_bit x (i % 64) ≡ bit i
-  old_bit i e = sym (ap (λ (t : Bool). t && bit_in (segment_at a (i / 64)) (i % 64)) (of_lt i (64 * segments) (let l = c.within in omega arith)) ∙ ap (λ (o : Option Bitmap). bit_in o (i % 64)) (ap (segment_at a) e ∙ c.was)) ∙ h.bits i
+  old_bit i e = sym (ap (λ (t : Bool). t && bit_in (segment_at a (i / 64)) (i % 64)) (lt-ltb i (64 * segments) (let l = c.within in omega arith)) ∙ ap (λ (o : Option Bitmap). bit_in o (i % 64)) (ap (segment_at a) e ∙ c.was)) ∙ h.bits i
 
   pub old_use : (k : ℕ) → k / 1024 ≡ q → use_by (block_state x (k % 1024)) ≡ use_of k
-  old_use k e = sym (ap (λ (t : Bool). if t then use_in (segment_at a (k / 1024)) (k % 1024) else Fresh) (of_lt k (1024 * segments) (let l = c.within in omega arith)) ∙ ap (λ (o : Option Bitmap). use_in o (k % 1024)) (ap (segment_at a) e ∙ c.was)) ∙ h.uses k
+  old_use k e = sym (ap (λ (t : Bool). if t then use_in (segment_at a (k / 1024)) (k % 1024) else Fresh) (lt-ltb k (1024 * segments) (let l = c.within in omega arith)) ∙ ap (λ (o : Option Bitmap). use_in o (k % 1024)) (ap (segment_at a) e ∙ c.was)) ∙ h.uses k
 
   pub old_large : x.large ≡ large_bit q
-  old_large = sym (ap (λ (t : Bool). t && large_in (segment_at a q)) (of_lt q segments c.within) ∙ ap large_in c.was) ∙ h.large_bits q
+  old_large = sym (ap (λ (t : Bool). t && large_in (segment_at a q)) (lt-ltb q segments c.within) ∙ ap large_in c.was) ∙ h.large_bits q
 
   pub one_changed : (bit' : ℕ → Bool) (use' : ℕ → Use) (large' : ℕ → Bool) → ChangesTo q y bit use_of large_bit bit' use' large' → SegmentsSay segments b bit' use' large'
   one_changed bit' use' large' to = record { grammar = grammar; bits = bits; uses = uses; large_bits = larges }
@@ -93,22 +92,22 @@ module _ (segments : ℕ) (a b : Sectors) (q : ℕ) (x y : Bitmap) (bit : ℕ �
 
       bits : (i : ℕ) → (store_of segments b).bit i ≡ bit' i
       bits i = elim (cases_eq (i / 64) q) [
-        | inl e ↦ ap (λ (t : Bool). t && bit_in (segment_at b (i / 64)) (i % 64)) (of_lt i (64 * segments) (let l = c.within in omega arith)) ∙ ap (λ (o : Option Bitmap). bit_in o (i % 64)) (ap (segment_at b) e ∙ c.is) ∙ to.bits i e
+        | inl e ↦ ap (λ (t : Bool). t && bit_in (segment_at b (i / 64)) (i % 64)) (lt-ltb i (64 * segments) (let l = c.within in omega arith)) ∙ ap (λ (o : Option Bitmap). bit_in o (i % 64)) (ap (segment_at b) e ∙ c.is) ∙ to.bits i e
         | inr d ↦ and_same (nat_lt i (64 * segments)) (bit_in (segment_at b (i / 64)) (i % 64)) (bit_in (segment_at a (i / 64)) (i % 64))
-            (λ t. let l = is_less i (64 * segments) t in ap (λ (z : List ℕ). bit_in (bitmap_in z) (i % 64)) (c.others (i / 64) (omega arith) d)) ∙ h.bits i ∙ sym (to.other_bits i d)
+            (λ t. let l = ltb-true i (64 * segments) t in ap (λ (z : List ℕ). bit_in (bitmap_in z) (i % 64)) (c.others (i / 64) (omega arith) d)) ∙ h.bits i ∙ sym (to.other_bits i d)
       ]
 
       uses : (k : ℕ) → (store_of segments b).use_of k ≡ use' k
       uses k = elim (cases_eq (k / 1024) q) [
-        | inl e ↦ ap (λ (t : Bool). if t then use_in (segment_at b (k / 1024)) (k % 1024) else Fresh) (of_lt k (1024 * segments) (let l = c.within in omega arith)) ∙ ap (λ (o : Option Bitmap). use_in o (k % 1024)) (ap (segment_at b) e ∙ c.is) ∙ to.uses k e
+        | inl e ↦ ap (λ (t : Bool). if t then use_in (segment_at b (k / 1024)) (k % 1024) else Fresh) (lt-ltb k (1024 * segments) (let l = c.within in omega arith)) ∙ ap (λ (o : Option Bitmap). use_in o (k % 1024)) (ap (segment_at b) e ∙ c.is) ∙ to.uses k e
         | inr d ↦ if_same (nat_lt k (1024 * segments)) (use_in (segment_at b (k / 1024)) (k % 1024)) (use_in (segment_at a (k / 1024)) (k % 1024)) Fresh
-            (λ t. let l = is_less k (1024 * segments) t in ap (λ (z : List ℕ). use_in (bitmap_in z) (k % 1024)) (c.others (k / 1024) (omega arith) d)) ∙ h.uses k ∙ sym (to.other_uses k d)
+            (λ t. let l = ltb-true k (1024 * segments) t in ap (λ (z : List ℕ). use_in (bitmap_in z) (k % 1024)) (c.others (k / 1024) (omega arith) d)) ∙ h.uses k ∙ sym (to.other_uses k d)
       ]
 
       larges : (g : ℕ) → (store_of segments b).large_bit g ≡ large' g
       larges g = elim (cases_eq g q) [
-        | inl e ↦ ap (λ (t : Bool). t && large_in (segment_at b g)) (of_lt g segments (let l = c.within in omega arith)) ∙ ap (λ (z : ℕ). large_in (segment_at b z)) e ∙ ap large_in c.is ∙ to.large ∙ ap large' (sym e)
-        | inr d ↦ and_same (nat_lt g segments) (large_in (segment_at b g)) (large_in (segment_at a g)) (λ t. ap (λ (z : List ℕ). large_in (bitmap_in z)) (c.others g (is_less g segments t) d)) ∙ h.large_bits g ∙ sym (to.other_large g d)
+        | inl e ↦ ap (λ (t : Bool). t && large_in (segment_at b g)) (lt-ltb g segments (let l = c.within in omega arith)) ∙ ap (λ (z : ℕ). large_in (segment_at b z)) e ∙ ap large_in c.is ∙ to.large ∙ ap large' (sym e)
+        | inr d ↦ and_same (nat_lt g segments) (large_in (segment_at b g)) (large_in (segment_at a g)) (λ t. ap (λ (z : List ℕ). large_in (bitmap_in z)) (c.others g (ltb-true g segments t) d)) ∙ h.large_bits g ∙ sym (to.other_large g d)
       ]
 
 -- a bit is set
@@ -129,8 +128,8 @@ bit_set segments a b i used x bit use_of large_bit c h =
   where
     same_test : (j i : ℕ) → j / 64 ≡ i / 64 → (j == i) ≡ (j % 64 == i % 64)
     same_test j i e = elim (cases_eq j i) [
-      | inl q ↦ of_eq j i q ∙ sym (of_eq (j % 64) (i % 64) (ap (λ (n : ℕ). n % 64) q))
-      | inr d ↦ of_ne j i d ∙ sym (of_ne (j % 64) (i % 64) (λ q. d (omega arith)))
+      | inl q ↦ eq-eqb j i q ∙ sym (eq-eqb (j % 64) (i % 64) (ap (λ (n : ℕ). n % 64) q))
+      | inr d ↦ ne_eqb j i d ∙ sym (ne_eqb (j % 64) (i % 64) (λ q. d (omega arith)))
     ]
 
 -- a small block gets another use
@@ -151,8 +150,8 @@ use_set segments a b i u x bit use_of large_bit c long h =
   where
     same_test : (j i : ℕ) → j / 1024 ≡ i / 1024 → (j == i) ≡ (j % 1024 == i % 1024)
     same_test j i e = elim (cases_eq j i) [
-      | inl q ↦ of_eq j i q ∙ sym (of_eq (j % 1024) (i % 1024) (ap (λ (n : ℕ). n % 1024) q))
-      | inr d ↦ of_ne j i d ∙ sym (of_ne (j % 1024) (i % 1024) (λ q. d (omega arith)))
+      | inl q ↦ eq-eqb j i q ∙ sym (eq-eqb (j % 1024) (i % 1024) (ap (λ (n : ℕ). n % 1024) q))
+      | inr d ↦ ne_eqb j i d ∙ sym (ne_eqb (j % 1024) (i % 1024) (λ q. d (omega arith)))
     ]
 
     over : (s t : Bool) (m n : ℕ) → s ≡ t → (if s then use_by m else use_by n) ≡ use_by (if t then m else n)

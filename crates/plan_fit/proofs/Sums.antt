@@ -3,9 +3,8 @@ use Rattle.std.proofs.Common.{◌≡◌, ◌≢◌, ℕ, ◌+◌, ◌≤◌, Boo
 use Rattle.std.specs.List.Sorted.{IsStrictlySortedBy}
 use Rattle.std.specs.Ordering.{nat_cmp}
 use Rattle.std.specs.declared.cmp.Ordering.TheVariants.{Less}
-use Rattle.std.proofs.lemmas.Bool.{cases_eq}
+use Rattle.std.proofs.lemmas.Bool.{cases_eq, ne_eqb, eq-eqb}
 use Rattle.std.proofs.lemmas.Bool.Decides.{nat_tests}
-use Rattle.frang_base.proofs.Basics.{of_eq, of_ne}
 use Rattle.sector_bytes.specs.SectorMaps.{Ascend}
 use Rattle.sector_bytes.proofs.MapLaws.{AllAbove}
 use Rattle.disk_definitions.specs.Edits.{Edit}
@@ -34,7 +33,7 @@ apart a b e = grind (arith, nat_tests)
 
 none_above : (q p : ℕ) (ks : List (ℕ × ℕ)) → AllAbove q ks → total (at_one q p) ks ≡ 0
 none_above q p [] all = refl
-none_above q p (k ∷ ks) all = let e = none_above q p ks all.1 in let f : at_one q p k.0 ≡ 0 = ap (λ (t : Bool). if t then p else 0) (of_ne k.0 q (apart q k.0 all.0)) in omega arith
+none_above q p (k ∷ ks) all = let e = none_above q p ks all.1 in let f : at_one q p k.0 ≡ 0 = ap (λ (t : Bool). if t then p else 0) (ne_eqb k.0 q (apart q k.0 all.0)) in omega arith
 
 -- of sectors that ascend one at most is it
 once : (q p : ℕ) (ks : List (ℕ × ℕ)) → Ascend ks → total (at_one q p) ks ≤ p
@@ -44,11 +43,11 @@ once q p (k ∷ ks) asc = elim (cases_eq k.0 q) [
   | inl e ↦
       let a : AllAbove q ks = subst (λ (z : ℕ). AllAbove z ks) e asc.0 in
       let b = none_above q p ks a in
-      let c : at_one q p k.0 ≡ p = ap (λ (t : Bool). if t then p else 0) (of_eq k.0 q e) in
+      let c : at_one q p k.0 ≡ p = ap (λ (t : Bool). if t then p else 0) (eq-eqb k.0 q e) in
       omega arith
   | inr d ↦
       let b = once q p ks asc.1 in
-      let c : at_one q p k.0 ≡ 0 = ap (λ (t : Bool). if t then p else 0) (of_ne k.0 q d) in
+      let c : at_one q p k.0 ≡ 0 = ap (λ (t : Bool). if t then p else 0) (ne_eqb k.0 q d) in
       omega arith
 ]
 

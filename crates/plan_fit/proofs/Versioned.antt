@@ -1,5 +1,5 @@
 -- A versioned sector with its change is the new one with the old version or the next.
-use Rattle.std.proofs.Common.{◌≡◌, ℕ, ◌+◌, ◌*◌, ◌^◌, ◌<◌, ◌≤◌, Bool, Some, List, [], ◌∷◌, ◌++◌, length, take, drop, refl, sym, ap, ◌∙◌, arith, length-append}
+use Rattle.std.proofs.Common.{◌≡◌, ℕ, ◌+◌, ◌^◌, ◌<◌, ◌≤◌, Bool, Some, List, [], ◌∷◌, ◌++◌, length, take, drop, refl, sym, ap, ◌∙◌, arith, length-append}
 use Rattle.std.specs.List.{flat_map}
 use Rattle.std.proofs.lemmas.List.{drop_at, length-take-le}
 use Rattle.byteorder.specs.Endian.{little_bytes}
@@ -7,7 +7,6 @@ use Rattle.sector_bytes.specs.Blocks.{patched}
 use Rattle.frang_base.specs.declared.bitmap.Bitmap.{Bitmap}
 use Rattle.frang_base.specs.declared.change.Patch.{Patch}
 use Rattle.sector_bytes.specs.Changes.{changed}
-use Rattle.disk_definitions.specs.declared.directory.DirEntry.{DirEntry}
 use Rattle.disk_definitions.specs.declared.directory.DirSector.{DirSector}
 use Rattle.disk_definitions.specs.declared.inode.Inode.{Inode}
 use Rattle.sector_bytes.specs.Bytes.{number_at, zeros}
@@ -18,7 +17,7 @@ use Rattle.sector_bytes.specs.Patches.{patches_with}
 use Rattle.disk_definitions.proofs.WrittenFields.{length_zeros}
 use Rattle.sector_bytes.proofs.PatchLaws.{forced_patches_laid, no_forced_patches, spelled_version}
 use Rattle.disk_definitions.proofs.BitmapLaws.{bitmap_read}
-use Rattle.disk_definitions.proofs.DirectoryLaws.{AreStorable, directory_read}
+use Rattle.disk_definitions.proofs.DirectoryLaws.{directory_read, length_entries}
 use Rattle.disk_definitions.proofs.InodeLaws.{inode_read}
 use Rattle.disk_definitions.specs.Written.{change_by}
 use Rattle.plan_fit.proofs.Grammar.{versioned, version_back, bitmap_storable, directory_storable, inode_version}
@@ -48,13 +47,6 @@ length_bitmap block x h =
     let states : length x.states ≡ 256 = s.states in
     let long : length (bitmap_bytes x) ≡ 512 = omega (arith, length-append x.states tail, length_zeros 239) in
     ap length (bitmap_read block x h) ∙ long
-
-length_entries : (es : List DirEntry) → AreStorable es → length (flat_map entry_bytes es) ≡ 72 * length es
-length_entries [] h = refl
-length_entries (e ∷ es) h =
-    let name : length e.name ≡ 64 = h.0.name in
-    let one : length (entry_bytes e) ≡ 72 = omega (arith, length-append e.name (0 ∷ 0 ∷ [])) in
-    length-append (entry_bytes e) (flat_map entry_bytes es) ∙ omega (arith, length_entries es h.1)
 
 pub length_directory : (block : List ℕ) (x : DirSector) → directory_in block ≡ Some x → length block ≡ 512
 length_directory block x h =

@@ -1,6 +1,6 @@
 -- As many blocks pass a test as the nodes of a list have, where blocks of nodes and such blocks lead to each other.
 use Rattle.std.proofs.Common.{ℕ, zero, suc, ◌≡◌, ◌≢◌, ◌<◌, ◌+◌, ⊎_elim, Bool, true, false, Option, Some, None, List, [], ◌∷◌, refl, sym, ◌∙◌, ap, subst, arith, is_some}
-use Rattle.std.proofs.lemmas.Bool.{cases_eq}
+use Rattle.std.proofs.lemmas.Bool.{cases_eq, false_from_ne_true}
 use Rattle.std.proofs.lemmas.List.Sums.{sum_by-cons}
 use Rattle.std.specs.Map.{lookup, keys_of, values_of}
 use Rattle.std.specs.List.{sum_by}
@@ -13,7 +13,7 @@ use Rattle.frang_base.proofs.Basics.{by_test, at_put, put_same, put_other}
 use Rattle.tree_laws.proofs.Pairs.{birth_exact, tie, self}
 use Rattle.disk_definitions.specs.Least.{count}
 use Rattle.disk_definitions.proofs.PickCounts.{count_none, count_less_one}
-use Rattle.plan_laws.proofs.Counting.{false_if, rest_sorted, not_head}
+use Rattle.plan_laws.proofs.Counting.{rest_sorted, not_head}
 
 -- f with the first so many blocks failing
 abbrev without : (ℕ → ℕ) → ℕ → (ℕ → Bool) → ℕ → Bool
@@ -111,7 +111,7 @@ module _ (block : ℕ → ℕ → ℕ) (blocks : Node → ℕ) (owner : ℕ → 
         second_of v w a = let u : v ≡ w = cc in ap (λ z. z.1) u
 
   pub count_blocks : (es : List (ℕ × Node)) (f : ℕ → Bool) → IsStrictlySortedBy nat_cmp (keys_of es) → AreBlocks es f → count f n ≡ sum_by blocks (values_of es)
-  count_blocks [] f sorted are = count_none f n (λ q l. false_if (f q) (λ e. let r = are.onto q l e in let z : None ≡ Some r.node = r.is in cc))
+  count_blocks [] f sorted are = count_none f n (λ q l. false_from_ne_true (f q) (λ e. let r = are.onto q l e in let z : None ≡ Some r.node = r.is in cc))
   count_blocks (e ∷ es) f sorted are =
       let a : count f n ≡ count (without (block e.0) (blocks e.1) f) n + blocks e.1 = first_gone e es f sorted are in
       let b : count (without (block e.0) (blocks e.1) f) n ≡ sum_by blocks (values_of es) = count_blocks es (without (block e.0) (blocks e.1) f) (rest_sorted nat_cmp e es sorted) (others e es f sorted are) in

@@ -2,7 +2,7 @@
 use Rattle.std.proofs.Common.{ℕ, zero, suc, ◌≡◌, ◌<◌, ◌+◌, ◌-◌, ◌||◌, Bool, true, false, ◌==◌, if◌then◌else◌, Option, Some, None, List, [], ◌∷◌, ◌++◌, map, refl, sym, ◌∙◌, ap, subst, arith, nat_eq}
 use Rattle.std.specs.Option.{option_or}
 use Rattle.std.proofs.lemmas.Bool.Decides.{nat_tests}
-use Rattle.frang_base.proofs.Basics.{eq_of, of_eq}
+use Rattle.std.proofs.lemmas.Bool.{eq-eqb, eqb-true}
 use Rattle.disk_definitions.specs.Store.{Store, StoredNode, StoredEntry, Use}
 use Rattle.disk_definitions.specs.Store.Use.{Entries}
 use Rattle.disk_definitions.specs.Edits.{Edit, edited, edited_all}
@@ -25,7 +25,7 @@ taker_first : (i k : ℕ) (o : Option StoredNode) (d : Bool) (es : List Edit) (y
 taker_first i k o d es y e f = rw e (rw f refl)
 
 large_taker_first : (i g : ℕ) (o : Option StoredNode) (d : Bool) (es : List Edit) (y : StoredNode) → o ≡ Some y → y.large ≡ g + 1 → first_said (large_taker_said g) (SetInode i o d ∷ es) ≡ Some i
-large_taker_first i g o d es y e f = rw e (rw (of_eq y.large (g + 1) f) refl)
+large_taker_first i g o d es y e f = rw e (rw (eq-eqb y.large (g + 1) f) refl)
 
 written : (i : ℕ) (o : Option StoredNode) (d : Bool) (es : List Edit) → Writes (SetInode i o d ∷ es) i
 written i o d es = (o, d, has_head (SetInode i o d) es)
@@ -84,7 +84,7 @@ bit_changes i o c u v s = record {
 
 -- ---- with blocks
 
-set_or : {X : Type 0} (b c : Bool) (u old : X) → (if c then u else (if b then u else old)) ≡ (if b || c then u else old)
+pub set_or : {X : Type 0} (b c : Bool) (u old : X) → (if c then u else (if b then u else old)) ≡ (if b || c then u else old)
 set_or true true u old = refl
 set_or true false u old = refl
 set_or false c u old = refl
@@ -179,14 +179,14 @@ among_down small (suc m) k j l e = go (nat_eq k (small m)) refl (λ l. among_dow
 
     go : (b : Bool) → nat_eq k (small m) ≡ b → (j < m → is_among k (blocks_down small m) ≡ true) → (b || is_among k (blocks_down small m)) ≡ true
     go true q rest = refl
-    go false q rest = rest (below_it (λ i. (let z : nat_eq k (small m) ≡ true = of_eq k (small m) (sym e ∙ ap small i) in cc)))
+    go false q rest = rest (below_it (λ i. (let z : nat_eq k (small m) ≡ true = eq-eqb k (small m) (sym e ∙ ap small i) in cc)))
 
 pub down_among : (small : ℕ → ℕ) (m k : ℕ) → is_among k (blocks_down small m) ≡ true → (j : ℕ) × (j < m) × (small j ≡ k)
 down_among small zero k e = absurd (cc)
 down_among small (suc m) k e = go (nat_eq k (small m)) refl e (down_among small m k)
   where
     go : (b : Bool) → nat_eq k (small m) ≡ b → (b || is_among k (blocks_down small m)) ≡ true → (is_among k (blocks_down small m) ≡ true → (j : ℕ) × (j < m) × (small j ≡ k)) → (j : ℕ) × (j < suc m) × (small j ≡ k)
-    go true q h rest = (m, omega arith, sym (eq_of k (small m) q))
+    go true q h rest = (m, omega arith, sym (eqb-true k (small m) q))
     go false q h rest = let r = rest h in let l : r.0 < m = r.1 in (r.0, omega arith, r.2)
 
 pub among_large : (large g : ℕ) → large ≡ g + 1 → is_among g (large_list large) ≡ true

@@ -4,6 +4,7 @@ use Rattle.std.specs.declared.cmp.Ordering.{Ordering}
 use Rattle.std.specs.Map.{lookup, keys_of}
 use Rattle.std.specs.BTreeMap.{is_at}
 use Rattle.std.specs.List.Sorted.{IsStrictlySortedBy}
+use Rattle.std.proofs.lemmas.Bool.{false_from_ne_true}
 use Rattle.frang_base.specs.Functions.{put}
 use Rattle.frang_base.proofs.Basics.{by_test, at_put, put_same, put_other}
 use Rattle.tree_laws.proofs.Pairs.{IsExact, tie, self, none_below}
@@ -34,10 +35,6 @@ count_less f n q l e =
     let m : count (put f q true) n ≡ count f n + 1 = count_less_one (put f q true) f n q l (put_same f q true) e (λ p k d. sym (put_other f q true p d)) in
     let k : count (put f q true) n ≤ n = count_most (put f q true) n in omega arith
 
-pub false_if : (b : Bool) → (b ≡ true → ⊥) → b ≡ false
-false_if true f = absurd (f refl)
-false_if false f = refl
-
 pub rest_sorted : {K X : Type 0} (cmp : K → K → Ordering) (e : K × X) (es : List (K × X)) → IsStrictlySortedBy cmp (keys_of (e ∷ es)) → IsStrictlySortedBy cmp (keys_of es)
 unfolding IsStrictlySortedBy
 rest_sorted cmp e es sorted = sorted.1
@@ -59,7 +56,7 @@ module _ {K X : Type 0} (cmp : K → K → Ordering) (exact : IsExact cmp) (spot
 
   pub count_keys : (es : List (K × X)) (f : ℕ → Bool) → IsStrictlySortedBy cmp (keys_of es) → ((k : K) → has es k ≡ true → (spot k < n) × (f (spot k) ≡ true)) →
       ((k l : K) → has es k ≡ true → has es l ≡ true → spot k ≡ spot l → k ≡ l) → ((q : ℕ) → q < n → f q ≡ true → (k : K) × (has es k ≡ true) × (spot k ≡ q)) → count f n ≡ length es
-  count_keys [] f sorted into one onto = count_none f n (λ q l. false_if (f q) (λ e. let r = onto q l e in let z : false ≡ true = r.1 in cc))
+  count_keys [] f sorted into one onto = count_none f n (λ q l. false_from_ne_true (f q) (λ e. let r = onto q l e in let z : false ≡ true = r.1 in cc))
   count_keys (e ∷ es) f sorted into one onto =
       let h = into e.0 (has_head e es) in
       let other : (k : K) → has es k ≡ true → (has (e ∷ es) k ≡ true) × (spot k ≢ spot e.0) = λ k p.

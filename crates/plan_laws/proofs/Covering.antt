@@ -1,5 +1,5 @@
 -- What plans are made of is covered by their locks: edits, refusals, walks and rooms.
-use Rattle.std.proofs.Common.{ℕ, zero, suc, ◌≡◌, ◌<◌, ◌/◌, ◌⊎◌, inl, inr, ⊎_elim, Bool, true, false, if◌then◌else◌, List, [], ◌∷◌, ◌++◌, length, map, slice_index_or, refl, sym, ◌∙◌, ap, subst, arith, is_some}
+use Rattle.std.proofs.Common.{ℕ, zero, suc, ◌≡◌, ◌<◌, ◌/◌, ◌⊎◌, inl, inr, ⊎_elim, Bool, true, false, if◌then◌else◌, List, [], ◌∷◌, ◌++◌, length, map, filter, flat_map, slice_index_or, refl, sym, ◌∙◌, ap, subst, arith, is_some}
 use Rattle.std.proofs.lemmas.Bool.{cases_eq}
 use Rattle.std.proofs.lemmas.List.Elements.{Contains-append_left, Contains-append_right}
 use Rattle.std.specs.List.{AllByRecursion, Contains}
@@ -43,6 +43,30 @@ has_cases x y xs h = go h.0 h.1 h.2
     go : (k : ℕ) → k < length (x ∷ xs) → slice_index_or (x ∷ xs) k y ≡ y → (x ≡ y) ⊎ Contains xs y
     go zero l e = inl e
     go (suc k) l e = inr (k, omega arith, e)
+
+pub all_has : {X : Type 0} (P : X → Type 0) (xs : List X) → AllByRecursion P xs → (x : X) → Contains xs x → P x
+all_has P [] a x c = absurd (not_in_none x c)
+all_has P (y ∷ xs) a x c = ⊎_elim (λ e. subst P e a.0) (λ d. all_has P xs a.1 x d) (has_cases y x xs c)
+
+pub all_from : {X : Type 0} (P : X → Type 0) (xs : List X) → ((x : X) → Contains xs x → P x) → AllByRecursion P xs
+all_from P [] f = tt
+all_from P (x ∷ xs) f = (f x (has_head x xs), all_from P xs (λ y c. f y (has_more x y xs c)))
+
+pub flat_has : {X Y : Type 0} (f : X → List Y) (xs : List X) (x : X) (y : Y) → Contains xs x → Contains (f x) y → Contains (flat_map f xs) y
+flat_has f [] x y c d = absurd (not_in_none x c)
+flat_has f (z ∷ xs) x y c d =
+    ⊎_elim
+    (λ same. Contains-append_left (f z) (flat_map f xs) y (subst (λ w. Contains (f w) y) (sym same) d))
+    (λ more. Contains-append_right (f z) (flat_map f xs) y (flat_has f xs x y more d))
+    (has_cases z x xs c)
+
+pub filter_has : (test : ℕ → Bool) (xs : List ℕ) (x : ℕ) → Contains xs x → test x ≡ true → Contains (filter test xs) x
+filter_has test [] x c t = absurd (not_in_none x c)
+filter_has test (z ∷ xs) x c t = go (test z) refl (has_cases z x xs c) (λ m. filter_has test xs x m t)
+  where
+    go : (b : Bool) → test z ≡ b → (z ≡ x) ⊎ Contains xs x → (Contains xs x → Contains (filter test xs) x) → Contains (if b then z ∷ filter test xs else filter test xs) x
+    go true q c rest = ⊎_elim (λ same. subst (λ w. Contains (z ∷ filter test xs) w) same (has_head z (filter test xs))) (λ m. has_more z x (filter test xs) (rest m)) c
+    go false q c rest = ⊎_elim (λ same. absurd (let v : true ≡ false = sym t ∙ ap test (sym same) ∙ q in cc)) rest c
 
 pub map_has : {X Y : Type 0} (f : X → Y) (xs : List X) (x : X) → Contains xs x → Contains (map f xs) (f x)
 map_has f [] x h = absurd (not_in_none x h)

@@ -1,10 +1,9 @@
 -- The edits of the plans of truncate, write and fill are sound, over the disk of a tree.
 use Rattle.std.proofs.Common.{ℕ, zero, suc, ◌≡◌, ◌<◌, ◌≤◌, ◌+◌, ◌-◌, ◌/◌, ◌%◌, ◌==◌, ◌&&◌, not, ⊎_elim, Bool, true, false, nat_lt, nat_le, nat_eq, max, if◌then◌else◌, Option, Some, None, List, [], ◌∷◌, ◌++◌, length, map, slice_index, refl, sym, ◌∙◌, ap, subst, arith, append_assoc}
 use Rattle.std.specs.Map.{keys_of}
-use Rattle.std.proofs.lemmas.Bool.{cases_lt}
+use Rattle.std.proofs.lemmas.Bool.{cases_lt, and_parts, lt-ltb}
 use Rattle.std.proofs.lemmas.Bool.Decides.{nat_tests}
 use Rattle.frang_base.specs.declared.reply.Reply.TheVariants as reply
-use Rattle.frang_base.proofs.Basics.{of_lt}
 use Rattle.tree_definitions.specs.declared.node.Node.{Node}
 use Rattle.tree_definitions.specs.declared.node.Node.TheVariants.{Dir, File, Link}
 use Rattle.tree_definitions.specs.Tree.{FileTree, node_at, small_blocks_of}
@@ -136,7 +135,7 @@ module _ (h : Hand) (s : Store) (tree : FileTree) (n : Naming) (of : IsOfTree s 
     below_cut j l f = ⊎_elim (λ lo. lo) (λ hi. absurd (let z : is_among (x.small j) gone ≡ true = gone_has j hi l in cc)) (cases_lt j from)
 
     cut_small : (j : ℕ) → j < x.blocks → j < from → cut.small j ≡ x.small j
-    cut_small j l m = rw (of_lt j from m, of_lt j x.blocks l) refl
+    cut_small j l m = rw (lt-ltb j from m, lt-ltb j x.blocks l) refl
 
     kept_large : (k : ℕ) → x.large ≡ k + 1 → is_among k (large_cut x len) ≡ false → cut.large ≡ k + 1
     kept_large k e f = go (nat_le len 65536) refl
@@ -213,19 +212,19 @@ module _ (h : Hand) (s : Store) (tree : FileTree) (n : Naming) (of : IsOfTree s 
       longer = let e : x.blocks ≡ small_blocks_of x.size = file.blocks in omega arith
 
       old_block : (j : ℕ) → j < x.blocks → y.small j ≡ x.small j
-      old_block j l = rw (of_lt j (small_blocks_of size) (omega (arith, longer)), of_lt j x.blocks l) refl
+      old_block j l = rw (lt-ltb j (small_blocks_of size) (omega (arith, longer)), lt-ltb j x.blocks l) refl
 
       new_block : (m : ℕ) → m < more → y.small (x.blocks + m) ≡ slice_index picks m
       new_block m l =
           let past : nat_lt (x.blocks + m) x.blocks ≡ false = grind (arith, nat_tests) in
           let back : x.blocks + m - x.blocks ≡ m = omega arith in
-          rw (of_lt (x.blocks + m) (small_blocks_of size) (omega arith), past) (ap (slice_index picks) back)
+          rw (lt-ltb (x.blocks + m) (small_blocks_of size) (omega arith), past) (ap (slice_index picks) back)
 
       old_large : (k : ℕ) → x.large ≡ k + 1 → y.large ≡ k + 1
       old_large k e = by_taken o takes
         where
           by_taken : (o : Option ℕ) → Takes o → (resized x w.when size picks o).large ≡ k + 1
-          by_taken None t = let l : 65536 < x.size = long k e in rw (of_lt 65536 size (omega arith)) e
+          by_taken None t = let l : 65536 < x.size = long k e in rw (lt-ltb 65536 size (omega arith)) e
           by_taken (Some c) t = absurd (let z : x.large ≡ 0 = t.1 in omega arith)
 
       new_large : (k : ℕ) → is_among k (large_segment o) ≡ true → y.large ≡ k + 1
@@ -233,7 +232,7 @@ module _ (h : Hand) (s : Store) (tree : FileTree) (n : Naming) (of : IsOfTree s 
         where
           by_taken : (o : Option ℕ) → Takes o → is_among k (large_segment o) ≡ true → (resized x w.when size picks o).large ≡ k + 1
           by_taken None t e = absurd (cc)
-          by_taken (Some c) t e = let l : 65536 < end_of w = t.0 in rw (of_lt 65536 size (omega arith)) (ap (λ z. z + 1) (sym (one_of k c e)))
+          by_taken (Some c) t e = let l : 65536 < end_of w = t.0 in rw (lt-ltb 65536 size (omega arith)) (ap (λ z. z + 1) (sym (one_of k c e)))
 
       free_large : (j k : ℕ) → is_among k (large_segment o) ≡ true → HasLarge s j k → j ≡ i
       free_large j k = by_taken o takes
@@ -291,10 +290,6 @@ module _ (h : Hand) (s : Store) (tree : FileTree) (n : Naming) (of : IsOfTree s 
     large_sound None e l z = none_ends h s at n g disk reply.NoLarge touched
     large_sound (Some k) e l z = small_sound (Some k) (l, z, no_large_owner s at n g k (large_some h s tree n of hand k e).0)
 
-    both : (a b : Bool) → (a && b) ≡ true → (a ≡ true) × (b ≡ true)
-    both true b e = (refl, e)
-    both false b e = absurd (cc)
-
     pub writing_sound : Ends s (writing h w i touched x)
     writing_sound = go (nat_lt x.size w.off) (nat_lt 1114112 (end_of w)) (nat_lt 65536 (end_of w) && x.large == 0) refl
       where
@@ -303,7 +298,7 @@ module _ (h : Hand) (s : Store) (tree : FileTree) (n : Naming) (of : IsOfTree s 
         go true b c e = none_sound s
         go false true c e = none_sound s
         go false false true e =
-            let r = both (nat_lt 65536 (end_of w)) (x.large == 0) e in
+            let r = and_parts (nat_lt 65536 (end_of w)) (x.large == 0) e in
             let l : 65536 < end_of w = (let q : nat_lt 65536 (end_of w) ≡ true = r.0 in grind (arith, nat_tests)) in
             let z : x.large ≡ 0 = (let q : nat_eq x.large 0 ≡ true = r.1 in grind (arith, nat_tests)) in
             subst (IsSoundPlan s) (sym (run-segments (keys_of h.held) (writing_large h w i touched x (picked_large h.held)) s)) (large_sound (picked_large h.held) refl l z)

@@ -6,7 +6,7 @@ use Rattle.std.specs.Map.{keys_of}
 use Rattle.std.specs.Ordering.{nat_cmp, match_ordering}
 use Rattle.std.specs.declared.cmp.Ordering.{Ordering}
 use Rattle.std.specs.declared.cmp.Ordering.TheVariants.{Less, Equal, Greater}
-use Rattle.frang_base.proofs.Basics.{of_eq}
+use Rattle.std.proofs.lemmas.Bool.{eq-eqb}
 use Rattle.tree_definitions.specs.Numbers.{below}
 use Rattle.disk_definitions.specs.declared.region.Region.TheVariants as region
 use Rattle.disk_definitions.specs.Regions.{sector_of}
@@ -84,10 +84,10 @@ module _ (s t : Store) (at : Nodes) (n : Naming) (g : Pictures s at n) (es : Lis
   bytes_own (SetLarge k b) a bytes c q = absurd (cc)
 
   small_back : (k part : ℕ) → Contains es (SetUse k Fresh) → IsSole locks (cover_of n (BytesAt k part))
-  small_back k part c = let r = something_said (use_said k) es (SetUse k Fresh) Fresh c (rw (of_eq k k refl) refl) in small_before s t at n g es sound locks covered k r.0 r.1
+  small_back k part c = let r = something_said (use_said k) es (SetUse k Fresh) Fresh c (rw (eq-eqb k k refl) refl) in small_before s t at n g es sound locks covered k r.0 r.1
 
   large_back : (k part : ℕ) → Contains es (SetLarge k false) → IsSole locks (cover_of n (LargeAt k part))
-  large_back k part c = let r = something_said (large_said k) es (SetLarge k false) false c (rw (of_eq k k refl) refl) in large_before s t at n g es sound locks covered k r.0 r.1
+  large_back k part c = let r = something_said (large_said k) es (SetLarge k false) false c (rw (eq-eqb k k refl) refl) in large_before s t at n g es sound locks covered k r.0 r.1
 
   back_own : (e : Edit) (a : ℕ) → Contains es e → Contains (sectors_given_back e) a → IsOwn a
   back_own (SetUse k Fresh) a c d = let r = map_from (λ part. sector_of (region.Small k part)) (below 8) a d in (BytesAt k r.0, r.1, small_back k r.0 c)

@@ -1,12 +1,13 @@
 -- A look at all sectors of a directory gathers the entries of all its places.
-use Rattle.std.proofs.Common.{ℕ, zero, suc, ◌≡◌, ◌<◌, ◌≤◌, ◌+◌, ◌-◌, ◌*◌, ◌/◌, ◌%◌, ◌⊎◌, inl, inr, ⊎_elim, Bool, true, false, nat_lt, ◌||◌, Option, Some, None, List, [], ◌∷◌, ◌++◌, refl, sym, ◌∙◌, ap, ap₂, subst, arith}
-use Rattle.std.proofs.lemmas.Bool.{cases_eq, cases_lt, or_left, or_right}
+use Rattle.std.proofs.Common.{ℕ, zero, suc, ◌≡◌, ◌<◌, ◌≤◌, ◌+◌, ◌-◌, ◌*◌, ◌/◌, ◌%◌, ◌⊎◌, ⊎_elim, Bool, true, false, nat_lt, ◌||◌, Option, Some, None, List, [], ◌∷◌, ◌++◌, refl, sym, ◌∙◌, ap, ap₂, subst, arith}
+use Rattle.std.proofs.lemmas.Bool.{cases_eq, cases_lt, or_left, or_right, or_cases}
 use Rattle.std.proofs.lemmas.Bool.Decides.{nat_tests}
 use Rattle.std.proofs.lemmas.List.Elements.{filter_map-append}
 use Rattle.std.specs.List.{filter_map, cons_option}
 use Rattle.std.specs.Ordering.{nat_cmp}
 use Rattle.std.specs.Cmp.Lexicographic.{slice_cmp}
 use Rattle.std.specs.BTreeMap.{is_at}
+use mathlib.Core.Bool.{or_assoc}
 use Rattle.tree_definitions.specs.Numbers.{below}
 use Rattle.tree_laws.proofs.Pairs.{name_exact, tie, self}
 use Rattle.disk_definitions.specs.Store.{Store, StoredEntry}
@@ -28,17 +29,9 @@ abbrev pub has_name : List ℕ → List StoredEntry → Bool
 has_name m [] = false
 has_name m (e ∷ es) = is_at (slice_cmp nat_cmp m) e.name || has_name m es
 
-or_more : (a b c : Bool) → (a || (b || c)) ≡ ((a || b) || c)
-or_more true b c = refl
-or_more false b c = refl
-
-either_of : (a b : Bool) → (a || b) ≡ true → (a ≡ true) ⊎ (b ≡ true)
-either_of true b e = inl refl
-either_of false b e = inr e
-
 among-append : (m : List ℕ) (xs ys : List StoredEntry) → has_name m (xs ++ ys) ≡ (has_name m xs || has_name m ys)
 among-append m [] ys = refl
-among-append m (x ∷ xs) ys = ap (λ b. is_at (slice_cmp nat_cmp m) x.name || b) (among-append m xs ys) ∙ or_more (is_at (slice_cmp nat_cmp m) x.name) (has_name m xs) (has_name m ys)
+among-append m (x ∷ xs) ys = ap (λ b. is_at (slice_cmp nat_cmp m) x.name || b) (among-append m xs ys) ∙ sym (or_assoc (is_at (slice_cmp nat_cmp m) x.name) (has_name m xs) (has_name m ys))
 
 -- an entry of this name stands at a place in a range
 pub record IsPlaced (row : ℕ → Option StoredEntry) (low high : ℕ) (m : List ℕ) : Type 0 where
@@ -69,14 +62,14 @@ module _ (m : List ℕ) where
 
   last_is : (o : Option StoredEntry) → has_name m (cons_option o []) ≡ true → (e : StoredEntry) × (o ≡ Some e) × (m ≡ e.name)
   last_is None h = absurd (cc)
-  last_is (Some e) h = (e, refl, tie (slice_cmp nat_cmp) name_exact m e.name (⊎_elim (λ q. q) (λ q. absurd (cc)) (either_of (is_at (slice_cmp nat_cmp m) e.name) false h)))
+  last_is (Some e) h = (e, refl, tie (slice_cmp nat_cmp) name_exact m e.name (⊎_elim (λ q. q) (λ q. absurd (cc)) (or_cases (is_at (slice_cmp nat_cmp m) e.name) false h)))
 
   pub row_from : (row : ℕ → Option StoredEntry) (n : ℕ) → row_names row n ≡ true → IsPlaced row 0 n m
   row_from row zero h = absurd (cc)
   row_from row (suc n) h = ⊎_elim
       (λ q. let r = row_from row n q in let l : r.spot < n = r.to in record { spot = r.spot; entry = r.entry; from = r.from; to = omega arith; stands = r.stands; named = r.named })
       (λ q. let r = last_is (row n) q in record { spot = n; entry = r.0; from = omega arith; to = omega arith; stands = r.1; named = r.2 })
-      (either_of (row_names row n) (has_name m (cons_option (row n) [])) (sym (one_more row n) ∙ h))
+      (or_cases (row_names row n) (has_name m (cons_option (row n) [])) (sym (one_more row n) ∙ h))
 
   module _ (s : Store) (small : ℕ → ℕ) where
     abbrev part : ℕ → ℕ → Option StoredEntry
@@ -106,4 +99,4 @@ module _ (m : List ℕ) where
         (λ q. let r = row_from (part j) 7 q in let l : r.spot < 7 = r.to in record { spot = 7 * j + r.spot; entry = r.entry; from = omega arith; to = omega arith; stands = sym (part_is j r.spot r.to) ∙ r.stands; named = r.named })
         (λ q. let r = gathered_from n (j + 1) q in let a : 7 * (j + 1) ≤ r.spot = r.from in let b : r.spot < 7 * (j + 1 + n) = r.to in
         record { spot = r.spot; entry = r.entry; from = omega arith; to = omega arith; stands = r.stands; named = r.named })
-        (either_of (has_name m (entries_of (part j))) (has_name m (gathered s small (j + 1) n)) (sym (among-append m (entries_of (part j)) (gathered s small (j + 1) n)) ∙ h))
+        (or_cases (has_name m (entries_of (part j))) (has_name m (gathered s small (j + 1) n)) (sym (among-append m (entries_of (part j)) (gathered s small (j + 1) n)) ∙ h))

@@ -5,8 +5,10 @@ use Rattle.std.specs.Cmp.Lexicographic.{slice_cmp}
 use Rattle.std.specs.Map.{keys_of}
 use Rattle.std.specs.BTreeMap.{is_at}
 use Rattle.std.specs.List.Sorted.{IsStrictlySortedBy}
+use mathlib.Core.Bool.{or-false, or-true}
 use Rattle.frang_base.specs.declared.op.Op.TheVariants as op
 use Rattle.frang_base.specs.declared.reply.Reply.TheVariants as reply
+use Rattle.frang_base.proofs.Tests.{same_tests}
 use Rattle.tree_definitions.specs.declared.node.Node.{Node}
 use Rattle.tree_definitions.specs.declared.node.Node.TheVariants.{Dir, File, Link}
 use Rattle.tree_definitions.specs.Entries.{Entries, entry_at, with_entry}
@@ -27,7 +29,6 @@ use Rattle.plan_laws.proofs.Cases.{inode_by}
 use Rattle.plan_laws.proofs.Refusing.{Meets, refuse_meets}
 use Rattle.plan_laws.specs.FilesPlanned.{ListIsPlanned}
 use Rattle.plan_laws.proofs.Aiming.{target_of, at_inode_meets, node_meets}
-use Rattle.plan_laws.proofs.Among.{same_if}
 use Rattle.plan_laws.proofs.Ordered.{same_keys}
 use Rattle.plan_laws.proofs.Gathering.{gathered, run-entries, has_name, gathered_has, gathered_from}
 
@@ -42,24 +43,16 @@ ordered (x ∷ xs) acc s = ordered xs (with_entry acc x.name 0) (sorted_put (sli
 one_named : (acc : Entries) (name m : List ℕ) (rest : Bool) → (is_some (entry_at (with_entry acc name 0) m) || rest) ≡ (is_some (entry_at acc m) || (is_at (slice_cmp nat_cmp m) name || rest))
 one_named acc name m rest = go (is_at (slice_cmp nat_cmp m) name) refl
   where
-    or_true : (b : Bool) → (b || true) ≡ true
-    or_true true = refl
-    or_true false = refl
-
     go : (b : Bool) → is_at (slice_cmp nat_cmp m) name ≡ b → (is_some (entry_at (with_entry acc name 0) m) || rest) ≡ (is_some (entry_at acc m) || (b || rest))
     go true q =
         let i : m ≡ name = tie (slice_cmp nat_cmp) name_exact m name q in
         let a : is_some (entry_at (with_entry acc name 0) m) ≡ true = ap (λ z. is_some (entry_at (with_entry acc name 0) z)) i ∙ ap is_some (found_put (slice_cmp nat_cmp) name_exact acc name 0) in
-        ap (λ b. b || rest) a ∙ sym (or_true (is_some (entry_at acc m)))
+        ap (λ b. b || rest) a ∙ sym (or-true (is_some (entry_at acc m)))
     go false q = ap (λ o. is_some o || rest) (found_other (slice_cmp nat_cmp) name_exact acc name 0 m
         (λ i. let z : is_at (slice_cmp nat_cmp m) name ≡ true = subst (λ w. is_at (slice_cmp nat_cmp m) w ≡ true) i (self (slice_cmp nat_cmp) name_exact m) in cc))
 
 in_order_has : (m : List ℕ) (xs : List StoredEntry) (acc : Entries) → is_some (entry_at (put_in_order acc xs) m) ≡ (is_some (entry_at acc m) || has_name m xs)
-in_order_has m [] acc = or_false (is_some (entry_at acc m))
-  where
-    or_false : (b : Bool) → b ≡ (b || false)
-    or_false true = refl
-    or_false false = refl
+in_order_has m [] acc = sym (or-false (is_some (entry_at acc m)))
 in_order_has m (x ∷ xs) acc = in_order_has m xs (with_entry acc x.name 0) ∙ one_named acc x.name m (has_name m xs)
 
 none_ordered : IsStrictlySortedBy (slice_cmp nat_cmp) []
@@ -92,7 +85,7 @@ module _ (h : Hand) (s : Store) (tree : FileTree) (n : Naming) (of : IsOfTree s 
 
     pub names_are : sorted_names all ≡ map (λ e. e.0) entries
     names_are = same_keys (slice_cmp nat_cmp) name_exact (put_in_order [] all) entries (ordered all [] none_ordered) (of.well_formed.names d entries blocks is)
-        (λ m. in_order_has m all [] ∙ same_if (has_name m all) (is_some (entry_at entries m)) (is_named m) (has_named m))
+        (λ m. in_order_has m all [] ∙ same_tests (has_name m all) (is_some (entry_at entries m)) (is_named m) (has_named m))
 
     pub listing_meets : (touched : List ℕ) → PlanKeeps h s tree n (listed tree (Some (Dir entries blocks))) (run (listing touched (inode_by n d (Dir entries blocks))) s)
     listing_meets touched =

@@ -1,9 +1,9 @@
 -- The lock of each sector by the store alone, and with it where tidy edits move it.
 use Rattle.std.proofs.Common.{ℕ, ◌≡◌, ◌<◌, ◌+◌, ◌-◌, ◌/◌, Bool, true, false, nat_lt, if◌then◌else◌, Option, Some, None, List, length, is_some, refl, sym, ◌∙◌, ap, subst, arith}
 use Rattle.std.specs.Option.{option_map, unwrap_or}
+use Rattle.std.proofs.lemmas.Bool.{lt-ltb}
 use Rattle.frang_base.specs.declared.lock.LockId.{LockId}
 use Rattle.frang_base.specs.declared.lock.LockId.TheVariants as lock
-use Rattle.frang_base.proofs.Basics.{of_lt}
 use Rattle.tree_definitions.specs.declared.node.Node.{Node}
 use Rattle.tree_definitions.specs.declared.node.Node.TheVariants.{Dir, File, Link}
 use Rattle.tree_definitions.specs.Tree.{small_blocks_of}
@@ -47,14 +47,14 @@ module _ (s : Store) (at : Nodes) (n : Naming) (g : Pictures s at n) where
     is = inode_is s at n g b (Dir entries blocks) p;
     index = j;
     inside = l;
-    here = (let q : first_blocks blocks (n.block b) j ≡ n.block b j = rw (of_lt j blocks l) refl in q ∙ e);
+    here = (let q : first_blocks blocks (n.block b) j ≡ n.block b j = rw (lt-ltb j blocks l) refl in q ∙ e);
   }
   node_has b j k (Some (File cells links when)) p l e = record {
     node = inode_of (n.stamp b) (n.block b) (n.large b) (File cells links when);
     is = inode_is s at n g b (File cells links when) p;
     index = j;
     inside = l;
-    here = (let q : first_blocks (small_blocks_of (length cells)) (n.block b) j ≡ n.block b j = rw (of_lt j (small_blocks_of (length cells)) l) refl in q ∙ e);
+    here = (let q : first_blocks (small_blocks_of (length cells)) (n.block b) j ≡ n.block b j = rw (lt-ltb j (small_blocks_of (length cells)) l) refl in q ∙ e);
   }
 
   -- a block that is in use is a node's

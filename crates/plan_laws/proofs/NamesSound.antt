@@ -2,9 +2,10 @@
 use Rattle.std.proofs.Common.{ℕ, ◌≡◌, ◌≢◌, ◌<◌, ◌+◌, ◌==◌, ⊎_elim, Bool, true, false, nat_lt, nat_le, nat_eq, if◌then◌else◌, Option, Some, None, List, [], ◌∷◌, ◌++◌, length, refl, sym, ◌∙◌, ap, subst, arith}
 use Rattle.std.specs.Option.{option_or}
 use Rattle.std.specs.Map.{keys_of}
+use Rattle.std.proofs.lemmas.Bool.{cases_eq, eqb-true}
 use Rattle.frang_base.specs.declared.reply.Reply.{Reply}
 use Rattle.frang_base.specs.declared.reply.Reply.TheVariants as reply
-use Rattle.frang_base.proofs.Basics.{put_same, put_other, or_equal, eq_of}
+use Rattle.frang_base.proofs.Basics.{put_same, put_other}
 use Rattle.tree_definitions.specs.declared.node.Node.{Node}
 use Rattle.tree_definitions.specs.declared.node.Node.TheVariants.{Dir, File, Link}
 use Rattle.tree_definitions.specs.Tree.{small_blocks_of}
@@ -67,7 +68,7 @@ module _ (i : ℕ) (x : StoredNode) (e : StoredEntry) where
   enter_uses (InBlock k) a u f = go (nat_eq a k) refl f
     where
       go : (b : Bool) → nat_eq a k ≡ b → option_or (if b then Some Entries else None) None ≡ Some u → InBlock k ≡ InBlock a
-      go true q f = ap InBlock (sym (eq_of a k q))
+      go true q f = ap InBlock (sym (eqb-true a k q))
       go false q f = absurd (cc)
 
 -- ---- a new node has no blocks
@@ -118,7 +119,7 @@ module _ (h : Hand) (s : Store) (at : Nodes) (n : Naming) (g : Pictures s at n) 
         (λ q. let new : Some y ≡ Some h.node = sym (put_same s.inode j (Some y)) ∙ ap t.inode (sym q) ∙ h.is in
         let it : h.node ≡ y = cc in
         no_block h.index (subst (λ z. h.index < z.blocks) it h.inside))
-        (λ d. nobody a (record { node = h.node; is = sym (put_other s.inode j (Some y) a d) ∙ h.is; index = h.index; inside = h.inside; here = h.here })) (or_equal a j)
+        (λ d. nobody a (record { node = h.node; is = sym (put_other s.inode j (Some y) a d) ∙ h.is; index = h.index; inside = h.inside; here = h.here })) (cases_eq a j)
 
     there : StandsFor t i x
     there z e =

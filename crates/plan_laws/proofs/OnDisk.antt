@@ -1,9 +1,10 @@
 -- Over a picture of nodes a block is one node's, and so it stays while inodes keep their blocks.
 use Rattle.std.proofs.Common.{ℕ, ◌≡◌, ◌<◌, ◌-◌, ◌/◌, ⊎_elim, Bool, true, false, if◌then◌else◌, Some, None, List, refl, sym, ◌∙◌, ap, subst, arith}
+use Rattle.std.proofs.lemmas.Bool.{cases_eq}
 use Rattle.frang_base.specs.Functions.{put}
 use Rattle.frang_base.specs.declared.lock.LockId.{LockId}
 use Rattle.frang_base.specs.declared.lock.LockId.TheVariants as lock
-use Rattle.frang_base.proofs.Basics.{put_same, put_other, or_equal}
+use Rattle.frang_base.proofs.Basics.{put_same, put_other}
 use Rattle.tree_definitions.specs.declared.node.Node.{Node}
 use Rattle.tree_definitions.specs.declared.node.Node.TheVariants.{Dir, File, Link}
 use Rattle.disk_definitions.specs.Store.{Store, StoredNode, Use, is_unused}
@@ -45,7 +46,7 @@ module _ (s t : Store) (i : ℕ) (x y : StoredNode) (is : s.inode i ≡ Some x) 
           (λ q. let new : Some y ≡ Some z = sym (inodes a ∙ ap (put s.inode i (Some y)) q ∙ put_same s.inode i (Some y)) ∙ e in
           let it : y ≡ z = cc in
           (x, ap s.inode q ∙ is, ap (λ v. v.blocks) (sym it) ∙ same.0, ap (λ v. v.small) (sym it) ∙ same.1, ap (λ v. v.large) (sym it) ∙ same.2))
-          (λ d. (z, sym (inodes a ∙ put_other s.inode i (Some y) a d) ∙ e, refl, refl, refl)) (or_equal a i)
+          (λ d. (z, sym (inodes a ∙ put_other s.inode i (Some y) a d) ∙ e, refl, refl, refl)) (cases_eq a i)
 
 pub taken_same : (s : Store) (i : ℕ) (x : StoredNode) (q : ℕ) → s.inode i ≡ Some x → HasSameNodes s (edited_all s (take_entry i x q))
 taken_same s i x q is = one_other s (edited_all s (take_entry i x q)) i x (record x { size = x.size - 1 }) is (λ a. refl) (refl, refl, refl) (λ k. refl)

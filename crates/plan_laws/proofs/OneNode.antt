@@ -1,8 +1,9 @@
 -- Edits that write one inode, and set its bit and those of some blocks, are sound where the blocks are its own or come to be.
 use Rattle.std.proofs.Common.{ℕ, ◌≡◌, ◌≢◌, zero, suc, ◌<◌, ◌+◌, ⊎_elim, Bool, true, false, if◌then◌else◌, Option, Some, None, is_some, List, refl, sym, ◌∙◌, ap, subst, arith, nat_eq}
 use Rattle.std.specs.Option.{unwrap_or}
+use Rattle.std.proofs.lemmas.Bool.{cases_eq, eq-eqb}
 use Rattle.frang_base.specs.Functions.{put}
-use Rattle.frang_base.proofs.Basics.{put_same, put_other, of_eq, or_equal}
+use Rattle.frang_base.proofs.Basics.{put_same, put_other}
 use Rattle.disk_definitions.specs.Store.{Store, StoredNode, Use, is_unused}
 use Rattle.disk_definitions.specs.Edits.{Edit}
 use Rattle.disk_definitions.specs.Resizing.{index_in}
@@ -23,7 +24,7 @@ one_of_these small (suc n) k j l e = go (nat_eq (small n) k) refl (λ l. one_of_
 
     go : (b : Bool) → nat_eq (small n) k ≡ b → (j < n → is_some (index_in small n k) ≡ true) → is_some (if b then Some n else index_in small n k) ≡ true
     go true q rest = refl
-    go false q rest = rest (below_it (λ i. (let z : nat_eq (small n) k ≡ true = of_eq (small n) k (ap small (sym i) ∙ e) in cc)))
+    go false q rest = rest (below_it (λ i. (let z : nat_eq (small n) k ≡ true = eq-eqb (small n) k (ap small (sym i) ∙ e) in cc)))
 
 pub small_of : (k j : ℕ) (x : StoredNode) → j < x.blocks → x.small j ≡ k → is_small_of k x ≡ true
 small_of k j x l e = one_of_these x.small x.blocks k j l e
@@ -87,14 +88,14 @@ module _ (s t : Store) (es : List Edit) (i : ℕ) (o : Option StoredNode) (bs : 
       (λ q. let a : is_among k ks ≡ false = is_unsaid (is_among k ks) u (sym (is.uses k) ∙ e) in
       let r = may.keeps h.node h.index (subst (λ z. s.inode z ≡ Some h.node) q h.is) h.inside (ap (λ z. is_among z ks) h.here ∙ a) in
       record { node = r.0; is = ap t.inode q ∙ now r.0 r.1; index = r.2; inside = r.3; here = r.4 ∙ h.here })
-      (λ d. record { node = h.node; is = other j d ∙ h.is; index = h.index; inside = h.inside; here = h.here }) (or_equal j i)
+      (λ d. record { node = h.node; is = other j d ∙ h.is; index = h.index; inside = h.inside; here = h.here }) (cases_eq j i)
 
   kept_large : (j g : ℕ) → HasLarge s j g → first_said (large_said g) es ≡ None → HasLarge t j g
   kept_large j g h e = ⊎_elim
       (λ q. let a : is_among g gs ≡ false = is_unsaid (is_among g gs) v (sym (is.larges g) ∙ e) in
       let r = may.keeps_large h.node g (subst (λ z. s.inode z ≡ Some h.node) q h.is) h.here a in
       record { node = r.0; is = ap t.inode q ∙ now r.0 r.1; here = r.2 })
-      (λ d. record { node = h.node; is = other j d ∙ h.is; here = h.here }) (or_equal j i)
+      (λ d. record { node = h.node; is = other j d ∙ h.is; here = h.here }) (cases_eq j i)
 
   gained : (k : ℕ) (w : Use) → first_said (use_said k) es ≡ Some w → is_unused w ≡ false → (j : ℕ) × (first_said (taker_said k) es ≡ Some j) × HasSmall t j k
   gained k w e f =

@@ -1,8 +1,8 @@
 -- What a plan comes to by what its operation takes, and what that says of each end of a plan.
 use Rattle.std.proofs.Common.{ℕ, ◌≡◌, ◌↔◌, ◌⊎◌, inl, inr, Bool, true, false, if◌then◌else◌, Option, Some, None, List, [], ◌++◌, refl, sym, ◌∙◌, ap, subst}
 use Rattle.std.specs.Map.{keys_of}
+use Rattle.std.proofs.lemmas.Option.{same_Some}
 use Rattle.frang_base.specs.declared.reply.Reply.{Reply}
-use Rattle.frang_base.proofs.Basics.{some_same}
 use Rattle.disk_definitions.specs.Store.{Store}
 use Rattle.disk_definitions.specs.Picks.{picked_directory}
 use Rattle.disk_definitions.specs.Ask.{run}
@@ -52,7 +52,7 @@ not_both t f = cc
 module _ (h : Hand) where
   -- what is wanted is the one thing
   same_nothing : (w v : Wants) → Some w ≡ Some v → FindsNothing h.held w → FindsNothing h.held v
-  same_nothing w v e nothing = subst (FindsNothing h.held) (some_same w v e) nothing
+  same_nothing w v e nothing = subst (FindsNothing h.held) (same_Some w v e) nothing
 
   pub lacks_by : (o : Option Wants) (p : Plan) → Outcome h o p → (p ≡ Lacks) ↔ ((h.all ≡ false) × (w : Wants) × (o ≡ Some w) × FindsNothing h.held w)
   lacks_by None Lacks c = absurd c
@@ -92,10 +92,10 @@ module _ (h : Hand) where
     clears_by (Some w) (Clears j locks) (inl c) = absurd c.1
     clears_by (Some w) (Clears j locks) (inr c) = (
       λ e. let i : j ≡ k = (let z : Clears j locks ≡ Clears k e.0 = e.1 in cc) in there w j locks c.0 c.1 i,
-      λ r. let i : j ≡ k = some_same j k (sym c.1.1 ∙ r.4) in (locks, ap (λ i. Clears i locks) i),
+      λ r. let i : j ≡ k = same_Some j k (sym c.1.1 ∙ r.4) in (locks, ap (λ i. Clears i locks) i),
     )
     clears_by (Some w) (Finishes f) (inl c) = (λ e. absurd (let z : Finishes f ≡ Clears k e.0 = e.1 in cc), λ r. absurd (r.3 (same_nothing w r.0 r.1 c.0)))
     clears_by (Some w) (Finishes f) (inr c) = (
       λ e. absurd (let z : Finishes f ≡ Clears k e.0 = e.1 in cc),
-      λ r. let i : w ≡ r.0 = some_same w r.0 r.1 in absurd (not_both r.5 (c.1.1 k (ap (λ (v : Wants). v.grows) i ∙ r.2) r.4)),
+      λ r. let i : w ≡ r.0 = same_Some w r.0 r.1 in absurd (not_both r.5 (c.1.1 k (ap (λ (v : Wants). v.grows) i ∙ r.2) r.4)),
     )

@@ -2,9 +2,10 @@
 use Rattle.std.proofs.Common.{ℕ, ◌≡◌, ◌<◌, ◌≤◌, ◌+◌, ◌-◌, List, ◌++◌, length, take, drop, max, sym, ◌∙◌, ap, subst, arith}
 use Rattle.std.proofs.lemmas.List.{length-take-le, length-drop, length-append}
 use Rattle.std.specs.List.{slice_get}
+use Rattle.frang_base.proofs.Lists.{get_right, get_left, get_drop}
 use Rattle.tree_definitions.specs.declared.cells.Cell.{Cell}
 use Rattle.tree_definitions.specs.Apply.{overwritten}
-use Rattle.plan_laws.proofs.Cells.{get_left, get_right, get_in_take, get_drop}
+use Rattle.plan_laws.proofs.Cells.{get_in_take}
 
 module _ (old fresh : List Cell) (off : ℕ) (inside : off ≤ length old) where
   abbrev new : List Cell

@@ -2,9 +2,9 @@
 use Rattle.std.proofs.Common.{ℕ, ◌≡◌, ◌+◌, ◌/◌, ⊎_elim, Bool, true, false, ◌==◌, nat_eq, if◌then◌else◌, Option, Some, None, List, [], ◌∷◌, refl, sym, ◌∙◌, subst}
 use Rattle.std.specs.Option.{option_map, option_or}
 use Rattle.std.specs.List.{AllByRecursion, Contains}
+use Rattle.std.proofs.lemmas.Bool.{eqb-true}
 use Rattle.frang_base.specs.declared.lock.LockId.{LockId}
 use Rattle.frang_base.specs.declared.lock.LockId.TheVariants as lock
-use Rattle.frang_base.proofs.Basics.{eq_of}
 use Rattle.disk_definitions.specs.Store.{Store, Use, is_unused}
 use Rattle.disk_definitions.specs.Naming.{Naming, Nodes, Pictures}
 use Rattle.disk_definitions.specs.Edits.{Edit}
@@ -39,7 +39,7 @@ something_said {X} f (d ∷ es) e v c q = go (f d) refl (something_said f es e v
 
 module _ (locks : List Lock) where
   pub bit_covered : (i : ℕ) (b : Bool) (e : Edit) → bit_said i e ≡ Some b → IsCovered locks e → IsSole locks (lock.Segment (i / 64))
-  bit_covered i b (SetBit j c) q s = subst (λ z. IsSole locks (lock.Segment (z / 64))) (sym (eq_of i j (is_said (nat_eq i j) c b q).0)) s
+  bit_covered i b (SetBit j c) q s = subst (λ z. IsSole locks (lock.Segment (z / 64))) (sym (eqb-true i j (is_said (nat_eq i j) c b q).0)) s
   bit_covered i b (SetInode j x d) q s = absurd (cc)
   bit_covered i b (SetUse k u) q s = absurd (cc)
   bit_covered i b (SetPlace k p x) q s = absurd (cc)
@@ -48,7 +48,7 @@ module _ (locks : List Lock) where
   bit_covered i b (SetLargeBytes g part bytes) q s = absurd (cc)
 
   pub use_covered : (k : ℕ) (u : Use) (e : Edit) → use_said k e ≡ Some u → IsCovered locks e → IsSole locks (lock.Segment (k / 1024))
-  use_covered k u (SetUse j w) q s = subst (λ z. IsSole locks (lock.Segment (z / 1024))) (sym (eq_of k j (is_said (nat_eq k j) w u q).0)) s
+  use_covered k u (SetUse j w) q s = subst (λ z. IsSole locks (lock.Segment (z / 1024))) (sym (eqb-true k j (is_said (nat_eq k j) w u q).0)) s
   use_covered k u (SetInode j x d) q s = absurd (cc)
   use_covered k u (SetBit j c) q s = absurd (cc)
   use_covered k u (SetPlace j p x) q s = absurd (cc)
@@ -57,7 +57,7 @@ module _ (locks : List Lock) where
   use_covered k u (SetLargeBytes g part bytes) q s = absurd (cc)
 
   pub large_covered : (g : ℕ) (b : Bool) (e : Edit) → large_said g e ≡ Some b → IsCovered locks e → IsSole locks (lock.Segment g)
-  large_covered g b (SetLarge j c) q s = subst (λ z. IsSole locks (lock.Segment z)) (sym (eq_of g j (is_said (nat_eq g j) c b q).0)) s
+  large_covered g b (SetLarge j c) q s = subst (λ z. IsSole locks (lock.Segment z)) (sym (eqb-true g j (is_said (nat_eq g j) c b q).0)) s
   large_covered g b (SetInode j x d) q s = absurd (cc)
   large_covered g b (SetBit j c) q s = absurd (cc)
   large_covered g b (SetUse k u) q s = absurd (cc)

@@ -2,8 +2,8 @@
 use Rattle.std.proofs.Common.{ℕ, ◌≡◌, ◌≢◌, ◌<◌, ◌≤◌, ◌*◌, ◌/◌, ◌%◌, ◌⊎◌, inl, inr, ⊎_elim, Bool, true, false, not, ◌&&◌, Option, Some, None, length, refl, ◌∙◌, ap, subst, arith, is_some}
 use Rattle.std.proofs.lemmas.Bool.Decides.{nat_tests}
 use Rattle.std.specs.Option.{option_map}
+use Rattle.std.proofs.lemmas.Bool.{lt-leb, le-leb}
 use Rattle.frang_base.specs.declared.bitmap.Bitmap.{Bitmap}
-use Rattle.frang_base.proofs.Basics.{of_gt, of_le}
 use Rattle.disk_definitions.specs.Bitmaps.{inode_bit, block_state}
 use Rattle.tree_definitions.specs.Tree.{FileTree, inodes_full, blocks_full, count_of, small_blocks}
 use Rattle.disk_definitions.specs.Store.{Store, use_by, is_unused}
@@ -39,7 +39,7 @@ module _ (h : Hand) (s : Store) (tree : FileTree) (n : Naming) (of : IsOfTree s 
       let m : j / 64 < tree.segments = hand.within (j / 64) (ap is_some x.1) in
       let l : j < 64 * tree.segments = omega arith in
       let c : count s.bit (64 * tree.segments) < 64 * tree.segments = count_less s.bit (64 * tree.segments) j l bit in
-      (bit, l, of_gt (64 * tree.segments) (length tree.nodes) (subst (λ z. z < 64 * tree.segments) (inodes_counted s tree n of) c))
+      (bit, l, lt-leb (64 * tree.segments) (length tree.nodes) (subst (λ z. z < 64 * tree.segments) (inodes_counted s tree n of) c))
 
   not_free : (i : ℕ) (used : Bool) → inode_in h.held i ≡ Some used → inode_in h.held i ≢ Some false → s.bit i ≡ true
   not_free i true e f = hand.bits i true e
@@ -51,7 +51,7 @@ module _ (h : Hand) (s : Store) (tree : FileTree) (n : Naming) (of : IsOfTree s 
       let x = held_at (λ (x : Bitmap). inode_bit x (i % 64)) (bitmap_of h.held (i / 64)) (hand.all.0 all (i / 64) (omega arith)) in
       not_free i x.0 x.1 (no_inode h.held are_segments e i)) in
       let t : count s.bit (64 * tree.segments) ≡ length tree.nodes = inodes_counted s tree n of in
-      of_le (64 * tree.segments) (length tree.nodes) (omega arith)
+      le-leb (64 * tree.segments) (length tree.nodes) (omega arith)
 
   abbrev taken : ℕ → Bool
   taken k = not (is_unused (s.use_of k))
@@ -75,7 +75,7 @@ module _ (h : Hand) (s : Store) (tree : FileTree) (n : Naming) (of : IsOfTree s 
       let free : taken k ≡ false = ap not (block_free k e) in
       let l : k < 1024 * tree.segments = block_below k e in
       let c : count taken (1024 * tree.segments) < 1024 * tree.segments = count_less taken (1024 * tree.segments) k l free in
-      (block_free k e, l, of_gt (1024 * tree.segments) (count_of small_blocks tree) (subst (λ z. z < 1024 * tree.segments) (blocks_counted s tree n of) c))
+      (block_free k e, l, lt-leb (1024 * tree.segments) (count_of small_blocks tree) (subst (λ z. z < 1024 * tree.segments) (blocks_counted s tree n of) c))
 
   -- a block that needs no clearing has no entries
   pub block_clear : (k : ℕ) → picked_directory h.held ≡ Some k → must_clear h k ≡ false → IsFreeBlock s k
@@ -97,4 +97,4 @@ module _ (h : Hand) (s : Store) (tree : FileTree) (n : Naming) (of : IsOfTree s 
       let not_two : x.0 ≢ 2 = λ i. none.0 k (x.1 ∙ ap Some i) in
       ap (λ u. not (is_unused u)) (hand.states k x.0 x.1) ∙ ap not (taken_state x.0 not_zero not_two)) in
       let t : count taken (1024 * tree.segments) ≡ count_of small_blocks tree = blocks_counted s tree n of in
-      of_le (1024 * tree.segments) (count_of small_blocks tree) (omega arith)
+      le-leb (1024 * tree.segments) (count_of small_blocks tree) (omega arith)

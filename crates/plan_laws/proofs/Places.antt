@@ -4,10 +4,10 @@ use Rattle.std.specs.Ordering.{nat_cmp}
 use Rattle.std.specs.Cmp.Lexicographic.{slice_cmp}
 use Rattle.std.specs.List.Sorted.{IsStrictlySortedBy}
 use Rattle.std.specs.Map.{keys_of}
+use Rattle.std.proofs.lemmas.Bool.{lt-leb, le-leb}
 use Rattle.tree_definitions.specs.declared.node.Node.TheVariants.{Dir}
 use Rattle.tree_definitions.specs.Entries.{Entries, entry_at}
 use Rattle.tree_definitions.specs.Tree.{must_grow}
-use Rattle.frang_base.proofs.Basics.{of_le, of_gt}
 use Rattle.tree_laws.proofs.Pairs.{name_exact}
 use Rattle.disk_definitions.specs.Store.{Store, StoredEntry}
 use Rattle.disk_definitions.specs.Naming.{Naming, Nodes, Pictures, find_in, room_in, first_blocks, entry_of, place_of, dir_place}
@@ -56,11 +56,11 @@ module _ (s : Store) (at : Nodes) (n : Naming) (g : Pictures s at n) (d blocks :
   place_some q e =
       let r = free_place q e in
       let c : count filled (56 * blocks) < 56 * blocks = count_less filled (56 * blocks) q r.inside (ap is_some r.vacant) in
-      of_gt (56 * blocks) (length entries) (subst (λ z. z < 56 * blocks) places_counted c)
+      lt-leb (56 * blocks) (length entries) (subst (λ z. z < 56 * blocks) places_counted c)
 
   pub place_none : least vacant (56 * blocks) ≡ None → must_grow entries blocks ≡ true
   place_none e =
       let c : count filled (56 * blocks) ≡ 56 * blocks = count_all filled (56 * blocks) (λ q l.
       ap is_some (sym (as_inode s at n g d blocks q l)) ∙ unvacant (place_of s.place (first_blocks blocks (n.block d)) q) (least_nothing vacant (56 * blocks) e q l)) in
       let t : count filled (56 * blocks) ≡ length entries = places_counted in
-      of_le (56 * blocks) (length entries) (omega arith)
+      le-leb (56 * blocks) (length entries) (omega arith)

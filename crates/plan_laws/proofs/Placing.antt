@@ -1,6 +1,6 @@
 -- The store after a write is that of the file with its new cells.
 use Rattle.std.proofs.Common.{ℕ, ◌≡◌, ◌≢◌, ◌<◌, ◌≤◌, ◌+◌, ◌-◌, ◌*◌, ◌/◌, ◌%◌, ◌==◌, ◌&&◌, ◌||◌, ◌⊎◌, inl, inr, ⊎_elim, Bool, true, false, nat_lt, max, if◌then◌else◌, Option, Some, None, List, ◌++◌, length, map, slice_index, refl, sym, ◌∙◌, ap, ap₂, subst, arith, is_some, eq-eqb}
-use Rattle.std.proofs.lemmas.Bool.{cases_lt}
+use Rattle.std.proofs.lemmas.Bool.{cases_lt, false_from_ne_true, le-ltb, lt-ltb, eqb-true}
 use Rattle.std.proofs.lemmas.Bool.Decides.{nat_tests}
 use Rattle.std.proofs.lemmas.Option.{slice_get_within}
 use Rattle.std.specs.List.{slice_get}
@@ -10,7 +10,6 @@ use Rattle.tree_definitions.specs.declared.cells.Cell.TheVariants as cell
 use Rattle.tree_definitions.specs.declared.node.Node.TheVariants.{File}
 use Rattle.tree_definitions.specs.Tree.{FileTree, node_at, with_node, small_blocks_of}
 use Rattle.tree_definitions.specs.Apply.{says, overwritten}
-use Rattle.frang_base.proofs.Basics.{eq_of, of_lt, of_ge}
 use Rattle.tree_laws.specs.WellFormed.{IsWellFormed}
 use Rattle.disk_definitions.specs.Store.{Store, StoredNode, Use, byte_at, is_unused}
 use Rattle.disk_definitions.specs.Store.Use.{Fresh, Bytes}
@@ -32,7 +31,6 @@ use Rattle.plan_laws.proofs.Cases.{inode_by}
 use Rattle.plan_laws.proofs.Totals.{in_range}
 use Rattle.plan_laws.proofs.Bytes.{stored_byte}
 use Rattle.plan_laws.proofs.Stored.{stored_is}
-use Rattle.plan_laws.proofs.Counting.{false_if}
 use Rattle.plan_laws.proofs.Among.{is_among, among_at, at_among, listed}
 use Rattle.plan_laws.proofs.Setting.{IsSet, set_edits, all_set}
 use Rattle.plan_laws.proofs.Sizing.{AreWithin, resized_tree}
@@ -41,6 +39,7 @@ use Rattle.plan_laws.proofs.Taking.{ArePicked}
 use Rattle.plan_laws.proofs.Overwriting.{size_is, before_is, within_is, behind_is}
 use Rattle.plan_laws.proofs.Sectors.{sector_edits, run-writes, bytes_only, byte_other, large_other}
 use Rattle.plan_laws.proofs.Written.{met_some, byte_new, byte_old}
+use Rattle.plan_laws.proofs.FilesFine.{in_small}
 
 -- the large block of a file that has its own, or gets one
 abbrev pub large_by : ℕ → Option ℕ → ℕ
@@ -109,10 +108,10 @@ module _ (h : Hand) (s : Store) (tree : FileTree) (n : Naming) (of : IsOfTree s 
     y = inode_of (n.stamp b) block large (File new links w.when)
 
     own_block : (j : ℕ) → j < had → block j ≡ n.block b j
-    own_block j l = rw (of_lt j had l) refl
+    own_block j l = rw (lt-ltb j had l) refl
 
     pick_block : (j : ℕ) → had ≤ j → block j ≡ slice_index picks (j - had)
-    pick_block j l = rw (of_ge j had l) refl
+    pick_block j l = rw (le-ltb j had l) refl
 
     own_large : (o : Option ℕ) → TakesLarge o → 65536 < length old → large_by (n.large b) o ≡ n.large b
     own_large None t l = refl
@@ -158,7 +157,7 @@ module _ (h : Hand) (s : Store) (tree : FileTree) (n : Naming) (of : IsOfTree s 
 
     owned : (k : ℕ) (q : Option (ℕ × ℕ)) → n.owner k ≡ q → is_owned_by b q ≡ true → (j : ℕ) × (j < had) × (n.block b j ≡ k)
     owned k None e v = absurd (cc)
-    owned k (Some (c, j)) e v = let r = mine_below s (node_at tree) n of.pictures b links since large old new block is has k j (e ∙ ap (λ z. Some (z, j)) (eq_of c b v)) in (j, r.1, r.0)
+    owned k (Some (c, j)) e v = let r = mine_below s (node_at tree) n of.pictures b links since large old new block is has k j (e ∙ ap (λ z. Some (z, j)) (eqb-true c b v)) in (j, r.1, r.0)
 
     same_use : (u : Use) (p v : Bool) (j : ℕ) → u ≡ Bytes → Uses u p (Some j) v
     same_use u true v j e = refl
@@ -174,8 +173,8 @@ module _ (h : Hand) (s : Store) (tree : FileTree) (n : Naming) (of : IsOfTree s 
         hit : (block j ≡ k) × (j < count)
         hit = index_hit block count k j e
     uses_written k None e =
-        let p : is_among k picks ≡ false = false_if (is_among k picks) (λ a. (let r = pick_at k a in no_index k r.0 r.1 r.2 e)) in
-        let v : is_owned_by b (n.owner k) ≡ false = false_if (is_owned_by b (n.owner k)) (λ a. (let r = owned k (n.owner k) refl a in no_index k r.0 (omega (arith, more_blocks, r.1)) (own_block r.0 r.1 ∙ r.2) e)) in
+        let p : is_among k picks ≡ false = false_from_ne_true (is_among k picks) (λ a. (let r = pick_at k a in no_index k r.0 r.1 r.2 e)) in
+        let v : is_owned_by b (n.owner k) ≡ false = false_from_ne_true (is_owned_by b (n.owner k)) (λ a. (let r = owned k (n.owner k) refl a in no_index k r.0 (omega (arith, more_blocks, r.1)) (own_block r.0 r.1 ∙ r.2) e)) in
         uses_by k false None false p e v refl
 
     -- ---- the store with the inode and blocks, and then with the bytes
@@ -195,16 +194,13 @@ module _ (h : Hand) (s : Store) (tree : FileTree) (n : Naming) (of : IsOfTree s 
     fits = let e : length new ≡ max (length old) (end_of w) = new_size in omega arith
 
     small_at : (j : ℕ) → j < count → y.small j ≡ block j
-    small_at j l = rw (of_lt j count l) refl
+    small_at j l = rw (lt-ltb j count l) refl
 
     one : (i j : ℕ) → i < y.blocks → j < y.blocks → y.small i ≡ y.small j → i ≡ j
     one i j li lj e =
         let a : index_of new block (block j) ≡ Some i = index_at s (node_at tree) n of.pictures b links since large old new block is has (block j) i li (sym (small_at i li) ∙ e ∙ small_at j lj) in
         let c : index_of new block (block j) ≡ Some j = index_at s (node_at tree) n of.pictures b links since large old new block is has (block j) j lj refl in
         let z : Some i ≡ Some j = sym a ∙ c in cc
-
-    in_small : (v k : ℕ) → 512 * v < k → v < 128 → v / 8 < small_blocks_of k
-    in_small v k l m = omega arith
 
     reaches : (v : ℕ) → w.off / 512 ≤ v → v < w.off / 512 + sectors_met w.off w.len → 512 * v < length new
     reaches v lo hi = let r : 512 * v < w.off + w.len = (met_some w.off w.len v lo hi).1 in omega (arith, fits)
@@ -254,7 +250,7 @@ module _ (h : Hand) (s : Store) (tree : FileTree) (n : Naming) (of : IsOfTree s 
     needs_large None t e = both (length old) (length new) longer t
       where
         both : (i j : ℕ) → i ≤ j → (65536 < j → 65536 < i) → nat_lt 65536 i ≡ nat_lt 65536 j
-        both i j l f = ⊎_elim (λ a. of_ge 65536 i (omega arith) ∙ sym (of_ge 65536 j (omega arith))) (λ a. of_lt 65536 i (f a) ∙ sym (of_lt 65536 j a)) (below_or j)
+        both i j l f = ⊎_elim (λ a. le-ltb 65536 i (omega arith) ∙ sym (le-ltb 65536 j (omega arith))) (λ a. lt-ltb 65536 i (f a) ∙ sym (lt-ltb 65536 j a)) (below_or j)
           where
             below_or : (k : ℕ) → (k ≤ 65536) ⊎ (65536 < k)
             below_or k = grind arith
@@ -262,7 +258,7 @@ module _ (h : Hand) (s : Store) (tree : FileTree) (n : Naming) (of : IsOfTree s 
 
     takes_large : (q : Option ℕ) → TakesLarge q → (g : ℕ) → q ≡ Some g → (nat_lt 65536 (length old) ≡ false) × (nat_lt 65536 (length new) ≡ true)
     takes_large None t g e = absurd (cc)
-    takes_large (Some k) t g e = (of_ge 65536 (length old) t.0, of_lt 65536 (length new) t.1)
+    takes_large (Some k) t g e = (le-ltb 65536 (length old) t.0, lt-ltb 65536 (length new) t.1)
 
     large_written : (k : ℕ) → (if is_among k (large_segment o) then true else s.large_bit k) ≡ (if is_large_of new large k then true else (if is_of b (n.large_owner k) then false else s.large_bit k))
     large_written k =
@@ -287,12 +283,12 @@ module _ (h : Hand) (s : Store) (tree : FileTree) (n : Naming) (of : IsOfTree s 
         not_large : (k : ℕ) → is_large_of new large k ≡ false → 65536 < length new → y.large - 1 ≢ k
         not_large k none l e =
             let less : large + 1 - 1 ≡ large = omega arith in
-            let q : nat_lt 65536 (length new) ≡ true = of_lt 65536 (length new) l in
+            let q : nat_lt 65536 (length new) ≡ true = lt-ltb 65536 (length new) l in
             let i : (if nat_lt 65536 (length new) then large + 1 else 0) - 1 ≡ large = ap (λ v. (if v then large + 1 else 0) - 1) q ∙ less in
             let z : is_large_of new large k ≡ true = ap (λ v. v && k == large) q ∙ eq-eqb k large (sym e ∙ i) in cc
 
     large_within : (q : Option ℕ) → TakesLarge q → 65536 < length new → large_by (n.large b) q < tree.segments
-    large_within None t l = of.larges (n.large b) (large_used s (node_at tree) n of.pictures b links since large old new block is has (n.large b) (rw (of_lt 65536 (length old) (t l), eq-eqb (n.large b) (n.large b) refl) refl))
+    large_within None t l = of.larges (n.large b) (large_used s (node_at tree) n of.pictures b links since large old new block is has (n.large b) (rw (lt-ltb 65536 (length old) (t l), eq-eqb (n.large b) (n.large b) refl) refl))
     large_within (Some g) t l = t.3
 
     pub blocks_within : AreWithin tree.segments new block large
@@ -305,8 +301,8 @@ module _ (h : Hand) (s : Store) (tree : FileTree) (n : Naming) (of : IsOfTree s 
     }
 
     sized_large : (q : Option ℕ) → TakesLarge q → 65536 < length new → large_after x q (length new) ≡ large_by (n.large b) q + 1
-    sized_large None t l = rw (of_lt 65536 (length new) l, of_lt 65536 (length old) (t l)) refl
-    sized_large (Some g) t l = rw (of_lt 65536 (length new) l) refl
+    sized_large None t l = rw (lt-ltb 65536 (length new) l, lt-ltb 65536 (length old) (t l)) refl
+    sized_large (Some g) t l = rw (lt-ltb 65536 (length new) l) refl
 
     y_is : resized x w.when (length new) picks o ≡ y
     y_is = resized_is (n.stamp b) links since w.when large (n.large b) block (n.block b) old new picks o (record { kept = λ j l m. own_block j m; picked = λ j l m. pick_block j m; large_is = sized_large o takes })

@@ -6,6 +6,7 @@ use Rattle.std.proofs.lemmas.Option.{slice_get_within}
 use Rattle.std.specs.List.{slice_get}
 use Rattle.frang_base.specs.declared.op.Op.TheVariants as op
 use Rattle.frang_base.specs.declared.reply.Reply.TheVariants as reply
+use Rattle.frang_base.proofs.Lists.{get_drop}
 use Rattle.tree_definitions.specs.declared.cells.Cell.{Cell}
 use Rattle.tree_definitions.specs.declared.node.Node.TheVariants.{File}
 use Rattle.tree_definitions.specs.Tree.{FileTree, node_at}
@@ -24,7 +25,7 @@ use Rattle.plan_laws.proofs.Refusing.{Meets, refuse_meets}
 use Rattle.plan_laws.specs.FilesPlanned.{ReadIsPlanned}
 use Rattle.plan_laws.proofs.Aiming.{file_meets}
 use Rattle.plan_laws.proofs.Bytes.{values, values_drop, values_take, all_allow, stored_byte, run-sectors}
-use Rattle.plan_laws.proofs.Cells.{get_take, get_drop}
+use Rattle.plan_laws.proofs.Cells.{get_take}
 use Rattle.plan_laws.proofs.Stored.{stored_is}
 
 -- the bytes of these sectors from the offset on

@@ -1,7 +1,8 @@
 -- The edits of the plan of rename are sound, over the disk of a tree.
 use Rattle.std.proofs.Common.{ℕ, ◌≡◌, ◌≢◌, ◌+◌, ◌==◌, ◌&&◌, not, Bool, true, false, nat_lt, nat_eq, if◌then◌else◌, Some, List, [], ◌∷◌, ◌++◌, refl, sym, ◌∙◌, subst}
+use Rattle.std.proofs.lemmas.Bool.{eqb-false}
 use Rattle.frang_base.specs.declared.reply.Reply.TheVariants as reply
-use Rattle.frang_base.proofs.Basics.{put_other, ne_of}
+use Rattle.frang_base.proofs.Basics.{put_other}
 use Rattle.disk_definitions.specs.Store.{Store, StoredNode, StoredEntry}
 use Rattle.disk_definitions.specs.Naming.{Naming, Nodes, Pictures}
 use Rattle.disk_definitions.specs.Edits.{edited_all}
@@ -90,7 +91,7 @@ module _ (h : Hand) (s : Store) (at : Nodes) (n : Naming) (g : Pictures s at n) 
         go true e b = replace_sound s m.directory m.slot (renamed_entry m name)
         go false e true = none_sound s
         go false e false = subst (IsSoundPlan s) (sym (run-bind (find_room h x) (moving_in h m i x name dirs) s))
-            (moving_in_sound i x is name dirs (ne_of i m.dir e) (run (find_room h x) s) (room_stands h s n disk x))
+            (moving_in_sound i x is name dirs (eqb-false i m.dir e) (run (find_room h x) s) (room_stands h s n disk x))
 
     -- ---- by where the new name leads
     renaming_to_sound : (to_dirs dirs : List ℕ) (v : Spot) → SpotStands h s n disk dirs v → Ends s (renaming_to h m to_dirs dirs v)

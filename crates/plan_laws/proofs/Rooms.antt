@@ -2,11 +2,11 @@
 use Rattle.std.proofs.Common.{ℕ, ◌≡◌, ◌*◌, Bool, true, false, inl, inr, nat_le, nat_lt, if◌then◌else◌, Option, Some, None, List, [], length, refl, sym, ◌∙◌, ap, subst, arith}
 use Rattle.std.proofs.lemmas.Bool.Decides.{nat_tests}
 use Rattle.std.specs.Map.{keys_of}
+use Rattle.std.proofs.lemmas.Option.{same_Some}
 use Rattle.frang_base.specs.declared.reply.Reply.{Reply}
 use Rattle.tree_definitions.specs.declared.node.Node.TheVariants.{Dir}
 use Rattle.tree_definitions.specs.Entries.{Entries}
 use Rattle.tree_definitions.specs.Tree.{FileTree, node_at, must_grow}
-use Rattle.frang_base.proofs.Basics.{some_same}
 use Rattle.disk_definitions.specs.Store.{Store, StoredNode, StoredEntry}
 use Rattle.disk_definitions.specs.Naming.{Naming, first_blocks, place_of}
 use Rattle.disk_definitions.specs.Least.{least}
@@ -92,4 +92,4 @@ module _ (h : Hand) (s : Store) (inode grows : Bool) (some : inode ≡ true → 
     where
       go : (c : Bool) → must_clear h k ≡ c → IsFound h w (run (if c then Got (Clears k f.locks) else ReadDirectory k 0 (λ p. Got (Finishes f))) s)
       go true c = (e.0, e.1, c)
-      go false c = (plain, λ j t z. let i : k ≡ j = some_same k j (sym e.1 ∙ z) in subst (λ i. must_clear h i ≡ false) i c)
+      go false c = (plain, λ j t z. let i : k ≡ j = same_Some k j (sym e.1 ∙ z) in subst (λ i. must_clear h i ≡ false) i c)

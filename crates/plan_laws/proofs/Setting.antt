@@ -1,5 +1,5 @@
 -- The store after some blocks get one use, some large blocks are taken or given back, and an inode is another.
-use Rattle.std.proofs.Common.{ℕ, ◌≡◌, ◌||◌, Bool, true, false, nat_eq, if◌then◌else◌, Some, List, [], ◌∷◌, ◌++◌, map, refl, sym, ◌∙◌, ap, subst}
+use Rattle.std.proofs.Common.{ℕ, ◌≡◌, Bool, nat_eq, if◌then◌else◌, Some, List, [], ◌∷◌, ◌++◌, map, refl, sym, ◌∙◌, ap, subst}
 use Rattle.frang_base.specs.Functions.{put}
 use Rattle.disk_definitions.specs.Store.{Store, StoredNode, Use}
 use Rattle.disk_definitions.specs.Edits.{Edit, edited, edited_all}
@@ -7,13 +7,7 @@ use Rattle.disk_definitions.specs.Edits.Edit.{SetUse, SetLarge}
 use Rattle.disk_definitions.proofs.Puts.{edited_append}
 use Rattle.disk_definitions.specs.FilePlans.{file_dated}
 use Rattle.plan_laws.proofs.Among.{is_among}
-
--- one place and then others with the same value
-merged : {X : Type 0} (p q : Bool) (u v : X) → (if q then u else (if p then u else v)) ≡ (if p || q then u else v)
-merged true true u v = refl
-merged true false u v = refl
-merged false true u v = refl
-merged false false u v = refl
+use Rattle.plan_laws.proofs.Changes.{set_or}
 
 -- a store is another in all but uses, large blocks and inodes
 pub record IsElse (s t : Store) : Type 0 where
@@ -31,7 +25,7 @@ larges_to v gs = map (λ g. SetLarge g v) gs
 module _ (u : Use) where
   uses_set : (ks : List ℕ) (s : Store) (k : ℕ) → (edited_all s (uses_to u ks)).use_of k ≡ (if is_among k ks then u else s.use_of k)
   uses_set [] s k = refl
-  uses_set (c ∷ cs) s k = uses_set cs (edited s (SetUse c u)) k ∙ merged (nat_eq k c) (is_among k cs) u (s.use_of k)
+  uses_set (c ∷ cs) s k = uses_set cs (edited s (SetUse c u)) k ∙ set_or (nat_eq k c) (is_among k cs) u (s.use_of k)
 
   uses_else : (ks : List ℕ) (s : Store) → IsElse s (edited_all s (uses_to u ks)) × ((edited_all s (uses_to u ks)).inode ≡ s.inode) × ((edited_all s (uses_to u ks)).large_bit ≡ s.large_bit)
   uses_else [] s = (record { bit = refl; place = refl; byte = refl; large_byte = refl }, refl, refl)
@@ -40,7 +34,7 @@ module _ (u : Use) where
 module _ (v : Bool) where
   larges_set : (gs : List ℕ) (s : Store) (g : ℕ) → (edited_all s (larges_to v gs)).large_bit g ≡ (if is_among g gs then v else s.large_bit g)
   larges_set [] s g = refl
-  larges_set (c ∷ cs) s g = larges_set cs (edited s (SetLarge c v)) g ∙ merged (nat_eq g c) (is_among g cs) v (s.large_bit g)
+  larges_set (c ∷ cs) s g = larges_set cs (edited s (SetLarge c v)) g ∙ set_or (nat_eq g c) (is_among g cs) v (s.large_bit g)
 
   larges_else : (gs : List ℕ) (s : Store) → IsElse s (edited_all s (larges_to v gs)) × ((edited_all s (larges_to v gs)).inode ≡ s.inode) × ((edited_all s (larges_to v gs)).use_of ≡ s.use_of)
   larges_else [] s = (record { bit = refl; place = refl; byte = refl; large_byte = refl }, refl, refl)

@@ -2,10 +2,11 @@
 use Rattle.std.proofs.Common.{ℕ, ◌≡◌, ◌≢◌, ◌<◌, ◌≤◌, ◌+◌, ◌-◌, ◌==◌, ◌&&◌, Bool, true, false, nat_lt, if◌then◌else◌, Option, Some, None, List, [], length, slice_index, refl, sym, ◌∙◌, ap, subst, arith, is_some, eq-eqb}
 use Rattle.std.proofs.Math.Path.{fun_ext}
 use Rattle.std.proofs.lemmas.Bool.Decides.{nat_tests}
+use Rattle.std.proofs.lemmas.Bool.{and_parts, eqb-true}
 use Rattle.tree_definitions.specs.declared.cells.Cell.{Cell}
 use Rattle.tree_definitions.specs.declared.node.Node.TheVariants.{File}
 use Rattle.tree_definitions.specs.Tree.{small_blocks_of}
-use Rattle.frang_base.proofs.Basics.{eq_of}
+use Rattle.frang_base.proofs.Tests.{same_tests}
 use Rattle.disk_definitions.specs.Store.{Store, StoredNode}
 use Rattle.disk_definitions.specs.Store.Use.{Bytes}
 use Rattle.disk_definitions.specs.Naming.{Naming, Nodes, Pictures, first_blocks, has_large, blocks_of, inode_of, use_for}
@@ -13,7 +14,6 @@ use Rattle.disk_definitions.specs.Namings.{is_of}
 use Rattle.disk_definitions.specs.Resizing.{index_of, HasBlocks}
 use Rattle.disk_definitions.proofs.Indices.{index_hit, own_index}
 use Rattle.disk_definitions.specs.FilePlans.{small_after, large_after, resized}
-use Rattle.plan_laws.proofs.Among.{same_if}
 
 -- ---- the inode
 
@@ -63,7 +63,6 @@ module _ (stamp links since when large before : ℕ) (block own : ℕ → ℕ) (
     resized_is = let smalls : small_after x picks count ≡ first_blocks count block = fun_ext small_is in (λ i. shaped stamp links when (length new) (smalls i) (large_as i))
 
 -- ---- what stands where
-
 module _ (s : Store) (at : Nodes) (n : Naming) (g : Pictures s at n) (b links since large : ℕ) (old new : List Cell) (block : ℕ → ℕ) (is : at b ≡ Some (File old links since)) (has : HasBlocks s n b old new block large) where
   -- a block that the file had and has
   pub mine : (k i : ℕ) → i < small_blocks_of (length old) → n.block b i ≡ k → n.owner k ≡ Some (b, i)
@@ -100,22 +99,18 @@ module _ (s : Store) (at : Nodes) (n : Naming) (g : Pictures s at n) (b links si
   -- the large block is the file's exactly where it has one and this is it
   is_of_some : (o : Option ℕ) → is_of b o ≡ true → o ≡ Some b
   is_of_some None e = absurd (cc)
-  is_of_some (Some c) e = ap Some (eq_of c b e)
-
-  both_of : (p q : Bool) → (p && q) ≡ true → (p ≡ true) × (q ≡ true)
-  both_of true q e = (refl, e)
-  both_of false q e = absurd (cc)
+  is_of_some (Some c) e = ap Some (eqb-true c b e)
 
   abbrev is_its : ℕ → Bool
   is_its k = nat_lt 65536 (length old) && k == n.large b
 
   its_owner : (k : ℕ) → is_its k ≡ true → n.large_owner k ≡ Some b
   its_owner k e =
-      let r = both_of (nat_lt 65536 (length old)) (k == n.large b) e in
-      ap n.large_owner (eq_of k (n.large b) r.1) ∙ g.larges b (ap has_large is ∙ r.0)
+      let r = and_parts (nat_lt 65536 (length old)) (k == n.large b) e in
+      ap n.large_owner (eqb-true k (n.large b) r.1) ∙ g.larges b (ap has_large is ∙ r.0)
 
   pub large_owned : (k : ℕ) → is_of b (n.large_owner k) ≡ is_its k
-  large_owned k = same_if (is_of b (n.large_owner k)) (is_its k)
+  large_owned k = same_tests (is_of b (n.large_owner k)) (is_its k)
       (λ e. let r = g.large_owners k b (is_of_some (n.large_owner k) e) in let l : nat_lt 65536 (length old) ≡ true = subst (λ z. has_large z ≡ true) is r.1 in rw (l, eq-eqb k (n.large b) (sym r.0)) refl)
       (λ e. ap (is_of b) (its_owner k e) ∙ eq-eqb b b refl)
 

@@ -1,6 +1,7 @@
 -- The changes of one node are sound, over a store whose inode has at most the blocks that are said of it.
 use Rattle.std.proofs.Common.{ℕ, ◌≡◌, ◌<◌, ◌+◌, ◌-◌, ◌*◌, ◌/◌, ◌%◌, ◌||◌, Bool, true, false, ◌==◌, if◌then◌else◌, Some, None, List, [], ◌∷◌, refl, sym, ◌∙◌, ap, subst, arith, nat_eq}
-use Rattle.frang_base.proofs.Basics.{put_same, put_other, eq_of}
+use Rattle.std.proofs.lemmas.Bool.{eqb-true}
+use Rattle.frang_base.proofs.Basics.{put_same, put_other}
 use Rattle.tree_definitions.specs.declared.node.Node.{Node}
 use Rattle.disk_definitions.specs.Store.{Store, StoredNode, StoredEntry, Use, is_unused}
 use Rattle.disk_definitions.specs.Store.Use.{Fresh, Entries}
@@ -26,7 +27,7 @@ abbrev pub StandsFor : Store → ℕ → StoredNode → Type 0
 StandsFor s i x = (z : StoredNode) → s.inode i ≡ Some z → KeepsBlocks z x
 
 pub one_of : (j i : ℕ) → is_among j (i ∷ []) ≡ true → j ≡ i
-one_of j i e = eq_of j i (first (nat_eq j i) e)
+one_of j i e = eqb-true j i (first (nat_eq j i) e)
   where
     first : (b : Bool) → (b || false) ≡ true → b ≡ true
     first true e = refl

@@ -1,12 +1,12 @@
 -- A name that is looked up in a directory's sectors is found as in the tree.
 use Rattle.std.proofs.Common.{◌≡◌, ℕ, ◌*◌, ◌/◌, ◌%◌, ◌<◌, Bool, true, false, Option, Some, None, List, [], ◌∷◌, ◌++◌, map, refl, sym, ◌∙◌, ap, subst, arith, is_some}
 use Rattle.std.proofs.lemmas.List.{append-nil}
+use Rattle.std.proofs.lemmas.Bool.{lt-ltb}
 use Rattle.frang_base.specs.declared.reply.Reply.TheVariants as reply
 use Rattle.tree_definitions.specs.declared.node.Node.{Node}
 use Rattle.tree_definitions.specs.declared.node.Node.TheVariants.{Dir, File, Link}
 use Rattle.tree_definitions.specs.Entries.{Entries, entry_at}
 use Rattle.tree_definitions.specs.Place.{Place, Nowhere, place_by, place_in, walked_by}
-use Rattle.frang_base.proofs.Basics.{of_lt}
 use Rattle.tree_laws.proofs.Sameness.{text_sound, text_same}
 use Rattle.disk_definitions.specs.Store.{Store, StoredNode, StoredEntry}
 use Rattle.disk_definitions.specs.Naming.{Naming, Nodes, Pictures, find_in, room_in, first_blocks, inode_of, entry_of, place_of, dir_place}
@@ -28,7 +28,7 @@ pub record LeadsTo (s : Store) (at : Nodes) (n : Naming) (before : List ℕ) (w 
 module _ (s : Store) (at : Nodes) (n : Naming) (g : Pictures s at n) where
   -- the places of a directory, as its inode has them
   pub as_inode : (d blocks q : ℕ) → q < 56 * blocks → place_of s.place (first_blocks blocks (n.block d)) q ≡ dir_place s n d q
-  as_inode d blocks q l = ap (λ k. s.place k (q % 56)) (rw (of_lt (q / 56) blocks (which_block q blocks l)) refl)
+  as_inode d blocks q l = ap (λ k. s.place k (q % 56)) (rw (lt-ltb (q / 56) blocks (which_block q blocks l)) refl)
 
   named_by : (name : List ℕ) (o : Option StoredEntry) → is_named name o ≡ true → (e : StoredEntry) × (o ≡ Some e) × (e.name ≡ name)
   named_by name None h = absurd (cc)

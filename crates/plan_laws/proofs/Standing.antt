@@ -1,12 +1,13 @@
 -- What the disk of a tree says of its inodes, entries and free blocks, as far as locks go by it.
 use Rattle.std.proofs.Common.{ℕ, ◌≡◌, ◌≢◌, ◌<◌, ◌+◌, ◌-◌, ◌*◌, Bool, true, false, if◌then◌else◌, nat_lt, Option, Some, None, List, length, slice_index_or, refl, sym, ◌∙◌, ap, subst, arith, is_some}
 use Rattle.std.specs.List.{Contains}
+use Rattle.std.proofs.lemmas.Bool.{lt-ltb}
 use Rattle.frang_base.specs.declared.lock.LockId.TheVariants as lock
 use Rattle.tree_definitions.specs.declared.node.Node.{Node}
 use Rattle.tree_definitions.specs.declared.node.Node.TheVariants.{Dir, File, Link}
 use Rattle.tree_definitions.specs.Tree.{FileTree, node_at, small_blocks_of}
 use Rattle.tree_definitions.specs.Apply.{is_dir}
-use Rattle.frang_base.proofs.Basics.{of_lt}
+use Rattle.frang_base.proofs.Tests.{none_of}
 use Rattle.tree_laws.proofs.Keeping.{names_nodes}
 use Rattle.disk_definitions.specs.Store.{Store, StoredNode, StoredEntry, is_unused}
 use Rattle.disk_definitions.specs.Store.Use.{Fresh}
@@ -16,9 +17,9 @@ use Rattle.disk_definitions.specs.Picks.{picked_inode, picked_large, picked_dire
 use Rattle.disk_definitions.proofs.PickLaws.{an_inode, a_large_block}
 use Rattle.disk_definitions.proofs.ManyLaws.{picks_the_least}
 use Rattle.disk_definitions.proofs.Kept.{inode_is}
-use Rattle.disk_definitions.proofs.Free.{none_of}
 use Rattle.disk_definitions.specs.Plans.{Hand}
 use Rattle.disk_definitions.specs.Meets.{IsOfTree, IsHandOf, is_directory_use}
+use Rattle.disk_definitions.proofs.NodeLaws.{first_is}
 use Rattle.plan_laws.proofs.Picks.{block_some}
 use Rattle.plan_laws.proofs.Spots.{as_inode}
 use Rattle.plan_laws.specs.Covers.{inode_cover, small_cover, large_cover}
@@ -82,9 +83,6 @@ module _ (s : Store) (at : Nodes) (n : Naming) (g : Pictures s at n) where
     large_is : has_large (Some node) ≡ true → (k : ℕ) → k ≡ n.large b → large_cover n k (n.large_owner k) ≡ lock.Node (n.inode b)
     large_is l k e = let o : n.large_owner k ≡ Some b = ap n.large_owner e ∙ g.larges b (rw is l) in ap (large_cover n k) o
 
-  first_is : (count : ℕ) (block : ℕ → ℕ) (m : ℕ) → m < count → first_blocks count block m ≡ block m
-  first_is count block m l = rw (of_lt m count l) refl
-
   file_uses : (b : ℕ) (node : Node) → at b ≡ Some node → kind_of node ≡ 1 → (m k : ℕ) → m < blocks_of (Some node) → k ≡ n.block b m → is_directory_use (s.use_of k) ≡ false
   file_uses b (Dir entries blocks) is one m k l e = absurd (omega arith)
   file_uses b (Link target links) is one m k l e = absurd (omega arith)
@@ -112,7 +110,7 @@ module _ (s : Store) (at : Nodes) (n : Naming) (g : Pictures s at n) where
     large = by_size (nat_lt 65536 (length cells)) refl;
     file = λ e. record {
       blocks = refl;
-      large = λ l. longer (nat_lt 65536 (length cells)) (of_lt 65536 (length cells) l);
+      large = λ l. longer (nat_lt 65536 (length cells)) (lt-ltb 65536 (length cells) l);
       uses = λ m l. file_uses b (File cells links when) is refl m (first_blocks count (n.block b) m) l (first_is count (n.block b) m l);
     };
   }

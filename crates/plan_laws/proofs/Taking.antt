@@ -3,8 +3,8 @@ use Rattle.std.proofs.Common.{ℕ, zero, suc, ◌≡◌, ◌≢◌, ◌<◌, ◌
 use Rattle.std.proofs.lemmas.Bool.Decides.{nat_tests}
 use Rattle.std.specs.Option.{option_map}
 use Rattle.std.specs.List.Sorted.{IsStrictlyIncreasing}
+use Rattle.std.proofs.lemmas.Bool.{false_from_ne_true, lt-leb, le-leb}
 use Rattle.frang_base.specs.declared.bitmap.Bitmap.{Bitmap}
-use Rattle.frang_base.proofs.Basics.{of_le, of_gt}
 use Rattle.disk_definitions.specs.Bitmaps.{block_state}
 use Rattle.tree_definitions.specs.Tree.{FileTree, count_of, file_blocks, large_blocks, larges_full}
 use Rattle.disk_definitions.specs.Store.{Store, use_by}
@@ -19,7 +19,7 @@ use Rattle.disk_definitions.proofs.ManyLaws.{picks_the_least, where_there_are_en
 use Rattle.disk_definitions.specs.Plans.{Hand}
 use Rattle.disk_definitions.specs.FilePlans.{directory_blocks}
 use Rattle.disk_definitions.specs.Meets.{IsOfTree, IsHandOf, is_directory_use, directory_blocks_in}
-use Rattle.plan_laws.proofs.Counting.{count_all, count_less, false_if}
+use Rattle.plan_laws.proofs.Counting.{count_all, count_less}
 use Rattle.plan_laws.proofs.FileTotals.{is_fresh, is_bytes, files_counted, larges_counted, uses_counted}
 
 -- none passes past a number
@@ -97,7 +97,7 @@ module _ (h : Hand) (s : Store) (tree : FileTree) (n : Naming) (of : IsOfTree s 
       let x = held_there (λ (x : Bitmap). x.large) (bitmap_of h.held g) false free in
       let l : g < tree.segments = hand.within g (ap is_some x.1) in
       let c : count s.large_bit tree.segments < tree.segments = count_less s.large_bit tree.segments g l bit in
-      (bit, l, of_gt tree.segments (count_of large_blocks tree) (subst (λ z. z < tree.segments) (larges_counted s tree n of) c))
+      (bit, l, lt-leb tree.segments (count_of large_blocks tree) (subst (λ z. z < tree.segments) (larges_counted s tree n of) c))
 
   not_free : (g : ℕ) (o : Option Bitmap) → bitmap_of h.held g ≡ o → is_some o ≡ true → large_in h.held g ≢ Some false → s.large_bit g ≡ true
   not_free g None i e f = absurd (cc)
@@ -111,7 +111,7 @@ module _ (h : Hand) (s : Store) (tree : FileTree) (n : Naming) (of : IsOfTree s 
   large_none e all =
       let c : count s.large_bit tree.segments ≡ tree.segments = count_all s.large_bit tree.segments (λ g l. not_free g (bitmap_of h.held g) refl (hand.all.0 all g l) (no_large_block h.held are_segments e g)) in
       let t : count s.large_bit tree.segments ≡ count_of large_blocks tree = larges_counted s tree n of in
-      of_le tree.segments (count_of large_blocks tree) (omega arith)
+      le-leb tree.segments (count_of large_blocks tree) (omega arith)
 
   -- ---- small blocks
   abbrev fresh : ℕ → Bool
@@ -129,7 +129,7 @@ module _ (h : Hand) (s : Store) (tree : FileTree) (n : Naming) (of : IsOfTree s 
       let m : k / 1024 < tree.segments = hand.within (k / 1024) (ap is_some x.1) in omega arith
 
   past : (state k : ℕ) → 1024 * tree.segments ≤ k → is_in_state state (state_in h.held k) ≡ false
-  past state k l = false_if (is_in_state state (state_in h.held k)) (λ e. (let b : k < 1024 * tree.segments = below_end k state (state_is state (state_in h.held k) e) in omega arith))
+  past state k l = false_from_ne_true (is_in_state state (state_in h.held k)) (λ e. (let b : k < 1024 * tree.segments = below_end k state (state_is state (state_in h.held k) e) in omega arith))
 
   all_blocks : 65536 ≡ 1024 * tree.segments + (65536 - 1024 * tree.segments)
   all_blocks = let m : tree.segments ≤ 64 = of.few in omega arith

@@ -14,7 +14,7 @@ use Rattle.disk_definitions.specs.Meets.{IsOfTree}
 use Rattle.plan_laws.proofs.Counting.{count_keys}
 use Rattle.plan_laws.proofs.Blocks.{IsBlockOf, count_blocks}
 
-free_if : (b : Bool) → is_unused (if b then Empty else Fresh) ≡ true
+pub free_if : (b : Bool) → is_unused (if b then Empty else Fresh) ≡ true
 free_if true = refl
 free_if false = refl
 

@@ -1,6 +1,6 @@
 -- The plan of truncate gives back the blocks that the file no longer needs.
 use Rattle.std.proofs.Common.{ℕ, ◌≡◌, ◌≢◌, ◌<◌, ◌≤◌, ◌+◌, ◌-◌, ◌*◌, ◌/◌, ◌%◌, ◌==◌, ◌&&◌, not, ⊎_elim, Bool, true, false, nat_lt, nat_le, nat_eq, if◌then◌else◌, Option, Some, None, List, [], ◌∷◌, length, take, refl, sym, ◌∙◌, ap, ap₂, subst, arith, is_some, eq-eqb}
-use Rattle.std.proofs.lemmas.Bool.{cases_lt}
+use Rattle.std.proofs.lemmas.Bool.{cases_lt, false_from_ne_true, lt-ltb, eqb-false, eqb-true}
 use Rattle.std.proofs.lemmas.Bool.Decides.{nat_tests}
 use Rattle.std.proofs.lemmas.List.{length-take-le}
 use Rattle.std.specs.List.{slice_get}
@@ -10,7 +10,6 @@ use Rattle.tree_definitions.specs.declared.cells.Cell.{Cell}
 use Rattle.tree_definitions.specs.declared.node.Node.TheVariants.{File}
 use Rattle.tree_definitions.specs.Tree.{FileTree, node_at, with_node, small_blocks_of}
 use Rattle.tree_definitions.specs.Apply.{says, truncated}
-use Rattle.frang_base.proofs.Basics.{eq_of, ne_of, of_lt}
 use Rattle.tree_laws.specs.WellFormed.{IsWellFormed}
 use Rattle.tree_laws.proofs.StepsLaws.{apply_keeps}
 use Rattle.disk_definitions.specs.Store.{Store, StoredNode, Use}
@@ -35,7 +34,6 @@ use Rattle.plan_laws.specs.FilesPlanned.{TruncateIsPlanned}
 use Rattle.plan_laws.proofs.Aiming.{file_meets}
 use Rattle.plan_laws.proofs.Cells.{get_take}
 use Rattle.plan_laws.proofs.Bytes.{values, values_below}
-use Rattle.plan_laws.proofs.Counting.{false_if}
 use Rattle.plan_laws.proofs.Among.{is_among, among_at, at_among}
 use Rattle.plan_laws.proofs.Setting.{IsSet, all_set}
 use Rattle.plan_laws.proofs.Sizing.{AreWithin, resized_tree}
@@ -86,7 +84,7 @@ module _ (h : Hand) (s : Store) (tree : FileTree) (n : Naming) (of : IsOfTree s 
 
   -- ---- small blocks
   small_at : (i : ℕ) → i < to → x.small i ≡ n.block b i
-  small_at i l = rw (of_lt i to l) refl
+  small_at i l = rw (lt-ltb i to l) refl
 
   gone_is : gone ≡ values (λ m. x.small (from + m)) 0 (to - from)
   gone_is = values_below (λ m. x.small (from + m)) (to - from)
@@ -97,7 +95,7 @@ module _ (h : Hand) (s : Store) (tree : FileTree) (n : Naming) (of : IsOfTree s 
       ap (is_among k) gone_is ∙ among_at (λ m. x.small (from + m)) k (to - from) 0 (j - from) (omega arith) (ap x.small z ∙ small_at j hi ∙ e)
 
   gone_none : (k : ℕ) → ((j : ℕ) → from ≤ j → j < to → n.block b j ≢ k) → is_among k gone ≡ false
-  gone_none k none = false_if (is_among k gone) (λ e.
+  gone_none k none = false_from_ne_true (is_among k gone) (λ e.
       let r = at_among (λ m. x.small (from + m)) k (to - from) 0 (ap (is_among k) (sym gone_is) ∙ e) in
       let l : r.0 < to - from = r.1 in
       let z : from + (0 + r.0) ≡ from + r.0 = omega arith in
@@ -124,10 +122,10 @@ module _ (h : Hand) (s : Store) (tree : FileTree) (n : Naming) (of : IsOfTree s 
   uses_cut k (Some (c, j)) e = by_owner (nat_eq c b) refl
     where
       other : nat_eq c b ≡ false → (i : ℕ) → i < to → n.block b i ≢ k
-      other q i l = not_mine s (node_at tree) n of.pictures b links since (n.large b) old new (n.block b) is has k i c j (ne_of c b q) l e
+      other q i l = not_mine s (node_at tree) n of.pictures b links since (n.large b) old new (n.block b) is has k i c j (eqb-false c b q) l e
 
       own : nat_eq c b ≡ true → n.owner k ≡ Some (b, j)
-      own q = e ∙ ap (λ z. Some (z, j)) (eq_of c b q)
+      own q = e ∙ ap (λ z. Some (z, j)) (eqb-true c b q)
 
       one : nat_eq c b ≡ true → (i : ℕ) → i < to → n.block b i ≡ k → i ≡ j
       one q i l w = mine_one s (node_at tree) n of.pictures b links since (n.large b) old new (n.block b) is has k i j l w (own q)
@@ -161,7 +159,7 @@ module _ (h : Hand) (s : Store) (tree : FileTree) (n : Naming) (of : IsOfTree s 
   y_is = resized_is (n.stamp b) links since when (n.large b) (n.large b) (n.block b) (n.block b) old new [] None (record {
     kept = λ j l m. refl;
     picked = λ j l m. absurd (omega (arith, fewer));
-    large_is = λ l. let longer : 65536 < length old = omega (arith, shorter) in rw (of_lt 65536 (length new) l, of_lt 65536 (length old) longer) refl;
+    large_is = λ l. let longer : 65536 < length old = omega (arith, shorter) in rw (lt-ltb 65536 (length new) l, lt-ltb 65536 (length old) longer) refl;
   })
 
   set : IsSet s t Fresh gone false (large_cut x (length new)) (n.inode b) y
@@ -172,7 +170,7 @@ module _ (h : Hand) (s : Store) (tree : FileTree) (n : Naming) (of : IsOfTree s 
     inode = λ j. set.inode j;
     bit = λ j. ap (λ f. f j) set.bit;
     uses = λ k. set.uses k ∙ uses_cut k (n.owner k) refl;
-    large_bits = λ k. set.larges k ∙ cut_large (nat_lt 65536 (length old)) k (n.large b) (length new) (s.large_bit k) (λ e. (let l : 65536 < length new = grind (arith, nat_tests) in of_lt 65536 (length old) (omega (arith, shorter))))
+    large_bits = λ k. set.larges k ∙ cut_large (nat_lt 65536 (length old)) k (n.large b) (length new) (s.large_bit k) (λ e. (let l : 65536 < length new = grind (arith, nat_tests) in lt-ltb 65536 (length old) (omega (arith, shorter))))
         (large_used s (node_at tree) n of.pictures b links since (n.large b) old new (n.block b) is has k)
         ∙ ap (λ v. if nat_lt 65536 (length new) && k == n.large b then true else (if v then false else s.large_bit k)) (sym (large_owned s (node_at tree) n of.pictures b links since (n.large b) old new (n.block b) is has k));
     places = λ k p l i. ap (λ f. f k p) set.place;
@@ -184,7 +182,7 @@ module _ (h : Hand) (s : Store) (tree : FileTree) (n : Naming) (of : IsOfTree s 
   own_within : AreWithin tree.segments new (n.block b) (n.large b)
   own_within = record {
     smalls = λ j l. in_range j l;
-    larges = λ l. of.larges (n.large b) (large_used s (node_at tree) n of.pictures b links since (n.large b) old new (n.block b) is has (n.large b) (let longer : 65536 < length old = omega (arith, shorter) in rw (of_lt 65536 (length old) longer, eq-eqb (n.large b) (n.large b) refl) refl));
+    larges = λ l. of.larges (n.large b) (large_used s (node_at tree) n of.pictures b links since (n.large b) old new (n.block b) is has (n.large b) (let longer : 65536 < length old = omega (arith, shorter) in rw (lt-ltb 65536 (length old) longer, eq-eqb (n.large b) (n.large b) refl) refl));
   }
     where
       in_range : (j : ℕ) → j < from → n.block b j < 1024 * tree.segments

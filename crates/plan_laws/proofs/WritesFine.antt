@@ -3,10 +3,10 @@ use Rattle.std.proofs.Common.{ℕ, ◌≡◌, ◌≢◌, ◌<◌, ◌≤◌, ◌
 use Rattle.std.proofs.lemmas.Bool.Decides.{nat_tests}
 use Rattle.std.proofs.lemmas.List.Elements.{Contains-append_left, Contains-append_right}
 use Rattle.std.specs.List.{Contains}
+use Rattle.std.proofs.lemmas.Bool.{lt-ltb}
 use Rattle.frang_base.specs.declared.lock.LockId.TheVariants as lock
 use Rattle.frang_base.specs.declared.reply.Reply.TheVariants as reply
 use Rattle.tree_definitions.specs.Tree.{small_blocks_of}
-use Rattle.frang_base.proofs.Basics.{of_lt}
 use Rattle.disk_definitions.specs.Store.{Store, StoredNode}
 use Rattle.disk_definitions.specs.Store.Use.{Bytes}
 use Rattle.disk_definitions.specs.Naming.{Naming}
@@ -63,7 +63,7 @@ module _ (h : Hand) (s : Store) (n : Naming) (disk : DiskStands h s n) (touched 
     SmallFits k = IsSole locks (small_cover n k (n.owner k)) × (is_directory_use (s.use_of k) ≡ false)
 
     small_fits : (m : ℕ) → m < small_blocks_of size → SmallFits (y.small m)
-    small_fits m l = rw (of_lt m (small_blocks_of size) l) (go (nat_lt m x.blocks) refl)
+    small_fits m l = rw (lt-ltb m (small_blocks_of size) l) (go (nat_lt m x.blocks) refl)
       where
         go : (b : Bool) → nat_lt m x.blocks ≡ b → SmallFits (if b then x.small m else slice_index picks (m - x.blocks))
         go true e = let inside : m < x.blocks = grind (arith, nat_tests) in (subst (IsSole locks) (sym ((disk.nodes i x is).small m inside)) own, file.uses m inside)
@@ -77,10 +77,10 @@ module _ (h : Hand) (s : Store) (n : Naming) (disk : DiskStands h s n) (touched 
             (subst (λ o. IsSole locks (small_cover n k o)) (sym f.0) (pick_segment k c), f.1)
 
     large_of : (o : Option ℕ) → IsPick o → ((g : ℕ) → Contains (large_segment o) g → IsSole locks (lock.Segment g)) → 65536 < end_of w → IsSole locks (large_cover n ((resized x w.when size picks o).large - 1) (n.large_owner ((resized x w.when size picks o).large - 1)))
-    large_of None one f l = rw (of_lt 65536 size (omega arith)) (subst (IsSole locks) (sym ((disk.nodes i x is).large (one l))) own)
+    large_of None one f l = rw (lt-ltb 65536 size (omega arith)) (subst (IsSole locks) (sym ((disk.nodes i x is).large (one l))) own)
     large_of (Some g) one f l =
         let e : g ≡ g + 1 - 1 = omega arith in
-        rw (of_lt 65536 size (omega arith)) (subst (λ k. IsSole locks (large_cover n k (n.large_owner k))) e (subst (λ o. IsSole locks (large_cover n g o)) (sym one) (f g (has_head g []))))
+        rw (lt-ltb 65536 size (omega arith)) (subst (λ k. IsSole locks (large_cover n k (n.large_owner k))) e (subst (λ o. IsSole locks (large_cover n g o)) (sym one) (f g (has_head g []))))
 
     large_fits : 65536 < end_of w → IsSole locks (large_cover n (y.large - 1) (n.large_owner (y.large - 1)))
     large_fits l = large_of o one (λ g c. segment g (Contains-append_right (map (λ k. k / 1024) picks) (large_segment o) g c)) l

@@ -2,6 +2,7 @@
 use Rattle.std.proofs.Common.{ℕ, ◌≡◌, ◌<◌, ◌≤◌, ◌+◌, ◌-◌, ◌*◌, ◌/◌, ◌%◌, ◌==◌, ◌&&◌, ◌||◌, ◌⊎◌, inl, inr, ⊎_elim, Bool, true, false, nat_lt, nat_le, min, if◌then◌else◌, refl, sym, ◌∙◌, ap, subst, arith}
 use Rattle.std.proofs.lemmas.Bool.{cases_lt}
 use Rattle.std.proofs.lemmas.Bool.Decides.{nat_tests}
+use mathlib.Core.Bool.{or-true}
 use Rattle.disk_definitions.specs.Store.{Store, StoredNode}
 use Rattle.disk_definitions.specs.Edits.{edited_all}
 use Rattle.disk_definitions.specs.FilePlans.{Writing, end_of, keeps_bytes, byte_over, mixed, sectors_met}
@@ -28,15 +29,11 @@ met_byte off len j lo hi = go (len == 0) refl
 keeps_outside : (w : Writing) (size j : ℕ) → j < size → (j < w.off) ⊎ (end_of w ≤ j) → keeps_bytes w size (j / 512) ≡ true
 keeps_outside w size j l out = ⊎_elim
     (λ a. let b : nat_lt (512 * (j / 512)) (min w.off size) ≡ true = low (512 * (j / 512)) w.off size (omega arith) (omega arith) in ap (λ v. v || nat_lt (end_of w) (min (512 * (j / 512 + 1)) size)) b)
-    (λ a. let b : nat_lt (end_of w) (min (512 * (j / 512 + 1)) size) ≡ true = low (end_of w) (512 * (j / 512 + 1)) size (omega arith) (omega arith) in ap (λ v. nat_lt (512 * (j / 512)) (min w.off size) || v) b ∙ or_true (nat_lt (512 * (j / 512)) (min w.off size)))
+    (λ a. let b : nat_lt (end_of w) (min (512 * (j / 512 + 1)) size) ≡ true = low (end_of w) (512 * (j / 512 + 1)) size (omega arith) (omega arith) in ap (λ v. nat_lt (512 * (j / 512)) (min w.off size) || v) b ∙ or-true (nat_lt (512 * (j / 512)) (min w.off size)))
     out
   where
     low : (a b c : ℕ) → a < b → a < c → nat_lt a (min b c) ≡ true
     low a b c k m = let z : a < min b c = omega arith in grind (arith, nat_tests)
-
-    or_true : (b : Bool) → (b || true) ≡ true
-    or_true true = refl
-    or_true false = refl
 
 in_sector : (w : Writing) (t r : ℕ) (old : ℕ → ℕ) → r < 512 → mixed w t old r ≡ byte_over w (512 * t + r) (old r)
 in_sector w t r old l = let i : nat_lt r 512 ≡ true = grind (arith, nat_tests) in rw i refl

@@ -1,19 +1,13 @@
 -- The first of the seen sectors that are left stands as all do, or those behind it do.
 use Rattle.std.proofs.Common.{◌≡◌, ◌<◌, ◌+◌, ◌==◌, ℕ, Bool, true, false, if◌then◌else◌, Option, Some, None, List, ◌∷◌, drop, length, slice_index_or, suc, sym, ap, ◌∙◌, arith}
 use Rattle.std.proofs.Math.Seq.{drop-cons}
-use Rattle.std.proofs.lemmas.Bool.Decides.{nat_tests}
+use Rattle.std.proofs.lemmas.Bool.{eq-eqb, ne_eqb}
 use Rattle.frang_base.specs.declared.sector.Sector.{Sector}
 use Rattle.sector_bytes.specs.Blocks.{Block, version_of}
 use Rattle.sector_bytes.specs.SectorMaps.{value_at}
 use Rattle.disk_definitions.specs.Written.{Cached}
 use Rattle.core_definitions.specs.Lines.{Comparison, HasMoved, HasStopped, compared, compared_at}
 use Rattle.plan_locks.specs.Seen.{seen_as}
-
-is_other : (n v : ℕ) → (n ≡ v → ⊥) → (n == v) ≡ false
-is_other n v t = grind (arith, nat_tests)
-
-is_same : (n v : ℕ) → n ≡ v → (n == v) ≡ true
-is_same n v e = grind (arith, nat_tests)
 
 module _ (cached : Cached) (xs : List (Sector × ℕ)) (i : ℕ) (none : Sector × ℕ) (inside : i < length xs) (before : compared (seen_as (drop i xs)) cached ≡ compared (seen_as xs) cached) where
   abbrev pub x : Sector × ℕ
@@ -35,7 +29,7 @@ module _ (cached : Cached) (xs : List (Sector × ℕ)) (i : ℕ) (none : Sector 
   has_stopped e = by_block None e
 
   pub has_moved : (block : Block) → value_at cached x.0.0 ≡ Some block → (version_of block ≡ x.1 → ⊥) → HasMoved ≡ compared (seen_as xs) cached
-  has_moved block e t = by_test block false e (is_other (version_of block) x.1 t)
+  has_moved block e t = by_test block false e (ne_eqb (version_of block) x.1 t)
 
   pub goes_on : (block : Block) → value_at cached x.0.0 ≡ Some block → version_of block ≡ x.1 → rest ≡ compared (seen_as xs) cached
-  goes_on block e t = by_test block true e (is_same (version_of block) x.1 t)
+  goes_on block e t = by_test block true e (eq-eqb (version_of block) x.1 t)

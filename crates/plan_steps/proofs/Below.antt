@@ -2,6 +2,7 @@
 use Rattle.std.proofs.Common.{◌≡◌, ℕ, zero, suc, ◌+◌, ◌<◌, ◌≤◌, Bool, true, false, ◌&&◌, [], ◌∷◌, ◌++◌, ⊎_elim, refl, ap, subst, ◌∙◌, arith}
 use Rattle.std.proofs.Math.Nat.{eq-or-lt_of_le}
 use Rattle.std.specs.List.{list_all}
+use Rattle.std.proofs.lemmas.Bool.{and_left}
 use Rattle.std.proofs.lemmas.List.Folds.{list_all-append}
 use Rattle.tree_definitions.specs.Numbers.{below}
 
@@ -21,10 +22,6 @@ second true false e = refl
 second false false e = refl
 second a true e = absurd (cc)
 
-first : (a b : Bool) → a ≡ false → (a && b) ≡ false
-first false b e = refl
-first true b e = absurd (cc)
-
 pub all_not : (f : ℕ → Bool) (n i : ℕ) → i < n → f i ≡ false → list_all f (below n) ≡ false
 all_not f zero i l e = absurd (omega arith)
 all_not f (suc n) i l e =
@@ -32,4 +29,4 @@ all_not f (suc n) i l e =
     list_all-append f (below n) (n ∷ [])
     ∙ ⊎_elim
     (λ same. second (list_all f (below n)) (f n) (subst (λ k. f k ≡ false) same e))
-    (λ less. first (list_all f (below n)) (f n && true) (all_not f n i less e)) (eq-or-lt_of_le {n = i} {m = n} le)
+    (λ less. and_left (list_all f (below n)) (f n && true) (all_not f n i less e)) (eq-or-lt_of_le {n = i} {m = n} le)

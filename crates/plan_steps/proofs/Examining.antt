@@ -15,14 +15,10 @@ use Rattle.plan_laws.proofs.Traces.{traces_go_on, traces_meet}
 use Rattle.dir_lookup.specs.Looked.{Adds}
 use Rattle.dir_lookup.specs.Looks.{looks_of}
 use Rattle.dir_lookup.specs.Reading.{Read, Lacks, Gives, numbered, reading}
-use Rattle.dir_lookup.proofs.Looking.{adds_as}
+use Rattle.dir_lookup.proofs.Looking.{adds_as, gives_met}
 use Rattle.plan_steps.specs.Looking.{Looks, examined}
 
 -- ---- one program after another
-
-gives_met : {A : Type 0} (m : Met A) (a : A) → Gives a ≡ numbered m → m ≡ Has a
-gives_met (Needs x) a e = absurd (cc)
-gives_met (Has b) a e = cc
 
 lacks_met : {A : Type 0} (m : Met A) (s : ℕ) → Lacks s ≡ numbered m → (x : Sector) × (m ≡ Needs x)
 lacks_met (Needs x) s e = (x, refl)

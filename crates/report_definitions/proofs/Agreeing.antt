@@ -8,6 +8,7 @@ use Rattle.std.specs.Cmp.{nat_cmp_total}
 use Rattle.std.specs.Cmp.Lexicographic.{slice_cmp}
 use Rattle.std.proofs.lemmas.Bool.{and_parts, and_from, cond-true, not-true, both_ways}
 use Rattle.std.proofs.lemmas.Map.Entries.{sum_by-insert_entry}
+use Rattle.frang_base.proofs.Tests.{none_of}
 use Rattle.tree_definitions.specs.declared.node.Node.{Node}
 use Rattle.tree_definitions.specs.Entries.{Entries, entry_at}
 use Rattle.tree_laws.specs.WellFormed.{one_at, names_in, names_of}
@@ -62,10 +63,6 @@ module _ (s : Store) (place : ℕ → Option StoredEntry) (n : ℕ) where
 
 -- ---- counts of entries
 
-none_is : (o : Option ℕ) → is_some o ≡ false → o ≡ None
-none_is None h = refl
-none_is (Some k) h = absurd (cc)
-
 -- how often entries have an inode
 abbrev total_in : ℕ → Entries → ℕ
 total_in i es = sum_by (one_at i) (values_of es)
@@ -81,7 +78,7 @@ named_well s (Some e) h = cond-true (has_kind (s.inode e.inode) e.kind) (Some e.
 
 module _ (place : ℕ → Option StoredEntry) where
   absent : (n : ℕ) (x : StoredEntry) → place n ≡ Some x → is_new_at place n (place n) ≡ true → entry_at (entries_to place n) x.name ≡ None
-  absent n x e h = none_is (entry_at (entries_to place n) x.name) (not-true (is_some (entry_at (entries_to place n) x.name)) (sym (ap (is_new_at place n) e) ∙ h))
+  absent n x e h = none_of (entry_at (entries_to place n) x.name) (not-true (is_some (entry_at (entries_to place n) x.name)) (sym (ap (is_new_at place n) e) ∙ h))
 
   abbrev there : ℕ → ℕ
   there n = count_below n (λ q. is_some (place q))

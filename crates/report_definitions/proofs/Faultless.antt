@@ -14,7 +14,7 @@ use Rattle.disk_definitions.specs.Naming.{Nodes, find_in}
 use Rattle.disk_definitions.specs.Standing.{IsMetadata}
 use Rattle.standing_laws.specs.Below.{all_below, holds, lists, is_new}
 use Rattle.standing_laws.specs.ReadTree.{place_at, tree_in}
-use Rattle.standing_laws.specs.Soundness.{agree, bit_agrees, block_in, block_at, is_used_for, use_agrees, is_cleared, large_in, large_at, is_marked, has_kind, entries_agree, links_agree, IsConsistent}
+use Rattle.standing_laws.specs.Soundness.{bit_agrees, block_in, block_at, is_used_for, use_agrees, is_cleared, large_in, large_at, is_marked, has_kind, entries_agree, links_agree, IsConsistent}
 use Rattle.standing_laws.proofs.Bounded.{all_at, all_from, lists_at, holds_at, holds_from}
 use Rattle.standing_laws.proofs.Entered.{found_at, new_name}
 use Rattle.standing_laws.proofs.RoomLaws.{small_below, large_below}
@@ -22,6 +22,7 @@ use Rattle.standing_laws.proofs.Shapes.{Shape, OfFile, OfDir, OfLink}
 use Rattle.standing_laws.proofs.SoundStanding.{is_directory}
 use Rattle.standing_laws.proofs.Pictured.{IsInRange, read_file, read_dir, read_link, at_some, agreed, dir_size}
 use Rattle.standing_laws.proofs.PicturedBlocks.{place_is, in_slot, few}
+use Rattle.standing_laws.proofs.StandingBlocks.{agree_same}
 use Rattle.report_definitions.specs.Sums.{first_below}
 use Rattle.report_definitions.specs.View.{View, names, IsReach}
 use Rattle.report_definitions.specs.Rules.{used, used_large, directory_block, is_new_in, is_new_name, names_well, entries_of, names_to, counts_agree, is_root_fine, is_count_fine, is_named_once, is_within, is_first_within, is_bit_fine, is_sector_fine, are_entries_fine, kind_at, is_use_fine_by, is_use_fine, are_parts_fine, is_block_fine, is_segment_fine, is_mark_fine}
@@ -31,10 +32,6 @@ use Rattle.report_definitions.proofs.Reaching.{names_from, reached_used}
 use Rattle.report_definitions.proofs.Wherever.{directory_of_block, wherever_from}
 use Rattle.report_definitions.proofs.Agreeing.{IsFineAt, fine_where_agree, entries_are, names_are}
 use Rattle.report_definitions.proofs.Sound.{same_where, no_some}
-
-same_agrees : (a b : Bool) → a ≡ b → agree a b ≡ true
-same_agrees true b h = sym h
-same_agrees false b h = not_from_false b (sym h)
 
 -- what a directory's block is used for is metadata
 directory_use : (u : Use) → is_used_for 2 u ≡ true → IsMetadata u
@@ -190,7 +187,7 @@ module _ (v : View) (r : ℕ → Bool) (reach : IsReach v.store r) (range : IsIn
       and_from (is_use_fine v r (1024 * k + j)) (are_parts_fine v (1024 * k + j) (s.use_of (1024 * k + j))) (use_fine (1024 * k + j) b) (parts_fine (1024 * k + j) b (s.use_of (1024 * k + j)) refl))))
 
   mark_fine : (g : ℕ) → g < v.segments → is_mark_fine v r g ≡ true
-  mark_fine g l = same_agrees (lists (used_large v r) n g) (s.large_bit g) (ap (λ (h : ℕ → Option ℕ). lists h n g) (sym large_same) ∙ go (lists (large_at s) n g) refl)
+  mark_fine g l = agree_same (lists (used_large v r) n g) (s.large_bit g) (ap (λ (h : ℕ → Option ℕ). lists h n g) (sym large_same) ∙ go (lists (large_at s) n g) refl)
     where
       go : (b : Bool) → lists (large_at s) n g ≡ b → lists (large_at s) n g ≡ s.large_bit g
       go true e =

@@ -1,6 +1,7 @@
 -- What is reached is the same for every report of a disk, and so is the report.
-use Rattle.std.proofs.Common.{◌≡◌, ℕ, Bool, true, false, List, [], ◌∷◌, refl, sym, ◌∙◌, ap, subst, eqb-true}
-use Rattle.std.proofs.lemmas.Bool.{and_parts, both_ways}
+use Rattle.std.proofs.Common.{◌≡◌, ℕ, Bool, true, List, [], ◌∷◌, sym, ◌∙◌, ap, subst, eqb-true}
+use Rattle.std.proofs.lemmas.Bool.{and_parts}
+use Rattle.frang_base.proofs.Tests.{same_tests}
 use Rattle.disk_definitions.specs.declared.param.Param.{Param}
 use Rattle.disk_definitions.specs.Params.{param_in}
 use Rattle.disk_definitions.specs.Store.{Store}
@@ -18,16 +19,11 @@ module _ (s : Store) (one two : ℕ → Bool) (first : IsReach s one) (second : 
   pub reached_too : (i : ℕ) → one i ≡ true → two i ≡ true
   reached_too i h = let w = first.led i h in along w.0 0 i second.root w.1
 
-both_or_neither : (a b : Bool) → (a ≡ true → b ≡ true) → (b ≡ true → a ≡ true) → a ≡ b
-both_or_neither true b f g = sym (f refl)
-both_or_neither false true f g = absurd (both_ways false refl (g refl))
-both_or_neither false false f g = refl
-
 same_reach : (s : Store) (one two : ℕ → Bool) → IsReach s one → IsReach s two → one ≡ two
 same_reach s one two first second = λ k i. at i k
   where
     at : (i : ℕ) → one i ≡ two i
-    at i = both_or_neither (one i) (two i) (reached_too s one two first second i) (reached_too s two one second first i)
+    at i = same_tests (one i) (two i) (reached_too s one two first second i) (reached_too s two one second first i)
 
 pub one_report : OneReport
 one_report sectors a b first second =

@@ -1,6 +1,6 @@
 -- The first place of each number, one place after another.
 use Rattle.std.proofs.Common.{◌≡◌, ℕ, zero, suc, ◌+◌, ◌<◌, ⊎_elim, Bool, true, false, not, ◌&&◌, ◌||◌, Option, Some, None, is_some, List, [], ◌∷◌, ◌++◌, length, set, replicate, cond, refl, sym, ◌∙◌, ap, subst, arith, nat_lt, eq-eqb, ne_eqb, lt-ltb, ltb-true, get_or, length-set, length-append, get_or-set_same, get_or-set_other}
-use Rattle.std.proofs.lemmas.Bool.{and_right, cases_eq, cond-true, cond-false}
+use Rattle.std.proofs.lemmas.Bool.{and_right, cases_eq, cond-true, cond-false, and_parts}
 use Rattle.standing_laws.specs.Below.{holds, lists, is_new, any_below}
 use Rattle.disk_reading.specs.Marks.{flag_at}
 use Rattle.report_definitions.specs.Sums.{or_else, first_below, count_below}
@@ -70,15 +70,11 @@ module _ (f : ℕ → Option ℕ) (limit n : ℕ) (first : List (Option ℕ)) (f
   -- the number of the place is still free
   open_next : (m : ℕ) → f n ≡ Some m → vacant m ≡ true → (k : ℕ) → k < limit → get_or (set first m (Some n)) k None ≡ first_below (n + 1) (λ t. holds (f t) k)
   open_next m e t k l = ⊎_elim
-      (λ s. (let h : m < length first = ltb-true m (length first) (parts (nat_lt m (length first)) (not (is_some (get_or first m None))) t).0 in
-      let z : earliest m ≡ None = sym (a.users m (subst (λ k. k < limit) (sym s) l)) ∙ none (get_or first m None) (parts (nat_lt m (length first)) (not (is_some (get_or first m None))) t).1 in
+      (λ s. (let h : m < length first = ltb-true m (length first) (and_parts (nat_lt m (length first)) (not (is_some (get_or first m None))) t).0 in
+      let z : earliest m ≡ None = sym (a.users m (subst (λ k. k < limit) (sym s) l)) ∙ none (get_or first m None) (and_parts (nat_lt m (length first)) (not (is_some (get_or first m None))) t).1 in
       subst (λ k. get_or (set first m (Some n)) k None ≡ first_below (n + 1) (λ t. holds (f t) k)) s (get_or-set_same first m (Some n) None h ∙ sym (starts m z (ap (λ o. holds o m) e ∙ eq-eqb m m refl)))))
       (λ ne. get_or-set_other first m k (Some n) None (λ q. ne (sym q)) ∙ a.users k l ∙ sym (unchanged k (ap (λ o. holds o k) e ∙ ne_eqb m k ne))) (cases_eq m k)
     where
-      parts : (x y : Bool) → (x && y) ≡ true → (x ≡ true) × (y ≡ true)
-      parts true y h = (refl, h)
-      parts false y h = absurd (cc)
-
       none : (o : Option ℕ) → not (is_some o) ≡ true → o ≡ None
       none None h = refl
       none (Some k) h = absurd (cc)

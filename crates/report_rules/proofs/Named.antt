@@ -1,8 +1,9 @@
 -- A directory's names, place by place: how many they are at most, and which parts are flagged.
-use Rattle.std.proofs.Common.{◌≡◌, ℕ, ◌+◌, ◌<◌, ◌≤◌, Bool, true, false, ◌||◌, Option, Some, None, List, [], ◌∷◌, length, refl, sym, ◌∙◌, ap, arith, Ordering, Less, Equal, Greater}
+use Rattle.std.proofs.Common.{◌≡◌, ℕ, ◌+◌, ◌<◌, ◌≤◌, Bool, false, ◌||◌, Option, Some, None, List, [], ◌∷◌, length, refl, sym, ◌∙◌, ap, arith, Ordering, Less, Equal, Greater}
 use Rattle.std.specs.Ordering.{match_ordering, nat_cmp}
 use Rattle.std.specs.BTreeMap.{insert_entry}
 use Rattle.std.specs.Cmp.Lexicographic.{slice_cmp}
+use mathlib.Core.Bool.{or-false, or_assoc}
 use Rattle.tree_definitions.specs.Entries.{Entries}
 use Rattle.disk_definitions.specs.Store.{StoredEntry}
 use Rattle.standing_laws.specs.Below.{any_below}
@@ -27,17 +28,9 @@ few_more es (Some e) = length_most es e.name e.inode
 
 -- ---- flags
 
-or_none : (b : Bool) → b ≡ (b || false)
-or_none true = refl
-or_none false = refl
-
-or_join : (a b c : Bool) → ((a || b) || c) ≡ (a || (b || c))
-or_join true b c = refl
-or_join false b c = refl
-
 -- nothing passes
 pub flagged_nothing : (more : ℕ → Bool) (flags : List Bool) → ((k : ℕ) → more k ≡ false) → AreFlaggedOn more flags flags
-flagged_nothing more flags h = record { long = refl; each = λ k l. or_none (flag_at flags k) ∙ ap (λ b. flag_at flags k || b) (sym (h k)) }
+flagged_nothing more flags h = record { long = refl; each = λ k l. sym (or-false (flag_at flags k)) ∙ ap (λ b. flag_at flags k || b) (sym (h k)) }
 
 -- what passes a test, and then what passes another
 pub flagged_more : (p : ℕ → ℕ → Bool) (n : ℕ) (a b c : List Bool) → AreFlaggedOn (λ k. any_below n (λ d. p d k)) a b → AreFlaggedOn (p n) b c → AreFlaggedOn (λ k. any_below (n + 1) (λ d. p d k)) a c
@@ -47,4 +40,4 @@ flagged_more p n a b c h g = record { long = g.long ∙ h.long; each = each }
     each k l =
         let m : length b ≡ length a = h.long in
         let w : k < length b = omega arith in
-        g.each k w ∙ ap (λ x. x || p n k) (h.each k l) ∙ or_join (flag_at a k) (any_below n (λ d. p d k)) (p n k) ∙ ap (λ x. flag_at a k || x) (sym (any_more n (λ d. p d k)))
+        g.each k w ∙ ap (λ x. x || p n k) (h.each k l) ∙ or_assoc (flag_at a k) (any_below n (λ d. p d k)) (p n k) ∙ ap (λ x. flag_at a k || x) (sym (any_more n (λ d. p d k)))

@@ -1,6 +1,7 @@
 -- Flags of the blocks of directories and of repeated names tell which parts are fine.
 use Rattle.std.proofs.Common.{◌==◌, ◌≡◌, ℕ, zero, suc, ◌+◌, ◌*◌, ◌/◌, ◌%◌, ◌<◌, ◌≤◌, ⊎_elim, Bool, true, false, not, ◌&&◌, ◌||◌, Option, Some, None, List, length, replicate, cond, refl, sym, ◌∙◌, ap, subst, arith, eqb-true, eq-eqb, get_or}
 use Rattle.std.proofs.lemmas.Bool.{and_parts, and_from, or_cases, or_left, or_right, not-true, not_from_false, both_ways, cond-true, cond-false}
+use Rattle.frang_base.proofs.Tests.{same_tests}
 use Rattle.disk_definitions.specs.Store.{Store, StoredNode}
 use Rattle.standing_laws.specs.Below.{all_below, holds, lists}
 use Rattle.standing_laws.specs.ReadTree.{place_at}
@@ -12,11 +13,6 @@ use Rattle.report_definitions.specs.Rules.{directory_block, wherever, is_new_at,
 use Rattle.report_definitions.proofs.Wherever.{block_of_directory, directory_of_block, wherever_at, wherever_from}
 use Rattle.report_rules.specs.Directories.{directory_row}
 use Rattle.report_rules.specs.Repeats.{repeat_at, repeats_in, repeats_to}
-
-same_tests : (a b : Bool) → (a ≡ true → b ≡ true) → (b ≡ true → a ≡ true) → a ≡ b
-same_tests true b f g = sym (f refl)
-same_tests false true f g = g refl
-same_tests false false f g = refl
 
 -- ---- flags of a fresh list
 

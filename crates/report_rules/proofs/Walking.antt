@@ -2,6 +2,8 @@
 use Rattle.std.proofs.Common.{◌==◌, ◌≡◌, ◌≢◌, ℕ, zero, suc, ◌+◌, ◌<◌, ⊎_elim, Bool, true, false, not, ◌&&◌, ◌||◌, Option, List, [], ◌∷◌, ◌++◌, length, set, replicate, refl, sym, ◌∙◌, ap, subst, arith, eqb-true, eq-eqb, ne_eqb, length-set, length-append, get_or-set_same, get_or-set_other}
 use Rattle.std.proofs.lemmas.Bool.{and_parts, and_from, or_cases, or_left, or_right, not_from_false, both_ways, cases_eq}
 use Rattle.std.proofs.lemmas.List.Folds.{list_any-append}
+use Rattle.frang_base.proofs.Tests.{or_second_alone}
+use mathlib.Core.Bool.{or-false, or_assoc}
 use Rattle.disk_definitions.specs.Store.{Store}
 use Rattle.standing_laws.specs.Below.{holds, lists}
 use Rattle.standing_laws.proofs.Bounded.{any_more}
@@ -19,23 +21,19 @@ fewer (false ∷ flags) zero h e = refl
 fewer (true ∷ flags) (suc i) h e = fewer flags i (omega arith) e
 fewer (false ∷ flags) (suc i) h e = let r : unflagged (set flags i true) + 1 ≡ unflagged flags = fewer flags i (omega arith) e in omega arith
 
-or_none : (b : Bool) → b ≡ (b || false)
-or_none true = refl
-or_none false = refl
-
 one_flagged : (flags : List Bool) (i k : ℕ) → i < length flags → flag_at (set flags i true) k ≡ (flag_at flags k || i == k)
 one_flagged flags i k h = ⊎_elim
     (λ e. subst (λ k. flag_at (set flags i true) k ≡ (flag_at flags k || i == k)) e (get_or-set_same flags i true false h ∙ sym (or_right (flag_at flags i) (i == i) (eq-eqb i i refl))))
-    (λ ne. get_or-set_other flags i k true false (λ e. ne (sym e)) ∙ or_none (flag_at flags k) ∙ sym (ap (λ b. flag_at flags k || b) (ne_eqb i k ne))) (cases_eq i k)
+    (λ ne. get_or-set_other flags i k true false (λ e. ne (sym e)) ∙ sym (or-false (flag_at flags k)) ∙ sym (ap (λ b. flag_at flags k || b) (ne_eqb i k ne))) (cases_eq i k)
 
 one_waits : (flags : List Bool) (later : List ℕ) (i k : ℕ) → flag_at flags i ≡ false → has_value (later ++ i ∷ []) k ≡ (has_value later k || (i == k && not (flag_at flags k)))
 one_waits flags later i k f = list_any-append (λ v. v == k) later (i ∷ []) ∙ ap (λ b. has_value later k || b) (⊎_elim (λ e. at_same e) (λ ne. other ne) (cases_eq i k))
   where
     at_same : i ≡ k → ((i == k) || false) ≡ (i == k && not (flag_at flags k))
-    at_same e = sym (or_none (i == k)) ∙ eq-eqb i k e ∙ sym (and_from (i == k) (not (flag_at flags k)) (eq-eqb i k e) (not_from_false (flag_at flags k) (ap (flag_at flags) (sym e) ∙ f)))
+    at_same e = sym (sym (or-false (i == k))) ∙ eq-eqb i k e ∙ sym (and_from (i == k) (not (flag_at flags k)) (eq-eqb i k e) (not_from_false (flag_at flags k) (ap (flag_at flags) (sym e) ∙ f)))
 
     other : i ≢ k → ((i == k) || false) ≡ (i == k && not (flag_at flags k))
-    other ne = sym (or_none (i == k)) ∙ ne_eqb i k ne ∙ sym (ap (λ b. b && not (flag_at flags k)) (ne_eqb i k ne))
+    other ne = sym (sym (or-false (i == k))) ∙ ne_eqb i k ne ∙ sym (ap (λ b. b && not (flag_at flags k)) (ne_eqb i k ne))
 
 -- a number without a flag gets it, and waits
 set_new : (flags : List Bool) (later : List ℕ) (i : ℕ) → i < length flags → flag_at flags i ≡ false → HasFlagged (λ k. i == k) flags later (set flags i true) (later ++ i ∷ [])
@@ -53,10 +51,10 @@ same_flag flags i k f = go (i == k) refl
   where
     go : (b : Bool) → (i == k) ≡ b → flag_at flags k ≡ (flag_at flags k || b)
     go true e = let t : flag_at flags k ≡ true = ap (flag_at flags) (sym (eqb-true i k e)) ∙ f in t ∙ sym (or_left (flag_at flags k) true t)
-    go false e = or_none (flag_at flags k)
+    go false e = sym (or-false (flag_at flags k))
 
 none_waits : (flags : List Bool) (later : List ℕ) (i k : ℕ) → flag_at flags i ≡ true → has_value later k ≡ (has_value later k || (i == k && not (flag_at flags k)))
-none_waits flags later i k f = or_none (has_value later k) ∙ ap (λ b. has_value later k || b) (go (i == k) refl)
+none_waits flags later i k f = sym (or-false (has_value later k)) ∙ ap (λ b. has_value later k || b) (go (i == k) refl)
   where
     go : (b : Bool) → (i == k) ≡ b → false ≡ (b && not (flag_at flags k))
     go true e = sym (ap not (ap (flag_at flags) (sym (eqb-true i k e)) ∙ f))
@@ -68,13 +66,9 @@ flagged_before flags later i f = record { long = refl; each = λ k. same_flag fl
 
 -- nothing is named
 pub flagged_nothing : (flags : List Bool) (later : List ℕ) → HasFlagged (λ k. false) flags later flags later
-flagged_nothing flags later = record { long = refl; each = λ k. or_none (flag_at flags k); waits = λ k. or_none (has_value later k); sum = refl }
+flagged_nothing flags later = record { long = refl; each = λ k. sym (or-false (flag_at flags k)); waits = λ k. sym (or-false (has_value later k)); sum = refl }
 
 -- ---- one number more
-
-flags_join : (a b c : Bool) → ((a || b) || c) ≡ (a || (b || c))
-flags_join true b c = refl
-flags_join false b c = refl
 
 waits_join : (l a h f : Bool) → ((l || (a && not f)) || (h && not (f || a))) ≡ (l || ((a || h) && not f))
 waits_join true a h f = refl
@@ -91,7 +85,7 @@ pub flagged_more : (f : ℕ → Option ℕ) (n : ℕ) (flags : List Bool) (later
     → HasFlagged (lists f n) flags later flags_1 later_1 → HasFlagged (holds (f n)) flags_1 later_1 flags_2 later_2 → HasFlagged (lists f (n + 1)) flags later flags_2 later_2
 flagged_more f n flags later flags_1 later_1 flags_2 later_2 a b = record {
   long = b.long ∙ a.long;
-  each = λ k. b.each k ∙ ap (λ x. x || holds (f n) k) (a.each k) ∙ flags_join (flag_at flags k) (lists f n k) (holds (f n) k) ∙ sym (ap (λ x. flag_at flags k || x) (any_more n (λ t. holds (f t) k)));
+  each = λ k. b.each k ∙ ap (λ x. x || holds (f n) k) (a.each k) ∙ or_assoc (flag_at flags k) (lists f n k) (holds (f n) k) ∙ sym (ap (λ x. flag_at flags k || x) (any_more n (λ t. holds (f t) k)));
   waits = λ k. b.waits k ∙ ap (λ x. x || (holds (f n) k && not (flag_at flags_1 k))) (a.waits k) ∙ ap (λ x. (has_value later k || (lists f n k && not (flag_at flags k))) || (holds (f n) k && not x)) (a.each k)
       ∙ waits_join (has_value later k) (lists f n k) (holds (f n) k) (flag_at flags k) ∙ sym (ap (λ x. has_value later k || (x && not (flag_at flags k))) (any_more n (λ t. holds (f t) k)));
   sum = b.sum ∙ a.sum;
@@ -104,10 +98,6 @@ flag_of_none zero k = refl
 flag_of_none (suc n) zero = refl
 flag_of_none (suc n) (suc k) = flag_of_none n k
 
-false_or : (a b : Bool) → a ≡ false → (a || b) ≡ b
-false_or true b e = absurd (cc)
-false_or false b e = refl
-
 -- inode 0 alone is flagged
 pub begun : (s : Store) (n : ℕ) (flags : List Bool) (later : List ℕ) → HasFlagged (λ k. 0 == k) (replicate n false) [] flags later → IsOnTheWay s flags later
 begun s n flags later h = record {
@@ -118,7 +108,7 @@ begun s n flags later h = record {
 }
   where
     only : (k : ℕ) → flag_at flags k ≡ (0 == k)
-    only k = h.each k ∙ false_or (flag_at (replicate n false) k) (0 == k) (flag_of_none n k)
+    only k = h.each k ∙ or_second_alone (flag_at (replicate n false) k) (0 == k) (flag_of_none n k)
 
     waiting : (d : ℕ) → has_value later d ≡ true → (0 == d) ≡ true
     waiting d w = (and_parts (0 == d) (not (flag_at (replicate n false) d)) (sym (h.waits d) ∙ w)).0
@@ -161,7 +151,7 @@ module _ (s : Store) (flags : List Bool) (rest : List ℕ) (x : ℕ) (new : List
           (and_from (names s x d) (not (flag_at flags d)) (⊎_elim (λ q. absurd (both_ways (flag_at flags d) e q)) (λ q. q) (or_cases (flag_at flags d) (names s x d) (sym (h.each d) ∙ f))) (not_from_false (flag_at flags d) e))))
 
   alone : (d : ℕ) → has_value rest d ≡ false → d ≢ x → has_value (rest ++ x ∷ []) d ≡ false
-  alone d t ne = list_any-append (λ v. v == d) rest (x ∷ []) ∙ false_or (has_value rest d) ((x == d) || false) t ∙ sym (or_none (x == d)) ∙ ne_eqb x d (λ e. ne (sym e))
+  alone d t ne = list_any-append (λ v. v == d) rest (x ∷ []) ∙ or_second_alone (has_value rest d) ((x == d) || false) t ∙ sym (sym (or-false (x == d))) ∙ ne_eqb x d (λ e. ne (sym e))
 
   taken_new : (d i : ℕ) → flag_at new d ≡ true → has_value later d ≡ false → names s d i ≡ true → flag_at new i ≡ true
   taken_new d i f t n = ⊎_elim

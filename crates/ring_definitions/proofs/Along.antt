@@ -2,7 +2,7 @@
 use Rattle.std.proofs.Common.{◌≡◌, ℕ, zero, suc, ◌+◌, ◌<◌, Some, List, [], ◌∷◌, ◌++◌, length, take, map, sym, ◌∙◌, subst, arith}
 use Rattle.std.specs.List.{slice_get}
 use Rattle.std.proofs.lemmas.List.{map-append, length-map}
-use Rattle.frang_base.proofs.Basics.{some_same}
+use Rattle.std.proofs.lemmas.Option.{same_Some}
 use Rattle.tree_definitions.specs.Numbers.{below}
 use Rattle.disk_definitions.proofs.Lists.{length_below}
 
@@ -20,7 +20,7 @@ pub along_at : {X : Type 0} (P : ℕ → X → Type 0) (from : ℕ) (xs : List X
 along_at P from [] k x h e = absurd (cc)
 along_at P from (y ∷ ys) zero x h e =
     let here : from ≡ from + 0 = omega arith in
-    subst (λ n. P n x) here (subst (P from) (some_same y x e) h.0)
+    subst (λ n. P n x) here (subst (P from) (same_Some y x e) h.0)
 along_at P from (y ∷ ys) (suc k) x h e =
     let next : from + 1 + k ≡ from + suc k = omega arith in
     subst (λ n. P n x) next (along_at P (from + 1) ys k x h.1 e)

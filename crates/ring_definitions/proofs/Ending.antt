@@ -2,13 +2,15 @@
 use Rattle.std.proofs.Common.{◌≡◌, ℕ, ◌+◌, ◌-◌, ◌%◌, ◌<◌, ◌≤◌, true, false, is_some, Option, Some, None, List, ◌++◌, length, refl, sym, ap, ◌∙◌, subst, arith, nat_le}
 use Rattle.std.specs.List.{slice_get, list_all}
 use Rattle.std.proofs.lemmas.Bool.{false_from_ne_true}
+use Rattle.std.proofs.Math.Nat.{le_refl}
+use Rattle.frang_base.proofs.Lists.{get_drop}
 use Rattle.disk_definitions.specs.declared.log_sector.LogSector.{LogSector}
 use Rattle.disk_definitions.specs.LogSectors.{log_sector_in}
 use Rattle.disk_definitions.specs.Logs.{Slots, sector_numbered, stands, is_end, numbers_in, log_end}
 use Rattle.disk_definitions.proofs.EndLaws.{numbered_is, sector_of_number, end_from, end_stands, end_is_below, log_end_is_one, all_numbers_below}
 use Rattle.ring_definitions.specs.Rings.{sent}
 use Rattle.ring_definitions.specs.RingRuns.{LogState, EndsWithin}
-use Rattle.ring_definitions.proofs.Shown.{not_past, got_behind}
+use Rattle.ring_definitions.proofs.Shown.{not_past}
 use Rattle.ring_definitions.proofs.Along.{along_at}
 use Rattle.ring_definitions.proofs.Packed.{IsPacked}
 use Rattle.ring_definitions.proofs.Standing.{flies, found_flying, IsFlown, IsStanding}
@@ -63,13 +65,10 @@ module _ (a : ℕ) (all : List LogSector) (slots : Slots) (flying : List LogSect
       some e h l = omega arith
 
   pub not_above : log_end slots ≤ issued
-  not_above = issued_stands (log_end slots) (end_stands slots (log_end slots) end_is_one (log_end slots) (down (log_end slots)) (same (log_end slots)))
+  not_above = issued_stands (log_end slots) (end_stands slots (log_end slots) end_is_one (log_end slots) (down (log_end slots)) (le_refl (log_end slots)))
     where
       down : (n : ℕ) → n - 191 ≤ n
       down n = omega arith
-
-      same : (n : ℕ) → n ≤ n
-      same n = omega arith
 
   pub all_issued : list_all (λ n. nat_le n issued) (numbers_in slots) ≡ true
   all_issued = all_numbers_below slots issued issued_stands
@@ -97,7 +96,7 @@ module _ (a : ℕ) (all : List LogSector) (slots : Slots) (flying : List LogSect
 -- the numbers of the sectors that wait follow those that are issued
 waiting_follow : (end : ℕ) (before : List LogSector) (w : LogState) → 255 ≤ end → IsGood end before w → (k : ℕ) (x : LogSector) → slice_get w.ring.waiting k ≡ Some x → x.seq ≡ sent w.ring + 1 + k
 waiting_follow end before w low g k x e =
-    (along_at IsPacked (end + 1) g.rest (sent w.ring - end + k) x g.packed (sym (got_behind (sent w.ring - end) g.rest k) ∙ ap (λ xs. slice_get xs k) (sym g.waiting) ∙ e)).seq
+    (along_at IsPacked (end + 1) g.rest (sent w.ring - end + k) x g.packed (sym (get_drop (sent w.ring - end) g.rest k) ∙ ap (λ xs. slice_get xs k) (sym g.waiting) ∙ e)).seq
     ∙ at (sent w.ring) w.ring.reached g.standing.low g.standing.order
   where
     at : (s r : ℕ) → end - 191 + 191 ≤ r → r ≤ s → end + 1 + (s - end + k) ≡ s + 1 + k

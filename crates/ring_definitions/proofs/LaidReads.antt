@@ -5,6 +5,7 @@ use Rattle.std.specs.Option.{option_map}
 use Rattle.std.proofs.Math.Seq.{take-append-add}
 use Rattle.std.proofs.lemmas.Bool.{and_from, eq-eqb, ne_eqb, le-leb, lt-leb, leb-true, leb-false, cond-true, cond-false, cases_lt}
 use Rattle.std.proofs.lemmas.List.{length-take, length-map, take_all, drop_all, drop_at, map-append}
+use Rattle.std.proofs.Math.Nat.{le_refl}
 use Rattle.disk_definitions.specs.declared.log_sector.LogSector.{LogSector}
 use Rattle.disk_definitions.specs.LogSectors.{is_packed, none_begins, packed_mark}
 use Rattle.frang_base.specs.declared.change.Redo.{Redo}
@@ -311,16 +312,13 @@ module _ (from till t : ℕ) (over : List ℕ) (x : LogSector) (xs : List LogSec
       let begun_here : bytes_begun x ≡ m.0 = ap (λ k. drop k (used_of x)) part.0 ∙ ap (drop (length over)) m.1.0 ∙ drop_at over m.0 (length over) refl in
       ap (λ bs. frames_among (length bs) (length bs) (bs ++ take frame_most (bytes_on (take t xs)))) begun_here
       ∙ read_row (from + 1) (from + 1 + t) laid.end laid.past (take frame_most (bytes_on (take t xs))) laid.runs (near t) (small (few_past (from + 1) (length laid.past) (max (from + 1) laid.end) (max (from + 1) till) q qs row))
-      (length m.0) (max (from + 1) till) m.0 (q ∷ qs) (same (length m.0)) m.1.1 row
+      (length m.0) (max (from + 1) till) m.0 (q ∷ qs) (le_refl (length m.0)) m.1.1 row
     where
       fits : (o u l : ℕ) → o < u → l ≡ u → o ≤ l
       fits o u l h e = omega arith
 
       near : (t : ℕ) → from + 1 ≤ from + 1 + t
       near t = omega arith
-
-      same : (l : ℕ) → l ≤ l
-      same l = omega arith
 
       small : length laid.past ≤ frame_most → Behind laid.past laid.end (from + 1 + t) (take frame_most (bytes_on (take t xs)))
       small few = is_behind few

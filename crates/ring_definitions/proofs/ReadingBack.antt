@@ -6,7 +6,7 @@ use Rattle.std.proofs.lemmas.Bool.{cases_lt}
 use Rattle.std.proofs.lemmas.List.{take-map, drop-take}
 use Rattle.disk_definitions.specs.declared.log_sector.LogSector.{LogSector}
 use Rattle.disk_definitions.specs.Logs.{Slots, sector_numbered, window, log_end, sectors_read, records_among}
-use Rattle.disk_definitions.proofs.ReadingLaws.{begun, begun_more, begun-append, begun_behind, starts_anew, records_among-drop, records_among-append}
+use Rattle.disk_definitions.proofs.ReadingLaws.{begun, begun_more, begun-append, begun_behind, starts_anew, records_among-drop, records_among-append, plus_more}
 use Rattle.ring_definitions.specs.Rings.{sent}
 use Rattle.ring_definitions.specs.RingRuns.{Placed, LogState, ReadsBack}
 use Rattle.ring_definitions.proofs.Shown.{given, read_run}
@@ -145,10 +145,7 @@ module _ (slots : Slots) (w : LogState) (low : 255 ≤ log_end slots) (size : le
     reads =
         ap records_among sectors_are ∙ records_among-drop gone_on (before ++ take gone_on all)
         ∙ ap (drop (begun (before ++ take gone_on all) gone_on)) (records_up_to end before all w.placed g.laid gone_on ∙ prefix_of_all end before all w.placed g.laid gone_on);
-    reached = at (length (records_among before)) (length (up_to w.ring.reached w.placed)) (length (up_to (end + gone_on) w.placed))
+    reached = plus_more (length (records_among before)) (length (up_to w.ring.reached w.placed)) (length (up_to (end + gone_on) w.placed))
         (up_to_grows w.ring.reached (end + gone_on) w.placed (subst (λ n. w.ring.reached ≤ n) (sym whole) reached_below));
     given_up = begun_up_to end before all w.placed g.laid gone_on w.ring.given_up size near;
   }
-    where
-      at : (a b c : ℕ) → b ≤ c → a + b ≤ a + c
-      at a b c h = omega arith

@@ -14,11 +14,6 @@ pub given_more : {X : Type 0} (f : ℕ → Option X) (b m : ℕ) (x : X) → f (
 given_more f b m x e =
     ap (filter_map f) (map-append (λ k. b + k) (below m) (m ∷ [])) ∙ filter_map-append f (map (λ k. b + k) (below m)) ((b + m) ∷ []) ∙ rw e refl
 
-pub before_end : {X : Type 0} (xs ys : List X) (k : ℕ) → k < length xs → slice_get (xs ++ ys) k ≡ slice_get xs k
-before_end [] ys k l = absurd (omega arith)
-before_end (x ∷ xs) ys zero l = refl
-before_end (x ∷ xs) ys (suc k) l = before_end xs ys k (omega arith)
-
 pub not_past : {X : Type 0} (xs : List X) (k : ℕ) → k < length xs → slice_get xs k ≡ None → ⊥
 not_past [] k l e = omega arith
 not_past (x ∷ xs) zero l e = cc
@@ -50,9 +45,3 @@ first_of_rest [] zero y ys e = absurd (cc)
 first_of_rest [] (suc j) y ys e = absurd (cc)
 first_of_rest (x ∷ xs) zero y ys e = let same : x ≡ y = cc in (ap (λ z. Some z) same, cc)
 first_of_rest (x ∷ xs) (suc j) y ys e = let r = first_of_rest xs j y ys e in let n : suc j + 1 ≡ suc (j + 1) = omega arith in (r.0, r.1 ∙ ap (λ n. drop n (x ∷ xs)) (sym n))
-
--- an element of a rest
-pub got_behind : {X : Type 0} (j : ℕ) (xs : List X) (k : ℕ) → slice_get (drop j xs) k ≡ slice_get xs (j + k)
-got_behind zero xs k = let z : k ≡ 0 + k = omega arith in ap (slice_get xs) z
-got_behind (suc j) [] k = refl
-got_behind (suc j) (x ∷ xs) k = let z : suc (j + k) ≡ suc j + k = omega arith in got_behind j xs k ∙ ap (slice_get (x ∷ xs)) z

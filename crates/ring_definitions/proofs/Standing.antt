@@ -4,8 +4,8 @@ use Rattle.std.specs.List.{slice_get, All, list_any, filter}
 use Rattle.std.proofs.lemmas.Bool.{cases_eq, both_ways, or_cases, eqb-true, eq-eqb, ne_eqb, cond-true, cond-false}
 use Rattle.std.proofs.lemmas.List.Elements.{All-head, All-tail, All-push, All-weaker, All-filter}
 use Rattle.std.proofs.lemmas.List.Folds.{list_any_at}
-use Rattle.std.proofs.lemmas.Option.{slice_get_within}
-use Rattle.frang_base.proofs.Basics.{some_same}
+use Rattle.std.proofs.lemmas.Option.{slice_get_within, same_Some}
+use mathlib.Core.Bool.{or-true}
 use Rattle.disk_definitions.specs.declared.log_sector.LogSector.{LogSector}
 use Rattle.disk_definitions.specs.LogSectors.{log_sector_bytes, log_sector_in}
 use Rattle.disk_definitions.specs.Logs.{Slots, numbered, sector_numbered}
@@ -79,11 +79,7 @@ flies_more (y ∷ ys) x n ne = ap (λ b. is_numbered n y || b) (flies_more ys x 
 
 flies_last : (flying : List LogSector) (x : LogSector) (n : ℕ) → x.seq ≡ n → flies (flying ++ x ∷ []) n ≡ true
 flies_last [] x n e = ap (λ b. b || false) (eq-eqb x.seq n e)
-flies_last (y ∷ ys) x n e = ap (λ b. is_numbered n y || b) (flies_last ys x n e) ∙ or_true (is_numbered n y)
-  where
-    or_true : (b : Bool) → (b || true) ≡ true
-    or_true true = refl
-    or_true false = refl
+flies_last (y ∷ ys) x n e = ap (λ b. is_numbered n y || b) (flies_last ys x n e) ∙ or-true (is_numbered n y)
 
 higher_flown : (a : ℕ) (all : List LogSector) (reached sent : ℕ) (x : LogSector) → IsFlown a all reached sent x → IsFlown a all reached (sent + 1) x
 higher_flown a all reached sent x f = record { low = f.low; high = up x.seq f.high; same = f.same; reads = f.reads }
@@ -219,7 +215,7 @@ found_flying P number (y ∷ ys) all f = at (or_cases (is_numbered number y) (fl
 one_of_number : (a : ℕ) (all : List LogSector) (reached sent number : ℕ) (x : LogSector) → x.seq ≡ number → slice_get all (x.seq - a) ≡ Some x
     → (y : LogSector) → IsFlown a all reached sent y → IsOne number x y
 one_of_number a all reached sent number x is same y f e =
-    some_same y x (sym f.same ∙ ap (λ n. slice_get all (n - a)) (eqb-true y.seq number e ∙ sym is) ∙ same)
+    same_Some y x (sym f.same ∙ ap (λ n. slice_get all (n - a)) (eqb-true y.seq number e ∙ sym is) ∙ same)
 
 -- what stands in the slots after the one of a number arrived
 module _ (slots : Slots) (flying : List LogSector) (x : LogSector) (one : All (IsOne x.seq x) flying) (there : flies flying x.seq ≡ true) (reads : log_sector_in (x.seq % 256) (log_sector_bytes x) ≡ Some x) where
@@ -236,7 +232,7 @@ module _ (slots : Slots) (flying : List LogSector) (x : LogSector) (one : All (I
       at (inl s) =
           let here : log_sector_in slot (with_arrived x.seq slots flying slot) ≡ Some x =
           ap (λ k. log_sector_in k (with_arrived x.seq slots flying k)) s ∙ ap (log_sector_in (x.seq % 256)) (arrived_here x.seq flying slots x one (inr there)) ∙ reads in
-          subst (λ (z : LogSector). z.seq ≤ sent) (some_same x y (sym here ∙ e)) high
+          subst (λ (z : LogSector). z.seq ≤ sent) (same_Some x y (sym here ∙ e)) high
       at (inr ne) = old (ap (log_sector_in slot) (sym (arrived_elsewhere x.seq flying slots slot ne)) ∙ e)
 
 arrived_one : (a : ℕ) (all : List LogSector) (slots : Slots) (flying : List LogSector) (reached sent : ℕ) (x : LogSector) → flies flying x.seq ≡ true → IsFlown a all reached sent x

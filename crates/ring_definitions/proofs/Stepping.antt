@@ -3,16 +3,18 @@ use Rattle.std.proofs.Common.{◌≡◌, ℕ, suc, ◌+◌, ◌-◌, ◌/◌, �
 use Rattle.std.specs.List.{slice_get}
 use Rattle.std.proofs.lemmas.Bool.{and_parts, not-true, leb-true, ltb-true}
 use Rattle.std.proofs.lemmas.List.{append_assoc, drop_at, length-take, length_push}
+use Rattle.std.proofs.Math.Nat.{le_refl}
 use Rattle.disk_definitions.specs.declared.log_sector.LogSector.{LogSector}
 use Rattle.disk_definitions.specs.LogSectors.{log_sector_bytes, log_sector_in}
 use Rattle.frang_base.specs.declared.change.Redo.{Redo}
+use Rattle.frang_base.proofs.Lists.{get_left}
 use Rattle.disk_definitions.specs.Frames.{frame_bytes}
 use Rattle.disk_definitions.specs.Records.{record_bytes, record_fits}
 use Rattle.log_record.proofs.FrameBack.{IsFramed, few_bytes, length-frame_bytes}
 use Rattle.ring_definitions.specs.Rings.{is_record, need, begins, open_room, framed, sent, last, free}
 use Rattle.ring_definitions.specs.RingRuns.{Placed, LogState, LogEvent, is_flying, may_happen, after_log_event, may_all_happen, after_log_events}
 use Rattle.ring_definitions.specs.RingRuns.LogEvent.{Append, Issue, Arrive, Acknowledge, GiveUp}
-use Rattle.ring_definitions.proofs.Shown.{before_end, behind_start, first_of_rest}
+use Rattle.ring_definitions.proofs.Shown.{behind_start, first_of_rest}
 use Rattle.ring_definitions.proofs.Standing.{flies, flies_more, IsStanding, with_others, with_issued}
 use Rattle.ring_definitions.proofs.Along.{Along, along_at}
 use Rattle.ring_definitions.proofs.Flags.{flags_kept, flags_push}
@@ -69,11 +71,8 @@ module _ (end : ℕ) (before : List LogSector) (size : length before ≡ 192) (l
   unfolding placed waiting
   laid_more =
       framed_laid end end (last w.ring) [] issued w.ring.waiting w.placed placed (g.ends ∙ ap (λ xs. end + length xs) split) (subst (Along IsPacked (end + 1)) split g.packed)
-      (subst (λ xs. IsLaid end [] end xs w.placed) split g.laid) (record { none = λ z. same end; some = λ z. absurd (no z) }) is_new
+      (subst (λ xs. IsLaid end [] end xs w.placed) split g.laid) (record { none = λ z. le_refl end; some = λ z. absurd (no z) }) is_new
     where
-      same : (n : ℕ) → n ≤ n
-      same n = omega arith
-
       no : 1 ≤ 0 → ⊥
       no h = omega arith
 
@@ -102,8 +101,8 @@ module _ (end : ℕ) (before : List LogSector) (size : length before ≡ 192) (l
   -- the sectors that are issued stay
   same_front : (k : ℕ) → k ≤ sent w.ring - (end - 191) → slice_get (before ++ (issued ++ waiting)) k ≡ slice_get (before ++ g.rest) k
   same_front k h =
-      ap (λ xs. slice_get xs k) (sym (append_assoc before issued waiting)) ∙ before_end (before ++ issued) waiting k near
-      ∙ sym (ap (λ xs. slice_get xs k) (ap (λ xs. before ++ xs) split ∙ sym (append_assoc before issued w.ring.waiting)) ∙ before_end (before ++ issued) w.ring.waiting k near)
+      ap (λ xs. slice_get xs k) (sym (append_assoc before issued waiting)) ∙ get_left (before ++ issued) waiting k near
+      ∙ sym (ap (λ xs. slice_get xs k) (ap (λ xs. before ++ xs) split ∙ sym (append_assoc before issued w.ring.waiting)) ∙ get_left (before ++ issued) w.ring.waiting k near)
     where
       at : (s a b l : ℕ) → k ≤ s - (end - 191) → a ≡ 192 → b ≡ s - end → l ≡ a + b → end ≤ s → 255 ≤ end → k < l
       at s a b l h e f g i j = omega arith

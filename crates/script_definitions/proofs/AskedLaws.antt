@@ -4,6 +4,7 @@ use Rattle.std.specs.List.{list_all, slice_split, join_with_byte, flat_map}
 use Rattle.std.specs.Fmt.{decimal}
 use Rattle.std.proofs.lemmas.Bool.{and_parts, and_from, or_parts, or_from, not-true, not-false, not_from_false, ltb-true, ltb-false, leb-true, lt-ltb, le-ltb, le-leb, lt-leb, and_right, eqb-true, eqb-false, ne_eqb}
 use Rattle.std.proofs.lemmas.List.Splits.{join_with_byte-slice_split}
+use Rattle.std.proofs.lemmas.Option.{same_Some}
 use Rattle.frang_base.specs.Name.{is_name, is_name_byte, is_dots}
 use Rattle.frang_base.specs.PathText.{name_fault, with_name, unless_fault, names_from, names_below_root, names_from_root, path_of}
 use Rattle.frang_base.specs.declared.fault.PathFault.{PathFault}
@@ -20,7 +21,7 @@ use Rattle.script_definitions.proofs.NumeralLaws.{IsNumber, number_in-Some, numb
 use Rattle.script_definitions.proofs.Splitting.{is_free, all_weaker, split_join, joined}
 use Rattle.script_definitions.proofs.PartsLaws.{HasFirst, split_has}
 use Rattle.script_definitions.proofs.SaidWritten.{name_bytes}
-use Rattle.script_definitions.proofs.SaidRead.{chosen, same_some}
+use Rattle.script_definitions.proofs.SaidRead.{chosen}
 
 -- how a value came about
 pub bind_ok : {F A B : Type 0} (r : Result A F) (f : A → Result B F) (y : B) → (r >>= f) ≡ Ok y → (x : A) × (r ≡ Ok x) × (f x ≡ Ok y)
@@ -216,9 +217,9 @@ upper false m n e = cc
 digit_small : (b d : ℕ) → digit_value b ≡ Some d → d < 16
 digit_small b d e =
     elim (chosen (leb 48 b && leb b 57) (Some (b - 48)) (cond (leb 97 b && leb b 102) (Some (b - 87)) (cond (leb 65 b && leb b 70) (Some (b - 55)) None)) (Some d) e) [
-      | inl h ↦ (let r = and_parts (leb 48 b) (leb b 57) h.0 in let g : b ≤ 57 = leb-true b 57 r.1 in let s : b - 48 ≡ d = same_some (b - 48) d h.1 in omega arith)
+      | inl h ↦ (let r = and_parts (leb 48 b) (leb b 57) h.0 in let g : b ≤ 57 = leb-true b 57 r.1 in let s : b - 48 ≡ d = same_Some (b - 48) d h.1 in omega arith)
       | inr k ↦ elim (chosen (leb 97 b && leb b 102) (Some (b - 87)) (cond (leb 65 b && leb b 70) (Some (b - 55)) None) (Some d) k.1) [
-        | inl h ↦ (let r = and_parts (leb 97 b) (leb b 102) h.0 in let g : b ≤ 102 = leb-true b 102 r.1 in let s : b - 87 ≡ d = same_some (b - 87) d h.1 in omega arith)
+        | inl h ↦ (let r = and_parts (leb 97 b) (leb b 102) h.0 in let g : b ≤ 102 = leb-true b 102 r.1 in let s : b - 87 ≡ d = same_Some (b - 87) d h.1 in omega arith)
         | inr l ↦ (let h = upper (leb 65 b && leb b 70) (b - 55) d l.1 in let r = and_parts (leb 65 b) (leb b 70) h.0 in let g : b ≤ 70 = leb-true b 70 r.1 in let s : b - 55 ≡ d = h.1 in omega arith)
       ]
     ]

@@ -3,6 +3,7 @@ use Rattle.std.proofs.Common.{◌≡◌, ℕ, ◌≤◌, cond, ◌⊎◌, inl, i
 use Rattle.std.specs.List.{list_all}
 use Rattle.std.specs.Str.{bytes_eq}
 use Rattle.std.specs.Fmt.{decimal}
+use Rattle.std.proofs.lemmas.Option.{same_Some}
 use Rattle.frang_base.specs.declared.op.Op.{Op}
 use Rattle.frang_base.specs.declared.op.Op.TheVariants as op
 use Rattle.frang_base.specs.declared.op.HostOp.{HostOp}
@@ -21,7 +22,7 @@ use Rattle.script_definitions.specs.declared.fault.LineFault.TheVariants as faul
 use Rattle.script_definitions.specs.declared.word.ServerWord.{ServerWord}
 use Rattle.script_definitions.specs.declared.word.ServerWord.TheVariants as word
 use Rattle.script_definitions.proofs.NumeralLaws.{IsPlain-decimal, number_in-Some, number_in-decimal}
-use Rattle.script_definitions.proofs.SaidRead.{chosen, word_is, same_some}
+use Rattle.script_definitions.proofs.SaidRead.{chosen, word_is}
 use Rattle.script_definitions.proofs.AskedLaws.{bind_ok, same_ok, or_ok, path_at_sound, path_at_complete, number_sound, number_complete, offset_sound, offset_complete, text_sound, text_complete, byte_sound}
 
 -- tuples and records by their parts
@@ -222,7 +223,7 @@ among_sound : (words : List ServerWord) (text : List ℕ) (w : ServerWord) → w
 among_sound [] text w e = cc
 among_sound (v ∷ words) text w e =
     elim (chosen (bytes_eq text (word_text v)) (Some v) (word_among words text) (Some w) e) [
-      | inl h ↦ word_is text (word_text v) h.0 ∙ ap word_text (same_some v w h.1)
+      | inl h ↦ word_is text (word_text v) h.0 ∙ ap word_text (same_Some v w h.1)
       | inr h ↦ among_sound words text w h.1
     ]
 

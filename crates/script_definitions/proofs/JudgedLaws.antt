@@ -12,6 +12,7 @@ use Rattle.frang_base.specs.declared.op.HostOp.TheVariants as host
 use Rattle.frang_base.specs.declared.op.What.{What}
 use Rattle.frang_base.specs.declared.op.What.TheVariants.{Server, Host}
 use Rattle.frang_base.specs.declared.script.Line.{Line}
+use Rattle.frang_base.proofs.Tests.{or_second_alone}
 use Rattle.tree_definitions.specs.SaidLines.{hex_byte}
 use Rattle.script_definitions.specs.Numerals.{is_numeral}
 use Rattle.script_definitions.specs.ScriptFaults.{◌>>=◌}
@@ -165,10 +166,6 @@ pub with_line_ok : (line : Line) (r : Result (List Line) ScriptFault) (script : 
 with_line_ok line (Ok rest) script e = (rest, refl, same_ok (line ∷ rest) script e)
 with_line_ok line (Err f) script e = cc
 
-or_false : (a b : Bool) → a ≡ false → (a || b) ≡ b
-or_false true b e = cc
-or_false false b e = refl
-
 pub lines_complete : (number : ℕ) (halted : Bool) (ls : List (List ℕ)) (script : List Line) → AreLines number halted ls script → script_from number halted ls ≡ Ok script
 lines_complete number halted [] script h = ap Ok (sym h)
 lines_complete number halted (line ∷ ls) script (few, inl h) =
@@ -178,7 +175,7 @@ lines_complete number halted (line ∷ ls) script (few, inl h) =
 lines_complete number halted (line ∷ ls) script (few, inr h) =
     lines_step number halted line ls few
     ∙ ap (λ r. after_line number halted (numbered number r) (λ h. script_from (number + 1) h ls)) (judged_complete halted line h.0 h.3 h.4)
-    ∙ ap (λ b. with_line (line_of number h.0) (script_from (number + 1) b ls)) (or_false halted (is_halt h.0.what) h.3)
+    ∙ ap (λ b. with_line (line_of number h.0) (script_from (number + 1) b ls)) (or_second_alone halted (is_halt h.0.what) h.3)
     ∙ ap (with_line (line_of number h.0)) (lines_complete (number + 1) (is_halt h.0.what) ls h.1 h.5)
     ∙ ap Ok (sym h.2)
 
@@ -189,7 +186,7 @@ sound_step number halted line ls script (Ok None) few is more e = (few, inl (non
 sound_step number halted line ls script (Ok (Some a)) few is more e =
     let w = with_line_ok (line_of number a) (script_from (number + 1) (halted || is_halt a.what) ls) script e in
     let j = judged_sound halted line a is in
-    (few, inr (a, w.0, sym w.2, j.goes_on, j.command, more (is_halt a.what) w.0 (ap (λ b. script_from (number + 1) b ls) (sym (or_false halted (is_halt a.what) j.goes_on)) ∙ w.1)))
+    (few, inr (a, w.0, sym w.2, j.goes_on, j.command, more (is_halt a.what) w.0 (ap (λ b. script_from (number + 1) b ls) (sym (or_second_alone halted (is_halt a.what) j.goes_on)) ∙ w.1)))
 
 pub lines_sound : (number : ℕ) (halted : Bool) (ls : List (List ℕ)) (script : List Line) → script_from number halted ls ≡ Ok script → AreLines number halted ls script
 lines_sound number halted [] script e = sym (same_ok [] script e)

@@ -3,6 +3,7 @@ use Rattle.std.proofs.Common.{◌≡◌, ℕ, ◌-◌, ◌≤◌, get_or, take, 
 use Rattle.std.specs.List.{list_all, slice_split, onto_first}
 use Rattle.std.specs.Option.{option_map, option_and_then}
 use Rattle.std.proofs.lemmas.List.{take_rest}
+use Rattle.std.proofs.lemmas.Option.{cond_some}
 use Rattle.frang_base.specs.Name.{is_name}
 use Rattle.script_definitions.specs.SaidReading.{sole_part, is_end, hex_bytes, byte_at, names_of}
 
@@ -71,14 +72,10 @@ name_read front name names e =
 pub name_refused : (front : List (List ℕ)) (name : List ℕ) (names : List (List ℕ)) → is_name name ≡ false → option_map (λ ns. front ++ ns) (names_of (name ∷ names)) ≡ None
 name_refused front name names e = ap (λ b. option_map (λ ns. front ++ ns) (cond (b && list_all is_name names) (Some (name ∷ names)) None)) e
 
-chosen_same : {A : Type 0} (b : Bool) (x y : A) → cond b (Some x) None ≡ Some y → (b ≡ true) × (x ≡ y)
-chosen_same true x y e = (refl, cc)
-chosen_same false x y e = cc
-
 -- a turn of the loop over names
 pub name_turn : (front : List (List ℕ)) (name part : List ℕ) (parts after : List (List ℕ)) → cond (is_name part) (Some part) None ≡ Some name → parts ≡ part ∷ after → option_map (λ ns. (front ++ name ∷ []) ++ ns) (names_of after) ≡ option_map (λ ns. front ++ ns) (names_of parts)
 name_turn front name part parts after e is =
-    let c = chosen_same (is_name part) part name e in
+    let c = cond_some (is_name part) part name e in
     ap (λ n. option_map (λ ns. (front ++ n ∷ []) ++ ns) (names_of after)) (sym c.1)
     ∙ name_read front part after c.0
     ∙ ap (λ ps. option_map (λ ns. front ++ ns) (names_of ps)) (sym is)

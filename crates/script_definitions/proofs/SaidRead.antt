@@ -8,6 +8,7 @@ use Rattle.std.proofs.lemmas.Bool.{and_parts, and_from, leb-true, eqb-true, lt-l
 use Rattle.std.proofs.lemmas.List.{take-append-drop, drop_more, drop_all}
 use Rattle.std.proofs.lemmas.List.Splits.{join_with_byte-slice_split}
 use Rattle.std.proofs.lemmas.Slice.Eq.{bytes_eq-Decides}
+use Rattle.std.proofs.lemmas.Option.{same_Some}
 use Rattle.frang_base.specs.Name.{is_name, is_target}
 use Rattle.frang_base.specs.declared.reply.Reply.{Reply}
 use Rattle.frang_base.specs.declared.reply.Reply.TheVariants as reply
@@ -40,11 +41,8 @@ left p = p.0
 abbrev right : ℕ × ℕ → ℕ
 right p = p.1
 
-pub same_some : {A : Type 0} (x y : A) → Some x ≡ Some y → x ≡ y
-same_some x y e = cc
-
 host_is : (s : ServerId) → Some (server_number 255) ≡ Some s → 255 ≡ s.0
-host_is s e = ap number_of_server (same_some (server_number 255) s e)
+host_is s e = ap number_of_server (same_Some (server_number 255) s e)
 
 wide_op : (m n op : ℕ) → m < 2 ^ 32 → n < 2 ^ 32 → m * 4294967296 + n ≡ op → op < 2 ^ 64
 wide_op m n op h k e = omega arith
@@ -140,9 +138,9 @@ op_read w op e =
 hex_read : (b d : ℕ) → hex_value b ≡ Some d → (d < 16) × (b ≡ hex_digit d)
 hex_read b d e =
     elim (chosen (leb 48 b && leb b 57) (Some (b - 48)) (cond (leb 97 b && leb b 102) (Some (b - 87)) None) (Some d) e) [
-      | inl h ↦ (let r = and_parts (leb 48 b) (leb b 57) h.0 in let l : 48 ≤ b = leb-true 48 b r.0 in let g : b ≤ 57 = leb-true b 57 r.1 in let s : b - 48 ≡ d = same_some (b - 48) d h.1 in
+      | inl h ↦ (let r = and_parts (leb 48 b) (leb b 57) h.0 in let l : 48 ≤ b = leb-true 48 b r.0 in let g : b ≤ 57 = leb-true b 57 r.1 in let s : b - 48 ≡ d = same_Some (b - 48) d h.1 in
           (omega arith, (let v : b ≡ 48 + d = omega arith in v) ∙ sym (ap (λ t. cond t (48 + d) (87 + d)) (lt-ltb d 10 (omega arith)))))
-      | inr h ↦ (let k = only_true (leb 97 b && leb b 102) (Some (b - 87)) d h.1 in let r = and_parts (leb 97 b) (leb b 102) k.0 in let l : 97 ≤ b = leb-true 97 b r.0 in let g : b ≤ 102 = leb-true b 102 r.1 in let s : b - 87 ≡ d = same_some (b - 87) d k.1 in
+      | inr h ↦ (let k = only_true (leb 97 b && leb b 102) (Some (b - 87)) d h.1 in let r = and_parts (leb 97 b) (leb b 102) k.0 in let l : 97 ≤ b = leb-true 97 b r.0 in let g : b ≤ 102 = leb-true b 102 r.1 in let s : b - 87 ≡ d = same_Some (b - 87) d k.1 in
           (omega arith, (let v : b ≡ 87 + d = omega arith in v) ∙ sym (ap (λ t. cond t (48 + d) (87 + d)) (le-ltb d 10 (omega arith)))))
     ]
 
@@ -160,7 +158,7 @@ byte_read high low b e =
     (omega arith, h.1 ∙ ap hex_digit q, l.1 ∙ ap hex_digit r)
 
 pub hex_bytes_read : (digits bytes : List ℕ) → hex_bytes digits ≡ Some bytes → (list_all (λ b. ltb b 256) bytes ≡ true) × (digits ≡ flat_map hex_byte bytes)
-hex_bytes_read [] bytes e = let n : [] ≡ bytes = same_some [] bytes e in (ap (list_all (λ b. ltb b 256)) (sym n), ap (flat_map hex_byte) n)
+hex_bytes_read [] bytes e = let n : [] ≡ bytes = same_Some [] bytes e in (ap (list_all (λ b. ltb b 256)) (sym n), ap (flat_map hex_byte) n)
 hex_bytes_read (a ∷ []) bytes e = cc
 hex_bytes_read (high ∷ low ∷ digits) bytes e =
     let t = then_some (λ b. option_map (λ bs. b ∷ bs) (hex_bytes digits)) (byte_at high low) bytes e in
@@ -187,7 +185,7 @@ not_empty false o z e = (refl, e)
 pub shown_read : (parts : List (List ℕ)) (bytes : List ℕ) → shown_of parts ≡ Some bytes → IsRead (reply.Shown bytes) (codes "data" ∷ parts)
 shown_read parts bytes e =
     elim (chosen (is_end parts) (Some []) (sole some_bytes parts) (Some bytes) e) [
-      | inl h ↦ (let n : [] ≡ bytes = same_some [] bytes h.1 in subst (λ bs. IsRead (reply.Shown bs) (codes "data" ∷ parts)) n (record { proper = refl; parts_are = ap (λ ps. codes "data" ∷ ps) (end_is parts h.0) }))
+      | inl h ↦ (let n : [] ≡ bytes = same_Some [] bytes h.1 in subst (λ bs. IsRead (reply.Shown bs) (codes "data" ∷ parts)) n (record { proper = refl; parts_are = ap (λ ps. codes "data" ∷ ps) (end_is parts h.0) }))
       | inr h ↦ (let s = sole_some some_bytes parts bytes h.1 in let n = not_empty (eqb (length s.0) 0) (hex_bytes s.0) bytes s.2 in let r = hex_bytes_read s.0 bytes n.1 in
           subst (λ ps. IsRead (reply.Shown bytes) (codes "data" ∷ ps)) (sym s.1) (shown_none s.0 bytes r.0 r.1 n.0))
     ]
@@ -226,7 +224,7 @@ among_read [] w r p e = cc
 among_read (q ∷ replies) w r p e =
     let h = and_parts (is_plain q) (list_all is_plain replies) p in
     elim (chosen (bytes_eq w (reply_word q)) (Some q) (reply_among replies w) (Some r) e) [
-      | inl k ↦ subst (λ t. IsRead t (w ∷ [])) (same_some q r k.1) (subst (λ t. IsRead q (t ∷ [])) (sym (word_is w (reply_word q) k.0)) (plain_read q h.0))
+      | inl k ↦ subst (λ t. IsRead t (w ∷ [])) (same_Some q r k.1) (subst (λ t. IsRead q (t ∷ [])) (sym (word_is w (reply_word q) k.0)) (plain_read q h.0))
       | inr k ↦ among_read replies w r h.1 k.1
     ]
 
@@ -248,7 +246,7 @@ as_read : (q r : Reply) (parts : List (List ℕ)) → q ≡ r → IsRead q parts
 as_read q r parts e h = subst (λ t. IsRead t parts) e h
 
 of_word : (q r : Reply) (parts : List (List ℕ)) → Some q ≡ Some r → IsRead q parts → IsRead r parts
-of_word q r parts e h = as_read q r parts (same_some q r e) h
+of_word q r parts e h = as_read q r parts (same_Some q r e) h
 
 -- replies by their first word
 full_read : (w : List ℕ) (r : Reply) → full_at w ≡ Some r → IsRead r (codes "nospace" ∷ w ∷ [])
@@ -300,7 +298,7 @@ names_read : (parts : List (List ℕ)) (r : Reply) → option_map reply.Names (n
 names_read parts r e =
     let m = map_some reply.Names (names_of parts) r e in
     let h = only_true (list_all is_name parts) (Some parts) m.0 m.1 in
-    let same : parts ≡ m.0 = same_some parts m.0 h.1 in
+    let same : parts ≡ m.0 = same_Some parts m.0 h.1 in
     as_read (reply.Names m.0) r (codes "names" ∷ parts) m.2 (record { proper = ap (list_all is_name) (sym same) ∙ h.0; parts_are = ap (λ ps. codes "names" ∷ ps) same })
 
 target_read : (parts : List (List ℕ)) (r : Reply) → option_map reply.Target (sole target_at parts) ≡ Some r → IsRead r (codes "target" ∷ parts)
@@ -308,7 +306,7 @@ target_read parts r e =
     let m = map_some reply.Target (sole target_at parts) r e in
     let s = sole_some target_at parts m.0 m.1 in
     let h = only_true (is_target s.0) (Some s.0) m.0 s.2 in
-    let same : s.0 ≡ m.0 = same_some s.0 m.0 h.1 in
+    let same : s.0 ≡ m.0 = same_Some s.0 m.0 h.1 in
     as_read (reply.Target m.0) r (codes "target" ∷ parts) m.2 (record { proper = ap is_target (sym same) ∙ h.0; parts_are = ap (λ ps. codes "target" ∷ ps) (s.1 ∙ ap (λ t. t ∷ []) same) })
 
 data_read : (parts : List (List ℕ)) (r : Reply) → option_map reply.Shown (shown_of parts) ≡ Some r → IsRead r (codes "data" ∷ parts)
@@ -413,7 +411,7 @@ recovered_read (w ∷ parts) s e =
     as_said (said.Recovered t.0 m.0) s (codes "!" ∷ codes "recovered" ∷ w ∷ parts) m.2 (record { proper = (h.0, k.0); parts_are = ap (λ x. codes "!" ∷ codes "recovered" ∷ x ∷ parts) h.1 ∙ ap (λ ps. codes "!" ∷ codes "recovered" ∷ decimal t.0.0 ∷ ps) k.1 })
 
 end_read : (parts : List (List ℕ)) (s : Said) → at_end (Some said.End) parts ≡ Some s → IsSaidRead s (codes "!" ∷ codes "end" ∷ parts)
-end_read parts s e = let h = at_end_some (Some said.End) parts s e in as_said said.End s (codes "!" ∷ codes "end" ∷ parts) (same_some said.End s h.1) (record { proper = tt; parts_are = ap (λ ps. codes "!" ∷ codes "end" ∷ ps) h.0 })
+end_read parts s e = let h = at_end_some (Some said.End) parts s e in as_said said.End s (codes "!" ∷ codes "end" ∷ parts) (same_Some said.End s h.1) (record { proper = tt; parts_are = ap (λ ps. codes "!" ∷ codes "end" ∷ ps) h.0 })
 
 none_read : {A : Type 0} (s : Said) → None ≡ Some s → A
 none_read s e = absurd (cc)
@@ -495,7 +493,7 @@ feed_read (b ∷ bytes) text e =
     let all = b ∷ bytes in
     let h = only_true (eqb (get_or all (length all - 1) 0) 10) (Some (take (length all - 1) all)) text e in
     let last : get_or all (length all - 1) 0 ≡ 10 = eqb-true (get_or all (length all - 1) 0) 10 h.0 in
-    let front : take (length all - 1) all ≡ text = same_some (take (length all - 1) all) text h.1 in
+    let front : take (length all - 1) all ≡ text = same_Some (take (length all - 1) all) text h.1 in
     let within : length all - 1 < length all = omega arith in
     let past : length all ≤ length all - 1 + 1 = omega arith in
     sym (take-append-drop (length all - 1) all)

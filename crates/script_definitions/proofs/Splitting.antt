@@ -20,12 +20,9 @@ all_weaker p q weaker (x ∷ xs) e =
 pub all_append : {A : Type 0} (p : A → Bool) (xs ys : List A) → list_all p xs ≡ true → list_all p ys ≡ true → list_all p (xs ++ ys) ≡ true
 all_append p xs ys e f = list_all-append p xs ys ∙ and_from (list_all p xs) (list_all p ys) e f
 
-same_byte : (c : ℕ) → eqb c c ≡ true
-same_byte c = eq-eqb c c refl
-
 -- a part before a separator, and a part alone
 pub split_before : (c : ℕ) (part text : List ℕ) → is_free c part ≡ true → slice_split (λ b. eqb b c) (part ++ c ∷ text) ≡ part ∷ slice_split (λ b. eqb b c) text
-split_before c [] text e = slice_split-cons_yes (λ b. eqb b c) c text (same_byte c)
+split_before c [] text e = slice_split-cons_yes (λ b. eqb b c) c text (eq-eqb c c refl)
 split_before c (x ∷ part) text e =
     let h = and_parts (not (eqb x c)) (is_free c part) e in
     slice_split-cons_no (λ b. eqb b c) x (part ++ c ∷ text) (not-true (eqb x c) h.0)

@@ -4,6 +4,7 @@ use Rattle.std.specs.List.{slice_split, onto_first, list_any}
 use Rattle.std.specs.Str.{is_utf8, IsUtf8}
 use Rattle.std.proofs.lemmas.Bool.{false_from_ne_true}
 use Rattle.std.proofs.lemmas.Str.{is_utf8-from_IsUtf8, IsUtf8-from_is_utf8}
+use mathlib.Core.Bool.{or_assoc}
 use Rattle.script_definitions.specs.ScriptWords.{is_blank, is_some_word, words_of}
 use Rattle.script_definitions.specs.ScriptText.{is_control}
 use Rattle.script_definitions.proofs.PartsLaws.{HasFirst, split_has}
@@ -22,10 +23,6 @@ in_words : (parts : List (List ℕ)) → in_parts (filter is_some_word parts) �
 in_words [] = refl
 in_words ([] ∷ parts) = in_words parts
 in_words ((b ∷ part) ∷ parts) = ap (λ t. list_any is_control (b ∷ part) || t) (in_words parts)
-
-or_assoc : (x y z : Bool) → ((x || y) || z) ≡ (x || (y || z))
-or_assoc true y z = refl
-or_assoc false y z = refl
 
 in_first : (b : ℕ) (parts : List (List ℕ)) → HasFirst parts → in_parts (onto_first b parts) ≡ (is_control b || in_parts parts)
 in_first b parts h = ap (λ ps. in_parts (onto_first b ps)) h.is ∙ or_assoc (is_control b) (list_any is_control h.first) (in_parts h.rest) ∙ ap (λ ps. is_control b || in_parts ps) (sym h.is)

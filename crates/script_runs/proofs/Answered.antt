@@ -2,6 +2,7 @@
 use Rattle.std.proofs.Common.{◌≡◌, ℕ, ◌≤◌, ◌<◌, Bool, true, false, ◌&&◌, ◌||◌, cond, List, [], ◌∷◌, map, refl, sym, ◌∙◌, ap, subst, arith, max}
 use Rattle.std.specs.List.{All, list_all}
 use Rattle.std.proofs.lemmas.List.Elements.{All-nil, All-cons, All-head, All-tail}
+use Rattle.std.proofs.lemmas.Bool.{or_right, or_left, and_from}
 use Rattle.frang_base.specs.declared.op.Op.{Op}
 use Rattle.frang_base.specs.declared.op.Op.TheVariants as op
 use Rattle.frang_base.specs.declared.reply.Reply.{Reply}
@@ -31,7 +32,6 @@ use Rattle.file_tree.specs.Replies.{answer_of, gives}
 use Rattle.file_tree.specs.Sure.{is_sure, shows_sure}
 use Rattle.script_runs.specs.declared.server.Server.{Server}
 use Rattle.script_runs.specs.Answering.{Answers, IsFirst, IsReady, entry_of, state_with}
-use Rattle.script_runs.proofs.HistoryLaws.{both}
 use Rattle.script_runs.proofs.Applying.{agrees_self, told_may, told_step, tree_applies, tree_own, tree_state}
 use Rattle.script_runs.proofs.Reading.{shown_same}
 
@@ -63,14 +63,6 @@ fits_by true true leaves a b = refl
 fits_by true false leaves a b = cc
 fits_by false tells leaves a b = cc
 
-or_left : (a b : Bool) → a ≡ true → a || b ≡ true
-or_left true b e = refl
-or_left false b e = cc
-
-or_right : (a b : Bool) → b ≡ true → a || b ≡ true
-or_right true b e = refl
-or_right false b e = e
-
 -- a tree's own blocks are no more than the most that there were
 most_stays : (before most : ℕ) → before ≤ most → most ≡ max most before
 most_stays before most low = omega arith
@@ -94,7 +86,7 @@ answers_applied number o before after r ready up path can proper is still mounte
     let sure = sure_performed before.tree o (number_of 1 number) when m ready.sure can in
     let own : IsTreeReply m r = reply_of m r (subst (λ a. IsAnswerOf IsSureCell m a.answer) is sure.answer) in
     let told : applied before.tree e ≡ gives after.tree r = told_step before.tree after.tree (resolved before.tree o).step (number_of 1 number) when m r ready.counted is in
-    let answered : is_answer before.tree e ≡ true = both _ _ path (ap (λ a. agrees a.answer r) told ∙ agrees_self r) in
+    let answered : is_answer before.tree e ≡ true = and_from _ _ path (ap (λ a. agrees a.answer r) told ∙ agrees_self r) in
     let stays = tree_state o m r path own in
     record {
       may = ap (λ u. may_answer (state_with u) false o r) up ∙ own_up o m r path own;
@@ -166,7 +158,7 @@ answers_unmount number before ready up =
 -- what may be applied to a tree of bytes
 shows_bytes : (cells : List Cell) → All IsSureCell cells → list_all is_sure cells ≡ true
 shows_bytes [] h = refl
-shows_bytes (cell ∷ cells) h = both _ _ (one cell (All-head IsSureCell cell cells h)) (shows_bytes cells (All-tail IsSureCell cell cells h))
+shows_bytes (cell ∷ cells) h = and_from _ _ (one cell (All-head IsSureCell cell cells h)) (shows_bytes cells (All-tail IsSureCell cell cells h))
   where
     one : (c : Cell) → IsSureCell c → is_sure c ≡ true
     one (Byte b) h = refl

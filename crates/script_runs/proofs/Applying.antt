@@ -1,7 +1,7 @@
 -- What an operation over a path is answered: a reply of its own, which agrees with itself and tells the number of blocks that was given.
-use Rattle.std.proofs.Common.{◌≡◌, ℕ, ◌+◌, ◌-◌, ◌*◌, ◌≤◌, Bool, true, false, not, ◌&&◌, ◌||◌, cond, Option, Some, None, List, [], ◌∷◌, length, map, replicate, refl, sym, ◌∙◌, ap, nat_eq, eq-eqb, nat_le, nat_lt, arith, max}
-use Rattle.std.specs.Cmp.Lexicographic.{pointwise}
+use Rattle.std.proofs.Common.{◌≡◌, ℕ, ◌+◌, ◌-◌, ◌*◌, ◌≤◌, Bool, true, false, not, ◌&&◌, ◌||◌, cond, Option, Some, None, List, [], ◌∷◌, length, map, replicate, refl, sym, ◌∙◌, ap, eq-eqb, nat_le, nat_lt, arith, max}
 use Rattle.std.proofs.lemmas.Bool.Decides.{nat_tests}
+use Rattle.std.proofs.lemmas.Bool.{and_from}
 use Rattle.frang_base.specs.declared.op.Op.{Op}
 use Rattle.frang_base.specs.declared.op.Op.TheVariants as op
 use Rattle.frang_base.specs.declared.reply.Reply.{Reply}
@@ -14,34 +14,17 @@ use Rattle.tree_definitions.specs.Tree.{FileTree, node_at, with_node, count_of, 
 use Rattle.tree_definitions.specs.Place.{Place, Root, Taken, Free, Nowhere, place}
 use Rattle.tree_definitions.specs.Apply.{Plain, Applied, says, is_path_op, if_file, at_file, written, overwritten, apply}
 use Rattle.tree_definitions.specs.Perform.{Step, Goes, Stops, perform_step}
-use Rattle.tree_definitions.specs.SaidLines.{reply_word}
 use Rattle.tree_definitions.specs.Touched.{is_ok, is_mounted, is_stall, is_unmount}
-use Rattle.tree_definitions.specs.History.{may_be_ok, same_reply, contents_are, agrees, cells_show, may_tell, told_blocks, leaves_tree}
+use Rattle.tree_definitions.specs.History.{may_be_ok, agrees, cells_show, may_tell, told_blocks, leaves_tree}
 use Rattle.tree_definitions.specs.Transcript.{Off, Up, Stalled, Free, is_own, calls_death, after_answer}
-use Rattle.tree_laws.proofs.Sameness.{text_same, pointwise_same}
+use Rattle.tree_laws.proofs.Replies.{same_self}
 use Rattle.script_definitions.specs.Sayable.{IsTreeReply}
 use Rattle.file_tree.specs.Replies.{answer_of, gives}
 use Rattle.script_runs.specs.Answering.{state_with}
-use Rattle.script_runs.proofs.HistoryLaws.{both}
-
--- each reply has its own contents
-same_contents : (r : Reply) → contents_are r r ≡ true
-same_contents (reply.Shown bytes) = text_same bytes
-same_contents (reply.File size links) = both _ _ (eq-eqb size size refl) (eq-eqb links links refl)
-same_contents (reply.Dir entries) = eq-eqb entries entries refl
-same_contents (reply.Symlink len) = eq-eqb len len refl
-same_contents (reply.Names names) = pointwise_same (pointwise nat_eq) text_same names
-same_contents (reply.Target target) = text_same target
-same_contents (reply.Time run tick) = both _ _ (eq-eqb run run refl) (eq-eqb tick tick refl)
-same_contents (reply.NoBlock m) = eq-eqb m m refl
-same_contents _ = refl
 
 own_cells : (bytes : List ℕ) → cells_show (map Byte bytes) bytes ≡ true
 own_cells [] = refl
-own_cells (b ∷ bytes) = both _ _ (eq-eqb b b refl) (own_cells bytes)
-
-same_self : (r : Reply) → same_reply r r ≡ true
-same_self r = both (pointwise nat_eq (reply_word r) (reply_word r)) (contents_are r r) (text_same (reply_word r)) (same_contents r)
+own_cells (b ∷ bytes) = and_from _ _ (eq-eqb b b refl) (own_cells bytes)
 
 -- the answer that a reply gives agrees with it
 pub agrees_self : (r : Reply) → agrees (answer_of r) r ≡ true
@@ -185,5 +168,5 @@ pub told_may : (tree : FileTree) (m ever : ℕ) (r : Reply) → IsTreeReply m r 
 told_may tree m ever (reply.NoBlock n) is low high =
     let least : nat_le (count_of dir_blocks tree) n ≡ true = (let e : n ≡ m = is in grind (arith, nat_tests, low, e)) in
     let most : nat_le n ever ≡ true = (let e : n ≡ m = is in grind (arith, nat_tests, high, e)) in
-    both _ _ least most
+    and_from _ _ least most
 told_may tree m ever r is low high = refl

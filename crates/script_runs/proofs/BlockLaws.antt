@@ -1,5 +1,6 @@
 -- The most blocks that directories had at once, and the replies that count them, with one entry more.
 use Rattle.std.proofs.Common.{◌≡◌, ℕ, true, List, [], ◌∷◌, ◌++◌, refl, ◌∙◌, ap}
+use Rattle.std.proofs.lemmas.Bool.{and_parts, and_from}
 use Rattle.tree_definitions.specs.declared.history.Entry.{Entry}
 use Rattle.tree_definitions.specs.declared.history.Item.{Item}
 use Rattle.tree_definitions.specs.declared.history.Item.TheVariants.{Did}
@@ -8,7 +9,6 @@ use Rattle.tree_definitions.specs.History.{Opening, Settled, Stays, after, after
 use Rattle.tree_definitions.specs.Removal.{settled, tree_of}
 use Rattle.tree_laws.proofs.HistoryLaws.{settled-push}
 use Rattle.script_runs.specs.DirectoryBlocks.{most_with, most_after, answers_at, step_answers_at, all_answer_at, most_blocks, counts_blocks}
-use Rattle.script_runs.proofs.HistoryLaws.{both, left, right}
 
 most_after-push : (tree : FileTree) (most : ℕ) (list : List Settled) (s : Settled) → most_after tree most (list ++ s ∷ []) ≡ most_with (most_after tree most list) (after (after_all tree list) s)
 most_after-push tree most [] s = refl
@@ -16,8 +16,8 @@ most_after-push tree most (x ∷ list) s = most_after-push (after tree x) (most_
 
 all_answer-push : (tree : FileTree) (most : ℕ) (list : List Settled) (s : Settled) → all_answer_at tree most list ≡ true → step_answers_at (after_all tree list) (most_after tree most list) s ≡ true
     → all_answer_at tree most (list ++ s ∷ []) ≡ true
-all_answer-push tree most [] s all one = both _ _ one refl
-all_answer-push tree most (x ∷ list) s all one = both _ _ (left _ _ all) (all_answer-push (after tree x) (most_with most (after tree x)) list s (right _ _ all) one)
+all_answer-push tree most [] s all one = and_from _ _ one refl
+all_answer-push tree most (x ∷ list) s all one = and_from _ _ (and_parts _ _ all).0 (all_answer-push (after tree x) (most_with most (after tree x)) list s (and_parts _ _ all).1 one)
 
 -- the blocks after one entry more
 pub most_blocks-push : (o : Opening) (history : List Item) (e : Entry) → most_blocks o (history ++ Did e ∷ []) ≡ most_with (most_blocks o history) (tree_after (tree_of o history) e)

@@ -1,13 +1,13 @@
 -- Lines said that answer the lines of a script in order, each once.
 use Rattle.std.proofs.Common.{◌≡◌, ℕ, zero, suc, ◌+◌, Bool, true, false, ◌||◌, cond, Some, List, [], ◌∷◌, ◌++◌, length, take, refl, ◌∙◌, ap, arith, eq-eqb, nat_eq}
 use Rattle.std.specs.List.{slice_get, filter, list_any}
+use Rattle.std.proofs.lemmas.Bool.{and_parts, and_from}
 use Rattle.frang_base.specs.declared.reply.Reply.{Reply}
 use Rattle.frang_base.specs.declared.said.Said.{Said}
 use Rattle.frang_base.specs.declared.said.Said.TheVariants as said
 use Rattle.frang_base.specs.declared.script.Line.{Line}
 use Rattle.tree_definitions.specs.Transcript.{ServerState, no_faults, after_said, state_from, lines_for, is_answer_of, is_node, answers, are_answered}
 use Rattle.script_runs.specs.Running.{Follows}
-use Rattle.script_runs.proofs.HistoryLaws.{both, left, right}
 
 -- the answer to a line
 abbrev pub answer : Line → Reply → Said
@@ -61,12 +61,12 @@ any_more number x saids was = go (answers number x)
 
 all_more : (lines : List Line) (x : Said) (saids : List Said) → are_answered lines saids ≡ true → are_answered lines (x ∷ saids) ≡ true
 all_more [] x saids was = refl
-all_more (l ∷ ls) x saids was = both _ _ (any_more l.number x saids (left _ _ was)) (all_more ls x saids (right _ _ was))
+all_more (l ∷ ls) x saids was = and_from _ _ (any_more l.number x saids (and_parts _ _ was).0) (all_more ls x saids (and_parts _ _ was).1)
 
 pub follows_answered : (lines : List Line) (saids : List Said) → Follows lines saids → are_answered lines saids ≡ true
 follows_answered [] [] is = refl
 follows_answered (l ∷ ls) (said.Answer s n r ∷ saids) is =
-    both _ _ (ap (λ b. b || list_any (answers l.number) saids) (eq-eqb n l.number is.1)) (all_more ls (said.Answer s n r) saids (follows_answered ls saids is.2))
+    and_from _ _ (ap (λ b. b || list_any (answers l.number) saids) (eq-eqb n l.number is.1)) (all_more ls (said.Answer s n r) saids (follows_answered ls saids is.2))
 follows_answered [] (x ∷ saids) is = absurd is
 follows_answered (l ∷ ls) [] is = absurd is
 follows_answered (l ∷ ls) (_ ∷ saids) is = absurd is

@@ -1,5 +1,6 @@
 -- An entry more at the end of a legal history, and two tests at once.
-use Rattle.std.proofs.Common.{◌≡◌, ℕ, Bool, true, false, ◌&&◌, List, [], ◌∷◌, ◌++◌, refl, ◌∙◌}
+use Rattle.std.proofs.Common.{◌≡◌, ℕ, true, List, [], ◌∷◌, ◌++◌, ◌∙◌}
+use Rattle.std.proofs.lemmas.Bool.{and_from}
 use Rattle.tree_definitions.specs.declared.history.Entry.{Entry}
 use Rattle.tree_definitions.specs.declared.history.Item.{Item}
 use Rattle.tree_definitions.specs.declared.history.Item.TheVariants.{Did}
@@ -7,18 +8,6 @@ use Rattle.tree_definitions.specs.History.{Opening, fits}
 use Rattle.tree_definitions.specs.Removal.{is_legal, tree_of}
 use Rattle.tree_laws.proofs.HistoryLaws.{is_legal-push}
 
-pub both : (a b : Bool) → a ≡ true → b ≡ true → a && b ≡ true
-both true b e f = f
-both false b e f = cc
-
-pub left : (a b : Bool) → a && b ≡ true → a ≡ true
-left true b e = refl
-left false b e = cc
-
-pub right : (a b : Bool) → a && b ≡ true → b ≡ true
-right true b e = e
-right false b e = cc
-
 -- an entry that fits whatever number of blocks there was
 pub legal-did : (o : Opening) (items : List Item) (e : Entry) → is_legal o items ≡ true → ((n : ℕ) → fits (tree_of o items) n e ≡ true) → is_legal o (items ++ Did e ∷ []) ≡ true
-legal-did o items e legal may = is_legal-push o items e ∙ both _ _ legal (may _)
+legal-did o items e legal may = is_legal-push o items e ∙ and_from _ _ legal (may _)

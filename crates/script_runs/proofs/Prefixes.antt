@@ -1,11 +1,12 @@
 -- The first lines said, and the record of the lines said.
-use Rattle.std.proofs.Common.{◌≡◌, ◌⊎◌, inl, inr, ℕ, zero, suc, ◌<◌, ◌≤◌, Option, Some, None, List, [], ◌∷◌, ◌++◌, length, map, take, refl, sym, ◌∙◌, ap, subst, arith, length-append, get_or}
+use Rattle.std.proofs.Common.{◌≡◌, ◌⊎◌, inl, inr, ℕ, ◌<◌, ◌≤◌, Option, Some, None, List, [], ◌∷◌, ◌++◌, length, map, take, refl, sym, ◌∙◌, ap, subst, arith, length-append}
 use Rattle.std.specs.Prelude.{Err}
-use Rattle.std.specs.List.{All, slice_get, cons_option}
+use Rattle.std.specs.List.{All, cons_option}
 use Rattle.std.proofs.lemmas.List.{take_all, take-append-le, take-map, map-append}
 use Rattle.std.proofs.lemmas.List.Elements.{All-head, All-tail, All-take, All-append, All-cons, All-nil}
 use Rattle.frang_base.specs.declared.said.Said.{Said}
 use Rattle.frang_base.specs.declared.script.Line.{Line}
+use Rattle.frang_base.proofs.Basics.{le_or_lt}
 use Rattle.frang_outside.specs.declared.act.Act.{Act}
 use Rattle.frang_outside.specs.Outside.{State, Rose, NoneFell, told_more}
 use Rattle.tree_definitions.specs.History.{Opening}
@@ -28,17 +29,8 @@ told-push (Some old) after saids x before e acts is =
     let now : acts ≡ old ++ said_act x ∷ [] = cc in
     now ∙ ap (λ o. o ++ said_act x ∷ []) (before old refl) ∙ sym (map-append said_act saids (x ∷ []))
 
-either : (k n : ℕ) → (k ≤ n) ⊎ (n < k)
-either zero n = inl (omega arith)
-either (suc k) zero = inr (omega arith)
-either (suc k) (suc n) = go (either k n)
-  where
-    go : (k ≤ n) ⊎ (n < k) → (suc k ≤ suc n) ⊎ (suc n < suc k)
-    go (inl low) = inl (omega arith)
-    go (inr high) = inr (omega arith)
-
 pub always-push : (o : Opening) (script : List Line) (saids : List Said) (x : Said) → Always o script saids → IsRun o script (saids ++ x ∷ []) → Always o script (saids ++ x ∷ [])
-always-push o script saids x always run k = go (either k (length saids))
+always-push o script saids x always run k = go (le_or_lt k (length saids))
   where
     go : (k ≤ length saids) ⊎ (length saids < k) → IsRun o script (take k (saids ++ x ∷ []))
     go (inl low) = subst (IsRun o script) (sym (take-append-le k saids (x ∷ []) low)) (always k)
@@ -69,11 +61,6 @@ always_says o script told saids acts_are proper always acts is k =
 lines_count : (told : Option (List Act)) (saids : List Said) → Told told saids → All IsProperSaid saids → (acts : List Act) → told ≡ Some acts → length (saids_of acts) ≡ length saids
 lines_count told saids acts_are proper acts is = ap (λ l. length (saids_of l)) (acts_are acts is) ∙ ap length (read_back saids proper)
 
-pub at_index : {A : Type 0} (xs : List A) (i : ℕ) (x : A) → i < length xs → x ≡ get_or xs i x → slice_get xs i ≡ Some x
-at_index [] i x in_range is = absurd (omega arith)
-at_index (y ∷ ys) zero x in_range is = ap Some (sym is)
-at_index (y ∷ ys) (suc i) x in_range is = at_index ys i x (omega arith) is
-
 -- a say that was refused
 pub refused : (old new : State) (act : Act) (n : ℕ) (fault : RunFault) → SaysOne old new act n (Err fault) → new.acts ≡ old.acts
 refused old new act n NoMemory says = says
@@ -84,10 +71,4 @@ stops old mid new act n NoMemory saids acts_are proper count fell says = tt
 stops old mid new act n (Mute m) saids acts_are proper count fell says = record {
   rose = (let before : old.say_faults ≤ mid.say_faults = fell.says in let now : Rose mid.say_faults new.say_faults = says.2 in let r : Rose old.say_faults new.say_faults = omega arith in r);
   after = λ acts is. lines_count mid.acts saids acts_are proper acts (sym says.0 ∙ is) ∙ count ∙ sym says.1;
-}
-
-pub fell-trans : (old mid new : State) → NoneFell old mid → NoneFell mid new → NoneFell old new
-fell-trans old mid new a b = record {
-  faults = λ party. (let one : old.faults party ≤ mid.faults party = a.faults party in let two : mid.faults party ≤ new.faults party = b.faults party in let r : old.faults party ≤ new.faults party = omega arith in r);
-  says = (let one : old.say_faults ≤ mid.say_faults = a.says in let two : mid.say_faults ≤ new.say_faults = b.says in let r : old.say_faults ≤ new.say_faults = omega arith in r);
 }

@@ -1,7 +1,7 @@
 -- The lines of a script that can be answered: their numbers ascend, and each is found by its number and by its server.
 use Rattle.std.proofs.Common.{◌≡◌, inl, inr, ℕ, zero, suc, ◌+◌, ◌<◌, ◌≤◌, Bool, true, false, not, ◌&&◌, ◌||◌, cond, Option, Some, None, List, [], ◌∷◌, ◌++◌, length, take, refl, sym, ◌∙◌, ap, subst, arith, eqb, eq-eqb, nat_eq, nat_lt}
 use Rattle.std.specs.Prelude.{Result, Ok, Err}
-use Rattle.std.proofs.lemmas.Bool.{ne_eqb}
+use Rattle.std.proofs.lemmas.Bool.{ne_eqb, le-ltb, and_parts, and_from}
 use Rattle.std.proofs.lemmas.Bool.Decides.{nat_tests}
 use Rattle.std.specs.List.{All, slice_get, find, filter, list_any}
 use Rattle.std.proofs.lemmas.List.Sums.{sum_by-take-le, sum_by_push}
@@ -19,7 +19,6 @@ use Rattle.script_definitions.proofs.JudgedLaws.{text_sound}
 use Rattle.script_definitions.proofs.TicksLaws.{few_ticks}
 use Rattle.script_definitions.specs.Ticks.{all_ticks}
 use Rattle.script_runs.specs.Built.{IsBuiltLine, AreBuilt, CanRun, is_halting, halts_last, is_built_line, first_unbuilt, unless_unbuilt, built_by, built_script_of}
-use Rattle.script_runs.proofs.HistoryLaws.{both, left, right}
 
 -- a line whose number is at least n, and so at least m
 pub line_lower : (m n : ℕ) (line : Line) → m ≤ n → IsBuiltLine n line → IsBuiltLine m line
@@ -74,7 +73,7 @@ pub none_halts : (script : List Line) (i : ℕ) (line : Line) → halts_last scr
 none_halts [] i line last at = cc
 none_halts (l ∷ ls) zero line last at = refl
 none_halts (l ∷ []) (suc i) line last at = cc
-none_halts (l ∷ m ∷ ls) (suc i) line last at = go (is_halting l) (left _ _ last) (none_halts (m ∷ ls) i line (right _ _ last) at)
+none_halts (l ∷ m ∷ ls) (suc i) line last at = go (is_halting l) (and_parts _ _ last).0 (none_halts (m ∷ ls) i line (and_parts _ _ last).1 at)
   where
     go : (b : Bool) → not b ≡ true → list_any is_halting (take i (m ∷ ls)) ≡ false → b || list_any is_halting (take i (m ∷ ls)) ≡ false
     go true goes rest = cc
@@ -128,14 +127,11 @@ next_found p (l ∷ ls) (suc i) line at own = go (p l) (next_found p ls i line a
     go true rest = rest
     go false rest = rest
 
-not_before : (k m : ℕ) → m ≤ k → nat_lt k m ≡ false
-not_before k m h = grind (arith, nat_tests, h)
-
 -- no line stands before the first number
 none_before : (p : Line → Bool) (n m : ℕ) (script : List Line) → AreBuilt n script → m ≤ n → lines_before m (filter p script) ≡ []
 none_before p n m [] all low = refl
 none_before p n m (l ∷ ls) all low =
-    go (p l) (none_before p (l.number + 1) m ls all.1 (let e : n ≤ l.number = all.0.number in omega arith)) (not_before l.number m (let e : n ≤ l.number = all.0.number in omega arith))
+    go (p l) (none_before p (l.number + 1) m ls all.1 (let e : n ≤ l.number = all.0.number in omega arith)) (le-ltb l.number m (let e : n ≤ l.number = all.0.number in omega arith))
   where
     go : (b : Bool) → lines_before m (filter p ls) ≡ [] → nat_lt l.number m ≡ false → lines_before m (cond b (l ∷ filter p ls) (filter p ls)) ≡ []
     go true rest late = ap (λ b. cond b (l ∷ lines_before m (filter p ls)) (lines_before m (filter p ls))) late ∙ rest
@@ -148,13 +144,13 @@ before_answered p n (l ∷ ls) zero line saids all at was =
     let same : l ≡ line = cc in
     let low : line.number ≤ l.number = omega (arith, ap (λ x. x.number) same) in
     ap (λ xs. are_answered xs saids) (none_before p l.number line.number (l ∷ ls) (record { number = omega arith; small = all.0.small; proper = all.0.proper; sayable = all.0.sayable; built = all.0.built }, all.1) low)
-before_answered p n (l ∷ ls) (suc i) line saids all at was = go (p l) (nat_lt l.number line.number) (before_answered p (l.number + 1) ls i line saids all.1 at (right _ _ was))
+before_answered p n (l ∷ ls) (suc i) line saids all at was = go (p l) (nat_lt l.number line.number) (before_answered p (l.number + 1) ls i line saids all.1 at (and_parts _ _ was).1)
   where
     before : List Line
     before = lines_before line.number (filter p ls)
 
     after : (c : Bool) → are_answered before saids ≡ true → are_answered (cond c (l ∷ before) before) saids ≡ true
-    after true rest = both _ _ (left _ _ was) rest
+    after true rest = and_from _ _ (and_parts _ _ was).0 rest
     after false rest = rest
 
     go : (b c : Bool) → are_answered before saids ≡ true → are_answered (lines_before line.number (cond b (l ∷ filter p ls) (filter p ls))) saids ≡ true

@@ -2,12 +2,12 @@
 use Rattle.std.proofs.Common.{◌≡◌, ℕ, ◌+◌, Bool, true, false, ◌&&◌, ◌||◌, List, [], ◌∷◌, ◌++◌, refl, ◌∙◌, ap}
 use Rattle.std.specs.List.{list_any, list_all}
 use Rattle.std.proofs.lemmas.List.Folds.{list_any-append}
+use Rattle.std.proofs.lemmas.Bool.{or_from, or_parts, and_parts, and_from}
 use Rattle.frang_base.specs.declared.said.Said.{Said}
 use Rattle.frang_base.specs.declared.said.Said.TheVariants as said
 use Rattle.frang_base.specs.declared.script.Line.{Line}
 use Rattle.tree_definitions.specs.Numbers.{below}
 use Rattle.tree_definitions.specs.Transcript.{ServerState, first_state, no_faults, after_said, state_from, is_settled, all_settled, is_over, halts, is_end, answers, are_answered}
-use Rattle.script_runs.proofs.HistoryLaws.{both, left, right}
 
 pub state-push : (script : List Line) (server place : ℕ) (state : ServerState) (saids : List Said) (x : Said)
     → state_from script no_faults server place state (saids ++ x ∷ []) ≡ after_said script server false (state_from script no_faults server place state saids) x
@@ -16,7 +16,7 @@ state-push script server place state (s ∷ ss) x = state-push script server (pl
 
 pub all_true : (f : ℕ → Bool) (xs : List ℕ) → ((x : ℕ) → f x ≡ true) → list_all f xs ≡ true
 all_true f [] each = refl
-all_true f (x ∷ xs) each = both _ _ (each x) (all_true f xs each)
+all_true f (x ∷ xs) each = and_from _ _ (each x) (all_true f xs each)
 
 all_same : (f g : ℕ → Bool) (xs : List ℕ) → ((x : ℕ) → f x ≡ g x) → list_all f xs ≡ list_all g xs
 all_same f g [] each = refl
@@ -27,23 +27,11 @@ pub settled-node : (script : List Line) (saids : List Said) (path : List ℕ) (k
 settled-node script saids path kind size links =
     all_same _ _ (below 16) (λ server. ap (λ st. is_settled st.phase) (state-push script server 0 first_state saids (said.Node path kind size links)))
 
-or_left : (a b : Bool) → a || b ≡ false → a ≡ false
-or_left true b e = cc
-or_left false b e = refl
-
-or_right : (a b : Bool) → a || b ≡ false → b ≡ false
-or_right true b e = cc
-or_right false b e = e
-
-neither : (a b : Bool) → a ≡ false → b ≡ false → a || b ≡ false
-neither true b e f = cc
-neither false b e f = f
-
 any-push : (f : Said → Bool) (saids : List Said) (x : Said) → list_any f saids ≡ false → f x ≡ false → list_any f (saids ++ x ∷ []) ≡ false
-any-push f saids x none not_x = list_any-append f saids (x ∷ []) ∙ neither _ _ none (neither _ _ not_x refl)
+any-push f saids x none not_x = list_any-append f saids (x ∷ []) ∙ or_from _ _ none (or_from _ _ not_x refl)
 
 pub over-push : (script : List Line) (saids : List Said) (x : Said) → is_over script saids ≡ false → halts script x ≡ false → is_end x ≡ false → is_over script (saids ++ x ∷ []) ≡ false
-over-push script saids x goes_on no_halt no_end = neither _ _ (any-push (halts script) saids x (or_left _ _ goes_on) no_halt) (any-push is_end saids x (or_right _ _ goes_on) no_end)
+over-push script saids x goes_on no_halt no_end = or_from _ _ (any-push (halts script) saids x (or_parts _ _ goes_on).0 no_halt) (any-push is_end saids x (or_parts _ _ goes_on).1 no_end)
 
 over-by : (halted was ended : Bool) → halted || ended ≡ false → (halted || (was || false)) || (ended || (false || false)) ≡ was
 over-by true was ended none = cc
@@ -64,4 +52,4 @@ answered-push number saids x was = list_any-append (answers number) saids (x ∷
 
 pub are_answered-push : (lines : List Line) (saids : List Said) (x : Said) → are_answered lines saids ≡ true → are_answered lines (saids ++ x ∷ []) ≡ true
 are_answered-push [] saids x was = refl
-are_answered-push (l ∷ ls) saids x was = both _ _ (answered-push l.number saids x (left _ _ was)) (are_answered-push ls saids x (right _ _ was))
+are_answered-push (l ∷ ls) saids x was = and_from _ _ (answered-push l.number saids x (and_parts _ _ was).0) (are_answered-push ls saids x (and_parts _ _ was).1)

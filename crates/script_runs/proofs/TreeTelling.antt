@@ -2,13 +2,14 @@
 use Rattle.std.proofs.Common.{◌≡◌, ℕ, zero, suc, ◌+◌, ◌≤◌, cond, nat_eq, Bool, true, false, ◌&&◌, ◌||◌, not, Option, Some, None, List, [], ◌∷◌, ◌++◌, length, take, refl, sym, ◌∙◌, ap, subst, arith, length-append, append-nil}
 use Rattle.std.specs.List.{All, slice_get, filter, list_any, list_all, flat_map}
 use Rattle.std.proofs.lemmas.List.{take_all}
-use Rattle.std.proofs.lemmas.Bool.{ne_eqb}
+use Rattle.std.proofs.lemmas.Bool.{ne_eqb, and_parts, and_from}
 use Rattle.std.proofs.lemmas.List.Elements.{filter-append, All-head, All-tail}
 use Rattle.frang_base.specs.declared.op.HostOp.{HostOp}
 use Rattle.frang_base.specs.declared.op.What.{What}
 use Rattle.frang_base.specs.declared.op.What.TheVariants.{Server, Host}
 use Rattle.frang_base.specs.declared.reply.Reply.{Reply}
 use Rattle.std.proofs.lemmas.List.Folds.{list_any-append}
+use mathlib.Core.Bool.{or-true}
 use Rattle.frang_base.specs.declared.said.Said.{Said}
 use Rattle.frang_base.specs.declared.said.Said.TheVariants as said
 use Rattle.frang_base.specs.declared.script.Line.{Line}
@@ -33,7 +34,6 @@ use Rattle.script_runs.specs.Running.{Follows, IsAt, Told}
 use Rattle.script_definitions.specs.SaidReading.{IsProperSaid}
 use Rattle.script_runs.specs.Telling.{IsTelling, IsDone}
 use Rattle.tree_laws.proofs.TranscriptLaws.{live-push}
-use Rattle.script_runs.proofs.HistoryLaws.{both, left, right}
 use Rattle.script_runs.proofs.StateLaws.{all_true, settled-node, over-push, are_answered-push}
 use Rattle.script_runs.proofs.Following.{answer, follows_answered, follows_count, follows_nodes, follows_stays}
 use Rattle.script_runs.proofs.ScriptLaws.{built_at, line_of-number}
@@ -47,7 +47,7 @@ nodes_only f (e ∷ es) each = append_all (f e) (flat_map f es) (each e) (nodes_
   where
     append_all : (xs ys : List Said) → list_all is_node xs ≡ true → list_all is_node ys ≡ true → list_all is_node (xs ++ ys) ≡ true
     append_all [] ys a b = b
-    append_all (x ∷ xs) ys a b = both _ _ (left _ _ a) (append_all xs ys (right _ _ a) b)
+    append_all (x ∷ xs) ys a b = and_from _ _ (and_parts _ _ a).0 (append_all xs ys (and_parts _ _ a).1 b)
 
 nodes_with : (text : List ℕ) (o : Option Node) (f : List ℕ × ℕ → List Said) → ((e : List ℕ × ℕ) → list_all is_node (f e) ≡ true) → list_all is_node (lines_with text o f) ≡ true
 nodes_with text None f each = refl
@@ -61,8 +61,8 @@ nodes_from (suc n) tree text birth = nodes_with text (node_at tree birth) _ (λ 
 
 all_at : (xs : List Said) (i : ℕ) (x : Said) → list_all is_node xs ≡ true → slice_get xs i ≡ Some x → is_node x ≡ true
 all_at [] i x all at = cc
-all_at (y ∷ ys) zero x all at = let same : y ≡ x = cc in ap is_node (sym same) ∙ left _ _ all
-all_at (y ∷ ys) (suc i) x all at = all_at ys i x (right _ _ all) at
+all_at (y ∷ ys) zero x all at = let same : y ≡ x = cc in ap is_node (sym same) ∙ (and_parts _ _ all).0
+all_at (y ∷ ys) (suc i) x all at = all_at ys i x (and_parts _ _ all).1 at
 
 -- nobody is stalled or dead where server 0 is up or off and only it and the host have answered
 up_or_off : (up : Bool) → is_settled (state_with up).phase ≡ true
@@ -133,7 +133,7 @@ halted o script server told now halts =
 
 -- what may be said of the tree
 tree_goes : (script : List Line) (saids : List Said) → is_over script saids ≡ false → are_answered script saids ≡ true → all_settled script no_faults saids ≡ true → not (is_over script saids) && are_answered script saids && all_settled script no_faults saids ≡ true
-tree_goes script saids on answered settled = both _ _ (both _ _ (ap not on) answered) settled
+tree_goes script saids on answered settled = and_from _ _ (and_from _ _ (ap not on) answered) settled
 
 -- a line that adds nothing to the history
 same_run : (o : Opening) (script : List Line) (saids : List Said) (x : Said) → history_of o script (saids ++ x ∷ []) ≡ history_of o script saids → IsRun o script saids → MaySay script o no_faults saids x → IsRun o script (saids ++ x ∷ [])
@@ -183,13 +183,9 @@ told_end o script lines told after now says =
     let acts_are = told-push told after now.saids said.End now.acts says in
     let proper : All IsProperSaid saids = proper-push now.saids said.End now.proper tt in
     let answered : are_answered script saids ≡ true = are_answered-push script now.saids said.End now.answered in
-    let ended : list_any is_end saids ≡ true = list_any-append is_end now.saids (said.End ∷ []) ∙ or_true (list_any is_end now.saids) in
-    let over : is_over script saids ≡ true = ap (λ e. list_any (halts script) saids || e) ended ∙ or_true (list_any (halts script) saids) in
+    let ended : list_any is_end saids ≡ true = list_any-append is_end now.saids (said.End ∷ []) ∙ or-true (list_any is_end now.saids) in
+    let over : is_over script saids ≡ true = ap (λ e. list_any (halts script) saids || e) ended ∙ or-true (list_any (halts script) saids) in
     record {
       always = always_says o script after saids acts_are proper (always-push o script now.saids said.End now.always run);
       whole = whole_by o script after saids acts_are proper run answered over;
     }
-  where
-    or_true : (b : Bool) → b || true ≡ true
-    or_true true = refl
-    or_true false = refl

@@ -5,6 +5,8 @@ use Rattle.std.proofs.lemmas.List.Folds.{list_any-append}
 use Rattle.script_definitions.specs.Ticks.{all_ticks}
 use Rattle.std.proofs.lemmas.List.{take_all}
 use Rattle.std.proofs.lemmas.List.Elements.{All-nil}
+use Rattle.std.proofs.lemmas.Bool.{and_parts, and_from}
+use mathlib.Core.Bool.{or-false}
 use Rattle.frang_base.specs.declared.op.HostOp.{HostOp}
 use Rattle.frang_base.specs.declared.op.HostOp.TheVariants as host
 use Rattle.frang_base.specs.declared.op.Op.{Op}
@@ -36,7 +38,6 @@ use Rattle.script_runs.specs.Running.{Follows, IsAt, ever_of}
 use Rattle.script_runs.specs.Run.{history_of, AlwaysSaysRun, IsRun, NothingYet, SaysRun, said_act}
 use Rattle.script_runs.specs.DirectoryBlocks.{answers_at, most_with, most_blocks, counts_blocks}
 use Rattle.script_runs.proofs.BlockLaws.{most_blocks-push, counts_blocks-push}
-use Rattle.script_runs.proofs.HistoryLaws.{both, left}
 use Rattle.script_runs.proofs.ScriptLaws.{before_answered, built_at, filter_all, line_of-number, next_found, none_halts, ticks-push, time_at}
 use Rattle.script_runs.proofs.StateLaws.{over-more, state-push}
 use Rattle.script_runs.proofs.Following.{answer, follows-push, follows_answered, follows_no_node, follows_own, take-next}
@@ -56,14 +57,14 @@ may_say_next o script i saids line r at follows on may =
     let who = line.who.0 in
     let next : next_line who script saids ≡ Some line
     = ap (slice_get (lines_for who script)) (follows_own who (take i script) saids follows) ∙ next_found (λ l. nat_eq l.who.0 who) script i line at (eq-eqb who who refl) in
-    let on_goes : goes_on script saids ≡ true = both _ _ (ap not on) (ap not (follows_no_node (take i script) saids follows)) in
-    both _ _ on_goes (ap (answers_next script no_faults saids who line.number r) next ∙ both _ _ (eq-eqb line.number line.number refl) may)
+    let on_goes : goes_on script saids ≡ true = and_from _ _ (ap not on) (ap not (follows_no_node (take i script) saids follows)) in
+    and_from _ _ on_goes (ap (answers_next script no_faults saids who line.number r) next ∙ and_from _ _ (eq-eqb line.number line.number refl) may)
 
 -- a reply of server 0 to its line
 may_server : (script : List Line) (i : ℕ) (up : Bool) (saids : List Said) (line : Line) (o : Op) (r : Reply) → AreBuilt 1 script → slice_get script i ≡ Some line → Follows (take i script) saids
     → state_of script no_faults 0 saids ≡ state_with up → may_answer (state_with up) false o r ≡ true → may_reply script no_faults saids 0 line.number (Server o) r ≡ true
 may_server script i up saids line o r built at follows state_is may =
-    both _ _ (before_answered (λ l. nat_eq l.who.0 255) 1 script i line saids built at (follows_answered (take i script) saids follows)) (ap (λ st. may_answer st false o r) state_is ∙ may)
+    and_from _ _ (before_answered (λ l. nat_eq l.who.0 255) 1 script i line saids built at (follows_answered (take i script) saids follows)) (ap (λ st. may_answer st false o r) state_is ∙ may)
 
 -- the `ok` to a line of the host
 may_host : (script : List Line) (i : ℕ) (saids : List Said) (line : Line) (h : HostOp) → AreBuilt 1 script → slice_get script i ≡ Some line → Follows (take i script) saids
@@ -74,7 +75,7 @@ may_host script i saids line h built at follows =
 
 -- whose a line is that can be answered
 pub who_server : (who : ℕ) (o : Op) → is_built who (Server o) ≡ true → who ≡ 0
-who_server who o h = eqb-true who 0 (left _ _ h)
+who_server who o h = eqb-true who 0 (and_parts _ _ h).0
 
 -- a line more of a run
 run_more : (o : Opening) (script : List Line) (saids : List Said) (x : Said) (items : List Item) → history_of o script (saids ++ x ∷ []) ≡ history_of o script saids ++ items → IsRun o script saids → MaySay script o no_faults saids x
@@ -113,10 +114,6 @@ record Turned (o : Opening) (script : List Line) (saids : List Said) (line : Lin
   pub ticks : after.ticks ≡ before.ticks + ticks_of line.what
   pub segments : after.tree.segments ≡ before.tree.segments
 
-or_none : (b : Bool) → (b || false) ≡ b
-or_none true = refl
-or_none false = refl
-
 turned : (o : Opening) (script : List Line) (i : ℕ) (before after : Serving) (told told_after : Option (List Act)) (line : Line) (r : Reply) → CanRun script → slice_get script i ≡ Some line → (now : IsAt o script i before told) → is_over script now.saids ≡ false
     → Turned o script now.saids line r before after → told_after ≡ told_more told (said_act (answer line r)) → IsAt o script (i + 1) after told_after
 turned o script i before after told told_after line r can at now on next says =
@@ -131,7 +128,7 @@ turned o script i before after told told_after line r can at now on next says =
       follows = subst (λ ls. Follows ls (saids ++ answer line r ∷ [])) (sym lines) (follows-push (take i script) saids line r now.follows);
       proper = proper-push saids (answer line r) now.proper next.proper;
       over = over-more script saids (answer line r) on refl ∙ ap is_halt_line (line_of-number 1 script i line can.built at)
-          ∙ sym (ap (list_any is_halting) lines ∙ list_any-append is_halting (take i script) (line ∷ []) ∙ ap (λ b. b || (is_halting line || false)) none ∙ or_none (is_halting line));
+          ∙ sym (ap (list_any is_halting) lines ∙ list_any-append is_halting (take i script) (line ∷ []) ∙ ap (λ b. b || (is_halting line || false)) none ∙ or-false (is_halting line));
       state_is = next.state_is;
       tree_is = next.tree_is ∙ ap (tree_of o) (sym longer);
       most = next.most ∙ ap (most_blocks o) (sym longer);
@@ -182,7 +179,7 @@ served o script i before after told line r op first built at now on asks own ans
           ∙ ap (λ l. after_line (state_of script no_faults 0 saids) l r) found ∙ ap (λ w. after_asked (state_of script no_faults 0 saids) w r) asks
           ∙ ap (λ st. after_answer st op r) now.state_is ∙ answers.state_is;
       tree_is = answers.tree_is ∙ ap (λ t. tree_after t e) now.tree_is ∙ sym (tree_of-push o history e);
-      legal = is_legal-push o history e ∙ both _ _ now.run.legal (ap (λ t. fits t (ever_of o script saids) e) (sym now.tree_is) ∙ answers.fits_where (ever_of o script saids) now.blocks);
+      legal = is_legal-push o history e ∙ and_from _ _ now.run.legal (ap (λ t. fits t (ever_of o script saids) e) (sym now.tree_is) ∙ answers.fits_where (ever_of o script saids) now.blocks);
       kept = kept-push o.tree [] history e ∙ now.run.kept;
       counted = counts_blocks-push o history e now.run.counted (ap (λ t. answers_at t (most_blocks o history) e) (sym now.tree_is) ∙ ap (λ n. answers_at before.tree n e) (sym now.most) ∙ answers.counts);
       most = answers.most ∙ ap (λ n. most_with n after.tree) now.most ∙ ap (most_with (most_blocks o history)) (answers.tree_is ∙ ap (λ t. tree_after t e) now.tree_is) ∙ sym (most_blocks-push o history e);

@@ -4,18 +4,12 @@ use Rattle.std.proofs.lemmas.List.{length-take}
 use Rattle.byteorder.specs.Endian.{little_number}
 use Rattle.byteorder.specs.Numbers.{little_from-cons}
 use Rattle.std.specs.Int.{w64, to_le_bytes}
-use Rattle.std.proofs.lemmas.Bool.{and_parts}
+use Rattle.std.proofs.lemmas.Bool.{and_parts, leb-true, ltb-true}
 use Rattle.std.proofs.lemmas.Bool.Decides.{nat_tests}
 use Rattle.frang_base.specs.declared.change.Patch.{Patch}
 use Rattle.frang_base.specs.declared.change.Change.{Change}
 use Rattle.sector_bytes.specs.Blocks.{Block, overwritten, patched, spelling, version_of}
 use Rattle.sector_bytes.specs.Changes.{Fit, changed, is_older, applied, are_patches, is_change}
-
-below : (a b : ℕ) → nat_lt a b ≡ true → a < b
-below a b e = grind (arith, nat_tests)
-
-at_most : (a b : ℕ) → nat_le a b ≡ true → a ≤ b
-at_most a b e = grind (arith, nat_tests)
 
 -- ---- well-formed changes
 
@@ -32,7 +26,7 @@ first_patch from patch patches e =
     let a = and_parts (nat_le from patch.at && nat_lt 0 (length patch.bytes) && nat_le end 512) (are_patches end patches) e in
     let b = and_parts (nat_le from patch.at && nat_lt 0 (length patch.bytes)) (nat_le end 512) a.0 in
     let c = and_parts (nat_le from patch.at) (nat_lt 0 (length patch.bytes)) b.0 in
-    record { after = at_most _ _ c.0; some = below _ _ c.1; inside = at_most _ _ b.1; rest = a.1 }
+    record { after = leb-true _ _ c.0; some = ltb-true _ _ c.1; inside = leb-true _ _ b.1; rest = a.1 }
 
 pub fit_from : (from : ℕ) (patches : List Patch) → 8 ≤ from → are_patches from patches ≡ true → Fit patches
 fit_from from [] le e = tt
@@ -56,7 +50,7 @@ well_formed change e =
     let a = and_parts (sector && version && some) (are_patches 8 change.patches) e in
     let b = and_parts (sector && version) some a.0 in
     let c = and_parts sector version b.0 in
-    record { sector = below _ _ c.0; version = below _ _ c.1; some = below _ _ b.1; patches = a.1; fit = fit_from 8 change.patches (omega arith) a.1 }
+    record { sector = ltb-true _ _ c.0; version = ltb-true _ _ c.1; some = ltb-true _ _ b.1; patches = a.1; fit = fit_from 8 change.patches (omega arith) a.1 }
 
 -- ---- a changed block
 
@@ -121,7 +115,7 @@ pub rises : (block : Block) (change : Change) → version_of block ≤ version_o
 rises block change = go (is_older block change) refl
   where
     go : (b : Bool) → is_older block change ≡ b → version_of block ≤ version_of (applied block change)
-    go true e = let low : version_of block < change.version = below _ _ e in subst (λ x. version_of block ≤ version_of x) (sym (older block change e)) (omega (arith, version-changed block change))
+    go true e = let low : version_of block < change.version = ltb-true _ _ e in subst (λ x. version_of block ≤ version_of x) (sym (older block change e)) (omega (arith, version-changed block change))
     go false e = subst (λ x. version_of block ≤ version_of x) (sym (newer block change e)) (omega arith)
 
 pub applied-applied : (block : Block) (change : Change) → applied (applied block change) change ≡ applied block change

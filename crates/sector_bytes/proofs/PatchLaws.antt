@@ -1,7 +1,7 @@
 -- Patches laid over the old block give the new one from place 8 on; there are none exactly where nothing differs or is forced; they ascend
 -- and don't touch.
 use Rattle.std.proofs.Common.{◌≡◌, ◌≢◌, ◌↔◌, ℕ, suc, ◌+◌, ◌-◌, ◌^◌, ◌<◌, ◌≤◌, Bool, true, false, ◌&&◌, ◌||◌, ◌==◌, not, inl, inr, Result, IfOk, nat_le, nat_lt, List, [], ◌∷◌, ◌++◌, length, take, drop, refl, sym, ap, ◌∙◌, subst, append_assoc, arith, length-append, length-drop}
-use Rattle.std.proofs.lemmas.Bool.{and_parts, not-true, or_right, true≢false}
+use Rattle.std.proofs.lemmas.Bool.{and_parts, not-true, or_right, true≢false, cases_eq, eq-eqb, lt-ltb, le-leb, eqb-false, eqb-true}
 use Rattle.std.proofs.lemmas.Bool.Decides.{nat_tests}
 use Rattle.std.proofs.lemmas.List.{take_at, drop_at, drop-drop, take-append-drop, length-take-le}
 use Rattle.frang_base.specs.declared.change.Patch.{Patch}
@@ -9,7 +9,7 @@ use Rattle.frang_base.specs.declared.change.Change.{Change}
 use Rattle.byteorder.specs.Endian.{little_bytes}
 use Rattle.sector_bytes.specs.Blocks.{overwritten, patched, spelling}
 use Rattle.sector_bytes.specs.Changes.{changed}
-use Rattle.frang_base.proofs.Basics.{by_test, eq_of, ne_of, of_eq, of_le, of_lt, or_equal}
+use Rattle.frang_base.proofs.Basics.{by_test}
 use Rattle.sector_bytes.specs.Patches.{joined, runs_from, patches_with, patches_of, are_apart, differ_or, are_new_or, are_new, is_patched}
 
 -- bytes laid over what stands behind a front
@@ -34,7 +34,7 @@ joined_laid [] pre old a b at h = laid pre (a ∷ old) (b ∷ []) at h
 joined_laid (p ∷ ps) pre old a b at h =
     by_test (λ (rs : List Patch). patched rs (pre ++ a ∷ old) ≡ patched (p ∷ ps) (pre ++ b ∷ old))
     (record { at = at; bytes = b ∷ p.bytes } ∷ ps) (record { at = at; bytes = b ∷ [] } ∷ p ∷ ps) (p.at == at + 1)
-    (λ t. ap (patched ps) (one_more pre old p.bytes a b at h ∙ ap (λ (k : ℕ). overwritten (pre ++ b ∷ old) k p.bytes) (sym (eq_of p.at (at + 1) t))))
+    (λ t. ap (patched ps) (one_more pre old p.bytes a b at h ∙ ap (λ (k : ℕ). overwritten (pre ++ b ∷ old) k p.bytes) (sym (eqb-true p.at (at + 1) t))))
     (λ t. ap (patched (p ∷ ps)) (laid pre (a ∷ old) (b ∷ []) at h))
 
 -- laid over the old bytes the runs give the new ones
@@ -47,7 +47,7 @@ runs_laid forced (a ∷ old) (b ∷ new) pre at h l =
     let behind : (x : ℕ) → patched runs (pre ++ x ∷ old) ≡ pre ++ x ∷ new = λ x.
     ap (patched runs) (sym (append_assoc pre (x ∷ []) old)) ∙ runs_laid forced old new (pre ++ x ∷ []) (at + 1) (one_longer pre x at h) (omega arith) ∙ append_assoc pre (x ∷ []) new in
     by_test (λ (rs : List Patch). patched rs (pre ++ a ∷ old) ≡ pre ++ b ∷ new) runs (joined at b runs) (not (forced at) && a == b)
-    (λ t. behind a ∙ ap (λ (x : ℕ). pre ++ x ∷ new) (eq_of a b (and_parts (not (forced at)) (a == b) t).1))
+    (λ t. behind a ∙ ap (λ (x : ℕ). pre ++ x ∷ new) (eqb-true a b (and_parts (not (forced at)) (a == b) t).1))
     (λ t. joined_laid runs pre old a b at h ∙ behind b)
 
 -- laid over the old block the patches give the new one from place 8 on
@@ -66,7 +66,7 @@ Unforced forced at n = (k : ℕ) → at ≤ k → k < at + n → forced k ≡ fa
 runs_of_same : (forced : ℕ → Bool) (xs : List ℕ) (at : ℕ) → Unforced forced at (length xs) → runs_from forced at xs xs ≡ []
 runs_of_same forced [] at f = refl
 runs_of_same forced (x ∷ xs) at f =
-    rw (f at (omega arith) (omega arith), of_eq x x refl) (runs_of_same forced xs (at + 1) (λ k g h. f k (omega arith) (omega arith)))
+    rw (f at (omega arith) (omega arith), eq-eqb x x refl) (runs_of_same forced xs (at + 1) (λ k g h. f k (omega arith) (omega arith)))
 
 -- a byte that joins runs leaves one at least
 joined_some : (at b : ℕ) (ps : List Patch) → joined at b ps ≢ []
@@ -75,7 +75,7 @@ joined_some at b (p ∷ ps) e = by_test (λ (rs : List Patch). rs ≡ [] → ⊥
 
 -- where there are no runs, no place is forced
 unforced_next : (forced : ℕ → Bool) (at n : ℕ) → not (forced at) ≡ true → Unforced forced (at + 1) n → Unforced forced at (suc n)
-unforced_next forced at n t f k g h = elim (or_equal at k) [ inl e ↦ ap forced (sym e) ∙ not-true (forced at) t | inr d ↦ f k (omega arith) (omega arith) ]
+unforced_next forced at n t f k g h = elim (cases_eq at k) [ inl e ↦ ap forced (sym e) ∙ not-true (forced at) t | inr d ↦ f k (omega arith) (omega arith) ]
 
 unforced : (forced : ℕ → Bool) (old new : List ℕ) (at : ℕ) → length old ≡ length new → runs_from forced at old new ≡ [] → Unforced forced at (length old)
 unforced forced [] new at l e = λ k g h. absurd (omega arith)
@@ -120,8 +120,8 @@ joined_apart : (ps : List Patch) (from to at b : ℕ) → from ≤ at → at < t
 joined_apart [] from to at b h g e = grind (arith, nat_tests)
 joined_apart (p ∷ ps) from to at b h g e =
     by_test (λ (rs : List Patch). are_apart from to rs ≡ true) (record { at = at; bytes = b ∷ p.bytes } ∷ ps) (record { at = at; bytes = b ∷ [] } ∷ p ∷ ps) (p.at == at + 1)
-    (λ t. begun (length p.bytes) from to at p.at (λ k. are_apart k to ps) h (eq_of p.at (at + 1) t) e)
-    (λ t. parted (length p.bytes) from to at p.at (λ k. are_apart k to ps) h g (ne_of p.at (at + 1) t) e)
+    (λ t. begun (length p.bytes) from to at p.at (λ k. are_apart k to ps) h (eqb-true p.at (at + 1) t) e)
+    (λ t. parted (length p.bytes) from to at p.at (λ k. are_apart k to ps) h g (eqb-false p.at (at + 1) t) e)
 
 pub runs_apart : (forced : ℕ → Bool) (old new : List ℕ) (from to at : ℕ) → from ≤ at → at + length old ≤ to → are_apart from to (runs_from forced at old new) ≡ true
 runs_apart forced [] new from to at h g = refl
@@ -180,7 +180,7 @@ joined_new forced (p ∷ ps) pre old a b at h d e =
     let parts = and_parts (differ_or forced p.at (drop p.at whole) p.bytes) (are_new_or forced whole ps) e in
     by_test (λ (rs : List Patch). are_new_or forced whole rs ≡ true) (record { at = at; bytes = b ∷ p.bytes } ∷ ps) (record { at = at; bytes = b ∷ [] } ∷ p ∷ ps) (p.at == at + 1)
     (λ t. let behind : differ_or forced (at + 1) old p.bytes ≡ true =
-    sym (ap (λ (k : ℕ). differ_or forced k (drop k whole) p.bytes) (eq_of p.at (at + 1) t) ∙ ap (λ (xs : List ℕ). differ_or forced (at + 1) xs p.bytes) (behind_front pre old a at h)) ∙ parts.0 in
+    sym (ap (λ (k : ℕ). differ_or forced k (drop k whole) p.bytes) (eqb-true p.at (at + 1) t) ∙ ap (λ (xs : List ℕ). differ_or forced (at + 1) xs p.bytes) (behind_front pre old a at h)) ∙ parts.0 in
     one_new forced whole old p.bytes a b at (are_new_or forced whole ps) (drop_at pre (a ∷ old) at h) d behind parts.1)
     (λ t. one_new forced whole old [] a b at (are_new_or forced whole (p ∷ ps)) (drop_at pre (a ∷ old) at h) d refl e)
 
@@ -209,7 +209,7 @@ begun_patched k at n next true e h = or_right (nat_le at k && nat_lt k (at + suc
 begun_patched k at n next false e h = grind (arith, nat_tests)
 
 first_patched : (at n : ℕ) (rest : Bool) → ((nat_le at at && nat_lt at (at + suc n)) || rest) ≡ true
-first_patched at n rest = rw (of_le at at (omega arith), of_lt at (at + suc n) (omega arith)) refl
+first_patched at n rest = rw (le-leb at at (omega arith), lt-ltb at (at + suc n) (omega arith)) refl
 
 joined_at : (ps : List Patch) (at b : ℕ) → is_patched at (joined at b ps) ≡ true
 joined_at [] at b = first_patched at 0 false
@@ -222,7 +222,7 @@ joined_keeps : (ps : List Patch) (k at b : ℕ) → is_patched k ps ≡ true →
 joined_keeps [] k at b h = cc
 joined_keeps (p ∷ ps) k at b h =
     by_test (λ (rs : List Patch). is_patched k rs ≡ true) (record { at = at; bytes = b ∷ p.bytes } ∷ ps) (record { at = at; bytes = b ∷ [] } ∷ p ∷ ps) (p.at == at + 1)
-    (λ t. begun_patched k at (length p.bytes) p.at (is_patched k ps) (eq_of p.at (at + 1) t) h)
+    (λ t. begun_patched k at (length p.bytes) p.at (is_patched k ps) (eqb-true p.at (at + 1) t) h)
     (λ t. or_right (nat_le at k && nat_lt k (at + 1)) (is_patched k (p ∷ ps)) h)
 
 runs_patched : (forced : ℕ → Bool) (old new : List ℕ) (at k : ℕ) → length old ≡ length new → at ≤ k → k < at + length old → forced k ≡ true → is_patched k (runs_from forced at old new) ≡ true
@@ -233,7 +233,7 @@ runs_patched forced (a ∷ old) (b ∷ new) at k l g h f =
     let later : at ≢ k → is_patched k runs ≡ true = λ d. runs_patched forced old new (at + 1) k (omega arith) (omega arith) (omega arith) f in
     by_test (λ (rs : List Patch). is_patched k rs ≡ true) runs (joined at b runs) (not (forced at) && a == b)
     (λ t. later (λ q. absurd (true≢false (sym f ∙ ap forced (sym q) ∙ not-true (forced at) (and_parts (not (forced at)) (a == b) t).0))))
-    (λ t. elim (or_equal at k) [ inl e ↦ subst (λ (i : ℕ). is_patched i (joined at b runs) ≡ true) e (joined_at runs at b) | inr d ↦ joined_keeps runs k at b (later d) ])
+    (λ t. elim (cases_eq at k) [ inl e ↦ subst (λ (i : ℕ). is_patched i (joined at b runs) ≡ true) e (joined_at runs at b) | inr d ↦ joined_keeps runs k at b (later d) ])
 
 -- each forced place behind the version is patched
 pub forced_patched : (forced : ℕ → Bool) (old new : List ℕ) (k : ℕ) → length old ≡ length new → 8 ≤ k → k < length old → forced k ≡ true → is_patched k (patches_with forced old new) ≡ true

@@ -1,12 +1,13 @@
 -- A put fails, and leaves the old sector or the new one.
-use Rattle.std.proofs.Common.{true, false, ⊎_elim, ℕ, ◌<◌, ◌≤◌, ◌≡◌, ◌≢◌, ◌⊎◌, inl, inr, Option, Some, None, nat_eq, sym, ◌∙◌, ap, subst, arith}
+use Rattle.std.proofs.Common.{true, false, ⊎_elim, ℕ, ◌<◌, ◌≤◌, ◌≡◌, ◌≢◌, ◌⊎◌, inl, inr, Option, Some, None, nat_eq, sym, ◌∙◌, ap, subst}
+use Rattle.std.proofs.lemmas.Bool.{cases_eq, eqb-false}
 use Rattle.frang_base.specs.declared.lock.Mode.TheVariants.{Sole}
 use Rattle.sector_bytes.specs.Blocks.{Block, version_of}
 use Rattle.sector_bytes.specs.Replays.{redo_all}
 use Rattle.frang_base.specs.Functions.{put}
 use Rattle.sector_world.specs.Histories.{settled}
 use Rattle.sector_world.specs.OnDisk.{OnDisk}
-use Rattle.frang_base.proofs.Basics.{by_test, ne_of, at_put, put_other}
+use Rattle.frang_base.proofs.Basics.{by_test, at_put, put_other}
 use Rattle.sector_world.specs.World.{World, Phase, Slot, Flight, Rescue, cover}
 use Rattle.sector_world.specs.World.Phase.{Off, Up, Dead}
 use Rattle.sector_world.specs.Guards.{to_replay, CanLand}
@@ -23,7 +24,7 @@ broken_is d None r e = absurd (cc)
 broken_is d (Some q) r e =
     by_test (λ x. x ≡ Some r → (Some q ≡ Some r) × (r.dead ≢ d)) None (Some q) (nat_eq q.dead d)
     (λ i j. absurd (cc))
-    (λ i j. let same : q ≡ r = cc in (j, λ k. ne_of q.dead d i (ap (λ x. x.dead) same ∙ k))) e
+    (λ i j. let same : q ≡ r = cc in (j, λ k. eqb-false q.dead d i (ap (λ x. x.dead) same ∙ k))) e
 
 -- a flight that is left: what a recovery wants is asked less often
 left_flight : (w : World) (a s : ℕ) (f : Flight) → FlightOk w s f → FlightOk (record w { rescue = rescue_broken a w.rescue }) s f
@@ -58,12 +59,9 @@ module _ (w : World) (s : ℕ) (f : Flight) (can : CanLand w s f) (g : Logged w)
       (λ o. dead_newer (w.phase f.behalf) f.block (w.slot f.behalf t) o.dead (g.not_up f.behalf t)) ok.source))
       (λ q. newer_free (w.slot b t) (w.holds b (cover w t)) f.block (g.held b t)
       (λ m. q (sym (g.apart f.behalf b (cover w s) ok.sole (sole_held (w.holds b (cover w s)) (ap (λ x. w.holds b (cover w x)) (sym e) ∙ m))))))
-      (or_equal_or b f.behalf))
+      (cases_eq b f.behalf))
       (λ n. g.newer b t (well_before w f.by b k).0)
     where
-      or_equal_or : (x y : ℕ) → (x ≡ y) ⊎ (x ≢ y)
-      or_equal_or x y = grind arith
-
       dead_newer : (p : Phase) (new : Block) (x : Slot) → p ≡ Dead → AbsentUnlessUp p x → IsNewer new x
       dead_newer Off new x e a = absurd (cc)
       dead_newer Up new x e a = absurd (cc)

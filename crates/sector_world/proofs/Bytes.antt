@@ -1,5 +1,6 @@
 -- Histories of bytes, and what a recovery leaves of what is known.
-use Rattle.std.proofs.Common.{if◌then◌else◌, ⊎_elim, le_trans, ℕ, ◌<◌, ◌≤◌, ◌≡◌, ◌≢◌, ◌⊎◌, inl, inr, Bool, true, false, List, [], ◌∷◌, Option, Some, None, IsTrue, IsSome, is_some, nat_eq, nat_lt, nat_le, refl, sym, ◌∙◌, ap, subst, arith}
+use Rattle.std.proofs.Common.{if◌then◌else◌, ⊎_elim, le_trans, ℕ, ◌<◌, ◌≤◌, ◌≡◌, ◌≢◌, ◌⊎◌, inr, Bool, true, false, List, [], ◌∷◌, Option, Some, None, IsTrue, IsSome, is_some, nat_eq, nat_lt, nat_le, refl, sym, ◌∙◌, ap, subst, arith}
+use Rattle.std.proofs.lemmas.Bool.{cases_Bool, cases_eq, eq-eqb, lt-ltb, leb-true, eqb-true}
 use Rattle.sector_bytes.specs.Blocks.{Block}
 use Rattle.sector_world.specs.Histories.{Fill, Commit, Item, kept, survives, doubt_step, in_doubt, recovered, reaches, Each, OpsRise, Writes}
 use Rattle.sector_world.specs.Histories.Fill.{Written, Freed}
@@ -7,12 +8,12 @@ use Rattle.sector_world.specs.Histories.Item.{Done, Doubt}
 use Rattle.sector_world.specs.HistoryBytes.{filled, turned, value, is_free_by, is_free, Known, AllWritten, OnData, Agree}
 use Rattle.sector_world.specs.HistoryBytes.OnData.{here, newer, marked}
 use Rattle.sector_world.specs.Seen.{IsLost, Alters, Unseen}
-use Rattle.frang_base.proofs.Basics.{by_test, by_keep, eq_of, le_of, of_eq, of_lt, le_or_lt, or_equal, true_or}
+use Rattle.frang_base.proofs.Basics.{by_test, by_keep, le_or_lt, true_or}
 use Rattle.sector_world.proofs.HistoryLaws.{each_map, each_kept}
 use Rattle.sector_world.proofs.Removals.{survives_low}
 
 pub survives_up : (d k : ℕ) (a : Commit) → a.by ≡ d → survives d k a ≡ true → a.op ≤ k
-survives_up d k a e s = le_of a.op k (subst (λ b. (if b then nat_le a.op k else true) ≡ true) (of_eq a.by d e) s)
+survives_up d k a e s = leb-true a.op k (subst (λ b. (if b then nat_le a.op k else true) ≡ true) (eq-eqb a.by d e) s)
 
 pub none_writes : (o : Option Fill) → (IsSome o → ⊥) → o ≡ None
 none_writes None n = refl
@@ -128,7 +129,7 @@ doubt_kept b n s d k ne (Doubt m ∷ h) e = doubt_kept b n s d k ne h e
 doubt_kept b n s d k ne (Done a ∷ h) e =
     by_keep (λ x. in_doubt b n x s ≡ true) (survives d k a) (Done a) (kept (survives d k) h)
     (λ i. step (is_some (a.writes s)) (a.sees s) (nat_eq a.by b) (nat_lt n a.op) (in_doubt b n h s) (in_doubt b n (kept (survives d k) h) s) (doubt_kept b n s d k ne h) e)
-    (λ i. gone (is_some (a.writes s)) (a.sees s) (nat_eq a.by b) (nat_lt n a.op) (in_doubt b n h s) (in_doubt b n (kept (survives d k) h) s) (λ j. let q : survives d k a ≡ true = survives_low d k a (λ l. absurd (ne (sym (eq_of a.by b j) ∙ l))) in cc) (doubt_kept b n s d k ne h) e)
+    (λ i. gone (is_some (a.writes s)) (a.sees s) (nat_eq a.by b) (nat_lt n a.op) (in_doubt b n h s) (in_doubt b n (kept (survives d k) h) s) (λ j. let q : survives d k a ≡ true = survives_low d k a (λ l. absurd (ne (sym (eqb-true a.by b j) ∙ l))) in cc) (doubt_kept b n s d k ne h) e)
   where
     step : (wr lk own un old new : Bool) → (old ≡ true → new ≡ true) → doubt_step wr lk own un old ≡ true → doubt_step wr lk own un new ≡ true
     step true lk own un old new f e = e
@@ -161,10 +162,6 @@ looked_if : (wr lk : Bool) → wr ≡ false → (if wr then true else lk) ≡ tr
 looked_if true lk e t = cc
 looked_if false lk e t = t
 
-false_or : (b : Bool) → (b ≡ true) ⊎ (b ≡ false)
-false_or true = inl refl
-false_or false = inr refl
-
 -- what a recovery of d's log must know of what is pending: it is d's, a write isn't synced, and a read came after such a write or of a free sector
 abbrev pub IsLoose : (ℕ → Option Block) → ℕ → ℕ → ℕ → Commit → List Item → Type 0
 IsLoose first s d n a g = (a.by ≡ d) × (Writes s a → n < a.op) × ((Writes s a → ⊥) → (in_doubt d n g s ≡ true) ⊎ (is_free first g s ≡ true))
@@ -188,19 +185,19 @@ finish_known first durable s d n P v f (Done a ∷ h) ops g (newer p o) nd =
     (λ e m. survives_low d (durable d) e (λ l. let x : e.op < a.op = m (l ∙ sym q.0) in let y : a.op ≤ durable d = survives_up d (durable d) a q.0 i in omega arith)) h ops.0) in
     ⊎_elim
     (λ w. let bad : doubt_step (is_some (a.writes s)) (a.sees s) (nat_eq a.by d) (nat_lt n a.op) (in_doubt d n (kept (survives d (durable d)) h) s) ≡ true =
-    sure (is_some (a.writes s)) (a.sees s) (nat_eq a.by d) (nat_lt n a.op) (in_doubt d n (kept (survives d (durable d)) h) s) (of_eq a.by d q.0)
-    (λ z. of_lt n a.op (q.1 z)) (λ z. absurd (cc)) in
+    sure (is_some (a.writes s)) (a.sees s) (nat_eq a.by d) (nat_lt n a.op) (in_doubt d n (kept (survives d (durable d)) h) s) (eq-eqb a.by d q.0)
+    (λ z. lt-ltb n a.op (q.1 z)) (λ z. absurd (cc)) in
     absurd (cc))
     (λ w. let none : Writes s a → ⊥ = (λ z. cc) in
     ⊎_elim
     (λ y. let bad : doubt_step (is_some (a.writes s)) (a.sees s) (nat_eq a.by d) (nat_lt n a.op) (in_doubt d n (kept (survives d (durable d)) h) s) ≡ true =
-    sure (is_some (a.writes s)) (a.sees s) (nat_eq a.by d) (nat_lt n a.op) (in_doubt d n (kept (survives d (durable d)) h) s) (of_eq a.by d q.0)
+    sure (is_some (a.writes s)) (a.sees s) (nat_eq a.by d) (nat_lt n a.op) (in_doubt d n (kept (survives d (durable d)) h) s) (eq-eqb a.by d q.0)
     (λ z. absurd (none z)) (λ z. (looked_if (is_some (a.writes s)) (a.sees s) z t, subst (λ x. in_doubt d n x s ≡ true) (sym same) y)) in
     absurd (cc))
     (λ y u fr e. let older : is_free first (kept (survives d (durable d)) h) s ≡ false = free_before (a.writes s) (is_free first (kept (survives d (durable d)) h) s) none fr in
     let z : is_free first (kept (survives d (durable d)) h) s ≡ true = subst (λ x. is_free first x s ≡ true) (sym same) y in absurd (cc))
     (q.2 none))
-    (false_or (is_some (a.writes s))))
+    (cases_Bool (is_some (a.writes s))))
     (λ t. known_past first s v a (kept (survives d (durable d)) h) t
     (finish_known first durable s d n P v f h ops.1 g.1 o (sym (passed_by (is_some (a.writes s)) (a.sees s) (nat_eq a.by d) (nat_lt n a.op) (in_doubt d n (kept (survives d (durable d)) h) s) t) ∙ j)))
     (true_or (reaches a s)))
@@ -225,7 +222,7 @@ agree_kept first d k (Done a ∷ h) o u g =
           (λ e m w. survives_low d k e (λ l. let y : e.op < a.op = m (l ∙ sym q) in let z : a.op ≤ k = survives_up d k a q i in omega arith)) h o.0)
           (λ q. each_map (λ e. IsLost d k e → Alters s e → ⊥) (λ e. Writes s e → survives d k e ≡ true)
           (λ e m w. survives_low d k e (λ l. ⊎_elim (λ y. y) (λ y. absurd (m (record { of = l; above = y }) (inr (inr w)))) (le_or_lt e.op k))) h (u.0 q s (inr (inr t))))
-          (or_equal a.by d) in
+          (cases_eq a.by d) in
           let old : is_free first h s ≡ false = sym (free_kept first s (survives d k) h stay) ∙ fr in
           g.0 s x v t sh old (value_kept first s (survives d k) h stay g.1 old x e)),
       agree_kept first d k h o.1 u.1 g.1,

@@ -1,5 +1,6 @@
 -- An operation on file bytes.
 use Rattle.std.proofs.Common.{true, false, List, ◌∷◌, Bool, IsTrue, IsSome, is_some, if◌then◌else◌, ⊎_elim, le_refl, le_trans, ℕ, ◌<◌, ◌≤◌, ◌≡◌, ◌≢◌, ◌⊎◌, inl, inr, Option, Some, None, nat_eq, nat_lt, refl, sym, ◌∙◌, ap, subst, arith}
+use Rattle.std.proofs.lemmas.Bool.{eq-eqb, lt-ltb}
 use Rattle.frang_base.specs.declared.lock.LockId.{LockId}
 use Rattle.frang_base.specs.declared.lock.Mode.{Mode}
 use Rattle.frang_base.specs.declared.lock.Mode.TheVariants.{Sole}
@@ -11,7 +12,7 @@ use Rattle.sector_world.specs.Histories.Item.{Done}
 use Rattle.sector_world.specs.HistoryBytes.{filled, turned, value, is_free_by, is_free, Known, OnData}
 use Rattle.sector_world.specs.HistoryBytes.OnData.{here, newer}
 use Rattle.sector_world.specs.Seen.{moved}
-use Rattle.frang_base.proofs.Basics.{of_lt, of_eq, true_or, at_put, put_same, put_other}
+use Rattle.frang_base.proofs.Basics.{true_or, at_put, put_same, put_other}
 use Rattle.sector_world.proofs.Bytes.{none_writes, writes_reach, data_map, data_in_place, free_before}
 use Rattle.sector_world.specs.World.{World, Phase, Page, ByteFlight, cover}
 use Rattle.sector_world.specs.World.Phase.{Off, Up, Dead}
@@ -21,7 +22,7 @@ use Rattle.sector_world.specs.Steps.{after, page_done, truth_filled}
 use Rattle.sector_world.specs.Steps.Event.{Do}
 use Rattle.sector_world.specs.Logged.{Logged}
 use Rattle.sector_world.specs.Bytes.{IsLoose, CoversPage, PendingBytes, PageHeld, PageUnlessUp, IsCopyPage, IsDiskPage, IsMarked, ByteFlightOk, Bytes}
-use Rattle.sector_world.proofs.BytesLanding.{other_page}
+use Rattle.sector_world.proofs.BytesLanding.{other_page, up_ok, covers_last}
 use Rattle.sector_world.proofs.Doing.{do_sole, reaches_held}
 
 page_held_done : (claimed : Bool) (o : Option Fill) (op : ℕ) (x : Page) (m : Option Mode) → (IsSome o → m ≡ Some Sole) → PageHeld x m → PageHeld (page_done claimed o op x) m
@@ -65,12 +66,6 @@ covers_loose Up NoPage op c = c
 covers_loose Up (CleanPage v) op c = c
 covers_loose Up (DirtyPage v m) op c = tt
 covers_loose Up (FreedPage m) op c = tt
-
-covers_last : (x : Page) (last op : ℕ) (doubt free : Bool) → IsMarked x last doubt free → CoversPage Up x op → op ≤ last
-covers_last NoPage last op doubt free m c = absurd c
-covers_last (CleanPage b) last op doubt free m c = absurd c
-covers_last (DirtyPage b k) last op doubt free m c = le_trans c m.0
-covers_last (FreedPage k) last op doubt free m c = le_trans c m.0
 
 covers_done : (claimed : Bool) (o : Option Fill) (op older last : ℕ) (doubt free : Bool) (p : Phase) (x : Page) → (claimed ≡ true → IsLoose p x → ⊥) → p ≡ Up → last < op → IsMarked x last doubt free → CoversPage p x older → CoversPage p (page_done claimed o op x) older
 covers_done true o op older last doubt free p x f e l m c = absurd (f refl (covers_loose p x older c))
@@ -147,11 +142,6 @@ marked_more NoPage last old new free free' mode h g f m = tt
 marked_more (CleanPage v) last old new free free' mode h g f m = tt
 marked_more (DirtyPage v k) last old new free free' mode h g f m = (m.0, ⊎_elim (λ i. inl (g h i)) (λ i. inr (f h i)) m.1)
 marked_more (FreedPage k) last old new free free' mode h g f m = (m.0, f h m.1)
-
-up_not : (p : Phase) (x : Page) → p ≡ Up → PageUnlessUp p x
-up_not Off x e = absurd (cc)
-up_not Up x e = tt
-up_not Dead x e = absurd (cc)
 
 shows_truth : (o : Option Block) (x : Page) (v t : Block) → o ≡ Some v → Shows o x → IsCopyPage x t → v ≡ t
 shows_truth None x v t e s c = cc
@@ -252,9 +242,9 @@ module _ (w : World) (a : Commit) (can : CanDo w a) (k : Logged w) (g : Bytes w)
 
   doubt_mine : (t : ℕ) → (Writes t a ⊎ (in_doubt a.by (w.synced a.by) (settled w.history) t ≡ true)) → in_doubt a.by (w.synced a.by) (Done a ∷ settled w.history) t ≡ true
   doubt_mine t d =
-      subst (λ o. doubt_step (is_some (a.writes t)) (a.sees t) o (nat_lt (w.synced a.by) a.op) (in_doubt a.by (w.synced a.by) (settled w.history) t) ≡ true) (sym (of_eq a.by a.by refl))
+      subst (λ o. doubt_step (is_some (a.writes t)) (a.sees t) o (nat_lt (w.synced a.by) a.op) (in_doubt a.by (w.synced a.by) (settled w.history) t) ≡ true) (sym (eq-eqb a.by a.by refl))
       (doubt_own (is_some (a.writes t)) (a.sees t) (nat_lt (w.synced a.by) a.op) (in_doubt a.by (w.synced a.by) (settled w.history) t)
-      (λ e. of_lt (w.synced a.by) a.op fresh) (λ e. ⊎_elim (λ i. absurd (cc)) (λ i. i) d))
+      (λ e. lt-ltb (w.synced a.by) a.op fresh) (λ e. ⊎_elim (λ i. absurd (cc)) (λ i. i) d))
 
   free_more : (t : ℕ) → (Writes t a → ⊥) → is_free w.first (settled w.history) t ≡ true → is_free_by (a.writes t) (is_free w.first (settled w.history) t) ≡ true
   free_more t n f = subst (λ o. is_free_by o (is_free w.first (settled w.history) t) ≡ true) (sym (none_writes (a.writes t) n)) f
@@ -294,7 +284,7 @@ module _ (w : World) (a : Commit) (can : CanDo w a) (k : Logged w) (g : Bytes w)
 
   pub bytes_do : Bytes (after w (Do a))
   bytes_do = record {
-    not_up = λ b t. at_page (λ x. PageUnlessUp (w.phase b) x) b t (λ e. up_not (w.phase b) (page_done (a.claims t) (a.writes t) a.op (w.page a.by t)) (ap w.phase e ∙ can.up)) (λ n. g.not_up b t);
+    not_up = λ b t. at_page (λ x. PageUnlessUp (w.phase b) x) b t (λ e. up_ok (w.phase b) (page_done (a.claims t) (a.writes t) a.op (w.page a.by t)) (ap w.phase e ∙ can.up)) (λ n. g.not_up b t);
     held = λ b t. moves_page (a.moves t) (cover w t) a.by b w.holds ((after w (Do a)).page b t) (can.moves t) (λ m n. sym (k.apart a.by b (cover w t) m n))
         (at_page (λ x. PageHeld x (w.holds b (cover w t))) b t
         (λ e. subst (λ y. PageHeld (page_done (a.claims t) (a.writes t) a.op (w.page a.by t)) (w.holds y (cover w t))) (sym e) (page_held_done (a.claims t) (a.writes t) a.op (w.page a.by t) (w.holds a.by (cover w t)) (can.written t) (g.held a.by t))) (λ n. g.held b t));

@@ -1,5 +1,6 @@
 -- The end of a recovery: what was not durable goes, and what was not synced is in doubt.
 use Rattle.std.proofs.Common.{true, false, List, [], ◌∷◌, Bool, ⊎_elim, ℕ, ◌<◌, ◌≤◌, ◌≡◌, ◌≢◌, inl, inr, Option, Some, None, nat_eq, refl, sym, ◌∙◌, ap, subst, arith}
+use Rattle.std.proofs.lemmas.Bool.{eqb-true}
 use Rattle.frang_base.specs.declared.lock.Mode.{Mode}
 use Rattle.frang_base.specs.declared.lock.Mode.TheVariants.{Shared, Sole}
 use Rattle.sector_bytes.specs.Blocks.{Block}
@@ -10,7 +11,7 @@ use Rattle.sector_world.specs.HistoryBytes.{is_free, Known, OnData}
 use Rattle.sector_world.specs.HistoryBytes.OnData.{here, marked}
 use Rattle.sector_world.specs.Plans.{IsByPlan}
 use Rattle.sector_world.specs.Seen.{Alters, Unsynced}
-use Rattle.frang_base.proofs.Basics.{by_test, eq_of, le_or_lt, at_put, put_other}
+use Rattle.frang_base.proofs.Basics.{by_test, le_or_lt, at_put, put_other}
 use Rattle.sector_world.proofs.HistoryLaws.{each_map, each_kept}
 use Rattle.sector_world.proofs.Seen.{each_kept_with}
 use Rattle.sector_world.proofs.Bytes.{survives_up, free_kept, known_kept, doubt_kept, finish_known, recovered_known, agree_kept, data_kept}
@@ -64,8 +65,8 @@ pub synced_low : (d n : ℕ) (h : List Entry) → Unsynced d n h → synced_of d
 synced_low d n [] u = omega arith
 synced_low d n (Did c ∷ h) u = synced_low d n h u
 synced_low d n (Recovered e j ∷ h) u = synced_low d n h u
-synced_low d n (Synced e op ∷ h) u = by_test (λ x. x ≤ n) op (synced_of d h) (nat_eq d e) (λ i. u.0 (sym (eq_of d e i))) (λ i. synced_low d n h u.1)
-synced_low d n (Mounted e op ∷ h) u = by_test (λ x. x ≤ n) op (synced_of d h) (nat_eq d e) (λ i. u.0 (sym (eq_of d e i))) (λ i. synced_low d n h u.1)
+synced_low d n (Synced e op ∷ h) u = by_test (λ x. x ≤ n) op (synced_of d h) (nat_eq d e) (λ i. u.0 (sym (eqb-true d e i))) (λ i. synced_low d n h u.1)
+synced_low d n (Mounted e op ∷ h) u = by_test (λ x. x ≤ n) op (synced_of d h) (nat_eq d e) (λ i. u.0 (sym (eqb-true d e i))) (λ i. synced_low d n h u.1)
 
 module _ (w : World) (r : Rescue) (can : CanFinish w r) (l : Logged w) (g : Bytes w) where
   q : RescueOk w r

@@ -4,11 +4,13 @@ use Rattle.frang_base.specs.declared.lock.Mode.{Mode}
 use Rattle.frang_base.specs.declared.lock.Mode.TheVariants.{Sole}
 use Rattle.sector_bytes.specs.Blocks.{Block, zero_block}
 use Rattle.std.specs.Str.{bytes_eq}
+use Rattle.std.proofs.lemmas.Bool.{and_parts, cases_eq, leb-true}
+use Rattle.std.proofs.lemmas.Option.{same_Some}
 use Rattle.frang_base.specs.Functions.{put, put2}
 use Rattle.sector_world.specs.Histories.{Commit, Item, in_doubt, settled}
 use Rattle.sector_world.specs.HistoryBytes.{is_free, Known, AllWritten, OnData}
 use Rattle.sector_world.specs.HistoryBytes.OnData.{here}
-use Rattle.frang_base.proofs.Basics.{by_test, le_of, or_equal, some_same, at_put, put_same, at_put2}
+use Rattle.frang_base.proofs.Basics.{by_test, at_put, put_same, at_put2}
 use Rattle.sector_bytes.proofs.SameBytes.{same_bytes_is}
 use Rattle.sector_world.proofs.Bytes.{data_map, data_durable}
 use Rattle.sector_world.specs.World.{World, Phase, Page, ByteFlight, cover}
@@ -21,7 +23,7 @@ use Rattle.sector_world.specs.Logged.{Logged}
 use Rattle.sector_world.specs.Bytes.{IsLoose, CoversPage, PendingBytes, PageHeld, PageUnlessUp, IsCopyPage, IsDiskPage, IsMarked, ByteFlightOk, Bytes}
 use Rattle.sector_world.proofs.Reaching.{sole_held}
 
-up_ok : (p : Phase) (x : Page) → p ≡ Up → PageUnlessUp p x
+pub up_ok : (p : Phase) (x : Page) → p ≡ Up → PageUnlessUp p x
 up_ok Off x e = absurd (cc)
 up_ok Up x e = tt
 up_ok Dead x e = absurd (cc)
@@ -66,7 +68,7 @@ other_page P (CleanPage b) m n h p = absurd (n h)
 other_page P (DirtyPage b k) m n h p = absurd (n (λ e. cc))
 other_page P (FreedPage k) m n h p = absurd (n (λ e. cc))
 
-covers_last : (x : Page) (last op : ℕ) (doubt free : Bool) → IsMarked x last doubt free → CoversPage Up x op → op ≤ last
+pub covers_last : (x : Page) (last op : ℕ) (doubt free : Bool) → IsMarked x last doubt free → CoversPage Up x op → op ≤ last
 covers_last NoPage last op doubt free m c = absurd c
 covers_last (CleanPage b) last op doubt free m c = absurd c
 covers_last (DirtyPage b k) last op doubt free m c = le_trans c m.0
@@ -152,7 +154,7 @@ bytes_issue w a s block mark can k g =
     } in
     let flights : (t : ℕ) (f : ByteFlight) → put w.byte_flight s (Some f0) t ≡ Some f → w.now ≤ f.stamp → ByteFlightOk w t f = λ t f.
     at_put (λ x. x ≡ Some f → w.now ≤ f.stamp → ByteFlightOk w t f) w.byte_flight s (Some f0) t
-    (λ e i n. subst (λ x. ByteFlightOk w t x) (some_same f0 f i) (subst (λ x. ByteFlightOk w x f0) (sym e) ok)) (λ n. g.flights t f) in
+    (λ e i n. subst (λ x. ByteFlightOk w t x) (same_Some f0 f i) (subst (λ x. ByteFlightOk w x f0) (sym e) ok)) (λ n. g.flights t f) in
     record {
       not_up = g.not_up;
       held = g.held;
@@ -190,12 +192,12 @@ bytes_settle w a s block mark can k g =
       still = λ t fr f. ⊎_elim
           (λ e. ap w.bytes e ∙ can.there ∙ truth ∙ ap w.truth (sym e))
           (λ n. g.still t fr (λ b h z. f b h (rw (page b t (λ e. n)) z)))
-          (or_equal t s);
+          (cases_eq t s);
       place = λ t. ⊎_elim
           (λ e. subst (λ x. OnData w.first w.durable x (PendingBytes v x) (w.bytes x) (settled w.history)) (sym e)
           (subst (λ x. OnData w.first w.durable s (PendingBytes v s) x (settled w.history)) (sym can.there) (dirty_here w a s block mark can.up can.dirty can.logged k g (PendingBytes v s))))
           (λ n. goes t (w.bytes t) n (g.place t))
-          (or_equal t s);
+          (cases_eq t s);
       synced = g.synced;
       counted = g.counted;
       flights = λ t f e z. let q : ByteFlightOk w t f = g.flights t f e z in
@@ -205,10 +207,6 @@ bytes_settle w a s block mark can k g =
       by_plan = g.by_plan;
     }
 
-and_both : (a b : Bool) → (a && b) ≡ true → (a ≡ true) × (b ≡ true)
-and_both true b e = (refl, e)
-and_both false b e = cc
-
 -- the page stays, or it had what came and the log is known to be on the disk up to its mark
 landed_or : (acked : ℕ) (f : Block) (x : Page) → (page_landed acked f x ≡ x) ⊎ ((mark : ℕ) × (x ≡ DirtyPage f mark) × (mark ≤ acked) × (page_landed acked f x ≡ CleanPage f))
 landed_or acked f NoPage = inl refl
@@ -216,7 +214,7 @@ landed_or acked f (CleanPage b) = inl refl
 landed_or acked f (FreedPage m) = inl refl
 landed_or acked f (DirtyPage b m) =
     by_test (λ y. (y ≡ DirtyPage b m) ⊎ ((mark : ℕ) × (DirtyPage b m ≡ DirtyPage f mark) × (mark ≤ acked) × (y ≡ CleanPage f))) (CleanPage b) (DirtyPage b m) (bytes_eq b f && nat_le m acked)
-    (λ e. let p = and_both (bytes_eq b f) (nat_le m acked) e in let q : b ≡ f = same_bytes_is b f p.0 in inr (m, ap (λ x. DirtyPage x m) q, le_of m acked p.1, ap CleanPage q))
+    (λ e. let p = and_parts (bytes_eq b f) (nat_le m acked) e in let q : b ≡ f = same_bytes_is b f p.0 in inr (m, ap (λ x. DirtyPage x m) q, leb-true m acked p.1, ap CleanPage q))
     (λ e. inl refl)
 
 dirty_up : (p : Phase) (x : Page) (block : Block) (mark : ℕ) → x ≡ DirtyPage block mark → PageUnlessUp p x → p ≡ Up
@@ -238,7 +236,7 @@ disk_page w s f v ok k g b =
     ⊎_elim
     (λ e. subst (λ x. IsDiskPage (w.page x s) v) (sym e) (loose_disk (w.phase f.by) (w.page f.by s) v (g.not_up f.by s) ok.loose))
     (λ n. other_page (λ x. IsDiskPage x v) (w.page b s) (w.holds b (cover w s)) (λ m. n (sym (k.apart f.by b (cover w s) ok.sole m))) (g.held b s) tt)
-    (or_equal b f.by)
+    (cases_eq b f.by)
 
 module _ (w : World) (s : ℕ) (f : ByteFlight) (can : CanLandBytes w s f) (k : Logged w) (g : Bytes w) where
   ok : ByteFlightOk w s f

@@ -1,11 +1,12 @@
 -- The death of a server.
 use Rattle.std.proofs.Common.{⊎_elim, le_refl, ℕ, ◌<◌, ◌≤◌, ◌≡◌, ◌≢◌, inl, inr, Option, Some, None, nat_eq, refl, ◌∙◌, ap, false}
+use Rattle.std.proofs.lemmas.Bool.{eqb-false}
 use Rattle.frang_base.specs.declared.lock.LockId.{LockId}
 use Rattle.sector_bytes.specs.Blocks.{Block}
 use Rattle.frang_base.specs.Functions.{put}
 use Rattle.sector_world.specs.Histories.{settled}
 use Rattle.sector_world.specs.OnDisk.{OnDisk}
-use Rattle.frang_base.proofs.Basics.{by_test, ne_of, at_put}
+use Rattle.frang_base.proofs.Basics.{by_test, at_put}
 use Rattle.sector_world.proofs.HistoryLaws.{on_disk_map}
 use Rattle.sector_world.proofs.Leases.{well_before}
 use Rattle.sector_world.specs.World.{World, Rescue, cover, Flight}
@@ -21,7 +22,7 @@ left_is a None r e = absurd (cc)
 left_is a (Some q) r e =
     by_test (λ x. x ≡ Some r → (Some q ≡ Some r) × (r.by ≢ a)) None (Some q) (nat_eq q.by a)
     (λ i j. absurd (cc))
-    (λ i j. let same : q ≡ r = cc in (j, λ k. ne_of q.by a i (ap (λ x. x.by) same ∙ k))) e
+    (λ i j. let same : q ≡ r = cc in (j, λ k. eqb-false q.by a i (ap (λ x. x.by) same ∙ k))) e
 
 pub logged_crash : (w : World) (a : ℕ) → w.phase a ≡ Up → Logged w → Logged (after w (Crash a))
 logged_crash w a up g =

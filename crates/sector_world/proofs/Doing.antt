@@ -1,5 +1,6 @@
 -- An operation is done: it changes the cache, the log, the history and the covers.
 use Rattle.std.proofs.Common.{true, false, List, ◌∷◌, Bool, IsTrue, IsSome, is_some, if◌then◌else◌, ⊎_elim, le_refl, le_trans, ℕ, ◌<◌, ◌≤◌, ◌≡◌, ◌≢◌, inl, inr, Option, Some, None, nat_le, refl, sym, ◌∙◌, ap, subst, arith}
+use Rattle.std.proofs.lemmas.Bool.{ne_eqb, eq-eqb, lt-ltb}
 use Rattle.frang_base.specs.declared.change.Change.{Change}
 use Rattle.frang_base.specs.declared.lock.LockId.{LockId}
 use Rattle.frang_base.specs.declared.lock.Mode.{Mode}
@@ -14,7 +15,7 @@ use Rattle.sector_world.specs.Histories.Item.{Done}
 use Rattle.sector_world.specs.OnDisk.{Raises, OnDisk}
 use Rattle.sector_world.specs.OnDisk.OnDisk.{pending}
 use Rattle.sector_world.specs.Seen.{moved, Alters, IsLost, SawNone}
-use Rattle.frang_base.proofs.Basics.{of_lt, of_eq, of_ne, at_put}
+use Rattle.frang_base.proofs.Basics.{at_put}
 use Rattle.sector_bytes.proofs.ChangeLaws.{version-changed}
 use Rattle.sector_world.proofs.HistoryLaws.{each_map, on_disk_map, disk_version}
 use Rattle.sector_world.proofs.Removals.{named_keep}
@@ -25,6 +26,7 @@ use Rattle.sector_world.specs.Guards.{Based, Owned, MovesOwned, to_replay, CanDo
 use Rattle.sector_world.specs.Steps.{after, changed}
 use Rattle.sector_world.specs.Steps.Event.{Do}
 use Rattle.sector_world.specs.Logged.{now_of, IsCopy, Logged, IsNewer, Covers, Pending, HeldIf, IsAhead, AbsentUnlessUp, Agrees, FlightOk, ToldOk, RescueOk}
+use Rattle.sector_world.proofs.Reaching.{sole_held}
 
 held_changed : (o : Option Change) (op : ℕ) (x : Slot) (m : Option Mode) → Owned o m → HeldIf x m → HeldIf (changed o op x) m
 held_changed None op x m q h = h
@@ -32,7 +34,7 @@ held_changed (Some x) op Absent m q h = tt
 held_changed (Some x) op (Clean block) m q h = q
 held_changed (Some x) op (Dirty block mark) m q h = h
 
-up_only : (p : Phase) (x : Slot) → p ≡ Up → AbsentUnlessUp p x
+pub up_only : (p : Phase) (x : Slot) → p ≡ Up → AbsentUnlessUp p x
 up_only Off x e = absurd (cc)
 up_only Up x e = tt
 up_only Dead x e = absurd (cc)
@@ -123,9 +125,6 @@ moves_some : (o : Option LockId) (mode : Option Mode) (holds : LockId → Option
 moves_some None mode holds lock m w = absurd (cc)
 moves_some (Some new) mode holds lock m w = m
 
-not_free : (m : Option Mode) → m ≡ Some Sole → m ≢ None
-not_free m e f = cc
-
 -- bytes are looked at and written under held locks
 reached_by : (wr sees used : Bool) (P : Type 0) → sees ≡ used → (wr ≡ true → P) → (used ≡ true → P) → (if wr then true else sees) ≡ true → P
 reached_by true sees used P e f g i = f refl
@@ -134,11 +133,11 @@ reached_by false sees used P e f g i = g (sym e ∙ i)
 pub reaches_held : (w : World) (c : Commit) → CanDo w c → (t : ℕ) → IsTrue (reaches c t) → w.holds c.by (cover w t) ≢ None
 reaches_held w c can t i =
     reached_by (is_some (c.writes t)) (c.sees t) (has_lock (cover w t) c.uses) (w.holds c.by (cover w t) ≢ None) (can.sees t)
-    (λ e. not_free (w.holds c.by (cover w t)) (can.written t e)) (λ e. can.used (cover w t) e) i
+    (λ e. sole_held (w.holds c.by (cover w t)) (can.written t e)) (λ e. can.used (cover w t) e) i
 
 module _ (w : World) (c : Commit) (can : CanDo w c) (g : Logged w) where
   pub do_sole : (b t : ℕ) → w.holds b (cover w t) ≡ Some Sole → w.holds b (cover (after w (Do c)) t) ≡ Some Sole
-  do_sole b t h = moves_sole (c.moves t) (cover w t) c.by b w.holds (can.moves t) (λ m. g.apart b c.by (cover w t) h (not_free (w.holds c.by (cover w t)) m)) h
+  do_sole b t h = moves_sole (c.moves t) (cover w t) c.by b w.holds (can.moves t) (λ m. g.apart b c.by (cover w t) h (sole_held (w.holds c.by (cover w t)) m)) h
 
   do_logs : (d : ℕ) → put w.log c.by (redo_of c ∷ w.log c.by) d ≡ own d (w.floor d) (Done c ∷ settled w.history)
   do_logs d =
@@ -147,8 +146,8 @@ module _ (w : World) (c : Commit) (can : CanDo w c) (g : Logged w) where
       let q : w.last d ≡ w.last c.by = ap w.last e in
       let n : w.last c.by < c.op = can.number in
       let m : w.floor d < c.op = omega arith in
-      rw (of_eq c.by d (sym e), of_lt (w.floor d) c.op m) (ap (λ x. redo_of c ∷ x) (ap w.log (sym e) ∙ g.logs d)))
-      (λ n. rw (of_ne c.by d (λ e. n (sym e))) (g.logs d))
+      rw (eq-eqb c.by d (sym e), lt-ltb (w.floor d) c.op m) (ap (λ x. redo_of c ∷ x) (ap w.log (sym e) ∙ g.logs d)))
+      (λ n. rw (ne_eqb c.by d (λ e. n (sym e))) (g.logs d))
 
   -- a fact of a slot after the operation
   at_slot : (P : Slot → Type 0) (b t : ℕ) → (b ≡ c.by → P (changed (change_at c.changes t) c.op (w.slot c.by t))) → (b ≢ c.by → P (w.slot b t)) → P ((after w (Do c)).slot b t)
@@ -178,7 +177,7 @@ module _ (w : World) (c : Commit) (can : CanDo w c) (g : Logged w) where
       (λ n. at_put (λ l. IsAhead l t b (Done c ∷ settled w.history) (w.slot b t)) w.last c.by c.op b
       (λ e. absurd (n e))
       (λ m. ahead_other (w.slot b t) (w.holds b (cover w t)) c b (w.last b) t (settled w.history) (g.held b t)
-      (λ q i. n (g.apart b c.by (cover w t) q (not_free (w.holds c.by (cover w t)) (owned_sole (change_at c.changes t) (w.holds c.by (cover w t)) (can.owned t) i))))
+      (λ q i. n (g.apart b c.by (cover w t) q (sole_held (w.holds c.by (cover w t)) (owned_sole (change_at c.changes t) (w.holds c.by (cover w t)) (can.owned t) i))))
       (g.ahead b t)))
 
   -- a sector goes on to have its place in the history, whether it is the disk's or one in flight
@@ -228,7 +227,7 @@ module _ (w : World) (c : Commit) (can : CanDo w c) (g : Logged w) where
   do_unseen : (d : ℕ) → c.by ≢ d → SawNone d (w.durable d) c (settled w.history)
   do_unseen d n t i =
       let held : w.holds c.by (cover w t) ≢ None =
-      ⊎_elim (λ x. can.looked t x) (λ x. ⊎_elim (λ y. not_free (w.holds c.by (cover w t)) (moves_some (c.moves t) (w.holds c.by (cover w t)) (w.holds c.by) (cover w t) (can.moves t) y).0)
+      ⊎_elim (λ x. can.looked t x) (λ x. ⊎_elim (λ y. sole_held (w.holds c.by (cover w t)) (moves_some (c.moves t) (w.holds c.by (cover w t)) (w.holds c.by) (cover w t) (can.moves t) y).0)
       (λ y. reaches_held w c can t y) x) i in
       each_map (λ e. Alters t e → w.durable e.by < e.op → w.holds e.by (cover w t) ≡ Some Sole) (λ e. IsLost d (w.durable d) e → Alters t e → ⊥)
       (λ e f l x. let a : w.durable d < e.op = l.above in

@@ -1,9 +1,9 @@
 -- The runs of the examples.
 use Rattle.std.proofs.Common.{Bool, if◌then◌else◌, ℕ, zero, suc, ◌+◌, ◌-◌, ◌≡◌, ◌≢◌, ◌⊎◌, ⊎_elim, inl, inr, true, false, List, [], ◌∷◌, Option, Some, None, IsTrue, IsSome, is_some, nat_eq, nat_lt, refl, sym, subst, arith, lit<, add-zero}
+use Rattle.std.proofs.lemmas.Bool.{eqb-true}
 use Rattle.frang_base.specs.declared.change.Change.{Change}
 use Rattle.frang_base.specs.declared.lock.LockId.{LockId}
 use Rattle.frang_base.specs.declared.lock.LockId.TheVariants.{Node}
-use Rattle.frang_base.specs.declared.lock.Mode.{Mode}
 use Rattle.frang_base.specs.declared.lock.Mode.TheVariants.{Shared, Sole}
 use Rattle.sector_bytes.specs.Bytes.{zeros}
 use Rattle.sector_bytes.specs.Blocks.{zero_block}
@@ -14,7 +14,7 @@ use Rattle.frang_base.specs.Functions.{put, put_lock}
 use Rattle.sector_world.specs.Histories.{Fill, reaches, redo_of}
 use Rattle.sector_world.specs.Histories.Fill.{Written, Freed}
 use Rattle.sector_world.specs.Plans.{made_of}
-use Rattle.frang_base.proofs.Basics.{by_test, at_put, at_put2, at_lock, eq_of, lock_of}
+use Rattle.frang_base.proofs.Basics.{by_test, at_put, at_put2, at_lock, lock_of}
 use Rattle.sector_world.specs.World.{World, Phase}
 use Rattle.sector_world.specs.World.Phase.{Off, Up, Dead}
 use Rattle.sector_world.specs.World.Slot.{Absent, Clean}
@@ -25,6 +25,7 @@ use Rattle.sector_world.specs.Steps.{Event, after, Run}
 use Rattle.sector_world.specs.Steps.Event.{Tick, Fail, Renew, Mount, Take, Do, Reach, Ack, Sync, Crash, Begin, Look, Finish, Fetch, Issue, Replay, Land, Fade, FetchBytes, Clear, IssueBytes, LandBytes}
 use Rattle.sector_world.specs.Steps.Run.{stays, goes}
 use Rattle.sector_world.specs.Examples.{releasing, change_again, released_cover, retaking, IsRetakenRun, freeing, IsFreedRun, begin, change, new_block, deed, ticks, done, rescue, wanted, placed, write, recovery, IsLostRun, IsKeptRun, IsFailedRun, second_rescue, IsHandedRun, IsTwiceRun, IsLateRun, bytes, scribble, reading, IsReadRun, change_8, claim, IsClaimedRun}
+use Rattle.sector_world.proofs.Reaching.{sole_held}
 
 tick_run : (n : ℕ) (w v : World) (es : List Event) → Run (record w { now = w.now + n }) es v → Run w (ticks n es) v
 tick_run zero w v es r = subst (λ n. Run (record w { now = n }) es v) (add-zero w.now) r
@@ -49,10 +50,7 @@ here_sole : (b : ℕ) (l : LockId) → b ≡ 0 → Node 5 ≡ l → ready.holds 
 here_sole b l e f = at_lock (λ m. m ≡ Some Sole) (λ d k. None) 0 (Node 5) (Some Sole) b l (λ i j. refl) (λ n. absurd (n e (sym f)))
 
 at_five : (P : Option Change → Type 0) (s : ℕ) → (5 ≡ s → P (Some change)) → P None → P (change_at deed.changes s)
-at_five P s f n = by_test P (Some change) None (nat_eq 5 s) (λ e. f (eq_of 5 s e)) (λ e. n)
-
-sole_held : (m : Option Mode) → m ≡ Some Sole → m ≢ None
-sole_held m e f = cc
+at_five P s f n = by_test P (Some change) None (nat_eq 5 s) (λ e. f (eqb-true 5 s e)) (λ e. n)
 
 node_five : (s : ℕ) → 5 ≡ s → Node 5 ≡ Node s
 node_five s e = cc
@@ -269,7 +267,7 @@ abbrev held : World
 held = after (after (after begin (Mount 0)) (Mount 1)) (Take 0 (Node 9) Sole)
 
 at_nine : (P : Option Fill → Type 0) (s : ℕ) → (9 ≡ s → P (Some (Written bytes))) → P None → P (scribble.writes s)
-at_nine P s f n = by_test P (Some (Written bytes)) None (nat_eq s 9) (λ e. f (sym (eq_of s 9 e))) (λ e. n)
+at_nine P s f n = by_test P (Some (Written bytes)) None (nat_eq s 9) (λ e. f (sym (eqb-true s 9 e))) (λ e. n)
 
 nine_sole : (l : LockId) → Node 9 ≡ l → held.holds 0 l ≡ Some Sole
 nine_sole l f = at_lock (λ m. m ≡ Some Sole) (λ d k. None) 0 (Node 9) (Some Sole) 0 l (λ i j. refl) (λ n. absurd (n refl (sym f)))
@@ -313,7 +311,7 @@ shared_holds l f = at_lock (λ m. m ≢ None) doubt_world.holds 1 (Node 9) (Some
 shows_nine : (s : ℕ) → Shows (reading.shown s) (shared.page 1 s)
 shows_nine s =
     by_test (λ o. Shows o (shared.page 1 s)) (Some zero_block) None (nat_eq 9 s)
-    (λ e. at_put2 (λ x. Shows (Some zero_block) x) doubt_world.page 1 9 (CleanPage zero_block) 1 s (λ i j. refl) (λ n. absurd (n refl (sym (eq_of 9 s e)))))
+    (λ e. at_put2 (λ x. Shows (Some zero_block) x) doubt_world.page 1 9 (CleanPage zero_block) 1 s (λ i j. refl) (λ n. absurd (n refl (sym (eqb-true 9 s e)))))
     (λ e. tt)
 
 can_read : CanDo shared reading
@@ -333,7 +331,7 @@ can_read = record {
   written = λ s i. absurd (cc);
   shows = shows_nine;
   reads = λ s. some_if (nat_eq 9 s) zero_block;
-  noticed = λ s. by_test (λ o. IsSome o → IsTrue (reaches reading s)) (Some zero_block) None (nat_eq 9 s) (λ e i. subst (λ x. IsTrue (reaches reading x)) (eq_of 9 s e) refl) (λ e i. absurd (cc));
+  noticed = λ s. by_test (λ o. IsSome o → IsTrue (reaches reading s)) (Some zero_block) None (nat_eq 9 s) (λ e i. subst (λ x. IsTrue (reaches reading x)) (eqb-true 9 s e) refl) (λ e i. absurd (cc));
   makes = λ s. refl;
 }
 
@@ -372,7 +370,7 @@ cleared_sole : (l : LockId) → (Node 8 ≡ l) ⊎ (Node 5 ≡ l) → cleared.ho
 cleared_sole l d = ⊎_elim (λ e. subst (λ x. cleared.holds 0 x ≡ Some Sole) e refl) (λ e. subst (λ x. cleared.holds 0 x ≡ Some Sole) e refl) d
 
 at_eight : (P : Option Change → Type 0) (s : ℕ) → (8 ≡ s → P (Some change_8)) → P None → P (change_at claim.changes s)
-at_eight P s f n = by_test P (Some change_8) None (nat_eq 8 s) (λ e. f (eq_of 8 s e)) (λ e. n)
+at_eight P s f n = by_test P (Some change_8) None (nat_eq 8 s) (λ e. f (eqb-true 8 s e)) (λ e. n)
 
 node_eight : (s : ℕ) → 8 ≡ s → Node 8 ≡ Node s
 node_eight s e = cc
@@ -393,8 +391,8 @@ can_claim = record {
   based = λ s. at_eight (λ o. Based o (cleared.slot 0 s)) s
       (λ e. at_put2 (λ x. Based (Some change_8) x) (λ d k. Absent) 0 8 (Clean zero_block) 0 s (λ i j. lit< tt) (λ n. absurd (n refl (sym e)))) tt;
   moves = λ s. by_test (λ o. MovesOwned o (cleared.holds 0 (Node s)) (cleared.holds 0)) (Some (Node 5)) None (nat_eq s 8)
-      (λ e. (cleared_sole (Node s) (inl (node_eight s (sym (eq_of s 8 e)))), refl)) (λ e. tt);
-  claims = λ s e. claim_eight s (sym (eq_of s 8 e));
+      (λ e. (cleared_sole (Node s) (inl (node_eight s (sym (eqb-true s 8 e)))), refl)) (λ e. tt);
+  claims = λ s e. claim_eight s (sym (eqb-true s 8 e));
   named = λ s. at_eight (λ o. IsSome o → (if nat_eq s 8 then true else nat_lt s 8) ≡ true) s (λ e i. subst (λ x. (if nat_eq x 8 then true else nat_lt x 8) ≡ true) e refl) (λ i. absurd (cc));
   plain = λ s i. absurd (cc);
   sees = λ s. refl;
@@ -460,7 +458,7 @@ two_of : (l : LockId) → IsTrue (has_lock l (Node 9 ∷ Node 5 ∷ [])) → (No
 two_of l i = by_test (λ b. b ≡ true → (Node 9 ≡ l) ⊎ (Node 5 ≡ l)) true (has_lock l (Node 5 ∷ [])) (same_lock (Node 9) l) (λ e j. inl (lock_of (Node 9) l e)) (λ e j. inr (one_lock 5 l j)) i
 
 at_freed : {X : Type 0} (P : Option X → Type 0) (x : X) (s : ℕ) → (9 ≡ s → P (Some x)) → P None → P (if nat_eq s 9 then Some x else None)
-at_freed P x s f n = by_test P (Some x) None (nat_eq s 9) (λ e. f (sym (eq_of s 9 e))) (λ e. n)
+at_freed P x s f n = by_test P (Some x) None (nat_eq s 9) (λ e. f (sym (eqb-true s 9 e))) (λ e. n)
 
 can_free : CanDo flying freeing
 can_free = record {
@@ -515,7 +513,7 @@ pair_sole : (l : LockId) → (Node 5 ≡ l) ⊎ (Node 6 ≡ l) → both_taken.ho
 pair_sole l d = ⊎_elim (λ e. subst (λ x. both_taken.holds 0 x ≡ Some Sole) e refl) (λ e. subst (λ x. both_taken.holds 0 x ≡ Some Sole) e refl) d
 
 at_moved : (P : Option LockId → Type 0) (l : LockId) (s : ℕ) → (5 ≡ s → P (Some l)) → P None → P (if nat_eq s 5 then Some l else None)
-at_moved P l s f n = by_test P (Some l) None (nat_eq s 5) (λ e. f (sym (eq_of s 5 e))) (λ e. n)
+at_moved P l s f n = by_test P (Some l) None (nat_eq s 5) (λ e. f (sym (eqb-true s 5 e))) (λ e. n)
 
 can_release : CanDo both_taken releasing
 unfolding zeros
@@ -544,7 +542,7 @@ abbrev released : World
 released = after both_taken (Do releasing)
 
 at_again : (P : Option Change → Type 0) (s : ℕ) → (5 ≡ s → P (Some change_again)) → P None → P (change_at retaking.changes s)
-at_again P s f n = by_test P (Some change_again) None (nat_eq 5 s) (λ e. f (eq_of 5 s e)) (λ e. n)
+at_again P s f n = by_test P (Some change_again) None (nat_eq 5 s) (λ e. f (eqb-true 5 s e)) (λ e. n)
 
 six : (s : ℕ) → 5 ≡ s → Node 6 ≡ released_cover s
 six s e = subst (λ x. Node 6 ≡ released_cover x) e refl

@@ -1,5 +1,6 @@
 -- A recovery ends: the dead server's locks are given back, and what was not durable is gone for good.
 use Rattle.std.proofs.Common.{true, List, [], ◌∷◌, IsTrue, ⊎_elim, le_refl, le_of_eq, ℕ, ◌<◌, ◌≤◌, ◌≡◌, ◌+◌, ◌≢◌, inl, inr, Option, Some, None, nat_eq, refl, sym, ◌∙◌, ap, subst, arith}
+use Rattle.std.proofs.lemmas.Bool.{cases_eq, leb-true, eqb-true}
 use Rattle.frang_base.specs.declared.lock.LockId.{LockId}
 use Rattle.frang_base.specs.declared.lock.Mode.{Mode}
 use Rattle.frang_base.specs.declared.lock.Mode.TheVariants.{Sole}
@@ -12,7 +13,7 @@ use Rattle.sector_world.specs.Histories.{Commit, Item, kept, survives, settled, 
 use Rattle.sector_world.specs.OnDisk.{AllDurable, OnDisk}
 use Rattle.sector_world.specs.OnDisk.OnDisk.{in_place, passed}
 use Rattle.sector_world.specs.Seen.{Alters}
-use Rattle.frang_base.proofs.Basics.{by_test, eq_of, le_of, le_or_lt, or_equal, at_put, put_other}
+use Rattle.frang_base.proofs.Basics.{by_test, le_or_lt, at_put, put_other}
 use Rattle.sector_world.proofs.HistoryLaws.{each_map, rising_kept, kept_logical, replayed_is, on_disk_map, on_disk_kept}
 use Rattle.sector_world.proofs.Removals.{survives_own, survives_low, ops_kept, own_none, own_kept, all_durable_kept, last_kept}
 use Rattle.sector_world.proofs.Seen.{unseen_kept, unmet_kept, cover_kept, each_kept_with}
@@ -67,7 +68,7 @@ dropped_is a None b e = absurd (cc)
 dropped_is a (Some c) b e = by_test (λ x. x ≡ Some b → Some c ≡ Some b) None (Some c) (nat_eq c a) (λ i j. absurd (cc)) (λ i j. j) e
 
 dropped_other : (a : ℕ) (o : Option ℕ) (b : ℕ) → o ≡ Some b → b ≢ a → dropped a o ≡ Some b
-dropped_other a o b e n = subst (λ x. dropped a x ≡ Some b) (sym e) (by_test (λ x. x ≡ Some b) None (Some b) (nat_eq b a) (λ i. absurd (n (eq_of b a i))) (λ i. refl))
+dropped_other a o b e n = subst (λ x. dropped a x ≡ Some b) (sym e) (by_test (λ x. x ≡ Some b) None (Some b) (nat_eq b a) (λ i. absurd (n (eqb-true b a i))) (λ i. refl))
 
 until_most : (o : Option ℕ) (m n : ℕ) → m ≤ n → held_until o m ≤ n
 until_most None m n le = omega arith
@@ -126,7 +127,7 @@ module _ (w : World) (r : Rescue) (can : CanFinish w r) (g : Logged w) where
   mine_durable : (s : ℕ) → w.holds r.dead (cover w s) ≡ Some Sole → AllDurable w.durable s (rest w r.dead)
   mine_durable s e = all_durable_kept w.opening w.durable s (Pending w s) (w.disk s) (survives r.dead (w.durable r.dead))
       (λ c p j. let m : c.by ≡ r.dead = mine s e c p in
-      subst (λ x. c.op ≤ w.durable x) (sym m) (le_of c.op (w.durable r.dead) (sym (survives_own r.dead (w.durable r.dead) c m) ∙ j)))
+      subst (λ x. c.op ≤ w.durable x) (sym m) (leb-true c.op (w.durable r.dead) (sym (survives_own r.dead (w.durable r.dead) c m) ∙ j)))
       (settled w.history) (g.place s)
 
   dead_slot : (b s : ℕ) → b ≡ r.dead → w.slot b s ≡ Absent
@@ -144,7 +145,7 @@ module _ (w : World) (r : Rescue) (can : CanFinish w r) (g : Logged w) where
 
   low : Each (λ c. c.by ≡ r.dead → c.op ≤ w.durable r.dead) (rest w r.dead)
   low = each_map (λ c. (survives r.dead (w.durable r.dead) c ≡ true) × (c.op ≤ w.last c.by)) (λ c. c.by ≡ r.dead → c.op ≤ w.durable r.dead)
-      (λ c m q. le_of c.op (w.durable r.dead) (sym (survives_own r.dead (w.durable r.dead) c q) ∙ m.0)) (rest w r.dead) kept_below
+      (λ c m q. leb-true c.op (w.durable r.dead) (sym (survives_own r.dead (w.durable r.dead) c q) ∙ m.0)) (rest w r.dead) kept_below
 
   finish_logs : (e : ℕ) → put w.log r.dead [] e ≡ own e (put w.floor r.dead (w.durable r.dead) e) (rest w r.dead)
   finish_logs e =
@@ -180,10 +181,10 @@ module _ (w : World) (r : Rescue) (can : CanFinish w r) (g : Logged w) where
       (λ e. Alters s e → w.durable e.by < e.op → (after w (Finish r)).holds e.by (cover (after w (Finish r)) s) ≡ Some Sole)
       (λ e m i n. let h : w.holds e.by (cover w s) ≡ Some Sole = m.1 i n in
       ⊎_elim
-      (λ q. let u : e.op ≤ w.durable r.dead = le_of e.op (w.durable r.dead) (sym (survives_own r.dead (w.durable r.dead) e q) ∙ m.0) in
+      (λ q. let u : e.op ≤ w.durable r.dead = leb-true e.op (w.durable r.dead) (sym (survives_own r.dead (w.durable r.dead) e q) ∙ m.0) in
       let v : w.durable e.by ≡ w.durable r.dead = ap w.durable q in absurd (omega arith))
       (λ q. other_holds e.by s q (sole_held (w.holds e.by (cover w s)) h) ∙ h)
-      (or_equal e.by r.dead))
+      (cases_eq e.by r.dead))
       (rest w r.dead)
       (each_kept_with (λ c. Alters s c → w.durable c.by < c.op → w.holds c.by (cover w s) ≡ Some Sole) (survives r.dead (w.durable r.dead)) (settled w.history) (g.firm s))
 
@@ -251,16 +252,16 @@ module _ (w : World) (r : Rescue) (can : CanFinish w r) (g : Logged w) where
     locked = each_map (λ c. (survives r.dead (w.durable r.dead) c ≡ true) × (w.durable c.by < c.op → (l : LockId) → IsTrue (has_lock l c.alone) → w.holds c.by l ≡ Some Sole))
         (λ e. w.durable e.by < e.op → (l : LockId) → IsTrue (has_lock l e.alone) → put w.holds r.dead (λ t. None) e.by l ≡ Some Sole)
         (λ e m n l i. ⊎_elim
-        (λ q. let u : e.op ≤ w.durable r.dead = le_of e.op (w.durable r.dead) (sym (survives_own r.dead (w.durable r.dead) e q) ∙ m.0) in
+        (λ q. let u : e.op ≤ w.durable r.dead = leb-true e.op (w.durable r.dead) (sym (survives_own r.dead (w.durable r.dead) e q) ∙ m.0) in
         let v : w.durable e.by ≡ w.durable r.dead = ap w.durable q in absurd (omega arith))
         (λ q. ap (λ x. x l) (put_other w.holds r.dead (λ t. None) e.by q) ∙ m.1 n l i)
-        (or_equal e.by r.dead))
+        (cases_eq e.by r.dead))
         (rest w r.dead)
         (each_kept_with (λ c. w.durable c.by < c.op → (l : LockId) → IsTrue (has_lock l c.alone) → w.holds c.by l ≡ Some Sole) (survives r.dead (w.durable r.dead)) (settled w.history) g.locked);
     rising = λ s. rising_kept w.opening s (survives r.dead (w.durable r.dead)) (settled w.history) (g.rising s);
     ops = ops_kept (survives r.dead (w.durable r.dead)) (settled w.history) g.ops;
     below = each_map (λ c. (survives r.dead (w.durable r.dead) c ≡ true) × (c.op ≤ w.last c.by)) (λ c. c.op ≤ put w.last r.dead (w.durable r.dead) c.by)
-        (λ c m. at_put (λ x. c.op ≤ x) w.last r.dead (w.durable r.dead) c.by (λ q. le_of c.op (w.durable r.dead) (sym (survives_own r.dead (w.durable r.dead) c q) ∙ m.0)) (λ n. m.1)) (rest w r.dead) kept_below;
+        (λ c m. at_put (λ x. c.op ≤ x) w.last r.dead (w.durable r.dead) c.by (λ q. leb-true c.op (w.durable r.dead) (sym (survives_own r.dead (w.durable r.dead) c q) ∙ m.0)) (λ n. m.1)) (rest w r.dead) kept_below;
     reached = λ d. at_put (λ x. w.durable d ≤ x) w.last r.dead (w.durable r.dead) d (λ q. subst (λ y. w.durable y ≤ w.durable r.dead) (sym q) (le_refl (w.durable r.dead))) (λ n. g.reached d);
     acks = λ d. at_put (λ x. x ≤ w.durable d) w.acked r.dead (w.durable r.dead) d (λ q. subst (λ y. w.durable r.dead ≤ w.durable y) (sym q) (le_refl (w.durable r.dead))) (λ n. g.acks d);
     floored = λ e. at_put (λ x. x ≤ put w.last r.dead (w.durable r.dead) e) w.floor r.dead (w.durable r.dead) e

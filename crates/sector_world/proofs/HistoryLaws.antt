@@ -1,5 +1,6 @@
 -- Lemmas on histories.
 use Rattle.std.proofs.Common.{⊎_elim, le_of_eq, le_trans, ℕ, ◌<◌, ◌≤◌, ◌≡◌, ◌⊎◌, ◌&&◌, inl, inr, Bool, true, false, List, [], ◌∷◌, Option, Some, None, IsSome, nat_eq, nat_lt, nat_le, if◌then◌else◌, refl, sym, ◌∙◌, ap, subst, arith}
+use Rattle.std.proofs.lemmas.Bool.{and_parts, eq-eqb, le-ltb, lt-ltb, eqb-true}
 use Rattle.frang_base.specs.declared.change.Change.{Change}
 use Rattle.sector_bytes.specs.Blocks.{Block, version_of}
 use Rattle.sector_bytes.specs.Changes.{changed}
@@ -10,7 +11,7 @@ use Rattle.sector_world.specs.Histories.{Commit, Item, redo_of, kept, logical, o
 use Rattle.sector_world.specs.Histories.Item.{Done, Doubt}
 use Rattle.sector_world.specs.OnDisk.{Raises, Rising, AllDurable, OnDisk}
 use Rattle.sector_world.specs.OnDisk.OnDisk.{in_place, pending, passed}
-use Rattle.frang_base.proofs.Basics.{by_test, by_keep, eq_of, of_eq, of_lt, of_ge, some_or}
+use Rattle.frang_base.proofs.Basics.{by_test, by_keep, some_or}
 use Rattle.sector_bytes.proofs.ChangeLaws.{version-changed}
 
 pub redo_keep : (b : Bool) (r : Redo) (rs : List Redo) (s : ℕ) (block : Block) → redo_all (keep_if b r rs) s block ≡ (if b then redone (change_at r.changes s) (redo_all rs s block) else redo_all rs s block)
@@ -46,7 +47,7 @@ abbrev pub AtMost : Option Change → ℕ → Type 0
 AtMost None n = Unit {0}
 AtMost (Some x) n = x.version ≤ n
 
-at_most_more : (o : Option Change) (n m : ℕ) → n ≤ m → AtMost o n → AtMost o m
+pub at_most_more : (o : Option Change) (n m : ℕ) → n ≤ m → AtMost o n → AtMost o m
 at_most_more None n m le h = tt
 at_most_more (Some x) n m le h = omega arith
 
@@ -98,28 +99,24 @@ rising_kept opening s keep (Doubt m ∷ h) r = rising_kept opening s keep h r
 -- a change that is in place is skipped
 skipped : (o : Option Change) (block : Block) → AtMost o (version_of block) → redone o block ≡ block
 skipped None block h = refl
-skipped (Some x) block h = rw (of_ge (version_of block) x.version h)
+skipped (Some x) block h = rw (le-ltb (version_of block) x.version h)
 
 made : (x : Change) (block : Block) → (version_of block) < x.version → redone (Some x) block ≡ forced (Some x) block
-made x block h = rw (of_lt (version_of block) x.version h)
+made x block h = rw (lt-ltb (version_of block) x.version h)
 
 skip_step : (o : Option Change) (b : Bool) (block : Block) → (b ≡ true → AtMost o (version_of block)) → (if b then redone o block else block) ≡ block
 skip_step o true block h = skipped o block (h refl)
 skip_step o false block h = refl
 
-and_first : (a b : Bool) → (a && b) ≡ true → a ≡ true
-and_first true b e = refl
-and_first false b e = cc
-
 pub own_by : (d f : ℕ) (c : Commit) → is_own d f c ≡ true → c.by ≡ d
-own_by d f c e = by_test (λ b. b ≡ true → c.by ≡ d) (nat_lt f c.op) false (nat_eq c.by d) (λ g i. eq_of c.by d g) (λ g i. cc) e
+own_by d f c e = by_test (λ b. b ≡ true → c.by ≡ d) (nat_lt f c.op) false (nat_eq c.by d) (λ g i. eqb-true c.by d g) (λ g i. cc) e
 
 -- a replay of d's records leaves the sector where they are in place
 pub all_skipped : (d f k s : ℕ) (block : Block) (h : List Item) → Each (λ c. c.by ≡ d → AtMost (change_at c.changes s) (version_of block)) h → redo_all (up_to k (own d f h)) s block ≡ block
 all_skipped d f k s block [] e = refl
 all_skipped d f k s block (Done c ∷ h) e =
     rw (up_keep k (is_own d f c) (redo_of c) (own d f h), redo_keep (is_own d f c && nat_le c.op k) (redo_of c) (up_to k (own d f h)) s block, all_skipped d f k s block h e.1)
-    (skip_step (change_at c.changes s) (is_own d f c && nat_le c.op k) block (λ g. e.0 (own_by d f c (and_first (is_own d f c) (nat_le c.op k) g))))
+    (skip_step (change_at c.changes s) (is_own d f c && nat_le c.op k) block (λ g. e.0 (own_by d f c (and_parts (is_own d f c) (nat_le c.op k) g).0)))
 all_skipped d f k s block (Doubt m ∷ h) e = all_skipped d f k s block h e
 
 -- the history without operations that are not durable, at a sector where all are
@@ -163,7 +160,7 @@ replayed_is opening durable s d f P block keep mine stays goes h (in_place e a) 
 replayed_is opening durable s d f P block keep mine stays goes (Done c ∷ h) (pending p o) r =
     rw (up_keep (durable d) (is_own d f c) (redo_of c) (own d f h), redo_keep (is_own d f c && nat_le c.op (durable d)) (redo_of c) (up_to (durable d) (own d f h)) s block, logical_keep opening (keep c) c (kept keep h) s, replayed_is opening durable s d f P block keep mine stays goes h o r.1)
     (same_step (change_at c.changes s) (is_own d f c) (nat_le c.op (durable d)) (keep c) (logical opening (kept keep h) s)
-    (λ w. rw (of_eq c.by d (mine c (p w)).0) (of_lt f c.op (mine c (p w)).1))
+    (λ w. rw (eq-eqb c.by d (mine c (p w)).0) (lt-ltb f c.op (mine c (p w)).1))
     (λ w. goes c (mine c (p w)).0)
     (raises_less (change_at c.changes s) (logical opening (kept keep h) s) (logical opening h s) (kept_version opening s keep h r.1) r.0))
 replayed_is opening durable s d f P block keep mine stays goes (Doubt m ∷ h) (passed o) r = replayed_is opening durable s d f P block keep mine stays goes h o r

@@ -1,5 +1,6 @@
 -- What holds after every run.
 use Rattle.std.proofs.Common.{true, false, zero, suc, List, [], ◌∷◌, Bool, IsSome, if◌then◌else◌, ⊎_elim, ℕ, ◌<◌, ◌≤◌, ◌≡◌, ◌⊎◌, inl, inr, Option, Some, None, nat_le, refl, sym, ◌∙◌, ap, subst}
+use Rattle.std.proofs.lemmas.Bool.{cases_Bool}
 use Rattle.frang_base.specs.declared.change.Change.{Change}
 use Rattle.frang_base.specs.declared.lock.Mode.{Mode}
 use Rattle.frang_base.specs.declared.lock.Mode.TheVariants.{Sole}
@@ -23,10 +24,6 @@ use Rattle.sector_world.proofs.Finishing.{none_replay}
 use Rattle.sector_world.proofs.Versioned.{logged_skip, plain_unchanged, plain_first, unchanged_logical}
 use Rattle.sector_world.proofs.Recoverable.{replay_disk, recoverable}
 use Rattle.sector_world.proofs.Left.{fine_left, left_logged, left_is, still_free, on_disk, off_rested}
-
-true_or_false : (b : Bool) → (b ≡ true) ⊎ (b ≡ false)
-true_or_false true = inl refl
-true_or_false false = inr refl
 
 none_at : (o : Bool) (d : Redo) (rs : List Redo) (s : ℕ) → change_at d.changes s ≡ None → NoneNames rs s → NoneNames (keep_if o d rs) s
 none_at true d rs s e n = (e, n)
@@ -92,14 +89,14 @@ module _ (w : World) (g : Good w) where
 
   bytes_there : (s : ℕ) → is_logged w.logged (left w w.servers) s ≡ false → Known w.first s (block_at w s) (left w w.servers)
   bytes_there s n =
-      ⊎_elim (λ e. unmade_known s (block_at w s) e n) (λ e. subst (λ v. Known w.first s v (left w w.servers)) (sym (at_plain s e)) (on_disk w g s)) (true_or_false (has_version w s))
+      ⊎_elim (λ e. unmade_known s (block_at w s) e n) (λ e. subst (λ v. Known w.first s v (left w w.servers)) (sym (at_plain s e)) (on_disk w g s)) (cases_Bool (has_version w s))
     where
       at_plain : (s : ℕ) → has_version w s ≡ false → block_at w s ≡ w.bytes s
       at_plain s e = rw e refl
 
   bytes_replayed : (s : ℕ) → is_logged w.logged (left w w.servers) s ≡ false → Known w.first s (replayed w w.servers s) (left w w.servers)
   bytes_replayed s n =
-      ⊎_elim (λ e. unmade_known s (replayed w w.servers s) e n) (λ e. subst (λ v. Known w.first s v (left w w.servers)) (sym (plain_replayed s e w.servers)) (bytes_there s n)) (true_or_false (has_version w s))
+      ⊎_elim (λ e. unmade_known s (replayed w w.servers s) e n) (λ e. subst (λ v. Known w.first s v (left w w.servers)) (sym (plain_replayed s e w.servers)) (bytes_there s n)) (cases_Bool (has_version w s))
 
   version_at : (s : ℕ) → has_version w s ≡ true → block_at w s ≡ w.disk s
   version_at s e = rw e refl
@@ -155,4 +152,4 @@ module _ (w : World) (g : Good w) where
       (λ e. rw e (left_replayed s e))
       (λ e. rw e (sym (unchanged_logical w.opening s (left w w.servers) (plain_unchanged w.logged s (left w w.servers) e ((fine_left w g w.servers).claimed s))
       ∙ g.kinds.zero s (plain_first w.logged s (left w w.servers) e))))
-      (true_or_false (is_logged w.logged (left w w.servers) s))
+      (cases_Bool (is_logged w.logged (left w w.servers) s))

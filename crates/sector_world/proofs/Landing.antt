@@ -4,12 +4,14 @@ use Rattle.frang_base.specs.declared.lock.Mode.{Mode}
 use Rattle.frang_base.specs.declared.lock.Mode.TheVariants.{Sole}
 use Rattle.sector_bytes.specs.Blocks.{Block, version_of}
 use Rattle.std.specs.Str.{bytes_eq}
+use Rattle.std.proofs.lemmas.Option.{same_Some}
+use Rattle.std.proofs.lemmas.Bool.{eqb-false, eqb-true}
 use Rattle.sector_bytes.specs.Replays.{change_at, redo_all, up_to}
 use Rattle.frang_base.specs.Functions.{put}
 use Rattle.sector_world.specs.Histories.{settled}
 use Rattle.sector_world.specs.OnDisk.{OnDisk}
 use Rattle.sector_world.specs.OnDisk.OnDisk.{in_place}
-use Rattle.frang_base.proofs.Basics.{by_test, eq_of, ne_of, some_same, at_put, put_same, put_other, at_put2}
+use Rattle.frang_base.proofs.Basics.{by_test, at_put, put_same, put_other, at_put2}
 use Rattle.sector_bytes.proofs.SameBytes.{same_bytes_is, same_bytes_refl}
 use Rattle.sector_world.proofs.HistoryLaws.{AtMost, each_map, all_skipped, on_disk_map, in_place_or}
 use Rattle.sector_world.proofs.More.{all_settled, redo_twice}
@@ -57,14 +59,14 @@ pub rescue_before : (d s : ℕ) (o : Option Rescue) (r : Rescue) → rescue_land
 rescue_before d s None r e = absurd (cc)
 rescue_before d s (Some q) r e =
     let new : ℕ → Told = if nat_eq q.dead d then put q.told s InPlace else q.told in
-    let same : record { dead = q.dead; by = q.by; told = new } ≡ r = some_same (record { dead = q.dead; by = q.by; told = new }) r e in
+    let same : record { dead = q.dead; by = q.by; told = new } ≡ r = same_Some (record { dead = q.dead; by = q.by; told = new }) r e in
     let told : new ≡ r.told = ap (λ x. x.told) same in (
       q,
       refl,
       sym (ap (λ x. x.dead) same),
       sym (ap (λ x. x.by) same),
-      (λ t n. sym (ap (λ x. x t) told) ∙ by_test (λ x. x t ≡ q.told t) (put q.told s InPlace) q.told (nat_eq q.dead d) (λ i. put_other q.told s InPlace t (n (eq_of q.dead d i))) (λ i. refl)),
-      (λ i. sym (ap (λ x. x s) told) ∙ by_test (λ x. x s ≡ InPlace) (put q.told s InPlace) q.told (nat_eq q.dead d) (λ j. put_same q.told s InPlace) (λ j. absurd (ne_of q.dead d j i))),
+      (λ t n. sym (ap (λ x. x t) told) ∙ by_test (λ x. x t ≡ q.told t) (put q.told s InPlace) q.told (nat_eq q.dead d) (λ i. put_other q.told s InPlace t (n (eqb-true q.dead d i))) (λ i. refl)),
+      (λ i. sym (ap (λ x. x s) told) ∙ by_test (λ x. x s ≡ InPlace) (put q.told s InPlace) q.told (nat_eq q.dead d) (λ j. put_same q.told s InPlace) (λ j. absurd (eqb-false q.dead d j i))),
     )
 
 -- at a sector that d doesn't hold alone, a replay of d's log leaves a block that has its place in the history
@@ -85,9 +87,6 @@ told_other InPlace old new new' e k = refl
 module _ (w : World) (s : ℕ) (f : Flight) (can : CanLand w s f) (g : Logged w) where
   ok : FlightOk w s f
   ok = g.flights s f can.there can.early
-
-  new_disk : ℕ → Block
-  new_disk = put w.disk s f.block
 
   by_up : w.phase f.behalf ≡ Up → Agrees (w.phase f.behalf) (w.slot f.behalf s) f.block
   by_up u = ⊎_elim

@@ -1,5 +1,6 @@
 -- The clock and the leases, mounting and unmounting.
 use Rattle.std.proofs.Common.{true, false, ⊎_elim, le_refl, le_trans, ℕ, ◌+◌, ◌<◌, ◌≤◌, ◌≡◌, ◌≢◌, inl, inr, Option, Some, None, nat_eq, if◌then◌else◌, refl, sym, ◌∙◌, ap, subst, arith}
+use Rattle.std.proofs.lemmas.Bool.{eqb-false, eqb-true}
 use Rattle.frang_base.specs.declared.lock.Mode.{Mode}
 use Rattle.frang_base.specs.declared.lock.LockId.{LockId}
 use Rattle.sector_bytes.specs.Blocks.{Block}
@@ -7,7 +8,7 @@ use Rattle.frang_base.specs.Functions.{put}
 use Rattle.sector_world.specs.Histories.{Commit, settled}
 use Rattle.sector_world.specs.Seen.{Unsynced}
 use Rattle.sector_world.specs.OnDisk.{OnDisk}
-use Rattle.frang_base.proofs.Basics.{by_test, at_put, put_same, put_other, eq_of, ne_of}
+use Rattle.frang_base.proofs.Basics.{by_test, at_put, put_same, put_other}
 use Rattle.sector_world.proofs.HistoryLaws.{on_disk_map}
 use Rattle.sector_world.specs.World.{World, Phase, Slot, Flight, Rescue, cover}
 use Rattle.sector_world.specs.World.Phase.{Off, Up, Dead}
@@ -60,8 +61,8 @@ extended_own : (a moment d b : ℕ) (taker : ℕ → Option ℕ) (expiry until :
 extended_own a moment d b taker expiry until t h =
     subst (λ o. (if is_taker a o then moment else until d) ≡ put expiry a moment b) (sym t)
     (by_test (λ x. x ≡ put expiry a moment b) moment (until d) (nat_eq b a)
-    (λ e. sym (subst (λ x. put expiry a moment x ≡ moment) (sym (eq_of b a e)) (put_same expiry a moment)))
-    (λ e. h ∙ sym (put_other expiry a moment b (ne_of b a e))))
+    (λ e. sym (subst (λ x. put expiry a moment x ≡ moment) (sym (eqb-true b a e)) (put_same expiry a moment)))
+    (λ e. h ∙ sym (put_other expiry a moment b (eqb-false b a e))))
 
 pub longer : (w : World) (a : ℕ) → w.expiry a < w.now + 30 → (d : ℕ) → w.expiry d ≤ put w.expiry a (w.now + 30) d
 longer w a less d = at_put (λ x. w.expiry d ≤ x) w.expiry a (w.now + 30) d (λ e. let q : w.expiry d ≡ w.expiry a = ap w.expiry e in omega arith) (λ n. omega arith)

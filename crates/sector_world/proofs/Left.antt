@@ -1,6 +1,8 @@
 -- What recoveries of all logs would leave.
 use Rattle.std.proofs.Common.{true, false, zero, suc, List, [], ◌∷◌, Bool, if◌then◌else◌, ⊎_elim, ℕ, ◌<◌, ◌≤◌, ◌≡◌, ◌≢◌, ◌⊎◌, ◌&&◌, inl, inr, Some, nat_eq, nat_lt, nat_le, refl, sym, ◌∙◌, ap, subst, arith}
 use Rattle.std.proofs.lemmas.Bool.Decides.{nat_tests}
+use Rattle.std.proofs.lemmas.Bool.{cases_lt, cases_eq, ne_eqb, eq-eqb, lt-ltb, le-leb}
+use mathlib.Core.Bool.{and-true}
 use Rattle.frang_base.specs.declared.lock.Mode.TheVariants.{Sole}
 use Rattle.sector_bytes.specs.Blocks.{Block}
 use Rattle.sector_world.specs.Histories.{Commit, Item, kept, survives, in_doubt, recovered, settled, Each, Moves, Writes, reaches, OpsRise, is_logged, logical, is_left}
@@ -8,7 +10,7 @@ use Rattle.sector_world.specs.Histories.Item.{Done, Doubt}
 use Rattle.sector_world.specs.HistoryBytes.{is_free, Known, AllWritten, OnData, Agree}
 use Rattle.sector_world.specs.HistoryBytes.OnData.{here, newer, marked}
 use Rattle.sector_world.specs.Seen.{Alters, Unseen}
-use Rattle.frang_base.proofs.Basics.{by_test, of_le, of_lt, of_eq, of_ne, le_or_lt, or_equal, true_or}
+use Rattle.frang_base.proofs.Basics.{by_test, le_or_lt, true_or}
 use Rattle.sector_world.proofs.HistoryLaws.{each_map, each_kept}
 use Rattle.sector_world.proofs.Seen.{each_kept_with, unseen_kept, clear_survives}
 use Rattle.sector_world.proofs.Removals.{survives_low, ops_kept}
@@ -117,26 +119,19 @@ below_next : (durable : ℕ → ℕ) (n : ℕ) (c : Commit) → (below durable n
 below_next durable n c =
     ⊎_elim
     (λ e. let a : nat_lt c.by n ≡ false = (let q : n ≤ c.by = omega arith in grind (arith, nat_tests)) in
-    let b : nat_eq c.by n ≡ true = of_eq c.by n e in
+    let b : nat_eq c.by n ≡ true = eq-eqb c.by n e in
     let d : nat_lt c.by (suc n) ≡ true = (let q : c.by < suc n = omega arith in grind (arith, nat_tests)) in
     rw (a, b, d) (ap (λ x. nat_le c.op (durable x)) (sym e)))
-    (λ ne. let b : nat_eq c.by n ≡ false = of_ne c.by n ne in
+    (λ ne. let b : nat_eq c.by n ≡ false = ne_eqb c.by n ne in
     ⊎_elim
-    (λ lt. let a : nat_lt c.by n ≡ true = of_lt c.by n lt in
+    (λ lt. let a : nat_lt c.by n ≡ true = lt-ltb c.by n lt in
     let d : nat_lt c.by (suc n) ≡ true = (let q : c.by < suc n = omega arith in grind (arith, nat_tests)) in
-    rw (a, b, d) (and_true (nat_le c.op (durable c.by))))
+    rw (a, b, d) (and-true (nat_le c.op (durable c.by))))
     (λ ge. let a : nat_lt c.by n ≡ false = grind (arith, nat_tests) in
     let d : nat_lt c.by (suc n) ≡ false = (let q : suc n ≤ c.by = omega arith in grind (arith, nat_tests)) in
     rw (a, b, d) refl)
-    (lt_or c.by n))
-    (or_equal c.by n)
-  where
-    and_true : (b : Bool) → (b && true) ≡ b
-    and_true true = refl
-    and_true false = refl
-
-    lt_or : (a b : ℕ) → (a < b) ⊎ (b ≤ a)
-    lt_or a b = grind arith
+    (cases_lt c.by n))
+    (cases_eq c.by n)
 
 -- the operations of a server that is off are durable
 below_rested : (durable : ℕ → ℕ) (n : ℕ) (c : Commit) → (c.by ≡ n → c.op ≤ durable n) → below durable n c ≡ below durable (suc n) c
@@ -194,7 +189,7 @@ left_is w g s =
     (λ c m. by_test (λ b. b ≡ nat_le c.op (w.durable c.by)) (nat_le c.op (w.durable c.by)) true (nat_lt c.by w.servers) (λ e. refl)
     (λ e. let big : w.servers ≤ c.by = grind (arith, nat_tests) in
     ⊎_elim
-    (λ off. let q : w.last c.by ≤ w.durable c.by = g.logged.rested c.by off in sym (of_le c.op (w.durable c.by) (omega arith)))
+    (λ off. let q : w.last c.by ≤ w.durable c.by = g.logged.rested c.by off in sym (le-leb c.op (w.durable c.by) (omega arith)))
     (λ on. let q : c.by < w.servers = g.logged.known c.by on in absurd (omega arith))
     (phase_or (w.phase c.by))))
     (settled w.history) g.logged.below))

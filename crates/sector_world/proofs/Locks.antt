@@ -1,5 +1,6 @@
 -- Taking and giving locks, fetching.
 use Rattle.std.proofs.Common.{IsTrue, if◌then◌else◌, ⊎_elim, le_refl, ℕ, ◌<◌, ◌≤◌, ◌≡◌, ◌≢◌, inl, inr, Option, Some, None, refl, sym, ◌∙◌, ap, subst, arith, false}
+use Rattle.std.proofs.lemmas.Option.{same_Some}
 use Rattle.frang_base.specs.declared.lock.LockId.{LockId}
 use Rattle.frang_base.specs.declared.lock.Mode.{Mode}
 use Rattle.frang_base.specs.declared.lock.Mode.TheVariants.{Shared, Sole}
@@ -9,7 +10,7 @@ use Rattle.frang_base.specs.Functions.{put_lock}
 use Rattle.sector_world.specs.Histories.{Commit, settled, Each}
 use Rattle.sector_world.specs.OnDisk.{OnDisk}
 use Rattle.sector_world.specs.Seen.{Alters}
-use Rattle.frang_base.proofs.Basics.{by_test, some_same, lock_of, lock_not, at_put, at_put2, at_lock}
+use Rattle.frang_base.proofs.Basics.{by_test, lock_of, lock_not, at_put, at_put2, at_lock}
 use Rattle.sector_world.proofs.HistoryLaws.{each_map, each_map2, on_disk_map, all_in_place}
 use Rattle.sector_world.specs.World.{World, Phase, Slot, Flight, cover}
 use Rattle.sector_world.specs.World.Phase.{Off, Up, Dead}
@@ -18,6 +19,7 @@ use Rattle.sector_world.specs.Guards.{Fits, NotDirty, CanTake, CanGive, CanFetch
 use Rattle.sector_world.specs.Steps.{after}
 use Rattle.sector_world.specs.Steps.Event.{Take, Give, Lower, Fetch}
 use Rattle.sector_world.specs.Logged.{now_of, IsCopy, Logged, IsNewer, Covers, Pending, HeldIf, IsAhead, NoneIfOff, AbsentUnlessUp, Agrees, FlightOk}
+use Rattle.sector_world.proofs.Doing.{up_only}
 
 fits_sole_none : (m : Option Mode) → Fits Sole m → m ≢ None → ⊥
 fits_sole_none None f n = n refl
@@ -49,7 +51,7 @@ logged_take w a l mode can g =
     (λ e f m. at_lock (λ x. x ≢ None → b ≡ d) w.holds a l (Some mode) d t
     (λ i j n. e ∙ sym i)
     (λ o n. let other : d ≢ a = λ q. o q f in
-    let fits : Fits Sole (w.holds d l) = subst (λ x. Fits x (w.holds d l)) (some_same mode Sole m) (can.fits d other) in
+    let fits : Fits Sole (w.holds d l) = subst (λ x. Fits x (w.holds d l)) (same_Some mode Sole m) (can.fits d other) in
     absurd (fits_sole_none (w.holds d l) fits (subst (λ x. w.holds d x ≢ None) f n))))
     (λ o m. at_lock (λ x. x ≢ None → b ≡ d) w.holds a l (Some mode) d t
     (λ i j n. let other : b ≢ a = λ q. o q j in
@@ -209,11 +211,6 @@ module _ (w : World) (a : ℕ) (l : LockId) (can : CanGive w a l) (alone : w.hol
       } in
       search
 
-up_ok : (p : Phase) (x : Slot) → p ≡ Up → AbsentUnlessUp p x
-up_ok Off x e = absurd (cc)
-up_ok Up x e = tt
-up_ok Dead x e = absurd (cc)
-
 module _ (w : World) (a s : ℕ) (can : CanFetch w a s) (g : Logged w) where
   fetch_none : (c : Commit) → c.by ≡ a → Pending w s c → ⊥
   fetch_none c e p =
@@ -235,7 +232,7 @@ module _ (w : World) (a s : ℕ) (can : CanFetch w a s) (g : Logged w) where
       (settled w.history) o
 
   pub logged_fetch : Logged (after w (Fetch a s))
-  logged_fetch = let not_up : (a' s' : ℕ) → AbsentUnlessUp ((after w (Fetch a s)).phase a') ((after w (Fetch a s)).slot a' s') = λ b t. at_put2 (λ x. AbsentUnlessUp (w.phase b) x) w.slot a s (Clean (w.disk s)) b t (λ e f. up_ok (w.phase b) (Clean (w.disk s)) (ap w.phase e ∙ can.up)) (λ o. g.not_up b t) in
+  logged_fetch = let not_up : (a' s' : ℕ) → AbsentUnlessUp ((after w (Fetch a s)).phase a') ((after w (Fetch a s)).slot a' s') = λ b t. at_put2 (λ x. AbsentUnlessUp (w.phase b) x) w.slot a s (Clean (w.disk s)) b t (λ e f. up_only (w.phase b) (Clean (w.disk s)) (ap w.phase e ∙ can.up)) (λ o. g.not_up b t) in
       let held : (a' s' : ℕ) → HeldIf ((after w (Fetch a s)).slot a' s') ((after w (Fetch a s)).holds a' (cover (after w (Fetch a s)) s')) = λ b t. at_put2 (λ x. HeldIf x (w.holds b (cover w t))) w.slot a s (Clean (w.disk s)) b t
       (λ e f. subst (λ x. w.holds x (cover w t) ≢ None) (sym e) (subst (λ x. w.holds a (cover w x) ≢ None) (sym f) can.held)) (λ o. g.held b t) in
       let copies : (a' s' : ℕ) → IsCopy ((after w (Fetch a s)).slot a' s') (now_of (after w (Fetch a s)) s') = λ b t. at_put2 (λ x. IsCopy x (now_of w t)) w.slot a s (Clean (w.disk s)) b t (λ e f. fetch_now ∙ ap (now_of w) (sym f)) (λ o. g.copies b t) in

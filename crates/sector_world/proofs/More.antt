@@ -1,6 +1,7 @@
 -- More on what is pending, on replays that are made twice, and on records with a version.
 use Rattle.std.proofs.Common.{⊎_elim, ℕ, ◌<◌, ◌≤◌, ◌≡◌, ◌&&◌, inl, inr, Bool, true, false, List, [], ◌∷◌, Option, Some, None, IsSome, nat_lt, nat_le, if◌then◌else◌, refl, sym, ◌∙◌, ap, subst, arith}
 use Rattle.std.proofs.lemmas.Bool.Decides.{nat_tests}
+use Rattle.std.proofs.lemmas.Bool.{and_right, le-ltb, lt-leb, le-leb, leb-true}
 use Rattle.frang_base.specs.declared.change.Change.{Change}
 use Rattle.sector_bytes.specs.Blocks.{Block, version_of}
 use Rattle.sector_bytes.specs.Changes.{changed}
@@ -11,14 +12,10 @@ use Rattle.sector_world.specs.Histories.{Commit, Item, redo_of, kept, survives, 
 use Rattle.sector_world.specs.Histories.Item.{Done, Doubt}
 use Rattle.sector_world.specs.OnDisk.{Raises, Rising, AllDurable, OnDisk}
 use Rattle.sector_world.specs.OnDisk.OnDisk.{in_place, pending, passed}
-use Rattle.frang_base.proofs.Basics.{by_test, by_keep, le_of, of_le, of_gt, of_ge, le_or_lt, some_or}
+use Rattle.frang_base.proofs.Basics.{by_test, by_keep, le_or_lt, some_or}
 use Rattle.sector_bytes.proofs.ChangeLaws.{version-changed}
-use Rattle.sector_world.proofs.HistoryLaws.{AtMost, each_map, up_keep, redo_keep, disk_version, kept_logical, replayed_is, unchanged}
+use Rattle.sector_world.proofs.HistoryLaws.{AtMost, each_map, up_keep, redo_keep, disk_version, kept_logical, replayed_is, unchanged, at_most_more}
 use Rattle.sector_world.proofs.Removals.{named_keep, survives_low, survives_own}
-
-pub at_most_more : (o : Option Change) (n m : ℕ) → n ≤ m → AtMost o n → AtMost o m
-at_most_more None n m le h = tt
-at_most_more (Some x) n m le h = omega arith
 
 -- the change has a version above this
 abbrev pub IsAbove : Option Change → ℕ → Type 0
@@ -71,10 +68,6 @@ last_pending opening durable s a mark P block (Done c ∷ h) l n (pending p o) =
     l
 last_pending opening durable s a mark P block (Doubt m ∷ h) l n (passed o) = last_pending opening durable s a mark P block h l n o
 
-and_false : (a b : Bool) → b ≡ false → (a && b) ≡ false
-and_false true b e = e
-and_false false b e = refl
-
 own_step : (d f k s : ℕ) (block : Block) (c : Commit) (h : List Item) → redo_all (up_to k (own d f (Done c ∷ h))) s block ≡ (if (is_own d f c && nat_le c.op k) then redone (change_at c.changes s) (redo_all (up_to k (own d f h)) s block) else redo_all (up_to k (own d f h)) s block)
 own_step d f k s block c h = rw (up_keep k (is_own d f c) (redo_of c) (own d f h), redo_keep (is_own d f c && nat_le c.op k) (redo_of c) (up_to k (own d f h)) s block)
 
@@ -112,7 +105,7 @@ replay_place opening durable s d f P block mine (Done c ∷ h) ops r (pending p 
     kept_logical opening s keep (Done c ∷ h) (each_map (λ c. Changes s c → c.op ≤ durable c.by) (λ c. Changes s c → keep c ≡ true) (λ c m w. survives_low d (durable d) c (λ q. subst (λ x. c.op ≤ durable x) q (m w))) (Done c ∷ h) a) in
     in_place (i ∙ j) a)
     (λ g. let z : redo_all (up_to (durable d) (own d f (Done c ∷ h))) s block ≡ redo_all (up_to (durable d) (own d f h)) s block =
-    own_step d f (durable d) s block c h ∙ rw (and_false (is_own d f c) (nat_le c.op (durable d)) (of_gt c.op (durable d) g)) in
+    own_step d f (durable d) s block c h ∙ rw (and_right (is_own d f c) (nat_le c.op (durable d)) (lt-leb c.op (durable d) g)) in
     subst P' (sym z) (pending p (replay_place opening durable s d f P block mine h ops.1 r.1 o)))
     (le_or_lt c.op (durable d)))
     (λ n. let z : redo_all (up_to (durable d) (own d f (Done c ∷ h))) s block ≡ redo_all (up_to (durable d) (own d f h)) s block =
@@ -150,7 +143,7 @@ redo_skips (r ∷ rs) s block e = ap (λ x. redone (change_at r.changes s) x) (r
   where
     skip : (o : Option Change) → AtMost o (version_of block) → redone o block ≡ block
     skip None m = refl
-    skip (Some x) m = rw (of_ge (version_of block) x.version m)
+    skip (Some x) m = rw (le-ltb (version_of block) x.version m)
 
 -- a replay that is made twice is as good as one
 pub redo_twice : (rs : List Redo) (s : ℕ) (block : Block) → redo_all rs s (redo_all rs s block) ≡ redo_all rs s block
@@ -160,6 +153,6 @@ pub named_more : (rs : List Redo) (k j s v : ℕ) → k ≤ j → Named (up_to k
 named_more [] k j s v le n = n
 named_more (r ∷ rs) k j s v le n =
     by_keep (λ x. Named x s v → Named (keep_if (nat_le r.op.0 j) r (up_to j rs)) s v) (nat_le r.op.0 k) r (up_to k rs)
-    (λ e m. let i : r.op.0 ≤ k = le_of r.op.0 k e in let q : r.op.0 ≤ j = omega arith in rw (of_le r.op.0 j q) (⊎_elim (λ x. inl x) (λ x. inr (named_more rs k j s v le x)) m))
+    (λ e m. let i : r.op.0 ≤ k = leb-true r.op.0 k e in let q : r.op.0 ≤ j = omega arith in rw (le-leb r.op.0 j q) (⊎_elim (λ x. inl x) (λ x. inr (named_more rs k j s v le x)) m))
     (λ e m. named_keep (nat_le r.op.0 j) r (up_to j rs) s v (named_more rs k j s v le m))
     n

@@ -1,9 +1,10 @@
 -- There is one disk, and writes come to it in order.
-use Rattle.std.proofs.Common.{true, false, Bool, if◌then◌else◌, ⊎_elim, le_trans, ℕ, ◌<◌, ◌≤◌, ◌≡◌, ◌⊎◌, inl, inr, None, refl, sym, ◌∙◌, ap, subst, arith}
+use Rattle.std.proofs.Common.{true, false, Bool, if◌then◌else◌, ⊎_elim, le_trans, ℕ, ◌<◌, ◌≤◌, ◌≡◌, ◌⊎◌, None, refl, sym, ◌∙◌, ap, subst, arith}
+use Rattle.std.proofs.lemmas.Bool.{cases_Bool, cases_eq, ne_eqb, eq-eqb}
 use Rattle.sector_bytes.specs.Blocks.{Block, version_of, zero_block}
 use Rattle.frang_base.specs.Functions.{put}
 use Rattle.sector_world.specs.Histories.{Commit, settled, survives}
-use Rattle.frang_base.proofs.Basics.{by_some, of_eq, of_ne, or_equal}
+use Rattle.frang_base.proofs.Basics.{by_some}
 use Rattle.sector_world.specs.World.{World, Flight, ByteFlight, Rescue, has_version, block_at}
 use Rattle.sector_world.specs.Guards.{CanLand, CanLandBytes, CanDo, CanFinish}
 use Rattle.sector_world.specs.Steps.{Event, Can, after}
@@ -14,10 +15,6 @@ use Rattle.sector_world.specs.Kinds.{Kinds, Good}
 use Rattle.sector_world.specs.Claims.{IsOrdered, IsPlain, Orderly, came, or_else, IsOneDisk}
 use Rattle.sector_world.proofs.Finishing.{logged_finish}
 use Rattle.sector_world.proofs.Versioned.{plain_unchanged, plain_first, unchanged_place, logged_less, kinds_finish, landed_plain}
-
-true_or_false : (b : Bool) → (b ≡ true) ⊎ (b ≡ false)
-true_or_false true = inl refl
-true_or_false false = inr refl
 
 -- the sector of the disk that has no version is zeros on its other side
 plain_zeros : (w : World) → Good w → (s : ℕ) → has_version w s ≡ false → w.disk s ≡ zero_block
@@ -33,7 +30,7 @@ flight_versioned w g s f can =
     let same : f.block ≡ w.opening s = unchanged_place w.opening w.durable s (Pending w s) f.block (settled w.history) (plain_unchanged w.logged s (settled w.history) e (g.kinds.claimed s)) q.place in
     let old : w.disk s ≡ w.opening s = unchanged_place w.opening w.durable s (Pending w s) (w.disk s) (settled w.history) (plain_unchanged w.logged s (settled w.history) e (g.kinds.claimed s)) (g.logged.place s) in
     let u : version_of (w.disk s) < version_of f.block = q.higher in let v : version_of (w.disk s) ≡ version_of f.block = ap version_of (old ∙ sym same) in absurd (omega arith))
-    (true_or_false (has_version w s))
+    (cases_Bool (has_version w s))
 
 -- no recovery of a server begins while its lease lasts
 none_begun : (w : World) → Good w → (d : ℕ) → w.now ≤ w.expiry d → w.taker d ≡ None
@@ -94,16 +91,16 @@ orderly_good w g (Settle a s block mark) can = tt
 version_came : (v : Bool) (t s : ℕ) (new : Block) (disk bytes : ℕ → Block) → (t ≡ s → v ≡ true) → (if v then put disk t new s else bytes s) ≡ or_else (came t new s) (if v then disk s else bytes s)
 version_came v t s new disk bytes f =
     ⊎_elim
-    (λ e. rw (f e, of_eq t s e, of_eq s t (sym e)) refl)
-    (λ n. rw (of_ne t s n, of_ne s t (λ e. n (sym e))) refl)
-    (or_equal t s)
+    (λ e. rw (f e, eq-eqb t s e, eq-eqb s t (sym e)) refl)
+    (λ n. rw (ne_eqb t s n, ne_eqb s t (λ e. n (sym e))) refl)
+    (cases_eq t s)
 
 bytes_came : (v : Bool) (t s : ℕ) (new : Block) (disk bytes : ℕ → Block) → (t ≡ s → v ≡ false) → (if v then disk s else put bytes t new s) ≡ or_else (came t new s) (if v then disk s else bytes s)
 bytes_came v t s new disk bytes f =
     ⊎_elim
-    (λ e. rw (f e, of_eq t s e, of_eq s t (sym e)) refl)
-    (λ n. rw (of_ne t s n, of_ne s t (λ e. n (sym e))) refl)
-    (or_equal t s)
+    (λ e. rw (f e, eq-eqb t s e, eq-eqb s t (sym e)) refl)
+    (λ n. rw (ne_eqb t s n, ne_eqb s t (λ e. n (sym e))) refl)
+    (cases_eq t s)
 
 claimed_same : (b v : Bool) (disk bytes : Block) → (b ≡ true → v ≡ false) → (b ≡ true → disk ≡ bytes) → (if (if b then true else v) then disk else bytes) ≡ (if v then disk else bytes)
 claimed_same true true disk bytes f g = let q = f refl in cc

@@ -1,5 +1,6 @@
 -- What comes to the disk: parts of logs, and writes of sectors that were in flight.
 use Rattle.std.proofs.Common.{IsTrue, le_trans, ℕ, ◌-◌, ◌<◌, ◌≤◌, ◌≡◌, ◌≢◌, inl, Option, Some, None, refl, sym, ◌∙◌, ap, subst, arith}
+use Rattle.std.proofs.lemmas.Option.{same_Some}
 use Rattle.frang_base.specs.declared.lock.LockId.{LockId}
 use Rattle.frang_base.specs.declared.lock.Mode.{Mode}
 use Rattle.frang_base.specs.declared.lock.Mode.TheVariants.{Sole}
@@ -11,7 +12,7 @@ use Rattle.sector_world.specs.Histories.{settled, own, Named}
 use Rattle.sector_world.specs.OnDisk.{AllDurable, OnDisk}
 use Rattle.sector_world.specs.OnDisk.OnDisk.{in_place}
 use Rattle.sector_world.specs.Seen.{Alters, Unsynced}
-use Rattle.frang_base.proofs.Basics.{some_same, at_put}
+use Rattle.frang_base.proofs.Basics.{at_put}
 use Rattle.sector_world.proofs.HistoryLaws.{each_map, on_disk_map, all_durable}
 use Rattle.sector_world.proofs.Removals.{last_named}
 use Rattle.sector_world.proofs.More.{last_pending, named_more}
@@ -101,7 +102,7 @@ pub at_flight : (w v : World) (s : ℕ) (f0 : Flight) → FlightOk v s f0 → ((
     → (t : ℕ) (f : Flight) → put w.flight s (Some f0) t ≡ Some f → v.now ≤ f.stamp → FlightOk v t f
 at_flight w v s f0 q old t f =
     at_put (λ x. x ≡ Some f → v.now ≤ f.stamp → FlightOk v t f) w.flight s (Some f0) t
-    (λ e i n. subst (λ x. FlightOk v t x) (some_same f0 f i) (subst (λ x. FlightOk v x f0) (sym e) q))
+    (λ e i n. subst (λ x. FlightOk v t x) (same_Some f0 f i) (subst (λ x. FlightOk v x f0) (sym e) q))
     (λ n. old t f)
 
 module _ (w : World) (a s : ℕ) (block : Block) (mark : ℕ) (can : CanIssue w a s block mark) (g : Logged w) where

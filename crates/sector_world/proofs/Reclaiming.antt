@@ -1,6 +1,7 @@
 -- The oldest records are given up, once their sectors are in place.
 use Rattle.std.proofs.Common.{true, false, List, [], ◌∷◌, Bool, ⊎_elim, le_refl, ℕ, ◌<◌, ◌≤◌, ◌≡◌, ◌&&◌, inl, Option, Some, None, nat_lt, nat_le, refl, sym, ◌∙◌, ap, subst, arith}
 use Rattle.std.proofs.lemmas.Bool.Decides.{nat_tests}
+use Rattle.std.proofs.lemmas.Bool.{cases_eq, ne_eqb, eq-eqb, lt-ltb}
 use Rattle.frang_base.specs.declared.change.Change.{Change}
 use Rattle.sector_bytes.specs.Blocks.{Block, version_of}
 use Rattle.frang_base.specs.declared.change.Redo.{Redo}
@@ -9,7 +10,7 @@ use Rattle.frang_base.specs.Functions.{keep_if, put}
 use Rattle.sector_world.specs.Histories.{Commit, Item, redo_of, settled, is_own, own, Each, Named}
 use Rattle.sector_world.specs.Histories.Item.{Done, Doubt}
 use Rattle.sector_world.specs.OnDisk.{OnDisk}
-use Rattle.frang_base.proofs.Basics.{of_lt, of_eq, of_ne, le_or_lt, or_equal, at_put, by_keep}
+use Rattle.frang_base.proofs.Basics.{le_or_lt, at_put, by_keep}
 use Rattle.sector_world.proofs.Removals.{named_keep}
 use Rattle.sector_world.proofs.More.{IsAbove, on_disk_more}
 use Rattle.sector_world.specs.World.{World, Flight, Rescue}
@@ -25,12 +26,12 @@ and_false false b e = sym e
 own_and : (a k f : ℕ) (c : Commit) → f ≤ k → (is_own a f c && nat_lt k c.op) ≡ is_own a k c
 own_and a k f c le =
     ⊎_elim
-    (λ e. rw (of_eq c.by a e) (⊎_elim
+    (λ e. rw (eq-eqb c.by a e) (⊎_elim
     (λ l. and_false (nat_lt f c.op) (nat_lt k c.op) (let m : nat_lt k c.op ≡ false = grind (arith, nat_tests) in m))
-    (λ l. let m : f < c.op = omega arith in rw (of_lt f c.op m, of_lt k c.op l))
+    (λ l. let m : f < c.op = omega arith in rw (lt-ltb f c.op m, lt-ltb k c.op l))
     (le_or_lt c.op k)))
-    (λ n. rw (of_ne c.by a n))
-    (or_equal c.by a)
+    (λ n. rw (ne_eqb c.by a n))
+    (cases_eq c.by a)
 
 above_keep : (k : ℕ) (b : Bool) (r : Redo) (rs : List Redo) → above k (keep_if b r rs) ≡ keep_if (b && nat_lt k r.op.0) r (above k rs)
 above_keep k true r rs = refl
@@ -43,7 +44,7 @@ above_own a f k le (Done c ∷ h) = rw (above_keep k (is_own a f c) (redo_of c) 
 above_own a f k le (Doubt m ∷ h) = above_own a f k le h
 
 own_true : (a f : ℕ) (c : Commit) → c.by ≡ a → f < c.op → is_own a f c ≡ true
-own_true a f c e l = rw (of_eq c.by a e, of_lt f c.op l)
+own_true a f c e l = rw (eq-eqb c.by a e, lt-ltb f c.op l)
 
 -- what is written of the records is written of the operations
 below_each : (a f k s v : ℕ) (h : List Item) → AreBelow k (own a f h) s v → Each (λ c. c.by ≡ a → f < c.op → c.op ≤ k → IsBelow (change_at c.changes s) v) h
@@ -74,7 +75,7 @@ named_above j k (r ∷ rs) s n v b l m =
     (λ e q. ⊎_elim
     (λ x. ⊎_elim
     (λ i. absurd (named_not_below (change_at r.changes s) x.0 v n x.1 x.2 l (b.0 i)))
-    (λ i. rw (of_lt k r.op.0 i, e) (inl x))
+    (λ i. rw (lt-ltb k r.op.0 i, e) (inl x))
     (le_or_lt r.op.0 k))
     (λ x. drop_named j (nat_lt k r.op.0) r (above k rs) s v (named_above j k rs s n v b.1 l x)) q)
     (λ e q. drop_named j (nat_lt k r.op.0) r (above k rs) s v (named_above j k rs s n v b.1 l q)) m

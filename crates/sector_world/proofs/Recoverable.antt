@@ -1,14 +1,14 @@
 -- The sectors with versions after a replay of all logs are those without what is not durable.
 use Rattle.std.proofs.Common.{true, zero, suc, List, ⊎_elim, le_refl, ℕ, ◌<◌, ◌≤◌, ◌≡◌, ◌≢◌, ◌⊎◌, inl, inr, None, nat_le, refl, sym, ◌∙◌, ap, subst, arith}
+use Rattle.std.proofs.lemmas.Bool.{le-leb}
 use Rattle.sector_bytes.specs.Blocks.{Block, version_of}
 use Rattle.frang_base.specs.declared.change.Redo.{Redo}
 use Rattle.sector_bytes.specs.Replays.{change_at, redo_all, up_to}
 use Rattle.sector_world.specs.Histories.{Commit, kept, settled, is_left, logical, Each, Changes}
 use Rattle.sector_world.specs.OnDisk.{AllDurable}
-use Rattle.frang_base.proofs.Basics.{of_le, le_or_lt}
-use Rattle.sector_world.proofs.HistoryLaws.{AtMost, each_map, rising_bound, all_skipped, kept_logical, replayed_is, pending_or_not, in_place_or}
+use Rattle.frang_base.proofs.Basics.{le_or_lt}
+use Rattle.sector_world.proofs.HistoryLaws.{AtMost, each_map, rising_bound, all_skipped, kept_logical, replayed_is, pending_or_not, in_place_or, at_most_more}
 use Rattle.sector_world.proofs.Removals.{redo_named}
-use Rattle.sector_world.proofs.More.{at_most_more}
 use Rattle.sector_world.specs.World.{World, cover}
 use Rattle.sector_world.specs.Guards.{to_replay}
 use Rattle.sector_world.specs.Logged.{now_of, Logged, Pending, NoneIfOff}
@@ -47,14 +47,14 @@ module _ (w : World) (g : Logged w) where
   all_there s e a =
       none_pending s (subst (λ x. Each (λ c. AtMost (change_at c.changes s) (version_of x)) (settled w.history)) (sym e) (rising_bound w.opening s (settled w.history) (g.rising s))) w.servers
       ∙ e ∙ sym (kept_logical w.opening s (is_left w.durable) (settled w.history)
-      (each_map (λ c. Changes s c → c.op ≤ w.durable c.by) (λ c. Changes s c → is_left w.durable c ≡ true) (λ c m i. of_le c.op (w.durable c.by) (m i)) (settled w.history) a))
+      (each_map (λ c. Changes s c → c.op ≤ w.durable c.by) (λ c. Changes s c → is_left w.durable c ≡ true) (λ c m i. le-leb c.op (w.durable c.by) (m i)) (settled w.history) a))
 
   here : (s d : ℕ) → ((c : Commit) → Pending w s c → c.by ≡ d) → redo_all (up_to (w.durable d) (w.log d)) s (w.disk s) ≡ target s
   here s d f =
       ap (λ l. redo_all (up_to (w.durable d) l) s (w.disk s)) (g.logs d)
       ∙ replayed_is w.opening w.durable s d (w.floor d) (Pending w s) (w.disk s) (is_left w.durable)
       (λ c p. (f c p, subst (λ x. w.floor x < c.op) (f c p) p.above))
-      (λ c l. of_le c.op (w.durable c.by) l)
+      (λ c l. le-leb c.op (w.durable c.by) l)
       (λ c q. ap (λ x. nat_le c.op (w.durable x)) q)
       (settled w.history) (g.place s) (g.rising s)
 

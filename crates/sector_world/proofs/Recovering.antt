@@ -1,6 +1,8 @@
 -- A recovery beside live servers: it begins, looks at sectors, and writes them.
 use Rattle.std.proofs.Common.{List, ⊎_elim, ℕ, ◌+◌, ◌-◌, ◌<◌, ◌≤◌, ◌≡◌, ◌≢◌, ◌⊎◌, inl, inr, Option, Some, None, nat_lt, refl, sym, ◌∙◌, ap, subst, arith}
 use Rattle.std.proofs.lemmas.Bool.Decides.{nat_tests}
+use Rattle.std.proofs.lemmas.Option.{same_Some}
+use Rattle.std.proofs.lemmas.Bool.{lt-ltb}
 use Rattle.frang_base.specs.declared.lock.Mode.{Mode}
 use Rattle.frang_base.specs.declared.lock.Mode.TheVariants.{Shared, Sole}
 use Rattle.sector_bytes.specs.Blocks.{Block, version_of}
@@ -9,7 +11,7 @@ use Rattle.sector_bytes.specs.Replays.{redo_all, up_to}
 use Rattle.frang_base.specs.Functions.{put}
 use Rattle.sector_world.specs.Histories.{settled, Named}
 use Rattle.sector_world.specs.OnDisk.{OnDisk}
-use Rattle.frang_base.proofs.Basics.{by_test, of_lt, some_same, at_put, put_same, put_other}
+use Rattle.frang_base.proofs.Basics.{by_test, at_put, put_same, put_other}
 use Rattle.sector_world.proofs.Removals.{redo_named}
 use Rattle.sector_world.proofs.More.{replay_place}
 use Rattle.sector_world.specs.World.{World, Rescue, cover, Flight}
@@ -38,12 +40,12 @@ logged_begin w d b can g = let ends : (d' : ℕ) → (after w (Begin d b)).until
             taker = put_other w.taker d (Some b) f.behalf other ∙ o.taker;
             dead = o.dead;
             until = subst (λ x. f.stamp ≤ x) (sym (put_other w.until d (w.expiry b) f.behalf other)) o.until;
-            rescuer = λ r i j. absurd (other (sym j ∙ sym (ap (λ x. x.dead) (some_same (record { dead = d; by = b; told = λ s. Unread }) r i))));
-            told = λ r i j. absurd (other (sym j ∙ sym (ap (λ x. x.dead) (some_same (record { dead = d; by = b; told = λ s. Unread }) r i))));
+            rescuer = λ r i j. absurd (other (sym j ∙ sym (ap (λ x. x.dead) (same_Some (record { dead = d; by = b; told = λ s. Unread }) r i))));
+            told = λ r i j. absurd (other (sym j ∙ sym (ap (λ x. x.dead) (same_Some (record { dead = d; by = b; told = λ s. Unread }) r i))));
           }))
           q.source;
     } in
-    let rescued : (r' : Rescue) → (after w (Begin d b)).rescue ≡ Some r' → RescueOk (after w (Begin d b)) r' = λ r e. subst (λ x. RescueOk (after w (Begin d b)) x) (some_same (record { dead = d; by = b; told = λ s. Unread }) r e)
+    let rescued : (r' : Rescue) → (after w (Begin d b)).rescue ≡ Some r' → RescueOk (after w (Begin d b)) r' = λ r e. subst (λ x. RescueOk (after w (Begin d b)) x) (same_Some (record { dead = d; by = b; told = λ s. Unread }) r e)
     (record { dead = can.dead; ended = can.ended; up = can.up; taker = put_same w.taker d (Some b); until = put_same w.until d (w.expiry b); told = λ s. tt }) in
     search
 
@@ -54,7 +56,7 @@ found_ok rs s old =
     (λ e. ⊎_elim (λ i. i) (λ i. let u : (version_of old) < (version_of (redo_all rs s old)) = i.0 in let m : (version_of (redo_all rs s old)) ≤ (version_of old) = grind (arith, nat_tests) in absurd (omega arith)) (redo_named rs s old))
 
 found_wanted : (old new block : Block) → block ≡ new → (version_of old) < (version_of new) → found old new ≡ Wanted block
-found_wanted old new block e l = rw (of_lt (version_of old) (version_of new) l) (ap Wanted (sym e))
+found_wanted old new block e l = rw (lt-ltb (version_of old) (version_of new) l) (ap Wanted (sym e))
 
 pub logged_look : (w : World) (r : Rescue) (s : ℕ) → w.rescue ≡ Some r → Logged w → Logged (after w (Look r s))
 logged_look w r s going g =
@@ -72,8 +74,8 @@ logged_look w r s going g =
             taker = o.taker;
             dead = o.dead;
             until = o.until;
-            rescuer = λ x i j. let same : new ≡ x = some_same new x i in sym (ap (λ y. y.by) same) ∙ o.rescuer r going (ap (λ y. y.dead) same ∙ j);
-            told = λ x i j. let same : new ≡ x = some_same new x i in
+            rescuer = λ x i j. let same : new ≡ x = same_Some new x i in sym (ap (λ y. y.by) same) ∙ o.rescuer r going (ap (λ y. y.dead) same ∙ j);
+            told = λ x i j. let same : new ≡ x = same_Some new x i in
                 let old : r.told t ≡ Wanted f.block = o.told r going (ap (λ y. y.dead) same ∙ j) in
                 subst (λ y. y.told t ≡ Wanted f.block) same
                 (at_put (λ y. y ≡ Wanted f.block) r.told s (found (w.disk s) (redo_all (to_replay w r.dead) s (w.disk s))) t
@@ -83,7 +85,7 @@ logged_look w r s going g =
           }))
           q.source;
     } in
-    let rescued : (r' : Rescue) → (after w (Look r s)).rescue ≡ Some r' → RescueOk (after w (Look r s)) r' = λ x e. subst (λ y. RescueOk (after w (Look r s)) y) (some_same new x e)
+    let rescued : (r' : Rescue) → (after w (Look r s)).rescue ≡ Some r' → RescueOk (after w (Look r s)) r' = λ x e. subst (λ y. RescueOk (after w (Look r s)) y) (same_Some new x e)
     (record {
       dead = k.dead;
       ended = k.ended;
@@ -133,8 +135,8 @@ module _ (w : World) (r : Rescue) (s : ℕ) (block : Block) (can : CanReplay w r
       taker = k.taker;
       dead = k.dead;
       until = (let u : w.until r.dead ≡ w.expiry r.by = k.until in omega arith);
-      rescuer = λ x i j. ap (λ y. y.by) (some_same x r (sym i ∙ can.going));
-      told = λ x i j. ap (λ y. y.told s) (some_same x r (sym i ∙ can.going)) ∙ can.wanted;
+      rescuer = λ x i j. ap (λ y. y.by) (same_Some x r (sym i ∙ can.going));
+      told = λ x i j. ap (λ y. y.told s) (same_Some x r (sym i ∙ can.going)) ∙ can.wanted;
     });
   }
 

@@ -1,6 +1,7 @@
 -- What a removal of operations keeps, and what a replay does to a sector.
 use Rattle.std.proofs.Common.{⊎_elim, ℕ, ◌<◌, ◌≤◌, ◌≡◌, ◌≢◌, ◌⊎◌, ◌&&◌, inl, inr, Bool, true, false, List, [], ◌∷◌, Option, Some, None, IsSome, nat_eq, nat_lt, nat_le, refl, sym, ◌∙◌, ap, subst, arith}
 use Rattle.std.proofs.lemmas.Bool.Decides.{nat_tests}
+use Rattle.std.proofs.lemmas.Bool.{ne_eqb, eq-eqb, le-ltb, lt-ltb, le-leb, eqb-true}
 use Rattle.frang_base.specs.declared.change.Change.{Change}
 use Rattle.sector_bytes.specs.Blocks.{Block, version_of}
 use Rattle.sector_bytes.specs.Changes.{changed}
@@ -11,19 +12,19 @@ use Rattle.sector_world.specs.Histories.{Commit, Item, redo_of, IsLast, kept, su
 use Rattle.sector_world.specs.Histories.Item.{Done, Doubt}
 use Rattle.sector_world.specs.OnDisk.{AllDurable, OnDisk}
 use Rattle.sector_world.specs.OnDisk.OnDisk.{in_place, pending, passed}
-use Rattle.frang_base.proofs.Basics.{by_test, by_keep, eq_of, of_le, of_eq, of_ne, of_ge, of_lt}
+use Rattle.frang_base.proofs.Basics.{by_test, by_keep}
 use Rattle.sector_bytes.proofs.ChangeLaws.{version-changed}
-use Rattle.sector_world.proofs.HistoryLaws.{each_kept, up_keep}
+use Rattle.sector_world.proofs.HistoryLaws.{each_kept, up_keep, unchanged}
 
 -- who survives
 pub survives_other : (d k : ℕ) (c : Commit) → c.by ≢ d → survives d k c ≡ true
-survives_other d k c n = rw (of_ne c.by d n)
+survives_other d k c n = rw (ne_eqb c.by d n)
 
 pub survives_own : (d k : ℕ) (c : Commit) → c.by ≡ d → survives d k c ≡ nat_le c.op k
-survives_own d k c e = rw (of_eq c.by d e)
+survives_own d k c e = rw (eq-eqb c.by d e)
 
 pub survives_low : (d k : ℕ) (c : Commit) → (c.by ≡ d → c.op ≤ k) → survives d k c ≡ true
-survives_low d k c f = by_test (λ b. b ≡ true) (nat_le c.op k) true (nat_eq c.by d) (λ e. of_le c.op k (f (eq_of c.by d e))) (λ e. refl)
+survives_low d k c f = by_test (λ b. b ≡ true) (nat_le c.op k) true (nat_eq c.by d) (λ e. le-leb c.op k (f (eqb-true c.by d e))) (λ e. refl)
 
 pub ops_kept : (keep : Commit → Bool) (h : List Item) → OpsRise h → OpsRise (kept keep h)
 ops_kept keep [] o = tt
@@ -39,7 +40,7 @@ own_none d f [] e = refl
 own_none d f (Done c ∷ h) e =
     by_keep (λ x. x ≡ []) (is_own d f c) (redo_of c) (own d f h)
     (λ i. by_test (λ b. b ≡ true → redo_of c ∷ own d f h ≡ []) (nat_lt f c.op) false (nat_eq c.by d)
-    (λ g l. let m = of_ge f c.op (e.0 (eq_of c.by d g)) in cc) (λ g l. cc) i)
+    (λ g l. let m = le-ltb f c.op (e.0 (eqb-true c.by d g)) in cc) (λ g l. cc) i)
     (λ i. own_none d f h e.1)
 own_none d f (Doubt m ∷ h) e = own_none d f h e
 
@@ -50,7 +51,7 @@ own_same e d f k c h keep n ih s =
     (λ t. ap (λ x. keep_if (is_own e f c) (redo_of c) x) ih)
     (λ t. by_keep (λ x. own e f (kept keep h) ≡ x) (is_own e f c) (redo_of c) (own e f h)
     (λ i. absurd (by_test (λ b. b ≡ true → ⊥) (nat_lt f c.op) false (nat_eq c.by e)
-    (λ g l. let m : c.by ≡ e = eq_of c.by e g in let q : keep c ≡ true = s (λ r. n (sym m ∙ r)) in cc) (λ g l. cc) i))
+    (λ g l. let m : c.by ≡ e = eqb-true c.by e g in let q : keep c ≡ true = s (λ r. n (sym m ∙ r)) in cc) (λ g l. cc) i))
     (λ i. ih))
 
 -- the records of another server stay
@@ -86,10 +87,6 @@ some_version : (o : Option Change) (block : Block) → IsSome o → (x : Change)
 some_version None block e = absurd (cc)
 some_version (Some x) block e = (x, refl, sym (version-changed block x))
 
-none_version : (o : Option Change) (block : Block) → (IsSome o → ⊥) → forced o block ≡ block
-none_version None block n = refl
-none_version (Some x) block n = absurd (n refl)
-
 -- the last operation's record names the sector with its version now
 pub last_named : (opening : ℕ → Block) (s a mark f k : ℕ) → f < mark → mark ≤ k → (h : List Item) → IsLast s a mark h → Named (up_to k (own a f h)) s (version_of (logical opening h s))
 last_named opening s a mark f k lo hi [] l = absurd l
@@ -97,8 +94,8 @@ last_named opening s a mark f k lo hi (Done c ∷ h) l =
     rw (up_keep k (is_own a f c) (redo_of c) (own a f h))
     (⊎_elim
     (λ m. let u : f < c.op = subst (λ x. f < x) (sym m.1) lo in let v : c.op ≤ k = subst (λ x. x ≤ k) (sym m.1) hi in
-    rw (of_eq c.by a m.0, of_lt f c.op u, of_le c.op k v) (inl (some_version (change_at c.changes s) (logical opening h s) m.2)))
-    (λ m. rw (none_version (change_at c.changes s) (logical opening h s) m.0) (named_keep (is_own a f c && nat_le c.op k) (redo_of c) (up_to k (own a f h)) s (version_of (logical opening h s)) (last_named opening s a mark f k lo hi h m.1)))
+    rw (eq-eqb c.by a m.0, lt-ltb f c.op u, le-leb c.op k v) (inl (some_version (change_at c.changes s) (logical opening h s) m.2)))
+    (λ m. rw (unchanged (change_at c.changes s) (logical opening h s) m.0) (named_keep (is_own a f c && nat_le c.op k) (redo_of c) (up_to k (own a f h)) s (version_of (logical opening h s)) (last_named opening s a mark f k lo hi h m.1)))
     l)
 last_named opening s a mark f k lo hi (Doubt m ∷ h) l = last_named opening s a mark f k lo hi h l
 

@@ -1,5 +1,6 @@
 -- What is unseen, unmet and unsynced stays so, and covers stay where all that moved them stays.
 use Rattle.std.proofs.Common.{⊎_elim, IsTrue, ℕ, ◌<◌, ◌≤◌, ◌≡◌, inl, Bool, true, false, List, [], ◌∷◌, Option, Some, None, IsSome, refl, sym, ◌∙◌, ap, arith}
+use Rattle.std.proofs.lemmas.Bool.{cases_eq, leb-true}
 use Rattle.frang_base.specs.declared.lock.LockId.{LockId}
 use Rattle.frang_base.specs.Functions.{keep_if}
 use Rattle.frang_base.specs.Locks.{has_lock}
@@ -8,7 +9,7 @@ use Rattle.sector_world.specs.Histories.Item.{Done, Doubt}
 use Rattle.sector_world.specs.Histories.Entry.{Did, Recovered, Synced, Mounted}
 use Rattle.sector_world.specs.Seen.{moved, cover_of, Alters, IsLost, Unseen, Unmet, Unsynced}
 use Rattle.sector_world.specs.Plans.{IsClear}
-use Rattle.frang_base.proofs.Basics.{by_keep, or_equal, le_or_lt, le_of}
+use Rattle.frang_base.proofs.Basics.{by_keep, le_or_lt}
 use Rattle.sector_world.proofs.HistoryLaws.{each_map, each_kept}
 use Rattle.sector_world.proofs.Removals.{survives_own, survives_low}
 
@@ -72,21 +73,16 @@ cover_kept home s keep (Done c ∷ h) e =
     ∙ cover_step (c.moves s) (keep c) (cover_of home h s) e.0
 cover_kept home s keep (Doubt m ∷ h) e = cover_kept home s keep h e
 
-each_always : (P : Commit → Type 0) → ((x : Commit) → P x) → (g : List Item) → Each P g
-each_always P f [] = tt
-each_always P f (Done x ∷ g) = (f x, each_always P f g)
-each_always P f (Doubt m ∷ g) = each_always P f g
-
 -- what nobody saw is clear of what stays
 pub clear_survives : (d k : ℕ) (h : List Item) → OpsRise h → Unseen d k h → IsClear (survives d k) h
 clear_survives d k [] o u = tt
 clear_survives d k (Done c ∷ h) o u = (
   (λ e s t. ⊎_elim
       (λ i. each_map (λ x. x.by ≡ c.by → x.op < c.op) (λ x. Changes s x → survives d k x ≡ true)
-      (λ x lt w. survives_low d k x (λ j. let m : x.op < c.op = lt (j ∙ sym i) in let n : c.op ≤ k = le_of c.op k (sym (survives_own d k c i) ∙ e) in omega arith)) h o.0)
+      (λ x lt w. survives_low d k x (λ j. let m : x.op < c.op = lt (j ∙ sym i) in let n : c.op ≤ k = leb-true c.op k (sym (survives_own d k c i) ∙ e) in omega arith)) h o.0)
       (λ i. each_map (λ x. IsLost d k x → Alters s x → ⊥) (λ x. Changes s x → survives d k x ≡ true)
       (λ x f w. survives_low d k x (λ j. ⊎_elim (λ l. l) (λ l. absurd (f (record { of = j; above = l }) (inl w))) (le_or_lt x.op k))) h (u.0 i s (inl t)))
-      (or_equal c.by d)),
+      (cases_eq c.by d)),
   clear_survives d k h o.1 u.1,
 )
 clear_survives d k (Doubt m ∷ h) o u = clear_survives d k h o u

@@ -1,5 +1,6 @@
 -- Which sectors have versions, through all events.
 use Rattle.std.proofs.Common.{true, false, List, [], ◌∷◌, Bool, IsTrue, IsSome, if◌then◌else◌, ⊎_elim, le_trans, ℕ, ◌-◌, ◌<◌, ◌≤◌, ◌≡◌, ◌⊎◌, inl, inr, Option, Some, None, refl, sym, ◌∙◌, ap, subst, arith}
+use Rattle.std.proofs.lemmas.Bool.{false_from_ne_true, cases_eq}
 use Rattle.frang_base.specs.declared.lock.LockId.{LockId}
 use Rattle.frang_base.specs.declared.lock.Mode.{Mode}
 use Rattle.frang_base.specs.declared.lock.Mode.TheVariants.{Sole}
@@ -11,7 +12,7 @@ use Rattle.sector_world.specs.Histories.{Fill, Commit, Item, kept, survives, set
 use Rattle.sector_world.specs.Histories.Item.{Done, Doubt}
 use Rattle.sector_world.specs.HistoryBytes.{is_free_by, is_free, AllWritten}
 use Rattle.sector_world.specs.Seen.{Alters, Unseen, IsLost}
-use Rattle.frang_base.proofs.Basics.{by_test, le_or_lt, or_equal, at_put, at_put2, by_keep}
+use Rattle.frang_base.proofs.Basics.{by_test, le_or_lt, at_put, at_put2, by_keep}
 use Rattle.sector_world.proofs.HistoryLaws.{each_map, each_map2, each_kept, unchanged}
 use Rattle.sector_world.proofs.Removals.{survives_low}
 use Rattle.sector_world.proofs.Bytes.{survives_up, none_writes, free_kept, data_in_place}
@@ -205,7 +206,7 @@ claimed_kept first s d k (Done a ∷ h) o u m c =
           (λ e lt z. survives_low d k e (λ y. let x : e.op < a.op = lt (y ∙ sym q) in let n : a.op ≤ k = survives_up d k a q i in omega arith)) h o.0)
           (λ q. each_map2 (λ e. IsLost d k e → Alters s e → ⊥) (λ e. e.claims s ≡ true → Moves s e) (λ e. e.claims s ≡ true → survives d k e ≡ true)
           (λ e f mv z. survives_low d k e (λ y. ⊎_elim (λ x. x) (λ x. absurd (f (record { of = y; above = x }) (inr (inl (mv z))))) (le_or_lt e.op k))) h (u.0 q s (inl (touches_changed a s j))) m.1)
-          (or_equal a.by d) in
+          (cases_eq a.by d) in
           ap (λ x. if a.claims s then true else x) (logged_kept first s (survives d k) h stay) ∙ c.0 j),
       claimed_kept first s d k h o.1 u.1 m.1 c.1,
     ))
@@ -240,12 +241,8 @@ kinds_fetch w a s can g = record { zero = g.zero; claimed = g.claimed; moving = 
 pub kinds_clear : (w : World) (a s : ℕ) → CanClear w a s → Kinds w → Kinds (after w (Clear a s))
 kinds_clear w a s can g = record { zero = g.zero; claimed = g.claimed; moving = g.moving; landed = g.landed; cleared = g.cleared; empty = page_put w a s (DirtyPage zero_block (w.last a)) can.plain g }
 
-true_or_false : (b : Bool) → (b ≡ true → ⊥) → b ≡ false
-true_or_false true n = absurd (n refl)
-true_or_false false n = refl
-
 dirty_plain : (w : World) (a s : ℕ) (block : Block) (mark : ℕ) → w.page a s ≡ DirtyPage block mark → Kinds w → has_version w s ≡ false
-dirty_plain w a s block mark e g = true_or_false (has_version w s) (λ v. let q : w.page a s ≡ NoPage = g.empty a s v in cc)
+dirty_plain w a s block mark e g = false_from_ne_true (has_version w s) (λ v. let q : w.page a s ≡ NoPage = g.empty a s v in cc)
 
 pub kinds_settle : (w : World) (a s : ℕ) (block : Block) (mark : ℕ) → CanSettle w a s block mark → Kinds w → Kinds (after w (Settle a s block mark))
 kinds_settle w a s block mark can g = record { zero = g.zero; claimed = g.claimed; moving = g.moving; landed = g.landed; cleared = g.cleared; empty = page_put w a s (CleanPage block) (dirty_plain w a s block mark can.dirty g) g }
@@ -271,7 +268,7 @@ pub kinds_break : (w : World) (s : ℕ) (f : ByteFlight) → Kinds w → Kinds (
 kinds_break w s f g = kinds_fade w s f g
 
 pub landed_plain : (w : World) (s : ℕ) (f : ByteFlight) → CanLandBytes w s f → Kinds w → has_version w s ≡ false
-landed_plain w s f can g = true_or_false (has_version w s) (λ v. g.landed s f v can.there can.in_time)
+landed_plain w s f can g = false_from_ne_true (has_version w s) (λ v. g.landed s f v can.there can.in_time)
 
 landed_cleared : (w : World) (s : ℕ) (f : ByteFlight) → CanLandBytes w s f → Kinds w → (t : ℕ) → has_version w t ≡ true → w.logged t ≡ false → (put w.bytes s f.block t ≡ zero_block) × (is_free w.first (settled w.history) t ≡ true) × AllWritten w.durable t (settled w.history)
 landed_cleared w s f can g t v n =

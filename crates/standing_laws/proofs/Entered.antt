@@ -1,24 +1,17 @@
 -- What is found among the entries that are read off a directory's places, and that they are in order.
-use Rattle.std.proofs.Common.{◌≡◌, ◌≢◌, ℕ, zero, suc, ◌<◌, ◌⊎◌, inl, inr, ⊎_elim, true, false, not, Option, Some, None, List, [], is_some, refl, sym, ◌∙◌, ap, subst, arith}
-use Rattle.std.proofs.lemmas.Bool.{cases_Bool, cases_order, both_ways, not-true, and_parts}
+use Rattle.std.proofs.Common.{◌≡◌, ℕ, zero, suc, ◌<◌, ◌⊎◌, ⊎_elim, true, false, not, Option, Some, None, List, [], is_some, refl, sym, ◌∙◌, ap, subst, arith}
+use Rattle.std.proofs.lemmas.Bool.{cases_order, both_ways, not-true, and_parts}
 use Rattle.std.specs.List.Sorted.{IsStrictlySortedBy}
 use Rattle.std.specs.Map.{keys_of}
-use Rattle.std.specs.BTreeMap.{is_at}
 use Rattle.std.specs.Ordering.{nat_cmp}
 use Rattle.std.specs.Cmp.Lexicographic.{slice_cmp}
 use Rattle.tree_definitions.specs.Entries.{Entries, entry_at}
-use Rattle.tree_laws.proofs.Pairs.{tie, self, name_exact, found_put, found_other, sorted_put}
+use Rattle.tree_laws.proofs.Pairs.{name_exact, found_put, found_other, sorted_put}
 use Rattle.disk_definitions.specs.Store.{Store, StoredEntry}
 use Rattle.standing_laws.specs.ReadTree.{with_place, entries_to}
 use Rattle.standing_laws.specs.Soundness.{entry_agrees, entries_agree, has_kind}
 use Rattle.standing_laws.proofs.Bounded.{last_or_before, all_at}
-
--- two names are one or not
-pub same_name : (a b : List ℕ) → (a ≡ b) ⊎ (a ≢ b)
-same_name a b = ⊎_elim (λ e. inl (tie (slice_cmp nat_cmp) name_exact a b e)) (λ e. inr (λ s. both_ways (is_at (slice_cmp nat_cmp a) b) e (ap (λ x. is_at (slice_cmp nat_cmp a) x) (sym s) ∙ self_at a))) (cases_Bool (is_at (slice_cmp nat_cmp a) b))
-  where
-    self_at : (a : List ℕ) → is_at (slice_cmp nat_cmp a) a ≡ true
-    self_at a = self (slice_cmp nat_cmp) name_exact a
+use Rattle.standing_laws.proofs.Changes.{same_name}
 
 none_sorted : IsStrictlySortedBy (slice_cmp nat_cmp) (keys_of {K = List ℕ} {X = ℕ} [])
 unfolding IsStrictlySortedBy

@@ -1,6 +1,7 @@
 -- The walk to a name's directory goes through none of the births that it doesn't meet, so it stays where only those change.
-use Rattle.std.proofs.Common.{ℕ, ◌≡◌, ◌≢◌, ◌==◌, Bool, true, false, ◌||◌, Option, Some, None, List, [], ◌∷◌, refl, sym, ◌∙◌, ap, subst, eq-eqb}
+use Rattle.std.proofs.Common.{ℕ, ◌≡◌, ◌≢◌, ◌==◌, true, false, Option, Some, None, List, [], ◌∷◌, refl, sym, ◌∙◌, ap, subst, eq-eqb}
 use Rattle.std.specs.List.{list_any}
+use Rattle.std.proofs.lemmas.Bool.{or_parts}
 use Rattle.frang_base.specs.declared.reply.Reply.{Reply}
 use Rattle.frang_base.specs.declared.reply.Reply.TheVariants.{NoEnt, NotDir}
 use Rattle.tree_definitions.specs.declared.node.Node.{Node}
@@ -20,16 +21,12 @@ LeadsTo (Taken dir es n name b) to = dir ≡ to
 LeadsTo (Free dir es n name) to = dir ≡ to
 LeadsTo (Nowhere r) to = ⊥
 
-neither : (x y : Bool) → x || y ≡ false → (x ≡ false) × (y ≡ false)
-neither false y h = (refl, h)
-neither true y h = absurd (cc)
-
 -- the birth isn't among these
 abbrev pub IsClear : ℕ → List ℕ → Type 0
 IsClear b bs = list_any (λ x. x == b) bs ≡ false
 
 clear_head : (b c : ℕ) (bs : List ℕ) → IsClear b (c ∷ bs) → c ≢ b
-clear_head b c bs h e = absurd (let z : (c == b) ≡ true = eq-eqb c b e in let y : (c == b) ≡ false = (neither (c == b) (list_any (λ x. x == b) bs) h).0 in cc)
+clear_head b c bs h e = absurd (let z : (c == b) ≡ true = eq-eqb c b e in let y : (c == b) ≡ false = (or_parts (c == b) (list_any (λ x. x == b) bs) h).0 in cc)
 
 module _ (t : FileTree) where
   -- a walk from what is no directory leads nowhere
@@ -102,7 +99,7 @@ module _ (t : FileTree) where
             → (es : Entries) (n : ℕ) (o : Option ℕ) → find_in (node_at t a) name ≡ o → below (place_by a es n name o) (λ c. place_from t c (next ∷ names)) ≡ p
             → IsClear b (walked_by (place_by a es n name o) a (λ c. walked_from t c (next ∷ names))) → IsReachedAt (node_at u) to
         entry on es n (Some v) f e h =
-            let rest : IsClear b (walked_from t v (next ∷ names)) = (neither (a == b) (list_any (λ x. x == b) (walked_from t v (next ∷ names))) h).1 in
+            let rest : IsClear b (walked_from t v (next ∷ names)) = (or_parts (a == b) (list_any (λ x. x == b) (walked_from t v (next ∷ names))) h).1 in
             on v e rest (reached_on (node_at u) a v name r (stays a v name next names f (first_met b v next names to (subst (λ q. LeadsTo q to) (sym e) l) rest) e))
         entry on es n None f e h = absurd (subst (λ q. LeadsTo q to) (sym e) l)
 

@@ -9,9 +9,9 @@ use Rattle.tree_definitions.specs.declared.node.Node.{Node}
 use Rattle.tree_definitions.specs.declared.node.Node.TheVariants.{Dir, File, Link}
 use Rattle.tree_definitions.specs.Entries.{Entries, entry_at}
 use Rattle.tree_definitions.specs.Tree.{FileTree, node_at}
-use Rattle.tree_definitions.specs.Apply.{is_dir}
 use Rattle.tree_laws.specs.WellFormed.{IsWellFormed}
 use Rattle.tree_laws.proofs.Keeping.{names_nodes}
+use Rattle.tree_laws.proofs.Places.{dir_is_some}
 use Rattle.disk_definitions.specs.Store.{Store, StoredNode, store_of}
 use Rattle.standing_laws.specs.ReadTree.{place_at, byte_at, entries_to, read_node, tree_in, read_tree}
 use Rattle.standing_laws.specs.Renaming.{CellsAgree, EntriesAgree, SameNode, IsRenaming}
@@ -103,7 +103,7 @@ module _ (to back too home : ℕ → ℕ) where
   pub both_renamed : (one two read : FileTree) → IsWellFormed two → IsRenaming to back one read → IsRenaming too home two read → ((b : ℕ) (y : Node) → node_at read b ≡ Some y → HasBytes y) → IsRenaming (λ b. home (to b)) (λ b. back (too b)) one two
   both_renamed one two read w r q bytes = record {
     segments = r.segments ∙ sym q.segments;
-    root = ap home (r.root ∙ sym q.root) ∙ (q.forth 0 (root_there (node_at two 0) w.rooted)).1;
+    root = ap home (r.root ∙ sym q.root) ∙ (q.forth 0 (dir_is_some (node_at two 0) w.rooted)).1;
     forth = λ b h. (let a = r.forth b h in let c = q.home (to b) a.0 in (c.0, ap back c.1 ∙ a.1));
     home = λ b h. (let a = q.forth b h in let c = r.home (too b) a.0 in (c.0, ap home c.1 ∙ a.1));
     nodes = λ b x y e f. (
@@ -113,10 +113,6 @@ module _ (to back too home : ℕ → ℕ) where
         same_nodes x y z.0 (r.nodes b x z.0 e z.1) (q.nodes (home (to b)) y z.0 f (ap (node_at read) c.1 ∙ z.1)) (bytes (to b) z.0 z.1)
         (λ fs n g name v i. (q.forth v (names_nodes two w (home (to b)) fs n name v (f ∙ ap (λ y. Some y) g) i)).1));
   }
-    where
-      root_there : (o : Option Node) → is_dir o ≡ true → is_some o ≡ true
-      root_there None h = absurd (cc)
-      root_there (Some y) h = refl
 
 pub stands_for_one : StandsForOne
 stands_for_one sectors one two h k =

@@ -2,7 +2,7 @@
 use Rattle.std.proofs.Common.{◌==◌, ◌≡◌, ℕ, ◌+◌, ◌-◌, ◌*◌, ◌/◌, ◌%◌, ◌<◌, ◌≤◌, ⊎_elim, Bool, true, false, not, ◌||◌, Option, Some, None, is_some, cond, refl, sym, ◌∙◌, ap, subst, arith, nat_lt, ltb-true, lt-ltb}
 use Rattle.std.specs.Option.{option_map}
 use Rattle.std.proofs.lemmas.Bool.{or_cases, cases_lt, cond-true, both_ways, not-true}
-use Rattle.std.proofs.lemmas.Nat.{div-mul-add, mod-mul-add, div-add-mod'}
+use Rattle.std.proofs.lemmas.Nat.{div-mul-add, mod-mul-add}
 use Rattle.tree_definitions.specs.Tree.{small_blocks_of}
 use Rattle.disk_definitions.specs.Store.{Store, StoredNode, StoredEntry, Use, is_unused}
 use Rattle.disk_definitions.specs.Store.Use.{Fresh, Bytes, Empty, Entries as OfEntries}
@@ -17,9 +17,6 @@ use Rattle.standing_laws.proofs.Pictured.{IsInRange, naming_of, slot_pair, is_em
 -- the place of index j of inode b
 pub place_is : (b j : ℕ) → j < 16 → ((b * 16 + j) / 16 ≡ b) × ((b * 16 + j) % 16 ≡ j)
 place_is b j h = (div-mul-add b 16 j h, mod-mul-add b 16 j h)
-
-pair_is : (t b j : ℕ) → t / 16 ≡ b → t % 16 ≡ j → slot_pair t ≡ slot_pair (b * 16 + j)
-pair_is t b j e f = ap slot_pair (sym (div-add-mod' t 16) ∙ ap (λ q. q * 16 + t % 16) e ∙ ap (λ r. b * 16 + r) f)
 
 -- a block that is found at an index
 pub in_slot : (o : Option StoredNode) (j k : ℕ) → block_in o j ≡ Some k → (x : StoredNode) × (o ≡ Some x) × (j < x.blocks) × (x.small j ≡ k)

@@ -2,6 +2,7 @@
 use Rattle.std.proofs.Common.{◌≡◌, ℕ, ◌+◌, ◌-◌, ◌*◌, ◌/◌, ◌%◌, ◌<◌, ◌≤◌, ⊎_elim, Bool, true, false, not, ◌||◌, Option, Some, None, is_some, refl, sym, ◌∙◌, ap, subst, arith, nat_lt, ltb-true, lt-ltb}
 use Rattle.std.proofs.lemmas.Bool.{cases_lt, cond-true, cond-false, both_ways, not_from_false, or_left, or_right}
 use Rattle.std.proofs.lemmas.Nat.{div-add-mod'}
+use Rattle.std.proofs.lemmas.Option.{same_Some}
 use Rattle.tree_definitions.specs.declared.node.Node.{Node}
 use Rattle.tree_definitions.specs.declared.node.Node.TheVariants.{Dir, File, Link}
 use Rattle.disk_definitions.specs.Store.{Store, StoredNode, Use, is_unused}
@@ -15,7 +16,7 @@ use Rattle.standing_laws.proofs.Pictured.{IsInRange}
 use Rattle.standing_laws.proofs.PicturedBlocks.{place_is, in_slot, slot_in, few, in_large}
 use Rattle.standing_laws.proofs.Stored.{made_by, made_kind, made_blocks, made_small, made_large, large_made, of_birth, of_inode}
 
-agree_same : (a b : Bool) → a ≡ b → agree a b ≡ true
+pub agree_same : (a b : Bool) → a ≡ b → agree a b ≡ true
 agree_same true b e = sym e
 agree_same false b e = ap not (sym e)
 
@@ -27,9 +28,6 @@ used_for (Link target links) j l = absurd (omega arith)
 unused_free : (was : Bool) (at : Nodes) → is_unused (use_for was at None) ≡ true
 unused_free true at = refl
 unused_free false at = refl
-
-same_pair : (x y : ℕ × ℕ) → Some x ≡ Some y → x ≡ y
-same_pair x y e = cc
 
 same_place : (t u : ℕ) → t / 16 ≡ u / 16 → t % 16 ≡ u % 16 → t ≡ u
 same_place t u e f = sym (div-add-mod' t 16) ∙ ap (λ q. q * 16 + t % 16) e ∙ ap (λ r. u / 16 * 16 + r) f ∙ div-add-mod' u 16
@@ -67,7 +65,7 @@ module _ (segments : ℕ) (s : Store) (range : IsInRange segments s) (shapes : (
       let g = of_inode s at n p (u / 16) b.0 b.1 in
       let x : n.owner k ≡ Some (h.birth, t % 16) = ap n.owner (sym a.3) ∙ owner (t / 16) a.0 a.1 (t % 16) a.2 in
       let y : n.owner k ≡ Some (g.birth, u % 16) = ap n.owner (sym b.3) ∙ owner (u / 16) b.0 b.1 (u % 16) b.2 in
-      let q : (h.birth, t % 16) ≡ (g.birth, u % 16) = same_pair (h.birth, t % 16) (g.birth, u % 16) (sym x ∙ y) in
+      let q : (h.birth, t % 16) ≡ (g.birth, u % 16) = same_Some (h.birth, t % 16) (g.birth, u % 16) (sym x ∙ y) in
       same_place t u (sym h.numbered ∙ ap (λ v. n.inode v.0) q ∙ g.numbered) (ap (λ v. v.1) q)
 
   pub blocks_once : are_distinct (block_at s) (1024 * segments) ≡ true

@@ -1,5 +1,5 @@
 -- In a store that pictures a tree the nodes and names are those of the tree that is read off it, with inodes for births.
-use Rattle.std.proofs.Common.{◌==◌, ◌≡◌, ℕ, suc, ◌+◌, ◌*◌, ◌/◌, ◌%◌, ◌<◌, true, false, not, Option, Some, None, List, [], ◌∷◌, is_some, length, sum_by, refl, sym, ◌∙◌, ap, subst, arith, eq-eqb, unwrap_or}
+use Rattle.std.proofs.Common.{◌==◌, ◌≡◌, ℕ, suc, ◌+◌, ◌*◌, ◌/◌, ◌%◌, ◌<◌, true, not, Option, Some, None, List, [], ◌∷◌, is_some, length, sum_by, refl, sym, ◌∙◌, ap, subst, arith, eq-eqb, unwrap_or}
 use Rattle.std.specs.Option.{option_map}
 use Rattle.std.specs.Map.{values_of}
 use Rattle.std.specs.Ordering.{nat_cmp}
@@ -39,10 +39,6 @@ values (x ∷ xs) = ap suc (values xs)
 pub first_is : (o : Option ℕ) → is_some o ≡ true → (v : ℕ) × (o ≡ Some v)
 first_is None h = absurd (cc)
 first_is (Some v) h = (v, refl)
-
-is_none : (o : Option ℕ) → is_some o ≡ false → o ≡ None
-is_none None h = refl
-is_none (Some v) h = absurd (cc)
 
 module _ (segments : ℕ) (s : Store) (range : IsInRange segments s) (t : FileTree) (w : IsWellFormed t) (n : Naming) (p : Pictures s (node_at t) n) where
   abbrev pub at : Nodes

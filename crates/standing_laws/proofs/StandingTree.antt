@@ -14,6 +14,7 @@ use Rattle.tree_definitions.specs.Apply.{links_of, is_dir}
 use Rattle.tree_laws.specs.WellFormed.{IsWellFormed, one_at, names_in, names_of}
 use Rattle.tree_laws.proofs.Pairs.{name_exact, birth_exact}
 use Rattle.tree_laws.proofs.Balance.{one_own, one_other}
+use Rattle.tree_laws.proofs.Places.{dir_is_some}
 use Rattle.disk_definitions.specs.Store.{Store, StoredNode, store_of}
 use Rattle.disk_definitions.specs.Naming.{Naming, Nodes, Pictures, find_in, cell_in, file_byte}
 use Rattle.disk_definitions.specs.Standing.{IsReached, reached_from, StandsFor}
@@ -158,11 +159,7 @@ module _ (segments : ℕ) (s : Store) (range : IsInRange segments s) (t : FileTr
       go (Some y) e = ap is_some (of_birth s at n p b y e)
 
   root_there : is_some (at 0) ≡ true
-  root_there = go (at 0) w.rooted
-    where
-      go : (o : Option Node) → is_dir o ≡ true → is_some o ≡ true
-      go None h = absurd (cc)
-      go (Some y) h = refl
+  root_there = dir_is_some (at 0) w.rooted
 
   module _ (root : n.inode 0 ≡ 0) where
     links_at : (i : ℕ) (o : Option StoredNode) → s.inode i ≡ o → names_of (tree_in segments s) i + one_at 0 i ≡ links_of (read i)

@@ -9,6 +9,7 @@ use Rattle.tree_definitions.specs.Perform.{resolved}
 use Rattle.tree_definitions.specs.Removal.{step_writes}
 use Rattle.tree_definitions.specs.Touched.{changes, is_sync, touches, visited}
 use Rattle.std.specs.List.{list_any}
+use Rattle.std.proofs.lemmas.Bool.{false_from_ne_true}
 use Rattle.tree_definitions.specs.Tree.{FileTree}
 use Rattle.tree_laws.specs.Doubts.{entry_writes}
 use Rattle.tree_laws.proofs.HistoryLaws.{after_all-push}
@@ -16,10 +17,6 @@ use Rattle.tree_laws.proofs.OwnReplies.{answers_are_own}
 use Rattle.line_laws.specs.Laws.{HasPath}
 use Rattle.byte_trees.specs.Deeds.{Deed, Says, steps, tree_after}
 use Rattle.stop_laws.proofs.BytesShaped.{is_ok}
-
-none_if : (b : Bool) → (b ≡ true → ⊥) → b ≡ false
-none_if true f = absurd (f refl)
-none_if false f = refl
 
 -- ---- entries alone
 
@@ -35,7 +32,7 @@ writes_none t _ birth part e = absurd (cc)
 
 pub leaving_writes_none : (t : FileTree) (e : Entry) → leaves_tree e.op e.reply ≡ true → (birth part : ℕ) → entry_writes t e birth part ≡ false
 leaving_writes_none t e leaves birth part =
-    none_if (entry_writes t e birth part)
+    false_from_ne_true (entry_writes t e birth part)
     (λ writes.
     let ok : e.reply ≡ reply.Ok = is_ok t birth part (resolved t e.op).step e.reply writes in
     let none : step_writes t (resolved t e.op).step reply.Ok birth part ≡ false = writes_none t e.op birth part (subst (λ r. leaves_tree e.op r ≡ true) ok leaves) in
@@ -44,7 +41,7 @@ leaving_writes_none t e leaves birth part =
     cc)
 
 pub leaving_is_none : (t : FileTree) (e : Entry) → leaves_tree e.op e.reply ≡ true → is_answer t e ≡ false
-leaving_is_none t e leaves = none_if (is_answer t e) (λ is. let z : true ≡ false = sym leaves ∙ answers_are_own t e is in cc)
+leaving_is_none t e leaves = false_from_ne_true (is_answer t e) (λ is. let z : true ≡ false = sym leaves ∙ answers_are_own t e is in cc)
 
 pub leaving_touches_none : (t : FileTree) (e : Entry) → leaves_tree e.op e.reply ≡ true → (birth : ℕ) → touches t e birth ≡ false
 leaving_touches_none t e leaves birth = ap (λ b. b && (changes t e birth || list_any (λ b. b == birth) ((resolved t e.op).trail ++ visited t (resolved t e.op).step e.reply))) (leaving_is_none t e leaves)

@@ -1,7 +1,7 @@
 -- Along each history that is told twice operations see what is under their locks, and marks of doubt stay covered.
 use Rattle.std.proofs.Common.{ℕ, ◌≡◌, ◌≤◌, Bool, true, false, if◌then◌else◌, nat_eq, Option, List, [], ◌∷◌, refl, sym, ap, subst, arith, le_refl}
+use Rattle.std.proofs.lemmas.Bool.{eq-eqb, eqb-true}
 use Rattle.frang_base.specs.declared.lock.LockId.{LockId}
-use Rattle.frang_base.proofs.Basics.{eq_of, of_eq}
 use Rattle.tree_definitions.specs.Tree.{FileTree}
 use Rattle.sector_bytes.specs.Blocks.{Block}
 use Rattle.sector_world.specs.Histories.{Each, Entry, settled, survives, synced_of}
@@ -84,11 +84,11 @@ module _ (segments : ℕ) (when : ℕ → ℕ) (opening : ℕ → Block) (first_
     above other = go (nat_eq server other) refl
       where
         go : (b : Bool) → nat_eq server other ≡ b → recovered_to (on_sectors older) other ≤ (if b then durable else recovered_to (on_sectors older) other)
-        go true is = subst (λ s. recovered_to (on_sectors older) s ≤ durable) (eq_of server other is) rise.0
+        go true is = subst (λ s. recovered_to (on_sectors older) s ≤ durable) (eqb-true server other is) rise.0
         go false is = le_refl (recovered_to (on_sectors older) other)
 
     own_number : recovered_to (on_sectors (Recovers server greatest durable ∷ older)) server ≡ durable
-    own_number = ap (λ (b : Bool). if b then durable else recovered_to (on_sectors older) server) (of_eq server server refl)
+    own_number = ap (λ (b : Bool). if b then durable else recovered_to (on_sectors older) server) (eq-eqb server server refl)
 
     pub goes_here : MayGo segments when opening first_tree numbers server durable (items deeds)
     goes_here = subst (MayGo segments when opening first_tree numbers server durable) (sym (same older paired.1)) (goes server greatest durable older paired.0 k.0 k.1 saw)

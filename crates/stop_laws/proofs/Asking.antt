@@ -1,7 +1,8 @@
 -- What is asked of a history holds of it with the recoveries of all logs, in their order.
 use Rattle.std.proofs.Common.{ℕ, zero, suc, ◌≡◌, ◌≢◌, ◌≤◌, Bool, true, false, if◌then◌else◌, nat_eq, List, [], ◌∷◌, refl, sym, ◌∙◌, ap, ap₂, subst, arith, le_refl}
+use Rattle.std.proofs.lemmas.Bool.{eqb-true}
 use Rattle.frang_base.specs.Functions.{keep_if}
-use Rattle.frang_base.proofs.Basics.{by_keep, eq_of}
+use Rattle.frang_base.proofs.Basics.{by_keep}
 use Rattle.tree_definitions.specs.Tree.{FileTree}
 use Rattle.sector_world.specs.Histories.{Each, Item, OpsRise, kept, recovered, settled, survives, synced_of}
 use Rattle.sector_world.specs.Histories.Item.{Done, Doubt}
@@ -95,7 +96,7 @@ module _ (segments : ℕ) (when : ℕ → ℕ) (times : AreTimes when) (first : 
   }
     where
       go : (server : ℕ) (b : Bool) → nat_eq n server ≡ b → (if b then w.durable n else recovered_to (on_sectors now) server) ≤ w.durable server
-      go server true is = subst (λ x. w.durable n ≤ w.durable x) (eq_of n server is) (le_refl (w.durable n))
+      go server true is = subst (λ x. w.durable n ≤ w.durable x) (eqb-true n server is) (le_refl (w.durable n))
       go server false is = stage.below server
 
   by_stage : (n : ℕ) (now : List Happening) → IsStage now (left w n) → (p : Phase) → w.phase n ≡ p →

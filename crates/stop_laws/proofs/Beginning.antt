@@ -2,7 +2,7 @@
 use Rattle.std.proofs.Common.{ℕ, ◌≡◌, ◌≢◌, ◌≤◌, ◌<◌, ◌+◌, ◌*◌, ◌/◌, Bool, true, false, not, if◌then◌else◌, Option, Some, None, is_some, List, [], length, refl, sym, ◌∙◌, ap, subst, arith, ltb-true}
 use Rattle.std.proofs.Math.Path.{fun_ext}
 use Rattle.std.specs.Option.{option_and_then, unwrap_or}
-use Rattle.frang_base.proofs.Basics.{of_lt, of_ne}
+use Rattle.std.proofs.lemmas.Bool.{ne_eqb, lt-ltb}
 use Rattle.frang_base.specs.declared.lock.LockId.{LockId}
 use Rattle.frang_base.specs.declared.lock.LockId.TheVariants as lock
 use Rattle.tree_definitions.specs.Tree.{FileTree, fresh, node_at}
@@ -84,7 +84,7 @@ module _ (segments : ℕ) (home : ℕ → LockId) (logged : ℕ → Bool) (first
   free_home : (number : ℕ) (r : Region) (l : LockId) → region_of segments number ≡ Some r → number ≢ inodes_from → free_cover r ≡ Some l → home number ≡ l
   free_home number r l q far c =
       at_first.covers number l
-      (ap (λ (t : Bool). if t then Some (lock.Node 0) else option_and_then free_cover (region_of segments number)) (of_ne number inodes_from far) ∙ ap (option_and_then free_cover) q ∙ c)
+      (ap (λ (t : Bool). if t then Some (lock.Node 0) else option_and_then free_cover (region_of segments number)) (ne_eqb number inodes_from far) ∙ ap (option_and_then free_cover) q ∙ c)
 
   root_home : home inodes_from ≡ lock.Node 0
   root_home = at_first.covers inodes_from (lock.Node 0) refl
@@ -172,10 +172,10 @@ module _ (servers segments : ℕ) (some : 1 ≤ segments) (few : segments ≤ 64
   opens s = go (has_version_at_first (region_of segments s)) refl
     where
       in_segment : region_of segments bitmaps_from ≡ Some (region.Segment 0)
-      in_segment = region_found segments (region.Segment 0) few (of_lt 0 segments (omega arith))
+      in_segment = region_found segments (region.Segment 0) few (lt-ltb 0 segments (omega arith))
 
       in_inode : region_of segments inodes_from ≡ Some (region.Inode 0)
-      in_inode = region_found segments (region.Inode 0) few (of_lt 0 (64 * segments) (omega arith))
+      in_inode = region_found segments (region.Inode 0) few (lt-ltb 0 (64 * segments) (omega arith))
 
       counts : (t : ℕ) (r : Region) → region_of segments t ≡ Some r → has_version_at_first (Some r) ≡ true → has_version_at_first (region_of segments s) ≡ false → s ≢ t
       counts t r q v none e = let z : true ≡ false = sym v ∙ sym (ap has_version_at_first q) ∙ sym (ap (λ k. has_version_at_first (region_of segments k)) e) ∙ none in absurd (cc)

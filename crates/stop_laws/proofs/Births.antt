@@ -6,6 +6,7 @@ use Rattle.frang_base.specs.declared.lock.LockId.{LockId}
 use Rattle.frang_base.specs.declared.lock.LockId.TheVariants as lock
 use Rattle.frang_base.specs.declared.op.Op.{Op}
 use Rattle.frang_base.specs.declared.op.Op.TheVariants as op
+use Rattle.frang_base.proofs.Tests.{none_of}
 use Rattle.tree_definitions.specs.declared.node.Node.{Node}
 use Rattle.tree_definitions.specs.declared.node.Node.TheVariants.{Dir, File, Link}
 use Rattle.tree_definitions.specs.Perform.{perform}
@@ -44,10 +45,6 @@ use Rattle.stop_laws.proofs.Removing as removing
 use Rattle.stop_laws.proofs.Removing.{AllGuarded, IsGuarded, lost}
 
 -- ---- which nodes come
-
-none_of : {X : Type 0} (o : Option X) → is_some o ≡ false → o ≡ None
-none_of None e = refl
-none_of (Some x) e = absurd (cc)
 
 -- those of a tree, and one more
 abbrev old_or : FileTree → ℕ → Limits

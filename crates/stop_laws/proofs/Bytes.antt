@@ -1,10 +1,9 @@
 -- A store that says the shape of a tree says the tree once it has its bytes: each block has those of the node that has the block.
 use Rattle.std.proofs.Common.{ℕ, ◌≡◌, ◌+◌, ◌*◌, ◌-◌, ◌/◌, ◌%◌, ◌<◌, ◌≤◌, ⊎_elim, Bool, true, nat_lt, if◌then◌else◌, Option, Some, None, length, is_some, refl, sym, ◌∙◌, ap, subst, arith}
 use Rattle.std.proofs.Math.Path.{fun_ext}
-use Rattle.std.proofs.lemmas.Bool.{cases_lt}
+use Rattle.std.proofs.lemmas.Bool.{cases_lt, le-ltb, lt-ltb}
 use Rattle.std.proofs.lemmas.List.{length-map}
 use Rattle.std.proofs.lemmas.Option.{slice_get_within}
-use Rattle.frang_base.proofs.Basics.{of_ge, of_lt}
 use Rattle.tree_definitions.specs.declared.cells.Cell.{Cell}
 use Rattle.tree_definitions.specs.declared.cells.Cell.TheVariants.{Byte, Doubtful}
 use Rattle.tree_definitions.specs.declared.node.Node.{Node}
@@ -45,7 +44,7 @@ small_byte t n block index = small_in t index (n.owner block)
 pub large_byte : FileTree → Naming → ℕ → ℕ → ℕ
 large_byte t n block index = large_in t index (n.large_owner block)
 
-has_block : (size at : ℕ) → at < 65536 → at < size → at / 4096 < small_blocks_of size
+pub has_block : (size at : ℕ) → at < 65536 → at < size → at / 4096 < small_blocks_of size
 has_block size at l m = omega arith
 
 -- the block that a cell of a file lies in
@@ -63,7 +62,7 @@ module _ (j : ℕ) (c : Cell) where
   in_large (Some (Link target links)) is high = absurd (cc)
   in_large (Some (File cells links when)) is high =
       let inside : j < length cells = slice_get_within cells j c is in
-      subst (λ size. nat_lt 65536 size ≡ true) (sym (length-map cells (λ c. Doubtful))) (of_lt 65536 (length cells) (omega arith))
+      subst (λ size. nat_lt 65536 size ≡ true) (sym (length-map cells (λ c. Doubtful))) (lt-ltb 65536 (length cells) (omega arith))
 
 module _ (s : Store) (t : FileTree) (n : Naming) (well : IsWellFormed t) (of : IsOfTree s (shape_of t) n) where
   shape_pictures : Pictures s (λ b. shaped (node_at t b)) n
@@ -78,7 +77,7 @@ module _ (s : Store) (t : FileTree) (n : Naming) (well : IsWellFormed t) (of : I
           let owned = shape_pictures.owned b (j / 4096) (in_small j c (node_at t b) is low) in
           let here : 4096 * (j / 4096) + j % 4096 ≡ j = omega arith in
           let same : file_byte (with_bytes s (small_byte t n) (large_byte t n)) n b j ≡ value (Some c) =
-          ap (λ (q : Bool). if q then small_in t (j % 4096) (n.owner (n.block b (j / 4096))) else large_in t (j - 65536) (n.large_owner (n.large b))) (of_lt j 65536 low)
+          ap (λ (q : Bool). if q then small_in t (j % 4096) (n.owner (n.block b (j / 4096))) else large_in t (j - 65536) (n.large_owner (n.large b))) (lt-ltb j 65536 low)
           ∙ ap (small_in t (j % 4096)) owned ∙ ap (λ k. value (cell_in (node_at t b) k)) here ∙ ap value is in
           subst (Allows c) (sym same) (allowed c)
 
@@ -87,7 +86,7 @@ module _ (s : Store) (t : FileTree) (n : Naming) (well : IsWellFormed t) (of : I
           let owned = shape_pictures.larges b (in_large j c (node_at t b) is high) in
           let here : 65536 + (j - 65536) ≡ j = omega arith in
           let same : file_byte (with_bytes s (small_byte t n) (large_byte t n)) n b j ≡ value (Some c) =
-          ap (λ (q : Bool). if q then small_in t (j % 4096) (n.owner (n.block b (j / 4096))) else large_in t (j - 65536) (n.large_owner (n.large b))) (of_ge j 65536 high)
+          ap (λ (q : Bool). if q then small_in t (j % 4096) (n.owner (n.block b (j / 4096))) else large_in t (j - 65536) (n.large_owner (n.large b))) (le-ltb j 65536 high)
           ∙ ap (large_in t (j - 65536)) owned ∙ ap (λ k. value (cell_in (node_at t b) k)) here ∙ ap value is in
           subst (Allows c) (sym same) (allowed c)
 

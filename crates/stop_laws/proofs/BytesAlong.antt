@@ -39,10 +39,12 @@ use Rattle.disk_definitions.specs.Plans.{Hand, Finish}
 use Rattle.disk_definitions.specs.Plans.Plan.{Finishes}
 use Rattle.plan_laws.proofs.Covering.{map_has}
 use Rattle.std.proofs.lemmas.List.Elements.{Contains-append_left}
+use Rattle.std.proofs.lemmas.Bool.{both_ways}
 use Rattle.plan_laws.specs.Covers.{cover_of}
 use Rattle.line_laws.proofs.Told.{namings_agree}
 use Rattle.disk_definitions.specs.Lines.{plan_of_line}
 use Rattle.line_laws.proofs.Covered.{line_edits_covered}
+use Rattle.line_laws.proofs.Shaping.{some_shaped}
 use Rattle.line_histories.specs.Files.{HoldsBytes, IsWritten}
 use Rattle.line_histories.specs.LinePlans.{blocks_told, fill_by, hand_on, lock_in, sector_plan, segment_lock, store_on, without_bytes}
 use Rattle.line_histories.specs.Outcomes.{IsOfAPlan, fill_shape}
@@ -72,18 +74,6 @@ use Rattle.stop_laws.proofs.Next.{ever_directories, finished, meets, naming_then
 use Rattle.stop_laws.proofs.BytesShaped.{by_shape, ok_aside}
 use Rattle.stop_laws.proofs.BytesShaped as shaped_steps
 use Rattle.stop_laws.proofs.Written.{some_shape, has_fill, has_bytes, value_written}
-
-some_shaped : (o : Option Node) → is_some (shaped o) ≡ is_some o
-some_shaped (Some x) = refl
-some_shaped None = refl
-
-clash : (b : Bool) → b ≡ true → b ≡ false → ⊥
-clash true e f = absurd (cc)
-clash false e f = absurd (cc)
-
-none_if : (b : Bool) → (b ≡ true → ⊥) → b ≡ false
-none_if true f = absurd (f refl)
-none_if false f = refl
 
 -- ---- a finished line, between two disks
 
@@ -230,7 +220,7 @@ module _ (segments : ℕ) (when : ℕ → ℕ) (times : AreTimes when) (opening 
           (has_bytes edits (number_of x) (not_given segments few (store_on segments next) edits step.fit step.small_back step.large_back x in_use) (sym fills ∙ e))
 
       lay : is_some (c.writes (number_of x)) ≡ false → LiesIn (store_on segments disk) (shape_of state.tree) naming b t x
-      lay none = ⊎_elim (λ w. absurd (clash (is_some (c.writes (number_of x))) (written_fills w) none)) (λ r. r.0) kept
+      lay none = ⊎_elim (λ w. absurd (both_ways (is_some (c.writes (number_of x))) none (written_fills w))) (λ r. r.0) kept
 
       -- ---- which lock covers it
       locks_used : (lock : LockId) → Contains finish.locks (lock, Sole) → has_lock lock c.uses ≡ true

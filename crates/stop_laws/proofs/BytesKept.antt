@@ -1,8 +1,7 @@
 -- Over a store with the bytes of a tree's files a line is planned as over the tree that has each of these bytes.
-use Rattle.std.proofs.Common.{ℕ, suc, ◌≡◌, ◌≤◌, ◌==◌, true, Option, Some, None, List, [], ◌∷◌, is_some, length, nat_eq, eq-eqb, refl, sym, ◌∙◌, ap, subst}
+use Rattle.std.proofs.Common.{ℕ, suc, ◌≡◌, ◌≤◌, true, Option, Some, None, List, [], ◌∷◌, is_some, length, eq-eqb, refl, sym, ◌∙◌, ap, subst}
 use Rattle.std.proofs.Math.Path.{fun_ext}
 use Rattle.std.proofs.lemmas.Bool.{and_from}
-use Rattle.std.specs.Cmp.Lexicographic.{pointwise}
 use Rattle.std.specs.Option.{option_map}
 use Rattle.frang_base.specs.declared.reply.Reply.{Reply}
 use Rattle.frang_base.specs.declared.reply.Reply.TheVariants as reply
@@ -12,15 +11,14 @@ use Rattle.tree_definitions.specs.declared.history.Entry.{Entry}
 use Rattle.tree_definitions.specs.declared.node.Node.{Node}
 use Rattle.tree_definitions.specs.declared.node.Node.TheVariants.{Dir, File, Link}
 use Rattle.tree_definitions.specs.Apply.{Answer, Applied, Plain, Shows, is_path_op}
-use Rattle.tree_definitions.specs.History.{agrees, applied, cell_shows, cells_show, contents_are, is_answer, same_reply}
+use Rattle.tree_definitions.specs.History.{agrees, applied, cell_shows, cells_show, is_answer, same_reply}
 use Rattle.tree_definitions.specs.Perform.{perform}
-use Rattle.tree_definitions.specs.SaidLines.{reply_word}
 use Rattle.tree_definitions.specs.Touched.{shape_of}
 use Rattle.tree_definitions.specs.Tree.{FileTree, node_at}
 use Rattle.tree_laws.specs.Rooms.{SameRoom}
-use Rattle.tree_laws.proofs.Sameness.{text_same, pointwise_same}
 use Rattle.tree_laws.proofs.ShapeNodes.{found, shaped}
 use Rattle.tree_laws.proofs.ShapeResolving.{perform_shape}
+use Rattle.tree_laws.proofs.Replies.{same_self}
 use Rattle.disk_definitions.specs.Naming.{Allows, Naming, Pictures, file_byte}
 use Rattle.disk_definitions.specs.Store.{Store}
 use Rattle.disk_definitions.specs.Edits.{edited_all}
@@ -39,19 +37,6 @@ use Rattle.stop_laws.specs.Keeping.{FinishesOver, KeepsBytes, LinesKeepBytes}
 use Rattle.stop_laws.proofs.BytesTold.{told_same}
 
 -- ---- answers
-same_contents : (r : Reply) → contents_are r r ≡ true
-same_contents (reply.Shown bytes) = text_same bytes
-same_contents (reply.File size links) = and_from (size == size) (links == links) (eq-eqb size size refl) (eq-eqb links links refl)
-same_contents (reply.Dir entries) = eq-eqb entries entries refl
-same_contents (reply.Symlink len) = eq-eqb len len refl
-same_contents (reply.Names names) = pointwise_same (pointwise nat_eq) text_same names
-same_contents (reply.Target target) = text_same target
-same_contents (reply.Time run tick) = and_from (run == run) (tick == tick) (eq-eqb run run refl) (eq-eqb tick tick refl)
-same_contents (reply.NoBlock m) = eq-eqb m m refl
-same_contents _ = refl
-
-same_self : (r : Reply) → same_reply r r ≡ true
-same_self r = and_from (pointwise nat_eq (reply_word r) (reply_word r)) (contents_are r r) (text_same (reply_word r)) (same_contents r)
 
 one_shown : (c : Cell) (b : ℕ) → Allows c b → cell_shows c b ≡ true
 one_shown (Byte x) b h = eq-eqb x b (sym h)

@@ -1,5 +1,6 @@
 -- What the end of a recovery marks keeps cells known.
 use Rattle.std.proofs.Common.{ℕ, ◌≡◌, ◌≤◌, ◌<◌, ◌+◌, ◌*◌, ◌/◌, ◌%◌, Bool, true, false, if◌then◌else◌, Option, Some, None, List, ◌∷◌, slice_index, refl, sym, ◌∙◌, ap, subst, arith}
+use Rattle.std.proofs.lemmas.Bool.{false_from_ne_true}
 use Rattle.frang_base.specs.declared.lock.LockId.{LockId}
 use Rattle.tree_definitions.specs.declared.cells.Cell.TheVariants as cell
 use Rattle.tree_definitions.specs.History.{InDoubt, doubted}
@@ -29,15 +30,8 @@ or_else : Option Block → Block → Block
 or_else None other = other
 or_else (Some block) other = block
 
-none_if : (b : Bool) → (b ≡ true → ⊥) → b ≡ false
-none_if true f = absurd (f refl)
-none_if false f = refl
-
 module _ (segments : ℕ) (when : ℕ → ℕ) (opening : ℕ → Block) (first_tree : FileTree) (numbers : List ℕ) (home : ℕ → LockId) (logged : ℕ → Bool) (first : ℕ → Option Block) (server number : ℕ) (deeds : List Deed)
     (told : IsToldTwice segments when opening first_tree numbers home logged first server number deeds) where
-  abbrev marked : ℕ → Bool
-  marked = in_doubt server number (items deeds)
-
   abbrev tree : FileTree
   tree = tree_after first_tree deeds
 
@@ -77,7 +71,7 @@ module _ (segments : ℕ) (when : ℕ → ℕ) (opening : ℕ → Block) (first_
         let was = (doubt_keeps tree (doubtful server first_tree (steps deeds)) b j x e).before in
         let place = stands_in segments (store_after segments opening (items deeds)) tree naming of_now b j (cell.Byte x) was in
         let lies : LiesAfter segments opening first_tree b (j / 512) (number_of place.sector) deeds = record { naming = naming; of = of_now; sector = place.sector; lies = place.lies; here = refl } in
-        let sure : in_doubt server number (items deeds) (number_of place.sector) ≡ false = none_if (in_doubt server number (items deeds) (number_of place.sector))
+        let sure : in_doubt server number (items deeds) (number_of place.sector) ≡ false = false_from_ne_true (in_doubt server number (items deeds) (number_of place.sector))
         (λ doubt. no_byte b (j / 512) (number_of place.sector) lies doubt j x (omega arith) (omega arith) e) in
         place.byte disk ∙ ap (λ block. slice_index block (j % 512)) (sym (same_there (number_of place.sector) sure)) ∙ sym (place.byte before)
         ∙ knows naming of_now before has_before b j (cell.Byte x) was

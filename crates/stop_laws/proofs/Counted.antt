@@ -11,7 +11,7 @@ use Rattle.disk_definitions.specs.Meets.{IsOfTree, is_directory_use, directory_b
 use Rattle.plan_laws.proofs.FileTotals.{is_bytes, files_counted}
 use Rattle.plan_laws.proofs.Totals.{blocks_counted}
 
-at_most : (u : Use) → one_if (not (is_unused u)) ≤ one_if (is_bytes u) + one_if (is_directory_use u)
+pub at_most : (u : Use) → one_if (not (is_unused u)) ≤ one_if (is_bytes u) + one_if (is_directory_use u)
 at_most Fresh = omega arith
 at_most Bytes = omega arith
 at_most Empty = omega arith

@@ -1,9 +1,10 @@
 -- A removal leaves the marks of doubt covered: another server's parts lay where they lie, and a server's own operations before its last recovery stay.
 use Rattle.std.proofs.Common.{ℕ, ◌≡◌, ◌≢◌, ◌≤◌, ◌<◌, ◌&&◌, ◌||◌, ◌==◌, not, ⊎_elim, Bool, true, false, if◌then◌else◌, is_some, nat_eq, nat_le, nat_lt, Option, Some, List, [], ◌∷◌, refl, sym, ◌∙◌, ap, subst, arith}
 use Rattle.std.proofs.lemmas.Bool.Decides.{nat_tests}
+use Rattle.std.proofs.lemmas.Bool.{cases_eq}
 use Rattle.frang_base.specs.Functions.{keep_if}
 use Rattle.frang_base.specs.declared.lock.LockId.{LockId}
-use Rattle.frang_base.proofs.Basics.{by_keep, or_equal}
+use Rattle.frang_base.proofs.Basics.{by_keep}
 use Rattle.tree_definitions.specs.History.{CellRun}
 use Rattle.tree_definitions.specs.Touched.{shape_of}
 use Rattle.tree_definitions.specs.Tree.{FileTree, node_at}
@@ -197,7 +198,7 @@ module _ (segments : ℕ) (when : ℕ → ℕ) (opening : ℕ → Block) (first_
   module _ (most : ℕ → ℕ) (within : most server ≤ durable) where
     covered_on : (marked : ℕ → Bool) (runs : List CellRun) (older : List Deed) → MayGo segments when opening first_tree numbers server durable (items older) → AreLines when older →
         AllSee home (items older) → IsCovered segments opening first_tree most marked runs older → IsCovered segments opening first_tree most marked runs (what_stays server durable older)
-    covered_on marked runs older may lines a its = ⊎_elim own another (or_equal its.server server)
+    covered_on marked runs older may lines a its = ⊎_elim own another (cases_eq its.server server)
       where
         own : its.server ≡ server → IsCovered segments opening first_tree most marked runs (what_stays server durable older)
         own same =

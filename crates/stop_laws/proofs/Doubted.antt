@@ -1,8 +1,6 @@
 -- Cells that come into doubt leave the shape of a tree.
-use Rattle.std.proofs.Common.{ℕ, ◌≡◌, ◌≢◌, Option, Some, None, List, [], ◌∷◌, length, refl, sym, ◌∙◌, ap, arith, length-append, length-drop}
-use Rattle.std.proofs.lemmas.List.{length-map, length-take}
+use Rattle.std.proofs.Common.{ℕ, ◌≡◌, ◌≢◌, Option, Some, None, List, [], ◌∷◌, refl, sym, ◌∙◌, ap}
 use Rattle.std.specs.Option.{option_map}
-use Rattle.tree_definitions.specs.declared.cells.Cell.{Cell}
 use Rattle.tree_definitions.specs.declared.node.Node.{Node}
 use Rattle.tree_definitions.specs.declared.node.Node.TheVariants.{Dir, File, Link}
 use Rattle.tree_definitions.specs.History.{CellRun, InDoubt, doubted, doubted_cells, doubted_file, file_of}
@@ -13,10 +11,7 @@ use Rattle.tree_laws.proofs.Nodes.{each_but, with_same, with_other}
 use Rattle.tree_laws.proofs.OrderLaws.{births_after, segments_after}
 use Rattle.tree_laws.proofs.ShapeLaws.{doubt_alike}
 use Rattle.tree_laws.proofs.SameShapes.{shape_at, same_shape}
-
--- cells that come into doubt are as many
-doubted_long : (cells : List Cell) (from count : ℕ) → length (doubted_cells cells from count) ≡ length cells
-doubted_long cells from count = simp (length-append, length-map, length-drop, length-take) (omega arith)
+use Rattle.tree_laws.proofs.RoomLaws.{doubted_long}
 
 module _ (t : FileTree) (birth from count : ℕ) where
   shape_there : (o : Option Node) → node_at t birth ≡ o → shape_at (doubted_file t (file_of birth o) from count) birth ≡ shape_at t birth

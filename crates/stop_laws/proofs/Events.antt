@@ -1,6 +1,7 @@
 -- Every event keeps sights and the order of recoveries.
 use Rattle.std.proofs.Common.{ℕ, ◌≡◌, ◌≤◌, Bool, true, false, if◌then◌else◌, nat_eq, refl, sym, ◌∙◌, subst, arith, le_refl}
-use Rattle.frang_base.proofs.Basics.{at_put, eq_of}
+use Rattle.std.proofs.lemmas.Bool.{eqb-true}
+use Rattle.frang_base.proofs.Basics.{at_put}
 use Rattle.sector_world.specs.Histories.{synced_of}
 use Rattle.sector_world.specs.Kinds.{Good}
 use Rattle.sector_world.specs.Steps.Event.{Tick, Leave, Fail, Renew, Mount, Unmount, Take, Give, Lower, Do, Reach, Ack, Sync, Reclaim, Crash, Begin, Look, Finish, Fetch, Issue, Replay, Land, Fade, Break, BreakNew, FetchBytes, Clear, IssueBytes, LandBytes, FadeBytes, BreakBytes, BreakBytesNew, Settle}
@@ -37,7 +38,7 @@ events_keep_sight w (Reach d k) can good s = record {
 events_keep_sight w (Finish r) can good s = record { saw = s.saw; showed = s.showed; rise = (s.below r.dead, s.rise); below = λ server. go server (nat_eq r.dead server) refl; syncs = s.syncs }
   where
     go : (server : ℕ) (b : Bool) → nat_eq r.dead server ≡ b → (if b then w.durable r.dead else recovered_to w.history server) ≤ w.durable server
-    go server true is = subst (λ x. w.durable r.dead ≤ w.durable x) (eq_of r.dead server is) (le_refl (w.durable r.dead))
+    go server true is = subst (λ x. w.durable r.dead ≤ w.durable x) (eqb-true r.dead server is) (le_refl (w.durable r.dead))
     go server false is = s.below server
 events_keep_sight w Tick can good s = record { saw = s.saw; showed = s.showed; rise = s.rise; below = s.below; syncs = s.syncs }
 events_keep_sight w Leave can good s = record { saw = s.saw; showed = s.showed; rise = s.rise; below = s.below; syncs = s.syncs }

@@ -1,8 +1,8 @@
 -- Two servers over a fresh disk, by the laws of histories.
-use Rattle.std.proofs.Common.{ℕ, ◌≡◌, ◌≢◌, false, nat_eq, Some, List, [], ◌∷◌, refl, subst, arith, lit<}
+use Rattle.std.proofs.Common.{ℕ, ◌≡◌, false, Some, List, [], ◌∷◌, refl, subst, arith, lit<}
+use Rattle.std.proofs.lemmas.Bool.{eqb-false}
 use Rattle.frang_base.specs.declared.op.Op.TheVariants as op
 use Rattle.frang_base.specs.declared.reply.Reply.TheVariants as reply
-use Rattle.frang_base.proofs.Basics.{ne_of}
 use Rattle.tree_definitions.specs.declared.node.Node.TheVariants.{Dir}
 use Rattle.tree_definitions.specs.Numbers.{below}
 use Rattle.tree_definitions.specs.Resolve.{resolve}
@@ -87,11 +87,8 @@ history_two = Done (creates_below two.0) ∷ history_one
 legal_two : Legal (sector_plan 1 at_zero) (fresh_disk 1) history_two
 legal_two = (two.1, legal_one)
 
-apart : (a b : ℕ) → nat_eq a b ≡ false → a ≢ b
-apart a b e = ne_of a b e
-
 distinct_two : Distinct (MayNumber numbers) (fresh 1) history_two
-distinct_two = (new_two, (apart (number_of_line 1) (number_of_line 2) refl, tt), (new_one, tt, tt))
+distinct_two = (new_two, (eqb-false (number_of_line 1) (number_of_line 2) refl, tt), (new_one, tt, tt))
 
 stands_two : StandsForShape 1 (logical (fresh_disk 1) history_two) tree_left
 stands_two = subst (StandsForShape 1 (logical (fresh_disk 1) history_two)) (after_two one.0 two.0)
@@ -105,7 +102,7 @@ legal_three = (three.1, legal_two)
 
 all_of_one : IsOfOneTree 1 at_zero (fresh_disk 1) (fresh 1) (all_three one.0 two.0 three.0)
 all_of_one = histories_of_one_tree 1 at_zero (fresh_disk 1) (fresh 1) numbers (all_three one.0 two.0 three.0) times begins legal_three
-    (new_three, (apart (number_of_line 2) (number_of_line 3) refl, (apart (number_of_line 1) (number_of_line 3) refl, tt)), distinct_two)
+    (new_three, (eqb-false (number_of_line 2) (number_of_line 3) refl, (eqb-false (number_of_line 1) (number_of_line 3) refl, tt)), distinct_two)
 
 pub two_servers : TwoServers
 two_servers = (

@@ -1,22 +1,15 @@
 -- At least as many small blocks of a disk are or were a directory's as its tree's directories have.
 use Rattle.std.proofs.Common.{ℕ, zero, suc, ◌≡◌, ◌≤◌, ◌+◌, ◌*◌, not, arith}
+use Rattle.stop_laws.proofs.Counted.{at_most}
 use Rattle.tree_definitions.specs.Tree.{FileTree, count_of, dir_blocks, file_blocks, small_blocks}
 use Rattle.tree_edits.proofs.Counting.{small_blocks_both}
 use Rattle.disk_definitions.specs.Naming.{Naming}
-use Rattle.disk_definitions.specs.Store.{Store, Use, is_unused}
-use Rattle.disk_definitions.specs.Store.Use.{Fresh, Bytes, Empty, Entries}
+use Rattle.disk_definitions.specs.Store.{Store, is_unused}
 use Rattle.disk_definitions.specs.Least.{count, one_if}
 use Rattle.disk_definitions.proofs.PickCounts.{count_zero, count_more}
 use Rattle.disk_definitions.specs.Meets.{IsOfTree, is_directory_use, directory_blocks_in}
 use Rattle.plan_laws.proofs.FileTotals.{is_bytes, files_counted}
 use Rattle.plan_laws.proofs.Totals.{blocks_counted}
-
--- a block that is taken holds bytes or is a directory's
-one_taken : (u : Use) → one_if (not (is_unused u)) ≤ one_if (is_bytes u) + one_if (is_directory_use u)
-one_taken Fresh = omega arith
-one_taken Bytes = omega arith
-one_taken Empty = omega arith
-one_taken Entries = omega arith
 
 taken_are : (s : Store) (n : ℕ) → count (λ k. not (is_unused (s.use_of k))) n ≤ count (λ k. is_bytes (s.use_of k)) n + count (λ k. is_directory_use (s.use_of k)) n
 taken_are s zero =
@@ -24,7 +17,7 @@ taken_are s zero =
     omega arith
 taken_are s (suc n) =
     let rest : count (λ k. not (is_unused (s.use_of k))) n ≤ count (λ k. is_bytes (s.use_of k)) n + count (λ k. is_directory_use (s.use_of k)) n = taken_are s n in
-    let one : one_if (not (is_unused (s.use_of n))) ≤ one_if (is_bytes (s.use_of n)) + one_if (is_directory_use (s.use_of n)) = one_taken (s.use_of n) in
+    let one : one_if (not (is_unused (s.use_of n))) ≤ one_if (is_bytes (s.use_of n)) + one_if (is_directory_use (s.use_of n)) = at_most (s.use_of n) in
     let a = count_more (λ k. not (is_unused (s.use_of k))) n in
     let b = count_more (λ k. is_bytes (s.use_of k)) n in
     let c = count_more (λ k. is_directory_use (s.use_of k)) n in

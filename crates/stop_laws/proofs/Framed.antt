@@ -1,12 +1,11 @@
 -- What a line replies goes by the sectors with versions that it looks at, and by the bytes that were shown.
 use Rattle.std.proofs.Common.{ℕ, ◌≡◌, ◌+◌, ◌*◌, ◌/◌, ◌%◌, ◌<◌, ◌≤◌, ⊎_elim, Bool, true, false, nat_lt, if◌then◌else◌, IsTrue, Some, None, List, [], ◌∷◌, ◌++◌, map, is_some, refl, sym, ◌∙◌, ap, ap₂, subst, arith}
 use Rattle.std.proofs.Math.Path.{fun_ext}
-use Rattle.std.proofs.lemmas.Bool.{cases_lt}
+use Rattle.std.proofs.lemmas.Bool.{cases_lt, le-ltb}
 use Rattle.std.proofs.lemmas.List.Elements.{Contains-append_right}
 use Rattle.std.specs.List.{filter_map, cons_option, Contains}
 use Rattle.std.specs.Option.{option_map}
 use Rattle.frang_base.specs.Functions.{member}
-use Rattle.frang_base.proofs.Basics.{of_ge}
 use Rattle.sector_bytes.specs.Replays.{change_at}
 use Rattle.sector_bytes.specs.Sectors.{Sectors}
 use Rattle.sector_world.specs.Histories.{Commit, touches}
@@ -70,7 +69,7 @@ module _ (segments : ℕ) (old new : Sectors) where
             ap (λ block. if nat_lt r 7 then (if nat_lt k (1024 * segments) then entry_in (directory_in block) ((7 * part + r) % 7) else None) else None) (sym there)
 
         outside : (r : ℕ) → 7 ≤ r → seven t.place k part r ≡ seven s.place k part r
-        outside r l = rw (of_ge r 7 l) refl
+        outside r l = rw (le-ltb r 7 l) refl
 
     say_the_same : (xs : List Sector) → ((x : Sector) (m : ℕ) → Contains xs x → versioned x ≡ Some m → old m ≡ new m) → AllSayTheSame s t xs
     say_the_same [] same = tt

@@ -1,6 +1,7 @@
 -- A history that is told twice settles alike on both sides.
 use Rattle.std.proofs.Common.{ℕ, ◌≡◌, ◌≢◌, ◌≤◌, ◌&&◌, ◌||◌, ◌==◌, not, Bool, true, false, List, [], ◌∷◌, ◌++◌, refl, sym, ◌∙◌, ap, ap₂, subst, arith}
 use Rattle.std.specs.List.{list_any}
+use mathlib.Core.Bool.{and-false}
 use Rattle.frang_base.specs.Functions.{keep_if}
 use Rattle.frang_base.specs.declared.reply.Reply.{Reply}
 use Rattle.frang_base.specs.declared.reply.Reply.TheVariants as reply
@@ -44,13 +45,9 @@ no_write (op.CutAt k) e = refl
 no_write op.Stall e = refl
 no_write _ e = absurd (cc)
 
-and_false : (b : Bool) → b && false ≡ false
-and_false true = refl
-and_false false = refl
-
 no_file : (o : Op) (r : Reply) → leaves_tree o r ≡ true → writes_file o && is_ok r ≡ false
 no_file o reply.Ok leaves = ap (λ b. b && true) (no_write o leaves)
-no_file o r leaves = and_false (writes_file o)
+no_file o r leaves = and-false (writes_file o)
 
 -- one that leaves the tree is no answer, and has no record
 no_record : (t : FileTree) (e : Entry) → leaves_tree e.op e.reply ≡ true → is_recorded t e ≡ false

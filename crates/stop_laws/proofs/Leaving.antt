@@ -2,16 +2,14 @@
 use Rattle.std.proofs.Common.{ℕ, ◌≡◌, ◌&&◌, ◌||◌, not, Bool, true, false, if◌then◌else◌, List, [], ◌∷◌, ◌++◌, filter, refl, sym, ◌∙◌, ap}
 use Rattle.std.specs.List.{list_any}
 use Rattle.std.proofs.lemmas.List.Elements.{filter-append}
+use Rattle.std.proofs.lemmas.Bool.{or_parts}
+use mathlib.Core.Bool.{and-true, or-false}
 use Rattle.tree_definitions.specs.History.{Settled, after, after_all}
 use Rattle.tree_definitions.specs.Removal.{begins_removal, is_lost, is_of, left, mounts}
 use Rattle.tree_definitions.specs.Tree.{FileTree}
 
-or_false : (b : Bool) → b || false ≡ b
-or_false true = refl
-or_false false = refl
-
 any_more : (test : Settled → Bool) (list : List Settled) (s : Settled) → list_any test (list ++ s ∷ []) ≡ list_any test list || test s
-any_more test [] s = or_false (test s)
+any_more test [] s = or-false (test s)
 any_more test (x ∷ list) s = go (test x) (any_more test list s)
   where
     go : (b : Bool) → list_any test (list ++ s ∷ []) ≡ list_any test list || test s → b || list_any test (list ++ s ∷ []) ≡ (b || list_any test list) || test s
@@ -32,7 +30,7 @@ module _ (server keeps : ℕ) where
   begins_alike : (t : FileTree) (x : Settled) (rest : List Settled) (s : Settled) → mounts server s ≡ false →
       begins_removal server keeps t x (rest ++ s ∷ []) ≡ begins_removal server keeps t x rest
   begins_alike t x rest s none =
-      ap (λ b. is_lost server keeps t x && not b) (any_more (mounts server) rest s ∙ ap (λ b. list_any (mounts server) rest || b) none ∙ or_false (list_any (mounts server) rest))
+      ap (λ b. is_lost server keeps t x && not b) (any_more (mounts server) rest s ∙ ap (λ b. list_any (mounts server) rest || b) none ∙ or-false (list_any (mounts server) rest))
 
   -- where it doesn't begin it doesn't with one step more
   begins_later : (t : FileTree) (x : Settled) (rest : List Settled) (s : Settled) → begins_removal server keeps t x rest ≡ false →
@@ -79,14 +77,10 @@ module _ (server keeps : ℕ) where
 
   -- ---- it hasn't
 
-  none_of : (a b : Bool) → a || b ≡ false → (a ≡ false) × (b ≡ false)
-  none_of true b e = absurd (cc)
-  none_of false b e = (refl, e)
-
   pub whole : (t : FileTree) (list : List Settled) → is_cut t list ≡ false → left server keeps t list ≡ list
   whole t [] cut = refl
   whole t (x ∷ list) cut =
-      let p = none_of (begins_removal server keeps t x list) (is_cut (after t x) list) cut in
+      let p = or_parts (begins_removal server keeps t x list) (is_cut (after t x) list) cut in
       ap (λ (b : Bool). if b then others list else x ∷ left server keeps (after t x) list) p.0 ∙ ap (λ l. x ∷ l) (whole (after t x) list p.1)
 
   -- it begins at the next step exactly where this is lost
@@ -96,16 +90,12 @@ module _ (server keeps : ℕ) where
 
   pub whole_up_to : (t : FileTree) (list : List Settled) (s : Settled) (lost : Bool) → is_cut t list ≡ false → is_lost server keeps (after_all t list) s ≡ lost →
       IsWholeUpTo t list s lost
-  whole_up_to t [] s lost cut is = record { cut = or_false (begins_removal server keeps t s []) ∙ here; leaves = ap (λ (b : Bool). if b then [] else s ∷ []) here }
+  whole_up_to t [] s lost cut is = record { cut = or-false (begins_removal server keeps t s []) ∙ here; leaves = ap (λ (b : Bool). if b then [] else s ∷ []) here }
     where
-      and_true : (b : Bool) → b && true ≡ b
-      and_true true = refl
-      and_true false = refl
-
       here : begins_removal server keeps t s [] ≡ lost
-      here = and_true (is_lost server keeps t s) ∙ is
+      here = and-true (is_lost server keeps t s) ∙ is
   whole_up_to t (x ∷ list) s lost cut is =
-      let p = none_of (begins_removal server keeps t x list) (is_cut (after t x) list) cut in
+      let p = or_parts (begins_removal server keeps t x list) (is_cut (after t x) list) cut in
       let later = begins_later t x list s p.0 in
       let r = whole_up_to (after t x) list s lost p.1 is in
       record {

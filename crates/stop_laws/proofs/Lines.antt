@@ -94,7 +94,7 @@ line_done segments disk tree stands hint birth when o may new small_birth small_
 
 -- ---- an operation and its entry, at a tree of the shape that the operations gave
 
-no_node : (o : Option Node) → shaped o ≡ None → o ≡ None
+pub no_node : (o : Option Node) → shaped o ≡ None → o ≡ None
 no_node None e = refl
 no_node (Some x) e = absurd (cc)
 

@@ -1,23 +1,19 @@
 -- Where a byte of a file lies: in a sector of its small blocks or of its large one, which two namings of one inode agree on.
 use Rattle.std.proofs.Common.{ℕ, ◌≡◌, ◌≤◌, ◌<◌, ◌+◌, ◌-◌, ◌/◌, ◌%◌, Bool, true, false, nat_lt, if◌then◌else◌, Some, List, length, is_some, refl, sym, ◌∙◌, ap, arith}
 use Rattle.std.proofs.lemmas.Bool.Decides.{nat_tests}
-use Rattle.frang_base.proofs.Basics.{of_lt}
+use Rattle.std.proofs.lemmas.Bool.{lt-ltb}
+use Rattle.stop_laws.proofs.Bytes.{has_block}
 use Rattle.tree_definitions.specs.declared.cells.Cell.{Cell}
 use Rattle.tree_definitions.specs.declared.node.Node.TheVariants.{File}
 use Rattle.tree_definitions.specs.Tree.{FileTree, node_at, small_blocks_of}
-use Rattle.disk_definitions.specs.Naming.{Naming, first_blocks, inode_of}
+use Rattle.disk_definitions.specs.Naming.{Naming, inode_of}
 use Rattle.disk_definitions.specs.Store.{Store, StoredNode}
 use Rattle.disk_definitions.proofs.Kept.{inode_is}
 use Rattle.disk_definitions.specs.Ask.{Sector, BytesAt, LargeAt}
 use Rattle.disk_definitions.specs.Meets.{IsOfTree}
+use Rattle.disk_definitions.proofs.NodeLaws.{first_is}
 use Rattle.line_histories.specs.Files.{file_sector}
 use Rattle.line_histories.specs.Parts.{LiesIn}
-
-first_is : (count : ℕ) (block : ℕ → ℕ) (m : ℕ) → m < count → first_blocks count block m ≡ block m
-first_is count block m l = rw (of_lt m count l) refl
-
-has_block : (long at : ℕ) → at < 65536 → at < long → at / 4096 < small_blocks_of long
-has_block long at l m = omega arith
 
 -- the size of a file in whose sector a part lies
 pub size_there : (s : Store) (tree : FileTree) (n : Naming) → IsOfTree s tree n →
@@ -62,7 +58,7 @@ module _ (s : Store) (tree : FileTree) (n : Naming) (of : IsOfTree s tree n) (b 
       go true e = absurd (let low : j / 512 < 128 = grind (arith, nat_tests) in omega arith)
       go false e =
           let more : 65536 < length cells = (let l : j < length cells = inside in omega arith) in
-          let large : stored.large ≡ n.large b + 1 = rw (of_lt 65536 (length cells) more) refl in
+          let large : stored.large ≡ n.large b + 1 = rw (lt-ltb 65536 (length cells) more) refl in
           let block : stored.large - 1 ≡ n.large b = omega arith in
           let part : j / 512 - 128 ≡ (j - 65536) / 512 = omega arith in
           ap (λ k. LargeAt k (j / 512 - 128)) block ∙ ap (LargeAt (n.large b)) part
@@ -83,7 +79,7 @@ module _ (s : Store) (tree : FileTree) (n : Naming) (of : IsOfTree s tree n) (b 
     pub large_same : 65536 ≤ j → m.large b ≡ n.large b
     large_same high =
         let more : 65536 < length cells = (let l : j < length cells = inside in omega arith) in
-        let one : (inode_of (m.stamp b) (m.block b) (m.large b) (File cells links when)).large ≡ m.large b + 1 = rw (of_lt 65536 (length cells) more) refl in
-        let two : (inode_of (n.stamp b) (n.block b) (n.large b) (File cells links when)).large ≡ n.large b + 1 = rw (of_lt 65536 (length cells) more) refl in
+        let one : (inode_of (m.stamp b) (m.block b) (m.large b) (File cells links when)).large ≡ m.large b + 1 = rw (lt-ltb 65536 (length cells) more) refl in
+        let two : (inode_of (n.stamp b) (n.block b) (n.large b) (File cells links when)).large ≡ n.large b + 1 = rw (lt-ltb 65536 (length cells) more) refl in
         let same : m.large b + 1 ≡ n.large b + 1 = sym one ∙ ap (λ x. x.large) stored_same ∙ two in
         omega arith

@@ -1,7 +1,8 @@
 -- Marks of sectors, with runs that cover the cells of the parts that lie there, keep cells known.
 use Rattle.std.proofs.Common.{ℕ, ◌≡◌, ◌<◌, ◌/◌, ◌%◌, Bool, true, false, if◌then◌else◌, Option, Some, None, List, ◌∷◌, length, slice_index, refl, sym, ◌∙◌, ap, subst, arith}
 use Rattle.std.proofs.lemmas.List.{length-map}
-use Rattle.std.proofs.lemmas.Option.{slice_get_within}
+use Rattle.std.proofs.lemmas.Option.{slice_get_within, none-some}
+use Rattle.std.proofs.lemmas.Bool.{false_from_ne_true}
 use Rattle.tree_definitions.specs.declared.cells.Cell.{Cell}
 use Rattle.tree_definitions.specs.declared.cells.Cell.TheVariants as cell
 use Rattle.tree_definitions.specs.declared.node.Node.{Node}
@@ -33,13 +34,6 @@ or_else : Option Block → Block → Block
 or_else None other = other
 or_else (Some block) other = block
 
-none_some : {A : Type 0} (x : A) → None ≡ Some x → ⊥
-none_some x e = cc
-
-none_if : (b : Bool) → (b ≡ true → ⊥) → b ≡ false
-none_if true f = absurd (f refl)
-none_if false f = refl
-
 module _ (segments : ℕ) (opening : ℕ → Block) (first_tree : FileTree) (logged : ℕ → Bool) (first : ℕ → Option Block) (marked : ℕ → Bool) (runs : List CellRun) (older : List Deed)
     (covers : CoversMarks segments opening first_tree marked runs older)
     (shape : shape_of (tree_after first_tree (Doubts marked runs ∷ older)) ≡ shape_of (tree_after first_tree older))
@@ -56,9 +50,9 @@ module _ (segments : ℕ) (opening : ℕ → Block) (first_tree : FileTree) (log
     cell_below b j t c e s lies = go (node_at tree b) refl e
       where
         go : (o : Option Node) → node_at tree b ≡ o → cell_in o j ≡ Some c → j < lies.lies.stored.size
-        go None is i = absurd (none_some c i)
-        go (Some (Dir entries blocks)) is i = absurd (none_some c i)
-        go (Some (Link target links)) is i = absurd (none_some c i)
+        go None is i = absurd (none-some c i)
+        go (Some (Dir entries blocks)) is i = absurd (none-some c i)
+        go (Some (Link target links)) is i = absurd (none-some c i)
         go (Some (File cells links when)) is i =
             let size : lies.lies.stored.size ≡ length (doubts cells)
             = size_there (store_after segments opening (items older)) (shape_of tree) lies.naming lies.of b t lies.sector lies.lies (doubts cells) links when (found tree b ∙ ap shaped is) in
@@ -86,7 +80,7 @@ module _ (segments : ℕ) (opening : ℕ → Block) (first_tree : FileTree) (log
           let was = doubt_keeps tree runs b j x e in
           let place = stands_in segments (store_after segments opening (items older)) tree naming of b j (cell.Byte x) was.before in
           let lies : LiesAfter segments opening first_tree b (j / 512) (number_of place.sector) older = record { naming = naming; of = of; sector = place.sector; lies = place.lies; here = refl } in
-          let sure : marked (number_of place.sector) ≡ false = none_if (marked (number_of place.sector))
+          let sure : marked (number_of place.sector) ≡ false = false_from_ne_true (marked (number_of place.sector))
           (λ mark.
           let one = covers b (j / 512) (number_of place.sector) lies mark j (omega arith) (omega arith) (cell_below b j (j / 512) (cell.Byte x) was.before (number_of place.sector) lies) in
           was.apart one.0 one.1 one.2) in

@@ -1,9 +1,8 @@
 -- The sectors after a finished line say what the edited store does, by the naming to which the line's plan leads.
 use Rattle.std.proofs.Common.{ℕ, ◌≡◌, ◌≤◌, ◌<◌, ◌^◌, ◌*◌, ◌/◌, ◌%◌, ⊎_elim, Bool, false, if◌then◌else◌, Option, List, [], ◌∷◌, refl, sym, ◌∙◌, ap, subst}
-use Rattle.std.proofs.lemmas.Bool.{cases_lt}
+use Rattle.std.proofs.lemmas.Bool.{cases_lt, le-ltb}
 use Rattle.frang_base.specs.declared.op.Op.{Op}
 use Rattle.frang_base.specs.Functions.{put, put2}
-use Rattle.frang_base.proofs.Basics.{of_ge}
 use Rattle.tree_definitions.specs.Apply.{Applied}
 use Rattle.tree_definitions.specs.Perform.{perform}
 use Rattle.tree_definitions.specs.Touched.{shape_of}
@@ -140,7 +139,7 @@ module _ (disk : Sectors) (tree : FileTree) (stands : StandsForShape tree.segmen
   use_end k = ap (λ (g : ℕ → Use). g k) (use_aside f.edits (store_of segments disk) (store_on segments disk) refl)
 
   past_fresh : (k : ℕ) → 1024 * segments ≤ k → edited_on.use_of k ≡ Fresh
-  past_fresh k l = sym (uses_is k) ∙ ap (λ (t : Bool). if t then use_in (segment_at next (k / 1024)) (k % 1024) else Fresh) (of_ge k (1024 * segments) l)
+  past_fresh k l = sym (uses_is k) ∙ ap (λ (t : Bool). if t then use_in (segment_at next (k / 1024)) (k % 1024) else Fresh) (le-ltb k (1024 * segments) l)
 
   places_next : (k q : ℕ) → q < 56 → IsMetadata (edited_on.use_of k) → (store_on segments next).place k q ≡ edited_on.place k q
   places_next k q lq d =

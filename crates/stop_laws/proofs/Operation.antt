@@ -1,12 +1,11 @@
 -- An operation keeps cells known: it comes from a disk that had the bytes of the tree before it, and its line leaves the bytes of the tree after its entry.
 use Rattle.std.proofs.Common.{ℕ, ◌≡◌, ◌≤◌, ◌<◌, ◌-◌, ◌/◌, ◌%◌, ⊎_elim, Bool, true, false, ◌||◌, if◌then◌else◌, Option, Some, None, List, [], ◌∷◌, map, length, is_some, slice_index, refl, sym, ◌∙◌, ap, ap₂, subst}
-use Rattle.std.proofs.lemmas.Bool.{and_from}
+use Rattle.std.proofs.lemmas.Bool.{and_from, false_from_ne_true}
 use Rattle.std.proofs.lemmas.List.{length-map}
 use Rattle.std.proofs.lemmas.Option.{slice_get_within}
 use Rattle.std.specs.List.{Contains, filter_map}
 use Rattle.std.specs.Option.{option_map}
 use Rattle.frang_base.specs.declared.lock.LockId.{LockId}
-use Rattle.frang_base.specs.declared.op.Op.{Op}
 use Rattle.frang_base.specs.declared.op.Op.TheVariants as op
 use Rattle.frang_base.specs.Functions.{member}
 use Rattle.tree_definitions.specs.declared.cells.Cell.{Cell}
@@ -79,6 +78,7 @@ use Rattle.line_histories.specs.Parts.{LiesIn}
 use Rattle.byte_trees.specs.Standing.{HasItsBytes}
 use Rattle.stop_laws.specs.Known.{HasWhatIsKnown, KnowsCells}
 use Rattle.line_histories.proofs.Looked.{lines_look}
+use Rattle.line_histories.proofs.Made.{made_exact}
 use Rattle.stop_laws.specs.Cells.{IsShown, having}
 use Rattle.stop_laws.proofs.Counted.{directories_few}
 use Rattle.stop_laws.proofs.Lying.{block_same, large_lies, large_same, small_lies}
@@ -86,21 +86,15 @@ use Rattle.stop_laws.proofs.Pieces.{one_edit}
 use Rattle.stop_laws.proofs.Shaped.{same_blank, written_too}
 use Rattle.stop_laws.proofs.Stepping.{IsStepped}
 use Rattle.stop_laws.proofs.Showing.{IsShownAt, bytes_on, run_shown, shown_there}
-use Rattle.stop_laws.proofs.Values.{made_exact, value_is}
+use Rattle.stop_laws.proofs.Values.{value_is}
+use Rattle.stop_laws.proofs.Recorded.{path_is}
+use Rattle.stop_laws.proofs.Lines.{no_node}
 
 -- ---- small facts
-
-none_if : (b : Bool) → (b ≡ true → ⊥) → b ≡ false
-none_if true f = absurd (f refl)
-none_if false f = refl
 
 unclaimed_by : (b older : Bool) → (if b then true else older) ≡ false → b ≡ false
 unclaimed_by true older e = absurd (cc)
 unclaimed_by false older e = refl
-
-none_back : (o : Option Node) → shaped o ≡ None → o ≡ None
-none_back None e = refl
-none_back (Some x) e = absurd (cc)
 
 some_of : (o : Option Block) → is_some o ≡ true → (block : Block) × (o ≡ Some block)
 some_of None e = absurd (cc)
@@ -110,19 +104,8 @@ or_else : Option Block → Block → Block
 or_else None other = other
 or_else (Some block) other = block
 
--- an operation that is planned has a path
-path_op : (o : Op) → HasPath o → is_path_op o ≡ true
-path_op op.Sync h = absurd h
-path_op op.Mount h = absurd h
-path_op op.Unmount h = absurd h
-path_op op.Crash h = absurd h
-path_op (op.CrashAt k) h = absurd h
-path_op (op.CutAt k) h = absurd h
-path_op op.Stall h = absurd h
-path_op o h = refl
-
 -- files of one shape fit alike
-fit_back : (t : FileTree) → FilesFit (node_at (shape_of t)) → FilesFit (node_at t)
+pub fit_back : (t : FileTree) → FilesFit (node_at (shape_of t)) → FilesFit (node_at t)
 fit_back t fit b links when cells is = subst (λ k. k ≤ 1114112) (length-map cells (λ c. Doubtful)) (fit b links when (doubts cells) (found t b ∙ ap shaped is))
 
 -- a fill that isn't freed, by the value that is written
@@ -194,7 +177,7 @@ module _ (segments : ℕ) (when : ℕ → ℕ) (opening : ℕ → Block) (first_
   plain_now x u = plain_by segments opening logged (items older) step.few follow.kinds x u
 
   no_directory : (k : ℕ) → base.use_of k ≡ Bytes → is_directory_use (next.use_of k) ≡ false
-  no_directory k u = none_if (is_directory_use (next.use_of k))
+  no_directory k u = false_from_ne_true (is_directory_use (next.use_of k))
       (λ q. ⊎_elim (λ i. (let z : true ≡ false = sym i ∙ ap is_directory_use u in cc)) (λ i. (let z : Bytes ≡ Fresh = sym u ∙ i in cc)) (step.comes k q))
 
   plain_still : (x : Sector) → IsInUse segments base x → is_logged logged (Done c ∷ items older) (number_of x) ≡ false
@@ -257,7 +240,7 @@ module _ (segments : ℕ) (when : ℕ → ℕ) (opening : ℕ → Block) (first_
 
     -- it is answered as a line with a path is
     path : is_path_op e.op ≡ true
-    path = path_op e.op (subst HasPath (sym asked) step.path)
+    path = path_is e.op (subst HasPath (sym asked) step.path)
 
     answers_shape : Answers (perform (shape_of tree) c.asked c.op (when c.op) step.ever).answer e.reply
     answers_shape =
@@ -285,7 +268,7 @@ module _ (segments : ℕ) (when : ℕ → ℕ) (opening : ℕ → Block) (first_
       shape = of_now;
       bytes = knows step.naming step.of was.before was.known;
       at_hand = hand_now;
-      new = subst (λ k. IsNew tree k) (sym shown.number) (none_back (node_at tree c.op) (sym (found tree c.op) ∙ step.new));
+      new = subst (λ k. IsNew tree k) (sym shown.number) (no_node (node_at tree c.op) (sym (found tree c.op) ∙ step.new));
       files = record { fit = fit_back tree step.files.fit; directories = step.files.directories };
       comes = ap (λ k. run (plan_of_line hand k e.when e.op) old) shown.number ∙ ap (λ w. run (plan_of_line hand c.op w e.op) old) shown.time
           ∙ ap (λ o. run (plan_of_line hand c.op (when c.op) o) old) asked ∙ comes_now;
@@ -373,7 +356,7 @@ module _ (segments : ℕ) (when : ℕ → ℕ) (opening : ℕ → Block) (first_
       left_stands : (IsWritten edits x → ⊥) → was.before (number_of x) ≡ disk (number_of x)
       left_stands none =
           let unwritten : is_some (c.writes (number_of x)) ≡ false
-          = none_if (is_some (c.writes (number_of x))) (λ w. none (written_too step.finish.edits edits (sym same_shape) x (step.written n of b t x lies w))) in
+          = false_from_ne_true (is_some (c.writes (number_of x))) (λ w. none (written_too step.finish.edits edits (sym same_shape) x (step.written n of b t x lies w))) in
           let unclaimed : c.claims (number_of x) ≡ false = unclaimed_by (c.claims (number_of x)) (is_logged logged (items older) (number_of x)) plain_then in
           was.left (number_of x) (ap₂ (λ v w. v || w) unwritten unclaimed)
 

@@ -2,12 +2,13 @@
 use Rattle.std.proofs.Common.{ℕ, ◌≡◌, ◌≢◌, ◌≤◌, ◌<◌, ◌*◌, ◌++◌, ⊎_elim, inl, Bool, true, false, is_some, if◌then◌else◌, nat_eq, nat_lt, Option, Some, None, List, [], ◌∷◌, map, refl, sym, ◌∙◌, ap, subst}
 use Rattle.std.specs.List.{Contains}
 use Rattle.std.proofs.lemmas.List.Elements.{Contains-append_left}
+use Rattle.std.proofs.lemmas.Bool.{both_ways, eqb-true}
+use Rattle.byte_trees.proofs.Lasting.{of_look, of_older, of_write}
 use Rattle.frang_base.specs.Functions.{keep_if}
 use Rattle.frang_base.specs.Locks.{has_lock}
 use Rattle.frang_base.specs.declared.lock.LockId.{LockId}
 use Rattle.frang_base.specs.declared.lock.LockId.TheVariants as lock
 use Rattle.frang_base.specs.declared.lock.Mode.TheVariants.{Sole}
-use Rattle.frang_base.proofs.Basics.{eq_of}
 use Rattle.tree_definitions.specs.declared.node.Node.{Node}
 use Rattle.tree_definitions.specs.Perform.{perform}
 use Rattle.tree_definitions.specs.Touched.{shape_of}
@@ -30,6 +31,7 @@ use Rattle.disk_definitions.specs.Meets.{IsOfTree}
 use Rattle.plan_laws.proofs.Covering.{map_has}
 use Rattle.plan_laws.specs.Covers.{cover_of, inode_cover}
 use Rattle.line_laws.proofs.Covered.{line_edits_covered}
+use Rattle.line_laws.proofs.Shaping.{some_shaped}
 use Rattle.line_histories.specs.LinePlans.{fill_by, hand_on, lock_in, sector_plan, segment_lock, store_on}
 use Rattle.line_histories.specs.Outcomes.{fill_shape}
 use Rattle.line_histories.proofs.LinesSound.{lines_are_sound}
@@ -50,28 +52,6 @@ use Rattle.stop_laws.proofs.Births.{births_stay, named, stands_at}
 use Rattle.stop_laws.proofs.Guarded.{inode_here}
 use Rattle.stop_laws.proofs.Removing.{AllGuarded, AllOwn, apart_before, cover_back, lost, none_touches, not_lost, survives_if}
 use Rattle.stop_laws.proofs.Removing as removing
-
-clash : (b : Bool) → b ≡ true → b ≡ false → ⊥
-clash true e f = absurd (cc)
-clash false e f = absurd (cc)
-
--- what is in doubt is of the server, or was so before
-own_write : (sees own unsynced older : Bool) → doubt_step true sees own unsynced older ≡ true → own ≡ true
-own_write sees true unsynced older e = refl
-own_write sees false unsynced older e = absurd (cc)
-
-doubt_before : (sees own unsynced older : Bool) → doubt_step false sees own unsynced older ≡ true → older ≡ true
-doubt_before true true unsynced older e = e
-doubt_before true false unsynced older e = absurd (cc)
-doubt_before false own unsynced older e = e
-
-own_look : (own unsynced older : Bool) → doubt_step false true own unsynced older ≡ true → own ≡ true
-own_look true unsynced older e = refl
-own_look false unsynced older e = absurd (cc)
-
-some_shaped : (o : Option Node) → is_some (shaped o) ≡ is_some o
-some_shaped (Some x) = refl
-some_shaped None = refl
 
 module _ (segments : ℕ) (when : ℕ → ℕ) (times : AreTimes when) (opening : ℕ → Block) (start : NumberedTree) (begins : StandsNumbered segments opening start) where
   -- after the history the part of the file of this birth lies in the sector with this number
@@ -139,7 +119,7 @@ module _ (segments : ℕ) (when : ℕ → ℕ) (times : AreTimes when) (opening 
         naming after.after c.op (when c.op) after.ever (along.finish segments when times opening start begins c h l d by) after.done birth part on.sector
         edited in
         ⊎_elim
-        (λ w. absurd (clash (is_some (c.writes (number_of on.sector))) (fills ∙ has_fill edits (number_of on.sector) (written_value edits on.sector w)) here))
+        (λ w. absurd (both_ways (is_some (c.writes (number_of on.sector))) here (fills ∙ has_fill edits (number_of on.sector) (written_value edits on.sector w))))
         (λ r. record { naming = naming; of = (along.step segments when times opening start begins c h l d by).of; sector = on.sector; lies = r.0; here = on.here })
         kept
 
@@ -198,7 +178,7 @@ module _ (segments : ℕ) (when : ℕ → ℕ) (times : AreTimes when) (opening 
                 (writer_uses c (removing.stays home server durable h) l d by.0 birth part sector on home (follow (removing.stays home server durable h) l.1 d.2 by.1) is))
             by_write e false is =
                 before l.1 d.2 by.1
-                (doubt_before (c.sees sector) (nat_eq c.by other) (nat_lt number c.op) (in_doubt other number h sector)
+                (of_older (c.sees sector) (nat_eq c.by other) (nat_lt number c.op) (in_doubt other number h sector)
                 (sym (ap (λ w. doubt_step w (c.sees sector) (nat_eq c.by other) (nat_lt number c.op) (in_doubt other number h sector)) is) ∙ doubt))
                 (lies_before c (removing.stays home server durable h) l d by.0 birth part sector on is) e
 
@@ -213,23 +193,23 @@ module _ (segments : ℕ) (when : ℕ → ℕ) (times : AreTimes when) (opening 
         goes_apart goes l d by on e = by_write (is_some (c.writes sector)) refl
           where
             another : nat_eq c.by other ≡ true → ⊥
-            another own = far (sym (eq_of c.by other own) ∙ (lost home server durable c goes).of)
+            another own = far (sym (eqb-true c.by other own) ∙ (lost home server durable c goes).of)
 
             here : removing.Apart home server durable k h → is_some (c.writes sector) ≡ false → IsLost server durable c → has_lock k c.alone ≡ true → ⊥
             here rest is x alone =
                 let was : seen.cover_of home h sector ≡ k = cover_back home server durable k sector h g.1 rest e in
                 let sees : c.sees sector ≡ true = a.0 sector (subst (λ x. has_lock x c.uses ≡ true) (sym was) (g.0.uses k alone)) in
-                another (own_look (nat_eq c.by other) (nat_lt number c.op) (in_doubt other number h sector)
+                another (of_look (nat_eq c.by other) (nat_lt number c.op) (in_doubt other number h sector)
                 (sym (ap (λ s. doubt_step false s (nat_eq c.by other) (nat_lt number c.op) (in_doubt other number h sector)) sees)
                 ∙ sym (ap (λ w. doubt_step w (c.sees sector) (nat_eq c.by other) (nat_lt number c.op) (in_doubt other number h sector)) is) ∙ doubt))
 
             by_write : (w : Bool) → is_some (c.writes sector) ≡ w → removing.Apart home server durable k (Done c ∷ h)
             by_write true is =
-                absurd (another (own_write (c.sees sector) (nat_eq c.by other) (nat_lt number c.op) (in_doubt other number h sector)
+                absurd (another (of_write (c.sees sector) (nat_eq c.by other) (nat_lt number c.op) (in_doubt other number h sector)
                 (sym (ap (λ w. doubt_step w (c.sees sector) (nat_eq c.by other) (nat_lt number c.op) (in_doubt other number h sector)) is) ∙ doubt)))
             by_write false is =
                 let rest = before l d by
-                (doubt_before (c.sees sector) (nat_eq c.by other) (nat_lt number c.op) (in_doubt other number h sector)
+                (of_older (c.sees sector) (nat_eq c.by other) (nat_lt number c.op) (in_doubt other number h sector)
                 (sym (ap (λ w. doubt_step w (c.sees sector) (nat_eq c.by other) (nat_lt number c.op) (in_doubt other number h sector)) is) ∙ doubt)) on e in
                 ((λ x alone. here rest is x alone), rest)
 

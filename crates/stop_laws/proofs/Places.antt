@@ -1,9 +1,10 @@
 -- Where a cell of a file stands: in which sector its part lies, and at which place of the sector.
-use Rattle.std.proofs.Common.{ℕ, ◌≡◌, ◌≤◌, ◌<◌, ◌+◌, ◌-◌, ◌*◌, ◌/◌, ◌%◌, Bool, true, false, nat_lt, if◌then◌else◌, Option, Some, None, List, length, is_some, slice_index, zero, suc, [], ◌∷◌, refl, sym, ◌∙◌, ap, subst, arith}
-use Rattle.std.specs.List.{slice_get}
+use Rattle.std.proofs.Common.{ℕ, ◌≡◌, ◌≤◌, ◌<◌, ◌+◌, ◌-◌, ◌*◌, ◌/◌, ◌%◌, Bool, true, false, nat_lt, if◌then◌else◌, Option, Some, None, List, length, is_some, slice_index, refl, sym, ◌∙◌, ap, subst, arith}
 use Rattle.std.proofs.lemmas.Bool.Decides.{nat_tests}
 use Rattle.std.proofs.lemmas.List.{length-map}
-use Rattle.frang_base.proofs.Basics.{of_lt}
+use Rattle.std.proofs.lemmas.Bool.{lt-ltb}
+use Rattle.plan_laws.proofs.FilesFine.{in_small}
+use Rattle.byte_trees.proofs.Doubting.{get_past}
 use Rattle.tree_definitions.specs.declared.cells.Cell.{Cell}
 use Rattle.tree_definitions.specs.declared.cells.Cell.TheVariants as cell
 use Rattle.tree_definitions.specs.declared.node.Node.{Node}
@@ -14,21 +15,14 @@ use Rattle.tree_laws.proofs.ShapeNodes.{doubts, shaped, found}
 use Rattle.sector_bytes.specs.Sectors.{Sectors}
 use Rattle.disk_definitions.specs.declared.region.Region.TheVariants as region
 use Rattle.disk_definitions.specs.Regions.{sector_of}
-use Rattle.disk_definitions.specs.Naming.{Naming, cell_in, file_byte, first_blocks, inode_of}
+use Rattle.disk_definitions.specs.Naming.{Naming, cell_in, file_byte, inode_of}
 use Rattle.disk_definitions.specs.Store.{Store, StoredNode, store_of}
 use Rattle.disk_definitions.proofs.Kept.{inode_is}
 use Rattle.disk_definitions.specs.Ask.{Sector, BytesAt, LargeAt, number_of}
 use Rattle.disk_definitions.specs.Meets.{IsOfTree}
+use Rattle.disk_definitions.proofs.NodeLaws.{first_is}
 use Rattle.line_histories.specs.Files.{file_sector}
 use Rattle.line_histories.specs.Parts.{LiesIn}
-
-get_past : {X : Type 0} (xs : List X) (j : ℕ) (c : X) → slice_get xs j ≡ Some c → j < length xs
-get_past [] j c e = absurd (cc)
-get_past (x ∷ xs) zero c e = omega arith
-get_past (x ∷ xs) (suc j) c e = let l : j < length xs = get_past xs j c e in omega arith
-
-first_is : (count : ℕ) (block : ℕ → ℕ) (m : ℕ) → m < count → first_blocks count block m ≡ block m
-first_is count block m l = rw (of_lt m count l) refl
 
 module _ (segments : ℕ) (s : Store) (tree : FileTree) (n : Naming) (of : IsOfTree s (shape_of tree) n) (b j : ℕ) where
   -- the sector in which the cell's part lies, and its byte on any disk
@@ -50,15 +44,12 @@ module _ (segments : ℕ) (s : Store) (tree : FileTree) (n : Naming) (of : IsOfT
     below : 512 * (j / 512) < length (doubts cells)
     below = subst (λ k. 512 * (j / 512) < k) (sym size) (omega arith)
 
-    has_block : (long part : ℕ) → part < 128 → 512 * part < long → part / 8 < small_blocks_of long
-    has_block long part l m = omega arith
-
     byte_is : (disk : Sectors) (c : Bool) → nat_lt (j / 512) 128 ≡ c → (d : Bool) → nat_lt j 65536 ≡ d →
         (if d then (store_of segments disk).byte (n.block b (j / 4096)) (j % 4096) else (store_of segments disk).large_byte (n.large b) (j - 65536))
         ≡ slice_index (disk (number_of (if c then BytesAt (stored.small (j / 512 / 8)) (j / 512 % 8) else LargeAt (stored.large - 1) (j / 512 - 128)))) (j % 512)
     byte_is disk true p true q =
         let low : j / 512 < 128 = grind (arith, nat_tests) in
-        let block : stored.small (j / 512 / 8) ≡ n.block b (j / 512 / 8) = first_is (small_blocks_of (length (doubts cells))) (n.block b) (j / 512 / 8) (has_block (length (doubts cells)) (j / 512) low below) in
+        let block : stored.small (j / 512 / 8) ≡ n.block b (j / 512 / 8) = first_is (small_blocks_of (length (doubts cells))) (n.block b) (j / 512 / 8) (in_small (j / 512) (length (doubts cells)) below low) in
         let at_block : j / 4096 ≡ j / 512 / 8 = omega arith in
         let at_part : j % 4096 / 512 ≡ j / 512 % 8 = omega arith in
         let at_byte : j % 4096 % 512 ≡ j % 512 = omega arith in
@@ -66,7 +57,7 @@ module _ (segments : ℕ) (s : Store) (tree : FileTree) (n : Naming) (of : IsOfT
     byte_is disk false p false q =
         let high : 128 ≤ j / 512 = grind (arith, nat_tests) in
         let more : 65536 < length (doubts cells) = (let l : j < length cells = inside in let z : length (doubts cells) ≡ length cells = size in omega arith) in
-        let large : stored.large ≡ n.large b + 1 = rw (of_lt 65536 (length (doubts cells)) more) refl in
+        let large : stored.large ≡ n.large b + 1 = rw (lt-ltb 65536 (length (doubts cells)) more) refl in
         let block : stored.large - 1 ≡ n.large b = omega arith in
         let at_part : (j - 65536) / 512 ≡ j / 512 - 128 = omega arith in
         let at_byte : (j - 65536) % 512 ≡ j % 512 = omega arith in

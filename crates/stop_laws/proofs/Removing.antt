@@ -1,9 +1,10 @@
 -- A lock that no removed operation used alone covers after a removal what it covered before, so operations that are left see what is under their locks.
 use Rattle.std.proofs.Common.{ℕ, ◌≡◌, ◌≤◌, ◌<◌, ◌⊎◌, ⊎_elim, inl, inr, Bool, true, false, nat_eq, nat_le, if◌then◌else◌, is_some, Option, Some, None, List, [], ◌∷◌, refl, sym, ◌∙◌, ap, subst, arith}
+use Rattle.std.proofs.lemmas.Bool.{cases_eq, leb-false, leb-true, eqb-true}
 use Rattle.frang_base.specs.Functions.{keep_if}
 use Rattle.frang_base.specs.Locks.{has_lock}
 use Rattle.frang_base.specs.declared.lock.LockId.{LockId}
-use Rattle.frang_base.proofs.Basics.{by_keep, eq_of, gt_of, le_of, or_equal}
+use Rattle.frang_base.proofs.Basics.{by_keep}
 use Rattle.sector_world.specs.Histories.{Commit, Item, Changes, Each, Moves, OpsRise, kept, survives}
 use Rattle.sector_world.specs.Histories.Item.{Done, Doubt}
 use Rattle.sector_world.specs.Seen.{Alters, IsLost, Unmet, Unseen, cover_of, moved}
@@ -34,7 +35,7 @@ low_left server durable [] = tt
 low_left server durable (Doubt m ∷ h) = low_left server durable h
 low_left server durable (Done c ∷ h) =
     by_keep (Each (λ c. c.by ≡ server → c.op ≤ durable)) (survives server durable c) (Done c) (kept (survives server durable) h)
-    (λ there. ((λ by. le_of c.op durable (sym (survives_own server durable c by) ∙ there)), low_left server durable h)) (λ goes. low_left server durable h)
+    (λ there. ((λ by. leb-true c.op durable (sym (survives_own server durable c by) ∙ there)), low_left server durable h)) (λ goes. low_left server durable h)
 
 module _ (home : ℕ → LockId) (server durable : ℕ) where
   -- what is left
@@ -51,12 +52,12 @@ module _ (home : ℕ → LockId) (server durable : ℕ) where
   lost c goes = go (nat_eq c.by server) refl goes
     where
       go : (b : Bool) → nat_eq c.by server ≡ b → (if b then nat_le c.op durable else true) ≡ false → IsLost server durable c
-      go true same above = record { of = eq_of c.by server same; above = gt_of c.op durable above }
+      go true same above = record { of = eqb-true c.by server same; above = leb-false c.op durable above }
       go false same above = absurd (cc)
 
   pub not_lost : (c : Commit) → survives server durable c ≡ true → IsLost server durable c → ⊥
   not_lost c there l =
-      let low : c.op ≤ durable = le_of c.op durable (sym (survives_own server durable c l.of) ∙ there) in
+      let low : c.op ≤ durable = leb-true c.op durable (sym (survives_own server durable c l.of) ∙ there) in
       let high : durable < c.op = l.above in
       omega arith
 
@@ -74,7 +75,7 @@ module _ (home : ℕ → LockId) (server durable : ℕ) where
       each_map (λ e. e.by ≡ c.by → e.op < c.op) (λ e. IsLost server durable e → P e → ⊥)
       (λ e less l p.
       let m : e.op < c.op = less (l.of ∙ sym own) in
-      let low : c.op ≤ durable = le_of c.op durable (sym (survives_own server durable c own) ∙ there) in
+      let low : c.op ≤ durable = leb-true c.op durable (sym (survives_own server durable c own) ∙ there) in
       let high : durable < e.op = l.above in
       omega arith)
       h rises.0
@@ -82,7 +83,7 @@ module _ (home : ℕ → LockId) (server durable : ℕ) where
   -- an operation that stays used no lock that one that was removed before it used alone
   pub apart_before : (c : Commit) (h : List Item) → OpsRise (Done c ∷ h) → Unmet server durable (Done c ∷ h) → survives server durable c ≡ true → (l : LockId) → has_lock l c.uses ≡ true → Apart l h
   apart_before c h rises unmet there l used =
-      ⊎_elim (λ own. none_before (λ e. has_lock l e.alone ≡ true) c h rises there own) (λ other. unmet.0 other l used) (or_equal c.by server)
+      ⊎_elim (λ own. none_before (λ e. has_lock l e.alone ≡ true) c h rises there own) (λ other. unmet.0 other l used) (cases_eq c.by server)
 
   -- ---- covers
 
@@ -124,7 +125,7 @@ module _ (home : ℕ → LockId) (server durable : ℕ) where
           ⊎_elim (λ own. none_before (Touches s) c h rises there own)
           (λ other. each_map (λ e. IsLost server durable e → Alters s e → ⊥) (λ e. IsLost server durable e → Touches s e → ⊥) (λ e f x t. f x (alters s e t)) h
           (unseen.0 other s (inr (inl (ap is_some is)))))
-          (or_equal c.by server)
+          (cases_eq c.by server)
 
       moved_here : (new : LockId) → c.moves s ≡ Some new → new ≡ l → (b : Bool) → survives server durable c ≡ b → Each (λ e. IsLost server durable e → Touches s e → ⊥) (Done c ∷ h)
       moved_here new is same true there = ((λ x t. not_lost c there x), after there new is)

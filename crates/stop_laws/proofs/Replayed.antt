@@ -1,7 +1,6 @@
 -- The replayed disk has the sectors with versions that stand for the shape, so with its bytes it stands for the tree.
 use Rattle.std.proofs.Common.{ℕ, ◌≡◌, ◌≤◌, ◌<◌, ◌*◌, ◌/◌, ◌%◌, ⊎_elim, Bool, true, false, if◌then◌else◌, is_some, List, [], ◌∷◌, refl, sym, ◌∙◌, ap, subst}
-use Rattle.std.proofs.lemmas.Bool.{cases_lt}
-use Rattle.frang_base.proofs.Basics.{of_ge}
+use Rattle.std.proofs.lemmas.Bool.{cases_lt, le-ltb}
 use Rattle.tree_definitions.specs.Touched.{shape_of}
 use Rattle.tree_definitions.specs.Tree.{FileTree, node_at}
 use Rattle.tree_laws.specs.WellFormed.{IsWellFormed}
@@ -20,15 +19,16 @@ use Rattle.disk_definitions.specs.Inodes.{inode_in}
 use Rattle.disk_definitions.specs.Regions.{sector_of}
 use Rattle.disk_definitions.proofs.RegionLaws.{region_found}
 use Rattle.disk_definitions.specs.Standing.{IsMetadata, StandsFor}
-use Rattle.disk_definitions.specs.Store.{Store, Use, directory_at, segment_at, store_of, use_in}
-use Rattle.disk_definitions.specs.Store.Use.{Fresh, Bytes, Empty, Entries}
+use Rattle.disk_definitions.specs.Store.{Store, directory_at, segment_at, store_of, use_in}
+use Rattle.disk_definitions.specs.Store.Use.{Fresh}
 use Rattle.disk_definitions.specs.ChangeLaws.{FilesFit, SaysTheSame}
 use Rattle.disk_definitions.proofs.Counts.{pictures_go_by_what_counts}
 use Rattle.disk_definitions.specs.Ask.{InodeAt, DirectoryAt, SegmentAt}
-use Rattle.disk_definitions.specs.Meets.{IsOfTree, is_directory_use}
+use Rattle.disk_definitions.specs.Meets.{IsOfTree}
 use Rattle.disk_definitions.specs.OnDisk.{StandsBelow}
 use Rattle.plan_fit.specs.Says.{InodesSay, PlacesSay, SegmentsSay}
 use Rattle.plan_fit.proofs.Kept.{in_inode, in_segment, in_small, inodes_kept, places_kept, segments_kept}
+use Rattle.plan_fit.proofs.Uses.{is_metadata}
 use Rattle.plan_laws.specs.Numbered.{sector_in}
 use Rattle.line_histories.specs.LinePlans.{sector_plan, store_on}
 use Rattle.line_histories.specs.Following.{Follows, KindsFollow, store_after}
@@ -50,12 +50,6 @@ stays_logged first (Done c ∷ h) s e = go (c.claims s) (stays_logged first h s 
     go true e = refl
     go false e = e
 stays_logged first (Doubt m ∷ h) s e = stays_logged first h s e
-
-of_metadata : (u : Use) → IsMetadata u → is_directory_use u ≡ true
-of_metadata Fresh m = absurd m
-of_metadata Bytes m = absurd m
-of_metadata Empty m = refl
-of_metadata Entries m = refl
 
 module _ (segments : ℕ) (when : ℕ → ℕ) (first_tree : FileTree) (numbers : List ℕ) (w : World) (times : AreTimes when) (begins : StandsNumbered segments w.opening (record { tree = first_tree; numbers = numbers }))
     (legal : IsLegal (sector_plan segments when) w) (distinct : Distinct (MayNumber numbers) first_tree (settled w.history)) (good : Good w) (follows : Follows segments w.opening w.home w.logged w.first [])
@@ -112,7 +106,7 @@ module _ (segments : ℕ) (when : ℕ → ℕ) (first_tree : FileTree) (numbers 
   small_logged : (k p : ℕ) → k < 1024 * segments → p < 8 → IsMetadata (here.use_of k) → is_logged w.logged h (sector_of (region.Small k p)) ≡ true
   small_logged k p l lp d =
       kinds (sector_of (region.Small k p)) (DirectoryAt k p) (ap sector_in (region_found segments (region.Small k p) few (in_small segments k p l lp)))
-      ∙ of_metadata ((store_after segments w.opening h).use_of k) (subst IsMetadata (sym (in_segments.uses k)) d)
+      ∙ is_metadata ((store_after segments w.opening h).use_of k) (subst IsMetadata (sym (in_segments.uses k)) d)
 
   same_versioned : HaveTheSameVersioned segments disk other
   same_versioned = record {
@@ -149,7 +143,7 @@ module _ (segments : ℕ) (when : ℕ → ℕ) (first_tree : FileTree) (numbers 
     })
 
     past_fresh : (k : ℕ) → 1024 * segments ≤ k → here.use_of k ≡ Fresh
-    past_fresh k l = ap (λ (t : Bool). if t then use_in (segment_at disk (k / 1024)) (k % 1024) else Fresh) (of_ge k (1024 * segments) l)
+    past_fresh k l = ap (λ (t : Bool). if t then use_in (segment_at disk (k / 1024)) (k % 1024) else Fresh) (le-ltb k (1024 * segments) l)
 
     says : SaysTheSame (store_on segments disk) (store_after segments w.opening h)
     says = record {

@@ -2,20 +2,21 @@
 use Rattle.std.proofs.Common.{ℕ, ◌≡◌, ◌/◌, ◌<◌, Bool, true, false, nat_eq, if◌then◌else◌, Option, Some, None, [], is_some, refl, sym, ◌∙◌, ap, subst, arith}
 use Rattle.std.specs.BTreeMap.{is_at}
 use Rattle.std.specs.Ordering.{nat_cmp}
+use Rattle.std.proofs.lemmas.Bool.{eq-eqb, eqb-true}
+use Rattle.code_plan_laws.proofs.Picture.{root_only}
 use Rattle.frang_base.specs.declared.lock.LockId.TheVariants as lock
-use Rattle.frang_base.proofs.Basics.{eq_of, of_eq}
 use Rattle.tree_definitions.specs.declared.node.Node.{Node}
 use Rattle.tree_definitions.specs.declared.node.Node.TheVariants.{Dir}
 use Rattle.tree_definitions.specs.Tree.{FileTree, fresh, node_at}
 use Rattle.tree_laws.proofs.Pairs.{birth_exact, tie}
 use Rattle.disk_definitions.specs.Naming.{Allows, Naming, blocks_of, cell_in, file_byte, has_large, inode_of, use_for}
 use Rattle.disk_definitions.specs.Store.{Store, StoredNode, is_unused, store_of}
-use Rattle.disk_definitions.specs.Store.Use.{Empty, Fresh}
 use Rattle.disk_definitions.proofs.Free.{no_owner, no_large_owner}
 use Rattle.disk_definitions.specs.Ask.{Sector, InodeAt, DirectoryAt, SegmentAt, BytesAt, LargeAt}
 use Rattle.disk_definitions.specs.Meets.{IsOfTree}
 use Rattle.plan_laws.specs.Covers.{cover_of, inode_cover, large_cover, small_cover}
 use Rattle.plan_laws.proofs.Standing.{node_of}
+use Rattle.plan_laws.proofs.Totals.{free_if}
 use Rattle.line_histories.specs.LinePlans.{store_on}
 use Rattle.line_histories.specs.Files.{HoldsBytes}
 use Rattle.line_histories.proofs.Disks.{blank_of}
@@ -27,13 +28,6 @@ only_root segments b x e = go (is_at (nat_cmp b) 0) refl e
     go : (c : Bool) → is_at (nat_cmp b) 0 ≡ c → (if c then Some (Dir [] 0) else None) ≡ Some x → (b ≡ 0) × (x ≡ Dir [] 0)
     go true q i = let same : Dir [] 0 ≡ x = cc in (tie nat_cmp birth_exact b 0 q, sym same)
     go false q i = absurd (cc)
-
-there_root : (segments b : ℕ) → is_some (node_at (fresh segments) b) ≡ true → b ≡ 0
-there_root segments b e = go (node_at (fresh segments) b) refl e
-  where
-    go : (o : Option Node) → node_at (fresh segments) b ≡ o → is_some o ≡ true → b ≡ 0
-    go None is i = absurd (cc)
-    go (Some x) is i = (only_root segments b x is).0
 
 no_blocks : (segments b j : ℕ) → j < blocks_of (node_at (fresh segments) b) → ⊥
 no_blocks segments b j l = go (node_at (fresh segments) b) refl l
@@ -49,10 +43,6 @@ no_large segments b e = go (node_at (fresh segments) b) refl e
     go None is i = cc
     go (Some x) is i = let z : false ≡ true = subst (λ y. has_large (Some y) ≡ true) (only_root segments b x is).1 i in cc
 
-unused_if : (b : Bool) → is_unused (if b then Empty else Fresh) ≡ true
-unused_if true = refl
-unused_if false = refl
-
 module _ (segments : ℕ) (s : Store) (n : Naming) (of : IsOfTree s (fresh segments) n) where
   root_bit : (i : ℕ) → s.bit i ≡ nat_eq i 0
   root_bit i = of.pictures.bits i ∙ go (n.birth i) refl (nat_eq i 0) refl
@@ -62,18 +52,18 @@ module _ (segments : ℕ) (s : Store) (n : Naming) (of : IsOfTree s (fresh segme
 
       go : (o : Option ℕ) → n.birth i ≡ o → (c : Bool) → nat_eq i 0 ≡ c → is_some o ≡ c
       go None e false q = refl
-      go None e true q = absurd (let z : Some 0 ≡ None = sym at_root ∙ ap n.birth (sym (eq_of i 0 q)) ∙ e in cc)
+      go None e true q = absurd (let z : Some 0 ≡ None = sym at_root ∙ ap n.birth (sym (eqb-true i 0 q)) ∙ e in cc)
       go (Some b) e true q = refl
       go (Some b) e false q =
           let w = of.pictures.whose i b e in
-          let zero : i ≡ 0 = sym w.0 ∙ ap n.inode (there_root segments b w.1) ∙ of.root in
-          absurd (let z : true ≡ false = sym (of_eq i 0 zero) ∙ q in cc)
+          let zero : i ≡ 0 = sym w.0 ∙ ap n.inode (root_only segments b w.1) ∙ of.root in
+          absurd (let z : true ≡ false = sym (eq-eqb i 0 zero) ∙ q in cc)
 
   block_unused : (k : ℕ) → is_unused (s.use_of k) ≡ true
   block_unused k = ap is_unused (of.pictures.uses k) ∙ go (n.owner k) refl
     where
       go : (o : Option (ℕ × ℕ)) → n.owner k ≡ o → is_unused (use_for (n.was k) (node_at (fresh segments)) o) ≡ true
-      go None e = unused_if (n.was k)
+      go None e = free_if (n.was k)
       go (Some o) e = absurd (no_blocks segments o.0 o.1 (of.pictures.owners k o.0 o.1 e).1)
 
   large_unused : (g : ℕ) → s.large_bit g ≡ false

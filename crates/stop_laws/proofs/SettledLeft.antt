@@ -1,15 +1,13 @@
 -- A stop of all servers leaves the tree of the history with the recoveries of all logs, where cells are known.
-use Rattle.std.proofs.Common.{ℕ, ◌≡◌, ◌+◌, List, refl, sym, ◌∙◌, ap, subst}
+use Rattle.std.proofs.Common.{◌+◌, List, sym, ◌∙◌, ap, subst}
 use Rattle.std.specs.List.Sorted.{IsStrictlySortedBy}
 use Rattle.std.specs.Ordering.{nat_cmp}
-use Rattle.tree_definitions.specs.declared.node.Node.{Node}
-use Rattle.tree_definitions.specs.declared.node.Node.TheVariants.{Dir, File, Link}
 use Rattle.tree_definitions.specs.History.{after_all}
-use Rattle.tree_definitions.specs.Touched.{node_shape, shape_of}
+use Rattle.tree_definitions.specs.Touched.{shape_of}
 use Rattle.tree_definitions.specs.Tree.{FileTree}
 use Rattle.tree_laws.specs.WellFormed.{IsWellFormed, names_in, one_at}
 use Rattle.tree_laws.proofs.Changes.{same_dir, same_links}
-use Rattle.tree_laws.proofs.ShapeKeeping.{well_shape}
+use Rattle.tree_laws.proofs.ShapeKeeping.{well_shape, names_stay}
 use Rattle.tree_laws.proofs.ShapeNodes.{count_stays, found, keys_stay, shaped}
 use Rattle.sector_world.specs.Plans.{Legal}
 use Rattle.sector_world.specs.Claims.{replayed}
@@ -27,18 +25,12 @@ use Rattle.stop_laws.specs.SettledStop.{StopsLeaveTheTree}
 use Rattle.stop_laws.proofs.Lines.{shapes_follow}
 use Rattle.stop_laws.proofs.Stopping.{IsStopped, stopped_alike}
 
--- a tree whose shape is well formed is well formed
-names_alike : (b : ℕ) (x : Node) → names_in b (node_shape x) ≡ names_in b x
-names_alike b (Dir entries blocks) = refl
-names_alike b (File cells links when) = refl
-names_alike b (Link target links) = refl
-
 well_by_shape : (t : FileTree) → IsWellFormed (shape_of t) → IsWellFormed t
 well_by_shape t well = record {
   births = subst (IsStrictlySortedBy nat_cmp) (keys_stay t) well.births;
   names = λ dir entries blocks is. well.names dir entries blocks (found t dir ∙ ap shaped is);
   rooted = sym (same_dir t 0) ∙ well.rooted;
-  links = λ b. sym (ap (λ k. k + one_at 0 b) (count_stays (names_in b) t (names_alike b))) ∙ well.links b ∙ same_links t b;
+  links = λ b. sym (ap (λ k. k + one_at 0 b) (count_stays (names_in b) t (names_stay b))) ∙ well.links b ∙ same_links t b;
 }
 
 pub stops_leave_the_tree : StopsLeaveTheTree

@@ -12,6 +12,7 @@ use Rattle.line_laws.specs.Stores.{blank}
 use Rattle.line_histories.specs.Files.{IsWritten}
 use Rattle.line_histories.specs.Planners.{edit_shape}
 use Rattle.line_histories.proofs.Lists.{has_map}
+use Rattle.line_histories.proofs.Shapes.{is_metadata_same}
 
 -- ---- stores
 
@@ -57,21 +58,12 @@ place_shape (SetLarge g b) = refl
 place_shape (SetBytes k part bytes) = refl
 place_shape (SetLargeBytes g part bytes) = refl
 
-kind_shape : (e : Edit) → is_metadata (edit_shape e) ≡ is_metadata e
-kind_shape (SetInode i x dated) = refl
-kind_shape (SetBit i b) = refl
-kind_shape (SetUse k u) = refl
-kind_shape (SetPlace k p x) = refl
-kind_shape (SetLarge g b) = refl
-kind_shape (SetBytes k part bytes) = refl
-kind_shape (SetLargeBytes g part bytes) = refl
-
 pub written_too : (es fs : List Edit) → map edit_shape es ≡ map edit_shape fs → (x : Sector) → IsWritten es x → IsWritten fs x
 written_too es fs same x w =
     let r = has_map edit_shape fs (edit_shape w.edit) (subst (λ l. Contains l (edit_shape w.edit)) same (map_has edit_shape es w.edit w.among)) in
     record {
       edit = r.0;
       among = r.1;
-      bytes = sym (kind_shape r.0) ∙ ap is_metadata r.2 ∙ kind_shape w.edit ∙ w.bytes;
+      bytes = sym (is_metadata_same r.0) ∙ ap is_metadata r.2 ∙ is_metadata_same w.edit ∙ w.bytes;
       here = sym (place_shape r.0) ∙ ap edited_at r.2 ∙ place_shape w.edit ∙ w.here;
     }

@@ -1,9 +1,8 @@
 -- Over bytes that are those shown wherever it looks, a program comes to what it comes to over those shown.
 use Rattle.std.proofs.Common.{ℕ, ◌≡◌, ◌≤◌, ◌<◌, ◌+◌, ◌*◌, ◌/◌, ◌%◌, ⊎_elim, nat_lt, if◌then◌else◌, Option, Some, List, [], ◌∷◌, refl, sym, ◌∙◌, ap, subst, arith}
 use Rattle.std.proofs.Math.Path.{fun_ext}
-use Rattle.std.proofs.lemmas.Bool.{cases_lt}
+use Rattle.std.proofs.lemmas.Bool.{cases_lt, le-ltb}
 use Rattle.std.specs.List.{Contains}
-use Rattle.frang_base.proofs.Basics.{of_ge}
 use Rattle.sector_bytes.specs.Blocks.{Block}
 use Rattle.sector_bytes.specs.Sectors.{Sectors}
 use Rattle.disk_definitions.specs.declared.region.Region.TheVariants as region
@@ -27,7 +26,7 @@ part_same f g k part h = fun_ext (λ r. ⊎_elim (inside r) (outside r) (cases_l
     inside r l = ap (λ v. if nat_lt r 512 then v else 0) (h r l)
 
     outside : (r : ℕ) → 512 ≤ r → part_of f k part r ≡ part_of g k part r
-    outside r l = rw (of_ge r 512 l) refl
+    outside r l = rw (le-ltb r 512 l) refl
 
 -- a store with the bytes of these sectors
 abbrev pub bytes_on : ℕ → Sectors → Store → Store

@@ -1,7 +1,8 @@
 -- What a recovery leaves of deeds is what it leaves of their steps on the side of the tree, and of their operations on the side of sectors.
 use Rattle.std.proofs.Common.{ℕ, ◌≡◌, ◌≢◌, ◌≤◌, ◌<◌, ◌==◌, ◌&&◌, ◌||◌, ◌↔◌, not, Bool, true, false, nat_eq, nat_lt, nat_le, if◌then◌else◌, List, [], ◌∷◌, ◌++◌, refl, sym, ◌∙◌, ap, arith, append-nil}
 use Rattle.std.proofs.lemmas.Bool.Decides.{nat_tests}
-use Rattle.frang_base.proofs.Basics.{eq_of, of_eq, of_lt}
+use Rattle.std.proofs.lemmas.Bool.{and_right, eq-eqb, lt-ltb, eqb-true}
+use mathlib.Core.Bool.{and-false, and-true, or-false, or-true}
 use Rattle.frang_base.specs.Functions.{keep_if}
 use Rattle.frang_base.specs.declared.change.Change.{Change}
 use Rattle.tree_definitions.specs.declared.history.Entry.{Entry}
@@ -53,7 +54,7 @@ module _ (server greatest durable : ℕ) (first : FileTree) where
   own_above c own = go (nat_eq c.by server) refl own
     where
       go : (b : Bool) → nat_eq c.by server ≡ b → (if b then nat_lt durable c.op else false) ≡ true → (c.by ≡ server) × (durable < c.op)
-      go true same above = (eq_of c.by server same, grind (arith, nat_tests))
+      go true same above = (eqb-true c.by server same, grind (arith, nat_tests))
       go false same above = absurd (cc)
 
   none_above : (deeds : List Deed) → has_lost server durable deeds ≡ false → Each (λ c. c.by ≡ server → c.op ≤ durable) (items deeds)
@@ -62,7 +63,7 @@ module _ (server greatest durable : ℕ) (first : FileTree) where
     where
       low : is_own server durable c ≡ false → c.by ≡ server → c.op ≤ durable
       low own same =
-          let test : nat_lt durable c.op ≡ false = sym (ap (λ (b : Bool). if b then nat_lt durable c.op else false) (of_eq c.by server same)) ∙ own in
+          let test : nat_lt durable c.op ≡ false = sym (ap (λ (b : Bool). if b then nat_lt durable c.op else false) (eq-eqb c.by server same)) ∙ own in
           grind (arith, nat_tests)
 
       go : (b : Bool) → is_own server durable c ≡ b → b || has_lost server durable older ≡ false →
@@ -137,10 +138,6 @@ module _ (server greatest durable : ℕ) (first : FileTree) where
 
   -- ---- an operation
 
-  no_mount : (own mounted : Bool) → mounted ≡ false → own && mounted ≡ false
-  no_mount true mounted e = e
-  no_mount false mounted e = refl
-
   own_flips : (c : Commit) → is_own server durable c ≡ not (survives server durable c)
   own_flips c = go (nat_eq c.by server)
     where
@@ -172,7 +169,7 @@ module _ (server greatest durable : ℕ) (first : FileTree) where
     survives_is lost = ap (λ d. if not (nat_eq d server) then Stays e ∷ [] else []) told.0 ∙ ap (λ (b : Bool). if b then Stays e ∷ [] else []) (go (nat_eq c.by server) refl)
       where
         go : (b : Bool) → nat_eq c.by server ≡ b → not b ≡ (if b then nat_le c.op durable else true)
-        go true same = let above : durable < c.op = above_too c older lost rises.0 (eq_of c.by server same) in grind (arith, nat_tests)
+        go true same = let above : durable < c.op = above_too c older lost rises.0 (eqb-true c.by server same) in grind (arith, nat_tests)
         go false same = refl
 
     -- where none was lost before, it is lost exactly where it is above the number
@@ -184,7 +181,7 @@ module _ (server greatest durable : ℕ) (first : FileTree) where
         by_number : c.by ≡ server → (b : Bool) → nat_lt durable c.op ≡ b → nat_lt greatest c.op && is_recorded (tree_after first older) e ≡ b
         by_number same true above =
             let over : durable < c.op = grind (arith, nat_tests) in
-            let past : nat_lt greatest c.op ≡ true = of_lt greatest c.op (omega arith) in
+            let past : nat_lt greatest c.op ≡ true = lt-ltb greatest c.op (omega arith) in
             ap (λ b. b && is_recorded (tree_after first older) e) past ∙ some_record (begins same over (none_above older none))
         by_number same false above = go (nat_lt greatest c.op) refl
           where
@@ -196,26 +193,18 @@ module _ (server greatest durable : ℕ) (first : FileTree) where
             go false past = refl
 
         by_server : (b : Bool) → nat_eq c.by server ≡ b → b && nat_lt greatest c.op && is_recorded (tree_after first older) e ≡ (if b then nat_lt durable c.op else false)
-        by_server true same = by_number (eq_of c.by server same) (nat_lt durable c.op) refl
+        by_server true same = by_number (eqb-true c.by server same) (nat_lt durable c.op) refl
         by_server false same = refl
 
     acts : StaysAlike (Does c e ∷ older)
     acts = go (has_lost server durable older) refl
       where
-        or_true : (b : Bool) → b || true ≡ true
-        or_true true = refl
-        or_true false = refl
-
-        or_none : (b : Bool) → b || false ≡ b
-        or_none true = refl
-        or_none false = refl
-
         go : (b : Bool) → has_lost server durable older ≡ b → StaysAlike (Does c e ∷ older)
         go true lost =
-            behind (Does c e) older before (survives server durable c) refl lost (ap (λ b. is_own server durable c || b) lost ∙ or_true (is_own server durable c))
-            (no_mount (e.server.0 == server) (is_mounted e.reply) told.2) (survives_is lost)
+            behind (Does c e) older before (survives server durable c) refl lost (ap (λ b. is_own server durable c || b) lost ∙ or-true (is_own server durable c))
+            (and_right (e.server.0 == server) (is_mounted e.reply) told.2) (survives_is lost)
         go false none =
-            ahead (Does c e) older before (survives server durable c) refl none (ap (λ b. is_own server durable c || b) none ∙ or_none (is_own server durable c) ∙ own_flips c)
+            ahead (Does c e) older before (survives server durable c) refl none (ap (λ b. is_own server durable c || b) none ∙ or-false (is_own server durable c) ∙ own_flips c)
             (lost_is none ∙ own_flips c)
 
   -- ---- an entry alone
@@ -225,30 +214,22 @@ module _ (server greatest durable : ℕ) (first : FileTree) where
     mounts_none lost = go (e.server.0 == server) refl (is_mounted e.reply) refl
       where
         go : (own : Bool) → e.server.0 == server ≡ own → (mounted : Bool) → is_mounted e.reply ≡ mounted → own && mounted ≡ false
-        go true same true is = absurd (some_above older lost (told.1 is (eq_of e.server.0 server same)))
+        go true same true is = absurd (some_above older lost (told.1 is (eqb-true e.server.0 server same)))
         go true same false is = refl
         go false same mounted is = refl
 
     speaks : StaysAlike (Says e ∷ older)
     speaks = go (has_lost server durable older) refl
       where
-        and_true : (b : Bool) → b && true ≡ b
-        and_true true = refl
-        and_true false = refl
-
-        and_false : (b : Bool) → b && false ≡ false
-        and_false true = refl
-        and_false false = refl
-
         go : (b : Bool) → has_lost server durable older ≡ b → StaysAlike (Says e ∷ older)
         go true lost =
             behind (Says e) older before (not (e.server.0 == server))
-            (ap (λ b. keep_if (not b) (Says e) (what_stays server durable older)) (ap (λ b. e.server.0 == server && b) lost ∙ and_true (e.server.0 == server)))
+            (ap (λ b. keep_if (not b) (Says e) (what_stays server durable older)) (ap (λ b. e.server.0 == server && b) lost ∙ and-true (e.server.0 == server)))
             lost lost (mounts_none lost) refl
         go false none =
             ahead (Says e) older before true
-            (ap (λ b. keep_if (not b) (Says e) (what_stays server durable older)) (ap (λ b. e.server.0 == server && b) none ∙ and_false (e.server.0 == server)))
-            none none (ap (λ b. e.server.0 == server && nat_lt greatest e.number.0 && b) told.0 ∙ and_false (e.server.0 == server && nat_lt greatest e.number.0))
+            (ap (λ b. keep_if (not b) (Says e) (what_stays server durable older)) (ap (λ b. e.server.0 == server && b) none ∙ and-false (e.server.0 == server)))
+            none none (ap (λ b. e.server.0 == server && nat_lt greatest e.number.0 && b) told.0 ∙ and-false (e.server.0 == server && nat_lt greatest e.number.0))
 
   -- ---- the end of a recovery
 

@@ -1,6 +1,7 @@
 -- A removal leaves entries that say that operations are synced right, and reads that agree with what was known.
 use Rattle.std.proofs.Common.{ℕ, ◌≡◌, ◌≤◌, ◌&&◌, ◌==◌, not, Bool, true, false, if◌then◌else◌, nat_eq, Option, List, [], ◌∷◌, refl, sym, ap, subst, arith, le_refl}
-use Rattle.frang_base.proofs.Basics.{by_keep, eq_of, of_eq}
+use Rattle.std.proofs.lemmas.Bool.{eq-eqb, eqb-true}
+use Rattle.frang_base.proofs.Basics.{by_keep}
 use Rattle.tree_definitions.specs.Tree.{FileTree}
 use Rattle.sector_bytes.specs.Blocks.{Block}
 use Rattle.sector_world.specs.HistoryBytes.{Agree}
@@ -58,7 +59,7 @@ module _ (segments : ℕ) (when : ℕ → ℕ) (opening : ℕ → Block) (first_
   more server number older low other = go (nat_eq other server) refl
     where
       go : (b : Bool) → nat_eq other server ≡ b → synced_of other (on_sectors older) ≤ (if b then number else synced_of other (on_sectors older))
-      go true is = subst (λ s. synced_of s (on_sectors older) ≤ number) (sym (eq_of other server is)) low
+      go true is = subst (λ s. synced_of s (on_sectors older) ≤ number) (sym (eqb-true other server is)) low
       go false is = le_refl (synced_of other (on_sectors older))
 
   said : (h : List Happening) → ArePaired segments when opening first_tree numbers h → SyncsRise (on_sectors h) → AllSaidAtOnce h →
@@ -71,7 +72,7 @@ module _ (segments : ℕ) (when : ℕ → ℕ) (opening : ℕ → Block) (first_
   )
   said (Mounts number e ∷ older) paired rise once = (
     (λ says. subst (λ n. Each (λ c. c.by ≡ e.server.0 → c.op ≤ n) (items (settle first_tree older)))
-        (sym (ap (λ (b : Bool). if b then number else synced_of e.server.0 (on_sectors older)) (of_eq e.server.0 e.server.0 refl)))
+        (sym (ap (λ (b : Bool). if b then number else synced_of e.server.0 (on_sectors older)) (eq-eqb e.server.0 e.server.0 refl)))
         (subst (Each (λ c. c.by ≡ e.server.0 → c.op ≤ number)) (sym (same older paired.2)) paired.1)),
     said_more (λ server. synced_of server (on_sectors older)) (λ server. synced_of server (on_sectors (Mounts number e ∷ older))) (more e.server.0 number older rise.0) (settle first_tree older)
         (said older paired.2 rise.1 once),

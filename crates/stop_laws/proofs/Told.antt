@@ -1,7 +1,7 @@
 -- Deeds of lines that the core keeps are told twice, and shown: replies are the tree's answers, deed by deed.
 use Rattle.std.proofs.Common.{ℕ, ◌≡◌, ◌≤◌, ◌&&◌, Bool, false, Option, List, [], ◌∷◌, refl, ◌∙◌, ap, subst}
+use Rattle.std.proofs.lemmas.Bool.{eqb-true}
 use Rattle.frang_base.specs.declared.lock.LockId.{LockId}
-use Rattle.frang_base.proofs.Basics.{eq_of}
 use Rattle.tree_definitions.specs.declared.history.Entry.{Entry}
 use Rattle.tree_definitions.specs.History.{CellRun}
 use Rattle.tree_definitions.specs.Touched.{is_ok, is_sync}
@@ -127,7 +127,7 @@ module _ (segments : ℕ) (when : ℕ → ℕ) (times : AreTimes when) (opening 
     meets_none = leaving_writes_none (tree_after first_tree older) e runs.lines.0;
     touches_none = leaving_touches_none (tree_after first_tree older) e runs.lines.0;
     covers = λ own ends. subst (λ n. Each (λ c. c.by ≡ server → c.op ≤ n) (items older)) is
-        (subst (λ s. Each (λ c. c.by ≡ s → c.op ≤ synced s) (items older)) (eq_of e.server.0 server own) (said.0 ends));
+        (subst (λ s. Each (λ c. c.by ≡ s → c.op ≤ synced s) (items older)) (eqb-true e.server.0 server own) (said.0 ends));
   }
 
   pub all_told : (synced : ℕ → ℕ) → synced server ≡ number → (deeds : List Deed) → AllSaid synced deeds → IsRun deeds → AreKept segments when opening home first_tree deeds → Told deeds

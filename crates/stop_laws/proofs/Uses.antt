@@ -1,7 +1,6 @@
 -- An operation of a legal history of lines uses the locks of what its entry touches: by the laws of lines, over a store with the bytes of the tree.
-use Rattle.std.proofs.Common.{ℕ, ◌≡◌, ◌≢◌, ◌≤◌, ◌==◌, ◌||◌, ⊎_elim, not, true, false, Option, Some, None, List, [], ◌∷◌, ◌++◌, map, is_some, eqb-true, refl, sym, ◌∙◌, ap, ap₂, subst}
+use Rattle.std.proofs.Common.{ℕ, ◌≡◌, ◌≢◌, ◌==◌, ◌||◌, ⊎_elim, not, true, false, Option, Some, None, List, [], ◌∷◌, ◌++◌, map, is_some, eqb-true, refl, sym, ◌∙◌, ap, ap₂, subst}
 use Rattle.std.proofs.lemmas.Bool.{and_parts, or_cases}
-use Rattle.std.proofs.lemmas.List.{length-map}
 use Rattle.std.proofs.lemmas.List.Elements.{Contains-append_left}
 use Rattle.std.specs.List.{Contains, list_any}
 use Rattle.frang_base.specs.Locks.{has_lock}
@@ -13,7 +12,6 @@ use Rattle.frang_base.specs.declared.op.Op.{Op}
 use Rattle.frang_base.specs.declared.op.Op.TheVariants as op
 use Rattle.frang_base.specs.declared.reply.Reply.{Reply}
 use Rattle.frang_base.specs.declared.reply.Reply.TheVariants as reply
-use Rattle.tree_definitions.specs.declared.cells.Cell.TheVariants.{Doubtful}
 use Rattle.tree_definitions.specs.declared.history.Entry.{Entry}
 use Rattle.tree_definitions.specs.declared.node.Node.{Node}
 use Rattle.tree_definitions.specs.Apply.{Applied}
@@ -23,7 +21,7 @@ use Rattle.tree_definitions.specs.Touched.{changes, differs, further, looked_in,
 use Rattle.tree_definitions.specs.Tree.{FileTree, node_at}
 use Rattle.tree_laws.specs.WellFormed.{IsNew, IsWellFormed}
 use Rattle.tree_laws.proofs.Sameness.{where_same}
-use Rattle.tree_laws.proofs.ShapeNodes.{doubts, found, shaped}
+use Rattle.tree_laws.proofs.ShapeNodes.{found, shaped}
 use Rattle.sector_bytes.specs.Blocks.{Block}
 use Rattle.sector_bytes.specs.Sectors.{Sectors}
 use Rattle.sector_world.specs.Histories.{Commit, Item, logical}
@@ -62,10 +60,11 @@ use Rattle.stop_laws.proofs.BytesCovered.{is_used}
 use Rattle.byte_trees.proofs.Nodes.{well_too}
 use Rattle.stop_laws.proofs.BytesTold.{told_same}
 use Rattle.stop_laws.specs.Paired.{AreLines, AreOfOneLine}
-use Rattle.stop_laws.proofs.Lines.{shapes_follow}
+use Rattle.stop_laws.proofs.Lines.{shapes_follow, no_node}
 use Rattle.stop_laws.proofs.Counted.{directories_few}
 use Rattle.stop_laws.specs.Locks.{LinesUseTheirLocks, UsesItsLocks}
 use Rattle.stop_laws.proofs.Bytes.{large_byte, says_the_tree, small_byte}
+use Rattle.stop_laws.proofs.Operation.{fit_back}
 
 -- ---- small facts
 
@@ -73,10 +72,6 @@ any_has : (b : ℕ) (xs : List ℕ) → list_any (λ x. x == b) xs ≡ true → 
 any_has b [] e = absurd (cc)
 any_has b (x ∷ xs) e =
     ⊎_elim (λ here. subst (Contains (x ∷ xs)) (eqb-true x b here) (has_head x xs)) (λ rest. has_more x b xs (any_has b xs rest)) (or_cases (x == b) (list_any (λ x. x == b) xs) e)
-
-none_back : (o : Option Node) → shaped o ≡ None → o ≡ None
-none_back None e = refl
-none_back (Some x) e = absurd (cc)
 
 some_back : (o : Option Node) → is_some (shaped o) ≡ true → is_some o ≡ true
 some_back None e = absurd (cc)
@@ -88,9 +83,6 @@ another old new b e same =
     let none : differs old new b ≡ false = ap (λ o. not (same_where (node_at old b) o)) same ∙ ap not (where_same (node_at old b)) in
     let z : true ≡ false = sym e ∙ none in
     cc
-
-fit_back : (t : FileTree) → FilesFit (node_at (shape_of t)) → FilesFit (node_at t)
-fit_back t fit b links when cells is = subst (λ size. size ≤ 1114112) (length-map cells (λ c. Doubtful)) (fit b links when (doubts cells) (found t b ∙ ap shaped is))
 
 -- ---- what a reply has beside the bytes that it shows
 
@@ -253,7 +245,7 @@ module _ (segments : ℕ) (when : ℕ → ℕ) (opening : ℕ → Block) (first 
       ((both segments when times opening (numbered first numbers) begins (items older) legal.1 taken.2).1 c.op taken.1 taken.0).new
 
   new : IsNew t c.op
-  new = none_back (node_at t c.op) (sym (found t c.op) ∙ ap (λ u. node_at u c.op) shape ∙ found tree c.op ∙ ap shaped may_new)
+  new = no_node (node_at t c.op) (sym (found t c.op) ∙ ap (λ u. node_at u c.op) shape ∙ found tree c.op ∙ ap shaped may_new)
 
   uses : UsesItsLocks segments opening first c e older
   uses b n of there touched =

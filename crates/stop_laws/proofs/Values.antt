@@ -2,20 +2,12 @@
 use Rattle.std.proofs.Common.{ℕ, ◌≡◌, ⊎_elim, Bool, true, false, if◌then◌else◌, Option, Some, None, List, [], ◌∷◌, refl, sym, ◌∙◌, ap, subst}
 use Rattle.std.specs.BTreeMap.{is_at}
 use Rattle.std.specs.List.{Contains}
-use Rattle.std.specs.Option.{option_map, unwrap_or}
 use Rattle.std.specs.Ordering.{nat_cmp}
 use Rattle.tree_laws.proofs.Pairs.{birth_exact, self, tie}
-use Rattle.sector_bytes.specs.Blocks.{Block}
 use Rattle.sector_bytes.specs.SectorMaps.{value_at}
-use Rattle.sector_world.specs.Histories.{Fill}
-use Rattle.sector_world.specs.Histories.Fill.{Written, Freed}
-use Rattle.sector_world.specs.Plans.{made_of}
 use Rattle.disk_definitions.specs.Edits.{Edit}
-use Rattle.disk_definitions.specs.Plans.{Plan}
 use Rattle.disk_definitions.specs.Written.{byte_write, byte_writes, edit_sector, edited_block, is_metadata}
 use Rattle.plan_laws.proofs.Covering.{has_cases, has_head, has_more, not_in_none}
-use Rattle.line_histories.specs.LinePlans.{edits_in, fill_by, makes_by}
-use Rattle.line_histories.specs.Outcomes.{fill_shape}
 use Rattle.line_histories.proofs.Lists.{filter_has, has_filter}
 
 -- ---- by a key that has one value
@@ -78,17 +70,3 @@ value_is edits d c p one =
     sym w.2 ∙ ap (edited_block [] 0) (one r.0 r.1 w.0 w.1))
 
 -- ---- what is made is what the plan makes of what is shown
-
-made_shown : (fills : Option Block → Option Fill) (shown : Option Block) (a b : Option Fill) → fills shown ≡ b → fill_shape b ≡ fill_shape a → made_of (option_map (λ fill shown. unwrap_or (fills shown) fill) a) shown ≡ b
-made_shown fills shown None None q e = refl
-made_shown fills shown None (Some (Written block)) q e = absurd (cc)
-made_shown fills shown None (Some Freed) q e = absurd (cc)
-made_shown fills shown (Some (Written block)) None q e = absurd (cc)
-made_shown fills shown (Some Freed) None q e = absurd (cc)
-made_shown fills shown (Some fill) (Some other) q e = ap (λ o. Some (unwrap_or o fill)) q
-
-pub made_exact : (planned : Option Block → Plan) (number : ℕ) (shown : Option Block) →
-    fill_shape (fill_by (edits_in (planned shown)) number) ≡ fill_shape (fill_by (edits_in (planned None)) number) →
-    made_of (makes_by planned number) shown ≡ fill_by (edits_in (planned shown)) number
-made_exact planned number shown same =
-    made_shown (λ shown. fill_by (edits_in (planned shown)) number) shown (fill_by (edits_in (planned None)) number) (fill_by (edits_in (planned shown)) number) refl same

@@ -1,11 +1,8 @@
 -- What the edits of a line make of the sector of a part that is in use: it is written where they write it, and nowhere else.
-use Rattle.std.proofs.Common.{ℕ, ◌≡◌, ◌≤◌, Bool, true, false, if◌then◌else◌, Option, Some, None, is_some, List, [], ◌∷◌, refl, sym, ap, subst}
+use Rattle.std.proofs.Common.{ℕ, ◌≡◌, ◌≤◌, Bool, true, false, if◌then◌else◌, Option, Some, None, is_some, List, refl, ap}
 use Rattle.std.specs.List.{Contains}
 use Rattle.std.specs.Option.{option_map}
-use Rattle.std.specs.BTreeMap.{is_at}
-use Rattle.std.specs.Ordering.{nat_cmp}
 use Rattle.frang_base.specs.Functions.{member}
-use Rattle.tree_laws.proofs.Pairs.{birth_exact, tie}
 use Rattle.sector_bytes.specs.Blocks.{Block}
 use Rattle.sector_bytes.specs.SectorMaps.{value_at}
 use Rattle.sector_world.specs.Histories.{Fill}
@@ -21,11 +18,11 @@ use Rattle.disk_definitions.specs.Written.{byte_write, byte_writes, edit_sector,
 use Rattle.plan_fit.proofs.Kept.{in_small, in_large}
 use Rattle.line_histories.specs.LinePlans.{fill_by}
 use Rattle.line_histories.specs.Outcomes.{fill_shape}
-use Rattle.plan_laws.proofs.Covering.{has_head, has_more}
 use Rattle.line_histories.proofs.Apart.{one_fit}
 use Rattle.line_histories.proofs.Lists.{has_filter}
 use Rattle.line_histories.specs.Files.{IsWritten}
 use Rattle.line_histories.proofs.Filled.{IsInUse}
+use Rattle.line_histories.proofs.Guarded.{value_in}
 
 -- with bytes or without, there is a fill or none
 pub some_shape : (o : Option Fill) → is_some (fill_shape o) ≡ is_some o
@@ -55,19 +52,6 @@ has_bytes edits s none f = go (member s (freed_sectors edits)) (value_at (byte_w
 abbrev number : Option (ℕ × List ℕ) → ℕ
 number None = 0
 number (Some write) = write.0
-
--- what stands in a list by its key
-value_in : (xs : List (ℕ × List ℕ)) (s : ℕ) (b : List ℕ) → value_at xs s ≡ Some b → Contains xs (s, b)
-value_in [] s b e = absurd (cc)
-value_in (x ∷ xs) s b e = go (value_in xs s b) (is_at (nat_cmp s) x.0) refl e
-  where
-    go : (value_at xs s ≡ Some b → Contains xs (s, b)) → (c : Bool) → is_at (nat_cmp s) x.0 ≡ c → (if c then Some x.1 else value_at xs s) ≡ Some b → Contains (x ∷ xs) (s, b)
-    go rest true q i =
-        let key : x.0 ≡ s = sym (tie nat_cmp birth_exact s x.0 q) in
-        let value : x.1 ≡ b = cc in
-        let same : x ≡ (s, b) = rw (key, value) refl in
-        subst (Contains (x ∷ xs)) same (has_head x xs)
-    go rest false q i = has_more x (s, b) xs (rest i)
 
 -- what has a value is written by an edit of bytes
 module _ (segments : ℕ) (few : segments ≤ 64) (end : Store) (edits : List Edit) (fit : AreFit segments end edits) where

@@ -4,7 +4,7 @@ use Rattle.tree_definitions.specs.declared.node.Node.{Node}
 use Rattle.tree_definitions.specs.declared.node.Node.TheVariants.{Dir, File, Link}
 use Rattle.tree_definitions.specs.Tree.{small_blocks, dir_blocks, file_blocks, small_blocks_of}
 
-none_before : (n : ℕ) → n ≡ 0 + n
+pub none_before : (n : ℕ) → n ≡ 0 + n
 none_before n = omega arith
 
 pub small_blocks_are : (node : Node) → small_blocks node ≡ dir_blocks node + file_blocks node

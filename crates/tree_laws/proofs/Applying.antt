@@ -1,9 +1,11 @@
 -- An operation goes by the nodes that it touches.
-use Rattle.std.proofs.Common.{ℕ, ◌≡◌, ◌==◌, Bool, true, false, ◌||◌, not, Option, Some, None, List, [], ◌∷◌, ◌++◌, length, map, replicate, refl, sym, ◌∙◌, ap, subst, ◌⊎◌, is_some}
+use Rattle.std.proofs.Common.{ℕ, ◌≡◌, ◌==◌, true, false, not, Option, Some, None, List, [], ◌∷◌, ◌++◌, length, map, replicate, refl, sym, ◌∙◌, ap, subst, ◌⊎◌, is_some}
+use Rattle.std.proofs.lemmas.Bool.{or_right}
 use Rattle.frang_base.specs.declared.op.Op.{Op}
 use Rattle.frang_base.specs.declared.op.Op.TheVariants as op
 use Rattle.frang_base.specs.declared.reply.Reply.{Reply}
 use Rattle.frang_base.specs.declared.reply.Reply.TheVariants as reply
+use Rattle.frang_base.proofs.Tests.{or_more}
 use Rattle.tree_definitions.specs.declared.cells.Cell.{Cell}
 use Rattle.tree_definitions.specs.declared.cells.Cell.TheVariants.{Byte}
 use Rattle.tree_definitions.specs.declared.node.Node.{Node}
@@ -23,21 +25,13 @@ use Rattle.tree_laws.proofs.Acting.{made_matches, link_taken, unlink_taken, rmdi
 use Rattle.tree_laws.proofs.Renaming.{renamed_to_matches}
 use Rattle.tree_laws.proofs.Asking.{Grounds, Reaches, reached_is_in, at_file_matches, written_matches, truncated_matches, shown_matches, stat_matches, list_matches, readlink_matches}
 
-or_more : (t u v : Bool) → (u ≡ true → v ≡ true) → t || u ≡ true → t || v ≡ true
-or_more true u v f h = refl
-or_more false u v f h = f h
-
-or_second : (t u : Bool) → u ≡ true → t || u ≡ true
-or_second true u h = refl
-or_second false u h = h
-
 pub in_left : (b : ℕ) (xs ys : List ℕ) → is_in b xs ≡ true → is_in b (xs ++ ys) ≡ true
 in_left b [] ys h = cc
 in_left b (x ∷ xs) ys h = or_more (x == b) (is_in b xs) (is_in b (xs ++ ys)) (in_left b xs ys) h
 
 pub in_right : (b : ℕ) (xs ys : List ℕ) → is_in b ys ≡ true → is_in b (xs ++ ys) ≡ true
 in_right b [] ys h = h
-in_right b (x ∷ xs) ys h = or_second (x == b) (is_in b (xs ++ ys)) (in_right b xs ys h)
+in_right b (x ∷ xs) ys h = or_right (x == b) (is_in b (xs ++ ys)) (in_right b xs ys h)
 
 -- a second walk is made
 pub then_after_any : (tree : FileTree) (c : ℕ) (o : Option Node) (to : List (List ℕ)) → is_some o ≡ true → then_walked tree (reached_if any_node c o) to ≡ walked tree to

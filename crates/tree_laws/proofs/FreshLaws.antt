@@ -19,7 +19,7 @@ none_sorted : IsStrictlySortedBy (slice_cmp nat_cmp) (keys_of {K = List ℕ} {X 
 unfolding IsStrictlySortedBy
 none_sorted = tt
 
-fresh_other : (segments b : ℕ) → b ≢ 0 → node_at (fresh segments) b ≡ None
+pub fresh_other : (segments b : ℕ) → b ≢ 0 → node_at (fresh segments) b ≡ None
 fresh_other segments b far = with_other (record { segments = segments; nodes = [] }) 0 (Dir [] 0) b far
 
 fresh_names : (segments : ℕ) → NamesAscend (fresh segments)

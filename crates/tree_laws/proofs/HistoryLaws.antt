@@ -1,5 +1,6 @@
 -- One item more at the end of a history, and lists of steps one after another.
 use Rattle.std.proofs.Common.{◌≡◌, ℕ, ◌+◌, Bool, true, false, ◌&&◌, List, [], ◌∷◌, ◌++◌, refl, ◌∙◌, ap}
+use mathlib.Core.Bool.{and-true}
 use Rattle.frang_base.specs.declared.sector.OpNo.{OpNo}
 use Rattle.frang_base.specs.declared.sector.ServerId.{ServerId}
 use Rattle.tree_definitions.specs.declared.history.Entry.{Entry}
@@ -13,10 +14,6 @@ use Rattle.tree_laws.specs.Histories.{ever_after}
 pub and-assoc : (a b c : Bool) → a && (b && c) ≡ (a && b) && c
 and-assoc true b c = refl
 and-assoc false b c = refl
-
-pub and-true : (a : Bool) → a && true ≡ a
-and-true true = refl
-and-true false = refl
 
 -- settling goes from the left
 pub settled-append : (opening : FileTree) (list : List Settled) (items more : List Item) → settled_from opening list (items ++ more) ≡ settled_from opening (settled_from opening list items) more

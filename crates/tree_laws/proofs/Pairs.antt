@@ -1,5 +1,5 @@
 -- Lists of pairs in ascending order of their keys: what is found after an insertion or a removal, and that the order stays.
-use Rattle.std.proofs.Common.{◌≡◌, ◌≢◌, ◌+◌, Bool, true, false, List, [], ◌∷◌, map, length, Some, None, cond, refl, sym, ◌∙◌, ap, arith}
+use Rattle.std.proofs.Common.{◌≡◌, ◌≢◌, ◌+◌, true, false, List, [], ◌∷◌, map, length, Some, None, cond, refl, sym, ◌∙◌, ap, arith}
 use Rattle.std.specs.Ordering.{is_eq, match_ordering, ordering_reverse, nat_cmp}
 use Rattle.std.specs.declared.cmp.Ordering.{Ordering}
 use Rattle.std.specs.declared.cmp.Ordering.TheVariants.{Less, Equal, Greater}
@@ -10,17 +10,13 @@ use Rattle.std.specs.Cmp.Lexicographic.{slice_cmp, nat_list_cmp_total}
 use Rattle.std.specs.FinMap.{nat_cmp-IsAntisymmetric, slice_cmp-IsAntisymmetric}
 use Rattle.std.specs.List.{AllByRecursion}
 use Rattle.std.specs.List.Sorted.{IsStrictlySortedBy}
-use Rattle.std.proofs.lemmas.Bool.{cond_both}
+use Rattle.frang_base.proofs.Basics.{by_test}
 
 -- an order whose ties are equal
 pub record IsExact {K : Type 0} (cmp : K → K → Ordering) : Type 0 where
   pub total : IsTotalOrder cmp
   pub ties : (x y : K) → cmp x y ≡ Equal → x ≡ y
   pub own : (x : K) → cmp x x ≡ Equal
-
--- a test, with what it tells
-pub by_test : {A : Type 0} (P : A → Type 0) (x y : A) (b : Bool) → (b ≡ true → P x) → (b ≡ false → P y) → P (cond b x y)
-by_test P x y b onyes onno = cond_both b x y P onyes onno
 
 module _ {K : Type 0} (cmp : K → K → Ordering) (exact : IsExact cmp) where
   pub tie : (x y : K) → is_at (cmp x) y ≡ true → x ≡ y

@@ -1,17 +1,17 @@
 -- What a recovery leaves does what it did in the whole list.
-use Rattle.std.proofs.Common.{ℕ, ◌≡◌, ◌+◌, ◌==◌, Bool, true, false, not, ◌&&◌, ◌||◌, Option, Some, None, List, [], ◌∷◌, ◌++◌, cond, refl, sym, ◌∙◌, ap, subst, inr, append_assoc, append-nil, take, drop, map, take-append-drop, drop-drop}
+use Rattle.std.proofs.Common.{ℕ, ◌≡◌, ◌+◌, Bool, true, false, not, Option, Some, None, List, [], ◌∷◌, ◌++◌, cond, refl, sym, ◌∙◌, ap, subst, inr, append_assoc, append-nil, take, drop, map, take-append-drop, drop-drop}
 use Rattle.std.specs.List.{list_any}
-use Rattle.std.proofs.lemmas.Bool.{and_parts, and_from}
+use Rattle.std.proofs.lemmas.Bool.{and_parts}
 use Rattle.tree_definitions.specs.declared.cells.Cell.{Cell}
 use Rattle.tree_definitions.specs.declared.cells.Cell.TheVariants.{Doubtful}
 use Rattle.tree_definitions.specs.declared.node.Node.{Node}
 use Rattle.tree_definitions.specs.declared.node.Node.TheVariants.{Dir, File, Link}
 use Rattle.tree_definitions.specs.Tree.{FileTree, node_at, with_node}
-use Rattle.tree_definitions.specs.History.{Settled, Stays, InDoubt, CellRun, doubted_cells, doubted_file, doubted, file_of, after, after_all, grows, may_stand, legal_from}
-use Rattle.tree_definitions.specs.Touched.{is_seen, is_synced, stalled_after}
+use Rattle.tree_definitions.specs.History.{Settled, InDoubt, CellRun, doubted_cells, doubted_file, doubted, file_of, after, after_all, grows, may_stand, legal_from}
+use Rattle.tree_definitions.specs.Touched.{stalled_after}
 use Rattle.tree_definitions.specs.Removal.{mounts, is_lost, begins_removal, left, doubtful, recovered, none_known, keeps_known}
 use Rattle.tree_laws.specs.WellFormed.{IsWellFormed, AreNew}
-use Rattle.tree_laws.specs.Removing.{without, none_seen, has_room, room_left}
+use Rattle.tree_laws.specs.Removing.{without, has_room, room_left}
 use Rattle.tree_laws.proofs.Nodes.{each_but, with_same, with_other}
 use Rattle.tree_laws.proofs.Likeness.{Like, Near, like_same, like_equal}
 use Rattle.tree_laws.specs.Alike.{Vaguer}
@@ -21,6 +21,7 @@ use Rattle.tree_laws.proofs.SettlingLaws.{lost_is_of}
 use Rattle.tree_laws.proofs.HistoryLaws.{after_all-append}
 use Rattle.tree_laws.specs.Leaving.{changed_by, LeavesAlike, WhatARecoveryLeavesDoesTheSame}
 use Rattle.tree_laws.proofs.LeavingLaws.{what_is_left_does_the_same}
+use Rattle.tree_laws.proofs.RemovingLaws.{unseen_if_unknown}
 
 -- ---- doubt makes nodes vaguer
 in_doubt : (xs : List Cell) → Vaguer xs (map (λ c. Doubtful) xs)
@@ -54,19 +55,6 @@ doubted_vaguer (run ∷ runs) u b =
     vague_nodes_trans (node_at u b) (node_at v b) (node_at (doubted v runs) b) (file_vaguer u run.birth run.from run.count (node_at u run.birth) refl b) (doubted_vaguer runs v b)
 
 -- ---- the place where a recovery begins to remove
-unseen_if_unknown : (server : ℕ) (stalled : Bool) (t : FileTree) (list : List Settled) → none_known server stalled t list ≡ true → none_seen server t list ≡ true
-unseen_if_unknown server stalled t [] h = refl
-unseen_if_unknown server stalled t (InDoubt runs ∷ rest) h = unseen_if_unknown server stalled (after t (InDoubt runs)) rest h
-unseen_if_unknown server stalled t (Stays e ∷ rest) h =
-    let now = stalled_after server stalled (Stays e) in
-    let p = and_parts (not (e.server.0 == server) || (not (is_seen t e rest) && not (is_synced server now rest))) (none_known server now (after t (Stays e)) rest) h in
-    and_from (not (e.server.0 == server) || not (is_seen t e rest)) (none_seen server (after t (Stays e)) rest)
-    (weaker (not (e.server.0 == server)) (not (is_seen t e rest)) (not (is_synced server now rest)) p.0) (unseen_if_unknown server now (after t (Stays e)) rest p.1)
-  where
-    weaker : (a b c : Bool) → a || (b && c) ≡ true → a || b ≡ true
-    weaker true b c h = refl
-    weaker false true c h = refl
-    weaker false false c h = h
 
 -- up to a place all is left, and from there on what is without the server's entries
 record LeftFrom (server keeps : ℕ) (t : FileTree) (list : List Settled) : Type 0 where

@@ -1,12 +1,9 @@
 -- What nobody saw can go.
-use Rattle.std.proofs.Common.{◌≤◌, ◌-◌, arith, le_refl, leb-true, le-leb, nat_le, inl, inr, ◌⊎◌, ℕ, ◌≡◌, ◌+◌, ◌==◌, Bool, true, false, not, ◌&&◌, ◌||◌, Option, Some, None, List, [], ◌∷◌, ◌++◌, length, map, filter, take, drop, cond, refl, sym, ◌∙◌, ap, subst, nat_eq, eqb-true, eq-eqb, nat_lt}
+use Rattle.std.proofs.Common.{◌≤◌, ◌-◌, arith, le_refl, leb-true, le-leb, nat_le, inl, inr, ◌⊎◌, ℕ, ◌≡◌, ◌+◌, ◌==◌, Bool, true, false, not, ◌&&◌, ◌||◌, Option, Some, None, List, [], ◌∷◌, ◌++◌, length, map, take, drop, cond, refl, sym, ◌∙◌, ap, subst, nat_eq, eqb-true, nat_lt}
 use Rattle.std.specs.List.{list_any}
-use Rattle.std.specs.Map.{lookup}
-use Rattle.std.specs.BTreeMap.{is_at}
-use Rattle.std.specs.Ordering.{nat_cmp}
-use Rattle.tree_laws.proofs.Pairs.{tie, birth_exact}
-use Rattle.std.proofs.lemmas.Bool.{and_parts, and_from, or_parts, not-true}
+use Rattle.std.proofs.lemmas.Bool.{and_parts, and_from, or_parts, not-true, or_from}
 use Rattle.std.proofs.lemmas.Map.Keys.{IsDistinct-tail}
+use mathlib.Core.Bool.{and-false, or-true, and-true}
 use Rattle.frang_base.specs.declared.op.Op.{Op}
 use Rattle.frang_base.specs.declared.op.Op.TheVariants as op
 use Rattle.frang_base.specs.declared.reply.Reply.{Reply}
@@ -21,22 +18,21 @@ use Rattle.tree_definitions.specs.Place.{Place, Root, Taken, Free, Nowhere, plac
 use Rattle.tree_definitions.specs.Apply.{Plain, Shows, Applied, says, apply, at_file, if_file, shown, overwritten, is_path_op}
 use Rattle.tree_definitions.specs.Perform.{Step, Goes, Stops, resolved, perform_step}
 use Rattle.tree_definitions.specs.History.{applied, is_answer, agrees, told_blocks, may_tell, leaves_tree, fits, tree_after, after_read, after_step, with_shown, file_at, file_of, Settled, Stays, InDoubt, CellRun, doubted, after, grows, may_stand, legal_from}
-use Rattle.tree_definitions.specs.Touched.{touches, changes, changed, births, differs, is_nospace, touched_later, refused_later, other_room, changes_room, is_seen, is_synced, stalled_after}
+use Rattle.tree_definitions.specs.Touched.{touches, changes, changed, births, is_nospace, touched_later, refused_later, other_room, changes_room, is_seen, is_synced, stalled_after}
 use Rattle.tree_definitions.specs.Removal.{begins_removal, left, keeps_known, none_known, recovered, doubtful, is_lost, mounts}
 use Rattle.tree_laws.specs.WellFormed.{IsWellFormed, AreNew, numbers_of}
 use Rattle.tree_laws.specs.Touching.{Kind, HasKinds, wants_room}
 use Rattle.tree_laws.specs.Kinds.{MakeToldKinds, kinds_along}
 use Rattle.tree_laws.specs.Removing.{without, none_seen, has_room, room_left}
 use Rattle.tree_laws.proofs.Nodes.{each_but, with_same, with_other}
-use Rattle.tree_laws.proofs.Places.{is_in, tail_is_in}
+use Rattle.tree_laws.proofs.Places.{is_in}
 use Rattle.tree_laws.proofs.Likeness.{Like, Near, like_same, like_equal}
 use Rattle.tree_laws.specs.Alike.{Vaguer}
 use Rattle.tree_laws.proofs.Vagueness.{vague, vague_nodes_trans, shown_is_sharper, doubted_near}
-use Rattle.tree_laws.proofs.Sameness.{alike_at, no_difference}
 use Rattle.tree_laws.proofs.Replies.{wants_alike}
 use Rattle.tree_laws.proofs.Refusals.{looks_leave}
 use Rattle.tree_laws.proofs.Joint.{Joint, joint_near}
-use Rattle.tree_laws.proofs.Applying.{in_left, in_right}
+use Rattle.tree_laws.proofs.Applying.{in_left}
 use Rattle.tree_laws.specs.Rooms.{SameRoom}
 use Rattle.tree_laws.proofs.RoomLaws.{RoomAlike, room_of, room_same, like_room, joint_room, doubted_room, room_stays, grows_same}
 use Rattle.tree_laws.proofs.OrderLaws.{segments_after}
@@ -45,59 +41,16 @@ use Rattle.tree_laws.proofs.FreshLaws.{walkable}
 use Rattle.tree_laws.proofs.StepsLaws.{file_at_is, after_keeps, are_new_after}
 use Rattle.tree_laws.proofs.KindsLaws.{kinds_agree, perform_keeps_kinds, after_keeps_kinds, kinds_can_be_told}
 use Rattle.tree_laws.proofs.SettlingLaws.{lost_is_of}
-use Rattle.tree_laws.proofs.HistoryLaws.{legal-push, and-true}
+use Rattle.tree_laws.proofs.HistoryLaws.{legal-push}
+use Rattle.tree_laws.proofs.Untouched.{not_in_right}
+use Rattle.tree_laws.proofs.Sharper.{sharper_after}
+use Rattle.tree_laws.proofs.Changed.{any_in, changed_in}
 
 -- ---- what an entry changes is in its list of changed births
-found_in : (ns : List (ℕ × Node)) (b : ℕ) (x : Node) → lookup (is_at (nat_cmp b)) ns ≡ Some x → is_in b (map (λ n. n.0) ns) ≡ true
-found_in [] b x h = cc
-found_in (n ∷ ns) b x h = go (is_at (nat_cmp b) n.0) refl h (λ i. found_in ns b x i)
-  where
-    more : (t v : Bool) → v ≡ true → t || v ≡ true
-    more true v e = refl
-    more false v e = e
-
-    go : (t : Bool) → is_at (nat_cmp b) n.0 ≡ t → cond t (Some n.1) (lookup (is_at (nat_cmp b)) ns) ≡ Some x → (lookup (is_at (nat_cmp b)) ns ≡ Some x → is_in b (map (λ n. n.0) ns) ≡ true) → is_in b (n.0 ∷ map (λ n. n.0) ns) ≡ true
-    go true e h later = ap (λ t. t || is_in b (map (λ n. n.0) ns)) (eq-eqb n.0 b (sym (tie nat_cmp birth_exact b n.0 e)))
-    go false e h later = more (n.0 == b) (is_in b (map (λ n. n.0) ns)) (later h)
-
-differs_in : (old new : FileTree) (b : ℕ) → differs old new b ≡ true → is_in b (births old new) ≡ true
-differs_in old new b d = go (node_at old b) (node_at new b) refl refl
-  where
-    go : (o q : Option Node) → node_at old b ≡ o → node_at new b ≡ q → is_in b (births old new) ≡ true
-    go (Some x) q i j = in_left b (map (λ n. n.0) old.nodes) (map (λ n. n.0) new.nodes) (found_in old.nodes b x i)
-    go None (Some y) i j = in_right b (map (λ n. n.0) old.nodes) (map (λ n. n.0) new.nodes) (found_in new.nodes b y j)
-    go None None i j = absurd (let e : differs old new b ≡ false = no_difference old new b (i ∙ sym j) in cc)
-
-in_filtered : (test : ℕ → Bool) (b : ℕ) (bs : List ℕ) → is_in b bs ≡ true → test b ≡ true → is_in b (filter test bs) ≡ true
-in_filtered test b [] h t = cc
-in_filtered test b (c ∷ bs) h t = go (nat_eq c b) refl h (λ i. in_filtered test b bs i t)
-  where
-    keep : (k : Bool) → is_in b (filter test bs) ≡ true → is_in b (cond k (c ∷ filter test bs) (filter test bs)) ≡ true
-    keep true i = tail_is_in b c (filter test bs) i
-    keep false i = i
-
-    go : (q : Bool) → nat_eq c b ≡ q → q || is_in b bs ≡ true → (is_in b bs ≡ true → is_in b (filter test bs) ≡ true) → is_in b (cond (test c) (c ∷ filter test bs) (filter test bs)) ≡ true
-    go true e h later = let same : c ≡ b = eqb-true c b e in subst (λ k. is_in b (cond k (c ∷ filter test bs) (filter test bs)) ≡ true) (sym (ap test same ∙ t)) (ap (λ q. q || is_in b (filter test bs)) e)
-    go false e h later = keep (test c) (later h)
-
-changed_in : (t : FileTree) (e : Entry) (b : ℕ) → changes t e b ≡ true → is_in b (changed t e) ≡ true
-changed_in t e b h = in_filtered (changes t e) b (births t (applied t e).tree) (differs_in t (applied t e).tree b (and_parts (is_answer t e) (differs t (applied t e).tree b) h).1) h
 
 by_contrast : (t u : Bool) → (t ≡ true → u ≡ true) → u ≡ false → t ≡ false
 by_contrast true u f h = sym (f refl) ∙ h
 by_contrast false u f h = refl
-
-any_in : (test : ℕ → Bool) (b : ℕ) (bs : List ℕ) → is_in b bs ≡ true → test b ≡ true → list_any test bs ≡ true
-any_in test b [] h t = cc
-any_in test b (c ∷ bs) h t = go (nat_eq c b) refl h (λ i. any_in test b bs i t)
-  where
-    more : (k v : Bool) → v ≡ true → k || v ≡ true
-    more true v e = refl
-    more false v e = e
-
-    go : (q : Bool) → nat_eq c b ≡ q → q || is_in b bs ≡ true → (is_in b bs ≡ true → list_any test bs ≡ true) → test c || list_any test bs ≡ true
-    go true e h later = ap (λ k. k || list_any test bs) (ap test (eqb-true c b e) ∙ t)
-    go false e h later = more (test c) (list_any test bs) (later h)
 
 -- ---- an entry that is removed: what it doesn't change is sharper at most
 within_file : (t : FileTree) (cells : List Cell) (off len : ℕ) (bytes : List ℕ) → agrees (shown t cells off len).answer (reply.Shown bytes) ≡ true → Vaguer (overwritten cells off (map Byte bytes)) cells
@@ -143,39 +96,13 @@ step_sharper : (t : FileTree) (s : Step) (r : Reply) (n when m b : ℕ) → agre
 step_sharper t (Goes o) r n when m b told = read_sharper t o r n when m b told
 step_sharper t (Stops q) r n when m b told = like_same vague (node_at t b)
 
-sharper_after : (t : FileTree) (e : Entry) (b : ℕ) → changes t e b ≡ false → Like vague (node_at (tree_after t e) b) (node_at t b)
-sharper_after t e b h = go (leaves_tree e.op e.reply) (is_answer t e) refl
-  where
-    unchanged : (a d : Bool) → a ≡ true → a && d ≡ false → d ≡ false
-    unchanged true d i h = h
-    unchanged false d i h = absurd (cc)
-
-    go : (l a : Bool) → is_answer t e ≡ a → Like vague (node_at (cond l t (cond a (after_step (applied t e).tree (resolved t e.op).step e.reply) t)) b) (node_at t b)
-    go true a i = like_same vague (node_at t b)
-    go false false i = like_same vague (node_at t b)
-    go false true i =
-        let same : node_at t b ≡ node_at (applied t e).tree b = alike_at t (applied t e).tree b (unchanged (is_answer t e) (differs t (applied t e).tree b) i h) in
-        subst (Like vague (node_at (after_step (applied t e).tree (resolved t e.op).step e.reply) b)) (sym same)
-        (step_sharper t (resolved t e.op).step e.reply e.number.0 e.when (told_blocks t e.reply) b (and_parts (is_path_op e.op) (agrees (applied t e).answer e.reply) i).1)
-
 -- ---- tests along a list
 not_in_left : (b : ℕ) (xs ys : List ℕ) → is_in b (xs ++ ys) ≡ false → is_in b xs ≡ false
 not_in_left b xs ys h = by_contrast (is_in b xs) (is_in b (xs ++ ys)) (in_left b xs ys) h
 
-not_in_right : (b : ℕ) (xs ys : List ℕ) → is_in b (xs ++ ys) ≡ false → is_in b ys ≡ false
-not_in_right b xs ys h = by_contrast (is_in b ys) (is_in b (xs ++ ys)) (in_right b xs ys) h
-
 any_append : (test : ℕ → Bool) (xs ys : List ℕ) → list_any test xs ≡ false → list_any test ys ≡ false → list_any test (xs ++ ys) ≡ false
 any_append test [] ys h g = g
-any_append test (x ∷ xs) ys h g = let p = or_parts (test x) (list_any test xs) h in or_false (test x) (list_any test (xs ++ ys)) p.0 (any_append test xs ys p.1 g)
-  where
-    or_false : (a b : Bool) → a ≡ false → b ≡ false → a || b ≡ false
-    or_false true b i j = i
-    or_false false b i j = j
-
-or_false : (a b : Bool) → a ≡ false → b ≡ false → a || b ≡ false
-or_false true b i j = i
-or_false false b i j = j
+any_append test (x ∷ xs) ys h g = let p = or_parts (test x) (list_any test xs) h in or_from (test x) (list_any test (xs ++ ys)) p.0 (any_append test xs ys p.1 g)
 
 touched_append : (server : ℕ) (xs ys : List ℕ) (t : FileTree) (list : List Settled) → touched_later server xs t list ≡ false → touched_later server ys t list ≡ false → touched_later server (xs ++ ys) t list ≡ false
 touched_append server xs ys t [] h g = refl
@@ -183,7 +110,7 @@ touched_append server xs ys t (InDoubt runs ∷ rest) h g = touched_append serve
 touched_append server xs ys t (Stays e ∷ rest) h g =
     let p = or_parts (not (e.server.0 == server) && list_any (touches t e) xs) (touched_later server xs (after t (Stays e)) rest) h in
     let q = or_parts (not (e.server.0 == server) && list_any (touches t e) ys) (touched_later server ys (after t (Stays e)) rest) g in
-    or_false (not (e.server.0 == server) && list_any (touches t e) (xs ++ ys)) (touched_later server (xs ++ ys) (after t (Stays e)) rest)
+    or_from (not (e.server.0 == server) && list_any (touches t e) (xs ++ ys)) (touched_later server (xs ++ ys) (after t (Stays e)) rest)
     (go (not (e.server.0 == server)) p.0 q.0) (touched_append server xs ys (after t (Stays e)) rest p.1 q.1)
   where
     go : (c : Bool) → c && list_any (touches t e) xs ≡ false → c && list_any (touches t e) ys ≡ false → c && list_any (touches t e) (xs ++ ys) ≡ false
@@ -347,10 +274,6 @@ module _ (server : ℕ) (kinds : ℕ → Kind) where
     only true h = refl
     only false h = h
 
-    true_last : (x : Bool) → x || true ≡ true
-    true_last true = refl
-    true_last false = refl
-
     in_first : (x y l : Bool) → x ≡ true → y ≡ true → (x && y) || l ≡ true
     in_first true true l i j = refl
     in_first true false l i j = cc
@@ -361,7 +284,7 @@ module _ (server : ℕ) (kinds : ℕ → Kind) where
     kept_still more i =
         let still = λ (z : FileTree). ap (λ l. cond l z (cond (is_answer z e) (after_step (applied z e).tree (resolved z e.op).step e.reply) z)) i in
         record {
-          fits_on = ap (λ l. (is_answer u e && may_tell u more e.reply) || l) i ∙ true_last (is_answer u e && may_tell u more e.reply);
+          fits_on = ap (λ l. (is_answer u e && may_tell u more e.reply) || l) i ∙ or-true (is_answer u e && may_tell u more e.reply);
           near_on = λ b h. subst (λ z. Near vague z (tree_after u e) b) (sym (still t)) (subst (λ z. Near vague t z b) (sym (still u)) (a.near b h));
           room_on = λ r b. ap (λ z. room_of (node_at z b)) (still t) ∙ r b ∙ ap (λ z. room_of (node_at z b)) (sym (still u));
         }
@@ -373,10 +296,6 @@ module _ (server : ℕ) (kinds : ℕ → Kind) where
       near_on = λ b h. joint_near vague t u (tree_after t e) (tree_after u e) (stays_joint other answered enough) b (a.near b h);
       room_on = λ r. joint_room t u (tree_after t e) (tree_after u e) (stays_joint other answered enough) r;
     }
-
-    not_so : (x : Bool) → not x ≡ true → x ≡ false
-    not_so true h = cc
-    not_so false h = refl
 
     kept : (ever more : ℕ) → e.server.0 == server ≡ false → fits t ever e ≡ true → Room t u ever more (Stays e ∷ rest) → leaves_tree e.op e.reply || (is_nospace e.reply || not (wants_room (applied u e).answer)) ≡ true → Kept more
     kept ever more other fit room fitting = go (leaves_tree e.op e.reply) refl fit fitting
@@ -392,7 +311,7 @@ module _ (server : ℕ) (kinds : ℕ → Kind) where
         by_room answered tells (inr r) f =
             let n : is_nospace e.reply ≡ false = unrefused (e.server.0 == server) (is_nospace e.reply) other (or_parts (not (e.server.0 == server) && is_nospace e.reply) (refused_later server rest) r).0 in
             let told : wants_room (applied t e).answer ≡ false = wants_alike (applied t e).answer e.reply (and_parts (is_path_op e.op) (agrees (applied t e).answer e.reply) answered).1 ∙ n in
-            let now : wants_room (applied u e).answer ≡ false = not_so (wants_room (applied u e).answer) (sym (ap (λ b. b || not (wants_room (applied u e).answer)) n) ∙ f) in
+            let now : wants_room (applied u e).answer ≡ false = not-true (wants_room (applied u e).answer) (sym (ap (λ b. b || not (wants_room (applied u e).answer)) n) ∙ f) in
             kept_acts more other answered (inl (told, now)) (tells_room u more e.reply n)
 
         go : (l : Bool) → leaves_tree e.op e.reply ≡ l → (is_answer t e && may_tell t ever e.reply) || l ≡ true → l || (is_nospace e.reply || not (wants_room (applied u e).answer)) ≡ true → Kept more
@@ -440,11 +359,7 @@ module _ (server : ℕ) (kinds : ℕ → Kind) where
 nothing_touches : (server : ℕ) (t : FileTree) (list : List Settled) → touched_later server [] t list ≡ false
 nothing_touches server t [] = refl
 nothing_touches server t (InDoubt runs ∷ rest) = nothing_touches server (after t (InDoubt runs)) rest
-nothing_touches server t (Stays e ∷ rest) = or_false (not (e.server.0 == server) && false) (touched_later server [] (after t (Stays e)) rest) (no_use (not (e.server.0 == server))) (nothing_touches server (after t (Stays e)) rest)
-  where
-    no_use : (c : Bool) → c && false ≡ false
-    no_use true = refl
-    no_use false = refl
+nothing_touches server t (Stays e ∷ rest) = or_from (not (e.server.0 == server) && false) (touched_later server [] (after t (Stays e)) rest) (and-false (not (e.server.0 == server))) (nothing_touches server (after t (Stays e)) rest)
 
 pub unseen_can_go : (server : ℕ) (t : FileTree) (ever : ℕ) (list : List Settled) → IsWellFormed t → AreNew t list → legal_from t ever list ≡ true → none_seen server t list ≡ true → has_room t (without server list) ≡ true → legal_from t ever (without server list) ≡ true
 unseen_can_go server t ever list w new legal unseen room =
@@ -454,7 +369,7 @@ unseen_can_go server t ever list w new legal unseen room =
     (inl (refl, λ b. refl, le_refl ever)) legal unseen room
 
 -- ---- a recovery
-unseen_if_unknown : (server : ℕ) (stalled : Bool) (t : FileTree) (list : List Settled) → none_known server stalled t list ≡ true → none_seen server t list ≡ true
+pub unseen_if_unknown : (server : ℕ) (stalled : Bool) (t : FileTree) (list : List Settled) → none_known server stalled t list ≡ true → none_seen server t list ≡ true
 unseen_if_unknown server stalled t [] h = refl
 unseen_if_unknown server stalled t (InDoubt runs ∷ rest) h = unseen_if_unknown server stalled (after t (InDoubt runs)) rest h
 unseen_if_unknown server stalled t (Stays e ∷ rest) h =

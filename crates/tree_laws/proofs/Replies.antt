@@ -1,5 +1,5 @@
 -- Replies that are equal, and answers that want room.
-use Rattle.std.proofs.Common.{ℕ, ◌≡◌, Bool, true, List, take, refl, sym, ◌∙◌, ap, codes, nat_eq}
+use Rattle.std.proofs.Common.{ℕ, ◌≡◌, ◌==◌, Bool, true, List, take, refl, sym, ◌∙◌, ap, codes, nat_eq}
 use Rattle.std.specs.Cmp.Lexicographic.{pointwise}
 use Rattle.frang_base.specs.declared.reply.Reply.{Reply}
 use Rattle.frang_base.specs.declared.reply.Reply.TheVariants as reply
@@ -8,8 +8,23 @@ use Rattle.tree_definitions.specs.History.{same_reply, contents_are, agrees}
 use Rattle.tree_definitions.specs.Apply.{Answer, Plain, Shows}
 use Rattle.tree_definitions.specs.Touched.{is_nospace}
 use Rattle.tree_laws.specs.Touching.{wants_room}
-use Rattle.tree_laws.proofs.Sameness.{text_sound}
-use Rattle.std.proofs.lemmas.Bool.{and_parts, false≢true}
+use Rattle.tree_laws.proofs.Sameness.{text_sound, text_same, pointwise_same}
+use Rattle.std.proofs.lemmas.Bool.{and_parts, and_from, eq-eqb, false≢true}
+
+-- a reply is itself
+same_contents : (r : Reply) → contents_are r r ≡ true
+same_contents (reply.Shown bytes) = text_same bytes
+same_contents (reply.File size links) = and_from (size == size) (links == links) (eq-eqb size size refl) (eq-eqb links links refl)
+same_contents (reply.Dir entries) = eq-eqb entries entries refl
+same_contents (reply.Symlink len) = eq-eqb len len refl
+same_contents (reply.Names names) = pointwise_same (pointwise nat_eq) text_same names
+same_contents (reply.Target target) = text_same target
+same_contents (reply.Time run tick) = and_from (run == run) (tick == tick) (eq-eqb run run refl) (eq-eqb tick tick refl)
+same_contents (reply.NoBlock m) = eq-eqb m m refl
+same_contents _ = refl
+
+pub same_self : (r : Reply) → same_reply r r ≡ true
+same_self r = and_from (pointwise nat_eq (reply_word r) (reply_word r)) (contents_are r r) (text_same (reply_word r)) (same_contents r)
 
 pub told_mlink : (r : Reply) → same_reply reply.MLink r ≡ true → r ≡ reply.MLink
 told_mlink reply.MLink h = refl

@@ -8,7 +8,7 @@ use Rattle.std.specs.BTreeMap.{is_at}
 use Rattle.std.specs.Ordering.{nat_cmp, ordering_reverse}
 use Rattle.std.specs.declared.cmp.Ordering.{Ordering}
 use Rattle.std.specs.declared.cmp.Ordering.TheVariants.{Less, Equal, Greater}
-use Rattle.std.proofs.lemmas.Bool.{and_parts}
+use Rattle.std.proofs.lemmas.Bool.{and_parts, not-false}
 use Rattle.std.proofs.lemmas.List.{length-map, length-take}
 use Rattle.std.proofs.lemmas.Map.Made.{lookup-map_values}
 use Rattle.tree_definitions.specs.declared.cells.Cell.{Cell}
@@ -126,7 +126,7 @@ both_room a b c d (inr p) e = ap room_of p.0 ∙ e ∙ ap room_of (sym p.1)
 pub joint_room : (t u v w : FileTree) → Joint vague t u v w → RoomAlike t u → RoomAlike v w
 joint_room t u v w j same b = both_room (node_at t b) (node_at u b) (node_at v b) (node_at w b) (j.each b) (same b)
 
-doubted_long : (xs : List Cell) (from count : ℕ) → length (doubted_cells xs from count) ≡ length xs
+pub doubted_long : (xs : List Cell) (from count : ℕ) → length (doubted_cells xs from count) ≡ length xs
 doubted_long xs from count = simp (length-append, length-map, length-drop, length-take) (omega arith)
 
 one_doubt : (t : FileTree) (r from count : ℕ) (o : Option Node) → node_at t r ≡ o → (b : ℕ) → room_of (node_at (doubted_file t (file_of r o) from count) b) ≡ room_of (node_at t b)
@@ -156,12 +156,8 @@ one_kind (Link es n) (File ds m v) k s l = absurd (cc)
 
 pub room_stays : (a b : Option Node) → ((x y : Node) → a ≡ Some x → b ≡ Some y → kind_of x ≡ kind_of y) → other_room a b ≡ false → room_of a ≡ room_of b
 room_stays (Some x) (Some y) k h =
-    let p = and_parts (small_blocks x == small_blocks y) (large_blocks x == large_blocks y) (un (small_blocks x == small_blocks y && large_blocks x == large_blocks y) h) in
+    let p = and_parts (small_blocks x == small_blocks y) (large_blocks x == large_blocks y) (not-false (small_blocks x == small_blocks y && large_blocks x == large_blocks y) h) in
     ap Some (one_kind x y (k x y refl refl) (eqb-true (small_blocks x) (small_blocks y) p.0) (eqb-true (large_blocks x) (large_blocks y) p.1))
-  where
-    un : (c : Bool) → not c ≡ false → c ≡ true
-    un true h = refl
-    un false h = cc
 room_stays None None k h = refl
 room_stays (Some x) None k h = cc
 room_stays None (Some y) k h = cc

@@ -19,11 +19,6 @@ pub sub_same : (xs : List Entry) → IsSublist xs xs
 sub_same [] = tt
 sub_same (x ∷ xs) = inl (refl, sub_same xs)
 
-sub_tail : (x : Entry) (xs ys : List Entry) → IsSublist (x ∷ xs) ys → IsSublist xs ys
-sub_tail x xs [] h = absurd h
-sub_tail x xs (y ∷ ys) (inl p) = sub_skip xs y ys p.1
-sub_tail x xs (y ∷ ys) (inr h) = sub_skip xs y ys (sub_tail x xs ys h)
-
 pub sub_trans : (xs ys zs : List Entry) → IsSublist xs ys → IsSublist ys zs → IsSublist xs zs
 sub_trans [] ys zs h g = tt
 sub_trans (x ∷ xs) [] zs h g = absurd h

@@ -21,7 +21,7 @@ use Rattle.tree_laws.proofs.ShapePlaces.{same_place, same_walked}
 use Rattle.tree_laws.proofs.Changes.{same_dir, same_links}
 
 -- ---- well formed
-dir_back : (o : Option Node) (es : Entries) (n : ℕ) → shaped o ≡ Some (Dir es n) → o ≡ Some (Dir es n)
+pub dir_back : (o : Option Node) (es : Entries) (n : ℕ) → shaped o ≡ Some (Dir es n) → o ≡ Some (Dir es n)
 dir_back (Some (Dir fs m)) es n e = e
 dir_back (Some (File cells links when)) es n e = absurd (cc)
 dir_back (Some (Link target links)) es n e = absurd (cc)
@@ -30,7 +30,7 @@ dir_back None es n e = absurd (cc)
 names_ascend : (t : FileTree) → NamesAscend t → NamesAscend (shape_of t)
 names_ascend t ascend dir es n e = ascend dir es n (dir_back (node_at t dir) es n (sym (found t dir) ∙ e))
 
-names_stay : (b : ℕ) (x : Node) → names_in b (node_shape x) ≡ names_in b x
+pub names_stay : (b : ℕ) (x : Node) → names_in b (node_shape x) ≡ names_in b x
 names_stay b (Dir es n) = refl
 names_stay b (File cells links when) = refl
 names_stay b (Link target links) = refl

@@ -1,7 +1,7 @@
 -- Looks leave the shape; directories never have fewer blocks; what has no path touches nothing.
 use Rattle.std.proofs.Common.{ℕ, ◌≡◌, ◌≤◌, ◌+◌, ◌-◌, ◌==◌, Bool, true, false, ◌&&◌, ◌||◌, Option, Some, None, List, [], ◌∷◌, ◌++◌, length, map, take, drop, cond, refl, sym, ap, subst, nat_lt, arith, le_refl, length-append, length-drop, length-take, min}
 use Rattle.std.proofs.lemmas.List.{length-map}
-use Rattle.std.proofs.lemmas.Bool.{and_parts, ltb-false}
+use Rattle.std.proofs.lemmas.Bool.{and_parts, ltb-false, and_right}
 use Rattle.std.specs.List.{list_any}
 use Rattle.std.specs.Ordering.{nat_cmp}
 use Rattle.frang_base.specs.declared.op.Op.{Op}
@@ -55,12 +55,9 @@ blocks_never_fall t o b when m w new dir before now n k is now_is =
     subst (λ v. blocks_at v ≤ k) is (r.allowed dir (Dir now k) now_is).1
 
 -- ---- looks and what has no path
-and_false : (a b : Bool) → b ≡ false → a && b ≡ false
-and_false true b h = h
-and_false false b h = refl
 
 pub looks_change_nothing : (t : FileTree) (e : Entry) (b : ℕ) → is_look e.op ≡ true → changes t e b ≡ false
-looks_change_nothing t e b h = and_false (is_answer t e) (differs t (applied t e).tree b)
+looks_change_nothing t e b h = and_right (is_answer t e) (differs t (applied t e).tree b)
     (no_difference t (applied t e).tree b (ap (λ u. node_at u b) (sym (performed_looks_leave t e.op e.number.0 e.when (told_blocks t e.reply) h))))
 
 pub no_path_touches_nothing : (t : FileTree) (e : Entry) (b : ℕ) → is_path_op e.op ≡ false → touches t e b ≡ false

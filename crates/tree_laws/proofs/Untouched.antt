@@ -72,7 +72,7 @@ read_leaves tree (op.Read path off len) (reply.Shown bytes) b birth when m h =
 read_leaves tree (op.Read path off len) _ b birth when m h = refl
 read_leaves tree _ r b birth when m h = refl
 
-not_in_right : (b : ℕ) (xs ys : List ℕ) → is_in b (xs ++ ys) ≡ false → is_in b ys ≡ false
+pub not_in_right : (b : ℕ) (xs ys : List ℕ) → is_in b (xs ++ ys) ≡ false → is_in b ys ≡ false
 not_in_right b xs ys h = go (is_in b ys) refl
   where
     go : (t : Bool) → is_in b ys ≡ t → is_in b ys ≡ false

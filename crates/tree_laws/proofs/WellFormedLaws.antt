@@ -1,6 +1,6 @@
 -- An operation at a new birth leaves a well-formed tree so.
 use Rattle.std.proofs.Common.{ℕ, ◌≡◌, ◌≢◌, ◌≤◌, ◌+◌, ◌-◌, ◌*◌, ◌==◌, Bool, true, false, not, ◌&&◌, Option, Some, None, List, [], ◌∷◌, length, map, replicate, take, max, cond, refl, sym, ◌∙◌, ap, subst, nat_lt, nat_le, arith, le_refl, eqb-true, lt-ltb, is_some}
-use Rattle.std.proofs.lemmas.Bool.{eqb-false}
+use Rattle.std.proofs.lemmas.Bool.{eqb-false, not-false}
 use Rattle.std.specs.List.Sorted.{IsStrictlySortedBy}
 use Rattle.std.specs.Map.{keys_of}
 use Rattle.std.specs.Ordering.{nat_cmp}
@@ -89,10 +89,6 @@ module _ (A : Limits) (t : FileTree) (w : Well A t) where
   start : Owing A t none_owed none_owed
   start = owing_none A t w
 
-  -- a node with entries is a directory
-  empty_by : (a b : Option Node) → a ≡ b → has_entries a ≡ has_entries b
-  empty_by a b e = ap has_entries e
-
   -- a directory that has a name has entries
   named_has : (es : Entries) (n : ℕ) (name : List ℕ) (v : ℕ) → entry_at es name ≡ Some v → has_entries (Some (Dir es n)) ≡ true
   named_has [] n name v at = cc
@@ -161,12 +157,8 @@ module _ (A : Limits) (t : FileTree) (w : Well A t) where
 
     dir_removed_well : Well A (dir_removed t (Taken dir es n name b)).tree
     dir_removed_well = if_well A (not (is_dir (node_at t b))) (says t reply.NotDir) _ (λ e. w) (λ e. if_well A (has_entries (node_at t b)) (says t reply.NotEmpty) _ (λ f. w)
-        (λ f. (let d = as_dir (node_at t b) (by_not (is_dir (node_at t b)) e) in subst (λ o. Well A (one_link_fewer (with_node t dir (Dir (without_entry es name) n)) b o)) d.2 (name_taken f))))
+        (λ f. (let d = as_dir (node_at t b) (not-false (is_dir (node_at t b)) e) in subst (λ o. Well A (one_link_fewer (with_node t dir (Dir (without_entry es name) n)) b o)) d.2 (name_taken f))))
       where
-        by_not : (c : Bool) → not c ≡ false → c ≡ true
-        by_not true e = refl
-        by_not false e = cc
-
         as_dir : (o : Option Node) → is_dir o ≡ true → (fs : Entries) × (m : ℕ) × (o ≡ Some (Dir fs m))
         as_dir (Some (Dir fs m)) e = (fs, m, refl)
         as_dir (Some (File cells links when)) e = absurd (cc)

@@ -1,7 +1,8 @@
 -- The sector is set to zeros, or was never set.
-use Rattle.std.proofs.Common.{◌≡◌, Result, Ok, Err, OnOk, sym, ap, ◌∙◌}
+use Rattle.std.proofs.Common.{◌≡◌, sym, ap, ◌∙◌}
 use Rattle.std.specs.BTreeMap.{insert_entry}
 use Rattle.std.specs.Ordering.{nat_cmp}
+use Rattle.std.proofs.lemmas.Result.{on_ok_weaker}
 use Rattle.frang_base.specs.Functions.{put}
 use Rattle.sector_bytes.specs.Bytes.{zeros}
 use Rattle.sector_bytes.specs.Sectors.{sectors_of}
@@ -9,16 +10,12 @@ use Rattle.disk_replay.specs.Laid.{slot_sector}
 use Rattle.disk_replay.proofs.ErasedLogs.{set_is_put, unset_is_put}
 use Rattle.disk_replay.proofs.replay.erase_slot.Goals as goal
 
-on_ok : {T E A B : Type 0} (r : Result T E) → (A → B) → OnOk r A → OnOk r B
-on_ok (Ok t) f a = f a
-on_ok (Err e) f a = tt
-
 pub returns-then-is_there : goal.returns-then-is_there
 returns-then-is_there c =
     let es = c.args.disk.now in
     let k = c.sector_of-sector.result.0 in
     let at : k ≡ slot_sector c.args.n = c.sector_of-sector.ensures in
-    on_ok c.set.result
+    on_ok_weaker c.set.result
     (λ e sector. ap (λ xs. sectors_of xs sector) (e ∙ ap (insert_entry nat_cmp es k) c.zero_block.ensures) ∙ set_is_put es k (zeros 512) sector ∙ ap (λ j. put (sectors_of es) j (zeros 512) sector) at)
     c.set.ensures.ok
 

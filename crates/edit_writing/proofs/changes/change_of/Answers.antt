@@ -1,14 +1,15 @@
 -- By the block of the sector.
 use Rattle.std.proofs.Common.{◌≡◌, ◌<◌, ◌-◌, ◌^◌, ◌&&◌, IfOk, nat_le, nat_lt, subst, sym}
+use Rattle.std.proofs.lemmas.Bool.{ltb-true}
 use Rattle.sector_bytes.specs.Bytes.{number_at}
 use Rattle.disk_definitions.specs.Standing.{version_at}
 use Rattle.plan_steps.specs.Edits.{edits_of}
 use Rattle.edit_writing.specs.Sectors.{at_hand}
-use Rattle.edit_writing.proofs.Changed.{below_test, same_change}
+use Rattle.edit_writing.proofs.Changed.{same_change}
 use Rattle.edit_writing.proofs.changes.change_of.Goals as goal
 
 pub change_between-requires : goal.change_between-requires
-change_between-requires c = subst (λ block. number_at 8 0 block < 2 ^ 64 - 1) (sym c.block_at_hand-old.ensures) (below_test (version_at (at_hand c.args.hand.now) c.args.sector.0) (2 ^ 64 - 1) c.requires.version)
+change_between-requires c = subst (λ block. number_at 8 0 block < 2 ^ 64 - 1) (sym c.block_at_hand-old.ensures) (ltb-true (version_at (at_hand c.args.hand.now) c.args.sector.0) (2 ^ 64 - 1) c.requires.version)
 
 pub returns : goal.returns
 returns c =

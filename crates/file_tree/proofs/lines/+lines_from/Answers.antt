@@ -1,22 +1,18 @@
-use Rattle.std.proofs.Common.{◌≡◌, ◌++◌, ◌-◌, ◌∙◌, sym, ap, arith, rules, OnOk, Some, Result, Ok, Err}
+use Rattle.std.proofs.Common.{◌≡◌, ◌++◌, ◌-◌, ◌∙◌, sym, ap, arith, rules, Some}
 use Rattle.std.specs.Option.{option_copied}
 use Rattle.std.specs.List.{flat_map}
+use Rattle.std.proofs.lemmas.Result.{on_ok_weaker}
 use Rattle.tree_definitions.specs.TreeLines.{name_below, lines_from}
 use Rattle.file_tree.proofs.EntryLines.{file_line, link_line, first_entry, next_entry}
 use Rattle.file_tree.proofs.lines.+lines_from.Goals as goal
 
--- what follows of an end that is well
-on_ok : {T E A B : Type 0} (r : Result T E) → (A → B) → OnOk r A → OnOk r B
-on_ok (Ok t) f a = f a
-on_ok (Err e) f a = tt
-
 pub returns-in-Some-File-clause-is : goal.returns-in-Some-File-clause-is
-returns-in-Some-File-clause-is t c = on_ok c.push_line.result
+returns-in-Some-File-clause-is t c = on_ok_weaker c.push_line.result
     (λ pushed segments. file_line c.args.depth (record { segments = segments; nodes = c.args.nodes.now.entries }) c.args.text.now c.args.birth _ _ _ _ c.args.lines.now.items c.push_line.new.lines.items (omega arith) (sym c.get.ensures.value ∙ ap option_copied c.in-Some-File.is ∙ ap Some c.in-Some-File.field-0-is) c.len.ensures.len pushed)
     c.push_line.ensures.is
 
 pub returns-in-Some-Link-clause-is : goal.returns-in-Some-Link-clause-is
-returns-in-Some-Link-clause-is t c = on_ok c.push_line-in-Some-Link.result
+returns-in-Some-Link-clause-is t c = on_ok_weaker c.push_line-in-Some-Link.result
     (λ pushed segments. link_line c.args.depth (record { segments = segments; nodes = c.args.nodes.now.entries }) c.args.text.now c.args.birth _ _ _ c.args.lines.now.items c.push_line-in-Some-Link.new.lines.items (omega arith) (sym c.get.ensures.value ∙ ap option_copied c.in-Some-Link.is ∙ ap Some c.in-Some-Link.field-0-is) c.len-in-Some-Link.ensures.len pushed)
     c.push_line-in-Some-Link.ensures.is
 

@@ -2,12 +2,13 @@
 use Rattle.std.proofs.Common.{rules, sym, ap, ◌∙◌, ◌≡◌, ◌++◌, ◌∷◌, [], Some, None, IfOk, ◌-◌, true, false, length, take, drop, subst, arith}
 use Rattle.std.specs.Option.{option_copied}
 use Rattle.frang_base.specs.PathText.{path_of}
+use Rattle.frang_base.proofs.Lists.{first_and_rest}
 use Rattle.tree_definitions.specs.declared.node.Node.TheVariants.{Dir}
 use Rattle.tree_definitions.specs.Tree.{node_at}
 use Rattle.tree_definitions.specs.Resolve.{is_absolute, target_text, resolve_from}
 use Rattle.file_tree.specs.Walks.{path_or_none, passes_all, went}
 use Rattle.file_tree.specs.Places.{reply_of}
-use Rattle.file_tree.proofs.WalkReturns.{first_and_rest, at_end, ends, stays, into, no_path, from_root, from_here}
+use Rattle.file_tree.proofs.WalkReturns.{at_end, ends, stays, into, no_path, from_root, from_here}
 use Rattle.file_tree.proofs.resolve.+walk_on.Goals as goal
 
 pub returns : goal.returns

@@ -1,7 +1,9 @@
 -- One line more in each turn; a refused one ends it.
-use Rattle.std.proofs.Common.{sym, subst, arith, rules}
+use Rattle.std.proofs.Common.{sym, subst, arith, rules, length, refl}
+use Rattle.std.proofs.lemmas.Option.{slice_get_read}
+use Rattle.frang_outside.proofs.Acts.{fell-trans}
 use Rattle.image_commands.specs.Saying.{said_act, SaysAll}
-use Rattle.image_commands.proofs.SayLaws.{at_index, fell-trans, says_more, stopped_so, said_all}
+use Rattle.image_commands.proofs.SayLaws.{says_more, stopped_so, said_all}
 use Rattle.image_commands.proofs.say.say_all.Goals as goal
 
 pub loop-i-init : goal.loop-i-init
@@ -17,7 +19,7 @@ pub loop-i-preserved : goal.loop-i-preserved
 loop-i-preserved g c = record {
   counts = fell-trans _ _ _ c.loop-i.invariant.counts c.in-Ok.ensures.counts;
   says = says_more (g.O.Outside.state c.loop-i.out).acts (g.O.Outside.state c.say_one.new.out).acts c.args.lines.now c.loop-i.i c.index-lines-i.result
-      c.loop-i.invariant.says (at_index c.args.lines.now c.loop-i.i c.index-lines-i.result c.loop-i-test.true c.index-lines-i.is) c.in-Ok.ensures.outcome;
+      c.loop-i.invariant.says (slice_get_read c.args.lines.now (length c.args.lines.now) c.loop-i.i c.index-lines-i.result refl c.loop-i-test.true c.index-lines-i.is) c.in-Ok.ensures.outcome;
 }
 
 pub returns : goal.returns

@@ -1,5 +1,6 @@
 -- By what the walks come to.
 use Rattle.std.proofs.Common.{IfOk, sym, subst, ap, ◌∙◌}
+use Rattle.std.proofs.lemmas.Result.{on_ok_weaker}
 use Rattle.tree_definitions.specs.Perform.{Resolved}
 use Rattle.disk_definitions.specs.Ask.{Ask}
 use Rattle.disk_definitions.specs.Plans.{Plan}
@@ -12,7 +13,6 @@ use Rattle.line_plan.specs.Ends.{ClearsFor, Comes}
 use Rattle.line_plan.specs.Lines.{line_as, resolved_by}
 use Rattle.line_plan.proofs.Behind.{line_goes}
 use Rattle.line_plan.proofs.Fitting.{ReadFits, resolved_fits}
-use Rattle.line_plan.proofs.Looking.{on_ok}
 use Rattle.line_plan.proofs.WalkReads.{resolved_reads}
 use Rattle.line_plan.proofs.plan.plan_line.Goals as goal
 
@@ -60,7 +60,7 @@ returns-in-Comes-clause-looks c =
     let operation = c.args.op.now in
     let f : Resolved → Ask Plan = λ walked. plan_step (seen hand) c.args.birth c.args.when walked.trail walked.step in
     let walked : Resolved = resolved_by c.in-Comes.resolved in
-    on_ok c.plan_step.result
+    on_ok_weaker c.plan_step.result
     (then_looks cached held (plan_of_line (seen hand) c.args.birth c.args.when operation) (f walked) _ _ _
     (bind_to cached held (resolved operation) f walked _ _ (sym (ap line_as c.in-Comes.is) ∙ c.in_ok-line.ensures.comes held) (as_examined cached held _ _ (resolved operation) (resolved_reads operation) (c.in_ok-line.ensures.looks held))))
     c.plan_step.ensures.looks

@@ -1,5 +1,6 @@
 -- The operation that comes of the walks, or their refusal.
 use Rattle.std.proofs.Common.{[], List, ℕ, IfOk, refl, sym, subst, ap, ◌∙◌}
+use Rattle.std.proofs.lemmas.Result.{on_ok_weaker}
 use Rattle.disk_definitions.specs.PlanOf.{plan_of}
 use Rattle.disk_definitions.specs.Lines.{plan_step, with_trail}
 use Rattle.dir_lookup.specs.Hands.{over, seen}
@@ -13,7 +14,6 @@ use Rattle.line_plan.specs.Ends.{ClearsFor}
 use Rattle.line_plan.specs.Lines.{step_by}
 use Rattle.line_plan.specs.declared.walks.Step.{Step}
 use Rattle.line_plan.proofs.Behind.{step_comes}
-use Rattle.line_plan.proofs.Looking.{on_ok}
 use Rattle.line_plan.proofs.plan.plan_step.Goals as goal
 
 pub returns-in-Goes-clause-comes : goal.returns-in-Goes-clause-comes
@@ -44,7 +44,7 @@ returns-in-Goes-clause-looks c =
     let trail = c.args.resolved.trail.items in
     let plan : Step → List ℕ = λ s. examined (plan_step (seen hand) c.args.birth c.args.when trail (step_by s)) cached held in
     let p = plan_of (seen hand) c.args.birth c.args.when c.in-Goes.over in
-    on_ok c.line_end.result (λ m. adds_as _ _ _ _ (examined_got p (with_trail trail) cached held (reading p cached held) refl ∙ ap plan (sym c.in-Goes.is)) (c.plan_op-ended.ensures.looks m)) c.line_end.ensures.memory
+    on_ok_weaker c.line_end.result (λ m. adds_as _ _ _ _ (examined_got p (with_trail trail) cached held (reading p cached held) refl ∙ ap plan (sym c.in-Goes.is)) (c.plan_op-ended.ensures.looks m)) c.line_end.ensures.memory
 
 pub returns-clause-looks : goal.returns-clause-looks
 returns-clause-looks c =

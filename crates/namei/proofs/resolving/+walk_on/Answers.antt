@@ -1,5 +1,6 @@
 -- Each return of a walk is what one step of the definition says, behind the trail.
 use Rattle.std.proofs.Common.{◌≡◌, ◌<◌, ◌-◌, ◌∷◌, ◌++◌, ℕ, List, [], IfOk, append-nil, length, take, drop, sym, ap, ap₂, subst, ◌∙◌, arith}
+use Rattle.frang_base.proofs.Lists.{first_and_rest}
 use Rattle.disk_definitions.specs.Resolving.{Leads, Refused, Resolution, resolve_from}
 use Rattle.dir_lookup.specs.Reading.{Read, Gives}
 use Rattle.dir_lookup.proofs.Through.{no_names}
@@ -8,7 +9,7 @@ use Rattle.dir_lookup.specs.declared.spot.Refusal.TheVariants as refusal
 use Rattle.namei.specs.declared.onward.Next.TheVariants as next
 use Rattle.namei.specs.Walks.{after, read_as}
 use Rattle.namei.proofs.NameSteps.{after_after, over}
-use Rattle.namei.proofs.LinkSteps.{at_end, first_and_rest, goes, by_way, loops, follows}
+use Rattle.namei.proofs.LinkSteps.{at_end, goes, by_way, loops, follows}
 use Rattle.dir_lookup.specs.Looked.{Adds}
 use Rattle.dir_lookup.proofs.Looking.{adds_as, adds_none}
 use Rattle.namei.proofs.NameLooks.{seen}

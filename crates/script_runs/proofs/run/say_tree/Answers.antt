@@ -1,5 +1,7 @@
-use Rattle.std.proofs.Common.{◌≡◌, ◌+◌, length, sym, ◌∙◌, subst, arith, rules}
+use Rattle.std.proofs.Common.{◌≡◌, ◌+◌, length, sym, ◌∙◌, subst, arith, rules, refl}
 use Rattle.std.specs.List.{All}
+use Rattle.std.proofs.lemmas.Option.{slice_get_read}
+use Rattle.frang_outside.proofs.Acts.{fell-trans}
 use Rattle.frang_base.specs.declared.said.Said.TheVariants.{End}
 use Rattle.tree_definitions.specs.TreeLines.{tree_lines}
 use Rattle.script_definitions.specs.SaidReading.{IsProperSaid}
@@ -7,7 +9,7 @@ use Rattle.script_runs.specs.Answering.{opening_of}
 use Rattle.script_runs.specs.Run.{AlwaysSaysRun, said_act}
 use Rattle.script_runs.specs.Telling.{IsTelling}
 use Rattle.script_runs.proofs.Answered.{all_proper}
-use Rattle.script_runs.proofs.Prefixes.{at_index, always_says, refused, stops, fell-trans}
+use Rattle.script_runs.proofs.Prefixes.{always_says, refused, stops}
 use Rattle.script_runs.proofs.TreeTelling.{begun, told_node, told_end}
 use Rattle.script_runs.proofs.run.say_tree.Goals as goal
 
@@ -36,7 +38,7 @@ returns-in-Err-clause-stops g c =
 pub loop-j-preserved : goal.loop-j-preserved
 loop-j-preserved g c = record {
   telling = told_node (opening_of c.args.server.now) c.args.script.now c.deref-line-items.result.now c.loop-j.j _ _ c.line-item.result c.loop-j.invariant.telling
-      (at_index c.deref-line-items.result.now c.loop-j.j c.line-item.result c.loop-j-test.true c.line-item.is) c.in-Ok.ensures.outcome;
+      (slice_get_read c.deref-line-items.result.now (length c.deref-line-items.result.now) c.loop-j.j c.line-item.result refl c.loop-j-test.true c.line-item.is) c.in-Ok.ensures.outcome;
   counts = fell-trans _ _ _ c.loop-j.invariant.counts c.in-Ok.ensures.counts;
 }
 

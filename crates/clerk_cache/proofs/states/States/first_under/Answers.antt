@@ -1,16 +1,13 @@
 -- The first sector in order of the covers is the first in order of the sectors.
-use Rattle.std.proofs.Common.{◌≡◌, Bool, true, false, ◌&&◌, refl, ap, ◌∙◌}
+use Rattle.std.proofs.Common.{true, ap, ◌∙◌}
+use mathlib.Core.Bool.{and-true}
 use Rattle.clerk_cache.specs.Covers.{first_of, is_any, first_under_state}
 use Rattle.clerk_cache.specs.Kept.{is_state_under}
 use Rattle.clerk_cache.proofs.UnderLock.{first_of-keyed}
 use Rattle.clerk_cache.proofs.states.States.first_under.Goals as goal
 
-and_true : (b : Bool) → (b && true) ≡ b
-and_true true = refl
-and_true false = refl
-
 pub returns : goal.returns
 returns c =
     c.first_of.ensures ∙ ap (first_of c.args.lock) c.self.invariant.covers
-    ∙ first_of-keyed c.args.lock is_any (is_state_under c.args.lock) (λ state. and_true (is_state_under c.args.lock state)) c.self.inside.states.entries c.self.invariant.ascend
+    ∙ first_of-keyed c.args.lock is_any (is_state_under c.args.lock) (λ state. and-true (is_state_under c.args.lock state)) c.self.inside.states.entries c.self.invariant.ascend
     ∙ ap (λ map. first_under_state c.args.lock map.entries) c.self.view_is

@@ -1,16 +1,17 @@
 -- One list has room.
 use Rattle.std.proofs.Common.{map, set, ap, ◌∙◌, arith, subst}
 use Rattle.std.proofs.Math.Seq.{map-set_same}
+use Rattle.std.proofs.lemmas.Result.{on_ok_weaker}
 use Rattle.lock_table.specs.Asked.{asked_kept, room_kept}
 use Rattle.lock_table.specs.Kept.{KeepsSpace}
-use Rattle.lock_table.proofs.Lists.{on_ok, room_own, keeps}
+use Rattle.lock_table.proofs.Lists.{room_own, keeps}
 use Rattle.lock_table.proofs.asked_lists.AskedLists.reserve_one.Goals as goal
 
 pub returns-clause-asked : goal.returns-clause-asked
 returns-clause-asked c = map-set_same asked_kept c.self.inside.lists c.args.server.0 c.reserve.new.self c.index-self-server.result c.reserve.ensures.asked ∙ ap (λ kept. kept.asked) c.self.view_is
 
 pub returns-clause-ok : goal.returns-clause-ok
-returns-clause-ok c = on_ok c.reserve.result (λ room. omega (arith, room, room_own c.self.inside.lists c.args.server.0 (omega (arith, c.requires, c.self.invariant)) c.reserve.new.self)) c.reserve.ensures.ok
+returns-clause-ok c = on_ok_weaker c.reserve.result (λ room. omega (arith, room, room_own c.self.inside.lists c.args.server.0 (omega (arith, c.requires, c.self.invariant)) c.reserve.new.self)) c.reserve.ensures.ok
 
 pub returns-clause-room : goal.returns-clause-room
 returns-clause-room c = subst (λ kept. KeepsSpace kept.room (map room_kept (set c.self.inside.lists c.args.server.0 c.reserve.new.self))) c.self.view_is
