@@ -1,14 +1,14 @@
 -- The list of enabled events has exactly those that may happen: row by row, and Tick by all others.
-use Rattle.std.proofs.Common.{if◌then◌else◌, not, ◌≡◌, ◌⊎◌, inl, inr, ⊎_elim, Bool, true, false, List, [], ◌∷◌, ◌++◌, IsTrue, nat_lt, refl, ap, subst}
+use Rattle.std.proofs.Common.{if◌then◌else◌, not, ◌≡◌, ◌⊎◌, inl, inr, ⊎_elim, Bool, true, false, List, [], ◌++◌, IsTrue, nat_lt, refl, ap, subst}
 use Rattle.frang_base.specs.declared.limits.TheConstants.{LAST_TICK}
 use Rattle.core_definitions.specs.Cores.{Core}
 use Rattle.core_definitions.specs.Events.{Event, Begin, Ask, Fetch, Again, Clear, Commit, Answer, Give, Issue, Doom, Resume, Arrive, Lose, Die, Renew, Tick, Recover, Load, Look, Finish, HostLine, Close, Read, Show, End}
 use Rattle.core_definitions.specs.Guards.{CanOther}
 use Rattle.core_definitions.specs.Enabled.{all_parties, only}
-use Rattle.core_laws.proofs.Membership.{In, in_left, in_right, in_either, into_only, FromOnly, from_only, into_rows, from_rows}
-use Rattle.core_laws.proofs.Guarding.{Of3, all_3, of_2, of_3}
+use Rattle.core_laws.proofs.Membership.{into_only, FromOnly, from_only, into_rows, from_rows}
+use Rattle.core_laws.proofs.Guarding.{Of3, all_3, of_3}
 use Rattle.std.specs.List.{list_all}
-use Rattle.std.proofs.lemmas.Bool.{and_from}
+use Rattle.disk_definitions.proofs.Listed.{Among, among_left, among_right, among_either, all_from, all_at}
 use Rattle.core_definitions.specs.Enabled.{after_tick, before_tick, enabled, enabled_among, may_tick, rows_after, rows_before}
 use Rattle.core_definitions.specs.Guards.{Can, CanGoing, CanTick, has_line_at_gate, is_stale}
 use Rattle.core_laws.proofs.Listing.{begin_listed, begin_only, ask_listed, ask_only, fetch_listed, fetch_only, again_listed, again_only, clear_listed, clear_only, commit_listed, commit_only, answer_listed, answer_only, give_listed, give_only, issue_listed, issue_only, doom_listed, doom_only, resume_listed, resume_only, arrive_listed, arrive_only, lose_listed, lose_only, die_listed, die_only, renew_listed, renew_only, finish_listed, finish_only, close_listed, close_only}
@@ -16,7 +16,7 @@ use Rattle.core_laws.proofs.ListingEnds.{recover_listed, recover_only, load_list
 
 -- ---- the rows of a list of rows: each that has an event gives its guard
 
-before_only : (c : Core) (e : Event) → In e (before_tick c (all_parties c)) → CanOther c e
+before_only : (c : Core) (e : Event) → Among e (before_tick c (all_parties c)) → CanOther c e
 before_only c e i =
     from_rows (rows_before c (all_parties c)) e (CanOther c e) (
       begin_only c e,
@@ -48,7 +48,7 @@ before_only c e i =
     )
     i
 
-behind_only : (c : Core) (e : Event) → In e (after_tick c (all_parties c)) → CanOther c e
+behind_only : (c : Core) (e : Event) → Among e (after_tick c (all_parties c)) → CanOther c e
 behind_only c e i =
     from_rows (rows_after c (all_parties c)) e (CanOther c e) (
       recover_only c e,
@@ -82,7 +82,7 @@ behind_only c e i =
 
 -- an event that may happen stands before Tick's row or behind it
 abbrev Listed : Core → Event → Type 0
-Listed c e = In e (before_tick c (all_parties c)) ⊎ In e (after_tick c (all_parties c))
+Listed c e = Among e (before_tick c (all_parties c)) ⊎ Among e (after_tick c (all_parties c))
 
 other_listed : (c : Core) (e : Event) → CanOther c e → Listed c e
 other_listed c (Begin a) can = inl (into_rows 0 (rows_before c (all_parties c)) (Begin a) (begin_listed c a can))
@@ -111,27 +111,18 @@ other_listed c (Show place) can = inr (into_rows 7 (rows_after c (all_parties c)
 other_listed c End can = inr (into_rows 8 (rows_after c (all_parties c)) End (end_listed c can))
 other_listed c Tick can = absurd can
 
-others_only : (c : Core) (e : Event) → In e (before_tick c (all_parties c) ++ after_tick c (all_parties c)) → CanOther c e
+others_only : (c : Core) (e : Event) → Among e (before_tick c (all_parties c) ++ after_tick c (all_parties c)) → CanOther c e
 others_only c e i =
-    ⊎_elim (λ x. before_only c e x) (λ y. behind_only c e y) (in_either e (before_tick c (all_parties c)) (after_tick c (all_parties c)) i)
+    ⊎_elim (λ x. before_only c e x) (λ y. behind_only c e y) (among_either e (before_tick c (all_parties c)) (after_tick c (all_parties c)) i)
 
-others_listed : (c : Core) (e : Event) → CanOther c e → In e (before_tick c (all_parties c) ++ after_tick c (all_parties c))
+others_listed : (c : Core) (e : Event) → CanOther c e → Among e (before_tick c (all_parties c) ++ after_tick c (all_parties c))
 others_listed c e can =
     ⊎_elim
-    (λ x. in_left e (before_tick c (all_parties c)) (after_tick c (all_parties c)) x)
-    (λ y. in_right e (before_tick c (all_parties c)) (after_tick c (all_parties c)) y)
+    (λ x. among_left e (before_tick c (all_parties c)) (after_tick c (all_parties c)) x)
+    (λ y. among_right e (before_tick c (all_parties c)) (after_tick c (all_parties c)) y)
     (other_listed c e can)
 
 -- ---- Tick
-
-all_pass : (test : Event → Bool) (es : List Event) → ((e : Event) → In e es → IsTrue (test e)) → IsTrue (list_all test es)
-all_pass test [] h = refl
-all_pass test (e ∷ es) h = and_from (test e) (list_all test es) (h e (inl refl)) (all_pass test es (λ x i. h x (inr i)))
-
-each_passes : (test : Event → Bool) (es : List Event) → IsTrue (list_all test es) → (e : Event) → In e es → IsTrue (test e)
-each_passes test [] h e i = absurd i
-each_passes test (x ∷ es) h e (inl s) = subst (λ y. IsTrue (test y)) s (of_2 (test x) (list_all test es) h).p0
-each_passes test (x ∷ es) h e (inr i) = each_passes test es (of_2 (test x) (list_all test es) h).p1 e i
 
 abbrev pub others : Core → List Event
 others c = before_tick c (all_parties c) ++ after_tick c (all_parties c)
@@ -139,13 +130,13 @@ others c = before_tick c (all_parties c) ++ after_tick c (all_parties c)
 pub tick_may : (c : Core) → CanTick c → IsTrue (may_tick c (others c))
 tick_may c can =
     all_3 (list_all (is_stale c) (others c)) (not (has_line_at_gate c)) (nat_lt c.now LAST_TICK)
-    (all_pass (is_stale c) (others c) (λ e i. can.quiet e (others_only c e i))) can.gate can.clock
+    (all_from (is_stale c) (others c) (λ e i. can.quiet e (others_only c e i))) can.gate can.clock
 
 tick_can : (c : Core) → IsTrue (may_tick c (others c)) → CanTick c
 tick_can c may =
     let t : Of3 (list_all (is_stale c) (others c)) (not (has_line_at_gate c)) (nat_lt c.now LAST_TICK) =
     of_3 (list_all (is_stale c) (others c)) (not (has_line_at_gate c)) (nat_lt c.now LAST_TICK) may in
-    record { quiet = λ e can. each_passes (is_stale c) (others c) t.p0 e (others_listed c e can); gate = t.p1; clock = t.p2 }
+    record { quiet = λ e can. all_at (is_stale c) (others c) t.p0 e (others_listed c e can); gate = t.p1; clock = t.p2 }
 
 -- ---- the whole
 
@@ -176,23 +167,23 @@ other_goes c (Show place) can = can
 other_goes c End can = can
 other_goes c Tick can = absurd can
 
-going_only : (c : Core) (e : Event) → In e (enabled_among c (all_parties c)) → CanGoing c e
+going_only : (c : Core) (e : Event) → Among e (enabled_among c (all_parties c)) → CanGoing c e
 going_only c e i =
     ⊎_elim
     (λ y. ⊎_elim
     (λ x. other_goes c e (before_only c e x))
     (λ t. let o : FromOnly (may_tick c (others c)) Tick e = from_only (may_tick c (others c)) Tick e t in subst (CanGoing c) o.is (tick_can c o.passes))
-    (in_either e (before_tick c (all_parties c)) (only (may_tick c (others c)) Tick) y))
+    (among_either e (before_tick c (all_parties c)) (only (may_tick c (others c)) Tick) y))
     (λ z. other_goes c e (behind_only c e z))
-    (in_either e (before_tick c (all_parties c) ++ only (may_tick c (others c)) Tick) (after_tick c (all_parties c)) i)
+    (among_either e (before_tick c (all_parties c) ++ only (may_tick c (others c)) Tick) (after_tick c (all_parties c)) i)
 
-among : (c : Core) (e : Event) → Listed c e → In e (enabled_among c (all_parties c))
+among : (c : Core) (e : Event) → Listed c e → Among e (enabled_among c (all_parties c))
 among c e (inl x) =
-    in_left e (before_tick c (all_parties c) ++ only (may_tick c (others c)) Tick) (after_tick c (all_parties c))
-    (in_left e (before_tick c (all_parties c)) (only (may_tick c (others c)) Tick) x)
-among c e (inr y) = in_right e (before_tick c (all_parties c) ++ only (may_tick c (others c)) Tick) (after_tick c (all_parties c)) y
+    among_left e (before_tick c (all_parties c) ++ only (may_tick c (others c)) Tick) (after_tick c (all_parties c))
+    (among_left e (before_tick c (all_parties c)) (only (may_tick c (others c)) Tick) x)
+among c e (inr y) = among_right e (before_tick c (all_parties c) ++ only (may_tick c (others c)) Tick) (after_tick c (all_parties c)) y
 
-going_listed : (c : Core) (e : Event) → CanGoing c e → In e (enabled_among c (all_parties c))
+going_listed : (c : Core) (e : Event) → CanGoing c e → Among e (enabled_among c (all_parties c))
 going_listed c (Begin a) can = among c (Begin a) (other_listed c (Begin a) can)
 going_listed c (Ask a lock mode) can = among c (Ask a lock mode) (other_listed c (Ask a lock mode) can)
 going_listed c (Fetch a sector) can = among c (Fetch a sector) (other_listed c (Fetch a sector) can)
@@ -218,19 +209,19 @@ going_listed c (Read sector) can = among c (Read sector) (other_listed c (Read s
 going_listed c (Show place) can = among c (Show place) (other_listed c (Show place) can)
 going_listed c End can = among c End (other_listed c End can)
 going_listed c Tick can =
-    in_left Tick (before_tick c (all_parties c) ++ only (may_tick c (others c)) Tick) (after_tick c (all_parties c))
-    (in_right Tick (before_tick c (all_parties c)) (only (may_tick c (others c)) Tick) (into_only (may_tick c (others c)) Tick (tick_may c can)))
+    among_left Tick (before_tick c (all_parties c) ++ only (may_tick c (others c)) Tick) (after_tick c (all_parties c))
+    (among_right Tick (before_tick c (all_parties c)) (only (may_tick c (others c)) Tick) (into_only (may_tick c (others c)) Tick (tick_may c can)))
 
-pub enabled_only : (c : Core) (e : Event) → In e (enabled c) → Can c e
+pub enabled_only : (c : Core) (e : Event) → Among e (enabled c) → Can c e
 enabled_only c e i = go c.over refl i
   where
-    go : (b : Bool) → c.over ≡ b → In e (if b then [] else enabled_among c (all_parties c)) → Can c e
+    go : (b : Bool) → c.over ≡ b → Among e (if b then [] else enabled_among c (all_parties c)) → Can c e
     go true o i = absurd i
     go false o i = record { going = ap not o; can = going_only c e i }
 
-pub enabled_listed : (c : Core) (e : Event) → Can c e → In e (enabled c)
+pub enabled_listed : (c : Core) (e : Event) → Can c e → Among e (enabled c)
 enabled_listed c e can = go c.over refl can.going
   where
-    go : (b : Bool) → c.over ≡ b → IsTrue (not b) → In e (if b then [] else enabled_among c (all_parties c))
+    go : (b : Bool) → c.over ≡ b → IsTrue (not b) → Among e (if b then [] else enabled_among c (all_parties c))
     go true o h = absurd (cc)
     go false o h = going_listed c e can.can

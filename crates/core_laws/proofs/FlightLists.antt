@@ -1,11 +1,11 @@
 -- What is so of each write in flight, through all that is done to their list.
-use Rattle.std.proofs.Common.{ℕ, inl, inr, Bool, true, false, not, ◌==◌, cond, if◌then◌else◌, [], ◌∷◌, ◌++◌, refl, subst}
+use Rattle.std.proofs.Common.{ℕ, inl, inr, Bool, true, false, not, ◌==◌, cond, if◌then◌else◌, [], ◌∷◌, ◌++◌, refl, subst, sym}
 use Rattle.std.specs.BTreeMap.{is_at}
 use Rattle.std.specs.Map.{remove_entry}
 use Rattle.std.specs.Ordering.{nat_cmp}
+use Rattle.disk_definitions.proofs.Listed.{Among}
 use Rattle.sector_bytes.specs.SectorMaps.{without}
 use Rattle.core_definitions.specs.Flights.{Flight, Flights, each_of_server, lost}
-use Rattle.core_laws.proofs.Membership.{In}
 
 abbrev pub AllFlights : (Flight → Type 0) → Flights → Type 0
 AllFlights P [] = Unit {0}
@@ -40,12 +40,12 @@ pub all_joined : (P : Flight → Type 0) (one : ℕ × Flight) (flights : Flight
 all_joined P one [] here all = (here, tt)
 all_joined P one (x ∷ xs) here all = (all.0, all_joined P one xs here all.1)
 
-pub in_flights : (P : Flight → Type 0) (flights : Flights) (one : ℕ × Flight) → In one flights → AllFlights P flights → P one.1
+pub in_flights : (P : Flight → Type 0) (flights : Flights) (one : ℕ × Flight) → Among one flights → AllFlights P flights → P one.1
 in_flights P [] one i all = absurd i
-in_flights P (x ∷ xs) one (inl e) all = subst (λ o. P o.1) e all.0
+in_flights P (x ∷ xs) one (inl e) all = subst (λ o. P o.1) (sym e) all.0
 in_flights P (x ∷ xs) one (inr i) all = in_flights P xs one i all.1
 
 -- it is so of each where it is of each that is there
-pub all_flights : (P : Flight → Type 0) (flights : Flights) → ((one : ℕ × Flight) → In one flights → P one.1) → AllFlights P flights
+pub all_flights : (P : Flight → Type 0) (flights : Flights) → ((one : ℕ × Flight) → Among one flights → P one.1) → AllFlights P flights
 all_flights P [] each = tt
 all_flights P (one ∷ others) each = (each one (inl refl), all_flights P others (λ o i. each o (inr i)))

@@ -4,9 +4,10 @@ use Rattle.std.proofs.lemmas.Bool.{eq-eqb, or_right, or_left, both_ways, not-tru
 use Rattle.std.specs.BTreeMap.{is_at}
 use Rattle.std.specs.Map.{keys_of, remove_entry}
 use Rattle.std.specs.Ordering.{nat_cmp}
+use Rattle.disk_definitions.proofs.Listed.{Among}
 use Rattle.sector_bytes.specs.SectorMaps.{without}
 use Rattle.core_definitions.specs.Flights.{Flight, Flights, each_of_server, is_flying, lost}
-use Rattle.core_laws.proofs.Membership.{In, in_contains, contains_in}
+use Rattle.core_laws.proofs.Membership.{in_contains, contains_in}
 use Rattle.core_laws.specs.Laws.{AreOnce}
 
 abbrev pub sectors_in : Flights → List ℕ
@@ -15,7 +16,7 @@ sectors_in flights = map (λ one. one.1.sector) flights
 -- each once
 abbrev pub Once : List ℕ → Type 0
 Once [] = Unit {0}
-Once (x ∷ xs) = (In x xs → ⊥) × Once xs
+Once (x ∷ xs) = (Among x xs → ⊥) × Once xs
 
 -- by positions it is the same
 pub once_of : (xs : List ℕ) → AreOnce xs → Once xs
@@ -28,7 +29,7 @@ as_words (x ∷ xs) o = ((λ h. o.0 (contains_in xs x h)), as_words xs o.1)
 
 -- the tickets are below the next one, and tickets and sectors stand once
 pub record AreSingle (flights : Flights) (tickets : ℕ) : Type 0 where
-  pub below : (ticket : ℕ) → In ticket (keys_of flights) → ticket < tickets
+  pub below : (ticket : ℕ) → Among ticket (keys_of flights) → ticket < tickets
   pub once : Once (keys_of flights)
   pub alone : Once (sectors_in flights)
 
@@ -41,7 +42,7 @@ pub record SameWrites (new old : Flights) : Type 0 where
 
 pub of_same : (new old : Flights) (tickets : ℕ) → SameWrites new old → AreSingle old tickets → AreSingle new tickets
 of_same new old tickets s are = record {
-  below = λ ticket i. are.below ticket (subst (In ticket) s.keys i);
+  below = λ ticket i. are.below ticket (subst (Among ticket) s.keys i);
   once = subst Once (sym s.keys) are.once;
   alone = subst Once (sym s.sectors) are.alone;
 }
@@ -60,11 +61,11 @@ each_same server change keeps (one ∷ others) =
 
 -- ---- fewer writes
 
-pub filtered_in : {X : Type 0} (f : X → ℕ) (test : X → Bool) (xs : List X) (k : ℕ) → In k (map f (filter test xs)) → In k (map f xs)
+pub filtered_in : {X : Type 0} (f : X → ℕ) (test : X → Bool) (xs : List X) (k : ℕ) → Among k (map f (filter test xs)) → Among k (map f xs)
 filtered_in f test [] k i = absurd i
 filtered_in f test (x ∷ xs) k i = go (test x) (filtered_in f test xs k) i
   where
-    go : (b : Bool) → (In k (map f (filter test xs)) → In k (map f xs)) → In k (map f (cond b (x ∷ filter test xs) (filter test xs))) → In k (f x ∷ map f xs)
+    go : (b : Bool) → (Among k (map f (filter test xs)) → Among k (map f xs)) → Among k (map f (cond b (x ∷ filter test xs) (filter test xs))) → Among k (f x ∷ map f xs)
     go true rest (inl e) = inl e
     go true rest (inr j) = inr (rest j)
     go false rest j = inr (rest j)
@@ -84,11 +85,11 @@ of_lost server flights tickets are = record {
   alone = filtered_once (λ one. one.1.sector) (λ one. not (one.1.server == server)) flights are.alone;
 }
 
-removed_in : (f : ℕ × Flight → ℕ) (test : ℕ → Bool) (xs : Flights) (k : ℕ) → In k (map f (remove_entry test xs)) → In k (map f xs)
+removed_in : (f : ℕ × Flight → ℕ) (test : ℕ → Bool) (xs : Flights) (k : ℕ) → Among k (map f (remove_entry test xs)) → Among k (map f xs)
 removed_in f test [] k i = absurd i
 removed_in f test (x ∷ xs) k i = go (test x.0) (removed_in f test xs k) i
   where
-    go : (b : Bool) → (In k (map f (remove_entry test xs)) → In k (map f xs)) → In k (map f (cond b xs (x ∷ remove_entry test xs))) → In k (f x ∷ map f xs)
+    go : (b : Bool) → (Among k (map f (remove_entry test xs)) → Among k (map f xs)) → Among k (map f (cond b xs (x ∷ remove_entry test xs))) → Among k (f x ∷ map f xs)
     go true rest j = inr j
     go false rest (inl e) = inl e
     go false rest (inr j) = inr (rest j)
@@ -110,18 +111,18 @@ of_landed ticket flights tickets are = record {
 
 -- ---- one more
 
-pushed_in : {X : Type 0} (f : X → ℕ) (xs : List X) (x : X) (k : ℕ) → In k (map f (xs ++ x ∷ [])) → In k (map f xs) ⊎ (f x ≡ k)
-pushed_in f [] x k i = ⊎_elim (λ e. inr e) (λ j. absurd j) i
+pushed_in : {X : Type 0} (f : X → ℕ) (xs : List X) (x : X) (k : ℕ) → Among k (map f (xs ++ x ∷ [])) → Among k (map f xs) ⊎ (f x ≡ k)
+pushed_in f [] x k i = ⊎_elim (λ e. inr (sym e)) (λ j. absurd j) i
 pushed_in f (y ∷ ys) x k i = ⊎_elim (λ e. inl (inl e)) (λ j. ⊎_elim (λ a. inl (inr a)) (λ b. inr b) (pushed_in f ys x k j)) i
 
-pushed_once : {X : Type 0} (f : X → ℕ) (xs : List X) (x : X) → Once (map f xs) → (In (f x) (map f xs) → ⊥) → Once (map f (xs ++ x ∷ []))
+pushed_once : {X : Type 0} (f : X → ℕ) (xs : List X) (x : X) → Once (map f xs) → (Among (f x) (map f xs) → ⊥) → Once (map f (xs ++ x ∷ []))
 pushed_once f [] x o n = ((λ i. absurd i), tt)
 pushed_once f (y ∷ ys) x o n =
-    ((λ i. ⊎_elim (λ a. o.0 a) (λ e. n (inl (sym e))) (pushed_in f ys x (f y) i)), pushed_once f ys x o.1 (λ i. n (inr i)))
+    ((λ i. ⊎_elim (λ a. o.0 a) (λ e. n (inl e)) (pushed_in f ys x (f y) i)), pushed_once f ys x o.1 (λ i. n (inr i)))
 
-flying_in : (flights : Flights) (sector : ℕ) → In sector (sectors_in flights) → IsTrue (is_flying flights sector)
+flying_in : (flights : Flights) (sector : ℕ) → Among sector (sectors_in flights) → IsTrue (is_flying flights sector)
 flying_in [] sector i = absurd i
-flying_in (one ∷ others) sector (inl e) = or_left (one.1.sector == sector) (is_flying others sector) (eq-eqb one.1.sector sector e)
+flying_in (one ∷ others) sector (inl e) = or_left (one.1.sector == sector) (is_flying others sector) (eq-eqb one.1.sector sector (sym e))
 flying_in (one ∷ others) sector (inr i) = or_right (one.1.sector == sector) (is_flying others sector) (flying_in others sector i)
 
 later : (n m : ℕ) → n < m → n < m + 1

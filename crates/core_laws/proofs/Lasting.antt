@@ -8,6 +8,7 @@ use Rattle.std.specs.Map.{keys_of}
 use Rattle.std.specs.Ordering.{nat_cmp}
 use Rattle.std.proofs.lemmas.Option.{same_Some, none-some}
 use Rattle.std.proofs.Math.Nat.{le_refl}
+use Rattle.disk_definitions.proofs.Listed.{Among}
 use Rattle.frang_base.specs.Functions.{put}
 use Rattle.frang_base.specs.declared.lock.LockId.{LockId}
 use Rattle.frang_base.specs.declared.op.Op.{Op}
@@ -50,7 +51,7 @@ use Rattle.core_laws.specs.Laws.{AreOnce}
 use Rattle.core_laws.proofs.Along.{along}
 use Rattle.core_laws.proofs.Flying.{Once, once_of}
 use Rattle.core_laws.proofs.Kept.{setting_of_run}
-use Rattle.core_laws.proofs.Membership.{In, contains_in, in_contains, into_map}
+use Rattle.core_laws.proofs.Membership.{contains_in, in_contains, into_map}
 use Rattle.core_laws.proofs.Single.{tickets_once}
 use Rattle.core_laws.proofs.Ashore.{acknowledged_phase, again_phase, ashore_of_run, begun_phase, clean_lands, fetched_phase, wanting_phase}
 use Rattle.core_laws.proofs.FlightLists.{AllFlights, all_changed, all_flights, all_joined, all_landed, all_lost, in_flights}
@@ -493,15 +494,15 @@ host_leased c (Some line) l = calm c (host_answered_line c (Some line)) refl (λ
 
 -- ---- a Tick
 
-found_there : (flights : Flights) → Once (keys_of flights) → (one : ℕ × Flight) → In one flights → value_at flights one.0 ≡ Some one.1
+found_there : (flights : Flights) → Once (keys_of flights) → (one : ℕ × Flight) → Among one flights → value_at flights one.0 ≡ Some one.1
 found_there [] o one i = absurd i
 found_there (x ∷ xs) o one i = go (is_at (nat_cmp one.0) x.0) refl i (found_there xs o.1 one)
   where
-    go : (b : Bool) → is_at (nat_cmp one.0) x.0 ≡ b → In one (x ∷ xs) → (In one xs → value_at xs one.0 ≡ Some one.1) →
+    go : (b : Bool) → is_at (nat_cmp one.0) x.0 ≡ b → Among one (x ∷ xs) → (Among one xs → value_at xs one.0 ≡ Some one.1) →
         cond b (Some x.1) (value_at xs one.0) ≡ Some one.1
-    go true e (inl same) rest = ap (λ z. Some z.1) same
-    go true e (inr j) rest = absurd (o.0 (subst (λ n. In n (keys_of xs)) (sym (found one.0 x.0 e)) (into_map (λ z. z.0) xs one j)))
-    go false e (inl same) rest = absurd (false≢true (sym e ∙ ap (λ z. is_at (nat_cmp one.0) z.0) same ∙ at_itself one.0))
+    go true e (inl same) rest = ap (λ z. Some z.1) (sym same)
+    go true e (inr j) rest = absurd (o.0 (subst (λ n. Among n (keys_of xs)) (sym (found one.0 x.0 e)) (into_map (λ z. z.0) xs one j)))
+    go false e (inl same) rest = absurd (false≢true (sym e ∙ ap (λ z. is_at (nat_cmp one.0) z.0) (sym same) ∙ at_itself one.0))
     go false e (inr j) rest = rest j
 
 module _ (c : Core) (can : CanTick c) (once : Once (keys_of c.flights)) (l : Leased c) where
@@ -514,7 +515,7 @@ module _ (c : Core) (can : CanTick c) (once : Once (keys_of c.flights)) (l : Lea
       go false e = ltb-false (c.servers a).expiry (lease_to c.setting c.now) e
 
   -- a write that could arrive would, but for those of who is Still or Dead
-  gone : (one : ℕ × Flight) → In one c.flights → IsTrue (is_by_gone c one.1)
+  gone : (one : ℕ × Flight) → Among one c.flights → IsTrue (is_by_gone c one.1)
   gone one i =
       subst (λ f. IsTrue (is_flight (is_by_gone c) f)) at
       (can.quiet (Arrive one.0) (record { flying = ap is_some at }))
@@ -530,7 +531,7 @@ module _ (c : Core) (can : CanTick c) (once : Once (keys_of c.flights)) (l : Lea
   works_not (Doomed fate) true h g away w = false≢true g
   works_not Dead true h g away w = false≢true (sym (away refl) ∙ w)
 
-  none_of : (a : ℕ) → IsTrue (works a (c.servers a)) → (one : ℕ × Flight) → In one c.flights → Lasts a (moment_of (after c Tick Nothing)) one.1
+  none_of : (a : ℕ) → IsTrue (works a (c.servers a)) → (one : ℕ × Flight) → Among one c.flights → Lasts a (moment_of (after c Tick Nothing)) one.1
   none_of a w one i server present =
       absurd
       (works_not (c.servers a).phase (is_server a) (a == host_party)

@@ -14,6 +14,7 @@ use Rattle.disk_definitions.specs.Regions.{sector_of}
 use Rattle.disk_definitions.specs.declared.region.Region.TheVariants as region
 use Rattle.disk_definitions.specs.declared.log_sector.LogSector.{LogSector}
 use Rattle.disk_definitions.specs.Frames.{frame_bytes}
+use Rattle.disk_definitions.proofs.Listed.{Among}
 use Rattle.ring_definitions.specs.Rings.{Ring, acked, appended, first_waiting, free_of, issued, last, need, passed, reclaimed_of, ring_at, sent}
 use Rattle.ring_definitions.proofs.Flags.{AreFlags, IsPassed, flags_kept, flags_push, flags_set, passed_is}
 use Rattle.ring_definitions.proofs.Packed.{length-framed}
@@ -26,7 +27,7 @@ use Rattle.core_laws.proofs.FlightLists.{AllFlights, all_landed, in_flights}
 use Rattle.core_laws.specs.Facts.{KeepsWindows, log_slot, log_slots, slot_in}
 use Rattle.core_laws.specs.Laws.{AreOnce}
 use Rattle.core_laws.proofs.Flying.{Once, sectors_in, once_of, as_words}
-use Rattle.core_laws.proofs.Membership.{In, contains_in, into_map}
+use Rattle.core_laws.proofs.Membership.{contains_in, into_map}
 
 -- ---- which numbers fly
 
@@ -285,31 +286,31 @@ AllAtSlots logs flights = AllFlights (IsAtSlot logs) flights
 
 -- ---- a write that lands was the only one of its number
 
-sector_found : (flights : Flights) (ticket : ℕ) (flight : Flight) → value_at flights ticket ≡ Some flight → In flight.sector (sectors_in flights)
+sector_found : (flights : Flights) (ticket : ℕ) (flight : Flight) → value_at flights ticket ≡ Some flight → Among flight.sector (sectors_in flights)
 sector_found [] ticket flight e = absurd (cc)
 sector_found (x ∷ xs) ticket flight e = go (is_at (nat_cmp ticket) x.0) (sector_found xs ticket flight) e
   where
-    go : (b : Bool) → (value_at xs ticket ≡ Some flight → In flight.sector (sectors_in xs)) → cond b (Some x.1) (value_at xs ticket) ≡ Some flight →
-        In flight.sector (sectors_in (x ∷ xs))
-    go true rest e = inl (ap (λ f. f.sector) (same_Some x.1 flight e))
+    go : (b : Bool) → (value_at xs ticket ≡ Some flight → Among flight.sector (sectors_in xs)) → cond b (Some x.1) (value_at xs ticket) ≡ Some flight →
+        Among flight.sector (sectors_in (x ∷ xs))
+    go true rest e = inl (sym (ap (λ f. f.sector) (same_Some x.1 flight e)))
     go false rest e = inr (rest e)
 
 -- no other write in flight is of the sector of the one with this ticket
 alone : (flights : Flights) (ticket : ℕ) (flight : Flight) → value_at flights ticket ≡ Some flight → Once (sectors_in flights) → (one : ℕ × Flight) →
-    In one (without flights ticket) → one.1.sector ≡ flight.sector → ⊥
+    Among one (without flights ticket) → one.1.sector ≡ flight.sector → ⊥
 alone [] ticket flight e o one i same = absurd i
 alone (x ∷ xs) ticket flight e o one i same = go (is_at (nat_cmp ticket) x.0) (λ f j. alone xs ticket flight f o.1 one j same) e i
   where
-    listed : (one : ℕ × Flight) (n : ℕ) → In one xs → one.1.sector ≡ n → In n (sectors_in xs)
-    listed one n j f = subst (λ k. In k (sectors_in xs)) f (into_map (λ one. one.1.sector) xs one j)
+    listed : (one : ℕ × Flight) (n : ℕ) → Among one xs → one.1.sector ≡ n → Among n (sectors_in xs)
+    listed one n j f = subst (λ k. Among k (sectors_in xs)) f (into_map (λ one. one.1.sector) xs one j)
 
-    go : (b : Bool) → (value_at xs ticket ≡ Some flight → In one (without xs ticket) → ⊥) → cond b (Some x.1) (value_at xs ticket) ≡ Some flight →
-        In one (cond b xs (x ∷ without xs ticket)) → ⊥
+    go : (b : Bool) → (value_at xs ticket ≡ Some flight → Among one (without xs ticket) → ⊥) → cond b (Some x.1) (value_at xs ticket) ≡ Some flight →
+        Among one (cond b xs (x ∷ without xs ticket)) → ⊥
     go true rest e j = o.0 (listed one x.1.sector j (same ∙ sym (ap (λ f. f.sector) (same_Some x.1 flight e))))
-    go false rest e (inl f) = o.0 (subst (λ k. In k (sectors_in xs)) (sym same ∙ sym (ap (λ one. one.1.sector) f)) (sector_found xs ticket flight e))
+    go false rest e (inl f) = o.0 (subst (λ k. Among k (sectors_in xs)) (sym same ∙ ap (λ one. one.1.sector) f) (sector_found xs ticket flight e))
     go false rest e (inr j) = rest e j
 
-none_any : {X : Type 0} (test : X → Bool) (xs : List X) → ((x : X) → In x xs → test x ≡ false) → list_any test xs ≡ false
+none_any : {X : Type 0} (test : X → Bool) (xs : List X) → ((x : X) → Among x xs → test x ≡ false) → list_any test xs ≡ false
 none_any test [] h = refl
 none_any test (x ∷ xs) h = or_from (test x) (list_any test xs) (h x (inl refl)) (none_any test xs (λ y i. h y (inr i)))
 
@@ -348,7 +349,7 @@ none_left logs flights ticket flight number e p once at here = none_any (λ one.
         same_place : log_sector logs f.server n ≡ log_sector logs flight.server number
         same_place = ap (λ a. log_sector logs a n) (eqb-true f.server flight.server parts.0) ∙ ap (log_sector logs flight.server) (eqb-true n number parts.1)
 
-    other : (one : ℕ × Flight) → In one (without flights ticket) → (b : Bool) → is_log_flight flight.server number one.1 ≡ b → b ≡ false
+    other : (one : ℕ × Flight) → Among one (without flights ticket) → (b : Bool) → is_log_flight flight.server number one.1 ≡ b → b ≡ false
     other one i false t = refl
     other one i true t =
         absurd (alone flights ticket flight e (once_of (sectors_in flights) once) one i (of_purpose one.1 one.1.purpose refl t (in_flights (IsAtSlot logs) (without flights ticket) one i (all_landed (IsAtSlot logs) ticket flights at))))
@@ -376,17 +377,17 @@ sector_at_slot logs a slot f e at = go (f.server == a) refl f.purpose refl e
         subst (IsAtSlotFor logs f.server f.sector) p at ∙ ap (λ n. log_sector logs n number) (eqb-true f.server a s) ∙ ap (λ n. sector_of (region.Log a n)) (same_Some (slot_of logs number) slot e)
 
 -- the sector of a slot in flight is among the sectors in flight
-slot_sector : (logs : LogRules) (a slot : ℕ) (flights : Flights) → AllAtSlots logs flights → In slot (log_slots logs a flights) →
-    In (sector_of (region.Log a slot)) (sectors_in flights)
+slot_sector : (logs : LogRules) (a slot : ℕ) (flights : Flights) → AllAtSlots logs flights → Among slot (log_slots logs a flights) →
+    Among (sector_of (region.Log a slot)) (sectors_in flights)
 slot_sector logs a slot [] at i = absurd i
 slot_sector logs a slot (x ∷ xs) at i = go (log_slot logs a x.1) refl (slot_sector logs a slot xs at.1) i
   where
-    go : (o : Option ℕ) → log_slot logs a x.1 ≡ o → (In slot (log_slots logs a xs) → In (sector_of (region.Log a slot)) (sectors_in xs)) →
-        In slot (cons_option o (log_slots logs a xs)) →
-        In (sector_of (region.Log a slot)) (sectors_in (x ∷ xs))
+    go : (o : Option ℕ) → log_slot logs a x.1 ≡ o → (Among slot (log_slots logs a xs) → Among (sector_of (region.Log a slot)) (sectors_in xs)) →
+        Among slot (cons_option o (log_slots logs a xs)) →
+        Among (sector_of (region.Log a slot)) (sectors_in (x ∷ xs))
     go None e rest j = inr (rest j)
     go (Some k) e rest (inr j) = inr (rest j)
-    go (Some k) e rest (inl same) = inl (sector_at_slot logs a k x.1 e at.0 ∙ ap (λ n. sector_of (region.Log a n)) same)
+    go (Some k) e rest (inl same) = inl (ap (λ n. sector_of (region.Log a n)) same ∙ sym (sector_at_slot logs a k x.1 e at.0))
 
 slots_single : (logs : LogRules) (a : ℕ) (flights : Flights) → AllAtSlots logs flights → Once (sectors_in flights) → Once (log_slots logs a flights)
 slots_single logs a [] at o = tt
@@ -394,7 +395,7 @@ slots_single logs a (x ∷ xs) at o = go (log_slot logs a x.1) refl (slots_singl
   where
     go : (s : Option ℕ) → log_slot logs a x.1 ≡ s → Once (log_slots logs a xs) → Once (cons_option s (log_slots logs a xs))
     go None e rest = rest
-    go (Some k) e rest = ((λ i. o.0 (subst (λ n. In n (sectors_in xs)) (sym (sector_at_slot logs a k x.1 e at.0)) (slot_sector logs a k xs at.1 i))), rest)
+    go (Some k) e rest = ((λ i. o.0 (subst (λ n. Among n (sectors_in xs)) (sym (sector_at_slot logs a k x.1 e at.0)) (slot_sector logs a k xs at.1 i))), rest)
 
 pub slots_once : (logs : LogRules) (a : ℕ) (flights : Flights) → AllAtSlots logs flights → AreOnce (sectors_in flights) → AreOnce (log_slots logs a flights)
 slots_once logs a flights at once = as_words (log_slots logs a flights) (slots_single logs a flights at (once_of (sectors_in flights) once))

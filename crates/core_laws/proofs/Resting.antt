@@ -4,6 +4,7 @@ use Rattle.std.proofs.lemmas.Bool.{false≢true, and_from, or_right, or_left, an
 use Rattle.std.proofs.lemmas.Bool.Decides.{nat_tests}
 use Rattle.std.specs.List.{list_any}
 use Rattle.std.proofs.lemmas.Option.{same_Some, none-some}
+use Rattle.disk_definitions.proofs.Listed.{Among}
 use Rattle.frang_base.specs.Functions.{member, put}
 use Rattle.frang_base.specs.declared.script.Line.{Line}
 use Rattle.lock_definitions.specs.Calls.{asked_for}
@@ -27,7 +28,6 @@ use Rattle.core_definitions.specs.Effects.{after}
 use Rattle.core_definitions.specs.Runs.{State, Step, Event_, Enter, Hold, Flush, Relock, Note, Peek, Run, Stays, Goes, first_state, Makes}
 use Rattle.core_laws.specs.Facts.{HasNothing}
 use Rattle.core_laws.proofs.Guarding.{Of4, of_4}
-use Rattle.core_laws.proofs.Membership.{In}
 use Rattle.core_laws.proofs.Parties.{worker_in_parties}
 use Rattle.core_laws.proofs.Memory.{Good, Mild, Safe, again_mild, all_safe, answered_good, arrived_good, begun_mild, busy, committed_good, dead_is, dead_of, died_good, either, failed_good, fetched_mild, fresh, given_good, is_resting, issued_good, leaving, put_safe, rescued, self, staged, still_dead_not, unmoved, up_dead_not, up_rests_not, wanting_mild, works}
 
@@ -88,9 +88,9 @@ resume_good s a can g =
 -- ---- recoveries
 
 -- what a working server has for a recovery is none while nobody recovers
-some_any : (test : ℕ → Bool) (xs : List ℕ) (x : ℕ) → In x xs → IsTrue (test x) → IsTrue (list_any test xs)
+some_any : (test : ℕ → Bool) (xs : List ℕ) (x : ℕ) → Among x xs → IsTrue (test x) → IsTrue (list_any test xs)
 some_any test [] x i h = absurd i
-some_any test (y ∷ ys) x (inl e) h = or_left (test y) (list_any test ys) (subst (λ k. IsTrue (test k)) (sym e) h)
+some_any test (y ∷ ys) x (inl e) h = or_left (test y) (list_any test ys) (subst (λ k. IsTrue (test k)) e h)
 some_any test (y ∷ ys) x (inr i) h = or_right (test y) (list_any test ys) (some_any test ys x i h)
 
 pub negated : (b : Bool) → IsTrue (not b) → IsTrue b → ⊥

@@ -9,10 +9,10 @@ use Rattle.std.specs.declared.cmp.Ordering.{Ordering}
 use Rattle.std.specs.declared.cmp.Ordering.TheVariants.{Less}
 use Rattle.frang_base.proofs.Lists.{all_map, all_append}
 use Rattle.disk_definitions.specs.Written.{ascending, with_number}
+use Rattle.disk_definitions.proofs.Listed.{Among}
 use Rattle.sector_bytes.specs.SectorMaps.{Ascend}
 use Rattle.sector_bytes.proofs.MapLaws.{ascend_with}
 use Rattle.tree_definitions.specs.Numbers.{below}
-use Rattle.core_laws.proofs.Membership.{In}
 
 -- ---- of each element
 
@@ -34,9 +34,9 @@ pub all_flat_from : {X Y : Type 0} {Q : X → Type 0} (P : Y → Type 0) (f : X 
 all_flat_from P f each [] all = tt
 all_flat_from {Q = Q} P f each (x ∷ xs) all = all_append P (f x) (flat_map f xs) (each x all.0) (all_flat_from {Q = Q} P f each xs all.1)
 
-pub all_in : {X : Type 0} (P : X → Type 0) (xs : List X) (x : X) → AllByRecursion P xs → In x xs → P x
+pub all_in : {X : Type 0} (P : X → Type 0) (xs : List X) (x : X) → AllByRecursion P xs → Among x xs → P x
 all_in P [] x all i = absurd i
-all_in P (y ∷ ys) x all (inl e) = subst P e all.0
+all_in P (y ∷ ys) x all (inl e) = subst P (sym e) all.0
 all_in P (y ∷ ys) x all (inr i) = all_in P ys x all.1 i
 
 -- ---- ascending lists

@@ -20,6 +20,7 @@ use Rattle.disk_definitions.specs.Ask.Met.{Needs, Has}
 use Rattle.disk_definitions.specs.Plans.{Lock, Plan}
 use Rattle.disk_definitions.specs.Plans.Plan.{Lacks, Clears, Finishes}
 use Rattle.disk_definitions.specs.Written.{Cached}
+use Rattle.disk_definitions.proofs.Listed.{Among}
 use Rattle.sector_bytes.specs.Blocks.{version_of}
 use Rattle.sector_bytes.specs.SectorMaps.{value_at}
 use Rattle.tree_definitions.specs.Apply.{is_path_op}
@@ -30,7 +31,7 @@ use Rattle.core_definitions.specs.Servers.{Server, asks, is_up, stage_of, stage_
 use Rattle.core_definitions.specs.Sets.{LockSet, has_lock, lacks, next_segment, segment_of, segments_in, to_ask}
 use Rattle.core_definitions.specs.Settings.{Setting}
 use Rattle.core_laws.specs.Laws.{AreOnce}
-use Rattle.core_laws.proofs.Membership.{In, contains_in, in_contains}
+use Rattle.core_laws.proofs.Membership.{contains_in, in_contains}
 use Rattle.core_laws.specs.Orders.{AreLinesInOrder, IsLineInOrder}
 use Rattle.core_laws.proofs.Sorting.{sorted_map, sorted_one}
 
@@ -66,24 +67,24 @@ missing_sorted set cache s =
 
 -- ---- what was seen
 
-pushed : (xs : List ℕ) (x : ℕ) → AreOnce xs → (In x xs → ⊥) → AreOnce (xs ++ x ∷ [])
+pushed : (xs : List ℕ) (x : ℕ) → AreOnce xs → (Among x xs → ⊥) → AreOnce (xs ++ x ∷ [])
 pushed [] x o n = ((λ h. absurd (contains_in [] x h)), tt)
 pushed (y ∷ ys) x o n = ((λ h. apart (contains_in (ys ++ x ∷ []) y h)), pushed ys x o.1 (λ i. n (inr i)))
   where
-    split : (zs : List ℕ) → In y (zs ++ x ∷ []) → In y zs ⊎ (x ≡ y)
-    split [] i = ⊎_elim (λ e. inr e) (λ j. absurd j) i
+    split : (zs : List ℕ) → Among y (zs ++ x ∷ []) → Among y zs ⊎ (x ≡ y)
+    split [] i = ⊎_elim (λ e. inr (sym e)) (λ j. absurd j) i
     split (z ∷ zs) i = ⊎_elim (λ e. inl (inl e)) (λ j. ⊎_elim (λ a. inl (inr a)) (λ b. inr b) (split zs j)) i
 
-    apart : In y (ys ++ x ∷ []) → ⊥
-    apart i = ⊎_elim (λ j. o.0 (in_contains ys y j)) (λ e. n (inl (sym e))) (split ys i)
+    apart : Among y (ys ++ x ∷ []) → ⊥
+    apart i = ⊎_elim (λ j. o.0 (in_contains ys y j)) (λ e. n (inl e)) (split ys i)
 
 seen_keys : (seen : Seen) (one : ℕ × ℕ) → keys_of (seen ++ one ∷ []) ≡ keys_of seen ++ one.0 ∷ []
 seen_keys [] one = refl
 seen_keys (x ∷ xs) one = ap (λ ks. x.0 ∷ ks) (seen_keys xs one)
 
-in_seen : (seen : Seen) (sector : ℕ) → In sector (keys_of seen) → IsTrue (is_seen seen sector)
+in_seen : (seen : Seen) (sector : ℕ) → Among sector (keys_of seen) → IsTrue (is_seen seen sector)
 in_seen [] sector i = absurd i
-in_seen (x ∷ xs) sector (inl e) = or_left (x.0 == sector) (is_seen xs sector) (same x.0 e)
+in_seen (x ∷ xs) sector (inl e) = or_left (x.0 == sector) (is_seen xs sector) (same x.0 (sym e))
   where
     same : (n : ℕ) → n ≡ sector → IsTrue (n == sector)
     same n e = grind (arith, nat_tests, e)

@@ -2,13 +2,13 @@
 use Rattle.std.proofs.Common.{◌≡◌, ◌<◌, ◌≤◌, ◌+◌, ◌⊎◌, inl, inr, ⊎_elim, Bool, true, false, not, if◌then◌else◌, List, [], ◌∷◌, ◌++◌, IsTrue, nat_lt, refl, sym, ap, ◌∙◌, arith}
 use Rattle.std.proofs.lemmas.Bool.{false≢true}
 use Rattle.std.specs.List.{AllByRecursion}
+use Rattle.disk_definitions.proofs.Listed.{Among, among_right}
 use Rattle.frang_base.specs.declared.limits.TheConstants.{LAST_TICK}
 use Rattle.core_definitions.specs.Cores.{Core}
 use Rattle.core_definitions.specs.Events.{Event, Begin, Ask, Fetch, Again, Clear, Commit, Answer, Give, Issue, Doom, Resume, Arrive, Lose, Die, Renew, Tick, Recover, Load, Look, Finish, HostLine, Close, Read, Show, End}
 use Rattle.core_definitions.specs.Guards.{Can, CanGoing, CanOther, has_line_at_gate, is_stale}
 use Rattle.core_definitions.specs.Enabled.{after_tick, all_parties, before_tick, enabled, enabled_among, may_tick, only, rows_after}
 use Rattle.core_laws.proofs.Exact.{enabled_only, tick_may}
-use Rattle.core_laws.proofs.Membership.{In, in_right}
 use Rattle.core_laws.specs.EventOrder.{row_of}
 use Rattle.core_laws.proofs.Blocks.{rows_within}
 use Rattle.core_laws.proofs.Rows.{rows_after_are}
@@ -91,7 +91,7 @@ stale_early c (Arrive ticket) h = omega arith
 stale_early c (Lose ticket) h = omega arith
 stale_early c event h = absurd (false≢true h)
 
-none_of : (c : Core) (events : List Event) → ((event : Event) → In event events → IsTrue (is_stale c event)) →
+none_of : (c : Core) (events : List Event) → ((event : Event) → Among event events → IsTrue (is_stale c event)) →
     AllByRecursion (λ e. (16 ≤ row_of e) × (row_of e < 16 + 9)) events → events ≡ []
 none_of c [] stale late = refl
 none_of c (e ∷ es) stale late = absurd (omega (arith, stale_early c e (stale e (inl refl)), late.0.0))
@@ -116,12 +116,12 @@ is_last c tick = (before_tick c (all_parties c), go c.over refl)
     not_tick : (e : Event) → e ≡ Tick → 16 ≤ row_of e → ⊥
     not_tick e is h = absurd (omega (arith, ap row_of is, h))
 
-    stale : (e : Event) → In e behind → IsTrue (is_stale c e)
+    stale : (e : Event) → Among e behind → IsTrue (is_stale c e)
     stale e i = ⊎_elim (λ is. absurd (not_tick e is (all_in (λ e. (16 ≤ row_of e) × (row_of e < 16 + 9)) behind e late i).0)) (λ s. s) (waits c e tick (enabled_only c e (listed c.over refl)))
       where
-        listed : (b : Bool) → c.over ≡ b → In e (if b then [] else enabled_among c (all_parties c))
+        listed : (b : Bool) → c.over ≡ b → Among e (if b then [] else enabled_among c (all_parties c))
         listed true o = absurd (false≢true (sym (ap not o) ∙ tick.going))
-        listed false o = in_right e (before_tick c (all_parties c) ++ only (may_tick c (before_tick c (all_parties c) ++ behind)) Tick) behind i
+        listed false o = among_right e (before_tick c (all_parties c) ++ only (may_tick c (before_tick c (all_parties c) ++ behind)) Tick) behind i
 
     go : (b : Bool) → c.over ≡ b → (if b then [] else enabled_among c (all_parties c)) ≡ before_tick c (all_parties c) ++ Tick ∷ []
     go true o = absurd (false≢true (sym (ap not o) ∙ tick.going))

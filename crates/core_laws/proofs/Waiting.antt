@@ -3,6 +3,7 @@ use Rattle.std.proofs.Common.{ℕ, ◌≡◌, Bool, true, false, not, if◌then�
 use Rattle.std.specs.List.{filter_map}
 use Rattle.std.specs.Option.{IsSome, option_map}
 use Rattle.std.proofs.lemmas.Bool.{not-false}
+use Rattle.disk_definitions.proofs.Listed.{Among, among_filter_map}
 use Rattle.frang_base.specs.declared.op.Op.{Op}
 use Rattle.frang_base.specs.declared.op.Op.TheVariants as op
 use Rattle.frang_base.specs.declared.reply.Reply.{Reply}
@@ -18,9 +19,9 @@ use Rattle.core_definitions.specs.Servers.{Server, answer_of, due_if, due_under,
 use Rattle.core_definitions.specs.Cores.{Core}
 use Rattle.core_definitions.specs.EndGuards.{is_recovery, is_through}
 use Rattle.core_laws.proofs.Guarding.{Of2, Of3, of_2, of_3}
-use Rattle.core_laws.proofs.Membership.{In, contains_in}
+use Rattle.core_laws.proofs.Membership.{contains_in}
 use Rattle.core_laws.specs.Waits.{IsDone, MountsReadTheirLogs, RecoveriesEndDone}
-use Rattle.core_laws.proofs.Lists.{each_below, each_fails, made_of}
+use Rattle.core_laws.proofs.Lists.{each_below, each_fails}
 use Rattle.core_laws.proofs.Memory.{given_due}
 
 -- ---- mounts
@@ -81,17 +82,17 @@ module _ (c : Core) (recovery : Recovery) (through : IsTrue (is_through c recove
       (λ b. is_none (if b then filter (λ sector. not (is_some (value_at recovery.looked sector))) (named_sectors c.setting.segments (redos c.setting.logs recovery)) else []) ≡ true)
       replayed.p0 replayed.p1
 
-  was_looked : (sector : ℕ) → In sector (named_sectors c.setting.segments (redos c.setting.logs recovery)) → IsSome (value_at recovery.looked sector)
+  was_looked : (sector : ℕ) → Among sector (named_sectors c.setting.segments (redos c.setting.logs recovery)) → IsSome (value_at recovery.looked sector)
   was_looked sector i =
       not-false (is_some (value_at recovery.looked sector))
       (each_fails (λ s. not (is_some (value_at recovery.looked s))) (named_sectors c.setting.segments (redos c.setting.logs recovery)) sector none_left i)
 
   -- what a look wanted is among the writes, of which none is left
-  was_written : (sector : ℕ) (block : Block) → In (sector, Some block) recovery.looked → IsTrue (is_written recovery sector)
+  was_written : (sector : ℕ) (block : Block) → Among (sector, Some block) recovery.looked → IsTrue (is_written recovery sector)
   was_written sector block i =
       not-false (is_written recovery sector)
       (each_fails (λ (write : ℕ × Block). not (is_written recovery write.0)) (filter_map wanted recovery.looked) (sector, block) replayed.p2
-      (made_of wanted recovery.looked (sector, Some block) (sector, block) i refl))
+      (among_filter_map wanted recovery.looked (sector, Some block) (sector, block) i refl))
 
   pub is_done : IsDone c recovery
   is_done = record {

@@ -6,6 +6,7 @@ use Rattle.std.specs.List.{cons_option, filter_map}
 use Rattle.std.specs.Option.{option_map}
 use Rattle.std.specs.Ordering.{nat_cmp}
 use Rattle.std.proofs.lemmas.Option.{same_Some}
+use Rattle.disk_definitions.proofs.Listed.{Among, among_either}
 use Rattle.lock_definitions.specs.Locks.{Locks}
 use Rattle.sector_bytes.specs.Blocks.{Block}
 use Rattle.sector_bytes.specs.SectorMaps.{value_at, with_value}
@@ -20,7 +21,7 @@ use Rattle.core_definitions.specs.Rings.{next_write}
 use Rattle.core_definitions.specs.Servers.{Server}
 use Rattle.core_definitions.specs.Settings.{LogRules, Setting}
 use Rattle.core_definitions.specs.Writes.{Write, Writes, is_place_wanted, log_wanted_to, log_write, place_write, place_writes, rescue_writes, wanted_writes}
-use Rattle.core_laws.proofs.Membership.{In, FromMap, from_map, in_either}
+use Rattle.core_laws.proofs.Membership.{FromMap, from_map}
 
 abbrev entry_of : ℕ → Write → ℕ × Write
 entry_of sector write = (sector, write)
@@ -28,7 +29,7 @@ entry_of sector write = (sector, write)
 -- what a map of a list of entries has is one of them
 from_fold : (entries writes : Writes) (sector : ℕ) (write : Write) →
     value_at (fold (λ all entry. with_value all entry.0 entry.1) writes entries) sector ≡ Some write →
-    In {X = ℕ × Write} (sector, write) entries ⊎ (value_at writes sector ≡ Some write)
+    Among {X = ℕ × Write} (sector, write) entries ⊎ (value_at writes sector ≡ Some write)
 from_fold [] writes sector write e = inr e
 from_fold (x ∷ xs) writes sector write e = ⊎_elim (λ i. inl (inr i)) (λ f. here (is_at (nat_cmp sector) x.0) refl (sym (lookup-insert_entry nat_cmp_total x.0 x.1 sector writes) ∙ f)) (from_fold xs (with_value writes x.0 x.1) sector write e)
   where
@@ -36,17 +37,17 @@ from_fold (x ∷ xs) writes sector write e = ⊎_elim (λ i. inl (inr i)) (λ f.
     pair one e f = λ i. (e i, f i)
 
     here : (b : Bool) → is_at (nat_cmp sector) x.0 ≡ b → (if b then Some x.1 else value_at writes sector) ≡ Some write →
-        In {X = ℕ × Write} (sector, write) (x ∷ xs) ⊎ (value_at writes sector ≡ Some write)
-    here true k f = inl (inl (pair x (found sector x.0 k) (same_Some x.1 write f)))
+        Among {X = ℕ × Write} (sector, write) (x ∷ xs) ⊎ (value_at writes sector ≡ Some write)
+    here true k f = inl (inl (sym (pair x (found sector x.0 k) (same_Some x.1 write f))))
     here false k f = inr f
 
-from_filter : {X Y : Type 0} (f : X → Option Y) (P : Y → Type 0) → ((x : X) (y : Y) → f x ≡ Some y → P y) → (xs : List X) (y : Y) → In y (filter_map f xs) → P y
+from_filter : {X Y : Type 0} (f : X → Option Y) (P : Y → Type 0) → ((x : X) (y : Y) → f x ≡ Some y → P y) → (xs : List X) (y : Y) → Among y (filter_map f xs) → P y
 from_filter f P give [] y i = absurd i
 from_filter {Y = Y} f P give (x ∷ xs) y i = go (f x) refl (from_filter f P give xs y) i
   where
-    go : (o : Option Y) → f x ≡ o → (In y (filter_map f xs) → P y) → In y (cons_option o (filter_map f xs)) → P y
+    go : (o : Option Y) → f x ≡ o → (Among y (filter_map f xs) → P y) → Among y (cons_option o (filter_map f xs)) → P y
     go None e rest i = rest i
-    go (Some z) e rest (inl same) = subst P same (give x z e)
+    go (Some z) e rest (inl same) = subst P (sym same) (give x z e)
     go (Some z) e rest (inr i) = rest i
 
 abbrev is_of_log : Purpose → Bool
@@ -55,7 +56,7 @@ is_of_log (InPlace cover) = false
 is_of_log OfRecovery = false
 
 -- those of a recovery and those in place aren't of the log
-rescue_not : (logs : LogRules) (segments : ℕ) (recovery : Option Recovery) (one : ℕ × Write) → In one (rescue_writes logs segments recovery) →
+rescue_not : (logs : LogRules) (segments : ℕ) (recovery : Option Recovery) (one : ℕ × Write) → Among one (rescue_writes logs segments recovery) →
     is_of_log one.1.purpose ≡ false
 rescue_not logs segments None one i = absurd i
 rescue_not logs segments (Some recovery) one i =
@@ -63,7 +64,7 @@ rescue_not logs segments (Some recovery) one i =
     from_map (λ write. (write.0, record { behalf = recovery.dead; block = write.1; purpose = OfRecovery; mark = None })) (recovery_writes logs segments recovery) one i in
     ap (λ w. is_of_log w.1.purpose) (sym m.is)
 
-place_not : (logs : LogRules) (locks : Locks) (number : ℕ) (server : Server) (at : Option Stage) (one : ℕ × Write) → In one (place_writes logs locks number server at) →
+place_not : (logs : LogRules) (locks : Locks) (number : ℕ) (server : Server) (at : Option Stage) (one : ℕ × Write) → Among one (place_writes logs locks number server at) →
     is_of_log one.1.purpose ≡ false
 place_not logs locks number server at one i =
     from_filter (λ entry. option_map (λ write. (entry.0, write)) (place_write number (is_place_wanted logs locks number server at entry.0 entry.1) entry.1 entry.1.dirt)) (λ w. is_of_log w.1.purpose ≡ false)
@@ -94,9 +95,9 @@ next_of_log setting locks a server at sector write number e p =
     ⊎_elim
     (λ i. ⊎_elim
     (λ j. ⊎_elim (λ k. absurd (not_log (rescue_not setting.logs setting.segments server.recovery one k))) (λ k. absurd (not_log (place_not setting.logs locks a server at one k)))
-    (in_either one rescues places j))
+    (among_either one rescues places j))
     (λ j. of_log (next_write server.ring) refl j)
-    (in_either one (rescues ++ places) (log_write setting.logs a (log_wanted_to setting.logs locks a server at) (next_write server.ring)) i))
+    (among_either one (rescues ++ places) (log_write setting.logs a (log_wanted_to setting.logs locks a server at) (next_write server.ring)) i))
     (λ f. absurd (none f))
     (from_fold (rescues ++ places ++ log_write setting.logs a (log_wanted_to setting.logs locks a server at) (next_write server.ring)) [] sector write e)
   where
@@ -124,14 +125,14 @@ next_of_log setting locks a server at sector write number e p =
     number_of OfRecovery = 0
 
     of_log : (next : Option (ℕ × Block)) → next_write server.ring ≡ next →
-        In {X = ℕ × Write} (sector, write) (log_write setting.logs a (log_wanted_to setting.logs locks a server at) next) → IsNextOfLog setting.logs a server sector number
+        Among {X = ℕ × Write} (sector, write) (log_write setting.logs a (log_wanted_to setting.logs locks a server at) next) → IsNextOfLog setting.logs a server sector number
     of_log None e i = absurd i
     of_log (Some (n, block)) e i = go (nat_le n (log_wanted_to setting.logs locks a server at)) i
       where
         go : (b : Bool) →
-            In {X = ℕ × Write} (sector, write) (if b then (log_sector setting.logs a n, record { behalf = a; block = block; purpose = OfLog n; mark = None }) ∷ [] else []) → IsNextOfLog setting.logs a server sector number
+            Among {X = ℕ × Write} (sector, write) (if b then (log_sector setting.logs a n, record { behalf = a; block = block; purpose = OfLog n; mark = None }) ∷ [] else []) → IsNextOfLog setting.logs a server sector number
         go false i = absurd i
         go true (inr i) = absurd i
         go true (inl same) =
-            let is_number : n ≡ number = ap (λ w. number_of w.1.purpose) same ∙ ap number_of p in
-            record { block = block; next = e ∙ ap (λ m. Some (m, block)) is_number; at = sym (ap (λ w. w.0) same) ∙ ap (log_sector setting.logs a) is_number }
+            let is_number : n ≡ number = sym (ap (λ w. number_of w.1.purpose) same) ∙ ap number_of p in
+            record { block = block; next = e ∙ ap (λ m. Some (m, block)) is_number; at = ap (λ w. w.0) same ∙ ap (log_sector setting.logs a) is_number }

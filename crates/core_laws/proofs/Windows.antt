@@ -4,6 +4,7 @@ use Rattle.std.proofs.lemmas.Bool.{or_left, eq-eqb, leb-true, ne_eqb, or_right, 
 use Rattle.std.proofs.lemmas.Bool.Decides.{nat_tests}
 use Rattle.std.specs.List.{Contains}
 use Rattle.std.proofs.lemmas.Option.{same_Some, none-some}
+use Rattle.disk_definitions.proofs.Listed.{Among}
 use Rattle.frang_base.specs.Functions.{put}
 use Rattle.frang_base.specs.declared.lock.LockId.{LockId}
 use Rattle.frang_base.specs.declared.op.Op.{Op}
@@ -42,7 +43,7 @@ use Rattle.core_definitions.specs.Runs.{State, Step, Event_, Enter, Hold, Flush,
 use Rattle.core_laws.specs.Facts.{IsInFlightWindow, KeepsWindows, log_slots}
 use Rattle.core_laws.specs.Laws.{AreOnce}
 use Rattle.core_laws.proofs.Flying.{sectors_in}
-use Rattle.core_laws.proofs.Membership.{In, contains_in}
+use Rattle.core_laws.proofs.Membership.{contains_in}
 use Rattle.core_laws.proofs.Single.{sectors_once}
 use Rattle.core_laws.proofs.Along.{along}
 use Rattle.core_laws.proofs.Kept.{setting_of_run}
@@ -528,10 +529,10 @@ ships_of_run setting disk =
 pub windows_kept : (setting : Setting) (disk : Sectors) (s : State) → Run (first_state setting disk) s → (a : ℕ) → KeepsWindows setting.logs (s.core.servers a).ring
 windows_kept setting disk s run a = subst (λ t. KeepsWindows t.logs (s.core.servers a).ring) (setting_of_run setting disk s run) ((ships_of_run setting disk s run).shipped a).windows
 
-flying_in : (flights : Flights) (one : ℕ × Flight) (number : ℕ) → In one flights → one.1.present ≡ true → one.1.purpose ≡ OfLog number →
+flying_in : (flights : Flights) (one : ℕ × Flight) (number : ℕ) → Among one flights → one.1.present ≡ true → one.1.purpose ≡ OfLog number →
     flies flights one.1.server number ≡ true
 flying_in [] one number i p q = absurd i
-flying_in (x ∷ xs) one number (inl e) p q = subst (λ o. (is_log_flight one.1.server number o.1 || flies xs one.1.server number) ≡ true) (sym e) (or_left _ _ (both (eq-eqb one.1.server one.1.server refl) p (ap (is_number number) q ∙ eq-eqb number number refl)))
+flying_in (x ∷ xs) one number (inl e) p q = subst (λ o. (is_log_flight one.1.server number o.1 || flies xs one.1.server number) ≡ true) e (or_left _ _ (both (eq-eqb one.1.server one.1.server refl) p (ap (is_number number) q ∙ eq-eqb number number refl)))
   where
     both : {x y z : Bool} → x ≡ true → y ≡ true → z ≡ true → ((x && y) && z) ≡ true
     both e f g = cc

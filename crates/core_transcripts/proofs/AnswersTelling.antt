@@ -4,6 +4,7 @@ use Rattle.std.proofs.lemmas.Bool.{false≢true, eq-eqb, cases_eq}
 use Rattle.std.proofs.lemmas.Bool.Decides.{nat_tests}
 use Rattle.std.specs.Option.{option_map}
 use Rattle.std.proofs.lemmas.Option.{none-some, same_Some}
+use Rattle.disk_definitions.proofs.Listed.{Among, among_either, among_left, among_right}
 use Rattle.frang_base.specs.Functions.{put}
 use Rattle.frang_base.specs.declared.script.Line.{Line}
 use Rattle.tree_definitions.specs.Transcript.{lines_before, lines_for}
@@ -13,7 +14,6 @@ use Rattle.core_definitions.specs.Servers.{Server}
 use Rattle.core_definitions.specs.Cores.{Core}
 use Rattle.core_definitions.specs.LineGuards.{is_server}
 use Rattle.core_laws.proofs.Flying.{Once}
-use Rattle.core_laws.proofs.Membership.{In, in_either, in_left, in_right}
 use Rattle.core_transcripts.specs.Answers.{answered_by, answered_lines, numbers_of}
 use Rattle.core_transcripts.proofs.Places.{IsAt, answers_joined, answers_other, in_rest, more_marked, next_is, other_answer, own_answer, own_line, put_cases, put_more}
 
@@ -25,21 +25,21 @@ line_of server = option_map (λ under. under.line) server.under
 
 pub record AreMarks (script : List Line) (marks : Marks) (answers : List (ℕ × ℕ)) : Type 0 where
   pub places : (who : ℕ) → (rest : List Line) × IsAt script marks (answered_by who answers) who rest
-  pub known : (number : ℕ) → marks number ≡ true → In number (answered_lines answers)
-  pub marked : (number : ℕ) → In number (answered_lines answers) → marks number ≡ true
+  pub known : (number : ℕ) → marks number ≡ true → Among number (answered_lines answers)
+  pub marked : (number : ℕ) → Among number (answered_lines answers) → marks number ≡ true
   pub once : Once (answered_lines answers)
   pub after_hosts : (number : ℕ) → marks number ≡ true → IsTrue (hosts_answered script marks number)
-  pub host_last : (line : Line) → In line script → line.who.0 ≡ host_party → marks line.number ≡ true → IsTrue (earlier_answered script marks line.number)
+  pub host_last : (line : Line) → Among line script → line.who.0 ≡ host_party → marks line.number ≡ true → IsTrue (earlier_answered script marks line.number)
 
 lines_joined : (answers : List (ℕ × ℕ)) (a number : ℕ) → answered_lines (answers ++ (a, number) ∷ []) ≡ answered_lines answers ++ number ∷ []
 lines_joined [] a number = refl
 lines_joined (x ∷ xs) a number = ap (λ ns. x.1 ∷ ns) (lines_joined xs a number)
 
-pushed : (xs : List ℕ) (x : ℕ) → Once xs → (In x xs → ⊥) → Once (xs ++ x ∷ [])
+pushed : (xs : List ℕ) (x : ℕ) → Once xs → (Among x xs → ⊥) → Once (xs ++ x ∷ [])
 pushed [] x o n = ((λ i. absurd i), tt)
-pushed (y ∷ ys) x o n = ((λ i. apart (in_either y ys (x ∷ []) i)), pushed ys x o.1 (λ i. n (inr i)))
+pushed (y ∷ ys) x o n = ((λ i. apart (among_either y ys (x ∷ []) i)), pushed ys x o.1 (λ i. n (inr i)))
   where
-    apart : In y ys ⊎ In y (x ∷ []) → ⊥
+    apart : Among y ys ⊎ Among y (x ∷ []) → ⊥
     apart (inl i) = o.0 i
     apart (inr (inl e)) = n (inl (sym e))
     apart (inr (inr i)) = i
@@ -61,13 +61,13 @@ module _ (script : List Line) (own : Once (numbers_of script)) (marks : Marks) (
       go [] at = absurd (none_some (sym (next_is script marks (answered_by a answers) a [] at) ∙ next))
       go (l ∷ ls) at = (ls, subst (λ x. IsAt script marks (answered_by a answers) a (x ∷ ls)) (same_Some l line (sym (next_is script marks (answered_by a answers) a (l ∷ ls) at) ∙ next)) at)
 
-  there : In line script × (line.who.0 ≡ a)
+  there : Among line script × (line.who.0 ≡ a)
   there = in_rest script marks (answered_by a answers) a (line ∷ front.0) front.1 line (inl refl)
 
   was_open : marks line.number ≡ false
   was_open = front.1.open_.0
 
-  not_answered : In line.number (answered_lines answers) → ⊥
+  not_answered : Among line.number (answered_lines answers) → ⊥
   not_answered i = false≢true (sym was_open ∙ m.marked line.number i)
 
   place_other : (who : ℕ) → (a ≡ who → ⊥) → IsAt script later (answered_by who answers) who (m.places who).0
@@ -96,30 +96,30 @@ module _ (script : List Line) (own : Once (numbers_of script)) (marks : Marks) (
       AreMarks script later (answers ++ (a, line.number) ∷ [])
   marked_then hosts earlier = record {
     places = λ who. place who (cases_eq a who);
-    known = λ number e. subst (In number) (sym (lines_joined answers a line.number)) (known number (put_cases marks line.number number e));
-    marked = λ number i. marked number (in_either number (answered_lines answers) (line.number ∷ []) (subst (In number) (lines_joined answers a line.number) i));
+    known = λ number e. subst (Among number) (sym (lines_joined answers a line.number)) (known number (put_cases marks line.number number e));
+    marked = λ number i. marked number (among_either number (answered_lines answers) (line.number ∷ []) (subst (Among number) (lines_joined answers a line.number) i));
     once = subst Once (sym (lines_joined answers a line.number)) (pushed (answered_lines answers) line.number m.once not_answered);
     after_hosts = λ number e. hosts_then number (put_cases marks line.number number e);
     host_last = λ l i w e. last_then l i w (put_cases marks line.number l.number e);
   }
     where
-      known : (number : ℕ) → (number ≡ line.number) ⊎ (marks number ≡ true) → In number (answered_lines answers ++ line.number ∷ [])
-      known number (inl e) = in_right number (answered_lines answers) (line.number ∷ []) (inl (sym e))
-      known number (inr e) = in_left number (answered_lines answers) (line.number ∷ []) (m.known number e)
+      known : (number : ℕ) → (number ≡ line.number) ⊎ (marks number ≡ true) → Among number (answered_lines answers ++ line.number ∷ [])
+      known number (inl e) = among_right number (answered_lines answers) (line.number ∷ []) (inl e)
+      known number (inr e) = among_left number (answered_lines answers) (line.number ∷ []) (m.known number e)
 
       is_marked : put marks line.number true line.number ≡ true
       is_marked = ap (λ b. if b then true else marks line.number) (eq-eqb line.number line.number refl)
 
-      marked : (number : ℕ) → In number (answered_lines answers) ⊎ In number (line.number ∷ []) → later number ≡ true
+      marked : (number : ℕ) → Among number (answered_lines answers) ⊎ Among number (line.number ∷ []) → later number ≡ true
       marked number (inl i) = put_more marks line.number number (m.marked number i)
-      marked number (inr (inl e)) = subst (λ n. later n ≡ true) e is_marked
+      marked number (inr (inl e)) = subst (λ n. later n ≡ true) (sym e) is_marked
       marked number (inr (inr i)) = absurd i
 
       hosts_then : (number : ℕ) → (number ≡ line.number) ⊎ (marks number ≡ true) → IsTrue (hosts_answered script later number)
       hosts_then number (inl e) = subst (λ n. IsTrue (hosts_answered script later n)) (sym e) (more_hosts line.number hosts)
       hosts_then number (inr e) = more_hosts number (m.after_hosts number e)
 
-      last_then : (l : Line) → In l script → l.who.0 ≡ host_party → (l.number ≡ line.number) ⊎ (marks l.number ≡ true) →
+      last_then : (l : Line) → Among l script → l.who.0 ≡ host_party → (l.number ≡ line.number) ⊎ (marks l.number ≡ true) →
           IsTrue (earlier_answered script later l.number)
       last_then l i w (inl e) =
           subst (λ n. IsTrue (earlier_answered script later n)) (sym e)

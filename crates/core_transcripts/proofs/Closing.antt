@@ -2,6 +2,7 @@
 use Rattle.std.proofs.Common.{ℕ, ◌≡◌, ◌≤◌, ◌+◌, Bool, true, false, not, ◌&&◌, IsTrue, List, [], ◌∷◌, Option, Some, None, refl, sym, subst, arith}
 use Rattle.std.proofs.lemmas.Bool.{false≢true, not_from_false, and_from}
 use Rattle.std.specs.List.{slice_get}
+use Rattle.disk_definitions.proofs.Listed.{all_at, all_from}
 use Rattle.frang_base.specs.declared.said.Said.{Said}
 use Rattle.frang_base.specs.declared.said.Said.TheVariants as said
 use Rattle.tree_definitions.specs.History.{Opening}
@@ -20,7 +21,7 @@ use Rattle.core_transcripts.proofs.Fitting.{AtRest, told_of}
 use Rattle.core_transcripts.proofs.Happening.{CoreFits, Turn, Quiet, Speaks}
 use Rattle.core_transcripts.proofs.Saying.{are_marked}
 use Rattle.core_transcripts.proofs.Spoken.{end_fitting, node_fitting}
-use Rattle.core_transcripts.proofs.Telling.{all_in, below_less, got_in, in_all, tree_nodes}
+use Rattle.core_transcripts.proofs.Telling.{below_less, got_in, tree_nodes}
 
 off_settled : (p : Phase) (q : ToldPhase) (all e : Bool) → IsTrue (is_off p) → PhaseFits p q all e → IsTrue (is_settled q)
 off_settled Off ToldOff all e h fits = refl
@@ -38,14 +39,14 @@ some_said n e = absurd (omega (arith, e))
 module _ (opening : Opening) (f : Faults) (stay : (early late server : ℕ) → early ≤ late → f early server ≡ true → f late server ≡ true) (c : Core) (saids : List Said)
     (numbered : IsNumbered c.setting.script) (going : c.over ≡ false) (g : CoreFits c.setting.script f saids c) where
   at_rest : IsTreeRead c → AtRest c.setting.script (λ i. key_of (c.servers i)) c.answered
-  at_rest read = record { all = read.answered; off = λ i server. in_all (λ a. is_off (c.servers a).phase) server_numbers i read.off (server_in i server) }
+  at_rest read = record { all = read.answered; off = λ i server. all_at (λ a. is_off (c.servers a).phase) server_numbers read.off i (server_in i server) }
 
   may_end : IsTreeRead c → MayEnd c.setting.script f saids
   may_end read =
       and_from (not (is_over c.setting.script saids) && are_answered c.setting.script saids) (all_settled c.setting.script f saids)
       (and_from (not (is_over c.setting.script saids)) (are_answered c.setting.script saids) (not_from_false (is_over c.setting.script saids) (g.going going))
       (subst (λ b. IsTrue b) (sym (are_marked c.answered saids c.setting.script g.marks)) read.answered))
-      (all_in (λ server. is_settled (state_of c.setting.script f server saids).phase) (below 16)
+      (all_from (λ server. is_settled (state_of c.setting.script f server saids).phase) (below 16)
       (λ i there. off_settled (c.servers i).phase (state_of c.setting.script f i saids).phase (told_of c.setting.script f saids c.answered i).all (told_of c.setting.script f saids c.answered i).faulted
       ((at_rest read).off i (below_less 16 i there)) (g.servers i).phase))
 

@@ -3,6 +3,7 @@ use Rattle.std.proofs.Common.{ℕ, ◌≡◌, ◌≤◌, Bool, true, false, not,
 use Rattle.std.proofs.lemmas.Bool.{false≢true, eqb-true, and_parts}
 use Rattle.std.specs.Option.{IsSome, option_map}
 use Rattle.std.proofs.lemmas.Option.{same_Some}
+use Rattle.disk_definitions.proofs.Listed.{all_at}
 use Rattle.frang_base.specs.Functions.{put}
 use Rattle.frang_base.specs.declared.op.Op.{Op}
 use Rattle.frang_base.specs.declared.op.What.{What}
@@ -38,7 +39,6 @@ use Rattle.core_transcripts.proofs.Replies.{phase_then}
 use Rattle.core_transcripts.proofs.Saying.{are_marked}
 use Rattle.core_transcripts.proofs.Spoken.{all_then, answered_fitting, own_state, rises_one}
 use Rattle.core_transcripts.proofs.Staging.{StageIsPlain, stage_plain}
-use Rattle.core_transcripts.proofs.Telling.{in_all}
 use Rattle.core_transcripts.proofs.Dooming.{may_die_if}
 
 if_stage : (b : Bool) (x : Option Stage) (s : Stage) → (if b then x else None) ≡ Some s → IsTrue b × (x ≡ Some s)
@@ -138,7 +138,7 @@ module _ (opening : Opening) (f : Faults) (stay : (early late server : ℕ) → 
   host_what : (l : Line) → next_line c.setting.script c.answered host_party ≡ Some l → IsTrue (is_host_what l.what)
   host_what l next =
       let n : OfNext c.setting.script c.answered host_party l = of_next c.setting.script c.answered host_party l next in
-      may_die_if (nat_eq l.who.0 host_party) (is_host_what l.what) n.his (in_all is_hosted c.setting.script l numbered.hosted n.there)
+      may_die_if (nat_eq l.who.0 host_party) (is_host_what l.what) n.his (all_at is_hosted c.setting.script numbered.hosted l n.there)
 
   -- so the host has none under way
   host_idle : (o : Option Under) → (c.servers host_party).under ≡ o → option_map asked_of o ≡ None

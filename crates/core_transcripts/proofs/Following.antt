@@ -1,10 +1,11 @@
 -- Over every run the answers follow the script.
-use Rattle.std.proofs.Common.{◌≡◌, ℕ, ◌<◌, inl, inr, Bool, true, false, not, ◌&&◌, ◌==◌, cond, if◌then◌else◌, find, List, [], ◌∷◌, ◌++◌, Some, None, IsTrue, filter, length, nat_lt, refl, sym, ap, ◌∙◌, subst}
+use Rattle.std.proofs.Common.{◌≡◌, ℕ, ◌<◌, inl, Bool, true, false, not, ◌&&◌, ◌==◌, if◌then◌else◌, find, List, [], ◌∷◌, ◌++◌, Some, None, IsTrue, filter, length, nat_lt, refl, sym, ap, ◌∙◌, subst}
 use Rattle.std.proofs.lemmas.List.Elements.{filter_map-append}
 use Rattle.std.specs.List.{Contains, cons_option, slice_get}
 use Rattle.std.specs.Option.{option_map}
 use Rattle.std.proofs.lemmas.Option.{same_Some}
 use Rattle.std.proofs.lemmas.Bool.{eq-eqb, lt-ltb, and_parts}
+use Rattle.disk_definitions.proofs.Listed.{Among, among_filter}
 use Rattle.frang_base.specs.declared.said.Said.{Said}
 use Rattle.frang_base.specs.declared.said.Said.TheVariants as said
 use Rattle.frang_base.specs.declared.script.Line.{Line}
@@ -19,7 +20,7 @@ use Rattle.core_definitions.specs.Effects.{Says, deeds_of}
 use Rattle.core_definitions.specs.Runs.{State, Step, Event_, Enter, Hold, Flush, Relock, Note, Peek, Run, first_state, goes_on, is_note, saids_of}
 use Rattle.core_laws.specs.Laws.{AreOnce}
 use Rattle.core_laws.proofs.Flying.{Once, as_words, once_of}
-use Rattle.core_laws.proofs.Membership.{In, contains_in, in_contains}
+use Rattle.core_laws.proofs.Membership.{contains_in, in_contains}
 use Rattle.core_laws.proofs.Along.{along}
 use Rattle.core_transcripts.specs.Answers.{HaveOwnNumbers, answer_of, answer_said, answered_by, answered_lines, answers_in, numbers_of}
 use Rattle.core_transcripts.proofs.LinesAnswering.{event_told, put_keeps, same, silent, wanting_keeps}
@@ -109,23 +110,15 @@ module _ (setting : Setting) (disk : Sectors) (s : State) (own : HaveOwnNumbers 
   has_answer : (number : ℕ) → s.core.answered number ≡ true → Contains (answered_lines (answers_in s.record_)) number
   has_answer number e = in_contains (answered_lines (answers_in s.record_)) number (told.marks.known number e)
 
-  filtered : {X : Type 0} (test : X → Bool) (xs : List X) (x : X) → IsTrue (test x) → In x xs → In x (filter test xs)
-  filtered test [] x h i = absurd i
-  filtered test (y ∷ ys) x h (inl e) = subst (λ b. In x (cond b (y ∷ filter test ys) (filter test ys))) (sym (ap test e ∙ h)) (inl e)
-  filtered test (y ∷ ys) x h (inr i) = go (test y) (filtered test ys x h i)
-    where
-      go : (b : Bool) → In x (filter test ys) → In x (cond b (y ∷ filter test ys) (filter test ys))
-      go true j = inr j
-      go false j = j
-
   pub behind_hosts : (number : ℕ) (host : Line) → Contains (answered_lines (answers_in s.record_)) number → Contains setting.script host →
       host.who.0 ≡ host_party → host.number < number →
       Contains (answered_lines (answers_in s.record_)) host.number
   behind_hosts number host h there who less_ =
       has_answer host.number
       (marked_there s.core.answered (lines_before number (lines_for host_party setting.script)) host (told.marks.after_hosts number (is_answered number h))
-      (filtered (λ l. nat_lt l.number number) (lines_for host_party setting.script) host (lt-ltb host.number number less_)
-      (filtered (λ l. l.who.0 == host_party) setting.script host (eq-eqb host.who.0 host_party who) (contains_in setting.script host there))))
+      (among_filter (λ l. nat_lt l.number number) (lines_for host_party setting.script) host
+      (among_filter (λ l. l.who.0 == host_party) setting.script host (contains_in setting.script host there) (eq-eqb host.who.0 host_party who))
+      (lt-ltb host.number number less_)))
 
   pub hosts_behind : (host line : Line) → Contains setting.script host → host.who.0 ≡ host_party →
       Contains (answered_lines (answers_in s.record_)) host.number → Contains setting.script line →
@@ -133,10 +126,10 @@ module _ (setting : Setting) (disk : Sectors) (s : State) (own : HaveOwnNumbers 
   hosts_behind host line there who h place less_ =
       has_answer line.number
       (marked_there s.core.answered (lines_before host.number setting.script) line (told.marks.host_last host (contains_in setting.script host there) who (is_answered host.number h))
-      (filtered (λ l. nat_lt l.number host.number) setting.script line (lt-ltb line.number host.number less_) (contains_in setting.script line place)))
+      (among_filter (λ l. nat_lt l.number host.number) setting.script line (contains_in setting.script line place) (lt-ltb line.number host.number less_)))
 
   -- a line under way is of its server
-  of_server : (a : ℕ) (u : Under) → IsTrue (is_server a) → (s.core.servers a).under ≡ Some u → In u.line setting.script × (u.line.who.0 ≡ a)
+  of_server : (a : ℕ) (u : Under) → IsTrue (is_server a) → (s.core.servers a).under ≡ Some u → Among u.line setting.script × (u.line.who.0 ≡ a)
   of_server a u server e = go (told.marks.places a).0 (told.marks.places a).1
     where
       way : IsUnderWay setting.script s.core.answered a u.line
@@ -146,11 +139,11 @@ module _ (setting : Setting) (disk : Sectors) (s : State) (own : HaveOwnNumbers 
       none_some e = absurd (cc)
 
       go : (rest : List Line) → IsAt setting.script s.core.answered (answered_by a (answers_in s.record_)) a rest →
-          In u.line setting.script × (u.line.who.0 ≡ a)
+          Among u.line setting.script × (u.line.who.0 ≡ a)
       go [] at = absurd (none_some (sym (next_is setting.script s.core.answered (answered_by a (answers_in s.record_)) a [] at) ∙ way.next))
       go (l ∷ ls) at =
           in_rest setting.script s.core.answered (answered_by a (answers_in s.record_)) a (l ∷ ls) at u.line
-          (inl (same_Some l u.line (sym (next_is setting.script s.core.answered (answered_by a (answers_in s.record_)) a (l ∷ ls) at) ∙ way.next)))
+          (inl (sym (same_Some l u.line (sym (next_is setting.script s.core.answered (answered_by a (answers_in s.record_)) a (l ∷ ls) at) ∙ way.next))))
 
   -- a line under way is its server's next, and so not answered
   pub under_way_next : (a : ℕ) (u : Under) → IsTrue (is_server a) → (s.core.servers a).under ≡ Some u → (next_of s.core a ≡ Some u.line) × (s.core.answered u.line.number ≡ false)
@@ -166,6 +159,6 @@ module _ (setting : Setting) (disk : Sectors) (s : State) (own : HaveOwnNumbers 
       (s.core.servers b).under ≡ Some other →
       one.line.number ≡ other.line.number → a ≡ b
   under_way_once a b one other sa sb e f n =
-      let p : In one.line setting.script × (one.line.who.0 ≡ a) = of_server a one sa e in
-      let q : In other.line setting.script × (other.line.who.0 ≡ b) = of_server b other sb f in
+      let p : Among one.line setting.script × (one.line.who.0 ≡ a) = of_server a one sa e in
+      let q : Among other.line setting.script × (other.line.who.0 ≡ b) = of_server b other sb f in
       sym p.1 ∙ ap (λ l. l.who.0) (own_line setting.script (once_of (numbers_of setting.script) own) one.line other.line p.0 q.0 n) ∙ q.1

@@ -4,12 +4,12 @@ use Rattle.std.proofs.lemmas.Bool.{false≢true, eqb-true, eq-eqb, or_from, or_p
 use Rattle.std.proofs.lemmas.Bool.Decides.{nat_tests}
 use Rattle.std.specs.List.{list_any, slice_get}
 use Rattle.std.proofs.lemmas.Option.{same_Some}
+use Rattle.disk_definitions.proofs.Listed.{Among}
 use Rattle.frang_base.specs.Functions.{put}
 use Rattle.frang_base.specs.declared.script.Line.{Line}
 use Rattle.tree_definitions.specs.Live.{line_of}
 use Rattle.tree_definitions.specs.Transcript.{lines_for}
 use Rattle.core_definitions.specs.Scripts.{Marks, all_answered, all_marked, next_line}
-use Rattle.core_laws.proofs.Membership.{In}
 use Rattle.core_transcripts.specs.Transcripts.{are_apart}
 
 -- ---- tests
@@ -23,15 +23,15 @@ numbers_turn m n e = grind (arith, nat_tests, e)
 
 -- ---- the first that passes
 
-pub found_in : {X : Type 0} (test : X → Bool) (xs : List X) (x : X) → find test xs ≡ Some x → In x xs × (test x ≡ true)
+pub found_in : {X : Type 0} (test : X → Bool) (xs : List X) (x : X) → find test xs ≡ Some x → Among x xs × (test x ≡ true)
 found_in test [] x e = absurd (cc)
 found_in test (y ∷ ys) x e = go (test y) refl (λ f. found_in test ys x f) e
   where
-    go : (b : Bool) → test y ≡ b → (find test ys ≡ Some x → In x ys × (test x ≡ true)) → (if b then Some y else find test ys) ≡ Some x → In x (y ∷ ys) × (test x ≡ true)
-    go true t behind e = let same : y ≡ x = same_Some y x e in (inl same, subst (λ z. test z ≡ true) same t)
-    go false t behind e = let r : In x ys × (test x ≡ true) = behind e in (inr r.0, r.1)
+    go : (b : Bool) → test y ≡ b → (find test ys ≡ Some x → Among x ys × (test x ≡ true)) → (if b then Some y else find test ys) ≡ Some x → Among x (y ∷ ys) × (test x ≡ true)
+    go true t behind e = let same : y ≡ x = same_Some y x e in (inl (sym same), subst (λ z. test z ≡ true) same t)
+    go false t behind e = let r : Among x ys × (test x ≡ true) = behind e in (inr r.0, r.1)
 
-pub none_found : {X : Type 0} (test : X → Bool) (xs : List X) → ((x : X) → In x xs → test x ≡ false) → find test xs ≡ None
+pub none_found : {X : Type 0} (test : X → Bool) (xs : List X) → ((x : X) → Among x xs → test x ≡ false) → find test xs ≡ None
 none_found test [] each = refl
 none_found test (y ∷ ys) each = ap (λ b. if b then Some y else find test ys) (each y (inl refl)) ∙ none_found test ys (λ x i. each x (inr i))
 
@@ -50,9 +50,9 @@ find_filter p q (y ∷ ys) = go (p y) (find_filter p q ys)
 abbrev pub has_number : ℕ → List Line → Bool
 has_number n lines = list_any (λ other. other.number == n) lines
 
-pub number_in : (lines : List Line) (l : Line) → In l lines → has_number l.number lines ≡ true
+pub number_in : (lines : List Line) (l : Line) → Among l lines → has_number l.number lines ≡ true
 number_in [] l i = absurd i
-number_in (m ∷ ms) l (inl e) = ap (λ b. b || has_number l.number ms) (subst (λ z. nat_eq z.number l.number ≡ true) (sym e) (eq-eqb l.number l.number refl))
+number_in (m ∷ ms) l (inl e) = ap (λ b. b || has_number l.number ms) (subst (λ z. nat_eq z.number l.number ≡ true) e (eq-eqb l.number l.number refl))
 number_in (m ∷ ms) l (inr i) = go (nat_eq m.number l.number) (number_in ms l i)
   where
     go : (b : Bool) → has_number l.number ms ≡ true → (b || has_number l.number ms) ≡ true
@@ -60,7 +60,7 @@ number_in (m ∷ ms) l (inr i) = go (nat_eq m.number l.number) (number_in ms l i
     go false h = h
 
 -- in lines that are apart a line behind another has another number
-other_number : (m : Line) (ms : List Line) (l : Line) → IsTrue (are_apart (m ∷ ms)) → In l ms → nat_eq l.number m.number ≡ false
+other_number : (m : Line) (ms : List Line) (l : Line) → IsTrue (are_apart (m ∷ ms)) → Among l ms → nat_eq l.number m.number ≡ false
 other_number m ms l apart i = go (nat_eq l.number m.number) refl
   where
     none : has_number m.number ms ≡ false
@@ -74,10 +74,10 @@ apart_behind : (m : Line) (ms : List Line) → IsTrue (are_apart (m ∷ ms)) →
 apart_behind m ms apart = (and_parts (not (has_number m.number ms)) (are_apart ms) apart).1
 
 -- the line of its number is the line itself
-pub line_is : (script : List Line) (l : Line) → IsTrue (are_apart script) → In l script → line_of script l.number ≡ Some l
+pub line_is : (script : List Line) (l : Line) → IsTrue (are_apart script) → Among l script → line_of script l.number ≡ Some l
 line_is [] l apart i = absurd i
 line_is (m ∷ ms) l apart (inl e) =
-    ap (λ b. if b then Some m else line_of ms l.number) (subst (λ z. nat_eq m.number z.number ≡ true) e (eq-eqb m.number m.number refl)) ∙ ap Some e
+    ap (λ b. if b then Some m else line_of ms l.number) (subst (λ z. nat_eq m.number z.number ≡ true) (sym e) (eq-eqb m.number m.number refl)) ∙ ap Some (sym e)
 line_is (m ∷ ms) l apart (inr i) =
     ap (λ b. if b then Some m else line_of ms l.number) (numbers_turn l.number m.number (other_number m ms l apart i)) ∙ line_is ms l (apart_behind m ms apart) i
 
@@ -93,17 +93,17 @@ fewer_numbers who n (m ∷ ms) h =
     go false one rest = rest
 
 -- another party has no line of its number
-pub others_without : (script : List Line) (l : Line) (who : ℕ) → IsTrue (are_apart script) → In l script → nat_eq l.who.0 who ≡ false → has_number l.number (lines_for who script) ≡ false
+pub others_without : (script : List Line) (l : Line) (who : ℕ) → IsTrue (are_apart script) → Among l script → nat_eq l.who.0 who ≡ false → has_number l.number (lines_for who script) ≡ false
 others_without [] l who apart i other = absurd i
 others_without (m ∷ ms) l who apart (inl e) other =
-    go (nat_eq m.who.0 who) (subst (λ z. nat_eq z.who.0 who ≡ false) (sym e) other)
+    go (nat_eq m.who.0 who) (subst (λ z. nat_eq z.who.0 who ≡ false) e other)
   where
     alone : has_number m.number ms ≡ false
     alone = not-true (has_number m.number ms) (and_parts (not (has_number m.number ms)) (are_apart ms) apart).0
 
     go : (b : Bool) → b ≡ false → has_number l.number (if b then m ∷ lines_for who ms else lines_for who ms) ≡ false
     go true f = absurd (false≢true (sym f))
-    go false f = fewer_numbers who l.number ms (subst (λ n. has_number n ms ≡ false) (ap (λ z. z.number) e) alone)
+    go false f = fewer_numbers who l.number ms (subst (λ n. has_number n ms ≡ false) (ap (λ z. z.number) (sym e)) alone)
 others_without (m ∷ ms) l who apart (inr i) other = go (nat_eq m.who.0 who) (others_without ms l who (apart_behind m ms apart) i other)
   where
     go : (b : Bool) → has_number l.number (lines_for who ms) ≡ false → has_number l.number (if b then m ∷ lines_for who ms else lines_for who ms) ≡ false
@@ -187,13 +187,13 @@ answered_more script marks who k l apart next f =
     mark_next (lines_for who script) marks k l (apart_for script who apart) f (find_filter (λ m. m.who.0 == who) (λ m. not (marks m.number)) script ∙ next)
 
 pub record OfNext (script : List Line) (marks : Marks) (who : ℕ) (l : Line) : Type 0 where
-  pub there : In l script
+  pub there : Among l script
   pub his : nat_eq l.who.0 who ≡ true
   pub open_ : marks l.number ≡ false
 
 pub of_next : (script : List Line) (marks : Marks) (who : ℕ) (l : Line) → next_line script marks who ≡ Some l → OfNext script marks who l
 of_next script marks who l e =
-    let r : In l script × (((l.who.0 == who) && not (marks l.number)) ≡ true) = found_in (λ m. m.who.0 == who && not (marks m.number)) script l e in
+    let r : Among l script × (((l.who.0 == who) && not (marks l.number)) ≡ true) = found_in (λ m. m.who.0 == who && not (marks m.number)) script l e in
     record {
       there = r.0;
       his = (and_parts (l.who.0 == who) (not (marks l.number)) r.1).0;
@@ -210,9 +210,9 @@ answered_others script marks who other k l apart next apart_whos f =
 
 -- ---- all are answered
 
-marked_in : (marks : Marks) (lines : List Line) (l : Line) → IsTrue (all_marked marks lines) → In l lines → marks l.number ≡ true
+marked_in : (marks : Marks) (lines : List Line) (l : Line) → IsTrue (all_marked marks lines) → Among l lines → marks l.number ≡ true
 marked_in marks [] l all i = absurd i
-marked_in marks (m ∷ ms) l all (inl e) = subst (λ z. marks z.number ≡ true) e (and_parts (marks m.number) (all_marked marks ms) all).0
+marked_in marks (m ∷ ms) l all (inl e) = subst (λ z. marks z.number ≡ true) (sym e) (and_parts (marks m.number) (all_marked marks ms) all).0
 marked_in marks (m ∷ ms) l all (inr i) = marked_in marks ms l (and_parts (marks m.number) (all_marked marks ms) all).1 i
 
 pub all_is_none : (script : List Line) (marks : Marks) (who : ℕ) (l : Line) → IsTrue (all_answered script marks) → next_line script marks who ≡ Some l → ⊥

@@ -3,31 +3,22 @@ use Rattle.std.proofs.Common.{◌≡◌, ℕ, ◌⊎◌, inl, inr, Bool, true, f
 use Rattle.std.proofs.lemmas.Bool.{false≢true, eqb-true, and_from, and_parts, eq-eqb}
 use Rattle.std.proofs.lemmas.Bool.Decides.{nat_tests}
 use Rattle.std.specs.List.{AllByRecursion}
+use Rattle.disk_definitions.proofs.Listed.{Among, among_right, among_filtered}
 use Rattle.frang_base.specs.Functions.{put}
 use Rattle.frang_base.specs.declared.script.Line.{Line}
 use Rattle.frang_base.proofs.Lists.{all_append}
 use Rattle.tree_definitions.specs.Transcript.{lines_before, lines_for}
 use Rattle.core_definitions.specs.Scripts.{Marks, all_marked, next_line}
 use Rattle.core_laws.proofs.Flying.{Once, filtered_once}
-use Rattle.core_laws.proofs.Membership.{In, in_right, into_map}
+use Rattle.core_laws.proofs.Membership.{into_map}
 use Rattle.core_transcripts.specs.Answers.{answered_by, answered_lines, numbers_of}
 
 -- ---- lists
 
 -- what is so of each element, and follows of each that is there, is so of each
-pub all_there : {X : Type 0} {P Q : X → Type 0} (xs : List X) → ((x : X) → In x xs → P x → Q x) → AllByRecursion P xs → AllByRecursion Q xs
+pub all_there : {X : Type 0} {P Q : X → Type 0} (xs : List X) → ((x : X) → Among x xs → P x → Q x) → AllByRecursion P xs → AllByRecursion Q xs
 all_there [] f all = tt
 all_there (x ∷ xs) f all = (f x (inl refl) all.0, all_there xs (λ y i. f y (inr i)) all.1)
-
-filtered_there : {X : Type 0} (test : X → Bool) (xs : List X) (x : X) → In x (filter test xs) → In x xs × IsTrue (test x)
-filtered_there test [] x i = absurd i
-filtered_there test (y ∷ ys) x i = go (test y) refl (filtered_there test ys x) i
-  where
-    go : (b : Bool) → test y ≡ b → (In x (filter test ys) → In x ys × IsTrue (test x)) → In x (cond b (y ∷ filter test ys) (filter test ys)) →
-        In x (y ∷ ys) × IsTrue (test x)
-    go true t rest (inl e) = (inl e, subst (λ z. IsTrue (test z)) e t)
-    go true t rest (inr j) = (inr (rest j).0, (rest j).1)
-    go false t rest j = (inr (rest j).0, (rest j).1)
 
 later_once : (xs ys : List Line) → Once (numbers_of (xs ++ ys)) → Once (numbers_of ys)
 later_once [] ys o = o
@@ -36,11 +27,11 @@ later_once (x ∷ xs) ys o = later_once xs ys o.1
 -- ---- own numbers
 
 -- two lines of one number are one
-pub own_line : (script : List Line) → Once (numbers_of script) → (l m : Line) → In l script → In m script → l.number ≡ m.number → l ≡ m
+pub own_line : (script : List Line) → Once (numbers_of script) → (l m : Line) → Among l script → Among m script → l.number ≡ m.number → l ≡ m
 own_line [] o l m i j e = absurd i
-own_line (x ∷ xs) o l m (inl a) (inl b) e = sym a ∙ b
-own_line (x ∷ xs) o l m (inl a) (inr j) e = absurd (o.0 (subst (λ n. In n (numbers_of xs)) (sym e ∙ ap (λ y. y.number) (sym a)) (into_map (λ y. y.number) xs m j)))
-own_line (x ∷ xs) o l m (inr i) (inl b) e = absurd (o.0 (subst (λ n. In n (numbers_of xs)) (e ∙ ap (λ y. y.number) (sym b)) (into_map (λ y. y.number) xs l i)))
+own_line (x ∷ xs) o l m (inl a) (inl b) e = a ∙ sym b
+own_line (x ∷ xs) o l m (inl a) (inr j) e = absurd (o.0 (subst (λ n. Among n (numbers_of xs)) (sym e ∙ ap (λ y. y.number) a) (into_map (λ y. y.number) xs m j)))
+own_line (x ∷ xs) o l m (inr i) (inl b) e = absurd (o.0 (subst (λ n. Among n (numbers_of xs)) (e ∙ ap (λ y. y.number) b) (into_map (λ y. y.number) xs l i)))
 own_line (x ∷ xs) o l m (inr i) (inr j) e = own_line xs o.1 l m i j e
 
 -- ---- marks
@@ -80,13 +71,13 @@ pub more_marked : (marks : Marks) (n : ℕ) (lines : List Line) → IsTrue (all_
 more_marked marks n [] h = refl
 more_marked marks n (l ∷ ls) h = and_from (put marks n true l.number) (all_marked (put marks n true) ls) (put_more marks n l.number (and_parts (marks l.number) (all_marked marks ls) h).0) (more_marked marks n ls (and_parts (marks l.number) (all_marked marks ls) h).1)
 
-pub marked_there : (marks : Marks) (lines : List Line) (line : Line) → IsTrue (all_marked marks lines) → In line lines → IsTrue (marks line.number)
+pub marked_there : (marks : Marks) (lines : List Line) (line : Line) → IsTrue (all_marked marks lines) → Among line lines → IsTrue (marks line.number)
 marked_there marks [] line h i = absurd i
 marked_there marks (l ∷ ls) line h i = go (marks l.number) refl (marked_there marks ls line) h i
   where
-    go : (b : Bool) → marks l.number ≡ b → (IsTrue (all_marked marks ls) → In line ls → IsTrue (marks line.number)) →
-        IsTrue (b && all_marked marks ls) → In line (l ∷ ls) → IsTrue (marks line.number)
-    go true e rest h (inl same) = subst (λ x. IsTrue (marks x.number)) same e
+    go : (b : Bool) → marks l.number ≡ b → (IsTrue (all_marked marks ls) → Among line ls → IsTrue (marks line.number)) →
+        IsTrue (b && all_marked marks ls) → Among line (l ∷ ls) → IsTrue (marks line.number)
+    go true e rest h (inl same) = subst (λ x. IsTrue (marks x.number)) (sym same) e
     go true e rest h (inr j) = rest h j
     go false e rest h i = absurd (false≢true h)
 
@@ -159,9 +150,9 @@ next_is script marks numbers who rest at =
 
 -- a line of the rest is one of the script, and the party's
 pub in_rest : (script : List Line) (marks : Marks) (numbers : List ℕ) (who : ℕ) (rest : List Line) → IsAt script marks numbers who rest →
-    (line : Line) → In line rest → In line script × (line.who.0 ≡ who)
+    (line : Line) → Among line rest → Among line script × (line.who.0 ≡ who)
 in_rest script marks numbers who rest at line i =
-    let f : In line script × IsTrue (line.who.0 == who) = filtered_there (λ l. l.who.0 == who) script line (subst (In line) (sym at.lines) (in_right line at.done rest i)) in
+    let f : Among line script × IsTrue (line.who.0 == who) = among_filtered (λ l. l.who.0 == who) script line (subst (Among line) (sym at.lines) (among_right line at.done rest i)) in
     (f.0, eqb-true line.who.0 who f.1)
 
 -- the next line is answered
@@ -184,14 +175,14 @@ own_answer script once marks numbers who line rest at = record {
     joined [] = refl
     joined (d ∷ ds) = ap (λ ns. d.number ∷ ns) (joined ds)
 
-    apart : (l : Line) → In l rest → l.number ≡ line.number → ⊥
+    apart : (l : Line) → Among l rest → l.number ≡ line.number → ⊥
     apart l i e =
         (later_once at.done (line ∷ rest) (subst (λ ls. Once (numbers_of ls)) at.lines (filtered_once (λ l. l.number) (λ l. l.who.0 == who) script once))).0
-        (subst (λ n. In n (numbers_of rest)) e (into_map (λ l. l.number) rest l i))
+        (subst (λ n. Among n (numbers_of rest)) e (into_map (λ l. l.number) rest l i))
 
 -- a line of another party is answered
 pub other_answer : (script : List Line) → Once (numbers_of script) → (marks : Marks) (numbers : List ℕ) (who : ℕ) (rest : List Line) (line : Line) →
-    In line script → (line.who.0 ≡ who → ⊥) →
+    Among line script → (line.who.0 ≡ who → ⊥) →
     IsAt script marks numbers who rest → IsAt script (put marks line.number true) numbers who rest
 other_answer script once marks numbers who rest line there away at = record {
   done = at.done;
@@ -201,9 +192,9 @@ other_answer script once marks numbers who rest line there away at = record {
   open_ = all_there rest (λ l i e. put_other marks line.number l.number (apart l i) ∙ e) at.open_;
 }
   where
-    apart : (l : Line) → In l rest → l.number ≡ line.number → ⊥
+    apart : (l : Line) → Among l rest → l.number ≡ line.number → ⊥
     apart l i e =
-        let r : In l script × (l.who.0 ≡ who) = in_rest script marks numbers who rest at l i in
+        let r : Among l script × (l.who.0 ≡ who) = in_rest script marks numbers who rest at l i in
         away (ap (λ x. x.who.0) (sym (own_line script once l line r.0 there e)) ∙ r.1)
 
 -- ---- who answered

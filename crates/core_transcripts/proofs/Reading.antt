@@ -3,6 +3,7 @@ use Rattle.std.proofs.Common.{◌≡◌, ℕ, ◌≤◌, ◌+◌, inl, inr, Bool
 use Rattle.std.specs.Str.Lines.{lines}
 use Rattle.std.specs.List.{AllByRecursion}
 use Rattle.std.proofs.Math.Nat.{le_refl}
+use Rattle.disk_definitions.proofs.Listed.{Among}
 use Rattle.frang_base.specs.declared.limits.TheConstants.{SCRIPT_BYTES_MAX, SCRIPT_LINES_MAX}
 use Rattle.frang_base.specs.declared.script.Line.{Line}
 use Rattle.script_definitions.specs.declared.asked.Asked.{Asked}
@@ -10,7 +11,7 @@ use Rattle.script_definitions.specs.declared.fault.LineFault.TheVariants as faul
 use Rattle.script_definitions.specs.declared.fault.ScriptFault.{ScriptFault}
 use Rattle.script_definitions.specs.ScriptText.{after_line, fault_at, judged, numbered, script_from, script_of, with_line}
 use Rattle.tree_definitions.specs.Transcript.{is_halt}
-use Rattle.core_laws.proofs.Membership.{In, contains_in}
+use Rattle.core_laws.proofs.Membership.{contains_in}
 use Rattle.core_transcripts.specs.Answers.{HaveOwnNumbers, numbers_of}
 
 -- the numbers are from this one on, each once
@@ -38,7 +39,7 @@ before line script f = record {
   own = ((λ h. apart (numbers_of script) f.above (contains_in (numbers_of script) line.number h)), f.own);
 }
   where
-    apart : (ns : List ℕ) → AllByRecursion (λ n. line.number + 1 ≤ n) ns → In line.number ns → ⊥
+    apart : (ns : List ℕ) → AllByRecursion (λ n. line.number + 1 ≤ n) ns → Among line.number ns → ⊥
     apart [] all i = absurd i
     apart (n ∷ ns) all (inl e) = absurd (omega (arith, all.0, e))
     apart (n ∷ ns) all (inr i) = apart ns all.1 i

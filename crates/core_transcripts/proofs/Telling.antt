@@ -1,9 +1,8 @@
 -- What the host says at the end are lines of the tree; and who is told to be settled then.
-use Rattle.std.proofs.Common.{ℕ, zero, suc, ◌≡◌, inl, inr, ⊎_elim, Bool, true, false, ◌&&◌, ◌==◌, if◌then◌else◌, IsTrue, List, [], ◌∷◌, Option, Some, None, length, nat_lt, refl, subst, arith}
-use Rattle.std.proofs.lemmas.Bool.{false≢true, and_parts}
-use Rattle.std.proofs.lemmas.Bool.Decides.{nat_tests}
-use Rattle.std.specs.List.{flat_map, list_all, slice_get}
+use Rattle.std.proofs.Common.{ℕ, zero, suc, ◌≡◌, inl, inr, Bool, true, false, ◌==◌, if◌then◌else◌, IsTrue, List, [], ◌∷◌, Option, Some, None, length, nat_lt, refl, subst, sym}
+use Rattle.std.specs.List.{flat_map, slice_get}
 use Rattle.std.proofs.lemmas.Option.{same_Some}
+use Rattle.std.proofs.lemmas.Bool.{lt-ltb}
 use Rattle.frang_base.specs.declared.said.Said.{Said}
 use Rattle.frang_base.specs.declared.said.Said.TheVariants as said
 use Rattle.tree_definitions.specs.Numbers.{below}
@@ -11,46 +10,27 @@ use Rattle.tree_definitions.specs.Transcript.{is_node}
 use Rattle.tree_definitions.specs.TreeLines.{name_below, path_text}
 use Rattle.sector_bytes.specs.Sectors.{sectors_of}
 use Rattle.disk_definitions.specs.Store.{Store, StoredNode, store_of}
+use Rattle.disk_definitions.proofs.Listed.{Among, below_among}
 use Rattle.core_definitions.specs.Trees.{TreeRead, entries_from, lines_at, lines_from, read_lines, sorted_entries}
-use Rattle.core_laws.proofs.Membership.{FromFlat, In, from_flat, in_either}
+use Rattle.core_laws.proofs.Membership.{FromFlat, from_flat}
 
 -- ---- lists
 
-pub all_in : {X : Type 0} (p : X → Bool) (xs : List X) → ((x : X) → In x xs → IsTrue (p x)) → IsTrue (list_all p xs)
-all_in p [] each = refl
-all_in p (y ∷ ys) each = go (p y) (each y (inl refl)) (all_in p ys (λ x i. each x (inr i)))
-  where
-    go : (b : Bool) → IsTrue b → IsTrue (list_all p ys) → IsTrue (b && list_all p ys)
-    go true h rest = rest
-    go false h rest = absurd (false≢true h)
+pub below_less : (n x : ℕ) → Among x (below n) → IsTrue (nat_lt x n)
+below_less n x i = lt-ltb x n (below_among n x i)
 
-pub in_all : {X : Type 0} (p : X → Bool) (xs : List X) (x : X) → IsTrue (list_all p xs) → In x xs → IsTrue (p x)
-in_all p [] x h i = absurd i
-in_all p (y ∷ ys) x h (inl e) = subst (λ z. IsTrue (p z)) e (and_parts (p y) (list_all p ys) h).0
-in_all p (y ∷ ys) x h (inr i) = in_all p ys x (and_parts (p y) (list_all p ys) h).1 i
-
-less_more : (n x : ℕ) → IsTrue (nat_lt x n) → IsTrue (nat_lt x (suc n))
-less_more n x h = grind (arith, nat_tests, h)
-
-last_less : (n x : ℕ) → n ≡ x → IsTrue (nat_lt x (suc n))
-last_less n x e = grind (arith, nat_tests, e)
-
-pub below_less : (n x : ℕ) → In x (below n) → IsTrue (nat_lt x n)
-below_less zero x i = absurd i
-below_less (suc n) x i = ⊎_elim (λ j. less_more n x (below_less n x j)) (λ j. ⊎_elim (λ e. last_less n x e) (λ k. absurd k) j) (in_either x (below n) (n ∷ []) i)
-
-pub got_in : {X : Type 0} (xs : List X) (k : ℕ) (x : X) → slice_get xs k ≡ Some x → In x xs
+pub got_in : {X : Type 0} (xs : List X) (k : ℕ) (x : X) → slice_get xs k ≡ Some x → Among x xs
 got_in [] k x e = absurd (cc)
-got_in (y ∷ ys) zero x e = inl (same_Some y x e)
+got_in (y ∷ ys) zero x e = inl (sym (same_Some y x e))
 got_in (y ∷ ys) (suc k) x e = inr (got_in ys k x e)
 
 -- ---- lines of a tree
 
 abbrev pub AreNodes : List Said → Type 0
-AreNodes lines = (x : Said) → In x lines → is_node x ≡ true
+AreNodes lines = (x : Said) → Among x lines → is_node x ≡ true
 
 one_node : (x : Said) → is_node x ≡ true → AreNodes (x ∷ [])
-one_node x n y (inl e) = subst (λ z. is_node z ≡ true) e n
+one_node x n y (inl e) = subst (λ z. is_node z ≡ true) (sym e) n
 one_node x n y (inr i) = absurd i
 
 none_nodes : AreNodes []
@@ -68,8 +48,8 @@ at_nodes onward store text (Some node) each = go (node.kind == 2) (node.kind == 
         let r : FromFlat entry_lines (sorted_entries (entries_from store node)) y = from_flat entry_lines (sorted_entries (entries_from store node)) y i in
         each (name_below text r.from.0) r.from.1 y r.gives_it
 
-    behind : (y : Said) → In y (said.Node (path_text text) 2 node.size 0 ∷ flat_map entry_lines (sorted_entries (entries_from store node))) → is_node y ≡ true
-    behind y (inl e) = subst (λ z. is_node z ≡ true) e refl
+    behind : (y : Said) → Among y (said.Node (path_text text) 2 node.size 0 ∷ flat_map entry_lines (sorted_entries (entries_from store node))) → is_node y ≡ true
+    behind y (inl e) = subst (λ z. is_node z ≡ true) (sym e) refl
     behind y (inr i) = below_it y i
 
     go : (a b : Bool) → AreNodes (if a then said.Node (path_text text) 2 node.size 0 ∷ flat_map entry_lines (sorted_entries (entries_from store node))
