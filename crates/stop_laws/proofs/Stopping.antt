@@ -79,11 +79,12 @@ module _ (segments : ℕ) (when : ℕ → ℕ) (times : AreTimes when) (first : 
       by_phase (IsKeptBy server (greatest server) (w.durable server)) (w.phase n) n (w.durable n) (w.synced n) (left w n) (λ off. before)
       (others_leave server n (w.durable server) (λ e. absurd (omega arith)) (w.durable n) (greatest server) (w.synced n) (left w n) before)
 
-  record IsStage (now : List Happening) (items_left : List Item) : Type 0 where
-    paired_now : ArePaired segments when w.opening first numbers now
-    settles : settled (on_sectors now) ≡ items_left
-    unsynced : (server durable : ℕ) → Unsynced server durable w.history → Unsynced server durable (on_sectors now)
-    synced : (server : ℕ) → synced_of server (on_sectors now) ≡ synced_of server w.history
+  -- the history with the recoveries of the first logs is paired, and settles as what is left after them
+  pub record IsStage (now : List Happening) (items_left : List Item) : Type 0 where
+    pub paired_now : ArePaired segments when w.opening first numbers now
+    pub settles : settled (on_sectors now) ≡ items_left
+    pub unsynced : (server durable : ℕ) → Unsynced server durable w.history → Unsynced server durable (on_sectors now)
+    pub synced : (server : ℕ) → synced_of server (on_sectors now) ≡ synced_of server w.history
 
   one_more : (n : ℕ) → w.phase n ≢ Off → (now : List Happening) → IsStage now (left w n) →
       IsStage (Recovers n (greatest n) (w.durable n) ∷ now) (recovered n (w.durable n) (w.synced n) (left w n))
@@ -109,7 +110,7 @@ module _ (segments : ℕ) (when : ℕ → ℕ) (times : AreTimes when) (first : 
   by_stage n now stage Up is = one_more n (λ off. let z : Up ≡ Off = sym is ∙ off in cc) now stage
   by_stage n now stage Dead is = one_more n (λ off. let z : Dead ≡ Off = sym is ∙ off in cc) now stage
 
-  stages : (n : ℕ) → IsStage (stopped w greatest n h) (left w n)
+  pub stages : (n : ℕ) → IsStage (stopped w greatest n h) (left w n)
   stages zero = record {
     paired_now = paired;
     settles = ap settled told;
