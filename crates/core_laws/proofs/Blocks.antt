@@ -5,6 +5,7 @@ use Rattle.std.specs.List.Sorted.{IsStrictlySortedBy}
 use Rattle.std.specs.Ordering.{nat_cmp, ordering_then}
 use Rattle.std.specs.declared.cmp.Ordering.{Ordering}
 use Rattle.std.specs.declared.cmp.Ordering.TheVariants.{Less, Equal}
+use Rattle.sorted_entries.proofs.Sorted.{all_along}
 use Rattle.frang_base.proofs.Tests.{cmp_itself}
 use Rattle.frang_base.proofs.Lists.{all_append}
 use Rattle.lock_definitions.specs.Order.{lock_cmp}
@@ -12,7 +13,7 @@ use Rattle.lock_definitions.proofs.LockOrder.{lock_itself}
 use Rattle.core_definitions.specs.Events.{Event}
 use Rattle.core_definitions.specs.Enabled.{only, only_if, row_by_row}
 use Rattle.core_laws.specs.EventOrder.{event_cmp, first_of, last_of, lock_of, row_of}
-use Rattle.core_laws.proofs.Sorting.{all_along, all_flat, all_flat_from, sorted_append, sorted_none, sorted_one, less}
+use Rattle.core_laws.proofs.Sorting.{all_flat, all_flat_from, sorted_append, sorted_none, sorted_one, less}
 
 -- ---- the order
 

@@ -7,6 +7,7 @@ use Rattle.std.specs.Map.{keys_of}
 use Rattle.std.specs.Ordering.{nat_cmp}
 use Rattle.std.specs.declared.cmp.Ordering.TheVariants.{Less}
 use Rattle.std.specs.BTreeMap.{is_at}
+use Rattle.sorted_entries.proofs.Sorted.{all_along}
 use Rattle.frang_base.specs.Functions.{put}
 use Rattle.frang_base.specs.declared.lock.LockId.{LockId}
 use Rattle.frang_base.specs.declared.op.Op.{Op}
@@ -37,7 +38,7 @@ use Rattle.core_definitions.specs.Runs.{State, Step, Event_, Enter, Hold, Flush,
 use Rattle.core_laws.proofs.Along.{along}
 use Rattle.core_laws.specs.Orders.{AreLinesInOrder, AreRecoveriesInOrder, IsInOrder, IsServerInOrder}
 use Rattle.core_laws.proofs.Servers.{acknowledged_order, again_order, answer_order, bare_order, begun_order, cleared_order, committed_order, died_order, fetched_order, given_order, refused_order, rescued_order, wanting_order, wanting_up_order}
-use Rattle.core_laws.proofs.Sorting.{all_along, ascend_changed, keys_changed, keys_filter, sorted_append, sorted_none, sorted_one}
+use Rattle.core_laws.proofs.Sorting.{ascend_changed, keys_changed, keys_filter, sorted_append, sorted_none, sorted_one}
 use Rattle.core_laws.proofs.Stages.{stages_in_order}
 
 -- ---- the tickets

@@ -9,6 +9,7 @@ use Rattle.std.specs.List.Sorted.{IsStrictlySortedBy}
 use Rattle.std.specs.Map.{keys_of}
 use Rattle.std.specs.Ordering.{nat_cmp}
 use Rattle.std.specs.declared.cmp.Ordering.TheVariants.{Less, Equal}
+use Rattle.sorted_entries.proofs.Sorted.{all_along}
 use Rattle.frang_base.specs.declared.change.Redo.{Redo}
 use Rattle.frang_base.specs.declared.limits.TheConstants.{ROOT_INODE}
 use Rattle.frang_base.specs.declared.script.Line.{Line}
@@ -46,7 +47,7 @@ use Rattle.core_laws.specs.EventOrder.{event_cmp, row_of}
 use Rattle.core_laws.specs.Orders.{AreEventsOnce, IsInOrder}
 use Rattle.core_laws.proofs.Blocks.{AllRise, AreOf, AreOfRow, AreRows, IsOf, Rises, by_first, by_last, by_lock, by_row, each_only_rises, not_below_itself, only_all, only_if_sorted, only_rises, row_all, row_rises, rows_rise, rows_within}
 use Rattle.core_laws.proofs.OrderKeeping.{order_of_run}
-use Rattle.core_laws.proofs.Sorting.{all_along, all_each, all_flat, all_in, ascend_fold, ascending_sorted, below_and_behind, below_sorted, sorted_append, sorted_map, sorted_none}
+use Rattle.core_laws.proofs.Sorting.{all_each, all_flat, all_in, ascend_fold, ascending_sorted, below_and_behind, below_sorted, sorted_append, sorted_map, sorted_none}
 use Rattle.core_laws.proofs.Stages.{AreStagesInOrder, stages_in_order}
 
 -- ---- of which row and first number the events of each piece are

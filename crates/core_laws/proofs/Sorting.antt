@@ -7,6 +7,7 @@ use Rattle.std.specs.Map.{keys_of}
 use Rattle.std.specs.Ordering.{nat_cmp}
 use Rattle.std.specs.declared.cmp.Ordering.{Ordering}
 use Rattle.std.specs.declared.cmp.Ordering.TheVariants.{Less}
+use Rattle.sorted_entries.proofs.Sorted.{all_along}
 use Rattle.frang_base.proofs.Lists.{all_map, all_append}
 use Rattle.disk_definitions.specs.Written.{ascending, with_number}
 use Rattle.disk_definitions.proofs.Listed.{Among}
@@ -15,10 +16,6 @@ use Rattle.sector_bytes.proofs.MapLaws.{ascend_with}
 use Rattle.tree_definitions.specs.Numbers.{below}
 
 -- ---- of each element
-
-pub all_along : {X : Type 0} {P Q : X → Type 0} → ((x : X) → P x → Q x) → (xs : List X) → AllByRecursion P xs → AllByRecursion Q xs
-all_along f [] all = tt
-all_along f (x ∷ xs) all = (f x all.0, all_along f xs all.1)
 
 pub all_each : {X : Type 0} {P : X → Type 0} → ((x : X) → P x) → (xs : List X) → AllByRecursion P xs
 all_each f [] = tt

@@ -34,7 +34,7 @@ pub gives_met : {A : Type 0} (m : Met A) (a : A) → Gives a ≡ numbered m → 
 gives_met (Needs x) a e = absurd (cc)
 gives_met (Has b) a e = cc
 
-lacks_met : {A : Type 0} (m : Met A) (s : ℕ) → Lacks s ≡ numbered m → (x : Sector) × (m ≡ Needs x)
+pub lacks_met : {A : Type 0} (m : Met A) (s : ℕ) → Lacks s ≡ numbered m → (x : Sector) × (m ≡ Needs x)
 lacks_met (Needs x) s e = (x, refl)
 lacks_met (Has b) s e = absurd (cc)
 

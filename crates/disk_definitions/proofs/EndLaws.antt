@@ -3,6 +3,7 @@ use Rattle.std.proofs.Common.{◌≡◌, ℕ, ◌+◌, ◌-◌, ◌%◌, ◌^◌
 use Rattle.std.specs.List.{list_all, filter}
 use Rattle.std.specs.Option.{option_map}
 use Rattle.std.proofs.lemmas.Bool.{and_parts, and_from, cond-true}
+use Rattle.frang_base.proofs.Tests.{some_there}
 use Rattle.tree_definitions.specs.Numbers.{below}
 use Rattle.disk_definitions.specs.declared.log_sector.LogSector.{LogSector}
 use Rattle.disk_definitions.specs.LogSectors.{log_sector_in, is_empty_sector, is_filled_sector}
@@ -23,13 +24,9 @@ numbered_is n (Some y) x e = go (y.seq == n) refl e
 pub numbered_of : (n : ℕ) (o : Option LogSector) (x : LogSector) → o ≡ Some x → x.seq ≡ n → numbered n o ≡ Some x
 numbered_of n o x e s = ap (numbered n) e ∙ cond-true (x.seq == n) (Some x) None (eq-eqb x.seq n s)
 
-some_from : {X : Type 0} (o : Option X) → is_some o ≡ true → (x : X) × (o ≡ Some x)
-some_from None e = absurd cc
-some_from (Some x) e = (x, refl)
-
 -- the sector of a number that stands
 pub sector_of_number : (slots : Slots) (n : ℕ) → stands slots n ≡ true → (x : LogSector) × (sector_numbered slots n ≡ Some x)
-sector_of_number slots n e = some_from (sector_numbered slots n) e
+sector_of_number slots n e = some_there (sector_numbered slots n) e
 
 pub number_of_sector : (slots : Slots) (n : ℕ) (x : LogSector) → sector_numbered slots n ≡ Some x → x.seq ≡ n
 number_of_sector slots n x e = (numbered_is n (log_sector_in (n % 256) (slots (n % 256))) x e).1

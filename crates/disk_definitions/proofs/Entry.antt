@@ -8,6 +8,7 @@ use Rattle.tree_definitions.specs.declared.node.Node.TheVariants.{Dir}
 use Rattle.tree_definitions.specs.Entries.{Entries, entry_at}
 use Rattle.frang_base.specs.Functions.{put}
 use Rattle.frang_base.proofs.Basics.{at_put, put_same, put_other}
+use Rattle.frang_base.proofs.Tests.{some_there}
 use Rattle.tree_laws.specs.WellFormed.{put as put_node}
 use Rattle.tree_laws.proofs.Nodes.{each_but}
 use Rattle.disk_definitions.specs.Store.{Store, StoredNode, StoredEntry}
@@ -21,7 +22,6 @@ use Rattle.disk_definitions.specs.ChangeLaws.{Leads, HasNameMore, HasNameLess, E
 use Rattle.disk_definitions.proofs.Puts.{put2_same, put2_other}
 use Rattle.disk_definitions.proofs.Names.{at_name, name_same, name_other}
 use Rattle.disk_definitions.proofs.Kept.{both, same_inode, same_use, inode_is, keeps_all}
-use Rattle.disk_definitions.proofs.Free.{a_some}
 use Rattle.disk_definitions.proofs.Rooms.{which_block, other_place, dir_use}
 
 -- the inode of a node after a change
@@ -190,7 +190,7 @@ entries_come s at n d blocks x old new name b q g dir more free =
 
 pub entries_go : EntriesGo
 entries_go s at n d blocks x old new name g dir less =
-    let b = a_some (entry_at old name) less.had in
+    let b = some_there (entry_at old name) less.had in
     let inside : n.spot d name < 56 * blocks = subst (λ y. n.spot d name < 56 * room_in y) dir.is (g.names d b.0 name (rw dir.is b.1)).0 in
     let l : take_entry (n.inode d) x (n.spot d name) ≡ SetInode (n.inode d) (Some (inode_of (n.stamp d) (n.block d) (n.large d) (Dir new blocks))) false ∷ SetPlace (n.block d (n.spot d name / 56)) (n.spot d name % 56) None ∷ [] =
     ap (λ x. take_entry (n.inode d) x (n.spot d name)) (stored_is s at n g d (Dir old blocks) x dir.is dir.inode) ∙ take_is (n.inode d) (n.stamp d) (n.large d) blocks (n.spot d name) (n.block d) old new inside less.one in

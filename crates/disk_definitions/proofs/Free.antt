@@ -1,5 +1,5 @@
 -- A block that is free has no owner.
-use Rattle.std.proofs.Common.{ℕ, ◌<◌, ◌≡◌, true, false, Option, Some, None, is_some, refl, sym, ◌∙◌, ap, arith}
+use Rattle.std.proofs.Common.{ℕ, ◌<◌, ◌≡◌, true, false, Option, Some, None, refl, sym, ◌∙◌, ap, arith}
 use Rattle.frang_base.proofs.Tests.{none_of}
 use Rattle.tree_definitions.specs.declared.node.Node.{Node}
 use Rattle.tree_definitions.specs.declared.node.Node.TheVariants.{Dir, File, Link}
@@ -7,10 +7,6 @@ use Rattle.disk_definitions.specs.Store.{Store, Use, is_unused}
 use Rattle.disk_definitions.specs.Store.Use.{Fresh, Bytes, Empty, Entries}
 use Rattle.disk_definitions.specs.Naming.{Naming, Nodes, Pictures, blocks_of, use_by, use_for}
 use Rattle.disk_definitions.specs.ChangeLaws.{IsFreeBlock}
-
-pub a_some : {X : Type 0} (o : Option X) → is_some o ≡ true → (x : X) × (o ≡ Some x)
-a_some None e = absurd (cc)
-a_some (Some x) e = (x, refl)
 
 pub in_use : (x : Option Node) (j : ℕ) → j < blocks_of x → is_unused (use_by x) ≡ false
 in_use None j l = absurd (omega arith)

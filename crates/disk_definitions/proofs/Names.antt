@@ -6,10 +6,10 @@ use Rattle.std.specs.BTreeMap.{is_at}
 use Rattle.std.proofs.lemmas.Bool.{both_ways}
 use Rattle.tree_definitions.specs.Entries.{entry_at, without_entry}
 use Rattle.frang_base.proofs.Basics.{by_test}
+use Rattle.frang_base.proofs.Tests.{some_there}
 use Rattle.tree_laws.proofs.Pairs.{tie, self, name_exact, found_put, found_other, found_left, found_removed, length_put, length_kept, length_removed}
 use Rattle.disk_definitions.specs.Namings.{put_name}
 use Rattle.disk_definitions.specs.ChangeLaws.{NamesCome, NamesGo, NamesMove, NamesAreTaken}
-use Rattle.disk_definitions.proofs.Free.{a_some}
 
 pub at_name : {X : Type 0} (P : X → Type 0) (f : List ℕ → X) (k : List ℕ) (v : X) (i : List ℕ) → (i ≡ k → P v) → (i ≢ k → P (f i)) → P (put_name f k v i)
 at_name P f k v i same other = by_test P v (f i) (is_at (slice_cmp nat_cmp k) i)
@@ -31,7 +31,7 @@ names_come entries name b absent = record {
 }
 
 pub names_go : NamesGo
-names_go entries name differ had = let a = a_some (entry_at entries name) had in record {
+names_go entries name differ had = let a = some_there (entry_at entries name) had in record {
   had = had;
   gone = found_removed (slice_cmp nat_cmp) name_exact entries name differ;
   others = λ m f. found_left (slice_cmp nat_cmp) name_exact entries name m f;
@@ -40,7 +40,7 @@ names_go entries name differ had = let a = a_some (entry_at entries name) had in
 
 pub names_move : NamesMove
 names_move entries name to b differ had none =
-    let a = a_some (entry_at entries name) had in
+    let a = some_there (entry_at entries name) had in
     let apart : to ≢ name = λ i. let z : Some a.0 ≡ None = sym a.1 ∙ ap (entry_at entries) (sym i) ∙ none in cc in
     let new : entry_at (without_entry entries name) to ≡ None = found_left (slice_cmp nat_cmp) name_exact entries name to apart ∙ none in
     record {
@@ -53,7 +53,7 @@ names_move entries name to b differ had none =
     }
 
 pub names_are_taken : NamesAreTaken
-names_are_taken entries name b differ had = let a = a_some (entry_at entries name) had in record {
+names_are_taken entries name b differ had = let a = some_there (entry_at entries name) had in record {
   had = had;
   has = found_put (slice_cmp nat_cmp) name_exact entries name b;
   absent = λ f. absurd (f refl);

@@ -5,6 +5,7 @@ use Rattle.std.proofs.lemmas.Bool.{lt-ltb}
 use Rattle.tree_definitions.specs.declared.node.Node.TheVariants.{Dir}
 use Rattle.tree_definitions.specs.Entries.{Entries, entry_at}
 use Rattle.frang_base.proofs.Basics.{at_put, put_same, put_other}
+use Rattle.frang_base.proofs.Tests.{some_there}
 use Rattle.tree_laws.specs.WellFormed.{put as put_node}
 use Rattle.tree_laws.proofs.Nodes.{each_but}
 use Rattle.disk_definitions.specs.Store.{Store, StoredEntry}
@@ -18,7 +19,6 @@ use Rattle.disk_definitions.specs.ChangeLaws.{Leads, HasNameInstead, EntriesAreR
 use Rattle.disk_definitions.proofs.Puts.{put2_same, put2_other}
 use Rattle.disk_definitions.proofs.Names.{at_name, name_same, name_other}
 use Rattle.disk_definitions.proofs.Kept.{both, same_use}
-use Rattle.disk_definitions.proofs.Free.{a_some}
 use Rattle.disk_definitions.proofs.Rooms.{which_block, other_place, dir_use}
 use Rattle.disk_definitions.proofs.Entry.{stored_is}
 
@@ -121,7 +121,7 @@ module _ (s : Store) (at : Nodes) (n : Naming) (g : Pictures s at n) (d a b bloc
 
 pub entries_are_replaced : EntriesAreReplaced
 entries_are_replaced s at n d blocks x old new name new_name b g dir instead =
-    let a = a_some (entry_at old name) instead.had in
+    let a = some_there (entry_at old name) instead.had in
     let inside : n.spot d name < 56 * blocks = subst (λ y. n.spot d name < 56 * room_in y) dir.is (g.names d a.0 name (rw dir.is a.1)).0 in
     let l : replace_entry x (n.spot d name) (entry_of n new_name b) ≡ SetPlace (n.block d (n.spot d name / 56)) (n.spot d name % 56) (Some (entry_of n new_name b)) ∷ [] =
     ap (λ x. replace_entry x (n.spot d name) (entry_of n new_name b)) (stored_is s at n g d (Dir old blocks) x dir.is dir.inode) ∙ replace_is (n.stamp d) (n.large d) blocks (n.spot d name) (n.block d) (entry_of n new_name b) old inside in

@@ -7,6 +7,7 @@ use Rattle.std.specs.Ordering.{nat_cmp, match_ordering}
 use Rattle.std.specs.declared.cmp.Ordering.{Ordering}
 use Rattle.std.specs.declared.cmp.Ordering.TheVariants.{Less, Equal, Greater}
 use Rattle.std.proofs.lemmas.Bool.{eq-eqb, eqb-true}
+use Rattle.plan_laws.proofs.Filled.{filter_from}
 use Rattle.frang_base.specs.declared.change.Change.{Change}
 use Rattle.frang_base.specs.declared.change.Patch.{Patch}
 use Rattle.frang_base.specs.Functions.{member}
@@ -18,7 +19,7 @@ use Rattle.disk_definitions.specs.Standing.{version_at}
 use Rattle.disk_definitions.specs.Edits.{Edit}
 use Rattle.disk_definitions.specs.Written.{edit_sector, all_edited, is_metadata, metadata_sector, with_number, ascending, change_by, change_of, changes_of, forced_in}
 use Rattle.plan_fit.proofs.LaidOver.{change_sector}
-use Rattle.line_histories.proofs.Lists.{member_has, has_filter}
+use Rattle.line_histories.proofs.Lists.{member_has}
 
 -- ---- sorted numbers are those that were put there
 
@@ -103,7 +104,7 @@ pub record IsEdited (edits : List Edit) (s : ℕ) : Type 0 where
   pub here : edit_sector edit ≡ s
 
 pub named_edit : (edits : List Edit) (s : ℕ) → member s (numbers_of edits) ≡ true → IsEdited edits s
-named_edit edits s m = let r = has_filter metadata_sector edits s (member_has s (numbers_of edits) m) in go r.0 r.1 (is_metadata r.0) refl r.2
+named_edit edits s m = let r = filter_from metadata_sector edits s (member_has s (numbers_of edits) m) in go r.0 r.1 (is_metadata r.0) refl r.2
   where
     go : (e : Edit) → Contains edits e → (b : Bool) → is_metadata e ≡ b → (if b then Some (edit_sector e) else None) ≡ Some s → IsEdited edits s
     go e c true q i = record { edit = e; among = c; metadata = q; here = cc }

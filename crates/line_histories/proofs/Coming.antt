@@ -7,6 +7,7 @@ use Rattle.std.proofs.lemmas.List.Folds.{list_all-append}
 use Rattle.std.proofs.lemmas.Bool.{lt-ltb}
 use Rattle.frang_base.specs.declared.bitmap.Bitmap.{Bitmap}
 use Rattle.frang_base.specs.declared.op.Op.{Op}
+use Rattle.frang_base.proofs.Tests.{some_there}
 use Rattle.tree_definitions.specs.Numbers.{below}
 use Rattle.tree_definitions.specs.Tree.{FileTree}
 use Rattle.tree_definitions.specs.Touched.{shape_of}
@@ -16,7 +17,6 @@ use Rattle.tree_laws.proofs.ShapeNodes.{shaped, found}
 use Rattle.sector_bytes.specs.Sectors.{Sectors}
 use Rattle.sector_world.specs.Plans.{Outcome}
 use Rattle.disk_definitions.specs.Store.{segment_at}
-use Rattle.disk_definitions.proofs.Free.{a_some}
 use Rattle.disk_definitions.specs.Held.{bitmap_of, state_in}
 use Rattle.disk_definitions.specs.Picks.{is_in_state}
 use Rattle.disk_definitions.specs.Ask.{Ask, run, looks}
@@ -48,7 +48,7 @@ module _ (segments : ℕ) (disk : Sectors) (there : (k : ℕ) → k < segments �
   some_held [] all k c = absurd (not_in_none k c)
   some_held (j ∷ hint) all k c =
       let l : j < segments = all j (has_head j hint) in
-      let x = a_some (segment_at disk j) (there j l) in
+      let x = some_there (segment_at disk j) (there j l) in
       let first : is_some (if is_at (nat_cmp k) j then Some x.0 else bitmap_of (held_of segments disk hint) k) ≡ true = at x.0 (some_held hint (λ i e. all i (has_more j i hint e)) k) (is_at (nat_cmp k) j) refl in
       rw (lt-ltb j segments l, x.1) first
     where

@@ -34,6 +34,8 @@ use Rattle.plan_laws.specs.Looked.{edited_at}
 use Rattle.plan_laws.proofs.Deciding.{meets_where}
 use Rattle.plan_laws.specs.Plans.{Planner}
 use Rattle.plan_laws.proofs.Fine.{held_key}
+use Rattle.plan_laws.proofs.Covering.{all_from}
+use Rattle.plan_laws.proofs.Filled.{filter_from}
 use Rattle.plan_fit.proofs.LaidOver.{Misses}
 use Rattle.line_laws.specs.Laws.{HasPath}
 use Rattle.line_laws.proofs.AtHand.{agrees}
@@ -47,12 +49,11 @@ use Rattle.line_histories.specs.Done.{IsThere, IsOutcomeOf, IsWholeDisk, DoneIsO
 use Rattle.line_histories.specs.Places.{WritesInPlace, shown_of, LineDoneIsMade}
 use Rattle.line_histories.proofs.Apart.{missed}
 use Rattle.line_histories.proofs.Changes.{numbers_of}
-use Rattle.line_histories.proofs.Framed.{all_has}
 use Rattle.line_histories.proofs.Guarded.{versioned_number, plain_number}
 use Rattle.line_histories.proofs.Hands.{hand_is, all_below}
 use Rattle.line_histories.proofs.HeldSegments.{there, hinted, below}
 use Rattle.line_histories.proofs.LinesSound.{lines_are_sound}
-use Rattle.line_histories.proofs.Lists.{member_has, has_filter, has_map}
+use Rattle.line_histories.proofs.Lists.{member_has, has_map}
 use Rattle.line_histories.proofs.Made.{made}
 use Rattle.line_histories.proofs.MayBePlanned.{may}
 use Rattle.line_histories.proofs.Places.{lines_write_in_place}
@@ -168,12 +169,12 @@ module _ (planner : Planner) (sound : IsSoundPlanner planner) (op : Op) (cached 
 
   looked_at_hand : (number : ℕ) → member number o.looked ≡ true → IsThere cached held number
   looked_at_hand number e = ⊎_elim
-      (λ i. let r = has_filter versioned (looks q b) number i in record { sector = r.0; here = versioned_number r.0 number r.2; there = looked_there r.0 r.1 })
+      (λ i. let r = filter_from versioned (looks q b) number i in record { sector = r.0; here = versioned_number r.0 number r.2; there = looked_there r.0 r.1 })
       (λ i. let r = has_map segment_number hint number i in record { sector = SegmentAt r.0; here = sym r.2; there = held_at_hand r.0 r.1 })
       (Contains-append_cases (filter_map versioned (looks q b)) (map segment_number hint) number (member_has number o.looked e))
 
   read_at_hand : (number : ℕ) → member number o.reads ≡ true → IsThere cached held number
-  read_at_hand number e = let r = has_filter plain (looks q b) number (member_has number o.reads e) in record { sector = r.0; here = plain_number r.0 number r.2; there = looked_there r.0 r.1 }
+  read_at_hand number e = let r = filter_from plain (looks q b) number (member_has number o.reads e) in record { sector = r.0; here = plain_number r.0 number r.2; there = looked_there r.0 r.1 }
 
   -- edits, but for bytes
   same_edits : map edit_shape g.edits ≡ map edit_shape f.edits
@@ -205,7 +206,7 @@ module _ (planner : Planner) (sound : IsSoundPlanner planner) (op : Op) (cached 
   miss es same number m = misses_by g.edits es same number (missed segments (edited_all b g.edits) g.edits few fit number (ap (member number) (numbers_same g.edits es same) ∙ m))
 
   at_hand_changes : changes_of (sectors_at_hand cached held) f.edits ≡ changes_of disk f.edits
-  at_hand_changes = same_changes (sectors_at_hand cached held) disk f.edits (all_has (λ e. is_metadata e ≡ true → sectors_at_hand cached held (edit_sector e) ≡ disk (edit_sector e)) f.edits
+  at_hand_changes = same_changes (sectors_at_hand cached held) disk f.edits (all_from (λ e. is_metadata e ≡ true → sectors_at_hand cached held (edit_sector e) ≡ disk (edit_sector e)) f.edits
       (λ e i m. edit_is cached held all segments disk of e m (none_missing c (looks p s) met.0 (edited_at e) (sound.looked op h s n (when n) f met.1 e i m))))
 
   done_outcome : IsOutcomeOf segments cached held f o

@@ -31,13 +31,14 @@ use Rattle.disk_definitions.proofs.NodeLaws.{first_is}
 use Rattle.plan_laws.proofs.Covering.{has_cases, not_in_none}
 use Rattle.plan_laws.specs.Looked.{edited_at}
 use Rattle.plan_laws.proofs.Standing.{node_of}
+use Rattle.plan_laws.proofs.Filled.{flat_from}
 use Rattle.plan_fit.proofs.Kept.{in_small, in_large}
 use Rattle.line_histories.specs.Files.{file_sector, HoldsBytes, IsWritten}
 use Rattle.line_histories.specs.LinePlans.{store_on}
 use Rattle.line_histories.proofs.Apart.{one_fit}
 use Rattle.line_histories.proofs.Changes.{ascending_member}
 use Rattle.line_histories.proofs.Lists.{member_has, has_map}
-use Rattle.line_histories.proofs.Owned.{has_flat, below_less}
+use Rattle.line_histories.proofs.Owned.{below_less}
 use Rattle.line_histories.specs.Standing.{StandsForShape}
 use Rattle.line_histories.proofs.Disks.{blank_of, files_fit_now}
 
@@ -177,5 +178,5 @@ module _ (segments : ℕ) (few : segments ≤ 64) (end : Store) (edits : List Ed
       go : (b : Bool) → member (number_of x) (freed_sectors edits) ≡ b → b ≡ false
       go false e = refl
       go true e =
-          let r = has_flat sectors_given_back edits (number_of x) (member_has (number_of x) (flat_map sectors_given_back edits) (sym (ascending_member (number_of x) (flat_map sectors_given_back edits)) ∙ e)) in
+          let r = flat_from sectors_given_back edits (number_of x) (member_has (number_of x) (flat_map sectors_given_back edits) (sym (ascending_member (number_of x) (flat_map sectors_given_back edits)) ∙ e)) in
           absurd (back_kept x u r.0 r.1 r.2)

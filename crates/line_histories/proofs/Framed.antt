@@ -3,7 +3,7 @@ use Rattle.std.proofs.Common.{ℕ, ◌≡◌, ◌+◌, ◌*◌, ◌/◌, ◌%◌
 use Rattle.std.proofs.Math.Path.{fun_ext}
 use Rattle.std.proofs.lemmas.Bool.{cases_lt, le-ltb}
 use Rattle.std.proofs.lemmas.List.Elements.{Contains-append_left, Contains-append_right}
-use Rattle.std.specs.List.{filter_map, cons_option, AllByRecursion, Contains}
+use Rattle.std.specs.List.{filter_map, cons_option, Contains}
 use Rattle.std.specs.Option.{option_map}
 use Rattle.frang_base.specs.declared.change.Change.{Change}
 use Rattle.frang_base.specs.declared.op.Op.{Op}
@@ -17,7 +17,7 @@ use Rattle.disk_definitions.specs.Bitmaps.{bitmap_in}
 use Rattle.disk_definitions.specs.Directories.{directory_in}
 use Rattle.disk_definitions.specs.Inodes.{inode_in}
 use Rattle.disk_definitions.specs.Regions.{sector_of}
-use Rattle.disk_definitions.specs.Store.{Store, stored_node, entry_in}
+use Rattle.disk_definitions.specs.Store.{Store, stored_node, entry_in, store_of}
 use Rattle.disk_definitions.specs.Held.{Segments}
 use Rattle.disk_definitions.specs.Edits.{Edit}
 use Rattle.disk_definitions.specs.Edits.Edit.{SetInode, SetBit, SetUse, SetPlace, SetLarge, SetBytes, SetLargeBytes}
@@ -27,10 +27,11 @@ use Rattle.disk_definitions.specs.Plans.Plan.{Lacks, Clears, Finishes}
 use Rattle.disk_definitions.specs.Written.{changes_of, is_metadata, edit_sector}
 use Rattle.plan_laws.specs.Looking.{AllSayTheSame}
 use Rattle.plan_laws.proofs.Asking.{framed}
-use Rattle.plan_laws.proofs.Covering.{has_head, has_more, map_has}
+use Rattle.plan_laws.proofs.Covering.{has_head, has_more, map_has, all_from}
 use Rattle.plan_laws.specs.Looked.{edited_at}
 use Rattle.plan_laws.specs.Plans.{Planner}
 use Rattle.line_laws.proofs.SameChanges.{same_changes}
+use Rattle.line_laws.specs.Stores.{with_bytes}
 use Rattle.disk_definitions.specs.Lines.{plan_of_line}
 use Rattle.plan_laws.specs.Numbered.{moves_of}
 use Rattle.line_histories.specs.LinePlans.{may_be_planned, held_of, hand_by, hand_on, byte_shown, store_showing, store_on, without_bytes, blocks_told, versioned, plain, claims_of, makes_by, lock_in, sole_in, segment_lock, segment_number, outcome_by, outcome_if, outcome_over, are_segments}
@@ -64,23 +65,21 @@ looked_touched o m e = go (is_some (change_at o.changes m))
     go true = refl
     go false = e
 
-pub all_has : {X : Type 0} (P : X → Type 0) (xs : List X) → ((x : X) → Contains xs x → P x) → AllByRecursion P xs
-all_has P [] h = tt
-all_has P (x ∷ xs) h = (h x (has_head x xs), all_has P xs (λ y c. h y (has_more x y xs c)))
+-- ---- two disks that are the same in some sectors, with the same bytes
 
 module _ (segments : ℕ) (old new : Sectors) where
-  held_same : (hint : List ℕ) → ((k : ℕ) → Contains hint k → old (segment_number k) ≡ new (segment_number k)) → held_of segments old hint ≡ held_of segments new hint
+  pub held_same : (hint : List ℕ) → ((k : ℕ) → Contains hint k → old (segment_number k) ≡ new (segment_number k)) → held_of segments old hint ≡ held_of segments new hint
   held_same [] h = refl
   held_same (k ∷ hint) h =
       ap₂ (λ o more. cons_option o more) (ap (λ block. if nat_lt k segments then option_map (λ x. (k, x)) (bitmap_in block) else None) (h k (has_head k hint)))
       (held_same hint (λ j c. h j (has_more k j hint c)))
 
-  module _ (shown : Option Block) where
+  module _ (byte large_byte : ℕ → ℕ → ℕ) where
     abbrev s : Store
-    s = store_showing shown segments old
+    s = with_bytes (store_of segments old) byte large_byte
 
     abbrev t : Store
-    t = store_showing shown segments new
+    t = with_bytes (store_of segments new) byte large_byte
 
     inode_same : (i : ℕ) → old (sector_of (region.Inode i)) ≡ new (sector_of (region.Inode i)) → t.inode i ≡ s.inode i
     inode_same i e = ap (λ block. if nat_lt i (64 * segments) then stored_node (inode_in block) else None) (sym e)
@@ -97,13 +96,13 @@ module _ (segments : ℕ) (old new : Sectors) where
         outside : (r : ℕ) → 7 ≤ r → seven t.place k part r ≡ seven s.place k part r
         outside r l = rw (le-ltb r 7 l) refl
 
-    says : (xs : List Sector) → ((x : Sector) (m : ℕ) → Contains xs x → versioned x ≡ Some m → old m ≡ new m) → AllSayTheSame s t xs
-    says [] h = tt
-    says (InodeAt i ∷ xs) h = (inode_same i (h (InodeAt i) (number_of (InodeAt i)) (has_head (InodeAt i) xs) refl), says xs (λ x m c e. h x m (has_more (InodeAt i) x xs c) e))
-    says (DirectoryAt k part ∷ xs) h = (directory_same k part (h (DirectoryAt k part) (number_of (DirectoryAt k part)) (has_head (DirectoryAt k part) xs) refl), says xs (λ x m c e. h x m (has_more (DirectoryAt k part) x xs c) e))
-    says (SegmentAt k ∷ xs) h = (tt, says xs (λ x m c e. h x m (has_more (SegmentAt k) x xs c) e))
-    says (BytesAt k part ∷ xs) h = (refl, says xs (λ x m c e. h x m (has_more (BytesAt k part) x xs c) e))
-    says (LargeAt g part ∷ xs) h = (refl, says xs (λ x m c e. h x m (has_more (LargeAt g part) x xs c) e))
+    pub says_the_same : (xs : List Sector) → ((x : Sector) (m : ℕ) → Contains xs x → versioned x ≡ Some m → old m ≡ new m) → AllSayTheSame s t xs
+    says_the_same [] h = tt
+    says_the_same (InodeAt i ∷ xs) h = (inode_same i (h (InodeAt i) (number_of (InodeAt i)) (has_head (InodeAt i) xs) refl), says_the_same xs (λ x m c e. h x m (has_more (InodeAt i) x xs c) e))
+    says_the_same (DirectoryAt k part ∷ xs) h = (directory_same k part (h (DirectoryAt k part) (number_of (DirectoryAt k part)) (has_head (DirectoryAt k part) xs) refl), says_the_same xs (λ x m c e. h x m (has_more (DirectoryAt k part) x xs c) e))
+    says_the_same (SegmentAt k ∷ xs) h = (tt, says_the_same xs (λ x m c e. h x m (has_more (SegmentAt k) x xs c) e))
+    says_the_same (BytesAt k part ∷ xs) h = (refl, says_the_same xs (λ x m c e. h x m (has_more (BytesAt k part) x xs c) e))
+    says_the_same (LargeAt g part ∷ xs) h = (refl, says_the_same xs (λ x m c e. h x m (has_more (LargeAt g part) x xs c) e))
 
   module _ (planner : Planner) (sound : IsSoundPlanner planner) (when : ℕ → ℕ) (hint : List ℕ) (n : ℕ) (op : Op) (o : Outcome) (agree : (m : ℕ) → IsTrue (touched o m) → old m ≡ new m) where
     abbrev h : Hand
@@ -136,7 +135,7 @@ module _ (segments : ℕ) (old new : Sectors) where
         all m e = agree m (looked_touched o m (subst (λ (q : Outcome). member m q.looked ≡ true) same e))
 
         each : (shown : Option Block) → AllSayTheSame (store_showing shown segments old) (store_showing shown segments new) seen
-        each shown = says shown seen (λ x m c e. all m (seen_is_looked seen hint x m c e))
+        each shown = says_the_same (λ block index. byte_shown shown (index % 512)) (λ large index. byte_shown shown (index % 512)) seen (λ x m c e. all m (seen_is_looked seen hint x m c e))
 
         goes : (run p (store_on segments new) ≡ run p (store_on segments old)) × (looks p (store_on segments new) ≡ seen)
         goes = framed p (store_on segments old) (store_on segments new) (each None)
@@ -149,7 +148,7 @@ module _ (segments : ℕ) (old new : Sectors) where
         held = held_same hint (λ k c. all (segment_number k) (segment_is_looked seen hint k c))
 
         changes : changes_of old f.edits ≡ changes_of new f.edits
-        changes = same_changes old new f.edits (all_has (λ e. is_metadata e ≡ true → old (edit_sector e) ≡ new (edit_sector e)) f.edits
+        changes = same_changes old new f.edits (all_from (λ e. is_metadata e ≡ true → old (edit_sector e) ≡ new (edit_sector e)) f.edits
             (λ e c m. all (edit_sector e) (seen_is_looked seen hint (edited_at e) (edit_sector e) (sound.looked op h (store_on segments old) n (when n) f is e c m) (edited_versioned e m))))
 
         parts : List Change → Segments → (Option Block → Plan) → Outcome

@@ -45,11 +45,12 @@ use Rattle.plan_laws.specs.Covers.{cover_of, IsHeld, PlanHolds, IsHeldSegment}
 use Rattle.plan_laws.specs.Moves.{first_said, use_said, taker_said, small_move, moved_by}
 use Rattle.plan_laws.specs.Plans.{Planner, Fills}
 use Rattle.plan_laws.specs.Numbered.{sector_in, sector_at, moves_of}
+use Rattle.plan_laws.proofs.Filled.{filter_from}
 use Rattle.line_histories.specs.LinePlans.{held_of, hand_on, store_showing, store_on, versioned, plain, becomes_directory, is_claimed, claims_of, fill_by, edits_in, lock_in, sole_in, segment_lock, segment_number, outcome_by}
 use Rattle.line_histories.specs.Outcomes.{IsOfAPlan}
 use Rattle.line_histories.specs.Planners.{IsPart, IsSoundPlanner}
 use Rattle.line_histories.specs.Guards.{IsDiskOf, IsUnder, IsSeen, IsMoved, IsClaimed, KeepsGuards, SoundPlansKeepGuards, LinePlansKeepGuards}
-use Rattle.line_histories.proofs.Lists.{member_has, filter_has, has_filter, has_map}
+use Rattle.line_histories.proofs.Lists.{member_has, filter_has, has_map}
 use Rattle.line_histories.proofs.Changes.{IsChange, change_of_edit}
 use Rattle.line_histories.proofs.Hands.{is_hand, held_asked, hint_fresh}
 use Rattle.line_histories.proofs.Framed.{edited_versioned, seen_is_looked}
@@ -252,7 +253,7 @@ module _ (planner : Planner) (sound : IsSoundPlanner planner) (segments : ℕ) (
 
     of_look : (m : ℕ) → member m o.looked ≡ true → IsSeen segments naming o.uses m
     of_look m e = ⊎_elim
-        (λ c. let r = has_filter versioned (looks p s) m c in record { sector = r.0; here = versioned_number r.0 m r.2; inside = inside r.0 r.1; part = part r.0 r.1; covered = under r.0 r.1 })
+        (λ c. let r = filter_from versioned (looks p s) m c in record { sector = r.0; here = versioned_number r.0 m r.2; inside = inside r.0 r.1; part = part r.0 r.1; covered = under r.0 r.1 })
         (λ c. let r = has_map segment_number hint m c in
         record { sector = SegmentAt r.0; here = sym r.2; inside = tt; part = tt; covered = Contains-append_right (map lock_in f.locks) (map segment_lock hint) (lock.Segment r.0) (map_has segment_lock hint r.0 r.1) })
         (Contains-append_cases (filter_map versioned (looks p s)) (map segment_number hint) m (member_has m o.looked e))
@@ -299,7 +300,7 @@ module _ (planner : Planner) (sound : IsSoundPlanner planner) (segments : ℕ) (
         }
 
     of_read : (m : ℕ) → member m o.reads ≡ true → IsSeen segments naming o.uses m
-    of_read m e = let r = has_filter plain (looks p s) m (member_has m o.reads e) in record { sector = r.0; here = plain_number r.0 m r.2; inside = inside r.0 r.1; part = part r.0 r.1; covered = under r.0 r.1 }
+    of_read m e = let r = filter_from plain (looks p s) m (member_has m o.reads e) in record { sector = r.0; here = plain_number r.0 m r.2; inside = inside r.0 r.1; part = part r.0 r.1; covered = under r.0 r.1 }
 
     of_made : (m : ℕ) → IsSome (o.makes m) → IsUnder naming o.alone m
     of_made m e =

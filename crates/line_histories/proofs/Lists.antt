@@ -1,5 +1,5 @@
 -- Elements of lists that are filtered or mapped, as tests and as facts.
-use Rattle.std.proofs.Common.{ℕ, ◌≡◌, ⊎_elim, Bool, true, false, nat_eq, if◌then◌else◌, Option, Some, None, List, [], ◌∷◌, map, refl, ap, ◌∙◌, subst}
+use Rattle.std.proofs.Common.{ℕ, ◌≡◌, ⊎_elim, Bool, true, false, nat_eq, if◌then◌else◌, Option, Some, None, List, [], ◌∷◌, map, refl, subst}
 use Rattle.std.specs.List.{filter_map, cons_option, Contains}
 use Rattle.std.proofs.lemmas.Bool.{eq-eqb, eqb-true}
 use Rattle.frang_base.specs.Functions.{member}
@@ -29,14 +29,6 @@ filter_has {X} {Y} f (z ∷ zs) x y e h = go (filter_has f zs x y e) (f z) refl
     go rest None i = ⊎_elim (λ q. absurd (let w : f x ≡ None = subst (λ v. f v ≡ None) q i in cc)) rest (has_cases z x zs h)
     go rest (Some v) i = ⊎_elim (λ q. let w : f x ≡ Some v = subst (λ u. f u ≡ Some v) q i in let same : v ≡ y = cc in subst (Contains (v ∷ filter_map f zs)) same (has_head v (filter_map f zs)))
         (λ c. has_more v y (filter_map f zs) (rest c)) (has_cases z x zs h)
-
-pub has_filter : {X Y : Type 0} (f : X → Option Y) (xs : List X) (y : Y) → Contains (filter_map f xs) y → (x : X) × Contains xs x × (f x ≡ Some y)
-has_filter {X} {Y} f [] y h = absurd (not_in_none y h)
-has_filter {X} {Y} f (z ∷ zs) y h = go (has_filter f zs y) (f z) refl h
-  where
-    go : (Contains (filter_map f zs) y → (x : X) × Contains zs x × (f x ≡ Some y)) → (o : Option Y) → f z ≡ o → Contains (cons_option o (filter_map f zs)) y → (x : X) × Contains (z ∷ zs) x × (f x ≡ Some y)
-    go rest None i c = let r = rest c in (r.0, has_more z r.0 zs r.1, r.2)
-    go rest (Some v) i c = ⊎_elim (λ q. (z, has_head z zs, i ∙ ap Some q)) (λ d. let r = rest d in (r.0, has_more z r.0 zs r.1, r.2)) (has_cases v y (filter_map f zs) c)
 
 pub has_map : {X Y : Type 0} (f : X → Y) (xs : List X) (y : Y) → Contains (map f xs) y → (x : X) × Contains xs x × (f x ≡ y)
 has_map f [] y h = absurd (not_in_none y h)

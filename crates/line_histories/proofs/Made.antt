@@ -28,17 +28,18 @@ use Rattle.plan_laws.specs.Looking.{AllSayTheSame}
 use Rattle.plan_laws.proofs.Asking.{framed}
 use Rattle.plan_laws.proofs.Covering.{has_head, has_more}
 use Rattle.plan_laws.specs.Plans.{Planner}
+use Rattle.plan_laws.proofs.Filled.{filter_from}
 use Rattle.line_laws.specs.Stores.{with_bytes}
 use Rattle.line_histories.specs.LinePlans.{byte_shown, store_showing, store_on, plain, fill_by, edits_in, makes_by}
 use Rattle.line_histories.specs.Outcomes.{fill_shape}
 use Rattle.line_histories.specs.Places.{SameBytesAt, WritesInPlace}
 use Rattle.line_histories.specs.Planners.{plan_shape, IsSoundPlanner}
-use Rattle.line_histories.proofs.Lists.{has_member, member_has, filter_has, has_filter}
+use Rattle.line_histories.proofs.Lists.{has_member, member_has, filter_has}
 use Rattle.line_histories.proofs.Outcomes.{edits_same, fills_same}
 use Rattle.line_histories.proofs.Shapes.{freed_same}
 
 -- parts that are the same byte by byte
-part_same : (f g : ℕ → ℕ → ℕ) (k part : ℕ) → ((r : ℕ) → r < 512 → f k (512 * part + r) ≡ g k (512 * part + r)) → part_of f k part ≡ part_of g k part
+pub part_same : (f g : ℕ → ℕ → ℕ) (k part : ℕ) → ((r : ℕ) → r < 512 → f k (512 * part + r) ≡ g k (512 * part + r)) → part_of f k part ≡ part_of g k part
 part_same f g k part h = fun_ext (λ r. ⊎_elim (inside r) (outside r) (cases_lt r 512))
   where
     inside : (r : ℕ) → r < 512 → part_of f k part r ≡ part_of g k part r
@@ -92,7 +93,7 @@ module _ (planner : Planner) (sound : IsSoundPlanner planner) (places : WritesIn
   -- ---- a sector that is read
 
   block_of : (number : ℕ) → member number reads ≡ true → (block : Block) × (value_at cached number ≡ Some block)
-  block_of number e = let r = has_filter plain (looks q b) number (member_has number reads e) in by_sector r.0 r.2 (there r.0 r.1)
+  block_of number e = let r = filter_from plain (looks q b) number (member_has number reads e) in by_sector r.0 r.2 (there r.0 r.1)
     where
       by_value : (sector : ℕ) → sector ≡ number → (o : Option (List ℕ)) → value_at cached sector ≡ o → is_some (bytes_at_hand cached sector) ≡ true → (block : Block) × (value_at cached number ≡ Some block)
       by_value sector same None i h = absurd (let z : is_some (bytes_at_hand cached sector) ≡ false = rw i refl in cc)

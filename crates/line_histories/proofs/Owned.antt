@@ -1,6 +1,6 @@
 -- What an outcome changes, writes and frees lies on the disk, and was under locks that it uses alone.
-use Rattle.std.proofs.Common.{ℕ, zero, suc, ◌≡◌, ◌<◌, ◌≤◌, ◌/◌, ◌^◌, inl, inr, ⊎_elim, Bool, true, false, if◌then◌else◌, IsSome, Option, Some, None, List, [], ◌∷◌, refl, sym, ap, ◌∙◌, subst, arith}
-use Rattle.std.proofs.lemmas.List.Elements.{Contains-append_cases, Contains-push_cases}
+use Rattle.std.proofs.Common.{ℕ, zero, suc, ◌≡◌, ◌<◌, ◌≤◌, ◌/◌, ◌^◌, inl, inr, ⊎_elim, Bool, true, false, if◌then◌else◌, IsSome, Option, Some, None, List, [], refl, sym, ap, ◌∙◌, subst, arith}
+use Rattle.std.proofs.lemmas.List.Elements.{Contains-push_cases}
 use Rattle.std.specs.List.{flat_map, Contains}
 use Rattle.std.proofs.lemmas.Bool.{eq-eqb}
 use Rattle.frang_base.specs.declared.change.Change.{Change}
@@ -31,7 +31,7 @@ use Rattle.disk_definitions.specs.Plans.{Hand, Plan, Finish}
 use Rattle.disk_definitions.specs.Plans.Plan.{Finishes}
 use Rattle.disk_definitions.specs.Written.{byte_write, is_metadata, edit_sector, edited_block, sectors_given_back, freed_sectors}
 use Rattle.plan_fit.proofs.DecodedEntries.{disks_fit}
-use Rattle.plan_laws.proofs.Covering.{has_head, has_more, not_in_none}
+use Rattle.plan_laws.proofs.Covering.{not_in_none}
 use Rattle.plan_laws.specs.Looked.{edited_at}
 use Rattle.plan_laws.specs.Covers.{cover_of}
 use Rattle.plan_laws.specs.Moves.{first_said, use_said, large_said, taker_said, large_taker_said, small_move, large_move, moved_by, node_lock, AreTidy}
@@ -40,6 +40,7 @@ use Rattle.plan_laws.proofs.Owned.{something_said}
 use Rattle.plan_fit.proofs.Kept.{edit_in_range, in_small, in_large}
 use Rattle.disk_definitions.specs.Lines.{plan_of_line}
 use Rattle.plan_laws.specs.Numbered.{sector_in, sector_at}
+use Rattle.plan_laws.proofs.Filled.{flat_from, filter_from}
 use Rattle.line_histories.specs.LinePlans.{hand_on, store_showing, store_on, fill_by, edits_in, outcome_by}
 use Rattle.line_histories.specs.Planners.{IsSoundPlanner}
 use Rattle.line_histories.specs.Done.{IsWholeDisk}
@@ -50,7 +51,7 @@ use Rattle.line_histories.proofs.Changes.{change_of_edit, ascending_member}
 use Rattle.line_histories.proofs.Guarded.{filled_is, made_some, sole_alone}
 use Rattle.line_histories.proofs.Hands.{is_hand}
 use Rattle.line_histories.proofs.LinesSound.{lines_are_sound}
-use Rattle.line_histories.proofs.Lists.{has_member, member_has, has_filter, has_map}
+use Rattle.line_histories.proofs.Lists.{has_member, member_has, has_map}
 use Rattle.line_histories.proofs.Outcomes.{outcomes_of_plans}
 
 -- ---- lists
@@ -58,10 +59,6 @@ use Rattle.line_histories.proofs.Outcomes.{outcomes_of_plans}
 pub below_less : (n j : ℕ) → Contains (below n) j → j < n
 below_less zero j c = absurd (not_in_none j c)
 below_less (suc n) j c = ⊎_elim (λ i. let l : j < n = below_less n j i in omega arith) (λ q. subst (λ z. z < suc n) q (omega arith)) (Contains-push_cases (below n) n j c)
-
-pub has_flat : {X Y : Type 0} (f : X → List Y) (xs : List X) (y : Y) → Contains (flat_map f xs) y → (x : X) × Contains xs x × Contains (f x) y
-has_flat f [] y c = absurd (not_in_none y c)
-has_flat f (x ∷ xs) y c = ⊎_elim (λ i. (x, has_head x xs, i)) (λ i. let r = has_flat f xs y i in (r.0, has_more x r.0 xs r.1, r.2)) (Contains-append_cases (f x) (flat_map f xs) y c)
 
 -- ---- sectors of edits
 
@@ -192,10 +189,10 @@ module _ (planner : Planner) (sound : IsSoundPlanner planner) (segments : ℕ) (
   own_freed number (SetLargeBytes g part bytes) c i = absurd (not_in_none number i)
 
   own_fill : (number : ℕ) → Fills f.edits number → IsCoveredAt segments naming o.alone number
-  own_fill number (inl w) = let r = has_filter byte_write f.edits (number, w.0) w.1 in own_edit r.0 r.1 number (write_of r.0 number w.0 r.2)
+  own_fill number (inl w) = let r = filter_from byte_write f.edits (number, w.0) w.1 in own_edit r.0 r.1 number (write_of r.0 number w.0 r.2)
   own_fill number (inr i) =
       let m : member number (flat_map sectors_given_back f.edits) ≡ true = sym (ascending_member number (flat_map sectors_given_back f.edits)) ∙ has_member number (freed_sectors f.edits) i in
-      let r = has_flat sectors_given_back f.edits number (member_has number (flat_map sectors_given_back f.edits) m) in
+      let r = flat_from sectors_given_back f.edits number (member_has number (flat_map sectors_given_back f.edits) m) in
       own_freed number r.0 r.1 r.2
 
   own_made : (number : ℕ) → IsSome (o.makes number) → IsCoveredAt segments naming o.alone number

@@ -8,16 +8,12 @@ use Rattle.frang_base.specs.declared.lock.Mode.{Mode}
 use Rattle.frang_base.specs.declared.lock.Mode.TheVariants.{Shared, Sole}
 use Rattle.frang_base.proofs.Lists.{all_map, all_append}
 use Rattle.disk_definitions.specs.Plans.{Lock, shared_nodes, sole_nodes, sole_segments}
-use Rattle.plan_laws.proofs.Covering.{has_head, has_more}
+use Rattle.plan_laws.proofs.Covering.{all_from}
 use Rattle.plan_laws.specs.Locks.{IsSole}
 use Rattle.plan_laws.specs.Covers.{IsHeld}
 use Rattle.line_locks.specs.Same.{Have, HaveMode, AreWithin}
 
 -- ---- lists
-
-pub all_each : {X : Type 0} (P : X → Type 0) (xs : List X) → ((x : X) → Contains xs x → P x) → AllByRecursion P xs
-all_each P [] f = tt
-all_each P (x ∷ xs) f = (f x (has_head x xs), all_each P xs (λ y c. f y (has_more x y xs c)))
 
 -- ---- locks
 
@@ -42,13 +38,13 @@ within_more [] others more f w = tt
 within_more (need ∷ locks) others more f w = (have_more others more f need w.0, within_more locks others more f w.1)
 
 pub within_itself : (locks more : List Lock) → ((need : Lock) → Contains locks need → Contains more need) → AreWithin locks more
-within_itself locks more f = all_each (Have more) locks (λ need c. have_it more need (f need c))
+within_itself locks more f = all_from (Have more) locks (λ need c. have_it more need (f need c))
 
 pub within_join : (a b others : List Lock) → AreWithin a others → AreWithin b others → AreWithin (a ++ b) others
 within_join a b others v w = all_append (Have others) a b v w
 
 pub within_shared : (inodes : List ℕ) (others : List Lock) → ((i : ℕ) → Contains inodes i → IsHeld others (lock.Node i)) → AreWithin (shared_nodes inodes) others
-within_shared inodes others f = all_map (Have others) (λ i. (lock.Node i, Shared)) inodes (all_each (λ i. IsHeld others (lock.Node i)) inodes f)
+within_shared inodes others f = all_map (Have others) (λ i. (lock.Node i, Shared)) inodes (all_from (λ i. IsHeld others (lock.Node i)) inodes f)
 
 pub within_nodes : (inodes : List ℕ) (others : List Lock) → AllByRecursion (λ i. IsSole others (lock.Node i)) inodes → AreWithin (sole_nodes inodes) others
 within_nodes inodes others a = all_map (Have others) (λ i. (lock.Node i, Sole)) inodes a

@@ -12,7 +12,7 @@ use Rattle.disk_definitions.specs.Edits.Edit.{SetInode, SetBit, SetUse, SetPlace
 use Rattle.disk_definitions.specs.Resizing.{index_in}
 use Rattle.disk_definitions.proofs.Indices.{index_hit}
 use Rattle.disk_definitions.specs.Plans.{Hand, Lock, Finish, sole_segments}
-use Rattle.plan_laws.proofs.Covering.{has_head, has_more, not_in_none, has_cases}
+use Rattle.plan_laws.proofs.Covering.{has_head, has_more, not_in_none, has_cases, all_from}
 use Rattle.plan_laws.specs.Locks.{IsSole, IsCovered, FinishIsCovered, says_full}
 use Rattle.plan_laws.specs.Looked.{edited_at}
 use Rattle.plan_laws.specs.Covers.{cover_of, small_cover}
@@ -21,7 +21,7 @@ use Rattle.plan_laws.proofs.Standing.{DiskStands}
 use Rattle.plan_laws.specs.CoversAtHand.{has_small}
 use Rattle.line_locks.specs.Found.{edit_locks_of, edit_locks, full_locks}
 use Rattle.line_locks.specs.Same.{AreWithin}
-use Rattle.line_locks.proofs.Alike.{all_each, within_join, within_nodes, within_segments}
+use Rattle.line_locks.proofs.Alike.{within_join, within_nodes, within_segments}
 use Rattle.line_locks.proofs.PlansEnd.{owns}
 
 -- what is left passes the test
@@ -51,7 +51,7 @@ module _ (h : Hand) (s : Store) (n : Naming) (disk : DiskStands h s n) (nodes : 
   edit_in (SetUse k u) a c = (a, tt)
   edit_in (SetPlace k p e) a c =
       let test : ℕ → Bool = λ i. owns h s i k in
-      within_nodes (filter test nodes) locks (all_each (λ i. IsSole locks (lock.Node i)) (filter test nodes) (λ i d. owner_sole i k (s.inode i) refl (filter_passes test nodes i d) c))
+      within_nodes (filter test nodes) locks (all_from (λ i. IsSole locks (lock.Node i)) (filter test nodes) (λ i d. owner_sole i k (s.inode i) refl (filter_passes test nodes i d) c))
   edit_in (SetLarge g b) a c = (a, tt)
   edit_in (SetBytes k part bytes) a c = tt
   edit_in (SetLargeBytes g part bytes) a c = tt
@@ -64,7 +64,7 @@ module _ (h : Hand) (s : Store) (n : Naming) (disk : DiskStands h s n) (nodes : 
   full_in r f = go (says_full r) refl
     where
       go : (b : Bool) → says_full r ≡ b → AreWithin (if b then sole_segments (keys_of h.held) else []) locks
-      go true e = within_segments (keys_of h.held) locks (all_each (λ k. IsSole locks (lock.Segment k)) (keys_of h.held) (f e))
+      go true e = within_segments (keys_of h.held) locks (all_from (λ k. IsSole locks (lock.Segment k)) (keys_of h.held) (f e))
       go false e = tt
 
   -- a finished plan that is covered

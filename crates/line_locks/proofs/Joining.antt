@@ -19,12 +19,12 @@ use Rattle.lock_definitions.specs.Calls.{serves}
 use Rattle.lock_definitions.specs.Order.{is_lock, lock_cmp}
 use Rattle.lock_definitions.proofs.LockOrder.{found_lock, lock_total, lock_itself}
 use Rattle.disk_definitions.specs.Plans.{Lock}
-use Rattle.plan_laws.proofs.Covering.{has_cases, has_head, has_more, not_in_none, all_has}
+use Rattle.plan_laws.proofs.Covering.{has_cases, has_head, has_more, not_in_none, all_has, all_from}
 use Rattle.plan_laws.specs.Locks.{IsSole}
 use Rattle.plan_laws.specs.Covers.{IsHeld}
 use Rattle.core_definitions.specs.Sets.{LockSet, joined, joined_all, lacks, mode_in, with_mode}
 use Rattle.line_locks.specs.Same.{AlikeLocksJoinAlike, AlikeLocksLackAlike, AreAlike, AreWithin, Have, HaveMode, SetsAreAlike}
-use Rattle.line_locks.proofs.Alike.{all_each, have_it}
+use Rattle.line_locks.proofs.Alike.{have_it}
 
 -- ---- the order of locks
 
@@ -266,6 +266,6 @@ sole_mode locks l c = joined_mode locks [] l ∙ as_sole (best None locks l) (be
 
 pub sets_alike : SetsAreAlike
 sets_alike locks = record {
-  there = set_within locks locks [] tt (all_each (Have locks) locks (λ x c. have_it locks x c));
-  back = all_each (Have (joined_all [] locks)) locks (λ x c. set_has locks x c);
+  there = set_within locks locks [] tt (all_from (Have locks) locks (λ x c. have_it locks x c));
+  back = all_from (Have (joined_all [] locks)) locks (λ x c. set_has locks x c);
 }

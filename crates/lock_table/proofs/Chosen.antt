@@ -11,15 +11,11 @@ use Rattle.std.specs.declared.cmp.Ordering.TheVariants.{Less, Equal, Greater}
 use Rattle.ordered_map.proofs.Spots.{equal_is}
 use Rattle.frang_base.specs.declared.lock.LockId.{LockId}
 use Rattle.sorted_entries.proofs.Spots.{nothing_removed, by_answer}
+use Rattle.sorted_entries.proofs.Sorted.{all_along}
 use Rattle.lock_definitions.specs.Order.{lock_cmp, is_lock}
 use Rattle.lock_definitions.proofs.LockOrder.{lock_total, found_lock, is_lock_equiv, locks}
 use Rattle.lock_table.specs.Asked.{with_made}
 use Rattle.lock_table.specs.Kept.{chosen}
-
--- what holds of each, and follows, holds of each
-all_along : {K : Type 0} {P Q : K → Type 0} → ((x : K) → P x → Q x) → (xs : List K) → AllByRecursion P xs → AllByRecursion Q xs
-all_along f [] all = tt
-all_along f (x ∷ xs) all = (f x all.0, all_along f xs all.1)
 
 -- ---- a lock below all that are listed
 

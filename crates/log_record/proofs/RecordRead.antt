@@ -8,18 +8,10 @@ use Rattle.frang_base.specs.declared.change.Patch.{Patch}
 use Rattle.frang_base.specs.declared.change.Change.{Change}
 use Rattle.sector_bytes.specs.Bytes.{AreBytes}
 use Rattle.frang_base.specs.declared.change.Redo.{Redo}
+use Rattle.frang_base.proofs.Tests.{map_some, then_some}
 use Rattle.disk_definitions.specs.Records.{Read, all_read, bytes_read, change_bytes, change_read, number_read, patch_bytes, patch_read, record_bytes, record_fits, record_in, whole_record, IsRecordBody}
 use Rattle.log_record.proofs.NumbersRead.{taken, number_is, bytes_is}
 use Rattle.log_record.proofs.RecordBack.{record_back}
-
--- what was there where something came of it
-went_on : {A B : Type 0} (f : A → Option B) (o : Option A) (y : B) → option_and_then f o ≡ Some y → (x : A) × (o ≡ Some x) × (f x ≡ Some y)
-went_on f None y e = cc
-went_on f (Some x) y e = (x, refl, e)
-
-was_mapped : {A B : Type 0} (f : A → B) (o : Option A) (y : B) → option_map f o ≡ Some y → (x : A) × (o ≡ Some x) × (f x ≡ y)
-was_mapped f None y e = cc
-was_mapped f (Some x) y e = (x, refl, cc)
 
 some_of : {A : Type 0} {x y : A} → Some x ≡ Some y → x ≡ y
 some_of e = cc
@@ -33,8 +25,8 @@ all_is : {A : Type 0} (one : List ℕ → Read A) (write : A → List ℕ) → U
 all_is {A} one write undoes zero bytes xs rest f e =
     subst (λ (y : List A × List ℕ). (bytes ≡ flat_map write y.0 ++ y.1) × AreBytes y.1 × (length y.0 ≡ 0)) (some_of e) (refl, f, refl)
 all_is {A} one write undoes (suc n) bytes xs rest f e =
-    let a = went_on (λ (x : A × List ℕ). option_map (λ (ys : List A × List ℕ). (x.0 ∷ ys.0, ys.1)) (all_read one n x.1)) (one bytes) (xs, rest) e in
-    let b = was_mapped (λ (ys : List A × List ℕ). (a.0.0 ∷ ys.0, ys.1)) (all_read one n a.0.1) (xs, rest) a.2 in
+    let a = then_some (λ (x : A × List ℕ). option_map (λ (ys : List A × List ℕ). (x.0 ∷ ys.0, ys.1)) (all_read one n x.1)) (one bytes) (xs, rest) e in
+    let b = map_some (λ (ys : List A × List ℕ). (a.0.0 ∷ ys.0, ys.1)) (all_read one n a.0.1) (xs, rest) a.2 in
     let first = undoes bytes a.0.0 a.0.1 f a.1 in
     let others = all_is one write undoes n a.0.1 b.0.0 b.0.1 first.1 b.1 in
     let joined = first.0 ∙ ap (λ ys. write a.0.0 ++ ys) others.0 ∙ sym (append_assoc (write a.0.0) (flat_map write b.0.0) b.0.1) in
@@ -42,9 +34,9 @@ all_is {A} one write undoes (suc n) bytes xs rest f e =
 
 patch_is : Undoes patch_read patch_bytes
 patch_is bytes p rest f e =
-    let a = went_on (λ (at : ℕ × List ℕ). option_and_then (λ (n : ℕ × List ℕ). option_map (λ (b : List ℕ × List ℕ). (record { at = at.0; bytes = b.0 }, b.1)) (bytes_read n.0 n.1)) (number_read 2 at.1)) (number_read 2 bytes) (p, rest) e in
-    let b = went_on (λ (n : ℕ × List ℕ). option_map (λ (b : List ℕ × List ℕ). (record { at = a.0.0; bytes = b.0 }, b.1)) (bytes_read n.0 n.1)) (number_read 2 a.0.1) (p, rest) a.2 in
-    let c = was_mapped (λ (b : List ℕ × List ℕ). (record { at = a.0.0; bytes = b.0 }, b.1)) (bytes_read b.0.0 b.0.1) (p, rest) b.2 in
+    let a = then_some (λ (at : ℕ × List ℕ). option_and_then (λ (n : ℕ × List ℕ). option_map (λ (b : List ℕ × List ℕ). (record { at = at.0; bytes = b.0 }, b.1)) (bytes_read n.0 n.1)) (number_read 2 at.1)) (number_read 2 bytes) (p, rest) e in
+    let b = then_some (λ (n : ℕ × List ℕ). option_map (λ (b : List ℕ × List ℕ). (record { at = a.0.0; bytes = b.0 }, b.1)) (bytes_read n.0 n.1)) (number_read 2 a.0.1) (p, rest) a.2 in
+    let c = map_some (λ (b : List ℕ × List ℕ). (record { at = a.0.0; bytes = b.0 }, b.1)) (bytes_read b.0.0 b.0.1) (p, rest) b.2 in
     let at = number_is 2 bytes a.0.0 a.0.1 f a.1 in
     let count = number_is 2 a.0.1 b.0.0 b.0.1 at.1 b.1 in
     let held = bytes_is b.0.0 b.0.1 c.0.0 c.0.1 count.1 c.1 in
@@ -54,10 +46,10 @@ patch_is bytes p rest f e =
 change_is : Undoes change_read change_bytes
 change_is bytes c rest f e =
     let with_patches : ℕ → ℕ → List Patch × List ℕ → Change × List ℕ = λ s v ps. (record { sector = record { 0 = s }; version = v; patches = ps.0 }, ps.1) in
-    let s = went_on (λ (s : ℕ × List ℕ). option_and_then (λ (v : ℕ × List ℕ). option_and_then (λ (n : ℕ × List ℕ). option_map (with_patches s.0 v.0) (all_read patch_read n.0 n.1)) (number_read 2 v.1)) (number_read 8 s.1)) (number_read 8 bytes) (c, rest) e in
-    let v = went_on (λ (v : ℕ × List ℕ). option_and_then (λ (n : ℕ × List ℕ). option_map (with_patches s.0.0 v.0) (all_read patch_read n.0 n.1)) (number_read 2 v.1)) (number_read 8 s.0.1) (c, rest) s.2 in
-    let n = went_on (λ (n : ℕ × List ℕ). option_map (with_patches s.0.0 v.0.0) (all_read patch_read n.0 n.1)) (number_read 2 v.0.1) (c, rest) v.2 in
-    let ps = was_mapped (with_patches s.0.0 v.0.0) (all_read patch_read n.0.0 n.0.1) (c, rest) n.2 in
+    let s = then_some (λ (s : ℕ × List ℕ). option_and_then (λ (v : ℕ × List ℕ). option_and_then (λ (n : ℕ × List ℕ). option_map (with_patches s.0 v.0) (all_read patch_read n.0 n.1)) (number_read 2 v.1)) (number_read 8 s.1)) (number_read 8 bytes) (c, rest) e in
+    let v = then_some (λ (v : ℕ × List ℕ). option_and_then (λ (n : ℕ × List ℕ). option_map (with_patches s.0.0 v.0) (all_read patch_read n.0 n.1)) (number_read 2 v.1)) (number_read 8 s.0.1) (c, rest) s.2 in
+    let n = then_some (λ (n : ℕ × List ℕ). option_map (with_patches s.0.0 v.0.0) (all_read patch_read n.0 n.1)) (number_read 2 v.0.1) (c, rest) v.2 in
+    let ps = map_some (with_patches s.0.0 v.0.0) (all_read patch_read n.0.0 n.0.1) (c, rest) n.2 in
     let sector = number_is 8 bytes s.0.0 s.0.1 f s.1 in
     let version = number_is 8 s.0.1 v.0.0 v.0.1 sector.1 v.1 in
     let count = number_is 2 v.0.1 n.0.0 n.0.1 version.1 n.1 in
@@ -83,7 +75,7 @@ record_in_is bytes = go (number_read 2 bytes)
 -- the bytes of the changes that are read
 pub changes_are : (bytes : List ℕ) (changes : List Change) (rest : List ℕ) → AreBytes bytes → changes_read bytes ≡ Some (changes, rest) → bytes ≡ record_bytes changes ++ rest
 changes_are bytes changes rest f e =
-    let n = went_on (λ (n : ℕ × List ℕ). all_read change_read n.0 n.1) (number_read 2 bytes) (changes, rest) e in
+    let n = then_some (λ (n : ℕ × List ℕ). all_read change_read n.0 n.1) (number_read 2 bytes) (changes, rest) e in
     let count = number_is 2 bytes n.0.0 n.0.1 f n.1 in
     let all = all_is change_read change_bytes change_is n.0.0 n.0.1 changes rest count.1 n.2 in
     count.0 ∙ ap (λ ys. little_bytes 2 n.0.0 ++ ys) all.0 ∙ ap (λ k. little_bytes 2 k ++ (flat_map change_bytes changes ++ rest)) (sym all.2)
@@ -97,7 +89,7 @@ whole_is (xs, b ∷ rest) changes = λ e. cc
 
 pub record_read : (bytes : List ℕ) (changes : List Change) → AreBytes bytes → record_in bytes ≡ Some changes → IsRecordBody bytes changes
 record_read bytes changes f e =
-    let all = went_on whole_record (changes_read bytes) changes (sym (record_in_is bytes) ∙ e) in
+    let all = then_some whole_record (changes_read bytes) changes (sym (record_in_is bytes) ∙ e) in
     let whole = whole_is all.0 changes all.2 in
     let body = changes_are bytes changes [] f (all.1 ∙ ap (λ (x : List Change × List ℕ). Some x) whole.0) in
     (body ∙ append-nil (record_bytes changes), whole.1)
@@ -110,5 +102,5 @@ record_once bytes xs ys h g =
 pub decoded_fits : (bytes : List ℕ) (r : Redo) → AreBytes bytes → option_map (λ changes. record { op = record { 0 = 0 }; changes = changes }) (record_in bytes) ≡ Some r
     → record_fits r.changes ≡ true
 decoded_fits bytes r f e =
-    let a = was_mapped (λ (changes : List Change). record { op = record { 0 = 0 }; changes = changes }) (record_in bytes) r e in
+    let a = map_some (λ (changes : List Change). record { op = record { 0 = 0 }; changes = changes }) (record_in bytes) r e in
     ap (λ (x : Redo). record_fits x.changes) (sym a.2) ∙ (record_read bytes a.0 f a.1).1

@@ -1,6 +1,7 @@
 -- The disk with the changes and the bytes of edits says what the edited store does, is in its grammar, and its versions rise by one at most.
 use Rattle.std.proofs.Common.{◌≡◌, ℕ, ◌+◌, ◌*◌, ◌/◌, ◌%◌, ◌^◌, ◌<◌, ◌≤◌, Bool, true, false, ◌&&◌, if◌then◌else◌, ⊎_elim, List, length, drop, refl, sym, ap, ◌∙◌, subst, arith}
 use Rattle.std.proofs.lemmas.Bool.{cases_lt, le-ltb}
+use Rattle.frang_base.proofs.Tests.{some_there}
 use Rattle.disk_definitions.specs.declared.region.Region.TheVariants as region
 use Rattle.disk_definitions.specs.Regions.{sector_of}
 use Rattle.sector_bytes.specs.Bytes.{number_at}
@@ -13,7 +14,6 @@ use Rattle.disk_definitions.specs.Store.Use.{Fresh}
 use Rattle.disk_definitions.specs.Standing.{IsMetadata, IsInGrammar, HasVersionsUpTo, version_at}
 use Rattle.disk_definitions.specs.Edits.{Edit}
 use Rattle.disk_definitions.specs.ChangeLaws.{SaysTheSame}
-use Rattle.disk_definitions.proofs.Free.{a_some}
 use Rattle.disk_definitions.specs.Written.{all_edited, forced_in}
 use Rattle.plan_fit.specs.Says.{Says}
 use Rattle.disk_definitions.specs.Ready.{store_after, disk_after, IsReady, RisesByOne}
@@ -69,28 +69,28 @@ module _ (most segments : ℕ) (sectors : Sectors) (edits : List Edit) (h : IsRe
   segment_next : (k : ℕ) → k < segments → IsNext (version_at sectors (sector_of (region.Segment k))) (disk (sector_of (region.Segment k))) (new (sector_of (region.Segment k)))
   segment_next k l =
       let s : ℕ = sector_of (region.Segment k) in
-      let x = a_some (segment_at sectors k) (h.grammar.bitmaps k l) in
-      let y = a_some (segment_at new k) (done.in_segments.grammar k l) in
+      let x = some_there (segment_at sectors k) (h.grammar.bitmaps k l) in
+      let y = some_there (segment_at new k) (done.in_segments.grammar k l) in
       next s (length_bitmap (new s) y.0 y.1) (bitmap_begins (sectors s) x.0 x.1) (h.versions.bitmaps k l) (misses segments end false (region.Segment k) edits h.few (in_segment segments k l) h.fit (no_bytes_segment end k))
 
   inode_next : (i : ℕ) → i < 64 * segments → IsNext (version_at sectors (sector_of (region.Inode i))) (disk (sector_of (region.Inode i))) (new (sector_of (region.Inode i)))
   inode_next i l =
       let s : ℕ = sector_of (region.Inode i) in
-      let x = a_some (inode_in (sectors s)) (h.grammar.inodes i l) in
+      let x = some_there (inode_in (sectors s)) (h.grammar.inodes i l) in
       next s (long_inodes segments end (store_of segments sectors) sectors edits h.few start h.fit (λ j m. h.whole (sector_of (region.Inode j))) i l) (inode_begins (sectors s) x.0 x.1) (h.versions.inodes i l)
       (misses segments end false (region.Inode i) edits h.few (in_inode segments i l) h.fit (no_bytes_inode end i))
 
   directory_next : (k p : ℕ) → k < 1024 * segments → p < 8 → IsMetadata (end.use_of k) → IsNext (version_at sectors (sector_of (region.Small k p))) (disk (sector_of (region.Small k p))) (new (sector_of (region.Small k p)))
   directory_next k p l m d =
       let s : ℕ = sector_of (region.Small k p) in
-      let x = a_some (directory_at sectors k p) (h.directories k p l m d) in
-      let y = a_some (directory_at new k p) (done.in_places.grammar k p l m d) in
+      let x = some_there (directory_at sectors k p) (h.directories k p l m d) in
+      let y = some_there (directory_at new k p) (done.in_places.grammar k p l m d) in
       next s (length_directory (new s) y.0 y.1) (directory_begins (sectors s) x.0 x.1) (h.directory_versions k p l m d) (misses segments end false (region.Small k p) edits h.few (in_small segments k p l m) h.fit (no_bytes_directory end k p d))
 
   segment_near : (k : ℕ) → k < segments → NearSegments (segment_at new k) (segment_at disk k)
   segment_near k l =
       let s : ℕ = sector_of (region.Segment k) in
-      let y = a_some (segment_at new k) (done.in_segments.grammar k l) in
+      let y = some_there (segment_at new k) (done.in_segments.grammar k l) in
       let n = segment_next k l in
       let le : n.version ≤ version_at sectors s + 1 = n.most in
       let low : version_at sectors s ≤ most = h.versions.bitmaps k l in
@@ -100,7 +100,7 @@ module _ (most segments : ℕ) (sectors : Sectors) (edits : List Edit) (h : IsRe
   inode_near : (i : ℕ) → i < 64 * segments → NearInodes (inode_in (new (sector_of (region.Inode i)))) (inode_in (disk (sector_of (region.Inode i))))
   inode_near i l =
       let s : ℕ = sector_of (region.Inode i) in
-      let y = a_some (inode_in (new s)) (done.in_inodes.grammar i l) in
+      let y = some_there (inode_in (new s)) (done.in_inodes.grammar i l) in
       let n = inode_next i l in
       let le : n.version ≤ version_at sectors s + 1 = n.most in
       let low : version_at sectors s ≤ most = h.versions.inodes i l in
@@ -110,7 +110,7 @@ module _ (most segments : ℕ) (sectors : Sectors) (edits : List Edit) (h : IsRe
   directory_near : (k p : ℕ) → k < 1024 * segments → p < 8 → IsMetadata (end.use_of k) → NearDirectories (directory_at new k p) (directory_at disk k p)
   directory_near k p l m d =
       let s : ℕ = sector_of (region.Small k p) in
-      let y = a_some (directory_at new k p) (done.in_places.grammar k p l m d) in
+      let y = some_there (directory_at new k p) (done.in_places.grammar k p l m d) in
       let n = directory_next k p l m d in
       let le : n.version ≤ version_at sectors s + 1 = n.most in
       let low : version_at sectors s ≤ most = h.directory_versions k p l m d in

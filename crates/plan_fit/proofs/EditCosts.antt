@@ -4,6 +4,7 @@ use Rattle.std.specs.List.{flat_map}
 use Rattle.std.proofs.Math.ListN.{length-set}
 use Rattle.byteorder.specs.Endian.{little_bytes}
 use Rattle.frang_base.specs.declared.bitmap.Bitmap.{Bitmap}
+use Rattle.frang_base.proofs.Tests.{some_there}
 use Rattle.disk_definitions.specs.declared.directory.DirEntry.{DirEntry}
 use Rattle.disk_definitions.specs.declared.directory.DirSector.{DirSector}
 use Rattle.disk_definitions.specs.declared.region.Region.TheVariants as region
@@ -19,7 +20,6 @@ use Rattle.disk_definitions.specs.Store.{Store, StoredEntry, segment_at, directo
 use Rattle.disk_definitions.specs.Standing.{version_at}
 use Rattle.disk_definitions.specs.Edits.{Edit}
 use Rattle.disk_definitions.specs.Edits.Edit.{SetInode, SetBit, SetUse, SetPlace, SetLarge, SetBytes, SetLargeBytes}
-use Rattle.disk_definitions.proofs.Free.{a_some}
 use Rattle.disk_definitions.specs.Written.{state_of, place_with, with_place, edit_sector, edited_block}
 use Rattle.disk_definitions.specs.FitEdits.{IsFitEdit, MeetsUse}
 use Rattle.plan_fit.specs.Says.{Says}
@@ -124,7 +124,7 @@ place_differs block x p o h may =
 module _ (segments : ℕ) (end s : Store) (sectors : Sectors) (h : Says segments end sectors s) where
   in_segment : (k : ℕ) (f : Bitmap → Bitmap) (n : ℕ) → k < segments → ((x : Bitmap) → differing (bitmap_bytes x) (bitmap_bytes (f x)) ≤ n)
       → differing (sectors (sector_of (region.Segment k))) (bitmap_bytes (f (bitmap_fields (sectors (sector_of (region.Segment k)))))) ≤ n
-  in_segment k f n l each = let x = a_some (segment_at sectors k) (h.in_segments.grammar k l) in segment_differs (sectors (sector_of (region.Segment k))) x.0 f n x.1 (each x.0)
+  in_segment k f n l each = let x = some_there (segment_at sectors k) (h.in_segments.grammar k l) in segment_differs (sectors (sector_of (region.Segment k))) x.0 f n x.1 (each x.0)
 
   pub part_differs : (e : Edit) → IsFitEdit segments e → MeetsUse end e → is_partial e ≡ true → differing (sectors (edit_sector e)) (edited_block (sectors (edit_sector e)) (version_at sectors (edit_sector e)) e) ≤ most_in e
   part_differs (SetInode i x dated) fit meets t = absurd cc
@@ -133,7 +133,7 @@ module _ (segments : ℕ) (end s : Store) (sectors : Sectors) (h : Says segments
   part_differs (SetPlace k p o) fit meets t =
       let f = fit_place segments k p o fit in
       let lp : p < 56 = f.1 in
-      let x = a_some (directory_at sectors k (p / 7)) (h.in_places.grammar k (p / 7) f.0 (omega arith) meets) in
+      let x = some_there (directory_at sectors k (p / 7)) (h.in_places.grammar k (p / 7) f.0 (omega arith) meets) in
       place_differs (sectors (sector_of (region.Small k (p / 7)))) x.0 (p % 7) o x.1 f.2
   part_differs (SetLarge g b) fit meets t = in_segment g (λ x. with_large x b) 1 fit (λ x. large_differs x b)
   part_differs (SetBytes k part bytes) fit meets t = absurd cc

@@ -1,6 +1,7 @@
 -- The sectors after an edit, and after several, say what the edited store does.
 use Rattle.std.proofs.Common.{◌≡◌, ℕ, ◌*◌, ◌/◌, ◌%◌, ◌^◌, ◌<◌, ◌≤◌, Bool, true, Option, Some, None, List, [], ◌∷◌, length, refl, sym, ap, ◌∙◌, subst, arith}
 use Rattle.frang_base.specs.declared.bitmap.Bitmap.{Bitmap}
+use Rattle.frang_base.proofs.Tests.{some_there}
 use Rattle.disk_definitions.specs.declared.region.Region.{Region}
 use Rattle.disk_definitions.specs.declared.region.Region.TheVariants as region
 use Rattle.disk_definitions.specs.Regions.{sector_of, is_in_range}
@@ -16,7 +17,6 @@ use Rattle.disk_definitions.specs.Standing.{IsMetadata, version_at}
 use Rattle.disk_definitions.specs.Taken.{with_inode, with_state, with_large}
 use Rattle.disk_definitions.specs.Edits.{Edit, edited}
 use Rattle.disk_definitions.specs.Edits.Edit.{SetInode, SetBit, SetUse, SetPlace, SetLarge, SetBytes, SetLargeBytes}
-use Rattle.disk_definitions.proofs.Free.{a_some}
 use Rattle.disk_definitions.specs.Written.{state_of, edited_sectors}
 use Rattle.disk_definitions.specs.FitEdits.{IsFitEdit}
 use Rattle.plan_fit.specs.Says.{SegmentsSay, InodesSay, PlacesSay, BytesSay, LargeBytesSay, Says}
@@ -62,7 +62,7 @@ module _ (segments : ℕ) (end : Store) (sectors : Sectors) (s : Store) (few : s
   segment_changed : (q : ℕ) (f : Bitmap → Bitmap) → q < segments → edit_region e ≡ region.Segment q → after (sector_of (region.Segment q)) ≡ bitmap_bytes (f (bitmap_fields (sectors (sector_of (region.Segment q)))))
       → ((y : Bitmap) → IsStorableBitmap y → IsStorableBitmap (f y)) → (x : Bitmap) × OneChanged segments sectors after q x (f x) × IsStorableBitmap x
   segment_changed q f l at is keeps =
-      let x = a_some (segment_at sectors q) (h.in_segments.grammar q l) in (
+      let x = some_there (segment_at sectors q) (h.in_segments.grammar q l) in (
         x.0,
         record {
           within = l;
@@ -76,7 +76,7 @@ module _ (segments : ℕ) (end : Store) (sectors : Sectors) (s : Store) (few : s
   -- the version of an inode fits its field
   pub inode_small : (i : ℕ) → i < 64 * segments → version_at sectors (sector_of (region.Inode i)) < 2 ^ 64
   inode_small i l =
-      let x = a_some (inode_in (sectors (sector_of (region.Inode i)))) (h.in_inodes.grammar i l) in
+      let x = some_there (inode_in (sectors (sector_of (region.Inode i)))) (h.in_inodes.grammar i l) in
       let small : x.0.version < 2 ^ 64 = inode_version (sectors (sector_of (region.Inode i))) x.0 x.1 in
       subst (λ (n : ℕ). n < 2 ^ 64) (sym (ap (number_at 8 0) (inode_read (sectors (sector_of (region.Inode i))) x.0 x.1).0 ∙ version_back x.0.version [] small)) small
 
@@ -136,7 +136,7 @@ module _ (segments : ℕ) (end s : Store) (sectors : Sectors) (few : segments �
       let e : Edit = SetPlace k p o in
       let f = fit_place segments k p o fit in
       let lp : p < 56 = f.1 in
-      let x = a_some (directory_at sectors k (p / 7)) (h.in_places.grammar k (p / 7) f.0 (omega arith) meets) in
+      let x = some_there (directory_at sectors k (p / 7)) (h.in_places.grammar k (p / 7) f.0 (omega arith) meets) in
       let block : List ℕ = sectors (sector_of (region.Small k (p / 7))) in
       record {
         in_segments = same_segments segments end sectors s few h e fit (λ k g. cc);

@@ -4,6 +4,7 @@ use Rattle.std.proofs.lemmas.Bool.Decides.{nat_tests}
 use Rattle.std.proofs.lemmas.Bool.{eqb-false}
 use Rattle.frang_base.specs.Name.{is_name}
 use Rattle.frang_base.specs.declared.reply.Reply.TheVariants as reply
+use Rattle.frang_base.proofs.Tests.{some_there}
 use Rattle.tree_definitions.specs.declared.node.Node.{Node}
 use Rattle.tree_definitions.specs.declared.node.Node.TheVariants.{Dir}
 use Rattle.tree_definitions.specs.Entries.{Entries, entry_at}
@@ -14,7 +15,6 @@ use Rattle.disk_definitions.specs.Store.{Store, StoredNode, StoredEntry}
 use Rattle.disk_definitions.specs.Naming.{Naming, kind_of, entry_of}
 use Rattle.disk_definitions.specs.Edits.{edited_all}
 use Rattle.disk_definitions.specs.Changes.{relink}
-use Rattle.disk_definitions.proofs.Free.{a_some}
 use Rattle.disk_definitions.proofs.Kept.{inode_is}
 use Rattle.disk_definitions.specs.Ask.{bind, run}
 use Rattle.disk_definitions.specs.Walks.{AtName, AtGap, walk}
@@ -109,7 +109,7 @@ module _ (h : Hand) (s : Store) (tree : FileTree) (n : Naming) (of : IsOfTree s 
       go : (c : Bool) → n.kind b == 2 ≡ c → PlanIsFit h tree.segments s (run (if c then refused reply.IsDir dirs else bind (walk to) (λ w. linking_to h (n.inode b) (dirs ++ w.dirs) w.spot)) s)
       go true e = refuse_fits h tree.segments s reply.IsDir dirs
       go false e =
-          let r = a_some (node_at tree b) (names_nodes tree of.well_formed d entries blocks name b is had) in
+          let r = some_there (node_at tree b) (names_nodes tree of.well_formed d entries blocks name b is had) in
           let kind : n.kind b ≡ (inode_by n b r.0).kind = of.pictures.kinds b r.0 r.1 ∙ sym (kind_are n b r.0) in
           linking_to_fits to names dirs b r.0 r.1 (subst (λ k. k ≢ 2) kind (eqb-false (n.kind b) 2 e))
 

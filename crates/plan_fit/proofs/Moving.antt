@@ -2,6 +2,7 @@
 use Rattle.std.proofs.Common.{◌≡◌, ℕ, ◌-◌, ◌*◌, ◌/◌, ◌≤◌, inl, Bool, true, false, not, ◌&&◌, ◌==◌, nat_lt, if◌then◌else◌, Some, List, [], ◌∷◌, ◌++◌, length, refl, sym, ◌∙◌, ap, subst, arith}
 use Rattle.frang_base.specs.Name.{is_name}
 use Rattle.frang_base.specs.declared.reply.Reply.TheVariants as reply
+use Rattle.frang_base.proofs.Tests.{some_there}
 use Rattle.tree_definitions.specs.declared.node.Node.{Node}
 use Rattle.tree_definitions.specs.declared.node.Node.TheVariants.{Dir}
 use Rattle.tree_definitions.specs.Entries.{Entries, entry_at}
@@ -11,7 +12,6 @@ use Rattle.disk_definitions.specs.Store.{Store, StoredNode}
 use Rattle.disk_definitions.specs.Naming.{Naming, entry_of}
 use Rattle.disk_definitions.specs.Edits.{edited_all}
 use Rattle.disk_definitions.specs.Changes.{take_entry, replace_entry}
-use Rattle.disk_definitions.proofs.Free.{a_some}
 use Rattle.disk_definitions.proofs.Kept.{inode_is}
 use Rattle.disk_definitions.proofs.Puts.{edited_append}
 use Rattle.disk_definitions.specs.Ask.{Got, ReadInode, bind, run}
@@ -38,7 +38,7 @@ module _ (h : Hand) (s : Store) (tree : FileTree) (n : Naming) (of : IsOfTree s 
   m = moving_of n from fblocks fentries name b
 
   moved_fits : IsFitEntry (entry_of n new b)
-  moved_fits = let r = a_some (node_at tree b) (names_nodes tree of.well_formed from fentries fblocks name b fis fhad) in entry_fits s tree n of fit new b r.0 r.1 named
+  moved_fits = let r = some_there (node_at tree b) (names_nodes tree of.well_formed from fentries fblocks name b fis fhad) in entry_fits s tree n of fit new b r.0 r.1 named
 
   from_placed : IsPlaced tree.segments s (m.directory.small (m.slot / 56))
   from_placed = placed s tree n of fit from fblocks fentries fis m.slot (spot_inside s tree n of fit from fblocks fentries fis name b fhad)
@@ -128,7 +128,7 @@ module _ (h : Hand) (s : Store) (tree : FileTree) (n : Naming) (of : IsOfTree s 
       onto_read = subst (λ o. PlanIsFit h tree.segments s (run (replacing_node m (n.inode to) z new (n.spot to new) (n.inode old) dirs o) s)) (sym (inode_is s (node_at tree) n of.pictures old node at)) (by_size (y.kind == 2 && nat_lt 0 y.size))
 
     onto_any : PlanIsFit h tree.segments s (run (ReadInode (n.inode old) (replacing_node m (n.inode to) z new (n.spot to new) (n.inode old) dirs)) s)
-    onto_any = let r = a_some (node_at tree old) (names_nodes tree of.well_formed to entries blocks new old is had) in onto_read r.0 r.1
+    onto_any = let r = some_there (node_at tree old) (names_nodes tree of.well_formed to entries blocks new old is had) in onto_read r.0 r.1
 
     refused_or : (a c e : Bool) → PlanIsFit h tree.segments s (run (if a then refused reply.Ok dirs else (if c then refused reply.NotDir dirs else (if e then refused reply.IsDir dirs else ReadInode (n.inode old) (replacing_node m (n.inode to) z new (n.spot to new) (n.inode old) dirs)))) s)
     refused_or true c e = refuse_fits h tree.segments s reply.Ok dirs

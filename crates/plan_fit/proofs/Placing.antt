@@ -8,7 +8,7 @@ use Rattle.disk_definitions.specs.Store.{Store, StoredNode}
 use Rattle.disk_definitions.specs.Store.Use.{Bytes}
 use Rattle.disk_definitions.specs.Standing.{IsMetadata}
 use Rattle.disk_definitions.specs.Edits.{Edit, edited_all}
-use Rattle.disk_definitions.specs.Edits.Edit.{SetUse, SetLarge, SetBytes, SetLargeBytes}
+use Rattle.disk_definitions.specs.Edits.Edit.{SetUse, SetBytes, SetLargeBytes}
 use Rattle.disk_definitions.proofs.Puts.{edited_append}
 use Rattle.disk_definitions.specs.Ask.{Ask, Got}
 use Rattle.disk_definitions.specs.Plans.{Hand, Plan}
@@ -19,6 +19,7 @@ use Rattle.plan_laws.proofs.Among.{is_among, among_at, listed}
 use Rattle.plan_laws.proofs.Setting.{IsSet, set_edits, all_set}
 use Rattle.plan_laws.proofs.Sectors.{old_sector, sector_edits, run-writes, bytes_only}
 use Rattle.plan_laws.proofs.Written.{met_some}
+use Rattle.plan_laws.proofs.Placing.{taken_is}
 use Rattle.disk_definitions.specs.FitPlans.{PlanIsFit, IsFitFinish}
 use Rattle.plan_fit.proofs.Refused.{Fits}
 use Rattle.plan_fit.proofs.FileNodes.{goes_by_size, resized_fits}
@@ -34,10 +35,6 @@ pub record ArePicks (g more : ℕ) (picks : List ℕ) : Type 0 where
 abbrev pub TakesLarge : ℕ → StoredNode → ℕ → Option ℕ → Type 0
 TakesLarge g x size None = 65536 < size → 0 < x.large
 TakesLarge g x size (Some k) = k < g
-
-taken_is : (o : Option ℕ) → large_taken o ≡ map (λ k. SetLarge k true) (large_segment o)
-taken_is None = refl
-taken_is (Some k) = refl
 
 -- the large block of a long file is in use at the end
 large_end : (g : ℕ) (x : StoredNode) (size : ℕ) (bit old : ℕ → Bool) → 65536 < size → (0 < x.large → (x.large - 1 < g) × (old (x.large - 1) ≡ true)) → (q : Option ℕ) → TakesLarge g x size q →

@@ -1,6 +1,7 @@
 -- The plans of unlink and rmdir are fit.
 use Rattle.std.proofs.Common.{◌≡◌, ◌≢◌, ℕ, ◌-◌, ◌*◌, ◌/◌, ◌≤◌, inl, Bool, true, false, ◌==◌, nat_lt, if◌then◌else◌, Some, List, [], ◌∷◌, ◌++◌, length, refl, sym, ◌∙◌, ap, subst, arith, is_some}
 use Rattle.frang_base.specs.declared.reply.Reply.TheVariants as reply
+use Rattle.frang_base.proofs.Tests.{some_there}
 use Rattle.tree_definitions.specs.declared.node.Node.{Node}
 use Rattle.tree_definitions.specs.declared.node.Node.TheVariants.{Dir, File, Link}
 use Rattle.tree_definitions.specs.Entries.{Entries, entry_at}
@@ -11,7 +12,6 @@ use Rattle.disk_definitions.specs.Store.{Store, StoredNode}
 use Rattle.disk_definitions.specs.Naming.{Naming, entry_of}
 use Rattle.disk_definitions.specs.Edits.{edited_all}
 use Rattle.disk_definitions.specs.Changes.{take_entry}
-use Rattle.disk_definitions.proofs.Free.{a_some}
 use Rattle.disk_definitions.proofs.Kept.{inode_is}
 use Rattle.disk_definitions.proofs.Puts.{edited_append}
 use Rattle.disk_definitions.specs.Ask.{Got, ReadInode, run}
@@ -90,13 +90,13 @@ module _ (h : Hand) (s : Store) (tree : FileTree) (n : Naming) (of : IsOfTree s 
     where
       go : (c : Bool) → PlanIsFit h tree.segments s (run (if c then refused reply.IsDir dirs else ReadInode (n.inode b) (unlinking_node (n.inode d) x (n.spot d name) (n.inode b) dirs)) s)
       go true = refuse_fits h tree.segments s reply.IsDir dirs
-      go false = let r = a_some (node_at tree b) there in unlinking_read r.0 r.1
+      go false = let r = some_there (node_at tree b) there in unlinking_read r.0 r.1
 
   pub removing_fits : PlanIsFit h tree.segments s (run (removing dirs (AtName (n.inode d) x name (n.spot d name) (entry_of n name b))) s)
   removing_fits = go (n.kind b == 2)
     where
       go : (c : Bool) → PlanIsFit h tree.segments s (run (if c then ReadInode (n.inode b) (removing_node (n.inode d) x (n.spot d name) (n.inode b) dirs) else refused reply.NotDir dirs) s)
-      go true = let r = a_some (node_at tree b) there in removing_read r.0 r.1
+      go true = let r = some_there (node_at tree b) there in removing_read r.0 r.1
       go false = refuse_fits h tree.segments s reply.NotDir dirs
 
 pub unlink_fits : UnlinkIsFit

@@ -1,6 +1,7 @@
 -- As many large blocks and small blocks of bytes are in use as the tree has, and each small block is free for bytes, holds bytes, or is or was a directory's.
 use Rattle.std.proofs.Common.{ℕ, zero, suc, ◌≡◌, ◌<◌, ◌+◌, ◌*◌, Bool, true, false, nat_lt, if◌then◌else◌, Option, Some, None, length, refl, sym, ◌∙◌, ap, arith, is_some}
 use Rattle.std.specs.Option.{option_map}
+use Rattle.frang_base.proofs.Tests.{some_there}
 use Rattle.tree_definitions.specs.declared.node.Node.{Node}
 use Rattle.tree_definitions.specs.declared.node.Node.TheVariants.{Dir, File, Link}
 use Rattle.tree_definitions.specs.Tree.{FileTree, node_at, count_of, file_blocks, large_blocks}
@@ -9,7 +10,6 @@ use Rattle.disk_definitions.specs.Store.Use.{Fresh, Bytes, Empty, Entries}
 use Rattle.disk_definitions.specs.Naming.{Naming, blocks_of, has_large, use_by, use_for}
 use Rattle.disk_definitions.specs.Least.{count, one_if}
 use Rattle.disk_definitions.proofs.PickCounts.{count_zero, count_more}
-use Rattle.disk_definitions.proofs.Free.{a_some}
 use Rattle.disk_definitions.specs.Meets.{IsOfTree, is_directory_use}
 use Rattle.plan_laws.proofs.Blocks.{IsBlockOf, count_blocks}
 use Rattle.plan_laws.proofs.Totals.{in_range}
@@ -115,7 +115,7 @@ module _ (s : Store) (tree : FileTree) (n : Naming) (of : IsOfTree s tree n) whe
         into = λ b j x i l. (of.larges (n.large b) (its_bit b j x i l), its_bit b j x i l);
         owned = λ b j x i l. ap (option_map (λ b. (b, 0))) (its_owner b j x i l) ∙ ap (λ k. Some (b, k)) (sym (has_one x j l).0);
         onto = λ q l e.
-            let b = a_some (n.large_owner q) (sym (of.pictures.large_bits q) ∙ e) in
+            let b = some_there (n.large_owner q) (sym (of.pictures.large_bits q) ∙ e) in
             let r = of.pictures.large_owners q b.0 b.1 in
             let y = one_had (node_at tree b.0) r.1 in
             record { birth = b.0; index = 0; node = y.0; is = y.1; below = y.2; at = r.0 };

@@ -34,6 +34,7 @@ use Rattle.plan_laws.proofs.Changes.{Changes, inode_changes, before_uses, before
 use Rattle.plan_laws.proofs.Sound.{none_sound, one_of}
 use Rattle.plan_laws.proofs.OnDisk.{one_small, one_large, nobodys, no_ones}
 use Rattle.plan_laws.proofs.NamesSound.{IsSoundPlan, Ends, then_sound, none_ends}
+use Rattle.plan_laws.proofs.Placing.{taken_is}
 
 -- ---- a file's inode, with small blocks of one use and large blocks of one bit
 
@@ -255,10 +256,6 @@ module _ (h : Hand) (s : Store) (tree : FileTree) (n : Naming) (of : IsOfTree s 
         own_large = free_large;
         stay = λ k e d. absurd (let z : is_directory_use (s.use_of k) ≡ false = ap is_directory_use (was_fresh k e) in cc);
       }
-
-      taken_is : (o : Option ℕ) → large_taken o ≡ map (λ k. SetLarge k true) (large_segment o)
-      taken_is None = refl
-      taken_is (Some k) = refl
 
       abbrev blocks : List Edit
       blocks = map (λ k. SetUse k Bytes) picks ++ large_taken o ++ file_dated i y

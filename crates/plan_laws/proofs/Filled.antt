@@ -30,7 +30,7 @@ use Rattle.plan_laws.proofs.Owned.{something_said, small_before, large_before}
 
 -- ---- lists
 
-filter_from : {X Y : Type 0} (f : X → Option Y) (xs : List X) (y : Y) → Contains (filter_map f xs) y → (x : X) × Contains xs x × (f x ≡ Some y)
+pub filter_from : {X Y : Type 0} (f : X → Option Y) (xs : List X) (y : Y) → Contains (filter_map f xs) y → (x : X) × Contains xs x × (f x ≡ Some y)
 filter_from {X} {Y} f [] y c = absurd (not_in_none y c)
 filter_from {X} {Y} f (x ∷ xs) y c = go (f x) refl c (filter_from f xs y)
   where
@@ -38,7 +38,7 @@ filter_from {X} {Y} f (x ∷ xs) y c = go (f x) refl c (filter_from f xs y)
     go None q c rest = let r = rest c in (r.0, has_more x r.0 xs r.1, r.2)
     go (Some v) q c rest = ⊎_elim (λ e. (x, has_head x xs, q ∙ ap Some e)) (λ d. let r = rest d in (r.0, has_more x r.0 xs r.1, r.2)) (has_cases v y (filter_map f xs) c)
 
-flat_from : {X Y : Type 0} (f : X → List Y) (xs : List X) (y : Y) → Contains (flat_map f xs) y → (x : X) × Contains xs x × Contains (f x) y
+pub flat_from : {X Y : Type 0} (f : X → List Y) (xs : List X) (y : Y) → Contains (flat_map f xs) y → (x : X) × Contains xs x × Contains (f x) y
 flat_from f [] y c = absurd (not_in_none y c)
 flat_from f (x ∷ xs) y c = ⊎_elim (λ d. (x, has_head x xs, d)) (λ d. let r = flat_from f xs y d in (r.0, has_more x r.0 xs r.1, r.2)) (either (f x) (flat_map f xs) y c)
 

@@ -8,7 +8,7 @@ use Rattle.std.specs.List.Sorted.{IsStrictlySortedBy}
 use mathlib.Core.Bool.{or-false, or-true}
 use Rattle.frang_base.specs.declared.op.Op.TheVariants as op
 use Rattle.frang_base.specs.declared.reply.Reply.TheVariants as reply
-use Rattle.frang_base.proofs.Tests.{same_tests}
+use Rattle.frang_base.proofs.Tests.{same_tests, some_there}
 use Rattle.tree_definitions.specs.declared.node.Node.{Node}
 use Rattle.tree_definitions.specs.declared.node.Node.TheVariants.{Dir, File, Link}
 use Rattle.tree_definitions.specs.Entries.{Entries, entry_at, with_entry}
@@ -18,7 +18,6 @@ use Rattle.tree_laws.proofs.Pairs.{name_exact, tie, self, found_put, found_other
 use Rattle.tree_laws.proofs.StepsLaws.{apply_keeps}
 use Rattle.disk_definitions.specs.Store.{Store, StoredEntry}
 use Rattle.disk_definitions.specs.Naming.{Naming, find_in, room_in, first_blocks, entry_of, dir_place, kind_of}
-use Rattle.disk_definitions.proofs.Free.{a_some}
 use Rattle.disk_definitions.specs.Ask.{run}
 use Rattle.disk_definitions.specs.Plans.{Hand, refused, refuse}
 use Rattle.disk_definitions.specs.LookPlans.{at_inode, sorted_names, listing}
@@ -69,7 +68,7 @@ module _ (h : Hand) (s : Store) (tree : FileTree) (n : Naming) (of : IsOfTree s 
 
     has_named : (m : List ℕ) → is_some (entry_at entries m) ≡ true → has_name m all ≡ true
     has_named m e =
-        let b = a_some (entry_at entries m) e in
+        let b = some_there (entry_at entries m) e in
         let r = of.pictures.names d b.0 m (rw is b.1) in
         let l : n.spot d m < 56 * blocks = subst (λ y. n.spot d m < 56 * room_in y) is r.0 in
         gathered_has m s (first_blocks blocks (n.block d)) (8 * blocks) 0 (n.spot d m) (entry_of n m b.0) (omega arith) (omega arith)

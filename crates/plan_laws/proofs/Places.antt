@@ -5,6 +5,7 @@ use Rattle.std.specs.Cmp.Lexicographic.{slice_cmp}
 use Rattle.std.specs.List.Sorted.{IsStrictlySortedBy}
 use Rattle.std.specs.Map.{keys_of}
 use Rattle.std.proofs.lemmas.Bool.{lt-leb, le-leb}
+use Rattle.frang_base.proofs.Tests.{some_there}
 use Rattle.tree_definitions.specs.declared.node.Node.TheVariants.{Dir}
 use Rattle.tree_definitions.specs.Entries.{Entries, entry_at}
 use Rattle.tree_definitions.specs.Tree.{must_grow}
@@ -14,7 +15,6 @@ use Rattle.disk_definitions.specs.Naming.{Naming, Nodes, Pictures, find_in, room
 use Rattle.disk_definitions.specs.Least.{least, count}
 use Rattle.disk_definitions.proofs.LeastLaws.{least_some, least_nothing}
 use Rattle.disk_definitions.specs.ChangeLaws.{IsFreePlace}
-use Rattle.disk_definitions.proofs.Free.{a_some}
 use Rattle.disk_definitions.specs.Walks.{is_vacant}
 use Rattle.plan_laws.proofs.Counting.{count_all, count_less, count_keys}
 use Rattle.plan_laws.proofs.Spots.{as_inode}
@@ -31,11 +31,11 @@ module _ (s : Store) (at : Nodes) (n : Naming) (g : Pictures s at n) (d blocks :
 
   pub places_counted : count filled (56 * blocks) ≡ length entries
   places_counted = count_keys (slice_cmp nat_cmp) name_exact (n.spot d) (56 * blocks) entries filled sorted
-      (λ m h. let b = a_some (entry_at entries m) h in let r = named m b.0 b.1 in (r.0, ap is_some r.1))
-      (λ m w h i e. let b = a_some (entry_at entries m) h in let c = a_some (entry_at entries w) i in
+      (λ m h. let b = some_there (entry_at entries m) h in let r = named m b.0 b.1 in (r.0, ap is_some r.1))
+      (λ m w h i e. let b = some_there (entry_at entries m) h in let c = some_there (entry_at entries w) i in
       let z : Some (entry_of n m b.0) ≡ Some (entry_of n w c.0) = sym (named m b.0 b.1).1 ∙ ap (dir_place s n d) e ∙ (named w c.0 c.1).1 in
       let v : entry_of n m b.0 ≡ entry_of n w c.0 = cc in ap (λ u. u.name) v)
-      (λ q l h. let e = a_some (dir_place s n d q) h in let r = placed q e.0 l e.1 in (e.0.name, r.1, r.0))
+      (λ q l h. let e = some_there (dir_place s n d q) h in let r = placed q e.0 l e.1 in (e.0.name, r.1, r.0))
 
   abbrev vacant : ℕ → Bool
   vacant q = is_vacant (place_of s.place (first_blocks blocks (n.block d)) q)

@@ -46,7 +46,7 @@ abbrev pub large_by : ℕ → Option ℕ → ℕ
 large_by own None = own
 large_by own (Some g) = g
 
-taken_is : (o : Option ℕ) → large_taken o ≡ map (λ g. SetLarge g true) (large_segment o)
+pub taken_is : (o : Option ℕ) → large_taken o ≡ map (λ g. SetLarge g true) (large_segment o)
 taken_is None = refl
 taken_is (Some g) = refl
 

@@ -2,6 +2,7 @@
 use Rattle.std.proofs.Common.{ℕ, ◌≡◌, ◌<◌, ◌≤◌, ◌*◌, Bool, true, false, not, nat_lt, if◌then◌else◌, Option, Some, None, length, refl, sym, ◌∙◌, ap, subst, arith, is_some}
 use Rattle.std.proofs.lemmas.Bool.Decides.{nat_tests}
 use Rattle.std.specs.Ordering.{nat_cmp}
+use Rattle.frang_base.proofs.Tests.{some_there}
 use Rattle.tree_definitions.specs.declared.node.Node.{Node}
 use Rattle.tree_definitions.specs.Tree.{FileTree, node_at, count_of, small_blocks}
 use Rattle.tree_laws.proofs.Pairs.{birth_exact}
@@ -9,7 +10,7 @@ use Rattle.disk_definitions.specs.Store.{Store, is_unused}
 use Rattle.disk_definitions.specs.Store.Use.{Fresh, Empty}
 use Rattle.disk_definitions.specs.Naming.{Naming, blocks_of, use_for}
 use Rattle.disk_definitions.specs.Least.{count}
-use Rattle.disk_definitions.proofs.Free.{a_some, in_use}
+use Rattle.disk_definitions.proofs.Free.{in_use}
 use Rattle.disk_definitions.specs.Meets.{IsOfTree}
 use Rattle.plan_laws.proofs.Counting.{count_keys}
 use Rattle.plan_laws.proofs.Blocks.{IsBlockOf, count_blocks}
@@ -26,7 +27,7 @@ module _ (s : Store) (tree : FileTree) (n : Naming) (of : IsOfTree s tree n) whe
   inodes_counted = count_keys nat_cmp birth_exact n.inode (64 * tree.segments) tree.nodes s.bit of.well_formed.births
       (λ b h. (of.inodes (n.inode b) (bit_of b h), bit_of b h))
       (λ b c h i e. let z : Some b ≡ Some c = sym (of.pictures.numbered b h) ∙ ap n.birth e ∙ of.pictures.numbered c i in cc)
-      (λ q l e. let b = a_some (n.birth q) (sym (of.pictures.bits q) ∙ e) in let r = of.pictures.whose q b.0 b.1 in (b.0, r.1, r.0))
+      (λ q l e. let b = some_there (n.birth q) (sym (of.pictures.bits q) ∙ e) in let r = of.pictures.whose q b.0 b.1 in (b.0, r.1, r.0))
 
   abbrev taken : ℕ → Bool
   taken k = not (is_unused (s.use_of k))
@@ -51,7 +52,7 @@ module _ (s : Store) (tree : FileTree) (n : Naming) (of : IsOfTree s tree n) whe
   block_at k e (Some o) i =
       let r = of.pictures.owners k o.0 o.1 i in
       let some : is_some (node_at tree o.0) ≡ true = there (node_at tree o.0) o.1 r.1 in
-      let x = a_some (node_at tree o.0) some in
+      let x = some_there (node_at tree o.0) some in
       record { birth = o.0; index = o.1; node = x.0; is = x.1; below = subst (λ z. o.1 < blocks_of z) x.1 r.1; at = r.0 }
     where
       there : (x : Option Node) (j : ℕ) → j < blocks_of x → is_some x ≡ true

@@ -6,23 +6,18 @@ use Rattle.frang_base.specs.declared.reply.Reply.TheVariants as reply
 use Rattle.disk_definitions.specs.Store.{StoredNode, StoredEntry}
 use Rattle.disk_definitions.specs.Held.{Segments}
 use Rattle.disk_definitions.specs.Least.{least}
-use Rattle.disk_definitions.specs.Ask.{Sector, InodeAt, DirectoryAt, SegmentAt, Ask, Got, ReadInode, ReadDirectory, ReadSegment, ReadBytes, ReadLarge, Met, bind, meet, number_of}
-use Rattle.disk_definitions.specs.Ask.Met.{Needs, Has}
+use Rattle.disk_definitions.specs.Ask.{Sector, InodeAt, DirectoryAt, SegmentAt, Ask, Got, ReadInode, ReadDirectory, ReadSegment, ReadBytes, ReadLarge, bind, meet, number_of}
 use Rattle.disk_definitions.specs.Walks.{Spot, AtRoot, AtName, AtGap, Lost, Found, Walked, hit, in_inode, is_named, look_up, onward, or_on, search, spot_by, walk, walk_from}
 use Rattle.disk_definitions.specs.Written.{Cached, at_hand, directory_at_hand, inode_at_hand, is_held}
 use Rattle.plan_laws.specs.Traces.{behind, by_said, has_version, needs, on_from, Traced, traced}
 use Rattle.plan_laws.proofs.Traces.{traces_go_on, traces_meet}
 use Rattle.dir_lookup.specs.Looked.{Adds}
 use Rattle.dir_lookup.specs.Looks.{looks_of}
-use Rattle.dir_lookup.specs.Reading.{Read, Lacks, Gives, numbered, reading}
-use Rattle.dir_lookup.proofs.Looking.{adds_as, gives_met}
+use Rattle.dir_lookup.specs.Reading.{Read, Lacks, Gives, reading}
+use Rattle.dir_lookup.proofs.Looking.{adds_as, gives_met, lacks_met}
 use Rattle.plan_steps.specs.Looking.{Looks, examined}
 
 -- ---- one program after another
-
-lacks_met : {A : Type 0} (m : Met A) (s : ℕ) → Lacks s ≡ numbered m → (x : Sector) × (m ≡ Needs x)
-lacks_met (Needs x) s e = (x, refl)
-lacks_met (Has b) s e = absurd (cc)
 
 pub examined_on : {A B : Type 0} (p : Ask A) (f : A → Ask B) (cached : Cached) (held : Segments) (a : A) → Gives a ≡ reading p cached held → examined (bind p f) cached held ≡ examined p cached held ++ examined (f a) cached held
 examined_on p f cached held a e =

@@ -16,6 +16,7 @@ use Rattle.frang_base.specs.declared.said.Said.{Said}
 use Rattle.frang_base.specs.declared.said.Said.TheVariants as said
 use Rattle.frang_base.specs.declared.sector.ServerId.{ServerId}
 use Rattle.frang_base.specs.declared.sector.OpNo.{OpNo}
+use Rattle.frang_base.proofs.Tests.{map_some, then_some}
 use Rattle.tree_definitions.specs.SaidLines.{hex_digit, hex_byte, reply_word, run_point, who_text, run_line, said_text, said_line}
 use Rattle.script_definitions.specs.Numerals.{number_in, count_at}
 use Rattle.script_definitions.specs.SaidReading.{IsWho, IsNodeKind, is_path_text, IsProperReply, IsProperSaid, parts_of, sole, first_of_parts, is_end, at_end, server_at, who_at, log_at, two_counts, point_at, op_at, hex_value, byte_at, hex_bytes, some_bytes, shown_of, names_of, target_at, state_replies, place_replies, limit_replies, reply_among, first_some, plain_at, full_at, nospace_of, short_reply_from, reply_from, reply_of, answer_of, by_of, recovering_of, keeps_of, recovered_of, note_from, kind_from, node_from, said_from, said_in, without_feed, said_of}
@@ -46,15 +47,6 @@ host_is s e = ap number_of_server (same_Some (server_number 255) s e)
 
 wide_op : (m n op : ℕ) → m < 2 ^ 32 → n < 2 ^ 32 → m * 4294967296 + n ≡ op → op < 2 ^ 64
 wide_op m n op h k e = omega arith
-
--- how an option or a choice came to its value
-pub then_some : {A B : Type 0} (f : A → Option B) (o : Option A) (y : B) → option_and_then f o ≡ Some y → (x : A) × (o ≡ Some x) × (f x ≡ Some y)
-then_some f None y e = cc
-then_some f (Some x) y e = (x, refl, e)
-
-pub map_some : {A B : Type 0} (f : A → B) (o : Option A) (y : B) → option_map f o ≡ Some y → (x : A) × (o ≡ Some x) × (f x ≡ y)
-map_some f None y e = cc
-map_some f (Some x) y e = (x, refl, cc)
 
 pub chosen : {A : Type 0} (b : Bool) (x y z : A) → cond b x y ≡ z → ((b ≡ true) × (x ≡ z)) ⊎ ((b ≡ false) × (y ≡ z))
 chosen true x y z e = inl (refl, e)

@@ -3,6 +3,7 @@ use Rattle.std.proofs.Common.{◌==◌, ◌≡◌, ℕ, ◌*◌, ◌<◌, Bool, 
 use Rattle.std.specs.Option.{option_map}
 use Rattle.std.specs.List.{slice_get}
 use Rattle.std.proofs.lemmas.Option.{slice_get_within, slice_get-get_or}
+use Rattle.frang_base.proofs.Tests.{some_there}
 use Rattle.tree_definitions.specs.declared.cells.Cell.{Cell}
 use Rattle.tree_definitions.specs.declared.cells.Cell.TheVariants as cell
 use Rattle.tree_definitions.specs.declared.node.Node.{Node}
@@ -40,10 +41,6 @@ tree_bytes segments s range b y e = go (s.inode b) refl
         let q : Some (read_node s x) ≡ Some y = sym (sym e ∙ node_read s segments range.inodes b ∙ ap (option_map (read_node s)) f) in
         let r : read_node s x ≡ y = cc in
         subst HasBytes r (read_bytes s x)
-
-some_node : (o : Option Node) → is_some o ≡ true → (y : Node) × (o ≡ Some y)
-some_node None h = absurd (cc)
-some_node (Some y) h = (y, refl)
 
 module _ (to back too home : ℕ → ℕ) where
   -- entries that become the same become each other
@@ -108,7 +105,7 @@ module _ (to back too home : ℕ → ℕ) where
     home = λ b h. (let a = q.forth b h in let c = r.home (too b) a.0 in (c.0, ap home c.1 ∙ a.1));
     nodes = λ b x y e f. (
         let a = r.forth b (ap is_some e) in
-        let z = some_node (node_at read (to b)) a.0 in
+        let z = some_there (node_at read (to b)) a.0 in
         let c = q.home (to b) a.0 in
         same_nodes x y z.0 (r.nodes b x z.0 e z.1) (q.nodes (home (to b)) y z.0 f (ap (node_at read) c.1 ∙ z.1)) (bytes (to b) z.0 z.1)
         (λ fs n g name v i. (q.forth v (names_nodes two w (home (to b)) fs n name v (f ∙ ap (λ y. Some y) g) i)).1));

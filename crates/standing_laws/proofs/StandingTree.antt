@@ -5,6 +5,7 @@ use Rattle.std.proofs.lemmas.Option.{slice_get_within}
 use Rattle.std.specs.Ordering.{nat_cmp}
 use Rattle.std.specs.Cmp.Lexicographic.{slice_cmp}
 use Rattle.std.proofs.lemmas.Bool.{cases_eq, cases_lt, cond-true, cond-false, both_ways}
+use Rattle.frang_base.proofs.Tests.{some_there}
 use Rattle.tree_definitions.specs.declared.cells.Cell.{Cell}
 use Rattle.tree_definitions.specs.declared.cells.Cell.TheVariants as cell
 use Rattle.tree_definitions.specs.declared.node.Node.{Node}
@@ -95,16 +96,12 @@ module _ (segments : ℕ) (s : Store) (range : IsInRange segments s) (t : FileTr
   renamed root same = record {
     segments = same;
     root = root;
-    forth = λ b h. (let f = first_node (at b) h in (ap is_some (read_made b f.0 f.1), ap (λ o. unwrap_or o 0) (p.numbered b h)));
-    home = λ i h. (let f = first_node (read i) h in let m = made_read i f.0 f.1 in
+    forth = λ b h. (let f = some_there (at b) h in (ap is_some (read_made b f.0 f.1), ap (λ o. unwrap_or o 0) (p.numbered b h)));
+    home = λ i h. (let f = some_there (read i) h in let m = made_read i f.0 f.1 in
         let q : back_of n i ≡ m.0.1.birth = ap (λ o. unwrap_or o 0) m.0.1.born in
         (ap is_some (ap at q ∙ m.0.1.found), ap n.inode q ∙ m.0.1.numbered));
     nodes = λ b x y e f. (let z : Some (read_node s (made_by n b x)) ≡ Some y = sym (read_made b x e) ∙ f in let q : read_node s (made_by n b x) ≡ y = cc in subst (SameNode n.inode x) q (same_node b x e));
   }
-    where
-      first_node : (o : Option Node) → is_some o ≡ true → (y : Node) × (o ≡ Some y)
-      first_node None h = absurd (cc)
-      first_node (Some y) h = (y, refl)
 
   -- ---- names and links
   one_same : (a b : ℕ) → is_some (at a) ≡ true → is_some (at b) ≡ true → one_at b a ≡ one_at (n.inode b) (n.inode a)

@@ -1,7 +1,5 @@
 -- Over bytes that are those shown wherever it looks, a program comes to what it comes to over those shown.
-use Rattle.std.proofs.Common.{ℕ, ◌≡◌, ◌≤◌, ◌<◌, ◌+◌, ◌*◌, ◌/◌, ◌%◌, ⊎_elim, nat_lt, if◌then◌else◌, Option, Some, List, [], ◌∷◌, refl, sym, ◌∙◌, ap, subst, arith}
-use Rattle.std.proofs.Math.Path.{fun_ext}
-use Rattle.std.proofs.lemmas.Bool.{cases_lt, le-ltb}
+use Rattle.std.proofs.Common.{ℕ, ◌≡◌, ◌+◌, ◌*◌, ◌/◌, ◌%◌, Option, Some, List, [], ◌∷◌, refl, sym, ◌∙◌, ap, subst, arith}
 use Rattle.std.specs.List.{Contains}
 use Rattle.sector_bytes.specs.Blocks.{Block}
 use Rattle.sector_bytes.specs.Sectors.{Sectors}
@@ -16,17 +14,8 @@ use Rattle.plan_laws.proofs.Covering.{has_head, has_more}
 use Rattle.line_laws.specs.Stores.{with_bytes}
 use Rattle.line_histories.specs.LinePlans.{byte_shown}
 use Rattle.line_histories.specs.Places.{SameBytesAt}
+use Rattle.line_histories.proofs.Made.{part_same}
 use Rattle.stop_laws.specs.Cells.{having}
-
--- parts with the same bytes are the same
-part_same : (f g : ℕ → ℕ → ℕ) (k part : ℕ) → ((r : ℕ) → r < 512 → f k (512 * part + r) ≡ g k (512 * part + r)) → part_of f k part ≡ part_of g k part
-part_same f g k part h = fun_ext (λ r. ⊎_elim (inside r) (outside r) (cases_lt r 512))
-  where
-    inside : (r : ℕ) → r < 512 → part_of f k part r ≡ part_of g k part r
-    inside r l = ap (λ v. if nat_lt r 512 then v else 0) (h r l)
-
-    outside : (r : ℕ) → 512 ≤ r → part_of f k part r ≡ part_of g k part r
-    outside r l = rw (le-ltb r 512 l) refl
 
 -- a store with the bytes of these sectors
 abbrev pub bytes_on : ℕ → Sectors → Store → Store

@@ -8,7 +8,8 @@ use Rattle.sector_bytes.specs.SectorMaps.{value_at}
 use Rattle.disk_definitions.specs.Edits.{Edit}
 use Rattle.disk_definitions.specs.Written.{byte_write, byte_writes, edit_sector, edited_block, is_metadata}
 use Rattle.plan_laws.proofs.Covering.{has_cases, has_head, has_more, not_in_none}
-use Rattle.line_histories.proofs.Lists.{filter_has, has_filter}
+use Rattle.plan_laws.proofs.Filled.{filter_from}
+use Rattle.line_histories.proofs.Lists.{filter_has}
 
 -- ---- by a key that has one value
 
@@ -65,7 +66,7 @@ pub value_is : (edits : List Edit) (d : Edit) → Contains edits d → is_metada
 value_is edits d c p one =
     first_value (byte_writes edits) (edit_sector d) (edited_block [] 0 d) (filter_has byte_write edits d (edit_sector d, edited_block [] 0 d) (is_write d p) c)
     (λ a i.
-    let r = has_filter byte_write edits (edit_sector d, a) i in
+    let r = filter_from byte_write edits (edit_sector d, a) i in
     let w = of_write r.0 (edit_sector d) a r.2 in
     sym w.2 ∙ ap (edited_block [] 0) (one r.0 r.1 w.0 w.1))
 

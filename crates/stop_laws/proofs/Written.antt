@@ -2,6 +2,7 @@
 use Rattle.std.proofs.Common.{ℕ, ◌≡◌, ◌≤◌, Bool, true, false, if◌then◌else◌, Option, Some, None, is_some, List, refl, ap}
 use Rattle.std.specs.List.{Contains}
 use Rattle.std.specs.Option.{option_map}
+use Rattle.plan_laws.proofs.Filled.{filter_from}
 use Rattle.frang_base.specs.Functions.{member}
 use Rattle.sector_bytes.specs.Blocks.{Block}
 use Rattle.sector_bytes.specs.SectorMaps.{value_at}
@@ -19,7 +20,6 @@ use Rattle.plan_fit.proofs.Kept.{in_small, in_large}
 use Rattle.line_histories.specs.LinePlans.{fill_by}
 use Rattle.line_histories.specs.Outcomes.{fill_shape}
 use Rattle.line_histories.proofs.Apart.{one_fit}
-use Rattle.line_histories.proofs.Lists.{has_filter}
 use Rattle.line_histories.specs.Files.{IsWritten}
 use Rattle.line_histories.proofs.Filled.{IsInUse}
 use Rattle.line_histories.proofs.Guarded.{value_in}
@@ -110,6 +110,6 @@ module _ (segments : ℕ) (few : segments ≤ 64) (end : Store) (edits : List Ed
       go : (o : Option (List ℕ)) → value_at (byte_writes edits) (number_of x) ≡ o → is_some o ≡ true → IsWritten edits x
       go None e v = absurd (cc)
       go (Some block) e v =
-          let r = has_filter byte_write edits (number_of x, block) (value_in (byte_writes edits) (number_of x) block e) in
+          let r = filter_from byte_write edits (number_of x, block) (value_in (byte_writes edits) (number_of x) block e) in
           let w = of_write r.0 (number_of x) block r.2 in
           edit_here x u r.0 r.1 w.0 w.1

@@ -3,6 +3,7 @@ use Rattle.std.proofs.Common.{ℕ, ◌≡◌, ◌≢◌, ◌⊎◌, inl, inr, �
 use Rattle.frang_base.specs.declared.op.Op.{Op}
 use Rattle.frang_base.specs.declared.op.Op.TheVariants as op
 use Rattle.frang_base.specs.declared.reply.Reply.TheVariants as reply
+use Rattle.frang_base.proofs.Tests.{some_there}
 use Rattle.tree_definitions.specs.declared.cells.Cell.{Cell}
 use Rattle.tree_definitions.specs.declared.cells.Cell.TheVariants.{Byte}
 use Rattle.tree_definitions.specs.declared.node.Node.{Node}
@@ -20,10 +21,6 @@ use Rattle.tree_laws.proofs.Refusals.{looks_leave}
 use Rattle.tree_laws.proofs.Looking.{well_refused, refused_well, is_walk_reply}
 use Rattle.tree_laws.proofs.Keeping.{names_nodes}
 
-some_is : (o : Option Node) → is_some o ≡ true → (x : Node) × (o ≡ Some x)
-some_is (Some x) s = (x, refl)
-some_is None s = absurd (cc)
-
 -- a tree made of another by changing nodes that were there
 record Holds (t u : FileTree) : Type 0 where
   pub births : BirthsAscend u
@@ -33,7 +30,7 @@ record Holds (t u : FileTree) : Type 0 where
 holds_with : (t u : FileTree) → Holds t u → (d : ℕ) (x : Node) → is_some (node_at t d) ≡ true → Holds t (with_node u d x)
 holds_with t u h d x s = record {
   births = ascend_with u d x h.births;
-  count = (let y = some_is (node_at u d) (h.there d s) in count_kept u d x y.0 h.births y.1) ∙ h.count;
+  count = (let y = some_there (node_at u d) (h.there d s) in count_kept u d x y.0 h.births y.1) ∙ h.count;
   there = each_but (λ c. is_some (node_at t c) ≡ true → is_some (node_at (with_node u d x) c) ≡ true) d (λ _. ap is_some (with_same u d x)) (λ c far s. ap is_some (with_other u d x c far) ∙ h.there c s);
 }
 
@@ -65,7 +62,7 @@ module _ (t : FileTree) where
 
     fewer_count : (d : ℕ) (x : Node) → is_some (node_at t d) ≡ true → (length (without_node u d).nodes + 1 ≡ length t.nodes) × (length (with_node u d x).nodes ≡ length t.nodes)
     fewer_count d x s =
-        let y = some_is (node_at u d) (h.there d s) in
+        let y = some_there (node_at u d) (h.there d s) in
         let a : length u.nodes ≡ length (without_node u d).nodes + 1 = count_without u d y.0 y.1 in
         (sym a ∙ h.count, (holds_with t u h d x s).count)
 
