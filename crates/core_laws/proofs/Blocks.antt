@@ -6,14 +6,14 @@ use Rattle.std.specs.Ordering.{nat_cmp, ordering_then}
 use Rattle.std.specs.declared.cmp.Ordering.{Ordering}
 use Rattle.std.specs.declared.cmp.Ordering.TheVariants.{Less, Equal}
 use Rattle.sorted_entries.proofs.Sorted.{all_along}
-use Rattle.frang_base.proofs.Tests.{cmp_itself}
+use Rattle.frang_base.proofs.Tests.{cmp_itself, cmp_less}
 use Rattle.frang_base.proofs.Lists.{all_append}
 use Rattle.lock_definitions.specs.Order.{lock_cmp}
 use Rattle.lock_definitions.proofs.LockOrder.{lock_itself}
 use Rattle.core_definitions.specs.Events.{Event}
 use Rattle.core_definitions.specs.Enabled.{only, only_if, row_by_row}
 use Rattle.core_laws.specs.EventOrder.{event_cmp, first_of, last_of, lock_of, row_of}
-use Rattle.core_laws.proofs.Sorting.{all_flat, all_flat_from, sorted_append, sorted_none, sorted_one, less}
+use Rattle.core_laws.proofs.Sorting.{all_flat, all_flat_from, sorted_append, sorted_none, sorted_one}
 
 -- ---- the order
 
@@ -22,7 +22,7 @@ equal m n e = subst (λ k. nat_cmp m k ≡ Equal) e (cmp_itself m)
 
 -- by the row
 pub by_row : (x y : Event) → row_of x < row_of y → event_cmp x y ≡ Less
-by_row x y h = ap (λ o. ordering_then o (ordering_then (nat_cmp (first_of x) (first_of y)) (ordering_then (lock_cmp (lock_of x) (lock_of y)) (nat_cmp (last_of x) (last_of y))))) (less (row_of x) (row_of y) h)
+by_row x y h = ap (λ o. ordering_then o (ordering_then (nat_cmp (first_of x) (first_of y)) (ordering_then (lock_cmp (lock_of x) (lock_of y)) (nat_cmp (last_of x) (last_of y))))) (cmp_less (row_of x) (row_of y) h)
 
 -- in a row by the first number
 pub by_first : (x y : Event) → row_of x ≡ row_of y → nat_cmp (first_of x) (first_of y) ≡ Less → event_cmp x y ≡ Less

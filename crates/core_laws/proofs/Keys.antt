@@ -1,5 +1,5 @@
 -- Keys of maps and members of lists of numbers.
-use Rattle.std.proofs.Common.{ℕ, ◌≡◌, ◌⊎◌, inl, inr, Bool, true, false, if◌then◌else◌, cond, ◌||◌, List, [], ◌∷◌, Some, IsTrue, is_some, nat_eq, refl, sym, ◌∙◌, arith}
+use Rattle.std.proofs.Common.{ℕ, ◌≡◌, inl, inr, Bool, true, false, if◌then◌else◌, cond, List, [], ◌∷◌, Some, IsTrue, is_some, nat_eq, refl, sym, ◌∙◌, arith}
 use Rattle.std.proofs.lemmas.Bool.{false≢true, eq-eqb, eqb-true}
 use Rattle.std.proofs.lemmas.Bool.Decides.{nat_tests}
 use Rattle.std.specs.BTreeMap.{is_at}
@@ -16,10 +16,6 @@ use Rattle.lock_definitions.specs.Calls.{asked_of}
 use Rattle.lock_definitions.proofs.LockOrder.{found_lock}
 use Rattle.sector_bytes.specs.SectorMaps.{value_at}
 use Rattle.sector_bytes.proofs.MapLaws.{found}
-
-pub or_cases : (x y : Bool) → IsTrue (x || y) → IsTrue x ⊎ IsTrue y
-or_cases true y h = inl refl
-or_cases false y h = inr h
 
 -- ---- numbers
 

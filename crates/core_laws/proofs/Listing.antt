@@ -2,7 +2,7 @@
 use Rattle.std.proofs.Common.{not, ℕ, ◌≡◌, ⊎_elim, Bool, ◌&&◌, List, Option, Some, None, IsTrue, is_some, map, refl, sym, subst}
 use Rattle.std.specs.List.{flat_map}
 use Rattle.std.specs.Map.{keys_of}
-use Rattle.std.proofs.lemmas.Bool.{and_from, or_right, or_left}
+use Rattle.std.proofs.lemmas.Bool.{and_from, or_right, or_left, or_cases}
 use Rattle.disk_definitions.proofs.Listed.{Among, among_left, among_right, among_either}
 use Rattle.frang_base.specs.Functions.{member}
 use Rattle.frang_base.specs.declared.lock.LockId.{LockId}
@@ -22,7 +22,7 @@ use Rattle.core_definitions.specs.Guards.{CanOther}
 use Rattle.core_definitions.specs.Enabled.{agains, all_parties, answers, arrives, asks_at, asks_of, begins, clears, clears_at, closes, commits, dies, dooms, fetches, finishes, gives, issues, loses, only, only_if, party_of, renews, resumes}
 use Rattle.core_laws.proofs.Membership.{into_flat, FromFlat, from_flat, into_map, FromMap, from_map, into_only, FromOnly, from_only, into_only_if, FromOnlyIf, from_only_if}
 use Rattle.core_laws.proofs.Guarding.{begin_can, begin_may, again_can, again_may, commit_can, commit_may, answer_can, answer_may, give_can, give_may, issuable_can, issuable_may, doom_can, doom_may, resume_can, resume_may, die_can, die_may, renew_can, renew_may, finish_can, finish_may, close_can, close_may, Of2, Of3, all_3, of_2, of_3}
-use Rattle.core_laws.proofs.Keys.{claimed, in_member, key_value, member_in, or_cases, value_key}
+use Rattle.core_laws.proofs.Keys.{claimed, in_member, key_value, member_in, value_key}
 use Rattle.core_laws.proofs.Parties.{FromParties, from_parties, into_parties, server_in_parties, worker_in_parties}
 
 -- ---- rows of one test a party

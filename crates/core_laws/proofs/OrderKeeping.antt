@@ -1,11 +1,9 @@
 -- Over every run: what the core has by lock, sector, slot and ticket is in order. Event by event.
 use Rattle.std.proofs.Common.{◌≡◌, ℕ, ◌<◌, Bool, true, false, not, ◌==◌, ◌+◌, ◌%◌, if◌then◌else◌, [], ◌∷◌, ◌++◌, Option, Some, None, nat_eq, filter, refl, sym, ap, subst, arith}
-use Rattle.std.proofs.lemmas.Bool.Decides.{nat_tests}
 use Rattle.std.specs.List.{AllByRecursion}
 use Rattle.std.specs.List.Sorted.{IsStrictlySortedBy}
 use Rattle.std.specs.Map.{keys_of}
 use Rattle.std.specs.Ordering.{nat_cmp}
-use Rattle.std.specs.declared.cmp.Ordering.TheVariants.{Less}
 use Rattle.std.specs.BTreeMap.{is_at}
 use Rattle.sorted_entries.proofs.Sorted.{all_along}
 use Rattle.frang_base.specs.Functions.{put}
@@ -14,6 +12,7 @@ use Rattle.frang_base.specs.declared.op.Op.{Op}
 use Rattle.frang_base.specs.declared.reply.Reply.{Reply}
 use Rattle.frang_base.specs.declared.script.Line.{Line}
 use Rattle.frang_base.proofs.Lists.{all_append}
+use Rattle.frang_base.proofs.Tests.{cmp_less}
 use Rattle.tree_definitions.specs.Transcript.{is_halt}
 use Rattle.lock_definitions.specs.declared.claim.AskedFor.{AskedFor}
 use Rattle.lock_definitions.specs.declared.claim.AskedFor.TheVariants.{Release, Downgrade}
@@ -94,16 +93,13 @@ landed_tickets ticket flights tickets t = record { ordered = ascend_without tick
 issued_tickets : (flight : Flight) (flights : Flights) (tickets : ℕ) → AreTickets flights tickets → AreTickets (flights ++ (tickets, flight) ∷ []) (tickets + 1)
 issued_tickets flight flights tickets t = record {
   ordered = subst (IsStrictlySortedBy nat_cmp) (sym (joined flights))
-      (sorted_append nat_cmp (keys_of flights) (tickets ∷ []) t.ordered (sorted_one nat_cmp tickets) (all_along (λ ticket l. (less ticket l, tt)) (keys_of flights) t.below));
+      (sorted_append nat_cmp (keys_of flights) (tickets ∷ []) t.ordered (sorted_one nat_cmp tickets) (all_along (λ ticket l. (cmp_less ticket tickets l, tt)) (keys_of flights) t.below));
   below = subst (AllByRecursion (λ ticket. ticket < tickets + 1)) (sym (joined flights)) (all_append (λ ticket. ticket < tickets + 1) (keys_of flights) (tickets ∷ []) (all_along (λ ticket l. grow ticket l) (keys_of flights) t.below) (last, tt));
 }
   where
     joined : (flights : Flights) → keys_of (flights ++ (tickets, flight) ∷ []) ≡ keys_of flights ++ tickets ∷ []
     joined [] = refl
     joined (one ∷ others) = ap (λ ks. one.0 ∷ ks) (joined others)
-
-    less : (ticket : ℕ) → ticket < tickets → nat_cmp ticket tickets ≡ Less
-    less ticket l = grind (arith, nat_tests, l)
 
     grow : (ticket : ℕ) → ticket < tickets → ticket < tickets + 1
     grow ticket l = omega (arith, l)

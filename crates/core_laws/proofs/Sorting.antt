@@ -1,6 +1,5 @@
 -- Lists that ascend: put together, filtered, mapped, and made by inserting.
 use Rattle.std.proofs.Common.{◌≡◌, ℕ, zero, suc, ◌<◌, inl, inr, Bool, true, false, cond, List, [], ◌∷◌, ◌++◌, filter, fold, map, refl, sym, subst, arith}
-use Rattle.std.proofs.lemmas.Bool.Decides.{nat_tests}
 use Rattle.std.specs.List.{AllByRecursion, flat_map}
 use Rattle.std.specs.List.Sorted.{IsStrictlySortedBy}
 use Rattle.std.specs.Map.{keys_of}
@@ -9,6 +8,7 @@ use Rattle.std.specs.declared.cmp.Ordering.{Ordering}
 use Rattle.std.specs.declared.cmp.Ordering.TheVariants.{Less}
 use Rattle.sorted_entries.proofs.Sorted.{all_along}
 use Rattle.frang_base.proofs.Lists.{all_map, all_append}
+use Rattle.frang_base.proofs.Tests.{cmp_less}
 use Rattle.disk_definitions.specs.Written.{ascending, with_number}
 use Rattle.disk_definitions.proofs.Listed.{Among}
 use Rattle.sector_bytes.specs.SectorMaps.{Ascend}
@@ -100,9 +100,6 @@ ascending_sorted numbers = ascend_fold with_number (λ es n s. ascend_with n 0 e
 
 -- ---- numbers below a bound
 
-pub less : (m n : ℕ) → m < n → nat_cmp m n ≡ Less
-less m n h = grind (arith, nat_tests, h)
-
 all_below : (n : ℕ) → AllByRecursion (λ k. k < n) (below n)
 all_below zero = tt
 all_below (suc n) = all_append (λ k. k < suc n) (below n) (n ∷ []) (all_along (λ k h. grow k h) (below n) (all_below n)) (omega arith, tt)
@@ -112,11 +109,11 @@ all_below (suc n) = all_append (λ k. k < suc n) (below n) (n ∷ []) (all_along
 
 pub below_sorted : (n : ℕ) → IsStrictlySortedBy nat_cmp (below n)
 below_sorted zero = sorted_none nat_cmp
-below_sorted (suc n) = sorted_append nat_cmp (below n) (n ∷ []) (below_sorted n) (sorted_one nat_cmp n) (all_along (λ k h. (less k n h, tt)) (below n) (all_below n))
+below_sorted (suc n) = sorted_append nat_cmp (below n) (n ∷ []) (below_sorted n) (sorted_one nat_cmp n) (all_along (λ k h. (cmp_less k n h, tt)) (below n) (all_below n))
 
 pub below_and_behind : (n last : ℕ) → n < suc last → IsStrictlySortedBy nat_cmp (below n ++ last ∷ [])
 below_and_behind n last h =
-    sorted_append nat_cmp (below n) (last ∷ []) (below_sorted n) (sorted_one nat_cmp last) (all_along (λ k l. (less k last (within k l), tt)) (below n) (all_below n))
+    sorted_append nat_cmp (below n) (last ∷ []) (below_sorted n) (sorted_one nat_cmp last) (all_along (λ k l. (cmp_less k last (within k l), tt)) (below n) (all_below n))
   where
     within : (k : ℕ) → k < n → k < last
     within k l = omega (arith, h, l)

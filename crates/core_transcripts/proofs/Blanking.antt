@@ -96,14 +96,11 @@ begun_kept d server x (Some line) idle k = go (operation_of line.what)
     none None h = refl
     none (Some u) h = absurd (false≢true h)
 
-    or_false : (b : Bool) (l : Bool) → l ≡ false → b ≡ false → (b || l) ≡ false
-    or_false b l e f = or_from b l f e
-
     go : (o : Option Op) → Keeps d (begun_with server line o) x
     go None = k
     go (Some o) =
         keep d d server (begun_with server line (Some o)) x x
-        (λ s. record { mounted = s.mounted; clean_ = or_false d (is_changing server.under) (none server.under idle) (or_parts d (asks_change line.what) s.clean_).0 })
+        (λ s. record { mounted = s.mounted; clean_ = or_from d (is_changing server.under) (or_parts d (asks_change line.what) s.clean_).0 (none server.under idle) })
         (same_blank server (begun_with server line (Some o)) x refl refl refl) k
 
 -- ---- how far its line has come

@@ -30,10 +30,10 @@ one_waits : (flags : List Bool) (later : List ℕ) (i k : ℕ) → flag_at flags
 one_waits flags later i k f = list_any-append (λ v. v == k) later (i ∷ []) ∙ ap (λ b. has_value later k || b) (⊎_elim (λ e. at_same e) (λ ne. other ne) (cases_eq i k))
   where
     at_same : i ≡ k → ((i == k) || false) ≡ (i == k && not (flag_at flags k))
-    at_same e = sym (sym (or-false (i == k))) ∙ eq-eqb i k e ∙ sym (and_from (i == k) (not (flag_at flags k)) (eq-eqb i k e) (not_from_false (flag_at flags k) (ap (flag_at flags) (sym e) ∙ f)))
+    at_same e = or-false (i == k) ∙ eq-eqb i k e ∙ sym (and_from (i == k) (not (flag_at flags k)) (eq-eqb i k e) (not_from_false (flag_at flags k) (ap (flag_at flags) (sym e) ∙ f)))
 
     other : i ≢ k → ((i == k) || false) ≡ (i == k && not (flag_at flags k))
-    other ne = sym (sym (or-false (i == k))) ∙ ne_eqb i k ne ∙ sym (ap (λ b. b && not (flag_at flags k)) (ne_eqb i k ne))
+    other ne = or-false (i == k) ∙ ne_eqb i k ne ∙ sym (ap (λ b. b && not (flag_at flags k)) (ne_eqb i k ne))
 
 -- a number without a flag gets it, and waits
 set_new : (flags : List Bool) (later : List ℕ) (i : ℕ) → i < length flags → flag_at flags i ≡ false → HasFlagged (λ k. i == k) flags later (set flags i true) (later ++ i ∷ [])
@@ -151,7 +151,7 @@ module _ (s : Store) (flags : List Bool) (rest : List ℕ) (x : ℕ) (new : List
           (and_from (names s x d) (not (flag_at flags d)) (⊎_elim (λ q. absurd (both_ways (flag_at flags d) e q)) (λ q. q) (or_cases (flag_at flags d) (names s x d) (sym (h.each d) ∙ f))) (not_from_false (flag_at flags d) e))))
 
   alone : (d : ℕ) → has_value rest d ≡ false → d ≢ x → has_value (rest ++ x ∷ []) d ≡ false
-  alone d t ne = list_any-append (λ v. v == d) rest (x ∷ []) ∙ or_second_alone (has_value rest d) ((x == d) || false) t ∙ sym (sym (or-false (x == d))) ∙ ne_eqb x d (λ e. ne (sym e))
+  alone d t ne = list_any-append (λ v. v == d) rest (x ∷ []) ∙ or_second_alone (has_value rest d) ((x == d) || false) t ∙ or-false (x == d) ∙ ne_eqb x d (λ e. ne (sym e))
 
   taken_new : (d i : ℕ) → flag_at new d ≡ true → has_value later d ≡ false → names s d i ≡ true → flag_at new i ≡ true
   taken_new d i f t n = ⊎_elim
