@@ -17,8 +17,6 @@ use Rattle.clerk_cache.specs.Kept.{cached_of, joined, AreAlike, is_state_under, 
 use Rattle.clerk_cache.proofs.Joining.{Blocks, States}
 use Rattle.clerk_cache.proofs.Keying.{length-without}
 
--- ---- keys
-
 -- ---- the two maps and the contents
 
 module _ (lock : LockId) where

@@ -58,8 +58,6 @@ use Rattle.line_histories.proofs.LinesSound.{lines_are_sound}
 use Rattle.line_histories.proofs.Outcomes.{outcomes_of_plans}
 use Rattle.disk_definitions.specs.Lines.{plan_of_line}
 
--- ---- options
-
 -- ---- numbers
 
 pub versioned_number : (x : Sector) (m : ℕ) → versioned x ≡ Some m → m ≡ number_of x

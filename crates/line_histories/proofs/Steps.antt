@@ -34,8 +34,6 @@ use Rattle.line_histories.proofs.Laid.{with_changes}
 use Rattle.line_histories.proofs.Leading.{inodes_next, bits_next, uses_next, larges_next, fit_next}
 use Rattle.line_histories.proofs.Meeting.{is_clear, hand_clear}
 
--- ---- the uses of a directory's block
-
 -- ---- two stores that say the same of inodes, bits and uses
 
 module _ (t u : Store) (inode : (i : ℕ) → u.inode i ≡ t.inode i) (bit : (i : ℕ) → u.bit i ≡ t.bit i) (uses : (k : ℕ) → u.use_of k ≡ t.use_of k) (larges : (g : ℕ) → u.large_bit g ≡ t.large_bit g) where

@@ -34,8 +34,6 @@ use Rattle.line_laws.proofs.Looked.{IsSectorOf, IsOnTrail, AreOnTrail}
 use Rattle.line_laws.proofs.Comes.{line_same}
 use Rattle.line_laws.proofs.Running.{step_plan, step_looks, run_performed, looks_performed}
 
--- ---- lists
-
 -- ---- more locks
 
 -- what a plan holds it holds behind a trail

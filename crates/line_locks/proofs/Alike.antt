@@ -13,8 +13,6 @@ use Rattle.plan_laws.specs.Locks.{IsSole}
 use Rattle.plan_laws.specs.Covers.{IsHeld}
 use Rattle.line_locks.specs.Same.{Have, HaveMode, AreWithin}
 
--- ---- lists
-
 -- ---- locks
 
 -- a lock that is there in its mode

@@ -26,8 +26,6 @@ pub by_bool : {P : Type 0} (b : Bool) → (b ≡ true → P) → (b ≡ false �
 by_bool true f g = f refl
 by_bool false f g = g refl
 
--- ---- maps of sectors
-
 -- ---- lists that are filtered
 
 pub filter_none : {X Y : Type 0} (h : X → Option Y) (x : X) (xs : List X) → h x ≡ None → filter_map h (x ∷ xs) ≡ filter_map h xs

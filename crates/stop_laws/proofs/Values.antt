@@ -69,5 +69,3 @@ value_is edits d c p one =
     let r = filter_from byte_write edits (edit_sector d, a) i in
     let w = of_write r.0 (edit_sector d) a r.2 in
     sym w.2 ∙ ap (edited_block [] 0) (one r.0 r.1 w.0 w.1))
-
--- ---- what is made is what the plan makes of what is shown
