@@ -1,4 +1,4 @@
--- An entry more at the end of a legal history, and two tests at once.
+-- An entry more at the end of a legal history.
 use Rattle.std.proofs.Common.{◌≡◌, ℕ, true, List, [], ◌∷◌, ◌++◌, ◌∙◌}
 use Rattle.std.proofs.lemmas.Bool.{and_from}
 use Rattle.tree_definitions.specs.declared.history.Entry.{Entry}
