@@ -13,7 +13,7 @@ use Rattle.tree_definitions.specs.History.{after_read, after_step, applied, is_a
 use Rattle.tree_definitions.specs.Perform.{Step, Goes, Stops, resolved}
 use Rattle.tree_definitions.specs.Tree.{FileTree, node_at}
 use Rattle.tree_laws.specs.Refusals.{is_look}
-use Rattle.tree_laws.specs.WellFormed.{IsNew, IsWellFormed}
+use Rattle.tree_definitions.specs.WellFormed.{IsNew, IsWellFormed}
 use Rattle.tree_laws.proofs.Alike as alike
 use Rattle.tree_laws.proofs.FreshLaws.{walkable}
 use Rattle.tree_laws.proofs.Joint.{joint_near}

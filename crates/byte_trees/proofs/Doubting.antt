@@ -17,7 +17,7 @@ use Rattle.tree_definitions.specs.Removal.{doubtful, file_sectors, is_doubtful, 
 use Rattle.tree_definitions.specs.Tree.{FileTree, node_at}
 use Rattle.tree_definitions.proofs.CellLaws.{doubted_over}
 use Rattle.tree_laws.proofs.Nodes.{with_same, with_other}
-use Rattle.tree_laws.proofs.Pairs.{birth_exact, tie}
+use Rattle.tree_definitions.proofs.Pairs.{birth_exact, tie}
 use Rattle.disk_definitions.specs.Naming.{cell_in}
 use Rattle.plan_laws.proofs.Covering.{below_has, has_cases, has_head, has_more, map_has, not_in_none, filter_has, flat_has}
 use Rattle.plan_laws.proofs.Overwriting as over

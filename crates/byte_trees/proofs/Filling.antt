@@ -7,9 +7,8 @@ use Rattle.tree_definitions.specs.declared.cells.Cell.{Cell}
 use Rattle.tree_definitions.specs.declared.cells.Cell.TheVariants as cell
 use Rattle.tree_definitions.specs.declared.node.Node.{Node}
 use Rattle.tree_definitions.specs.declared.node.Node.TheVariants.{Dir, File, Link}
-use Rattle.tree_definitions.specs.Touched.{node_shape}
+use Rattle.tree_definitions.specs.Touched.{node_shape, shaped}
 use Rattle.tree_definitions.specs.Tree.{small_blocks_of}
-use Rattle.tree_laws.proofs.ShapeNodes.{shaped}
 use Rattle.disk_definitions.specs.Store.{Store, StoredNode}
 use Rattle.disk_definitions.specs.Naming.{Naming, Nodes, Pictures, Allows, blocks_of, cell_in, file_byte, find_in, first_blocks, has_large, inode_by, inode_for, room_in, use_by, use_for}
 use Rattle.disk_definitions.specs.Standing.{IsReached, reached_from}

@@ -11,17 +11,17 @@ use Rattle.tree_definitions.specs.declared.cells.Cell.TheVariants.{Byte, Doubtfu
 use Rattle.tree_definitions.specs.declared.node.Node.{Node}
 use Rattle.tree_definitions.specs.declared.node.Node.TheVariants.{Dir, File, Link}
 use Rattle.tree_definitions.specs.Apply.{is_dir, links_of}
-use Rattle.tree_definitions.specs.Touched.{node_shape, shape_of}
+use Rattle.tree_definitions.specs.Touched.{node_shape, shape_of, doubts, shaped}
 use Rattle.tree_definitions.specs.Tree.{FileTree, node_at}
 use Rattle.tree_laws.specs.Rooms.{SameRoom}
 use Rattle.tree_laws.specs.Touching.{SameKinds, kind_of}
-use Rattle.tree_laws.specs.WellFormed.{IsNew, IsWellFormed, NamesAscend, names_in, names_of, one_at}
+use Rattle.tree_definitions.specs.WellFormed.{IsNew, IsWellFormed, NamesAscend, names_in, names_of, one_at}
 use Rattle.tree_laws.proofs.Likeness.{Like, Near}
-use Rattle.tree_laws.proofs.Pairs.{birth_exact, tie}
+use Rattle.tree_definitions.proofs.Pairs.{birth_exact, tie}
 use Rattle.tree_laws.specs.Alike.{Vaguer}
 use Rattle.tree_laws.proofs.Vagueness.{vague}
 use Rattle.tree_laws.proofs.Changes.{same_dir, same_links}
-use Rattle.tree_laws.proofs.ShapeNodes.{count_stays, doubts, found, keys_stay, room_stays, shaped, shapes}
+use Rattle.tree_laws.proofs.ShapeNodes.{count_stays, found, keys_stay, room_stays, shapes}
 use Rattle.tree_laws.proofs.ShapeKeeping.{names_stay, dir_back}
 use Rattle.disk_definitions.specs.Naming.{Allows, cell_in}
 use Rattle.byte_trees.specs.Sharp.{NamesNoOthers, SharpTreesStand, sharp, sharp_node, standing}

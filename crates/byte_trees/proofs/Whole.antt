@@ -2,10 +2,10 @@
 use Rattle.std.proofs.Common.{ℕ, ◌≡◌, ◌≤◌, ◌*◌, ◌/◌, ◌%◌, ⊎_elim, Bool, if◌then◌else◌, is_some, refl, sym, ◌∙◌, ap, subst}
 use Rattle.std.proofs.Math.Path.{fun_ext}
 use Rattle.std.proofs.lemmas.Bool.{cases_lt, le-ltb}
-use Rattle.tree_definitions.specs.Touched.{shape_of}
+use Rattle.tree_definitions.specs.Touched.{shape_of, shaped}
 use Rattle.tree_definitions.specs.Tree.{FileTree, node_at}
-use Rattle.tree_laws.specs.WellFormed.{IsWellFormed}
-use Rattle.tree_laws.proofs.ShapeNodes.{shaped, found}
+use Rattle.tree_definitions.specs.WellFormed.{IsWellFormed}
+use Rattle.tree_laws.proofs.ShapeNodes.{found}
 use Rattle.sector_bytes.specs.Blocks.{version_of}
 use Rattle.sector_bytes.specs.Sectors.{Sectors}
 use Rattle.disk_definitions.specs.Params.{param_in}

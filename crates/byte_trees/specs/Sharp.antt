@@ -8,7 +8,7 @@ use Rattle.tree_definitions.specs.declared.node.Node.TheVariants.{Dir, File, Lin
 use Rattle.tree_definitions.specs.History.{applied, is_answer, leaves_tree, tree_after}
 use Rattle.tree_definitions.specs.Touched.{shape_of}
 use Rattle.tree_definitions.specs.Tree.{FileTree, node_at}
-use Rattle.tree_laws.specs.WellFormed.{IsNew, IsWellFormed}
+use Rattle.tree_definitions.specs.WellFormed.{IsNew, IsWellFormed}
 use Rattle.disk_definitions.specs.Naming.{Allows, cell_in}
 
 -- at each place of the file of each birth this byte stands: the tree's cells name no others, and one in doubt allows any

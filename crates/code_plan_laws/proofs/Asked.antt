@@ -2,8 +2,8 @@
 use Rattle.std.proofs.Common.{◌≡◌, ◌≢◌, ℕ, ◌<◌, ◌≤◌, Bool, true, false, if◌then◌else◌, Option, Some, None, List, [], ◌∷◌, is_some, refl, sym, ap, ◌∙◌, subst, arith}
 use Rattle.frang_base.specs.declared.bitmap.Bitmap.{Bitmap}
 use Rattle.tree_definitions.specs.Tree.{fresh}
-use Rattle.tree_laws.specs.WellFormed.{IsNew}
-use Rattle.tree_laws.proofs.Nodes.{each_but}
+use Rattle.tree_definitions.specs.WellFormed.{IsNew}
+use Rattle.tree_definitions.proofs.Births.{each_but}
 use Rattle.tree_laws.proofs.FreshLaws.{fresh_other}
 use Rattle.sector_bytes.specs.Bytes.{zeros}
 use Rattle.std.specs.Option.{unwrap_or}

@@ -6,7 +6,7 @@ use Rattle.std.specs.BTreeMap.{is_at}
 use Rattle.std.specs.Cmp.{unsigned_tied}
 use Rattle.std.specs.Option.{unwrap_or}
 use Rattle.std.proofs.lemmas.Bool.{ne_eqb}
-use Rattle.tree_laws.proofs.Nodes.{each_but}
+use Rattle.tree_definitions.proofs.Births.{each_but}
 use Rattle.disk_definitions.specs.declared.region.Region.TheVariants as region
 use Rattle.sector_bytes.specs.Bytes.{zeros}
 use Rattle.disk_definitions.specs.Regions.{sector_of, bitmaps_from, inodes_from}

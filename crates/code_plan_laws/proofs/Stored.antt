@@ -3,7 +3,7 @@ use Rattle.std.proofs.Common.{◌≡◌, ◌≢◌, ℕ, ◌*◌, ◌/◌, ◌%�
 use Rattle.std.proofs.lemmas.Bool.Decides.{nat_tests}
 use Rattle.std.proofs.lemmas.Bool.{ne_eqb, lt-ltb}
 use Rattle.tree_definitions.specs.declared.node.Node.TheVariants.{Dir}
-use Rattle.tree_laws.proofs.Nodes.{each_but}
+use Rattle.tree_definitions.proofs.Births.{each_but}
 use Rattle.disk_definitions.specs.declared.region.Region.TheVariants as region
 use Rattle.disk_definitions.specs.Regions.{sector_of}
 use Rattle.disk_definitions.specs.Bitmaps.{bitmap_in}

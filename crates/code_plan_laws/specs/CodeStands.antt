@@ -8,7 +8,7 @@ use Rattle.frang_base.specs.declared.reply.Reply.{Reply}
 use Rattle.frang_base.specs.declared.sector.Sector.{Sector as CodeSector}
 use Rattle.tree_definitions.specs.Tree.{FileTree}
 use Rattle.tree_definitions.specs.Apply.{Applied, apply}
-use Rattle.tree_laws.specs.WellFormed.{IsNew}
+use Rattle.tree_definitions.specs.WellFormed.{IsNew}
 use Rattle.meta_version.specs.declared.plan.Plan.{Plan as CodePlan}
 use Rattle.meta_version.specs.declared.plan.Plan.TheVariants as plan
 use Rattle.sector_bytes.specs.Sectors.{Sectors}

@@ -25,10 +25,10 @@ use Rattle.disk_definitions.specs.Ask.{Ask, AtHand, Met, Sector, BytesAt, LargeA
 use Rattle.disk_definitions.specs.Missing.{is_at_hand}
 use Rattle.disk_definitions.specs.Plans.{Finish, Plan}
 use Rattle.disk_definitions.specs.Written.{Cached, at_hand, changes_of, edited_block, freed_sectors, hand_of, sectors_at_hand}
-use Rattle.plan_laws.specs.Traces.{has_version}
-use Rattle.plan_laws.specs.CoversAtHand.{cover_at_hand}
-use Rattle.plan_laws.specs.Moves.{moved_by}
-use Rattle.plan_laws.specs.Numbered.{moves_of}
+use Rattle.disk_definitions.specs.Traces.{has_version}
+use Rattle.disk_definitions.specs.CoversAtHand.{cover_at_hand}
+use Rattle.disk_definitions.specs.Moves.{moved_by}
+use Rattle.disk_definitions.specs.Numbered.{moves_of}
 use Rattle.disk_definitions.specs.Lines.{plan_of_line}
 use Rattle.core_definitions.specs.Caches.{Cache, usable}
 use Rattle.core_definitions.specs.Sets.{LockSet, has_lock, segments_in}

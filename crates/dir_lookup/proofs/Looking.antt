@@ -8,8 +8,8 @@ use Rattle.disk_definitions.specs.Held.{Segments}
 use Rattle.disk_definitions.specs.Ask.{Ask, Got, ReadInode, ReadDirectory, Sector, Met, bind, meet, number_of}
 use Rattle.disk_definitions.specs.Ask.Met.{Needs, Has}
 use Rattle.disk_definitions.specs.Written.{Cached, at_hand}
-use Rattle.plan_laws.specs.Traces.{Traced, traced, on_from}
-use Rattle.plan_laws.proofs.Traces.{traces_go_on, traces_meet}
+use Rattle.disk_definitions.specs.Traces.{Traced, traced, on_from}
+use Rattle.disk_definitions.proofs.Traces.{traces_go_on, traces_meet}
 use Rattle.dir_lookup.specs.Looked.{Adds}
 use Rattle.dir_lookup.specs.Looks.{looks_of}
 use Rattle.dir_lookup.specs.Reading.{Read, Lacks, Gives, numbered, reading, read_or_lacks}

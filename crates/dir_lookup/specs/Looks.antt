@@ -3,7 +3,7 @@ use Rattle.std.specs.Prelude.{ℕ, List, map}
 use Rattle.disk_definitions.specs.Held.{Segments}
 use Rattle.disk_definitions.specs.Ask.{Ask, number_of}
 use Rattle.disk_definitions.specs.Written.{Cached, at_hand}
-use Rattle.plan_laws.specs.Traces.{traced}
+use Rattle.disk_definitions.specs.Traces.{traced}
 
 abbrev pub looks_of : {A : Type 0} → Ask A → Cached → Segments → List ℕ
 looks_of program cached held = map number_of (traced program (at_hand cached held)).looked

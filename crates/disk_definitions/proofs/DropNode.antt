@@ -5,7 +5,7 @@ use Rattle.std.proofs.lemmas.Bool.{eqb-false, eqb-true}
 use Rattle.tree_definitions.specs.declared.node.Node.{Node}
 use Rattle.tree_definitions.specs.declared.node.Node.TheVariants.{Dir, File, Link}
 use Rattle.frang_base.proofs.Basics.{by_test, at_put, put_same, put_other}
-use Rattle.tree_laws.specs.WellFormed.{put as put_node}
+use Rattle.tree_definitions.specs.WellFormed.{put as put_node}
 use Rattle.disk_definitions.specs.Store.{Store, StoredEntry}
 use Rattle.disk_definitions.specs.Store.Use.{Empty}
 use Rattle.disk_definitions.specs.Naming.{Naming, Nodes, Pictures, kind_of, blocks_of, find_in, room_in, inode_for, use_by, use_for, dir_place}

@@ -7,8 +7,8 @@ use Rattle.tree_definitions.specs.declared.node.Node.TheVariants.{Dir}
 use Rattle.tree_definitions.specs.Entries.{Entries}
 use Rattle.frang_base.specs.Functions.{put}
 use Rattle.frang_base.proofs.Basics.{at_put, put_same, put_other}
-use Rattle.tree_laws.specs.WellFormed.{put as put_node}
-use Rattle.tree_laws.proofs.Nodes.{each_but}
+use Rattle.tree_definitions.specs.WellFormed.{put as put_node}
+use Rattle.tree_definitions.proofs.Births.{each_but}
 use Rattle.disk_definitions.specs.Store.{Store, StoredEntry}
 use Rattle.disk_definitions.specs.Store.Use.{Entries as OfEntries}
 use Rattle.disk_definitions.specs.Naming.{Naming, Nodes, Pictures, find_in, room_in, first_blocks, inode_of, inode_by, inode_for, use_by, use_for, entry_of, dir_place}

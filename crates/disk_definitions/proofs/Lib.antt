@@ -19,7 +19,6 @@ pub mod DirectoryLaws
 pub mod BitmapExamples
 pub mod LogSectorExamples
 pub mod DirectoryExamples
-pub mod ImageExamples
 pub mod RecordExamples
 pub mod LogExamples
 pub mod Listed
@@ -54,3 +53,4 @@ pub mod Resize
 pub mod WorkedChanges
 pub mod PlanExamples
 pub mod LineExamples
+pub mod Traces

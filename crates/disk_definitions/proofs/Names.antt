@@ -7,7 +7,7 @@ use Rattle.std.proofs.lemmas.Bool.{both_ways}
 use Rattle.tree_definitions.specs.Entries.{entry_at, without_entry}
 use Rattle.frang_base.proofs.Basics.{by_test}
 use Rattle.frang_base.proofs.Tests.{some_there}
-use Rattle.tree_laws.proofs.Pairs.{tie, self, name_exact, found_put, found_other, found_left, found_removed, length_put, length_kept, length_removed}
+use Rattle.tree_definitions.proofs.Pairs.{tie, self, name_exact, found_put, found_other, found_left, found_removed, length_put, length_kept, length_removed}
 use Rattle.disk_definitions.specs.Namings.{put_name}
 use Rattle.disk_definitions.specs.ChangeLaws.{NamesCome, NamesGo, NamesMove, NamesAreTaken}
 

@@ -7,7 +7,7 @@ use Rattle.tree_definitions.specs.declared.node.Node.TheVariants.{Dir, File, Lin
 use Rattle.frang_base.specs.Functions.{put}
 use Rattle.frang_base.proofs.Basics.{at_put, put_same, put_other}
 use Rattle.frang_base.proofs.Tests.{none_of}
-use Rattle.tree_laws.specs.WellFormed.{put as put_node}
+use Rattle.tree_definitions.specs.WellFormed.{put as put_node}
 use Rattle.disk_definitions.specs.Store.{Store}
 use Rattle.disk_definitions.specs.Naming.{Naming, Nodes, Pictures, kind_of, blocks_of, has_large, find_in, room_in, cell_in, first_blocks, inode_of, inode_by, inode_for}
 use Rattle.disk_definitions.specs.Edits.{edited_all}

@@ -6,8 +6,7 @@ use Rattle.tree_definitions.specs.declared.cells.Cell.{Cell}
 use Rattle.tree_definitions.specs.declared.cells.Cell.TheVariants as cell
 use Rattle.tree_definitions.specs.declared.node.Node.{Node}
 use Rattle.tree_definitions.specs.declared.node.Node.TheVariants.{Dir, File, Link}
-use Rattle.tree_definitions.specs.Touched.{node_shape}
-use Rattle.tree_laws.proofs.ShapeNodes.{shaped, doubts}
+use Rattle.tree_definitions.specs.Touched.{node_shape, shaped, doubts}
 use Rattle.disk_definitions.specs.Naming.{Allows, cell_in, first_blocks, kind_of}
 
 -- a block is the same among the first so many, and none behind them

@@ -5,7 +5,7 @@ use Rattle.tree_definitions.specs.declared.node.Node.{Node}
 use Rattle.tree_definitions.specs.declared.node.Node.TheVariants.{Dir, File, Link}
 use Rattle.tree_definitions.specs.Apply.{is_dir}
 use Rattle.frang_base.proofs.Basics.{at_put}
-use Rattle.tree_laws.specs.WellFormed.{put as put_node}
+use Rattle.tree_definitions.specs.WellFormed.{put as put_node}
 use Rattle.disk_definitions.specs.Store.{Store}
 use Rattle.disk_definitions.specs.Naming.{Naming, Nodes, Pictures, kind_of, blocks_of, has_large, find_in, room_in, cell_in, inode_of, use_by}
 use Rattle.disk_definitions.specs.Edits.{edited_all}

@@ -6,8 +6,8 @@ use Rattle.tree_definitions.specs.declared.cells.Cell.{Cell}
 use Rattle.tree_definitions.specs.declared.node.Node.TheVariants.{File}
 use Rattle.tree_definitions.specs.Tree.{small_blocks_of}
 use Rattle.frang_base.proofs.Basics.{by_test, at_put, put_same, put_other}
-use Rattle.tree_laws.specs.WellFormed.{put as put_node}
-use Rattle.tree_laws.proofs.Nodes.{each_but}
+use Rattle.tree_definitions.specs.WellFormed.{put as put_node}
+use Rattle.tree_definitions.proofs.Births.{each_but}
 use Rattle.disk_definitions.specs.Store.{Store, StoredEntry}
 use Rattle.disk_definitions.specs.Store.Use.{Fresh, Bytes, Empty, Entries}
 use Rattle.disk_definitions.specs.Standing.{IsMetadata}

@@ -8,7 +8,7 @@ use Rattle.std.specs.Ordering.{nat_cmp}
 use Rattle.frang_base.specs.declared.bitmap.Bitmap.{Bitmap}
 use Rattle.disk_definitions.specs.Bitmaps.{inode_bit, block_state}
 use Rattle.disk_definitions.proofs.Chosen.{chosen, chosen_same, chosen_other}
-use Rattle.tree_laws.proofs.Pairs.{birth_exact, found_put, found_other}
+use Rattle.tree_definitions.proofs.Pairs.{birth_exact, found_put, found_other}
 use Rattle.disk_definitions.specs.Held.{Segments, bitmap_of, inode_in, state_in, large_in}
 use Rattle.disk_definitions.specs.Taken.{with_state, with_inode, with_large, put_bitmap, changed_at, taken_small, marked_inode, marked_large, with_states}
 use Rattle.disk_definitions.specs.PickLaws.{SmallBlockIsChanged, InodeIsMarked, LargeBlockIsMarked, SegmentsAreChanged, StatesAreChanged}

@@ -6,7 +6,7 @@ use Rattle.tree_definitions.specs.declared.cells.Cell.TheVariants as cell
 use Rattle.tree_definitions.specs.declared.node.Node.TheVariants.{Dir, File}
 use Rattle.frang_base.specs.Functions.{put}
 use Rattle.frang_base.proofs.Basics.{at_put}
-use Rattle.tree_laws.specs.WellFormed.{put as put_node}
+use Rattle.tree_definitions.specs.WellFormed.{put as put_node}
 use Rattle.disk_definitions.specs.Store.{Store, StoredNode, byte_at}
 use Rattle.disk_definitions.specs.Store.Use.{Fresh, Bytes, Entries}
 use Rattle.disk_definitions.specs.Naming.{Naming, Nodes, Pictures, find_in, inode_of, Allows}

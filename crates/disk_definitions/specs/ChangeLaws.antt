@@ -11,7 +11,7 @@ use Rattle.tree_definitions.specs.declared.node.Node.TheVariants.{Dir, File, Lin
 use Rattle.tree_definitions.specs.Entries.{Entries, entry_at, with_entry, without_entry}
 use Rattle.tree_definitions.specs.Apply.{is_dir}
 use Rattle.frang_base.specs.Functions.{put}
-use Rattle.tree_laws.specs.WellFormed.{put as put_node}
+use Rattle.tree_definitions.specs.WellFormed.{put as put_node}
 use Rattle.disk_definitions.specs.Store.{Store, StoredNode, is_unused}
 use Rattle.disk_definitions.specs.Store.Use.{Fresh, Bytes}
 use Rattle.disk_definitions.specs.Standing.{IsMetadata}

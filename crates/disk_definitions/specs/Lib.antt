@@ -8,7 +8,6 @@ pub mod LogSectors
 pub mod Store
 pub mod Naming
 pub mod Standing
-pub mod Images
 pub mod Records
 pub mod Frames
 pub mod Logs
@@ -42,3 +41,8 @@ pub mod SmallRecords
 pub mod OnDisk
 pub mod Resolving
 pub mod Lines
+pub mod Traces
+pub mod Covers
+pub mod Moves
+pub mod Numbered
+pub mod CoversAtHand

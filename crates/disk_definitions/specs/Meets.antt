@@ -7,7 +7,7 @@ use Rattle.tree_definitions.specs.declared.cells.Cell.{Cell}
 use Rattle.tree_definitions.specs.Tree.{FileTree, node_at}
 use Rattle.tree_definitions.specs.Apply.{Answer, Applied}
 use Rattle.tree_definitions.specs.Apply.Answer.{Plain, Shows}
-use Rattle.tree_laws.specs.WellFormed.{IsWellFormed}
+use Rattle.tree_definitions.specs.WellFormed.{IsWellFormed}
 use Rattle.disk_definitions.specs.Store.{Store, Use, use_by}
 use Rattle.disk_definitions.specs.Store.Use.{Fresh}
 use Rattle.disk_definitions.specs.Naming.{Naming, Pictures, Allows}

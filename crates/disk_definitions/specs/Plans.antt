@@ -1,5 +1,5 @@
 -- What a plan comes to, and what it picks of the segments that are held. What the tenses of its names mean says NamePlans.
-use Rattle.std.specs.Prelude.{ℕ, ◌+◌, ◌*◌, ◌/◌, Bool, not, ◌&&◌, if◌then◌else◌, nat_le, nat_lt, Option, Some, None, List, [], ◌∷◌, ◌++◌, map}
+use Rattle.std.specs.Prelude.{ℕ, ◌+◌, ◌*◌, ◌/◌, Bool, true, false, not, ◌&&◌, if◌then◌else◌, nat_le, nat_lt, Option, Some, None, List, [], ◌∷◌, ◌++◌, map}
 use Rattle.std.specs.Map.{keys_of}
 use Rattle.frang_base.specs.declared.limits.TheConstants.{BLOCK_ENTRIES, DIRECTORY_ENTRIES_MAX, INODE_BLOCKS_MAX, SEGMENT_BLOCKS, SMALL_BLOCK_SECTORS}
 use Rattle.frang_base.specs.declared.lock.LockId.{LockId}
@@ -7,6 +7,7 @@ use Rattle.frang_base.specs.declared.lock.LockId.TheVariants as lock
 use Rattle.frang_base.specs.declared.lock.Mode.{Mode}
 use Rattle.frang_base.specs.declared.lock.Mode.TheVariants.{Shared, Sole}
 use Rattle.frang_base.specs.declared.reply.Reply.{Reply}
+use Rattle.frang_base.specs.declared.reply.Reply.TheVariants as reply
 use Rattle.frang_base.specs.Functions.{put}
 use Rattle.disk_definitions.specs.Store.{StoredNode, StoredEntry}
 use Rattle.disk_definitions.specs.Edits.{Edit}
@@ -57,6 +58,14 @@ refuse reply touched = Finishes (record { reply = reply; edits = []; locks = sha
 
 abbrev pub refused : Reply → List ℕ → Ask Plan
 refused reply touched = Got (refuse reply touched)
+
+-- an allocation found nothing
+abbrev pub says_full : Reply → Bool
+says_full reply.NoInode = true
+says_full reply.NoDirBlock = true
+says_full reply.NoLarge = true
+says_full (reply.NoBlock ever_directories) = true
+says_full _ = false
 
 -- an allocation that found nothing: said only where every segment is held
 abbrev pub none_left : Hand → Reply → List ℕ → Ask Plan

@@ -23,7 +23,6 @@
 mod changes;
 mod directory;
 mod disk;
-mod image;
 mod inode;
 mod log_sector;
 mod param;
@@ -39,7 +38,6 @@ pub use changes::{
 };
 pub use directory::{DirEntry, DirSector};
 pub use disk::Disk;
-pub use image::{ImageFault, ImageFlaw};
 pub use inode::Inode;
 pub use log_sector::LogSector;
 pub use param::{FORMAT_NEWEST, Param};

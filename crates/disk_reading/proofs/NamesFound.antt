@@ -9,7 +9,7 @@ use Rattle.std.specs.Cmp.Lexicographic.{slice_cmp}
 use Rattle.std.proofs.lemmas.Bool.{or_cases, and_parts, cond-true}
 use Rattle.frang_base.proofs.Basics.{by_test}
 use Rattle.tree_definitions.specs.Entries.{Entries, entry_at}
-use Rattle.tree_laws.proofs.Pairs.{name_exact, self, tie, none_below}
+use Rattle.tree_definitions.proofs.Pairs.{name_exact, self, tie, none_below}
 use Rattle.disk_reading.specs.Reach.{has_value}
 
 pub value_named : (es : Entries) (v : ℕ) → IsStrictlySortedBy (slice_cmp nat_cmp) (keys_of es) → has_value (values_of es) v ≡ true → (name : List ℕ) × (entry_at es name ≡ Some v)

@@ -11,7 +11,7 @@ use Rattle.tree_definitions.specs.declared.node.Node.TheVariants.{Dir, File, Lin
 use Rattle.tree_definitions.specs.Entries.{Entries}
 use Rattle.tree_definitions.specs.Tree.{FileTree, node_at}
 use Rattle.tree_definitions.specs.TreeLines.{path_text, name_below, lines_with, lines_from, tree_lines}
-use Rattle.tree_laws.proofs.Pairs.{birth_exact, length_put}
+use Rattle.tree_definitions.proofs.Pairs.{birth_exact, length_put}
 use Rattle.file_tree.proofs.EntryLines.{deeper}
 use Rattle.disk_definitions.specs.declared.inode.Inode.{Inode}
 use Rattle.disk_definitions.specs.declared.param.Param.{Param}

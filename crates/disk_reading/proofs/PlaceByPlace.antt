@@ -9,7 +9,7 @@ use Rattle.disk_definitions.specs.Inodes.{is_free_inode, is_file_inode, is_direc
 use Rattle.tree_definitions.specs.declared.cells.Cell.{Cell}
 use Rattle.tree_definitions.specs.declared.node.Node.TheVariants.{Dir, File, Link}
 use Rattle.tree_definitions.specs.Entries.{Entries, entry_at}
-use Rattle.tree_laws.proofs.Pairs.{name_exact, length_put}
+use Rattle.tree_definitions.proofs.Pairs.{name_exact, length_put}
 use Rattle.disk_definitions.specs.Store.{Store, StoredEntry, stored}
 use Rattle.standing_laws.specs.ReadTree.{place_at, with_place, entries_to, byte_at, cells_to}
 use Rattle.standing_laws.specs.Soundness.{has_kind, entry_agrees, entries_agree, directory_agrees, node_agrees}

@@ -13,7 +13,7 @@ use Rattle.std.specs.List.{list_all}
 use Rattle.std.specs.Map.{lookup, keys_of, values_of}
 use Rattle.std.specs.BTreeMap.{is_at}
 use Rattle.std.specs.Ordering.{nat_cmp}
-use Rattle.tree_laws.proofs.Pairs.{birth_exact, tie, self}
+use Rattle.tree_definitions.proofs.Pairs.{birth_exact, tie, self}
 use Rattle.standing_laws.specs.Below.{all_below}
 use Rattle.standing_laws.proofs.Bounded.{all_at}
 use Rattle.disk_reading.proofs.NamesFound.{value_named, named_all}

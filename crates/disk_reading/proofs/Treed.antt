@@ -6,7 +6,7 @@ use Rattle.std.proofs.lemmas.Bool.{and_parts, and_from, cond-true}
 use Rattle.tree_definitions.specs.declared.node.Node.{Node}
 use Rattle.tree_definitions.specs.declared.node.Node.TheVariants.{Dir, File, Link}
 use Rattle.tree_definitions.specs.Tree.{FileTree, node_at, count_of, small_blocks, file_blocks, dir_blocks}
-use Rattle.tree_laws.proofs.Pairs.{birth_exact}
+use Rattle.tree_definitions.proofs.Pairs.{birth_exact}
 use Rattle.frang_base.specs.Name.{is_target, is_target_byte}
 use Rattle.disk_definitions.specs.declared.param.Param.{Param}
 use Rattle.std.specs.Str.{bytes_eq}

@@ -5,7 +5,7 @@ use Rattle.std.specs.BTreeMap.{is_at}
 use Rattle.std.specs.Ordering.{nat_cmp}
 use Rattle.tree_definitions.specs.Apply.{links_of}
 use Rattle.tree_definitions.specs.declared.node.Node.{Node}
-use Rattle.tree_laws.specs.WellFormed.{one_at, names_in}
+use Rattle.tree_definitions.specs.WellFormed.{one_at, names_in}
 
 -- counts of 64 bits, which stop at their greatest
 abbrev pub counted : ℕ → ℕ

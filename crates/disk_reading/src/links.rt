@@ -1,7 +1,7 @@
 // How often the tree names each inode, against its links.
 ghost use Rattle.std.specs.Prelude.{◌≡◌, ◌≤◌, ◌<◌, ◌*◌, ℕ, length, sum_by, slice_index, IfOk};
 ghost use Rattle.std.specs.Map.{lookup, values_of};
-ghost use Rattle.tree_laws.specs.WellFormed.{one_at, names_in};
+ghost use Rattle.tree_definitions.specs.WellFormed.{one_at, names_in};
 ghost use Rattle.disk_reading.specs.Names.{AreCountedOn, counted, is_linked};
 ghost use Rattle.std.specs.BTreeMap.{is_at};
 ghost use Rattle.std.specs.Ordering.{nat_cmp};

@@ -7,7 +7,7 @@ use Rattle.std.specs.Option.{unwrap_or}
 use Rattle.std.specs.Ordering.{nat_cmp}
 use Rattle.std.proofs.lemmas.Bool.{cases_eq}
 use Rattle.frang_base.proofs.Basics.{by_test}
-use Rattle.tree_laws.proofs.Pairs.{birth_exact, none_below, self, tie}
+use Rattle.tree_definitions.proofs.Pairs.{birth_exact, none_below, self, tie}
 use Rattle.sector_bytes.specs.Sectors.{Sectors, SameSectors, sectors_of}
 use Rattle.disk_replay.proofs.SectorsSet.{set_elsewhere, set_there}
 

@@ -4,7 +4,7 @@ use Rattle.std.specs.BTreeMap.{insert_entry}
 use Rattle.std.specs.Option.{unwrap_or}
 use Rattle.std.specs.Ordering.{nat_cmp}
 use Rattle.sector_bytes.specs.Bytes.{zeros}
-use Rattle.tree_laws.proofs.Pairs.{birth_exact, found_other, found_put}
+use Rattle.tree_definitions.proofs.Pairs.{birth_exact, found_other, found_put}
 use Rattle.sector_bytes.specs.Sectors.{sectors_of}
 
 pub set_there : (es : List (ℕ × List ℕ)) (sector : ℕ) (block : List ℕ) → sectors_of (insert_entry nat_cmp es sector block) sector ≡ block

@@ -5,7 +5,7 @@ use Rattle.std.specs.Option.{option_or}
 use Rattle.frang_base.specs.declared.lock.LockId.{LockId}
 use Rattle.disk_definitions.specs.Edits.{Edit}
 use Rattle.disk_definitions.specs.Ask.{Sector, InodeAt, DirectoryAt, SegmentAt, BytesAt, LargeAt}
-use Rattle.plan_laws.specs.Moves.{moved_by}
+use Rattle.disk_definitions.specs.Moves.{moved_by}
 use Rattle.edit_moves.specs.declared.thing.Thing.{Thing}
 use Rattle.edit_moves.specs.declared.thing.Thing.TheVariants as thing
 use Rattle.edit_moves.specs.declared.moves.Move.{Move}

@@ -9,7 +9,7 @@ use Rattle.disk_definitions.specs.Store.{Use, use_by}
 use Rattle.disk_definitions.specs.Edits.{Edit}
 use Rattle.disk_definitions.specs.Edits.Edit.{SetBit, SetUse, SetLarge}
 use Rattle.disk_definitions.specs.Ask.{Sector, InodeAt, DirectoryAt, SegmentAt, BytesAt, LargeAt, number_of}
-use Rattle.plan_laws.specs.Moves.{first_said, bit_said, inode_move, moved_block, large_said, large_taker_said, large_move}
+use Rattle.disk_definitions.specs.Moves.{first_said, bit_said, inode_move, moved_block, large_said, large_taker_said, large_move}
 use Rattle.edit_moves.specs.declared.thing.Thing.{Thing}
 use Rattle.edit_moves.specs.declared.thing.Thing.TheVariants as thing
 use Rattle.edit_moves.specs.declared.moves.Move.{Move}

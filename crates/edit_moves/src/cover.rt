@@ -2,7 +2,7 @@
 ghost use Rattle.std.specs.Prelude.{◌≡◌, ◌≤◌};
 ghost use Rattle.frang_base.specs.declared.limits.TheConstants.{SEGMENTS_MAX};
 ghost use Rattle.disk_definitions.specs.Regions.{region_of};
-ghost use Rattle.plan_laws.specs.CoversAtHand as covers;
+ghost use Rattle.disk_definitions.specs.CoversAtHand as covers;
 
 use crate::held::{is_free_inode, is_free_large, is_marked_unused};
 use crate::owners::{large_owner, small_owner};

@@ -4,7 +4,7 @@ ghost use Rattle.frang_base.specs.declared.limits.TheConstants.{SEGMENT_BLOCKS};
 ghost use Rattle.disk_definitions.specs.Bitmaps.{block_state};
 ghost use Rattle.disk_definitions.specs.Held.{inode_in, large_in};
 ghost use Rattle.disk_definitions.specs.Picks.{is_free};
-ghost use Rattle.plan_laws.specs.CoversAtHand.{is_marked_unused};
+ghost use Rattle.disk_definitions.specs.CoversAtHand.{is_marked_unused};
 
 use bitmap_block::{BlockState, inode_in_use, state_of};
 use frang_base::limits::{SEGMENT_BLOCKS, SEGMENT_INODES};

@@ -4,8 +4,8 @@ ghost use Rattle.std.specs.List.{IsDistinct};
 ghost use Rattle.std.specs.Option.{option_map};
 ghost use Rattle.disk_definitions.specs.Ask.{Sector};
 ghost use Rattle.disk_definitions.specs.Store.{is_unused};
-ghost use Rattle.plan_laws.specs.Moves as covers;
-ghost use Rattle.plan_laws.specs.Moves.{moved_block, moved_by};
+ghost use Rattle.disk_definitions.specs.Moves as covers;
+ghost use Rattle.disk_definitions.specs.Moves.{moved_block, moved_by};
 ghost use Rattle.plan_steps.specs.Edits.{edit_of, edits_of};
 ghost use Rattle.edit_moves.specs.Moves.{has_thing, is_same, lock_by, cover_in, moves_by, thing_said, use_as, with_move};
 

@@ -2,7 +2,7 @@
 ghost use Rattle.std.specs.Prelude.{◌≡◌, ◌≤◌};
 ghost use Rattle.frang_base.specs.declared.limits.TheConstants.{SEGMENTS_MAX};
 ghost use Rattle.disk_definitions.specs.Written.{inode_at_hand};
-ghost use Rattle.plan_laws.specs.CoversAtHand as covers;
+ghost use Rattle.disk_definitions.specs.CoversAtHand as covers;
 
 use crate::{has_large, has_small};
 use dir_lookup::{Looked, inode_at};

@@ -2,8 +2,8 @@
 ghost use Rattle.std.specs.Prelude.{◌≡◌, ◌==◌, ◌+◌};
 ghost use Rattle.std.specs.Option.{option_map};
 ghost use Rattle.disk_definitions.specs.Store.{stored};
-ghost use Rattle.plan_laws.specs.Moves as covers;
-ghost use Rattle.plan_laws.specs.Moves.{first_said};
+ghost use Rattle.disk_definitions.specs.Moves as covers;
+ghost use Rattle.disk_definitions.specs.Moves.{first_said};
 ghost use Rattle.plan_steps.specs.Edits.{edit_of, edits_of};
 ghost use Rattle.edit_moves.specs.Moves.{use_as};
 

@@ -7,7 +7,7 @@ use Rattle.tree_definitions.specs.TreeLines.{tree_lines}
 use Rattle.frang_outside.specs.Outside.{State}
 use Rattle.frang_outside.specs.Files.{State as FilesState, Holds, IsFile, OthersStay}
 use Rattle.sector_bytes.specs.Sectors.{sectors_of}
-use Rattle.disk_definitions.specs.Images.{Blocks, image_in}
+use Rattle.image_file.specs.Images.{Blocks, image_in}
 use Rattle.disk_definitions.specs.Replay.{replayed}
 use Rattle.report_definitions.specs.Laws.{StandsForSome}
 use Rattle.image_file.specs.declared.refusal.ImageRead.TheVariants as refused

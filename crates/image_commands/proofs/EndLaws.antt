@@ -9,7 +9,7 @@ use Rattle.frang_base.specs.declared.said.Said.{Said}
 use Rattle.frang_outside.specs.Outside.{State, Rose}
 use Rattle.frang_outside.specs.Files.{State as FilesState, Holds, IsFile, OthersStay}
 use Rattle.sector_bytes.specs.Sectors.{SameSectors, sectors_of}
-use Rattle.disk_definitions.specs.Images.{Blocks, image_in}
+use Rattle.image_file.specs.Images.{Blocks, image_in}
 use Rattle.image_file.specs.declared.refusal.ImageRead.TheVariants as refused
 use Rattle.image_file.specs.Answers.{GivesImage}
 use Rattle.disk_definitions.specs.Replay.{replayed}

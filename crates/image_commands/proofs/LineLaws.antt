@@ -9,7 +9,7 @@ use Rattle.frang_base.specs.declared.said.Said.TheVariants as said
 use Rattle.tree_definitions.specs.Numbers.{below}
 use Rattle.disk_definitions.specs.Params.{param_in}
 use Rattle.sector_bytes.specs.Sectors.{Sectors, SameSectors, sectors_of}
-use Rattle.disk_definitions.specs.Images.{Blocks}
+use Rattle.image_file.specs.Images.{Blocks}
 use Rattle.disk_definitions.specs.Standing.{StandsFor}
 use Rattle.disk_definitions.specs.Replay.{replayed}
 use Rattle.disk_replay.specs.Laid.{greatest_at, greatest_kept, records_at}

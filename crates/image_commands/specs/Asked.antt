@@ -4,7 +4,7 @@ use Rattle.frang_base.specs.declared.limits.TheConstants.{IMAGE_BYTES_MAX}
 use Rattle.frang_outside.specs.Outside.{State, Rose}
 use Rattle.frang_outside.specs.Files.{State as FilesState, Holds, OthersStay}
 use Rattle.sector_bytes.specs.Sectors.{sectors_of}
-use Rattle.disk_definitions.specs.Images.{Blocks, image_in}
+use Rattle.image_file.specs.Images.{Blocks, image_in}
 use Rattle.disk_definitions.specs.Replay.{replayed}
 use Rattle.report_definitions.specs.Laws.{StandsForSome}
 use Rattle.command_words.specs.Commands.{ImageAsks, Recover, Tree, Log, Fsck}

@@ -11,7 +11,7 @@ use Rattle.tree_definitions.specs.Numbers.{below}
 use Rattle.tree_definitions.specs.Tree.{FileTree}
 use Rattle.tree_definitions.specs.TreeLines.{tree_lines}
 use Rattle.sector_bytes.specs.Sectors.{Sectors, sectors_of}
-use Rattle.disk_definitions.specs.Images.{Blocks}
+use Rattle.image_file.specs.Images.{Blocks}
 use Rattle.disk_definitions.specs.Standing.{StandsFor}
 use Rattle.disk_definitions.specs.Logs.{log_records, greatest_operation}
 use Rattle.disk_definitions.specs.Replay.{replayed, slots_of}

@@ -2,7 +2,7 @@
 use Rattle.std.specs.Prelude.{Option, Some, None, List}
 use Rattle.frang_base.specs.declared.said.Said.{Said}
 use Rattle.sector_bytes.specs.Sectors.{SameSectors, sectors_of}
-use Rattle.disk_definitions.specs.Images.{Blocks}
+use Rattle.image_file.specs.Images.{Blocks}
 use Rattle.disk_definitions.specs.Replay.{replayed}
 use Rattle.image_commands.specs.declared.lines.Recovery.{Recovery}
 use Rattle.image_commands.specs.Lines.{IsRecovery}

@@ -5,9 +5,9 @@ use Rattle.frang_base.specs.declared.limits.TheConstants.{SEGMENTS_MAX}
 use Rattle.disk_definitions.specs.declared.region.Region.{Region}
 use Rattle.disk_definitions.specs.declared.region.Region.TheVariants as region
 use Rattle.disk_definitions.specs.Regions.{region_of}
-use Rattle.disk_definitions.specs.declared.image.ImageFlaw.{ImageFlaw}
-use Rattle.disk_definitions.specs.declared.image.ImageFlaw.TheVariants.{Cut, OtherMark, OutOfOrder, NoRegion, OfZeros, BytesAfter, BadSector}
-use Rattle.disk_definitions.specs.Images.{kind_of}
+use Rattle.image_file.specs.declared.fault.ImageFlaw.{ImageFlaw}
+use Rattle.image_file.specs.declared.fault.ImageFlaw.TheVariants.{Cut, OtherMark, OutOfOrder, NoRegion, OfZeros, BytesAfter, BadSector}
+use Rattle.image_file.specs.Images.{kind_of}
 use Rattle.image_commands.specs.declared.sentences.TheConstants.{FIRST_ENTRY}
 
 -- the flaw whose kind has this number

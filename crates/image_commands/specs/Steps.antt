@@ -11,7 +11,7 @@ use Rattle.frang_outside.specs.Files.{State as FilesState, IsFile, OthersStay}
 use Rattle.sector_bytes.specs.Sectors.{SameSectors, sectors_of}
 use Rattle.disk_definitions.specs.Replay.{replayed}
 use Rattle.image_commands.specs.Lines.{IsRecovery}
-use Rattle.disk_definitions.specs.Images.{Blocks, image_in, image_text}
+use Rattle.image_file.specs.Images.{Blocks, image_in, image_text}
 use Rattle.image_file.specs.declared.refusal.ImageRead.TheVariants as refused
 use Rattle.image_file.specs.Answers.{GivesImage}
 use Rattle.image_commands.specs.declared.end.ImageEnd.{ImageEnd}

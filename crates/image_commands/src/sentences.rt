@@ -2,10 +2,11 @@
 ghost use Rattle.std.specs.Prelude.{◌≡◌, IfOk, string_bytes};
 ghost use Rattle.image_commands.specs.Sentences.{bad_part_words, bad_sector_words, fault_sentence, flaw_with, flaw_words, part_words};
 
-use disk_definitions::{ImageFlaw, Region};
+use disk_definitions::Region;
 use frang_base::limits::SEGMENTS_MAX;
 use frang_base::{NoMemory, Sector};
 use frang_layout::region_of;
+use image_file::ImageFlaw;
 use std::alloc::Global;
 
 // The place of an image's first entry, behind its header.

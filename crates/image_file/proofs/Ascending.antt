@@ -10,7 +10,7 @@ use Rattle.std.proofs.lemmas.Bool.{not-true}
 use Rattle.frang_base.proofs.Basics.{by_test}
 use Rattle.frang_base.proofs.Tests.{cmp_less}
 use Rattle.sector_bytes.specs.Bytes.{are_zero}
-use Rattle.disk_definitions.specs.Images.{Blocks, sectors_written}
+use Rattle.image_file.specs.Images.{Blocks, sectors_written}
 use Rattle.image_file.proofs.EntryBytes.{IsEntry}
 use Rattle.image_file.proofs.EntriesRead.{Ascend}
 

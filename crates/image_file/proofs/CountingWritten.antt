@@ -3,7 +3,7 @@ use Rattle.std.proofs.Common.{◌≡◌, ℕ, suc, Bool, true, false, not, cond,
 use Rattle.std.specs.List.{flat_map}
 use Rattle.std.specs.Map.{values_of}
 use Rattle.sector_bytes.specs.Bytes.{are_zero}
-use Rattle.disk_definitions.specs.Images.{Blocks, image_entry, sectors_written}
+use Rattle.image_file.specs.Images.{Blocks, image_entry, sectors_written}
 use Rattle.image_file.specs.Entries.{written_blocks}
 
 both : (b : Bool) (block : List ℕ) (e : ℕ × List ℕ) (xs : List (List ℕ)) (ys : Blocks) → length xs ≡ length ys → length (cond b (block ∷ xs) xs) ≡ length (cond b (e ∷ ys) ys)

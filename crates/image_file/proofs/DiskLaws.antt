@@ -12,7 +12,7 @@ use Rattle.frang_base.proofs.Basics.{by_test}
 use Rattle.frang_base.proofs.Tests.{at_only}
 use Rattle.sector_bytes.specs.Bytes.{number_at, zeros, are_zero, AreBytes}
 use Rattle.sector_bytes.specs.Sectors.{sectors_of, SameSectors}
-use Rattle.disk_definitions.specs.Images.{Blocks, image_entry, entry_in, image_with, image_text, image_in, sectors_written}
+use Rattle.image_file.specs.Images.{Blocks, image_entry, entry_in, image_with, image_text, image_in, sectors_written}
 use Rattle.image_file.specs.Laws.{ReadsBack}
 use Rattle.image_file.proofs.EntryBytes.{IsEntry, entry_reads, behind_entry}
 use Rattle.image_file.proofs.Ascending.{Above, ascend_of, sorted_written, all_written, written_not_zero, written_all, above_written}

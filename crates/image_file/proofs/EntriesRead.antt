@@ -8,10 +8,10 @@ use Rattle.disk_definitions.specs.declared.region.Region.{Region}
 use Rattle.sector_bytes.specs.Bytes.{are_zero, AreBytes}
 use Rattle.disk_definitions.specs.Regions.{region_of}
 use Rattle.disk_definitions.proofs.NumberBytes.{drop_are}
-use Rattle.disk_definitions.specs.declared.image.ImageFault.{ImageFault}
-use Rattle.disk_definitions.specs.declared.image.ImageFlaw.{ImageFlaw}
-use Rattle.disk_definitions.specs.declared.image.ImageFlaw.TheVariants.{Cut, OutOfOrder, OfZeros, BadSector}
-use Rattle.disk_definitions.specs.Images.{Blocks, image_entry, entry_in, IsImaged, block_fits, block_flaw, entry_flaw, fault, judged, entries_in}
+use Rattle.image_file.specs.declared.fault.ImageFault.{ImageFault}
+use Rattle.image_file.specs.declared.fault.ImageFlaw.{ImageFlaw}
+use Rattle.image_file.specs.declared.fault.ImageFlaw.TheVariants.{Cut, OutOfOrder, OfZeros, BadSector}
+use Rattle.image_file.specs.Images.{Blocks, image_entry, entry_in, IsImaged, block_fits, block_flaw, entry_flaw, fault, judged, entries_in}
 use Rattle.image_file.specs.Laws.{IsOfDisk, ReadsBack}
 use Rattle.image_file.proofs.EntryBytes.{IsEntry, length_entry, entry_reads, behind_entry, entry_again, read_entry}
 

@@ -6,7 +6,7 @@ use Rattle.byteorder.specs.Endian.{little_from, little_bytes}
 use Rattle.byteorder.specs.Numbers.{little_from-lt, little_number-reads_back, length-bytes_low_first}
 use Rattle.sector_bytes.specs.Bytes.{AreBytes}
 use Rattle.disk_definitions.proofs.NumberBytes.{number_again}
-use Rattle.disk_definitions.specs.Images.{image_entry, entry_in}
+use Rattle.image_file.specs.Images.{image_entry, entry_in}
 
 -- a number of eight bytes, and a block
 pub record IsEntry (e : ℕ × List ℕ) : Type 0 where

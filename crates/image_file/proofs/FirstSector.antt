@@ -16,10 +16,10 @@ use Rattle.disk_definitions.specs.Params.{param_in}
 use Rattle.disk_definitions.proofs.ParamLaws.{param_read}
 use Rattle.disk_definitions.proofs.NumberBytes.{drop_are}
 use Rattle.sector_bytes.specs.Sectors.{sectors_of}
-use Rattle.disk_definitions.specs.declared.image.ImageFault.{ImageFault}
-use Rattle.disk_definitions.specs.declared.image.ImageFlaw.{ImageFlaw}
-use Rattle.disk_definitions.specs.declared.image.ImageFlaw.TheVariants.{Cut, BadSector}
-use Rattle.disk_definitions.specs.Images.{Blocks, image_entry, entry_in, IsImaged, may_run_again, first_flaw, fault, judged, entries_in, segments_by, sectors_in}
+use Rattle.image_file.specs.declared.fault.ImageFault.{ImageFault}
+use Rattle.image_file.specs.declared.fault.ImageFlaw.{ImageFlaw}
+use Rattle.image_file.specs.declared.fault.ImageFlaw.TheVariants.{Cut, BadSector}
+use Rattle.image_file.specs.Images.{Blocks, image_entry, entry_in, IsImaged, may_run_again, first_flaw, fault, judged, entries_in, segments_by, sectors_in}
 use Rattle.image_file.specs.Laws.{ReadsBack}
 use Rattle.image_file.proofs.EntryBytes.{IsEntry, length_entry, entry_reads, behind_entry, entry_again, read_entry}
 use Rattle.image_file.proofs.EntriesRead.{Ascend, MayHave, judged_reads, judged_ok, Entries, entries_read, entries_read_back, entries_found}

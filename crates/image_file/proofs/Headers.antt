@@ -11,9 +11,9 @@ use Rattle.std.specs.Str.{bytes_eq}
 use Rattle.std.proofs.lemmas.Bool.{le-ltb}
 use Rattle.sector_bytes.proofs.SameBytes.{same_bytes_is, same_bytes_refl}
 use Rattle.disk_definitions.proofs.NumberBytes.{number_again, drop_are}
-use Rattle.disk_definitions.specs.declared.image.ImageFault.{ImageFault}
-use Rattle.disk_definitions.specs.declared.image.ImageFlaw.TheVariants.{Cut, OtherMark}
-use Rattle.disk_definitions.specs.Images.{Blocks, image_mark, sectors_in, image_in, fault}
+use Rattle.image_file.specs.declared.fault.ImageFault.{ImageFault}
+use Rattle.image_file.specs.declared.fault.ImageFlaw.TheVariants.{Cut, OtherMark}
+use Rattle.image_file.specs.Images.{Blocks, image_mark, sectors_in, image_in, fault}
 
 -- the header with a count, and what follows it
 abbrev pub headed : ℕ → List ℕ → List ℕ

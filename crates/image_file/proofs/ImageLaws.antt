@@ -13,7 +13,7 @@ use Rattle.disk_definitions.specs.declared.region.Region.TheVariants as region
 use Rattle.sector_bytes.specs.Bytes.{number_at, are_zero, AreBytes}
 use Rattle.disk_definitions.specs.Params.{param_in}
 use Rattle.disk_definitions.proofs.NumberBytes.{drop_are}
-use Rattle.disk_definitions.specs.Images.{Blocks, image_entry, image_with, image_in, IsImaged, IsImage, block_fits, may_run_again}
+use Rattle.image_file.specs.Images.{Blocks, image_entry, image_with, image_in, IsImaged, IsImage, block_fits, may_run_again}
 use Rattle.image_file.proofs.EntryBytes.{IsEntry}
 use Rattle.image_file.proofs.EntriesRead.{Ascend}
 use Rattle.image_file.proofs.Ascending.{ascend_of, above_of, sorted_of, blocks_of}

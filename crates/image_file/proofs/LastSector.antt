@@ -7,7 +7,7 @@ use Rattle.std.specs.declared.cmp.Ordering.{Ordering}
 use Rattle.std.specs.declared.cmp.Ordering.TheVariants.{Greater}
 use Rattle.std.proofs.lemmas.Bool.Decides.{nat_tests}
 use Rattle.std.proofs.lemmas.List.Elements.{All-head, All-tail, All-cons, All-nil}
-use Rattle.disk_definitions.specs.Images.{Blocks}
+use Rattle.image_file.specs.Images.{Blocks}
 use Rattle.image_file.specs.Entries.{EndsBy}
 
 greater_of : (a b : ℕ) → b < a → nat_cmp a b ≡ Greater

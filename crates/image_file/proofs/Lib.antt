@@ -9,3 +9,4 @@ pub mod DiskLaws
 pub mod LastSector
 pub mod CountingWritten
 pub mod ReadingEntries
+mod ImageExamples

@@ -9,10 +9,10 @@ use Rattle.byteorder.specs.Numbers.{little_from-take}
 use Rattle.sector_bytes.specs.Bytes.{number_at}
 use Rattle.disk_definitions.specs.Params.{param_in}
 use Rattle.disk_definitions.specs.declared.param.Param.{Param}
-use Rattle.disk_definitions.specs.declared.image.ImageFault.{ImageFault}
-use Rattle.disk_definitions.specs.declared.image.ImageFlaw.{ImageFlaw}
-use Rattle.disk_definitions.specs.declared.image.ImageFlaw.TheVariants.{Cut}
-use Rattle.disk_definitions.specs.Images.{Blocks, entry_in, entry_flaw, first_flaw, fault, with_entry, judged, entries_in, segments_by, sectors_in}
+use Rattle.image_file.specs.declared.fault.ImageFault.{ImageFault}
+use Rattle.image_file.specs.declared.fault.ImageFlaw.{ImageFlaw}
+use Rattle.image_file.specs.declared.fault.ImageFlaw.TheVariants.{Cut}
+use Rattle.image_file.specs.Images.{Blocks, entry_in, entry_flaw, first_flaw, fault, with_entry, judged, entries_in, segments_by, sectors_in}
 use Rattle.image_file.specs.Entries.{next_entry, header_of, behind}
 use Rattle.image_file.proofs.EntriesRead.{flawless}
 

@@ -1,7 +1,7 @@
 -- What readers answer: what the definition of images gives, unless memory is short.
 use Rattle.std.specs.Prelude.{◌≡◌, Result, Ok, Err}
-use Rattle.disk_definitions.specs.declared.image.ImageFault.{ImageFault}
-use Rattle.disk_definitions.specs.Images.{Blocks, kind_of}
+use Rattle.image_file.specs.declared.fault.ImageFault.{ImageFault}
+use Rattle.image_file.specs.Images.{Blocks, kind_of}
 use Rattle.image_file.specs.declared.refusal.ImageRead.{ImageRead}
 use Rattle.image_file.specs.declared.refusal.ImageRead.TheVariants as read
 use Rattle.image_file.specs.declared.refusal.Refusal.{Refusal}

@@ -5,10 +5,10 @@ use Rattle.std.specs.List.{All, filter}
 use Rattle.std.specs.Map.{keys_of}
 use Rattle.std.specs.Global.{Vec}
 use Rattle.std.specs.Vec.{vec_len, vec_capacity}
-use Rattle.disk_definitions.specs.declared.image.ImageFault.{ImageFault}
+use Rattle.image_file.specs.declared.fault.ImageFault.{ImageFault}
 use Rattle.image_file.specs.declared.entry.Entry.{Entry}
 use Rattle.sector_bytes.specs.Bytes.{number_at, are_zero}
-use Rattle.disk_definitions.specs.Images.{Blocks, entry_in}
+use Rattle.image_file.specs.Images.{Blocks, entry_in}
 
 -- the sector and its block
 abbrev pub entry_of : Entry → ℕ × List ℕ

@@ -1,9 +1,9 @@
 -- What the laws of images speak of.
 use Rattle.std.specs.Prelude.{◌≡◌, Result, Ok, Err}
-use Rattle.disk_definitions.specs.declared.image.ImageFault.{ImageFault}
-use Rattle.disk_definitions.specs.declared.image.ImageFlaw.{ImageFlaw}
-use Rattle.disk_definitions.specs.declared.image.ImageFlaw.TheVariants.{NoRegion, BadSector}
-use Rattle.disk_definitions.specs.Images.{Blocks}
+use Rattle.image_file.specs.declared.fault.ImageFault.{ImageFault}
+use Rattle.image_file.specs.declared.fault.ImageFlaw.{ImageFlaw}
+use Rattle.image_file.specs.declared.fault.ImageFlaw.TheVariants.{NoRegion, BadSector}
+use Rattle.image_file.specs.Images.{Blocks}
 
 -- a flaw of the disk and not of its image: a sector in no region, or one not in its grammar
 abbrev pub IsOfDisk : ImageFlaw → Type 0

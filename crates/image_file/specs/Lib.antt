@@ -1,3 +1,4 @@
+pub mod Images
 pub mod Answers
 pub mod Entries
 pub mod Laws

@@ -1,13 +1,14 @@
 // Entries of images: which flaw they have.
 ghost use Rattle.std.specs.Prelude.{◌≡◌, IfOk, MatchResult, None, Some};
 ghost use Rattle.std.specs.Option.{option_map};
-ghost use Rattle.disk_definitions.specs.Images.{block_fits, block_flaw, entry_flaw, first_flaw, may_run_again};
+ghost use Rattle.image_file.specs.Images.{block_fits, block_flaw, entry_flaw, first_flaw, may_run_again};
 ghost use Rattle.image_file.specs.Entries.{HasSegments, entry_of, next_entry};
 ghost use Rattle.sector_bytes.specs.Bytes.{are_zero};
 ghost use Rattle.disk_definitions.specs.Params.{param_in};
 
 use byteorder::{ByteOrder, LittleEndian};
-use disk_definitions::{ImageFlaw, Param, Region};
+use disk_definitions::{Param, Region};
+use crate::fault::ImageFlaw;
 use frang_base::limits::SECTOR_BYTES;
 use frang_base::{Block, Sector};
 use frang_layout::region_of;

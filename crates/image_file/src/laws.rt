@@ -2,7 +2,7 @@
 ghost use Rattle.std.specs.Prelude.{◌≡◌, ℕ, List, Ok, ◌↔◌};
 ghost use Rattle.sector_bytes.specs.Bytes.{AreBytes};
 ghost use Rattle.sector_bytes.specs.Sectors.{SameSectors, sectors_of};
-ghost use Rattle.disk_definitions.specs.Images.{Blocks, IsImage, image_in, image_text, sectors_written};
+ghost use Rattle.image_file.specs.Images.{Blocks, IsImage, image_in, image_text, sectors_written};
 ghost use Rattle.image_file.specs.Laws.{ReadsBack};
 
 use disk_definitions::Disk;

@@ -4,12 +4,14 @@
 #![tactic(auto)]
 
 mod entry;
+mod fault;
 mod format;
 mod laws;
 mod read;
 mod refusal;
 mod write;
 
+pub use fault::{ImageFault, ImageFlaw};
 pub use laws::{
     images_are_what_is_read, images_tell_disks_apart, read_images_are_written_again,
     written_images_read_back,

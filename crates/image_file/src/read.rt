@@ -1,16 +1,17 @@
 // A disk from bytes.
 ghost use Rattle.std.specs.Prelude.{◌≡◌, ◌<◌, ◌+◌, ◌^◌, ◌++◌, ◌∷◌, [], length, Err, OnErr, OnOk};
 ghost use Rattle.std.specs.Option.{option_map};
-ghost use Rattle.disk_definitions.specs.Images.{entries_in, fault, image_in, sectors_in};
+ghost use Rattle.image_file.specs.Images.{entries_in, fault, image_in, sectors_in};
 ghost use Rattle.image_file.specs.Answers.{Gives, GivesImage};
 ghost use Rattle.image_file.specs.Entries.{behind, EndsBy, HasSegments, entry_of, header_of};
 ghost use Rattle.image_file.specs.declared.refusal.Refusal.TheVariants as refusal;
 
 use crate::entry::{Entry, entry_flaw, first_param, next_entry};
+use crate::fault::{ImageFault, ImageFlaw};
 use crate::format::{ENTRY_BYTES, HEADER_BYTES, MARK};
 use crate::refusal::{ImageRead, Refusal};
 use byteorder::{ByteOrder, LittleEndian};
-use disk_definitions::{Disk, ImageFault, ImageFlaw};
+use disk_definitions::Disk;
 use frang_base::{NoMemory, Sector};
 use std::alloc::Global;
 

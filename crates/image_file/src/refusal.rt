@@ -1,7 +1,7 @@
 // Why no disk is read.
 ghost use Rattle.std.specs.Prelude.{◌≡◌};
 
-use disk_definitions::ImageFault;
+use crate::fault::ImageFault;
 use frang_base::NoMemory;
 
 /// Why bytes aren't read as a disk.

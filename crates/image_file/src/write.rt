@@ -5,7 +5,7 @@ ghost use Rattle.std.specs.List.{flat_map};
 ghost use Rattle.std.specs.Vec.{vec_capacity, vec_len};
 ghost use Rattle.byteorder.specs.Endian.{little_bytes};
 ghost use Rattle.sector_bytes.specs.Bytes.{are_zero};
-ghost use Rattle.disk_definitions.specs.Images.{image_entry, image_mark, image_text, sectors_written};
+ghost use Rattle.image_file.specs.Images.{image_entry, image_mark, image_text, sectors_written};
 ghost use Rattle.image_file.specs.Entries.{written_blocks, Adds, HasRoom};
 
 use crate::entry::is_zero;

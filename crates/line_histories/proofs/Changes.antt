@@ -14,7 +14,7 @@ use Rattle.frang_base.specs.Functions.{member}
 use Rattle.sector_bytes.specs.Patches.{patches_with}
 use Rattle.sector_bytes.specs.Replays.{change_at}
 use Rattle.sector_bytes.specs.Sectors.{Sectors}
-use Rattle.tree_laws.proofs.Pairs.{birth_exact}
+use Rattle.tree_definitions.proofs.Pairs.{birth_exact}
 use Rattle.disk_definitions.specs.Standing.{version_at}
 use Rattle.disk_definitions.specs.Edits.{Edit}
 use Rattle.disk_definitions.specs.Written.{edit_sector, all_edited, is_metadata, metadata_sector, with_number, ascending, change_by, change_of, changes_of, forced_in}

@@ -10,10 +10,10 @@ use Rattle.frang_base.specs.declared.op.Op.{Op}
 use Rattle.frang_base.proofs.Tests.{some_there}
 use Rattle.tree_definitions.specs.Numbers.{below}
 use Rattle.tree_definitions.specs.Tree.{FileTree}
-use Rattle.tree_definitions.specs.Touched.{shape_of}
+use Rattle.tree_definitions.specs.Touched.{shape_of, shaped}
 use Rattle.tree_definitions.specs.Perform.{perform}
-use Rattle.tree_laws.proofs.Pairs.{birth_exact, self}
-use Rattle.tree_laws.proofs.ShapeNodes.{shaped, found}
+use Rattle.tree_definitions.proofs.Pairs.{birth_exact, self}
+use Rattle.tree_laws.proofs.ShapeNodes.{found}
 use Rattle.sector_bytes.specs.Sectors.{Sectors}
 use Rattle.sector_world.specs.Plans.{Outcome}
 use Rattle.disk_definitions.specs.Store.{segment_at}

@@ -16,7 +16,7 @@ use Rattle.disk_definitions.specs.PlanOf.{plan_of}
 use Rattle.disk_definitions.specs.Plans.{Hand, Finish}
 use Rattle.disk_definitions.specs.Plans.Plan.{Finishes}
 use Rattle.plan_laws.proofs.Covering.{not_in_none}
-use Rattle.plan_laws.specs.Moves.{use_said, large_said}
+use Rattle.disk_definitions.specs.Moves.{use_said, large_said}
 use Rattle.plan_laws.specs.Plans.{OfEachFinish}
 use Rattle.plan_laws.proofs.Laws.{plans_move}
 use Rattle.plan_laws.proofs.OneNode.{is_said}

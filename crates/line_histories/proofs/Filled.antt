@@ -6,7 +6,7 @@ use Rattle.std.specs.BTreeMap.{is_at}
 use Rattle.std.specs.List.{Contains, flat_map, cons_option}
 use Rattle.std.specs.Ordering.{nat_cmp}
 use Rattle.frang_base.specs.Functions.{member}
-use Rattle.tree_laws.proofs.Pairs.{birth_exact, self}
+use Rattle.tree_definitions.proofs.Pairs.{birth_exact, self}
 use Rattle.sector_bytes.specs.SectorMaps.{value_at}
 use Rattle.sector_bytes.specs.Sectors.{Sectors}
 use Rattle.disk_definitions.specs.declared.region.Region.TheVariants as region

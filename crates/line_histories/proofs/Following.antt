@@ -31,13 +31,13 @@ use Rattle.disk_definitions.specs.Edits.Edit.{SetInode, SetBit, SetUse, SetPlace
 use Rattle.disk_definitions.specs.Ask.{Sector, InodeAt, DirectoryAt, SegmentAt, BytesAt, LargeAt, number_of}
 use Rattle.disk_definitions.specs.Meets.{IsOfTree, is_directory_use}
 use Rattle.disk_definitions.specs.Written.{byte_writes, freed_sectors}
-use Rattle.plan_laws.specs.Covers.{cover_of}
-use Rattle.plan_laws.specs.Moves.{first_said, use_said, large_said, moved_by}
+use Rattle.disk_definitions.specs.Covers.{cover_of}
+use Rattle.disk_definitions.specs.Moves.{first_said, use_said, large_said, moved_by}
 use Rattle.plan_laws.proofs.Moving.{covers_move}
 use Rattle.plan_fit.proofs.Kept.{in_small, in_large}
 use Rattle.plan_fit.proofs.LaidOver.{Misses}
 use Rattle.plan_fit.proofs.RecordLaws.{NotTo, misses}
-use Rattle.plan_laws.specs.Numbered.{sector_in, sector_at}
+use Rattle.disk_definitions.specs.Numbered.{sector_in, sector_at}
 use Rattle.line_histories.specs.LinePlans.{store_on, held_of, fill_by, becomes_directory, is_claimed, sector_plan}
 use Rattle.line_histories.specs.Outcomes.{IsOfAPlan, fill_shape}
 use Rattle.line_histories.proofs.LinesSound.{lines_are_sound}

@@ -33,7 +33,7 @@ use Rattle.plan_laws.specs.Plans.{Planner}
 use Rattle.line_laws.proofs.SameChanges.{same_changes}
 use Rattle.line_laws.specs.Stores.{with_bytes}
 use Rattle.disk_definitions.specs.Lines.{plan_of_line}
-use Rattle.plan_laws.specs.Numbered.{moves_of}
+use Rattle.disk_definitions.specs.Numbered.{moves_of}
 use Rattle.line_histories.specs.LinePlans.{may_be_planned, held_of, hand_by, hand_on, byte_shown, store_showing, store_on, without_bytes, blocks_told, versioned, plain, claims_of, makes_by, lock_in, sole_in, segment_lock, segment_number, outcome_by, outcome_if, outcome_over, are_segments}
 use Rattle.line_histories.specs.Planners.{IsSoundPlanner}
 use Rattle.line_histories.specs.Guards.{SoundPlansAreFramed, LinePlansAreFramed}

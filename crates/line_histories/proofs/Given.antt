@@ -17,7 +17,7 @@ use Rattle.disk_definitions.specs.Edits.{Edit}
 use Rattle.disk_definitions.specs.Edits.Edit.{SetInode, SetBit, SetUse, SetPlace, SetLarge, SetBytes, SetLargeBytes}
 use Rattle.disk_definitions.specs.Written.{edit_sector, edited_block, is_metadata, byte_writes, sectors_given_back, freed_sectors}
 use Rattle.plan_laws.proofs.Covering.{map_has, below_has, flat_has}
-use Rattle.plan_laws.specs.Moves.{first_said, use_said, large_said}
+use Rattle.disk_definitions.specs.Moves.{first_said, use_said, large_said}
 use Rattle.plan_laws.proofs.Owned.{sayer}
 use Rattle.plan_fit.proofs.LaidOver.{Misses}
 use Rattle.line_histories.specs.LinePlans.{fill_by}

@@ -25,7 +25,7 @@ use Rattle.disk_definitions.specs.declared.region.Region.TheVariants as region
 use Rattle.disk_definitions.specs.Regions.{region_of, sector_of}
 use Rattle.disk_definitions.proofs.RegionLaws.{region_read}
 use Rattle.tree_definitions.specs.Tree.{FileTree}
-use Rattle.tree_laws.proofs.Pairs.{birth_exact, tie}
+use Rattle.tree_definitions.proofs.Pairs.{birth_exact, tie}
 use Rattle.disk_definitions.specs.Naming.{Naming}
 use Rattle.disk_definitions.specs.Store.{Store, Use, is_unused}
 use Rattle.disk_definitions.specs.Held.{state_in}
@@ -41,10 +41,11 @@ use Rattle.plan_laws.specs.Locks.{IsSole}
 use Rattle.plan_laws.proofs.Covering.{has_head, has_more, has_cases, not_in_none, map_has}
 use Rattle.plan_laws.specs.Inside.{IsInside, AreInside}
 use Rattle.plan_laws.specs.Looked.{edited_at}
-use Rattle.plan_laws.specs.Covers.{cover_of, IsHeld, PlanHolds, IsHeldSegment}
-use Rattle.plan_laws.specs.Moves.{first_said, use_said, taker_said, small_move, moved_by}
+use Rattle.disk_definitions.specs.Covers.{cover_of}
+use Rattle.plan_laws.specs.Covers.{IsHeld, PlanHolds, IsHeldSegment}
+use Rattle.disk_definitions.specs.Moves.{first_said, use_said, taker_said, small_move, moved_by}
 use Rattle.plan_laws.specs.Plans.{Planner, Fills}
-use Rattle.plan_laws.specs.Numbered.{sector_in, sector_at, moves_of}
+use Rattle.disk_definitions.specs.Numbered.{sector_in, sector_at, moves_of}
 use Rattle.plan_laws.proofs.Filled.{filter_from}
 use Rattle.line_histories.specs.LinePlans.{held_of, hand_on, store_showing, store_on, versioned, plain, becomes_directory, is_claimed, claims_of, fill_by, edits_in, lock_in, sole_in, segment_lock, segment_number, outcome_by}
 use Rattle.line_histories.specs.Outcomes.{IsOfAPlan}

@@ -10,7 +10,7 @@ use Rattle.std.proofs.lemmas.Bool.{lt-ltb}
 use Rattle.frang_base.specs.declared.bitmap.Bitmap.{Bitmap}
 use Rattle.sector_bytes.specs.SectorMaps.{Ascend}
 use Rattle.sector_bytes.specs.Sectors.{Sectors}
-use Rattle.tree_laws.proofs.Pairs.{birth_exact, tie, self}
+use Rattle.tree_definitions.proofs.Pairs.{birth_exact, tie, self}
 use Rattle.disk_definitions.specs.Store.{segment_at}
 use Rattle.disk_definitions.specs.Held.{Segments, bitmap_of}
 use Rattle.plan_laws.proofs.Covering.{has_head, has_more, has_cases, not_in_none}

@@ -4,10 +4,10 @@ use Rattle.std.proofs.Math.Path.{fun_ext}
 use Rattle.std.proofs.lemmas.Bool.{cases_lt, le-ltb}
 use Rattle.frang_base.specs.declared.op.Op.{Op}
 use Rattle.tree_definitions.specs.Tree.{FileTree, node_at}
-use Rattle.tree_definitions.specs.Touched.{shape_of}
+use Rattle.tree_definitions.specs.Touched.{shape_of, shaped}
 use Rattle.tree_definitions.specs.Apply.{Applied}
 use Rattle.tree_definitions.specs.Perform.{Step, Goes, Stops, perform, perform_step, resolved}
-use Rattle.tree_laws.specs.WellFormed.{IsNew, IsWellFormed}
+use Rattle.tree_definitions.specs.WellFormed.{IsNew, IsWellFormed}
 use Rattle.tree_laws.proofs.OrderLaws.{segments_perform}
 use Rattle.standing_laws.proofs.Applied.{apply_keeps_reached}
 use Rattle.sector_bytes.specs.Blocks.{version_of}
@@ -20,7 +20,7 @@ use Rattle.disk_definitions.specs.Store.{Store, Use, store_of, segment_at, use_i
 use Rattle.disk_definitions.specs.Store.Use.{Fresh, Bytes, Empty, Entries}
 use Rattle.disk_definitions.specs.Naming.{Pictures}
 use Rattle.disk_definitions.specs.Standing.{IsMetadata, IsInGrammar, HasVersionsUpTo, IsReached, version_at}
-use Rattle.tree_laws.proofs.ShapeNodes.{shaped, found}
+use Rattle.tree_laws.proofs.ShapeNodes.{found}
 use Rattle.disk_definitions.specs.Edits.{Edit, edited, edited_all}
 use Rattle.disk_definitions.specs.Edits.Edit.{SetInode, SetBit, SetUse, SetPlace, SetLarge, SetBytes, SetLargeBytes}
 use Rattle.disk_definitions.specs.Edits.{put_part}

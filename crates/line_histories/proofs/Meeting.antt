@@ -10,7 +10,7 @@ use Rattle.tree_definitions.specs.Tree.{FileTree, node_at}
 use Rattle.tree_definitions.specs.Touched.{shape_of}
 use Rattle.tree_definitions.specs.Apply.{Answer, Plain, Shows, Applied}
 use Rattle.tree_definitions.specs.Perform.{perform}
-use Rattle.tree_laws.specs.WellFormed.{IsNew, IsWellFormed}
+use Rattle.tree_definitions.specs.WellFormed.{IsNew, IsWellFormed}
 use Rattle.tree_laws.proofs.Balance.{Limits, Within, AreAllowed}
 use Rattle.tree_laws.proofs.WellFormedLaws.{Makes}
 use Rattle.tree_laws.proofs.OrderLaws.{segments_perform}

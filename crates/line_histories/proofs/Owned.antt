@@ -33,13 +33,14 @@ use Rattle.disk_definitions.specs.Written.{byte_write, is_metadata, edit_sector,
 use Rattle.plan_fit.proofs.DecodedEntries.{disks_fit}
 use Rattle.plan_laws.proofs.Covering.{not_in_none}
 use Rattle.plan_laws.specs.Looked.{edited_at}
-use Rattle.plan_laws.specs.Covers.{cover_of}
-use Rattle.plan_laws.specs.Moves.{first_said, use_said, large_said, taker_said, large_taker_said, small_move, large_move, moved_by, node_lock, AreTidy}
+use Rattle.disk_definitions.specs.Covers.{cover_of}
+use Rattle.disk_definitions.specs.Moves.{first_said, use_said, large_said, taker_said, large_taker_said, small_move, large_move, moved_by, node_lock}
+use Rattle.plan_laws.specs.Moves.{AreTidy}
 use Rattle.plan_laws.specs.Plans.{Planner, Fills}
 use Rattle.plan_laws.proofs.Owned.{something_said}
 use Rattle.plan_fit.proofs.Kept.{edit_in_range, in_small, in_large}
 use Rattle.disk_definitions.specs.Lines.{plan_of_line}
-use Rattle.plan_laws.specs.Numbered.{sector_in, sector_at}
+use Rattle.disk_definitions.specs.Numbered.{sector_in, sector_at}
 use Rattle.plan_laws.proofs.Filled.{flat_from, filter_from}
 use Rattle.line_histories.specs.LinePlans.{hand_on, store_showing, store_on, fill_by, edits_in, outcome_by}
 use Rattle.line_histories.specs.Planners.{IsSoundPlanner}

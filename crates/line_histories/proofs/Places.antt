@@ -14,7 +14,7 @@ use Rattle.sector_bytes.specs.SectorMaps.{value_at}
 use Rattle.tree_definitions.specs.Numbers.{below}
 use Rattle.tree_definitions.specs.Perform.{Step, Goes, Stops}
 use Rattle.tree_definitions.specs.Tree.{FileTree, node_at, small_blocks_of}
-use Rattle.tree_laws.proofs.Pairs.{birth_exact, tie}
+use Rattle.tree_definitions.proofs.Pairs.{birth_exact, tie}
 use Rattle.disk_definitions.specs.Naming.{Naming}
 use Rattle.disk_definitions.specs.Store.{Store, StoredNode}
 use Rattle.disk_definitions.specs.Store.Use.{Bytes}

@@ -18,10 +18,10 @@ use Rattle.disk_definitions.specs.Edits.{Edit}
 use Rattle.disk_definitions.specs.Edits.Edit.{SetInode, SetBit, SetUse, SetPlace, SetLarge, SetBytes, SetLargeBytes}
 use Rattle.disk_definitions.specs.Ask.{Sector, InodeAt, DirectoryAt, SegmentAt, BytesAt, LargeAt}
 use Rattle.disk_definitions.specs.Written.{edit_sector, edited_sectors, all_edited, is_metadata, metadata_sector, ascending, change_by, dates, forced_in, change_of, changes_of, sectors_given_back, freed_sectors}
-use Rattle.plan_laws.specs.Moves.{first_said, bit_said, use_said, large_said, taker_said, large_taker_said, inode_move, small_move, large_move, moved_by}
+use Rattle.disk_definitions.specs.Moves.{first_said, bit_said, use_said, large_said, taker_said, large_taker_said, inode_move, small_move, large_move, moved_by}
 use Rattle.plan_fit.proofs.LaidOver.{Misses}
 use Rattle.line_laws.proofs.SameChanges.{edited_same}
-use Rattle.plan_laws.specs.Numbered.{sector_at, moves_of}
+use Rattle.disk_definitions.specs.Numbered.{sector_at, moves_of}
 use Rattle.line_histories.specs.LinePlans.{without_bytes, blocks_told, is_claimed, claims_of, becomes_directory}
 use Rattle.line_histories.specs.Planners.{edit_shape}
 use Rattle.line_histories.proofs.Changes.{numbers_of, ascending_member}

@@ -22,7 +22,7 @@ use Rattle.disk_definitions.specs.Written.{Cached, at_hand, changes_of, hand_of,
 use Rattle.plan_laws.specs.Plans.{Planner}
 use Rattle.line_laws.specs.Laws.{HasPath}
 use Rattle.disk_definitions.specs.Lines.{plan_of_line}
-use Rattle.plan_laws.specs.Numbered.{moves_of}
+use Rattle.disk_definitions.specs.Numbered.{moves_of}
 use Rattle.line_histories.specs.LinePlans.{without_bytes, blocks_told, claims_of, lock_in, sole_in, segment_lock, sector_plan_by}
 use Rattle.line_histories.specs.Planners.{IsSoundPlanner}
 use Rattle.line_histories.specs.Guards.{IsDiskOf}

@@ -12,9 +12,9 @@ use Rattle.disk_definitions.specs.Store.{Store}
 use Rattle.disk_definitions.specs.Store.Use.{Fresh}
 use Rattle.disk_definitions.specs.Ask.{Sector, InodeAt, DirectoryAt, SegmentAt, BytesAt, LargeAt, number_of}
 use Rattle.disk_definitions.specs.Meets.{IsOfTree, is_directory_use}
-use Rattle.plan_laws.specs.Covers.{cover_of}
+use Rattle.disk_definitions.specs.Covers.{cover_of}
 use Rattle.line_histories.specs.Files.{HoldsBytes}
-use Rattle.plan_laws.specs.Numbered.{sector_at}
+use Rattle.disk_definitions.specs.Numbered.{sector_at}
 use Rattle.line_histories.specs.LinePlans.{store_on}
 
 -- what the sectors with versions say after the history

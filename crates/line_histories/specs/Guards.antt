@@ -18,10 +18,10 @@ use Rattle.disk_definitions.specs.Standing.{version_at}
 use Rattle.disk_definitions.specs.Store.Use.{Fresh}
 use Rattle.disk_definitions.specs.Ask.{Sector, DirectoryAt, number_of}
 use Rattle.disk_definitions.specs.Meets.{IsOfTree}
-use Rattle.plan_laws.specs.Covers.{cover_of}
+use Rattle.disk_definitions.specs.Covers.{cover_of}
 use Rattle.plan_laws.specs.Inside.{IsInside}
 use Rattle.plan_laws.specs.Plans.{Planner}
-use Rattle.plan_laws.specs.Numbered.{sector_at}
+use Rattle.disk_definitions.specs.Numbered.{sector_at}
 use Rattle.line_histories.specs.LinePlans.{store_on, sector_plan_by, sector_plan}
 use Rattle.line_histories.specs.Planners.{IsPart, IsSoundPlanner}
 

@@ -10,9 +10,9 @@ use Rattle.sector_world.specs.Plans.{Outcome}
 use Rattle.tree_definitions.specs.Tree.{FileTree}
 use Rattle.disk_definitions.specs.Naming.{Naming}
 use Rattle.disk_definitions.specs.Ask.{Sector}
-use Rattle.plan_laws.specs.Covers.{cover_of}
+use Rattle.disk_definitions.specs.Covers.{cover_of}
 use Rattle.plan_laws.specs.Plans.{Planner}
-use Rattle.plan_laws.specs.Numbered.{sector_at}
+use Rattle.disk_definitions.specs.Numbered.{sector_at}
 use Rattle.line_histories.specs.LinePlans.{sector_plan_by, sector_plan}
 use Rattle.line_histories.specs.Planners.{IsSoundPlanner}
 use Rattle.line_histories.specs.Done.{IsWholeDisk}

@@ -5,7 +5,7 @@ use Rattle.frang_base.specs.declared.op.Op.{Op}
 use Rattle.tree_definitions.specs.Perform.{perform, resolved}
 use Rattle.tree_definitions.specs.Removal.{step_writes}
 use Rattle.tree_definitions.specs.Tree.{FileTree, node_at}
-use Rattle.tree_laws.specs.WellFormed.{IsNew}
+use Rattle.tree_definitions.specs.WellFormed.{IsNew}
 use Rattle.disk_definitions.specs.Naming.{Naming}
 use Rattle.disk_definitions.specs.Standing.{IsReached}
 use Rattle.disk_definitions.specs.Store.{Store, StoredNode}

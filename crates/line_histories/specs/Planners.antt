@@ -20,7 +20,8 @@ use Rattle.disk_definitions.specs.FitPlans.{IsFitStore, PlanIsFit}
 use Rattle.plan_laws.specs.Locks.{IsSole}
 use Rattle.plan_laws.specs.Inside.{AreInside}
 use Rattle.plan_laws.specs.Looked.{edited_at}
-use Rattle.plan_laws.specs.Covers.{cover_of, PlanHolds, IsHeldSegment}
+use Rattle.disk_definitions.specs.Covers.{cover_of}
+use Rattle.plan_laws.specs.Covers.{PlanHolds, IsHeldSegment}
 use Rattle.plan_laws.specs.Plans.{Planner, OfEachFinish, MovesTidily, LeadsCovers, OwnsMoves, KeepsDirectories, OwnsBytes}
 use Rattle.line_laws.specs.Stores.{with_bytes}
 use Rattle.disk_definitions.specs.Lines.{plan_of_line}

@@ -7,7 +7,7 @@ use Rattle.frang_base.specs.declared.reply.Reply.TheVariants as reply
 use Rattle.tree_definitions.specs.Tree.{FileTree}
 use Rattle.tree_definitions.specs.Apply.{Answer, Plain, Shows}
 use Rattle.tree_definitions.specs.Perform.{perform}
-use Rattle.tree_laws.specs.WellFormed.{IsNew}
+use Rattle.tree_definitions.specs.WellFormed.{IsNew}
 use Rattle.sector_world.specs.Trees.{Apply}
 use Rattle.line_histories.specs.LinePlans.{without_bytes}
 

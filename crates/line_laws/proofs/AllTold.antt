@@ -6,7 +6,7 @@ use Rattle.tree_definitions.specs.declared.node.Node.TheVariants.{Dir, File, Lin
 use Rattle.tree_definitions.specs.Tree.{FileTree}
 use Rattle.tree_definitions.specs.Apply.{Applied, apply}
 use Rattle.tree_definitions.specs.Removal.{writes_file}
-use Rattle.tree_laws.specs.WellFormed.{IsNew}
+use Rattle.tree_definitions.specs.WellFormed.{IsNew}
 use Rattle.tree_laws.specs.Refusals.{is_look}
 use Rattle.tree_laws.proofs.Refusals.{looks_leave}
 use Rattle.disk_definitions.specs.Store.{Store}

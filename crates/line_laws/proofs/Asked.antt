@@ -10,12 +10,12 @@ use Rattle.disk_definitions.specs.OnDisk.{AreOfDisk, StandsBelow}
 use Rattle.disk_definitions.specs.Written.{Cached, at_hand, hand_of, inode_at_hand}
 use Rattle.plan_laws.proofs.Covering.{not_in_none, has_cases}
 use Rattle.plan_laws.specs.Inside.{AgreesWhereAll}
-use Rattle.plan_laws.specs.Covers.{cover_of}
+use Rattle.disk_definitions.specs.Covers.{cover_of}
 use Rattle.line_laws.proofs.AtHand.{agrees}
-use Rattle.plan_laws.specs.Traces.{Traced, traced, needs, behind, by_said}
+use Rattle.disk_definitions.specs.Traces.{Traced, traced, needs, behind, by_said}
 use Rattle.disk_definitions.specs.Lines.{plan_of_line}
 use Rattle.line_laws.proofs.Inside.{lines_inside}
-use Rattle.plan_laws.specs.CoversAtHand.{cover_at_hand}
+use Rattle.disk_definitions.specs.CoversAtHand.{cover_at_hand}
 use Rattle.line_laws.specs.Told.{AreTold}
 use Rattle.line_laws.specs.Covers.{AsksFor, CoversAtHandAreTrue}
 use Rattle.line_laws.proofs.CoverAtHand.{s, n, is_of, is_hand, Had, told_true}

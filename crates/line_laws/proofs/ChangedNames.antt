@@ -11,9 +11,10 @@ use Rattle.tree_definitions.specs.Entries.{Entries, entry_at, with_entry, withou
 use Rattle.tree_definitions.specs.Tree.{FileTree, node_at, with_node, without_node, inodes_full, entries_full, lacks_block, grown}
 use Rattle.tree_definitions.specs.Place.{Free, Taken}
 use Rattle.tree_definitions.specs.Apply.{Applied, Plain, says, named, made, is_dir, links_of, has_entries, one_link_more, linked, one_link_fewer, unlinked, dir_removed, name_gone, name_set, moved, room_made, goes_through, moved_onto, renamed_to}
-use Rattle.tree_laws.specs.WellFormed.{IsWellFormed}
-use Rattle.tree_laws.proofs.Pairs.{name_exact, found_put, found_removed}
-use Rattle.tree_laws.proofs.Nodes.{each_but, with_same, with_other, without_other}
+use Rattle.tree_definitions.specs.WellFormed.{IsWellFormed}
+use Rattle.tree_definitions.proofs.Pairs.{name_exact, found_put, found_removed}
+use Rattle.tree_definitions.proofs.Births.{each_but}
+use Rattle.tree_laws.proofs.Nodes.{with_same, with_other, without_other}
 use Rattle.standing_laws.proofs.Changes.{fewer_else}
 use Rattle.disk_definitions.specs.Naming.{find_in}
 use Rattle.line_laws.proofs.Telling.{OtherNames, came, had_another}

@@ -10,9 +10,10 @@ use Rattle.tree_definitions.specs.Entries.{with_entry}
 use Rattle.tree_definitions.specs.Place.{Place, Root, Taken, Free, Nowhere, place}
 use Rattle.tree_definitions.specs.Tree.{FileTree, node_at, with_node, grown, entries_full, inodes_full, lacks_block}
 use Rattle.tree_laws.specs.Counts.{makes_node}
-use Rattle.tree_laws.specs.WellFormed.{IsWellFormed, IsNew}
+use Rattle.tree_definitions.specs.WellFormed.{IsWellFormed, IsNew}
 use Rattle.tree_laws.proofs.Balance.{Limits, Within}
-use Rattle.tree_laws.proofs.Nodes.{each_but, with_same, with_other}
+use Rattle.tree_definitions.proofs.Births.{each_but}
+use Rattle.tree_laws.proofs.Nodes.{with_same, with_other}
 use Rattle.tree_laws.proofs.WellFormedLaws.{Makes, apply_well}
 
 -- no node comes where another goes

@@ -18,8 +18,8 @@ use Rattle.disk_definitions.specs.Ask.{Sector, InodeAt, DirectoryAt, SegmentAt, 
 use Rattle.disk_definitions.specs.Meets.{IsOfTree, IsHandOf}
 use Rattle.disk_definitions.specs.OnDisk.{AreOfDisk, StandsBelow}
 use Rattle.disk_definitions.specs.Written.{Cached, hand_of, inode_at_hand}
-use Rattle.plan_laws.specs.Covers as true_covers
-use Rattle.plan_laws.specs.Covers.{cover_of}
+use Rattle.disk_definitions.specs.Covers as true_covers
+use Rattle.disk_definitions.specs.Covers.{cover_of}
 use Rattle.plan_laws.proofs.Standing.{stands}
 use Rattle.plan_laws.specs.Moves.{HasSmall, HasLarge}
 use Rattle.plan_laws.proofs.Moving.{by_bit, inode_lock, small_lock, free_lock, large_lock, free_large}
@@ -27,7 +27,7 @@ use Rattle.plan_laws.proofs.OneNode.{small_of}
 use Rattle.line_laws.proofs.AtHand.{agrees}
 use Rattle.line_laws.proofs.Edited.{hand}
 use Rattle.line_laws.proofs.OfDisk.{of_tree}
-use Rattle.plan_laws.specs.CoversAtHand.{has_small, has_large, small_owner, large_owner, node_or_segment, inode_cover, is_marked_unused, small_cover, large_cover, cover_at_hand}
+use Rattle.disk_definitions.specs.CoversAtHand.{has_small, has_large, small_owner, large_owner, node_or_segment, inode_cover, is_marked_unused, small_cover, large_cover, cover_at_hand}
 use Rattle.line_laws.specs.Told.{IsInodeTold, IsSmallTold, IsLargeTold, IsTold}
 
 module _ (cached : Cached) (held : Segments) (all : Bool) (sectors : Sectors) (tree : FileTree) (of : AreOfDisk cached held all tree.segments sectors) (below : StandsBelow sectors tree) where

@@ -22,7 +22,8 @@ use Rattle.plan_laws.specs.Locks.{IsSole}
 use Rattle.plan_laws.specs.FilesPlanned.{HasFiles}
 use Rattle.plan_laws.proofs.Covering.{has_cases, not_in_none, map_has}
 use Rattle.plan_laws.specs.Looked.{edited_at}
-use Rattle.plan_laws.specs.Covers.{inode_cover, small_cover, cover_of, IsHeld, PlanHolds, IsHeldSegment, changes_bytes}
+use Rattle.disk_definitions.specs.Covers.{inode_cover, small_cover, cover_of}
+use Rattle.plan_laws.specs.Covers.{IsHeld, PlanHolds, IsHeldSegment, changes_bytes}
 use Rattle.plan_laws.proofs.Fine.{shared_held, only_held}
 use Rattle.plan_laws.proofs.AllFine.{looks_are_covered, edits_are_covered}
 use Rattle.plan_laws.proofs.TouchedHeld.{walks_are_held}

@@ -9,7 +9,7 @@ use Rattle.disk_definitions.specs.Bitmaps.{bitmap_bytes}
 use Rattle.disk_definitions.specs.Regions.{sector_of}
 use Rattle.disk_definitions.proofs.BitmapLaws.{bitmap_read}
 use Rattle.sector_bytes.specs.SectorMaps.{value_at}
-use Rattle.tree_laws.proofs.Pairs.{birth_exact, tie, self}
+use Rattle.tree_definitions.proofs.Pairs.{birth_exact, tie, self}
 use Rattle.sector_bytes.specs.Sectors.{Sectors}
 use Rattle.disk_definitions.specs.Edits.{Edit}
 use Rattle.disk_definitions.specs.Edits.Edit.{SetInode, SetBit, SetUse, SetPlace, SetLarge, SetBytes, SetLargeBytes}

@@ -10,7 +10,8 @@ use Rattle.disk_definitions.specs.Edits.{Edit}
 use Rattle.disk_definitions.specs.Ask.{InodeAt}
 use Rattle.disk_definitions.specs.Meets.{IsOfTree}
 use Rattle.plan_laws.specs.Keeping.{KeepsInodes}
-use Rattle.plan_laws.specs.Moves.{AreTidy, first_said, bit_said, inode_move, moved_by}
+use Rattle.plan_laws.specs.Moves.{AreTidy}
+use Rattle.disk_definitions.specs.Moves.{first_said, bit_said, inode_move, moved_by}
 use Rattle.line_laws.proofs.Coming.{NoneSwaps}
 
 module _ (s : Store) (tree : FileTree) (n : Naming) (of : IsOfTree s tree n) where

@@ -6,7 +6,7 @@ use Rattle.tree_definitions.specs.Tree.{node_at}
 use Rattle.disk_definitions.specs.Ask.{Sector, InodeAt, DirectoryAt, SegmentAt, BytesAt, LargeAt}
 use Rattle.disk_definitions.specs.Plans.{shared_nodes}
 use Rattle.plan_laws.proofs.Covering.{not_in_none}
-use Rattle.plan_laws.specs.Moves.{moved_by}
+use Rattle.disk_definitions.specs.Moves.{moved_by}
 use Rattle.plan_laws.specs.Plans.{MovesTidily, LeadsCovers, OwnsMoves, KeepsDirectories, OwnsBytes}
 use Rattle.plan_laws.proofs.Laws.{plans_move, covers_follow, moves_are_owned, directories_stay, bytes_are_owned}
 use Rattle.plan_laws.proofs.Moving.{covers_move}

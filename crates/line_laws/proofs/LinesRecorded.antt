@@ -10,7 +10,7 @@ use Rattle.tree_definitions.specs.Perform.{Step, Goes, Stops}
 use Rattle.tree_definitions.specs.Perform as performs
 use Rattle.tree_definitions.specs.Touched.{is_ok}
 use Rattle.tree_definitions.specs.Removal.{is_recorded}
-use Rattle.tree_laws.specs.WellFormed.{IsNew}
+use Rattle.tree_definitions.specs.WellFormed.{IsNew}
 use Rattle.sector_bytes.specs.Sectors.{Sectors}
 use Rattle.disk_definitions.specs.Store.{Store, store_of}
 use Rattle.disk_definitions.specs.Naming.{Naming}

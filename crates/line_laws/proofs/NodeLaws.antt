@@ -10,7 +10,7 @@ use Rattle.tree_definitions.specs.Apply.{apply}
 use Rattle.tree_definitions.specs.Perform.{perform, perform_step, resolved}
 use Rattle.tree_definitions.specs.Touched.{other_room}
 use Rattle.tree_definitions.specs.Tree.{FileTree, node_at, small_blocks, large_blocks}
-use Rattle.tree_laws.specs.WellFormed.{IsNew}
+use Rattle.tree_definitions.specs.WellFormed.{IsNew}
 use Rattle.tree_laws.proofs.OrderLaws.{segments_apply}
 use Rattle.standing_laws.proofs.Applied.{apply_keeps_reached}
 use Rattle.disk_definitions.specs.Naming.{Naming}

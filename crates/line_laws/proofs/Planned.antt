@@ -6,7 +6,7 @@ use Rattle.frang_base.specs.declared.reply.Reply.TheVariants as reply
 use Rattle.tree_definitions.specs.Tree.{FileTree}
 use Rattle.tree_definitions.specs.Apply.{Applied}
 use Rattle.tree_definitions.specs.Perform.{Step, Goes, Stops, perform_step, resolved}
-use Rattle.tree_laws.specs.WellFormed.{IsNew}
+use Rattle.tree_definitions.specs.WellFormed.{IsNew}
 use Rattle.disk_definitions.specs.Store.{Store}
 use Rattle.disk_definitions.specs.Naming.{Naming}
 use Rattle.disk_definitions.specs.Plans.{Hand, Plan, Lacks, Clears, Finishes}

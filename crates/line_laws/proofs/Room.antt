@@ -20,7 +20,8 @@ use Rattle.disk_definitions.specs.Plans.{Lock}
 use Rattle.plan_laws.specs.Keeping.{KeepsInodes}
 use Rattle.plan_laws.specs.Locks.{IsSole, IsCovered}
 use Rattle.plan_laws.proofs.Totals.{in_range}
-use Rattle.plan_laws.specs.Moves.{HasSmall, HasLarge, AreTidy, first_said, bit_said, use_said, large_said}
+use Rattle.plan_laws.specs.Moves.{HasSmall, HasLarge, AreTidy}
+use Rattle.disk_definitions.specs.Moves.{first_said, bit_said, use_said, large_said}
 use Rattle.plan_laws.proofs.Moving.{node_has, node_has_large, used_small, used_large}
 use Rattle.plan_laws.proofs.OnDisk.{one_small, one_large}
 use Rattle.plan_laws.proofs.Owned.{sayer, each_covered, bit_covered, use_covered, large_covered}

@@ -9,8 +9,8 @@ use Rattle.tree_definitions.specs.declared.cells.Cell.TheVariants as cell
 use Rattle.tree_definitions.specs.declared.node.Node.{Node}
 use Rattle.tree_definitions.specs.declared.node.Node.TheVariants.{Dir, File, Link}
 use Rattle.tree_definitions.specs.Tree.{FileTree, node_at, small_blocks_of}
-use Rattle.tree_definitions.specs.Touched.{node_shape, shape_of}
-use Rattle.tree_laws.proofs.ShapeNodes.{shaped, doubts, found}
+use Rattle.tree_definitions.specs.Touched.{node_shape, shape_of, shaped, doubts}
+use Rattle.tree_laws.proofs.ShapeNodes.{found}
 use Rattle.tree_laws.proofs.ShapeKeeping.{well_shape}
 use Rattle.disk_definitions.specs.Store.{Store, StoredNode, store_of}
 use Rattle.disk_definitions.specs.Naming.{Naming, Nodes, Pictures, kind_of, blocks_of, has_large, room_in, find_in, first_blocks, inode_by, inode_for, use_by, use_for, file_byte}

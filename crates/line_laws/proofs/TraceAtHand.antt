@@ -8,7 +8,7 @@ use Rattle.disk_definitions.specs.Regions.{sector_of}
 use Rattle.disk_definitions.proofs.WrittenFields.{length_zeros}
 use Rattle.sector_bytes.specs.SectorMaps.{value_at}
 use Rattle.sector_bytes.specs.Sectors.{Sectors}
-use Rattle.tree_laws.proofs.Pairs.{birth_exact, tie, self}
+use Rattle.tree_definitions.proofs.Pairs.{birth_exact, tie, self}
 use Rattle.disk_definitions.specs.Edits.Edit.{SetLarge}
 use Rattle.disk_definitions.specs.Held.{Segments, bitmap_of}
 use Rattle.disk_definitions.specs.OnDisk.{AreOfDisk}

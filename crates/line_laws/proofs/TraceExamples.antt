@@ -15,7 +15,7 @@ use Rattle.disk_definitions.specs.Ask.Sector.{InodeAt, DirectoryAt, SegmentAt, B
 use Rattle.disk_definitions.specs.Ask.Met.{Needs, Has}
 use Rattle.disk_definitions.specs.Plans.{Hand, Plan, Lock}
 use Rattle.disk_definitions.specs.Plans.Plan.{Lacks, Clears, Finishes}
-use Rattle.plan_laws.specs.Traces.{traced}
+use Rattle.disk_definitions.specs.Traces.{traced}
 use Rattle.disk_definitions.specs.Resolving.{resolve}
 use Rattle.disk_definitions.specs.Lines.{plan_of_line}
 use Rattle.disk_definitions.proofs.LineExamples.{listed}

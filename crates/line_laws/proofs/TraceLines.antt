@@ -15,7 +15,7 @@ use Rattle.plan_laws.specs.Inside.{AreInside}
 use Rattle.line_laws.proofs.AtHand.{agrees}
 use Rattle.line_laws.proofs.Edited.{hand}
 use Rattle.line_laws.proofs.OfDisk.{of_tree}
-use Rattle.plan_laws.specs.Traces.{traced}
+use Rattle.disk_definitions.specs.Traces.{traced}
 use Rattle.plan_laws.proofs.Traces.{traces_follow_looks}
 use Rattle.disk_definitions.specs.Lines.{plan_of_line}
 use Rattle.line_laws.proofs.Inside.{lines_inside}

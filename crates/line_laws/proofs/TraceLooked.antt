@@ -5,7 +5,7 @@ use Rattle.std.specs.List.{take_while}
 use Rattle.disk_definitions.specs.Store.{Store}
 use Rattle.disk_definitions.specs.Ask.{Sector, InodeAt, DirectoryAt, SegmentAt, BytesAt, LargeAt, Ask, Got, ReadInode, ReadDirectory, ReadSegment, ReadBytes, ReadLarge, AtHand, seven, part_of, looks}
 use Rattle.plan_laws.specs.Inside.{AreInside, AgreesAt, AgreesWhereAll}
-use Rattle.plan_laws.specs.Traces.{Traced, traced, needs, behind, by_said}
+use Rattle.disk_definitions.specs.Traces.{Traced, traced, needs, behind, by_said}
 
 module _ (c : AtHand) (s : Store) where
   said_agrees : {X A : Type 0} (x : Sector) (o : Option X) (v : X) (g : X → Traced A) → AgreesAt c s x → ((z : X) → o ≡ Some z → z ≡ v) → AgreesWhereAll c s (g v).looked → AgreesWhereAll c s (by_said x o g).looked

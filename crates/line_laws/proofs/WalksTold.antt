@@ -19,7 +19,7 @@ use Rattle.disk_definitions.specs.Plans.Room.{Inside, InBlock, NoRoom}
 use Rattle.plan_laws.proofs.Covering.{has_head, has_more, not_in_none, has_cases}
 use Rattle.plan_laws.proofs.Standing.{HasKind, DiskStands}
 use Rattle.plan_laws.proofs.WalksFine.{either, kind_two, SpotStands, step_stands, walk_stands}
-use Rattle.plan_laws.specs.CoversAtHand.{is_marked_unused}
+use Rattle.disk_definitions.specs.CoversAtHand.{is_marked_unused}
 use Rattle.line_laws.proofs.Tells.{Among, same_among, more_among, Tells, Told, tells_then, tells_value, tells_segments}
 
 -- a block that is picked for a directory is marked as one that nobody uses

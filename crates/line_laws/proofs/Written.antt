@@ -15,7 +15,7 @@ use Rattle.disk_definitions.specs.Params.{param_in, param_fits, param_fields, pa
 use Rattle.disk_definitions.specs.Regions.{sector_of}
 use Rattle.tree_definitions.specs.Tree.{FileTree, node_at}
 use Rattle.tree_definitions.specs.Apply.{Applied, apply}
-use Rattle.tree_laws.specs.WellFormed.{IsNew}
+use Rattle.tree_definitions.specs.WellFormed.{IsNew}
 use Rattle.tree_laws.proofs.OrderLaws.{segments_apply}
 use Rattle.standing_laws.proofs.Applied.{apply_keeps_reached}
 use Rattle.sector_bytes.specs.Sectors.{Sectors}

@@ -6,7 +6,7 @@ use Rattle.frang_base.specs.declared.op.Op.{Op}
 use Rattle.tree_definitions.specs.Tree.{FileTree, node_at}
 use Rattle.tree_definitions.specs.Perform.{resolved, perform}
 use Rattle.tree_definitions.specs.Touched.{visited}
-use Rattle.tree_laws.specs.WellFormed.{IsNew}
+use Rattle.tree_definitions.specs.WellFormed.{IsNew}
 use Rattle.disk_definitions.specs.Store.{Store}
 use Rattle.disk_definitions.specs.Naming.{Naming}
 use Rattle.disk_definitions.specs.Edits.{Edit}
@@ -18,7 +18,8 @@ use Rattle.plan_laws.specs.Locks.{IsSole}
 use Rattle.plan_laws.specs.FilesPlanned.{HasFiles}
 use Rattle.plan_laws.specs.Inside.{AreInside}
 use Rattle.plan_laws.specs.Looked.{edited_at}
-use Rattle.plan_laws.specs.Covers.{cover_of, IsHeld, PlanHolds, IsHeldSegment, changes_bytes}
+use Rattle.disk_definitions.specs.Covers.{cover_of}
+use Rattle.plan_laws.specs.Covers.{IsHeld, PlanHolds, IsHeldSegment, changes_bytes}
 use Rattle.disk_definitions.specs.Lines.{plan_of_line}
 
 -- over the disk of a tree a line looks only at inodes and at blocks of directories that the disk has

@@ -9,10 +9,10 @@ use Rattle.disk_definitions.specs.Ask.{Ask, AtHand, Sector}
 use Rattle.disk_definitions.specs.Ask.Met.{Needs}
 use Rattle.disk_definitions.specs.OnDisk.{AreOfDisk, StandsBelow}
 use Rattle.disk_definitions.specs.Written.{Cached, at_hand, hand_of}
-use Rattle.plan_laws.specs.Covers.{cover_of}
-use Rattle.plan_laws.specs.Traces.{traced}
+use Rattle.disk_definitions.specs.Covers.{cover_of}
+use Rattle.disk_definitions.specs.Traces.{traced}
 use Rattle.disk_definitions.specs.Lines.{plan_of_line}
-use Rattle.plan_laws.specs.CoversAtHand.{cover_at_hand}
+use Rattle.disk_definitions.specs.CoversAtHand.{cover_at_hand}
 
 -- the computation looks at the sector, which is at hand, or needs it
 abbrev pub AsksFor : {A : Type 0} → Ask A → AtHand → Sector → Type 0

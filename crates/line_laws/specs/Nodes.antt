@@ -6,7 +6,7 @@ use Rattle.tree_definitions.specs.Apply.{Applied, apply}
 use Rattle.tree_definitions.specs.Perform.{perform}
 use Rattle.tree_definitions.specs.Touched.{other_room}
 use Rattle.tree_definitions.specs.Tree.{FileTree, node_at}
-use Rattle.tree_laws.specs.WellFormed.{IsNew}
+use Rattle.tree_definitions.specs.WellFormed.{IsNew}
 use Rattle.disk_definitions.specs.Naming.{Naming}
 use Rattle.disk_definitions.specs.Standing.{IsReached}
 use Rattle.disk_definitions.specs.Store.{Store}
@@ -19,7 +19,7 @@ use Rattle.disk_definitions.specs.Plans.Plan.{Finishes}
 use Rattle.plan_laws.specs.FilesPlanned.{HasFiles}
 use Rattle.plan_laws.specs.Keeping.{KeepsInodes}
 use Rattle.plan_laws.specs.Locks.{IsSole}
-use Rattle.plan_laws.specs.Moves.{moved_by}
+use Rattle.disk_definitions.specs.Moves.{moved_by}
 use Rattle.plan_laws.specs.Plans.{Planner}
 use Rattle.disk_definitions.specs.Lines.{plan_of_line}
 

@@ -4,7 +4,7 @@ use Rattle.frang_base.specs.declared.limits.TheConstants.{RUN_VERSIONS_MAX, SECT
 use Rattle.frang_base.specs.declared.op.Op.{Op}
 use Rattle.tree_definitions.specs.Perform.{perform}
 use Rattle.tree_definitions.specs.Tree.{FileTree}
-use Rattle.tree_laws.specs.WellFormed.{IsNew}
+use Rattle.tree_definitions.specs.WellFormed.{IsNew}
 use Rattle.sector_bytes.specs.Sectors.{Sectors}
 use Rattle.disk_definitions.specs.Standing.{StandsFor, HasVersionsUpTo}
 use Rattle.disk_definitions.specs.Store.{store_of}

@@ -11,7 +11,7 @@ use Rattle.disk_definitions.specs.Meets.{IsOfTree, IsHandOf}
 use Rattle.disk_definitions.specs.Plans.{Hand}
 use Rattle.plan_laws.specs.Moves.{HasSmall, HasLarge}
 use Rattle.disk_definitions.specs.Lines.{plan_of_line}
-use Rattle.plan_laws.specs.CoversAtHand.{is_marked_unused}
+use Rattle.disk_definitions.specs.CoversAtHand.{is_marked_unused}
 
 -- the inode is in use, or a held segment has it free
 abbrev pub IsInodeTold : Store → Segments → ℕ → Type 0

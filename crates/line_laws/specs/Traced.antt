@@ -11,7 +11,7 @@ use Rattle.disk_definitions.specs.Missing.{is_at_hand}
 use Rattle.disk_definitions.specs.OnDisk.{AreOfDisk, StandsBelow}
 use Rattle.disk_definitions.specs.Plans.{Plan}
 use Rattle.disk_definitions.specs.Written.{Cached, at_hand, hand_of, sectors_at_hand}
-use Rattle.plan_laws.specs.Traces.{traced}
+use Rattle.disk_definitions.specs.Traces.{traced}
 use Rattle.disk_definitions.specs.Lines.{plan_of_line}
 
 -- what a program looked at is what it looks at over this disk, up to the first sector that isn't at hand

@@ -23,11 +23,11 @@ use Rattle.plan_laws.proofs.Asking.{looks-bind}
 use Rattle.plan_laws.proofs.Covering.{has_cases, has_head, has_more, not_in_none}
 use Rattle.plan_laws.proofs.Deciding.{meets_where}
 use Rattle.plan_laws.specs.Inside.{AgreesWhereAll}
-use Rattle.plan_laws.specs.CoversAtHand.{has_small}
+use Rattle.disk_definitions.specs.CoversAtHand.{has_small}
 use Rattle.line_laws.proofs.AtHand.{agrees}
 use Rattle.line_laws.proofs.Edited.{hand}
 use Rattle.line_laws.proofs.OfDisk.{of_tree}
-use Rattle.plan_laws.specs.Traces.{traced}
+use Rattle.disk_definitions.specs.Traces.{traced}
 use Rattle.plan_laws.proofs.Traces.{traces_follow_looks}
 use Rattle.disk_definitions.specs.Lines.{plan_of_line, plan_step, resolved}
 use Rattle.line_laws.proofs.Inside.{lines_inside}

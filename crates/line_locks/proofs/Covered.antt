@@ -11,14 +11,14 @@ use Rattle.disk_definitions.specs.Edits.{Edit}
 use Rattle.disk_definitions.specs.Edits.Edit.{SetInode, SetBit, SetUse, SetPlace, SetLarge, SetBytes, SetLargeBytes}
 use Rattle.disk_definitions.specs.Resizing.{index_in}
 use Rattle.disk_definitions.proofs.Indices.{index_hit}
-use Rattle.disk_definitions.specs.Plans.{Hand, Lock, Finish, sole_segments}
+use Rattle.disk_definitions.specs.Plans.{Hand, Lock, Finish, sole_segments, says_full}
 use Rattle.plan_laws.proofs.Covering.{has_head, has_more, not_in_none, has_cases, all_from}
-use Rattle.plan_laws.specs.Locks.{IsSole, IsCovered, FinishIsCovered, says_full}
+use Rattle.plan_laws.specs.Locks.{IsSole, IsCovered, FinishIsCovered}
 use Rattle.plan_laws.specs.Looked.{edited_at}
-use Rattle.plan_laws.specs.Covers.{cover_of, small_cover}
+use Rattle.disk_definitions.specs.Covers.{cover_of, small_cover}
 use Rattle.plan_laws.proofs.Fine.{held_key}
 use Rattle.plan_laws.proofs.Standing.{DiskStands}
-use Rattle.plan_laws.specs.CoversAtHand.{has_small}
+use Rattle.disk_definitions.specs.CoversAtHand.{has_small}
 use Rattle.line_locks.specs.Found.{edit_locks_of, edit_locks, full_locks}
 use Rattle.line_locks.specs.Same.{AreWithin}
 use Rattle.line_locks.proofs.Alike.{within_join, within_nodes, within_segments}

@@ -18,7 +18,7 @@ use Rattle.plan_laws.proofs.Covering.{has_head, map_has, not_in_none, filter_has
 use Rattle.plan_laws.specs.Locks.{IsSole}
 use Rattle.plan_laws.proofs.WalksFine.{either}
 use Rattle.plan_laws.proofs.OneNode.{small_of}
-use Rattle.plan_laws.specs.CoversAtHand.{has_small}
+use Rattle.disk_definitions.specs.CoversAtHand.{has_small}
 use Rattle.line_locks.specs.Found.{edit_locks_of, edit_locks}
 use Rattle.line_locks.proofs.Alike.{sole_left, sole_right}
 use Rattle.line_locks.proofs.PlansEnd.{owns}

@@ -14,7 +14,7 @@ use Rattle.frang_base.specs.declared.lock.LockId.{LockId}
 use Rattle.frang_base.specs.declared.lock.Mode.{Mode}
 use Rattle.frang_base.specs.declared.lock.Mode.TheVariants.{Shared, Sole}
 use Rattle.frang_base.proofs.Tests.{same_tests}
-use Rattle.tree_laws.proofs.Pairs.{IsExact, below_all, found_other, found_put, none_below, self, sorted_put, tie}
+use Rattle.tree_definitions.proofs.Pairs.{IsExact, below_all, found_other, found_put, none_below, self, sorted_put, tie}
 use Rattle.lock_definitions.specs.Calls.{serves}
 use Rattle.lock_definitions.specs.Order.{is_lock, lock_cmp}
 use Rattle.lock_definitions.proofs.LockOrder.{found_lock, lock_total, lock_itself}

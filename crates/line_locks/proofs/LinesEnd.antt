@@ -13,9 +13,9 @@ use Rattle.disk_definitions.specs.Naming.{Naming}
 use Rattle.disk_definitions.specs.Ask.{Got, run, looks}
 use Rattle.disk_definitions.specs.Meets.{IsOfTree, IsHandOf}
 use Rattle.disk_definitions.specs.PlanOf.{plan_of}
-use Rattle.disk_definitions.specs.Plans.{Hand, Lock, Plan, Finish, shared_nodes, sole_segments}
+use Rattle.disk_definitions.specs.Plans.{Hand, Lock, Plan, Finish, shared_nodes, sole_segments, says_full}
 use Rattle.disk_definitions.specs.Plans.Plan.{Lacks, Clears, Finishes}
-use Rattle.plan_laws.specs.Locks.{PlanIsCovered, says_full}
+use Rattle.plan_laws.specs.Locks.{PlanIsCovered}
 use Rattle.plan_laws.specs.Covers.{IsHeld}
 use Rattle.plan_laws.proofs.AllFine.{edits_are_covered}
 use Rattle.plan_laws.proofs.AllLocks.{locks_cover}

@@ -23,7 +23,7 @@ use Rattle.plan_laws.proofs.Covering.{has_head, has_more}
 use Rattle.plan_laws.specs.Inside.{AreInside}
 use Rattle.line_laws.proofs.Edited.{hand}
 use Rattle.line_laws.proofs.OfDisk.{of_tree}
-use Rattle.plan_laws.specs.Traces.{has_version, traced}
+use Rattle.disk_definitions.specs.Traces.{has_version, traced}
 use Rattle.plan_laws.proofs.Traces.{traced_is_at_hand}
 use Rattle.disk_definitions.specs.Lines.{plan_of_line}
 use Rattle.line_laws.proofs.Inside.{lines_inside}

@@ -13,14 +13,14 @@ use Rattle.disk_definitions.specs.Store.{Store}
 use Rattle.disk_definitions.specs.Edits.{Edit}
 use Rattle.disk_definitions.specs.Ask.{Ask, Got, ReadDirectory}
 use Rattle.disk_definitions.specs.NamePlans.{finish_over}
-use Rattle.disk_definitions.specs.Plans.{Hand, Lock, Plan, Finish, Room, must_clear, finish_in, none_left, read_held, refuse, refused, shared_nodes, sole_nodes, sole_segments}
+use Rattle.disk_definitions.specs.Plans.{Hand, Lock, Plan, Finish, Room, must_clear, finish_in, none_left, read_held, refuse, refused, shared_nodes, sole_nodes, sole_segments, says_full}
 use Rattle.disk_definitions.specs.Plans.Plan.{Lacks, Clears, Finishes}
 use Rattle.disk_definitions.specs.Plans.Room.{Inside, InBlock, NoRoom}
 use Rattle.plan_laws.proofs.Covering.{has_cases, not_in_none, node_sole}
-use Rattle.plan_laws.specs.Locks.{IsSole, says_full}
+use Rattle.plan_laws.specs.Locks.{IsSole}
 use Rattle.plan_laws.specs.Covers.{IsHeld}
 use Rattle.plan_laws.proofs.Fine.{first_held, only_held}
-use Rattle.plan_laws.specs.CoversAtHand.{has_small}
+use Rattle.disk_definitions.specs.CoversAtHand.{has_small}
 use Rattle.line_locks.specs.Found.{edit_locks_of, edit_locks, full_locks, finish_locks, from_end, made_segments, clear_soles}
 use Rattle.line_locks.specs.Same.{AreWithin}
 use Rattle.line_locks.proofs.Alike.{within_itself, within_join, within_shared, within_nodes, within_segments, sole_left, sole_right, held_left}

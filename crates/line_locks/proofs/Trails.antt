@@ -12,11 +12,10 @@ use Rattle.tree_definitions.specs.Resolve.{is_absolute, target_text}
 use Rattle.disk_definitions.specs.Store.{Store, StoredNode, StoredEntry}
 use Rattle.disk_definitions.specs.Naming.{Naming}
 use Rattle.disk_definitions.specs.Ask.{Ask, Got, ReadInode, bind, run}
-use Rattle.disk_definitions.specs.Plans.{Hand}
+use Rattle.disk_definitions.specs.Plans.{Hand, says_full}
 use Rattle.disk_definitions.specs.Walks.{Found, Walked, search, is_named, spot_by, look_up, in_inode}
 use Rattle.disk_definitions.specs.Walks.Spot.{Lost}
 use Rattle.plan_laws.proofs.Asking.{run-bind}
-use Rattle.plan_laws.specs.Locks.{says_full}
 use Rattle.plan_laws.proofs.Standing.{HasKind, DiskStands}
 use Rattle.plan_laws.proofs.WalksFine.{SpotStands, step_stands, kind_two}
 use Rattle.disk_definitions.specs.Resolving.{PathEnd, Leads, Refused, Resolution, leads, refused, behind, passes, at_target, with_target, at_entry, at_gap, at_name, below_inode, resolve_names, resolve_from, resolve}

@@ -12,10 +12,9 @@ use Rattle.disk_definitions.specs.Regions.{region_of}
 use Rattle.disk_definitions.specs.Edits.{Edit, SetInode, SetBit, SetUse, SetPlace, SetLarge, SetBytes, SetLargeBytes}
 use Rattle.disk_definitions.specs.Held.{Segments}
 use Rattle.disk_definitions.specs.Ask.{Sector, InodeAt, DirectoryAt, SegmentAt, BytesAt, LargeAt}
-use Rattle.disk_definitions.specs.Plans.{Lock, shared_nodes, sole_nodes, sole_segments}
+use Rattle.disk_definitions.specs.Plans.{Lock, shared_nodes, sole_nodes, sole_segments, says_full}
 use Rattle.disk_definitions.specs.Written.{Cached, inode_at_hand}
-use Rattle.plan_laws.specs.Locks.{says_full}
-use Rattle.plan_laws.specs.CoversAtHand.{has_small}
+use Rattle.disk_definitions.specs.CoversAtHand.{has_small}
 
 -- ---- nodes
 

@@ -11,7 +11,7 @@ use Rattle.disk_definitions.specs.OnDisk.{AreOfDisk, StandsBelow}
 use Rattle.disk_definitions.specs.Plans.{Finish, Lock, Plan}
 use Rattle.disk_definitions.specs.Plans.Plan.{Clears, Finishes}
 use Rattle.disk_definitions.specs.Written.{Cached, at_hand, hand_of}
-use Rattle.plan_laws.specs.Traces.{has_version, traced}
+use Rattle.disk_definitions.specs.Traces.{has_version, traced}
 use Rattle.disk_definitions.specs.Lines.{plan_of_line, resolved}
 use Rattle.line_locks.specs.Found.{clear_locks, finish_locks, nodes_in, nodes_of, owns_at_hand}
 use Rattle.line_locks.specs.Same.{AreAlike}

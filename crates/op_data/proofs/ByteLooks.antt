@@ -10,7 +10,7 @@ use Rattle.disk_definitions.specs.Ask.{Sector, BytesAt, LargeAt, Ask, ReadBytes,
 use Rattle.disk_definitions.specs.Plans.{Plan}
 use Rattle.disk_definitions.specs.FilePlans.{Writing, keeps_bytes, mixed, read_sector, read_sectors, set_sector, write_sectors}
 use Rattle.disk_definitions.specs.Written.{Cached, at_hand, bytes_at_hand}
-use Rattle.plan_laws.specs.Traces.{by_said, has_version, traced}
+use Rattle.disk_definitions.specs.Traces.{by_said, has_version, traced}
 use Rattle.plan_steps.specs.Looking.{examined}
 
 module _ (cached : Cached) (held : Segments) where

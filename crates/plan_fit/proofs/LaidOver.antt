@@ -13,7 +13,7 @@ use Rattle.sector_bytes.specs.Changes.{changed}
 use Rattle.sector_bytes.specs.SectorMaps.{value_at, Ascend}
 use Rattle.sector_bytes.proofs.MapLaws.{absent, ascend_with, AllAbove, found}
 use Rattle.sector_bytes.specs.Patches.{patches_with}
-use Rattle.tree_laws.proofs.Pairs.{birth_exact, self, found_put, found_other}
+use Rattle.tree_definitions.proofs.Pairs.{birth_exact, self, found_put, found_other}
 use Rattle.disk_definitions.specs.Inodes.{is_time_place}
 use Rattle.sector_bytes.specs.Sectors.{Sectors}
 use Rattle.disk_definitions.specs.Standing.{version_at}

@@ -9,7 +9,7 @@ use Rattle.tree_definitions.specs.declared.cells.Cell.{Cell}
 use Rattle.tree_definitions.specs.declared.cells.Cell.TheVariants.{Byte}
 use Rattle.tree_definitions.specs.Tree.{FileTree, node_at, with_node, count_of, file_blocks, small_blocks_of, large_blocks_of, larges_full}
 use Rattle.tree_definitions.specs.Apply.{says, apply, overwritten, written, truncated}
-use Rattle.tree_laws.specs.WellFormed.{IsNew}
+use Rattle.tree_definitions.specs.WellFormed.{IsNew}
 use Rattle.tree_laws.specs.Refusals.{says_ok, is_look}
 use Rattle.tree_laws.proofs.Refusals.{refusals_leave, looks_leave}
 use Rattle.disk_definitions.specs.Store.{Store}

@@ -18,7 +18,8 @@ use Rattle.disk_definitions.specs.PlanOf.{plan_of}
 use Rattle.plan_laws.specs.Locks.{IsSole}
 use Rattle.plan_laws.proofs.Covering.{has_cases}
 use Rattle.plan_laws.specs.Looked.{edited_at}
-use Rattle.plan_laws.specs.Covers.{cover_of, EditsAreCovered, LooksAreCovered, BytesKeepOffDirectories}
+use Rattle.disk_definitions.specs.Covers.{cover_of}
+use Rattle.plan_laws.specs.Covers.{EditsAreCovered, LooksAreCovered, BytesKeepOffDirectories}
 use Rattle.plan_laws.proofs.Standing.{DiskStands, disk_stands}
 use Rattle.plan_laws.proofs.Fine.{EditFits, EditsFit, PlanFits, Fine, refuse_fine}
 use Rattle.plan_laws.proofs.NamesFine.{made_path_fine, link_dirs, link_fine, unlink_fine, removed_dir, rmdir_fine}

@@ -10,7 +10,7 @@ use Rattle.std.specs.List.Sorted.{IsStrictlySortedBy}
 use Rattle.tree_definitions.specs.declared.node.Node.{Node}
 use Rattle.frang_base.specs.Functions.{put}
 use Rattle.frang_base.proofs.Basics.{by_test, at_put, put_same, put_other}
-use Rattle.tree_laws.proofs.Pairs.{birth_exact, tie, self}
+use Rattle.tree_definitions.proofs.Pairs.{birth_exact, tie, self}
 use Rattle.disk_definitions.specs.Least.{count}
 use Rattle.disk_definitions.proofs.PickCounts.{count_none, count_less_one}
 use Rattle.plan_laws.proofs.Counting.{rest_sorted, not_head}

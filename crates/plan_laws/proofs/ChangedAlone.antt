@@ -12,7 +12,7 @@ use Rattle.tree_definitions.specs.Tree.{FileTree, node_at}
 use Rattle.tree_definitions.specs.Place.{Place, Taken, Free, place}
 use Rattle.tree_definitions.specs.Apply.{Answer, Applied, Plain, Shows, says, made, is_dir, linked, linked_to, unlinked, dir_removed, goes_through, moved_onto, moved_to, renamed_to, renamed_from, renamed, at_file, if_file}
 use Rattle.tree_definitions.specs.Touched.{is_ok}
-use Rattle.tree_laws.specs.WellFormed.{IsNew}
+use Rattle.tree_definitions.specs.WellFormed.{IsNew}
 use Rattle.tree_laws.specs.Refusals.{says_ok}
 use Rattle.tree_laws.proofs.Keeping.{names_nodes}
 use Rattle.disk_definitions.specs.Store.{Store}

@@ -11,7 +11,7 @@ use Rattle.disk_definitions.specs.Changes.{uses_to, large_gone, freed, drop_node
 use Rattle.disk_definitions.specs.Plans.{with_block}
 use Rattle.plan_laws.proofs.Among.{is_among}
 use Rattle.plan_laws.proofs.Covering.{has_head, has_more}
-use Rattle.plan_laws.specs.Moves.{first_said, taker_said, large_taker_said, is_small_of}
+use Rattle.disk_definitions.specs.Moves.{first_said, taker_said, large_taker_said, is_small_of}
 use Rattle.plan_laws.proofs.Joining.{Writes}
 use Rattle.plan_laws.proofs.OneNode.{IsChanged}
 

@@ -7,7 +7,7 @@ use Rattle.std.specs.List.Sorted.{IsStrictlySortedBy}
 use Rattle.std.proofs.lemmas.Bool.{false_from_ne_true}
 use Rattle.frang_base.specs.Functions.{put}
 use Rattle.frang_base.proofs.Basics.{by_test, at_put, put_same, put_other}
-use Rattle.tree_laws.proofs.Pairs.{IsExact, tie, self, none_below}
+use Rattle.tree_definitions.proofs.Pairs.{IsExact, tie, self, none_below}
 use Rattle.disk_definitions.specs.Least.{count, one_if}
 use Rattle.disk_definitions.proofs.PickCounts.{count_zero, count_more, count_none, count_less_one}
 

@@ -11,7 +11,7 @@ use Rattle.frang_base.specs.declared.lock.Mode.TheVariants.{Sole}
 use Rattle.frang_base.specs.declared.reply.Reply.{Reply}
 use Rattle.frang_base.specs.declared.reply.Reply.TheVariants as reply
 use Rattle.tree_definitions.specs.Numbers.{below}
-use Rattle.tree_laws.proofs.Pairs.{birth_exact, tie}
+use Rattle.tree_definitions.proofs.Pairs.{birth_exact, tie}
 use Rattle.disk_definitions.specs.Store.{Store, Use}
 use Rattle.disk_definitions.specs.Edits.{Edit}
 use Rattle.disk_definitions.specs.Edits.Edit.{SetUse, SetLarge}
@@ -20,11 +20,11 @@ use Rattle.disk_definitions.specs.Ask.{Ask, Got, run}
 use Rattle.disk_definitions.specs.Walks.{Spot, Target, walk, at_spot, at_target}
 use Rattle.disk_definitions.specs.Walks.Spot.{AtRoot, AtName, AtGap, Lost}
 use Rattle.disk_definitions.specs.Plans.Plan.{Lacks, Finishes}
-use Rattle.disk_definitions.specs.Plans.{Hand, Lock, Plan, refuse, refused, none_left, shared_nodes, sole_nodes, sole_segments}
+use Rattle.disk_definitions.specs.Plans.{Hand, Lock, Plan, refuse, refused, none_left, shared_nodes, sole_nodes, sole_segments, says_full}
 use Rattle.disk_definitions.specs.LookPlans.{plan_of_node}
 use Rattle.plan_laws.proofs.Asking.{run-bind}
 use Rattle.plan_laws.proofs.Quiet.{IsQuiet, walk_quiet}
-use Rattle.plan_laws.specs.Locks.{IsSole, IsCovered, says_full, PlanIsCovered}
+use Rattle.plan_laws.specs.Locks.{IsSole, IsCovered, PlanIsCovered}
 
 -- ---- lists
 

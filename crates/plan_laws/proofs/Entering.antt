@@ -7,8 +7,9 @@ use Rattle.tree_definitions.specs.Entries.{Entries, entry_at, with_entry}
 use Rattle.tree_definitions.specs.Tree.{FileTree, node_at, must_grow, grown, blocks_full, lacks_block}
 use Rattle.frang_base.specs.Functions.{put}
 use Rattle.frang_base.proofs.Basics.{put_same}
-use Rattle.tree_laws.specs.WellFormed.{put as put_node}
-use Rattle.tree_laws.proofs.Nodes.{each_but, put_same as node_same, put_other as node_other}
+use Rattle.tree_definitions.specs.WellFormed.{put as put_node}
+use Rattle.tree_definitions.proofs.Births.{each_but}
+use Rattle.tree_laws.proofs.Nodes.{put_same as node_same, put_other as node_other}
 use Rattle.disk_definitions.specs.Store.{Store, StoredNode, StoredEntry}
 use Rattle.disk_definitions.specs.Naming.{Naming, Nodes, first_blocks, entry_of, place_of, dir_place}
 use Rattle.disk_definitions.specs.Least.{least}

@@ -6,7 +6,7 @@ use Rattle.tree_definitions.specs.declared.node.Node.{Node}
 use Rattle.tree_definitions.specs.declared.node.Node.TheVariants.{Dir, File, Link}
 use Rattle.tree_definitions.specs.Tree.{FileTree, node_at, with_node, without_node}
 use Rattle.tree_definitions.specs.Apply.{one_link_fewer}
-use Rattle.tree_laws.specs.WellFormed.{BirthsAscend, put as put_node}
+use Rattle.tree_definitions.specs.WellFormed.{BirthsAscend, put as put_node}
 use Rattle.tree_laws.proofs.Nodes.{node_with, node_without}
 use Rattle.disk_definitions.specs.Store.{Store}
 use Rattle.disk_definitions.specs.Naming.{Naming, Nodes, kind_of}

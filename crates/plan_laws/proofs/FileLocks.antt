@@ -15,14 +15,14 @@ use Rattle.disk_definitions.specs.Edits.Edit.{SetUse, SetLarge, SetBytes, SetLar
 use Rattle.disk_definitions.specs.Picks.{picked_many, picked_large}
 use Rattle.disk_definitions.specs.Ask.{Ask, Got, ReadInode, run}
 use Rattle.disk_definitions.specs.Walks.{Target}
-use Rattle.disk_definitions.specs.Plans.{Hand, Lock, Plan, refused, read_held, shared_nodes, sole_nodes, sole_segments}
+use Rattle.disk_definitions.specs.Plans.{Hand, Lock, Plan, refused, read_held, shared_nodes, sole_nodes, sole_segments, says_full}
 use Rattle.disk_definitions.specs.Plans.Plan.{Finishes}
 use Rattle.tree_definitions.specs.Apply.{time_of}
 use Rattle.disk_definitions.specs.NamePlans.{finish_over}
 use Rattle.disk_definitions.specs.FilePlans.{Writing, end_of, sectors_met, mixed, directory_blocks, set_sector, resized, large_taken, large_segment, file_dated, written_by, writing_in, writing_picked, writing_small, writing_large, writing, blocks_between, large_cut, cut_segments, cut_by, cutting, read_sectors, showing, at_file, with_file}
 use Rattle.disk_definitions.specs.LookPlans.{with_inode, at_inode, described, timed, listing, sorted_names}
 use Rattle.plan_laws.proofs.Asking.{run-segments}
-use Rattle.plan_laws.specs.Locks.{IsSole, says_full, FinishIsCovered, PlanIsCovered, IsCoveredPlan}
+use Rattle.plan_laws.specs.Locks.{IsSole, FinishIsCovered, PlanIsCovered, IsCoveredPlan}
 use Rattle.plan_laws.proofs.Bytes.{values, stored_byte, run-sectors}
 use Rattle.plan_laws.proofs.Gathering.{gathered, run-entries}
 use Rattle.plan_laws.proofs.Sectors.{old_sector, sector_edits, run-writes}

@@ -27,7 +27,8 @@ use Rattle.plan_laws.proofs.Setting.{set_edits}
 use Rattle.plan_laws.proofs.Sectors.{old_sector, sector_edits, run-writes, bytes_only}
 use Rattle.plan_laws.proofs.Taking.{ArePicked, none_picked, small_some, large_some}
 use Rattle.plan_laws.proofs.Standing.{IsFileNode, DiskStands, node_of}
-use Rattle.plan_laws.specs.Moves.{HasSmall, HasLarge, first_said, bit_said, use_said, large_said}
+use Rattle.plan_laws.specs.Moves.{HasSmall, HasLarge}
+use Rattle.disk_definitions.specs.Moves.{first_said, bit_said, use_said, large_said}
 use Rattle.plan_laws.proofs.Joining.{AreSound, AreQuiet, then_quiet, quiet_sound}
 use Rattle.plan_laws.proofs.OneNode.{MayChange, one_node}
 use Rattle.plan_laws.proofs.Changes.{Changes, inode_changes, before_uses, before_larges}

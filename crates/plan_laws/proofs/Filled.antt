@@ -21,9 +21,9 @@ use Rattle.disk_definitions.specs.Written.{with_number, ascending, byte_write, s
 use Rattle.plan_laws.specs.Locks.{IsSole, IsCovered}
 use Rattle.plan_laws.proofs.Covering.{has_head, has_more, has_cases, not_in_none}
 use Rattle.plan_laws.specs.Looked.{edited_at}
-use Rattle.plan_laws.specs.Covers.{cover_of}
+use Rattle.disk_definitions.specs.Covers.{cover_of}
 use Rattle.plan_laws.proofs.WalksFine.{either}
-use Rattle.plan_laws.specs.Moves.{use_said, large_said}
+use Rattle.disk_definitions.specs.Moves.{use_said, large_said}
 use Rattle.plan_laws.specs.Plans.{Fills}
 use Rattle.plan_laws.proofs.Joining.{AreSound}
 use Rattle.plan_laws.proofs.Owned.{something_said, small_before, large_before}

@@ -8,7 +8,7 @@ use Rattle.std.specs.Map.{keys_of}
 use Rattle.frang_base.specs.declared.lock.LockId.TheVariants as lock
 use Rattle.frang_base.specs.declared.lock.Mode.TheVariants.{Shared, Sole}
 use Rattle.frang_base.specs.declared.reply.Reply.{Reply}
-use Rattle.tree_laws.proofs.Pairs.{birth_exact, self}
+use Rattle.tree_definitions.proofs.Pairs.{birth_exact, self}
 use Rattle.disk_definitions.specs.Store.{Store}
 use Rattle.disk_definitions.specs.Naming.{Naming}
 use Rattle.disk_definitions.specs.Edits.{Edit}
@@ -22,7 +22,8 @@ use Rattle.disk_definitions.specs.Meets.{is_directory_use}
 use Rattle.plan_laws.proofs.Asking.{run-bind, looks-bind, run-segments}
 use Rattle.plan_laws.specs.Locks.{IsSole}
 use Rattle.plan_laws.proofs.Covering.{has_head, has_more, has_cases, map_has}
-use Rattle.plan_laws.specs.Covers.{inode_cover, small_cover, large_cover, cover_of, IsHeld, PlanHolds, IsHeldSegment}
+use Rattle.disk_definitions.specs.Covers.{inode_cover, small_cover, large_cover, cover_of}
+use Rattle.plan_laws.specs.Covers.{IsHeld, PlanHolds, IsHeldSegment}
 
 -- ---- locks
 

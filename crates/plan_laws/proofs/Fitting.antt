@@ -13,9 +13,10 @@ use Rattle.tree_definitions.specs.Entries.{Entries, with_entry, without_entry}
 use Rattle.tree_definitions.specs.Tree.{FileTree, node_at, with_node, without_node, count_of, file_blocks, small_blocks_of, large_blocks_of, inodes_full, larges_full, entries_full, grown, lacks_block}
 use Rattle.tree_definitions.specs.Place.{Place, Root, Taken, Free, Nowhere, place}
 use Rattle.tree_definitions.specs.Apply.{Applied, says, named, made, is_dir, has_entries, links_of, one_link_more, one_link_fewer, linked_to, linked, unlinked, dir_removed, name_gone, name_set, moved, room_made, moved_onto, moved_to, goes_through, renamed_to, renamed_from, renamed, if_file, at_file, overwritten, written, truncated, apply}
-use Rattle.tree_laws.specs.WellFormed.{BirthsAscend}
+use Rattle.tree_definitions.specs.WellFormed.{BirthsAscend}
 use Rattle.tree_laws.specs.Refusals.{is_look}
-use Rattle.tree_laws.proofs.Nodes.{each_but, with_same, with_other, without_same, without_other, ascend_with}
+use Rattle.tree_definitions.proofs.Births.{each_but}
+use Rattle.tree_laws.proofs.Nodes.{with_same, with_other, without_same, without_other, ascend_with}
 use Rattle.tree_laws.proofs.Refusals.{looks_leave}
 use Rattle.disk_definitions.specs.ChangeLaws.{FilesFit}
 use Rattle.plan_laws.specs.FilesPlanned.{FilesStayFit}

@@ -9,7 +9,7 @@ use Rattle.std.specs.Cmp.Lexicographic.{slice_cmp}
 use Rattle.std.specs.BTreeMap.{is_at}
 use mathlib.Core.Bool.{or_assoc}
 use Rattle.tree_definitions.specs.Numbers.{below}
-use Rattle.tree_laws.proofs.Pairs.{name_exact, tie, self}
+use Rattle.tree_definitions.proofs.Pairs.{name_exact, tie, self}
 use Rattle.disk_definitions.specs.Store.{Store, StoredEntry}
 use Rattle.disk_definitions.specs.Naming.{place_of}
 use Rattle.disk_definitions.specs.Ask.{Ask, seven, run}

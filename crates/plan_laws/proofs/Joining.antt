@@ -7,7 +7,8 @@ use Rattle.disk_definitions.specs.Store.{Store, StoredNode, Use, is_unused}
 use Rattle.disk_definitions.specs.Edits.{Edit}
 use Rattle.disk_definitions.specs.Edits.Edit.{SetInode}
 use Rattle.disk_definitions.specs.Meets.{is_directory_use}
-use Rattle.plan_laws.specs.Moves.{HasSmall, HasLarge, AreTidy, first_said, bit_said, use_said, large_said, taker_said, large_taker_said}
+use Rattle.plan_laws.specs.Moves.{HasSmall, HasLarge, AreTidy}
+use Rattle.disk_definitions.specs.Moves.{first_said, bit_said, use_said, large_said, taker_said, large_taker_said}
 
 -- ---- what two lists say
 

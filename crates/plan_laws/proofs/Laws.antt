@@ -14,7 +14,7 @@ use Rattle.disk_definitions.specs.Meets.{IsOfTree, IsHandOf, is_directory_use}
 use Rattle.plan_laws.specs.Locks.{FinishIsCovered, PlanIsCovered}
 use Rattle.plan_laws.proofs.AllLocks.{locks_cover}
 use Rattle.plan_laws.proofs.AllFine.{edits_are_covered}
-use Rattle.plan_laws.specs.Moves.{first_said, use_said}
+use Rattle.disk_definitions.specs.Moves.{first_said, use_said}
 use Rattle.plan_laws.specs.Plans.{PlansMove, CoversFollowPlans, MovesAreOwned, DirectoriesStay, BytesAreOwned}
 use Rattle.plan_laws.proofs.Moving.{covers_move}
 use Rattle.plan_laws.proofs.Joining.{AreSound}

@@ -9,8 +9,9 @@ use Rattle.tree_definitions.specs.Entries.{Entries, entry_at, with_entry}
 use Rattle.tree_definitions.specs.Tree.{FileTree, node_at, with_node, grown, lacks_block}
 use Rattle.tree_definitions.specs.Place.{Taken, Free, place}
 use Rattle.tree_definitions.specs.Apply.{says, named, is_dir, links_of, one_link_more, linked_to, linked}
-use Rattle.tree_laws.specs.WellFormed.{IsWellFormed, put as put_node}
-use Rattle.tree_laws.proofs.Nodes.{node_with, each_but, put_same as node_same, put_other as node_other}
+use Rattle.tree_definitions.specs.WellFormed.{IsWellFormed, put as put_node}
+use Rattle.tree_laws.proofs.Nodes.{node_with, put_same as node_same, put_other as node_other}
+use Rattle.tree_definitions.proofs.Births.{each_but}
 use Rattle.tree_laws.proofs.Keeping.{names_nodes}
 use Rattle.tree_laws.proofs.StepsLaws.{apply_keeps}
 use Rattle.disk_definitions.specs.Store.{Store, StoredNode, StoredEntry}

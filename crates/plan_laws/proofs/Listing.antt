@@ -14,7 +14,7 @@ use Rattle.tree_definitions.specs.declared.node.Node.TheVariants.{Dir, File, Lin
 use Rattle.tree_definitions.specs.Entries.{Entries, entry_at, with_entry}
 use Rattle.tree_definitions.specs.Tree.{FileTree, node_at}
 use Rattle.tree_definitions.specs.Apply.{listed}
-use Rattle.tree_laws.proofs.Pairs.{name_exact, tie, self, found_put, found_other, sorted_put}
+use Rattle.tree_definitions.proofs.Pairs.{name_exact, tie, self, found_put, found_other, sorted_put}
 use Rattle.tree_laws.proofs.StepsLaws.{apply_keeps}
 use Rattle.disk_definitions.specs.Store.{Store, StoredEntry}
 use Rattle.disk_definitions.specs.Naming.{Naming, find_in, room_in, first_blocks, entry_of, dir_place, kind_of}

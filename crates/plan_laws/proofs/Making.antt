@@ -11,7 +11,7 @@ use Rattle.tree_definitions.specs.Tree.{FileTree, node_at, with_node, grown, ino
 use Rattle.tree_definitions.specs.Place.{Free, place}
 use Rattle.tree_definitions.specs.Apply.{says, named, made}
 use Rattle.frang_base.proofs.Basics.{put_same, put_other}
-use Rattle.tree_laws.specs.WellFormed.{IsWellFormed, IsNew, put as put_node}
+use Rattle.tree_definitions.specs.WellFormed.{IsWellFormed, IsNew, put as put_node}
 use Rattle.tree_laws.proofs.Nodes.{node_with, put_other as node_other}
 use Rattle.tree_laws.proofs.Keeping.{names_nodes}
 use Rattle.tree_laws.proofs.StepsLaws.{apply_keeps}

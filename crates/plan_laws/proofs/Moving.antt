@@ -14,9 +14,10 @@ use Rattle.disk_definitions.specs.Edits.{Edit}
 use Rattle.disk_definitions.proofs.Kept.{inode_is}
 use Rattle.disk_definitions.proofs.Free.{no_owner, no_large_owner}
 use Rattle.disk_definitions.specs.Ask.{Sector, InodeAt, DirectoryAt, SegmentAt, BytesAt, LargeAt}
-use Rattle.plan_laws.specs.Covers.{inode_cover, small_cover, large_cover, cover_of}
+use Rattle.disk_definitions.specs.Covers.{inode_cover, small_cover, large_cover, cover_of}
 use Rattle.plan_laws.proofs.Standing.{stands}
-use Rattle.plan_laws.specs.Moves.{HasSmall, HasLarge, AreTidy, CoversMove, first_said, bit_said, use_said, large_said, taker_said, large_taker_said, inode_move, small_move, large_move, moved_by, node_lock}
+use Rattle.plan_laws.specs.Moves.{HasSmall, HasLarge, AreTidy, CoversMove}
+use Rattle.disk_definitions.specs.Moves.{first_said, bit_said, use_said, large_said, taker_said, large_taker_said, inode_move, small_move, large_move, moved_by, node_lock}
 
 -- the lock of an inode, by its bit
 abbrev pub by_bit : ℕ → Bool → LockId

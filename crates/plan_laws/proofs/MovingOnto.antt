@@ -11,8 +11,8 @@ use Rattle.tree_definitions.specs.declared.node.Node.TheVariants.{Dir, File, Lin
 use Rattle.tree_definitions.specs.Entries.{Entries, entry_at, with_entry, without_entry}
 use Rattle.tree_definitions.specs.Tree.{FileTree, node_at, with_node}
 use Rattle.tree_definitions.specs.Apply.{Applied, says, is_dir, has_entries, one_link_fewer, name_gone, name_set, moved, moved_onto}
-use Rattle.tree_laws.specs.WellFormed.{IsWellFormed, put as put_node}
-use Rattle.tree_laws.proofs.Pairs.{name_exact, sorted_removed}
+use Rattle.tree_definitions.specs.WellFormed.{IsWellFormed, put as put_node}
+use Rattle.tree_definitions.proofs.Pairs.{name_exact, sorted_removed}
 use Rattle.tree_laws.proofs.Nodes.{node_with, with_same, with_other, ascend_with}
 use Rattle.tree_laws.proofs.Keeping.{names_nodes, never_root}
 use Rattle.disk_definitions.specs.Store.{Store, StoredNode}

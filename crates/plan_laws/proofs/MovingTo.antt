@@ -9,7 +9,7 @@ use Rattle.tree_definitions.specs.declared.node.Node.TheVariants.{Dir}
 use Rattle.tree_definitions.specs.Entries.{Entries, entry_at, with_entry, without_entry}
 use Rattle.tree_definitions.specs.Tree.{FileTree, node_at, with_node, grown, lacks_block}
 use Rattle.tree_definitions.specs.Apply.{Applied, says, moved, room_made, moved_to}
-use Rattle.tree_laws.specs.WellFormed.{IsWellFormed, put as put_node}
+use Rattle.tree_definitions.specs.WellFormed.{IsWellFormed, put as put_node}
 use Rattle.tree_laws.proofs.Nodes.{node_with, with_same, with_other}
 use Rattle.disk_definitions.specs.Store.{Store, StoredNode}
 use Rattle.disk_definitions.specs.Naming.{Naming, entry_of}

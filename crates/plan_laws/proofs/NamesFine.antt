@@ -17,7 +17,8 @@ use Rattle.disk_definitions.specs.Plans.Room.{Inside, InBlock, NoRoom}
 use Rattle.disk_definitions.specs.NamePlans.{made_by, making_in, making_with, making, plan_made, linked_by, linking_in, linking_node, linking_to, linking, plan_linked, fewer_segments, finish_over, removed_by, unlinking_node, unlinking, plan_unlinked, removing_node, removing, plan_dir_removed}
 use Rattle.plan_laws.specs.Locks.{IsSole}
 use Rattle.plan_laws.proofs.Covering.{has_head, has_more, node_sole, segment_sole}
-use Rattle.plan_laws.specs.Covers.{inode_cover, PlanHolds}
+use Rattle.disk_definitions.specs.Covers.{inode_cover}
+use Rattle.plan_laws.specs.Covers.{PlanHolds}
 use Rattle.plan_laws.proofs.Standing.{DiskStands}
 use Rattle.plan_laws.proofs.Fine.{first_held, Fine, FinishFits, seen_more, past_held, refuse_fine, none_fine, over}
 use Rattle.plan_laws.proofs.WalksFine.{either, RoomStands, room_stands, DirStands, SpotStands, walk_stands, on_walk}

@@ -28,7 +28,7 @@ use Rattle.plan_laws.proofs.Asking.{run-bind, run-segments}
 use Rattle.plan_laws.proofs.Standing.{DiskStands}
 use Rattle.plan_laws.proofs.WalksFine.{RoomStands, room_stands, SpotStands, walk_stands}
 use Rattle.plan_laws.proofs.RoomsFine.{wider}
-use Rattle.plan_laws.specs.Moves.{first_said, bit_said, use_said, large_said}
+use Rattle.disk_definitions.specs.Moves.{first_said, bit_said, use_said, large_said}
 use Rattle.plan_laws.proofs.Joining.{AreSound, AreApart, joined, quiet_then, no_some}
 use Rattle.plan_laws.proofs.OneNode.{not_small_of}
 use Rattle.plan_laws.proofs.Sound.{StandsFor, IsNobodys, IsFreeRoom, KeepsBlocks, none_sound, take_sound, relink_sound, new_sound, enter_sound}

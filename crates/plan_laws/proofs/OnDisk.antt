@@ -16,9 +16,10 @@ use Rattle.disk_definitions.specs.Plans.Room.{Inside, InBlock, NoRoom}
 use Rattle.disk_definitions.specs.NamePlans.{is_last, fewer}
 use Rattle.disk_definitions.specs.Meets.{is_directory_use}
 use Rattle.plan_laws.proofs.Among.{is_among}
-use Rattle.plan_laws.specs.Covers.{small_cover, large_cover}
+use Rattle.disk_definitions.specs.Covers.{small_cover, large_cover}
 use Rattle.plan_laws.proofs.Standing.{stands, node_of}
-use Rattle.plan_laws.specs.Moves.{HasSmall, HasLarge, first_said, use_said, large_said}
+use Rattle.plan_laws.specs.Moves.{HasSmall, HasLarge}
+use Rattle.disk_definitions.specs.Moves.{first_said, use_said, large_said}
 use Rattle.plan_laws.proofs.Moving.{small_lock, large_lock}
 use Rattle.plan_laws.proofs.Joining.{AreSound, AreApart, AreQuiet, quiet_then}
 use Rattle.plan_laws.proofs.OneNode.{is_said}

@@ -10,7 +10,8 @@ use Rattle.disk_definitions.specs.Resizing.{index_in}
 use Rattle.disk_definitions.proofs.Indices.{index_hit}
 use Rattle.disk_definitions.specs.Meets.{is_directory_use}
 use Rattle.plan_laws.proofs.Among.{is_among}
-use Rattle.plan_laws.specs.Moves.{HasSmall, HasLarge, first_said, bit_said, use_said, large_said, taker_said, large_taker_said, is_small_of}
+use Rattle.plan_laws.specs.Moves.{HasSmall, HasLarge}
+use Rattle.disk_definitions.specs.Moves.{first_said, bit_said, use_said, large_said, taker_said, large_taker_said, is_small_of}
 use Rattle.plan_laws.proofs.Joining.{Writes, AreSound}
 
 -- ---- the blocks of a node

@@ -6,7 +6,7 @@ use Rattle.std.specs.Ordering.{ordering_reverse}
 use Rattle.std.specs.Map.{lookup, keys_of}
 use Rattle.std.specs.BTreeMap.{is_at}
 use Rattle.std.specs.List.Sorted.{IsStrictlySortedBy}
-use Rattle.tree_laws.proofs.Pairs.{IsExact, tie, self, none_below, below_all}
+use Rattle.tree_definitions.proofs.Pairs.{IsExact, tie, self, none_below, below_all}
 
 -- a list has a key
 abbrev has : {K Z : Type 0} → (K → K → Ordering) → List (K × Z) → K → Bool

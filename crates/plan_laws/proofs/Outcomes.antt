@@ -6,9 +6,8 @@ use Rattle.frang_base.specs.declared.reply.Reply.{Reply}
 use Rattle.disk_definitions.specs.Store.{Store}
 use Rattle.disk_definitions.specs.Picks.{picked_directory}
 use Rattle.disk_definitions.specs.Ask.{run}
-use Rattle.disk_definitions.specs.Plans.{Hand, Lock, Plan, Finish, none_left, must_clear, shared_nodes, sole_segments}
+use Rattle.disk_definitions.specs.Plans.{Hand, Lock, Plan, Finish, none_left, must_clear, shared_nodes, sole_segments, says_full}
 use Rattle.disk_definitions.specs.Plans.Plan.{Lacks, Clears, Finishes}
-use Rattle.plan_laws.specs.Locks.{says_full}
 use Rattle.plan_laws.specs.Wants.{Wants}
 use Rattle.plan_laws.specs.Exact.{FindsNothing}
 

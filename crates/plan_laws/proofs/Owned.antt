@@ -13,8 +13,8 @@ use Rattle.disk_definitions.specs.Ask.{Sector, InodeAt, DirectoryAt, SegmentAt, 
 use Rattle.disk_definitions.specs.Plans.{Lock}
 use Rattle.plan_laws.specs.Locks.{IsSole, IsCovered}
 use Rattle.plan_laws.proofs.Covering.{has_head, has_more, has_cases, not_in_none}
-use Rattle.plan_laws.specs.Covers.{inode_cover, small_cover, large_cover, cover_of}
-use Rattle.plan_laws.specs.Moves.{first_said, bit_said, use_said, large_said, taker_said, large_taker_said, is_small_of, inode_move, small_move, large_move, moved_by, node_lock}
+use Rattle.disk_definitions.specs.Covers.{inode_cover, small_cover, large_cover, cover_of}
+use Rattle.disk_definitions.specs.Moves.{first_said, bit_said, use_said, large_said, taker_said, large_taker_said, is_small_of, inode_move, small_move, large_move, moved_by, node_lock}
 use Rattle.plan_laws.proofs.Moving.{by_bit, inode_lock, small_lock, free_lock, used_small, large_lock, free_large, used_large}
 use Rattle.plan_laws.proofs.Joining.{Writes, AreSound}
 use Rattle.plan_laws.proofs.OneNode.{is_said}

@@ -9,7 +9,7 @@ use Rattle.frang_base.proofs.Tests.{some_there}
 use Rattle.tree_definitions.specs.declared.node.Node.TheVariants.{Dir}
 use Rattle.tree_definitions.specs.Entries.{Entries, entry_at}
 use Rattle.tree_definitions.specs.Tree.{must_grow}
-use Rattle.tree_laws.proofs.Pairs.{name_exact}
+use Rattle.tree_definitions.proofs.Pairs.{name_exact}
 use Rattle.disk_definitions.specs.Store.{Store, StoredEntry}
 use Rattle.disk_definitions.specs.Naming.{Naming, Nodes, Pictures, find_in, room_in, first_blocks, entry_of, place_of, dir_place}
 use Rattle.disk_definitions.specs.Least.{least, count}

@@ -7,13 +7,12 @@ use Rattle.disk_definitions.specs.Store.{Store, StoredNode, StoredEntry}
 use Rattle.disk_definitions.specs.Ask.{Ask, Got, ReadInode, run}
 use Rattle.disk_definitions.specs.Walks.{Spot, Target, walk, at_spot, at_target}
 use Rattle.disk_definitions.specs.Walks.Spot.{AtRoot, AtName, AtGap, Lost}
-use Rattle.disk_definitions.specs.Plans.{Plan, refused}
+use Rattle.disk_definitions.specs.Plans.{Plan, refused, says_full}
 use Rattle.disk_definitions.specs.Plans.Plan.{Finishes}
 use Rattle.disk_definitions.specs.NamePlans.{Moving, fewer_segments, finish_over, removed_by, unlinking_node, unlinking, plan_unlinked, removing_node, removing, plan_dir_removed, moved_onto_by, replacing_node, moving_onto}
 use Rattle.disk_definitions.specs.FilePlans.{sectors_met, cut_segments, cut_by, cutting, plan_truncated, read_sectors, showing, plan_read, at_file, with_file}
 use Rattle.disk_definitions.specs.LookPlans.{plan_of_node, with_inode, at_inode, described, plan_described, listing, sorted_names, plan_listed, plan_target, timed, plan_timed}
 use Rattle.plan_laws.proofs.Asking.{run-bind, run-segments}
-use Rattle.plan_laws.specs.Locks.{says_full}
 use Rattle.plan_laws.proofs.Bytes.{run-sectors}
 use Rattle.plan_laws.proofs.Gathering.{run-entries}
 use Rattle.plan_laws.proofs.Covering.{IsFine, walk_fine}

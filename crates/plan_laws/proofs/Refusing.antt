@@ -3,7 +3,7 @@ use Rattle.std.proofs.Common.{ℕ, ◌≡◌, Bool, true, false, List, if◌then
 use Rattle.frang_base.specs.declared.reply.Reply.{Reply}
 use Rattle.tree_definitions.specs.Tree.{FileTree}
 use Rattle.tree_definitions.specs.Apply.{Applied, says}
-use Rattle.tree_laws.specs.WellFormed.{IsWellFormed}
+use Rattle.tree_definitions.specs.WellFormed.{IsWellFormed}
 use Rattle.disk_definitions.specs.Store.{Store}
 use Rattle.disk_definitions.specs.Naming.{Naming}
 use Rattle.disk_definitions.specs.Ask.{run}

@@ -9,7 +9,7 @@ use Rattle.tree_definitions.specs.Entries.{Entries, entry_at, without_entry}
 use Rattle.tree_definitions.specs.Tree.{FileTree, node_at, with_node, without_node}
 use Rattle.tree_definitions.specs.Place.{Taken, place}
 use Rattle.tree_definitions.specs.Apply.{Applied, says, is_dir, has_entries, one_link_fewer, unlinked, dir_removed}
-use Rattle.tree_laws.specs.WellFormed.{IsWellFormed, put as put_node}
+use Rattle.tree_definitions.specs.WellFormed.{IsWellFormed, put as put_node}
 use Rattle.tree_laws.proofs.Nodes.{node_with, with_other, ascend_with}
 use Rattle.tree_laws.proofs.Keeping.{names_nodes, never_root}
 use Rattle.tree_laws.proofs.StepsLaws.{apply_keeps}

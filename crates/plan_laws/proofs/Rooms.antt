@@ -15,7 +15,7 @@ use Rattle.disk_definitions.specs.Picks.{picks, picked_inode, picked_directory, 
 use Rattle.disk_definitions.proofs.ManyLaws.{no_picks}
 use Rattle.disk_definitions.specs.Ask.{Got, ReadDirectory, run}
 use Rattle.disk_definitions.specs.Walks.{search, is_vacant}
-use Rattle.disk_definitions.specs.Plans.{Hand, Finish, Room, none_left, room_at, room_in, read_held, find_room, finish_in, must_clear}
+use Rattle.disk_definitions.specs.Plans.{Hand, Finish, Room, none_left, room_at, room_in, read_held, find_room, finish_in, must_clear, says_full}
 use Rattle.disk_definitions.specs.Plans.Plan.{Clears, Finishes}
 use Rattle.disk_definitions.specs.Plans.Room.{Inside, InBlock, NoRoom}
 use Rattle.disk_definitions.specs.Meets.{IsOfTree}
@@ -23,7 +23,6 @@ use Rattle.plan_laws.proofs.Asking.{run-bind, run-segments}
 use Rattle.plan_laws.proofs.Searching.{found_in, run-search}
 use Rattle.plan_laws.proofs.Cases.{inode_by}
 use Rattle.plan_laws.proofs.Places.{place_some, place_none}
-use Rattle.plan_laws.specs.Locks.{says_full}
 use Rattle.plan_laws.specs.Wants.{Wants}
 use Rattle.plan_laws.specs.Exact.{FindsNothing}
 use Rattle.plan_laws.proofs.Outcomes.{IsFound, Outcome, none_outcome, not_both}

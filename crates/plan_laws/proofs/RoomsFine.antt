@@ -21,7 +21,8 @@ use Rattle.disk_definitions.specs.Plans.Room.{Inside, InBlock, NoRoom}
 use Rattle.disk_definitions.specs.NamePlans.{segments_of, is_last, fewer, fewer_segments}
 use Rattle.plan_laws.specs.Locks.{IsSole}
 use Rattle.plan_laws.proofs.Covering.{has_head, has_more, map_has, below_has}
-use Rattle.plan_laws.specs.Covers.{inode_cover, small_cover, PlanHolds, IsHeld}
+use Rattle.disk_definitions.specs.Covers.{inode_cover, small_cover}
+use Rattle.plan_laws.specs.Covers.{PlanHolds, IsHeld}
 use Rattle.plan_laws.proofs.Standing.{DiskStands}
 use Rattle.plan_laws.proofs.Fine.{EditsFit, join, Fine, FinishFits, seen_more, fewer_touched, done, on}
 use Rattle.plan_laws.proofs.WalksFine.{either, inode_under, room_under, RoomStands, SpotStands}

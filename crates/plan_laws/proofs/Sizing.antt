@@ -4,7 +4,7 @@ use Rattle.std.proofs.lemmas.Bool.Decides.{nat_tests}
 use Rattle.tree_definitions.specs.declared.cells.Cell.{Cell}
 use Rattle.tree_definitions.specs.declared.node.Node.TheVariants.{File}
 use Rattle.tree_definitions.specs.Tree.{FileTree, node_at, with_node, small_blocks_of}
-use Rattle.tree_laws.specs.WellFormed.{IsWellFormed, put as put_node}
+use Rattle.tree_definitions.specs.WellFormed.{IsWellFormed, put as put_node}
 use Rattle.tree_laws.proofs.Nodes.{node_with}
 use Rattle.disk_definitions.specs.Store.{Store}
 use Rattle.disk_definitions.specs.Naming.{Naming}

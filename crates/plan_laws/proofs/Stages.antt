@@ -7,8 +7,9 @@ use Rattle.tree_definitions.specs.Entries.{Entries}
 use Rattle.tree_definitions.specs.Tree.{FileTree, node_at}
 use Rattle.tree_definitions.specs.Apply.{is_dir}
 use Rattle.frang_base.proofs.Basics.{at_put}
-use Rattle.tree_laws.specs.WellFormed.{IsWellFormed, put as put_node}
-use Rattle.tree_laws.proofs.Nodes.{each_but, put_same as node_same, put_other as node_other}
+use Rattle.tree_definitions.specs.WellFormed.{IsWellFormed, put as put_node}
+use Rattle.tree_definitions.proofs.Births.{each_but}
+use Rattle.tree_laws.proofs.Nodes.{put_same as node_same, put_other as node_other}
 use Rattle.tree_laws.proofs.Places.{dir_is_some}
 use Rattle.disk_definitions.specs.Store.{Store, StoredNode}
 use Rattle.disk_definitions.specs.Store.Use.{Fresh, Empty}

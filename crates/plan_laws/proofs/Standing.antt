@@ -22,7 +22,7 @@ use Rattle.disk_definitions.specs.Meets.{IsOfTree, IsHandOf, is_directory_use}
 use Rattle.disk_definitions.proofs.NodeLaws.{first_is}
 use Rattle.plan_laws.proofs.Picks.{block_some}
 use Rattle.plan_laws.proofs.Spots.{as_inode}
-use Rattle.plan_laws.specs.Covers.{inode_cover, small_cover, large_cover}
+use Rattle.disk_definitions.specs.Covers.{inode_cover, small_cover, large_cover}
 
 -- a file has the blocks that its size takes, and none of them is or was a directory's
 pub record IsFileNode (s : Store) (x : StoredNode) : Type 0 where

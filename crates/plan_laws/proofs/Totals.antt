@@ -5,7 +5,7 @@ use Rattle.std.specs.Ordering.{nat_cmp}
 use Rattle.frang_base.proofs.Tests.{some_there}
 use Rattle.tree_definitions.specs.declared.node.Node.{Node}
 use Rattle.tree_definitions.specs.Tree.{FileTree, node_at, count_of, small_blocks}
-use Rattle.tree_laws.proofs.Pairs.{birth_exact}
+use Rattle.tree_definitions.proofs.Pairs.{birth_exact}
 use Rattle.disk_definitions.specs.Store.{Store, is_unused}
 use Rattle.disk_definitions.specs.Store.Use.{Fresh, Empty}
 use Rattle.disk_definitions.specs.Naming.{Naming, blocks_of, use_for}

@@ -9,7 +9,7 @@ use Rattle.disk_definitions.specs.Ask.{InodeAt, DirectoryAt, SegmentAt, BytesAt,
 use Rattle.disk_definitions.specs.Plans.{enter}
 use Rattle.disk_definitions.specs.Plans.Room.{InBlock}
 use Rattle.disk_definitions.specs.FilePlans.{written_by, cut_by, resized}
-use Rattle.plan_laws.specs.Moves.{moved_by}
+use Rattle.disk_definitions.specs.Moves.{moved_by}
 
 -- a directory comes to inode 70, named in the one of inode 3, which has block 5 and gets block 1030
 abbrev parent : StoredNode

@@ -21,7 +21,7 @@ use Rattle.disk_definitions.specs.FilePlans.{Writing, end_of, set_sector, sector
 use Rattle.disk_definitions.specs.Meets.{is_directory_use}
 use Rattle.plan_laws.specs.Locks.{IsSole}
 use Rattle.plan_laws.proofs.Covering.{has_head, map_has, node_sole, segment_sole}
-use Rattle.plan_laws.specs.Covers.{small_cover, large_cover}
+use Rattle.disk_definitions.specs.Covers.{small_cover, large_cover}
 use Rattle.plan_laws.proofs.Standing.{IsFileNode, DiskStands}
 use Rattle.plan_laws.proofs.Fine.{first_held, EditFits, EditsFit, join, Fine, FinishFits, past_held, refuse_fine, none_fine, done}
 use Rattle.plan_laws.proofs.FilesFine.{index_in, in_small, met_before, file_fits, taken_fits, states_fit, writes_fine}

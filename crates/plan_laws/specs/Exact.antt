@@ -7,11 +7,10 @@ use Rattle.disk_definitions.specs.Naming.{Naming}
 use Rattle.disk_definitions.specs.Held.{Segments}
 use Rattle.disk_definitions.specs.Picks.{picked_inode, picked_directory, picked_large, picked_many}
 use Rattle.disk_definitions.specs.Ask.{run}
-use Rattle.disk_definitions.specs.Plans.{Hand, Lock, Plan, Finish, must_clear}
+use Rattle.disk_definitions.specs.Plans.{Hand, Lock, Plan, Finish, must_clear, says_full}
 use Rattle.disk_definitions.specs.Plans.Plan.{Lacks, Clears, Finishes}
 use Rattle.disk_definitions.specs.PlanOf.{plan_of}
 use Rattle.disk_definitions.specs.Meets.{IsOfTree}
-use Rattle.plan_laws.specs.Locks.{says_full}
 use Rattle.plan_laws.specs.Wants.{Wants, wants}
 
 -- an allocation finds nothing in the held segments

@@ -6,16 +6,7 @@ use Rattle.disk_definitions.specs.Ask.{Sector, SegmentAt, Ask, AtHand, bind, loo
 use Rattle.disk_definitions.specs.Ask.Met.{Needs}
 use Rattle.disk_definitions.specs.Missing.{is_at_hand}
 use Rattle.plan_laws.specs.Inside.{AgreesWhereAll}
-use Rattle.plan_laws.specs.Traces.{traced, then_traced}
-
--- the trace of one computation and then another is that of the first, and then that of the second by its value
-abbrev pub TracesGoOn : Type 0 → Type 0 → Type 0
-TracesGoOn A B =
-    (first : Ask A) (second : A → Ask B) (known : AtHand) → traced (bind first second) known ≡ then_traced (traced first known) (λ value. traced (second value) known)
-
--- what it comes to is what the computation meets
-abbrev pub TracesMeet : Type 0 → Type 0
-TracesMeet A = (program : Ask A) (known : AtHand) → (traced program known).met ≡ meet program known
+use Rattle.disk_definitions.specs.Traces.{traced, then_traced}
 
 -- segments that are all at hand come in front
 abbrev pub SegmentsAreTraced : Type 0 → Type 0

@@ -6,12 +6,9 @@ pub mod FilesPlanned
 pub mod Locks
 pub mod Inside
 pub mod Looked
-pub mod Traces
 pub mod Laws
 pub mod Covers
-pub mod CoversAtHand
 pub mod Moves
-pub mod Numbered
 pub mod Plans
 pub mod Wants
 pub mod Exact

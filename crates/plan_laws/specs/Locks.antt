@@ -34,14 +34,6 @@ IsCovered locks (SetPlace block slot entry) = Unit {0}
 IsCovered locks (SetBytes block part bytes) = Unit {0}
 IsCovered locks (SetLargeBytes segment part bytes) = Unit {0}
 
--- an allocation found nothing
-abbrev pub says_full : Reply → Bool
-says_full reply.NoInode = true
-says_full reply.NoDirBlock = true
-says_full reply.NoLarge = true
-says_full (reply.NoBlock ever_directories) = true
-says_full _ = false
-
 -- a finished plan: its edits are covered, and where an allocation found nothing each segment is held alone
 pub record FinishIsCovered (hand : Hand) (finish : Finish) : Type 0 where
   pub edits : AllByRecursion (IsCovered finish.locks) finish.edits

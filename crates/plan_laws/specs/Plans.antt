@@ -14,8 +14,9 @@ use Rattle.disk_definitions.specs.PlanOf.{plan_of}
 use Rattle.disk_definitions.specs.Meets.{IsOfTree, IsHandOf, is_directory_use}
 use Rattle.disk_definitions.specs.Written.{byte_writes, freed_sectors}
 use Rattle.plan_laws.specs.Locks.{IsSole}
-use Rattle.plan_laws.specs.Covers.{cover_of}
-use Rattle.plan_laws.specs.Moves.{AreTidy, CoversFollow, moved_by}
+use Rattle.disk_definitions.specs.Covers.{cover_of}
+use Rattle.plan_laws.specs.Moves.{AreTidy, CoversFollow}
+use Rattle.disk_definitions.specs.Moves.{moved_by}
 
 -- a program that plans an operation, with the birth of its new node and a time
 abbrev pub Planner : Type 0

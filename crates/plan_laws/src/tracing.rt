@@ -5,7 +5,8 @@
 
 ghost use Rattle.disk_definitions.specs.Walks.{Walked};
 ghost use Rattle.disk_definitions.specs.Plans.{Plan};
-ghost use Rattle.plan_laws.specs.Laws.{TracesGoOn, TracesMeet, TracesFollowLooks, TracedIsAtHand, SegmentsAreTraced};
+ghost use Rattle.disk_definitions.specs.Traces.{TracesGoOn, TracesMeet};
+ghost use Rattle.plan_laws.specs.Laws.{TracesFollowLooks, TracedIsAtHand, SegmentsAreTraced};
 
 /// The trace of one computation and then another is that of the first and behind it that of the second, unless a sector of the first is missing. What it
 /// comes to is what the computation meets. Segments that are at hand come in front, one after another.

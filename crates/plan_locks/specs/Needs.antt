@@ -16,8 +16,8 @@ use Rattle.disk_definitions.specs.OnDisk.{AreOfDisk, StandsBelow}
 use Rattle.disk_definitions.specs.Plans.{Lock, Plan}
 use Rattle.disk_definitions.specs.Plans.Plan.{Clears, Finishes}
 use Rattle.disk_definitions.specs.Written.{Cached, at_hand, hand_of}
-use Rattle.plan_laws.specs.Covers.{cover_of}
-use Rattle.plan_laws.specs.Moves.{moved_by}
+use Rattle.disk_definitions.specs.Covers.{cover_of}
+use Rattle.disk_definitions.specs.Moves.{moved_by}
 use Rattle.disk_definitions.specs.Lines.{plan_of_line, resolved}
 use Rattle.core_definitions.specs.Sets.{LockSet, joined_all, mode_in}
 use Rattle.dir_lookup.specs.declared.hand.Hand.{Hand}

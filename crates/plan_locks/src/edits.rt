@@ -2,8 +2,7 @@
 ghost use Rattle.std.specs.Prelude.{◌≡◌, OnOk, filter, map};
 ghost use Rattle.std.specs.Map.{keys_of};
 ghost use Rattle.core_definitions.specs.Sets.{joined_all};
-ghost use Rattle.disk_definitions.specs.Plans.{shared_nodes, sole_nodes, sole_segments};
-ghost use Rattle.plan_laws.specs.Locks.{says_full};
+ghost use Rattle.disk_definitions.specs.Plans.{shared_nodes, sole_nodes, sole_segments, says_full};
 ghost use Rattle.plan_steps.specs.Edits.{edit_of, edits_of};
 ghost use Rattle.line_locks.specs.Found.{edit_locks, edit_locks_of, full_locks, owns_at_hand};
 

@@ -4,7 +4,7 @@ use Rattle.std.specs.BTreeMap.{is_at}
 use Rattle.std.specs.Map.{keys_of}
 use Rattle.std.specs.Ordering.{nat_cmp}
 use Rattle.frang_base.specs.declared.bitmap.Bitmap.{Bitmap}
-use Rattle.tree_laws.proofs.Pairs.{birth_exact, self}
+use Rattle.tree_definitions.proofs.Pairs.{birth_exact, self}
 use Rattle.disk_definitions.specs.Held.{Segments, bitmap_of}
 use Rattle.disk_definitions.specs.Ask.{Ask, read_segments}
 use Rattle.disk_definitions.specs.Plans.{Hand, read_held}

@@ -9,8 +9,8 @@ use Rattle.disk_definitions.specs.Least.{least}
 use Rattle.disk_definitions.specs.Ask.{Sector, InodeAt, DirectoryAt, SegmentAt, Ask, Got, ReadInode, ReadDirectory, ReadSegment, ReadBytes, ReadLarge, bind, meet, number_of}
 use Rattle.disk_definitions.specs.Walks.{Spot, AtRoot, AtName, AtGap, Lost, Found, Walked, hit, in_inode, is_named, look_up, onward, or_on, search, spot_by, walk, walk_from}
 use Rattle.disk_definitions.specs.Written.{Cached, at_hand, directory_at_hand, inode_at_hand, is_held}
-use Rattle.plan_laws.specs.Traces.{behind, by_said, has_version, needs, on_from, Traced, traced}
-use Rattle.plan_laws.proofs.Traces.{traces_go_on, traces_meet}
+use Rattle.disk_definitions.specs.Traces.{behind, by_said, has_version, needs, on_from, Traced, traced}
+use Rattle.disk_definitions.proofs.Traces.{traces_go_on, traces_meet}
 use Rattle.dir_lookup.specs.Looked.{Adds}
 use Rattle.dir_lookup.specs.Looks.{looks_of}
 use Rattle.dir_lookup.specs.Reading.{Read, Lacks, Gives, reading}

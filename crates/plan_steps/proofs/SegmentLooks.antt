@@ -8,7 +8,7 @@ use Rattle.disk_definitions.specs.Held.{Segments}
 use Rattle.disk_definitions.specs.Ask.{Got, SegmentAt, number_of, read_segments}
 use Rattle.disk_definitions.specs.Plans.{Plan}
 use Rattle.disk_definitions.specs.Written.{Cached, at_hand, is_held}
-use Rattle.plan_laws.specs.Traces.{behind, has_version, needs, Traced, traced}
+use Rattle.disk_definitions.specs.Traces.{behind, has_version, needs, Traced, traced}
 use Rattle.dir_lookup.specs.Looked.{Adds}
 use Rattle.dir_lookup.proofs.Looking.{adds_as, adds_then}
 use Rattle.plan_steps.specs.Looking.{examined, looked_over, segment_number}

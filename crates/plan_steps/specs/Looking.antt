@@ -10,7 +10,7 @@ use Rattle.disk_definitions.specs.Walks.{Spot, Target, walk}
 use Rattle.disk_definitions.specs.Plans.{Plan}
 use Rattle.disk_definitions.specs.LookPlans.{plan_of_node}
 use Rattle.disk_definitions.specs.Written.{Cached, at_hand, is_held}
-use Rattle.plan_laws.specs.Traces.{has_version, traced}
+use Rattle.disk_definitions.specs.Traces.{has_version, traced}
 use Rattle.dir_lookup.specs.Looked.{Adds}
 use Rattle.dir_lookup.specs.Spots.{has_inode, spot_of}
 use Rattle.dir_lookup.specs.declared.need.Need.{Need}

@@ -11,8 +11,8 @@ use Rattle.std.proofs.lemmas.Map.Entries.{sum_by-insert_entry}
 use Rattle.frang_base.proofs.Tests.{none_of}
 use Rattle.tree_definitions.specs.declared.node.Node.{Node}
 use Rattle.tree_definitions.specs.Entries.{Entries, entry_at}
-use Rattle.tree_laws.specs.WellFormed.{one_at, names_in, names_of}
-use Rattle.tree_laws.proofs.Pairs.{name_exact, length_put}
+use Rattle.tree_definitions.specs.WellFormed.{one_at, names_in, names_of}
+use Rattle.tree_definitions.proofs.Pairs.{name_exact, length_put}
 use Rattle.disk_definitions.specs.Store.{Store, StoredNode, StoredEntry}
 use Rattle.standing_laws.specs.Below.{holds}
 use Rattle.standing_laws.specs.ReadTree.{place_at, with_place, entries_to, read_node, with_inode, nodes_to, tree_in}

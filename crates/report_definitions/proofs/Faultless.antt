@@ -6,7 +6,7 @@ use Rattle.tree_definitions.specs.declared.node.Node.TheVariants.{Dir, File, Lin
 use Rattle.tree_definitions.specs.Tree.{FileTree, node_at}
 use Rattle.tree_definitions.specs.Apply.{links_of}
 use Rattle.tree_definitions.specs.Entries.{entry_at}
-use Rattle.tree_laws.specs.WellFormed.{one_at, names_of}
+use Rattle.tree_definitions.specs.WellFormed.{one_at, names_of}
 use Rattle.standing_laws.proofs.Walks.{carried}
 use Rattle.disk_definitions.specs.Store.{Store, StoredNode, Use, is_unused}
 use Rattle.disk_definitions.specs.Store.Use.{Fresh, Bytes, Empty, Entries as OfEntries}

@@ -2,7 +2,7 @@
 use Rattle.std.specs.Prelude.{ℕ, ◌+◌, ◌*◌, ◌/◌, Bool, true, not, ◌&&◌, ◌||◌, ◌==◌, if◌then◌else◌, nat_lt, nat_le, Option, Some, None, is_some}
 use Rattle.frang_base.specs.declared.limits.TheConstants.{BLOCK_ENTRIES, DIRECTORY_ENTRIES_MAX, INODE_BLOCKS_MAX, KIND_DIRECTORY, KIND_FREE, SECTOR_ENTRIES, SEGMENT_BLOCKS, SEGMENT_INODES, SMALL_BLOCK_SECTORS}
 use Rattle.tree_definitions.specs.Entries.{entry_at}
-use Rattle.tree_laws.specs.WellFormed.{one_at}
+use Rattle.tree_definitions.specs.WellFormed.{one_at}
 use Rattle.disk_definitions.specs.Store.{Store, StoredNode, StoredEntry, Use, is_unused}
 use Rattle.disk_definitions.specs.Store.Use.{Fresh, Bytes, Empty, Entries as OfEntries}
 use Rattle.standing_laws.specs.Below.{all_below, holds, lists, is_new}

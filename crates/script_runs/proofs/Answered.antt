@@ -18,7 +18,7 @@ use Rattle.tree_definitions.specs.Perform.{Step, Goes, Stops, resolved, perform}
 use Rattle.tree_definitions.specs.History.{agrees, applied, after_step, is_answer, leaves_tree, may_tell}
 use Rattle.tree_definitions.specs.Live.{number_of, time_in}
 use Rattle.tree_definitions.specs.Transcript.{Off, Up, after_answer, is_mount, is_own, may_answer, may_mount, may_refuse}
-use Rattle.tree_laws.specs.WellFormed.{BirthsAscend}
+use Rattle.tree_definitions.specs.WellFormed.{BirthsAscend}
 use Rattle.tree_laws.proofs.FreshLaws.{fresh_well}
 use Rattle.tree_laws.proofs.OrderLaws.{births_perform, segments_perform}
 use Rattle.tree_laws.proofs.Resolving.{IsOf, Shaped, resolved_is}

@@ -22,7 +22,7 @@ use Rattle.tree_definitions.specs.Place.{Place, Root, Taken, Free, Nowhere, plac
 use Rattle.tree_definitions.specs.Apply.{Plain, Shows, Applied, says, if_file, at_file, overwritten, shown, apply}
 use Rattle.tree_definitions.specs.Perform.{Step, Goes, Stops, perform_step}
 use Rattle.tree_definitions.specs.History.{after_read, after_step, with_shown, file_at, file_of}
-use Rattle.tree_laws.specs.WellFormed.{BirthsAscend}
+use Rattle.tree_definitions.specs.WellFormed.{BirthsAscend}
 use Rattle.file_tree.specs.Replies.{gives}
 
 -- a node put where it is leaves the list; a birth below all of them isn't there

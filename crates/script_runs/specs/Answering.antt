@@ -11,7 +11,7 @@ use Rattle.tree_definitions.specs.Tree.{fresh, count_of, dir_blocks}
 use Rattle.tree_definitions.specs.History.{Opening, fresh_opening, fits, tree_after}
 use Rattle.tree_definitions.specs.Live.{number_of, time_in, ticks_of}
 use Rattle.tree_definitions.specs.Transcript.{Phase, Off, Up, Free, ServerState, may_answer, after_answer}
-use Rattle.tree_laws.specs.WellFormed.{BirthsAscend}
+use Rattle.tree_definitions.specs.WellFormed.{BirthsAscend}
 use Rattle.script_definitions.specs.SaidReading.{IsProperReply}
 use Rattle.script_definitions.specs.Sayable.{IsSureTree}
 use Rattle.script_runs.specs.declared.server.Server.{Server}

@@ -6,7 +6,7 @@ use Rattle.tree_definitions.specs.declared.node.Node.TheVariants.{Dir}
 use Rattle.tree_definitions.specs.Entries.{Entries, entry_at, with_entry}
 use Rattle.tree_definitions.specs.Tree.{FileTree, node_at, with_node, grown}
 use Rattle.tree_definitions.specs.Apply.{named, is_dir, links_of, one_link_more}
-use Rattle.tree_laws.specs.WellFormed.{IsWellFormed, IsNew}
+use Rattle.tree_definitions.specs.WellFormed.{IsWellFormed, IsNew}
 use Rattle.tree_laws.proofs.Nodes.{with_other}
 use Rattle.tree_laws.proofs.Places.{dir_is_some}
 use Rattle.disk_definitions.specs.Naming.{find_in}

@@ -14,7 +14,7 @@ use Rattle.tree_definitions.specs.Entries.{Entries, entry_at, without_entry}
 use Rattle.tree_definitions.specs.Tree.{FileTree, node_at, with_node, without_node, large_blocks_of, small_blocks_of, larges_full, count_of, file_blocks, inodes_full, lacks_block, entries_full}
 use Rattle.tree_definitions.specs.Place.{Place, Root, Taken, Free, Nowhere, place, place_from, walked_from, walked}
 use Rattle.tree_definitions.specs.Apply.{Applied, says, made, is_dir, links_of, has_entries, one_link_fewer, linked_to, linked, unlinked, dir_removed, moved, room_made, moved_onto, moved_to, goes_through, renamed_to, renamed_from, renamed, if_file, at_file, overwritten, written, truncated, apply}
-use Rattle.tree_laws.specs.WellFormed.{IsWellFormed, IsNew}
+use Rattle.tree_definitions.specs.WellFormed.{IsWellFormed, IsNew}
 use Rattle.tree_laws.proofs.Places.{Stands, place_stands}
 use Rattle.tree_laws.proofs.Keeping.{names_nodes}
 use Rattle.tree_laws.proofs.Refusals.{looks_leave}

@@ -10,8 +10,8 @@ use Rattle.tree_definitions.specs.declared.node.Node.TheVariants.{Dir, File, Lin
 use Rattle.tree_definitions.specs.Entries.{Entries, with_entry, without_entry}
 use Rattle.tree_definitions.specs.Tree.{FileTree, node_at, with_node, without_node}
 use Rattle.tree_definitions.specs.Apply.{is_dir, has_entries, one_link_more, one_link_fewer}
-use Rattle.tree_laws.specs.WellFormed.{BirthsAscend}
-use Rattle.tree_laws.proofs.Pairs.{name_exact, tie, self, found_put, found_other, found_left}
+use Rattle.tree_definitions.specs.WellFormed.{BirthsAscend}
+use Rattle.tree_definitions.proofs.Pairs.{name_exact, tie, self, found_put, found_other, found_left}
 use Rattle.tree_laws.proofs.Nodes.{with_same, with_other, without_same, without_other}
 use Rattle.disk_definitions.specs.Naming.{find_in}
 use Rattle.disk_definitions.specs.Standing.{IsReached}

@@ -10,7 +10,7 @@ use Rattle.std.specs.Ordering.{nat_cmp, match_ordering}
 use Rattle.std.proofs.lemmas.Bool.{cases_eq}
 use Rattle.std.proofs.lemmas.List.Elements.{All-from_recursion}
 use Rattle.std.proofs.lemmas.Map.Views.{length-le_from_below}
-use Rattle.tree_laws.proofs.Pairs.{birth_exact, found_put, found_other, sorted_put, length_put}
+use Rattle.tree_definitions.proofs.Pairs.{birth_exact, found_put, found_other, sorted_put, length_put}
 use Rattle.standing_laws.specs.Below.{are_distinct}
 use Rattle.standing_laws.proofs.Bounded.{distinct_at}
 

@@ -6,7 +6,7 @@ use Rattle.std.specs.Map.{keys_of}
 use Rattle.std.specs.Ordering.{nat_cmp}
 use Rattle.std.specs.Cmp.Lexicographic.{slice_cmp}
 use Rattle.tree_definitions.specs.Entries.{Entries, entry_at}
-use Rattle.tree_laws.proofs.Pairs.{name_exact, found_put, found_other, sorted_put}
+use Rattle.tree_definitions.proofs.Pairs.{name_exact, found_put, found_other, sorted_put}
 use Rattle.disk_definitions.specs.Store.{Store, StoredEntry}
 use Rattle.standing_laws.specs.ReadTree.{with_place, entries_to}
 use Rattle.standing_laws.specs.Soundness.{entry_agrees, entries_agree, has_kind}

@@ -5,7 +5,7 @@ use Rattle.tree_definitions.specs.declared.node.Node.TheVariants.{Dir, File, Lin
 use Rattle.tree_definitions.specs.Entries.{Entries, with_entry, without_entry}
 use Rattle.tree_definitions.specs.Tree.{FileTree, node_at, with_node, grown}
 use Rattle.tree_definitions.specs.Apply.{is_dir, name_gone, name_set, moved, room_made}
-use Rattle.tree_laws.specs.WellFormed.{BirthsAscend, IsWellFormed}
+use Rattle.tree_definitions.specs.WellFormed.{BirthsAscend, IsWellFormed}
 use Rattle.tree_laws.proofs.Nodes.{with_other, ascend_with}
 use Rattle.tree_laws.proofs.Places.{dir_is_some}
 use Rattle.disk_definitions.specs.Standing.{IsReached, IsReachedAt}

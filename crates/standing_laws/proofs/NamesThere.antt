@@ -12,8 +12,8 @@ use Rattle.std.specs.Cmp.Lexicographic.{slice_cmp}
 use Rattle.tree_definitions.specs.declared.node.Node.{Node}
 use Rattle.tree_definitions.specs.declared.node.Node.TheVariants.{Dir, File, Link}
 use Rattle.tree_definitions.specs.Tree.{FileTree, node_at}
-use Rattle.tree_laws.specs.WellFormed.{one_at, names_in, names_of, IsWellFormed}
-use Rattle.tree_laws.proofs.Pairs.{IsExact, birth_exact, name_exact, tie, self, none_below}
+use Rattle.tree_definitions.specs.WellFormed.{one_at, names_in, names_of, IsWellFormed}
+use Rattle.tree_definitions.proofs.Pairs.{IsExact, birth_exact, name_exact, tie, self, none_below}
 use Rattle.disk_definitions.specs.Naming.{find_in}
 use Rattle.standing_laws.proofs.Walks.{finds}
 

@@ -8,8 +8,8 @@ use Rattle.std.specs.BTreeMap.{is_at}
 use Rattle.std.specs.Ordering.{nat_cmp}
 use Rattle.tree_definitions.specs.declared.node.Node.{Node}
 use Rattle.tree_definitions.specs.Tree.{node_at}
-use Rattle.tree_laws.specs.WellFormed.{BirthsAscend}
-use Rattle.tree_laws.proofs.Pairs.{birth_exact, found_put, found_other, sorted_put}
+use Rattle.tree_definitions.specs.WellFormed.{BirthsAscend}
+use Rattle.tree_definitions.proofs.Pairs.{birth_exact, found_put, found_other, sorted_put}
 use Rattle.disk_definitions.specs.Store.{Store, StoredNode}
 use Rattle.standing_laws.specs.ReadTree.{read_node, with_inode, nodes_to, tree_in}
 use Rattle.standing_laws.proofs.Bounded.{last_or_before}

@@ -10,7 +10,7 @@ use Rattle.tree_definitions.specs.declared.node.Node.{Node}
 use Rattle.tree_definitions.specs.declared.node.Node.TheVariants.{Dir, File, Link}
 use Rattle.tree_definitions.specs.Entries.{Entries, entry_at}
 use Rattle.tree_definitions.specs.Tree.{FileTree, node_at}
-use Rattle.tree_laws.specs.WellFormed.{IsWellFormed}
+use Rattle.tree_definitions.specs.WellFormed.{IsWellFormed}
 use Rattle.tree_laws.proofs.Keeping.{names_nodes}
 use Rattle.tree_laws.proofs.Places.{dir_is_some}
 use Rattle.disk_definitions.specs.Store.{Store, StoredNode, store_of}

@@ -15,7 +15,7 @@ use Rattle.standing_laws.specs.Soundness.{has_kind, entries_agree, IsConsistent}
 use Rattle.standing_laws.proofs.Bounded.{find_only}
 use Rattle.standing_laws.proofs.Entered.{StandsAt, found_at, at_found, new_name, one_spot}
 use Rattle.standing_laws.proofs.Shapes.{Shape, OfFile, OfDir, OfLink}
-use Rattle.tree_laws.proofs.Pairs.{tie, self, name_exact}
+use Rattle.tree_definitions.proofs.Pairs.{tie, self, name_exact}
 use Rattle.standing_laws.proofs.Pictured.{IsInRange, nothing, at_inode, naming_of, is_named, cells_of, cell_at, read_file, read_dir, read_link, at, at_some, at_none, node, agreed, dir_size, inodes_are, bits_are, numbered_are, whose_are, kinds_are}
 use Rattle.standing_laws.proofs.PicturedBlocks.{owned_are, owners_are, uses_are, emptied_are, larges_are, large_owners_are, large_bits_are}
 

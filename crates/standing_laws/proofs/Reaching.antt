@@ -5,7 +5,7 @@ use Rattle.tree_definitions.specs.declared.node.Node.{Node}
 use Rattle.tree_definitions.specs.declared.node.Node.TheVariants.{Dir, File, Link}
 use Rattle.tree_definitions.specs.Tree.{FileTree, node_at, with_node, without_node}
 use Rattle.tree_definitions.specs.Apply.{is_dir, links_of}
-use Rattle.tree_laws.specs.WellFormed.{BirthsAscend, one_at, names_of, IsWellFormed}
+use Rattle.tree_definitions.specs.WellFormed.{BirthsAscend, one_at, names_of, IsWellFormed}
 use Rattle.tree_laws.proofs.Nodes.{with_same, with_other, without_same, without_other}
 use Rattle.tree_laws.proofs.Balance.{one_other}
 use Rattle.tree_laws.proofs.Keeping.{has_links}

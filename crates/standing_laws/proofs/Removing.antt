@@ -4,7 +4,7 @@ use Rattle.tree_definitions.specs.declared.node.Node.TheVariants.{Dir}
 use Rattle.tree_definitions.specs.Entries.{Entries, entry_at, without_entry}
 use Rattle.tree_definitions.specs.Tree.{FileTree, node_at, with_node}
 use Rattle.tree_definitions.specs.Apply.{is_dir, has_entries, one_link_fewer}
-use Rattle.tree_laws.specs.WellFormed.{BirthsAscend, IsWellFormed}
+use Rattle.tree_definitions.specs.WellFormed.{BirthsAscend, IsWellFormed}
 use Rattle.tree_laws.proofs.Nodes.{ascend_with}
 use Rattle.tree_laws.proofs.Places.{dir_is_some}
 use Rattle.disk_definitions.specs.Naming.{find_in}

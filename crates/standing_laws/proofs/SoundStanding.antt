@@ -10,8 +10,8 @@ use Rattle.tree_definitions.specs.declared.node.Node.TheVariants.{Dir, File, Lin
 use Rattle.tree_definitions.specs.Entries.{Entries, entry_at}
 use Rattle.tree_definitions.specs.Tree.{FileTree, node_at}
 use Rattle.tree_definitions.specs.Apply.{is_dir, links_of}
-use Rattle.tree_laws.specs.WellFormed.{NamesAscend, IsRooted, LinksAreNames, IsWellFormed, one_at, names_in, names_of}
-use Rattle.tree_laws.proofs.Pairs.{name_exact, birth_exact}
+use Rattle.tree_definitions.specs.WellFormed.{NamesAscend, IsRooted, LinksAreNames, IsWellFormed, one_at, names_in, names_of}
+use Rattle.tree_definitions.proofs.Pairs.{name_exact, birth_exact}
 use Rattle.tree_laws.proofs.Balance.{one_other}
 use Rattle.disk_definitions.proofs.ParamLaws.{few_segments}
 use Rattle.sector_bytes.specs.Sectors.{Sectors}

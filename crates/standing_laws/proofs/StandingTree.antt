@@ -12,8 +12,8 @@ use Rattle.tree_definitions.specs.declared.node.Node.{Node}
 use Rattle.tree_definitions.specs.declared.node.Node.TheVariants.{Dir, File, Link}
 use Rattle.tree_definitions.specs.Tree.{FileTree, node_at, small_blocks_of}
 use Rattle.tree_definitions.specs.Apply.{links_of, is_dir}
-use Rattle.tree_laws.specs.WellFormed.{IsWellFormed, one_at, names_in, names_of}
-use Rattle.tree_laws.proofs.Pairs.{name_exact, birth_exact}
+use Rattle.tree_definitions.specs.WellFormed.{IsWellFormed, one_at, names_in, names_of}
+use Rattle.tree_definitions.proofs.Pairs.{name_exact, birth_exact}
 use Rattle.tree_laws.proofs.Balance.{one_own, one_other}
 use Rattle.tree_laws.proofs.Places.{dir_is_some}
 use Rattle.disk_definitions.specs.Store.{Store, StoredNode, store_of}

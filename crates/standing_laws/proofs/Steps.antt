@@ -15,8 +15,8 @@ use Rattle.tree_definitions.specs.Place.{Place, Taken, place}
 use Rattle.tree_definitions.specs.Apply.{overwritten}
 use Rattle.tree_definitions.specs.Perform.{Step, Goes, Stops, resolved, perform_step}
 use Rattle.tree_definitions.specs.History.{applied, is_answer, told_blocks, leaves_tree, tree_after, after_read, after_step, with_shown, file_at, file_of, CellRun, Stays, InDoubt, doubted, doubted_file, doubted_cells, after}
-use Rattle.tree_laws.specs.WellFormed.{IsWellFormed, IsNew}
-use Rattle.tree_laws.proofs.Pairs.{birth_exact, tie}
+use Rattle.tree_definitions.specs.WellFormed.{IsWellFormed, IsNew}
+use Rattle.tree_definitions.proofs.Pairs.{birth_exact, tie}
 use Rattle.tree_laws.proofs.StepsLaws.{file_at_is, after_keeps, are_new_after}
 use Rattle.disk_definitions.specs.Standing.{IsReached, IsReachedAt}
 use Rattle.standing_laws.specs.Reached.{FreshIsReached, StepKeepsReached, StepsKeepReached}

@@ -9,7 +9,7 @@ use Rattle.std.proofs.lemmas.Bool.{cond-true}
 use Rattle.std.proofs.lemmas.List.Sums.{sum_by-cons}
 use Rattle.std.proofs.lemmas.Map.Entries.{sum_by-remove_entry}
 use Rattle.frang_base.proofs.Basics.{by_test}
-use Rattle.tree_laws.proofs.Pairs.{IsExact, tie, self, none_below, found_left, found_removed, sorted_removed}
+use Rattle.tree_definitions.proofs.Pairs.{IsExact, tie, self, none_below, found_left, found_removed, sorted_removed}
 
 -- a key with its weight, and the key that corresponds to it
 pub record Meets {K L X Y : Type 0} (look : L → Option Y) (to : K → L) (back : L → K) (f : X → ℕ) (g : Y → ℕ) (k : K) (x : X) : Type 0 where

@@ -4,7 +4,7 @@ use Rattle.frang_base.specs.declared.op.Op.{Op}
 use Rattle.tree_definitions.specs.Tree.{FileTree, fresh, node_at}
 use Rattle.tree_definitions.specs.Apply.{apply}
 use Rattle.tree_definitions.specs.History.{Settled, after, after_all}
-use Rattle.tree_laws.specs.WellFormed.{IsWellFormed, IsNew, AreNew}
+use Rattle.tree_definitions.specs.WellFormed.{IsWellFormed, IsNew, AreNew}
 use Rattle.disk_definitions.specs.Standing.{IsReached}
 
 -- an operation at a new birth leaves each node of a well-formed tree reached

@@ -4,7 +4,7 @@ use Rattle.frang_base.specs.declared.limits.TheConstants.{BLOCK_ENTRIES, INODE_B
 use Rattle.tree_definitions.specs.Entries.{Entries, entry_at}
 use Rattle.tree_definitions.specs.Tree.{FileTree, node_at}
 use Rattle.tree_definitions.specs.Apply.{links_of}
-use Rattle.tree_laws.specs.WellFormed.{one_at, names_of}
+use Rattle.tree_definitions.specs.WellFormed.{one_at, names_of}
 use Rattle.sector_bytes.specs.Sectors.{Sectors}
 use Rattle.disk_definitions.specs.Store.{Store, StoredNode, StoredEntry, Use, store_of, is_unused}
 use Rattle.disk_definitions.specs.Store.Use.{Fresh, Bytes, Empty, Entries as OfEntries}

@@ -7,7 +7,7 @@ use Rattle.frang_base.specs.declared.lock.LockId.{LockId}
 use Rattle.frang_base.specs.declared.lock.LockId.TheVariants as lock
 use Rattle.tree_definitions.specs.Tree.{FileTree, fresh, node_at}
 use Rattle.tree_laws.proofs.FreshLaws.{fresh_well}
-use Rattle.tree_laws.proofs.Nodes.{each_but}
+use Rattle.tree_definitions.proofs.Births.{each_but}
 use Rattle.sector_bytes.specs.Blocks.{Block, zero_block}
 use Rattle.disk_definitions.specs.declared.param.Param.{Param}
 use Rattle.disk_definitions.specs.declared.region.Region.{Region}
@@ -22,8 +22,8 @@ use Rattle.disk_definitions.proofs.Free.{no_owner, no_large_owner}
 use Rattle.disk_definitions.specs.Ask.{Sector, InodeAt, DirectoryAt, SegmentAt, LargeAt}
 use Rattle.disk_definitions.specs.Meets.{IsOfTree, is_directory_use}
 use Rattle.disk_definitions.specs.OnDisk.{StandsBelow}
-use Rattle.plan_laws.specs.Covers.{cover_of, inode_cover, small_cover, large_cover}
-use Rattle.plan_laws.specs.Numbered.{sector_in}
+use Rattle.disk_definitions.specs.Covers.{cover_of, inode_cover, small_cover, large_cover}
+use Rattle.disk_definitions.specs.Numbered.{sector_in}
 use Rattle.code_plan_laws.specs.Fresh.{fresh_param, fresh_disk}
 use Rattle.code_plan_laws.proofs.Blocks.{param_reads}
 use Rattle.code_plan_laws.proofs.Sectors.{elsewhere}

@@ -12,7 +12,7 @@ use Rattle.tree_definitions.specs.declared.node.Node.TheVariants.{Dir, File, Lin
 use Rattle.tree_definitions.specs.Perform.{perform}
 use Rattle.tree_definitions.specs.Touched.{shape_of}
 use Rattle.tree_definitions.specs.Tree.{FileTree, node_at}
-use Rattle.tree_laws.specs.WellFormed.{IsNew, IsWellFormed}
+use Rattle.tree_definitions.specs.WellFormed.{IsNew, IsWellFormed}
 use Rattle.tree_laws.proofs.Balance.{Limits, Within}
 use Rattle.tree_laws.proofs.StepsLaws.{perform_well}
 use Rattle.tree_laws.proofs.WellFormedLaws.{Makes}
@@ -29,7 +29,7 @@ use Rattle.disk_definitions.specs.Store.{Store}
 use Rattle.disk_definitions.specs.Ask.{InodeAt, number_of}
 use Rattle.disk_definitions.specs.Meets.{IsOfTree}
 use Rattle.disk_definitions.specs.Plans.{Hand, Finish}
-use Rattle.plan_laws.specs.Covers.{inode_cover}
+use Rattle.disk_definitions.specs.Covers.{inode_cover}
 use Rattle.line_laws.proofs.NodeLaws.{line_nodes_free, line_nodes_keep}
 use Rattle.line_laws.proofs.Told.{namings_agree}
 use Rattle.line_histories.specs.LinePlans.{hand_on, sector_plan, store_on}

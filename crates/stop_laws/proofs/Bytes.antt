@@ -8,10 +8,10 @@ use Rattle.tree_definitions.specs.declared.cells.Cell.{Cell}
 use Rattle.tree_definitions.specs.declared.cells.Cell.TheVariants.{Byte, Doubtful}
 use Rattle.tree_definitions.specs.declared.node.Node.{Node}
 use Rattle.tree_definitions.specs.declared.node.Node.TheVariants.{Dir, File, Link}
-use Rattle.tree_definitions.specs.Touched.{shape_of}
+use Rattle.tree_definitions.specs.Touched.{shape_of, shaped}
 use Rattle.tree_definitions.specs.Tree.{FileTree, node_at, small_blocks_of}
-use Rattle.tree_laws.specs.WellFormed.{IsWellFormed}
-use Rattle.tree_laws.proofs.ShapeNodes.{found, shaped}
+use Rattle.tree_definitions.specs.WellFormed.{IsWellFormed}
+use Rattle.tree_laws.proofs.ShapeNodes.{found}
 use Rattle.disk_definitions.specs.Naming.{Allows, Naming, Pictures, blocks_of, cell_in, file_byte, has_large}
 use Rattle.disk_definitions.specs.Store.{Store}
 use Rattle.disk_definitions.specs.Meets.{IsOfTree}

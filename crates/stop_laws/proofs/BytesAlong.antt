@@ -13,12 +13,12 @@ use Rattle.tree_definitions.specs.Apply.{Applied}
 use Rattle.tree_definitions.specs.History.{CellRun}
 use Rattle.tree_definitions.specs.Perform.{perform, resolved}
 use Rattle.tree_definitions.specs.Removal.{step_writes}
-use Rattle.tree_definitions.specs.Touched.{shape_of, touches}
+use Rattle.tree_definitions.specs.Touched.{shape_of, touches, shaped}
 use Rattle.tree_definitions.specs.Tree.{FileTree, node_at}
 use Rattle.tree_laws.specs.Doubts.{entry_writes}
-use Rattle.tree_laws.specs.WellFormed.{IsNew}
+use Rattle.tree_definitions.specs.WellFormed.{IsNew}
 use Rattle.tree_laws.proofs.DoubtLaws.{a_last_write_leaves_doubt}
-use Rattle.tree_laws.proofs.ShapeNodes.{shaped, found}
+use Rattle.tree_laws.proofs.ShapeNodes.{found}
 use Rattle.tree_laws.proofs.ShapeResolving.{perform_shape}
 use Rattle.sector_bytes.specs.Blocks.{Block}
 use Rattle.sector_bytes.specs.Replays.{change_at, forced}
@@ -40,7 +40,7 @@ use Rattle.disk_definitions.specs.Plans.Plan.{Finishes}
 use Rattle.plan_laws.proofs.Covering.{map_has}
 use Rattle.std.proofs.lemmas.List.Elements.{Contains-append_left}
 use Rattle.std.proofs.lemmas.Bool.{both_ways}
-use Rattle.plan_laws.specs.Covers.{cover_of}
+use Rattle.disk_definitions.specs.Covers.{cover_of}
 use Rattle.line_laws.proofs.Told.{namings_agree}
 use Rattle.disk_definitions.specs.Lines.{plan_of_line}
 use Rattle.line_laws.proofs.Covered.{line_edits_covered}

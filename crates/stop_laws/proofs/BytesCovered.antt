@@ -17,10 +17,10 @@ use Rattle.disk_definitions.specs.Store.{Store}
 use Rattle.disk_definitions.specs.Ask.{Sector, InodeAt, DirectoryAt, SegmentAt, BytesAt, LargeAt, number_of}
 use Rattle.disk_definitions.specs.Meets.{IsOfTree}
 use Rattle.plan_laws.proofs.Covering.{has_cases, not_in_none}
-use Rattle.plan_laws.specs.Covers.{cover_of}
+use Rattle.disk_definitions.specs.Covers.{cover_of}
 use Rattle.plan_laws.proofs.Standing.{IsFileNode, NodeStands, stands}
 use Rattle.plan_fit.proofs.Kept.{in_small, in_large}
-use Rattle.plan_laws.specs.Numbered.{sector_in}
+use Rattle.disk_definitions.specs.Numbered.{sector_in}
 use Rattle.line_histories.specs.Following.{CoversFollow, store_after}
 use Rattle.line_histories.proofs.Filled.{IsInUse}
 use Rattle.line_histories.specs.Parts.{LiesIn}

@@ -13,10 +13,10 @@ use Rattle.tree_definitions.specs.declared.node.Node.TheVariants.{Dir, File, Lin
 use Rattle.tree_definitions.specs.Apply.{Answer, Applied, Plain, Shows, is_path_op}
 use Rattle.tree_definitions.specs.History.{agrees, applied, cell_shows, cells_show, is_answer, same_reply}
 use Rattle.tree_definitions.specs.Perform.{perform}
-use Rattle.tree_definitions.specs.Touched.{shape_of}
+use Rattle.tree_definitions.specs.Touched.{shape_of, shaped}
 use Rattle.tree_definitions.specs.Tree.{FileTree, node_at}
 use Rattle.tree_laws.specs.Rooms.{SameRoom}
-use Rattle.tree_laws.proofs.ShapeNodes.{found, shaped}
+use Rattle.tree_laws.proofs.ShapeNodes.{found}
 use Rattle.tree_laws.proofs.ShapeResolving.{perform_shape}
 use Rattle.tree_laws.proofs.Replies.{same_self}
 use Rattle.disk_definitions.specs.Naming.{Allows, Naming, Pictures, file_byte}

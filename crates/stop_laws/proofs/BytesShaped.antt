@@ -13,9 +13,9 @@ use Rattle.tree_definitions.specs.History.{file_at, file_of}
 use Rattle.tree_definitions.specs.Perform.{Step, Goes, Stops, resolved}
 use Rattle.tree_definitions.specs.Place.{Place, Root, Taken, Free, Nowhere, place}
 use Rattle.tree_definitions.specs.Removal.{meets_in, size_of, step_writes}
-use Rattle.tree_definitions.specs.Touched.{shape_of}
+use Rattle.tree_definitions.specs.Touched.{shape_of, shaped}
 use Rattle.tree_definitions.specs.Tree.{FileTree, node_at}
-use Rattle.tree_laws.proofs.ShapeNodes.{shaped, found}
+use Rattle.tree_laws.proofs.ShapeNodes.{found}
 use Rattle.tree_laws.proofs.ShapePlaces.{same_place}
 use Rattle.tree_laws.proofs.ShapeResolving.{resolved_shape}
 use Rattle.line_histories.specs.LinePlans.{without_bytes}

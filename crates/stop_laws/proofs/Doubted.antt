@@ -6,8 +6,9 @@ use Rattle.tree_definitions.specs.declared.node.Node.TheVariants.{Dir, File, Lin
 use Rattle.tree_definitions.specs.History.{CellRun, InDoubt, doubted, doubted_cells, doubted_file, file_of}
 use Rattle.tree_definitions.specs.Touched.{node_shape, shape_of}
 use Rattle.tree_definitions.specs.Tree.{FileTree, node_at}
-use Rattle.tree_laws.specs.WellFormed.{BirthsAscend}
-use Rattle.tree_laws.proofs.Nodes.{each_but, with_same, with_other}
+use Rattle.tree_definitions.specs.WellFormed.{BirthsAscend}
+use Rattle.tree_definitions.proofs.Births.{each_but}
+use Rattle.tree_laws.proofs.Nodes.{with_same, with_other}
 use Rattle.tree_laws.proofs.OrderLaws.{births_after, segments_after}
 use Rattle.tree_laws.proofs.ShapeLaws.{doubt_alike}
 use Rattle.tree_laws.proofs.SameShapes.{shape_at, same_shape}

@@ -24,8 +24,8 @@ use Rattle.disk_definitions.specs.Ask.{Sector, InodeAt, number_of}
 use Rattle.disk_definitions.specs.Plans.{Lock, Finish}
 use Rattle.plan_laws.specs.Locks.{IsSole}
 use Rattle.plan_laws.specs.Looked.{edited_at}
-use Rattle.plan_laws.specs.Covers.{cover_of}
-use Rattle.plan_laws.specs.Numbered.{sector_at, sector_in}
+use Rattle.disk_definitions.specs.Covers.{cover_of}
+use Rattle.disk_definitions.specs.Numbered.{sector_at, sector_in}
 use Rattle.plan_fit.proofs.Kept.{edit_in_range, edit_region, edit_sector_is, in_inode}
 use Rattle.line_laws.proofs.Covered.{line_edits_covered}
 use Rattle.line_histories.specs.Guards.{IsClear, KeepsGuards}

@@ -2,7 +2,7 @@
 use Rattle.std.proofs.Common.{ℕ, zero, suc, ◌≡◌, ◌≢◌, true, Bool, List, [], ◌∷◌, sym, subst}
 use Rattle.frang_base.proofs.Basics.{by_keep}
 use Rattle.tree_definitions.specs.Tree.{FileTree}
-use Rattle.tree_laws.specs.WellFormed.{IsWellFormed}
+use Rattle.tree_definitions.specs.WellFormed.{IsWellFormed}
 use Rattle.sector_world.specs.HistoryBytes.{Agree}
 use Rattle.sector_world.specs.Histories.{Commit, Each, Item, kept, settled, survives}
 use Rattle.sector_world.specs.Histories.Item.{Done, Doubt}

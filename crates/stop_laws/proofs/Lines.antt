@@ -10,16 +10,16 @@ use Rattle.tree_definitions.specs.History.{InDoubt, Stays, after_step, agrees, a
 use Rattle.tree_definitions.specs.History as histories
 use Rattle.tree_definitions.specs.Perform.{perform, resolved}
 use Rattle.tree_definitions.specs.Removal.{is_recorded}
-use Rattle.tree_definitions.specs.Touched.{is_ok, shape_of}
+use Rattle.tree_definitions.specs.Touched.{is_ok, shape_of, shaped}
 use Rattle.tree_definitions.specs.Tree.{FileTree, node_at}
 use Rattle.tree_laws.specs.Refusals.{says_ok}
-use Rattle.tree_laws.specs.WellFormed.{BirthsAscend, IsNew}
+use Rattle.tree_definitions.specs.WellFormed.{BirthsAscend, IsNew}
 use Rattle.tree_laws.proofs.HistoryLaws.{after_all-push}
 use Rattle.tree_laws.proofs.OrderLaws.{births_after_all}
 use Rattle.tree_laws.proofs.Resolving.{performed_refusals_leave}
 use Rattle.tree_laws.proofs.OwnReplies.{answers_are_own}
 use Rattle.tree_laws.proofs.RecordingLaws.{unrecorded_leaves_the_shape}
-use Rattle.tree_laws.proofs.ShapeNodes.{shaped, found}
+use Rattle.tree_laws.proofs.ShapeNodes.{found}
 use Rattle.tree_laws.proofs.ShapeResolving.{perform_shape}
 use Rattle.sector_bytes.specs.Blocks.{Block}
 use Rattle.sector_bytes.specs.Sectors.{Sectors}

@@ -8,10 +8,10 @@ use Rattle.tree_definitions.specs.declared.cells.Cell.TheVariants as cell
 use Rattle.tree_definitions.specs.declared.node.Node.{Node}
 use Rattle.tree_definitions.specs.declared.node.Node.TheVariants.{Dir, File, Link}
 use Rattle.tree_definitions.specs.History.{CellRun, InDoubt, doubted}
-use Rattle.tree_definitions.specs.Touched.{shape_of}
+use Rattle.tree_definitions.specs.Touched.{shape_of, doubts, shaped}
 use Rattle.tree_definitions.specs.Tree.{FileTree, node_at}
 use Rattle.tree_laws.proofs.HistoryLaws.{after_all-push}
-use Rattle.tree_laws.proofs.ShapeNodes.{doubts, found, shaped}
+use Rattle.tree_laws.proofs.ShapeNodes.{found}
 use Rattle.sector_bytes.specs.Blocks.{Block}
 use Rattle.sector_world.specs.HistoryBytes.{value}
 use Rattle.sector_world.specs.Histories.Item.{Doubt}

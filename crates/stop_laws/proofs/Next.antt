@@ -5,10 +5,10 @@ use Rattle.frang_base.specs.declared.op.Op.{Op}
 use Rattle.frang_base.specs.Functions.{put, put2}
 use Rattle.tree_definitions.specs.Apply.{Applied}
 use Rattle.tree_definitions.specs.Perform.{perform}
-use Rattle.tree_definitions.specs.Touched.{shape_of}
+use Rattle.tree_definitions.specs.Touched.{shape_of, shaped}
 use Rattle.tree_definitions.specs.Tree.{FileTree, node_at}
-use Rattle.tree_laws.specs.WellFormed.{IsNew}
-use Rattle.tree_laws.proofs.ShapeNodes.{shaped, found}
+use Rattle.tree_definitions.specs.WellFormed.{IsNew}
+use Rattle.tree_laws.proofs.ShapeNodes.{found}
 use Rattle.sector_bytes.specs.Sectors.{Sectors}
 use Rattle.disk_definitions.specs.declared.region.Region.TheVariants as region
 use Rattle.disk_definitions.specs.Regions.{sector_of}

@@ -17,12 +17,12 @@ use Rattle.tree_definitions.specs.Apply.{Applied, is_path_op}
 use Rattle.tree_definitions.specs.History.{Stays, agrees, applied, is_answer, leaves_tree, told_blocks}
 use Rattle.tree_definitions.specs.History as trees
 use Rattle.tree_definitions.specs.Perform.{perform}
-use Rattle.tree_definitions.specs.Touched.{shape_of}
+use Rattle.tree_definitions.specs.Touched.{shape_of, doubts, shaped}
 use Rattle.tree_definitions.specs.Tree.{FileTree, count_of, dir_blocks, node_at}
-use Rattle.tree_laws.specs.WellFormed.{IsNew}
+use Rattle.tree_definitions.specs.WellFormed.{IsNew}
 use Rattle.tree_laws.proofs.HistoryLaws.{after_all-push}
 use Rattle.tree_laws.proofs.OwnReplies.{answers_are_own}
-use Rattle.tree_laws.proofs.ShapeNodes.{again, doubts, found, room_stays, shaped}
+use Rattle.tree_laws.proofs.ShapeNodes.{again, found, room_stays}
 use Rattle.sector_bytes.specs.Blocks.{Block, zero_block}
 use Rattle.sector_bytes.specs.SectorMaps.{value_at}
 use Rattle.disk_definitions.specs.declared.region.Region.TheVariants as region
@@ -46,7 +46,7 @@ use Rattle.disk_definitions.specs.Plans.{Hand, Plan}
 use Rattle.disk_definitions.specs.Plans.Plan.{Finishes}
 use Rattle.disk_definitions.specs.Written.{byte_writes, edit_sector, edited_block, freed_sectors, is_metadata}
 use Rattle.plan_laws.specs.Looked.{edited_at}
-use Rattle.plan_laws.specs.Numbered.{sector_in}
+use Rattle.disk_definitions.specs.Numbered.{sector_in}
 use Rattle.line_laws.proofs.Told.{namings_agree}
 use Rattle.plan_fit.proofs.Kept.{in_large, in_small}
 use Rattle.plan_laws.specs.Keeping.{FinishKeeps, PlanKeeps}

@@ -11,9 +11,9 @@ use Rattle.frang_base.specs.declared.lock.LockId.TheVariants as lock
 use Rattle.frang_base.specs.declared.lock.Mode.TheVariants.{Sole}
 use Rattle.tree_definitions.specs.declared.node.Node.{Node}
 use Rattle.tree_definitions.specs.Perform.{perform}
-use Rattle.tree_definitions.specs.Touched.{shape_of}
+use Rattle.tree_definitions.specs.Touched.{shape_of, shaped}
 use Rattle.tree_definitions.specs.Tree.{FileTree, node_at}
-use Rattle.tree_laws.proofs.ShapeNodes.{found, shaped}
+use Rattle.tree_laws.proofs.ShapeNodes.{found}
 use Rattle.sector_bytes.specs.Blocks.{Block}
 use Rattle.disk_definitions.specs.Inodes.{inode_in}
 use Rattle.sector_world.specs.Histories.{Changes, Commit, Each, Item, OpsRise, doubt_step, in_doubt, logical, survives}
@@ -29,7 +29,7 @@ use Rattle.disk_definitions.specs.Edits.{edited_all}
 use Rattle.disk_definitions.specs.Ask.{Sector, InodeAt, number_of}
 use Rattle.disk_definitions.specs.Meets.{IsOfTree}
 use Rattle.plan_laws.proofs.Covering.{map_has}
-use Rattle.plan_laws.specs.Covers.{cover_of, inode_cover}
+use Rattle.disk_definitions.specs.Covers.{cover_of, inode_cover}
 use Rattle.line_laws.proofs.Covered.{line_edits_covered}
 use Rattle.line_laws.proofs.Shaping.{some_shaped}
 use Rattle.line_histories.specs.LinePlans.{fill_by, hand_on, lock_in, sector_plan, segment_lock, store_on}

@@ -3,7 +3,7 @@ use Rattle.std.proofs.Common.{ℕ, ◌≡◌, ◌≤◌, ◌<◌, ◌*◌, ◌/�
 use Rattle.std.proofs.lemmas.Bool.{cases_lt, le-ltb}
 use Rattle.tree_definitions.specs.Touched.{shape_of}
 use Rattle.tree_definitions.specs.Tree.{FileTree, node_at}
-use Rattle.tree_laws.specs.WellFormed.{IsWellFormed}
+use Rattle.tree_definitions.specs.WellFormed.{IsWellFormed}
 use Rattle.sector_bytes.specs.Blocks.{zero_block}
 use Rattle.sector_bytes.specs.Sectors.{Sectors}
 use Rattle.sector_world.specs.Histories.{Item, is_logged, logical, settled}
@@ -29,7 +29,7 @@ use Rattle.disk_definitions.specs.OnDisk.{StandsBelow}
 use Rattle.plan_fit.specs.Says.{InodesSay, PlacesSay, SegmentsSay}
 use Rattle.plan_fit.proofs.Kept.{in_inode, in_segment, in_small, inodes_kept, places_kept, segments_kept}
 use Rattle.plan_fit.proofs.Uses.{is_metadata}
-use Rattle.plan_laws.specs.Numbered.{sector_in}
+use Rattle.disk_definitions.specs.Numbered.{sector_in}
 use Rattle.line_histories.specs.LinePlans.{sector_plan, store_on}
 use Rattle.line_histories.specs.Following.{Follows, KindsFollow, store_after}
 use Rattle.line_histories.specs.Standing.{HasZeros, StandsForShape, StandsNumbered}

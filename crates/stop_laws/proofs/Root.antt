@@ -8,13 +8,13 @@ use Rattle.frang_base.specs.declared.lock.LockId.TheVariants as lock
 use Rattle.tree_definitions.specs.declared.node.Node.{Node}
 use Rattle.tree_definitions.specs.declared.node.Node.TheVariants.{Dir}
 use Rattle.tree_definitions.specs.Tree.{FileTree, fresh, node_at}
-use Rattle.tree_laws.proofs.Pairs.{birth_exact, tie}
+use Rattle.tree_definitions.proofs.Pairs.{birth_exact, tie}
 use Rattle.disk_definitions.specs.Naming.{Allows, Naming, blocks_of, cell_in, file_byte, has_large, inode_of, use_for}
 use Rattle.disk_definitions.specs.Store.{Store, StoredNode, is_unused, store_of}
 use Rattle.disk_definitions.proofs.Free.{no_owner, no_large_owner}
 use Rattle.disk_definitions.specs.Ask.{Sector, InodeAt, DirectoryAt, SegmentAt, BytesAt, LargeAt}
 use Rattle.disk_definitions.specs.Meets.{IsOfTree}
-use Rattle.plan_laws.specs.Covers.{cover_of, inode_cover, large_cover, small_cover}
+use Rattle.disk_definitions.specs.Covers.{cover_of, inode_cover, large_cover, small_cover}
 use Rattle.plan_laws.proofs.Standing.{node_of}
 use Rattle.plan_laws.proofs.Totals.{free_if}
 use Rattle.line_histories.specs.LinePlans.{store_on}

@@ -3,12 +3,12 @@ use Rattle.std.proofs.Common.{◌+◌, List, sym, ◌∙◌, ap, subst}
 use Rattle.std.specs.List.Sorted.{IsStrictlySortedBy}
 use Rattle.std.specs.Ordering.{nat_cmp}
 use Rattle.tree_definitions.specs.History.{after_all}
-use Rattle.tree_definitions.specs.Touched.{shape_of}
+use Rattle.tree_definitions.specs.Touched.{shape_of, shaped}
 use Rattle.tree_definitions.specs.Tree.{FileTree}
-use Rattle.tree_laws.specs.WellFormed.{IsWellFormed, names_in, one_at}
+use Rattle.tree_definitions.specs.WellFormed.{IsWellFormed, names_in, one_at}
 use Rattle.tree_laws.proofs.Changes.{same_dir, same_links}
 use Rattle.tree_laws.proofs.ShapeKeeping.{well_shape, names_stay}
-use Rattle.tree_laws.proofs.ShapeNodes.{count_stays, found, keys_stay, shaped}
+use Rattle.tree_laws.proofs.ShapeNodes.{count_stays, found, keys_stay}
 use Rattle.sector_world.specs.Plans.{Legal}
 use Rattle.sector_world.specs.Claims.{replayed}
 use Rattle.sector_world.specs.Trees.{Distinct, tree_of}

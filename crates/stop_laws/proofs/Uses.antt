@@ -17,11 +17,11 @@ use Rattle.tree_definitions.specs.declared.node.Node.{Node}
 use Rattle.tree_definitions.specs.Apply.{Applied}
 use Rattle.tree_definitions.specs.History.{applied, is_answer, told_blocks}
 use Rattle.tree_definitions.specs.Perform.{Step, Goes, Stops, perform, resolved}
-use Rattle.tree_definitions.specs.Touched.{changes, differs, further, looked_in, same_where, shape_of, touches, visited}
+use Rattle.tree_definitions.specs.Touched.{changes, differs, further, looked_in, same_where, shape_of, touches, visited, shaped}
 use Rattle.tree_definitions.specs.Tree.{FileTree, node_at}
-use Rattle.tree_laws.specs.WellFormed.{IsNew, IsWellFormed}
+use Rattle.tree_definitions.specs.WellFormed.{IsNew, IsWellFormed}
 use Rattle.tree_laws.proofs.Sameness.{where_same}
-use Rattle.tree_laws.proofs.ShapeNodes.{found, shaped}
+use Rattle.tree_laws.proofs.ShapeNodes.{found}
 use Rattle.sector_bytes.specs.Blocks.{Block}
 use Rattle.sector_bytes.specs.Sectors.{Sectors}
 use Rattle.sector_world.specs.Histories.{Commit, Item, logical}

@@ -8,10 +8,10 @@ use Rattle.tree_definitions.specs.declared.history.Entry.{Entry}
 use Rattle.tree_definitions.specs.Perform.{Step, Goes, Stops}
 use Rattle.tree_definitions.specs.Perform as performs
 use Rattle.tree_definitions.specs.Removal.{is_recorded}
-use Rattle.tree_definitions.specs.Touched.{is_ok, shape_of}
+use Rattle.tree_definitions.specs.Touched.{is_ok, shape_of, shaped}
 use Rattle.tree_definitions.specs.Tree.{FileTree}
-use Rattle.tree_laws.specs.WellFormed.{IsNew}
-use Rattle.tree_laws.proofs.ShapeNodes.{shaped, found}
+use Rattle.tree_definitions.specs.WellFormed.{IsNew}
+use Rattle.tree_laws.proofs.ShapeNodes.{found}
 use Rattle.sector_bytes.specs.Sectors.{Sectors}
 use Rattle.disk_definitions.specs.Naming.{Naming}
 use Rattle.disk_definitions.specs.Standing.{IsMetadata}

@@ -7,7 +7,7 @@ use Rattle.tree_definitions.specs.Tree.{fresh}
 use Rattle.sector_bytes.specs.Blocks.{Block}
 use Rattle.disk_definitions.specs.Store.{Store}
 use Rattle.disk_definitions.specs.Ask.{Sector, InodeAt, DirectoryAt, SegmentAt, BytesAt, LargeAt}
-use Rattle.plan_laws.specs.Numbered.{sector_at}
+use Rattle.disk_definitions.specs.Numbered.{sector_at}
 use Rattle.line_histories.specs.LinePlans.{store_on}
 use Rattle.line_histories.specs.Following.{Follows, is_versioned}
 use Rattle.line_histories.specs.Standing.{StandsForShape}

@@ -8,7 +8,7 @@ use Rattle.tree_definitions.specs.History.{is_answer, leaves_tree, told_blocks, 
 use Rattle.tree_definitions.specs.Perform.{perform}
 use Rattle.tree_definitions.specs.Touched.{shape_of}
 use Rattle.tree_definitions.specs.Tree.{FileTree, count_of, dir_blocks}
-use Rattle.tree_laws.specs.WellFormed.{IsNew, IsWellFormed}
+use Rattle.tree_definitions.specs.WellFormed.{IsNew, IsWellFormed}
 use Rattle.disk_definitions.specs.Naming.{Naming, file_byte}
 use Rattle.disk_definitions.specs.Store.{Store}
 use Rattle.disk_definitions.specs.Edits.{edited_all}

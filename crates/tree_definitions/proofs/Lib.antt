@@ -1,3 +1,5 @@
+pub mod Pairs
+pub mod Births
 pub mod CellLaws
 pub mod Sketch
 pub mod AppliedExamples

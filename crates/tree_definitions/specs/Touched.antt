@@ -1,6 +1,7 @@
 -- The shape of a tree; which nodes an entry changes and touches, and when it is seen or synced.
 use Rattle.std.specs.Prelude.{ℕ, Bool, true, false, not, ◌&&◌, ◌||◌, ◌==◌, if◌then◌else◌, nat_eq, Option, Some, None, List, [], ◌∷◌, ◌++◌, map, filter}
 use Rattle.std.specs.List.{list_any}
+use Rattle.std.specs.Option.{option_map}
 use Rattle.std.specs.Cmp.Lexicographic.{pointwise}
 use Rattle.frang_base.specs.declared.op.Op.{Op}
 use Rattle.frang_base.specs.declared.op.Op.TheVariants as op
@@ -37,11 +38,19 @@ same_where None None = true
 same_where (Some a) None = false
 same_where None (Some b) = false
 
+-- cells of the same number, all in doubt
+abbrev pub doubts : List Cell → List Cell
+doubts cells = map (λ c. Doubtful) cells
+
 -- a node without the bytes of a file
 abbrev pub node_shape : Node → Node
 node_shape (Dir entries blocks) = Dir entries blocks
-node_shape (File cells links when) = File (map (λ c. Doubtful) cells) links when
+node_shape (File cells links when) = File (doubts cells) links when
 node_shape (Link target links) = Link target links
+
+-- the same, where there is one
+abbrev pub shaped : Option Node → Option Node
+shaped node = option_map node_shape node
 
 -- the shape of a tree: the tree without the bytes of files, with sizes, links, times, births and directory blocks
 abbrev pub shape_of : FileTree → FileTree

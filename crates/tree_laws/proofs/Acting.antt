@@ -8,7 +8,7 @@ use Rattle.tree_definitions.specs.Entries.{Entries, with_entry, without_entry}
 use Rattle.tree_definitions.specs.Tree.{FileTree, node_at, with_node, without_node, inodes_full, entries_full, lacks_block, grown}
 use Rattle.tree_definitions.specs.Place.{Place, Root, Taken, Free, Nowhere}
 use Rattle.tree_definitions.specs.Apply.{Plain, Applied, says, named, made, is_dir, has_entries, links_of, one_link_more, one_link_fewer, linked_to, linked, unlinked, dir_removed, moved, name_gone, name_set}
-use Rattle.tree_laws.specs.WellFormed.{BirthsAscend, EntriesNameNodes, IsNew}
+use Rattle.tree_definitions.specs.WellFormed.{BirthsAscend, EntriesNameNodes, IsNew}
 use Rattle.tree_laws.specs.Touching.{SameKinds, kind_of, OfDirectory, OfFile, OfLink}
 use Rattle.tree_laws.proofs.Rooms.{same_inodes, same_lacks}
 use Rattle.tree_laws.proofs.Likeness.{Likeness, Near, like_equal, like_dir, like_links}

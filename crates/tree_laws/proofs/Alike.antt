@@ -16,7 +16,7 @@ use Rattle.tree_definitions.specs.Apply.{apply, overwritten, is_path_op}
 use Rattle.tree_definitions.specs.Perform.{Step, Goes, Stops, resolved, perform_step}
 use Rattle.tree_definitions.specs.History.{applied, is_answer, agrees, told_blocks, leaves_tree, tree_after, after_read, after_step, with_shown, file_at, file_of}
 use Rattle.tree_definitions.specs.Touched.{touches, changes, same_where, looked_in, further, visited, reached, file_node}
-use Rattle.tree_laws.specs.WellFormed.{IsNew, IsWalkable}
+use Rattle.tree_definitions.specs.WellFormed.{IsNew, IsWalkable}
 use Rattle.tree_laws.specs.Touching.{SameKinds, wants_room, AgreeWhereTouched, DoesAlike, OfDirectory, OfFile, OfLink}
 use Rattle.tree_laws.proofs.Sameness.{differs_or_not, where_same}
 use Rattle.tree_laws.proofs.Places.{is_in, Stands, place_stands}

@@ -15,7 +15,7 @@ use Rattle.tree_definitions.specs.Place.{Place, Root, Taken, Free, Nowhere, plac
 use Rattle.tree_definitions.specs.Apply.{Answer, Plain, Applied, apply, says, is_dir, linked, unlinked, dir_removed, renamed, renamed_from, renamed_to, overwritten, written, truncated, shown, made, at_file, at_node, described, listed, target_of, time_of}
 use Rattle.tree_definitions.specs.History.{agrees}
 use Rattle.tree_definitions.specs.Touched.{looked_in, further, reached, reached_if, then_walked, any_node, dir_node, file_node, link_node}
-use Rattle.tree_laws.specs.WellFormed.{IsNew}
+use Rattle.tree_definitions.specs.WellFormed.{IsNew}
 use Rattle.tree_laws.specs.Rooms.{SameRoom}
 use Rattle.tree_laws.proofs.Likeness.{Likeness, Near, overwritten_like}
 use Rattle.tree_laws.proofs.Places.{Stands, SameWalk, same_walk, place_stands, is_in}

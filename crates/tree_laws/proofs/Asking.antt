@@ -8,7 +8,7 @@ use Rattle.tree_definitions.specs.Tree.{FileTree, node_at, with_node, larges_ful
 use Rattle.tree_definitions.specs.Place.{Place, Root, Taken, Free, Nowhere}
 use Rattle.tree_definitions.specs.Apply.{Shows, Applied, says, at_node, if_file, at_file, written, truncated, shown, described, listed, target_of}
 use Rattle.tree_definitions.specs.Touched.{dir_node, file_node, link_node, any_node, reached, reached_if}
-use Rattle.tree_laws.specs.WellFormed.{BirthsAscend, EntriesNameNodes, IsRooted}
+use Rattle.tree_definitions.specs.WellFormed.{BirthsAscend, EntriesNameNodes, IsRooted}
 use Rattle.tree_laws.specs.Touching.{SameKinds, OfDirectory, OfFile, OfLink}
 use Rattle.tree_laws.proofs.Places.{Stands, is_in, head_is_in, dir_is_some}
 use Rattle.tree_laws.specs.Rooms.{SameRoom}

@@ -13,9 +13,10 @@ use Rattle.tree_definitions.specs.declared.node.Node.TheVariants.{Dir, File, Lin
 use Rattle.tree_definitions.specs.Entries.{Entries, entry_at, with_entry, without_entry}
 use Rattle.tree_definitions.specs.Tree.{FileTree, node_at, with_node, without_node}
 use Rattle.tree_definitions.specs.Apply.{is_dir, links_of}
-use Rattle.tree_laws.specs.WellFormed.{BirthsAscend, NamesAscend, IsRooted, one_at, names_in, names_of, IsWellFormed}
+use Rattle.tree_definitions.specs.WellFormed.{BirthsAscend, NamesAscend, IsRooted, one_at, names_in, names_of, IsWellFormed}
 use Rattle.tree_laws.specs.Touching.{Kind, OfDirectory, OfFile, OfLink}
-use Rattle.tree_laws.proofs.Nodes.{each_but, with_same, with_other, without_same, without_other, ascend_with, ascend_without}
+use Rattle.tree_definitions.proofs.Births.{each_but}
+use Rattle.tree_laws.proofs.Nodes.{with_same, with_other, without_same, without_other, ascend_with, ascend_without}
 
 -- a count of a node that may not be there
 abbrev pub names_at : ℕ → Option Node → ℕ

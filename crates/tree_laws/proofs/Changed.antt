@@ -11,7 +11,7 @@ use Rattle.tree_definitions.specs.declared.node.Node.{Node}
 use Rattle.tree_definitions.specs.Tree.{FileTree, node_at}
 use Rattle.tree_definitions.specs.History.{applied, is_answer}
 use Rattle.tree_definitions.specs.Touched.{changes, changed, births, differs}
-use Rattle.tree_laws.proofs.Pairs.{tie, birth_exact}
+use Rattle.tree_definitions.proofs.Pairs.{tie, birth_exact}
 use Rattle.tree_laws.proofs.Places.{is_in}
 use Rattle.tree_laws.proofs.Applying.{in_left, in_right}
 use Rattle.tree_laws.proofs.Sameness.{no_difference}

@@ -5,8 +5,8 @@ use Rattle.tree_definitions.specs.declared.node.Node.TheVariants.{Dir, File, Lin
 use Rattle.tree_definitions.specs.Entries.{Entries, with_entry, without_entry}
 use Rattle.tree_definitions.specs.Tree.{FileTree, node_at, with_node, without_node, grown}
 use Rattle.tree_definitions.specs.Apply.{named, is_dir, links_of, has_entries, one_link_more, one_link_fewer, name_gone, name_set, moved, room_made}
-use Rattle.tree_definitions.specs.Touched.{node_shape, shape_of}
-use Rattle.tree_laws.proofs.ShapeNodes.{shaped, found, with_shape, without_shape}
+use Rattle.tree_definitions.specs.Touched.{node_shape, shape_of, shaped}
+use Rattle.tree_laws.proofs.ShapeNodes.{found, with_shape, without_shape}
 
 -- ---- what is asked of a node
 dir_shape : (o : Option Node) → is_dir (shaped o) ≡ is_dir o

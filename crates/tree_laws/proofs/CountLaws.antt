@@ -13,9 +13,10 @@ use Rattle.tree_definitions.specs.Tree.{FileTree, node_at, with_node, without_no
 use Rattle.tree_definitions.specs.Place.{Place, Root, Taken, Free, Nowhere, place}
 use Rattle.tree_definitions.specs.Apply.{Plain, Applied, says, named, made, is_dir, has_entries, links_of, one_link_more, one_link_fewer, linked_to, linked, unlinked, dir_removed, name_gone, name_set, moved, room_made, goes_through, renamed_to, renamed_from, renamed, if_file, at_file, written, truncated, overwritten, apply}
 use Rattle.tree_laws.specs.Refusals.{is_look}
-use Rattle.tree_laws.specs.WellFormed.{BirthsAscend, IsWellFormed, IsNew}
+use Rattle.tree_definitions.specs.WellFormed.{BirthsAscend, IsWellFormed, IsNew}
 use Rattle.tree_laws.specs.Counts.{makes_node, may_free}
-use Rattle.tree_laws.proofs.Nodes.{each_but, with_same, with_other, ascend_with, count_with, count_kept, count_without}
+use Rattle.tree_definitions.proofs.Births.{each_but}
+use Rattle.tree_laws.proofs.Nodes.{with_same, with_other, ascend_with, count_with, count_kept, count_without}
 use Rattle.tree_laws.proofs.Places.{Stands, place_stands}
 use Rattle.tree_laws.proofs.Refusals.{looks_leave}
 use Rattle.tree_laws.proofs.Looking.{well_refused, refused_well, is_walk_reply}

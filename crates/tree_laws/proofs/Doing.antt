@@ -17,7 +17,7 @@ use Rattle.tree_definitions.specs.History.{applied, is_answer, agrees, told_bloc
 use Rattle.tree_definitions.specs.Touched.{touches, changes, changes_shape, differs, looked_in, further, visited, is_nospace, is_ok}
 use Rattle.tree_definitions.specs.Removal.{writes_file, is_recorded}
 use Rattle.tree_laws.specs.Refusals.{says_ok}
-use Rattle.tree_laws.specs.WellFormed.{IsNew, IsWalkable}
+use Rattle.tree_definitions.specs.WellFormed.{IsNew, IsWalkable}
 use Rattle.tree_laws.specs.Touching.{SameKinds, wants_room}
 use Rattle.tree_laws.proofs.Sameness.{alike_at, no_difference, differs_or_not}
 use Rattle.tree_laws.proofs.Places.{is_in}

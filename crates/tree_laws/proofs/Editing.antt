@@ -19,8 +19,9 @@ use Rattle.tree_definitions.specs.Touched.{file_node, reached, reached_if, furth
 use Rattle.tree_definitions.specs.Removal.{writes_file}
 use Rattle.tree_definitions.specs.Perform.{resolved}
 use Rattle.tree_laws.specs.Refusals.{is_look}
-use Rattle.tree_laws.specs.WellFormed.{BirthsAscend, IsNew}
-use Rattle.tree_laws.proofs.Nodes.{each_but, with_same, with_other, without_same, without_other, ascend_with}
+use Rattle.tree_definitions.specs.WellFormed.{BirthsAscend, IsNew}
+use Rattle.tree_definitions.proofs.Births.{each_but}
+use Rattle.tree_laws.proofs.Nodes.{with_same, with_other, without_same, without_other, ascend_with}
 use Rattle.tree_laws.proofs.Places.{is_in}
 use Rattle.tree_laws.proofs.Refusals.{looks_leave}
 use Rattle.tree_laws.proofs.Acting.{moved_ascends}

@@ -9,10 +9,10 @@ use Rattle.tree_definitions.specs.declared.node.Node.{Node}
 use Rattle.tree_definitions.specs.declared.node.Node.TheVariants.{Dir, File, Link}
 use Rattle.tree_definitions.specs.Tree.{FileTree, with_node, count_of, file_blocks, small_blocks_of, large_blocks_of, larges_full}
 use Rattle.tree_definitions.specs.Apply.{Applied, Shows, says, if_file, overwritten, written, truncated, shown, described, listed, target_of}
-use Rattle.tree_definitions.specs.Touched.{shape_of}
+use Rattle.tree_definitions.specs.Touched.{shape_of, shaped, doubts}
 use Rattle.tree_laws.proofs.Rooms.{same_larges, same_left}
 use Rattle.tree_laws.specs.Acting.{GoesByShape}
-use Rattle.tree_laws.proofs.ShapeNodes.{shaped, doubts, doubts_again, again, with_alike, room_stays}
+use Rattle.tree_laws.proofs.ShapeNodes.{doubts_again, again, with_alike, room_stays}
 use Rattle.tree_laws.proofs.Outcomes.{stays, either}
 
 -- ---- cells in doubt

@@ -14,7 +14,7 @@ use Rattle.tree_definitions.specs.Tree.{FileTree, node_at}
 use Rattle.tree_definitions.specs.Apply.{is_dir}
 use Rattle.tree_definitions.specs.Resolve.{WalkEnd, At, Refused, Resolution, ends_at, refused, passes, is_absolute, target_text, at_target, at_entry, at_name, below_node, resolve_names, resolve_from, resolve}
 use Rattle.tree_definitions.specs.Perform.{by_path, is_found, after_trail, by_second, by_first, by_paths, resolved}
-use Rattle.tree_laws.specs.WellFormed.{EntriesNameNodes, IsRooted}
+use Rattle.tree_definitions.specs.WellFormed.{EntriesNameNodes, IsRooted}
 use Rattle.tree_laws.specs.Touching.{OfDirectory, OfFile, OfLink}
 use Rattle.tree_laws.specs.Following.{WalksFindWhatIsThere, WalksGoByTheirTrail}
 use Rattle.tree_laws.proofs.Likeness.{Likeness, Like, Near, equal, like_equal}

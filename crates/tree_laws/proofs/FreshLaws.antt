@@ -7,8 +7,9 @@ use Rattle.std.specs.Cmp.Lexicographic.{slice_cmp}
 use Rattle.tree_definitions.specs.declared.node.Node.TheVariants.{Dir}
 use Rattle.tree_definitions.specs.Tree.{FileTree, fresh, node_at}
 use Rattle.tree_definitions.specs.Apply.{links_of}
-use Rattle.tree_laws.specs.WellFormed.{IsWellFormed, IsWalkable, BirthsAscend, NamesAscend, LinksAreNames, names_of, one_at}
-use Rattle.tree_laws.proofs.Nodes.{each_but, with_other}
+use Rattle.tree_definitions.specs.WellFormed.{IsWellFormed, IsWalkable, BirthsAscend, NamesAscend, LinksAreNames, names_of, one_at}
+use Rattle.tree_definitions.proofs.Births.{each_but}
+use Rattle.tree_laws.proofs.Nodes.{with_other}
 use Rattle.tree_laws.proofs.Keeping.{names_nodes}
 
 fresh_births : (segments : ℕ) → BirthsAscend (fresh segments)

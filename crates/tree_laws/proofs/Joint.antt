@@ -7,11 +7,12 @@ use Rattle.tree_definitions.specs.Entries.{with_entry, without_entry}
 use Rattle.tree_definitions.specs.Tree.{FileTree, node_at, with_node, without_node}
 use Rattle.tree_definitions.specs.Apply.{Plain, Applied, says, one_link_more, one_link_fewer, name_gone, name_set, moved}
 use Rattle.tree_definitions.specs.Touched.{is_nospace}
-use Rattle.tree_laws.specs.WellFormed.{BirthsAscend}
+use Rattle.tree_definitions.specs.WellFormed.{BirthsAscend}
 use Rattle.tree_laws.specs.Touching.{wants_room}
 use Rattle.tree_laws.specs.Rooms.{SameRoom}
 use Rattle.tree_laws.proofs.Likeness.{Likeness, Like, Near, LikeAnswer, like_same, like_equal}
-use Rattle.tree_laws.proofs.Nodes.{each_but, with_same, with_other, without_same, without_other}
+use Rattle.tree_definitions.proofs.Births.{each_but}
+use Rattle.tree_laws.proofs.Nodes.{with_same, with_other, without_same, without_other}
 
 -- one node in two trees, before and after: alike before and alike after, or left in both
 abbrev pub Both : Likeness → Option Node → Option Node → Option Node → Option Node → Type 0

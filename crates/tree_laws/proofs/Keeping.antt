@@ -10,10 +10,11 @@ use Rattle.tree_definitions.specs.declared.node.Node.TheVariants.{Dir, File, Lin
 use Rattle.tree_definitions.specs.Entries.{Entries, entry_at, with_entry, without_entry}
 use Rattle.tree_definitions.specs.Tree.{FileTree, node_at, with_node, without_node}
 use Rattle.tree_definitions.specs.Apply.{is_dir, links_of, has_entries, one_link_more, one_link_fewer}
-use Rattle.tree_laws.specs.WellFormed.{one_at, names_in, names_of, IsWellFormed, IsNew}
+use Rattle.tree_definitions.specs.WellFormed.{one_at, names_in, names_of, IsWellFormed, IsNew}
 use Rattle.tree_laws.specs.Touching.{kind_of}
-use Rattle.tree_laws.proofs.Pairs.{name_exact, sorted_put, sorted_removed}
-use Rattle.tree_laws.proofs.Nodes.{each_but, with_same, with_other}
+use Rattle.tree_definitions.proofs.Pairs.{name_exact, sorted_put, sorted_removed}
+use Rattle.tree_definitions.proofs.Births.{each_but}
+use Rattle.tree_laws.proofs.Nodes.{with_same, with_other}
 use Rattle.tree_laws.proofs.Balance.{names_at, at_name, Limits, Within, one_own, one_other, names_without, count_put, count_removed, Owing, other_entries, other_links, node_gone}
 
 pub one_sym : (b c : ℕ) → one_at b c ≡ one_at c b

@@ -9,7 +9,7 @@ use Rattle.tree_definitions.specs.Tree.{FileTree}
 use Rattle.tree_definitions.specs.Apply.{apply}
 use Rattle.tree_definitions.specs.Perform.{perform}
 use Rattle.tree_definitions.specs.History.{Settled, Stays, InDoubt, after, after_all, tree_after, doubted}
-use Rattle.tree_laws.specs.WellFormed.{IsWellFormed, IsNew, AreNew, numbers_of}
+use Rattle.tree_definitions.specs.WellFormed.{IsWellFormed, IsNew, AreNew, numbers_of}
 use Rattle.tree_laws.specs.Touching.{Kind, HasKinds, SameKinds}
 use Rattle.tree_laws.specs.Kinds.{MakesToldKind, MakeToldKinds, kind_made, kind_by, kind_or, kinds_along}
 use Rattle.tree_laws.proofs.Balance.{Limits, AreAllowed}

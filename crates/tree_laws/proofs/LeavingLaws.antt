@@ -10,7 +10,7 @@ use Rattle.tree_definitions.specs.Perform.{resolved}
 use Rattle.tree_definitions.specs.History.{applied, is_answer, may_tell, leaves_tree, fits, tree_after, after_step, Settled, Stays, InDoubt, CellRun, doubted, after, after_all, grows, legal_from}
 use Rattle.tree_definitions.specs.Touched.{touches, changes, changed, differs, visited, births, shape_of, changes_shape, is_ok, touched_later, refused_later, changes_room, is_seen}
 use Rattle.tree_definitions.specs.Removal.{writes_file}
-use Rattle.tree_laws.specs.WellFormed.{IsWellFormed, AreNew, numbers_of}
+use Rattle.tree_definitions.specs.WellFormed.{IsWellFormed, AreNew, numbers_of}
 use Rattle.tree_laws.specs.Touching.{Kind, HasKinds}
 use Rattle.tree_laws.specs.Kinds.{MakeToldKinds, kinds_along}
 use Rattle.tree_laws.specs.Removing.{without, none_seen}

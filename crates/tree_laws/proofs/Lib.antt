@@ -1,4 +1,3 @@
-pub mod Pairs
 pub mod Nodes
 pub mod Sameness
 pub mod Replies

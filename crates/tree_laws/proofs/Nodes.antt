@@ -1,25 +1,17 @@
 -- The nodes of a tree as a function of their births.
-use Rattle.std.proofs.Common.{ℕ, ◌≡◌, ◌≢◌, ◌+◌, Bool, true, false, Option, Some, None, length, refl, sym, ◌∙◌, nat_eq, eqb-true, eq-eqb, ne_eqb, subst}
-use Rattle.std.proofs.lemmas.Bool.{eqb-false}
+use Rattle.std.proofs.Common.{ℕ, ◌≡◌, ◌≢◌, ◌+◌, Option, Some, None, length, refl, sym, ◌∙◌, eq-eqb, ne_eqb}
 use Rattle.std.specs.Ordering.{nat_cmp}
 use Rattle.tree_definitions.specs.declared.node.Node.{Node}
 use Rattle.tree_definitions.specs.Tree.{FileTree, node_at, with_node, without_node}
-use Rattle.tree_laws.specs.WellFormed.{put, BirthsAscend}
-use Rattle.tree_laws.proofs.Pairs.{birth_exact, found_put, found_other, found_left, found_removed, sorted_put, sorted_removed, length_put, length_kept, length_removed}
+use Rattle.tree_definitions.specs.WellFormed.{put, BirthsAscend}
+use Rattle.tree_definitions.proofs.Births.{each_but}
+use Rattle.tree_definitions.proofs.Pairs.{birth_exact, found_put, found_other, found_left, found_removed, sorted_put, sorted_removed, length_put, length_kept, length_removed}
 
 pub put_same : (f : ℕ → Option Node) (b : ℕ) (v : Option Node) → put f b v b ≡ v
 put_same f b v = rw (eq-eqb b b refl) refl
 
 pub put_other : (f : ℕ → Option Node) (b : ℕ) (v : Option Node) (c : ℕ) → c ≢ b → put f b v c ≡ f c
 put_other f b v c n = rw (ne_eqb c b n) refl
-
--- a fact of every birth, by that of one and that of the others
-pub each_but : (P : ℕ → Type 0) (b : ℕ) → P b → ((c : ℕ) → c ≢ b → P c) → (c : ℕ) → P c
-each_but P b here other c = go (nat_eq c b) refl
-  where
-    go : (t : Bool) → nat_eq c b ≡ t → P c
-    go true e = subst P (sym (eqb-true c b e)) here
-    go false e = other c (eqb-false c b e)
 
 pub node_with : (tree : FileTree) (b : ℕ) (x : Node) (c : ℕ) → node_at (with_node tree b x) c ≡ put (node_at tree) b (Some x) c
 node_with tree b x = each_but (λ c. node_at (with_node tree b x) c ≡ put (node_at tree) b (Some x) c) b

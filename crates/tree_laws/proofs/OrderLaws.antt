@@ -15,7 +15,7 @@ use Rattle.tree_definitions.specs.Apply.{Applied, says, named, made, one_link_mo
 use Rattle.tree_definitions.specs.Perform.{Step, Goes, Stops, resolved, perform, perform_step}
 use Rattle.tree_definitions.specs.History.{applied, is_answer, told_blocks, leaves_tree, after_read, after_step, with_shown, file_at, file_of, CellRun, Settled, Stays, InDoubt, doubted, doubted_file, doubted_cells, after, after_all}
 use Rattle.tree_laws.specs.Refusals.{is_look}
-use Rattle.tree_laws.specs.WellFormed.{BirthsAscend}
+use Rattle.tree_definitions.specs.WellFormed.{BirthsAscend}
 use Rattle.tree_laws.proofs.Nodes.{ascend_with, ascend_without}
 use Rattle.tree_laws.proofs.Refusals.{looks_leave}
 use Rattle.tree_laws.proofs.Acting.{moved_ascends, fewer_ascends}

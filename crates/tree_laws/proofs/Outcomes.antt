@@ -6,9 +6,9 @@ use Rattle.tree_definitions.specs.declared.node.Node.{Node}
 use Rattle.tree_definitions.specs.Tree.{FileTree, node_at}
 use Rattle.tree_definitions.specs.Place.{Place, Root, Taken, Free, Nowhere}
 use Rattle.tree_definitions.specs.Apply.{Applied, says, at_node}
-use Rattle.tree_definitions.specs.Touched.{shape_of}
+use Rattle.tree_definitions.specs.Touched.{shape_of, shaped}
 use Rattle.tree_laws.specs.Acting.{GoesByShape}
-use Rattle.tree_laws.proofs.ShapeNodes.{shaped, found, again}
+use Rattle.tree_laws.proofs.ShapeNodes.{found, again}
 
 -- a reply, with the shape of what was made
 pub says_shape : (t u : FileTree) (r : Reply) → u ≡ shape_of t → GoesByShape (says t r) (says u r)

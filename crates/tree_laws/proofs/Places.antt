@@ -7,7 +7,7 @@ use Rattle.tree_definitions.specs.Entries.{Entries, entry_at}
 use Rattle.tree_definitions.specs.Tree.{FileTree, node_at}
 use Rattle.tree_definitions.specs.Place.{Place, Root, Taken, Free, Nowhere, place_by, place_in, below, place_from, place, walked_by, walked_from, walked}
 use Rattle.tree_definitions.specs.Apply.{is_dir}
-use Rattle.tree_laws.specs.WellFormed.{EntriesNameNodes, IsRooted}
+use Rattle.tree_definitions.specs.WellFormed.{EntriesNameNodes, IsRooted}
 use Rattle.tree_laws.proofs.Likeness.{Likeness, Like, Near}
 use Rattle.tree_laws.specs.Touching.{OfDirectory, OfFile, OfLink, SameKinds}
 

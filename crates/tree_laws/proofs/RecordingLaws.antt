@@ -13,7 +13,7 @@ use Rattle.tree_definitions.specs.Perform.{Step, Goes, Stops, resolved, perform_
 use Rattle.tree_definitions.specs.History.{applied, is_answer, agrees, told_blocks, tree_after, Settled, Stays, InDoubt, after_all}
 use Rattle.tree_definitions.specs.Touched.{changes, differs, births, node_shape, shape_of, changes_shape, further, is_ok}
 use Rattle.tree_definitions.specs.Removal.{mounts, writes_file, is_recorded, is_lost, left}
-use Rattle.tree_laws.specs.WellFormed.{BirthsAscend, IsNew}
+use Rattle.tree_definitions.specs.WellFormed.{BirthsAscend, IsNew}
 use Rattle.tree_laws.specs.Settling.{RemovesNothing, RemovesFrom}
 use Rattle.tree_laws.proofs.Places.{is_in}
 use Rattle.tree_laws.proofs.Sameness.{alike_at, no_difference}

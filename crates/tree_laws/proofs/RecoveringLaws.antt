@@ -10,9 +10,10 @@ use Rattle.tree_definitions.specs.Tree.{FileTree, node_at, with_node}
 use Rattle.tree_definitions.specs.History.{Settled, InDoubt, CellRun, doubted_cells, doubted_file, doubted, file_of, after, after_all, grows, may_stand, legal_from}
 use Rattle.tree_definitions.specs.Touched.{stalled_after}
 use Rattle.tree_definitions.specs.Removal.{mounts, is_lost, begins_removal, left, doubtful, recovered, none_known, keeps_known}
-use Rattle.tree_laws.specs.WellFormed.{IsWellFormed, AreNew}
+use Rattle.tree_definitions.specs.WellFormed.{IsWellFormed, AreNew}
 use Rattle.tree_laws.specs.Removing.{without, has_room, room_left}
-use Rattle.tree_laws.proofs.Nodes.{each_but, with_same, with_other}
+use Rattle.tree_definitions.proofs.Births.{each_but}
+use Rattle.tree_laws.proofs.Nodes.{with_same, with_other}
 use Rattle.tree_laws.proofs.Likeness.{Like, Near, like_same, like_equal}
 use Rattle.tree_laws.specs.Alike.{Vaguer}
 use Rattle.tree_laws.proofs.Vagueness.{vague, vague_same, vague_joined, vague_nodes_trans}

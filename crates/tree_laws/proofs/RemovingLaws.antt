@@ -20,11 +20,12 @@ use Rattle.tree_definitions.specs.Perform.{Step, Goes, Stops, resolved, perform_
 use Rattle.tree_definitions.specs.History.{applied, is_answer, agrees, told_blocks, may_tell, leaves_tree, fits, tree_after, after_read, after_step, with_shown, file_at, file_of, Settled, Stays, InDoubt, CellRun, doubted, after, grows, may_stand, legal_from}
 use Rattle.tree_definitions.specs.Touched.{touches, changes, changed, births, is_nospace, touched_later, refused_later, other_room, changes_room, is_seen, is_synced, stalled_after}
 use Rattle.tree_definitions.specs.Removal.{begins_removal, left, keeps_known, none_known, recovered, doubtful, is_lost, mounts}
-use Rattle.tree_laws.specs.WellFormed.{IsWellFormed, AreNew, numbers_of}
+use Rattle.tree_definitions.specs.WellFormed.{IsWellFormed, AreNew, numbers_of}
 use Rattle.tree_laws.specs.Touching.{Kind, HasKinds, wants_room}
 use Rattle.tree_laws.specs.Kinds.{MakeToldKinds, kinds_along}
 use Rattle.tree_laws.specs.Removing.{without, none_seen, has_room, room_left}
-use Rattle.tree_laws.proofs.Nodes.{each_but, with_same, with_other}
+use Rattle.tree_definitions.proofs.Births.{each_but}
+use Rattle.tree_laws.proofs.Nodes.{with_same, with_other}
 use Rattle.tree_laws.proofs.Places.{is_in}
 use Rattle.tree_laws.proofs.Likeness.{Like, Near, like_same, like_equal}
 use Rattle.tree_laws.specs.Alike.{Vaguer}

@@ -8,7 +8,7 @@ use Rattle.tree_definitions.specs.Entries.{Entries}
 use Rattle.tree_definitions.specs.Tree.{FileTree, node_at, entries_full, lacks_block, grown}
 use Rattle.tree_definitions.specs.Place.{Place, Root, Taken, Free, Nowhere, walked}
 use Rattle.tree_definitions.specs.Apply.{Plain, Applied, says, is_dir, has_entries, one_link_fewer, moved, moved_onto, moved_to, room_made, goes_through, renamed_to}
-use Rattle.tree_laws.specs.WellFormed.{BirthsAscend, EntriesNameNodes}
+use Rattle.tree_definitions.specs.WellFormed.{BirthsAscend, EntriesNameNodes}
 use Rattle.tree_laws.specs.Touching.{SameKinds}
 use Rattle.tree_laws.proofs.Places.{Stands}
 use Rattle.tree_laws.proofs.Rooms.{same_lacks}

@@ -18,11 +18,12 @@ use Rattle.tree_definitions.proofs.NodeBlocks.{small_blocks_are}
 use Rattle.tree_definitions.specs.Tree.{FileTree, node_at, with_node, count_of, dir_blocks, file_blocks, small_blocks, large_blocks, small_blocks_of, large_blocks_of}
 use Rattle.tree_definitions.specs.History.{doubted, doubted_file, doubted_cells, file_of, CellRun}
 use Rattle.tree_definitions.specs.Touched.{other_room}
-use Rattle.tree_laws.specs.WellFormed.{BirthsAscend}
+use Rattle.tree_definitions.specs.WellFormed.{BirthsAscend}
 use Rattle.tree_laws.specs.Rooms.{SameRoom}
 use Rattle.tree_laws.specs.Touching.{kind_of}
-use Rattle.tree_laws.proofs.Pairs.{birth_exact, tie, self, none_below, below_all}
-use Rattle.tree_laws.proofs.Nodes.{each_but, with_same, with_other}
+use Rattle.tree_definitions.proofs.Pairs.{birth_exact, tie, self, none_below, below_all}
+use Rattle.tree_definitions.proofs.Births.{each_but}
+use Rattle.tree_laws.proofs.Nodes.{with_same, with_other}
 use Rattle.tree_laws.proofs.Likeness.{Like}
 use Rattle.tree_laws.proofs.Joint.{Both, Joint}
 use Rattle.tree_laws.proofs.Vagueness.{vague, vague_long}

@@ -13,8 +13,8 @@ use Rattle.tree_definitions.specs.declared.node.Node.{Node}
 use Rattle.tree_definitions.specs.declared.node.Node.TheVariants.{Dir, File, Link}
 use Rattle.tree_definitions.specs.Tree.{FileTree, node_at}
 use Rattle.tree_definitions.specs.Touched.{births, differs, same_where, node_shape, shape_of}
-use Rattle.tree_laws.specs.WellFormed.{BirthsAscend}
-use Rattle.tree_laws.proofs.Pairs.{birth_exact, tie, self, none_below, below_all}
+use Rattle.tree_definitions.specs.WellFormed.{BirthsAscend}
+use Rattle.tree_definitions.proofs.Pairs.{birth_exact, tie, self, none_below, below_all}
 use Rattle.tree_laws.proofs.Places.{is_in}
 use Rattle.tree_laws.proofs.Sameness.{where_same}
 use Rattle.tree_laws.proofs.Likeness.{Like}

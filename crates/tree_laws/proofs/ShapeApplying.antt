@@ -8,9 +8,8 @@ use Rattle.tree_definitions.specs.declared.node.Node.TheVariants.{Dir, File, Lin
 use Rattle.tree_definitions.specs.Tree.{FileTree}
 use Rattle.tree_definitions.specs.Place.{Place, place}
 use Rattle.tree_definitions.specs.Apply.{Applied, says, made, linked, unlinked, dir_removed, at_node, at_file, if_file, overwritten, written, truncated, shown, described, listed, target_of, time_of}
-use Rattle.tree_definitions.specs.Touched.{shape_of}
+use Rattle.tree_definitions.specs.Touched.{shape_of, doubts}
 use Rattle.tree_laws.specs.Acting.{GoesByShape, ApplyGoesByShape}
-use Rattle.tree_laws.proofs.ShapeNodes.{doubts}
 use Rattle.tree_laws.proofs.ShapePlaces.{same_place}
 use Rattle.tree_laws.proofs.Outcomes.{stays, at_node_shape}
 use Rattle.tree_laws.proofs.Names.{made_shape, linked_shape, unlinked_shape, dir_removed_shape, renamed_shape}

@@ -12,11 +12,11 @@ use Rattle.tree_definitions.specs.Entries.{Entries}
 use Rattle.tree_definitions.specs.Tree.{FileTree, node_at}
 use Rattle.tree_definitions.specs.Place.{Place, Root, Taken, Free, Nowhere, place, walked}
 use Rattle.tree_definitions.specs.Perform.{Goes, Stops}
-use Rattle.tree_definitions.specs.Touched.{node_shape, shape_of, reached_if, reached, any_node, dir_node, file_node, link_node, then_walked, looked_in, further}
-use Rattle.tree_laws.specs.WellFormed.{NamesAscend, names_in, one_at}
+use Rattle.tree_definitions.specs.Touched.{node_shape, shape_of, reached_if, reached, any_node, dir_node, file_node, link_node, then_walked, looked_in, further, shaped}
+use Rattle.tree_definitions.specs.WellFormed.{NamesAscend, names_in, one_at}
 use Rattle.tree_laws.specs.Touching.{kind_of}
 use Rattle.tree_laws.specs.Keeping.{ShapesAreWellFormed, KindsStay, ToldKindsStay, VisitedStay}
-use Rattle.tree_laws.proofs.ShapeNodes.{shaped, found, keys_stay, count_stays}
+use Rattle.tree_laws.proofs.ShapeNodes.{found, keys_stay, count_stays}
 use Rattle.tree_laws.proofs.ShapePlaces.{same_place, same_walked}
 use Rattle.tree_laws.proofs.Changes.{same_dir, same_links}
 

@@ -21,8 +21,8 @@ use Rattle.tree_definitions.specs.Perform.{Step, Goes, Stops, resolved, perform_
 use Rattle.tree_definitions.specs.History.{applied, is_answer, agrees, cells_show, cell_shows, told_blocks, leaves_tree, tree_after, after_read, after_step, with_shown, file_at, file_of}
 use Rattle.tree_definitions.specs.Touched.{touches, changes, differs, node_shape, shape_of, visited}
 use Rattle.tree_laws.specs.Refusals.{is_look}
-use Rattle.tree_laws.specs.WellFormed.{IsWellFormed, IsNew, BirthsAscend}
-use Rattle.tree_laws.proofs.Pairs.{birth_exact, seen_kept}
+use Rattle.tree_definitions.specs.WellFormed.{IsWellFormed, IsNew, BirthsAscend}
+use Rattle.tree_definitions.proofs.Pairs.{birth_exact, seen_kept}
 use Rattle.tree_laws.proofs.Refusals.{looks_leave}
 use Rattle.tree_laws.proofs.Resolving.{IsOf, Looks, resolved_looks, performed_looks_leave}
 use Rattle.tree_laws.proofs.Sameness.{no_difference}

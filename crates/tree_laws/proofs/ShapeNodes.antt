@@ -1,7 +1,6 @@
 -- The nodes of a shape, and what they take of the disk.
-use Rattle.std.proofs.Common.{ℕ, ◌≡◌, ◌+◌, Bool, true, false, Option, List, [], ◌∷◌, map, cond, refl, sym, ◌∙◌, ap, ap₂}
+use Rattle.std.proofs.Common.{ℕ, ◌≡◌, ◌+◌, Bool, true, false, List, [], ◌∷◌, map, cond, refl, sym, ◌∙◌, ap, ap₂}
 use Rattle.std.specs.Prelude.{sum_by}
-use Rattle.std.specs.Option.{option_map}
 use Rattle.std.specs.Ordering.{nat_cmp, match_ordering}
 use Rattle.std.specs.declared.cmp.Ordering.{Ordering}
 use Rattle.std.specs.declared.cmp.Ordering.TheVariants.{Less, Equal, Greater}
@@ -15,16 +14,8 @@ use Rattle.tree_definitions.specs.declared.cells.Cell.TheVariants.{Doubtful}
 use Rattle.tree_definitions.specs.declared.node.Node.{Node}
 use Rattle.tree_definitions.specs.declared.node.Node.TheVariants.{Dir, File, Link}
 use Rattle.tree_definitions.specs.Tree.{FileTree, node_at, with_node, without_node, count_of, small_blocks_of, large_blocks_of, small_blocks, large_blocks, file_blocks, dir_blocks}
-use Rattle.tree_definitions.specs.Touched.{node_shape, shape_of}
+use Rattle.tree_definitions.specs.Touched.{doubts, node_shape, shape_of, shaped}
 use Rattle.tree_laws.specs.Rooms.{SameRoom}
-
--- a node, where there is one, without the bytes of a file
-abbrev pub shaped : Option Node → Option Node
-shaped o = option_map node_shape o
-
--- cells of the same number, all in doubt
-abbrev pub doubts : List Cell → List Cell
-doubts cells = map (λ c. Doubtful) cells
 
 abbrev pub shapes : List (ℕ × Node) → List (ℕ × Node)
 shapes nodes = map (λ n. (n.0, node_shape n.1)) nodes

@@ -4,9 +4,9 @@ use Rattle.tree_definitions.specs.declared.node.Node.{Node}
 use Rattle.tree_definitions.specs.declared.node.Node.TheVariants.{Dir, File, Link}
 use Rattle.tree_definitions.specs.Tree.{FileTree, node_at}
 use Rattle.tree_definitions.specs.Place.{Place, Root, Taken, Free, Nowhere, place_in, below, place_from, walked_by, walked_from, walked}
-use Rattle.tree_definitions.specs.Touched.{shape_of}
+use Rattle.tree_definitions.specs.Touched.{shape_of, shaped}
 use Rattle.tree_laws.specs.Acting.{PlacesGoByShape}
-use Rattle.tree_laws.proofs.ShapeNodes.{shaped, found}
+use Rattle.tree_laws.proofs.ShapeNodes.{found}
 
 in_shape : (o : Option Node) (dir : ℕ) (name : List ℕ) → place_in (shaped o) dir name ≡ place_in o dir name
 in_shape (Some (Dir es n)) dir name = refl

@@ -13,9 +13,9 @@ use Rattle.tree_definitions.specs.Entries.{entry_at}
 use Rattle.tree_definitions.specs.Tree.{FileTree, node_at}
 use Rattle.tree_definitions.specs.Resolve.{WalkEnd, At, Refused, Resolution, ends_at, refused, passes, is_absolute, target_text, at_target, at_entry, at_name, below_node, resolve_names, resolve_from, resolve}
 use Rattle.tree_definitions.specs.Perform.{Step, Goes, Stops, by_path, is_found, by_second, by_first, by_paths, resolved, perform_step, perform}
-use Rattle.tree_definitions.specs.Touched.{shape_of}
+use Rattle.tree_definitions.specs.Touched.{shape_of, shaped}
 use Rattle.tree_laws.specs.Acting.{GoesByShape, PerformGoesByShape, WalksGoByShape, ResolvedGoesByShape}
-use Rattle.tree_laws.proofs.ShapeNodes.{shaped, found}
+use Rattle.tree_laws.proofs.ShapeNodes.{found}
 use Rattle.tree_laws.proofs.Changes.{same_dir}
 use Rattle.tree_laws.proofs.Outcomes.{stays}
 use Rattle.tree_laws.proofs.ShapeApplying.{apply_shape}

@@ -16,7 +16,8 @@ use Rattle.tree_definitions.specs.Apply.{Plain, Shows, Applied, says, apply, at_
 use Rattle.tree_definitions.specs.Perform.{Step, Goes, Stops, resolved, perform_step}
 use Rattle.tree_definitions.specs.History.{applied, is_answer, agrees, told_blocks, leaves_tree, tree_after, after_read, after_step, with_shown, file_at, file_of}
 use Rattle.tree_definitions.specs.Touched.{changes, differs}
-use Rattle.tree_laws.proofs.Nodes.{each_but, with_same, with_other}
+use Rattle.tree_definitions.proofs.Births.{each_but}
+use Rattle.tree_laws.proofs.Nodes.{with_same, with_other}
 use Rattle.tree_laws.proofs.Likeness.{Like, like_same, like_equal}
 use Rattle.tree_laws.specs.Alike.{Vaguer}
 use Rattle.tree_laws.proofs.Vagueness.{vague, shown_is_sharper}

@@ -17,7 +17,7 @@ use Rattle.tree_definitions.specs.Place.{Place, Root, Taken, Free, Nowhere, plac
 use Rattle.tree_definitions.specs.Apply.{apply, overwritten}
 use Rattle.tree_definitions.specs.Perform.{Step, Goes, Stops, resolved, perform, perform_step}
 use Rattle.tree_definitions.specs.History.{applied, is_answer, told_blocks, leaves_tree, tree_after, after_read, after_step, with_shown, file_at, file_of, CellRun, Settled, Stays, InDoubt, doubted, doubted_file, doubted_cells, after, after_all}
-use Rattle.tree_laws.specs.WellFormed.{IsWellFormed, IsNew, numbers_of, AreNew}
+use Rattle.tree_definitions.specs.WellFormed.{IsWellFormed, IsNew, numbers_of, AreNew}
 use Rattle.tree_laws.proofs.Balance.{Limits, Within, Well, AreAllowed}
 use Rattle.tree_laws.proofs.WellFormedLaws.{Makes, apply_well, recelled_well}
 use Rattle.tree_laws.proofs.Resolving.{IsOf, Shaped, resolved_is}

@@ -10,7 +10,8 @@ use Rattle.tree_definitions.specs.Tree.{FileTree, node_at, with_node}
 use Rattle.tree_definitions.specs.Apply.{overwritten}
 use Rattle.tree_definitions.specs.History.{cells_show, cell_shows, doubted_cells, doubted_file, doubted, file_of, CellRun}
 use Rattle.tree_laws.specs.Alike.{Vaguer}
-use Rattle.tree_laws.proofs.Nodes.{each_but, with_same, with_other}
+use Rattle.tree_definitions.proofs.Births.{each_but}
+use Rattle.tree_laws.proofs.Nodes.{with_same, with_other}
 use Rattle.tree_laws.proofs.Likeness.{Likeness, Like, Near}
 use Rattle.tree_laws.proofs.ShapeLaws.{doubt_alike, shown_long}
 

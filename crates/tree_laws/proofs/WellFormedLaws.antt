@@ -17,9 +17,9 @@ use Rattle.tree_definitions.specs.Tree.{FileTree, node_at, with_node, grown, mus
 use Rattle.tree_definitions.specs.Place.{Place, Root, Taken, Free, Nowhere, place}
 use Rattle.tree_definitions.specs.Apply.{Applied, says, named, made, is_dir, links_of, has_entries, one_link_more, one_link_fewer, linked_to, linked, unlinked, dir_removed, name_gone, name_set, moved, moved_onto, moved_to, goes_through, renamed_to, renamed_from, renamed, if_file, at_file, overwritten, written, truncated, apply}
 use Rattle.tree_laws.specs.Refusals.{is_look}
-use Rattle.tree_laws.specs.WellFormed.{one_at, names_in, IsNew}
+use Rattle.tree_definitions.specs.WellFormed.{one_at, names_in, IsNew}
 use Rattle.tree_laws.specs.Touching.{OfDirectory, OfFile, OfLink}
-use Rattle.tree_laws.proofs.Pairs.{name_exact, found_left}
+use Rattle.tree_definitions.proofs.Pairs.{name_exact, found_left}
 use Rattle.tree_laws.proofs.Nodes.{with_same, with_other}
 use Rattle.tree_laws.proofs.Places.{Stands, place_stands}
 use Rattle.tree_laws.proofs.Refusals.{looks_leave}

@@ -10,7 +10,7 @@ use Rattle.tree_definitions.specs.declared.history.Item.TheVariants.{Did, Recove
 use Rattle.tree_definitions.specs.Tree.{FileTree, count_of, dir_blocks}
 use Rattle.tree_definitions.specs.History.{Opening, Settled, Stays, InDoubt, grows, may_stand, legal_from, tree_after}
 use Rattle.tree_definitions.specs.Removal.{settled, keeps, keeps_known, kept_from, is_legal, tree_of}
-use Rattle.tree_laws.specs.WellFormed.{IsWellFormed, IsNew, AreNew, numbers_of}
+use Rattle.tree_definitions.specs.WellFormed.{IsWellFormed, IsNew, AreNew, numbers_of}
 use Rattle.tree_laws.specs.Settling.{entries_of, entries_left, IsSublist, HasNoRecovery}
 use Rattle.tree_laws.specs.Removing.{room_left}
 use Rattle.tree_laws.specs.Whole.{AreAllNew, HasNoDoubt}

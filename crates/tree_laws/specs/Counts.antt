@@ -11,7 +11,7 @@ use Rattle.tree_definitions.specs.Apply.{Plain, apply, is_path_op}
 use Rattle.tree_definitions.specs.History.{tree_after}
 use Rattle.tree_definitions.specs.Touched.{touches, changes, shape_of}
 use Rattle.tree_laws.specs.Refusals.{is_look}
-use Rattle.tree_laws.specs.WellFormed.{IsWellFormed, IsNew, BirthsAscend}
+use Rattle.tree_definitions.specs.WellFormed.{IsWellFormed, IsNew, BirthsAscend}
 
 -- an operation that makes a node
 abbrev pub makes_node : Op → Bool

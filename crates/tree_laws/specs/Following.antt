@@ -5,7 +5,7 @@ use Rattle.frang_base.specs.declared.op.Op.{Op}
 use Rattle.tree_definitions.specs.Tree.{FileTree, node_at}
 use Rattle.tree_definitions.specs.Resolve.{At, resolve}
 use Rattle.tree_definitions.specs.Perform.{resolved}
-use Rattle.tree_laws.specs.WellFormed.{IsWalkable}
+use Rattle.tree_definitions.specs.WellFormed.{IsWalkable}
 use Rattle.tree_laws.specs.Touching.{SameKinds}
 
 -- a walk finds a node that is there

@@ -5,7 +5,7 @@ use Rattle.frang_base.specs.declared.reply.Reply.{Reply}
 use Rattle.tree_definitions.specs.Tree.{FileTree, node_at}
 use Rattle.tree_definitions.specs.Perform.{Step}
 use Rattle.tree_definitions.specs.Touched.{node_shape, shape_of, visited}
-use Rattle.tree_laws.specs.WellFormed.{IsWellFormed}
+use Rattle.tree_definitions.specs.WellFormed.{IsWellFormed}
 use Rattle.tree_laws.specs.Touching.{Kind, HasKinds, SameKinds}
 use Rattle.tree_laws.specs.Rooms.{SameRoom}
 

@@ -6,7 +6,7 @@ use Rattle.tree_definitions.specs.declared.node.Node.{Node}
 use Rattle.tree_definitions.specs.Tree.{FileTree, node_at}
 use Rattle.tree_definitions.specs.Apply.{apply}
 use Rattle.tree_definitions.specs.History.{Settled, Stays, InDoubt, after_all}
-use Rattle.tree_laws.specs.WellFormed.{IsWellFormed, IsNew, AreNew}
+use Rattle.tree_definitions.specs.WellFormed.{IsWellFormed, IsNew, AreNew}
 use Rattle.tree_laws.specs.Touching.{Kind, OfDirectory, OfFile, OfLink, kind_of, HasKinds, SameKinds}
 
 -- the kind of the node that an operation may make at a birth is the one that the birth tells

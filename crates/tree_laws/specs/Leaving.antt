@@ -5,7 +5,7 @@ use Rattle.tree_definitions.specs.Tree.{FileTree, node_at}
 use Rattle.tree_definitions.specs.History.{Settled, Stays, InDoubt, is_answer, after, after_all, legal_from}
 use Rattle.tree_definitions.specs.Touched.{touches, changes, is_ok}
 use Rattle.tree_definitions.specs.Removal.{writes_file, is_recorded, keeps_known, left, recovered}
-use Rattle.tree_laws.specs.WellFormed.{IsWellFormed, AreNew}
+use Rattle.tree_definitions.specs.WellFormed.{IsWellFormed, AreNew}
 use Rattle.tree_laws.specs.Removing.{without, none_seen, has_room, room_left}
 use Rattle.tree_laws.specs.Alike.{AlikeBy, Vaguer}
 

@@ -7,7 +7,7 @@ use Rattle.tree_definitions.specs.Tree.{FileTree}
 use Rattle.tree_definitions.specs.History.{Settled, Stays, tree_after, after_all}
 use Rattle.tree_definitions.specs.Touched.{changes, shape_of}
 use Rattle.tree_definitions.specs.Removal.{mounts, is_recorded, left}
-use Rattle.tree_laws.specs.WellFormed.{BirthsAscend, IsNew}
+use Rattle.tree_definitions.specs.WellFormed.{BirthsAscend, IsNew}
 
 -- an entry without a record changes no node: at most it reads bytes that were in doubt
 abbrev pub UnrecordedChangesNothing : Type 0

@@ -5,7 +5,7 @@ use Rattle.tree_definitions.specs.History.{Settled, Stays, InDoubt, applied, lea
 use Rattle.tree_definitions.specs.Touched.{is_seen, is_nospace}
 use Rattle.tree_definitions.specs.Removal.{is_of, begins_removal, keeps_known, recovered}
 use Rattle.tree_laws.specs.Touching.{wants_room}
-use Rattle.tree_laws.specs.WellFormed.{IsWellFormed, AreNew}
+use Rattle.tree_definitions.specs.WellFormed.{IsWellFormed, AreNew}
 
 -- a list without the entries of a server
 abbrev pub without : ℕ → List Settled → List Settled

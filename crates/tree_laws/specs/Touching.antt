@@ -8,7 +8,7 @@ use Rattle.tree_definitions.specs.Apply.{Answer, Plain, Shows}
 use Rattle.tree_definitions.specs.History.{applied, is_answer, tree_after}
 use Rattle.tree_definitions.specs.Touched.{touches, changes, is_nospace}
 use Rattle.tree_laws.specs.Rooms.{SameRoom}
-use Rattle.tree_laws.specs.WellFormed.{IsWalkable, IsNew}
+use Rattle.tree_definitions.specs.WellFormed.{IsWalkable, IsNew}
 
 -- the kind of a node, which an entry of a directory shows
 pub data Kind : Type 0 where

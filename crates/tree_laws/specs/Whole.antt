@@ -8,7 +8,7 @@ use Rattle.tree_definitions.specs.declared.history.Item.TheVariants.{Did, Recove
 use Rattle.tree_definitions.specs.Tree.{FileTree}
 use Rattle.tree_definitions.specs.History.{Opening, Settled, Stays, InDoubt}
 use Rattle.tree_definitions.specs.Removal.{settled, keeps, is_legal, tree_of}
-use Rattle.tree_laws.specs.WellFormed.{IsWellFormed, IsNew, AreNew}
+use Rattle.tree_definitions.specs.WellFormed.{IsWellFormed, IsNew, AreNew}
 use Rattle.tree_laws.specs.Settling.{entries_of, entries_left}
 use Rattle.tree_laws.specs.Removing.{room_left}
 

@@ -1,5 +1,5 @@
 use Rattle.std.proofs.Common.{sum_by}
-use Rattle.tree_laws.specs.WellFormed.{one_at}
+use Rattle.tree_definitions.specs.WellFormed.{one_at}
 use Rattle.disk_reading.specs.Names.{AreCountedOn}
 use Rattle.disk_reading.proofs.links.count_entries.Given as goal
 

@@ -1,5 +1,5 @@
 use Rattle.std.proofs.Common.{sum_by}
-use Rattle.tree_laws.specs.WellFormed.{names_in}
+use Rattle.tree_definitions.specs.WellFormed.{names_in}
 use Rattle.disk_reading.specs.Names.{AreCountedOn}
 use Rattle.disk_reading.proofs.links.count_names.Given as goal
 

@@ -1,6 +1,6 @@
 -- The list is that of the edits, exact and each thing once.
 use Rattle.std.proofs.Common.{◌≡◌, List, [], sym, subst}
-use Rattle.plan_laws.specs.Moves.{moved_by}
+use Rattle.disk_definitions.specs.Moves.{moved_by}
 use Rattle.plan_steps.specs.Edits.{edits_of}
 use Rattle.edit_moves.specs.declared.moves.Move.{Move}
 use Rattle.edit_moves.specs.Moves.{cover_in}

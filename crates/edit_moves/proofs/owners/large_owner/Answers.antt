@@ -3,7 +3,7 @@ use Rattle.std.proofs.Common.{◌≡◌, ◌≤◌, ◌<◌, ◌*◌, ℕ, Bool,
 use Rattle.disk_definitions.specs.Least.{least}
 use Rattle.disk_definitions.proofs.LeastLaws.{step_found, step_passed, step_end}
 use Rattle.disk_definitions.specs.Written.{inode_at_hand}
-use Rattle.plan_laws.specs.CoversAtHand.{has_large}
+use Rattle.disk_definitions.specs.CoversAtHand.{has_large}
 use Rattle.edit_moves.proofs.Searching.{from_first}
 use Rattle.edit_moves.proofs.owners.large_owner.Goals as goal
 

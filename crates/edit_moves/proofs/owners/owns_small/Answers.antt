@@ -3,7 +3,7 @@ use Rattle.std.proofs.Common.{Ok, Some, None, [], sym, ap, ◌∙◌}
 use Rattle.std.specs.Option.{option_map}
 use Rattle.disk_definitions.specs.Store.{stored}
 use Rattle.dir_lookup.proofs.Steps.{said_ok, said_err}
-use Rattle.plan_laws.specs.CoversAtHand.{has_small}
+use Rattle.disk_definitions.specs.CoversAtHand.{has_small}
 use Rattle.edit_moves.proofs.AtHand.{read_is, lack_is}
 use Rattle.edit_moves.proofs.owners.owns_small.Goals as goal
 

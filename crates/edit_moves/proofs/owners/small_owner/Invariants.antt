@@ -2,7 +2,7 @@
 use Rattle.std.proofs.Common.{◌≡◌, ◌-◌, ◌*◌}
 use Rattle.disk_definitions.specs.Least.{least, least_from}
 use Rattle.disk_definitions.specs.Written.{inode_at_hand}
-use Rattle.plan_laws.specs.CoversAtHand.{has_small}
+use Rattle.disk_definitions.specs.CoversAtHand.{has_small}
 use Rattle.edit_moves.proofs.owners.small_owner.Given as goal
 
 abbrev pub invariant-loop-inode : goal.invariant-loop-inode

@@ -1,7 +1,7 @@
 -- What the edits that are left say first is what all say first.
 use Rattle.std.proofs.Common.{◌≡◌, drop}
-use Rattle.plan_laws.specs.Moves.{first_said}
-use Rattle.plan_laws.specs.Moves as moves
+use Rattle.disk_definitions.specs.Moves.{first_said}
+use Rattle.disk_definitions.specs.Moves as moves
 use Rattle.plan_steps.specs.Edits.{edits_of}
 use Rattle.edit_moves.proofs.said.large_taker_of.Given as goal
 

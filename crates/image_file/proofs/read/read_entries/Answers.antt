@@ -1,5 +1,5 @@
 use Rattle.std.proofs.Common.{◌+◌, ◌-◌, sym, ap, ◌∙◌, arith}
-use Rattle.disk_definitions.specs.Images.{Blocks, entries_in}
+use Rattle.image_file.specs.Images.{Blocks, entries_in}
 use Rattle.image_file.specs.Entries.{behind, entry_of}
 use Rattle.image_file.proofs.ReadingEntries.{flaw_turn, next_turn, shorter}
 use Rattle.image_file.proofs.read.read_entries.Goals as goal

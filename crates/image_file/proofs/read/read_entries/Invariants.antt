@@ -1,5 +1,5 @@
 use Rattle.std.proofs.Common.{◌≡◌, ◌+◌, ◌<◌, ◌^◌, length}
-use Rattle.disk_definitions.specs.Images.{entries_in}
+use Rattle.image_file.specs.Images.{entries_in}
 use Rattle.image_file.specs.Entries.{behind, EndsBy}
 use Rattle.image_file.proofs.read.read_entries.Given as goal
 

@@ -1,6 +1,6 @@
 use Rattle.std.proofs.Common.{◌≡◌, suc, false, length, arith, rules}
 use Rattle.sector_bytes.specs.Bytes.{are_zero}
-use Rattle.disk_definitions.specs.Images.{sectors_written}
+use Rattle.image_file.specs.Images.{sectors_written}
 use Rattle.image_file.proofs.CountingWritten.{written_turn, fewer_left}
 use Rattle.image_file.proofs.write.add_entries.Goals as goal
 

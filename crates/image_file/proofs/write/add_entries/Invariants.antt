@@ -1,6 +1,6 @@
 use Rattle.std.proofs.Common.{◌≡◌, ◌++◌, ◌*◌, length}
 use Rattle.std.specs.List.{flat_map}
-use Rattle.disk_definitions.specs.Images.{image_entry, sectors_written}
+use Rattle.image_file.specs.Images.{image_entry, sectors_written}
 use Rattle.image_file.specs.Entries.{HasRoom}
 use Rattle.image_file.proofs.write.add_entries.Given as goal
 

@@ -1,5 +1,6 @@
 -- By induction on the computation.
-use Rattle.plan_laws.proofs.Traces.{traces_go_on, traces_meet, segments_are_traced}
+use Rattle.disk_definitions.proofs.Traces.{traces_go_on, traces_meet}
+use Rattle.plan_laws.proofs.Traces.{segments_are_traced}
 use Rattle.plan_laws.proofs.tracing.a_trace_goes_on_as_the_computation_does.Goals as goal
 
 pub returns-clause-on : goal.returns-clause-on

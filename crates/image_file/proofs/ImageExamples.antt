@@ -3,8 +3,8 @@ use Rattle.std.proofs.Common.{◌≡◌, ℕ, ◌-◌, ◌^◌, Ok, Err, List, [
 use Rattle.std.specs.Prelude.{codes}
 use Rattle.byteorder.specs.Endian.{little_bytes}
 use Rattle.sector_bytes.specs.Bytes.{zeros}
-use Rattle.disk_definitions.specs.declared.image.ImageFlaw.TheVariants.{Cut, OtherMark, OutOfOrder, NoRegion, OfZeros, BytesAfter, BadSector}
-use Rattle.disk_definitions.specs.Images.{Blocks, image_with, image_text, image_in, fault}
+use Rattle.image_file.specs.declared.fault.ImageFlaw.TheVariants.{Cut, OtherMark, OutOfOrder, NoRegion, OfZeros, BytesAfter, BadSector}
+use Rattle.image_file.specs.Images.{Blocks, image_with, image_text, image_in, fault}
 
 -- a sector that begins with these bytes
 abbrev begun : List ℕ → List ℕ

@@ -7,7 +7,7 @@ use Rattle.disk_definitions.specs.declared.region.Region.TheVariants as region
 use Rattle.disk_definitions.specs.Regions.{region_of}
 use Rattle.disk_definitions.specs.Edits.{Edit}
 use Rattle.disk_definitions.specs.Ask.{Sector, InodeAt, DirectoryAt, SegmentAt, LargeAt}
-use Rattle.plan_laws.specs.Moves.{moved_by}
+use Rattle.disk_definitions.specs.Moves.{moved_by}
 
 -- the sector of an inode, of a segment or of a block that lies in a region; one of a small block as a directory's
 abbrev pub sector_in : Option Region → Option Sector

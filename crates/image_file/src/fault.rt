@@ -1,6 +1,6 @@
 // What is wrong with bytes that are no image.
 ghost use Rattle.std.specs.Prelude.{◌≡◌};
-ghost use Rattle.disk_definitions.specs.Images.{kind_of};
+ghost use Rattle.image_file.specs.Images.{kind_of};
 
 /// What is wrong at a place of an image.
 #[derive(Clone, Copy, Debug, PartialEq, Eq)]

@@ -1,4 +1,4 @@
--- What a computation looks at in order, beside what it comes to, with some sectors at hand.
+-- What a computation looks at in order, beside what it comes to, with some sectors at hand; and how traces go on.
 use Rattle.std.specs.Prelude.{Bool, true, false, if◌then◌else◌, Option, Some, None, List, [], ◌∷◌, ◌++◌}
 use Rattle.disk_definitions.specs.Ask.{Sector, InodeAt, DirectoryAt, SegmentAt, BytesAt, LargeAt, Ask, Got, ReadInode, ReadDirectory, ReadSegment, ReadBytes, ReadLarge, AtHand, Met}
 use Rattle.disk_definitions.specs.Ask.Met.{Needs, Has}
@@ -44,3 +44,14 @@ has_version (DirectoryAt block part) = true
 has_version (SegmentAt segment) = true
 has_version (BytesAt block part) = false
 has_version (LargeAt segment part) = false
+
+-- ---- how traces go on
+
+-- the trace of one computation and then another is that of the first, and then that of the second by its value
+abbrev pub TracesGoOn : Type 0 → Type 0 → Type 0
+TracesGoOn A B =
+    (first : Ask A) (second : A → Ask B) (known : AtHand) → traced (bind first second) known ≡ then_traced (traced first known) (λ value. traced (second value) known)
+
+-- what it comes to is what the computation meets
+abbrev pub TracesMeet : Type 0 → Type 0
+TracesMeet A = (program : Ask A) (known : AtHand) → (traced program known).met ≡ meet program known

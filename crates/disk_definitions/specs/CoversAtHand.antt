@@ -11,7 +11,7 @@ use Rattle.disk_definitions.specs.Least.{least}
 use Rattle.disk_definitions.specs.Picks.{is_free, is_in_state}
 use Rattle.disk_definitions.specs.Ask.{Sector, InodeAt, DirectoryAt, SegmentAt, BytesAt, LargeAt}
 use Rattle.disk_definitions.specs.Written.{Cached, inode_at_hand}
-use Rattle.plan_laws.specs.Moves.{is_small_of}
+use Rattle.disk_definitions.specs.Moves.{is_small_of}
 
 -- ---- the node that has a block
 
