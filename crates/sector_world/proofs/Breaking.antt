@@ -90,7 +90,7 @@ module _ (w : World) (s : ℕ) (f : Flight) (can : CanLand w s f) (g : Logged w)
         dead = q.dead;
         taker = q.taker;
         ended = q.ended;
-        up = q.up;
+        alive = q.alive;
         until = q.until;
         told = λ t. at_put (λ x. ToldOk (r.told t) x (redo_all (to_replay w r.dead) t x)) w.disk s f.block t
             (λ i. subst (λ x. ToldOk (r.told x) f.block (redo_all (to_replay w r.dead) x f.block)) (sym i) (broken_told r l.0 l.1))

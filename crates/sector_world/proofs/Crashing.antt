@@ -76,6 +76,6 @@ logged_crash w a up g =
       until = q.until;
       told = q.told;
       dead = at_put (λ x. x ≡ Dead) w.phase a Dead r.dead (λ i. refl) (λ i. q.dead);
-      up = at_put (λ x. x ≡ Up) w.phase a Dead r.by (λ i. absurd (l.1 i)) (λ i. q.up);
+      alive = at_put (λ x. x ≢ Dead) w.phase a Dead r.by (λ i. absurd (l.1 i)) (λ i. q.alive);
     } in
     search

@@ -84,7 +84,7 @@ did = after ready (Do deed)
 -- the run of the operation, before any that goes on from there
 done_run : (es : List Event) (v : World) → Run did es v → Run begin (done es) v
 done_run es v r =
-    goes (record { off = refl; known = lit< tt }) (goes (record { off = refl; known = lit< tt }) (goes (record { off = refl; known = lit< tt })
+    goes (record { off = refl; resting = λ r e. absurd (cc); known = lit< tt }) (goes (record { off = refl; resting = λ r e. absurd (cc); known = lit< tt }) (goes (record { off = refl; resting = λ r e. absurd (cc); known = lit< tt })
     (goes (record { up = refl; more = λ e. cc; fits = λ b n. tt })
     (goes (record { up = refl; held = λ e. cc; absent = refl }) (goes can_deed r)))))
 
@@ -92,7 +92,7 @@ abbrev fallen : World
 fallen = after did (Crash 0)
 
 abbrev lost_late : World
-lost_late = record fallen { now = 32 }
+lost_late = record fallen { now = 31 }
 
 pub lost_world : World
 lost_world = after (after lost_late (Begin 0 1)) (Finish (rescue 1))
@@ -102,7 +102,7 @@ unfolding lost_world
 is_lost = record {
   run = done_run (Crash 0 ∷ ticks 31 (Begin 0 1 ∷ Finish (rescue 1) ∷ [])) (after (after lost_late (Begin 0 1)) (Finish (rescue 1)))
       (goes refl (tick_run 31 fallen (after (after lost_late (Begin 0 1)) (Finish (rescue 1))) (Begin 0 1 ∷ Finish (rescue 1) ∷ [])
-      (goes (record { dead = refl; ended = lit< tt; given_up = lit< tt; up = refl }) (goes (record { going = refl; all = λ s. inr tt }) stays))));
+      (goes (record { dead = refl; ended = lit< tt; given_up = lit< tt; alive = λ e. cc }) (goes (record { going = refl; all = λ s. inr tt }) stays))));
   none = tt;
   disk = refl;
 }
@@ -138,9 +138,9 @@ unfolding failed_world
 is_failed = record {
   run = done_run (Crash 0 ∷ ticks 31 (Begin 0 1 ∷ Fail 1 ∷ Renew 1 ∷ Finish (rescue 1) ∷ [])) (after (after (after (after lost_late (Begin 0 1)) (Fail 1)) (Renew 1)) (Finish (rescue 1)))
       (goes refl (tick_run 31 fallen (after (after (after (after lost_late (Begin 0 1)) (Fail 1)) (Renew 1)) (Finish (rescue 1))) (Begin 0 1 ∷ Fail 1 ∷ Renew 1 ∷ Finish (rescue 1) ∷ [])
-      (goes (record { dead = refl; ended = lit< tt; given_up = lit< tt; up = refl })
+      (goes (record { dead = refl; ended = lit< tt; given_up = lit< tt; alive = λ e. cc })
       (goes tt
-      (goes (record { up = refl; later = lit< tt })
+      (goes (record { alive = λ e. cc; later = lit< tt })
       (goes (record { going = refl; all = λ s. inr tt }) stays))))));
   sick = refl;
   quiet = record { alive = none_dead; clean = none_dirty; clean_bytes = none_dirty_bytes };
@@ -153,18 +153,18 @@ abbrev handed_fallen : World
 handed_fallen = after (after (after lost_late (Begin 0 1)) (Renew 1)) (Crash 1)
 
 pub handed_world : World
-handed_world = after (after (record handed_fallen { now = 63 }) (Begin 1 2)) (Finish second_rescue)
+handed_world = after (after (record handed_fallen { now = 62 }) (Begin 1 2)) (Finish second_rescue)
 
 pub is_handed : IsHandedRun renewed_world handed_world
 unfolding renewed_world handed_world
 is_handed = record {
   run = done_run (Crash 0 ∷ ticks 31 (Begin 0 1 ∷ Renew 1 ∷ [])) (after (after lost_late (Begin 0 1)) (Renew 1))
       (goes refl (tick_run 31 fallen (after (after lost_late (Begin 0 1)) (Renew 1)) (Begin 0 1 ∷ Renew 1 ∷ [])
-      (goes (record { dead = refl; ended = lit< tt; given_up = lit< tt; up = refl })
-      (goes (record { up = refl; later = lit< tt }) stays))));
+      (goes (record { dead = refl; ended = lit< tt; given_up = lit< tt; alive = λ e. cc })
+      (goes (record { alive = λ e. cc; later = lit< tt }) stays))));
   held = (refl, refl);
-  next = goes refl (tick_run 31 handed_fallen (after (after (record handed_fallen { now = 63 }) (Begin 1 2)) (Finish second_rescue)) (Begin 1 2 ∷ Finish second_rescue ∷ [])
-      (goes (record { dead = refl; ended = lit< tt; given_up = lit< tt; up = refl })
+  next = goes refl (tick_run 31 handed_fallen (after (after (record handed_fallen { now = 62 }) (Begin 1 2)) (Finish second_rescue)) (Begin 1 2 ∷ Finish second_rescue ∷ [])
+      (goes (record { dead = refl; ended = lit< tt; given_up = lit< tt; alive = λ e. cc })
       (goes (record { going = refl; all = λ s. inr tt }) stays)));
   gone = (refl, refl);
   dead = refl;
@@ -174,7 +174,7 @@ abbrev synced : World
 synced = after (after (after did (Reach 0 1)) (Ack 0 1)) (Sync 0)
 
 abbrev kept_late : World
-kept_late = record (after synced (Crash 0)) { now = 32 }
+kept_late = record (after synced (Crash 0)) { now = 31 }
 
 abbrev recovered : ℕ → World → World
 recovered b w = after (after (after (after (after w (Begin 0 b)) (Look (rescue b) 5)) (Replay (wanted b) 5 new_block)) (Land 5 (write b (w.expiry b - 15)))) (Finish (placed b))
@@ -189,14 +189,14 @@ kept_world = recovered 1 (after kept_late (Renew 1))
 pub is_kept : IsKeptRun kept_world
 unfolding kept_world zeros changed
 is_kept = record {
-  run = done_run (Reach 0 1 ∷ Ack 0 1 ∷ Sync 0 ∷ Crash 0 ∷ ticks 31 (Renew 1 ∷ recovery 1 47)) (recovered 1 (after kept_late (Renew 1)))
+  run = done_run (Reach 0 1 ∷ Ack 0 1 ∷ Sync 0 ∷ Crash 0 ∷ ticks 31 (Renew 1 ∷ recovery 1 46)) (recovered 1 (after kept_late (Renew 1)))
       (goes (record { more = omega arith; there = omega arith; lease = omega arith })
       (goes (record { there = omega arith })
       (goes (record { up = refl; acknowledged = omega arith; clean = λ s. tt })
       (goes refl
-      (tick_run 31 (after synced (Crash 0)) (recovered 1 (after kept_late (Renew 1))) (Renew 1 ∷ recovery 1 47)
-      (goes (record { up = refl; later = lit< tt })
-      (goes (record { dead = refl; ended = lit< tt; given_up = lit< tt; up = refl })
+      (tick_run 31 (after synced (Crash 0)) (recovered 1 (after kept_late (Renew 1))) (Renew 1 ∷ recovery 1 46)
+      (goes (record { alive = λ e. cc; later = lit< tt })
+      (goes (record { dead = refl; ended = lit< tt; given_up = lit< tt; alive = λ e. cc })
       (goes refl
       (goes (record { going = refl; wanted = refl; alone = refl })
       (goes (record { there = refl; early = omega arith })
@@ -207,34 +207,34 @@ is_kept = record {
 }
 
 abbrev twice_first : World
-twice_first = record (after (after did (Reach 0 1)) (Crash 0)) { now = 32 }
+twice_first = record (after (after did (Reach 0 1)) (Crash 0)) { now = 31 }
 
 abbrev twice_fallen : World
 twice_fallen = after (after (after (after (after twice_first (Renew 1)) (Begin 0 1)) (Look (rescue 1) 5)) (Replay (wanted 1) 5 new_block)) (Crash 1)
 
 abbrev twice_second : World
-twice_second = record twice_fallen { now = 63 }
+twice_second = record twice_fallen { now = 62 }
 
 pub twice_world : World
-twice_world = recovered 2 (after (after twice_second (Renew 2)) (Fade 5 (write 1 47)))
+twice_world = recovered 2 (after (after twice_second (Renew 2)) (Fade 5 (write 1 46)))
 
 pub is_twice : IsTwiceRun twice_world
 unfolding twice_world zeros changed
 is_twice = record {
-  run = done_run (Reach 0 1 ∷ Crash 0 ∷ ticks 31 (Renew 1 ∷ Begin 0 1 ∷ Look (rescue 1) 5 ∷ Replay (wanted 1) 5 new_block ∷ Crash 1 ∷ ticks 31 (Renew 2 ∷ Fade 5 (write 1 47) ∷ recovery 2 78)))
-      (recovered 2 (after (after twice_second (Renew 2)) (Fade 5 (write 1 47))))
+  run = done_run (Reach 0 1 ∷ Crash 0 ∷ ticks 31 (Renew 1 ∷ Begin 0 1 ∷ Look (rescue 1) 5 ∷ Replay (wanted 1) 5 new_block ∷ Crash 1 ∷ ticks 31 (Renew 2 ∷ Fade 5 (write 1 46) ∷ recovery 2 77)))
+      (recovered 2 (after (after twice_second (Renew 2)) (Fade 5 (write 1 46))))
       (goes (record { more = omega arith; there = omega arith; lease = omega arith })
       (goes refl
-      (tick_run 31 (after (after did (Reach 0 1)) (Crash 0)) (recovered 2 (after (after twice_second (Renew 2)) (Fade 5 (write 1 47)))) (Renew 1 ∷ Begin 0 1 ∷ Look (rescue 1) 5 ∷ Replay (wanted 1) 5 new_block ∷ Crash 1 ∷ ticks 31 (Renew 2 ∷ Fade 5 (write 1 47) ∷ recovery 2 78))
-      (goes (record { up = refl; later = lit< tt })
-      (goes (record { dead = refl; ended = lit< tt; given_up = lit< tt; up = refl })
+      (tick_run 31 (after (after did (Reach 0 1)) (Crash 0)) (recovered 2 (after (after twice_second (Renew 2)) (Fade 5 (write 1 46)))) (Renew 1 ∷ Begin 0 1 ∷ Look (rescue 1) 5 ∷ Replay (wanted 1) 5 new_block ∷ Crash 1 ∷ ticks 31 (Renew 2 ∷ Fade 5 (write 1 46) ∷ recovery 2 77))
+      (goes (record { alive = λ e. cc; later = lit< tt })
+      (goes (record { dead = refl; ended = lit< tt; given_up = lit< tt; alive = λ e. cc })
       (goes refl
       (goes (record { going = refl; wanted = refl; alone = refl })
       (goes refl
-      (tick_run 31 twice_fallen (recovered 2 (after (after twice_second (Renew 2)) (Fade 5 (write 1 47)))) (Renew 2 ∷ Fade 5 (write 1 47) ∷ recovery 2 78)
-      (goes (record { up = refl; later = lit< tt })
+      (tick_run 31 twice_fallen (recovered 2 (after (after twice_second (Renew 2)) (Fade 5 (write 1 46)))) (Renew 2 ∷ Fade 5 (write 1 46) ∷ recovery 2 77)
+      (goes (record { alive = λ e. cc; later = lit< tt })
       (goes (record { there = refl; late = inl (lit< tt) })
-      (goes (record { dead = refl; ended = lit< tt; given_up = lit< tt; up = refl })
+      (goes (record { dead = refl; ended = lit< tt; given_up = lit< tt; alive = λ e. cc })
       (goes refl
       (goes (record { going = refl; wanted = refl; alone = refl })
       (goes (record { there = refl; early = omega arith })
@@ -248,16 +248,16 @@ abbrev sent : World
 sent = after (after (after did (Reach 0 1)) (Ack 0 1)) (Issue 0 5 new_block 1)
 
 pub late_world : World
-late_world = after (record sent { now = 17 }) (Fade 5 (write 0 16))
+late_world = after (record sent { now = 16 }) (Fade 5 (write 0 15))
 
 pub is_late : IsLateRun late_world
 unfolding late_world
 is_late = record {
-  run = done_run (Reach 0 1 ∷ Ack 0 1 ∷ Issue 0 5 new_block 1 ∷ ticks 16 (Fade 5 (write 0 16) ∷ [])) (after (record sent { now = 17 }) (Fade 5 (write 0 16)))
+  run = done_run (Reach 0 1 ∷ Ack 0 1 ∷ Issue 0 5 new_block 1 ∷ ticks 16 (Fade 5 (write 0 15) ∷ [])) (after (record sent { now = 16 }) (Fade 5 (write 0 15)))
       (goes (record { more = omega arith; there = omega arith; lease = omega arith })
       (goes (record { there = omega arith })
       (goes (record { well = refl; up = refl; dirty = refl; log_first = omega arith; alone = refl })
-      (tick_run 16 sent (after (record sent { now = 17 }) (Fade 5 (write 0 16))) (Fade 5 (write 0 16) ∷ [])
+      (tick_run 16 sent (after (record sent { now = 16 }) (Fade 5 (write 0 15))) (Fade 5 (write 0 15) ∷ [])
       (goes (record { there = refl; late = inl (lit< tt) }) stays)))));
   dirty = refl;
   disk = refl;
@@ -300,7 +300,7 @@ abbrev scribbled : World
 scribbled = after (after (after held (Do scribble)) (Reach 0 1)) (Crash 0)
 
 abbrev doubt_world : World
-doubt_world = after (after (record scribbled { now = 32 }) (Begin 0 1)) (Finish (rescue 1))
+doubt_world = after (after (record scribbled { now = 31 }) (Begin 0 1)) (Finish (rescue 1))
 
 abbrev shared : World
 shared = after (after doubt_world (Take 1 (Node 9) Shared)) (FetchBytes 1 9)
@@ -349,10 +349,10 @@ after_read = after shared (Do reading)
 pub is_read : IsReadRun before_read after_read
 unfolding before_read after_read
 is_read = record {
-  doubt = goes (record { off = refl; known = lit< tt }) (goes (record { off = refl; known = lit< tt }) (goes (record { up = refl; more = λ e. cc; fits = λ b n. tt })
+  doubt = goes (record { off = refl; resting = λ r e. absurd (cc); known = lit< tt }) (goes (record { off = refl; resting = λ r e. absurd (cc); known = lit< tt }) (goes (record { up = refl; more = λ e. cc; fits = λ b n. tt })
       (goes can_scribble (goes (record { more = omega arith; there = omega arith; lease = omega arith }) (goes refl
       (tick_run 31 scribbled doubt_world (Begin 0 1 ∷ Finish (rescue 1) ∷ [])
-      (goes (record { dead = refl; ended = lit< tt; given_up = lit< tt; up = refl }) (goes (record { going = refl; all = λ s. inr (refl, tt) }) stays))))))));
+      (goes (record { dead = refl; ended = lit< tt; given_up = lit< tt; alive = λ e. cc }) (goes (record { going = refl; all = λ s. inr (refl, tt) }) stays))))))));
   unknown = refl;
   run = goes (record { up = refl; more = λ e. cc; fits = only_free })
       (goes (record { up = refl; held = λ e. cc; absent = refl; plain = refl; filled = refl })
@@ -361,7 +361,7 @@ is_read = record {
 }
 
 abbrev cleared : World
-cleared = after (after (after (after (after (after (after begin (Mount 0)) (Take 0 (Node 8) Sole)) (Take 0 (Node 5) Sole)) (Clear 0 8)) (IssueBytes 0 8 zero_block 0)) (LandBytes 8 (record { by = 0; stamp = 16; block = zero_block }))) (Fetch 0 8)
+cleared = after (after (after (after (after (after (after begin (Mount 0)) (Take 0 (Node 8) Sole)) (Take 0 (Node 5) Sole)) (Clear 0 8)) (IssueBytes 0 8 zero_block 0)) (LandBytes 8 (record { by = 0; stamp = 15; block = zero_block }))) (Fetch 0 8)
 
 two_locks : (l : LockId) → IsTrue (has_lock l (Node 8 ∷ Node 5 ∷ [])) → (Node 8 ≡ l) ⊎ (Node 5 ≡ l)
 two_locks l i = by_test (λ b. b ≡ true → (Node 8 ≡ l) ⊎ (Node 5 ≡ l)) true (has_lock l (Node 5 ∷ [])) (same_lock (Node 8) l) (λ e j. inl (lock_of (Node 8) l e)) (λ e j. inr (one_lock 5 l j)) i
@@ -409,7 +409,7 @@ claimed_world = after cleared (Do claim)
 pub is_claimed : IsClaimedRun claimed_world
 unfolding claimed_world
 is_claimed = record {
-  run = goes (record { off = refl; known = lit< tt }) (goes (record { up = refl; more = λ e. cc; fits = λ b n. tt })
+  run = goes (record { off = refl; resting = λ r e. absurd (cc); known = lit< tt }) (goes (record { up = refl; more = λ e. cc; fits = λ b n. tt })
       (goes (record { up = refl; more = λ e. cc; fits = fits_five })
       (goes (record { up = refl; held = refl; plain = refl; free = refl })
       (goes (record { well = refl; up = refl; dirty = refl; log_before = omega arith; alone = refl })
@@ -482,12 +482,12 @@ can_free = record {
 }
 
 pub freed_world : World
-freed_world = after (after flying (Do freeing)) (LandBytes 9 (record { by = 0; stamp = 16; block = bytes }))
+freed_world = after (after flying (Do freeing)) (LandBytes 9 (record { by = 0; stamp = 15; block = bytes }))
 
 pub is_freed : IsFreedRun freed_world
 unfolding freed_world
 is_freed = record {
-  run = goes (record { off = refl; known = lit< tt }) (goes (record { up = refl; more = λ e. cc; fits = λ b n. tt })
+  run = goes (record { off = refl; resting = λ r e. absurd (cc); known = lit< tt }) (goes (record { up = refl; more = λ e. cc; fits = λ b n. tt })
       (goes (record { up = refl; more = λ e. cc; fits = fits_five })
       (goes can_write
       (goes (record { more = omega arith; there = omega arith; lease = omega arith })
@@ -575,7 +575,7 @@ retaken_world = after released (Do retaking)
 pub is_retaken : IsRetakenRun retaken_world
 unfolding retaken_world
 is_retaken = record {
-  run = goes (record { off = refl; known = lit< tt }) (goes (record { up = refl; more = λ e. cc; fits = λ b n. tt })
+  run = goes (record { off = refl; resting = λ r e. absurd (cc); known = lit< tt }) (goes (record { up = refl; more = λ e. cc; fits = λ b n. tt })
       (goes (record { up = refl; more = λ e. cc; fits = fits_six })
       (goes (record { up = refl; held = λ e. cc; absent = refl })
       (goes can_release (goes can_retake stays)))));

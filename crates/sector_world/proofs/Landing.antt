@@ -196,7 +196,7 @@ module _ (w : World) (s : ℕ) (f : Flight) (can : CanLand w s f) (g : Logged w)
         dead = ap w.phase b.2 ∙ q.dead;
         taker = ap w.taker b.2 ∙ q.taker ∙ ap Some (sym b.3);
         ended = subst (λ x. w.expiry x < w.now) (sym b.2) q.ended;
-        up = ap w.phase b.3 ∙ q.up;
+        alive = λ e. q.alive (sym (ap w.phase b.3) ∙ e);
         until = ap w.until b.2 ∙ q.until ∙ ap w.expiry (sym b.3);
         told = λ t.
             subst (λ x. ToldOk (r.told t) (put w.disk s f.block t) (redo_all (to_replay w x) t (put w.disk s f.block t))) (sym b.2)

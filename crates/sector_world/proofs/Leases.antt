@@ -22,7 +22,7 @@ pub logged_tick : (w : World) → Logged w → Logged (after w Tick)
 logged_tick w g =
     let flights : (s : ℕ) (f : Flight) → w.flight s ≡ Some f → w.now + 1 ≤ f.stamp → FlightOk w s f = λ s f e n. g.flights s f e (omega arith) in
     let rescued : (r : Rescue) → w.rescue ≡ Some r → RescueOk (after w Tick) r = λ r e. let q : RescueOk w r = g.rescued r e in
-    record { dead = q.dead; taker = q.taker; ended = (let m : w.expiry r.dead < w.now = q.ended in omega arith); up = q.up; until = q.until; told = q.told } in
+    record { dead = q.dead; taker = q.taker; ended = (let m : w.expiry r.dead < w.now = q.ended in omega arith); alive = q.alive; until = q.until; told = q.told } in
     let leases : (a : ℕ) → w.expiry a ≤ w.now + 1 + 30 = λ a. let m : w.expiry a ≤ w.now + 30 = g.leases a in omega arith in
     let ends : (d : ℕ) → w.until d ≤ w.now + 1 + 30 = λ d. let m : w.until d ≤ w.now + 30 = g.ends d in omega arith in
     let begun : (d b : ℕ) → w.taker d ≡ Some b → (w.phase d ≡ Dead) × (w.expiry d < w.now + 1) = λ d b e. let q = g.begun d b e in (q.0, let m : w.expiry d < w.now = q.1 in omega arith) in
@@ -87,13 +87,13 @@ logged_renew w a can g =
     record {
       dead = q.dead;
       taker = q.taker;
-      ended = at_put (λ x. x < w.now) w.expiry a (w.now + 30) r.dead (λ i. absurd (phases_differ w.phase a r.dead can.up q.dead i)) (λ n. q.ended);
-      up = q.up;
+      ended = at_put (λ x. x < w.now) w.expiry a (w.now + 30) r.dead (λ i. absurd (can.alive (sym (ap w.phase i) ∙ q.dead))) (λ n. q.ended);
+      alive = q.alive;
       until = extended_own a (w.now + 30) r.dead r.by w.taker w.expiry w.until q.taker q.until;
       told = q.told;
     } in
     let leases : (a' : ℕ) → (after w (Renew a)).expiry a' ≤ (after w (Renew a)).now + 30 = λ b. at_put (λ x. x ≤ w.now + 30) w.expiry a (w.now + 30) b (λ e. le_refl (w.now + 30)) (λ n. g.leases b) in
-    let begun : (d' b' : ℕ) → (after w (Renew a)).taker d' ≡ Some b' → ((after w (Renew a)).phase d' ≡ Dead) × ((after w (Renew a)).expiry d' < (after w (Renew a)).now) = λ d b e. let q = g.begun d b e in (q.0, at_put (λ x. x < w.now) w.expiry a (w.now + 30) d (λ i. absurd (phases_differ w.phase a d can.up q.0 i)) (λ n. q.1)) in
+    let begun : (d' b' : ℕ) → (after w (Renew a)).taker d' ≡ Some b' → ((after w (Renew a)).phase d' ≡ Dead) × ((after w (Renew a)).expiry d' < (after w (Renew a)).now) = λ d b e. let q = g.begun d b e in (q.0, at_put (λ x. x < w.now) w.expiry a (w.now + 30) d (λ i. absurd (can.alive (sym (ap w.phase i) ∙ q.0))) (λ n. q.1)) in
     let flights : (s' : ℕ) (f' : Flight) → (after w (Renew a)).flight s' ≡ Some f' → (after w (Renew a)).now ≤ f'.stamp → FlightOk (after w (Renew a)) s' f' = flights in
     let rescued : (r' : Rescue) → (after w (Renew a)).rescue ≡ Some r' → RescueOk (after w (Renew a)) r' = rescued in
     search
@@ -146,8 +146,8 @@ logged_mount w a can g =
       dead = at_put (λ x. x ≡ Dead) w.phase a Up r.dead (λ i. let z : w.phase r.dead ≡ Off = ap w.phase i ∙ can.off in let y = q.dead in absurd (cc)) (λ i. q.dead);
       taker = q.taker;
       ended = at_put (λ x. x < w.now) w.expiry a (w.now + 30) r.dead (λ i. let z : w.phase r.dead ≡ Off = ap w.phase i ∙ can.off in let y = q.dead in absurd (cc)) (λ i. q.ended);
-      up = at_put (λ x. x ≡ Up) w.phase a Up r.by (λ i. refl) (λ i. q.up);
-      until = at_put (λ x. w.until r.dead ≡ x) w.expiry a (w.now + 30) r.by (λ i. let z : w.phase r.by ≡ Off = ap w.phase i ∙ can.off in let y = q.up in absurd (cc)) (λ i. q.until);
+      alive = at_put (λ x. x ≢ Dead) w.phase a Up r.by (λ i j. absurd (cc)) (λ i. q.alive);
+      until = at_put (λ x. w.until r.dead ≡ x) w.expiry a (w.now + 30) r.by (λ i. absurd (can.resting r e i)) (λ i. q.until);
       told = q.told;
     } in
     let known : (a' : ℕ) → (after w (Mount a)).phase a' ≢ Off → a' < (after w (Mount a)).servers = λ b. at_put (λ p. p ≢ Off → b < w.servers) w.phase a Up b (λ e n. subst (λ x. x < w.servers) (sym e) can.known) (λ n. g.known b) in
@@ -210,7 +210,7 @@ logged_unmount w a can g =
       dead = at_put (λ x. x ≡ Dead) w.phase a Off r.dead (λ i. absurd (phases_differ w.phase a r.dead can.up q.dead i)) (λ i. q.dead);
       taker = q.taker;
       ended = q.ended;
-      up = at_put (λ x. x ≡ Up) w.phase a Off r.by (λ i. absurd (can.resting r e i)) (λ i. q.up);
+      alive = at_put (λ x. x ≢ Dead) w.phase a Off r.by (λ i j. absurd (cc)) (λ i. q.alive);
       until = q.until;
       told = q.told;
     } in

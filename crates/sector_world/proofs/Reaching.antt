@@ -76,7 +76,7 @@ module _ (w : World) (d k : ℕ) (can : CanReach w d k) (g : Logged w) where
           dead = q.dead;
           taker = q.taker;
           ended = q.ended;
-          up = q.up;
+          alive = q.alive;
           until = q.until;
           told = λ s. at_put (λ x. ToldOk (r.told s) (w.disk s) (redo_all (up_to x (w.log r.dead)) s (w.disk s))) w.durable d k r.dead
               (λ i. let u : w.now ≤ w.expiry d = can.lease in let v : w.expiry r.dead < w.now = q.ended in let x : w.expiry r.dead ≡ w.expiry d = ap w.expiry i in absurd (omega arith)) (λ i. q.told s);

@@ -124,7 +124,7 @@ module _ (w : World) (a k : ℕ) (can : CanReclaim w a k) (g : Logged w) where
         dead = q.dead;
         taker = q.taker;
         ended = q.ended;
-        up = q.up;
+        alive = q.alive;
         until = q.until;
         told = λ s. at_put (λ x. ToldOk (r.told s) (w.disk s) (redo_all (up_to (w.durable r.dead) x) s (w.disk s))) w.log a (above k (w.log a)) r.dead
             (λ i. let u = can.up in let v = q.dead in let z : w.phase r.dead ≡ w.phase a = ap w.phase i in absurd (cc)) (λ i. q.told s);

@@ -46,7 +46,7 @@ logged_begin w d b can g = let ends : (d' : ℕ) → (after w (Begin d b)).until
           q.source;
     } in
     let rescued : (r' : Rescue) → (after w (Begin d b)).rescue ≡ Some r' → RescueOk (after w (Begin d b)) r' = λ r e. subst (λ x. RescueOk (after w (Begin d b)) x) (same_Some (record { dead = d; by = b; told = λ s. Unread }) r e)
-    (record { dead = can.dead; ended = can.ended; up = can.up; taker = put_same w.taker d (Some b); until = put_same w.until d (w.expiry b); told = λ s. tt }) in
+    (record { dead = can.dead; ended = can.ended; alive = can.alive; taker = put_same w.taker d (Some b); until = put_same w.until d (w.expiry b); told = λ s. tt }) in
     search
 
 found_ok : (rs : List Redo) (s : ℕ) (old : Block) → ToldOk (found old (redo_all rs s old)) old (redo_all rs s old)
@@ -89,7 +89,7 @@ logged_look w r s going g =
     (record {
       dead = k.dead;
       ended = k.ended;
-      up = k.up;
+      alive = k.alive;
       taker = k.taker;
       until = k.until;
       told = λ t. at_put (λ y. ToldOk y (w.disk t) (redo_all (to_replay w r.dead) t (w.disk t))) r.told s (found (w.disk s) (redo_all (to_replay w r.dead) s (w.disk s))) t

@@ -106,7 +106,7 @@ pub record IsLostRun (w : World) : Type 0 where
 
 -- a synced one is kept: the recovery writes it
 abbrev pub kept : List Event
-kept = done (Reach 0 1 ∷ Ack 0 1 ∷ Sync 0 ∷ Crash 0 ∷ ticks 31 (Renew 1 ∷ recovery 1 47))
+kept = done (Reach 0 1 ∷ Ack 0 1 ∷ Sync 0 ∷ Crash 0 ∷ ticks 31 (Renew 1 ∷ recovery 1 46))
 
 -- the run leads here, where the operation is left and the disk has its change
 pub record IsKeptRun (w : World) : Type 0 where
@@ -117,7 +117,7 @@ pub record IsKeptRun (w : World) : Type 0 where
 -- the recoverer dies with its write in flight, which comes late, and a second one recovers
 abbrev pub twice : List Event
 twice = done (Reach 0 1 ∷ Crash 0 ∷ ticks 31 (Renew 1 ∷ Begin 0 1 ∷ Look (rescue 1) 5 ∷ Replay (wanted 1) 5 new_block ∷ Crash 1
-    ∷ ticks 31 (Renew 2 ∷ Fade 5 (write 1 47) ∷ recovery 2 78)))
+    ∷ ticks 31 (Renew 2 ∷ Fade 5 (write 1 46) ∷ recovery 2 77)))
 
 -- the run leads here, where the operation is left and the disk has its change
 pub record IsTwiceRun (w : World) : Type 0 where
@@ -150,14 +150,14 @@ handed = Crash 1 ∷ ticks 31 (Begin 1 2 ∷ Finish second_rescue ∷ [])
 -- its hold on server 0's log is extended with its lease, and gone once it is recovered itself
 pub record IsHandedRun (v w : World) : Type 0 where
   pub run : Run begin renewed v
-  pub held : (v.taker 0 ≡ Some 1) × (v.until 0 ≡ 62)
+  pub held : (v.taker 0 ≡ Some 1) × (v.until 0 ≡ 61)
   pub next : Run v handed w
   pub gone : (w.taker 0 ≡ None) × (w.until 0 ≡ 0)
   pub dead : w.phase 0 ≡ Dead
 
 -- a write comes late: the sector stays dirty, and the disk as it was
 abbrev pub late : List Event
-late = done (Reach 0 1 ∷ Ack 0 1 ∷ Issue 0 5 new_block 1 ∷ ticks 16 (Fade 5 (write 0 16) ∷ []))
+late = done (Reach 0 1 ∷ Ack 0 1 ∷ Issue 0 5 new_block 1 ∷ ticks 16 (Fade 5 (write 0 15) ∷ []))
 
 -- the run leads here
 pub record IsLateRun (w : World) : Type 0 where
@@ -256,7 +256,7 @@ claim = record {
 
 -- zeros are written to sector 8, and come, before the operation
 abbrev pub claimed : List Event
-claimed = Mount 0 ∷ Take 0 (Node 8) Sole ∷ Take 0 (Node 5) Sole ∷ Clear 0 8 ∷ IssueBytes 0 8 zero_block 0 ∷ LandBytes 8 (record { by = 0; stamp = 16; block = zero_block }) ∷ Fetch 0 8 ∷ Do claim ∷ []
+claimed = Mount 0 ∷ Take 0 (Node 8) Sole ∷ Take 0 (Node 5) Sole ∷ Clear 0 8 ∷ IssueBytes 0 8 zero_block 0 ∷ LandBytes 8 (record { by = 0; stamp = 15; block = zero_block }) ∷ Fetch 0 8 ∷ Do claim ∷ []
 
 -- the run leads here, where sector 8 has a version, another cover, and no page
 pub record IsClaimedRun (w : World) : Type 0 where
@@ -289,7 +289,7 @@ freeing = record {
 
 -- bytes are freed while their write is in flight, which still comes
 abbrev pub freed : List Event
-freed = Mount 0 ∷ Take 0 (Node 9) Sole ∷ Take 0 (Node 5) Sole ∷ Do scribble ∷ Reach 0 1 ∷ Ack 0 1 ∷ IssueBytes 0 9 bytes 1 ∷ Do freeing ∷ LandBytes 9 (record { by = 0; stamp = 16; block = bytes }) ∷ []
+freed = Mount 0 ∷ Take 0 (Node 9) Sole ∷ Take 0 (Node 5) Sole ∷ Do scribble ∷ Reach 0 1 ∷ Ack 0 1 ∷ IssueBytes 0 9 bytes 1 ∷ Do freeing ∷ LandBytes 9 (record { by = 0; stamp = 15; block = bytes }) ∷ []
 
 -- the run leads here, where sector 9 is free and has the bytes that came
 pub record IsFreedRun (w : World) : Type 0 where

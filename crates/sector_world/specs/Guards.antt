@@ -92,14 +92,15 @@ NoneNames (r ∷ rs) s = (change_at r.changes s ≡ None) × NoneNames rs s
 abbrev pub to_replay : World → ℕ → List Redo
 to_replay w d = up_to (w.durable d) (w.log d)
 
--- an up server's lease grows
+-- the lease of one that isn't dead grows: of a server that is up, or of who recovers and is never mounted
 pub record CanRenew (w : World) (a : ℕ) : Type 0 where
-  pub up : w.phase a ≡ Up
+  pub alive : w.phase a ≢ Dead
   pub later : w.expiry a < w.now + LEASE_TICKS
 
--- a server that is off, and whose log is replayed with the others, mounts
+-- a server that is off and recovers none, and whose log is replayed with the others, mounts
 pub record CanMount (w : World) (a : ℕ) : Type 0 where
   pub off : w.phase a ≡ Off
+  pub resting : (r : Rescue) → w.rescue ≡ Some r → r.by ≢ a
   pub known : a < w.servers
 
 -- an unmount answers as a sync does
@@ -107,7 +108,6 @@ pub record CanUnmount (w : World) (a : ℕ) : Type 0 where
   pub up : w.phase a ≡ Up
   pub given : (l : LockId) → w.holds a l ≡ None
   pub logged : w.last a ≤ w.acked a
-  pub resting : (r : Rescue) → w.rescue ≡ Some r → r.by ≢ a
 
 -- a lock is taken that fits beside what the others hold
 pub record CanTake (w : World) (a : ℕ) (l : LockId) (mode : Mode) : Type 0 where
@@ -185,12 +185,12 @@ pub record CanReclaim (w : World) (a k : ℕ) : Type 0 where
   pub there : k ≤ w.last a
   pub written : (s : ℕ) → AreBelow k (w.log a) s (version_of (w.disk s))
 
--- a dead server's lease has ended, and so has the hold on its log of who took it before
+-- a dead server's lease has ended, and so has the hold on its log of who took it before; who takes it now isn't dead
 pub record CanBegin (w : World) (d b : ℕ) : Type 0 where
   pub dead : w.phase d ≡ Dead
   pub ended : w.expiry d < w.now
   pub given_up : w.until d < w.now
-  pub up : w.phase b ≡ Up
+  pub alive : w.phase b ≢ Dead
 
 -- each sector that a record names was found or written
 pub record CanFinish (w : World) (r : Rescue) : Type 0 where

@@ -114,12 +114,12 @@ ToldOk Unread old new = Unit {0}
 ToldOk (Wanted block) old new = (block ≡ new) × (version_of old < version_of new)
 ToldOk InPlace old new = new ≡ old
 
--- the recovery under way is of a dead server whose lease ended, by one that is up and took the log last
+-- the recovery under way is of a dead server whose lease ended, by one that isn't dead and took the log last
 abbrev pub RescueOk : World → Rescue → Type 0
 RescueOk w r = record {
   dead : w.phase r.dead ≡ Dead;
   ended : w.expiry r.dead < w.now;
-  up : w.phase r.by ≡ Up;
+  alive : w.phase r.by ≢ Dead;
   taker : w.taker r.dead ≡ Some r.by;
   until : w.until r.dead ≡ w.expiry r.by;
   told : (s : ℕ) → ToldOk (r.told s) (w.disk s) (redo_all (to_replay w r.dead) s (w.disk s));
