@@ -1,14 +1,9 @@
 -- What is asked of a history holds of it with the recoveries of all logs, in their order.
-use Rattle.std.proofs.Common.{ℕ, zero, suc, ◌≡◌, ◌≢◌, ◌≤◌, Bool, true, false, if◌then◌else◌, nat_eq, List, [], ◌∷◌, refl, sym, subst, le_refl}
+use Rattle.std.proofs.Common.{ℕ, zero, suc, ◌≡◌, ◌≢◌, ◌≤◌, Bool, true, false, if◌then◌else◌, nat_eq, List, ◌∷◌, refl, sym, subst, le_refl}
 use Rattle.std.proofs.lemmas.Bool.{eqb-true}
-use Rattle.frang_base.specs.Functions.{keep_if}
-use Rattle.frang_base.proofs.Basics.{by_keep}
 use Rattle.tree_definitions.specs.Tree.{FileTree}
-use Rattle.sector_world.specs.Histories.{Each, Item, kept, settled, survives}
-use Rattle.sector_world.specs.Histories.Item.{Done, Doubt}
+use Rattle.sector_world.specs.Histories.{Item, settled, survives}
 use Rattle.sector_world.specs.Seen.{Kept, Unmet, Unseen}
-use Rattle.sector_world.proofs.HistoryLaws.{each_kept}
-use Rattle.sector_world.proofs.Removals.{survives_other}
 use Rattle.sector_world.proofs.Seen.{unmet_kept}
 use Rattle.sector_world.specs.Claims.{left}
 use Rattle.sector_world.specs.Kinds.{Good}
@@ -21,8 +16,8 @@ use Rattle.line_histories.specs.LinePlans.{sector_plan}
 use Rattle.line_histories.specs.Standing.{StandsNumbered}
 use Rattle.line_histories.specs.Trees.{AreTimes, MayNumber}
 use Rattle.line_histories.proofs.Runs.{numbered}
-use Rattle.stop_laws.specs.Happened.{Happening, Recovers, on_sectors}
-use Rattle.stop_laws.specs.Paired.{ArePaired, BeginsWithARecord, IsKeptBy}
+use Rattle.stop_laws.specs.Happened.{Happening, Recovers, on_sectors, settle}
+use Rattle.stop_laws.specs.Paired.{ArePaired, IsKeptBy}
 use Rattle.stop_laws.specs.Settling.{recovers_by, stopped}
 use Rattle.stop_laws.specs.Coverage.{RecoveriesRise, recovered_to}
 use Rattle.stop_laws.specs.Events.{IsInSight}
@@ -37,7 +32,7 @@ module _ (segments : ℕ) (when : ℕ → ℕ) (times : AreTimes when) (first : 
     (begins : StandsNumbered segments w.opening (numbered first numbers)) (legal : IsLegal (sector_plan segments when) w)
     (distinct : Distinct (MayNumber numbers) first (settled w.history))
     (good : Good w) (told : on_sectors h ≡ w.history) (paired : ArePaired segments when w.opening first numbers h)
-    (logs : (server : ℕ) → w.phase server ≢ Off → IsKeptBy server (greatest server) (w.durable server) (settled w.history)) (sight : IsInSight w) where
+    (logs : (server : ℕ) → w.phase server ≢ Off → IsKeptBy server (greatest server) (w.durable server) (settle first h)) (sight : IsInSight w) where
   unmet_left : (server n : ℕ) → Unmet server (w.durable server) (left w n)
   unmet_left server zero = good.logged.unmet server
   unmet_left server (suc n) =

@@ -1,5 +1,5 @@
 -- A history that is told twice settles alike on both sides.
-use Rattle.std.proofs.Common.{ℕ, ◌≡◌, ◌≢◌, ◌≤◌, ◌&&◌, ◌||◌, ◌==◌, not, Bool, true, false, List, [], ◌∷◌, ◌++◌, refl, sym, ◌∙◌, ap, ap₂, subst, arith}
+use Rattle.std.proofs.Common.{ℕ, ◌≡◌, ◌≤◌, ◌&&◌, ◌||◌, ◌==◌, not, Bool, true, false, List, [], ◌∷◌, ◌++◌, refl, sym, ◌∙◌, ap, ap₂, subst, arith}
 use Rattle.std.specs.List.{list_any}
 use mathlib.Core.Bool.{and-false}
 use Rattle.frang_base.specs.Functions.{keep_if}
@@ -29,7 +29,7 @@ use Rattle.line_histories.specs.Trees.{AreTimes, MayNumber}
 use Rattle.line_histories.proofs.Runs.{numbered}
 use Rattle.byte_trees.specs.Deeds.{Deed, Does, Says, Doubts, items, steps, tree_after}
 use Rattle.stop_laws.specs.Happened.{Happening, Acts, Speaks, Mounts, Covers, Recovers, has_lost, on_sectors, on_tree, settle, what_stays}
-use Rattle.stop_laws.specs.Paired.{AreLines, ArePaired, BeginsWithARecord, MayRecover}
+use Rattle.stop_laws.specs.Paired.{AreLines, ArePaired, MayRecover}
 use Rattle.stop_laws.specs.Settling.{HistoriesSettleAlike, SettlesAlike}
 use Rattle.stop_laws.proofs.Lines.{records_are_losses}
 use Rattle.stop_laws.proofs.Staying.{AllAsked, items_stay, stay_alike}
@@ -175,9 +175,7 @@ module _ (segments : ℕ) (when : ℕ → ℕ) (times : AreTimes when) (opening 
 
     left_is : left server greatest first (steps deeds) ≡ steps stays
     left_is =
-        (stay_alike server greatest durable first deeds told (subst OpsRise (sym same) may.rises) may.kept_by.within
-        (subst (Each (λ c. c.by ≡ server → c.op ≤ durable → c.changes ≢ [] → c.op ≤ greatest)) (sym same) may.kept_by.records)
-        (subst (BeginsWithARecord server durable) (sym same) may.kept_by.begins)).1
+        (stay_alike server greatest durable first deeds told (subst OpsRise (sym same) may.rises) may.kept_by.within may.kept_by.records may.kept_by.begins).1
 
     items_are : items stays ≡ kept (survives server durable) (settled (on_sectors older))
     items_are = items_stay server durable deeds ∙ ap (kept (survives server durable)) same

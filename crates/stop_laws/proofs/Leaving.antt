@@ -3,7 +3,7 @@ use Rattle.std.proofs.Common.{ℕ, ◌≡◌, ◌&&◌, ◌||◌, not, Bool, tru
 use Rattle.std.specs.List.{list_any}
 use Rattle.std.proofs.lemmas.List.Elements.{filter-append}
 use Rattle.std.proofs.lemmas.Bool.{or_parts}
-use mathlib.Core.Bool.{and-true, or-false}
+use mathlib.Core.Bool.{and-true, or-false, or-true}
 use Rattle.tree_definitions.specs.History.{Settled, after, after_all}
 use Rattle.tree_definitions.specs.Removal.{begins_removal, is_lost, is_of, left, mounts}
 use Rattle.tree_definitions.specs.Tree.{FileTree}
@@ -106,3 +106,19 @@ module _ (server keeps : ℕ) where
       inside : (b : Bool) → x ∷ (if b then list else list ++ s ∷ []) ≡ (if b then x ∷ list else x ∷ (list ++ s ∷ []))
       inside true = refl
       inside false = refl
+
+  -- ---- a mount of the server: nothing before it is removed
+
+  and_not_true : (b : Bool) → b && not true ≡ false
+  and_not_true true = refl
+  and_not_true false = refl
+
+  begins_never : (t : FileTree) (x : Settled) (rest : List Settled) (s : Settled) → mounts server s ≡ true → begins_removal server keeps t x (rest ++ s ∷ []) ≡ false
+  begins_never t x rest s is =
+      ap (λ b. is_lost server keeps t x && not b) (any_more (mounts server) rest s ∙ ap (λ b. list_any (mounts server) rest || b) is ∙ or-true (list_any (mounts server) rest))
+      ∙ and_not_true (is_lost server keeps t x)
+
+  -- where it isn't lost itself
+  pub mounted_whole : (t : FileTree) (list : List Settled) (s : Settled) → mounts server s ≡ true → is_lost server keeps (after_all t list) s ≡ false → is_cut t (list ++ s ∷ []) ≡ false
+  mounted_whole t [] s is none = or-false (begins_removal server keeps t s []) ∙ and-true (is_lost server keeps t s) ∙ none
+  mounted_whole t (x ∷ list) s is none = ap (λ b. b || is_cut (after t x) (list ++ s ∷ [])) (begins_never t x list s is) ∙ mounted_whole (after t x) list s is none

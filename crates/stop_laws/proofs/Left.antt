@@ -42,7 +42,7 @@ module _ (segments : ℕ) (when : ℕ → ℕ) (first_tree : FileTree) (numbers 
     (begins : StandsNumbered segments w.opening (numbered first_tree numbers)) (legal : IsLegal (sector_plan segments when) w)
     (distinct : Distinct (MayNumber numbers) first_tree (settled w.history)) (good : Good w)
     (follows : Follows segments w.opening w.home w.logged w.first []) (told : on_sectors h ≡ w.history) (paired : ArePaired segments when w.opening first_tree numbers h)
-    (logs : (server : ℕ) → w.phase server ≢ Off → IsKeptBy server (greatest server) (w.durable server) (settled w.history))
+    (logs : (server : ℕ) → w.phase server ≢ Off → IsKeptBy server (greatest server) (w.durable server) (settle first_tree h))
     (sight : IsInSight w) (said : SaidWhereItHappened segments when w.opening h) (synced : AllSaidAtOnce h)
     (knows : KnowsCells segments w.opening w.logged w.first first_tree []) where
   deeds : List Deed

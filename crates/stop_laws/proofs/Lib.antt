@@ -53,3 +53,6 @@ pub mod Left
 pub mod Begun
 pub mod Beginning
 pub mod Example
+pub mod Closed
+pub mod Pairs
+pub mod Legal

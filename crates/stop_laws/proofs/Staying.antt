@@ -1,7 +1,7 @@
 -- What a recovery leaves of deeds is what it leaves of their steps on the side of the tree, and of their operations on the side of sectors.
 use Rattle.std.proofs.Common.{ℕ, ◌≡◌, ◌≢◌, ◌≤◌, ◌<◌, ◌==◌, ◌&&◌, ◌||◌, ◌↔◌, not, Bool, true, false, nat_eq, nat_lt, nat_le, if◌then◌else◌, List, [], ◌∷◌, ◌++◌, refl, sym, ◌∙◌, ap, arith, append-nil}
 use Rattle.std.proofs.lemmas.Bool.Decides.{nat_tests}
-use Rattle.std.proofs.lemmas.Bool.{and_right, eq-eqb, lt-ltb, eqb-true}
+use Rattle.std.proofs.lemmas.Bool.{and_right, eq-eqb, lt-ltb, eqb-true, or_parts}
 use mathlib.Core.Bool.{and-false, and-true, or-false, or-true}
 use Rattle.frang_base.specs.Functions.{keep_if}
 use Rattle.frang_base.specs.declared.change.Change.{Change}
@@ -14,8 +14,8 @@ use Rattle.sector_world.specs.Histories.{Commit, Each, OpsRise, is_own, kept, su
 use Rattle.sector_world.specs.Histories.Item.{Done, Doubt}
 use Rattle.byte_trees.specs.Deeds.{Deed, Does, Says, Doubts, items, step_of, steps, tree_after}
 use Rattle.stop_laws.specs.Happened.{has_lost, what_stays}
-use Rattle.stop_laws.specs.Paired.{BeginsWithARecord}
-use Rattle.stop_laws.proofs.Leaving.{is_cut, others, cut_after, whole, whole_up_to}
+use Rattle.stop_laws.specs.Paired.{AreKeptSinceMount, BeginsWithARecord}
+use Rattle.stop_laws.proofs.Leaving.{is_cut, others, cut_after, mounted_whole, whole, whole_up_to}
 
 -- ---- on the side of sectors
 
@@ -36,6 +36,14 @@ items_stay server durable (Says e ∷ older) = go (not (e.server.0 == server && 
 items_stay server durable (Doubts marked runs ∷ older) = ap (λ l. Doubt marked ∷ l) (items_stay server durable older)
 
 -- ---- on the side of the tree
+
+and_first : (a b : Bool) → a && b ≡ true → a ≡ true
+and_first true b e = refl
+and_first false b e = e
+
+and_second : (a b : Bool) → a && b ≡ true → b ≡ true
+and_second true b e = e
+and_second false b e = absurd (cc)
 
 module _ (server greatest durable : ℕ) (first : FileTree) where
   -- What is asked of each deed at its place: of an operation its entry has its server and number, mounts nothing, and has a record exactly where the operation
@@ -231,6 +239,41 @@ module _ (server greatest durable : ℕ) (first : FileTree) where
             (ap (λ b. keep_if (not b) (Says e) (what_stays server durable older)) (ap (λ b. e.server.0 == server && b) none ∙ and-false (e.server.0 == server)))
             none none (ap (λ b. e.server.0 == server && nat_lt greatest e.number.0 && b) told.0 ∙ and-false (e.server.0 == server && nat_lt greatest e.number.0))
 
+  -- ---- a mount of the server, behind which nothing is lost
+
+  module _ (e : Entry) (older : List Deed) (told : AllAsked (Says e ∷ older)) (is : mounts server (Stays e) ≡ true) where
+    none : has_lost server durable older ≡ false
+    none = go (has_lost server durable older) refl
+      where
+        own : e.server.0 ≡ server
+        own = eqb-true e.server.0 server (and_first (e.server.0 == server) (is_mounted e.reply) is)
+
+        go : (b : Bool) → has_lost server durable older ≡ b → has_lost server durable older ≡ false
+        go false lost = lost
+        go true lost = absurd (some_above older lost (told.1 (and_second (e.server.0 == server) (is_mounted e.reply) is) own))
+
+    stay_all : (deeds : List Deed) → has_lost server durable deeds ≡ false → what_stays server durable deeds ≡ deeds
+    stay_all [] lost = refl
+    stay_all (Does c d ∷ rest) lost =
+        let p = or_parts (is_own server durable c) (has_lost server durable rest) lost in
+        ap (λ b. keep_if b (Does c d) (what_stays server durable rest)) (flip (survives server durable c) (sym (own_flips c) ∙ p.0)) ∙ ap (λ l. Does c d ∷ l) (stay_all rest p.1)
+      where
+        flip : (b : Bool) → not b ≡ false → b ≡ true
+        flip true e = refl
+        flip false e = absurd (cc)
+    stay_all (Says d ∷ rest) lost =
+        ap (λ b. keep_if (not b) (Says d) (what_stays server durable rest)) (ap (λ b. d.server.0 == server && b) lost ∙ and-false (d.server.0 == server)) ∙ ap (λ l. Says d ∷ l) (stay_all rest lost)
+    stay_all (Doubts marked runs ∷ rest) lost = ap (λ l. Doubts marked runs ∷ l) (stay_all rest lost)
+
+    mounted : StaysAlike (Says e ∷ older)
+    mounted =
+        let cut : is_cut server greatest first (steps (Says e ∷ older)) ≡ false =
+        mounted_whole server greatest first (steps older) (Stays e) is
+        (ap (λ b. e.server.0 == server && nat_lt greatest e.number.0 && b) told.0 ∙ and-false (e.server.0 == server && nat_lt greatest e.number.0)) in (
+          cut ∙ sym none,
+          whole server greatest first (steps (Says e ∷ older)) cut ∙ sym (ap steps (stay_all (Says e ∷ older) none)),
+        )
+
   -- ---- the end of a recovery
 
   module _ (marked : ℕ → Bool) (runs : List CellRun) (older : List Deed) (before : StaysAlike older) where
@@ -243,11 +286,14 @@ module _ (server greatest durable : ℕ) (first : FileTree) where
 
   -- ---- all of them
 
-  pub stay_alike : (deeds : List Deed) → AllAsked deeds → OpsRise (items deeds) → greatest ≤ durable →
-      Each (λ c. c.by ≡ server → c.op ≤ durable → c.changes ≢ [] → c.op ≤ greatest) (items deeds) →
+  pub stay_alike : (deeds : List Deed) → AllAsked deeds → OpsRise (items deeds) → greatest ≤ durable → AreKeptSinceMount server greatest durable deeds →
       BeginsWithARecord server durable (items deeds) → StaysAlike deeds
   stay_alike [] told rises within records begins = (refl, refl)
   stay_alike (Does c e ∷ older) told rises within records begins =
       acts c e older told rises within records.0 begins.0 (stay_alike older told.4 rises.1 within records.1 begins.1)
-  stay_alike (Says e ∷ older) told rises within records begins = speaks e older told (stay_alike older told.2 rises within records begins)
+  stay_alike (Says e ∷ older) told rises within records begins = go (mounts server (Stays e)) refl (λ kept. stay_alike older told.2 rises within kept begins)
+    where
+      go : (b : Bool) → mounts server (Stays e) ≡ b → (AreKeptSinceMount server greatest durable older → StaysAlike older) → StaysAlike (Says e ∷ older)
+      go true is before = mounted e older told is
+      go false is before = speaks e older told (before (records is))
   stay_alike (Doubts marked runs ∷ older) told rises within records begins = doubts marked runs older (stay_alike older told rises within records begins)

@@ -1,13 +1,16 @@
 -- At a stop of all servers a history that is told twice settles alike on both sides, with the recoveries of all logs in their order.
-use Rattle.std.proofs.Common.{ℕ, zero, suc, ◌≡◌, ◌≢◌, ◌≤◌, Bool, true, false, List, [], ◌∷◌, refl, sym, ◌∙◌, ap, ap₂, subst, arith}
+use Rattle.std.proofs.Common.{◌==◌, ◌&&◌, not, nat_eq, ℕ, zero, suc, ◌≡◌, ◌≢◌, ◌≤◌, Bool, true, false, List, [], ◌∷◌, refl, sym, ◌∙◌, ap, ap₂, subst, arith}
 use Rattle.frang_base.specs.Functions.{keep_if}
+use Rattle.std.proofs.lemmas.Bool.{eqb-true, ne_eqb}
 use Rattle.frang_base.proofs.Basics.{by_keep}
+use Rattle.tree_definitions.specs.History.{CellRun, Stays}
+use Rattle.tree_definitions.specs.Removal.{doubtful, mounts}
+use Rattle.tree_definitions.specs.Touched.{is_mounted}
 use Rattle.tree_definitions.specs.Tree.{FileTree}
-use Rattle.sector_world.specs.Histories.{Commit, Each, Item, OpsRise, kept, recovered, settled, survives, synced_of}
+use Rattle.sector_world.specs.Histories.{Commit, Each, Item, OpsRise, in_doubt, kept, recovered, settled, survives, synced_of}
 use Rattle.sector_world.specs.Histories.Item.{Done, Doubt}
 use Rattle.sector_world.specs.Plans.{Legal}
 use Rattle.sector_world.specs.Seen.{Unsynced}
-use Rattle.sector_world.proofs.HistoryLaws.{each_kept}
 use Rattle.sector_world.proofs.Removals.{survives_other}
 use Rattle.sector_world.specs.Claims.{left, left_by}
 use Rattle.sector_world.specs.Kinds.{Good}
@@ -15,16 +18,18 @@ use Rattle.sector_world.specs.Planned.{IsLegal}
 use Rattle.sector_world.specs.Trees.{Distinct}
 use Rattle.sector_world.specs.World.{World, Phase}
 use Rattle.sector_world.specs.World.Phase.{Off, Up, Dead}
-use Rattle.sector_world.proofs.Left.{by_phase, fine_left, legal_left}
+use Rattle.sector_world.proofs.Left.{fine_left, legal_left}
 use Rattle.line_histories.specs.LinePlans.{sector_plan}
 use Rattle.line_histories.proofs.Framed.{lines_framed}
 use Rattle.line_histories.specs.Standing.{StandsNumbered}
 use Rattle.line_histories.specs.Trees.{AreTimes, MayNumber}
 use Rattle.line_histories.proofs.Following.{distinct_left}
 use Rattle.line_histories.proofs.Runs.{numbered}
-use Rattle.stop_laws.specs.Happened.{Happening, Recovers, on_sectors, settle}
-use Rattle.stop_laws.specs.Paired.{AreLines, ArePaired, BeginsWithARecord, IsKeptBy}
+use Rattle.byte_trees.specs.Deeds.{Deed, Does, Says, Doubts, items, steps}
+use Rattle.stop_laws.specs.Happened.{Happening, Recovers, has_lost, on_sectors, settle, what_stays}
+use Rattle.stop_laws.specs.Paired.{AreKeptSinceMount, AreLines, ArePaired, BeginsWithARecord, IsKeptBy}
 use Rattle.stop_laws.specs.Settling.{SettlesAlike, StopsAlike, StopsSettleAlike, recovers_by, stopped}
+use Rattle.stop_laws.proofs.Staying.{items_stay}
 use Rattle.stop_laws.proofs.Histories.{histories_settle_alike, lines_settle}
 
 -- ---- what recoveries of other servers' logs leave of a server's operations
@@ -54,11 +59,32 @@ module _ (server other durable : ℕ) (far : server ≢ other) (number : ℕ) wh
       by_keep (BeginsWithARecord server durable) (survives other number c) (Done c) (kept (survives other number) h)
       (λ stays. ((λ same above low. begins.0 same above (low_back h low)), begins_kept h begins.1)) (λ goes. begins_kept h begins.1)
 
-  pub others_leave : (greatest synced : ℕ) (h : List Item) → IsKeptBy server greatest durable h → IsKeptBy server greatest durable (recovered other number synced h)
-  others_leave greatest synced h its = record {
+  records_stay : (greatest : ℕ) (deeds : List Deed) → AreKeptSinceMount server greatest durable deeds → AreKeptSinceMount server greatest durable (what_stays other number deeds)
+  records_stay greatest [] kept = tt
+  records_stay greatest (Does c e ∷ older) kept =
+      by_keep (AreKeptSinceMount server greatest durable) (survives other number c) (Does c e) (what_stays other number older) (λ stays. (kept.0, records_stay greatest older kept.1))
+      (λ goes. records_stay greatest older kept.1)
+  records_stay greatest (Says e ∷ older) kept = go (e.server.0 == other && has_lost other number older) refl (λ k. records_stay greatest older k)
+    where
+      go : (b : Bool) → e.server.0 == other && has_lost other number older ≡ b →
+          (AreKeptSinceMount server greatest durable older → AreKeptSinceMount server greatest durable (what_stays other number older)) →
+          AreKeptSinceMount server greatest durable (keep_if (not b) (Says e) (what_stays other number older))
+      go false is later = λ none. later (kept none)
+      go true is later = later (kept (another (e.server.0 == other) refl is))
+        where
+          another : (b : Bool) → e.server.0 == other ≡ b → b && has_lost other number older ≡ true → mounts server (Stays e) ≡ false
+          another true same lost =
+              ap (λ n. nat_eq n server && is_mounted e.reply) (eqb-true e.server.0 other same)
+              ∙ ap (λ b. b && is_mounted e.reply) (ne_eqb other server (λ e. far (sym e)))
+          another false same lost = absurd (cc)
+  records_stay greatest (Doubts marked runs ∷ older) kept = records_stay greatest older kept
+
+  pub others_leave : (greatest : ℕ) (deeds : List Deed) (marked : ℕ → Bool) (runs : List CellRun) → IsKeptBy server greatest durable deeds →
+      IsKeptBy server greatest durable (Doubts marked runs ∷ what_stays other number deeds)
+  others_leave greatest deeds marked runs its = record {
     within = its.within;
-    records = each_kept (λ c. c.by ≡ server → c.op ≤ durable → c.changes ≢ [] → c.op ≤ greatest) (survives other number) h its.records;
-    begins = begins_kept h its.begins;
+    records = records_stay greatest deeds its.records;
+    begins = subst (BeginsWithARecord server durable) (sym (items_stay other number deeds)) (begins_kept (items deeds) its.begins);
   }
 
 -- what is left at a stop: alike on both sides, of lines, with new numbers
@@ -71,13 +97,24 @@ module _ (segments : ℕ) (when : ℕ → ℕ) (times : AreTimes when) (first : 
     (begins : StandsNumbered segments w.opening (numbered first numbers)) (legal : IsLegal (sector_plan segments when) w)
     (distinct : Distinct (MayNumber numbers) first (settled w.history))
     (good : Good w) (told : on_sectors h ≡ w.history) (paired : ArePaired segments when w.opening first numbers h)
-    (logs : (server : ℕ) → w.phase server ≢ Off → IsKeptBy server (greatest server) (w.durable server) (settled w.history)) where
-  kept_left : (server : ℕ) → w.phase server ≢ Off → (n : ℕ) → n ≤ server → IsKeptBy server (greatest server) (w.durable server) (left w n)
+    (logs : (server : ℕ) → w.phase server ≢ Off → IsKeptBy server (greatest server) (w.durable server) (settle first h)) where
+  kept_left : (server : ℕ) → w.phase server ≢ Off → (n : ℕ) → n ≤ server → IsKeptBy server (greatest server) (w.durable server) (settle first (stopped w greatest n h))
   kept_left server on zero low = logs server on
-  kept_left server on (suc n) low =
-      let before = kept_left server on n (omega arith) in
-      by_phase (IsKeptBy server (greatest server) (w.durable server)) (w.phase n) n (w.durable n) (w.synced n) (left w n) (λ off. before)
-      (others_leave server n (w.durable server) (λ e. absurd (omega arith)) (w.durable n) (greatest server) (w.synced n) (left w n) before)
+  kept_left server on (suc n) low = go (w.phase n) (kept_left server on n (omega arith))
+    where
+      more : IsKeptBy server (greatest server) (w.durable server) (settle first (stopped w greatest n h)) →
+          IsKeptBy server (greatest server) (w.durable server) (settle first (Recovers n (greatest n) (w.durable n) ∷ stopped w greatest n h))
+      more before =
+          let stays : List Deed = what_stays n (w.durable n) (settle first (stopped w greatest n h)) in
+          let synced : ℕ = synced_of n (on_sectors (stopped w greatest n h)) in
+          others_leave server n (w.durable server) (λ e. absurd (omega arith)) (w.durable n) (greatest server) (settle first (stopped w greatest n h))
+          (in_doubt n synced (items stays)) (doubtful n first (steps stays)) before
+
+      go : (p : Phase) → IsKeptBy server (greatest server) (w.durable server) (settle first (stopped w greatest n h)) →
+          IsKeptBy server (greatest server) (w.durable server) (settle first (recovers_by p n (greatest n) (w.durable n) (stopped w greatest n h)))
+      go Off before = before
+      go Up before = more before
+      go Dead before = more before
 
   -- the history with the recoveries of the first logs is paired, and settles as what is left after them
   pub record IsStage (now : List Happening) (items_left : List Item) : Type 0 where
@@ -86,16 +123,16 @@ module _ (segments : ℕ) (when : ℕ → ℕ) (times : AreTimes when) (first : 
     pub unsynced : (server durable : ℕ) → Unsynced server durable w.history → Unsynced server durable (on_sectors now)
     pub synced : (server : ℕ) → synced_of server (on_sectors now) ≡ synced_of server w.history
 
-  one_more : (n : ℕ) → w.phase n ≢ Off → (now : List Happening) → IsStage now (left w n) →
+  one_more : (n : ℕ) → (now : List Happening) → IsKeptBy n (greatest n) (w.durable n) (settle first now) → IsStage now (left w n) →
       IsStage (Recovers n (greatest n) (w.durable n) ∷ now) (recovered n (w.durable n) (w.synced n) (left w n))
-  one_more n on now stage = record {
+  one_more n now kept stage = record {
     paired_now = (
       record {
         legal = subst (Legal (sector_plan segments when) w.opening) (sym stage.settles) (legal_left (sector_plan segments when) (lines_framed segments when) w good legal.live n);
         distinct = subst (Distinct (MayNumber numbers) first) (sym stage.settles) (distinct_left numbers first w distinct n);
         rises = subst OpsRise (sym stage.settles) (fine_left w good n).ops;
         unsynced = stage.unsynced n (w.durable n) (good.logged.unsynced n);
-        kept_by = subst (IsKeptBy n (greatest n) (w.durable n)) (sym stage.settles) (kept_left n on n (omega arith));
+        kept_by = kept;
       },
       stage.paired_now,
     );
@@ -104,11 +141,11 @@ module _ (segments : ℕ) (when : ℕ → ℕ) (times : AreTimes when) (first : 
     synced = stage.synced;
   }
 
-  by_stage : (n : ℕ) (now : List Happening) → IsStage now (left w n) → (p : Phase) → w.phase n ≡ p →
+  by_stage : (n : ℕ) (now : List Happening) → (w.phase n ≢ Off → IsKeptBy n (greatest n) (w.durable n) (settle first now)) → IsStage now (left w n) → (p : Phase) → w.phase n ≡ p →
       IsStage (recovers_by p n (greatest n) (w.durable n) now) (left_by p n (w.durable n) (w.synced n) (left w n))
-  by_stage n now stage Off is = stage
-  by_stage n now stage Up is = one_more n (λ off. let z : Up ≡ Off = sym is ∙ off in cc) now stage
-  by_stage n now stage Dead is = one_more n (λ off. let z : Dead ≡ Off = sym is ∙ off in cc) now stage
+  by_stage n now kept stage Off is = stage
+  by_stage n now kept stage Up is = one_more n now (kept (λ off. let z : Up ≡ Off = sym is ∙ off in cc)) stage
+  by_stage n now kept stage Dead is = one_more n now (kept (λ off. let z : Dead ≡ Off = sym is ∙ off in cc)) stage
 
   pub stages : (n : ℕ) → IsStage (stopped w greatest n h) (left w n)
   stages zero = record {
@@ -117,7 +154,7 @@ module _ (segments : ℕ) (when : ℕ → ℕ) (times : AreTimes when) (first : 
     unsynced = λ server durable u. subst (Unsynced server durable) (sym told) u;
     synced = λ server. ap (synced_of server) told;
   }
-  stages (suc n) = by_stage n (stopped w greatest n h) (stages n) (w.phase n) refl
+  stages (suc n) = by_stage n (stopped w greatest n h) (λ on. kept_left n on n (omega arith)) (stages n) (w.phase n) refl
 
   last : IsStage (stopped w greatest w.servers h) (left w w.servers)
   last = stages w.servers

@@ -1,8 +1,8 @@
 -- An operation of a legal history of lines uses the locks of what its entry touches: by the laws of lines, over a store with the bytes of the tree.
-use Rattle.std.proofs.Common.{ℕ, ◌≡◌, ◌≢◌, ◌==◌, ◌||◌, ⊎_elim, not, true, false, Option, Some, None, List, [], ◌∷◌, ◌++◌, map, is_some, eqb-true, refl, sym, ◌∙◌, ap, ap₂, subst}
+use Rattle.std.proofs.Common.{ℕ, ◌≡◌, ◌≢◌, ◌==◌, ◌||◌, ⊎_elim, not, Bool, true, false, Option, Some, None, List, [], ◌∷◌, ◌++◌, map, is_some, eqb-true, refl, sym, ◌∙◌, ap, ap₂, subst}
 use Rattle.std.proofs.lemmas.Bool.{and_parts, or_cases}
 use Rattle.std.proofs.lemmas.List.Elements.{Contains-append_left}
-use Rattle.std.specs.List.{Contains, list_any}
+use Rattle.std.specs.List.{Contains, filter_map, list_any}
 use Rattle.frang_base.specs.Locks.{has_lock}
 use Rattle.frang_base.specs.declared.lock.LockId.{LockId}
 use Rattle.frang_base.specs.declared.lock.LockId.TheVariants as lock
@@ -17,7 +17,7 @@ use Rattle.tree_definitions.specs.declared.node.Node.{Node}
 use Rattle.tree_definitions.specs.Apply.{Applied}
 use Rattle.tree_definitions.specs.History.{applied, is_answer, told_blocks}
 use Rattle.tree_definitions.specs.Perform.{Step, Goes, Stops, perform, resolved}
-use Rattle.tree_definitions.specs.Touched.{changes, differs, further, looked_in, same_where, shape_of, touches, visited, shaped}
+use Rattle.tree_definitions.specs.Touched.{changed, changes, changes_room, differs, other_room, further, looked_in, same_where, shape_of, touches, visited, shaped}
 use Rattle.tree_definitions.specs.Tree.{FileTree, node_at}
 use Rattle.tree_definitions.specs.WellFormed.{IsNew, IsWellFormed}
 use Rattle.tree_laws.proofs.Sameness.{where_same}
@@ -29,6 +29,7 @@ use Rattle.sector_world.specs.Histories.Item.{Done, Doubt}
 use Rattle.sector_world.specs.Plans.{Legal, Outcome, outcome_of}
 use Rattle.sector_world.specs.Trees.{Distinct, tree_of}
 use Rattle.disk_definitions.specs.Naming.{Naming}
+use Rattle.disk_definitions.specs.Standing.{IsReached}
 use Rattle.disk_definitions.specs.Store.{Store}
 use Rattle.disk_definitions.specs.ChangeLaws.{FilesFit}
 use Rattle.disk_definitions.specs.Ask.{run}
@@ -42,10 +43,13 @@ use Rattle.line_laws.specs.Stores.{with_bytes}
 use Rattle.disk_definitions.specs.Lines.{plan_of_line}
 use Rattle.line_laws.proofs.Covered.{line_changes_alone, line_nodes_held}
 use Rattle.line_laws.proofs.Planned.{lines_planned}
+use Rattle.line_laws.proofs.NodeLaws.{line_room_alone}
 use Rattle.line_histories.specs.Guards.{IsClear}
-use Rattle.line_histories.specs.LinePlans.{hand_on, lock_in, sector_plan, segment_lock, store_on, without_bytes}
+use Rattle.line_histories.specs.LinePlans.{hand_on, lock_in, sector_plan, segment_lock, sole_in, store_on, without_bytes}
 use Rattle.line_histories.specs.Outcomes.{IsOfAPlan}
 use Rattle.line_histories.specs.Planners.{finish_shape, plan_shape}
+use Rattle.plan_laws.specs.Locks.{IsSole}
+use Rattle.line_histories.proofs.Guarded.{sole_alone}
 use Rattle.line_histories.proofs.AllBlind.{bytes_dont_decide}
 use Rattle.line_histories.proofs.Hands.{is_hand}
 use Rattle.line_histories.proofs.Outcomes.{outcomes_of_plans}
@@ -58,11 +62,12 @@ use Rattle.byte_trees.specs.Deeds.{Deed, Does, items, tree_after}
 use Rattle.stop_laws.specs.Along.{HasShape}
 use Rattle.stop_laws.proofs.BytesCovered.{is_used}
 use Rattle.byte_trees.proofs.Nodes.{well_too}
+use Rattle.byte_trees.proofs.Filling.{reached_too}
 use Rattle.stop_laws.proofs.BytesTold.{told_same}
 use Rattle.stop_laws.specs.Paired.{AreLines, AreOfOneLine}
 use Rattle.stop_laws.proofs.Lines.{shapes_follow, no_node}
 use Rattle.stop_laws.proofs.Counted.{directories_few}
-use Rattle.stop_laws.specs.Locks.{LinesUseTheirLocks, UsesItsLocks}
+use Rattle.stop_laws.specs.Locks.{HasAloneWhatItChanges, LinesHaveAloneWhatTheyChange, LinesTakeRoomAlone, TakesRoomAlone, LinesUseTheirLocks, UsesItsLocks}
 use Rattle.stop_laws.proofs.Bytes.{large_byte, says_the_tree, small_byte}
 use Rattle.stop_laws.proofs.Operation.{fit_back}
 
@@ -117,6 +122,14 @@ is_like (Clears block locks) f e = absurd (cc)
 is_like (Finishes g) f e =
     let same : finish_shape g ≡ finish_shape f = cc in
     record { finish = g; is = refl; locks = ap (λ (z : Finish). z.locks) same; reply = ap (λ (z : Finish). z.reply) same }
+
+any_true : (f : ℕ → Bool) (xs : List ℕ) → list_any f xs ≡ true → (b : ℕ) × (f b ≡ true)
+any_true f [] e = absurd (cc)
+any_true f (x ∷ xs) e = go (f x) refl e (any_true f xs)
+  where
+    go : (b : Bool) → f x ≡ b → b || list_any f xs ≡ true → (list_any f xs ≡ true → (b : ℕ) × (f b ≡ true)) → (b : ℕ) × (f b ≡ true)
+    go true is some rest = (x, is)
+    go false is some rest = rest some
 
 -- ---- an operation over sectors that stand for the shape of a tree
 
@@ -190,11 +203,11 @@ module _ (segments : ℕ) (when : ℕ → ℕ) (disk : Sectors) (tree t : FileTr
   abbrev over : Applied
   over = perform t c.asked c.op (when c.op) ever
 
+  keeps : FinishKeeps store t n over like.finish
+  keeps = subst (PlanKeeps hand store t n over) like.is (lines_planned c.asked hand store t n c.op (when c.op) ever of_it at_hand_of_it new files)
+
   answers : Answers over.answer like.finish.reply
   answers = keeps.meets.answer
-    where
-      keeps : FinishKeeps store t n over like.finish
-      keeps = subst (PlanKeeps hand store t n over) like.is (lines_planned c.asked hand store t n c.op (when c.op) ever of_it at_hand_of_it new files)
 
   applied_is : applied t e ≡ over
   applied_is =
@@ -209,6 +222,30 @@ module _ (segments : ℕ) (when : ℕ → ℕ) (disk : Sectors) (tree t : FileTr
       (line_changes_alone c.asked hand store t n c.op (when c.op) ever like.finish of_it at_hand_of_it new (λ writes. files) like.is b there
       (another t over.tree b (subst (λ (a : Applied). differs t a.tree b ≡ true) applied_is other)))
 
+  had_alone : (id : LockId) → IsSole like.finish.locks id → has_lock id c.alone ≡ true
+  had_alone id sole =
+      ap (λ (q : Outcome). has_lock id q.alone) plan.comes.outcome
+      ∙ is_used (filter_map sole_in plan.comes.finish.locks) id (sole_alone plan.comes.finish.locks id (subst (λ locks. IsSole locks id) like.locks sole))
+
+  pub changed_alone : (b : ℕ) → is_some (node_at (shape_of t) b) ≡ true → changes t e b ≡ true → has_lock (lock.Node (n.inode b)) c.alone ≡ true
+  changed_alone b there some =
+      had_alone (lock.Node (n.inode b))
+      (line_changes_alone c.asked hand store t n c.op (when c.op) ever like.finish of_it at_hand_of_it new (λ writes. files) like.is b (some_back (node_at t b) (sym (ap is_some (found t b)) ∙ there))
+      (another t over.tree b (subst (λ (a : Applied). differs t a.tree b ≡ true) applied_is (and_parts (is_answer t e) (differs t (applied t e).tree b) some).1)))
+
+  -- ---- room
+
+  reached : IsReached (node_at t)
+  reached = reached_too (node_at t) n (subst IsReached (λ i. λ b. found t b i) (subst (λ (u : FileTree). IsReached (node_at u)) (sym shapes) stands.below.stands.reached))
+
+  pub room_alone : changes_room t e ≡ true → (segment : ℕ) × (has_lock (lock.Segment segment) c.alone ≡ true)
+  room_alone takes =
+      let some = any_true (λ b. other_room (node_at t b) (node_at (applied t e).tree b)) (changed t e) takes in
+      let held =
+      line_room_alone c.asked hand store t n keeps.meets.naming c.op (when c.op) ever like.finish of_it reached at_hand_of_it new files like.is keeps.meets.tree some.0
+      (subst (λ (a : Applied). other_room (node_at t some.0) (node_at a.tree some.0) ≡ true) applied_is some.1) in
+      (held.0, had_alone (lock.Segment held.0) held.2)
+
   pub touched_used : (b : ℕ) → is_some (node_at (shape_of t) b) ≡ true → touches t e b ≡ true → has_lock (lock.Node (n.inode b)) c.uses ≡ true
   touched_used b there touched =
       let visits = list_any (λ x. x == b) ((resolved t e.op).trail ++ visited t (resolved t e.op).step e.reply) in
@@ -218,7 +255,7 @@ module _ (segments : ℕ) (when : ℕ → ℕ) (disk : Sectors) (tree t : FileTr
 -- ---- along deeds
 
 module _ (when : ℕ → ℕ) (first : FileTree) (numbers : List ℕ) where
-  same_tree : (h : List Item) → (tree_of (performed_numbered when) (numbered first numbers) h).tree ≡ tree_of (performed when) first h
+  pub same_tree : (h : List Item) → (tree_of (performed_numbered when) (numbered first numbers) h).tree ≡ tree_of (performed when) first h
   same_tree [] = refl
   same_tree (Done c ∷ h) = ap (λ u. (performed when c.op c.asked c.blocks u).tree) (same_tree h)
   same_tree (Doubt marked ∷ h) = same_tree h
@@ -252,6 +289,24 @@ module _ (segments : ℕ) (when : ℕ → ℕ) (opening : ℕ → Block) (first 
       touched_used segments when (logical opening (items older)) tree t stands shape (well_too tree t (sym shape) stands.well_formed) c e lines.0 new
       (outcomes_of_plans plan_of_line segments when c.hint c.op c.asked (logical opening (items older)) (outcome_of c) legal.0) n of b there touched
 
+  pub alone : HasAloneWhatItChanges segments opening first c e older
+  alone b n of there changed =
+      changed_alone segments when (logical opening (items older)) tree t stands shape (well_too tree t (sym shape) stands.well_formed) c e lines.0 new
+      (outcomes_of_plans plan_of_line segments when c.hint c.op c.asked (logical opening (items older)) (outcome_of c) legal.0) n of b there changed
+
+  pub room : TakesRoomAlone segments opening first c e older
+  room n of takes =
+      room_alone segments when (logical opening (items older)) tree t stands shape (well_too tree t (sym shape) stands.well_formed) c e lines.0 new
+      (outcomes_of_plans plan_of_line segments when c.hint c.op c.asked (logical opening (items older)) (outcome_of c) legal.0) n of takes
+
 pub lines_use : LinesUseTheirLocks
 lines_use segments when opening first numbers c e older times begins legal distinct lines =
     uses segments when opening first numbers c e older times begins legal distinct lines
+
+pub lines_have_alone : LinesHaveAloneWhatTheyChange
+lines_have_alone segments when opening first numbers c e older times begins legal distinct lines =
+    alone segments when opening first numbers c e older times begins legal distinct lines
+
+pub lines_take_room_alone : LinesTakeRoomAlone
+lines_take_room_alone segments when opening first numbers c e older times begins legal distinct lines =
+    room segments when opening first numbers c e older times begins legal distinct lines

@@ -11,7 +11,7 @@ use Rattle.sector_world.specs.World.Phase.{Off}
 use Rattle.line_histories.specs.LinePlans.{sector_plan}
 use Rattle.line_histories.specs.Standing.{StandsNumbered}
 use Rattle.line_histories.specs.Trees.{AreTimes, MayNumber}
-use Rattle.stop_laws.specs.Happened.{Happening, on_sectors}
+use Rattle.stop_laws.specs.Happened.{Happening, on_sectors, settle}
 use Rattle.stop_laws.specs.Paired.{ArePaired, IsKeptBy}
 use Rattle.stop_laws.specs.Settling.{stopped}
 use Rattle.stop_laws.specs.Coverage.{RecoveriesRise}
@@ -34,5 +34,5 @@ StopsAreAsked =
     (segments : ℕ) (when : ℕ → ℕ) (first_tree : FileTree) (numbers : List ℕ) (w : World) (greatest : ℕ → ℕ) (h : List Happening) → AreTimes when →
     StandsNumbered segments w.opening (record { tree = first_tree; numbers = numbers }) → IsLegal (sector_plan segments when) w →
     Distinct (MayNumber numbers) first_tree (settled w.history) → Good w → on_sectors h ≡ w.history → ArePaired segments when w.opening first_tree numbers h →
-    ((server : ℕ) → w.phase server ≢ Off → IsKeptBy server (greatest server) (w.durable server) (settled w.history)) → IsInSight w →
+    ((server : ℕ) → w.phase server ≢ Off → IsKeptBy server (greatest server) (w.durable server) (settle first_tree h)) → IsInSight w →
     IsAsked segments when first_tree numbers w (stopped w greatest w.servers h)

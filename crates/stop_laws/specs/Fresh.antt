@@ -14,7 +14,7 @@ use Rattle.line_histories.specs.LinePlans.{sector_plan}
 use Rattle.line_histories.specs.Standing.{StandsNumbered}
 use Rattle.line_histories.specs.Trees.{AreTimes, MayNumber}
 use Rattle.stop_laws.specs.FreshDisks.{fresh_home, fresh_logged}
-use Rattle.stop_laws.specs.Happened.{Happening, on_sectors, on_tree}
+use Rattle.stop_laws.specs.Happened.{Happening, on_sectors, on_tree, settle}
 use Rattle.stop_laws.specs.Paired.{ArePaired, IsKeptBy}
 use Rattle.stop_laws.specs.Settling.{stopped}
 use Rattle.stop_laws.specs.Replies.{SaidWhereItHappened}
@@ -34,6 +34,6 @@ AFreshDiskStandsForTheHistory =
     (segments : ℕ) (when : ℕ → ℕ) (numbers : List ℕ) (w : World) (greatest : ℕ → ℕ) (h : List Happening) → AreTimes when → BeganFresh segments numbers w →
     IsLegal (sector_plan segments when) w → Distinct (MayNumber numbers) (fresh segments) (settled w.history) → Good w → on_sectors h ≡ w.history →
     ArePaired segments when w.opening (fresh segments) numbers h →
-    ((server : ℕ) → w.phase server ≢ Off → IsKeptBy server (greatest server) (w.durable server) (settled w.history)) →
+    ((server : ℕ) → w.phase server ≢ Off → IsKeptBy server (greatest server) (w.durable server) (settle (fresh segments) h)) →
     IsInSight w → SaidWhereItHappened segments when w.opening h → AllSaidAtOnce h →
     StandsFor (replayed w w.servers) (tree_from (fresh segments) (on_tree (stopped w greatest w.servers h)))

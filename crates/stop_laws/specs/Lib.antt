@@ -21,3 +21,6 @@ pub mod Stop
 pub mod Fresh
 pub mod Beginning
 pub mod TwoServers
+pub mod Closed
+pub mod Pairs
+pub mod Legal

@@ -1,9 +1,9 @@
 -- Operations of lines use the locks of what their entries touch.
 use Rattle.std.specs.Prelude.{◌≡◌, ℕ, true, is_some, List, ◌∷◌}
 use Rattle.frang_base.specs.Locks.{has_lock}
-use Rattle.frang_base.specs.declared.lock.LockId.TheVariants.{Node}
+use Rattle.frang_base.specs.declared.lock.LockId.TheVariants.{Node, Segment}
 use Rattle.tree_definitions.specs.declared.history.Entry.{Entry}
-use Rattle.tree_definitions.specs.Touched.{shape_of, touches}
+use Rattle.tree_definitions.specs.Touched.{changes, changes_room, shape_of, touches}
 use Rattle.tree_definitions.specs.Tree.{FileTree, node_at}
 use Rattle.sector_bytes.specs.Blocks.{Block}
 use Rattle.sector_world.specs.Histories.{Commit}
@@ -30,3 +30,27 @@ LinesUseTheirLocks =
     (segments : ℕ) (when : ℕ → ℕ) (opening : ℕ → Block) (first_tree : FileTree) (numbers : List ℕ) (c : Commit) (e : Entry) (older : List Deed) → AreTimes when →
     StandsNumbered segments opening (record { tree = first_tree; numbers = numbers }) → Legal (sector_plan segments when) opening (items (Does c e ∷ older)) →
     Distinct (MayNumber numbers) first_tree (items (Does c e ∷ older)) → AreLines when (Does c e ∷ older) → UsesItsLocks segments opening first_tree c e older
+
+-- and has alone that of each node that is there and that its entry changes
+abbrev pub HasAloneWhatItChanges : (segments : ℕ) → (ℕ → Block) → FileTree → Commit → Entry → List Deed → Type 0
+HasAloneWhatItChanges segments opening first_tree c e older =
+    (birth : ℕ) (naming : Naming) → IsOfTree (store_after segments opening (items older)) (shape_of (tree_after first_tree older)) naming →
+    is_some (node_at (shape_of (tree_after first_tree older)) birth) ≡ true → changes (tree_after first_tree older) e birth ≡ true → has_lock (Node (naming.inode birth)) c.alone ≡ true
+
+abbrev pub LinesHaveAloneWhatTheyChange : Type 0
+LinesHaveAloneWhatTheyChange =
+    (segments : ℕ) (when : ℕ → ℕ) (opening : ℕ → Block) (first_tree : FileTree) (numbers : List ℕ) (c : Commit) (e : Entry) (older : List Deed) → AreTimes when →
+    StandsNumbered segments opening (record { tree = first_tree; numbers = numbers }) → Legal (sector_plan segments when) opening (items (Does c e ∷ older)) →
+    Distinct (MayNumber numbers) first_tree (items (Does c e ∷ older)) → AreLines when (Does c e ∷ older) → HasAloneWhatItChanges segments opening first_tree c e older
+
+-- and where it makes or frees a node or changes a node's number of blocks, the lock of a segment
+abbrev pub TakesRoomAlone : (segments : ℕ) → (ℕ → Block) → FileTree → Commit → Entry → List Deed → Type 0
+TakesRoomAlone segments opening first_tree c e older =
+    (naming : Naming) → IsOfTree (store_after segments opening (items older)) (shape_of (tree_after first_tree older)) naming →
+    changes_room (tree_after first_tree older) e ≡ true → (segment : ℕ) × (has_lock (Segment segment) c.alone ≡ true)
+
+abbrev pub LinesTakeRoomAlone : Type 0
+LinesTakeRoomAlone =
+    (segments : ℕ) (when : ℕ → ℕ) (opening : ℕ → Block) (first_tree : FileTree) (numbers : List ℕ) (c : Commit) (e : Entry) (older : List Deed) → AreTimes when →
+    StandsNumbered segments opening (record { tree = first_tree; numbers = numbers }) → Legal (sector_plan segments when) opening (items (Does c e ∷ older)) →
+    Distinct (MayNumber numbers) first_tree (items (Does c e ∷ older)) → AreLines when (Does c e ∷ older) → TakesRoomAlone segments opening first_tree c e older

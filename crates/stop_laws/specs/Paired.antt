@@ -2,7 +2,8 @@
 -- from the core.
 use Rattle.std.specs.Prelude.{◌≡◌, ◌≢◌, ◌≤◌, ◌<◌, ℕ, true, false, List, [], ◌∷◌}
 use Rattle.tree_definitions.specs.declared.history.Entry.{Entry}
-use Rattle.tree_definitions.specs.History.{leaves_tree}
+use Rattle.tree_definitions.specs.History.{Stays, leaves_tree}
+use Rattle.tree_definitions.specs.Removal.{mounts}
 use Rattle.tree_definitions.specs.Touched.{is_mounted}
 use Rattle.tree_definitions.specs.Tree.{FileTree}
 use Rattle.sector_bytes.specs.Blocks.{Block}
@@ -12,8 +13,8 @@ use Rattle.sector_world.specs.Seen.{Unsynced}
 use Rattle.sector_world.specs.Trees.{Distinct}
 use Rattle.line_histories.specs.LinePlans.{sector_plan, without_bytes}
 use Rattle.line_histories.specs.Trees.{MayNumber}
-use Rattle.byte_trees.specs.Deeds.{Deed, Does, Says, Doubts}
-use Rattle.stop_laws.specs.Happened.{Happening, Acts, Speaks, Mounts, Covers, Recovers, on_sectors}
+use Rattle.byte_trees.specs.Deeds.{Deed, Does, Says, Doubts, items}
+use Rattle.stop_laws.specs.Happened.{Happening, Acts, Speaks, Mounts, Covers, Recovers, on_sectors, settle}
 
 -- an operation and its entry are of one line: of one server, with one number, at the number's time, of what was asked, with one reply but for bytes, which
 -- isn't that of a mount
@@ -41,12 +42,21 @@ BeginsWithARecord server durable (Done c ∷ older) =
     (c.by ≡ server → durable < c.op → Each (λ other. other.by ≡ server → other.op ≤ durable) older → c.changes ≢ []) × BeginsWithARecord server durable older
 BeginsWithARecord server durable (Doubt marked ∷ older) = BeginsWithARecord server durable older
 
--- The core: no operation with a record lies above the greatest number of the log's records and not above the number up to which operations are durable, and
--- the first above that number has a record, which the log lost.
-pub record IsKeptBy (server greatest durable : ℕ) (h : List Item) : Type 0 where
+-- no operation with a record since the server's last mount lies above the greatest number of the log's records and not above the durable one. Of what it did before it nothing is asked:
+-- records of earlier mounts may have left the part of the log that is read
+abbrev pub AreKeptSinceMount : (server greatest durable : ℕ) → List Deed → Type 0
+AreKeptSinceMount server greatest durable [] = Unit {0}
+AreKeptSinceMount server greatest durable (Does c e ∷ older) =
+    (c.by ≡ server → c.op ≤ durable → c.changes ≢ [] → c.op ≤ greatest) × AreKeptSinceMount server greatest durable older
+AreKeptSinceMount server greatest durable (Says e ∷ older) = mounts server (Stays e) ≡ false → AreKeptSinceMount server greatest durable older
+AreKeptSinceMount server greatest durable (Doubts marked runs ∷ older) = AreKeptSinceMount server greatest durable older
+
+-- The core: since the server's last mount no operation with a record lies above the greatest number of the log's records and not above the number up to which operations
+-- are durable, and the first above that number has a record, which the log lost.
+pub record IsKeptBy (server greatest durable : ℕ) (deeds : List Deed) : Type 0 where
   pub within : greatest ≤ durable
-  pub records : Each (λ c. c.by ≡ server → c.op ≤ durable → c.changes ≢ [] → c.op ≤ greatest) h
-  pub begins : BeginsWithARecord server durable h
+  pub records : AreKeptSinceMount server greatest durable deeds
+  pub begins : BeginsWithARecord server durable (items deeds)
 
 -- What is asked where a recovery acts. The theorem on sectors: what has settled is legal, with new numbers, which rise, and no mount of the server covers an
 -- operation above the number.
@@ -55,7 +65,7 @@ pub record MayRecover (segments : ℕ) (when : ℕ → ℕ) (opening : ℕ → B
   pub distinct : Distinct (MayNumber numbers) first_tree (settled (on_sectors older))
   pub rises : OpsRise (settled (on_sectors older))
   pub unsynced : Unsynced server durable (on_sectors older)
-  pub kept_by : IsKeptBy server greatest durable (settled (on_sectors older))
+  pub kept_by : IsKeptBy server greatest durable (settle first_tree older)
 
 -- ---- along a history
 

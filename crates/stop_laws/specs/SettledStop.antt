@@ -27,6 +27,6 @@ StopsLeaveTheTree =
     StandsNumbered segments w.opening (record { tree = first_tree; numbers = numbers }) → IsLegal (sector_plan segments when) w →
     Distinct (MayNumber numbers) first_tree (settled w.history) → Good w → Follows segments w.opening w.home w.logged w.first [] → w.logged 0 ≡ true →
     on_sectors h ≡ w.history → ArePaired segments when w.opening first_tree numbers h →
-    ((server : ℕ) → w.phase server ≢ Off → IsKeptBy server (greatest server) (w.durable server) (settled w.history)) →
+    ((server : ℕ) → w.phase server ≢ Off → IsKeptBy server (greatest server) (w.durable server) (settle first_tree h)) →
     KnowsCells segments w.opening w.logged w.first first_tree (settle first_tree (stopped w greatest w.servers h)) →
     StandsFor (replayed w w.servers) (tree_from first_tree (on_tree (stopped w greatest w.servers h)))

@@ -74,4 +74,4 @@ StopsSettleAlike =
     (segments : ℕ) (when : ℕ → ℕ) (first_tree : FileTree) (numbers : List ℕ) (w : World) (greatest : ℕ → ℕ) (h : List Happening) → AreTimes when →
     StandsNumbered segments w.opening (record { tree = first_tree; numbers = numbers }) → IsLegal (sector_plan segments when) w →
     Distinct (MayNumber numbers) first_tree (settled w.history) → Good w → on_sectors h ≡ w.history → ArePaired segments when w.opening first_tree numbers h →
-    ((server : ℕ) → w.phase server ≢ Off → IsKeptBy server (greatest server) (w.durable server) (settled w.history)) → StopsAlike first_tree w greatest h
+    ((server : ℕ) → w.phase server ≢ Off → IsKeptBy server (greatest server) (w.durable server) (settle first_tree h)) → StopsAlike first_tree w greatest h

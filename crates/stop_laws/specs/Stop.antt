@@ -15,7 +15,7 @@ use Rattle.line_histories.specs.Following.{Follows}
 use Rattle.line_histories.specs.Standing.{StandsNumbered}
 use Rattle.line_histories.specs.Trees.{AreTimes, MayNumber}
 use Rattle.stop_laws.specs.Known.{KnowsCells}
-use Rattle.stop_laws.specs.Happened.{Happening, on_sectors, on_tree}
+use Rattle.stop_laws.specs.Happened.{Happening, on_sectors, on_tree, settle}
 use Rattle.stop_laws.specs.Paired.{ArePaired, IsKeptBy}
 use Rattle.stop_laws.specs.Settling.{stopped}
 use Rattle.stop_laws.specs.Replies.{SaidWhereItHappened}
@@ -30,6 +30,6 @@ TheDiskStandsForTheHistory =
     StandsNumbered segments w.opening (record { tree = first_tree; numbers = numbers }) → IsLegal (sector_plan segments when) w →
     Distinct (MayNumber numbers) first_tree (settled w.history) → Good w → Follows segments w.opening w.home w.logged w.first [] → w.logged 0 ≡ true →
     on_sectors h ≡ w.history → ArePaired segments when w.opening first_tree numbers h →
-    ((server : ℕ) → w.phase server ≢ Off → IsKeptBy server (greatest server) (w.durable server) (settled w.history)) →
+    ((server : ℕ) → w.phase server ≢ Off → IsKeptBy server (greatest server) (w.durable server) (settle first_tree h)) →
     IsInSight w → SaidWhereItHappened segments when w.opening h → AllSaidAtOnce h → KnowsCells segments w.opening w.logged w.first first_tree [] →
     StandsFor (replayed w w.servers) (tree_from first_tree (on_tree (stopped w greatest w.servers h)))

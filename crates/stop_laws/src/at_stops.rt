@@ -7,7 +7,9 @@ ghost use Rattle.stop_laws.specs.Settling.{ShapesFollow, RecordsAreLosses, Histo
 ghost use Rattle.stop_laws.specs.SettledStop.{StopsLeaveTheTree};
 ghost use Rattle.stop_laws.specs.Cells.{CellsAreKnown, DoubtCoversMarks, RepliesAreAnswers};
 ghost use Rattle.stop_laws.specs.KnownStop.{AStopLeavesTheToldTree};
-ghost use Rattle.stop_laws.specs.Locks.{LinesUseTheirLocks};
+ghost use Rattle.stop_laws.specs.Locks.{LinesHaveAloneWhatTheyChange, LinesTakeRoomAlone, LinesUseTheirLocks};
+ghost use Rattle.stop_laws.specs.Legal.{ToldHistoriesAreLegal};
+ghost use Rattle.stop_laws.specs.Pairs.{NothingLostIsTouched};
 ghost use Rattle.stop_laws.specs.Replies.{RepliesGoByWhatIsLookedAt, RepliesStay, RepliesStayAtStops};
 ghost use Rattle.stop_laws.specs.Coverage.{RemovalsKeepCoverage, HistoriesKeepCoverage};
 ghost use Rattle.stop_laws.specs.Events.{StartsAreInSight, EventsKeepSight};
@@ -15,6 +17,7 @@ ghost use Rattle.stop_laws.specs.Sight.{RemovalsKeepSight, HistoriesKeepSight, H
 ghost use Rattle.stop_laws.specs.AskedStop.{StopsAreAsked};
 ghost use Rattle.stop_laws.specs.Synced.{RemovalsKeepSyncs, HistoriesKeepSyncs};
 ghost use Rattle.stop_laws.specs.FreshDisks.{FreshDisksFollow, FreshCellsAreKnown};
+ghost use Rattle.stop_laws.specs.Closed.{DoubtStands, RecoveriesOfNothingStand};
 ghost use Rattle.stop_laws.specs.Stop.{TheDiskStandsForTheHistory};
 ghost use Rattle.stop_laws.specs.Fresh.{AFreshDiskStandsForTheHistory};
 
@@ -65,9 +68,11 @@ pub fn a_stop_leaves_the_told_tree()
 {}
 
 /// Along each legal history of lines with new numbers an operation uses the lock of each node that is there and that its entry touches: that it changes, looks
-/// a name up in, follows as a link, or reaches last. Nothing is asked of the core.
+/// a name up in, follows as a link, or reaches last; and it has alone that of each such node that its entry changes. Nothing is asked of the core.
 pub fn operations_use_their_locks()
     ensures uses { LinesUseTheirLocks }
+    ensures alone { LinesHaveAloneWhatTheyChange }
+    ensures room { LinesTakeRoomAlone }
 {}
 
 /// Where each entry says what its line's plan says over the sectors as its history had left them, each sector of bytes read as the operation showed it: so says
@@ -132,4 +137,20 @@ pub fn a_fresh_disk_begins()
 pub fn the_disk_stands_for_the_history()
     ensures stands { TheDiskStandsForTheHistory }
     ensures fresh { AFreshDiskStandsForTheHistory }
+{}
+
+/// A recovery that removes nothing leaves cells in doubt and nothing else: a disk that stood for the tree of the history stands for that of the history with it.
+pub fn recoveries_of_nothing_leave_what_stands()
+    ensures doubt { DoubtStands }
+    ensures stands { RecoveriesOfNothingStand }
+{}
+
+/// An operation of another server that comes after one that a recovery removes touches no node that is there and that this one changed.
+pub fn nothing_lost_is_touched()
+    ensures none { NothingLostIsTouched }
+{}
+
+/// A history that is told twice is legal by the rules on histories, where each number of directories' blocks that it tells may be told.
+pub fn told_histories_are_legal()
+    ensures legal { ToldHistoriesAreLegal }
 {}

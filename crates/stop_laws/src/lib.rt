@@ -17,9 +17,11 @@ mod fresh;
 pub use at_stops::{
     a_fresh_disk_begins, a_stop_leaves_the_told_tree, cells_are_known, doubt_covers_what_is_marked,
     doubt_stays_covered, entries_say_what_is_synced, events_keep_sight, histories_settle_alike,
-    lines_tell_the_same, operations_see_their_locks, operations_show_what_is_known,
-    operations_use_their_locks, replies_are_answers, replies_stay_after_removals, stops_are_asked,
-    stops_leave_the_tree_of_the_history, the_disk_stands_for_the_history,
+    lines_tell_the_same, nothing_lost_is_touched, operations_see_their_locks,
+    operations_show_what_is_known, operations_use_their_locks,
+    recoveries_of_nothing_leave_what_stands, replies_are_answers, replies_stay_after_removals,
+    stops_are_asked, stops_leave_the_tree_of_the_history, the_disk_stands_for_the_history,
+    told_histories_are_legal,
 };
 pub use byte_laws::{
     a_stop_leaves_known_cells, a_stop_leaves_the_tree, doubt_is_the_same_along_lines,
