@@ -15,7 +15,7 @@ use Rattle.disk_definitions.specs.Edits.Edit.{SetInode, SetBit, SetUse, SetPlace
 use Rattle.disk_definitions.specs.Held.{bitmap_of}
 use Rattle.disk_definitions.specs.Ask.{run}
 use Rattle.disk_definitions.specs.Walks.{walk}
-use Rattle.disk_definitions.specs.Plans.{Hand, Lock, Plan, Finish}
+use Rattle.disk_definitions.specs.Plans.{Hand, Lock, Plan, Finish, says_full}
 use Rattle.disk_definitions.specs.Plans.Plan.{Lacks, Clears, Finishes}
 use Rattle.disk_definitions.specs.PlanOf.{plan_of}
 

@@ -1,5 +1,5 @@
 -- A put fails, and leaves the old sector or the new one.
-use Rattle.std.proofs.Common.{true, false, ⊎_elim, ℕ, ◌<◌, ◌≤◌, ◌≡◌, ◌≢◌, ◌⊎◌, inl, inr, Option, Some, None, nat_eq, sym, ◌∙◌, ap, subst}
+use Rattle.std.proofs.Common.{true, false, ⊎_elim, ℕ, ◌<◌, ◌≤◌, ◌≡◌, ◌≢◌, inl, inr, Option, Some, None, nat_eq, sym, ◌∙◌, ap, subst}
 use Rattle.std.proofs.lemmas.Bool.{cases_eq, eqb-false}
 use Rattle.frang_base.specs.declared.lock.Mode.TheVariants.{Sole}
 use Rattle.sector_bytes.specs.Blocks.{Block, version_of}

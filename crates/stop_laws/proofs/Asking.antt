@@ -1,6 +1,6 @@
 -- What is asked of a history holds of it with the recoveries of all logs, in their order.
-use Rattle.std.proofs.Common.{ℕ, zero, suc, ◌≡◌, ◌≢◌, ◌≤◌, Bool, true, false, if◌then◌else◌, nat_eq, List, ◌∷◌, refl, sym, subst, le_refl}
-use Rattle.std.proofs.lemmas.Bool.{eqb-true}
+use Rattle.std.proofs.Common.{ℕ, zero, suc, ◌≡◌, ◌≢◌, ◌≤◌, ◌&&◌, not, Bool, true, false, if◌then◌else◌, nat_eq, List, ◌∷◌, refl, sym, ◌∙◌, ap, subst, le_refl, arith}
+use Rattle.std.proofs.lemmas.Bool.{eqb-true, ne_eqb}
 use Rattle.tree_definitions.specs.Tree.{FileTree}
 use Rattle.sector_world.specs.Histories.{Item, settled, survives}
 use Rattle.sector_world.specs.Seen.{Kept, Unmet, Unseen}
@@ -22,6 +22,7 @@ use Rattle.stop_laws.specs.Settling.{recovers_by, stopped}
 use Rattle.stop_laws.specs.Coverage.{RecoveriesRise, recovered_to}
 use Rattle.stop_laws.specs.Events.{IsInSight}
 use Rattle.stop_laws.specs.Sight.{AllSaw, AllShowed}
+use Rattle.stop_laws.specs.Sure.{AreRecoveredOnce, has_mounted}
 use Rattle.stop_laws.specs.Synced.{SyncsRise}
 use Rattle.stop_laws.specs.AskedStop.{IsAsked, StopsAreAsked}
 use Rattle.stop_laws.proofs.Stopping as stopping
@@ -47,16 +48,18 @@ module _ (segments : ℕ) (when : ℕ → ℕ) (times : AreTimes when) (first : 
   stages = stopping.stages segments when times first numbers w greatest h begins legal distinct good told paired logs
 
   -- what is asked of it beside
-  record IsFine (now : List Happening) : Type 0 where
+  record IsFine (n : ℕ) (now : List Happening) : Type 0 where
     kept_now : Kept (on_sectors now)
     saw : AllSaw w.home (on_sectors now)
     showed : AllShowed w.first (on_sectors now)
     rise : RecoveriesRise (on_sectors now)
     below : (server : ℕ) → recovered_to (on_sectors now) server ≤ w.durable server
     syncs : SyncsRise (on_sectors now)
+    mounted : AreRecoveredOnce (on_sectors now)
+    active : (server : ℕ) → n ≤ server → w.phase server ≢ Off → has_mounted server (on_sectors now) ≡ true
 
-  one_more : (n : ℕ) (now : List Happening) → IsStage now (left w n) → IsFine now → IsFine (Recovers n (greatest n) (w.durable n) ∷ now)
-  one_more n now stage fine = record {
+  one_more : (n : ℕ) (now : List Happening) → w.phase n ≢ Off → IsStage now (left w n) → IsFine n now → IsFine (suc n) (Recovers n (greatest n) (w.durable n) ∷ now)
+  one_more n now on stage fine = record {
     kept_now = (
       subst (Unseen n (w.durable n)) (sym stage.settles) ((fine_left w good n).unseen n),
       subst (Unmet n (w.durable n)) (sym stage.settles) (unmet_left n n),
@@ -68,18 +71,29 @@ module _ (segments : ℕ) (when : ℕ → ℕ) (times : AreTimes when) (first : 
     rise = (fine.below n, fine.rise);
     below = λ server. go server (nat_eq n server) refl;
     syncs = fine.syncs;
+    mounted = (fine.active n (le_refl n) on, fine.mounted);
+    active = λ server far there. ap (λ b. not b && has_mounted server (on_sectors now)) (ne_eqb n server (λ e. absurd (omega arith))) ∙ fine.active server (omega arith) there;
   }
     where
       go : (server : ℕ) (b : Bool) → nat_eq n server ≡ b → (if b then w.durable n else recovered_to (on_sectors now) server) ≤ w.durable server
       go server true is = subst (λ x. w.durable n ≤ w.durable x) (eqb-true n server is) (le_refl (w.durable n))
       go server false is = fine.below server
 
-  by_phases : (n : ℕ) (now : List Happening) → IsStage now (left w n) → IsFine now → (p : Phase) → IsFine (recovers_by p n (greatest n) (w.durable n) now)
-  by_phases n now stage fine Off = fine
-  by_phases n now stage fine Up = one_more n now stage fine
-  by_phases n now stage fine Dead = one_more n now stage fine
+  by_phases : (n : ℕ) (now : List Happening) → IsStage now (left w n) → IsFine n now → (p : Phase) → w.phase n ≡ p → IsFine (suc n) (recovers_by p n (greatest n) (w.durable n) now)
+  by_phases n now stage fine Off is = record {
+    kept_now = fine.kept_now;
+    saw = fine.saw;
+    showed = fine.showed;
+    rise = fine.rise;
+    below = fine.below;
+    syncs = fine.syncs;
+    mounted = fine.mounted;
+    active = λ server far there. fine.active server (omega arith) there;
+  }
+  by_phases n now stage fine Up is = one_more n now (λ off. let z : Up ≡ Off = sym is ∙ off in cc) stage fine
+  by_phases n now stage fine Dead is = one_more n now (λ off. let z : Dead ≡ Off = sym is ∙ off in cc) stage fine
 
-  all_fine : (n : ℕ) → IsFine (stopped w greatest n h)
+  all_fine : (n : ℕ) → IsFine n (stopped w greatest n h)
   all_fine zero = record {
     kept_now = subst Kept (sym told) good.logged.was_kept;
     saw = subst (AllSaw w.home) (sym told) sight.saw;
@@ -87,13 +101,15 @@ module _ (segments : ℕ) (when : ℕ → ℕ) (times : AreTimes when) (first : 
     rise = subst RecoveriesRise (sym told) sight.rise;
     below = λ server. subst (λ e. recovered_to e server ≤ w.durable server) (sym told) (sight.below server);
     syncs = subst SyncsRise (sym told) sight.syncs;
+    mounted = subst AreRecoveredOnce (sym told) sight.mounted;
+    active = λ server far there. subst (λ e. has_mounted server e ≡ true) (sym told) (sight.active server there);
   }
-  all_fine (suc n) = by_phases n (stopped w greatest n h) (stages n) (all_fine n) (w.phase n)
+  all_fine (suc n) = by_phases n (stopped w greatest n h) (stages n) (all_fine n) (w.phase n) refl
 
   pub asked : IsAsked segments when first numbers w (stopped w greatest w.servers h)
   asked =
       let fine = all_fine w.servers in
-      record { paired = (stages w.servers).paired_now; kept = fine.kept_now; saw = fine.saw; showed = fine.showed; rise = fine.rise; syncs = fine.syncs }
+      record { paired = (stages w.servers).paired_now; kept = fine.kept_now; saw = fine.saw; showed = fine.showed; rise = fine.rise; syncs = fine.syncs; mounted = fine.mounted }
 
 pub stops_are_asked : StopsAreAsked
 stops_are_asked segments when first numbers w greatest h times begins legal distinct good told paired logs sight =

@@ -1,19 +1,17 @@
 -- Along histories of lines each operation agrees with its entry on the parts of files, so doubt is the same.
-use Rattle.std.proofs.Common.{ℕ, ◌≡◌, ◌≤◌, ◌<◌, ◌^◌, ◌⊎◌, ⊎_elim, ◌++◌, Bool, true, false, Option, Some, None, is_some, List, [], ◌∷◌, map, refl, sym, ◌∙◌, ap, subst}
+use Rattle.std.proofs.Common.{ℕ, ◌≡◌, ◌≤◌, ◌<◌, ◌^◌, ◌⊎◌, ⊎_elim, ◌++◌, Bool, true, false, is_some, List, [], ◌∷◌, map, refl, sym, ◌∙◌, ap, subst}
 use Rattle.std.specs.List.{Contains}
 use Rattle.frang_base.specs.Locks.{has_lock}
 use Rattle.frang_base.specs.declared.lock.LockId.{LockId}
-use Rattle.frang_base.specs.declared.lock.LockId.TheVariants.{Node as NodeLock}
 use Rattle.frang_base.specs.declared.lock.Mode.TheVariants.{Sole}
 use Rattle.frang_base.specs.declared.op.Op.{Op}
 use Rattle.frang_base.specs.declared.reply.Reply.TheVariants as reply
 use Rattle.tree_definitions.specs.declared.history.Entry.{Entry}
-use Rattle.tree_definitions.specs.declared.node.Node.{Node}
 use Rattle.tree_definitions.specs.Apply.{Applied}
 use Rattle.tree_definitions.specs.History.{CellRun}
 use Rattle.tree_definitions.specs.Perform.{perform, resolved}
 use Rattle.tree_definitions.specs.Removal.{step_writes}
-use Rattle.tree_definitions.specs.Touched.{shape_of, touches, shaped}
+use Rattle.tree_definitions.specs.Touched.{shape_of, touches}
 use Rattle.tree_definitions.specs.Tree.{FileTree, node_at}
 use Rattle.tree_laws.specs.Doubts.{entry_writes}
 use Rattle.tree_definitions.specs.WellFormed.{IsNew}

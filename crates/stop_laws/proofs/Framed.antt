@@ -1,13 +1,12 @@
 -- What a line replies goes by the sectors with versions that it looks at, and by the bytes that were shown.
-use Rattle.std.proofs.Common.{ℕ, ◌≡◌, ◌+◌, Bool, true, false, if◌then◌else◌, IsTrue, Some, List, ◌++◌, map, is_some, refl, sym, ◌∙◌, ap, subst}
+use Rattle.std.proofs.Common.{ℕ, ◌≡◌, Bool, true, false, if◌then◌else◌, IsTrue, Some, List, ◌++◌, map, is_some, refl, sym, ◌∙◌, ap, subst}
 use Rattle.std.proofs.lemmas.List.Elements.{Contains-append_right}
-use Rattle.std.specs.List.{filter_map, Contains}
+use Rattle.std.specs.List.{filter_map}
 use Rattle.frang_base.specs.Functions.{member}
 use Rattle.sector_bytes.specs.Replays.{change_at}
 use Rattle.sector_bytes.specs.Sectors.{Sectors}
 use Rattle.sector_world.specs.Histories.{Commit, touches}
 use Rattle.sector_world.specs.Plans.{Outcome, outcome_of}
-use Rattle.disk_definitions.specs.declared.region.Region.TheVariants as region
 use Rattle.disk_definitions.specs.Ask.{Sector, Ask, run, looks}
 use Rattle.disk_definitions.specs.Plans.{Plan}
 use Rattle.plan_laws.specs.Looking.{AllSayTheSame}

@@ -49,6 +49,11 @@ no_file : (o : Op) (r : Reply) → leaves_tree o r ≡ true → writes_file o &&
 no_file o reply.Ok leaves = ap (λ b. b && true) (no_write o leaves)
 no_file o r leaves = and-false (writes_file o)
 
+-- the reply of a mount leaves the tree
+mounted_leaves : (o : Op) (r : Reply) → is_mounted r ≡ true → leaves_tree o r ≡ true
+mounted_leaves o reply.Mounted mounted = refl
+mounted_leaves o _ mounted = absurd (cc)
+
 -- one that leaves the tree is no answer, and has no record
 no_record : (t : FileTree) (e : Entry) → leaves_tree e.op e.reply ≡ true → is_recorded t e ≡ false
 no_record t e leaves =
@@ -215,7 +220,7 @@ module _ (segments : ℕ) (when : ℕ → ℕ) (times : AreTimes when) (opening 
       let r = settles older paired.2 in
       record {
         alike = record { sectors = r.alike.sectors; tree = ap (λ l. l ++ Stays e ∷ []) r.alike.tree ∙ sym (settled-push first [] (on_tree older) e) };
-        lines = (paired.0, r.lines);
+        lines = (mounted_leaves e.op e.reply paired.0, r.lines);
         mounts = (
           (λ is. (number, (λ k u. u.0 refl), subst (Each (λ c. c.by ≡ e.server.0 → c.op ≤ number)) (sym r.alike.sectors) paired.1)),
           mounts_later (on_sectors older) (sectors.Mounted e.server.0 number ∷ on_sectors older) (λ s n covered k u. covered k u.1) (settle first older) r.mounts,

@@ -1,20 +1,16 @@
 -- What recoveries of all logs would leave is a history along which cells are known.
-use Rattle.std.proofs.Common.{ℕ, zero, suc, ◌≡◌, ◌≢◌, true, Bool, List, [], ◌∷◌, sym, subst}
-use Rattle.frang_base.proofs.Basics.{by_keep}
+use Rattle.std.proofs.Common.{ℕ, ◌≡◌, true, List, [], sym, subst}
 use Rattle.tree_definitions.specs.Tree.{FileTree}
 use Rattle.tree_definitions.specs.WellFormed.{IsWellFormed}
 use Rattle.sector_world.specs.HistoryBytes.{Agree}
-use Rattle.sector_world.specs.Histories.{Commit, Each, Item, kept, settled, survives}
-use Rattle.sector_world.specs.Histories.Item.{Done, Doubt}
+use Rattle.sector_world.specs.Histories.{Each, settled}
 use Rattle.sector_world.specs.Plans.{IsByPlan, Legal}
-use Rattle.sector_world.proofs.HistoryLaws.{each_kept}
 use Rattle.sector_world.specs.Claims.{left, replayed}
 use Rattle.sector_world.specs.Kinds.{Good}
 use Rattle.sector_world.specs.Planned.{IsLegal}
 use Rattle.sector_world.specs.Trees.{Distinct, tree_of}
 use Rattle.sector_world.specs.World.{World}
 use Rattle.sector_world.proofs.Holding.{holds_good}
-use Rattle.sector_world.proofs.Left.{by_phase}
 use Rattle.disk_definitions.specs.Standing.{StandsFor}
 use Rattle.line_histories.specs.LinePlans.{sector_plan}
 use Rattle.line_histories.specs.Following.{Follows}

@@ -56,3 +56,4 @@ pub mod Example
 pub mod Closed
 pub mod Pairs
 pub mod Legal
+pub mod Sure

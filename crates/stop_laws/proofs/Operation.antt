@@ -6,7 +6,6 @@ use Rattle.std.proofs.lemmas.Option.{slice_get_within}
 use Rattle.std.specs.List.{Contains, filter_map}
 use Rattle.std.specs.Option.{option_map}
 use Rattle.frang_base.specs.declared.lock.LockId.{LockId}
-use Rattle.frang_base.specs.declared.op.Op.TheVariants as op
 use Rattle.frang_base.specs.Functions.{member}
 use Rattle.tree_definitions.specs.declared.cells.Cell.{Cell}
 use Rattle.tree_definitions.specs.declared.cells.Cell.TheVariants.{Doubtful}

@@ -1,7 +1,8 @@
 -- A removal leaves entries that say that operations are synced right, and reads that agree with what was known.
-use Rattle.std.proofs.Common.{ℕ, ◌≡◌, ◌≤◌, ◌&&◌, ◌==◌, not, Bool, true, false, if◌then◌else◌, nat_eq, Option, List, [], ◌∷◌, refl, sym, ap, subst, arith, le_refl}
+use Rattle.std.proofs.Common.{ℕ, ◌≡◌, ◌≤◌, ◌&&◌, ◌||◌, ◌==◌, not, Bool, true, false, if◌then◌else◌, nat_eq, Option, List, [], ◌∷◌, refl, sym, ap, subst, arith, le_refl}
 use Rattle.std.proofs.lemmas.Bool.{eq-eqb, eqb-true}
 use Rattle.frang_base.proofs.Basics.{by_keep}
+use Rattle.tree_definitions.specs.Touched.{is_mounted, is_ok, is_sync, is_unmount}
 use Rattle.tree_definitions.specs.Tree.{FileTree}
 use Rattle.sector_bytes.specs.Blocks.{Block}
 use Rattle.sector_world.specs.HistoryBytes.{Agree}
@@ -18,7 +19,7 @@ use Rattle.stop_laws.specs.Paired.{ArePaired}
 use Rattle.stop_laws.proofs.Histories.{histories_settle_alike}
 use Rattle.stop_laws.proofs.Staying.{items_stay}
 use Rattle.stop_laws.specs.Sight.{AllShowed, HistoriesKeepReads}
-use Rattle.stop_laws.specs.Synced.{AllSaid, AllSaidAtOnce, HistoriesKeepSyncs, RemovalsKeepSyncs, SyncsRise}
+use Rattle.stop_laws.specs.Synced.{AllSaid, AllSaidAtOnce, HistoriesKeepSyncs, RemovalsKeepSyncs, SyncsRise, has_stalled}
 
 pub removals_keep_syncs : RemovalsKeepSyncs
 removals_keep_syncs server durable synced [] all = tt
@@ -36,6 +37,14 @@ removals_keep_syncs server durable synced (Says e ∷ older) all =
     ))
     (λ goes. rest)
 removals_keep_syncs server durable synced (Doubts marked runs ∷ older) all = removals_keep_syncs server durable synced older all
+
+-- where a sync or a mount says it, no stall is asked for
+says_anyway : (m s u ok stalled : Bool) → m || s || (u && ok && not true) ≡ true → m || s || (u && ok && not stalled) ≡ true
+says_anyway true s u ok stalled says = refl
+says_anyway false true u ok stalled says = refl
+says_anyway false false true true stalled says = absurd (cc)
+says_anyway false false true false stalled says = absurd (cc)
+says_anyway false false false ok stalled says = absurd (cc)
 
 -- by greater numbers
 said_more : (synced more : ℕ → ℕ) → ((server : ℕ) → synced server ≤ more server) → (deeds : List Deed) → AllSaid synced deeds → AllSaid more deeds
@@ -67,7 +76,8 @@ module _ (segments : ℕ) (when : ℕ → ℕ) (opening : ℕ → Block) (first_
   said [] paired rise once = tt
   said (Acts c e ∷ older) paired rise once = said older paired.1 rise once
   said (Speaks e ∷ older) paired rise once = (
-    (λ says. subst (Each (λ c. c.by ≡ e.server.0 → c.op ≤ synced_of e.server.0 (on_sectors older))) (sym (same older paired.2)) (once.0 says)),
+    (λ says. subst (Each (λ c. c.by ≡ e.server.0 → c.op ≤ synced_of e.server.0 (on_sectors older))) (sym (same older paired.2))
+        (once.0 (says_anyway (is_mounted e.reply) (is_sync e.op && is_ok e.reply) (is_unmount e.op) (is_ok e.reply) (has_stalled e.server.0 older) says))),
     said older paired.2 rise once.1,
   )
   said (Mounts number e ∷ older) paired rise once = (

@@ -1,10 +1,10 @@
 -- Deeds of lines that the core keeps are told twice, and shown: replies are the tree's answers, deed by deed.
-use Rattle.std.proofs.Common.{ℕ, ◌≡◌, ◌≤◌, ◌&&◌, Bool, false, Option, List, [], ◌∷◌, refl, ◌∙◌, ap, subst}
+use Rattle.std.proofs.Common.{ℕ, ◌≡◌, ◌≤◌, ◌&&◌, ◌||◌, not, Bool, true, false, Option, List, [], ◌∷◌, refl, ◌∙◌, ap, subst}
 use Rattle.std.proofs.lemmas.Bool.{eqb-true}
 use Rattle.frang_base.specs.declared.lock.LockId.{LockId}
 use Rattle.tree_definitions.specs.declared.history.Entry.{Entry}
 use Rattle.tree_definitions.specs.History.{CellRun}
-use Rattle.tree_definitions.specs.Touched.{is_ok, is_sync}
+use Rattle.tree_definitions.specs.Touched.{is_mounted, is_ok, is_sync, is_unmount}
 use Rattle.tree_definitions.specs.Tree.{FileTree}
 use Rattle.sector_bytes.specs.Blocks.{Block}
 use Rattle.sector_world.specs.HistoryBytes.{Agree}
@@ -34,6 +34,12 @@ use Rattle.stop_laws.specs.Cells.{AllShown, IsShown, having}
 use Rattle.stop_laws.proofs.Deeds.{replies_are}
 use Rattle.stop_laws.proofs.Keeping.{AreKept, SaysWhatItShowed}
 use Rattle.stop_laws.proofs.Alone.{leaving_stays, leaving_touches_none, leaving_writes_none, path_no_sync}
+
+-- the entry of a sync or of a mount says that operations are synced
+ends_say : (m s u : Bool) → m || s ≡ true → m || s || u ≡ true
+ends_say true s u ends = refl
+ends_say false true u ends = refl
+ends_say false false u ends = absurd (cc)
 
 -- a plan that comes to the same as a finished one, but for bytes, is finished
 is_finished : (p : Plan) (f : Finish) → plan_shape p ≡ plan_shape (Finishes f) → (g : Finish) × (p ≡ Finishes g)
@@ -127,7 +133,7 @@ module _ (segments : ℕ) (when : ℕ → ℕ) (times : AreTimes when) (opening 
     meets_none = leaving_writes_none (tree_after first_tree older) e runs.lines.0;
     touches_none = leaving_touches_none (tree_after first_tree older) e runs.lines.0;
     covers = λ own ends. subst (λ n. Each (λ c. c.by ≡ server → c.op ≤ n) (items older)) is
-        (subst (λ s. Each (λ c. c.by ≡ s → c.op ≤ synced s) (items older)) (eqb-true e.server.0 server own) (said.0 ends));
+        (subst (λ s. Each (λ c. c.by ≡ s → c.op ≤ synced s) (items older)) (eqb-true e.server.0 server own) (said.0 (ends_say (is_mounted e.reply) (is_sync e.op && is_ok e.reply) (is_unmount e.op && is_ok e.reply && not true) ends)));
   }
 
   pub all_told : (synced : ℕ → ℕ) → synced server ≡ number → (deeds : List Deed) → AllSaid synced deeds → IsRun deeds → AreKept segments when opening home first_tree deeds → Told deeds

@@ -17,10 +17,11 @@ use Rattle.stop_laws.specs.Settling.{stopped}
 use Rattle.stop_laws.specs.Coverage.{RecoveriesRise}
 use Rattle.stop_laws.specs.Events.{IsInSight}
 use Rattle.stop_laws.specs.Sight.{AllSaw, AllShowed}
+use Rattle.stop_laws.specs.Sure.{AreRecoveredOnce}
 use Rattle.stop_laws.specs.Synced.{SyncsRise}
 
 -- lines are paired, no recovery removed what was seen or met, each operation saw what was under its locks and showed what was
--- known, and recoveries and syncs rise
+-- known, recoveries and syncs rise, and each server whose log was recovered was mounted before and not recovered since
 pub record IsAsked (segments : ℕ) (when : ℕ → ℕ) (first_tree : FileTree) (numbers : List ℕ) (w : World) (h : List Happening) : Type 0 where
   pub paired : ArePaired segments when w.opening first_tree numbers h
   pub kept : Kept (on_sectors h)
@@ -28,6 +29,7 @@ pub record IsAsked (segments : ℕ) (when : ℕ → ℕ) (first_tree : FileTree)
   pub showed : AllShowed w.first (on_sectors h)
   pub rise : RecoveriesRise (on_sectors h)
   pub syncs : SyncsRise (on_sectors h)
+  pub mounted : AreRecoveredOnce (on_sectors h)
 
 abbrev pub StopsAreAsked : Type 0
 StopsAreAsked =

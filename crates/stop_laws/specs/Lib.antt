@@ -24,3 +24,4 @@ pub mod TwoServers
 pub mod Closed
 pub mod Pairs
 pub mod Legal
+pub mod Sure

@@ -75,7 +75,7 @@ ArePaired segments when opening first_tree numbers (Acts c e ∷ older) = AreOfO
 ArePaired segments when opening first_tree numbers (Speaks e ∷ older) =
     (leaves_tree e.op e.reply ≡ true) × (is_mounted e.reply ≡ false) × ArePaired segments when opening first_tree numbers older
 ArePaired segments when opening first_tree numbers (Mounts number e ∷ older) =
-    (leaves_tree e.op e.reply ≡ true) × Each (λ c. c.by ≡ e.server.0 → c.op ≤ number) (settled (on_sectors older)) × ArePaired segments when opening first_tree numbers older
+    (is_mounted e.reply ≡ true) × Each (λ c. c.by ≡ e.server.0 → c.op ≤ number) (settled (on_sectors older)) × ArePaired segments when opening first_tree numbers older
 ArePaired segments when opening first_tree numbers (Covers server number ∷ older) = ArePaired segments when opening first_tree numbers older
 ArePaired segments when opening first_tree numbers (Recovers server greatest durable ∷ older) =
     MayRecover segments when opening first_tree numbers server greatest durable older × ArePaired segments when opening first_tree numbers older

@@ -15,6 +15,7 @@ ghost use Rattle.stop_laws.specs.Coverage.{RemovalsKeepCoverage, HistoriesKeepCo
 ghost use Rattle.stop_laws.specs.Events.{StartsAreInSight, EventsKeepSight};
 ghost use Rattle.stop_laws.specs.Sight.{RemovalsKeepSight, HistoriesKeepSight, HistoriesKeepReads};
 ghost use Rattle.stop_laws.specs.AskedStop.{StopsAreAsked};
+ghost use Rattle.stop_laws.specs.Sure.{HistoriesMakeSure};
 ghost use Rattle.stop_laws.specs.Synced.{RemovalsKeepSyncs, HistoriesKeepSyncs};
 ghost use Rattle.stop_laws.specs.FreshDisks.{FreshDisksFollow, FreshCellsAreKnown};
 ghost use Rattle.stop_laws.specs.Closed.{DoubtStands, RecoveriesOfNothingStand};
@@ -99,11 +100,14 @@ pub fn doubt_stays_covered()
     ensures histories { HistoriesKeepCoverage }
 {}
 
-/// Where the entry of each sync came once all operations of its server were synced: no entry of a sync or of a mount that is left comes after an operation of its
-/// server above the number up to which the last one covered them.
+/// Where the entry of each sync, and of each unmount that no stall went before, came once all operations of its server were synced: no entry of a sync or of a
+/// mount that is left comes after an operation of its server above the number up to which the last one covered them. Of a server that was mounted and not
+/// recovered since, no such entry, of an unmount neither where no stall is left since its last mount, comes after an operation above a number by which its log
+/// may be recovered.
 pub fn entries_say_what_is_synced()
     ensures removal { RemovalsKeepSyncs }
     ensures histories { HistoriesKeepSyncs }
+    ensures sure { HistoriesMakeSure }
 {}
 
 /// Where each operation showed the bytes that were known when it happened: each that recoveries leave shows those that are known after the older ones that are
@@ -113,7 +117,7 @@ pub fn operations_show_what_is_known()
 {}
 
 /// Along each run of servers over the sectors of one disk each operation sees what is under its locks and shows what is known, no recovery removes what an earlier one of the same log
-/// kept, and syncs rise: at the start, and through each event.
+/// kept, syncs rise, and each server whose log is or may be recovered was mounted and not recovered since: at the start, and through each event.
 pub fn events_keep_sight()
     ensures start { StartsAreInSight }
     ensures step { EventsKeepSight }
