@@ -57,3 +57,4 @@ pub mod Closed
 pub mod Pairs
 pub mod Legal
 pub mod Sure
+pub mod LinesStop

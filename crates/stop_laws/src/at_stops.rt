@@ -18,6 +18,7 @@ ghost use Rattle.stop_laws.specs.AskedStop.{StopsAreAsked};
 ghost use Rattle.stop_laws.specs.Sure.{HistoriesMakeSure};
 ghost use Rattle.stop_laws.specs.Synced.{RemovalsKeepSyncs, HistoriesKeepSyncs};
 ghost use Rattle.stop_laws.specs.FreshDisks.{FreshDisksFollow, FreshCellsAreKnown};
+ghost use Rattle.stop_laws.specs.LinesStop.{StopsLeaveWhatLinesTell};
 ghost use Rattle.stop_laws.specs.Closed.{DoubtStands, RecoveriesOfNothingStand};
 ghost use Rattle.stop_laws.specs.Stop.{TheDiskStandsForTheHistory};
 ghost use Rattle.stop_laws.specs.Fresh.{AFreshDiskStandsForTheHistory};
@@ -157,4 +158,10 @@ pub fn nothing_lost_is_touched()
 /// A history that is told twice is legal by the rules on histories, where each number of directories' blocks that it tells may be told.
 pub fn told_histories_are_legal()
     ensures legal { ToldHistoriesAreLegal }
+{}
+
+/// Where the lines said tell of each server whether it is off as the world of the theorem on sectors does: the history that a stop leaves by the lines said is the
+/// one with the recoveries of all logs; and from the first line of the tree on, where all servers are off, the one without any.
+pub fn stops_leave_what_lines_tell()
+    ensures lines { StopsLeaveWhatLinesTell }
 {}

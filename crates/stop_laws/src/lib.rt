@@ -20,8 +20,8 @@ pub use at_stops::{
     lines_tell_the_same, nothing_lost_is_touched, operations_see_their_locks,
     operations_show_what_is_known, operations_use_their_locks,
     recoveries_of_nothing_leave_what_stands, replies_are_answers, replies_stay_after_removals,
-    stops_are_asked, stops_leave_the_tree_of_the_history, the_disk_stands_for_the_history,
-    told_histories_are_legal,
+    stops_are_asked, stops_leave_the_tree_of_the_history, stops_leave_what_lines_tell,
+    the_disk_stands_for_the_history, told_histories_are_legal,
 };
 pub use byte_laws::{
     a_stop_leaves_known_cells, a_stop_leaves_the_tree, doubt_is_the_same_along_lines,
