@@ -57,4 +57,5 @@ pub mod Closed
 pub mod Pairs
 pub mod Legal
 pub mod Sure
+pub mod ClosedStops
 pub mod LinesStop

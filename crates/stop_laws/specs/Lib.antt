@@ -26,3 +26,4 @@ pub mod Pairs
 pub mod Legal
 pub mod Sure
 pub mod LinesStop
+pub mod ClosedStop

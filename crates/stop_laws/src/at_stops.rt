@@ -18,6 +18,7 @@ ghost use Rattle.stop_laws.specs.AskedStop.{StopsAreAsked};
 ghost use Rattle.stop_laws.specs.Sure.{HistoriesMakeSure};
 ghost use Rattle.stop_laws.specs.Synced.{RemovalsKeepSyncs, HistoriesKeepSyncs};
 ghost use Rattle.stop_laws.specs.FreshDisks.{FreshDisksFollow, FreshCellsAreKnown};
+ghost use Rattle.stop_laws.specs.ClosedStop.{ClosedServersStand, StopsStandForWhatLinesTell};
 ghost use Rattle.stop_laws.specs.LinesStop.{StopsLeaveWhatLinesTell};
 ghost use Rattle.stop_laws.specs.Closed.{DoubtStands, RecoveriesOfNothingStand};
 ghost use Rattle.stop_laws.specs.Stop.{TheDiskStandsForTheHistory};
@@ -144,10 +145,12 @@ pub fn the_disk_stands_for_the_history()
     ensures fresh { AFreshDiskStandsForTheHistory }
 {}
 
-/// A recovery that removes nothing leaves cells in doubt and nothing else: a disk that stood for the tree of the history stands for that of the history with it.
+/// A recovery that removes nothing leaves cells in doubt and nothing else: a disk that stood for the tree of the history stands for that of the history with it. So it
+/// is of the recoveries of servers that were closed, among those of others: these go by what they would remove without them.
 pub fn recoveries_of_nothing_leave_what_stands()
     ensures doubt { DoubtStands }
     ensures stands { RecoveriesOfNothingStand }
+    ensures closed { ClosedServersStand }
 {}
 
 /// An operation of another server that comes after one that a recovery removes touches no node that is there and that this one changed.
@@ -161,7 +164,9 @@ pub fn told_histories_are_legal()
 {}
 
 /// Where the lines said tell of each server whether it is off as the world of the theorem on sectors does: the history that a stop leaves by the lines said is the
-/// one with the recoveries of all logs; and from the first line of the tree on, where all servers are off, the one without any.
+/// one with the recoveries of all logs; and from the first line of the tree on, where all servers are off, the one without any. Where some servers were closed,
+/// which are up by the lines said: a disk that stands for the tree of the one stands for that of the other.
 pub fn stops_leave_what_lines_tell()
     ensures lines { StopsLeaveWhatLinesTell }
+    ensures closed { StopsStandForWhatLinesTell }
 {}
